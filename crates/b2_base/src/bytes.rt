@@ -1,0 +1,57 @@
+// A list of bytes of its own, and want of memory.
+ghost use Rattle.std.specs.Prelude.{◌≡◌};
+
+use std::alloc::{AllocError, AllocFailed};
+use std::marker::Model;
+
+/// Want of memory, the one answer that no contract ties to a cause.
+#[derive(Clone, Copy, Debug, PartialEq, Eq)]
+pub struct NoMemory;
+
+impl From<AllocError> for NoMemory {
+    fn from(_: AllocError) -> NoMemory {
+        NoMemory
+    }
+}
+
+impl<T: Drop> From<AllocFailed<T>> for NoMemory {
+    fn from(_: AllocFailed<T>) -> NoMemory {
+        NoMemory
+    }
+}
+
+/// Bytes in a `Vec`. Contracts see it as the list of them.
+#[derive(Drop)]
+pub struct ByteList {
+    bytes: Vec<u8>,
+}
+
+impl Model for ByteList {
+    ghost use Rattle.std.specs.Prelude.{ℕ, List};
+
+    ghost Value = { List ℕ };
+
+    ghost view = { λ s. s.bytes.items };
+}
+
+impl ByteList {
+    /// The list of these bytes. It takes no memory.
+    pub fn new(bytes: Vec<u8>) -> ByteList
+        ensures { result ≡ bytes.items }
+    {
+        ByteList { bytes }
+    }
+
+    pub fn bytes(&self) -> &[u8]
+        ensures { result.now ≡ self.now }
+    {
+        &self.bytes
+    }
+
+    /// The bytes given back. It takes no memory.
+    pub fn into_vec(self) -> Vec<u8>
+        ensures { result.items ≡ self }
+    {
+        self.bytes
+    }
+}
