@@ -1,7 +1,6 @@
 -- Whole numbers of at most thirteen digits, and how one is shown.
-use Rattle.std.specs.Prelude.{ℕ, ◌-◌, ◌/◌, ◌^◌, List, [], ◌∷◌, ◌++◌, nat_le, Result, Ok, Err, if◌then◌else◌}
+use Rattle.std.specs.Prelude.{ℕ, ◌-◌, ◌/◌, ◌^◌, nat_le, Result, Ok, Err, if◌then◌else◌}
 use Rattle.std.specs.Prelude.{false}
-use Rattle.std.specs.Fmt.{decimal}
 use Rattle.std.specs.Result.{result_unwrap_or}
 use Rattle.b2_base.specs.declared.codes.TheConstants.{C61_OVERFLOW}
 use Rattle.b2_dec.specs.Number.{Number, zero_number}

@@ -30,10 +30,7 @@ pub fn find(lines: &Lines, n: u16) -> Option<&Statements>
 pub fn next(lines: &Lines, n: u16) -> Option<u16>
     ensures { result ≡ next_line n lines.now.entries }
 {
-    match lines
-        .range((Bound::Excluded(n), Bound::Unbounded))
-        .next()
-    {
+    match lines.range((Bound::Excluded(n), Bound::Unbounded)).next() {
         Some((number, _)) => Some(*number),
         None => None,
     }

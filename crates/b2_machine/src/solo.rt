@@ -252,7 +252,12 @@ impl Solo {
     }
 
     // Does what was asked for, by the statement at a place in a line of so many.
-    fn carry_out(&mut self, request: Request, place: Place, size: usize) -> Result<StepEnd, NoMemory>
+    fn carry_out(
+        &mut self,
+        request: Request,
+        place: Place,
+        size: usize,
+    ) -> Result<StepEnd, NoMemory>
         requires { unit_of place < size }
         ensures { IfOk result (λ how. record { after = self.new; end = how } ≡ does request place size self.old) }
     {

@@ -1,4 +1,4 @@
-use Rattle.std.proofs.Common.{ℕ, ◌<◌, ◌^◌, subst, sym, lit<}
+use Rattle.std.proofs.Common.{ℕ, ◌<◌, subst, sym, lit<}
 use Rattle.std.proofs.Math.Nat.{one-le-pow}
 use Rattle.b2_machine.proofs.evaluate.whole_part.Goals as goal
 
