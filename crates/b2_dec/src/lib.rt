@@ -9,8 +9,12 @@
 #![tactic(auto)]
 
 mod number;
+mod order;
+mod products;
 mod rounding;
 mod sums;
 
 pub use number::{Dec, Mode};
+pub use order::{abs, cmp, sgn};
+pub use products::{div, mul};
 pub use sums::{add, sub};
