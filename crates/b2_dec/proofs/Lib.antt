@@ -9,3 +9,4 @@ pub mod Nearby
 pub mod Factors
 pub mod Ranks
 pub mod Parts
+pub mod Wholes

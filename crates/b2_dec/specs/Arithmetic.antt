@@ -1,7 +1,8 @@
 -- What each call gives, as an exact number that is then rounded.
-use Rattle.std.specs.Prelude.{ℕ, ◌*◌, ◌/◌, ◌%◌, ◌^◌, ◌==◌, ◌&&◌, int_le, ℤ, pos, negsuc, Option, Some, None, ◌+ℤ◌, ◌-ℤ◌, ◌*ℤ◌, Bool, not, if◌then◌else◌, Result, Ok, Err}
+use Rattle.std.specs.Prelude.{ℕ, ◌+◌, ◌-◌, ◌*◌, ◌/◌, ◌%◌, ◌^◌, ◌==◌, ◌&&◌, int_le, ℤ, pos, negsuc, Option, Some, None, ◌+ℤ◌, ◌-ℤ◌, ◌*ℤ◌, Bool, not, if◌then◌else◌, Result, Ok, Err}
 use Rattle.b2_base.specs.declared.codes.TheConstants.{C62_ZERO_DIVISOR, C63_ZERO_BY_ZERO}
 use Rattle.b2_dec.specs.declared.number.Mode.{Mode}
+use Rattle.b2_dec.specs.declared.number.Mode.TheVariants.{Cut}
 use Rattle.b2_dec.specs.Number.{Number, zero_number, value, size, signed, differ}
 use Rattle.b2_dec.specs.Rounding.{rnd, rounded}
 
@@ -26,6 +27,18 @@ quotient_of mode a b =
 abbrev pub floored : ℤ → ℕ → ℤ
 floored (pos n) d = pos (n / d)
 floored (negsuc n) d = negsuc (n / d)
+
+-- the least whole number not below a fraction that is above zero
+abbrev pub whole_above : ℕ → ℕ → ℕ
+whole_above n d = (n - 1) / d + 1
+
+-- the greatest whole number not above a number
+abbrev pub int_of : Number → Result Number ℕ
+int_of x = rounded Cut (floored (value x) (10 ^ 111)) 1
+
+-- the number without its fraction
+abbrev pub fix_of : Number → Result Number ℕ
+fix_of x = rnd Cut x.neg (size x / 10 ^ 111) 1
 
 -- a whole number of 64 bits with a sign
 abbrev pub fits_64 : ℤ → Bool
