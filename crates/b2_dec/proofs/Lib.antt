@@ -10,3 +10,4 @@ pub mod Factors
 pub mod Ranks
 pub mod Parts
 pub mod Wholes
+pub mod Nibbles

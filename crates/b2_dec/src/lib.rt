@@ -11,6 +11,7 @@
 mod fractions;
 mod number;
 mod order;
+mod packing;
 mod products;
 mod rounding;
 mod sums;
@@ -18,5 +19,6 @@ mod sums;
 pub use fractions::{fix, int};
 pub use number::{Dec, Mode};
 pub use order::{abs, cmp, sgn};
+pub use packing::{pack, unpack};
 pub use products::{div, mul};
 pub use sums::{add, sub};
