@@ -6,3 +6,8 @@ pub mod Tens
 pub mod Signs
 pub mod Exact
 pub mod Nearby
+pub mod Factors
+pub mod Ranks
+pub mod Parts
+pub mod Wholes
+pub mod Nibbles

@@ -33,3 +33,8 @@ value x = signed x.neg (size x)
 -- the number of the other sign; zero is its own
 abbrev pub opposite : Number → Number
 opposite x = if x.coef == 0 then x else record x { neg = not x.neg }
+
+-- whether two signs differ: the sign of a product and of a quotient
+abbrev pub differ : Bool → Bool → Bool
+differ true t = not t
+differ false t = t

@@ -8,9 +8,17 @@
 //! Stands on `b2_base` for the codes of errors.
 #![tactic(auto)]
 
+mod fractions;
 mod number;
+mod order;
+mod packing;
+mod products;
 mod rounding;
 mod sums;
 
+pub use fractions::{fix, int};
 pub use number::{Dec, Mode};
+pub use order::{abs, cmp, sgn};
+pub use packing::{pack, unpack};
+pub use products::{div, mul};
 pub use sums::{add, sub};
