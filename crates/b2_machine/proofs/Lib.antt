@@ -1,3 +1,3 @@
-pub mod Bounds
-pub mod Reading
+pub mod Binding
+pub mod MoreStatements
 pub mod Turns

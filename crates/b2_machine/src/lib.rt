@@ -8,7 +8,9 @@
 //! calls is proved to be the function of these files, for every state.
 #![tactic(auto)]
 
+mod blanks;
 mod evaluate;
+mod expression;
 mod lists;
 mod program;
 mod solo;
@@ -16,6 +18,7 @@ mod syntax;
 #[cfg(test)]
 mod tests;
 
-pub use lists::{Statements, Sum};
+pub use expression::{Level, Operation, Operator};
+pub use lists::{Expression, PrintList, Statements};
 pub use solo::{Doing, Place, Solo, StepEnd};
-pub use syntax::{Operand, Statement, Term};
+pub use syntax::{PrintItem, Statement};

@@ -1,21 +1,27 @@
 // The machine of one partition at one terminal.
-ghost use Rattle.std.specs.Prelude.{◌≡◌, ◌<◌, ◌≤◌, ◌++◌, ◌+◌, ◌∷◌, [], Some, length, IfOk, OnOk, nat_lt, set};
+ghost use Rattle.std.specs.Prelude.{◌≡◌, ◌<◌, ◌≤◌, ◌++◌, ◌+◌, ◌∷◌, [], Some, length, IfOk, OnOk, MatchResult, Ok, nat_lt, set};
 ghost use Rattle.std.specs.Option.{option_copied};
 ghost use Rattle.b2_term.specs.Terminal.{line_read, after_read};
-ghost use Rattle.b2_machine.specs.Machine.{started, byte_keyed, plan, error_text, stops, goes_to, fails, to_line, goes_on, does, unit_of, line_in, line_of, performs_in, enters, reads, acts, step, turned};
+ghost use Rattle.b2_machine.specs.Outcomes.{Refuses};
+ghost use Rattle.b2_machine.specs.Value.{value_of};
+ghost use Rattle.b2_machine.specs.Machine.{started, byte_keyed, shows, item_of, items_of, asked, plan, error_text, stops, goes_to, fails, to_line, goes_on, does, unit_of, line_in, line_of, performs_in, enters, reads, acts, step, turned};
 
-use crate::evaluate::{print, value};
+use crate::evaluate::value;
 use crate::program::{Lines, find, first, next, put};
 use crate::syntax::{Entry, read_entry};
-use crate::{Statement, Statements, Sum};
+use crate::{Expression, PrintItem, PrintList, Statement, Statements};
 use b2_base::codes::{P36_NO_LINE, S14_STATEMENT};
-use b2_base::{ByteList, Code, NoMemory, Part};
-use b2_dec::Dec;
+use b2_base::{ByteList, Code, Fault, NoMemory, Part};
+use b2_dec::{Dec, Mode};
+use b2_print::{Item, column_after, lay};
 use b2_term::{KeyItem, Read, Terminal};
 use std::alloc::Global;
 use std::collections::BTreeMap;
 use std::marker::Model;
 use std::mem;
+
+/// The width of the terminal.
+const WIDTH: u16 = 80;
 
 /// A place: a statement of the immediate line, or of a program line, counted from 0.
 #[derive(Clone, Copy, Drop)]
@@ -41,6 +47,7 @@ enum Request {
     Show(ByteList),
     Assign(u8, Dec),
     Jump(u16),
+    Select(Mode),
     Run,
     End,
     Fail(Code),
@@ -62,6 +69,8 @@ pub enum StepEnd {
 pub struct Solo {
     alloc: Global,
     terminal: Terminal,
+    column: u16,
+    mode: Mode,
     variables: [Dec; 26],
     lines: Lines,
     immediate: Statements,
@@ -74,7 +83,7 @@ impl Model for Solo {
 
     ghost Value = { SoloState };
 
-    ghost view = { λ s. record { terminal = s.terminal; variables = s.variables; lines = s.lines.entries; immediate = s.immediate; pending = s.pending; doing = s.doing } };
+    ghost view = { λ s. record { terminal = s.terminal; column = s.column; mode = s.mode; variables = s.variables; lines = s.lines.entries; immediate = s.immediate; pending = s.pending; doing = s.doing } };
 }
 
 // A text of its own.
@@ -84,35 +93,76 @@ fn text_of(alloc: Global, bytes: &[u8]) -> Result<ByteList, NoMemory>
     Ok(ByteList::new(Vec::from_slice(alloc, bytes)?))
 }
 
-// The value of an expression as PRINT shows it on a line, or its code.
-fn ask_print(alloc: Global, variables: &[Dec], sum: &Sum) -> Result<Request, NoMemory>
-    ensures { IfOk result (λ request. request ≡ plan variables.now (Statement.Print sum.now)) }
+// An item of PRINT, laid out.
+fn layout_item(alloc: Global, variables: &[Dec], mode: Mode, item: &PrintItem) -> Result<Item<'static>, Fault>
+    ensures { MatchResult result (λ it. item_of variables.now mode item.now ≡ Ok it) (λ fault. Refuses (item_of variables.now mode item.now) fault) }
 {
-    match value(variables, sum.terms()) {
-        Ok(n) => {
-            let mut line = Vec::new(alloc);
-            print(n, alloc, &mut line)?;
-            line.push(b'\n')?;
-            Ok(Request::Show(ByteList::new(line)))
+    match item {
+        PrintItem::Value(expression) => {
+            let n = value(alloc, variables, mode, expression.operations())?;
+            Ok(Item::Number(n))
         }
-        Err(code) => Ok(Request::Fail(code)),
+        PrintItem::Zone => Ok(Item::Zone),
+        PrintItem::Line => Ok(Item::Line),
+    }
+}
+
+// The items of PRINT, laid out.
+fn layout_items(alloc: Global, variables: &[Dec], mode: Mode, items: &[PrintItem]) -> Result<Vec<Item<'static>>, Fault>
+    ensures { MatchResult result (λ its. items_of variables.now mode items.now ≡ Ok its.items) (λ fault. Refuses (items_of variables.now mode items.now) fault) }
+{
+    let mut list = Vec::new(alloc);
+    for item in items {
+        let item = layout_item(alloc, variables, mode, item)?;
+        add_item(&mut list, item)?;
+    }
+    Ok(list)
+}
+
+fn add_item(list: &mut Vec<Item<'static>>, item: Item<'static>) -> Result<(), NoMemory>
+    ensures { OnOk result (list.new.items ≡ list.old.items ++ item ∷ []) }
+{
+    list.push(item)?;
+    Ok(())
+}
+
+// What PRINT shows, or the first code.
+fn ask_print(alloc: Global, variables: &[Dec], mode: Mode, column: u16, list: &PrintList) -> Result<Request, NoMemory>
+    ensures { IfOk result (λ request. request ≡ plan variables.now mode column (Statement.Print list.now)) }
+{
+    match layout_items(alloc, variables, mode, list.items()) {
+        Ok(items) => {
+            let mut text = Vec::new(alloc);
+            lay(&items, column, WIDTH, &mut text)?;
+            Ok(Request::Show(ByteList::new(text)))
+        }
+        Err(Fault::Code(code)) => Ok(Request::Fail(code)),
+        Err(Fault::NoMemory) => Err(NoMemory),
+    }
+}
+
+// What is assigned, or the first code.
+fn ask_let(alloc: Global, variables: &[Dec], mode: Mode, letter: u8, expression: &Expression) -> Result<Request, NoMemory>
+    ensures { IfOk result (λ request. request ≡ asked (Request.Assign letter) (value_of variables.now mode expression.now)) }
+{
+    match value(alloc, variables, mode, expression.operations()) {
+        Ok(n) => Ok(Request::Assign(letter, n)),
+        Err(Fault::Code(code)) => Ok(Request::Fail(code)),
+        Err(Fault::NoMemory) => Err(NoMemory),
     }
 }
 
 // What a statement asks for.
-fn ask(alloc: Global, variables: &[Dec], statement: &Statement) -> Result<Request, NoMemory>
-    ensures { IfOk result (λ request. request ≡ plan variables.now statement.now) }
+fn ask(alloc: Global, variables: &[Dec], mode: Mode, column: u16, statement: &Statement) -> Result<Request, NoMemory>
+    ensures { IfOk result (λ request. request ≡ plan variables.now mode column statement.now) }
 {
     match statement {
-        Statement::Print(sum) => ask_print(alloc, variables, sum),
-        Statement::PrintLine => Ok(Request::Show(text_of(alloc, b"\n")?)),
-        Statement::Let(letter, sum) => match value(variables, sum.terms()) {
-            Ok(n) => Ok(Request::Assign(*letter, n)),
-            Err(code) => Ok(Request::Fail(code)),
-        },
+        Statement::Print(list) => ask_print(alloc, variables, mode, column, list),
+        Statement::Let(letter, expression) => ask_let(alloc, variables, mode, *letter, expression),
         Statement::Goto(n) => Ok(Request::Jump(*n)),
         Statement::End => Ok(Request::End),
         Statement::Run => Ok(Request::Run),
+        Statement::Select(chosen) => Ok(Request::Select(*chosen)),
     }
 }
 
@@ -169,6 +219,8 @@ impl Solo {
         Ok(Solo {
             alloc,
             terminal: Terminal::new(alloc, Part::known(1))?,
+            column: 0,
+            mode: Mode::Round,
             variables: [Dec::zero(); 26],
             lines: BTreeMap::new(alloc),
             immediate: Statements::new(Vec::new(alloc)),
@@ -190,6 +242,15 @@ impl Solo {
         ensures { result.now ≡ self.now.terminal.transcript }
     {
         self.terminal.transcript()
+    }
+
+    // Shows bytes at the terminal.
+    fn show(&mut self, bytes: &[u8]) -> Result<(), NoMemory>
+        ensures { OnOk result (self.new ≡ shows bytes.now self.old) }
+    {
+        self.terminal.show(bytes)?;
+        self.column = column_after(self.column, bytes);
+        Ok(())
     }
 
     // It becomes ready, and `:` is to be shown behind a text.
@@ -263,7 +324,7 @@ impl Solo {
     {
         match request {
             Request::Show(text) => {
-                self.terminal.show(text.bytes())?;
+                self.show(text.bytes())?;
                 self.go_on(place, size)
             }
             Request::Assign(letter, n) => {
@@ -275,6 +336,10 @@ impl Solo {
                     return self.fail(Code::known(P36_NO_LINE), place);
                 }
                 Ok(self.go_to(Place::Program(n, 0)))
+            }
+            Request::Select(mode) => {
+                self.mode = mode;
+                self.go_on(place, size)
             }
             Request::End => self.stop(b""),
             Request::Run => {
@@ -299,7 +364,7 @@ impl Solo {
         let Some(statement) = line.get(unit_of(place)) else {
             return self.stop(b"");
         };
-        let request = ask(self.alloc, &self.variables, statement)?;
+        let request = ask(self.alloc, &self.variables, self.mode, self.column, statement)?;
         self.carry_out(request, place, size)
     }
 
@@ -325,6 +390,7 @@ impl Solo {
     {
         match self.terminal.read_line()? {
             Read::Line(line) => {
+                self.column = 0;
                 let entry = read_entry(self.alloc, line.bytes())?;
                 self.enter(entry)?;
                 Ok(StepEnd::GoesOn)
@@ -361,7 +427,10 @@ impl Solo {
     {
         match self.pending.take() {
             Some(text) => {
-                self.terminal.show(text.bytes())?;
+                if self.column != 0 {
+                    self.show(b"\n")?;
+                }
+                self.show(text.bytes())?;
                 Ok(StepEnd::GoesOn)
             }
             None => self.act(),
