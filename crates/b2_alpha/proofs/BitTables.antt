@@ -1,0 +1,73 @@
+-- A byte by its bits, and two bytes joined by the four bits of a digit.
+use Rattle.std.proofs.Common.{◌≡◌, ℕ, zero, suc, ◌+◌, ◌-◌, ◌*◌, ◌/◌, ◌%◌, ◌^◌, ◌<◌, ◌≤◌, bit_and, bit_or, bit_xor, min, max, w8, List, [], ◌∷◌, get_or, refl, sym, ap, ◌∙◌, arith, inl, inr, ⊎_elim}
+use Rattle.std.specs.Int.{bit_at, bit_not}
+use Rattle.std.proofs.lemmas.Nat.{or_lt, xor_lt, and_le_l, and_le_r}
+use Rattle.std.proofs.lemmas.Nat.Bits.{bit_at-zero, bit_at_and, bit_at_or, bit_at_xor, bit_at_not, bit_at_ones, bit_at-lt}
+use Rattle.b2_alpha.specs.Values.{each_pair}
+use Rattle.b2_alpha.specs.Bits.{bit_by, byte_by}
+use Rattle.b2_alpha.proofs.PlaceValues.{AllBelow, tail_below}
+
+-- a byte is the sum of its bits
+byte_of_bits : (x : ℕ) → x < 256 → x ≡ 0 + x / 1 % 2 * 1 + x / 2 % 2 * 2 + x / 4 % 2 * 4 + x / 8 % 2 * 8 + x / 16 % 2 * 16 + x / 32 % 2 * 32 + x / 64 % 2 * 64 + x / 128 % 2 * 128
+byte_of_bits x small = omega arith
+
+-- a byte whose bits are those that the digit gives is the joined byte
+pub byte_by_bits : (digit r o x : ℕ) → x < 256 → ((i : ℕ) → i < 8 → bit_at x i ≡ bit_by digit (bit_at r i) (bit_at o i)) → x ≡ byte_by digit r o
+byte_by_bits digit r o x small bits =
+    let b0 : x / 1 % 2 ≡ bit_by digit (bit_at r 0) (bit_at o 0) = bits 0 (omega arith) in
+    let b1 : x / 2 % 2 ≡ bit_by digit (bit_at r 1) (bit_at o 1) = bits 1 (omega arith) in
+    let b2 : x / 4 % 2 ≡ bit_by digit (bit_at r 2) (bit_at o 2) = bits 2 (omega arith) in
+    let b3 : x / 8 % 2 ≡ bit_by digit (bit_at r 3) (bit_at o 3) = bits 3 (omega arith) in
+    let b4 : x / 16 % 2 ≡ bit_by digit (bit_at r 4) (bit_at o 4) = bits 4 (omega arith) in
+    let b5 : x / 32 % 2 ≡ bit_by digit (bit_at r 5) (bit_at o 5) = bits 5 (omega arith) in
+    let b6 : x / 64 % 2 ≡ bit_by digit (bit_at r 6) (bit_at o 6) = bits 6 (omega arith) in
+    let b7 : x / 128 % 2 ≡ bit_by digit (bit_at r 7) (bit_at o 7) = bits 7 (omega arith) in
+    byte_of_bits x small
+    ∙ ap (λ b. 0 + b * 1 + x / 2 % 2 * 2 + x / 4 % 2 * 4 + x / 8 % 2 * 8 + x / 16 % 2 * 16 + x / 32 % 2 * 32 + x / 64 % 2 * 64 + x / 128 % 2 * 128) b0
+    ∙ ap (λ b. 0 + bit_by digit (bit_at r 0) (bit_at o 0) * 1 + b * 2 + x / 4 % 2 * 4 + x / 8 % 2 * 8 + x / 16 % 2 * 16 + x / 32 % 2 * 32 + x / 64 % 2 * 64 + x / 128 % 2 * 128) b1
+    ∙ ap (λ b. 0 + bit_by digit (bit_at r 0) (bit_at o 0) * 1 + bit_by digit (bit_at r 1) (bit_at o 1) * 2 + b * 4 + x / 8 % 2 * 8 + x / 16 % 2 * 16 + x / 32 % 2 * 32 + x / 64 % 2 * 64 + x / 128 % 2 * 128) b2
+    ∙ ap (λ b. 0 + bit_by digit (bit_at r 0) (bit_at o 0) * 1 + bit_by digit (bit_at r 1) (bit_at o 1) * 2 + bit_by digit (bit_at r 2) (bit_at o 2) * 4 + b * 8 + x / 16 % 2 * 16 + x / 32 % 2 * 32 + x / 64 % 2 * 64 + x / 128 % 2 * 128) b3
+    ∙ ap (λ b. 0 + bit_by digit (bit_at r 0) (bit_at o 0) * 1 + bit_by digit (bit_at r 1) (bit_at o 1) * 2 + bit_by digit (bit_at r 2) (bit_at o 2) * 4 + bit_by digit (bit_at r 3) (bit_at o 3) * 8 + b * 16 + x / 32 % 2 * 32 + x / 64 % 2 * 64 + x / 128 % 2 * 128) b4
+    ∙ ap (λ b. 0 + bit_by digit (bit_at r 0) (bit_at o 0) * 1 + bit_by digit (bit_at r 1) (bit_at o 1) * 2 + bit_by digit (bit_at r 2) (bit_at o 2) * 4 + bit_by digit (bit_at r 3) (bit_at o 3) * 8 + bit_by digit (bit_at r 4) (bit_at o 4) * 16 + b * 32 + x / 64 % 2 * 64 + x / 128 % 2 * 128) b5
+    ∙ ap (λ b. 0 + bit_by digit (bit_at r 0) (bit_at o 0) * 1 + bit_by digit (bit_at r 1) (bit_at o 1) * 2 + bit_by digit (bit_at r 2) (bit_at o 2) * 4 + bit_by digit (bit_at r 3) (bit_at o 3) * 8 + bit_by digit (bit_at r 4) (bit_at o 4) * 16 + bit_by digit (bit_at r 5) (bit_at o 5) * 32 + b * 64 + x / 128 % 2 * 128) b6
+    ∙ ap (λ b. 0 + bit_by digit (bit_at r 0) (bit_at o 0) * 1 + bit_by digit (bit_at r 1) (bit_at o 1) * 2 + bit_by digit (bit_at r 2) (bit_at o 2) * 4 + bit_by digit (bit_at r 3) (bit_at o 3) * 8 + bit_by digit (bit_at r 4) (bit_at o 4) * 16 + bit_by digit (bit_at r 5) (bit_at o 5) * 32 + bit_by digit (bit_at r 6) (bit_at o 6) * 64 + b * 128) b7
+
+-- all ones or all zeros
+mask_bit : (b i : ℕ) → b < 2 → i < 8 → bit_at (255 * b) i ≡ b
+mask_bit zero i small inside = bit_at-zero i
+mask_bit (suc zero) i small inside = bit_at_ones 8 i inside
+mask_bit (suc (suc b)) i small inside = absurd (omega arith)
+
+-- one of the four masks is chosen by the two bits
+chosen : (m : ℕ → ℕ) → ((k : ℕ) → m k ≤ 1) → (r o : ℕ) → r ≤ 1 → o ≤ 1 → max (max (max (min (min (m 0) (1 - r)) (1 - o)) (min (min (m 1) (1 - r)) o)) (min (min (m 2) r) (1 - o))) (min (min (m 3) r) o) ≡ m (2 * r + o)
+chosen m small zero zero rs os = let a = small 0 in omega arith
+chosen m small zero (suc zero) rs os = let a = small 1 in omega arith
+chosen m small (suc zero) zero rs os = let a = small 2 in omega arith
+chosen m small (suc zero) (suc zero) rs os = let a = small 3 in omega arith
+chosen m small (suc (suc r)) o rs os = absurd (omega arith)
+chosen m small zero (suc (suc o)) rs os = absurd (omega arith)
+chosen m small (suc zero) (suc (suc o)) rs os = absurd (omega arith)
+
+bit_le : (n i : ℕ) → bit_at n i ≤ 1
+bit_le n i = let lt : bit_at n i < 2 = bit_at-lt n i in omega arith
+
+abbrev pub masked : (digit r o : ℕ) → ℕ
+masked digit r o =
+    bit_or (bit_or (bit_or (bit_and (bit_and (255 * bit_at digit 0) (255 - r)) (255 - o)) (bit_and (bit_and (255 * bit_at digit 1) (255 - r)) o)) (bit_and (bit_and (255 * bit_at digit 2) r) (255 - o))) (bit_and (bit_and (255 * bit_at digit 3) r) o)
+
+pub masked_bit : (digit r o : ℕ) → r < 256 → o < 256 → (i : ℕ) → i < 8 → bit_at (masked digit r o) i ≡ bit_by digit (bit_at r i) (bit_at o i)
+masked_bit digit r o rs os i inside =
+    let not_r : bit_at (255 - r) i ≡ 1 - bit_at r i = bit_at_not w8 r i rs inside in
+    let not_o : bit_at (255 - o) i ≡ 1 - bit_at o i = bit_at_not w8 o i os inside in
+    simp (bit_at_or, bit_at_and, not_r, not_o, mask_bit (bit_at digit 0) i (bit_at-lt digit 0) inside, mask_bit (bit_at digit 1) i (bit_at-lt digit 1) inside, mask_bit (bit_at digit 2) i (bit_at-lt digit 2) inside, mask_bit (bit_at digit 3) i (bit_at-lt digit 3) inside)
+        (chosen (bit_at digit) (bit_le digit) (bit_at r i) (bit_at o i) (bit_le r i) (bit_le o i))
+
+under : (m r o : ℕ) → r < 256 → bit_and (bit_and m r) o < 2 ^ 8
+under m r o small =
+    let a : bit_and (bit_and m r) o ≤ bit_and m r = and_le_l (bit_and m r) o in
+    let b : bit_and m r ≤ r = and_le_r m r in
+    omega arith
+
+pub masked-lt : (digit r o : ℕ) → r < 256 → o < 256 → masked digit r o < 256
+masked-lt digit r o rs os =
+    or_lt 8 _ _ (or_lt 8 _ _ (or_lt 8 _ _ (under (255 * bit_at digit 0) (255 - r) (255 - o) (omega arith)) (under (255 * bit_at digit 1) (255 - r) o (omega arith))) (under (255 * bit_at digit 2) r (255 - o) rs)) (under (255 * bit_at digit 3) r o rs)
