@@ -1,5 +1,5 @@
 -- What stands over each place of a receiver when an operand ends where it ends.
-use Rattle.std.proofs.Common.{◌≡◌, ℕ, ◌+◌, ◌-◌, ◌<◌, ◌≤◌, List, ◌++◌, length, get_or, drop, replicate, min, cond, ltb, Bool, true, false, refl, sym, ap, ◌∙◌, arith, inl, inr, ⊎_elim}
+use Rattle.std.proofs.Common.{◌≡◌, ℕ, ◌+◌, ◌-◌, ◌<◌, ◌≤◌, List, length, get_or, drop, replicate, cond, ltb, ap, ◌∙◌, arith, ⊎_elim}
 use Rattle.std.proofs.lemmas.List.{length-append, length-drop, length-replicate, get_or-replicate, get_or_append_left, get_or-append_right, get_or-drop, get_or_past}
 use Rattle.std.proofs.lemmas.Bool.{cases_lt}
 use Rattle.std.proofs.lemmas.Bool.Decides.{nat_tests}
@@ -32,10 +32,10 @@ pub aligned_below : (base n : ℕ) (ys : List ℕ) → AllBelow base ys → AllB
 aligned_below base n ys below = λ p.
     let some : get_or ys (length ys) 0 < base = below (length ys) in
     ⊎_elim
-        (λ inside.
-            ⊎_elim
-                (λ within. let e : get_or (aligned n ys) p 0 ≡ get_or ys (length ys - 1 - (n - 1 - p)) 0 = aligned_in n ys p (n - 1 - p) (omega arith) within in let b = below (length ys - 1 - (n - 1 - p)) in omega arith)
-                (λ outside. let e : get_or (aligned n ys) p 0 ≡ 0 = aligned_out n ys p (n - 1 - p) (omega arith) outside in omega arith)
-                (cases_lt (n - 1 - p) (length ys)))
-        (λ past. let e : get_or (aligned n ys) p 0 ≡ 0 = get_or_past (aligned n ys) p 0 (omega (arith, length-aligned n ys)) in omega arith)
-        (cases_lt p n)
+    (λ inside.
+    ⊎_elim
+    (λ within. let e : get_or (aligned n ys) p 0 ≡ get_or ys (length ys - 1 - (n - 1 - p)) 0 = aligned_in n ys p (n - 1 - p) (omega arith) within in let b = below (length ys - 1 - (n - 1 - p)) in omega arith)
+    (λ outside. let e : get_or (aligned n ys) p 0 ≡ 0 = aligned_out n ys p (n - 1 - p) (omega arith) outside in omega arith)
+    (cases_lt (n - 1 - p) (length ys)))
+    (λ past. let e : get_or (aligned n ys) p 0 ≡ 0 = get_or_past (aligned n ys) p 0 (omega (arith, length-aligned n ys)) in omega arith)
+    (cases_lt p n)

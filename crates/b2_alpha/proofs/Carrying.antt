@@ -1,6 +1,6 @@
 -- A loop that makes the places of a sum from the right, carrying to the left.
 use Rattle.std.proofs.Common.{◌≡◌, ℕ, ◌+◌, ◌-◌, ◌*◌, ◌/◌, ◌%◌, ◌^◌, ◌<◌, ◌≤◌, ◌≢◌, Bool, true, false, cond, List, [], length, get_or, set, drop, map, refl, sym, ap, ◌∙◌, arith, ⊎_elim}
-use Rattle.std.proofs.lemmas.List.{length-set, length-drop, length-map, get_or-map, get_or-set_same, get_or-set_other, drop_all, drop_more}
+use Rattle.std.proofs.lemmas.List.{length-map, get_or-map, get_or-set_same, get_or-set_other, drop_all}
 use Rattle.std.proofs.lemmas.Nat.{div_below}
 use Rattle.std.proofs.Math.Nat.{pow-zero}
 use Rattle.std.proofs.lemmas.Bool.{cases_eq}
@@ -87,6 +87,6 @@ addend_below base true y addend is_addend below = omega arith
 pub below_set : (base : ℕ) (xs : List ℕ) (i x : ℕ) → i < length xs → x < base → AllBelow base xs → AllBelow base (set xs i x)
 below_set base xs i x inside small below = λ k.
     ⊎_elim
-        (λ same. let e : get_or (set xs i x) k 0 ≡ x = ap (λ j. get_or (set xs i x) j 0) same ∙ get_or-set_same xs i x 0 inside in omega arith)
-        (λ other. let e : get_or (set xs i x) k 0 ≡ get_or xs k 0 = get_or-set_other xs i k x 0 other in let b = below k in omega arith)
-        (cases_eq k i)
+    (λ same. let e : get_or (set xs i x) k 0 ≡ x = ap (λ j. get_or (set xs i x) j 0) same ∙ get_or-set_same xs i x 0 inside in omega arith)
+    (λ other. let e : get_or (set xs i x) k 0 ≡ get_or xs k 0 = get_or-set_other xs i k x 0 other in let b = below k in omega arith)
+    (cases_eq k i)

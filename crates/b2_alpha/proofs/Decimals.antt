@@ -1,11 +1,11 @@
 -- Bytes of two decimal nibbles.
-use Rattle.std.proofs.Common.{◌≡◌, ℕ, zero, suc, ◌+◌, ◌-◌, ◌*◌, ◌/◌, ◌%◌, ◌<◌, ◌≤◌, Bool, true, false, ◌&&◌, leb, List, [], ◌∷◌, ◌++◌, length, get_or, set, map, drop, replicate, min, take, refl, sym, ap, ◌∙◌, arith, ⊎_elim}
+use Rattle.std.proofs.Common.{◌≡◌, ℕ, zero, suc, ◌-◌, ◌/◌, ◌%◌, ◌<◌, ◌≤◌, Bool, true, false, ◌&&◌, leb, List, [], ◌∷◌, ◌++◌, length, get_or, set, map, drop, replicate, min, take, refl, sym, ap, ◌∙◌, arith, ⊎_elim}
 use Rattle.std.specs.List.{list_all}
 use Rattle.std.proofs.lemmas.Bool.Decides.{leb_tells}
 use Rattle.std.proofs.lemmas.Bool.{cases_lt, cases_eq, false≢true}
-use Rattle.std.proofs.lemmas.List.{get_or_past, get_or-set_same, get_or-set_other, take_rest}
-use Rattle.b2_alpha.specs.Sums.{aligned, is_decimal, decimal_of, nibbles_of, are_decimal}
-use Rattle.b2_alpha.proofs.PlaceValues.{AllBelow}
+use Rattle.std.proofs.lemmas.List.{get_or_past, get_or-set_same, get_or-set_other, take_rest, length-map, map-append, drop-map}
+use Rattle.b2_alpha.specs.Sums.{aligned, is_decimal, decimal_of, nibbles_of}
+use Rattle.b2_alpha.proofs.PlaceValues.{AllBelow, tail_below}
 
 pub first_true : (a b : Bool) → (a && b) ≡ true → a ≡ true
 first_true true b both = refl
@@ -28,16 +28,16 @@ AllDecimal xs = (k : ℕ) → is_decimal (get_or xs k 0) ≡ true
 pub all_decimal : (xs : List ℕ) → list_all is_decimal xs ≡ true → AllDecimal xs
 all_decimal xs all = λ k.
     ⊎_elim
-        (λ inside. each_passes is_decimal xs k inside all)
-        (λ past. ap is_decimal (get_or_past xs k 0 past))
-        (cases_lt k (length xs))
+    (λ inside. each_passes is_decimal xs k inside all)
+    (λ past. ap is_decimal (get_or_past xs k 0 past))
+    (cases_lt k (length xs))
 
 pub decimal_set : (xs : List ℕ) (i x : ℕ) → i < length xs → is_decimal x ≡ true → AllDecimal xs → AllDecimal (set xs i x)
 decimal_set xs i x inside here all = λ k.
     ⊎_elim
-        (λ same. ap is_decimal (ap (λ j. get_or (set xs i x) j 0) same ∙ get_or-set_same xs i x 0 inside) ∙ here)
-        (λ other. ap is_decimal (get_or-set_other xs i k x 0 other) ∙ all k)
-        (cases_eq k i)
+    (λ same. ap is_decimal (ap (λ j. get_or (set xs i x) j 0) same ∙ get_or-set_same xs i x 0 inside) ∙ here)
+    (λ other. ap is_decimal (get_or-set_other xs i k x 0 other) ∙ all k)
+    (cases_eq k i)
 
 below_from_test : (a : ℕ) → leb a 9 ≡ true → a ≤ 9
 below_from_test a test = ⊎_elim (λ yes. yes.1) (λ no. absurd (false≢true (sym no.0 ∙ test))) (leb_tells a 9)
@@ -85,3 +85,22 @@ used_decimal n ys =
     zeros_decimal (n - length ys) (drop (length ys - n) ys)
     ∙ ap (λ i. list_all is_decimal (drop i ys)) cut
     ∙ ap (list_all is_decimal) (sym (take_rest ys (length ys - min (length ys) n)))
+
+-- places of base 100 in nibbles are read back
+pub decimals_back : (ds : List ℕ) → AllBelow 100 ds → map decimal_of (map nibbles_of ds) ≡ ds
+decimals_back [] below = refl
+decimals_back (d ∷ ds) below =
+    ap (λ x. x ∷ map decimal_of (map nibbles_of ds)) (decimal_of-nibbles_of d (below 0)) ∙ ap (λ l. d ∷ l) (decimals_back ds (tail_below 100 d ds below))
+
+map_replicate : (n : ℕ) → map decimal_of (replicate n 0) ≡ replicate n 0
+map_replicate zero = refl
+map_replicate (suc n) = ap (λ l. 0 ∷ l) (map_replicate n)
+
+-- the operand's places stand where its bytes stand
+pub decimals_aligned : (n : ℕ) (ys : List ℕ) → map decimal_of (aligned n ys) ≡ aligned n (map decimal_of ys)
+decimals_aligned n ys =
+    let same : length (map decimal_of ys) ≡ length ys = length-map ys decimal_of in
+    map-append decimal_of (replicate (n - length ys) 0) (drop (length ys - n) ys)
+    ∙ ap (λ l. l ++ map decimal_of (drop (length ys - n) ys)) (map_replicate (n - length ys))
+    ∙ ap (λ l. replicate (n - length ys) 0 ++ l) (sym (drop-map decimal_of (length ys - n) ys))
+    ∙ ap (λ k. replicate (n - k) 0 ++ drop (k - n) (map decimal_of ys)) (sym same)

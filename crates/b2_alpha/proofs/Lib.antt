@@ -8,3 +8,5 @@ pub mod Measuring
 pub mod Decimals
 pub mod HexDigits
 pub mod Modular
+pub mod TurningBack
+pub mod DecimalSums

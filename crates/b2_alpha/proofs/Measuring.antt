@@ -1,9 +1,8 @@
 -- The length of the value in a string.
-use Rattle.std.proofs.Common.{◌≡◌, ℕ, zero, suc, ◌+◌, ◌-◌, ◌<◌, ◌≤◌, Bool, true, false, max, min, List, length, get_or, take, refl, sym, ap, ◌∙◌, arith, ⊎_elim}
+use Rattle.std.proofs.Common.{◌≡◌, ℕ, zero, suc, ◌-◌, ◌<◌, ◌≤◌, Bool, true, false, max, min, List, length, get_or, refl, arith}
 use Rattle.std.specs.List.{suffix_len}
 use Rattle.std.proofs.lemmas.List.{length-take}
 use Rattle.std.proofs.lemmas.List.Sums.{suffix_len_is}
-use Rattle.std.proofs.lemmas.Bool.{cases_lt}
 use Rattle.b2_alpha.specs.Values.{is_blank, value_of}
 
 -- behind a byte that is no blank there are only blanks
@@ -21,12 +20,13 @@ all_blank xs blanks here (suc k) low inside = blanks (suc k) (omega arith) insid
 pub length-value_of-one : (xs : List ℕ) → 0 < length xs → ((k : ℕ) → 1 ≤ k → k < length xs → is_blank (get_or xs k 0) ≡ true) → 1 ≡ length (value_of xs)
 length-value_of-one xs some blanks =
     let either : (b : Bool) → is_blank (get_or xs 0 0) ≡ b → 1 ≡ length (value_of xs) =
-        λ b. elim b as (λ v. is_blank (get_or xs 0 0) ≡ v → 1 ≡ length (value_of xs)) [
-            true ↦ λ here.
-                let behind : suffix_len is_blank xs ≡ length xs - 0 = suffix_len_is is_blank xs 0 0 (omega arith) (all_blank xs blanks here) (λ never. absurd (omega arith)) in
-                let taken : length (value_of xs) ≡ min (max 1 (length xs - suffix_len is_blank xs)) (length xs) = length-take (max 1 (length xs - suffix_len is_blank xs)) xs in
-                omega arith
-            | false ↦ λ here. length-value_of xs 1 (omega arith) (omega arith) blanks here ] in
+    λ b. elim b as (λ v. is_blank (get_or xs 0 0) ≡ v → 1 ≡ length (value_of xs)) [
+      | true ↦ λ here.
+          let behind : suffix_len is_blank xs ≡ length xs - 0 = suffix_len_is is_blank xs 0 0 (omega arith) (all_blank xs blanks here) (λ never. absurd (omega arith)) in
+          let taken : length (value_of xs) ≡ min (max 1 (length xs - suffix_len is_blank xs)) (length xs) = length-take (max 1 (length xs - suffix_len is_blank xs)) xs in
+          omega arith
+      | false ↦ λ here. length-value_of xs 1 (omega arith) (omega arith) blanks here
+    ] in
     either (is_blank (get_or xs 0 0)) refl
 
 pub length-value_of-none : (xs : List ℕ) → length xs ≡ 0 → 0 ≡ length (value_of xs)

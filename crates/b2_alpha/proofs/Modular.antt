@@ -1,11 +1,11 @@
 -- Sums and differences in n places are sums and differences modulo a power of the base.
-use Rattle.std.proofs.Common.{◌≡◌, ℕ, zero, suc, ◌+◌, ◌-◌, ◌*◌, ◌/◌, ◌%◌, ◌^◌, ◌<◌, ◌≤◌, List, [], ◌∷◌, ◌++◌, length, take, drop, replicate, refl, sym, ap, ◌∙◌, arith, ⊎_elim}
-use Rattle.std.proofs.Math.Nat.{pow-zero, pow-suc, add-mul-mod_self_right}
+use Rattle.std.proofs.Common.{◌≡◌, ℕ, zero, suc, ◌+◌, ◌-◌, ◌*◌, ◌/◌, ◌%◌, ◌^◌, ◌<◌, List, [], ◌∷◌, ◌++◌, length, take, drop, replicate, refl, sym, ap, ◌∙◌, arith, ⊎_elim}
+use Rattle.std.proofs.Math.Nat.{add-mul-mod_self_right}
 use Rattle.std.proofs.lemmas.Nat.{pow-add, div-add-mod'}
 use Rattle.std.proofs.lemmas.Bool.{cases_lt}
-use Rattle.std.proofs.lemmas.List.{length-append, length-drop, take-append-drop, drop_all}
-use Rattle.b2_alpha.specs.Places.{number, digits}
-use Rattle.b2_alpha.specs.Sums.{aligned, binary_sum, binary_difference}
+use Rattle.std.proofs.lemmas.List.{length-append, length-drop, take-append-drop}
+use Rattle.b2_alpha.specs.Places.{number}
+use Rattle.b2_alpha.specs.Sums.{aligned, sum_in, difference_in}
 use Rattle.b2_alpha.proofs.PlaceValues.{AllBelow, number-lt, number-digits}
 use Rattle.b2_alpha.proofs.Aligning.{aligned_below, length-aligned}
 
@@ -25,24 +25,25 @@ pub number-aligned : (base n : ℕ) (ys : List ℕ) → number base ys ≡ numbe
 number-aligned base n ys =
     let under : number base (aligned n ys) ≡ number base (drop (length ys - n) ys) = number-zeros base (n - length ys) (drop (length ys - n) ys) in
     let split : number base ys ≡ number base (take (length ys - n) ys) * base ^ length (drop (length ys - n) ys) + number base (drop (length ys - n) ys) =
-        ap (number base) (sym (take-append-drop (length ys - n) ys)) ∙ number-append base (take (length ys - n) ys) (drop (length ys - n) ys) in
+    ap (number base) (sym (take-append-drop (length ys - n) ys)) ∙ number-append base (take (length ys - n) ys) (drop (length ys - n) ys) in
     ⊎_elim
-        (λ longer.
-            let long : length (drop (length ys - n) ys) ≡ n = omega (arith, length-drop (length ys - n) ys) in
-            split ∙ ap (λ k. number base (take (length ys - n) ys) * base ^ k + number base (drop (length ys - n) ys)) long ∙ omega arith)
-        (λ shorter.
-            let nothing : length ys - n ≡ 0 = omega arith in
-            let above : number base (take (length ys - n) ys) ≡ 0 = ap (λ k. number base (take k ys)) nothing in
-            let whole : number base (drop (length ys - n) ys) ≡ number base ys = ap (λ k. number base (drop k ys)) nothing in
-            let product : number base (take (length ys - n) ys) * base ^ n ≡ 0 * base ^ n = ap (λ m. m * base ^ n) above in
-            omega arith)
-        (cases_lt n (length ys))
+    (λ longer.
+    let long : length (drop (length ys - n) ys) ≡ n = omega (arith, length-drop (length ys - n) ys) in
+    split ∙ ap (λ k. number base (take (length ys - n) ys) * base ^ k + number base (drop (length ys - n) ys)) long ∙ omega arith)
+    (λ shorter.
+    let nothing : length ys - n ≡ 0 = omega arith in
+    let above : number base (take (length ys - n) ys) ≡ 0 = ap (λ k. number base (take k ys)) nothing in
+    let whole : number base (drop (length ys - n) ys) ≡ number base ys = ap (λ k. number base (drop k ys)) nothing in
+    let product : number base (take (length ys - n) ys) * base ^ n ≡ 0 * base ^ n = ap (λ m. m * base ^ n) above in
+    omega arith)
+    (cases_lt n (length ys))
 
-pub number-binary_sum : (xs ys : List ℕ) → number 256 (binary_sum xs ys) ≡ (number 256 xs + number 256 ys) % 256 ^ length xs
-number-binary_sum xs ys =
-    number-digits 256 (length xs) (number 256 xs + number 256 (aligned (length xs) ys)) (omega arith)
-    ∙ sym (add-mul-mod_self_right (number 256 xs + number 256 (aligned (length xs) ys)) (number 256 (take (length ys - length xs) ys)) (256 ^ length xs))
-    ∙ ap (λ m. m % 256 ^ length xs) (let parts = number-aligned 256 (length xs) ys in omega arith)
+-- the number of a sum in as many places as the receiver has
+pub number-sum_in : (base : ℕ) (xs ys : List ℕ) → 0 < base → number base (sum_in base xs (aligned (length xs) ys)) ≡ (number base xs + number base ys) % base ^ length xs
+number-sum_in base xs ys some =
+    number-digits base (length xs) (number base xs + number base (aligned (length xs) ys)) some
+    ∙ sym (add-mul-mod_self_right (number base xs + number base (aligned (length xs) ys)) (number base (take (length ys - length xs) ys)) (base ^ length xs))
+    ∙ ap (λ m. m % base ^ length xs) (let parts = number-aligned base (length xs) ys in omega arith)
 
 mod_first : (p a b : ℕ) → (a % p + b) % p ≡ (a + b) % p
 mod_first p a b =
@@ -55,9 +56,12 @@ difference_back p old al q small =
     ∙ ap (λ m. m % p) (let e : p + old - al + (q * p + al) ≡ old + (q + 1) * p = omega arith in e)
     ∙ add-mul-mod_self_right old (q + 1) p
 
-pub number-binary_difference : (xs ys : List ℕ) → AllBelow 256 ys → (number 256 (binary_difference xs ys) + number 256 ys) % 256 ^ length xs ≡ number 256 xs % 256 ^ length xs
-number-binary_difference xs ys below =
-    let small : number 256 (aligned (length xs) ys) < 256 ^ length xs = rw (sym (ap (λ n. 256 ^ n) (length-aligned (length xs) ys))) (number-lt 256 (aligned (length xs) ys) (aligned_below 256 (length xs) ys below)) in
-    ap (λ m. (m + number 256 ys) % 256 ^ length xs) (number-digits 256 (length xs) (256 ^ length xs + number 256 xs - number 256 (aligned (length xs) ys)) (omega arith))
-    ∙ ap (λ m. ((256 ^ length xs + number 256 xs - number 256 (aligned (length xs) ys)) % 256 ^ length xs + m) % 256 ^ length xs) (number-aligned 256 (length xs) ys)
-    ∙ difference_back (256 ^ length xs) (number 256 xs) (number 256 (aligned (length xs) ys)) (number 256 (take (length ys - length xs) ys)) small
+pub number-difference_in_aligned : (base : ℕ) (xs ys : List ℕ) → 0 < base → AllBelow base (aligned (length xs) ys) → (number base (difference_in base xs (aligned (length xs) ys)) + number base ys) % base ^ length xs ≡ number base xs % base ^ length xs
+number-difference_in_aligned base xs ys some below =
+    let small : number base (aligned (length xs) ys) < base ^ length xs = rw (sym (ap (λ n. base ^ n) (length-aligned (length xs) ys))) (number-lt base (aligned (length xs) ys) below) in
+    ap (λ m. (m + number base ys) % base ^ length xs) (number-digits base (length xs) (base ^ length xs + number base xs - number base (aligned (length xs) ys)) some)
+    ∙ ap (λ m. ((base ^ length xs + number base xs - number base (aligned (length xs) ys)) % base ^ length xs + m) % base ^ length xs) (number-aligned base (length xs) ys)
+    ∙ difference_back (base ^ length xs) (number base xs) (number base (aligned (length xs) ys)) (number base (take (length ys - length xs) ys)) small
+
+pub number-difference_in : (base : ℕ) (xs ys : List ℕ) → 0 < base → AllBelow base ys → (number base (difference_in base xs (aligned (length xs) ys)) + number base ys) % base ^ length xs ≡ number base xs % base ^ length xs
+number-difference_in base xs ys some below = number-difference_in_aligned base xs ys some (aligned_below base (length xs) ys below)

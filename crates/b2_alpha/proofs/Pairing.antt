@@ -13,7 +13,7 @@ each_pair_more f xs ys whole i y in_xs in_ys is_y so_far =
     let front : take (i + 1) (set xs i y) ≡ take i xs ++ y ∷ [] = take_more_set xs i y in_xs in
     let back : drop (i + 1) (set xs i y) ≡ drop (i + 1) xs = drop-set-lt (i + 1) xs i y (omega arith) in
     let step : each_pair f (drop i xs) (drop i ys) ≡ f (get_or xs i 0) (get_or ys i 0) ∷ each_pair f (drop (i + 1) xs) (drop (i + 1) ys) =
-        ap (λ l. each_pair f l (drop i ys)) (drop_more xs i 0 in_xs) ∙ ap (λ l. each_pair f (get_or xs i 0 ∷ drop (i + 1) xs) l) (drop_more ys i 0 in_ys) in
+    ap (λ l. each_pair f l (drop i ys)) (drop_more xs i 0 in_xs) ∙ ap (λ l. each_pair f (get_or xs i 0 ∷ drop (i + 1) xs) l) (drop_more ys i 0 in_ys) in
     let before : take i xs ++ (f (get_or xs i 0) (get_or ys i 0) ∷ each_pair f (drop (i + 1) xs) (drop (i + 1) ys)) ≡ whole = sym (ap (λ l. take i xs ++ l) step) ∙ so_far in
     ap (λ l. l ++ each_pair f (drop (i + 1) (set xs i y)) (drop (i + 1) ys)) front
     ∙ ap (λ l. (take i xs ++ y ∷ []) ++ each_pair f l (drop (i + 1) ys)) back

@@ -4,7 +4,7 @@ use Rattle.std.proofs.Math.Nat.{pow-zero, pow-suc, pow-succ', pow-le-pow_right, 
 use Rattle.std.proofs.Math.Arith.{mod-mul}
 use Rattle.std.proofs.lemmas.Bool.{cases_lt}
 use Rattle.std.proofs.lemmas.List.{length-append, length-drop, length-map, length-take, drop-set, drop_more, take_more, get_or-take, get_or_past}
-use Rattle.std.proofs.lemmas.Nat.{mod-mul-add, div-mul-add}
+use Rattle.std.proofs.lemmas.Nat.{mod-mul-add, div-mul-add, mod_below}
 use Rattle.b2_alpha.specs.Places.{number, digits}
 
 -- each digit is below the base
@@ -71,12 +71,12 @@ digits-number base [] carry below = refl
 digits-number base (x ∷ xs) carry below =
     let p : ℕ = base ^ length xs in
     let same : carry * base ^ suc (length xs) + (x * base ^ length xs + number base xs) ≡ (carry * base + x) * base ^ length xs + number base xs =
-        ap (λ m. carry * m + (x * base ^ length xs + number base xs)) (pow-suc base (length xs)) ∙ regroup base (base ^ length xs) x (number base xs) carry in
+    ap (λ m. carry * m + (x * base ^ length xs + number base xs)) (pow-suc base (length xs)) ∙ regroup base (base ^ length xs) x (number base xs) carry in
     let small : number base xs < base ^ length xs = number-lt base xs (tail_below base x xs below) in
     let first : ((carry * base + x) * base ^ length xs + number base xs) / base ^ length xs % base ≡ x =
-        ap (λ m. m % base) (div-mul-add (carry * base + x) (base ^ length xs) (number base xs) small) ∙ mod-mul-add carry base x (below 0) in
+    ap (λ m. m % base) (div-mul-add (carry * base + x) (base ^ length xs) (number base xs) small) ∙ mod-mul-add carry base x (below 0) in
     let rest : digits base (length xs) ((carry * base + x) * base ^ length xs + number base xs) ≡ xs =
-        digits-number base xs (carry * base + x) (tail_below base x xs below) in
+    digits-number base xs (carry * base + x) (tail_below base x xs below) in
     ap (λ m. m / base ^ length xs % base ∷ digits base (length xs) m) same ∙ ap (λ d. d ∷ digits base (length xs) ((carry * base + x) * base ^ length xs + number base xs)) first ∙ ap (λ l. x ∷ l) rest
 
 complement_step : (base p c x m n : ℕ) → c + x + 1 ≡ base → m + n + 1 ≡ p → c * p + m + (x * p + n) + 1 ≡ p * base
@@ -98,9 +98,9 @@ number-complement base (x ∷ xs) below =
 pub below_take : (base n : ℕ) (xs : List ℕ) → 0 < base → AllBelow base xs → AllBelow base (take n xs)
 below_take base n xs some below = λ k.
     ⊎_elim
-        (λ inside. let e : get_or (take n xs) k 0 ≡ get_or xs k 0 = get_or-take n xs k 0 inside in let b = below k in omega arith)
-        (λ past. let e : get_or (take n xs) k 0 ≡ 0 = get_or_past (take n xs) k 0 (omega (arith, length-take n xs)) in omega arith)
-        (cases_lt k n)
+    (λ inside. let e : get_or (take n xs) k 0 ≡ get_or xs k 0 = get_or-take n xs k 0 inside in let b = below k in omega arith)
+    (λ past. let e : get_or (take n xs) k 0 ≡ 0 = get_or_past (take n xs) k 0 (omega (arith, length-take n xs)) in omega arith)
+    (cases_lt k n)
 
 -- up to three bytes in front leave room for a fourth
 pub front-lt : (xs : List ℕ) (i : ℕ) → AllBelow 256 xs → i < 4 → number 256 (take i xs) < 16777216
@@ -122,3 +122,16 @@ number-digits base (suc k) n some =
     ap (λ j. n / base ^ k % base * base ^ j + number base (digits base k n)) (length-digits base k n)
     ∙ ap (λ m. n / base ^ k % base * base ^ k + m) (number-digits base k n some)
     ∙ sym (ap (λ p. n % p) (pow-succ' base k) ∙ mod-mul n some (one-le-pow k base some))
+
+-- a number that has room in its digits
+pub number-digits_fitting : (base k n : ℕ) → 0 < base → n < base ^ k → number base (digits base k n) ≡ n
+number-digits_fitting base k n some small =
+    number-digits base k n some ∙ ap (λ m. m % base ^ k) (let e : n ≡ 0 * base ^ k + n = omega arith in e) ∙ mod-mul-add 0 (base ^ k) n small
+
+below_first : (base x : ℕ) (xs : List ℕ) → x < base → AllBelow base xs → (j : ℕ) → get_or (x ∷ xs) j 0 < base
+below_first base x xs small below zero = small
+below_first base x xs small below (suc j) = below j
+
+pub digits_below : (base k n : ℕ) → 0 < base → AllBelow base (digits base k n)
+digits_below base zero n some = λ j. some
+digits_below base (suc k) n some = below_first base (n / base ^ k % base) (digits base k n) (mod_below (n / base ^ k) base some) (digits_below base k n some)

@@ -1,11 +1,11 @@
 -- Bits that turn: one number, one byte, and a whole string.
-use Rattle.std.proofs.Common.{◌≡◌, ℕ, zero, suc, ◌+◌, ◌-◌, ◌*◌, ◌/◌, ◌%◌, ◌^◌, ◌<◌, ◌≤◌, ◌≢◌, bit_or, max, IsTrue, nat_eq, List, [], ◌∷◌, ◌++◌, length, get_or, set, drop, take, refl, sym, ap, ◌∙◌, arith}
+use Rattle.std.proofs.Common.{◌≡◌, ℕ, zero, suc, ◌+◌, ◌-◌, ◌*◌, ◌/◌, ◌%◌, ◌^◌, ◌<◌, ◌≤◌, ◌≢◌, bit_or, IsTrue, nat_eq, List, [], ◌∷◌, ◌++◌, length, get_or, set, drop, take, refl, sym, ap, ◌∙◌, arith}
 use Rattle.std.specs.Int.{w8, rotate_left}
 use Rattle.std.proofs.Math.Nat.{pow-zero, pow-suc, one-le-pow, pow-le-pow_right, div-div-eq-div-mul, add-mul-div_right, add-mul-mod_self_right}
-use Rattle.std.proofs.lemmas.Nat.{or_shifted, one_shl, mul-le, pow-add, pow_pos, div-mul-add, mod-mul-add, div-add-mod', div_below, mod_below}
+use Rattle.std.proofs.lemmas.Nat.{or_shifted, one_shl, mul-le, pow-add, pow_pos, div-mul-add, div-add-mod', div_below, mod_below}
 use Rattle.std.proofs.lemmas.Nat.Bits.{bit_at_or, same_from_bits}
 use Rattle.std.proofs.lemmas.Bool.{eqb-true, eq-eqb}
-use Rattle.std.proofs.lemmas.List.{nil_from_length, drop_all, drop-drop, drop-set-lt, get_or-drop, get_or-set_other, take_all, take_more, take_more_set}
+use Rattle.std.proofs.lemmas.List.{drop_all, drop-drop, drop-set-lt, get_or-drop, get_or-set_other, take_all, take_more, take_more_set}
 use Rattle.b2_alpha.specs.Places.{number, digits}
 use Rattle.b2_alpha.specs.Bits.{turned, turned_whole}
 use Rattle.b2_alpha.proofs.PlaceValues.{AllBelow, tail_below, number-lt, number_at, number-push, number-more, pow_more, place_more, digits-number}
@@ -33,9 +33,10 @@ bytes_of_bits (suc n) =
     pow-suc 256 n ∙ ap (λ p. p * 256) (bytes_of_bits n) ∙ sym (pow-add 2 (8 * n) 8) ∙ ap (λ k. 2 ^ k) (omega arith)
 
 pub none_above : (v k : ℕ) → (IsTrue (nat_eq (v / 2 ^ k) 0) → v < 2 ^ k) × (v < 2 ^ k → IsTrue (nat_eq (v / 2 ^ k) 0))
-none_above v k =
-    ( (λ none. let is_zero : v / 2 ^ k ≡ 0 = eqb-true (v / 2 ^ k) 0 none in let split : v / 2 ^ k * 2 ^ k + v % 2 ^ k ≡ v = div-add-mod' v (2 ^ k) in let rest : v % 2 ^ k < 2 ^ k = mod_below v (2 ^ k) (pow_pos k) in let nothing : v / 2 ^ k * 2 ^ k ≡ 0 * 2 ^ k = ap (λ q. q * 2 ^ k) is_zero in omega arith),
-      (λ below. eq-eqb (v / 2 ^ k) 0 (let one : v / 2 ^ k < 1 = div_below v (2 ^ k) 1 (pow_pos k) (omega arith) in omega arith)) )
+none_above v k = (
+  (λ none. let is_zero : v / 2 ^ k ≡ 0 = eqb-true (v / 2 ^ k) 0 none in let split : v / 2 ^ k * 2 ^ k + v % 2 ^ k ≡ v = div-add-mod' v (2 ^ k) in let rest : v % 2 ^ k < 2 ^ k = mod_below v (2 ^ k) (pow_pos k) in let nothing : v / 2 ^ k * 2 ^ k ≡ 0 * 2 ^ k = ap (λ q. q * 2 ^ k) is_zero in omega arith),
+  (λ below. eq-eqb (v / 2 ^ k) 0 (let one : v / 2 ^ k < 1 = div_below v (2 ^ k) 1 (pow_pos k) (omega arith) in omega arith)),
+)
 
 -- what is above a power of the base is lost
 pub digits_lost : (base k q y : ℕ) → 0 < base → digits base k (q * base ^ k + y) ≡ digits base k y
@@ -43,7 +44,7 @@ digits_lost base zero q y some = refl
 digits_lost base (suc k) q y some =
     let same : q * base ^ suc k + y ≡ y + q * base * base ^ k = ap (λ p. q * p + y) (pow-suc base k) ∙ omega arith in
     let first : (y + q * base * base ^ k) / base ^ k % base ≡ y / base ^ k % base =
-        ap (λ m. m % base) (add-mul-div_right y (q * base) (one-le-pow k base some)) ∙ add-mul-mod_self_right (y / base ^ k) q base in
+    ap (λ m. m % base) (add-mul-div_right y (q * base) (one-le-pow k base some)) ∙ add-mul-mod_self_right (y / base ^ k) q base in
     let rest : digits base k (y + q * base * base ^ k) ≡ digits base k y = ap (digits base k) (let e : y + q * base * base ^ k ≡ q * base * base ^ k + y = omega arith in e) ∙ digits_lost base k (q * base) y some in
     ap (λ m. m / base ^ k % base ∷ digits base k m) same ∙ ap (λ d. d ∷ digits base k (y + q * base * base ^ k)) first ∙ ap (λ l. y / base ^ k % base ∷ l) rest
 
@@ -55,7 +56,7 @@ pub first_bits : (k b : ℕ) (bs : List ℕ) → k ≤ 8 → AllBelow 256 (b ∷
 first_bits k b bs within below =
     let small : number 256 bs < 256 ^ length bs = number-lt 256 bs (tail_below 256 b bs below) in
     let power : 2 ^ (8 * length (b ∷ bs) - k) ≡ 256 ^ length bs * 2 ^ (8 - k) =
-        ap (λ n. 2 ^ n) (let e : 8 * suc (length bs) - k ≡ 8 * length bs + (8 - k) = omega arith in e) ∙ pow-add 2 (8 * length bs) (8 - k) ∙ ap (λ p. p * 2 ^ (8 - k)) (sym (bytes_of_bits (length bs))) in
+    ap (λ n. 2 ^ n) (let e : 8 * suc (length bs) - k ≡ 8 * length bs + (8 - k) = omega arith in e) ∙ pow-add 2 (8 * length bs) (8 - k) ∙ ap (λ p. p * 2 ^ (8 - k)) (sym (bytes_of_bits (length bs))) in
     ap (λ p. number 256 (b ∷ bs) / p) power ∙ sym (div-div-eq-div-mul (number 256 (b ∷ bs)) (256 ^ length bs) (2 ^ (8 - k)))
     ∙ ap (λ n. n / 2 ^ (8 - k)) (div-mul-add b (256 ^ length bs) (number 256 bs) small)
 
@@ -64,12 +65,12 @@ pub left_turned : (k : ℕ) → k ≤ 8 → (xs : List ℕ) → digits 256 (leng
 left_turned k within [] = refl
 left_turned k within (b ∷ bs) =
     let powers : 2 ^ (8 * length (b ∷ bs) - k) * 2 ^ k ≡ 256 ^ length (b ∷ bs) =
-        sym (pow-add 2 (8 * length (b ∷ bs) - k) k) ∙ ap (λ n. 2 ^ n) (let e : 8 * suc (length bs) - k + k ≡ 8 * suc (length bs) = omega arith in e) ∙ sym (bytes_of_bits (length (b ∷ bs))) in
+    sym (pow-add 2 (8 * length (b ∷ bs) - k) k) ∙ ap (λ n. 2 ^ n) (let e : 8 * suc (length bs) - k + k ≡ 8 * suc (length bs) = omega arith in e) ∙ sym (bytes_of_bits (length (b ∷ bs))) in
     let parts = scaled (2 ^ (8 * length (b ∷ bs) - k)) (2 ^ k) (number 256 (b ∷ bs)) (number 256 (b ∷ bs) / 2 ^ (8 * length (b ∷ bs) - k)) (number 256 (b ∷ bs) % 2 ^ (8 * length (b ∷ bs) - k)) (div-add-mod' (number 256 (b ∷ bs)) (2 ^ (8 * length (b ∷ bs) - k))) in
     let over : number 256 (b ∷ bs) / 2 ^ (8 * length (b ∷ bs) - k) * (2 ^ (8 * length (b ∷ bs) - k) * 2 ^ k) ≡ number 256 (b ∷ bs) / 2 ^ (8 * length (b ∷ bs) - k) * 256 ^ length (b ∷ bs) =
-        ap (λ p. number 256 (b ∷ bs) / 2 ^ (8 * length (b ∷ bs) - k) * p) powers in
+    ap (λ p. number 256 (b ∷ bs) / 2 ^ (8 * length (b ∷ bs) - k) * p) powers in
     ap (digits 256 (length (b ∷ bs)))
-        (let whole : number 256 (b ∷ bs) * 2 ^ k + number 256 (b ∷ bs) / 2 ^ (8 * length (b ∷ bs) - k) ≡ number 256 (b ∷ bs) / 2 ^ (8 * length (b ∷ bs) - k) * 256 ^ length (b ∷ bs) + turned (8 * length (b ∷ bs)) k (number 256 (b ∷ bs)) = omega arith in whole)
+    (let whole : number 256 (b ∷ bs) * 2 ^ k + number 256 (b ∷ bs) / 2 ^ (8 * length (b ∷ bs) - k) ≡ number 256 (b ∷ bs) / 2 ^ (8 * length (b ∷ bs) - k) * 256 ^ length (b ∷ bs) + turned (8 * length (b ∷ bs)) k (number 256 (b ∷ bs)) = omega arith in whole)
     ∙ digits_lost 256 (length (b ∷ bs)) (number 256 (b ∷ bs) / 2 ^ (8 * length (b ∷ bs) - k)) (turned (8 * length (b ∷ bs)) k (number 256 (b ∷ bs))) (omega arith)
 
 -- A string's number through 2 ^ k, with the k bits that left it at the right come in at the left, is the string turned.
@@ -77,23 +78,23 @@ pub right_turned : (k : ℕ) → k ≤ 8 → (xs : List ℕ) → digits 256 (len
 right_turned k within [] = refl
 right_turned k within (b ∷ bs) =
     let powers : 256 ^ length (b ∷ bs) ≡ 2 ^ (8 * length (b ∷ bs) - k) * 2 ^ k =
-        bytes_of_bits (length (b ∷ bs)) ∙ ap (λ n. 2 ^ n) (let e : 8 * suc (length bs) ≡ 8 * suc (length bs) - k + k = omega arith in e) ∙ pow-add 2 (8 * length (b ∷ bs) - k) k in
+    bytes_of_bits (length (b ∷ bs)) ∙ ap (λ n. 2 ^ n) (let e : 8 * suc (length bs) ≡ 8 * suc (length bs) - k + k = omega arith in e) ∙ pow-add 2 (8 * length (b ∷ bs) - k) k in
     let width : 8 * length (b ∷ bs) - (8 * length (b ∷ bs) - k) ≡ k = let e : 8 * suc (length bs) - (8 * suc (length bs) - k) ≡ k = omega arith in e in
     let high : number 256 (b ∷ bs) % 2 ^ k * 256 ^ length (b ∷ bs) ≡ number 256 (b ∷ bs) % 2 ^ k * 2 ^ (8 * length (b ∷ bs) - k) * 2 ^ k =
-        ap (λ p. number 256 (b ∷ bs) % 2 ^ k * p) powers ∙ omega arith in
+    ap (λ p. number 256 (b ∷ bs) % 2 ^ k * p) powers ∙ omega arith in
     ap (digits 256 (length (b ∷ bs)))
-        (ap (λ h. (h + number 256 (b ∷ bs)) / 2 ^ k) high
-         ∙ ap (λ n. n / 2 ^ k) (let e : number 256 (b ∷ bs) % 2 ^ k * 2 ^ (8 * length (b ∷ bs) - k) * 2 ^ k + number 256 (b ∷ bs) ≡ number 256 (b ∷ bs) + number 256 (b ∷ bs) % 2 ^ k * 2 ^ (8 * length (b ∷ bs) - k) * 2 ^ k = omega arith in e)
-         ∙ add-mul-div_right (number 256 (b ∷ bs)) (number 256 (b ∷ bs) % 2 ^ k * 2 ^ (8 * length (b ∷ bs) - k)) (pow_pos k)
-         ∙ (let e : number 256 (b ∷ bs) / 2 ^ k + number 256 (b ∷ bs) % 2 ^ k * 2 ^ (8 * length (b ∷ bs) - k) ≡ number 256 (b ∷ bs) % 2 ^ k * 2 ^ (8 * length (b ∷ bs) - k) + number 256 (b ∷ bs) / 2 ^ k = omega arith in e)
-         ∙ sym (ap (λ w. number 256 (b ∷ bs) % 2 ^ w * 2 ^ (8 * length (b ∷ bs) - k) + number 256 (b ∷ bs) / 2 ^ w) width))
+    (ap (λ h. (h + number 256 (b ∷ bs)) / 2 ^ k) high
+    ∙ ap (λ n. n / 2 ^ k) (let e : number 256 (b ∷ bs) % 2 ^ k * 2 ^ (8 * length (b ∷ bs) - k) * 2 ^ k + number 256 (b ∷ bs) ≡ number 256 (b ∷ bs) + number 256 (b ∷ bs) % 2 ^ k * 2 ^ (8 * length (b ∷ bs) - k) * 2 ^ k = omega arith in e)
+    ∙ add-mul-div_right (number 256 (b ∷ bs)) (number 256 (b ∷ bs) % 2 ^ k * 2 ^ (8 * length (b ∷ bs) - k)) (pow_pos k)
+    ∙ (let e : number 256 (b ∷ bs) / 2 ^ k + number 256 (b ∷ bs) % 2 ^ k * 2 ^ (8 * length (b ∷ bs) - k) ≡ number 256 (b ∷ bs) % 2 ^ k * 2 ^ (8 * length (b ∷ bs) - k) + number 256 (b ∷ bs) / 2 ^ k = omega arith in e)
+    ∙ sym (ap (λ w. number 256 (b ∷ bs) % 2 ^ w * 2 ^ (8 * length (b ∷ bs) - k) + number 256 (b ∷ bs) / 2 ^ w) width))
 
 -- The last byte's low bits are the number's.
 pub last_bits : (k x : ℕ) (xs : List ℕ) → k ≤ 8 → number 256 (xs ++ x ∷ []) % 2 ^ k ≡ x % 2 ^ k
 last_bits k x xs within =
     let powers : 256 ≡ 2 ^ (8 - k) * 2 ^ k = ap (λ n. 2 ^ n) (let e : 8 ≡ 8 - k + k = omega arith in e) ∙ pow-add 2 (8 - k) k in
     let shape : number 256 (xs ++ x ∷ []) ≡ x + number 256 xs * 2 ^ (8 - k) * 2 ^ k =
-        number-push 256 xs x ∙ ap (λ p. number 256 xs * p + x) powers ∙ omega arith in
+    number-push 256 xs x ∙ ap (λ p. number 256 xs * p + x) powers ∙ omega arith in
     ap (λ n. n % 2 ^ k) shape ∙ add-mul-mod_self_right x (number 256 xs * 2 ^ (8 - k)) (2 ^ k)
 
 -- i places of a string times 2 ^ left are made, a carry stands before them, and the places before that are as they were
@@ -171,17 +172,17 @@ same_at i xs ys same =
 pub Divided-more : (right top : ℕ) (old now : List ℕ) (i rest x : ℕ) → i < length now → length now ≡ length old → x ≡ get_or now i 0 → Divided right top old now i rest → Divided right top old (set now i ((rest * 256 + x) / 2 ^ right)) (i + 1) ((rest * 256 + x) % 2 ^ right)
 Divided-more right top old now i rest x inside same is_x so_far =
     let written : number 256 (take (i + 1) (set now i ((rest * 256 + x) / 2 ^ right))) ≡ number 256 (take i now) * 256 + (rest * 256 + x) / 2 ^ right =
-        ap (number 256) (take_more_set now i ((rest * 256 + x) / 2 ^ right) inside) ∙ number-push 256 (take i now) ((rest * 256 + x) / 2 ^ right) in
+    ap (number 256) (take_more_set now i ((rest * 256 + x) / 2 ^ right) inside) ∙ number-push 256 (take i now) ((rest * 256 + x) / 2 ^ right) in
     let here : get_or old i 0 ≡ x = sym (same_at i now old so_far.kept) ∙ sym is_x in
     let olds : number 256 (take (i + 1) old) ≡ number 256 (take i old) * 256 + x = number-more 256 old i (omega arith) ∙ ap (λ y. number 256 (take i old) * 256 + y) here in
     record {
       small = mod_below (rest * 256 + x) (2 ^ right) (pow_pos right);
       kept = drop-set-lt (i + 1) now i ((rest * 256 + x) / 2 ^ right) (omega arith) ∙ sym (drop-drop 1 i now) ∙ ap (drop 1) so_far.kept ∙ drop-drop 1 i old;
       quotient =
-        ap (λ n. n * 2 ^ right + (rest * 256 + x) % 2 ^ right) written
-        ∙ divided_step (number 256 (take i now)) (2 ^ right) rest x ((rest * 256 + x) / 2 ^ right) ((rest * 256 + x) % 2 ^ right) (256 ^ i) (number 256 (take i old)) top so_far.quotient (div-add-mod' (rest * 256 + x) (2 ^ right))
-        ∙ sym (ap (λ p. top * p + (number 256 (take i old) * 256 + x)) (pow_more 256 i) )
-        ∙ sym (ap (λ n. top * 256 ^ (i + 1) + n) olds);
+          ap (λ n. n * 2 ^ right + (rest * 256 + x) % 2 ^ right) written
+          ∙ divided_step (number 256 (take i now)) (2 ^ right) rest x ((rest * 256 + x) / 2 ^ right) ((rest * 256 + x) % 2 ^ right) (256 ^ i) (number 256 (take i old)) top so_far.quotient (div-add-mod' (rest * 256 + x) (2 ^ right))
+          ∙ sym (ap (λ p. top * p + (number 256 (take i old) * 256 + x)) (pow_more 256 i))
+          ∙ sym (ap (λ n. top * 256 ^ (i + 1) + n) olds);
     }
 
 pub Divided-all : (right top : ℕ) (old now : List ℕ) (rest : ℕ) → length now ≡ length old → AllBelow 256 now → Divided right top old now (length old) rest → now ≡ digits 256 (length old) ((top * 256 ^ length old + number 256 old) / 2 ^ right)
@@ -190,7 +191,7 @@ Divided-all right top old now rest same below done =
     let whole_old : take (length old) old ≡ old = take_all (length old) old (omega arith) in
     let quotient : number 256 now * 2 ^ right + rest ≡ top * 256 ^ length old + number 256 old = rw (whole_now, whole_old) at done.quotient in
     let value : number 256 now ≡ (top * 256 ^ length old + number 256 old) / 2 ^ right =
-        sym (div-mul-add (number 256 now) (2 ^ right) rest done.small) ∙ ap (λ n. n / 2 ^ right) quotient in
+    sym (div-mul-add (number 256 now) (2 ^ right) rest done.small) ∙ ap (λ n. n / 2 ^ right) quotient in
     sym (digits-number 256 now 0 below) ∙ ap (digits 256 (length now)) (let e : 0 * 256 ^ length now + number 256 now ≡ number 256 now = omega arith in e)
     ∙ ap (λ n. digits 256 n (number 256 now)) same ∙ ap (digits 256 (length old)) value
 

@@ -40,6 +40,10 @@ decimal_of b = b / 16 * 10 + b % 16
 abbrev pub nibbles_of : ℕ → ℕ
 nibbles_of d = d / 10 * 16 + d % 10
 
+-- the number that a string's decimal nibbles spell
+abbrev pub decimal_value : List ℕ → ℕ
+decimal_value xs = number 100 (map decimal_of xs)
+
 -- all nibbles that a decimal sum or difference uses are decimal digits
 abbrev pub are_decimal : List ℕ → List ℕ → Bool
 are_decimal xs ys = list_all is_decimal xs && list_all is_decimal (aligned (length xs) ys)

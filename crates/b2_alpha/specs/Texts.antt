@@ -1,5 +1,5 @@
 -- Bytes in hexadecimal.
-use Rattle.std.specs.Prelude.{ℕ, ◌+◌, ◌*◌, ◌-◌, ◌/◌, ◌%◌, nat_le, List, [], ◌∷◌, if◌then◌else◌, slice_index, codes}
+use Rattle.std.specs.Prelude.{ℕ, ◌-◌, ◌/◌, ◌%◌, nat_le, List, [], ◌∷◌, if◌then◌else◌, slice_index, codes}
 
 -- the character of a hexadecimal digit
 abbrev pub hex_digit : ℕ → ℕ

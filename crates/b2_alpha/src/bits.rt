@@ -16,7 +16,10 @@ fn mask(digit: u8, place: u8) -> u8
 fn join(digit: u8, r: u8, o: u8) -> u8
     ensures { result ≡ byte_by digit r o }
 {
-    mask(digit, 0) & !r & !o | mask(digit, 1) & !r & o | mask(digit, 2) & r & !o | mask(digit, 3) & r & o
+    mask(digit, 0) & !r & !o
+        | mask(digit, 1) & !r & o
+        | mask(digit, 2) & r & !o
+        | mask(digit, 3) & r & o
 }
 
 /// Joins the receiver with the operand bit by bit, both from the left: where the receiver has the bit r and the operand

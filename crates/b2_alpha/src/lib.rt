@@ -10,13 +10,13 @@
 #![tactic(auto)]
 
 mod bits;
+pub mod laws;
 mod number;
 mod relation;
 mod sums;
-mod value;
-
 #[cfg(test)]
 mod tests;
+mod value;
 
 pub use bits::{bool_op, rotate};
 pub use number::{bin, hex_text, val};

@@ -34,6 +34,7 @@ fn fits(v: u64, n: usize) -> bool
 /// Puts a number into all bytes of `to`. P34 exactly where it doesn't fit, and then `to` is as before.
 pub fn bin(v: u64, to: &mut [u8]) -> Result<(), Code>
     ensures ok { OnOk result (to.new ≡ digits 256 (length to.old) v) }
+    ensures read_back { OnOk result (number 256 to.new ≡ v) }
     ensures unfit { IsErr result ↔ (256 ^ length to.old ≤ v) }
     ensures code { IfErr result (λ code. code ≡ P34_RANGE) }
     ensures refused { OnErr result (to.new ≡ to.old) }

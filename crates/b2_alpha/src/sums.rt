@@ -2,7 +2,7 @@
 ghost use Rattle.std.specs.Prelude.{◌≡◌, ◌+◌, ◌-◌, ◌%◌, ◌^◌, ◌<◌, length, true, nat_lt, slice_index, if◌then◌else◌, OnOk, OnErr, IfErr, is_ok};
 ghost use Rattle.std.specs.List.{list_all};
 ghost use Rattle.b2_alpha.specs.Places.{number};
-ghost use Rattle.b2_alpha.specs.Sums.{bytewise_sum, bytewise_difference, binary_sum, binary_difference, is_decimal, decimal_of, nibbles_of, are_decimal, decimal_sum, decimal_difference};
+ghost use Rattle.b2_alpha.specs.Sums.{bytewise_sum, bytewise_difference, binary_sum, binary_difference, is_decimal, decimal_of, decimal_value, nibbles_of, are_decimal, decimal_sum, decimal_difference};
 
 use b2_base::Code;
 use b2_base::codes::X75_NOT_DECIMAL;
@@ -11,7 +11,11 @@ use b2_base::codes::X75_NOT_DECIMAL;
 fn from_end(from: &[u8], i: usize) -> u8
     ensures { result ≡ (if nat_lt i (length from.now) then slice_index from.now (length from.now - 1 - i) else 0) }
 {
-    if i < from.len() { from[from.len() - 1 - i] } else { 0 }
+    if i < from.len() {
+        from[from.len() - 1 - i]
+    } else {
+        0
+    }
 }
 
 /// Adds the operand byte by byte, without carries, both from the right.
@@ -135,6 +139,8 @@ fn check_decimal(to: &[u8], from: &[u8]) -> Result<(), Code>
 pub fn dac(to: &mut [u8], from: &[u8]) -> Result<(), Code>
     ensures exact { is_ok result ≡ are_decimal to.old from.now }
     ensures ok { OnOk result (to.new ≡ decimal_sum to.old from.now) }
+    ensures modular { OnOk result (decimal_value to.new
+        ≡ (decimal_value to.old + decimal_value from.now) % 100 ^ length to.old) }
     ensures code { IfErr result (λ code. code ≡ X75_NOT_DECIMAL) }
     ensures refused { OnErr result (to.new ≡ to.old) }
 {
@@ -149,6 +155,8 @@ pub fn dac(to: &mut [u8], from: &[u8]) -> Result<(), Code>
 pub fn dsc(to: &mut [u8], from: &[u8]) -> Result<(), Code>
     ensures exact { is_ok result ≡ are_decimal to.old from.now }
     ensures ok { OnOk result (to.new ≡ decimal_difference to.old from.now) }
+    ensures modular { OnOk result ((decimal_value to.new + decimal_value from.now) % 100 ^ length to.old
+        ≡ decimal_value to.old % 100 ^ length to.old) }
     ensures code { IfErr result (λ code. code ≡ X75_NOT_DECIMAL) }
     ensures refused { OnErr result (to.new ≡ to.old) }
 {

@@ -1,4 +1,4 @@
-use Rattle.std.proofs.Common.{◌≡◌, ◌≤◌, length, refl, sym, ◌∙◌, arith, ⊎_elim}
+use Rattle.std.proofs.Common.{length, refl, sym, ◌∙◌, arith, ⊎_elim}
 use Rattle.std.proofs.lemmas.Bool.{cases_lt}
 use Rattle.b2_alpha.specs.Bits.{byte_by}
 use Rattle.b2_alpha.proofs.Pairing.{each_pair_more, each_pair_all, each_pair_short}
@@ -14,6 +14,6 @@ loop-i-preserved c =
 pub returns : goal.returns
 returns c =
     ⊎_elim
-        (λ inside. sym (each_pair_short (byte_by c.args.digit) c.loop-i.to c.args.from.now c.loop-i.i (omega arith)) ∙ c.loop-i.invariant)
-        (λ past. sym (each_pair_all (byte_by c.args.digit) c.loop-i.to c.args.from.now c.loop-i.i (omega arith)) ∙ c.loop-i.invariant)
-        (cases_lt c.loop-i.i (length c.loop-i.to))
+    (λ inside. sym (each_pair_short (byte_by c.args.digit) c.loop-i.to c.args.from.now c.loop-i.i (omega arith)) ∙ c.loop-i.invariant)
+    (λ past. sym (each_pair_all (byte_by c.args.digit) c.loop-i.to c.args.from.now c.loop-i.i (omega arith)) ∙ c.loop-i.invariant)
+    (cases_lt c.loop-i.i (length c.loop-i.to))

@@ -1,4 +1,4 @@
-use Rattle.std.proofs.Common.{◌≡◌, ◌-◌, ◌/◌, ◌^◌, ◌<◌, sym, ap, ◌∙◌, arith}
+use Rattle.std.proofs.Common.{◌-◌, ◌/◌, ◌^◌, sym, ap, ◌∙◌, arith}
 use Rattle.b2_alpha.proofs.Turning.{first_bits_of}
 use Rattle.b2_alpha.proofs.bits.high_bits.Goals as goal
 

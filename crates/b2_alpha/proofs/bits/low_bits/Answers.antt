@@ -1,4 +1,4 @@
-use Rattle.std.proofs.Common.{◌≡◌, ◌-◌, ◌%◌, ◌^◌, ◌<◌, length, get_or, sym, ap, ◌∙◌, arith}
+use Rattle.std.proofs.Common.{◌%◌, ◌^◌, sym, ap, ◌∙◌}
 use Rattle.b2_alpha.proofs.Turning.{last_bits_of, unit_is}
 use Rattle.b2_alpha.proofs.bits.low_bits.Goals as goal
 

@@ -1,4 +1,3 @@
-use Rattle.std.proofs.Common.{ℕ, ◌<◌, get_or}
 use Rattle.b2_alpha.proofs.PlaceValues.{AllBelow}
 use Rattle.b2_alpha.proofs.Turning.{Multiplied}
 use Rattle.b2_alpha.proofs.bits.shift_left.Given as goal

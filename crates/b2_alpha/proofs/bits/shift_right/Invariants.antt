@@ -1,4 +1,3 @@
-use Rattle.std.proofs.Common.{ℕ, ◌≡◌, ◌^◌, ◌<◌, get_or}
 use Rattle.b2_alpha.proofs.PlaceValues.{AllBelow}
 use Rattle.b2_alpha.proofs.Turning.{Divided}
 use Rattle.b2_alpha.proofs.bits.shift_right.Given as goal

@@ -1,4 +1,4 @@
-use Rattle.std.proofs.Common.{ℕ, ◌≡◌, ◌<◌, ◌++◌, take, drop, map, get_or}
+use Rattle.std.proofs.Common.{◌≡◌, ◌++◌, take, drop, map}
 use Rattle.b2_alpha.specs.Bits.{turned}
 use Rattle.b2_alpha.proofs.PlaceValues.{AllBelow}
 use Rattle.b2_alpha.proofs.bits.turn_each.Given as goal

@@ -1,4 +1,4 @@
-use Rattle.std.proofs.Common.{◌≡◌, ◌+◌, ◌*◌, ◌^◌, length, ap, ◌∙◌}
+use Rattle.std.proofs.Common.{◌+◌, ◌*◌, ◌^◌, length, ap, ◌∙◌}
 use Rattle.b2_alpha.specs.Places.{number, digits}
 use Rattle.b2_alpha.proofs.Turning.{left_turned}
 use Rattle.b2_alpha.proofs.bits.turn_left.Goals as goal

@@ -1,4 +1,4 @@
-use Rattle.std.proofs.Common.{◌≡◌, ℕ, zero, suc, ◌+◌, ◌*◌, ◌/◌, ◌^◌, ◌<◌, ◌≤◌, IsTrue, nat_eq, true, refl, sym, ap, ◌∙◌, arith}
+use Rattle.std.proofs.Common.{◌*◌, ◌^◌, ◌≤◌, refl, arith}
 use Rattle.std.proofs.Math.Nat.{pow-le-pow_right}
 use Rattle.b2_alpha.proofs.Turning.{bytes_of_bits, none_above}
 use Rattle.b2_alpha.proofs.number.fits.Goals as goal
@@ -10,4 +10,4 @@ returns-in-1-to-7 c =
 pub returns-in_default : goal.returns-in_default
 returns-in_default c =
     let power : 256 ^ 8 ≤ 256 ^ c.args.n = pow-le-pow_right {n = 256} (omega arith) {i = 8} {j = c.args.n} (omega arith) in
-    ( (λ _. omega arith), (λ _. refl) )
+    ((λ _. omega arith), (λ _. refl))

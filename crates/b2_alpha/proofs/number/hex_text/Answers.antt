@@ -1,4 +1,4 @@
-use Rattle.std.proofs.Common.{◌≡◌, ◌+◌, ◌*◌, ◌/◌, ◌%◌, ap, ◌∙◌, arith}
+use Rattle.std.proofs.Common.{◌≡◌, ◌/◌, ◌%◌, arith}
 use Rattle.b2_alpha.specs.Texts.{digit_of, hex_digit}
 use Rattle.b2_alpha.proofs.HexDigits.{digit_of-hex_digit}
 use Rattle.b2_alpha.proofs.number.hex_text.Goals as goal

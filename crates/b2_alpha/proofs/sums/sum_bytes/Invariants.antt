@@ -1,4 +1,4 @@
-use Rattle.std.proofs.Common.{ℕ, ◌<◌, length, get_or}
+use Rattle.std.proofs.Common.{length}
 use Rattle.b2_alpha.specs.Sums.{aligned}
 use Rattle.b2_alpha.proofs.PlaceValues.{AllBelow}
 use Rattle.b2_alpha.proofs.Carrying.{Carried, addends}

@@ -1,4 +1,4 @@
-use Rattle.std.proofs.Common.{ℕ, ◌≡◌, ◌-◌, ◌<◌, ◌≤◌, true, length, get_or}
+use Rattle.std.proofs.Common.{ℕ, ◌≡◌, ◌<◌, ◌≤◌, true, length, get_or}
 use Rattle.b2_alpha.specs.Values.{is_blank}
 use Rattle.b2_alpha.proofs.value.value_len.Given as goal
 
