@@ -1,7 +1,14 @@
 //! Laws of the definitions that this crate's contracts cite. Each call does nothing: its contract is the law.
-ghost use Rattle.std.specs.Prelude.{◌≡◌, ◌++◌, ◌<◌, pos, negsuc, neg_ℤ, ◌≤ℤ◌, true, length, take, drop, bit_and, bit_or, bit_xor};
-ghost use Rattle.b2_alpha.specs.Values.{each_pair};
+ghost use Rattle.std.specs.Prelude.{◌≡◌, ◌++◌, ◌<◌, ◌≤◌, pos, negsuc, neg_ℤ, ◌≤ℤ◌, true, length, take, drop, bit_and, bit_or, bit_xor};
+ghost use Rattle.b2_alpha.specs.Values.{each_pair, padded, value_of};
 ghost use Rattle.b2_alpha.specs.Bits.{joined, rotated};
+
+/// Blanks behind a value are no part of it: a string that is padded and not cut keeps its value.
+pub fn padding_keeps_the_value(bytes: &[u8], len: usize)
+    requires some { 0 < length bytes.now }
+    requires fits { length bytes.now ≤ len }
+    ensures { value_of (padded len bytes.now) ≡ value_of bytes.now }
+{}
 
 /// The digit 8 joins by AND.
 pub fn digit_8_is_and(to: &[u8], from: &[u8])
