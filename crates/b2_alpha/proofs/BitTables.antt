@@ -1,6 +1,7 @@
 -- A byte by its bits, and two bytes joined by the four bits of a digit.
-use Rattle.std.proofs.Common.{◌≡◌, ℕ, zero, suc, ◌+◌, ◌-◌, ◌*◌, ◌/◌, ◌%◌, ◌^◌, ◌<◌, ◌≤◌, bit_and, bit_or, bit_xor, min, max, w8, List, [], ◌∷◌, refl, sym, ap, ◌∙◌, arith}
+use Rattle.std.proofs.Common.{◌≡◌, ℕ, zero, suc, ◌+◌, ◌-◌, ◌*◌, ◌%◌, ◌^◌, ◌<◌, ◌≤◌, bit_and, bit_or, bit_xor, min, max, w8, List, [], ◌∷◌, refl, sym, ap, ◌∙◌, arith}
 use Rattle.std.specs.Int.{bit_at}
+use Rattle.std.specs.List.{sum_by, range_with_len}
 use Rattle.std.proofs.lemmas.Nat.{or_lt, xor_lt, and_le_l, and_le_r}
 use Rattle.std.proofs.lemmas.Nat.Bits.{bit_at-zero, bit_at_and, bit_at_or, bit_at_xor, bit_at_not, bit_at_ones, bit_at-lt}
 use Rattle.b2_alpha.specs.Values.{each_pair}
@@ -8,29 +9,25 @@ use Rattle.b2_alpha.specs.Bits.{bit_by, byte_by}
 use Rattle.b2_alpha.proofs.PlaceValues.{AllBelow, tail_below}
 
 -- a byte is the sum of its bits
-byte_of_bits : (x : ℕ) → x < 256 → x ≡ 0 + x / 1 % 2 * 1 + x / 2 % 2 * 2 + x / 4 % 2 * 4 + x / 8 % 2 * 8 + x / 16 % 2 * 16 + x / 32 % 2 * 32 + x / 64 % 2 * 64 + x / 128 % 2 * 128
+byte_of_bits : (x : ℕ) → x < 256 → x ≡ sum_by (λ i. bit_at x i * 2 ^ i) (range_with_len 0 8)
 byte_of_bits x small = omega arith
+
+-- the same bits are the same byte
+same_bits : (f g : ℕ → ℕ) → ((i : ℕ) → i < 8 → f i ≡ g i) → sum_by (λ i. f i * 2 ^ i) (range_with_len 0 8) ≡ sum_by (λ i. g i * 2 ^ i) (range_with_len 0 8)
+same_bits f g same =
+    let b0 = same 0 (omega arith) in
+    let b1 = same 1 (omega arith) in
+    let b2 = same 2 (omega arith) in
+    let b3 = same 3 (omega arith) in
+    let b4 = same 4 (omega arith) in
+    let b5 = same 5 (omega arith) in
+    let b6 = same 6 (omega arith) in
+    let b7 = same 7 (omega arith) in
+    omega arith
 
 -- a byte whose bits are those that the digit gives is the joined byte
 pub byte_by_bits : (digit r o x : ℕ) → x < 256 → ((i : ℕ) → i < 8 → bit_at x i ≡ bit_by digit (bit_at r i) (bit_at o i)) → x ≡ byte_by digit r o
-byte_by_bits digit r o x small bits =
-    let b0 : x / 1 % 2 ≡ bit_by digit (bit_at r 0) (bit_at o 0) = bits 0 (omega arith) in
-    let b1 : x / 2 % 2 ≡ bit_by digit (bit_at r 1) (bit_at o 1) = bits 1 (omega arith) in
-    let b2 : x / 4 % 2 ≡ bit_by digit (bit_at r 2) (bit_at o 2) = bits 2 (omega arith) in
-    let b3 : x / 8 % 2 ≡ bit_by digit (bit_at r 3) (bit_at o 3) = bits 3 (omega arith) in
-    let b4 : x / 16 % 2 ≡ bit_by digit (bit_at r 4) (bit_at o 4) = bits 4 (omega arith) in
-    let b5 : x / 32 % 2 ≡ bit_by digit (bit_at r 5) (bit_at o 5) = bits 5 (omega arith) in
-    let b6 : x / 64 % 2 ≡ bit_by digit (bit_at r 6) (bit_at o 6) = bits 6 (omega arith) in
-    let b7 : x / 128 % 2 ≡ bit_by digit (bit_at r 7) (bit_at o 7) = bits 7 (omega arith) in
-    byte_of_bits x small
-    ∙ ap (λ b. 0 + b * 1 + x / 2 % 2 * 2 + x / 4 % 2 * 4 + x / 8 % 2 * 8 + x / 16 % 2 * 16 + x / 32 % 2 * 32 + x / 64 % 2 * 64 + x / 128 % 2 * 128) b0
-    ∙ ap (λ b. 0 + bit_by digit (bit_at r 0) (bit_at o 0) * 1 + b * 2 + x / 4 % 2 * 4 + x / 8 % 2 * 8 + x / 16 % 2 * 16 + x / 32 % 2 * 32 + x / 64 % 2 * 64 + x / 128 % 2 * 128) b1
-    ∙ ap (λ b. 0 + bit_by digit (bit_at r 0) (bit_at o 0) * 1 + bit_by digit (bit_at r 1) (bit_at o 1) * 2 + b * 4 + x / 8 % 2 * 8 + x / 16 % 2 * 16 + x / 32 % 2 * 32 + x / 64 % 2 * 64 + x / 128 % 2 * 128) b2
-    ∙ ap (λ b. 0 + bit_by digit (bit_at r 0) (bit_at o 0) * 1 + bit_by digit (bit_at r 1) (bit_at o 1) * 2 + bit_by digit (bit_at r 2) (bit_at o 2) * 4 + b * 8 + x / 16 % 2 * 16 + x / 32 % 2 * 32 + x / 64 % 2 * 64 + x / 128 % 2 * 128) b3
-    ∙ ap (λ b. 0 + bit_by digit (bit_at r 0) (bit_at o 0) * 1 + bit_by digit (bit_at r 1) (bit_at o 1) * 2 + bit_by digit (bit_at r 2) (bit_at o 2) * 4 + bit_by digit (bit_at r 3) (bit_at o 3) * 8 + b * 16 + x / 32 % 2 * 32 + x / 64 % 2 * 64 + x / 128 % 2 * 128) b4
-    ∙ ap (λ b. 0 + bit_by digit (bit_at r 0) (bit_at o 0) * 1 + bit_by digit (bit_at r 1) (bit_at o 1) * 2 + bit_by digit (bit_at r 2) (bit_at o 2) * 4 + bit_by digit (bit_at r 3) (bit_at o 3) * 8 + bit_by digit (bit_at r 4) (bit_at o 4) * 16 + b * 32 + x / 64 % 2 * 64 + x / 128 % 2 * 128) b5
-    ∙ ap (λ b. 0 + bit_by digit (bit_at r 0) (bit_at o 0) * 1 + bit_by digit (bit_at r 1) (bit_at o 1) * 2 + bit_by digit (bit_at r 2) (bit_at o 2) * 4 + bit_by digit (bit_at r 3) (bit_at o 3) * 8 + bit_by digit (bit_at r 4) (bit_at o 4) * 16 + bit_by digit (bit_at r 5) (bit_at o 5) * 32 + b * 64 + x / 128 % 2 * 128) b6
-    ∙ ap (λ b. 0 + bit_by digit (bit_at r 0) (bit_at o 0) * 1 + bit_by digit (bit_at r 1) (bit_at o 1) * 2 + bit_by digit (bit_at r 2) (bit_at o 2) * 4 + bit_by digit (bit_at r 3) (bit_at o 3) * 8 + bit_by digit (bit_at r 4) (bit_at o 4) * 16 + bit_by digit (bit_at r 5) (bit_at o 5) * 32 + bit_by digit (bit_at r 6) (bit_at o 6) * 64 + b * 128) b7
+byte_by_bits digit r o x small bits = byte_of_bits x small ∙ same_bits (bit_at x) (λ i. bit_by digit (bit_at r i) (bit_at o i)) bits
 
 -- all ones or all zeros
 mask_bit : (b i : ℕ) → b < 2 → i < 8 → bit_at (255 * b) i ≡ b

@@ -13,17 +13,28 @@ use Rattle.b2_alpha.proofs.PlaceValues.{AllBelow, tail_below, number-lt, number_
 or_same : (n : ℕ) → bit_or n n ≡ n
 or_same n = same_from_bits (bit_or n n) n (λ i. bit_at_or n n i ∙ omega arith)
 
--- what `rotate_left` of a byte makes
+-- what `rotate_left` of a byte makes, by the number of bits
+turned_parts : (n k w m : ℕ) → n / w < 2 ^ k → n * m % 256 ≡ n % w * 2 ^ k → bit_or (n * m % 256) (n / w) ≡ n % w * 2 ^ k + n / w
+turned_parts n k w m small low = ap (λ x. bit_or x (n / w)) low ∙ or_shifted (n % w) k (n / w) small
+
 pub byte_turned : (n k : ℕ) → n < 256 → k ≤ 8 → rotate_left w8 n k ≡ turned 8 k n
-byte_turned n zero small within = let a : n * 1 % 256 ≡ n = omega arith in let b : n / 1 ≡ n = omega arith in let e : n ≡ n % 256 * 1 + n / 256 = omega arith in rw (a, b, or_same) e
-byte_turned n (suc zero) small within = ap (λ x. bit_or x (n / 128)) (let e : n * 2 % 256 ≡ n % 128 * 2 = omega arith in e) ∙ or_shifted (n % 128) 1 (n / 128) (omega arith)
-byte_turned n (suc (suc zero)) small within = ap (λ x. bit_or x (n / 64)) (let e : n * 4 % 256 ≡ n % 64 * 4 = omega arith in e) ∙ or_shifted (n % 64) 2 (n / 64) (omega arith)
-byte_turned n (suc (suc (suc zero))) small within = ap (λ x. bit_or x (n / 32)) (let e : n * 8 % 256 ≡ n % 32 * 8 = omega arith in e) ∙ or_shifted (n % 32) 3 (n / 32) (omega arith)
-byte_turned n (suc (suc (suc (suc zero)))) small within = ap (λ x. bit_or x (n / 16)) (let e : n * 16 % 256 ≡ n % 16 * 16 = omega arith in e) ∙ or_shifted (n % 16) 4 (n / 16) (omega arith)
-byte_turned n (suc (suc (suc (suc (suc zero))))) small within = ap (λ x. bit_or x (n / 8)) (let e : n * 32 % 256 ≡ n % 8 * 32 = omega arith in e) ∙ or_shifted (n % 8) 5 (n / 8) (omega arith)
-byte_turned n (suc (suc (suc (suc (suc (suc zero)))))) small within = ap (λ x. bit_or x (n / 4)) (let e : n * 64 % 256 ≡ n % 4 * 64 = omega arith in e) ∙ or_shifted (n % 4) 6 (n / 4) (omega arith)
-byte_turned n (suc (suc (suc (suc (suc (suc (suc zero))))))) small within = ap (λ x. bit_or x (n / 2)) (let e : n * 128 % 256 ≡ n % 2 * 128 = omega arith in e) ∙ or_shifted (n % 2) 7 (n / 2) (omega arith)
-byte_turned n (suc (suc (suc (suc (suc (suc (suc (suc zero)))))))) small within = let a : n * 1 % 256 ≡ n = omega arith in let b : n / 1 ≡ n = omega arith in let e : n ≡ n % 1 * 256 + n = omega arith in rw (a, b, or_same) e
+byte_turned n zero small within =
+    let same : n * 1 % 256 ≡ n = omega arith in
+    let whole : n / 1 ≡ n = omega arith in
+    let turned_none : n ≡ n % 256 * 1 + n / 256 = omega arith in
+    rw (same, whole, or_same) turned_none
+byte_turned n (suc zero) small within = turned_parts n 1 128 2 (omega arith) (omega arith)
+byte_turned n (suc (suc zero)) small within = turned_parts n 2 64 4 (omega arith) (omega arith)
+byte_turned n (suc (suc (suc zero))) small within = turned_parts n 3 32 8 (omega arith) (omega arith)
+byte_turned n (suc (suc (suc (suc zero)))) small within = turned_parts n 4 16 16 (omega arith) (omega arith)
+byte_turned n (suc (suc (suc (suc (suc zero))))) small within = turned_parts n 5 8 32 (omega arith) (omega arith)
+byte_turned n (suc (suc (suc (suc (suc (suc zero)))))) small within = turned_parts n 6 4 64 (omega arith) (omega arith)
+byte_turned n (suc (suc (suc (suc (suc (suc (suc zero))))))) small within = turned_parts n 7 2 128 (omega arith) (omega arith)
+byte_turned n (suc (suc (suc (suc (suc (suc (suc (suc zero)))))))) small within =
+    let same : n * 1 % 256 ≡ n = omega arith in
+    let whole : n / 1 ≡ n = omega arith in
+    let turned_all : n ≡ n % 1 * 256 + n = omega arith in
+    rw (same, whole, or_same) turned_all
 byte_turned n (suc (suc (suc (suc (suc (suc (suc (suc (suc k))))))))) small within = absurd (omega arith)
 
 -- so many bytes are eight times as many bits
@@ -32,11 +43,14 @@ bytes_of_bits zero = refl
 bytes_of_bits (suc n) =
     pow-suc 256 n ∙ ap (λ p. p * 256) (bytes_of_bits n) ∙ sym (pow-add 2 (8 * n) 8) ∙ ap (λ k. 2 ^ k) (omega arith)
 
+-- a number without bits from k on is below 2 ^ k
 pub none_above : (v k : ℕ) → (IsTrue (nat_eq (v / 2 ^ k) 0) → v < 2 ^ k) × (v < 2 ^ k → IsTrue (nat_eq (v / 2 ^ k) 0))
-none_above v k = (
-  (λ none. let is_zero : v / 2 ^ k ≡ 0 = eqb-true (v / 2 ^ k) 0 none in let split : v / 2 ^ k * 2 ^ k + v % 2 ^ k ≡ v = div-add-mod' v (2 ^ k) in let rest : v % 2 ^ k < 2 ^ k = mod_below v (2 ^ k) (pow_pos k) in let nothing : v / 2 ^ k * 2 ^ k ≡ 0 * 2 ^ k = ap (λ q. q * 2 ^ k) is_zero in omega arith),
-  (λ below. eq-eqb (v / 2 ^ k) 0 (let one : v / 2 ^ k < 1 = div_below v (2 ^ k) 1 (pow_pos k) (omega arith) in omega arith)),
-)
+none_above v k =
+    let split : v / 2 ^ k * 2 ^ k + v % 2 ^ k ≡ v = div-add-mod' v (2 ^ k) in
+    let rest : v % 2 ^ k < 2 ^ k = mod_below v (2 ^ k) (pow_pos k) in (
+      (λ none. let nothing : v / 2 ^ k * 2 ^ k ≡ 0 * 2 ^ k = ap (λ q. q * 2 ^ k) (eqb-true (v / 2 ^ k) 0 none) in omega arith),
+      (λ below. let one : v / 2 ^ k < 1 = div_below v (2 ^ k) 1 (pow_pos k) (omega arith) in eq-eqb (v / 2 ^ k) 0 (omega arith)),
+    )
 
 -- what is above a power of the base is lost
 pub digits_lost : (base k q y : ℕ) → 0 < base → digits base k (q * base ^ k + y) ≡ digits base k y
@@ -48,8 +62,18 @@ digits_lost base (suc k) q y some =
     let rest : digits base k (y + q * base * base ^ k) ≡ digits base k y = ap (digits base k) (let e : y + q * base * base ^ k ≡ q * base * base ^ k + y = omega arith in e) ∙ digits_lost base k (q * base) y some in
     ap (λ m. m / base ^ k % base ∷ digits base k m) same ∙ ap (λ d. d ∷ digits base k (y + q * base * base ^ k)) first ∙ ap (λ l. y / base ^ k % base ∷ l) rest
 
-scaled : (w k x q r : ℕ) → q * w + r ≡ x → q * w * k + r * k ≡ x * k
-scaled w k x q r e = let both : (q * w + r) * k ≡ x * k = ap (λ n. n * k) e in omega arith
+-- A number times 2 ^ k, with its k high bits come in at the right, is turned but for what is above its bits.
+times_turned : (n w m whole : ℕ) → w * m ≡ whole → n * m + n / w ≡ n / w * whole + (n % w * m + n / w)
+times_turned n w m whole power =
+    let scaled : (n / w * w + n % w) * m ≡ n * m = ap (λ x. x * m) (div-add-mod' n w) in
+    let above : n / w * (w * m) ≡ n / w * whole = ap (λ p. n / w * p) power in
+    omega arith
+
+-- A number divided by 2 ^ k, with its k low bits come in at the left, is turned.
+divided_turned : (n w m whole : ℕ) → 0 < m → whole ≡ w * m → (n % m * whole + n) / m ≡ n % m * w + n / m
+divided_turned n w m whole some power =
+    let high : n % m * whole + n ≡ n + n % m * w * m = ap (λ p. n % m * p + n) power ∙ omega arith in
+    ap (λ x. x / m) high ∙ add-mul-div_right n (n % m * w) some ∙ omega arith
 
 -- The first byte's high bits are what a string's number has above all but k bits.
 pub first_bits : (k b : ℕ) (bs : List ℕ) → k ≤ 8 → AllBelow 256 (b ∷ bs) → number 256 (b ∷ bs) / 2 ^ (8 * length (b ∷ bs) - k) ≡ b / 2 ^ (8 - k)
@@ -60,34 +84,33 @@ first_bits k b bs within below =
     ap (λ p. number 256 (b ∷ bs) / p) power ∙ sym (div-div-eq-div-mul (number 256 (b ∷ bs)) (256 ^ length bs) (2 ^ (8 - k)))
     ∙ ap (λ n. n / 2 ^ (8 - k)) (div-mul-add b (256 ^ length bs) (number 256 bs) small)
 
--- A string's number times 2 ^ k, with the k bits that left it at the left come in at the right, is the string turned.
+-- all bits but k, and k
+bits_split : (k count : ℕ) → k ≤ 8 * count → 256 ^ count ≡ 2 ^ (8 * count - k) * 2 ^ k
+bits_split k count within =
+    let parts : 8 * count ≡ 8 * count - k + k = omega arith in
+    bytes_of_bits count ∙ ap (λ n. 2 ^ n) parts ∙ pow-add 2 (8 * count - k) k
+
+digits_times_turned : (k count n : ℕ) → k ≤ 8 * count → digits 256 count (n * 2 ^ k + n / 2 ^ (8 * count - k)) ≡ digits 256 count (turned (8 * count) k n)
+digits_times_turned k count n within =
+    ap (digits 256 count) (times_turned n (2 ^ (8 * count - k)) (2 ^ k) (256 ^ count) (sym (bits_split k count within)))
+    ∙ digits_lost 256 count (n / 2 ^ (8 * count - k)) (turned (8 * count) k n) (omega arith)
+
+divided_is_turned : (k count n : ℕ) → k ≤ 8 * count → (n % 2 ^ k * 256 ^ count + n) / 2 ^ k ≡ turned (8 * count) (8 * count - k) n
+divided_is_turned k count n within =
+    let others : 8 * count - (8 * count - k) ≡ k = omega arith in
+    divided_turned n (2 ^ (8 * count - k)) (2 ^ k) (256 ^ count) (pow_pos k) (bits_split k count within)
+    ∙ sym (ap (λ w. n % 2 ^ w * 2 ^ (8 * count - k) + n / 2 ^ w) others)
+
+-- the same of a string, which has no bits where it is empty
 pub left_turned : (k : ℕ) → k ≤ 8 → (xs : List ℕ) → digits 256 (length xs) (number 256 xs * 2 ^ k + number 256 xs / 2 ^ (8 * length xs - k)) ≡ turned_whole k xs
 left_turned k within [] = refl
 left_turned k within (b ∷ bs) =
-    let powers : 2 ^ (8 * length (b ∷ bs) - k) * 2 ^ k ≡ 256 ^ length (b ∷ bs) =
-    sym (pow-add 2 (8 * length (b ∷ bs) - k) k) ∙ ap (λ n. 2 ^ n) (let e : 8 * suc (length bs) - k + k ≡ 8 * suc (length bs) = omega arith in e) ∙ sym (bytes_of_bits (length (b ∷ bs))) in
-    let parts = scaled (2 ^ (8 * length (b ∷ bs) - k)) (2 ^ k) (number 256 (b ∷ bs)) (number 256 (b ∷ bs) / 2 ^ (8 * length (b ∷ bs) - k)) (number 256 (b ∷ bs) % 2 ^ (8 * length (b ∷ bs) - k)) (div-add-mod' (number 256 (b ∷ bs)) (2 ^ (8 * length (b ∷ bs) - k))) in
-    let over : number 256 (b ∷ bs) / 2 ^ (8 * length (b ∷ bs) - k) * (2 ^ (8 * length (b ∷ bs) - k) * 2 ^ k) ≡ number 256 (b ∷ bs) / 2 ^ (8 * length (b ∷ bs) - k) * 256 ^ length (b ∷ bs) =
-    ap (λ p. number 256 (b ∷ bs) / 2 ^ (8 * length (b ∷ bs) - k) * p) powers in
-    ap (digits 256 (length (b ∷ bs)))
-    (let whole : number 256 (b ∷ bs) * 2 ^ k + number 256 (b ∷ bs) / 2 ^ (8 * length (b ∷ bs) - k) ≡ number 256 (b ∷ bs) / 2 ^ (8 * length (b ∷ bs) - k) * 256 ^ length (b ∷ bs) + turned (8 * length (b ∷ bs)) k (number 256 (b ∷ bs)) = omega arith in whole)
-    ∙ digits_lost 256 (length (b ∷ bs)) (number 256 (b ∷ bs) / 2 ^ (8 * length (b ∷ bs) - k)) (turned (8 * length (b ∷ bs)) k (number 256 (b ∷ bs))) (omega arith)
+    digits_times_turned k (length (b ∷ bs)) (number 256 (b ∷ bs)) (let e : k ≤ 8 * suc (length bs) = omega arith in e)
 
--- A string's number through 2 ^ k, with the k bits that left it at the right come in at the left, is the string turned.
 pub right_turned : (k : ℕ) → k ≤ 8 → (xs : List ℕ) → digits 256 (length xs) ((number 256 xs % 2 ^ k * 256 ^ length xs + number 256 xs) / 2 ^ k) ≡ turned_whole (8 * length xs - k) xs
 right_turned k within [] = refl
 right_turned k within (b ∷ bs) =
-    let powers : 256 ^ length (b ∷ bs) ≡ 2 ^ (8 * length (b ∷ bs) - k) * 2 ^ k =
-    bytes_of_bits (length (b ∷ bs)) ∙ ap (λ n. 2 ^ n) (let e : 8 * suc (length bs) ≡ 8 * suc (length bs) - k + k = omega arith in e) ∙ pow-add 2 (8 * length (b ∷ bs) - k) k in
-    let width : 8 * length (b ∷ bs) - (8 * length (b ∷ bs) - k) ≡ k = let e : 8 * suc (length bs) - (8 * suc (length bs) - k) ≡ k = omega arith in e in
-    let high : number 256 (b ∷ bs) % 2 ^ k * 256 ^ length (b ∷ bs) ≡ number 256 (b ∷ bs) % 2 ^ k * 2 ^ (8 * length (b ∷ bs) - k) * 2 ^ k =
-    ap (λ p. number 256 (b ∷ bs) % 2 ^ k * p) powers ∙ omega arith in
-    ap (digits 256 (length (b ∷ bs)))
-    (ap (λ h. (h + number 256 (b ∷ bs)) / 2 ^ k) high
-    ∙ ap (λ n. n / 2 ^ k) (let e : number 256 (b ∷ bs) % 2 ^ k * 2 ^ (8 * length (b ∷ bs) - k) * 2 ^ k + number 256 (b ∷ bs) ≡ number 256 (b ∷ bs) + number 256 (b ∷ bs) % 2 ^ k * 2 ^ (8 * length (b ∷ bs) - k) * 2 ^ k = omega arith in e)
-    ∙ add-mul-div_right (number 256 (b ∷ bs)) (number 256 (b ∷ bs) % 2 ^ k * 2 ^ (8 * length (b ∷ bs) - k)) (pow_pos k)
-    ∙ (let e : number 256 (b ∷ bs) / 2 ^ k + number 256 (b ∷ bs) % 2 ^ k * 2 ^ (8 * length (b ∷ bs) - k) ≡ number 256 (b ∷ bs) % 2 ^ k * 2 ^ (8 * length (b ∷ bs) - k) + number 256 (b ∷ bs) / 2 ^ k = omega arith in e)
-    ∙ sym (ap (λ w. number 256 (b ∷ bs) % 2 ^ w * 2 ^ (8 * length (b ∷ bs) - k) + number 256 (b ∷ bs) / 2 ^ w) width))
+    ap (digits 256 (length (b ∷ bs))) (divided_is_turned k (length (b ∷ bs)) (number 256 (b ∷ bs)) (let e : k ≤ 8 * suc (length bs) = omega arith in e))
 
 -- The last byte's low bits are the number's.
 pub last_bits : (k x : ℕ) (xs : List ℕ) → k ≤ 8 → number 256 (xs ++ x ∷ []) % 2 ^ k ≡ x % 2 ^ k
@@ -143,7 +166,7 @@ Multiplied-all left top old now carry same below done =
     ∙ ap (λ n. digits 256 n (carry * 256 ^ n + number 256 now)) same
     ∙ ap (digits 256 (length old)) (let e : carry * 256 ^ length old + number 256 now ≡ number 256 old * 2 ^ left + top = omega arith in e)
 
--- The first i bytes of a string through 2 ^ right are made, with a rest before the others, which are as they were.
+-- The first i bytes of a string divided by 2 ^ right are made, with a rest before the others, which are as they were.
 pub record Divided (right top : ℕ) (old now : List ℕ) (i rest : ℕ) : Type 0 where
   pub small : rest < 2 ^ right
   pub kept : drop i now ≡ drop i old

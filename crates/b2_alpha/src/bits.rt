@@ -72,7 +72,7 @@ fn shift_left(to: &mut [u8], left: u8, incoming: u32)
     }
 }
 
-// The string's number through 2 ^ right, with other bits coming in at the left.
+// The string's number divided by 2 ^ right, with other bits coming in at the left.
 fn shift_right(to: &mut [u8], right: u8, incoming: u32)
     requires within { right ≤ 8 }
     requires small { incoming < 2 ^ right }
