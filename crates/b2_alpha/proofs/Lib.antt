@@ -1,6 +1,7 @@
 pub mod PlaceValues
 pub mod Aligning
 pub mod Carrying
+pub mod Comparing
 pub mod Pairing
 pub mod BitTables
 pub mod Turning

@@ -1,8 +1,10 @@
 -- The six relations of a comparison, and the search for a byte that stands in one.
-use Rattle.std.specs.Prelude.{ℕ, suc, Bool, true, false, List, Option, Some, None, position}
+use Rattle.std.specs.Prelude.{ℕ, suc, max, List, length, Bool, true, false, Option, Some, None, position}
 use Rattle.std.specs.declared.cmp.Ordering.{Ordering}
 use Rattle.std.specs.declared.cmp.Ordering.TheVariants.{Less, Equal, Greater}
 use Rattle.std.specs.Ordering.{nat_cmp}
+use Rattle.std.specs.Cmp.Lexicographic.{slice_cmp}
+use Rattle.b2_alpha.specs.Values.{padded}
 use Rattle.b2_alpha.specs.declared.relation.Rel.{Rel}
 use Rattle.b2_alpha.specs.declared.relation.Rel.TheVariants as rel
 
@@ -29,3 +31,9 @@ counted (Some i) = suc i
 -- the place of the first byte that stands in the relation to b
 abbrev pub place_of : List ℕ → Rel → ℕ → ℕ
 place_of xs rel b = counted (position (λ x. holds rel (nat_cmp x b)) xs)
+
+-- the order of two values by their bytes, the shorter one padded to the length of the other
+abbrev pub order_of : List ℕ → List ℕ → Ordering
+order_of xs ys =
+    let n = max (length xs) (length ys) in
+    slice_cmp nat_cmp (padded n xs) (padded n ys)

@@ -20,6 +20,6 @@ mod value;
 
 pub use bits::{bool_op, rotate};
 pub use number::{bin, hex_text, val};
-pub use relation::{Rel, pos};
+pub use relation::{Rel, compare, pos};
 pub use sums::{add, addc, dac, dsc, sub, subc};
 pub use value::{assign, value_len};

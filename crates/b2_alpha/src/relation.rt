@@ -1,7 +1,7 @@
 // The relations of a comparison, and the search for a byte.
-ghost use Rattle.std.specs.Prelude.{◌≡◌, ◌<◌, length, position, IfSome};
+ghost use Rattle.std.specs.Prelude.{◌≡◌, ◌<◌, length, position, get_or, IfSome};
 ghost use Rattle.std.specs.Ordering.{nat_cmp};
-ghost use Rattle.b2_alpha.specs.Relations.{holds, place_of};
+ghost use Rattle.b2_alpha.specs.Relations.{holds, place_of, order_of};
 
 use std::cmp::Ordering;
 
@@ -48,4 +48,27 @@ pub fn pos(a: &[u8], rel: Rel, b: u8) -> usize
         Some(i) => i + 1,
         None => 0,
     }
+}
+
+// The byte of a value at a place; blanks stand behind its last.
+fn byte_at(a: &[u8], i: usize) -> u8
+    ensures { result ≡ get_or a.now i 32 }
+{
+    match a.get(i) {
+        Some(b) => *b,
+        None => b' ',
+    }
+}
+
+/// The order of two values by their bytes, where the shorter one has blanks behind it.
+pub fn compare(a: &[u8], b: &[u8]) -> Ordering
+    ensures { result ≡ order_of a.now b.now }
+{
+    for i in 0..a.len().max(b.len()) {
+        let order = byte_at(a, i).cmp(&byte_at(b, i));
+        if order != Ordering::Equal {
+            return order;
+        }
+    }
+    Ordering::Equal
 }

@@ -1,6 +1,7 @@
 // Values computed outside this program.
 use crate::*;
 use b2_base::codes::{P34_RANGE, X75_NOT_DECIMAL};
+use std::cmp::Ordering;
 use std::test::Fail;
 
 #[test]
@@ -225,4 +226,20 @@ fn numbers_in_bytes(rt: HostRuntime) -> Result<(), Fail> {
         assert_eq!(rt; hex_text(b), text);
     }
     Ok(())
+}
+
+#[test]
+fn values_are_compared_after_padding(rt: HostRuntime) {
+    let rows = [
+        (b"A".as_slice(), b"A  ".as_slice(), Ordering::Equal),
+        (b"", b"  ", Ordering::Equal),
+        (b"AB", b"A", Ordering::Greater),
+        (b"A", b"AB", Ordering::Less),
+        (b"A", b"B", Ordering::Less),
+        (b"A\x1f", b"A", Ordering::Less),
+        (b"B", b"AZ", Ordering::Greater),
+    ];
+    for (a, b, order) in rows {
+        assert_eq!(rt; compare(a, b), order);
+    }
 }
