@@ -9,7 +9,7 @@ use Rattle.std.proofs.lemmas.Int.{ints}
 use Rattle.b2_dec.specs.Number.{Number, zero_number, IsNumber, size, signed, value}
 use Rattle.b2_dec.specs.Arithmetic.{sum_of}
 use Rattle.b2_dec.specs.Rounding.{whole_by, rnd, rounded, in_range, fitted, IsWholePart}
-use Rattle.b2_dec.proofs.Powers.{ten_pos, ten_lt}
+use Rattle.b2_dec.proofs.TenLemmas.{ten_pos, ten_lt}
 use Rattle.b2_dec.proofs.Rounds.{rnd-whole_part}
 use Rattle.b2_dec.proofs.Signs.{in_units, rounded-signed, add_comm_ℤ}
 
@@ -108,7 +108,7 @@ signed-zero false n none = rw none refl
 zero-add_ℤ : (z : ℤ) → pos 0 +ℤ z ≡ z
 zero-add_ℤ z = omega (arith, ints)
 
-value-zero : (x : Number) → x.coef ≡ 0 → value x ≡ pos 0
+pub value-zero : (x : Number) → x.coef ≡ 0 → value x ≡ pos 0
 value-zero x none = signed-zero x.neg (size x) (rw none (zero-mul (10 ^ x.place)))
 
 -- Zero changes nothing.

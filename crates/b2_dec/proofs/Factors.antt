@@ -6,7 +6,7 @@ use Rattle.b2_dec.specs.declared.number.Mode.{Mode}
 use Rattle.b2_dec.specs.Number.{Number, zero_number, size, value, signed, differ}
 use Rattle.b2_dec.specs.Rounding.{rnd, rounded, IsWholePart}
 use Rattle.b2_dec.specs.Arithmetic.{product_of, quotient_of}
-use Rattle.b2_dec.proofs.Powers.{ten_pos}
+use Rattle.b2_dec.proofs.TenLemmas.{ten_pos}
 use Rattle.b2_dec.proofs.Signs.{rounded-signed}
 use Rattle.b2_dec.proofs.Exact.{exact_is_whole, rnd-none}
 

@@ -6,7 +6,7 @@ use Rattle.b2_dec.specs.declared.number.Mode.{Mode}
 use Rattle.b2_dec.specs.Number.{Number, size, value}
 use Rattle.b2_dec.specs.Rounding.{rnd, rounded, IsWholePart}
 use Rattle.b2_dec.specs.Arithmetic.{sum_of}
-use Rattle.b2_dec.proofs.Powers.{ten_pos, ten_le}
+use Rattle.b2_dec.proofs.TenLemmas.{ten_pos, ten_le}
 use Rattle.b2_dec.proofs.Signs.{sum-same, sum-other, sum-turned, sum-same-sizes, sum-other-sizes, size-lower, in_units}
 
 pub same_sign : (a b x y : Bool) → beq a b ≡ true → a ≡ x → b ≡ y → y ≡ x
@@ -21,7 +21,7 @@ other_sign true false x y e p q = sym q ∙ ap not p
 other_sign false true x y e p q = sym q ∙ ap not p
 other_sign false false x y e p q = absurd (cc)
 
-not-back : (x y : Bool) → y ≡ not x → x ≡ not y
+pub not-back : (x y : Bool) → y ≡ not x → x ≡ not y
 not-back true y e = sym (ap not e)
 not-back false y e = sym (ap not e)
 

@@ -7,7 +7,7 @@ use borrow.Author.Tests.{lt-leb}
 use native.Mathlib.Nat.{mul-mod_left, mul-lt-mul_of_pos_right, mul-div-mul_right, eq_of_mul-eq-mul_right}
 use Rattle.b2_dec.specs.Number.{Number, zero_number, IsNumber, size, signed}
 use Rattle.b2_dec.specs.Arithmetic.{fits_64, whole_of}
-use Rattle.b2_dec.proofs.Powers.{ten_pos, ten_le}
+use Rattle.b2_dec.proofs.TenLemmas.{ten_pos, ten_le}
 use Rattle.b2_dec.proofs.Ranks.{thirteen, something}
 
 -- a size in units of one, where no digit stands behind the point

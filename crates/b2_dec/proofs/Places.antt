@@ -4,7 +4,7 @@ use Rattle.std.proofs.lemmas.Bool.{cases_lt}
 use borrow.Author.Tests.{lt-leb}
 use native.Mathlib.Nat.{pow-le-pow_right}
 use Rattle.b2_dec.specs.Rounding.{place_of}
-use Rattle.b2_dec.proofs.Powers.{ten_lt_back}
+use Rattle.b2_dec.proofs.TenLemmas.{ten_lt_back}
 
 -- It is the one place between these two bounds.
 pub place_of-is : (k n d p : ℕ) → p ≤ k → 10 ^ (12 + p) * d ≤ n → n < 10 ^ (13 + p) * d → place_of k n d ≡ p

@@ -4,7 +4,7 @@ use native.Mathlib.Nat.{mul-div-mul_left, div-div-eq-div-mul, div-eq_of_lt-le, a
 use Rattle.b2_dec.specs.declared.number.Mode.{Mode}
 use Rattle.b2_dec.specs.declared.number.Mode.TheVariants.{Round, Cut}
 use Rattle.b2_dec.specs.Rounding.{whole_by}
-use Rattle.b2_dec.proofs.Powers.{ten_pos}
+use Rattle.b2_dec.proofs.TenLemmas.{ten_pos}
 
 -- a half is added, and the rest dropped
 pub whole_by-half : (n h : ℕ) → whole_by Round n (2 * h) ≡ (n + h) / (2 * h)

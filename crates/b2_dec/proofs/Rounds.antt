@@ -6,7 +6,7 @@ use Rattle.b2_dec.specs.declared.number.Mode.{Mode}
 use Rattle.b2_dec.specs.Number.{Number}
 use Rattle.b2_dec.specs.Rounding.{whole_by, place_of, in_range, fitted, of_units, rnd, IsWholePart}
 use Rattle.b2_dec.proofs.Quotients.{whole_by-parts, whole_by-least, whole_by-most}
-use Rattle.b2_dec.proofs.Powers.{ten_pos, ten_le, ilog_of}
+use Rattle.b2_dec.proofs.TenLemmas.{ten_pos, ten_le, ilog_of}
 use Rattle.b2_dec.proofs.Places.{place_of-is, place_of-top}
 
 -- Past the highest place every result is too large.

@@ -69,7 +69,7 @@ sum-same mode high low x e same =
     sum-same-sizes mode high low same
     ∙ ap (λ n. rnd mode high.neg n (10 ^ 111)) (ap (λ n. n + size low) e ∙ sym (add-mul x low.coef (10 ^ low.place)))
 
-times-sub : (x y p : ℕ) → x * p - y * p ≡ (x - y) * p
+pub times-sub : (x y p : ℕ) → x * p - y * p ≡ (x - y) * p
 times-sub x y p = ap (λ t. t - y * p) (mul_comm x p) ∙ ap (λ t. p * x - t) (mul_comm y p) ∙ sym (mul-sub p x y) ∙ mul_comm p (x - y)
 
 pub sum-other : (mode : Mode) (high low : Number) (x : ℕ) → size high ≡ x * 10 ^ low.place → low.neg ≡ not high.neg → low.coef ≤ x

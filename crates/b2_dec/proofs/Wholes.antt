@@ -7,7 +7,7 @@ use Rattle.b2_dec.specs.declared.number.Mode.{Mode}
 use Rattle.b2_dec.specs.Number.{Number, zero_number, IsNumber, size, value, signed}
 use Rattle.b2_dec.specs.Rounding.{rnd, rounded}
 use Rattle.b2_dec.specs.Arithmetic.{floored, whole_above}
-use Rattle.b2_dec.proofs.Powers.{ten_pos, ten_le}
+use Rattle.b2_dec.proofs.TenLemmas.{ten_pos, ten_le}
 use Rattle.b2_dec.proofs.Signs.{rounded-signed}
 use Rattle.b2_dec.proofs.Factors.{signed-mul}
 use Rattle.b2_dec.proofs.Exact.{rnd-digits, rnd-none, in_range-number}
@@ -40,7 +40,7 @@ signed-nothing : (s : Bool) (x : ℕ) → signed s x ≡ pos 0 → x ≡ 0
 signed-nothing true x e = omega (arith, ints, e)
 signed-nothing false x e = omega (arith, ints, e)
 
-signed-zero : (s : Bool) → signed s 0 ≡ pos 0
+pub signed-zero : (s : Bool) → signed s 0 ≡ pos 0
 signed-zero true = refl
 signed-zero false = refl
 

@@ -12,7 +12,9 @@ mod fractions;
 mod number;
 mod order;
 mod packing;
+mod powers;
 mod products;
+mod rests;
 mod rounding;
 mod sums;
 
@@ -20,5 +22,7 @@ pub use fractions::{fix, int};
 pub use number::{Dec, Mode};
 pub use order::{abs, cmp, sgn};
 pub use packing::{pack, unpack};
+pub use powers::{power, sqr};
 pub use products::{div, mul};
+pub use rests::{modulo, round_to};
 pub use sums::{add, sub};

@@ -1,6 +1,6 @@
 use Rattle.std.proofs.Common.{◌≤◌, ◌<◌, ◌+◌, ◌/◌, ◌^◌, ◌≡◌, ℕ, arith, ◌∙◌, div-le_self, ap}
 use Rattle.b2_dec.specs.Rounding as spec
-use Rattle.b2_dec.proofs.Powers.{ten_pos, ten_le}
+use Rattle.b2_dec.proofs.TenLemmas.{ten_pos, ten_le}
 use Rattle.b2_dec.proofs.Quotients.{half_of}
 use Rattle.b2_dec.proofs.rounding.whole_by.Goals as goal
 
