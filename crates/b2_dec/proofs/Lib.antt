@@ -13,3 +13,5 @@ pub mod Wholes
 pub mod Nibbles
 pub mod Rest
 pub mod Roots
+pub mod Grid
+pub mod Spelled

@@ -1,19 +1,20 @@
 -- Square roots, and multiples of one unit.
-use Rattle.std.proofs.Common.{◌≡◌, ℕ, zero, suc, ◌+◌, ◌-◌, ◌*◌, ◌/◌, ◌%◌, ◌^◌, ◌<◌, ◌≤◌, sym, refl, ap, ap₂, ◌∙◌, subst, arith, lit<, lit≤, pow-add, mul_assoc, mul_comm, mul-pos, mul-le-mul, mul-le-mul_right, lt_of_le_of_lt, lt_of_lt_of_le, le_trans, le-leb, add_comm, zero-mul, inl, inr, add-sub_of_le, Result, Ok, Bool, true, false}
-use Rattle.b2_dec.proofs.Exact.{rnd-none}
+use Rattle.std.proofs.Common.{◌≡◌, ℕ, zero, suc, ◌+◌, ◌-◌, ◌*◌, ◌/◌, ◌%◌, ◌^◌, ◌<◌, ◌≤◌, sym, refl, ap, ap₂, ◌∙◌, subst, arith, lit<, lit≤, pow-add, mul_assoc, mul_comm, mul-pos, mul-le-mul, mul-le-mul_right, lt_of_le_of_lt, lt_of_lt_of_le, le_trans, le-leb, add_comm, zero-mul, inl, inr, add-sub_of_le, Result, Ok, IsOk, Bool, true, false, div-lt_iff_lt-mul, le-ltb}
+use Rattle.b2_dec.proofs.Exact.{rnd-none, fitted-digits}
+use Rattle.b2_dec.proofs.Rounds.{rnd-whole_part}
 use borrow.Author.Tests.{lt-leb}
 use Rattle.std.proofs.lemmas.Bool.{cases_lt}
 use native.Mathlib.Nat.{mul-lt-mul_of_pos_right, mul-mul-mul_comm, div-eq_of_lt-le, div-eq_of_lt, mul-div-mul_right, pow-succ', add-mul}
 use Rattle.b2_dec.specs.declared.number.Mode.{Mode}
 use Rattle.b2_dec.specs.declared.number.Mode.TheVariants.{Round, Cut}
 use Rattle.b2_dec.specs.Number.{Number, zero_number, IsNumber, size}
-use Rattle.b2_dec.specs.Rounding.{whole_by, rnd, IsWholePart}
+use Rattle.b2_dec.specs.Rounding.{whole_by, in_range, rnd, IsWholePart}
 use Rattle.b2_dec.specs.Arithmetic.{root, root_of}
 use Rattle.b2_dec.proofs.TenLemmas.{ten_pos, ten_le}
 use Rattle.b2_dec.proofs.Signs.{in_units, size-lower}
 use Rattle.b2_dec.proofs.Quotients.{half_of}
 
-square_less : (a b : ℕ) → a * a < b * b → a < b
+pub square_less : (a b : ℕ) → a * a < b * b → a < b
 square_less a b h = elim (cases_lt a b) [ inl below ↦ below | inr above ↦ absurd (omega (arith, mul-le-mul above above)) ]
 
 pub root-low : (n : ℕ) → root n * root n ≤ n
@@ -120,13 +121,41 @@ even_places p = omega arith
 pub above_places : (p : ℕ) → (p + 333 - (14 + (p + 1) % 2)) / 2 - 111 + 111 ≡ (p + 333 - (14 + (p + 1) % 2)) / 2
 above_places p = omega arith
 
-pub root_of-is : (a : Number) (r p : ℕ) (x u : ℕ) (s : Result Number ℕ) → a.neg ≡ false → p ≡ a.place → x ≡ a.coef → u ≡ 10 ^ (14 + (p + 1) % 2)
-    → r * r ≤ x * u → x * u < (r + 1) * (r + 1)
-    → ((n d : ℕ) → 0 < d → IsWholePart r ((p + 333 - (14 + (p + 1) % 2)) / 2) n d → s ≡ rnd Cut false n d) → s ≡ root_of a
-root_of-is a r p x u s plain ep ex eu low high made =
+pub root-part_of : (a : Number) (r p x u : ℕ) → p ≡ a.place → x ≡ a.coef → u ≡ 10 ^ (14 + (p + 1) % 2) → r * r ≤ x * u → x * u < (r + 1) * (r + 1)
+    → IsWholePart r ((p + 333 - (14 + (p + 1) % 2)) / 2) (root (size a * 10 ^ 111)) (10 ^ 111)
+root-part_of a r p x u ep ex eu low high =
     let t : ℕ = 14 + (p + 1) % 2 in
     let at : ℕ = (p + 333 - t) / 2 in
     let part : IsWholePart r (at - 111 + 111) (root (size a * 10 ^ 111)) (10 ^ 111) =
     root-whole a t r (at - 111) (even_places p ∙ ap (λ k. k + 111) ep) (rw (← ex, ← eu) low) (rw (← ex, ← eu) high) in
-    made (root (size a * 10 ^ 111)) (10 ^ 111) (lit< tt) (subst (λ k. IsWholePart r k (root (size a * 10 ^ 111)) (10 ^ 111)) (above_places p) part)
-    ∙ rw plain refl
+    subst (λ k. IsWholePart r k (root (size a * 10 ^ 111)) (10 ^ 111)) (above_places p) part
+
+pub root_of-is : (a : Number) (r p : ℕ) (x u : ℕ) (s : Result Number ℕ) → a.neg ≡ false → p ≡ a.place → x ≡ a.coef → u ≡ 10 ^ (14 + (p + 1) % 2)
+    → r * r ≤ x * u → x * u < (r + 1) * (r + 1)
+    → ((n d : ℕ) → 0 < d → IsWholePart r ((p + 333 - (14 + (p + 1) % 2)) / 2) n d → s ≡ rnd Cut false n d) → s ≡ root_of a
+root_of-is a r p x u s plain ep ex eu low high made =
+    made (root (size a * 10 ^ 111)) (10 ^ 111) (lit< tt) (root-part_of a r p x u ep ex eu low high) ∙ rw plain refl
+
+-- A root has thirteen digits at a place in range.
+pub root-most : (c t r : ℕ) → c < 10000000000000 → t ≤ 15 → r * r ≤ c * 10 ^ t → r < 100000000000000
+root-most c t r few h low =
+    let fifteen : 10 ^ t ≤ 10 ^ 15 = ten_le t 15 h in
+    let few' : c ≤ 9999999999999 = omega arith in
+    let under : c * 10 ^ t ≤ 9999999999999 * 10 ^ 15 = mul-le-mul few' fifteen in
+    square_less r 100000000000000 (omega arith)
+
+pub cut-ok : (r at n d : ℕ) → 10000000000000 ≤ r → r < 100000000000000 → 110 ≤ at → at ≤ 308 → 0 < d → IsWholePart r at n d → IsOk (rnd Cut false n d)
+cut-ok r at n d least most low high dpos whole =
+    let few : r / 10 < 10000000000000 = (div-lt_iff_lt-mul {x = r} {y = 10000000000000} (lit< tt)).1 most in
+    let number : rnd Cut false n d ≡ Ok (record { neg = false; coef = r / 10; place = at + 1 - 111 }) =
+    rnd-whole_part Cut false r at n d 0 dpos whole least most ∙ fitted-digits false (r / 10) (at + 1) few ∙ in_range-ok (r / 10) (at + 1) (omega arith) (omega arith) in
+    subst IsOk (sym number) refl
+  where
+    in_range-ok : (c p : ℕ) → 111 ≤ p → p ≤ 309 → in_range false c p ≡ Ok (record { neg = false; coef = c; place = p - 111 })
+    in_range-ok c p h k = rw (le-ltb _ _ h, le-ltb _ _ k) refl
+
+pub root_of-ok : (r p c x u : ℕ) (s : Result Number ℕ) → p ≤ 198 → c < 10000000000000 → x ≡ c → u ≡ 10 ^ (14 + (p + 1) % 2) → 10000000000000 ≤ r → r * r ≤ x * u
+    → (n : ℕ) → IsWholePart r ((p + 333 - (14 + (p + 1) % 2)) / 2) n (10 ^ 111) → s ≡ rnd Cut false n (10 ^ 111) → IsOk s
+root_of-ok r p c x u s h few ex eu least low n whole e =
+    let most : r < 100000000000000 = root-most c (14 + (p + 1) % 2) r few (omega arith) (rw (← ex, ← eu) low) in
+    subst IsOk (sym e) (cut-ok r ((p + 333 - (14 + (p + 1) % 2)) / 2) n (10 ^ 111) least most (omega arith) (omega arith) (lit< tt) whole)

@@ -36,7 +36,7 @@ signed-parts true false x y h e = absurd (omega (arith, ints, e))
 signed-parts false true x y h e = absurd (omega (arith, ints, e))
 signed-parts false false x y h e = (refl, omega (arith, ints, e))
 
-signed-nothing : (s : Bool) (x : ℕ) → signed s x ≡ pos 0 → x ≡ 0
+pub signed-nothing : (s : Bool) (x : ℕ) → signed s x ≡ pos 0 → x ≡ 0
 signed-nothing true x e = omega (arith, ints, e)
 signed-nothing false x e = omega (arith, ints, e)
 
@@ -44,7 +44,7 @@ pub signed-zero : (s : Bool) → signed s 0 ≡ pos 0
 signed-zero true = refl
 signed-zero false = refl
 
-coef-nothing : (x : Number) → IsNumber x → size x ≡ 0 → x ≡ zero_number
+pub coef-nothing : (x : Number) → IsNumber x → size x ≡ 0 → x ≡ zero_number
 coef-nothing x h none =
     elim (cases_lt x.coef 1000000000000) [
       | inl few ↦ h.spelling few

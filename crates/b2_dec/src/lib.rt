@@ -9,6 +9,7 @@
 #![tactic(auto)]
 
 mod fractions;
+mod laws;
 mod number;
 mod order;
 mod packing;
@@ -19,6 +20,10 @@ mod rounding;
 mod sums;
 
 pub use fractions::{fix, int};
+pub use laws::{
+    law_cuts_down, law_has_one_spelling, law_nothing_is_left, law_rounds_to_nearest,
+    law_sums_commute,
+};
 pub use number::{Dec, Mode};
 pub use order::{abs, cmp, sgn};
 pub use packing::{pack, unpack};

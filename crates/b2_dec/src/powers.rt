@@ -1,6 +1,6 @@
 // Powers and square roots.
-ghost use Rattle.std.specs.Prelude.{◌≡◌, ◌*◌, ◌^◌, ◌≤◌, IfOk};
-ghost use Rattle.b2_dec.specs.Number.{Number, IsNumber, size};
+ghost use Rattle.std.specs.Prelude.{◌≡◌, ◌*◌, ◌^◌, ◌≤◌, IfOk, IsOk, false};
+ghost use Rattle.b2_dec.specs.Laws.{IsRoot};
 ghost use Rattle.b2_dec.specs.Arithmetic.{one_number, times, power_of, root_of};
 
 use crate::number::{Dec, Mode};
@@ -36,7 +36,9 @@ fn multiplied(a: Dec, n: u8, mode: Mode) -> Result<Dec, Code>
 
 /// The greatest number whose square isn't above this one; C66 for a number below zero.
 pub fn sqr(a: Dec) -> Result<Dec, Code>
-    ensures { result ≡ root_of a }
+    ensures number { result ≡ root_of a }
+    ensures greatest { IfOk result (λ root. IsRoot a root) }
+    ensures some { a.neg ≡ false → IsOk result }
 {
     if a.is_negative() {
         return Err(Code::known(C66_ROOT));
