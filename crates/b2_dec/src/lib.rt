@@ -18,6 +18,7 @@ mod products;
 mod rests;
 mod rounding;
 mod sums;
+mod values;
 
 pub use fractions::{fix, int};
 pub use laws::{
@@ -31,3 +32,4 @@ pub use powers::{power, sqr};
 pub use products::{div, mul};
 pub use rests::{modulo, round_to};
 pub use sums::{add, sub};
+pub use values::{Bytes, Kind, KindList, Value, ValueList};
