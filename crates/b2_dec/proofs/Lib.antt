@@ -1,4 +1,4 @@
-pub mod Powers
+pub mod TenLemmas
 pub mod Quotients
 pub mod Places
 pub mod Rounds
@@ -11,3 +11,7 @@ pub mod Ranks
 pub mod Parts
 pub mod Wholes
 pub mod Nibbles
+pub mod Rest
+pub mod Roots
+pub mod Grid
+pub mod Spelled

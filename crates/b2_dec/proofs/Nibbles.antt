@@ -1,9 +1,8 @@
 -- Digits in bytes.
-use Rattle.std.proofs.Common.{◌≡◌, ℕ, zero, suc, ◌+◌, ◌-◌, ◌*◌, ◌/◌, ◌%◌, ◌^◌, ◌<◌, ◌≤◌, nat_lt, Bool, true, false, List, [], ◌∷◌, sym, refl, ap, ap₂, ◌∙◌, subst, arith, lit<, lit≤, mod-lt, div-add-mod', div-one, inl, inr, lt-ltb, le-ltb, eqb, eq-eqb, Option, Some}
-use Rattle.std.specs.Cmp.Lexicographic.{pointwise}
+use Rattle.std.proofs.Common.{◌≡◌, ℕ, zero, suc, ◌+◌, ◌*◌, ◌/◌, ◌%◌, ◌^◌, ◌<◌, ◌≤◌, sym, ap, ap₂, ◌∙◌, arith, lit<, mod-lt, div-add-mod', div-one, inl, inr, lt-ltb, le-ltb}
 use Rattle.std.proofs.lemmas.Nat.{mod-mul-add, div-mul-add}
 use Rattle.std.proofs.lemmas.Bool.{cases_lt}
-use native.Mathlib.Nat.{pow-succ', pow-le-pow_right, div-div-eq-div-mul, div-lt_iff_lt-mul, add-mul-div_right, add-mul-mod_self_right, div-eq_of_lt, mod-eq_of_lt, add-mul-mod_self_left, pow-suc}
+use native.Mathlib.Nat.{pow-le-pow_right, div-div-eq-div-mul, div-lt_iff_lt-mul, pow-suc}
 use Rattle.b2_dec.specs.Number.{Number, IsNumber}
 use Rattle.b2_dec.specs.Packing.{exponent_size, signs, digits, pair, pairs, packed, pair_in, joined}
 
@@ -71,14 +70,3 @@ exponent-digits x h = div-mul-add (exponent_size x) 10000000000000 x.coef h.digi
 
 pub coef-digits : (x : Number) → IsNumber x → digits x % 10000000000000 ≡ x.coef
 coef-digits x h = mod-mul-add (exponent_size x) 10000000000000 x.coef h.digits
-
--- A list is equal to itself, by the test that code makes.
-pub pointwise-same : (xs ys : List ℕ) → xs ≡ ys → pointwise eqb xs ys ≡ true
-pointwise-same xs ys e = subst (λ zs. pointwise eqb xs zs ≡ true) e (self xs)
-  where
-    self : (zs : List ℕ) → pointwise eqb zs zs ≡ true
-    self [] = refl
-    self (z ∷ zs) = rw (eq-eqb z z refl) (self zs)
-
-pub some_inj : (x y : Number) → Some x ≡ Some y → x ≡ y
-some_inj x y e = cc

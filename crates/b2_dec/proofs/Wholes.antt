@@ -1,13 +1,13 @@
 -- Whole numbers below and above a number.
-use Rattle.std.proofs.Common.{◌≡◌, ℕ, zero, suc, ◌+◌, ◌-◌, ◌*◌, ◌/◌, ◌%◌, ◌^◌, ◌<◌, ◌≤◌, ℤ, pos, negsuc, neg_ℤ, ◌*ℤ◌, Bool, true, false, Result, Ok, sym, refl, ap, ap₂, ◌∙◌, subst, arith, lit<, lit≤, pow-add, mul_assoc, mul_comm, mul-pos, mul-le-mul, mul-le-mul_right, le_trans, lt_of_lt_of_le, sub-add_cancel, mul-div_cancel, zero-mul, add-mul, one-mul, mod-lt, div-add-mod', true≢false, inl, inr, le-div_iff_mul-le, div-lt_iff_lt-mul, add-one}
+use Rattle.std.proofs.Common.{◌≡◌, ℕ, zero, suc, ◌+◌, ◌-◌, ◌*◌, ◌/◌, ◌%◌, ◌^◌, ◌<◌, ◌≤◌, ℤ, pos, negsuc, ◌*ℤ◌, Bool, true, false, Ok, sym, refl, ap, ap₂, ◌∙◌, subst, arith, lit<, pow-add, mul_assoc, mul-pos, mul-le-mul_right, lt_of_lt_of_le, sub-add_cancel, mul-div_cancel, zero-mul, add-mul, one-mul, mod-lt, div-add-mod', true≢false, inl, inr, le-div_iff_mul-le, div-lt_iff_lt-mul, add-one}
 use Rattle.std.proofs.lemmas.Int.{ints}
 use Rattle.std.proofs.lemmas.Bool.{cases_lt}
-use native.Mathlib.Nat.{mul-lt-mul_of_pos_right, div-eq_of_lt-le, div-eq_of_lt, eq_of_mul-eq-mul_right, eq-zero-or-pos}
+use native.Mathlib.Nat.{mul-lt-mul_of_pos_right, div-eq_of_lt-le, div-eq_of_lt, eq-zero-or-pos}
 use Rattle.b2_dec.specs.declared.number.Mode.{Mode}
 use Rattle.b2_dec.specs.Number.{Number, zero_number, IsNumber, size, value, signed}
 use Rattle.b2_dec.specs.Rounding.{rnd, rounded}
 use Rattle.b2_dec.specs.Arithmetic.{floored, whole_above}
-use Rattle.b2_dec.proofs.Powers.{ten_pos, ten_le}
+use Rattle.b2_dec.proofs.TenLemmas.{ten_pos}
 use Rattle.b2_dec.proofs.Signs.{rounded-signed}
 use Rattle.b2_dec.proofs.Factors.{signed-mul}
 use Rattle.b2_dec.proofs.Exact.{rnd-digits, rnd-none, in_range-number}
@@ -36,15 +36,15 @@ signed-parts true false x y h e = absurd (omega (arith, ints, e))
 signed-parts false true x y h e = absurd (omega (arith, ints, e))
 signed-parts false false x y h e = (refl, omega (arith, ints, e))
 
-signed-nothing : (s : Bool) (x : ℕ) → signed s x ≡ pos 0 → x ≡ 0
+pub signed-nothing : (s : Bool) (x : ℕ) → signed s x ≡ pos 0 → x ≡ 0
 signed-nothing true x e = omega (arith, ints, e)
 signed-nothing false x e = omega (arith, ints, e)
 
-signed-zero : (s : Bool) → signed s 0 ≡ pos 0
+pub signed-zero : (s : Bool) → signed s 0 ≡ pos 0
 signed-zero true = refl
 signed-zero false = refl
 
-coef-nothing : (x : Number) → IsNumber x → size x ≡ 0 → x ≡ zero_number
+pub coef-nothing : (x : Number) → IsNumber x → size x ≡ 0 → x ≡ zero_number
 coef-nothing x h none =
     elim (cases_lt x.coef 1000000000000) [
       | inl few ↦ h.spelling few

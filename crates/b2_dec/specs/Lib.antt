@@ -3,3 +3,4 @@ pub mod Spelling
 pub mod Rounding
 pub mod Arithmetic
 pub mod Packing
+pub mod Laws

@@ -1,7 +1,7 @@
-use Rattle.std.proofs.Common.{ℕ, Bool, ℤ, Option, Some, None, if◌then◌else◌, sym, ap, ap₂, ◌∙◌, ◌≡◌, ◌≤◌, ◌<◌, ◌*◌, ◌/◌, ◌%◌, ◌-◌, ◌^◌, arith}
+use Rattle.std.proofs.Common.{ℕ, Bool, ℤ, Option, Some, None, if◌then◌else◌, sym, ap, ap₂, ◌∙◌, ◌*◌, ◌/◌, ◌%◌, ◌-◌, ◌^◌, arith}
 use Rattle.b2_dec.specs.Number.{signed}
 use Rattle.b2_dec.specs.Arithmetic.{fits_64}
-use Rattle.b2_dec.proofs.Powers.{ten_pos}
+use Rattle.b2_dec.proofs.TenLemmas.{ten_pos}
 use Rattle.b2_dec.proofs.Parts.{size-high, whole_of-large, whole_of-small, whole_of-multiple, whole_of-divided, whole_of-rest}
 use Rattle.b2_dec.proofs.order.whole.Goals as goal
 
