@@ -1,0 +1,7 @@
+use Rattle.std.proofs.Common.{◌≡◌, ◌+◌, ◌/◌, ◌%◌, ap, ◌∙◌, arith}
+use Rattle.b2_dectext.specs.Digits.{digits}
+use Rattle.b2_dectext.proofs.printing.thirteen.Goals as goal
+
+pub returns : goal.returns
+unfolding digits
+returns c = cc
