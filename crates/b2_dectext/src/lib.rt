@@ -9,4 +9,4 @@
 
 mod printing;
 
-
+pub use printing::write;

@@ -1,4 +1,3 @@
-use Rattle.std.proofs.Common.{◌≡◌, ◌+◌, ◌/◌, ◌%◌, ap, ◌∙◌, arith}
 use Rattle.b2_dectext.specs.Digits.{digits}
 use Rattle.b2_dectext.proofs.printing.thirteen.Goals as goal
 
