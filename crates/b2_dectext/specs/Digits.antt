@@ -1,5 +1,5 @@
 -- Decimal digits as bytes.
-use Rattle.std.specs.Prelude.{ℕ, zero, suc, ◌+◌, ◌-◌, ◌*◌, ◌/◌, ◌%◌, ◌^◌, ◌==◌, List, [], ◌∷◌, length, take}
+use Rattle.std.specs.Prelude.{◌≡◌, ℕ, zero, suc, true, fold, slice_index, ◌<◌, ◌+◌, ◌-◌, ◌*◌, ◌/◌, ◌%◌, ◌^◌, ◌==◌, List, [], ◌∷◌, length, take}
 use Rattle.std.specs.Char.{is_ascii_digit}
 use Rattle.std.specs.List.{prefix_len, suffix_len}
 
@@ -20,10 +20,13 @@ trimmed ds = take (length ds - suffix_len (λ d. d == 48) ds) ds
 abbrev pub digits_len : List ℕ → ℕ
 digits_len text = prefix_len is_ascii_digit text
 
+-- each byte is a digit
+pub record AreDigits (ds : List ℕ) : Type 0 where
+  pub each : (k : ℕ) → k < length ds → is_ascii_digit (slice_index ds k) ≡ true
+
 -- the number that digits write when they follow those of n
 abbrev pub value_after : ℕ → List ℕ → ℕ
-value_after n [] = n
-value_after n (d ∷ ds) = value_after (10 * n + (d - 48)) ds
+value_after n ds = fold (λ m d. 10 * m + (d - 48)) n ds
 
 -- the number that digits write
 abbrev pub digits_value : List ℕ → ℕ

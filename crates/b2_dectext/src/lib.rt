@@ -8,5 +8,7 @@
 #![tactic(auto)]
 
 mod printing;
+mod reading;
+mod scanning;
 
 pub use printing::write;
