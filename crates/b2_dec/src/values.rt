@@ -24,7 +24,9 @@ impl Bytes {
     pub fn new() -> Bytes
         ensures { result ≡ [] }
     {
-        Bytes { items: ArrayVec::new() }
+        Bytes {
+            items: ArrayVec::new(),
+        }
     }
 
     /// These bytes, None where there are more than 255.

@@ -1,4 +1,3 @@
 pub mod Putting
 pub mod Lengths
-pub mod Building
 pub mod Scales

@@ -1,6 +1,6 @@
 //! Numbers from text and to text.
 //!
-//! `read` takes the longest number at the front of a text, `num` counts it with the spaces around it, and `write` gives
+//! `read` takes the longest number at the front of a text, `literal` with the code of one that is out of range, `num` counts it with the spaces around it, and `write` gives
 //! the printed form of a number. `specs/NumberText.antt` says how a number is written and which number that is, and
 //! `specs/Printed.antt` how one is shown.
 //!
@@ -12,4 +12,4 @@ mod reading;
 mod scanning;
 
 pub use printing::write;
-pub use reading::{num, read};
+pub use reading::{literal, num, read};
