@@ -23,14 +23,19 @@ abbrev pub onto : List Operation → Parsed → Parsed
 onto before p = option_map (behind before) p
 
 -- and then what is read of the text that follows
-abbrev pub then : Parsed → (List ℕ → Parsed) → Parsed
-then None f = None
-then (Some r) f = onto r.0 (f r.1)
+abbrev pub followed_by : Parsed → (List ℕ → Parsed) → Parsed
+followed_by None f = None
+followed_by (Some r) f = onto r.0 (f r.1)
 
 abbrev pub operator_of : Level → ℕ → Option Operator
 operator_of level.Sum b = if b == 43 then Some by.Add else (if b == 45 then Some by.Subtract else None)
 operator_of level.Product b = if b == 42 then Some by.Multiply else (if b == 47 then Some by.Divide else None)
 operator_of level.Power b = if b == 94 then Some by.Raise else None
+
+-- an operator that was read, to be executed behind the next item
+abbrev pub joined : Option Operator → List Operation
+joined None = []
+joined (Some o) = op.Join o ∷ []
 
 abbrev pub operator_from : Level → List ℕ → Option (Operator × List ℕ)
 operator_from l [] = None
@@ -45,20 +50,21 @@ abbrev pub continued : Option (Operator × List ℕ) → List ℕ → (Operator 
 continued None rest more = Some ([], rest)
 continued (Some p) rest more = more p.0 p.1
 
--- items joined from the left: each operator stands behind its second item. There are no more items than bytes.
-abbrev pub items_from : (List ℕ → Parsed) → Level → ℕ → List Operation → List ℕ → Parsed
+-- items joined from the left: each operator stands behind its second item
+unfoldable pub items_from : (List ℕ → Parsed) → Level → ℕ → List Operation → List ℕ → Parsed
 items_from item l zero pending text = None
 items_from item l (suc n) pending text =
-    then (item text) (λ rest. onto pending (continued (operator_in l rest) rest (λ o more. items_from item l n (op.Join o ∷ []) more)))
+    followed_by (item text) (λ rest. onto pending (continued (operator_in l rest) rest (λ o more. items_from item l n (op.Join o ∷ []) more)))
 
+-- the items of a text, of which there are no more than bytes
 abbrev pub chain_of : Level → (List ℕ → Parsed) → List ℕ → Parsed
-chain_of l item text = items_from item l (suc (length text)) [] text
+chain_of l item text = items_from item l (length text) [] text
 
 -- a sign before a power
 abbrev pub signed_from : (List ℕ → Parsed) → List ℕ → Parsed
 signed_from power [] = power []
 signed_from power (b ∷ bs) =
-    if b == 45 then then (power bs) (λ rest. Some (op.Negate ∷ [], rest))
+    if b == 45 then followed_by (power bs) (λ rest. Some (op.Negate ∷ [], rest))
     else (if b == 43 then power bs else power (b ∷ bs))
 
 abbrev pub factor_of : (List ℕ → Parsed) → List ℕ → Parsed
@@ -97,13 +103,22 @@ closed_from (b ∷ bs) = if b == 41 then Some ([], bs) else None
 abbrev pub closed : List ℕ → Parsed
 closed text = closed_from (skipped text)
 
+-- what follows an opening parenthesis
+abbrev pub opened : List ℕ → Option (List ℕ)
+opened [] = None
+opened (b ∷ bs) = if b == 40 then Some bs else None
+
+-- an expression in parentheses, or what else the text begins with
+abbrev pub grouped : (List ℕ → Parsed) → Option (List ℕ) → List ℕ → Parsed
+grouped inner None text = simple_from text
+grouped inner (Some rest) text = followed_by (inner rest) closed
+
 -- an operand: an expression in parentheses, a letter or a literal
 abbrev pub operand_from : (List ℕ → Parsed) → List ℕ → Parsed
-operand_from inner [] = None
-operand_from inner (b ∷ bs) = if b == 40 then then (inner bs) closed else simple_from (b ∷ bs)
+operand_from inner text = grouped inner (opened text) text
 
 -- an operand, from its first byte, in which parentheses are so many deep at most
-abbrev pub operand_from_depth : ℕ → List ℕ → Parsed
+unfoldable pub operand_from_depth : ℕ → List ℕ → Parsed
 operand_from_depth zero text = simple_from text
 operand_from_depth (suc depth) text = operand_from (level_of level.Sum (λ inner. operand_from_depth depth (skipped inner))) text
 

@@ -1,5 +1,5 @@
 -- The machine of one partition at one terminal: its state, a step and a turn.
-use Rattle.std.specs.Prelude.{ℕ, suc, zero, ◌+◌, ◌/◌, ◌%◌, ◌==◌, nat_lt, List, [], ◌∷◌, ◌++◌, length, set, replicate, codes, Option, Some, None, Result, Ok, Err, if◌then◌else◌, slice_get}
+use Rattle.std.specs.Prelude.{ℕ, suc, zero, ◌+◌, ◌/◌, ◌%◌, ◌==◌, nat_lt, List, [], ◌∷◌, ◌++◌, length, map, set, replicate, codes, Option, Some, None, Result, Ok, Err, if◌then◌else◌, slice_get}
 use Rattle.std.specs.Fmt.{decimal}
 use Rattle.b2_base.specs.Codes.{class_of}
 use Rattle.b2_base.specs.declared.codes.TheConstants.{S14_STATEMENT, P36_NO_LINE}
@@ -17,6 +17,8 @@ use Rattle.b2_print.specs.declared.layout.Item.{Item}
 use Rattle.b2_print.specs.declared.layout.Item.TheVariants as item
 use Rattle.b2_dec.specs.declared.number.Mode.{Mode}
 use Rattle.b2_dec.specs.declared.number.Mode.TheVariants.{Round}
+use Rattle.b2_machine.specs.declared.solo.Printed.{Printed}
+use Rattle.b2_machine.specs.declared.solo.Printed.TheVariants as printed
 use Rattle.b2_machine.specs.declared.syntax.PrintItem.{PrintItem}
 use Rattle.b2_machine.specs.declared.syntax.PrintItem.TheVariants as printing
 use Rattle.b2_machine.specs.declared.syntax.Statement.{Statement}
@@ -89,16 +91,22 @@ shows text s = record s { terminal = record s.terminal { transcript = s.terminal
 abbrev pub on_new_line : List ℕ → SoloState → List ℕ
 on_new_line text s = if s.column == 0 then text else 10 ∷ text
 
--- an item of PRINT, laid out
-abbrev pub item_of : List Number → Mode → PrintItem → Result Item ℕ
-item_of variables mode (printing.Value os) = value_of variables mode os >>= (λ x. Ok (item.Number x))
-item_of variables mode printing.Zone = Ok item.Zone
-item_of variables mode printing.Line = Ok item.Line
+-- an item of PRINT with its value
+abbrev pub item_of : List Number → Mode → PrintItem → Result Printed ℕ
+item_of variables mode (printing.Value os) = value_of variables mode os >>= (λ x. Ok (printed.Number x))
+item_of variables mode printing.Zone = Ok printed.Zone
+item_of variables mode printing.Line = Ok printed.Line
 
--- the items of PRINT, or the first code
-abbrev pub items_of : List Number → Mode → List PrintItem → Result (List Item) ℕ
+-- the items of PRINT with their values, or the first code
+abbrev pub items_of : List Number → Mode → List PrintItem → Result (List Printed) ℕ
 items_of variables mode [] = Ok []
 items_of variables mode (i ∷ is) = item_of variables mode i >>= (λ x. items_of variables mode is >>= (λ xs. Ok (x ∷ xs)))
+
+-- and as they are laid out
+abbrev pub item_for : Printed → Item
+item_for (printed.Number x) = item.Number x
+item_for printed.Zone = item.Zone
+item_for printed.Line = item.Line
 
 -- the width of the terminal
 abbrev pub width : ℕ
@@ -111,7 +119,7 @@ asked f (Err code) = request.Fail code
 
 -- what a statement asks for, at a column
 abbrev pub plan : List Number → Mode → ℕ → Statement → Request
-plan variables mode column (statement.Print is) = asked (λ xs. request.Show (layout width column xs)) (items_of variables mode is)
+plan variables mode column (statement.Print is) = asked (λ xs. request.Show (layout width column (map item_for xs))) (items_of variables mode is)
 plan variables mode column (statement.Let letter os) = asked (request.Assign letter) (value_of variables mode os)
 plan variables mode column (statement.Goto n) = request.Jump n
 plan variables mode column statement.End = request.End

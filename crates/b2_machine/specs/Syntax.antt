@@ -1,5 +1,5 @@
 -- What a typed line says.
-use Rattle.std.specs.Prelude.{ℕ, zero, suc, ◌+◌, ◌-◌, ◌*◌, ◌<◌, ◌≤◌, ◌^◌, Bool, false, ◌&&◌, ◌||◌, ◌==◌, nat_le, nat_lt, nat_eq, min, List, [], ◌∷◌, map, length, take, drop, codes, Option, Some, None, option_map, option_and_then, if◌then◌else◌}
+use Rattle.std.specs.Prelude.{ℕ, zero, suc, ◌+◌, ◌-◌, ◌*◌, ◌<◌, ◌≤◌, ◌^◌, Bool, false, ◌&&◌, ◌||◌, ◌==◌, nat_le, nat_lt, nat_eq, min, List, [], ◌∷◌, ◌++◌, map, length, take, drop, codes, Option, Some, None, option_map, option_and_then, if◌then◌else◌}
 use Rattle.std.specs.Option.{option_map_or}
 use Rattle.std.specs.Cmp.Lexicographic.{pointwise}
 use Rattle.b2_base.specs.Names.{is_digit, is_upper}
@@ -52,27 +52,43 @@ print_end last.Nothing = Line ∷ []
 print_end last.Separator = []
 print_end last.Item = Line ∷ []
 
--- a value, which stands first or behind a separator, and the items behind it
-abbrev pub value_first : Last → List ℕ → (Last → List ℕ → Option (List PrintItem)) → Option (List PrintItem)
-value_first last.Nothing text more = option_and_then (λ r. option_map (λ is. Value r.0 ∷ is) (more last.Item r.1)) (expression text)
-value_first last.Separator text more = option_and_then (λ r. option_map (λ is. Value r.0 ∷ is) (more last.Item r.1)) (expression text)
-value_first last.Item text more = None
+-- items that stand first, what the last of them is, and what follows them
+abbrev pub First : Type 0
+First = Option (List PrintItem × Last × List ℕ)
 
--- the items from the first byte that isn't a blank
+abbrev pub value_item : List ℕ → First
+value_item text = option_map (λ r. (Value r.0 ∷ [], last.Item, r.1)) (expression text)
+
+-- a value, which stands first or behind a separator
+abbrev pub value_first : Last → List ℕ → First
+value_first last.Nothing text = value_item text
+value_first last.Separator text = value_item text
+value_first last.Item text = None
+
+-- a separator or a value, from its first byte
+abbrev pub item_first : Last → List ℕ → First
+item_first l [] = None
+item_first l (b ∷ bs) =
+    if b == 59 then Some ([], last.Separator, bs)
+    else (if b == 44 then Some (Zone ∷ [], last.Separator, bs) else value_first l (b ∷ bs))
+
+-- what stands first, and then the items of what follows
+abbrev pub items_behind : First → (Last → List ℕ → Option (List PrintItem)) → Option (List PrintItem)
+items_behind None more = None
+items_behind (Some f) more = option_map (λ is. f.0 ++ is) (more f.1 f.2)
+
 abbrev pub items_first : Last → List ℕ → (Last → List ℕ → Option (List PrintItem)) → Option (List PrintItem)
 items_first l [] more = Some (print_end l)
-items_first l (b ∷ bs) more =
-    if b == 59 then more last.Separator bs
-    else (if b == 44 then option_map (λ is. Zone ∷ is) (more last.Separator bs) else value_first l (b ∷ bs) more)
+items_first l (b ∷ bs) more = items_behind (item_first l (b ∷ bs)) more
 
--- the items of a PRINT, behind what was read last; there are no more of them than bytes, and the end
-abbrev pub print_items : ℕ → Last → List ℕ → Option (List PrintItem)
-print_items zero l text = None
+-- the items of a text, behind what was read last; each takes at least one byte of those that are left
+unfoldable pub print_items : ℕ → Last → List ℕ → Option (List PrintItem)
+print_items zero l text = Some (print_end l)
 print_items (suc n) l text = items_first l (skipped text) (print_items n)
 
 -- what follows PRINT
 abbrev pub print_of : List ℕ → Option Statement
-print_of text = option_map Print (print_items (suc (length text)) last.Nothing text)
+print_of text = option_map Print (print_items (length text) last.Nothing text)
 
 -- an assignment to a letter, from its first byte and what follows
 abbrev pub let_from : List ℕ → Option Statement

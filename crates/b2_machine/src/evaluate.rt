@@ -58,7 +58,12 @@ fn letter_value(variables: &[Dec], letter: u8) -> Dec
 }
 
 // One operation.
-fn apply(variables: &[Dec], mode: Mode, operation: &Operation, stack: &mut Vec<Dec>) -> Result<(), Fault>
+fn apply(
+    variables: &[Dec],
+    mode: Mode,
+    operation: &Operation,
+    stack: &mut Vec<Dec>,
+) -> Result<(), Fault>
     ensures { MatchResult result (λ _. applied variables.now mode operation.now stack.old.items ≡ Ok stack.new.items)
         (λ fault. Refuses (applied variables.now mode operation.now stack.old.items) fault) }
 {
@@ -78,7 +83,12 @@ fn apply(variables: &[Dec], mode: Mode, operation: &Operation, stack: &mut Vec<D
 }
 
 /// What an expression comes to, or the first code from the left.
-pub fn value(alloc: Global, variables: &[Dec], mode: Mode, operations: &[Operation]) -> Result<Dec, Fault>
+pub fn value(
+    alloc: Global,
+    variables: &[Dec],
+    mode: Mode,
+    operations: &[Operation],
+) -> Result<Dec, Fault>
     ensures { MatchResult result (λ x. value_of variables.now mode operations.now ≡ Ok x)
         (λ fault. Refuses (value_of variables.now mode operations.now) fault) }
 {

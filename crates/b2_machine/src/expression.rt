@@ -1,8 +1,8 @@
 // Expressions, read as operations in the order in which they are executed.
-ghost use Rattle.std.specs.Prelude.{◌≡◌, ◌≤◌, ◌<◌, ◌+◌, IfOk, IfSome, Some, option_map, length, []};
+ghost use Rattle.std.specs.Prelude.{◌≡◌, ◌≤◌, ◌<◌, ◌+◌, ◌++◌, ◌∷◌, IfOk, OnOk, IfSome, Some, option_map, length, []};
 ghost use Rattle.std.specs.Option.{option_copied};
 ghost use Rattle.b2_machine.specs.Blanks.{skipped};
-ghost use Rattle.b2_machine.specs.Expression.{Parsed, onto, operator_of, operator_in, item_of, level_of, signed_from, operand_from_depth, operand_at, simple_from, closed, expression, literal_of};
+ghost use Rattle.b2_machine.specs.Expression.{Parsed, onto, operator_of, operator_in, item_of, level_of, signed_from, operand_from_depth, operand_at, simple_from, opened, closed, expression, literal_of, number_operation, joined};
 ghost use Rattle.b2_machine.specs.Reading.{found, found_operator};
 
 use crate::blanks::skip;
@@ -73,30 +73,65 @@ fn operator_in(level: Level, text: &[u8]) -> Option<(Operator, &[u8])>
     }
 }
 
+// A literal, or the code of one that is out of range.
+fn operation_of(number: Result<Dec, Code>) -> Operation
+    ensures { result ≡ number_operation number }
+{
+    match number {
+        Ok(n) => Operation::Number(n),
+        Err(code) => Operation::Refused(code),
+    }
+}
+
+fn push(out: &mut Vec<Operation>, operation: Operation) -> Result<(), NoMemory>
+    ensures { OnOk result (out.new.items ≡ out.old.items ++ operation ∷ []) }
+{
+    out.push(operation)?;
+    Ok(())
+}
+
+// Adds an operator behind its second item, where there is one.
+fn push_join(out: &mut Vec<Operation>, pending: Option<Operator>) -> Result<(), NoMemory>
+    ensures { OnOk result (out.new.items ≡ out.old.items ++ joined pending) }
+{
+    match pending {
+        Some(operator) => push(out, Operation::Join(operator)),
+        None => Ok(()),
+    }
+}
+
+// A number literal.
+fn read_literal<'a>(text: &'a [u8], out: &mut Vec<Operation>) -> Result<Option<&'a [u8]>, NoMemory>
+    ensures { IfOk result (λ rest. onto out.old.items (literal_of text.now) ≡ found out.new.items (option_copied rest)) }
+{
+    let Some((len, number)) = literal(text) else {
+        return Ok(None);
+    };
+    push(out, operation_of(number))?;
+    Ok(Some(&text[len..]))
+}
+
 // A letter or a literal.
 fn read_simple<'a>(text: &'a [u8], out: &mut Vec<Operation>) -> Result<Option<&'a [u8]>, NoMemory>
     ensures { IfOk result (λ rest. onto out.old.items (simple_from text.now) ≡ found out.new.items (option_copied rest)) }
 {
-    let [b, rest @ ..] = text else {
-        return Ok(None);
-    };
-    if b.is_ascii_uppercase() {
-        out.push(Operation::Letter(*b - b'A'))?;
-        return Ok(Some(rest));
-    }
-    if !b.is_ascii_digit() && *b != b'.' {
-        return Ok(None);
-    }
-    match literal(text) {
-        Some((len, Ok(n))) => {
-            out.push(Operation::Number(n))?;
-            Ok(Some(&text[len..]))
+    match text {
+        [b @ b'A'..=b'Z', rest @ ..] => {
+            push(out, Operation::Letter(*b - b'A'))?;
+            Ok(Some(rest))
         }
-        Some((len, Err(code))) => {
-            out.push(Operation::Refused(code))?;
-            Ok(Some(&text[len..]))
-        }
-        None => Ok(None),
+        [b'0'..=b'9' | b'.', ..] => read_literal(text, out),
+        _ => Ok(None),
+    }
+}
+
+// What follows an opening parenthesis.
+fn open(text: &[u8]) -> Option<&[u8]>
+    ensures { opened text.now ≡ option_copied result }
+{
+    match text {
+        [b'(', rest @ ..] => Some(rest),
+        _ => None,
     }
 }
 
@@ -104,7 +139,10 @@ fn read_simple<'a>(text: &'a [u8], out: &mut Vec<Operation>) -> Result<Option<&'
 fn close(text: &[u8]) -> Option<&[u8]>
     ensures { closed text.now ≡ option_map (λ rest. ([], rest.now)) result }
 {
-    skip(text).strip_prefix(b")")
+    match skip(text) {
+        [b')', rest @ ..] => Some(rest),
+        _ => None,
+    }
 }
 
 // What the operators of a level and of those above it join.
@@ -119,13 +157,11 @@ fn read_level<'a>(
 {
     let mut pending = None;
     let mut left = text;
-    for _ in 0..=text.len() {
+    for _ in 0..text.len() {
         let Some(rest) = read_item(level, depth, left, out)? else {
             return Ok(None);
         };
-        if let Some(operator) = pending {
-            out.push(Operation::Join(operator))?;
-        }
+        push_join(out, pending)?;
         let Some((operator, more)) = operator_in(level, rest) else {
             return Ok(Some(rest));
         };
@@ -161,15 +197,17 @@ fn read_signed<'a>(
 ) -> Result<Option<&'a [u8]>, NoMemory>
     ensures { IfOk result (λ rest. onto out.old.items (signed_from (level_of Level.Power (operand_at depth)) text.now) ≡ found out.new.items (option_copied rest)) }
 {
-    let [b'-', unsigned @ ..] = text else {
-        let unsigned = text.strip_prefix(b"+").unwrap_or(text);
-        return read_level(Level::Power, depth, unsigned, out);
-    };
-    let Some(rest) = read_level(Level::Power, depth, unsigned, out)? else {
-        return Ok(None);
-    };
-    out.push(Operation::Negate)?;
-    Ok(Some(rest))
+    match text {
+        [b'-', unsigned @ ..] => {
+            let Some(rest) = read_level(Level::Power, depth, unsigned, out)? else {
+                return Ok(None);
+            };
+            push(out, Operation::Negate)?;
+            Ok(Some(rest))
+        }
+        [b'+', unsigned @ ..] => read_level(Level::Power, depth, unsigned, out),
+        unsigned => read_level(Level::Power, depth, unsigned, out),
+    }
 }
 
 // An expression in parentheses, a letter or a literal.
@@ -181,12 +219,12 @@ fn read_operand<'a>(
 ) -> Result<Option<&'a [u8]>, NoMemory>
     ensures { IfOk result (λ rest. onto out.old.items (operand_from_depth depth text.now) ≡ found out.new.items (option_copied rest)) }
 {
-    let [b'(', inner @ ..] = text else {
+    if depth == 0 {
+        return read_simple(text, out);
+    }
+    let Some(inner) = open(text) else {
         return read_simple(text, out);
     };
-    if depth == 0 {
-        return Ok(None);
-    }
     let Some(rest) = read_level(Level::Sum, depth - 1, inner, out)? else {
         return Ok(None);
     };

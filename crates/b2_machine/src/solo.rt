@@ -1,10 +1,12 @@
 // The machine of one partition at one terminal.
-ghost use Rattle.std.specs.Prelude.{◌≡◌, ◌<◌, ◌≤◌, ◌++◌, ◌+◌, ◌∷◌, [], Some, length, IfOk, OnOk, MatchResult, Ok, nat_lt, set};
+ghost use Rattle.std.specs.Prelude.{◌≡◌, ◌<◌, ◌≤◌, ◌++◌, ◌+◌, ◌∷◌, [], Some, length, IfOk, OnOk, MatchResult, Ok, nat_lt, set, map};
 ghost use Rattle.std.specs.Option.{option_copied};
 ghost use Rattle.b2_term.specs.Terminal.{line_read, after_read};
-ghost use Rattle.b2_machine.specs.Outcomes.{Refuses};
+ghost use Rattle.b2_machine.specs.Outcomes.{Refuses, Fails};
 ghost use Rattle.b2_machine.specs.Value.{value_of};
-ghost use Rattle.b2_machine.specs.Machine.{started, byte_keyed, shows, item_of, items_of, asked, plan, error_text, stops, goes_to, fails, to_line, goes_on, does, unit_of, line_in, line_of, performs_in, enters, reads, acts, step, turned};
+ghost use Rattle.b2_print.specs.Columns.{column_after};
+ghost use Rattle.b2_print.specs.Layout.{layout};
+ghost use Rattle.b2_machine.specs.Machine.{started, byte_keyed, shows, item_of, items_of, item_for, asked, plan, error_text, stops, goes_to, fails, to_line, goes_on, does, unit_of, line_in, line_of, performs_in, enters, reads, acts, step, turned};
 
 use crate::evaluate::value;
 use crate::program::{Lines, find, first, next, put};
@@ -53,6 +55,14 @@ enum Request {
     Fail(Code),
 }
 
+// An item of PRINT with its value.
+#[derive(Clone, Copy, Drop)]
+enum Printed {
+    Number(Dec),
+    Zone,
+    Line,
+}
+
 /// How a step ended.
 #[derive(Clone, Copy, Debug, PartialEq, Eq)]
 pub enum StepEnd {
@@ -93,67 +103,124 @@ fn text_of(alloc: Global, bytes: &[u8]) -> Result<ByteList, NoMemory>
     Ok(ByteList::new(Vec::from_slice(alloc, bytes)?))
 }
 
-// An item of PRINT, laid out.
-fn layout_item(alloc: Global, variables: &[Dec], mode: Mode, item: &PrintItem) -> Result<Item<'static>, Fault>
+// An item of PRINT with its value.
+fn evaluated(
+    alloc: Global,
+    variables: &[Dec],
+    mode: Mode,
+    item: &PrintItem,
+) -> Result<Printed, Fault>
     ensures { MatchResult result (λ it. item_of variables.now mode item.now ≡ Ok it) (λ fault. Refuses (item_of variables.now mode item.now) fault) }
 {
     match item {
         PrintItem::Value(expression) => {
             let n = value(alloc, variables, mode, expression.operations())?;
-            Ok(Item::Number(n))
+            Ok(Printed::Number(n))
         }
-        PrintItem::Zone => Ok(Item::Zone),
-        PrintItem::Line => Ok(Item::Line),
+        PrintItem::Zone => Ok(Printed::Zone),
+        PrintItem::Line => Ok(Printed::Line),
     }
 }
 
-// The items of PRINT, laid out.
-fn layout_items(alloc: Global, variables: &[Dec], mode: Mode, items: &[PrintItem]) -> Result<Vec<Item<'static>>, Fault>
+// The items of PRINT with their values, or the first code.
+fn evaluated_items(
+    alloc: Global,
+    variables: &[Dec],
+    mode: Mode,
+    items: &[PrintItem],
+) -> Result<Vec<Printed>, Fault>
     ensures { MatchResult result (λ its. items_of variables.now mode items.now ≡ Ok its.items) (λ fault. Refuses (items_of variables.now mode items.now) fault) }
 {
     let mut list = Vec::new(alloc);
     for item in items {
-        let item = layout_item(alloc, variables, mode, item)?;
-        add_item(&mut list, item)?;
+        let printed = evaluated(alloc, variables, mode, item)?;
+        add_item(&mut list, printed)?;
     }
     Ok(list)
 }
 
-fn add_item(list: &mut Vec<Item<'static>>, item: Item<'static>) -> Result<(), NoMemory>
+fn add_item(list: &mut Vec<Printed>, item: Printed) -> Result<(), NoMemory>
     ensures { OnOk result (list.new.items ≡ list.old.items ++ item ∷ []) }
 {
     list.push(item)?;
     Ok(())
 }
 
+// Lays out one item behind a text, and gives the column after it.
+fn lay_item(alloc: Global, item: Printed, column: u16, out: &mut Vec<u8>) -> Result<u16, NoMemory>
+    ensures text { OnOk result (out.new.items ≡ out.old.items ++ layout 80 column (item_for item ∷ [])) }
+    ensures column { IfOk result (λ after. after ≡ column_after column (layout 80 column (item_for item ∷ []))) }
+{
+    let item = match item {
+        Printed::Number(n) => Item::Number(n),
+        Printed::Zone => Item::Zone,
+        Printed::Line => Item::Line,
+    };
+    lay(alloc, &[item], column, WIDTH, out)
+}
+
+// What items show at a column.
+fn lay_items(alloc: Global, items: &[Printed], column: u16) -> Result<ByteList, NoMemory>
+    ensures { IfOk result (λ text. text ≡ layout 80 column (map item_for items.now)) }
+{
+    let mut text = Vec::new(alloc);
+    let mut at = column;
+    for item in items {
+        at = lay_item(alloc, *item, at, &mut text)?;
+    }
+    Ok(ByteList::new(text))
+}
+
+// A code is shown; want of memory isn't.
+fn failing(fault: Fault) -> Result<Request, NoMemory>
+    ensures { IfOk result (λ request. Fails fault request) }
+{
+    match fault {
+        Fault::Code(code) => Ok(Request::Fail(code)),
+        Fault::NoMemory => Err(NoMemory),
+    }
+}
+
 // What PRINT shows, or the first code.
-fn ask_print(alloc: Global, variables: &[Dec], mode: Mode, column: u16, list: &PrintList) -> Result<Request, NoMemory>
+fn ask_print(
+    alloc: Global,
+    variables: &[Dec],
+    mode: Mode,
+    column: u16,
+    list: &PrintList,
+) -> Result<Request, NoMemory>
     ensures { IfOk result (λ request. request ≡ plan variables.now mode column (Statement.Print list.now)) }
 {
-    match layout_items(alloc, variables, mode, list.items()) {
-        Ok(items) => {
-            let mut text = Vec::new(alloc);
-            lay(&items, column, WIDTH, &mut text)?;
-            Ok(Request::Show(ByteList::new(text)))
-        }
-        Err(Fault::Code(code)) => Ok(Request::Fail(code)),
-        Err(Fault::NoMemory) => Err(NoMemory),
+    match evaluated_items(alloc, variables, mode, list.items()) {
+        Ok(items) => Ok(Request::Show(lay_items(alloc, &items, column)?)),
+        Err(fault) => failing(fault),
     }
 }
 
 // What is assigned, or the first code.
-fn ask_let(alloc: Global, variables: &[Dec], mode: Mode, letter: u8, expression: &Expression) -> Result<Request, NoMemory>
+fn ask_let(
+    alloc: Global,
+    variables: &[Dec],
+    mode: Mode,
+    letter: u8,
+    expression: &Expression,
+) -> Result<Request, NoMemory>
     ensures { IfOk result (λ request. request ≡ asked (Request.Assign letter) (value_of variables.now mode expression.now)) }
 {
     match value(alloc, variables, mode, expression.operations()) {
         Ok(n) => Ok(Request::Assign(letter, n)),
-        Err(Fault::Code(code)) => Ok(Request::Fail(code)),
-        Err(Fault::NoMemory) => Err(NoMemory),
+        Err(fault) => failing(fault),
     }
 }
 
 // What a statement asks for.
-fn ask(alloc: Global, variables: &[Dec], mode: Mode, column: u16, statement: &Statement) -> Result<Request, NoMemory>
+fn ask(
+    alloc: Global,
+    variables: &[Dec],
+    mode: Mode,
+    column: u16,
+    statement: &Statement,
+) -> Result<Request, NoMemory>
     ensures { IfOk result (λ request. request ≡ plan variables.now mode column statement.now) }
 {
     match statement {
@@ -364,7 +431,13 @@ impl Solo {
         let Some(statement) = line.get(unit_of(place)) else {
             return self.stop(b"");
         };
-        let request = ask(self.alloc, &self.variables, self.mode, self.column, statement)?;
+        let request = ask(
+            self.alloc,
+            &self.variables,
+            self.mode,
+            self.column,
+            statement,
+        )?;
         self.carry_out(request, place, size)
     }
 

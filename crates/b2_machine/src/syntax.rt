@@ -1,7 +1,8 @@
 // What a typed line says.
-ghost use Rattle.std.specs.Prelude.{◌≡◌, ◌<◌, ◌≤◌, ◌^◌, ◌+◌, ◌-◌, ◌*◌, IfOk, Some, map, length, option_map};
+ghost use Rattle.std.specs.Prelude.{◌≡◌, ◌<◌, ◌≤◌, ◌^◌, ◌+◌, ◌-◌, ◌*◌, ◌++◌, IfOk, Some, map, length, option_map};
 ghost use Rattle.std.specs.Option.{option_copied};
-ghost use Rattle.b2_machine.specs.Syntax.{strip, upper, print_of, let_of, select_of, word_alone, statement_of, statements_of, line_number_of, line_number_from, numbered_of, entry_of, entry_of_upper, expression_alone};
+ghost use Rattle.b2_machine.specs.Reading.{begun, shown};
+ghost use Rattle.b2_machine.specs.Syntax.{value_item, item_first, print_end, strip, upper, print_of, let_of, select_of, word_alone, statement_of, statements_of, line_number_of, line_number_from, numbered_of, entry_of, entry_of_upper, expression_alone};
 
 use crate::blanks::{is_blank, skip};
 use crate::expression::read_expression;
@@ -90,6 +91,60 @@ fn read_expression_alone(alloc: Global, text: &[u8]) -> Result<Option<Expression
     }
 }
 
+// A value of a PRINT.
+fn read_value<'a>(
+    alloc: Global,
+    text: &'a [u8],
+    out: &mut Vec<PrintItem>,
+) -> Result<Option<&'a [u8]>, NoMemory>
+    ensures { IfOk result (λ rest. begun out.old.items (value_item text.now) ≡ shown out.new.items (option_map (λ r. (Last.Item, r.now)) rest)) }
+{
+    let mut operations = Vec::new(alloc);
+    let Some(rest) = read_expression(text, &mut operations)? else {
+        return Ok(None);
+    };
+    out.push(PrintItem::Value(Expression::new(operations)))?;
+    Ok(Some(rest))
+}
+
+// A separator or a value of a PRINT: what it was and what follows it.
+fn read_print_item<'a>(
+    alloc: Global,
+    last: Last,
+    text: &'a [u8],
+    out: &mut Vec<PrintItem>,
+) -> Result<Option<(Last, &'a [u8])>, NoMemory>
+    ensures { IfOk result (λ next. begun out.old.items (item_first last text.now) ≡ shown out.new.items (option_map (λ p. (p.0, p.1.now)) next)) }
+{
+    match text {
+        [b';', rest @ ..] => Ok(Some((Last::Separator, rest))),
+        [b',', rest @ ..] => {
+            out.push(PrintItem::Zone)?;
+            Ok(Some((Last::Separator, rest)))
+        }
+        [_, ..] => {
+            if last == Last::Item {
+                return Ok(None);
+            }
+            match read_value(alloc, text, out)? {
+                Some(rest) => Ok(Some((Last::Item, rest))),
+                None => Ok(None),
+            }
+        }
+        [] => Ok(None),
+    }
+}
+
+// The PRINT of these items, which shows a newline at its end but behind a separator.
+fn print_statement(mut items: Vec<PrintItem>, last: Last) -> Result<Option<Statement>, NoMemory>
+    ensures { IfOk result (λ statement. statement ≡ Some (Statement.Print (items.items ++ print_end last))) }
+{
+    if last != Last::Separator {
+        items.push(PrintItem::Line)?;
+    }
+    Ok(Some(Statement::Print(PrintList::new(items))))
+}
+
 // What follows PRINT.
 fn read_print(alloc: Global, text: &[u8]) -> Result<Option<Statement>, NoMemory>
     ensures { IfOk result (λ statement. statement ≡ print_of text.now) }
@@ -97,38 +152,18 @@ fn read_print(alloc: Global, text: &[u8]) -> Result<Option<Statement>, NoMemory>
     let mut items = Vec::new(alloc);
     let mut last = Last::Nothing;
     let mut left = text;
-    for _ in 0..=text.len() {
-        match skip(left) {
-            [] => {
-                if last != Last::Separator {
-                    items.push(PrintItem::Line)?;
-                }
-                return Ok(Some(Statement::Print(PrintList::new(items))));
-            }
-            [b';', rest @ ..] => {
-                last = Last::Separator;
-                left = rest;
-            }
-            [b',', rest @ ..] => {
-                items.push(PrintItem::Zone)?;
-                last = Last::Separator;
-                left = rest;
-            }
-            item => {
-                if last == Last::Item {
-                    return Ok(None);
-                }
-                let mut operations = Vec::new(alloc);
-                let Some(rest) = read_expression(item, &mut operations)? else {
-                    return Ok(None);
-                };
-                items.push(PrintItem::Value(Expression::new(operations)))?;
-                last = Last::Item;
-                left = rest;
-            }
+    for _ in 0..text.len() {
+        let item = skip(left);
+        if item.is_empty() {
+            return print_statement(items, last);
         }
+        let Some((what, rest)) = read_print_item(alloc, last, item, &mut items)? else {
+            return Ok(None);
+        };
+        last = what;
+        left = rest;
     }
-    Ok(None)
+    print_statement(items, last)
 }
 
 // An assignment without LET.
