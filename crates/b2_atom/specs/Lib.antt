@@ -1,0 +1,6 @@
+pub mod Words
+pub mod Tree
+pub mod Leaves
+pub mod Table
+pub mod Grammar
+pub mod Lines

@@ -1,0 +1,59 @@
+-- Lines as atoms: which lists of bytes spell a line, and its units.
+use Rattle.std.specs.Prelude.{◌≡◌, ℕ, zero, suc, ◌+◌, ◌-◌, ◌&&◌, ◌==◌, nat_le, nat_lt, Bool, true, false, List, [], ◌∷◌, length, take, drop, if◌then◌else◌, Ok, Err, is_ok}
+use Rattle.b2_atom.specs.Words.{Text, first}
+use Rattle.b2_atom.specs.Tree.{Trees, Outcome, atoms}
+use Rattle.b2_atom.specs.Grammar.{reader, statement, read_line}
+use Rattle.b2_atom.specs.declared.words.Origin.TheVariants as origin
+use Rattle.b2_atom.specs.declared.forms.Place.{Place}
+use Rattle.b2_atom.specs.declared.forms.Place.TheVariants.{First, Further, Following}
+
+-- a list of at most 255 bytes that the table reads as a line of atoms
+unfoldable pub is_line : Text → Bool
+is_line t = nat_le (length t) 255 && is_ok (read_line origin.Atoms t)
+
+-- what is left behind a reading
+abbrev pub rest_of : Outcome → Text
+rest_of (Ok p) = p.1
+rest_of (Err e) = []
+
+-- what stands behind the first unit of a text: a statement without the one that follows its THEN, ELSE or ERROR
+unfoldable pub behind_unit : Place → Text → Text
+behind_unit p t = rest_of (statement (reader origin.Atoms) 1 p t)
+
+-- a unit: where it stands, and its bytes
+pub record LineUnit : Type 0 where
+  pub place : Place
+  pub bytes : Text
+
+abbrev pub unit_at : Place → Text → LineUnit
+unit_at p t = record { place = p; bytes = take (length t - length (behind_unit p t)) t }
+
+-- the units in what stands behind one: a `:` parts them, or nothing where a statement follows
+abbrev pub next_place : Text → Place
+next_place rest = if first rest == 58 then Further else Following
+
+abbrev pub next_text : Text → Text
+next_text rest = if first rest == 58 then drop 1 rest else rest
+
+abbrev pub further : (Place → Text → List LineUnit) → Text → List LineUnit
+further more [] = []
+further more (b ∷ bs) = more (next_place (b ∷ bs)) (next_text (b ∷ bs))
+
+-- the units of a text from a place on, no more than so many
+abbrev pub units_from : ℕ → Place → Text → List LineUnit
+units_from zero p t = []
+units_from (suc n) p t = unit_at p t ∷ further (units_from n) (behind_unit p t)
+
+-- the units of a line, which are no more than its bytes
+unfoldable pub units_of : Text → List LineUnit
+units_of t = units_from (length t) First t
+
+abbrev pub is_further : Place → Bool
+is_further First = false
+is_further Further = true
+is_further Following = false
+
+-- the first unit behind the k-th that follows a `:`, or the number of units; i units were counted before
+abbrev pub further_unit : ℕ → ℕ → List LineUnit → ℕ
+further_unit k i [] = i
+further_unit k i (u ∷ us) = if nat_lt k i && is_further u.place then i else further_unit k (suc i) us
