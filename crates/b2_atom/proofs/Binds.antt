@@ -1,9 +1,10 @@
 -- One reading after another, and what a sink holds behind it.
-use Rattle.std.proofs.Common.{◌≡◌, ℕ, zero, suc, ◌+◌, ◌-◌, ◌<◌, List, [], ◌∷◌, ◌++◌, length, refl, sym, ap, ◌∙◌, arith, Result, Ok, Err, true, false, Bool, if◌then◌else◌, ◌≤◌, is_ok}
+use Rattle.std.proofs.Common.{◌≡◌, ℕ, zero, suc, ◌+◌, ◌-◌, ◌<◌, List, [], ◌∷◌, ◌++◌, length, refl, sym, ap, ◌∙◌, arith, Result, Ok, Err, true, false, Bool, if◌then◌else◌, ◌≤◌, is_ok, append_assoc, append-nil}
 use Rattle.b2_atom.specs.Words.{Text}
-use Rattle.b2_atom.specs.Tree.{Token, Trees, Outcome, Parser, Seen, one, nothing, also, joined, and_then, under, emitted, puts, put_all, token_atoms}
+use Rattle.b2_atom.specs.Tree.{Token, Trees, Outcome, Parser, Seen, atoms, one, nothing, also, joined, and_then, under, emitted, puts, put_all, token_atoms}
 use Rattle.b2_atom.specs.Tree.Trees.{Done, Put, In}
-use Rattle.b2_atom.specs.Lines.{rest_of}
+use Rattle.b2_atom.specs.Tree.Seen.{Written}
+use Rattle.b2_atom.specs.Lines.{rest_of, atoms_of}
 use Rattle.b2_atom.specs.declared.sink.Stop.{Stop}
 use Rattle.b2_atom.specs.declared.sink.Stop.TheVariants.{At, Deep}
 use Rattle.b2_atom.specs.declared.words.Origin.{Origin}
@@ -133,3 +134,26 @@ reads_ok s n (Ok p) r is = refl
 pub reads_err : (s : Seen) (o : Outcome) (e : Stop) → emitted s o ≡ Err e → is_ok o ≡ false
 reads_err s (Err f) e is = refl
 reads_err s (Ok p) e is = cc
+
+-- the atoms behind bytes
+pub puts-written : (bs cs : Text) → puts (Written bs) cs ≡ Written (bs ++ cs)
+puts-written bs [] = ap Written (sym (append-nil bs))
+puts-written bs (c ∷ cs) = puts-written (bs ++ c ∷ []) cs ∙ ap Written (append_assoc bs (c ∷ []) cs)
+
+pub put_all-written : (bs : Text) (t : Trees) → put_all (Written bs) t ≡ Written (bs ++ atoms t)
+put_all-written bs Done = ap Written (sym (append-nil bs))
+put_all-written bs (Put t ts) =
+    ap (λ (s : Seen). put_all s ts) (puts-written bs (token_atoms t)) ∙ put_all-written (bs ++ token_atoms t) ts ∙ ap Written (append_assoc bs (token_atoms t) (atoms ts))
+put_all-written bs (In n i ts) =
+    ap (λ (s : Seen). put_all s ts) (put_all-written bs i) ∙ put_all-written (bs ++ atoms i) ts ∙ ap Written (append_assoc bs (atoms i) (atoms ts))
+
+-- the bytes that a sink holds which held none
+pub held : (bs rest : Text) (o : Outcome) → emitted (Written []) o ≡ Ok (Written bs, rest) → atoms_of o ≡ Ok bs
+held bs rest (Err e) is = cc
+held bs rest (Ok p) is =
+    let pairs : ◌≡◌ {A = Seen × Text} (put_all (Written []) p.0, p.1) (Written bs, rest) = cc in
+    let same : Written (atoms p.0) ≡ Written bs = sym (put_all-written [] p.0) ∙ ap (λ (x : Seen × Text). x.0) pairs in cc
+
+pub held_none : (s : Seen) (o : Outcome) (e : Stop) → emitted s o ≡ Err e → atoms_of o ≡ Err e
+held_none s (Err f) e is = let same : f ≡ e = cc in ap Err same
+held_none s (Ok p) e is = cc

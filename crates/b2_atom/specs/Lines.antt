@@ -1,15 +1,26 @@
 -- Lines as atoms: which lists of bytes spell a line, and its units.
-use Rattle.std.specs.Prelude.{◌≡◌, ℕ, zero, suc, ◌+◌, ◌-◌, ◌&&◌, ◌==◌, nat_le, nat_lt, Bool, true, false, List, [], ◌∷◌, length, take, drop, if◌then◌else◌, Ok, Err, is_ok}
+use Rattle.std.specs.Prelude.{◌≡◌, ℕ, zero, suc, ◌+◌, ◌-◌, ◌&&◌, ◌==◌, nat_le, nat_lt, Bool, true, false, List, [], ◌∷◌, length, take, drop, if◌then◌else◌, Result, Ok, Err, is_ok}
 use Rattle.b2_atom.specs.Words.{Text, first}
 use Rattle.b2_atom.specs.Tree.{Trees, Outcome, atoms}
 use Rattle.b2_atom.specs.Grammar.{reader, statement, read_line}
+use Rattle.b2_atom.specs.declared.words.Origin.{Origin}
 use Rattle.b2_atom.specs.declared.words.Origin.TheVariants as origin
+use Rattle.b2_atom.specs.declared.sink.Stop.{Stop}
 use Rattle.b2_atom.specs.declared.forms.Place.{Place}
 use Rattle.b2_atom.specs.declared.forms.Place.TheVariants.{First, Further, Following}
 
 -- a list of at most 255 bytes that the table reads as a line of atoms
 unfoldable pub is_line : Text → Bool
 is_line t = nat_le (length t) 255 && is_ok (read_line origin.Atoms t)
+
+-- the atom bytes of what was read
+abbrev pub atoms_of : Outcome → Result Text Stop
+atoms_of (Ok p) = Ok (atoms p.0)
+atoms_of (Err e) = Err e
+
+-- the atom bytes of a line, or why it isn't read
+unfoldable pub line_atoms : Origin → Text → Result Text Stop
+line_atoms o t = atoms_of (read_line o t)
 
 -- what is left behind a reading
 abbrev pub rest_of : Outcome → Text

@@ -16,10 +16,10 @@ mod table;
 mod walk;
 mod words;
 
-pub use forms::{Form, Item, Leaf, Place, Rule, Start};
-pub use sink::{Sink, Stop};
-pub use words::{Origin, WORDS};
-pub use table::{FORMS, ROWS_0, ROWS_1, ROWS_2, ROWS_3};
+pub use sink::Stop;
+pub use words::Origin;
+use table::{FORMS, ROWS_0, ROWS_1, ROWS_2, ROWS_3};
+use words::WORDS;
 
 /// The code's table is the language's.
 pub fn table_is_the_language()
@@ -31,5 +31,4 @@ pub fn table_is_the_language()
     ensures words { map (λ w. w.now) WORDS ≡ texts }
 {}
 
-pub use line::{Atoms, Cursor};
-pub use walk::read_line;
+pub use line::{Atoms, Cursor, read_source};
