@@ -1,21 +1,23 @@
 -- One reading after another, and what a sink holds behind it.
-use Rattle.std.proofs.Common.{◌≡◌, ℕ, zero, suc, ◌+◌, ◌-◌, ◌<◌, List, [], ◌∷◌, ◌++◌, length, refl, sym, ap, ◌∙◌, arith, Result, Ok, Err, true, false, Bool, if◌then◌else◌, ◌≤◌, is_ok, append_assoc, append-nil}
+use Rattle.std.proofs.Common.{◌≡◌, ℕ, zero, suc, ◌+◌, ◌-◌, ◌<◌, List, [], ◌∷◌, ◌++◌, length, refl, sym, ap, ◌∙◌, arith, Result, Ok, Err, true, false, Bool, if◌then◌else◌, ◌≤◌, is_ok, append_assoc, append-nil, ◌&&◌, nat_le}
 use Rattle.b2_atom.specs.Words.{Text}
-use Rattle.b2_atom.specs.Tree.{Token, Trees, Outcome, Parser, Seen, atoms, one, nothing, also, joined, and_then, under, emitted, puts, put_all, token_atoms}
+use Rattle.b2_atom.specs.Tokens.{Token, token_atoms, listed, ending, ends_wordy, is_operand, is_apart, spaced, spelled}
+use Rattle.b2_atom.specs.Tree.{Trees, Outcome, Parser, Seen, atoms, one, nothing, also, joined, and_then, under, emitted, told, put_all, bytes_of, tokens}
 use Rattle.b2_atom.specs.Tree.Trees.{Done, Put, In}
-use Rattle.b2_atom.specs.Tree.Seen.{Written}
-use Rattle.b2_atom.specs.Lines.{rest_of, atoms_of}
+use Rattle.b2_atom.specs.Tree.Seen.{Written, Listed}
+use Rattle.b2_atom.specs.Lines.{rest_of, atoms_of, source_of, is_line, line_source}
 use Rattle.b2_atom.specs.declared.sink.Stop.{Stop}
 use Rattle.b2_atom.specs.declared.sink.Stop.TheVariants.{At, Deep}
 use Rattle.b2_atom.specs.declared.words.Origin.{Origin}
+use Rattle.b2_atom.specs.declared.words.Origin.TheVariants as origin
 use Rattle.b2_atom.specs.declared.forms.Start.{Start}
 use Rattle.b2_atom.specs.declared.forms.Place.{Place}
 use Rattle.b2_atom.specs.declared.forms.Item.{Item}
-use Rattle.b2_atom.specs.Grammar.{Reader, reader, items, item, level, deep, statement, many, row_items, starts, absent, part, chosen, statement_row}
+use Rattle.b2_atom.specs.Grammar.{Reader, reader, items, item, level, deep, statement, many, row_items, starts, absent, part, read_line, chosen, statement_row}
 
 pub put_all-also : (s : Seen) (a b : Trees) → put_all s (also a b) ≡ put_all (put_all s a) b
 put_all-also s Done b = refl
-put_all-also s (Put t a) b = put_all-also (puts s (token_atoms t)) a b
+put_all-also s (Put t a) b = put_all-also (told s t) a b
 put_all-also s (In n i a) b = put_all-also (put_all s i) a b
 
 pub emitted-joined : (old : Seen) (a : Trees) (o : Outcome) → emitted old (joined a o) ≡ emitted (put_all old a) o
@@ -136,24 +138,65 @@ reads_err s (Err f) e is = refl
 reads_err s (Ok p) e is = cc
 
 -- the atoms behind bytes
-pub puts-written : (bs cs : Text) → puts (Written bs) cs ≡ Written (bs ++ cs)
-puts-written bs [] = ap Written (sym (append-nil bs))
-puts-written bs (c ∷ cs) = puts-written (bs ++ c ∷ []) cs ∙ ap Written (append_assoc bs (c ∷ []) cs)
-
 pub put_all-written : (bs : Text) (t : Trees) → put_all (Written bs) t ≡ Written (bs ++ atoms t)
 put_all-written bs Done = ap Written (sym (append-nil bs))
 put_all-written bs (Put t ts) =
-    ap (λ (s : Seen). put_all s ts) (puts-written bs (token_atoms t)) ∙ put_all-written (bs ++ token_atoms t) ts ∙ ap Written (append_assoc bs (token_atoms t) (atoms ts))
+    put_all-written (bs ++ token_atoms t) ts ∙ ap Written (append_assoc bs (token_atoms t) (atoms ts))
 put_all-written bs (In n i ts) =
     ap (λ (s : Seen). put_all s ts) (put_all-written bs i) ∙ put_all-written (bs ++ atoms i) ts ∙ ap Written (append_assoc bs (atoms i) (atoms ts))
 
--- the bytes that a sink holds which held none
-pub held : (bs rest : Text) (o : Outcome) → emitted (Written []) o ≡ Ok (Written bs, rest) → atoms_of o ≡ Ok bs
-held bs rest (Err e) is = cc
-held bs rest (Ok p) is =
-    let pairs : ◌≡◌ {A = Seen × Text} (put_all (Written []) p.0, p.1) (Written bs, rest) = cc in
-    let same : Written (atoms p.0) ≡ Written bs = sym (put_all-written [] p.0) ∙ ap (λ (x : Seen × Text). x.0) pairs in cc
+-- the atoms in a sink that held none
+pub held : (n : Seen) (rest : Text) (o : Outcome) → emitted (Written []) o ≡ Ok (n, rest) → atoms_of o ≡ Ok (bytes_of n)
+held n rest (Err e) is = cc
+held n rest (Ok p) is =
+    let pairs : ◌≡◌ {A = Seen × Text} (put_all (Written []) p.0, p.1) (n, rest) = cc in
+    ap Ok (ap bytes_of (sym (put_all-written [] p.0)) ∙ ap (λ (x : Seen × Text). bytes_of x.0) pairs)
 
 pub held_none : (s : Seen) (o : Outcome) (e : Stop) → emitted s o ≡ Err e → atoms_of o ≡ Err e
 held_none s (Err f) e is = let same : f ≡ e = cc in ap Err same
 held_none s (Ok p) e is = cc
+
+-- the source behind another
+pub ending-append : (f : Token → Bool) (before : Bool) (xs ys : List Token) → ending f before (xs ++ ys) ≡ ending f (ending f before xs) ys
+ending-append f before [] ys = refl
+ending-append f before (x ∷ xs) ys = ending-append f (f x) xs ys
+
+pub listed-append : (w o : Bool) (xs ys : List Token) → listed w o (xs ++ ys) ≡ listed w o xs ++ listed (ending ends_wordy w xs) (ending is_operand o xs) ys
+listed-append w o [] ys = refl
+listed-append w o (x ∷ xs) ys =
+    ap (λ (l : Text). spaced (is_apart w o x) (spelled x) ++ l) (listed-append (ends_wordy x) (is_operand x) xs ys)
+    ∙ sym (append_assoc (spaced (is_apart w o x) (spelled x)) (listed (ends_wordy x) (is_operand x) xs) _)
+
+pub put_all-listed : (bs : Text) (w o : Bool) (t : Trees)
+    → put_all (Listed bs w o) t ≡ Listed (bs ++ listed w o (tokens t)) (ending ends_wordy w (tokens t)) (ending is_operand o (tokens t))
+put_all-listed bs w o Done = ap (λ (l : Text). Listed l w o) (sym (append-nil bs))
+put_all-listed bs w o (Put t ts) =
+    put_all-listed (bs ++ spaced (is_apart w o t) (spelled t)) (ends_wordy t) (is_operand t) ts
+    ∙ ap (λ (l : Text). Listed l (ending ends_wordy (ends_wordy t) (tokens ts)) (ending is_operand (is_operand t) (tokens ts)))
+      (append_assoc bs (spaced (is_apart w o t) (spelled t)) (listed (ends_wordy t) (is_operand t) (tokens ts)))
+put_all-listed bs w o (In n i ts) =
+    ap (λ (s : Seen). put_all s ts) (put_all-listed bs w o i)
+    ∙ put_all-listed (bs ++ listed w o (tokens i)) (ending ends_wordy w (tokens i)) (ending is_operand o (tokens i)) ts
+    ∙ (λ j. Listed ((append_assoc bs (listed w o (tokens i)) (listed (ending ends_wordy w (tokens i)) (ending is_operand o (tokens i)) (tokens ts))
+      ∙ ap (λ (l : Text). bs ++ l) (sym (listed-append w o (tokens i) (tokens ts)))) j)
+      (sym (ending-append ends_wordy w (tokens i) (tokens ts)) j) (sym (ending-append is_operand o (tokens i) (tokens ts)) j))
+
+pub shown : (n : Seen) (rest : Text) (o : Outcome) → emitted (Listed [] false false) o ≡ Ok (n, rest) → source_of o ≡ Ok (bytes_of n)
+shown n rest (Err e) is = cc
+shown n rest (Ok p) is =
+    let pairs : ◌≡◌ {A = Seen × Text} (put_all (Listed [] false false) p.0, p.1) (n, rest) = cc in
+    ap Ok (ap bytes_of (sym (put_all-listed [] false false p.0)) ∙ ap (λ (x : Seen × Text). bytes_of x.0) pairs)
+
+pub shown_none : (s : Seen) (o : Outcome) (e : Stop) → emitted s o ≡ Err e → source_of o ≡ Err e
+shown_none s (Err f) e is = let same : f ≡ e = cc in ap Err same
+shown_none s (Ok p) e is = cc
+
+no_source : (o : Outcome) (b : Bool) (e : Stop) → (b && is_ok o) ≡ true → source_of o ≡ Err e → ⊥
+no_source (Err f) true e h k = cc
+no_source (Err f) false e h k = cc
+no_source (Ok p) b e h k = cc
+
+-- a line has a source
+pub line_has_source : (t : Text) (e : Stop) → is_line t ≡ true → line_source t ≡ Err e → ⊥
+unfolding is_line line_source
+line_has_source t e h k = no_source (read_line origin.Atoms t) (nat_le (length t) 255) e h k

@@ -1,8 +1,9 @@
 -- Reading by the table: what begins a part, items, rows, statements and lines, from a source as from atoms.
 use Rattle.std.specs.Prelude.{◌≡◌, ℕ, zero, suc, ◌+◌, ◌-◌, ◌*◌, ◌/◌, ◌%◌, ◌&&◌, ◌||◌, ◌==◌, not, nat_le, nat_lt, min, Bool, true, false, List, [], ◌∷◌, ◌++◌, length, take, drop, map, get_or, if◌then◌else◌, Result, Ok, Err}
 use Rattle.b2_atom.specs.Words.{Text, is_source, kept, begins_with, ahead, first, skipped}
-use Rattle.b2_atom.specs.Tree.{Token, Trees, Outcome, Got, Parser, one, nothing, also, joined, and_then, under}
-use Rattle.b2_atom.specs.Tree.Token.{Coded, Plain, Lined}
+use Rattle.b2_atom.specs.Tokens.{Token, kept_text}
+use Rattle.b2_atom.specs.Tree.{Trees, Outcome, Got, Parser, one, nothing, also, joined, and_then, under}
+use Rattle.b2_atom.specs.Tokens.Token.{Coded, Plain, Lined}
 use Rattle.b2_atom.specs.Tree.Trees.{Done, Put, In}
 use Rattle.b2_atom.specs.Leaves.{is_digit, is_letter, is_hex, is_alpha_name, any_name_width, numeric_name_width, digits, leaf_width, missing, refused, all_printable}
 use Rattle.b2_atom.specs.Table.{rows_0, rows_1, rows_2, rows_3, forms}
@@ -165,11 +166,6 @@ line_number_at origin.Atoms code t = atoms_line_number code t
 abbrev pub text_to_end : ℕ → Text → Outcome
 text_to_end code [] = nothing []
 text_to_end code (b ∷ bs) = if all_printable (b ∷ bs) then one (Plain leaf.Text (b ∷ bs)) [] else Err (At code (length (b ∷ bs)))
-
--- what is typed by hand is kept in upper case, but for literals
-abbrev pub kept_text : Origin → Leaf → Text → Text
-kept_text o leaf.Literal t = t
-kept_text o k t = map (kept o) t
 
 abbrev pub plain_of : Origin → Leaf → ℕ → ℕ → Text → Outcome
 plain_of o k code width t = if width == 0 then Err (missing o k code t) else one (Plain k (kept_text o k (take width t))) (drop width t)

@@ -1,9 +1,6 @@
 -- What is typed by hand: how far it goes at a text, and what is refused where it is missing.
 use Rattle.std.specs.Prelude.{◌≡◌, ℕ, zero, suc, ◌+◌, ◌-◌, ◌*◌, ◌&&◌, ◌||◌, not, ◌==◌, nat_le, nat_lt, min, Bool, true, false, List, [], ◌∷◌, ◌++◌, length, take, drop, map, get_or, if◌then◌else◌, Result, Ok, Err}
 use Rattle.b2_atom.specs.Words.{Text, upper, kept, ahead, first, skipped, skip_blanks}
-use Rattle.b2_atom.specs.Tree.{Token, Trees, Outcome, one}
-use Rattle.b2_atom.specs.Tree.Token.{Coded, Plain, Lined}
-use Rattle.b2_atom.specs.Tree.Trees.{Done, Put, In}
 use Rattle.b2_atom.specs.declared.words.Origin.{Origin}
 use Rattle.b2_atom.specs.declared.words.Origin.TheVariants.{Program, Immediate, Atoms}
 use Rattle.b2_atom.specs.declared.forms.Leaf.{Leaf}

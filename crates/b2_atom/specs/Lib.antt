@@ -1,4 +1,5 @@
 pub mod Words
+pub mod Tokens
 pub mod Tree
 pub mod Leaves
 pub mod Table

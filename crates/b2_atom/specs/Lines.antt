@@ -1,7 +1,8 @@
 -- Lines as atoms: which lists of bytes spell a line, and its units.
 use Rattle.std.specs.Prelude.{◌≡◌, ℕ, zero, suc, ◌+◌, ◌-◌, ◌&&◌, ◌==◌, nat_le, nat_lt, Bool, true, false, List, [], ◌∷◌, length, take, drop, if◌then◌else◌, Result, Ok, Err, is_ok}
 use Rattle.b2_atom.specs.Words.{Text, first}
-use Rattle.b2_atom.specs.Tree.{Trees, Outcome, atoms}
+use Rattle.b2_atom.specs.Tokens.{listed}
+use Rattle.b2_atom.specs.Tree.{Trees, Outcome, atoms, tokens}
 use Rattle.b2_atom.specs.Grammar.{reader, statement, read_line}
 use Rattle.b2_atom.specs.declared.words.Origin.{Origin}
 use Rattle.b2_atom.specs.declared.words.Origin.TheVariants as origin
@@ -21,6 +22,15 @@ atoms_of (Err e) = Err e
 -- the atom bytes of a line, or why it isn't read
 unfoldable pub line_atoms : Origin → Text → Result Text Stop
 line_atoms o t = atoms_of (read_line o t)
+
+-- the canonical source of what was read
+abbrev pub source_of : Outcome → Result Text Stop
+source_of (Ok p) = Ok (listed false false (tokens p.0))
+source_of (Err e) = Err e
+
+-- the canonical source of a line of atoms
+unfoldable pub line_source : Text → Result Text Stop
+line_source t = source_of (read_line origin.Atoms t)
 
 -- what is left behind a reading
 abbrev pub rest_of : Outcome → Text

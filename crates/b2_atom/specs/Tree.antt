@@ -1,17 +1,11 @@
 -- Trees of what was read, their atoms, and what a reading gives.
 use Rattle.std.specs.Prelude.{◌≡◌, ◌≢◌, ℕ, List, [], ◌∷◌, ◌++◌, Bool, true, false, Result, Ok, Err, Vec}
 use Rattle.b2_atom.specs.Words.{Text}
-use Rattle.b2_atom.specs.declared.forms.Leaf.{Leaf}
+use Rattle.b2_atom.specs.Tokens.{Token, token_atoms, spelled, spaced, is_apart, ends_wordy, is_operand}
 use Rattle.b2_atom.specs.declared.sink.Stop.{Stop}
 use Rattle.b2_atom.specs.declared.sink.Stop.TheVariants.{NoMemory}
 use Rattle.b2_atom.specs.declared.sink.Sink.{Sink}
 use Rattle.b2_atom.specs.declared.sink.Sink.TheVariants as sink
-
--- a word or a sign by its code, what is typed by hand, or a line number by its two bytes of decimal digits
-pub data Token : Type 0 where
-  Coded : ℕ → Token
-  Plain : Leaf → Text → Token
-  Lined : ℕ → ℕ → Token
 
 -- items in a row: a token, or what another row gave, with the branch that was taken
 pub data Trees : Type 0 where
@@ -30,12 +24,6 @@ abbrev pub tokens : Trees → List Token
 tokens Done = []
 tokens (Put t ts) = t ∷ tokens ts
 tokens (In n inner ts) = tokens inner ++ tokens ts
-
--- the atom bytes of a token
-abbrev pub token_atoms : Token → Text
-token_atoms (Coded c) = c ∷ []
-token_atoms (Plain k t) = t
-token_atoms (Lined high low) = 255 ∷ high ∷ low ∷ []
 
 -- the atom bytes of a tree
 abbrev pub atoms : Trees → Text
@@ -73,32 +61,39 @@ abbrev pub under : {S : Type 0} → ℕ → Got S → Got S
 under n (Ok p) = Ok (In n p.0 Done, p.1)
 under n (Err e) = Err e
 
--- what a sink holds: nothing, or bytes
+-- what a sink holds: nothing; atoms; or a source, and whether a word that ends in a letter and whether an operand stands
+-- at its end
 pub data Seen : Type 0 where
   Silent : Seen
   Written : Text → Seen
+  Listed : Text → Bool → Bool → Seen
 
 abbrev pub seen : Sink → Seen
 seen sink.Silent = Silent
 seen (sink.Written bytes) = Written bytes.items
+seen (sink.Listed source) = Listed source.bytes.items source.wordy source.operand
+
+-- the bytes of a sink
+abbrev pub bytes_of : Seen → Text
+bytes_of Silent = []
+bytes_of (Written bs) = bs
+bytes_of (Listed bs wordy operand) = bs
 
 abbrev pub is_silent : Seen → Bool
 is_silent Silent = true
 is_silent (Written bs) = false
+is_silent (Listed bs wordy operand) = false
 
--- a byte behind what a sink holds
-abbrev pub put : Seen → ℕ → Seen
-put Silent b = Silent
-put (Written bs) b = Written (bs ++ b ∷ [])
+-- a token behind what a sink holds
+abbrev pub told : Seen → Token → Seen
+told Silent t = Silent
+told (Written bs) t = Written (bs ++ token_atoms t)
+told (Listed bs wordy operand) t = Listed (bs ++ spaced (is_apart wordy operand t) (spelled t)) (ends_wordy t) (is_operand t)
 
-abbrev pub puts : Seen → Text → Seen
-puts s [] = s
-puts s (b ∷ bs) = puts (put s b) bs
-
--- the atoms of a tree behind what a sink holds
+-- the tokens of a tree behind what a sink holds
 abbrev pub put_all : Seen → Trees → Seen
 put_all s Done = s
-put_all s (Put t ts) = put_all (puts s (token_atoms t)) ts
+put_all s (Put t ts) = put_all (told s t) ts
 put_all s (In n inner ts) = put_all (put_all s inner) ts
 
 -- the sink after what was read, and the text that is left

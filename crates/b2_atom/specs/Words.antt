@@ -148,7 +148,7 @@ texts = words ++ left_out_words
 
 -- how a word is spelled
 abbrev pub word_text : ℕ → Text
-word_text code = get_or words (code - 128) []
+word_text code = get_or texts (code - 128) []
 
 abbrev pub is_source : Origin → Bool
 is_source Program = true

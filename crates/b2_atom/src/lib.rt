@@ -14,6 +14,8 @@ mod sink;
 mod starts;
 mod table;
 mod walk;
+#[cfg(test)]
+mod tests;
 mod words;
 
 pub use sink::Stop;

@@ -1,10 +1,10 @@
 // Lines as atoms, their units, and a cursor over the bytes of one.
 ghost use Rattle.std.specs.Prelude.{◌≡◌, ◌≢◌, ◌≤◌, ◌<◌, ◌&&◌, nat_lt, length, drop, IfOk, MatchResult, Some, None, if◌then◌else◌, true, slice_get};
 ghost use Rattle.std.specs.Option.{option_map};
-ghost use Rattle.b2_atom.specs.Lines.{is_line, line_atoms, behind_unit, next_place, next_text, units_of, further_unit, is_further};
+ghost use Rattle.b2_atom.specs.Lines.{is_line, line_atoms, line_source, behind_unit, next_place, next_text, units_of, further_unit, is_further};
 
 use crate::forms::Place;
-use crate::sink::{Sink, Stop};
+use crate::sink::{Sink, Source, Stop, bytes_of};
 use crate::walk::{read_line, statement};
 use crate::words::{Origin, dropped, first, front};
 use b2_base::NoMemory;
@@ -64,10 +64,23 @@ pub fn read_source(alloc: Global, origin: Origin, text: &[u8]) -> Result<Vec<u8>
 {
     let mut sink = Sink::Written(Vec::new(alloc));
     match read_line(&mut sink, origin, text) {
-        Ok(_) => match sink {
-            Sink::Written(bytes) => Ok(bytes),
-            Sink::Silent => unreachable!(),
-        },
+        Ok(_) => Ok(bytes_of(alloc, sink)),
+        Err(stop) => Err(stop),
+    }
+}
+
+// The canonical source of a line of atoms.
+#[tactic(auto, using(crate::proofs::Binds::shown, crate::proofs::Binds::shown_none), unfolding(crate::specs::Lines::line_source))]
+fn line_source(alloc: Global, line: &[u8]) -> Result<Vec<u8>, Stop>
+    ensures { MatchResult result (λ bytes. line_source line.now ≡ Ok bytes.items) (λ e. e ≢ Stop.NoMemory → line_source line.now ≡ Err e) }
+{
+    let mut sink = Sink::Listed(Source {
+        bytes: Vec::new(alloc),
+        wordy: false,
+        operand: false,
+    });
+    match read_line(&mut sink, Origin::Atoms, line) {
+        Ok(_) => Ok(bytes_of(alloc, sink)),
         Err(stop) => Err(stop),
     }
 }
@@ -191,6 +204,19 @@ impl Atoms {
     {
         let bytes = &self.bytes;
         bytes.as_slice()
+    }
+
+    /// Its canonical source.
+    #[tactic(auto, using(crate::proofs::Binds::line_has_source))]
+    pub fn source(&self, alloc: Global) -> Result<Vec<u8>, NoMemory>
+        ensures { IfOk result (λ bytes. line_source self.now ≡ Ok bytes.items) }
+    {
+        match line_source(alloc, &self.bytes) {
+            Ok(bytes) => Ok(bytes),
+            Err(Stop::NoMemory) => Err(NoMemory),
+            Err(Stop::At(_code, _left)) => unreachable!(),
+            Err(Stop::Deep) => unreachable!(),
+        }
     }
 
     /// How many units it has: statements, where one that follows THEN, ELSE or ERROR is a unit of its own.

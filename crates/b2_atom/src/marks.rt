@@ -6,7 +6,7 @@ ghost use Rattle.b2_atom.specs.Grammar as spec;
 
 use crate::forms::{Item, Leaf};
 use crate::leaves::{all_printable, digits, leaf_width, missing, refused};
-use crate::sink::{Sink, Stop, put, put_bytes, put_kept};
+use crate::sink::{Sink, Stop, put_code, put_line, put_text};
 use crate::words::{Origin, ahead, at, dropped, front, is_source, skipped};
 
 // Reads a word or a sign.
@@ -27,7 +27,7 @@ fn mark<'a>(
     if class != wanted {
         return Err(refused(origin, code, here));
     }
-    put(out, wanted)?;
+    put_code(out, wanted)?;
     Ok(behind)
 }
 
@@ -50,7 +50,7 @@ fn among<'a>(
     if class < low || class > high {
         return Err(refused(origin, code, here));
     }
-    put(out, class)?;
+    put_code(out, class)?;
     Ok(behind)
 }
 
@@ -74,7 +74,7 @@ fn program_word<'a>(
     if origin == Origin::Immediate {
         return Err(Stop::At(26, here.len()));
     }
-    put(out, wanted)?;
+    put_code(out, wanted)?;
     Ok(behind)
 }
 
@@ -92,13 +92,13 @@ fn comma<'a>(
     let here = skipped(origin, text);
     let (class, behind) = ahead(origin, here);
     if class == b',' {
-        put(out, b',')?;
+        put_code(out, b',')?;
         return Ok(behind);
     }
     if !is_source(origin) {
         return Err(refused(origin, 13, here));
     }
-    put(out, b',')?;
+    put_code(out, b',')?;
     Ok(text)
 }
 
@@ -154,10 +154,7 @@ fn typed_line_number<'a>(
     if count < 1 || count > 4 {
         return Err(refused(origin, code, text));
     }
-    put_bytes(
-        out,
-        &[255, two_digits(text, count, 0), two_digits(text, count, 2)],
-    )?;
+    put_line(out, two_digits(text, count, 0), two_digits(text, count, 2))?;
     Ok(dropped(text, count))
 }
 
@@ -183,7 +180,7 @@ fn atoms_line_number<'a>(
     if !is_decimal(*high) || !is_decimal(*low) {
         return Err(Stop::At(code, text.len()));
     }
-    put_bytes(out, &[255, *high, *low])?;
+    put_line(out, *high, *low)?;
     Ok(rest)
 }
 
@@ -217,7 +214,9 @@ fn text_to_end<'a>(
     if !all_printable(text) {
         return Err(Stop::At(code, text.len()));
     }
-    put_bytes(out, text)?;
+    if !text.is_empty() {
+        put_text(out, Origin::Atoms, Leaf::Text, text)?;
+    }
     Ok(&[])
 }
 
@@ -237,11 +236,7 @@ fn plain<'a>(
     if width == 0 {
         return Err(missing(origin, leaf, code, text));
     }
-    if leaf == Leaf::Literal {
-        put_bytes(out, front(text, width))?;
-    } else {
-        put_kept(out, origin, front(text, width))?;
-    }
+    put_text(out, origin, leaf, front(text, width))?;
     Ok(dropped(text, width))
 }
 

@@ -1,5 +1,5 @@
 // The words of the language with their codes, and which of them stands at a text.
-ghost use Rattle.std.specs.Prelude.{◌≡◌, ◌≤◌, ◌<◌, length, map, drop, take, get_or};
+ghost use Rattle.std.specs.Prelude.{◌≡◌, ◌≤◌, ◌<◌, [], length, map, drop, take, get_or};
 ghost use Rattle.b2_atom.specs.Words as spec;
 
 /// Where a text is read from: a typed line of a program or an immediate one, or atoms.
@@ -390,6 +390,23 @@ pub fn front(text: &[u8], count: usize) -> &[u8]
     } else {
         text
     }
+}
+
+// An entry of a table, or none.
+fn text_in(table: &'static [&'static [u8]], place: usize) -> &'static [u8]
+    ensures { result.now ≡ get_or (map (λ w. w.now) table.now) place [] }
+{
+    match table.get(place) {
+        Some(text) => text,
+        None => &[],
+    }
+}
+
+/// How a word is spelled.
+pub fn word_text(code: u8) -> &'static [u8]
+    ensures { result.now ≡ spec.word_text code }
+{
+    text_in(&WORDS, usize::from(code.saturating_sub(128)))
 }
 
 // A word, or a longer one that is typed with blanks in it, and what stands behind it.
