@@ -302,4 +302,4 @@ part o fuel room l n = level (reader o) (statement (reader o) fuel) (deep (reade
 
 -- a whole line
 abbrev pub read_line : Origin → Text → Outcome
-read_line o t = part o (length t) 32 40 row.LINE t
+read_line o t = part o (length t + 1) 32 40 row.LINE t

@@ -2,27 +2,32 @@
 use crate::{Atoms, Origin, Stop, read_source};
 use std::test::Fail;
 
-// The units of a line, each behind a `|`, and after each the unit to which a false IF goes on.
+// The units of a line, each behind a `|`, and behind each the unit to which a false IF goes on. A `!` stands where a
+// cursor gives other bytes than it has.
 fn parts(rt: &HostRuntime, atoms: &[u8]) -> Result<Vec<u8>, Fail> {
     let mut out = Vec::new(rt.alloc());
     let Some(line) = Atoms::of(rt.alloc(), atoms)? else {
         return Ok(out);
     };
-    assert_eq!(rt; line.bytes(), atoms);
+    if line.bytes() != atoms || line.unit(line.units()).is_some() {
+        out.push(b'!')?;
+    }
     for k in 0..line.units() {
         out.push(b'|')?;
         if let Some(mut cursor) = line.unit(k) {
             let whole = cursor.rest();
-            assert!(rt; cursor.peek() == whole.first().copied());
             for byte in whole {
-                assert!(rt; cursor.take() == Some(*byte));
+                if cursor.peek() != Some(*byte) || cursor.take() != Some(*byte) {
+                    out.push(b'!')?;
+                }
             }
-            assert!(rt; cursor.take() == None);
+            if cursor.take().is_some() {
+                out.push(b'!')?;
+            }
             out.extend_from_slice(whole)?;
         }
         out.push(b'0' + line.skip(k).min(9) as u8)?;
     }
-    assert!(rt; line.unit(line.units()).is_none());
     Ok(out)
 }
 
@@ -82,9 +87,13 @@ fn no_lines(rt: HostRuntime) -> Result<(), Fail> {
 
 #[test]
 fn sources(rt: HostRuntime) -> Result<(), Fail> {
-    let atoms = read_source(rt.alloc(), Origin::Immediate, b" print 1");
-    assert!(rt; atoms.is_ok_and(|a| a.as_slice() == b"\x9C1"));
-    let stop = read_source(rt.alloc(), Origin::Immediate, b"print (1");
-    assert!(rt; stop.is_err_and(|s| s == Stop::At(11, 0)));
+    match read_source(rt.alloc(), Origin::Immediate, b" print 1") {
+        Ok(atoms) => assert_eq!(rt; atoms.as_slice(), b"\x9C1".as_slice()),
+        Err(_) => assert!(rt; false),
+    }
+    match read_source(rt.alloc(), Origin::Immediate, b"print (1") {
+        Ok(_) => assert!(rt; false),
+        Err(stop) => assert_eq!(rt; stop, Stop::At(11, 0)),
+    }
     Ok(())
 }

@@ -183,5 +183,5 @@ pub fn read_line<'a>(out: &mut Sink, origin: Origin, text: &'a [u8]) -> Result<&
     ensures memory { IfErr result (IsFree (seen out.old)) }
     ensures silent { is_silent (seen out.new) ≡ is_silent (seen out.old) }
 {
-    part(out, origin, text.len(), DEPTH, LEVELS, rows::LINE, text)
+    part(out, origin, text.len() + 1, DEPTH, LEVELS, rows::LINE, text)
 }
