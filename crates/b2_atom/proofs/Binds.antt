@@ -2,18 +2,18 @@
 use Rattle.std.proofs.Common.{◌≡◌, ℕ, zero, suc, ◌+◌, ◌-◌, ◌<◌, List, [], ◌∷◌, ◌++◌, length, refl, sym, ap, ◌∙◌, arith, Result, Ok, Err, true, false, Bool, if◌then◌else◌, ◌≤◌, is_ok, append_assoc, append-nil, ◌&&◌, nat_le}
 use Rattle.b2_atom.specs.Words.{Text}
 use Rattle.b2_atom.specs.Tokens.{Token, token_atoms, listed, ending, ends_wordy, is_operand, is_apart, spaced, spelled}
-use Rattle.b2_atom.specs.Tree.{Trees, Outcome, Parser, Seen, atoms, one, nothing, also, joined, and_then, under, emitted, told, put_all, bytes_of, tokens}
+use Rattle.b2_atom.specs.Tree.{Trees, Outcome, Parser, Seen, atoms, also, joined, and_then, under, emitted, told, put_all, bytes_of, tokens}
 use Rattle.b2_atom.specs.Tree.Trees.{Done, Put, In}
 use Rattle.b2_atom.specs.Tree.Seen.{Written, Listed}
 use Rattle.b2_atom.specs.Lines.{rest_of, atoms_of, source_of, is_line, line_source}
 use Rattle.b2_atom.specs.declared.sink.Stop.{Stop}
-use Rattle.b2_atom.specs.declared.sink.Stop.TheVariants.{At, Deep}
+use Rattle.b2_atom.specs.declared.sink.Stop.TheVariants.{At}
 use Rattle.b2_atom.specs.declared.words.Origin.{Origin}
 use Rattle.b2_atom.specs.declared.words.Origin.TheVariants as origin
 use Rattle.b2_atom.specs.declared.forms.Start.{Start}
 use Rattle.b2_atom.specs.declared.forms.Place.{Place}
 use Rattle.b2_atom.specs.declared.forms.Item.{Item}
-use Rattle.b2_atom.specs.Grammar.{Reader, reader, items, item, level, deep, statement, many, row_items, starts, absent, part, read_line, chosen, statement_row}
+use Rattle.b2_atom.specs.Grammar.{Reader, reader, items, item, level, statement, many, row_items, starts, absent, part, read_line, chosen, statement_row}
 
 pub put_all-also : (s : Seen) (a b : Trees) → put_all s (also a b) ≡ put_all (put_all s a) b
 put_all-also s Done b = refl
@@ -173,13 +173,13 @@ put_all-listed bs w o Done = ap (λ (l : Text). Listed l w o) (sym (append-nil b
 put_all-listed bs w o (Put t ts) =
     put_all-listed (bs ++ spaced (is_apart w o t) (spelled t)) (ends_wordy t) (is_operand t) ts
     ∙ ap (λ (l : Text). Listed l (ending ends_wordy (ends_wordy t) (tokens ts)) (ending is_operand (is_operand t) (tokens ts)))
-      (append_assoc bs (spaced (is_apart w o t) (spelled t)) (listed (ends_wordy t) (is_operand t) (tokens ts)))
+    (append_assoc bs (spaced (is_apart w o t) (spelled t)) (listed (ends_wordy t) (is_operand t) (tokens ts)))
 put_all-listed bs w o (In n i ts) =
     ap (λ (s : Seen). put_all s ts) (put_all-listed bs w o i)
     ∙ put_all-listed (bs ++ listed w o (tokens i)) (ending ends_wordy w (tokens i)) (ending is_operand o (tokens i)) ts
     ∙ (λ j. Listed ((append_assoc bs (listed w o (tokens i)) (listed (ending ends_wordy w (tokens i)) (ending is_operand o (tokens i)) (tokens ts))
-      ∙ ap (λ (l : Text). bs ++ l) (sym (listed-append w o (tokens i) (tokens ts)))) j)
-      (sym (ending-append ends_wordy w (tokens i) (tokens ts)) j) (sym (ending-append is_operand o (tokens i) (tokens ts)) j))
+    ∙ ap (λ (l : Text). bs ++ l) (sym (listed-append w o (tokens i) (tokens ts)))) j)
+    (sym (ending-append ends_wordy w (tokens i) (tokens ts)) j) (sym (ending-append is_operand o (tokens i) (tokens ts)) j))
 
 pub shown : (n : Seen) (rest : Text) (o : Outcome) → emitted (Listed [] false false) o ≡ Ok (n, rest) → source_of o ≡ Ok (bytes_of n)
 shown n rest (Err e) is = cc

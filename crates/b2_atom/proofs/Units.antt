@@ -1,9 +1,9 @@
 -- The units of a line one after another.
-use Rattle.std.proofs.Common.{◌≡◌, ℕ, zero, suc, ◌+◌, ◌-◌, ◌<◌, ◌≤◌, ◌==◌, ◌&&◌, nat_lt, Bool, true, false, List, [], ◌∷◌, length, refl, sym, ap, ◌∙◌, arith, if◌then◌else◌, add-one, Option}
+use Rattle.std.proofs.Common.{◌≡◌, ℕ, suc, ◌+◌, ◌-◌, ◌<◌, ◌==◌, true, false, List, [], ◌∷◌, length, refl, sym, ap, ◌∙◌, arith}
 use Rattle.std.proofs.lemmas.Bool.Decides.{nat_tests}
 use Rattle.std.specs.Prelude.{slice_get}
 use Rattle.b2_atom.specs.Words.{Text}
-use Rattle.b2_atom.specs.Lines.{LineUnit, unit_at, units_from, further, behind_unit, next_place, next_text, further_unit, is_further}
+use Rattle.b2_atom.specs.Lines.{LineUnit, unit_at, units_from, further, behind_unit, next_place, next_text}
 use Rattle.b2_atom.specs.declared.forms.Place.{Place}
 
 some_left : (n i : ℕ) → i < n → suc (n - (i + 1)) ≡ n - i

@@ -1,10 +1,10 @@
 -- Reading by the table: what begins a part, items, rows, statements and lines, from a source as from atoms.
-use Rattle.std.specs.Prelude.{◌≡◌, ℕ, zero, suc, ◌+◌, ◌-◌, ◌*◌, ◌/◌, ◌%◌, ◌&&◌, ◌||◌, ◌==◌, not, nat_le, nat_lt, min, Bool, true, false, List, [], ◌∷◌, ◌++◌, length, take, drop, map, get_or, if◌then◌else◌, Result, Ok, Err}
+use Rattle.std.specs.Prelude.{ℕ, zero, suc, ◌+◌, ◌-◌, ◌*◌, ◌/◌, ◌%◌, ◌&&◌, ◌||◌, ◌==◌, nat_le, nat_lt, min, Bool, true, false, List, [], ◌∷◌, length, take, drop, get_or, if◌then◌else◌, Result, Ok, Err}
 use Rattle.b2_atom.specs.Words.{Text, is_source, kept, begins_with, ahead, first, skipped}
-use Rattle.b2_atom.specs.Tokens.{Token, kept_text}
-use Rattle.b2_atom.specs.Tree.{Trees, Outcome, Got, Parser, one, nothing, also, joined, and_then, under}
+use Rattle.b2_atom.specs.Tokens.{kept_text}
+use Rattle.b2_atom.specs.Tree.{Outcome, Got, Parser, one, nothing, and_then, under}
 use Rattle.b2_atom.specs.Tokens.Token.{Coded, Plain, Lined}
-use Rattle.b2_atom.specs.Tree.Trees.{Done, Put, In}
+use Rattle.b2_atom.specs.Tree.Trees.{Done, In}
 use Rattle.b2_atom.specs.Leaves.{is_digit, is_letter, is_hex, is_alpha_name, any_name_width, numeric_name_width, digits, leaf_width, missing, refused, all_printable}
 use Rattle.b2_atom.specs.Table.{rows_0, rows_1, rows_2, rows_3, forms}
 use Rattle.b2_atom.specs.declared.words.TheConstants as word

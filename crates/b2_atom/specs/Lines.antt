@@ -1,8 +1,8 @@
 -- Lines as atoms: which lists of bytes spell a line, and its units.
-use Rattle.std.specs.Prelude.{◌≡◌, ℕ, zero, suc, ◌+◌, ◌-◌, ◌&&◌, ◌==◌, nat_le, nat_lt, Bool, true, false, List, [], ◌∷◌, length, take, drop, if◌then◌else◌, Result, Ok, Err, is_ok}
+use Rattle.std.specs.Prelude.{ℕ, zero, suc, ◌-◌, ◌&&◌, ◌==◌, nat_le, nat_lt, Bool, true, false, List, [], ◌∷◌, length, take, drop, if◌then◌else◌, Result, Ok, Err, is_ok}
 use Rattle.b2_atom.specs.Words.{Text, first}
 use Rattle.b2_atom.specs.Tokens.{listed}
-use Rattle.b2_atom.specs.Tree.{Trees, Outcome, atoms, tokens}
+use Rattle.b2_atom.specs.Tree.{Outcome, atoms, tokens}
 use Rattle.b2_atom.specs.Grammar.{reader, statement, read_line}
 use Rattle.b2_atom.specs.declared.words.Origin.{Origin}
 use Rattle.b2_atom.specs.declared.words.Origin.TheVariants as origin

@@ -4,7 +4,9 @@ ghost use Rattle.b2_atom.specs.Leaves as spec;
 
 use crate::forms::Leaf;
 use crate::sink::Stop;
-use crate::words::{LEFT_OUT, Origin, ahead, at, begins_with, dropped, first, kept, skipped, upper};
+use crate::words::{
+    LEFT_OUT, Origin, ahead, at, begins_with, dropped, first, kept, skipped, upper,
+};
 
 pub fn is_digit(byte: u8) -> bool
     ensures { result ≡ spec.is_digit byte }
@@ -296,10 +298,7 @@ fn hex_digit_width(origin: Origin, text: &[u8]) -> usize
 fn address_width(origin: Origin, text: &[u8]) -> usize
     ensures { result ≡ spec.address_width origin text.now }
 {
-    if is_hex_at(origin, text, 0)
-        && is_hex_at(origin, text, 1)
-        && is_hex_at(origin, text, 2)
-    {
+    if is_hex_at(origin, text, 0) && is_hex_at(origin, text, 1) && is_hex_at(origin, text, 2) {
         3
     } else {
         0
@@ -424,8 +423,5 @@ fn missing_literal(origin: Origin, code: u8, text: &[u8]) -> Stop
         return Stop::At(18, text.len());
     }
     let count = until_quote(dropped(text, 1));
-    Stop::At(
-        19,
-        text.len().saturating_sub(count.saturating_add(1)),
-    )
+    Stop::At(19, text.len().saturating_sub(count.saturating_add(1)))
 }

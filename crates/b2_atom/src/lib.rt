@@ -1,4 +1,15 @@
-//! Atoms.
+//! The language as atoms.
+//!
+//! The whole language is one table of forms: what a line, an expression and each statement are made of. One walk over it
+//! reads typed lines as well as atoms, and writes nothing, atoms or the canonical source. Adding a statement is adding a
+//! row.
+//!
+//! Stands on `b2_base`. `Atoms::of` is None exactly on lists of bytes that spell no line; `read_source` gives the atoms of
+//! a typed line, or the first code and its place; `Atoms::source` gives the canonical source of a line.
+//!
+//! The definitions are in `specs/`: the words in `Words`, tokens and their source in `Tokens`, trees in `Tree`, what is
+//! typed by hand in `Leaves`, the language's own table in `Table`, reading by it in `Grammar`, and lines with their units
+//! in `Lines`.
 #![tactic(auto)]
 
 ghost use Rattle.std.specs.Prelude.{◌≡◌, map};
@@ -13,17 +24,18 @@ mod rows;
 mod sink;
 mod starts;
 mod table;
-mod walk;
 #[cfg(test)]
 mod tests;
+mod walk;
 mod words;
 
+pub use line::{Atoms, Cursor, read_source};
 pub use sink::Stop;
-pub use words::Origin;
 use table::{FORMS, ROWS_0, ROWS_1, ROWS_2, ROWS_3};
+pub use words::Origin;
 use words::WORDS;
 
-/// The code's table is the language's.
+/// The table and the words that the code walks over are the language's.
 pub fn table_is_the_language()
     ensures first { map (λ r. r.now) ROWS_0 ≡ spec.rows_0 }
     ensures second { map (λ r. r.now) ROWS_1 ≡ spec.rows_1 }
@@ -32,5 +44,3 @@ pub fn table_is_the_language()
     ensures statements { FORMS ≡ spec.forms }
     ensures words { map (λ w. w.now) WORDS ≡ texts }
 {}
-
-pub use line::{Atoms, Cursor, read_source};

@@ -80,11 +80,7 @@ fn program_word<'a>(
 
 // Reads a comma, which a source may leave out.
 #[tactic(auto, unfolding(crate::specs::Grammar::comma))]
-fn comma<'a>(
-    out: &mut Sink,
-    origin: Origin,
-    text: &'a [u8],
-) -> Result<&'a [u8], Stop>
+fn comma<'a>(out: &mut Sink, origin: Origin, text: &'a [u8]) -> Result<&'a [u8], Stop>
     ensures gives { MatchResult result (λ rest. Gives (seen out.old) (spec.comma origin text.now) (seen out.new) rest.now) (λ e. Stops (seen out.old) (spec.comma origin text.now) e) }
     ensures memory { IfErr result (IsFree (seen out.old)) }
     ensures silent { is_silent (seen out.new) ≡ is_silent (seen out.old) }
@@ -165,11 +161,7 @@ fn is_decimal(byte: u8) -> bool
 }
 
 // Reads a line number from atoms.
-fn atoms_line_number<'a>(
-    out: &mut Sink,
-    code: u8,
-    text: &'a [u8],
-) -> Result<&'a [u8], Stop>
+fn atoms_line_number<'a>(out: &mut Sink, code: u8, text: &'a [u8]) -> Result<&'a [u8], Stop>
     ensures gives { MatchResult result (λ rest. Gives (seen out.old) (spec.atoms_line_number code text.now) (seen out.new) rest.now) (λ e. Stops (seen out.old) (spec.atoms_line_number code text.now) e) }
     ensures memory { IfErr result (IsFree (seen out.old)) }
     ensures silent { is_silent (seen out.new) ≡ is_silent (seen out.old) }
@@ -202,11 +194,7 @@ fn line_number<'a>(
 }
 
 // Reads everything to the line's end.
-fn text_to_end<'a>(
-    out: &mut Sink,
-    code: u8,
-    text: &'a [u8],
-) -> Result<&'a [u8], Stop>
+fn text_to_end<'a>(out: &mut Sink, code: u8, text: &'a [u8]) -> Result<&'a [u8], Stop>
     ensures gives { MatchResult result (λ rest. Gives (seen out.old) (spec.text_to_end code text.now) (seen out.new) rest.now) (λ e. Stops (seen out.old) (spec.text_to_end code text.now) e) }
     ensures memory { IfErr result (IsFree (seen out.old)) }
     ensures silent { is_silent (seen out.new) ≡ is_silent (seen out.old) }
@@ -262,11 +250,7 @@ fn read_leaf<'a>(
 
 // Reads the line's end.
 #[tactic(auto, unfolding(crate::specs::Grammar::end_of_line))]
-fn end_of_line<'a>(
-    out: &mut Sink,
-    origin: Origin,
-    text: &'a [u8],
-) -> Result<&'a [u8], Stop>
+fn end_of_line<'a>(out: &mut Sink, origin: Origin, text: &'a [u8]) -> Result<&'a [u8], Stop>
     ensures gives { MatchResult result (λ rest. Gives (seen out.old) (spec.end_of_line origin text.now) (seen out.new) rest.now) (λ e. Stops (seen out.old) (spec.end_of_line origin text.now) e) }
     ensures memory { IfErr result (IsFree (seen out.old)) }
     ensures silent { is_silent (seen out.new) ≡ is_silent (seen out.old) }
@@ -308,4 +292,3 @@ pub fn read_item<'a>(
         | Item::Statement(_) => Err(Stop::At(14, 0)),
     }
 }
-

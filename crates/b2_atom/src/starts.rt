@@ -3,7 +3,9 @@ ghost use Rattle.std.specs.Prelude.{◌≡◌, ◌≢◌, ◌<◌, length, IfErr
 ghost use Rattle.b2_atom.specs.Grammar as spec;
 
 use crate::forms::{Form, Place, Rule, Start};
-use crate::leaves::{any_name_width, is_alpha_name, is_digit, is_hex, is_letter, numeric_name_width, refused};
+use crate::leaves::{
+    any_name_width, is_alpha_name, is_digit, is_hex, is_letter, numeric_name_width, refused,
+};
 use crate::rows;
 use crate::sink::Stop;
 use crate::table::FORMS;

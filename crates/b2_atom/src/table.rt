@@ -2,8 +2,7 @@
 // definition's own table stands in specs/Table.antt, and `Table` below says that the two are one.
 
 use crate::forms::{Form, Item, Leaf, Place, Rule, Start};
-use crate::rows;
-use crate::words;
+use crate::{rows, words};
 
 /// The rows from 0 on.
 #[rattlefmt::skip]

@@ -14,108 +14,211 @@ pub enum Origin {
 pub const LEFT_OUT: u8 = 1;
 
 pub const REM: u8 = 0x80;
+
 pub const DIM: u8 = 0x81;
+
 pub const COM: u8 = 0x82;
+
 pub const GOTO: u8 = 0x83;
+
 pub const GOSUB: u8 = 0x84;
+
 pub const GOSUB_PRIME: u8 = 0x85;
+
 pub const RETURN: u8 = 0x86;
+
 pub const CLEAR: u8 = 0x87;
+
 pub const ALL: u8 = 0x88;
+
 pub const ON: u8 = 0x89;
+
 pub const IF: u8 = 0x8A;
+
 pub const THEN: u8 = 0x8B;
+
 pub const ELSE: u8 = 0x8C;
+
 pub const END: u8 = 0x8D;
+
 pub const FOR: u8 = 0x8E;
+
 pub const TO: u8 = 0x8F;
+
 pub const STEP: u8 = 0x90;
+
 pub const NEXT: u8 = 0x91;
+
 pub const STOP: u8 = 0x92;
+
 pub const DEFFN: u8 = 0x93;
+
 pub const DEFFN_PRIME: u8 = 0x94;
+
 pub const FN: u8 = 0x95;
+
 pub const ERROR: u8 = 0x96;
+
 pub const READ: u8 = 0x97;
+
 pub const DATA: u8 = 0x98;
+
 pub const RESTORE: u8 = 0x99;
+
 pub const LINE: u8 = 0x9A;
+
 pub const SELECT: u8 = 0x9B;
+
 pub const PRINT: u8 = 0x9C;
+
 pub const PRINTUSING: u8 = 0x9D;
+
 pub const INPUT: u8 = 0x9E;
+
 pub const LINPUT: u8 = 0x9F;
+
 pub const KEYIN: u8 = 0xA0;
+
 pub const DISK: u8 = 0xA1;
+
 pub const NO: u8 = 0xA2;
+
 pub const GLOBAL_PART: u8 = 0xA3;
+
 pub const DOLLAR_BREAK: u8 = 0xA4;
+
 pub const DOLLAR_OPEN: u8 = 0xA5;
+
 pub const DOLLAR_CLOSE: u8 = 0xA6;
+
 pub const INIT_OPEN: u8 = 0xA7;
+
 pub const CONVERT: u8 = 0xA8;
+
 pub const ROTATE_OPEN: u8 = 0xA9;
+
 pub const ROTATEC_OPEN: u8 = 0xAA;
+
 pub const PACK_OPEN: u8 = 0xAB;
+
 pub const UNPACK_OPEN: u8 = 0xAC;
+
 pub const DOLLAR_PACK_OPEN: u8 = 0xAD;
+
 pub const DOLLAR_UNPACK_OPEN: u8 = 0xAE;
+
 pub const FROM: u8 = 0xAF;
+
 pub const MAT: u8 = 0xB0;
+
 pub const CON: u8 = 0xB1;
+
 pub const ZER: u8 = 0xB2;
+
 pub const IDN: u8 = 0xB3;
+
 pub const TRN_OPEN: u8 = 0xB4;
+
 pub const REDIM: u8 = 0xB5;
+
 pub const SEARCH: u8 = 0xB6;
+
 pub const MOVE: u8 = 0xB7;
+
 pub const SORT: u8 = 0xB8;
+
 pub const COPY: u8 = 0xB9;
+
 pub const DATASAVE: u8 = 0xBA;
+
 pub const DATALOAD: u8 = 0xBB;
+
 pub const DC: u8 = 0xBC;
+
 pub const OPEN: u8 = 0xBD;
+
 pub const DSKIP: u8 = 0xBE;
+
 pub const DBACKSPACE: u8 = 0xBF;
+
 pub const LIMITS: u8 = 0xC0;
+
 pub const SCRATCH: u8 = 0xC1;
+
 pub const LS: u8 = 0xC2;
+
 pub const LIST: u8 = 0xC3;
+
 pub const RUN: u8 = 0xC4;
+
 pub const CONTINUE: u8 = 0xC5;
+
 pub const LOAD: u8 = 0xC6;
+
 pub const SAVE: u8 = 0xC7;
+
 pub const TAB_OPEN: u8 = 0xC8;
+
 pub const HEXOF_OPEN: u8 = 0xC9;
+
 pub const HEX_OPEN: u8 = 0xCA;
+
 pub const STR_OPEN: u8 = 0xCB;
+
 pub const BIN_OPEN: u8 = 0xCC;
+
 pub const AND: u8 = 0xCD;
+
 pub const OR: u8 = 0xCE;
+
 pub const XOR: u8 = 0xCF;
+
 pub const BOOL: u8 = 0xD0;
+
 pub const ADD: u8 = 0xD1;
+
 pub const ADDC: u8 = 0xD2;
+
 pub const SUB: u8 = 0xD3;
+
 pub const SUBC: u8 = 0xD4;
+
 pub const DAC: u8 = 0xD5;
+
 pub const DSC: u8 = 0xD6;
+
 pub const ABS_OPEN: u8 = 0xD7;
+
 pub const INT_OPEN: u8 = 0xD8;
+
 pub const FIX_OPEN: u8 = 0xD9;
+
 pub const SGN_OPEN: u8 = 0xDA;
+
 pub const SQR_OPEN: u8 = 0xDB;
+
 pub const ROUND_OPEN: u8 = 0xDC;
+
 pub const MOD_OPEN: u8 = 0xDD;
+
 pub const MAX_OPEN: u8 = 0xDE;
+
 pub const MIN_OPEN: u8 = 0xDF;
+
 pub const LEN_OPEN: u8 = 0xE0;
+
 pub const NUM_OPEN: u8 = 0xE1;
+
 pub const POS_OPEN: u8 = 0xE2;
+
 pub const VAL_OPEN: u8 = 0xE3;
+
 pub const ERR: u8 = 0xE4;
+
 pub const HASH_PART: u8 = 0xE5;
+
 pub const HASH_TERM: u8 = 0xE6;
+
 pub const ROUND: u8 = 0xE7;
 
 /// The words in the order of their codes, and behind them those that this machine leaves out.

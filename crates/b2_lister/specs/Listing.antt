@@ -1,5 +1,5 @@
 -- A line as it is listed.
-use Rattle.std.specs.Prelude.{ℕ, ◌+◌, ◌/◌, ◌%◌, List, [], ◌∷◌, ◌++◌, Ok, Err, Result}
+use Rattle.std.specs.Prelude.{ℕ, ◌+◌, ◌/◌, ◌%◌, [], ◌∷◌, ◌++◌, Ok, Err, Result}
 use Rattle.b2_atom.specs.Words.{Text}
 use Rattle.b2_atom.specs.Tokens.{without_zeros}
 use Rattle.b2_atom.specs.Lines.{line_source}

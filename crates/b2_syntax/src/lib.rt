@@ -10,8 +10,8 @@ ghost use Rattle.std.specs.Prelude.{◌≡◌, ◌≢◌, ◌≤◌, ◌<◌, �
 ghost use Rattle.b2_syntax.specs.Reading as spec;
 
 use b2_atom::{Atoms, Origin, Stop, read_source};
-use b2_base::{Code, NoMemory};
 use b2_base::codes::{A04_TOO_DEEP, A05_LINE_TOO_LONG, A07_LINE_NUMBER, S14_STATEMENT, S29_BYTE};
+use b2_base::{Code, NoMemory};
 use std::alloc::Global;
 
 #[cfg(test)]

@@ -2,20 +2,27 @@
 use crate::{Entered, LineErr, read};
 use std::test::Fail;
 
+/// A code and a column.
+fn told(rt: &HostRuntime, error: LineErr) -> Result<Vec<u8>, Fail> {
+    let mut out = Vec::new(rt.alloc());
+    if let LineErr::At(code, column) = error {
+        out.push(code.number())?;
+        out.push(column.min(255) as u8)?;
+    }
+    Ok(out)
+}
+
 /// What a line was read as: its number, or 10000 for an immediate one, and its atoms.
 fn taken(rt: &HostRuntime, line: &[u8]) -> Result<(u16, Vec<u8>), Fail> {
     match read(rt.alloc(), line) {
-        Ok(Entered::Numbered(number, atoms)) => Ok((number, Vec::from_slice(rt.alloc(), atoms.bytes())?)),
+        Ok(Entered::Numbered(number, atoms)) => Ok((
+            number,
+            Vec::from_slice(rt.alloc(), atoms.bytes())?,
+        )),
         Ok(Entered::Immediate(atoms)) => Ok((10000, Vec::from_slice(rt.alloc(), atoms.bytes())?)),
         Ok(Entered::Delete(number)) => Ok((number, Vec::new(rt.alloc()))),
         Ok(Entered::Empty) => Ok((10001, Vec::new(rt.alloc()))),
-        Err(LineErr::At(code, column)) => {
-            let mut told = Vec::new(rt.alloc());
-            told.push(code.number())?;
-            told.push(column.min(255) as u8)?;
-            Ok((10002, told))
-        }
-        Err(LineErr::NoMemory) => Ok((10003, Vec::new(rt.alloc()))),
+        Err(error) => Ok((10002, told(rt, error)?)),
     }
 }
 

@@ -1,5 +1,5 @@
-use Rattle.std.proofs.Common.{◌≡◌, ◌+◌, ◌-◌, ◌<◌, ◌&&◌, nat_lt, Bool, false, if◌then◌else◌, ◌∙◌, arith, ap, sym, length, List, ℕ, suc, add-one, [], ◌∷◌}
-use Rattle.b2_atom.specs.Lines.{LineUnit, units_from, unit_at, next_place, next_text, further_unit, is_further}
+use Rattle.std.proofs.Common.{◌≡◌, ◌+◌, ◌-◌, ◌&&◌, nat_lt, Bool, false, if◌then◌else◌, ◌∙◌, ap, sym, length, List, ℕ, suc, add-one, [], ◌∷◌}
+use Rattle.b2_atom.specs.Lines.{LineUnit, units_from, unit_at, further_unit, is_further}
 use Rattle.b2_atom.proofs.Units.{next_units, last_unit}
 use Rattle.b2_atom.proofs.line.further_unit.Goals as goal
 

@@ -1,6 +1,6 @@
-use Rattle.std.proofs.Common.{◌≡◌, ◌+◌, ◌-◌, ◌<◌, ◌∙◌, arith, ap, sym, length, List, ℕ, Option}
+use Rattle.std.proofs.Common.{◌+◌, ◌-◌, ◌<◌, ◌∙◌, arith, ap, sym, length, List}
 use Rattle.std.specs.Prelude.{slice_get}
-use Rattle.b2_atom.specs.Lines.{LineUnit, units_from, unit_at, next_place, next_text}
+use Rattle.b2_atom.specs.Lines.{LineUnit, units_from, unit_at}
 use Rattle.b2_atom.proofs.Units.{next_units, get_next}
 use Rattle.b2_atom.proofs.line.unit_bytes.Goals as goal
 

@@ -1,11 +1,11 @@
-use Rattle.std.proofs.Common.{rules, arith, sym, ap, subst, ◌∙◌, ◌≡◌, ◌≢◌, ◌<◌, true, false, length, ◌-◌, Result, Ok, Err}
+use Rattle.std.proofs.Common.{rules, arith, sym, subst, ◌∙◌, ◌≡◌, ◌≢◌, ◌<◌, true, false, Result, Ok, Err}
 use Rattle.std.specs.Result.{MatchResult}
 use Rattle.b2_atom.specs.Words.{Text}
 use Rattle.b2_atom.specs.Tree.{Seen, Trees, seen, Gives, Stops}
 use Rattle.b2_atom.specs.declared.sink.Stop.{Stop}
 use Rattle.b2_atom.specs.declared.sink.Stop.TheVariants.{NoMemory}
 use Rattle.std.proofs.lemmas.Grind.{common_steps}
-use Rattle.b2_atom.specs.Grammar.{starts, item, items, many, level, deep, statement, part, reader, read_item}
+use Rattle.b2_atom.specs.Grammar.{starts, item, level, deep, statement, part, reader, read_item}
 use Rattle.b2_atom.proofs.Binds.{emitted-under, next_item, no_item, row_end, row_of_part, once_more, once_failed, many_end, many_out, statement_ok, statement_err}
 use Rattle.b2_atom.proofs.walk.+walk.Goals as goal
 
@@ -100,6 +100,6 @@ pub take_item-returns-in-Word : goal.take_item-returns-in-Word
 unfolding item
 take_item-returns-in-Word t c =
     let own : item (statement (reader c.args.origin) c.args.fuel) (deep (reader c.args.origin) (statement (reader c.args.origin) c.args.fuel) c.args.room) (part c.args.origin c.args.fuel c.args.room c.args.level) (reader c.args.origin) c.args.item c.args.text.now
-        ≡ read_item c.args.origin c.args.item c.args.text.now = grind (arith, common_steps, c.in-Word.is) in
+    ≡ read_item c.args.origin c.args.item c.args.text.now = grind (arith, common_steps, c.in-Word.is) in
     let P : Result (Trees × Text) Stop → Type 0 = λ x. MatchResult c.read_item.result (λ rest. Gives (seen c.args.out.now) x (seen c.read_item.new.out) rest.now) (λ e. Stops (seen c.args.out.now) x e) in
     record { gives = subst P (sym own) c.read_item.ensures.gives; memory = c.read_item.ensures.memory; silent = c.read_item.ensures.silent }

@@ -1,6 +1,6 @@
-use Rattle.std.proofs.Common.{◌≡◌, ◌≤◌, ◌<◌, length, ℕ, suc, ◌+◌, ◌-◌, ◌*◌}
+use Rattle.std.proofs.Common.{◌≡◌, length, ◌+◌, ◌-◌, ◌*◌}
 use Rattle.b2_atom.specs.Tree.{seen, is_silent, emitted}
-use Rattle.b2_atom.specs.Grammar.{reader, level, deep, statement, items, many, part, row_items}
+use Rattle.b2_atom.specs.Grammar.{reader, deep, statement, items, many, part}
 use Rattle.b2_atom.proofs.walk.+walk.Given as goal
 
 abbrev pub decreases-statement : goal.decreases-statement
