@@ -5,3 +5,4 @@ pub mod Leaves
 pub mod Table
 pub mod Grammar
 pub mod Lines
+pub mod Laws

@@ -17,6 +17,7 @@ ghost use Rattle.b2_atom.specs.Table as spec;
 ghost use Rattle.b2_atom.specs.Words.{texts};
 
 mod forms;
+mod laws;
 mod leaves;
 mod line;
 mod marks;
@@ -29,6 +30,7 @@ mod tests;
 mod walk;
 mod words;
 
+pub use laws::{each_line_spells_a_tree, no_two_trees_share_atoms};
 pub use line::{Atoms, Cursor, read_source};
 pub use sink::Stop;
 use table::{FORMS, ROWS_0, ROWS_1, ROWS_2, ROWS_3};
