@@ -1,5 +1,5 @@
 -- Lines as atoms: which lists of bytes spell a line, and its units.
-use Rattle.std.specs.Prelude.{ℕ, zero, suc, ◌-◌, ◌&&◌, ◌==◌, nat_le, nat_lt, Bool, true, false, List, [], ◌∷◌, length, take, drop, if◌then◌else◌, Result, Ok, Err, is_ok}
+use Rattle.std.specs.Prelude.{◌≡◌, ℕ, zero, suc, ◌-◌, ◌&&◌, ◌==◌, nat_le, nat_lt, Bool, true, false, List, [], ◌∷◌, length, take, drop, if◌then◌else◌, Result, Ok, Err, is_ok}
 use Rattle.b2_atom.specs.Words.{Text, first}
 use Rattle.b2_atom.specs.Tokens.{listed}
 use Rattle.b2_atom.specs.Tree.{Outcome, atoms, tokens}
@@ -7,6 +7,7 @@ use Rattle.b2_atom.specs.Grammar.{reader, statement, read_line}
 use Rattle.b2_atom.specs.declared.words.Origin.{Origin}
 use Rattle.b2_atom.specs.declared.words.Origin.TheVariants as origin
 use Rattle.b2_atom.specs.declared.sink.Stop.{Stop}
+use Rattle.b2_atom.specs.declared.sink.Stop.TheVariants.{At, Deep, NoMemory}
 use Rattle.b2_atom.specs.declared.forms.Place.{Place}
 use Rattle.b2_atom.specs.declared.forms.Place.TheVariants.{First, Further, Following}
 
@@ -22,6 +23,15 @@ atoms_of (Err e) = Err e
 -- the atom bytes of a line, or why it isn't read
 unfoldable pub line_atoms : Origin → Text → Result Text Stop
 line_atoms o t = atoms_of (read_line o t)
+
+-- a refusal's code is a number from 1 to 99
+abbrev pub good_code : ℕ → Bool
+good_code c = nat_le 1 c && nat_le c 99
+
+abbrev pub IsKnown : Stop → Type 0
+IsKnown (At code left) = good_code code ≡ true
+IsKnown Deep = Unit {0}
+IsKnown NoMemory = Unit {0}
 
 -- the canonical source of what was read
 abbrev pub source_of : Outcome → Result Text Stop

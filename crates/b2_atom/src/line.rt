@@ -1,7 +1,7 @@
 // Lines as atoms, their units, and a cursor over the bytes of one.
-ghost use Rattle.std.specs.Prelude.{◌≡◌, ◌≢◌, ◌≤◌, ◌<◌, ◌&&◌, nat_lt, length, drop, IfOk, MatchResult, Some, None, if◌then◌else◌, true, slice_get};
+ghost use Rattle.std.specs.Prelude.{◌≡◌, ◌≢◌, ◌≤◌, ◌<◌, ◌&&◌, nat_lt, length, drop, IfErr, IfOk, MatchResult, Some, None, if◌then◌else◌, true, slice_get};
 ghost use Rattle.std.specs.Option.{option_map};
-ghost use Rattle.b2_atom.specs.Lines.{is_line, line_atoms, line_source, behind_unit, next_place, next_text, units_of, further_unit, is_further};
+ghost use Rattle.b2_atom.specs.Lines.{IsKnown, is_line, line_atoms, line_source, behind_unit, next_place, next_text, units_of, further_unit, is_further};
 
 use crate::forms::Place;
 use crate::sink::{Sink, Source, Stop, bytes_of};
@@ -60,7 +60,8 @@ fn spells_line(bytes: &[u8]) -> bool
 /// Reads a typed line without its number, and gives its atom bytes.
 #[tactic(auto, using(crate::proofs::Binds::held, crate::proofs::Binds::held_none), unfolding(crate::specs::Lines::line_atoms))]
 pub fn read_source(alloc: Global, origin: Origin, text: &[u8]) -> Result<Vec<u8>, Stop>
-    ensures { MatchResult result (λ bytes. line_atoms origin text.now ≡ Ok bytes.items) (λ e. e ≢ Stop.NoMemory → line_atoms origin text.now ≡ Err e) }
+    ensures known { IfErr result IsKnown }
+    ensures read { MatchResult result (λ bytes. line_atoms origin text.now ≡ Ok bytes.items) (λ e. e ≢ Stop.NoMemory → line_atoms origin text.now ≡ Err e) }
 {
     let mut sink = Sink::Written(Vec::new(alloc));
     match read_line(&mut sink, origin, text) {

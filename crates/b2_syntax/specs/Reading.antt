@@ -1,6 +1,5 @@
 -- What a typed line means: nothing, a deletion, a line of a program or an immediate line, or what is missing where.
-use Rattle.std.specs.Prelude.{ℕ, zero, suc, ◌+◌, ◌-◌, ◌*◌, ◌&&◌, ◌==◌, nat_le, nat_lt, min, Bool, true, false, List, [], ◌∷◌, length, Option, Some, None, if◌then◌else◌, Result, Ok, Err}
-use Rattle.b2_base.specs.Codes.{code_of}
+use Rattle.std.specs.Prelude.{ℕ, zero, suc, ◌+◌, ◌-◌, ◌*◌, ◌&&◌, ◌==◌, nat_le, nat_lt, min, Bool, true, false, List, [], ◌∷◌, length, if◌then◌else◌, Result, Ok, Err}
 use Rattle.b2_atom.specs.Words.{Text}
 use Rattle.b2_atom.specs.Lines.{line_atoms, is_line}
 use Rattle.b2_atom.specs.declared.words.Origin.{Origin}
@@ -36,13 +35,9 @@ abbrev pub number : ℕ → Text → ℕ
 number n [] = n
 number n (b ∷ bs) = if is_digit b then number (min (n * 10 + (b - 48)) 10000) bs else n
 
-abbrev pub coded : Option ℕ → ℕ → LineErr
-coded (Some c) column = At c column
-coded None column = At 14 0
-
 -- a refusal of the table, as one of a line of so many bytes: the column is one more than the bytes before the place
 abbrev pub refusal : Stop → ℕ → LineErr
-refusal (stop.At code left) n = coded (code_of code) (n - left + 1)
+refusal (stop.At code left) n = At code (n - left + 1)
 refusal stop.Deep n = At 4 0
 refusal stop.NoMemory n = NoMemory
 

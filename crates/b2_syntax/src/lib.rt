@@ -7,6 +7,7 @@
 #![tactic(auto)]
 
 ghost use Rattle.std.specs.Prelude.{◌≡◌, ◌≢◌, ◌≤◌, ◌<◌, ◌^◌, length, MatchResult};
+ghost use Rattle.b2_atom.specs.Lines.{IsKnown};
 ghost use Rattle.b2_syntax.specs.Reading as spec;
 
 use b2_atom::{Atoms, Origin, Stop, read_source};
@@ -111,14 +112,15 @@ fn number(line: &[u8]) -> u16
 
 // A refusal of the table as the refusal of a line of so many bytes.
 fn refusal(stop: Stop, length: usize) -> LineErr
-    requires { length < 2 ^ 63 }
+    requires known { IsKnown stop }
+    requires short { length < 2 ^ 63 }
     ensures { result ≡ spec.refusal stop length }
 {
     match stop {
-        Stop::At(code, left) => match Code::new(code) {
-            Some(code) => LineErr::At(code, length.saturating_sub(left).saturating_add(1)),
-            None => LineErr::At(Code::known(S14_STATEMENT), 0),
-        },
+        Stop::At(code, left) => LineErr::At(
+            Code::known(code),
+            length.saturating_sub(left).saturating_add(1),
+        ),
         Stop::Deep => LineErr::At(Code::known(A04_TOO_DEEP), 0),
         Stop::NoMemory => LineErr::NoMemory,
     }
