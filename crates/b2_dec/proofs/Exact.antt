@@ -1,5 +1,5 @@
 -- Thirteen digits or fewer are rounded to themselves.
-use Rattle.std.proofs.Common.{◌≡◌, ◌≢◌, ℕ, zero, suc, ◌+◌, ◌-◌, ◌*◌, ◌/◌, ◌^◌, ◌<◌, ◌≤◌, ◌==◌, nat_lt, Bool, true, false, Result, Ok, sym, refl, ap, ◌∙◌, subst, arith, pow-add, ne_eqb, le-ltb, mul-div_cancel, lit<, lit≤, mul_assoc, mul_comm, mul-pos, lt_of_lt_of_le, lt_of_le_of_lt, add-sub_of_le, mul-le-mul_right, add-mul, one-mul, le_of_eq, add-sub_cancel, zero-mul, mul-one, inl, inr}
+use Rattle.std.proofs.Common.{◌≡◌, ℕ, ◌+◌, ◌-◌, ◌*◌, ◌^◌, ◌<◌, ◌≤◌, Bool, true, false, Ok, sym, refl, ap, ◌∙◌, subst, arith, pow-add, ne_eqb, le-ltb, mul-div_cancel, lit<, lit≤, mul_assoc, mul-pos, lt_of_le_of_lt, add-sub_of_le, mul-le-mul_right, add-mul, one-mul, le_of_eq, add-sub_cancel, zero-mul, mul-one, inl, inr}
 use Rattle.std.proofs.lemmas.Bool.{cases_lt}
 use native.Mathlib.Nat.{div-eq_of_lt-le, mul-lt-mul_of_pos_right}
 use Rattle.b2_dec.specs.declared.number.Mode.{Mode}
@@ -9,7 +9,7 @@ use Rattle.std.proofs.lemmas.Int.{ints}
 use Rattle.b2_dec.specs.Number.{Number, zero_number, IsNumber, size, signed, value}
 use Rattle.b2_dec.specs.Arithmetic.{sum_of}
 use Rattle.b2_dec.specs.Rounding.{whole_by, rnd, rounded, in_range, fitted, IsWholePart}
-use Rattle.b2_dec.proofs.Powers.{ten_pos, ten_lt}
+use Rattle.b2_dec.proofs.TenLemmas.{ten_pos, ten_lt}
 use Rattle.b2_dec.proofs.Rounds.{rnd-whole_part}
 use Rattle.b2_dec.proofs.Signs.{in_units, rounded-signed, add_comm_ℤ}
 
@@ -108,7 +108,7 @@ signed-zero false n none = rw none refl
 zero-add_ℤ : (z : ℤ) → pos 0 +ℤ z ≡ z
 zero-add_ℤ z = omega (arith, ints)
 
-value-zero : (x : Number) → x.coef ≡ 0 → value x ≡ pos 0
+pub value-zero : (x : Number) → x.coef ≡ 0 → value x ≡ pos 0
 value-zero x none = signed-zero x.neg (size x) (rw none (zero-mul (10 ^ x.place)))
 
 -- Zero changes nothing.

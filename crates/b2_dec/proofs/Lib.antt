@@ -1,4 +1,4 @@
-pub mod Powers
+pub mod TenLemmas
 pub mod Quotients
 pub mod Places
 pub mod Rounds
@@ -6,3 +6,13 @@ pub mod Tens
 pub mod Signs
 pub mod Exact
 pub mod Nearby
+pub mod Factors
+pub mod Ranks
+pub mod Parts
+pub mod Wholes
+pub mod Nibbles
+pub mod Rest
+pub mod Roots
+pub mod Grid
+pub mod Spelled
+pub mod Edges

@@ -1,12 +1,12 @@
 -- Sums in code: the cases of two signs, near and far.
-use Rattle.std.proofs.Common.{◌≡◌, ℕ, ◌+◌, ◌-◌, ◌*◌, ◌^◌, ◌<◌, ◌≤◌, ◌+ℤ◌, Bool, true, false, not, Result, sym, refl, ap, ◌∙◌, subst, arith, lit<, pow-add, mul_assoc, mul-le-mul_right, mul-le-mul, le_trans, lt_of_lt_of_le, add-mul, mul-pos, mul_comm, one-mul, le-mul_of_pos_right}
+use Rattle.std.proofs.Common.{◌≡◌, ℕ, ◌+◌, ◌-◌, ◌*◌, ◌^◌, ◌<◌, ◌≤◌, Bool, true, false, not, Result, sym, ap, ◌∙◌, subst, arith, lit<, pow-add, add-mul, mul-pos, mul_comm, one-mul, le-mul_of_pos_right}
 use native.Mathlib.Nat.{mul-lt-mul_of_pos_right}
 use mathlib.Core.Bool.{beq}
 use Rattle.b2_dec.specs.declared.number.Mode.{Mode}
-use Rattle.b2_dec.specs.Number.{Number, size, value}
-use Rattle.b2_dec.specs.Rounding.{rnd, rounded, IsWholePart}
+use Rattle.b2_dec.specs.Number.{Number, size}
+use Rattle.b2_dec.specs.Rounding.{rnd, IsWholePart}
 use Rattle.b2_dec.specs.Arithmetic.{sum_of}
-use Rattle.b2_dec.proofs.Powers.{ten_pos, ten_le}
+use Rattle.b2_dec.proofs.TenLemmas.{ten_pos, ten_le}
 use Rattle.b2_dec.proofs.Signs.{sum-same, sum-other, sum-turned, sum-same-sizes, sum-other-sizes, size-lower, in_units}
 
 pub same_sign : (a b x y : Bool) → beq a b ≡ true → a ≡ x → b ≡ y → y ≡ x
@@ -21,7 +21,7 @@ other_sign true false x y e p q = sym q ∙ ap not p
 other_sign false true x y e p q = sym q ∙ ap not p
 other_sign false false x y e p q = absurd (cc)
 
-not-back : (x y : Bool) → y ≡ not x → x ≡ not y
+pub not-back : (x y : Bool) → y ≡ not x → x ≡ not y
 not-back true y e = sym (ap not e)
 not-back false y e = sym (ap not e)
 

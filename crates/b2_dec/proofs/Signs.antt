@@ -1,11 +1,11 @@
 -- Sums of numbers with their signs, in units of the lower place.
-use Rattle.std.proofs.Common.{◌≡◌, ◌≢◌, ℕ, zero, suc, ◌+◌, ◌-◌, ◌*◌, ◌^◌, ◌<◌, ◌≤◌, ℤ, pos, neg_ℤ, ◌+ℤ◌, ◌-ℤ◌, Bool, true, false, not, Result, Ok, sym, refl, ap, ◌∙◌, subst, arith, pow-add, ◌==◌, eqb-true, inl, inr, add-mul, mul_comm, mul_assoc, add_comm, mul-le-mul_right}
+use Rattle.std.proofs.Common.{◌≡◌, ℕ, zero, suc, ◌+◌, ◌-◌, ◌*◌, ◌^◌, ◌≤◌, ℤ, neg_ℤ, ◌+ℤ◌, ◌-ℤ◌, Bool, true, false, not, sym, refl, ap, ◌∙◌, arith, pow-add, ◌==◌, eqb-true, inl, inr, add-mul, mul_comm, mul_assoc, add_comm, mul-le-mul_right}
 use native.Mathlib.Nat.{mul-sub}
 use Rattle.std.proofs.lemmas.Bool.{cases_Bool}
 use Rattle.std.proofs.lemmas.Int.{ints}
 use Rattle.b2_dec.specs.declared.number.Mode.{Mode}
-use Rattle.b2_dec.specs.Number.{Number, zero_number, IsNumber, signed, size, value, opposite}
-use Rattle.b2_dec.specs.Rounding.{rnd, rounded, in_range}
+use Rattle.b2_dec.specs.Number.{Number, signed, size, value, opposite}
+use Rattle.b2_dec.specs.Rounding.{rnd, rounded}
 
 -- The sign of zero does not count.
 pub rounded-signed : (mode : Mode) (s : Bool) (n d : ℕ) → rounded mode (signed s n) d ≡ rnd mode s n d
@@ -69,7 +69,7 @@ sum-same mode high low x e same =
     sum-same-sizes mode high low same
     ∙ ap (λ n. rnd mode high.neg n (10 ^ 111)) (ap (λ n. n + size low) e ∙ sym (add-mul x low.coef (10 ^ low.place)))
 
-times-sub : (x y p : ℕ) → x * p - y * p ≡ (x - y) * p
+pub times-sub : (x y p : ℕ) → x * p - y * p ≡ (x - y) * p
 times-sub x y p = ap (λ t. t - y * p) (mul_comm x p) ∙ ap (λ t. p * x - t) (mul_comm y p) ∙ sym (mul-sub p x y) ∙ mul_comm p (x - y)
 
 pub sum-other : (mode : Mode) (high low : Number) (x : ℕ) → size high ≡ x * 10 ^ low.place → low.neg ≡ not high.neg → low.coef ≤ x

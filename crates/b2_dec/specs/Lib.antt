@@ -2,3 +2,5 @@ pub mod Number
 pub mod Spelling
 pub mod Rounding
 pub mod Arithmetic
+pub mod Packing
+pub mod Laws

@@ -1,5 +1,5 @@
 -- What a number of the machine is, and which fraction it stands for.
-use Rattle.std.specs.Prelude.{◌≡◌, ℕ, ◌+◌, ◌*◌, ◌^◌, ◌<◌, ◌≤◌, ◌==◌, ℤ, pos, neg_ℤ, Bool, true, false, not, if◌then◌else◌}
+use Rattle.std.specs.Prelude.{◌≡◌, ℕ, ◌*◌, ◌^◌, ◌<◌, ◌≤◌, ◌==◌, ℤ, pos, neg_ℤ, Bool, true, false, not, if◌then◌else◌}
 
 -- A sign, thirteen digits as one whole number, and the place of the last of them. Places count up from 10^-111, which
 -- is the last digit of the smallest numbers.
@@ -33,3 +33,8 @@ value x = signed x.neg (size x)
 -- the number of the other sign; zero is its own
 abbrev pub opposite : Number → Number
 opposite x = if x.coef == 0 then x else record x { neg = not x.neg }
+
+-- whether two signs differ: the sign of a product and of a quotient
+abbrev pub differ : Bool → Bool → Bool
+differ true t = not t
+differ false t = t

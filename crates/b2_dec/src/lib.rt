@@ -8,9 +8,31 @@
 //! Stands on `b2_base` for the codes of errors.
 #![tactic(auto)]
 
+mod fractions;
+mod laws;
 mod number;
+mod order;
+mod packing;
+mod powers;
+mod products;
+mod rests;
 mod rounding;
 mod sums;
+mod values;
 
+pub use fractions::{fix, int};
+pub use laws::{
+    law_cuts_down, law_has_limits, law_has_one_spelling, law_nothing_is_left,
+    law_rounds_to_nearest, law_sums_commute,
+};
 pub use number::{Dec, Mode};
+pub use order::{abs, cmp, sgn, whole};
+pub use packing::{pack, unpack};
+pub use powers::{power, sqr};
+pub use products::{div, mul};
+pub use rests::{modulo, round_to};
 pub use sums::{add, sub};
+pub use values::{Bytes, Kind, KindList, Value, ValueList};
+
+#[cfg(test)]
+mod tests;

@@ -117,7 +117,8 @@ impl Dec {
 
     /// True for numbers below zero.
     pub fn is_negative(self) -> bool
-        ensures { result ≡ self.neg }
+        ensures value { result ≡ self.neg }
+        ensures spelling { IsNumber self }
     {
         self.neg
     }

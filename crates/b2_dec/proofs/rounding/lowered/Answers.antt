@@ -1,5 +1,5 @@
 use Rattle.std.proofs.Common.{◌≤◌, ◌*◌, ◌^◌, arith, mul-le-mul}
-use Rattle.b2_dec.proofs.Powers.{ten_le}
+use Rattle.b2_dec.proofs.TenLemmas.{ten_le}
 use Rattle.b2_dec.proofs.rounding.lowered.Goals as goal
 
 pub returns-clause-bound : goal.returns-clause-bound

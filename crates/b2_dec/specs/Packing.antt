@@ -1,0 +1,37 @@
+-- A number in eight bytes.
+use Rattle.std.specs.Prelude.{ℕ, zero, suc, ◌+◌, ◌-◌, ◌*◌, ◌/◌, ◌%◌, ◌^◌, nat_lt, if◌then◌else◌, List, [], ◌∷◌}
+use Rattle.b2_dec.specs.Number.{Number}
+
+-- the size of the exponent, which is 0 where the last digit stands at 99
+abbrev pub exponent_size : Number → ℕ
+exponent_size x = if nat_lt x.place 99 then 99 - x.place else x.place - 99
+
+-- the nibble of the two signs: 1 for the number's and 8 for the exponent's
+abbrev pub signs : Number → ℕ
+signs x = (if x.neg then 1 else 0) + (if nat_lt x.place 99 then 8 else 0)
+
+-- fifteen digits: two of the exponent's size and thirteen of the number
+abbrev pub digits : Number → ℕ
+digits x = exponent_size x * 10000000000000 + x.coef
+
+-- two decimal digits in a byte
+abbrev pub pair : ℕ → ℕ
+pair n = 16 * (n / 10) + n % 10
+
+-- the last 2 · k digits, two in a byte
+abbrev pub pairs : ℕ → ℕ → List ℕ
+pairs zero n = []
+pairs (suc k) n = pair (n / 100 ^ k % 100) ∷ pairs k n
+
+-- the nibble of the signs, and the digits
+abbrev pub packed : Number → List ℕ
+packed x = (16 * signs x + digits x / 100000000000000) ∷ pairs 7 (digits x)
+
+-- the digits in a byte
+abbrev pub pair_in : ℕ → ℕ
+pair_in b = b / 16 * 10 + b % 16
+
+-- the digits in bytes, behind others
+abbrev pub joined : ℕ → List ℕ → ℕ
+joined n [] = n
+joined n (b ∷ bs) = joined (n * 100 + pair_in b) bs
