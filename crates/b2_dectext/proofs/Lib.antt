@@ -2,3 +2,5 @@ pub mod Putting
 pub mod Lengths
 pub mod Building
 pub mod Scales
+pub mod Spellings
+pub mod Longest

@@ -13,3 +13,6 @@ mod scanning;
 
 pub use printing::write;
 pub use reading::{num, read};
+
+#[cfg(test)]
+mod tests;
