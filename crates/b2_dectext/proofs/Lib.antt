@@ -4,3 +4,4 @@ pub mod Building
 pub mod Scales
 pub mod Spellings
 pub mod Longest
+pub mod ReadBack

@@ -1,12 +1,14 @@
 -- No spelling at the front of a text is longer than what is read.
-use Rattle.std.proofs.Common.{◌≡◌, ℕ, suc, ◌+◌, ◌<◌, ◌≤◌, ◌==◌, min, true, false, List, [], ◌∷◌, ◌++◌, length, take, drop, Option, Some, None, refl, sym, ap, ap₂, ◌∙◌, subst, arith, ne_eqb, append_assoc, length-append}
-use Rattle.std.proofs.Math.Seq.{drop-append_seam}
+use Rattle.std.proofs.Common.{Result, Bool, ◌≡◌, ℕ, suc, ◌+◌, ◌<◌, ◌≤◌, ◌==◌, min, true, false, List, [], ◌∷◌, ◌++◌, length, take, drop, Option, Some, None, refl, sym, ap, ap₂, ◌∙◌, subst, arith, ne_eqb, append_assoc, length-append}
+use Rattle.std.proofs.Math.Seq.{drop-append_seam, take-append_seam}
+use Rattle.std.proofs.lemmas.Bool.{eqb-false}
 use Rattle.std.proofs.lemmas.List.{length-take-le, take-append-drop}
 use Rattle.std.proofs.lemmas.List.Sums.{prefix_len-le-length}
 use Rattle.std.specs.Char.{is_ascii_digit}
+use Rattle.b2_dec.specs.Number.{Number}
 use Rattle.b2_dectext.specs.Digits.{digits_len, AreDigits}
-use Rattle.b2_dectext.specs.NumberText.{begins, sign_len, unsigned, fraction_part, point_len, mantissa_len, exponent_digits, exponent_len, number_len, number_value}
-use Rattle.b2_dectext.specs.Grammar.{Sign, Spelling, sign_text, point_text, exponent_text, spelled, behind, IsSpelling, IsNumberText, IsLongest}
+use Rattle.b2_dectext.specs.NumberText.{Parts, begins, sign_len, unsigned, whole_part, fraction_part, point_len, mantissa_len, exponent_digits, exponent_len, number_len, number_value, parts_of, value_of}
+use Rattle.b2_dectext.specs.Grammar.{Sign, Spelling, sign_text, point_text, exponent_text, spelled, behind, parts, is_minus, IsSpelling, IsNumberText, IsLongest}
 use Rattle.b2_dectext.specs.Grammar as grammar
 use Rattle.b2_dectext.proofs.Spellings.{read-number}
 
@@ -183,3 +185,84 @@ longest-read text = record {
       let same : number_len (spelled number.spelling ++ drop k text) ≡ number_len text = ap number_len whole in
       omega (arith, long, least, same);
 }
+
+-- A spelling without an exponent is read whole.
+abbrev pub plain : Sign → List ℕ → Option (List ℕ) → Spelling
+plain g w f = record { sign = g; whole = w; fraction = f; exponent_sign = grammar.unsigned; exponent = [] }
+
+pub record IsReadWhole (text : List ℕ) (number : Result Number ℕ) : Type 0 where
+  pub len : number_len text ≡ length text
+  pub some : 0 < number_len text
+  pub value : number_value text ≡ number
+
+sign-begins : (g : Sign) (t : List ℕ) → IsBody t → begins 45 (sign_text g ++ t) ≡ is_minus g
+sign-begins grammar.unsigned t h = h.minus
+sign-begins grammar.plus t h = refl
+sign-begins grammar.minus t h = refl
+
+whole-exact : (w : List ℕ) (f : Option (List ℕ)) → AreDigits w → AreDigits (behind f) → digits_len (w ++ (point_text f ++ [])) ≡ length w
+whole-exact w None hw hf = omega (arith, digits_len-append w [] hw)
+whole-exact w (Some fs) hw hf = let p = pointed w fs [] hw hf in p.digits
+
+fraction-exact : (f : Option (List ℕ)) → AreDigits (behind f) → fraction_part (point_text f ++ []) ≡ behind f
+unfolding fraction_part
+fraction-exact None hf = refl
+fraction-exact (Some fs) hf =
+    let n : digits_len (fs ++ []) ≡ length fs = omega (arith, digits_len-append fs [] hf) in
+    ap (λ k. take k (fs ++ [])) n ∙ take-append_seam fs []
+
+made : Bool → List ℕ → List ℕ → List ℕ → Parts
+made neg w f rest = record { neg = neg; whole = w; fraction = f; exponent_neg = begins 45 (drop 1 rest); exponent = exponent_digits rest }
+
+no_exponent : exponent_digits [] ≡ []
+unfolding exponent_digits
+no_exponent = refl
+
+no_exponent_len : exponent_len [] ≡ 0
+unfolding exponent_len exponent_digits
+no_exponent_len = refl
+
+parts-made : (text body : List ℕ) → unsigned text ≡ body
+    → parts_of text ≡ made (begins 45 text) (whole_part body) (fraction_part (drop (digits_len body) body)) (drop (mantissa_len body) body)
+unfolding parts_of made
+parts-made text body same =
+    ap (λ u. made (begins 45 text) (whole_part u) (fraction_part (drop (digits_len u) u)) (drop (mantissa_len u) u)) same
+
+made-plain : (g : Sign) (w : List ℕ) (f : Option (List ℕ)) → made (is_minus g) w (behind f) [] ≡ parts (plain g w f)
+unfolding made
+made-plain g w f = ap (λ e. record { neg = is_minus g; whole = w; fraction = behind f; exponent_neg = false; exponent = e }) no_exponent
+
+whole_part-is : (w r : List ℕ) → digits_len (w ++ r) ≡ length w → whole_part (w ++ r) ≡ w
+unfolding whole_part
+whole_part-is w r n = ap (λ k. take k (w ++ r)) n ∙ take-append_seam w r
+
+pub plain-read : (g : Sign) (w : List ℕ) (f : Option (List ℕ)) → AreDigits w → AreDigits (behind f) → 0 < length w + length (behind f)
+    → IsReadWhole (spelled (plain g w f)) (value_of (parts (plain g w f)))
+unfolding number_len
+plain-read g w f hw hf some =
+    let rest : List ℕ = point_text f ++ [] in
+    let body : List ℕ = w ++ rest in
+    let text : List ℕ = sign_text g ++ body in
+    let begun : IsBody body = body-begins w f [] hw some in
+    let sign : sign_len text ≡ length (sign_text g) = sign-skipped g body begun in
+    let same : unsigned text ≡ body = unsigned-skipped g body begun in
+    let n : digits_len body ≡ length w = whole-exact w f hw hf in
+    let m : mantissa_len body ≡ length w + length (point_text f) = mantissa-exact w [] f hw hf some refl refl in
+    let end : drop (mantissa_len body) body ≡ [] = ap (λ k. drop k body) m ∙ mantissa-skipped w [] f in
+    let here : drop (digits_len body) body ≡ rest = ap (λ k. drop k body) n ∙ drop-append_seam w rest in
+    let found : mantissa_len (unsigned text) ≡ mantissa_len body = ap mantissa_len same in
+    let there : (mantissa_len (unsigned text) == 0) ≡ false = ne_eqb _ 0 (λ e. absurd (some_text w f some (omega (arith, m, found, e)))) in
+    let none : exponent_len (drop (mantissa_len (unsigned text)) (unsigned text)) ≡ 0 =
+    ap (λ u. exponent_len (drop (mantissa_len u) u)) same ∙ ap exponent_len end ∙ no_exponent_len in
+    let count : length text ≡ length (sign_text g) + (length w + length (point_text f) + 0) = spelled-length (sign_text g) w (point_text f) [] in
+    record {
+      len = rw there (omega (arith, sign, m, found, none, count));
+      some = let first : mantissa_len (unsigned text) ≡ 0 → ⊥ = eqb-false _ 0 there in rw there (omega arith);
+      value = ap value_of (
+          parts-made text body same
+          ∙ ap (λ b. made b (whole_part body) (fraction_part (drop (digits_len body) body)) (drop (mantissa_len body) body)) (sign-begins g body begun)
+          ∙ ap (λ t. made (is_minus g) t (fraction_part (drop (digits_len body) body)) (drop (mantissa_len body) body)) (whole_part-is w rest n)
+          ∙ ap (λ t. made (is_minus g) w t (drop (mantissa_len body) body)) (ap fraction_part here ∙ fraction-exact f hf)
+          ∙ ap (made (is_minus g) w (behind f)) end
+          ∙ made-plain g w f);
+    }
