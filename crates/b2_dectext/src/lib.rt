@@ -1,0 +1,14 @@
+//! Numbers from text and to text.
+//!
+//! `read` takes the longest number at the front of a text, `num` counts it with the spaces around it, and `write` gives
+//! the printed form of a number. `specs/NumberText.antt` says how a number is written and which number that is, and
+//! `specs/Printed.antt` how one is shown.
+//!
+//! Stands on `b2_dec`. No call takes memory.
+#![tactic(auto)]
+
+mod printing;
+mod reading;
+mod scanning;
+
+pub use printing::write;
