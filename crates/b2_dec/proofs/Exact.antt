@@ -1,5 +1,5 @@
 -- Thirteen digits or fewer are rounded to themselves.
-use Rattle.std.proofs.Common.{◌≡◌, ◌≢◌, ℕ, zero, suc, ◌+◌, ◌-◌, ◌*◌, ◌/◌, ◌^◌, ◌<◌, ◌≤◌, ◌==◌, nat_lt, Bool, true, false, Result, Ok, sym, refl, ap, ◌∙◌, subst, arith, pow-add, ne_eqb, le-ltb, mul-div_cancel, lit<, lit≤, mul_assoc, mul_comm, mul-pos, lt_of_lt_of_le, lt_of_le_of_lt, add-sub_of_le, mul-le-mul_right, add-mul, one-mul, le_of_eq, add-sub_cancel, zero-mul, mul-one, inl, inr}
+use Rattle.std.proofs.Common.{◌≡◌, ℕ, ◌+◌, ◌-◌, ◌*◌, ◌^◌, ◌<◌, ◌≤◌, Bool, true, false, Ok, sym, refl, ap, ◌∙◌, subst, arith, pow-add, ne_eqb, le-ltb, mul-div_cancel, lit<, lit≤, mul_assoc, mul-pos, lt_of_le_of_lt, add-sub_of_le, mul-le-mul_right, add-mul, one-mul, le_of_eq, add-sub_cancel, zero-mul, mul-one, inl, inr}
 use Rattle.std.proofs.lemmas.Bool.{cases_lt}
 use native.Mathlib.Nat.{div-eq_of_lt-le, mul-lt-mul_of_pos_right}
 use Rattle.b2_dec.specs.declared.number.Mode.{Mode}

@@ -1,9 +1,9 @@
 -- Products and quotients in code.
-use Rattle.std.proofs.Common.{◌≡◌, ◌≢◌, ℕ, zero, suc, ◌+◌, ◌-◌, ◌*◌, ◌/◌, ◌^◌, ◌<◌, ◌≤◌, ◌==◌, ℤ, pos, ◌*ℤ◌, Bool, true, false, not, Result, Ok, sym, refl, ap, ap₂, ◌∙◌, subst, arith, lit<, pow-add, mul_assoc, mul_comm, mul-zero, zero-mul, mul-pos, mul-le-mul_right, div-mul-le_self, ne_eqb, ◌⊎◌, ⊎_elim}
+use Rattle.std.proofs.Common.{◌≡◌, ℕ, zero, suc, ◌+◌, ◌-◌, ◌*◌, ◌/◌, ◌^◌, ◌<◌, ◌≤◌, ◌*ℤ◌, Bool, true, false, not, Result, Ok, sym, refl, ap, ◌∙◌, subst, arith, lit<, pow-add, mul_assoc, mul-zero, zero-mul, mul-pos, mul-le-mul_right, div-mul-le_self, ne_eqb, ◌⊎◌, ⊎_elim}
 use native.Mathlib.Nat.{mul-lt-mul_of_pos_right, mul-mul-mul_comm, lt-div-mul-add}
 use mathlib.Core.Bool.{beq}
 use Rattle.b2_dec.specs.declared.number.Mode.{Mode}
-use Rattle.b2_dec.specs.Number.{Number, zero_number, size, value, signed, differ}
+use Rattle.b2_dec.specs.Number.{Number, zero_number, size, signed, differ}
 use Rattle.b2_dec.specs.Rounding.{rnd, rounded, IsWholePart}
 use Rattle.b2_dec.specs.Arithmetic.{product_of, quotient_of}
 use Rattle.b2_dec.proofs.TenLemmas.{ten_pos}

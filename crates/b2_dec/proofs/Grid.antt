@@ -1,6 +1,6 @@
 -- Why rounding gives the nearest number: numbers stand on a grid of units, and finer ones are smaller.
-use Rattle.std.proofs.Common.{◌≡◌, ℕ, zero, suc, ◌+◌, ◌-◌, ◌*◌, ◌/◌, ◌^◌, ◌<◌, ◌≤◌, ◌==◌, nat_lt, nat_le, Bool, true, false, Result, Ok, Err, sym, refl, ap, ap₂, ◌∙◌, subst, arith, lit<, lit≤, pow-add, mul_assoc, mul_comm, mul-pos, mul-le-mul_right, le-leb, lt-ltb, le-ltb, le_trans, lt_of_lt_of_le, lt_of_le_of_lt, add-sub_of_le, zero-mul, div-mul-le_self, le-div_iff_mul-le, div-lt_iff_lt-mul, eqb-true, ne_eqb, inl, inr, ◌⊎◌, ⊎_elim, add_comm, sub-add_cancel}
-use borrow.Author.Tests.{lt-leb, ltb-true, ltb-false}
+use Rattle.std.proofs.Common.{◌≡◌, ℕ, zero, suc, ◌+◌, ◌-◌, ◌*◌, ◌/◌, ◌^◌, ◌<◌, ◌≤◌, ◌==◌, Bool, Result, Ok, Err, sym, refl, ap, ◌∙◌, subst, arith, lit≤, pow-add, mul_assoc, mul-pos, mul-le-mul_right, le-leb, lt-ltb, le-ltb, lt_of_lt_of_le, lt_of_le_of_lt, zero-mul, div-mul-le_self, le-div_iff_mul-le, eqb-true, ne_eqb, inl, inr, ◌⊎◌, ⊎_elim, sub-add_cancel}
+use borrow.Author.Tests.{lt-leb}
 use Rattle.std.proofs.lemmas.Bool.{cases_lt, cases_Bool, cases_order}
 use native.Mathlib.Nat.{mul-lt-mul_of_pos_right, lt-div-mul-add, add-mul, lt_of_mul-lt-mul_right, eq-zero-or-pos, le_of_mul-le-mul_right}
 use Rattle.b2_dec.specs.declared.number.Mode.{Mode}

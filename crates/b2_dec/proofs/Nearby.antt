@@ -1,10 +1,10 @@
 -- Sums in code: the cases of two signs, near and far.
-use Rattle.std.proofs.Common.{◌≡◌, ℕ, ◌+◌, ◌-◌, ◌*◌, ◌^◌, ◌<◌, ◌≤◌, ◌+ℤ◌, Bool, true, false, not, Result, sym, refl, ap, ◌∙◌, subst, arith, lit<, pow-add, mul_assoc, mul-le-mul_right, mul-le-mul, le_trans, lt_of_lt_of_le, add-mul, mul-pos, mul_comm, one-mul, le-mul_of_pos_right}
+use Rattle.std.proofs.Common.{◌≡◌, ℕ, ◌+◌, ◌-◌, ◌*◌, ◌^◌, ◌<◌, ◌≤◌, Bool, true, false, not, Result, sym, ap, ◌∙◌, subst, arith, lit<, pow-add, add-mul, mul-pos, mul_comm, one-mul, le-mul_of_pos_right}
 use native.Mathlib.Nat.{mul-lt-mul_of_pos_right}
 use mathlib.Core.Bool.{beq}
 use Rattle.b2_dec.specs.declared.number.Mode.{Mode}
-use Rattle.b2_dec.specs.Number.{Number, size, value}
-use Rattle.b2_dec.specs.Rounding.{rnd, rounded, IsWholePart}
+use Rattle.b2_dec.specs.Number.{Number, size}
+use Rattle.b2_dec.specs.Rounding.{rnd, IsWholePart}
 use Rattle.b2_dec.specs.Arithmetic.{sum_of}
 use Rattle.b2_dec.proofs.TenLemmas.{ten_pos, ten_le}
 use Rattle.b2_dec.proofs.Signs.{sum-same, sum-other, sum-turned, sum-same-sizes, sum-other-sizes, size-lower, in_units}

@@ -1,8 +1,8 @@
 -- Digits in bytes.
-use Rattle.std.proofs.Common.{◌≡◌, ℕ, zero, suc, ◌+◌, ◌-◌, ◌*◌, ◌/◌, ◌%◌, ◌^◌, ◌<◌, ◌≤◌, nat_lt, Bool, true, false, List, [], ◌∷◌, sym, refl, ap, ap₂, ◌∙◌, subst, arith, lit<, lit≤, mod-lt, div-add-mod', div-one, inl, inr, lt-ltb, le-ltb}
+use Rattle.std.proofs.Common.{◌≡◌, ℕ, zero, suc, ◌+◌, ◌*◌, ◌/◌, ◌%◌, ◌^◌, ◌<◌, ◌≤◌, sym, ap, ap₂, ◌∙◌, arith, lit<, mod-lt, div-add-mod', div-one, inl, inr, lt-ltb, le-ltb}
 use Rattle.std.proofs.lemmas.Nat.{mod-mul-add, div-mul-add}
 use Rattle.std.proofs.lemmas.Bool.{cases_lt}
-use native.Mathlib.Nat.{pow-succ', pow-le-pow_right, div-div-eq-div-mul, div-lt_iff_lt-mul, add-mul-div_right, add-mul-mod_self_right, div-eq_of_lt, mod-eq_of_lt, add-mul-mod_self_left, pow-suc}
+use native.Mathlib.Nat.{pow-le-pow_right, div-div-eq-div-mul, div-lt_iff_lt-mul, pow-suc}
 use Rattle.b2_dec.specs.Number.{Number, IsNumber}
 use Rattle.b2_dec.specs.Packing.{exponent_size, signs, digits, pair, pairs, packed, pair_in, joined}
 

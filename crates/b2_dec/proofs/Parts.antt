@@ -1,14 +1,13 @@
 -- The whole part of a number.
-use Rattle.std.proofs.Common.{◌≡◌, ℕ, zero, suc, ◌+◌, ◌-◌, ◌*◌, ◌/◌, ◌%◌, ◌^◌, ◌<◌, ◌≤◌, ◌==◌, ◌&&◌, int_le, ℤ, pos, negsuc, neg_ℤ, Bool, true, false, if◌then◌else◌, Option, Some, None, sym, refl, ap, ap₂, ◌∙◌, subst, arith, lit<, lit≤, pow-add, mul_assoc, mul-pos, mul-le-mul, mul-le-mul_right, le_trans, lt_of_lt_of_le, sub-add_cancel, mul-div_cancel, mod-eq_of_lt, ne_eqb, eq-eqb, zero-mul, add-mul, mul_comm, mod-lt, div-add-mod', inl, inr}
-use Rattle.std.proofs.lemmas.Int.{ints}
+use Rattle.std.proofs.Common.{◌≡◌, ℕ, zero, suc, ◌+◌, ◌-◌, ◌*◌, ◌/◌, ◌%◌, ◌^◌, ◌<◌, ◌≤◌, ◌&&◌, int_le, pos, negsuc, Bool, true, false, if◌then◌else◌, Some, None, sym, refl, ap, ◌∙◌, arith, lit<, pow-add, mul_assoc, mul-le-mul, lt_of_lt_of_le, sub-add_cancel, mul-div_cancel, mod-eq_of_lt, ne_eqb, eq-eqb, zero-mul, add-mul, mod-lt, div-add-mod', inl, inr}
 use Rattle.std.proofs.lemmas.Bool.{cases_lt}
-use Rattle.std.proofs.lemmas.Nat.{mod-mul-add, div-mul-add}
+use Rattle.std.proofs.lemmas.Nat.{mod-mul-add}
 use borrow.Author.Tests.{lt-leb}
 use native.Mathlib.Nat.{mul-mod_left, mul-lt-mul_of_pos_right, mul-div-mul_right, eq_of_mul-eq-mul_right}
-use Rattle.b2_dec.specs.Number.{Number, zero_number, IsNumber, size, signed}
+use Rattle.b2_dec.specs.Number.{Number, IsNumber, size, signed}
 use Rattle.b2_dec.specs.Arithmetic.{fits_64, whole_of}
 use Rattle.b2_dec.proofs.TenLemmas.{ten_pos, ten_le}
-use Rattle.b2_dec.proofs.Ranks.{thirteen, something}
+use Rattle.b2_dec.proofs.Ranks.{something}
 
 -- a size in units of one, where no digit stands behind the point
 pub size-high : (x : Number) → 111 ≤ x.place → size x ≡ x.coef * 10 ^ (x.place - 111) * 10 ^ 111

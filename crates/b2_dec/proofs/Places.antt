@@ -1,8 +1,7 @@
 -- The place at which a fraction has thirteen digits.
-use Rattle.std.proofs.Common.{◌≡◌, ℕ, zero, suc, ◌+◌, ◌*◌, ◌^◌, ◌<◌, ◌≤◌, nat_le, Bool, true, false, if◌then◌else◌, sym, refl, ap, ◌∙◌, arith, lit<, le-leb, mul-le-mul_right, lt_of_le_of_lt, le_trans, inl, inr}
+use Rattle.std.proofs.Common.{◌≡◌, ℕ, zero, suc, ◌+◌, ◌*◌, ◌^◌, ◌<◌, ◌≤◌, refl, arith, le-leb, lt_of_le_of_lt, inl, inr}
 use Rattle.std.proofs.lemmas.Bool.{cases_lt}
 use borrow.Author.Tests.{lt-leb}
-use native.Mathlib.Nat.{pow-le-pow_right}
 use Rattle.b2_dec.specs.Rounding.{place_of}
 use Rattle.b2_dec.proofs.TenLemmas.{ten_lt_back}
 

@@ -1,5 +1,5 @@
 -- Quotients that are rounded to whole numbers.
-use Rattle.std.proofs.Common.{◌≡◌, ℕ, ◌+◌, ◌*◌, ◌/◌, ◌^◌, ◌<◌, ◌≤◌, sym, refl, ap, ◌∙◌, arith, mul_comm, mul_assoc, mul-add, mul-pos, lit<, zero, suc, le-div_iff_mul-le, le_of_lt, div-le_self, div-lt_iff_lt-mul, le_trans, le-add_right, pow-add, lt_of_le_of_lt}
+use Rattle.std.proofs.Common.{◌≡◌, ℕ, ◌+◌, ◌*◌, ◌/◌, ◌^◌, ◌<◌, ◌≤◌, sym, ap, ◌∙◌, arith, mul-add, lit<, zero, suc, le-div_iff_mul-le, le_of_lt, div-le_self, div-lt_iff_lt-mul, le_trans, le-add_right, pow-add}
 use native.Mathlib.Nat.{mul-div-mul_left, div-div-eq-div-mul, div-eq_of_lt-le, add-mul-div_left, mul-div_cancel_left, pow-succ'}
 use Rattle.b2_dec.specs.declared.number.Mode.{Mode}
 use Rattle.b2_dec.specs.declared.number.Mode.TheVariants.{Round, Cut}

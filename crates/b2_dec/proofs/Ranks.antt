@@ -1,11 +1,11 @@
 -- How numbers stand in order.
-use Rattle.std.proofs.Common.{◌≡◌, ℕ, zero, suc, ◌+◌, ◌*◌, ◌^◌, ◌<◌, ◌≤◌, ℤ, pos, neg_ℤ, ◌<ℤ◌, Bool, true, false, Less, Equal, Greater, nat_cmp, int_cmp, sym, refl, ap, ap₂, ◌∙◌, subst, arith, lit<, pow-add, mul-pos, mul-le-mul_right, mul-le-mul, lt_of_lt_of_le, true≢false, zero-mul, ◌⊎◌, inl, inr, ⊎_elim}
+use Rattle.std.proofs.Common.{◌≡◌, ℕ, ◌+◌, ◌*◌, ◌^◌, ◌<◌, ◌≤◌, pos, neg_ℤ, ◌<ℤ◌, true, false, Less, Equal, Greater, nat_cmp, int_cmp, sym, ap, ◌∙◌, arith, pow-add, mul-pos, mul-le-mul_right, true≢false, zero-mul, ◌⊎◌, inl, inr, ⊎_elim}
 use Rattle.std.specs.Ordering.{ordering_then}
 use Rattle.std.specs.Cmp.{nat_cmp_is, int_cmp_is}
 use Rattle.std.proofs.lemmas.Bool.{cases_order, cases_lt}
 use Rattle.std.proofs.lemmas.Int.{ints}
 use native.Mathlib.Nat.{mul-lt-mul_of_pos_right}
-use Rattle.b2_dec.specs.Number.{Number, zero_number, IsNumber, size, value, signed}
+use Rattle.b2_dec.specs.Number.{Number, IsNumber, size, value}
 use Rattle.b2_dec.proofs.TenLemmas.{ten_pos, ten_le}
 
 cmp-less : (x y : ℕ) → x < y → nat_cmp x y ≡ Less

@@ -1,5 +1,5 @@
 -- What is left of one number by another.
-use Rattle.std.proofs.Common.{◌≡◌, ℕ, zero, suc, ◌+◌, ◌-◌, ◌*◌, ◌/◌, ◌%◌, ◌^◌, ◌<◌, ◌≤◌, ◌==◌, ℤ, pos, negsuc, neg_ℤ, ◌+ℤ◌, ◌-ℤ◌, ◌*ℤ◌, Bool, true, false, not, Result, Ok, sym, refl, ap, ap₂, ◌∙◌, subst, arith, lit<, pow-add, mul_assoc, mul_comm, mul-pos, zero-mul, ne_eqb, mod-lt, div-add-mod', add-mul, one-mul, mod-eq_of_lt, div-mul-le_self, add-sub_of_le, inl, inr, ⊎_elim, ◌⊎◌}
+use Rattle.std.proofs.Common.{◌≡◌, ℕ, zero, suc, ◌+◌, ◌-◌, ◌*◌, ◌/◌, ◌%◌, ◌^◌, ◌<◌, ◌≤◌, pos, negsuc, neg_ℤ, ◌-ℤ◌, ◌*ℤ◌, Bool, true, false, not, Result, Ok, sym, refl, ap, ap₂, ◌∙◌, arith, lit<, pow-add, mul_assoc, mul_comm, mul-pos, zero-mul, ne_eqb, mod-lt, div-add-mod', add-mul, one-mul, mod-eq_of_lt, add-sub_of_le, ⊎_elim, ◌⊎◌}
 use Rattle.std.proofs.lemmas.Int.{ints}
 use Rattle.std.proofs.lemmas.Nat.{mul-mod_first}
 use native.Mathlib.Nat.{lt-div-mul-add, zero-mod, eq_of_mul-eq-mul_right}

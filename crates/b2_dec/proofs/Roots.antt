@@ -1,13 +1,12 @@
 -- Square roots, and multiples of one unit.
-use Rattle.std.proofs.Common.{◌≡◌, ℕ, zero, suc, ◌+◌, ◌-◌, ◌*◌, ◌/◌, ◌%◌, ◌^◌, ◌<◌, ◌≤◌, sym, refl, ap, ap₂, ◌∙◌, subst, arith, lit<, lit≤, pow-add, mul_assoc, mul_comm, mul-pos, mul-le-mul, mul-le-mul_right, lt_of_le_of_lt, lt_of_lt_of_le, le_trans, le-leb, add_comm, zero-mul, inl, inr, add-sub_of_le, Result, Ok, IsOk, Bool, true, false, div-lt_iff_lt-mul, le-ltb}
+use Rattle.std.proofs.Common.{◌≡◌, ℕ, zero, suc, ◌+◌, ◌-◌, ◌*◌, ◌/◌, ◌%◌, ◌^◌, ◌<◌, ◌≤◌, sym, refl, ap, ap₂, ◌∙◌, subst, arith, lit<, lit≤, pow-add, mul_assoc, mul-pos, mul-le-mul, mul-le-mul_right, lt_of_le_of_lt, le-leb, add_comm, zero-mul, inl, inr, add-sub_of_le, Result, Ok, IsOk, Bool, false, div-lt_iff_lt-mul, le-ltb}
 use Rattle.b2_dec.proofs.Exact.{rnd-none, fitted-digits}
 use Rattle.b2_dec.proofs.Rounds.{rnd-whole_part}
 use borrow.Author.Tests.{lt-leb}
 use Rattle.std.proofs.lemmas.Bool.{cases_lt}
-use native.Mathlib.Nat.{mul-lt-mul_of_pos_right, mul-mul-mul_comm, div-eq_of_lt-le, div-eq_of_lt, mul-div-mul_right, pow-succ', add-mul}
-use Rattle.b2_dec.specs.declared.number.Mode.{Mode}
+use native.Mathlib.Nat.{mul-lt-mul_of_pos_right, mul-mul-mul_comm, div-eq_of_lt-le, div-eq_of_lt, mul-div-mul_right}
 use Rattle.b2_dec.specs.declared.number.Mode.TheVariants.{Round, Cut}
-use Rattle.b2_dec.specs.Number.{Number, zero_number, IsNumber, size}
+use Rattle.b2_dec.specs.Number.{Number, zero_number, size}
 use Rattle.b2_dec.specs.Rounding.{whole_by, in_range, rnd, IsWholePart}
 use Rattle.b2_dec.specs.Arithmetic.{root, root_of}
 use Rattle.b2_dec.proofs.TenLemmas.{ten_pos, ten_le}

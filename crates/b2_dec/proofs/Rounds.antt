@@ -1,10 +1,9 @@
 -- A whole part of fourteen digits or more settles what a fraction is rounded to.
-use Rattle.std.proofs.Common.{◌≡◌, ℕ, zero, suc, ◌+◌, ◌-◌, ◌*◌, ◌/◌, ◌^◌, ◌<◌, ◌≤◌, ◌==◌, nat_lt, Bool, true, false, if◌then◌else◌, Result, Ok, Err, sym, refl, ap, ◌∙◌, subst, arith, lit<, lit≤, pow-add, le-ltb, lt-ltb, ne_eqb, mul-le-mul_right, mul-pos, le_trans, lt_of_lt_of_le, inl, inr, mul_assoc, mul_comm}
+use Rattle.std.proofs.Common.{◌≡◌, ℕ, suc, ◌+◌, ◌-◌, ◌*◌, ◌^◌, ◌<◌, ◌≤◌, ◌==◌, Bool, Err, sym, refl, ap, ◌∙◌, subst, arith, lit<, pow-add, le-ltb, lt-ltb, ne_eqb, mul-le-mul_right, mul-pos, le_trans, lt_of_lt_of_le, inl, inr, mul_assoc}
 use Rattle.std.proofs.lemmas.Bool.{cases_lt, cases_Bool}
-use native.Mathlib.Nat.{pow-succ', one-le-pow}
+use native.Mathlib.Nat.{pow-succ'}
 use Rattle.b2_dec.specs.declared.number.Mode.{Mode}
-use Rattle.b2_dec.specs.Number.{Number}
-use Rattle.b2_dec.specs.Rounding.{whole_by, place_of, in_range, fitted, of_units, rnd, IsWholePart}
+use Rattle.b2_dec.specs.Rounding.{whole_by, place_of, fitted, of_units, rnd, IsWholePart}
 use Rattle.b2_dec.proofs.Quotients.{whole_by-parts, whole_by-least, whole_by-most}
 use Rattle.b2_dec.proofs.TenLemmas.{ten_pos, ten_le, ilog_of}
 use Rattle.b2_dec.proofs.Places.{place_of-is, place_of-top}

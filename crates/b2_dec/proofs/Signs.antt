@@ -1,11 +1,11 @@
 -- Sums of numbers with their signs, in units of the lower place.
-use Rattle.std.proofs.Common.{◌≡◌, ◌≢◌, ℕ, zero, suc, ◌+◌, ◌-◌, ◌*◌, ◌^◌, ◌<◌, ◌≤◌, ℤ, pos, neg_ℤ, ◌+ℤ◌, ◌-ℤ◌, Bool, true, false, not, Result, Ok, sym, refl, ap, ◌∙◌, subst, arith, pow-add, ◌==◌, eqb-true, inl, inr, add-mul, mul_comm, mul_assoc, add_comm, mul-le-mul_right}
+use Rattle.std.proofs.Common.{◌≡◌, ℕ, zero, suc, ◌+◌, ◌-◌, ◌*◌, ◌^◌, ◌≤◌, ℤ, neg_ℤ, ◌+ℤ◌, ◌-ℤ◌, Bool, true, false, not, sym, refl, ap, ◌∙◌, arith, pow-add, ◌==◌, eqb-true, inl, inr, add-mul, mul_comm, mul_assoc, add_comm, mul-le-mul_right}
 use native.Mathlib.Nat.{mul-sub}
 use Rattle.std.proofs.lemmas.Bool.{cases_Bool}
 use Rattle.std.proofs.lemmas.Int.{ints}
 use Rattle.b2_dec.specs.declared.number.Mode.{Mode}
-use Rattle.b2_dec.specs.Number.{Number, zero_number, IsNumber, signed, size, value, opposite}
-use Rattle.b2_dec.specs.Rounding.{rnd, rounded, in_range}
+use Rattle.b2_dec.specs.Number.{Number, signed, size, value, opposite}
+use Rattle.b2_dec.specs.Rounding.{rnd, rounded}
 
 -- The sign of zero does not count.
 pub rounded-signed : (mode : Mode) (s : Bool) (n d : ℕ) → rounded mode (signed s n) d ≡ rnd mode s n d

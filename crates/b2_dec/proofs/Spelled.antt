@@ -1,17 +1,17 @@
 -- Laws of sums, roots and spellings.
-use Rattle.std.proofs.Common.{◌≡◌, ℕ, ◌+◌, ◌-◌, ◌*◌, ◌^◌, ◌<◌, ◌≤◌, ℤ, pos, ◌-ℤ◌, Bool, true, false, Result, Ok, Err, IfOk, IsOk, sym, refl, ap, ap₂, ◌∙◌, subst, arith, lit<, mul-pos, mul-le-mul, le_trans, lt_of_le_of_lt, inl, inr, ⊎_elim}
+use Rattle.std.proofs.Common.{◌≡◌, ℕ, ◌+◌, ◌*◌, ◌^◌, ◌<◌, ◌≤◌, ℤ, pos, ◌-ℤ◌, false, Result, Ok, Err, IfOk, sym, refl, ap, ap₂, ◌∙◌, arith, lit<, mul-le-mul, le_trans, lt_of_le_of_lt, inl, inr, ⊎_elim}
 use Rattle.std.proofs.lemmas.Int.{ints}
 use Rattle.std.proofs.lemmas.Bool.{cases_order, cases_lt, cases_Bool}
 use native.Mathlib.Nat.{eq_of_mul-eq-mul_right, eq-zero-or-pos}
 use Rattle.b2_dec.specs.declared.number.Mode.{Mode}
-use Rattle.b2_dec.specs.declared.number.Mode.TheVariants.{Round, Cut}
+use Rattle.b2_dec.specs.declared.number.Mode.TheVariants.{Cut}
 use Rattle.b2_dec.specs.Number.{Number, zero_number, IsNumber, size, value, signed}
 use Rattle.b2_dec.specs.Rounding.{rnd, rounded}
 use Rattle.b2_dec.specs.Arithmetic.{difference_of, root, root_of}
 use Rattle.b2_dec.specs.Laws.{IsLargestBelow, IsRoot}
 use Rattle.b2_dec.proofs.TenLemmas.{ten_pos}
 use Rattle.b2_dec.proofs.Exact.{rnd-zero}
-use Rattle.b2_dec.proofs.Ranks.{less_place, something}
+use Rattle.b2_dec.proofs.Ranks.{less_place}
 use Rattle.b2_dec.proofs.Wholes.{signed-parts, signed-nothing, signed-zero, coef-nothing}
 use Rattle.b2_dec.proofs.Roots.{root-low, root-high, square_less}
 use Rattle.b2_dec.proofs.Grid.{rnd-largest}

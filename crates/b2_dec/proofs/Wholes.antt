@@ -1,13 +1,13 @@
 -- Whole numbers below and above a number.
-use Rattle.std.proofs.Common.{◌≡◌, ℕ, zero, suc, ◌+◌, ◌-◌, ◌*◌, ◌/◌, ◌%◌, ◌^◌, ◌<◌, ◌≤◌, ℤ, pos, negsuc, neg_ℤ, ◌*ℤ◌, Bool, true, false, Result, Ok, sym, refl, ap, ap₂, ◌∙◌, subst, arith, lit<, lit≤, pow-add, mul_assoc, mul_comm, mul-pos, mul-le-mul, mul-le-mul_right, le_trans, lt_of_lt_of_le, sub-add_cancel, mul-div_cancel, zero-mul, add-mul, one-mul, mod-lt, div-add-mod', true≢false, inl, inr, le-div_iff_mul-le, div-lt_iff_lt-mul, add-one}
+use Rattle.std.proofs.Common.{◌≡◌, ℕ, zero, suc, ◌+◌, ◌-◌, ◌*◌, ◌/◌, ◌%◌, ◌^◌, ◌<◌, ◌≤◌, ℤ, pos, negsuc, ◌*ℤ◌, Bool, true, false, Ok, sym, refl, ap, ap₂, ◌∙◌, subst, arith, lit<, pow-add, mul_assoc, mul-pos, mul-le-mul_right, lt_of_lt_of_le, sub-add_cancel, mul-div_cancel, zero-mul, add-mul, one-mul, mod-lt, div-add-mod', true≢false, inl, inr, le-div_iff_mul-le, div-lt_iff_lt-mul, add-one}
 use Rattle.std.proofs.lemmas.Int.{ints}
 use Rattle.std.proofs.lemmas.Bool.{cases_lt}
-use native.Mathlib.Nat.{mul-lt-mul_of_pos_right, div-eq_of_lt-le, div-eq_of_lt, eq_of_mul-eq-mul_right, eq-zero-or-pos}
+use native.Mathlib.Nat.{mul-lt-mul_of_pos_right, div-eq_of_lt-le, div-eq_of_lt, eq-zero-or-pos}
 use Rattle.b2_dec.specs.declared.number.Mode.{Mode}
 use Rattle.b2_dec.specs.Number.{Number, zero_number, IsNumber, size, value, signed}
 use Rattle.b2_dec.specs.Rounding.{rnd, rounded}
 use Rattle.b2_dec.specs.Arithmetic.{floored, whole_above}
-use Rattle.b2_dec.proofs.TenLemmas.{ten_pos, ten_le}
+use Rattle.b2_dec.proofs.TenLemmas.{ten_pos}
 use Rattle.b2_dec.proofs.Signs.{rounded-signed}
 use Rattle.b2_dec.proofs.Factors.{signed-mul}
 use Rattle.b2_dec.proofs.Exact.{rnd-digits, rnd-none, in_range-number}

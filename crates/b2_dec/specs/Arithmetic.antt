@@ -1,5 +1,5 @@
 -- What each call gives, as an exact number that is then rounded.
-use Rattle.std.specs.Prelude.{zero, suc, nat_le, nat_abs, neg_ℤ, true, false, ℕ, ◌+◌, ◌-◌, ◌*◌, ◌/◌, ◌%◌, ◌^◌, ◌==◌, ◌&&◌, int_le, ℤ, pos, negsuc, Option, Some, None, ◌+ℤ◌, ◌-ℤ◌, ◌*ℤ◌, Bool, not, if◌then◌else◌, Result, Ok, Err}
+use Rattle.std.specs.Prelude.{zero, suc, nat_le, nat_abs, neg_ℤ, false, ℕ, ◌+◌, ◌-◌, ◌*◌, ◌/◌, ◌%◌, ◌^◌, ◌==◌, ◌&&◌, int_le, ℤ, pos, negsuc, Option, Some, None, ◌+ℤ◌, ◌-ℤ◌, ◌*ℤ◌, Bool, if◌then◌else◌, Result, Ok, Err}
 use Rattle.b2_base.specs.declared.codes.TheConstants.{P34_RANGE, C62_ZERO_DIVISOR, C63_ZERO_BY_ZERO, C66_ROOT}
 use Rattle.b2_dec.specs.declared.number.Mode.{Mode}
 use Rattle.b2_dec.specs.declared.number.Mode.TheVariants.{Round, Cut}

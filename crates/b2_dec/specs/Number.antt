@@ -1,5 +1,5 @@
 -- What a number of the machine is, and which fraction it stands for.
-use Rattle.std.specs.Prelude.{◌≡◌, ℕ, ◌+◌, ◌*◌, ◌^◌, ◌<◌, ◌≤◌, ◌==◌, ℤ, pos, neg_ℤ, Bool, true, false, not, if◌then◌else◌}
+use Rattle.std.specs.Prelude.{◌≡◌, ℕ, ◌*◌, ◌^◌, ◌<◌, ◌≤◌, ◌==◌, ℤ, pos, neg_ℤ, Bool, true, false, not, if◌then◌else◌}
 
 -- A sign, thirteen digits as one whole number, and the place of the last of them. Places count up from 10^-111, which
 -- is the last digit of the smallest numbers.

@@ -18,6 +18,7 @@ mod products;
 mod rests;
 mod rounding;
 mod sums;
+mod values;
 
 pub use fractions::{fix, int};
 pub use laws::{
@@ -25,9 +26,13 @@ pub use laws::{
     law_sums_commute,
 };
 pub use number::{Dec, Mode};
-pub use order::{abs, cmp, sgn};
+pub use order::{abs, cmp, sgn, whole};
 pub use packing::{pack, unpack};
 pub use powers::{power, sqr};
 pub use products::{div, mul};
 pub use rests::{modulo, round_to};
 pub use sums::{add, sub};
+pub use values::{Bytes, Kind, KindList, Value, ValueList};
+
+#[cfg(test)]
+mod tests;

@@ -1,5 +1,5 @@
-use Rattle.std.proofs.Common.{sym, ap, ap₂, ◌∙◌, ◌≡◌, ◌≤◌, ◌<◌, ◌+◌, ◌*◌, ◌/◌, ◌%◌, ◌-◌, ◌^◌, ℕ, true, arith}
-use Rattle.b2_dec.specs.Number.{size, value, signed}
+use Rattle.std.proofs.Common.{sym, ap, ap₂, ◌∙◌, ◌≤◌, ◌+◌, ◌*◌, ◌/◌, ◌%◌, ◌-◌, ◌^◌, true, arith}
+use Rattle.b2_dec.specs.Number.{signed}
 use Rattle.b2_dec.proofs.TenLemmas.{ten_pos}
 use Rattle.b2_dec.proofs.Wholes.{some_digits, value-negative, raised-high, raised-small, raised-even, raised-rest, next-most, next-least, carried}
 use Rattle.b2_dec.proofs.fractions.from_zero.Goals as goal

@@ -1,5 +1,5 @@
-use Rattle.std.proofs.Common.{sym, ap, ap₂, ◌∙◌, ◌≡◌, ◌≤◌, ◌<◌, ◌*◌, ◌/◌, ◌-◌, ◌^◌, ℕ, arith}
-use Rattle.b2_dec.specs.Number.{size, value, signed}
+use Rattle.std.proofs.Common.{sym, ap, ◌∙◌, ◌≤◌, ◌-◌, arith}
+use Rattle.b2_dec.specs.Number.{signed}
 use Rattle.b2_dec.proofs.TenLemmas.{ten_pos}
 use Rattle.b2_dec.proofs.Ranks.{thirteen}
 use Rattle.b2_dec.proofs.Wholes.{kept-high, kept-small, kept-low, kept-least}

@@ -1,4 +1,4 @@
-use Rattle.std.proofs.Common.{Bool, true, false, not, ap, sym, ◌∙◌, ◌≡◌, Less, Greater}
+use Rattle.std.proofs.Common.{true, false, not, ap, sym, ◌∙◌, ◌≡◌, Less, Greater}
 use Rattle.std.specs.Cmp.{int_cmp_is}
 use borrow.Author.Tests.{not-true}
 use Rattle.b2_dec.specs.Number.{value}

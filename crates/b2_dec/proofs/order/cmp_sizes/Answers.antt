@@ -1,6 +1,5 @@
-use Rattle.std.proofs.Common.{ap, ap₂, sym, ◌∙◌, ◌≡◌, ◌≤◌, ◌⊎◌, ⊎_elim, inl, inr, nat_cmp}
+use Rattle.std.proofs.Common.{ap₂, sym, ◌∙◌, ◌≡◌, ◌≤◌, ◌⊎◌, ⊎_elim, inl, inr, nat_cmp}
 use Rattle.std.specs.Ordering.{ordering_then}
-use Rattle.b2_dec.specs.Number.{size}
 use Rattle.b2_dec.proofs.Ranks.{cmp-zero, cmp-places, thirteen}
 use Rattle.b2_dec.proofs.order.cmp_sizes.Goals as goal
 

@@ -1,4 +1,4 @@
-use Rattle.std.proofs.Common.{ℕ, Bool, ℤ, Option, Some, None, if◌then◌else◌, sym, ap, ap₂, ◌∙◌, ◌≡◌, ◌≤◌, ◌<◌, ◌*◌, ◌/◌, ◌%◌, ◌-◌, ◌^◌, arith}
+use Rattle.std.proofs.Common.{ℕ, Bool, ℤ, Option, Some, None, if◌then◌else◌, sym, ap, ap₂, ◌∙◌, ◌*◌, ◌/◌, ◌%◌, ◌-◌, ◌^◌, arith}
 use Rattle.b2_dec.specs.Number.{signed}
 use Rattle.b2_dec.specs.Arithmetic.{fits_64}
 use Rattle.b2_dec.proofs.TenLemmas.{ten_pos}

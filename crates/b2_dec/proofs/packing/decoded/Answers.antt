@@ -1,4 +1,4 @@
-use Rattle.std.proofs.Common.{ap, sym, ◌∙◌, ◌≡◌, ◌<◌, ◌/◌, ◌%◌, get_or}
+use Rattle.std.proofs.Common.{ap, ◌∙◌, ◌<◌, ◌/◌, ◌%◌, get_or}
 use Rattle.b2_dec.specs.Packing.{digits, joined}
 use Rattle.b2_dec.proofs.Nibbles.{joined-packed, digits-most, signs-packed, digits-joined, exponent-digits, coef-digits}
 use Rattle.b2_dec.proofs.packing.decoded.Goals as goal

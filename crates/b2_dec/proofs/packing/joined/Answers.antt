@@ -1,4 +1,4 @@
-use Rattle.std.proofs.Common.{◌≤◌, ◌<◌, ◌+◌, ◌*◌, ◌/◌, ◌%◌, ◌^◌, arith, get_or}
+use Rattle.std.proofs.Common.{◌≤◌, ◌<◌, ◌+◌, ◌*◌, ◌^◌, arith, get_or}
 use Rattle.b2_dec.proofs.Nibbles.{hundred_most, byte_fits}
 use Rattle.b2_dec.proofs.packing.joined.Goals as goal
 

@@ -1,4 +1,4 @@
-use Rattle.std.proofs.Common.{sym, ◌∙◌, ◌≡◌, ◌≤◌, ◌<◌, ◌+◌, ◌*◌, ◌^◌, ◌%◌, Ok, arith, lit<}
+use Rattle.std.proofs.Common.{sym, ◌∙◌, ◌≤◌, ◌+◌, ◌%◌, Ok, arith, lit<}
 use Rattle.b2_dec.proofs.Ranks.{thirteen}
 use Rattle.b2_dec.proofs.Roots.{root_of-none, root_of-is, root-part_of, root_of-ok, root-digits}
 use Rattle.b2_dec.proofs.Spelled.{root_of-greatest}

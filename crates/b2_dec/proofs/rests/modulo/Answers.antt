@@ -1,5 +1,4 @@
-use Rattle.std.proofs.Common.{ap, ap₂, sym, ◌∙◌, ◌≡◌, ◌≤◌, ◌<◌, ◌+◌, ◌-◌, ◌*◌, ◌%◌, ◌^◌, ◌⊎◌, ⊎_elim, inl, inr, not, ℕ, Bool, true, arith, add-sub_of_le}
-use borrow.Author.Tests.{not-true}
+use Rattle.std.proofs.Common.{sym, ◌∙◌, ◌≡◌, ◌≤◌, ◌<◌, ◌+◌, ◌-◌, ◌⊎◌, ⊎_elim, inl, inr, not, arith}
 use Rattle.b2_dec.specs.Number.{size}
 use Rattle.b2_dec.proofs.Ranks.{thirteen, something, less_place}
 use Rattle.b2_dec.proofs.Nearby.{same_sign, other_sign, not-back}

@@ -1,4 +1,4 @@
-use Rattle.std.proofs.Common.{ap, ap₂, sym, ◌∙◌, ◌≡◌, ◌≤◌, ◌<◌, ◌+◌, ◌-◌, ◌*◌, ◌/◌, ◌^◌, zero-mul, ℕ, arith, lit<}
+use Rattle.std.proofs.Common.{ap, sym, ◌∙◌, ◌≡◌, ◌<◌, ◌-◌, ◌*◌, ◌^◌, zero-mul, arith}
 use Rattle.b2_dec.specs.declared.number.Mode.TheVariants.{Cut}
 use Rattle.b2_dec.specs.Number.{size}
 use Rattle.b2_dec.specs.Rounding.{rnd}

@@ -1,4 +1,4 @@
-use Rattle.std.proofs.Common.{sym, ap, ◌∙◌, ◌≡◌, ◌≤◌, ◌<◌, ◌*◌, ◌%◌, ◌^◌, ◌-◌, mod-lt, mul-le-mul, arith}
+use Rattle.std.proofs.Common.{◌∙◌, ◌≤◌, ◌*◌, ◌^◌, mod-lt, mul-le-mul, arith}
 use Rattle.std.proofs.lemmas.Nat.{mul-mod_first}
 use Rattle.b2_dec.proofs.TenLemmas.{ten_le}
 use Rattle.b2_dec.proofs.Rest.{rest-step}

@@ -1,4 +1,4 @@
-use Rattle.std.proofs.Common.{◌≤◌, ◌<◌, ◌≡◌, ◌*◌, ◌^◌, ◌-◌, sym, arith, Fits, w64}
+use Rattle.std.proofs.Common.{sym, arith}
 use Rattle.b2_dec.proofs.Exact.{none_from, rnd-none, exact_is_whole, few_digits, filled-least, filled-most, filled-rnd}
 use Rattle.b2_dec.proofs.rounding.round_exact.Goals as goal
 

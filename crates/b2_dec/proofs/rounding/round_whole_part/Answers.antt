@@ -1,4 +1,4 @@
-use Rattle.std.proofs.Common.{◌≤◌, arith}
+use Rattle.std.proofs.Common.{arith}
 use Rattle.b2_dec.proofs.Rounds.{rnd-from_digits, dropped-some, kept-least, kept-most}
 use Rattle.b2_dec.proofs.rounding.round_whole_part.Goals as goal
 

@@ -1,7 +1,5 @@
-use Rattle.std.proofs.Common.{◌≤◌, ◌<◌, ◌+◌, ◌/◌, ◌^◌, ◌≡◌, ℕ, arith, ◌∙◌, div-le_self, ap}
-use Rattle.b2_dec.specs.Rounding as spec
+use Rattle.std.proofs.Common.{◌≤◌, ◌/◌, ◌^◌, arith, div-le_self}
 use Rattle.b2_dec.proofs.TenLemmas.{ten_pos, ten_le}
-use Rattle.b2_dec.proofs.Quotients.{half_of}
 use Rattle.b2_dec.proofs.rounding.whole_by.Goals as goal
 
 pub overflow_add-result : goal.overflow_add-result

@@ -1,4 +1,4 @@
-use Rattle.std.proofs.Common.{◌<◌, ◌≤◌, arith, lt_of_lt_of_le, lit<}
+use Rattle.std.proofs.Common.{arith}
 use Rattle.b2_dec.proofs.Nearby.{same_sign, other_sign, small_rest, far-same-is, far-other-is}
 use Rattle.b2_dec.proofs.sums.far_sum.Goals as goal
 

@@ -1,5 +1,5 @@
 use Rattle.std.proofs.Common.{ap, ◌∙◌, sym, ◌+ℤ◌, ◌^◌}
-use Rattle.b2_dec.specs.Number.{value, opposite}
+use Rattle.b2_dec.specs.Number.{value}
 use Rattle.b2_dec.specs.Rounding.{rounded}
 use Rattle.b2_dec.specs.Arithmetic.{sum_of}
 use Rattle.b2_dec.proofs.Signs.{value-opposite, sub-as_add}

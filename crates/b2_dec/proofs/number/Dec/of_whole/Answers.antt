@@ -1,5 +1,4 @@
-use Rattle.std.proofs.Common.{sym, ap, ◌∙◌, ◌≡◌, ◌≤◌, ◌<◌, ◌*◌, ◌^◌, ◌-◌, Ok, pos, false, arith, Fits, w64}
-use Rattle.b2_dec.specs.Number.{Number, value}
+use Rattle.std.proofs.Common.{ap, pos, false, arith}
 use Rattle.b2_dec.proofs.Exact.{whole-rnd, whole-value, rnd-none, few_digits, filled-least, filled-most}
 use Rattle.b2_dec.proofs.number.Dec.of_whole.Goals as goal
 
