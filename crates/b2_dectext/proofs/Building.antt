@@ -1,10 +1,9 @@
 -- Numbers that are built from their digits and their place by sums, products and quotients that are exact.
-use Rattle.std.proofs.Common.{◌≡◌, ℕ, ◌+◌, ◌-◌, ◌*◌, ◌^◌, ◌<◌, ◌≤◌, ◌==◌, ℤ, pos, neg_ℤ, ◌+ℤ◌, ◌-ℤ◌, Bool, true, false, not, if◌then◌else◌, Result, Ok, refl, sym, ap, ◌∙◌, subst, arith, lit<, lit≤, pow-add, mul-one, mul-pos, ne_eqb, sub-add_cancel, zero-mul}
-use Rattle.b2_dec.specs.declared.number.Mode.{Mode}
+use Rattle.std.proofs.Common.{◌≡◌, ℕ, ◌+◌, ◌-◌, ◌*◌, ◌^◌, ◌<◌, ◌≤◌, pos, ◌+ℤ◌, Bool, true, false, Ok, refl, sym, ap, ◌∙◌, arith, lit<, lit≤, pow-add, mul-one, mul-pos, ne_eqb, sub-add_cancel, zero-mul}
 use Rattle.b2_dec.specs.declared.number.Mode.TheVariants.{Cut}
 use Rattle.b2_dec.specs.Number.{Number, IsNumber, zero_number, size, value, opposite, differ}
 use Rattle.b2_dec.specs.Rounding.{rnd, rounded}
-use Rattle.b2_dec.specs.Arithmetic.{sum_of, difference_of, product_of, quotient_of}
+use Rattle.b2_dec.specs.Arithmetic.{difference_of, product_of, quotient_of}
 use Rattle.b2_dec.proofs.Powers.{ten_pos}
 use Rattle.b2_dec.proofs.Signs.{value-opposite, sub-as_add}
 use Rattle.b2_dec.proofs.Factors.{product-sizes}

@@ -1,3 +1,4 @@
 pub mod Putting
 pub mod Lengths
 pub mod Building
+pub mod Scales

@@ -1,5 +1,5 @@
 -- Decimal digits as bytes.
-use Rattle.std.specs.Prelude.{◌≡◌, ℕ, zero, suc, true, fold, slice_index, ◌<◌, ◌+◌, ◌-◌, ◌*◌, ◌/◌, ◌%◌, ◌^◌, ◌==◌, List, [], ◌∷◌, length, take}
+use Rattle.std.specs.Prelude.{◌≡◌, ℕ, zero, suc, true, fold, slice_index, ◌<◌, ◌≤◌, ◌+◌, ◌-◌, ◌*◌, ◌/◌, ◌%◌, ◌^◌, ◌==◌, List, [], ◌∷◌, length, take}
 use Rattle.std.specs.Char.{is_ascii_digit}
 use Rattle.std.specs.List.{prefix_len, suffix_len}
 
@@ -31,3 +31,11 @@ value_after n ds = fold (λ m d. 10 * m + (d - 48)) n ds
 -- the number that digits write
 abbrev pub digits_value : List ℕ → ℕ
 digits_value ds = value_after 0 ds
+
+-- What the first digits say of a number: m is its whole part in units of 10 ^ r. There are fourteen at most, and as many
+-- wherever digits are left out.
+pub record IsLeading (n m r : ℕ) : Type 0 where
+  pub low : m * 10 ^ r ≤ n
+  pub high : n < (m + 1) * 10 ^ r
+  pub enough : 0 < r → 10000000000000 ≤ m
+  pub few : m < 100000000000000

@@ -12,3 +12,4 @@ mod reading;
 mod scanning;
 
 pub use printing::write;
+pub use reading::{num, read};

@@ -1,10 +1,21 @@
 // Which number a text begins with.
 ghost use Rattle.std.specs.Prelude.{◌≡◌, ℕ, ◌+◌, ◌-◌, ◌*◌, ◌^◌, ◌<◌, ◌≤◌, length, false, if◌then◌else◌};
 ghost use Rattle.b2_dec.specs.Number.{Number};
-ghost use Rattle.b2_dectext.specs.Digits.{AreDigits, value_after, digits_value};
-ghost use Rattle.b2_dectext.specs.NumberText.{Parts, value_of, parts_of, in_result, number_len, number_read};
+ghost use Rattle.b2_dec.specs.Rounding as spec;
+ghost use Rattle.b2_dec.specs.Rounding.{rnd};
+ghost use Rattle.b2_dec.specs.declared.number.Mode.TheVariants.{Round};
+ghost use Rattle.b2_dectext.specs.Digits.{AreDigits, IsLeading, value_after, digits_value};
+ghost use Rattle.b2_dectext.specs.NumberText as grammar;
+ghost use Rattle.b2_dectext.specs.NumberText.{Parts, value_of, in_result, number_value, number_read, spaced_number_len};
 
+use crate::scanning::{
+    begins, exponent_digits, fraction_part, mantissa_len, number_len, rest, spaces_len, unsigned,
+    whole_part,
+};
 use b2_dec::{Dec, Mode, div, mul, sub};
+
+/// The number above the largest thirteen digits.
+const ABOVE: u64 = 10_000_000_000_000;
 
 /// The number with the last digit at a place up to twelve places higher.
 fn raised(x: Dec, places: u32) -> Dec
@@ -73,4 +84,186 @@ fn number(neg: bool, coef: u64, place: u32) -> Dec
         Ok(opposite) => opposite,
         Err(_) => x,
     }
+}
+
+/// The number of a sign whose thirteen digits end at a place counted from 10^-222, where its exponent is in range.
+fn in_range(neg: bool, coef: u64, place: u32) -> Option<Dec>
+    requires least { 1000000000000 ≤ coef }
+    requires most { coef < 10000000000000 }
+    ensures { result ≡ in_result (spec.in_range neg coef place) }
+{
+    if place < 111 || place > 309 {
+        return None;
+    }
+    Some(number(neg, coef, place - 111))
+}
+
+/// The same where rounding may have led to 10^13.
+fn fitted(neg: bool, coef: u64, place: u32) -> Option<Dec>
+    requires least { 1000000000000 ≤ coef }
+    requires most { coef ≤ 10000000000000 }
+    requires near { place < 1000 }
+    ensures { result ≡ in_result (spec.fitted neg coef place) }
+{
+    if coef == ABOVE {
+        in_range(neg, 1_000_000_000_000, place + 1)
+    } else {
+        in_range(neg, coef, place)
+    }
+}
+
+/// The leading digits of a number that is written, fourteen at most, and how many follow them.
+#[derive(Clone, Copy)]
+struct Leading {
+    digits: u64,
+    more: usize,
+}
+
+/// The leading digits where one more digit follows.
+fn with_digit(leading: Leading, digit: u8) -> Leading
+    requires decimal { digit < 10 }
+    requires fits { leading.more + 1 < 2 ^ 64 }
+    ensures value { (n : ℕ) → IsLeading n leading.digits leading.more → IsLeading (10 * n + digit) result.digits result.more }
+    ensures bound { result.more ≤ leading.more + 1 }
+{
+    if leading.digits < ABOVE {
+        Leading {
+            digits: leading.digits * 10 + digit as u64,
+            more: leading.more,
+        }
+    } else {
+        Leading {
+            digits: leading.digits,
+            more: leading.more + 1,
+        }
+    }
+}
+
+/// The leading digits where more digits follow.
+fn with_digits(start: Leading, text: &[u8]) -> Leading
+    requires digits { AreDigits text.now }
+    requires fits { start.more + length text.now < 2 ^ 64 }
+    ensures value { (n : ℕ) → IsLeading n start.digits start.more → IsLeading (value_after n text.now) result.digits result.more }
+    ensures bound { result.more ≤ start.more + length text.now }
+{
+    let mut leading = start;
+    for byte in text {
+        leading = with_digit(leading, *byte - b'0');
+    }
+    leading
+}
+
+/// The number that leading digits become, a half going away from zero. Behind them `high - 222` digits stand before the
+/// point; the whole is divided by ten `low` times.
+fn rounded(neg: bool, digits: u64, high: u128, low: u128) -> Option<Dec>
+    requires few { digits < 10 ^ 14 }
+    requires high { high < 2 ^ 100 }
+    requires low { low < 2 ^ 100 }
+    ensures { (n more tens : ℕ) → IsLeading n digits more → high ≡ 222 + (more + tens)
+        → result ≡ in_result (rnd Round neg (n * 10 ^ tens) (10 ^ low)) }
+{
+    if digits == 0 {
+        return Some(Dec::zero());
+    }
+    let first = digits.ilog10();
+    let top = high + first as u128;
+    if top < low + 122 {
+        return None;
+    }
+    if top > low + 321 {
+        return None;
+    }
+    let place = (high - low) as u32;
+    if digits >= ABOVE {
+        return fitted(neg, (digits + 5) / 10, place + 1);
+    }
+    let missing = 12 - first;
+    in_range(neg, digits * 10u64.pow(missing), place - missing)
+}
+
+/// The number that the digits of an exponent write, of which there are two at most.
+fn exponent_value(digits: &[u8]) -> usize
+    requires digits { AreDigits digits.now }
+    requires few { length digits.now ≤ 2 }
+    ensures value { result ≡ digits_value digits.now }
+    ensures bound { result ≤ 99 }
+{
+    match digits {
+        [tens, units] => 10 * (*tens - b'0') as usize + (*units - b'0') as usize,
+        [units] => (*units - b'0') as usize,
+        _ => 0,
+    }
+}
+
+/// The number of given parts, where it is in range.
+fn value(
+    neg: bool,
+    whole: &[u8],
+    fraction: &[u8],
+    exponent_neg: bool,
+    exponent: &[u8],
+) -> Option<Dec>
+    requires whole { AreDigits whole.now }
+    requires fraction { AreDigits fraction.now }
+    requires fits { length whole.now + length fraction.now < 2 ^ 64 }
+    requires exponent { AreDigits exponent.now }
+    requires few { length exponent.now ≤ 2 }
+    ensures { let parts : Parts = record { neg = neg; whole = whole.now; fraction = fraction.now; exponent_neg = exponent_neg; exponent = exponent.now } in
+        result ≡ in_result (value_of parts) }
+{
+    let none = Leading { digits: 0, more: 0 };
+    let leading = with_digits(with_digits(none, whole), fraction);
+    let tens = exponent_value(exponent) as u128;
+    let high = 222 + leading.more as u128;
+    let low = fraction.len() as u128;
+    if exponent_neg {
+        rounded(neg, leading.digits, high, low + tens)
+    } else {
+        rounded(neg, leading.digits, high + tens, low)
+    }
+}
+
+/// The number at the front of a text, where it is in range.
+#[tactic(auto, unfolding(crate::specs::NumberText::parts_of))]
+fn number_at_front(text: &[u8]) -> Option<Dec>
+    ensures { result ≡ in_result (number_value text.now) }
+{
+    let body = unsigned(text);
+    let whole = whole_part(body);
+    let fraction = fraction_part(&body[whole.len()..]);
+    let behind = &body[mantissa_len(body)..];
+    value(
+        begins(text, b'-'),
+        whole,
+        fraction,
+        begins(rest(behind), b'-'),
+        exponent_digits(behind),
+    )
+}
+
+/// The length of the longest number at the front of a text, 0 where there is none, and the number, where there is one
+/// in range. More than thirteen digits are rounded, a half away from zero.
+#[tactic(auto, unfolding(crate::specs::NumberText::number_read))]
+pub fn read(text: &[u8]) -> (usize, Option<Dec>)
+    ensures len { result.0 ≡ grammar.number_len text.now }
+    ensures value { result.1 ≡ number_read text.now }
+{
+    let len = number_len(text);
+    if len == 0 {
+        return (0, None);
+    }
+    (len, number_at_front(text))
+}
+
+/// The length of the spaces, the number and the spaces at the front of a text, 0 where there is no number.
+#[tactic(auto, unfolding(crate::specs::NumberText::spaced_number_len))]
+pub fn num(text: &[u8]) -> usize
+    ensures { result ≡ spaced_number_len text.now }
+{
+    let front = spaces_len(text);
+    let number = number_len(&text[front..]);
+    if number == 0 {
+        return 0;
+    }
+    front + number + spaces_len(&text[front + number..])
 }

@@ -62,6 +62,7 @@ pub(crate) fn unsigned(text: &[u8]) -> &[u8]
 pub(crate) fn whole_part(text: &[u8]) -> &[u8]
     ensures value { result.now ≡ grammar.whole_part text.now }
     ensures len { length result.now ≡ spec.digits_len text.now }
+    ensures bound { length result.now ≤ length text.now }
     ensures digits { AreDigits result.now }
 {
     &text[..digits_len(text)]

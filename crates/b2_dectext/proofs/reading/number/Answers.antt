@@ -1,4 +1,4 @@
-use Rattle.std.proofs.Common.{ap, ap₂, ◌∙◌, sym}
+use Rattle.std.proofs.Common.{ap₂, ◌∙◌, sym}
 use Rattle.b2_dec.specs.declared.number.Mode.TheVariants.{Cut}
 use Rattle.b2_dec.specs.Arithmetic.{difference_of}
 use Rattle.b2_dectext.proofs.Building.{zero-less}
