@@ -1,0 +1,4 @@
+pub mod ImageLemmas
+pub mod DigitLemmas
+pub mod PlaceLemmas
+pub mod LineLemmas

@@ -1,0 +1,5 @@
+pub mod Columns
+pub mod Layout
+pub mod Images
+pub mod Filling
+pub mod Imaged
