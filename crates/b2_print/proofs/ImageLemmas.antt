@@ -88,7 +88,7 @@ pieces-cons b bs = refl
 pub pieces-literal : (b : ℕ) (bs : List ℕ) → field_at (b ∷ bs) ≡ None → pieces (b ∷ bs) ≡ literal b ∷ pieces bs
 pieces-literal b bs e = pieces-cons b bs ∙ ap (λ o. piece_of b o ∷ pieces_behind (behind_first o) bs) e ∙ ap (λ ps. literal b ∷ ps) (pieces_behind-drop 0 bs)
 
-drop-first : (n : ℕ) (b : ℕ) (bs : List ℕ) → 0 < n → drop n (b ∷ bs) ≡ drop (n - 1) bs
+pub drop-first : (n : ℕ) (b : ℕ) (bs : List ℕ) → 0 < n → drop n (b ∷ bs) ≡ drop (n - 1) bs
 drop-first zero b bs h = absurd (omega arith)
 drop-first (suc n) b bs h =
     let less : suc n - 1 ≡ n = omega arith in
