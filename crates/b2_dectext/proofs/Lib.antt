@@ -2,3 +2,6 @@ pub mod Putting
 pub mod Lengths
 pub mod Building
 pub mod Scales
+pub mod Spellings
+pub mod Longest
+pub mod ReadBack

@@ -7,9 +7,14 @@
 //! Stands on `b2_dec`. No call takes memory.
 #![tactic(auto)]
 
+mod laws;
 mod printing;
 mod reading;
 mod scanning;
 
+pub use laws::printed_is_read;
 pub use printing::write;
 pub use reading::{num, read};
+
+#[cfg(test)]
+mod tests;
