@@ -1,0 +1,13 @@
+pub mod PlaceValues
+pub mod Aligning
+pub mod Carrying
+pub mod Comparing
+pub mod Pairing
+pub mod BitTables
+pub mod Turning
+pub mod Measuring
+pub mod Decimals
+pub mod HexDigits
+pub mod Modular
+pub mod TurningBack
+pub mod DecimalSums

@@ -1,0 +1,6 @@
+pub mod Places
+pub mod Values
+pub mod Bits
+pub mod Sums
+pub mod Relations
+pub mod Texts

@@ -1,0 +1,73 @@
+use crate::Solo;
+use std::test::Fail;
+
+// Lines typed one after another, and what stands behind the echo of the last.
+const ROWS: [(&[&[u8]], &[u8]); 24] = [
+    (&[b"PRINT 2+2"], b" 4 \n:"),
+    (&[b"  print  2 + 2 - 9  "], b"-5 \n:"),
+    (&[b"PRINT2+2"], b" 4 \n:"),
+    (&[b"PRINT"], b"\n:"),
+    (&[b"LET A=7:PRINT A-A-A"], b"-7 \n:"),
+    (&[b"a = 5 : print a + b"], b" 5 \n:"),
+    (&[b"PRINT 9999999999999-1"], b" 9999999999998 \n:"),
+    (&[b"PRINT 9999999999999+1"], b"ERR C61\n:"),
+    (&[b"PRINT 0-9999999999999-1:PRINT 1"], b"ERR C61\n:"),
+    (&[b"PRINT 12345678901234"], b"ERR S14 COL 1\n:"),
+    (&[b"PR INT 2"], b"ERR S14 COL 1\n:"),
+    (&[b"PRINT 1 2"], b"ERR S14 COL 1\n:"),
+    (&[b"PRINT -2"], b"ERR S14 COL 1\n:"),
+    (&[b"PRINT 2+"], b"ERR S14 COL 1\n:"),
+    (&[b"END:PRINT 1"], b":"),
+    (&[b"GOTO 10"], b"ERR P36\n:"),
+    (&[b"GOTO 12345"], b"ERR S14 COL 1\n:"),
+    (&[b"10 GOTO 20", b"RUN"], b"ERR P36 AT 10\n:"),
+    (&[b"RUN"], b":"),
+    (&[b"10"], b"ERR S14 COL 1\n:"),
+    (&[b"10000 END"], b"ERR S14 COL 1\n:"),
+    (
+        &[b"20 PRINT 2", b"00010PRINT 1:GOTO 30", b"30 END", b"RUN"],
+        b" 1 \n:",
+    ),
+    (&[b"10 PRINT A:A=3:PRINT A", b"A=5", b"RUN"], b" 0 \n 3 \n:"),
+    (
+        &[b"10 PRINT 1", b"10 PRINT 2", b"9999 PRINT 3", b"RUN"],
+        b" 2 \n 3 \n:",
+    ),
+];
+
+#[test]
+fn typed_lines(rt: HostRuntime) -> Result<(), Fail> {
+    for (lines, shown) in &ROWS {
+        let mut solo = Solo::new(rt.alloc())?;
+        let mut before = 0;
+        for line in *lines {
+            solo.turn(20)?;
+            for b in *line {
+                assert!(rt; solo.key(*b));
+            }
+            solo.key(13);
+            before = solo
+                .transcript()
+                .len()
+                .saturating_add(line.len())
+                .saturating_add(1);
+            solo.turn(20)?;
+            solo.turn(20)?;
+        }
+        assert_eq!(rt; solo.transcript().get(before..).unwrap_or(b"none"), *shown);
+    }
+    Ok(())
+}
+
+#[test]
+fn a_turn_counts_its_steps(rt: HostRuntime) -> Result<(), Fail> {
+    let mut solo = Solo::new(rt.alloc())?;
+    assert_eq!(rt; solo.turn(20)?, 1);
+    assert_eq!(rt; solo.turn(20)?, 0);
+    for b in b"10GOTO10\r\rRUN\r" {
+        assert!(rt; solo.key(*b));
+    }
+    assert_eq!(rt; solo.turn(3)?, 3);
+    assert_eq!(rt; solo.turn(20)?, 20);
+    Ok(())
+}

@@ -1,0 +1,4 @@
+pub mod Log
+pub mod Run
+pub mod Status
+pub mod Top

@@ -1,0 +1,119 @@
+-- The log: lines of events, or the first line that fails a check and its first check.
+use Rattle.std.specs.Prelude.{◌≡◌, ℕ, ◌+◌, ◌-◌, ◌*◌, ◌≤◌, min, ◌&&◌, ◌||◌, not, ◌==◌, nat_lt, nat_eq, List, [], ◌∷◌, ◌++◌, length, take, get_or, codes, Option, Some, None, unwrap_or, if◌then◌else◌}
+use Rattle.std.specs.List.{list_all}
+use Rattle.std.specs.Cmp.Lexicographic.{pointwise}
+use Rattle.b2_base.specs.Names.{is_printable, is_digit}
+use Rattle.b2_base.specs.Pieces.{pieces, before, after}
+use Rattle.b2_mvp.specs.declared.log.Event.{Event}
+use Rattle.b2_mvp.specs.declared.log.Event.TheVariants as event
+use Rattle.b2_mvp.specs.declared.log.LogRead.{LogRead}
+use Rattle.b2_mvp.specs.declared.log.LogRead.TheVariants as log
+use Rattle.b2_mvp.specs.declared.log.LineRead.{LineRead}
+use Rattle.b2_mvp.specs.declared.log.LineRead.TheVariants.{Nothing, Reads, Fails}
+
+-- a line without the carriage return at its end
+abbrev pub without_return : List ℕ → List ℕ
+without_return line = if get_or line (length line - 1) 0 == 13 then take (length line - 1) line else line
+
+-- a carriage return before a newline doesn't belong to the line
+abbrev pub without_returns : List (List ℕ) → List (List ℕ)
+without_returns [] = []
+without_returns (l ∷ []) = l ∷ []
+without_returns (l ∷ m ∷ ls) = without_return l ∷ without_returns (m ∷ ls)
+
+-- the lines of a text; behind the last newline there is one more, which may be empty
+abbrev pub lines_of : List ℕ → List (List ℕ)
+lines_of text = without_returns (pieces 10 text)
+
+-- the lines of what follows a newline, where there is one
+abbrev pub lines_after : Option (List ℕ) → List (List ℕ)
+lines_after None = []
+lines_after (Some rest) = lines_of rest
+
+-- digits to their number, or to a million where it is above, which is out of each range
+abbrev pub number_from : ℕ → List ℕ → Option ℕ
+number_from n [] = Some n
+number_from n (b ∷ bs) = if is_digit b then number_from (min (n * 10 + (b - 48)) 1000000) bs else None
+
+-- a number without leading zeros
+abbrev pub number_of : List ℕ → Option ℕ
+number_of [] = None
+number_of (b ∷ bs) = if (b == 48) && not (length bs == 0) then None else number_from 0 (b ∷ bs)
+
+-- a terminal, of which only the first is there, and what is typed at it, which may be nothing
+abbrev pub type_at : Option ℕ → Option (List ℕ) → LineRead
+type_at None text = Fails 3
+type_at (Some t) text =
+    if nat_lt t 1 || nat_lt 12 t then Fails 4
+    else (if t == 1 then Reads (event.Type (unwrap_or text [])) else Fails 5)
+
+abbrev pub type_args : Option (List ℕ) → LineRead
+type_args None = Fails 3
+type_args (Some args) = type_at (number_of (before 32 args)) (after 32 args)
+
+-- each round grants twenty steps, and a log five million in all
+abbrev pub rounds_of : ℕ → Option ℕ → LineRead
+rounds_of granted None = Fails 3
+rounds_of granted (Some n) =
+    if nat_lt n 1 || nat_lt 100000 n then Fails 4
+    else (if nat_lt 5000000 (granted + 20 * n) then Fails 6 else Reads (event.Rounds n))
+
+abbrev pub rounds_args : ℕ → Option (List ℕ) → LineRead
+rounds_args granted None = Fails 3
+rounds_args granted (Some args) = rounds_of granted (number_of args)
+
+-- an event by its first word
+abbrev pub event_by : ℕ → List ℕ → Option (List ℕ) → LineRead
+event_by granted word args =
+    if pointwise nat_eq word (codes "type") then type_args args
+    else (if pointwise nat_eq word (codes "rounds") then rounds_args granted args else Fails 2)
+
+abbrev pub event_of : ℕ → List ℕ → LineRead
+event_of granted line = event_by granted (before 32 line) (after 32 line)
+
+-- an empty line and one that begins with `#` say nothing
+abbrev pub line_by : ℕ → List ℕ → LineRead
+line_by granted [] = Nothing
+line_by granted (b ∷ bs) = if b == 35 then Nothing else event_of granted (b ∷ bs)
+
+-- a line, after so many steps were granted
+abbrev pub line_read : ℕ → List ℕ → LineRead
+line_read granted line = if list_all is_printable line then line_by granted line else Fails 1
+
+-- the steps that an event grants
+abbrev pub grants : Event → ℕ
+grants (event.Type text) = 0
+grants (event.Rounds n) = 20 * n
+
+-- the bound on granted steps is kept
+abbrev pub GrantsWithin : ℕ → LineRead → Type 0
+GrantsWithin granted Nothing = Unit {0}
+GrantsWithin granted (Reads e) = granted + grants e ≤ 5000000
+GrantsWithin granted (Fails check) = Unit {0}
+
+abbrev pub GrantsNothing : LineRead → Type 0
+GrantsNothing Nothing = Unit {0}
+GrantsNothing (Reads e) = grants e ≡ 0
+GrantsNothing (Fails check) = Unit {0}
+
+-- events before those of a log
+abbrev pub onto_log : List Event → LogRead → LogRead
+onto_log front (log.Events es) = log.Events (front ++ es)
+onto_log front (log.Fails line check) = log.Fails line check
+
+abbrev pub by_line : {A : Type 0} → LineRead → A → (Event → A) → (ℕ → A) → A
+by_line Nothing nothing reads fails = nothing
+by_line (Reads e) nothing reads fails = reads e
+by_line (Fails check) nothing reads fails = fails check
+
+-- the lines from a number on, after so many steps were granted
+abbrev pub log_from : ℕ → ℕ → List (List ℕ) → LogRead
+log_from line granted [] = log.Events []
+log_from line granted (l ∷ ls) = by_line (line_read granted l)
+    (log_from (line + 1) granted ls)
+    (λ e. onto_log (e ∷ []) (log_from (line + 1) (granted + grants e) ls))
+    (λ check. log.Fails line check)
+
+-- what a log says
+abbrev pub log_of : List ℕ → LogRead
+log_of bytes = log_from 1 0 (lines_of bytes)

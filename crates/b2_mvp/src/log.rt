@@ -1,0 +1,222 @@
+// The log: lines of events.
+ghost use Rattle.std.specs.Prelude.{◌≡◌, ◌≤◌, ◌<◌, ◌^◌, ◌∷◌, IfOk, IfSome, Some, min, length, ◌+◌};
+ghost use Rattle.std.specs.List.{list_all};
+ghost use Rattle.std.specs.Option.{option_copied};
+ghost use Rattle.b2_base.specs.Names.{is_printable};
+ghost use Rattle.b2_mvp.specs.Log.{lines_of, lines_after, number_of, number_from, type_args, rounds_args, event_of, line_read, grants, GrantsWithin, GrantsNothing, without_return, log_of};
+
+use b2_base::{ByteList, NoMemory, cut};
+use std::alloc::Global;
+use std::marker::Model;
+
+/// What happens.
+#[derive(Drop)]
+pub enum Event {
+    /// Keys at terminal 1, and then RETURN.
+    Type(ByteList),
+    /// Turns of the partition with the built-in quota.
+    Rounds(u32),
+}
+
+/// What a line of the log says: nothing, an event, or the first check that it fails.
+#[derive(Drop)]
+pub enum LineRead {
+    Nothing,
+    Reads(Event),
+    Fails(u8),
+}
+
+/// A log: its events, or the first line that fails a check, from 1, and its first check.
+#[derive(Drop)]
+pub enum LogRead {
+    Events(EventList),
+    Fails(u32, u8),
+}
+
+/// Events in order.
+#[derive(Drop)]
+pub struct EventList {
+    events: Vec<Event>,
+}
+
+impl Model for EventList {
+    ghost use Rattle.std.specs.Prelude.{List};
+    ghost use Rattle.b2_mvp.specs.declared.log.Event.{Event};
+
+    ghost Value = { List Event };
+
+    ghost view = { λ s. s.events.items };
+}
+
+impl EventList {
+    pub fn new(events: Vec<Event>) -> EventList
+        ensures { result ≡ events.items }
+    {
+        EventList { events }
+    }
+
+    pub fn events(&self) -> &[Event]
+        ensures { result.now ≡ self.now }
+    {
+        &self.events
+    }
+}
+
+// A number without leading zeros; a million stands for all from there on, which are out of each range.
+fn read_number(word: &[u8]) -> Option<u32>
+    ensures value { result ≡ number_of word.now }
+    ensures small { IfSome result (λ n. n ≤ 1000000) }
+{
+    let [first, rest @ ..] = word else {
+        return None;
+    };
+    if *first == b'0' && !rest.is_empty() {
+        return None;
+    }
+    let mut n = 0u32;
+    for b in word {
+        if !b.is_ascii_digit() {
+            return None;
+        }
+        n = (n * 10 + u32::from(*b - b'0')).min(1_000_000);
+    }
+    Some(n)
+}
+
+// A terminal and what is typed at it.
+fn read_type(alloc: Global, args: Option<&[u8]>) -> Result<LineRead, NoMemory>
+    ensures value { IfOk result (λ line. line ≡ type_args (option_copied args.entry)) }
+    ensures grants { IfOk result (λ line. GrantsNothing line) }
+{
+    let Some(args) = args else {
+        return Ok(LineRead::Fails(3));
+    };
+    let (word, text) = cut(args, b' ');
+    let Some(terminal) = read_number(word) else {
+        return Ok(LineRead::Fails(3));
+    };
+    if terminal < 1 || terminal > 12 {
+        return Ok(LineRead::Fails(4));
+    }
+    if terminal != 1 {
+        return Ok(LineRead::Fails(5));
+    }
+    let typed = Vec::from_slice(alloc, text.unwrap_or(b""))?;
+    Ok(LineRead::Reads(Event::Type(ByteList::new(typed))))
+}
+
+fn read_rounds(granted: u32, args: Option<&[u8]>) -> LineRead
+    requires { granted ≤ 5000000 }
+    ensures value { result ≡ rounds_args granted (option_copied args.entry) }
+    ensures grants { GrantsWithin granted result }
+{
+    let Some(args) = args else {
+        return LineRead::Fails(3);
+    };
+    let Some(n) = read_number(args) else {
+        return LineRead::Fails(3);
+    };
+    if n < 1 || n > 100_000 {
+        return LineRead::Fails(4);
+    }
+    if granted + 20 * n > 5_000_000 {
+        return LineRead::Fails(6);
+    }
+    LineRead::Reads(Event::Rounds(n))
+}
+
+fn all_printable(line: &[u8]) -> bool
+    ensures { result ≡ list_all is_printable line.now }
+{
+    line.iter().all(|b| *b >= 0x20 && *b <= 0x7e)
+}
+
+// The event of a line, after so many steps were granted.
+fn read_event(alloc: Global, granted: u32, line: &[u8]) -> Result<LineRead, NoMemory>
+    requires { granted ≤ 5000000 }
+    ensures value { IfOk result (λ read. read ≡ event_of granted line.now) }
+    ensures grants { IfOk result (λ read. GrantsWithin granted read) }
+{
+    let (word, args) = cut(line, b' ');
+    if word == b"type".as_slice() {
+        return read_type(alloc, args);
+    }
+    if word == b"rounds".as_slice() {
+        return Ok(read_rounds(granted, args));
+    }
+    Ok(LineRead::Fails(2))
+}
+
+// A line, after so many steps were granted.
+fn read_line(alloc: Global, granted: u32, line: &[u8]) -> Result<LineRead, NoMemory>
+    requires { granted ≤ 5000000 }
+    ensures value { IfOk result (λ read. read ≡ line_read granted line.now) }
+    ensures grants { IfOk result (λ read. GrantsWithin granted read) }
+{
+    if !all_printable(line) {
+        return Ok(LineRead::Fails(1));
+    }
+    match line {
+        [] | [b'#', ..] => Ok(LineRead::Nothing),
+        _ => read_event(alloc, granted, line),
+    }
+}
+
+// A line without the carriage return at its end.
+fn trim(line: &[u8]) -> &[u8]
+    ensures { result.now ≡ without_return line.now }
+{
+    match line {
+        [front @ .., b'\r'] => front,
+        _ => line,
+    }
+}
+
+// The first line of a text, and what follows its newline, if there is one.
+fn first_line(text: &[u8]) -> (&[u8], Option<&[u8]>)
+    ensures lines { lines_of text.now ≡ result.0.now ∷ lines_after (option_copied result.1) }
+    ensures shorter { IfSome result.1 (λ rest. length rest.now < length text.now) }
+{
+    let (line, rest) = cut(text, b'\n');
+    match rest {
+        Some(following) => (trim(line), Some(following)),
+        None => (line, None),
+    }
+}
+
+// The steps that an event grants.
+fn steps_granted(event: &Event) -> u32
+    requires { grants event.now ≤ 5000000 }
+    ensures { result ≡ grants event.now }
+{
+    match event {
+        Event::Type(_) => 0,
+        Event::Rounds(n) => 20 * *n,
+    }
+}
+
+/// The events of a log, or the first line that fails a check.
+pub fn read_log(alloc: Global, text: &[u8]) -> Result<LogRead, NoMemory>
+    requires { length text.now < 2 ^ 31 }
+    ensures { IfOk result (λ log. log ≡ log_of text.now) }
+{
+    let mut events = Vec::new(alloc);
+    let mut granted = 0u32;
+    let mut number = 1u32;
+    let mut left = Some(text);
+    while let Some(text) = left {
+        let (line, rest) = first_line(text);
+        let here = number;
+        number += 1;
+        left = rest;
+        match read_line(alloc, granted, line)? {
+            LineRead::Nothing => continue,
+            LineRead::Fails(check) => return Ok(LogRead::Fails(here, check)),
+            LineRead::Reads(event) => {
+                granted += steps_granted(&event);
+                events.push(event)?;
+            }
+        }
+    }
+    Ok(LogRead::Events(EventList::new(events)))
+}

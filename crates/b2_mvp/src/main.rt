@@ -1,0 +1,62 @@
+//! The machine as a program: `b2_mvp run LOG OUT`.
+//!
+//! It reads a log of keystrokes and turns, runs one built-in partition at one terminal, writes the terminal's transcript
+//! to `OUT.t01` and a summary line to standard output. Stands on `b2_base` for the outside and on `b2_machine` for the
+//! machine.
+//!
+//! The main promise is the contract of `top::mvp`: whatever the words, the log and the outside, each status comes by its
+//! cause, and where the status is `Ok`, what was written is what the machine defined in `specs/` writes under this log.
+//! The definitions: `Log` what a log says, `Run` what its events do, `Status` the statuses, `Top` when each comes.
+#![tactic(auto)]
+
+mod log;
+mod run;
+mod status;
+#[cfg(test)]
+mod tests;
+mod top;
+
+use b2_base::{FileShelf, OutSink};
+use status::Status;
+use std::env::{self, Env};
+use std::io::{self, ErrorKind};
+use std::process::ExitCode;
+use std::str;
+
+// The words after the program's name.
+fn words(rt: &(impl Env + AllocGlobal)) -> io::Result<Vec<Vec<u8>>> {
+    let mut words = Vec::new(rt.alloc());
+    for word in env::args(rt)?.skip(1) {
+        words.push(word.into_bytes())?;
+    }
+    Ok(words)
+}
+
+// Runs the program. Words that are no text are no command.
+fn run_process(rt: &HostRuntime) -> Status {
+    match words(rt) {
+        Ok(words) => {
+            let mut shelf = FileShelf::new(rt);
+            let mut sink = OutSink::new(rt);
+            top::mvp(rt.alloc(), &words, &mut shelf, &mut sink)
+        }
+        Err(error) => {
+            if error.kind() == ErrorKind::InvalidData {
+                Status::Usage
+            } else {
+                Status::NoMemory
+            }
+        }
+    }
+}
+
+fn main(rt: HostRuntime) -> ExitCode {
+    let status = run_process(&rt);
+    let line = status.line();
+    if !line.bytes().is_empty() {
+        if let Ok(text) = str::from_utf8(line.bytes()) {
+            let _ = rt.eprintln(text);
+        }
+    }
+    ExitCode::from(status.number())
+}

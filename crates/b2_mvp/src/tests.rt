@@ -1,0 +1,243 @@
+use crate::top::mvp;
+use b2_base::{MemShelf, MemSink};
+use std::alloc::{AllocError, Global};
+use std::collections::BTreeMap;
+use std::test::Fail;
+
+// A log, and what its run answers and writes.
+struct Row {
+    log: &'static [u8],
+    transcript: &'static [u8],
+    summary: &'static [u8],
+}
+
+const ROWS: [Row; 8] = [
+    Row {
+        log: b"type 1 PRINT 2+2\nrounds 5\n",
+        transcript: b"READY\n:PRINT 2+2\n 4 \n:",
+        summary: b"turns 5 steps 4 dropped 0\n",
+    },
+    Row {
+        log: b"type 1 10 X=5\ntype 1 20 PRINT X-7\ntype 1 RUN\nrounds 9\n",
+        transcript: b"READY\n:10 X=5\n:20 PRINT X-7\n:RUN\n-2 \n:",
+        summary: b"turns 9 steps 12 dropped 0\n",
+    },
+    Row {
+        log: b"type 1 10 GOTO 10\ntype 1 RUN\nrounds 3\n",
+        transcript: b"READY\n:10 GOTO 10\n:RUN\n",
+        summary: b"turns 3 steps 60 dropped 0\n",
+    },
+    Row {
+        log: b"type 1 STOP\nrounds 5",
+        transcript: b"READY\n:STOP\nERR S14 COL 1\n:",
+        summary: b"turns 5 steps 3 dropped 0\n",
+    },
+    Row {
+        log: b"",
+        transcript: b"",
+        summary: b"turns 0 steps 0 dropped 0\n",
+    },
+    Row {
+        log: b"# nothing\r\n\r\nrounds 1\r\n",
+        transcript: b"READY\n:",
+        summary: b"turns 1 steps 1 dropped 0\n",
+    },
+    Row {
+        log: b"type 1\nrounds 1\n",
+        transcript: b"READY\n:\n:",
+        summary: b"turns 1 steps 3 dropped 0\n",
+    },
+    Row {
+        log: b"type 1 AAAAAAAAAABBBBBBBBBBCCCCCCCCCCDDDDDDDDDDEEEEEEEEEEFFFFFFFFFFGGGGGGGGGGHHHHHHHHHHIIIIIIIIIIJJJJJJJJJJKKKKKKKKKKLLLLLLLLLLMMMMMMMMMM\nrounds 2\n",
+        transcript: b"READY\n:AAAAAAAAAABBBBBBBBBBCCCCCCCCCCDDDDDDDDDDEEEEEEEEEEFFFFFFFFFFGGGGGGGGGGHHHHHHHHHHIIIIIIIIIIJJJJJJJJJJKKKKKKKKKKLLLLLLLLLLMMMMMMMM",
+        summary: b"turns 2 steps 1 dropped 3\n",
+    },
+];
+
+// A log that is refused, its first line that fails, and the first check of it.
+const BAD_LOGS: [(&[u8], &[u8]); 17] = [
+    (b"rounds 1\njump 1\n", b"bad log 2 2"),
+    (b"type 1 A\tB", b"bad log 1 1"),
+    (b"#\x01", b"bad log 1 1"),
+    (b"jump \x7f", b"bad log 1 1"),
+    (b"rounds 1\r", b"bad log 1 1"),
+    (b"\n\ntype\n", b"bad log 3 3"),
+    (b"type x", b"bad log 1 3"),
+    (b"type 01 A", b"bad log 1 3"),
+    (b"type 13 A", b"bad log 1 4"),
+    (b"type 0 A", b"bad log 1 4"),
+    (b"type 2 A", b"bad log 1 5"),
+    (b"rounds", b"bad log 1 3"),
+    (b"rounds 1 ", b"bad log 1 3"),
+    (b"rounds 0", b"bad log 1 4"),
+    (b"rounds 100001", b"bad log 1 4"),
+    (b" rounds 1", b"bad log 1 2"),
+    (
+        b"rounds 100000\nrounds 100000\nrounds 50001\n",
+        b"bad log 3 6",
+    ),
+];
+
+// Words that are no command.
+const NEAR_MISSES: [&[&[u8]]; 14] = [
+    &[],
+    &[b"run"],
+    &[b"run", b"log"],
+    &[b"run", b"log", b"out", b"more"],
+    &[b"RUN", b"log", b"out"],
+    &[b"runs", b"log", b"out"],
+    &[b"run", b"", b"out"],
+    &[b"run", b"log", b""],
+    &[b"run", b"l g", b"out"],
+    &[b"run", b"log", b"o:t"],
+    &[b"--help"],
+    &[b"alone", b"log", b"out", b"1"],
+    &[b"drill", b"1", b"out"],
+    &[b"check", b"image"],
+];
+
+fn words(alloc: Global, texts: &[&[u8]]) -> Result<Vec<Vec<u8>>, AllocError> {
+    let mut words = Vec::new(alloc);
+    for text in texts {
+        words.push(Vec::from_slice(alloc, text)?)?;
+    }
+    Ok(words)
+}
+
+// A shelf with a log, where there is one, whose listed calls fail.
+fn shelf(alloc: Global, log: Option<&[u8]>, failing: &[u32]) -> Result<MemShelf, AllocError> {
+    let mut files = BTreeMap::new(alloc);
+    if let Some(log) = log {
+        files.insert(b"log".to_vec(alloc)?, Vec::from_slice(alloc, log)?)?;
+    }
+    Ok(MemShelf::new(alloc, files, Vec::from_slice(alloc, failing)?))
+}
+
+#[test]
+fn runs_write_a_transcript_and_a_summary(rt: HostRuntime) -> Result<(), Fail> {
+    let alloc = rt.alloc();
+    let words = words(alloc, &[b"run", b"log", b"out"])?;
+    for row in &ROWS {
+        let mut shelf = shelf(alloc, Some(row.log), &[])?;
+        let mut sink = MemSink::new(alloc, Vec::new(alloc));
+        let status = mvp(alloc, &words, &mut shelf, &mut sink);
+        assert_eq!(rt; status.number(), 0);
+        assert!(rt; status.line().bytes().is_empty());
+        assert_eq!(rt; shelf.file(b"out.t01").unwrap_or(b"none"), row.transcript);
+        assert_eq!(rt; sink.written(), row.summary);
+    }
+    Ok(())
+}
+
+#[test]
+fn bad_logs_write_nothing(rt: HostRuntime) -> Result<(), Fail> {
+    let alloc = rt.alloc();
+    let words = words(alloc, &[b"run", b"log", b"out"])?;
+    for (log, line) in &BAD_LOGS {
+        let mut shelf = shelf(alloc, Some(log), &[])?;
+        let mut sink = MemSink::new(alloc, Vec::new(alloc));
+        let status = mvp(alloc, &words, &mut shelf, &mut sink);
+        assert_eq!(rt; status.number(), 5);
+        assert_eq!(rt; status.line().bytes(), *line);
+        assert!(rt; shelf.file(b"out.t01").is_none() && sink.written().is_empty());
+    }
+    Ok(())
+}
+
+#[test]
+fn near_misses_are_usage(rt: HostRuntime) -> Result<(), Fail> {
+    let alloc = rt.alloc();
+    for texts in &NEAR_MISSES {
+        let mut shelf = shelf(alloc, Some(b"rounds 1"), &[])?;
+        let mut sink = MemSink::new(alloc, Vec::new(alloc));
+        let status = mvp(alloc, &words(alloc, texts)?, &mut shelf, &mut sink);
+        assert_eq!(rt; status.number(), 1);
+        assert_eq!(rt; status.line().bytes(), b"usage".as_slice());
+        assert!(rt; shelf.file(b"out.t01").is_none() && sink.written().is_empty());
+    }
+    let long = words(alloc, &[b"run", b"log", &[b'a'; 191]])?;
+    let mut shelf = shelf(alloc, Some(b"rounds 1"), &[])?;
+    let mut sink = MemSink::new(alloc, Vec::new(alloc));
+    assert_eq!(rt; mvp(alloc, &long, &mut shelf, &mut sink).number(), 1);
+    Ok(())
+}
+
+// The number of a failing call of the shelf and of the sink, 0 for none, and what comes of it.
+struct Failing {
+    shelf: u32,
+    sink: u32,
+    number: u8,
+    line: &'static [u8],
+    transcript: Option<&'static [u8]>,
+}
+
+const FAILING: [Failing; 4] = [
+    Failing {
+        shelf: 1,
+        sink: 0,
+        number: 3,
+        line: b"read fault log",
+        transcript: None,
+    },
+    Failing {
+        shelf: 2,
+        sink: 0,
+        number: 7,
+        line: b"write fault out.t01",
+        transcript: None,
+    },
+    Failing {
+        shelf: 0,
+        sink: 1,
+        number: 7,
+        line: b"write fault ",
+        transcript: Some(b"READY\n:"),
+    },
+    Failing {
+        shelf: 3,
+        sink: 2,
+        number: 0,
+        line: b"",
+        transcript: Some(b"READY\n:"),
+    },
+];
+
+#[test]
+fn failing_calls_have_their_status(rt: HostRuntime) -> Result<(), Fail> {
+    let alloc = rt.alloc();
+    let words = words(alloc, &[b"run", b"log", b"out"])?;
+    for row in &FAILING {
+        let mut shelf = shelf(alloc, Some(b"rounds 1\n"), &[row.shelf])?;
+        let mut sink = MemSink::new(alloc, vec![in alloc; row.sink]?);
+        let status = mvp(alloc, &words, &mut shelf, &mut sink);
+        assert_eq!(rt; status.number(), row.number);
+        assert_eq!(rt; status.line().bytes(), row.line);
+        assert_eq!(rt; shelf.file(b"out.t01"), row.transcript);
+        assert_eq!(rt; sink.written().is_empty(), row.number != 0);
+    }
+    let mut none = shelf(alloc, None, &[])?;
+    let mut sink = MemSink::new(alloc, Vec::new(alloc));
+    let status = mvp(alloc, &words, &mut none, &mut sink);
+    assert_eq!(rt; status.number(), 2);
+    assert_eq!(rt; status.line().bytes(), b"missing log".as_slice());
+    Ok(())
+}
+
+#[test]
+fn a_log_of_the_limit_and_one_byte_more(rt: HostRuntime) -> Result<(), Fail> {
+    let alloc = rt.alloc();
+    let words = words(alloc, &[b"run", b"log", b"out"])?;
+    let rows = [
+        (4_194_304, 0, b"".as_slice()),
+        (4_194_305, 9, b"too long log 4194304"),
+    ];
+    for (size, number, line) in rows {
+        let log = vec![in alloc; b'\n'; size]?;
+        let mut shelf = shelf(alloc, Some(&log), &[])?;
+        let mut sink = MemSink::new(alloc, Vec::new(alloc));
+        let status = mvp(alloc, &words, &mut shelf, &mut sink);
+        assert_eq!(rt; status.number(), number);
+        assert_eq!(rt; status.line().bytes(), line);
+    }
+    Ok(())
+}
