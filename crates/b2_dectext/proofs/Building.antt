@@ -4,7 +4,7 @@ use Rattle.b2_dec.specs.declared.number.Mode.TheVariants.{Cut}
 use Rattle.b2_dec.specs.Number.{Number, IsNumber, zero_number, size, value, opposite, differ}
 use Rattle.b2_dec.specs.Rounding.{rnd, rounded}
 use Rattle.b2_dec.specs.Arithmetic.{difference_of, product_of, quotient_of}
-use Rattle.b2_dec.proofs.Powers.{ten_pos}
+use Rattle.b2_dec.proofs.TenLemmas.{ten_pos}
 use Rattle.b2_dec.proofs.Signs.{value-opposite, sub-as_add}
 use Rattle.b2_dec.proofs.Factors.{product-sizes}
 use Rattle.b2_dec.proofs.Exact.{rnd-digits, in_range-number, whole-rnd, sum-zero_left}

@@ -12,7 +12,7 @@ use Rattle.std.specs.List.{prefix_len, suffix_len}
 use Rattle.b2_dec.specs.declared.number.Mode.TheVariants.{Round}
 use Rattle.b2_dec.specs.Number.{Number, IsNumber, zero_number}
 use Rattle.b2_dec.specs.Rounding.{rnd}
-use Rattle.b2_dec.proofs.Powers.{ten_pos}
+use Rattle.b2_dec.proofs.TenLemmas.{ten_pos}
 use Rattle.b2_dec.proofs.Exact.{rnd-digits, in_range-number, rnd-zero}
 use Rattle.b2_dec.proofs.Ranks.{thirteen}
 use Rattle.b2_dectext.specs.NumberText.{number_len, number_read, in_result, value_of}

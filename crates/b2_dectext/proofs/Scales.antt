@@ -5,7 +5,7 @@ use native.Mathlib.Nat.{mul-lt-mul_of_pos_right}
 use Rattle.b2_dec.specs.declared.number.Mode.TheVariants.{Round}
 use Rattle.b2_dec.specs.Number.{zero_number}
 use Rattle.b2_dec.specs.Rounding.{rnd, of_units, place_of, fitted, in_range, IsWholePart}
-use Rattle.b2_dec.proofs.Powers.{ten_pos, ten_le, ten_lt, ten_lt_back}
+use Rattle.b2_dec.proofs.TenLemmas.{ten_pos, ten_le, ten_lt, ten_lt_back}
 use Rattle.b2_dec.proofs.Places.{place_of-top}
 use Rattle.b2_dec.proofs.Rounds.{fitted-large, rnd-whole_part}
 use Rattle.b2_dec.proofs.Quotients.{half_of}

@@ -1,5 +1,5 @@
 use Rattle.std.proofs.Common.{◌^◌, ◌*◌, ◌∙◌, ap, pos, sym, arith}
-use Rattle.b2_dec.proofs.Powers.{ten_le}
+use Rattle.b2_dec.proofs.TenLemmas.{ten_le}
 use Rattle.b2_dectext.proofs.Building.{product-raised, IsTenTo}
 use Rattle.b2_dectext.proofs.reading.raised.Goals as goal
 

@@ -1,0 +1,17 @@
+-- Where the next byte goes. Columns are counted from 0.
+use Rattle.std.specs.Prelude.{ℕ, ◌+◌, ◌==◌, ◌||◌, nat_lt, min, Bool, false, if◌then◌else◌, List, [], ◌∷◌}
+use Rattle.std.specs.List.{fold}
+
+-- A newline and a return lead to the first column, and other bytes below a space stay in theirs. The count of columns
+-- ends at 65,535.
+abbrev pub next_column : ℕ → ℕ → ℕ
+next_column column b = if b == 10 || b == 13 then 0 else (if nat_lt b 32 then column else min (column + 1) 65535)
+
+-- the column after a text
+abbrev pub column_after : ℕ → List ℕ → ℕ
+column_after column text = fold next_column column text
+
+-- whether a text passes the width: the column after one of its bytes is above it
+abbrev pub passes : ℕ → ℕ → List ℕ → Bool
+passes width column [] = false
+passes width column (b ∷ bs) = nat_lt width (next_column column b) || passes width (next_column column b) bs

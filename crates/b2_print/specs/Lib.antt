@@ -1,0 +1,6 @@
+pub mod Columns
+pub mod Layout
+pub mod Images
+pub mod Filling
+pub mod Imaged
+pub mod Laws
