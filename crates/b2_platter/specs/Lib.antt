@@ -1,0 +1,5 @@
+pub mod Layout
+pub mod Slot
+pub mod Image
+pub mod Checks
+pub mod Edits
