@@ -1,1 +1,3 @@
+pub mod Cutting
+pub mod Keyed
 pub mod Padding

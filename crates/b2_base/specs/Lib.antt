@@ -1,3 +1,11 @@
 pub mod Codes
-pub mod Places
+pub mod Counts
+pub mod Files
+pub mod Keyed
+pub mod Memory
 pub mod Names
+pub mod Outside
+pub mod Pieces
+pub mod Places
+pub mod Real
+pub mod Seen

@@ -22,6 +22,9 @@ is_name_byte b =
 abbrev pub is_file_name : List ℕ → Bool
 is_file_name name = nat_le 1 (length name) && nat_le (length name) 190 && list_all is_name_byte name
 
+abbrev pub file_name_of : List ℕ → Option (List ℕ)
+file_name_of name = if is_file_name name then Some name else None
+
 -- a name on a disk: 1 to 8 bytes that can be shown, the first no blank
 abbrev pub is_name8 : List ℕ → Bool
 is_name8 [] = false

@@ -11,13 +11,27 @@
 mod addresses;
 mod bytes;
 pub mod codes;
+mod file_name;
+mod line_text;
+mod memory;
 mod name8;
+mod outside;
+mod pieces;
 mod places;
+mod real;
 mod steps;
+#[cfg(test)]
+mod tests;
 
 pub use addresses::{Addr, AddrList};
 pub use bytes::{ByteList, NoMemory};
 pub use codes::{Code, Fault};
+pub use file_name::FileName;
+pub use line_text::LineText;
+pub use memory::{MemShelf, MemSink};
 pub use name8::Name8;
+pub use outside::{Fetch, Keep, Shelf, Sink};
+pub use pieces::cut;
 pub use places::{Part, Term};
+pub use real::{FileShelf, OutSink};
 pub use steps::Steps;

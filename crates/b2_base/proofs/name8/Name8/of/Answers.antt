@@ -1,4 +1,4 @@
-use Rattle.std.proofs.Common.{◌≡◌, true, subst, sym, ap, ◌∙◌}
+use Rattle.std.proofs.Common.{sym, ap, ◌∙◌}
 use Rattle.b2_base.specs.Names.{is_name8}
 use Rattle.b2_base.proofs.Padding.{padded-is_name8}
 use Rattle.b2_base.proofs.name8.Name8.of.Goals as goal

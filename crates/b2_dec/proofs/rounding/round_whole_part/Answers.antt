@@ -1,0 +1,27 @@
+use Rattle.std.proofs.Common.{◌≤◌, arith}
+use Rattle.b2_dec.proofs.Rounds.{rnd-from_digits, dropped-some, kept-least, kept-most}
+use Rattle.b2_dec.proofs.rounding.round_whole_part.Goals as goal
+
+pub overflow_sub-dropped : goal.overflow_sub-dropped
+overflow_sub-dropped c = omega (arith, dropped-some c.args.m c.ilog10-dropped.result c.requires.digits c.ilog10-dropped.ensures.next_power_gt)
+
+pub whole_by-coef-requires-clause-some : goal.whole_by-coef-requires-clause-some
+whole_by-coef-requires-clause-some c = dropped-some c.args.m _ c.requires.digits c.ilog10-dropped.ensures.next_power_gt
+
+pub overflow_cast-coef : goal.overflow_cast-coef
+overflow_cast-coef c =
+    let most = kept-most c.args.mode c.args.m _ c.requires.digits c.ilog10-dropped.ensures.next_power_gt in
+    rw c.whole_by-coef.ensures (search (arith, most))
+
+pub fitted-requires-clause-least : goal.fitted-requires-clause-least
+fitted-requires-clause-least c =
+    rw c.whole_by-coef.ensures (kept-least c.args.mode c.args.m _ c.requires.digits c.ilog10-dropped.ensures.power_le c.ilog10-dropped.ensures.next_power_gt)
+
+pub fitted-requires-clause-digits : goal.fitted-requires-clause-digits
+fitted-requires-clause-digits c =
+    rw c.whole_by-coef.ensures (kept-most c.args.mode c.args.m _ c.requires.digits c.ilog10-dropped.ensures.next_power_gt)
+
+pub returns : goal.returns
+returns c n d some whole =
+    rw (c.fitted.ensures, c.whole_by-coef.ensures) (rnd-from_digits c.args.mode c.args.neg c.args.m c.args.at n d _ c.requires.digits
+    c.ilog10-dropped.ensures.power_le c.ilog10-dropped.ensures.next_power_gt some whole)

@@ -1,0 +1,4 @@
+pub mod Number
+pub mod Spelling
+pub mod Rounding
+pub mod Arithmetic

@@ -1,0 +1,140 @@
+// A number of thirteen digits.
+ghost use Rattle.std.specs.Prelude.{◌≡◌, ◌-ℤ◌, pos, ◌*◌, ◌^◌, ◌<◌, ◌≤◌, ◌==◌, Ok, false};
+ghost use Rattle.b2_dec.specs.Rounding.{rnd};
+ghost use Rattle.b2_dec.specs.Number.{zero_number, opposite, value, IsNumber};
+
+use crate::rounding::ten_to;
+use std::marker::Model;
+
+/// How a result with more than thirteen digits becomes a number.
+#[derive(Clone, Copy, Debug, PartialEq, Eq)]
+pub enum Mode {
+    /// The nearest number, a half away from zero.
+    Round,
+    /// The digits past the thirteenth are dropped.
+    Cut,
+}
+
+/// A decimal number of thirteen digits. Contracts see it as its sign, its digits and the place of the last of them.
+#[derive(Clone, Copy, Debug, PartialEq, Eq)]
+pub struct Dec {
+    neg: bool,
+    coef: u64,
+    exp: i8,
+}
+
+impl Model for Dec {
+    ghost use Rattle.std.specs.Prelude.{◌-ℤ◌, ◌+ℤ◌, ◌≤ℤ◌, pos, nat_abs, negsuc};
+    ghost use Rattle.b2_dec.specs.Number.{Number, IsNumber};
+
+    ghost Value = { Number };
+
+    ghost use Rattle.b2_dec.specs.Spelling.{seen, IsSpelled, fields, fields-seen};
+
+    ghost view = { seen };
+
+    ghost invariant = { IsSpelled };
+
+    ghost inverse = { fields };
+
+    ghost inverse_ok = { fields-seen };
+}
+
+impl Dec {
+    /// Zero.
+    pub const fn zero() -> Dec
+        ensures { result ≡ zero_number }
+    {
+        Dec {
+            neg: false,
+            coef: 0,
+            exp: 0,
+        }
+    }
+
+    /// A whole number below 10^13.
+    pub fn of_whole(n: u64) -> Dec
+        requires { n < 10 ^ 13 }
+        ensures value { value result ≡ pos (n * 10 ^ 111) }
+        ensures exact { (mode : Mode) → rnd mode false n 1 ≡ Ok result }
+        ensures sign { result.neg ≡ false }
+    {
+        if n == 0 {
+            return Dec::zero();
+        }
+        let missing = 12 - n.ilog10();
+        Dec::at(
+            false,
+            (n as u128 * ten_to(missing)) as u64,
+            (111 - missing) as u8,
+        )
+    }
+
+    /// The number of this sign whose thirteen digits end at this place, counted from 10^-111.
+    pub(crate) fn at(neg: bool, coef: u64, place: u8) -> Dec
+        requires least { 1000000000000 ≤ coef }
+        requires digits { coef < 10000000000000 }
+        requires highest { place ≤ 198 }
+        ensures { result ≡ record { neg = neg; coef = coef; place = place } }
+    {
+        Dec {
+            neg,
+            coef,
+            exp: (place as i16 - 99) as i8,
+        }
+    }
+
+    /// The place of the last digit, counted from 10^-111: from 0 to 198, and 99 for zero.
+    pub(crate) fn place(self) -> u32
+        ensures value { result ≡ self.place }
+        ensures highest { result ≤ 198 }
+    {
+        (self.exp as i32 + 99) as u32
+    }
+
+    /// The number of the other sign; zero is its own.
+    pub(crate) fn opposite(self) -> Dec
+        ensures { result ≡ opposite self }
+    {
+        if self.coef == 0 {
+            self
+        } else {
+            Dec {
+                neg: !self.neg,
+                coef: self.coef,
+                exp: self.exp,
+            }
+        }
+    }
+
+    /// True for zero.
+    pub fn is_zero(self) -> bool
+        ensures zero { result ≡ (self.coef == 0) }
+        ensures spelling { IsNumber self }
+    {
+        self.coef == 0
+    }
+
+    /// True for numbers below zero.
+    pub fn is_negative(self) -> bool
+        ensures { result ≡ self.neg }
+    {
+        self.neg
+    }
+
+    /// The thirteen digits as a whole number: 0, or from 10^12 to 10^13 - 1.
+    pub fn coefficient(self) -> u64
+        ensures value { result ≡ self.coef }
+        ensures digits { result < 10000000000000 }
+        ensures spelling { IsNumber self }
+    {
+        self.coef
+    }
+
+    /// The exponent of ten of the first digit, from -99 to 99; 0 for zero.
+    pub fn exponent(self) -> i8
+        ensures { result ≡ pos self.place -ℤ pos 99 }
+    {
+        self.exp
+    }
+}

@@ -1,0 +1,180 @@
+//! A terminal: a queue of keys, the partition in front, the line being typed, and a transcript of all that it showed.
+//!
+//! Stands on `b2_base`. The definition is `specs/Terminal.antt`: a terminal is seen in contracts as its record of lists,
+//! and each call is proved to be the function of that file, for every queue, line and transcript.
+#![tactic(auto)]
+
+ghost use Rattle.std.specs.Prelude.{◌≡◌, ◌≤◌, ◌<◌, [], ◌∷◌, ◌++◌, length, nat_lt, OnOk, IfOk, false, ◌↔◌};
+ghost use Rattle.std.specs.List.{list_any};
+ghost use Rattle.std.specs.VecDeque.{deque_capacity};
+ghost use Rattle.b2_term.specs.Terminal.{Typing, reading, line_read, after_read, typed, echo, keyed, ends_line};
+
+use b2_base::{ByteList, NoMemory, Part};
+use std::alloc::Global;
+use std::collections::VecDeque;
+use std::marker::Model;
+use std::mem;
+
+#[cfg(test)]
+mod tests;
+
+/// How many keys may wait.
+const QUEUE_SIZE: usize = 128;
+
+/// How many bytes a typed line may have.
+const LINE_SIZE: usize = 256;
+
+/// A key: a byte, or a special function key by its number.
+#[derive(Clone, Copy, Debug, PartialEq, Eq)]
+pub enum KeyItem {
+    Byte(u8),
+    Special(u8),
+}
+
+/// The answer to the reading of a line.
+#[derive(Drop)]
+pub enum Read {
+    /// The line that a RETURN ended, without it.
+    Line(ByteList),
+    /// A special function key, which leaves the line as it is.
+    Special(u8),
+    /// No key that ends a line is there; those that were have been typed into the line.
+    NoKeys,
+}
+
+/// A terminal.
+#[derive(Drop)]
+pub struct Terminal {
+    alloc: Global,
+    queue: VecDeque<KeyItem>,
+    front: Part,
+    line: Vec<u8>,
+    transcript: Vec<u8>,
+}
+
+impl Model for Terminal {
+    ghost use Rattle.std.specs.Prelude.{◌≤◌, length};
+    ghost use Rattle.std.specs.VecDeque.{deque_capacity};
+    ghost use Rattle.b2_term.specs.Terminal.{TerminalState};
+
+    ghost Value = { TerminalState };
+
+    ghost view = { λ t. record { queue = t.queue.items; front = t.front; line = t.line.items; transcript = t.transcript.items } };
+
+    ghost invariant = { λ t. (128 ≤ deque_capacity t.queue) × (length t.queue.items ≤ 128) };
+}
+
+// Types a byte that doesn't end the line.
+fn type_byte(line: &mut Vec<u8>, transcript: &mut Vec<u8>, b: u8) -> Result<(), NoMemory>
+    ensures line { OnOk result (line.new.items ≡ typed b line.old.items) }
+    ensures transcript { OnOk result (transcript.new.items ≡ transcript.old.items ++ echo b line.old.items) }
+{
+    if b >= 0x20 && b <= 0x7e {
+        if line.len() < LINE_SIZE {
+            line.push(b)?;
+            transcript.push(b)?;
+        } else {
+            transcript.push(7)?;
+        }
+    } else if b == 8 && !line.is_empty() {
+        line.truncate(line.len() - 1);
+        transcript.extend_from_slice(&[8, 0x20, 8])?;
+    }
+    Ok(())
+}
+
+// Takes keys up to one that ends the reading.
+fn read_keys(
+    alloc: Global,
+    queue: &mut VecDeque<KeyItem>,
+    line: &mut Vec<u8>,
+    transcript: &mut Vec<u8>,
+) -> Result<Read, NoMemory>
+    ensures reads { IfOk result (λ read. record { answer = read; queue = queue.new.items; line = line.new.items; transcript = transcript.new.items }
+        ≡ reading queue.old.items (record { line = line.old.items; transcript = transcript.old.items })) }
+    ensures capacity { deque_capacity queue.new ≡ deque_capacity queue.old }
+    ensures shorter { length queue.new.items ≤ length queue.old.items }
+{
+    while let Some(key) = queue.pop_front() {
+        match key {
+            KeyItem::Special(n) => return Ok(Read::Special(n)),
+            KeyItem::Byte(b'\r') => {
+                transcript.push(b'\n')?;
+                let whole = mem::replace(line, Vec::new(alloc));
+                return Ok(Read::Line(ByteList::new(whole)));
+            }
+            KeyItem::Byte(b) => type_byte(line, transcript, b)?,
+        }
+    }
+    Ok(Read::NoKeys)
+}
+
+impl Terminal {
+    /// An idle terminal with this partition in front. It takes the room for 128 keys.
+    pub fn new(alloc: Global, front: Part) -> Result<Terminal, NoMemory>
+        ensures { IfOk result (λ t. t ≡ record { queue = []; front = front; line = []; transcript = [] }) }
+    {
+        Ok(Terminal {
+            alloc,
+            queue: VecDeque::with_capacity(alloc, QUEUE_SIZE)?,
+            front,
+            line: Vec::new(alloc),
+            transcript: Vec::new(alloc),
+        })
+    }
+
+    /// Queues a key. It answers false exactly where 128 keys wait, and then the key is dropped. It takes no memory.
+    pub fn key(&mut self, k: KeyItem) -> bool
+        ensures room { result ≡ nat_lt (length self.old.queue) 128 }
+        ensures queued { self.new ≡ keyed k self.old }
+    {
+        if self.queue.len() >= QUEUE_SIZE {
+            return false;
+        }
+        self.queue.push_back_reserved(k);
+        true
+    }
+
+    /// Puts a partition in front.
+    pub fn set_front(&mut self, p: Part)
+        ensures { self.new ≡ record self.old { front = p } }
+    {
+        self.front = p;
+    }
+
+    /// The partition in front.
+    pub fn front(&self) -> Part
+        ensures { result ≡ self.now.front }
+    {
+        self.front
+    }
+
+    /// Shows bytes: they are added to the transcript.
+    pub fn show(&mut self, bytes: &[u8]) -> Result<(), NoMemory>
+        ensures { OnOk result (self.new ≡ record self.old { transcript = self.old.transcript ++ bytes.now }) }
+    {
+        self.transcript.extend_from_slice(bytes)?;
+        Ok(())
+    }
+
+    /// Types the keys that wait, up to one that ends the line.
+    pub fn read_line(&mut self) -> Result<Read, NoMemory>
+        ensures answer { IfOk result (λ read. read ≡ line_read self.old) }
+        ensures after { OnOk result (self.new ≡ after_read self.old) }
+        ensures no_keys { IfOk result (λ read. (read ≡ Read.NoKeys) ↔ (list_any ends_line self.old.queue ≡ false)) }
+    {
+        read_keys(
+            self.alloc,
+            &mut self.queue,
+            &mut self.line,
+            &mut self.transcript,
+        )
+    }
+
+    /// All that was shown and echoed.
+    pub fn transcript(&self) -> &[u8]
+        ensures { result.now ≡ self.now.transcript }
+    {
+        &self.transcript
+    }
+}
