@@ -5,7 +5,7 @@ use Rattle.std.specs.List.{range_with_len, find}
 use Rattle.b2_platter.specs.Image.{has_free}
 use Rattle.b2_platter.proofs.Ranges.{range-step, range-end}
 use Rattle.b2_platter.proofs.Walks.{around-step, around-end}
-use Rattle.b2_catalog.specs.Ways.{slot_in, stops, found_along, count_up_to}
+use Rattle.b2_catalog.specs.Ways.{slot_in, stops, found_along, count_up_to, place_along}
 
 -- a search in a range goes on where a number fails, and ends where it passes
 find_step : (p : ℕ → Bool) (k n : ℕ) → k < n → find p (range_with_len k (n - k)) ≡ cond (p k) (Some k) (find p (range_with_len (k + 1) (n - (k + 1))))
@@ -70,3 +70,13 @@ module _ (image name : List ℕ) (first index j steps : ℕ) (found : Option ℕ
         same = sym (ap (found_along (slot_in image name) (has_free image)) (around-step first index j h) ∙ found_later image name _ _ e f) ∙ was.same;
         ticks = omega (arith, on, was.ticks);
       }
+
+-- the steps of the loop that looks for a free slot
+module _ (lowest : ℕ → Option ℕ) (first index j : ℕ) (whole : Option ℕ) (h : j < index) (was : place_along lowest (map (λ (j : ℕ). (first + j) % index) (range_with_len j (index - j))) ≡ whole) where
+  pub place_here : is_some (lowest ((first + j) % index)) ≡ true → lowest ((first + j) % index) ≡ whole
+  place_here e =
+      sym (ap (place_along lowest) (around-step first index j h) ∙ ap (λ (b : Bool). cond b (lowest ((first + j) % index)) (place_along lowest (map (λ (j : ℕ). (first + j) % index) (range_with_len (j + 1) (index - (j + 1)))))) e) ∙ was
+
+  pub place_more : is_some (lowest ((first + j) % index)) ≡ false → place_along lowest (map (λ (j : ℕ). (first + j) % index) (range_with_len (j + 1) (index - (j + 1)))) ≡ whole
+  place_more e =
+      sym (ap (place_along lowest) (around-step first index j h) ∙ ap (λ (b : Bool). cond b (lowest ((first + j) % index)) (place_along lowest (map (λ (j : ℕ). (first + j) % index) (range_with_len (j + 1) (index - (j + 1)))))) e) ∙ was

@@ -1,3 +1,9 @@
 pub mod Finding
 pub mod Looking
 pub mod Mapping
+pub mod Rows
+pub mod Changed
+pub mod Spelled
+pub mod Maps
+pub mod RowPuts
+pub mod Scratching

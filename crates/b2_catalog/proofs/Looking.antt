@@ -148,7 +148,7 @@ module _ (image : List ℕ) (good : Good Narrow image) (name : List ℕ) where
           ]
       ]
 
-  in_slots : (s j : ℕ) → s < index_of image → first_slot s ≤ j → j < first_slot s + (16 * s + 16 - first_slot s) → (1 ≤ j) × (j < 16 * index_of image) × (16 * s ≤ j) × (j < 16 * s + 16)
+  pub in_slots : (s j : ℕ) → s < index_of image → first_slot s ≤ j → j < first_slot s + (16 * s + 16 - first_slot s) → (1 ≤ j) × (j < 16 * index_of image) × (16 * s ≤ j) × (j < 16 * s + 16)
   in_slots s j below low high =
       let least = first_slot-some s in
       let from = first_slot-high s in

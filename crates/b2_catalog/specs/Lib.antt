@@ -1,2 +1,4 @@
 pub mod Catalogue
 pub mod Ways
+pub mod Changes
+pub mod Calls

@@ -1,7 +1,14 @@
 //! The hashed index of a platter.
 #![tactic(auto)]
 
+mod changes;
 mod entry;
 mod lookup;
+mod place;
+mod plain;
+mod spelling;
 
+pub use changes::{scratch, set_used};
 pub use entry::Entry;
+pub use lookup::{find, look};
+pub use plain::{format, limits};

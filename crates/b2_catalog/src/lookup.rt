@@ -95,19 +95,29 @@ pub fn find<L: Ledger>(p: &Platter, name: Name8, steps: &mut Steps<L>) -> Option
     Some(entry_at(p, k, name))
 }
 
-/// The file with the name, None where the catalogue hasn't it.
-pub fn look(p: &Platter, name: Name8) -> Option<Entry>
-    ensures { result ≡ get (catalogue p.now) name }
+// The slot of the file with the name, where nobody counts the steps.
+fn uncounted<L: Ledger>(p: &Platter, name: Name8, blank: Blank) -> Option<usize>
+    requires name { blank.name ≡ L.name }
+    requires parts { blank.parts ≡ L.parts }
+    requires some { 0 < L.parts }
+    ensures slot { result ≡ slot_of p.now name }
+    ensures held { IfSome result (IsSlotOf p.now name) }
+{
+    find_slot(p, name, &mut Steps::<L>::new(blank))
+}
+
+/// The slot of the file with the name.
+pub fn look_slot(p: &Platter, name: Name8) -> Option<usize>
+    ensures slot { result ≡ slot_of p.now name }
+    ensures held { IfSome result (IsSlotOf p.now name) }
 {
     uncounted::<Brand>(p, name, Blank::new(1))
 }
 
-// A look-up whose steps nobody counts.
-fn uncounted<L: Ledger>(p: &Platter, name: Name8, blank: Blank) -> Option<Entry>
-    requires name { blank.name ≡ L.name }
-    requires parts { blank.parts ≡ L.parts }
-    requires some { 0 < L.parts }
+/// The file with the name, None where the catalogue hasn't it.
+pub fn look(p: &Platter, name: Name8) -> Option<Entry>
     ensures { result ≡ get (catalogue p.now) name }
 {
-    find(p, name, &mut Steps::<L>::new(blank))
+    let k = look_slot(p, name)?;
+    Some(entry_at(p, k, name))
 }

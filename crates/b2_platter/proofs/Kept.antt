@@ -59,11 +59,11 @@ pub ordered-same : (layout : Layout) (a b : List ℕ) → head b ≡ head a → 
 unfolding is_ordered
 ordered-same layout a b same h = rw (index-same layout a b same, total-same layout a b same, end-same layout a b same, next-same layout a b same) h
 
-guard_step : (e p q : Bool) → (p ≡ true → q ≡ true) → (not e || p) ≡ true → (not e || q) ≡ true
+pub guard_step : (e p q : Bool) → (p ≡ true → q ≡ true) → (not e || p) ≡ true → (not e || q) ≡ true
 guard_step true p q step h = step h
 guard_step false p q step h = refl
 
-controlled-same : (layout : Layout) (a b slot : List ℕ) → (is_entry slot ≡ true → sector b (end_of layout slot) ≡ sector a (end_of layout slot)) → is_controlled layout a slot ≡ true → is_controlled layout b slot ≡ true
+pub controlled-same : (layout : Layout) (a b slot : List ℕ) → (is_entry slot ≡ true → sector b (end_of layout slot) ≡ sector a (end_of layout slot)) → is_controlled layout a slot ≡ true → is_controlled layout b slot ≡ true
 unfolding is_controlled
 controlled-same layout a b slot ends h =
     let with_entry : (e : Bool) → is_entry slot ≡ e → (not e || is_control layout (end_of layout slot - start_of layout slot) (sector a (end_of layout slot))) ≡ true → (not e || is_control layout (end_of layout slot - start_of layout slot) (sector b (end_of layout slot))) ≡ true =
@@ -122,7 +122,7 @@ HoldsData-from layout slot n h =
     record { entry = inner.0; low = leb-true _ _ inner.1; high = ltb-true _ _ outer.1 }
 
 -- two files that share no sector
-shared : (layout : Layout) (slot other : List ℕ) → lie_apart layout slot other ≡ true → is_entry slot ≡ true → is_entry other ≡ true → start_of layout slot ≤ end_of layout other → start_of layout other ≤ end_of layout slot → ⊥
+pub shared : (layout : Layout) (slot other : List ℕ) → lie_apart layout slot other ≡ true → is_entry slot ≡ true → is_entry other ≡ true → start_of layout slot ≤ end_of layout other → start_of layout other ≤ end_of layout slot → ⊥
 unfolding lie_apart
 shared layout slot other h e f low high =
     false≢true (sym (not-true _ h) ∙ and_from _ _ (and_from _ _ (and_from _ _ e f) (le-leb _ _ low)) (le-leb _ _ high))

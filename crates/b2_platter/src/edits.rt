@@ -6,8 +6,8 @@ ghost use Rattle.b2_platter.specs.Edits.{spelled, head_bytes, put_sector, put_se
 use crate::Layout;
 use byteorder::{BigEndian, ByteOrder};
 
-// Spells a sector number at a place.
-fn put_number(layout: Layout, bytes: &mut [u8], place: usize, n: u32)
+/// Spells a sector number at a place.
+pub fn put_number(layout: Layout, bytes: &mut [u8], place: usize, n: u32)
     requires room { place + width_of layout ≤ length bytes.old }
     requires fits { n < 256 ^ width_of layout }
     ensures { bytes.new ≡ take place bytes.old ++ (spelled layout n ++ drop (place + width_of layout) bytes.old) }

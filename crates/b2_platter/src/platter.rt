@@ -57,6 +57,7 @@ impl Platter {
     pub fn sectors(&self) -> u32
         ensures value { result ≡ total_of Narrow self.now }
         ensures whole { length self.now ≡ 256 * result }
+        ensures good { Good Narrow self.now }
     {
         image::total(Layout::Narrow, &self.bytes)
     }
@@ -64,7 +65,8 @@ impl Platter {
     /// Sector n.
     pub fn sector(&self, n: u32) -> &[u8; 256]
         requires { n < total_of Narrow self.now }
-        ensures { result.now ≡ sector self.now n }
+        ensures value { result.now ≡ sector self.now n }
+        ensures good { Good Narrow self.now }
     {
         image::sector(&self.bytes, n as usize)
     }

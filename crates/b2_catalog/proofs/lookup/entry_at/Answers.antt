@@ -17,4 +17,4 @@ pub returns : goal.returns
 unfolding entry_at
 returns c =
     let same = (Holds-from c.args.name (row c.args.p.now c.args.k) c.requires.held).same in
-    rw (c.is_live.ensures, c.is_program.ensures, c.start.ensures, c.used.ensures, c.sector.ensures, c.end-end.ensures, c.row-slot.ensures, c.image.ensures.value, same) refl
+    rw (c.is_live.ensures, c.is_program.ensures, c.start.ensures, c.used.ensures, c.sector.ensures.value, c.end-end.ensures, c.row-slot.ensures, c.image.ensures.value, same) refl
