@@ -7,3 +7,5 @@ pub mod Spelled
 pub mod Maps
 pub mod RowPuts
 pub mod Scratching
+pub mod Placing
+pub mod Entering

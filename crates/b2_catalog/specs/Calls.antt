@@ -1,8 +1,12 @@
 -- What the calls do to the catalogue.
-use Rattle.std.specs.Prelude.{ℕ, Bool, true, false, List, Option, Some, None}
+use Rattle.std.specs.Prelude.{ℕ, ◌+◌, ◌-◌, Bool, true, false, nat_lt, is_some, is_none, List, Option, Some, None, if◌then◌else◌}
 use Rattle.std.specs.FinMap.{get, insert}
+use Rattle.b2_base.specs.declared.codes.TheConstants.{D83_NAME_PRESENT, D85_INDEX_FULL, D86_NO_ROOM}
+use Rattle.b2_platter.specs.declared.layout.Layout.TheVariants.{Narrow}
+use Rattle.b2_platter.specs.Image.{catalogue_end, next_free}
 use Rattle.b2_catalog.specs.declared.entry.Entry.{Entry}
-use Rattle.b2_catalog.specs.Catalogue.{Catalogue}
+use Rattle.b2_catalog.specs.Catalogue.{Catalogue, catalogue}
+use Rattle.b2_catalog.specs.Ways.{place}
 
 -- with the file at a name, where there is one, no longer live
 abbrev pub with_scratched : Catalogue → List ℕ → Option Entry → Catalogue
@@ -11,3 +15,15 @@ with_scratched files name (Some e) = insert files name (record e { live = false 
 
 abbrev pub catalogue_scratched : Catalogue → List ℕ → Catalogue
 catalogue_scratched files name = with_scratched files name (get files name)
+
+-- why a new file is refused: its name is there, or no slot is free, or the catalogue has no room for its sectors
+abbrev pub enter_refusal : List ℕ → List ℕ → ℕ → Option ℕ
+enter_refusal image name sectors =
+    if is_some (get (catalogue image) name) then Some D83_NAME_PRESENT
+    else (if is_none (place image name) then Some D85_INDEX_FULL
+    else (if nat_lt (catalogue_end Narrow image) (next_free Narrow image + sectors) then Some D86_NO_ROOM else None))
+
+-- the file that is entered
+abbrev pub new_entry : List ℕ → List ℕ → Bool → ℕ → Entry
+new_entry image name program sectors =
+    record { name = name; live = true; program = program; start = next_free Narrow image; end = next_free Narrow image + sectors - 1; used = 1 }

@@ -2,7 +2,8 @@
 use Rattle.std.specs.Prelude.{ℕ, ◌+◌, ◌-◌, ◌*◌, Bool, List, [], ◌∷◌, ◌++◌, take, drop, replicate, if◌then◌else◌}
 use Rattle.b2_platter.specs.declared.layout.Layout.TheVariants.{Narrow}
 use Rattle.b2_platter.specs.Layout.{width_of, third_place}
-use Rattle.b2_platter.specs.Edits.{spelled, put_sector}
+use Rattle.b2_platter.specs.Image.{index_of, total_of, catalogue_end, next_free}
+use Rattle.b2_platter.specs.Edits.{spelled, head_bytes, put_sector}
 
 -- row k is these bytes
 unfoldable pub put_row : List ℕ → ℕ → List ℕ → List ℕ
@@ -28,3 +29,14 @@ gone_slot = 18 ∷ replicate 15 0
 -- a control sector: A1, how many sectors are used, and 00
 unfoldable pub control_sector : ℕ → List ℕ
 control_sector used = 161 ∷ (spelled Narrow used ++ replicate (255 - width_of Narrow) 0)
+
+-- the head, with another next free sector
+unfoldable pub head_with_next : List ℕ → ℕ → List ℕ
+head_with_next image next = head_bytes Narrow (index_of image) (total_of Narrow image) (catalogue_end Narrow image) next
+
+-- a new file in a slot: it takes the next free sectors, and the last of them says that one is used
+unfoldable pub entered : List ℕ → ℕ → List ℕ → Bool → ℕ → List ℕ
+entered image k name program sectors =
+    put_sector
+    (put_row (put_row image 0 (head_with_next image (next_free Narrow image + sectors))) k (file_slot program (next_free Narrow image) (next_free Narrow image + sectors - 1) name))
+    (next_free Narrow image + sectors - 1) (control_sector 1)

@@ -2,6 +2,7 @@
 #![tactic(auto)]
 
 mod changes;
+mod additions;
 mod entry;
 mod lookup;
 mod place;
@@ -9,6 +10,7 @@ mod plain;
 mod spelling;
 
 pub use changes::{scratch, set_used};
+pub use additions::enter;
 pub use entry::Entry;
 pub use lookup::{find, look};
 pub use plain::{format, limits};

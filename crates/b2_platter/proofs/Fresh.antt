@@ -1,11 +1,11 @@
 -- An image with a proper head and an empty index is good.
-use Rattle.std.proofs.Common.{◌≡◌, ℕ, zero, suc, ◌+◌, ◌-◌, ◌*◌, ◌/◌, ◌%◌, ◌^◌, ◌<◌, ◌≤◌, Bool, true, false, nat_le, List, [], ◌++◌, length, take, drop, replicate, slice_index, refl, sym, ap, ◌∙◌, subst, arith, append_assoc, length-append, length-drop, append-nil, lit≤}
+use Rattle.std.proofs.Common.{◌≡◌, ℕ, zero, suc, ◌+◌, ◌-◌, ◌*◌, ◌/◌, ◌%◌, ◌^◌, ◌<◌, ◌≤◌, Bool, true, false, ◌==◌, nat_le, List, [], ◌++◌, length, take, drop, replicate, slice_index, refl, sym, ap, ◌∙◌, subst, arith, append_assoc, length-append, length-drop, append-nil, lit≤}
 use Rattle.std.specs.List.{list_all, range_with_len}
 use Rattle.std.proofs.lemmas.Bool.{and_from, le-leb, eq-eqb}
-use Rattle.std.proofs.lemmas.List.{drop_at, drop-drop, length-replicate, drop-append-le, drop-replicate, take-append-le, take-replicate, drop_all}
+use Rattle.std.proofs.lemmas.List.{take_at, drop_at, drop-drop, length-replicate, drop-append-le, drop-replicate, take-append-le, take-replicate, drop_all}
 use Rattle.b2_platter.specs.declared.layout.Layout.{Layout}
 use Rattle.b2_platter.specs.declared.layout.Layout.TheVariants.{Narrow}
-use Rattle.b2_platter.specs.Layout.{version_of, width_of, fourth_place, most_sectors, is_zero}
+use Rattle.b2_platter.specs.Layout.{version_of, width_of, fourth_place, most_sectors, is_zero, number_at, first_place, second_place, third_place}
 use Rattle.b2_platter.specs.Slot.{is_entry, is_free, is_spelled}
 use Rattle.b2_platter.specs.Image.{row, head, index_of, total_of, catalogue_end, next_free}
 use Rattle.b2_platter.specs.Checks.{is_sized, has_head, is_ordered, lies_in, each_two, differ_in_name, is_reached, lie_apart, is_controlled, Good}
@@ -159,3 +159,35 @@ length-blank_image layout sectors some =
 pub length-formatted : (layout : Layout) (image : List ℕ) (index end : ℕ) → 1 ≤ index → 256 * index ≤ length image → length (formatted layout image index end) ≡ length image
 length-formatted layout image index end some room =
     omega (arith, length-append (head_bytes layout index (total_of layout image) (end + 1) index ++ replicate {A = ℕ} (256 * index - 16) 0) (drop (256 * index) image), length-append (head_bytes layout index (total_of layout image) (end + 1) index) (replicate {A = ℕ} (256 * index - 16) 0), length-replicate {A = ℕ} (256 * index - 16) 0, length-head_bytes layout index (total_of layout image) (end + 1) index, length-drop (256 * index) image)
+
+row-front : (layout : Layout) (index total end next : ℕ) → head (head_bytes layout index total end next ++ []) ≡ head_bytes layout index total end next
+unfolding row
+row-front layout index total end next = take_at (head_bytes layout index total end next) [] 16 (length-head_bytes layout index total end next)
+
+-- the same of a row 0 that is known to be a head
+pub head_says_row : (layout : Layout) (image : List ℕ) (index total end next : ℕ) → total < 256 ^ width_of layout → end < 256 ^ width_of layout → next < 256 ^ width_of layout → head image ≡ head_bytes layout index total end next → HeadSays layout image index total end next
+unfolding index_of total_of catalogue_end next_free
+head_says_row layout image index total end next ht he hn is =
+    let s = head_says layout index total end next [] ht he hn in
+    let front : head (head_bytes layout index total end next ++ []) ≡ head image = row-front layout index total end next ∙ sym is in
+    record {
+      version = ap (λ (h : List ℕ). slice_index h 0) (sym front) ∙ s.version;
+      index = ap (λ (h : List ℕ). slice_index h 1) (sym front) ∙ s.index;
+      total = ap (number_at layout first_place) (sym front) ∙ s.total;
+      end = ap (number_at layout (second_place layout)) (sym front) ∙ s.end;
+      next = ap (number_at layout (third_place layout)) (sym front) ∙ s.next;
+      rest = ap (λ (h : List ℕ). list_all is_zero (drop (fourth_place layout) h)) (sym front) ∙ s.rest;
+    }
+
+-- a head whose numbers are in order passes the second and the third check
+pub head_passes : (layout : Layout) (image : List ℕ) (i t e n : ℕ) → HeadSays layout image i t e n → length image ≡ 256 * t → 1 ≤ i → i ≤ n → n ≤ e → e ≤ t → (has_head layout image ≡ true) × (is_ordered layout image ≡ true)
+unfolding has_head is_ordered
+head_passes layout image i t e n says whole some files free last =
+    let many : length image / 256 ≡ t = omega arith in
+    let a : (slice_index (head image) 0 == version_of layout) ≡ true = eq-eqb _ _ says.version in
+    let b : nat_le 1 (index_of image) ≡ true = le-leb _ _ (omega (arith, says.index)) in
+    let c : (total_of layout image == length image / 256) ≡ true = eq-eqb _ _ (omega (arith, says.total)) in
+    let first : nat_le (index_of image) (next_free layout image) ≡ true = le-leb _ _ (omega (arith, says.index, says.next)) in
+    let second : nat_le (next_free layout image) (catalogue_end layout image) ≡ true = le-leb _ _ (omega (arith, says.next, says.end)) in
+    let third : nat_le (catalogue_end layout image) (total_of layout image) ≡ true = le-leb _ _ (omega (arith, says.end, says.total)) in
+    (and_from _ _ (and_from _ _ (and_from _ _ a b) c) says.rest, and_from _ _ (and_from _ _ first second) third)
