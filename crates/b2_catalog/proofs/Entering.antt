@@ -1,5 +1,5 @@
 -- A new file: the image stays good, and the catalogue gains its entry.
-use Rattle.std.proofs.Common.{◌≡◌, ◌≢◌, ℕ, zero, suc, ◌+◌, ◌-◌, ◌*◌, ◌/◌, ◌%◌, ◌^◌, ◌<◌, ◌≤◌, Bool, true, false, ◌&&◌, ◌||◌, not, List, [], Option, Some, None, length, refl, sym, ap, ◌∙◌, subst, inl, inr, arith, lit<}
+use Rattle.std.proofs.Common.{◌≡◌, ◌≢◌, ℕ, zero, suc, ◌+◌, ◌-◌, ◌*◌, ◌/◌, ◌%◌, ◌^◌, ◌<◌, ◌≤◌, Bool, true, false, ◌&&◌, ◌||◌, not, List, [], ◌∷◌, get_or, Option, Some, None, length, refl, sym, ap, ◌∙◌, subst, inl, inr, arith, lit<}
 use Rattle.std.specs.Prelude.{nat_le, nat_lt}
 use Rattle.std.specs.Option.{option_map}
 use Rattle.std.specs.Str.{bytes_eq}
@@ -24,7 +24,8 @@ use Rattle.b2_catalog.specs.Changes.{put_row, file_slot, control_sector, head_wi
 use Rattle.b2_catalog.specs.Calls.{new_entry}
 use Rattle.b2_catalog.proofs.Looking.{Holds, Holds-from, holds-from, find-missed}
 use Rattle.b2_catalog.proofs.Mapping.{get-catalogue}
-use Rattle.b2_catalog.proofs.Rows.{length-put_row, row_same, row_below, row_above, sector_above}
+use Rattle.b2_catalog.proofs.Scratching.{row_in_sector}
+use Rattle.b2_catalog.proofs.Rows.{whole_first, length-put_row, row_same, row_below, row_above, sector_above}
 use Rattle.b2_catalog.proofs.Spelled.{SaysFile, says_file, control_long, control_used, control_spelled}
 use Rattle.b2_catalog.proofs.Changed.{Changes, changed_good, clear_still}
 use Rattle.b2_catalog.proofs.Maps.{catalogue-inserted}
@@ -215,3 +216,23 @@ module _ (a : List ℕ) (good : Good Narrow a) (name : List ℕ) (legal : is_nam
   catalogue-entered =
       catalogue-inserted a b k good entered_changes placed.low placed.high name (ap (holds name) slot_now ∙ holds-from name slot says.entry says.name) free_no_entry
       ∙ ap (insert (catalogue a) name) entry_entered
+
+-- three sectors put in place make that image
+pub entered_made : (a first own control front slot name : List ℕ) (k start sectors : ℕ) (program : Bool) → start ≡ next_free Narrow a → front ≡ head_with_next a (start + sectors) → first ≡ sector (put_row a 0 front) 0 → slot ≡ file_slot program start (start + sectors - 1) name → own ≡ put_row (sector (put_row a 0 front) (k / 16)) (k % 16) slot → control ≡ control_sector 1 → length front ≡ 16 → 256 * (k / 16) + 256 ≤ length a → put_sector (put_sector (put_sector a 0 first) (k / 16) own) (start + sectors - 1) control ≡ entered a k name program sectors
+unfolding entered
+entered_made a first own control front slot name k start sectors program start_is front_is first_is slot_is own_is control_is long room =
+    let step1 : put_sector a 0 first ≡ put_row a 0 front = ap (put_sector a 0) first_is ∙ whole_first a front long (omega arith) in
+    let room' : 256 * (k / 16) + 256 ≤ length (put_row a 0 front) = omega (arith, length-put_row a 0 front long (omega arith)) in
+    let step2 : put_sector (put_sector a 0 first) (k / 16) own ≡ put_row (put_row a 0 front) k slot = ap (λ (xs : List ℕ). put_sector xs (k / 16) own) step1 ∙ row_in_sector (put_row a 0 front) own slot k room' own_is in
+    ap (λ (xs : List ℕ). put_sector xs (start + sectors - 1) control) step2 ∙ rw (control_is, slot_is, front_is, start_is) refl
+
+-- the three edits are in range
+pub three_edits : (l m n total : ℕ) (x y z : List ℕ) → l < total → m < total → n < total → (k : ℕ) (d : ℕ × List ℕ) → k < 3 → (get_or ((l, x) ∷ (m, y) ∷ (n, z) ∷ []) k d).0 < total
+three_edits l m n total x y z hl hm hn zero d h = hl
+three_edits l m n total x y z hl hm hn (suc zero) d h = hm
+three_edits l m n total x y z hl hm hn (suc (suc zero)) d h = hn
+three_edits l m n total x y z hl hm hn (suc (suc (suc k))) d h = absurd (omega arith)
+
+pub length-head_with_next : (a : List ℕ) (next : ℕ) → length (head_with_next a next) ≡ 16
+unfolding head_with_next
+length-head_with_next a next = length-head_bytes Narrow (index_of a) (total_of Narrow a) (catalogue_end Narrow a) next

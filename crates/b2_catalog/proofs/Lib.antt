@@ -9,3 +9,4 @@ pub mod RowPuts
 pub mod Scratching
 pub mod Placing
 pub mod Entering
+pub mod Refusals

@@ -4,7 +4,7 @@ use Rattle.std.proofs.lemmas.List.{take_at, drop_at, drop-drop, take-take, drop-
 use Rattle.std.proofs.Math.Seq.{take-add}
 use Rattle.b2_platter.specs.Image.{row, sector}
 use Rattle.b2_platter.specs.Edits.{put_sector}
-use Rattle.b2_platter.proofs.Puts.{piece-before, piece-behind}
+use Rattle.b2_platter.proofs.Puts.{piece-before, piece-behind, sector_same}
 use Rattle.b2_catalog.specs.Changes.{put_row}
 
 module _ (image : List ℕ) (k : ℕ) (bytes : List ℕ) (long : length bytes ≡ 16) (room : 16 * k + 16 ≤ length image) where
@@ -34,6 +34,10 @@ module _ (image : List ℕ) (k : ℕ) (bytes : List ℕ) (long : length bytes �
   pub sector_below : (n : ℕ) → 256 * n + 256 ≤ 16 * k → sector (put_row image k bytes) n ≡ sector image n
   unfolding put_row sector
   sector_below n h = piece-before image (bytes ++ drop (16 * k + 16) image) (16 * k) (256 * n) 256 h (omega arith)
+
+pub length-sector : (image : List ℕ) (n : ℕ) → 256 * n + 256 ≤ length image → length (sector image n) ≡ 256
+unfolding sector
+length-sector image n room = omega (arith, length-take 256 (drop (256 * n) image), length-drop (256 * n) image)
 
 -- a row put into its sector, and the sector into the image
 module _ (image : List ℕ) (s p : ℕ) (bytes : List ℕ) (small : p < 16) (room : 256 * s + 256 ≤ length image) where
@@ -67,3 +71,14 @@ module _ (image : List ℕ) (s p : ℕ) (bytes : List ℕ) (small : p < 16) (roo
       ap (λ (xs : List ℕ). take (256 * s) image ++ xs) (append_assoc one (bytes ++ two) tail ∙ ap (λ (xs : List ℕ). take (16 * p) (take 256 (drop (256 * s) image)) ++ xs) (append_assoc bytes two tail ∙ ap (λ (xs : List ℕ). bytes ++ xs) back))
       ∙ sym (append_assoc head one (bytes ++ drop (16 * (16 * s + p) + 16) image))
       ∙ ap (λ (xs : List ℕ). xs ++ (bytes ++ drop (16 * (16 * s + p) + 16) image)) front
+
+-- the first sector with its first row put in place
+pub first_sector : (image bytes : List ℕ) → length bytes ≡ 16 → 256 ≤ length image → sector (put_row image 0 bytes) 0 ≡ put_row (sector image 0) 0 bytes
+first_sector image bytes long room =
+    let own = put_row (sector image 0) 0 bytes in
+    let whole : length (sector image 0) ≡ 256 = length-sector image 0 (omega arith) in
+    let own_long : length (put_row (sector image 0) 0 bytes) ≡ 256 = length-put_row (sector image 0) 0 bytes long (omega arith) ∙ whole in
+    ap (λ (xs : List ℕ). sector xs 0) (sym (put_sector-put_row image 0 0 bytes (omega arith) (omega arith))) ∙ sector_same image 0 own own_long (omega arith)
+
+pub whole_first : (image bytes : List ℕ) → length bytes ≡ 16 → 256 ≤ length image → put_sector image 0 (sector (put_row image 0 bytes) 0) ≡ put_row image 0 bytes
+whole_first image bytes long room = ap (put_sector image 0) (first_sector image bytes long room) ∙ put_sector-put_row image 0 0 bytes (omega arith) (omega arith)

@@ -2,11 +2,11 @@
 ghost use Rattle.std.specs.Prelude.{◌≡◌, ◌+◌, ◌-◌, ◌*◌, ◌<◌, ◌≤◌, true, Some, None, IfOk, IfErr, IfSome, OnOk};
 ghost use Rattle.std.specs.FinMap.{get, insert};
 ghost use Rattle.b2_platter.specs.declared.layout.Layout.TheVariants.{Narrow};
-ghost use Rattle.b2_platter.specs.Image.{index_of, catalogue_end, next_free};
+ghost use Rattle.b2_platter.specs.Image.{sector, index_of, catalogue_end, next_free};
 ghost use Rattle.b2_platter.specs.Checks.{Good};
 ghost use Rattle.b2_catalog.specs.Catalogue.{catalogue};
 ghost use Rattle.b2_catalog.specs.Ways.{place};
-ghost use Rattle.b2_catalog.specs.Changes.{head_with_next, entered};
+ghost use Rattle.b2_catalog.specs.Changes.{put_row, head_with_next, entered};
 ghost use Rattle.b2_catalog.specs.Calls.{enter_refusal, new_entry};
 
 use b2_base::Name8;
@@ -21,8 +21,21 @@ fn head_with_next(p: &Platter, next: u32) -> [u8; 16]
     requires { next ≤ catalogue_end Narrow p.now }
     ensures { result ≡ head_with_next p.now next }
 {
+    let sectors = p.sectors();
     let (index, end, _) = limits(p);
-    edits::head(Layout::Narrow, index as u8, p.sectors(), end, next)
+    edits::head(Layout::Narrow, index as u8, sectors, end, next)
+}
+
+// A sector of the index, with the head in place.
+fn index_sector(p: &Platter, s: usize, head: &[u8; 16]) -> [u8; 256]
+    requires { s < index_of p.now }
+    ensures { result ≡ sector (put_row p.now 0 head.now) s }
+{
+    let sector = image::sector(p.image(), s);
+    if s > 0 {
+        return *sector;
+    }
+    spelling::with_row(sector, 0, head)
 }
 
 // Puts a new file into a slot, with the next free sectors.
@@ -36,9 +49,10 @@ fn put_new(p: &mut Platter, k: usize, name: Name8, program: bool, sectors: u32)
 {
     let (_, _, start) = limits(p);
     let end = start + sectors - 1;
-    let first = spelling::with_row(image::sector(p.image(), 0), 0, &head_with_next(p, start + sectors));
-    let own = if k < 16 { first } else { *image::sector(p.image(), k / 16) };
-    let own = spelling::with_row(&own, k % 16, &spelling::file_slot(program, start, end, name));
+    let head = head_with_next(p, start + sectors);
+    let first = index_sector(p, 0, &head);
+    let slot = spelling::file_slot(program, start, end, name);
+    let own = spelling::with_row(&index_sector(p, k / 16, &head), k % 16, &slot);
     p.put_catalogue(&[(0, first), ((k / 16) as u32, own), (end, spelling::control_sector(1))]);
 }
 

@@ -1,10 +1,10 @@
 // What is read of the head, and formatting.
-ghost use Rattle.std.specs.Prelude.{◌≡◌, OnOk, IfErr};
+ghost use Rattle.std.specs.Prelude.{◌≡◌, ◌≤◌, OnOk, IfErr};
 ghost use Rattle.b2_base.specs.declared.codes.TheConstants.{P34_RANGE};
 ghost use Rattle.b2_platter.specs.declared.layout.Layout.TheVariants.{Narrow};
 ghost use Rattle.b2_platter.specs.Image.{index_of, catalogue_end, next_free};
+ghost use Rattle.b2_platter.specs.Checks.{Good};
 ghost use Rattle.b2_platter.specs.Edits.{CanFormat, formatted};
-ghost use Rattle.b2_catalog.specs.Catalogue.{catalogue};
 
 use b2_base::codes::{Code, P34_RANGE};
 use b2_platter::{Layout, Platter, image};
@@ -12,8 +12,10 @@ use b2_platter::{Layout, Platter, image};
 /// How many sectors the index takes, the first sector behind the catalogue, and the next free sector.
 pub fn limits(p: &Platter) -> (u32, u32, u32)
     ensures index { result.0 ≡ index_of p.now }
+    ensures few { result.0 ≤ 255 }
     ensures end { result.1 ≡ catalogue_end Narrow p.now }
     ensures next { result.2 ≡ next_free Narrow p.now }
+    ensures good { Good Narrow p.now }
 {
     let bytes = p.image();
     (

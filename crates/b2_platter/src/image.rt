@@ -30,7 +30,8 @@ pub fn sector(image: &[u8], n: usize) -> &[u8; 256]
 #[tactic(auto, unfolding(crate::specs::Image::index_of))]
 pub fn index(image: &[u8]) -> usize
     requires { 16 ≤ length image.now }
-    ensures { result ≡ index_of image.now }
+    ensures value { result ≡ index_of image.now }
+    ensures few { result ≤ 255 }
 {
     usize::from(row(image, 0)[1])
 }

@@ -7,7 +7,7 @@ use Rattle.b2_catalog.proofs.place.place_of.Goals as goal
 
 pub loop-j-init : goal.loop-j-init
 unfolding place
-loop-j-init c = let none : index_of c.args.bytes.now - 0 ≡ index_of c.args.bytes.now = omega arith in rw (c.hash-first.ensures.value, c.index-index.ensures, none) refl
+loop-j-init c = let none : index_of c.args.bytes.now - 0 ≡ index_of c.args.bytes.now = omega arith in rw (c.hash-first.ensures.value, c.index-index.ensures.value, none) refl
 
 pub loop-j-preserved : goal.loop-j-preserved
 loop-j-preserved c =

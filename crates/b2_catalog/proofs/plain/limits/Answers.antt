@@ -7,10 +7,7 @@ pub index-requires : goal.index-requires
 index-requires c = let parts = Parts-of Narrow c.args.p.now c.image-bytes.ensures.good in rw c.image-bytes.ensures.value (omega arith)
 
 pub overflow_cast-result : goal.overflow_cast-result
-overflow_cast-result c =
-    let parts = Parts-of Narrow c.args.p.now c.image-bytes.ensures.good in
-    let most = most_of_good Narrow c.args.p.now c.image-bytes.ensures.good in
-    rw (c.index.ensures, c.image-bytes.ensures.value) (omega arith)
+overflow_cast-result c = omega (arith, c.index.ensures.few)
 
 pub catalogue_end-requires : goal.catalogue_end-requires
 catalogue_end-requires c = let parts = Parts-of Narrow c.args.p.now c.image-bytes.ensures.good in rw c.image-bytes.ensures.value (omega arith)
