@@ -32,7 +32,7 @@ use Rattle.b2_catalog.proofs.Maps.{catalogue-inserted}
 use Rattle.b2_catalog.proofs.Placing.{Placed}
 
 -- a name that no slot has
-slot_missed : (a name : List ℕ) → slot_of a name ≡ None → (j : ℕ) → 1 ≤ j → j < 16 * index_of a → holds name (row a j) ≡ false
+pub slot_missed : (a name : List ℕ) → slot_of a name ≡ None → (j : ℕ) → 1 ≤ j → j < 16 * index_of a → holds name (row a j) ≡ false
 unfolding slot_of
 slot_missed a name none j low high = find-missed (λ (k : ℕ). holds name (row a k)) 1 (16 * index_of a - 1) none j low (omega arith)
 

@@ -10,3 +10,4 @@ pub mod Scratching
 pub mod Placing
 pub mod Entering
 pub mod Refusals
+pub mod Reusing

@@ -126,7 +126,7 @@ met first index own f o =
       | inr behind ↦ (own - first, omega arith, ap (λ (q : ℕ). q % index) (omega arith) ∙ mod-eq_of_lt o)
     ]
 
-clear_of : (e rest : Bool) → (not e || rest) ≡ true → e ≡ true → rest ≡ true
+pub clear_of : (e rest : Bool) → (not e || rest) ≡ true → e ≡ true → rest ≡ true
 clear_of true rest h e = h
 clear_of false rest h e = cc
 

@@ -22,7 +22,7 @@ differ_like : (slot was other : List ℕ) → is_entry slot ≡ is_entry was →
 unfolding differ_in_name
 differ_like slot was other entry name = rw (entry, name) refl
 
-apart_like : (slot was other : List ℕ) → is_entry slot ≡ is_entry was → start_of Narrow slot ≡ start_of Narrow was → end_of Narrow slot ≡ end_of Narrow was → lie_apart Narrow slot other ≡ lie_apart Narrow was other
+pub apart_like : (slot was other : List ℕ) → is_entry slot ≡ is_entry was → start_of Narrow slot ≡ start_of Narrow was → end_of Narrow slot ≡ end_of Narrow was → lie_apart Narrow slot other ≡ lie_apart Narrow was other
 unfolding lie_apart
 apart_like slot was other entry start end = rw (entry, start, end) refl
 

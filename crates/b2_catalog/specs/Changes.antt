@@ -2,7 +2,8 @@
 use Rattle.std.specs.Prelude.{ℕ, ◌+◌, ◌-◌, ◌*◌, Bool, List, [], ◌∷◌, ◌++◌, take, drop, replicate, if◌then◌else◌}
 use Rattle.b2_platter.specs.declared.layout.Layout.TheVariants.{Narrow}
 use Rattle.b2_platter.specs.Layout.{width_of, third_place}
-use Rattle.b2_platter.specs.Image.{index_of, total_of, catalogue_end, next_free}
+use Rattle.b2_platter.specs.Slot.{start_of, end_of}
+use Rattle.b2_platter.specs.Image.{row, index_of, total_of, catalogue_end, next_free}
 use Rattle.b2_platter.specs.Edits.{spelled, head_bytes, put_sector}
 
 -- row k is these bytes
@@ -40,3 +41,8 @@ entered image k name program sectors =
     put_sector
     (put_row (put_row image 0 (head_with_next image (next_free Narrow image + sectors))) k (file_slot program (next_free Narrow image) (next_free Narrow image + sectors - 1) name))
     (next_free Narrow image + sectors - 1) (control_sector 1)
+
+-- a file under another name, or under its own again: its slot is gone, and a slot is that of the live file
+unfoldable pub reused : List ℕ → ℕ → ℕ → List ℕ → Bool → List ℕ
+reused image k to name program =
+    put_row (put_row image k gone_slot) to (file_slot program (start_of Narrow (row image k)) (end_of Narrow (row image k)) name)

@@ -19,8 +19,8 @@ use crate::Entry;
 use crate::lookup;
 use crate::spelling;
 
-// Puts a row of the index in place.
-fn put_row(p: &mut Platter, k: usize, row: &[u8; 16])
+/// Puts a row of the index in place.
+pub fn put_row(p: &mut Platter, k: usize, row: &[u8; 16])
     requires within { k < 16 * index_of p.old }
     requires good { Good Narrow (put_row p.old k row.now) }
     ensures { p.new ≡ put_row p.old k row.now }

@@ -7,6 +7,7 @@ mod entry;
 mod lookup;
 mod place;
 mod plain;
+mod renames;
 mod spelling;
 
 pub use changes::{scratch, set_used};
@@ -14,3 +15,4 @@ pub use additions::enter;
 pub use entry::Entry;
 pub use lookup::{find, look};
 pub use plain::{format, limits};
+pub use renames::reuse;

@@ -1,5 +1,6 @@
 // Slots and control sectors as they are written.
-ghost use Rattle.std.specs.Prelude.{◌≡◌, ◌+◌, ◌*◌, ◌^◌, ◌<◌, ◌≤◌, length};
+ghost use Rattle.std.specs.Prelude.{◌≡◌, ◌+◌, ◌*◌, ◌^◌, ◌<◌, ◌≤◌, true, length};
+ghost use Rattle.b2_base.specs.Names.{is_name8};
 ghost use Rattle.b2_catalog.specs.Changes.{put_row, kind_of, file_slot, scratched_slot, gone_slot, control_sector};
 
 use b2_base::Name8;
@@ -16,7 +17,9 @@ fn kind(program: bool) -> u8
 pub fn file_slot(program: bool, start: u32, end: u32, name: Name8) -> [u8; 16]
     requires start_fits { start < 65536 }
     requires end_fits { end < 65536 }
-    ensures { result ≡ file_slot program start end name }
+    ensures value { result ≡ file_slot program start end name }
+    ensures legal { is_name8 name ≡ true }
+    ensures len { length name ≡ 8 }
 {
     let mut bytes = [0; 16];
     bytes[0] = slot::LIVE;

@@ -29,11 +29,11 @@ put_catalogue-requires-clause-good c =
     let parts = Parts-of Narrow c.args.p.now c.limits-start.ensures.good in
     let front : length c.head_with_next-head.result ≡ 16 = ap length c.head_with_next-head.ensures ∙ length-head_with_next c.args.p.now (c.limits-start.result.2 + c.args.sectors) in
     let own : c.with_row-own.result ≡ put_row (sector (put_row c.args.p.now 0 c.head_with_next-head.result) (c.args.k / 16)) (c.args.k % 16) c.file_slot-slot.result = c.with_row-own.ensures ∙ ap (λ (xs : List ℕ). put_row xs (c.args.k % 16) c.file_slot-slot.result) c.index_sector.ensures in
-    subst (λ (xs : List ℕ). Good Narrow xs) (sym (entered_made c.args.p.now c.index_sector-first.result c.with_row-own.result c.control_sector.result c.head_with_next-head.result c.file_slot-slot.result c.args.name c.args.k c.limits-start.result.2 c.args.sectors c.args.program c.limits-start.ensures.next c.head_with_next-head.ensures c.index_sector-first.ensures c.file_slot-slot.ensures own c.control_sector.ensures front (omega arith))) c.requires.good
+    subst (λ (xs : List ℕ). Good Narrow xs) (sym (entered_made c.args.p.now c.index_sector-first.result c.with_row-own.result c.control_sector.result c.head_with_next-head.result c.file_slot-slot.result c.args.name c.args.k c.limits-start.result.2 c.args.sectors c.args.program c.limits-start.ensures.next c.head_with_next-head.ensures c.index_sector-first.ensures c.file_slot-slot.ensures.value own c.control_sector.ensures front (omega arith))) c.requires.good
 
 pub returns : goal.returns
 returns c =
     let parts = Parts-of Narrow c.args.p.now c.limits-start.ensures.good in
     let front : length c.head_with_next-head.result ≡ 16 = ap length c.head_with_next-head.ensures ∙ length-head_with_next c.args.p.now (c.limits-start.result.2 + c.args.sectors) in
     let own : c.with_row-own.result ≡ put_row (sector (put_row c.args.p.now 0 c.head_with_next-head.result) (c.args.k / 16)) (c.args.k % 16) c.file_slot-slot.result = c.with_row-own.ensures ∙ ap (λ (xs : List ℕ). put_row xs (c.args.k % 16) c.file_slot-slot.result) c.index_sector.ensures in
-    c.put_catalogue.ensures ∙ entered_made c.args.p.now c.index_sector-first.result c.with_row-own.result c.control_sector.result c.head_with_next-head.result c.file_slot-slot.result c.args.name c.args.k c.limits-start.result.2 c.args.sectors c.args.program c.limits-start.ensures.next c.head_with_next-head.ensures c.index_sector-first.ensures c.file_slot-slot.ensures own c.control_sector.ensures front (omega arith)
+    c.put_catalogue.ensures ∙ entered_made c.args.p.now c.index_sector-first.result c.with_row-own.result c.control_sector.result c.head_with_next-head.result c.file_slot-slot.result c.args.name c.args.k c.limits-start.result.2 c.args.sectors c.args.program c.limits-start.ensures.next c.head_with_next-head.ensures c.index_sector-first.ensures c.file_slot-slot.ensures.value own c.control_sector.ensures front (omega arith)
