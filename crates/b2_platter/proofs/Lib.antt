@@ -8,3 +8,4 @@ pub mod Fresh
 pub mod Soundness
 pub mod Puts
 pub mod Kept
+pub mod Volumes

@@ -3,3 +3,4 @@ pub mod Slot
 pub mod Image
 pub mod Checks
 pub mod Edits
+pub mod Volume

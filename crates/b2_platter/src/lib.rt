@@ -10,7 +10,7 @@
 //!
 //! Stands on `b2_base`, and on `byteorder` for numbers of several bytes. The definitions are in `specs/`: `Layout` and
 //! `Slot` for the spelling, `Image` for rows and sectors, `Checks` for the nine checks, `Edits` for images that are made
-//! and changed.
+//! and changed, and `Volume` for what an image says as whole values, which spells it again byte for byte.
 #![tactic(auto)]
 
 pub mod checks;
@@ -23,4 +23,4 @@ pub mod slot;
 mod tests;
 
 pub use layout::Layout;
-pub use platter::{ImageErr, Platter};
+pub use platter::{ImageErr, Platter, image_is_what_it_says};

@@ -3,6 +3,7 @@ ghost use Rattle.std.specs.Prelude.{◌≡◌, ◌+◌, ◌*◌, ◌^◌, ◌<�
 ghost use Rattle.b2_platter.specs.declared.layout.Layout.TheVariants.{Narrow};
 ghost use Rattle.b2_platter.specs.Image.{sector, total_of};
 ghost use Rattle.b2_platter.specs.Checks.{first_check, Good};
+ghost use Rattle.b2_platter.specs.Volume.{image as spelling, volume};
 ghost use Rattle.b2_platter.specs.Edits.{blank_image, formatted, CanFormat, put_sector, put_sectors, is_data_sector};
 
 use crate::checks::first_check;
@@ -111,3 +112,10 @@ impl Platter {
         edits::clear(&mut self.bytes, &head, index as usize);
     }
 }
+
+/// What a good image says spells it: from its counts, its slots and its sectors each byte of it comes back. It has no
+/// code.
+pub fn image_is_what_it_says(bytes: &[u8])
+    requires { Good Narrow bytes.now }
+    ensures { spelling Narrow (volume Narrow bytes.now) ≡ bytes.now }
+{}
