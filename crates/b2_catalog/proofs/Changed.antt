@@ -1,19 +1,17 @@
 -- An image of which one slot changed, and maybe its head and the sectors of no other file, stays good.
-use Rattle.std.proofs.Common.{◌≡◌, ◌≢◌, ℕ, zero, suc, ◌+◌, ◌-◌, ◌*◌, ◌/◌, ◌%◌, ◌<◌, ◌≤◌, Bool, true, false, ◌&&◌, ◌||◌, not, List, [], length, refl, sym, ap, ◌∙◌, subst, inl, inr, arith}
-use Rattle.std.specs.Prelude.{nat_le, nat_lt}
-use Rattle.std.specs.List.{list_any}
+use Rattle.std.proofs.Common.{◌≡◌, ◌≢◌, ℕ, ◌+◌, ◌-◌, ◌*◌, ◌/◌, ◌<◌, ◌≤◌, Bool, true, false, ◌&&◌, not, List, [], length, refl, sym, ap, ◌∙◌, subst, inl, inr, arith}
+use Rattle.std.specs.Prelude.{nat_le}
 use Rattle.std.specs.Str.{bytes_eq}
-use Rattle.std.proofs.lemmas.Bool.{and_parts, and_from, cases_eq, false≢true, ltb-true, leb-true, lt-ltb, le-leb}
+use Rattle.std.proofs.lemmas.Bool.{and_parts, and_from, cases_eq, ltb-true, lt-ltb}
 use Rattle.std.proofs.lemmas.Slice.Eq.{bytes_eq-Decides}
 use Rattle.std.proofs.lemmas.Bool.Decides.{same_from_decides}
 use Rattle.b2_platter.specs.declared.layout.Layout.TheVariants.{Narrow}
 use Rattle.b2_platter.specs.Slot.{is_free, is_entry, is_spelled, start_of, end_of, name_of}
 use Rattle.b2_platter.specs.Image.{row, sector, index_of, next_free, first_slot, has_free, hash, around, is_clear_to}
-use Rattle.b2_platter.specs.Checks.{is_sized, has_head, is_ordered, lies_in, differ_in_name, is_reached, lie_apart, is_controlled, Good}
+use Rattle.b2_platter.specs.Checks.{has_head, is_ordered, lies_in, differ_in_name, is_reached, lie_apart, is_controlled, Good}
 use Rattle.b2_platter.proofs.Ranges.{list_any-found, list_any-at}
-use Rattle.b2_platter.proofs.Rooms.{Parts}
 use Rattle.b2_platter.proofs.Goodness.{Parts-of}
-use Rattle.b2_platter.proofs.Soundness.{Sound, Sound-from_Good, Good-from_Sound}
+use Rattle.b2_platter.proofs.Soundness.{Sound-from_Good, Good-from_Sound}
 use Rattle.b2_platter.proofs.Kept.{clear_fewer, sized-same, guard_step, controlled-same}
 use Rattle.b2_catalog.proofs.Looking.{in_slots}
 
@@ -115,9 +113,9 @@ module _ (a b : List ℕ) (k : ℕ) (good : Good Narrow a) (changes : Changes a 
         names = λ j m low order high. (let high' : m < 16 * index_of a = omega (arith, i) in elim (cases_eq j k) [
           | inl same ↦ (let other : m ≢ k = λ e. omega (arith, same, e) in subst (λ (q : ℕ). differ_in_name (row b q) (row b m) ≡ true) (sym same) (rw (changes.rows m (omega arith) high' other) (changes.names m (omega arith) high' other)))
           | inr other ↦ elim (cases_eq m k) [
-              | inl same ↦ subst (λ (q : ℕ). differ_in_name (row b j) (row b q) ≡ true) (sym same) (differ_turned (row b j) (row b k) ∙ rw (changes.rows j low (omega arith) other) (changes.names j low (omega arith) other))
-              | inr other' ↦ rw (changes.rows j low (omega arith) other, changes.rows m (omega arith) high' other') (s.names j m low order high')
-            ]
+            | inl same ↦ subst (λ (q : ℕ). differ_in_name (row b j) (row b q) ≡ true) (sym same) (differ_turned (row b j) (row b k) ∙ rw (changes.rows j low (omega arith) other) (changes.names j low (omega arith) other))
+            | inr other' ↦ rw (changes.rows j low (omega arith) other, changes.rows m (omega arith) high' other') (s.names j m low order high')
+          ]
         ]);
         reached = λ j low high. elim (cases_eq j k) [
           | inl same ↦ subst (λ (j : ℕ). is_reached b j ≡ true) (sym same) changes.reached
@@ -126,9 +124,9 @@ module _ (a b : List ℕ) (k : ℕ) (good : Good Narrow a) (changes : Changes a 
         apart = λ j m low order high. (let high' : m < 16 * index_of a = omega (arith, i) in elim (cases_eq j k) [
           | inl same ↦ (let other : m ≢ k = λ e. omega (arith, same, e) in subst (λ (q : ℕ). lie_apart Narrow (row b q) (row b m) ≡ true) (sym same) (rw (changes.rows m (omega arith) high' other) (changes.apart m (omega arith) high' other)))
           | inr other ↦ elim (cases_eq m k) [
-              | inl same ↦ subst (λ (q : ℕ). lie_apart Narrow (row b j) (row b q) ≡ true) (sym same) (apart_turned (row b j) (row b k) ∙ rw (changes.rows j low (omega arith) other) (changes.apart j low (omega arith) other))
-              | inr other' ↦ rw (changes.rows j low (omega arith) other, changes.rows m (omega arith) high' other') (s.apart j m low order high')
-            ]
+            | inl same ↦ subst (λ (q : ℕ). lie_apart Narrow (row b j) (row b q) ≡ true) (sym same) (apart_turned (row b j) (row b k) ∙ rw (changes.rows j low (omega arith) other) (changes.apart j low (omega arith) other))
+            | inr other' ↦ rw (changes.rows j low (omega arith) other, changes.rows m (omega arith) high' other') (s.apart j m low order high')
+          ]
         ]);
         controls = λ j low high. elim (cases_eq j k) [
           | inl same ↦ subst (λ (j : ℕ). is_controlled Narrow b (row b j) ≡ true) (sym same) changes.controlled

@@ -1,29 +1,24 @@
 -- A new file: the image stays good, and the catalogue gains its entry.
-use Rattle.std.proofs.Common.{◌≡◌, ◌≢◌, ℕ, zero, suc, ◌+◌, ◌-◌, ◌*◌, ◌/◌, ◌%◌, ◌^◌, ◌<◌, ◌≤◌, Bool, true, false, ◌&&◌, ◌||◌, not, List, [], ◌∷◌, get_or, Option, Some, None, length, refl, sym, ap, ◌∙◌, subst, inl, inr, arith, lit<}
-use Rattle.std.specs.Prelude.{nat_le, nat_lt}
-use Rattle.std.specs.Option.{option_map}
-use Rattle.std.specs.Str.{bytes_eq}
-use Rattle.std.specs.FinMap.{get, insert}
-use Rattle.std.proofs.lemmas.Bool.{and_from, le-leb, lt-ltb, lt-leb, false≢true, false_from_ne_true, cases_Bool, cases_order, not_from_false, and_parts, or_right, leb-true, eqb-true}
+use Rattle.std.proofs.Common.{◌≡◌, ◌≢◌, ℕ, zero, suc, ◌+◌, ◌-◌, ◌*◌, ◌/◌, ◌%◌, ◌<◌, ◌≤◌, Bool, true, false, not, List, [], ◌∷◌, get_or, None, length, refl, sym, ap, ◌∙◌, inl, inr, arith, lit<}
+use Rattle.std.specs.FinMap.{insert}
+use Rattle.std.proofs.lemmas.Bool.{and_from, le-leb, lt-ltb, false≢true, false_from_ne_true, cases_order, not_from_false, and_parts, or_right, leb-true, eqb-true}
 use Rattle.std.proofs.lemmas.Slice.Eq.{bytes_eq-Decides}
 use Rattle.b2_base.specs.Names.{is_name8}
 use Rattle.b2_platter.specs.declared.layout.Layout.TheVariants.{Narrow}
-use Rattle.b2_platter.specs.Slot.{is_free, is_entry, is_live, is_program, is_spelled, start_of, end_of, name_of}
-use Rattle.b2_platter.specs.Image.{row, head, sector, index_of, total_of, catalogue_end, next_free, has_free, hash, around, is_clear_to}
-use Rattle.b2_platter.specs.Checks.{has_head, is_ordered, lies_in, differ_in_name, is_reached, lie_apart, is_controlled, is_control, used_of, Good}
-use Rattle.b2_platter.specs.Edits.{put_sector, head_bytes}
+use Rattle.b2_platter.specs.Slot.{is_free, is_entry, is_spelled, start_of, end_of, name_of}
+use Rattle.b2_platter.specs.Image.{row, sector, index_of, total_of, catalogue_end, next_free, has_free, hash, around, is_clear_to}
+use Rattle.b2_platter.specs.Checks.{has_head, is_ordered, lies_in, differ_in_name, is_reached, lie_apart, is_controlled, is_control, Good}
+use Rattle.b2_platter.specs.Edits.{put_sector}
 use Rattle.b2_platter.proofs.Rooms.{Parts, LiesIn, LiesIn-from}
 use Rattle.b2_platter.proofs.Goodness.{Parts-of, most_of_good}
-use Rattle.b2_platter.proofs.Soundness.{Sound, Sound-from_Good}
-use Rattle.b2_platter.proofs.Puts.{length-put_sector, row_before, sector_before, sector_behind, sector_same}
+use Rattle.b2_platter.proofs.Soundness.{Sound-from_Good}
+use Rattle.b2_platter.proofs.Puts.{length-put_sector, row_before, sector_before, sector_same}
 use Rattle.b2_platter.proofs.Fresh.{HeadSays, head_says_row, head_passes, length-head_bytes}
-use Rattle.b2_catalog.specs.declared.entry.Entry.{Entry}
 use Rattle.b2_catalog.specs.Catalogue.{entry_at, catalogue}
-use Rattle.b2_catalog.specs.Ways.{holds, slot_of, way_of, place, IsSlotOf}
+use Rattle.b2_catalog.specs.Ways.{holds, slot_of, way_of}
 use Rattle.b2_catalog.specs.Changes.{put_row, file_slot, control_sector, head_with_next, entered}
 use Rattle.b2_catalog.specs.Calls.{new_entry}
-use Rattle.b2_catalog.proofs.Looking.{Holds, Holds-from, holds-from, find-missed}
-use Rattle.b2_catalog.proofs.Mapping.{get-catalogue}
+use Rattle.b2_catalog.proofs.Looking.{holds-from, find-missed}
 use Rattle.b2_catalog.proofs.Scratching.{row_in_sector}
 use Rattle.b2_catalog.proofs.Rows.{whole_first, length-put_row, row_same, row_below, row_above, sector_above}
 use Rattle.b2_catalog.proofs.Spelled.{SaysFile, says_file, control_long, control_used, control_spelled}

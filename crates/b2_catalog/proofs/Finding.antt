@@ -1,10 +1,10 @@
 -- The steps of the loops that look a name up.
-use Rattle.std.proofs.Common.{◌≡◌, ℕ, zero, suc, ◌+◌, ◌-◌, ◌%◌, ◌<◌, ◌≤◌, Bool, true, false, ◌||◌, cond, List, [], ◌∷◌, map, Option, Some, None, refl, sym, ap, ◌∙◌, arith}
+use Rattle.std.proofs.Common.{◌≡◌, ℕ, suc, ◌+◌, ◌-◌, ◌%◌, ◌<◌, Bool, true, false, ◌||◌, cond, List, ◌∷◌, map, Option, Some, None, sym, ap, ◌∙◌, arith}
 use Rattle.std.specs.Prelude.{is_some}
 use Rattle.std.specs.List.{range_with_len, find}
 use Rattle.b2_platter.specs.Image.{has_free}
-use Rattle.b2_platter.proofs.Ranges.{range-step, range-end}
-use Rattle.b2_platter.proofs.Walks.{around-step, around-end}
+use Rattle.b2_platter.proofs.Ranges.{range-step}
+use Rattle.b2_platter.proofs.Walks.{around-step}
 use Rattle.b2_catalog.specs.Ways.{slot_in, stops, found_along, count_up_to, place_along}
 
 -- a search in a range goes on where a number fails, and ends where it passes

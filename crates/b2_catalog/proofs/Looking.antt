@@ -1,19 +1,18 @@
 -- On a good image a look-up from the hash on finds the one slot that has the name, wherever it stands.
-use Rattle.std.proofs.Common.{◌≡◌, ◌≢◌, ℕ, zero, suc, ◌+◌, ◌-◌, ◌*◌, ◌/◌, ◌%◌, ◌<◌, ◌≤◌, Bool, true, false, ◌&&◌, ◌||◌, ◌==◌, not, cond, List, [], ◌∷◌, map, Option, Some, None, refl, sym, ap, ◌∙◌, subst, inl, inr, ◌⊎◌, arith}
+use Rattle.std.proofs.Common.{◌≡◌, ◌≢◌, ℕ, zero, suc, ◌+◌, ◌-◌, ◌*◌, ◌/◌, ◌%◌, ◌<◌, ◌≤◌, Bool, true, false, ◌&&◌, ◌||◌, ◌==◌, not, cond, List, ◌∷◌, map, Option, Some, None, refl, sym, ap, ◌∙◌, subst, inl, inr, arith}
 use Rattle.std.specs.Prelude.{is_some, IfSome, length}
-use Rattle.std.specs.List.{range_with_len, find, list_any}
-use Rattle.std.specs.Str.{bytes_eq}
-use Rattle.std.proofs.lemmas.Bool.{and_parts, and_from, cases_order, cases_eq, cases_Bool, not-true, false≢true, eq-eqb, ne_eqb, eqb-true, eqb-false, cases_lt, cond_both, false_from_ne_true}
+use Rattle.std.specs.List.{range_with_len, find}
+use Rattle.std.proofs.lemmas.Bool.{and_parts, and_from, cases_order, cases_eq, not-true, false≢true, ne_eqb, eqb-true, eqb-false, cases_lt, cond_both, false_from_ne_true}
 use Rattle.std.proofs.Math.Nat.{add-mod_right, mod-eq_of_lt}
 use Rattle.std.proofs.lemmas.Slice.Eq.{bytes_eq-Decides}
 use Rattle.b2_platter.specs.declared.layout.Layout.TheVariants.{Narrow}
 use Rattle.b2_platter.specs.Slot.{is_entry, start_of, end_of, name_of}
-use Rattle.b2_platter.specs.Image.{row, index_of, total_of, next_free, slots_of, first_slot, slots_in, has_free, hash, around, is_clear_to}
+use Rattle.b2_platter.specs.Image.{row, index_of, total_of, next_free, first_slot, has_free, hash, is_clear_to}
 use Rattle.b2_platter.specs.Checks.{differ_in_name, is_reached, Good}
 use Rattle.b2_platter.proofs.Ranges.{here}
-use Rattle.b2_platter.proofs.Rooms.{Parts, LiesIn, LiesIn-from}
+use Rattle.b2_platter.proofs.Rooms.{LiesIn-from}
 use Rattle.b2_platter.proofs.Goodness.{Parts-of}
-use Rattle.b2_platter.proofs.Soundness.{Sound, Sound-from_Good}
+use Rattle.b2_platter.proofs.Soundness.{Sound-from_Good}
 use Rattle.b2_platter.proofs.Kept.{first_slot-low}
 use Rattle.b2_catalog.specs.Ways.{holds, slot_in, way_of, found_along, slot_of, IsSlotOf}
 
@@ -115,7 +114,7 @@ found-there slot free own k first index j (suc n) i some hit others clear low hi
           let later : (j ≡ i → ⊥) = λ e. other (ap (λ (q : ℕ). (first + q) % index) e ∙ at) in
           sector_misses slot free ((first + j) % index) _ (others ((first + j) % index) (omega arith) other) parts.0
           ∙ found-there slot free own k first index (j + 1) n i some hit others parts.1 (elim (here j i low) [ inl e ↦ absurd (later e) | inr l ↦ l ]) (omega arith) at
-        )
+          )
     ]
 
 -- each sector is met on the way around
@@ -143,9 +142,9 @@ module _ (image : List ℕ) (good : Good Narrow image) (name : List ℕ) where
       elim (cases_order j k) [
         | inl same ↦ same
         | inr unequal ↦ elim unequal [
-            | inl less ↦ absurd (names_apart (row image j) (row image k) (s.names j k j_low less k_high) a.entry b.entry (a.same ∙ sym b.same))
-            | inr more ↦ absurd (names_apart (row image k) (row image j) (s.names k j k_low more j_high) b.entry a.entry (b.same ∙ sym a.same))
-          ]
+          | inl less ↦ absurd (names_apart (row image j) (row image k) (s.names j k j_low less k_high) a.entry b.entry (a.same ∙ sym b.same))
+          | inr more ↦ absurd (names_apart (row image k) (row image j) (s.names k j k_low more j_high) b.entry a.entry (b.same ∙ sym a.same))
+        ]
       ]
 
   pub in_slots : (s j : ℕ) → s < index_of image → first_slot s ≤ j → j < first_slot s + (16 * s + 16 - first_slot s) → (1 ≤ j) × (j < 16 * index_of image) × (16 * s ≤ j) × (j < 16 * s + 16)
@@ -201,7 +200,6 @@ module _ (image : List ℕ) (good : Good Narrow image) (name : List ℕ) where
 
   pub found_is_slot : found_along (slot_in image name) (has_free image) (way_of image name) ≡ slot_of image name
   found_is_slot = by_slot (slot_of image name) refl
-
 
 -- the slot that is found is one of the index, and has the name
 pub IsSlotOf-from : (image name : List ℕ) (k : ℕ) → slot_of image name ≡ Some k → IsSlotOf image name k

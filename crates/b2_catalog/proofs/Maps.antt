@@ -1,20 +1,19 @@
 -- How the catalogue changes with one slot.
-use Rattle.std.proofs.Common.{◌≡◌, ◌≢◌, ℕ, zero, suc, ◌+◌, ◌-◌, ◌*◌, ◌<◌, ◌≤◌, Bool, true, false, cond, List, [], Option, Some, None, refl, sym, ap, ◌∙◌, subst, inl, inr, arith}
+use Rattle.std.proofs.Common.{◌≡◌, ◌≢◌, ℕ, zero, suc, ◌+◌, ◌-◌, ◌*◌, ◌<◌, ◌≤◌, Bool, true, false, cond, List, Option, Some, None, refl, sym, ap, ◌∙◌, subst, inl, inr, arith}
 use Rattle.std.specs.Option.{option_map}
 use Rattle.std.specs.List.{find, range_with_len}
 use Rattle.std.specs.Str.{bytes_eq}
-use Rattle.std.specs.Ordering.{nat_cmp, eq_by_cmp}
-use Rattle.std.specs.Cmp.Lexicographic.{slice_cmp, nat_list_cmp_total}
+use Rattle.std.specs.Cmp.Lexicographic.{nat_list_cmp_total}
 use Rattle.std.specs.FinMap.{get, insert, remove, get-insert, get-remove, same_map, slice_cmp-IsAntisymmetric, nat_cmp-IsAntisymmetric}
 use Rattle.std.proofs.lemmas.Bool.{cases_eq, cases_Bool, false≢true, false_from_ne_true}
 use Rattle.std.proofs.lemmas.Slice.Eq.{bytes_eq-Decides}
 use Rattle.b2_platter.specs.declared.layout.Layout.TheVariants.{Narrow}
-use Rattle.b2_platter.specs.Slot.{is_entry, end_of, name_of}
-use Rattle.b2_platter.specs.Image.{row, sector, index_of}
+use Rattle.b2_platter.specs.Slot.{is_entry, name_of}
+use Rattle.b2_platter.specs.Image.{row, index_of}
 use Rattle.b2_platter.specs.Checks.{Good}
 use Rattle.b2_catalog.specs.Catalogue.{entry_at, catalogue}
 use Rattle.b2_catalog.specs.Ways.{holds, slot_of, IsSlotOf}
-use Rattle.b2_catalog.proofs.Looking.{find-none, find-only, Holds, Holds-from, holds-from, one_slot, IsSlotOf-from}
+use Rattle.b2_catalog.proofs.Looking.{find-none, find-only, Holds-from, one_slot, IsSlotOf-from}
 use Rattle.b2_catalog.proofs.Mapping.{tie-eq, get-catalogue}
 use Rattle.b2_catalog.proofs.Changed.{Changes, changed_good}
 
@@ -54,10 +53,10 @@ module _ (a b : List ℕ) (k : ℕ) (good : Good Narrow a) (changes : Changes a 
   slots-same q miss' miss =
       rw changes.index
       (find-same (λ (j : ℕ). holds q (row b j)) (λ (j : ℕ). holds q (row a j)) 1 (16 * index_of a - 1)
-        (λ j j_low j_high. elim (cases_eq j k) [
-          | inl same ↦ subst (λ (j : ℕ). holds q (row b j) ≡ holds q (row a j)) (sym same) (miss' ∙ sym miss)
-          | inr other ↦ ap (holds q) (changes.rows j j_low (omega arith) other)
-        ]))
+      (λ j j_low j_high. elim (cases_eq j k) [
+        | inl same ↦ subst (λ (j : ℕ). holds q (row b j) ≡ holds q (row a j)) (sym same) (miss' ∙ sym miss)
+        | inr other ↦ ap (holds q) (changes.rows j j_low (omega arith) other)
+      ]))
 
   found-same : (q : List ℕ) (o : Option ℕ) → holds q (row a k) ≡ false → slot_of a q ≡ o → option_map (entry_at b) o ≡ option_map (entry_at a) o
   found-same q None miss is = refl

@@ -1,17 +1,16 @@
 -- The slot that a new name takes: it is free, and no sector before its own has a free slot.
-use Rattle.std.proofs.Common.{◌≡◌, ◌≢◌, ℕ, zero, suc, ◌+◌, ◌-◌, ◌*◌, ◌/◌, ◌%◌, ◌<◌, ◌≤◌, Bool, true, false, ◌&&◌, ◌||◌, ◌==◌, not, cond, List, [], ◌∷◌, map, Option, Some, None, refl, sym, ap, ◌∙◌, subst, inl, inr, arith}
+use Rattle.std.proofs.Common.{◌≡◌, ℕ, zero, suc, ◌+◌, ◌-◌, ◌*◌, ◌/◌, ◌%◌, ◌<◌, ◌≤◌, true, false, ◌==◌, not, cond, List, [], ◌∷◌, map, Option, Some, None, refl, sym, ap, ◌∙◌, arith}
 use Rattle.std.specs.Prelude.{is_some}
-use Rattle.std.specs.List.{range_with_len, find, list_any}
+use Rattle.std.specs.List.{range_with_len}
 use Rattle.std.proofs.lemmas.Bool.{eq-eqb, or_left, or_right, and_from}
 use Rattle.b2_platter.specs.declared.layout.Layout.TheVariants.{Narrow}
 use Rattle.b2_platter.specs.Slot.{is_free}
 use Rattle.b2_platter.specs.Image.{row, index_of, first_slot, has_free, hash, is_clear_to}
 use Rattle.b2_platter.specs.Checks.{Good}
 use Rattle.b2_platter.proofs.Ranges.{list_any-none}
-use Rattle.b2_platter.proofs.Rooms.{Parts}
 use Rattle.b2_platter.proofs.Goodness.{Parts-of}
 use Rattle.b2_catalog.specs.Ways.{lowest_free, place, place_along, way_of}
-use Rattle.b2_catalog.proofs.Looking.{Found, find-some, find-missed, in_slots}
+use Rattle.b2_catalog.proofs.Looking.{find-some, find-missed, in_slots}
 
 pub record Placed (a : List ℕ) (way : List ℕ) (k : ℕ) : Type 0 where
   pub low : 1 ≤ k

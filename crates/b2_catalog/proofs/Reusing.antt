@@ -1,25 +1,24 @@
 -- A scratched file under another name, or under its own again.
-use Rattle.std.proofs.Common.{◌≡◌, ◌≢◌, ℕ, zero, suc, ◌+◌, ◌-◌, ◌*◌, ◌/◌, ◌%◌, ◌<◌, ◌≤◌, Bool, true, false, ◌&&◌, ◌||◌, not, cond, List, [], Option, Some, None, length, refl, sym, ap, ◌∙◌, subst, inl, inr, arith}
-use Rattle.std.specs.FinMap.{get, insert, remove}
+use Rattle.std.proofs.Common.{◌≡◌, ◌≢◌, ℕ, ◌-◌, ◌*◌, ◌/◌, ◌<◌, ◌≤◌, Bool, true, false, ◌&&◌, ◌||◌, not, cond, List, Some, None, length, refl, sym, ap, ◌∙◌, subst, inl, inr, arith}
+use Rattle.std.specs.FinMap.{insert, remove}
 use Rattle.std.specs.Prelude.{is_some}
 use Rattle.std.specs.Str.{bytes_eq}
 use Rattle.std.proofs.lemmas.Slice.Eq.{bytes_eq-Decides}
 use Rattle.std.proofs.lemmas.Bool.{cases_eq, cases_order, false≢true, false_from_ne_true}
 use Rattle.b2_base.specs.Names.{is_name8}
 use Rattle.b2_platter.specs.declared.layout.Layout.TheVariants.{Narrow}
-use Rattle.b2_platter.specs.Slot.{is_free, is_entry, is_live, is_program, is_spelled, start_of, end_of, name_of}
-use Rattle.b2_platter.specs.Image.{row, sector, index_of, total_of, next_free, has_free, hash, around, is_clear_to}
-use Rattle.b2_platter.specs.Checks.{differ_in_name, is_reached, lie_apart, is_controlled, is_control, used_of, Good}
+use Rattle.b2_platter.specs.Slot.{is_free, is_entry, start_of, end_of, name_of}
+use Rattle.b2_platter.specs.Image.{row, sector, index_of, next_free, has_free, hash, around, is_clear_to}
+use Rattle.b2_platter.specs.Checks.{differ_in_name, is_reached, lie_apart, is_controlled, is_control, Good}
 use Rattle.b2_platter.proofs.Goodness.{most_of_good}
-use Rattle.b2_platter.proofs.Soundness.{Sound, Sound-from_Good}
+use Rattle.b2_platter.proofs.Soundness.{Sound-from_Good}
 use Rattle.b2_platter.proofs.Kept.{next-same}
-use Rattle.b2_catalog.specs.declared.entry.Entry.{Entry}
 use Rattle.b2_catalog.specs.Catalogue.{entry_at, catalogue}
 use Rattle.b2_catalog.specs.Ways.{holds, way_of, slot_of, place, IsSlotOf}
 use Rattle.b2_catalog.specs.Calls.{reused_place}
 use Rattle.b2_catalog.specs.Changes.{put_row, file_slot, gone_slot, reused}
 use Rattle.b2_catalog.proofs.Looking.{Holds, Holds-from, holds-from, FileSlot, FileSlot-from, IsSlotOf-from, one_slot, clear_of}
-use Rattle.b2_catalog.proofs.Placing.{Placed, Placed-from}
+use Rattle.b2_catalog.proofs.Placing.{Placed-from}
 use Rattle.b2_catalog.proofs.Refusals.{slot_none}
 use Rattle.b2_catalog.proofs.Rows.{row_same}
 use Rattle.b2_catalog.proofs.Spelled.{SaysFile, says_file, gone_no_entry, gone_taken, gone_spelled, gone_long}
@@ -74,9 +73,9 @@ module _ (a : List ℕ) (good : Good Narrow a) (old : List ℕ) (k : ℕ) (at : 
 
   vacant_now : is_entry (row gone to) ≡ false
   vacant_now = elim (cases_eq to k) [
-      | inl same ↦ ap (λ (j : ℕ). is_entry (row gone j)) same ∙ ap is_entry gone_now ∙ gone_no_entry
-      | inr other ↦ ap is_entry (gone_rows to other) ∙ vacant other
-    ]
+    | inl same ↦ ap (λ (j : ℕ). is_entry (row gone j)) same ∙ ap is_entry gone_now ∙ gone_no_entry
+    | inr other ↦ ap is_entry (gone_rows to other) ∙ vacant other
+  ]
 
   free_never : is_free (row gone k) ≡ true → is_free (row a k) ≡ true
   free_never e = absurd (false≢true (sym (ap is_free gone_now ∙ gone_taken) ∙ e))
@@ -110,22 +109,22 @@ module _ (a : List ℕ) (good : Good Narrow a) (old : List ℕ) (k : ℕ) (at : 
 
   names_now : (j : ℕ) → 1 ≤ j → j < 16 * index_of gone → j ≢ to → differ_in_name slot (row gone j) ≡ true
   names_now j j_low j_high other = elim (cases_eq j k) [
-      | inl same ↦ subst (λ (j : ℕ). differ_in_name slot (row gone j) ≡ true) (sym same) (differ_turned slot (row gone k) ∙ differ_free (row gone k) slot (ap is_entry gone_now ∙ gone_no_entry))
-      | inr apart ↦ rw (gone_rows j apart) (differ_from_missed slot (row a j) name says.name (alone j j_low (omega (arith, gone_index)) apart))
-    ]
+    | inl same ↦ subst (λ (j : ℕ). differ_in_name slot (row gone j) ≡ true) (sym same) (differ_turned slot (row gone k) ∙ differ_free (row gone k) slot (ap is_entry gone_now ∙ gone_no_entry))
+    | inr apart ↦ rw (gone_rows j apart) (differ_from_missed slot (row a j) name says.name (alone j j_low (omega (arith, gone_index)) apart))
+  ]
 
   apart_now : (j : ℕ) → 1 ≤ j → j < 16 * index_of gone → j ≢ to → lie_apart Narrow slot (row gone j) ≡ true
   apart_now j j_low j_high other = elim (cases_order j k) [
-      | inl same ↦ subst (λ (j : ℕ). lie_apart Narrow slot (row gone j) ≡ true) (sym same) (apart_turned slot (row gone k) ∙ apart_free (row gone k) slot (ap is_entry gone_now ∙ gone_no_entry))
-      | inr unequal ↦ (
-          let s = Sound-from_Good Narrow a good in
-          let differ : j ≢ k = elim unequal [ inl less ↦ λ e. omega (arith, less, e) | inr more ↦ λ e. omega (arith, more, e) ] in
-          rw (gone_rows j differ) (apart_like slot (row a k) (row a j) (says.entry ∙ sym held.entry) says.start says.end ∙ elim unequal [
-            | inl less ↦ apart_turned (row a k) (row a j) ∙ s.apart j k j_low less at.high
-            | inr more ↦ s.apart k j at.low more (omega (arith, gone_index))
-          ])
+    | inl same ↦ subst (λ (j : ℕ). lie_apart Narrow slot (row gone j) ≡ true) (sym same) (apart_turned slot (row gone k) ∙ apart_free (row gone k) slot (ap is_entry gone_now ∙ gone_no_entry))
+    | inr unequal ↦ (
+        let s = Sound-from_Good Narrow a good in
+        let differ : j ≢ k = elim unequal [ inl less ↦ λ e. omega (arith, less, e) | inr more ↦ λ e. omega (arith, more, e) ] in
+        rw (gone_rows j differ) (apart_like slot (row a k) (row a j) (says.entry ∙ sym held.entry) says.start says.end ∙ elim unequal [
+          | inl less ↦ apart_turned (row a k) (row a j) ∙ s.apart j k j_low less at.high
+          | inr more ↦ s.apart k j at.low more (omega (arith, gone_index))
+        ])
         )
-    ]
+  ]
 
   again : Changes gone after to
   again =

@@ -1,17 +1,17 @@
 -- An image with one slot's row put in place.
-use Rattle.std.proofs.Common.{◌≡◌, ◌≢◌, ℕ, zero, suc, ◌+◌, ◌-◌, ◌*◌, ◌/◌, ◌%◌, ◌<◌, ◌≤◌, Bool, true, false, not, List, length, drop, refl, sym, ap, ◌∙◌, subst, inl, inr, arith, length-take, length-drop}
+use Rattle.std.proofs.Common.{◌≡◌, ◌≢◌, ℕ, ◌+◌, ◌*◌, ◌<◌, ◌≤◌, true, false, List, length, drop, refl, sym, ap, ◌∙◌, subst, inl, inr, arith, length-take, length-drop}
 use Rattle.std.proofs.lemmas.Bool.{cases_order, false≢true}
 use Rattle.b2_platter.specs.declared.layout.Layout.TheVariants.{Narrow}
-use Rattle.b2_platter.specs.Slot.{is_free, is_entry, is_live, is_program, is_spelled, start_of, end_of, name_of}
-use Rattle.b2_platter.specs.Image.{row, sector, index_of, next_free, total_of, catalogue_end}
-use Rattle.b2_platter.specs.Checks.{lies_in, differ_in_name, is_reached, lie_apart, is_controlled, used_of, Good}
-use Rattle.b2_platter.proofs.Rooms.{Parts, LiesIn, LiesIn-from}
+use Rattle.b2_platter.specs.Slot.{is_free, is_entry, is_spelled, start_of, end_of, name_of}
+use Rattle.b2_platter.specs.Image.{row, sector, index_of, next_free}
+use Rattle.b2_platter.specs.Checks.{lies_in, differ_in_name, is_reached, lie_apart, is_controlled, Good}
+use Rattle.b2_platter.proofs.Rooms.{Parts, LiesIn-from}
 use Rattle.b2_platter.proofs.Goodness.{Parts-of}
-use Rattle.b2_platter.proofs.Soundness.{Sound, Sound-from_Good}
+use Rattle.b2_platter.proofs.Soundness.{Sound-from_Good}
 use Rattle.b2_platter.proofs.Kept.{index-same, next-same, head-same, ordered-same}
-use Rattle.b2_catalog.specs.Changes.{put_row, scratched_slot, gone_slot}
+use Rattle.b2_catalog.specs.Changes.{put_row}
 use Rattle.b2_catalog.proofs.Rows.{length-put_row, row_same, row_below, row_above, sector_above}
-use Rattle.b2_catalog.proofs.Changed.{Changes, changed_good, reached_still, differ_turned, apart_turned}
+use Rattle.b2_catalog.proofs.Changed.{Changes, reached_still, differ_turned, apart_turned}
 
 pub length-row : (image : List ℕ) (k : ℕ) → 16 * k + 16 ≤ length image → length (row image k) ≡ 16
 unfolding row

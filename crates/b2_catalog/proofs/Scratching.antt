@@ -1,16 +1,16 @@
 -- A file that is scratched, and one of which another number of sectors is used.
-use Rattle.std.proofs.Common.{◌≡◌, ◌≢◌, ℕ, zero, suc, ◌+◌, ◌-◌, ◌*◌, ◌/◌, ◌%◌, ◌<◌, ◌≤◌, Bool, true, false, List, [], ◌∷◌, Option, Some, None, length, get_or, refl, sym, ap, ◌∙◌, subst, inl, inr, arith}
+use Rattle.std.proofs.Common.{◌≡◌, ◌≢◌, ℕ, zero, suc, ◌+◌, ◌-◌, ◌*◌, ◌/◌, ◌%◌, ◌<◌, ◌≤◌, true, false, List, [], ◌∷◌, Option, Some, None, length, get_or, refl, sym, ap, ◌∙◌, subst, inl, inr, arith}
 use Rattle.std.specs.Option.{option_map}
 use Rattle.std.specs.FinMap.{get, insert}
-use Rattle.std.proofs.lemmas.Bool.{cases_order, false≢true}
+use Rattle.std.proofs.lemmas.Bool.{cases_order}
 use Rattle.b2_platter.specs.declared.layout.Layout.TheVariants.{Narrow}
-use Rattle.b2_platter.specs.Slot.{is_free, is_entry, is_live, is_program, is_spelled, start_of, end_of, name_of}
+use Rattle.b2_platter.specs.Slot.{is_free, is_entry, start_of, end_of, name_of}
 use Rattle.b2_platter.specs.Image.{row, sector, index_of, next_free}
-use Rattle.b2_platter.specs.Checks.{used_of, is_controlled, Good}
+use Rattle.b2_platter.specs.Checks.{is_controlled, Good}
 use Rattle.b2_platter.specs.Edits.{put_sector}
-use Rattle.b2_platter.proofs.Rooms.{LiesIn, LiesIn-from}
+use Rattle.b2_platter.proofs.Rooms.{LiesIn-from}
 use Rattle.b2_platter.proofs.Goodness.{most_of_good}
-use Rattle.b2_platter.proofs.Soundness.{Sound, Sound-from_Good}
+use Rattle.b2_platter.proofs.Soundness.{Sound-from_Good}
 use Rattle.b2_platter.proofs.Puts.{length-put_sector, row_before, sector_before, sector_behind, sector_same}
 use Rattle.b2_platter.proofs.Kept.{index-same, next-same, head-same, ordered-same, shared}
 use Rattle.b2_catalog.proofs.Mapping.{get-catalogue}
@@ -109,9 +109,9 @@ module _ (a : List ℕ) (good : Good Narrow a) (name : List ℕ) (k : ℕ) (at :
       elim (cases_order j k) [
         | inl is ↦ other is
         | inr unequal ↦ elim unequal [
-            | inl less ↦ shared Narrow (row a j) (row a k) (s.apart j k low less at.high) e holds_at.entry (omega (arith, lies.order, same)) (omega (arith, f.order, same))
-            | inr more ↦ shared Narrow (row a k) (row a j) (s.apart k j at.low more high) holds_at.entry e (omega (arith, f.order, same)) (omega (arith, lies.order, same))
-          ]
+          | inl less ↦ shared Narrow (row a j) (row a k) (s.apart j k low less at.high) e holds_at.entry (omega (arith, lies.order, same)) (omega (arith, f.order, same))
+          | inr more ↦ shared Narrow (row a k) (row a j) (s.apart k j at.low more high) holds_at.entry e (omega (arith, f.order, same)) (omega (arith, lies.order, same))
+        ]
       ]
 
   other_ends : (j : ℕ) → 1 ≤ j → j < 16 * index_of a → j ≢ k → is_entry (row a j) ≡ true → sector (put_sector a (end_of Narrow (row a k)) (control_sector used)) (end_of Narrow (row a j)) ≡ sector a (end_of Narrow (row a j))
@@ -120,9 +120,9 @@ module _ (a : List ℕ) (good : Good Narrow a) (name : List ℕ) (k : ℕ) (at :
       elim (cases_order (end_of Narrow (row a j)) (end_of Narrow (row a k))) [
         | inl same ↦ absurd (apart_end j low high other e same)
         | inr unequal ↦ elim unequal [
-            | inl less ↦ sector_before a (end_of Narrow (row a k)) (control_sector used) (control_long used) f.inside (end_of Narrow (row a j)) less
-            | inr more ↦ sector_behind a (end_of Narrow (row a k)) (control_sector used) (control_long used) f.inside (end_of Narrow (row a j)) more
-          ]
+          | inl less ↦ sector_before a (end_of Narrow (row a k)) (control_sector used) (control_long used) f.inside (end_of Narrow (row a j)) less
+          | inr more ↦ sector_behind a (end_of Narrow (row a k)) (control_sector used) (control_long used) f.inside (end_of Narrow (row a j)) more
+        ]
       ]
 
   own_end : sector (put_sector a (end_of Narrow (row a k)) (control_sector used)) (end_of Narrow (row a k)) ≡ control_sector used

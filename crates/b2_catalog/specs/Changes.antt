@@ -1,5 +1,5 @@
 -- Rows and sectors as the catalogue's calls write them, and images with them in place.
-use Rattle.std.specs.Prelude.{ℕ, ◌+◌, ◌-◌, ◌*◌, Bool, List, [], ◌∷◌, ◌++◌, take, drop, replicate, if◌then◌else◌}
+use Rattle.std.specs.Prelude.{ℕ, ◌+◌, ◌-◌, ◌*◌, Bool, List, ◌∷◌, ◌++◌, take, drop, replicate, if◌then◌else◌}
 use Rattle.b2_platter.specs.declared.layout.Layout.TheVariants.{Narrow}
 use Rattle.b2_platter.specs.Layout.{width_of, third_place}
 use Rattle.b2_platter.specs.Slot.{start_of, end_of}

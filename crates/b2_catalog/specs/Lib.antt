@@ -2,3 +2,4 @@ pub mod Catalogue
 pub mod Ways
 pub mod Changes
 pub mod Calls
+pub mod Listing

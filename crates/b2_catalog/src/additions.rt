@@ -9,11 +9,10 @@ ghost use Rattle.b2_catalog.specs.Ways.{place};
 ghost use Rattle.b2_catalog.specs.Changes.{put_row, head_with_next, entered};
 ghost use Rattle.b2_catalog.specs.Calls.{enter_refusal, new_entry};
 
+use crate::{Entry, limits, lookup, place, spelling};
 use b2_base::Name8;
 use b2_base::codes::{Code, D83_NAME_PRESENT, D85_INDEX_FULL, D86_NO_ROOM};
 use b2_platter::{Layout, Platter, edits, image};
-
-use crate::{Entry, limits, lookup, place, spelling};
 
 // The head with another next free sector.
 #[tactic(auto, unfolding(crate::specs::Changes::head_with_next))]
@@ -53,7 +52,11 @@ fn put_new(p: &mut Platter, k: usize, name: Name8, program: bool, sectors: u32)
     let first = index_sector(p, 0, &head);
     let slot = spelling::file_slot(program, start, end, name);
     let own = spelling::with_row(&index_sector(p, k / 16, &head), k % 16, &slot);
-    p.put_catalogue(&[(0, first), ((k / 16) as u32, own), (end, spelling::control_sector(1))]);
+    p.put_catalogue(&[
+        (0, first),
+        ((k / 16) as u32, own),
+        (end, spelling::control_sector(1)),
+    ]);
 }
 
 /// Enters a live file with so many sectors, the last of which says that one is used. D83 where the catalogue has the

@@ -11,13 +11,10 @@ ghost use Rattle.b2_catalog.specs.Ways.{slot_of};
 ghost use Rattle.b2_catalog.specs.Changes.{put_row, scratched_slot, control_sector};
 ghost use Rattle.b2_catalog.specs.Calls.{catalogue_scratched};
 
-use b2_base::codes::{Code, D82_NO_FILE};
+use crate::{Entry, lookup, spelling};
 use b2_base::Name8;
+use b2_base::codes::{Code, D82_NO_FILE};
 use b2_platter::{Platter, image};
-
-use crate::Entry;
-use crate::lookup;
-use crate::spelling;
 
 /// Puts a row of the index in place.
 pub fn put_row(p: &mut Platter, k: usize, row: &[u8; 16])

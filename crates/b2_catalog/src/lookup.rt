@@ -7,12 +7,11 @@ ghost use Rattle.b2_platter.specs.Checks.{Good};
 ghost use Rattle.b2_catalog.specs.Catalogue.{catalogue, entry_at};
 ghost use Rattle.b2_catalog.specs.Ways.{holds, slot_in, way_of, way, found_along, slot_of, IsSlotOf};
 
+use crate::Entry;
 use b2_base::{Name8, Steps};
 use b2_platter::{Layout, Platter, checks, image, slot};
 use std::marker::Brand;
 use std::sync::ledger::{Blank, Ledger};
-
-use crate::Entry;
 
 // Whether a slot is that of the file with a name.
 #[tactic(auto, unfolding(crate::specs::Ways::holds))]
@@ -63,7 +62,8 @@ fn slot_of<L: Ledger>(bytes: &[u8], name: &[u8], steps: &mut Steps<L>) -> Option
 #[tactic(auto, unfolding(crate::specs::Catalogue::entry_at))]
 pub fn entry_at(p: &Platter, k: usize, name: Name8) -> Entry
     requires { IsSlotOf p.now name k }
-    ensures { result ≡ entry_at p.now k }
+    ensures value { result ≡ entry_at p.now k }
+    ensures named { result.name ≡ name }
 {
     let slot = image::row(p.image(), k);
     let end = slot::end(Layout::Narrow, slot);
@@ -89,6 +89,7 @@ pub fn find_slot<L: Ledger>(p: &Platter, name: Name8, steps: &mut Steps<L>) -> O
 /// The file with the name, None where the catalogue hasn't it. One step is counted for each index sector that is read.
 pub fn find<L: Ledger>(p: &Platter, name: Name8, steps: &mut Steps<L>) -> Option<Entry>
     ensures entry { result ≡ get (catalogue p.now) name }
+    ensures named { IfSome result (λ e. e.name ≡ name) }
     ensures ticks { steps.new ≡ steps.old + way p.now name }
 {
     let k = find_slot(p, name, steps)?;
@@ -116,7 +117,8 @@ pub fn look_slot(p: &Platter, name: Name8) -> Option<usize>
 
 /// The file with the name, None where the catalogue hasn't it.
 pub fn look(p: &Platter, name: Name8) -> Option<Entry>
-    ensures { result ≡ get (catalogue p.now) name }
+    ensures entry { result ≡ get (catalogue p.now) name }
+    ensures named { IfSome result (λ e. e.name ≡ name) }
 {
     let k = look_slot(p, name)?;
     Some(entry_at(p, k, name))

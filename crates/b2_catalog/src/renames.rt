@@ -9,12 +9,11 @@ ghost use Rattle.b2_catalog.specs.Ways.{slot_of, IsSlotOf};
 ghost use Rattle.b2_catalog.specs.Changes.{reused};
 ghost use Rattle.b2_catalog.specs.Calls.{reuse_refusal, reused_place};
 
+use crate::changes::put_row;
+use crate::{Entry, lookup, place, spelling};
 use b2_base::Name8;
 use b2_base::codes::{Code, D82_NO_FILE, D83_NAME_PRESENT, D84_NOT_SCRATCHED, D85_INDEX_FULL};
 use b2_platter::Platter;
-
-use crate::changes::put_row;
-use crate::{Entry, lookup, place, spelling};
 
 // Whether two names are one.
 fn is_same(old: Name8, name: Name8) -> bool

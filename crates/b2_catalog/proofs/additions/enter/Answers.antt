@@ -1,17 +1,10 @@
-use Rattle.std.proofs.Common.{◌≡◌, ◌+◌, ◌-◌, ◌*◌, ◌/◌, ◌%◌, ◌<◌, ◌≤◌, ℕ, Bool, true, false, List, Option, Some, None, length, arith, ap, ◌∙◌, sym, subst, refl, rules}
+use Rattle.std.proofs.Common.{◌≡◌, true, false, Some, None, length, arith, ap, ◌∙◌, sym, refl, rules}
 use Rattle.std.specs.Prelude.{is_some}
-use Rattle.std.specs.FinMap.{get, insert}
 use Rattle.b2_base.specs.Names.{is_name8}
 use Rattle.b2_platter.specs.declared.layout.Layout.TheVariants.{Narrow}
-use Rattle.b2_platter.specs.Image.{next_free, catalogue_end}
-use Rattle.b2_platter.specs.Checks.{Good}
 use Rattle.b2_platter.proofs.Goodness.{Parts-of}
-use Rattle.b2_catalog.specs.declared.entry.Entry.{Entry}
-use Rattle.b2_catalog.specs.Catalogue.{catalogue}
-use Rattle.b2_catalog.specs.Ways.{slot_of, place, way_of}
-use Rattle.b2_catalog.specs.Changes.{entered}
-use Rattle.b2_catalog.specs.Calls.{new_entry, enter_refusal}
-use Rattle.b2_catalog.proofs.Placing.{Placed, Placed-from}
+use Rattle.b2_catalog.specs.Ways.{slot_of, place}
+use Rattle.b2_catalog.proofs.Placing.{Placed-from}
 use Rattle.b2_catalog.proofs.Refusals.{enter_present, enter_full, enter_short, enter_taken, slot_none}
 use Rattle.b2_catalog.proofs.Entering.{entered_good, catalogue-entered}
 use Rattle.b2_catalog.proofs.additions.enter.Goals as goal

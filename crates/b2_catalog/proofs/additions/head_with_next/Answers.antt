@@ -1,4 +1,4 @@
-use Rattle.std.proofs.Common.{◌≡◌, ◌≤◌, ◌<◌, arith}
+use Rattle.std.proofs.Common.{arith}
 use Rattle.b2_platter.specs.declared.layout.Layout.TheVariants.{Narrow}
 use Rattle.b2_platter.proofs.Goodness.{Parts-of, most_of_good}
 use Rattle.b2_catalog.proofs.additions.head_with_next.Goals as goal

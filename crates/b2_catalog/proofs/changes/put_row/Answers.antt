@@ -1,8 +1,7 @@
-use Rattle.std.proofs.Common.{◌≡◌, ◌+◌, ◌*◌, ◌/◌, ◌%◌, ◌<◌, ◌≤◌, ℕ, List, length, arith, ap, ◌∙◌, sym, subst, refl}
+use Rattle.std.proofs.Common.{◌≡◌, ◌/◌, ◌%◌, ℕ, List, arith, ◌∙◌, sym, subst, refl}
 use Rattle.b2_platter.specs.declared.layout.Layout.TheVariants.{Narrow}
 use Rattle.b2_platter.specs.Image.{sector}
 use Rattle.b2_platter.specs.Checks.{Good}
-use Rattle.b2_platter.specs.Edits.{put_sector}
 use Rattle.b2_platter.proofs.Goodness.{Parts-of, most_of_good}
 use Rattle.b2_catalog.specs.Changes.{put_row}
 use Rattle.b2_catalog.proofs.Scratching.{one_edit, row_in_sector}

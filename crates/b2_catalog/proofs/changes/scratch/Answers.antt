@@ -1,11 +1,6 @@
-use Rattle.std.proofs.Common.{◌≡◌, ◌+◌, ◌*◌, ◌/◌, ◌<◌, ◌≤◌, ℕ, List, Option, None, length, arith, ap, ◌∙◌, sym, subst, refl}
-use Rattle.std.specs.Option.{option_map, IsSome}
-use Rattle.b2_platter.specs.declared.layout.Layout.TheVariants.{Narrow}
-use Rattle.b2_platter.specs.Image.{row}
-use Rattle.b2_platter.specs.Checks.{Good}
-use Rattle.b2_catalog.specs.Catalogue.{entry_at, catalogue}
-use Rattle.b2_catalog.specs.Changes.{put_row, scratched_slot}
-use Rattle.b2_catalog.specs.Calls.{catalogue_scratched}
+use Rattle.std.proofs.Common.{ap, ◌∙◌, sym, refl}
+use Rattle.std.specs.Option.{option_map}
+use Rattle.b2_catalog.specs.Catalogue.{entry_at}
 use Rattle.b2_catalog.proofs.Looking.{FileSlot-from}
 use Rattle.b2_catalog.proofs.Mapping.{get-catalogue}
 use Rattle.b2_catalog.proofs.Maps.{get-at}

@@ -1,13 +1,12 @@
-use Rattle.std.proofs.Common.{◌≡◌, ◌+◌, ◌-◌, ◌*◌, ◌/◌, ◌<◌, ◌≤◌, ℕ, List, Option, None, length, arith, ap, ◌∙◌, sym, subst, refl}
-use Rattle.std.specs.FinMap.{get, insert}
+use Rattle.std.proofs.Common.{◌≡◌, ℕ, arith, ap, ◌∙◌, sym}
+use Rattle.std.specs.FinMap.{insert}
 use Rattle.b2_platter.specs.declared.layout.Layout.TheVariants.{Narrow}
 use Rattle.b2_platter.specs.Slot.{start_of, end_of}
-use Rattle.b2_platter.specs.Image.{row, total_of}
-use Rattle.b2_platter.specs.Checks.{Good}
+use Rattle.b2_platter.specs.Image.{row}
 use Rattle.b2_platter.specs.Edits.{put_sector}
 use Rattle.b2_platter.proofs.Goodness.{most_of_good}
 use Rattle.b2_catalog.specs.declared.entry.Entry.{Entry}
-use Rattle.b2_catalog.specs.Catalogue.{entry_at, catalogue}
+use Rattle.b2_catalog.specs.Catalogue.{catalogue}
 use Rattle.b2_catalog.specs.Changes.{control_sector}
 use Rattle.b2_catalog.proofs.Looking.{FileSlot-from}
 use Rattle.b2_catalog.proofs.Changed.{changed_good}

@@ -1,7 +1,5 @@
-use Rattle.std.proofs.Common.{◌≡◌, ◌+◌, ◌*◌, ◌<◌, List, ℕ, arith, ap, ◌∙◌, sym, refl}
-use Rattle.b2_platter.specs.declared.layout.Layout.TheVariants.{Narrow}
-use Rattle.b2_platter.specs.Slot.{end_of}
-use Rattle.b2_platter.specs.Image.{row, total_of}
+use Rattle.std.proofs.Common.{refl}
+use Rattle.b2_platter.specs.Image.{row}
 use Rattle.b2_catalog.specs.Catalogue.{entry_at}
 use Rattle.b2_catalog.proofs.Looking.{FileSlot-from, Holds-from}
 use Rattle.b2_catalog.proofs.lookup.entry_at.Goals as goal
@@ -13,8 +11,8 @@ pub sector-requires : goal.sector-requires
 sector-requires c =
     rw (c.end-end.ensures, c.row-slot.ensures, c.image.ensures.value) (FileSlot-from c.args.p.now c.args.name c.args.k c.image.ensures.good c.requires).within
 
-pub returns : goal.returns
+pub returns-clause-value : goal.returns-clause-value
 unfolding entry_at
-returns c =
+returns-clause-value c =
     let same = (Holds-from c.args.name (row c.args.p.now c.args.k) c.requires.held).same in
     rw (c.is_live.ensures, c.is_program.ensures, c.start.ensures, c.used.ensures, c.sector.ensures.value, c.end-end.ensures, c.row-slot.ensures, c.image.ensures.value, same) refl

@@ -1,4 +1,4 @@
-use Rattle.std.proofs.Common.{◌≡◌, ◌+◌, ◌*◌, ◌<◌, List, ℕ, arith, ap, ◌∙◌, sym, refl, Some}
+use Rattle.std.proofs.Common.{ap, ◌∙◌, sym, Some}
 use Rattle.std.specs.Option.{option_map}
 use Rattle.b2_catalog.specs.Catalogue.{entry_at}
 use Rattle.b2_catalog.proofs.Mapping.{get-catalogue}
@@ -13,4 +13,4 @@ entry_at-requires g c = c.in_ok-k.ensures.held
 
 pub returns-clause-entry : goal.returns-clause-entry
 returns-clause-entry g c =
-    ap Some c.entry_at.ensures ∙ sym (get-catalogue c.args.p.now c.args.name ∙ ap (option_map (entry_at c.args.p.now)) (sym c.in_ok-k.ensures.slot))
+    ap Some c.entry_at.ensures.value ∙ sym (get-catalogue c.args.p.now c.args.name ∙ ap (option_map (entry_at c.args.p.now)) (sym c.in_ok-k.ensures.slot))

@@ -1,9 +1,6 @@
-use Rattle.std.proofs.Common.{◌≡◌, ◌+◌, List, ℕ, Option, arith, ap, ◌∙◌, sym}
+use Rattle.std.proofs.Common.{arith, ◌∙◌}
 use Rattle.b2_platter.specs.declared.layout.Layout.TheVariants.{Narrow}
-use Rattle.b2_platter.specs.Image.{has_free}
-use Rattle.b2_platter.specs.Checks.{Good}
 use Rattle.b2_platter.proofs.Goodness.{Parts-of}
-use Rattle.b2_catalog.specs.Ways.{way, way_of, slot_in, slot_of, found_along}
 use Rattle.b2_catalog.proofs.Looking.{found_is_slot, held-from_found}
 use Rattle.b2_catalog.proofs.lookup.find_slot.Goals as goal
 

@@ -1,4 +1,4 @@
-use Rattle.std.proofs.Common.{◌≡◌, ◌+◌, ◌%◌, true, false, ℕ, arith, sym, ◌∙◌, ap}
+use Rattle.std.proofs.Common.{◌≡◌, ◌+◌, ◌%◌, true, false, arith, ◌∙◌}
 use Rattle.std.specs.Prelude.{is_some}
 use Rattle.b2_platter.specs.Image.{has_free}
 use Rattle.b2_catalog.specs.Ways.{slot_in}

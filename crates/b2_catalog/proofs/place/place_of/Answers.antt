@@ -1,4 +1,4 @@
-use Rattle.std.proofs.Common.{◌≡◌, ◌+◌, ◌-◌, ◌%◌, true, false, ℕ, arith, refl, sym, ◌∙◌}
+use Rattle.std.proofs.Common.{◌≡◌, ◌+◌, ◌-◌, ◌%◌, true, false, arith, refl, ◌∙◌}
 use Rattle.std.specs.Prelude.{is_some}
 use Rattle.b2_platter.specs.Image.{index_of}
 use Rattle.b2_catalog.specs.Ways.{lowest_free, place}

@@ -1,6 +1,6 @@
-use Rattle.std.proofs.Common.{◌≡◌, ◌≤◌, arith}
+use Rattle.std.proofs.Common.{arith}
 use Rattle.b2_platter.specs.declared.layout.Layout.TheVariants.{Narrow}
-use Rattle.b2_platter.proofs.Goodness.{Parts-of, most_of_good}
+use Rattle.b2_platter.proofs.Goodness.{Parts-of}
 use Rattle.b2_catalog.proofs.plain.limits.Goals as goal
 
 pub index-requires : goal.index-requires
