@@ -11,3 +11,4 @@ pub mod Placing
 pub mod Entering
 pub mod Refusals
 pub mod Reusing
+pub mod Formats

@@ -4,7 +4,9 @@ ghost use Rattle.b2_base.specs.declared.codes.TheConstants.{P34_RANGE};
 ghost use Rattle.b2_platter.specs.declared.layout.Layout.TheVariants.{Narrow};
 ghost use Rattle.b2_platter.specs.Image.{index_of, catalogue_end, next_free};
 ghost use Rattle.b2_platter.specs.Checks.{Good};
+ghost use Rattle.std.specs.FinMap.{empty};
 ghost use Rattle.b2_platter.specs.Edits.{CanFormat, formatted};
+ghost use Rattle.b2_catalog.specs.Catalogue.{catalogue};
 
 use b2_base::codes::{Code, P34_RANGE};
 use b2_platter::{Layout, Platter, image};
@@ -29,6 +31,7 @@ pub fn limits(p: &Platter) -> (u32, u32, u32)
 /// isn't from 1 to 255 sectors, or the catalogue wouldn't end behind the index and within the platter.
 pub fn format(p: &mut Platter, index: u32, end: u32) -> Result<(), Code>
     ensures ok { OnOk result (CanFormat Narrow p.old index end × (p.new ≡ formatted Narrow p.old index end)) }
+    ensures empties { OnOk result (catalogue p.new ≡ empty) }
     ensures err { IfErr result (λ code. (code ≡ P34_RANGE) × ¬ CanFormat Narrow p.old index end × (p.new ≡ p.old)) }
 {
     if index < 1 || index > 255 || index > end || end >= p.sectors() {
