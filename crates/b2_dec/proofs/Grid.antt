@@ -14,7 +14,7 @@ use Rattle.b2_dec.proofs.Wholes.{carried}
 
 -- ---- where the digits of a fraction stand
 
-place_of-within : (k n d : ℕ) → n < 10 ^ (13 + k) * d → n < 10 ^ (13 + place_of k n d) * d
+pub place_of-within : (k n d : ℕ) → n < 10 ^ (13 + k) * d → n < 10 ^ (13 + place_of k n d) * d
 unfolding place_of
 place_of-within zero n d h = h
 place_of-within (suc k) n d h =
@@ -23,7 +23,7 @@ place_of-within (suc k) n d h =
       | inr above ↦ rw (le-leb _ _ above) h
     ]
 
-place_of-under : (k n d : ℕ) → 0 < place_of k n d → 10 ^ (12 + place_of k n d) * d ≤ n
+pub place_of-under : (k n d : ℕ) → 0 < place_of k n d → 10 ^ (12 + place_of k n d) * d ≤ n
 unfolding place_of
 place_of-under zero n d h = absurd (omega arith)
 place_of-under (suc k) n d h =

@@ -15,3 +15,4 @@ pub mod Rest
 pub mod Roots
 pub mod Grid
 pub mod Spelled
+pub mod Edges

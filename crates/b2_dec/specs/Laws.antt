@@ -1,5 +1,6 @@
 -- What rounding is: laws on fractions and numbers, without places and digits.
-use Rattle.std.specs.Prelude.{◌≡◌, ℕ, ◌+◌, ◌-◌, ◌*◌, ◌^◌, ◌<◌, ◌≤◌, Bool, Ok}
+use Rattle.std.specs.Prelude.{◌≡◌, ℕ, ◌+◌, ◌-◌, ◌*◌, ◌^◌, ◌<◌, ◌≤◌, ◌⊎◌, Bool, Result, Ok, Err}
+use Rattle.b2_base.specs.declared.codes.TheConstants.{C60_UNDERFLOW, C61_OVERFLOW}
 use Rattle.b2_dec.specs.declared.number.Mode.TheVariants.{Round, Cut}
 use Rattle.b2_dec.specs.declared.number.Mode.{Mode}
 use Rattle.b2_dec.specs.Number.{Number, zero_number, IsNumber, size, value}
@@ -41,3 +42,18 @@ NothingIsLeft = (mode : Mode) (a : Number) → difference_of mode a a ≡ Ok zer
 -- Numbers of one value are one number.
 abbrev pub HasOneSpelling : Type 0
 HasOneSpelling = (a b : Number) → IsNumber a → IsNumber b → value a ≡ value b → a ≡ b
+
+-- Twice the thirteen digits from which on a fraction is rounded up to 10^13.
+abbrev pub edge : Mode → ℕ
+edge Round = 19999999999999
+edge Cut = 20000000000000
+
+-- When each answer comes: a number where the fraction is zero or its exponent is in range after rounding, C60 where it is
+-- smaller, and C61 where it is larger.
+abbrev pub IsInLimits : Mode → ℕ → ℕ → Result Number ℕ → Type 0
+IsInLimits mode n d (Ok x) = (n ≡ 0) ⊎ ((edge mode * d ≤ 2 * n * 10 ^ 112) × (2 * n < edge mode * 10 ^ 87 * d))
+IsInLimits mode n d (Err c) =
+    ((c ≡ C60_UNDERFLOW) × ((0 < n) × (2 * n * 10 ^ 112 < edge mode * d))) ⊎ ((c ≡ C61_OVERFLOW) × (edge mode * 10 ^ 87 * d ≤ 2 * n))
+
+abbrev pub HasLimits : Type 0
+HasLimits = (mode : Mode) (neg : Bool) (n d : ℕ) → 0 < d → IsInLimits mode n d (rnd mode neg n d)

@@ -1,5 +1,5 @@
 // What holds of the definitions, as contracts of functions that do nothing.
-ghost use Rattle.b2_dec.specs.Laws.{RoundsToNearest, CutsDown, SumsCommute, NothingIsLeft, HasOneSpelling};
+ghost use Rattle.b2_dec.specs.Laws.{RoundsToNearest, CutsDown, HasLimits, SumsCommute, NothingIsLeft, HasOneSpelling};
 
 /// A rounded fraction is the nearest number, and the larger one of two that are equally near.
 pub fn law_rounds_to_nearest()
@@ -9,6 +9,11 @@ pub fn law_rounds_to_nearest()
 /// A cut fraction is the largest number that isn't above it in size.
 pub fn law_cuts_down()
     ensures { CutsDown }
+{}
+
+/// A rounded fraction is a number, C60 or C61 exactly by its size.
+pub fn law_has_limits()
+    ensures { HasLimits }
 {}
 
 /// A sum doesn't depend on the order.

@@ -22,8 +22,8 @@ mod values;
 
 pub use fractions::{fix, int};
 pub use laws::{
-    law_cuts_down, law_has_one_spelling, law_nothing_is_left, law_rounds_to_nearest,
-    law_sums_commute,
+    law_cuts_down, law_has_limits, law_has_one_spelling, law_nothing_is_left,
+    law_rounds_to_nearest, law_sums_commute,
 };
 pub use number::{Dec, Mode};
 pub use order::{abs, cmp, sgn, whole};

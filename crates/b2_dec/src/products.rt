@@ -26,11 +26,12 @@ pub fn div(a: Dec, b: Dec, m: Mode) -> Result<Dec, Code>
 {
     let (x, y) = (a.coefficient(), b.coefficient());
     if y == 0 {
-        return Err(Code::known(if x == 0 {
+        let code = if x == 0 {
             C63_ZERO_BY_ZERO
         } else {
             C62_ZERO_DIVISOR
-        }));
+        };
+        return Err(Code::known(code));
     }
     if x == 0 {
         return Ok(Dec::zero());

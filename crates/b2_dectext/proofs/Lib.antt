@@ -1,3 +1,6 @@
 pub mod Putting
 pub mod Lengths
 pub mod Scales
+pub mod Spellings
+pub mod Longest
+pub mod ReadBack

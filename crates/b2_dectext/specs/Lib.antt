@@ -1,3 +1,4 @@
 pub mod Digits
 pub mod Printed
 pub mod NumberText
+pub mod Grammar

@@ -1,5 +1,5 @@
 -- How a number is shown.
-use Rattle.std.specs.Prelude.{◌≡◌, ℕ, ◌+◌, ◌-◌, ◌==◌, ◌&&◌, nat_le, nat_lt, Bool, if◌then◌else◌, List, [], ◌∷◌, ◌++◌, length, take, drop}
+use Rattle.std.specs.Prelude.{◌≡◌, ℕ, ◌+◌, ◌-◌, ◌==◌, ◌&&◌, ◌||◌, nat_le, nat_lt, Bool, if◌then◌else◌, List, [], ◌∷◌, ◌++◌, length, take, drop}
 use Rattle.b2_dec.specs.Number.{Number}
 use Rattle.b2_dectext.specs.Digits.{digits, trimmed}
 
@@ -39,6 +39,14 @@ sign_shown neg = if neg then 45 else 32
 -- the printed form: the sign's byte, the size, one space
 unfoldable pub printed : Number → List ℕ
 printed x = (sign_shown x.neg ∷ []) ++ shown_size x ++ (32 ∷ [])
+
+-- the printed form without its outer spaces
+abbrev pub without_spaces : Number → List ℕ
+without_spaces x = (if x.neg then 45 ∷ [] else []) ++ shown_size x
+
+-- whether a number is shown without an exponent
+abbrev pub is_plain : Number → Bool
+is_plain x = (x.coef == 0) || is_fixed x.place
 
 -- A text was put into a place of fixed size: behind the first `at` bytes, which stay, as do those behind its end.
 pub record IsPut (text : List ℕ) (at : ℕ) (before after : List ℕ) (end : ℕ) : Type 0 where

@@ -133,6 +133,7 @@ fn put_size(into: &mut [u8; 24], at: usize, a: Dec) -> usize
 pub fn write(a: Dec, into: &mut [u8; 24]) -> usize
     ensures form { take result into.new ≡ printed a }
     ensures len { result ≡ length (printed a) }
+    ensures bound { result ≤ 16 }
     ensures rest { drop result into.new ≡ drop result into.old }
 {
     let signed = put(into, 0, &[sign_of(a)]);

@@ -4,6 +4,7 @@ ghost use Rattle.b2_dec.specs.Rounding as spec;
 ghost use Rattle.b2_dec.specs.Rounding.{rnd};
 ghost use Rattle.b2_dec.specs.declared.number.Mode.TheVariants.{Round};
 ghost use Rattle.b2_dectext.specs.Digits.{AreDigits, IsLeading, value_after, digits_value};
+ghost use Rattle.b2_dectext.specs.Grammar.{IsLongest};
 ghost use Rattle.b2_dectext.specs.NumberText as grammar;
 ghost use Rattle.b2_dectext.specs.NumberText.{Parts, value_of, number_value, number_read, spaced_number_len};
 
@@ -183,6 +184,10 @@ fn number_at_front(text: &[u8]) -> Result<Dec, Code>
 pub fn read(text: &[u8]) -> (usize, Option<Dec>)
     ensures len { result.0 ≡ grammar.number_len text.now }
     ensures value { result.1 ≡ number_read text.now }
+
+    // In words of the grammar: the text of that length is a number, no longer one stands at the front, and what is
+    // given is that number.
+    ensures longest { IsLongest text.now result.0 (number_value text.now) }
 {
     let len = number_len(text);
     if len == 0 {

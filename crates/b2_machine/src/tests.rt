@@ -38,7 +38,7 @@ const ROWS: [(&[&[u8]], &[u8]); 51] = [
     (&[b"PRINT 2^3^2;2+3*4;(2+3)*4;8/2/2"], b" 64  14  20  2 \n:"),
     (&[b"PRINT 2*-3;+4;2--3"], b"-6  4  5 \n:"),
     (&[b"PRINT 2^.5"], b"ERR C65\n:"),
-    (&[b"PRINT 2^-1"], b"ERR C65\n:"),
+    (&[b"PRINT 2^-1"], b"ERR S14 COL 1\n:"),
     (&[b"PRINT 1^255"], b" 1 \n:"),
     (&[b"PRINT 1^256"], b"ERR C65\n:"),
     (&[b"PRINT 0^0"], b"ERR C63\n:"),

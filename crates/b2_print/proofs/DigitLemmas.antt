@@ -1,9 +1,9 @@
 -- The digits of a number, found among its thirteen.
-use Rattle.std.proofs.Common.{◌≡◌, ℕ, zero, suc, ◌+◌, ◌-◌, ◌*◌, ◌/◌, ◌%◌, ◌^◌, ◌<◌, ◌≤◌, ◌==◌, nat_le, Bool, true, false, refl, sym, ap, ◌∙◌, subst, arith, lit<, pow-add, mul_assoc, add-sub_cancel, sub-add_cancel, mul-le-mul, mul-le-mul_right, le_trans, lt_of_lt_of_le, mul-div_cancel, mul_comm, eq-eqb, inl, inr}
+use Rattle.std.proofs.Common.{◌≡◌, ℕ, suc, ◌+◌, ◌-◌, ◌*◌, ◌/◌, ◌%◌, ◌^◌, ◌<◌, ◌≤◌, ◌==◌, nat_le, true, false, sym, ap, ◌∙◌, subst, arith, lit<, pow-add, mul_assoc, sub-add_cancel, mul-le-mul_right, le_trans, lt_of_lt_of_le, mul-div_cancel, mul_comm, eq-eqb, inl, inr}
 use Rattle.std.proofs.lemmas.Bool.{cases_lt}
 use borrow.Author.Tests.{lt-leb, le-leb}
 use native.Mathlib.Nat.{mul-div-mul_right, mul-mod_left, mul-lt-mul_of_pos_right, pow-le-pow_right, pow-succ', div-eq_of_lt, one-le-pow}
-use Rattle.b2_dec.specs.Number.{Number, IsNumber, zero_number, size}
+use Rattle.b2_dec.specs.Number.{Number, IsNumber, size}
 use Rattle.b2_print.specs.Filling.{reaches}
 
 pub ten_pos : (k : ℕ) → 0 < 10 ^ k
@@ -41,13 +41,13 @@ pub reaches-at : (x : Number) (k : ℕ) → 1000000000000 ≤ x.coef → x.coef 
 reaches-at x k least digits =
     elim (cases_lt x.place (99 + k)) [
       | inl below ↦
-        let upper : x.coef * 10 ^ x.place < 10 ^ 13 * 10 ^ x.place = mul-lt-mul_of_pos_right digits (ten_pos x.place) in
-        let higher : 10 ^ 13 * 10 ^ x.place ≤ 10 ^ (111 + k) = subst (λ t. t ≤ 10 ^ (111 + k)) (pow-add 10 13 x.place) (ten_le (13 + x.place) (111 + k) (omega arith)) in
-        lt-leb (99 + k) x.place below ∙ sym (lt-leb (10 ^ (111 + k)) (size x) (lt_of_lt_of_le upper higher))
+          let upper : x.coef * 10 ^ x.place < 10 ^ 13 * 10 ^ x.place = mul-lt-mul_of_pos_right digits (ten_pos x.place) in
+          let higher : 10 ^ 13 * 10 ^ x.place ≤ 10 ^ (111 + k) = subst (λ t. t ≤ 10 ^ (111 + k)) (pow-add 10 13 x.place) (ten_le (13 + x.place) (111 + k) (omega arith)) in
+          lt-leb (99 + k) x.place below ∙ sym (lt-leb (10 ^ (111 + k)) (size x) (lt_of_lt_of_le upper higher))
       | inr above ↦
-        let lower : 10 ^ 12 * 10 ^ x.place ≤ x.coef * 10 ^ x.place = mul-le-mul_right (10 ^ x.place) least in
-        let less : 10 ^ (111 + k) ≤ 10 ^ 12 * 10 ^ x.place = subst (λ t. 10 ^ (111 + k) ≤ t) (pow-add 10 12 x.place) (ten_le (111 + k) (12 + x.place) (omega arith)) in
-        le-leb (99 + k) x.place above ∙ sym (le-leb (10 ^ (111 + k)) (size x) (le_trans less lower))
+          let lower : 10 ^ 12 * 10 ^ x.place ≤ x.coef * 10 ^ x.place = mul-le-mul_right (10 ^ x.place) least in
+          let less : 10 ^ (111 + k) ≤ 10 ^ 12 * 10 ^ x.place = subst (λ t. 10 ^ (111 + k) ≤ t) (pow-add 10 12 x.place) (ten_le (111 + k) (12 + x.place) (omega arith)) in
+          le-leb (99 + k) x.place above ∙ sym (le-leb (10 ^ (111 + k)) (size x) (le_trans less lower))
     ]
 
 pub reaches-zero : (x : Number) (k : ℕ) → x.coef ≡ 0 → reaches x k ≡ false

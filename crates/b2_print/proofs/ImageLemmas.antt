@@ -1,5 +1,5 @@
 -- The parts of a field are within the text that it begins.
-use Rattle.std.proofs.Common.{◌≡◌, ℕ, zero, suc, ◌+◌, ◌-◌, ◌<◌, ◌≤◌, ◌==◌, ◌||◌, Bool, true, false, cond, if◌then◌else◌, List, [], ◌∷◌, length, take, drop, refl, sym, ap, ◌∙◌, arith, length-drop, length-take, Option, Some, None}
+use Rattle.std.proofs.Common.{◌≡◌, ℕ, zero, suc, ◌+◌, ◌-◌, ◌<◌, ◌≤◌, ◌==◌, ◌||◌, Bool, true, false, cond, if◌then◌else◌, List, [], ◌∷◌, length, drop, refl, sym, ap, ◌∙◌, arith, length-drop, length-take, Some, None}
 use Rattle.std.specs.List.{prefix_len, take_while}
 use Rattle.std.specs.Option.{IfSome}
 use Rattle.std.proofs.lemmas.List.Sums.{prefix_len-le-length}
@@ -88,7 +88,7 @@ pieces-cons b bs = refl
 pub pieces-literal : (b : ℕ) (bs : List ℕ) → field_at (b ∷ bs) ≡ None → pieces (b ∷ bs) ≡ literal b ∷ pieces bs
 pieces-literal b bs e = pieces-cons b bs ∙ ap (λ o. piece_of b o ∷ pieces_behind (behind_first o) bs) e ∙ ap (λ ps. literal b ∷ ps) (pieces_behind-drop 0 bs)
 
-drop-first : (n : ℕ) (b : ℕ) (bs : List ℕ) → 0 < n → drop n (b ∷ bs) ≡ drop (n - 1) bs
+pub drop-first : (n : ℕ) (b : ℕ) (bs : List ℕ) → 0 < n → drop n (b ∷ bs) ≡ drop (n - 1) bs
 drop-first zero b bs h = absurd (omega arith)
 drop-first (suc n) b bs h =
     let less : suc n - 1 ≡ n = omega arith in

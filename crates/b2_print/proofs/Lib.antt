@@ -2,3 +2,5 @@ pub mod ImageLemmas
 pub mod DigitLemmas
 pub mod PlaceLemmas
 pub mod LineLemmas
+pub mod ColumnLemmas
+pub mod SpellingLemmas

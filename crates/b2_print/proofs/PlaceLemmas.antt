@@ -1,12 +1,14 @@
 -- The texts of a field, byte by byte.
-use Rattle.std.proofs.Common.{◌≡◌, ℕ, zero, suc, ◌+◌, ◌-◌, ◌<◌, ◌≤◌, ◌==◌, Bool, true, false, cond, if◌then◌else◌, List, [], ◌∷◌, ◌++◌, length, take, drop, set, get_or, replicate, count_by, refl, sym, ap, ◌∙◌, arith, eq-eqb, ne_eqb, length-append, inl, inr}
-use Rattle.std.proofs.lemmas.List.{drop_more, drop-set}
+use Rattle.std.proofs.Common.{◌≡◌, ℕ, zero, suc, ◌+◌, ◌-◌, ◌<◌, ◌≤◌, ◌==◌, Bool, true, false, cond, if◌then◌else◌, List, [], ◌∷◌, ◌++◌, length, take, drop, replicate, set, get_or, refl, ap, ◌∙◌, arith, eq-eqb, ne_eqb, length-append, length-take}
+use Rattle.std.proofs.lemmas.List.{drop_more, drop-set, length-replicate}
 use Rattle.std.proofs.lemmas.List.Sums.{sum_by-cons}
 use Rattle.b2_dec.specs.Number.{Number}
+use Rattle.b2_dec.specs.declared.values.Value.{Value}
+use Rattle.b2_dec.specs.declared.values.Value.TheVariants as value
 use Rattle.b2_print.specs.declared.image.Sign.{Sign}
 use Rattle.b2_print.specs.declared.image.Sign.TheVariants.{Unsigned, Always, Negative}
-use Rattle.b2_print.specs.Images.{is_mark, point_width, sign_bytes}
-use Rattle.b2_print.specs.Filling.{has_digit, place_byte, marks, whole_text, digits_from, point_text, sign_text}
+use Rattle.b2_print.specs.Images.{Field, width_of, is_mark, point_width, sign_bytes, dollar_bytes}
+use Rattle.b2_print.specs.Filling.{has_digit, place_byte, marks, whole_text, digits_from, point_text, sign_text, number_text, right_aligned, fits, filled}
 
 pub point_width-some : (n : ℕ) → (n ≡ 0 → ⊥) → point_width n ≡ n + 1
 point_width-some zero h = absurd (h refl)
@@ -57,3 +59,28 @@ pub put_before : (xs : List ℕ) (start b : ℕ) → 0 < start → start ≤ len
 put_before xs start b some within =
     let next : start - 1 + 1 ≡ start = omega arith in
     drop-set xs (start - 1) b (omega arith) ∙ ap (λ n. b ∷ drop n xs) next
+
+length-shown_if : (b : Bool) (t : ℕ) (shown : List ℕ) (n : ℕ) → length shown ≤ n → length (if b then t ∷ shown else shown) ≤ suc n
+length-shown_if true t shown n h = omega arith
+length-shown_if false t shown n h = omega arith
+
+pub length-whole_text : (x : Number) (places : List ℕ) → length (whole_text x places) ≤ length places
+length-whole_text x [] = omega arith
+length-whole_text x (c ∷ cs) = length-shown_if (has_digit x (marks cs)) (place_byte x (marks cs) c) (whole_text x cs) (length cs) (length-whole_text x cs)
+
+pub length-number_text : (f : Field) (x : Number) → length (number_text f x) ≤ width_of f
+length-number_text f x =
+    let s = sign_text f.sign x.neg in
+    let d = dollar_bytes f.dollar in
+    let w = whole_text x f.whole in
+    let p = point_text x f.decimals in
+    omega (arith, length-append (s ++ d ++ w) p, length-append (s ++ d) w, length-append s d, length-sign_text f.sign x.neg, length-whole_text x f.whole, length-point_text x f.decimals)
+
+length-number_if : (b : Bool) (width : ℕ) (text : List ℕ) → length text ≤ width → length (if b then right_aligned width text else replicate width 35) ≡ width
+length-number_if true width text h = omega (arith, length-append (replicate (width - length text) 32) text, length-replicate {A = ℕ} (width - length text) 32)
+length-number_if false width text h = length-replicate {A = ℕ} width 35
+
+pub length-filled : (f : Field) (v : Value) → length (filled f v) ≡ width_of f
+length-filled f (value.Number x) = length-number_if (fits f x) (width_of f) (number_text f x) (length-number_text f x)
+length-filled f (value.Alpha a) =
+    omega (arith, length-append (take (width_of f) a) (replicate (width_of f - length a) 32), length-take (width_of f) a, length-replicate {A = ℕ} (width_of f - length a) 32)

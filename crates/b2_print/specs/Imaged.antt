@@ -1,5 +1,5 @@
 -- What values become in an image.
-use Rattle.std.specs.Prelude.{◌≡◌, ℕ, zero, suc, ◌+◌, ◌-◌, ◌==◌, ◌&&◌, Bool, true, false, not, if◌then◌else◌, List, [], ◌∷◌, ◌++◌, length, Result, Ok, Err}
+use Rattle.std.specs.Prelude.{◌≡◌, ℕ, zero, suc, ◌-◌, ◌==◌, ◌&&◌, Bool, not, if◌then◌else◌, List, [], ◌∷◌, ◌++◌, length, Result, Ok, Err}
 use Rattle.b2_base.specs.declared.codes.Fault.{Fault}
 use Rattle.b2_base.specs.declared.codes.Fault.TheVariants as fault
 use Rattle.b2_base.specs.declared.codes.TheConstants.{P42_IMAGE, X71_DOES_NOT_FIT}
@@ -27,7 +27,7 @@ all_lines ps values = line ps values ++ further_lines ps (length (fields ps)) va
 
 -- whether there are values and no field for them
 abbrev pub lacks_field : List Piece → List Value → Bool
-lacks_field ps values = (length (fields ps) == 0) && not (length values == 0)
+lacks_field ps values = not (length values == 0) && (length (fields ps) == 0)
 
 -- the values in the image, with a newline at the end unless more follows on the line
 abbrev pub imaged : List ℕ → List Value → Bool → Result (List ℕ) ℕ

@@ -1,5 +1,5 @@
 -- What an image is made of: fields, and bytes outside them.
-use Rattle.std.specs.Prelude.{◌≡◌, ◌≤◌, ℕ, zero, suc, ◌+◌, ◌-◌, ◌==◌, ◌||◌, Bool, true, false, if◌then◌else◌, List, [], ◌∷◌, ◌++◌, length, take, drop, map, Option, Some, None}
+use Rattle.std.specs.Prelude.{◌≡◌, ◌≤◌, ℕ, zero, suc, ◌+◌, ◌-◌, ◌==◌, ◌||◌, Bool, true, false, if◌then◌else◌, List, [], ◌∷◌, ◌++◌, length, take, drop, map, replicate, Option, Some, None}
 use Rattle.std.specs.List.{prefix_len, take_while}
 use Rattle.b2_print.specs.declared.image.Sign.{Sign}
 use Rattle.b2_print.specs.declared.image.Sign.TheVariants.{Unsigned, Always, Negative}
@@ -87,6 +87,18 @@ unfoldable pub pieces_behind : ℕ → List ℕ → List Piece
 pieces_behind n [] = []
 pieces_behind (suc n) (b ∷ bs) = pieces_behind n bs
 pieces_behind zero (b ∷ bs) = piece_of b (field_at (b ∷ bs)) ∷ pieces_behind (behind_first (field_at (b ∷ bs))) bs
+
+-- the bytes that write a piece
+abbrev pub point_bytes : ℕ → List ℕ
+point_bytes zero = []
+point_bytes (suc n) = 46 ∷ replicate (suc n) 35
+
+abbrev pub field_bytes : Field → List ℕ
+field_bytes f = sign_bytes f.sign ++ dollar_bytes f.dollar ++ f.whole ++ point_bytes f.decimals
+
+abbrev pub spelled : Piece → List ℕ
+spelled (literal b) = b ∷ []
+spelled (field f) = field_bytes f
 
 -- the pieces of an image
 abbrev pub pieces : List ℕ → List Piece

@@ -43,3 +43,7 @@ abbrev pub layout : ℕ → ℕ → List Item → List ℕ
 layout width column [] = []
 layout width column (it ∷ its) =
     placed width column it ++ layout width (column_after column (placed width column it)) its
+
+-- whether an item has room on a line of its own
+abbrev pub fits_line : ℕ → Item → Bool
+fits_line width it = not (passes width 0 (text_of width 0 it))

@@ -3,3 +3,4 @@ pub mod Layout
 pub mod Images
 pub mod Filling
 pub mod Imaged
+pub mod Laws

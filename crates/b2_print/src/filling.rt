@@ -128,10 +128,8 @@ fn fill_signs(field: &Field<'_>, neg: bool, end: usize, into: &mut [u8]) -> usiz
     requires room { length (sign_bytes field.now.sign) + length (dollar_bytes field.now.dollar) ≤ end }
     requires within { end ≤ length into.old }
     ensures start { result + (length (sign_bytes field.now.sign) + length (dollar_bytes field.now.dollar)) ≡ end }
-    ensures text {
-        drop result into.new
-        ≡ spec.sign_text field.now.sign neg ++ dollar_bytes field.now.dollar ++ drop end into.old
-    }
+    ensures text { drop result into.new
+        ≡ spec.sign_text field.now.sign neg ++ dollar_bytes field.now.dollar ++ drop end into.old }
 {
     let mut start = end;
     if field.has_dollar() {

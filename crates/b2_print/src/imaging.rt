@@ -1,7 +1,7 @@
 // Values in an image.
-ghost use Rattle.std.specs.Prelude.{◌≡◌, false, Ok, Err, MatchOption, if◌then◌else◌, ◌++◌, ◌-◌, ◌≤◌, ◌<◌, ◌^◌, [], ◌∷◌, length, drop, min, OnOk, OnErr, IfOk, IfErr, IfSome, MatchResult};
+ghost use Rattle.std.specs.Prelude.{◌≡◌, false, Ok, Err, Some, None, MatchOption, if◌then◌else◌, ◌++◌, ◌-◌, ◌≤◌, ◌<◌, ◌^◌, [], ◌∷◌, length, drop, min, OnOk, OnErr, IfOk, IfErr, IfSome, MatchResult};
 ghost use Rattle.b2_print.specs.Images.{width_of, pieces, fields, literals, IsFirstField};
-ghost use Rattle.b2_print.specs.Filling.{filled};
+ghost use Rattle.b2_print.specs.Filling.{filled, fits, number_filled};
 ghost use Rattle.b2_print.specs.Imaged as spec;
 
 use crate::filling::{fill, fill_number};
@@ -23,7 +23,12 @@ fn put(alloc: Global, field: &Field<'_>, value: &Value, text: &mut Vec<u8>) -> R
 }
 
 /// Appends one line of the image, and gives the number of values that it took.
-fn line(alloc: Global, image: &[u8], values: &[Value], text: &mut Vec<u8>) -> Result<usize, NoMemory>
+fn line(
+    alloc: Global,
+    image: &[u8],
+    values: &[Value],
+    text: &mut Vec<u8>,
+) -> Result<usize, NoMemory>
     ensures line { OnOk result (text.new.items ≡ text.old.items ++ spec.line (pieces image.now) values.now) }
     ensures used { IfOk result (λ used. used ≡ min (length (fields (pieces image.now))) (length values.now)) }
 {
@@ -50,11 +55,9 @@ fn line(alloc: Global, image: &[u8], values: &[Value], text: &mut Vec<u8>) -> Re
 
 /// The place of the first field of an image, and that field.
 fn first_field(image: &[u8]) -> Option<(usize, Field<'_>)>
-    ensures {
-        MatchOption result
+    ensures { MatchOption result
         (pieces image.now ≡ literals image.now)
-        (λ found. IsFirstField image.now found.0 found.1)
-    }
+        (λ found. IsFirstField image.now found.0 found.1) }
 {
     for at in 0..image.len() {
         if let Some(field) = field_at(&image[at..]) {
@@ -64,13 +67,21 @@ fn first_field(image: &[u8]) -> Option<(usize, Field<'_>)>
     None
 }
 
+/// True where there are values and no field for them.
+fn lacks_field(image: &[u8], values: &[Value]) -> bool
+    ensures { result ≡ spec.lacks_field (pieces image.now) values.now }
+{
+    match first_field(image) {
+        Some(_) => false,
+        None => !values.is_empty(),
+    }
+}
+
 /// All lines of the image, with a newline behind them unless more follows.
 fn lines(alloc: Global, image: &[u8], values: &[Value], more: bool) -> Result<Vec<u8>, NoMemory>
     requires { spec.lacks_field (pieces image.now) values.now ≡ false }
-    ensures {
-        IfOk result
-        (λ text. text.items ≡ spec.all_lines (pieces image.now) values.now ++ (if more then [] else 10 ∷ []))
-    }
+    ensures { IfOk result
+        (λ text. text.items ≡ spec.all_lines (pieces image.now) values.now ++ (if more then [] else 10 ∷ [])) }
 {
     let mut text = Vec::new(alloc);
     let mut used = line(alloc, image, values, &mut text)?;
@@ -108,7 +119,7 @@ pub fn using(
     ensures code { IfErr result (spec.IsRefused (spec.imaged image.now items.now more)) }
     ensures err { OnErr result (into.new.items ≡ into.old.items) }
 {
-    if !items.is_empty() && first_field(image).is_none() {
+    if lacks_field(image, items) {
         return Err(Fault::Code(Code::known(P42_IMAGE)));
     }
     let text = lines(alloc, image, items, more)?;
@@ -128,17 +139,30 @@ pub fn convert(image: &[u8], x: Dec, into: &mut Bytes) -> Result<(), Code>
     let Some((start, field)) = first_field(image) else {
         return Err(Code::known(P42_IMAGE));
     };
-    let mut filled = [0; 255];
-    let width = field.width();
-    if !fill_number(&field, x, &mut filled[..width]) {
+    let Some(number) = filled_number(&field, x) else {
         return Err(Code::known(X71_DOES_NOT_FIT));
-    }
-    let rest = &image[start + width..];
+    };
+    let behind = start + field.width();
     into.clear();
     into.extend(&image[..start]);
-    into.extend(&filled[..width]);
-    into.extend(before_field(rest));
+    into.extend(number.bytes());
+    into.extend(before_field(&image[behind..]));
     Ok(())
+}
+
+/// A number in a field, None where it doesn't fit.
+fn filled_number(field: &Field<'_>, x: Dec) -> Option<Bytes>
+    requires { width_of field.now ≤ 255 }
+    ensures text { result ≡ (if fits field.now x then Some (number_filled field.now x) else None) }
+    ensures width { IfSome result (λ text. length text ≡ width_of field.now) }
+{
+    let mut buffer = [0; 255];
+    let text = &mut buffer[..field.width()];
+    if fill_number(field, x, text) {
+        Bytes::of(text)
+    } else {
+        None
+    }
 }
 
 /// The bytes of an image before its first field.

@@ -1,4 +1,4 @@
-use Rattle.std.proofs.Common.{ℕ, ◌+◌, ◌*◌, ◌/◌, ◌%◌, ◌^◌, ap, ◌∙◌}
+use Rattle.std.proofs.Common.{◌+◌, ◌/◌, ◌%◌, ◌^◌, ap}
 use Rattle.b2_print.proofs.DigitLemmas.{size-up}
 use Rattle.b2_print.proofs.filling.decimal_digit.Goals as goal
 

@@ -1,4 +1,4 @@
-use Rattle.std.proofs.Common.{◌<◌, ◌≤◌, ◌-◌, ◌+◌, ◌^◌, ◌/◌, ◌%◌, ap, sym, arith}
+use Rattle.std.proofs.Common.{◌-◌, ◌+◌, ◌%◌, ap, sym, arith}
 use Rattle.b2_print.proofs.DigitLemmas.{ten_pos, shifted, digit-left, digit-right}
 use Rattle.b2_print.proofs.filling.digit.Goals as goal
 

@@ -1,5 +1,5 @@
-use Rattle.std.proofs.Common.{◌≡◌, ℕ, ◌+◌, ◌-◌, ◌<◌, ◌≤◌, ◌∷◌, ◌++◌, List, Bool, true, false, length, drop, get_or, ap, refl, sym, ◌∙◌, arith}
-use Rattle.b2_print.specs.Filling.{has_digit, place_byte, marks, whole_text}
+use Rattle.std.proofs.Common.{◌≡◌, ℕ, ◌+◌, ◌-◌, ◌<◌, ◌≤◌, ◌∷◌, List, true, false, length, drop, get_or, ap, sym, ◌∙◌, arith}
+use Rattle.b2_print.specs.Filling.{has_digit, place_byte, marks}
 use Rattle.b2_print.proofs.PlaceLemmas.{one_more, whole_text-shown, whole_text-skipped, marks-mark, marks-other, put_before}
 use Rattle.b2_print.proofs.filling.fill_whole.Goals as goal
 use Rattle.b2_print.proofs.filling.fill_whole.Goals.{then-has_digit, else-has_digit, then-place-eq35, else-place-eq35}
@@ -23,24 +23,24 @@ loop-done-preserved c =
     rw (one_more xs c.loop-done.done below)
     (elim c.if-has_digit.branch [
       | then-has_digit w ↦
-        let shows : has_digit c.args.x c.loop-done.k ≡ true = sym c.has_digit.ensures ∙ w.if-has_digit.true in
-        let text = whole_text-shown c.args.x place behind c.loop-done.k marks_behind shows in
-        let put = put_before c.loop-done.into c.loop-done.start w.place_byte.result room within in
-        record {
-          power = power;
-          few = few;
-          start = rw (text, w.start-is) (omega (arith, c.loop-done.invariant.start));
-          near = rw w.start-is (omega arith);
-          text = rw (text, w.start-is, w.into-is, put, w.place_byte.ensures) (ap (λ t. place_byte c.args.x c.loop-done.k place ∷ t) c.loop-done.invariant.text);
-        }
+          let shows : has_digit c.args.x c.loop-done.k ≡ true = sym c.has_digit.ensures ∙ w.if-has_digit.true in
+          let text = whole_text-shown c.args.x place behind c.loop-done.k marks_behind shows in
+          let put = put_before c.loop-done.into c.loop-done.start w.place_byte.result room within in
+          record {
+            power = power;
+            few = few;
+            start = rw (text, w.start-is) (omega (arith, c.loop-done.invariant.start));
+            near = rw w.start-is (omega arith);
+            text = rw (text, w.start-is, w.into-is, put, w.place_byte.ensures) (ap (λ t. place_byte c.args.x c.loop-done.k place ∷ t) c.loop-done.invariant.text);
+          }
       | else-has_digit w ↦
-        let skips : has_digit c.args.x c.loop-done.k ≡ false = sym c.has_digit.ensures ∙ w.if-has_digit.false in
-        let text = whole_text-skipped c.args.x place behind c.loop-done.k marks_behind skips in
-        record {
-          power = power;
-          few = few;
-          start = rw (text, w.start-is) c.loop-done.invariant.start;
-          near = rw w.start-is (omega arith);
-          text = rw (text, w.start-is, w.into-is) c.loop-done.invariant.text;
-        }
+          let skips : has_digit c.args.x c.loop-done.k ≡ false = sym c.has_digit.ensures ∙ w.if-has_digit.false in
+          let text = whole_text-skipped c.args.x place behind c.loop-done.k marks_behind skips in
+          record {
+            power = power;
+            few = few;
+            start = rw (text, w.start-is) c.loop-done.invariant.start;
+            near = rw w.start-is (omega arith);
+            text = rw (text, w.start-is, w.into-is) c.loop-done.invariant.text;
+          }
     ])

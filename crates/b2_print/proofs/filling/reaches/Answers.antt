@@ -1,4 +1,4 @@
-use Rattle.std.proofs.Common.{◌≡◌, ◌≤◌, ◌<◌, ◌==◌, Bool, true, false, sym, ◌∙◌, ap, eqb-true, not, arith}
+use Rattle.std.proofs.Common.{◌≡◌, ◌==◌, true, false, sym, ◌∙◌, ap, eqb-true, not}
 use Rattle.b2_print.proofs.DigitLemmas.{reaches-at, reaches-zero, least}
 use Rattle.b2_print.proofs.filling.reaches.Goals as goal
 

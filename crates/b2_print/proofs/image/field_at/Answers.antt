@@ -1,5 +1,4 @@
-use Rattle.std.proofs.Common.{◌≡◌, rules, arith, sym, subst}
-use Rattle.std.proofs.lemmas.Grind.{common_steps}
+use Rattle.std.proofs.Common.{◌≡◌}
 use Rattle.b2_print.specs.Images.{field_at}
 use Rattle.b2_print.proofs.ImageLemmas.{field-within}
 use Rattle.b2_print.proofs.image.field_at.Goals as goal

@@ -1,7 +1,7 @@
-use Rattle.std.proofs.Common.{◌≡◌, ℕ, zero, suc, ◌+◌, ◌-◌, ◌<◌, ◌≤◌, List, [], ◌∷◌, ◌++◌, length, drop, get_or, min, refl, sym, ap, ◌∙◌, append_assoc, append-nil, arith, Option, Some, None}
+use Rattle.std.proofs.Common.{◌≡◌, suc, ◌+◌, ◌-◌, ◌<◌, List, [], ◌∷◌, ◌++◌, length, drop, get_or, min, sym, ap, ◌∙◌, append_assoc, append-nil, arith, Some, None}
 use Rattle.std.proofs.lemmas.List.{take_rest}
 use Rattle.b2_dec.specs.declared.values.Value.{Value}
-use Rattle.b2_print.specs.Images.{Field, Piece, width_of, field_at, literal, field, pieces, fields}
+use Rattle.b2_print.specs.Images.{Field, Piece, width_of, field_at, pieces, fields}
 use Rattle.b2_print.specs.Filling.{filled}
 use Rattle.b2_print.specs.Imaged as spec
 use Rattle.b2_print.proofs.ImageLemmas.{field-some}
@@ -19,9 +19,9 @@ loop-at-preserved-in-None c =
       within = omega arith;
       enough = omega arith;
       text =
-        rw c.in_ok-push-in-None.ensures.items
-        (append_assoc c.loop-at.text.items (get_or image c.loop-at.at 0 ∷ []) (spec.line rest left)
-        ∙ ap (λ ps. c.loop-at.text.items ++ spec.line ps left) (sym piece) ∙ c.loop-at.invariant.text);
+          rw c.in_ok-push-in-None.ensures.items
+          (append_assoc c.loop-at.text.items (get_or image c.loop-at.at 0 ∷ []) (spec.line rest left)
+          ∙ ap (λ ps. c.loop-at.text.items ++ spec.line ps left) (sym piece) ∙ c.loop-at.invariant.text);
       used = ap (λ ps. c.loop-at.used + min (length (fields ps)) (length c.args.values.now - c.loop-at.used)) (sym piece) ∙ c.loop-at.invariant.used;
     }
 
@@ -58,10 +58,10 @@ loop-at-preserved c =
       within = omega (arith, c.in-Some.ensures.within, ap length (take_rest image c.loop-at.at));
       enough = omega arith;
       text =
-        rw c.in_ok-put-in-Some.ensures
-        (append_assoc c.loop-at.text.items (filled f c.index-values-used.result) (spec.line rest next)
-        ∙ ap (λ t. c.loop-at.text.items ++ t) (sym value)
-        ∙ ap (λ ps. c.loop-at.text.items ++ spec.line ps left) (sym piece) ∙ c.loop-at.invariant.text);
+          rw c.in_ok-put-in-Some.ensures
+          (append_assoc c.loop-at.text.items (filled f c.index-values-used.result) (spec.line rest next)
+          ∙ ap (λ t. c.loop-at.text.items ++ t) (sym value)
+          ∙ ap (λ ps. c.loop-at.text.items ++ spec.line ps left) (sym piece) ∙ c.loop-at.invariant.text);
       used = omega (arith, fields_here, c.loop-at.invariant.used);
     })
 

@@ -1,0 +1,77 @@
+-- The grammar of number text, by its parts and with no word on how it is read.
+use Rattle.std.specs.Prelude.{◌≡◌, ℕ, ◌+◌, ◌<◌, ◌≤◌, Bool, true, false, Option, Some, None, Result, List, [], ◌∷◌, ◌++◌, length, take}
+use Rattle.b2_dectext.specs.Digits.{AreDigits}
+use Rattle.b2_dec.specs.Number.{Number}
+use Rattle.b2_dectext.specs.NumberText.{Parts, value_of}
+
+pub data Sign : Type 0 where
+  unsigned : Sign
+  plus : Sign
+  minus : Sign
+
+-- perhaps a sign, perhaps digits, perhaps a point and digits, perhaps E with a sign or none and digits
+pub record Spelling : Type 0 where
+  pub sign : Sign
+  pub whole : List ℕ
+  pub fraction : Option (List ℕ)
+  pub exponent_sign : Sign
+  pub exponent : List ℕ
+
+abbrev pub sign_text : Sign → List ℕ
+sign_text unsigned = []
+sign_text plus = 43 ∷ []
+sign_text minus = 45 ∷ []
+
+abbrev pub point_text : Option (List ℕ) → List ℕ
+point_text None = []
+point_text (Some ds) = 46 ∷ ds
+
+-- an exponent without digits is not written
+abbrev pub exponent_text : Sign → List ℕ → List ℕ
+exponent_text s [] = []
+exponent_text s (d ∷ ds) = 69 ∷ (sign_text s ++ d ∷ ds)
+
+-- the text that such parts spell
+abbrev pub spelled : Spelling → List ℕ
+spelled s = sign_text s.sign ++ (s.whole ++ (point_text s.fraction ++ exponent_text s.exponent_sign s.exponent))
+
+-- the digits behind the point
+abbrev pub behind : Option (List ℕ) → List ℕ
+behind None = []
+behind (Some ds) = ds
+
+-- There is a digit before the exponent, and the exponent has two at most.
+pub record IsSpelling (s : Spelling) : Type 0 where
+  pub whole : AreDigits s.whole
+  pub fraction : AreDigits (behind s.fraction)
+  pub some : 0 < length s.whole + length (behind s.fraction)
+  pub exponent : AreDigits s.exponent
+  pub few : length s.exponent ≤ 2
+
+-- whether a sign is `-`
+abbrev pub is_minus : Sign → Bool
+is_minus unsigned = false
+is_minus plus = false
+is_minus minus = true
+
+-- the parts that a spelling means
+abbrev pub parts : Spelling → Parts
+parts s = record {
+  neg = is_minus s.sign;
+  whole = s.whole;
+  fraction = behind s.fraction;
+  exponent_neg = is_minus s.exponent_sign;
+  exponent = s.exponent;
+}
+
+-- a text that is a number, whole, and which number it is
+pub record IsNumberText (text : List ℕ) (number : Result Number ℕ) : Type 0 where
+  pub spelling : Spelling
+  pub fine : IsSpelling spelling
+  pub text_is : spelled spelling ≡ text
+  pub value : value_of (parts spelling) ≡ number
+
+-- n is the length of the longest number at the front of a text, and 0 where none stands there.
+pub record IsLongest (text : List ℕ) (n : ℕ) (number : Result Number ℕ) : Type 0 where
+  pub found : 0 < n → IsNumberText (take n text) number
+  pub longest : (k : ℕ) (other : Result Number ℕ) → k ≤ length text → IsNumberText (take k text) other → k ≤ n

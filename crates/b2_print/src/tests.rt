@@ -1,0 +1,236 @@
+// What PRINT, PRINTUSING and CONVERT show.
+use crate::{Item, convert, lay, using};
+use b2_base::Fault;
+use b2_dec::{Bytes, Dec, Value, unpack};
+use std::alloc::{AllocError, Global};
+use std::test::Fail;
+
+/// 133 bytes, for items of any length up to that.
+const LONG: [u8; 133] = [b'x'; 133];
+/// As many blanks.
+const BLANKS: [u8; 133] = [b' '; 133];
+
+/// A number by its packed form: sign, two digits of the exponent, thirteen digits.
+fn number(packed: u64) -> Dec {
+    unpack(&packed.to_be_bytes()).unwrap_or(Dec::zero())
+}
+
+const ONE: u64 = 0x0001_0000_0000_0000;
+
+const TWO: u64 = 0x0002_0000_0000_0000;
+
+const THREE: u64 = 0x0003_0000_0000_0000;
+
+const THIRD: u64 = 0x8013_3333_3333_3333;
+
+const MINUS_FIVE: u64 = 0x1005_0000_0000_0000;
+
+const TWELVE: u64 = 0x0011_2340_0000_0000;
+
+const THOUSAND: u64 = 0x0031_0800_0000_0000;
+
+const MILLION: u64 = 0x0061_2345_6700_0000;
+
+const SMALL: u64 = 0x8024_0000_0000_0000;
+
+const MINUS_SMALL: u64 = 0x9024_0000_0000_0000;
+
+const NEARLY_ONE: u64 = 0x8019_9900_0000_0000;
+
+const HUGE: u64 = 0x0991_0000_0000_0000;
+
+/// Items, a column, a width, the text and the column after it.
+type Laid<'a> = (&'a [Item<'a>], u16, u16, &'a [u8], u16);
+
+fn laid(alloc: Global, row: &Laid<'_>) -> Result<bool, Fail> {
+    let (items, column, width, text, after) = *row;
+    let mut into = b"before".to_vec(alloc)?;
+    let end = lay(alloc, items, column, width, &mut into).map_err(|_| "no memory")?;
+    let mut want = b"before".to_vec(alloc)?;
+    want.extend_from_slice(text)?;
+    Ok(end == after && into.as_slice() == want.as_slice())
+}
+
+#[test]
+fn items(rt: HostRuntime) -> Result<(), Fail> {
+    let zones = [
+        Item::Number(number(ONE)),
+        Item::Zone,
+        Item::Number(number(TWO)),
+        Item::Number(number(THREE)),
+    ];
+    let third = [Item::Number(number(THIRD)), Item::Line];
+    let hex = [Item::Hex(b"\x0a\xff"), Item::Alpha(b"a\nb\x07c")];
+    let rows: [Laid<'_>; 12] = [
+        (&zones, 0, 80, b" 1               2  3 ", 22),
+        (&third, 0, 80, b" .3333333333333 \n", 0),
+        (&hex, 5, 80, b"0AFFa\nb\x07c", 2),
+        (&[Item::Zone], 63, 80, b" ", 64),
+        (&[Item::Zone], 64, 80, b"\n", 0),
+        (&[Item::Zone], 64, 81, &BLANKS[..16], 80),
+        (&[Item::Zone], 112, 132, &BLANKS[..16], 128),
+        (&[Item::Zone], 128, 132, b"\n", 0),
+        (&[Item::Tab(10)], 3, 80, &BLANKS[..7], 10),
+        (&[Item::Tab(3)], 90, 80, b"", 90),
+        (&[Item::Tab(100)], 0, 80, &BLANKS[..100], 100),
+        (&[Item::Alpha(b"A")], 65535, 65535, b"A", 65535),
+    ];
+    for row in &rows {
+        assert!(rt; laid(rt.alloc(), row)?);
+    }
+    Ok(())
+}
+
+#[test]
+fn widths(rt: HostRuntime) -> Result<(), Fail> {
+    for (width, column) in [(80u16, 7u16), (132, 2)] {
+        let fits = &LONG[..(width - column) as usize];
+        let item = [Item::Alpha(fits)];
+        assert!(rt; laid(rt.alloc(), &(&item, column, width, fits, width))?);
+        let mut next_line = b"\n".to_vec(rt.alloc())?;
+        next_line.extend_from_slice(fits)?;
+        let after = width - column;
+        assert!(rt; laid(rt.alloc(), &(&item, column + 1, width, &next_line, after))?);
+    }
+    let alone = [Item::Alpha(&LONG)];
+    assert!(rt; laid(rt.alloc(), &(&alone, 0, 80, &LONG, 133))?);
+    let mut tab = b"\n".to_vec(rt.alloc())?;
+    tab.extend_from_slice(&BLANKS[..100])?;
+    assert!(rt; laid(rt.alloc(), &(&[Item::Tab(100)], 5, 80, &tab, 100))?);
+    Ok(())
+}
+
+/// A packed number, or the bytes of an alpha value.
+#[derive(Clone, Copy)]
+enum Given {
+    Packed(u64),
+    Text(&'static [u8]),
+}
+
+use Given::{Packed, Text};
+
+fn values(alloc: Global, given: &[Given]) -> Result<Vec<Value>, AllocError> {
+    let mut all = Vec::new(alloc);
+    for item in given {
+        let value = match *item {
+            Packed(bits) => Value::Number(number(bits)),
+            Text(bytes) => Value::Alpha(Bytes::of(bytes).unwrap_or(Bytes::new())),
+        };
+        all.push(value)?;
+    }
+    Ok(all)
+}
+
+/// An image, values, whether more follows, and what is shown, or a code.
+type Imaged = (
+    &'static [u8],
+    &'static [Given],
+    bool,
+    Result<&'static [u8], u8>,
+);
+
+const IMAGED: [Imaged; 32] = [
+    (
+        b"-###,###.##",
+        &[Packed(THOUSAND)],
+        true,
+        Ok(b"   1,080.00"),
+    ),
+    (
+        b"-###,###.##",
+        &[Packed(THOUSAND)],
+        false,
+        Ok(b"   1,080.00\n"),
+    ),
+    (b"+##.#", &[Packed(TWELVE)], true, Ok(b"+12.3")),
+    (b"+##.#", &[Packed(MINUS_FIVE)], true, Ok(b" -5.0")),
+    (b"+##.#", &[Packed(SMALL)], true, Ok(b" +0.0")),
+    (b"+##.#", &[Packed(MINUS_SMALL)], true, Ok(b" -0.0")),
+    (b"-##", &[Packed(TWO)], true, Ok(b"  2")),
+    (b"-##", &[Packed(MINUS_FIVE)], true, Ok(b" -5")),
+    (b"##", &[Packed(MINUS_FIVE)], true, Ok(b" 5")),
+    (b"$##.##", &[Packed(TWO)], true, Ok(b" $2.00")),
+    (b"+$##", &[Packed(MINUS_FIVE)], true, Ok(b" -$5")),
+    (b"-$#,###.###", &[Packed(TWELVE)], true, Ok(b"    $12.340")),
+    (b"#,###,###", &[Packed(MILLION)], true, Ok(b"1,234,567")),
+    (b"#,###,###", &[Packed(TWELVE)], true, Ok(b"       12")),
+    (b"##,", &[Packed(TWELVE)], true, Ok(b"12,")),
+    (b"##", &[Packed(THOUSAND)], true, Ok(b"##")),
+    (b"$#,#.#", &[Packed(HUGE)], true, Ok(b"######")),
+    (b"#.##", &[Packed(NEARLY_ONE)], true, Ok(b"0.99")),
+    (b"#.", &[Packed(TWO)], true, Ok(b"2.")),
+    (b"+-#", &[Packed(TWO)], true, Ok(b"+ 2")),
+    (
+        b"##.##.##",
+        &[Packed(TWELVE), Packed(TWO)],
+        true,
+        Ok(b"12.34. 2"),
+    ),
+    (
+        b"A## B## C",
+        &[Packed(ONE), Packed(TWO)],
+        false,
+        Ok(b"A 1 B 2 C\n"),
+    ),
+    (b"A## B## C", &[Packed(ONE)], true, Ok(b"A 1 B")),
+    (
+        b"A## B",
+        &[Packed(ONE), Packed(TWO)],
+        true,
+        Ok(b"A 1 B\nA 2 B"),
+    ),
+    (
+        b"A## B## C",
+        &[Packed(ONE), Packed(TWO), Packed(THREE)],
+        false,
+        Ok(b"A 1 B 2 C\nA 3 B\n"),
+    ),
+    (b"%#####|", &[Text(b"ABC")], true, Ok(b"%ABC  |")),
+    (b"+$#,#.#", &[Text(b"ABCDEFGHI")], true, Ok(b"ABCDEFG")),
+    (b"## ###", &[Packed(TWO), Text(b"")], true, Ok(b" 2    ")),
+    (b"A##B", &[], true, Ok(b"A")),
+    (b"text", &[], false, Ok(b"text\n")),
+    (b"text", &[Packed(ONE)], true, Err(42)),
+    (b"", &[Text(b"A")], false, Err(42)),
+];
+
+#[test]
+fn images(rt: HostRuntime) -> Result<(), Fail> {
+    for row in &IMAGED {
+        let (image, given, more, want) = *row;
+        let items = values(rt.alloc(), given)?;
+        let mut into = b">".to_vec(rt.alloc())?;
+        let answer = match using(rt.alloc(), image, &items, more, &mut into) {
+            Ok(()) => Ok(&into[1..]),
+            Err(Fault::Code(code)) => Err(code.number()),
+            Err(Fault::NoMemory) => Err(0),
+        };
+        assert_eq!(rt; answer, want);
+    }
+    Ok(())
+}
+
+#[test]
+fn conversions(rt: HostRuntime) -> Result<(), Fail> {
+    let rows: [(&[u8], u64, Result<&[u8], u8>); 7] = [
+        (b"##.#", TWELVE, Ok(b"12.3")),
+        (b"A## B## C", TWO, Ok(b"A 2 B")),
+        (b"(-#,###.##)", THOUSAND, Ok(b"( 1,080.00)")),
+        (b"##", THOUSAND, Err(71)),
+        (b"#.#", HUGE, Err(71)),
+        (b"none", ONE, Err(42)),
+        (b"", ONE, Err(42)),
+    ];
+    for row in &rows {
+        let (image, packed, want) = *row;
+        let mut into = Bytes::of(b"old").unwrap_or(Bytes::new());
+        match convert(image, number(packed), &mut into) {
+            Ok(()) => assert_eq!(rt; Ok(into.bytes()), want),
+            Err(code) => {
+                assert_eq!(rt; Err(code.number()), want);
+                assert_eq!(rt; into.bytes(), b"old".as_slice());
+            }
+        }
+    }
+    Ok(())
+}
