@@ -71,7 +71,7 @@ impl Dec {
     }
 
     /// The number of this sign whose thirteen digits end at this place, counted from 10^-111.
-    pub(crate) fn at(neg: bool, coef: u64, place: u8) -> Dec
+    pub fn at(neg: bool, coef: u64, place: u8) -> Dec
         requires least { 1000000000000 ≤ coef }
         requires digits { coef < 10000000000000 }
         requires highest { place ≤ 198 }

@@ -1,6 +1,5 @@
 pub mod Putting
 pub mod Lengths
-pub mod Building
 pub mod Scales
 pub mod Spellings
 pub mod Longest

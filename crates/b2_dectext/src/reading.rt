@@ -1,110 +1,46 @@
 // Which number a text begins with.
-ghost use Rattle.std.specs.Prelude.{◌≡◌, ℕ, ◌+◌, ◌-◌, ◌*◌, ◌^◌, ◌<◌, ◌≤◌, length, false, if◌then◌else◌};
-ghost use Rattle.b2_dec.specs.Number.{Number};
+ghost use Rattle.std.specs.Prelude.{◌≡◌, ℕ, ◌+◌, ◌-◌, ◌*◌, ◌^◌, ◌<◌, ◌≤◌, ◌==◌, length, IfSome, Some, None, if◌then◌else◌};
 ghost use Rattle.b2_dec.specs.Rounding as spec;
 ghost use Rattle.b2_dec.specs.Rounding.{rnd};
 ghost use Rattle.b2_dec.specs.declared.number.Mode.TheVariants.{Round};
 ghost use Rattle.b2_dectext.specs.Digits.{AreDigits, IsLeading, value_after, digits_value};
 ghost use Rattle.b2_dectext.specs.Grammar.{IsLongest};
 ghost use Rattle.b2_dectext.specs.NumberText as grammar;
-ghost use Rattle.b2_dectext.specs.NumberText.{Parts, value_of, in_result, number_value, number_read, spaced_number_len};
+ghost use Rattle.b2_dectext.specs.NumberText.{Parts, value_of, number_value, number_read, spaced_number_len};
 
 use crate::scanning::{
     begins, exponent_digits, fraction_part, mantissa_len, number_len, rest, spaces_len, unsigned,
     whole_part,
 };
-use b2_dec::{Dec, Mode, div, mul, sub};
+use b2_base::Code;
+use b2_base::codes::{C60_UNDERFLOW, C61_OVERFLOW};
+use b2_dec::Dec;
 
 /// The number above the largest thirteen digits.
 const ABOVE: u64 = 10_000_000_000_000;
 
-/// The number with the last digit at a place up to twelve places higher.
-fn raised(x: Dec, places: u32) -> Dec
-    requires few { places ≤ 12 }
-    requires digits { 1000000000000 ≤ x.coef }
-    requires most { x.coef < 10000000000000 }
-    requires highest { x.place + places ≤ 198 }
-    ensures { result ≡ record x { place = x.place + places } }
-{
-    match mul(x, Dec::of_whole(10u64.pow(places)), Mode::Cut) {
-        Ok(higher) => higher,
-        Err(_) => x,
-    }
-}
-
-/// The number with the last digit at a place up to twelve places lower.
-fn lowered(x: Dec, places: u32) -> Dec
-    requires few { places ≤ 12 }
-    requires digits { 1000000000000 ≤ x.coef }
-    requires most { x.coef < 10000000000000 }
-    requires lowest { places ≤ x.place }
-    requires highest { x.place ≤ 198 }
-    ensures { result ≡ record x { place = x.place - places } }
-{
-    match div(x, Dec::of_whole(10u64.pow(places)), Mode::Cut) {
-        Ok(lower) => lower,
-        Err(_) => x,
-    }
-}
-
-/// The number above zero whose thirteen digits end at a place, counted from 10^-111.
-fn positive(coef: u64, place: u32) -> Dec
+/// The number of a sign whose thirteen digits end at a place counted from 10^-222; C60 and C61 where its exponent is too
+/// small or too large.
+fn in_range(neg: bool, coef: u64, place: u32) -> Result<Dec, Code>
     requires least { 1000000000000 ≤ coef }
     requires most { coef < 10000000000000 }
-    requires highest { place ≤ 198 }
-    ensures { result ≡ record { neg = false; coef = coef; place = place } }
+    ensures { result ≡ spec.in_range neg coef place }
 {
-    let mut x = Dec::of_whole(coef);
-    if place >= 111 {
-        let up = place - 111;
-        for _ in 0..up / 12 {
-            x = raised(x, 12);
-        }
-        raised(x, up % 12)
-    } else {
-        let down = 111 - place;
-        for _ in 0..down / 12 {
-            x = lowered(x, 12);
-        }
-        lowered(x, down % 12)
+    if place < 111 {
+        return Err(Code::known(C60_UNDERFLOW));
     }
-}
-
-/// The number of a sign whose thirteen digits end at a place, counted from 10^-111.
-fn number(neg: bool, coef: u64, place: u32) -> Dec
-    requires least { 1000000000000 ≤ coef }
-    requires most { coef < 10000000000000 }
-    requires highest { place ≤ 198 }
-    ensures { result ≡ record { neg = neg; coef = coef; place = place } }
-{
-    let x = positive(coef, place);
-    if !neg {
-        return x;
+    if place > 309 {
+        return Err(Code::known(C61_OVERFLOW));
     }
-    match sub(Dec::zero(), x, Mode::Cut) {
-        Ok(opposite) => opposite,
-        Err(_) => x,
-    }
-}
-
-/// The number of a sign whose thirteen digits end at a place counted from 10^-222, where its exponent is in range.
-fn in_range(neg: bool, coef: u64, place: u32) -> Option<Dec>
-    requires least { 1000000000000 ≤ coef }
-    requires most { coef < 10000000000000 }
-    ensures { result ≡ in_result (spec.in_range neg coef place) }
-{
-    if place < 111 || place > 309 {
-        return None;
-    }
-    Some(number(neg, coef, place - 111))
+    Ok(Dec::at(neg, coef, (place - 111) as u8))
 }
 
 /// The same where rounding may have led to 10^13.
-fn fitted(neg: bool, coef: u64, place: u32) -> Option<Dec>
+fn fitted(neg: bool, coef: u64, place: u32) -> Result<Dec, Code>
     requires least { 1000000000000 ≤ coef }
     requires most { coef ≤ 10000000000000 }
     requires near { place < 1000 }
-    ensures { result ≡ in_result (spec.fitted neg coef place) }
+    ensures { result ≡ spec.fitted neg coef place }
 {
     if coef == ABOVE {
         in_range(neg, 1_000_000_000_000, place + 1)
@@ -155,24 +91,24 @@ fn with_digits(start: Leading, text: &[u8]) -> Leading
 }
 
 /// The number that leading digits become, a half going away from zero. Behind them `high - 222` digits stand before the
-/// point; the whole is divided by ten `low` times.
-fn rounded(neg: bool, digits: u64, high: u128, low: u128) -> Option<Dec>
+/// point; the whole is divided by ten `low` times. C60 and C61 where it is too small or too large.
+fn rounded(neg: bool, digits: u64, high: u128, low: u128) -> Result<Dec, Code>
     requires few { digits < 10 ^ 14 }
     requires high { high < 2 ^ 100 }
     requires low { low < 2 ^ 100 }
     ensures { (n more tens : ℕ) → IsLeading n digits more → high ≡ 222 + (more + tens)
-        → result ≡ in_result (rnd Round neg (n * 10 ^ tens) (10 ^ low)) }
+        → result ≡ rnd Round neg (n * 10 ^ tens) (10 ^ low) }
 {
     if digits == 0 {
-        return Some(Dec::zero());
+        return Ok(Dec::zero());
     }
     let first = digits.ilog10();
     let top = high + first as u128;
     if top < low + 122 {
-        return None;
+        return Err(Code::known(C60_UNDERFLOW));
     }
     if top > low + 321 {
-        return None;
+        return Err(Code::known(C61_OVERFLOW));
     }
     let place = (high - low) as u32;
     if digits >= ABOVE {
@@ -196,21 +132,21 @@ fn exponent_value(digits: &[u8]) -> usize
     }
 }
 
-/// The number of given parts, where it is in range.
+/// The number of given parts; C60 and C61 where it is too small or too large.
 fn value(
     neg: bool,
     whole: &[u8],
     fraction: &[u8],
     exponent_neg: bool,
     exponent: &[u8],
-) -> Option<Dec>
+) -> Result<Dec, Code>
     requires whole { AreDigits whole.now }
     requires fraction { AreDigits fraction.now }
     requires fits { length whole.now + length fraction.now < 2 ^ 64 }
     requires exponent { AreDigits exponent.now }
     requires few { length exponent.now ≤ 2 }
     ensures { let parts : Parts = record { neg = neg; whole = whole.now; fraction = fraction.now; exponent_neg = exponent_neg; exponent = exponent.now } in
-        result ≡ in_result (value_of parts) }
+        result ≡ value_of parts }
 {
     let none = Leading { digits: 0, more: 0 };
     let leading = with_digits(with_digits(none, whole), fraction);
@@ -224,10 +160,10 @@ fn value(
     }
 }
 
-/// The number at the front of a text, where it is in range.
+/// The number at the front of a text; C60 and C61 where it is too small or too large.
 #[tactic(auto, unfolding(crate::specs::NumberText::parts_of))]
-fn number_at_front(text: &[u8]) -> Option<Dec>
-    ensures { result ≡ in_result (number_value text.now) }
+fn number_at_front(text: &[u8]) -> Result<Dec, Code>
+    ensures { result ≡ number_value text.now }
 {
     let body = unsigned(text);
     let whole = whole_part(body);
@@ -257,7 +193,20 @@ pub fn read(text: &[u8]) -> (usize, Option<Dec>)
     if len == 0 {
         return (0, None);
     }
-    (len, number_at_front(text))
+    (len, number_at_front(text).ok())
+}
+
+/// The length of the longest number at the front of a text, None where there is none, and the number; C60 and C61 where
+/// it is too small or too large.
+pub fn literal(text: &[u8]) -> Option<(usize, Result<Dec, Code>)>
+    ensures value { result ≡ (if grammar.number_len text.now == 0 then None else Some (grammar.number_len text.now, number_value text.now)) }
+    ensures within { IfSome result (λ r. r.0 ≤ length text.now) }
+{
+    let len = number_len(text);
+    if len == 0 {
+        return None;
+    }
+    Some((len, number_at_front(text)))
 }
 
 /// The length of the spaces, the number and the spaces at the front of a text, 0 where there is no number.

@@ -13,8 +13,8 @@ fn next_column(column: u16, byte: u8) -> u16
     }
 }
 
-/// The column after a text.
-pub(crate) fn column_after(column: u16, text: &[u8]) -> u16
+/// The column after a text that begins at a column; columns stop at 65,535.
+pub fn column_after(column: u16, text: &[u8]) -> u16
     ensures { result ≡ spec.column_after column text.now }
 {
     let mut at = column;

@@ -19,6 +19,7 @@ mod imaging;
 mod laws;
 mod layout;
 
+pub use columns::column_after;
 pub use imaging::{convert, using};
 pub use laws::{
     law_fields_keep_their_width, law_lines_fit, law_pieces_are_the_image, law_zones_end,

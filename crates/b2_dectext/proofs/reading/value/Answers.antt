@@ -2,7 +2,7 @@ use Rattle.std.proofs.Common.{ap, ◌∙◌, ◌+◌, ◌*◌, ◌^◌, length, 
 use Rattle.b2_dec.specs.declared.number.Mode.TheVariants.{Round}
 use Rattle.b2_dec.specs.Rounding.{rnd}
 use Rattle.b2_dectext.specs.Digits.{value_after}
-use Rattle.b2_dectext.specs.NumberText.{Parts, in_result}
+use Rattle.b2_dectext.specs.NumberText.{Parts}
 use Rattle.b2_dectext.proofs.Scales.{no_digits, value_of-divided, value_of-multiplied}
 use Rattle.b2_dectext.proofs.reading.value.Goals as goal
 
@@ -12,8 +12,8 @@ returns-then-exponent_neg c =
     let digits = c.with_digits-leading.ensures.value _ (c.with_digits.ensures.value 0 no_digits) in
     let all = value_after (value_after 0 p.whole) p.fraction in
     c.rounded.ensures all c.with_digits-leading.result.more 0 digits (omega arith)
-    ∙ ap (λ tens. in_result (rnd Round p.neg (all * 10 ^ 0) (10 ^ (length p.fraction + tens)))) c.exponent_value-tens.ensures.value
-    ∙ ap in_result (value_of-divided p c.if-exponent_neg.true)
+    ∙ ap (λ tens. rnd Round p.neg (all * 10 ^ 0) (10 ^ (length p.fraction + tens))) c.exponent_value-tens.ensures.value
+    ∙ value_of-divided p c.if-exponent_neg.true
 
 pub returns-else-exponent_neg : goal.returns-else-exponent_neg
 returns-else-exponent_neg c =
@@ -21,5 +21,5 @@ returns-else-exponent_neg c =
     let digits = c.with_digits-leading.ensures.value _ (c.with_digits.ensures.value 0 no_digits) in
     let all = value_after (value_after 0 p.whole) p.fraction in
     c.rounded-else-exponent_neg.ensures all c.with_digits-leading.result.more c.exponent_value-tens.result digits (omega arith)
-    ∙ ap (λ tens. in_result (rnd Round p.neg (all * 10 ^ tens) (10 ^ length p.fraction))) c.exponent_value-tens.ensures.value
-    ∙ ap in_result (value_of-multiplied p c.if-exponent_neg.false)
+    ∙ ap (λ tens. rnd Round p.neg (all * 10 ^ tens) (10 ^ length p.fraction)) c.exponent_value-tens.ensures.value
+    ∙ value_of-multiplied p c.if-exponent_neg.false

@@ -1,0 +1,4 @@
+pub mod Binds
+pub mod Units
+pub mod Sound
+pub mod Codes

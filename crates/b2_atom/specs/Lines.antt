@@ -1,0 +1,90 @@
+-- Lines as atoms: which lists of bytes spell a line, and its units.
+use Rattle.std.specs.Prelude.{◌≡◌, ℕ, zero, suc, ◌-◌, ◌&&◌, ◌==◌, nat_le, nat_lt, Bool, true, false, List, [], ◌∷◌, length, take, drop, if◌then◌else◌, Result, Ok, Err, is_ok}
+use Rattle.b2_atom.specs.Words.{Text, first}
+use Rattle.b2_atom.specs.Tokens.{listed}
+use Rattle.b2_atom.specs.Tree.{Outcome, atoms, tokens}
+use Rattle.b2_atom.specs.Grammar.{reader, statement, read_line}
+use Rattle.b2_atom.specs.declared.words.Origin.{Origin}
+use Rattle.b2_atom.specs.declared.words.Origin.TheVariants as origin
+use Rattle.b2_atom.specs.declared.sink.Stop.{Stop}
+use Rattle.b2_atom.specs.declared.sink.Stop.TheVariants.{At, Deep, NoMemory}
+use Rattle.b2_atom.specs.declared.forms.Place.{Place}
+use Rattle.b2_atom.specs.declared.forms.Place.TheVariants.{First, Further, Following}
+
+-- a list of at most 255 bytes that the table reads as a line of atoms
+unfoldable pub is_line : Text → Bool
+is_line t = nat_le (length t) 255 && is_ok (read_line origin.Atoms t)
+
+-- the atom bytes of what was read
+abbrev pub atoms_of : Outcome → Result Text Stop
+atoms_of (Ok p) = Ok (atoms p.0)
+atoms_of (Err e) = Err e
+
+-- the atom bytes of a line, or why it isn't read
+unfoldable pub line_atoms : Origin → Text → Result Text Stop
+line_atoms o t = atoms_of (read_line o t)
+
+-- a refusal's code is a number from 1 to 99
+abbrev pub good_code : ℕ → Bool
+good_code c = nat_le 1 c && nat_le c 99
+
+abbrev pub IsKnown : Stop → Type 0
+IsKnown (At code left) = good_code code ≡ true
+IsKnown Deep = Unit {0}
+IsKnown NoMemory = Unit {0}
+
+-- the canonical source of what was read
+abbrev pub source_of : Outcome → Result Text Stop
+source_of (Ok p) = Ok (listed false false (tokens p.0))
+source_of (Err e) = Err e
+
+-- the canonical source of a line of atoms
+unfoldable pub line_source : Text → Result Text Stop
+line_source t = source_of (read_line origin.Atoms t)
+
+-- what is left behind a reading
+abbrev pub rest_of : Outcome → Text
+rest_of (Ok p) = p.1
+rest_of (Err e) = []
+
+-- what stands behind the first unit of a text: a statement without the one that follows its THEN, ELSE or ERROR
+unfoldable pub behind_unit : Place → Text → Text
+behind_unit p t = rest_of (statement (reader origin.Atoms) 1 p t)
+
+-- a unit: where it stands, and its bytes
+pub record LineUnit : Type 0 where
+  pub place : Place
+  pub bytes : Text
+
+abbrev pub unit_at : Place → Text → LineUnit
+unit_at p t = record { place = p; bytes = take (length t - length (behind_unit p t)) t }
+
+-- the units in what stands behind one: a `:` parts them, or nothing where a statement follows
+abbrev pub next_place : Text → Place
+next_place rest = if first rest == 58 then Further else Following
+
+abbrev pub next_text : Text → Text
+next_text rest = if first rest == 58 then drop 1 rest else rest
+
+abbrev pub further : (Place → Text → List LineUnit) → Text → List LineUnit
+further more [] = []
+further more (b ∷ bs) = more (next_place (b ∷ bs)) (next_text (b ∷ bs))
+
+-- the units of a text from a place on, no more than so many
+abbrev pub units_from : ℕ → Place → Text → List LineUnit
+units_from zero p t = []
+units_from (suc n) p t = unit_at p t ∷ further (units_from n) (behind_unit p t)
+
+-- the units of a line, which are no more than its bytes
+unfoldable pub units_of : Text → List LineUnit
+units_of t = units_from (length t) First t
+
+abbrev pub is_further : Place → Bool
+is_further First = false
+is_further Further = true
+is_further Following = false
+
+-- the first unit behind the k-th that follows a `:`, or the number of units; i units were counted before
+abbrev pub further_unit : ℕ → ℕ → List LineUnit → ℕ
+further_unit k i [] = i
+further_unit k i (u ∷ us) = if nat_lt k i && is_further u.place then i else further_unit k (suc i) us

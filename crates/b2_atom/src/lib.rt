@@ -1,0 +1,48 @@
+//! The language as atoms.
+//!
+//! The whole language is one table of forms: what a line, an expression and each statement are made of. One walk over it
+//! reads typed lines as well as atoms, and writes nothing, atoms or the canonical source. Adding a statement is adding a
+//! row.
+//!
+//! Stands on `b2_base`. `Atoms::of` is None exactly on lists of bytes that spell no line; `read_source` gives the atoms of
+//! a typed line, or the first code and its place; `Atoms::source` gives the canonical source of a line.
+//!
+//! The definitions are in `specs/`: the words in `Words`, tokens and their source in `Tokens`, trees in `Tree`, what is
+//! typed by hand in `Leaves`, the language's own table in `Table`, reading by it in `Grammar`, and lines with their units
+//! in `Lines`.
+#![tactic(auto)]
+
+ghost use Rattle.std.specs.Prelude.{◌≡◌, map};
+ghost use Rattle.b2_atom.specs.Table as spec;
+ghost use Rattle.b2_atom.specs.Words.{texts};
+
+mod forms;
+mod laws;
+mod leaves;
+mod line;
+mod marks;
+mod rows;
+mod sink;
+mod starts;
+mod table;
+#[cfg(test)]
+mod tests;
+mod walk;
+mod words;
+
+pub use laws::{each_line_spells_a_tree, no_two_trees_share_atoms};
+pub use line::{Atoms, Cursor, read_source};
+pub use sink::Stop;
+use table::{FORMS, ROWS_0, ROWS_1, ROWS_2, ROWS_3};
+pub use words::Origin;
+use words::WORDS;
+
+/// The table and the words that the code walks over are the language's.
+pub fn table_is_the_language()
+    ensures first { map (λ r. r.now) ROWS_0 ≡ spec.rows_0 }
+    ensures second { map (λ r. r.now) ROWS_1 ≡ spec.rows_1 }
+    ensures third { map (λ r. r.now) ROWS_2 ≡ spec.rows_2 }
+    ensures fourth { map (λ r. r.now) ROWS_3 ≡ spec.rows_3 }
+    ensures statements { FORMS ≡ spec.forms }
+    ensures words { map (λ w. w.now) WORDS ≡ texts }
+{}

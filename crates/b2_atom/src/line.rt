@@ -1,0 +1,276 @@
+// Lines as atoms, their units, and a cursor over the bytes of one.
+ghost use Rattle.std.specs.Prelude.{◌≡◌, ◌≢◌, ◌≤◌, ◌<◌, ◌&&◌, nat_lt, length, drop, IfErr, IfOk, MatchResult, Some, None, if◌then◌else◌, true, slice_get};
+ghost use Rattle.std.specs.Option.{option_map};
+ghost use Rattle.b2_atom.specs.Lines.{IsKnown, is_line, line_atoms, line_source, behind_unit, next_place, next_text, units_of, further_unit, is_further};
+
+use crate::forms::Place;
+use crate::sink::{Sink, Source, Stop, bytes_of};
+use crate::walk::{read_line, statement};
+use crate::words::{Origin, dropped, first, front};
+use b2_base::NoMemory;
+use std::alloc::Global;
+use std::marker::Model;
+
+/// At most 255 bytes that spell a line of the language. Contracts see it as the list of its bytes.
+#[derive(Debug, Drop)]
+pub struct Atoms {
+    bytes: Vec<u8>,
+}
+
+impl Model for Atoms {
+    ghost use Rattle.std.specs.Prelude.{ℕ, List, ◌≡◌, true};
+    ghost use Rattle.b2_atom.specs.Lines.{is_line};
+
+    ghost Value = { List ℕ };
+
+    ghost view = { λ a. a.bytes.items };
+
+    ghost invariant = { λ a. is_line a.bytes.items ≡ true };
+}
+
+/// The bytes of a unit from a place on. Contracts see it as the list of them.
+#[derive(Drop)]
+pub struct Cursor<'a> {
+    left: &'a [u8],
+}
+
+impl<'a> Model for Cursor<'a> {
+    ghost use Rattle.std.specs.Prelude.{ℕ, List};
+
+    ghost Value = { List ℕ };
+
+    ghost view = { λ c. c.left.now };
+}
+
+// Whether bytes spell a line.
+#[tactic(auto, unfolding(crate::specs::Lines::is_line))]
+fn spells_line(bytes: &[u8]) -> bool
+    ensures { result ≡ is_line bytes.now }
+{
+    if bytes.len() > 255 {
+        return false;
+    }
+    let mut sink = Sink::Silent;
+    match read_line(&mut sink, Origin::Atoms, bytes) {
+        Ok(_) => true,
+        Err(_) => false,
+    }
+}
+
+/// Reads a typed line without its number, and gives its atom bytes.
+#[tactic(auto, using(crate::proofs::Binds::held, crate::proofs::Binds::held_none), unfolding(crate::specs::Lines::line_atoms))]
+pub fn read_source(alloc: Global, origin: Origin, text: &[u8]) -> Result<Vec<u8>, Stop>
+    ensures known { IfErr result IsKnown }
+    ensures read { MatchResult result (λ bytes. line_atoms origin text.now ≡ Ok bytes.items) (λ e. e ≢ Stop.NoMemory → line_atoms origin text.now ≡ Err e) }
+{
+    let mut sink = Sink::Written(Vec::new(alloc));
+    match read_line(&mut sink, origin, text) {
+        Ok(_) => Ok(bytes_of(alloc, sink)),
+        Err(stop) => Err(stop),
+    }
+}
+
+// The canonical source of a line of atoms.
+#[tactic(auto, using(crate::proofs::Binds::shown, crate::proofs::Binds::shown_none), unfolding(crate::specs::Lines::line_source))]
+fn line_source(alloc: Global, line: &[u8]) -> Result<Vec<u8>, Stop>
+    ensures { MatchResult result (λ bytes. line_source line.now ≡ Ok bytes.items) (λ e. e ≢ Stop.NoMemory → line_source line.now ≡ Err e) }
+{
+    let mut sink = Sink::Listed(Source {
+        bytes: Vec::new(alloc),
+        wordy: false,
+        operand: false,
+    });
+    match read_line(&mut sink, Origin::Atoms, line) {
+        Ok(_) => Ok(bytes_of(alloc, sink)),
+        Err(stop) => Err(stop),
+    }
+}
+
+// What stands behind the first unit of a text.
+#[tactic(auto, unfolding(crate::specs::Lines::behind_unit))]
+fn behind_unit(place: Place, text: &[u8]) -> &[u8]
+    ensures { result.now ≡ behind_unit place text.now }
+{
+    let mut sink = Sink::Silent;
+    match statement(&mut sink, Origin::Atoms, 1, place, text) {
+        Ok(rest) => rest,
+        Err(_) => &[],
+    }
+}
+
+// Where the unit stands that begins behind another.
+fn next_place(rest: &[u8]) -> Place
+    ensures { result ≡ next_place rest.now }
+{
+    if first(rest) == b':' {
+        Place::Further
+    } else {
+        Place::Following
+    }
+}
+
+fn next_text(rest: &[u8]) -> &[u8]
+    ensures { result.now ≡ next_text rest.now }
+{
+    if first(rest) == b':' {
+        dropped(rest, 1)
+    } else {
+        rest
+    }
+}
+
+// How many units a line has.
+#[tactic(auto, unfolding(crate::specs::Lines::units_of))]
+fn count_units(line: &[u8]) -> usize
+    ensures { result ≡ length (units_of line.now) }
+{
+    let mut place = Place::First;
+    let mut left = line;
+    for i in 0..line.len() {
+        let rest = behind_unit(place, left);
+        if rest.is_empty() {
+            return i + 1;
+        }
+        place = next_place(rest);
+        left = next_text(rest);
+    }
+    line.len()
+}
+
+// The bytes of a unit.
+#[tactic(auto, unfolding(crate::specs::Lines::units_of))]
+fn unit_bytes(line: &[u8], unit: usize) -> Option<&[u8]>
+    ensures { option_map (λ b. b.now) result ≡ option_map (λ u. u.bytes) (slice_get (units_of line.now) unit) }
+{
+    let mut place = Place::First;
+    let mut left = line;
+    for i in 0..line.len() {
+        let rest = behind_unit(place, left);
+        if i == unit {
+            return Some(front(left, left.len().saturating_sub(rest.len())));
+        }
+        if rest.is_empty() {
+            return None;
+        }
+        place = next_place(rest);
+        left = next_text(rest);
+    }
+    None
+}
+
+// Whether a unit stands behind another and follows a `:`.
+fn follows_colon(unit: usize, i: usize, place: Place) -> bool
+    ensures { result ≡ (nat_lt unit i && is_further place) }
+{
+    i > unit && place == Place::Further
+}
+
+// The first unit behind another that follows a `:`, or the number of units.
+#[tactic(auto, unfolding(crate::specs::Lines::units_of))]
+fn further_unit(line: &[u8], unit: usize) -> usize
+    ensures { result ≡ further_unit unit 0 (units_of line.now) }
+{
+    let mut place = Place::First;
+    let mut left = line;
+    for i in 0..line.len() {
+        if follows_colon(unit, i, place) {
+            return i;
+        }
+        let rest = behind_unit(place, left);
+        if rest.is_empty() {
+            return i + 1;
+        }
+        place = next_place(rest);
+        left = next_text(rest);
+    }
+    line.len()
+}
+
+impl Atoms {
+    /// The line that these bytes spell, None exactly where they spell none.
+    pub fn of(alloc: Global, bytes: &[u8]) -> Result<Option<Atoms>, NoMemory>
+        ensures { IfOk result (λ atoms. atoms ≡ (if is_line bytes.now then Some bytes.now else None)) }
+    {
+        if !spells_line(bytes) {
+            return Ok(None);
+        }
+        let bytes = Vec::from_slice(alloc, bytes)?;
+        Ok(Some(Atoms { bytes }))
+    }
+
+    /// Its bytes.
+    pub fn bytes(&self) -> &[u8]
+        ensures value { result.now ≡ self.now }
+        ensures line { is_line self.now ≡ true }
+    {
+        let bytes = &self.bytes;
+        bytes.as_slice()
+    }
+
+    /// Its canonical source.
+    #[tactic(auto, using(crate::proofs::Binds::line_has_source))]
+    pub fn source(&self, alloc: Global) -> Result<Vec<u8>, NoMemory>
+        ensures { IfOk result (λ bytes. line_source self.now ≡ Ok bytes.items) }
+    {
+        match line_source(alloc, &self.bytes) {
+            Ok(bytes) => Ok(bytes),
+            Err(Stop::NoMemory) => Err(NoMemory),
+            Err(Stop::At(_code, _left)) => unreachable!(),
+            Err(Stop::Deep) => unreachable!(),
+        }
+    }
+
+    /// How many units it has: statements, where one that follows THEN, ELSE or ERROR is a unit of its own.
+    pub fn units(&self) -> usize
+        ensures { result ≡ length (units_of self.now) }
+    {
+        count_units(&self.bytes)
+    }
+
+    /// A cursor over a unit, None exactly where there are at most so many units.
+    pub fn unit(&self, k: usize) -> Option<Cursor<'_>>
+        ensures { result ≡ option_map (λ u. u.bytes) (slice_get (units_of self.now) k) }
+    {
+        match unit_bytes(&self.bytes, k) {
+            Some(left) => Some(Cursor { left }),
+            None => None,
+        }
+    }
+
+    /// The first unit behind the k-th that follows a `:`, or the number of units where there is none.
+    pub fn skip(&self, k: usize) -> usize
+        ensures { result ≡ further_unit k 0 (units_of self.now) }
+    {
+        further_unit(&self.bytes, k)
+    }
+}
+
+impl<'a> Cursor<'a> {
+    /// The next byte, None exactly at the unit's end.
+    pub fn peek(&self) -> Option<u8>
+        ensures { result ≡ slice_get self.now 0 }
+    {
+        self.left.first().copied()
+    }
+
+    /// Takes the next byte, None exactly at the unit's end.
+    pub fn take(&mut self) -> Option<u8>
+        ensures byte { result ≡ slice_get self.old 0 }
+        ensures rest { self.new ≡ drop 1 self.old }
+    {
+        match self.left {
+            [byte, rest @ ..] => {
+                self.left = rest;
+                Some(*byte)
+            }
+            _ => None,
+        }
+    }
+
+    /// The bytes up to the unit's end.
+    pub fn rest(&self) -> &'a [u8]
+        ensures { result.now ≡ self.now }
+    {
+        self.left
+    }
+}

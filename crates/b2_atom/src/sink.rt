@@ -1,0 +1,246 @@
+// Where what is read goes to, and why a reading ends early.
+ghost use Rattle.std.specs.Prelude.{◌≡◌, ◌+◌, ◌++◌, [], IfErr, OnOk, map};
+ghost use Rattle.b2_atom.specs.Words.{kept};
+ghost use Rattle.b2_atom.specs.Tokens as tokens;
+ghost use Rattle.b2_atom.specs.Tokens.{kept_text, spaced};
+ghost use Rattle.b2_atom.specs.Tokens.Token.{Coded, Plain, Lined};
+ghost use Rattle.b2_atom.specs.Tree.{seen, told, bytes_of, is_silent, IsFree};
+
+use crate::forms::Leaf;
+use crate::words::{Origin, REM, at, first, kept, word_text};
+use std::alloc::{AllocError, AllocFailed, Global};
+
+/// A source that is being written, and whether a word that ends in a letter and whether an operand stands at its end.
+#[derive(Drop)]
+pub struct Source {
+    pub bytes: Vec<u8>,
+    pub wordy: bool,
+    pub operand: bool,
+}
+
+/// Where what is read goes to: nowhere; as atoms behind the bytes that are there; or as the canonical source.
+#[derive(Drop)]
+pub enum Sink {
+    Silent,
+    Written(Vec<u8>),
+    Listed(Source),
+}
+
+/// Why a reading ends early: a code and how many bytes are left there, too many parentheses, or want of memory.
+#[derive(Clone, Copy, Debug, PartialEq, Eq)]
+pub enum Stop {
+    At(u8, usize),
+    Deep,
+    NoMemory,
+}
+
+impl From<AllocError> for Stop {
+    ghost use Rattle.std.specs.Prelude.{◌≡◌};
+    ghost use Rattle.b2_atom.specs.declared.sink.Stop.TheVariants.{NoMemory};
+
+    ghost from_gives = { λ _ e. e ≡ NoMemory };
+
+    fn from(_: AllocError) -> Stop {
+        Stop::NoMemory
+    }
+}
+
+impl<T: Drop> From<AllocFailed<T>> for Stop {
+    ghost use Rattle.std.specs.Prelude.{◌≡◌};
+    ghost use Rattle.b2_atom.specs.declared.sink.Stop.TheVariants.{NoMemory};
+
+    ghost from_gives = { λ _ e. e ≡ NoMemory };
+
+    fn from(_: AllocFailed<T>) -> Stop {
+        Stop::NoMemory
+    }
+}
+
+// Appends bytes as they are kept.
+fn push_kept(out: &mut Vec<u8>, origin: Origin, leaf: Leaf, bytes: &[u8]) -> Result<(), Stop>
+    ensures ok { OnOk result (out.new.items ≡ out.old.items ++ kept_text origin leaf bytes.now) }
+    ensures err { IfErr result (λ e. e ≡ Stop.NoMemory) }
+{
+    if leaf == Leaf::Literal || leaf == Leaf::Text {
+        out.extend_from_slice(bytes)?;
+        return Ok(());
+    }
+    push_upper(out, origin, bytes)
+}
+
+fn push_upper(out: &mut Vec<u8>, origin: Origin, bytes: &[u8]) -> Result<(), Stop>
+    ensures ok { OnOk result (out.new.items ≡ out.old.items ++ map (kept origin) bytes.now) }
+    ensures err { IfErr result (λ e. e ≡ Stop.NoMemory) }
+{
+    let mut left = bytes;
+    while let [byte, others @ ..] = left {
+        out.push(kept(origin, *byte))?;
+        left = others;
+    }
+    Ok(())
+}
+
+// Appends a blank, where one stands before a token.
+fn push_gap(source: &mut Source, is_apart: bool) -> Result<(), Stop>
+    ensures bytes { OnOk result (source.new.bytes.items ≡ source.old.bytes.items ++ spaced is_apart []) }
+    ensures wordy { source.new.wordy ≡ source.old.wordy }
+    ensures operand { source.new.operand ≡ source.old.operand }
+    ensures err { IfErr result (λ e. e ≡ Stop.NoMemory) }
+{
+    if is_apart {
+        source.bytes.push(b' ')?;
+    }
+    Ok(())
+}
+
+fn is_upper(byte: u8) -> bool
+    ensures { result ≡ tokens.is_upper byte }
+{
+    byte >= b'A' && byte <= b'Z'
+}
+
+fn last(text: &[u8]) -> u8
+    ensures { result ≡ tokens.last text.now }
+{
+    at(text, text.len().saturating_sub(1))
+}
+
+fn closes(code: u8) -> bool
+    ensures { result ≡ tokens.closes (Coded code) }
+{
+    code == b':' || code == b',' || code == b';' || code == b')' || code == b'=' || code == b'/'
+}
+
+fn begins_wordy(code: u8) -> bool
+    ensures { result ≡ tokens.begins_wordy (Coded code) }
+{
+    code >= 128 && is_upper(first(word_text(code)))
+}
+
+fn ends_wordy(code: u8) -> bool
+    ensures { result ≡ tokens.ends_wordy (Coded code) }
+{
+    code >= 128 && code != REM && is_upper(last(word_text(code)))
+}
+
+// Appends a word or a sign to a source.
+fn list_code(source: &mut Source, code: u8) -> Result<(), Stop>
+    ensures ok { OnOk result (seen (Sink.Listed source.new) ≡ told (seen (Sink.Listed source.old)) (Coded code)) }
+    ensures err { IfErr result (λ e. e ≡ Stop.NoMemory) }
+{
+    let is_apart = source.wordy && !closes(code) || source.operand && begins_wordy(code);
+    push_gap(source, is_apart)?;
+    if code >= 128 {
+        source.bytes.extend_from_slice(word_text(code))?;
+    } else {
+        source.bytes.push(code)?;
+    }
+    source.wordy = ends_wordy(code);
+    source.operand = code == b')' || is_upper(code);
+    Ok(())
+}
+
+// Appends what is typed by hand to a source.
+fn list_text(source: &mut Source, origin: Origin, leaf: Leaf, bytes: &[u8]) -> Result<(), Stop>
+    ensures ok { OnOk result (seen (Sink.Listed source.new) ≡ told (seen (Sink.Listed source.old)) (Plain leaf (kept_text origin leaf bytes.now))) }
+    ensures err { IfErr result (λ e. e ≡ Stop.NoMemory) }
+{
+    let is_apart = source.wordy;
+    push_gap(source, is_apart)?;
+    push_kept(&mut source.bytes, origin, leaf, bytes)?;
+    source.wordy = false;
+    source.operand = leaf != Leaf::Relation && leaf != Leaf::Text;
+    Ok(())
+}
+
+// Appends a line number to a source.
+fn list_line(source: &mut Source, high: u8, low: u8) -> Result<(), Stop>
+    ensures ok { OnOk result (seen (Sink.Listed source.new) ≡ told (seen (Sink.Listed source.old)) (Lined high low)) }
+    ensures err { IfErr result (λ e. e ≡ Stop.NoMemory) }
+{
+    let is_apart = source.wordy;
+    push_gap(source, is_apart)?;
+    let digits = [
+        b'0' + high / 16,
+        b'0' + high % 16,
+        b'0' + low / 16,
+        b'0' + low % 16,
+    ];
+    source.bytes.extend_from_slice(without_zeros(&digits))?;
+    source.wordy = false;
+    source.operand = true;
+    Ok(())
+}
+
+// Digits without the zeros at their front, but the last.
+fn without_zeros(digits: &[u8]) -> &[u8]
+    ensures { result.now ≡ tokens.without_zeros digits.now }
+{
+    let mut left = digits;
+    while let [b'0', others @ ..] = left {
+        if others.is_empty() {
+            return left;
+        }
+        left = others;
+    }
+    left
+}
+
+/// Puts a word or a sign.
+pub fn put_code(sink: &mut Sink, code: u8) -> Result<(), Stop>
+    ensures ok { OnOk result (seen sink.new ≡ told (seen sink.old) (Coded code)) }
+    ensures err { IfErr result (λ e. e ≡ Stop.NoMemory) }
+    ensures memory { IfErr result (IsFree (seen sink.old)) }
+    ensures silent { is_silent (seen sink.new) ≡ is_silent (seen sink.old) }
+{
+    match sink {
+        Sink::Silent => Ok(()),
+        Sink::Written(bytes) => {
+            bytes.push(code)?;
+            Ok(())
+        }
+        Sink::Listed(source) => list_code(source, code),
+    }
+}
+
+/// Puts what is typed by hand.
+pub fn put_text(sink: &mut Sink, origin: Origin, leaf: Leaf, bytes: &[u8]) -> Result<(), Stop>
+    ensures ok { OnOk result (seen sink.new ≡ told (seen sink.old) (Plain leaf (kept_text origin leaf bytes.now))) }
+    ensures err { IfErr result (λ e. e ≡ Stop.NoMemory) }
+    ensures memory { IfErr result (IsFree (seen sink.old)) }
+    ensures silent { is_silent (seen sink.new) ≡ is_silent (seen sink.old) }
+{
+    match sink {
+        Sink::Silent => Ok(()),
+        Sink::Written(out) => push_kept(out, origin, leaf, bytes),
+        Sink::Listed(source) => list_text(source, origin, leaf, bytes),
+    }
+}
+
+/// Puts a line number, by its two bytes of decimal digits.
+pub fn put_line(sink: &mut Sink, high: u8, low: u8) -> Result<(), Stop>
+    ensures ok { OnOk result (seen sink.new ≡ told (seen sink.old) (Lined high low)) }
+    ensures err { IfErr result (λ e. e ≡ Stop.NoMemory) }
+    ensures memory { IfErr result (IsFree (seen sink.old)) }
+    ensures silent { is_silent (seen sink.new) ≡ is_silent (seen sink.old) }
+{
+    match sink {
+        Sink::Silent => Ok(()),
+        Sink::Written(out) => {
+            out.extend_from_slice(&[255, high, low])?;
+            Ok(())
+        }
+        Sink::Listed(source) => list_line(source, high, low),
+    }
+}
+
+/// The bytes of a sink.
+pub fn bytes_of(alloc: Global, sink: Sink) -> Vec<u8>
+    ensures { result.items ≡ bytes_of (seen sink) }
+{
+    match sink {
+        Sink::Silent => Vec::new(alloc),
+        Sink::Written(bytes) => bytes,
+        Sink::Listed(source) => source.bytes,
+    }
+}

@@ -1,0 +1,199 @@
+// What begins a part, and which statement begins.
+ghost use Rattle.std.specs.Prelude.{◌≡◌, ◌≢◌, ◌<◌, length, IfErr, MatchResult};
+ghost use Rattle.b2_atom.specs.Grammar as spec;
+
+use crate::forms::{Form, Place, Rule, Start};
+use crate::leaves::{
+    any_name_width, is_alpha_name, is_digit, is_hex, is_letter, numeric_name_width, refused,
+};
+use crate::rows;
+use crate::sink::Stop;
+use crate::table::FORMS;
+use crate::words::{
+    ABS_OPEN, BIN_OPEN, FN, HASH_TERM, HEX_OPEN, HEXOF_OPEN, Origin, STR_OPEN, TAB_OPEN, ahead, at,
+    begins_with, dropped, first, is_source, kept, skipped,
+};
+
+fn is_among(low: u8, high: u8, class: u8) -> bool
+    ensures { result ≡ spec.is_among low high class }
+{
+    class >= low && class <= high
+}
+
+fn is_line(origin: Origin, class: u8) -> bool
+    ensures { result ≡ spec.is_line origin class }
+{
+    if is_source(origin) {
+        is_digit(class)
+    } else {
+        class == 255
+    }
+}
+
+fn alpha_begins(origin: Origin, text: &[u8]) -> bool
+    ensures { result ≡ spec.alpha_begins origin text.now }
+{
+    let class = ahead(origin, text).0;
+    class == b'"' || is_among(HEX_OPEN, BIN_OPEN, class) || is_alpha_name(origin, text)
+}
+
+fn is_numeric_sign(class: u8) -> bool
+    ensures { result ≡ spec.is_numeric_sign class }
+{
+    class == b'+'
+        || class == b'-'
+        || class == b'.'
+        || class == b'('
+        || is_digit(class)
+        || class == FN
+        || is_among(ABS_OPEN, HASH_TERM, class)
+}
+
+fn numeric_begins(origin: Origin, text: &[u8]) -> bool
+    ensures { result ≡ spec.numeric_begins origin text.now }
+{
+    is_numeric_sign(ahead(origin, text).0) || numeric_name_width(origin, text) > 0
+}
+
+fn array_begins(origin: Origin, text: &[u8]) -> bool
+    ensures { result ≡ spec.starts_at origin Start.Array text.now }
+{
+    let width = any_name_width(origin, text);
+    let behind = skipped(origin, dropped(text, width));
+    width > 0 && first(behind) == b'(' && first(skipped(origin, dropped(behind, 1))) == b')'
+}
+
+fn variable_begins(origin: Origin, text: &[u8]) -> bool
+    ensures { result ≡ spec.variable_begins origin text.now }
+{
+    let class = ahead(origin, text).0;
+    is_letter(class) || class == b'@' || class == STR_OPEN
+}
+
+fn spelled_behind(origin: Origin, text: &[u8], second: u8, third: u8) -> bool
+    ensures { result ≡ spec.spelled_behind origin text.now second third }
+{
+    kept(origin, at(text, 0)) == second && kept(origin, at(text, 1)) == third
+}
+
+fn class_at(origin: Origin, text: &[u8]) -> u8
+    ensures { result ≡ spec.class_at origin text.now }
+{
+    ahead(origin, skipped(origin, text)).0
+}
+
+fn print_item_begins(origin: Origin, text: &[u8]) -> bool
+    ensures { result ≡ spec.starts_at origin Start.PrintItem text.now }
+{
+    is_among(TAB_OPEN, HEXOF_OPEN, ahead(origin, text).0)
+        || numeric_begins(origin, text)
+        || alpha_begins(origin, text)
+}
+
+// Whether what begins a part stands at a text without blanks at its front.
+fn starts_at(origin: Origin, start: Start, text: &[u8]) -> bool
+    ensures { result ≡ spec.starts_at origin start text.now }
+{
+    let (class, behind) = ahead(origin, text);
+    match start {
+        Start::Code(code) => class == code,
+        Start::Two(one, two) => class == one || class == two,
+        Start::Three(one, two, three) => class == one || class == two || class == three,
+        Start::Among(low, high) => is_among(low, high, class),
+        Start::Pair(one, next) => class == one && class_at(origin, behind) == next,
+        Start::Letters(one, second, third) => {
+            class == one && spelled_behind(origin, behind, second, third)
+        }
+        Start::Number => is_digit(class) || class == b'.',
+        Start::Line => is_line(origin, class),
+        Start::Numeric => numeric_begins(origin, text),
+        Start::Alpha => alpha_begins(origin, text),
+        Start::Hex => is_hex(kept(origin, first(text))),
+        Start::Array => array_begins(origin, text),
+        Start::AlphaInside => class == b'(' && alpha_begins(origin, skipped(origin, behind)),
+        Start::CommaOrAlpha => class == b',' || alpha_begins(origin, text),
+        Start::PrintItem => print_item_begins(origin, text),
+    }
+}
+
+/// Whether a part begins at a text.
+#[tactic(auto, unfolding(crate::specs::Grammar::starts))]
+pub fn begins(origin: Origin, start: Start, text: &[u8]) -> bool
+    ensures { result ≡ spec.starts origin start text.now }
+{
+    starts_at(origin, start, skipped(origin, text))
+}
+
+fn barred_following(place: Place, rule: Rule) -> bool
+    ensures { result ≡ spec.barred_following place rule }
+{
+    place == Place::Following && rule == Rule::Behind
+}
+
+fn barred_line(origin: Origin, rule: Rule) -> bool
+    ensures { result ≡ spec.barred_line origin rule }
+{
+    match (origin, rule) {
+        (Origin::Immediate, Rule::Program | Rule::FirstInProgram) => true,
+        (Origin::Program, Rule::Immediate) => true,
+        _ => false,
+    }
+}
+
+fn barred_place(place: Place, rule: Rule) -> bool
+    ensures { result ≡ spec.barred_place place rule }
+{
+    match (place, rule) {
+        (Place::First, Rule::Behind) => true,
+        (Place::Further | Place::Following, Rule::First | Rule::FirstInProgram) => true,
+        _ => false,
+    }
+}
+
+// The row of a form, where its rule allows it.
+fn allowed(origin: Origin, place: Place, form: &Form, text: &[u8]) -> Result<u16, Stop>
+    ensures row { result ≡ spec.allowed origin place form.now text.now }
+    ensures known { IfErr result (λ e. e ≢ Stop.NoMemory) }
+{
+    if barred_following(place, form.rule) {
+        Err(Stop::At(14, text.len()))
+    } else if barred_line(origin, form.rule) {
+        Err(Stop::At(26, text.len()))
+    } else if barred_place(place, form.rule) {
+        Err(Stop::At(28, text.len()))
+    } else {
+        Ok(form.row)
+    }
+}
+
+// The row of the first form that begins, and else of an assignment.
+fn row_at(forms: &[Form], origin: Origin, place: Place, text: &[u8]) -> Result<u16, Stop>
+    ensures row { result ≡ spec.row_at forms.now origin place text.now }
+    ensures known { IfErr result (λ e. e ≢ Stop.NoMemory) }
+{
+    let mut left = forms;
+    while let [form, others @ ..] = left {
+        if begins(origin, form.start, text) {
+            return allowed(origin, place, form, text);
+        }
+        left = others;
+    }
+    if variable_begins(origin, text) {
+        return Ok(rows::ASSIGNMENT);
+    }
+    Err(refused(origin, 14, text))
+}
+
+/// The row of a statement at a text, and where to read it.
+#[tactic(auto, unfolding(crate::specs::Grammar::statement_row))]
+pub fn statement_row(origin: Origin, place: Place, text: &[u8]) -> Result<(u16, &[u8]), Stop>
+    ensures known { IfErr result (λ e. e ≢ Stop.NoMemory) }
+    ensures row { MatchResult result (λ r. spec.statement_row origin place text.now ≡ Ok (r.0, r.1.now)) (λ e. spec.statement_row origin place text.now ≡ Err e) }
+{
+    let here = skipped(origin, text);
+    if is_source(origin) && begins_with(b"LET", here) {
+        return Ok((rows::ASSIGNMENT, dropped(here, 3)));
+    }
+    let row = row_at(&FORMS, origin, place, here)?;
+    Ok((row, here))
+}

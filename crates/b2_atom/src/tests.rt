@@ -1,0 +1,99 @@
+// Lists of bytes that spell a line, with their units, and lists that spell none.
+use crate::{Atoms, Origin, Stop, read_source};
+use std::test::Fail;
+
+// The units of a line, each behind a `|`, and behind each the unit to which a false IF goes on. A `!` stands where a
+// cursor gives other bytes than it has.
+fn parts(rt: &HostRuntime, atoms: &[u8]) -> Result<Vec<u8>, Fail> {
+    let mut out = Vec::new(rt.alloc());
+    let Some(line) = Atoms::of(rt.alloc(), atoms)? else {
+        return Ok(out);
+    };
+    if line.bytes() != atoms || line.unit(line.units()).is_some() {
+        out.push(b'!')?;
+    }
+    for k in 0..line.units() {
+        out.push(b'|')?;
+        if let Some(mut cursor) = line.unit(k) {
+            let whole = cursor.rest();
+            for byte in whole {
+                if cursor.peek() != Some(*byte) || cursor.take() != Some(*byte) {
+                    out.push(b'!')?;
+                }
+            }
+            if cursor.take().is_some() {
+                out.push(b'!')?;
+            }
+            out.extend_from_slice(whole)?;
+        }
+        out.push(b'0' + line.skip(k).min(9) as u8)?;
+    }
+    Ok(out)
+}
+
+#[test]
+#[rattlefmt::skip]
+fn units(rt: HostRuntime) -> Result<(), Fail> {
+    let cases: [(&[u8], &[u8]); 7] = [
+        (b"\x9C1", b"|\x9C11"),
+        (b"\x8AA=1\x8B\x9CA:\x8C\x92:\x8D", b"|\x8AA=1\x8B2|\x9CA2|\x8C4|\x924|\x8D5"),
+        (b"\x8AA=1\x8B\xFF\x00\x10:\x8C\xFF\x00\x96", b"|\x8AA=1\x8B\xFF\x00\x101|\x8C\xFF\x00\x962"),
+        (b"X=1:\x96\x8AA<>2\x8B\x8AB=1\x8B\xFF\x13\x96:Y=2", b"|X=11|\x964|\x8AA<>2\x8B4|\x8AB=1\x8B\xFF\x13\x964|Y=25"),
+        (b"\x9C\":\":\x80 a:b", b"|\x9C\":\"1|\x80 a:b2"),
+        (b"\xA8X\x8FA$,(#:\"#):\x8D", b"|\xA8X\x8FA$,(#:\"#)1|\x8D2"),
+        (b"%:x", b"|%:x1"),
+    ];
+    for (atoms, expected) in cases {
+        let found = parts(&rt, atoms)?;
+        assert_eq!(rt; found.as_slice(), expected);
+    }
+    Ok(())
+}
+
+#[test]
+#[rattlefmt::skip]
+fn no_lines(rt: HostRuntime) -> Result<(), Fail> {
+    let cases: [&[u8]; 24] = [
+        b"\xFF\x00\x10",
+        b"",
+        b"\x9C1:",
+        b"\x9Ca",
+        b"\x9C 1",
+        b"\x8310",
+        b"\x83",
+        b"\x80\x0A",
+        b"\x9C\"\"",
+        b"\x9C\"a",
+        b"A=1\x8B",
+        b"\x8AA=1\x8B\x8C\x92",
+        b"\xC0TA,B,C",
+        b"\xA71)A$",
+        b"\xA7fF)A$",
+        b"\xBA\xBC#16,A",
+        b"\x9B\x9Cd11",
+        b"\xA8X\x8FA$,( #)",
+        b"\xA8X\x8FA$,(a)",
+        b"\x9C1.5.5",
+        b"\x93A(X$)=1",
+        b"\xFF\0\x10",
+        b"\x83\xFF\x1A\0",
+        b"\x83\xFF\x10",
+    ];
+    for atoms in cases {
+        assert!(rt; Atoms::of(rt.alloc(), atoms)?.is_none());
+    }
+    Ok(())
+}
+
+#[test]
+fn sources(rt: HostRuntime) -> Result<(), Fail> {
+    match read_source(rt.alloc(), Origin::Immediate, b" print 1") {
+        Ok(atoms) => assert_eq!(rt; atoms.as_slice(), b"\x9C1".as_slice()),
+        Err(_) => assert!(rt; false),
+    }
+    match read_source(rt.alloc(), Origin::Immediate, b"print (1") {
+        Ok(_) => assert!(rt; false),
+        Err(stop) => assert_eq!(rt; stop, Stop::At(11, 0)),
+    }
+    Ok(())
+}

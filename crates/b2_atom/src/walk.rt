@@ -1,0 +1,187 @@
+// One walk over the table of forms, from a source as from atoms.
+ghost use Rattle.std.specs.Prelude.{◌≡◌, ◌≤◌, ◌<◌, ◌+◌, ℕ, [], length, map, get_or, MatchResult, IfErr};
+ghost use Rattle.b2_atom.specs.Tree.{seen, is_silent, IsFree, Gives, Stops};
+ghost use Rattle.b2_atom.specs.Table.{rows_0, rows_1, rows_2, rows_3};
+ghost use Rattle.b2_atom.specs.Grammar as spec;
+
+use crate::forms::{Item, Place, Start};
+use crate::marks::read_item;
+use crate::rows;
+use crate::sink::{Sink, Stop};
+use crate::starts::{begins, statement_row};
+use crate::table::{ROWS_0, ROWS_1, ROWS_2, ROWS_3};
+use crate::words::Origin;
+
+/// How many parentheses may be open at a place.
+pub const DEPTH: u8 = 32;
+
+/// How many parts may stand in one another between two parentheses; no form has as many.
+pub const LEVELS: u8 = 40;
+
+// A row of a table, or an empty one.
+fn row_in(table: &'static [&'static [Item]], place: usize) -> &'static [Item]
+    ensures { result.now ≡ get_or (map (λ r. r.now) table.now) place [] }
+{
+    match table.get(place) {
+        Some(row) => row,
+        None => &[],
+    }
+}
+
+// A row.
+#[tactic(auto, unfolding(crate::specs::Grammar::row_items))]
+fn row_items(number: u16) -> &'static [Item]
+    ensures { result.now ≡ spec.row_items number }
+{
+    let place = usize::from(number % 64);
+    match number / 64 {
+        0 => row_in(&ROWS_0, place),
+        1 => row_in(&ROWS_1, place),
+        2 => row_in(&ROWS_2, place),
+        _ => row_in(&ROWS_3, place),
+    }
+}
+
+// Reads an item.
+#[cycle(walk)]
+fn take_item<'a>(
+    out: &mut Sink,
+    origin: Origin,
+    fuel: usize,
+    room: u8,
+    level: u8,
+    item: Item,
+    text: &'a [u8],
+) -> Result<&'a [u8], Stop>
+    requires room { room ≤ 32 }
+    requires level { level ≤ 40 }
+    ensures gives { MatchResult result (λ rest. Gives (seen out.old) (spec.item (spec.statement (spec.reader origin) fuel) (spec.deep (spec.reader origin) (spec.statement (spec.reader origin) fuel) room) (spec.part origin fuel room level) (spec.reader origin) item text.now) (seen out.new) rest.now) (λ e. Stops (seen out.old) (spec.item (spec.statement (spec.reader origin) fuel) (spec.deep (spec.reader origin) (spec.statement (spec.reader origin) fuel) room) (spec.part origin fuel room level) (spec.reader origin) item text.now) e) }
+    ensures memory { IfErr result (IsFree (seen out.old)) }
+    ensures silent { is_silent (seen out.new) ≡ is_silent (seen out.old) }
+{
+    match item {
+        Item::Part(row) => part(out, origin, fuel, room, level, row, text),
+        Item::Maybe(start, row) => {
+            if begins(origin, start, text) {
+                part(out, origin, fuel, room, level, row, text)
+            } else {
+                Ok(text)
+            }
+        }
+        Item::Either(start, row, other) => {
+            if begins(origin, start, text) {
+                part(out, origin, fuel, room, level, row, text)
+            } else {
+                part(out, origin, fuel, room, level, other, text)
+            }
+        }
+        Item::Many(start, row) => many(out, origin, fuel, room, level, start, row, text),
+        Item::Nest(row) => {
+            if room == 0 {
+                return Err(Stop::Deep);
+            }
+            part(out, origin, fuel, room - 1, LEVELS, row, text)
+        }
+        Item::Statement(place) => statement(out, origin, fuel, place, text),
+        Item::Word(_)
+        | Item::Sign(_, _)
+        | Item::Among(_, _, _)
+        | Item::ProgramWord(_)
+        | Item::Ignored(_)
+        | Item::Comma
+        | Item::LeftOut
+        | Item::End
+        | Item::Typed(_, _) => read_item(out, origin, item, text),
+    }
+}
+
+// Reads a part as often as it begins.
+#[cycle(walk)]
+fn many<'a>(
+    out: &mut Sink,
+    origin: Origin,
+    fuel: usize,
+    room: u8,
+    level: u8,
+    start: Start,
+    row: u16,
+    text: &'a [u8],
+) -> Result<&'a [u8], Stop>
+    requires room { room ≤ 32 }
+    requires level { level ≤ 40 }
+    ensures gives { MatchResult result (λ rest. Gives (seen out.old) (spec.many (spec.reader origin) start (spec.part origin fuel room level row) (length text.now) text.now) (seen out.new) rest.now) (λ e. Stops (seen out.old) (spec.many (spec.reader origin) start (spec.part origin fuel room level row) (length text.now) text.now) e) }
+    ensures memory { IfErr result (IsFree (seen out.old)) }
+    ensures silent { is_silent (seen out.new) ≡ is_silent (seen out.old) }
+{
+    let mut left = text;
+    for _ in 0..text.len() {
+        if !begins(origin, start, left) {
+            return Ok(left);
+        }
+        left = part(out, origin, fuel, room, level, row, left)?;
+    }
+    if begins(origin, start, left) {
+        return Err(Stop::At(14, 0));
+    }
+    Ok(left)
+}
+
+// Reads a part.
+#[cycle(walk)]
+fn part<'a>(
+    out: &mut Sink,
+    origin: Origin,
+    fuel: usize,
+    room: u8,
+    level: u8,
+    row: u16,
+    text: &'a [u8],
+) -> Result<&'a [u8], Stop>
+    requires room { room ≤ 32 }
+    requires level { level ≤ 40 }
+    ensures gives { MatchResult result (λ rest. Gives (seen out.old) (spec.part origin fuel room level row text.now) (seen out.new) rest.now) (λ e. Stops (seen out.old) (spec.part origin fuel room level row text.now) e) }
+    ensures memory { IfErr result (IsFree (seen out.old)) }
+    ensures silent { is_silent (seen out.new) ≡ is_silent (seen out.old) }
+{
+    if level == 0 {
+        return Err(Stop::At(14, 0));
+    }
+    let mut wanted = row_items(row);
+    let mut left = text;
+    while let [item, others @ ..] = wanted {
+        left = take_item(out, origin, fuel, room, level - 1, *item, left)?;
+        wanted = others;
+    }
+    Ok(left)
+}
+
+// Reads a statement, with the statements that follow it behind THEN, ELSE or ERROR.
+#[cycle(walk)]
+pub fn statement<'a>(
+    out: &mut Sink,
+    origin: Origin,
+    fuel: usize,
+    place: Place,
+    text: &'a [u8],
+) -> Result<&'a [u8], Stop>
+    ensures gives { MatchResult result (λ rest. Gives (seen out.old) (spec.statement (spec.reader origin) fuel place text.now) (seen out.new) rest.now) (λ e. Stops (seen out.old) (spec.statement (spec.reader origin) fuel place text.now) e) }
+    ensures memory { IfErr result (IsFree (seen out.old)) }
+    ensures silent { is_silent (seen out.new) ≡ is_silent (seen out.old) }
+{
+    if fuel == 0 {
+        return Ok(text);
+    }
+    match statement_row(origin, place, text) {
+        Ok((row, here)) => part(out, origin, fuel - 1, DEPTH, LEVELS, row, here),
+        Err(stop) => Err(stop),
+    }
+}
+
+/// Reads a whole line.
+pub fn read_line<'a>(out: &mut Sink, origin: Origin, text: &'a [u8]) -> Result<&'a [u8], Stop>
+    ensures gives { MatchResult result (λ rest. Gives (seen out.old) (spec.read_line origin text.now) (seen out.new) rest.now) (λ e. Stops (seen out.old) (spec.read_line origin text.now) e) }
+    ensures memory { IfErr result (IsFree (seen out.old)) }
+    ensures silent { is_silent (seen out.new) ≡ is_silent (seen out.old) }
+{
+    part(out, origin, text.len() + 1, DEPTH, LEVELS, rows::LINE, text)
+}

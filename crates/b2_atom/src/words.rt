@@ -1,0 +1,557 @@
+// The words of the language with their codes, and which of them stands at a text.
+ghost use Rattle.std.specs.Prelude.{◌≡◌, ◌≤◌, ◌<◌, [], length, map, drop, take, get_or};
+ghost use Rattle.b2_atom.specs.Words as spec;
+
+/// Where a text is read from: a typed line of a program or an immediate one, or atoms.
+#[derive(Clone, Copy, Debug, PartialEq, Eq)]
+pub enum Origin {
+    Program,
+    Immediate,
+    Atoms,
+}
+
+/// What stands at a text where one of the words begins that this machine leaves out.
+pub const LEFT_OUT: u8 = 1;
+
+pub const REM: u8 = 0x80;
+
+pub const DIM: u8 = 0x81;
+
+pub const COM: u8 = 0x82;
+
+pub const GOTO: u8 = 0x83;
+
+pub const GOSUB: u8 = 0x84;
+
+pub const GOSUB_PRIME: u8 = 0x85;
+
+pub const RETURN: u8 = 0x86;
+
+pub const CLEAR: u8 = 0x87;
+
+pub const ALL: u8 = 0x88;
+
+pub const ON: u8 = 0x89;
+
+pub const IF: u8 = 0x8A;
+
+pub const THEN: u8 = 0x8B;
+
+pub const ELSE: u8 = 0x8C;
+
+pub const END: u8 = 0x8D;
+
+pub const FOR: u8 = 0x8E;
+
+pub const TO: u8 = 0x8F;
+
+pub const STEP: u8 = 0x90;
+
+pub const NEXT: u8 = 0x91;
+
+pub const STOP: u8 = 0x92;
+
+pub const DEFFN: u8 = 0x93;
+
+pub const DEFFN_PRIME: u8 = 0x94;
+
+pub const FN: u8 = 0x95;
+
+pub const ERROR: u8 = 0x96;
+
+pub const READ: u8 = 0x97;
+
+pub const DATA: u8 = 0x98;
+
+pub const RESTORE: u8 = 0x99;
+
+pub const LINE: u8 = 0x9A;
+
+pub const SELECT: u8 = 0x9B;
+
+pub const PRINT: u8 = 0x9C;
+
+pub const PRINTUSING: u8 = 0x9D;
+
+pub const INPUT: u8 = 0x9E;
+
+pub const LINPUT: u8 = 0x9F;
+
+pub const KEYIN: u8 = 0xA0;
+
+pub const DISK: u8 = 0xA1;
+
+pub const NO: u8 = 0xA2;
+
+pub const GLOBAL_PART: u8 = 0xA3;
+
+pub const DOLLAR_BREAK: u8 = 0xA4;
+
+pub const DOLLAR_OPEN: u8 = 0xA5;
+
+pub const DOLLAR_CLOSE: u8 = 0xA6;
+
+pub const INIT_OPEN: u8 = 0xA7;
+
+pub const CONVERT: u8 = 0xA8;
+
+pub const ROTATE_OPEN: u8 = 0xA9;
+
+pub const ROTATEC_OPEN: u8 = 0xAA;
+
+pub const PACK_OPEN: u8 = 0xAB;
+
+pub const UNPACK_OPEN: u8 = 0xAC;
+
+pub const DOLLAR_PACK_OPEN: u8 = 0xAD;
+
+pub const DOLLAR_UNPACK_OPEN: u8 = 0xAE;
+
+pub const FROM: u8 = 0xAF;
+
+pub const MAT: u8 = 0xB0;
+
+pub const CON: u8 = 0xB1;
+
+pub const ZER: u8 = 0xB2;
+
+pub const IDN: u8 = 0xB3;
+
+pub const TRN_OPEN: u8 = 0xB4;
+
+pub const REDIM: u8 = 0xB5;
+
+pub const SEARCH: u8 = 0xB6;
+
+pub const MOVE: u8 = 0xB7;
+
+pub const SORT: u8 = 0xB8;
+
+pub const COPY: u8 = 0xB9;
+
+pub const DATASAVE: u8 = 0xBA;
+
+pub const DATALOAD: u8 = 0xBB;
+
+pub const DC: u8 = 0xBC;
+
+pub const OPEN: u8 = 0xBD;
+
+pub const DSKIP: u8 = 0xBE;
+
+pub const DBACKSPACE: u8 = 0xBF;
+
+pub const LIMITS: u8 = 0xC0;
+
+pub const SCRATCH: u8 = 0xC1;
+
+pub const LS: u8 = 0xC2;
+
+pub const LIST: u8 = 0xC3;
+
+pub const RUN: u8 = 0xC4;
+
+pub const CONTINUE: u8 = 0xC5;
+
+pub const LOAD: u8 = 0xC6;
+
+pub const SAVE: u8 = 0xC7;
+
+pub const TAB_OPEN: u8 = 0xC8;
+
+pub const HEXOF_OPEN: u8 = 0xC9;
+
+pub const HEX_OPEN: u8 = 0xCA;
+
+pub const STR_OPEN: u8 = 0xCB;
+
+pub const BIN_OPEN: u8 = 0xCC;
+
+pub const AND: u8 = 0xCD;
+
+pub const OR: u8 = 0xCE;
+
+pub const XOR: u8 = 0xCF;
+
+pub const BOOL: u8 = 0xD0;
+
+pub const ADD: u8 = 0xD1;
+
+pub const ADDC: u8 = 0xD2;
+
+pub const SUB: u8 = 0xD3;
+
+pub const SUBC: u8 = 0xD4;
+
+pub const DAC: u8 = 0xD5;
+
+pub const DSC: u8 = 0xD6;
+
+pub const ABS_OPEN: u8 = 0xD7;
+
+pub const INT_OPEN: u8 = 0xD8;
+
+pub const FIX_OPEN: u8 = 0xD9;
+
+pub const SGN_OPEN: u8 = 0xDA;
+
+pub const SQR_OPEN: u8 = 0xDB;
+
+pub const ROUND_OPEN: u8 = 0xDC;
+
+pub const MOD_OPEN: u8 = 0xDD;
+
+pub const MAX_OPEN: u8 = 0xDE;
+
+pub const MIN_OPEN: u8 = 0xDF;
+
+pub const LEN_OPEN: u8 = 0xE0;
+
+pub const NUM_OPEN: u8 = 0xE1;
+
+pub const POS_OPEN: u8 = 0xE2;
+
+pub const VAL_OPEN: u8 = 0xE3;
+
+pub const ERR: u8 = 0xE4;
+
+pub const HASH_PART: u8 = 0xE5;
+
+pub const HASH_TERM: u8 = 0xE6;
+
+pub const ROUND: u8 = 0xE7;
+
+/// The words in the order of their codes, and behind them those that this machine leaves out.
+#[rattlefmt::skip]
+pub const WORDS: [&[u8]; 126] = [
+    b"REM",
+    b"DIM",
+    b"COM",
+    b"GOTO",
+    b"GOSUB",
+    b"GOSUB'",
+    b"RETURN",
+    b"CLEAR",
+    b"ALL",
+    b"ON",
+    b"IF",
+    b"THEN",
+    b"ELSE",
+    b"END",
+    b"FOR",
+    b"TO",
+    b"STEP",
+    b"NEXT",
+    b"STOP",
+    b"DEFFN",
+    b"DEFFN'",
+    b"FN",
+    b"ERROR",
+    b"READ",
+    b"DATA",
+    b"RESTORE",
+    b"LINE",
+    b"SELECT",
+    b"PRINT",
+    b"PRINTUSING",
+    b"INPUT",
+    b"LINPUT",
+    b"KEYIN",
+    b"DISK",
+    b"NO",
+    b"@PART",
+    b"$BREAK",
+    b"$OPEN",
+    b"$CLOSE",
+    b"INIT(",
+    b"CONVERT",
+    b"ROTATE(",
+    b"ROTATEC(",
+    b"PACK(",
+    b"UNPACK(",
+    b"$PACK(",
+    b"$UNPACK(",
+    b"FROM",
+    b"MAT",
+    b"CON",
+    b"ZER",
+    b"IDN",
+    b"TRN(",
+    b"REDIM",
+    b"SEARCH",
+    b"MOVE",
+    b"SORT",
+    b"COPY",
+    b"DATASAVE",
+    b"DATALOAD",
+    b"DC",
+    b"OPEN",
+    b"DSKIP",
+    b"DBACKSPACE",
+    b"LIMITS",
+    b"SCRATCH",
+    b"LS",
+    b"LIST",
+    b"RUN",
+    b"CONTINUE",
+    b"LOAD",
+    b"SAVE",
+    b"TAB(",
+    b"HEXOF(",
+    b"HEX(",
+    b"STR(",
+    b"BIN(",
+    b"AND",
+    b"OR",
+    b"XOR",
+    b"BOOL",
+    b"ADD",
+    b"ADDC",
+    b"SUB",
+    b"SUBC",
+    b"DAC",
+    b"DSC",
+    b"ABS(",
+    b"INT(",
+    b"FIX(",
+    b"SGN(",
+    b"SQR(",
+    b"ROUND(",
+    b"MOD(",
+    b"MAX(",
+    b"MIN(",
+    b"LEN(",
+    b"NUM(",
+    b"POS(",
+    b"VAL(",
+    b"ERR",
+    b"#PART",
+    b"#TERM",
+    b"ROUND",
+    b"SIN(",
+    b"COS(",
+    b"TAN(",
+    b"ARCSIN(",
+    b"ARCCOS(",
+    b"ARCTAN(",
+    b"EXP(",
+    b"LOG(",
+    b"RND(",
+    b"#PI",
+    b"INV(",
+    b"PLOT",
+    b"HEXPRINT",
+    b"HEXPACK",
+    b"HEXUNPACK",
+    b"$GIO",
+    b"$IF",
+    b"$TRAN",
+    b"$FORMAT",
+    b"$INIT",
+    b"$MSG",
+    b"$PSTAT",
+];
+
+/// How many words have a code.
+pub const CODED: usize = 104;
+
+/// Whether what is read was typed.
+pub fn is_source(origin: Origin) -> bool
+    ensures { result ≡ spec.is_source origin }
+{
+    match origin {
+        Origin::Program | Origin::Immediate => true,
+        Origin::Atoms => false,
+    }
+}
+
+/// A letter as its upper case.
+pub fn upper(byte: u8) -> u8
+    ensures { result ≡ spec.upper byte }
+{
+    if byte >= b'a' && byte <= b'z' {
+        byte - 32
+    } else {
+        byte
+    }
+}
+
+/// A byte as it is kept: a letter of a source in upper case.
+pub fn kept(origin: Origin, byte: u8) -> u8
+    ensures { result ≡ spec.kept origin byte }
+{
+    match origin {
+        Origin::Program | Origin::Immediate => upper(byte),
+        Origin::Atoms => byte,
+    }
+}
+
+/// Whether a text begins with a word, in either case.
+pub fn begins_with(word: &[u8], text: &[u8]) -> bool
+    ensures { result ≡ spec.begins_with word.now text.now }
+{
+    let mut word = word;
+    let mut text = text;
+    while let [letter, others @ ..] = word {
+        let [byte, rest @ ..] = text else {
+            return false;
+        };
+        if *letter != upper(*byte) {
+            return false;
+        }
+        word = others;
+        text = rest;
+    }
+    true
+}
+
+// The longest word of a table at a text: its length and its place, or length 0.
+fn longest(table: &[&[u8]], text: &[u8]) -> (usize, usize)
+    ensures place { result ≡ spec.longest (map (λ w. w.now) table.now) text.now (0, 0) 0 }
+    ensures within { result.1 ≤ length table.now }
+{
+    let mut best = (0, 0);
+    let mut left = table;
+    let mut at = 0usize;
+    while let [word, others @ ..] = left {
+        if word.len() > best.0 && begins_with(word, text) {
+            best = (word.len(), at);
+        }
+        left = others;
+        at += 1;
+    }
+    best
+}
+
+// The longest word at a text: its length, or 0, and its place.
+#[tactic(auto, unfolding(crate::specs::Words::word_at))]
+fn word_at(text: &[u8]) -> (usize, usize)
+    ensures place { result ≡ spec.word_at text.now }
+    ensures within { result.1 ≤ 126 }
+{
+    longest(&WORDS, text)
+}
+
+/// Without the blanks at the front.
+pub fn skip_blanks(text: &[u8]) -> &[u8]
+    ensures { result.now ≡ spec.skip_blanks text.now }
+{
+    let mut rest = text;
+    while let [b' ', after @ ..] = rest {
+        rest = after;
+    }
+    rest
+}
+
+/// Where the next item begins.
+pub fn skipped(origin: Origin, text: &[u8]) -> &[u8]
+    ensures { result.now ≡ spec.skipped origin text.now }
+{
+    match origin {
+        Origin::Program | Origin::Immediate => skip_blanks(text),
+        Origin::Atoms => text,
+    }
+}
+
+/// The first byte, or 0.
+pub fn first(text: &[u8]) -> u8
+    ensures { result ≡ spec.first text.now }
+{
+    match text {
+        [byte, ..] => *byte,
+        _ => 0,
+    }
+}
+
+/// The byte at a place, or 0.
+pub fn at(text: &[u8], index: usize) -> u8
+    ensures { result ≡ get_or text.now index 0 }
+{
+    match text.get(index) {
+        Some(byte) => *byte,
+        None => 0,
+    }
+}
+
+/// Without the first bytes.
+pub fn dropped(text: &[u8], count: usize) -> &[u8]
+    ensures { result.now ≡ drop count text.now }
+{
+    if count <= text.len() {
+        &text[count..]
+    } else {
+        &[]
+    }
+}
+
+/// The first bytes.
+pub fn front(text: &[u8], count: usize) -> &[u8]
+    ensures { result.now ≡ take count text.now }
+{
+    if count <= text.len() {
+        &text[..count]
+    } else {
+        text
+    }
+}
+
+// An entry of a table, or none.
+fn text_in(table: &'static [&'static [u8]], place: usize) -> &'static [u8]
+    ensures { result.now ≡ get_or (map (λ w. w.now) table.now) place [] }
+{
+    match table.get(place) {
+        Some(text) => text,
+        None => &[],
+    }
+}
+
+/// How a word is spelled.
+pub fn word_text(code: u8) -> &'static [u8]
+    ensures { result.now ≡ spec.word_text code }
+{
+    text_in(&WORDS, usize::from(code.saturating_sub(128)))
+}
+
+// A word, or a longer one that is typed with blanks in it, and what stands behind it.
+fn joined(code: u8, rest: &[u8]) -> (u8, &[u8])
+    ensures class { result.0 ≡ (spec.joined code rest.now).0 }
+    ensures behind { result.1.now ≡ (spec.joined code rest.now).1 }
+{
+    let next = skip_blanks(rest);
+    if code == DATA && begins_with(b"SAVE", next) {
+        return (DATASAVE, dropped(next, 4));
+    }
+    if code == DATA && begins_with(b"LOAD", next) {
+        return (DATALOAD, dropped(next, 4));
+    }
+    if code == PRINT && begins_with(b"USING", next) {
+        return (PRINTUSING, dropped(next, 5));
+    }
+    (code, rest)
+}
+
+// What stands at a typed text and what stands behind it.
+fn typed_ahead(text: &[u8]) -> (u8, &[u8])
+    ensures class { result.0 ≡ (spec.typed_ahead text.now).0 }
+    ensures behind { result.1.now ≡ (spec.typed_ahead text.now).1 }
+{
+    let (length, place) = word_at(text);
+    if length == 0 {
+        return (upper(first(text)), dropped(text, 1));
+    }
+    if place >= CODED {
+        return (LEFT_OUT, dropped(text, length));
+    }
+    joined(place as u8 + 128, dropped(text, length))
+}
+
+/// What stands at a text, a word's code or a byte or 0 at the end, and what stands behind it.
+pub fn ahead(origin: Origin, text: &[u8]) -> (u8, &[u8])
+    ensures class { result.0 ≡ (spec.ahead origin text.now).0 }
+    ensures behind { result.1.now ≡ (spec.ahead origin text.now).1 }
+{
+    match origin {
+        Origin::Program | Origin::Immediate => typed_ahead(text),
+        Origin::Atoms => (first(text), dropped(text, 1)),
+    }
+}

@@ -1,0 +1,14 @@
+pub mod Finding
+pub mod Looking
+pub mod Mapping
+pub mod Rows
+pub mod Changed
+pub mod Spelled
+pub mod Maps
+pub mod RowPuts
+pub mod Scratching
+pub mod Placing
+pub mod Entering
+pub mod Refusals
+pub mod Reusing
+pub mod Formats

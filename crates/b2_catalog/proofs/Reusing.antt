@@ -1,0 +1,205 @@
+-- A scratched file under another name, or under its own again.
+use Rattle.std.proofs.Common.{◌≡◌, ◌≢◌, ℕ, ◌-◌, ◌*◌, ◌/◌, ◌<◌, ◌≤◌, Bool, true, false, ◌&&◌, ◌||◌, not, cond, List, Some, None, length, refl, sym, ap, ◌∙◌, subst, inl, inr, arith}
+use Rattle.std.specs.FinMap.{insert, remove}
+use Rattle.std.specs.Prelude.{is_some}
+use Rattle.std.specs.Str.{bytes_eq}
+use Rattle.std.proofs.lemmas.Slice.Eq.{bytes_eq-Decides}
+use Rattle.std.proofs.lemmas.Bool.{cases_eq, cases_order, false≢true, false_from_ne_true}
+use Rattle.b2_base.specs.Names.{is_name8}
+use Rattle.b2_platter.specs.declared.layout.Layout.TheVariants.{Narrow}
+use Rattle.b2_platter.specs.Slot.{is_free, is_entry, start_of, end_of, name_of}
+use Rattle.b2_platter.specs.Image.{row, sector, index_of, next_free, has_free, hash, around, is_clear_to}
+use Rattle.b2_platter.specs.Checks.{differ_in_name, is_reached, lie_apart, is_controlled, is_control, Good}
+use Rattle.b2_platter.proofs.Goodness.{most_of_good}
+use Rattle.b2_platter.proofs.Soundness.{Sound-from_Good}
+use Rattle.b2_platter.proofs.Kept.{next-same}
+use Rattle.b2_catalog.specs.Catalogue.{entry_at, catalogue}
+use Rattle.b2_catalog.specs.Ways.{holds, way_of, slot_of, place, IsSlotOf}
+use Rattle.b2_catalog.specs.Calls.{reused_place}
+use Rattle.b2_catalog.specs.Changes.{put_row, file_slot, gone_slot, reused}
+use Rattle.b2_catalog.proofs.Looking.{Holds, Holds-from, holds-from, FileSlot, FileSlot-from, IsSlotOf-from, one_slot, clear_of}
+use Rattle.b2_catalog.proofs.Placing.{Placed-from}
+use Rattle.b2_catalog.proofs.Refusals.{slot_none}
+use Rattle.b2_catalog.proofs.Rows.{row_same}
+use Rattle.b2_catalog.proofs.Spelled.{SaysFile, says_file, gone_no_entry, gone_taken, gone_spelled, gone_long}
+use Rattle.b2_catalog.proofs.Changed.{Changes, changed_good, clear_still, differ_turned, apart_turned}
+use Rattle.b2_catalog.proofs.RowPuts.{gone_changes, row_changes, row_room, put_head, put_rows, put_sectors_above, put_index_same, differ_free, apart_free, apart_like}
+use Rattle.b2_catalog.proofs.Maps.{catalogue-inserted, catalogue-removed}
+use Rattle.b2_catalog.proofs.Entering.{free_is_none, slot_missed, differ_from_missed, lies_from, reached_from, controlled_from}
+
+control_of : (image slot : List ℕ) → is_controlled Narrow image slot ≡ true → is_entry slot ≡ true → is_control Narrow (end_of Narrow slot - start_of Narrow slot) (sector image (end_of Narrow slot)) ≡ true
+unfolding is_controlled
+control_of image slot h e = subst (λ (b : Bool). (not b || is_control Narrow (end_of Narrow slot - start_of Narrow slot) (sector image (end_of Narrow slot))) ≡ true) e h
+
+module _ (a : List ℕ) (good : Good Narrow a) (old : List ℕ) (k : ℕ) (at : IsSlotOf a old k) (name : List ℕ) (legal : is_name8 name ≡ true) (eight : length name ≡ 8) (alone : (j : ℕ) → 1 ≤ j → j < 16 * index_of a → j ≢ k → holds name (row a j) ≡ false) (to : ℕ) (low : 1 ≤ to) (high : to < 16 * index_of a) (vacant : to ≢ k → is_entry (row a to) ≡ false) (clear : is_clear_to (has_free a) (to / 16) (way_of a name) ≡ true) (program : Bool) where
+  abbrev gone : List ℕ
+  gone = put_row a k gone_slot
+
+  abbrev slot : List ℕ
+  slot = file_slot program (start_of Narrow (row a k)) (end_of Narrow (row a k)) name
+
+  held : Holds old (row a k)
+  held = Holds-from old (row a k) at.held
+
+  file : FileSlot a k
+  file = FileSlot-from a old k good at
+
+  changes : Changes a gone k
+  changes = gone_changes a good k at.low at.high gone_slot gone_long gone_no_entry gone_spelled gone_taken
+
+  pub gone_good : Good Narrow gone
+  gone_good = changed_good a gone k good changes
+
+  gone_now : row gone k ≡ gone_slot
+  gone_now = row_same a k gone_slot gone_long (row_room a good k at.low at.high gone_slot gone_long)
+
+  gone_index : index_of gone ≡ index_of a
+  gone_index = put_index_same a good k at.low at.high gone_slot gone_long
+
+  gone_rows : (j : ℕ) → j ≢ k → row gone j ≡ row a j
+  gone_rows j other = put_rows a good k at.low at.high gone_slot gone_long j other
+
+  high' : to < 16 * index_of gone
+  high' = omega (arith, gone_index)
+
+  says : SaysFile slot program (start_of Narrow (row a k)) (end_of Narrow (row a k)) name
+  says = let f = file in let most = most_of_good Narrow a good in says_file program _ _ name (omega arith) (omega arith) eight legal
+
+  abbrev after : List ℕ
+  after = put_row gone to slot
+
+  slot_now : row after to ≡ slot
+  slot_now = row_same gone to slot says.long (row_room gone gone_good to low high' slot says.long)
+
+  vacant_now : is_entry (row gone to) ≡ false
+  vacant_now = elim (cases_eq to k) [
+    | inl same ↦ ap (λ (j : ℕ). is_entry (row gone j)) same ∙ ap is_entry gone_now ∙ gone_no_entry
+    | inr other ↦ ap is_entry (gone_rows to other) ∙ vacant other
+  ]
+
+  free_never : is_free (row gone k) ≡ true → is_free (row a k) ≡ true
+  free_never e = absurd (false≢true (sym (ap is_free gone_now ∙ gone_taken) ∙ e))
+
+  taken : is_free (row after to) ≡ true → is_free (row gone to) ≡ true
+  taken e = absurd (false≢true (sym (ap is_free slot_now ∙ says.taken) ∙ e))
+
+  after_index : index_of after ≡ index_of gone
+  after_index = put_index_same gone gone_good to low high' slot says.long
+
+  after_rows : (j : ℕ) → j ≢ to → row after j ≡ row gone j
+  after_rows j other = put_rows gone gone_good to low high' slot says.long j other
+
+  reached_now : is_reached after to ≡ true
+  reached_now =
+      let same : name_of (row after to) ≡ name = ap name_of slot_now ∙ says.name in
+      let gone_clear = clear_still a gone k good gone_index (λ j j_low j_high other. gone_rows j other) free_never (to / 16) (hash (index_of a) name) clear in
+      let now_clear : is_clear_to (has_free gone) (to / 16) (around (index_of gone) (hash (index_of gone) name)) ≡ true = rw gone_index gone_clear in
+      reached_from after to (rw (after_index, same) (clear_still gone after to gone_good after_index (λ j j_low j_high other. after_rows j other) taken (to / 16) (hash (index_of gone) name) now_clear))
+
+  own_sector : sector after (end_of Narrow (row a k)) ≡ sector a (end_of Narrow (row a k))
+  own_sector =
+      let f = file in
+      put_sectors_above gone gone_good to low high' slot says.long (end_of Narrow (row a k)) (omega (arith, gone_index, f.low, f.order))
+      ∙ put_sectors_above a good k at.low at.high gone_slot gone_long (end_of Narrow (row a k)) (omega (arith, f.low, f.order))
+
+  controlled_now : is_controlled Narrow after slot ≡ true
+  controlled_now =
+      let s = Sound-from_Good Narrow a good in
+      controlled_from after slot (rw (says.start, says.end, own_sector) (control_of a (row a k) (s.controls k at.low at.high) held.entry))
+
+  names_now : (j : ℕ) → 1 ≤ j → j < 16 * index_of gone → j ≢ to → differ_in_name slot (row gone j) ≡ true
+  names_now j j_low j_high other = elim (cases_eq j k) [
+    | inl same ↦ subst (λ (j : ℕ). differ_in_name slot (row gone j) ≡ true) (sym same) (differ_turned slot (row gone k) ∙ differ_free (row gone k) slot (ap is_entry gone_now ∙ gone_no_entry))
+    | inr apart ↦ rw (gone_rows j apart) (differ_from_missed slot (row a j) name says.name (alone j j_low (omega (arith, gone_index)) apart))
+  ]
+
+  apart_now : (j : ℕ) → 1 ≤ j → j < 16 * index_of gone → j ≢ to → lie_apart Narrow slot (row gone j) ≡ true
+  apart_now j j_low j_high other = elim (cases_order j k) [
+    | inl same ↦ subst (λ (j : ℕ). lie_apart Narrow slot (row gone j) ≡ true) (sym same) (apart_turned slot (row gone k) ∙ apart_free (row gone k) slot (ap is_entry gone_now ∙ gone_no_entry))
+    | inr unequal ↦ (
+        let s = Sound-from_Good Narrow a good in
+        let differ : j ≢ k = elim unequal [ inl less ↦ λ e. omega (arith, less, e) | inr more ↦ λ e. omega (arith, more, e) ] in
+        rw (gone_rows j differ) (apart_like slot (row a k) (row a j) (says.entry ∙ sym held.entry) says.start says.end ∙ elim unequal [
+          | inl less ↦ apart_turned (row a k) (row a j) ∙ s.apart j k j_low less at.high
+          | inr more ↦ s.apart k j at.low more (omega (arith, gone_index))
+        ])
+        )
+  ]
+
+  again : Changes gone after to
+  again =
+      let f = file in
+      let next = next-same Narrow a gone (put_head a good k at.low at.high gone_slot gone_long) in
+      row_changes gone gone_good to low high' slot says.long after refl says.spelled
+      (lies_from (index_of gone) (next_free Narrow gone) slot (omega (arith, gone_index, says.start, f.low)) (omega (arith, says.start, says.end, f.order)) (omega (arith, next, says.end, f.high)))
+      names_now apart_now (λ e. absurd (false≢true (sym says.taken ∙ e))) reached_now controlled_now
+
+  pub reused_good : Good Narrow (reused a k to name program)
+  unfolding reused
+  reused_good = changed_good gone after to gone_good again
+
+  entry_now : entry_at after to ≡ record (entry_at a k) { name = name; live = true; program = program }
+  unfolding entry_at
+  entry_now = rw (slot_now, says.name, says.live, says.program, says.start, says.end, own_sector) refl
+
+  pub catalogue-reused : catalogue (reused a k to name program) ≡ insert (remove (catalogue a) old) name (record (entry_at a k) { name = name; live = true; program = program })
+  unfolding reused
+  catalogue-reused =
+      catalogue-inserted gone after to gone_good again low high' name (ap (holds name) slot_now ∙ holds-from name slot says.entry says.name) (λ e. absurd (false≢true (sym vacant_now ∙ e)))
+      ∙ ap (insert (catalogue gone) name) entry_now
+      ∙ ap (λ m. insert m name (record (entry_at a k) { name = name; live = true; program = program })) (catalogue-removed a gone k good changes at.low at.high old (ap is_entry gone_now ∙ gone_no_entry) at.held)
+
+-- what the second slot needs, by where the name goes
+pub record Ready (a name : List ℕ) (k to : ℕ) : Type 0 where
+  pub low : 1 ≤ to
+  pub high : to < 16 * index_of a
+  pub alone : (j : ℕ) → 1 ≤ j → j < 16 * index_of a → j ≢ k → holds name (row a j) ≡ false
+  pub vacant : to ≢ k → is_entry (row a to) ≡ false
+  pub clear : is_clear_to (has_free a) (to / 16) (way_of a name) ≡ true
+
+clear_way : (a : List ℕ) (good : Good Narrow a) (name : List ℕ) (k : ℕ) → IsSlotOf a name k → is_clear_to (has_free a) (k / 16) (way_of a name) ≡ true
+unfolding is_reached
+clear_way a good name k at =
+    let s = Sound-from_Good Narrow a good in
+    let h = Holds-from name (row a k) at.held in
+    let was : is_reached a k ≡ true = s.reached k at.low at.high in
+    subst (λ (n : List ℕ). is_clear_to (has_free a) (k / 16) (way_of a n) ≡ true) h.same (clear_of (is_entry (row a k)) _ was h.entry)
+
+ready_same : (a : List ℕ) (good : Good Narrow a) (name : List ℕ) (k to : ℕ) → IsSlotOf a name k → to ≡ k → Ready a name k to
+ready_same a good name k to at same =
+    record {
+      low = subst (λ (j : ℕ). 1 ≤ j) (sym same) at.low;
+      high = subst (λ (j : ℕ). j < 16 * index_of a) (sym same) at.high;
+      alone = λ j low high other. false_from_ne_true _ (λ h. other (one_slot a good name j k low high at.low at.high h at.held));
+      vacant = λ other. absurd (other same);
+      clear = subst (λ (j : ℕ). is_clear_to (has_free a) (j / 16) (way_of a name) ≡ true) (sym same) (clear_way a good name k at);
+    }
+
+ready_other : (a : List ℕ) (good : Good Narrow a) (name : List ℕ) (k to : ℕ) → slot_of a name ≡ None → place a name ≡ Some to → Ready a name k to
+ready_other a good name k to none free =
+    let w = Placed-from a good name to free in
+    record {
+      low = w.low;
+      high = w.high;
+      alone = λ j low high other. slot_missed a name none j low high;
+      vacant = λ other. free_is_none (row a to) w.free;
+      clear = w.clear;
+    }
+
+by_name : (a : List ℕ) (good : Good Narrow a) (old name : List ℕ) (k to : ℕ) (same : Bool) → bytes_eq old name ≡ same → slot_of a old ≡ Some k → (not same && is_some (slot_of a name)) ≡ false → cond same (slot_of a old) (place a name) ≡ Some to → Ready a name k to
+by_name a good old name k to true e is taken goes =
+    let one : old ≡ name = (bytes_eq-Decides old name).0 e in
+    let kept : to ≡ k = (let w : Some to ≡ Some k = sym goes ∙ is in cc) in
+    ready_same a good name k to (subst (λ (n : List ℕ). IsSlotOf a n k) one (IsSlotOf-from a old k is)) kept
+by_name a good old name k to false e is taken goes = ready_other a good name k to (slot_none a name taken) goes
+
+pub Ready-from : (a : List ℕ) (good : Good Narrow a) (old name : List ℕ) (k to : ℕ) → slot_of a old ≡ Some k → (not (bytes_eq old name) && is_some (slot_of a name)) ≡ false → reused_place a old name ≡ Some to → Ready a name k to
+Ready-from a good old name k to is taken goes = by_name a good old name k to (bytes_eq old name) refl is taken goes
+
+-- the two rows put in place make that image
+pub reused_made : (a gone slot name : List ℕ) (k to start end : ℕ) (program : Bool) → gone ≡ gone_slot → slot ≡ file_slot program start end name → start ≡ start_of Narrow (row a k) → end ≡ end_of Narrow (row a k) → put_row (put_row a k gone) to slot ≡ reused a k to name program
+unfolding reused
+reused_made a gone slot name k to start end program gone_is slot_is start_is end_is = rw (slot_is, gone_is, start_is, end_is) refl
+
+pub gone_index-same : (a : List ℕ) (good : Good Narrow a) (old : List ℕ) (k : ℕ) → IsSlotOf a old k → index_of (put_row a k gone_slot) ≡ index_of a
+gone_index-same a good old k at = put_index_same a good k at.low at.high gone_slot gone_long

@@ -1,0 +1,16 @@
+use Rattle.std.proofs.Common.{Some, ap, ◌∙◌, sym}
+use Rattle.std.specs.Option.{option_map}
+use Rattle.b2_catalog.specs.Catalogue.{entry_at}
+use Rattle.b2_catalog.proofs.Mapping.{get-catalogue}
+use Rattle.b2_catalog.proofs.lookup.look.Goals as goal
+
+pub returns-in_err-k-clause-entry : goal.returns-in_err-k-clause-entry
+returns-in_err-k-clause-entry c =
+    c.from_residual.ensures ∙ sym (get-catalogue c.args.p.now c.args.name ∙ ap (option_map (entry_at c.args.p.now)) (sym c.in_err-k.ensures.slot))
+
+pub entry_at-requires : goal.entry_at-requires
+entry_at-requires c = c.in_ok-k.ensures.held
+
+pub returns-clause-entry : goal.returns-clause-entry
+returns-clause-entry c =
+    ap Some c.entry_at.ensures.value ∙ sym (get-catalogue c.args.p.now c.args.name ∙ ap (option_map (entry_at c.args.p.now)) (sym c.in_ok-k.ensures.slot))

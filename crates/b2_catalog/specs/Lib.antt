@@ -1,0 +1,5 @@
+pub mod Catalogue
+pub mod Ways
+pub mod Changes
+pub mod Calls
+pub mod Listing

@@ -1,0 +1,59 @@
+//! The canonical source of lines.
+//!
+//! Stands on `b2_atom`, whose walk over the language's table writes the source of a line of atoms, and on `b2_base`.
+//!
+//! `list` appends a line's number, a blank and its source. The definition is `listing` in `specs/Listing.antt`.
+#![tactic(auto)]
+
+ghost use Rattle.std.specs.Prelude.{◌≡◌, ◌++◌, OnOk, OnErr};
+ghost use Rattle.b2_lister.specs.Listing.{five_digits, listing};
+ghost use Rattle.b2_atom.specs.Tokens.{without_zeros};
+
+use b2_atom::Atoms;
+use b2_base::NoMemory;
+use std::alloc::Global;
+
+#[cfg(test)]
+mod tests;
+
+// The five digits of a number.
+fn digits(number: u16) -> [u8; 5]
+    ensures { result ≡ five_digits number }
+{
+    [
+        b'0' + (number / 10000) as u8,
+        b'0' + (number / 1000 % 10) as u8,
+        b'0' + (number / 100 % 10) as u8,
+        b'0' + (number / 10 % 10) as u8,
+        b'0' + (number % 10) as u8,
+    ]
+}
+
+// Digits without the zeros at their front, but the last.
+fn without_zeros(digits: &[u8]) -> &[u8]
+    ensures { result.now ≡ without_zeros digits.now }
+{
+    let mut left = digits;
+    while let [b'0', others @ ..] = left {
+        if others.is_empty() {
+            return left;
+        }
+        left = others;
+    }
+    left
+}
+
+/// Appends the number of a line, a blank and its canonical source; after `NoMemory` nothing is appended.
+pub fn list(alloc: Global, line: u16, atoms: &Atoms, into: &mut Vec<u8>) -> Result<(), NoMemory>
+    ensures ok { OnOk result (into.new.items ≡ into.old.items ++ listing line atoms.now) }
+    ensures err { OnErr result (into.new.items ≡ into.old.items) }
+{
+    let digits = digits(line);
+    let source = atoms.source(alloc)?;
+    let mut text = Vec::new(alloc);
+    text.extend_from_slice(without_zeros(&digits))?;
+    text.push(b' ')?;
+    text.extend_from_slice(&source)?;
+    into.extend_from_slice(&text)?;
+    Ok(())
+}

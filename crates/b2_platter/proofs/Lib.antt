@@ -1,0 +1,11 @@
+pub mod Chunks
+pub mod Ranges
+pub mod Walks
+pub mod Rooms
+pub mod Heads
+pub mod Goodness
+pub mod Fresh
+pub mod Soundness
+pub mod Puts
+pub mod Kept
+pub mod Volumes

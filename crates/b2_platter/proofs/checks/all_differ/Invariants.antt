@@ -1,0 +1,9 @@
+use Rattle.std.proofs.Common.{◌≡◌, ◌-◌, ℕ}
+use Rattle.std.specs.List.{range_with_len}
+use Rattle.b2_platter.specs.Image.{row}
+use Rattle.b2_platter.specs.Checks.{differ_in_name, each_two, all_differ}
+use Rattle.b2_platter.proofs.checks.all_differ.Given as goal
+
+abbrev pub invariant-loop-j : goal.invariant-loop-j
+invariant-loop-j l =
+    each_two (λ (j k : ℕ). differ_in_name (row l.bytes j) (row l.bytes k)) (range_with_len l.j (l.j-end - l.j)) ≡ all_differ l.bytes

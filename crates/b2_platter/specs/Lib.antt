@@ -1,0 +1,6 @@
+pub mod Layout
+pub mod Slot
+pub mod Image
+pub mod Checks
+pub mod Edits
+pub mod Volume

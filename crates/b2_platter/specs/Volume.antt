@@ -1,0 +1,62 @@
+-- What an image says, as whole values: a platter's counts, its slots and its sectors. Its spelling is its image.
+use Rattle.std.specs.Prelude.{ℕ, ◌+◌, ◌-◌, Bool, List, ◌∷◌, ◌++◌, map, length, replicate, if◌then◌else◌}
+use Rattle.std.specs.List.{flat_map, range_with_len}
+use Rattle.b2_platter.specs.declared.layout.Layout.{Layout}
+use Rattle.b2_platter.specs.Layout.{third_place}
+use Rattle.b2_platter.specs.Slot.{is_free, is_gone, is_live, is_program, start_of, end_of, name_of}
+use Rattle.b2_platter.specs.Image.{row, sector, index_of, total_of, catalogue_end, next_free, slots_of}
+use Rattle.b2_platter.specs.Edits.{spelled, head_bytes}
+
+-- a file as its slot has it
+pub record File : Type 0 where
+  pub live : Bool
+  pub program : Bool
+  pub start : ℕ
+  pub end : ℕ
+  pub name : List ℕ
+
+-- a slot: never used, given up, or a file's
+pub data Slot : Type 0 where
+  Free : Slot
+  Gone : Slot
+  Of : File → Slot
+
+-- a platter: the index sectors, the first sector behind the catalogue, the next free sector, the slots, and the sectors
+-- behind the index
+pub record Volume : Type 0 where
+  pub index : ℕ
+  pub end : ℕ
+  pub next : ℕ
+  pub slots : List Slot
+  pub sectors : List (List ℕ)
+
+-- the sixteen bytes of a slot
+abbrev pub slot_bytes : Layout → Slot → List ℕ
+slot_bytes layout Free = replicate 16 0
+slot_bytes layout Gone = 18 ∷ replicate 15 0
+slot_bytes layout (Of f) =
+    (if f.live then 16 else 17) ∷ (if f.program then 80 else 68)
+    ∷ (spelled layout f.start ++ spelled layout f.end ++ replicate (8 - third_place layout) 0 ++ f.name)
+
+-- the bytes of a platter: its head, its slots and its sectors, one behind the other
+abbrev pub image : Layout → Volume → List ℕ
+image layout v =
+    head_bytes layout v.index (v.index + length v.sectors) v.end v.next ++ (flat_map (slot_bytes layout) v.slots ++ flat_map (λ s. s) v.sectors)
+
+-- what a row says as a slot
+unfoldable pub slot_of : Layout → List ℕ → Slot
+slot_of layout slot =
+    if is_free slot then Free
+    else (if is_gone slot then Gone
+    else Of (record { live = is_live slot; program = is_program slot; start = start_of layout slot; end = end_of layout slot; name = name_of slot }))
+
+-- what an image says
+abbrev pub volume : Layout → List ℕ → Volume
+volume layout bytes =
+    record {
+      index = index_of bytes;
+      end = catalogue_end layout bytes;
+      next = next_free layout bytes;
+      slots = map (λ k. slot_of layout (row bytes k)) (slots_of (index_of bytes));
+      sectors = map (sector bytes) (range_with_len (index_of bytes) (total_of layout bytes - index_of bytes));
+    }

@@ -1,0 +1,338 @@
+// The nine checks that make an image good.
+ghost use Rattle.std.specs.Prelude.{◌≡◌, ◌+◌, ◌-◌, ◌*◌, ◌/◌, ◌^◌, ◌<◌, ◌≤◌, true, length};
+ghost use Rattle.std.specs.List.{list_all, range_with_len};
+ghost use Rattle.b2_platter.specs.Slot.{is_entry, start_of, end_of};
+ghost use Rattle.b2_platter.specs.Image.{row, index_of, next_free, hash, has_free, around, is_clear_to, first_slot};
+ghost use Rattle.b2_platter.specs.Checks.{is_sized, has_head, is_ordered, lies_in, all_lie_in, all_spelled, differ_in_name, all_differ, is_reached, all_reached, lie_apart, all_apart, is_control, is_controlled, all_controlled, used_of, first_check};
+
+use crate::image::{self, SECTOR_BYTES};
+use crate::{Layout, slot};
+
+/// The first byte of a control sector.
+pub const CONTROL: u8 = 0xA1;
+
+// 1: whole sectors, as many as the layout allows.
+#[tactic(auto, unfolding(crate::specs::Checks::is_sized))]
+fn is_sized(layout: Layout, bytes: &[u8]) -> bool
+    ensures { result ≡ is_sized layout bytes.now }
+{
+    let sectors = bytes.len() / SECTOR_BYTES;
+    bytes.len() % SECTOR_BYTES == 0 && 16 <= sectors && sectors <= layout.most_sectors()
+}
+
+// 2: version, index and total, and 00 behind the head's numbers.
+#[tactic(auto, unfolding(crate::specs::Checks::has_head))]
+fn has_head(layout: Layout, bytes: &[u8]) -> bool
+    requires { 16 ≤ length bytes.now }
+    ensures { result ≡ has_head layout bytes.now }
+{
+    let head = image::row(bytes, 0);
+    head[0] == layout.version()
+        && 1 <= image::index(bytes)
+        && image::total(layout, bytes) as usize == bytes.len() / SECTOR_BYTES
+        && slot::all_zero(&head[2 + 3 * layout.width()..])
+}
+
+// 3: index, files, catalogue and image end in this order.
+#[tactic(auto, unfolding(crate::specs::Checks::is_ordered))]
+fn is_ordered(layout: Layout, bytes: &[u8]) -> bool
+    requires { 16 ≤ length bytes.now }
+    ensures { result ≡ is_ordered layout bytes.now }
+{
+    let next = image::next_free(layout, bytes);
+    let end = image::catalogue_end(layout, bytes);
+    image::index(bytes) <= next as usize && next <= end && end <= image::total(layout, bytes)
+}
+
+// A file lies between the index and the next free sector.
+#[tactic(auto, unfolding(crate::specs::Checks::lies_in))]
+fn lies_in(layout: Layout, index: usize, next: u32, slot: &[u8; 16]) -> bool
+    ensures { result ≡ lies_in layout index next slot.now }
+{
+    if !slot::is_entry(slot) {
+        return true;
+    }
+    let start = slot::start(layout, slot);
+    let end = slot::end(layout, slot);
+    index <= start as usize && start < end && end < next
+}
+
+// 4: each file lies there.
+fn all_lie_in(layout: Layout, bytes: &[u8]) -> bool
+    requires some { 16 ≤ length bytes.now }
+    requires room { 256 * index_of bytes.now ≤ length bytes.now }
+    ensures { result ≡ all_lie_in layout bytes.now }
+{
+    let index = image::index(bytes);
+    let next = image::next_free(layout, bytes);
+    for k in 1..16 * index {
+        if !lies_in(layout, index, next, image::row(bytes, k)) {
+            return false;
+        }
+    }
+    true
+}
+
+// 5: each slot is spelled as its status wants.
+fn all_spelled(layout: Layout, bytes: &[u8]) -> bool
+    requires some { 16 ≤ length bytes.now }
+    requires room { 256 * index_of bytes.now ≤ length bytes.now }
+    ensures { result ≡ all_spelled layout bytes.now }
+{
+    for k in 1..16 * image::index(bytes) {
+        if !slot::is_spelled(layout, image::row(bytes, k)) {
+            return false;
+        }
+    }
+    true
+}
+
+// Two slots are not of two files with one name.
+#[tactic(auto, unfolding(crate::specs::Checks::differ_in_name))]
+fn differ_in_name(slot: &[u8; 16], other: &[u8; 16]) -> bool
+    ensures { result ≡ differ_in_name slot.now other.now }
+{
+    !(slot::is_entry(slot) && slot::is_entry(other) && slot::name(slot) == slot::name(other))
+}
+
+// A slot against all that follow it.
+fn differs_from_later(bytes: &[u8], j: usize) -> bool
+    requires some { 16 ≤ length bytes.now }
+    requires room { 256 * index_of bytes.now ≤ length bytes.now }
+    requires in_index { j < 16 * index_of bytes.now }
+    ensures { result ≡ list_all (λ k. differ_in_name (row bytes.now j) (row bytes.now k)) (range_with_len (j + 1) (16 * index_of bytes.now - (j + 1))) }
+{
+    let slot = image::row(bytes, j);
+    for k in j + 1..16 * image::index(bytes) {
+        if !differ_in_name(slot, image::row(bytes, k)) {
+            return false;
+        }
+    }
+    true
+}
+
+// 6: no two files have one name.
+fn all_differ(bytes: &[u8]) -> bool
+    requires some { 16 ≤ length bytes.now }
+    requires room { 256 * index_of bytes.now ≤ length bytes.now }
+    ensures { result ≡ all_differ bytes.now }
+{
+    for j in 1..16 * image::index(bytes) {
+        if !differs_from_later(bytes, j) {
+            return false;
+        }
+    }
+    true
+}
+
+/// The first slot of an index sector: the head stands before those of sector 0.
+pub fn first_slot(s: usize) -> usize
+    requires { 16 * s < 2 ^ 64 }
+    ensures value { result ≡ first_slot s }
+    ensures in_sector { result ≤ 16 * s + 1 }
+{
+    if s == 0 { 1 } else { 16 * s }
+}
+
+/// Whether an index sector has a free slot.
+#[tactic(auto, unfolding(crate::specs::Image::has_free))]
+pub fn has_free(bytes: &[u8], s: usize) -> bool
+    requires { 256 * s + 256 ≤ length bytes.now }
+    ensures { result ≡ has_free bytes.now s }
+{
+    for k in first_slot(s)..16 * s + 16 {
+        if slot::is_free(image::row(bytes, k)) {
+            return true;
+        }
+    }
+    false
+}
+
+// Whether no sector before this one, from the first on, has a free slot.
+fn is_clear_to(bytes: &[u8], own: usize, first: usize) -> bool
+    requires within { first < index_of bytes.now }
+    requires room { 256 * index_of bytes.now ≤ length bytes.now }
+    ensures { result ≡ is_clear_to (has_free bytes.now) own (around (index_of bytes.now) first) }
+{
+    let index = image::index(bytes);
+    for j in 0..index {
+        let s = (first + j) % index;
+        if s == own {
+            return true;
+        }
+        if has_free(bytes, s) {
+            return false;
+        }
+    }
+    true
+}
+
+/// The index sector at which the look-up of a name begins: the sum of its eight bytes, by the number of index sectors.
+pub fn hash(index: usize, name: &[u8]) -> usize
+    requires some { 1 ≤ index }
+    requires len { length name.now ≡ 8 }
+    ensures value { result ≡ hash index name.now }
+    ensures within { result < index }
+{
+    let mut sum = 0;
+    for b in name {
+        sum += usize::from(*b);
+    }
+    sum % index
+}
+
+// The file of a slot is found from its hash on.
+#[tactic(auto, unfolding(crate::specs::Checks::is_reached))]
+fn is_reached(bytes: &[u8], k: usize) -> bool
+    requires some { 1 ≤ index_of bytes.now }
+    requires room { 256 * index_of bytes.now ≤ length bytes.now }
+    requires in_index { k < 16 * index_of bytes.now }
+    ensures { result ≡ is_reached bytes.now k }
+{
+    let slot = image::row(bytes, k);
+    !slot::is_entry(slot) || is_clear_to(bytes, k / 16, hash(image::index(bytes), slot::name(slot)))
+}
+
+// 7: each file is found so.
+fn all_reached(bytes: &[u8]) -> bool
+    requires some { 1 ≤ index_of bytes.now }
+    requires room { 256 * index_of bytes.now ≤ length bytes.now }
+    ensures { result ≡ all_reached bytes.now }
+{
+    for k in 1..16 * image::index(bytes) {
+        if !is_reached(bytes, k) {
+            return false;
+        }
+    }
+    true
+}
+
+// Two slots are not of two files that share a sector.
+#[tactic(auto, unfolding(crate::specs::Checks::lie_apart))]
+fn lie_apart(layout: Layout, slot: &[u8; 16], other: &[u8; 16]) -> bool
+    ensures { result ≡ lie_apart layout slot.now other.now }
+{
+    !(slot::is_entry(slot)
+        && slot::is_entry(other)
+        && slot::start(layout, slot) <= slot::end(layout, other)
+        && slot::start(layout, other) <= slot::end(layout, slot))
+}
+
+// A slot against all that follow it.
+fn lies_apart_from_later(layout: Layout, bytes: &[u8], j: usize) -> bool
+    requires some { 16 ≤ length bytes.now }
+    requires room { 256 * index_of bytes.now ≤ length bytes.now }
+    requires in_index { j < 16 * index_of bytes.now }
+    ensures { result ≡ list_all (λ k. lie_apart layout (row bytes.now j) (row bytes.now k)) (range_with_len (j + 1) (16 * index_of bytes.now - (j + 1))) }
+{
+    let slot = image::row(bytes, j);
+    for k in j + 1..16 * image::index(bytes) {
+        if !lie_apart(layout, slot, image::row(bytes, k)) {
+            return false;
+        }
+    }
+    true
+}
+
+// 8: no two files share a sector.
+fn all_apart(layout: Layout, bytes: &[u8]) -> bool
+    requires some { 16 ≤ length bytes.now }
+    requires room { 256 * index_of bytes.now ≤ length bytes.now }
+    ensures { result ≡ all_apart layout bytes.now }
+{
+    for j in 1..16 * image::index(bytes) {
+        if !lies_apart_from_later(layout, bytes, j) {
+            return false;
+        }
+    }
+    true
+}
+
+/// How many sectors a control sector says are used.
+#[tactic(auto, unfolding(crate::specs::Checks::used_of))]
+pub fn used(layout: Layout, control: &[u8; 256]) -> u32
+    ensures { result ≡ used_of layout control.now }
+{
+    layout.number(control, 1)
+}
+
+// A control sector that says from 1 to so many sectors are used.
+#[tactic(auto, unfolding(crate::specs::Checks::is_control))]
+fn is_control(layout: Layout, most: u32, control: &[u8; 256]) -> bool
+    ensures { result ≡ is_control layout most control.now }
+{
+    let used = used(layout, control);
+    control[0] == CONTROL
+        && 1 <= used
+        && used <= most
+        && slot::all_zero(&control[1 + layout.width()..])
+}
+
+// The last sector of the slot's file is its control sector.
+#[tactic(auto, unfolding(crate::specs::Checks::is_controlled))]
+fn is_controlled(layout: Layout, bytes: &[u8], slot: &[u8; 16]) -> bool
+    requires order { is_entry slot.now ≡ true → start_of layout slot.now < end_of layout slot.now }
+    requires room { is_entry slot.now ≡ true → 256 * end_of layout slot.now + 256 ≤ length bytes.now }
+    ensures { result ≡ is_controlled layout bytes.now slot.now }
+{
+    if !slot::is_entry(slot) {
+        return true;
+    }
+    let end = slot::end(layout, slot);
+    is_control(
+        layout,
+        end - slot::start(layout, slot),
+        image::sector(bytes, end as usize),
+    )
+}
+
+// 9: the last sector of each file is its control sector.
+fn all_controlled(layout: Layout, bytes: &[u8]) -> bool
+    requires some { 16 ≤ length bytes.now }
+    requires room { 256 * index_of bytes.now ≤ length bytes.now }
+    requires ends { 256 * next_free layout bytes.now ≤ length bytes.now }
+    requires files { all_lie_in layout bytes.now ≡ true }
+    ensures { result ≡ all_controlled layout bytes.now }
+{
+    for k in 1..16 * image::index(bytes) {
+        if !is_controlled(layout, bytes, image::row(bytes, k)) {
+            return false;
+        }
+    }
+    true
+}
+
+/// The first of the nine checks that the bytes fail, None where they are a good image.
+#[tactic(auto, unfolding(crate::specs::Checks::first_check), using(crate::proofs::Rooms::rooms))]
+pub fn first_check(layout: Layout, bytes: &[u8]) -> Option<u8>
+    ensures { result ≡ first_check layout bytes.now }
+{
+    if !is_sized(layout, bytes) {
+        return Some(1);
+    }
+    if !has_head(layout, bytes) {
+        return Some(2);
+    }
+    if !is_ordered(layout, bytes) {
+        return Some(3);
+    }
+    if !all_lie_in(layout, bytes) {
+        return Some(4);
+    }
+    if !all_spelled(layout, bytes) {
+        return Some(5);
+    }
+    if !all_differ(bytes) {
+        return Some(6);
+    }
+    if !all_reached(bytes) {
+        return Some(7);
+    }
+    if !all_apart(layout, bytes) {
+        return Some(8);
+    }
+    if !all_controlled(layout, bytes) {
+        return Some(9);
+    }
+    None
+}
