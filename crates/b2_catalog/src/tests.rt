@@ -1,9 +1,11 @@
 // The catalogue of small disks: names by their hashes, the index when it is full, and what the calls answer.
+ghost use Rattle.std.specs.Prelude.{◌≡◌, ◌<◌};
+
 use crate::{Entry, enter, find, format, limits, listing, look, reuse, scratch, set_used};
 use b2_base::codes::Code;
 use b2_base::{Name8, NoMemory, Steps};
 use b2_platter::Platter;
-use std::alloc::{AllocError, Global};
+use std::alloc::Global;
 use std::marker::Brand;
 use std::sync::ledger::{Blank, Ledger};
 use std::test::Fail;
