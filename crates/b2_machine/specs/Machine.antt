@@ -1,5 +1,5 @@
 -- The machine of one partition at one terminal: its state, a step and a turn.
-use Rattle.std.specs.Prelude.{ℕ, suc, zero, ◌+◌, ◌/◌, ◌%◌, nat_lt, List, [], ◌∷◌, ◌++◌, length, set, replicate, codes, Option, Some, None, Result, Ok, Err, if◌then◌else◌, slice_get}
+use Rattle.std.specs.Prelude.{ℕ, suc, zero, ◌+◌, ◌/◌, ◌%◌, ◌==◌, nat_lt, List, [], ◌∷◌, ◌++◌, length, map, set, replicate, codes, Option, Some, None, Result, Ok, Err, if◌then◌else◌, slice_get}
 use Rattle.std.specs.Fmt.{decimal}
 use Rattle.b2_base.specs.Codes.{class_of}
 use Rattle.b2_base.specs.declared.codes.TheConstants.{S14_STATEMENT, P36_NO_LINE}
@@ -10,7 +10,17 @@ use Rattle.b2_term.specs.declared.Read.{Read}
 use Rattle.b2_term.specs.declared.Read.TheVariants as read
 use Rattle.b2_machine.specs.Program.{Lines, put_line, line_at, first_line, next_line}
 use Rattle.b2_machine.specs.Syntax.{entry_of}
-use Rattle.b2_machine.specs.Value.{value_of, printed}
+use Rattle.b2_machine.specs.Value.{value_of, ◌>>=◌}
+use Rattle.b2_print.specs.Columns.{column_after}
+use Rattle.b2_print.specs.Layout.{layout}
+use Rattle.b2_print.specs.declared.layout.Item.{Item}
+use Rattle.b2_print.specs.declared.layout.Item.TheVariants as item
+use Rattle.b2_dec.specs.declared.number.Mode.{Mode}
+use Rattle.b2_dec.specs.declared.number.Mode.TheVariants.{Round}
+use Rattle.b2_machine.specs.declared.solo.Printed.{Printed}
+use Rattle.b2_machine.specs.declared.solo.Printed.TheVariants as printed
+use Rattle.b2_machine.specs.declared.syntax.PrintItem.{PrintItem}
+use Rattle.b2_machine.specs.declared.syntax.PrintItem.TheVariants as printing
 use Rattle.b2_machine.specs.declared.syntax.Statement.{Statement}
 use Rattle.b2_machine.specs.declared.syntax.Statement.TheVariants as statement
 use Rattle.b2_machine.specs.declared.syntax.Entry.{Entry}
@@ -24,9 +34,12 @@ use Rattle.b2_machine.specs.declared.solo.Request.TheVariants as request
 use Rattle.b2_machine.specs.declared.solo.StepEnd.{StepEnd}
 use Rattle.b2_machine.specs.declared.solo.StepEnd.TheVariants as ends
 
--- The terminal, the values of A to Z, the program, the immediate line, output that is to be shown, and what is done next.
+-- The terminal with the column that its next byte goes to, how results are rounded, the values of A to Z, the program,
+-- the immediate line, output that is to be shown, and what is done next.
 pub record SoloState : Type 0 where
   pub terminal : TerminalState
+  pub column : ℕ
+  pub mode : Mode
   pub variables : List Number
   pub lines : Lines
   pub immediate : List Statement
@@ -72,21 +85,46 @@ goes_on (Immediate unit) size s = if nat_lt (unit + 1) size then goes_to (Immedi
 goes_on (Program line unit) size s = if nat_lt (unit + 1) size then goes_to (Program line (unit + 1)) s else to_line (next_line line s.lines) s
 
 abbrev pub shows : List ℕ → SoloState → SoloState
-shows text s = record s { terminal = record s.terminal { transcript = s.terminal.transcript ++ text } }
+shows text s = record s { terminal = record s.terminal { transcript = s.terminal.transcript ++ text }; column = column_after s.column text }
 
--- what a value is asked for, or its code
-abbrev pub asked : (Number → Request) → Result Number ℕ → Request
+-- pending output goes on a line of its own
+abbrev pub on_new_line : List ℕ → SoloState → List ℕ
+on_new_line text s = if s.column == 0 then text else 10 ∷ text
+
+-- an item of PRINT with its value
+abbrev pub item_of : List Number → Mode → PrintItem → Result Printed ℕ
+item_of variables mode (printing.Value os) = value_of variables mode os >>= (λ x. Ok (printed.Number x))
+item_of variables mode printing.Zone = Ok printed.Zone
+item_of variables mode printing.Line = Ok printed.Line
+
+-- the items of PRINT with their values, or the first code
+abbrev pub items_of : List Number → Mode → List PrintItem → Result (List Printed) ℕ
+items_of variables mode [] = Ok []
+items_of variables mode (i ∷ is) = item_of variables mode i >>= (λ x. items_of variables mode is >>= (λ xs. Ok (x ∷ xs)))
+
+-- and as they are laid out
+abbrev pub item_for : Printed → Item
+item_for (printed.Number x) = item.Number x
+item_for printed.Zone = item.Zone
+item_for printed.Line = item.Line
+
+-- the width of the terminal
+abbrev pub width : ℕ
+width = 80
+
+-- what is asked for by a value, or its code
+abbrev pub asked : {A : Type 0} → (A → Request) → Result A ℕ → Request
 asked f (Ok x) = f x
 asked f (Err code) = request.Fail code
 
--- what a statement asks for
-abbrev pub plan : List Number → Statement → Request
-plan variables (statement.Print ts) = asked (λ x. request.Show (printed x ++ 10 ∷ [])) (value_of variables ts)
-plan variables statement.PrintLine = request.Show (10 ∷ [])
-plan variables (statement.Let letter ts) = asked (request.Assign letter) (value_of variables ts)
-plan variables (statement.Goto n) = request.Jump n
-plan variables statement.End = request.End
-plan variables statement.Run = request.Run
+-- what a statement asks for, at a column
+abbrev pub plan : List Number → Mode → ℕ → Statement → Request
+plan variables mode column (statement.Print is) = asked (λ xs. request.Show (layout width column (map item_for xs))) (items_of variables mode is)
+plan variables mode column (statement.Let letter os) = asked (request.Assign letter) (value_of variables mode os)
+plan variables mode column (statement.Goto n) = request.Jump n
+plan variables mode column statement.End = request.End
+plan variables mode column statement.Run = request.Run
+plan variables mode column (statement.Select chosen) = request.Select chosen
 
 abbrev pub jumps : Option (List Statement) → ℕ → Place → SoloState → Stepped
 jumps None n place s = fails P36_NO_LINE place s
@@ -100,6 +138,7 @@ abbrev pub does : Request → Place → ℕ → SoloState → Stepped
 does (request.Show text) place size s = goes_on place size (shows text s)
 does (request.Assign letter x) place size s = goes_on place size (record s { variables = set s.variables letter x })
 does (request.Jump n) place size s = jumps (line_at n s.lines) n place s
+does (request.Select chosen) place size s = goes_on place size (record s { mode = chosen })
 does request.End place size s = stops [] s
 does request.Run place size s = to_line (first_line s.lines) (record s { variables = no_values })
 does (request.Fail code) place size s = fails code place s
@@ -119,7 +158,7 @@ line_of place s = line_in s.immediate s.lines place
 -- a statement that isn't there ends the program or the immediate line
 abbrev pub performs_unit : Option Statement → Place → ℕ → SoloState → Stepped
 performs_unit None place size s = stops [] s
-performs_unit (Some statement) place size s = does (plan s.variables statement) place size s
+performs_unit (Some statement) place size s = does (plan s.variables s.mode s.column statement) place size s
 
 abbrev pub performs_in : Option (List Statement) → Place → SoloState → Stepped
 performs_in None place s = stops [] s
@@ -137,7 +176,7 @@ enters (entry.Numbered n statements) s = record s { doing = Entering n statement
 enters entry.Wrong s = record s { pending = Some (wrong_text ++ 58 ∷ []) }
 
 abbrev pub reads : Read → SoloState → Stepped
-reads (read.Line bytes) s = record { after = enters (entry_of bytes) s; end = ends.GoesOn }
+reads (read.Line bytes) s = record { after = enters (entry_of bytes) (record s { column = 0 }); end = ends.GoesOn }
 reads (read.Special n) s = record { after = s; end = ends.GoesOn }
 reads read.NoKeys s = record { after = s; end = ends.NoKeys }
 
@@ -149,9 +188,9 @@ acts (Running place) s = performs_in (line_of place s) place s
 
 abbrev pub step_by : Option (List ℕ) → SoloState → Stepped
 step_by None s = acts s.doing s
-step_by (Some text) s = record { after = record (shows text s) { pending = None }; end = ends.GoesOn }
+step_by (Some text) s = record { after = record (shows (on_new_line text s) s) { pending = None }; end = ends.GoesOn }
 
--- one step: output that is to be shown comes first
+-- one step: output that is to be shown comes first, and what was read sets the column to 0
 abbrev pub step : SoloState → Stepped
 step s = step_by s.pending s
 
@@ -178,6 +217,8 @@ turned (suc quota) s steps = by_end (step s).end
 abbrev pub started : SoloState
 started = record {
   terminal = record { queue = []; front = 1; line = []; transcript = [] };
+  column = 0;
+  mode = Round;
   variables = no_values;
   lines = [];
   immediate = [];

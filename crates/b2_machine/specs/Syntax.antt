@@ -1,70 +1,25 @@
 -- What a typed line says.
-use Rattle.std.specs.Prelude.{ℕ, ◌+◌, ◌-◌, ◌*◌, ◌<◌, ◌≤◌, ◌^◌, Bool, false, ◌&&◌, ◌||◌, ◌==◌, nat_le, nat_lt, nat_eq, min, List, [], ◌∷◌, map, length, take, drop, codes, Option, Some, None, option_map, option_and_then, if◌then◌else◌}
+use Rattle.std.specs.Prelude.{ℕ, zero, suc, ◌+◌, ◌-◌, ◌*◌, ◌<◌, ◌≤◌, ◌^◌, Bool, false, ◌&&◌, ◌||◌, ◌==◌, nat_le, nat_lt, nat_eq, min, List, [], ◌∷◌, ◌++◌, map, length, take, drop, codes, Option, Some, None, option_map, option_and_then, if◌then◌else◌}
 use Rattle.std.specs.Option.{option_map_or}
 use Rattle.std.specs.Cmp.Lexicographic.{pointwise}
 use Rattle.b2_base.specs.Names.{is_digit, is_upper}
 use Rattle.b2_base.specs.Pieces.{pieces}
-use Rattle.b2_machine.specs.Number.{whole_number}
-use Rattle.b2_machine.specs.declared.syntax.Begun.{Begun}
-use Rattle.b2_machine.specs.declared.syntax.Begun.TheVariants.{Nothing, Name, Digits, Ended}
-use Rattle.b2_machine.specs.declared.syntax.Operand.{Operand}
-use Rattle.b2_machine.specs.declared.syntax.Operand.TheVariants.{Letter, Number}
-use Rattle.b2_machine.specs.declared.syntax.Term.{Term}
+use Rattle.b2_dec.specs.declared.number.Mode.TheVariants.{Round, Cut}
+use Rattle.b2_machine.specs.Blanks.{skipped, is_blank}
+use Rattle.b2_machine.specs.Expression.{expression}
+use Rattle.b2_machine.specs.declared.expression.Operation.{Operation}
+use Rattle.b2_machine.specs.declared.syntax.Last.{Last}
+use Rattle.b2_machine.specs.declared.syntax.Last.TheVariants as last
+use Rattle.b2_machine.specs.declared.syntax.PrintItem.{PrintItem}
+use Rattle.b2_machine.specs.declared.syntax.PrintItem.TheVariants.{Value, Zone, Line}
 use Rattle.b2_machine.specs.declared.syntax.Statement.{Statement}
-use Rattle.b2_machine.specs.declared.syntax.Statement.TheVariants.{Print, PrintLine, Let, Goto, End, Run}
+use Rattle.b2_machine.specs.declared.syntax.Statement.TheVariants.{Print, Let, Goto, End, Run, Select}
 use Rattle.b2_machine.specs.declared.syntax.Entry.{Entry}
 use Rattle.b2_machine.specs.declared.syntax.Entry.TheVariants.{Empty, Immediate, Numbered, Wrong}
 
 -- lower case is read as upper case
 abbrev pub upper : ℕ → ℕ
 upper b = if nat_le 97 b && nat_le b 122 then b - 32 else b
-
--- blanks are skipped before an item
-abbrev pub skipped : List ℕ → List ℕ
-skipped [] = []
-skipped (b ∷ bs) = if b == 32 then skipped bs else b ∷ bs
-
-abbrev pub is_blank : List ℕ → Bool
-is_blank text = length (skipped text) == 0
-
--- the operand that ends here
-abbrev pub whole : Begun → Option Operand
-whole Nothing = None
-whole (Name letter) = Some (Letter letter)
-whole (Digits n count) = Some (Number (whole_number n))
-whole (Ended operand) = Some operand
-
--- an operand that a blank ends
-abbrev pub ended : ℕ → Begun → Option Begun
-ended b begun = if b == 32 then option_map Ended (whole begun) else None
-
--- an operand with one more byte: a letter, or one to thirteen digits
-abbrev pub taken : Begun → ℕ → Option Begun
-taken Nothing b =
-    if b == 32 then Some Nothing
-    else (if is_upper b then Some (Name (b - 65)) else (if is_digit b then Some (Digits (b - 48) 1) else None))
-taken (Digits n count) b =
-    if is_digit b then (if nat_lt count 13 then Some (Digits (n * 10 + (b - 48)) (count + 1)) else None)
-    else ended b (Digits n count)
-taken (Name letter) b = ended b (Name letter)
-taken (Ended operand) b = ended b (Ended operand)
-
--- the digits read fit their count
-abbrev pub IsBounded : Begun → Type 0
-IsBounded Nothing = Unit {0}
-IsBounded (Name letter) = Unit {0}
-IsBounded (Digits n count) = (n < 10 ^ count) × (count ≤ 13)
-IsBounded (Ended operand) = Unit {0}
-
-abbrev pub signed : Bool → Operand → Term
-signed minus operand = record { minus = minus; operand = operand }
-
--- operands joined by `+` and `-`, from one that is begun and its sign
-abbrev pub terms : Bool → Begun → List ℕ → Option (List Term)
-terms minus begun [] = option_map (λ o. signed minus o ∷ []) (whole begun)
-terms minus begun (b ∷ bs) =
-    if (b == 43) || (b == 45) then option_and_then (λ o. option_map (λ ts. signed minus o ∷ ts) (terms (b == 45) Nothing bs)) (whole begun)
-    else option_and_then (λ more. terms minus more bs) (taken begun b)
 
 -- what follows a word
 abbrev pub strip : List ℕ → List ℕ → Option (List ℕ)
@@ -84,15 +39,62 @@ line_number_from n count (b ∷ bs) =
 abbrev pub line_number_of : List ℕ → Option ℕ
 line_number_of text = line_number_from 0 0 (skipped text)
 
+-- an expression and then nothing but blanks
+abbrev pub alone : List Operation × List ℕ → Option (List Operation)
+alone r = if is_blank r.1 then Some r.0 else None
+
+abbrev pub expression_alone : List ℕ → Option (List Operation)
+expression_alone text = option_and_then alone (expression text)
+
+-- at its end a PRINT shows a newline, but behind a separator
+abbrev pub print_end : Last → List PrintItem
+print_end last.Nothing = Line ∷ []
+print_end last.Separator = []
+print_end last.Item = Line ∷ []
+
+-- items that stand first, what the last of them is, and what follows them
+abbrev pub First : Type 0
+First = Option (List PrintItem × Last × List ℕ)
+
+abbrev pub value_item : List ℕ → First
+value_item text = option_map (λ r. (Value r.0 ∷ [], last.Item, r.1)) (expression text)
+
+-- a value, which stands first or behind a separator
+abbrev pub value_first : Last → List ℕ → First
+value_first last.Nothing text = value_item text
+value_first last.Separator text = value_item text
+value_first last.Item text = None
+
+-- a separator or a value, from its first byte
+abbrev pub item_first : Last → List ℕ → First
+item_first l [] = None
+item_first l (b ∷ bs) =
+    if b == 59 then Some ([], last.Separator, bs)
+    else (if b == 44 then Some (Zone ∷ [], last.Separator, bs) else value_first l (b ∷ bs))
+
+-- what stands first, and then the items of what follows
+abbrev pub items_behind : First → (Last → List ℕ → Option (List PrintItem)) → Option (List PrintItem)
+items_behind None more = None
+items_behind (Some f) more = option_map (λ is. f.0 ++ is) (more f.1 f.2)
+
+abbrev pub items_first : Last → List ℕ → (Last → List ℕ → Option (List PrintItem)) → Option (List PrintItem)
+items_first l [] more = Some (print_end l)
+items_first l (b ∷ bs) more = items_behind (item_first l (b ∷ bs)) more
+
+-- the items of a text, behind what was read last; each takes at least one byte of those that are left
+unfoldable pub print_items : ℕ → Last → List ℕ → Option (List PrintItem)
+print_items zero l text = Some (print_end l)
+print_items (suc n) l text = items_first l (skipped text) (print_items n)
+
 -- what follows PRINT
 abbrev pub print_of : List ℕ → Option Statement
-print_of text = if is_blank text then Some PrintLine else option_map Print (terms false Nothing text)
+print_of text = option_map Print (print_items (length text) last.Nothing text)
 
 -- an assignment to a letter, from its first byte and what follows
 abbrev pub let_from : List ℕ → Option Statement
 let_from [] = None
 let_from (letter ∷ bs) =
-    if is_upper letter then option_and_then (λ rest. option_map (Let (letter - 65)) (terms false Nothing rest)) (strip (61 ∷ []) (skipped bs)) else None
+    if is_upper letter then option_and_then (λ rest. option_map (Let (letter - 65)) (expression_alone rest)) (strip (61 ∷ []) (skipped bs)) else None
 
 abbrev pub let_of : List ℕ → Option Statement
 let_of text = let_from (skipped text)
@@ -101,13 +103,20 @@ abbrev pub or_else : {A B : Type 0} → Option A → (A → Option B) → Option
 or_else None f g = g
 or_else (Some x) f g = f x
 
--- one statement: PRINT, GOTO, END, or an assignment with or without LET
+-- what follows SELECT: how results are rounded
+abbrev pub select_of : List ℕ → Option Statement
+select_of text =
+    if word_alone (codes "ROUND") text then Some (Select Round)
+    else option_and_then (λ rest. if word_alone (codes "ROUND") rest then Some (Select Cut) else None) (strip (codes "NO") (skipped text))
+
+-- one statement: PRINT, GOTO, SELECT, END, or an assignment with or without LET
 abbrev pub statement_from : List ℕ → Option Statement
 statement_from text =
     or_else (strip (codes "PRINT") text) print_of
     (or_else (strip (codes "GOTO") text) (λ rest. option_map Goto (line_number_of rest))
+    (or_else (strip (codes "SELECT") text) select_of
     (if word_alone (codes "END") text then Some End
-    else or_else (strip (codes "LET") text) let_of (let_of text)))
+    else or_else (strip (codes "LET") text) let_of (let_of text))))
 
 abbrev pub statement_of : List ℕ → Option Statement
 statement_of text = statement_from (skipped text)

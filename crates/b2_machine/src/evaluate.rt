@@ -1,84 +1,100 @@
-// The value of an expression, and its printed form.
-ghost use Rattle.std.specs.Prelude.{◌≡◌, ◌≤◌, ◌<◌, ◌∷◌, [], ◌++◌, IfOk, OnOk};
-ghost use Rattle.std.specs.Fmt.{decimal};
-ghost use Rattle.b2_machine.specs.Number.{within_13, whole_part};
-ghost use Rattle.b2_machine.specs.Value.{operand_value, term_added, value_of, printed};
+// The value of an expression.
+ghost use Rattle.std.specs.Prelude.{◌≡◌, ◌++◌, ◌∷◌, [], MatchResult, OnOk, get_or, Ok};
+ghost use Rattle.b2_dec.specs.Number.{zero_number};
+ghost use Rattle.b2_machine.specs.Value.{top_of, under, power_by, join_of, applied, value_of};
+ghost use Rattle.b2_machine.specs.Outcomes.{Refuses};
 
-use crate::{Operand, Term};
-use b2_base::codes::C61_OVERFLOW;
-use b2_base::{Code, NoMemory};
-use b2_dec::{Dec, Mode, add, sub};
+use crate::expression::{Operation, Operator};
+use b2_base::codes::C65_EXPONENT;
+use b2_base::{Code, Fault, NoMemory};
+use b2_dec::{Dec, Mode, add, div, mul, power, sub, whole};
 use std::alloc::Global;
 
-// A sum of whole numbers, which may have thirteen digits before the point.
-fn within_13(sum: Dec) -> Result<Dec, Code>
-    ensures { result ≡ within_13 (Ok sum) }
+// Takes the top of a stack; 0 stands for none.
+fn pop(stack: &mut Vec<Dec>) -> Dec
+    ensures top { result ≡ top_of stack.old.items }
+    ensures rest { stack.new.items ≡ under stack.old.items }
 {
-    if sum.exponent() <= 12 {
-        Ok(sum)
-    } else {
-        Err(Code::known(C61_OVERFLOW))
-    }
+    stack.pop().unwrap_or(Dec::zero())
 }
 
-// The value of an operand.
-fn operand_value(variables: &[Dec], operand: Operand) -> Dec
-    ensures { result ≡ operand_value variables.now operand }
+fn push(stack: &mut Vec<Dec>, n: Dec) -> Result<(), NoMemory>
+    ensures { OnOk result (stack.new.items ≡ stack.old.items ++ n ∷ []) }
 {
-    match operand {
-        Operand::Number(n) => n,
-        Operand::Letter(letter) => match variables.get(usize::from(letter)) {
-            Some(n) => *n,
-            None => Dec::zero(),
-        },
-    }
-}
-
-// A total with one more operand.
-fn add_term(variables: &[Dec], total: Dec, term: &Term) -> Result<Dec, Code>
-    ensures { result ≡ term_added variables.now total term.now }
-{
-    let n = operand_value(variables, term.operand);
-    let sum = if term.minus {
-        sub(total, n, Mode::Round)?
-    } else {
-        add(total, n, Mode::Round)?
-    };
-    within_13(sum)
-}
-
-/// What operands add up to, or the code of the first sum that is too large.
-pub fn value(variables: &[Dec], terms: &[Term]) -> Result<Dec, Code>
-    ensures { result ≡ value_of variables.now terms.now }
-{
-    let mut total = Dec::zero();
-    for term in terms {
-        total = add_term(variables, total, term)?;
-    }
-    Ok(total)
-}
-
-// The whole part of a number's size.
-fn whole_part(n: Dec) -> u64
-    ensures { result ≡ whole_part n }
-{
-    let dropped = 12 - n.exponent();
-    if dropped <= 0 {
-        return n.coefficient();
-    }
-    match 10u64.checked_pow(dropped as u32) {
-        Some(divisor) => n.coefficient() / divisor,
-        None => 0,
-    }
-}
-
-/// Adds the printed form of a number.
-pub fn print(n: Dec, alloc: Global, out: &mut Vec<u8>) -> Result<(), NoMemory>
-    ensures { OnOk result (out.new.items ≡ out.old.items ++ printed n) }
-{
-    out.push(if n.is_negative() { b'-' } else { b' ' })?;
-    let digits = whole_part(n).to_string(alloc)?;
-    out.extend_from_slice(digits.as_bytes())?;
-    out.push(b' ')?;
+    stack.push(n)?;
     Ok(())
+}
+
+// A number to the power of a whole one of at most 255.
+fn raise(a: Dec, b: Dec, mode: Mode) -> Result<Dec, Code>
+    ensures { result ≡ power_by mode a b }
+{
+    match whole(b) {
+        Some(n @ 0..=255) => power(a, n as u8, mode),
+        _ => Err(Code::known(C65_EXPONENT)),
+    }
+}
+
+// What two numbers come to by an operator.
+fn join(mode: Mode, operator: Operator, a: Dec, b: Dec) -> Result<Dec, Code>
+    ensures { result ≡ join_of mode operator a b }
+{
+    match operator {
+        Operator::Add => add(a, b, mode),
+        Operator::Subtract => sub(a, b, mode),
+        Operator::Multiply => mul(a, b, mode),
+        Operator::Divide => div(a, b, mode),
+        Operator::Raise => raise(a, b, mode),
+    }
+}
+
+fn letter_value(variables: &[Dec], letter: u8) -> Dec
+    ensures { result ≡ get_or variables.now letter zero_number }
+{
+    match variables.get(usize::from(letter)) {
+        Some(n) => *n,
+        None => Dec::zero(),
+    }
+}
+
+// One operation.
+fn apply(
+    variables: &[Dec],
+    mode: Mode,
+    operation: &Operation,
+    stack: &mut Vec<Dec>,
+) -> Result<(), Fault>
+    ensures { MatchResult result (λ _. applied variables.now mode operation.now stack.old.items ≡ Ok stack.new.items)
+        (λ fault. Refuses (applied variables.now mode operation.now stack.old.items) fault) }
+{
+    let n = match operation {
+        Operation::Number(n) => *n,
+        Operation::Refused(code) => return Err(Fault::Code(*code)),
+        Operation::Letter(letter) => letter_value(variables, *letter),
+        Operation::Negate => sub(Dec::zero(), pop(stack), mode)?,
+        Operation::Join(operator) => {
+            let b = pop(stack);
+            let a = pop(stack);
+            join(mode, *operator, a, b)?
+        }
+    };
+    push(stack, n)?;
+    Ok(())
+}
+
+/// What an expression comes to, or the first code from the left.
+pub fn value(
+    alloc: Global,
+    variables: &[Dec],
+    mode: Mode,
+    operations: &[Operation],
+) -> Result<Dec, Fault>
+    ensures { MatchResult result (λ x. value_of variables.now mode operations.now ≡ Ok x)
+        (λ fault. Refuses (value_of variables.now mode operations.now) fault) }
+{
+    let mut stack = Vec::new(alloc);
+    for operation in operations {
+        apply(variables, mode, operation, &mut stack)?;
+    }
+    Ok(pop(&mut stack))
 }

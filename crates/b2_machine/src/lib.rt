@@ -1,14 +1,17 @@
 //! The machine of one partition at one terminal.
 //!
 //! It reads typed lines, keeps numbered ones as its program, and executes statements, one a step. A turn is a number of
-//! steps. Stands on `b2_term` for the terminal and on `b2_dec` for numbers.
+//! steps. Stands on `b2_term` for the terminal, on `b2_dec` and `b2_dectext` for numbers, and on `b2_print` for what
+//! PRINT shows.
 //!
-//! The definitions are in `specs/`: `Syntax` says what a typed line says, `Value` what an expression comes to and how it
-//! is printed, `Machine` what a step and a turn do. `Solo` is seen in contracts as the record `SoloState`, and each of its
-//! calls is proved to be the function of these files, for every state.
+//! The definitions are in `specs/`: `Syntax` says what a typed line says and `Expression` what an expression is, `Value`
+//! what one comes to, `Machine` what a step and a turn do. `Solo` is seen in contracts as the record `SoloState`, and each
+//! of its calls is proved to be the function of these files, for every state.
 #![tactic(auto)]
 
+mod blanks;
 mod evaluate;
+mod expression;
 mod lists;
 mod program;
 mod solo;
@@ -16,6 +19,7 @@ mod syntax;
 #[cfg(test)]
 mod tests;
 
-pub use lists::{Statements, Sum};
+pub use expression::{Level, Operation, Operator};
+pub use lists::{Expression, PrintList, Statements};
 pub use solo::{Doing, Place, Solo, StepEnd};
-pub use syntax::{Operand, Statement, Term};
+pub use syntax::{PrintItem, Statement};

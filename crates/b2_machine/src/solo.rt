@@ -1,21 +1,29 @@
 // The machine of one partition at one terminal.
-ghost use Rattle.std.specs.Prelude.{◌≡◌, ◌<◌, ◌≤◌, ◌++◌, ◌+◌, ◌∷◌, [], Some, length, IfOk, OnOk, nat_lt, set};
+ghost use Rattle.std.specs.Prelude.{◌≡◌, ◌<◌, ◌≤◌, ◌++◌, ◌+◌, ◌∷◌, [], Some, length, IfOk, OnOk, MatchResult, Ok, nat_lt, set, map};
 ghost use Rattle.std.specs.Option.{option_copied};
 ghost use Rattle.b2_term.specs.Terminal.{line_read, after_read};
-ghost use Rattle.b2_machine.specs.Machine.{started, byte_keyed, plan, error_text, stops, goes_to, fails, to_line, goes_on, does, unit_of, line_in, line_of, performs_in, enters, reads, acts, step, turned};
+ghost use Rattle.b2_machine.specs.Outcomes.{Refuses, Fails};
+ghost use Rattle.b2_machine.specs.Value.{value_of};
+ghost use Rattle.b2_print.specs.Columns.{column_after};
+ghost use Rattle.b2_print.specs.Layout.{layout};
+ghost use Rattle.b2_machine.specs.Machine.{started, byte_keyed, shows, item_of, items_of, item_for, asked, plan, error_text, stops, goes_to, fails, to_line, goes_on, does, unit_of, line_in, line_of, performs_in, enters, reads, acts, step, turned};
 
-use crate::evaluate::{print, value};
+use crate::evaluate::value;
 use crate::program::{Lines, find, first, next, put};
 use crate::syntax::{Entry, read_entry};
-use crate::{Statement, Statements, Sum};
+use crate::{Expression, PrintItem, PrintList, Statement, Statements};
 use b2_base::codes::{P36_NO_LINE, S14_STATEMENT};
-use b2_base::{ByteList, Code, NoMemory, Part};
-use b2_dec::Dec;
+use b2_base::{ByteList, Code, Fault, NoMemory, Part};
+use b2_dec::{Dec, Mode};
+use b2_print::{Item, column_after, lay};
 use b2_term::{KeyItem, Read, Terminal};
 use std::alloc::Global;
 use std::collections::BTreeMap;
 use std::marker::Model;
 use std::mem;
+
+/// The width of the terminal.
+const WIDTH: u16 = 80;
 
 /// A place: a statement of the immediate line, or of a program line, counted from 0.
 #[derive(Clone, Copy, Drop)]
@@ -41,9 +49,18 @@ enum Request {
     Show(ByteList),
     Assign(u8, Dec),
     Jump(u16),
+    Select(Mode),
     Run,
     End,
     Fail(Code),
+}
+
+// An item of PRINT with its value.
+#[derive(Clone, Copy, Drop)]
+enum Printed {
+    Number(Dec),
+    Zone,
+    Line,
 }
 
 /// How a step ended.
@@ -62,6 +79,8 @@ pub enum StepEnd {
 pub struct Solo {
     alloc: Global,
     terminal: Terminal,
+    column: u16,
+    mode: Mode,
     variables: [Dec; 26],
     lines: Lines,
     immediate: Statements,
@@ -74,7 +93,7 @@ impl Model for Solo {
 
     ghost Value = { SoloState };
 
-    ghost view = { λ s. record { terminal = s.terminal; variables = s.variables; lines = s.lines.entries; immediate = s.immediate; pending = s.pending; doing = s.doing } };
+    ghost view = { λ s. record { terminal = s.terminal; column = s.column; mode = s.mode; variables = s.variables; lines = s.lines.entries; immediate = s.immediate; pending = s.pending; doing = s.doing } };
 }
 
 // A text of its own.
@@ -84,35 +103,133 @@ fn text_of(alloc: Global, bytes: &[u8]) -> Result<ByteList, NoMemory>
     Ok(ByteList::new(Vec::from_slice(alloc, bytes)?))
 }
 
-// The value of an expression as PRINT shows it on a line, or its code.
-fn ask_print(alloc: Global, variables: &[Dec], sum: &Sum) -> Result<Request, NoMemory>
-    ensures { IfOk result (λ request. request ≡ plan variables.now (Statement.Print sum.now)) }
+// An item of PRINT with its value.
+fn evaluated(
+    alloc: Global,
+    variables: &[Dec],
+    mode: Mode,
+    item: &PrintItem,
+) -> Result<Printed, Fault>
+    ensures { MatchResult result (λ it. item_of variables.now mode item.now ≡ Ok it) (λ fault. Refuses (item_of variables.now mode item.now) fault) }
 {
-    match value(variables, sum.terms()) {
-        Ok(n) => {
-            let mut line = Vec::new(alloc);
-            print(n, alloc, &mut line)?;
-            line.push(b'\n')?;
-            Ok(Request::Show(ByteList::new(line)))
+    match item {
+        PrintItem::Value(expression) => {
+            let n = value(alloc, variables, mode, expression.operations())?;
+            Ok(Printed::Number(n))
         }
-        Err(code) => Ok(Request::Fail(code)),
+        PrintItem::Zone => Ok(Printed::Zone),
+        PrintItem::Line => Ok(Printed::Line),
+    }
+}
+
+// The items of PRINT with their values, or the first code.
+fn evaluated_items(
+    alloc: Global,
+    variables: &[Dec],
+    mode: Mode,
+    items: &[PrintItem],
+) -> Result<Vec<Printed>, Fault>
+    ensures { MatchResult result (λ its. items_of variables.now mode items.now ≡ Ok its.items) (λ fault. Refuses (items_of variables.now mode items.now) fault) }
+{
+    let mut list = Vec::new(alloc);
+    for item in items {
+        let printed = evaluated(alloc, variables, mode, item)?;
+        add_item(&mut list, printed)?;
+    }
+    Ok(list)
+}
+
+fn add_item(list: &mut Vec<Printed>, item: Printed) -> Result<(), NoMemory>
+    ensures { OnOk result (list.new.items ≡ list.old.items ++ item ∷ []) }
+{
+    list.push(item)?;
+    Ok(())
+}
+
+// Lays out one item behind a text, and gives the column after it.
+fn lay_item(alloc: Global, item: Printed, column: u16, out: &mut Vec<u8>) -> Result<u16, NoMemory>
+    ensures text { OnOk result (out.new.items ≡ out.old.items ++ layout 80 column (item_for item ∷ [])) }
+    ensures column { IfOk result (λ after. after ≡ column_after column (layout 80 column (item_for item ∷ []))) }
+{
+    let item = match item {
+        Printed::Number(n) => Item::Number(n),
+        Printed::Zone => Item::Zone,
+        Printed::Line => Item::Line,
+    };
+    lay(alloc, &[item], column, WIDTH, out)
+}
+
+// What items show at a column.
+fn lay_items(alloc: Global, items: &[Printed], column: u16) -> Result<ByteList, NoMemory>
+    ensures { IfOk result (λ text. text ≡ layout 80 column (map item_for items.now)) }
+{
+    let mut text = Vec::new(alloc);
+    let mut at = column;
+    for item in items {
+        at = lay_item(alloc, *item, at, &mut text)?;
+    }
+    Ok(ByteList::new(text))
+}
+
+// A code is shown; want of memory isn't.
+fn failing(fault: Fault) -> Result<Request, NoMemory>
+    ensures { IfOk result (λ request. Fails fault request) }
+{
+    match fault {
+        Fault::Code(code) => Ok(Request::Fail(code)),
+        Fault::NoMemory => Err(NoMemory),
+    }
+}
+
+// What PRINT shows, or the first code.
+fn ask_print(
+    alloc: Global,
+    variables: &[Dec],
+    mode: Mode,
+    column: u16,
+    list: &PrintList,
+) -> Result<Request, NoMemory>
+    ensures { IfOk result (λ request. request ≡ plan variables.now mode column (Statement.Print list.now)) }
+{
+    match evaluated_items(alloc, variables, mode, list.items()) {
+        Ok(items) => Ok(Request::Show(lay_items(alloc, &items, column)?)),
+        Err(fault) => failing(fault),
+    }
+}
+
+// What is assigned, or the first code.
+fn ask_let(
+    alloc: Global,
+    variables: &[Dec],
+    mode: Mode,
+    letter: u8,
+    expression: &Expression,
+) -> Result<Request, NoMemory>
+    ensures { IfOk result (λ request. request ≡ asked (Request.Assign letter) (value_of variables.now mode expression.now)) }
+{
+    match value(alloc, variables, mode, expression.operations()) {
+        Ok(n) => Ok(Request::Assign(letter, n)),
+        Err(fault) => failing(fault),
     }
 }
 
 // What a statement asks for.
-fn ask(alloc: Global, variables: &[Dec], statement: &Statement) -> Result<Request, NoMemory>
-    ensures { IfOk result (λ request. request ≡ plan variables.now statement.now) }
+fn ask(
+    alloc: Global,
+    variables: &[Dec],
+    mode: Mode,
+    column: u16,
+    statement: &Statement,
+) -> Result<Request, NoMemory>
+    ensures { IfOk result (λ request. request ≡ plan variables.now mode column statement.now) }
 {
     match statement {
-        Statement::Print(sum) => ask_print(alloc, variables, sum),
-        Statement::PrintLine => Ok(Request::Show(text_of(alloc, b"\n")?)),
-        Statement::Let(letter, sum) => match value(variables, sum.terms()) {
-            Ok(n) => Ok(Request::Assign(*letter, n)),
-            Err(code) => Ok(Request::Fail(code)),
-        },
+        Statement::Print(list) => ask_print(alloc, variables, mode, column, list),
+        Statement::Let(letter, expression) => ask_let(alloc, variables, mode, *letter, expression),
         Statement::Goto(n) => Ok(Request::Jump(*n)),
         Statement::End => Ok(Request::End),
         Statement::Run => Ok(Request::Run),
+        Statement::Select(chosen) => Ok(Request::Select(*chosen)),
     }
 }
 
@@ -169,6 +286,8 @@ impl Solo {
         Ok(Solo {
             alloc,
             terminal: Terminal::new(alloc, Part::known(1))?,
+            column: 0,
+            mode: Mode::Round,
             variables: [Dec::zero(); 26],
             lines: BTreeMap::new(alloc),
             immediate: Statements::new(Vec::new(alloc)),
@@ -190,6 +309,15 @@ impl Solo {
         ensures { result.now ≡ self.now.terminal.transcript }
     {
         self.terminal.transcript()
+    }
+
+    // Shows bytes at the terminal.
+    fn show(&mut self, bytes: &[u8]) -> Result<(), NoMemory>
+        ensures { OnOk result (self.new ≡ shows bytes.now self.old) }
+    {
+        self.terminal.show(bytes)?;
+        self.column = column_after(self.column, bytes);
+        Ok(())
     }
 
     // It becomes ready, and `:` is to be shown behind a text.
@@ -263,7 +391,7 @@ impl Solo {
     {
         match request {
             Request::Show(text) => {
-                self.terminal.show(text.bytes())?;
+                self.show(text.bytes())?;
                 self.go_on(place, size)
             }
             Request::Assign(letter, n) => {
@@ -275,6 +403,10 @@ impl Solo {
                     return self.fail(Code::known(P36_NO_LINE), place);
                 }
                 Ok(self.go_to(Place::Program(n, 0)))
+            }
+            Request::Select(mode) => {
+                self.mode = mode;
+                self.go_on(place, size)
             }
             Request::End => self.stop(b""),
             Request::Run => {
@@ -299,7 +431,13 @@ impl Solo {
         let Some(statement) = line.get(unit_of(place)) else {
             return self.stop(b"");
         };
-        let request = ask(self.alloc, &self.variables, statement)?;
+        let request = ask(
+            self.alloc,
+            &self.variables,
+            self.mode,
+            self.column,
+            statement,
+        )?;
         self.carry_out(request, place, size)
     }
 
@@ -325,6 +463,7 @@ impl Solo {
     {
         match self.terminal.read_line()? {
             Read::Line(line) => {
+                self.column = 0;
                 let entry = read_entry(self.alloc, line.bytes())?;
                 self.enter(entry)?;
                 Ok(StepEnd::GoesOn)
@@ -361,7 +500,10 @@ impl Solo {
     {
         match self.pending.take() {
             Some(text) => {
-                self.terminal.show(text.bytes())?;
+                if self.column != 0 {
+                    self.show(b"\n")?;
+                }
+                self.show(text.bytes())?;
                 Ok(StepEnd::GoesOn)
             }
             None => self.act(),

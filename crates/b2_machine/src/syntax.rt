@@ -1,37 +1,33 @@
 // What a typed line says.
-ghost use Rattle.std.specs.Prelude.{◌≡◌, ◌<◌, ◌≤◌, ◌^◌, ◌+◌, ◌-◌, ◌*◌, IfOk, IfSome, Some, map, false, length};
+ghost use Rattle.std.specs.Prelude.{◌≡◌, ◌<◌, ◌≤◌, ◌^◌, ◌+◌, ◌-◌, ◌*◌, ◌++◌, IfOk, Some, map, length, option_map};
 ghost use Rattle.std.specs.Option.{option_copied};
-ghost use Rattle.b2_machine.specs.Syntax.{strip, upper, IsBounded, skipped, is_blank, taken, whole, terms, print_of, let_of, word_alone, statement_of, statements_of, line_number_of, line_number_from, numbered_of, entry_of, entry_of_upper};
-ghost use Rattle.b2_machine.specs.declared.syntax.Begun.TheVariants.{Nothing};
+ghost use Rattle.b2_machine.specs.Reading.{begun, shown};
+ghost use Rattle.b2_machine.specs.Syntax.{value_item, item_first, print_end, strip, upper, print_of, let_of, select_of, word_alone, statement_of, statements_of, line_number_of, line_number_from, numbered_of, entry_of, entry_of_upper, expression_alone};
 
-use crate::{Statements, Sum};
+use crate::blanks::{is_blank, skip};
+use crate::expression::read_expression;
+use crate::{Expression, PrintList, Statements};
 use b2_base::{NoMemory, cut};
-use b2_dec::Dec;
+use b2_dec::Mode;
 use std::alloc::Global;
 
-/// A variable by its letter, from 0 for A, or a whole number.
-#[derive(Clone, Copy, Drop)]
-pub enum Operand {
-    Letter(u8),
-    Number(Dec),
-}
-
-/// An operand and whether it is taken away.
-#[derive(Clone, Copy, Drop)]
-pub struct Term {
-    pub minus: bool,
-    pub operand: Operand,
+/// What PRINT shows: a value, the way to the next zone, or a newline.
+#[derive(Drop)]
+pub enum PrintItem {
+    Value(Expression),
+    Zone,
+    Line,
 }
 
 /// A statement. RUN stands in a typed line alone.
 #[derive(Drop)]
 pub enum Statement {
-    Print(Sum),
-    PrintLine,
-    Let(u8, Sum),
+    Print(PrintList),
+    Let(u8, Expression),
     Goto(u16),
     End,
     Run,
+    Select(Mode),
 }
 
 /// What a typed line says.
@@ -43,13 +39,12 @@ pub enum Entry {
     Wrong,
 }
 
-// An operand of which some bytes were read: a letter, or digits and how many; or one that a blank ended.
-#[derive(Clone, Copy)]
-enum Begun {
+/// What was read last of a PRINT.
+#[derive(Clone, Copy, Debug, PartialEq, Eq)]
+enum Last {
     Nothing,
-    Name(u8),
-    Digits(u64, u8),
-    Ended(Operand),
+    Separator,
+    Item,
 }
 
 // The text in upper case.
@@ -61,99 +56,6 @@ fn to_upper(alloc: Global, text: &[u8]) -> Result<Vec<u8>, NoMemory>
         out.push(b.to_ascii_uppercase())?;
     }
     Ok(out)
-}
-
-// The text from its first byte that isn't a blank.
-fn skip(text: &[u8]) -> &[u8]
-    ensures { result.now ≡ skipped text.now }
-{
-    let mut rest = text;
-    while let [b' ', after @ ..] = rest {
-        rest = after;
-    }
-    rest
-}
-
-fn is_blank_text(text: &[u8]) -> bool
-    ensures { result ≡ is_blank text.now }
-{
-    skip(text).is_empty()
-}
-
-// An operand with one more byte.
-fn take(begun: Begun, b: u8) -> Option<Begun>
-    requires { IsBounded begun }
-    ensures value { result ≡ taken begun b }
-    ensures bounded { IfSome result (λ more. IsBounded more) }
-{
-    match begun {
-        Begun::Nothing => {
-            if b == b' ' {
-                Some(Begun::Nothing)
-            } else if b.is_ascii_uppercase() {
-                Some(Begun::Name(b - b'A'))
-            } else if b.is_ascii_digit() {
-                Some(Begun::Digits(u64::from(b - b'0'), 1))
-            } else {
-                None
-            }
-        }
-        Begun::Digits(n, count) if b.is_ascii_digit() => {
-            if count < 13 {
-                Some(Begun::Digits(n * 10 + u64::from(b - b'0'), count + 1))
-            } else {
-                None
-            }
-        }
-        _ => {
-            if b != b' ' {
-                return None;
-            }
-            Some(Begun::Ended(close(begun)?))
-        }
-    }
-}
-
-// The operand that ends here.
-fn close(begun: Begun) -> Option<Operand>
-    requires { IsBounded begun }
-    ensures { result ≡ whole begun }
-{
-    match begun {
-        Begun::Nothing => None,
-        Begun::Name(letter) => Some(Operand::Letter(letter)),
-        Begun::Digits(n, _) => Some(Operand::Number(Dec::of_whole(n))),
-        Begun::Ended(operand) => Some(operand),
-    }
-}
-
-// Operands joined by `+` and `-`, or none where the text is none.
-fn read_terms(alloc: Global, text: &[u8]) -> Result<Option<Sum>, NoMemory>
-    ensures { IfOk result (λ sum. sum ≡ terms false Nothing text.now) }
-{
-    let mut list = Vec::new(alloc);
-    let mut minus = false;
-    let mut begun = Begun::Nothing;
-    for b in text {
-        if *b == b'+' || *b == b'-' {
-            let Some(operand) = close(begun) else {
-                return Ok(None);
-            };
-            list.push(Term { minus, operand })?;
-            minus = *b == b'-';
-            begun = Begun::Nothing;
-        } else {
-            let Some(more) = take(begun, *b) else {
-                return Ok(None);
-            };
-            begun = more;
-        }
-    }
-    let Some(operand) = close(begun) else {
-        return Ok(None);
-    };
-    list.push(Term { minus, operand })?;
-    Ok(Some(Sum::new(list)))
 }
 
 // A line number of one to four digits with blanks round it, or none where the text is none.
@@ -171,24 +73,97 @@ fn read_line_number(text: &[u8]) -> Option<u16>
         count += 1;
         rest = after;
     }
-    if count >= 1 && is_blank_text(rest) {
+    if count >= 1 && is_blank(rest) {
         Some(n)
     } else {
         None
     }
 }
 
-// What follows PRINT.
-fn read_print(alloc: Global, rest: &[u8]) -> Result<Option<Statement>, NoMemory>
-    ensures { IfOk result (λ statement. statement ≡ print_of rest.now) }
+// An expression and then nothing but blanks.
+fn read_expression_alone(alloc: Global, text: &[u8]) -> Result<Option<Expression>, NoMemory>
+    ensures { IfOk result (λ found. found ≡ expression_alone text.now) }
 {
-    if is_blank_text(rest) {
-        return Ok(Some(Statement::PrintLine));
+    let mut operations = Vec::new(alloc);
+    match read_expression(text, &mut operations)? {
+        Some(rest) if is_blank(rest) => Ok(Some(Expression::new(operations))),
+        _ => Ok(None),
     }
-    match read_terms(alloc, rest)? {
-        Some(sum) => Ok(Some(Statement::Print(sum))),
-        None => Ok(None),
+}
+
+// A value of a PRINT.
+fn read_value<'a>(
+    alloc: Global,
+    text: &'a [u8],
+    out: &mut Vec<PrintItem>,
+) -> Result<Option<&'a [u8]>, NoMemory>
+    ensures { IfOk result (λ rest. begun out.old.items (value_item text.now) ≡ shown out.new.items (option_map (λ r. (Last.Item, r.now)) rest)) }
+{
+    let mut operations = Vec::new(alloc);
+    let Some(rest) = read_expression(text, &mut operations)? else {
+        return Ok(None);
+    };
+    out.push(PrintItem::Value(Expression::new(operations)))?;
+    Ok(Some(rest))
+}
+
+// A separator or a value of a PRINT: what it was and what follows it.
+fn read_print_item<'a>(
+    alloc: Global,
+    last: Last,
+    text: &'a [u8],
+    out: &mut Vec<PrintItem>,
+) -> Result<Option<(Last, &'a [u8])>, NoMemory>
+    ensures { IfOk result (λ next. begun out.old.items (item_first last text.now) ≡ shown out.new.items (option_map (λ p. (p.0, p.1.now)) next)) }
+{
+    match text {
+        [b';', rest @ ..] => Ok(Some((Last::Separator, rest))),
+        [b',', rest @ ..] => {
+            out.push(PrintItem::Zone)?;
+            Ok(Some((Last::Separator, rest)))
+        }
+        [_, ..] => {
+            if last == Last::Item {
+                return Ok(None);
+            }
+            match read_value(alloc, text, out)? {
+                Some(rest) => Ok(Some((Last::Item, rest))),
+                None => Ok(None),
+            }
+        }
+        [] => Ok(None),
     }
+}
+
+// The PRINT of these items, which shows a newline at its end but behind a separator.
+fn print_statement(mut items: Vec<PrintItem>, last: Last) -> Result<Option<Statement>, NoMemory>
+    ensures { IfOk result (λ statement. statement ≡ Some (Statement.Print (items.items ++ print_end last))) }
+{
+    if last != Last::Separator {
+        items.push(PrintItem::Line)?;
+    }
+    Ok(Some(Statement::Print(PrintList::new(items))))
+}
+
+// What follows PRINT.
+fn read_print(alloc: Global, text: &[u8]) -> Result<Option<Statement>, NoMemory>
+    ensures { IfOk result (λ statement. statement ≡ print_of text.now) }
+{
+    let mut items = Vec::new(alloc);
+    let mut last = Last::Nothing;
+    let mut left = text;
+    for _ in 0..text.len() {
+        let item = skip(left);
+        if item.is_empty() {
+            return print_statement(items, last);
+        }
+        let Some((what, rest)) = read_print_item(alloc, last, item, &mut items)? else {
+            return Ok(None);
+        };
+        last = what;
+        left = rest;
+    }
+    print_statement(items, last)
 }
 
 // An assignment without LET.
@@ -204,9 +179,24 @@ fn read_let(alloc: Global, text: &[u8]) -> Result<Option<Statement>, NoMemory>
     let Some(rest) = skip(after).strip_prefix(b"=") else {
         return Ok(None);
     };
-    match read_terms(alloc, rest)? {
-        Some(sum) => Ok(Some(Statement::Let(*letter - b'A', sum))),
+    match read_expression_alone(alloc, rest)? {
+        Some(expression) => Ok(Some(Statement::Let(*letter - b'A', expression))),
         None => Ok(None),
+    }
+}
+
+// What follows SELECT.
+fn read_select(text: &[u8]) -> Option<Statement>
+    ensures { result ≡ select_of text.now }
+{
+    if is_word(b"ROUND", text) {
+        return Some(Statement::Select(Mode::Round));
+    }
+    let rest = after(b"NO", skip(text))?;
+    if is_word(b"ROUND", rest) {
+        Some(Statement::Select(Mode::Cut))
+    } else {
+        None
     }
 }
 
@@ -222,7 +212,7 @@ fn is_word(word: &[u8], text: &[u8]) -> bool
     ensures { result ≡ word_alone word.now text.now }
 {
     match after(word, skip(text)) {
-        Some(rest) => is_blank_text(rest),
+        Some(rest) => is_blank(rest),
         None => false,
     }
 }
@@ -240,6 +230,9 @@ fn read_statement(alloc: Global, text: &[u8]) -> Result<Option<Statement>, NoMem
             Some(n) => Some(Statement::Goto(n)),
             None => None,
         });
+    }
+    if let Some(rest) = after(b"SELECT", text) {
+        return Ok(read_select(rest));
     }
     if is_word(b"END", text) {
         return Ok(Some(Statement::End));

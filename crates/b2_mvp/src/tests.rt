@@ -11,7 +11,7 @@ struct Row {
     summary: &'static [u8],
 }
 
-const ROWS: [Row; 8] = [
+const ROWS: [Row; 9] = [
     Row {
         log: b"type 1 PRINT 2+2\nrounds 5\n",
         transcript: b"READY\n:PRINT 2+2\n 4 \n:",
@@ -31,6 +31,11 @@ const ROWS: [Row; 8] = [
         log: b"type 1 STOP\nrounds 5",
         transcript: b"READY\n:STOP\nERR S14 COL 1\n:",
         summary: b"turns 5 steps 3 dropped 0\n",
+    },
+    Row {
+        log: b"type 1 SELECT NO ROUND\ntype 1 PRINT 1/3;-2/3,1E13;.05\nrounds 9\n",
+        transcript: b"READY\n:SELECT NO ROUND\n:PRINT 1/3;-2/3,1E13;.05\n .3333333333333 -.6666666666666                  1.00000000E+13  5.00000000E-02 \n:",
+        summary: b"turns 9 steps 7 dropped 0\n",
     },
     Row {
         log: b"",
