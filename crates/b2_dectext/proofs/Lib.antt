@@ -4,3 +4,4 @@ pub mod Scales
 pub mod Spellings
 pub mod Longest
 pub mod ReadBack
+pub mod Spaced

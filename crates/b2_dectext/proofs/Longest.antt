@@ -150,10 +150,10 @@ apart : (a b c d t : List ℕ) → (a ++ (b ++ (c ++ d))) ++ t ≡ a ++ (b ++ (c
 apart a b c d t =
     append_assoc a (b ++ (c ++ d)) t ∙ ap (λ u. a ++ u) (append_assoc b (c ++ d) t ∙ ap (λ u. b ++ u) (append_assoc c d t))
 
-spelled-length : (a b c d : List ℕ) → length (a ++ (b ++ (c ++ d))) ≡ length a + (length b + length c + length d)
+pub spelled-length : (a b c d : List ℕ) → length (a ++ (b ++ (c ++ d))) ≡ length a + (length b + length c + length d)
 spelled-length a b c d = omega (arith, length-append a (b ++ (c ++ d)), length-append b (c ++ d), length-append c d)
 
-some_text : (w : List ℕ) (f : Option (List ℕ)) → 0 < length w + length (behind f) → length w + length (point_text f) ≤ 0 → ⊥
+pub some_text : (w : List ℕ) (f : Option (List ℕ)) → 0 < length w + length (behind f) → length w + length (point_text f) ≤ 0 → ⊥
 some_text w None some none = omega arith
 some_text w (Some fs) some none = omega arith
 

@@ -1,5 +1,5 @@
 -- The grammar of number text, by its parts and with no word on how it is read.
-use Rattle.std.specs.Prelude.{◌≡◌, ℕ, ◌+◌, ◌<◌, ◌≤◌, Bool, true, false, Option, Some, None, Result, List, [], ◌∷◌, ◌++◌, length, take}
+use Rattle.std.specs.Prelude.{◌≡◌, ℕ, ◌+◌, ◌<◌, ◌≤◌, Bool, true, false, Option, Some, None, Result, List, [], ◌∷◌, ◌++◌, length, take, slice_index}
 use Rattle.b2_dectext.specs.Digits.{AreDigits}
 use Rattle.b2_dec.specs.Number.{Number}
 use Rattle.b2_dectext.specs.NumberText.{Parts, value_of}
@@ -75,3 +75,23 @@ pub record IsNumberText (text : List ℕ) (number : Result Number ℕ) : Type 0 
 pub record IsLongest (text : List ℕ) (n : ℕ) (number : Result Number ℕ) : Type 0 where
   pub found : 0 < n → IsNumberText (take n text) number
   pub longest : (k : ℕ) (other : Result Number ℕ) → k ≤ length text → IsNumberText (take k text) other → k ≤ n
+
+-- each byte is a space
+pub record AreSpaces (bs : List ℕ) : Type 0 where
+  pub each : (k : ℕ) → k < length bs → slice_index bs k ≡ 32
+
+-- spaces, a number and spaces, and nothing else
+pub record IsSpacedNumber (text : List ℕ) : Type 0 where
+  pub before : List ℕ
+  pub number : List ℕ
+  pub after : List ℕ
+  pub which : Result Number ℕ
+  pub spaces_before : AreSpaces before
+  pub is_number : IsNumberText number which
+  pub spaces_after : AreSpaces after
+  pub text_is : before ++ (number ++ after) ≡ text
+
+-- n is the length of the longest of these at the front of a text, and 0 where none stands there.
+pub record IsLongestSpaced (text : List ℕ) (n : ℕ) : Type 0 where
+  pub found : 0 < n → IsSpacedNumber (take n text)
+  pub longest : (k : ℕ) → k ≤ length text → IsSpacedNumber (take k text) → k ≤ n

@@ -4,7 +4,7 @@ ghost use Rattle.b2_dec.specs.Rounding as spec;
 ghost use Rattle.b2_dec.specs.Rounding.{rnd};
 ghost use Rattle.b2_dec.specs.declared.number.Mode.TheVariants.{Round};
 ghost use Rattle.b2_dectext.specs.Digits.{AreDigits, IsLeading, value_after, digits_value};
-ghost use Rattle.b2_dectext.specs.Grammar.{IsLongest};
+ghost use Rattle.b2_dectext.specs.Grammar.{IsLongest, IsLongestSpaced};
 ghost use Rattle.b2_dectext.specs.NumberText as grammar;
 ghost use Rattle.b2_dectext.specs.NumberText.{Parts, value_of, number_value, number_read, spaced_number_len};
 
@@ -212,7 +212,8 @@ pub fn literal(text: &[u8]) -> Option<(usize, Result<Dec, Code>)>
 /// The length of the spaces, the number and the spaces at the front of a text, 0 where there is no number.
 #[tactic(auto, unfolding(crate::specs::NumberText::spaced_number_len))]
 pub fn num(text: &[u8]) -> usize
-    ensures { result ≡ spaced_number_len text.now }
+    ensures value { result ≡ spaced_number_len text.now }
+    ensures longest { IsLongestSpaced text.now result }
 {
     let front = spaces_len(text);
     let number = number_len(&text[front..]);

@@ -1,11 +1,11 @@
 -- The pieces of an image are what it is written of.
-use Rattle.std.proofs.Common.{◌≡◌, ℕ, zero, suc, ◌+◌, ◌-◌, ◌<◌, ◌≤◌, ◌==◌, Bool, true, false, cond, if◌then◌else◌, List, [], ◌∷◌, ◌++◌, length, take, drop, replicate, refl, sym, ap, ◌∙◌, append_assoc, eqb-true, arith, length-append, Option, Some, None}
+use Rattle.std.proofs.Common.{◌≡◌, ℕ, zero, suc, ◌+◌, ◌<◌, ◌==◌, Bool, true, false, cond, if◌then◌else◌, List, [], ◌∷◌, ◌++◌, length, take, drop, replicate, refl, sym, ap, ◌∙◌, append_assoc, eqb-true, arith, length-append, Option, Some, None}
 use Rattle.std.specs.List.{prefix_len, take_while, flat_map}
 use Rattle.std.specs.Option.{IfSome}
 use Rattle.std.proofs.lemmas.List.{take-append-drop, drop_at, length-replicate}
 use Rattle.b2_print.specs.declared.image.Sign.{Sign}
 use Rattle.b2_print.specs.declared.image.Sign.TheVariants.{Unsigned, Always, Negative}
-use Rattle.b2_print.specs.Images.{Field, sign_bytes, dollar_bytes, point_bytes, point_width, field_bytes, width_of, begins, is_mark, is_place, sign_of, behind_sign, behind_dollar, decimals_of, with_places, field_at, Piece, literal, field, piece_of, behind_first, pieces_behind, pieces, spelled}
+use Rattle.b2_print.specs.Images.{Field, sign_bytes, dollar_bytes, point_bytes, point_width, field_bytes, width_of, begins, is_mark, is_place, sign_of, behind_sign, behind_dollar, decimals_of, field_at, piece_of, behind_first, pieces_behind, pieces, spelled}
 use Rattle.b2_print.proofs.ImageLemmas.{field-some, drop-first}
 
 -- a number of `#` and what follows them

@@ -1,12 +1,15 @@
-//! How PRINT and PRINTUSING lay out what they show.
+//! What PRINT, PRINTUSING and CONVERT show.
 //!
 //! `lay` puts the items of PRINT into columns and zones, and begins a new line before an item that would pass the width.
-//! `using` puts values into the fields of an image, and `convert` one number.
+//! `using` puts values into the fields of an image, and `convert` one number. Each of them shows exactly what its
+//! definition gives, has each code exactly where the definition has it, and leaves what was lent as it was after any
+//! error.
 //!
-//! `specs/Columns.antt` says where the next byte goes, `specs/Layout.antt` what items become on lines of a width. They
-//! are functions on whole lists and know nothing of how the code goes through them.
+//! The definitions are functions on whole lists: `specs/Columns.antt` says where the next byte goes, `specs/Layout.antt`
+//! what items become on lines of a width, `specs/Images.antt` what an image is made of, `specs/Filling.antt` what a value
+//! becomes in a field, and `specs/Imaged.antt` what values become in an image. `specs/Laws.antt` has what holds of them.
 //!
-//! Stands on `b2_dectext` for the printed form of a number.
+//! Stands on `b2_dectext` for the printed form of a number, on `b2_dec` for numbers and values, and on `b2_base`.
 #![tactic(auto)]
 
 mod columns;
