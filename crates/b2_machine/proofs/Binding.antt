@@ -1,5 +1,5 @@
 -- What is read in two parts, one behind the other.
-use Rattle.std.proofs.Common.{◌≡◌, ℕ, List, [], ◌∷◌, ◌++◌, Option, Some, None, option_map, refl, sym, ap, ◌∙◌, append_assoc}
+use Rattle.std.proofs.Common.{◌≡◌, ℕ, List, [], ◌++◌, Some, None, refl, sym, ap, ◌∙◌, append_assoc}
 use Rattle.b2_machine.specs.Expression.{Parsed, behind, onto, followed_by}
 use Rattle.b2_machine.specs.Reading.{found}
 use Rattle.b2_machine.specs.declared.expression.Operation.{Operation}

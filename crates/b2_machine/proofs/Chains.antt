@@ -1,10 +1,9 @@
 -- Items that operators join, one after another, and operands by their depth.
-use Rattle.std.proofs.Common.{◌≡◌, ℕ, zero, suc, ◌+◌, ◌-◌, ◌<◌, ◌≤◌, List, [], ◌∷◌, ◌++◌, length, Option, Some, None, refl, sym, ap, ◌∙◌, arith}
+use Rattle.std.proofs.Common.{◌≡◌, ℕ, zero, suc, ◌+◌, ◌-◌, ◌<◌, ◌≤◌, List, [], ◌∷◌, ◌++◌, Option, Some, None, refl, sym, ap, ◌∙◌, arith}
 use Rattle.std.proofs.lemmas.List.{append-nil}
 use Rattle.std.specs.Option.{option_map, option_copied}
 use Rattle.std.specs.Borrow.{Bor}
-use Rattle.b2_machine.specs.Blanks.{skipped}
-use Rattle.b2_machine.specs.Expression.{Parsed, onto, followed_by, continued, operator_in, joined, items_from, operand_from_depth, operand_from, grouped, opened, closed, operand_at, level_of, simple_from}
+use Rattle.b2_machine.specs.Expression.{Parsed, onto, followed_by, continued, operator_in, items_from, operand_from_depth, grouped, opened, operand_at, level_of, simple_from}
 use Rattle.b2_machine.specs.Reading.{found}
 use Rattle.b2_machine.specs.declared.expression.Level.{Level}
 use Rattle.b2_machine.specs.declared.expression.Level.TheVariants.{Sum}

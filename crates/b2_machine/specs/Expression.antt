@@ -1,5 +1,5 @@
 -- Expressions: what is read of a text, as operations in the order in which they are executed.
-use Rattle.std.specs.Prelude.{ℕ, zero, suc, ◌-◌, Bool, ◌||◌, ◌==◌, List, [], ◌∷◌, ◌++◌, length, drop, Option, Some, None, option_map, Result, Ok, Err, if◌then◌else◌}
+use Rattle.std.specs.Prelude.{ℕ, zero, suc, ◌-◌, ◌||◌, ◌==◌, List, [], ◌∷◌, ◌++◌, length, drop, Option, Some, None, option_map, Result, Ok, Err, if◌then◌else◌}
 use Rattle.b2_base.specs.Names.{is_digit, is_upper}
 use Rattle.b2_dec.specs.Number.{Number}
 use Rattle.b2_dectext.specs.NumberText.{number_len, number_value}

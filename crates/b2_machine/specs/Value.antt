@@ -1,5 +1,5 @@
 -- The value of an expression: its operations on a stack of numbers, whose top is its last.
-use Rattle.std.specs.Prelude.{ℕ, ◌-◌, nat_le, List, [], ◌∷◌, ◌++◌, length, take, get_or, Option, Some, None, Result, Ok, Err, ℤ, pos, negsuc, Bool, not, ◌==◌, if◌then◌else◌}
+use Rattle.std.specs.Prelude.{ℕ, ◌-◌, nat_le, List, [], ◌∷◌, ◌++◌, length, take, get_or, Option, Some, None, Result, Ok, Err, ℤ, pos, negsuc, if◌then◌else◌}
 use Rattle.b2_base.specs.declared.codes.TheConstants.{C65_EXPONENT}
 use Rattle.b2_dec.specs.Number.{Number, zero_number}
 use Rattle.b2_dec.specs.Arithmetic.{sum_of, difference_of, product_of, quotient_of, power_of, whole_of}

@@ -1,7 +1,7 @@
-use Rattle.std.proofs.Common.{◌≡◌, ℕ, ◌+◌, ◌-◌, ◌<◌, ◌≤◌, ◌++◌, length, List, Option, Some, None, refl, sym, ap, ◌∙◌, subst, arith, rules}
+use Rattle.std.proofs.Common.{◌≡◌, ◌-◌, ◌<◌, ◌≤◌, length, Some, None, sym, ap, ◌∙◌, subst, arith}
 use Rattle.std.specs.Option.{option_copied}
 use Rattle.std.specs.Result.{IfOk}
-use Rattle.b2_machine.specs.Expression.{Parsed, onto, closed, joined, item_of, level_of, operand_at, simple_from, operand_from_depth}
+use Rattle.b2_machine.specs.Expression.{Parsed, onto, closed, joined, item_of, level_of, operand_at}
 use Rattle.b2_machine.specs.Reading.{found}
 use Rattle.b2_machine.specs.declared.expression.Level.TheVariants.{Sum}
 use Rattle.b2_machine.proofs.Binding.{bind, bind_none}

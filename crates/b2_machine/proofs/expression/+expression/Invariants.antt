@@ -1,7 +1,5 @@
-use Rattle.std.proofs.Common.{◌≡◌, ◌+◌, ◌-◌, ◌*◌, ◌≤◌, length}
+use Rattle.std.proofs.Common.{◌≡◌, ◌+◌, ◌-◌, ◌*◌, length}
 use Rattle.b2_machine.specs.Expression.{onto, joined, items_from, item_of, level_of, operand_at}
-use Rattle.b2_machine.specs.declared.expression.Level.{Level}
-use Rattle.b2_machine.specs.declared.expression.Level.TheVariants as level
 use Rattle.b2_machine.proofs.Ranks.{rank}
 use Rattle.b2_machine.proofs.expression.+expression.Given as goal
 

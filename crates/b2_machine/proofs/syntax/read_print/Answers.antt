@@ -1,7 +1,6 @@
-use Rattle.std.proofs.Common.{◌≡◌, ℕ, ◌+◌, ◌-◌, ◌<◌, ◌≤◌, ◌++◌, length, Option, Some, None, Result, Ok, Err, refl, sym, ap, ◌∙◌, arith, option_map}
-use Rattle.b2_machine.specs.Blanks.{skipped}
+use Rattle.std.proofs.Common.{◌-◌, ◌<◌, ◌≤◌, length, sym, ap, ◌∙◌, arith}
 use Rattle.b2_machine.specs.Syntax.{print_items}
-use Rattle.b2_machine.proofs.PrintItems.{item_read, wrong_read, items-end, items-none, all_read, none_whole, is_none, is_some, printed_all}
+use Rattle.b2_machine.proofs.PrintItems.{item_read, wrong_read, items-end, items-none, none_whole, is_none, is_some, printed_all}
 use Rattle.b2_machine.proofs.syntax.read_print.Goals as goal
 
 pub returns-then-is_empty : goal.returns-then-is_empty
