@@ -34,7 +34,7 @@ pub use laws::{each_line_spells_a_tree, no_two_trees_share_atoms};
 pub use line::{Atoms, Cursor, read_source};
 pub use sink::Stop;
 use table::{FORMS, ROWS_0, ROWS_1, ROWS_2, ROWS_3};
-pub use words::Origin;
+pub use words::{DATA, DEFFN, DEFFN_PRIME, Origin};
 use words::WORDS;
 
 /// The table and the words that the code walks over are the language's.

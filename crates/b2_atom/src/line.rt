@@ -207,6 +207,14 @@ impl Atoms {
         bytes.as_slice()
     }
 
+    /// A line of its own with the same bytes.
+    pub fn copy(&self, alloc: Global) -> Result<Atoms, NoMemory>
+        ensures { IfOk result (λ copy. copy ≡ self.now) }
+    {
+        let bytes = Vec::from_slice(alloc, &self.bytes)?;
+        Ok(Atoms { bytes })
+    }
+
     /// Its canonical source.
     #[tactic(auto, using(crate::proofs::Binds::line_has_source))]
     pub fn source(&self, alloc: Global) -> Result<Vec<u8>, NoMemory>
@@ -221,8 +229,10 @@ impl Atoms {
     }
 
     /// How many units it has: statements, where one that follows THEN, ELSE or ERROR is a unit of its own.
+    #[tactic(auto, using(crate::proofs::Units::few_units))]
     pub fn units(&self) -> usize
-        ensures { result ≡ length (units_of self.now) }
+        ensures count { result ≡ length (units_of self.now) }
+        ensures few { result ≤ 255 }
     {
         count_units(&self.bytes)
     }
