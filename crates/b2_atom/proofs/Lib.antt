@@ -2,3 +2,6 @@ pub mod Binds
 pub mod Units
 pub mod Sound
 pub mod Codes
+pub mod Fronts
+pub mod Tests
+pub mod FrontAnswers
