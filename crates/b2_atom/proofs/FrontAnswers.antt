@@ -10,7 +10,7 @@ use Rattle.b2_atom.specs.Spelling.{ShowsName, ShowsHex, Named, Begins, Spells, i
 use Rattle.b2_atom.specs.Fitting.{leaf_number}
 use Rattle.b2_atom.proofs.Tests.{or_assoc, and_left, and_right, or_left, or_right, or_none, or_one, or_other, or_false, or_cases, not_true, never, either_way, equal, span_of, among_inside, among_apart}
 use Rattle.b2_atom.proofs.Fronts.{is_hex_front, is_numbered, Span, spans, inside, apart, every, some, Front, fronts, leaf_spans, classes, is_some, sure, surely, name_spans, number_spans, alpha_spans, numeric_spans, numeric, alpha, is_numeric_name, is_alpha_front}
-use Rattle.b2_atom.proofs.Fronts.Front.{None, Spanned, Hand, Numbered}
+use Rattle.b2_atom.proofs.Fronts.Front.{Any, None, Spanned, Hand, Numbered}
 use Rattle.b2_atom.specs.declared.words.TheConstants as word
 use Rattle.b2_atom.specs.declared.words.Origin.{Origin}
 use Rattle.b2_atom.specs.declared.words.Origin.TheVariants as origin
@@ -236,6 +236,7 @@ hand_class o k j w ts s same whole known h =
 -- the class of a text lies in the spans of its front
 pub class_of_front : (o : Origin) (f : Front) (ts : List Token) (s : Text) → fronts f ts ≡ true → is_some (classes f) ≡ true → Spells o ts s
     → spans (classes f) (class_at o s) ≡ true
+class_of_front o Any ts s h k spelled = cc
 class_of_front o None [] s h k spelled = ap (λ (u : Text). spans ((0, 0) ∷ []) (class_at o u)) spelled ∙ ap (spans ((0, 0) ∷ [])) (class_none o)
 class_of_front o None (t ∷ ts) s h k spelled = cc
 class_of_front o (Spanned a b) [] s h k spelled = cc
@@ -321,6 +322,7 @@ pub names_number : (o : Origin) (f : Front) (ts : List Token) (s : Text) → is_
     → (is_alpha_name o (skipped o s) ≡ false) × (nat_lt 0 (numeric_name_width o (skipped o s)) ≡ true)
 names_number o (Hand k) (Plain j w ∷ ts) s n h spelled =
     shows_numeric o k j w s spelled.0 (same_leaf k j (and_left _ _ h)) n (and_right (leaf_number j == leaf_number k) _ h) spelled.1.0.name
+names_number o Any ts s n h spelled = cc
 names_number o None ts s n h spelled = cc
 names_number o (Spanned a b) ts s n h spelled = cc
 names_number o (Hand k) [] s n h spelled = cc
@@ -330,6 +332,7 @@ names_number o Numbered ts s n h spelled = cc
 
 pub names_alpha : (o : Origin) (f : Front) (ts : List Token) (s : Text) → is_alpha_front f ≡ true → fronts f ts ≡ true → Spells o ts s → is_alpha_name o (skipped o s) ≡ true
 names_alpha o (Hand k) (Plain j w ∷ ts) s n h spelled = shows_alpha o k j w s spelled.0 (same_leaf k j (and_left _ _ h)) n spelled.1.0.name
+names_alpha o Any ts s n h spelled = cc
 names_alpha o None ts s n h spelled = cc
 names_alpha o (Spanned a b) ts s n h spelled = cc
 names_alpha o (Hand k) [] s n h spelled = cc
@@ -338,6 +341,7 @@ names_alpha o (Hand k) (Lined a b ∷ ts) s n h spelled = cc
 names_alpha o Numbered ts s n h spelled = cc
 
 name_front : (f : Front) → is_numeric_name f ≡ true → sure (numeric_spans ++ alpha_spans) f false ≡ true
+name_front Any h = cc
 name_front None h = cc
 name_front (Spanned a b) h = cc
 name_front (Hand leaf.Name) h = refl
@@ -346,6 +350,7 @@ name_front (Hand k) h = cc
 name_front Numbered h = cc
 
 alpha_front : (f : Front) → is_alpha_front f ≡ true → sure (numeric_spans ++ alpha_spans) f false ≡ true
+alpha_front Any h = cc
 alpha_front None h = cc
 alpha_front (Spanned a b) h = cc
 alpha_front (Hand leaf.AlphaName) h = refl
@@ -393,3 +398,108 @@ says_numeric o f false ts s h k spelled = elim (or_cases (is_alpha_front f) (sur
     or_none _ _ (sign_spans (class_at o s) ∙ spans_right name_spans numeric_spans (class_at o s) none)
     (ap (nat_lt 0) (not_numeric o (skipped o s) (not_named o (skipped o s) (spans_left name_spans numeric_spans (class_at o s) none)))))
 ]
+
+and_none : (a b : Bool) → a ≡ false → (a && b) ≡ false
+and_none true b h = cc
+and_none false b h = refl
+
+shows_hex : (o : Origin) (k j : Leaf) (w s : Text) → j ≡ k → is_hex_front (Hand k) ≡ true → ShowsHex o (Plain j w) s → is_hex (kept o (first (skipped o s))) ≡ true
+shows_hex o leaf.HexPair j w s same h shown = let P : Leaf → Type 0 = λ l. ShowsHex o (Plain l w) s in subst P same shown
+shows_hex o k j w s same h shown = cc
+
+says_hex : (o : Origin) (f : Front) (ts : List Token) (s : Text) → is_hex_front f ≡ true → fronts f ts ≡ true → Spells o ts s → is_hex (kept o (first (skipped o s))) ≡ true
+says_hex o (Hand k) (Plain j w ∷ ts) s n h spelled = shows_hex o k j w s (same_leaf k j (and_left _ _ h)) n spelled.1.0.hex
+says_hex o Any ts s n h spelled = cc
+says_hex o None ts s n h spelled = cc
+says_hex o (Spanned a b) ts s n h spelled = cc
+says_hex o (Hand k) [] s n h spelled = cc
+says_hex o (Hand k) (Coded c ∷ ts) s n h spelled = cc
+says_hex o (Hand k) (Lined a b ∷ ts) s n h spelled = cc
+says_hex o Numbered ts s n h spelled = cc
+
+close_kept : (o : Origin) → is_hex (kept o 41) ≡ false
+close_kept origin.Program = refl
+close_kept origin.Immediate = refl
+close_kept origin.Atoms = refl
+
+close_code : (a b c : ℕ) → (a == 41 && b == 41) ≡ true → is_among a b c ≡ true → (c == 41) ≡ true
+close_code a b c h k = grind (arith, nat_tests)
+
+no_hex : (o : Origin) (f : Front) (ts : List Token) (s : Text) → surely start.Hex f false ≡ true → fronts f ts ≡ true → Spells o ts s → is_hex (kept o (first (skipped o s))) ≡ false
+no_hex o (Spanned a b) (Coded c ∷ ts) s h k spelled =
+    ap (λ (n : ℕ). is_hex (kept o n)) (equal (first (skipped o s)) 41 (spelled.1.0.closes refl ∙ close_code a b c h k)) ∙ close_kept o
+no_hex o (Spanned a b) [] s h k spelled = cc
+no_hex o (Spanned a b) (Plain j w ∷ ts) s h k spelled = cc
+no_hex o (Spanned a b) (Lined x y ∷ ts) s h k spelled = cc
+no_hex o Any ts s h k spelled = cc
+no_hex o None ts s h k spelled = cc
+no_hex o (Hand l) ts s h k spelled = cc
+no_hex o Numbered ts s h k spelled = cc
+
+says_line : (o : Origin) (f : Front) (ts : List Token) (s : Text) → is_numbered f ≡ true → fronts f ts ≡ true → Spells o ts s → is_line o (class_at o s) ≡ true
+says_line o Numbered (Lined a b ∷ ts) s n h spelled = spelled.1.0.line
+says_line o Numbered [] s n h spelled = cc
+says_line o Numbered (Coded c ∷ ts) s n h spelled = cc
+says_line o Numbered (Plain j w ∷ ts) s n h spelled = cc
+says_line o Any ts s n h spelled = cc
+says_line o None ts s n h spelled = cc
+says_line o (Spanned a b) ts s n h spelled = cc
+says_line o (Hand k) ts s n h spelled = cc
+
+-- one code
+one_code : (a c : ℕ) (b : Bool) → spans ((a, a) ∷ []) c ≡ b → (c == a) ≡ b
+one_code a c b h = span_of a c ∙ sym (or_false _) ∙ h
+
+one_span : (a d c : ℕ) (b : Bool) → spans ((a, d) ∷ []) c ≡ b → is_among a d c ≡ b
+one_span a d c b h = sym (or_false _) ∙ h
+
+-- a text answers what the front of its tokens settles
+pub says : (o : Origin) (st : Start) (f : Front) (b : Bool) (ts : List Token) (s : Text) → surely st f b ≡ true → fronts f ts ≡ true → Spells o ts s → starts o st s ≡ b
+unfolding starts
+says o (start.Code a) f b ts s h k spelled = says_code o a s b (class_says ((a, a) ∷ []) o f b ts s h k spelled)
+says o (start.Two a c) f b ts s h k spelled = says_two o a c s b (class_says ((a, a) ∷ (c, c) ∷ []) o f b ts s h k spelled)
+says o (start.Three a c d) f b ts s h k spelled = says_three o a c d s b (class_says ((a, a) ∷ (c, c) ∷ (d, d) ∷ []) o f b ts s h k spelled)
+says o (start.Among a c) f b ts s h k spelled = says_among o a c s b (class_says ((a, c) ∷ []) o f b ts s h k spelled)
+says o (start.Pair a c) f true ts s h k spelled = cc
+says o (start.Pair a c) f false ts s h k spelled = and_none _ _ (one_code a (class_at o s) false (class_says ((a, a) ∷ []) o f false ts s h k spelled))
+says o (start.Letters a c d) f true ts s h k spelled = cc
+says o (start.Letters a c d) f false ts s h k spelled = and_none _ _ (one_code a (class_at o s) false (class_says ((a, a) ∷ []) o f false ts s h k spelled))
+says o start.Number f b ts s h k spelled = says_number o s b (class_says number_spans o f b ts s h k spelled)
+says o start.Line f true ts s h k spelled = says_line o f ts s h k spelled
+says o start.Line f false ts s h k spelled = no_line o (class_at o s) (class_says ((48, 57) ∷ (255, 255) ∷ []) o f false ts s h k spelled)
+says o start.Numeric f b ts s h k spelled = says_numeric o f b ts s h k spelled
+says o start.Alpha f b ts s h k spelled = says_alpha o f b ts s h k spelled
+says o start.Hex f true ts s h k spelled = says_hex o f ts s h k spelled
+says o start.Hex f false ts s h k spelled = no_hex o f ts s h k spelled
+says o start.Array f b ts s h k spelled = cc
+says o start.AlphaInside f b ts s h k spelled = cc
+says o start.CommaOrAlpha f true ts s h k spelled = elim (or_cases (alpha f true) (sure ((44, 44) ∷ []) f true) h) [
+  | inl g ↦ or_other _ _ (says_alpha o f true ts s g k spelled)
+  | inr g ↦ or_one _ _ (one_code 44 (class_at o s) true (class_says ((44, 44) ∷ []) o f true ts s g k spelled))
+]
+says o start.CommaOrAlpha f false ts s h k spelled =
+    or_none _ _ (one_code 44 (class_at o s) false (class_says ((44, 44) ∷ []) o f false ts s (and_right (alpha f false) _ h) k spelled)) (says_alpha o f false ts s (and_left _ _ h) k spelled)
+says o start.PrintItem f true ts s h k spelled = elim (or_cases (numeric f true) (alpha f true || sure ((word.TAB_OPEN, word.HEXOF_OPEN) ∷ []) f true) h) [
+  | inl g ↦ or_other _ _ (or_one _ _ (says_numeric o f true ts s g k spelled))
+  | inr g ↦ elim (or_cases (alpha f true) (sure ((word.TAB_OPEN, word.HEXOF_OPEN) ∷ []) f true) g) [
+    | inl e ↦ or_other _ _ (or_other _ _ (says_alpha o f true ts s e k spelled))
+    | inr e ↦ or_one _ _ (one_span word.TAB_OPEN word.HEXOF_OPEN (class_at o s) true (class_says ((word.TAB_OPEN, word.HEXOF_OPEN) ∷ []) o f true ts s e k spelled))
+  ]
+]
+says o start.PrintItem f false ts s h k spelled =
+    let rest = and_right (numeric f false) _ h in
+    or_none _ _ (one_span word.TAB_OPEN word.HEXOF_OPEN (class_at o s) false (class_says ((word.TAB_OPEN, word.HEXOF_OPEN) ∷ []) o f false ts s (and_right (alpha f false) _ rest) k spelled))
+    (or_none _ _ (says_numeric o f false ts s (and_left _ _ h) k spelled) (says_alpha o f false ts s (and_left _ _ rest) k spelled))
+
+-- one of some fronts stands there, so what all of them settle is answered
+pub some_front : (q : Front → Bool) (fs : List Front) (ts : List Token) → every q fs ≡ true → some (λ (f : Front). fronts f ts) fs ≡ true → (f : Front) × ((q f ≡ true) × (fronts f ts ≡ true))
+some_front q [] ts h k = cc
+some_front q (f ∷ fs) ts h k = elim (or_cases (fronts f ts) (some (λ (g : Front). fronts g ts) fs) k) [
+  | inl g ↦ (f, (and_left _ _ h, g))
+  | inr g ↦ some_front q fs ts (and_right (q f) _ h) g
+]
+
+pub answers : (o : Origin) (st : Start) (fs : List Front) (b : Bool) (ts : List Token) (s : Text) → every (λ (f : Front). surely st f b) fs ≡ true
+    → some (λ (f : Front). fronts f ts) fs ≡ true → Spells o ts s → starts o st s ≡ b
+answers o st fs b ts s h k spelled =
+    let one = some_front (λ (f : Front). surely st f b) fs ts h k in says o st one.0 b ts s one.1.0 one.1.1 spelled

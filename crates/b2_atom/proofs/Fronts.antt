@@ -41,14 +41,16 @@ abbrev pub some : {A : Type 0} → (A → Bool) → List A → Bool
 some p [] = false
 some p (x ∷ xs) = p x || some p xs
 
--- what stands at the front of tokens: none, a code of a span, a leaf, or a line number
+-- what stands at the front of tokens: anything, none, a code of a span, a leaf, or a line number
 pub data Front : Type 0 where
+  Any : Front
   None : Front
   Spanned : ℕ → ℕ → Front
   Hand : Leaf → Front
   Numbered : Front
 
 abbrev pub fronts : Front → List Token → Bool
+fronts Any ts = true
 fronts None [] = true
 fronts (Spanned a b) (Coded c ∷ ts) = is_among a b c
 fronts (Hand k) (Plain j w ∷ ts) = leaf_number j == leaf_number k && is_whole j w
@@ -70,6 +72,7 @@ leaf_spans leaf.Relation = (60, 62) ∷ []
 leaf_spans k = []
 
 abbrev pub classes : Front → List Span
+classes Any = []
 classes None = (0, 0) ∷ []
 classes (Spanned a b) = (a, b) ∷ []
 classes (Hand k) = leaf_spans k
@@ -166,15 +169,17 @@ refused_by (Asked s) f = surely s f false
 refused_by Closed f = is_none f || is_colon f
 refused_by Over f = is_none f
 
--- what is known of a row: the fronts of its trees, whether they may be empty, and what must not stand behind them
+-- what is known of a row: the fronts of its trees, whether they may be empty, what must not stand behind them, how
+-- deep their parts go, and whether no statement stands in them
 pub record Known : Type 0 where
   pub heads : List Front
   pub empty : Bool
   pub tails : List Tail
   pub rank : ℕ
+  pub plain : Bool
 
 abbrev pub none_known : Known
-none_known = record { heads = []; empty = false; tails = []; rank = 0 }
+none_known = record { heads = []; empty = false; tails = []; rank = 0; plain = true }
 
 abbrev pub when : {A : Type 0} → Bool → List A → List A
 when true xs = xs
@@ -192,25 +197,25 @@ leaf_front leaf.LineNumber = Numbered
 leaf_front k = Hand k
 
 abbrev pub of_item : (ℕ → Known) → Item → Known
-of_item part (Word c) = record { heads = Spanned c c ∷ []; empty = false; tails = []; rank = 0 }
-of_item part (Sign c code) = record { heads = Spanned c c ∷ []; empty = false; tails = []; rank = 0 }
-of_item part (Among a b code) = record { heads = Spanned a b ∷ []; empty = false; tails = []; rank = 0 }
-of_item part (ProgramWord c) = record { heads = Spanned c c ∷ []; empty = false; tails = []; rank = 0 }
-of_item part (Ignored c) = record { heads = []; empty = true; tails = Asked (start.Code c) ∷ []; rank = 0 }
-of_item part Comma = record { heads = Spanned 44 44 ∷ []; empty = false; tails = []; rank = 0 }
+of_item part (Word c) = record { heads = Spanned c c ∷ []; empty = false; tails = []; rank = 0; plain = true }
+of_item part (Sign c code) = record { heads = Spanned c c ∷ []; empty = false; tails = []; rank = 0; plain = true }
+of_item part (Among a b code) = record { heads = Spanned a b ∷ []; empty = false; tails = []; rank = 0; plain = true }
+of_item part (ProgramWord c) = record { heads = Spanned c c ∷ []; empty = false; tails = []; rank = 0; plain = true }
+of_item part (Ignored c) = record { heads = []; empty = true; tails = Asked (start.Code c) ∷ []; rank = 0; plain = true }
+of_item part Comma = record { heads = Spanned 44 44 ∷ []; empty = false; tails = []; rank = 0; plain = true }
 of_item part LeftOut = none_known
-of_item part End = record { heads = []; empty = true; tails = Over ∷ []; rank = 0 }
-of_item part (Typed leaf.Text code) = record { heads = Hand leaf.Text ∷ []; empty = true; tails = Over ∷ []; rank = 0 }
-of_item part (Typed k code) = record { heads = leaf_front k ∷ []; empty = false; tails = []; rank = 0 }
-of_item part (Part n) = let k = part n in record { heads = k.heads; empty = k.empty; tails = k.tails; rank = suc k.rank }
-of_item part (Maybe s n) = let k = part n in record { heads = k.heads; empty = true; tails = Asked s ∷ k.tails; rank = suc k.rank }
+of_item part End = record { heads = []; empty = true; tails = Over ∷ []; rank = 0; plain = true }
+of_item part (Typed leaf.Text code) = record { heads = Hand leaf.Text ∷ []; empty = true; tails = Over ∷ []; rank = 0; plain = true }
+of_item part (Typed k code) = record { heads = leaf_front k ∷ []; empty = false; tails = []; rank = 0; plain = true }
+of_item part (Part n) = let k = part n in record { heads = k.heads; empty = k.empty; tails = k.tails; rank = suc k.rank; plain = k.plain }
+of_item part (Maybe s n) = let k = part n in record { heads = k.heads; empty = true; tails = Asked s ∷ k.tails; rank = suc k.rank; plain = k.plain }
 of_item part (Either s n m) =
     let k = part n in
     let j = part m in
-    record { heads = k.heads ++ j.heads; empty = j.empty; tails = when j.empty (Asked s ∷ []) ++ (k.tails ++ j.tails); rank = suc (larger k.rank j.rank) }
-of_item part (Many s n) = let k = part n in record { heads = k.heads; empty = true; tails = Asked s ∷ k.tails; rank = suc k.rank }
+    record { heads = k.heads ++ j.heads; empty = j.empty; tails = when j.empty (Asked s ∷ []) ++ (k.tails ++ j.tails); rank = suc (larger k.rank j.rank); plain = k.plain && j.plain }
+of_item part (Many s n) = let k = part n in record { heads = k.heads; empty = true; tails = Asked s ∷ k.tails; rank = suc k.rank; plain = k.plain }
 of_item part (Nest n) = none_known
-of_item part (Statement p) = record { heads = statement_heads; empty = false; tails = Closed ∷ []; rank = 0 }
+of_item part (Statement p) = record { heads = statement_heads; empty = false; tails = Closed ∷ []; rank = 0; plain = false }
 
 abbrev pub joined_known : Known → Known → Known
 joined_known i k = record {
@@ -218,10 +223,11 @@ joined_known i k = record {
   empty = i.empty && k.empty;
   tails = when k.empty i.tails ++ k.tails;
   rank = larger i.rank k.rank;
+  plain = i.plain && k.plain;
 }
 
 abbrev pub of_items : (ℕ → Known) → List Item → Known
-of_items part [] = record { heads = []; empty = true; tails = []; rank = 0 }
+of_items part [] = record { heads = []; empty = true; tails = []; rank = 0; plain = true }
 of_items part (i ∷ is) = joined_known (of_item part i) (of_items part is)
 
 unfoldable pub of_row : ℕ → ℕ → Known
@@ -235,29 +241,42 @@ of n = of_row 40 n
 abbrev pub refuse : List Tail → List Front → Bool
 refuse ts fs = every (λ (t : Tail). every (refused_by t) fs) ts
 
--- questions that look at more than the next token
-abbrev pub looks_far : Start → Bool
-looks_far start.Array = true
-looks_far start.AlphaInside = true
-looks_far (start.Letters a b c) = a == 66
-looks_far s = false
+-- a choice by more than the next token, and between which rows
+abbrev pub is_far : Start → ℕ → ℕ → Bool
+is_far start.Array n m = n == row.WHOLE_ARRAY && (m == row.OPERAND_OF_ANY_KIND || m == row.RECEIVER)
+is_far start.AlphaInside n m = n == row.SCRATCHED_FILE && m == row.SUM
+is_far (start.Letters a b c) n m = a == 66 && (b == 69 && c == 71) && (n == row.BEG && m == row.SUM)
+is_far s n m = false
+
+abbrev pub is_near : (ℕ → Known) → Start → ℕ → ℕ → Bool
+is_near part s n m = every (λ (f : Front). surely s f true) (part n).heads && every (λ (f : Front). surely s f false) (part m).heads
+
+abbrev pub is_last : List Item → Bool
+is_last [] = true
+is_last (i ∷ is) = false
 
 -- whether each choice of an item is settled by what stands next
-abbrev pub settled_item : (ℕ → Known) → Item → Bool
-settled_item part (Maybe s n) = not (part n).empty && every (λ (f : Front). surely s f true) (part n).heads
-settled_item part (Either s n m) =
-    not (part n).empty
-    && (looks_far s || (every (λ (f : Front). surely s f true) (part n).heads && every (λ (f : Front). surely s f false) (part m).heads))
-settled_item part (Many s n) =
+abbrev pub settled_item : (ℕ → Known) → Item → List Item → Bool
+settled_item part (Maybe s n) is = not (part n).empty && every (λ (f : Front). surely s f true) (part n).heads
+settled_item part (Either s n m) is = not (part n).empty && (is_far s n m || is_near part s n m)
+settled_item part (Many s n) is =
     not (part n).empty && (every (λ (f : Front). surely s f true) (part n).heads && refuse (part n).tails (part n).heads)
-settled_item part i = true
+settled_item part (Nest n) is = (part n).plain
+settled_item part End is = is_last is
+settled_item part (Typed leaf.Text code) is = false
+settled_item part i is = true
 
 abbrev pub settled : (ℕ → Known) → List Item → Bool
 settled part [] = true
-settled part (i ∷ is) = settled_item part i && (refuse (of_item part i).tails (of_items part is).heads && settled part is)
+settled part (i ∷ is) = settled_item part i is && (refuse (of_item part i).tails (of_items part is).heads && settled part is)
+
+-- a row that ends in free text: a remark, or an image line
+abbrev pub is_free_row : List Item → Bool
+is_free_row (i ∷ Typed leaf.Text code ∷ []) = true
+is_free_row is = false
 
 abbrev pub settled_row : List Item → Bool
-settled_row is = nat_lt (of_items of is).rank 39 && settled of is
+settled_row is = nat_le (of_items (of_row 39) is).rank 39 && (is_free_row is || settled of is)
 
 abbrev pub settled_rows : List (List Item) → Bool
 settled_rows [] = true

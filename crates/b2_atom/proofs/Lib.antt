@@ -5,3 +5,4 @@ pub mod Codes
 pub mod Fronts
 pub mod Tests
 pub mod FrontAnswers
+pub mod Settled

@@ -45,6 +45,15 @@ abbrev pub is_free : Token → Bool
 is_free (Plain leaf.Text w) = true
 is_free t = false
 
+abbrev pub is_image : Token → Bool
+is_image (Plain leaf.Image w) = true
+is_image t = false
+
+-- a word that begins with `$`
+abbrev pub is_dollar : Token → Bool
+is_dollar (Coded c) = is_among word.DOLLAR_BREAK word.DOLLAR_CLOSE c || is_among word.DOLLAR_PACK_OPEN word.DOLLAR_UNPACK_OPEN c
+is_dollar t = false
+
 -- a token that doesn't begin with a comparison sign
 abbrev pub is_unrelated : Token → Bool
 is_unrelated (Coded c) = not (c == 61)
@@ -62,18 +71,18 @@ abbrev pub may_follow_code : ℕ → Token → Bool
 may_follow_code c t =
     if c == word.REM || c == 37 then is_free t
     else (not (is_free t) && (if is_letter c then is_lettered c t
-    else (if c == word.DATA then not (is_mark t) else true)))
+    else (if c == word.DATA then not (is_mark t || is_image t) else (if c == word.PRINT then not (is_image t) else true))))
 
 -- what may stand behind what is typed by hand
 abbrev pub may_follow_leaf : Leaf → Token → Bool
 may_follow_leaf leaf.Number t = is_mark t
 may_follow_leaf leaf.SignedNumber t = is_mark t
-may_follow_leaf leaf.Name t = is_mark t
-may_follow_leaf leaf.LocalName t = is_mark t
+may_follow_leaf leaf.Name t = is_mark t && not (is_dollar t)
+may_follow_leaf leaf.LocalName t = is_mark t && not (is_dollar t)
 may_follow_leaf leaf.FunctionName t = is_mark t
 may_follow_leaf leaf.Slot t = is_mark t
 may_follow_leaf leaf.Small t = is_mark t || is_literal t
-may_follow_leaf leaf.Relation t = is_unrelated t && not (is_free t)
+may_follow_leaf leaf.Relation t = is_unrelated t && not (is_free t || is_image t)
 may_follow_leaf leaf.Text t = false
 may_follow_leaf k t = not (is_free t)
 
