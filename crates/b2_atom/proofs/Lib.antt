@@ -6,3 +6,4 @@ pub mod Fronts
 pub mod Tests
 pub mod FrontAnswers
 pub mod Settled
+pub mod Heads
