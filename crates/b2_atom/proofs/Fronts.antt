@@ -212,9 +212,9 @@ of_item part (Maybe s n) = let k = part n in record { heads = k.heads; empty = t
 of_item part (Either s n m) =
     let k = part n in
     let j = part m in
-    record { heads = k.heads ++ j.heads; empty = j.empty; tails = when j.empty (Asked s ∷ []) ++ (k.tails ++ j.tails); rank = suc (larger k.rank j.rank); plain = k.plain && j.plain }
+    record { heads = k.heads ++ j.heads; empty = k.empty || j.empty; tails = when j.empty (Asked s ∷ []) ++ (k.tails ++ j.tails); rank = suc (larger k.rank j.rank); plain = k.plain && j.plain }
 of_item part (Many s n) = let k = part n in record { heads = k.heads; empty = true; tails = Asked s ∷ k.tails; rank = suc k.rank; plain = k.plain }
-of_item part (Nest n) = none_known
+of_item part (Nest n) = record { heads = Any ∷ []; empty = true; tails = []; rank = 0; plain = true }
 of_item part (Statement p) = record { heads = statement_heads; empty = false; tails = Closed ∷ []; rank = 0; plain = false }
 
 abbrev pub joined_known : Known → Known → Known
@@ -255,13 +255,17 @@ abbrev pub is_last : List Item → Bool
 is_last [] = true
 is_last (i ∷ is) = false
 
+abbrev pub is_closed : List Item → Bool
+is_closed (Sign c code ∷ is) = c == 41
+is_closed is = false
+
 -- whether each choice of an item is settled by what stands next
 abbrev pub settled_item : (ℕ → Known) → Item → List Item → Bool
 settled_item part (Maybe s n) is = not (part n).empty && every (λ (f : Front). surely s f true) (part n).heads
 settled_item part (Either s n m) is = not (part n).empty && (is_far s n m || is_near part s n m)
 settled_item part (Many s n) is =
     not (part n).empty && (every (λ (f : Front). surely s f true) (part n).heads && refuse (part n).tails (part n).heads)
-settled_item part (Nest n) is = (part n).plain
+settled_item part (Nest n) is = (part n).plain && (is_closed is && refuse (part n).tails (Spanned 41 41 ∷ []))
 settled_item part End is = is_last is
 settled_item part (Typed leaf.Text code) is = false
 settled_item part i is = true
@@ -281,3 +285,30 @@ settled_row is = nat_le (of_items (of_row 39) is).rank 39 && (is_free_row is || 
 abbrev pub settled_rows : List (List Item) → Bool
 settled_rows [] = true
 settled_rows (r ∷ rs) = settled_row r && settled_rows rs
+
+-- whether one front lies in another
+abbrev pub covers : Front → Front → Bool
+covers (Spanned a b) (Spanned c d) = nat_le a c && nat_le d b
+covers (Hand k) (Hand j) = leaf_number j == leaf_number k
+covers f g = false
+
+abbrev pub covered : List Front → List Front → Bool
+covered gs fs = every (λ (f : Front). some (λ (g : Front). covers g f) gs) fs
+
+-- a statement's row: it begins as statements do, and with a word or a sign where statements stand in it
+abbrev pub is_mark_item : Item → Bool
+is_mark_item (Word c) = true
+is_mark_item (Sign c code) = true
+is_mark_item (Among a b code) = true
+is_mark_item i = false
+
+abbrev pub leading : List Item → Bool
+leading [] = false
+leading (i ∷ is) = is_mark_item i
+
+abbrev pub good_statement : ℕ → Bool
+good_statement n = not (of n).empty && (covered statement_heads (of n).heads && ((of n).plain || leading (row_items n)))
+
+abbrev pub good_forms : List Form → Bool
+good_forms [] = good_statement row.ASSIGNMENT
+good_forms (f ∷ fs) = good_statement f.row && good_forms fs

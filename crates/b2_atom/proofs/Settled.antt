@@ -1,10 +1,15 @@
 -- The table is settled, as computed: each choice of a row by what stands next.
-use Rattle.std.proofs.Common.{◌≡◌, ℕ, zero, suc, ◌==◌, ◌&&◌, ◌/◌, ◌%◌, Bool, true, false, if◌then◌else◌, List, [], ◌∷◌, get_or, refl}
+use Rattle.std.proofs.Common.{◌≡◌, zero, suc, ◌==◌, ◌&&◌, ◌/◌, ◌%◌, Bool, true, false, if◌then◌else◌, List, [], ◌∷◌, get_or, refl, sym, subst, inl, inr, ◌⊎◌, ◌||◌, ℕ}
 use Rattle.b2_atom.specs.Grammar.{row_items, rows_of}
-use Rattle.b2_atom.specs.Table.{rows_0, rows_1, rows_2, rows_3}
+use Rattle.b2_atom.specs.Table.{rows_0, rows_1, rows_2, rows_3, forms}
+use Rattle.b2_atom.specs.Fitting.{is_statement, is_allowed}
+use Rattle.b2_atom.specs.declared.rows.TheConstants as row
+use Rattle.b2_atom.specs.declared.words.Origin.{Origin}
+use Rattle.b2_atom.specs.declared.forms.Place.{Place}
+use Rattle.b2_atom.specs.declared.forms.Form.{Form}
 use Rattle.b2_atom.specs.declared.forms.Item.{Item}
-use Rattle.b2_atom.proofs.Tests.{and_left, and_right}
-use Rattle.b2_atom.proofs.Fronts.{of_row, of, settled_row, settled_rows}
+use Rattle.b2_atom.proofs.Tests.{and_left, and_right, or_cases, equal}
+use Rattle.b2_atom.proofs.Fronts.{of_row, of, settled_row, settled_rows, good_statement, good_forms}
 
 settled_0 : settled_rows rows_0 ≡ true
 unfolding of_row of row_items
@@ -41,3 +46,17 @@ all_rows k = either_rows (k == 0) rows_0 _ settled_0 (either_rows (k == 1) rows_
 pub row_settled : (n : ℕ) → settled_row (row_items n) ≡ true
 unfolding row_items
 row_settled n = one_of_rows (rows_of (n / 64)) (n % 64) (all_rows (n / 64))
+
+forms_good : good_forms forms ≡ true
+unfolding of_row of row_items
+forms_good = refl
+
+one_of_forms : (o : Origin) (p : Place) (m : ℕ) (fs : List Form) → good_forms fs ≡ true → is_statement fs o p m ≡ true → good_statement m ≡ true
+one_of_forms o p m [] h k = let P : ℕ → Type 0 = λ n. good_statement n ≡ true in subst P (sym (equal m row.ASSIGNMENT k)) h
+one_of_forms o p m (f ∷ fs) h k = elim (or_cases (f.row == m && is_allowed o p f.rule) (is_statement fs o p m) k) [
+  | inl g ↦ (let P : ℕ → Type 0 = λ n. good_statement n ≡ true in subst P (equal f.row m (and_left _ _ g)) (and_left _ _ h))
+  | inr g ↦ one_of_forms o p m fs (and_right (good_statement f.row) _ h) g
+]
+
+pub statement_good : (o : Origin) (p : Place) (m : ℕ) → is_statement forms o p m ≡ true → good_statement m ≡ true
+statement_good o p m h = one_of_forms o p m forms forms_good h
