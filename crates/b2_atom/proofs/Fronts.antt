@@ -274,9 +274,14 @@ abbrev pub settled : (ℕ → Known) → List Item → Bool
 settled part [] = true
 settled part (i ∷ is) = settled_item part i is && (refuse (of_item part i).tails (of_items part is).heads && settled part is)
 
+abbrev pub is_remark_item : Item → Bool
+is_remark_item (Word c) = c == word.REM || c == 37
+is_remark_item (Sign c code) = c == word.REM || c == 37
+is_remark_item i = false
+
 -- a row that ends in free text: a remark, or an image line
 abbrev pub is_free_row : List Item → Bool
-is_free_row (i ∷ Typed leaf.Text code ∷ []) = true
+is_free_row (i ∷ Typed leaf.Text code ∷ []) = is_remark_item i
 is_free_row is = false
 
 abbrev pub settled_row : List Item → Bool

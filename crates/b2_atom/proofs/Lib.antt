@@ -7,3 +7,4 @@ pub mod Tests
 pub mod FrontAnswers
 pub mod Settled
 pub mod Heads
+pub mod Complete
