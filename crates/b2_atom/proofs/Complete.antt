@@ -22,7 +22,7 @@ use Rattle.b2_atom.specs.declared.forms.Item.{Item}
 use Rattle.b2_atom.specs.declared.forms.Item.TheVariants.{Word, Sign, Among, ProgramWord, Ignored, Comma, LeftOut, End, Typed, Part, Maybe, Either, Many, Nest, Statement}
 use Rattle.b2_atom.specs.declared.sink.Stop.{Stop}
 use Rattle.b2_atom.proofs.Tests.{and_left, and_right, or_left, or_right, or_none, or_one, or_other, or_cases, never, either_way, equal, span_of, not_true}
-use Rattle.b2_atom.proofs.Fronts.{every, some, Front, fronts, Tail, Known, when, of_item, of_items, of, refuse, settled, settled_item, settled_row}
+use Rattle.b2_atom.proofs.Fronts.{every, some, Front, fronts, Tail, Known, when, of_item, of_items, of, refuse, settled, settled_item, settled_row, is_mark_item, is_last}
 use Rattle.b2_atom.proofs.Fronts.Tail.{Asked, Closed, Over}
 use Rattle.b2_atom.proofs.FrontAnswers.{answers, same_leaf}
 use Rattle.b2_atom.proofs.Settled.{row_settled, statement_good}
@@ -111,3 +111,89 @@ token_runs st dp p o (Either x n m) t ts s h spelled = cc
 token_runs st dp p o (Many x n) t ts s h spelled = cc
 token_runs st dp p o (Nest n) t ts s h spelled = cc
 token_runs st dp p o (Statement x) t ts s h spelled = cc
+
+-- the items of a row, where so many parentheses, levels and statements may still be in it
+abbrev pub reads_row : Origin → ℕ → ℕ → ℕ → List Item → Parser Text
+reads_row o room l f is =
+    items (statement (reader o) f) (deep (reader o) (statement (reader o) f) room) (level (reader o) (statement (reader o) f) (deep (reader o) (statement (reader o) f) room) l) (reader o) is
+
+abbrev pub reads_item : Origin → ℕ → ℕ → ℕ → Item → Parser Text
+reads_item o room l f i =
+    item (statement (reader o) f) (deep (reader o) (statement (reader o) f) room) (level (reader o) (statement (reader o) f) (deep (reader o) (statement (reader o) f) room) l) (reader o) i
+
+-- a statement's word or sign counts where fuel is needed for the statements behind it
+abbrev pub lead : List Item → ℕ
+lead [] = 0
+lead (i ∷ is) = if is_mark_item i then 1 else 0
+
+-- what is known where items are read
+pub record Ready (o : Origin) (room l f : ℕ) (is : List Item) (t : Trees) (more : List Token) : Type 0 where
+  pub settles : settled of is ≡ true
+  pub ranked : (of_items of is).rank ≤ l
+  pub enough : (of_items of is).plain ≡ false → length (tokens t) ≤ lead is + f
+  pub refuses : Refused o (of_items of is).tails more
+  pub remarks : RemarksEnd (tokens t ++ more)
+
+when_true : (b : Bool) (xs : List Tail) (ys : List Tail) (o : Origin) (more : List Token) → b ≡ true → Refused o (when b xs ++ ys) more → Refused o xs more
+when_true true xs ys o more h k = refused_left o xs ys more k
+when_true false xs ys o more h k = cc
+
+-- what stands behind an item refuses what it must
+pub behind : (o : Origin) (i : Item) (is : List Item) (xs more : List Token) → Led (of_items of is) xs more → refuse (of_item of i).tails (of_items of is).heads ≡ true
+    → Refused o (of_items of (i ∷ is)).tails more → Refused o (of_item of i).tails (xs ++ more)
+behind o i is xs more (inl h) test refused =
+    let P : List Token → Type 0 = λ l. Refused o (of_item of i).tails (l ++ more) in
+    subst P (sym h.0) (when_true (of_items of is).empty (of_item of i).tails (of_items of is).tails o more h.1 refused)
+behind o i is xs more (inr h) test refused = refused_fronts o (of_item of i).tails (of_items of is).heads (xs ++ more) test h
+
+rank_left : (a b n : ℕ) → (if nat_le a b then b else a) ≤ n → a ≤ n
+rank_left a b n h = grind (arith, nat_tests)
+
+rank_right : (a b n : ℕ) → (if nat_le a b then b else a) ≤ n → b ≤ n
+rank_right a b n h = grind (arith, nat_tests)
+
+pub remarks_right : (xs ys : List Token) → RemarksEnd (xs ++ ys) → RemarksEnd ys
+remarks_right [] ys h = h
+remarks_right (x ∷ xs) ys h = remarks_right xs ys h.1
+
+-- one item and then the others
+pub next_runs : (o : Origin) (room l f : ℕ) (i : Item) (is : List Item) (a b : Trees) (mid more : List Token) (s : Text) → Runs o (reads_item o room l f i s) a mid
+    → ((u : Text) → Spells o mid u → Runs o (reads_row o room l f is u) b more) → Runs o (reads_row o room l f (i ∷ is) s) (also a b) more
+unfolding items
+next_runs o room l f i is a b mid more s h k = runs_then o (reads_item o room l f i s) (reads_row o room l f is) a b mid more h k
+
+-- no token where none is given
+pub ignored_runs : (o : Origin) (room l f c : ℕ) (more : List Token) (s : Text) → starts o (start.Code c) s ≡ false → Spells o more s → Runs o (reads_item o room l f (Ignored c) s) Done more
+unfolding item ignored starts
+ignored_runs origin.Program room l f c more s h spelled = (s, (if_is ((ahead origin.Program (skipped origin.Program s)).0 == c) false _ _ h, spelled))
+ignored_runs origin.Immediate room l f c more s h spelled = (s, (if_is ((ahead origin.Immediate (skipped origin.Immediate s)).0 == c) false _ _ h, spelled))
+ignored_runs origin.Atoms room l f c more s h spelled = (s, (refl, spelled))
+
+end_there : (o : Origin) → end_at o (skipped o []) ≡ Ok (Done, [])
+end_there origin.Program = refl
+end_there origin.Immediate = refl
+end_there origin.Atoms = refl
+
+pub end_runs : (o : Origin) (room l f : ℕ) (more : List Token) (s : Text) → more ≡ [] → Spells o more s → Runs o (reads_item o room l f End s) Done more
+unfolding item end_of_line
+end_runs o room l f more s none spelled =
+    let P : List Token → Type 0 = λ ts. Spells o ts s in
+    let Q : List Token → Type 0 = λ ts. Spells o ts [] in
+    let is : s ≡ [] = subst P none spelled in
+    ([], (ap (λ (u : Text). end_at o (skipped o u)) is ∙ end_there o, subst Q (sym none) refl))
+
+-- items that give nothing
+pub done_runs : (o : Origin) (room l f : ℕ) (is : List Item) (more : List Token) → may_end is ≡ true → settled of is ≡ true → Refused o (of_items of is).tails more
+    → (s : Text) → Spells o more s → Runs o (reads_row o room l f is s) Done more
+unfolding items
+done_runs o room l f [] more h ok refused s spelled = (s, (refl, spelled))
+done_runs o room l f (Ignored c ∷ is) more h ok refused s spelled =
+    let asked = when_true (of_items of is).empty (of_item of (Ignored c)).tails (of_items of is).tails o more (may_end_empty is h) refused in
+    next_runs o room l f (Ignored c) is Done Done more more s (ignored_runs o room l f c more s (asked.0 s spelled) spelled)
+    (done_runs o room l f is more h (and_right (refuse (of_item of (Ignored c)).tails (of_items of is).heads) _ ok) (refused_right o (when (of_items of is).empty (of_item of (Ignored c)).tails) _ more refused))
+done_runs o room l f (End ∷ is) more h ok refused s spelled =
+    let asked = when_true (of_items of is).empty (of_item of End).tails (of_items of is).tails o more (may_end_empty is h) refused in
+    next_runs o room l f End is Done Done more more s (end_runs o room l f more s asked.0 spelled)
+    (done_runs o room l f is more h (and_right (refuse (of_item of End).tails (of_items of is).heads) _ (and_right (is_last is) _ ok)) (refused_right o (when (of_items of is).empty (of_item of End).tails) _ more refused))
+done_runs o room l f (Typed leaf.Text code ∷ is) more h ok refused s spelled = cc
+done_runs o room l f (i ∷ is) more h ok refused s spelled = cc

@@ -259,21 +259,6 @@ abbrev pub is_closed : List Item → Bool
 is_closed (Sign c code ∷ is) = c == 41
 is_closed is = false
 
--- whether each choice of an item is settled by what stands next
-abbrev pub settled_item : (ℕ → Known) → Item → List Item → Bool
-settled_item part (Maybe s n) is = not (part n).empty && every (λ (f : Front). surely s f true) (part n).heads
-settled_item part (Either s n m) is = not (part n).empty && (is_far s n m || is_near part s n m)
-settled_item part (Many s n) is =
-    not (part n).empty && (every (λ (f : Front). surely s f true) (part n).heads && refuse (part n).tails (part n).heads)
-settled_item part (Nest n) is = (part n).plain && (is_closed is && refuse (part n).tails (Spanned 41 41 ∷ []))
-settled_item part End is = is_last is
-settled_item part (Typed leaf.Text code) is = false
-settled_item part i is = true
-
-abbrev pub settled : (ℕ → Known) → List Item → Bool
-settled part [] = true
-settled part (i ∷ is) = settled_item part i is && (refuse (of_item part i).tails (of_items part is).heads && settled part is)
-
 abbrev pub is_remark_item : Item → Bool
 is_remark_item (Word c) = c == word.REM || c == 37
 is_remark_item (Sign c code) = c == word.REM || c == 37
@@ -283,6 +268,26 @@ is_remark_item i = false
 abbrev pub is_free_row : List Item → Bool
 is_free_row (i ∷ Typed leaf.Text code ∷ []) = is_remark_item i
 is_free_row is = false
+
+-- a part that isn't such a row
+abbrev pub is_bound : ℕ → Bool
+is_bound n = not (is_free_row (row_items n))
+
+-- whether each choice of an item is settled by what stands next
+abbrev pub settled_item : (ℕ → Known) → Item → List Item → Bool
+settled_item part (Part n) is = is_bound n
+settled_item part (Maybe s n) is = is_bound n && (not (part n).empty && every (λ (f : Front). surely s f true) (part n).heads)
+settled_item part (Either s n m) is = (is_bound n && is_bound m) && (not (part n).empty && (is_far s n m || is_near part s n m))
+settled_item part (Many s n) is =
+    is_bound n && (not (part n).empty && (every (λ (f : Front). surely s f true) (part n).heads && refuse (part n).tails (part n).heads))
+settled_item part (Nest n) is = is_bound n && ((part n).plain && (is_closed is && refuse (part n).tails (Spanned 41 41 ∷ [])))
+settled_item part End is = is_last is
+settled_item part (Typed leaf.Text code) is = false
+settled_item part i is = true
+
+abbrev pub settled : (ℕ → Known) → List Item → Bool
+settled part [] = true
+settled part (i ∷ is) = settled_item part i is && (refuse (of_item part i).tails (of_items part is).heads && settled part is)
 
 abbrev pub settled_row : List Item → Bool
 settled_row is = nat_le (of_items (of_row 39) is).rank 39 && (is_free_row is || settled of is)
@@ -312,7 +317,9 @@ leading [] = false
 leading (i ∷ is) = is_mark_item i
 
 abbrev pub good_statement : ℕ → Bool
-good_statement n = not (of n).empty && (covered statement_heads (of n).heads && ((of n).plain || leading (row_items n)))
+good_statement n =
+    not (of n).empty
+    && (covered statement_heads (of n).heads && (((of n).plain || leading (row_items n)) && (is_free_row (row_items n) || refuse (of n).tails (None ∷ Spanned 58 58 ∷ []))))
 
 abbrev pub good_forms : List Form → Bool
 good_forms [] = good_statement row.ASSIGNMENT
