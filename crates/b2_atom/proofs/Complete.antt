@@ -22,11 +22,11 @@ use Rattle.b2_atom.specs.declared.forms.Item.{Item}
 use Rattle.b2_atom.specs.declared.forms.Item.TheVariants.{Word, Sign, Among, ProgramWord, Ignored, Comma, LeftOut, End, Typed, Part, Maybe, Either, Many, Nest, Statement}
 use Rattle.b2_atom.specs.declared.sink.Stop.{Stop}
 use Rattle.b2_atom.proofs.Tests.{and_left, and_right, or_left, or_right, or_none, or_one, or_other, or_cases, never, either_way, equal, span_of, not_true}
-use Rattle.b2_atom.proofs.Fronts.{every, some, Front, fronts, Tail, Known, when, of_item, of_items, of, refuse, settled, settled_item, settled_row, is_mark_item, is_last}
+use Rattle.b2_atom.proofs.Fronts.{every, some, Front, fronts, Tail, Known, when, of_item, of_items, of, refuse, settled, settled_item, settled_row, is_mark_item, is_last, is_free_row, of_row}
 use Rattle.b2_atom.proofs.Fronts.Tail.{Asked, Closed, Over}
 use Rattle.b2_atom.proofs.FrontAnswers.{answers, same_leaf}
 use Rattle.b2_atom.proofs.Settled.{row_settled, statement_good}
-use Rattle.b2_atom.proofs.Heads.{known, Refused, RefusedBy, refused_left, refused_right, refused_both, refused_fronts, is_closing, Led, leads, may_end_empty}
+use Rattle.b2_atom.proofs.Heads.{known, Refused, RefusedBy, refused_left, refused_right, refused_both, refused_fronts, is_closing, Led, leads, may_end_empty, led_giving}
 
 -- a reading that gives a tree, and leaves a text that spells some tokens
 abbrev pub Runs : Origin → Outcome → Trees → List Token → Type 0
@@ -197,3 +197,97 @@ done_runs o room l f (End ∷ is) more h ok refused s spelled =
     (done_runs o room l f is more h (and_right (refuse (of_item of End).tails (of_items of is).heads) _ (and_right (is_last is) _ ok)) (refused_right o (when (of_items of is).empty (of_item of End).tails) _ more refused))
 done_runs o room l f (Typed leaf.Text code ∷ is) more h ok refused s spelled = cc
 done_runs o room l f (i ∷ is) more h ok refused s spelled = cc
+
+length_append : (xs ys : List Token) → length (xs ++ ys) ≡ length xs + length ys
+length_append [] ys = omega arith
+length_append (x ∷ xs) ys = let more = length_append xs ys in omega arith
+
+and_false : (a b : Bool) → b ≡ false → (a && b) ≡ false
+and_false true b h = h
+and_false false b h = refl
+
+and_first : (a b : Bool) → a ≡ false → (a && b) ≡ false
+and_first true b h = cc
+and_first false b h = refl
+
+less_behind : (b : Bool) (n m f : ℕ) → b ≡ false → n ≤ (if b then 1 else 0) + f → n ≤ m + f
+less_behind true n m f h e = cc
+less_behind false n m f h e = omega (arith, e)
+
+less_in : (b : Bool) (a c n m f : ℕ) → b ≡ false → n ≡ a + c → n ≤ (if b then 1 else 0) + f → c ≤ m + f
+less_in true a c n m f h is e = cc
+less_in false a c n m f h is e = omega (arith, e, is)
+
+-- behind the items that give nothing
+ready_behind : (o : Origin) (room l f : ℕ) (i : Item) (is : List Item) (t : Trees) (more : List Token) → is_mark_item i ≡ false → (tests : settled of is ≡ true) → Ready o room l f (i ∷ is) t more → Ready o room l f is t more
+ready_behind o room l f i is t more unmarked tests r = record {
+  settles = tests;
+  ranked = rank_right (of_item of i).rank (of_items of is).rank l r.ranked;
+  enough = λ h. let e = r.enough (and_false (of_item of i).plain (of_items of is).plain h) in
+    less_behind (is_mark_item i) (length (tokens t)) (lead is) f unmarked e;
+  refuses = refused_right o (when (of_items of is).empty (of_item of i).tails) _ more r.refuses;
+  remarks = r.remarks;
+}
+
+abbrev RunsFrom : Origin → ℕ → ℕ → ℕ → List Item → Trees → List Token → Type 0
+RunsFrom o room l f is t more = Ready o room l f is t more → (s : Text) → Spells o (tokens t ++ more) s → Runs o (reads_row o room l f is s) t more
+
+led_from : (is : List Item) (t : Trees) (more : List Token) → Led (of_items of (giving is)) (tokens t) more → Led (of_items of is) (tokens t) more
+led_from is t more h = led_giving is (tokens t) more h
+
+by_giving : (o : Origin) (room l f : ℕ) (is : List Item) (t : Trees) (more : List Token) → Led (of_items of (giving is)) (tokens t) more → is_last (giving is) ≡ false
+    → RunsFrom o room l f (giving is) t more → RunsFrom o room l f is t more
+by_giving o room l f [] t more led some_item run ready s spelled = cc
+by_giving o room l f (Ignored c ∷ is) t more led some_item run ready s spelled =
+    let refuses_ = behind o (Ignored c) is (tokens t) more (led_from is t more led) (and_left _ _ ready.settles) ready.refuses in
+    let ready_ = ready_behind o room l f (Ignored c) is t more refl (and_right (refuse (of_item of (Ignored c)).tails (of_items of is).heads) _ ready.settles) ready in
+    next_runs o room l f (Ignored c) is Done t (tokens t ++ more) more s (ignored_runs o room l f c (tokens t ++ more) s (refuses_.0 s spelled) spelled)
+    (λ u spelled_. by_giving o room l f is t more led some_item run ready_ u spelled_)
+by_giving o room l f (End ∷ []) t more led some_item run ready s spelled = cc
+by_giving o room l f (End ∷ i ∷ is) t more led some_item run ready s spelled = cc
+by_giving o room l f (i ∷ is) t more led some_item run ready s spelled = run ready s spelled
+
+put_enough : (b : Bool) (n m f : ℕ) → suc n ≤ (if b then 1 else 0) + f → n ≤ m + f
+put_enough true n m f h = omega (arith, h)
+put_enough false n m f h = omega (arith, h)
+
+-- what a token's item leaves to the items behind it
+ready_put : (o : Origin) (room l f : ℕ) (i : Item) (is : List Item) (t : Token) (ts : Trees) (more : List Token) → settled of is ≡ true
+    → Ready o room l f (i ∷ is) (Put t ts) more → Ready o room l f is ts more
+ready_put o room l f i is t ts more tests r = record {
+  settles = tests;
+  ranked = rank_right (of_item of i).rank (of_items of is).rank l r.ranked;
+  enough = λ h. let e = r.enough (and_false (of_item of i).plain (of_items of is).plain h) in put_enough (is_mark_item i) (length (tokens ts)) (lead is) f e;
+  refuses = refused_right o (when (of_items of is).empty (of_item of i).tails) _ more r.refuses;
+  remarks = r.remarks.1;
+}
+
+-- and what a branch leaves to them
+ready_in : (o : Origin) (room l f m : ℕ) (i : Item) (is : List Item) (inner ts : Trees) (more : List Token) → is_mark_item i ≡ false → settled of is ≡ true
+    → Ready o room l f (i ∷ is) (In m inner ts) more → Ready o room l f is ts more
+ready_in o room l f m i is inner ts more unmarked tests r = record {
+  settles = tests;
+  ranked = rank_right (of_item of i).rank (of_items of is).rank l r.ranked;
+  enough = λ h. let e = r.enough (and_false (of_item of i).plain (of_items of is).plain h) in
+    let n = length_append (tokens inner) (tokens ts) in
+    less_in (is_mark_item i) (length (tokens inner)) (length (tokens ts)) (length (tokens inner ++ tokens ts)) (lead is) f unmarked n e;
+  refuses = refused_right o (when (of_items of is).empty (of_item of i).tails) _ more r.refuses;
+  remarks = (let P : List Token → Type 0 = λ l. RemarksEnd l in remarks_right (tokens inner) (tokens ts ++ more) (subst P (append_assoc (tokens inner) (tokens ts) more) r.remarks));
+}
+
+bound_row : (n : ℕ) → not (is_free_row (row_items n)) ≡ true → settled of (row_items n) ≡ true
+bound_row n h = elim (or_cases (is_free_row (row_items n)) (settled of (row_items n)) (and_right (nat_le (of_items (of_row 39) (row_items n)).rank 39) _ (row_settled n))) [
+  | inl g ↦ never (is_free_row (row_items n)) g (not_true _ h)
+  | inr g ↦ g
+]
+
+-- what is known where a row is read inside an item
+ready_row : (o : Origin) (room l f n : ℕ) (inner : Trees) (more : List Token) → not (is_free_row (row_items n)) ≡ true → (of n).rank ≤ l
+    → ((of n).plain ≡ false → length (tokens inner) ≤ f) → Refused o (of n).tails more → RemarksEnd (tokens inner ++ more) → Ready o room l f (row_items n) inner more
+ready_row o room l f n inner more bound rank_is enough_is refuses_ remarks_ = record {
+  settles = bound_row n bound;
+  ranked = (let P : Known → Type 0 = λ k. k.rank ≤ l in subst P (sym (known n)) rank_is);
+  enough = λ h. let e = enough_is (ap (λ (k : Known). k.plain) (sym (known n)) ∙ h) in omega (arith, e);
+  refuses = (let P : Known → Type 0 = λ k. Refused o k.tails more in subst P (sym (known n)) refuses_);
+  remarks = remarks_;
+}

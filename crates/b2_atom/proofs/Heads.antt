@@ -235,7 +235,7 @@ giving_known (Ignored c ∷ is) = giving_known is
 giving_known (End ∷ is) = giving_known is
 giving_known (i ∷ is) = (refl, refl)
 
-led_giving : (is : List Item) (xs more : List Token) → Led (of_items of (giving is)) xs more → Led (of_items of is) xs more
+pub led_giving : (is : List Item) (xs more : List Token) → Led (of_items of (giving is)) xs more → Led (of_items of is) xs more
 led_giving is xs more (inl h) = inl (h.0, sym (giving_known is).1 ∙ h.1)
 led_giving is xs more (inr h) = inr (ap (some (λ (f : Front). fronts f (xs ++ more))) (sym (giving_known is).0) ∙ h)
 
