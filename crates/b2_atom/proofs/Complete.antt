@@ -44,7 +44,7 @@ runs_under o n out t more h = (h.0, (ap (under n) h.1.0, h.1.1))
 pub runs_is : (o : Origin) (out other : Outcome) (t : Trees) (more : List Token) → out ≡ other → Runs o other t more → Runs o out t more
 runs_is o out other t more same h = (h.0, (same ∙ h.1.0, h.1.1))
 
-if_is : (b c : Bool) (x y : Outcome) → b ≡ c → (if b then x else y) ≡ (if c then x else y)
+pub if_is : (b c : Bool) (x y : Outcome) → b ≡ c → (if b then x else y) ≡ (if c then x else y)
 if_is b c x y h = ap (λ (d : Bool). if d then x else y) h
 
 -- a word or a sign
@@ -146,7 +146,7 @@ behind o i is xs more (inl h) test refused =
     subst P (sym h.0) (when_true (of_items of is).empty (of_item of i).tails (of_items of is).tails o more h.1 refused)
 behind o i is xs more (inr h) test refused = refused_fronts o (of_item of i).tails (of_items of is).heads (xs ++ more) test h
 
-rank_left : (a b n : ℕ) → (if nat_le a b then b else a) ≤ n → a ≤ n
+pub rank_left : (a b n : ℕ) → (if nat_le a b then b else a) ≤ n → a ≤ n
 rank_left a b n h = grind (arith, nat_tests)
 
 rank_right : (a b n : ℕ) → (if nat_le a b then b else a) ≤ n → b ≤ n
@@ -198,7 +198,7 @@ done_runs o room l f (End ∷ is) more h ok refused s spelled =
 done_runs o room l f (Typed leaf.Text code ∷ is) more h ok refused s spelled = cc
 done_runs o room l f (i ∷ is) more h ok refused s spelled = cc
 
-length_append : (xs ys : List Token) → length (xs ++ ys) ≡ length xs + length ys
+pub length_append : (xs ys : List Token) → length (xs ++ ys) ≡ length xs + length ys
 length_append [] ys = omega arith
 length_append (x ∷ xs) ys = let more = length_append xs ys in omega arith
 
@@ -229,13 +229,13 @@ ready_behind o room l f i is t more unmarked tests r = record {
   remarks = r.remarks;
 }
 
-abbrev RunsFrom : Origin → ℕ → ℕ → ℕ → List Item → Trees → List Token → Type 0
+abbrev pub RunsFrom : Origin → ℕ → ℕ → ℕ → List Item → Trees → List Token → Type 0
 RunsFrom o room l f is t more = Ready o room l f is t more → (s : Text) → Spells o (tokens t ++ more) s → Runs o (reads_row o room l f is s) t more
 
 led_from : (is : List Item) (t : Trees) (more : List Token) → Led (of_items of (giving is)) (tokens t) more → Led (of_items of is) (tokens t) more
 led_from is t more h = led_giving is (tokens t) more h
 
-by_giving : (o : Origin) (room l f : ℕ) (is : List Item) (t : Trees) (more : List Token) → Led (of_items of (giving is)) (tokens t) more → is_last (giving is) ≡ false
+pub by_giving : (o : Origin) (room l f : ℕ) (is : List Item) (t : Trees) (more : List Token) → Led (of_items of (giving is)) (tokens t) more → is_last (giving is) ≡ false
     → RunsFrom o room l f (giving is) t more → RunsFrom o room l f is t more
 by_giving o room l f [] t more led some_item run ready s spelled = cc
 by_giving o room l f (Ignored c ∷ is) t more led some_item run ready s spelled =
@@ -252,7 +252,7 @@ put_enough true n m f h = omega (arith, h)
 put_enough false n m f h = omega (arith, h)
 
 -- what a token's item leaves to the items behind it
-ready_put : (o : Origin) (room l f : ℕ) (i : Item) (is : List Item) (t : Token) (ts : Trees) (more : List Token) → settled of is ≡ true
+pub ready_put : (o : Origin) (room l f : ℕ) (i : Item) (is : List Item) (t : Token) (ts : Trees) (more : List Token) → settled of is ≡ true
     → Ready o room l f (i ∷ is) (Put t ts) more → Ready o room l f is ts more
 ready_put o room l f i is t ts more tests r = record {
   settles = tests;
@@ -263,7 +263,7 @@ ready_put o room l f i is t ts more tests r = record {
 }
 
 -- and what a branch leaves to them
-ready_in : (o : Origin) (room l f m : ℕ) (i : Item) (is : List Item) (inner ts : Trees) (more : List Token) → is_mark_item i ≡ false → settled of is ≡ true
+pub ready_in : (o : Origin) (room l f m : ℕ) (i : Item) (is : List Item) (inner ts : Trees) (more : List Token) → is_mark_item i ≡ false → settled of is ≡ true
     → Ready o room l f (i ∷ is) (In m inner ts) more → Ready o room l f is ts more
 ready_in o room l f m i is inner ts more unmarked tests r = record {
   settles = tests;
@@ -282,7 +282,7 @@ bound_row n h = elim (or_cases (is_free_row (row_items n)) (settled of (row_item
 ]
 
 -- what is known where a row is read inside an item
-ready_row : (o : Origin) (room l f n : ℕ) (inner : Trees) (more : List Token) → not (is_free_row (row_items n)) ≡ true → (of n).rank ≤ l
+pub ready_row : (o : Origin) (room l f n : ℕ) (inner : Trees) (more : List Token) → not (is_free_row (row_items n)) ≡ true → (of n).rank ≤ l
     → ((of n).plain ≡ false → length (tokens inner) ≤ f) → Refused o (of n).tails more → RemarksEnd (tokens inner ++ more) → Ready o room l f (row_items n) inner more
 ready_row o room l f n inner more bound rank_is enough_is refuses_ remarks_ = record {
   settles = bound_row n bound;

@@ -239,7 +239,7 @@ pub led_giving : (is : List Item) (xs more : List Token) → Led (of_items of (g
 led_giving is xs more (inl h) = inl (h.0, sym (giving_known is).1 ∙ h.1)
 led_giving is xs more (inr h) = inr (ap (some (λ (f : Front). fronts f (xs ++ more))) (sym (giving_known is).0) ∙ h)
 
-led_known : (n : ℕ) (xs more : List Token) → Led (of_items of (row_items n)) xs more → Led (of n) xs more
+pub led_known : (n : ℕ) (xs more : List Token) → Led (of_items of (row_items n)) xs more → Led (of n) xs more
 led_known n xs more (inl h) = inl (h.0, ap (λ (k : Known). k.empty) (sym (known n)) ∙ h.1)
 led_known n xs more (inr h) = inr (ap (λ (k : Known). some (λ (f : Front). fronts f (xs ++ more)) k.heads) (sym (known n)) ∙ h)
 

@@ -8,3 +8,4 @@ pub mod FrontAnswers
 pub mod Settled
 pub mod Heads
 pub mod Complete
+pub mod Branches
