@@ -291,3 +291,7 @@ ready_row o room l f n inner more bound rank_is enough_is refuses_ remarks_ = re
   refuses = (let P : Known → Type 0 = λ k. Refused o k.tails more in subst P (sym (known n)) refuses_);
   remarks = remarks_;
 }
+
+pub put_runs : (o : Origin) (room l f : ℕ) (i : Item) (t : Token) (ts : List Token) (s : Text) → fits_token o i t ≡ true → Spells o (t ∷ ts) s → Runs o (reads_item o room l f i s) (Put t Done) ts
+put_runs o room l f i t ts s fits spelled =
+    token_runs (statement (reader o) f) (deep (reader o) (statement (reader o) f) room) (level (reader o) (statement (reader o) f) (deep (reader o) (statement (reader o) f) room) l) o i t ts s fits spelled

@@ -265,9 +265,13 @@ is_remark_item (Sign c code) = c == word.REM || c == 37
 is_remark_item i = false
 
 -- a row that ends in free text: a remark, or an image line
+abbrev pub is_text : List Item → Bool
+is_text (Typed leaf.Text code ∷ []) = true
+is_text is = false
+
 abbrev pub is_free_row : List Item → Bool
-is_free_row (i ∷ Typed leaf.Text code ∷ []) = is_remark_item i
-is_free_row is = false
+is_free_row [] = false
+is_free_row (i ∷ is) = is_remark_item i && is_text is
 
 -- a part that isn't such a row
 abbrev pub is_bound : ℕ → Bool

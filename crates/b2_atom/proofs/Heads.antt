@@ -331,3 +331,68 @@ pub leads : (t : Trees) → Leads t
 leads Done o room is h more = inl (refl, may_end_empty is h)
 leads (Put t ts) o room is h more = led_giving is (t ∷ tokens ts) more (put_leads t ts (leads ts) o room (giving is) h more)
 leads (In m inner ts) o room is h more = led_giving is (tokens inner ++ tokens ts) more (in_leads inner ts (leads inner) (leads ts) o room m (giving is) h more)
+
+-- a tree of a row that isn't empty has a token
+abbrev Fills : Trees → Type 0
+Fills t = (o : Origin) (room : ℕ) (is : List Item) → Fits o room is t → (of_items of is).empty ≡ false → 0 < length (tokens t)
+
+and_cases : (a b : Bool) → (a && b) ≡ false → (a ≡ false) ⊎ (b ≡ false)
+and_cases true b h = inr h
+and_cases false b h = inl refl
+
+more_left : (xs ys : List Token) → 0 < length xs → 0 < length (xs ++ ys)
+more_left [] ys h = absurd (omega arith)
+more_left (x ∷ xs) ys h = omega arith
+
+more_right : (xs ys : List Token) → 0 < length ys → 0 < length (xs ++ ys)
+more_right [] ys h = h
+more_right (x ∷ xs) ys h = omega arith
+
+fills_row : (inner : Trees) → Fills inner → (o : Origin) (room n : ℕ) → Fits o room (row_items n) inner → (of n).empty ≡ false → 0 < length (tokens inner)
+fills_row inner fi o room n h e = fi o room (row_items n) h (ap (λ (k : Known). k.empty) (known n) ∙ e)
+
+fills_two : (inner ts : Trees) (a b : Bool) → (a && b) ≡ false → (a ≡ false → 0 < length (tokens inner)) → (b ≡ false → 0 < length (tokens ts)) → 0 < length (tokens inner ++ tokens ts)
+fills_two inner ts a b h f g = elim (and_cases a b h) [
+  | inl e ↦ more_left (tokens inner) (tokens ts) (f e)
+  | inr e ↦ more_right (tokens inner) (tokens ts) (g e)
+]
+
+branch_fills : (inner ts : Trees) → Fills inner → Fills ts → (o : Origin) (room m : ℕ) (i : Item) (is : List Item)
+    → FitsBranch o room i is m (λ (deep : ℕ) (items : List Item). Fits o deep items inner) (λ (rest : List Item). Fits o room rest ts)
+    → (of_items of (i ∷ is)).empty ≡ false → 0 < length (tokens inner ++ tokens ts)
+branch_fills inner ts fi ft o room m (Part n) is h e = fills_two inner ts (of n).empty (of_items of is).empty e (fills_row inner fi o room n h.1.0) (ft o room is h.1.1)
+branch_fills inner ts fi ft o room zero (Maybe s n) is h e = more_right (tokens inner) (tokens ts) (ft o room is h.1 e)
+branch_fills inner ts fi ft o room (suc zero) (Maybe s n) is h e = more_right (tokens inner) (tokens ts) (ft o room is h.1 e)
+branch_fills inner ts fi ft o room (suc (suc m)) (Maybe s n) is h e = absurd h
+branch_fills inner ts fi ft o room zero (Either s n k) is h e =
+    fills_two inner ts ((of n).empty || (of k).empty) (of_items of is).empty e (λ g. fills_row inner fi o room k h.0 (or_right (of n).empty _ g)) (ft o room is h.1)
+branch_fills inner ts fi ft o room (suc zero) (Either s n k) is h e =
+    fills_two inner ts ((of n).empty || (of k).empty) (of_items of is).empty e (λ g. fills_row inner fi o room n h.0 (or_left _ _ g)) (ft o room is h.1)
+branch_fills inner ts fi ft o room (suc (suc m)) (Either s n k) is h e = absurd h
+branch_fills inner ts fi ft o room zero (Many s n) is h e = more_right (tokens inner) (tokens ts) (ft o room is h.1 e)
+branch_fills inner ts fi ft o room (suc zero) (Many s n) is h e = more_right (tokens inner) (tokens ts) (ft o room (Many s n ∷ is) h.1 e)
+branch_fills inner ts fi ft o room (suc (suc m)) (Many s n) is h e = absurd h
+branch_fills inner ts fi ft o zero m (Nest n) is h e = absurd h
+branch_fills inner ts fi ft o (suc room) m (Nest n) is h e = more_right (tokens inner) (tokens ts) (ft o (suc room) is h.1.1 e)
+branch_fills inner ts fi ft o room m (Statement p) is h e =
+    more_left (tokens inner) (tokens ts) (fills_row inner fi o 32 m h.1.0 (not_true _ (and_left _ _ (statement_good o p m h.0))))
+branch_fills inner ts fi ft o room m (Word c) is h e = absurd h
+branch_fills inner ts fi ft o room m (Sign c code) is h e = absurd h
+branch_fills inner ts fi ft o room m (Among a b code) is h e = absurd h
+branch_fills inner ts fi ft o room m (ProgramWord c) is h e = absurd h
+branch_fills inner ts fi ft o room m (Ignored c) is h e = absurd h
+branch_fills inner ts fi ft o room m Comma is h e = absurd h
+branch_fills inner ts fi ft o room m LeftOut is h e = absurd h
+branch_fills inner ts fi ft o room m End is h e = absurd h
+branch_fills inner ts fi ft o room m (Typed k code) is h e = absurd h
+
+in_fills : (inner ts : Trees) → Fills inner → Fills ts → (o : Origin) (room m : ℕ) (is : List Item)
+    → FitsIn o room is m (λ (deep : ℕ) (items : List Item). Fits o deep items inner) (λ (rest : List Item). Fits o room rest ts)
+    → (of_items of is).empty ≡ false → 0 < length (tokens inner ++ tokens ts)
+in_fills inner ts fi ft o room m [] h e = absurd h
+in_fills inner ts fi ft o room m (i ∷ is) h e = branch_fills inner ts fi ft o room m i is h e
+
+pub fills : (t : Trees) → Fills t
+fills Done o room is h e = never (of_items of is).empty (may_end_empty is h) e
+fills (Put t ts) o room is h e = omega arith
+fills (In m inner ts) o room is h e = in_fills inner ts (fills inner) (fills ts) o room m (giving is) h ((giving_known is).1 ∙ e)
