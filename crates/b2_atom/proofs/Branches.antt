@@ -89,7 +89,7 @@ pub branch_behind : (o : Origin) (room l f m : ℕ) (i : Item) (is : List Item) 
 branch_behind o room l f m i is inner ts more fits test r = behind o i is (tokens ts) more (leads ts o room is fits more) test r.refuses
 
 -- a part
-part_runs : (inner ts : Trees) → Good inner → Good ts → (o : Origin) → Chooses o → (room l f n : ℕ) (is : List Item) → Fits o room (row_items n) inner → Fits o room is ts
+pub part_runs : (inner ts : Trees) → Good inner → Good ts → (o : Origin) → Chooses o → (room l f n : ℕ) (is : List Item) → Fits o room (row_items n) inner → Fits o room is ts
     → (more : List Token) → Ready o room l f (Part n ∷ is) (In 2 inner ts) more → (s : Text) → Spells o ((tokens inner ++ tokens ts) ++ more) s
     → Runs o (reads_row o room l f (Part n ∷ is) s) (In 2 inner ts) more
 unfolding item
@@ -114,13 +114,13 @@ row_fronts inner o room n fits full more = elim (led_row inner o room n fits mor
   | inr g ↦ g
 ]
 
-done_of : (o : Origin) (room : ℕ) (t : Trees) → Fits o room [] t → t ≡ Done
+pub done_of : (o : Origin) (room : ℕ) (t : Trees) → Fits o room [] t → t ≡ Done
 done_of o room Done h = refl
 done_of o room (Put t ts) h = absurd h
 done_of o room (In m inner ts) h = absurd h
 
 -- an option that is taken
-maybe_runs : (inner ts : Trees) → Good inner → Good ts → (o : Origin) → Chooses o → (room l f : ℕ) (x : Start) (n : ℕ) (is : List Item) → Fits o room (row_items n) inner → Fits o room is ts
+pub maybe_runs : (inner ts : Trees) → Good inner → Good ts → (o : Origin) → Chooses o → (room l f : ℕ) (x : Start) (n : ℕ) (is : List Item) → Fits o room (row_items n) inner → Fits o room is ts
     → (more : List Token) → Ready o room l f (Maybe x n ∷ is) (In 1 inner ts) more → (s : Text) → Spells o ((tokens inner ++ tokens ts) ++ more) s
     → Runs o (reads_row o room l f (Maybe x n ∷ is) s) (In 1 inner ts) more
 unfolding item
@@ -140,7 +140,7 @@ maybe_runs inner ts gi gt o chooses room l f x n is fi ft more r s spelled =
     (λ u spelled_. gt o chooses room l f is ft more (ready_in o room l f 1 (Maybe x n) is inner ts more refl (and_right (refuse (of_item of (Maybe x n)).tails (of_items of is).heads) _ tests) r) u spelled_)
 
 -- an option that is left out
-maybe_left : (ts : Trees) → Good ts → (o : Origin) → Chooses o → (room l f : ℕ) (x : Start) (n : ℕ) (is : List Item) → Fits o room is ts
+pub maybe_left : (ts : Trees) → Good ts → (o : Origin) → Chooses o → (room l f : ℕ) (x : Start) (n : ℕ) (is : List Item) → Fits o room is ts
     → (more : List Token) → Ready o room l f (Maybe x n ∷ is) (In 0 Done ts) more → (s : Text) → Spells o (tokens ts ++ more) s
     → Runs o (reads_row o room l f (Maybe x n ∷ is) s) (In 0 Done ts) more
 unfolding item
@@ -173,7 +173,7 @@ second_asked inner o room x n k more s fits near refused spelled = elim (led_row
 ]
 
 -- the first of two
-first_runs : (inner ts : Trees) → Good inner → Good ts → (o : Origin) → Chooses o → (room l f : ℕ) (x : Start) (n k : ℕ) (is : List Item) → Fits o room (row_items n) inner → Fits o room is ts
+pub first_runs : (inner ts : Trees) → Good inner → Good ts → (o : Origin) → Chooses o → (room l f : ℕ) (x : Start) (n k : ℕ) (is : List Item) → Fits o room (row_items n) inner → Fits o room is ts
     → (more : List Token) → Ready o room l f (Either x n k ∷ is) (In 1 inner ts) more → (s : Text) → Spells o ((tokens inner ++ tokens ts) ++ more) s
     → Runs o (reads_row o room l f (Either x n k ∷ is) s) (In 1 inner ts) more
 unfolding item
@@ -196,7 +196,7 @@ first_runs inner ts gi gt o chooses room l f x n k is fi ft more r s spelled =
     (λ u spelled_. gt o chooses room l f is ft more (ready_in o room l f 1 (Either x n k) is inner ts more refl (and_right (refuse (of_item of (Either x n k)).tails (of_items of is).heads) _ tests) r) u spelled_)
 
 -- the second of two
-second_runs : (inner ts : Trees) → Good inner → Good ts → (o : Origin) → Chooses o → (room l f : ℕ) (x : Start) (n k : ℕ) (is : List Item) → Fits o room (row_items k) inner → Fits o room is ts
+pub second_runs : (inner ts : Trees) → Good inner → Good ts → (o : Origin) → Chooses o → (room l f : ℕ) (x : Start) (n k : ℕ) (is : List Item) → Fits o room (row_items k) inner → Fits o room is ts
     → (more : List Token) → Ready o room l f (Either x n k ∷ is) (In 0 inner ts) more → (s : Text) → Spells o ((tokens inner ++ tokens ts) ++ more) s
     → Runs o (reads_row o room l f (Either x n k ∷ is) s) (In 0 inner ts) more
 unfolding item
@@ -234,12 +234,12 @@ nest_behind o room n (i ∷ is) ts more h test fits = cc
 rank_39 : (n : ℕ) → nat_le n 39 ≡ true → n ≤ 39
 rank_39 n h = grind (arith, nat_tests)
 
-row_rank : (n : ℕ) → suc (of n).rank ≤ 40
+pub row_rank : (n : ℕ) → suc (of n).rank ≤ 40
 unfolding of of_row
 row_rank n = let r : (of_items (of_row 39) (row_items n)).rank ≤ 39 = rank_39 _ (and_left _ _ (row_settled n)) in omega (arith, r)
 
 -- what stands in parentheses
-nest_runs : (inner ts : Trees) → Good inner → Good ts → (o : Origin) → Chooses o → (room l f n : ℕ) (is : List Item) → Fits o room (row_items n) inner → Fits o (suc room) is ts
+pub nest_runs : (inner ts : Trees) → Good inner → Good ts → (o : Origin) → Chooses o → (room l f n : ℕ) (is : List Item) → Fits o room (row_items n) inner → Fits o (suc room) is ts
     → (more : List Token) → Ready o (suc room) l f (Nest n ∷ is) (In 2 inner ts) more → (s : Text) → Spells o ((tokens inner ++ tokens ts) ++ more) s
     → Runs o (reads_row o (suc room) l f (Nest n ∷ is) s) (In 2 inner ts) more
 unfolding item deep
@@ -293,7 +293,7 @@ turn_behind o x n is xs more (inr g) own test refused = elim (some_split (λ (f 
 ]
 
 -- a repetition that ends
-many_left : (ts : Trees) → Good ts → (o : Origin) → Chooses o → (room l f : ℕ) (x : Start) (n : ℕ) (is : List Item) → Fits o room is ts
+pub many_left : (ts : Trees) → Good ts → (o : Origin) → Chooses o → (room l f : ℕ) (x : Start) (n : ℕ) (is : List Item) → Fits o room is ts
     → (more : List Token) → Ready o room l f (Many x n ∷ is) (In 0 Done ts) more → (k : ℕ) (s : Text) → Spells o (tokens ts ++ more) s
     → Runs o (and_then (many (reader o) x (reads_part o room l f n) k s) (reads_row o room l f is)) (In 0 Done ts) more
 unfolding many
@@ -331,7 +331,7 @@ less_fuel : (a b n k : ℕ) → n ≡ a + b → 0 < a → n ≤ suc k → b ≤ 
 less_fuel a b n k is h e = omega (arith, is, h, e)
 
 -- a repetition that goes on
-many_more : (inner ts : Trees) → Good inner → GoodMany ts → (o : Origin) → Chooses o → (room l f : ℕ) (x : Start) (n : ℕ) (is : List Item) → Fits o room (row_items n) inner
+pub many_more : (inner ts : Trees) → Good inner → GoodMany ts → (o : Origin) → Chooses o → (room l f : ℕ) (x : Start) (n : ℕ) (is : List Item) → Fits o room (row_items n) inner
     → Fits o room (Many x n ∷ is) ts → (more : List Token) → Ready o room l f (Many x n ∷ is) (In 1 inner ts) more → (k : ℕ) → length (tokens inner ++ tokens ts) ≤ k
     → (s : Text) → Spells o ((tokens inner ++ tokens ts) ++ more) s
     → Runs o (and_then (many (reader o) x (reads_part o room l f n) k s) (reads_row o room l f is)) (In 1 inner ts) more

@@ -275,7 +275,7 @@ ready_in o room l f m i is inner ts more unmarked tests r = record {
   remarks = (let P : List Token → Type 0 = λ l. RemarksEnd l in remarks_right (tokens inner) (tokens ts ++ more) (subst P (append_assoc (tokens inner) (tokens ts) more) r.remarks));
 }
 
-bound_row : (n : ℕ) → not (is_free_row (row_items n)) ≡ true → settled of (row_items n) ≡ true
+pub bound_row : (n : ℕ) → not (is_free_row (row_items n)) ≡ true → settled of (row_items n) ≡ true
 bound_row n h = elim (or_cases (is_free_row (row_items n)) (settled of (row_items n)) (and_right (nat_le (of_items (of_row 39) (row_items n)).rank 39) _ (row_settled n))) [
   | inl g ↦ never (is_free_row (row_items n)) g (not_true _ h)
   | inr g ↦ g

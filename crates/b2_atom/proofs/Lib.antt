@@ -9,3 +9,4 @@ pub mod Settled
 pub mod Heads
 pub mod Complete
 pub mod Branches
+pub mod ReadBack
