@@ -4,7 +4,7 @@ use Rattle.std.proofs.lemmas.Bool.Decides.{nat_tests}
 use Rattle.b2_atom.specs.Words.{Text, skipped, skip_blanks}
 use Rattle.b2_atom.specs.Tokens.{Token}
 use Rattle.b2_atom.specs.Tokens.Token.{Coded, Plain, Lined}
-use Rattle.b2_atom.specs.Tree.{Trees, tokens, Outcome, Parser, under, also}
+use Rattle.b2_atom.specs.Tree.{Trees, tokens, Outcome, Parser, under, also, and_then}
 use Rattle.b2_atom.specs.Tree.Trees.{Done, Put, In}
 use Rattle.b2_atom.specs.Grammar.{Reader, reader, items, item, level, deep, statement, many, row_items, chosen, statement_row, part, read_line}
 use Rattle.b2_atom.specs.Spelling.{Spells, here}
@@ -118,3 +118,126 @@ count_step a b c d h k l = omega (arith, h, k, l)
 pub count : (o : Origin) (ts : List Token) (s : Text) → Spells o ts s → length ts ≤ length s
 count o [] s h = omega arith
 count o (t ∷ ts) s h = count_step (length h.0) (length (here o t s)) (length s) (length ts) h.1.0.shorter (here_less o t s) (count o ts h.0 h.1.1)
+
+many_fuel : (xs more : List Token) (s : Text) → length (xs ++ more) ≤ length s → length xs ≤ length s
+many_fuel xs more s h = let n = length_append xs more in omega (arith, h, n)
+
+two : (m : ℕ) (inner ts : Trees) (P : Trees → Type 0) → m ≡ 2 → P (In 2 inner ts) → P (In m inner ts)
+two m inner ts P h p = subst P (ap (λ (n : ℕ). In n inner ts) (sym h)) p
+
+-- by what the item is
+branch_runs : (inner ts : Trees) → Good inner → Good ts → GoodMany (In 0 inner ts) → GoodMany (In 1 inner ts) → (o : Origin) → Chooses o → (room l f m : ℕ) (i : Item) (is : List Item)
+    → FitsBranch o room i is m (λ (deep_ : ℕ) (items_ : List Item). Fits o deep_ items_ inner) (λ (rest : List Item). Fits o room rest ts)
+    → (more : List Token) → Ready o room l f (i ∷ is) (In m inner ts) more → (s : Text) → Spells o ((tokens inner ++ tokens ts) ++ more) s
+    → Runs o (reads_row o room l f (i ∷ is) s) (In m inner ts) more
+unfolding items item
+branch_runs inner ts gi gt m0 m1 o ch room l f m (Part n) is h more r s spelled =
+    two m inner ts (λ (t : Trees). Ready o room l f (Part n ∷ is) t more → Runs o (reads_row o room l f (Part n ∷ is) s) t more) h.0
+    (λ r_. part_runs inner ts gi gt o ch room l f n is h.1.0 h.1.1 more r_ s spelled) r
+branch_runs inner ts gi gt m0 m1 o ch room l f zero (Maybe x n) is h more r s spelled =
+    let P : Trees → Type 0 = λ t. Ready o room l f (Maybe x n ∷ is) (In 0 t ts) more → Spells o ((tokens t ++ tokens ts) ++ more) s → Runs o (reads_row o room l f (Maybe x n ∷ is) s) (In 0 t ts) more in
+    subst P (sym (done_of o room inner h.0)) (λ r_ spelled_. maybe_left ts gt o ch room l f x n is h.1 more r_ s spelled_) r spelled
+branch_runs inner ts gi gt m0 m1 o ch room l f (suc zero) (Maybe x n) is h more r s spelled = maybe_runs inner ts gi gt o ch room l f x n is h.0 h.1 more r s spelled
+branch_runs inner ts gi gt m0 m1 o ch room l f (suc (suc m)) (Maybe x n) is h more r s spelled = absurd h
+branch_runs inner ts gi gt m0 m1 o ch room l f zero (Either x n k) is h more r s spelled = second_runs inner ts gi gt o ch room l f x n k is h.0 h.1 more r s spelled
+branch_runs inner ts gi gt m0 m1 o ch room l f (suc zero) (Either x n k) is h more r s spelled = first_runs inner ts gi gt o ch room l f x n k is h.0 h.1 more r s spelled
+branch_runs inner ts gi gt m0 m1 o ch room l f (suc (suc m)) (Either x n k) is h more r s spelled = absurd h
+branch_runs inner ts gi gt m0 m1 o ch room l f zero (Many x n) is h more r s spelled =
+    m0 o ch room l f x n is h more r (length s) (many_fuel (tokens inner ++ tokens ts) more s (count o _ s spelled)) s spelled
+branch_runs inner ts gi gt m0 m1 o ch room l f (suc zero) (Many x n) is h more r s spelled =
+    m1 o ch room l f x n is h more r (length s) (many_fuel (tokens inner ++ tokens ts) more s (count o _ s spelled)) s spelled
+branch_runs inner ts gi gt m0 m1 o ch room l f (suc (suc m)) (Many x n) is h more r s spelled = absurd h
+branch_runs inner ts gi gt m0 m1 o ch zero l f m (Nest n) is h more r s spelled = absurd h
+branch_runs inner ts gi gt m0 m1 o ch (suc room) l f m (Nest n) is h more r s spelled =
+    two m inner ts (λ (t : Trees). Ready o (suc room) l f (Nest n ∷ is) t more → Runs o (reads_row o (suc room) l f (Nest n ∷ is) s) t more) h.0
+    (λ r_. nest_runs inner ts gi gt o ch room l f n is h.1.0 h.1.1 more r_ s spelled) r
+branch_runs inner ts gi gt m0 m1 o ch room l f m (Statement p) is h more r s spelled = statement_runs inner ts gi gt o ch room l f p m is h.0 h.1.0 h.1.1 more r s spelled
+branch_runs inner ts gi gt m0 m1 o ch room l f m (Word c) is h more r s spelled = absurd h
+branch_runs inner ts gi gt m0 m1 o ch room l f m (Sign c code) is h more r s spelled = absurd h
+branch_runs inner ts gi gt m0 m1 o ch room l f m (Among a b code) is h more r s spelled = absurd h
+branch_runs inner ts gi gt m0 m1 o ch room l f m (ProgramWord c) is h more r s spelled = absurd h
+branch_runs inner ts gi gt m0 m1 o ch room l f m (Ignored c) is h more r s spelled = absurd h
+branch_runs inner ts gi gt m0 m1 o ch room l f m Comma is h more r s spelled = absurd h
+branch_runs inner ts gi gt m0 m1 o ch room l f m LeftOut is h more r s spelled = absurd h
+branch_runs inner ts gi gt m0 m1 o ch room l f m End is h more r s spelled = absurd h
+branch_runs inner ts gi gt m0 m1 o ch room l f m (Typed k code) is h more r s spelled = absurd h
+
+many_zero : (inner ts : Trees) → Good ts → GoodMany (In 0 inner ts)
+many_zero inner ts gt o ch room l f x n is fits more r k fuel s spelled =
+    let P : Trees → Type 0 = λ t. Ready o room l f (Many x n ∷ is) (In 0 t ts) more → Spells o ((tokens t ++ tokens ts) ++ more) s
+      → Runs o (and_then (many (reader o) x (reads_part o room l f n) k s) (reads_row o room l f is)) (In 0 t ts) more in
+    subst P (sym (done_of o room inner fits.0)) (λ r_ spelled_. many_left ts gt o ch room l f x n is fits.1 more r_ k s spelled_) r spelled
+
+many_one : (inner ts : Trees) → Good inner → GoodMany ts → GoodMany (In 1 inner ts)
+many_one inner ts gi gm o ch room l f x n is fits more r k fuel s spelled = many_more inner ts gi gm o ch room l f x n is fits.0 fits.1 more r k fuel s spelled
+
+many_none : (m : ℕ) (inner ts : Trees) → GoodMany (In (suc (suc m)) inner ts)
+many_none m inner ts o ch room l f x n is fits more r k fuel s spelled = absurd fits
+
+many_in : (m : ℕ) (inner ts : Trees) → Good inner → Good ts → GoodMany ts → GoodMany (In m inner ts)
+many_in zero inner ts gi gt gm = many_zero inner ts gt
+many_in (suc zero) inner ts gi gt gm = many_one inner ts gi gm
+many_in (suc (suc m)) inner ts gi gt gm = many_none m inner ts
+
+in_runs : (inner ts : Trees) → Good inner → Good ts → GoodMany ts → (o : Origin) → Chooses o → (room l f m : ℕ) (is : List Item)
+    → FitsIn o room is m (λ (deep_ : ℕ) (items_ : List Item). Fits o deep_ items_ inner) (λ (rest : List Item). Fits o room rest ts)
+    → (more : List Token) → Ready o room l f is (In m inner ts) more → (s : Text) → Spells o ((tokens inner ++ tokens ts) ++ more) s → Runs o (reads_row o room l f is s) (In m inner ts) more
+in_runs inner ts gi gt gm o ch room l f m [] h more r s spelled = absurd h
+in_runs inner ts gi gt gm o ch room l f m (i ∷ is) h more r s spelled =
+    branch_runs inner ts gi gt (many_zero inner ts gt) (many_one inner ts gi gm) o ch room l f m i is h more r s spelled
+
+put_items : (t : Token) (ts : Trees) → Good ts → (o : Origin) → Chooses o → (room l f : ℕ) (is : List Item) → FitsPut o is t (λ (rest : List Item). Fits o room rest ts)
+    → (more : List Token) → Ready o room l f is (Put t ts) more → (s : Text) → Spells o (t ∷ (tokens ts ++ more)) s → Runs o (reads_row o room l f is s) (Put t ts) more
+put_items t ts gt o ch room l f [] h more r s spelled = absurd h
+put_items t ts gt o ch room l f (i ∷ is) h more r s spelled =
+    let tests = and_right (refuse (of_item of i).tails (of_items of is).heads) _ (and_right (settled_item of i is) _ r.settles) in
+    next_runs o room l f i is (Put t Done) ts (tokens ts ++ more) more s (put_runs o room l f i t (tokens ts ++ more) s h.0 spelled)
+    (λ u spelled_. gt o ch room l f is h.1 more (ready_put o room l f i is t ts more tests r) u spelled_)
+
+put_some : (o : Origin) (is : List Item) (t : Token) (below : List Item → Type 0) → FitsPut o is t below → is_last is ≡ false
+put_some o [] t below h = absurd h
+put_some o (i ∷ is) t below h = refl
+
+in_some : (o : Origin) (room m : ℕ) (is : List Item) (below : ℕ → List Item → Type 0) (behind_ : List Item → Type 0) → FitsIn o room is m below behind_ → is_last is ≡ false
+in_some o room m [] below behind_ h = absurd h
+in_some o room m (i ∷ is) below behind_ h = refl
+
+good_done : Good Done
+good_done o ch room l f is fits more r s spelled = done_runs o room l f is more fits r.settles r.refuses s spelled
+
+giving_twice : (is : List Item) → giving (giving is) ≡ giving is
+giving_twice [] = refl
+giving_twice (Ignored c ∷ is) = giving_twice is
+giving_twice (End ∷ is) = giving_twice is
+giving_twice (i ∷ is) = refl
+
+good_put : (t : Token) (ts : Trees) → Good ts → Good (Put t ts)
+good_put t ts gt o ch room l f is fits more r s spelled =
+    by_giving o room l f is (Put t ts) more
+    (let P : List Item → Type 0 = λ js. FitsPut o js t (λ (rest : List Item). Fits o room rest ts) in leads (Put t ts) o room (giving is) (subst P (sym (giving_twice is)) fits) more)
+    (put_some o (giving is) t (λ (rest : List Item). Fits o room rest ts) fits)
+    (λ r_ u spelled_. put_items t ts gt o ch room l f (giving is) fits more r_ u spelled_) r s spelled
+
+good_in : (m : ℕ) (inner ts : Trees) → Good inner → Good ts → GoodMany ts → Good (In m inner ts)
+good_in m inner ts gi gt gm o ch room l f is fits more r s spelled =
+    by_giving o room l f is (In m inner ts) more
+    (let P : List Item → Type 0 = λ js. FitsIn o room js m (λ (deep_ : ℕ) (items_ : List Item). Fits o deep_ items_ inner) (λ (rest : List Item). Fits o room rest ts) in
+    leads (In m inner ts) o room (giving is) (subst P (sym (giving_twice is)) fits) more)
+    (in_some o room m (giving is) (λ (deep_ : ℕ) (items_ : List Item). Fits o deep_ items_ inner) (λ (rest : List Item). Fits o room rest ts) fits)
+    (λ r_ u spelled_. in_runs inner ts gi gt gm o ch room l f m (giving is) fits more r_ u spelled_) r s spelled
+
+many_done : GoodMany Done
+many_done o ch room l f x n is fits more r k fuel s spelled = cc
+
+many_put : (t : Token) (ts : Trees) → GoodMany (Put t ts)
+many_put t ts o ch room l f x n is fits more r k fuel s spelled = cc
+
+all_good : (t : Trees) → Good t × GoodMany t
+all_good Done = (good_done, many_done)
+all_good (Put t ts) = (good_put t ts (all_good ts).0, many_put t ts)
+all_good (In m inner ts) =
+    (good_in m inner ts (all_good inner).0 (all_good ts).0 (all_good ts).1, many_in m inner ts (all_good inner).0 (all_good ts).0 (all_good ts).1)
+
+-- each tree that fits is read back
+pub read_back : (t : Trees) → Good t
+read_back t = (all_good t).0
