@@ -328,3 +328,46 @@ good_statement n =
 abbrev pub good_forms : List Form → Bool
 good_forms [] = good_statement row.ASSIGNMENT
 good_forms (f ∷ fs) = good_statement f.row && good_forms fs
+
+-- the choice of a statement by its first two tokens
+abbrev pub is_spanned : Front → Bool
+is_spanned (Spanned a b) = true
+is_spanned f = false
+
+abbrev pub pair_surely : Start → Front → Front → Bool → Bool
+pair_surely (start.Pair a c) f g true = is_spanned f && (sure ((a, a) ∷ []) f true && sure ((c, c) ∷ []) g true)
+pair_surely (start.Pair a c) f g false = sure ((a, a) ∷ []) f false || (is_spanned f && sure ((c, c) ∷ []) g false)
+pair_surely st f g b = surely st f b
+
+abbrev pub variable_spans : List Span
+variable_spans = (64, 90) ∷ (word.STR_OPEN, word.STR_OPEN) ∷ []
+
+-- no form has a row
+abbrev pub lacks : List Form → ℕ → Bool
+lacks [] m = not (m == row.ASSIGNMENT)
+lacks (x ∷ xs) m = not (x.row == m) && lacks xs m
+
+-- a row is what the forms lead to from two fronts
+abbrev pub choose : List Form → ℕ → Front → Front → Bool
+choose [] m f g = m == row.ASSIGNMENT && sure variable_spans f true
+choose (x ∷ xs) m f g =
+    if pair_surely x.start f g true then x.row == m && lacks xs m
+    else pair_surely x.start f g false && (not (x.row == m) && choose xs m f g)
+
+abbrev pub closing_heads : List Front
+closing_heads = None ∷ Spanned 58 58 ∷ []
+
+abbrev pub seconds : List Item → List Front
+seconds is = (of_items of is).heads ++ when (of_items of is).empty closing_heads
+
+abbrev pub marked_choice : ℕ → List Item → Bool
+marked_choice m [] = false
+marked_choice m (i ∷ is) = every (λ (f : Front). every (λ (g : Front). choose forms m f g) (seconds is)) (of_item of i).heads
+
+abbrev pub chosen_row : ℕ → Bool → Bool
+chosen_row m true = marked_choice m (row_items m)
+chosen_row m false = every (λ (f : Front). choose forms m f Any) (of m).heads
+
+abbrev pub chosen_forms : List Form → Bool
+chosen_forms [] = chosen_row row.ASSIGNMENT (leading (row_items row.ASSIGNMENT))
+chosen_forms (x ∷ xs) = chosen_row x.row (leading (row_items x.row)) && chosen_forms xs

@@ -9,7 +9,7 @@ use Rattle.b2_atom.specs.declared.forms.Place.{Place}
 use Rattle.b2_atom.specs.declared.forms.Form.{Form}
 use Rattle.b2_atom.specs.declared.forms.Item.{Item}
 use Rattle.b2_atom.proofs.Tests.{and_left, and_right, or_cases, equal}
-use Rattle.b2_atom.proofs.Fronts.{of_row, of, settled_row, settled_rows, good_statement, good_forms}
+use Rattle.b2_atom.proofs.Fronts.{of_row, of, settled_row, settled_rows, good_statement, good_forms, chosen_forms, chosen_row, leading}
 
 settled_0 : settled_rows rows_0 ≡ true
 unfolding of_row of row_items
@@ -60,3 +60,7 @@ one_of_forms o p m (f ∷ fs) h k = elim (or_cases (f.row == m && is_allowed o p
 
 pub statement_good : (o : Origin) (p : Place) (m : ℕ) → is_statement forms o p m ≡ true → good_statement m ≡ true
 statement_good o p m h = one_of_forms o p m forms forms_good h
+
+forms_chosen : chosen_forms forms ≡ true
+unfolding of_row of row_items
+forms_chosen = refl
