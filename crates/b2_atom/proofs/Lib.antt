@@ -5,3 +5,4 @@ pub mod Codes
 pub mod Longest
 pub mod WordsRead
 pub mod Widths
+pub mod Names

@@ -96,7 +96,7 @@ typed_byte : (b : ℕ) (x : Text) → word_at (b ∷ x) ≡ (0, 0) → typed_ahe
 typed_byte b x h = ap (λ (best : ℕ × ℕ). typed_by best (b ∷ x)) h
 
 -- each word begins with a letter, `$`, `#` or `@`, and goes on with a letter; behind `@` with two
-abbrev begins_word : ℕ → Bool
+abbrev pub begins_word : ℕ → Bool
 begins_word b = is_letter b || (b == 36 || (b == 35 || b == 64))
 
 abbrev shaped : Text → Bool
