@@ -6,3 +6,4 @@ pub mod Longest
 pub mod WordsRead
 pub mod Widths
 pub mod Names
+pub mod Characters
