@@ -7,3 +7,4 @@ pub mod WordsRead
 pub mod Widths
 pub mod Names
 pub mod Characters
+pub mod LineNumbers
