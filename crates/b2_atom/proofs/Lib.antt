@@ -8,3 +8,4 @@ pub mod Widths
 pub mod Names
 pub mod Characters
 pub mod LineNumbers
+pub mod Keywords

@@ -122,7 +122,7 @@ no_word : (t : Text) → ((v : Text) → shaped v ≡ true → begins_with v t �
 unfolding word_at
 no_word t never = no_words texts t 0 all_shaped never
 
-stopped : (more : ℕ → Bool) (c b : ℕ) (same y : Bool) → (c == b) ≡ same → more b ≡ false → more c ≡ true → (same && y) ≡ false
+pub stopped : (more : ℕ → Bool) (c b : ℕ) (same y : Bool) → (c == b) ≡ same → more b ≡ false → more c ≡ true → (same && y) ≡ false
 stopped more c b false y is h k = refl
 stopped more c b true y is h k = let one : c ≡ b = equal c b is in absurd (false_true (sym h ∙ ap more (sym one) ∙ k))
 
@@ -130,11 +130,11 @@ no_first : (b : ℕ) (x v : Text) → begins_word (upper b) ≡ false → shaped
 no_first b x [] h k = cc
 no_first b x (c ∷ v) h k = stopped begins_word c (upper b) (c == upper b) (begins_with v x) refl h (and_left (begins_word c) _ k)
 
-letter_stops : (c : ℕ) (v x : Text) → is_letter c ≡ true → is_letter (upper (first x)) ≡ false → begins_with (c ∷ v) x ≡ false
+pub letter_stops : (c : ℕ) (v x : Text) → is_letter c ≡ true → is_letter (upper (first x)) ≡ false → begins_with (c ∷ v) x ≡ false
 letter_stops c v [] k h = refl
 letter_stops c v (b ∷ x) k h = stopped is_letter c (upper b) (c == upper b) (begins_with v x) refl h k
 
-and_false : (a b : Bool) → b ≡ false → (a && b) ≡ false
+pub and_false : (a b : Bool) → b ≡ false → (a && b) ≡ false
 and_false true b h = h
 and_false false b h = refl
 
