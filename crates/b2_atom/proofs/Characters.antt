@@ -60,7 +60,7 @@ address_more o a (b ∷ c ∷ w) x h =
     (λ i. if l i && (m i && r i) then 3 else 0) ∙ ap suc is.1
 
 -- a function's name
-function_of : (b : Bool) (n : ℕ) → ◌≡◌ {A = ℕ} (if b then 1 else 0) (suc n) → (b ≡ true) × (0 ≡ n)
+pub function_of : (b : Bool) (n : ℕ) → ◌≡◌ {A = ℕ} (if b then 1 else 0) (suc n) → (b ≡ true) × (0 ≡ n)
 function_of true n h = (refl, (let same : 0 ≡ n = omega arith in same))
 function_of false n h = cc
 

@@ -9,3 +9,4 @@ pub mod Names
 pub mod Characters
 pub mod LineNumbers
 pub mod Keywords
+pub mod LeavesRead
