@@ -119,7 +119,7 @@ until_more : (o : Origin) (w x : Text) → (get_or w (until_parenthesis Atoms w)
 until_more o [] x h = absurd (false_true h)
 until_more o (b ∷ w) x h = until_by o b w x (ends_image Atoms b) refl h (until_more o w x)
 
-image_parts : (a b : Bool) (n m : ℕ) → (if a && b then n + 1 else 0) ≡ suc m → (b ≡ true) × (n ≡ m)
+pub image_parts : (a b : Bool) (n m : ℕ) → (if a && b then n + 1 else 0) ≡ suc m → (b ≡ true) × (n ≡ m)
 image_parts true true n m h = (refl, (let same : n ≡ m = omega arith in same))
 image_parts true false n m h = cc
 image_parts false b n m h = cc

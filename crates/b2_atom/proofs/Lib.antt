@@ -10,3 +10,4 @@ pub mod Characters
 pub mod LineNumbers
 pub mod Keywords
 pub mod LeavesRead
+pub mod Fronts
