@@ -38,20 +38,20 @@ pub not_true : (b : Bool) → not b ≡ true → b ≡ false
 not_true true h = cc
 not_true false h = refl
 
-name_digit : (n : ℕ) → ends_name n ≡ true → is_digit n ≡ false
+pub name_digit : (n : ℕ) → ends_name n ≡ true → is_digit n ≡ false
 name_digit n h = grind (arith, nat_tests)
 
-name_letter : (n : ℕ) → ends_name n ≡ true → is_letter (upper n) ≡ false
+pub name_letter : (n : ℕ) → ends_name n ≡ true → is_letter (upper n) ≡ false
 name_letter n h = grind (arith, nat_tests)
 
-name_dollar : (n : ℕ) → ends_name n ≡ true → (n == 36) ≡ false
+pub name_dollar : (n : ℕ) → ends_name n ≡ true → (n == 36) ≡ false
 name_dollar n h = grind (arith, nat_tests)
 
 -- before the end of what stands there, `$` and what stands behind it
-dollar_before : (a : ℕ) (w : Text) (h : ℕ) (r x : Text) → a ∷ w ≡ h ∷ (r ++ 36 ∷ []) → a ∷ (w ++ x) ≡ h ∷ (r ++ 36 ∷ x)
+pub dollar_before : (a : ℕ) (w : Text) (h : ℕ) (r x : Text) → a ∷ w ≡ h ∷ (r ++ 36 ∷ []) → a ∷ (w ++ x) ≡ h ∷ (r ++ 36 ∷ x)
 dollar_before a w h r x is = ap (λ (l : Text). l ++ x) is ∙ append_assoc (h ∷ r) (36 ∷ []) x
 
-dollar_long : (a : ℕ) (w : Text) (h : ℕ) (r : Text) → a ∷ w ≡ h ∷ (r ++ 36 ∷ []) → suc (length r) + 1 ≡ suc (length w)
+pub dollar_long : (a : ℕ) (w : Text) (h : ℕ) (r : Text) → a ∷ w ≡ h ∷ (r ++ 36 ∷ []) → suc (length r) + 1 ≡ suc (length w)
 dollar_long a w h r is = let same = ap length is in omega (arith, length-append r (36 ∷ []))
 
 no_zero : (n : ℕ) → ◌≡◌ {A = ℕ} 0 (suc n) → ⊥

@@ -11,3 +11,4 @@ pub mod LineNumbers
 pub mod Keywords
 pub mod LeavesRead
 pub mod Fronts
+pub mod Begun

@@ -1,5 +1,5 @@
 -- Names, hexadecimal digits, comparison signs and images have their width, whatever stands behind them that doesn't run on.
-use Rattle.std.proofs.Common.{◌≡◌, ℕ, zero, suc, ◌+◌, ◌-◌, ◌<◌, ◌≤◌, Bool, true, false, not, if◌then◌else◌, ◌==◌, ◌||◌, ◌&&◌, List, [], ◌∷◌, ◌++◌, length, get_or, refl, sym, ap, ◌∙◌, arith, nat_le, nat_lt, inl, inr, ◌⊎◌}
+use Rattle.std.proofs.Common.{◌≡◌, ℕ, zero, suc, ◌+◌, ◌-◌, ◌<◌, ◌≤◌, Bool, true, false, not, if◌then◌else◌, ◌==◌, ◌||◌, ◌&&◌, List, [], ◌∷◌, ◌++◌, length, get_or, drop, refl, sym, ap, ◌∙◌, arith, nat_le, nat_lt, inl, inr, ◌⊎◌}
 use Rattle.std.proofs.lemmas.Bool.Decides.{nat_tests}
 use Rattle.b2_atom.specs.Words.{Text, first, kept, upper, ahead}
 use Rattle.b2_atom.specs.Leaves.{is_digit, is_letter, is_hex, is_printable, name_width, is_alpha_name, numeric_name_width, alpha_name_width, local_name_width, any_name_width, function_name_width, hex_pair_width, hex_digit_width, address_width, relation_of, relation_width, ends_image, until_parenthesis, image_width}
@@ -98,7 +98,7 @@ name_shape a (b ∷ c ∷ d ∷ w) h = absurd (too_wide (is_letter a) (is_digit 
 -- a name as it is read before some text
 pub record NameRead (o : Origin) (w x : Text) : Type 0 where
   pub width : name_width o (w ++ x) ≡ length w
-  pub class : (ahead o (w ++ x)).0 ≡ first w
+  pub whole : ahead o (w ++ x) ≡ (first w, drop 1 (w ++ x))
 
 no_digit_first : (x : Text) → is_digit (first x) ≡ false → is_digit (get_or x 0 0) ≡ false
 no_digit_first x h = ap is_digit (get_first x) ∙ h
@@ -111,7 +111,7 @@ name_read o (a ∷ []) x shape digit letter =
     let d = no_digit_first x digit in
     record {
       width = λ i. width_of (l i) (d i) ((ahead o (a ∷ x)).0 == 64 && is_letter (kept o (get_or x 0 0))) (is_digit (get_or x 1 0));
-      class = ap (λ (p : ℕ × Text). p.0) e;
+      whole = e;
     }
 name_read o (a ∷ b ∷ []) x (inl shape) digit letter =
     let e = ahead_letter o a (b ∷ x) (letter_upper a shape.0) (digit_upper b shape.1) in
@@ -119,7 +119,7 @@ name_read o (a ∷ b ∷ []) x (inl shape) digit letter =
     let d = shape.1 in
     record {
       width = λ i. width_of (l i) (d i) ((ahead o (a ∷ b ∷ x)).0 == 64 && is_letter (kept o b)) (is_digit (get_or x 0 0));
-      class = ap (λ (p : ℕ × Text). p.0) e;
+      whole = e;
     }
 name_read o (a ∷ b ∷ []) x (inr shape) digit letter =
     let e : ahead o (a ∷ b ∷ x) ≡ (64, b ∷ x) = ap (λ (n : ℕ). ahead o (n ∷ b ∷ x)) shape.0 ∙ ahead_global o b x letter in
@@ -127,7 +127,7 @@ name_read o (a ∷ b ∷ []) x (inr shape) digit letter =
     let y : is_letter (kept o b) ≡ true = ap is_letter (letter_kept o b shape.1) ∙ shape.1 in
     record {
       width = (λ i. width_of (is_letter (e i).0) (is_digit b) ((e i).0 == 64 && y i) (d i));
-      class = ap (λ (p : ℕ × Text). p.0) e ∙ sym shape.0;
+      whole = e ∙ ap (λ (n : ℕ). (n, b ∷ x)) (sym shape.0);
     }
 name_read o (a ∷ b ∷ c ∷ []) x shape digit letter =
     let e : ahead o (a ∷ b ∷ c ∷ x) ≡ (64, b ∷ c ∷ x) = ap (λ (n : ℕ). ahead o (n ∷ b ∷ c ∷ x)) shape.0 ∙ ahead_global o b (c ∷ x) (digit_upper c shape.1.1) in
@@ -135,7 +135,7 @@ name_read o (a ∷ b ∷ c ∷ []) x shape digit letter =
     let d = shape.1.1 in
     record {
       width = (λ i. width_of (is_letter (e i).0) (is_digit b) ((e i).0 == 64 && y i) (d i));
-      class = ap (λ (p : ℕ × Text). p.0) e ∙ sym shape.0;
+      whole = e ∙ ap (λ (n : ℕ). (n, b ∷ c ∷ x)) (sym shape.0);
     }
 name_read o (a ∷ b ∷ c ∷ d ∷ w) x shape digit letter = absurd shape
 
@@ -155,7 +155,7 @@ get_behind (b ∷ w) x = get_behind w x
 
 -- the name of a number
 pub record NumericRead (o : Origin) (w x : Text) : Type 0 where
-  pub class : (ahead o (w ++ x)).0 ≡ first w
+  pub whole : ahead o (w ++ x) ≡ (first w, drop 1 (w ++ x))
   pub alpha : is_alpha_name o (w ++ x) ≡ false
   pub name : name_width o (w ++ x) ≡ length w
   pub numeric : numeric_name_width o (w ++ x) ≡ length w
@@ -167,7 +167,7 @@ numeric_read o a w x shape digit letter dollar =
     let is = name_read o (a ∷ w) x shape digit letter in
     let none : is_alpha_name o (a ∷ (w ++ x)) ≡ false = alpha_by o (a ∷ (w ++ x)) (length w) is.width ∙ ap (λ (n : ℕ). n == 36) (get_behind (a ∷ w) x) ∙ dollar in
     record {
-      class = is.class;
+      whole = is.whole;
       alpha = none;
       name = is.width;
       numeric = ap (λ (b : Bool). if b then 0 else name_width o (a ∷ (w ++ x))) none ∙ is.width;
@@ -176,7 +176,7 @@ numeric_read o a w x shape digit letter dollar =
 
 -- the name of an alpha variable, without its `$`
 pub record AlphaRead (o : Origin) (v x : Text) : Type 0 where
-  pub class : (ahead o (v ++ 36 ∷ x)).0 ≡ first v
+  pub whole : ahead o (v ++ 36 ∷ x) ≡ (first v, drop 1 (v ++ 36 ∷ x))
   pub alpha : is_alpha_name o (v ++ 36 ∷ x) ≡ true
   pub name : name_width o (v ++ 36 ∷ x) ≡ length v
   pub numeric : numeric_name_width o (v ++ 36 ∷ x) ≡ 0
@@ -190,7 +190,7 @@ alpha_read o a w x shape =
     let wide : alpha_name_width o (a ∷ (w ++ 36 ∷ x)) ≡ suc (length w) + 1 =
         ap (λ (b : Bool). if b then name_width o (a ∷ (w ++ 36 ∷ x)) + 1 else 0) there ∙ ap (λ (n : ℕ). n + 1) is.width in
     record {
-      class = is.class;
+      whole = is.whole;
       alpha = there;
       name = is.width;
       numeric = ap (λ (b : Bool). if b then 0 else name_width o (a ∷ (w ++ 36 ∷ x))) there;
