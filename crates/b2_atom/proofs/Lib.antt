@@ -12,3 +12,4 @@ pub mod Keywords
 pub mod LeavesRead
 pub mod Fronts
 pub mod Begun
+pub mod SideBySide
