@@ -205,7 +205,7 @@ pub quiet_let : (o : Origin) (a : ℕ) (z : Text) → Quiet a z → begins_let o
 quiet_let o a z q = let_none o (a ∷ z) (quiet_keyword (76 ∷ 69 ∷ 84 ∷ []) a z refl q)
 
 -- no letter E, in either case
-no_e : (o : Origin) (n : ℕ) → is_letter (upper n) ≡ false → (kept o n == 69) ≡ false
+pub no_e : (o : Origin) (n : ℕ) → is_letter (upper n) ≡ false → (kept o n == 69) ≡ false
 no_e Program n h = grind (arith, nat_tests)
 no_e Immediate n h = grind (arith, nat_tests)
 no_e Atoms n h = grind (arith, nat_tests)
@@ -213,11 +213,11 @@ no_e Atoms n h = grind (arith, nat_tests)
 no_b : (a : ℕ) → is_letter (upper a) ≡ false → (a == 66) ≡ false
 no_b a h = grind (arith, nat_tests)
 
-get_first : (x : Text) → get_or x 0 0 ≡ first x
+pub get_first : (x : Text) → get_or x 0 0 ≡ first x
 get_first [] = refl
 get_first (b ∷ x) = refl
 
-and_false : (a b : Bool) → b ≡ false → (a && b) ≡ false
+pub and_false : (a b : Bool) → b ≡ false → (a && b) ≡ false
 and_false true b h = h
 and_false false b h = refl
 

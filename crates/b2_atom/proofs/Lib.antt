@@ -13,3 +13,5 @@ pub mod LeavesRead
 pub mod Fronts
 pub mod Begun
 pub mod SideBySide
+pub mod Lettered
+pub mod SpellsAtoms

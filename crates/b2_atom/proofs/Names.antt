@@ -31,7 +31,7 @@ letter_kept Program b h = grind (arith, nat_tests)
 letter_kept Immediate b h = grind (arith, nat_tests)
 letter_kept Atoms b h = refl
 
-letter_upper : (b : ℕ) → is_letter b ≡ true → upper b ≡ b
+pub letter_upper : (b : ℕ) → is_letter b ≡ true → upper b ≡ b
 letter_upper b h = grind (arith, nat_tests)
 
 digit_upper : (b : ℕ) → is_digit b ≡ true → is_letter (upper b) ≡ false
