@@ -10,8 +10,9 @@ pub mod Characters
 pub mod LineNumbers
 pub mod Keywords
 pub mod LeavesRead
-pub mod Fronts
+pub mod LeafFronts
 pub mod Begun
 pub mod SideBySide
 pub mod Lettered
 pub mod SpellsAtoms
+pub mod Listed

@@ -2,7 +2,7 @@
 use Rattle.std.proofs.Common.{◌≡◌, ℕ, zero, suc, ◌+◌, ◌-◌, ◌<◌, ◌≤◌, Bool, true, false, not, if◌then◌else◌, ◌==◌, ◌||◌, ◌&&◌, List, [], ◌∷◌, ◌++◌, length, get_or, refl, sym, ap, subst, ◌∙◌, arith, nat_le, nat_lt, inl, inr, ◌⊎◌}
 use Rattle.std.proofs.lemmas.Bool.Decides.{nat_tests}
 use Rattle.b2_atom.specs.Words.{Text, first, kept, upper}
-use Rattle.b2_atom.specs.Tokens.{Token, token_atoms}
+use Rattle.b2_atom.specs.Tokens.{Token, is_operand, is_operand_leaf}
 use Rattle.b2_atom.specs.Tokens.Token.{Coded, Plain, Lined}
 use Rattle.b2_atom.specs.Leaves.{is_digit, is_letter, leaf_width, all_printable}
 use Rattle.b2_atom.specs.Grammar.{spelled_behind, is_among}
@@ -15,7 +15,7 @@ use Rattle.b2_atom.specs.declared.forms.Leaf.TheVariants as leaf
 use Rattle.b2_atom.proofs.Longest.{and_left, and_right, false_true, equal, every}
 use Rattle.b2_atom.proofs.Characters.{ends_relation}
 use Rattle.b2_atom.proofs.LeavesRead.{ends, not_true}
-use Rattle.b2_atom.proofs.Fronts.{front, leaf_front}
+use Rattle.b2_atom.proofs.LeafFronts.{front, leaf_front}
 
 pub later : (t : Token) (ts : List Token) → Neighbours (t ∷ ts) → Neighbours ts
 later t [] h = tt
@@ -45,9 +45,9 @@ abbrev pub is_lined : Token → Bool
 is_lined (Lined high low) = true
 is_lined t = false
 
--- what the first byte is where a token stands
-pub record FirstOf (u : Token) (n : ℕ) : Type 0 where
-  pub mark : (is_mark u || is_literal u) ≡ true → quiet n ≡ true
+-- what the first byte is where a token stands, behind an operand or another token
+pub record FirstOf (operand : Bool) (u : Token) (n : ℕ) : Type 0 where
+  pub mark : (is_mark u || is_literal u) ≡ true → operand ≡ true → quiet n ≡ true
   pub dollar : is_mark u ≡ true → is_dollar u ≡ false → (n == 36) ≡ false
   pub unrelated : (is_unrelated u && not (is_free u || is_image u)) ≡ true → ends_relation n ≡ true
   pub lined : is_lined u ≡ true → is_letter (upper n) ≡ false
@@ -91,9 +91,9 @@ or_none : (a : Bool) → (a || false) ≡ true → a ≡ true
 or_none true h = refl
 or_none false h = cc
 
-pub coded_first : (d : ℕ) → good_token (Coded d) ≡ true → FirstOf (Coded d) d
-coded_first d h = record {
-  mark = λ m. byte_quiet d (coded_byte d h) (or_none (not (is_letter d)) m);
+pub coded_first : (operand : Bool) (d : ℕ) → good_token (Coded d) ≡ true → FirstOf operand (Coded d) d
+coded_first operand d h = record {
+  mark = λ m o. byte_quiet d (coded_byte d h) (or_none (not (is_letter d)) m);
   dollar = λ m n. byte_dollar d (coded_byte d h) m;
   unrelated = λ m. byte_unrelated d (coded_byte d h) (and_left (not (d == 61)) true m);
   lined = λ m. cc;
@@ -122,17 +122,17 @@ literal_quiet : (k : Leaf) (a : ℕ) (w : Text) → front k a ≡ true → is_li
 literal_quiet leaf.Literal a w h m = grind (arith, nat_tests)
 literal_quiet k a w h m = cc
 
-pub plain_first : (k : Leaf) (a : ℕ) (w : Text) → leaf_width Atoms k (a ∷ w) ≡ suc (length w) → FirstOf (Plain k (a ∷ w)) a
-plain_first k a w h = record {
-  mark = λ m. literal_quiet k a (a ∷ w) (leaf_front k a w h) m;
+pub plain_first : (operand : Bool) (k : Leaf) (a : ℕ) (w : Text) → leaf_width Atoms k (a ∷ w) ≡ suc (length w) → FirstOf operand (Plain k (a ∷ w)) a
+plain_first operand k a w h = record {
+  mark = λ m o. literal_quiet k a (a ∷ w) (leaf_front k a w h) m;
   dollar = λ m n. cc;
   unrelated = λ m. front_unrelated k a (a ∷ w) (leaf_front k a w h) m;
   lined = λ m. cc;
 }
 
 -- free text may begin with any byte
-pub text_first : (a : ℕ) (w : Text) → FirstOf (Plain leaf.Text w) a
-text_first a w = record { mark = λ m. cc; dollar = λ m n. cc; unrelated = λ m. cc; lined = λ m. cc }
+pub text_first : (operand : Bool) (a : ℕ) (w : Text) → FirstOf operand (Plain leaf.Text w) a
+text_first operand a w = record { mark = λ m o. cc; dollar = λ m n. cc; unrelated = λ m. cc; lined = λ m. cc }
 
 -- what is typed by hand ends before what may follow it
 quiet_number : (n : ℕ) → quiet n ≡ true → ends leaf.Number n ≡ true
@@ -157,19 +157,19 @@ turned false h = refl
 or_first : (a b : Bool) → a ≡ true → (a || b) ≡ true
 or_first a b h = rw h refl
 
-name_ends : (u : Token) (n : ℕ) → (is_mark u && not (is_dollar u)) ≡ true → FirstOf u n → ends leaf.Name n ≡ true
+name_ends : (u : Token) (n : ℕ) → (is_mark u && not (is_dollar u)) ≡ true → FirstOf true u n → ends leaf.Name n ≡ true
 name_ends u n m is =
     let mark = and_left (is_mark u) (not (is_dollar u)) m in
-    quiet_name n (is.mark (or_first (is_mark u) (is_literal u) mark)) (is.dollar mark (not_true (is_dollar u) (and_right (is_mark u) (not (is_dollar u)) m)))
+    quiet_name n (is.mark (or_first (is_mark u) (is_literal u) mark) refl) (is.dollar mark (not_true (is_dollar u) (and_right (is_mark u) (not (is_dollar u)) m)))
 
-pub ends_next : (k : Leaf) (u : Token) (n : ℕ) → may_follow_leaf k u ≡ true → FirstOf u n → ends k n ≡ true
-ends_next leaf.Number u n m is = quiet_number n (is.mark (or_first (is_mark u) (is_literal u) m))
-ends_next leaf.SignedNumber u n m is = quiet_number n (is.mark (or_first (is_mark u) (is_literal u) m))
+pub ends_next : (k : Leaf) (u : Token) (n : ℕ) → may_follow_leaf k u ≡ true → FirstOf (is_operand_leaf k) u n → ends k n ≡ true
+ends_next leaf.Number u n m is = quiet_number n (is.mark (or_first (is_mark u) (is_literal u) m) refl)
+ends_next leaf.SignedNumber u n m is = quiet_number n (is.mark (or_first (is_mark u) (is_literal u) m) refl)
 ends_next leaf.Name u n m is = name_ends u n m is
 ends_next leaf.LocalName u n m is = name_ends u n m is
-ends_next leaf.FunctionName u n m is = quiet_function n (is.mark (or_first (is_mark u) (is_literal u) m))
-ends_next leaf.Small u n m is = turned (is_digit n) (quiet_digits n (is.mark m))
-ends_next leaf.Slot u n m is = turned (is_digit n) (quiet_digits n (is.mark (or_first (is_mark u) (is_literal u) m)))
+ends_next leaf.FunctionName u n m is = quiet_function n (is.mark (or_first (is_mark u) (is_literal u) m) refl)
+ends_next leaf.Small u n m is = turned (is_digit n) (quiet_digits n (is.mark m refl))
+ends_next leaf.Slot u n m is = turned (is_digit n) (quiet_digits n (is.mark (or_first (is_mark u) (is_literal u) m) refl))
 ends_next leaf.Relation u n m is = is.unrelated m
 ends_next k u n m is = refl
 
@@ -187,7 +187,7 @@ ends_at_end k = refl
 -- how tokens are shown behind a token, in a source or among atoms
 pub record Showing (o : Origin) (shown : Token → List Token → Text) : Type 0 where
   pub empty : (t : Token) → shown t [] ≡ []
-  pub first_is : (t u : Token) (us : List Token) → good_token u ≡ true → FirstOf u (first (shown t (u ∷ us)))
+  pub first_is : (t u : Token) (us : List Token) → good_token u ≡ true → FirstOf (is_operand t) u (first (shown t (u ∷ us)))
   pub letters : (c d : ℕ) (us : List Token) → is_letter c ≡ true → is_letter d ≡ true → shown (Coded c) (Coded d ∷ us) ≡ d ∷ shown (Coded d) us
 
 pub leaf_ends : (o : Origin) (shown : Token → List Token → Text) → Showing o shown → (k : Leaf) (w : Text) (ts : List Token) → AllGood ts → Neighbours (Plain k w ∷ ts)
@@ -199,4 +199,4 @@ pub line_ends : (o : Origin) (shown : Token → List Token → Text) → Showing
     → is_digit (first (shown (Lined high low) ts)) ≡ false
 line_ends o shown is high low [] g nb = ap (λ (t : Text). is_digit (first t)) (is.empty (Lined high low))
 line_ends o shown is high low (u ∷ us) g nb =
-    quiet_digits (first (shown (Lined high low) (u ∷ us))) ((is.first_is (Lined high low) u us g.0).mark (or_first (is_mark u) (is_literal u) nb.0))
+    quiet_digits (first (shown (Lined high low) (u ∷ us))) ((is.first_is (Lined high low) u us g.0).mark (or_first (is_mark u) (is_literal u) nb.0) refl)

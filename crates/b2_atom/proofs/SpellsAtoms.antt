@@ -1,7 +1,7 @@
 -- The atoms of tokens spell them.
 use Rattle.std.proofs.Common.{◌≡◌, ℕ, zero, suc, ◌+◌, ◌-◌, ◌<◌, ◌≤◌, Bool, true, false, not, if◌then◌else◌, ◌==◌, ◌||◌, ◌&&◌, List, [], ◌∷◌, ◌++◌, length, get_or, refl, sym, ap, subst, ◌∙◌, arith, nat_le, nat_lt, append-nil, Err}
 use Rattle.b2_atom.specs.Words.{Text, first, upper, skipped}
-use Rattle.b2_atom.specs.Tokens.{Token, token_atoms}
+use Rattle.b2_atom.specs.Tokens.{Token, is_operand}
 use Rattle.b2_atom.specs.Tokens.Token.{Coded, Plain, Lined}
 use Rattle.b2_atom.specs.Tree.{one}
 use Rattle.b2_atom.specs.Leaves.{is_letter, all_printable}
@@ -34,22 +34,22 @@ begins_text o a w behind h = record {
 }
 
 -- what stands first where a token does
-kind_first : (k : Leaf) (a : ℕ) (w : Text) (b : Bool) → is_text k ≡ b → is_whole k (a ∷ w) ≡ true → FirstOf (Plain k (a ∷ w)) a
-kind_first leaf.Text a w b is h = text_first a (a ∷ w)
-kind_first k a w true is h = cc
-kind_first k a w false is h = plain_first k a w (whole_width k a w is h)
+kind_first : (operand : Bool) (k : Leaf) (a : ℕ) (w : Text) (b : Bool) → is_text k ≡ b → is_whole k (a ∷ w) ≡ true → FirstOf operand (Plain k (a ∷ w)) a
+kind_first operand leaf.Text a w b is h = text_first operand a (a ∷ w)
+kind_first operand k a w true is h = cc
+kind_first operand k a w false is h = plain_first operand k a w (whole_width k a w is h)
 
-pub good_first : (k : Leaf) (w x : Text) → is_whole k w ≡ true → FirstOf (Plain k w) (first (w ++ x))
-good_first k [] x h = absurd (not_empty k h)
-good_first k (a ∷ w) x h = kind_first k a w (is_text k) refl h
+pub good_first : (operand : Bool) (k : Leaf) (w x : Text) → is_whole k w ≡ true → FirstOf operand (Plain k w) (first (w ++ x))
+good_first operand k [] x h = absurd (not_empty k h)
+good_first operand k (a ∷ w) x h = kind_first operand k a w (is_text k) refl h
 
-line_first : (high low : ℕ) → FirstOf (Lined high low) 255
-line_first high low = record { mark = λ m. cc; dollar = λ m n. cc; unrelated = λ m. refl; lined = λ m. refl }
+line_first : (operand : Bool) (high low : ℕ) → FirstOf operand (Lined high low) 255
+line_first operand high low = record { mark = λ m o. cc; dollar = λ m n. cc; unrelated = λ m. refl; lined = λ m. refl }
 
-atoms_first : (t u : Token) (us : List Token) → good_token u ≡ true → FirstOf u (first (atoms_of_tokens (u ∷ us)))
-atoms_first t (Coded d) us h = coded_first d h
-atoms_first t (Plain k w) us h = good_first k w (atoms_of_tokens us) h
-atoms_first t (Lined high low) us h = line_first high low
+atoms_first : (t u : Token) (us : List Token) → good_token u ≡ true → FirstOf (is_operand t) u (first (atoms_of_tokens (u ∷ us)))
+atoms_first t (Coded d) us h = coded_first (is_operand t) d h
+atoms_first t (Plain k w) us h = good_first (is_operand t) k w (atoms_of_tokens us) h
+atoms_first t (Lined high low) us h = line_first (is_operand t) high low
 
 atoms_behind : Token → List Token → Text
 atoms_behind t ts = atoms_of_tokens ts
