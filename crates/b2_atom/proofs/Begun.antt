@@ -137,7 +137,7 @@ leaf_ahead o leaf.Text a w y c h stop = cc
 leaf_ahead o leaf.Relation a w y c h stop = ahead_plain o a (w ++ y) (relation_sign a (leaf_front leaf.Relation a w h))
 
 -- no blank and no parenthesis stands at the front of what is typed by hand, but for images
-front_no_blank : (k : Leaf) (a : ℕ) → front k a ≡ true → (a == 32) ≡ false
+pub front_no_blank : (k : Leaf) (a : ℕ) → front k a ≡ true → (a == 32) ≡ false
 front_no_blank leaf.Number a h = grind (arith, nat_tests)
 front_no_blank leaf.SignedNumber a h = grind (arith, nat_tests)
 front_no_blank leaf.Name a h = grind (arith, nat_tests)
@@ -192,7 +192,7 @@ front_closes leaf.Text a c h = cc
 front_closes leaf.Relation a c h = grind (arith, nat_tests)
 
 -- what isn't kept in a source: LET
-quiet_keyword : (v : Text) (a : ℕ) (z : Text) → is_keyword v ≡ true → Quiet a z → begins_with v (a ∷ z) ≡ false
+pub quiet_keyword : (v : Text) (a : ℕ) (z : Text) → is_keyword v ≡ true → Quiet a z → begins_with v (a ∷ z) ≡ false
 quiet_keyword v a z k (inl h) = not_at_sign v (a ∷ z) k h
 quiet_keyword v a z k (inr h) = not_before_sign v a z k h
 

@@ -32,7 +32,7 @@ not_at_other [] b x k h = cc
 not_at_other (c ∷ v) b x k h = ap (λ (s : Bool). s && begins_with v x) h
 
 -- at a word of the table
-abbrev no_word_but : Text → ℕ → ℕ → Bool
+abbrev pub no_word_but : Text → ℕ → ℕ → Bool
 no_word_but v c i = (i + 128 == c) || apart (λ n. false) v (get_or texts i [])
 
 other_word : (v : Text) (i c : ℕ) (w x : Text) → (i + 128 == c) ≡ false → ((i + 128 == c) || apart (λ n. false) v w) ≡ true → begins_with v (w ++ x) ≡ false

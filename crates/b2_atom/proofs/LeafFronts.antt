@@ -110,7 +110,7 @@ digit_same b h = grind (arith, nat_tests)
 letter_same : (b : ℕ) → is_letter b ≡ true → (upper b == b) ≡ true
 letter_same b h = grind (arith, nat_tests)
 
-hex_same : (b : ℕ) → is_hex b ≡ true → (upper b == b) ≡ true
+pub hex_same : (b : ℕ) → is_hex b ≡ true → (upper b == b) ≡ true
 hex_same b h = grind (arith, nat_tests)
 
 both : (a b : Bool) → a ≡ true → b ≡ true → (a && b) ≡ true

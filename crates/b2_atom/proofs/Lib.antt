@@ -16,3 +16,4 @@ pub mod SideBySide
 pub mod Lettered
 pub mod SpellsAtoms
 pub mod Listed
+pub mod SpellsSource

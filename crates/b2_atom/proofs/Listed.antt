@@ -126,10 +126,10 @@ line_first operand high low w x s =
     subst P (sym s.is) (digit_first operand high low s.digit s.good)
 
 -- a word or a sign, spelled
-spelled_word : (c : ℕ) → is_word c ≡ true → spelled (Coded c) ≡ word_text c
+pub spelled_word : (c : ℕ) → is_word c ≡ true → spelled (Coded c) ≡ word_text c
 spelled_word c h = rw h refl
 
-spelled_sign : (c : ℕ) → is_word c ≡ false → spelled (Coded c) ≡ c ∷ []
+pub spelled_sign : (c : ℕ) → is_word c ≡ false → spelled (Coded c) ≡ c ∷ []
 spelled_sign c h = rw h refl
 
 code_word : (c : ℕ) → is_code c ≡ true → is_word c ≡ true
@@ -188,7 +188,7 @@ pub listed_first : (wordy operand : Bool) (u : Token) (us : List Token) → good
 listed_first wordy operand u us g = apart_by wordy operand u (listed (ends_wordy u) (is_operand u) us) (is_apart wordy operand u) refl g
 
 -- what is listed behind a token
-pub source_behind : Token → List Token → Text
+unfoldable pub source_behind : Token → List Token → Text
 source_behind t ts = listed (ends_wordy t) (is_operand t) ts
 
 letter_word : (c : ℕ) → is_letter c ≡ true → is_word c ≡ false

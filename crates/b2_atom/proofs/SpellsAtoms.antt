@@ -76,7 +76,7 @@ lined_atoms high low ts g =
     (omega arith) refl
 
 -- free text stands last
-text_last : (w : Text) (ts : List Token) → Neighbours (Plain leaf.Text w ∷ ts) → ts ≡ []
+pub text_last : (w : Text) (ts : List Token) → Neighbours (Plain leaf.Text w ∷ ts) → ts ≡ []
 text_last w [] h = refl
 text_last w (u ∷ us) h = absurd (false_true h.0)
 
