@@ -17,3 +17,4 @@ pub mod Lettered
 pub mod SpellsAtoms
 pub mod Listed
 pub mod SpellsSource
+pub mod WholeLeaves
