@@ -1,5 +1,6 @@
 // Where what is read goes to, and why a reading ends early.
 ghost use Rattle.std.specs.Prelude.{◌≡◌, ◌+◌, ◌++◌, [], IfErr, OnOk, map};
+ghost use Rattle.b2_atom.specs.Words as words;
 ghost use Rattle.b2_atom.specs.Words.{kept};
 ghost use Rattle.b2_atom.specs.Tokens as tokens;
 ghost use Rattle.b2_atom.specs.Tokens.{kept_text, spaced};
@@ -80,6 +81,25 @@ fn push_upper(out: &mut Vec<u8>, origin: Origin, bytes: &[u8]) -> Result<(), Sto
     Ok(())
 }
 
+// The first byte of what is typed by hand, as it is kept; 0 where there is none.
+fn first_kept(origin: Origin, leaf: Leaf, bytes: &[u8]) -> u8
+    ensures { result ≡ words.first (kept_text origin leaf bytes.now) }
+{
+    if leaf == Leaf::Literal || leaf == Leaf::Text {
+        return first(bytes);
+    }
+    first_upper(origin, bytes)
+}
+
+fn first_upper(origin: Origin, bytes: &[u8]) -> u8
+    ensures { result ≡ words.first (map (kept origin) bytes.now) }
+{
+    match bytes {
+        [byte, ..] => kept(origin, *byte),
+        [] => 0,
+    }
+}
+
 // Appends a blank, where one stands before a token.
 fn push_gap(source: &mut Source, is_apart: bool) -> Result<(), Stop>
     ensures bytes { OnOk result (source.new.bytes.items ≡ source.old.bytes.items ++ spaced is_apart []) }
@@ -105,8 +125,8 @@ fn last(text: &[u8]) -> u8
     at(text, text.len().saturating_sub(1))
 }
 
-fn closes(code: u8) -> bool
-    ensures { result ≡ tokens.closes (Coded code) }
+fn is_closing(code: u8) -> bool
+    ensures { result ≡ tokens.is_closing code }
 {
     code == b':' || code == b',' || code == b';' || code == b')' || code == b'=' || code == b'/'
 }
@@ -128,7 +148,7 @@ fn list_code(source: &mut Source, code: u8) -> Result<(), Stop>
     ensures ok { OnOk result (seen (Sink.Listed source.new) ≡ told (seen (Sink.Listed source.old)) (Coded code)) }
     ensures err { IfErr result (λ e. e ≡ Stop.NoMemory) }
 {
-    let is_apart = source.wordy && !closes(code) || source.operand && begins_wordy(code);
+    let is_apart = source.wordy && !is_closing(code) || source.operand && begins_wordy(code);
     push_gap(source, is_apart)?;
     if code >= 128 {
         source.bytes.extend_from_slice(word_text(code))?;
@@ -140,12 +160,19 @@ fn list_code(source: &mut Source, code: u8) -> Result<(), Stop>
     Ok(())
 }
 
+// Whether a blank stands before what is typed by hand.
+fn is_text_apart(source: &Source, origin: Origin, leaf: Leaf, bytes: &[u8]) -> bool
+    ensures { result ≡ tokens.is_apart source.now.wordy source.now.operand (Plain leaf (kept_text origin leaf bytes.now)) }
+{
+    source.wordy && !is_closing(first_kept(origin, leaf, bytes))
+}
+
 // Appends what is typed by hand to a source.
 fn list_text(source: &mut Source, origin: Origin, leaf: Leaf, bytes: &[u8]) -> Result<(), Stop>
     ensures ok { OnOk result (seen (Sink.Listed source.new) ≡ told (seen (Sink.Listed source.old)) (Plain leaf (kept_text origin leaf bytes.now))) }
     ensures err { IfErr result (λ e. e ≡ Stop.NoMemory) }
 {
-    let is_apart = source.wordy;
+    let is_apart = is_text_apart(source, origin, leaf, bytes);
     push_gap(source, is_apart)?;
     push_kept(&mut source.bytes, origin, leaf, bytes)?;
     source.wordy = false;

@@ -2,6 +2,9 @@
 use crate::list;
 use b2_atom::Atoms;
 use std::test::Fail;
+use vectors::LINES;
+
+mod vectors;
 
 // A line of these atoms as it is listed, or nothing where they spell none.
 fn listed(rt: &HostRuntime, number: u16, atoms: &[u8]) -> Result<Vec<u8>, Fail> {
@@ -118,6 +121,15 @@ fn more_lines(rt: HostRuntime) -> Result<(), Fail> {
     for (atoms, source) in cases {
         let text = listed(&rt, 0, atoms)?;
         assert_eq!(rt; text.as_slice(), source);
+    }
+    Ok(())
+}
+
+#[test]
+fn each_form(rt: HostRuntime) -> Result<(), Fail> {
+    for (atoms, source) in &LINES {
+        let text = listed(&rt, 10, atoms)?;
+        assert_eq!(rt; text.as_slice(), *source);
     }
     Ok(())
 }

@@ -194,18 +194,24 @@ const IMAGED: [Imaged; 32] = [
     (b"", &[Text(b"A")], false, Err(42)),
 ];
 
+// The number of a refusal's code, 0 for want of memory.
+fn refusal(fault: Fault) -> u8 {
+    match fault {
+        Fault::Code(code) => code.number(),
+        Fault::NoMemory => 0,
+    }
+}
+
 #[test]
 fn images(rt: HostRuntime) -> Result<(), Fail> {
     for row in &IMAGED {
         let (image, given, more, want) = *row;
         let items = values(rt.alloc(), given)?;
         let mut into = b">".to_vec(rt.alloc())?;
-        let answer = match using(rt.alloc(), image, &items, more, &mut into) {
-            Ok(()) => Ok(&into[1..]),
-            Err(Fault::Code(code)) => Err(code.number()),
-            Err(Fault::NoMemory) => Err(0),
-        };
-        assert_eq!(rt; answer, want);
+        match using(rt.alloc(), image, &items, more, &mut into) {
+            Ok(()) => assert_eq!(rt; into.get(1..).ok_or(0), want),
+            Err(fault) => assert_eq!(rt; Err(refusal(fault)), want),
+        }
     }
     Ok(())
 }

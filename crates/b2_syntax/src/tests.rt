@@ -1,6 +1,9 @@
 // Lines that were typed, with the atoms that they are read as, or the code and column of what is missing.
 use crate::{Entered, LineErr, read};
 use std::test::Fail;
+use vectors::{IMMEDIATES, PROGRAMS, REFUSALS};
+
+mod vectors;
 
 /// A code and a column.
 fn told(rt: &HostRuntime, error: LineErr) -> Result<Vec<u8>, Fail> {
@@ -268,5 +271,36 @@ fn more_codes_and_columns(rt: HostRuntime) -> Result<(), Fail> {
         assert_eq!(rt; bytes.as_slice(), atoms);
         assert_eq!(rt; number, 10002);
     }
+    Ok(())
+}
+
+// The first row that is not taken as it says, or how many there are.
+fn first_wrong(rt: &HostRuntime, rows: &[(&[u8], &[u8])], wanted: u16) -> Result<usize, Fail> {
+    let mut at = 0;
+    for (line, atoms) in rows {
+        let (number, bytes) = taken(rt, line)?;
+        if number != wanted || bytes.as_slice() != *atoms {
+            return Ok(at);
+        }
+        at += 1;
+    }
+    Ok(at)
+}
+
+#[test]
+fn each_form_in_a_program(rt: HostRuntime) -> Result<(), Fail> {
+    assert_eq!(rt; first_wrong(&rt, &PROGRAMS, 10)?, PROGRAMS.len());
+    Ok(())
+}
+
+#[test]
+fn each_form_in_an_immediate_line(rt: HostRuntime) -> Result<(), Fail> {
+    assert_eq!(rt; first_wrong(&rt, &IMMEDIATES, 10000)?, IMMEDIATES.len());
+    Ok(())
+}
+
+#[test]
+fn each_code(rt: HostRuntime) -> Result<(), Fail> {
+    assert_eq!(rt; first_wrong(&rt, &REFUSALS, 10002)?, REFUSALS.len());
     Ok(())
 }
