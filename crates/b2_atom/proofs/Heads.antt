@@ -226,7 +226,7 @@ covered_some (g ∷ gs) f ts h k = elim (or_cases (covers g f) (some (λ (x : Fr
   | inr e ↦ or_other (fronts g ts) _ (covered_some gs f ts e k)
 ]
 
-covered_all : (gs fs : List Front) (ts : List Token) → covered gs fs ≡ true → some (λ (f : Front). fronts f ts) fs ≡ true → some (λ (g : Front). fronts g ts) gs ≡ true
+pub covered_all : (gs fs : List Front) (ts : List Token) → covered gs fs ≡ true → some (λ (f : Front). fronts f ts) fs ≡ true → some (λ (g : Front). fronts g ts) gs ≡ true
 covered_all gs fs ts h k = let one = some_front (λ (f : Front). some (λ (g : Front). covers g f) gs) fs ts h k in covered_some gs one.0 ts one.1.0 one.1.1
 
 pub giving_known : (is : List Item) → ((of_items of (giving is)).heads ≡ (of_items of is).heads) × ((of_items of (giving is)).empty ≡ (of_items of is).empty)

@@ -10,6 +10,7 @@ pub mod Heads
 pub mod Complete
 pub mod Branches
 pub mod ReadBack
+pub mod Choice
 pub mod Longest
 pub mod WordsRead
 pub mod Widths

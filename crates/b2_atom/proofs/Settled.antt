@@ -64,3 +64,13 @@ statement_good o p m h = one_of_forms o p m forms forms_good h
 forms_chosen : chosen_forms forms ≡ true
 unfolding of_row of row_items
 forms_chosen = refl
+
+one_chosen : (o : Origin) (p : Place) (m : ℕ) (fs : List Form) → chosen_forms fs ≡ true → is_statement fs o p m ≡ true → chosen_row m (leading (row_items m)) ≡ true
+one_chosen o p m [] h k = let P : ℕ → Type 0 = λ n. chosen_row n (leading (row_items n)) ≡ true in subst P (sym (equal m row.ASSIGNMENT k)) h
+one_chosen o p m (f ∷ fs) h k = elim (or_cases (f.row == m && is_allowed o p f.rule) (is_statement fs o p m) k) [
+  | inl g ↦ (let P : ℕ → Type 0 = λ n. chosen_row n (leading (row_items n)) ≡ true in subst P (equal f.row m (and_left _ _ g)) (and_left _ _ h))
+  | inr g ↦ one_chosen o p m fs (and_right (chosen_row f.row (leading (row_items f.row))) _ h) g
+]
+
+pub statement_chosen : (o : Origin) (p : Place) (m : ℕ) → is_statement forms o p m ≡ true → chosen_row m (leading (row_items m)) ≡ true
+statement_chosen o p m h = one_chosen o p m forms forms_chosen h
