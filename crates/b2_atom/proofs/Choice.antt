@@ -180,3 +180,177 @@ pair_says o (start.Pair a c) f g false t ts u h k l spelled = elim (or_cases (su
   | inr e ↦ pair_false o a c f g t ts u (and_left _ _ e) (and_right (is_spanned f) _ e) k l spelled
 ]
 pair_says o st f g b t ts u h k l spelled = says o st f b (t ∷ ts) u h k spelled
+
+-- the form that begins is the statement's
+no_statement : (o : Origin) (p : Place) (xs : List Form) (m : ℕ) → lacks xs m ≡ true → is_statement xs o p m ≡ true → ⊥
+no_statement o p [] m h k = never (m == row.ASSIGNMENT) k (not_true _ h)
+no_statement o p (x ∷ xs) m h k = elim (or_cases (x.row == m && is_allowed o p x.rule) (is_statement xs o p m) k) [
+  | inl g ↦ never (x.row == m) (and_left _ _ g) (not_true _ (and_left _ _ h))
+  | inr g ↦ no_statement o p xs m (and_right (not (x.row == m)) _ h) g
+]
+
+allowed_there : (o : Origin) (p : Place) (x : Form) (u : Text) (a b c : Bool) → not (a || (b || c)) ≡ true
+    → (if a then Err (At 14 (length u)) else (if b then Err (At 26 (length u)) else (if c then Err (At 28 (length u)) else Ok x.row))) ≡ Ok x.row
+allowed_there o p x u true b c h = cc
+allowed_there o p x u false true c h = cc
+allowed_there o p x u false false true h = cc
+allowed_there o p x u false false false h = refl
+
+allowed_row : (o : Origin) (p : Place) (x : Form) (u : Text) → is_allowed o p x.rule ≡ true → allowed o p x u ≡ Ok x.row
+allowed_row o p x u h = allowed_there o p x u (barred_following p x.rule) (barred_line o x.rule) (barred_place p x.rule) h
+
+variable_code : (c : ℕ) → spans variable_spans c ≡ true → (is_letter c || c == 64 || c == word.STR_OPEN) ≡ true
+variable_code c h = grind (arith, nat_tests)
+
+if_test : (b x y : Bool) → b ≡ true → (if b then x else y) ≡ true → x ≡ true
+if_test true x y h k = k
+if_test false x y h k = cc
+
+if_other : (b x y : Bool) → b ≡ false → (if b then x else y) ≡ true → y ≡ true
+if_other true x y h k = cc
+if_other false x y h k = k
+
+if_row : (b c : Bool) (x y : Result ℕ Stop) → b ≡ c → (if b then x else y) ≡ (if c then x else y)
+if_row b c x y h = ap (λ (d : Bool). if d then x else y) h
+
+at_row : (o : Origin) (p : Place) (xs : List Form) (m : ℕ) (f g : Front) (t : Token) (ts : List Token) (u : Text) → choose xs m f g ≡ true → fronts f (t ∷ ts) ≡ true → fronts g ts ≡ true
+    → Spells o (t ∷ ts) u → skipped o u ≡ u → is_statement xs o p m ≡ true → row_at xs o p u ≡ Ok m
+at_row o p [] m f g t ts u h k l spelled same stated =
+    let class = class_says variable_spans o f true (t ∷ ts) u (and_right (m == row.ASSIGNMENT) _ h) k spelled in
+    let begins : variable_begins o u ≡ true = ap (variable_begins o) (sym same) ∙ variable_code (class_at o u) class in
+    if_row (variable_begins o u) true _ _ begins ∙ ap Ok (sym (equal m row.ASSIGNMENT (and_left _ _ h)))
+at_row o p (x ∷ xs) m f g t ts u h k l spelled same stated = elim (either_way (pair_surely x.start f g true)) [
+  | inl sure_ ↦ (let found = if_test _ _ _ sure_ h in
+    let row_is : x.row ≡ m = equal x.row m (and_left _ _ found) in
+    if_row (starts o x.start u) true _ _ (pair_says o x.start f g true t ts u sure_ k l spelled)
+    ∙ elim (or_cases (x.row == m && is_allowed o p x.rule) (is_statement xs o p m) stated) [
+      | inl e ↦ allowed_row o p x u (and_right (x.row == m) _ e) ∙ ap Ok row_is
+      | inr e ↦ absurd (no_statement o p xs m (and_right (x.row == m) _ found) e)
+    ])
+  | inr not_sure ↦ (let found = if_other _ _ _ not_sure h in
+    let others = and_right (pair_surely x.start f g false) _ found in
+    if_row (starts o x.start u) false _ _ (pair_says o x.start f g false t ts u (and_left _ _ found) k l spelled)
+    ∙ at_row o p xs m f g t ts u (and_right (not (x.row == m)) _ others) k l spelled same
+    (elim (or_cases (x.row == m && is_allowed o p x.rule) (is_statement xs o p m) stated) [
+      | inl e ↦ never (x.row == m) (and_left _ _ e) (not_true _ (and_left _ _ others))
+      | inr e ↦ e
+    ]))
+]
+
+-- where a statement begins, and which it is
+result_row : (b : Bool) (u : Text) (r : Result ℕ Stop) (m : ℕ) (v : Text) → b ≡ false → r ≡ Ok m → (if b then Ok (row.ASSIGNMENT, v) else from u r) ≡ Ok (m, u)
+result_row true u r m v h k = cc
+result_row false u r m v h k = ap (from u) k
+
+abbrev Stands : Origin → Place → ℕ → List Token → Text → Type 0
+Stands o p m ts s = (u : Text) × ((statement_row o p s ≡ Ok (m, u)) × Spells o ts u)
+
+stands : (o : Origin) (p : Place) (m : ℕ) (f g : Front) (t : Token) (ts : List Token) (s : Text) → choose forms m f g ≡ true → fronts f (t ∷ ts) ≡ true → fronts g ts ≡ true
+    → opens_statement t ≡ true → is_statement forms o p m ≡ true → Spells o (t ∷ ts) s → Stands o p m (t ∷ ts) s
+unfolding statement_row
+stands o p m f g t ts s h k l opens stated spelled =
+    let there : Spells o (t ∷ ts) (skipped o s) = (spelled.0, (respelled o t ts s spelled.0 opens spelled.1.0, spelled.1.1)) in
+    (skipped o s,
+    (result_row (begins_let o (skipped o s)) (skipped o s) (row_at forms o p (skipped o s)) m _ (spelled.1.0.lets (opens_class t opens))
+    (at_row o p forms m f g t ts (skipped o s) h k l there (skipped_twice o s) stated), there))
+
+-- by its first two tokens
+by_two : (o : Origin) (p : Place) (m : ℕ) (fs gs : List Front) (t : Token) (ts : List Token) (s : Text) → every (λ (f : Front). every (λ (g : Front). choose forms m f g) gs) fs ≡ true
+    → some (λ (f : Front). fronts f (t ∷ ts)) fs ≡ true → some (λ (g : Front). fronts g ts) gs ≡ true → opens_statement t ≡ true → is_statement forms o p m ≡ true
+    → Spells o (t ∷ ts) s → Stands o p m (t ∷ ts) s
+by_two o p m fs gs t ts s h k l opens stated spelled =
+    let f = some_front (λ (x : Front). every (λ (g : Front). choose forms m x g) gs) fs (t ∷ ts) h k in
+    let g = some_front (λ (y : Front). choose forms m f.0 y) gs ts f.1.0 l in
+    stands o p m f.0 g.0 t ts s g.1.0 f.1.1 g.1.1 opens stated spelled
+
+by_one : (o : Origin) (p : Place) (m : ℕ) (fs : List Front) (t : Token) (ts : List Token) (s : Text) → every (λ (f : Front). choose forms m f Any) fs ≡ true
+    → some (λ (f : Front). fronts f (t ∷ ts)) fs ≡ true → opens_statement t ≡ true → is_statement forms o p m ≡ true → Spells o (t ∷ ts) s → Stands o p m (t ∷ ts) s
+by_one o p m fs t ts s h k opens stated spelled =
+    let f = some_front (λ (x : Front). choose forms m x Any) fs (t ∷ ts) h k in
+    stands o p m f.0 Any t ts s f.1.0 f.1.1 refl opens stated spelled
+
+closing_fronts : (more : List Token) → is_closing more ≡ true → some (λ (f : Front). fronts f more) closing_heads ≡ true
+closing_fronts [] h = refl
+closing_fronts (Coded c ∷ ts) h = grind (arith, nat_tests)
+closing_fronts (Plain k w ∷ ts) h = cc
+closing_fronts (Lined x y ∷ ts) h = cc
+
+some_left : (p : Front → Bool) (xs ys : List Front) → some p xs ≡ true → some p (xs ++ ys) ≡ true
+some_left p [] ys h = cc
+some_left p (x ∷ xs) ys h = elim (or_cases (p x) (some p xs) h) [
+  | inl g ↦ or_one _ _ g
+  | inr g ↦ or_other (p x) _ (some_left p xs ys g)
+]
+
+some_right : (p : Front → Bool) (xs ys : List Front) → some p ys ≡ true → some p (xs ++ ys) ≡ true
+some_right p [] ys h = h
+some_right p (x ∷ xs) ys h = or_other (p x) _ (some_right p xs ys h)
+
+some_when : (p : Front → Bool) (b : Bool) (ys : List Front) → b ≡ true → some p ys ≡ true → some p (when b ys) ≡ true
+some_when p true ys h k = k
+some_when p false ys h k = cc
+
+second_front : (is : List Item) (xs more : List Token) → Led (of_items of is) xs more → is_closing more ≡ true → some (λ (f : Front). fronts f (xs ++ more)) (seconds is) ≡ true
+second_front is xs more (inl h) closed =
+    some_right _ (of_items of is).heads _ (some_when _ (of_items of is).empty closing_heads h.1
+    (ap (λ (l : List Token). some (λ (f : Front). fronts f (l ++ more)) closing_heads) h.0 ∙ closing_fronts more closed))
+second_front is xs more (inr h) closed = some_left _ (of_items of is).heads _ h
+
+mark_giving : (i : Item) (is : List Item) → is_mark_item i ≡ true → giving (i ∷ is) ≡ i ∷ is
+mark_giving (Word c) is h = refl
+mark_giving (Sign c code) is h = refl
+mark_giving (Among a b code) is h = refl
+mark_giving i is h = cc
+
+mark_branch : (o : Origin) (room m : ℕ) (i : Item) (is : List Item) (below : ℕ → List Item → Type 0) (rest : List Item → Type 0) → is_mark_item i ≡ true → FitsBranch o room i is m below rest → ⊥
+mark_branch o room m (Word c) is below rest h fits = fits
+mark_branch o room m (Sign c code) is below rest h fits = fits
+mark_branch o room m (Among a b code) is below rest h fits = fits
+mark_branch o room m i is below rest h fits = cc
+
+mark_end : (i : Item) (is : List Item) → is_mark_item i ≡ true → may_end (i ∷ is) ≡ true → ⊥
+mark_end (Word c) is h k = cc
+mark_end (Sign c code) is h k = cc
+mark_end (Among a b code) is h k = cc
+mark_end i is h k = cc
+
+-- a statement that begins with a word or a sign
+marked : (o : Origin) (p : Place) (m : ℕ) (is : List Item) (t : Trees) (more : List Token) (s : Text) → leading is ≡ true → marked_choice m is ≡ true
+    → ((xs : List Token) (x : Token) → tokens t ++ more ≡ x ∷ xs → opens_statement x ≡ true) → is_statement forms o p m ≡ true → Fits o 32 is t → is_closing more ≡ true
+    → Spells o (tokens t ++ more) s → Stands o p m (tokens t ++ more) s
+marked o p m [] t more s led test opens stated fits closed spelled = cc
+marked o p m (i ∷ is) Done more s led test opens stated fits closed spelled = absurd (mark_end i is led fits)
+marked o p m (i ∷ is) (Put t ts) more s led test opens stated fits closed spelled =
+    let P : List Item → Type 0 = λ js. FitsPut o js t (λ (rest : List Item). Fits o 32 rest ts) in
+    let there : P (i ∷ is) = subst P (mark_giving i is led) fits in
+    by_two o p m (of_item of i).heads (seconds is) t (tokens ts ++ more) s test (token_leads o i t (tokens ts ++ more) there.0)
+    (second_front is (tokens ts) more (leads ts o 32 is there.1 more) closed) (opens (tokens ts ++ more) t refl) stated spelled
+marked o p m (i ∷ is) (In n inner ts) more s led test opens stated fits closed spelled =
+    let P : List Item → Type 0 = λ js. FitsIn o 32 js n (λ (deep : ℕ) (items : List Item). Fits o deep items inner) (λ (rest : List Item). Fits o 32 rest ts) in
+    let there : P (i ∷ is) = subst P (mark_giving i is led) fits in
+    absurd (mark_branch o 32 n i is (λ (deep : ℕ) (items : List Item). Fits o deep items inner) (λ (rest : List Item). Fits o 32 rest ts) led there)
+
+unmarked : (o : Origin) (p : Place) (m : ℕ) (xs : List Token) (s : Text) → every (λ (f : Front). choose forms m f Any) (of m).heads ≡ true
+    → some (λ (f : Front). fronts f xs) (of m).heads ≡ true → ((ys : List Token) (x : Token) → xs ≡ x ∷ ys → opens_statement x ≡ true)
+    → is_statement forms o p m ≡ true → Spells o xs s → (some (λ (f : Front). fronts f xs) statement_heads ≡ true) → Stands o p m xs s
+unmarked o p m [] s test begun opens stated spelled heads = cc
+unmarked o p m (x ∷ xs) s test begun opens stated spelled heads = by_one o p m (of m).heads x xs s test begun (opens xs x refl) stated spelled
+
+-- a statement is chosen by its tokens
+pub one_statement : (o : Origin) (p : Place) (m : ℕ) (inner : Trees) (more : List Token) (s : Text) → is_statement forms o p m ≡ true → Fits o 32 (row_items m) inner
+    → is_closing more ≡ true → Spells o (tokens inner ++ more) s → Stands o p m (tokens inner ++ more) s
+one_statement o p m inner more s stated fits closed spelled =
+    let test = statement_good o p m stated in
+    let full = not_true _ (and_left _ _ test) in
+    let led = led_known m (tokens inner) more (leads inner o 32 (row_items m) fits more) in
+    let begun : some (λ (f : Front). fronts f (tokens inner ++ more)) (of m).heads ≡ true = elim led [
+      | inl g ↦ never (of m).empty g.1 full
+      | inr g ↦ g
+    ] in
+    let heads = covered_all statement_heads (of m).heads (tokens inner ++ more) (and_left _ _ (and_right (not (of m).empty) _ test)) begun in
+    let opens : (xs : List Token) (x : Token) → tokens inner ++ more ≡ x ∷ xs → opens_statement x ≡ true =
+      λ xs x same. opening x xs (ap (λ (l : List Token). some (λ (f : Front). fronts f l) statement_heads) (sym same) ∙ heads) in
+    elim (either_way (leading (row_items m))) [
+      | inl g ↦ marked o p m (row_items m) inner more s g (ap (chosen_row m) (sym g) ∙ statement_chosen o p m stated) opens stated fits closed spelled
+      | inr g ↦ unmarked o p m (tokens inner ++ more) s (ap (chosen_row m) (sym g) ∙ statement_chosen o p m stated) begun opens stated spelled heads
+    ]
