@@ -170,16 +170,18 @@ refused_by Closed f = is_none f || is_colon f
 refused_by Over f = is_none f
 
 -- what is known of a row: the fronts of its trees, whether they may be empty, what must not stand behind them, how
--- deep their parts go, and whether no statement stands in them
+-- deep their parts go, whether no statement stands in them, and what may be
+-- their last token
 pub record Known : Type 0 where
   pub heads : List Front
   pub empty : Bool
   pub tails : List Tail
   pub rank : ℕ
   pub plain : Bool
+  pub ends : List Front
 
 abbrev pub none_known : Known
-none_known = record { heads = []; empty = false; tails = []; rank = 0; plain = true }
+none_known = record { heads = []; empty = false; tails = []; rank = 0; plain = true; ends = [] }
 
 abbrev pub when : {A : Type 0} → Bool → List A → List A
 when true xs = xs
@@ -197,25 +199,25 @@ leaf_front leaf.LineNumber = Numbered
 leaf_front k = Hand k
 
 abbrev pub of_item : (ℕ → Known) → Item → Known
-of_item part (Word c) = record { heads = Spanned c c ∷ []; empty = false; tails = []; rank = 0; plain = true }
-of_item part (Sign c code) = record { heads = Spanned c c ∷ []; empty = false; tails = []; rank = 0; plain = true }
-of_item part (Among a b code) = record { heads = Spanned a b ∷ []; empty = false; tails = []; rank = 0; plain = true }
-of_item part (ProgramWord c) = record { heads = Spanned c c ∷ []; empty = false; tails = []; rank = 0; plain = true }
-of_item part (Ignored c) = record { heads = []; empty = true; tails = Asked (start.Code c) ∷ []; rank = 0; plain = true }
-of_item part Comma = record { heads = Spanned 44 44 ∷ []; empty = false; tails = []; rank = 0; plain = true }
+of_item part (Word c) = record { heads = Spanned c c ∷ []; empty = false; tails = []; rank = 0; plain = true; ends = Spanned c c ∷ [] }
+of_item part (Sign c code) = record { heads = Spanned c c ∷ []; empty = false; tails = []; rank = 0; plain = true; ends = Spanned c c ∷ [] }
+of_item part (Among a b code) = record { heads = Spanned a b ∷ []; empty = false; tails = []; rank = 0; plain = true; ends = Spanned a b ∷ [] }
+of_item part (ProgramWord c) = record { heads = Spanned c c ∷ []; empty = false; tails = []; rank = 0; plain = true; ends = Spanned c c ∷ [] }
+of_item part (Ignored c) = record { heads = []; empty = true; tails = Asked (start.Code c) ∷ []; rank = 0; plain = true; ends = [] }
+of_item part Comma = record { heads = Spanned 44 44 ∷ []; empty = false; tails = []; rank = 0; plain = true; ends = Spanned 44 44 ∷ [] }
 of_item part LeftOut = none_known
-of_item part End = record { heads = []; empty = true; tails = Over ∷ []; rank = 0; plain = true }
-of_item part (Typed leaf.Text code) = record { heads = Hand leaf.Text ∷ []; empty = true; tails = Over ∷ []; rank = 0; plain = true }
-of_item part (Typed k code) = record { heads = leaf_front k ∷ []; empty = false; tails = []; rank = 0; plain = true }
-of_item part (Part n) = let k = part n in record { heads = k.heads; empty = k.empty; tails = k.tails; rank = suc k.rank; plain = k.plain }
-of_item part (Maybe s n) = let k = part n in record { heads = k.heads; empty = true; tails = Asked s ∷ k.tails; rank = suc k.rank; plain = k.plain }
+of_item part End = record { heads = []; empty = true; tails = Over ∷ []; rank = 0; plain = true; ends = [] }
+of_item part (Typed leaf.Text code) = record { heads = Hand leaf.Text ∷ []; empty = true; tails = Over ∷ []; rank = 0; plain = true; ends = Hand leaf.Text ∷ [] }
+of_item part (Typed k code) = record { heads = leaf_front k ∷ []; empty = false; tails = []; rank = 0; plain = true; ends = leaf_front k ∷ [] }
+of_item part (Part n) = let k = part n in record { heads = k.heads; empty = k.empty; tails = k.tails; rank = suc k.rank; plain = k.plain; ends = k.ends }
+of_item part (Maybe s n) = let k = part n in record { heads = k.heads; empty = true; tails = Asked s ∷ k.tails; rank = suc k.rank; plain = k.plain; ends = k.ends }
 of_item part (Either s n m) =
     let k = part n in
     let j = part m in
-    record { heads = k.heads ++ j.heads; empty = k.empty || j.empty; tails = when j.empty (Asked s ∷ []) ++ (k.tails ++ j.tails); rank = suc (larger k.rank j.rank); plain = k.plain && j.plain }
-of_item part (Many s n) = let k = part n in record { heads = k.heads; empty = true; tails = Asked s ∷ k.tails; rank = suc k.rank; plain = k.plain }
-of_item part (Nest n) = record { heads = Any ∷ []; empty = true; tails = []; rank = 0; plain = true }
-of_item part (Statement p) = record { heads = statement_heads; empty = false; tails = Closed ∷ []; rank = 0; plain = false }
+    record { heads = k.heads ++ j.heads; empty = k.empty || j.empty; tails = when j.empty (Asked s ∷ []) ++ (k.tails ++ j.tails); rank = suc (larger k.rank j.rank); plain = k.plain && j.plain; ends = k.ends ++ j.ends }
+of_item part (Many s n) = let k = part n in record { heads = k.heads; empty = true; tails = Asked s ∷ k.tails; rank = suc k.rank; plain = k.plain; ends = k.ends }
+of_item part (Nest n) = record { heads = Any ∷ []; empty = true; tails = []; rank = 0; plain = true; ends = [] }
+of_item part (Statement p) = record { heads = statement_heads; empty = false; tails = Closed ∷ []; rank = 0; plain = false; ends = [] }
 
 abbrev pub joined_known : Known → Known → Known
 joined_known i k = record {
@@ -224,10 +226,11 @@ joined_known i k = record {
   tails = when k.empty i.tails ++ k.tails;
   rank = larger i.rank k.rank;
   plain = i.plain && k.plain;
+  ends = when k.empty i.ends ++ k.ends;
 }
 
 abbrev pub of_items : (ℕ → Known) → List Item → Known
-of_items part [] = record { heads = []; empty = true; tails = []; rank = 0; plain = true }
+of_items part [] = record { heads = []; empty = true; tails = []; rank = 0; plain = true; ends = [] }
 of_items part (i ∷ is) = joined_known (of_item part i) (of_items part is)
 
 unfoldable pub of_row : ℕ → ℕ → Known
@@ -371,3 +374,32 @@ chosen_row m false = every (λ (f : Front). choose forms m f Any) (of m).heads
 abbrev pub chosen_forms : List Form → Bool
 chosen_forms [] = chosen_row row.ASSIGNMENT (leading (row_items row.ASSIGNMENT))
 chosen_forms (x ∷ xs) = chosen_row x.row (leading (row_items x.row)) && chosen_forms xs
+
+-- what stands at the front of items, also where it stands in parentheses
+abbrev pub next_heads : List Item → List Front
+next_heads [] = []
+next_heads (Nest n ∷ is) = (of n).heads ++ when (of n).empty (of_items of is).heads
+next_heads (i ∷ is) = (of_items of (i ∷ is)).heads
+
+-- whether each token may stand before what follows it
+abbrev pub Beside : Type 0
+Beside = Front → Front → Bool
+
+abbrev pub besides : Beside → List Front → List Front → Bool
+besides p fs gs = every (λ (f : Front). every (λ (g : Front). p f g) gs) fs
+
+abbrev pub Within : Type 0
+Within = ℕ → Bool
+
+abbrev pub paired_item : Within → Beside → Item → Bool
+paired_item r p (Part n) = r n
+paired_item r p (Maybe s n) = r n
+paired_item r p (Either s n m) = r n && r m
+paired_item r p (Many s n) = r n && besides p (of n).ends (of n).heads
+paired_item r p (Nest n) = r n && besides p (of n).ends (Spanned 41 41 ∷ [])
+paired_item r p (Statement q) = r row.LINE
+paired_item r p i = true
+
+abbrev pub paired : Within → Beside → List Item → Bool
+paired r p [] = true
+paired r p (i ∷ is) = paired_item r p i && (besides p (of_item of i).ends (next_heads is) && paired r p is)

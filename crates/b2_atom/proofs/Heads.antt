@@ -47,16 +47,16 @@ item_stable l part End h = refl
 item_stable l part (Typed leaf.Text code) h = refl
 item_stable l part (Typed k code) h = refl
 item_stable l part (Part n) h =
-    ap (λ (k : Known). record { heads = k.heads; empty = k.empty; tails = k.tails; rank = suc k.rank; plain = k.plain }) (part n h)
+    ap (λ (k : Known). record { heads = k.heads; empty = k.empty; tails = k.tails; rank = suc k.rank; plain = k.plain; ends = k.ends }) (part n h)
 item_stable l part (Maybe s n) h =
-    ap (λ (k : Known). record { heads = k.heads; empty = true; tails = Asked s ∷ k.tails; rank = suc k.rank; plain = k.plain }) (part n h)
+    ap (λ (k : Known). record { heads = k.heads; empty = true; tails = Asked s ∷ k.tails; rank = suc k.rank; plain = k.plain; ends = k.ends }) (part n h)
 item_stable l part (Either s n m) h =
     let a : suc (of_row l n).rank ≤ l = grind (arith, nat_tests) in
     let b : suc (of_row l m).rank ≤ l = grind (arith, nat_tests) in
     (λ x. let k = part n a x in let j = part m b x in
-    record { heads = k.heads ++ j.heads; empty = k.empty || j.empty; tails = when j.empty (Asked s ∷ []) ++ (k.tails ++ j.tails); rank = suc (larger k.rank j.rank); plain = k.plain && j.plain })
+    record { heads = k.heads ++ j.heads; empty = k.empty || j.empty; tails = when j.empty (Asked s ∷ []) ++ (k.tails ++ j.tails); rank = suc (larger k.rank j.rank); plain = k.plain && j.plain; ends = k.ends ++ j.ends })
 item_stable l part (Many s n) h =
-    ap (λ (k : Known). record { heads = k.heads; empty = true; tails = Asked s ∷ k.tails; rank = suc k.rank; plain = k.plain }) (part n h)
+    ap (λ (k : Known). record { heads = k.heads; empty = true; tails = Asked s ∷ k.tails; rank = suc k.rank; plain = k.plain; ends = k.ends }) (part n h)
 item_stable l part (Nest n) h = refl
 item_stable l part (Statement p) h = refl
 

@@ -11,6 +11,7 @@ pub mod Complete
 pub mod Branches
 pub mod ReadBack
 pub mod Choice
+pub mod Pairs
 pub mod Longest
 pub mod WordsRead
 pub mod Widths
