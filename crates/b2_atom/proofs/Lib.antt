@@ -18,3 +18,4 @@ pub mod SpellsAtoms
 pub mod Listed
 pub mod SpellsSource
 pub mod WholeLeaves
+pub mod WholeNames

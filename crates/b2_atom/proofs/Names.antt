@@ -49,7 +49,7 @@ NameShape (a ∷ b ∷ c ∷ []) = (a ≡ 64) × ((is_letter b ≡ true) × (is_
 NameShape (a ∷ b ∷ c ∷ d ∷ w) = ⊥
 
 -- the width of a name by its tests
-abbrev width_of : Bool → Bool → Bool → Bool → ℕ
+abbrev pub width_of : Bool → Bool → Bool → Bool → ℕ
 width_of l d g e = if l then (if d then 2 else 1) else (if g then (if e then 3 else 2) else 0)
 
 no_g : (g : Bool) → (g && false) ≡ false
@@ -68,7 +68,7 @@ two_shape false d true true h = inr (refl, refl)
 two_shape false d true false h = cc
 two_shape false d false y h = cc
 
-three_shape : (l d g y e : Bool) → width_of l d (g && y) e ≡ 3 → (g ≡ true) × ((y ≡ true) × (e ≡ true))
+pub three_shape : (l d g y e : Bool) → width_of l d (g && y) e ≡ 3 → (g ≡ true) × ((y ≡ true) × (e ≡ true))
 three_shape true true g y e h = cc
 three_shape true false g y e h = cc
 three_shape false d true true true h = (refl, (refl, refl))
@@ -76,7 +76,7 @@ three_shape false d true true false h = cc
 three_shape false d true false e h = cc
 three_shape false d false y e h = cc
 
-too_wide : (l d g e : Bool) (n : ℕ) → width_of l d g e ≡ suc (suc (suc (suc n))) → ⊥
+pub too_wide : (l d g e : Bool) (n : ℕ) → width_of l d g e ≡ suc (suc (suc (suc n))) → ⊥
 too_wide true true g e n h = cc
 too_wide true false g e n h = cc
 too_wide false d true true n h = cc
@@ -207,14 +207,14 @@ pub no_alpha : (o : Origin) (t : Text) → name_width o t ≡ 0 → is_alpha_nam
 no_alpha o t h = ap (λ (m : ℕ). nat_lt 0 m && get_or t m 0 == 36) h
 
 -- a whole name
-numeric_of : (b : Bool) (n m : ℕ) → (if b then 0 else n) ≡ suc m → n ≡ suc m
+pub numeric_of : (b : Bool) (n m : ℕ) → (if b then 0 else n) ≡ suc m → n ≡ suc m
 numeric_of true n m h = cc
 numeric_of false n m h = h
 
 pub numeric_shape : (a : ℕ) (w : Text) → numeric_name_width Atoms (a ∷ w) ≡ suc (length w) → NameShape (a ∷ w)
 numeric_shape a w h = name_shape a w (numeric_of (is_alpha_name Atoms (a ∷ w)) (name_width Atoms (a ∷ w)) (length w) h)
 
-local_of : (b : Bool) (n m : ℕ) → (if b then 0 else n) ≡ suc m → (b ≡ false) × (n ≡ suc m)
+pub local_of : (b : Bool) (n m : ℕ) → (if b then 0 else n) ≡ suc m → (b ≡ false) × (n ≡ suc m)
 local_of true n m h = cc
 local_of false n m h = (refl, h)
 
@@ -228,23 +228,23 @@ pub record AlphaShape (w : Text) : Type 0 where
   pub shape : NameShape (head ∷ rest)
   pub is : w ≡ head ∷ (rest ++ 36 ∷ [])
 
-named_of : (b : Bool) (n m : ℕ) → (if b then n + 1 else 0) ≡ suc m → (b ≡ true) × (n ≡ m)
+pub named_of : (b : Bool) (n m : ℕ) → (if b then n + 1 else 0) ≡ suc m → (b ≡ true) × (n ≡ m)
 named_of true n m h = let less : n ≡ m = omega arith in (refl, less)
 named_of false n m h = cc
 
-dollar_of : (t : Text) (n m : ℕ) → n ≡ suc m → (nat_lt 0 n && get_or t n 0 == 36) ≡ true → get_or t (suc m) 0 ≡ 36
+pub dollar_of : (t : Text) (n m : ℕ) → n ≡ suc m → (nat_lt 0 n && get_or t n 0 == 36) ≡ true → get_or t (suc m) 0 ≡ 36
 dollar_of t n m is h = equal (get_or t (suc m) 0) 36 (ap (λ (k : ℕ). get_or t k 0 == 36) (sym is) ∙ and_right (nat_lt 0 n) (get_or t n 0 == 36) h)
 
-no_width : (n : ℕ) (b : Bool) → n ≡ 0 → (nat_lt 0 n && b) ≡ true → ⊥
+pub no_width : (n : ℕ) (b : Bool) → n ≡ 0 → (nat_lt 0 n && b) ≡ true → ⊥
 no_width zero b is h = cc
 no_width (suc n) b is h = cc
 
-one_letter : (l d g : Bool) → width_of l d g false ≡ 1 → l ≡ true
+pub one_letter : (l d g : Bool) → width_of l d g false ≡ 1 → l ≡ true
 one_letter true d g h = refl
 one_letter false d true h = cc
 one_letter false d false h = cc
 
-two_kinds : (l d g y e : Bool) → width_of l d (g && y) e ≡ 2 → ((l ≡ true) × (d ≡ true)) ⊎ ((g ≡ true) × (y ≡ true))
+pub two_kinds : (l d g y e : Bool) → width_of l d (g && y) e ≡ 2 → ((l ≡ true) × (d ≡ true)) ⊎ ((g ≡ true) × (y ≡ true))
 two_kinds true true g y e h = inl (refl, refl)
 two_kinds true false g y e h = cc
 two_kinds false d true true e h = inr (refl, refl)

@@ -156,16 +156,16 @@ number_back o a w x h =
     ∙ is.1
 
 -- what is kept of a text has the same widths
-kept_digit : (o : Origin) (b : ℕ) → is_digit (kept o b) ≡ is_digit b
+pub kept_digit : (o : Origin) (b : ℕ) → is_digit (kept o b) ≡ is_digit b
 kept_digit Program b = grind (arith, nat_tests)
 kept_digit Immediate b = grind (arith, nat_tests)
 kept_digit Atoms b = refl
 
 -- a byte that no letter is kept as
-abbrev is_fixed : ℕ → Bool
+abbrev pub is_fixed : ℕ → Bool
 is_fixed c = nat_lt c 65 && nat_lt 0 c
 
-kept_fixed : (o : Origin) (b c : ℕ) → is_fixed c ≡ true → (kept o b == c) ≡ (b == c)
+pub kept_fixed : (o : Origin) (b c : ℕ) → is_fixed c ≡ true → (kept o b == c) ≡ (b == c)
 kept_fixed Program b c h = grind (arith, nat_tests)
 kept_fixed Immediate b c h = grind (arith, nat_tests)
 kept_fixed Atoms b c h = refl
