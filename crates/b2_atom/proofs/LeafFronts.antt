@@ -73,7 +73,7 @@ shape_front a (b ∷ c ∷ d ∷ w) h = absurd h
 letter_only : (a : ℕ) → (is_letter a || a == 64) ≡ true → (a == 64) ≡ false → is_letter a ≡ true
 letter_only a h k = grind (arith, nat_tests)
 
-relation_front : (a b n : ℕ) → relation_of a b ≡ suc n → (a == 60 || (a == 61 || a == 62)) ≡ true
+pub relation_front : (a b n : ℕ) → relation_of a b ≡ suc n → (a == 60 || (a == 61 || a == 62)) ≡ true
 relation_front a b n h = grind (arith, nat_tests)
 
 turned : (b : Bool) → b ≡ false → not b ≡ true

@@ -19,3 +19,4 @@ pub mod Listed
 pub mod SpellsSource
 pub mod WholeLeaves
 pub mod WholeNames
+pub mod GoodLeaves
