@@ -1,14 +1,14 @@
 -- What is read of what is typed by hand is a good token: a whole leaf, a line number of decimal digits, or free text.
-use Rattle.std.proofs.Common.{◌≡◌, ℕ, zero, suc, ◌+◌, ◌-◌, ◌*◌, ◌/◌, ◌%◌, ◌<◌, ◌≤◌, Bool, true, false, not, if◌then◌else◌, ◌==◌, ◌||◌, ◌&&◌, List, [], ◌∷◌, ◌++◌, map, length, get_or, take, drop, min, refl, sym, ap, subst, ◌∙◌, arith, nat_le, nat_lt, inl, inr, ◌⊎◌, length-drop, Ok, Err}
+use Rattle.std.proofs.Common.{◌≡◌, ℕ, zero, suc, ◌+◌, ◌*◌, ◌/◌, ◌%◌, ◌<◌, ◌≤◌, Bool, true, false, not, if◌then◌else◌, ◌==◌, ◌||◌, ◌&&◌, [], ◌∷◌, ◌++◌, map, length, get_or, take, drop, min, refl, sym, ap, ◌∙◌, arith, nat_le, nat_lt, inl, inr, ◌⊎◌, length-drop, Ok, Err}
 use Rattle.std.proofs.lemmas.List.{take-append-drop}
 use Rattle.std.proofs.lemmas.Bool.Decides.{nat_tests}
 use Rattle.b2_atom.specs.Words.{Text, first, kept, ahead, skipped}
 use Rattle.b2_atom.specs.Tokens.{kept_text}
-use Rattle.b2_atom.specs.Tokens.Token.{Coded, Plain, Lined}
+use Rattle.b2_atom.specs.Tokens.Token.{Plain, Lined}
 use Rattle.b2_atom.specs.Tree.{Trees, Outcome, one}
-use Rattle.b2_atom.specs.Tree.Trees.{Done, Put, In}
-use Rattle.b2_atom.specs.Leaves.{is_digit, is_letter, is_hex, is_printable, all_printable, digits, number_width, mantissa_of, mantissa_width, sign_width, exponent_of, exponent_width, one_more, signed_number_width, name_width, is_alpha_name, numeric_name_width, leaf_width, until_quote, small_value, relation_of, until_parenthesis, missing, refused}
-use Rattle.b2_atom.specs.Grammar.{read_leaf, leaf_at, plain, plain_of, line_number_at, typed_line_number, two_digits, digit_of, atoms_line_number, is_decimal, text_to_end}
+use Rattle.b2_atom.specs.Tree.Trees.{Done, Put}
+use Rattle.b2_atom.specs.Leaves.{is_digit, is_letter, is_hex, all_printable, digits, number_width, mantissa_of, mantissa_width, sign_width, exponent_of, exponent_width, one_more, signed_number_width, name_width, is_alpha_name, numeric_name_width, leaf_width, until_quote, small_value, relation_of, until_parenthesis, missing, refused}
+use Rattle.b2_atom.specs.Grammar.{read_leaf, plain_of, line_number_at, typed_line_number, two_digits, digit_of, atoms_line_number, is_decimal, text_to_end}
 use Rattle.b2_atom.specs.Spelling.{is_whole, good_token}
 use Rattle.b2_atom.specs.declared.words.Origin.{Origin}
 use Rattle.b2_atom.specs.declared.words.Origin.TheVariants.{Program, Immediate, Atoms}
@@ -16,12 +16,12 @@ use Rattle.b2_atom.specs.declared.forms.Leaf.{Leaf}
 use Rattle.b2_atom.specs.declared.forms.Leaf.TheVariants as leaf
 use Rattle.b2_atom.specs.declared.sink.Stop.{Stop}
 use Rattle.b2_atom.specs.declared.sink.Stop.TheVariants.{At}
-use Rattle.b2_atom.proofs.Longest.{and_left, and_right, false_true, equal}
+use Rattle.b2_atom.proofs.Longest.{and_right, false_true}
 use Rattle.b2_atom.proofs.WordsRead.{typed_end}
 use Rattle.b2_atom.proofs.Widths.{get_none, digits_most}
 use Rattle.b2_atom.proofs.Names.{width_of, no_name}
-use Rattle.b2_atom.proofs.Characters.{image_parts, is_function_name}
-use Rattle.b2_atom.proofs.LeafFronts.{width_yes, relation_front}
+use Rattle.b2_atom.proofs.Characters.{is_function_name}
+use Rattle.b2_atom.proofs.LeafFronts.{width_yes}
 use Rattle.b2_atom.proofs.SideBySide.{is_text}
 use Rattle.b2_atom.proofs.WholeLeaves.{number_kept, number_back, signed_kept, signed_back, slot_kept, slot_back, small_kept, small_back, image_kept, image_back, relation_kept_text, relation_back, literal_back}
 use Rattle.b2_atom.proofs.WholeNames.{name_whole, local_whole, alpha_whole, function_whole}
@@ -310,9 +310,11 @@ two_decimal a b =
 
 typed_good : (o : Origin) (code : ℕ) (t : Text) → GoodLeaf leaf.LineNumber (typed_line_number o code t)
 typed_good o code t =
-    good_if leaf.LineNumber (nat_lt (digits t) 1 || nat_lt 4 (digits t)) (Err (refused o code t)) (one (Lined (two_digits t (digits t) 0) (two_digits t (digits t) 2)) (drop (digits t) t)) tt
-    (refl, both (is_decimal (two_digits t (digits t) 0)) (is_decimal (two_digits t (digits t) 2))
-    (two_decimal (digit_of t (digits t) 0) (digit_of t (digits t) 1)) (two_decimal (digit_of t (digits t) 2) (digit_of t (digits t) 3)))
+    good_if leaf.LineNumber (nat_lt (digits t) 1 || nat_lt 4 (digits t)) (Err (refused o code t)) (one (Lined (two_digits t (digits t) 0) (two_digits t (digits t) 2)) (drop (digits t) t)) tt (
+      refl,
+      both (is_decimal (two_digits t (digits t) 0)) (is_decimal (two_digits t (digits t) 2))
+          (two_decimal (digit_of t (digits t) 0) (digit_of t (digits t) 1)) (two_decimal (digit_of t (digits t) 2) (digit_of t (digits t) 3)),
+    )
 
 lined_good : (a b c : ℕ) (t : Text) (e : Stop) (x y z : Bool) → is_decimal b ≡ y → is_decimal c ≡ z → GoodLeaf leaf.LineNumber (if x && (y && z) then one (Lined b c) t else Err e)
 lined_good a b c t e true true true hb hc = (refl, both (is_decimal b) (is_decimal c) hb hc)

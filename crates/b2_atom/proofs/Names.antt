@@ -1,13 +1,13 @@
 -- Names, hexadecimal digits, comparison signs and images have their width, whatever stands behind them that doesn't run on.
-use Rattle.std.proofs.Common.{◌≡◌, ℕ, zero, suc, ◌+◌, ◌-◌, ◌<◌, ◌≤◌, Bool, true, false, not, if◌then◌else◌, ◌==◌, ◌||◌, ◌&&◌, List, [], ◌∷◌, ◌++◌, length, get_or, drop, refl, sym, ap, ◌∙◌, arith, nat_le, nat_lt, inl, inr, ◌⊎◌}
+use Rattle.std.proofs.Common.{◌≡◌, ℕ, zero, suc, ◌+◌, Bool, true, false, if◌then◌else◌, ◌==◌, ◌&&◌, [], ◌∷◌, ◌++◌, length, get_or, drop, refl, sym, ap, ◌∙◌, arith, nat_lt, inl, inr, ◌⊎◌}
 use Rattle.std.proofs.lemmas.Bool.Decides.{nat_tests}
 use Rattle.b2_atom.specs.Words.{Text, first, kept, upper, ahead}
-use Rattle.b2_atom.specs.Leaves.{is_digit, is_letter, is_hex, is_printable, name_width, is_alpha_name, numeric_name_width, alpha_name_width, local_name_width, any_name_width, function_name_width, hex_pair_width, hex_digit_width, address_width, relation_of, relation_width, ends_image, until_parenthesis, image_width}
+use Rattle.b2_atom.specs.Leaves.{is_digit, is_letter, name_width, is_alpha_name, numeric_name_width, alpha_name_width, local_name_width, any_name_width}
 use Rattle.b2_atom.specs.declared.words.Origin.{Origin}
 use Rattle.b2_atom.specs.declared.words.Origin.TheVariants.{Program, Immediate, Atoms}
-use Rattle.b2_atom.proofs.Longest.{and_left, and_right, false_true, equal}
+use Rattle.b2_atom.proofs.Longest.{and_right, equal}
 use Rattle.b2_atom.proofs.WordsRead.{begins_word, typed_sign, typed_letter, typed_global}
-use Rattle.b2_atom.proofs.Widths.{get_first, get_front}
+use Rattle.b2_atom.proofs.Widths.{get_first}
 
 -- a byte before what is no letter
 pub ahead_letter : (o : Origin) (b : ℕ) (x : Text) → upper b ≡ b → is_letter (upper (first x)) ≡ false → ahead o (b ∷ x) ≡ (b, x)
@@ -188,7 +188,7 @@ alpha_read o a w x shape =
     let is = name_read o (a ∷ w) (36 ∷ x) shape refl refl in
     let there : is_alpha_name o (a ∷ (w ++ 36 ∷ x)) ≡ true = alpha_by o (a ∷ (w ++ 36 ∷ x)) (length w) is.width ∙ ap (λ (n : ℕ). n == 36) (get_behind (a ∷ w) (36 ∷ x)) in
     let wide : alpha_name_width o (a ∷ (w ++ 36 ∷ x)) ≡ suc (length w) + 1 =
-        ap (λ (b : Bool). if b then name_width o (a ∷ (w ++ 36 ∷ x)) + 1 else 0) there ∙ ap (λ (n : ℕ). n + 1) is.width in
+    ap (λ (b : Bool). if b then name_width o (a ∷ (w ++ 36 ∷ x)) + 1 else 0) there ∙ ap (λ (n : ℕ). n + 1) is.width in
     record {
       whole = is.whole;
       alpha = there;
@@ -263,7 +263,8 @@ alpha_shape a (b ∷ c ∷ []) h =
     let is = named_of (is_alpha_name Atoms (a ∷ b ∷ c ∷ [])) (name_width Atoms (a ∷ b ∷ c ∷ [])) 2 h in
     let dollar : c ≡ 36 = dollar_of (a ∷ b ∷ c ∷ []) (name_width Atoms (a ∷ b ∷ c ∷ [])) 1 is.1 is.0 in
     record {
-      head = a; rest = b ∷ [];
+      head = a;
+      rest = b ∷ [];
       shape = sign_of a b (two_kinds (is_letter a) (is_digit b) (a == 64) (is_letter b) (is_digit c) is.1);
       is = ap (λ (n : ℕ). a ∷ b ∷ n ∷ []) dollar;
     }

@@ -1,15 +1,11 @@
 -- What is read of a leaf is a whole leaf by itself.
-use Rattle.std.proofs.Common.{◌≡◌, ℕ, zero, suc, ◌+◌, ◌-◌, ◌*◌, ◌<◌, ◌≤◌, Bool, true, false, not, if◌then◌else◌, ◌==◌, ◌||◌, ◌&&◌, List, [], ◌∷◌, ◌++◌, map, length, get_or, take, drop, min, refl, sym, ap, subst, ◌∙◌, arith, nat_le, nat_lt, inl, inr, ◌⊎◌, length-drop, length-append, append-nil, Err, Ok, Result}
+use Rattle.std.proofs.Common.{◌≡◌, ℕ, zero, suc, ◌+◌, ◌-◌, ◌*◌, ◌<◌, ◌≤◌, Bool, true, false, not, if◌then◌else◌, ◌==◌, ◌||◌, ◌&&◌, [], ◌∷◌, ◌++◌, map, length, get_or, drop, min, refl, sym, ap, ◌∙◌, arith, nat_le, nat_lt, inl, inr, ◌⊎◌, length-drop}
 use Rattle.std.proofs.lemmas.Bool.Decides.{nat_tests}
-use Rattle.b2_atom.specs.Words.{Text, first, upper, kept, ahead}
-use Rattle.b2_atom.specs.Tokens.{kept_text}
-use Rattle.b2_atom.specs.Leaves.{is_digit, is_letter, is_hex, is_printable, digits, number_width, number_of, mantissa_of, mantissa_width, sign_width, exponent_of, exponent_width, one_more, signed_number_width, leaf_width, literal_width, until_quote, small_value, small_width, slot_width, relation_of, relation_width, ends_image, until_parenthesis, image_width}
+use Rattle.b2_atom.specs.Words.{Text, first, kept}
+use Rattle.b2_atom.specs.Leaves.{is_digit, is_printable, digits, number_width, number_of, mantissa_of, mantissa_width, sign_width, exponent_of, exponent_width, one_more, signed_number_width, literal_width, until_quote, small_value, small_width, slot_width, relation_of, relation_width, ends_image, until_parenthesis, image_width}
 use Rattle.b2_atom.specs.declared.words.Origin.{Origin}
 use Rattle.b2_atom.specs.declared.words.Origin.TheVariants.{Program, Immediate, Atoms}
-use Rattle.b2_atom.specs.declared.forms.Leaf.{Leaf}
-use Rattle.b2_atom.specs.declared.forms.Leaf.TheVariants as leaf
-use Rattle.b2_atom.proofs.Longest.{and_left, and_right, false_true, equal}
-use Rattle.b2_atom.proofs.Widths.{get_first, get_front, get_none, drop_front, digits_most, small_more, slot_more}
+use Rattle.b2_atom.proofs.Widths.{get_front, get_none, drop_front, small_more, slot_more}
 use Rattle.b2_atom.proofs.LeafFronts.{width_yes}
 use Rattle.b2_atom.proofs.Characters.{image_parts}
 

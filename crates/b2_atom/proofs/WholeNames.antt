@@ -1,16 +1,14 @@
 -- What is read of a name is a whole name by itself; and each leaf that is read from a text stands in it.
-use Rattle.std.proofs.Common.{◌≡◌, ℕ, zero, suc, ◌+◌, ◌-◌, ◌*◌, ◌<◌, ◌≤◌, Bool, true, false, not, if◌then◌else◌, ◌==◌, ◌||◌, ◌&&◌, List, [], ◌∷◌, ◌++◌, map, length, get_or, take, drop, refl, sym, ap, subst, ◌∙◌, arith, nat_le, nat_lt, inl, inr, ◌⊎◌, length-drop, length-append, append-nil}
+use Rattle.std.proofs.Common.{◌≡◌, ℕ, suc, ◌+◌, Bool, true, false, if◌then◌else◌, ◌==◌, ◌&&◌, [], ◌∷◌, ◌++◌, map, length, get_or, drop, refl, sym, ap, ◌∙◌, arith, nat_le, inl, inr, ◌⊎◌, append-nil}
 use Rattle.std.specs.Prelude.{codes}
 use Rattle.std.proofs.lemmas.Bool.Decides.{nat_tests}
-use Rattle.b2_atom.specs.Words.{Text, first, upper, kept, ahead, typed_ahead, typed_by, joined, word_at, begins_with, skip_blanks}
-use Rattle.b2_atom.specs.Leaves.{is_digit, is_letter, name_width, is_alpha_name, numeric_name_width, alpha_name_width, local_name_width, function_name_width, leaf_width}
+use Rattle.b2_atom.specs.Words.{Text, upper, kept, ahead, typed_ahead, joined, word_at, begins_with, skip_blanks}
+use Rattle.b2_atom.specs.Leaves.{is_digit, is_letter, name_width, is_alpha_name, numeric_name_width, alpha_name_width, local_name_width, function_name_width}
 use Rattle.b2_atom.specs.declared.words.TheConstants as word
 use Rattle.b2_atom.specs.declared.words.Origin.{Origin}
 use Rattle.b2_atom.specs.declared.words.Origin.TheVariants.{Program, Immediate, Atoms}
-use Rattle.b2_atom.specs.declared.forms.Leaf.{Leaf}
-use Rattle.b2_atom.specs.declared.forms.Leaf.TheVariants as leaf
-use Rattle.b2_atom.proofs.Longest.{and_left, and_right, false_true, equal}
-use Rattle.b2_atom.proofs.Names.{NameShape, numeric_read, alpha_read, width_of, three_shape, two_kinds, one_letter, too_wide, numeric_of, local_of, named_of, dollar_of, no_width}
+use Rattle.b2_atom.proofs.Longest.{false_true, equal}
+use Rattle.b2_atom.proofs.Names.{NameShape, numeric_read, alpha_read, width_of, three_shape, two_kinds, too_wide, numeric_of, local_of, named_of, dollar_of, no_width}
 use Rattle.b2_atom.proofs.Characters.{is_function_name}
 use Rattle.b2_atom.proofs.LeafFronts.{width_yes}
 use Rattle.b2_atom.proofs.WholeLeaves.{kept_digit, kept_fixed}
