@@ -1,24 +1,24 @@
 -- A text that begins with a token that is typed by hand, a word, a sign or a line number.
-use Rattle.std.proofs.Common.{◌≡◌, ℕ, zero, suc, ◌+◌, ◌-◌, ◌<◌, ◌≤◌, Bool, true, false, not, if◌then◌else◌, ◌==◌, ◌||◌, ◌&&◌, List, [], ◌∷◌, ◌++◌, map, length, get_or, take, drop, refl, sym, ap, subst, ◌∙◌, arith, nat_le, nat_lt, length-append, append_assoc, inl, inr, ◌⊎◌}
+use Rattle.std.proofs.Common.{◌≡◌, ℕ, suc, ◌+◌, ◌-◌, ◌<◌, Bool, true, false, not, if◌then◌else◌, ◌==◌, ◌&&◌, List, [], ◌∷◌, ◌++◌, length, get_or, drop, refl, sym, ap, subst, ◌∙◌, arith, nat_le, nat_lt, length-append, inl, inr, ◌⊎◌}
 use Rattle.std.proofs.Math.Seq.{drop-append_seam}
 use Rattle.std.proofs.lemmas.Bool.Decides.{nat_tests}
-use Rattle.b2_atom.specs.Words.{Text, first, kept, upper, ahead, skipped, begins_with, is_source}
+use Rattle.b2_atom.specs.Words.{Text, first, kept, upper, ahead, skipped, begins_with}
 use Rattle.b2_atom.specs.Tokens.{Token}
 use Rattle.b2_atom.specs.Tokens.Token.{Coded, Plain, Lined}
 use Rattle.b2_atom.specs.Tree.{one}
 use Rattle.b2_atom.specs.Leaves.{is_digit, is_letter, is_hex, digits, name_width, is_alpha_name, leaf_width, small_value}
-use Rattle.b2_atom.specs.Grammar.{read_leaf, leaf_at, plain, line_number_at, begins_let, spelled_behind, is_line}
-use Rattle.b2_atom.specs.Spelling.{Begins, is_classed, has_class, is_code, is_beg, here, Named, ShowsName, ShowsHex, ShowsLine, Reads}
+use Rattle.b2_atom.specs.Grammar.{read_leaf, plain, line_number_at, begins_let, spelled_behind, is_line}
+use Rattle.b2_atom.specs.Spelling.{Begins, is_classed, is_beg, here, Named, ShowsName, ShowsHex}
 use Rattle.b2_atom.specs.declared.words.Origin.{Origin}
 use Rattle.b2_atom.specs.declared.words.Origin.TheVariants.{Program, Immediate, Atoms}
 use Rattle.b2_atom.specs.declared.forms.Leaf.{Leaf}
 use Rattle.b2_atom.specs.declared.forms.Leaf.TheVariants as leaf
-use Rattle.b2_atom.proofs.Longest.{and_left, and_right, false_true, equal}
+use Rattle.b2_atom.proofs.Longest.{and_left, and_right, false_true}
 use Rattle.b2_atom.proofs.WordsRead.{begins_word}
 use Rattle.b2_atom.proofs.Keywords.{is_keyword, not_before_sign, not_at_sign}
 use Rattle.b2_atom.proofs.Names.{NameShape, numeric_shape, numeric_read, local_shape, alpha_shape, alpha_read, ahead_sign, ahead_letter}
 use Rattle.b2_atom.proofs.Characters.{hex_kept, function_of, is_function_name, function_ahead}
-use Rattle.b2_atom.proofs.LeavesRead.{ends, leaf_read, is_free, all_upper, not_true, name_digit, name_letter, name_dollar, dollar_before, dollar_long}
+use Rattle.b2_atom.proofs.LeavesRead.{ends, leaf_read, not_true, name_digit, name_letter, name_dollar, dollar_before, dollar_long}
 use Rattle.b2_atom.proofs.LeafFronts.{front, leaf_front, whole_upper, width_yes}
 
 -- a byte that is no letter, or one behind it that is none

@@ -1,14 +1,13 @@
 -- Hexadecimal digits, comparison signs, functions' names and images have their width, whatever stands behind them.
-use Rattle.std.proofs.Common.{◌≡◌, ℕ, zero, suc, ◌+◌, ◌-◌, ◌<◌, ◌≤◌, Bool, true, false, not, if◌then◌else◌, ◌==◌, ◌||◌, ◌&&◌, List, [], ◌∷◌, ◌++◌, length, get_or, refl, sym, ap, ◌∙◌, arith, nat_le, nat_lt}
+use Rattle.std.proofs.Common.{◌≡◌, ℕ, suc, ◌+◌, ◌<◌, Bool, true, false, not, if◌then◌else◌, ◌==◌, ◌||◌, ◌&&◌, [], ◌∷◌, ◌++◌, length, get_or, refl, ap, ◌∙◌, arith}
 use Rattle.std.proofs.lemmas.Bool.Decides.{nat_tests}
 use Rattle.b2_atom.specs.Words.{Text, first, kept, upper, ahead}
-use Rattle.b2_atom.specs.Leaves.{is_digit, is_letter, is_hex, is_printable, function_name_width, hex_pair_width, hex_digit_width, address_width, relation_of, relation_width, ends_image, until_parenthesis, image_width}
+use Rattle.b2_atom.specs.Leaves.{is_digit, is_letter, is_hex, function_name_width, hex_pair_width, hex_digit_width, address_width, relation_of, relation_width, ends_image, until_parenthesis, image_width}
 use Rattle.b2_atom.specs.declared.words.Origin.{Origin}
 use Rattle.b2_atom.specs.declared.words.Origin.TheVariants.{Program, Immediate, Atoms}
-use Rattle.b2_atom.proofs.Longest.{and_left, and_right, false_true, equal}
-use Rattle.b2_atom.proofs.WordsRead.{begins_word}
+use Rattle.b2_atom.proofs.Longest.{and_left, and_right, false_true}
 use Rattle.b2_atom.proofs.Widths.{get_first, get_front}
-use Rattle.b2_atom.proofs.Names.{ahead_letter, ahead_sign}
+use Rattle.b2_atom.proofs.Names.{ahead_letter}
 
 -- hexadecimal digits
 pub hex_kept : (o : Origin) (b : ℕ) → is_hex b ≡ true → kept o b ≡ b

@@ -1,12 +1,12 @@
 -- Which texts don't begin with a given word: what stands behind DATA and PRINT, and LET before an assignment.
-use Rattle.std.proofs.Common.{◌≡◌, ℕ, zero, suc, ◌+◌, ◌-◌, ◌<◌, ◌≤◌, Bool, true, false, not, ◌==◌, ◌||◌, ◌&&◌, List, [], ◌∷◌, ◌++◌, length, get_or, refl, sym, ap, ◌∙◌, arith, nat_le, nat_lt}
+use Rattle.std.proofs.Common.{◌≡◌, ℕ, ◌+◌, ◌-◌, ◌<◌, Bool, true, false, ◌==◌, ◌||◌, ◌&&◌, [], ◌∷◌, ◌++◌, get_or, refl, ap, arith}
 use Rattle.std.specs.Prelude.{codes}
 use Rattle.std.proofs.lemmas.Bool.Decides.{nat_tests}
 use Rattle.b2_atom.specs.Words.{Text, upper, begins_with, first, texts, word_text, skip_blanks}
 use Rattle.b2_atom.specs.Leaves.{is_letter}
 use Rattle.b2_atom.specs.declared.words.TheConstants as word
-use Rattle.b2_atom.proofs.Longest.{apart, and_left, and_right, false_true, equal, lost, below, at_below}
-use Rattle.b2_atom.proofs.WordsRead.{is_code, joins, letter_stops, stopped, and_false}
+use Rattle.b2_atom.proofs.Longest.{apart, and_left, and_right, lost, below, at_below}
+use Rattle.b2_atom.proofs.WordsRead.{is_code, joins, letter_stops, and_false}
 
 -- two letters at the front
 abbrev pub is_keyword : Text → Bool

@@ -1,12 +1,12 @@
 -- What a whole leaf begins with, and that it has no small letters.
-use Rattle.std.proofs.Common.{◌≡◌, ℕ, zero, suc, ◌+◌, ◌-◌, ◌<◌, ◌≤◌, Bool, true, false, not, if◌then◌else◌, ◌==◌, ◌||◌, ◌&&◌, List, [], ◌∷◌, ◌++◌, length, get_or, take, drop, refl, sym, ap, subst, ◌∙◌, arith, nat_le, nat_lt, inl, inr, ◌⊎◌, length-drop, drop-drop}
+use Rattle.std.proofs.Common.{◌≡◌, ℕ, zero, suc, ◌+◌, ◌<◌, ◌≤◌, Bool, true, false, not, if◌then◌else◌, ◌==◌, ◌||◌, ◌&&◌, [], ◌∷◌, ◌++◌, length, get_or, drop, refl, sym, ap, ◌∙◌, arith, nat_le, nat_lt, inl, inr, ◌⊎◌, length-drop, drop-drop}
 use Rattle.std.proofs.lemmas.Bool.Decides.{nat_tests}
 use Rattle.b2_atom.specs.Words.{Text, first, upper}
-use Rattle.b2_atom.specs.Leaves.{is_digit, is_letter, is_hex, is_printable, digits, number_width, number_of, mantissa_of, mantissa_width, sign_width, exponent_of, exponent_width, one_more, signed_number_width, leaf_width, literal_width, until_quote, small_value, slot_width, relation_of, relation_width, ends_image, until_parenthesis, hex_pair_width, address_width}
+use Rattle.b2_atom.specs.Leaves.{is_digit, is_letter, is_hex, digits, number_width, number_of, mantissa_of, mantissa_width, sign_width, exponent_of, exponent_width, one_more, leaf_width, until_quote, small_value, relation_of, ends_image, until_parenthesis}
 use Rattle.b2_atom.specs.declared.words.Origin.TheVariants.{Atoms}
 use Rattle.b2_atom.specs.declared.forms.Leaf.{Leaf}
 use Rattle.b2_atom.specs.declared.forms.Leaf.TheVariants as leaf
-use Rattle.b2_atom.proofs.Longest.{and_left, and_right, false_true, equal, every}
+use Rattle.b2_atom.proofs.Longest.{and_left, and_right, false_true, equal}
 use Rattle.b2_atom.proofs.Widths.{get_none}
 use Rattle.b2_atom.proofs.Names.{NameShape, numeric_shape, local_shape, alpha_shape}
 use Rattle.b2_atom.proofs.Characters.{function_of, is_function_name, image_front, image_parts}
@@ -73,7 +73,7 @@ shape_front a (b ∷ c ∷ d ∷ w) h = absurd h
 letter_only : (a : ℕ) → (is_letter a || a == 64) ≡ true → (a == 64) ≡ false → is_letter a ≡ true
 letter_only a h k = grind (arith, nat_tests)
 
-relation_front : (a b n : ℕ) → relation_of a b ≡ suc n → (a == 60 || (a == 61 || a == 62)) ≡ true
+pub relation_front : (a b n : ℕ) → relation_of a b ≡ suc n → (a == 60 || (a == 61 || a == 62)) ≡ true
 relation_front a b n h = grind (arith, nat_tests)
 
 turned : (b : Bool) → b ≡ false → not b ≡ true

@@ -1,22 +1,21 @@
 -- What is typed by hand is read where it stands, in a source as among atoms, before what doesn't run on.
-use Rattle.std.proofs.Common.{◌≡◌, ℕ, zero, suc, ◌+◌, ◌-◌, ◌<◌, ◌≤◌, Bool, true, false, not, if◌then◌else◌, ◌==◌, ◌||◌, ◌&&◌, List, [], ◌∷◌, ◌++◌, map, length, get_or, take, drop, refl, sym, ap, subst, ◌∙◌, arith, nat_le, nat_lt, length-append, append_assoc, Err}
+use Rattle.std.proofs.Common.{◌≡◌, ℕ, suc, ◌+◌, Bool, true, false, not, if◌then◌else◌, ◌==◌, ◌||◌, [], ◌∷◌, ◌++◌, map, length, take, drop, refl, sym, ap, ◌∙◌, arith, length-append, append_assoc, Err}
 use Rattle.std.proofs.Math.Seq.{drop-append_seam, take-append_seam}
 use Rattle.std.proofs.lemmas.Bool.Decides.{nat_tests}
-use Rattle.b2_atom.specs.Words.{Text, first, kept, upper, ahead}
+use Rattle.b2_atom.specs.Words.{Text, first, kept, upper}
 use Rattle.b2_atom.specs.Tokens.{kept_text}
 use Rattle.b2_atom.specs.Tokens.Token.{Plain}
-use Rattle.b2_atom.specs.Tree.{Outcome, one}
-use Rattle.b2_atom.specs.Leaves.{is_digit, is_letter, is_hex, digits, number_width, signed_number_width, number_of, mantissa_of, mantissa_width, one_more, exponent_width, name_width, is_alpha_name, numeric_name_width, leaf_width, literal_width, slot_width, small_width, small_value, relation_width, relation_of, missing, until_quote}
+use Rattle.b2_atom.specs.Tree.{one}
+use Rattle.b2_atom.specs.Leaves.{is_digit, is_letter, numeric_name_width, leaf_width, missing}
 use Rattle.b2_atom.specs.Grammar.{plain, plain_of}
 use Rattle.b2_atom.specs.declared.words.Origin.{Origin}
 use Rattle.b2_atom.specs.declared.words.Origin.TheVariants.{Program, Immediate, Atoms}
 use Rattle.b2_atom.specs.declared.forms.Leaf.{Leaf}
 use Rattle.b2_atom.specs.declared.forms.Leaf.TheVariants as leaf
-use Rattle.b2_atom.proofs.Longest.{and_left, and_right, false_true, equal, every}
-use Rattle.b2_atom.proofs.WordsRead.{begins_word}
+use Rattle.b2_atom.proofs.Longest.{and_left, and_right, equal, every}
 use Rattle.b2_atom.proofs.Widths.{ends_number, number_more, signed_number_more, small_more, slot_more, literal_more}
-use Rattle.b2_atom.proofs.Names.{NameShape, numeric_shape, numeric_read, local_shape, alpha_shape, alpha_read, ahead_sign, ahead_letter, name_read, no_name, no_alpha}
-use Rattle.b2_atom.proofs.Characters.{hex_digit_more, hex_pair_more, address_more, function_name_more, function_of, is_function_name, function_ahead, ends_relation, relation_more, image_more}
+use Rattle.b2_atom.proofs.Names.{numeric_shape, numeric_read, local_shape, alpha_shape, alpha_read}
+use Rattle.b2_atom.proofs.Characters.{hex_digit_more, hex_pair_more, address_more, function_name_more, function_of, is_function_name, ends_relation, relation_more, image_more}
 
 -- a byte behind the name of a number: no digit, no `$`, no letter
 abbrev pub ends_name : ℕ → Bool

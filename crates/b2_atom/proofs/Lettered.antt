@@ -1,19 +1,19 @@
 -- Letters that stand for themselves, and the three of BEG.
-use Rattle.std.proofs.Common.{◌≡◌, ℕ, zero, suc, ◌+◌, ◌-◌, ◌<◌, ◌≤◌, Bool, true, false, not, if◌then◌else◌, ◌==◌, ◌||◌, ◌&&◌, List, [], ◌∷◌, ◌++◌, length, get_or, refl, sym, ap, subst, ◌∙◌, arith, nat_le, nat_lt}
+use Rattle.std.proofs.Common.{◌≡◌, ℕ, Bool, true, false, not, if◌then◌else◌, ◌==◌, ◌||◌, ◌&&◌, List, [], ◌∷◌, get_or, refl, sym, ap, subst, ◌∙◌, arith}
 use Rattle.std.proofs.lemmas.Bool.Decides.{nat_tests}
 use Rattle.b2_atom.specs.Words.{Text, first, kept, upper, ahead}
 use Rattle.b2_atom.specs.Tokens.{Token, is_operand}
 use Rattle.b2_atom.specs.Tokens.Token.{Coded, Plain, Lined}
 use Rattle.b2_atom.specs.Leaves.{is_letter}
 use Rattle.b2_atom.specs.Grammar.{spelled_behind}
-use Rattle.b2_atom.specs.Spelling.{good_token, is_free, is_mark, is_image, is_literal, is_lettered, may_follow_code, Neighbours, AllGood, is_beg}
+use Rattle.b2_atom.specs.Spelling.{good_token, is_free, is_mark, is_image, is_lettered, may_follow_code, Neighbours, AllGood, is_beg}
 use Rattle.b2_atom.specs.declared.words.TheConstants as word
 use Rattle.b2_atom.specs.declared.words.Origin.{Origin}
 use Rattle.b2_atom.specs.declared.words.Origin.TheVariants.{Program, Immediate, Atoms}
 use Rattle.b2_atom.proofs.Longest.{and_left, and_right, false_true, equal}
 use Rattle.b2_atom.proofs.WordsRead.{typed_b, typed_e}
 use Rattle.b2_atom.proofs.Names.{ahead_letter, letter_upper}
-use Rattle.b2_atom.proofs.Begun.{no_e, get_first, and_false}
+use Rattle.b2_atom.proofs.Begun.{no_e, get_first}
 use Rattle.b2_atom.proofs.SideBySide.{Showing, FirstOf, quiet_letter, later}
 
 -- what may follow a letter
@@ -31,8 +31,8 @@ letter_alone c h = grind (arith, nat_tests)
 pub lettered : (c : ℕ) (t : Token) → is_letter c ≡ true → may_follow_code c t ≡ true → is_lettered c t ≡ true
 lettered c t h m =
     let rest = else_of (is_free t) (c == word.REM || c == 37)
-        (not (is_free t) && (if is_letter c then is_lettered c t
-        else (if c == word.DATA then not (is_mark t || is_image t) else (if c == word.PRINT then not (is_image t) else true)))) (letter_alone c h) m in
+    (not (is_free t) && (if is_letter c then is_lettered c t
+    else (if c == word.DATA then not (is_mark t || is_image t) else (if c == word.PRINT then not (is_image t) else true)))) (letter_alone c h) m in
     then_of (is_lettered c t) (is_letter c) (if c == word.DATA then not (is_mark t || is_image t) else (if c == word.PRINT then not (is_image t) else true)) h
     (and_right (not (is_free t)) _ rest)
 

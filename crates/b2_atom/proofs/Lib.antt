@@ -28,3 +28,5 @@ pub mod SpellsAtoms
 pub mod Listed
 pub mod SpellsSource
 pub mod WholeLeaves
+pub mod WholeNames
+pub mod GoodLeaves

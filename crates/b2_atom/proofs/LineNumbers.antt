@@ -1,14 +1,14 @@
 -- A line number that is listed without zeros at its front is read as its two bytes.
-use Rattle.std.proofs.Common.{◌≡◌, ℕ, zero, suc, ◌+◌, ◌-◌, ◌*◌, ◌/◌, ◌%◌, ◌<◌, ◌≤◌, Bool, true, false, not, if◌then◌else◌, ◌==◌, ◌||◌, ◌&&◌, List, [], ◌∷◌, ◌++◌, length, get_or, drop, min, refl, sym, ap, subst, ◌∙◌, arith, nat_le, nat_lt, Err}
+use Rattle.std.proofs.Common.{◌≡◌, ℕ, suc, ◌+◌, ◌-◌, ◌*◌, ◌/◌, ◌%◌, ◌≤◌, Bool, true, false, if◌then◌else◌, ◌==◌, ◌||◌, [], ◌∷◌, ◌++◌, drop, min, refl, sym, ap, subst, ◌∙◌, arith, nat_le, nat_lt, Err}
 use Rattle.std.proofs.lemmas.Bool.Decides.{nat_tests}
-use Rattle.b2_atom.specs.Words.{Text, first, upper, ahead}
-use Rattle.b2_atom.specs.Tokens.{spelled, four_digits, without_zeros}
+use Rattle.b2_atom.specs.Words.{Text, first}
+use Rattle.b2_atom.specs.Tokens.{spelled}
 use Rattle.b2_atom.specs.Tokens.Token.{Lined}
-use Rattle.b2_atom.specs.Tree.{Outcome, one}
+use Rattle.b2_atom.specs.Tree.{one}
 use Rattle.b2_atom.specs.Leaves.{is_digit, digits, refused}
 use Rattle.b2_atom.specs.Grammar.{typed_line_number, two_digits, is_decimal}
 use Rattle.b2_atom.specs.declared.words.Origin.{Origin}
-use Rattle.b2_atom.proofs.Longest.{and_left, and_right, equal}
+use Rattle.b2_atom.proofs.Longest.{and_left, and_right}
 use Rattle.b2_atom.proofs.Widths.{digits_stop}
 
 one_digit : (p : ℕ) (x : Text) (n : ℕ) → is_digit p ≡ true → digits x ≡ n → digits (p ∷ x) ≡ suc n

@@ -1,24 +1,20 @@
 -- The canonical source: what stands behind a token there, and that it makes no other word of DATA and PRINT.
-use Rattle.std.proofs.Common.{◌≡◌, ℕ, zero, suc, ◌+◌, ◌-◌, ◌<◌, ◌≤◌, Bool, true, false, not, if◌then◌else◌, ◌==◌, ◌||◌, ◌&&◌, List, [], ◌∷◌, ◌++◌, length, get_or, refl, sym, ap, subst, ◌∙◌, arith, nat_le, nat_lt}
-use Rattle.std.specs.Prelude.{codes}
+use Rattle.std.proofs.Common.{◌≡◌, ℕ, ◌+◌, ◌-◌, ◌<◌, Bool, true, false, not, ◌==◌, ◌||◌, ◌&&◌, List, [], ◌∷◌, ◌++◌, length, get_or, refl, sym, ap, subst, ◌∙◌, arith}
 use Rattle.std.proofs.lemmas.Bool.Decides.{nat_tests}
-use Rattle.b2_atom.specs.Words.{Text, first, upper, skipped, skip_blanks, texts, word_text, begins_with, is_source}
+use Rattle.b2_atom.specs.Words.{Text, first, upper, texts, word_text}
 use Rattle.b2_atom.specs.Tokens.{Token, listed, spaced, spelled, is_apart, is_word, is_upper, ends_wordy, begins_wordy, is_operand, last, closes}
 use Rattle.b2_atom.specs.Tokens.Token.{Coded, Plain, Lined}
-use Rattle.b2_atom.specs.Leaves.{is_digit, is_letter, is_hex, leaf_width}
+use Rattle.b2_atom.specs.Leaves.{is_digit, is_letter}
 use Rattle.b2_atom.specs.Grammar.{is_among, is_decimal}
-use Rattle.b2_atom.specs.Spelling.{good_token, is_whole, signs, is_in, is_mark, is_literal, is_free, is_image, is_dollar, is_unrelated, may_follow, may_follow_code, AllGood, Neighbours}
+use Rattle.b2_atom.specs.Spelling.{good_token, signs, is_in, is_dollar}
 use Rattle.b2_atom.specs.declared.words.TheConstants as word
 use Rattle.b2_atom.specs.declared.words.Origin.{Origin}
-use Rattle.b2_atom.specs.declared.words.Origin.TheVariants.{Program, Immediate, Atoms}
-use Rattle.b2_atom.specs.declared.forms.Leaf.{Leaf}
-use Rattle.b2_atom.specs.declared.forms.Leaf.TheVariants as leaf
-use Rattle.b2_atom.proofs.Longest.{and_left, and_right, false_true, equal, every, below, at_below}
-use Rattle.b2_atom.proofs.WordsRead.{is_code, lengthens, word_some}
+use Rattle.b2_atom.proofs.Longest.{and_left, and_right, false_true, every, below, at_below}
+use Rattle.b2_atom.proofs.WordsRead.{is_code, word_some}
 use Rattle.b2_atom.proofs.Characters.{ends_relation}
 use Rattle.b2_atom.proofs.LineNumbers.{LineShown, line_shown}
-use Rattle.b2_atom.proofs.LeavesRead.{ends, not_true}
-use Rattle.b2_atom.proofs.SideBySide.{FirstOf, Showing, quiet, coded_first, coded_byte, among_signs, is_text, whole_width, not_empty}
+use Rattle.b2_atom.proofs.LeavesRead.{not_true}
+use Rattle.b2_atom.proofs.SideBySide.{FirstOf, Showing, quiet, coded_first, among_signs}
 use Rattle.b2_atom.proofs.SpellsAtoms.{good_first}
 
 -- the words by their codes

@@ -1,10 +1,7 @@
 -- A word is read where it is spelled and nothing lengthens it; and where no word begins.
-use Rattle.std.proofs.Common.{◌≡◌, ℕ, zero, suc, ◌+◌, ◌-◌, ◌<◌, ◌≤◌, Bool, true, false, not, if◌then◌else◌, ◌==◌, ◌||◌, ◌&&◌, List, [], ◌∷◌, ◌++◌, length, drop, take, get_or, refl, sym, ap, subst, ◌∙◌, arith, nat_le, nat_lt, add-zero, zero-add, inl, inr, ◌⊎◌}
+use Rattle.std.proofs.Common.{◌≡◌, ℕ, zero, suc, ◌+◌, ◌<◌, Bool, true, false, not, if◌then◌else◌, ◌==◌, ◌||◌, ◌&&◌, List, [], ◌∷◌, ◌++◌, length, drop, take, get_or, refl, sym, ap, subst, ◌∙◌, arith, nat_le, nat_lt, add-zero, zero-add, inl, inr, ◌⊎◌}
 use Rattle.std.proofs.lemmas.Bool.Decides.{nat_tests}
-use Rattle.b2_atom.specs.Words.{Text, upper, begins_with, longest, better, first, texts, word_text, word_at}
-use Rattle.b2_atom.specs.Tokens.{ends_wordy}
-use Rattle.b2_atom.specs.Tokens.Token.{Coded}
-use Rattle.b2_atom.specs.Leaves.{is_letter}
+use Rattle.b2_atom.specs.Words.{Text, upper, begins_with, longest, better, first}
 
 -- no text that begins with w, and goes on with no byte of a kind, begins with v
 abbrev pub apart : (ℕ → Bool) → Text → Text → Bool

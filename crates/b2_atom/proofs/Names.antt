@@ -1,13 +1,13 @@
 -- Names, hexadecimal digits, comparison signs and images have their width, whatever stands behind them that doesn't run on.
-use Rattle.std.proofs.Common.{◌≡◌, ℕ, zero, suc, ◌+◌, ◌-◌, ◌<◌, ◌≤◌, Bool, true, false, not, if◌then◌else◌, ◌==◌, ◌||◌, ◌&&◌, List, [], ◌∷◌, ◌++◌, length, get_or, drop, refl, sym, ap, ◌∙◌, arith, nat_le, nat_lt, inl, inr, ◌⊎◌}
+use Rattle.std.proofs.Common.{◌≡◌, ℕ, zero, suc, ◌+◌, Bool, true, false, if◌then◌else◌, ◌==◌, ◌&&◌, [], ◌∷◌, ◌++◌, length, get_or, drop, refl, sym, ap, ◌∙◌, arith, nat_lt, inl, inr, ◌⊎◌}
 use Rattle.std.proofs.lemmas.Bool.Decides.{nat_tests}
 use Rattle.b2_atom.specs.Words.{Text, first, kept, upper, ahead}
-use Rattle.b2_atom.specs.Leaves.{is_digit, is_letter, is_hex, is_printable, name_width, is_alpha_name, numeric_name_width, alpha_name_width, local_name_width, any_name_width, function_name_width, hex_pair_width, hex_digit_width, address_width, relation_of, relation_width, ends_image, until_parenthesis, image_width}
+use Rattle.b2_atom.specs.Leaves.{is_digit, is_letter, name_width, is_alpha_name, numeric_name_width, alpha_name_width, local_name_width, any_name_width}
 use Rattle.b2_atom.specs.declared.words.Origin.{Origin}
 use Rattle.b2_atom.specs.declared.words.Origin.TheVariants.{Program, Immediate, Atoms}
-use Rattle.b2_atom.proofs.Longest.{and_left, and_right, false_true, equal}
+use Rattle.b2_atom.proofs.Longest.{and_right, equal}
 use Rattle.b2_atom.proofs.WordsRead.{begins_word, typed_sign, typed_letter, typed_global}
-use Rattle.b2_atom.proofs.Widths.{get_first, get_front}
+use Rattle.b2_atom.proofs.Widths.{get_first}
 
 -- a byte before what is no letter
 pub ahead_letter : (o : Origin) (b : ℕ) (x : Text) → upper b ≡ b → is_letter (upper (first x)) ≡ false → ahead o (b ∷ x) ≡ (b, x)
@@ -49,7 +49,7 @@ NameShape (a ∷ b ∷ c ∷ []) = (a ≡ 64) × ((is_letter b ≡ true) × (is_
 NameShape (a ∷ b ∷ c ∷ d ∷ w) = ⊥
 
 -- the width of a name by its tests
-abbrev width_of : Bool → Bool → Bool → Bool → ℕ
+abbrev pub width_of : Bool → Bool → Bool → Bool → ℕ
 width_of l d g e = if l then (if d then 2 else 1) else (if g then (if e then 3 else 2) else 0)
 
 no_g : (g : Bool) → (g && false) ≡ false
@@ -68,7 +68,7 @@ two_shape false d true true h = inr (refl, refl)
 two_shape false d true false h = cc
 two_shape false d false y h = cc
 
-three_shape : (l d g y e : Bool) → width_of l d (g && y) e ≡ 3 → (g ≡ true) × ((y ≡ true) × (e ≡ true))
+pub three_shape : (l d g y e : Bool) → width_of l d (g && y) e ≡ 3 → (g ≡ true) × ((y ≡ true) × (e ≡ true))
 three_shape true true g y e h = cc
 three_shape true false g y e h = cc
 three_shape false d true true true h = (refl, (refl, refl))
@@ -76,7 +76,7 @@ three_shape false d true true false h = cc
 three_shape false d true false e h = cc
 three_shape false d false y e h = cc
 
-too_wide : (l d g e : Bool) (n : ℕ) → width_of l d g e ≡ suc (suc (suc (suc n))) → ⊥
+pub too_wide : (l d g e : Bool) (n : ℕ) → width_of l d g e ≡ suc (suc (suc (suc n))) → ⊥
 too_wide true true g e n h = cc
 too_wide true false g e n h = cc
 too_wide false d true true n h = cc
@@ -188,7 +188,7 @@ alpha_read o a w x shape =
     let is = name_read o (a ∷ w) (36 ∷ x) shape refl refl in
     let there : is_alpha_name o (a ∷ (w ++ 36 ∷ x)) ≡ true = alpha_by o (a ∷ (w ++ 36 ∷ x)) (length w) is.width ∙ ap (λ (n : ℕ). n == 36) (get_behind (a ∷ w) (36 ∷ x)) in
     let wide : alpha_name_width o (a ∷ (w ++ 36 ∷ x)) ≡ suc (length w) + 1 =
-        ap (λ (b : Bool). if b then name_width o (a ∷ (w ++ 36 ∷ x)) + 1 else 0) there ∙ ap (λ (n : ℕ). n + 1) is.width in
+    ap (λ (b : Bool). if b then name_width o (a ∷ (w ++ 36 ∷ x)) + 1 else 0) there ∙ ap (λ (n : ℕ). n + 1) is.width in
     record {
       whole = is.whole;
       alpha = there;
@@ -207,14 +207,14 @@ pub no_alpha : (o : Origin) (t : Text) → name_width o t ≡ 0 → is_alpha_nam
 no_alpha o t h = ap (λ (m : ℕ). nat_lt 0 m && get_or t m 0 == 36) h
 
 -- a whole name
-numeric_of : (b : Bool) (n m : ℕ) → (if b then 0 else n) ≡ suc m → n ≡ suc m
+pub numeric_of : (b : Bool) (n m : ℕ) → (if b then 0 else n) ≡ suc m → n ≡ suc m
 numeric_of true n m h = cc
 numeric_of false n m h = h
 
 pub numeric_shape : (a : ℕ) (w : Text) → numeric_name_width Atoms (a ∷ w) ≡ suc (length w) → NameShape (a ∷ w)
 numeric_shape a w h = name_shape a w (numeric_of (is_alpha_name Atoms (a ∷ w)) (name_width Atoms (a ∷ w)) (length w) h)
 
-local_of : (b : Bool) (n m : ℕ) → (if b then 0 else n) ≡ suc m → (b ≡ false) × (n ≡ suc m)
+pub local_of : (b : Bool) (n m : ℕ) → (if b then 0 else n) ≡ suc m → (b ≡ false) × (n ≡ suc m)
 local_of true n m h = cc
 local_of false n m h = (refl, h)
 
@@ -228,23 +228,23 @@ pub record AlphaShape (w : Text) : Type 0 where
   pub shape : NameShape (head ∷ rest)
   pub is : w ≡ head ∷ (rest ++ 36 ∷ [])
 
-named_of : (b : Bool) (n m : ℕ) → (if b then n + 1 else 0) ≡ suc m → (b ≡ true) × (n ≡ m)
+pub named_of : (b : Bool) (n m : ℕ) → (if b then n + 1 else 0) ≡ suc m → (b ≡ true) × (n ≡ m)
 named_of true n m h = let less : n ≡ m = omega arith in (refl, less)
 named_of false n m h = cc
 
-dollar_of : (t : Text) (n m : ℕ) → n ≡ suc m → (nat_lt 0 n && get_or t n 0 == 36) ≡ true → get_or t (suc m) 0 ≡ 36
+pub dollar_of : (t : Text) (n m : ℕ) → n ≡ suc m → (nat_lt 0 n && get_or t n 0 == 36) ≡ true → get_or t (suc m) 0 ≡ 36
 dollar_of t n m is h = equal (get_or t (suc m) 0) 36 (ap (λ (k : ℕ). get_or t k 0 == 36) (sym is) ∙ and_right (nat_lt 0 n) (get_or t n 0 == 36) h)
 
-no_width : (n : ℕ) (b : Bool) → n ≡ 0 → (nat_lt 0 n && b) ≡ true → ⊥
+pub no_width : (n : ℕ) (b : Bool) → n ≡ 0 → (nat_lt 0 n && b) ≡ true → ⊥
 no_width zero b is h = cc
 no_width (suc n) b is h = cc
 
-one_letter : (l d g : Bool) → width_of l d g false ≡ 1 → l ≡ true
+pub one_letter : (l d g : Bool) → width_of l d g false ≡ 1 → l ≡ true
 one_letter true d g h = refl
 one_letter false d true h = cc
 one_letter false d false h = cc
 
-two_kinds : (l d g y e : Bool) → width_of l d (g && y) e ≡ 2 → ((l ≡ true) × (d ≡ true)) ⊎ ((g ≡ true) × (y ≡ true))
+pub two_kinds : (l d g y e : Bool) → width_of l d (g && y) e ≡ 2 → ((l ≡ true) × (d ≡ true)) ⊎ ((g ≡ true) × (y ≡ true))
 two_kinds true true g y e h = inl (refl, refl)
 two_kinds true false g y e h = cc
 two_kinds false d true true e h = inr (refl, refl)
@@ -263,7 +263,8 @@ alpha_shape a (b ∷ c ∷ []) h =
     let is = named_of (is_alpha_name Atoms (a ∷ b ∷ c ∷ [])) (name_width Atoms (a ∷ b ∷ c ∷ [])) 2 h in
     let dollar : c ≡ 36 = dollar_of (a ∷ b ∷ c ∷ []) (name_width Atoms (a ∷ b ∷ c ∷ [])) 1 is.1 is.0 in
     record {
-      head = a; rest = b ∷ [];
+      head = a;
+      rest = b ∷ [];
       shape = sign_of a b (two_kinds (is_letter a) (is_digit b) (a == 64) (is_letter b) (is_digit c) is.1);
       is = ap (λ (n : ℕ). a ∷ b ∷ n ∷ []) dollar;
     }

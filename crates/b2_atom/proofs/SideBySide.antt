@@ -1,18 +1,18 @@
 -- Tokens that may stand side by side don't run on into each other: what the first byte behind a token is.
-use Rattle.std.proofs.Common.{◌≡◌, ℕ, zero, suc, ◌+◌, ◌-◌, ◌<◌, ◌≤◌, Bool, true, false, not, if◌then◌else◌, ◌==◌, ◌||◌, ◌&&◌, List, [], ◌∷◌, ◌++◌, length, get_or, refl, sym, ap, subst, ◌∙◌, arith, nat_le, nat_lt, inl, inr, ◌⊎◌}
+use Rattle.std.proofs.Common.{◌≡◌, ℕ, suc, Bool, true, false, not, ◌==◌, ◌||◌, ◌&&◌, List, [], ◌∷◌, length, refl, ap, ◌∙◌, arith, nat_lt}
 use Rattle.std.proofs.lemmas.Bool.Decides.{nat_tests}
-use Rattle.b2_atom.specs.Words.{Text, first, kept, upper}
+use Rattle.b2_atom.specs.Words.{Text, first, upper}
 use Rattle.b2_atom.specs.Tokens.{Token, is_operand, is_operand_leaf}
 use Rattle.b2_atom.specs.Tokens.Token.{Coded, Plain, Lined}
-use Rattle.b2_atom.specs.Leaves.{is_digit, is_letter, leaf_width, all_printable}
-use Rattle.b2_atom.specs.Grammar.{spelled_behind, is_among}
-use Rattle.b2_atom.specs.Spelling.{is_whole, signs, is_in, good_token, is_mark, is_literal, is_free, is_image, is_dollar, is_unrelated, is_lettered, may_follow, may_follow_leaf, may_follow_code, Neighbours, AllGood, is_beg}
+use Rattle.b2_atom.specs.Leaves.{is_digit, is_letter, leaf_width}
+use Rattle.b2_atom.specs.Grammar.{is_among}
+use Rattle.b2_atom.specs.Spelling.{is_whole, signs, is_in, good_token, is_mark, is_literal, is_free, is_image, is_dollar, is_unrelated, may_follow_leaf, Neighbours, AllGood}
 use Rattle.b2_atom.specs.declared.words.TheConstants as word
 use Rattle.b2_atom.specs.declared.words.Origin.{Origin}
-use Rattle.b2_atom.specs.declared.words.Origin.TheVariants.{Program, Immediate, Atoms}
+use Rattle.b2_atom.specs.declared.words.Origin.TheVariants.{Atoms}
 use Rattle.b2_atom.specs.declared.forms.Leaf.{Leaf}
 use Rattle.b2_atom.specs.declared.forms.Leaf.TheVariants as leaf
-use Rattle.b2_atom.proofs.Longest.{and_left, and_right, false_true, equal, every}
+use Rattle.b2_atom.proofs.Longest.{and_left, and_right, equal, every}
 use Rattle.b2_atom.proofs.Characters.{ends_relation}
 use Rattle.b2_atom.proofs.LeavesRead.{ends, not_true}
 use Rattle.b2_atom.proofs.LeafFronts.{front, leaf_front}

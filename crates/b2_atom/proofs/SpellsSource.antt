@@ -1,26 +1,26 @@
 -- The canonical source of tokens spells them.
-use Rattle.std.proofs.Common.{◌≡◌, ℕ, zero, suc, ◌+◌, ◌-◌, ◌<◌, ◌≤◌, Bool, true, false, not, if◌then◌else◌, ◌==◌, ◌||◌, ◌&&◌, List, [], ◌∷◌, ◌++◌, length, get_or, refl, sym, ap, subst, ◌∙◌, arith, nat_le, nat_lt, append-nil, length-append}
+use Rattle.std.proofs.Common.{◌≡◌, ℕ, suc, ◌<◌, Bool, true, false, not, if◌then◌else◌, ◌==◌, ◌||◌, ◌&&◌, List, [], ◌∷◌, ◌++◌, length, refl, sym, ap, subst, ◌∙◌, arith, nat_lt, append-nil, length-append}
 use Rattle.std.specs.Prelude.{codes}
 use Rattle.std.proofs.lemmas.Bool.Decides.{nat_tests}
-use Rattle.b2_atom.specs.Words.{Text, first, upper, ahead, skipped, skip_blanks, texts, word_text, begins_with, is_source, typed_ahead}
+use Rattle.b2_atom.specs.Words.{Text, first, upper, ahead, skipped, skip_blanks, word_text, begins_with, is_source, typed_ahead}
 use Rattle.b2_atom.specs.Tokens.{Token, listed, spaced, spelled, is_apart, is_word, ends_wordy, begins_wordy, is_operand, closes}
 use Rattle.b2_atom.specs.Tokens.Token.{Coded, Plain, Lined}
 use Rattle.b2_atom.specs.Tree.{one}
 use Rattle.b2_atom.specs.Leaves.{is_digit, is_letter, is_hex, leaf_width, all_printable}
-use Rattle.b2_atom.specs.Grammar.{is_among, is_decimal, is_line, begins_let, line_number_at, typed_line_number, spelled_behind}
+use Rattle.b2_atom.specs.Grammar.{is_decimal, is_line, line_number_at, typed_line_number}
 use Rattle.b2_atom.specs.Spelling.{Begins, Spells, good_token, is_whole, signs, is_in, is_mark, is_free, is_image, may_follow, may_follow_code, may_follow_leaf, AllGood, Neighbours, is_classed}
 use Rattle.b2_atom.specs.declared.words.TheConstants as word
 use Rattle.b2_atom.specs.declared.words.Origin.{Origin}
 use Rattle.b2_atom.specs.declared.words.Origin.TheVariants.{Program, Immediate, Atoms}
 use Rattle.b2_atom.specs.declared.forms.Leaf.{Leaf}
 use Rattle.b2_atom.specs.declared.forms.Leaf.TheVariants as leaf
-use Rattle.b2_atom.proofs.Longest.{and_left, and_right, false_true, equal, every, below}
+use Rattle.b2_atom.proofs.Longest.{and_left, and_right, equal, every, below}
 use Rattle.b2_atom.proofs.WordsRead.{is_code, lengthens, lengthens_word, typed_word, word_some, joins}
 use Rattle.b2_atom.proofs.Keywords.{is_keyword, not_at_sign, not_at_other, at_no_word, no_word_but, never_let, never_using, only_save, only_load}
 use Rattle.b2_atom.proofs.LineNumbers.{LineShown, line_shown, line_read}
 use Rattle.b2_atom.proofs.LeavesRead.{ends}
-use Rattle.b2_atom.proofs.LeafFronts.{front, leaf_front, hex_same}
-use Rattle.b2_atom.proofs.Begun.{begins_plain, begins_coded, begins_lined, front_no_blank, leaf_quiet, Quiet, quiet_keyword, is_plain_sign, ahead_plain, let_none}
+use Rattle.b2_atom.proofs.LeafFronts.{leaf_front}
+use Rattle.b2_atom.proofs.Begun.{begins_plain, begins_coded, begins_lined, front_no_blank, leaf_quiet, quiet_keyword, is_plain_sign, ahead_plain, let_none}
 use Rattle.b2_atom.proofs.SideBySide.{among_signs, later, whole_width, not_empty, is_text, leaf_ends, line_ends}
 use Rattle.b2_atom.proofs.Lettered.{letter_ahead, beg_shown}
 use Rattle.b2_atom.proofs.SpellsAtoms.{begins_text, text_last}
@@ -438,15 +438,27 @@ joined_free wordy operand k w h = λ i. h.0 i && not (closes (Plain k w)) || (h.
 pub spells_source : (o : Origin) → is_source o ≡ true → (wordy operand : Bool) (ts : List Token) → AllGood ts → Neighbours ts → FreeFirst wordy operand ts → Spells o ts (listed wordy operand ts)
 unfolding source_behind
 spells_source o s wordy operand [] g nb f = refl
-spells_source o s wordy operand (Coded c ∷ ts) g nb f = (source_behind (Coded c) ts, (
-  coded_source o s (is_apart wordy operand (Coded c)) c ts (is_word c) refl g.0 g.1 nb,
-  spells_source o s (ends_wordy (Coded c)) (is_operand (Coded c)) ts g.1 (later (Coded c) ts nb) (free_next (Coded c) ts nb)))
-spells_source o s wordy operand (Plain k w ∷ ts) g nb f = (source_behind (Plain k w) ts, (
-  plain_source o s (is_apart wordy operand (Plain k w)) k w ts (is_text k) refl (λ h. joined_free wordy operand k w (f (free_text k w h))) g.0 g.1 nb,
-  spells_source o s (ends_wordy (Plain k w)) (is_operand (Plain k w)) ts g.1 (later (Plain k w) ts nb) (free_next (Plain k w) ts nb)))
-spells_source o s wordy operand (Lined high low ∷ ts) g nb f = (source_behind (Lined high low) ts, (
-  line_source o s (is_apart wordy operand (Lined high low)) high low ts g.0 g.1 nb,
-  spells_source o s (ends_wordy (Lined high low)) (is_operand (Lined high low)) ts g.1 (later (Lined high low) ts nb) (free_next (Lined high low) ts nb)))
+spells_source o s wordy operand (Coded c ∷ ts) g nb f = (
+  source_behind (Coded c) ts,
+  (
+    coded_source o s (is_apart wordy operand (Coded c)) c ts (is_word c) refl g.0 g.1 nb,
+    spells_source o s (ends_wordy (Coded c)) (is_operand (Coded c)) ts g.1 (later (Coded c) ts nb) (free_next (Coded c) ts nb),
+  ),
+)
+spells_source o s wordy operand (Plain k w ∷ ts) g nb f = (
+  source_behind (Plain k w) ts,
+  (
+    plain_source o s (is_apart wordy operand (Plain k w)) k w ts (is_text k) refl (λ h. joined_free wordy operand k w (f (free_text k w h))) g.0 g.1 nb,
+    spells_source o s (ends_wordy (Plain k w)) (is_operand (Plain k w)) ts g.1 (later (Plain k w) ts nb) (free_next (Plain k w) ts nb),
+  ),
+)
+spells_source o s wordy operand (Lined high low ∷ ts) g nb f = (
+  source_behind (Lined high low) ts,
+  (
+    line_source o s (is_apart wordy operand (Lined high low)) high low ts g.0 g.1 nb,
+    spells_source o s (ends_wordy (Lined high low)) (is_operand (Lined high low)) ts g.1 (later (Lined high low) ts nb) (free_next (Lined high low) ts nb),
+  ),
+)
 
 at_front : (ts : List Token) → FreeFirst false false ts
 at_front [] = tt

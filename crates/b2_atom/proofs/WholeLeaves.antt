@@ -1,15 +1,11 @@
 -- What is read of a leaf is a whole leaf by itself.
-use Rattle.std.proofs.Common.{◌≡◌, ℕ, zero, suc, ◌+◌, ◌-◌, ◌*◌, ◌<◌, ◌≤◌, Bool, true, false, not, if◌then◌else◌, ◌==◌, ◌||◌, ◌&&◌, List, [], ◌∷◌, ◌++◌, map, length, get_or, take, drop, min, refl, sym, ap, subst, ◌∙◌, arith, nat_le, nat_lt, inl, inr, ◌⊎◌, length-drop, length-append, append-nil, Err, Ok, Result}
+use Rattle.std.proofs.Common.{◌≡◌, ℕ, zero, suc, ◌+◌, ◌-◌, ◌*◌, ◌<◌, ◌≤◌, Bool, true, false, not, if◌then◌else◌, ◌==◌, ◌||◌, ◌&&◌, [], ◌∷◌, ◌++◌, map, length, get_or, drop, min, refl, sym, ap, ◌∙◌, arith, nat_le, nat_lt, inl, inr, ◌⊎◌, length-drop}
 use Rattle.std.proofs.lemmas.Bool.Decides.{nat_tests}
-use Rattle.b2_atom.specs.Words.{Text, first, upper, kept, ahead}
-use Rattle.b2_atom.specs.Tokens.{kept_text}
-use Rattle.b2_atom.specs.Leaves.{is_digit, is_letter, is_hex, is_printable, digits, number_width, number_of, mantissa_of, mantissa_width, sign_width, exponent_of, exponent_width, one_more, signed_number_width, leaf_width, literal_width, until_quote, small_value, small_width, slot_width, relation_of, relation_width, ends_image, until_parenthesis, image_width}
+use Rattle.b2_atom.specs.Words.{Text, first, kept}
+use Rattle.b2_atom.specs.Leaves.{is_digit, is_printable, digits, number_width, number_of, mantissa_of, mantissa_width, sign_width, exponent_of, exponent_width, one_more, signed_number_width, literal_width, until_quote, small_value, small_width, slot_width, relation_of, relation_width, ends_image, until_parenthesis, image_width}
 use Rattle.b2_atom.specs.declared.words.Origin.{Origin}
 use Rattle.b2_atom.specs.declared.words.Origin.TheVariants.{Program, Immediate, Atoms}
-use Rattle.b2_atom.specs.declared.forms.Leaf.{Leaf}
-use Rattle.b2_atom.specs.declared.forms.Leaf.TheVariants as leaf
-use Rattle.b2_atom.proofs.Longest.{and_left, and_right, false_true, equal}
-use Rattle.b2_atom.proofs.Widths.{get_first, get_front, get_none, drop_front, digits_most, small_more, slot_more}
+use Rattle.b2_atom.proofs.Widths.{get_front, get_none, drop_front, small_more, slot_more}
 use Rattle.b2_atom.proofs.LeafFronts.{width_yes}
 use Rattle.b2_atom.proofs.Characters.{image_parts}
 
@@ -141,7 +137,7 @@ sum_of m e n false is h = (refl, h)
 some_of : (m : ℕ) → (m == 0) ≡ false → 0 < m
 some_of m h = grind (arith, nat_tests)
 
-number_back : (o : Origin) (a : ℕ) (w x : Text) → number_width o (a ∷ (w ++ x)) ≡ suc (length w) → number_width o (a ∷ w) ≡ suc (length w)
+pub number_back : (o : Origin) (a : ℕ) (w x : Text) → number_width o (a ∷ (w ++ x)) ≡ suc (length w) → number_width o (a ∷ w) ≡ suc (length w)
 number_back o a w x h =
     let u : Text = a ∷ w in
     let m : ℕ = mantissa_width (u ++ x) in
@@ -156,16 +152,16 @@ number_back o a w x h =
     ∙ is.1
 
 -- what is kept of a text has the same widths
-kept_digit : (o : Origin) (b : ℕ) → is_digit (kept o b) ≡ is_digit b
+pub kept_digit : (o : Origin) (b : ℕ) → is_digit (kept o b) ≡ is_digit b
 kept_digit Program b = grind (arith, nat_tests)
 kept_digit Immediate b = grind (arith, nat_tests)
 kept_digit Atoms b = refl
 
 -- a byte that no letter is kept as
-abbrev is_fixed : ℕ → Bool
+abbrev pub is_fixed : ℕ → Bool
 is_fixed c = nat_lt c 65 && nat_lt 0 c
 
-kept_fixed : (o : Origin) (b c : ℕ) → is_fixed c ≡ true → (kept o b == c) ≡ (b == c)
+pub kept_fixed : (o : Origin) (b c : ℕ) → is_fixed c ≡ true → (kept o b == c) ≡ (b == c)
 kept_fixed Program b c h = grind (arith, nat_tests)
 kept_fixed Immediate b c h = grind (arith, nat_tests)
 kept_fixed Atoms b c h = refl
@@ -222,7 +218,7 @@ exponent_kept o u =
     ap (λ (n : ℕ). if n == 69 then exponent_of (sign_width (get_or (map (kept o) u) 1 0)) (map (kept o) u) else 0) (first_kept o u)
     ∙ ap (λ (n : ℕ). if kept o (first u) == 69 then n else 0) (tail_kept o u)
 
-number_kept : (o : Origin) (u : Text) → number_width Atoms (map (kept o) u) ≡ number_width o u
+pub number_kept : (o : Origin) (u : Text) → number_width Atoms (map (kept o) u) ≡ number_width o u
 number_kept o u =
     ap (λ (m : ℕ). number_of Atoms m (map (kept o) u)) (mantissa_kept o u)
     ∙ ap (λ (n : ℕ). if mantissa_width u == 0 then 0 else mantissa_width u + n) (ap (exponent_width Atoms) (drop_kept o u (mantissa_width u)) ∙ exponent_kept o (drop (mantissa_width u) u))
@@ -231,7 +227,7 @@ front_signed : (o : Origin) (u : Text) → (first (map (kept o) u) == 43 || firs
 front_signed o u =
     ap (λ (b : ℕ). b == 43 || b == 45) (first_kept o u) ∙ (λ i. kept_fixed o (first u) 43 refl i || kept_fixed o (first u) 45 refl i)
 
-signed_kept : (o : Origin) (u : Text) → signed_number_width Atoms (map (kept o) u) ≡ signed_number_width o u
+pub signed_kept : (o : Origin) (u : Text) → signed_number_width Atoms (map (kept o) u) ≡ signed_number_width o u
 signed_kept o u =
     (λ i. if front_signed o u i then one_more (number_width Atoms (drop_kept o u 1 i)) else number_kept o u i)
     ∙ ap (λ (n : ℕ). if first u == 43 || first u == 45 then one_more n else number_width o u) (number_kept o (drop 1 u))
@@ -252,10 +248,10 @@ value_kept o n (b ∷ u) =
     ap (λ (d : Bool). if d then small_value (min (n * 10 + (kept o b - 48)) 999) (map (kept o) u) else n) (kept_digit o b)
     ∙ value_by o n b u (is_digit b) refl (value_kept o (min (n * 10 + (b - 48)) 999) u)
 
-small_kept : (o : Origin) (u : Text) → small_width (map (kept o) u) ≡ small_width u
+pub small_kept : (o : Origin) (u : Text) → small_width (map (kept o) u) ≡ small_width u
 small_kept o u = λ i. if nat_le (value_kept o 0 u i) 255 then digits_kept o u i else 0
 
-slot_kept : (o : Origin) (a : ℕ) (u : Text) → slot_width (map (kept o) (a ∷ u)) ≡ slot_width (a ∷ u)
+pub slot_kept : (o : Origin) (a : ℕ) (u : Text) → slot_width (map (kept o) (a ∷ u)) ≡ slot_width (a ∷ u)
 slot_kept o a u = λ i. if kept_fixed o a 35 refl i && (nat_lt 0 (digits_kept o u i) && nat_le (value_kept o 0 u i) 15) then digits_kept o u i + 1 else 0
 
 until_kept : (o : Origin) (u : Text) → until_parenthesis Atoms (map (kept o) u) ≡ until_parenthesis o u
@@ -265,7 +261,7 @@ until_kept o (b ∷ u) = ap (λ (n : ℕ). if ends_image o b then 0 else suc n) 
 point_of : (o : Origin) (u : Text) (n : ℕ) → (get_or (map (kept o) u) n 0 == 41) ≡ (get_or u n 0 == 41)
 point_of o u n = ap (λ (b : ℕ). b == 41) (get_kept o u n) ∙ kept_fixed o (get_or u n 0) 41 refl
 
-image_kept : (o : Origin) (a : ℕ) (u : Text) → image_width Atoms (map (kept o) (a ∷ u)) ≡ image_width o (a ∷ u)
+pub image_kept : (o : Origin) (a : ℕ) (u : Text) → image_width Atoms (map (kept o) (a ∷ u)) ≡ image_width o (a ∷ u)
 image_kept o a u =
     ap (λ (n : ℕ). if not (kept o a == 32) && get_or (map (kept o) (a ∷ u)) n 0 == 41 then n + 1 else 0) (until_kept o (a ∷ u))
     ∙ (λ i. if not (kept_fixed o a 32 refl i) && point_of o (a ∷ u) (until_parenthesis o (a ∷ u)) i then until_parenthesis o (a ∷ u) + 1 else 0)
@@ -287,15 +283,15 @@ signed_by o a [] x true h = absurd (no_more (number_width o x) h)
 signed_by o a (b ∷ w) x true h =
     ap one_more (number_back o b w x (one_less (number_width o (b ∷ (w ++ x))) (suc (length w)) h)) ∙ one_more_of (length w)
 
-signed_back : (o : Origin) (a : ℕ) (w x : Text) → signed_number_width o (a ∷ (w ++ x)) ≡ suc (length w) → signed_number_width o (a ∷ w) ≡ suc (length w)
+pub signed_back : (o : Origin) (a : ℕ) (w x : Text) → signed_number_width o (a ∷ (w ++ x)) ≡ suc (length w) → signed_number_width o (a ∷ w) ≡ suc (length w)
 signed_back o a w x h = signed_by o a w x (a == 43 || a == 45) h
 
-small_back : (a : ℕ) (w x : Text) → small_width (a ∷ (w ++ x)) ≡ suc (length w) → small_width (a ∷ w) ≡ suc (length w)
+pub small_back : (a : ℕ) (w x : Text) → small_width (a ∷ (w ++ x)) ≡ suc (length w) → small_width (a ∷ w) ≡ suc (length w)
 small_back a w x h =
     let is = width_yes (nat_le (small_value 0 (a ∷ (w ++ x))) 255) (digits (a ∷ (w ++ x))) (length w) h in
     sym (small_more (a ∷ w) x (digits_end (a ∷ w) x is.1)) ∙ h
 
-slot_back : (a : ℕ) (w x : Text) → slot_width (a ∷ (w ++ x)) ≡ suc (length w) → slot_width (a ∷ w) ≡ suc (length w)
+pub slot_back : (a : ℕ) (w x : Text) → slot_width (a ∷ (w ++ x)) ≡ suc (length w) → slot_width (a ∷ w) ≡ suc (length w)
 slot_back a w x h =
     let is = width_yes (a == 35 && (nat_lt 0 (digits (w ++ x)) && nat_le (small_value 0 (w ++ x)) 15)) (digits (w ++ x) + 1) (length w) h in
     let long : digits (w ++ x) ≡ length w = (let sum = is.1 in omega arith) in
@@ -313,7 +309,7 @@ quote_back (b ∷ w) x h = quote_by (b == 34 || not (is_printable b)) w x h (quo
 get_back : (c : ℕ) (u x : Text) (n : ℕ) → n < length u → (get_or u n 0 == c) ≡ (get_or (u ++ x) n 0 == c)
 get_back c u x n h = ap (λ (b : ℕ). b == c) (sym (get_front u x n h))
 
-literal_back : (a : ℕ) (w x : Text) → literal_width (a ∷ (w ++ x)) ≡ suc (length w) → literal_width (a ∷ w) ≡ suc (length w)
+pub literal_back : (a : ℕ) (w x : Text) → literal_width (a ∷ (w ++ x)) ≡ suc (length w) → literal_width (a ∷ w) ≡ suc (length w)
 literal_back a w x h =
     let is = width_yes (a == 34 && (nat_lt 0 (until_quote (w ++ x)) && get_or (a ∷ (w ++ x)) (until_quote (w ++ x) + 1) 0 == 34)) (until_quote (w ++ x) + 2) (length w) h in
     let less : until_quote (w ++ x) < length w = (let sum = is.1 in omega arith) in
@@ -332,7 +328,7 @@ until_back : (o : Origin) (w x : Text) → until_parenthesis o (w ++ x) < length
 until_back o [] x h = absurd (omega arith)
 until_back o (b ∷ w) x h = until_by o (ends_image o b) w x h (until_back o w x)
 
-image_back : (o : Origin) (a : ℕ) (w x : Text) → image_width o (a ∷ (w ++ x)) ≡ suc (length w) → image_width o (a ∷ w) ≡ suc (length w)
+pub image_back : (o : Origin) (a : ℕ) (w x : Text) → image_width o (a ∷ (w ++ x)) ≡ suc (length w) → image_width o (a ∷ w) ≡ suc (length w)
 image_back o a w x h =
     let u : Text = a ∷ w in
     let is = image_parts (not (a == 32)) (get_or (u ++ x) (until_parenthesis o (u ++ x)) 0 == 41) (until_parenthesis o (u ++ x)) (length w) h in
@@ -347,7 +343,7 @@ relation_one a n h = grind (arith, nat_tests)
 relation_most : (a b n : ℕ) → relation_of a b ≡ suc (suc (suc n)) → ⊥
 relation_most a b n h = grind (arith, nat_tests)
 
-relation_back : (a : ℕ) (w x : Text) → relation_width (a ∷ (w ++ x)) ≡ suc (length w) → relation_width (a ∷ w) ≡ suc (length w)
+pub relation_back : (a : ℕ) (w x : Text) → relation_width (a ∷ (w ++ x)) ≡ suc (length w) → relation_width (a ∷ w) ≡ suc (length w)
 relation_back a [] x h = relation_one a (get_or x 0 0) h
 relation_back a (b ∷ []) x h = h
 relation_back a (b ∷ c ∷ w) x h = absurd (relation_most a b (length w) h)
@@ -357,5 +353,5 @@ relation_kept o a b = λ i.
     if kept_fixed o a 60 refl i && (kept_fixed o b 61 refl i || kept_fixed o b 62 refl i) || (kept_fixed o a 62 refl i && kept_fixed o b 61 refl i) then 2
     else (if kept_fixed o a 60 refl i || (kept_fixed o a 62 refl i || kept_fixed o a 61 refl i) then 1 else 0)
 
-relation_kept_text : (o : Origin) (a : ℕ) (w : Text) → relation_width (map (kept o) (a ∷ w)) ≡ relation_width (a ∷ w)
+pub relation_kept_text : (o : Origin) (a : ℕ) (w : Text) → relation_width (map (kept o) (a ∷ w)) ≡ relation_width (a ∷ w)
 relation_kept_text o a w = ap (relation_of (kept o a)) (get_kept o w 0) ∙ relation_kept o a (get_or w 0 0)

@@ -1,12 +1,11 @@
 -- What is typed by hand has its width, whatever stands behind it that doesn't run on: numbers, digits, literals, images.
-use Rattle.std.proofs.Common.{◌≡◌, ℕ, zero, suc, ◌+◌, ◌-◌, ◌*◌, ◌/◌, ◌%◌, ◌<◌, ◌≤◌, Bool, true, false, not, if◌then◌else◌, ◌==◌, ◌||◌, ◌&&◌, List, [], ◌∷◌, ◌++◌, length, drop, take, get_or, min, refl, sym, ap, subst, ◌∙◌, arith, nat_le, nat_lt, length-append, length-drop, inl, inr, ◌⊎◌}
-use Rattle.std.proofs.Math.Seq.{drop-append_seam, take-append_seam}
+use Rattle.std.proofs.Common.{◌≡◌, ℕ, zero, suc, ◌+◌, ◌-◌, ◌*◌, ◌<◌, ◌≤◌, Bool, true, false, not, if◌then◌else◌, ◌==◌, ◌||◌, ◌&&◌, [], ◌∷◌, ◌++◌, length, drop, get_or, min, refl, sym, ap, ◌∙◌, arith, nat_le, nat_lt, length-drop, inl, inr, ◌⊎◌}
 use Rattle.std.proofs.lemmas.Bool.Decides.{nat_tests}
-use Rattle.b2_atom.specs.Words.{Text, first, kept, upper}
-use Rattle.b2_atom.specs.Leaves.{is_digit, is_printable, digits, until_quote, until_parenthesis, ends_image, small_value, mantissa_of, mantissa_width, sign_width, exponent_of, exponent_width, number_of, number_width, one_more, signed_number_width, literal_width, small_width, slot_width, image_width}
+use Rattle.b2_atom.specs.Words.{Text, first, kept}
+use Rattle.b2_atom.specs.Leaves.{is_digit, is_printable, digits, until_quote, small_value, mantissa_of, mantissa_width, sign_width, exponent_of, exponent_width, number_of, number_width, one_more, signed_number_width, literal_width, small_width, slot_width}
 use Rattle.b2_atom.specs.declared.words.Origin.{Origin}
 use Rattle.b2_atom.specs.declared.words.Origin.TheVariants.{Program, Immediate, Atoms}
-use Rattle.b2_atom.proofs.Longest.{and_left, and_right, false_true, equal}
+use Rattle.b2_atom.proofs.Longest.{false_true, equal}
 
 pub get_first : (x : Text) → get_or x 0 0 ≡ first x
 get_first [] = refl

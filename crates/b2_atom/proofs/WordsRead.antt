@@ -1,14 +1,14 @@
 -- What stands at a typed text: a word that nothing lengthens, or a byte where no word begins.
-use Rattle.std.proofs.Common.{◌≡◌, ℕ, zero, suc, ◌+◌, ◌-◌, ◌<◌, ◌≤◌, Bool, true, false, not, if◌then◌else◌, ◌==◌, ◌||◌, ◌&&◌, List, [], ◌∷◌, ◌++◌, length, drop, take, get_or, refl, sym, ap, subst, ◌∙◌, arith, nat_le, nat_lt}
+use Rattle.std.proofs.Common.{◌≡◌, ℕ, suc, ◌+◌, ◌-◌, ◌<◌, Bool, true, false, not, if◌then◌else◌, ◌==◌, ◌||◌, ◌&&◌, List, [], ◌∷◌, ◌++◌, length, drop, get_or, refl, sym, ap, ◌∙◌, arith, nat_le, nat_lt}
 use Rattle.std.specs.Prelude.{codes}
 use Rattle.std.proofs.Math.Seq.{drop-append_seam}
 use Rattle.std.proofs.lemmas.Bool.Decides.{nat_tests}
 use Rattle.b2_atom.specs.Words.{Text, upper, begins_with, longest, better, first, texts, word_text, word_at, typed_ahead, typed_by, joined, skip_blanks}
-use Rattle.b2_atom.specs.Tokens.{ends_wordy, is_word}
+use Rattle.b2_atom.specs.Tokens.{ends_wordy}
 use Rattle.b2_atom.specs.Tokens.Token.{Coded}
 use Rattle.b2_atom.specs.Leaves.{is_letter}
 use Rattle.b2_atom.specs.declared.words.TheConstants as word
-use Rattle.b2_atom.proofs.Longest.{apart, every, and_left, and_right, false_true, equal, Found, found, none, lost, below, at_below}
+use Rattle.b2_atom.proofs.Longest.{apart, every, and_left, and_right, false_true, equal, Found, found, none, below, at_below}
 
 -- a byte by which a word that ends in a letter may become another word
 abbrev pub lengthens : ℕ → Bool
