@@ -4,6 +4,7 @@ use Rattle.b2_atom.specs.Tokens.{Token}
 use Rattle.b2_atom.specs.Tokens.Token.{Coded, Plain, Lined}
 use Rattle.b2_atom.specs.Table.{rows_0, rows_1, rows_2, rows_3, forms}
 use Rattle.b2_atom.specs.Grammar.{row_items, is_among}
+use Rattle.b2_atom.specs.Leaves.{is_letter}
 use Rattle.b2_atom.specs.Spelling.{is_whole}
 use Rattle.b2_atom.specs.Fitting.{leaf_number}
 use Rattle.b2_atom.specs.declared.words.TheConstants as word
@@ -190,6 +191,17 @@ when false xs = []
 abbrev pub larger : ℕ → ℕ → ℕ
 larger a b = if nat_le a b then b else a
 
+-- the last tokens of statements
+abbrev pub statement_ends : List Front
+statement_ends =
+    Spanned 37 37 ∷ Spanned 41 41 ∷ Spanned 44 44 ∷ Spanned 59 59 ∷ Spanned 71 71 ∷ Spanned 78 78 ∷ Spanned 80 80 ∷ Spanned 84 84 ∷ Spanned 86 86
+    ∷ Spanned word.REM word.REM ∷ Spanned word.RETURN word.RETURN ∷ Spanned word.CLEAR word.CLEAR ∷ Spanned word.ALL word.ALL ∷ Spanned word.END word.END
+    ∷ Spanned word.STOP word.STOP ∷ Spanned word.PRINT word.PRINT ∷ Spanned word.ROUND word.ROUND ∷ Spanned word.RESTORE word.RESTORE
+    ∷ Spanned word.DOLLAR_BREAK word.DOLLAR_BREAK ∷ Spanned word.DOLLAR_CLOSE word.DOLLAR_CLOSE ∷ Spanned word.CON word.IDN ∷ Spanned word.LIST word.CONTINUE
+    ∷ Spanned word.GLOBAL_PART word.GLOBAL_PART ∷ Spanned word.ERR word.HASH_TERM
+    ∷ Hand leaf.Number ∷ Hand leaf.SignedNumber ∷ Hand leaf.Name ∷ Hand leaf.AlphaName ∷ Hand leaf.LocalName ∷ Hand leaf.Literal ∷ Hand leaf.Address ∷ Hand leaf.Small
+    ∷ Hand leaf.Image ∷ Hand leaf.Text ∷ Numbered ∷ []
+
 -- the fronts of statements
 abbrev pub statement_heads : List Front
 statement_heads = Spanned 37 37 ∷ Spanned word.REM word.ROUND ∷ Hand leaf.Name ∷ Hand leaf.AlphaName ∷ []
@@ -217,7 +229,7 @@ of_item part (Either s n m) =
     record { heads = k.heads ++ j.heads; empty = k.empty || j.empty; tails = when j.empty (Asked s ∷ []) ++ (k.tails ++ j.tails); rank = suc (larger k.rank j.rank); plain = k.plain && j.plain; ends = k.ends ++ j.ends }
 of_item part (Many s n) = let k = part n in record { heads = k.heads; empty = true; tails = Asked s ∷ k.tails; rank = suc k.rank; plain = k.plain; ends = k.ends }
 of_item part (Nest n) = record { heads = Any ∷ []; empty = true; tails = []; rank = 0; plain = true; ends = [] }
-of_item part (Statement p) = record { heads = statement_heads; empty = false; tails = Closed ∷ []; rank = 0; plain = false; ends = [] }
+of_item part (Statement p) = record { heads = statement_heads; empty = false; tails = Closed ∷ []; rank = 0; plain = false; ends = statement_ends }
 
 abbrev pub joined_known : Known → Known → Known
 joined_known i k = record {
@@ -307,6 +319,7 @@ settled_rows (r ∷ rs) = settled_row r && settled_rows rs
 abbrev pub covers : Front → Front → Bool
 covers (Spanned a b) (Spanned c d) = nat_le a c && nat_le d b
 covers (Hand k) (Hand j) = leaf_number j == leaf_number k
+covers Numbered Numbered = true
 covers f g = false
 
 abbrev pub covered : List Front → List Front → Bool
@@ -326,7 +339,7 @@ leading (i ∷ is) = is_mark_item i
 abbrev pub good_statement : ℕ → Bool
 good_statement n =
     not (of n).empty
-    && (covered statement_heads (of n).heads && (((of n).plain || leading (row_items n)) && (is_free_row (row_items n) || refuse (of n).tails (None ∷ Spanned 58 58 ∷ []))))
+    && (covered statement_heads (of n).heads && (((of n).plain || leading (row_items n)) && ((is_free_row (row_items n) || refuse (of n).tails (None ∷ Spanned 58 58 ∷ [])) && covered statement_ends (of n).ends)))
 
 abbrev pub good_forms : List Form → Bool
 good_forms [] = good_statement row.ASSIGNMENT
@@ -391,15 +404,81 @@ besides p fs gs = every (λ (f : Front). every (λ (g : Front). p f g) gs) fs
 abbrev pub Within : Type 0
 Within = ℕ → Bool
 
-abbrev pub paired_item : Within → Beside → Item → Bool
-paired_item r p (Part n) = r n
-paired_item r p (Maybe s n) = r n
-paired_item r p (Either s n m) = r n && r m
-paired_item r p (Many s n) = r n && besides p (of n).ends (of n).heads
-paired_item r p (Nest n) = r n && besides p (of n).ends (Spanned 41 41 ∷ [])
-paired_item r p (Statement q) = r row.LINE
-paired_item r p i = true
+abbrev pub paired_item : Within → Beside → Item → List Item → Bool
+paired_item r p (Part n) is = r n
+paired_item r p (Maybe s n) is = r n
+paired_item r p (Either s n m) is = r n && r m
+paired_item r p (Many s n) is = r n && (besides p (of n).ends (of n).heads && besides p (of n).ends (of_items of is).heads)
+paired_item r p (Nest n) is = r n && (is_closed is && besides p (of n).ends (Spanned 41 41 ∷ []))
+paired_item r p (Statement q) is = r row.LINE
+paired_item r p i is = true
 
 abbrev pub paired : Within → Beside → List Item → Bool
 paired r p [] = true
-paired r p (i ∷ is) = paired_item r p i && (besides p (of_item of i).ends (next_heads is) && paired r p is)
+paired r p (i ∷ is) = paired_item r p i is && (besides p (of_item of i).ends (next_heads is) && paired r p is)
+
+-- whether a token of one front may stand before one of another, as far as the fronts tell; behind a remark anything may
+abbrev pub marks : Front → Bool
+marks (Spanned a b) = nat_lt b 65 || nat_lt 90 a
+marks (Hand leaf.Relation) = true
+marks f = false
+
+abbrev pub is_kind : ℕ → Front → Bool
+is_kind n (Hand k) = leaf_number k == n
+is_kind n f = false
+
+abbrev pub is_one : Front → Bool
+is_one Any = false
+is_one None = false
+is_one f = true
+
+abbrev pub not_free : Front → Bool
+not_free f = is_one f && not (is_kind 14 f)
+
+abbrev pub not_image : Front → Bool
+not_image f = is_one f && not (is_kind 13 f)
+
+abbrev pub no_dollar : Front → Bool
+no_dollar (Spanned a b) = apart ((word.DOLLAR_BREAK, word.DOLLAR_CLOSE) ∷ (word.DOLLAR_PACK_OPEN, word.DOLLAR_UNPACK_OPEN) ∷ []) (a, b)
+no_dollar f = is_one f
+
+abbrev pub unrelated : Front → Bool
+unrelated (Spanned a b) = nat_lt b 61 || nat_lt 61 a
+unrelated f = is_one f && not (is_kind 15 f)
+
+abbrev pub lettered : ℕ → Front → Bool
+lettered c (Spanned a b) = marks (Spanned a b) || (a == b && ((c == 66 && a == 69) || (c == 69 && a == 71)))
+lettered c Numbered = true
+lettered c f = false
+
+abbrev pub is_data : Front → Bool
+is_data (Hand k) = not (is_kind 13 (Hand k) || is_kind 15 (Hand k))
+is_data f = false
+
+abbrev pub beside_code : ℕ → Front → Bool
+beside_code c g =
+    if c == word.REM || c == 37 then true
+    else (not_free g && (if is_letter c then lettered c g
+    else (if c == word.DATA then is_data g else (if c == word.PRINT then not_image g else true))))
+
+abbrev pub beside_leaf : Leaf → Front → Bool
+beside_leaf leaf.Number g = marks g
+beside_leaf leaf.SignedNumber g = marks g
+beside_leaf leaf.Name g = marks g && no_dollar g
+beside_leaf leaf.LocalName g = marks g && no_dollar g
+beside_leaf leaf.FunctionName g = marks g
+beside_leaf leaf.Slot g = marks g
+beside_leaf leaf.Small g = marks g || is_kind 6 g
+beside_leaf leaf.Relation g = unrelated g && (not_free g && not_image g)
+beside_leaf leaf.Text g = true
+beside_leaf k g = not_free g
+
+-- words behind which any token but free text may stand
+abbrev pub is_calm : ℕ → ℕ → Bool
+is_calm a b = nat_le 128 a && apart ((word.REM, word.REM) ∷ (word.DATA, word.DATA) ∷ (word.PRINT, word.PRINT) ∷ []) (a, b)
+
+abbrev pub beside : Beside
+beside (Spanned a b) g = if a == b then beside_code a g else is_calm a b && not_free g
+beside (Hand k) g = beside_leaf k g
+beside Numbered g = marks g
+beside f g = false

@@ -208,7 +208,7 @@ may_end_empty (End ∷ is) h = may_end_empty is h
 may_end_empty (Typed leaf.Text code ∷ is) h = may_end_empty is h
 may_end_empty (i ∷ is) h = cc
 
-covered_front : (g f : Front) (ts : List Token) → covers g f ≡ true → fronts f ts ≡ true → fronts g ts ≡ true
+pub covered_front : (g f : Front) (ts : List Token) → covers g f ≡ true → fronts f ts ≡ true → fronts g ts ≡ true
 covered_front (Spanned a b) (Spanned c d) [] h k = cc
 covered_front (Spanned a b) (Spanned c d) (Coded e ∷ ts) h k = among_inside a b c d e h k
 covered_front (Spanned a b) (Spanned c d) (Plain j w ∷ ts) h k = cc
@@ -217,6 +217,7 @@ covered_front (Hand l) (Hand j) [] h k = cc
 covered_front (Hand l) (Hand j) (Coded e ∷ ts) h k = cc
 covered_front (Hand l) (Hand j) (Plain i w ∷ ts) h k = grind (arith, nat_tests)
 covered_front (Hand l) (Hand j) (Lined x y ∷ ts) h k = cc
+covered_front Numbered Numbered ts h k = k
 covered_front g f ts h k = cc
 
 covered_some : (gs : List Front) (f : Front) (ts : List Token) → some (λ (g : Front). covers g f) gs ≡ true → fronts f ts ≡ true → some (λ (g : Front). fronts g ts) gs ≡ true

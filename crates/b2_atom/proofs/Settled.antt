@@ -9,7 +9,7 @@ use Rattle.b2_atom.specs.declared.forms.Place.{Place}
 use Rattle.b2_atom.specs.declared.forms.Form.{Form}
 use Rattle.b2_atom.specs.declared.forms.Item.{Item}
 use Rattle.b2_atom.proofs.Tests.{and_left, and_right, or_cases, equal}
-use Rattle.b2_atom.proofs.Fronts.{of_row, of, settled_row, settled_rows, good_statement, good_forms, chosen_forms, chosen_row, leading}
+use Rattle.b2_atom.proofs.Fronts.{of_row, of, settled_row, settled_rows, good_statement, good_forms, chosen_forms, chosen_row, leading, paired, beside}
 
 settled_0 : settled_rows rows_0 ≡ true
 unfolding of_row of row_items
@@ -74,3 +74,40 @@ one_chosen o p m (f ∷ fs) h k = elim (or_cases (f.row == m && is_allowed o p f
 
 pub statement_chosen : (o : Origin) (p : Place) (m : ℕ) → is_statement forms o p m ≡ true → chosen_row m (leading (row_items m)) ≡ true
 statement_chosen o p m h = one_chosen o p m forms forms_chosen h
+
+-- the tokens of each row may stand side by side
+abbrev pub paired_rows : List (List Item) → Bool
+paired_rows [] = true
+paired_rows (r ∷ rs) = paired (λ n. true) beside r && paired_rows rs
+
+paired_0 : paired_rows rows_0 ≡ true
+unfolding of_row of row_items
+paired_0 = refl
+
+paired_1 : paired_rows rows_1 ≡ true
+unfolding of_row of row_items
+paired_1 = refl
+
+paired_2 : paired_rows rows_2 ≡ true
+unfolding of_row of row_items
+paired_2 = refl
+
+paired_3 : paired_rows rows_3 ≡ true
+unfolding of_row of row_items
+paired_3 = refl
+
+one_paired : (rs : List (List Item)) (k : ℕ) → paired_rows rs ≡ true → paired (λ n. true) beside (get_or rs k []) ≡ true
+one_paired [] k h = refl
+one_paired (r ∷ rs) zero h = and_left (paired (λ n. true) beside r) _ h
+one_paired (r ∷ rs) (suc k) h = one_paired rs k (and_right (paired (λ n. true) beside r) _ h)
+
+either_paired : (b : Bool) (rs ss : List (List Item)) → paired_rows rs ≡ true → paired_rows ss ≡ true → paired_rows (if b then rs else ss) ≡ true
+either_paired true rs ss h k = h
+either_paired false rs ss h k = k
+
+all_paired : (k : ℕ) → paired_rows (rows_of k) ≡ true
+all_paired k = either_paired (k == 0) rows_0 _ paired_0 (either_paired (k == 1) rows_1 _ paired_1 (either_paired (k == 2) rows_2 rows_3 paired_2 paired_3))
+
+pub row_paired : (n : ℕ) → paired (λ m. true) beside (row_items n) ≡ true
+unfolding row_items
+row_paired n = one_paired (rows_of (n / 64)) (n % 64) (all_paired (n / 64))

@@ -1,0 +1,139 @@
+-- The tokens of a line's tree may stand side by side, and each is a good token.
+use Rattle.std.proofs.Common.{◌≡◌, ℕ, zero, suc, ◌+◌, ◌-◌, ◌<◌, ◌≤◌, ◌==◌, ◌&&◌, ◌||◌, not, nat_le, nat_lt, Bool, true, false, if◌then◌else◌, List, [], ◌∷◌, ◌++◌, length, refl, sym, ap, subst, ◌∙◌, arith, inl, inr, ◌⊎◌}
+use Rattle.std.proofs.lemmas.Bool.Decides.{nat_tests}
+use Rattle.b2_atom.specs.Words.{Text}
+use Rattle.b2_atom.specs.Tokens.{Token}
+use Rattle.b2_atom.specs.Tokens.Token.{Coded, Plain, Lined}
+use Rattle.b2_atom.specs.Tree.{Trees, tokens}
+use Rattle.b2_atom.specs.Leaves.{is_letter}
+use Rattle.b2_atom.specs.Grammar.{row_items, is_among}
+use Rattle.b2_atom.specs.Spelling.{is_whole, is_mark, is_literal, is_free, is_image, is_dollar, is_unrelated, is_lettered, may_follow, may_follow_code, may_follow_leaf, Neighbours}
+use Rattle.b2_atom.specs.Fitting.{leaf_number, is_remark}
+use Rattle.b2_atom.specs.declared.words.TheConstants as word
+use Rattle.b2_atom.specs.declared.forms.Leaf.{Leaf}
+use Rattle.b2_atom.specs.declared.forms.Leaf.TheVariants as leaf
+use Rattle.b2_atom.proofs.Tests.{and_left, and_right, or_left, or_right, or_none, or_one, or_other, or_cases, never, not_true, equal, both}
+use Rattle.b2_atom.proofs.Fronts.{Front, fronts, marks, is_kind, is_one, not_free, not_image, no_dollar, unrelated, lettered, is_data, beside_code, beside_leaf, is_calm, beside}
+use Rattle.b2_atom.proofs.Fronts.Front.{Any, None, Spanned, Hand, Numbered}
+use Rattle.b2_atom.proofs.FrontAnswers.{same_leaf}
+use Rattle.b2_atom.proofs.Pairs.{TwoTokens, Tells}
+
+-- behind a remark any token may stand here, since nothing does
+abbrev pub may_stand : TwoTokens
+may_stand t u = is_remark t || is_free t || may_follow t u
+
+turn_not : (b : Bool) → b ≡ false → not b ≡ true
+turn_not true h = cc
+turn_not false h = refl
+
+kind_of : (n : ℕ) (j : Leaf) (g : Front) (w : Text) → is_kind n g ≡ false → fronts g (Plain j w ∷ []) ≡ true → is_one g ≡ true → (leaf_number j == n) ≡ false
+kind_of n j (Hand k) w h m one = let same : leaf_number j ≡ leaf_number k = equal (leaf_number j) (leaf_number k) (and_left _ _ m) in ap (λ (x : ℕ). x == n) same ∙ h
+kind_of n j Any w h m one = cc
+kind_of n j None w h m one = cc
+kind_of n j (Spanned a b) w h m one = cc
+kind_of n j Numbered w h m one = cc
+
+free_kind : (j : Leaf) (w : Text) → (leaf_number j == 14) ≡ false → is_free (Plain j w) ≡ false
+free_kind leaf.Text w h = cc
+free_kind j w h = refl
+
+image_kind : (j : Leaf) (w : Text) → (leaf_number j == 13) ≡ false → is_image (Plain j w) ≡ false
+image_kind leaf.Image w h = cc
+image_kind j w h = refl
+
+tells_free : (g : Front) (u : Token) → not_free g ≡ true → fronts g (u ∷ []) ≡ true → is_free u ≡ false
+tells_free g (Coded c) h m = refl
+tells_free g (Lined x y) h m = refl
+tells_free g (Plain j w) h m = free_kind j w (kind_of 14 j g w (not_true _ (and_right (is_one g) _ h)) m (and_left _ _ h))
+
+tells_image : (g : Front) (u : Token) → not_image g ≡ true → fronts g (u ∷ []) ≡ true → is_image u ≡ false
+tells_image g (Coded c) h m = refl
+tells_image g (Lined x y) h m = refl
+tells_image g (Plain j w) h m = image_kind j w (kind_of 13 j g w (not_true _ (and_right (is_one g) _ h)) m (and_left _ _ h))
+
+code_mark : (a b c : ℕ) → (nat_lt b 65 || nat_lt 90 a) ≡ true → is_among a b c ≡ true → not (is_letter c) ≡ true
+code_mark a b c h m = grind (arith, nat_tests)
+
+hand_relation : (j : Leaf) (w : Text) → j ≡ leaf.Relation → is_mark (Plain j w) ≡ true
+hand_relation j w h = ap (λ (l : Leaf). is_mark (Plain l w)) h
+
+hand_mark : (k j : Leaf) (w : Text) → marks (Hand k) ≡ true → j ≡ k → is_mark (Plain j w) ≡ true
+hand_mark leaf.Relation j w h same = hand_relation j w same
+hand_mark k j w h same = cc
+
+tells_mark : (g : Front) (u : Token) → marks g ≡ true → fronts g (u ∷ []) ≡ true → is_mark u ≡ true
+tells_mark (Spanned a b) (Coded c) h m = code_mark a b c h m
+tells_mark (Spanned a b) (Plain j w) h m = cc
+tells_mark (Spanned a b) (Lined x y) h m = cc
+tells_mark (Hand k) (Plain j w) h m = hand_mark k j w h (same_leaf k j (and_left _ _ m))
+tells_mark (Hand k) (Coded c) h m = cc
+tells_mark (Hand k) (Lined x y) h m = cc
+tells_mark Any u h m = cc
+tells_mark None u h m = cc
+tells_mark Numbered u h m = cc
+
+dollar_code : (a b c : ℕ) → no_dollar (Spanned a b) ≡ true → is_among a b c ≡ true → is_dollar (Coded c) ≡ false
+dollar_code a b c h m = grind (arith, nat_tests)
+
+tells_dollar : (g : Front) (u : Token) → no_dollar g ≡ true → fronts g (u ∷ []) ≡ true → is_dollar u ≡ false
+tells_dollar (Spanned a b) (Coded c) h m = dollar_code a b c h m
+tells_dollar (Spanned a b) (Plain j w) h m = refl
+tells_dollar (Spanned a b) (Lined x y) h m = refl
+tells_dollar (Hand k) (Coded c) h m = cc
+tells_dollar (Hand k) (Plain j w) h m = refl
+tells_dollar (Hand k) (Lined x y) h m = refl
+tells_dollar Numbered (Coded c) h m = cc
+tells_dollar Numbered (Plain j w) h m = refl
+tells_dollar Numbered (Lined x y) h m = refl
+tells_dollar Any u h m = cc
+tells_dollar None u h m = cc
+
+unrelated_code : (a b c : ℕ) → (nat_lt b 61 || nat_lt 61 a) ≡ true → is_among a b c ≡ true → not (c == 61) ≡ true
+unrelated_code a b c h m = grind (arith, nat_tests)
+
+relation_kind : (j : Leaf) (w : Text) → (leaf_number j == 15) ≡ false → is_unrelated (Plain j w) ≡ true
+relation_kind leaf.Relation w h = cc
+relation_kind j w h = refl
+
+tells_unrelated : (g : Front) (u : Token) → unrelated g ≡ true → fronts g (u ∷ []) ≡ true → is_unrelated u ≡ true
+tells_unrelated (Spanned a b) (Coded c) h m = unrelated_code a b c h m
+tells_unrelated (Spanned a b) (Plain j w) h m = cc
+tells_unrelated (Spanned a b) (Lined x y) h m = cc
+tells_unrelated (Hand k) (Coded c) h m = cc
+tells_unrelated (Hand k) (Plain j w) h m = relation_kind j w (kind_of 15 j (Hand k) w (not_true _ h) m refl)
+tells_unrelated (Hand k) (Lined x y) h m = refl
+tells_unrelated Numbered (Coded c) h m = cc
+tells_unrelated Numbered (Plain j w) h m = cc
+tells_unrelated Numbered (Lined x y) h m = refl
+tells_unrelated Any u h m = cc
+tells_unrelated None u h m = cc
+
+lettered_code : (c a b d : ℕ) → lettered c (Spanned a b) ≡ true → is_among a b d ≡ true → is_lettered c (Coded d) ≡ true
+lettered_code c a b d h m = grind (arith, nat_tests)
+
+tells_lettered : (c : ℕ) (g : Front) (u : Token) → lettered c g ≡ true → fronts g (u ∷ []) ≡ true → is_lettered c u ≡ true
+tells_lettered c (Spanned a b) (Coded d) h m = lettered_code c a b d h m
+tells_lettered c (Spanned a b) (Plain j w) h m = cc
+tells_lettered c (Spanned a b) (Lined x y) h m = cc
+tells_lettered c (Hand k) u h m = cc
+tells_lettered c Numbered (Coded d) h m = cc
+tells_lettered c Numbered (Plain j w) h m = cc
+tells_lettered c Numbered (Lined x y) h m = refl
+tells_lettered c Any u h m = cc
+tells_lettered c None u h m = cc
+
+data_kind : (j : Leaf) (w : Text) → (leaf_number j == 13) ≡ false → (leaf_number j == 15) ≡ false → (is_mark (Plain j w) || is_image (Plain j w)) ≡ false
+data_kind leaf.Image w h k = cc
+data_kind leaf.Relation w h k = cc
+data_kind j w h k = refl
+
+tells_data : (g : Front) (u : Token) → is_data g ≡ true → fronts g (u ∷ []) ≡ true → (is_mark u || is_image u) ≡ false
+tells_data (Hand k) (Plain j w) h m =
+    let none = not_true (is_kind 13 (Hand k) || is_kind 15 (Hand k)) h in
+    data_kind j w (kind_of 13 j (Hand k) w (or_left _ _ none) m refl) (kind_of 15 j (Hand k) w (or_right (is_kind 13 (Hand k)) _ none) m refl)
+tells_data (Hand k) (Coded c) h m = cc
+tells_data (Hand k) (Lined x y) h m = cc
+tells_data (Spanned a b) u h m = cc
+tells_data Numbered u h m = cc
+tells_data Any u h m = cc
+tells_data None u h m = cc
