@@ -16,7 +16,7 @@ use Rattle.b2_atom.proofs.Tests.{and_left, and_right, or_left, or_right, or_none
 use Rattle.b2_atom.proofs.Fronts.{Front, fronts, marks, is_kind, is_one, not_free, not_image, no_dollar, unrelated, lettered, is_data, beside_code, beside_leaf, is_calm, beside}
 use Rattle.b2_atom.proofs.Fronts.Front.{Any, None, Spanned, Hand, Numbered}
 use Rattle.b2_atom.proofs.FrontAnswers.{same_leaf}
-use Rattle.b2_atom.proofs.Pairs.{TwoTokens, Tells}
+use Rattle.b2_atom.proofs.Pairs.{TwoTokens, Tells, front_last}
 
 -- behind a remark any token may stand here, since nothing does
 abbrev pub may_stand : TwoTokens
@@ -137,3 +137,111 @@ tells_data (Spanned a b) u h m = cc
 tells_data Numbered u h m = cc
 tells_data Any u h m = cc
 tells_data None u h m = cc
+
+turn_true : (a b : Bool) → a ≡ false → b ≡ true → (not a && b) ≡ true
+turn_true true b h k = cc
+turn_true false b h k = k
+
+code_by : (r l d p nf lt da im free lett bad img : Bool) → (if r then true else (nf && (if l then lt else (if d then da else (if p then im else true))))) ≡ true
+    → (nf ≡ true → free ≡ false) → (lt ≡ true → lett ≡ true) → (da ≡ true → bad ≡ false) → (im ≡ true → img ≡ false)
+    → ((r || false) || (if r then free else (not free && (if l then lett else (if d then not bad else (if p then not img else true)))))) ≡ true
+code_by true l d p nf lt da im free lett bad img h a b c e = refl
+code_by false true d p nf lt da im free lett bad img h a b c e = turn_true free lett (a (and_left _ _ h)) (b (and_right nf _ h))
+code_by false false true p nf lt da im free lett bad img h a b c e = turn_true free (not bad) (a (and_left _ _ h)) (turn_not bad (c (and_right nf _ h)))
+code_by false false false true nf lt da im free lett bad img h a b c e = turn_true free (not img) (a (and_left _ _ h)) (turn_not img (e (and_right nf _ h)))
+code_by false false false false nf lt da im free lett bad img h a b c e = turn_true free true (a (and_left _ _ h)) refl
+
+tells_code : (c : ℕ) (g : Front) (u : Token) → beside_code c g ≡ true → fronts g (u ∷ []) ≡ true → may_stand (Coded c) u ≡ true
+tells_code c g u h m =
+    code_by (c == word.REM || c == 37) (is_letter c) (c == word.DATA) (c == word.PRINT) (not_free g) (lettered c g) (is_data g) (not_image g)
+    (is_free u) (is_lettered c u) (is_mark u || is_image u) (is_image u) h
+    (λ k. tells_free g u k m) (λ k. tells_lettered c g u k m) (λ k. tells_data g u k m) (λ k. tells_image g u k m)
+
+calm_remark : (a b c : ℕ) → is_calm a b ≡ true → is_among a b c ≡ true → (c == word.REM || c == 37) ≡ false
+calm_remark a b c h m = grind (arith, nat_tests)
+
+calm_letter : (a b c : ℕ) → is_calm a b ≡ true → is_among a b c ≡ true → is_letter c ≡ false
+calm_letter a b c h m = grind (arith, nat_tests)
+
+calm_data : (a b c : ℕ) → is_calm a b ≡ true → is_among a b c ≡ true → (c == word.DATA) ≡ false
+calm_data a b c h m = grind (arith, nat_tests)
+
+calm_print : (a b c : ℕ) → is_calm a b ≡ true → is_among a b c ≡ true → (c == word.PRINT) ≡ false
+calm_print a b c h m = grind (arith, nat_tests)
+
+calm_by : (r l d p free lett bad img : Bool) → r ≡ false → l ≡ false → d ≡ false → p ≡ false → free ≡ false
+    → ((r || false) || (if r then free else (not free && (if l then lett else (if d then not bad else (if p then not img else true)))))) ≡ true
+calm_by true l d p free lett bad img a b c e f = cc
+calm_by false true d p free lett bad img a b c e f = cc
+calm_by false false true p free lett bad img a b c e f = cc
+calm_by false false false true free lett bad img a b c e f = cc
+calm_by false false false false free lett bad img a b c e f = turn_true free true f refl
+
+calm_stands : (a b c : ℕ) (u : Token) → is_calm a b ≡ true → is_among a b c ≡ true → is_free u ≡ false → may_stand (Coded c) u ≡ true
+calm_stands a b c u h m f =
+    calm_by (c == word.REM || c == 37) (is_letter c) (c == word.DATA) (c == word.PRINT) (is_free u) (is_lettered c u) (is_mark u || is_image u) (is_image u)
+    (calm_remark a b c h m) (calm_letter a b c h m) (calm_data a b c h m) (calm_print a b c h m) f
+
+literal_kind : (j : Leaf) (w : Text) → j ≡ leaf.Literal → is_literal (Plain j w) ≡ true
+literal_kind j w h = ap (λ (l : Leaf). is_literal (Plain l w)) h
+
+hand_literal : (k j : Leaf) (w : Text) → (leaf_number k == 6) ≡ true → j ≡ k → is_literal (Plain j w) ≡ true
+hand_literal leaf.Literal j w h same = literal_kind j w same
+hand_literal k j w h same = cc
+
+tells_literal : (g : Front) (u : Token) → is_kind 6 g ≡ true → fronts g (u ∷ []) ≡ true → is_literal u ≡ true
+tells_literal (Hand k) (Plain j w) h m = hand_literal k j w h (same_leaf k j (and_left _ _ m))
+tells_literal (Hand k) (Coded c) h m = cc
+tells_literal (Hand k) (Lined x y) h m = cc
+tells_literal (Spanned a b) u h m = cc
+tells_literal Numbered u h m = cc
+tells_literal Any u h m = cc
+tells_literal None u h m = cc
+
+tells_leaf : (k : Leaf) (w : Text) (g : Front) (u : Token) → beside_leaf k g ≡ true → fronts g (u ∷ []) ≡ true → may_stand (Plain k w) u ≡ true
+tells_leaf leaf.Number w g u h m = tells_mark g u h m
+tells_leaf leaf.SignedNumber w g u h m = tells_mark g u h m
+tells_leaf leaf.Name w g u h m = both (is_mark u) _ (tells_mark g u (and_left _ _ h) m) (turn_not _ (tells_dollar g u (and_right (marks g) _ h) m))
+tells_leaf leaf.LocalName w g u h m = both (is_mark u) _ (tells_mark g u (and_left _ _ h) m) (turn_not _ (tells_dollar g u (and_right (marks g) _ h) m))
+tells_leaf leaf.FunctionName w g u h m = tells_mark g u h m
+tells_leaf leaf.Slot w g u h m = tells_mark g u h m
+tells_leaf leaf.Small w g u h m = elim (or_cases (marks g) (is_kind 6 g) h) [
+  | inl e ↦ or_one _ _ (tells_mark g u e m)
+  | inr e ↦ or_other (is_mark u) _ (tells_literal g u e m)
+]
+tells_leaf leaf.Relation w g u h m =
+    let rest = and_right (unrelated g) _ h in
+    both (is_unrelated u) _ (tells_unrelated g u (and_left _ _ h) m)
+    (turn_not _ (or_none _ _ (tells_free g u (and_left _ _ rest) m) (tells_image g u (and_right (not_free g) _ rest) m)))
+tells_leaf leaf.Text w g u h m = refl
+tells_leaf k w g u h m = turn_not _ (tells_free g u h m)
+
+tells_hand : (k j : Leaf) (w : Text) (g : Front) (u : Token) → j ≡ k → beside_leaf k g ≡ true → fronts g (u ∷ []) ≡ true → may_stand (Plain j w) u ≡ true
+tells_hand k j w g u same h m = ap (λ (l : Leaf). may_stand (Plain l w) u) same ∙ tells_leaf k w g u h m
+
+if_calm : (e : Bool) (x y : Bool) → (if e then x else y) ≡ true → ((e ≡ true) × (x ≡ true)) ⊎ (y ≡ true)
+if_calm true x y h = inl (refl, h)
+if_calm false x y h = inr h
+
+single : (a b c : ℕ) → (a == b) ≡ true → is_among a b c ≡ true → c ≡ a
+single a b c h m = grind (arith, nat_tests)
+
+tells_spanned : (a b c : ℕ) (g : Front) (u : Token) → beside (Spanned a b) g ≡ true → is_among a b c ≡ true → fronts g (u ∷ []) ≡ true → may_stand (Coded c) u ≡ true
+tells_spanned a b c g u h k m = elim (if_calm (a == b) (beside_code a g) (is_calm a b && not_free g) h) [
+  | inl e ↦ tells_code c g u (ap (λ (n : ℕ). beside_code n g) (single a b c e.0 k) ∙ e.1) m
+  | inr e ↦ calm_stands a b c u (and_left _ _ e) k (tells_free g u (and_right (is_calm a b) _ e) m)
+]
+
+-- what the fronts tell
+pub tells : Tells beside may_stand
+tells (Spanned a b) g (Coded c) u us h k m = tells_spanned a b c g u h k (sym (front_last g u us) ∙ m)
+tells (Spanned a b) g (Plain j w) u us h k m = cc
+tells (Spanned a b) g (Lined x y) u us h k m = cc
+tells (Hand l) g (Plain j w) u us h k m = tells_hand l j w g u (same_leaf l j (and_left _ _ k)) h (sym (front_last g u us) ∙ m)
+tells (Hand l) g (Coded c) u us h k m = cc
+tells (Hand l) g (Lined x y) u us h k m = cc
+tells Numbered g (Lined x y) u us h k m = tells_mark g u h (sym (front_last g u us) ∙ m)
+tells Numbered g (Coded c) u us h k m = cc
+tells Numbered g (Plain j w) u us h k m = cc
+tells Any g t u us h k m = cc
+tells None g t u us h k m = cc

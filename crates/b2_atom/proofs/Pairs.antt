@@ -243,7 +243,7 @@ branch_chain r p q tells rows all_ inner ts ci ct o room m LeftOut is h test mor
 branch_chain r p q tells rows all_ inner ts ci ct o room m End is h test more follows chain = absurd h
 branch_chain r p q tells rows all_ inner ts ci ct o room m (Typed k code) is h test more follows chain = absurd h
 
-front_last : (f : Front) (t : Token) (ts : List Token) → fronts f (t ∷ ts) ≡ fronts f (t ∷ [])
+pub front_last : (f : Front) (t : Token) (ts : List Token) → fronts f (t ∷ ts) ≡ fronts f (t ∷ [])
 front_last Any t ts = refl
 front_last None t ts = refl
 front_last (Spanned a b) (Coded c) ts = refl
