@@ -1,5 +1,5 @@
 -- The tokens of a line's tree may stand side by side, and each is a good token.
-use Rattle.std.proofs.Common.{◌≡◌, ℕ, zero, suc, ◌+◌, ◌-◌, ◌<◌, ◌≤◌, ◌==◌, ◌&&◌, ◌||◌, not, nat_le, nat_lt, Bool, true, false, if◌then◌else◌, List, [], ◌∷◌, ◌++◌, length, refl, sym, ap, subst, ◌∙◌, arith, inl, inr, ◌⊎◌}
+use Rattle.std.proofs.Common.{◌≡◌, ℕ, zero, suc, ◌+◌, ◌-◌, ◌<◌, ◌≤◌, ◌==◌, ◌&&◌, ◌||◌, not, nat_le, nat_lt, Bool, true, false, if◌then◌else◌, List, [], ◌∷◌, ◌++◌, length, refl, sym, ap, subst, ◌∙◌, arith, append-nil, inl, inr, ◌⊎◌}
 use Rattle.std.proofs.lemmas.Bool.Decides.{nat_tests}
 use Rattle.b2_atom.specs.Words.{Text}
 use Rattle.b2_atom.specs.Tokens.{Token}
@@ -7,16 +7,21 @@ use Rattle.b2_atom.specs.Tokens.Token.{Coded, Plain, Lined}
 use Rattle.b2_atom.specs.Tree.{Trees, tokens}
 use Rattle.b2_atom.specs.Leaves.{is_letter}
 use Rattle.b2_atom.specs.Grammar.{row_items, is_among}
-use Rattle.b2_atom.specs.Spelling.{is_whole, is_mark, is_literal, is_free, is_image, is_dollar, is_unrelated, is_lettered, may_follow, may_follow_code, may_follow_leaf, Neighbours}
-use Rattle.b2_atom.specs.Fitting.{leaf_number, is_remark}
+use Rattle.b2_atom.specs.Spelling.{is_whole, is_mark, is_literal, is_free, is_image, is_dollar, is_unrelated, is_lettered, may_follow, may_follow_code, may_follow_leaf, Neighbours, AllGood, good_token, is_in, signs}
+use Rattle.b2_atom.specs.Fitting.{leaf_number, is_remark, is_rest, RemarksEnd, LineTree}
+use Rattle.b2_atom.specs.declared.rows.TheConstants as row
+use Rattle.b2_atom.specs.declared.words.Origin.{Origin}
 use Rattle.b2_atom.specs.declared.words.TheConstants as word
 use Rattle.b2_atom.specs.declared.forms.Leaf.{Leaf}
 use Rattle.b2_atom.specs.declared.forms.Leaf.TheVariants as leaf
-use Rattle.b2_atom.proofs.Tests.{and_left, and_right, or_left, or_right, or_none, or_one, or_other, or_cases, never, not_true, equal, both}
-use Rattle.b2_atom.proofs.Fronts.{Front, fronts, marks, is_kind, is_one, not_free, not_image, no_dollar, unrelated, lettered, is_data, beside_code, beside_leaf, is_calm, beside}
+use Rattle.b2_atom.proofs.Tests.{and_left, and_right, or_left, or_right, or_none, or_one, or_other, or_cases, never, not_true, equal, both, either_way}
+use Rattle.b2_atom.proofs.Fronts.{every, some, of, of_items, covered, statement_heads, good_front, before_good, Front, fronts, marks, is_kind, is_one, not_free, not_image, no_dollar, unrelated, lettered, is_data, beside_code, beside_leaf, is_calm, beside}
 use Rattle.b2_atom.proofs.Fronts.Front.{Any, None, Spanned, Hand, Numbered}
-use Rattle.b2_atom.proofs.FrontAnswers.{same_leaf}
-use Rattle.b2_atom.proofs.Pairs.{TwoTokens, Tells, front_last}
+use Rattle.b2_atom.proofs.FrontAnswers.{same_leaf, some_front}
+use Rattle.b2_atom.proofs.Settled.{row_paired, row_good, line_heads}
+use Rattle.b2_atom.proofs.Heads.{leads, led_known, covered_all}
+use Rattle.b2_atom.proofs.Choice.{opens_statement, opening}
+use Rattle.b2_atom.proofs.Pairs.{TwoTokens, Tells, front_last, Chain, Follows, chained}
 
 -- behind a remark any token may stand here, since nothing does
 abbrev pub may_stand : TwoTokens
@@ -245,3 +250,127 @@ tells Numbered g (Coded c) u us h k m = cc
 tells Numbered g (Plain j w) u us h k m = cc
 tells Any g t u us h k m = cc
 tells None g t u us h k m = cc
+
+-- good tokens
+good_span : (a b c : ℕ) → (nat_le word.REM a && nat_le b word.ROUND) ≡ true → is_among a b c ≡ true → is_among word.REM word.ROUND c ≡ true
+good_span a b c h m = grind (arith, nat_tests)
+
+good_code : (a b c : ℕ) → good_front (Spanned a b) ≡ true → is_among a b c ≡ true → good_token (Coded c) ≡ true
+good_code a b c h m = elim (or_cases (nat_le word.REM a && nat_le b word.ROUND) (a == b && is_in a signs) h) [
+  | inl e ↦ or_one _ _ (good_span a b c e m)
+  | inr e ↦ or_other (is_among word.REM word.ROUND c) _ (ap (λ (n : ℕ). is_in n signs) (single a b c (and_left _ _ e) m) ∙ and_right (a == b) _ e)
+]
+
+front_good : (g : Front) (u : Token) (us : List Token) → good_front g ≡ true → fronts g (u ∷ us) ≡ true → good_token u ≡ true
+front_good (Spanned a b) (Coded c) us h m = good_code a b c h m
+front_good (Spanned a b) (Plain j w) us h m = cc
+front_good (Spanned a b) (Lined x y) us h m = cc
+front_good (Hand k) (Plain j w) us h m = and_right (leaf_number j == leaf_number k) _ m
+front_good (Hand k) (Coded c) us h m = cc
+front_good (Hand k) (Lined x y) us h m = cc
+front_good Numbered (Lined x y) us h m = m
+front_good Numbered (Coded c) us h m = cc
+front_good Numbered (Plain j w) us h m = cc
+front_good Any u us h m = cc
+front_good None u us h m = cc
+
+abbrev pub then_good : TwoTokens
+then_good t u = good_token u
+
+tells_good : Tells before_good then_good
+tells_good f g t u us h k m = front_good g u us h m
+
+all_good : (t : Token) (ts : List Token) → good_token t ≡ true → Chain then_good (t ∷ ts) → AllGood (t ∷ ts)
+all_good t [] h c = (h, tt)
+all_good t (u ∷ us) h c = (h, all_good u us c.0 c.1)
+
+-- free text stands behind a remark alone
+unfree_mark : (u : Token) → is_mark u ≡ true → is_free u ≡ false
+unfree_mark (Coded c) h = refl
+unfree_mark (Plain leaf.Text w) h = cc
+unfree_mark (Plain k w) h = refl
+unfree_mark (Lined x y) h = refl
+
+unfree_literal : (u : Token) → is_literal u ≡ true → is_free u ≡ false
+unfree_literal (Coded c) h = refl
+unfree_literal (Plain leaf.Text w) h = cc
+unfree_literal (Plain k w) h = refl
+unfree_literal (Lined x y) h = refl
+
+unfree_leaf : (k : Leaf) (u : Token) → may_follow_leaf k u ≡ true → is_free u ≡ false
+unfree_leaf leaf.Number u h = unfree_mark u h
+unfree_leaf leaf.SignedNumber u h = unfree_mark u h
+unfree_leaf leaf.Name u h = unfree_mark u (and_left _ _ h)
+unfree_leaf leaf.LocalName u h = unfree_mark u (and_left _ _ h)
+unfree_leaf leaf.FunctionName u h = unfree_mark u h
+unfree_leaf leaf.Slot u h = unfree_mark u h
+unfree_leaf leaf.Small u h = elim (or_cases (is_mark u) (is_literal u) h) [
+  | inl e ↦ unfree_mark u e
+  | inr e ↦ unfree_literal u e
+]
+unfree_leaf leaf.Relation u h = or_left _ _ (not_true _ (and_right (is_unrelated u) _ h))
+unfree_leaf leaf.Text u h = cc
+unfree_leaf k u h = not_true _ h
+
+unfree_by : (r free : Bool) (x : Bool) → r ≡ false → (if r then free else (not free && x)) ≡ true → free ≡ false
+unfree_by true free x h k = cc
+unfree_by false free x h k = not_true _ (and_left _ _ k)
+
+unfree : (t u : Token) → is_remark t ≡ false → may_follow t u ≡ true → is_free u ≡ false
+unfree (Coded c) u r h = unfree_by (c == word.REM || c == 37) (is_free u) _ r h
+unfree (Plain k w) u r h = unfree_leaf k u h
+unfree (Lined x y) u r h = unfree_mark u h
+
+stands_follow : (r f m : Bool) → r ≡ false → f ≡ false → ((r || f) || m) ≡ true → m ≡ true
+stands_follow true f m a b h = cc
+stands_follow false true m a b h = cc
+stands_follow false false m a b h = h
+
+remark_free : (t u : Token) → is_remark t ≡ true → is_free u ≡ true → may_follow t u ≡ true
+remark_free (Coded c) u r h = ap (λ (b : Bool). if b then is_free u else (not (is_free u) && (if is_letter c then is_lettered c u
+    else (if c == word.DATA then not (is_mark u || is_image u) else (if c == word.PRINT then not (is_image u) else true))))) r ∙ h
+remark_free (Plain k w) u r h = cc
+remark_free (Lined x y) u r h = cc
+
+after_remark : (t u : Token) (us : List Token) → is_remark t ≡ true → is_rest (u ∷ us) ≡ true → Neighbours (t ∷ u ∷ us)
+after_remark t u [] r h = (remark_free t u r h, tt)
+after_remark t u (v ∷ us) r h = cc
+
+opens_unfree : (t : Token) → opens_statement t ≡ true → is_free t ≡ false
+opens_unfree (Coded c) h = refl
+opens_unfree (Plain leaf.Name w) h = refl
+opens_unfree (Plain leaf.AlphaName w) h = refl
+opens_unfree t h = cc
+
+side_by_side : (t : Token) (ts : List Token) → is_free t ≡ false → Chain may_stand (t ∷ ts) → RemarksEnd (t ∷ ts) → Neighbours (t ∷ ts)
+side_by_side t [] f c r = tt
+side_by_side t (u ∷ us) f c r = elim (either_way (is_remark t)) [
+  | inl e ↦ after_remark t u us e (r.0 e)
+  | inr e ↦ (let m = stands_follow (is_remark t) (is_free t) (may_follow t u) e f c.0 in (m, side_by_side u us (unfree t u e m) c.1 r.1))
+]
+
+-- the tokens of a line's tree are good, and may stand side by side
+good_line : (o : Origin) (ts : List Token) → some (λ (f : Front). fronts f ts) (of row.LINE).heads ≡ true → Chain may_stand ts → Chain then_good ts → RemarksEnd ts → AllGood ts × Neighbours ts
+good_line o [] begun a b r = (tt, tt)
+good_line o (t ∷ ts) begun a b r =
+    let one = some_front good_front (of row.LINE).heads (t ∷ ts) (and_left _ _ (and_right (covered statement_heads (of row.LINE).heads) _ line_heads)) begun in
+    let opens = opening t ts (covered_all statement_heads (of row.LINE).heads (t ∷ ts) (and_left _ _ line_heads) begun) in
+    (all_good t ts (front_good one.0 t ts one.1.0 one.1.1) b, side_by_side t ts (opens_unfree t opens) a r)
+
+none_follows : (q : TwoTokens) (fs : List Front) → Follows q fs []
+none_follows q fs = λ t k. tt
+
+pub good_tree : (o : Origin) (t : Trees) → LineTree o t → AllGood (tokens t) × Neighbours (tokens t)
+good_tree o t h =
+    let led = led_known row.LINE (tokens t) [] (leads t o 32 (row_items row.LINE) h.fits []) in
+    let begun : some (λ (f : Front). fronts f (tokens t ++ [])) (of row.LINE).heads ≡ true = elim led [
+      | inl g ↦ never (of row.LINE).empty g.1 (not_true _ (and_right (every good_front (of row.LINE).heads) _ (and_right (covered statement_heads (of row.LINE).heads) _ line_heads)))
+      | inr g ↦ g
+    ] in
+    let P : List Token → Type 0 = λ l. Chain may_stand l in
+    let Q : List Token → Type 0 = λ l. Chain then_good l in
+    let same = append-nil (tokens t) in
+    good_line o (tokens t) (ap (λ (l : List Token). some (λ (f : Front). fronts f l) (of row.LINE).heads) (sym same) ∙ begun)
+    (subst P same (chained (λ n. true) beside may_stand tells (λ n k. row_paired n) (λ k n. refl) t o 32 (row_items row.LINE) h.fits (row_paired row.LINE) [] (none_follows may_stand ((of_items of (row_items row.LINE)).ends)) tt))
+    (subst Q same (chained (λ n. true) before_good then_good tells_good (λ n k. row_good n) (λ k n. refl) t o 32 (row_items row.LINE) h.fits (row_good row.LINE) [] (none_follows then_good ((of_items of (row_items row.LINE)).ends)) tt))
+    h.remarks

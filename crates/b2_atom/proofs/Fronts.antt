@@ -3,9 +3,9 @@ use Rattle.std.proofs.Common.{◌≡◌, ℕ, zero, suc, ◌+◌, ◌-◌, ◌==
 use Rattle.b2_atom.specs.Tokens.{Token}
 use Rattle.b2_atom.specs.Tokens.Token.{Coded, Plain, Lined}
 use Rattle.b2_atom.specs.Table.{rows_0, rows_1, rows_2, rows_3, forms}
-use Rattle.b2_atom.specs.Grammar.{row_items, is_among}
+use Rattle.b2_atom.specs.Grammar.{row_items, is_among, is_decimal}
 use Rattle.b2_atom.specs.Leaves.{is_letter}
-use Rattle.b2_atom.specs.Spelling.{is_whole}
+use Rattle.b2_atom.specs.Spelling.{is_whole, is_in, signs, is_classed}
 use Rattle.b2_atom.specs.Fitting.{leaf_number}
 use Rattle.b2_atom.specs.declared.words.TheConstants as word
 use Rattle.b2_atom.specs.declared.rows.TheConstants as row
@@ -55,7 +55,7 @@ fronts Any ts = true
 fronts None [] = true
 fronts (Spanned a b) (Coded c ∷ ts) = is_among a b c
 fronts (Hand k) (Plain j w ∷ ts) = leaf_number j == leaf_number k && is_whole j w
-fronts Numbered (Lined h l ∷ ts) = true
+fronts Numbered (Lined h l ∷ ts) = is_decimal h && is_decimal l
 fronts f ts = false
 
 -- the codes by which a leaf is seen; none where it isn't known
@@ -482,3 +482,69 @@ beside (Spanned a b) g = if a == b then beside_code a g else is_calm a b && not_
 beside (Hand k) g = beside_leaf k g
 beside Numbered g = marks g
 beside f g = false
+
+-- whether each token of a front is a good token
+abbrev pub good_front : Front → Bool
+good_front (Spanned a b) = (nat_le word.REM a && nat_le b word.ROUND) || (a == b && is_in a signs)
+good_front (Hand k) = true
+good_front Numbered = true
+good_front f = false
+
+abbrev pub before_good : Beside
+before_good f g = good_front g
+
+-- the rows of expressions and receivers
+abbrev pub is_expression : ℕ → Bool
+is_expression n =
+    is_among row.SUM row.ALPHA_VARIABLE n
+    || (n == row.NUMERIC_RECEIVER || (n == row.ALPHA_RECEIVER || (n == row.ALPHA_RECEIVER_VARIABLE || (n == row.RECEIVER || n == row.OPERAND_OF_ANY_KIND))))
+
+abbrev pub class_front : Front → Bool
+class_front (Spanned a b) = true
+class_front (Hand k) = is_classed k
+class_front f = false
+
+abbrev pub not_close : Front → Bool
+not_close (Spanned a b) = nat_lt b 41 || nat_lt 41 a
+not_close f = true
+
+-- what stands behind a `(` of an expression: no `)`, and nothing of an alpha expression
+abbrev pub number_front : Front → Bool
+number_front f = alpha f false && (class_front f && not_close f)
+
+abbrev pub is_named : Leaf → Bool
+is_named leaf.Name = true
+is_named leaf.AlphaName = true
+is_named k = false
+
+abbrev pub before_number : Beside
+before_number (Spanned a b) g = (nat_lt b 40 || nat_lt 40 a) || number_front g
+before_number (Hand k) g = not (is_named k) || class_front g
+before_number Numbered g = true
+before_number f g = false
+
+abbrev pub within_rows : Within → Beside → ℕ → List (List Item) → Bool
+within_rows r p k [] = true
+within_rows r p k (x ∷ xs) = (not (r k) || paired r p x) && within_rows r p (suc k) xs
+
+-- what the ends and the heads of the far choices tell
+abbrev pub not_open : Front → Bool
+not_open f = is_spanned f || sure ((40, 40) ∷ []) f false
+
+abbrev pub not_b : Front → Bool
+not_b f = sure ((66, 66) ∷ []) f false || is_numeric_name f
+
+abbrev pub named_or_not : Front → Bool
+named_or_not (Hand k) = is_named k || sure name_spans (Hand k) false
+named_or_not f = sure name_spans f false
+
+abbrev pub asks_open : Tail → Bool
+asks_open (Asked (start.Code c)) = c == 40
+asks_open t = false
+
+abbrev pub some_tail : (Tail → Bool) → List Tail → Bool
+some_tail p [] = false
+some_tail p (t ∷ ts) = p t || some_tail p ts
+
+abbrev pub ends_open : ℕ → Bool
+ends_open k = some_tail asks_open (of k).tails && (besides before_number (of k).ends (Spanned 41 41 ∷ []) && every named_or_not (of k).heads)

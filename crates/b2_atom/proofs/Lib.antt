@@ -13,6 +13,7 @@ pub mod ReadBack
 pub mod Choice
 pub mod Pairs
 pub mod Beside
+pub mod FarSettled
 pub mod Longest
 pub mod WordsRead
 pub mod Widths
