@@ -1,5 +1,5 @@
 -- The choices that look further than the next token, as computed.
-use Rattle.std.proofs.Common.{◌≡◌, ℕ, zero, suc, ◌+◌, ◌*◌, ◌==◌, ◌&&◌, ◌||◌, not, ◌/◌, ◌%◌, ◌<◌, Bool, true, false, if◌then◌else◌, List, [], ◌∷◌, get_or, refl, sym, ap, ◌∙◌, subst, arith, inl, inr, ◌⊎◌}
+use Rattle.std.proofs.Common.{◌≡◌, ℕ, zero, suc, ◌+◌, ◌*◌, ◌==◌, ◌&&◌, ◌||◌, not, ◌/◌, ◌%◌, ◌<◌, ◌≤◌, Bool, true, false, if◌then◌else◌, List, [], ◌∷◌, get_or, refl, sym, ap, ◌∙◌, subst, arith, inl, inr, ◌⊎◌}
 use Rattle.std.proofs.lemmas.Bool.Decides.{nat_tests}
 use Rattle.b2_atom.specs.Grammar.{row_items, rows_of}
 use Rattle.b2_atom.specs.Table.{rows_0, rows_1, rows_2, rows_3}
@@ -30,8 +30,14 @@ one_within r p (x ∷ xs) k (suc j) h g =
 low_row : (n : ℕ) → is_expression n ≡ true → n < 128
 low_row n h = grind (arith, nat_tests)
 
+split : (n : ℕ) → (n < 64) ⊎ (64 ≤ n)
+split n = grind arith
+
 parts_of : (n : ℕ) → n < 128 → ((n / 64 ≡ 0) × (0 + n % 64 ≡ n)) ⊎ ((n / 64 ≡ 1) × (64 + n % 64 ≡ n))
-parts_of n h = ?
+parts_of n h = elim (split n) [
+  | inl g ↦ (let a : n / 64 ≡ 0 = omega (arith, g) in let b : 0 + n % 64 ≡ n = omega (arith, g) in inl (a, b))
+  | inr g ↦ (let a : n / 64 ≡ 1 = omega (arith, g, h) in let b : 64 + n % 64 ≡ n = omega (arith, g, h) in inr (a, b))
+]
 
 pub row_within : (n : ℕ) → is_expression n ≡ true → paired is_expression before_number (row_items n) ≡ true
 unfolding row_items

@@ -14,6 +14,7 @@ pub mod Choice
 pub mod Pairs
 pub mod Beside
 pub mod FarSettled
+pub mod Far
 pub mod Longest
 pub mod WordsRead
 pub mod Widths

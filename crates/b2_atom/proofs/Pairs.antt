@@ -67,7 +67,7 @@ follows_when : (q : TwoTokens) (b : Bool) (xs ys : List Front) (more : List Toke
 follows_when q true xs ys more h k = follows_left q xs ys more k
 follows_when q false xs ys more h k = cc
 
-before_fronts : (p : Beside) (q : TwoTokens) → Tells p q → (fs gs : List Front) (ts : List Token) → besides p fs gs ≡ true → some (λ (g : Front). fronts g ts) gs ≡ true → Follows q fs ts
+pub before_fronts : (p : Beside) (q : TwoTokens) → Tells p q → (fs gs : List Front) (ts : List Token) → besides p fs gs ≡ true → some (λ (g : Front). fronts g ts) gs ≡ true → Follows q fs ts
 before_fronts p q tells fs gs [] test h = λ t k. tt
 before_fronts p q tells fs gs (u ∷ us) test h = λ t k.
     let f = some_front (λ (x : Front). every (λ (g : Front). p x g) gs) fs (t ∷ []) test k in
