@@ -135,3 +135,136 @@ well o room k inner h test fits =
     chained is_expression before_number opens_well tells_well row_within no_line inner o room (row_items k) fits (row_within k h) (Coded 41 ∷ [])
     (let P : List Front → Type 0 = λ l. Follows opens_well l (Coded 41 ∷ []) in subst P (ap (λ (x : Known). x.ends) (sym (known k))) (before_fronts before_number opens_well tells_well (of k).ends (Spanned 41 41 ∷ []) (Coded 41 ∷ []) test refl))
     (tt, tt)
+
+and_none : (a b : Bool) → a ≡ false → (a && b) ≡ false
+and_none true b h = cc
+and_none false b h = refl
+
+and_last : (a b : Bool) → b ≡ false → (a && b) ≡ false
+and_last true b h = h
+and_last false b h = refl
+
+one_code : (a c : ℕ) (b : Bool) → spans ((a, a) ∷ []) c ≡ b → (c == a) ≡ b
+one_code a c b h = span_of a c ∙ sym (or_false _) ∙ h
+
+-- what the first of two tokens leaves
+inside_seen : (o : Origin) (c : ℕ) (ts : List Token) (s : Text) → (spelled : Spells o (Coded c ∷ ts) s) → starts o start.AlphaInside s ≡ (c == 40 && alpha_begins o (skipped o spelled.0))
+unfolding starts
+inside_seen o c ts s spelled =
+    let there : ahead o (skipped o s) ≡ (c, spelled.0) = spelled.1.0.reads in
+    ap (λ (x : ℕ × Text). x.0 == 40 && alpha_begins o (skipped o x.1)) there
+
+inside_closed : (o : Origin) (s : Text) → (class_at o s == 40) ≡ false → starts o start.AlphaInside s ≡ false
+unfolding starts
+inside_closed o s h = and_none _ _ h
+
+front_here : (u : Token) (us : List Token) → fronts (front_of u) (u ∷ []) ≡ true → fronts (front_of u) (u ∷ us) ≡ true
+front_here u us h = front_last (front_of u) u us ∙ h
+
+-- what stands behind a `(` begins no alpha operand
+not_inside : (o : Origin) (u : Token) (us : List Token) (s : Text) → number_token u ≡ true → Spells o (u ∷ us) s → alpha_begins o (skipped o s) ≡ false
+not_inside o u us s h spelled = says_alpha o (front_of u) false (u ∷ us) s (and_left _ _ (and_right (fronts (front_of u) (u ∷ [])) _ h)) (front_here u us (and_left _ _ h)) spelled
+
+yes_or : (a b : Bool) → (not a || b) ≡ true → a ≡ true → b ≡ true
+yes_or true b h k = h
+yes_or false b h k = cc
+
+inside_first : (o : Origin) (c : ℕ) (xs more : List Token) (s : Text) → Chain opens_well ((Coded c ∷ xs) ++ (Coded 41 ∷ [])) → Spells o (Coded c ∷ (xs ++ more)) s → starts o start.AlphaInside s ≡ false
+inside_first o c [] more s chain spelled = elim (either_way (c == 40)) [
+  | inl e ↦ never (number_token (Coded 41)) (yes_or (c == 40) _ (and_left _ _ chain.0) e) refl
+  | inr e ↦ inside_seen o c more s spelled ∙ and_none _ _ e
+]
+inside_first o c (u ∷ us) more s chain spelled = elim (either_way (c == 40)) [
+  | inl e ↦ inside_seen o c (u ∷ (us ++ more)) s spelled ∙ and_last (c == 40) _ (not_inside o u (us ++ more) spelled.0 (yes_or (c == 40) _ (and_left _ _ chain.0) e) spelled.1.1)
+  | inr e ↦ inside_seen o c (u ∷ (us ++ more)) s spelled ∙ and_none _ _ e
+]
+
+spanned_plain : (f : Front) (j : Leaf) (w : Text) (ts : List Token) → is_spanned f ≡ true → fronts f (Plain j w ∷ ts) ≡ false
+spanned_plain (Spanned a b) j w ts h = refl
+spanned_plain f j w ts h = cc
+
+spanned_lined : (f : Front) (x y : ℕ) (ts : List Token) → is_spanned f ≡ true → fronts f (Lined x y ∷ ts) ≡ false
+spanned_lined (Spanned a b) x y ts h = refl
+spanned_lined f x y ts h = cc
+
+inside_by : (o : Origin) (xs more : List Token) (s : Text) → (f : Front) → not_open f ≡ true → fronts f (xs ++ more) ≡ true → 0 < length xs → Chain opens_well (xs ++ (Coded 41 ∷ [])) → Spells o (xs ++ more) s
+    → starts o start.AlphaInside s ≡ false
+inside_by o [] more s f h m full chain spelled = absurd (omega (arith, full))
+inside_by o (Coded c ∷ xs) more s f h m full chain spelled = inside_first o c xs more s chain spelled
+inside_by o (Plain j w ∷ xs) more s f h m full chain spelled = elim (or_cases (is_spanned f) (sure ((40, 40) ∷ []) f false) h) [
+  | inl e ↦ never (fronts f (Plain j w ∷ (xs ++ more))) m (spanned_plain f j w (xs ++ more) e)
+  | inr e ↦ inside_closed o s (one_code 40 (class_at o s) false (class_says ((40, 40) ∷ []) o f false (Plain j w ∷ (xs ++ more)) s e m spelled))
+]
+inside_by o (Lined x y ∷ xs) more s f h m full chain spelled = elim (or_cases (is_spanned f) (sure ((40, 40) ∷ []) f false) h) [
+  | inl e ↦ never (fronts f (Lined x y ∷ (xs ++ more))) m (spanned_lined f x y (xs ++ more) e)
+  | inr e ↦ inside_closed o s (one_code 40 (class_at o s) false (class_says ((40, 40) ∷ []) o f false (Lined x y ∷ (xs ++ more)) s e m spelled))
+]
+
+row_begun : (inner : Trees) (o : Origin) (room n : ℕ) → Fits o room (row_items n) inner → not (of n).empty ≡ true → (more : List Token) → some (λ (f : Front). fronts f (tokens inner ++ more)) (of n).heads ≡ true
+row_begun inner o room n fits full more = elim (led_known n (tokens inner) more (leads inner o room (row_items n) fits more)) [
+  | inl g ↦ never (of n).empty g.1 (not_true _ full)
+  | inr g ↦ g
+]
+
+row_full : (inner : Trees) (o : Origin) (room n : ℕ) → Fits o room (row_items n) inner → not (of n).empty ≡ true → 0 < length (tokens inner)
+row_full inner o room n fits full = fills inner o room (row_items n) fits (ap (λ (k : Known). k.empty) (known n) ∙ not_true _ full)
+
+-- a sum is no scratched file
+inside_second : (o : Origin) (room : ℕ) (inner : Trees) (more : List Token) (s : Text) → Fits o room (row_items row.SUM) inner → Spells o (tokens inner ++ more) s → starts o start.AlphaInside s ≡ false
+inside_second o room inner more s fits spelled =
+    let rest = and_right (every not_open (of row.SUM).heads) _ sum_heads in
+    let ends_ = and_right (every not_b (of row.SUM).heads) _ rest in
+    let full = and_right (besides before_number (of row.SUM).ends (Spanned 41 41 ∷ [])) _ ends_ in
+    let one = some_front not_open (of row.SUM).heads (tokens inner ++ more) (and_left _ _ sum_heads) (row_begun inner o room row.SUM fits full more) in
+    inside_by o (tokens inner) more s one.0 one.1.0 one.1.1 (row_full inner o room row.SUM fits full) (well o room row.SUM inner refl (and_left _ _ ends_) fits) spelled
+
+-- B E G
+letters_seen : (o : Origin) (t : Token) (ts : List Token) (s : Text) → has_class t ≡ true → Spells o (t ∷ ts) s → starts o (start.Letters 66 69 71) s ≡ is_beg t ts
+unfolding starts
+letters_seen o t ts s h spelled = spelled.1.0.begs h
+
+letters_none : (o : Origin) (s : Text) → (class_at o s == 66) ≡ false → starts o (start.Letters 66 69 71) s ≡ false
+unfolding starts
+letters_none o s h = and_none _ _ h
+
+numeric_class : (f : Front) (j : Leaf) (w : Text) (ts : List Token) → is_numeric_name f ≡ true → fronts f (Plain j w ∷ ts) ≡ true → is_classed j ≡ true
+numeric_class (Hand leaf.Name) j w ts h m = ap is_classed (same_leaf leaf.Name j (and_left _ _ m))
+numeric_class (Hand leaf.LocalName) j w ts h m = ap is_classed (same_leaf leaf.LocalName j (and_left _ _ m))
+numeric_class (Hand k) j w ts h m = cc
+numeric_class Any j w ts h m = cc
+numeric_class None j w ts h m = cc
+numeric_class (Spanned a b) j w ts h m = cc
+numeric_class Numbered j w ts h m = cc
+
+abbrev is_plain_first : List Token → Bool
+is_plain_first [] = false
+is_plain_first (Coded c ∷ ts) = false
+is_plain_first (Plain j w ∷ ts) = true
+is_plain_first (Lined x y ∷ ts) = false
+
+numeric_front : (f : Front) (ts : List Token) → is_numeric_name f ≡ true → is_plain_first ts ≡ false → fronts f ts ≡ false
+numeric_front (Hand k) [] h m = refl
+numeric_front (Hand k) (Coded c ∷ ts) h m = refl
+numeric_front (Hand k) (Plain j w ∷ ts) h m = cc
+numeric_front (Hand k) (Lined x y ∷ ts) h m = refl
+numeric_front Any ts h m = cc
+numeric_front None ts h m = cc
+numeric_front (Spanned a b) ts h m = cc
+numeric_front Numbered ts h m = cc
+
+letters_by : (o : Origin) (f : Front) (ts : List Token) (s : Text) → is_numeric_name f ≡ true → fronts f ts ≡ true → Spells o ts s → starts o (start.Letters 66 69 71) s ≡ false
+letters_by o f (Plain j w ∷ ts) s h m spelled = letters_seen o (Plain j w) ts s (numeric_class f j w ts h m) spelled
+letters_by o f [] s h m spelled = never (fronts f []) m (numeric_front f [] h refl)
+letters_by o f (Coded c ∷ ts) s h m spelled = never (fronts f (Coded c ∷ ts)) m (numeric_front f (Coded c ∷ ts) h refl)
+letters_by o f (Lined x y ∷ ts) s h m spelled = never (fronts f (Lined x y ∷ ts)) m (numeric_front f (Lined x y ∷ ts) h refl)
+
+letters_second : (o : Origin) (room : ℕ) (inner : Trees) (more : List Token) (s : Text) → Fits o room (row_items row.SUM) inner → Spells o (tokens inner ++ more) s → starts o (start.Letters 66 69 71) s ≡ false
+letters_second o room inner more s fits spelled =
+    let rest = and_right (every not_open (of row.SUM).heads) _ sum_heads in
+    let ends_ = and_right (every not_b (of row.SUM).heads) _ rest in
+    let full = and_right (besides before_number (of row.SUM).ends (Spanned 41 41 ∷ [])) _ ends_ in
+    let one = some_front not_b (of row.SUM).heads (tokens inner ++ more) (and_left _ _ rest) (row_begun inner o room row.SUM fits full more) in
+    elim (or_cases (sure ((66, 66) ∷ []) one.0 false) (is_numeric_name one.0) one.1.0) [
+      | inl e ↦ letters_none o s (one_code 66 (class_at o s) false (class_says ((66, 66) ∷ []) o one.0 false (tokens inner ++ more) s e one.1.1 spelled))
+      | inr e ↦ letters_by o one.0 (tokens inner ++ more) s e one.1.1 spelled
+    ]
