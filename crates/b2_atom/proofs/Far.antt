@@ -268,3 +268,128 @@ letters_second o room inner more s fits spelled =
       | inl e ↦ letters_none o s (one_code 66 (class_at o s) false (class_says ((66, 66) ∷ []) o one.0 false (tokens inner ++ more) s e one.1.1 spelled))
       | inr e ↦ letters_by o one.0 (tokens inner ++ more) s e one.1.1 spelled
     ]
+
+-- no word begins with `(`
+open_first : (o : Origin) (bs : Text) → ahead o (40 ∷ bs) ≡ (40, bs)
+unfolding word_at
+open_first origin.Program bs = refl
+open_first origin.Immediate bs = refl
+open_first origin.Atoms bs = refl
+
+open_ahead : (o : Origin) (v : Text) → (first v == 40) ≡ true → ahead o v ≡ (40, drop 1 v)
+open_ahead o [] h = cc
+open_ahead o (b ∷ bs) h = ap (λ (n : ℕ). ahead o (n ∷ bs)) (equal b 40 h) ∙ open_first o bs
+
+code_seen : (o : Origin) (s : Text) → starts o (start.Code 40) s ≡ false → (class_at o s == 40) ≡ false
+unfolding starts
+code_seen o s h = h
+
+not_open_there : (o : Origin) (r : Text) → (class_at o r == 40) ≡ false → (first (skipped o r) == 40) ≡ false
+not_open_there o r h = elim (either_way (first (skipped o r) == 40)) [
+  | inl e ↦ never (class_at o r == 40) (ap (λ (x : ℕ × Text). x.0 == 40) (open_ahead o (skipped o r) e)) h
+  | inr e ↦ e
+]
+
+abbrev OpenAndClosed : Origin → Text → Bool
+OpenAndClosed o r = first (skipped o r) == 40 && first (skipped o (drop 1 (skipped o r))) == 41
+
+close_there : (o : Origin) (d : ℕ) (ts : List Token) (x : Token) (r : Text) → (first (skipped o r) == 40) ≡ true → number_token x ≡ true → Spells o (Coded d ∷ x ∷ ts) r
+    → (first (skipped o (drop 1 (skipped o r))) == 41) ≡ false
+close_there o d ts x r open_ num spelled =
+    let same : drop 1 (skipped o r) ≡ spelled.0 = ap (λ (y : ℕ × Text). y.1) (sym (open_ahead o (skipped o r) open_) ∙ spelled.1.0.reads) in
+    let rest = and_right (alpha (front_of x) false) _ (and_right (fronts (front_of x) (x ∷ [])) _ num) in
+    ap (λ (u : Text). first (skipped o u) == 41) same ∙ spelled.1.1.1.0.closes (and_left _ _ rest) ∙ not_true (is_code 41 x) (and_right (has_class x) _ rest)
+
+no_array_code : (o : Origin) (d : ℕ) (us more : List Token) (r : Text) → Chain opens_well ((Coded d ∷ us) ++ (Coded 41 ∷ [])) → Spells o (Coded d ∷ (us ++ more)) r → OpenAndClosed o r ≡ false
+no_array_code o d [] more r chain spelled = elim (either_way (d == 40)) [
+  | inl e ↦ never (number_token (Coded 41)) (yes_or (d == 40) _ (and_left _ _ chain.0) e) refl
+  | inr e ↦ and_none _ _ (spelled.1.0.opens refl ∙ e)
+]
+no_array_code o d (x ∷ us) more r chain spelled = elim (either_way (d == 40)) [
+  | inl e ↦ and_last (first (skipped o r) == 40) _ (close_there o d (us ++ more) x r (spelled.1.0.opens refl ∙ e) (yes_or (d == 40) _ (and_left _ _ chain.0) e) spelled)
+  | inr e ↦ and_none _ _ (spelled.1.0.opens refl ∙ e)
+]
+
+-- behind a name of an expression no `(` `)` stands
+no_array : (o : Origin) (t : Token) (xs more : List Token) (r : Text) → named_token t ≡ true → Chain opens_well ((t ∷ xs) ++ (Coded 41 ∷ [])) → ((s : Text) → Spells o more s → starts o (start.Code 40) s ≡ false)
+    → Spells o (xs ++ more) r → OpenAndClosed o r ≡ false
+no_array o t [] more r named chain refused spelled = and_none _ _ (not_open_there o r (code_seen o r (refused r spelled)))
+no_array o t (Coded d ∷ us) more r named chain refused spelled = no_array_code o d us more r chain.1 spelled
+no_array o t (Plain j w ∷ us) more r named chain refused spelled =
+    and_none _ _ (spelled.1.0.opens (yes_or (named_token t) _ (and_right (not (is_code 40 t) || number_token (Plain j w)) _ chain.0) named))
+no_array o t (Lined x y ∷ us) more r named chain refused spelled = never false (yes_or (named_token t) _ (and_right (not (is_code 40 t) || number_token (Lined x y)) _ chain.0) named) refl
+
+-- what a name shows
+array_is : (o : Origin) (n : ℕ) (v r : Text) → any_name_width o v ≡ n → drop n v ≡ r → array_of o (any_name_width o v) v ≡ (nat_lt 0 n && OpenAndClosed o r)
+array_is o n v r h k = ap (λ (m : ℕ). array_of o m v) h ∙ ap (λ (x : Text). nat_lt 0 n && OpenAndClosed o x) k
+
+numeric_width : (o : Origin) (v : Text) (n : ℕ) → is_alpha_name o v ≡ false → name_width o v ≡ n → any_name_width o v ≡ n
+numeric_width o v n h k = ap (λ (b : Bool). if b then alpha_name_width o v else name_width o v) h ∙ k
+
+alpha_width : (o : Origin) (v : Text) (n : ℕ) → is_alpha_name o v ≡ true → name_width o v ≡ n → any_name_width o v ≡ n + 1
+alpha_width o v n h k = ap (λ (b : Bool). if b then (if b then name_width o v + 1 else 0) else name_width o v) h ∙ ap (λ (m : ℕ). m + 1) k
+
+less_one : (n : ℕ) → nat_lt 0 n ≡ true → n - 1 + 1 ≡ n
+less_one n h = grind (arith, nat_tests)
+
+named_width : (o : Origin) (k j : Leaf) (w s r : Text) → is_named k ≡ true → j ≡ k → is_whole j w ≡ true → ShowsName o (Plain j w) s r → (any_name_width o (skipped o s) ≡ length w) × (drop (length w) (skipped o s) ≡ r)
+named_width o leaf.Name j w s r h same whole shown =
+    let P : Leaf → Type 0 = λ l. ShowsName o (Plain l w) s r in
+    let n : Named o false (length w) w (skipped o s) r = subst P same shown in
+    (numeric_width o (skipped o s) (length w) n.alpha n.width_is, n.behind)
+named_width o leaf.AlphaName j w s r h same whole shown =
+    let P : Leaf → Type 0 = λ l. ShowsName o (Plain l w) s r in
+    let W : Leaf → Type 0 = λ l. is_whole l w ≡ true in
+    let n : Named o true (length w - 1) w (skipped o s) r = subst P same shown in
+    (alpha_width o (skipped o s) (length w - 1) n.alpha n.width_is ∙ less_one (length w) (and_left _ _ (subst W same whole)), n.behind)
+named_width o k j w s r h same whole shown = cc
+
+array_none : (o : Origin) (s : Text) → spans name_spans (class_at o s) ≡ false → starts o start.Array s ≡ false
+unfolding starts
+array_none o s h =
+    let none = not_named o (skipped o s) h in
+    ap (λ (m : ℕ). array_of o m (skipped o s)) (numeric_width o (skipped o s) 0 (not_alpha o (skipped o s) none) none)
+
+array_seen : (o : Origin) (k j : Leaf) (w : Text) (ts : List Token) (s : Text) → is_named k ≡ true → j ≡ k → is_whole j w ≡ true → (spelled : Spells o (Plain j w ∷ ts) s)
+    → starts o start.Array s ≡ (nat_lt 0 (length w) && OpenAndClosed o spelled.0)
+unfolding starts
+array_seen o k j w ts s h same whole spelled =
+    let n = named_width o k j w s spelled.0 h same whole spelled.1.0.name in array_is o (length w) (skipped o s) spelled.0 n.0 n.1
+
+code_open : (o : Origin) (c : ℕ) (more : List Token) → (c == 40) ≡ true → RefusedBy o (Asked (start.Code c)) more → (s : Text) → Spells o more s → starts o (start.Code 40) s ≡ false
+code_open o c more h r s spelled = ap (λ (n : ℕ). starts o (start.Code n) s) (sym (equal c 40 h)) ∙ r s spelled
+
+tail_open : (o : Origin) (t : Tail) (more : List Token) → asks_open t ≡ true → RefusedBy o t more → (s : Text) → Spells o more s → starts o (start.Code 40) s ≡ false
+tail_open o (Asked (start.Code c)) more h r s spelled = code_open o c more h r s spelled
+tail_open o t more h r s spelled = cc
+
+refused_open : (o : Origin) (ts : List Tail) (more : List Token) → some_tail asks_open ts ≡ true → Refused o ts more → (s : Text) → Spells o more s → starts o (start.Code 40) s ≡ false
+refused_open o [] more h r s spelled = cc
+refused_open o (t ∷ ts) more h r s spelled = elim (or_cases (asks_open t) (some_tail asks_open ts) h) [
+  | inl e ↦ tail_open o t more e r.0 s spelled
+  | inr e ↦ refused_open o ts more e r.1 s spelled
+]
+
+array_by : (o : Origin) (f : Front) (xs more : List Token) (s : Text) → named_or_not f ≡ true → fronts f (xs ++ more) ≡ true → 0 < length xs → Chain opens_well (xs ++ (Coded 41 ∷ []))
+    → ((u : Text) → Spells o more u → starts o (start.Code 40) u ≡ false) → Spells o (xs ++ more) s → starts o start.Array s ≡ false
+array_by o (Hand k) [] more s h m full chain refused spelled = absurd (omega (arith, full))
+array_by o (Hand k) (Plain j w ∷ xs) more s h m full chain refused spelled = elim (or_cases (is_named k) (sure name_spans (Hand k) false) h) [
+  | inl e ↦ (let same = same_leaf k j (and_left _ _ m) in
+    array_seen o k j w (xs ++ more) s e same (and_right (leaf_number j == leaf_number k) _ m) spelled
+    ∙ and_last (nat_lt 0 (length w)) _ (no_array o (Plain j w) xs more spelled.0 (ap is_named same ∙ e) chain refused spelled.1.1))
+  | inr e ↦ array_none o s (class_says name_spans o (Hand k) false (Plain j w ∷ (xs ++ more)) s e m spelled)
+]
+array_by o (Hand k) (Coded c ∷ xs) more s h m full chain refused spelled = cc
+array_by o (Hand k) (Lined x y ∷ xs) more s h m full chain refused spelled = cc
+array_by o Any xs more s h m full chain refused spelled = cc
+array_by o None xs more s h m full chain refused spelled = array_none o s (class_says name_spans o None false (xs ++ more) s h m spelled)
+array_by o (Spanned a b) xs more s h m full chain refused spelled = array_none o s (class_says name_spans o (Spanned a b) false (xs ++ more) s h m spelled)
+array_by o Numbered xs more s h m full chain refused spelled = array_none o s (class_says name_spans o Numbered false (xs ++ more) s h m spelled)
+
+array_second : (o : Origin) (room k : ℕ) (inner : Trees) (more : List Token) (s : Text) → is_expression k ≡ true → ends_open k ≡ true → not (of k).empty ≡ true → Fits o room (row_items k) inner
+    → Refused o (of k).tails more → Spells o (tokens inner ++ more) s → starts o start.Array s ≡ false
+array_second o room k inner more s within ends_ full fits refused spelled =
+    let rest = and_right (some_tail asks_open (of k).tails) _ ends_ in
+    let one = some_front named_or_not (of k).heads (tokens inner ++ more) (and_right (besides before_number (of k).ends (Spanned 41 41 ∷ [])) _ rest) (row_begun inner o room k fits full more) in
+    array_by o one.0 (tokens inner) more s one.1.0 one.1.1 (row_full inner o room k fits full) (well o room k inner within (and_left _ _ rest) fits)
+    (refused_open o (of k).tails more (and_left _ _ ends_) refused) spelled

@@ -61,3 +61,7 @@ sum_heads = refl
 pub alpha_heads : (every (λ (f : Front). alpha f true) (of row.ALPHA).heads && not (of row.ALPHA).empty) ≡ true
 unfolding of_row of row_items
 alpha_heads = refl
+
+pub operand_full : (not (of row.OPERAND_OF_ANY_KIND).empty && not (of row.RECEIVER).empty) ≡ true
+unfolding of_row of row_items
+operand_full = refl
