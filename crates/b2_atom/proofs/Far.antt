@@ -27,7 +27,7 @@ use Rattle.b2_atom.proofs.Fronts.Tail.{Asked, Closed, Over}
 use Rattle.b2_atom.proofs.FrontAnswers.{some_front, class_says, says_alpha, same_leaf, not_named, not_alpha}
 use Rattle.b2_atom.proofs.Heads.{known, Refused, RefusedBy, leads, led_known, fills}
 use Rattle.b2_atom.proofs.Pairs.{TwoTokens, Tells, Chain, Follows, chained, front_last, before_fronts}
-use Rattle.b2_atom.proofs.FarSettled.{row_within, operand_ends, receiver_ends, sum_heads, alpha_heads}
+use Rattle.b2_atom.proofs.FarSettled.{row_within, operand_ends, receiver_ends, sum_heads, alpha_heads, operand_full}
 use Rattle.b2_atom.proofs.Choice.{skipped_twice}
 
 -- the front of a token by itself
@@ -393,3 +393,177 @@ array_second o room k inner more s within ends_ full fits refused spelled =
     let one = some_front named_or_not (of k).heads (tokens inner ++ more) (and_right (besides before_number (of k).ends (Spanned 41 41 ∷ [])) _ rest) (row_begun inner o room k fits full more) in
     array_by o one.0 (tokens inner) more s one.1.0 one.1.1 (row_full inner o room k fits full) (well o room k inner within (and_left _ _ rest) fits)
     (refused_open o (of k).tails more (and_left _ _ ends_) refused) spelled
+
+-- the first token of a tree
+abbrev Step : Origin → ℕ → Item → List Item → Trees → Type 0
+Step o room i is a = (t : Token) × ((ts : Trees) × ((fits_token o i t ≡ true) × (Fits o room is ts × (a ≡ Put t ts))))
+
+sign_step : (o : Origin) (room c code : ℕ) (is : List Item) (a : Trees) → Fits o room (Sign c code ∷ is) a → Step o room (Sign c code) is a
+sign_step o room c code is Done h = cc
+sign_step o room c code is (Put t ts) h = (t, (ts, (h.0, (h.1, refl))))
+sign_step o room c code is (In m inner ts) h = absurd h
+
+named_step : (o : Origin) (room : ℕ) (k : Leaf) (code : ℕ) (is : List Item) (a : Trees) → is_named k ≡ true → Fits o room (Typed k code ∷ is) a → Step o room (Typed k code) is a
+named_step o room leaf.Name code is Done n h = cc
+named_step o room leaf.AlphaName code is Done n h = cc
+named_step o room k code is Done n h = cc
+named_step o room k code is (Put t ts) n h = (t, (ts, (h.0, (h.1, refl))))
+named_step o room k code is (In m inner ts) n h = absurd h
+
+array_tokens : (o : Origin) (k j : Leaf) (w : Text) (d e : ℕ) (ts : List Token) (s : Text) → is_named k ≡ true → j ≡ k → is_whole j w ≡ true → nat_lt 0 (length w) ≡ true → (d == 40) ≡ true → (e == 41) ≡ true
+    → Spells o (Plain j w ∷ Coded d ∷ Coded e ∷ ts) s → starts o start.Array s ≡ true
+array_tokens o k j w d e ts s named same whole full open_ close spelled =
+    let r = spelled.0 in
+    let there = spelled.1.1 in
+    let first_open : (first (skipped o r) == 40) ≡ true = there.1.0.opens refl ∙ open_ in
+    let next : drop 1 (skipped o r) ≡ there.0 = ap (λ (y : ℕ × Text). y.1) (sym (open_ahead o (skipped o r) first_open) ∙ there.1.0.reads) in
+    array_seen o k j w (Coded d ∷ Coded e ∷ ts) s named same whole spelled
+    ∙ both (nat_lt 0 (length w)) _ full (both (first (skipped o r) == 40) _ first_open (ap (λ (u : Text). first (skipped o u) == 41) next ∙ there.1.1.1.0.closes refl ∙ close))
+
+named_full : (k j : Leaf) (w : Text) → is_named k ≡ true → j ≡ k → is_whole j w ≡ true → nat_lt 0 (length w) ≡ true
+named_full leaf.Name j w n same whole = let W : Leaf → Type 0 = λ l. is_whole l w ≡ true in and_left _ _ (subst W same whole)
+named_full leaf.AlphaName j w n same whole = let W : Leaf → Type 0 = λ l. is_whole l w ≡ true in and_left _ _ (subst W same whole)
+named_full k j w n same whole = cc
+
+not_lined : (k : Leaf) (x : Bool) → is_named k ≡ true → (leaf_number k == 7 && x) ≡ true → ⊥
+not_lined leaf.Name x n h = cc
+not_lined leaf.AlphaName x n h = cc
+not_lined k x n h = cc
+
+array_put : (o : Origin) (k : Leaf) (c1 c2 c3 : ℕ) (t u v : Token) (ts : List Token) (s : Text) → is_named k ≡ true → fits_token o (Typed k c1) t ≡ true → fits_token o (Sign 40 c2) u ≡ true
+    → fits_token o (Sign 41 c3) v ≡ true → Spells o (t ∷ u ∷ v ∷ ts) s → starts o start.Array s ≡ true
+array_put o k c1 c2 c3 (Plain j w) (Coded d) (Coded e) ts s named h i l spelled =
+    let same = same_leaf k j (and_left _ _ h) in
+    let whole = and_right (leaf_number j == leaf_number k) _ h in
+    array_tokens o k j w d e ts s named same whole (named_full k j w named same whole) i l spelled
+array_put o k c1 c2 c3 (Coded c) u v ts s named h i l spelled = cc
+array_put o k c1 c2 c3 (Lined x y) u v ts s named h i l spelled = absurd (not_lined k _ named h)
+array_put o k c1 c2 c3 (Plain j w) (Plain x y) v ts s named h i l spelled = cc
+array_put o k c1 c2 c3 (Plain j w) (Lined x y) v ts s named h i l spelled = cc
+array_put o k c1 c2 c3 (Plain j w) (Coded d) (Plain x y) ts s named h i l spelled = cc
+array_put o k c1 c2 c3 (Plain j w) (Coded d) (Lined x y) ts s named h i l spelled = cc
+
+array_row : (o : Origin) (room : ℕ) (k : Leaf) (c1 c2 c3 : ℕ) (a : Trees) (more : List Token) (s : Text) → is_named k ≡ true → Fits o room (Typed k c1 ∷ Sign 40 c2 ∷ Sign 41 c3 ∷ []) a
+    → Spells o (tokens a ++ more) s → starts o start.Array s ≡ true
+array_row o room k c1 c2 c3 a more s named fits spelled =
+    let one = named_step o room k c1 (Sign 40 c2 ∷ Sign 41 c3 ∷ []) a named fits in
+    let two_ = sign_step o room 40 c2 (Sign 41 c3 ∷ []) one.1.0 one.1.1.1.0 in
+    let three = sign_step o room 41 c3 [] two_.1.0 two_.1.1.1.0 in
+    let same : tokens a ≡ one.0 ∷ two_.0 ∷ three.0 ∷ tokens three.1.0 =
+      ap tokens one.1.1.1.1 ∙ ap (λ (b : Trees). one.0 ∷ tokens b) two_.1.1.1.1 ∙ ap (λ (b : Trees). one.0 ∷ two_.0 ∷ tokens b) three.1.1.1.1 in
+    let P : List Token → Type 0 = λ l. Spells o (l ++ more) s in
+    array_put o k c1 c2 c3 one.0 two_.0 three.0 (tokens three.1.0 ++ more) s named one.1.1.0 two_.1.1.0 three.1.1.0 (subst P same spelled)
+
+apart_tokens : (o : Origin) (xs ys more : List Token) (s : Text) → Spells o ((xs ++ ys) ++ more) s → Spells o (xs ++ (ys ++ more)) s
+apart_tokens o xs ys more s h = let P : List Token → Type 0 = λ l. Spells o l s in subst P (append_assoc xs ys more) h
+
+array_first : (o : Origin) (room : ℕ) (inner : Trees) (more : List Token) (s : Text) → Fits o room (row_items row.WHOLE_ARRAY) inner → Spells o (tokens inner ++ more) s → starts o start.Array s ≡ true
+unfolding row_items
+array_first o room Done more s h spelled = cc
+array_first o room (Put (Coded c) ts) more s h spelled = never false h.0 refl
+array_first o room (Put (Plain j w) ts) more s h spelled = never false h.0 refl
+array_first o room (Put (Lined x y) ts) more s h spelled = never false h.0 refl
+array_first o room (In zero a ts) more s h spelled = array_row o room leaf.Name 20 10 11 a (tokens ts ++ more) s refl h.0 (apart_tokens o (tokens a) (tokens ts) more s spelled)
+array_first o room (In (suc zero) a ts) more s h spelled = array_row o room leaf.AlphaName 20 10 11 a (tokens ts ++ more) s refl h.0 (apart_tokens o (tokens a) (tokens ts) more s spelled)
+array_first o room (In (suc (suc m)) a ts) more s h spelled = absurd h
+
+-- a scratched file
+alpha_row : (o : Origin) (room : ℕ) (b : Trees) (more : List Token) (s : Text) → Fits o room (row_items row.ALPHA) b → Spells o (tokens b ++ more) s → alpha_begins o (skipped o s) ≡ true
+alpha_row o room b more s fits spelled =
+    let one = some_front (λ (f : Front). alpha f true) (of row.ALPHA).heads (tokens b ++ more) (and_left _ _ alpha_heads)
+      (row_begun b o room row.ALPHA fits (and_right (every (λ (f : Front). alpha f true) (of row.ALPHA).heads) _ alpha_heads) more) in
+    says_alpha o one.0 true (tokens b ++ more) s one.1.0 one.1.1 spelled
+
+nest_alpha : (o : Origin) (room : ℕ) (is : List Item) (a : Trees) (more : List Token) (s : Text) → Fits o room (Nest row.ALPHA ∷ is) a → Spells o (tokens a ++ more) s → alpha_begins o (skipped o s) ≡ true
+nest_alpha o room is Done more s h spelled = cc
+nest_alpha o room is (Put (Coded c) ts) more s h spelled = never false h.0 refl
+nest_alpha o room is (Put (Plain j w) ts) more s h spelled = never false h.0 refl
+nest_alpha o room is (Put (Lined x y) ts) more s h spelled = never false h.0 refl
+nest_alpha o zero is (In m b ts) more s h spelled = absurd h
+nest_alpha o (suc room) is (In m b ts) more s h spelled = alpha_row o room b (tokens ts ++ more) s h.1.0 (apart_tokens o (tokens b) (tokens ts) more s spelled)
+
+inside_put : (o : Origin) (room code : ℕ) (is : List Item) (t : Token) (ts : Trees) (more : List Token) (s : Text) → fits_token o (Sign 40 code) t ≡ true → Fits o room (Nest row.ALPHA ∷ is) ts
+    → Spells o (t ∷ (tokens ts ++ more)) s → starts o start.AlphaInside s ≡ true
+inside_put o room code is (Coded c) ts more s h fits spelled =
+    inside_seen o c (tokens ts ++ more) s spelled ∙ both (c == 40) _ h (nest_alpha o room is ts more spelled.0 fits spelled.1.1)
+inside_put o room code is (Plain j w) ts more s h fits spelled = cc
+inside_put o room code is (Lined x y) ts more s h fits spelled = cc
+
+inside_row : (o : Origin) (room code : ℕ) (is : List Item) (a : Trees) (more : List Token) (s : Text) → Fits o room (Sign 40 code ∷ Nest row.ALPHA ∷ is) a → Spells o (tokens a ++ more) s
+    → starts o start.AlphaInside s ≡ true
+inside_row o room code is a more s fits spelled =
+    let one = sign_step o room 40 code (Nest row.ALPHA ∷ is) a fits in
+    let P : List Token → Type 0 = λ l. Spells o (l ++ more) s in
+    inside_put o room code is one.0 one.1.0 more s one.1.1.0 one.1.1.1.0 (subst P (ap tokens one.1.1.1.1) spelled)
+
+inside_first_row : (o : Origin) (room : ℕ) (inner : Trees) (more : List Token) (s : Text) → Fits o room (row_items row.SCRATCHED_FILE) inner → Spells o (tokens inner ++ more) s → starts o start.AlphaInside s ≡ true
+unfolding row_items
+inside_first_row o room inner more s fits spelled = inside_row o room 10 (Sign 41 11 ∷ []) inner more s fits spelled
+
+-- B E G
+three_codes : (o : Origin) (c d e : ℕ) (ts : List Token) (s : Text) → (c == 66) ≡ true → (d == 69) ≡ true → (e == 71) ≡ true → Spells o (Coded c ∷ Coded d ∷ Coded e ∷ ts) s
+    → starts o (start.Letters 66 69 71) s ≡ true
+three_codes o c d e ts s h i l spelled = letters_seen o (Coded c) (Coded d ∷ Coded e ∷ ts) s refl spelled ∙ both (c == 66) _ h (both (d == 69) _ i l)
+
+beg_put : (o : Origin) (c1 c2 c3 : ℕ) (t u v : Token) (ts : List Token) (s : Text) → fits_token o (Sign 66 c1) t ≡ true → fits_token o (Sign 69 c2) u ≡ true
+    → fits_token o (Sign 71 c3) v ≡ true → Spells o (t ∷ u ∷ v ∷ ts) s → starts o (start.Letters 66 69 71) s ≡ true
+beg_put o c1 c2 c3 (Coded c) (Coded d) (Coded e) ts s h i l spelled = three_codes o c d e ts s h i l spelled
+beg_put o c1 c2 c3 (Plain j w) u v ts s h i l spelled = cc
+beg_put o c1 c2 c3 (Lined x y) u v ts s h i l spelled = cc
+beg_put o c1 c2 c3 (Coded c) (Plain x y) v ts s h i l spelled = cc
+beg_put o c1 c2 c3 (Coded c) (Lined x y) v ts s h i l spelled = cc
+beg_put o c1 c2 c3 (Coded c) (Coded d) (Plain x y) ts s h i l spelled = cc
+beg_put o c1 c2 c3 (Coded c) (Coded d) (Lined x y) ts s h i l spelled = cc
+
+beg_row : (o : Origin) (room c1 c2 c3 : ℕ) (a : Trees) (more : List Token) (s : Text) → Fits o room (Sign 66 c1 ∷ Sign 69 c2 ∷ Sign 71 c3 ∷ []) a
+    → Spells o (tokens a ++ more) s → starts o (start.Letters 66 69 71) s ≡ true
+beg_row o room c1 c2 c3 a more s fits spelled =
+    let one = sign_step o room 66 c1 (Sign 69 c2 ∷ Sign 71 c3 ∷ []) a fits in
+    let two_ = sign_step o room 69 c2 (Sign 71 c3 ∷ []) one.1.0 one.1.1.1.0 in
+    let three = sign_step o room 71 c3 [] two_.1.0 two_.1.1.1.0 in
+    let same : tokens a ≡ one.0 ∷ two_.0 ∷ three.0 ∷ tokens three.1.0 =
+      ap tokens one.1.1.1.1 ∙ ap (λ (b : Trees). one.0 ∷ tokens b) two_.1.1.1.1 ∙ ap (λ (b : Trees). one.0 ∷ two_.0 ∷ tokens b) three.1.1.1.1 in
+    let P : List Token → Type 0 = λ l. Spells o (l ++ more) s in
+    beg_put o c1 c2 c3 one.0 two_.0 three.0 (tokens three.1.0 ++ more) s one.1.1.0 two_.1.1.0 three.1.1.0 (subst P same spelled)
+
+beg_first : (o : Origin) (room : ℕ) (inner : Trees) (more : List Token) (s : Text) → Fits o room (row_items row.BEG) inner → Spells o (tokens inner ++ more) s → starts o (start.Letters 66 69 71) s ≡ true
+unfolding row_items
+beg_first o room inner more s fits spelled = beg_row o room 22 22 22 inner more s fits spelled
+
+-- all of them
+fits_same : (o : Origin) (room n m : ℕ) (inner : Trees) → (n == m) ≡ true → Fits o room (row_items n) inner → Fits o room (row_items m) inner
+fits_same o room n m inner h fits = let P : ℕ → Type 0 = λ k. Fits o room (row_items k) inner in subst P (equal n m h) fits
+
+letters_same : (o : Origin) (a b c : ℕ) (s : Text) (x : Bool) → (a == 66) ≡ true → (b == 69) ≡ true → (c == 71) ≡ true → starts o (start.Letters 66 69 71) s ≡ x → starts o (start.Letters a b c) s ≡ x
+letters_same o a b c s x h i l is = (λ j. starts o (start.Letters (equal a 66 h j) (equal b 69 i j) (equal c 71 l j)) s) ∙ is
+
+pub far_first : (o : Origin) (st : Start) (n k room : ℕ) (inner : Trees) (more : List Token) (s : Text) → is_far st n k ≡ true → Fits o room (row_items n) inner
+    → Spells o (tokens inner ++ more) s → starts o st s ≡ true
+far_first o start.Array n k room inner more s h fits spelled = array_first o room inner more s (fits_same o room n row.WHOLE_ARRAY inner (and_left _ _ h) fits) spelled
+far_first o start.AlphaInside n k room inner more s h fits spelled = inside_first_row o room inner more s (fits_same o room n row.SCRATCHED_FILE inner (and_left _ _ h) fits) spelled
+far_first o (start.Letters a b c) n k room inner more s h fits spelled =
+    let rest = and_right (a == 66) _ h in
+    let letters = and_left (b == 69 && c == 71) _ rest in
+    letters_same o a b c s true (and_left _ _ h) (and_left _ _ letters) (and_right (b == 69) _ letters)
+    (beg_first o room inner more s (fits_same o room n row.BEG inner (and_left _ _ (and_right (b == 69 && c == 71) _ rest)) fits) spelled)
+far_first o st n k room inner more s h fits spelled = cc
+
+array_other : (o : Origin) (k room : ℕ) (inner : Trees) (more : List Token) (s : Text) → (k == row.OPERAND_OF_ANY_KIND || k == row.RECEIVER) ≡ true → Fits o room (row_items k) inner
+    → Refused o (of k).tails more → Spells o (tokens inner ++ more) s → starts o start.Array s ≡ false
+array_other o k room inner more s h fits refused spelled = elim (or_cases (k == row.OPERAND_OF_ANY_KIND) (k == row.RECEIVER) h) [
+  | inl e ↦ (let P : ℕ → Type 0 = λ n. Refused o (of n).tails more in
+    array_second o room row.OPERAND_OF_ANY_KIND inner more s refl operand_ends (and_left _ _ operand_full) (fits_same o room k row.OPERAND_OF_ANY_KIND inner e fits) (subst P (equal k row.OPERAND_OF_ANY_KIND e) refused) spelled)
+  | inr e ↦ (let P : ℕ → Type 0 = λ n. Refused o (of n).tails more in
+    array_second o room row.RECEIVER inner more s refl receiver_ends (and_right (not (of row.OPERAND_OF_ANY_KIND).empty) _ operand_full) (fits_same o room k row.RECEIVER inner e fits) (subst P (equal k row.RECEIVER e) refused) spelled)
+]
+
+pub far_second : (o : Origin) (st : Start) (n k room : ℕ) (inner : Trees) (more : List Token) (s : Text) → is_far st n k ≡ true → Fits o room (row_items k) inner
+    → Refused o (of k).tails more → Spells o (tokens inner ++ more) s → starts o st s ≡ false
+far_second o start.Array n k room inner more s h fits refused spelled = array_other o k room inner more s (and_right (n == row.WHOLE_ARRAY) _ h) fits refused spelled
+far_second o start.AlphaInside n k room inner more s h fits refused spelled = inside_second o room inner more s (fits_same o room k row.SUM inner (and_right (n == row.SCRATCHED_FILE) _ h) fits) spelled
+far_second o (start.Letters a b c) n k room inner more s h fits refused spelled =
+    let rest = and_right (a == 66) _ h in
+    let letters = and_left (b == 69 && c == 71) _ rest in
+    letters_same o a b c s false (and_left _ _ h) (and_left _ _ letters) (and_right (b == 69) _ letters)
+    (letters_second o room inner more s (fits_same o room k row.SUM inner (and_right (n == row.BEG) _ (and_right (b == 69 && c == 71) _ rest)) fits) spelled)
+far_second o st n k room inner more s h fits refused spelled = cc
