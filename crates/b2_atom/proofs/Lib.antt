@@ -11,6 +11,7 @@ pub mod LineNumbers
 pub mod Keywords
 pub mod LeavesRead
 pub mod LeafFronts
+pub mod CleanLeaves
 pub mod Begun
 pub mod SideBySide
 pub mod Lettered
