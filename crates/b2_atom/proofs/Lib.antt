@@ -21,3 +21,4 @@ pub mod SpellsSource
 pub mod WholeLeaves
 pub mod WholeNames
 pub mod GoodLeaves
+pub mod Printable
