@@ -2,6 +2,16 @@ pub mod Binds
 pub mod Units
 pub mod Sound
 pub mod Codes
+pub mod Fronts
+pub mod Tests
+pub mod FrontAnswers
+pub mod Settled
+pub mod Heads
+pub mod Complete
+pub mod Branches
+pub mod ReadBack
+pub mod Choice
+pub mod Pairs
 pub mod Longest
 pub mod WordsRead
 pub mod Widths

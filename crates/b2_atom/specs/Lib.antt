@@ -6,4 +6,5 @@ pub mod Table
 pub mod Grammar
 pub mod Lines
 pub mod Spelling
+pub mod Fitting
 pub mod Laws
