@@ -32,3 +32,4 @@ pub mod WholeLeaves
 pub mod WholeNames
 pub mod GoodLeaves
 pub mod Printable
+pub mod Fitted
