@@ -55,7 +55,7 @@ append_remarks (t ∷ u) v h k =
 also_remarks : (a b : Trees) → no_remark (tokens a) ≡ true → no_remark (tokens b) ≡ true → no_remark (tokens (also a b)) ≡ true
 also_remarks a b h k = ap no_remark (tokens_also a b) ∙ append_remarks (tokens a) (tokens b) h k
 
-le_both : (a b c : ℕ) → a ≤ b → b ≤ c → a ≤ c
+pub le_both : (a b c : ℕ) → a ≤ b → b ≤ c → a ≤ c
 le_both a b c h k = omega arith
 
 good_joined : (P Q R : Trees → Type 0) (s : Text) (a : Trees) (rest : Text) (u : Outcome) → ((a b : Trees) → P a → Q b → R (also a b))
@@ -89,10 +89,10 @@ pub skip_short : (t : Text) → length (skip_blanks t) ≤ length t
 skip_short [] = omega arith
 skip_short (b ∷ t) = skip_by (b == 32) b t (skip_short t)
 
-drop_short : (n : ℕ) (t : Text) → length (drop n t) ≤ length t
+pub drop_short : (n : ℕ) (t : Text) → length (drop n t) ≤ length t
 drop_short n t = omega (arith, length-drop n t)
 
-skipped_short : (o : Origin) (t : Text) → length (skipped o t) ≤ length t
+pub skipped_short : (o : Origin) (t : Text) → length (skipped o t) ≤ length t
 skipped_short Program t = skip_short t
 skipped_short Immediate t = skip_short t
 skipped_short Atoms t = omega arith
@@ -133,7 +133,7 @@ ahead_less Program a y = typed_short (word_at (a ∷ y)) a y ((word_at (a ∷ y)
 ahead_less Immediate a y = typed_short (word_at (a ∷ y)) a y ((word_at (a ∷ y)).0 == 0) (nat_le 104 (word_at (a ∷ y)).1) refl
 ahead_less Atoms a y = omega arith
 
-nothing_left : (o : Origin) → ahead o [] ≡ (0, [])
+pub nothing_left : (o : Origin) → ahead o [] ≡ (0, [])
 nothing_left Program = typed_end
 nothing_left Immediate = typed_end
 nothing_left Atoms = refl
@@ -195,7 +195,7 @@ leaf_short o leaf.LineNumber code s = line_short o code s
 leaf_short o leaf.Text code s = text_short code s
 leaf_short o k code s = plain_short o k code s
 
-same_code : (c : ℕ) → (c == c) ≡ true
+pub same_code : (c : ℕ) → (c == c) ≡ true
 same_code c = grind (arith, nat_tests)
 
 leaf_token : (o : Origin) (k : Leaf) (code : ℕ) (j : Leaf) (w : Text) → j ≡ k → is_whole k w ≡ true → fits_token o (Typed k code) (Plain j w) ≡ true
@@ -368,7 +368,7 @@ many_good o room st n p is h (suc f) s =
     (many_good o room st n p is h f))
     (none_good o room is s (Leads o room (Many st n) is) (λ b fit. (refl, fit)))
 
-calm_item_good : (o : Origin) (room : ℕ) (stf : Place → Parser Text) (d p : ℕ → Parser Text) → ((n : ℕ) → calm_row n ≡ true → AllGoodAt (Nested o room n) (d n))
+pub calm_item_good : (o : Origin) (room : ℕ) (stf : Place → Parser Text) (d p : ℕ → Parser Text) → ((n : ℕ) → calm_row n ≡ true → AllGoodAt (Nested o room n) (d n))
     → ((n : ℕ) → calm_row n ≡ true → AllGoodAt (Fits o room (row_items n)) (p n)) → (i : Item) (is : List Item) (s : Text) → calm_item i ≡ true
     → Good (Leads o room i is) s (item stf d p (reader o) i s)
 unfolding item
@@ -404,14 +404,14 @@ calm_items_good o room stf d p hd hp (i ∷ is) calm s =
     (calm_item_good o room stf d p hd hp i is s (and_left (calm_item i) (calm_items is) calm))
     (calm_items_good o room stf d p hd hp is (and_right (calm_item i) (calm_items is) calm))
 
-calm_level : (o : Origin) (room : ℕ) (stf : Place → Parser Text) (d : ℕ → Parser Text) → ((n : ℕ) → calm_row n ≡ true → AllGoodAt (Nested o room n) (d n))
+pub calm_level : (o : Origin) (room : ℕ) (stf : Place → Parser Text) (d : ℕ → Parser Text) → ((n : ℕ) → calm_row n ≡ true → AllGoodAt (Nested o room n) (d n))
     → (l n : ℕ) → calm_row n ≡ true → AllGoodAt (Fits o room (row_items n)) (level (reader o) stf d l n)
 unfolding level
 calm_level o room stf d hd zero n calm s = tt
 calm_level o room stf d hd (suc l) n calm s =
     calm_items_good o room stf d (level (reader o) stf d l) hd (calm_level o room stf d hd l) (row_items n) (calm_closed n calm) s
 
-calm_deep : (o : Origin) (stf : Place → Parser Text) (room n : ℕ) → calm_row n ≡ true → AllGoodAt (Nested o room n) (deep (reader o) stf room n)
+pub calm_deep : (o : Origin) (stf : Place → Parser Text) (room n : ℕ) → calm_row n ≡ true → AllGoodAt (Nested o room n) (deep (reader o) stf room n)
 unfolding deep
 calm_deep o stf zero n calm s = tt
 calm_deep o stf (suc room) n calm s = calm_level o room stf (deep (reader o) stf room) (calm_deep o stf room) 40 n calm s

@@ -33,3 +33,4 @@ pub mod WholeNames
 pub mod GoodLeaves
 pub mod Printable
 pub mod Fitted
+pub mod FittedLines

@@ -1,0 +1,150 @@
+-- What is read is a tree that the rows allow: remarks, statements and whole lines.
+use Rattle.std.proofs.Common.{◌≡◌, ℕ, zero, suc, ◌+◌, ◌-◌, ◌<◌, ◌≤◌, Bool, true, false, not, if◌then◌else◌, ◌==◌, ◌||◌, ◌&&◌, List, [], ◌∷◌, ◌++◌, length, get_or, drop, refl, sym, ap, subst, ◌∙◌, arith, nat_le, nat_lt, append-nil, inl, inr, ◌⊎◌, Result, Ok, Err}
+use Rattle.std.proofs.lemmas.Bool.Decides.{nat_tests}
+use Rattle.b2_atom.specs.Words.{Text, ahead, skipped}
+use Rattle.b2_atom.specs.Tokens.{Token}
+use Rattle.b2_atom.specs.Tokens.Token.{Coded, Plain, Lined}
+use Rattle.b2_atom.specs.Tree.{Trees, Outcome, Parser, one, nothing, joined, and_then, under, also, tokens}
+use Rattle.b2_atom.specs.Tree.Trees.{Done, Put, In}
+use Rattle.b2_atom.specs.Leaves.{refused, all_printable}
+use Rattle.b2_atom.specs.Grammar.{Reader, reader, items, item, level, deep, many, statement, chosen, statement_row, statement_at, row_at, allowed, from, begins_let, variable_begins, barred_following, barred_line, barred_place, row_items, starts, starts_at, absent, mark, mark_at, end_of_line, end_at, read_leaf, text_to_end, read_line, part}
+use Rattle.b2_atom.specs.Spelling.{is_whole, good_token, is_free}
+use Rattle.b2_atom.specs.Fitting.{fits_token, Fits, is_remark, is_rest, RemarksEnd, is_statement, is_allowed, LineTree}
+use Rattle.b2_atom.specs.Table.{forms}
+use Rattle.b2_atom.specs.declared.words.TheConstants as word
+use Rattle.b2_atom.specs.declared.rows.TheConstants as row
+use Rattle.b2_atom.specs.declared.words.Origin.{Origin}
+use Rattle.b2_atom.specs.declared.words.Origin.TheVariants.{Program, Immediate, Atoms}
+use Rattle.b2_atom.specs.declared.forms.Leaf.TheVariants as leaf
+use Rattle.b2_atom.specs.declared.forms.Start.{Start}
+use Rattle.b2_atom.specs.declared.forms.Start.TheVariants as start
+use Rattle.b2_atom.specs.declared.forms.Place.{Place}
+use Rattle.b2_atom.specs.declared.forms.Place.TheVariants as place
+use Rattle.b2_atom.specs.declared.forms.Form.{Form}
+use Rattle.b2_atom.specs.declared.forms.Item.{Item}
+use Rattle.b2_atom.specs.declared.forms.Item.TheVariants.{Word, Sign, Typed, Part, Either, Many, Statement, End}
+use Rattle.b2_atom.specs.declared.sink.Stop.{Stop}
+use Rattle.b2_atom.specs.declared.sink.Stop.TheVariants.{At}
+use Rattle.b2_atom.proofs.Longest.{and_left, and_right, every, equal}
+use Rattle.b2_atom.proofs.Fitted.{no_remark, Good, Leads, tokens_also, append_remarks, calm_row, calm_part, calm_level, calm_deep, calm_item_good, calm_item, calm_items, Nested, AllGoodAt, skipped_short, ahead_less, nothing_left, behind_short, drop_short, same_code, le_both}
+
+-- no remark, or nothing behind it
+pub record Ended (ts : List Token) (rest : Text) : Type 0 where
+  pub remarks : RemarksEnd ts
+  pub ended : (no_remark ts ≡ true) ⊎ (rest ≡ [])
+
+not_both : (b : Bool) → b ≡ true → not b ≡ true → ⊥
+not_both true h k = cc
+not_both false h k = cc
+
+calm_remarks : (ts : List Token) → no_remark ts ≡ true → RemarksEnd ts
+calm_remarks [] h = tt
+calm_remarks (t ∷ ts) h = ((λ is. absurd (not_both (is_remark t) is (and_left (not (is_remark t)) (no_remark ts) h))), calm_remarks ts (and_right (not (is_remark t)) (no_remark ts) h))
+
+calm_ended : (ts : List Token) (rest : Text) → no_remark ts ≡ true → Ended ts rest
+calm_ended ts rest h = record { remarks = calm_remarks ts h; ended = inl h }
+
+calm_append : (ts us : List Token) → no_remark ts ≡ true → RemarksEnd us → RemarksEnd (ts ++ us)
+calm_append [] us h k = k
+calm_append (t ∷ ts) us h k =
+    ((λ is. absurd (not_both (is_remark t) is (and_left (not (is_remark t)) (no_remark ts) h))), calm_append ts us (and_right (not (is_remark t)) (no_remark ts) h) k)
+
+calm_then : (ts us : List Token) (rest : Text) → no_remark ts ≡ true → Ended us rest → Ended (ts ++ us) rest
+calm_then ts us rest h k = record {
+  remarks = calm_append ts us h k.remarks;
+  ended = elim k.ended [ inl n ↦ inl (append_remarks ts us h n) | inr e ↦ inr e ];
+}
+
+-- a reading whose tree has a property, and which ends where a remark is in it
+abbrev pub Ends : (Trees → Type 0) → Text → Outcome → Type 0
+Ends P s (Ok p) = P p.0 × (Ended (tokens p.0) p.1 × (length p.1 ≤ length s))
+Ends P s (Err e) = Unit {0}
+
+-- the same, which gives nothing where nothing is left
+abbrev pub Idles : (Trees → Type 0) → Text → Outcome → Type 0
+Idles P s (Ok p) = P p.0 × (Ended (tokens p.0) p.1 × ((length p.1 ≤ length s) × (s ≡ [] → (tokens p.0 ≡ []) × (p.1 ≡ []))))
+Idles P s (Err e) = Unit {0}
+
+good_ends : (P : Trees → Type 0) (s : Text) (o : Outcome) → Good P s o → Ends P s o
+good_ends P s (Err e) g = tt
+good_ends P s (Ok p) g = (g.0, (calm_ended (tokens p.0) p.1 g.1.0, g.1.1))
+
+ends_if : (P : Trees → Type 0) (s : Text) (b : Bool) (o u : Outcome) → Ends P s o → Ends P s u → Ends P s (if b then o else u)
+ends_if P s true o u g h = g
+ends_if P s false o u g h = h
+
+ends_under : (P Q : Trees → Type 0) (n : ℕ) (s : Text) (o : Outcome) → ((t : Trees) → P t → Q (In n t Done)) → Ends P s o → Ends Q s (under n o)
+ends_under P Q n s (Err e) more g = tt
+ends_under P Q n s (Ok p) more g =
+    (more p.0 g.0, (subst (λ ts. Ended ts p.1) (sym (append-nil (tokens p.0))) g.1.0, g.1.1))
+
+-- a part without a remark, and then another
+calm_joined : (P Q R : Trees → Type 0) (s : Text) (a : Trees) (rest : Text) (u : Outcome) → ((a b : Trees) → P a → Q b → R (also a b)) → P a → no_remark (tokens a) ≡ true
+    → length rest ≤ length s → Ends Q rest u → Ends R s (joined a u)
+calm_joined P Q R s a rest (Err e) more g n l h = tt
+calm_joined P Q R s a rest (Ok p) more g n l h =
+    (more a p.0 g h.0, (subst (λ ts. Ended ts p.1) (sym (tokens_also a p.0)) (calm_then (tokens a) (tokens p.0) p.1 n h.1.0), le_both (length p.1) (length rest) (length s) h.1.1 l))
+
+calm_first : (P Q R : Trees → Type 0) (s : Text) (o : Outcome) (q : Parser Text) → ((a b : Trees) → P a → Q b → R (also a b)) → Good P s o
+    → ((u : Text) → length u ≤ length s → Ends Q u (q u)) → Ends R s (and_then o q)
+calm_first P Q R s (Err e) q more g h = tt
+calm_first P Q R s (Ok p) q more g h = calm_joined P Q R s p.0 p.1 (q p.1) more g.0 g.1.0 g.1.1 (h p.1 g.1.1)
+
+-- a part that may end in a remark, and then what gives nothing where nothing is left
+ended_then : (ts us : List Token) (rest left : Text) → Ended ts rest → Ended us left → (rest ≡ [] → (us ≡ []) × (left ≡ [])) → Ended (ts ++ us) left
+ended_then ts us rest left h k idle = elim h.ended [
+  | inl n ↦ calm_then ts us left n k
+  | inr e ↦ (let none = idle e in record {
+      remarks = subst (λ l. RemarksEnd (ts ++ l)) (sym none.0) (subst RemarksEnd (sym (append-nil ts)) h.remarks);
+      ended = inr none.1;
+    })
+]
+
+idle_joined : (P Q R : Trees → Type 0) (s : Text) (a : Trees) (rest : Text) (u : Outcome) → ((a b : Trees) → P a → Q b → R (also a b)) → P a → Ended (tokens a) rest
+    → length rest ≤ length s → Idles Q rest u → Ends R s (joined a u)
+idle_joined P Q R s a rest (Err e) more g n l h = tt
+idle_joined P Q R s a rest (Ok p) more g n l h =
+    (more a p.0 g h.0, (subst (λ ts. Ended ts p.1) (sym (tokens_also a p.0)) (ended_then (tokens a) (tokens p.0) rest p.1 n h.1.0 h.1.1.1),
+    le_both (length p.1) (length rest) (length s) h.1.1.0 l))
+
+idle_then : (P Q R : Trees → Type 0) (s : Text) (o : Outcome) (q : Parser Text) → ((a b : Trees) → P a → Q b → R (also a b)) → Ends P s o
+    → ((u : Text) → length u ≤ length s → Idles Q u (q u)) → Ends R s (and_then o q)
+idle_then P Q R s (Err e) q more g h = tt
+idle_then P Q R s (Ok p) q more g h = idle_joined P Q R s p.0 p.1 (q p.1) more g.0 g.1.0 g.1.1 (h p.1 g.1.1)
+
+-- and both idle
+idles_joined : (P Q R : Trees → Type 0) (s : Text) (a : Trees) (rest : Text) (u : Outcome) → ((a b : Trees) → P a → Q b → R (also a b)) → P a → Ended (tokens a) rest
+    → length rest ≤ length s → (s ≡ [] → (tokens a ≡ []) × (rest ≡ [])) → Idles Q rest u → Idles R s (joined a u)
+idles_joined P Q R s a rest (Err e) more g n l idle h = tt
+idles_joined P Q R s a rest (Ok p) more g n l idle h =
+    (more a p.0 g h.0, (subst (λ ts. Ended ts p.1) (sym (tokens_also a p.0)) (ended_then (tokens a) (tokens p.0) rest p.1 n h.1.0 h.1.1.1),
+    (le_both (length p.1) (length rest) (length s) h.1.1.0 l,
+    λ e. let front = idle e in let back = h.1.1.1 front.1 in (tokens_also a p.0 ∙ (λ i. front.0 i ++ back.0 i), back.1))))
+
+idles_then : (P Q R : Trees → Type 0) (s : Text) (o : Outcome) (q : Parser Text) → ((a b : Trees) → P a → Q b → R (also a b)) → Idles P s o
+    → ((u : Text) → length u ≤ length s → Idles Q u (q u)) → Idles R s (and_then o q)
+idles_then P Q R s (Err e) q more g h = tt
+idles_then P Q R s (Ok p) q more g h = idles_joined P Q R s p.0 p.1 (q p.1) more g.0 g.1.0 g.1.1.0 g.1.1.1 (h p.1 g.1.1.0)
+
+-- a mark takes something
+no_null : (c : ℕ) → (0 == c) ≡ true → nat_lt 0 c ≡ true → ⊥
+no_null c h k = grind (arith, nat_tests)
+
+mark_less : (o : Origin) (c : ℕ) (t : Text) → ((ahead o t).0 == c) ≡ true → nat_lt 0 c ≡ true → length (ahead o t).1 < length t
+mark_less o c [] h k = absurd (no_null c (ap (λ (p : ℕ × Text). p.0 == c) (sym (nothing_left o)) ∙ h) k)
+mark_less o c (a ∷ y) h k = let less = ahead_less o a y in omega arith
+
+mark_by : (o : Origin) (P R : Trees → Type 0) (c code : ℕ) (s : Text) (q : Parser Text) (b : Bool) → ((ahead o (skipped o s)).0 == c) ≡ b → nat_lt 0 c ≡ true
+    → no_remark (Coded c ∷ []) ≡ true → ((t : Trees) → P t → R (Put (Coded c) t)) → ((u : Text) → length u < length s → Ends P u (q u))
+    → Ends R s (and_then (if b then one (Coded c) (ahead o (skipped o s)).1 else Err (refused o code (skipped o s))) q)
+mark_by o P R c code s q true is some calm more h =
+    let less : length (ahead o (skipped o s)).1 < length s = (let one = mark_less o c (skipped o s) is some in let two = skipped_short o s in omega arith) in
+    let le : length (ahead o (skipped o s)).1 ≤ length s = omega arith in
+    calm_joined (λ a. a ≡ Put (Coded c) Done) P R s (Put (Coded c) Done) (ahead o (skipped o s)).1 (q (ahead o (skipped o s)).1)
+    (λ a b x y. let Q : Trees → Type 0 = λ a'. R (also a' b) in subst Q (sym x) (more b y)) refl calm le (h (ahead o (skipped o s)).1 less)
+mark_by o P R c code s q false is some calm more h = tt
+
+mark_first : (o : Origin) (P R : Trees → Type 0) (c code : ℕ) (s : Text) (q : Parser Text) → nat_lt 0 c ≡ true → no_remark (Coded c ∷ []) ≡ true
+    → ((t : Trees) → P t → R (Put (Coded c) t)) → ((u : Text) → length u < length s → Ends P u (q u)) → Ends R s (and_then (mark o c code s) q)
+unfolding mark
+mark_first o P R c code s q some calm more h = mark_by o P R c code s q ((ahead o (skipped o s)).0 == c) refl some calm more h
