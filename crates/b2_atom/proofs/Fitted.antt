@@ -301,7 +301,7 @@ abbrev is_other_row : ℕ → Bool
 is_other_row n =
     n == row.LINE || (n == row.FURTHER_STATEMENT || (n == row.FOLLOWING || (n == row.REMARK || (n == row.IMAGE_LINE || (n == row.IF || (n == row.ELSE || n == row.ERROR))))))
 
-pub calm_row : ℕ → Bool
+unfoldable pub calm_row : ℕ → Bool
 calm_row n = nat_lt n 256 && not (is_other_row n)
 
 abbrev pub calm_item : Item → Bool

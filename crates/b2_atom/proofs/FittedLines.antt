@@ -148,3 +148,143 @@ mark_first : (o : Origin) (P R : Trees → Type 0) (c code : ℕ) (s : Text) (q 
     → ((t : Trees) → P t → R (Put (Coded c) t)) → ((u : Text) → length u < length s → Ends P u (q u)) → Ends R s (and_then (mark o c code s) q)
 unfolding mark
 mark_first o P R c code s q some calm more h = mark_by o P R c code s q ((ahead o (skipped o s)).0 == c) refl some calm more h
+
+-- the readers of a row: parentheses, and parts with so many levels in them
+abbrev pub row_read : Origin → (Place → Parser Text) → ℕ → List Item → Parser Text
+row_read o stf l is = items stf (deep (reader o) stf 32) (level (reader o) stf (deep (reader o) stf 32) l) (reader o) is
+
+calm_step : (o : Origin) (stf : Place → Parser Text) (l : ℕ) (i : Item) (is : List Item) (s : Text) → calm_item i ≡ true
+    → ((u : Text) → length u ≤ length s → Ends (Fits o 32 is) u (row_read o stf l is u)) → Ends (Fits o 32 (i ∷ is)) s (row_read o stf l (i ∷ is) s)
+unfolding items
+calm_step o stf l i is s calm h =
+    calm_first (Leads o 32 i is) (Fits o 32 is) (Fits o 32 (i ∷ is)) s (item stf (deep (reader o) stf 32) (level (reader o) stf (deep (reader o) stf 32) l) (reader o) i s)
+    (row_read o stf l is) (λ a b x y. x b y)
+    (calm_item_good o 32 stf (deep (reader o) stf 32) (level (reader o) stf (deep (reader o) stf 32) l) (calm_deep o stf 32) (calm_level o 32 stf (deep (reader o) stf 32) (calm_deep o stf 32) l) i is s calm) h
+
+ends_le : (n : ℕ) → n ≤ n
+ends_le n = omega arith
+
+last_step : (o : Origin) (stf : Place → Parser Text) (l : ℕ) (i : Item) (s : Text)
+    → Ends (Leads o 32 i []) s (item stf (deep (reader o) stf 32) (level (reader o) stf (deep (reader o) stf 32) l) (reader o) i s)
+    → Ends (Fits o 32 (i ∷ [])) s (row_read o stf l (i ∷ []) s)
+unfolding items
+last_step o stf l i s g =
+    idle_then (Leads o 32 i []) (Fits o 32 []) (Fits o 32 (i ∷ [])) s (item stf (deep (reader o) stf 32) (level (reader o) stf (deep (reader o) stf 32) l) (reader o) i s)
+    (row_read o stf l []) (λ a b x y. x b y) g (λ u le. (refl, (calm_ended [] u refl, (ends_le (length u), λ e. (refl, e)))))
+
+word_step : (o : Origin) (stf : Place → Parser Text) (l c : ℕ) (is : List Item) (s : Text) → nat_lt 0 c ≡ true → no_remark (Coded c ∷ []) ≡ true
+    → ((u : Text) → length u < length s → Ends (Fits o 32 is) u (row_read o stf l is u)) → Ends (Fits o 32 (Word c ∷ is)) s (row_read o stf l (Word c ∷ is) s)
+unfolding items item
+word_step o stf l c is s some calm h = mark_first o (Fits o 32 is) (Fits o 32 (Word c ∷ is)) c 22 s (row_read o stf l is) some calm (λ t fit. (same_code c, fit)) h
+
+sign_step : (o : Origin) (stf : Place → Parser Text) (l c code : ℕ) (is : List Item) (s : Text) → nat_lt 0 c ≡ true → no_remark (Coded c ∷ []) ≡ true
+    → ((u : Text) → length u < length s → Ends (Fits o 32 is) u (row_read o stf l is u)) → Ends (Fits o 32 (Sign c code ∷ is)) s (row_read o stf l (Sign c code ∷ is) s)
+unfolding items item
+sign_step o stf l c code is s some calm h = mark_first o (Fits o 32 is) (Fits o 32 (Sign c code ∷ is)) c code s (row_read o stf l is) some calm (λ t fit. (same_code c, fit)) h
+
+ends_row : (o : Origin) (stf : Place → Parser Text) (l n : ℕ) (is : List Item) (s : Text) → row_items n ≡ is → Ends (Fits o 32 is) s (row_read o stf l is s)
+    → Ends (Fits o 32 (row_items n)) s (level (reader o) stf (deep (reader o) stf 32) (suc l) n s)
+unfolding level
+ends_row o stf l n is s e g =
+    let P : List Item → Type 0 = λ r. Ends (Fits o 32 r) s (row_read o stf l r s) in subst P (sym e) g
+
+-- a statement's tree
+abbrev pub StatementTree : Origin → Place → Trees → Type 0
+StatementTree o p (In n inner Done) = (is_statement forms o p n ≡ true) × Fits o 32 (row_items n) inner
+StatementTree o p t = ⊥
+
+statement_leads : (o : Origin) (p : Place) (is : List Item) (t : Trees) → StatementTree o p t → Leads o 32 (Statement p) is t
+statement_leads o p is Done h b fit = absurd h
+statement_leads o p is (Put t ts) h b fit = absurd h
+statement_leads o p is (In n inner Done) h b fit = (h.0, (h.1, fit))
+statement_leads o p is (In n inner (Put t ts)) h b fit = absurd h
+statement_leads o p is (In n inner (In m u ts)) h b fit = absurd h
+
+ends_map : (P Q : Trees → Type 0) (s : Text) (o : Outcome) → ((t : Trees) → P t → Q t) → Ends P s o → Ends Q s o
+ends_map P Q s (Err e) more g = tt
+ends_map P Q s (Ok p) more g = (more p.0 g.0, g.1)
+
+-- statements of texts that are shorter than some length
+abbrev pub Below : Origin → (Place → Parser Text) → ℕ → Type 0
+Below o stf f = (p : Place) (s : Text) → length s < f → Ends (StatementTree o p) s (stf p s)
+
+statement_last : (o : Origin) (stf : Place → Parser Text) (f l : ℕ) → Below o stf f → (p : Place) (s : Text) → length s < f
+    → Ends (Fits o 32 (Statement p ∷ [])) s (row_read o stf l (Statement p ∷ []) s)
+unfolding item
+statement_last o stf f l st p s less = last_step o stf l (Statement p) s (ends_map (StatementTree o p) (Leads o 32 (Statement p) []) s (stf p s) (statement_leads o p []) (st p s less))
+
+following_is : row_items row.FOLLOWING ≡ Statement place.Following ∷ []
+unfolding row_items
+following_is = refl
+
+following_row : (o : Origin) (stf : Place → Parser Text) (f l : ℕ) → Below o stf f → (s : Text) → length s < f
+    → Ends (Fits o 32 (row_items row.FOLLOWING)) s (level (reader o) stf (deep (reader o) stf 32) (suc l) row.FOLLOWING s)
+following_row o stf f l st s less =
+    ends_row o stf l row.FOLLOWING (Statement place.Following ∷ []) s following_is (statement_last o stf f l st place.Following s less)
+
+error_is : row_items row.ERROR ≡ Word word.ERROR ∷ Part row.FOLLOWING ∷ []
+unfolding row_items
+error_is = refl
+
+part_following : (o : Origin) (stf : Place → Parser Text) (f l : ℕ) → Below o stf f → (s : Text) → length s < f
+    → Ends (Fits o 32 (Part row.FOLLOWING ∷ [])) s (row_read o stf (suc l) (Part row.FOLLOWING ∷ []) s)
+unfolding item
+part_following o stf f l st s less =
+    last_step o stf (suc l) (Part row.FOLLOWING) s
+    (ends_under (Fits o 32 (row_items row.FOLLOWING)) (Leads o 32 (Part row.FOLLOWING) []) 2 s (level (reader o) stf (deep (reader o) stf 32) (suc l) row.FOLLOWING s)
+    (λ t g b fit. (refl, (g, fit))) (following_row o stf f l st s less))
+
+lt_le : (a b c : ℕ) → a < b → b ≤ c → a < c
+lt_le a b c h k = omega arith
+
+error_row : (o : Origin) (stf : Place → Parser Text) (f l : ℕ) → Below o stf f → (s : Text) → length s ≤ f
+    → Ends (Fits o 32 (row_items row.ERROR)) s (level (reader o) stf (deep (reader o) stf 32) (suc (suc l)) row.ERROR s)
+error_row o stf f l st s le =
+    ends_row o stf (suc l) row.ERROR (Word word.ERROR ∷ Part row.FOLLOWING ∷ []) s error_is
+    (word_step o stf (suc l) word.ERROR (Part row.FOLLOWING ∷ []) s refl refl (λ u less. part_following o stf f l st u (lt_le (length u) (length s) f less le)))
+
+line_calm : calm_row row.LINE_NUMBER ≡ true
+unfolding calm_row
+line_calm = refl
+
+condition_calm : calm_row row.CONDITION ≡ true
+unfolding calm_row
+condition_calm = refl
+
+line_or_statement : (o : Origin) (stf : Place → Parser Text) (f l : ℕ) → Below o stf f → (s : Text) → length s < f
+    → Ends (Fits o 32 (Either start.Line row.LINE_NUMBER row.FOLLOWING ∷ [])) s (row_read o stf (suc l) (Either start.Line row.LINE_NUMBER row.FOLLOWING ∷ []) s)
+unfolding item
+line_or_statement o stf f l st s less =
+    last_step o stf (suc l) (Either start.Line row.LINE_NUMBER row.FOLLOWING) s
+    (ends_if (Leads o 32 (Either start.Line row.LINE_NUMBER row.FOLLOWING) []) s (starts o start.Line s)
+    (under 1 (level (reader o) stf (deep (reader o) stf 32) (suc l) row.LINE_NUMBER s)) (under 0 (level (reader o) stf (deep (reader o) stf 32) (suc l) row.FOLLOWING s))
+    (ends_under (Fits o 32 (row_items row.LINE_NUMBER)) (Leads o 32 (Either start.Line row.LINE_NUMBER row.FOLLOWING) []) 1 s (level (reader o) stf (deep (reader o) stf 32) (suc l) row.LINE_NUMBER s)
+    (λ t g b fit. (g, fit)) (good_ends (Fits o 32 (row_items row.LINE_NUMBER)) s (level (reader o) stf (deep (reader o) stf 32) (suc l) row.LINE_NUMBER s) (calm_part o stf (suc l) row.LINE_NUMBER line_calm s)))
+    (ends_under (Fits o 32 (row_items row.FOLLOWING)) (Leads o 32 (Either start.Line row.LINE_NUMBER row.FOLLOWING) []) 0 s (level (reader o) stf (deep (reader o) stf 32) (suc l) row.FOLLOWING s)
+    (λ t g b fit. (g, fit)) (following_row o stf f l st s less)))
+
+else_is : row_items row.ELSE ≡ Word word.ELSE ∷ Either start.Line row.LINE_NUMBER row.FOLLOWING ∷ []
+unfolding row_items
+else_is = refl
+
+else_row : (o : Origin) (stf : Place → Parser Text) (f l : ℕ) → Below o stf f → (s : Text) → length s ≤ f
+    → Ends (Fits o 32 (row_items row.ELSE)) s (level (reader o) stf (deep (reader o) stf 32) (suc (suc l)) row.ELSE s)
+else_row o stf f l st s le =
+    ends_row o stf (suc l) row.ELSE (Word word.ELSE ∷ Either start.Line row.LINE_NUMBER row.FOLLOWING ∷ []) s else_is
+    (word_step o stf (suc l) word.ELSE (Either start.Line row.LINE_NUMBER row.FOLLOWING ∷ []) s refl refl (λ u less. line_or_statement o stf f l st u (lt_le (length u) (length s) f less le)))
+
+if_is : row_items row.IF ≡ Word word.IF ∷ Part row.CONDITION ∷ Word word.THEN ∷ Either start.Line row.LINE_NUMBER row.FOLLOWING ∷ []
+unfolding row_items
+if_is = refl
+
+le_lt : (a b c : ℕ) → a ≤ b → b < c → a < c
+le_lt a b c h k = omega arith
+
+if_row : (o : Origin) (stf : Place → Parser Text) (f l : ℕ) → Below o stf f → (s : Text) → length s ≤ f
+    → Ends (Fits o 32 (row_items row.IF)) s (level (reader o) stf (deep (reader o) stf 32) (suc (suc l)) row.IF s)
+if_row o stf f l st s le =
+    ends_row o stf (suc l) row.IF (Word word.IF ∷ Part row.CONDITION ∷ Word word.THEN ∷ Either start.Line row.LINE_NUMBER row.FOLLOWING ∷ []) s if_is
+    (word_step o stf (suc l) word.IF (Part row.CONDITION ∷ Word word.THEN ∷ Either start.Line row.LINE_NUMBER row.FOLLOWING ∷ []) s refl refl (λ u less.
+    calm_step o stf (suc l) (Part row.CONDITION) (Word word.THEN ∷ Either start.Line row.LINE_NUMBER row.FOLLOWING ∷ []) u condition_calm (λ v most.
+    calm_step o stf (suc l) (Word word.THEN) (Either start.Line row.LINE_NUMBER row.FOLLOWING ∷ []) v refl (λ w more.
+    line_or_statement o stf f l st w (le_lt (length w) (length v) f more (le_lt (length v) (length u) f most (lt_le (length u) (length s) f less le)))))))
