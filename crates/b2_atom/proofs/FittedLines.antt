@@ -9,7 +9,7 @@ use Rattle.b2_atom.specs.Tree.Trees.{Done, Put, In}
 use Rattle.b2_atom.specs.Leaves.{refused, all_printable}
 use Rattle.b2_atom.specs.Grammar.{Reader, reader, items, item, level, deep, many, statement, chosen, statement_row, statement_at, row_at, allowed, from, begins_let, variable_begins, barred_following, barred_line, barred_place, row_items, starts, starts_at, absent, mark, mark_at, end_of_line, end_at, read_leaf, text_to_end, read_line, part}
 use Rattle.b2_atom.specs.Spelling.{is_whole, good_token, is_free}
-use Rattle.b2_atom.specs.Fitting.{fits_token, Fits, is_remark, is_rest, RemarksEnd, is_statement, is_allowed, LineTree}
+use Rattle.b2_atom.specs.Fitting.{fits_token, giving, FitsPut, Fits, is_remark, is_rest, RemarksEnd, is_statement, is_allowed, LineTree}
 use Rattle.b2_atom.specs.Table.{forms}
 use Rattle.b2_atom.specs.declared.words.TheConstants as word
 use Rattle.b2_atom.specs.declared.rows.TheConstants as row
@@ -288,3 +288,159 @@ if_row o stf f l st s le =
     calm_step o stf (suc l) (Part row.CONDITION) (Word word.THEN ∷ Either start.Line row.LINE_NUMBER row.FOLLOWING ∷ []) u condition_calm (λ v most.
     calm_step o stf (suc l) (Word word.THEN) (Either start.Line row.LINE_NUMBER row.FOLLOWING ∷ []) v refl (λ w more.
     line_or_statement o stf f l st w (le_lt (length w) (length v) f more (le_lt (length v) (length u) f most (lt_le (length u) (length s) f less le)))))))
+
+-- remarks and image lines
+both : (a b : Bool) → a ≡ true → b ≡ true → (a && b) ≡ true
+both a b h k = rw h k
+
+some_text : (n : ℕ) → nat_lt 0 (suc n) ≡ true
+some_text n = grind (arith, nat_tests)
+
+abbrev TextRow : Item → List Item
+TextRow i = i ∷ Typed leaf.Text 14 ∷ []
+
+text_by : (o : Origin) (i : Item) (c : ℕ) (s : Text) (b : ℕ) (bs : Text) (p : Bool) → all_printable (b ∷ bs) ≡ p → fits_token o i (Coded c) ≡ true → giving (TextRow i) ≡ TextRow i
+    → Ends (Fits o 32 (TextRow i)) s (joined (Put (Coded c) Done) (and_then (if p then one (Plain leaf.Text (b ∷ bs)) [] else Err (At 14 (length (b ∷ bs)))) nothing))
+text_by o i c s b bs false h t g = tt
+text_by o i c s b bs true h t g =
+    let P : List Item → Type 0 = λ is. FitsPut o is (Coded c) (λ (rest : List Item). Fits o 32 rest (Put (Plain leaf.Text (b ∷ bs)) Done)) in
+    (subst P (sym g) (t, (both (nat_lt 0 (suc (length bs))) (all_printable (b ∷ bs)) (some_text (length bs)) h, refl)),
+    (record { remarks = ((λ h. refl), ((λ h. refl), tt)); ended = inr refl }, (let least : 0 ≤ length s = omega arith in least)))
+
+text_ends : (o : Origin) (i : Item) (c : ℕ) (s x : Text) → fits_token o i (Coded c) ≡ true → giving (TextRow i) ≡ TextRow i
+    → Ends (Fits o 32 (TextRow i)) s (joined (Put (Coded c) Done) (and_then (text_to_end 14 x) nothing))
+text_ends o i c s [] t g =
+    let P : List Item → Type 0 = λ is. FitsPut o is (Coded c) (λ (rest : List Item). Fits o 32 rest Done) in
+    (subst P (sym g) (t, refl), (record { remarks = ((λ h. refl), tt); ended = inr refl }, (let least : 0 ≤ length s = omega arith in least)))
+text_ends o i c s (b ∷ bs) t g = text_by o i c s b bs (all_printable (b ∷ bs)) refl t g
+
+remark_by : (o : Origin) (i : Item) (c code : ℕ) (s : Text) (b : Bool) → fits_token o i (Coded c) ≡ true → giving (TextRow i) ≡ TextRow i
+    → Ends (Fits o 32 (TextRow i)) s (and_then (if b then one (Coded c) (ahead o (skipped o s)).1 else Err (refused o code (skipped o s))) (λ x. and_then (text_to_end 14 x) nothing))
+remark_by o i c code s true t g = text_ends o i c s (ahead o (skipped o s)).1 t g
+remark_by o i c code s false t g = tt
+
+remark_is : row_items row.REMARK ≡ Word word.REM ∷ Typed leaf.Text 14 ∷ []
+unfolding row_items
+remark_is = refl
+
+image_is : row_items row.IMAGE_LINE ≡ Sign 37 14 ∷ Typed leaf.Text 14 ∷ []
+unfolding row_items
+image_is = refl
+
+remark_row : (o : Origin) (stf : Place → Parser Text) (l : ℕ) (s : Text) → Ends (Fits o 32 (row_items row.REMARK)) s (level (reader o) stf (deep (reader o) stf 32) (suc l) row.REMARK s)
+unfolding items item mark read_leaf
+remark_row o stf l s =
+    ends_row o stf l row.REMARK (Word word.REM ∷ Typed leaf.Text 14 ∷ []) s remark_is (remark_by o (Word word.REM) word.REM 22 s ((ahead o (skipped o s)).0 == word.REM) refl refl)
+
+image_row : (o : Origin) (stf : Place → Parser Text) (l : ℕ) (s : Text) → Ends (Fits o 32 (row_items row.IMAGE_LINE)) s (level (reader o) stf (deep (reader o) stf 32) (suc l) row.IMAGE_LINE s)
+unfolding items item mark read_leaf
+image_row o stf l s =
+    ends_row o stf l row.IMAGE_LINE (Sign 37 14 ∷ Typed leaf.Text 14 ∷ []) s image_is (remark_by o (Sign 37 14) 37 14 s ((ahead o (skipped o s)).0 == 37) refl refl)
+
+-- the row of a statement
+abbrev is_text_row : ℕ → Bool
+is_text_row n = n == row.REMARK || (n == row.IMAGE_LINE || (n == row.IF || (n == row.ELSE || n == row.ERROR)))
+
+is_statement_row : ℕ → Bool
+is_statement_row n = calm_row n || is_text_row n
+
+forms_rows : every (λ f. is_statement_row f.row) forms ≡ true
+unfolding is_statement_row calm_row
+forms_rows = refl
+
+assignment_row : is_statement_row row.ASSIGNMENT ≡ true
+unfolding is_statement_row calm_row
+assignment_row = refl
+
+abbrev RowFact : List Form → Origin → Place → Result ℕ Stop → Type 0
+RowFact fs o p (Ok n) = (is_statement fs o p n ≡ true) × (is_statement_row n ≡ true)
+RowFact fs o p (Err e) = Unit {0}
+
+fact_if : (fs : List Form) (o : Origin) (p : Place) (b : Bool) (r q : Result ℕ Stop) → RowFact fs o p r → RowFact fs o p q → RowFact fs o p (if b then r else q)
+fact_if fs o p true r q h k = h
+fact_if fs o p false r q h k = k
+
+or_right : (a b : Bool) → b ≡ true → (a || b) ≡ true
+or_right true b h = refl
+or_right false b h = h
+
+or_left : (a b : Bool) → a ≡ true → (a || b) ≡ true
+or_left a b h = rw h refl
+
+fact_later : (f : Form) (fs : List Form) (o : Origin) (p : Place) (r : Result ℕ Stop) → RowFact fs o p r → RowFact (f ∷ fs) o p r
+fact_later f fs o p (Ok n) h = (or_right (f.row == n && is_allowed o p f.rule) (is_statement fs o p n) h.0, h.1)
+fact_later f fs o p (Err e) h = tt
+
+none_barred : (a b c : Bool) → a ≡ false → b ≡ false → c ≡ false → not (a || (b || c)) ≡ true
+none_barred a b c ha hb hc = rw ha (rw hb (rw hc refl))
+
+allowed_by : (f : Form) (fs : List Form) (o : Origin) (p : Place) (t : Text) (a b c : Bool) → barred_following p f.rule ≡ a → barred_line o f.rule ≡ b → barred_place p f.rule ≡ c
+    → is_statement_row f.row ≡ true
+    → RowFact (f ∷ fs) o p (if a then Err (At 14 (length t)) else (if b then Err (At 26 (length t)) else (if c then Err (At 28 (length t)) else Ok f.row)))
+allowed_by f fs o p t true b c ha hb hc h = tt
+allowed_by f fs o p t false true c ha hb hc h = tt
+allowed_by f fs o p t false false true ha hb hc h = tt
+allowed_by f fs o p t false false false ha hb hc h =
+    (or_left (f.row == f.row && is_allowed o p f.rule) (is_statement fs o p f.row)
+    (both (f.row == f.row) (is_allowed o p f.rule) (same_code f.row) (none_barred (barred_following p f.rule) (barred_line o f.rule) (barred_place p f.rule) ha hb hc)), h)
+
+assignment_fact : (o : Origin) (p : Place) → RowFact [] o p (Ok row.ASSIGNMENT)
+assignment_fact o p = (refl, assignment_row)
+
+row_fact : (fs : List Form) (o : Origin) (p : Place) (t : Text) → every (λ f. is_statement_row f.row) fs ≡ true → RowFact fs o p (row_at fs o p t)
+row_fact [] o p t h = fact_if [] o p (variable_begins o t) (Ok row.ASSIGNMENT) (Err (refused o 14 t)) (assignment_fact o p) tt
+row_fact (f ∷ fs) o p t h =
+    fact_if (f ∷ fs) o p (starts o f.start t) (allowed o p f t) (row_at fs o p t)
+    (allowed_by f fs o p t (barred_following p f.rule) (barred_line o f.rule) (barred_place p f.rule) refl refl refl (and_left (is_statement_row f.row) (every (λ f. is_statement_row f.row) fs) h))
+    (fact_later f fs o p (row_at fs o p t) (row_fact fs o p t (and_right (is_statement_row f.row) (every (λ f. is_statement_row f.row) fs) h)))
+
+always_assignment : (fs : List Form) (o : Origin) (p : Place) → is_statement fs o p row.ASSIGNMENT ≡ true
+always_assignment [] o p = refl
+always_assignment (f ∷ fs) o p = or_right (f.row == row.ASSIGNMENT && is_allowed o p f.rule) (is_statement fs o p row.ASSIGNMENT) (always_assignment fs o p)
+
+-- and where it is read
+abbrev PlaceFact : Origin → Place → Text → Result (ℕ × Text) Stop → Type 0
+PlaceFact o p s (Ok r) = ((is_statement forms o p r.0 ≡ true) × (is_statement_row r.0 ≡ true)) × (length r.1 ≤ length s)
+PlaceFact o p s (Err e) = Unit {0}
+
+place_if : (o : Origin) (p : Place) (s : Text) (b : Bool) (r q : Result (ℕ × Text) Stop) → PlaceFact o p s r → PlaceFact o p s q → PlaceFact o p s (if b then r else q)
+place_if o p s true r q h k = h
+place_if o p s false r q h k = k
+
+place_from : (o : Origin) (p : Place) (s t : Text) (r : Result ℕ Stop) → length t ≤ length s → RowFact forms o p r → PlaceFact o p s (from t r)
+place_from o p s t (Ok n) le h = (h, le)
+place_from o p s t (Err e) le h = tt
+
+place_fact : (o : Origin) (p : Place) (s : Text) → PlaceFact o p s (statement_row o p s)
+unfolding statement_row
+place_fact o p s =
+    place_if o p s (begins_let o (skipped o s)) (Ok (row.ASSIGNMENT, drop 3 (skipped o s))) (from (skipped o s) (row_at forms o p (skipped o s)))
+    ((always_assignment forms o p, assignment_row), le_both (length (drop 3 (skipped o s))) (length (skipped o s)) (length s) (drop_short 3 (skipped o s)) (skipped_short o s))
+    (place_from o p s (skipped o s) (row_at forms o p (skipped o s)) (skipped_short o s) (row_fact forms o p (skipped o s) forms_rows))
+
+-- a statement's row
+row_by : (o : Origin) (stf : Place → Parser Text) (f n : ℕ) → Below o stf f → (s : Text) → length s ≤ f → (a b c d e : Bool) → (n == row.REMARK) ≡ a → (n == row.IMAGE_LINE) ≡ b
+    → (n == row.IF) ≡ c → (n == row.ELSE) ≡ d → (n == row.ERROR) ≡ e → (a || (b || (c || (d || e)))) ≡ true
+    → Ends (Fits o 32 (row_items n)) s (level (reader o) stf (deep (reader o) stf 32) 40 n s)
+row_by o stf f n st s le true b c d e ha hb hc hd he h =
+    let P : ℕ → Type 0 = λ m. Ends (Fits o 32 (row_items m)) s (level (reader o) stf (deep (reader o) stf 32) 40 m s) in subst P (sym (equal n row.REMARK ha)) (remark_row o stf 39 s)
+row_by o stf f n st s le false true c d e ha hb hc hd he h =
+    let P : ℕ → Type 0 = λ m. Ends (Fits o 32 (row_items m)) s (level (reader o) stf (deep (reader o) stf 32) 40 m s) in subst P (sym (equal n row.IMAGE_LINE hb)) (image_row o stf 39 s)
+row_by o stf f n st s le false false true d e ha hb hc hd he h =
+    let P : ℕ → Type 0 = λ m. Ends (Fits o 32 (row_items m)) s (level (reader o) stf (deep (reader o) stf 32) 40 m s) in subst P (sym (equal n row.IF hc)) (if_row o stf f 38 st s le)
+row_by o stf f n st s le false false false true e ha hb hc hd he h =
+    let P : ℕ → Type 0 = λ m. Ends (Fits o 32 (row_items m)) s (level (reader o) stf (deep (reader o) stf 32) 40 m s) in subst P (sym (equal n row.ELSE hd)) (else_row o stf f 38 st s le)
+row_by o stf f n st s le false false false false true ha hb hc hd he h =
+    let P : ℕ → Type 0 = λ m. Ends (Fits o 32 (row_items m)) s (level (reader o) stf (deep (reader o) stf 32) 40 m s) in subst P (sym (equal n row.ERROR he)) (error_row o stf f 38 st s le)
+row_by o stf f n st s le false false false false false ha hb hc hd he h = cc
+
+statement_part : (o : Origin) (stf : Place → Parser Text) (f n : ℕ) → Below o stf f → (s : Text) → length s ≤ f → (b : Bool) → calm_row n ≡ b → (b || is_text_row n) ≡ true
+    → Ends (Fits o 32 (row_items n)) s (level (reader o) stf (deep (reader o) stf 32) 40 n s)
+statement_part o stf f n st s le true is h =
+    good_ends (Fits o 32 (row_items n)) s (level (reader o) stf (deep (reader o) stf 32) 40 n s) (calm_part o stf 40 n is s)
+statement_part o stf f n st s le false is h =
+    row_by o stf f n st s le (n == row.REMARK) (n == row.IMAGE_LINE) (n == row.IF) (n == row.ELSE) (n == row.ERROR) refl refl refl refl refl h
+
+row_known : (n : ℕ) → is_statement_row n ≡ true → (calm_row n || is_text_row n) ≡ true
+unfolding is_statement_row
+row_known n h = h
