@@ -444,3 +444,126 @@ statement_part o stf f n st s le false is h =
 row_known : (n : ℕ) → is_statement_row n ≡ true → (calm_row n || is_text_row n) ≡ true
 unfolding is_statement_row
 row_known n h = h
+
+-- a statement
+ends_wider : (P : Trees → Type 0) (s u : Text) (o : Outcome) → length u ≤ length s → Ends P u o → Ends P s o
+ends_wider P s u (Err e) le g = tt
+ends_wider P s u (Ok p) le g = (g.0, (g.1.0, le_both (length p.1) (length u) (length s) g.1.1 le))
+
+statement_chosen : (o : Origin) (stf : Place → Parser Text) (f : ℕ) (p : Place) (s : Text) (r : Result (ℕ × Text) Stop) → Below o stf f → length s ≤ f → PlaceFact o p s r
+    → Ends (StatementTree o p) s (chosen r (level (reader o) stf (deep (reader o) stf 32) 40))
+statement_chosen o stf f p s (Err e) st le fact = tt
+statement_chosen o stf f p s (Ok r) st le fact =
+    ends_under (Fits o 32 (row_items r.0)) (StatementTree o p) r.0 s (level (reader o) stf (deep (reader o) stf 32) 40 r.0 r.1) (λ t g. (fact.0.0, g))
+    (ends_wider (Fits o 32 (row_items r.0)) s r.1 (level (reader o) stf (deep (reader o) stf 32) 40 r.0 r.1) fact.1
+    (statement_part o stf f r.0 st r.1 (le_both (length r.1) (length s) f fact.1 le) (calm_row r.0) refl (row_known r.0 fact.0.1)))
+
+less_suc : (n f : ℕ) → n < suc f → n ≤ f
+less_suc n f h = omega arith
+
+statements_below : (o : Origin) (f : ℕ) → Below o (statement (reader o) f) f
+unfolding statement
+statements_below o zero p s less = absurd (omega arith)
+statements_below o (suc f) p s less =
+    statement_chosen o (statement (reader o) f) f p s (statement_row o p s) (statements_below o f) (less_suc (length s) f less) (place_fact o p s)
+
+-- further statements
+further_is : row_items row.FURTHER_STATEMENT ≡ Sign 58 25 ∷ Statement place.Further ∷ []
+unfolding row_items
+further_is = refl
+
+further_row : (o : Origin) (stf : Place → Parser Text) (f l : ℕ) → Below o stf f → (s : Text) → length s ≤ f
+    → Ends (Fits o 32 (row_items row.FURTHER_STATEMENT)) s (level (reader o) stf (deep (reader o) stf 32) (suc l) row.FURTHER_STATEMENT s)
+further_row o stf f l st s le =
+    ends_row o stf l row.FURTHER_STATEMENT (Sign 58 25 ∷ Statement place.Further ∷ []) s further_is
+    (sign_step o stf l 58 25 (Statement place.Further ∷ []) s refl refl (λ u less. statement_last o stf f l st place.Further u (lt_le (length u) (length s) f less le)))
+
+none_skipped : (o : Origin) → skipped o [] ≡ []
+none_skipped Program = refl
+none_skipped Immediate = refl
+none_skipped Atoms = refl
+
+asks_none : (o : Origin) (u : Text) → u ≡ [] → starts o (start.Code 58) u ≡ true → ⊥
+unfolding starts
+asks_none o u e h =
+    let none : (0 == 58) ≡ true =
+        ap (λ (p : ℕ × Text). p.0 == 58) (sym (nothing_left o)) ∙ ap (λ (t : Text). (ahead o t).0 == 58) (sym (none_skipped o)) ∙ ap (λ (t : Text). (ahead o (skipped o t)).0 == 58) (sym e) ∙ h in cc
+
+abbrev Further : Origin → List Item → Trees → Type 0
+Further o is a = Leads o 32 (Many (start.Code 58) row.FURTHER_STATEMENT) is a
+
+absent_idles : (o : Origin) (is : List Item) (u : Text) → Idles (Further o is) u (absent u)
+absent_idles o is u = ((λ b fit. (refl, fit)), (calm_ended [] u refl, (ends_le (length u), λ e. (refl, e))))
+
+idles_of : (P : Trees → Type 0) (s : Text) (o : Outcome) → (s ≡ [] → ⊥) → Ends P s o → Idles P s o
+idles_of P s (Err e) never g = tt
+idles_of P s (Ok p) never g = (g.0, (g.1.0, (g.1.1, λ e. absurd (never e))))
+
+many_by : (o : Origin) (is : List Item) (u : Text) (b : Bool) (q : Outcome) → (b ≡ true → Idles (Further o is) u q) → Idles (Further o is) u (if b then q else absent u)
+many_by o is u true q h = h refl
+many_by o is u false q h = absent_idles o is u
+
+furthers : (o : Origin) (stf : Place → Parser Text) (f l : ℕ) → Below o stf f → (is : List Item) (n : ℕ) (u : Text) → length u ≤ f
+    → Idles (Further o is) u (many (reader o) (start.Code 58) (level (reader o) stf (deep (reader o) stf 32) (suc l) row.FURTHER_STATEMENT) n u)
+unfolding many
+furthers o stf f l st is zero u le = many_by o is u (starts o (start.Code 58) u) (Err (At 14 0)) (λ h. tt)
+furthers o stf f l st is (suc n) u le =
+    let p : Parser Text = level (reader o) stf (deep (reader o) stf 32) (suc l) row.FURTHER_STATEMENT in
+    many_by o is u (starts o (start.Code 58) u) (and_then (under 1 (p u)) (many (reader o) (start.Code 58) p n)) (λ h.
+    idles_of (Further o is) u (and_then (under 1 (p u)) (many (reader o) (start.Code 58) p n)) (λ e. asks_none o u e h)
+    (idle_then (λ a. (t : Trees) × (Fits o 32 (row_items row.FURTHER_STATEMENT) t × (a ≡ In 1 t Done))) (Further o is) (Further o is) u (under 1 (p u)) (many (reader o) (start.Code 58) p n)
+    (λ a b x y. let P : Trees → Type 0 = λ c. Further o is (also c b) in subst P (sym x.1.1) (λ c fit. (x.1.0, y c fit)))
+    (ends_under (Fits o 32 (row_items row.FURTHER_STATEMENT)) (λ a. (t : Trees) × (Fits o 32 (row_items row.FURTHER_STATEMENT) t × (a ≡ In 1 t Done))) 1 u (p u) (λ t g. (t, (g, refl))) (further_row o stf f l st u le))
+    (λ v less. furthers o stf f l st is n v (le_both (length v) (length u) f less le))))
+
+-- the line's end
+end_by : (o : Origin) (v t : Text) → Idles (Fits o 32 (End ∷ [])) v (and_then (end_at o t) nothing)
+end_by o v [] = (refl, (calm_ended [] [] refl, ((let least : 0 ≤ length v = omega arith in least), λ e. (refl, refl))))
+end_by o v (b ∷ t) = tt
+
+end_idles : (o : Origin) (stf : Place → Parser Text) (l : ℕ) (v : Text) → Idles (Fits o 32 (End ∷ [])) v (row_read o stf l (End ∷ []) v)
+unfolding items item end_of_line
+end_idles o stf l v = end_by o v (skipped o v)
+
+-- a line
+line_is : row_items row.LINE ≡ Statement place.First ∷ Many (start.Code 58) row.FURTHER_STATEMENT ∷ End ∷ []
+unfolding row_items
+line_is = refl
+
+line_rest : (o : Origin) (stf : Place → Parser Text) (f l : ℕ) → Below o stf f → (u : Text) → length u ≤ f
+    → Idles (Fits o 32 (Many (start.Code 58) row.FURTHER_STATEMENT ∷ End ∷ [])) u (row_read o stf (suc l) (Many (start.Code 58) row.FURTHER_STATEMENT ∷ End ∷ []) u)
+unfolding items item
+line_rest o stf f l st u le =
+    idles_then (Further o (End ∷ [])) (Fits o 32 (End ∷ [])) (Fits o 32 (Many (start.Code 58) row.FURTHER_STATEMENT ∷ End ∷ [])) u
+    (many (reader o) (start.Code 58) (level (reader o) stf (deep (reader o) stf 32) (suc l) row.FURTHER_STATEMENT) (length u) u) (row_read o stf (suc l) (End ∷ []))
+    (λ a b x y. x b y) (furthers o stf f l st (End ∷ []) (length u) u le) (λ v less. end_idles o stf (suc l) v)
+
+fewer : (a b c : ℕ) → a ≤ b → b < c → a ≤ c
+fewer a b c h k = omega arith
+
+line_items : (o : Origin) (stf : Place → Parser Text) (f l : ℕ) → Below o stf f → (s : Text) → length s < f
+    → Ends (Fits o 32 (Statement place.First ∷ Many (start.Code 58) row.FURTHER_STATEMENT ∷ End ∷ [])) s
+    (row_read o stf (suc l) (Statement place.First ∷ Many (start.Code 58) row.FURTHER_STATEMENT ∷ End ∷ []) s)
+unfolding items item
+line_items o stf f l st s less =
+    idle_then (StatementTree o place.First) (Fits o 32 (Many (start.Code 58) row.FURTHER_STATEMENT ∷ End ∷ []))
+    (Fits o 32 (Statement place.First ∷ Many (start.Code 58) row.FURTHER_STATEMENT ∷ End ∷ [])) s (stf place.First s)
+    (row_read o stf (suc l) (Many (start.Code 58) row.FURTHER_STATEMENT ∷ End ∷ []))
+    (λ a b x y. statement_leads o place.First (Many (start.Code 58) row.FURTHER_STATEMENT ∷ End ∷ []) a x b y) (st place.First s less)
+    (λ u le. line_rest o stf f l st u (fewer (length u) (length s) f le less))
+
+line_ends : (o : Origin) (s : Text) → Ends (Fits o 32 (row_items row.LINE)) s (read_line o s)
+line_ends o s =
+    ends_row o (statement (reader o) (length s + 1)) 39 row.LINE (Statement place.First ∷ Many (start.Code 58) row.FURTHER_STATEMENT ∷ End ∷ []) s line_is
+    (line_items o (statement (reader o) (length s + 1)) (length s + 1) 38 (statements_below o (length s + 1)) s (let less : length s < length s + 1 = omega arith in less))
+
+fit_of : (o : Origin) (s : Text) (u : Outcome) (t : Trees) (rest : Text) → u ≡ Ok (t, rest) → Ends (Fits o 32 (row_items row.LINE)) s u → LineTree o t
+fit_of o s (Err e) t rest is g = cc
+fit_of o s (Ok p) t rest is g =
+    let pairs : ◌≡◌ {A = Trees × Text} p (t, rest) = cc in
+    let same : p.0 ≡ t = ap (λ (x : Trees × Text). x.0) pairs in
+    record { fits = subst (Fits o 32 (row_items row.LINE)) same g.0; remarks = subst (λ a. RemarksEnd (tokens a)) same g.1.0.remarks }
+
+-- what is read of a line is a tree that the table allows
+pub reads_fit : (o : Origin) (s : Text) (t : Trees) (rest : Text) → read_line o s ≡ Ok (t, rest) → LineTree o t
+reads_fit o s t rest is = fit_of o s (read_line o s) t rest is (line_ends o s)
