@@ -19,7 +19,8 @@ use Rattle.b2_atom.proofs.Keywords.{is_keyword, not_before_sign, not_at_sign}
 use Rattle.b2_atom.proofs.Names.{NameShape, numeric_shape, numeric_read, local_shape, alpha_shape, alpha_read, ahead_sign, ahead_letter}
 use Rattle.b2_atom.proofs.Characters.{hex_kept, function_of, is_function_name, function_ahead}
 use Rattle.b2_atom.proofs.LeavesRead.{ends, leaf_read, not_true, name_digit, name_letter, name_dollar, dollar_before, dollar_long}
-use Rattle.b2_atom.proofs.LeafFronts.{front, leaf_front, whole_upper, width_yes}
+use Rattle.b2_atom.proofs.LeafFronts.{front, leaf_front, width_yes}
+use Rattle.b2_atom.proofs.CleanLeaves.{whole_upper}
 
 -- a byte that is no letter, or one behind it that is none
 abbrev pub Quiet : ℕ → Text → Type 0

@@ -87,7 +87,7 @@ ends_relation n = not (n == 61 || n == 62)
 relation_one : (a n : ℕ) → ends_relation n ≡ true → relation_of a 0 ≡ 1 → relation_of a n ≡ 1
 relation_one a n stop h = grind (arith, nat_tests)
 
-relation_most : (a b n : ℕ) → relation_of a b ≡ suc (suc (suc n)) → ⊥
+pub relation_most : (a b n : ℕ) → relation_of a b ≡ suc (suc (suc n)) → ⊥
 relation_most a b n h = grind (arith, nat_tests)
 
 pub relation_more : (a : ℕ) (w x : Text) → relation_width (a ∷ w) ≡ suc (length w) → ends_relation (first x) ≡ true → relation_width (a ∷ (w ++ x)) ≡ suc (length w)

@@ -24,6 +24,7 @@ pub mod LineNumbers
 pub mod Keywords
 pub mod LeavesRead
 pub mod LeafFronts
+pub mod CleanLeaves
 pub mod Begun
 pub mod SideBySide
 pub mod Lettered
@@ -33,3 +34,6 @@ pub mod SpellsSource
 pub mod WholeLeaves
 pub mod WholeNames
 pub mod GoodLeaves
+pub mod Printable
+pub mod Fitted
+pub mod FittedLines

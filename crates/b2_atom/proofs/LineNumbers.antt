@@ -1,11 +1,11 @@
 -- A line number that is listed without zeros at its front is read as its two bytes.
-use Rattle.std.proofs.Common.{◌≡◌, ℕ, suc, ◌+◌, ◌-◌, ◌*◌, ◌/◌, ◌%◌, ◌≤◌, Bool, true, false, if◌then◌else◌, ◌==◌, ◌||◌, [], ◌∷◌, ◌++◌, drop, min, refl, sym, ap, subst, ◌∙◌, arith, nat_le, nat_lt, Err}
+use Rattle.std.proofs.Common.{◌≡◌, ℕ, suc, ◌+◌, ◌-◌, ◌*◌, ◌/◌, ◌%◌, ◌≤◌, Bool, true, false, if◌then◌else◌, ◌==◌, ◌||◌, ◌&&◌, [], ◌∷◌, ◌++◌, drop, min, refl, sym, ap, subst, ◌∙◌, arith, nat_le, nat_lt, Err}
 use Rattle.std.proofs.lemmas.Bool.Decides.{nat_tests}
 use Rattle.b2_atom.specs.Words.{Text, first}
 use Rattle.b2_atom.specs.Tokens.{spelled}
 use Rattle.b2_atom.specs.Tokens.Token.{Lined}
 use Rattle.b2_atom.specs.Tree.{one}
-use Rattle.b2_atom.specs.Leaves.{is_digit, digits, refused}
+use Rattle.b2_atom.specs.Leaves.{is_digit, is_printable, all_printable, digits, refused}
 use Rattle.b2_atom.specs.Grammar.{typed_line_number, two_digits, is_decimal}
 use Rattle.b2_atom.specs.declared.words.Origin.{Origin}
 use Rattle.b2_atom.proofs.Longest.{and_left, and_right}
@@ -133,3 +133,26 @@ pub line_shown : (h l : ℕ) → is_decimal h ≡ true → is_decimal l ≡ true
 line_shown h l hh hl =
     subst LineShown (sym (shown_line h l))
     (shown_digit _ _ _ _ _ _ _ (digit_shown (h / 16) (decimal_high h hh)) (digit_shown (h % 16) (decimal_low h hh)) (digit_shown (l / 16) (decimal_high l hl)) (digit_shown (l % 16) (decimal_low l hl)))
+
+-- its digits may stand in a line
+digit_printable : (a : ℕ) → is_digit a ≡ true → is_printable a ≡ true
+digit_printable a h = grind (arith, nat_tests)
+
+both : (a b : Bool) → a ≡ true → b ≡ true → (a && b) ≡ true
+both a b h k = rw h k
+
+more_printable : (a : ℕ) (w : Text) → is_digit a ≡ true → all_printable w ≡ true → all_printable (a ∷ w) ≡ true
+more_printable a w h k = both (is_printable a) (all_printable w) (digit_printable a h) k
+
+shown_printable : (p q r : Bool) (a b c d : ℕ) → is_digit a ≡ true → is_digit b ≡ true → is_digit c ≡ true → is_digit d ≡ true → all_printable (shown_by p q r a b c d) ≡ true
+unfolding shown_by
+shown_printable false q r a b c d ha hb hc hd = more_printable a (b ∷ c ∷ d ∷ []) ha (more_printable b (c ∷ d ∷ []) hb (more_printable c (d ∷ []) hc (more_printable d [] hd refl)))
+shown_printable true false r a b c d ha hb hc hd = more_printable b (c ∷ d ∷ []) hb (more_printable c (d ∷ []) hc (more_printable d [] hd refl))
+shown_printable true true false a b c d ha hb hc hd = more_printable c (d ∷ []) hc (more_printable d [] hd refl)
+shown_printable true true true a b c d ha hb hc hd = more_printable d [] hd refl
+
+pub line_printable : (h l : ℕ) → is_decimal h ≡ true → is_decimal l ≡ true → all_printable (spelled (Lined h l)) ≡ true
+line_printable h l hh hl =
+    ap all_printable (shown_line h l)
+    ∙ shown_printable (48 + h / 16 == 48) (48 + h % 16 == 48) (48 + l / 16 == 48) (48 + h / 16) (48 + h % 16) (48 + l / 16) (48 + l % 16)
+    (digit_shown (h / 16) (decimal_high h hh)) (digit_shown (h % 16) (decimal_low h hh)) (digit_shown (l / 16) (decimal_high l hl)) (digit_shown (l % 16) (decimal_low l hl))

@@ -55,10 +55,10 @@ digits_most [] = omega arith
 digits_most (b ∷ w) = let less = digits_most w in let more : suc (digits w) ≤ suc (length w) = omega arith in if_most (is_digit b) (suc (digits w)) (suc (length w)) more
 
 -- digits with a point or none
-behind : (w : Text) (n : ℕ) → (n < length w) ⊎ (length w ≤ n)
+pub behind : (w : Text) (n : ℕ) → (n < length w) ⊎ (length w ≤ n)
 behind w n = grind arith
 
-pointed : (w : Text) (n : ℕ) → (get_or w n 0 == 46) ≡ true → n < length w
+pub pointed : (w : Text) (n : ℕ) → (get_or w n 0 == 46) ≡ true → n < length w
 pointed w n h = elim (behind w n) [ inl less ↦ less | inr none ↦ absurd (false_true (ap (λ (b : ℕ). b == 46) (sym (get_none w n none)) ∙ h)) ]
 
 part_more : (w x : Text) (n : ℕ) (b : Bool) → (get_or w n 0 == 46) ≡ b → is_digit (first x) ≡ false
@@ -100,7 +100,7 @@ exponent_of_more sign t x fits stop =
 sign_least : (b : ℕ) → sign_width b ≤ 1
 sign_least b = grind (arith, nat_tests)
 
-no_exponent : (b : Bool) → ◌≡◌ {A = ℕ} (if b then 0 else 0) 1 → ⊥
+pub no_exponent : (b : Bool) → ◌≡◌ {A = ℕ} (if b then 0 else 0) 1 → ⊥
 no_exponent true h = cc
 no_exponent false h = cc
 
@@ -141,7 +141,7 @@ exponent_more o (a ∷ b ∷ v) x whole stop =
     ∙ is.1
 
 -- numbers
-number_parts : (m e n : ℕ) (b : Bool) → (m == 0) ≡ b → (if b then 0 else m + e) ≡ suc n → (b ≡ false) × (m + e ≡ suc n)
+pub number_parts : (m e n : ℕ) (b : Bool) → (m == 0) ≡ b → (if b then 0 else m + e) ≡ suc n → (b ≡ false) × (m + e ≡ suc n)
 number_parts m e n true is h = cc
 number_parts m e n false is h = (refl, h)
 
@@ -162,7 +162,7 @@ number_more o d w x whole stop =
     ∙ ap (λ (n : ℕ). m + n) (exponent_more o (drop m t) x tail stop ∙ sym tail)
     ∙ is.1
 
-signed_parts : (n m : ℕ) → one_more n ≡ suc m → n ≡ m
+pub signed_parts : (n m : ℕ) → one_more n ≡ suc m → n ≡ m
 signed_parts n m h = grind (arith, nat_tests)
 
 one_more_suc : (n : ℕ) → one_more (suc n) ≡ suc (suc n)
