@@ -37,3 +37,5 @@ pub mod GoodLeaves
 pub mod Printable
 pub mod Fitted
 pub mod FittedLines
+pub mod Anywhere
+pub mod LineLaws
