@@ -1,5 +1,5 @@
 -- A tree that some kind of line allows is one that a line of atoms allows.
-use Rattle.std.proofs.Common.{◌≡◌, ℕ, zero, suc, ◌==◌, ◌&&◌, ◌||◌, not, Bool, true, false, List, [], ◌∷◌, refl, inl, inr, ◌⊎◌}
+use Rattle.std.proofs.Common.{◌≡◌, ℕ, zero, suc, ◌==◌, ◌&&◌, ◌||◌, not, Bool, true, false, List, [], ◌∷◌, refl, inl, inr}
 use Rattle.b2_atom.specs.Tokens.{Token}
 use Rattle.b2_atom.specs.Tokens.Token.{Coded, Plain, Lined}
 use Rattle.b2_atom.specs.Tree.{Trees}
@@ -15,7 +15,7 @@ use Rattle.b2_atom.specs.declared.forms.Rule.{Rule}
 use Rattle.b2_atom.specs.declared.forms.Form.{Form}
 use Rattle.b2_atom.specs.declared.forms.Item.{Item}
 use Rattle.b2_atom.specs.declared.forms.Item.TheVariants.{Word, Sign, Among, ProgramWord, Ignored, Comma, LeftOut, End, Typed, Part, Maybe, Either, Many, Nest, Statement}
-use Rattle.b2_atom.proofs.Tests.{and_left, and_right, both, or_cases, or_one, or_other}
+use Rattle.b2_atom.proofs.Booleans.{and_left, and_right, both, or_cases, or_one, or_other}
 
 token_program : (i : Item) (t : Token) → fits_token origin.Program i t ≡ true → fits_token origin.Atoms i t ≡ true
 token_program (Word c) (Coded d) h = h

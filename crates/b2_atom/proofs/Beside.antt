@@ -1,5 +1,5 @@
 -- The tokens of a line's tree may stand side by side, and each is a good token.
-use Rattle.std.proofs.Common.{◌≡◌, ℕ, zero, suc, ◌+◌, ◌-◌, ◌<◌, ◌≤◌, ◌==◌, ◌&&◌, ◌||◌, not, nat_le, nat_lt, Bool, true, false, if◌then◌else◌, List, [], ◌∷◌, ◌++◌, length, refl, sym, ap, subst, ◌∙◌, arith, append-nil, inl, inr, ◌⊎◌}
+use Rattle.std.proofs.Common.{◌≡◌, ℕ, ◌==◌, ◌&&◌, ◌||◌, not, nat_le, nat_lt, Bool, true, false, if◌then◌else◌, List, [], ◌∷◌, ◌++◌, refl, sym, ap, subst, ◌∙◌, arith, append-nil, inl, inr, ◌⊎◌}
 use Rattle.std.proofs.lemmas.Bool.Decides.{nat_tests}
 use Rattle.b2_atom.specs.Words.{Text}
 use Rattle.b2_atom.specs.Tokens.{Token}
@@ -7,14 +7,14 @@ use Rattle.b2_atom.specs.Tokens.Token.{Coded, Plain, Lined}
 use Rattle.b2_atom.specs.Tree.{Trees, tokens}
 use Rattle.b2_atom.specs.Leaves.{is_letter}
 use Rattle.b2_atom.specs.Grammar.{row_items, is_among}
-use Rattle.b2_atom.specs.Spelling.{is_whole, is_mark, is_literal, is_free, is_image, is_dollar, is_unrelated, is_lettered, may_follow, may_follow_code, may_follow_leaf, Neighbours, AllGood, good_token, is_in, signs}
+use Rattle.b2_atom.specs.Spelling.{is_mark, is_literal, is_free, is_image, is_dollar, is_unrelated, is_lettered, may_follow, may_follow_leaf, Neighbours, AllGood, good_token, is_in, signs}
 use Rattle.b2_atom.specs.Fitting.{leaf_number, is_remark, is_rest, RemarksEnd, LineTree}
 use Rattle.b2_atom.specs.declared.rows.TheConstants as row
 use Rattle.b2_atom.specs.declared.words.Origin.{Origin}
 use Rattle.b2_atom.specs.declared.words.TheConstants as word
 use Rattle.b2_atom.specs.declared.forms.Leaf.{Leaf}
 use Rattle.b2_atom.specs.declared.forms.Leaf.TheVariants as leaf
-use Rattle.b2_atom.proofs.Tests.{and_left, and_right, or_left, or_right, or_none, or_one, or_other, or_cases, never, not_true, equal, both, either_way}
+use Rattle.b2_atom.proofs.Booleans.{and_left, and_right, or_left, or_right, or_none, or_one, or_other, or_cases, never, not_true, equal, both, either_way}
 use Rattle.b2_atom.proofs.Fronts.{every, some, of, of_items, covered, statement_heads, good_front, before_good, Front, fronts, marks, is_kind, is_one, not_free, not_image, no_dollar, unrelated, lettered, is_data, beside_code, beside_leaf, is_calm, beside}
 use Rattle.b2_atom.proofs.Fronts.Front.{Any, None, Spanned, Hand, Numbered}
 use Rattle.b2_atom.proofs.FrontAnswers.{same_leaf, some_front}

@@ -1,42 +1,40 @@
 -- A branch of a tree that fits is read from each text that spells it: parts, options, choices, repetitions, what stands in
 -- parentheses, and statements.
-use Rattle.std.proofs.Common.{◌≡◌, ℕ, zero, suc, ◌+◌, ◌-◌, ◌<◌, ◌≤◌, ◌==◌, ◌&&◌, ◌||◌, not, nat_le, nat_lt, Bool, true, false, if◌then◌else◌, List, [], ◌∷◌, ◌++◌, length, refl, sym, ap, subst, ◌∙◌, arith, append_assoc, append-nil, inl, inr, ◌⊎◌, Result, Ok, Err}
+use Rattle.std.proofs.Common.{◌≡◌, ℕ, zero, suc, ◌+◌, ◌<◌, ◌≤◌, ◌==◌, ◌&&◌, ◌||◌, not, nat_le, Bool, true, false, if◌then◌else◌, List, [], ◌∷◌, ◌++◌, length, refl, sym, ap, subst, ◌∙◌, arith, append_assoc, inl, inr, ◌⊎◌, Ok, Err}
 use Rattle.std.proofs.lemmas.Bool.Decides.{nat_tests}
 use Rattle.b2_atom.specs.Words.{Text}
 use Rattle.b2_atom.specs.Tokens.{Token}
 use Rattle.b2_atom.specs.Tokens.Token.{Coded, Plain, Lined}
-use Rattle.b2_atom.specs.Tree.{Trees, tokens, Outcome, Parser, one, nothing, joined, and_then, under, also}
+use Rattle.b2_atom.specs.Tree.{Trees, tokens, Outcome, Parser, joined, and_then, under, also}
 use Rattle.b2_atom.specs.Tree.Trees.{Done, Put, In}
-use Rattle.b2_atom.specs.Grammar.{Reader, reader, items, item, level, deep, statement, many, row_items, starts, absent, chosen, statement_row, read_leaf, text_to_end}
+use Rattle.b2_atom.specs.Grammar.{reader, items, item, level, deep, statement, many, row_items, starts, absent, statement_row, read_leaf, text_to_end}
 use Rattle.b2_atom.specs.Spelling.{Spells}
 use Rattle.b2_atom.specs.Fitting.{fits_token, giving, may_end, Fits, FitsPut, FitsIn, FitsBranch, is_statement, is_remark, is_rest, RemarksEnd}
 use Rattle.b2_atom.specs.Table.{forms}
 use Rattle.b2_atom.specs.declared.words.Origin.{Origin}
-use Rattle.b2_atom.specs.declared.forms.Leaf.{Leaf}
 use Rattle.b2_atom.specs.declared.words.TheConstants as word
 use Rattle.b2_atom.specs.declared.forms.Leaf.TheVariants as leaf
 use Rattle.b2_atom.specs.declared.forms.Start.{Start}
 use Rattle.b2_atom.specs.declared.forms.Place.{Place}
 use Rattle.b2_atom.specs.declared.forms.Item.{Item}
-use Rattle.b2_atom.specs.declared.forms.Item.TheVariants.{Word, Sign, Among, ProgramWord, Ignored, Comma, LeftOut, End, Typed, Part, Maybe, Either, Many, Nest, Statement}
-use Rattle.b2_atom.specs.declared.sink.Stop.{Stop}
-use Rattle.b2_atom.proofs.Tests.{equal, and_left, and_right, or_left, or_right, or_none, or_one, or_other, or_cases, never, either_way, not_true}
-use Rattle.b2_atom.proofs.Fronts.{every, some, Front, fronts, surely, Tail, Known, when, of_item, of_items, of, refuse, settled, settled_item, is_far, is_near, is_bound, is_closed, is_mark_item, is_free_row, refused_by, of_row, is_remark_item, is_text}
-use Rattle.b2_atom.proofs.Fronts.Front.{None, Spanned}
-use Rattle.b2_atom.proofs.Fronts.Tail.{Asked, Closed, Over}
+use Rattle.b2_atom.specs.declared.forms.Item.TheVariants.{Word, Sign, Typed, Part, Maybe, Either, Many, Nest}
+use Rattle.b2_atom.proofs.Booleans.{equal, and_left, and_right, or_one, or_other, or_cases, never, not_true}
+use Rattle.b2_atom.proofs.Fronts.{every, some, Front, fronts, surely, Tail, Known, when, of_item, of_items, of, refuse, settled_item, is_far, is_near, is_bound, is_closed, is_mark_item, is_free_row, of_row, is_remark_item, is_text}
+use Rattle.b2_atom.proofs.Fronts.Front.{Spanned}
+use Rattle.b2_atom.proofs.Fronts.Tail.{Asked}
 use Rattle.b2_atom.proofs.FrontAnswers.{answers}
-use Rattle.b2_atom.proofs.Heads.{known, Refused, RefusedBy, refused_left, refused_right, refused_both, refused_fronts, is_closing, Led, leads, led_known, fills}
-use Rattle.b2_atom.proofs.Complete.{Runs, runs_then, runs_under, runs_is, reads_row, reads_item, lead, Ready, behind, next_runs, length_append, ready_in, ready_row, rank_left, if_is, remarks_right, put_runs}
+use Rattle.b2_atom.proofs.Heads.{known, Refused, RefusedBy, refused_left, refused_right, refused_fronts, is_closing, Led, leads, led_known, fills}
+use Rattle.b2_atom.proofs.Complete.{Runs, runs_then, runs_under, runs_is, reads_row, lead, Ready, behind, next_runs, length_append, ready_in, ready_row, rank_left, if_is, remarks_right, put_runs}
 use Rattle.b2_atom.proofs.Settled.{row_settled}
 
 -- what the choices of statements, and those that look further than the next token, come to
 pub record Chooses (o : Origin) : Type 0 where
   pub far_first : (st : Start) (n k room : ℕ) (inner : Trees) (more : List Token) (s : Text) → is_far st n k ≡ true → Fits o room (row_items n) inner
-    → Spells o (tokens inner ++ more) s → starts o st s ≡ true
+      → Spells o (tokens inner ++ more) s → starts o st s ≡ true
   pub far_second : (st : Start) (n k room : ℕ) (inner : Trees) (more : List Token) (s : Text) → is_far st n k ≡ true → Fits o room (row_items k) inner
-    → Refused o (of k).tails more → Spells o (tokens inner ++ more) s → starts o st s ≡ false
+      → Refused o (of k).tails more → Spells o (tokens inner ++ more) s → starts o st s ≡ false
   pub one_statement : (p : Place) (m : ℕ) (inner : Trees) (more : List Token) (s : Text) → is_statement forms o p m ≡ true → Fits o 32 (row_items m) inner
-    → is_closing more ≡ true → Spells o (tokens inner ++ more) s → (u : Text) × ((statement_row o p s ≡ Ok (m, u)) × Spells o (tokens inner ++ more) u)
+      → is_closing more ≡ true → Spells o (tokens inner ++ more) s → (u : Text) × ((statement_row o p s ≡ Ok (m, u)) × Spells o (tokens inner ++ more) u)
 
 abbrev pub Good : Trees → Type 0
 Good t = (o : Origin) → Chooses o → (room l f : ℕ) (is : List Item) → Fits o room is t → (more : List Token) → Ready o room l f is t more
@@ -131,7 +129,7 @@ maybe_runs inner ts gi gt o chooses room l f x n is fi ft more r s spelled =
     let spelled_in = inner_spelled o inner ts more s spelled in
     let behind_ = branch_behind o room l f 1 (Maybe x n) is inner ts more ft (and_left _ _ tests) r in
     let asked = answers o x (of n).heads true (tokens inner ++ (tokens ts ++ more)) s (and_right (not (of n).empty) _ fronts_)
-      (row_fronts inner o room n fi (and_left _ _ fronts_) (tokens ts ++ more)) spelled_in in
+    (row_fronts inner o room n fi (and_left _ _ fronts_) (tokens ts ++ more)) spelled_in in
     next_runs o room l f (Maybe x n) is (In 1 inner Done) ts (tokens ts ++ more) more s
     (runs_is o _ (under 1 (reads_part o room l f n s)) (In 1 inner Done) (tokens ts ++ more) (if_is (starts o x s) true _ _ asked)
     (runs_under o 1 (reads_part o room l f n s) inner (tokens ts ++ more)
@@ -348,7 +346,7 @@ many_more inner ts gi gt o chooses room l f x n is fi ft more r (suc k) fuel s s
     let behind_ = turn_behind o x n is (tokens ts) more (leads ts o room (Many x n ∷ is) ft more) (and_right (every (λ (f : Front). surely x f true) (of n).heads) _ rest) (and_left _ _ tests) r.refuses in
     let asked = answers o x (of n).heads true (tokens inner ++ (tokens ts ++ more)) s (and_left _ _ rest) (row_fronts inner o room n fi (and_left _ _ choice) (tokens ts ++ more)) spelled_in in
     let less = less_fuel (length (tokens inner)) (length (tokens ts)) (length (tokens inner ++ tokens ts)) k (length_append (tokens inner) (tokens ts))
-      (some_tokens inner o room n fi (and_left _ _ choice)) fuel in
+    (some_tokens inner o room n fi (and_left _ _ choice)) fuel in
     runs_is o _ (and_then (under 1 (reads_part o room l f n s)) (λ (u : Text). and_then (many (reader o) x (reads_part o room l f n) k u) (reads_row o room l f is))) (In 1 inner ts) more
     (ap (λ (b : Bool). and_then (if b then and_then (under 1 (reads_part o room l f n s)) (many (reader o) x (reads_part o room l f n) k) else absent s) (reads_row o room l f is)) asked
     ∙ then_then (under 1 (reads_part o room l f n s)) (many (reader o) x (reads_part o room l f n) k) (reads_row o room l f is))

@@ -1,15 +1,15 @@
 -- A statement's row is chosen by its first two tokens.
-use Rattle.std.proofs.Common.{◌≡◌, ℕ, zero, suc, ◌+◌, ◌-◌, ◌<◌, ◌≤◌, ◌==◌, ◌&&◌, ◌||◌, not, nat_le, nat_lt, Bool, true, false, if◌then◌else◌, List, [], ◌∷◌, ◌++◌, length, refl, sym, ap, subst, ◌∙◌, arith, inl, inr, ◌⊎◌, Result, Ok, Err}
+use Rattle.std.proofs.Common.{◌≡◌, ℕ, ◌-◌, ◌<◌, ◌==◌, ◌&&◌, ◌||◌, not, Bool, true, false, if◌then◌else◌, List, [], ◌∷◌, ◌++◌, length, refl, sym, ap, subst, ◌∙◌, arith, inl, inr, Result, Ok, Err}
 use Rattle.std.proofs.lemmas.Bool.Decides.{nat_tests}
 use Rattle.b2_atom.specs.Words.{Text, first, skipped, skip_blanks, ahead}
 use Rattle.b2_atom.specs.Tokens.{Token}
 use Rattle.b2_atom.specs.Tokens.Token.{Coded, Plain, Lined}
-use Rattle.b2_atom.specs.Tree.{Trees, tokens, Outcome, one}
+use Rattle.b2_atom.specs.Tree.{Trees, tokens}
 use Rattle.b2_atom.specs.Tree.Trees.{Done, Put, In}
 use Rattle.b2_atom.specs.Leaves.{is_letter}
-use Rattle.b2_atom.specs.Grammar.{row_items, starts, class_at, is_among, row_at, allowed, from, statement_at, statement_row, begins_let, variable_begins, read_leaf, plain, spelled_behind, barred_following, barred_line, barred_place}
-use Rattle.b2_atom.specs.Spelling.{Begins, Spells, Named, ShowsName, is_code, is_beg, is_classed, has_class, is_whole}
-use Rattle.b2_atom.specs.Fitting.{Fits, FitsPut, FitsIn, FitsBranch, giving, may_end, fits_token, leaf_number, is_statement, is_allowed}
+use Rattle.b2_atom.specs.Grammar.{row_items, starts, class_at, is_among, row_at, allowed, from, statement_row, begins_let, variable_begins, read_leaf, plain, spelled_behind, barred_following, barred_line, barred_place}
+use Rattle.b2_atom.specs.Spelling.{Begins, Spells, Named, has_class, is_whole}
+use Rattle.b2_atom.specs.Fitting.{Fits, FitsPut, FitsIn, FitsBranch, giving, may_end, leaf_number, is_statement, is_allowed}
 use Rattle.b2_atom.specs.Table.{forms}
 use Rattle.b2_atom.specs.declared.words.TheConstants as word
 use Rattle.b2_atom.specs.declared.rows.TheConstants as row
@@ -20,18 +20,17 @@ use Rattle.b2_atom.specs.declared.forms.Leaf.TheVariants as leaf
 use Rattle.b2_atom.specs.declared.forms.Start.{Start}
 use Rattle.b2_atom.specs.declared.forms.Start.TheVariants as start
 use Rattle.b2_atom.specs.declared.forms.Place.{Place}
-use Rattle.b2_atom.specs.declared.forms.Rule.{Rule}
 use Rattle.b2_atom.specs.declared.forms.Form.{Form}
 use Rattle.b2_atom.specs.declared.forms.Item.{Item}
-use Rattle.b2_atom.specs.declared.forms.Item.TheVariants.{Word, Sign, Among, ProgramWord, Ignored, Comma, LeftOut, End, Typed, Part, Maybe, Either, Many, Nest, Statement}
+use Rattle.b2_atom.specs.declared.forms.Item.TheVariants.{Word, Sign, Among}
 use Rattle.b2_atom.specs.declared.sink.Stop.{Stop}
 use Rattle.b2_atom.specs.declared.sink.Stop.TheVariants.{At}
-use Rattle.b2_atom.proofs.Tests.{and_left, and_right, or_left, or_right, or_none, or_one, or_other, or_false, or_cases, never, not_true, equal, span_of, either_way}
-use Rattle.b2_atom.proofs.Fronts.{every, some, Front, fronts, spans, sure, surely, is_spanned, pair_surely, variable_spans, lacks, choose, closing_heads, seconds, marked_choice, chosen_row, Known, when, of_item, of_items, of, covered, statement_heads, is_mark_item, leading}
-use Rattle.b2_atom.proofs.Fronts.Front.{Any, None, Spanned, Hand, Numbered}
+use Rattle.b2_atom.proofs.Booleans.{and_left, and_right, or_one, or_other, or_false, or_cases, never, not_true, equal, span_of, either_way}
+use Rattle.b2_atom.proofs.Fronts.{every, some, Front, fronts, spans, sure, is_spanned, pair_surely, variable_spans, lacks, choose, closing_heads, seconds, marked_choice, chosen_row, when, of_item, of_items, of, statement_heads, is_mark_item, leading}
+use Rattle.b2_atom.proofs.Fronts.Front.{Any, Spanned}
 use Rattle.b2_atom.proofs.FrontAnswers.{says, some_front, class_says, same_leaf}
 use Rattle.b2_atom.proofs.Settled.{statement_good, statement_chosen}
-use Rattle.b2_atom.proofs.Heads.{known, is_closing, Led, leads, led_known, covered_all, token_leads}
+use Rattle.b2_atom.proofs.Heads.{is_closing, Led, leads, led_known, covered_all, token_leads}
 
 -- blanks are skipped once
 skip_more : (b : ℕ) (bs : Text) (c : Bool) → (b == 32) ≡ c → skip_blanks (skip_blanks bs) ≡ skip_blanks bs
@@ -221,20 +220,20 @@ at_row o p [] m f g t ts u h k l spelled same stated =
     if_row (variable_begins o u) true _ _ begins ∙ ap Ok (sym (equal m row.ASSIGNMENT (and_left _ _ h)))
 at_row o p (x ∷ xs) m f g t ts u h k l spelled same stated = elim (either_way (pair_surely x.start f g true)) [
   | inl sure_ ↦ (let found = if_test _ _ _ sure_ h in
-    let row_is : x.row ≡ m = equal x.row m (and_left _ _ found) in
-    if_row (starts o x.start u) true _ _ (pair_says o x.start f g true t ts u sure_ k l spelled)
-    ∙ elim (or_cases (x.row == m && is_allowed o p x.rule) (is_statement xs o p m) stated) [
-      | inl e ↦ allowed_row o p x u (and_right (x.row == m) _ e) ∙ ap Ok row_is
-      | inr e ↦ absurd (no_statement o p xs m (and_right (x.row == m) _ found) e)
-    ])
+      let row_is : x.row ≡ m = equal x.row m (and_left _ _ found) in
+      if_row (starts o x.start u) true _ _ (pair_says o x.start f g true t ts u sure_ k l spelled)
+      ∙ elim (or_cases (x.row == m && is_allowed o p x.rule) (is_statement xs o p m) stated) [
+        | inl e ↦ allowed_row o p x u (and_right (x.row == m) _ e) ∙ ap Ok row_is
+        | inr e ↦ absurd (no_statement o p xs m (and_right (x.row == m) _ found) e)
+      ])
   | inr not_sure ↦ (let found = if_other _ _ _ not_sure h in
-    let others = and_right (pair_surely x.start f g false) _ found in
-    if_row (starts o x.start u) false _ _ (pair_says o x.start f g false t ts u (and_left _ _ found) k l spelled)
-    ∙ at_row o p xs m f g t ts u (and_right (not (x.row == m)) _ others) k l spelled same
-    (elim (or_cases (x.row == m && is_allowed o p x.rule) (is_statement xs o p m) stated) [
-      | inl e ↦ never (x.row == m) (and_left _ _ e) (not_true _ (and_left _ _ others))
-      | inr e ↦ e
-    ]))
+      let others = and_right (pair_surely x.start f g false) _ found in
+      if_row (starts o x.start u) false _ _ (pair_says o x.start f g false t ts u (and_left _ _ found) k l spelled)
+      ∙ at_row o p xs m f g t ts u (and_right (not (x.row == m)) _ others) k l spelled same
+      (elim (or_cases (x.row == m && is_allowed o p x.rule) (is_statement xs o p m) stated) [
+        | inl e ↦ never (x.row == m) (and_left _ _ e) (not_true _ (and_left _ _ others))
+        | inr e ↦ e
+      ]))
 ]
 
 -- where a statement begins, and which it is
@@ -249,10 +248,14 @@ stands : (o : Origin) (p : Place) (m : ℕ) (f g : Front) (t : Token) (ts : List
     → opens_statement t ≡ true → is_statement forms o p m ≡ true → Spells o (t ∷ ts) s → Stands o p m (t ∷ ts) s
 unfolding statement_row
 stands o p m f g t ts s h k l opens stated spelled =
-    let there : Spells o (t ∷ ts) (skipped o s) = (spelled.0, (respelled o t ts s spelled.0 opens spelled.1.0, spelled.1.1)) in
-    (skipped o s,
-    (result_row (begins_let o (skipped o s)) (skipped o s) (row_at forms o p (skipped o s)) m _ (spelled.1.0.lets (opens_class t opens))
-    (at_row o p forms m f g t ts (skipped o s) h k l there (skipped_twice o s) stated), there))
+    let there : Spells o (t ∷ ts) (skipped o s) = (spelled.0, (respelled o t ts s spelled.0 opens spelled.1.0, spelled.1.1)) in (
+      skipped o s,
+      (
+        result_row (begins_let o (skipped o s)) (skipped o s) (row_at forms o p (skipped o s)) m _ (spelled.1.0.lets (opens_class t opens))
+            (at_row o p forms m f g t ts (skipped o s) h k l there (skipped_twice o s) stated),
+        there,
+      ),
+    )
 
 -- by its first two tokens
 by_two : (o : Origin) (p : Place) (m : ℕ) (fs gs : List Front) (t : Token) (ts : List Token) (s : Text) → every (λ (f : Front). every (λ (g : Front). choose forms m f g) gs) fs ≡ true
@@ -349,7 +352,7 @@ one_statement o p m inner more s stated fits closed spelled =
     ] in
     let heads = covered_all statement_heads (of m).heads (tokens inner ++ more) (and_left _ _ (and_right (not (of m).empty) _ test)) begun in
     let opens : (xs : List Token) (x : Token) → tokens inner ++ more ≡ x ∷ xs → opens_statement x ≡ true =
-      λ xs x same. opening x xs (ap (λ (l : List Token). some (λ (f : Front). fronts f l) statement_heads) (sym same) ∙ heads) in
+    λ xs x same. opening x xs (ap (λ (l : List Token). some (λ (f : Front). fronts f l) statement_heads) (sym same) ∙ heads) in
     elim (either_way (leading (row_items m))) [
       | inl g ↦ marked o p m (row_items m) inner more s g (ap (chosen_row m) (sym g) ∙ statement_chosen o p m stated) opens stated fits closed spelled
       | inr g ↦ unmarked o p m (tokens inner ++ more) s (ap (chosen_row m) (sym g) ∙ statement_chosen o p m stated) begun opens stated spelled heads

@@ -1,32 +1,28 @@
 -- A tree that fits is read from each text that spells its tokens.
-use Rattle.std.proofs.Common.{◌≡◌, ℕ, zero, suc, ◌+◌, ◌-◌, ◌<◌, ◌≤◌, ◌==◌, ◌&&◌, ◌||◌, not, nat_le, nat_lt, Bool, true, false, if◌then◌else◌, List, [], ◌∷◌, ◌++◌, length, refl, sym, ap, subst, ◌∙◌, arith, append_assoc, append-nil, inl, inr, ◌⊎◌, Result, Ok, Err}
+use Rattle.std.proofs.Common.{◌≡◌, ℕ, suc, ◌+◌, ◌≤◌, ◌==◌, ◌&&◌, not, nat_le, Bool, true, false, if◌then◌else◌, List, [], ◌∷◌, ◌++◌, length, refl, sym, ap, subst, ◌∙◌, arith, append_assoc, inl, inr, Ok, Err}
 use Rattle.std.proofs.lemmas.Bool.Decides.{nat_tests}
-use Rattle.b2_atom.specs.Words.{Text, first, skipped, ahead}
+use Rattle.b2_atom.specs.Words.{Text, skipped, ahead}
 use Rattle.b2_atom.specs.Tokens.{Token}
 use Rattle.b2_atom.specs.Tokens.Token.{Coded, Plain, Lined}
-use Rattle.b2_atom.specs.Tree.{Trees, tokens, Outcome, Parser, one, nothing, joined, and_then, under, also}
+use Rattle.b2_atom.specs.Tree.{Trees, tokens, Outcome, Parser, one, joined, and_then, under, also}
 use Rattle.b2_atom.specs.Tree.Trees.{Done, Put, In}
 use Rattle.b2_atom.specs.Leaves.{refused}
-use Rattle.b2_atom.specs.Grammar.{Reader, reader, read_item, items, item, level, deep, statement, many, row_items, starts, absent, chosen, statement_row, mark, mark_at, among, among_at, program_word, comma, comma_at, read_leaf, ignored, ignored_at, end_of_line, end_at, class_at, is_among}
-use Rattle.b2_atom.specs.Spelling.{Spells, Begins, is_whole}
-use Rattle.b2_atom.specs.Fitting.{Fits, FitsPut, FitsIn, FitsBranch, giving, may_end, fits_token, leaf_number, is_statement, is_remark, is_rest, RemarksEnd}
-use Rattle.b2_atom.specs.Table.{forms}
+use Rattle.b2_atom.specs.Grammar.{reader, items, item, level, deep, statement, row_items, starts, mark, mark_at, among, among_at, program_word, comma, comma_at, read_leaf, ignored, end_of_line, end_at, is_among}
+use Rattle.b2_atom.specs.Spelling.{Spells}
+use Rattle.b2_atom.specs.Fitting.{giving, may_end, fits_token, leaf_number, RemarksEnd}
 use Rattle.b2_atom.specs.declared.words.Origin.{Origin}
 use Rattle.b2_atom.specs.declared.words.Origin.TheVariants as origin
 use Rattle.b2_atom.specs.declared.forms.Leaf.{Leaf}
 use Rattle.b2_atom.specs.declared.forms.Leaf.TheVariants as leaf
-use Rattle.b2_atom.specs.declared.forms.Start.{Start}
 use Rattle.b2_atom.specs.declared.forms.Start.TheVariants as start
 use Rattle.b2_atom.specs.declared.forms.Place.{Place}
 use Rattle.b2_atom.specs.declared.forms.Item.{Item}
 use Rattle.b2_atom.specs.declared.forms.Item.TheVariants.{Word, Sign, Among, ProgramWord, Ignored, Comma, LeftOut, End, Typed, Part, Maybe, Either, Many, Nest, Statement}
-use Rattle.b2_atom.specs.declared.sink.Stop.{Stop}
-use Rattle.b2_atom.proofs.Tests.{and_left, and_right, or_left, or_right, or_none, or_one, or_other, or_cases, never, either_way, equal, span_of, not_true}
-use Rattle.b2_atom.proofs.Fronts.{every, some, Front, fronts, Tail, Known, when, of_item, of_items, of, refuse, settled, settled_item, settled_row, is_mark_item, is_last, is_free_row, of_row}
-use Rattle.b2_atom.proofs.Fronts.Tail.{Asked, Closed, Over}
-use Rattle.b2_atom.proofs.FrontAnswers.{answers, same_leaf}
-use Rattle.b2_atom.proofs.Settled.{row_settled, statement_good}
-use Rattle.b2_atom.proofs.Heads.{known, Refused, RefusedBy, refused_left, refused_right, refused_both, refused_fronts, is_closing, Led, leads, may_end_empty, led_giving}
+use Rattle.b2_atom.proofs.Booleans.{and_left, and_right, or_cases, never, equal, not_true}
+use Rattle.b2_atom.proofs.Fronts.{Tail, Known, when, of_item, of_items, of, refuse, settled, is_mark_item, is_last, is_free_row, of_row}
+use Rattle.b2_atom.proofs.FrontAnswers.{same_leaf}
+use Rattle.b2_atom.proofs.Settled.{row_settled}
+use Rattle.b2_atom.proofs.Heads.{known, Refused, refused_left, refused_right, refused_fronts, Led, may_end_empty, led_giving}
 
 -- a reading that gives a tree, and leaves a text that spells some tokens
 abbrev pub Runs : Origin → Outcome → Trees → List Token → Type 0
@@ -224,7 +220,7 @@ ready_behind o room l f i is t more unmarked tests r = record {
   settles = tests;
   ranked = rank_right (of_item of i).rank (of_items of is).rank l r.ranked;
   enough = λ h. let e = r.enough (and_false (of_item of i).plain (of_items of is).plain h) in
-    less_behind (is_mark_item i) (length (tokens t)) (lead is) f unmarked e;
+      less_behind (is_mark_item i) (length (tokens t)) (lead is) f unmarked e;
   refuses = refused_right o (when (of_items of is).empty (of_item of i).tails) _ more r.refuses;
   remarks = r.remarks;
 }
@@ -269,8 +265,8 @@ ready_in o room l f m i is inner ts more unmarked tests r = record {
   settles = tests;
   ranked = rank_right (of_item of i).rank (of_items of is).rank l r.ranked;
   enough = λ h. let e = r.enough (and_false (of_item of i).plain (of_items of is).plain h) in
-    let n = length_append (tokens inner) (tokens ts) in
-    less_in (is_mark_item i) (length (tokens inner)) (length (tokens ts)) (length (tokens inner ++ tokens ts)) (lead is) f unmarked n e;
+      let n = length_append (tokens inner) (tokens ts) in
+      less_in (is_mark_item i) (length (tokens inner)) (length (tokens ts)) (length (tokens inner ++ tokens ts)) (lead is) f unmarked n e;
   refuses = refused_right o (when (of_items of is).empty (of_item of i).tails) _ more r.refuses;
   remarks = (let P : List Token → Type 0 = λ l. RemarksEnd l in remarks_right (tokens inner) (tokens ts ++ more) (subst P (append_assoc (tokens inner) (tokens ts) more) r.remarks));
 }

@@ -1,16 +1,15 @@
 -- The choices that look further than the next token: an array, a scratched file, and B E G.
-use Rattle.std.proofs.Common.{◌≡◌, ℕ, zero, suc, ◌+◌, ◌-◌, ◌<◌, ◌≤◌, ◌==◌, ◌&&◌, ◌||◌, not, nat_le, nat_lt, Bool, true, false, if◌then◌else◌, List, [], ◌∷◌, ◌++◌, length, drop, get_or, refl, sym, ap, subst, ◌∙◌, arith, append_assoc, append-nil, inl, inr, ◌⊎◌}
+use Rattle.std.proofs.Common.{◌≡◌, ℕ, zero, suc, ◌+◌, ◌-◌, ◌<◌, ◌==◌, ◌&&◌, ◌||◌, not, nat_lt, Bool, true, false, if◌then◌else◌, List, [], ◌∷◌, ◌++◌, length, drop, refl, sym, ap, subst, ◌∙◌, arith, append_assoc, inl, inr}
 use Rattle.std.proofs.lemmas.Bool.Decides.{nat_tests}
-use Rattle.b2_atom.specs.Words.{Text, first, skipped, ahead, typed_by, typed_ahead, joined, upper, word_at, skip_blanks}
+use Rattle.b2_atom.specs.Words.{Text, first, skipped, ahead, word_at}
 use Rattle.b2_atom.specs.Tokens.{Token}
 use Rattle.b2_atom.specs.Tokens.Token.{Coded, Plain, Lined}
 use Rattle.b2_atom.specs.Tree.{Trees, tokens}
 use Rattle.b2_atom.specs.Tree.Trees.{Done, Put, In}
 use Rattle.b2_atom.specs.Leaves.{is_alpha_name, name_width, any_name_width, alpha_name_width}
-use Rattle.b2_atom.specs.Grammar.{row_items, starts, class_at, is_among, alpha_begins, array_of, spelled_behind}
-use Rattle.b2_atom.specs.Spelling.{Spells, Begins, Named, ShowsName, is_whole, has_class, is_classed, is_code, is_beg}
-use Rattle.b2_atom.specs.Fitting.{Fits, FitsPut, FitsIn, FitsBranch, fits_token, leaf_number, giving, may_end}
-use Rattle.b2_atom.specs.declared.words.TheConstants as word
+use Rattle.b2_atom.specs.Grammar.{row_items, starts, class_at, is_among, alpha_begins, array_of}
+use Rattle.b2_atom.specs.Spelling.{Spells, Named, ShowsName, is_whole, has_class, is_classed, is_code, is_beg}
+use Rattle.b2_atom.specs.Fitting.{Fits, fits_token, leaf_number}
 use Rattle.b2_atom.specs.declared.rows.TheConstants as row
 use Rattle.b2_atom.specs.declared.words.Origin.{Origin}
 use Rattle.b2_atom.specs.declared.words.Origin.TheVariants as origin
@@ -19,16 +18,15 @@ use Rattle.b2_atom.specs.declared.forms.Leaf.TheVariants as leaf
 use Rattle.b2_atom.specs.declared.forms.Start.{Start}
 use Rattle.b2_atom.specs.declared.forms.Start.TheVariants as start
 use Rattle.b2_atom.specs.declared.forms.Item.{Item}
-use Rattle.b2_atom.specs.declared.forms.Item.TheVariants.{Word, Sign, Among, ProgramWord, Ignored, Comma, LeftOut, End, Typed, Part, Maybe, Either, Many, Nest, Statement}
-use Rattle.b2_atom.proofs.Tests.{and_left, and_right, or_left, or_right, or_none, or_one, or_other, or_cases, or_false, never, not_true, equal, both, either_way, span_of}
-use Rattle.b2_atom.proofs.Fronts.{Span, spans, apart, every, some, Front, fronts, classes, sure, alpha, is_named, is_numeric_name, is_alpha_front, name_spans, alpha_spans, number_front, class_front, not_close, before_number, is_expression, not_open, not_b, named_or_not, ends_open, asks_open, some_tail, is_spanned, Tail, of, of_items, is_far, besides, Known}
+use Rattle.b2_atom.specs.declared.forms.Item.TheVariants.{Sign, Typed, Nest}
+use Rattle.b2_atom.proofs.Booleans.{and_left, and_right, or_one, or_other, or_cases, or_false, never, not_true, equal, both, either_way, span_of}
+use Rattle.b2_atom.proofs.Fronts.{Span, spans, apart, every, some, Front, fronts, sure, alpha, is_named, is_numeric_name, name_spans, alpha_spans, number_front, class_front, before_number, is_expression, not_open, not_b, named_or_not, ends_open, asks_open, some_tail, is_spanned, Tail, of, is_far, besides, Known}
 use Rattle.b2_atom.proofs.Fronts.Front.{Any, None, Spanned, Hand, Numbered}
-use Rattle.b2_atom.proofs.Fronts.Tail.{Asked, Closed, Over}
+use Rattle.b2_atom.proofs.Fronts.Tail.{Asked}
 use Rattle.b2_atom.proofs.FrontAnswers.{some_front, class_says, says_alpha, same_leaf, not_named, not_alpha}
 use Rattle.b2_atom.proofs.Heads.{known, Refused, RefusedBy, leads, led_known, fills}
 use Rattle.b2_atom.proofs.Pairs.{TwoTokens, Tells, Chain, Follows, chained, front_last, before_fronts}
 use Rattle.b2_atom.proofs.FarSettled.{row_within, operand_ends, receiver_ends, sum_heads, alpha_heads, operand_full}
-use Rattle.b2_atom.proofs.Choice.{skipped_twice}
 
 -- the front of a token by itself
 abbrev pub front_of : Token → Front
@@ -375,8 +373,8 @@ array_by : (o : Origin) (f : Front) (xs more : List Token) (s : Text) → named_
 array_by o (Hand k) [] more s h m full chain refused spelled = absurd (omega (arith, full))
 array_by o (Hand k) (Plain j w ∷ xs) more s h m full chain refused spelled = elim (or_cases (is_named k) (sure name_spans (Hand k) false) h) [
   | inl e ↦ (let same = same_leaf k j (and_left _ _ m) in
-    array_seen o k j w (xs ++ more) s e same (and_right (leaf_number j == leaf_number k) _ m) spelled
-    ∙ and_last (nat_lt 0 (length w)) _ (no_array o (Plain j w) xs more spelled.0 (ap is_named same ∙ e) chain refused spelled.1.1))
+      array_seen o k j w (xs ++ more) s e same (and_right (leaf_number j == leaf_number k) _ m) spelled
+      ∙ and_last (nat_lt 0 (length w)) _ (no_array o (Plain j w) xs more spelled.0 (ap is_named same ∙ e) chain refused spelled.1.1))
   | inr e ↦ array_none o s (class_says name_spans o (Hand k) false (Plain j w ∷ (xs ++ more)) s e m spelled)
 ]
 array_by o (Hand k) (Coded c ∷ xs) more s h m full chain refused spelled = cc
@@ -450,7 +448,7 @@ array_row o room k c1 c2 c3 a more s named fits spelled =
     let two_ = sign_step o room 40 c2 (Sign 41 c3 ∷ []) one.1.0 one.1.1.1.0 in
     let three = sign_step o room 41 c3 [] two_.1.0 two_.1.1.1.0 in
     let same : tokens a ≡ one.0 ∷ two_.0 ∷ three.0 ∷ tokens three.1.0 =
-      ap tokens one.1.1.1.1 ∙ ap (λ (b : Trees). one.0 ∷ tokens b) two_.1.1.1.1 ∙ ap (λ (b : Trees). one.0 ∷ two_.0 ∷ tokens b) three.1.1.1.1 in
+    ap tokens one.1.1.1.1 ∙ ap (λ (b : Trees). one.0 ∷ tokens b) two_.1.1.1.1 ∙ ap (λ (b : Trees). one.0 ∷ two_.0 ∷ tokens b) three.1.1.1.1 in
     let P : List Token → Type 0 = λ l. Spells o (l ++ more) s in
     array_put o k c1 c2 c3 one.0 two_.0 three.0 (tokens three.1.0 ++ more) s named one.1.1.0 two_.1.1.0 three.1.1.0 (subst P same spelled)
 
@@ -471,7 +469,7 @@ array_first o room (In (suc (suc m)) a ts) more s h spelled = absurd h
 alpha_row : (o : Origin) (room : ℕ) (b : Trees) (more : List Token) (s : Text) → Fits o room (row_items row.ALPHA) b → Spells o (tokens b ++ more) s → alpha_begins o (skipped o s) ≡ true
 alpha_row o room b more s fits spelled =
     let one = some_front (λ (f : Front). alpha f true) (of row.ALPHA).heads (tokens b ++ more) (and_left _ _ alpha_heads)
-      (row_begun b o room row.ALPHA fits (and_right (every (λ (f : Front). alpha f true) (of row.ALPHA).heads) _ alpha_heads) more) in
+    (row_begun b o room row.ALPHA fits (and_right (every (λ (f : Front). alpha f true) (of row.ALPHA).heads) _ alpha_heads) more) in
     says_alpha o one.0 true (tokens b ++ more) s one.1.0 one.1.1 spelled
 
 nest_alpha : (o : Origin) (room : ℕ) (is : List Item) (a : Trees) (more : List Token) (s : Text) → Fits o room (Nest row.ALPHA ∷ is) a → Spells o (tokens a ++ more) s → alpha_begins o (skipped o s) ≡ true
@@ -522,7 +520,7 @@ beg_row o room c1 c2 c3 a more s fits spelled =
     let two_ = sign_step o room 69 c2 (Sign 71 c3 ∷ []) one.1.0 one.1.1.1.0 in
     let three = sign_step o room 71 c3 [] two_.1.0 two_.1.1.1.0 in
     let same : tokens a ≡ one.0 ∷ two_.0 ∷ three.0 ∷ tokens three.1.0 =
-      ap tokens one.1.1.1.1 ∙ ap (λ (b : Trees). one.0 ∷ tokens b) two_.1.1.1.1 ∙ ap (λ (b : Trees). one.0 ∷ two_.0 ∷ tokens b) three.1.1.1.1 in
+    ap tokens one.1.1.1.1 ∙ ap (λ (b : Trees). one.0 ∷ tokens b) two_.1.1.1.1 ∙ ap (λ (b : Trees). one.0 ∷ two_.0 ∷ tokens b) three.1.1.1.1 in
     let P : List Token → Type 0 = λ l. Spells o (l ++ more) s in
     beg_put o c1 c2 c3 one.0 two_.0 three.0 (tokens three.1.0 ++ more) s one.1.1.0 two_.1.1.0 three.1.1.0 (subst P same spelled)
 
@@ -552,9 +550,9 @@ array_other : (o : Origin) (k room : ℕ) (inner : Trees) (more : List Token) (s
     → Refused o (of k).tails more → Spells o (tokens inner ++ more) s → starts o start.Array s ≡ false
 array_other o k room inner more s h fits refused spelled = elim (or_cases (k == row.OPERAND_OF_ANY_KIND) (k == row.RECEIVER) h) [
   | inl e ↦ (let P : ℕ → Type 0 = λ n. Refused o (of n).tails more in
-    array_second o room row.OPERAND_OF_ANY_KIND inner more s refl operand_ends (and_left _ _ operand_full) (fits_same o room k row.OPERAND_OF_ANY_KIND inner e fits) (subst P (equal k row.OPERAND_OF_ANY_KIND e) refused) spelled)
+      array_second o room row.OPERAND_OF_ANY_KIND inner more s refl operand_ends (and_left _ _ operand_full) (fits_same o room k row.OPERAND_OF_ANY_KIND inner e fits) (subst P (equal k row.OPERAND_OF_ANY_KIND e) refused) spelled)
   | inr e ↦ (let P : ℕ → Type 0 = λ n. Refused o (of n).tails more in
-    array_second o room row.RECEIVER inner more s refl receiver_ends (and_right (not (of row.OPERAND_OF_ANY_KIND).empty) _ operand_full) (fits_same o room k row.RECEIVER inner e fits) (subst P (equal k row.RECEIVER e) refused) spelled)
+      array_second o room row.RECEIVER inner more s refl receiver_ends (and_right (not (of row.OPERAND_OF_ANY_KIND).empty) _ operand_full) (fits_same o room k row.RECEIVER inner e fits) (subst P (equal k row.RECEIVER e) refused) spelled)
 ]
 
 pub far_second : (o : Origin) (st : Start) (n k room : ℕ) (inner : Trees) (more : List Token) (s : Text) → is_far st n k ≡ true → Fits o room (row_items k) inner

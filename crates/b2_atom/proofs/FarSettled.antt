@@ -1,11 +1,11 @@
 -- The choices that look further than the next token, as computed.
-use Rattle.std.proofs.Common.{◌≡◌, ℕ, zero, suc, ◌+◌, ◌*◌, ◌==◌, ◌&&◌, ◌||◌, not, ◌/◌, ◌%◌, ◌<◌, ◌≤◌, Bool, true, false, if◌then◌else◌, List, [], ◌∷◌, get_or, refl, sym, ap, ◌∙◌, subst, arith, inl, inr, ◌⊎◌}
+use Rattle.std.proofs.Common.{◌≡◌, ℕ, zero, suc, ◌+◌, ◌&&◌, ◌||◌, not, ◌/◌, ◌%◌, ◌<◌, ◌≤◌, Bool, true, false, List, [], ◌∷◌, get_or, refl, sym, ap, ◌∙◌, arith, inl, inr, ◌⊎◌}
 use Rattle.std.proofs.lemmas.Bool.Decides.{nat_tests}
 use Rattle.b2_atom.specs.Grammar.{row_items, rows_of}
-use Rattle.b2_atom.specs.Table.{rows_0, rows_1, rows_2, rows_3}
+use Rattle.b2_atom.specs.Table.{rows_0, rows_1}
 use Rattle.b2_atom.specs.declared.rows.TheConstants as row
 use Rattle.b2_atom.specs.declared.forms.Item.{Item}
-use Rattle.b2_atom.proofs.Tests.{and_left, and_right, or_cases, never, not_true, either_way, equal}
+use Rattle.b2_atom.proofs.Booleans.{and_left, and_right}
 use Rattle.b2_atom.proofs.Fronts.{every, of_row, of, Within, Beside, paired, before_number, is_expression, within_rows, not_open, not_b, ends_open, besides, alpha, Front}
 use Rattle.b2_atom.proofs.Fronts.Front.{Spanned}
 

@@ -1,14 +1,14 @@
 -- What a text answers where its tokens have a front that settles the question.
-use Rattle.std.proofs.Common.{◌≡◌, ℕ, zero, suc, ◌+◌, ◌-◌, ◌<◌, ◌==◌, ◌&&◌, ◌||◌, not, nat_le, nat_lt, Bool, true, false, if◌then◌else◌, List, [], ◌∷◌, ◌++◌, length, drop, get_or, refl, sym, ap, subst, ◌∙◌, arith, inl, inr, ◌⊎◌}
+use Rattle.std.proofs.Common.{◌≡◌, ℕ, ◌-◌, ◌==◌, ◌&&◌, ◌||◌, nat_le, nat_lt, Bool, true, false, if◌then◌else◌, List, [], ◌∷◌, ◌++◌, length, get_or, refl, sym, ap, subst, ◌∙◌, arith, inl, inr}
 use Rattle.std.proofs.lemmas.Bool.Decides.{nat_tests}
-use Rattle.b2_atom.specs.Words.{Text, first, skipped, ahead, kept, word_at, upper}
+use Rattle.b2_atom.specs.Words.{Text, first, skipped, ahead, kept, word_at}
 use Rattle.b2_atom.specs.Tokens.{Token}
 use Rattle.b2_atom.specs.Tokens.Token.{Coded, Plain, Lined}
-use Rattle.b2_atom.specs.Leaves.{is_digit, is_letter, is_hex, is_alpha_name, name_width, leaf_width, numeric_name_width, digits, mantissa_width, number_width, local_name_width, function_name_width, literal_width, slot_width, small_width, small_value, signed_number_width, relation_width, alpha_name_width}
+use Rattle.b2_atom.specs.Leaves.{is_digit, is_letter, is_hex, is_alpha_name, name_width, numeric_name_width, digits, mantissa_width, number_width, local_name_width, function_name_width, literal_width, slot_width, small_width, small_value, signed_number_width, relation_width, alpha_name_width}
 use Rattle.b2_atom.specs.Grammar.{alpha_begins, numeric_begins, class_at, is_among, is_line, starts, is_numeric_sign}
-use Rattle.b2_atom.specs.Spelling.{ShowsName, ShowsHex, Named, Begins, Spells, is_whole, is_classed}
+use Rattle.b2_atom.specs.Spelling.{ShowsName, ShowsHex, Named, Spells, is_whole, is_classed}
 use Rattle.b2_atom.specs.Fitting.{leaf_number}
-use Rattle.b2_atom.proofs.Tests.{or_assoc, and_left, and_right, or_left, or_right, or_none, or_one, or_other, or_false, or_cases, not_true, never, either_way, equal, span_of, among_inside, among_apart}
+use Rattle.b2_atom.proofs.Booleans.{or_assoc, and_left, and_right, or_left, or_right, or_none, or_one, or_other, or_false, or_cases, equal, span_of, among_inside, among_apart}
 use Rattle.b2_atom.proofs.Fronts.{is_hex_front, is_numbered, Span, spans, inside, apart, every, some, Front, fronts, leaf_spans, classes, is_some, sure, surely, name_spans, number_spans, alpha_spans, numeric_spans, numeric, alpha, is_numeric_name, is_alpha_front}
 use Rattle.b2_atom.proofs.Fronts.Front.{Any, None, Spanned, Hand, Numbered}
 use Rattle.b2_atom.specs.declared.words.TheConstants as word
@@ -375,11 +375,11 @@ says_alpha o f true ts s h k spelled = elim (or_cases (is_alpha_front f) (sure a
 ]
 says_alpha o f false ts s h k spelled = elim (or_cases (is_numeric_name f) (sure (name_spans ++ alpha_spans) f false) h) [
   | inl g ↦ or_none _ _
-    (alpha_codes (class_at o s) ∙ spans_right numeric_spans alpha_spans (class_at o s) (class_says (numeric_spans ++ alpha_spans) o f false ts s (name_front f g) k spelled))
-    (names_number o f ts s g k spelled).0
+      (alpha_codes (class_at o s) ∙ spans_right numeric_spans alpha_spans (class_at o s) (class_says (numeric_spans ++ alpha_spans) o f false ts s (name_front f g) k spelled))
+      (names_number o f ts s g k spelled).0
   | inr g ↦ (let none = class_says (name_spans ++ alpha_spans) o f false ts s g k spelled in
-    or_none _ _ (alpha_codes (class_at o s) ∙ spans_right name_spans alpha_spans (class_at o s) none)
-    (not_alpha o (skipped o s) (not_named o (skipped o s) (spans_left name_spans alpha_spans (class_at o s) none))))
+      or_none _ _ (alpha_codes (class_at o s) ∙ spans_right name_spans alpha_spans (class_at o s) none)
+      (not_alpha o (skipped o s) (not_named o (skipped o s) (spans_left name_spans alpha_spans (class_at o s) none))))
 ]
 
 no_number_name : (o : Origin) (u : Text) → is_alpha_name o u ≡ true → nat_lt 0 (numeric_name_width o u) ≡ false
@@ -392,11 +392,11 @@ says_numeric o f true ts s h k spelled = elim (or_cases (is_numeric_name f) (sur
 ]
 says_numeric o f false ts s h k spelled = elim (or_cases (is_alpha_front f) (sure (name_spans ++ numeric_spans) f false) h) [
   | inl g ↦ or_none _ _
-    (sign_spans (class_at o s) ∙ spans_left numeric_spans alpha_spans (class_at o s) (class_says (numeric_spans ++ alpha_spans) o f false ts s (alpha_front f g) k spelled))
-    (no_number_name o (skipped o s) (names_alpha o f ts s g k spelled))
+      (sign_spans (class_at o s) ∙ spans_left numeric_spans alpha_spans (class_at o s) (class_says (numeric_spans ++ alpha_spans) o f false ts s (alpha_front f g) k spelled))
+      (no_number_name o (skipped o s) (names_alpha o f ts s g k spelled))
   | inr g ↦ (let none = class_says (name_spans ++ numeric_spans) o f false ts s g k spelled in
-    or_none _ _ (sign_spans (class_at o s) ∙ spans_right name_spans numeric_spans (class_at o s) none)
-    (ap (nat_lt 0) (not_numeric o (skipped o s) (not_named o (skipped o s) (spans_left name_spans numeric_spans (class_at o s) none)))))
+      or_none _ _ (sign_spans (class_at o s) ∙ spans_right name_spans numeric_spans (class_at o s) none)
+      (ap (nat_lt 0) (not_numeric o (skipped o s) (not_named o (skipped o s) (spans_left name_spans numeric_spans (class_at o s) none)))))
 ]
 
 and_none : (a b : Bool) → a ≡ false → (a && b) ≡ false

@@ -1,8 +1,8 @@
 -- What may stand at the front of a row's trees, and whether it settles each choice of the table.
-use Rattle.std.proofs.Common.{◌≡◌, ℕ, zero, suc, ◌+◌, ◌-◌, ◌==◌, ◌&&◌, ◌||◌, not, nat_le, nat_lt, Bool, true, false, if◌then◌else◌, List, [], ◌∷◌, ◌++◌}
+use Rattle.std.proofs.Common.{ℕ, zero, suc, ◌==◌, ◌&&◌, ◌||◌, not, nat_le, nat_lt, Bool, true, false, if◌then◌else◌, List, [], ◌∷◌, ◌++◌}
 use Rattle.b2_atom.specs.Tokens.{Token}
 use Rattle.b2_atom.specs.Tokens.Token.{Coded, Plain, Lined}
-use Rattle.b2_atom.specs.Table.{rows_0, rows_1, rows_2, rows_3, forms}
+use Rattle.b2_atom.specs.Table.{forms}
 use Rattle.b2_atom.specs.Grammar.{row_items, is_among, is_decimal}
 use Rattle.b2_atom.specs.Leaves.{is_letter}
 use Rattle.b2_atom.specs.Spelling.{is_whole, is_in, signs, is_classed}

@@ -1,5 +1,5 @@
 -- What trees that fit begin with, and what is refused by what stands behind items.
-use Rattle.std.proofs.Common.{◌≡◌, ℕ, zero, suc, ◌+◌, ◌-◌, ◌<◌, ◌≤◌, ◌==◌, ◌&&◌, ◌||◌, not, nat_le, nat_lt, Bool, true, false, if◌then◌else◌, List, [], ◌∷◌, ◌++◌, length, refl, sym, ap, subst, ◌∙◌, arith, append_assoc, append-nil, inl, inr, ◌⊎◌}
+use Rattle.std.proofs.Common.{◌≡◌, ℕ, zero, suc, ◌<◌, ◌≤◌, ◌==◌, ◌&&◌, ◌||◌, not, nat_le, Bool, true, false, List, [], ◌∷◌, ◌++◌, length, refl, sym, ap, subst, ◌∙◌, arith, append_assoc, inl, inr, ◌⊎◌}
 use Rattle.std.proofs.lemmas.Bool.Decides.{nat_tests}
 use Rattle.b2_atom.specs.Words.{Text}
 use Rattle.b2_atom.specs.Tokens.{Token}
@@ -18,8 +18,8 @@ use Rattle.b2_atom.specs.declared.forms.Start.{Start}
 use Rattle.b2_atom.specs.declared.forms.Place.{Place}
 use Rattle.b2_atom.specs.declared.forms.Item.{Item}
 use Rattle.b2_atom.specs.declared.forms.Item.TheVariants.{Word, Sign, Among, ProgramWord, Ignored, Comma, LeftOut, End, Typed, Part, Maybe, Either, Many, Nest, Statement}
-use Rattle.b2_atom.proofs.Tests.{not_true, among_inside, and_left, and_right, or_left, or_right, or_none, or_one, or_other, or_cases, never, either_way, equal, span_of}
-use Rattle.b2_atom.proofs.Fronts.{every, some, Front, fronts, Tail, refused_by, is_none, is_colon, Known, none_known, when, larger, of_item, joined_known, of_items, of_row, of, refuse, settled_row, leaf_front, statement_heads, covers, covered, good_statement}
+use Rattle.b2_atom.proofs.Booleans.{not_true, among_inside, and_left, and_right, or_left, or_right, or_one, or_other, or_cases, never, span_of}
+use Rattle.b2_atom.proofs.Fronts.{every, some, Front, fronts, Tail, refused_by, is_none, is_colon, Known, when, larger, of_item, joined_known, of_items, of_row, of, refuse, statement_heads, covers, covered}
 use Rattle.b2_atom.proofs.Fronts.Front.{Any, None, Spanned, Hand, Numbered}
 use Rattle.b2_atom.proofs.Fronts.Tail.{Asked, Closed, Over}
 use Rattle.b2_atom.proofs.FrontAnswers.{answers, some_front}

@@ -1,16 +1,14 @@
 -- What a whole leaf begins with.
-use Rattle.std.proofs.Common.{◌≡◌, ℕ, zero, suc, ◌+◌, ◌<◌, ◌≤◌, Bool, true, false, not, if◌then◌else◌, ◌==◌, ◌||◌, ◌&&◌, [], ◌∷◌, ◌++◌, length, get_or, drop, refl, sym, ap, ◌∙◌, arith, nat_le, nat_lt, inl, inr, ◌⊎◌, length-drop, drop-drop}
+use Rattle.std.proofs.Common.{◌≡◌, ℕ, suc, ◌+◌, Bool, true, false, not, if◌then◌else◌, ◌==◌, ◌||◌, ◌&&◌, [], ◌∷◌, length, get_or, drop, refl, sym, ap, ◌∙◌, arith, nat_le, nat_lt, inl, inr}
 use Rattle.std.proofs.lemmas.Bool.Decides.{nat_tests}
-use Rattle.b2_atom.specs.Words.{Text, first, upper}
-use Rattle.b2_atom.specs.Leaves.{is_digit, is_letter, is_hex, digits, number_width, number_of, mantissa_of, mantissa_width, sign_width, exponent_of, exponent_width, one_more, leaf_width, until_quote, small_value, relation_of, ends_image, until_parenthesis}
+use Rattle.b2_atom.specs.Words.{Text, first}
+use Rattle.b2_atom.specs.Leaves.{is_digit, is_letter, is_hex, digits, number_width, number_of, mantissa_of, mantissa_width, one_more, leaf_width, until_quote, small_value, relation_of}
 use Rattle.b2_atom.specs.declared.words.Origin.TheVariants.{Atoms}
 use Rattle.b2_atom.specs.declared.forms.Leaf.{Leaf}
 use Rattle.b2_atom.specs.declared.forms.Leaf.TheVariants as leaf
-use Rattle.b2_atom.proofs.Longest.{and_left, and_right, false_true, equal}
-use Rattle.b2_atom.proofs.Widths.{get_none}
+use Rattle.b2_atom.proofs.Longest.{and_left}
 use Rattle.b2_atom.proofs.Names.{NameShape, numeric_shape, local_shape, alpha_shape}
-use Rattle.b2_atom.proofs.Characters.{function_of, is_function_name, image_front, image_parts}
-use Rattle.b2_atom.proofs.LeavesRead.{all_upper, is_free}
+use Rattle.b2_atom.proofs.Characters.{function_of, is_function_name, image_front}
 
 -- the first byte of each kind
 abbrev pub front : Leaf → ℕ → Bool

@@ -3,7 +3,7 @@ pub mod Units
 pub mod Sound
 pub mod Codes
 pub mod Fronts
-pub mod Tests
+pub mod Booleans
 pub mod FrontAnswers
 pub mod Settled
 pub mod Heads

@@ -1,5 +1,5 @@
 -- The laws of lines: a tree of the language is read from its atoms and from its canonical source, and what is read is one.
-use Rattle.std.proofs.Common.{◌≡◌, ℕ, zero, suc, ◌+◌, ◌-◌, ◌<◌, ◌≤◌, ◌==◌, ◌&&◌, ◌||◌, not, nat_le, nat_lt, Bool, true, false, List, [], ◌∷◌, ◌++◌, length, refl, sym, ap, subst, ◌∙◌, arith, append_assoc, append-nil, Result, Ok, Err, is_ok}
+use Rattle.std.proofs.Common.{◌≡◌, ℕ, suc, ◌+◌, ◌≤◌, not, nat_le, true, false, List, [], ◌∷◌, ◌++◌, length, refl, sym, ap, subst, ◌∙◌, arith, append_assoc, append-nil, Result, Ok, Err, is_ok}
 use Rattle.std.proofs.lemmas.Bool.Decides.{nat_tests}
 use Rattle.b2_atom.specs.Words.{Text}
 use Rattle.b2_atom.specs.Tokens.{Token, token_atoms, listed}
@@ -14,11 +14,11 @@ use Rattle.b2_atom.specs.declared.rows.TheConstants as row
 use Rattle.b2_atom.specs.declared.words.Origin.{Origin}
 use Rattle.b2_atom.specs.declared.words.Origin.TheVariants as origin
 use Rattle.b2_atom.specs.declared.sink.Stop.{Stop}
-use Rattle.b2_atom.proofs.Tests.{and_left, and_right, both}
-use Rattle.b2_atom.proofs.Fronts.{of_row, of, of_items, Known, refuse, Front, fronts, some, is_free_row}
+use Rattle.b2_atom.proofs.Booleans.{and_right, both}
+use Rattle.b2_atom.proofs.Fronts.{of_row, of, of_items, Known, refuse, is_free_row}
 use Rattle.b2_atom.proofs.Fronts.Front.{None}
 use Rattle.b2_atom.proofs.Heads.{known, Refused, refused_fronts}
-use Rattle.b2_atom.proofs.Complete.{Ready, bound_row, lead}
+use Rattle.b2_atom.proofs.Complete.{Ready, bound_row}
 use Rattle.b2_atom.proofs.Branches.{Chooses, row_rank}
 use Rattle.b2_atom.proofs.ReadBack.{read_back, count}
 use Rattle.b2_atom.proofs.Choice.{one_statement}
@@ -60,7 +60,7 @@ unfolding level
 read_line_back o t s h spelled =
     let P : List Token → Type 0 = λ l. Spells o l s in
     let ran = read_back t o (chooses o) 32 39 (length s + 1) (row_items row.LINE) h.fits [] (line_ready o t (length s + 1) (less_one (length (tokens t)) (length s) (count o (tokens t) s spelled)) h.remarks)
-      s (subst P (sym (append-nil (tokens t))) spelled) in
+    s (subst P (sym (append-nil (tokens t))) spelled) in
     ran.1.0 ∙ ap (λ (r : Text). Ok (t, r)) ran.1.1
 
 -- the atoms of a tree are those of its tokens

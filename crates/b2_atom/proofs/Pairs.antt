@@ -1,12 +1,11 @@
 -- Which tokens of a tree stand side by side.
-use Rattle.std.proofs.Common.{◌≡◌, ℕ, zero, suc, ◌+◌, ◌-◌, ◌<◌, ◌≤◌, ◌==◌, ◌&&◌, ◌||◌, not, nat_le, nat_lt, Bool, true, false, if◌then◌else◌, List, [], ◌∷◌, ◌++◌, length, refl, sym, ap, subst, ◌∙◌, arith, append_assoc, append-nil, inl, inr, ◌⊎◌}
-use Rattle.std.proofs.lemmas.Bool.Decides.{nat_tests}
+use Rattle.std.proofs.Common.{◌≡◌, ℕ, zero, suc, ◌==◌, ◌&&◌, ◌||◌, not, Bool, true, false, List, [], ◌∷◌, ◌++◌, refl, sym, ap, subst, ◌∙◌, append_assoc, inl, inr, ◌⊎◌}
 use Rattle.b2_atom.specs.Tokens.{Token}
 use Rattle.b2_atom.specs.Tokens.Token.{Coded, Plain, Lined}
 use Rattle.b2_atom.specs.Tree.{Trees, tokens}
 use Rattle.b2_atom.specs.Tree.Trees.{Done, Put, In}
-use Rattle.b2_atom.specs.Grammar.{row_items, is_among}
-use Rattle.b2_atom.specs.Fitting.{Fits, FitsPut, FitsIn, FitsBranch, giving, may_end, fits_token, is_statement}
+use Rattle.b2_atom.specs.Grammar.{row_items}
+use Rattle.b2_atom.specs.Fitting.{Fits, FitsPut, FitsIn, FitsBranch, giving, fits_token, is_statement}
 use Rattle.b2_atom.specs.Table.{forms}
 use Rattle.b2_atom.specs.declared.rows.TheConstants as row
 use Rattle.b2_atom.specs.declared.words.Origin.{Origin}
@@ -16,11 +15,11 @@ use Rattle.b2_atom.specs.declared.forms.Start.{Start}
 use Rattle.b2_atom.proofs.Settled.{statement_good}
 use Rattle.b2_atom.specs.declared.forms.Leaf.TheVariants as leaf
 use Rattle.b2_atom.specs.declared.forms.Item.TheVariants.{Word, Sign, Among, ProgramWord, Ignored, Comma, LeftOut, End, Typed, Part, Maybe, Either, Many, Nest, Statement}
-use Rattle.b2_atom.proofs.Tests.{equal, and_left, and_right, or_one, or_other, or_cases, never, not_true}
+use Rattle.b2_atom.proofs.Booleans.{equal, and_left, and_right, or_one, or_other, or_cases}
 use Rattle.b2_atom.proofs.Fronts.{every, some, Front, fronts, Known, when, of_item, of_items, of, next_heads, Beside, besides, Within, paired, paired_item, is_closed, covers, covered, statement_ends, statement_heads, refuse, is_free_row, leading}
 use Rattle.b2_atom.proofs.Fronts.Front.{Any, None, Spanned, Hand, Numbered}
 use Rattle.b2_atom.proofs.FrontAnswers.{some_front}
-use Rattle.b2_atom.proofs.Heads.{known, Led, leads, led_known, token_leads, giving_known, may_end_empty, covered_front, covered_all}
+use Rattle.b2_atom.proofs.Heads.{known, Led, leads, led_known, token_leads, covered_front, covered_all}
 
 abbrev pub TwoTokens : Type 0
 TwoTokens = Token → Token → Bool
@@ -171,7 +170,7 @@ statement_follows : (q : TwoTokens) (o : Origin) (x : Place) (m : ℕ) (more : L
 statement_follows q o x m more stated h = λ t k.
     let test = statement_good o x m stated in
     let last = and_right (is_free_row (row_items m) || refuse (of m).tails (None ∷ Spanned 58 58 ∷ [])) _
-      (and_right ((of m).plain || leading (row_items m)) _ (and_right (covered statement_heads (of m).heads) _ (and_right (not (of m).empty) _ test))) in
+    (and_right ((of m).plain || leading (row_items m)) _ (and_right (covered statement_heads (of m).heads) _ (and_right (not (of m).empty) _ test))) in
     h t (covered_all statement_ends (of m).ends (t ∷ []) last k)
 
 branch_chain : (r : Within) (p : Beside) (q : TwoTokens) → Tells p q → Rows r p → Everywhere r → (inner ts : Trees) → Chained r p q inner → Chained r p q ts
@@ -279,9 +278,10 @@ put_chain : (r : Within) (p : Beside) (q : TwoTokens) → Tells p q → (t : Tok
     → FitsPut o is t (λ (rest : List Item). Fits o room rest ts) → paired r p is ≡ true → (more : List Token) → Follows q (of_items of is).ends more → Chain q more → Chain q (t ∷ (tokens ts ++ more))
 put_chain r p q tells t ts ct o room [] h test more follows chain = absurd h
 put_chain r p q tells t ts ct o room (i ∷ is) h test more follows chain =
-    let tests = and_right (paired_item r p i is) _ test in
-    (item_follows p q tells i is (tokens ts) more (next_led is ts o room h.1 more) (and_left _ _ tests) follows t (token_ends o i t h.0),
-    ct o room is h.1 (and_right (besides p (of_item of i).ends (next_heads is)) _ tests) more (follows_right q (when (of_items of is).empty (of_item of i).ends) _ more follows) chain)
+    let tests = and_right (paired_item r p i is) _ test in (
+      item_follows p q tells i is (tokens ts) more (next_led is ts o room h.1 more) (and_left _ _ tests) follows t (token_ends o i t h.0),
+      ct o room is h.1 (and_right (besides p (of_item of i).ends (next_heads is)) _ tests) more (follows_right q (when (of_items of is).empty (of_item of i).ends) _ more follows) chain,
+    )
 
 in_chain : (r : Within) (p : Beside) (q : TwoTokens) → Tells p q → Rows r p → Everywhere r → (inner ts : Trees) → Chained r p q inner → Chained r p q ts
     → (o : Origin) (room m : ℕ) (is : List Item)

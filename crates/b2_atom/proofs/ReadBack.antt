@@ -1,31 +1,28 @@
 -- Each tree that fits is read from each text that spells its tokens, where the choices hold.
-use Rattle.std.proofs.Common.{◌≡◌, ℕ, zero, suc, ◌+◌, ◌-◌, ◌<◌, ◌≤◌, ◌==◌, ◌&&◌, ◌||◌, not, nat_le, nat_lt, Bool, true, false, if◌then◌else◌, List, [], ◌∷◌, ◌++◌, length, refl, sym, ap, subst, ◌∙◌, arith, append_assoc, append-nil, inl, inr, ◌⊎◌, Result, Ok, Err}
+use Rattle.std.proofs.Common.{◌≡◌, ℕ, zero, suc, ◌+◌, ◌<◌, ◌≤◌, ◌==◌, ◌||◌, not, Bool, true, false, if◌then◌else◌, List, [], ◌∷◌, ◌++◌, length, refl, sym, ap, subst, ◌∙◌, arith, inl, inr, Result}
 use Rattle.std.proofs.lemmas.Bool.Decides.{nat_tests}
 use Rattle.b2_atom.specs.Words.{Text, skipped, skip_blanks}
 use Rattle.b2_atom.specs.Tokens.{Token}
 use Rattle.b2_atom.specs.Tokens.Token.{Coded, Plain, Lined}
-use Rattle.b2_atom.specs.Tree.{Trees, tokens, Outcome, Parser, under, also, and_then}
+use Rattle.b2_atom.specs.Tree.{Trees, tokens, under, and_then}
 use Rattle.b2_atom.specs.Tree.Trees.{Done, Put, In}
-use Rattle.b2_atom.specs.Grammar.{Reader, reader, items, item, level, deep, statement, many, row_items, chosen, statement_row, part, read_line}
+use Rattle.b2_atom.specs.Grammar.{reader, items, item, level, deep, statement, many, row_items, chosen}
 use Rattle.b2_atom.specs.Spelling.{Spells, here}
-use Rattle.b2_atom.specs.Fitting.{Fits, FitsPut, FitsIn, FitsBranch, giving, may_end, is_statement, RemarksEnd, LineTree}
+use Rattle.b2_atom.specs.Fitting.{Fits, FitsPut, FitsIn, FitsBranch, giving, is_statement, RemarksEnd}
 use Rattle.b2_atom.specs.Table.{forms}
-use Rattle.b2_atom.specs.declared.rows.TheConstants as row
 use Rattle.b2_atom.specs.declared.words.Origin.{Origin}
 use Rattle.b2_atom.specs.declared.words.Origin.TheVariants as origin
-use Rattle.b2_atom.specs.declared.forms.Leaf.{Leaf}
 use Rattle.b2_atom.specs.declared.forms.Leaf.TheVariants as leaf
-use Rattle.b2_atom.specs.declared.forms.Start.{Start}
 use Rattle.b2_atom.specs.declared.forms.Place.{Place}
 use Rattle.b2_atom.specs.declared.forms.Item.{Item}
 use Rattle.b2_atom.specs.declared.forms.Item.TheVariants.{Word, Sign, Among, ProgramWord, Ignored, Comma, LeftOut, End, Typed, Part, Maybe, Either, Many, Nest, Statement}
 use Rattle.b2_atom.specs.declared.sink.Stop.{Stop}
-use Rattle.b2_atom.proofs.Tests.{either_way, and_left, and_right, or_cases, never, not_true}
-use Rattle.b2_atom.proofs.Fronts.{every, some, Front, fronts, Tail, Known, when, of_item, of_items, of, refuse, settled, settled_item, is_mark_item, is_free_row, leading, is_last, covered, statement_heads}
+use Rattle.b2_atom.proofs.Booleans.{either_way, and_left, and_right, not_true}
+use Rattle.b2_atom.proofs.Fronts.{some, Front, fronts, Known, of_item, of_items, of, refuse, settled_item, is_free_row, leading, is_last, covered, statement_heads}
 use Rattle.b2_atom.proofs.Fronts.Front.{None, Spanned}
 use Rattle.b2_atom.proofs.Settled.{statement_good}
-use Rattle.b2_atom.proofs.Heads.{known, Refused, refused_fronts, is_closing, Led, leads, fills, giving_known}
-use Rattle.b2_atom.proofs.Complete.{Runs, runs_under, runs_is, reads_row, reads_item, lead, Ready, next_runs, length_append, ready_in, ready_put, by_giving, done_runs, put_runs, bound_row}
+use Rattle.b2_atom.proofs.Heads.{known, Refused, refused_fronts, is_closing, leads, fills}
+use Rattle.b2_atom.proofs.Complete.{Runs, runs_under, runs_is, reads_row, lead, Ready, next_runs, length_append, ready_in, ready_put, by_giving, done_runs, put_runs, bound_row}
 use Rattle.b2_atom.proofs.Branches.{Chooses, Good, GoodMany, reads_part, inner_spelled, inner_remarks, branch_behind, row_rank, done_of, part_runs, maybe_runs, maybe_left, first_runs, second_runs, nest_runs, many_left, many_more, free_runs}
 
 closing_fronts : (more : List Token) → is_closing more ≡ true → some (λ (f : Front). fronts f more) (None ∷ Spanned 58 58 ∷ []) ≡ true
@@ -57,15 +54,15 @@ statement_row_runs inner good o chooses f p m more u stated fits closed remarks_
     elim (either_way (is_free_row (row_items m))) [
       | inl g ↦ free_runs o 32 39 f (row_items m) inner more u g fits remarks_ closed spelled
       | inr g ↦ good o chooses 32 39 f (row_items m) fits more
-        (record {
-          settles = bound_row m (ap not g);
-          ranked = (let P : Known → Type 0 = λ k. suc k.rank ≤ 40 in let e : suc (of_items of (row_items m)).rank ≤ 40 = subst P (sym (known m)) (row_rank m) in omega (arith, e));
-          enough = λ h. enough_lead (length (tokens inner)) f (lead (row_items m)) less
-            (lead_one (row_items m) (or_false_left (of m).plain (leading (row_items m)) (and_left _ _ rest) (ap (λ (k : Known). k.plain) (sym (known m)) ∙ h)));
-          refuses = (let P : Known → Type 0 = λ k. Refused o k.tails more in
-            subst P (sym (known m)) (refused_fronts o (of m).tails (None ∷ Spanned 58 58 ∷ []) more (or_false_left (is_free_row (row_items m)) _ free_or g) (closing_fronts more closed)));
-          remarks = remarks_;
-        }) u spelled
+          (record {
+            settles = bound_row m (ap not g);
+            ranked = (let P : Known → Type 0 = λ k. suc k.rank ≤ 40 in let e : suc (of_items of (row_items m)).rank ≤ 40 = subst P (sym (known m)) (row_rank m) in omega (arith, e));
+            enough = λ h. enough_lead (length (tokens inner)) f (lead (row_items m)) less
+                (lead_one (row_items m) (or_false_left (of m).plain (leading (row_items m)) (and_left _ _ rest) (ap (λ (k : Known). k.plain) (sym (known m)) ∙ h)));
+            refuses = (let P : Known → Type 0 = λ k. Refused o k.tails more in
+                subst P (sym (known m)) (refused_fronts o (of m).tails (None ∷ Spanned 58 58 ∷ []) more (or_false_left (is_free_row (row_items m)) _ free_or g) (closing_fronts more closed)));
+            remarks = remarks_;
+          }) u spelled
     ]
 
 no_statement_fuel : (a b n : ℕ) → n ≡ a + b → 0 < a → n ≤ 0 + 0 → ⊥
@@ -165,7 +162,7 @@ branch_runs inner ts gi gt m0 m1 o ch room l f m (Typed k code) is h more r s sp
 many_zero : (inner ts : Trees) → Good ts → GoodMany (In 0 inner ts)
 many_zero inner ts gt o ch room l f x n is fits more r k fuel s spelled =
     let P : Trees → Type 0 = λ t. Ready o room l f (Many x n ∷ is) (In 0 t ts) more → Spells o ((tokens t ++ tokens ts) ++ more) s
-      → Runs o (and_then (many (reader o) x (reads_part o room l f n) k s) (reads_row o room l f is)) (In 0 t ts) more in
+    → Runs o (and_then (many (reader o) x (reads_part o room l f n) k s) (reads_row o room l f is)) (In 0 t ts) more in
     subst P (sym (done_of o room inner fits.0)) (λ r_ spelled_. many_left ts gt o ch room l f x n is fits.1 more r_ k s spelled_) r spelled
 
 many_one : (inner ts : Trees) → Good inner → GoodMany ts → GoodMany (In 1 inner ts)

@@ -1,5 +1,5 @@
 -- The table is settled, as computed: each choice of a row by what stands next.
-use Rattle.std.proofs.Common.{◌≡◌, zero, suc, ◌==◌, ◌&&◌, not, ◌/◌, ◌%◌, Bool, true, false, if◌then◌else◌, List, [], ◌∷◌, get_or, refl, sym, subst, inl, inr, ◌⊎◌, ◌||◌, ℕ}
+use Rattle.std.proofs.Common.{◌≡◌, zero, suc, ◌==◌, ◌&&◌, not, ◌/◌, ◌%◌, Bool, true, false, if◌then◌else◌, List, [], ◌∷◌, get_or, refl, sym, subst, inl, inr, ℕ}
 use Rattle.b2_atom.specs.Grammar.{row_items, rows_of}
 use Rattle.b2_atom.specs.Table.{rows_0, rows_1, rows_2, rows_3, forms}
 use Rattle.b2_atom.specs.Fitting.{is_statement, is_allowed}
@@ -8,7 +8,7 @@ use Rattle.b2_atom.specs.declared.words.Origin.{Origin}
 use Rattle.b2_atom.specs.declared.forms.Place.{Place}
 use Rattle.b2_atom.specs.declared.forms.Form.{Form}
 use Rattle.b2_atom.specs.declared.forms.Item.{Item}
-use Rattle.b2_atom.proofs.Tests.{and_left, and_right, or_cases, equal}
+use Rattle.b2_atom.proofs.Booleans.{and_left, and_right, or_cases, equal}
 use Rattle.b2_atom.proofs.Fronts.{of_row, of, settled_row, settled_rows, good_statement, good_forms, chosen_forms, chosen_row, leading, paired, beside, Beside, before_good, good_front, every, covered, statement_heads}
 
 settled_0 : settled_rows rows_0 ≡ true

@@ -1,9 +1,8 @@
 -- Laws of lines: which trees there are, that each is spelled by its atoms alone, and that what is listed is read back.
-use Rattle.std.specs.Prelude.{◌≡◌, ℕ, ◌≤◌, true, false, [], Ok, length}
+use Rattle.std.specs.Prelude.{◌≡◌, ◌≤◌, true, false, Ok, length}
 use Rattle.b2_atom.specs.Words.{Text}
 use Rattle.b2_atom.specs.Tokens.{listed}
 use Rattle.b2_atom.specs.Tree.{Trees, atoms, tokens}
-use Rattle.b2_atom.specs.Grammar.{read_line}
 use Rattle.b2_atom.specs.Lines.{is_line, line_atoms}
 use Rattle.b2_atom.specs.Fitting.{LineTree}
 use Rattle.b2_atom.specs.declared.words.Origin.{Origin}

@@ -1,10 +1,10 @@
 -- Which texts spell which tokens, and which tokens may stand side by side.
-use Rattle.std.specs.Prelude.{◌≡◌, ℕ, ◌+◌, ◌-◌, ◌<◌, ◌&&◌, ◌||◌, ◌==◌, not, nat_le, nat_lt, Bool, true, false, List, [], ◌∷◌, ◌++◌, length, drop, codes, if◌then◌else◌, Ok}
+use Rattle.std.specs.Prelude.{◌≡◌, ℕ, ◌-◌, ◌<◌, ◌&&◌, ◌||◌, ◌==◌, not, nat_lt, Bool, true, false, List, [], ◌∷◌, ◌++◌, length, drop, codes, if◌then◌else◌}
 use Rattle.b2_atom.specs.Words.{Text, first, skipped, ahead, kept}
 use Rattle.b2_atom.specs.Tokens.{Token, token_atoms}
 use Rattle.b2_atom.specs.Tokens.Token.{Coded, Plain, Lined}
 use Rattle.b2_atom.specs.Tree.{one}
-use Rattle.b2_atom.specs.Leaves.{is_digit, is_letter, is_hex, is_alpha_name, name_width, all_printable, leaf_width}
+use Rattle.b2_atom.specs.Leaves.{is_letter, is_hex, is_alpha_name, name_width, all_printable, leaf_width}
 use Rattle.b2_atom.specs.Grammar.{class_at, is_line, is_decimal, is_among, read_leaf, begins_let, spelled_behind}
 use Rattle.b2_atom.specs.declared.words.TheConstants as word
 use Rattle.b2_atom.specs.declared.words.Origin.{Origin}
