@@ -34,3 +34,4 @@ pub mod GoodLeaves
 pub mod Printable
 pub mod Fitted
 pub mod FittedLines
+pub mod AnyLine
