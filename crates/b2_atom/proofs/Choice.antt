@@ -105,7 +105,7 @@ respelled o t ts s rest h b = cc
 hand_opens : (k j : Leaf) (w : Text) → j ≡ k → opens_statement (Plain k w) ≡ true → opens_statement (Plain j w) ≡ true
 hand_opens k j w same h = ap (λ (l : Leaf). opens_statement (Plain l w)) same ∙ h
 
-opening : (t : Token) (ts : List Token) → some (λ (f : Front). fronts f (t ∷ ts)) statement_heads ≡ true → opens_statement t ≡ true
+pub opening : (t : Token) (ts : List Token) → some (λ (f : Front). fronts f (t ∷ ts)) statement_heads ≡ true → opens_statement t ≡ true
 opening (Coded c) ts h = refl
 opening (Plain j w) ts h = elim (or_cases (leaf_number j == 2 && is_whole j w) ((leaf_number j == 3 && is_whole j w) || false) h) [
   | inl g ↦ hand_opens leaf.Name j w (same_leaf leaf.Name j (and_left _ _ g)) refl

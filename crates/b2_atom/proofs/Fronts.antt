@@ -3,8 +3,9 @@ use Rattle.std.proofs.Common.{◌≡◌, ℕ, zero, suc, ◌+◌, ◌-◌, ◌==
 use Rattle.b2_atom.specs.Tokens.{Token}
 use Rattle.b2_atom.specs.Tokens.Token.{Coded, Plain, Lined}
 use Rattle.b2_atom.specs.Table.{rows_0, rows_1, rows_2, rows_3, forms}
-use Rattle.b2_atom.specs.Grammar.{row_items, is_among}
-use Rattle.b2_atom.specs.Spelling.{is_whole}
+use Rattle.b2_atom.specs.Grammar.{row_items, is_among, is_decimal}
+use Rattle.b2_atom.specs.Leaves.{is_letter}
+use Rattle.b2_atom.specs.Spelling.{is_whole, is_in, signs, is_classed}
 use Rattle.b2_atom.specs.Fitting.{leaf_number}
 use Rattle.b2_atom.specs.declared.words.TheConstants as word
 use Rattle.b2_atom.specs.declared.rows.TheConstants as row
@@ -54,7 +55,7 @@ fronts Any ts = true
 fronts None [] = true
 fronts (Spanned a b) (Coded c ∷ ts) = is_among a b c
 fronts (Hand k) (Plain j w ∷ ts) = leaf_number j == leaf_number k && is_whole j w
-fronts Numbered (Lined h l ∷ ts) = true
+fronts Numbered (Lined h l ∷ ts) = is_decimal h && is_decimal l
 fronts f ts = false
 
 -- the codes by which a leaf is seen; none where it isn't known
@@ -190,6 +191,17 @@ when false xs = []
 abbrev pub larger : ℕ → ℕ → ℕ
 larger a b = if nat_le a b then b else a
 
+-- the last tokens of statements
+abbrev pub statement_ends : List Front
+statement_ends =
+    Spanned 37 37 ∷ Spanned 41 41 ∷ Spanned 44 44 ∷ Spanned 59 59 ∷ Spanned 71 71 ∷ Spanned 78 78 ∷ Spanned 80 80 ∷ Spanned 84 84 ∷ Spanned 86 86
+    ∷ Spanned word.REM word.REM ∷ Spanned word.RETURN word.RETURN ∷ Spanned word.CLEAR word.CLEAR ∷ Spanned word.ALL word.ALL ∷ Spanned word.END word.END
+    ∷ Spanned word.STOP word.STOP ∷ Spanned word.PRINT word.PRINT ∷ Spanned word.ROUND word.ROUND ∷ Spanned word.RESTORE word.RESTORE
+    ∷ Spanned word.DOLLAR_BREAK word.DOLLAR_BREAK ∷ Spanned word.DOLLAR_CLOSE word.DOLLAR_CLOSE ∷ Spanned word.CON word.IDN ∷ Spanned word.LIST word.CONTINUE
+    ∷ Spanned word.GLOBAL_PART word.GLOBAL_PART ∷ Spanned word.ERR word.HASH_TERM
+    ∷ Hand leaf.Number ∷ Hand leaf.SignedNumber ∷ Hand leaf.Name ∷ Hand leaf.AlphaName ∷ Hand leaf.LocalName ∷ Hand leaf.Literal ∷ Hand leaf.Address ∷ Hand leaf.Small
+    ∷ Hand leaf.Image ∷ Hand leaf.Text ∷ Numbered ∷ []
+
 -- the fronts of statements
 abbrev pub statement_heads : List Front
 statement_heads = Spanned 37 37 ∷ Spanned word.REM word.ROUND ∷ Hand leaf.Name ∷ Hand leaf.AlphaName ∷ []
@@ -217,7 +229,7 @@ of_item part (Either s n m) =
     record { heads = k.heads ++ j.heads; empty = k.empty || j.empty; tails = when j.empty (Asked s ∷ []) ++ (k.tails ++ j.tails); rank = suc (larger k.rank j.rank); plain = k.plain && j.plain; ends = k.ends ++ j.ends }
 of_item part (Many s n) = let k = part n in record { heads = k.heads; empty = true; tails = Asked s ∷ k.tails; rank = suc k.rank; plain = k.plain; ends = k.ends }
 of_item part (Nest n) = record { heads = Any ∷ []; empty = true; tails = []; rank = 0; plain = true; ends = [] }
-of_item part (Statement p) = record { heads = statement_heads; empty = false; tails = Closed ∷ []; rank = 0; plain = false; ends = [] }
+of_item part (Statement p) = record { heads = statement_heads; empty = false; tails = Closed ∷ []; rank = 0; plain = false; ends = statement_ends }
 
 abbrev pub joined_known : Known → Known → Known
 joined_known i k = record {
@@ -248,7 +260,7 @@ refuse ts fs = every (λ (t : Tail). every (refused_by t) fs) ts
 abbrev pub is_far : Start → ℕ → ℕ → Bool
 is_far start.Array n m = n == row.WHOLE_ARRAY && (m == row.OPERAND_OF_ANY_KIND || m == row.RECEIVER)
 is_far start.AlphaInside n m = n == row.SCRATCHED_FILE && m == row.SUM
-is_far (start.Letters a b c) n m = a == 66 && (b == 69 && c == 71) && (n == row.BEG && m == row.SUM)
+is_far (start.Letters a b c) n m = a == 66 && ((b == 69 && c == 71) && (n == row.BEG && m == row.SUM))
 is_far s n m = false
 
 abbrev pub is_near : (ℕ → Known) → Start → ℕ → ℕ → Bool
@@ -307,6 +319,7 @@ settled_rows (r ∷ rs) = settled_row r && settled_rows rs
 abbrev pub covers : Front → Front → Bool
 covers (Spanned a b) (Spanned c d) = nat_le a c && nat_le d b
 covers (Hand k) (Hand j) = leaf_number j == leaf_number k
+covers Numbered Numbered = true
 covers f g = false
 
 abbrev pub covered : List Front → List Front → Bool
@@ -326,7 +339,7 @@ leading (i ∷ is) = is_mark_item i
 abbrev pub good_statement : ℕ → Bool
 good_statement n =
     not (of n).empty
-    && (covered statement_heads (of n).heads && (((of n).plain || leading (row_items n)) && (is_free_row (row_items n) || refuse (of n).tails (None ∷ Spanned 58 58 ∷ []))))
+    && (covered statement_heads (of n).heads && (((of n).plain || leading (row_items n)) && ((is_free_row (row_items n) || refuse (of n).tails (None ∷ Spanned 58 58 ∷ [])) && covered statement_ends (of n).ends)))
 
 abbrev pub good_forms : List Form → Bool
 good_forms [] = good_statement row.ASSIGNMENT
@@ -391,15 +404,147 @@ besides p fs gs = every (λ (f : Front). every (λ (g : Front). p f g) gs) fs
 abbrev pub Within : Type 0
 Within = ℕ → Bool
 
-abbrev pub paired_item : Within → Beside → Item → Bool
-paired_item r p (Part n) = r n
-paired_item r p (Maybe s n) = r n
-paired_item r p (Either s n m) = r n && r m
-paired_item r p (Many s n) = r n && besides p (of n).ends (of n).heads
-paired_item r p (Nest n) = r n && besides p (of n).ends (Spanned 41 41 ∷ [])
-paired_item r p (Statement q) = r row.LINE
-paired_item r p i = true
+abbrev pub paired_item : Within → Beside → Item → List Item → Bool
+paired_item r p (Part n) is = r n
+paired_item r p (Maybe s n) is = r n
+paired_item r p (Either s n m) is = r n && r m
+paired_item r p (Many s n) is = r n && (besides p (of n).ends (of n).heads && besides p (of n).ends (of_items of is).heads)
+paired_item r p (Nest n) is = r n && (is_closed is && besides p (of n).ends (Spanned 41 41 ∷ []))
+paired_item r p (Statement q) is = r row.LINE
+paired_item r p i is = true
 
 abbrev pub paired : Within → Beside → List Item → Bool
 paired r p [] = true
-paired r p (i ∷ is) = paired_item r p i && (besides p (of_item of i).ends (next_heads is) && paired r p is)
+paired r p (i ∷ is) = paired_item r p i is && (besides p (of_item of i).ends (next_heads is) && paired r p is)
+
+-- whether a token of one front may stand before one of another, as far as the fronts tell; behind a remark anything may
+abbrev pub marks : Front → Bool
+marks (Spanned a b) = nat_lt b 65 || nat_lt 90 a
+marks (Hand leaf.Relation) = true
+marks f = false
+
+abbrev pub is_kind : ℕ → Front → Bool
+is_kind n (Hand k) = leaf_number k == n
+is_kind n f = false
+
+abbrev pub is_one : Front → Bool
+is_one Any = false
+is_one None = false
+is_one f = true
+
+abbrev pub not_free : Front → Bool
+not_free f = is_one f && not (is_kind 14 f)
+
+abbrev pub not_image : Front → Bool
+not_image f = is_one f && not (is_kind 13 f)
+
+abbrev pub no_dollar : Front → Bool
+no_dollar (Spanned a b) = apart ((word.DOLLAR_BREAK, word.DOLLAR_CLOSE) ∷ (word.DOLLAR_PACK_OPEN, word.DOLLAR_UNPACK_OPEN) ∷ []) (a, b)
+no_dollar f = is_one f
+
+abbrev pub unrelated : Front → Bool
+unrelated (Spanned a b) = nat_lt b 61 || nat_lt 61 a
+unrelated f = is_one f && not (is_kind 15 f)
+
+abbrev pub lettered : ℕ → Front → Bool
+lettered c (Spanned a b) = marks (Spanned a b) || (a == b && ((c == 66 && a == 69) || (c == 69 && a == 71)))
+lettered c Numbered = true
+lettered c f = false
+
+abbrev pub is_data : Front → Bool
+is_data (Hand k) = not (is_kind 13 (Hand k) || is_kind 15 (Hand k))
+is_data f = false
+
+abbrev pub beside_code : ℕ → Front → Bool
+beside_code c g =
+    if c == word.REM || c == 37 then true
+    else (not_free g && (if is_letter c then lettered c g
+    else (if c == word.DATA then is_data g else (if c == word.PRINT then not_image g else true))))
+
+abbrev pub beside_leaf : Leaf → Front → Bool
+beside_leaf leaf.Number g = marks g
+beside_leaf leaf.SignedNumber g = marks g
+beside_leaf leaf.Name g = marks g && no_dollar g
+beside_leaf leaf.LocalName g = marks g && no_dollar g
+beside_leaf leaf.FunctionName g = marks g
+beside_leaf leaf.Slot g = marks g
+beside_leaf leaf.Small g = marks g || is_kind 6 g
+beside_leaf leaf.Relation g = unrelated g && (not_free g && not_image g)
+beside_leaf leaf.Text g = true
+beside_leaf k g = not_free g
+
+-- words behind which any token but free text may stand
+abbrev pub is_calm : ℕ → ℕ → Bool
+is_calm a b = nat_le 128 a && apart ((word.REM, word.REM) ∷ (word.DATA, word.DATA) ∷ (word.PRINT, word.PRINT) ∷ []) (a, b)
+
+abbrev pub beside : Beside
+beside (Spanned a b) g = if a == b then beside_code a g else is_calm a b && not_free g
+beside (Hand k) g = beside_leaf k g
+beside Numbered g = marks g
+beside f g = false
+
+-- whether each token of a front is a good token
+abbrev pub good_front : Front → Bool
+good_front (Spanned a b) = (nat_le word.REM a && nat_le b word.ROUND) || (a == b && is_in a signs)
+good_front (Hand k) = true
+good_front Numbered = true
+good_front f = false
+
+abbrev pub before_good : Beside
+before_good f g = good_front g
+
+-- the rows of expressions and receivers
+abbrev pub is_expression : ℕ → Bool
+is_expression n =
+    is_among row.SUM row.ALPHA_VARIABLE n
+    || (n == row.NUMERIC_RECEIVER || (n == row.ALPHA_RECEIVER || (n == row.ALPHA_RECEIVER_VARIABLE || (n == row.RECEIVER || n == row.OPERAND_OF_ANY_KIND))))
+
+abbrev pub class_front : Front → Bool
+class_front (Spanned a b) = true
+class_front (Hand k) = is_classed k
+class_front f = false
+
+abbrev pub not_close : Front → Bool
+not_close (Spanned a b) = nat_lt b 41 || nat_lt 41 a
+not_close f = true
+
+-- what stands behind a `(` of an expression: no `)`, and nothing of an alpha expression
+abbrev pub number_front : Front → Bool
+number_front f = alpha f false && (class_front f && not_close f)
+
+abbrev pub is_named : Leaf → Bool
+is_named leaf.Name = true
+is_named leaf.AlphaName = true
+is_named k = false
+
+abbrev pub before_number : Beside
+before_number (Spanned a b) g = (nat_lt b 40 || nat_lt 40 a) || number_front g
+before_number (Hand k) g = not (is_named k) || class_front g
+before_number Numbered g = true
+before_number f g = false
+
+abbrev pub within_rows : Within → Beside → ℕ → List (List Item) → Bool
+within_rows r p k [] = true
+within_rows r p k (x ∷ xs) = (not (r k) || paired r p x) && within_rows r p (suc k) xs
+
+-- what the ends and the heads of the far choices tell
+abbrev pub not_open : Front → Bool
+not_open f = is_spanned f || sure ((40, 40) ∷ []) f false
+
+abbrev pub not_b : Front → Bool
+not_b f = sure ((66, 66) ∷ []) f false || is_numeric_name f
+
+abbrev pub named_or_not : Front → Bool
+named_or_not (Hand k) = is_named k || sure name_spans (Hand k) false
+named_or_not f = sure name_spans f false
+
+abbrev pub asks_open : Tail → Bool
+asks_open (Asked (start.Code c)) = c == 40
+asks_open t = false
+
+abbrev pub some_tail : (Tail → Bool) → List Tail → Bool
+some_tail p [] = false
+some_tail p (t ∷ ts) = p t || some_tail p ts
+
+abbrev pub ends_open : ℕ → Bool
+ends_open k = some_tail asks_open (of k).tails && (besides before_number (of k).ends (Spanned 41 41 ∷ []) && every named_or_not (of k).heads)

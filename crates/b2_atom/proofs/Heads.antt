@@ -182,7 +182,7 @@ token_leads origin.Program (ProgramWord c) (Coded d) ts h = or_one _ _ (sym (spa
 token_leads origin.Atoms (ProgramWord c) (Coded d) ts h = or_one _ _ (sym (span_of c d) ∙ h)
 token_leads o Comma (Coded d) ts h = or_one _ _ (sym (span_of 44 d) ∙ h)
 token_leads o (Typed leaf.LineNumber code) (Plain j w) ts h = absurd (line_leaf j w h)
-token_leads o (Typed leaf.LineNumber code) (Lined x y) ts h = refl
+token_leads o (Typed leaf.LineNumber code) (Lined x y) ts h = or_one _ _ h
 token_leads o (Typed k code) (Plain j w) ts h = or_one _ _ h
 token_leads o (Typed k code) (Lined x y) ts h = cc
 token_leads o (Typed k code) (Coded d) ts h = cc
@@ -208,7 +208,7 @@ may_end_empty (End ∷ is) h = may_end_empty is h
 may_end_empty (Typed leaf.Text code ∷ is) h = may_end_empty is h
 may_end_empty (i ∷ is) h = cc
 
-covered_front : (g f : Front) (ts : List Token) → covers g f ≡ true → fronts f ts ≡ true → fronts g ts ≡ true
+pub covered_front : (g f : Front) (ts : List Token) → covers g f ≡ true → fronts f ts ≡ true → fronts g ts ≡ true
 covered_front (Spanned a b) (Spanned c d) [] h k = cc
 covered_front (Spanned a b) (Spanned c d) (Coded e ∷ ts) h k = among_inside a b c d e h k
 covered_front (Spanned a b) (Spanned c d) (Plain j w ∷ ts) h k = cc
@@ -217,6 +217,7 @@ covered_front (Hand l) (Hand j) [] h k = cc
 covered_front (Hand l) (Hand j) (Coded e ∷ ts) h k = cc
 covered_front (Hand l) (Hand j) (Plain i w ∷ ts) h k = grind (arith, nat_tests)
 covered_front (Hand l) (Hand j) (Lined x y ∷ ts) h k = cc
+covered_front Numbered Numbered ts h k = k
 covered_front g f ts h k = cc
 
 covered_some : (gs : List Front) (f : Front) (ts : List Token) → some (λ (g : Front). covers g f) gs ≡ true → fronts f ts ≡ true → some (λ (g : Front). fronts g ts) gs ≡ true

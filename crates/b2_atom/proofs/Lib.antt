@@ -12,6 +12,9 @@ pub mod Branches
 pub mod ReadBack
 pub mod Choice
 pub mod Pairs
+pub mod Beside
+pub mod FarSettled
+pub mod Far
 pub mod Longest
 pub mod WordsRead
 pub mod Widths

@@ -53,7 +53,7 @@ unfolding level
 statement_row_runs inner good o chooses f p m more u stated fits closed remarks_ less spelled =
     let test = statement_good o p m stated in
     let rest = and_right (covered statement_heads (of m).heads) _ (and_right (not (of m).empty) _ test) in
-    let free_or = and_right ((of m).plain || leading (row_items m)) _ rest in
+    let free_or = and_left _ _ (and_right ((of m).plain || leading (row_items m)) _ rest) in
     elim (either_way (is_free_row (row_items m))) [
       | inl g ↦ free_runs o 32 39 f (row_items m) inner more u g fits remarks_ closed spelled
       | inr g ↦ good o chooses 32 39 f (row_items m) fits more

@@ -118,14 +118,19 @@ front_unrelated leaf.Image a w h m = cc
 front_unrelated leaf.Text a w h m = cc
 front_unrelated leaf.Relation a w h m = cc
 
-literal_quiet : (k : Leaf) (a : ℕ) (w : Text) → front k a ≡ true → is_literal (Plain k w) ≡ true → quiet a ≡ true
+literal_quiet : (k : Leaf) (a : ℕ) (w : Text) → front k a ≡ true → (is_mark (Plain k w) || is_literal (Plain k w)) ≡ true → quiet a ≡ true
 literal_quiet leaf.Literal a w h m = grind (arith, nat_tests)
+literal_quiet leaf.Relation a w h m = grind (arith, nat_tests)
 literal_quiet k a w h m = cc
+
+no_dollar : (k : Leaf) (a : ℕ) (w : Text) → front k a ≡ true → is_mark (Plain k w) ≡ true → (a == 36) ≡ false
+no_dollar leaf.Relation a w h m = grind (arith, nat_tests)
+no_dollar k a w h m = cc
 
 pub plain_first : (operand : Bool) (k : Leaf) (a : ℕ) (w : Text) → leaf_width Atoms k (a ∷ w) ≡ suc (length w) → FirstOf operand (Plain k (a ∷ w)) a
 plain_first operand k a w h = record {
   mark = λ m o. literal_quiet k a (a ∷ w) (leaf_front k a w h) m;
-  dollar = λ m n. cc;
+  dollar = λ m n. no_dollar k a (a ∷ w) (leaf_front k a w h) m;
   unrelated = λ m. front_unrelated k a (a ∷ w) (leaf_front k a w h) m;
   lined = λ m. cc;
 }

@@ -31,9 +31,10 @@ good_token (Coded c) = is_among word.REM word.ROUND c || is_in c signs
 good_token (Plain k w) = is_whole k w
 good_token (Lined high low) = is_decimal high && is_decimal low
 
--- a word or a sign that isn't a letter
+-- a word or a sign that isn't a letter, also a comparison sign
 abbrev pub is_mark : Token → Bool
 is_mark (Coded c) = not (is_letter c)
+is_mark (Plain leaf.Relation w) = true
 is_mark (Plain k w) = false
 is_mark (Lined high low) = false
 
