@@ -38,3 +38,4 @@ pub mod Printable
 pub mod Fitted
 pub mod FittedLines
 pub mod AnyLine
+pub mod ReadAgain
