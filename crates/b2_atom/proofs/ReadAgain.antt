@@ -16,7 +16,8 @@ use Rattle.b2_atom.specs.declared.words.Origin.TheVariants as origin
 use Rattle.b2_atom.specs.declared.forms.Place.TheVariants.{First}
 use Rattle.b2_atom.specs.declared.forms.Leaf.{Leaf}
 use Rattle.b2_atom.specs.declared.sink.Stop.{Stop}
-use Rattle.b2_atom.proofs.Longest.{and_left, and_right, false_true}
+use Rattle.b2_atom.specs.declared.sink.Stop.TheVariants.{At}
+use Rattle.b2_atom.proofs.Longest.{false_true, equal}
 use Rattle.b2_atom.proofs.SideBySide.{not_empty}
 use Rattle.b2_atom.proofs.SpellsAtoms.{spells_atoms}
 use Rattle.b2_atom.proofs.SpellsSource.{spells_listed, token_fronted, skip_spaced}
@@ -43,3 +44,100 @@ stopped_line s (suc n) e h some = rw h refl
 
 no_statement : (s : Text) (e : Stop) → statement_row origin.Atoms First s ≡ Err e → is_ok (read_line origin.Atoms s) ≡ false
 no_statement s e h = stopped_line s (length s + 1) e h (let some : 0 < length s + 1 = omega arith in some)
+
+empty_row : statement_row origin.Atoms First [] ≡ Err (At 14 0)
+unfolding statement_row starts
+empty_row = refl
+
+blank_row : (x : Text) → statement_row origin.Atoms First (32 ∷ x) ≡ Err (At 14 (suc (length x)))
+unfolding statement_row starts
+blank_row x = refl
+
+ok_of : (o : Outcome) (t : Trees) → o ≡ Ok (t, []) → is_ok o ≡ true
+ok_of o t h = ap is_ok h
+
+-- the first byte of a line
+pub record Begun (a : Text) : Type 0 where
+  pub some : 0 < length a
+  pub blank : (first a == 32) ≡ false
+
+begun_by : (a : ℕ) (x : Text) (b : Bool) → (a == 32) ≡ b → is_ok (read_line origin.Atoms (a ∷ x)) ≡ true → Begun (a ∷ x)
+begun_by a x true is h =
+    let P : ℕ → Type 0 = λ n. is_ok (read_line origin.Atoms (n ∷ x)) ≡ true in
+    let there : P 32 = subst P (equal a 32 is) h in
+    absurd (false_true (sym (no_statement (32 ∷ x) (At 14 (suc (length x))) (blank_row x)) ∙ there))
+begun_by a x false is h = record { some = omega arith; blank = is }
+
+begun : (a : Text) → is_ok (read_line origin.Atoms a) ≡ true → Begun a
+begun [] h = absurd (false_true (sym (no_statement [] (At 14 0) empty_row) ∙ h))
+begun (a ∷ x) h = begun_by a x (a == 32) refl h
+
+-- the canonical source of tokens begins with something, and with no blank
+first_more : (w x : Text) → 0 < length w → first (w ++ x) ≡ first w
+first_more [] x h = absurd (omega arith)
+first_more (a ∷ w) x h = refl
+
+some_more : (w x : Text) → 0 < length w → 0 < length (w ++ x)
+some_more [] x h = absurd (omega arith)
+some_more (a ∷ w) x h = omega arith
+
+whole_some : (k : Leaf) (w : Text) → is_whole k w ≡ true → 0 < length w
+whole_some k [] h = absurd (not_empty k h)
+whole_some k (a ∷ w) h = omega arith
+
+begun_more : (w x : Text) → 0 < length w → (first w == 32) ≡ false → Begun (w ++ x)
+begun_more w x some h = record { some = some_more w x some; blank = ap (λ (n : ℕ). n == 32) (first_more w x some) ∙ h }
+
+front_by : (u : Token) (x : Text) (b : Bool) → is_free u ≡ b → good_token u ≡ true → Begun (token_atoms u ++ x) → (y : Text) → Begun (spelled u ++ y)
+front_by u x false is g h y = let f = token_fronted u is g in begun_more (spelled u) y f.some f.blank
+front_by (Coded c) x true is g h y = cc
+front_by (Plain k w) x true is g h y =
+    let some = whole_some k w g in
+    begun_more w y some (ap (λ (n : ℕ). n == 32) (sym (first_more w x some)) ∙ h.blank)
+front_by (Lined high low) x true is g h y = cc
+
+listed_begun : (ts : List Token) → AllGood ts → Begun (atoms_of_tokens ts) → Begun (listed false false ts)
+listed_begun [] g h = h
+listed_begun (u ∷ us) g h = front_by u (atoms_of_tokens us) (is_free u) refl g.0 h (listed (ends_wordy u) (is_operand u) us)
+
+begun_skips : (s : Text) → Begun s → skip_blanks s ≡ s
+begun_skips [] h = refl
+begun_skips (b ∷ s) h = rw h.blank refl
+
+-- each tree of a line is read from each text that spells its tokens
+abbrev pub EachTreeIsRead : Type 0
+EachTreeIsRead = (o : Origin) (t : Trees) (s : Text) → LineTree o t → Spells o (tokens t) s → read_line o s ≡ Ok (t, [])
+
+-- atoms that are read, and listed, and read again
+pub record ReadAgain (a s : Text) : Type 0 where
+  pub source : line_source a ≡ Ok s
+  pub again : line_atoms origin.Program s ≡ Ok a
+  pub is_read : is_ok (read_line origin.Atoms a) ≡ true
+  pub printable : all_printable s ≡ true
+  pub skips : skip_blanks s ≡ s
+  pub some : 0 < length s
+
+atoms_read : EachTreeIsRead → (o : Origin) (t : Trees) → LineTree o t → read_line origin.Atoms (atoms t) ≡ Ok (t, [])
+atoms_read back o t h =
+    let g = good_tree o t h in
+    back origin.Atoms t (atoms t) (any_line o t h) (subst (λ a. Spells origin.Atoms (tokens t) a) (sym (tree_atoms t)) (spells_atoms (tokens t) g.0 g.1))
+
+-- the atoms of any line that was read spell a line of atoms
+pub each_read_line_spells : EachTreeIsRead → (o : Origin) (t : Trees) → LineTree o t → is_ok (read_line origin.Atoms (atoms t)) ≡ true
+each_read_line_spells back o t h = ap is_ok (atoms_read back o t h)
+
+pub read_again : EachTreeIsRead → (t : Trees) → LineTree origin.Program t → ReadAgain (atoms t) (listed false false (tokens t))
+unfolding line_source line_atoms
+read_again back t h =
+    let g = good_tree origin.Program t h in
+    let is = atoms_read back origin.Program t h in
+    let b = begun (atoms t) (ap is_ok is) in
+    let front : Begun (listed false false (tokens t)) = listed_begun (tokens t) g.0 (subst Begun (tree_atoms t) b) in
+    record {
+      source = ap source_of is;
+      again = ap atoms_of (back origin.Program t (listed false false (tokens t)) h (spells_listed (tokens t) g.0 g.1));
+      is_read = ap is_ok is;
+      printable = listed_printable (tokens t) g.0;
+      skips = begun_skips (listed false false (tokens t)) front;
+      some = front.some;
+    }
