@@ -37,5 +37,6 @@ pub mod GoodLeaves
 pub mod Printable
 pub mod Fitted
 pub mod FittedLines
-pub mod AnyLine
+pub mod Anywhere
+pub mod LineLaws
 pub mod ReadAgain

@@ -19,21 +19,12 @@ use Rattle.b2_atom.specs.declared.sink.Stop.{Stop}
 use Rattle.b2_atom.specs.declared.sink.Stop.TheVariants.{At}
 use Rattle.b2_atom.proofs.Longest.{false_true, equal}
 use Rattle.b2_atom.proofs.SideBySide.{not_empty}
-use Rattle.b2_atom.proofs.SpellsAtoms.{spells_atoms}
-use Rattle.b2_atom.proofs.SpellsSource.{spells_listed, token_fronted, skip_spaced}
+use Rattle.b2_atom.proofs.SpellsSource.{token_fronted}
 use Rattle.b2_atom.proofs.Printable.{listed_printable}
-use Rattle.b2_atom.proofs.AnyLine.{any_line}
+use Rattle.b2_atom.proofs.Anywhere.{anywhere}
+use Rattle.b2_atom.proofs.FittedLines.{reads_fit}
+use Rattle.b2_atom.proofs.LineLaws.{tree_atoms, atoms_back, listed_back, ok_same}
 use Rattle.b2_atom.proofs.Beside.{good_tree}
-
--- the atoms of a tree are those of its tokens
-tokens_atoms : (u v : List Token) → atoms_of_tokens (u ++ v) ≡ atoms_of_tokens u ++ atoms_of_tokens v
-tokens_atoms [] v = refl
-tokens_atoms (t ∷ u) v = ap (λ (l : Text). token_atoms t ++ l) (tokens_atoms u v) ∙ sym (append_assoc (token_atoms t) (atoms_of_tokens u) (atoms_of_tokens v))
-
-pub tree_atoms : (t : Trees) → atoms t ≡ atoms_of_tokens (tokens t)
-tree_atoms Done = refl
-tree_atoms (Put t ts) = ap (λ (l : Text). token_atoms t ++ l) (tree_atoms ts)
-tree_atoms (In n inner ts) = (λ i. tree_atoms inner i ++ tree_atoms ts i) ∙ sym (tokens_atoms (tokens inner) (tokens ts))
 
 -- a line begins with something, and with no blank
 stopped_line : (s : Text) (n : ℕ) (e : Stop) → statement_row origin.Atoms First s ≡ Err e → 0 < n
@@ -104,40 +95,36 @@ begun_skips : (s : Text) → Begun s → skip_blanks s ≡ s
 begun_skips [] h = refl
 begun_skips (b ∷ s) h = rw h.blank refl
 
--- each tree of a line is read from each text that spells its tokens
-abbrev pub EachTreeIsRead : Type 0
-EachTreeIsRead = (o : Origin) (t : Trees) (s : Text) → LineTree o t → Spells o (tokens t) s → read_line o s ≡ Ok (t, [])
-
 -- atoms that are read, and listed, and read again
 pub record ReadAgain (a s : Text) : Type 0 where
   pub source : line_source a ≡ Ok s
   pub again : line_atoms origin.Program s ≡ Ok a
-  pub is_read : is_ok (read_line origin.Atoms a) ≡ true
   pub printable : all_printable s ≡ true
   pub skips : skip_blanks s ≡ s
   pub some : 0 < length s
 
-atoms_read : EachTreeIsRead → (o : Origin) (t : Trees) → LineTree o t → read_line origin.Atoms (atoms t) ≡ Ok (t, [])
-atoms_read back o t h =
-    let g = good_tree o t h in
-    back origin.Atoms t (atoms t) (any_line o t h) (subst (λ a. Spells origin.Atoms (tokens t) a) (sym (tree_atoms t)) (spells_atoms (tokens t) g.0 g.1))
-
--- the atoms of any line that was read spell a line of atoms
-pub each_read_line_spells : EachTreeIsRead → (o : Origin) (t : Trees) → LineTree o t → is_ok (read_line origin.Atoms (atoms t)) ≡ true
-each_read_line_spells back o t h = ap is_ok (atoms_read back o t h)
-
-pub read_again : EachTreeIsRead → (t : Trees) → LineTree origin.Program t → ReadAgain (atoms t) (listed false false (tokens t))
-unfolding line_source line_atoms
-read_again back t h =
+-- a tree that a program's line allows
+pub read_again : (t : Trees) → LineTree origin.Program t → ReadAgain (atoms t) (listed false false (tokens t))
+unfolding line_source
+read_again t h =
     let g = good_tree origin.Program t h in
-    let is = atoms_read back origin.Program t h in
-    let b = begun (atoms t) (ap is_ok is) in
-    let front : Begun (listed false false (tokens t)) = listed_begun (tokens t) g.0 (subst Begun (tree_atoms t) b) in
+    let is = atoms_back t (anywhere origin.Program t h) in
+    let front : Begun (listed false false (tokens t)) = listed_begun (tokens t) g.0 (subst Begun (sym (tree_atoms t)) (begun (atoms t) (ap is_ok is))) in
     record {
       source = ap source_of is;
-      again = ap atoms_of (back origin.Program t (listed false false (tokens t)) h (spells_listed (tokens t) g.0 g.1));
-      is_read = ap is_ok is;
+      again = listed_back.0 t h;
       printable = listed_printable (tokens t) g.0;
       skips = begun_skips (listed false false (tokens t)) front;
       some = front.some;
     }
+
+again_of : (s a : Text) (r : Outcome) → read_line origin.Program s ≡ r → atoms_of r ≡ Ok a → (u : Text) × ReadAgain a u
+again_of s a (Err e) is h = cc
+again_of s a (Ok p) is h =
+    let same : atoms p.0 ≡ a = ok_same (atoms p.0) a h in
+    (listed false false (tokens p.0), subst (λ l. ReadAgain l (listed false false (tokens p.0))) same (read_again p.0 (reads_fit origin.Program s p.0 p.1 is)))
+
+-- what was read of a program's line
+pub typed_again : (s a : Text) → line_atoms origin.Program s ≡ Ok a → (u : Text) × ReadAgain a u
+unfolding line_atoms
+typed_again s a h = again_of s a (read_line origin.Program s) refl h

@@ -19,8 +19,6 @@ use Rattle.b2_atom.specs.declared.forms.Start.{Start}
 use Rattle.b2_atom.specs.declared.forms.Place.{Place}
 use Rattle.b2_atom.specs.declared.forms.Item.{Item}
 use Rattle.b2_atom.specs.declared.forms.Item.TheVariants.{Word, Sign, Among, ProgramWord, Ignored, Comma, LeftOut, End, Typed, Part, Maybe, Either, Many, Nest, Statement}
-use Rattle.b2_atom.specs.Lines.{is_line}
-use Rattle.b2_atom.specs.Laws.{SpellsTree, EachLineSpellsATree, NoTwoTreesShareAtoms}
 use Rattle.b2_atom.specs.Table.{forms, rows_0, rows_1, rows_2, rows_3}
 
 -- a reading that takes its atoms from the front of a text
@@ -232,7 +230,7 @@ pub takes_line : (s : Text) → Takes s (read_line Atoms s)
 takes_line s = takes_level (statement (reader Atoms) (length s + 1)) _ (takes_statement (length s + 1)) (takes_deep (statement (reader Atoms) (length s + 1)) (takes_statement (length s + 1)) 32) 40 _ s
 
 -- nothing is left behind a line
-abbrev Ends : Outcome → Type 0
+abbrev pub Ends : Outcome → Type 0
 Ends (Ok p) = p.1 ≡ []
 Ends (Err e) = Unit {0}
 
@@ -255,32 +253,3 @@ ends_row st d p i j s = ends_then (item st d p (reader Atoms) i s) _ (λ u. ends
 pub ends_line : (s : Text) → Ends (read_line Atoms s)
 unfolding level row_items
 ends_line s = ends_row _ _ _ _ _ s
-
-tree_of : (s : Text) (o : Outcome) → read_line Atoms s ≡ o → is_ok o ≡ true → Takes s o → Ends o → SpellsTree s
-tree_of s (Err e) is h takes ends = cc
-tree_of s (Ok p) is h takes ends =
-    let spelled : atoms p.0 ≡ s = sym (append-nil (atoms p.0)) ∙ ap (λ (r : Text). atoms p.0 ++ r) (sym ends) ∙ takes in
-    record {
-      tree = p.0;
-      is_tree = ap (read_line Atoms) spelled ∙ is ∙ ap (λ (r : Text). Ok (p.0, r)) ends;
-      spelled = spelled;
-    }
-
-both : (a b : Bool) → (a && b) ≡ true → b ≡ true
-both true b h = h
-both false b h = cc
-
--- each line spells a tree
-pub spells_tree : EachLineSpellsATree
-unfolding is_line
-spells_tree s h = tree_of s (read_line Atoms s) refl (both (nat_le (length s) 255) _ h) (takes_line s) (ends_line s)
-
-read_tree : Outcome → Trees → Trees
-read_tree (Ok p) d = p.0
-read_tree (Err e) d = d
-
--- no two trees share their atoms
-pub one_tree : NoTwoTreesShareAtoms
-unfolding read_tree
-one_tree t u is_t is_u same =
-    ap (λ (o : Outcome). read_tree o t) (sym is_t ∙ ap (read_line Atoms) same ∙ is_u)
