@@ -6,7 +6,7 @@ use Rattle.b2_atom.specs.Leaves.{is_digit, is_letter, is_hex, is_printable, all_
 use Rattle.b2_atom.specs.declared.words.Origin.TheVariants.{Atoms}
 use Rattle.b2_atom.specs.declared.forms.Leaf.{Leaf}
 use Rattle.b2_atom.specs.declared.forms.Leaf.TheVariants as leaf
-use Rattle.b2_atom.proofs.Longest.{and_left, and_right, equal, every}
+use Rattle.b2_atom.proofs.Longest.{and_left, and_right, equal, every, both}
 use Rattle.b2_atom.proofs.Widths.{behind, pointed, no_exponent, number_parts, signed_parts}
 use Rattle.b2_atom.proofs.Names.{NameShape, numeric_shape, local_shape, alpha_shape}
 use Rattle.b2_atom.proofs.Characters.{is_function_name, image_parts, relation_most}
@@ -28,9 +28,6 @@ letter_same b h = grind (arith, nat_tests)
 
 pub hex_same : (b : ℕ) → is_hex b ≡ true → is_clean b ≡ true
 hex_same b h = grind (arith, nat_tests)
-
-both : (a b : Bool) → a ≡ true → b ≡ true → (a && b) ≡ true
-both a b h k = rw h k
 
 digits_by : (b : ℕ) (t : Text) (d : Bool) → is_digit b ≡ d → (all_clean (drop (digits t) t) ≡ true → all_clean t ≡ true)
     → all_clean (drop (if d then suc (digits t) else 0) (b ∷ t)) ≡ true → all_clean (b ∷ t) ≡ true

@@ -23,7 +23,7 @@ use Rattle.b2_atom.specs.declared.forms.Item.{Item}
 use Rattle.b2_atom.specs.declared.forms.Item.TheVariants.{Word, Sign, Among, ProgramWord, Ignored, Comma, LeftOut, End, Typed, Part, Maybe, Either, Many, Nest, Statement}
 use Rattle.b2_atom.specs.declared.sink.Stop.{Stop}
 use Rattle.b2_atom.specs.declared.sink.Stop.TheVariants.{At, Deep}
-use Rattle.b2_atom.proofs.Longest.{and_left, and_right, below, at_below}
+use Rattle.b2_atom.proofs.Longest.{and_left, and_right, below, at_below, both}
 use Rattle.b2_atom.proofs.WordsRead.{typed_end}
 use Rattle.b2_atom.proofs.LeavesRead.{not_true}
 use Rattle.b2_atom.proofs.SideBySide.{is_text}
@@ -43,9 +43,6 @@ pub tokens_also : (a b : Trees) → tokens (also a b) ≡ tokens a ++ tokens b
 tokens_also Done b = refl
 tokens_also (Put t a) b = ap (λ (l : List Token). t ∷ l) (tokens_also a b)
 tokens_also (In n i a) b = ap (λ (l : List Token). tokens i ++ l) (tokens_also a b) ∙ sym (append_assoc (tokens i) (tokens a) (tokens b))
-
-both : (a b : Bool) → a ≡ true → b ≡ true → (a && b) ≡ true
-both a b h k = rw h k
 
 pub append_remarks : (u v : List Token) → no_remark u ≡ true → no_remark v ≡ true → no_remark (u ++ v) ≡ true
 append_remarks [] v h k = k

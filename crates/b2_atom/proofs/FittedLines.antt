@@ -25,7 +25,7 @@ use Rattle.b2_atom.specs.declared.forms.Item.{Item}
 use Rattle.b2_atom.specs.declared.forms.Item.TheVariants.{Word, Sign, Typed, Part, Either, Many, Statement, End}
 use Rattle.b2_atom.specs.declared.sink.Stop.{Stop}
 use Rattle.b2_atom.specs.declared.sink.Stop.TheVariants.{At}
-use Rattle.b2_atom.proofs.Longest.{and_left, and_right, every, equal}
+use Rattle.b2_atom.proofs.Longest.{and_left, and_right, every, equal, both}
 use Rattle.b2_atom.proofs.Fitted.{no_remark, Good, Leads, tokens_also, append_remarks, calm_row, calm_part, calm_level, calm_deep, calm_item_good, calm_item, calm_items, Nested, AllGoodAt, skipped_short, ahead_less, nothing_left, behind_short, drop_short, same_code, le_both}
 
 -- no remark, or nothing behind it
@@ -290,9 +290,6 @@ if_row o stf f l st s le =
     line_or_statement o stf f l st w (le_lt (length w) (length v) f more (le_lt (length v) (length u) f most (lt_le (length u) (length s) f less le)))))))
 
 -- remarks and image lines
-both : (a b : Bool) → a ≡ true → b ≡ true → (a && b) ≡ true
-both a b h k = rw h k
-
 some_text : (n : ℕ) → nat_lt 0 (suc n) ≡ true
 some_text n = grind (arith, nat_tests)
 

@@ -25,6 +25,7 @@ use Rattle.b2_atom.proofs.Anywhere.{anywhere}
 use Rattle.b2_atom.proofs.FittedLines.{reads_fit}
 use Rattle.b2_atom.proofs.LineLaws.{tree_atoms, atoms_back, listed_back, ok_same}
 use Rattle.b2_atom.proofs.Beside.{good_tree}
+use Rattle.b2_atom.proofs.Listed.{first_more}
 
 -- a line begins with something, and with no blank
 stopped_line : (s : Text) (n : ℕ) (e : Stop) → statement_row origin.Atoms First s ≡ Err e → 0 < n
@@ -64,10 +65,6 @@ begun [] h = absurd (false_true (sym (no_statement [] (At 14 0) empty_row) ∙ h
 begun (a ∷ x) h = begun_by a x (a == 32) refl h
 
 -- the canonical source of tokens begins with something, and with no blank
-first_more : (w x : Text) → 0 < length w → first (w ++ x) ≡ first w
-first_more [] x h = absurd (omega arith)
-first_more (a ∷ w) x h = refl
-
 some_more : (w x : Text) → 0 < length w → 0 < length (w ++ x)
 some_more [] x h = absurd (omega arith)
 some_more (a ∷ w) x h = omega arith
