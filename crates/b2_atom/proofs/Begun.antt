@@ -14,13 +14,14 @@ use Rattle.b2_atom.specs.declared.words.Origin.TheVariants.{Program, Immediate, 
 use Rattle.b2_atom.specs.declared.forms.Leaf.{Leaf}
 use Rattle.b2_atom.specs.declared.forms.Leaf.TheVariants as leaf
 use Rattle.b2_atom.proofs.Longest.{and_left, and_right, false_true}
-use Rattle.b2_atom.proofs.WordsRead.{begins_word}
+use Rattle.b2_atom.proofs.WordsRead.{begins_word, and_false}
 use Rattle.b2_atom.proofs.Keywords.{is_keyword, not_before_sign, not_at_sign}
-use Rattle.b2_atom.proofs.Names.{NameShape, numeric_shape, numeric_read, local_shape, alpha_shape, alpha_read, ahead_sign, ahead_letter}
+use Rattle.b2_atom.proofs.Names.{NameShape, numeric_shape, numeric_read, local_shape, alpha_shape, alpha_read, ahead_sign, ahead_letter, digit_upper}
 use Rattle.b2_atom.proofs.Characters.{hex_kept, function_of, is_function_name, function_ahead}
 use Rattle.b2_atom.proofs.LeavesRead.{ends, leaf_read, not_true, name_digit, name_letter, name_dollar, dollar_before, dollar_long}
 use Rattle.b2_atom.proofs.LeafFronts.{front, leaf_front, width_yes}
 use Rattle.b2_atom.proofs.CleanLeaves.{whole_upper}
+use Rattle.b2_atom.proofs.Widths.{get_first}
 
 -- a byte that is no letter, or one behind it that is none
 abbrev pub Quiet : ℕ → Text → Type 0
@@ -57,15 +58,12 @@ relation_sign a h = grind (arith, nat_tests)
 pub ahead_plain : (o : Origin) (a : ℕ) (z : Text) → is_plain_sign a ≡ true → ahead o (a ∷ z) ≡ (a, z)
 ahead_plain o a z h = ahead_sign o a z (sign_upper a h) (sign_word a h)
 
-digit_quiet : (b : ℕ) → is_digit b ≡ true → is_letter (upper b) ≡ false
-digit_quiet b h = grind (arith, nat_tests)
-
 global_quiet : (a : ℕ) → a ≡ 64 → is_letter (upper a) ≡ false
 global_quiet a h = ap (λ (n : ℕ). is_letter (upper n)) h
 
 name_quiet : (a : ℕ) (w y : Text) → NameShape (a ∷ w) → is_letter (upper (first y)) ≡ false → Quiet a (w ++ y)
 name_quiet a [] y h stop = inr stop
-name_quiet a (b ∷ []) y (inl h) stop = inr (digit_quiet b h.1)
+name_quiet a (b ∷ []) y (inl h) stop = inr (digit_upper b h.1)
 name_quiet a (b ∷ []) y (inr h) stop = inl (global_quiet a h.0)
 name_quiet a (b ∷ c ∷ []) y h stop = inl (global_quiet a h.0)
 name_quiet a (b ∷ c ∷ d ∷ w) y h stop = absurd h
@@ -80,7 +78,7 @@ slot_digit a [] y h = absurd (false_true (and_right (a == 35) false (width_yes (
 slot_digit a (b ∷ w) y h =
     let is = (width_yes (a == 35 && (nat_lt 0 (digits (b ∷ w)) && nat_le (small_value 0 (b ∷ w)) 15)) (digits (b ∷ w) + 1) (suc (length w)) h).0 in
     let some = and_left (nat_lt 0 (digits (b ∷ w))) _ (and_right (a == 35) _ is) in
-    digit_quiet b (some_digit (is_digit b) (suc (digits w)) some)
+    digit_upper b (some_digit (is_digit b) (suc (digits w)) some)
 
 function_quiet : (a : ℕ) (w y : Text) → leaf_width Atoms leaf.FunctionName (a ∷ w) ≡ suc (length w) → is_letter (upper (first y)) ≡ false → is_letter (upper (first (w ++ y))) ≡ false
 function_quiet a [] y h stop = stop
@@ -213,14 +211,6 @@ no_e Atoms n h = grind (arith, nat_tests)
 
 no_b : (a : ℕ) → is_letter (upper a) ≡ false → (a == 66) ≡ false
 no_b a h = grind (arith, nat_tests)
-
-pub get_first : (x : Text) → get_or x 0 0 ≡ first x
-get_first [] = refl
-get_first (b ∷ x) = refl
-
-pub and_false : (a b : Bool) → b ≡ false → (a && b) ≡ false
-and_false true b h = h
-and_false false b h = refl
 
 pub quiet_beg : (o : Origin) (a : ℕ) (z : Text) → Quiet a z → (a == 66 && spelled_behind o z 69 71) ≡ false
 quiet_beg o a z (inl h) = ap (λ (b : Bool). b && spelled_behind o z 69 71) (no_b a h)

@@ -1,13 +1,13 @@
 -- A whole leaf has no small letters, and no byte that may not stand in a line.
-use Rattle.std.proofs.Common.{◌≡◌, ℕ, zero, suc, ◌+◌, ◌<◌, ◌≤◌, Bool, true, false, not, if◌then◌else◌, ◌==◌, ◌||◌, ◌&&◌, [], ◌∷◌, ◌++◌, length, get_or, drop, refl, sym, ap, ◌∙◌, arith, nat_le, nat_lt, inl, inr, length-drop, drop-drop}
+use Rattle.std.proofs.Common.{◌≡◌, ℕ, zero, suc, ◌+◌, ◌-◌, ◌<◌, ◌≤◌, Bool, true, false, not, if◌then◌else◌, ◌==◌, ◌||◌, ◌&&◌, List, [], ◌∷◌, ◌++◌, length, get_or, drop, refl, sym, ap, ◌∙◌, arith, nat_le, nat_lt, inl, inr, ◌⊎◌, length-drop, drop-drop}
 use Rattle.std.proofs.lemmas.Bool.Decides.{nat_tests}
 use Rattle.b2_atom.specs.Words.{Text, upper}
-use Rattle.b2_atom.specs.Leaves.{is_digit, is_letter, is_hex, is_printable, all_printable, digits, number_width, mantissa_of, mantissa_width, sign_width, exponent_of, exponent_width, one_more, leaf_width, until_quote, small_value, relation_of, ends_image, until_parenthesis}
+use Rattle.b2_atom.specs.Leaves.{is_digit, is_letter, is_hex, is_printable, all_printable, digits, number_width, number_of, mantissa_of, mantissa_width, sign_width, exponent_of, exponent_width, one_more, leaf_width, until_quote, small_value, relation_of, ends_image, until_parenthesis}
 use Rattle.b2_atom.specs.declared.words.Origin.TheVariants.{Atoms}
 use Rattle.b2_atom.specs.declared.forms.Leaf.{Leaf}
 use Rattle.b2_atom.specs.declared.forms.Leaf.TheVariants as leaf
-use Rattle.b2_atom.proofs.Longest.{and_left, and_right, equal, every}
-use Rattle.b2_atom.proofs.Widths.{pointed, no_exponent, number_parts, signed_parts}
+use Rattle.b2_atom.proofs.Longest.{and_left, and_right, equal, every, both}
+use Rattle.b2_atom.proofs.Widths.{behind, pointed, no_exponent, number_parts, signed_parts}
 use Rattle.b2_atom.proofs.Names.{NameShape, numeric_shape, local_shape, alpha_shape}
 use Rattle.b2_atom.proofs.Characters.{is_function_name, image_parts, relation_most}
 use Rattle.b2_atom.proofs.LeavesRead.{all_upper, is_free}
@@ -28,9 +28,6 @@ letter_same b h = grind (arith, nat_tests)
 
 pub hex_same : (b : ℕ) → is_hex b ≡ true → is_clean b ≡ true
 hex_same b h = grind (arith, nat_tests)
-
-both : (a b : Bool) → a ≡ true → b ≡ true → (a && b) ≡ true
-both a b h k = rw h k
 
 digits_by : (b : ℕ) (t : Text) (d : Bool) → is_digit b ≡ d → (all_clean (drop (digits t) t) ≡ true → all_clean t ≡ true)
     → all_clean (drop (if d then suc (digits t) else 0) (b ∷ t)) ≡ true → all_clean (b ∷ t) ≡ true
@@ -264,7 +261,7 @@ literal_printable a w h =
     let front : a ≡ 34 = equal a 34 (and_left (a == 34) _ is.0) in
     let long : suc (until_quote w) ≡ length w = (let sum = is.1 in omega arith) in
     let there : (nat_lt 0 (until_quote w) && get_or (34 ∷ w) (until_quote w + 1) 0 == 34) ≡ true =
-    ap (λ (n : ℕ). nat_lt 0 (until_quote w) && get_or (n ∷ w) (until_quote w + 1) 0 == 34) (sym front) ∙ and_right (a == 34) _ is.0 in
+        ap (λ (n : ℕ). nat_lt 0 (until_quote w) && get_or (n ∷ w) (until_quote w + 1) 0 == 34) (sym front) ∙ and_right (a == 34) _ is.0 in
     both (is_printable a) (all_printable w) (ap is_printable front) (quoted w (at_quote w (until_quote w) (nat_lt 0 (until_quote w)) there) long)
 
 -- a whole leaf is clean, but for literals and free text

@@ -1,20 +1,22 @@
 -- What is read is a tree that the rows allow: remarks, statements and whole lines.
-use Rattle.std.proofs.Common.{◌≡◌, ℕ, zero, suc, ◌+◌, ◌<◌, ◌≤◌, Bool, true, false, not, if◌then◌else◌, ◌==◌, ◌||◌, ◌&&◌, List, [], ◌∷◌, ◌++◌, length, drop, refl, sym, ap, subst, ◌∙◌, arith, nat_lt, append-nil, inl, inr, ◌⊎◌, Result, Ok, Err}
+use Rattle.std.proofs.Common.{◌≡◌, ℕ, zero, suc, ◌+◌, ◌-◌, ◌<◌, ◌≤◌, Bool, true, false, not, if◌then◌else◌, ◌==◌, ◌||◌, ◌&&◌, List, [], ◌∷◌, ◌++◌, length, get_or, drop, refl, sym, ap, subst, ◌∙◌, arith, nat_le, nat_lt, append-nil, inl, inr, ◌⊎◌, Result, Ok, Err}
 use Rattle.std.proofs.lemmas.Bool.Decides.{nat_tests}
 use Rattle.b2_atom.specs.Words.{Text, ahead, skipped}
 use Rattle.b2_atom.specs.Tokens.{Token}
-use Rattle.b2_atom.specs.Tokens.Token.{Coded, Plain}
+use Rattle.b2_atom.specs.Tokens.Token.{Coded, Plain, Lined}
 use Rattle.b2_atom.specs.Tree.{Trees, Outcome, Parser, one, nothing, joined, and_then, under, also, tokens}
 use Rattle.b2_atom.specs.Tree.Trees.{Done, Put, In}
 use Rattle.b2_atom.specs.Leaves.{refused, all_printable}
-use Rattle.b2_atom.specs.Grammar.{reader, items, item, level, deep, many, statement, chosen, statement_row, row_at, allowed, from, begins_let, variable_begins, barred_following, barred_line, barred_place, row_items, starts, absent, mark, end_of_line, end_at, read_leaf, text_to_end, read_line}
-use Rattle.b2_atom.specs.Fitting.{fits_token, giving, FitsPut, Fits, is_remark, RemarksEnd, is_statement, is_allowed, LineTree}
+use Rattle.b2_atom.specs.Grammar.{Reader, reader, items, item, level, deep, many, statement, chosen, statement_row, statement_at, row_at, allowed, from, begins_let, variable_begins, barred_following, barred_line, barred_place, row_items, starts, starts_at, absent, mark, mark_at, end_of_line, end_at, read_leaf, text_to_end, read_line, part}
+use Rattle.b2_atom.specs.Spelling.{is_whole, good_token, is_free}
+use Rattle.b2_atom.specs.Fitting.{fits_token, giving, FitsPut, Fits, is_remark, is_rest, RemarksEnd, is_statement, is_allowed, LineTree}
 use Rattle.b2_atom.specs.Table.{forms}
 use Rattle.b2_atom.specs.declared.words.TheConstants as word
 use Rattle.b2_atom.specs.declared.rows.TheConstants as row
 use Rattle.b2_atom.specs.declared.words.Origin.{Origin}
 use Rattle.b2_atom.specs.declared.words.Origin.TheVariants.{Program, Immediate, Atoms}
 use Rattle.b2_atom.specs.declared.forms.Leaf.TheVariants as leaf
+use Rattle.b2_atom.specs.declared.forms.Start.{Start}
 use Rattle.b2_atom.specs.declared.forms.Start.TheVariants as start
 use Rattle.b2_atom.specs.declared.forms.Place.{Place}
 use Rattle.b2_atom.specs.declared.forms.Place.TheVariants as place
@@ -23,8 +25,8 @@ use Rattle.b2_atom.specs.declared.forms.Item.{Item}
 use Rattle.b2_atom.specs.declared.forms.Item.TheVariants.{Word, Sign, Typed, Part, Either, Many, Statement, End}
 use Rattle.b2_atom.specs.declared.sink.Stop.{Stop}
 use Rattle.b2_atom.specs.declared.sink.Stop.TheVariants.{At}
-use Rattle.b2_atom.proofs.Longest.{and_left, and_right, every, equal}
-use Rattle.b2_atom.proofs.Fitted.{no_remark, Good, Leads, tokens_also, append_remarks, calm_row, calm_part, calm_level, calm_deep, calm_item_good, calm_item, skipped_short, ahead_less, nothing_left, drop_short, same_code, le_both}
+use Rattle.b2_atom.proofs.Longest.{and_left, and_right, every, equal, both}
+use Rattle.b2_atom.proofs.Fitted.{no_remark, Good, Leads, tokens_also, append_remarks, calm_row, calm_part, calm_level, calm_deep, calm_item_good, calm_item, calm_items, Nested, AllGoodAt, skipped_short, ahead_less, nothing_left, behind_short, drop_short, same_code, le_both}
 
 -- no remark, or nothing behind it
 pub record Ended (ts : List Token) (rest : Text) : Type 0 where
@@ -93,21 +95,17 @@ ended_then : (ts us : List Token) (rest left : Text) → Ended ts rest → Ended
 ended_then ts us rest left h k idle = elim h.ended [
   | inl n ↦ calm_then ts us left n k
   | inr e ↦ (let none = idle e in record {
-    remarks = subst (λ l. RemarksEnd (ts ++ l)) (sym none.0) (subst RemarksEnd (sym (append-nil ts)) h.remarks);
-    ended = inr none.1;
-  })
+      remarks = subst (λ l. RemarksEnd (ts ++ l)) (sym none.0) (subst RemarksEnd (sym (append-nil ts)) h.remarks);
+      ended = inr none.1;
+    })
 ]
 
 idle_joined : (P Q R : Trees → Type 0) (s : Text) (a : Trees) (rest : Text) (u : Outcome) → ((a b : Trees) → P a → Q b → R (also a b)) → P a → Ended (tokens a) rest
     → length rest ≤ length s → Idles Q rest u → Ends R s (joined a u)
 idle_joined P Q R s a rest (Err e) more g n l h = tt
-idle_joined P Q R s a rest (Ok p) more g n l h = (
-  more a p.0 g h.0,
-  (
-    subst (λ ts. Ended ts p.1) (sym (tokens_also a p.0)) (ended_then (tokens a) (tokens p.0) rest p.1 n h.1.0 h.1.1.1),
-    le_both (length p.1) (length rest) (length s) h.1.1.0 l,
-  ),
-)
+idle_joined P Q R s a rest (Ok p) more g n l h =
+    (more a p.0 g h.0, (subst (λ ts. Ended ts p.1) (sym (tokens_also a p.0)) (ended_then (tokens a) (tokens p.0) rest p.1 n h.1.0 h.1.1.1),
+    le_both (length p.1) (length rest) (length s) h.1.1.0 l))
 
 idle_then : (P Q R : Trees → Type 0) (s : Text) (o : Outcome) (q : Parser Text) → ((a b : Trees) → P a → Q b → R (also a b)) → Ends P s o
     → ((u : Text) → length u ≤ length s → Idles Q u (q u)) → Ends R s (and_then o q)
@@ -118,16 +116,10 @@ idle_then P Q R s (Ok p) q more g h = idle_joined P Q R s p.0 p.1 (q p.1) more g
 idles_joined : (P Q R : Trees → Type 0) (s : Text) (a : Trees) (rest : Text) (u : Outcome) → ((a b : Trees) → P a → Q b → R (also a b)) → P a → Ended (tokens a) rest
     → length rest ≤ length s → (s ≡ [] → (tokens a ≡ []) × (rest ≡ [])) → Idles Q rest u → Idles R s (joined a u)
 idles_joined P Q R s a rest (Err e) more g n l idle h = tt
-idles_joined P Q R s a rest (Ok p) more g n l idle h = (
-  more a p.0 g h.0,
-  (
-    subst (λ ts. Ended ts p.1) (sym (tokens_also a p.0)) (ended_then (tokens a) (tokens p.0) rest p.1 n h.1.0 h.1.1.1),
-    (
-      le_both (length p.1) (length rest) (length s) h.1.1.0 l,
-      λ e. let front = idle e in let back = h.1.1.1 front.1 in (tokens_also a p.0 ∙ (λ i. front.0 i ++ back.0 i), back.1),
-    ),
-  ),
-)
+idles_joined P Q R s a rest (Ok p) more g n l idle h =
+    (more a p.0 g h.0, (subst (λ ts. Ended ts p.1) (sym (tokens_also a p.0)) (ended_then (tokens a) (tokens p.0) rest p.1 n h.1.0 h.1.1.1),
+    (le_both (length p.1) (length rest) (length s) h.1.1.0 l,
+    λ e. let front = idle e in let back = h.1.1.1 front.1 in (tokens_also a p.0 ∙ (λ i. front.0 i ++ back.0 i), back.1))))
 
 idles_then : (P Q R : Trees → Type 0) (s : Text) (o : Outcome) (q : Parser Text) → ((a b : Trees) → P a → Q b → R (also a b)) → Idles P s o
     → ((u : Text) → length u ≤ length s → Idles Q u (q u)) → Idles R s (and_then o q)
@@ -298,9 +290,6 @@ if_row o stf f l st s le =
     line_or_statement o stf f l st w (le_lt (length w) (length v) f more (le_lt (length v) (length u) f most (lt_le (length u) (length s) f less le)))))))
 
 -- remarks and image lines
-both : (a b : Bool) → a ≡ true → b ≡ true → (a && b) ≡ true
-both a b h k = rw h k
-
 some_text : (n : ℕ) → nat_lt 0 (suc n) ≡ true
 some_text n = grind (arith, nat_tests)
 
@@ -311,10 +300,9 @@ text_by : (o : Origin) (i : Item) (c : ℕ) (s : Text) (b : ℕ) (bs : Text) (p 
     → Ends (Fits o 32 (TextRow i)) s (joined (Put (Coded c) Done) (and_then (if p then one (Plain leaf.Text (b ∷ bs)) [] else Err (At 14 (length (b ∷ bs)))) nothing))
 text_by o i c s b bs false h t g = tt
 text_by o i c s b bs true h t g =
-    let P : List Item → Type 0 = λ is. FitsPut o is (Coded c) (λ (rest : List Item). Fits o 32 rest (Put (Plain leaf.Text (b ∷ bs)) Done)) in (
-      subst P (sym g) (t, (both (nat_lt 0 (suc (length bs))) (all_printable (b ∷ bs)) (some_text (length bs)) h, refl)),
-      (record { remarks = ((λ h. refl), ((λ h. refl), tt)); ended = inr refl }, (let least : 0 ≤ length s = omega arith in least)),
-    )
+    let P : List Item → Type 0 = λ is. FitsPut o is (Coded c) (λ (rest : List Item). Fits o 32 rest (Put (Plain leaf.Text (b ∷ bs)) Done)) in
+    (subst P (sym g) (t, (both (nat_lt 0 (suc (length bs))) (all_printable (b ∷ bs)) (some_text (length bs)) h, refl)),
+    (record { remarks = ((λ h. refl), ((λ h. refl), tt)); ended = inr refl }, (let least : 0 ≤ length s = omega arith in least)))
 
 text_ends : (o : Origin) (i : Item) (c : ℕ) (s x : Text) → fits_token o i (Coded c) ≡ true → giving (TextRow i) ≡ TextRow i
     → Ends (Fits o 32 (TextRow i)) s (joined (Put (Coded c) Done) (and_then (text_to_end 14 x) nothing))
@@ -389,11 +377,9 @@ allowed_by : (f : Form) (fs : List Form) (o : Origin) (p : Place) (t : Text) (a 
 allowed_by f fs o p t true b c ha hb hc h = tt
 allowed_by f fs o p t false true c ha hb hc h = tt
 allowed_by f fs o p t false false true ha hb hc h = tt
-allowed_by f fs o p t false false false ha hb hc h = (
-  or_left (f.row == f.row && is_allowed o p f.rule) (is_statement fs o p f.row)
-      (both (f.row == f.row) (is_allowed o p f.rule) (same_code f.row) (none_barred (barred_following p f.rule) (barred_line o f.rule) (barred_place p f.rule) ha hb hc)),
-  h,
-)
+allowed_by f fs o p t false false false ha hb hc h =
+    (or_left (f.row == f.row && is_allowed o p f.rule) (is_statement fs o p f.row)
+    (both (f.row == f.row) (is_allowed o p f.rule) (same_code f.row) (none_barred (barred_following p f.rule) (barred_line o f.rule) (barred_place p f.rule) ha hb hc)), h)
 
 assignment_fact : (o : Origin) (p : Place) → RowFact [] o p (Ok row.ASSIGNMENT)
 assignment_fact o p = (refl, assignment_row)
@@ -498,7 +484,7 @@ asks_none : (o : Origin) (u : Text) → u ≡ [] → starts o (start.Code 58) u 
 unfolding starts
 asks_none o u e h =
     let none : (0 == 58) ≡ true =
-    ap (λ (p : ℕ × Text). p.0 == 58) (sym (nothing_left o)) ∙ ap (λ (t : Text). (ahead o t).0 == 58) (sym (none_skipped o)) ∙ ap (λ (t : Text). (ahead o (skipped o t)).0 == 58) (sym e) ∙ h in cc
+        ap (λ (p : ℕ × Text). p.0 == 58) (sym (nothing_left o)) ∙ ap (λ (t : Text). (ahead o t).0 == 58) (sym (none_skipped o)) ∙ ap (λ (t : Text). (ahead o (skipped o t)).0 == 58) (sym e) ∙ h in cc
 
 abbrev Further : Origin → List Item → Trees → Type 0
 Further o is a = Leads o 32 (Many (start.Code 58) row.FURTHER_STATEMENT) is a

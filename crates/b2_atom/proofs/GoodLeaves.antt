@@ -16,15 +16,15 @@ use Rattle.b2_atom.specs.declared.forms.Leaf.{Leaf}
 use Rattle.b2_atom.specs.declared.forms.Leaf.TheVariants as leaf
 use Rattle.b2_atom.specs.declared.sink.Stop.{Stop}
 use Rattle.b2_atom.specs.declared.sink.Stop.TheVariants.{At}
-use Rattle.b2_atom.proofs.Longest.{and_right, false_true}
+use Rattle.b2_atom.proofs.Longest.{and_right, false_true, both}
 use Rattle.b2_atom.proofs.WordsRead.{typed_end}
-use Rattle.b2_atom.proofs.Widths.{get_none, digits_most}
+use Rattle.b2_atom.proofs.Widths.{get_none, digits_most, if_most}
 use Rattle.b2_atom.proofs.Names.{width_of, no_name}
 use Rattle.b2_atom.proofs.Characters.{is_function_name}
 use Rattle.b2_atom.proofs.LeafFronts.{width_yes}
 use Rattle.b2_atom.proofs.SideBySide.{is_text}
 use Rattle.b2_atom.proofs.WholeLeaves.{number_kept, number_back, signed_kept, signed_back, slot_kept, slot_back, small_kept, small_back, image_kept, image_back, relation_kept_text, relation_back, literal_back}
-use Rattle.b2_atom.proofs.WholeNames.{name_whole, local_whole, alpha_whole, function_whole}
+use Rattle.b2_atom.proofs.WholeNames.{name_whole, local_whole, alpha_whole, function_whole, length_kept}
 
 -- the part of a text that is read is a whole leaf
 pair_whole : (o : Origin) (a : ℕ) (w x : Text) → leaf_width o leaf.HexPair (a ∷ (w ++ x)) ≡ suc (length w) → leaf_width Atoms leaf.HexPair (map (kept o) (a ∷ w)) ≡ suc (length w)
@@ -64,13 +64,9 @@ whole_part o leaf.Relation a w x h = relation_kept_text o a w ∙ relation_back 
 in_or_behind : (t : Text) (i : ℕ) → (i < length t) ⊎ (length t ≤ i)
 in_or_behind t i = grind arith
 
-if_most : (b : Bool) (x n : ℕ) → x ≤ n → (if b then 0 else x) ≤ n
-if_most true x n h = omega arith
-if_most false x n h = h
-
-if_first : (b : Bool) (x n : ℕ) → x ≤ n → (if b then x else 0) ≤ n
-if_first true x n h = h
-if_first false x n h = omega arith
+if_rest : (b : Bool) (x n : ℕ) → x ≤ n → (if b then 0 else x) ≤ n
+if_rest true x n h = omega arith
+if_rest false x n h = h
 
 inside : (p : ℕ → Bool) (t : Text) (i : ℕ) → p 0 ≡ false → p (get_or t i 0) ≡ true → i < length t
 inside p t i at_end h = elim (in_or_behind t i) [ inl less ↦ less | inr none ↦ absurd (false_true (sym at_end ∙ ap p (sym (get_none t i none)) ∙ h)) ]
@@ -81,7 +77,7 @@ mantissa_in t n true hn hc =
     let less = inside (λ b. b == 46) t n refl hc in
     let most = digits_most (drop (n + 1) t) in
     let fits : n + 1 + digits (drop (n + 1) t) ≤ length t = omega (arith, length-drop (n + 1) t) in
-    if_most (n == 0 && digits (drop (n + 1) t) == 0) (n + 1 + digits (drop (n + 1) t)) (length t) fits
+    if_rest (n == 0 && digits (drop (n + 1) t) == 0) (n + 1 + digits (drop (n + 1) t)) (length t) fits
 
 mantissa_most : (t : Text) → mantissa_width t ≤ length t
 mantissa_most t = mantissa_in t (digits t) (get_or t (digits t) 0 == 46) refl refl
@@ -94,14 +90,14 @@ exponent_in t s false b ha hb = omega arith
 exponent_most : (o : Origin) (t : Text) → exponent_width o t ≤ length t
 exponent_most o t =
     let s : ℕ = sign_width (get_or t 1 0) in
-    if_first (kept o (first t) == 69) (exponent_of s t) (length t) (exponent_in t s (is_digit (get_or t (1 + s) 0)) (is_digit (get_or t (2 + s) 0)) refl refl)
+    if_most (kept o (first t) == 69) (exponent_of s t) (length t) (exponent_in t s (is_digit (get_or t (1 + s) 0)) (is_digit (get_or t (2 + s) 0)) refl refl)
 
 number_most : (o : Origin) (t : Text) → number_width o t ≤ length t
 number_most o t =
     let m = mantissa_most t in
     let e = exponent_most o (drop (mantissa_width t) t) in
     let fits : mantissa_width t + exponent_width o (drop (mantissa_width t) t) ≤ length t = omega (arith, length-drop (mantissa_width t) t) in
-    if_most (mantissa_width t == 0) (mantissa_width t + exponent_width o (drop (mantissa_width t) t)) (length t) fits
+    if_rest (mantissa_width t == 0) (mantissa_width t + exponent_width o (drop (mantissa_width t) t)) (length t) fits
 
 one_more_most : (n : ℕ) → one_more n ≤ suc n
 one_more_most n = grind (arith, nat_tests)
@@ -142,10 +138,10 @@ name_most o (a ∷ y) =
     name_in o y (is_letter (ahead o (a ∷ y)).0) (is_digit (get_or y 0 0)) ((ahead o (a ∷ y)).0 == 64) (is_letter (kept o (get_or y 0 0))) (is_digit (get_or y 1 0)) refl refl refl
 
 numeric_most : (o : Origin) (t : Text) → numeric_name_width o t ≤ length t
-numeric_most o t = if_most (is_alpha_name o t) (name_width o t) (length t) (name_most o t)
+numeric_most o t = if_rest (is_alpha_name o t) (name_width o t) (length t) (name_most o t)
 
 local_most : (o : Origin) (t : Text) → leaf_width o leaf.LocalName t ≤ length t
-local_most o t = if_most (first t == 64) (numeric_name_width o t) (length t) (numeric_most o t)
+local_most o t = if_rest (first t == 64) (numeric_name_width o t) (length t) (numeric_most o t)
 
 alpha_in : (o : Origin) (t : Text) (n : ℕ) (b : Bool) → (nat_lt 0 n && get_or t n 0 == 36) ≡ b → (if b then n + 1 else 0) ≤ length t
 alpha_in o t n true h = let less = inside (λ b. b == 36) t n refl (and_right (nat_lt 0 n) (get_or t n 0 == 36) h) in omega arith
@@ -153,7 +149,7 @@ alpha_in o t n false h = omega arith
 
 function_most : (o : Origin) (t : Text) → leaf_width o leaf.FunctionName t ≤ length t
 function_most o [] = let none : leaf_width o leaf.FunctionName [] ≡ 0 = ap (λ (n : ℕ). if is_function_name n then 1 else 0) (nothing_ahead o) in omega arith
-function_most o (a ∷ t) = if_first (is_function_name (ahead o (a ∷ t)).0) 1 (suc (length t)) (omega arith)
+function_most o (a ∷ t) = if_most (is_function_name (ahead o (a ∷ t)).0) 1 (suc (length t)) (omega arith)
 
 literal_in : (t : Text) (a b c : Bool) (n : ℕ) → (get_or t (n + 1) 0 == 34) ≡ c → (if a && (b && c) then n + 2 else 0) ≤ length t
 literal_in t true true true n h = let less = inside (λ b. b == 34) t (n + 1) refl h in omega arith
@@ -189,7 +185,7 @@ slot_most [] = omega arith
 slot_most (a ∷ t) =
     let most = digits_most t in
     let fits : digits t + 1 ≤ suc (length t) = omega arith in
-    if_first (a == 35 && (nat_lt 0 (digits t) && nat_le (small_value 0 t) 15)) (digits t + 1) (suc (length t)) fits
+    if_most (a == 35 && (nat_lt 0 (digits t) && nat_le (small_value 0 t) 15)) (digits t + 1) (suc (length t)) fits
 
 image_in : (t : Text) (a b : Bool) (n : ℕ) → (get_or t n 0 == 41) ≡ b → (if a && b then n + 1 else 0) ≤ length t
 image_in t true true n h = let less = inside (λ b. b == 41) t n refl h in omega arith
@@ -224,7 +220,7 @@ leaf_most o leaf.HexPair t = pair_in o t (is_hex (kept o (get_or t 0 0))) (is_he
 leaf_most o leaf.HexDigit t = digit_in o t (is_hex (kept o (get_or t 0 0))) refl
 leaf_most o leaf.Address t = address_in o t (is_hex (kept o (get_or t 0 0))) (is_hex (kept o (get_or t 1 0))) (is_hex (kept o (get_or t 2 0))) refl
 leaf_most o leaf.Slot t = slot_most t
-leaf_most o leaf.Small t = if_first (nat_le (small_value 0 t) 255) (digits t) (length t) (digits_most t)
+leaf_most o leaf.Small t = if_most (nat_le (small_value 0 t) 255) (digits t) (length t) (digits_most t)
 leaf_most o leaf.Image t = image_in t (not (first t == 32)) (get_or t (until_parenthesis o t) 0 == 41) (until_parenthesis o t) refl
 leaf_most o leaf.Text t = omega arith
 leaf_most o leaf.Relation t = relation_most t
@@ -247,23 +243,16 @@ taken_whole o k (a ∷ t) m h =
     let le : m ≤ length t = omega arith in
     taken_at o k a t m h le
 
-length_map : (o : Origin) (w : Text) → length (map (kept o) w) ≡ length w
-length_map o [] = refl
-length_map o (b ∷ w) = ap suc (length_map o w)
-
-length_kept : (o : Origin) (k : Leaf) (w : Text) → length (kept_text o k w) ≡ length w
-length_kept o leaf.Literal w = refl
-length_kept o leaf.Text w = refl
-length_kept o k w = length_map o w
+length_text : (o : Origin) (k : Leaf) (w : Text) → length (kept_text o k w) ≡ length w
+length_text o leaf.Literal w = refl
+length_text o leaf.Text w = refl
+length_text o k w = length_kept o w
 
 same_number : (n m : ℕ) → n ≡ m → (n == m) ≡ true
 same_number n m h = grind (arith, nat_tests)
 
 some_number : (n m : ℕ) → n ≡ suc m → nat_lt 0 n ≡ true
 some_number n m h = grind (arith, nat_tests)
-
-both : (a b : Bool) → a ≡ true → b ≡ true → (a && b) ≡ true
-both a b h k = rw h k
 
 whole_by : (k : Leaf) (w : Text) (m : ℕ) → is_text k ≡ false → length w ≡ suc m → leaf_width Atoms k w ≡ suc m → is_whole k w ≡ true
 whole_by leaf.Text w m n long h = cc
@@ -277,7 +266,7 @@ pub taken_is_whole : (o : Origin) (k : Leaf) (t : Text) (m : ℕ) → leaf_width
 taken_is_whole o k t m h =
     let most = leaf_most o k t in
     let le : suc m ≤ length t = omega arith in
-    whole_by k (kept_text o k (take (suc m) t)) m (no_text_width o k t m h) (length_kept o k (take (suc m) t) ∙ take_more t (suc m) le) (taken_whole o k t m h)
+    whole_by k (kept_text o k (take (suc m) t)) m (no_text_width o k t m h) (length_text o k (take (suc m) t) ∙ take_more t (suc m) le) (taken_whole o k t m h)
 
 -- the tree of what is typed by hand
 abbrev pub GoodTree : Leaf → Trees → Type 0

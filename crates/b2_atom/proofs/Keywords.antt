@@ -6,7 +6,7 @@ use Rattle.b2_atom.specs.Words.{Text, upper, begins_with, first, texts, word_tex
 use Rattle.b2_atom.specs.Leaves.{is_letter}
 use Rattle.b2_atom.specs.declared.words.TheConstants as word
 use Rattle.b2_atom.proofs.Longest.{apart, and_left, and_right, lost, below, at_below}
-use Rattle.b2_atom.proofs.WordsRead.{is_code, joins, letter_stops, and_false}
+use Rattle.b2_atom.proofs.WordsRead.{is_code, joins, letter_stops, and_false, code_less}
 
 -- two letters at the front
 abbrev pub is_keyword : Text → Bool
@@ -41,13 +41,10 @@ other_word v i c w x is h = lost (λ n. false) v w x refl (rw is at h)
 code_place : (c d : ℕ) → is_code c ≡ true → (c == d) ≡ false → (c - 128 + 128 == d) ≡ false
 code_place c d h k = grind (arith, nat_tests)
 
-place_less : (c : ℕ) → is_code c ≡ true → c - 128 < 104
-place_less c h = grind (arith, nat_tests)
-
 pub at_no_word : (v : Text) (d c : ℕ) (x : Text) → below (no_word_but v d) 104 ≡ true → is_code c ≡ true → (c == d) ≡ false
     → begins_with v (word_text c ++ x) ≡ false
 at_no_word v d c x all h other =
-    other_word v (c - 128) d (get_or texts (c - 128) []) x (code_place c d h other) (at_below (no_word_but v d) 104 (c - 128) all (place_less c h))
+    other_word v (c - 128) d (get_or texts (c - 128) []) x (code_place c d h other) (at_below (no_word_but v d) 104 (c - 128) all (code_less c h))
 
 pub only_save : below (no_word_but (codes "SAVE") word.SAVE) 104 ≡ true
 only_save = refl

@@ -74,7 +74,7 @@ letter_only a h k = grind (arith, nat_tests)
 pub relation_front : (a b n : ℕ) → relation_of a b ≡ suc n → (a == 60 || (a == 61 || a == 62)) ≡ true
 relation_front a b n h = grind (arith, nat_tests)
 
-turned : (b : Bool) → b ≡ false → not b ≡ true
+pub turned : (b : Bool) → b ≡ false → not b ≡ true
 turned true h = cc
 turned false h = refl
 

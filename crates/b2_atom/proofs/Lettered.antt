@@ -13,8 +13,9 @@ use Rattle.b2_atom.specs.declared.words.Origin.TheVariants.{Program, Immediate, 
 use Rattle.b2_atom.proofs.Longest.{and_left, and_right, false_true, equal}
 use Rattle.b2_atom.proofs.WordsRead.{typed_b, typed_e}
 use Rattle.b2_atom.proofs.Names.{ahead_letter, letter_upper}
-use Rattle.b2_atom.proofs.Begun.{no_e, get_first}
+use Rattle.b2_atom.proofs.Begun.{no_e}
 use Rattle.b2_atom.proofs.SideBySide.{Showing, FirstOf, quiet_letter, later}
+use Rattle.b2_atom.proofs.Widths.{get_first, kept_e}
 
 -- what may follow a letter
 else_of : (a b c : Bool) → b ≡ false → (if b then a else c) ≡ true → c ≡ true
@@ -106,11 +107,6 @@ kept_g : (o : Origin) → kept o 71 ≡ 71
 kept_g Program = refl
 kept_g Immediate = refl
 kept_g Atoms = refl
-
-kept_e : (o : Origin) → kept o 69 ≡ 69
-kept_e Program = refl
-kept_e Immediate = refl
-kept_e Atoms = refl
 
 not_e : (d : ℕ) → is_letter d ≡ false → (d == 69) ≡ false
 not_e d h = grind (arith, nat_tests)

@@ -39,3 +39,4 @@ pub mod Fitted
 pub mod FittedLines
 pub mod Anywhere
 pub mod LineLaws
+pub mod ReadAgain

@@ -68,7 +68,7 @@ append_atoms : (xs ys : List Token) → atoms_of_tokens (xs ++ ys) ≡ atoms_of_
 append_atoms [] ys = refl
 append_atoms (x ∷ xs) ys = ap (λ (l : Text). token_atoms x ++ l) (append_atoms xs ys) ∙ sym (append_assoc (token_atoms x) (atoms_of_tokens xs) (atoms_of_tokens ys))
 
-tree_atoms : (t : Trees) → atoms_of_tokens (tokens t) ≡ atoms t
+pub tree_atoms : (t : Trees) → atoms_of_tokens (tokens t) ≡ atoms t
 tree_atoms Done = refl
 tree_atoms (Put t ts) = ap (λ (l : Text). token_atoms t ++ l) (tree_atoms ts)
 tree_atoms (In m inner ts) = append_atoms (tokens inner) (tokens ts) ∙ (λ i. tree_atoms inner i ++ tree_atoms ts i)
@@ -129,7 +129,7 @@ ok_of : Result Text Stop → Text → Text
 ok_of (Ok x) d = x
 ok_of (Err e) d = d
 
-ok_same : (a b : Text) → ◌≡◌ {A = Result Text Stop} (Ok a) (Ok b) → a ≡ b
+pub ok_same : (a b : Text) → ◌≡◌ {A = Result Text Stop} (Ok a) (Ok b) → a ≡ b
 unfolding ok_of
 ok_same a b h = ap (λ (r : Result Text Stop). ok_of r a) h
 

@@ -8,7 +8,7 @@ use Rattle.b2_atom.specs.Tree.{one}
 use Rattle.b2_atom.specs.Leaves.{is_digit, is_printable, all_printable, digits, refused}
 use Rattle.b2_atom.specs.Grammar.{typed_line_number, two_digits, is_decimal}
 use Rattle.b2_atom.specs.declared.words.Origin.{Origin}
-use Rattle.b2_atom.proofs.Longest.{and_left, and_right}
+use Rattle.b2_atom.proofs.Longest.{and_left, and_right, both}
 use Rattle.b2_atom.proofs.Widths.{digits_stop}
 
 one_digit : (p : ℕ) (x : Text) (n : ℕ) → is_digit p ≡ true → digits x ≡ n → digits (p ∷ x) ≡ suc n
@@ -137,9 +137,6 @@ line_shown h l hh hl =
 -- its digits may stand in a line
 digit_printable : (a : ℕ) → is_digit a ≡ true → is_printable a ≡ true
 digit_printable a h = grind (arith, nat_tests)
-
-both : (a b : Bool) → a ≡ true → b ≡ true → (a && b) ≡ true
-both a b h k = rw h k
 
 more_printable : (a : ℕ) (w : Text) → is_digit a ≡ true → all_printable w ≡ true → all_printable (a ∷ w) ≡ true
 more_printable a w h k = both (is_printable a) (all_printable w) (digit_printable a h) k

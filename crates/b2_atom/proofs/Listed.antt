@@ -9,28 +9,22 @@ use Rattle.b2_atom.specs.Grammar.{is_among, is_decimal}
 use Rattle.b2_atom.specs.Spelling.{good_token, signs, is_in, is_dollar}
 use Rattle.b2_atom.specs.declared.words.TheConstants as word
 use Rattle.b2_atom.specs.declared.words.Origin.{Origin}
-use Rattle.b2_atom.proofs.Longest.{and_left, and_right, false_true, every, below, at_below}
-use Rattle.b2_atom.proofs.WordsRead.{is_code, word_some}
+use Rattle.b2_atom.proofs.Longest.{and_left, and_right, false_true, every, below, at_below, and_none}
+use Rattle.b2_atom.proofs.WordsRead.{is_code, word_some, code_less, code_again}
 use Rattle.b2_atom.proofs.Characters.{ends_relation}
 use Rattle.b2_atom.proofs.LineNumbers.{LineShown, line_shown}
 use Rattle.b2_atom.proofs.LeavesRead.{not_true}
-use Rattle.b2_atom.proofs.SideBySide.{FirstOf, Showing, quiet, coded_first, among_signs}
+use Rattle.b2_atom.proofs.SideBySide.{FirstOf, Showing, quiet, coded_first, among_signs, or_none}
 use Rattle.b2_atom.proofs.SpellsAtoms.{good_first}
 
 -- the words by their codes
 pub good_code : (c : ℕ) → is_among word.REM word.ROUND c ≡ true → is_code c ≡ true
 good_code c h = grind (arith, nat_tests)
 
-code_place : (c : ℕ) → is_code c ≡ true → c - 128 + 128 ≡ c
-code_place c h = grind (arith, nat_tests)
-
-code_less : (c : ℕ) → is_code c ≡ true → c - 128 < 104
-code_less c h = grind (arith, nat_tests)
-
 -- a fact of each word and its code
 pub at_code : (p : ℕ → Text → Bool) → below (λ i. p (i + 128) (get_or texts i [])) 104 ≡ true → (c : ℕ) → is_code c ≡ true → p c (word_text c) ≡ true
 at_code p all c h =
-    ap (λ (d : ℕ). p d (get_or texts (c - 128) [])) (sym (code_place c h))
+    ap (λ (d : ℕ). p d (get_or texts (c - 128) [])) (sym (code_again c h))
     ∙ at_below (λ i. p (i + 128) (get_or texts i [])) 104 (c - 128) all (code_less c h)
 
 -- what a word begins with, where it doesn't begin with a letter
@@ -72,7 +66,7 @@ pub word_fronts : (c : ℕ) → is_code c ≡ true → WordFront c (word_text c)
 word_fronts c h = parts_of c (word_text c) (front_of c h)
 
 -- the first byte of a text before another
-first_more : (w x : Text) → 0 < length w → first (w ++ x) ≡ first w
+pub first_more : (w x : Text) → 0 < length w → first (w ++ x) ≡ first w
 first_more [] x h = absurd (omega arith)
 first_more (a ∷ w) x h = refl
 
@@ -83,10 +77,6 @@ not_or false b h k = h
 not_not : (a b : Bool) → (not a || b) ≡ true → b ≡ false → a ≡ false
 not_not true b h k = let clash : false ≡ true = sym k ∙ h in cc
 not_not false b h k = refl
-
-or_none : (a : Bool) → (a || false) ≡ true → a ≡ true
-or_none true h = refl
-or_none false h = cc
 
 -- a word that isn't set apart
 word_first : (operand : Bool) (c : ℕ) (w x : Text) → WordFront c w → 0 < length w → (operand && begins_wordy (Coded c)) ≡ false → FirstOf operand (Coded c) (first (w ++ x))
@@ -165,11 +155,11 @@ coded_by operand c x false is g apart =
     let P : Text → Type 0 = λ t. FirstOf operand (Coded c) (first (t ++ x)) in
     subst P (sym (spelled_sign c is)) (coded_first operand c g)
 
-or_second : (a b : Bool) → (a || b) ≡ false → b ≡ false
+pub or_second : (a b : Bool) → (a || b) ≡ false → b ≡ false
 or_second true b h = cc
 or_second false b h = h
 
-or_first : (a b : Bool) → (a || b) ≡ false → a ≡ false
+pub or_first : (a b : Bool) → (a || b) ≡ false → a ≡ false
 or_first true b h = cc
 or_first false b h = refl
 
@@ -189,10 +179,6 @@ source_behind t ts = listed (ends_wordy t) (is_operand t) ts
 
 letter_word : (c : ℕ) → is_letter c ≡ true → is_word c ≡ false
 letter_word c h = grind (arith, nat_tests)
-
-and_none : (a : Bool) → (a && false) ≡ false
-and_none true = refl
-and_none false = refl
 
 letters_apart : (c d : ℕ) → is_word c ≡ false → is_word d ≡ false → is_apart (ends_wordy (Coded c)) (is_operand (Coded c)) (Coded d) ≡ false
 letters_apart c d hc hd =

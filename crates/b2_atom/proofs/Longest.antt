@@ -21,6 +21,9 @@ pub and_right : (a b : Bool) → (a && b) ≡ true → b ≡ true
 and_right true b h = h
 and_right false b h = cc
 
+pub both : (a b : Bool) → a ≡ true → b ≡ true → (a && b) ≡ true
+both a b h k = rw h k
+
 pub false_true : false ≡ true → ⊥
 false_true h = cc
 
@@ -31,7 +34,7 @@ split_here : (same a b : Bool) → (not same || a) ≡ true → (a ≡ true → 
 split_here false a b h more = refl
 split_here true a b h more = more h
 
-stopped : (more : ℕ → Bool) (c b : ℕ) (same y : Bool) → (c == b) ≡ same → more b ≡ false → more c ≡ true → (same && y) ≡ false
+pub stopped : (more : ℕ → Bool) (c b : ℕ) (same y : Bool) → (c == b) ≡ same → more b ≡ false → more c ≡ true → (same && y) ≡ false
 stopped more c b false y is h k = refl
 stopped more c b true y is h k = let one : c ≡ b = equal c b is in absurd (false_true (sym h ∙ ap more (sym one) ∙ k))
 
@@ -45,7 +48,7 @@ or_cases : (a b : Bool) → (a || b) ≡ true → (a ≡ true) ⊎ (b ≡ true)
 or_cases true b h = inl refl
 or_cases false b h = inr h
 
-and_none : (a : Bool) → (a && false) ≡ false
+pub and_none : (a : Bool) → (a && false) ≡ false
 and_none true = refl
 and_none false = refl
 
@@ -64,7 +67,7 @@ no_longer m n h = grind (arith, nat_tests)
 shorter : (m n : ℕ) → m < n → nat_lt m n ≡ true
 shorter m n h = grind (arith, nat_tests)
 
-is_less : (m n : ℕ) → nat_lt m n ≡ true → m < n
+pub is_less : (m n : ℕ) → nat_lt m n ≡ true → m < n
 is_less m n h = grind (arith, nat_tests)
 
 pick : (b : Bool) (x y : ℕ × ℕ) (n : ℕ) → x.0 < n → y.0 < n → (if b then x else y).0 < n

@@ -34,7 +34,7 @@ letter_kept Atoms b h = refl
 pub letter_upper : (b : ℕ) → is_letter b ≡ true → upper b ≡ b
 letter_upper b h = grind (arith, nat_tests)
 
-digit_upper : (b : ℕ) → is_digit b ≡ true → is_letter (upper b) ≡ false
+pub digit_upper : (b : ℕ) → is_digit b ≡ true → is_letter (upper b) ≡ false
 digit_upper b h = grind (arith, nat_tests)
 
 no_both : (b : ℕ) → is_digit b ≡ true → is_letter b ≡ false

@@ -8,14 +8,11 @@ use Rattle.b2_atom.specs.Grammar.{is_decimal}
 use Rattle.b2_atom.specs.Spelling.{good_token, is_whole, signs, AllGood}
 use Rattle.b2_atom.specs.declared.forms.Leaf.{Leaf}
 use Rattle.b2_atom.specs.declared.forms.Leaf.TheVariants as leaf
-use Rattle.b2_atom.proofs.Longest.{and_left, and_right, every, below}
+use Rattle.b2_atom.proofs.Longest.{and_left, and_right, every, below, both}
 use Rattle.b2_atom.proofs.LineNumbers.{line_printable}
 use Rattle.b2_atom.proofs.CleanLeaves.{whole_printable}
 use Rattle.b2_atom.proofs.SideBySide.{among_signs, whole_width, is_text}
 use Rattle.b2_atom.proofs.Listed.{at_code, good_word, good_sign, spelled_word, spelled_sign}
-
-both : (a b : Bool) → a ≡ true → b ≡ true → (a && b) ≡ true
-both a b h k = rw h k
 
 words_printable : below (λ i. all_printable (get_or texts i [])) 104 ≡ true
 words_printable = refl

@@ -15,7 +15,7 @@ use Rattle.b2_atom.specs.declared.forms.Leaf.TheVariants as leaf
 use Rattle.b2_atom.proofs.Longest.{and_left, and_right, equal, every}
 use Rattle.b2_atom.proofs.Characters.{ends_relation}
 use Rattle.b2_atom.proofs.LeavesRead.{ends, not_true}
-use Rattle.b2_atom.proofs.LeafFronts.{front, leaf_front}
+use Rattle.b2_atom.proofs.LeafFronts.{front, leaf_front, turned}
 
 pub later : (t : Token) (ts : List Token) → Neighbours (t ∷ ts) → Neighbours ts
 later t [] h = tt
@@ -87,7 +87,7 @@ byte_dollar n h k = grind (arith, nat_tests)
 byte_unrelated : (n : ℕ) → sign_byte n ≡ true → not (n == 61) ≡ true → ends_relation n ≡ true
 byte_unrelated n h k = grind (arith, nat_tests)
 
-or_none : (a : Bool) → (a || false) ≡ true → a ≡ true
+pub or_none : (a : Bool) → (a || false) ≡ true → a ≡ true
 or_none true h = refl
 or_none false h = cc
 
@@ -154,10 +154,6 @@ quiet_digits n h = grind (arith, nat_tests)
 
 pub quiet_letter : (n : ℕ) → quiet n ≡ true → is_letter (upper n) ≡ false
 quiet_letter n h = grind (arith, nat_tests)
-
-turned : (b : Bool) → b ≡ false → not b ≡ true
-turned true h = cc
-turned false h = refl
 
 or_first : (a b : Bool) → a ≡ true → (a || b) ≡ true
 or_first a b h = rw h refl

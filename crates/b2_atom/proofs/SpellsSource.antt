@@ -18,13 +18,13 @@ use Rattle.b2_atom.proofs.Longest.{and_left, and_right, equal, every, below}
 use Rattle.b2_atom.proofs.WordsRead.{is_code, lengthens, lengthens_word, typed_word, word_some, joins}
 use Rattle.b2_atom.proofs.Keywords.{is_keyword, not_at_sign, not_at_other, at_no_word, no_word_but, never_let, never_using, only_save, only_load}
 use Rattle.b2_atom.proofs.LineNumbers.{LineShown, line_shown, line_read}
-use Rattle.b2_atom.proofs.LeavesRead.{ends}
+use Rattle.b2_atom.proofs.LeavesRead.{ends, not_true}
 use Rattle.b2_atom.proofs.LeafFronts.{leaf_front}
 use Rattle.b2_atom.proofs.Begun.{begins_plain, begins_coded, begins_lined, front_no_blank, leaf_quiet, quiet_keyword, is_plain_sign, ahead_plain, let_none}
 use Rattle.b2_atom.proofs.SideBySide.{among_signs, later, whole_width, not_empty, is_text, leaf_ends, line_ends}
 use Rattle.b2_atom.proofs.Lettered.{letter_ahead, beg_shown}
 use Rattle.b2_atom.proofs.SpellsAtoms.{begins_text, text_last}
-use Rattle.b2_atom.proofs.Listed.{good_word, good_sign, word_fronts, source_behind, source_shown, spelled_word, spelled_sign}
+use Rattle.b2_atom.proofs.Listed.{good_word, good_sign, word_fronts, source_behind, source_shown, spelled_word, spelled_sign, first_more, or_first, or_second}
 
 -- the blank before a token is skipped
 skip_sure : (o : Origin) → is_source o ≡ true → (a : ℕ) (y : Text) → (a == 32) ≡ false → skipped o (a ∷ y) ≡ a ∷ y
@@ -61,10 +61,6 @@ closing_first (Lined high low) x h = cc
 closing_stops : (n : ℕ) → closing n ≡ true → lengthens (upper n) ≡ false
 closing_stops n h = grind (arith, nat_tests)
 
-or_first : (a b : Bool) → (a || b) ≡ false → a ≡ false
-or_first true b h = cc
-or_first false b h = refl
-
 closes_not : (b : Bool) → not b ≡ false → b ≡ true
 closes_not true h = refl
 closes_not false h = cc
@@ -82,10 +78,6 @@ stops_listed true operand (u ∷ us) = stops_by operand u (listed (ends_wordy u)
 -- tokens begin with no blank, but for free text
 signs_no_blank : every (λ c. not (c == 32)) signs ≡ true
 signs_no_blank = refl
-
-not_true : (b : Bool) → not b ≡ true → b ≡ false
-not_true true h = cc
-not_true false h = refl
 
 pub record Fronted (v : Text) : Type 0 where
   pub blank : (first v == 32) ≡ false
@@ -195,10 +187,6 @@ join_cases true false s l u hs hl hu = rw (hs refl) (rw (hl refl) refl)
 join_cases false true s l u hs hl hu = hu refl
 join_cases false false s l u hs hl hu = refl
 
-or_right_false : (a b : Bool) → (a || b) ≡ false → b ≡ false
-or_right_false true b h = cc
-or_right_false false b h = h
-
 no_mark_word : (e : ℕ) → not (is_letter e) ≡ false → is_word e ≡ true → ⊥
 no_mark_word e h k = grind (arith, nat_tests)
 
@@ -228,7 +216,7 @@ behind_data_absent v d c u us f all g nb is =
     let m = behind_data c u is nb.0 in
     let fr = not_true (is_free u) (and_left (not (is_free u)) _ m) in
     let no_more = not_true (is_mark u || is_image u) (and_right (not (is_free u)) _ m) in
-    absent_behind v d (Coded c) u us f all (or_right_false (is_mark u) (is_image u) no_more) fr
+    absent_behind v d (Coded c) u us f all (or_second (is_mark u) (is_image u) no_more) fr
     (λ e same h. absurd (no_mark_word e (ap is_mark (sym same) ∙ or_first (is_mark u) (is_image u) no_more) h)) g nb.1
 
 behind_print_absent : (v : Text) (c : ℕ) (u : Token) (us : List Token) → is_foreign v ≡ true → below (no_word_but v 0) 104 ≡ true → AllGood (u ∷ us) → Neighbours (Coded c ∷ u ∷ us)
@@ -255,10 +243,6 @@ source_ahead : (o : Origin) → is_source o ≡ true → (t : Text) (p : ℕ × 
 source_ahead Program s t p h = h
 source_ahead Immediate s t p h = h
 source_ahead Atoms s t p h = cc
-
-first_more : (w x : Text) → 0 < length w → first (w ++ x) ≡ first w
-first_more [] x h = absurd (omega arith)
-first_more (a ∷ w) x h = refl
 
 same_false : (a b : Bool) → a ≡ false → b ≡ false → a ≡ b
 same_false a b h k = h ∙ sym k

@@ -5,9 +5,9 @@ use Rattle.b2_atom.specs.Words.{Text, first, kept}
 use Rattle.b2_atom.specs.Leaves.{is_digit, is_printable, digits, number_width, number_of, mantissa_of, mantissa_width, sign_width, exponent_of, exponent_width, one_more, signed_number_width, literal_width, until_quote, small_value, small_width, slot_width, relation_of, relation_width, ends_image, until_parenthesis, image_width}
 use Rattle.b2_atom.specs.declared.words.Origin.{Origin}
 use Rattle.b2_atom.specs.declared.words.Origin.TheVariants.{Program, Immediate, Atoms}
-use Rattle.b2_atom.proofs.Widths.{get_front, get_none, drop_front, small_more, slot_more}
+use Rattle.b2_atom.proofs.Widths.{get_front, get_none, drop_front, small_more, slot_more, number_parts, signed_parts, one_more_suc}
 use Rattle.b2_atom.proofs.LeafFronts.{width_yes}
-use Rattle.b2_atom.proofs.Characters.{image_parts}
+use Rattle.b2_atom.proofs.Characters.{image_parts, relation_most}
 
 -- the same width without what stands behind
 no_digit_by : (b : Bool) (n : ℕ) → (if b then suc n else 0) ≡ 0 → b ≡ false
@@ -130,10 +130,6 @@ exponent_back o (a ∷ b ∷ v) x h =
     ∙ exponent_by (a ∷ b ∷ v) x (sign_width b) (is_digit (get_or (a ∷ b ∷ (v ++ x)) (1 + sign_width b) 0)) (is_digit (get_or (a ∷ b ∷ (v ++ x)) (2 + sign_width b) 0)) refl refl is.1 (omega arith)
 
 -- a number
-sum_of : (m e n : ℕ) (b : Bool) → (m == 0) ≡ b → (if b then 0 else m + e) ≡ suc n → (b ≡ false) × (m + e ≡ suc n)
-sum_of m e n true is h = cc
-sum_of m e n false is h = (refl, h)
-
 some_of : (m : ℕ) → (m == 0) ≡ false → 0 < m
 some_of m h = grind (arith, nat_tests)
 
@@ -141,7 +137,7 @@ pub number_back : (o : Origin) (a : ℕ) (w x : Text) → number_width o (a ∷ 
 number_back o a w x h =
     let u : Text = a ∷ w in
     let m : ℕ = mantissa_width (u ++ x) in
-    let is = sum_of m (exponent_width o (drop m (u ++ x))) (length w) (m == 0) refl h in
+    let is = number_parts m (exponent_width o (drop m (u ++ x))) (length w) (m == 0) refl h in
     let fits : m ≤ length u = (let sum = is.1 in omega arith) in
     let same : mantissa_width u ≡ m = mantissa_back u x fits (some_of m is.0) in
     let rest : exponent_width o (drop m (u ++ x)) ≡ exponent_width o (drop m u ++ x) = ap (exponent_width o) (drop_front u x m fits) in
@@ -270,18 +266,12 @@ image_kept o a u =
 no_more : (n : ℕ) → one_more n ≡ 1 → ⊥
 no_more n h = grind (arith, nat_tests)
 
-one_less : (n m : ℕ) → one_more n ≡ suc m → n ≡ m
-one_less n m h = grind (arith, nat_tests)
-
-one_more_of : (n : ℕ) → one_more (suc n) ≡ suc (suc n)
-one_more_of n = grind (arith, nat_tests)
-
 signed_by : (o : Origin) (a : ℕ) (w x : Text) (s : Bool) → (if s then one_more (number_width o (w ++ x)) else number_width o (a ∷ (w ++ x))) ≡ suc (length w)
     → (if s then one_more (number_width o w) else number_width o (a ∷ w)) ≡ suc (length w)
 signed_by o a w x false h = number_back o a w x h
 signed_by o a [] x true h = absurd (no_more (number_width o x) h)
 signed_by o a (b ∷ w) x true h =
-    ap one_more (number_back o b w x (one_less (number_width o (b ∷ (w ++ x))) (suc (length w)) h)) ∙ one_more_of (length w)
+    ap one_more (number_back o b w x (signed_parts (number_width o (b ∷ (w ++ x))) (suc (length w)) h)) ∙ one_more_suc (length w)
 
 pub signed_back : (o : Origin) (a : ℕ) (w x : Text) → signed_number_width o (a ∷ (w ++ x)) ≡ suc (length w) → signed_number_width o (a ∷ w) ≡ suc (length w)
 signed_back o a w x h = signed_by o a w x (a == 43 || a == 45) h
@@ -339,9 +329,6 @@ image_back o a w x h =
 
 relation_one : (a n : ℕ) → relation_of a n ≡ 1 → relation_of a 0 ≡ 1
 relation_one a n h = grind (arith, nat_tests)
-
-relation_most : (a b n : ℕ) → relation_of a b ≡ suc (suc (suc n)) → ⊥
-relation_most a b n h = grind (arith, nat_tests)
 
 pub relation_back : (a : ℕ) (w x : Text) → relation_width (a ∷ (w ++ x)) ≡ suc (length w) → relation_width (a ∷ w) ≡ suc (length w)
 relation_back a [] x h = relation_one a (get_or x 0 0) h

@@ -103,7 +103,7 @@ name_kept o a (b ∷ c ∷ d ∷ w) x h =
     let t : Text = a ∷ b ∷ c ∷ d ∷ (w ++ x) in
     absurd (too_wide (is_letter (ahead o t).0) (is_digit b) ((ahead o t).0 == 64 && is_letter (kept o b)) (is_digit c) (length w) h)
 
-length_kept : (o : Origin) (w : Text) → length (map (kept o) w) ≡ length w
+pub length_kept : (o : Origin) (w : Text) → length (map (kept o) w) ≡ length w
 length_kept o [] = refl
 length_kept o (b ∷ w) = ap suc (length_kept o w)
 

@@ -46,7 +46,7 @@ pub digits_more : (w x : Text) → is_digit (first x) ≡ false → digits (w ++
 digits_more [] x h = digits_stop x h
 digits_more (b ∷ w) x h = same_if (is_digit b) (suc (digits (w ++ x))) (suc (digits w)) 0 (ap suc (digits_more w x h))
 
-if_most : (b : Bool) (x n : ℕ) → x ≤ n → (if b then x else 0) ≤ n
+pub if_most : (b : Bool) (x n : ℕ) → x ≤ n → (if b then x else 0) ≤ n
 if_most true x n h = h
 if_most false x n h = omega arith
 
@@ -104,7 +104,7 @@ pub no_exponent : (b : Bool) → ◌≡◌ {A = ℕ} (if b then 0 else 0) 1 → 
 no_exponent true h = cc
 no_exponent false h = cc
 
-kept_e : (o : Origin) → kept o 69 ≡ 69
+pub kept_e : (o : Origin) → kept o 69 ≡ 69
 kept_e Program = refl
 kept_e Immediate = refl
 kept_e Atoms = refl
@@ -165,7 +165,7 @@ number_more o d w x whole stop =
 pub signed_parts : (n m : ℕ) → one_more n ≡ suc m → n ≡ m
 signed_parts n m h = grind (arith, nat_tests)
 
-one_more_suc : (n : ℕ) → one_more (suc n) ≡ suc (suc n)
+pub one_more_suc : (n : ℕ) → one_more (suc n) ≡ suc (suc n)
 one_more_suc n = grind (arith, nat_tests)
 
 signed_by : (o : Origin) (d : ℕ) (w x : Text) (b : Bool) → (if b then one_more (number_width Atoms w) else number_width Atoms (d ∷ w)) ≡ suc (length w)

@@ -8,7 +8,7 @@ use Rattle.b2_atom.specs.Tokens.{ends_wordy}
 use Rattle.b2_atom.specs.Tokens.Token.{Coded}
 use Rattle.b2_atom.specs.Leaves.{is_letter}
 use Rattle.b2_atom.specs.declared.words.TheConstants as word
-use Rattle.b2_atom.proofs.Longest.{apart, every, and_left, and_right, false_true, equal, Found, found, none, below, at_below}
+use Rattle.b2_atom.proofs.Longest.{apart, every, and_left, and_right, false_true, equal, Found, found, none, below, at_below, and_none, is_less, stopped}
 
 -- a byte by which a word that ends in a letter may become another word
 abbrev pub lengthens : ℕ → Bool
@@ -25,10 +25,10 @@ is_code c = nat_le 128 c && nat_lt c 232
 all_found : below (λ i. Found (lengthens_word (i + 128)) texts i) 104 ≡ true
 all_found = refl
 
-code_less : (c : ℕ) → is_code c ≡ true → c - 128 < 104
+pub code_less : (c : ℕ) → is_code c ≡ true → c - 128 < 104
 code_less c h = grind (arith, nat_tests)
 
-code_again : (c : ℕ) → is_code c ≡ true → c - 128 + 128 ≡ c
+pub code_again : (c : ℕ) → is_code c ≡ true → c - 128 + 128 ≡ c
 code_again c h = grind (arith, nat_tests)
 
 -- the tests of the table behind a word
@@ -78,9 +78,6 @@ by_word n i c w x long some less is stop =
 some_word : below (λ i. nat_lt 0 (length (get_or texts i []))) 104 ≡ true
 some_word = refl
 
-is_less : (m n : ℕ) → nat_lt m n ≡ true → m < n
-is_less m n h = grind (arith, nat_tests)
-
 pub word_some : (c : ℕ) → is_code c ≡ true → 0 < length (word_text c)
 word_some c h = is_less 0 (length (word_text c)) (at_below (λ i. nat_lt 0 (length (get_or texts i []))) 104 (c - 128) some_word (code_less c h))
 
@@ -105,10 +102,6 @@ shaped v = begins_word (first v) && (is_letter (get_or v 1 0) && (not (first v =
 all_shaped : every shaped texts ≡ true
 all_shaped = refl
 
-and_none : (a : Bool) → (a && false) ≡ false
-and_none true = refl
-and_none false = refl
-
 not_here : (v t : Text) (at : ℕ) → begins_with v t ≡ false → better (0, 0) v t at ≡ (0, 0)
 not_here v t at h = rw h (rw (and_none (nat_lt 0 (length v))) refl)
 
@@ -121,10 +114,6 @@ no_words (v ∷ ws) t at h never =
 no_word : (t : Text) → ((v : Text) → shaped v ≡ true → begins_with v t ≡ false) → word_at t ≡ (0, 0)
 unfolding word_at
 no_word t never = no_words texts t 0 all_shaped never
-
-pub stopped : (more : ℕ → Bool) (c b : ℕ) (same y : Bool) → (c == b) ≡ same → more b ≡ false → more c ≡ true → (same && y) ≡ false
-stopped more c b false y is h k = refl
-stopped more c b true y is h k = let one : c ≡ b = equal c b is in absurd (false_true (sym h ∙ ap more (sym one) ∙ k))
 
 no_first : (b : ℕ) (x v : Text) → begins_word (upper b) ≡ false → shaped v ≡ true → begins_with v (b ∷ x) ≡ false
 no_first b x [] h k = cc

@@ -2,17 +2,21 @@
 use Rattle.std.proofs.Common.{◌≡◌, ℕ, zero, suc, ◌+◌, ◌-◌, ◌*◌, ◌/◌, ◌%◌, ◌<◌, ◌≤◌, Bool, true, false, if◌then◌else◌, ◌==◌, ◌&&◌, List, [], ◌∷◌, ◌++◌, length, min, refl, sym, ap, subst, ◌∙◌, arith, nat_le, nat_lt, Result, Ok, Err}
 use Rattle.std.proofs.lemmas.Bool.Decides.{nat_tests}
 use Rattle.b2_atom.specs.Words.{Text}
+use Rattle.b2_atom.specs.Words as words
 use Rattle.b2_atom.specs.Tokens.{without_zeros}
 use Rattle.b2_atom.specs.Leaves.{all_printable}
-use Rattle.b2_atom.specs.Lines.{line_atoms, is_line}
+use Rattle.b2_atom.specs.Lines.{line_atoms, line_source, is_line}
 use Rattle.b2_atom.specs.declared.words.Origin.TheVariants as origin
 use Rattle.b2_atom.specs.declared.sink.Stop.{Stop}
 use Rattle.b2_syntax.specs.Reading.{is_digit, is_printable, printable, skip_blanks, behind_digits, number, fitted, atoms, with_atoms, behind_number, numbered, immediate, by_first, reads}
 use Rattle.b2_syntax.specs.declared.Entered.{Entered}
-use Rattle.b2_syntax.specs.declared.Entered.TheVariants.{Numbered}
+use Rattle.b2_syntax.specs.declared.Entered.TheVariants.{Numbered, Immediate}
 use Rattle.b2_syntax.specs.declared.LineErr.{LineErr}
 use Rattle.b2_syntax.specs.declared.LineErr.TheVariants.{At}
-use Rattle.b2_lister.specs.Listing.{five_digits, decimal}
+use Rattle.b2_lister.specs.Listing.{five_digits, decimal, text_of, listing}
+use Rattle.b2_lister.specs.Laws.{EachListedLineIsReadBack}
+use Rattle.b2_atom.proofs.ReadAgain.{typed_again}
+use Rattle.b2_atom.proofs.LineLaws.{read_is_line}
 
 -- digits, and the number that they spell
 abbrev all_digits : Text → Bool
@@ -143,23 +147,16 @@ not_less n = grind (arith, nat_tests)
 not_more : (n m : ℕ) → n ≤ m → nat_lt m n ≡ false
 not_more n m h = grind (arith, nat_tests)
 
-is_most : (n m : ℕ) → nat_le n m ≡ true → n ≤ m
-is_most n m h = grind (arith, nat_tests)
+fitted_line : (s a : Text) (n : ℕ) → line_atoms origin.Program s ≡ Ok a → length a ≤ 255 → fitted (Ok a) n ≡ Ok a
+fitted_line s a n is h = rw (not_more (length a) 255 h) (rw (read_is_line origin.Program s a is h) refl)
 
-line_short : (a : Text) → is_line a ≡ true → nat_lt 255 (length a) ≡ false
-unfolding is_line
-line_short a h = not_more (length a) 255 (is_most (length a) 255 (and_left (nat_le (length a) 255) _ h))
-
-fitted_line : (a : Text) (n : ℕ) → is_line a ≡ true → fitted (Ok a) n ≡ Ok a
-fitted_line a n h = rw (line_short a h) (rw h refl)
-
-behind : (n number : ℕ) (s a : Text) → 0 < length s → line_atoms origin.Program s ≡ Ok a → is_line a ≡ true → behind_number n number s ≡ Ok (Numbered number a)
+behind : (n number : ℕ) (s a : Text) → 0 < length s → line_atoms origin.Program s ≡ Ok a → length a ≤ 255 → behind_number n number s ≡ Ok (Numbered number a)
 behind n number [] a some is h = absurd (omega arith)
 behind n number (b ∷ s) a some is h =
-    ap (λ (r : Result Text Stop). with_atoms (Numbered number) (fitted r n)) is ∙ ap (with_atoms (Numbered number)) (fitted_line a n h)
+    ap (λ (r : Result Text Stop). with_atoms (Numbered number) (fitted r n)) is ∙ ap (with_atoms (Numbered number)) (fitted_line (b ∷ s) a n is h)
 
 own_line : (n m : ℕ) (own s a : Text) → m ≤ 9999 → number 0 own ≡ m → behind_digits own ≡ 32 ∷ s → skip_blanks s ≡ s → 0 < length s
-    → line_atoms origin.Program s ≡ Ok a → is_line a ≡ true → numbered n own ≡ Ok (Numbered m a)
+    → line_atoms origin.Program s ≡ Ok a → length a ≤ 255 → numbered n own ≡ Ok (Numbered m a)
 own_line n m own s a small is rest no_blank some spelled line =
     ap (λ (k : ℕ). if nat_lt 9999 k then Err (At 7 0) else behind_number n k (skip_blanks (behind_digits own))) is
     ∙ ap (λ (b : Bool). if b then Err (At 7 0) else behind_number n m (skip_blanks (behind_digits own))) (not_more m 9999 small)
@@ -168,7 +165,7 @@ own_line n m own s a small is rest no_blank some spelled line =
     ∙ behind n m s a some spelled line
 
 shown_line : (n d : ℕ) (ds s a : Text) → n ≤ 9999 → all_digits (d ∷ ds) ≡ true → Small 0 (d ∷ ds) → value 0 (d ∷ ds) ≡ n → all_printable s ≡ true → skip_blanks s ≡ s → 0 < length s
-    → line_atoms origin.Program s ≡ Ok a → is_line a ≡ true → reads (d ∷ (ds ++ 32 ∷ s)) ≡ Ok (Numbered n a)
+    → line_atoms origin.Program s ≡ Ok a → length a ≤ 255 → reads (d ∷ (ds ++ 32 ∷ s)) ≡ Ok (Numbered n a)
 shown_line n d ds s a small digits below is good no_blank some spelled line =
     let t : Text = d ∷ (ds ++ 32 ∷ s) in
     let digit = and_left (is_digit d) (all_digits ds) digits in
@@ -181,9 +178,81 @@ shown_line n d ds s a small digits below is good no_blank some spelled line =
     ∙ own_line (length t) n t s a small (number_all 0 (d ∷ ds) s digits below ∙ is) (behind_all (d ∷ ds) s digits) no_blank some spelled line
 
 -- a listed line is read as its number and its atoms, where its source is
-pub whole_line : (n : ℕ) (s a : Text) → n ≤ 9999 → all_printable s ≡ true → skip_blanks s ≡ s → 0 < length s → line_atoms origin.Program s ≡ Ok a → is_line a ≡ true
+pub whole_line : (n : ℕ) (s a : Text) → n ≤ 9999 → all_printable s ≡ true → skip_blanks s ≡ s → 0 < length s → line_atoms origin.Program s ≡ Ok a → length a ≤ 255
     → reads (decimal n ++ 32 ∷ s) ≡ Ok (Numbered n a)
 whole_line n s a small good no_blank some spelled line =
     let sh = shows n small in
     ap (λ (w : Text). reads (w ++ 32 ∷ s)) sh.is
     ∙ shown_line n sh.first sh.rest s a small sh.digits sh.small sh.value_is good no_blank some spelled line
+
+-- what was read of a typed line
+pub record Typed (n : ℕ) (a : Text) : Type 0 where
+  pub text : Text
+  pub spelled : line_atoms origin.Program text ≡ Ok a
+  pub small : n ≤ 9999
+  pub short : length a ≤ 255
+
+same_entered : (n m : ℕ) (a b : Text) → ◌≡◌ {A = Result Entered LineErr} (Ok (Numbered n a)) (Ok (Numbered m b)) → (n ≡ m) × (a ≡ b)
+same_entered n m a b h =
+    let pairs : Numbered n a ≡ Numbered m b = cc in
+    (cc, cc)
+
+short_of : (n : ℕ) → nat_lt 255 n ≡ false → n ≤ 255
+short_of n h = grind (arith, nat_tests)
+
+small_of : (n : ℕ) → nat_lt 9999 n ≡ false → n ≤ 9999
+small_of n h = grind (arith, nat_tests)
+
+fits_by : (n m : ℕ) (a b : Text) (long good : Bool) → nat_lt 255 (length b) ≡ long → with_atoms (Numbered m) (if long then Err (At 5 0) else (if good then Ok b else Err (At 14 0))) ≡ Ok (Numbered n a)
+    → (m ≡ n) × ((b ≡ a) × (length b ≤ 255))
+fits_by n m a b true good is h = cc
+fits_by n m a b false false is h = cc
+fits_by n m a b false true is h = let same = same_entered m n b a h in (same.0, (same.1, short_of (length b) is))
+
+fits_of : (k n m : ℕ) (a : Text) (r : Result Text Stop) → with_atoms (Numbered m) (fitted r k) ≡ Ok (Numbered n a) → (m ≡ n) × ((r ≡ Ok a) × (length a ≤ 255))
+fits_of k n m a (Err e) h = cc
+fits_of k n m a (Ok b) h =
+    let is = fits_by n m a b (nat_lt 255 (length b)) (is_line b) refl h in
+    (is.0, (ap Ok is.1.0, (let P : Text → Type 0 = λ t. length t ≤ 255 in subst P is.1.0 is.1.1)))
+
+behind_typed : (k n m : ℕ) (a t : Text) → m ≤ 9999 → behind_number k m t ≡ Ok (Numbered n a) → Typed n a
+behind_typed k n m a [] small h = cc
+behind_typed k n m a (b ∷ bs) small h =
+    let is = fits_of k n m a (line_atoms origin.Program (b ∷ bs)) h in
+    record { text = b ∷ bs; spelled = is.1.0; small = (let P : ℕ → Type 0 = λ i. i ≤ 9999 in subst P is.0 small); short = is.1.1 }
+
+numbered_by : (k n m : ℕ) (a t : Text) (big : Bool) → nat_lt 9999 m ≡ big → (if big then Err (At 7 0) else behind_number k m t) ≡ Ok (Numbered n a) → Typed n a
+numbered_by k n m a t true is h = cc
+numbered_by k n m a t false is h = behind_typed k n m a t (small_of m is) h
+
+immediate_of : (k n : ℕ) (a : Text) (r : Result Text LineErr) → with_atoms Immediate r ≡ Ok (Numbered n a) → ⊥
+immediate_of k n a (Err e) h = cc
+immediate_of k n a (Ok b) h = cc
+
+first_by : (k n : ℕ) (a : Text) (b : ℕ) (bs : Text) (digit : Bool) → (if digit then numbered k (b ∷ bs) else immediate k (b ∷ bs)) ≡ Ok (Numbered n a) → Typed n a
+first_by k n a b bs true h = numbered_by k n (number 0 (b ∷ bs)) a (skip_blanks (behind_digits (b ∷ bs))) (nat_lt 9999 (number 0 (b ∷ bs))) refl h
+first_by k n a b bs false h = absurd (immediate_of k n a (atoms origin.Immediate (b ∷ bs) k) h)
+
+typed_first : (k n : ℕ) (a t : Text) → by_first k t ≡ Ok (Numbered n a) → Typed n a
+typed_first k n a [] h = cc
+typed_first k n a (b ∷ bs) h = first_by k n a b bs (is_digit b) h
+
+reads_by : (line : Text) (n : ℕ) (a : Text) (bad : Bool) → (if bad then Err (At 29 (printable line + 1)) else by_first (length line) (skip_blanks line)) ≡ Ok (Numbered n a) → Typed n a
+reads_by line n a true h = cc
+reads_by line n a false h = typed_first (length line) n a (skip_blanks line) h
+
+typed : (line : Text) (n : ℕ) (a : Text) → reads line ≡ Ok (Numbered n a) → Typed n a
+typed line n a h = reads_by line n a (nat_lt (printable line) (length line)) h
+
+blanks_same : (s : Text) → skip_blanks s ≡ words.skip_blanks s
+blanks_same [] = refl
+blanks_same (b ∷ s) = ap (λ (t : Text). if b == 32 then t else b ∷ s) (blanks_same s)
+
+-- a line that was read as one of a program is read as the same once it is listed
+pub listed_again : EachListedLineIsReadBack
+listed_again line n a h =
+    let t = typed line n a h in
+    let again = typed_again t.text a t.spelled in
+    let r = again.1 in
+    ap (λ (s : Result Text Stop). reads (decimal n ++ 32 ∷ text_of s)) r.source
+    ∙ whole_line n again.0 a t.small r.printable (blanks_same again.0 ∙ r.skips) r.some r.again t.short
