@@ -5,7 +5,7 @@ use Rattle.b2_atom.specs.Words.{Text}
 use Rattle.b2_atom.specs.Words as words
 use Rattle.b2_atom.specs.Tokens.{without_zeros}
 use Rattle.b2_atom.specs.Leaves.{all_printable}
-use Rattle.b2_atom.specs.Lines.{line_atoms, line_source, is_line}
+use Rattle.b2_atom.specs.Lines.{line_atoms, line_source}
 use Rattle.b2_atom.specs.declared.words.Origin.TheVariants as origin
 use Rattle.b2_atom.specs.declared.sink.Stop.{Stop}
 use Rattle.b2_syntax.specs.Reading.{is_digit, is_printable, printable, skip_blanks, behind_digits, number, fitted, atoms, with_atoms, behind_number, numbered, immediate, by_first, reads}
@@ -16,7 +16,6 @@ use Rattle.b2_syntax.specs.declared.LineErr.TheVariants.{At}
 use Rattle.b2_lister.specs.Listing.{five_digits, decimal, text_of, listing}
 use Rattle.b2_lister.specs.Laws.{EachListedLineIsReadBack}
 use Rattle.b2_atom.proofs.ReadAgain.{typed_again}
-use Rattle.b2_atom.proofs.LineLaws.{read_is_line}
 
 -- digits, and the number that they spell
 abbrev all_digits : Text → Bool
@@ -147,13 +146,13 @@ not_less n = grind (arith, nat_tests)
 not_more : (n m : ℕ) → n ≤ m → nat_lt m n ≡ false
 not_more n m h = grind (arith, nat_tests)
 
-fitted_line : (s a : Text) (n : ℕ) → line_atoms origin.Program s ≡ Ok a → length a ≤ 255 → fitted (Ok a) n ≡ Ok a
-fitted_line s a n is h = rw (not_more (length a) 255 h) (rw (read_is_line origin.Program s a is h) refl)
+fitted_line : (a : Text) (n : ℕ) → length a ≤ 255 → fitted (Ok a) n ≡ Ok a
+fitted_line a n h = rw (not_more (length a) 255 h) refl
 
 behind : (n number : ℕ) (s a : Text) → 0 < length s → line_atoms origin.Program s ≡ Ok a → length a ≤ 255 → behind_number n number s ≡ Ok (Numbered number a)
 behind n number [] a some is h = absurd (omega arith)
 behind n number (b ∷ s) a some is h =
-    ap (λ (r : Result Text Stop). with_atoms (Numbered number) (fitted r n)) is ∙ ap (with_atoms (Numbered number)) (fitted_line (b ∷ s) a n is h)
+    ap (λ (r : Result Text Stop). with_atoms (Numbered number) (fitted r n)) is ∙ ap (with_atoms (Numbered number)) (fitted_line a n h)
 
 own_line : (n m : ℕ) (own s a : Text) → m ≤ 9999 → number 0 own ≡ m → behind_digits own ≡ 32 ∷ s → skip_blanks s ≡ s → 0 < length s
     → line_atoms origin.Program s ≡ Ok a → length a ≤ 255 → numbered n own ≡ Ok (Numbered m a)
@@ -203,16 +202,14 @@ short_of n h = grind (arith, nat_tests)
 small_of : (n : ℕ) → nat_lt 9999 n ≡ false → n ≤ 9999
 small_of n h = grind (arith, nat_tests)
 
-fits_by : (n m : ℕ) (a b : Text) (long good : Bool) → nat_lt 255 (length b) ≡ long → with_atoms (Numbered m) (if long then Err (At 5 0) else (if good then Ok b else Err (At 14 0))) ≡ Ok (Numbered n a)
-    → (m ≡ n) × ((b ≡ a) × (length b ≤ 255))
-fits_by n m a b true good is h = cc
-fits_by n m a b false false is h = cc
-fits_by n m a b false true is h = let same = same_entered m n b a h in (same.0, (same.1, short_of (length b) is))
+fits_by : (n m : ℕ) (a b : Text) (long : Bool) → nat_lt 255 (length b) ≡ long → with_atoms (Numbered m) (if long then Err (At 5 0) else Ok b) ≡ Ok (Numbered n a) → (m ≡ n) × ((b ≡ a) × (length b ≤ 255))
+fits_by n m a b true is h = cc
+fits_by n m a b false is h = let same = same_entered m n b a h in (same.0, (same.1, short_of (length b) is))
 
 fits_of : (k n m : ℕ) (a : Text) (r : Result Text Stop) → with_atoms (Numbered m) (fitted r k) ≡ Ok (Numbered n a) → (m ≡ n) × ((r ≡ Ok a) × (length a ≤ 255))
 fits_of k n m a (Err e) h = cc
 fits_of k n m a (Ok b) h =
-    let is = fits_by n m a b (nat_lt 255 (length b)) (is_line b) refl h in
+    let is = fits_by n m a b (nat_lt 255 (length b)) refl h in
     (is.0, (ap Ok is.1.0, (let P : Text → Type 0 = λ t. length t ≤ 255 in subst P is.1.0 is.1.1)))
 
 behind_typed : (k n m : ℕ) (a t : Text) → m ≤ 9999 → behind_number k m t ≡ Ok (Numbered n a) → Typed n a
