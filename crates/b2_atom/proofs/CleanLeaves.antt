@@ -261,7 +261,7 @@ literal_printable a w h =
     let front : a ≡ 34 = equal a 34 (and_left (a == 34) _ is.0) in
     let long : suc (until_quote w) ≡ length w = (let sum = is.1 in omega arith) in
     let there : (nat_lt 0 (until_quote w) && get_or (34 ∷ w) (until_quote w + 1) 0 == 34) ≡ true =
-        ap (λ (n : ℕ). nat_lt 0 (until_quote w) && get_or (n ∷ w) (until_quote w + 1) 0 == 34) (sym front) ∙ and_right (a == 34) _ is.0 in
+    ap (λ (n : ℕ). nat_lt 0 (until_quote w) && get_or (n ∷ w) (until_quote w + 1) 0 == 34) (sym front) ∙ and_right (a == 34) _ is.0 in
     both (is_printable a) (all_printable w) (ap is_printable front) (quoted w (at_quote w (until_quote w) (nat_lt 0 (until_quote w)) there) long)
 
 -- a whole leaf is clean, but for literals and free text

@@ -95,17 +95,21 @@ ended_then : (ts us : List Token) (rest left : Text) → Ended ts rest → Ended
 ended_then ts us rest left h k idle = elim h.ended [
   | inl n ↦ calm_then ts us left n k
   | inr e ↦ (let none = idle e in record {
-      remarks = subst (λ l. RemarksEnd (ts ++ l)) (sym none.0) (subst RemarksEnd (sym (append-nil ts)) h.remarks);
-      ended = inr none.1;
-    })
+    remarks = subst (λ l. RemarksEnd (ts ++ l)) (sym none.0) (subst RemarksEnd (sym (append-nil ts)) h.remarks);
+    ended = inr none.1;
+  })
 ]
 
 idle_joined : (P Q R : Trees → Type 0) (s : Text) (a : Trees) (rest : Text) (u : Outcome) → ((a b : Trees) → P a → Q b → R (also a b)) → P a → Ended (tokens a) rest
     → length rest ≤ length s → Idles Q rest u → Ends R s (joined a u)
 idle_joined P Q R s a rest (Err e) more g n l h = tt
-idle_joined P Q R s a rest (Ok p) more g n l h =
-    (more a p.0 g h.0, (subst (λ ts. Ended ts p.1) (sym (tokens_also a p.0)) (ended_then (tokens a) (tokens p.0) rest p.1 n h.1.0 h.1.1.1),
-    le_both (length p.1) (length rest) (length s) h.1.1.0 l))
+idle_joined P Q R s a rest (Ok p) more g n l h = (
+  more a p.0 g h.0,
+  (
+    subst (λ ts. Ended ts p.1) (sym (tokens_also a p.0)) (ended_then (tokens a) (tokens p.0) rest p.1 n h.1.0 h.1.1.1),
+    le_both (length p.1) (length rest) (length s) h.1.1.0 l,
+  ),
+)
 
 idle_then : (P Q R : Trees → Type 0) (s : Text) (o : Outcome) (q : Parser Text) → ((a b : Trees) → P a → Q b → R (also a b)) → Ends P s o
     → ((u : Text) → length u ≤ length s → Idles Q u (q u)) → Ends R s (and_then o q)
@@ -116,10 +120,16 @@ idle_then P Q R s (Ok p) q more g h = idle_joined P Q R s p.0 p.1 (q p.1) more g
 idles_joined : (P Q R : Trees → Type 0) (s : Text) (a : Trees) (rest : Text) (u : Outcome) → ((a b : Trees) → P a → Q b → R (also a b)) → P a → Ended (tokens a) rest
     → length rest ≤ length s → (s ≡ [] → (tokens a ≡ []) × (rest ≡ [])) → Idles Q rest u → Idles R s (joined a u)
 idles_joined P Q R s a rest (Err e) more g n l idle h = tt
-idles_joined P Q R s a rest (Ok p) more g n l idle h =
-    (more a p.0 g h.0, (subst (λ ts. Ended ts p.1) (sym (tokens_also a p.0)) (ended_then (tokens a) (tokens p.0) rest p.1 n h.1.0 h.1.1.1),
-    (le_both (length p.1) (length rest) (length s) h.1.1.0 l,
-    λ e. let front = idle e in let back = h.1.1.1 front.1 in (tokens_also a p.0 ∙ (λ i. front.0 i ++ back.0 i), back.1))))
+idles_joined P Q R s a rest (Ok p) more g n l idle h = (
+  more a p.0 g h.0,
+  (
+    subst (λ ts. Ended ts p.1) (sym (tokens_also a p.0)) (ended_then (tokens a) (tokens p.0) rest p.1 n h.1.0 h.1.1.1),
+    (
+      le_both (length p.1) (length rest) (length s) h.1.1.0 l,
+      λ e. let front = idle e in let back = h.1.1.1 front.1 in (tokens_also a p.0 ∙ (λ i. front.0 i ++ back.0 i), back.1),
+    ),
+  ),
+)
 
 idles_then : (P Q R : Trees → Type 0) (s : Text) (o : Outcome) (q : Parser Text) → ((a b : Trees) → P a → Q b → R (also a b)) → Idles P s o
     → ((u : Text) → length u ≤ length s → Idles Q u (q u)) → Idles R s (and_then o q)
@@ -300,9 +310,10 @@ text_by : (o : Origin) (i : Item) (c : ℕ) (s : Text) (b : ℕ) (bs : Text) (p 
     → Ends (Fits o 32 (TextRow i)) s (joined (Put (Coded c) Done) (and_then (if p then one (Plain leaf.Text (b ∷ bs)) [] else Err (At 14 (length (b ∷ bs)))) nothing))
 text_by o i c s b bs false h t g = tt
 text_by o i c s b bs true h t g =
-    let P : List Item → Type 0 = λ is. FitsPut o is (Coded c) (λ (rest : List Item). Fits o 32 rest (Put (Plain leaf.Text (b ∷ bs)) Done)) in
-    (subst P (sym g) (t, (both (nat_lt 0 (suc (length bs))) (all_printable (b ∷ bs)) (some_text (length bs)) h, refl)),
-    (record { remarks = ((λ h. refl), ((λ h. refl), tt)); ended = inr refl }, (let least : 0 ≤ length s = omega arith in least)))
+    let P : List Item → Type 0 = λ is. FitsPut o is (Coded c) (λ (rest : List Item). Fits o 32 rest (Put (Plain leaf.Text (b ∷ bs)) Done)) in (
+      subst P (sym g) (t, (both (nat_lt 0 (suc (length bs))) (all_printable (b ∷ bs)) (some_text (length bs)) h, refl)),
+      (record { remarks = ((λ h. refl), ((λ h. refl), tt)); ended = inr refl }, (let least : 0 ≤ length s = omega arith in least)),
+    )
 
 text_ends : (o : Origin) (i : Item) (c : ℕ) (s x : Text) → fits_token o i (Coded c) ≡ true → giving (TextRow i) ≡ TextRow i
     → Ends (Fits o 32 (TextRow i)) s (joined (Put (Coded c) Done) (and_then (text_to_end 14 x) nothing))
@@ -377,9 +388,11 @@ allowed_by : (f : Form) (fs : List Form) (o : Origin) (p : Place) (t : Text) (a 
 allowed_by f fs o p t true b c ha hb hc h = tt
 allowed_by f fs o p t false true c ha hb hc h = tt
 allowed_by f fs o p t false false true ha hb hc h = tt
-allowed_by f fs o p t false false false ha hb hc h =
-    (or_left (f.row == f.row && is_allowed o p f.rule) (is_statement fs o p f.row)
-    (both (f.row == f.row) (is_allowed o p f.rule) (same_code f.row) (none_barred (barred_following p f.rule) (barred_line o f.rule) (barred_place p f.rule) ha hb hc)), h)
+allowed_by f fs o p t false false false ha hb hc h = (
+  or_left (f.row == f.row && is_allowed o p f.rule) (is_statement fs o p f.row)
+      (both (f.row == f.row) (is_allowed o p f.rule) (same_code f.row) (none_barred (barred_following p f.rule) (barred_line o f.rule) (barred_place p f.rule) ha hb hc)),
+  h,
+)
 
 assignment_fact : (o : Origin) (p : Place) → RowFact [] o p (Ok row.ASSIGNMENT)
 assignment_fact o p = (refl, assignment_row)
@@ -484,7 +497,7 @@ asks_none : (o : Origin) (u : Text) → u ≡ [] → starts o (start.Code 58) u 
 unfolding starts
 asks_none o u e h =
     let none : (0 == 58) ≡ true =
-        ap (λ (p : ℕ × Text). p.0 == 58) (sym (nothing_left o)) ∙ ap (λ (t : Text). (ahead o t).0 == 58) (sym (none_skipped o)) ∙ ap (λ (t : Text). (ahead o (skipped o t)).0 == 58) (sym e) ∙ h in cc
+    ap (λ (p : ℕ × Text). p.0 == 58) (sym (nothing_left o)) ∙ ap (λ (t : Text). (ahead o t).0 == 58) (sym (none_skipped o)) ∙ ap (λ (t : Text). (ahead o (skipped o t)).0 == 58) (sym e) ∙ h in cc
 
 abbrev Further : Origin → List Item → Trees → Type 0
 Further o is a = Leads o 32 (Many (start.Code 58) row.FURTHER_STATEMENT) is a

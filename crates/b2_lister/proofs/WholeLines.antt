@@ -101,25 +101,33 @@ shows_by : (n a b c d e : ℕ) (p q r t : Bool) → (48 + a == 48) ≡ p → (48
     → a ≡ 0 → b ≤ 9 → c ≤ 9 → d ≤ 9 → e ≤ 9 → n ≡ b * 1000 + c * 100 + d * 10 + e → Shows n (shown_by p q r t (48 + a) (48 + b) (48 + c) (48 + d) (48 + e))
 shows_by n a b c d e false q r t hp hq hr ht ha hb hc hd he sum = absurd (not_five a ha hp)
 shows_by n a b c d e true false r t hp hq hr ht ha hb hc hd he sum = record {
-  first = 48 + b; rest = (48 + c) ∷ (48 + d) ∷ (48 + e) ∷ []; is = refl;
+  first = 48 + b;
+  rest = (48 + c) ∷ (48 + d) ∷ (48 + e) ∷ [];
+  is = refl;
   digits = one_digit b ((48 + c) ∷ (48 + d) ∷ (48 + e) ∷ []) hb (one_digit c ((48 + d) ∷ (48 + e) ∷ []) hc (one_digit d ((48 + e) ∷ []) hd (one_digit e [] he refl)));
   small = (omega arith, (omega arith, (omega arith, (omega arith, tt))));
   value_is = omega arith;
 }
 shows_by n a b c d e true true false t hp hq hr ht ha hb hc hd he sum = let none = zero_of b hq in record {
-  first = 48 + c; rest = (48 + d) ∷ (48 + e) ∷ []; is = refl;
+  first = 48 + c;
+  rest = (48 + d) ∷ (48 + e) ∷ [];
+  is = refl;
   digits = one_digit c ((48 + d) ∷ (48 + e) ∷ []) hc (one_digit d ((48 + e) ∷ []) hd (one_digit e [] he refl));
   small = (omega arith, (omega arith, (omega arith, tt)));
   value_is = omega arith;
 }
 shows_by n a b c d e true true true false hp hq hr ht ha hb hc hd he sum = let none = zero_of b hq in let nor = zero_of c hr in record {
-  first = 48 + d; rest = (48 + e) ∷ []; is = refl;
+  first = 48 + d;
+  rest = (48 + e) ∷ [];
+  is = refl;
   digits = one_digit d ((48 + e) ∷ []) hd (one_digit e [] he refl);
   small = (omega arith, (omega arith, tt));
   value_is = omega arith;
 }
 shows_by n a b c d e true true true true hp hq hr ht ha hb hc hd he sum = let none = zero_of b hq in let nor = zero_of c hr in let nil = zero_of d ht in record {
-  first = 48 + e; rest = []; is = refl;
+  first = 48 + e;
+  rest = [];
+  is = refl;
   digits = one_digit e [] he refl;
   small = (omega arith, tt);
   value_is = omega arith;

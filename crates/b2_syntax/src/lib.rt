@@ -11,8 +11,8 @@ ghost use Rattle.b2_atom.specs.Lines.{IsKnown};
 ghost use Rattle.b2_syntax.specs.Reading as spec;
 
 use b2_atom::{Atoms, Origin, Stop};
-use b2_base::codes::{A04_TOO_DEEP, A05_LINE_TOO_LONG, A07_LINE_NUMBER, S29_BYTE};
 use b2_base::Code;
+use b2_base::codes::{A04_TOO_DEEP, A05_LINE_TOO_LONG, A07_LINE_NUMBER, S29_BYTE};
 use std::alloc::Global;
 
 #[cfg(test)]
