@@ -1,13 +1,13 @@
 -- Every refusal of the table has a code that is a number from 1 to 99.
-use Rattle.std.proofs.Common.{◌≡◌, ◌≢◌, ℕ, zero, suc, ◌+◌, ◌-◌, ◌<◌, Bool, true, false, if◌then◌else◌, ◌==◌, ◌&&◌, ◌||◌, nat_le, nat_lt, ◌/◌, ◌%◌, List, [], ◌∷◌, length, get_or, take, drop, refl, sym, ap, subst, Result, Ok, Err}
+use Rattle.std.proofs.Common.{◌≡◌, ◌≢◌, ℕ, zero, suc, ◌+◌, ◌-◌, Bool, true, false, if◌then◌else◌, ◌==◌, ◌&&◌, ◌||◌, nat_le, nat_lt, ◌/◌, ◌%◌, List, [], ◌∷◌, length, get_or, take, drop, refl, subst, Result, Ok, Err}
 use Rattle.b2_atom.specs.Tokens.{Token, kept_text}
 use Rattle.b2_atom.specs.Tokens.Token.{Coded, Plain, Lined}
 use Rattle.b2_atom.specs.declared.rows.TheConstants as row
 use Rattle.b2_atom.specs.Words.{Text, first, kept, ahead, skipped, is_source}
 use Rattle.b2_atom.specs.Tree.{Trees, Seen, emitted, Outcome, Parser, one, nothing, joined, and_then, under}
-use Rattle.b2_atom.specs.Leaves.{refused, missing, missing_literal, leaf_width, digits, all_printable, until_quote, is_hex}
+use Rattle.b2_atom.specs.Leaves.{refused, missing, leaf_width, digits, all_printable, until_quote, is_hex}
 use Rattle.b2_atom.specs.Lines.{good_code, IsKnown}
-use Rattle.b2_atom.specs.Grammar.{Reader, reader, read_item, items, item, level, deep, statement, many, row_items, rows_of, starts, absent, part, read_line, chosen, statement_row, statement_at, row_at, allowed, from, mark, among, program_word, program_word_at, ignored, comma, end_of_line, end_at, read_leaf, leaf_at, plain_of, plain, atoms_line_number, typed_line_number, line_number_at, text_to_end, is_decimal, two_digits, begins_let, variable_begins, barred_following, barred_line, barred_place}
+use Rattle.b2_atom.specs.Grammar.{reader, read_item, items, item, level, deep, statement, many, row_items, rows_of, starts, absent, read_line, chosen, statement_row, row_at, allowed, from, mark, among, program_word, program_word_at, ignored, comma, end_of_line, end_at, read_leaf, leaf_at, plain, atoms_line_number, typed_line_number, line_number_at, text_to_end, is_decimal, two_digits, begins_let, variable_begins, barred_following, barred_line, barred_place}
 use Rattle.b2_atom.specs.declared.words.Origin.{Origin}
 use Rattle.b2_atom.specs.declared.words.Origin.TheVariants.{Program, Immediate, Atoms}
 use Rattle.b2_atom.specs.declared.sink.Stop.{Stop}

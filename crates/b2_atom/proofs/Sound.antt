@@ -1,26 +1,23 @@
 -- What is read from atoms is spelled by them: a reading's atoms and what it leaves are the text that it began at.
-use Rattle.std.proofs.Common.{◌≡◌, ℕ, zero, suc, ◌+◌, ◌-◌, ◌<◌, ◌≤◌, Bool, true, false, if◌then◌else◌, ◌==◌, ◌&&◌, ◌||◌, nat_le, List, [], ◌∷◌, ◌++◌, length, take, drop, map, refl, sym, ap, subst, ◌∙◌, arith, get_or, nat_lt, ◌/◌, ◌%◌, append_assoc, append-nil, Result, Ok, Err, is_ok}
+use Rattle.std.proofs.Common.{◌≡◌, ℕ, zero, suc, ◌+◌, Bool, true, false, if◌then◌else◌, ◌==◌, ◌&&◌, nat_le, List, [], ◌∷◌, ◌++◌, length, take, drop, map, refl, sym, ap, ◌∙◌, arith, get_or, nat_lt, ◌/◌, ◌%◌, append_assoc, append-nil, Result, Ok, Err}
 use Rattle.std.proofs.lemmas.Bool.Decides.{nat_tests}
-use Rattle.b2_atom.specs.Words.{Text, kept, first, ahead}
-use Rattle.b2_atom.specs.Tokens.{Token, token_atoms, kept_text}
-use Rattle.b2_atom.specs.Tokens.Token.{Coded, Plain, Lined}
+use Rattle.b2_atom.specs.Words.{Text, kept, first}
+use Rattle.b2_atom.specs.Tokens.{token_atoms, kept_text}
+use Rattle.b2_atom.specs.Tokens.Token.{Coded, Lined}
 use Rattle.std.proofs.lemmas.List.{take-append-drop}
 use Rattle.b2_atom.specs.Tree.{Trees, Outcome, Parser, one, nothing, joined, and_then, under, also, atoms}
 use Rattle.b2_atom.specs.Tree.Trees.{Done, Put, In}
 use Rattle.b2_atom.specs.Leaves.{refused, all_printable, leaf_width}
-use Rattle.b2_atom.specs.Grammar.{Reader, reader, read_item, items, item, level, deep, statement, many, row_items, rows_of, starts, absent, part, read_line, chosen, statement_row, statement_at, row_at, allowed, from, mark, mark_at, among, among_at, program_word, program_word_at, ignored, ignored_at, comma, comma_at, end_of_line, end_at, read_leaf, leaf_at, plain, plain_of, atoms_line_number, text_to_end, is_decimal}
+use Rattle.b2_atom.specs.Grammar.{reader, read_item, items, item, level, deep, statement, many, row_items, rows_of, starts, read_line, chosen, statement_row, row_at, from, mark, among, program_word, ignored, comma, end_of_line, end_at, read_leaf, leaf_at, plain_of, atoms_line_number, text_to_end, is_decimal}
 use Rattle.b2_atom.specs.declared.words.Origin.TheVariants.{Atoms}
 use Rattle.b2_atom.specs.declared.sink.Stop.{Stop}
 use Rattle.b2_atom.specs.declared.sink.Stop.TheVariants.{At}
-use Rattle.b2_atom.specs.declared.forms.Form.{Form}
 use Rattle.b2_atom.specs.declared.forms.Leaf.{Leaf}
 use Rattle.b2_atom.specs.declared.forms.Leaf.TheVariants as leaf
 use Rattle.b2_atom.specs.declared.forms.Start.{Start}
 use Rattle.b2_atom.specs.declared.forms.Place.{Place}
 use Rattle.b2_atom.specs.declared.forms.Item.{Item}
 use Rattle.b2_atom.specs.declared.forms.Item.TheVariants.{Word, Sign, Among, ProgramWord, Ignored, Comma, LeftOut, End, Typed, Part, Maybe, Either, Many, Nest, Statement}
-use Rattle.b2_atom.specs.Lines.{is_line}
-use Rattle.b2_atom.specs.Laws.{SpellsTree, EachLineSpellsATree, NoTwoTreesShareAtoms}
 use Rattle.b2_atom.specs.Table.{forms, rows_0, rows_1, rows_2, rows_3}
 
 -- a reading that takes its atoms from the front of a text
@@ -232,7 +229,7 @@ pub takes_line : (s : Text) → Takes s (read_line Atoms s)
 takes_line s = takes_level (statement (reader Atoms) (length s + 1)) _ (takes_statement (length s + 1)) (takes_deep (statement (reader Atoms) (length s + 1)) (takes_statement (length s + 1)) 32) 40 _ s
 
 -- nothing is left behind a line
-abbrev Ends : Outcome → Type 0
+abbrev pub Ends : Outcome → Type 0
 Ends (Ok p) = p.1 ≡ []
 Ends (Err e) = Unit {0}
 
@@ -255,32 +252,3 @@ ends_row st d p i j s = ends_then (item st d p (reader Atoms) i s) _ (λ u. ends
 pub ends_line : (s : Text) → Ends (read_line Atoms s)
 unfolding level row_items
 ends_line s = ends_row _ _ _ _ _ s
-
-tree_of : (s : Text) (o : Outcome) → read_line Atoms s ≡ o → is_ok o ≡ true → Takes s o → Ends o → SpellsTree s
-tree_of s (Err e) is h takes ends = cc
-tree_of s (Ok p) is h takes ends =
-    let spelled : atoms p.0 ≡ s = sym (append-nil (atoms p.0)) ∙ ap (λ (r : Text). atoms p.0 ++ r) (sym ends) ∙ takes in
-    record {
-      tree = p.0;
-      is_tree = ap (read_line Atoms) spelled ∙ is ∙ ap (λ (r : Text). Ok (p.0, r)) ends;
-      spelled = spelled;
-    }
-
-both : (a b : Bool) → (a && b) ≡ true → b ≡ true
-both true b h = h
-both false b h = cc
-
--- each line spells a tree
-pub spells_tree : EachLineSpellsATree
-unfolding is_line
-spells_tree s h = tree_of s (read_line Atoms s) refl (both (nat_le (length s) 255) _ h) (takes_line s) (ends_line s)
-
-read_tree : Outcome → Trees → Trees
-read_tree (Ok p) d = p.0
-read_tree (Err e) d = d
-
--- no two trees share their atoms
-pub one_tree : NoTwoTreesShareAtoms
-unfolding read_tree
-one_tree t u is_t is_u same =
-    ap (λ (o : Outcome). read_tree o t) (sym is_t ∙ ap (read_line Atoms) same ∙ is_u)

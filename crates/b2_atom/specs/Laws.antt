@@ -1,14 +1,16 @@
--- Laws of lines: each line is the atoms of a tree, and no two trees share their atoms.
-use Rattle.std.specs.Prelude.{◌≡◌, ℕ, true, [], Ok}
+-- Laws of lines: which trees there are, that each is spelled by its atoms alone, and that what is listed is read back.
+use Rattle.std.specs.Prelude.{◌≡◌, ◌≤◌, true, false, Ok, length}
 use Rattle.b2_atom.specs.Words.{Text}
-use Rattle.b2_atom.specs.Tree.{Trees, atoms}
-use Rattle.b2_atom.specs.Grammar.{read_line}
-use Rattle.b2_atom.specs.Lines.{is_line}
+use Rattle.b2_atom.specs.Tokens.{listed}
+use Rattle.b2_atom.specs.Tree.{Trees, atoms, tokens}
+use Rattle.b2_atom.specs.Lines.{is_line, line_atoms}
+use Rattle.b2_atom.specs.Fitting.{LineTree}
+use Rattle.b2_atom.specs.declared.words.Origin.{Origin}
 use Rattle.b2_atom.specs.declared.words.Origin.TheVariants as origin
 
--- a tree of the language: one that is read from its atoms
+-- a tree of the language: one that the rows of the table allow in a line of atoms, where every statement may stand
 abbrev pub IsTree : Trees → Type 0
-IsTree t = read_line origin.Atoms (atoms t) ≡ Ok (t, [])
+IsTree t = LineTree origin.Atoms t
 
 -- a line spells a tree
 pub record SpellsTree (line : Text) : Type 0 where
@@ -20,6 +22,21 @@ pub record SpellsTree (line : Text) : Type 0 where
 abbrev pub EachLineSpellsATree : Type 0
 EachLineSpellsATree = (line : Text) → is_line line ≡ true → SpellsTree line
 
+-- the atoms of each tree of the language are a line, where they are no more than 255 bytes
+abbrev pub EachTreeIsALine : Type 0
+EachTreeIsALine = (t : Trees) → IsTree t → length (atoms t) ≤ 255 → is_line (atoms t) ≡ true
+
 -- no two trees have the same atoms
 abbrev pub NoTwoTreesShareAtoms : Type 0
 NoTwoTreesShareAtoms = (t u : Trees) → IsTree t → IsTree u → atoms t ≡ atoms u → t ≡ u
+
+-- what a source is read as is a tree of the language that such a line allows, and its atoms are a line again
+abbrev pub WhatIsReadIsALine : Type 0
+WhatIsReadIsALine = (o : Origin) (source line : Text) → line_atoms o source ≡ Ok line → length line ≤ 255 → is_line line ≡ true
+
+-- the canonical source of each tree that a program's line allows is read as the tree's atoms, and as much for an immediate
+-- line
+abbrev pub WhatIsListedIsReadBack : Type 0
+WhatIsListedIsReadBack =
+    ((t : Trees) → LineTree origin.Program t → line_atoms origin.Program (listed false false (tokens t)) ≡ Ok (atoms t))
+    × ((t : Trees) → LineTree origin.Immediate t → line_atoms origin.Immediate (listed false false (tokens t)) ≡ Ok (atoms t))

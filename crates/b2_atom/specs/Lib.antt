@@ -5,4 +5,6 @@ pub mod Leaves
 pub mod Table
 pub mod Grammar
 pub mod Lines
+pub mod Spelling
+pub mod Fitting
 pub mod Laws

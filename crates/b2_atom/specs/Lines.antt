@@ -1,5 +1,5 @@
 -- Lines as atoms: which lists of bytes spell a line, and its units.
-use Rattle.std.specs.Prelude.{◌≡◌, ℕ, zero, suc, ◌-◌, ◌&&◌, ◌==◌, nat_le, nat_lt, Bool, true, false, List, [], ◌∷◌, length, take, drop, if◌then◌else◌, Result, Ok, Err, is_ok}
+use Rattle.std.specs.Prelude.{◌≡◌, ℕ, zero, suc, ◌-◌, ◌&&◌, ◌==◌, nat_le, nat_lt, Bool, true, false, List, [], ◌∷◌, length, take, drop, if◌then◌else◌, Result, Ok, Err, is_ok, Option, Some, None}
 use Rattle.b2_atom.specs.Words.{Text, first}
 use Rattle.b2_atom.specs.Tokens.{listed}
 use Rattle.b2_atom.specs.Tree.{Outcome, atoms, tokens}
@@ -23,6 +23,11 @@ atoms_of (Err e) = Err e
 -- the atom bytes of a line, or why it isn't read
 unfoldable pub line_atoms : Origin → Text → Result Text Stop
 line_atoms o t = atoms_of (read_line o t)
+
+-- the atom bytes of a line of at most 255, and nothing of a longer one
+abbrev pub short_line : Result Text Stop → Result (Option Text) Stop
+short_line (Ok a) = Ok (if nat_lt 255 (length a) then None else Some a)
+short_line (Err e) = Err e
 
 -- a refusal's code is a number from 1 to 99
 abbrev pub good_code : ℕ → Bool

@@ -4,12 +4,13 @@
 //! reads typed lines as well as atoms, and writes nothing, atoms or the canonical source. Adding a statement is adding a
 //! row.
 //!
-//! Stands on `b2_base`. `Atoms::of` is None exactly on lists of bytes that spell no line; `read_source` gives the atoms of
-//! a typed line, or the first code and its place; `Atoms::source` gives the canonical source of a line.
+//! Stands on `b2_base`. `Atoms::of` is None exactly on lists of bytes that spell no line; `Atoms::read` gives the atoms of
+//! a typed line, or the first code and its place; `Atoms::source` gives the canonical source of a line. Which trees the
+//! table allows is said without any reading, and the laws in `laws` tie them to their atoms and to their source.
 //!
 //! The definitions are in `specs/`: the words in `Words`, tokens and their source in `Tokens`, trees in `Tree`, what is
-//! typed by hand in `Leaves`, the language's own table in `Table`, reading by it in `Grammar`, and lines with their units
-//! in `Lines`.
+//! typed by hand in `Leaves`, the language's own table in `Table`, reading by it in `Grammar`, lines with their units in
+//! `Lines`, which texts spell which tokens in `Spelling`, which trees the rows allow in `Fitting`, and the laws in `Laws`.
 #![tactic(auto)]
 
 ghost use Rattle.std.specs.Prelude.{◌≡◌, map};
@@ -30,7 +31,10 @@ mod tests;
 mod walk;
 mod words;
 
-pub use laws::{each_line_spells_a_tree, no_two_trees_share_atoms};
+pub use laws::{
+    each_line_spells_a_tree, each_tree_is_a_line, no_two_trees_share_atoms,
+    what_is_listed_is_read_back, what_is_read_is_a_line,
+};
 pub use leaves::number_width;
 pub use line::{Atoms, Cursor, read_source};
 pub use sink::Stop;

@@ -1,9 +1,10 @@
 // Lines as atoms, their units, and a cursor over the bytes of one.
 ghost use Rattle.std.specs.Prelude.{◌≡◌, ◌≢◌, ◌≤◌, ◌<◌, ◌&&◌, nat_lt, length, drop, IfErr, IfOk, MatchResult, Some, None, if◌then◌else◌, true, slice_get};
 ghost use Rattle.std.specs.Option.{option_map};
-ghost use Rattle.b2_atom.specs.Lines.{IsKnown, is_line, line_atoms, line_source, behind_unit, next_place, next_text, units_of, further_unit, is_further};
+ghost use Rattle.b2_atom.specs.Lines.{IsKnown, is_line, line_atoms, line_source, short_line, behind_unit, next_place, next_text, units_of, further_unit, is_further};
 
 use crate::forms::Place;
+use crate::laws::what_is_read_is_a_line;
 use crate::sink::{Sink, Source, Stop, bytes_of};
 use crate::walk::{read_line, statement};
 use crate::words::{Origin, dropped, first, front};
@@ -196,6 +197,22 @@ impl Atoms {
         }
         let bytes = Vec::from_slice(alloc, bytes)?;
         Ok(Some(Atoms { bytes }))
+    }
+
+    /// Reads a typed line without its number. A line of more than 255 atom bytes is None.
+    pub fn read(alloc: Global, origin: Origin, text: &[u8]) -> Result<Option<Atoms>, Stop>
+        ensures known { IfErr result IsKnown }
+        ensures read { MatchResult result (λ atoms. short_line (line_atoms origin text.now) ≡ Ok atoms) (λ e. e ≢ Stop.NoMemory → line_atoms origin text.now ≡ Err e) }
+    {
+        let line = match read_source(alloc, origin, text) {
+            Ok(line) => line,
+            Err(stop) => return Err(stop),
+        };
+        if line.len() > 255 {
+            return Ok(None);
+        }
+        what_is_read_is_a_line();
+        Ok(Some(Atoms { bytes: line }))
     }
 
     /// Its bytes.

@@ -13,8 +13,11 @@ use b2_atom::Atoms;
 use b2_base::NoMemory;
 use std::alloc::Global;
 
+mod laws;
 #[cfg(test)]
 mod tests;
+
+pub use laws::each_listed_line_is_read_back;
 
 // The five digits of a number.
 fn digits(number: u16) -> [u8; 5]

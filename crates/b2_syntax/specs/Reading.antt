@@ -1,7 +1,7 @@
 -- What a typed line means: nothing, a deletion, a line of a program or an immediate line, or what is missing where.
 use Rattle.std.specs.Prelude.{ℕ, zero, suc, ◌+◌, ◌-◌, ◌*◌, ◌&&◌, ◌==◌, nat_le, nat_lt, min, Bool, true, false, List, [], ◌∷◌, length, if◌then◌else◌, Result, Ok, Err}
 use Rattle.b2_atom.specs.Words.{Text}
-use Rattle.b2_atom.specs.Lines.{line_atoms, is_line}
+use Rattle.b2_atom.specs.Lines.{line_atoms}
 use Rattle.b2_atom.specs.declared.words.Origin.{Origin}
 use Rattle.b2_atom.specs.declared.words.Origin.TheVariants as origin
 use Rattle.b2_atom.specs.declared.sink.Stop.{Stop}
@@ -44,7 +44,7 @@ refusal stop.NoMemory n = NoMemory
 -- more than 255 bytes of atoms are too long
 abbrev pub fitted : Result Text Stop → ℕ → Result Text LineErr
 fitted (Err e) n = Err (refusal e n)
-fitted (Ok a) n = if nat_lt 255 (length a) then Err (At 5 0) else (if is_line a then Ok a else Err (At 14 0))
+fitted (Ok a) n = if nat_lt 255 (length a) then Err (At 5 0) else Ok a
 
 abbrev pub atoms : Origin → Text → ℕ → Result Text LineErr
 atoms o rest n = fitted (line_atoms o rest) n

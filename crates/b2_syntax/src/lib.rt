@@ -10,9 +10,9 @@ ghost use Rattle.std.specs.Prelude.{◌≡◌, ◌≢◌, ◌≤◌, ◌<◌, �
 ghost use Rattle.b2_atom.specs.Lines.{IsKnown};
 ghost use Rattle.b2_syntax.specs.Reading as spec;
 
-use b2_atom::{Atoms, Origin, Stop, read_source};
-use b2_base::codes::{A04_TOO_DEEP, A05_LINE_TOO_LONG, A07_LINE_NUMBER, S14_STATEMENT, S29_BYTE};
-use b2_base::{Code, NoMemory};
+use b2_atom::{Atoms, Origin, Stop};
+use b2_base::Code;
+use b2_base::codes::{A04_TOO_DEEP, A05_LINE_TOO_LONG, A07_LINE_NUMBER, S29_BYTE};
 use std::alloc::Global;
 
 #[cfg(test)]
@@ -131,17 +131,10 @@ fn atoms(alloc: Global, origin: Origin, rest: &[u8], length: usize) -> Result<At
     requires { length < 2 ^ 63 }
     ensures { MatchResult result (λ a. spec.atoms origin rest.now length ≡ Ok a) (λ e. e ≢ LineErr.NoMemory → spec.atoms origin rest.now length ≡ Err e) }
 {
-    let bytes = match read_source(alloc, origin, rest) {
-        Ok(bytes) => bytes,
-        Err(stop) => return Err(refusal(stop, length)),
-    };
-    if bytes.len() > 255 {
-        return Err(LineErr::At(Code::known(A05_LINE_TOO_LONG), 0));
-    }
-    match Atoms::of(alloc, &bytes) {
+    match Atoms::read(alloc, origin, rest) {
         Ok(Some(atoms)) => Ok(atoms),
-        Ok(None) => Err(LineErr::At(Code::known(S14_STATEMENT), 0)),
-        Err(NoMemory) => Err(LineErr::NoMemory),
+        Ok(None) => Err(LineErr::At(Code::known(A05_LINE_TOO_LONG), 0)),
+        Err(stop) => Err(refusal(stop, length)),
     }
 }
 

@@ -1,4 +1,3 @@
-use Rattle.b2_atom.specs.Tree.{seen}
 use Rattle.b2_atom.proofs.Codes.{known_stopped}
 use Rattle.b2_atom.proofs.line.read_source.Goals as goal
 

@@ -1,0 +1,183 @@
+-- A tree that some kind of line allows is one that a line of atoms allows.
+use Rattle.std.proofs.Common.{◌≡◌, ℕ, zero, suc, ◌==◌, ◌&&◌, ◌||◌, not, Bool, true, false, List, [], ◌∷◌, refl, inl, inr}
+use Rattle.b2_atom.specs.Tokens.{Token}
+use Rattle.b2_atom.specs.Tokens.Token.{Coded, Plain, Lined}
+use Rattle.b2_atom.specs.Tree.{Trees}
+use Rattle.b2_atom.specs.Tree.Trees.{Done, Put, In}
+use Rattle.b2_atom.specs.Grammar.{row_items, barred_following, barred_line, barred_place}
+use Rattle.b2_atom.specs.Fitting.{Fits, FitsPut, FitsIn, FitsBranch, fits_token, giving, is_statement, is_allowed, LineTree}
+use Rattle.b2_atom.specs.Table.{forms}
+use Rattle.b2_atom.specs.declared.rows.TheConstants as row
+use Rattle.b2_atom.specs.declared.words.Origin.{Origin}
+use Rattle.b2_atom.specs.declared.words.Origin.TheVariants as origin
+use Rattle.b2_atom.specs.declared.forms.Place.{Place}
+use Rattle.b2_atom.specs.declared.forms.Rule.{Rule}
+use Rattle.b2_atom.specs.declared.forms.Form.{Form}
+use Rattle.b2_atom.specs.declared.forms.Item.{Item}
+use Rattle.b2_atom.specs.declared.forms.Item.TheVariants.{Word, Sign, Among, ProgramWord, Ignored, Comma, LeftOut, End, Typed, Part, Maybe, Either, Many, Nest, Statement}
+use Rattle.b2_atom.proofs.Booleans.{and_left, and_right, both, or_cases, or_one, or_other}
+
+token_program : (i : Item) (t : Token) → fits_token origin.Program i t ≡ true → fits_token origin.Atoms i t ≡ true
+token_program (Word c) (Coded d) h = h
+token_program (Word c) (Plain j w) h = h
+token_program (Word c) (Lined a2 b2) h = h
+token_program (Sign c code) (Coded d) h = h
+token_program (Sign c code) (Plain j w) h = h
+token_program (Sign c code) (Lined a2 b2) h = h
+token_program (Among a b code) (Coded d) h = h
+token_program (Among a b code) (Plain j w) h = h
+token_program (Among a b code) (Lined a2 b2) h = h
+token_program (Ignored c) (Coded d) h = h
+token_program (Ignored c) (Plain j w) h = h
+token_program (Ignored c) (Lined a2 b2) h = h
+token_program Comma (Coded d) h = h
+token_program Comma (Plain j w) h = h
+token_program Comma (Lined a2 b2) h = h
+token_program LeftOut (Coded d) h = h
+token_program LeftOut (Plain j w) h = h
+token_program LeftOut (Lined a2 b2) h = h
+token_program End (Coded d) h = h
+token_program End (Plain j w) h = h
+token_program End (Lined a2 b2) h = h
+token_program (Typed k code) (Coded d) h = h
+token_program (Typed k code) (Plain j w) h = h
+token_program (Typed k code) (Lined a2 b2) h = h
+token_program (Part n) (Coded d) h = h
+token_program (Part n) (Plain j w) h = h
+token_program (Part n) (Lined a2 b2) h = h
+token_program (Maybe x n) (Coded d) h = h
+token_program (Maybe x n) (Plain j w) h = h
+token_program (Maybe x n) (Lined a2 b2) h = h
+token_program (Either x n m) (Coded d) h = h
+token_program (Either x n m) (Plain j w) h = h
+token_program (Either x n m) (Lined a2 b2) h = h
+token_program (Many x n) (Coded d) h = h
+token_program (Many x n) (Plain j w) h = h
+token_program (Many x n) (Lined a2 b2) h = h
+token_program (Nest n) (Coded d) h = h
+token_program (Nest n) (Plain j w) h = h
+token_program (Nest n) (Lined a2 b2) h = h
+token_program (Statement x) (Coded d) h = h
+token_program (Statement x) (Plain j w) h = h
+token_program (Statement x) (Lined a2 b2) h = h
+token_program (ProgramWord c) (Coded d) h = h
+token_program (ProgramWord c) (Plain j w) h = h
+token_program (ProgramWord c) (Lined a2 b2) h = h
+
+token_immediate : (i : Item) (t : Token) → fits_token origin.Immediate i t ≡ true → fits_token origin.Atoms i t ≡ true
+token_immediate (Word c) (Coded d) h = h
+token_immediate (Word c) (Plain j w) h = h
+token_immediate (Word c) (Lined a2 b2) h = h
+token_immediate (Sign c code) (Coded d) h = h
+token_immediate (Sign c code) (Plain j w) h = h
+token_immediate (Sign c code) (Lined a2 b2) h = h
+token_immediate (Among a b code) (Coded d) h = h
+token_immediate (Among a b code) (Plain j w) h = h
+token_immediate (Among a b code) (Lined a2 b2) h = h
+token_immediate (Ignored c) (Coded d) h = h
+token_immediate (Ignored c) (Plain j w) h = h
+token_immediate (Ignored c) (Lined a2 b2) h = h
+token_immediate Comma (Coded d) h = h
+token_immediate Comma (Plain j w) h = h
+token_immediate Comma (Lined a2 b2) h = h
+token_immediate LeftOut (Coded d) h = h
+token_immediate LeftOut (Plain j w) h = h
+token_immediate LeftOut (Lined a2 b2) h = h
+token_immediate End (Coded d) h = h
+token_immediate End (Plain j w) h = h
+token_immediate End (Lined a2 b2) h = h
+token_immediate (Typed k code) (Coded d) h = h
+token_immediate (Typed k code) (Plain j w) h = h
+token_immediate (Typed k code) (Lined a2 b2) h = h
+token_immediate (Part n) (Coded d) h = h
+token_immediate (Part n) (Plain j w) h = h
+token_immediate (Part n) (Lined a2 b2) h = h
+token_immediate (Maybe x n) (Coded d) h = h
+token_immediate (Maybe x n) (Plain j w) h = h
+token_immediate (Maybe x n) (Lined a2 b2) h = h
+token_immediate (Either x n m) (Coded d) h = h
+token_immediate (Either x n m) (Plain j w) h = h
+token_immediate (Either x n m) (Lined a2 b2) h = h
+token_immediate (Many x n) (Coded d) h = h
+token_immediate (Many x n) (Plain j w) h = h
+token_immediate (Many x n) (Lined a2 b2) h = h
+token_immediate (Nest n) (Coded d) h = h
+token_immediate (Nest n) (Plain j w) h = h
+token_immediate (Nest n) (Lined a2 b2) h = h
+token_immediate (Statement x) (Coded d) h = h
+token_immediate (Statement x) (Plain j w) h = h
+token_immediate (Statement x) (Lined a2 b2) h = h
+token_immediate (ProgramWord c) (Coded d) h = cc
+token_immediate (ProgramWord c) (Plain j w) h = h
+token_immediate (ProgramWord c) (Lined a2 b2) h = h
+
+token_anywhere : (o : Origin) (i : Item) (t : Token) → fits_token o i t ≡ true → fits_token origin.Atoms i t ≡ true
+token_anywhere origin.Program i t h = token_program i t h
+token_anywhere origin.Immediate i t h = token_immediate i t h
+token_anywhere origin.Atoms i t h = h
+
+allowed_by : (a b c : Bool) → not (a || (b || c)) ≡ true → not (a || (false || c)) ≡ true
+allowed_by true b c h = h
+allowed_by false true c h = cc
+allowed_by false false c h = h
+
+no_bar : (r : Rule) → barred_line origin.Atoms r ≡ false
+no_bar r = refl
+
+allowed_anywhere : (o : Origin) (p : Place) (r : Rule) → is_allowed o p r ≡ true → is_allowed origin.Atoms p r ≡ true
+allowed_anywhere o p r h = allowed_by (barred_following p r) (barred_line o r) (barred_place p r) h
+
+statement_anywhere : (o : Origin) (p : Place) (m : ℕ) (fs : List Form) → is_statement fs o p m ≡ true → is_statement fs origin.Atoms p m ≡ true
+statement_anywhere o p m [] h = h
+statement_anywhere o p m (f ∷ fs) h = elim (or_cases (f.row == m && is_allowed o p f.rule) (is_statement fs o p m) h) [
+  | inl g ↦ or_one _ _ (both (f.row == m) _ (and_left _ _ g) (allowed_anywhere o p f.rule (and_right (f.row == m) _ g)))
+  | inr g ↦ or_other (f.row == m && is_allowed origin.Atoms p f.rule) _ (statement_anywhere o p m fs g)
+]
+
+abbrev Anywhere : Trees → Type 0
+Anywhere t = (o : Origin) (room : ℕ) (is : List Item) → Fits o room is t → Fits origin.Atoms room is t
+
+branch_anywhere : (inner ts : Trees) → Anywhere inner → Anywhere ts → (o : Origin) (room m : ℕ) (i : Item) (is : List Item)
+    → FitsBranch o room i is m (λ (deep : ℕ) (items : List Item). Fits o deep items inner) (λ (rest : List Item). Fits o room rest ts)
+    → FitsBranch origin.Atoms room i is m (λ (deep : ℕ) (items : List Item). Fits origin.Atoms deep items inner) (λ (rest : List Item). Fits origin.Atoms room rest ts)
+branch_anywhere inner ts ai at o room m (Part n) is h = (h.0, (ai o room (row_items n) h.1.0, at o room is h.1.1))
+branch_anywhere inner ts ai at o room zero (Maybe s n) is h = (ai o room [] h.0, at o room is h.1)
+branch_anywhere inner ts ai at o room (suc zero) (Maybe s n) is h = (ai o room (row_items n) h.0, at o room is h.1)
+branch_anywhere inner ts ai at o room (suc (suc m)) (Maybe s n) is h = absurd h
+branch_anywhere inner ts ai at o room zero (Either s n k) is h = (ai o room (row_items k) h.0, at o room is h.1)
+branch_anywhere inner ts ai at o room (suc zero) (Either s n k) is h = (ai o room (row_items n) h.0, at o room is h.1)
+branch_anywhere inner ts ai at o room (suc (suc m)) (Either s n k) is h = absurd h
+branch_anywhere inner ts ai at o room zero (Many s n) is h = (ai o room [] h.0, at o room is h.1)
+branch_anywhere inner ts ai at o room (suc zero) (Many s n) is h = (ai o room (row_items n) h.0, at o room (Many s n ∷ is) h.1)
+branch_anywhere inner ts ai at o room (suc (suc m)) (Many s n) is h = absurd h
+branch_anywhere inner ts ai at o zero m (Nest n) is h = absurd h
+branch_anywhere inner ts ai at o (suc room) m (Nest n) is h = (h.0, (ai o room (row_items n) h.1.0, at o (suc room) is h.1.1))
+branch_anywhere inner ts ai at o room m (Statement p) is h = (statement_anywhere o p m forms h.0, (ai o 32 (row_items m) h.1.0, at o room is h.1.1))
+branch_anywhere inner ts ai at o room m (Word c) is h = absurd h
+branch_anywhere inner ts ai at o room m (Sign c code) is h = absurd h
+branch_anywhere inner ts ai at o room m (Among a b code) is h = absurd h
+branch_anywhere inner ts ai at o room m (ProgramWord c) is h = absurd h
+branch_anywhere inner ts ai at o room m (Ignored c) is h = absurd h
+branch_anywhere inner ts ai at o room m Comma is h = absurd h
+branch_anywhere inner ts ai at o room m LeftOut is h = absurd h
+branch_anywhere inner ts ai at o room m End is h = absurd h
+branch_anywhere inner ts ai at o room m (Typed k code) is h = absurd h
+
+in_anywhere : (inner ts : Trees) → Anywhere inner → Anywhere ts → (o : Origin) (room m : ℕ) (is : List Item)
+    → FitsIn o room is m (λ (deep : ℕ) (items : List Item). Fits o deep items inner) (λ (rest : List Item). Fits o room rest ts)
+    → FitsIn origin.Atoms room is m (λ (deep : ℕ) (items : List Item). Fits origin.Atoms deep items inner) (λ (rest : List Item). Fits origin.Atoms room rest ts)
+in_anywhere inner ts ai at o room m [] h = absurd h
+in_anywhere inner ts ai at o room m (i ∷ is) h = branch_anywhere inner ts ai at o room m i is h
+
+put_anywhere : (t : Token) (ts : Trees) → Anywhere ts → (o : Origin) (room : ℕ) (is : List Item) → FitsPut o is t (λ (rest : List Item). Fits o room rest ts)
+    → FitsPut origin.Atoms is t (λ (rest : List Item). Fits origin.Atoms room rest ts)
+put_anywhere t ts at o room [] h = absurd h
+put_anywhere t ts at o room (i ∷ is) h = (token_anywhere o i t h.0, at o room is h.1)
+
+fits_anywhere : (t : Trees) → Anywhere t
+fits_anywhere Done o room is h = h
+fits_anywhere (Put t ts) o room is h = put_anywhere t ts (fits_anywhere ts) o room (giving is) h
+fits_anywhere (In m inner ts) o room is h = in_anywhere inner ts (fits_anywhere inner) (fits_anywhere ts) o room m (giving is) h
+
+pub anywhere : (o : Origin) (t : Trees) → LineTree o t → LineTree origin.Atoms t
+anywhere o t h = record { fits = fits_anywhere t o 32 (row_items row.LINE) h.fits; remarks = h.remarks }

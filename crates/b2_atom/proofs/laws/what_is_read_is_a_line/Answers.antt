@@ -1,0 +1,5 @@
+use Rattle.b2_atom.proofs.LineLaws.{read_is_line}
+use Rattle.b2_atom.proofs.laws.what_is_read_is_a_line.Goals as goal
+
+pub returns : goal.returns
+returns c = read_is_line

@@ -1,0 +1,186 @@
+-- Which texts spell which tokens, and which tokens may stand side by side.
+use Rattle.std.specs.Prelude.{◌≡◌, ℕ, ◌-◌, ◌<◌, ◌&&◌, ◌||◌, ◌==◌, not, nat_lt, Bool, true, false, List, [], ◌∷◌, ◌++◌, length, drop, codes, if◌then◌else◌}
+use Rattle.b2_atom.specs.Words.{Text, first, skipped, ahead, kept}
+use Rattle.b2_atom.specs.Tokens.{Token, token_atoms}
+use Rattle.b2_atom.specs.Tokens.Token.{Coded, Plain, Lined}
+use Rattle.b2_atom.specs.Tree.{one}
+use Rattle.b2_atom.specs.Leaves.{is_letter, is_hex, is_alpha_name, name_width, all_printable, leaf_width}
+use Rattle.b2_atom.specs.Grammar.{class_at, is_line, is_decimal, is_among, read_leaf, begins_let, spelled_behind}
+use Rattle.b2_atom.specs.declared.words.TheConstants as word
+use Rattle.b2_atom.specs.declared.words.Origin.{Origin}
+use Rattle.b2_atom.specs.declared.words.Origin.TheVariants as origin
+use Rattle.b2_atom.specs.declared.forms.Leaf.{Leaf}
+use Rattle.b2_atom.specs.declared.forms.Leaf.TheVariants as leaf
+
+-- what is typed by hand is a whole leaf of its kind by itself
+abbrev pub is_whole : Leaf → Text → Bool
+is_whole leaf.Text w = nat_lt 0 (length w) && all_printable w
+is_whole k w = nat_lt 0 (length w) && leaf_width origin.Atoms k w == length w
+
+-- the bytes that stand for themselves in a line
+abbrev pub signs : Text
+signs = codes "%&()*+,-/:;=^BEGFNPTV"
+
+abbrev pub is_in : ℕ → Text → Bool
+is_in b [] = false
+is_in b (c ∷ cs) = b == c || is_in b cs
+
+-- a token that may stand in a line: a word of the table, a sign, a whole leaf, or a line number of decimal digits
+abbrev pub good_token : Token → Bool
+good_token (Coded c) = is_among word.REM word.ROUND c || is_in c signs
+good_token (Plain k w) = is_whole k w
+good_token (Lined high low) = is_decimal high && is_decimal low
+
+-- a word or a sign that isn't a letter, also a comparison sign
+abbrev pub is_mark : Token → Bool
+is_mark (Coded c) = not (is_letter c)
+is_mark (Plain leaf.Relation w) = true
+is_mark (Plain k w) = false
+is_mark (Lined high low) = false
+
+abbrev pub is_literal : Token → Bool
+is_literal (Plain leaf.Literal w) = true
+is_literal t = false
+
+abbrev pub is_free : Token → Bool
+is_free (Plain leaf.Text w) = true
+is_free t = false
+
+abbrev pub is_image : Token → Bool
+is_image (Plain leaf.Image w) = true
+is_image t = false
+
+-- a word that begins with `$`
+abbrev pub is_dollar : Token → Bool
+is_dollar (Coded c) = is_among word.DOLLAR_BREAK word.DOLLAR_CLOSE c || is_among word.DOLLAR_PACK_OPEN word.DOLLAR_UNPACK_OPEN c
+is_dollar t = false
+
+-- a token that doesn't begin with a comparison sign
+abbrev pub is_unrelated : Token → Bool
+is_unrelated (Coded c) = not (c == 61)
+is_unrelated (Plain leaf.Relation w) = false
+is_unrelated t = true
+
+-- the two letters that stand behind others: of B E G
+abbrev pub is_lettered : ℕ → Token → Bool
+is_lettered c (Coded d) = not (is_letter d) || (c == 66 && d == 69) || (c == 69 && d == 71)
+is_lettered c (Plain k w) = false
+is_lettered c (Lined high low) = true
+
+-- what may stand behind a word or a sign
+abbrev pub may_follow_code : ℕ → Token → Bool
+may_follow_code c t =
+    if c == word.REM || c == 37 then is_free t
+    else (not (is_free t) && (if is_letter c then is_lettered c t
+    else (if c == word.DATA then not (is_mark t || is_image t) else (if c == word.PRINT then not (is_image t) else true))))
+
+-- what may stand behind what is typed by hand
+abbrev pub may_follow_leaf : Leaf → Token → Bool
+may_follow_leaf leaf.Number t = is_mark t
+may_follow_leaf leaf.SignedNumber t = is_mark t
+may_follow_leaf leaf.Name t = is_mark t && not (is_dollar t)
+may_follow_leaf leaf.LocalName t = is_mark t && not (is_dollar t)
+may_follow_leaf leaf.FunctionName t = is_mark t
+may_follow_leaf leaf.Slot t = is_mark t
+may_follow_leaf leaf.Small t = is_mark t || is_literal t
+may_follow_leaf leaf.Relation t = is_unrelated t && not (is_free t || is_image t)
+may_follow_leaf leaf.Text t = false
+may_follow_leaf k t = not (is_free t)
+
+-- whether a token may stand directly behind another, so that neither runs on into the other
+abbrev pub may_follow : Token → Token → Bool
+may_follow (Coded c) t = may_follow_code c t
+may_follow (Plain k w) t = may_follow_leaf k t
+may_follow (Lined high low) t = is_mark t
+
+abbrev pub Neighbours : List Token → Type 0
+Neighbours [] = Unit {0}
+Neighbours (t ∷ []) = Unit {0}
+Neighbours (t ∷ u ∷ ts) = (may_follow t u ≡ true) × Neighbours (u ∷ ts)
+
+abbrev pub AllGood : List Token → Type 0
+AllGood [] = Unit {0}
+AllGood (t ∷ ts) = (good_token t ≡ true) × AllGood ts
+
+-- a kind that is known by its first byte alone, whatever follows it
+abbrev pub is_classed : Leaf → Bool
+is_classed leaf.HexPair = false
+is_classed leaf.HexDigit = false
+is_classed leaf.Address = false
+is_classed leaf.Image = false
+is_classed leaf.Text = false
+is_classed k = true
+
+abbrev pub has_class : Token → Bool
+has_class (Coded c) = true
+has_class (Plain k w) = is_classed k
+has_class (Lined high low) = false
+
+abbrev pub class_of : Token → ℕ
+class_of (Coded c) = c
+class_of (Plain k w) = first w
+class_of (Lined high low) = 255
+
+abbrev pub is_code : ℕ → Token → Bool
+is_code c (Coded d) = d == c
+is_code c t = false
+
+-- BEG, letter by letter
+abbrev pub is_beg : Token → List Token → Bool
+is_beg (Coded c) (Coded d ∷ Coded e ∷ ts) = c == 66 && (d == 69 && e == 71)
+is_beg t ts = false
+
+-- where a token begins: blanks before it don't count, but before free text they do
+abbrev pub here : Origin → Token → Text → Text
+here o (Plain leaf.Text w) s = s
+here o t s = skipped o s
+
+-- a text from which a token is read, with what is left
+abbrev pub Reads : Origin → Token → Text → Text → Type 0
+Reads o (Coded c) s rest = ahead o (skipped o s) ≡ (c, rest)
+Reads o (Plain k w) s rest = (code : ℕ) → read_leaf o k code s ≡ one (Plain k w) rest
+Reads o (Lined high low) s rest = (code : ℕ) → read_leaf o leaf.LineNumber code s ≡ one (Lined high low) rest
+
+-- a name of a number or of an alpha value, as a text shows it
+pub record Named (o : Origin) (is_alpha : Bool) (width : ℕ) (w t rest : Text) : Type 0 where
+  pub alpha : is_alpha_name o t ≡ is_alpha
+  pub width_is : name_width o t ≡ width
+  pub behind : drop (length w) t ≡ rest
+
+abbrev pub ShowsName : Origin → Token → Text → Text → Type 0
+ShowsName o (Plain leaf.Name w) s rest = Named o false (length w) w (skipped o s) rest
+ShowsName o (Plain leaf.LocalName w) s rest = Named o false (length w) w (skipped o s) rest
+ShowsName o (Plain leaf.AlphaName w) s rest = Named o true (length w - 1) w (skipped o s) rest
+ShowsName o t s rest = Unit {0}
+
+abbrev pub ShowsHex : Origin → Token → Text → Type 0
+ShowsHex o (Plain leaf.HexPair w) s = is_hex (kept o (first (skipped o s))) ≡ true
+ShowsHex o t s = Unit {0}
+
+abbrev pub ShowsLine : Origin → Token → Text → Type 0
+ShowsLine o (Lined high low) s = is_line o (class_at o s) ≡ true
+ShowsLine o t s = Unit {0}
+
+-- a text that begins with a token, behind which others stand: it is read as that token, and its first bytes show which one
+-- it is
+pub record Begins (o : Origin) (t : Token) (behind : List Token) (s rest : Text) : Type 0 where
+  pub reads : Reads o t s rest
+  pub shorter : length rest < length (here o t s)
+  pub class : has_class t ≡ true → class_at o s ≡ class_of t
+  pub opens : has_class t ≡ true → (first (skipped o s) == 40) ≡ is_code 40 t
+  pub closes : has_class t ≡ true → (first (skipped o s) == 41) ≡ is_code 41 t
+  pub lets : has_class t ≡ true → begins_let o (skipped o s) ≡ false
+  pub begs : has_class t ≡ true → (class_at o s == 66 && spelled_behind o (ahead o (skipped o s)).1 69 71) ≡ is_beg t behind
+  pub name : ShowsName o t s rest
+  pub hex : ShowsHex o t s
+  pub line : ShowsLine o t s
+
+-- the atom bytes of tokens
+abbrev pub atoms_of_tokens : List Token → Text
+atoms_of_tokens [] = []
+atoms_of_tokens (t ∷ ts) = token_atoms t ++ atoms_of_tokens ts
+
+-- a text that spells tokens, and nothing else
+abbrev pub Spells : Origin → List Token → Text → Type 0
+Spells o [] s = s ≡ []
+Spells o (t ∷ ts) s = (rest : Text) × (Begins o t ts s rest × Spells o ts rest)
