@@ -155,8 +155,8 @@ fn exponent_width(origin: Origin, text: &[u8]) -> usize
     }
 }
 
-// How many bytes spell a number without a sign, or 0.
-fn number_width(origin: Origin, text: &[u8]) -> usize
+/// How many bytes at a text spell a number without a sign, or 0.
+pub fn number_width(origin: Origin, text: &[u8]) -> usize
     ensures count { result ≡ spec.number_width origin text.now }
     ensures bound { result ≤ length text.now + 5 }
 {

@@ -31,6 +31,7 @@ mod walk;
 mod words;
 
 pub use laws::{each_line_spells_a_tree, no_two_trees_share_atoms};
+pub use leaves::number_width;
 pub use line::{Atoms, Cursor, read_source};
 pub use sink::Stop;
 use table::{FORMS, ROWS_0, ROWS_1, ROWS_2, ROWS_3};

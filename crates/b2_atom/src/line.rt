@@ -256,6 +256,13 @@ impl Atoms {
 }
 
 impl<'a> Cursor<'a> {
+    /// A cursor over bytes.
+    pub fn over(bytes: &'a [u8]) -> Cursor<'a>
+        ensures { result ≡ bytes.now }
+    {
+        Cursor { left: bytes }
+    }
+
     /// The next byte, None exactly at the unit's end.
     pub fn peek(&self) -> Option<u8>
         ensures { result ≡ slice_get self.now 0 }
