@@ -11,7 +11,7 @@ struct Row {
     summary: &'static [u8],
 }
 
-const ROWS: [Row; 15] = [
+const ROWS: [Row; 17] = [
     Row {
         log: b"type 1 PRINT 2+2\nrounds 5\n",
         transcript: b"READY\n:PRINT 2+2\n 4 \n:",
@@ -31,6 +31,16 @@ const ROWS: [Row; 15] = [
         log: b"type 1 STOP\nrounds 5",
         transcript: b"READY\n:STOP\nERR S27\n:",
         summary: b"turns 5 steps 4 dropped 0\n",
+    },
+    Row {
+        log: b"type 1 PRINT 1/3\ntype 1 PRINT -2/3\ntype 1 PRINT 1E13\ntype 1 PRINT .05\ntype 1 PRINT 9999999999999+.5\ntype 1 SELECT NO ROUND\ntype 1 PRINT 9999999999999+.5\nrounds 20\n",
+        transcript: b"READY\n:PRINT 1/3\n .3333333333333 \n:PRINT -2/3\n-.6666666666667 \n:PRINT 1E13\n 1.00000000E+13 \n:PRINT .05\n 5.00000000E-02 \n:PRINT 9999999999999+.5\n 1.00000000E+13 \n:SELECT NO ROUND\n:PRINT 9999999999999+.5\n 9999999999999 \n:",
+        summary: b"turns 20 steps 22 dropped 0\n",
+    },
+    Row {
+        log: b"type 1 PRINT 0/0\ntype 1 PRINT 1/0\ntype 1 PRINT 9E99*10\ntype 1 PRINT 1E-99/10\nrounds 20\n",
+        transcript: b"READY\n:PRINT 0/0\nERR C63\n:PRINT 1/0\nERR C62\n:PRINT 9E99*10\nERR C61\n:PRINT 1E-99/10\nERR C60\n:",
+        summary: b"turns 20 steps 13 dropped 0\n",
     },
     Row {
         log: b"keys 1 AAAAAAAAAABBBBBBBBBBCCCCCCCCCCDDDDDDDDDDEEEEEEEEEEFFFFFFFFFFABCDE\nkeys 1 AAAAAAAAAABBBBBBBBBBCCCCCCCCCCDDDDDDDDDDEEEEEEEEEEFFFFFFFFFFABCDE\nrounds 2\n",
@@ -307,7 +317,10 @@ fn long_lines_are_read_to_the_limit(rt: HostRuntime) -> Result<(), Fail> {
     let mut sink = MemSink::new(alloc, Vec::new(alloc));
     let words = words(alloc, &[b"run", b"log", b"out"])?;
     assert_eq!(rt; mvp(alloc, &words, &mut shelf, &mut sink).number(), 0);
-    assert_eq!(rt; shelf.file(b"out.t01").unwrap_or(b"none"), transcript.as_slice());
+    assert_eq!(rt;
+        shelf.file(b"out.t01").unwrap_or(b"none"),
+        transcript.as_slice()
+    );
     Ok(())
 }
 
@@ -327,7 +340,10 @@ fn the_area_is_filled_to_the_byte(rt: HostRuntime) -> Result<(), Fail> {
     let mut sink = MemSink::new(alloc, Vec::new(alloc));
     let words = words(alloc, &[b"run", b"log", b"out"])?;
     assert_eq!(rt; mvp(alloc, &words, &mut shelf, &mut sink).number(), 0);
-    assert_eq!(rt; shelf.file(b"out.t01").unwrap_or(b"none"), transcript.as_slice());
+    assert_eq!(rt;
+        shelf.file(b"out.t01").unwrap_or(b"none"),
+        transcript.as_slice()
+    );
     Ok(())
 }
 
