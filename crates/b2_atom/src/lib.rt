@@ -35,7 +35,9 @@ pub use leaves::number_width;
 pub use line::{Atoms, Cursor, read_source};
 pub use sink::Stop;
 use table::{FORMS, ROWS_0, ROWS_1, ROWS_2, ROWS_3};
-pub use words::Origin;
+pub use words::{
+    CLEAR, DC, END, GOTO, LIST, NO, Origin, PRINT, REM, ROUND, RUN, SELECT, dropped, front,
+};
 use words::WORDS;
 
 /// The table and the words that the code walks over are the language's.
