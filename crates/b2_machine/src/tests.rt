@@ -1,8 +1,9 @@
 use crate::Solo;
+use std::alloc::Global;
 use std::test::Fail;
 
 // Lines typed one after another, and what stands behind the echo of the last.
-const ROWS: [(&[&[u8]], &[u8]); 71] = [
+const ROWS: [(&[&[u8]], &[u8]); 45] = [
     (&[b"PRINT 2+2"], b" 4 \n:"),
     (&[b"  print  2 + 2 - 9  "], b"-5 \n:"),
     (&[b"PRINT2+2"], b" 4 \n:"),
@@ -60,6 +61,10 @@ const ROWS: [(&[&[u8]], &[u8]); 71] = [
     (&[b"GOTO 10"], b"ERR P36\n:"),
     (&[b"GOTO 12345"], b"ERR S15 COL 6\n:"),
     (&[b"10 GOTO 20", b"RUN"], b"ERR P36 AT 10\n:"),
+];
+
+// Programs that are typed, listed, edited and run, and what stands behind the echo of the last line.
+const PROGRAMS: [(&[&[u8]], &[u8]); 26] = [
     (&[b"RUN"], b":"),
     (&[b"10"], b":"),
     (&[b"10000 END"], b"ERR A07\n:"),
@@ -85,27 +90,18 @@ const ROWS: [(&[&[u8]], &[u8]); 71] = [
         &[b"20 print1", b"10goto  20", b"LIST"],
         b"10 GOTO 20\n20 PRINT 1\n:",
     ),
-    (
-        &[b"10 END", b"20 END", b"30 END", b"LIST 20"],
-        b"20 END\n:",
-    ),
+    (&[b"10 END", b"20 END", b"30 END", b"LIST 20"], b"20 END\n:"),
     (
         &[b"10 END", b"20 END", b"30 END", b"40 END", b"LIST 15,30"],
         b"20 END\n30 END\n:",
     ),
     (&[b"10 END", b"LIST 20,10"], b":"),
-    (
-        &[b"10 END", b"PRINT 7;:LIST:PRINT 8"],
-        b" 7 10 END\n 8 \n:",
-    ),
+    (&[b"10 END", b"PRINT 7;:LIST:PRINT 8"], b" 7 10 END\n 8 \n:"),
     (&[b"10 PRINT 1", b"10", b"LIST"], b":"),
     (&[b"10 END", b"CLEAR"], b"READY\n:"),
     (&[b"10 END", b"CLEAR", b"LIST"], b":"),
     (&[b"A=5", b"CLEAR", b"PRINT A"], b" 0 \n:"),
-    (
-        &[b"A=5", b"10 END", b"CLEAR P", b"LIST:PRINT A"],
-        b" 5 \n:",
-    ),
+    (&[b"A=5", b"10 END", b"CLEAR P", b"LIST:PRINT A"], b" 5 \n:"),
     (
         &[b"10 END", b"20 END", b"30 END", b"CLEAR P 20", b"LIST"],
         b"10 END\n:",
@@ -118,26 +114,40 @@ const ROWS: [(&[&[u8]], &[u8]); 71] = [
     (&[b"10 CLEAR P 10:PRINT 1", b"RUN"], b":"),
 ];
 
+// What the machine shows for the last of these lines.
+fn shown_for(alloc: Global, lines: &[&[u8]]) -> Result<Vec<u8>, Fail> {
+    let mut solo = Solo::new(alloc)?;
+    let mut before = 0;
+    for line in lines {
+        solo.turn(20)?;
+        for b in *line {
+            solo.key(*b);
+        }
+        solo.key(13);
+        before = solo
+            .transcript()
+            .len()
+            .saturating_add(line.len())
+            .saturating_add(1);
+        solo.turn(20)?;
+        solo.turn(20)?;
+    }
+    let shown = solo.transcript().get(before..).unwrap_or(b"none");
+    Ok(Vec::from_slice(alloc, shown)?)
+}
+
 #[test]
 fn typed_lines(rt: HostRuntime) -> Result<(), Fail> {
     for (lines, shown) in &ROWS {
-        let mut solo = Solo::new(rt.alloc())?;
-        let mut before = 0;
-        for line in *lines {
-            solo.turn(20)?;
-            for b in *line {
-                assert!(rt; solo.key(*b));
-            }
-            solo.key(13);
-            before = solo
-                .transcript()
-                .len()
-                .saturating_add(line.len())
-                .saturating_add(1);
-            solo.turn(20)?;
-            solo.turn(20)?;
-        }
-        assert_eq!(rt; solo.transcript().get(before..).unwrap_or(b"none"), *shown);
+        assert_eq!(rt; shown_for(rt.alloc(), lines)?.as_slice(), *shown);
+    }
+    Ok(())
+}
+
+#[test]
+fn programs_are_edited_and_listed(rt: HostRuntime) -> Result<(), Fail> {
+    for (lines, shown) in &PROGRAMS {
+        assert_eq!(rt; shown_for(rt.alloc(), lines)?.as_slice(), *shown);
     }
     Ok(())
 }
