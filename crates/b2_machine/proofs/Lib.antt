@@ -5,3 +5,5 @@ pub mod MoreStatements
 pub mod PrintItems
 pub mod Ranks
 pub mod Turns
+pub mod Planning
+pub mod PlainTrees

@@ -6,3 +6,6 @@ pub mod Value
 pub mod Outcomes
 pub mod Program
 pub mod Machine
+pub mod Plan
+pub mod Refusals
+pub mod Planned

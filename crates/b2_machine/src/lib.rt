@@ -12,14 +12,22 @@
 mod blanks;
 mod evaluate;
 mod expression;
+mod laws;
 mod lists;
 mod program;
+mod request;
 mod solo;
+mod statement;
+#[cfg(test)]
+mod statement_tests;
 mod syntax;
 #[cfg(test)]
 mod tests;
 
 pub use expression::{Level, Operation, Operator};
+pub use laws::plain_units_ask_by_their_trees;
 pub use lists::{Expression, PrintList, Statements};
+pub use request::Request;
 pub use solo::{Doing, Place, Solo, StepEnd};
+pub use statement::ask;
 pub use syntax::{PrintItem, Statement};

@@ -1,0 +1,30 @@
+//! What a unit asks the machine to do.
+use b2_base::{ByteList, Code};
+use b2_dec::{Dec, Mode};
+
+/// What a unit asks the machine to do.
+#[derive(Drop)]
+pub enum Request {
+    /// PRINT: these bytes are shown.
+    Show(ByteList),
+    /// An assignment to letters, from 0 for A, in the order written.
+    Assign(ByteList, Dec),
+    /// GOTO.
+    Jump(u16),
+    /// SELECT ROUND, SELECT NO ROUND.
+    Select(Mode),
+    /// REM and `%`: nothing.
+    Nothing,
+    /// END.
+    End,
+    /// RUN without a line.
+    Run,
+    /// LIST from a line to a line.
+    List(u16, u16),
+    /// CLEAR.
+    Clear,
+    /// CLEAR P from a line to a line.
+    ClearProgram(u16, u16),
+    /// An error.
+    Fail(Code),
+}
