@@ -1,3 +1,4 @@
 pub mod Turns
 pub mod Listings
 pub mod Planning
+pub mod PlainTrees

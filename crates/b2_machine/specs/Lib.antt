@@ -1,3 +1,4 @@
 pub mod Refusals
 pub mod Plan
+pub mod Planned
 pub mod Machine
