@@ -39,8 +39,11 @@ pub use leaves::number_width;
 pub use line::{Atoms, Cursor, read_source};
 pub use sink::Stop;
 use table::{FORMS, ROWS_0, ROWS_1, ROWS_2, ROWS_3};
-pub use words::{DATA, DEFFN, DEFFN_PRIME, Origin};
 use words::WORDS;
+pub use words::{
+    CLEAR, DATA, DC, DEFFN, DEFFN_PRIME, END, GOTO, LIST, NO, Origin, PRINT, REM, ROUND, RUN,
+    SELECT, dropped, front,
+};
 
 /// The table and the words that the code walks over are the language's.
 pub fn table_is_the_language()

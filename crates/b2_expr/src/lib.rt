@@ -7,11 +7,13 @@
 //! Stands on `b2_dec` for arithmetic, `b2_dectext` for literals and `b2_atom` for the table. No call takes memory.
 #![tactic(auto)]
 
+mod laws;
 mod operators;
 #[cfg(test)]
 mod tests;
 mod value;
 mod walk;
 
+pub use laws::expressions_have_the_values_of_their_trees;
 pub use operators::Level;
 pub use value::{Env, number};

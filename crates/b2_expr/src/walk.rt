@@ -6,7 +6,7 @@ ghost use Rattle.b2_expr.specs.Walk.{operator_at, level_at, item_at, factor_at, 
 
 use crate::operators::{Level, Operator, joined, operator_of, signed};
 use crate::value::Env;
-use b2_atom::{Origin, number_width};
+use b2_atom::{Origin, dropped, front, number_width};
 use b2_base::Code;
 use b2_base::codes::{S17_NUMERIC, S27_LEFT_OUT};
 use b2_dec::Dec;
@@ -32,28 +32,6 @@ fn literal_value(text: &[u8]) -> Result<Dec, Code>
     match literal(text) {
         Some((_, number)) => number,
         None => Err(Code::known(S17_NUMERIC)),
-    }
-}
-
-// The first bytes.
-fn front(text: &[u8], count: usize) -> &[u8]
-    ensures { result.now ≡ take count text.now }
-{
-    if count <= text.len() {
-        &text[..count]
-    } else {
-        text
-    }
-}
-
-// What stands behind the first bytes.
-fn dropped(text: &[u8], count: usize) -> &[u8]
-    ensures { result.now ≡ drop count text.now }
-{
-    if count <= text.len() {
-        &text[count..]
-    } else {
-        &[]
     }
 }
 

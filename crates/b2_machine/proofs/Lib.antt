@@ -1,7 +1,4 @@
-pub mod Binding
-pub mod Chains
-pub mod Failures
-pub mod MoreStatements
-pub mod PrintItems
-pub mod Ranks
 pub mod Turns
+pub mod Listings
+pub mod Planning
+pub mod PlainTrees

@@ -1,8 +1,4 @@
-pub mod Blanks
-pub mod Expression
-pub mod Syntax
-pub mod Reading
-pub mod Value
-pub mod Outcomes
-pub mod Program
+pub mod Refusals
+pub mod Plan
+pub mod Planned
 pub mod Machine

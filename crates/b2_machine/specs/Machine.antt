@@ -1,48 +1,45 @@
 -- The machine of one partition at one terminal: its state, a step and a turn.
-use Rattle.std.specs.Prelude.{ℕ, suc, zero, ◌+◌, ◌/◌, ◌%◌, ◌==◌, nat_lt, List, [], ◌∷◌, ◌++◌, length, map, set, replicate, codes, Option, Some, None, Result, Ok, Err, if◌then◌else◌, slice_get}
+use Rattle.std.specs.Prelude.{ℕ, suc, zero, ◌+◌, ◌/◌, ◌%◌, ◌==◌, nat_lt, List, [], ◌∷◌, ◌++◌, length, set, replicate, codes, filter, flat_map, Option, Some, None, Result, Ok, Err, option_map, if◌then◌else◌, slice_get}
 use Rattle.std.specs.Fmt.{decimal}
 use Rattle.b2_base.specs.Codes.{class_of}
-use Rattle.b2_base.specs.declared.codes.TheConstants.{S14_STATEMENT, P36_NO_LINE}
+use Rattle.b2_base.specs.declared.codes.Fault.{Fault}
+use Rattle.b2_base.specs.declared.codes.Fault.TheVariants as fault
+use Rattle.b2_base.specs.declared.codes.TheConstants.{A01_TEXT_AREA, P36_NO_LINE}
+use Rattle.b2_atom.specs.Lines.{units_of}
 use Rattle.b2_dec.specs.Number.{Number, zero_number}
+use Rattle.b2_dec.specs.declared.number.Mode.{Mode}
+use Rattle.b2_dec.specs.declared.number.Mode.TheVariants.{Round}
+use Rattle.b2_lister.specs.Listing.{listing}
+use Rattle.b2_print.specs.Columns.{column_after}
+use Rattle.b2_syntax.specs.Reading as syntax
+use Rattle.b2_syntax.specs.declared.Entered.{Entered}
+use Rattle.b2_syntax.specs.declared.Entered.TheVariants as entered
+use Rattle.b2_syntax.specs.declared.LineErr.{LineErr}
+use Rattle.b2_syntax.specs.declared.LineErr.TheVariants as refusal
 use Rattle.b2_term.specs.Terminal.{TerminalState, line_read, after_read, keyed}
 use Rattle.b2_term.specs.declared.KeyItem.TheVariants.{Byte}
 use Rattle.b2_term.specs.declared.Read.{Read}
 use Rattle.b2_term.specs.declared.Read.TheVariants as read
-use Rattle.b2_machine.specs.Program.{Lines, put_line, line_at, first_line, next_line}
-use Rattle.b2_machine.specs.Syntax.{entry_of}
-use Rattle.b2_machine.specs.Value.{value_of, ◌>>=◌}
-use Rattle.b2_print.specs.Columns.{column_after}
-use Rattle.b2_print.specs.Layout.{layout}
-use Rattle.b2_print.specs.declared.layout.Item.{Item}
-use Rattle.b2_print.specs.declared.layout.Item.TheVariants as item
-use Rattle.b2_dec.specs.declared.number.Mode.{Mode}
-use Rattle.b2_dec.specs.declared.number.Mode.TheVariants.{Round}
-use Rattle.b2_machine.specs.declared.solo.Printed.{Printed}
-use Rattle.b2_machine.specs.declared.solo.Printed.TheVariants as printed
-use Rattle.b2_machine.specs.declared.syntax.PrintItem.{PrintItem}
-use Rattle.b2_machine.specs.declared.syntax.PrintItem.TheVariants as printing
-use Rattle.b2_machine.specs.declared.syntax.Statement.{Statement}
-use Rattle.b2_machine.specs.declared.syntax.Statement.TheVariants as statement
-use Rattle.b2_machine.specs.declared.syntax.Entry.{Entry}
-use Rattle.b2_machine.specs.declared.syntax.Entry.TheVariants as entry
+use Rattle.b2_text.specs.Program.{TextState, Lines, line_at, with_line, without, is_within, size_of, number_after}
+use Rattle.b2_machine.specs.Plan.{plan}
+use Rattle.b2_machine.specs.declared.request.Request.{Request}
+use Rattle.b2_machine.specs.declared.request.Request.TheVariants as request
 use Rattle.b2_machine.specs.declared.solo.Place.{Place}
 use Rattle.b2_machine.specs.declared.solo.Place.TheVariants.{Immediate, Program}
 use Rattle.b2_machine.specs.declared.solo.Doing.{Doing}
 use Rattle.b2_machine.specs.declared.solo.Doing.TheVariants.{Ready, Entering, Running}
-use Rattle.b2_machine.specs.declared.solo.Request.{Request}
-use Rattle.b2_machine.specs.declared.solo.Request.TheVariants as request
 use Rattle.b2_machine.specs.declared.solo.StepEnd.{StepEnd}
 use Rattle.b2_machine.specs.declared.solo.StepEnd.TheVariants as ends
 
--- The terminal with the column that its next byte goes to, how results are rounded, the values of A to Z, the program,
--- the immediate line, output that is to be shown, and what is done next.
+-- The terminal with the column that its next byte goes to, how results are rounded, the values of A to Z, the text of the
+-- program, the atoms of the immediate line, output that is to be shown, and what is done next.
 pub record SoloState : Type 0 where
   pub terminal : TerminalState
   pub column : ℕ
   pub mode : Mode
   pub variables : List Number
-  pub lines : Lines
-  pub immediate : List Statement
+  pub text : TextState
+  pub immediate : Option (List ℕ)
   pub pending : Option (List ℕ)
   pub doing : Doing
 
@@ -58,9 +55,9 @@ stops text s = record { after = record s { pending = Some (text ++ 58 ∷ []); d
 abbrev pub goes_to : Place → SoloState → Stepped
 goes_to place s = record { after = record s { doing = Running place }; end = ends.GoesOn }
 
--- the letter of a code's class and its two digits
+-- `ERR`, the letter of a code's class and its two digits
 abbrev pub code_text : ℕ → List ℕ
-code_text code = class_of code ∷ (48 + code / 10) ∷ (48 + code % 10) ∷ []
+code_text code = codes "ERR " ++ class_of code ∷ (48 + code / 10) ∷ (48 + code % 10) ∷ []
 
 -- ` AT l` for a program line
 abbrev pub at_text : Place → List ℕ
@@ -68,21 +65,29 @@ at_text (Immediate unit) = []
 at_text (Program line unit) = codes " AT " ++ decimal line
 
 abbrev pub error_text : ℕ → Place → List ℕ
-error_text code place = codes "ERR " ++ code_text code ++ at_text place ++ 10 ∷ []
+error_text code place = code_text code ++ at_text place ++ 10 ∷ []
+
+-- ` COL c` for a code of class S
+abbrev pub column_text : ℕ → ℕ → List ℕ
+column_text code column = if class_of code == 83 then codes " COL " ++ decimal column else []
+
+-- why a typed line isn't taken
+abbrev pub refusal_text : ℕ → ℕ → List ℕ
+refusal_text code column = code_text code ++ column_text code column ++ 10 ∷ []
 
 -- an error at a place
 abbrev pub fails : ℕ → Place → SoloState → Stepped
 fails code place s = stops (error_text code place) s
 
--- to the first statement of a line, or to the end of the program
+-- to the first unit of a line, or to the end of the program
 abbrev pub to_line : Option ℕ → SoloState → Stepped
 to_line None s = stops [] s
 to_line (Some n) s = goes_to (Program n 0) s
 
--- the place behind a statement, in a line of so many statements
+-- the place behind a unit, in a line of so many units
 abbrev pub goes_on : Place → ℕ → SoloState → Stepped
 goes_on (Immediate unit) size s = if nat_lt (unit + 1) size then goes_to (Immediate (unit + 1)) s else stops [] s
-goes_on (Program line unit) size s = if nat_lt (unit + 1) size then goes_to (Program line (unit + 1)) s else to_line (next_line line s.lines) s
+goes_on (Program line unit) size s = if nat_lt (unit + 1) size then goes_to (Program line (unit + 1)) s else to_line (number_after (Some line) s.text.lines) s
 
 abbrev pub shows : List ℕ → SoloState → SoloState
 shows text s = record s { terminal = record s.terminal { transcript = s.terminal.transcript ++ text }; column = column_after s.column text }
@@ -91,56 +96,41 @@ shows text s = record s { terminal = record s.terminal { transcript = s.terminal
 abbrev pub on_new_line : List ℕ → SoloState → List ℕ
 on_new_line text s = if s.column == 0 then text else 10 ∷ text
 
--- an item of PRINT with its value
-abbrev pub item_of : List Number → Mode → PrintItem → Result Printed ℕ
-item_of variables mode (printing.Value os) = value_of variables mode os >>= (λ x. Ok (printed.Number x))
-item_of variables mode printing.Zone = Ok printed.Zone
-item_of variables mode printing.Line = Ok printed.Line
-
--- the items of PRINT with their values, or the first code
-abbrev pub items_of : List Number → Mode → List PrintItem → Result (List Printed) ℕ
-items_of variables mode [] = Ok []
-items_of variables mode (i ∷ is) = item_of variables mode i >>= (λ x. items_of variables mode is >>= (λ xs. Ok (x ∷ xs)))
-
--- and as they are laid out
-abbrev pub item_for : Printed → Item
-item_for (printed.Number x) = item.Number x
-item_for printed.Zone = item.Zone
-item_for printed.Line = item.Line
-
--- the width of the terminal
-abbrev pub width : ℕ
-width = 80
-
--- what is asked for by a value, or its code
-abbrev pub asked : {A : Type 0} → (A → Request) → Result A ℕ → Request
-asked f (Ok x) = f x
-asked f (Err code) = request.Fail code
-
--- what a statement asks for, at a column
-abbrev pub plan : List Number → Mode → ℕ → Statement → Request
-plan variables mode column (statement.Print is) = asked (λ xs. request.Show (layout width column (map item_for xs))) (items_of variables mode is)
-plan variables mode column (statement.Let letter os) = asked (request.Assign letter) (value_of variables mode os)
-plan variables mode column (statement.Goto n) = request.Jump n
-plan variables mode column statement.End = request.End
-plan variables mode column statement.Run = request.Run
-plan variables mode column (statement.Select chosen) = request.Select chosen
-
-abbrev pub jumps : Option (List Statement) → ℕ → Place → SoloState → Stepped
+abbrev pub jumps : Option (List ℕ) → ℕ → Place → SoloState → Stepped
 jumps None n place s = fails P36_NO_LINE place s
 jumps (Some line) n place s = goes_to (Program n 0) s
 
 abbrev pub no_values : List Number
 no_values = replicate 26 zero_number
 
--- what was asked for is done, by the statement at a place in a line of so many
+-- a value is assigned to letters, one after another
+abbrev pub assigned : List ℕ → Number → List Number → List Number
+assigned [] x values = values
+assigned (l ∷ ls) x values = assigned ls x (set values l x)
+
+-- lines as they are listed, each ended by a newline
+abbrev pub each_listed : Lines → List ℕ
+each_listed lines = flat_map (λ l. listing l.0 l.1 ++ 10 ∷ []) lines
+
+-- the lines from a number to another as they are listed
+abbrev pub listed : ℕ → ℕ → Lines → List ℕ
+listed from to lines = each_listed (filter (λ l. is_within from to l.0) lines)
+
+abbrev pub with_lines : Lines → SoloState → SoloState
+with_lines lines s = record s { text = record s.text { lines = lines } }
+
+-- What was asked for is done, by the unit at a place in a line of so many. CLEAR and CLEAR P end what they stand in.
 abbrev pub does : Request → Place → ℕ → SoloState → Stepped
 does (request.Show text) place size s = goes_on place size (shows text s)
-does (request.Assign letter x) place size s = goes_on place size (record s { variables = set s.variables letter x })
-does (request.Jump n) place size s = jumps (line_at n s.lines) n place s
+does (request.Assign letters x) place size s = goes_on place size (record s { variables = assigned letters x s.variables })
+does (request.Jump n) place size s = jumps (line_at n s.text.lines) n place s
 does (request.Select chosen) place size s = goes_on place size (record s { mode = chosen })
+does request.Nothing place size s = goes_on place size s
 does request.End place size s = stops [] s
-does request.Run place size s = to_line (first_line s.lines) (record s { variables = no_values })
+does request.Run place size s = to_line (number_after None s.text.lines) (record s { variables = no_values })
+does (request.List from to) place size s = goes_on place size (shows (listed from to s.text.lines) s)
+does request.Clear place size s = stops (codes "READY" ++ 10 ∷ []) (record (with_lines [] s) { variables = no_values })
+does (request.ClearProgram from to) place size s = stops [] (with_lines (without from to s.text.lines) s)
 does (request.Fail code) place size s = fails code place s
 
 abbrev pub unit_of : Place → ℕ
@@ -148,42 +138,63 @@ unit_of (Immediate unit) = unit
 unit_of (Program line unit) = unit
 
 -- the line at a place
-abbrev pub line_in : List Statement → Lines → Place → Option (List Statement)
-line_in immediate lines (Immediate unit) = Some immediate
+abbrev pub line_in : Option (List ℕ) → Lines → Place → Option (List ℕ)
+line_in immediate lines (Immediate unit) = immediate
 line_in immediate lines (Program line unit) = line_at line lines
 
-abbrev pub line_of : Place → SoloState → Option (List Statement)
-line_of place s = line_in s.immediate s.lines place
+abbrev pub line_of : Place → SoloState → Option (List ℕ)
+line_of place s = line_in s.immediate s.text.lines place
 
--- a statement that isn't there ends the program or the immediate line
-abbrev pub performs_unit : Option Statement → Place → ℕ → SoloState → Stepped
+-- a unit that isn't there ends the program or the immediate line
+abbrev pub performs_unit : Option (List ℕ) → Place → ℕ → SoloState → Stepped
 performs_unit None place size s = stops [] s
-performs_unit (Some statement) place size s = does (plan s.variables s.mode s.column statement) place size s
+performs_unit (Some unit) place size s = does (plan s.variables s.mode s.column unit) place size s
 
-abbrev pub performs_in : Option (List Statement) → Place → SoloState → Stepped
+abbrev pub performs_in : Option (List ℕ) → Place → SoloState → Stepped
 performs_in None place s = stops [] s
-performs_in (Some line) place s = performs_unit (slice_get line (unit_of place)) place (length line) s
+performs_in (Some line) place s = performs_unit (option_map (λ u. u.bytes) (slice_get (units_of line) (unit_of place))) place (length (units_of line)) s
 
--- the line is of no form that is read
-abbrev pub wrong_text : List ℕ
-wrong_text = codes "ERR " ++ code_text S14_STATEMENT ++ codes " COL 1" ++ 10 ∷ []
+-- what a typed line says is taken; a number alone deletes the line of that number
+abbrev pub enters : Entered → SoloState → SoloState
+enters entered.Empty s = record s { pending = Some (58 ∷ []) }
+enters (entered.Delete n) s = record s { doing = Entering (n, None) }
+enters (entered.Numbered n atoms) s = record s { doing = Entering (n, Some atoms) }
+enters (entered.Immediate atoms) s = record s { immediate = Some atoms; doing = Running (Immediate 0) }
 
--- what a typed line says is taken
-abbrev pub enters : Entry → SoloState → SoloState
-enters entry.Empty s = record s { pending = Some (58 ∷ []) }
-enters (entry.Immediate statements) s = record s { immediate = statements; doing = Running (Immediate 0) }
-enters (entry.Numbered n statements) s = record s { doing = Entering n statements }
-enters entry.Wrong s = record s { pending = Some (wrong_text ++ 58 ∷ []) }
+-- or what is missing is shown
+abbrev pub refuses : ℕ → ℕ → SoloState → SoloState
+refuses code column s = record s { pending = Some (refusal_text code column ++ 58 ∷ []) }
+
+-- or a fault's code, where it has one
+abbrev pub refuses_by : Fault → SoloState → SoloState
+refuses_by (fault.Code code) s = refuses code 0 s
+refuses_by fault.NoMemory s = s
+
+abbrev pub takes : Result Entered LineErr → SoloState → SoloState
+takes (Ok e) s = enters e s
+takes (Err (refusal.At code column)) s = refuses code column s
+takes (Err refusal.NoMemory) s = s
 
 abbrev pub reads : Read → SoloState → Stepped
-reads (read.Line bytes) s = record { after = enters (entry_of bytes) (record s { column = 0 }); end = ends.GoesOn }
+reads (read.Line bytes) s = record { after = takes (syntax.reads bytes) (record s { column = 0 }); end = ends.GoesOn }
 reads (read.Special n) s = record { after = s; end = ends.GoesOn }
 reads read.NoKeys s = record { after = s; end = ends.NoKeys }
 
--- A ready partition reads a line; a numbered line is put into the program; a running one executes a statement.
+-- the program has these lines from now on
+abbrev pub edited : Lines → SoloState → SoloState
+edited lines s = record (with_lines lines s) { pending = Some (58 ∷ []) }
+
+-- a numbered line goes into the program where its area has room, and a number alone takes its line out
+abbrev pub puts : ℕ → Option (List ℕ) → SoloState → SoloState
+puts n None s = edited (without n n s.text.lines) s
+puts n (Some atoms) s =
+    if nat_lt s.text.area (size_of (with_line n atoms s.text.lines)) then refuses A01_TEXT_AREA 0 s
+    else edited (with_line n atoms s.text.lines) s
+
+-- A ready partition reads a line; a numbered line is put into the program; a running one executes a unit.
 abbrev pub acts : Doing → SoloState → Stepped
 acts Ready s = reads (line_read s.terminal) (record s { terminal = after_read s.terminal })
-acts (Entering n statements) s = record { after = record s { lines = put_line n statements s.lines; pending = Some (58 ∷ []); doing = Ready }; end = ends.GoesOn }
+acts (Entering line) s = record { after = record (puts line.0 line.1 s) { doing = Ready }; end = ends.GoesOn }
 acts (Running place) s = performs_in (line_of place s) place s
 
 abbrev pub step_by : Option (List ℕ) → SoloState → Stepped
@@ -220,8 +231,8 @@ started = record {
   column = 0;
   mode = Round;
   variables = no_values;
-  lines = [];
-  immediate = [];
+  text = record { area = 8192; lines = [] };
+  immediate = None;
   pending = Some (codes "READY" ++ 10 ∷ 58 ∷ []);
   doing = Ready;
 }

@@ -1,25 +1,27 @@
 //! The machine of one partition at one terminal.
 //!
-//! It reads typed lines, keeps numbered ones as its program, and executes statements, one a step. A turn is a number of
-//! steps. Stands on `b2_term` for the terminal, on `b2_dec` and `b2_dectext` for numbers, and on `b2_print` for what
-//! PRINT shows.
+//! It reads typed lines, keeps numbered ones as its program, and executes units, one a step. A turn is a number of steps.
+//! Stands on `b2_term` for the terminal, on `b2_syntax`, `b2_text` and `b2_lister` for lines, on `b2_expr` for
+//! values, and on `b2_print` for what PRINT shows.
 //!
-//! The definitions are in `specs/`: `Syntax` says what a typed line says and `Expression` what an expression is, `Value`
-//! what one comes to, `Machine` what a step and a turn do. `Solo` is seen in contracts as the record `SoloState`, and each
-//! of its calls is proved to be the function of these files, for every state.
+//! The definitions are in `specs/`: `Plan` says what a unit asks for, and `Machine` what a step and a turn do. `Solo` is
+//! seen in contracts as the record `SoloState`, and each of its calls is proved to be the function of these files, for
+//! every state.
 #![tactic(auto)]
 
-mod blanks;
-mod evaluate;
-mod expression;
-mod lists;
-mod program;
+mod laws;
+mod request;
 mod solo;
-mod syntax;
+mod statement;
+#[cfg(test)]
+mod statement_tests;
 #[cfg(test)]
 mod tests;
+mod texts;
+mod typed;
 
-pub use expression::{Level, Operation, Operator};
-pub use lists::{Expression, PrintList, Statements};
+pub use laws::plain_units_ask_by_their_trees;
+pub use request::Request;
 pub use solo::{Doing, Place, Solo, StepEnd};
-pub use syntax::{PrintItem, Statement};
+pub use statement::ask;
+pub use typed::NumberedLine;

@@ -1,31 +1,30 @@
 // The machine of one partition at one terminal.
-ghost use Rattle.std.specs.Prelude.{◌≡◌, ◌<◌, ◌≤◌, ◌++◌, ◌+◌, ◌∷◌, [], Some, length, IfOk, OnOk, MatchResult, Ok, nat_lt, set, map};
+ghost use Rattle.std.specs.Prelude.{◌≡◌, ◌≢◌, Some, Err, ◌<◌, ◌≤◌, ◌++◌, ◌+◌, ◌∷◌, [], length, IfOk, OnOk, nat_lt, set};
 ghost use Rattle.std.specs.Option.{option_copied};
+ghost use Rattle.b2_syntax.specs.Reading as syntax;
 ghost use Rattle.b2_term.specs.Terminal.{line_read, after_read};
-ghost use Rattle.b2_machine.specs.Outcomes.{Refuses, Fails};
-ghost use Rattle.b2_machine.specs.Value.{value_of};
-ghost use Rattle.b2_print.specs.Columns.{column_after};
-ghost use Rattle.b2_print.specs.Layout.{layout};
-ghost use Rattle.b2_machine.specs.Machine.{started, byte_keyed, shows, item_of, items_of, item_for, asked, plan, error_text, stops, goes_to, fails, to_line, goes_on, does, unit_of, line_in, line_of, performs_in, enters, reads, acts, step, turned};
+ghost use Rattle.b2_machine.specs.Machine.{started, byte_keyed, shows, stops, goes_to, fails, to_line, goes_on, does, assigned, no_values, unit_of, line_in, line_of, performs_in, enters, takes, refuses, refuses_by, reads, acts, puts, step, turned};
 
-use crate::evaluate::value;
-use crate::program::{Lines, find, first, next, put};
-use crate::syntax::{Entry, read_entry};
-use crate::{Expression, PrintItem, PrintList, Statement, Statements};
-use b2_base::codes::{P36_NO_LINE, S14_STATEMENT};
+use crate::request::Request;
+use crate::statement::ask;
+use crate::texts::{add_error, add_refusal, listed, text_of};
+use crate::typed::NumberedLine;
+use b2_atom::Atoms;
+use b2_base::codes::P36_NO_LINE;
 use b2_base::{ByteList, Code, Fault, NoMemory, Part};
 use b2_dec::{Dec, Mode};
-use b2_print::{Item, column_after, lay};
+use b2_print::column_after;
+use b2_syntax::{Entered, LineErr, read};
 use b2_term::{KeyItem, Read, Terminal};
+use b2_text::Text;
 use std::alloc::Global;
-use std::collections::BTreeMap;
 use std::marker::Model;
 use std::mem;
 
-/// The width of the terminal.
-const WIDTH: u16 = 80;
+/// The bytes that the lines of the program may take.
+const TEXT_AREA: usize = 8192;
 
-/// A place: a statement of the immediate line, or of a program line, counted from 0.
+/// A place: a unit of the immediate line, or of a program line, counted from 0.
 #[derive(Clone, Copy, Drop)]
 pub enum Place {
     Immediate(usize),
@@ -38,29 +37,9 @@ pub enum Doing {
     /// It reads a line.
     Ready,
     /// It puts a numbered line into its program.
-    Entering(u16, Statements),
-    /// It executes the statement at a place.
+    Entering(NumberedLine),
+    /// It executes the unit at a place.
     Running(Place),
-}
-
-// What a statement asks for.
-#[derive(Drop)]
-enum Request {
-    Show(ByteList),
-    Assign(u8, Dec),
-    Jump(u16),
-    Select(Mode),
-    Run,
-    End,
-    Fail(Code),
-}
-
-// An item of PRINT with its value.
-#[derive(Clone, Copy, Drop)]
-enum Printed {
-    Number(Dec),
-    Zone,
-    Line,
 }
 
 /// How a step ended.
@@ -82,8 +61,8 @@ pub struct Solo {
     column: u16,
     mode: Mode,
     variables: [Dec; 26],
-    lines: Lines,
-    immediate: Statements,
+    text: Text,
+    immediate: Option<Atoms>,
     pending: Option<ByteList>,
     doing: Doing,
 }
@@ -93,153 +72,19 @@ impl Model for Solo {
 
     ghost Value = { SoloState };
 
-    ghost view = { λ s. record { terminal = s.terminal; column = s.column; mode = s.mode; variables = s.variables; lines = s.lines.entries; immediate = s.immediate; pending = s.pending; doing = s.doing } };
-}
-
-// A text of its own.
-fn text_of(alloc: Global, bytes: &[u8]) -> Result<ByteList, NoMemory>
-    ensures { IfOk result (λ text. text ≡ bytes.now) }
-{
-    Ok(ByteList::new(Vec::from_slice(alloc, bytes)?))
-}
-
-// An item of PRINT with its value.
-fn evaluated(
-    alloc: Global,
-    variables: &[Dec],
-    mode: Mode,
-    item: &PrintItem,
-) -> Result<Printed, Fault>
-    ensures { MatchResult result (λ it. item_of variables.now mode item.now ≡ Ok it) (λ fault. Refuses (item_of variables.now mode item.now) fault) }
-{
-    match item {
-        PrintItem::Value(expression) => {
-            let n = value(alloc, variables, mode, expression.operations())?;
-            Ok(Printed::Number(n))
-        }
-        PrintItem::Zone => Ok(Printed::Zone),
-        PrintItem::Line => Ok(Printed::Line),
-    }
-}
-
-// The items of PRINT with their values, or the first code.
-fn evaluated_items(
-    alloc: Global,
-    variables: &[Dec],
-    mode: Mode,
-    items: &[PrintItem],
-) -> Result<Vec<Printed>, Fault>
-    ensures { MatchResult result (λ its. items_of variables.now mode items.now ≡ Ok its.items) (λ fault. Refuses (items_of variables.now mode items.now) fault) }
-{
-    let mut list = Vec::new(alloc);
-    for item in items {
-        let printed = evaluated(alloc, variables, mode, item)?;
-        add_item(&mut list, printed)?;
-    }
-    Ok(list)
-}
-
-fn add_item(list: &mut Vec<Printed>, item: Printed) -> Result<(), NoMemory>
-    ensures { OnOk result (list.new.items ≡ list.old.items ++ item ∷ []) }
-{
-    list.push(item)?;
-    Ok(())
-}
-
-// Lays out one item behind a text, and gives the column after it.
-fn lay_item(alloc: Global, item: Printed, column: u16, out: &mut Vec<u8>) -> Result<u16, NoMemory>
-    ensures text { OnOk result (out.new.items ≡ out.old.items ++ layout 80 column (item_for item ∷ [])) }
-    ensures column { IfOk result (λ after. after ≡ column_after column (layout 80 column (item_for item ∷ []))) }
-{
-    let item = match item {
-        Printed::Number(n) => Item::Number(n),
-        Printed::Zone => Item::Zone,
-        Printed::Line => Item::Line,
-    };
-    lay(alloc, &[item], column, WIDTH, out)
-}
-
-// What items show at a column.
-fn lay_items(alloc: Global, items: &[Printed], column: u16) -> Result<ByteList, NoMemory>
-    ensures { IfOk result (λ text. text ≡ layout 80 column (map item_for items.now)) }
-{
-    let mut text = Vec::new(alloc);
-    let mut at = column;
-    for item in items {
-        at = lay_item(alloc, *item, at, &mut text)?;
-    }
-    Ok(ByteList::new(text))
-}
-
-// A code is shown; want of memory isn't.
-fn failing(fault: Fault) -> Result<Request, NoMemory>
-    ensures { IfOk result (λ request. Fails fault request) }
-{
-    match fault {
-        Fault::Code(code) => Ok(Request::Fail(code)),
-        Fault::NoMemory => Err(NoMemory),
-    }
-}
-
-// What PRINT shows, or the first code.
-fn ask_print(
-    alloc: Global,
-    variables: &[Dec],
-    mode: Mode,
-    column: u16,
-    list: &PrintList,
-) -> Result<Request, NoMemory>
-    ensures { IfOk result (λ request. request ≡ plan variables.now mode column (Statement.Print list.now)) }
-{
-    match evaluated_items(alloc, variables, mode, list.items()) {
-        Ok(items) => Ok(Request::Show(lay_items(alloc, &items, column)?)),
-        Err(fault) => failing(fault),
-    }
-}
-
-// What is assigned, or the first code.
-fn ask_let(
-    alloc: Global,
-    variables: &[Dec],
-    mode: Mode,
-    letter: u8,
-    expression: &Expression,
-) -> Result<Request, NoMemory>
-    ensures { IfOk result (λ request. request ≡ asked (Request.Assign letter) (value_of variables.now mode expression.now)) }
-{
-    match value(alloc, variables, mode, expression.operations()) {
-        Ok(n) => Ok(Request::Assign(letter, n)),
-        Err(fault) => failing(fault),
-    }
-}
-
-// What a statement asks for.
-fn ask(
-    alloc: Global,
-    variables: &[Dec],
-    mode: Mode,
-    column: u16,
-    statement: &Statement,
-) -> Result<Request, NoMemory>
-    ensures { IfOk result (λ request. request ≡ plan variables.now mode column statement.now) }
-{
-    match statement {
-        Statement::Print(list) => ask_print(alloc, variables, mode, column, list),
-        Statement::Let(letter, expression) => ask_let(alloc, variables, mode, *letter, expression),
-        Statement::Goto(n) => Ok(Request::Jump(*n)),
-        Statement::End => Ok(Request::End),
-        Statement::Run => Ok(Request::Run),
-        Statement::Select(chosen) => Ok(Request::Select(*chosen)),
-    }
+    ghost view = { λ s. record { terminal = s.terminal; column = s.column; mode = s.mode; variables = s.variables; text = s.text; immediate = s.immediate; pending = s.pending; doing = s.doing } };
 }
 
 // The line at a place, None where there is none.
-fn line_at<'a>(immediate: &'a Statements, lines: &'a Lines, place: Place) -> Option<&'a Statements>
-    ensures { option_copied result ≡ line_in immediate.now lines.now.entries place }
+fn line_at<'a>(immediate: &'a Option<Atoms>, text: &'a Text, place: Place) -> Option<&'a Atoms>
+    ensures { option_copied result ≡ line_in immediate.now text.now.lines place }
 {
     match place {
-        Place::Immediate(_) => Some(immediate),
-        Place::Program(n, _) => find(lines, n),
+        Place::Immediate(_) => immediate.as_ref(),
+        Place::Program(n, _) => match text.line(n) {
+            Some(line) => Some(line.atoms),
+            None => None,
+        },
     }
 }
 
@@ -252,25 +97,16 @@ fn unit_of(place: Place) -> usize
     }
 }
 
-// Adds an error's line, with the program line where it is in one.
-fn add_error(alloc: Global, code: Code, place: Place, out: &mut Vec<u8>) -> Result<(), NoMemory>
-    ensures { OnOk result (out.new.items ≡ out.old.items ++ error_text code place) }
+// Assigns to letters, from 0 for A, one after another.
+fn assign(variables: &mut [Dec], letters: &[u8], n: Dec)
+    ensures { variables.new ≡ assigned letters.now n variables.old }
 {
-    out.extend_from_slice(b"ERR ")?;
-    out.push(code.class())?;
-    out.push(b'0' + code.number() / 10)?;
-    out.push(b'0' + code.number() % 10)?;
-    if let Place::Program(n, _) = place {
-        out.extend_from_slice(b" AT ")?;
-        let digits = n.to_string(alloc)?;
-        out.extend_from_slice(digits.as_bytes())?;
+    for letter in letters {
+        assign_one(variables, *letter, n);
     }
-    out.push(b'\n')?;
-    Ok(())
 }
 
-// Assigns to a letter, from 0 for A.
-fn assign(variables: &mut [Dec], letter: u8, n: Dec)
+fn assign_one(variables: &mut [Dec], letter: u8, n: Dec)
     ensures { variables.new ≡ set variables.old letter n }
 {
     if usize::from(letter) < variables.len() {
@@ -289,8 +125,8 @@ impl Solo {
             column: 0,
             mode: Mode::Round,
             variables: [Dec::zero(); 26],
-            lines: BTreeMap::new(alloc),
-            immediate: Statements::new(Vec::new(alloc)),
+            text: Text::new(alloc, TEXT_AREA)?,
+            immediate: None,
             pending: Some(text_of(alloc, b"READY\n:")?),
             doing: Doing::Ready,
         })
@@ -347,7 +183,7 @@ impl Solo {
         self.stop(&line)
     }
 
-    // To the first statement of a line, or to the end of the program.
+    // To the first unit of a line, or to the end of the program.
     fn go_to_line(&mut self, n: Option<u16>) -> Result<StepEnd, NoMemory>
         ensures { IfOk result (λ how. record { after = self.new; end = how } ≡ to_line n self.old) }
     {
@@ -357,7 +193,7 @@ impl Solo {
         }
     }
 
-    // To the place behind a statement, in a line of so many.
+    // To the place behind a unit, in a line of so many.
     fn go_on(&mut self, place: Place, size: usize) -> Result<StepEnd, NoMemory>
         requires { unit_of place < size }
         ensures { IfOk result (λ how. record { after = self.new; end = how } ≡ goes_on place size self.old) }
@@ -373,13 +209,31 @@ impl Solo {
                 if unit + 1 < size {
                     return Ok(self.go_to(Place::Program(n, unit + 1)));
                 }
-                let line = next(&self.lines, n);
+                let line = self.text.next_after(Some(n));
                 self.go_to_line(line)
             }
         }
     }
 
-    // Does what was asked for, by the statement at a place in a line of so many.
+    // All variables are zero again.
+    fn forget(&mut self)
+        ensures { self.new ≡ record self.old { variables = no_values } }
+    {
+        let no_values = [Dec::zero(); 26];
+        self.variables = no_values;
+    }
+
+    // To a line that a unit at a place names.
+    fn jump(&mut self, n: u16, place: Place) -> Result<StepEnd, NoMemory>
+        ensures { IfOk result (λ how. record { after = self.new; end = how } ≡ does (Request.Jump n) place 0 self.old) }
+    {
+        if self.text.line(n).is_none() {
+            return self.fail(Code::known(P36_NO_LINE), place);
+        }
+        Ok(self.go_to(Place::Program(n, 0)))
+    }
+
+    // Does what was asked for, by the unit at a place in a line of so many.
     fn carry_out(
         &mut self,
         request: Request,
@@ -394,67 +248,121 @@ impl Solo {
                 self.show(text.bytes())?;
                 self.go_on(place, size)
             }
-            Request::Assign(letter, n) => {
-                assign(&mut self.variables, letter, n);
+            Request::Assign(letters, n) => {
+                assign(&mut self.variables, letters.bytes(), n);
                 self.go_on(place, size)
             }
-            Request::Jump(n) => {
-                if find(&self.lines, n).is_none() {
-                    return self.fail(Code::known(P36_NO_LINE), place);
-                }
-                Ok(self.go_to(Place::Program(n, 0)))
-            }
+            Request::Jump(n) => self.jump(n, place),
             Request::Select(mode) => {
                 self.mode = mode;
                 self.go_on(place, size)
             }
+            Request::Nothing => self.go_on(place, size),
             Request::End => self.stop(b""),
             Request::Run => {
-                let no_values = [Dec::zero(); 26];
-                self.variables = no_values;
-                let line = first(&self.lines);
+                self.forget();
+                let line = self.text.next_after(None);
                 self.go_to_line(line)
+            }
+            Request::List(from, to) => {
+                let text = listed(self.alloc, &self.text, from, to)?;
+                self.show(text.bytes())?;
+                self.go_on(place, size)
+            }
+            Request::Clear => {
+                self.text.clear();
+                self.forget();
+                self.stop(b"READY\n")
+            }
+            Request::ClearProgram(from, to) => {
+                self.text.delete(from, to);
+                self.stop(b"")
             }
             Request::Fail(code) => self.fail(code, place),
         }
     }
 
-    // Executes the statement at a place.
+    // Executes the unit at a place.
     fn perform(&mut self, place: Place) -> Result<StepEnd, NoMemory>
         ensures { IfOk result (λ how. record { after = self.new; end = how } ≡ performs_in (line_of place self.old) place self.old) }
     {
-        let Some(line) = line_at(&self.immediate, &self.lines, place) else {
+        let Some(line) = line_at(&self.immediate, &self.text, place) else {
             return self.stop(b"");
         };
-        let line = line.list();
-        let size = line.len();
-        let Some(statement) = line.get(unit_of(place)) else {
+        let size = line.units();
+        let Some(unit) = line.unit(unit_of(place)) else {
             return self.stop(b"");
         };
-        let request = ask(
-            self.alloc,
-            &self.variables,
-            self.mode,
-            self.column,
-            statement,
-        )?;
+        let request = ask(self.alloc, &self.variables, self.mode, self.column, unit)?;
         self.carry_out(request, place, size)
     }
 
     // Takes what a typed line says.
-    fn enter(&mut self, entry: Entry) -> Result<(), NoMemory>
-        ensures { OnOk result (self.new ≡ enters entry self.old) }
+    fn enter(&mut self, entered: Entered) -> Result<(), NoMemory>
+        requires { syntax.IsNumbered entered }
+        ensures { OnOk result (self.new ≡ enters entered self.old) }
     {
-        match entry {
-            Entry::Empty => self.pending = Some(text_of(self.alloc, b":")?),
-            Entry::Immediate(statements) => {
-                self.immediate = statements;
+        match entered {
+            Entered::Empty => self.accept()?,
+            Entered::Delete(n) => self.doing = Doing::Entering(NumberedLine::new(n, None)),
+            Entered::Numbered(n, atoms) => {
+                self.doing = Doing::Entering(NumberedLine::new(n, Some(atoms)));
+            }
+            Entered::Immediate(atoms) => {
+                self.immediate = Some(atoms);
                 self.doing = Doing::Running(Place::Immediate(0));
             }
-            Entry::Numbered(n, statements) => self.doing = Doing::Entering(n, statements),
-            Entry::Wrong => self.pending = Some(text_of(self.alloc, b"ERR S14 COL 1\n:")?),
         }
         Ok(())
+    }
+
+    // `:` is to be shown.
+    fn accept(&mut self) -> Result<(), NoMemory>
+        ensures { OnOk result (self.new ≡ record self.old { pending = Some (58 ∷ []) }) }
+    {
+        self.pending = Some(text_of(self.alloc, b":")?);
+        Ok(())
+    }
+
+    // Why a typed line isn't taken is to be shown.
+    fn refuse(&mut self, code: Code, column: usize) -> Result<(), NoMemory>
+        ensures { OnOk result (self.new ≡ refuses code column self.old) }
+    {
+        let mut text = Vec::new(self.alloc);
+        add_refusal(self.alloc, code, column, &mut text)?;
+        text.push(b':')?;
+        self.pending = Some(ByteList::new(text));
+        Ok(())
+    }
+
+    // The same, where memory didn't fail.
+    fn refuse_line(&mut self, error: LineErr) -> Result<(), NoMemory>
+        ensures { OnOk result ((error ≢ LineErr.NoMemory) × (self.new ≡ takes (Err error) self.old)) }
+    {
+        match error {
+            LineErr::At(code, column) => self.refuse(code, column),
+            LineErr::NoMemory => Err(NoMemory),
+        }
+    }
+
+    // The same of a line that isn't put.
+    fn refuse_put(&mut self, fault: Fault) -> Result<(), NoMemory>
+        ensures { OnOk result ((fault ≢ Fault.NoMemory) × (self.new ≡ refuses_by fault self.old)) }
+    {
+        match fault {
+            Fault::Code(code) => self.refuse(code, 0),
+            Fault::NoMemory => Err(NoMemory),
+        }
+    }
+
+    // Takes a typed line.
+    fn take(&mut self, line: &[u8]) -> Result<(), NoMemory>
+        ensures { OnOk result (self.new ≡ takes (syntax.reads line.now) self.old) }
+    {
+        match read(self.alloc, line) {
+            Ok(entered) => self.enter(entered),
+            Err(error) => self.refuse_line(error),
+        }
     }
 
     // Reads a line from the terminal.
@@ -464,8 +372,7 @@ impl Solo {
         match self.terminal.read_line()? {
             Read::Line(line) => {
                 self.column = 0;
-                let entry = read_entry(self.alloc, line.bytes())?;
-                self.enter(entry)?;
+                self.take(line.bytes())?;
                 Ok(StepEnd::GoesOn)
             }
             Read::Special(_) => Ok(StepEnd::GoesOn),
@@ -473,12 +380,29 @@ impl Solo {
         }
     }
 
-    // Puts a numbered line into the program.
-    fn put_in(&mut self, n: u16, line: Statements) -> Result<StepEnd, NoMemory>
-        ensures { IfOk result (λ how. record { after = self.new; end = how } ≡ acts (Doing.Entering n line) self.old) }
+    // Puts a line into the program where its area has room.
+    fn put(&mut self, n: u16, atoms: &Atoms) -> Result<(), NoMemory>
+        requires { n ≤ 9999 }
+        ensures { OnOk result (self.new ≡ puts n (Some atoms.now) self.old) }
     {
-        put(&mut self.lines, n, line)?;
-        self.pending = Some(text_of(self.alloc, b":")?);
+        match self.text.put(n, atoms) {
+            Ok(()) => self.accept(),
+            Err(fault) => self.refuse_put(fault),
+        }
+    }
+
+    // Puts a numbered line into the program, or deletes the line of its number.
+    fn put_in(&mut self, line: NumberedLine) -> Result<StepEnd, NoMemory>
+        ensures { IfOk result (λ how. record { after = self.new; end = how } ≡ acts (Doing.Entering line) self.old) }
+    {
+        let number = line.number();
+        match line.atoms() {
+            Some(atoms) => self.put(number, atoms)?,
+            None => {
+                self.text.delete(number, number);
+                self.accept()?;
+            }
+        }
         self.doing = Doing::Ready;
         Ok(StepEnd::GoesOn)
     }
@@ -489,7 +413,7 @@ impl Solo {
     {
         match mem::replace(&mut self.doing, Doing::Ready) {
             Doing::Ready => self.read(),
-            Doing::Entering(n, line) => self.put_in(n, line),
+            Doing::Entering(line) => self.put_in(line),
             Doing::Running(place) => self.perform(place),
         }
     }

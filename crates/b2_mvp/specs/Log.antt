@@ -2,7 +2,7 @@
 use Rattle.std.specs.Prelude.{◌≡◌, ℕ, ◌+◌, ◌-◌, ◌*◌, ◌≤◌, min, ◌&&◌, ◌||◌, not, ◌==◌, nat_lt, nat_eq, List, [], ◌∷◌, ◌++◌, length, take, get_or, codes, Option, Some, None, unwrap_or, if◌then◌else◌}
 use Rattle.std.specs.List.{list_all}
 use Rattle.std.specs.Cmp.Lexicographic.{pointwise}
-use Rattle.b2_base.specs.Names.{is_printable, is_digit}
+use Rattle.b2_base.specs.Names.{is_printable, is_digit, is_hex_digit}
 use Rattle.b2_base.specs.Pieces.{pieces, before, after}
 use Rattle.b2_mvp.specs.declared.log.Event.{Event}
 use Rattle.b2_mvp.specs.declared.log.Event.TheVariants as event
@@ -40,16 +40,38 @@ abbrev pub number_of : List ℕ → Option ℕ
 number_of [] = None
 number_of (b ∷ bs) = if (b == 48) && not (length bs == 0) then None else number_from 0 (b ∷ bs)
 
--- a terminal, of which only the first is there, and what is typed at it, which may be nothing
-abbrev pub type_at : Option ℕ → Option (List ℕ) → LineRead
-type_at None text = Fails 3
-type_at (Some t) text =
-    if nat_lt t 1 || nat_lt 12 t then Fails 4
-    else (if t == 1 then Reads (event.Type (unwrap_or text [])) else Fails 5)
+-- the check that a terminal's number fails, None for the first, which alone is there
+abbrev pub terminal_check : Option ℕ → Option ℕ
+terminal_check None = Some 3
+terminal_check (Some t) = if nat_lt t 1 || nat_lt 12 t then Some 4 else (if t == 1 then None else Some 5)
 
-abbrev pub type_args : Option (List ℕ) → LineRead
-type_args None = Fails 3
-type_args (Some args) = type_at (number_of (before 32 args)) (after 32 args)
+-- keys at a terminal
+abbrev pub keys_at : Option ℕ → List ℕ → LineRead
+keys_at None keys = Reads (event.Keys keys)
+keys_at (Some check) keys = Fails check
+
+-- a terminal and a text, which may be nothing, with what is typed behind it
+abbrev pub text_args : List ℕ → Option (List ℕ) → LineRead
+text_args end None = Fails 3
+text_args end (Some args) = keys_at (terminal_check (number_of (before 32 args))) (unwrap_or (after 32 args) [] ++ end)
+
+-- an upper hexadecimal digit
+abbrev pub hex_value : ℕ → ℕ
+hex_value b = if is_digit b then b - 48 else b - 55
+
+-- a byte as two of them
+abbrev pub byte_of : Option (List ℕ) → Option ℕ
+byte_of (Some (h ∷ l ∷ [])) = if is_hex_digit h && is_hex_digit l then Some (hex_value h * 16 + hex_value l) else None
+byte_of word = None
+
+abbrev pub key_at : Option ℕ → Option ℕ → LineRead
+key_at check None = Fails 3
+key_at check (Some b) = keys_at check (b ∷ [])
+
+-- a terminal and a byte
+abbrev pub key_args : Option (List ℕ) → LineRead
+key_args None = Fails 3
+key_args (Some args) = key_at (terminal_check (number_of (before 32 args))) (byte_of (after 32 args))
 
 -- each round grants twenty steps, and a log five million in all
 abbrev pub rounds_of : ℕ → Option ℕ → LineRead
@@ -62,11 +84,13 @@ abbrev pub rounds_args : ℕ → Option (List ℕ) → LineRead
 rounds_args granted None = Fails 3
 rounds_args granted (Some args) = rounds_of granted (number_of args)
 
--- an event by its first word
+-- an event by its first word; `type` types a text and RETURN
 abbrev pub event_by : ℕ → List ℕ → Option (List ℕ) → LineRead
 event_by granted word args =
-    if pointwise nat_eq word (codes "type") then type_args args
-    else (if pointwise nat_eq word (codes "rounds") then rounds_args granted args else Fails 2)
+    if pointwise nat_eq word (codes "type") then text_args (13 ∷ []) args
+    else (if pointwise nat_eq word (codes "keys") then text_args [] args
+    else (if pointwise nat_eq word (codes "key") then key_args args
+    else (if pointwise nat_eq word (codes "rounds") then rounds_args granted args else Fails 2)))
 
 abbrev pub event_of : ℕ → List ℕ → LineRead
 event_of granted line = event_by granted (before 32 line) (after 32 line)
@@ -82,7 +106,7 @@ line_read granted line = if list_all is_printable line then line_by granted line
 
 -- the steps that an event grants
 abbrev pub grants : Event → ℕ
-grants (event.Type text) = 0
+grants (event.Keys keys) = 0
 grants (event.Rounds n) = 20 * n
 
 -- the bound on granted steps is kept

@@ -31,7 +31,7 @@ rounds zero w = w
 rounds (suc n) w = round (rounds n w)
 
 abbrev pub happened : Event → World → World
-happened (event.Type text) w = key_typed 13 (keys_typed text w)
+happened (event.Keys keys) w = keys_typed keys w
 happened (event.Rounds n) w = rounds n w
 
 -- the fold of the events

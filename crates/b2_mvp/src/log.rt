@@ -1,9 +1,9 @@
 // The log: lines of events.
-ghost use Rattle.std.specs.Prelude.{◌≡◌, ◌≤◌, ◌<◌, ◌^◌, ◌∷◌, IfOk, IfSome, Some, min, length, ◌+◌};
+ghost use Rattle.std.specs.Prelude.{◌≡◌, ◌≤◌, ◌<◌, ◌^◌, ◌∷◌, IfOk, IfSome, Some, min, length, ◌+◌, true};
 ghost use Rattle.std.specs.List.{list_all};
 ghost use Rattle.std.specs.Option.{option_copied};
-ghost use Rattle.b2_base.specs.Names.{is_printable};
-ghost use Rattle.b2_mvp.specs.Log.{lines_of, lines_after, number_of, number_from, type_args, rounds_args, event_of, line_read, grants, GrantsWithin, GrantsNothing, without_return, log_of};
+ghost use Rattle.b2_base.specs.Names.{is_printable, is_hex_digit};
+ghost use Rattle.b2_mvp.specs.Log.{lines_of, lines_after, number_of, number_from, terminal_check, text_args, hex_value, byte_of, key_args, rounds_args, event_of, line_read, grants, GrantsWithin, GrantsNothing, without_return, log_of};
 
 use b2_base::{ByteList, NoMemory, cut};
 use std::alloc::Global;
@@ -12,8 +12,8 @@ use std::marker::Model;
 /// What happens.
 #[derive(Drop)]
 pub enum Event {
-    /// Keys at terminal 1, and then RETURN.
-    Type(ByteList),
+    /// Keys at terminal 1.
+    Keys(ByteList),
     /// Turns of the partition with the built-in quota.
     Rounds(u32),
 }
@@ -83,26 +83,81 @@ fn read_number(word: &[u8]) -> Option<u32>
     Some(n)
 }
 
-// A terminal and what is typed at it.
-fn read_type(alloc: Global, args: Option<&[u8]>) -> Result<LineRead, NoMemory>
-    ensures value { IfOk result (λ line. line ≡ type_args (option_copied args.entry)) }
+// The check that a terminal's number fails, None for the one that is there.
+fn terminal_check(word: &[u8]) -> Option<u8>
+    ensures { result ≡ terminal_check (number_of word.now) }
+{
+    let Some(terminal) = read_number(word) else {
+        return Some(3);
+    };
+    if terminal < 1 || terminal > 12 {
+        return Some(4);
+    }
+    if terminal == 1 { None } else { Some(5) }
+}
+
+// A terminal and a text, with what is typed behind it.
+fn read_text(alloc: Global, args: Option<&[u8]>, end: &[u8]) -> Result<LineRead, NoMemory>
+    ensures value { IfOk result (λ line. line ≡ text_args end.now (option_copied args.entry)) }
     ensures grants { IfOk result (λ line. GrantsNothing line) }
 {
     let Some(args) = args else {
         return Ok(LineRead::Fails(3));
     };
     let (word, text) = cut(args, b' ');
-    let Some(terminal) = read_number(word) else {
+    if let Some(check) = terminal_check(word) {
+        return Ok(LineRead::Fails(check));
+    }
+    let mut keys = Vec::from_slice(alloc, text.unwrap_or(b""))?;
+    keys.extend_from_slice(end)?;
+    Ok(LineRead::Reads(Event::Keys(ByteList::new(keys))))
+}
+
+fn hex_value(b: u8) -> u8
+    requires { is_hex_digit b ≡ true }
+    ensures value { result ≡ hex_value b }
+    ensures small { result ≤ 15 }
+{
+    if b.is_ascii_digit() { b - b'0' } else { b - 55 }
+}
+
+fn is_hex_digit(b: u8) -> bool
+    ensures { result ≡ is_hex_digit b }
+{
+    (b >= b'0' && b <= b'9') || (b >= b'A' && b <= b'F')
+}
+
+// A byte as two upper hexadecimal digits.
+fn read_byte(word: Option<&[u8]>) -> Option<u8>
+    ensures { result ≡ byte_of (option_copied word.entry) }
+{
+    let Some([high, low]) = word else {
+        return None;
+    };
+    if is_hex_digit(*high) && is_hex_digit(*low) {
+        Some(hex_value(*high) * 16 + hex_value(*low))
+    } else {
+        None
+    }
+}
+
+// A terminal and a byte.
+fn read_key(alloc: Global, args: Option<&[u8]>) -> Result<LineRead, NoMemory>
+    ensures value { IfOk result (λ line. line ≡ key_args (option_copied args.entry)) }
+    ensures grants { IfOk result (λ line. GrantsNothing line) }
+{
+    let Some(args) = args else {
         return Ok(LineRead::Fails(3));
     };
-    if terminal < 1 || terminal > 12 {
-        return Ok(LineRead::Fails(4));
+    let (word, digits) = cut(args, b' ');
+    let Some(byte) = read_byte(digits) else {
+        return Ok(LineRead::Fails(3));
+    };
+    if let Some(check) = terminal_check(word) {
+        return Ok(LineRead::Fails(check));
     }
-    if terminal != 1 {
-        return Ok(LineRead::Fails(5));
-    }
-    let typed = Vec::from_slice(alloc, text.unwrap_or(b""))?;
-    Ok(LineRead::Reads(Event::Type(ByteList::new(typed))))
+    let keys = Vec::from_slice(alloc, &[byte])?;
+    Ok(LineRead::Reads(Event::Keys(ByteList::new(keys))))
 }
 
 fn read_rounds(granted: u32, args: Option<&[u8]>) -> LineRead
@@ -139,7 +194,13 @@ fn read_event(alloc: Global, granted: u32, line: &[u8]) -> Result<LineRead, NoMe
 {
     let (word, args) = cut(line, b' ');
     if word == b"type".as_slice() {
-        return read_type(alloc, args);
+        return read_text(alloc, args, b"\r");
+    }
+    if word == b"keys".as_slice() {
+        return read_text(alloc, args, b"");
+    }
+    if word == b"key".as_slice() {
+        return read_key(alloc, args);
     }
     if word == b"rounds".as_slice() {
         return Ok(read_rounds(granted, args));
@@ -190,7 +251,7 @@ fn steps_granted(event: &Event) -> u32
     ensures { result ≡ grants event.now }
 {
     match event {
-        Event::Type(_) => 0,
+        Event::Keys(_) => 0,
         Event::Rounds(n) => 20 * *n,
     }
 }

@@ -72,9 +72,8 @@ fn happen(world: &mut World, what: &Event) -> Result<(), NoMemory>
     ensures { OnOk result (world.new ≡ happened what.now world.old) }
 {
     match what {
-        Event::Type(text) => {
-            type_keys(world, text.bytes());
-            type_key(world, 13);
+        Event::Keys(keys) => {
+            type_keys(world, keys.bytes());
             Ok(())
         }
         Event::Rounds(n) => take_turns(world, *n),

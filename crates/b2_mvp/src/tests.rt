@@ -11,7 +11,7 @@ struct Row {
     summary: &'static [u8],
 }
 
-const ROWS: [Row; 9] = [
+const ROWS: [Row; 17] = [
     Row {
         log: b"type 1 PRINT 2+2\nrounds 5\n",
         transcript: b"READY\n:PRINT 2+2\n 4 \n:",
@@ -29,8 +29,48 @@ const ROWS: [Row; 9] = [
     },
     Row {
         log: b"type 1 STOP\nrounds 5",
-        transcript: b"READY\n:STOP\nERR S14 COL 1\n:",
-        summary: b"turns 5 steps 3 dropped 0\n",
+        transcript: b"READY\n:STOP\nERR S27\n:",
+        summary: b"turns 5 steps 4 dropped 0\n",
+    },
+    Row {
+        log: b"type 1 PRINT 1/3\ntype 1 PRINT -2/3\ntype 1 PRINT 1E13\ntype 1 PRINT .05\ntype 1 PRINT 9999999999999+.5\ntype 1 SELECT NO ROUND\ntype 1 PRINT 9999999999999+.5\nrounds 20\n",
+        transcript: b"READY\n:PRINT 1/3\n .3333333333333 \n:PRINT -2/3\n-.6666666666667 \n:PRINT 1E13\n 1.00000000E+13 \n:PRINT .05\n 5.00000000E-02 \n:PRINT 9999999999999+.5\n 1.00000000E+13 \n:SELECT NO ROUND\n:PRINT 9999999999999+.5\n 9999999999999 \n:",
+        summary: b"turns 20 steps 22 dropped 0\n",
+    },
+    Row {
+        log: b"type 1 PRINT 0/0\ntype 1 PRINT 1/0\ntype 1 PRINT 9E99*10\ntype 1 PRINT 1E-99/10\nrounds 20\n",
+        transcript: b"READY\n:PRINT 0/0\nERR C63\n:PRINT 1/0\nERR C62\n:PRINT 9E99*10\nERR C61\n:PRINT 1E-99/10\nERR C60\n:",
+        summary: b"turns 20 steps 13 dropped 0\n",
+    },
+    Row {
+        log: b"keys 1 AAAAAAAAAABBBBBBBBBBCCCCCCCCCCDDDDDDDDDDEEEEEEEEEEFFFFFFFFFFABCDE\nkeys 1 AAAAAAAAAABBBBBBBBBBCCCCCCCCCCDDDDDDDDDDEEEEEEEEEEFFFFFFFFFFABCDE\nrounds 2\n",
+        transcript: b"READY\n:AAAAAAAAAABBBBBBBBBBCCCCCCCCCCDDDDDDDDDDEEEEEEEEEEFFFFFFFFFFABCDEAAAAAAAAAABBBBBBBBBBCCCCCCCCCCDDDDDDDDDDEEEEEEEEEEFFFFFFFFFFABC",
+        summary: b"turns 2 steps 1 dropped 2\n",
+    },
+    Row {
+        log: b"keys 1 PRINT 78\nkey 1 08\nkey 1 39\nkey 1 0D\nrounds 9\n",
+        transcript: b"READY\n:PRINT 78\x08 \x089\n 79 \n:",
+        summary: b"turns 9 steps 4 dropped 0\n",
+    },
+    Row {
+        log: b"keys 1\nkeys 1 \nkey 1 0D\nrounds 1\n",
+        transcript: b"READY\n:\n:",
+        summary: b"turns 1 steps 3 dropped 0\n",
+    },
+    Row {
+        log: b"type 1 10   for i=1to3:print i;:nexti\ntype 1 LIST\ntype 1 PRINT SIN(1)\ntype 1 10 GOTO\nrounds 9\n",
+        transcript: b"READY\n:10   for i=1to3:print i;:nexti\n:LIST\n10 FOR I=1 TO 3:PRINT I;:NEXT I\n:PRINT SIN(1)\nERR S27 COL 7\n:10 GOTO\nERR S15 COL 8\n:",
+        summary: b"turns 9 steps 11 dropped 0\n",
+    },
+    Row {
+        log: b"type 1 10 PRINT 1\ntype 1 10\ntype 1 LIST\nrounds 9\n",
+        transcript: b"READY\n:10 PRINT 1\n:10\n:LIST\n:",
+        summary: b"turns 9 steps 10 dropped 0\n",
+    },
+    Row {
+        log: b"type 1 30 END\ntype 1 10 REM ok\ntype 1 20 PRINT 4;:GOTO 30\ntype 1 LIST 10,20\ntype 1 RUN\ntype 1 CLEAR\ntype 1 LIST\nrounds 20\n",
+        transcript: b"READY\n:30 END\n:10 REM ok\n:20 PRINT 4;:GOTO 30\n:LIST 10,20\n10 REM ok\n20 PRINT 4;:GOTO 30\n:RUN\n 4 \n:CLEAR\nREADY\n:LIST\n:",
+        summary: b"turns 20 steps 26 dropped 0\n",
     },
     Row {
         log: b"type 1 SELECT NO ROUND\ntype 1 PRINT 1/3;-2/3,1E13;.05\nrounds 9\n",
@@ -60,7 +100,7 @@ const ROWS: [Row; 9] = [
 ];
 
 // A log that is refused, its first line that fails, and the first check of it.
-const BAD_LOGS: [(&[u8], &[u8]); 17] = [
+const BAD_LOGS: [(&[u8], &[u8]); 27] = [
     (b"rounds 1\njump 1\n", b"bad log 2 2"),
     (b"type 1 A\tB", b"bad log 1 1"),
     (b"#\x01", b"bad log 1 1"),
@@ -72,6 +112,16 @@ const BAD_LOGS: [(&[u8], &[u8]); 17] = [
     (b"type 13 A", b"bad log 1 4"),
     (b"type 0 A", b"bad log 1 4"),
     (b"type 2 A", b"bad log 1 5"),
+    (b"keys", b"bad log 1 3"),
+    (b"keys 3 A", b"bad log 1 5"),
+    (b"key 1", b"bad log 1 3"),
+    (b"key 1 0", b"bad log 1 3"),
+    (b"key 1 0d", b"bad log 1 3"),
+    (b"key 1 0D ", b"bad log 1 3"),
+    (b"key 1 0DD", b"bad log 1 3"),
+    (b"key 13 0G", b"bad log 1 3"),
+    (b"key 13 0D", b"bad log 1 4"),
+    (b"key 2 FF", b"bad log 1 5"),
     (b"rounds", b"bad log 1 3"),
     (b"rounds 1 ", b"bad log 1 3"),
     (b"rounds 0", b"bad log 1 4"),
@@ -131,6 +181,169 @@ fn runs_write_a_transcript_and_a_summary(rt: HostRuntime) -> Result<(), Fail> {
         assert_eq!(rt; shelf.file(b"out.t01").unwrap_or(b"none"), row.transcript);
         assert_eq!(rt; sink.written(), row.summary);
     }
+    Ok(())
+}
+
+// A typed line, of a text and so many copies of a part, and what is shown for it.
+struct Long {
+    start: &'static [u8],
+    part: &'static [u8],
+    times: usize,
+    shown: &'static [u8],
+}
+
+// Lines of up to 255 atom bytes, and one that is longer.
+const LONG_LINES: [Long; 4] = [
+    Long {
+        start: b"10 REM",
+        part: b"A",
+        times: 250,
+        shown: b":",
+    },
+    Long {
+        start: b"20 ON A GOTO 1",
+        part: b",1",
+        times: 62,
+        shown: b":",
+    },
+    Long {
+        start: b"30 ON A GOTO 1",
+        part: b",1",
+        times: 63,
+        shown: b"ERR A05\n:",
+    },
+    Long {
+        start: b"LIST 30",
+        part: b"",
+        times: 0,
+        shown: b":",
+    },
+];
+
+// Behind 31 lines of 256 bytes each in an area of 8192.
+const LAST_LINES: [Long; 6] = [
+    Long {
+        start: b"32REM",
+        part: b"A",
+        times: 251,
+        shown: b"ERR A01\n:",
+    },
+    Long {
+        start: b"32REM",
+        part: b"A",
+        times: 250,
+        shown: b":",
+    },
+    Long {
+        start: b"33REM",
+        part: b"",
+        times: 0,
+        shown: b"ERR A01\n:",
+    },
+    Long {
+        start: b"32REM",
+        part: b"B",
+        times: 251,
+        shown: b"ERR A01\n:",
+    },
+    Long {
+        start: b"31",
+        part: b"",
+        times: 0,
+        shown: b":",
+    },
+    Long {
+        start: b"33REM",
+        part: b"A",
+        times: 250,
+        shown: b":",
+    },
+];
+
+// A line of 256 bytes, behind its number.
+const FULL: Long = Long {
+    start: b"REM",
+    part: b"A",
+    times: 250,
+    shown: b":",
+};
+
+// A long line is typed in pieces, and shown.
+fn add_long(
+    alloc: Global,
+    log: &mut Vec<u8>,
+    transcript: &mut Vec<u8>,
+    long: &Long,
+) -> Result<(), AllocError> {
+    add_line(alloc, log, transcript, b"", long)
+}
+
+// The same, behind a number.
+fn add_line(
+    alloc: Global,
+    log: &mut Vec<u8>,
+    transcript: &mut Vec<u8>,
+    number: &[u8],
+    long: &Long,
+) -> Result<(), AllocError> {
+    let mut line = Vec::from_slice(alloc, number)?;
+    line.extend_from_slice(long.start)?;
+    for _ in 0..long.times {
+        line.extend_from_slice(long.part)?;
+    }
+    transcript.extend_from_slice(&line)?;
+    transcript.push(b'\n')?;
+    transcript.extend_from_slice(long.shown)?;
+    let half = line.len() / 2;
+    for (i, byte) in line.iter().enumerate() {
+        if i == 0 || i == half {
+            log.extend_from_slice(b"\nrounds 1\nkeys 1 ")?;
+        }
+        log.push(*byte)?;
+    }
+    log.extend_from_slice(b"\nrounds 1\nkey 1 0D\nrounds 2")?;
+    Ok(())
+}
+
+#[test]
+fn long_lines_are_read_to_the_limit(rt: HostRuntime) -> Result<(), Fail> {
+    let alloc = rt.alloc();
+    let mut log = Vec::new(alloc);
+    let mut transcript = Vec::from_slice(alloc, b"READY\n:")?;
+    for long in &LONG_LINES {
+        add_long(alloc, &mut log, &mut transcript, long)?;
+    }
+    let mut shelf = shelf(alloc, Some(&log), &[])?;
+    let mut sink = MemSink::new(alloc, Vec::new(alloc));
+    let words = words(alloc, &[b"run", b"log", b"out"])?;
+    assert_eq!(rt; mvp(alloc, &words, &mut shelf, &mut sink).number(), 0);
+    assert_eq!(rt;
+        shelf.file(b"out.t01").unwrap_or(b"none"),
+        transcript.as_slice()
+    );
+    Ok(())
+}
+
+#[test]
+fn the_area_is_filled_to_the_byte(rt: HostRuntime) -> Result<(), Fail> {
+    let alloc = rt.alloc();
+    let mut log = Vec::new(alloc);
+    let mut transcript = Vec::from_slice(alloc, b"READY\n:")?;
+    for number in 1..=31u8 {
+        let start = [b'0' + number / 10, b'0' + number % 10];
+        add_line(alloc, &mut log, &mut transcript, &start, &FULL)?;
+    }
+    for long in &LAST_LINES {
+        add_long(alloc, &mut log, &mut transcript, long)?;
+    }
+    let mut shelf = shelf(alloc, Some(&log), &[])?;
+    let mut sink = MemSink::new(alloc, Vec::new(alloc));
+    let words = words(alloc, &[b"run", b"log", b"out"])?;
+    assert_eq!(rt; mvp(alloc, &words, &mut shelf, &mut sink).number(), 0);
+    assert_eq!(rt;
+        shelf.file(b"out.t01").unwrap_or(b"none"),
+        transcript.as_slice()
+    );
     Ok(())
 }
 

@@ -1,5 +1,5 @@
 -- What a typed line means: nothing, a deletion, a line of a program or an immediate line, or what is missing where.
-use Rattle.std.specs.Prelude.{ℕ, zero, suc, ◌+◌, ◌-◌, ◌*◌, ◌&&◌, ◌==◌, nat_le, nat_lt, min, Bool, true, false, List, [], ◌∷◌, length, if◌then◌else◌, Result, Ok, Err}
+use Rattle.std.specs.Prelude.{◌≤◌, ℕ, zero, suc, ◌+◌, ◌-◌, ◌*◌, ◌&&◌, ◌==◌, nat_le, nat_lt, min, Bool, true, false, List, [], ◌∷◌, length, if◌then◌else◌, Result, Ok, Err}
 use Rattle.b2_atom.specs.Words.{Text}
 use Rattle.b2_atom.specs.Lines.{line_atoms}
 use Rattle.b2_atom.specs.declared.words.Origin.{Origin}
@@ -48,6 +48,13 @@ fitted (Ok a) n = if nat_lt 255 (length a) then Err (At 5 0) else Ok a
 
 abbrev pub atoms : Origin → Text → ℕ → Result Text LineErr
 atoms o rest n = fitted (line_atoms o rest) n
+
+-- the number of a line is at most 9999
+abbrev pub IsNumbered : Entered → Type 0
+IsNumbered Empty = Unit {0}
+IsNumbered (Delete n) = n ≤ 9999
+IsNumbered (Numbered n a) = n ≤ 9999
+IsNumbered (Immediate a) = Unit {0}
 
 abbrev pub with_atoms : (Text → Entered) → Result Text LineErr → Result Entered LineErr
 with_atoms f (Ok a) = Ok (f a)

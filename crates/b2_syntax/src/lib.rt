@@ -6,7 +6,7 @@
 //! is `reads` in `specs/Reading.antt`.
 #![tactic(auto)]
 
-ghost use Rattle.std.specs.Prelude.{◌≡◌, ◌≢◌, ◌≤◌, ◌<◌, ◌^◌, length, MatchResult};
+ghost use Rattle.std.specs.Prelude.{◌≡◌, ◌≢◌, ◌≤◌, ◌<◌, ◌^◌, length, MatchResult, IfOk};
 ghost use Rattle.b2_atom.specs.Lines.{IsKnown};
 ghost use Rattle.b2_syntax.specs.Reading as spec;
 
@@ -140,7 +140,8 @@ fn atoms(alloc: Global, origin: Origin, rest: &[u8], length: usize) -> Result<At
 
 // A line of a program, behind its number.
 fn numbered(alloc: Global, line: &[u8], own: &[u8]) -> Result<Entered, LineErr>
-    ensures { MatchResult result (λ e. spec.numbered (length line.now) own.now ≡ Ok e) (λ e. e ≢ LineErr.NoMemory → spec.numbered (length line.now) own.now ≡ Err e) }
+    ensures value { MatchResult result (λ e. spec.numbered (length line.now) own.now ≡ Ok e) (λ e. e ≢ LineErr.NoMemory → spec.numbered (length line.now) own.now ≡ Err e) }
+    ensures number { IfOk result spec.IsNumbered }
 {
     let number = number(own);
     if number > 9999 {
@@ -158,7 +159,8 @@ fn numbered(alloc: Global, line: &[u8], own: &[u8]) -> Result<Entered, LineErr>
 
 // An immediate line.
 fn immediate(alloc: Global, line: &[u8], rest: &[u8]) -> Result<Entered, LineErr>
-    ensures { MatchResult result (λ e. spec.immediate (length line.now) rest.now ≡ Ok e) (λ e. e ≢ LineErr.NoMemory → spec.immediate (length line.now) rest.now ≡ Err e) }
+    ensures value { MatchResult result (λ e. spec.immediate (length line.now) rest.now ≡ Ok e) (λ e. e ≢ LineErr.NoMemory → spec.immediate (length line.now) rest.now ≡ Err e) }
+    ensures number { IfOk result spec.IsNumbered }
 {
     match atoms(alloc, Origin::Immediate, rest, line.len()) {
         Ok(atoms) => Ok(Entered::Immediate(atoms)),
@@ -168,7 +170,8 @@ fn immediate(alloc: Global, line: &[u8], rest: &[u8]) -> Result<Entered, LineErr
 
 /// Reads a typed line: its number and its atoms, or the code and column of what is missing.
 pub fn read(alloc: Global, line: &[u8]) -> Result<Entered, LineErr>
-    ensures { MatchResult result (λ e. spec.reads line.now ≡ Ok e) (λ e. e ≢ LineErr.NoMemory → spec.reads line.now ≡ Err e) }
+    ensures value { MatchResult result (λ e. spec.reads line.now ≡ Ok e) (λ e. e ≢ LineErr.NoMemory → spec.reads line.now ≡ Err e) }
+    ensures number { IfOk result spec.IsNumbered }
 {
     let count = printable(line);
     if count < line.len() {

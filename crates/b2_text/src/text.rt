@@ -1,5 +1,8 @@
 // A program text: its lines by number.
 ghost use Rattle.std.specs.Prelude.{ℕ, List, filter, ◌≡◌, ◌≢◌, ◌<◌, ◌≤◌, [], option_map, Ok, OnOk, OnErr, IfErr, IfSome};
+ghost use Rattle.std.specs.List.Sorted.{IsStrictlySortedBy};
+ghost use Rattle.std.specs.Map.{keys_of};
+ghost use Rattle.std.specs.Ordering.{nat_cmp};
 ghost use Rattle.std.specs.Map.Iter.{ShowsInOrder, deref_pair};
 ghost use Rattle.b2_text.specs.Program.{is_within, size_of, line_at, with_line, without_line, without, number_after, first_number};
 ghost use Rattle.b2_text.specs.Spots.{is_mark, is_function, first_opening, data_from};
@@ -75,7 +78,8 @@ impl Text {
 
     /// The least number of a line above this one, for None the least of all; None where there is none.
     pub fn next_after(&self, n: Option<u16>) -> Option<u16>
-        ensures { result ≡ number_after n self.now.lines }
+        ensures least { result ≡ number_after n self.now.lines }
+        ensures ascending { IsStrictlySortedBy nat_cmp (keys_of self.now.lines) }
     {
         match n {
             Some(n) => first_above(&self.lines, n),
