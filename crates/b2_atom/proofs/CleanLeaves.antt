@@ -1,13 +1,13 @@
 -- A whole leaf has no small letters, and no byte that may not stand in a line.
-use Rattle.std.proofs.Common.{◌≡◌, ℕ, zero, suc, ◌+◌, ◌-◌, ◌<◌, ◌≤◌, Bool, true, false, not, if◌then◌else◌, ◌==◌, ◌||◌, ◌&&◌, List, [], ◌∷◌, ◌++◌, length, get_or, drop, refl, sym, ap, ◌∙◌, arith, nat_le, nat_lt, inl, inr, ◌⊎◌, length-drop, drop-drop}
+use Rattle.std.proofs.Common.{◌≡◌, ℕ, zero, suc, ◌+◌, ◌<◌, ◌≤◌, Bool, true, false, not, if◌then◌else◌, ◌==◌, ◌||◌, ◌&&◌, [], ◌∷◌, ◌++◌, length, get_or, drop, refl, sym, ap, ◌∙◌, arith, nat_le, nat_lt, inl, inr, length-drop, drop-drop}
 use Rattle.std.proofs.lemmas.Bool.Decides.{nat_tests}
 use Rattle.b2_atom.specs.Words.{Text, upper}
-use Rattle.b2_atom.specs.Leaves.{is_digit, is_letter, is_hex, is_printable, all_printable, digits, number_width, number_of, mantissa_of, mantissa_width, sign_width, exponent_of, exponent_width, one_more, leaf_width, until_quote, small_value, relation_of, ends_image, until_parenthesis}
+use Rattle.b2_atom.specs.Leaves.{is_digit, is_letter, is_hex, is_printable, all_printable, digits, number_width, mantissa_of, mantissa_width, sign_width, exponent_of, exponent_width, one_more, leaf_width, until_quote, small_value, relation_of, ends_image, until_parenthesis}
 use Rattle.b2_atom.specs.declared.words.Origin.TheVariants.{Atoms}
 use Rattle.b2_atom.specs.declared.forms.Leaf.{Leaf}
 use Rattle.b2_atom.specs.declared.forms.Leaf.TheVariants as leaf
 use Rattle.b2_atom.proofs.Longest.{and_left, and_right, equal, every, both}
-use Rattle.b2_atom.proofs.Widths.{behind, pointed, no_exponent, number_parts, signed_parts}
+use Rattle.b2_atom.proofs.Widths.{pointed, no_exponent, number_parts, signed_parts}
 use Rattle.b2_atom.proofs.Names.{NameShape, numeric_shape, local_shape, alpha_shape}
 use Rattle.b2_atom.proofs.Characters.{is_function_name, image_parts, relation_most}
 use Rattle.b2_atom.proofs.LeavesRead.{all_upper, is_free}

@@ -1,16 +1,16 @@
 -- What is read is a tree that the rows allow: parts without statements and remarks in them.
-use Rattle.std.proofs.Common.{◌≡◌, ℕ, zero, suc, ◌+◌, ◌-◌, ◌<◌, ◌≤◌, Bool, true, false, not, if◌then◌else◌, ◌==◌, ◌||◌, ◌&&◌, List, [], ◌∷◌, ◌++◌, length, get_or, take, drop, refl, sym, ap, subst, ◌∙◌, arith, nat_le, nat_lt, append-nil, append_assoc, length-drop, Result, Ok, Err}
+use Rattle.std.proofs.Common.{◌≡◌, ℕ, zero, suc, ◌+◌, ◌<◌, ◌≤◌, Bool, true, false, not, if◌then◌else◌, ◌==◌, ◌||◌, ◌&&◌, List, [], ◌∷◌, ◌++◌, length, take, drop, refl, sym, ap, subst, ◌∙◌, arith, nat_le, nat_lt, append-nil, append_assoc, length-drop, Ok, Err}
 use Rattle.std.specs.Prelude.{codes}
 use Rattle.std.proofs.lemmas.Bool.Decides.{nat_tests}
-use Rattle.b2_atom.specs.Words.{Text, is_source, ahead, skipped, skip_blanks, typed_ahead, typed_by, joined as joined_words, word_at, begins_with, upper}
+use Rattle.b2_atom.specs.Words.{Text, is_source, ahead, skipped, skip_blanks, joined as joined_words, word_at, begins_with, upper}
 use Rattle.b2_atom.specs.Tokens.{Token, kept_text}
 use Rattle.b2_atom.specs.Tokens.Token.{Coded, Plain, Lined}
 use Rattle.b2_atom.specs.Tree.{Trees, Outcome, Parser, one, nothing, joined, and_then, under, also, tokens}
 use Rattle.b2_atom.specs.Tree.Trees.{Done, Put, In}
 use Rattle.b2_atom.specs.Leaves.{leaf_width, digits, refused, missing, all_printable}
-use Rattle.b2_atom.specs.Grammar.{Reader, reader, read_item, items, item, level, deep, many, row_items, starts, absent, mark, mark_at, among, among_at, program_word, program_word_at, ignored, ignored_at, comma, comma_at, end_of_line, end_at, read_leaf, leaf_at, plain, plain_of, line_number_at, typed_line_number, two_digits, atoms_line_number, is_decimal, text_to_end, is_among}
+use Rattle.b2_atom.specs.Grammar.{reader, items, item, level, deep, many, row_items, starts, absent, mark, among, program_word, ignored, comma, end_of_line, end_at, read_leaf, plain, line_number_at, typed_line_number, two_digits, atoms_line_number, is_decimal, text_to_end, is_among}
 use Rattle.b2_atom.specs.Spelling.{is_whole, good_token}
-use Rattle.b2_atom.specs.Fitting.{leaf_number, fits_token, giving, may_end, FitsPut, FitsBranch, FitsIn, Fits, is_remark}
+use Rattle.b2_atom.specs.Fitting.{leaf_number, fits_token, Fits, is_remark}
 use Rattle.b2_atom.specs.declared.words.TheConstants as word
 use Rattle.b2_atom.specs.declared.rows.TheConstants as row
 use Rattle.b2_atom.specs.declared.words.Origin.{Origin}
@@ -21,8 +21,7 @@ use Rattle.b2_atom.specs.declared.forms.Start.{Start}
 use Rattle.b2_atom.specs.declared.forms.Place.{Place}
 use Rattle.b2_atom.specs.declared.forms.Item.{Item}
 use Rattle.b2_atom.specs.declared.forms.Item.TheVariants.{Word, Sign, Among, ProgramWord, Ignored, Comma, LeftOut, End, Typed, Part, Maybe, Either, Many, Nest, Statement}
-use Rattle.b2_atom.specs.declared.sink.Stop.{Stop}
-use Rattle.b2_atom.specs.declared.sink.Stop.TheVariants.{At, Deep}
+use Rattle.b2_atom.specs.declared.sink.Stop.TheVariants.{At}
 use Rattle.b2_atom.proofs.Longest.{and_left, and_right, below, at_below, both}
 use Rattle.b2_atom.proofs.WordsRead.{typed_end}
 use Rattle.b2_atom.proofs.LeavesRead.{not_true}

@@ -1,22 +1,20 @@
 -- What is read is a tree that the rows allow: remarks, statements and whole lines.
-use Rattle.std.proofs.Common.{◌≡◌, ℕ, zero, suc, ◌+◌, ◌-◌, ◌<◌, ◌≤◌, Bool, true, false, not, if◌then◌else◌, ◌==◌, ◌||◌, ◌&&◌, List, [], ◌∷◌, ◌++◌, length, get_or, drop, refl, sym, ap, subst, ◌∙◌, arith, nat_le, nat_lt, append-nil, inl, inr, ◌⊎◌, Result, Ok, Err}
+use Rattle.std.proofs.Common.{◌≡◌, ℕ, zero, suc, ◌+◌, ◌<◌, ◌≤◌, Bool, true, false, not, if◌then◌else◌, ◌==◌, ◌||◌, ◌&&◌, List, [], ◌∷◌, ◌++◌, length, drop, refl, sym, ap, subst, ◌∙◌, arith, nat_lt, append-nil, inl, inr, ◌⊎◌, Result, Ok, Err}
 use Rattle.std.proofs.lemmas.Bool.Decides.{nat_tests}
 use Rattle.b2_atom.specs.Words.{Text, ahead, skipped}
 use Rattle.b2_atom.specs.Tokens.{Token}
-use Rattle.b2_atom.specs.Tokens.Token.{Coded, Plain, Lined}
+use Rattle.b2_atom.specs.Tokens.Token.{Coded, Plain}
 use Rattle.b2_atom.specs.Tree.{Trees, Outcome, Parser, one, nothing, joined, and_then, under, also, tokens}
 use Rattle.b2_atom.specs.Tree.Trees.{Done, Put, In}
 use Rattle.b2_atom.specs.Leaves.{refused, all_printable}
-use Rattle.b2_atom.specs.Grammar.{Reader, reader, items, item, level, deep, many, statement, chosen, statement_row, statement_at, row_at, allowed, from, begins_let, variable_begins, barred_following, barred_line, barred_place, row_items, starts, starts_at, absent, mark, mark_at, end_of_line, end_at, read_leaf, text_to_end, read_line, part}
-use Rattle.b2_atom.specs.Spelling.{is_whole, good_token, is_free}
-use Rattle.b2_atom.specs.Fitting.{fits_token, giving, FitsPut, Fits, is_remark, is_rest, RemarksEnd, is_statement, is_allowed, LineTree}
+use Rattle.b2_atom.specs.Grammar.{reader, items, item, level, deep, many, statement, chosen, statement_row, row_at, allowed, from, begins_let, variable_begins, barred_following, barred_line, barred_place, row_items, starts, absent, mark, end_of_line, end_at, read_leaf, text_to_end, read_line}
+use Rattle.b2_atom.specs.Fitting.{fits_token, giving, FitsPut, Fits, is_remark, RemarksEnd, is_statement, is_allowed, LineTree}
 use Rattle.b2_atom.specs.Table.{forms}
 use Rattle.b2_atom.specs.declared.words.TheConstants as word
 use Rattle.b2_atom.specs.declared.rows.TheConstants as row
 use Rattle.b2_atom.specs.declared.words.Origin.{Origin}
 use Rattle.b2_atom.specs.declared.words.Origin.TheVariants.{Program, Immediate, Atoms}
 use Rattle.b2_atom.specs.declared.forms.Leaf.TheVariants as leaf
-use Rattle.b2_atom.specs.declared.forms.Start.{Start}
 use Rattle.b2_atom.specs.declared.forms.Start.TheVariants as start
 use Rattle.b2_atom.specs.declared.forms.Place.{Place}
 use Rattle.b2_atom.specs.declared.forms.Place.TheVariants as place
@@ -26,7 +24,7 @@ use Rattle.b2_atom.specs.declared.forms.Item.TheVariants.{Word, Sign, Typed, Par
 use Rattle.b2_atom.specs.declared.sink.Stop.{Stop}
 use Rattle.b2_atom.specs.declared.sink.Stop.TheVariants.{At}
 use Rattle.b2_atom.proofs.Longest.{and_left, and_right, every, equal, both}
-use Rattle.b2_atom.proofs.Fitted.{no_remark, Good, Leads, tokens_also, append_remarks, calm_row, calm_part, calm_level, calm_deep, calm_item_good, calm_item, calm_items, Nested, AllGoodAt, skipped_short, ahead_less, nothing_left, behind_short, drop_short, same_code, le_both}
+use Rattle.b2_atom.proofs.Fitted.{no_remark, Good, Leads, tokens_also, append_remarks, calm_row, calm_part, calm_level, calm_deep, calm_item_good, calm_item, skipped_short, ahead_less, nothing_left, drop_short, same_code, le_both}
 
 -- no remark, or nothing behind it
 pub record Ended (ts : List Token) (rest : Text) : Type 0 where

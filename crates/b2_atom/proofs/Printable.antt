@@ -1,5 +1,5 @@
 -- Each byte of the canonical source may stand in a line.
-use Rattle.std.proofs.Common.{◌≡◌, ℕ, Bool, true, false, ◌&&◌, List, [], ◌∷◌, ◌++◌, length, get_or, refl, ap, ◌∙◌, nat_lt}
+use Rattle.std.proofs.Common.{◌≡◌, ℕ, Bool, true, false, List, [], ◌∷◌, ◌++◌, length, get_or, refl, ap, ◌∙◌, nat_lt}
 use Rattle.b2_atom.specs.Words.{Text, texts}
 use Rattle.b2_atom.specs.Tokens.{Token, listed, spaced, spelled, is_apart, is_word, ends_wordy, is_operand}
 use Rattle.b2_atom.specs.Tokens.Token.{Coded, Plain, Lined}

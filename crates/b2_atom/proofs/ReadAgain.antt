@@ -1,17 +1,14 @@
 -- A tree of a program's line: its atoms spell a line, whose canonical source is read as the same atoms.
-use Rattle.std.proofs.Common.{◌≡◌, ℕ, zero, suc, ◌+◌, ◌-◌, ◌<◌, ◌≤◌, Bool, true, false, not, if◌then◌else◌, ◌==◌, ◌||◌, ◌&&◌, List, [], ◌∷◌, ◌++◌, length, refl, sym, ap, subst, ◌∙◌, arith, nat_le, nat_lt, append_assoc, Result, Ok, Err, is_ok}
-use Rattle.std.proofs.lemmas.Bool.Decides.{nat_tests}
+use Rattle.std.proofs.Common.{◌≡◌, ℕ, zero, suc, ◌+◌, ◌<◌, Bool, true, false, ◌==◌, List, [], ◌∷◌, ◌++◌, length, refl, sym, ap, subst, ◌∙◌, arith, Ok, Err, is_ok}
 use Rattle.b2_atom.specs.Words.{Text, first, skip_blanks}
 use Rattle.b2_atom.specs.Tokens.{Token, token_atoms, listed, spelled, ends_wordy, is_operand}
 use Rattle.b2_atom.specs.Tokens.Token.{Coded, Plain, Lined}
-use Rattle.b2_atom.specs.Tree.{Trees, Outcome, and_then, tokens, atoms}
-use Rattle.b2_atom.specs.Tree.Trees.{Done, Put, In}
+use Rattle.b2_atom.specs.Tree.{Trees, Outcome, tokens, atoms}
 use Rattle.b2_atom.specs.Leaves.{all_printable}
-use Rattle.b2_atom.specs.Lines.{is_line, line_atoms, line_source, atoms_of, source_of}
-use Rattle.b2_atom.specs.Grammar.{reader, items, item, level, deep, statement, chosen, statement_row, starts, row_items, read_line}
-use Rattle.b2_atom.specs.Spelling.{Spells, AllGood, Neighbours, good_token, is_whole, is_free, atoms_of_tokens}
+use Rattle.b2_atom.specs.Lines.{line_atoms, line_source, atoms_of, source_of}
+use Rattle.b2_atom.specs.Grammar.{reader, items, item, level, deep, statement, statement_row, starts, row_items, read_line}
+use Rattle.b2_atom.specs.Spelling.{AllGood, good_token, is_whole, is_free, atoms_of_tokens}
 use Rattle.b2_atom.specs.Fitting.{LineTree}
-use Rattle.b2_atom.specs.declared.words.Origin.{Origin}
 use Rattle.b2_atom.specs.declared.words.Origin.TheVariants as origin
 use Rattle.b2_atom.specs.declared.forms.Place.TheVariants.{First}
 use Rattle.b2_atom.specs.declared.forms.Leaf.{Leaf}

@@ -1,7 +1,7 @@
 -- The units of a line one after another.
 use Rattle.std.proofs.Common.{◌≡◌, ℕ, zero, suc, ◌+◌, ◌-◌, ◌<◌, ◌≤◌, ◌==◌, ◌&&◌, Bool, true, false, List, [], ◌∷◌, length, refl, sym, ap, ◌∙◌, arith}
 use Rattle.std.proofs.lemmas.Bool.Decides.{nat_tests}
-use Rattle.std.specs.Prelude.{slice_get, nat_le, is_ok}
+use Rattle.std.specs.Prelude.{slice_get, nat_le}
 use Rattle.b2_atom.specs.Words.{Text}
 use Rattle.b2_atom.specs.Lines.{LineUnit, unit_at, units_from, further, behind_unit, next_place, next_text, is_line, units_of}
 use Rattle.b2_atom.specs.declared.forms.Place.{Place}

@@ -97,3 +97,28 @@ fn sources(rt: HostRuntime) -> Result<(), Fail> {
     }
     Ok(())
 }
+
+#[test]
+fn lines_of_sources(rt: HostRuntime) -> Result<(), Fail> {
+    let alloc = rt.alloc();
+    match Atoms::read(alloc, Origin::Program, b" goto 5") {
+        Ok(Some(atoms)) => {
+            assert_eq!(rt; atoms.bytes(), b"\x83\xFF\x00\x05".as_slice());
+            assert_eq!(rt; atoms.copy(alloc)?.bytes(), atoms.bytes());
+        }
+        _ => assert!(rt; false),
+    }
+    match Atoms::read(alloc, Origin::Program, b"goto") {
+        Err(stop) => assert_eq!(rt; stop, Stop::At(15, 0)),
+        Ok(_) => assert!(rt; false),
+    }
+    // REM and 254 bytes are 255; one more is too long.
+    let mut remark = b"REM".to_vec(alloc)?;
+    for _ in 0..254 {
+        remark.push(b'x')?;
+    }
+    assert!(rt; matches!(Atoms::read(alloc, Origin::Program, &remark), Ok(Some(_))));
+    remark.push(b'x')?;
+    assert!(rt; matches!(Atoms::read(alloc, Origin::Program, &remark), Ok(None)));
+    Ok(())
+}
