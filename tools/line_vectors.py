@@ -430,13 +430,12 @@ def listed(expected):
 
 
 def literal(data):
-    if len(data) == 0:
-        return 'b""'
+    """The inside of a literal of bytes."""
     out = ""
     for b in data:
         c = chr(b)
         out += "\\" + c if c in '"\\' else c if 32 <= b < 127 else "\\x%02X" % b
-    return 'b"%s"' % out
+    return out
 
 
 def answer(expected):
@@ -445,30 +444,29 @@ def answer(expected):
 
 
 def table(name, rows, comment):
-    out = ["/// " + comment, "#[rattlefmt::skip]", "pub const %s: [(&[u8], &[u8]); %d] = [" % (name, len(rows))]
-    out += ["    (%s, %s)," % row for row in rows]
-    return out + ["];"]
+    """Rows of a text and of bytes in hexadecimal, `~` between them and a newline behind them."""
+    out = ["/// " + comment, "pub const %s_COUNT: usize = %d;" % (name, len(rows)), "", "#[rattlefmt::skip]", 'pub const %s: &[u8] = b"\\' % name]
+    out += ["%s~%s\\n\\" % (literal(text.encode("latin-1")), data.hex().upper()) for text, data in rows]
+    return out + ['";']
 
 
-def write(path, first, parts):
+def write(path, parts):
     with open(path, "w") as f:
         f.write("// Written by tools/line_vectors.py.\n\n" + "\n\n".join("\n".join(p) for p in parts) + "\n")
 
 
 def main():
-    refused = [(t, answer(e)) for t, e in LINES if answer(e)]
-    taken = [(t, e) for t, e in LINES if not answer(e)]
-    own = lambda t: t[:1].isdigit()
-    programs = [(literal(t.encode("latin-1")), literal(atoms(e))) for t, e in taken if own(t)]
-    immediates = [(literal(t.encode("latin-1")), literal(atoms(e))) for t, e in taken if not own(t)]
-    refusals = [(literal(t.encode("latin-1")), literal(bytes(a))) for t, a in refused]
-    lines = [(literal(atoms(e)), literal(("10 " + listed(e)).encode("latin-1"))) for t, e in taken]
-    write("crates/b2_syntax/src/tests/vectors.rt", "", [
+    taken = [(t, atoms(e)) for t, e in LINES if not answer(e)]
+    programs = [row for row in taken if row[0][:1].isdigit()]
+    immediates = [row for row in taken if not row[0][:1].isdigit()]
+    refusals = [(t, bytes(answer(e))) for t, e in LINES if answer(e)]
+    lines = [("10 " + listed(e), atoms(e)) for t, e in LINES if not answer(e)]
+    write("crates/b2_syntax/src/tests/vectors.rt", [
         table("PROGRAMS", programs, "Lines of number 10 as they are typed, with their atoms."),
         table("IMMEDIATES", immediates, "Immediate lines with their atoms."),
         table("REFUSALS", refusals, "Lines that are refused, each with its code and its column, or 0 where it has none."),
     ])
-    write("crates/b2_lister/src/tests/vectors.rt", "", [table("LINES", lines, "Lines of atoms, and how each is listed with the number 10.")])
+    write("crates/b2_lister/src/tests/vectors.rt", [table("LINES", lines, "How lines are listed with the number 10, and their atoms.")])
     print(len(programs), "lines of programs,", len(immediates), "immediate lines,", len(refusals), "refusals")
 
 

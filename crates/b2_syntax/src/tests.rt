@@ -1,7 +1,8 @@
 // Lines that were typed, with the atoms that they are read as, or the code and column of what is missing.
 use crate::{Entered, LineErr, read};
+use b2_base::cut;
 use std::test::Fail;
-use vectors::{IMMEDIATES, PROGRAMS, REFUSALS};
+use vectors::{IMMEDIATES, IMMEDIATES_COUNT, PROGRAMS, PROGRAMS_COUNT, REFUSALS, REFUSALS_COUNT};
 
 mod vectors;
 
@@ -274,33 +275,49 @@ fn more_codes_and_columns(rt: HostRuntime) -> Result<(), Fail> {
     Ok(())
 }
 
-// The first row that is not taken as it says, or how many there are.
-fn first_wrong(rt: &HostRuntime, rows: &[(&[u8], &[u8])], wanted: u16) -> Result<usize, Fail> {
-    let mut at = 0;
-    for (line, atoms) in rows {
-        let (number, bytes) = taken(rt, line)?;
-        if number != wanted || bytes.as_slice() != *atoms {
-            return Ok(at);
+// Bytes in hexadecimal.
+fn hex(rt: &HostRuntime, bytes: &[u8]) -> Result<Vec<u8>, Fail> {
+    let mut out = Vec::new(rt.alloc());
+    for byte in bytes {
+        for digit in [*byte / 16, *byte % 16] {
+            let first = if digit < 10 { b'0' } else { b'A' - 10 };
+            out.push(first + digit)?;
         }
-        at += 1;
     }
-    Ok(at)
+    Ok(out)
+}
+
+// How many rows are taken as they say, up to the first that is not. A row is a line, `~` and its bytes in hexadecimal.
+fn taken_rows(rt: &HostRuntime, table: &[u8], wanted: u16) -> Result<usize, Fail> {
+    let mut left = table;
+    for count in 0..table.len() {
+        let (row, Some(rest)) = cut(left, b'\n') else {
+            return Ok(count);
+        };
+        let (line, expected) = cut(row, b'~');
+        let (number, bytes) = taken(rt, line)?;
+        if number != wanted || expected != Some(hex(rt, &bytes)?.as_slice()) {
+            return Ok(count);
+        }
+        left = rest;
+    }
+    Ok(table.len())
 }
 
 #[test]
 fn each_form_in_a_program(rt: HostRuntime) -> Result<(), Fail> {
-    assert_eq!(rt; first_wrong(&rt, &PROGRAMS, 10)?, PROGRAMS.len());
+    assert_eq!(rt; taken_rows(&rt, PROGRAMS, 10)?, PROGRAMS_COUNT);
     Ok(())
 }
 
 #[test]
 fn each_form_in_an_immediate_line(rt: HostRuntime) -> Result<(), Fail> {
-    assert_eq!(rt; first_wrong(&rt, &IMMEDIATES, 10000)?, IMMEDIATES.len());
+    assert_eq!(rt; taken_rows(&rt, IMMEDIATES, 10000)?, IMMEDIATES_COUNT);
     Ok(())
 }
 
 #[test]
 fn each_code(rt: HostRuntime) -> Result<(), Fail> {
-    assert_eq!(rt; first_wrong(&rt, &REFUSALS, 10002)?, REFUSALS.len());
+    assert_eq!(rt; taken_rows(&rt, REFUSALS, 10002)?, REFUSALS_COUNT);
     Ok(())
 }

@@ -1,366 +1,372 @@
 // Written by tools/line_vectors.py.
 
 /// Lines of number 10 as they are typed, with their atoms.
+pub const PROGRAMS_COUNT: usize = 113;
+
 #[rattlefmt::skip]
-pub const PROGRAMS: [(&[u8], &[u8]); 113] = [
-    (b"10 X=5", b"X=5"),
-    (b"10 let x , y1 , @z = 5", b"X,Y1,@Z=5"),
-    (b"10 A(1,2)=A(1)+@B(X)", b"A(1,2)=A(1)+@B(X)"),
-    (b"10 A$,B$(2)=\"a b\"", b"A$,B$(2)=\"a b\""),
-    (b"10 A$=\"X\"&B$&STR(C$,2)", b"A$=\"X\"&B$&\xCBC$,2)"),
-    (b"10 REM", b"\x80"),
-    (b"10 REMark: it", b"\x80ark: it"),
-    (b"10 %", b"%"),
-    (b"10 %## $#", b"%## $#"),
-    (b"10 DIM A(10),B$(3)", b"\x81A(10),B$(3)"),
-    (b"10 DIM A$5,B1$X", b"\x81A$5,B1$X"),
-    (b"10 DIM A$(2,3)4+1", b"\x81A$(2,3)4+1"),
-    (b"10 COM A,B(2),C$", b"\x82A,B(2),C$"),
-    (b"10 COM @A(5)", b"\x82@A(5)"),
-    (b"10 COM A$(2)-X", b"\x82A$(2)-X"),
-    (b"10 GOTO 0", b"\x83\xFF\x00\x00"),
-    (b"10 GOTO 0099", b"\x83\xFF\x00\x99"),
-    (b"10 GOSUB 100:END", b"\x84\xFF\x01\x00:\x8D"),
-    (b"10 GOSUB 1", b"\x84\xFF\x00\x01"),
-    (b"10 GOSUB'0", b"\x850"),
-    (b"10 GOSUB' 255 (A$,1)", b"\x85255(A$,1)"),
-    (b"10 GOSUB'007", b"\x85007"),
-    (b"10 A=1:RETURN", b"A=1:\x86"),
-    (b"10 IF A=1 THEN RETURN", b"\x8AA=1\x8B\x86"),
-    (b"10 RETURN CLEAR", b"\x86\x87"),
-    (b"10 RETURN CLEAR:END", b"\x86\x87:\x8D"),
-    (b"10 ON A GOTO 1", b"\x89A\x83\xFF\x00\x01"),
-    (b"10 ON A GOSUB 1,2", b"\x89A\x84\xFF\x00\x01,\xFF\x00\x02"),
-    (b"10 IF A<>B THEN 20", b"\x8AA<>B\x8B\xFF\x00 "),
-    (b"10 IF A$<=\"x\" OR B=1 XOR C>2 THEN PRINT A", b"\x8AA$<=\"x\"\xCEB=1\xCFC>2\x8B\x9CA"),
-    (b"10 IF A=1 THEN 20:ELSE 30", b"\x8AA=1\x8B\xFF\x00 :\x8C\xFF\x000"),
-    (b"10 IF A=1 THEN 20:ELSE PRINT A", b"\x8AA=1\x8B\xFF\x00 :\x8C\x9CA"),
-    (b"10 IF END THEN 1", b"\x8A\x8D\x8B\xFF\x00\x01"),
-    (b"10 A=1/B:ERROR A=0:END", b"A=1/B:\x96A=0:\x8D"),
-    (b"10 FOR I=1 TO 10", b"\x8EI=1\x8F10"),
-    (b"10 FOR E=1E5 TO 1E6 STEP 1E5", b"\x8EE=1E5\x8F1E6\x901E5"),
-    (b"10 NEXT I2:PRINT", b"\x91I2:\x9C"),
-    (b"10 NEXT I:NEXT J", b"\x91I:\x91J"),
-    (b"10 END", b"\x8D"),
-    (b"10 A=1:END", b"A=1:\x8D"),
-    (b"10 STOP \"at 5\"", b"\x92\"at 5\""),
-    (b"10 DEFFN X(Y)=Y*2", b"\x93X(Y)=Y*2"),
-    (b"10 DEFFN2(Z1)=Z1^2", b"\x932(Z1)=Z1^2"),
-    (b"10 DEFFNA(@B)=FNB(@B)", b"\x93A(@B)=\x95B(@B)"),
-    (b"10 DEFFN'0", b"\x940"),
-    (b"10 DEFFN'255(A,B$,C(1),STR(D$,1))", b"\x94255(A,B$,C(1),\xCBD$,1))"),
-    (b"10 DEFFN'31\"RUN\"", b"\x9431\"RUN\""),
-    (b"10 DEFFN@PART\"X\"", b"\x93\xA3\"X\""),
-    (b"10 DEFFN @PART \"A B\":PRINT", b"\x93\xA3\"A B\":\x9C"),
-    (b"10 READ A,A$,A(1),A$(1,2)", b"\x97A,A$,A(1),A$(1,2)"),
-    (b"10 READ @A", b"\x97@A"),
-    (b"10 DATA +5,-6,7.5E2", b"\x98+5,-6,7.5E2"),
-    (b"10 DATA \"a\",\"b\"", b"\x98\"a\",\"b\""),
-    (b"10 DATA 1:DATA 2", b"\x981:\x982"),
-    (b"10 RESTORE LINE 20", b"\x99\x9A\xFF\x00 "),
-    (b"10 RESTORE:END", b"\x99:\x8D"),
-    (b"10 CLEAR:END", b"\x87:\x8D"),
-    (b"10 CLEAR N:END", b"\x87N:\x8D"),
-    (b"10 CLEAR P10,20", b"\x87P\xFF\x00\x10,\xFF\x00 "),
-    (b"10 INIT(fF) A$(), B$(1)", b"\xA7FF)A$(),B$(1)"),
-    (b"10 INIT(0A)STR(A$,2,1)", b"\xA70A)\xCBA$,2,1)"),
-    (b"10 CONVERT X+1 TO STR(A$,1,5),(####)", b"\xA8X+1\x8F\xCBA$,1,5),(####)"),
-    (b"10 CONVERT STR(A$,1) TO X(1)", b"\xA8\xCBA$,1)\x8FX(1)"),
-    (b"10 ROTATE(A$(1),-8)", b"\xA9A$(1),-8)"),
-    (b"10 ROTATEC(A$,8)", b"\xAAA$,8)"),
-    (b"10 SELECT ROUND:END", b"\x9B\xE7:\x8D"),
-    (b"10 SELECT NO ROUND:END", b"\x9B\xA2\xE7:\x8D"),
-    (b"10 SELECT PRINT 2a5:END", b"\x9B\x9C2A5:\x8D"),
-    (b"10 SELECT DISK b10", b"\x9B\xA1B10"),
-    (b"10 SELECT@PART\"LIB\":END", b"\x9B\xA3\"LIB\":\x8D"),
-    (b"10 PRINT \"a\";B$,C;", b"\x9C\"a\";B$,C;"),
-    (b"10 PRINT USING 20,A", b"\x9D\xFF\x00 ,A"),
-    (b"10 PRINTUSING 20,A$;:END", b"\x9D\xFF\x00 ,A$;:\x8D"),
-    (b"10 INPUT A", b"\x9EA"),
-    (b"10 INPUT \"N\",A$,B(1)", b"\x9E\"N\",A$,B(1)"),
-    (b"10 INPUT STR(A$,1),@B", b"\x9E\xCBA$,1),@B"),
-    (b"10 LINPUT \"Name?\",A$", b"\x9F\"Name?\",A$"),
-    (b"10 LINPUT STR(A$,2,3)", b"\x9F\xCBA$,2,3)"),
-    (b"10 LINPUT A$(5):END", b"\x9FA$(5):\x8D"),
-    (b"10 KEYIN A$", b"\xA0A$"),
-    (b"10 KEYIN STR(A$,1,1),100,200", b"\xA0\xCBA$,1,1),\xFF\x01\x00,\xFF\x02\x00"),
-    (b"10 KEYIN A$(1),1,2:END", b"\xA0A$(1),\xFF\x00\x01,\xFF\x00\x02:\x8D"),
-    (b"10 $BREAK:END", b"\xA4:\x8D"),
-    (b"10 $OPEN 5,/d11,/215", b"\xA5\xFF\x00\x05,/D11,/215"),
-    (b"10 $CLOSE/D11,/215:END", b"\xA6/D11,/215:\x8D"),
-    (b"10 MAT A1=B1*@C", b"\xB0A1=B1*@C"),
-    (b"10 MAT A=B:END", b"\xB0A=B:\x8D"),
-    (b"10 MAT A=IDN(3,3)", b"\xB0A=\xB3(3,3)"),
-    (b"10 MAT REDIM A(2,3):END", b"\xB0\xB5A(2,3):\x8D"),
-    (b"10 MAT REDIM A$(2)N", b"\xB0\xB5A$(2)N"),
-    (b"10 MAT SEARCH STR(A$,1),>=\"x\" TO B$(1) STEP 4", b"\xB0\xB6\xCBA$,1),>=\"x\"\x8FB$(1)\x904"),
-    (b"10 MAT MOVE A1$(),B$() TO C$()", b"\xB0\xB7A1$(),B$()\x8FC$()"),
-    (b"10 MAT SORT A$() TO B$(),C$():END", b"\xB0\xB8A$()\x8FB$(),C$():\x8D"),
-    (b"10 MAT COPY A$() TO B$():END", b"\xB0\xB9A$()\x8FB$():\x8D"),
-    (b"10 PACK(+##.##)A$ FROM X", b"\xAB+##.##)A$\xAFX"),
-    (b"10 UNPACK(-#.#)STR(A$,2) TO X,Y(1)", b"\xAC-#.#)\xCBA$,2)\x8FX,Y(1)"),
-    (b"10 $PACK(F=STR(F$,1,4))A$() FROM A$,5", b"\xADF=\xCBF$,1,4))A$()\xAFA$,5"),
-    (b"10 $UNPACK(F=F$(1))A$() TO B$,C", b"\xAEF=F$(1))A$()\x8FB$,C"),
-    (b"10 LIMITS T,A$,B,C,D", b"\xC0T,A$,B,C,D"),
-    (b"10 SCRATCH T/b10,STR(A$,1,8)", b"\xC1T/B10,\xCBA$,1,8)"),
-    (b"10 SCRATCH DISK T,LS=2,END=X-1", b"\xC1\xA1T,\xC2=2,\x8D=X-1"),
-    (b"10 DATASAVE DC OPEN T/D11,5,\"F\"", b"\xBA\xBC\xBDT/D11,5,\"F\""),
-    (b"10 DATALOAD DC OPEN T/D11,#01,A$(1)", b"\xBB\xBC\xBDT/D11,#01,A$(1)"),
-    (b"10 DATASAVE DC #5,-X", b"\xBA\xBC#5,-X"),
-    (b"10 DATASAVE DC #5,END:END", b"\xBA\xBC#5,\x8D:\x8D"),
-    (b"10 DATALOAD DC #3,A(),B$,STR(C$,1)", b"\xBB\xBC#3,A(),B$,\xCBC$,1)"),
-    (b"10 DSKIP #3,A*2", b"\xBE#3,A*2"),
-    (b"10 DBACKSPACE #0,BEG:END", b"\xBF#0,BEG:\x8D"),
-    (b"10 MOVE T/D11 TO T/D12", b"\xB7T/D11\x8FT/D12"),
-    (b"10 SAVE DC T/D11,(\"OLD\"),\"NEW\",5", b"\xC7T/D11,(\"OLD\"),\"NEW\",\xFF\x00\x05"),
-    (b"10 LOAD DC RUN T,A$", b"\xC6\xC4T,A$"),
-    (b"10 REMxxxxxxxxxxxxxxxxxxxxxxxxxxxxxxxxxxxxxxxxxxxxxxxxxxxxxxxxxxxxxxxxxxxxxxxxxxxxxxxxxxxxxxxxxxxxxxxxxxxxxxxxxxxxxxxxxxxxxxxxxxxxxxxxxxxxxxxxxxxxxxxxxxxxxxxxxxxxxxxxxxxxxxxxxxxxxxxxxxxxxxxxxxxxxxxxxxxxxxxxxxxxxxxxxxxxxxxxxxxxxxxxxxxxxxxxxxxxxxxxxxxxxxxxxx", b"\x80xxxxxxxxxxxxxxxxxxxxxxxxxxxxxxxxxxxxxxxxxxxxxxxxxxxxxxxxxxxxxxxxxxxxxxxxxxxxxxxxxxxxxxxxxxxxxxxxxxxxxxxxxxxxxxxxxxxxxxxxxxxxxxxxxxxxxxxxxxxxxxxxxxxxxxxxxxxxxxxxxxxxxxxxxxxxxxxxxxxxxxxxxxxxxxxxxxxxxxxxxxxxxxxxxxxxxxxxxxxxxxxxxxxxxxxxxxxxxxxxxxxxxxxxxx"),
-    (b"10 %############################################################################################################################################################################################################################################################", b"%############################################################################################################################################################################################################################################################"),
-];
+pub const PROGRAMS: &[u8] = b"\
+10 X=5~583D35\n\
+10 let x , y1 , @z = 5~582C59312C405A3D35\n\
+10 A(1,2)=A(1)+@B(X)~4128312C32293D412831292B4042285829\n\
+10 A$,B$(2)=\"a b\"~41242C42242832293D2261206222\n\
+10 A$=\"X\"&B$&STR(C$,2)~41243D22582226422426CB43242C3229\n\
+10 REM~80\n\
+10 REMark: it~8061726B3A206974\n\
+10 %~25\n\
+10 %## $#~252323202423\n\
+10 DIM A(10),B$(3)~8141283130292C4224283329\n\
+10 DIM A$5,B1$X~814124352C42312458\n\
+10 DIM A$(2,3)4+1~81412428322C3329342B31\n\
+10 COM A,B(2),C$~82412C422832292C4324\n\
+10 COM @A(5)~824041283529\n\
+10 COM A$(2)-X~8241242832292D58\n\
+10 GOTO 0~83FF0000\n\
+10 GOTO 0099~83FF0099\n\
+10 GOSUB 100:END~84FF01003A8D\n\
+10 GOSUB 1~84FF0001\n\
+10 GOSUB'0~8530\n\
+10 GOSUB' 255 (A$,1)~853235352841242C3129\n\
+10 GOSUB'007~85303037\n\
+10 A=1:RETURN~413D313A86\n\
+10 IF A=1 THEN RETURN~8A413D318B86\n\
+10 RETURN CLEAR~8687\n\
+10 RETURN CLEAR:END~86873A8D\n\
+10 ON A GOTO 1~894183FF0001\n\
+10 ON A GOSUB 1,2~894184FF00012CFF0002\n\
+10 IF A<>B THEN 20~8A413C3E428BFF0020\n\
+10 IF A$<=\"x\" OR B=1 XOR C>2 THEN PRINT A~8A41243C3D227822CE423D31CF433E328B9C41\n\
+10 IF A=1 THEN 20:ELSE 30~8A413D318BFF00203A8CFF0030\n\
+10 IF A=1 THEN 20:ELSE PRINT A~8A413D318BFF00203A8C9C41\n\
+10 IF END THEN 1~8A8D8BFF0001\n\
+10 A=1/B:ERROR A=0:END~413D312F423A96413D303A8D\n\
+10 FOR I=1 TO 10~8E493D318F3130\n\
+10 FOR E=1E5 TO 1E6 STEP 1E5~8E453D3145358F31453690314535\n\
+10 NEXT I2:PRINT~9149323A9C\n\
+10 NEXT I:NEXT J~91493A914A\n\
+10 END~8D\n\
+10 A=1:END~413D313A8D\n\
+10 STOP \"at 5\"~92226174203522\n\
+10 DEFFN X(Y)=Y*2~93582859293D592A32\n\
+10 DEFFN2(Z1)=Z1^2~9332285A31293D5A315E32\n\
+10 DEFFNA(@B)=FNB(@B)~9341284042293D954228404229\n\
+10 DEFFN'0~9430\n\
+10 DEFFN'255(A,B$,C(1),STR(D$,1))~9432353528412C42242C432831292CCB44242C312929\n\
+10 DEFFN'31\"RUN\"~9433312252554E22\n\
+10 DEFFN@PART\"X\"~93A3225822\n\
+10 DEFFN @PART \"A B\":PRINT~93A322412042223A9C\n\
+10 READ A,A$,A(1),A$(1,2)~97412C41242C412831292C412428312C3229\n\
+10 READ @A~974041\n\
+10 DATA +5,-6,7.5E2~982B352C2D362C372E354532\n\
+10 DATA \"a\",\"b\"~982261222C226222\n\
+10 DATA 1:DATA 2~98313A9832\n\
+10 RESTORE LINE 20~999AFF0020\n\
+10 RESTORE:END~993A8D\n\
+10 CLEAR:END~873A8D\n\
+10 CLEAR N:END~874E3A8D\n\
+10 CLEAR P10,20~8750FF00102CFF0020\n\
+10 INIT(fF) A$(), B$(1)~A7464629412428292C4224283129\n\
+10 INIT(0A)STR(A$,2,1)~A7304129CB41242C322C3129\n\
+10 CONVERT X+1 TO STR(A$,1,5),(####)~A8582B318FCB41242C312C35292C282323232329\n\
+10 CONVERT STR(A$,1) TO X(1)~A8CB41242C31298F58283129\n\
+10 ROTATE(A$(1),-8)~A941242831292C2D3829\n\
+10 ROTATEC(A$,8)~AA41242C3829\n\
+10 SELECT ROUND:END~9BE73A8D\n\
+10 SELECT NO ROUND:END~9BA2E73A8D\n\
+10 SELECT PRINT 2a5:END~9B9C3241353A8D\n\
+10 SELECT DISK b10~9BA1423130\n\
+10 SELECT@PART\"LIB\":END~9BA3224C4942223A8D\n\
+10 PRINT \"a\";B$,C;~9C2261223B42242C433B\n\
+10 PRINT USING 20,A~9DFF00202C41\n\
+10 PRINTUSING 20,A$;:END~9DFF00202C41243B3A8D\n\
+10 INPUT A~9E41\n\
+10 INPUT \"N\",A$,B(1)~9E224E222C41242C42283129\n\
+10 INPUT STR(A$,1),@B~9ECB41242C31292C4042\n\
+10 LINPUT \"Name?\",A$~9F224E616D653F222C4124\n\
+10 LINPUT STR(A$,2,3)~9FCB41242C322C3329\n\
+10 LINPUT A$(5):END~9F41242835293A8D\n\
+10 KEYIN A$~A04124\n\
+10 KEYIN STR(A$,1,1),100,200~A0CB41242C312C31292CFF01002CFF0200\n\
+10 KEYIN A$(1),1,2:END~A041242831292CFF00012CFF00023A8D\n\
+10 $BREAK:END~A43A8D\n\
+10 $OPEN 5,/d11,/215~A5FF00052C2F4431312C2F323135\n\
+10 $CLOSE/D11,/215:END~A62F4431312C2F3231353A8D\n\
+10 MAT A1=B1*@C~B041313D42312A4043\n\
+10 MAT A=B:END~B0413D423A8D\n\
+10 MAT A=IDN(3,3)~B0413DB328332C3329\n\
+10 MAT REDIM A(2,3):END~B0B54128322C33293A8D\n\
+10 MAT REDIM A$(2)N~B0B541242832294E\n\
+10 MAT SEARCH STR(A$,1),>=\"x\" TO B$(1) STEP 4~B0B6CB41242C31292C3E3D2278228F42242831299034\n\
+10 MAT MOVE A1$(),B$() TO C$()~B0B741312428292C422428298F43242829\n\
+10 MAT SORT A$() TO B$(),C$():END~B0B8412428298F422428292C432428293A8D\n\
+10 MAT COPY A$() TO B$():END~B0B9412428298F422428293A8D\n\
+10 PACK(+##.##)A$ FROM X~AB2B23232E2323294124AF58\n\
+10 UNPACK(-#.#)STR(A$,2) TO X,Y(1)~AC2D232E2329CB41242C32298F582C59283129\n\
+10 $PACK(F=STR(F$,1,4))A$() FROM A$,5~AD463DCB46242C312C34292941242829AF41242C35\n\
+10 $UNPACK(F=F$(1))A$() TO B$,C~AE463D462428312929412428298F42242C43\n\
+10 LIMITS T,A$,B,C,D~C0542C41242C422C432C44\n\
+10 SCRATCH T/b10,STR(A$,1,8)~C1542F4231302CCB41242C312C3829\n\
+10 SCRATCH DISK T,LS=2,END=X-1~C1A1542CC23D322C8D3D582D31\n\
+10 DATASAVE DC OPEN T/D11,5,\"F\"~BABCBD542F4431312C352C224622\n\
+10 DATALOAD DC OPEN T/D11,#01,A$(1)~BBBCBD542F4431312C2330312C4124283129\n\
+10 DATASAVE DC #5,-X~BABC23352C2D58\n\
+10 DATASAVE DC #5,END:END~BABC23352C8D3A8D\n\
+10 DATALOAD DC #3,A(),B$,STR(C$,1)~BBBC23332C4128292C42242CCB43242C3129\n\
+10 DSKIP #3,A*2~BE23332C412A32\n\
+10 DBACKSPACE #0,BEG:END~BF23302C4245473A8D\n\
+10 MOVE T/D11 TO T/D12~B7542F4431318F542F443132\n\
+10 SAVE DC T/D11,(\"OLD\"),\"NEW\",5~C7542F4431312C28224F4C4422292C224E4557222CFF0005\n\
+10 LOAD DC RUN T,A$~C6C4542C4124\n\
+10 REMxxxxxxxxxxxxxxxxxxxxxxxxxxxxxxxxxxxxxxxxxxxxxxxxxxxxxxxxxxxxxxxxxxxxxxxxxxxxxxxxxxxxxxxxxxxxxxxxxxxxxxxxxxxxxxxxxxxxxxxxxxxxxxxxxxxxxxxxxxxxxxxxxxxxxxxxxxxxxxxxxxxxxxxxxxxxxxxxxxxxxxxxxxxxxxxxxxxxxxxxxxxxxxxxxxxxxxxxxxxxxxxxxxxxxxxxxxxxxxxxxxxxxxxxxx~8078787878787878787878787878787878787878787878787878787878787878787878787878787878787878787878787878787878787878787878787878787878787878787878787878787878787878787878787878787878787878787878787878787878787878787878787878787878787878787878787878787878787878787878787878787878787878787878787878787878787878787878787878787878787878787878787878787878787878787878787878787878787878787878787878787878787878787878787878787878787878787878787878787878787878787878787878787878787878787878787878787878787878787878\n\
+10 %############################################################################################################################################################################################################################################################~25232323232323232323232323232323232323232323232323232323232323232323232323232323232323232323232323232323232323232323232323232323232323232323232323232323232323232323232323232323232323232323232323232323232323232323232323232323232323232323232323232323232323232323232323232323232323232323232323232323232323232323232323232323232323232323232323232323232323232323232323232323232323232323232323232323232323232323232323232323232323232323232323232323232323232323232323232323232323232323232323232323232323232323232323\n\
+";
 
 /// Immediate lines with their atoms.
+pub const IMMEDIATES_COUNT: usize = 97;
+
 #[rattlefmt::skip]
-pub const IMMEDIATES: [(&[u8], &[u8]); 97] = [
-    (b"A$=OR B$ XOR C$", b"A$=\xCEB$\xCFC$"),
-    (b"A$=B$ SUB C$ SUBC D$ DAC E$ DSC F$", b"A$=B$\xD3C$\xD4D$\xD5E$\xD6F$"),
-    (b"A$=BOOL 6 B$ ADD C$", b"A$=\xD06B$\xD1C$"),
-    (b"A$=BIN(5)&BIN(X,4)", b"A$=\xCC5)&\xCCX,4)"),
-    (b"PRINT -A^2*-B/+C", b"\x9C-A^2*-B/+C"),
-    (b"PRINT INT(1.5)+FIX(A)-SGN(B)*SQR(4)/ABS(C)", b"\x9C\xD81.5)+\xD9A)-\xDAB)*\xDB4)/\xD7C)"),
-    (b"PRINT ROUND(A,2);MIN(1,2);MAX(A,B,C,D,E,F,G,H)", b"\x9C\xDCA,2);\xDF1,2);\xDEA,B,C,D,E,F,G,H)"),
-    (b"PRINT NUM(A$);VAL(B$)", b"\x9C\xE1A$);\xE3B$)"),
-    (b"PRINT POS(\"ABC\">=\"B\")", b"\x9C\xE2\"ABC\">=\"B\")"),
-    (b"PRINT #PART;#TERM;ERR", b"\x9C\xE5;\xE6;\xE4"),
-    (b"PRINT FN A(FN2(X1))", b"\x9C\x95A(\x952(X1))"),
-    (b"PRINT 1E5;1E-5;.5;5.;1.5E+10", b"\x9C1E5;1E-5;.5;5.;1.5E+10"),
-    (b"A=1:rem  x ", b"A=1:\x80  x "),
-    (b"GOTO 9999", b"\x83\xFF\x99\x99"),
-    (b"RETURN CLEAR ALL", b"\x86\x87\x88"),
-    (b"ON A+1 GOTO 1,2,3", b"\x89A+1\x83\xFF\x00\x01,\xFF\x00\x02,\xFF\x00\x03"),
-    (b"IF A=1 THEN IF B=2 THEN END", b"\x8AA=1\x8B\x8AB=2\x8B\x8D"),
-    (b"IF A=1 THEN 5:ELSE IF B=1 THEN 6:ELSE 7", b"\x8AA=1\x8B\xFF\x00\x05:\x8C\x8AB=1\x8B\xFF\x00\x06:\x8C\xFF\x00\x07"),
-    (b"IF END THEN 9999", b"\x8A\x8D\x8B\xFF\x99\x99"),
-    (b"A=1:ERROR PRINT ERR", b"A=1:\x96\x9C\xE4"),
-    (b"A=1:ERROR IF ERR=62 THEN 5", b"A=1:\x96\x8A\xE4=62\x8B\xFF\x00\x05"),
-    (b"FOR I1=A TO B STEP -C", b"\x8EI1=A\x8FB\x90-C"),
-    (b"NEXT I", b"\x91I"),
-    (b"END", b"\x8D"),
-    (b"STOP", b"\x92"),
-    (b"STOP\"X\":PRINT", b"\x92\"X\":\x9C"),
-    (b"READ STR(A$,1,2)", b"\x97\xCBA$,1,2)"),
-    (b"RESTORE", b"\x99"),
-    (b"CLEAR", b"\x87"),
-    (b"A=1:CLEAR", b"A=1:\x87"),
-    (b"CLEAR V", b"\x87V"),
-    (b"CLEAR P", b"\x87P"),
-    (b"CLEAR P 5", b"\x87P\xFF\x00\x05"),
-    (b"INIT(00)A$", b"\xA700)A$"),
-    (b"CONVERT 5 TO A$(1),(+$#,###.##)", b"\xA85\x8FA$(1),(+$#,###.##)"),
-    (b"CONVERT \"12\" TO X", b"\xA8\"12\"\x8FX"),
-    (b"ROTATE(STR(A$,1),N)", b"\xA9\xCBA$,1),N)"),
-    (b"ROTATEC(A$,X+1):END", b"\xAAA$,X+1):\x8D"),
-    (b"SELECT ROUND", b"\x9B\xE7"),
-    (b"SELECT PRINT 005", b"\x9B\x9C005"),
-    (b"SELECT DISK D11", b"\x9B\xA1D11"),
-    (b"SELECT @PART \"A\"", b"\x9B\xA3\"A\""),
-    (b"PRINT", b"\x9C"),
-    (b"PRINT;,A", b"\x9C;,A"),
-    (b"PRINT TAB(A+1),HEXOF(STR(A$,1,2))", b"\x9C\xC8A+1),\xC9\xCBA$,1,2))"),
-    (b"PRINTUSING \"###\",A,B$;", b"\x9D\"###\",A,B$;"),
-    (b"$BREAK", b"\xA4"),
-    (b"IF A=1 THEN $BREAK", b"\x8AA=1\x8B\xA4"),
-    (b"$OPEN /D11", b"\xA5/D11"),
-    (b"$OPEN/D11,/D12,/D13,/D14", b"\xA5/D11,/D12,/D13,/D14"),
-    (b"$CLOSE", b"\xA6"),
-    (b"$CLOSE /D11", b"\xA6/D11"),
-    (b"MAT A=B-C", b"\xB0A=B-C"),
-    (b"MAT A=(X+1)*B", b"\xB0A=(X+1)*B"),
-    (b"MAT A=TRN(B1):END", b"\xB0A=\xB4B1):\x8D"),
-    (b"MAT A=ZER", b"\xB0A=\xB2"),
-    (b"MAT A=CON:END", b"\xB0A=\xB1:\x8D"),
-    (b"MAT REDIM A(5)", b"\xB0\xB5A(5)"),
-    (b"MAT SEARCH A$,<B$ TO C$", b"\xB0\xB6A$,<B$\x8FC$"),
-    (b"MAT SEARCH A$(),<>HEX(0D) TO B$", b"\xB0\xB6A$(),<>\xCA0D)\x8FB$"),
-    (b"MAT MOVE A$(),B$() TO @C$():END", b"\xB0\xB7A$(),B$()\x8F@C$():\x8D"),
-    (b"MAT COPY @A$() TO B1$()", b"\xB0\xB9@A$()\x8FB1$()"),
-    (b"PACK( ####)STR(A$,1,2) FROM X,Y+1,3", b"\xAB####)\xCBA$,1,2)\xAFX,Y+1,3"),
-    (b"UNPACK(##)A$ TO X", b"\xAC##)A$\x8FX"),
-    (b"$PACK(F=F$)A$ FROM \"x\"", b"\xADF=F$)A$\xAF\"x\""),
-    (b"$UNPACK(F=F$)STR(A$,1) TO X(1)", b"\xAEF=F$)\xCBA$,1)\x8FX(1)"),
-    (b"LIMITS T/D11,\"X\",A,B,C(1),D", b"\xC0T/D11,\"X\",A,B,C(1),D"),
-    (b"LIMITS T A,B,C", b"\xC0T,A,B,C"),
-    (b"SCRATCH T\"X\"", b"\xC1T,\"X\""),
-    (b"SCRATCH DISK T LS=A,END=B:END", b"\xC1\xA1T,\xC2=A,\x8D=B:\x8D"),
-    (b"DATASAVE DC OPEN T,#0,(A$),\"F\"", b"\xBA\xBC\xBDT,#0,(A$),\"F\""),
-    (b"DATASAVE DC OPEN T,(X+1)*2,A$", b"\xBA\xBC\xBDT,(X+1)*2,A$"),
-    (b"DATALOAD DC OPEN T\"F\"", b"\xBB\xBC\xBDT,\"F\""),
-    (b"DATASAVE DC A,\"x\",B$(),C(1)+1,D()", b"\xBA\xBCA,\"x\",B$(),C(1)+1,D()"),
-    (b"DATALOAD DC @A$(),B(1,2)", b"\xBB\xBC@A$(),B(1,2)"),
-    (b"DSKIP END", b"\xBE\x8D"),
-    (b"DSKIP 5:END", b"\xBE5:\x8D"),
-    (b"DBACKSPACE B", b"\xBFB"),
-    (b"DBACKSPACE 1", b"\xBF1"),
-    (b"MOVE T,A$ TO T/D12:END", b"\xB7T,A$\x8FT/D12:\x8D"),
-    (b"MOVE T/D11,STR(A$,1,2) TO T", b"\xB7T/D11,\xCBA$,1,2)\x8FT"),
-    (b"SAVE T,\"A\"", b"\xC7T,\"A\""),
-    (b"SAVE T A$,1,2:END", b"\xC7T,A$,\xFF\x00\x01,\xFF\x00\x02:\x8D"),
-    (b"LOAD T/D11,\"P\"", b"\xC6T/D11,\"P\""),
-    (b"LOAD RUN T/D11,\"A B\":END", b"\xC6\xC4T/D11,\"A B\":\x8D"),
-    (b"LIST 5", b"\xC3\xFF\x00\x05"),
-    (b"PRINT A:LIST", b"\x9CA:\xC3"),
-    (b"LIST 10,20:LIST 30", b"\xC3\xFF\x00\x10,\xFF\x00 :\xC3\xFF\x000"),
-    (b"LIST DC T", b"\xC3\xBCT"),
-    (b"LIST DC T/D11:END", b"\xC3\xBCT/D11:\x8D"),
-    (b"RUN", b"\xC4"),
-    (b"CLEAR N:RUN 5", b"\x87N:\xC4\xFF\x00\x05"),
-    (b"RUN 10:END", b"\xC4\xFF\x00\x10:\x8D"),
-    (b"CONTINUE", b"\xC5"),
-    (b"A=1:CONTINUE", b"A=1:\xC5"),
-    (b"PRINT ((((((((((((((((((((((((((((((((1))))))))))))))))))))))))))))))))", b"\x9C((((((((((((((((((((((((((((((((1))))))))))))))))))))))))))))))))"),
-    (b"ON A GOTO 1,1,1,1,1,1,1,1,1,1,1,1,1,1,1,1,1,1,1,1,1,1,1,1,1,1,1,1,1,1,1,1,1,1,1,1,1,1,1,1,1,1,1,1,1,1,1,1,1,1,1,1,1,1,1,1,1,1,1,1,1,1,1", b"\x89A\x83\xFF\x00\x01,\xFF\x00\x01,\xFF\x00\x01,\xFF\x00\x01,\xFF\x00\x01,\xFF\x00\x01,\xFF\x00\x01,\xFF\x00\x01,\xFF\x00\x01,\xFF\x00\x01,\xFF\x00\x01,\xFF\x00\x01,\xFF\x00\x01,\xFF\x00\x01,\xFF\x00\x01,\xFF\x00\x01,\xFF\x00\x01,\xFF\x00\x01,\xFF\x00\x01,\xFF\x00\x01,\xFF\x00\x01,\xFF\x00\x01,\xFF\x00\x01,\xFF\x00\x01,\xFF\x00\x01,\xFF\x00\x01,\xFF\x00\x01,\xFF\x00\x01,\xFF\x00\x01,\xFF\x00\x01,\xFF\x00\x01,\xFF\x00\x01,\xFF\x00\x01,\xFF\x00\x01,\xFF\x00\x01,\xFF\x00\x01,\xFF\x00\x01,\xFF\x00\x01,\xFF\x00\x01,\xFF\x00\x01,\xFF\x00\x01,\xFF\x00\x01,\xFF\x00\x01,\xFF\x00\x01,\xFF\x00\x01,\xFF\x00\x01,\xFF\x00\x01,\xFF\x00\x01,\xFF\x00\x01,\xFF\x00\x01,\xFF\x00\x01,\xFF\x00\x01,\xFF\x00\x01,\xFF\x00\x01,\xFF\x00\x01,\xFF\x00\x01,\xFF\x00\x01,\xFF\x00\x01,\xFF\x00\x01,\xFF\x00\x01,\xFF\x00\x01,\xFF\x00\x01,\xFF\x00\x01"),
-];
+pub const IMMEDIATES: &[u8] = b"\
+A$=OR B$ XOR C$~41243DCE4224CF4324\n\
+A$=B$ SUB C$ SUBC D$ DAC E$ DSC F$~41243D4224D34324D44424D54524D64624\n\
+A$=BOOL 6 B$ ADD C$~41243DD0364224D14324\n\
+A$=BIN(5)&BIN(X,4)~41243DCC352926CC582C3429\n\
+PRINT -A^2*-B/+C~9C2D415E322A2D422F2B43\n\
+PRINT INT(1.5)+FIX(A)-SGN(B)*SQR(4)/ABS(C)~9CD8312E35292BD941292DDA42292ADB34292FD74329\n\
+PRINT ROUND(A,2);MIN(1,2);MAX(A,B,C,D,E,F,G,H)~9CDC412C32293BDF312C32293BDE412C422C432C442C452C462C472C4829\n\
+PRINT NUM(A$);VAL(B$)~9CE14124293BE3422429\n\
+PRINT POS(\"ABC\">=\"B\")~9CE222414243223E3D22422229\n\
+PRINT #PART;#TERM;ERR~9CE53BE63BE4\n\
+PRINT FN A(FN2(X1))~9C95412895322858312929\n\
+PRINT 1E5;1E-5;.5;5.;1.5E+10~9C3145353B31452D353B2E353B352E3B312E35452B3130\n\
+A=1:rem  x ~413D313A8020207820\n\
+GOTO 9999~83FF9999\n\
+RETURN CLEAR ALL~868788\n\
+ON A+1 GOTO 1,2,3~89412B3183FF00012CFF00022CFF0003\n\
+IF A=1 THEN IF B=2 THEN END~8A413D318B8A423D328B8D\n\
+IF A=1 THEN 5:ELSE IF B=1 THEN 6:ELSE 7~8A413D318BFF00053A8C8A423D318BFF00063A8CFF0007\n\
+IF END THEN 9999~8A8D8BFF9999\n\
+A=1:ERROR PRINT ERR~413D313A969CE4\n\
+A=1:ERROR IF ERR=62 THEN 5~413D313A968AE43D36328BFF0005\n\
+FOR I1=A TO B STEP -C~8E49313D418F42902D43\n\
+NEXT I~9149\n\
+END~8D\n\
+STOP~92\n\
+STOP\"X\":PRINT~922258223A9C\n\
+READ STR(A$,1,2)~97CB41242C312C3229\n\
+RESTORE~99\n\
+CLEAR~87\n\
+A=1:CLEAR~413D313A87\n\
+CLEAR V~8756\n\
+CLEAR P~8750\n\
+CLEAR P 5~8750FF0005\n\
+INIT(00)A$~A73030294124\n\
+CONVERT 5 TO A$(1),(+$#,###.##)~A8358F41242831292C282B24232C2323232E232329\n\
+CONVERT \"12\" TO X~A8223132228F58\n\
+ROTATE(STR(A$,1),N)~A9CB41242C31292C4E29\n\
+ROTATEC(A$,X+1):END~AA41242C582B31293A8D\n\
+SELECT ROUND~9BE7\n\
+SELECT PRINT 005~9B9C303035\n\
+SELECT DISK D11~9BA1443131\n\
+SELECT @PART \"A\"~9BA3224122\n\
+PRINT~9C\n\
+PRINT;,A~9C3B2C41\n\
+PRINT TAB(A+1),HEXOF(STR(A$,1,2))~9CC8412B31292CC9CB41242C312C322929\n\
+PRINTUSING \"###\",A,B$;~9D22232323222C412C42243B\n\
+$BREAK~A4\n\
+IF A=1 THEN $BREAK~8A413D318BA4\n\
+$OPEN /D11~A52F443131\n\
+$OPEN/D11,/D12,/D13,/D14~A52F4431312C2F4431322C2F4431332C2F443134\n\
+$CLOSE~A6\n\
+$CLOSE /D11~A62F443131\n\
+MAT A=B-C~B0413D422D43\n\
+MAT A=(X+1)*B~B0413D28582B31292A42\n\
+MAT A=TRN(B1):END~B0413DB44231293A8D\n\
+MAT A=ZER~B0413DB2\n\
+MAT A=CON:END~B0413DB13A8D\n\
+MAT REDIM A(5)~B0B541283529\n\
+MAT SEARCH A$,<B$ TO C$~B0B641242C3C42248F4324\n\
+MAT SEARCH A$(),<>HEX(0D) TO B$~B0B6412428292C3C3ECA3044298F4224\n\
+MAT MOVE A$(),B$() TO @C$():END~B0B7412428292C422428298F40432428293A8D\n\
+MAT COPY @A$() TO B1$()~B0B940412428298F4231242829\n\
+PACK( ####)STR(A$,1,2) FROM X,Y+1,3~AB2323232329CB41242C312C3229AF582C592B312C33\n\
+UNPACK(##)A$ TO X~AC23232941248F58\n\
+$PACK(F=F$)A$ FROM \"x\"~AD463D4624294124AF227822\n\
+$UNPACK(F=F$)STR(A$,1) TO X(1)~AE463D462429CB41242C31298F58283129\n\
+LIMITS T/D11,\"X\",A,B,C(1),D~C0542F4431312C2258222C412C422C432831292C44\n\
+LIMITS T A,B,C~C0542C412C422C43\n\
+SCRATCH T\"X\"~C1542C225822\n\
+SCRATCH DISK T LS=A,END=B:END~C1A1542CC23D412C8D3D423A8D\n\
+DATASAVE DC OPEN T,#0,(A$),\"F\"~BABCBD542C23302C284124292C224622\n\
+DATASAVE DC OPEN T,(X+1)*2,A$~BABCBD542C28582B31292A322C4124\n\
+DATALOAD DC OPEN T\"F\"~BBBCBD542C224622\n\
+DATASAVE DC A,\"x\",B$(),C(1)+1,D()~BABC412C2278222C422428292C432831292B312C442829\n\
+DATALOAD DC @A$(),B(1,2)~BBBC40412428292C4228312C3229\n\
+DSKIP END~BE8D\n\
+DSKIP 5:END~BE353A8D\n\
+DBACKSPACE B~BF42\n\
+DBACKSPACE 1~BF31\n\
+MOVE T,A$ TO T/D12:END~B7542C41248F542F4431323A8D\n\
+MOVE T/D11,STR(A$,1,2) TO T~B7542F4431312CCB41242C312C32298F54\n\
+SAVE T,\"A\"~C7542C224122\n\
+SAVE T A$,1,2:END~C7542C41242CFF00012CFF00023A8D\n\
+LOAD T/D11,\"P\"~C6542F4431312C225022\n\
+LOAD RUN T/D11,\"A B\":END~C6C4542F4431312C22412042223A8D\n\
+LIST 5~C3FF0005\n\
+PRINT A:LIST~9C413AC3\n\
+LIST 10,20:LIST 30~C3FF00102CFF00203AC3FF0030\n\
+LIST DC T~C3BC54\n\
+LIST DC T/D11:END~C3BC542F4431313A8D\n\
+RUN~C4\n\
+CLEAR N:RUN 5~874E3AC4FF0005\n\
+RUN 10:END~C4FF00103A8D\n\
+CONTINUE~C5\n\
+A=1:CONTINUE~413D313AC5\n\
+PRINT ((((((((((((((((((((((((((((((((1))))))))))))))))))))))))))))))))~9C2828282828282828282828282828282828282828282828282828282828282828312929292929292929292929292929292929292929292929292929292929292929\n\
+ON A GOTO 1,1,1,1,1,1,1,1,1,1,1,1,1,1,1,1,1,1,1,1,1,1,1,1,1,1,1,1,1,1,1,1,1,1,1,1,1,1,1,1,1,1,1,1,1,1,1,1,1,1,1,1,1,1,1,1,1,1,1,1,1,1,1~894183FF00012CFF00012CFF00012CFF00012CFF00012CFF00012CFF00012CFF00012CFF00012CFF00012CFF00012CFF00012CFF00012CFF00012CFF00012CFF00012CFF00012CFF00012CFF00012CFF00012CFF00012CFF00012CFF00012CFF00012CFF00012CFF00012CFF00012CFF00012CFF00012CFF00012CFF00012CFF00012CFF00012CFF00012CFF00012CFF00012CFF00012CFF00012CFF00012CFF00012CFF00012CFF00012CFF00012CFF00012CFF00012CFF00012CFF00012CFF00012CFF00012CFF00012CFF00012CFF00012CFF00012CFF00012CFF00012CFF00012CFF00012CFF00012CFF00012CFF00012CFF00012CFF00012CFF0001\n\
+";
 
 /// Lines that are refused, each with its code and its column, or 0 where it has none.
+pub const REFUSALS_COUNT: usize = 140;
+
 #[rattlefmt::skip]
-pub const REFUSALS: [(&[u8], &[u8]); 140] = [
-    (b"A=", b"\x11\x03"),
-    (b"A=*2", b"\x11\x03"),
-    (b"A 5", b"\x0C\x03"),
-    (b"A,B$=1", b"\x14\x03"),
-    (b"A$,B=C$", b"\x14\x04"),
-    (b"A$=", b"\x12\x04"),
-    (b"A$=5", b"\x12\x04"),
-    (b"A$=B$&", b"\x12\x07"),
-    (b"A$=B$ AND 5", b"\x12\x0B"),
-    (b"PRINT 1+", b"\x11\x09"),
-    (b"PRINT ABS(1", b"\x0B\x0C"),
-    (b"A=X(1,2,3)", b"\x0B\x08"),
-    (b"PRINT FNA", b"\x0A\x0A"),
-    (b"A=MOD(5)", b"\x0D\x08"),
-    (b"A=POS(A$ \"B\")", b"\x15\x0A"),
-    (b"PRINT EXP(1)", b"\x1B\x07"),
-    (b"A=1+#PI", b"\x1B\x05"),
-    (b"A=RND(1)*COS(X)", b"\x1B\x03"),
-    (b"10 A=1:%##", b"\x1C\x08"),
-    (b"10 DIM 5", b"\x14\x08"),
-    (b"10 COM A,", b"\x14\x0A"),
-    (b"GOTO X", b"\x0F\x06"),
-    (b"10 GOSUB", b"\x0F\x09"),
-    (b"10 GOSUB'X", b"\x18\x0A"),
-    (b"A=1:RETURN", b"\x1A\x05"),
-    (b"ON A GOTO 1,", b"\x0F\x0D"),
-    (b"ON GOTO 1", b"\x11\x04"),
-    (b"10 IF A=1 STOP", b"\x16\x0B"),
-    (b"IF A$ THEN 10", b"\x15\x07"),
-    (b"IF A 5 THEN 10", b"\x15\x06"),
-    (b"A=1:ELSE ELSE 5", b"\x0E\x0A"),
-    (b"IF END THEN STOP", b"\x0F\x0D"),
-    (b"IF END 5", b"\x16\x08"),
-    (b"A=1:ERROR ERROR END", b"\x0E\x0B"),
-    (b"A=1:ERROR", b"\x0E\x0A"),
-    (b"IF A=1 THEN ERROR END", b"\x0E\x0D"),
-    (b"FOR I TO 5", b"\x0C\x07"),
-    (b"FOR I=1 5", b"\x16\x09"),
-    (b"FOR I=1 TO", b"\x11\x0B"),
-    (b"FOR A$=1 TO 2", b"\x14\x05"),
-    (b"FOR @I=1 TO 2", b"\x14\x05"),
-    (b"NEXT 5", b"\x14\x06"),
-    (b"END 5", b"\x19\x05"),
-    (b"STOP 5", b"\x19\x06"),
-    (b"10 DEFFN A X)=1", b"\x0A\x0C"),
-    (b"10 DEFFN A(X$)=1", b"\x14\x0C"),
-    (b"10 DEFFN A(X)1", b"\x0C\x0E"),
-    (b"10 DEFFN'X", b"\x18\x0A"),
-    (b"10 A=1:DEFFN'1", b"\x1C\x08"),
-    (b"10 DEFFN @PART 5", b"\x12\x10"),
-    (b"10 A=1:DEFFN @PART \"X\"", b"\x1C\x08"),
-    (b"READ 5", b"\x14\x06"),
-    (b"10 DATA -A", b"\x10\x09"),
-    (b"10 DATA 1,", b"\x10\x0B"),
-    (b"RESTORE LINE A", b"\x0F\x0E"),
-    (b"CLEAR X", b"\x19\x07"),
-    (b"INIT(G0)A$", b"\x13\x06"),
-    (b"INIT(20 A$", b"\x0B\x09"),
-    (b"INIT(20)A", b"\x14\x09"),
-    (b"CONVERT X TO A$,##", b"\x0A\x11"),
-    (b"ROTATE(A$ 3)", b"\x0D\x0B"),
-    (b"ROTATEC(A,1)", b"\x14\x09"),
-    (b"SELECT NO", b"\x16\x0A"),
-    (b"SELECT PRINT 2G5", b"\x17\x0E"),
-    (b"SELECT DISK D1", b"\x17\x0D"),
-    (b"SELECT @PART A$", b"\x12\x0E"),
-    (b"SELECT", b"\x16\x07"),
-    (b"SELECT ON", b"\x1B\x08"),
-    (b"PRINT A B", b"\x19\x09"),
-    (b"PRINT TAB(", b"\x11\x0B"),
-    (b"PRINT HEXOF(A)", b"\x12\x0D"),
-    (b"PRINTUSING 10 X", b"\x0D\x0F"),
-    (b"PRINTUSING 10", b"\x0D\x0E"),
-    (b"PRINTUSING 10,A;B", b"\x19\x11"),
-    (b"10 INPUT 5", b"\x14\x0A"),
-    (b"INPUT A", b"\x1A\x01"),
-    (b"10 LINPUT A", b"\x14\x0B"),
-    (b"10 KEYIN A$,1", b"\x0D\x0E"),
-    (b"$OPEN D11", b"\x17\x07"),
-    (b"$OPEN /D1", b"\x17\x08"),
-    (b"$CLOSE /", b"\x17\x09"),
-    (b"MAT 5=A", b"\x14\x05"),
-    (b"MAT A B", b"\x0C\x07"),
-    (b"MAT A=(2)B", b"\x16\x0A"),
-    (b"MAT A=INV(B)", b"\x1B\x07"),
-    (b"MAT INPUT A", b"\x1B\x05"),
-    (b"MAT REDIM A", b"\x0A\x0C"),
-    (b"10 MAT SEARCH STR(A$,1),>=\"x\" TO B$() STEP 4", b"\x11%"),
-    (b"MAT SEARCH A$(),\"X\" TO B$", b"\x15\x11"),
-    (b"MAT MOVE A$(),B$()", b"\x16\x13"),
-    (b"MAT SORT A$(1) TO B$(),C$()", b"\x0B\x0D"),
-    (b"MAT SORT A$() TO B$()", b"\x0D\x16"),
-    (b"MAT COPY A$ TO B$()", b"\x0A\x0D"),
-    (b"PACK(##)A$", b"\x16\x0B"),
-    (b"UNPACK(##)A$ TO X$", b"\x14\x11"),
-    (b"$PACK(X=F$)A$ FROM 1", b"\x16\x07"),
-    (b"$UNPACK(D=F$)A$ TO X", b"\x1B\x09"),
-    (b"LIMITS T/D11 A,B,C", b"\x0D\x0E"),
-    (b"LIMITS X,A", b"\x17\x08"),
-    (b"LIMITS R,A,B,C", b"\x1B\x08"),
-    (b"SCRATCH T,5", b"\x12\x0B"),
-    (b"SCRATCH DISK T,LS 1", b"\x0C\x13"),
-    (b"DATASAVE T", b"\x16\x0A"),
-    (b"DATALOAD DC OPEN T,5", b"\x12\x14"),
-    (b"DATASAVE DC", b"\x11\x0C"),
-    (b"DATALOAD DC 5", b"\x14\x0D"),
-    (b"DSKIP #X,1", b"\x18\x08"),
-    (b"DBACKSPACE #1", b"\x0D\x0E"),
-    (b"MOVE T,\"A\"", b"\x16\x0B"),
-    (b"MOVE X TO T", b"\x17\x06"),
-    (b"10 SAVE DC T/D11,(\"OLD\")\"NEW\"", b"\x0D\x19"),
-    (b"SAVE \"A\"", b"\x17\x06"),
-    (b"LOAD T", b"\x12\x07"),
-    (b"LIST X", b"\x19\x06"),
-    (b"LIST DC 5", b"\x17\x09"),
-    (b"10 LIST DC T", b"\x1A\x04"),
-    (b"CONTINUE 5", b"\x19\x0A"),
-    (b"10 CONTINUE", b"\x1A\x04"),
-    (b"PLOT 5", b"\x1B\x01"),
-    (b"HEXPRINT A$", b"\x1B\x01"),
-    (b"$GIO", b"\x1B\x01"),
-    (b"$IF ON", b"\x1B\x01"),
-    (b"$TRAN(A$,B$)", b"\x1B\x01"),
-    (b"$INIT", b"\x1B\x01"),
-    (b"$MSG=1", b"\x1B\x01"),
-    (b"$PSTAT=1", b"\x1B\x01"),
-    (b"10 HEXPACK A$ FROM B$", b"\x1B\x04"),
-    (b"A=ARCSIN(1)", b"\x1B\x03"),
-    (b"A=ARCTAN(1)+TAN(2)", b"\x1B\x03"),
-    (b"A=1:", b"\x0E\x05"),
-    (b"PRINT 1:)", b"\x0E\x09"),
-    (b"END END", b"\x19\x05"),
-    (b"\x01", b"\x1D\x01"),
-    (b"REM \x7F", b"\x1D\x05"),
-    (b"A=1\x09X", b"\x1D\x04"),
-    (b"99999 A=1", b"\x07\x00"),
-    (b"PRINT ABS(ABS(ABS(ABS(ABS(ABS(ABS(ABS(ABS(ABS(ABS(ABS(ABS(ABS(ABS(ABS(ABS(ABS(ABS(ABS(ABS(ABS(ABS(ABS(ABS(ABS(ABS(ABS(ABS(ABS(ABS(ABS(ABS(1)))))))))))))))))))))))))))))))))", b"\x04\x00"),
-    (b"A=X(X(X(X(X(X(X(X(X(X(X(X(X(X(X(X(X(X(X(X(X(X(X(X(X(X(X(X(X(X(X(X(X(1)))))))))))))))))))))))))))))))))", b"\x04\x00"),
-    (b"ON A GOTO 1,1,1,1,1,1,1,1,1,1,1,1,1,1,1,1,1,1,1,1,1,1,1,1,1,1,1,1,1,1,1,1,1,1,1,1,1,1,1,1,1,1,1,1,1,1,1,1,1,1,1,1,1,1,1,1,1,1,1,1,1,1,1,1", b"\x05\x00"),
-    (b"PRINT 1+1+1+1+1+1+1+1+1+1+1+1+1+1+1+1+1+1+1+1+1+1+1+1+1+1+1+1+1+1+1+1+1+1+1+1+1+1+1+1+1+1+1+1+1+1+1+1+1+1+1+1+1+1+1+1+1+1+1+1+1+1+1+1+1+1+1+1+1+1+1+1+1+1+1+1+1+1+1+1+1+1+1+1+1+1+1+1+1+1+1+1+1+1+1+1+1+1+1+1+1+1+1+1+1+1+1+1+1+1+1+1+1+1+1+1+1+1+1+1+1+1+1+1+1+1+1+1", b"\x05\x00"),
-];
+pub const REFUSALS: &[u8] = b"\
+A=~1103\n\
+A=*2~1103\n\
+A 5~0C03\n\
+A,B$=1~1403\n\
+A$,B=C$~1404\n\
+A$=~1204\n\
+A$=5~1204\n\
+A$=B$&~1207\n\
+A$=B$ AND 5~120B\n\
+PRINT 1+~1109\n\
+PRINT ABS(1~0B0C\n\
+A=X(1,2,3)~0B08\n\
+PRINT FNA~0A0A\n\
+A=MOD(5)~0D08\n\
+A=POS(A$ \"B\")~150A\n\
+PRINT EXP(1)~1B07\n\
+A=1+#PI~1B05\n\
+A=RND(1)*COS(X)~1B03\n\
+10 A=1:%##~1C08\n\
+10 DIM 5~1408\n\
+10 COM A,~140A\n\
+GOTO X~0F06\n\
+10 GOSUB~0F09\n\
+10 GOSUB'X~180A\n\
+A=1:RETURN~1A05\n\
+ON A GOTO 1,~0F0D\n\
+ON GOTO 1~1104\n\
+10 IF A=1 STOP~160B\n\
+IF A$ THEN 10~1507\n\
+IF A 5 THEN 10~1506\n\
+A=1:ELSE ELSE 5~0E0A\n\
+IF END THEN STOP~0F0D\n\
+IF END 5~1608\n\
+A=1:ERROR ERROR END~0E0B\n\
+A=1:ERROR~0E0A\n\
+IF A=1 THEN ERROR END~0E0D\n\
+FOR I TO 5~0C07\n\
+FOR I=1 5~1609\n\
+FOR I=1 TO~110B\n\
+FOR A$=1 TO 2~1405\n\
+FOR @I=1 TO 2~1405\n\
+NEXT 5~1406\n\
+END 5~1905\n\
+STOP 5~1906\n\
+10 DEFFN A X)=1~0A0C\n\
+10 DEFFN A(X$)=1~140C\n\
+10 DEFFN A(X)1~0C0E\n\
+10 DEFFN'X~180A\n\
+10 A=1:DEFFN'1~1C08\n\
+10 DEFFN @PART 5~1210\n\
+10 A=1:DEFFN @PART \"X\"~1C08\n\
+READ 5~1406\n\
+10 DATA -A~1009\n\
+10 DATA 1,~100B\n\
+RESTORE LINE A~0F0E\n\
+CLEAR X~1907\n\
+INIT(G0)A$~1306\n\
+INIT(20 A$~0B09\n\
+INIT(20)A~1409\n\
+CONVERT X TO A$,##~0A11\n\
+ROTATE(A$ 3)~0D0B\n\
+ROTATEC(A,1)~1409\n\
+SELECT NO~160A\n\
+SELECT PRINT 2G5~170E\n\
+SELECT DISK D1~170D\n\
+SELECT @PART A$~120E\n\
+SELECT~1607\n\
+SELECT ON~1B08\n\
+PRINT A B~1909\n\
+PRINT TAB(~110B\n\
+PRINT HEXOF(A)~120D\n\
+PRINTUSING 10 X~0D0F\n\
+PRINTUSING 10~0D0E\n\
+PRINTUSING 10,A;B~1911\n\
+10 INPUT 5~140A\n\
+INPUT A~1A01\n\
+10 LINPUT A~140B\n\
+10 KEYIN A$,1~0D0E\n\
+$OPEN D11~1707\n\
+$OPEN /D1~1708\n\
+$CLOSE /~1709\n\
+MAT 5=A~1405\n\
+MAT A B~0C07\n\
+MAT A=(2)B~160A\n\
+MAT A=INV(B)~1B07\n\
+MAT INPUT A~1B05\n\
+MAT REDIM A~0A0C\n\
+10 MAT SEARCH STR(A$,1),>=\"x\" TO B$() STEP 4~1125\n\
+MAT SEARCH A$(),\"X\" TO B$~1511\n\
+MAT MOVE A$(),B$()~1613\n\
+MAT SORT A$(1) TO B$(),C$()~0B0D\n\
+MAT SORT A$() TO B$()~0D16\n\
+MAT COPY A$ TO B$()~0A0D\n\
+PACK(##)A$~160B\n\
+UNPACK(##)A$ TO X$~1411\n\
+$PACK(X=F$)A$ FROM 1~1607\n\
+$UNPACK(D=F$)A$ TO X~1B09\n\
+LIMITS T/D11 A,B,C~0D0E\n\
+LIMITS X,A~1708\n\
+LIMITS R,A,B,C~1B08\n\
+SCRATCH T,5~120B\n\
+SCRATCH DISK T,LS 1~0C13\n\
+DATASAVE T~160A\n\
+DATALOAD DC OPEN T,5~1214\n\
+DATASAVE DC~110C\n\
+DATALOAD DC 5~140D\n\
+DSKIP #X,1~1808\n\
+DBACKSPACE #1~0D0E\n\
+MOVE T,\"A\"~160B\n\
+MOVE X TO T~1706\n\
+10 SAVE DC T/D11,(\"OLD\")\"NEW\"~0D19\n\
+SAVE \"A\"~1706\n\
+LOAD T~1207\n\
+LIST X~1906\n\
+LIST DC 5~1709\n\
+10 LIST DC T~1A04\n\
+CONTINUE 5~190A\n\
+10 CONTINUE~1A04\n\
+PLOT 5~1B01\n\
+HEXPRINT A$~1B01\n\
+$GIO~1B01\n\
+$IF ON~1B01\n\
+$TRAN(A$,B$)~1B01\n\
+$INIT~1B01\n\
+$MSG=1~1B01\n\
+$PSTAT=1~1B01\n\
+10 HEXPACK A$ FROM B$~1B04\n\
+A=ARCSIN(1)~1B03\n\
+A=ARCTAN(1)+TAN(2)~1B03\n\
+A=1:~0E05\n\
+PRINT 1:)~0E09\n\
+END END~1905\n\
+\x01~1D01\n\
+REM \x7F~1D05\n\
+A=1\x09X~1D04\n\
+99999 A=1~0700\n\
+PRINT ABS(ABS(ABS(ABS(ABS(ABS(ABS(ABS(ABS(ABS(ABS(ABS(ABS(ABS(ABS(ABS(ABS(ABS(ABS(ABS(ABS(ABS(ABS(ABS(ABS(ABS(ABS(ABS(ABS(ABS(ABS(ABS(ABS(1)))))))))))))))))))))))))))))))))~0400\n\
+A=X(X(X(X(X(X(X(X(X(X(X(X(X(X(X(X(X(X(X(X(X(X(X(X(X(X(X(X(X(X(X(X(X(1)))))))))))))))))))))))))))))))))~0400\n\
+ON A GOTO 1,1,1,1,1,1,1,1,1,1,1,1,1,1,1,1,1,1,1,1,1,1,1,1,1,1,1,1,1,1,1,1,1,1,1,1,1,1,1,1,1,1,1,1,1,1,1,1,1,1,1,1,1,1,1,1,1,1,1,1,1,1,1,1~0500\n\
+PRINT 1+1+1+1+1+1+1+1+1+1+1+1+1+1+1+1+1+1+1+1+1+1+1+1+1+1+1+1+1+1+1+1+1+1+1+1+1+1+1+1+1+1+1+1+1+1+1+1+1+1+1+1+1+1+1+1+1+1+1+1+1+1+1+1+1+1+1+1+1+1+1+1+1+1+1+1+1+1+1+1+1+1+1+1+1+1+1+1+1+1+1+1+1+1+1+1+1+1+1+1+1+1+1+1+1+1+1+1+1+1+1+1+1+1+1+1+1+1+1+1+1+1+1+1+1+1+1+1~0500\n\
+";
