@@ -1,8 +1,8 @@
 //! The language as atoms.
 //!
 //! The whole language is one table of forms: what a line, an expression and each statement are made of. One walk over it
-//! reads typed lines as well as atoms, and writes nothing, atoms or the canonical source. Adding a statement is adding a
-//! row.
+//! reads typed lines as well as atoms, and writes nothing, atoms or the canonical source. Adding a statement of known
+//! words is adding a row.
 //!
 //! Stands on `b2_base`. `Atoms::of` is None exactly on lists of bytes that spell no line; `Atoms::read` gives the atoms of
 //! a typed line, or the first code and its place; `Atoms::source` gives the canonical source of a line. Which trees the
