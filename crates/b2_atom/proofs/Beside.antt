@@ -1,8 +1,8 @@
 -- The tokens of a line's tree may stand side by side, and each is a good token.
-use Rattle.std.proofs.Common.{◌≡◌, ℕ, ◌==◌, ◌&&◌, ◌||◌, not, nat_le, nat_lt, Bool, true, false, if◌then◌else◌, List, [], ◌∷◌, ◌++◌, refl, sym, ap, subst, ◌∙◌, arith, append-nil, inl, inr, ◌⊎◌}
+use Rattle.std.proofs.Common.{◌≡◌, ℕ, zero, suc, ◌+◌, ◌-◌, get_or, ◌==◌, ◌&&◌, ◌||◌, not, nat_le, nat_lt, Bool, true, false, if◌then◌else◌, List, [], ◌∷◌, ◌++◌, refl, sym, ap, subst, ◌∙◌, arith, append-nil, inl, inr, ◌⊎◌}
 use Rattle.std.proofs.lemmas.Bool.Decides.{nat_tests}
-use Rattle.b2_atom.specs.Words.{Text}
-use Rattle.b2_atom.specs.Tokens.{Token}
+use Rattle.b2_atom.specs.Words.{Text, first, texts, word_text}
+use Rattle.b2_atom.specs.Tokens.{Token, is_word}
 use Rattle.b2_atom.specs.Tokens.Token.{Coded, Plain, Lined}
 use Rattle.b2_atom.specs.Tree.{Trees, tokens}
 use Rattle.b2_atom.specs.Leaves.{is_letter}
@@ -15,7 +15,7 @@ use Rattle.b2_atom.specs.declared.words.TheConstants as word
 use Rattle.b2_atom.specs.declared.forms.Leaf.{Leaf}
 use Rattle.b2_atom.specs.declared.forms.Leaf.TheVariants as leaf
 use Rattle.b2_atom.proofs.Booleans.{and_left, and_right, or_left, or_right, or_none, or_one, or_other, or_cases, never, not_true, equal, both, either_way}
-use Rattle.b2_atom.proofs.Fronts.{every, some, of, of_items, covered, statement_heads, good_front, before_good, Front, fronts, marks, is_kind, is_one, not_free, not_image, no_dollar, unrelated, lettered, is_data, beside_code, beside_leaf, is_calm, beside}
+use Rattle.b2_atom.proofs.Fronts.{Span, apart, when, dollar_spans, every, some, of, of_items, covered, statement_heads, good_front, before_good, Front, fronts, marks, is_kind, is_one, not_free, not_image, no_dollar, unrelated, lettered, is_data, beside_code, beside_leaf, is_calm, beside}
 use Rattle.b2_atom.proofs.Fronts.Front.{Any, None, Spanned, Hand, Numbered}
 use Rattle.b2_atom.proofs.FrontAnswers.{same_leaf, some_front}
 use Rattle.b2_atom.proofs.Settled.{row_paired, row_good, line_heads}
@@ -77,8 +77,37 @@ tells_mark Any u h m = cc
 tells_mark None u h m = cc
 tells_mark Numbered u h m = cc
 
+outside : (a b k : ℕ) → (nat_lt k a || nat_lt b k) ≡ true → is_among a b k ≡ true → ⊥
+outside a b k h m = grind (arith, nat_tests)
+
+no_dollar_here : (e : Bool) (a b k : ℕ) (ss : List Span) → apart (when e ((k, k) ∷ []) ++ ss) (a, b) ≡ true → is_among a b k ≡ true → e ≡ false
+no_dollar_here true a b k ss h m = absurd (outside a b k (and_left _ _ h) m)
+no_dollar_here false a b k ss h m = refl
+
+apart_behind : (e : Bool) (a b k : ℕ) (ss : List Span) → apart (when e ((k, k) ∷ []) ++ ss) (a, b) ≡ true → apart ss (a, b) ≡ true
+apart_behind true a b k ss h = and_right _ _ h
+apart_behind false a b k ss h = h
+
+no_dollar_at : (ws : List Text) (i a b k : ℕ) → apart (dollar_spans ws k) (a, b) ≡ true → is_among a b (i + k) ≡ true → (first (get_or ws i []) == 36) ≡ false
+no_dollar_at [] i a b k h m = refl
+no_dollar_at (w ∷ ws) zero a b k h m = let same : k ≡ 0 + k = omega arith in no_dollar_here (first w == 36) a b k (dollar_spans ws (suc k)) h (ap (is_among a b) same ∙ m)
+no_dollar_at (w ∷ ws) (suc i) a b k h m =
+    let same : suc i + k ≡ i + suc k = omega arith in
+    no_dollar_at ws i a b (suc k) (apart_behind (first w == 36) a b k (dollar_spans ws (suc k)) h) (ap (is_among a b) (sym same) ∙ m)
+
+high_apart : (x y : Bool) → (x || y) ≡ true → x ≡ false → y ≡ true
+high_apart true y h k = cc
+high_apart false y h k = h
+
+dollar_by : (a b c : ℕ) (e : Bool) → is_word c ≡ e → no_dollar (Spanned a b) ≡ true → is_among a b c ≡ true → (e && first (word_text c) == 36) ≡ false
+dollar_by a b c false is h m = refl
+dollar_by a b c true is h m =
+    let high : nat_lt b 128 ≡ false = grind (arith, nat_tests) in
+    let again : c - 128 + 128 ≡ c = grind (arith, nat_tests) in
+    no_dollar_at texts (c - 128) a b 128 (high_apart (nat_lt b 128) _ h high) (ap (is_among a b) again ∙ m)
+
 dollar_code : (a b c : ℕ) → no_dollar (Spanned a b) ≡ true → is_among a b c ≡ true → is_dollar (Coded c) ≡ false
-dollar_code a b c h m = grind (arith, nat_tests)
+dollar_code a b c h m = dollar_by a b c (is_word c) refl h m
 
 tells_dollar : (g : Front) (u : Token) → no_dollar g ≡ true → fronts g (u ∷ []) ≡ true → is_dollar u ≡ false
 tells_dollar (Spanned a b) (Coded c) h m = dollar_code a b c h m
@@ -252,13 +281,13 @@ tells Any g t u us h k m = cc
 tells None g t u us h k m = cc
 
 -- good tokens
-good_span : (a b c : ℕ) → (nat_le word.REM a && nat_le b word.ROUND) ≡ true → is_among a b c ≡ true → is_among word.REM word.ROUND c ≡ true
+good_span : (a b c : ℕ) → (nat_le word.REM a && nat_le b word.LAST) ≡ true → is_among a b c ≡ true → is_among word.REM word.LAST c ≡ true
 good_span a b c h m = grind (arith, nat_tests)
 
 good_code : (a b c : ℕ) → good_front (Spanned a b) ≡ true → is_among a b c ≡ true → good_token (Coded c) ≡ true
-good_code a b c h m = elim (or_cases (nat_le word.REM a && nat_le b word.ROUND) (a == b && is_in a signs) h) [
+good_code a b c h m = elim (or_cases (nat_le word.REM a && nat_le b word.LAST) (a == b && is_in a signs) h) [
   | inl e ↦ or_one _ _ (good_span a b c e m)
-  | inr e ↦ or_other (is_among word.REM word.ROUND c) _ (ap (λ (n : ℕ). is_in n signs) (single a b c (and_left _ _ e) m) ∙ and_right (a == b) _ e)
+  | inr e ↦ or_other (is_among word.REM word.LAST c) _ (ap (λ (n : ℕ). is_in n signs) (single a b c (and_left _ _ e) m) ∙ and_right (a == b) _ e)
 ]
 
 front_good : (g : Front) (u : Token) (us : List Token) → good_front g ≡ true → fronts g (u ∷ us) ≡ true → good_token u ≡ true

@@ -1,5 +1,5 @@
 -- Every refusal of the table has a code that is a number from 1 to 99.
-use Rattle.std.proofs.Common.{◌≡◌, ◌≢◌, ℕ, zero, suc, ◌+◌, ◌-◌, Bool, true, false, if◌then◌else◌, ◌==◌, ◌&&◌, ◌||◌, nat_le, nat_lt, ◌/◌, ◌%◌, List, [], ◌∷◌, length, get_or, take, drop, refl, subst, Result, Ok, Err}
+use Rattle.std.proofs.Common.{◌≡◌, ◌≢◌, ℕ, zero, suc, ◌+◌, ◌-◌, Bool, true, false, if◌then◌else◌, ◌==◌, ◌&&◌, ◌||◌, nat_le, nat_lt, ◌/◌, List, [], ◌∷◌, length, get_or, take, drop, refl, subst, Result, Ok, Err}
 use Rattle.b2_atom.specs.Tokens.{Token, kept_text}
 use Rattle.b2_atom.specs.Tokens.Token.{Coded, Plain, Lined}
 use Rattle.b2_atom.specs.declared.rows.TheConstants as row
@@ -7,7 +7,7 @@ use Rattle.b2_atom.specs.Words.{Text, first, kept, ahead, skipped, is_source}
 use Rattle.b2_atom.specs.Tree.{Trees, Seen, emitted, Outcome, Parser, one, nothing, joined, and_then, under}
 use Rattle.b2_atom.specs.Leaves.{refused, missing, leaf_width, digits, all_printable, until_quote, is_hex}
 use Rattle.b2_atom.specs.Lines.{good_code, IsKnown}
-use Rattle.b2_atom.specs.Grammar.{reader, read_item, items, item, level, deep, statement, many, row_items, rows_of, starts, absent, read_line, chosen, statement_row, row_at, allowed, from, mark, among, program_word, program_word_at, ignored, comma, end_of_line, end_at, read_leaf, leaf_at, plain, atoms_line_number, typed_line_number, line_number_at, text_to_end, is_decimal, two_digits, begins_let, variable_begins, barred_following, barred_line, barred_place}
+use Rattle.b2_atom.specs.Grammar.{reader, read_item, items, item, level, deep, statement, many, row_items, rows_of, place_of, starts, absent, read_line, chosen, statement_row, row_at, allowed, from, mark, among, program_word, program_word_at, ignored, comma, end_of_line, end_at, read_leaf, leaf_at, plain, atoms_line_number, typed_line_number, line_number_at, text_to_end, is_decimal, two_digits, begins_let, variable_begins, barred_following, barred_line, barred_place}
 use Rattle.b2_atom.specs.declared.words.Origin.{Origin}
 use Rattle.b2_atom.specs.declared.words.Origin.TheVariants.{Program, Immediate, Atoms}
 use Rattle.b2_atom.specs.declared.sink.Stop.{Stop}
@@ -151,7 +151,7 @@ all_good k = if_good (k == 0) rows_0 _ refl (if_good (k == 1) rows_1 _ refl (if_
 
 row_good : (n : ℕ) → good_row (row_items n) ≡ true
 unfolding row_items
-row_good n = get_good (rows_of (n / 64)) (n % 64) (all_good (n / 64))
+row_good n = get_good (rows_of (n / 64)) (place_of n) (all_good (n / 64))
 
 known_program_word : (o : Origin) (c : ℕ) (t : Text) → Known (program_word_at o c t)
 known_program_word Program c t = one_or ((ahead Program t).0 == c) (Coded c) (ahead Program t).1 (refused Program 22 t) (known_refused Program 22 t refl)

@@ -125,8 +125,8 @@ typed_short best a y false false h = let one = joined_short (best.1 + 128) (drop
 
 -- what stands behind something that is there is shorter
 pub ahead_less : (o : Origin) (a : ℕ) (y : Text) → length (ahead o (a ∷ y)).1 ≤ length y
-ahead_less Program a y = typed_short (word_at (a ∷ y)) a y ((word_at (a ∷ y)).0 == 0) (nat_le 104 (word_at (a ∷ y)).1) refl
-ahead_less Immediate a y = typed_short (word_at (a ∷ y)) a y ((word_at (a ∷ y)).0 == 0) (nat_le 104 (word_at (a ∷ y)).1) refl
+ahead_less Program a y = typed_short (word_at (a ∷ y)) a y ((word_at (a ∷ y)).0 == 0) (nat_le word.CODED (word_at (a ∷ y)).1) refl
+ahead_less Immediate a y = typed_short (word_at (a ∷ y)) a y ((word_at (a ∷ y)).0 == 0) (nat_le word.CODED (word_at (a ∷ y)).1) refl
 ahead_less Atoms a y = omega arith
 
 pub nothing_left : (o : Origin) → ahead o [] ≡ (0, [])
@@ -298,7 +298,7 @@ is_other_row n =
     n == row.LINE || (n == row.FURTHER_STATEMENT || (n == row.FOLLOWING || (n == row.REMARK || (n == row.IMAGE_LINE || (n == row.IF || (n == row.ELSE || n == row.ERROR))))))
 
 unfoldable pub calm_row : ℕ → Bool
-calm_row n = nat_lt n 256 && not (is_other_row n)
+calm_row n = nat_lt n row.COUNT && not (is_other_row n)
 
 abbrev pub calm_item : Item → Bool
 calm_item (Word c) = calm_code c
@@ -318,7 +318,7 @@ abbrev pub calm_items : List Item → Bool
 calm_items [] = true
 calm_items (i ∷ is) = calm_item i && calm_items is
 
-rows_calm : below (λ n. not (calm_row n) || calm_items (row_items n)) 256 ≡ true
+rows_calm : below (λ n. not (calm_row n) || calm_items (row_items n)) row.COUNT ≡ true
 unfolding calm_row row_items
 rows_calm = refl
 
@@ -326,15 +326,15 @@ calm_or : (a b : Bool) → (not a || b) ≡ true → a ≡ true → b ≡ true
 calm_or true b h k = h
 calm_or false b h k = cc
 
-small_of : (n : ℕ) → nat_lt n 256 ≡ true → n < 256
+small_of : (n : ℕ) → nat_lt n row.COUNT ≡ true → n < row.COUNT
 small_of n h = grind (arith, nat_tests)
 
-calm_small : (n : ℕ) → calm_row n ≡ true → n < 256
+calm_small : (n : ℕ) → calm_row n ≡ true → n < row.COUNT
 unfolding calm_row
-calm_small n h = small_of n (and_left (nat_lt n 256) (not (is_other_row n)) h)
+calm_small n h = small_of n (and_left (nat_lt n row.COUNT) (not (is_other_row n)) h)
 
 calm_closed : (n : ℕ) → calm_row n ≡ true → calm_items (row_items n) ≡ true
-calm_closed n h = calm_or (calm_row n) (calm_items (row_items n)) (at_below (λ m. not (calm_row m) || calm_items (row_items m)) 256 n rows_calm (calm_small n h)) h
+calm_closed n h = calm_or (calm_row n) (calm_items (row_items n)) (at_below (λ m. not (calm_row m) || calm_items (row_items m)) row.COUNT n rows_calm (calm_small n h)) h
 
 -- a part in parentheses, where so many may still open
 abbrev pub Nested : Origin → ℕ → ℕ → Trees → Type 0

@@ -1,5 +1,6 @@
 -- What may stand at the front of a row's trees, and whether it settles each choice of the table.
 use Rattle.std.proofs.Common.{ℕ, zero, suc, ◌==◌, ◌&&◌, ◌||◌, not, nat_le, nat_lt, Bool, true, false, if◌then◌else◌, List, [], ◌∷◌, ◌++◌}
+use Rattle.b2_atom.specs.Words.{Text, first, texts}
 use Rattle.b2_atom.specs.Tokens.{Token}
 use Rattle.b2_atom.specs.Tokens.Token.{Coded, Plain, Lined}
 use Rattle.b2_atom.specs.Table.{forms}
@@ -191,20 +192,22 @@ when false xs = []
 abbrev pub larger : ℕ → ℕ → ℕ
 larger a b = if nat_le a b then b else a
 
--- the last tokens of statements
+-- the signs of some bytes
+abbrev pub every_sign : List ℕ → List Front
+every_sign [] = []
+every_sign (c ∷ cs) = Spanned c c ∷ every_sign cs
+
+-- the last tokens that statements may have: all but DATA
 abbrev pub statement_ends : List Front
 statement_ends =
-    Spanned 37 37 ∷ Spanned 41 41 ∷ Spanned 44 44 ∷ Spanned 59 59 ∷ Spanned 71 71 ∷ Spanned 78 78 ∷ Spanned 80 80 ∷ Spanned 84 84 ∷ Spanned 86 86
-    ∷ Spanned word.REM word.REM ∷ Spanned word.RETURN word.RETURN ∷ Spanned word.CLEAR word.CLEAR ∷ Spanned word.ALL word.ALL ∷ Spanned word.END word.END
-    ∷ Spanned word.STOP word.STOP ∷ Spanned word.PRINT word.PRINT ∷ Spanned word.ROUND word.ROUND ∷ Spanned word.RESTORE word.RESTORE
-    ∷ Spanned word.DOLLAR_BREAK word.DOLLAR_BREAK ∷ Spanned word.DOLLAR_CLOSE word.DOLLAR_CLOSE ∷ Spanned word.CON word.IDN ∷ Spanned word.LIST word.CONTINUE
-    ∷ Spanned word.GLOBAL_PART word.GLOBAL_PART ∷ Spanned word.ERR word.HASH_TERM
-    ∷ Hand leaf.Number ∷ Hand leaf.SignedNumber ∷ Hand leaf.Name ∷ Hand leaf.AlphaName ∷ Hand leaf.LocalName ∷ Hand leaf.Literal ∷ Hand leaf.Address ∷ Hand leaf.Small
-    ∷ Hand leaf.Image ∷ Hand leaf.Text ∷ Numbered ∷ []
+    every_sign signs
+    ++ (Spanned word.REM word.REM ∷ Spanned word.DIM word.READ ∷ Spanned word.RESTORE word.SELECT ∷ Spanned word.PRINT word.PRINT ∷ Spanned word.PRINTUSING word.LAST
+    ∷ Hand leaf.Number ∷ Hand leaf.SignedNumber ∷ Hand leaf.Name ∷ Hand leaf.AlphaName ∷ Hand leaf.LocalName ∷ Hand leaf.FunctionName ∷ Hand leaf.Literal ∷ Hand leaf.HexPair
+    ∷ Hand leaf.HexDigit ∷ Hand leaf.Address ∷ Hand leaf.Slot ∷ Hand leaf.Small ∷ Hand leaf.Image ∷ Hand leaf.Text ∷ Hand leaf.Relation ∷ Numbered ∷ [])
 
 -- the fronts of statements
 abbrev pub statement_heads : List Front
-statement_heads = Spanned 37 37 ∷ Spanned word.REM word.ROUND ∷ Hand leaf.Name ∷ Hand leaf.AlphaName ∷ []
+statement_heads = Spanned 37 37 ∷ Spanned word.REM word.LAST ∷ Hand leaf.Name ∷ Hand leaf.AlphaName ∷ []
 
 abbrev pub leaf_front : Leaf → Front
 leaf_front leaf.LineNumber = Numbered
@@ -438,8 +441,13 @@ not_free f = is_one f && not (is_kind 14 f)
 abbrev pub not_image : Front → Bool
 not_image f = is_one f && not (is_kind 13 f)
 
+-- the codes of the words that begin with `$`
+abbrev pub dollar_spans : List Text → ℕ → List Span
+dollar_spans [] c = []
+dollar_spans (w ∷ ws) c = when (first w == 36) ((c, c) ∷ []) ++ dollar_spans ws (suc c)
+
 abbrev pub no_dollar : Front → Bool
-no_dollar (Spanned a b) = apart ((word.DOLLAR_BREAK, word.DOLLAR_CLOSE) ∷ (word.DOLLAR_PACK_OPEN, word.DOLLAR_UNPACK_OPEN) ∷ []) (a, b)
+no_dollar (Spanned a b) = nat_lt b 128 || apart (dollar_spans texts 128) (a, b)
 no_dollar f = is_one f
 
 abbrev pub unrelated : Front → Bool
@@ -485,7 +493,7 @@ beside f g = false
 
 -- whether each token of a front is a good token
 abbrev pub good_front : Front → Bool
-good_front (Spanned a b) = (nat_le word.REM a && nat_le b word.ROUND) || (a == b && is_in a signs)
+good_front (Spanned a b) = (nat_le word.REM a && nat_le b word.LAST) || (a == b && is_in a signs)
 good_front (Hand k) = true
 good_front Numbered = true
 good_front f = false

@@ -41,21 +41,21 @@ other_word v i c w x is h = lost (λ n. false) v w x refl (rw is at h)
 code_place : (c d : ℕ) → is_code c ≡ true → (c == d) ≡ false → (c - 128 + 128 == d) ≡ false
 code_place c d h k = grind (arith, nat_tests)
 
-pub at_no_word : (v : Text) (d c : ℕ) (x : Text) → below (no_word_but v d) 104 ≡ true → is_code c ≡ true → (c == d) ≡ false
+pub at_no_word : (v : Text) (d c : ℕ) (x : Text) → below (no_word_but v d) word.CODED ≡ true → is_code c ≡ true → (c == d) ≡ false
     → begins_with v (word_text c ++ x) ≡ false
 at_no_word v d c x all h other =
-    other_word v (c - 128) d (get_or texts (c - 128) []) x (code_place c d h other) (at_below (no_word_but v d) 104 (c - 128) all (code_less c h))
+    other_word v (c - 128) d (get_or texts (c - 128) []) x (code_place c d h other) (at_below (no_word_but v d) word.CODED (c - 128) all (code_less c h))
 
-pub only_save : below (no_word_but (codes "SAVE") word.SAVE) 104 ≡ true
+pub only_save : below (no_word_but (codes "SAVE") word.SAVE) word.CODED ≡ true
 only_save = refl
 
-pub only_load : below (no_word_but (codes "LOAD") word.LOAD) 104 ≡ true
+pub only_load : below (no_word_but (codes "LOAD") word.LOAD) word.CODED ≡ true
 only_load = refl
 
-pub never_using : below (no_word_but (codes "USING") 0) 104 ≡ true
+pub never_using : below (no_word_but (codes "USING") 0) word.CODED ≡ true
 never_using = refl
 
-pub never_let : below (no_word_but (76 ∷ 69 ∷ 84 ∷ []) 0) 104 ≡ true
+pub never_let : below (no_word_but (76 ∷ 69 ∷ 84 ∷ []) 0) word.CODED ≡ true
 never_let = refl
 
 -- a text at which none of the words stands that make another word of DATA and PRINT

@@ -18,21 +18,21 @@ use Rattle.b2_atom.proofs.SideBySide.{FirstOf, Showing, quiet, coded_first, amon
 use Rattle.b2_atom.proofs.SpellsAtoms.{good_first}
 
 -- the words by their codes
-pub good_code : (c : ℕ) → is_among word.REM word.ROUND c ≡ true → is_code c ≡ true
+pub good_code : (c : ℕ) → is_among word.REM word.LAST c ≡ true → is_code c ≡ true
 good_code c h = grind (arith, nat_tests)
 
 -- a fact of each word and its code
-pub at_code : (p : ℕ → Text → Bool) → below (λ i. p (i + 128) (get_or texts i [])) 104 ≡ true → (c : ℕ) → is_code c ≡ true → p c (word_text c) ≡ true
+pub at_code : (p : ℕ → Text → Bool) → below (λ i. p (i + 128) (get_or texts i [])) word.CODED ≡ true → (c : ℕ) → is_code c ≡ true → p c (word_text c) ≡ true
 at_code p all c h =
     ap (λ (d : ℕ). p d (get_or texts (c - 128) [])) (sym (code_again c h))
-    ∙ at_below (λ i. p (i + 128) (get_or texts i [])) 104 (c - 128) all (code_less c h)
+    ∙ at_below (λ i. p (i + 128) (get_or texts i [])) word.CODED (c - 128) all (code_less c h)
 
 -- what a word begins with, where it doesn't begin with a letter
 abbrev word_front : ℕ → Text → Bool
 word_front c w = not (first w == 32) && (not (first w == 40) && (not (first w == 41) && (ends_relation (first w)
     && ((begins_wordy (Coded c) || quiet (first w)) && (not (first w == 36) || is_dollar (Coded c))))))
 
-words_front : below (λ i. word_front (i + 128) (get_or texts i [])) 104 ≡ true
+words_front : below (λ i. word_front (i + 128) (get_or texts i [])) word.CODED ≡ true
 words_front = refl
 
 front_of : (c : ℕ) → is_code c ≡ true → word_front c (word_text c) ≡ true
@@ -121,7 +121,7 @@ spelled_sign c h = rw h refl
 code_word : (c : ℕ) → is_code c ≡ true → is_word c ≡ true
 code_word c h = grind (arith, nat_tests)
 
-no_code : (c : ℕ) → is_word c ≡ false → is_among word.REM word.ROUND c ≡ true → ⊥
+no_code : (c : ℕ) → is_word c ≡ false → is_among word.REM word.LAST c ≡ true → ⊥
 no_code c h k = grind (arith, nat_tests)
 
 -- the signs aren't words
@@ -131,20 +131,20 @@ small_sign c = not (is_word c)
 signs_small : every small_sign signs ≡ true
 signs_small = refl
 
-by_word : (c : ℕ) (b : Bool) → is_in c signs ≡ b → (is_among word.REM word.ROUND c || is_in c signs) ≡ true → is_word c ≡ true → is_among word.REM word.ROUND c ≡ true
+by_word : (c : ℕ) (b : Bool) → is_in c signs ≡ b → (is_among word.REM word.LAST c || is_in c signs) ≡ true → is_word c ≡ true → is_among word.REM word.LAST c ≡ true
 by_word c true is h k = let clash = among_signs small_sign c signs signs_small is in absurd (false_true (sym (ap not k) ∙ clash))
-by_word c false is h k = or_none (is_among word.REM word.ROUND c) (ap (λ (b : Bool). is_among word.REM word.ROUND c || b) (sym is) ∙ h)
+by_word c false is h k = or_none (is_among word.REM word.LAST c) (ap (λ (b : Bool). is_among word.REM word.LAST c || b) (sym is) ∙ h)
 
 -- a good word has a code of the table, and a good sign is one of the signs
 pub good_word : (c : ℕ) → good_token (Coded c) ≡ true → is_word c ≡ true → is_code c ≡ true
 good_word c h k = good_code c (by_word c (is_in c signs) refl h k)
 
-by_sign : (c : ℕ) (b : Bool) → is_among word.REM word.ROUND c ≡ b → (b || is_in c signs) ≡ true → is_word c ≡ false → is_in c signs ≡ true
+by_sign : (c : ℕ) (b : Bool) → is_among word.REM word.LAST c ≡ b → (b || is_in c signs) ≡ true → is_word c ≡ false → is_in c signs ≡ true
 by_sign c true is h k = absurd (no_code c k is)
 by_sign c false is h k = h
 
 pub good_sign : (c : ℕ) → good_token (Coded c) ≡ true → is_word c ≡ false → is_in c signs ≡ true
-good_sign c h k = by_sign c (is_among word.REM word.ROUND c) refl h k
+good_sign c h k = by_sign c (is_among word.REM word.LAST c) refl h k
 
 coded_by : (operand : Bool) (c : ℕ) (x : Text) (b : Bool) → is_word c ≡ b → good_token (Coded c) ≡ true → (operand && begins_wordy (Coded c)) ≡ false
     → FirstOf operand (Coded c) (first (spelled (Coded c) ++ x))

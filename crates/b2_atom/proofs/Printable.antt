@@ -1,5 +1,6 @@
 -- Each byte of the canonical source may stand in a line.
 use Rattle.std.proofs.Common.{◌≡◌, ℕ, Bool, true, false, List, [], ◌∷◌, ◌++◌, length, get_or, refl, ap, ◌∙◌, nat_lt}
+use Rattle.b2_atom.specs.declared.words.TheConstants as word
 use Rattle.b2_atom.specs.Words.{Text, texts}
 use Rattle.b2_atom.specs.Tokens.{Token, listed, spaced, spelled, is_apart, is_word, ends_wordy, is_operand}
 use Rattle.b2_atom.specs.Tokens.Token.{Coded, Plain, Lined}
@@ -14,7 +15,7 @@ use Rattle.b2_atom.proofs.CleanLeaves.{whole_printable}
 use Rattle.b2_atom.proofs.SideBySide.{among_signs, whole_width, is_text}
 use Rattle.b2_atom.proofs.Listed.{at_code, good_word, good_sign, spelled_word, spelled_sign}
 
-words_printable : below (λ i. all_printable (get_or texts i [])) 104 ≡ true
+words_printable : below (λ i. all_printable (get_or texts i [])) word.CODED ≡ true
 words_printable = refl
 
 signs_printable : every is_printable signs ≡ true

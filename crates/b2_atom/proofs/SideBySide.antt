@@ -68,7 +68,7 @@ sign_byte n = is_letter n || (quiet n && (not (n == 36) && (n == 61 || ends_rela
 signs_are : every sign_byte signs ≡ true
 signs_are = refl
 
-code_quiet : (n : ℕ) → is_among 128 231 n ≡ true → sign_byte n ≡ true
+code_quiet : (n : ℕ) → is_among word.REM word.LAST n ≡ true → sign_byte n ≡ true
 code_quiet n h = grind (arith, nat_tests)
 
 or_true : (p : Bool) (a b : Bool) → (a ≡ true → p ≡ true) → (b ≡ true → p ≡ true) → (a || b) ≡ true → p ≡ true
@@ -76,7 +76,7 @@ or_true p true b f g h = f refl
 or_true p false b f g h = g h
 
 pub coded_byte : (d : ℕ) → good_token (Coded d) ≡ true → sign_byte d ≡ true
-coded_byte d h = or_true (sign_byte d) (is_among word.REM word.ROUND d) (is_in d signs) (code_quiet d) (among_signs sign_byte d signs signs_are) h
+coded_byte d h = or_true (sign_byte d) (is_among word.REM word.LAST d) (is_in d signs) (code_quiet d) (among_signs sign_byte d signs signs_are) h
 
 byte_quiet : (n : ℕ) → sign_byte n ≡ true → not (is_letter n) ≡ true → quiet n ≡ true
 byte_quiet n h k = grind (arith, nat_tests)

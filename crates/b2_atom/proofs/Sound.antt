@@ -1,5 +1,5 @@
 -- What is read from atoms is spelled by them: a reading's atoms and what it leaves are the text that it began at.
-use Rattle.std.proofs.Common.{◌≡◌, ℕ, zero, suc, ◌+◌, Bool, true, false, if◌then◌else◌, ◌==◌, ◌&&◌, nat_le, List, [], ◌∷◌, ◌++◌, length, take, drop, map, refl, sym, ap, ◌∙◌, arith, get_or, nat_lt, ◌/◌, ◌%◌, append_assoc, append-nil, Result, Ok, Err}
+use Rattle.std.proofs.Common.{◌≡◌, ℕ, zero, suc, ◌+◌, Bool, true, false, if◌then◌else◌, ◌==◌, ◌&&◌, nat_le, List, [], ◌∷◌, ◌++◌, length, take, drop, map, refl, sym, ap, ◌∙◌, arith, get_or, nat_lt, ◌/◌, append_assoc, append-nil, Result, Ok, Err}
 use Rattle.std.proofs.lemmas.Bool.Decides.{nat_tests}
 use Rattle.b2_atom.specs.Words.{Text, kept, first}
 use Rattle.b2_atom.specs.Tokens.{token_atoms, kept_text}
@@ -8,7 +8,7 @@ use Rattle.std.proofs.lemmas.List.{take-append-drop}
 use Rattle.b2_atom.specs.Tree.{Trees, Outcome, Parser, one, nothing, joined, and_then, under, also, atoms}
 use Rattle.b2_atom.specs.Tree.Trees.{Done, Put, In}
 use Rattle.b2_atom.specs.Leaves.{refused, all_printable, leaf_width}
-use Rattle.b2_atom.specs.Grammar.{reader, read_item, items, item, level, deep, statement, many, row_items, rows_of, starts, read_line, chosen, statement_row, row_at, from, mark, among, program_word, ignored, comma, end_of_line, end_at, read_leaf, leaf_at, plain_of, atoms_line_number, text_to_end, is_decimal}
+use Rattle.b2_atom.specs.Grammar.{reader, read_item, items, item, level, deep, statement, many, row_items, rows_of, place_of, starts, read_line, chosen, statement_row, row_at, from, mark, among, program_word, ignored, comma, end_of_line, end_at, read_leaf, leaf_at, plain_of, atoms_line_number, text_to_end, is_decimal}
 use Rattle.b2_atom.specs.declared.words.Origin.TheVariants.{Atoms}
 use Rattle.b2_atom.specs.declared.sink.Stop.{Stop}
 use Rattle.b2_atom.specs.declared.sink.Stop.TheVariants.{At}
@@ -153,7 +153,7 @@ all_good k = if_good (k == 0) rows_0 _ refl (if_good (k == 1) rows_1 _ refl (if_
 
 row_good : (n : ℕ) → good_row (row_items n) ≡ true
 unfolding row_items
-row_good n = get_good (rows_of (n / 64)) (n % 64) (all_good (n / 64))
+row_good n = get_good (rows_of (n / 64)) (place_of n) (all_good (n / 64))
 
 takes_read : (i : Item) (s : Text) → good_item i ≡ true → Takes s (read_item Atoms i s)
 unfolding mark among program_word ignored comma end_of_line read_leaf

@@ -167,14 +167,14 @@ sign_absent v c y f h =
 
 -- the code of a word, where it may be one
 coded_absent : (v : Text) (d c : ℕ) (y : Text) (b : Bool) → is_word c ≡ b → is_foreign v ≡ true → good_token (Coded c) ≡ true → (b ≡ true → (c == d) ≡ false)
-    → below (no_word_but v d) 104 ≡ true → begins_with v (spelled (Coded c) ++ y) ≡ false
+    → below (no_word_but v d) word.CODED ≡ true → begins_with v (spelled (Coded c) ++ y) ≡ false
 coded_absent v d c y true is f g other all =
     ap (λ (t : Text). begins_with v (t ++ y)) (spelled_word c is) ∙ at_no_word v d c y all (good_word c g is) (other refl)
 coded_absent v d c y false is f g other all =
     ap (λ (t : Text). begins_with v (t ++ y)) (spelled_sign c is) ∙ sign_absent v c y f (good_sign c g is)
 
 -- no such word stands where a token does
-pub absent : (v : Text) (d : ℕ) (u : Token) (us : List Token) → is_foreign v ≡ true → below (no_word_but v d) 104 ≡ true → is_image u ≡ false → is_free u ≡ false
+pub absent : (v : Text) (d : ℕ) (u : Token) (us : List Token) → is_foreign v ≡ true → below (no_word_but v d) word.CODED ≡ true → is_image u ≡ false → is_free u ≡ false
     → ((c : ℕ) → u ≡ Coded c → is_word c ≡ true → (c == d) ≡ false) → AllGood (u ∷ us) → Neighbours (u ∷ us) → begins_with v (spelled u ++ source_behind u us) ≡ false
 absent v d (Coded c) us f all n t other g nb = coded_absent v d c (source_behind (Coded c) us) (is_word c) refl f g.0 (other c refl) all
 absent v d (Plain k w) us f all n t other g nb = plain_absent v k w (source_behind (Plain k w) us) f n t g.0 (leaf_ends Program source_behind (source_shown Program) k w us g.1 nb)
@@ -206,11 +206,11 @@ next_shown t u us n g =
     let f = token_fronted u n g in
     skip_spaced Program refl (is_apart (ends_wordy t) (is_operand t) u) (spelled u) (listed (ends_wordy u) (is_operand u) us) f.blank f.some
 
-absent_behind : (v : Text) (d : ℕ) (t u : Token) (us : List Token) → is_foreign v ≡ true → below (no_word_but v d) 104 ≡ true → is_image u ≡ false → is_free u ≡ false
+absent_behind : (v : Text) (d : ℕ) (t u : Token) (us : List Token) → is_foreign v ≡ true → below (no_word_but v d) word.CODED ≡ true → is_image u ≡ false → is_free u ≡ false
     → ((c : ℕ) → u ≡ Coded c → is_word c ≡ true → (c == d) ≡ false) → AllGood (u ∷ us) → Neighbours (u ∷ us) → begins_with v (skip_blanks (source_behind t (u ∷ us))) ≡ false
 absent_behind v d t u us f all n fr other g nb = ap (begins_with v) (next_shown t u us fr g.0) ∙ absent v d u us f all n fr other g nb
 
-behind_data_absent : (v : Text) (d c : ℕ) (u : Token) (us : List Token) → is_foreign v ≡ true → below (no_word_but v d) 104 ≡ true → AllGood (u ∷ us) → Neighbours (Coded c ∷ u ∷ us)
+behind_data_absent : (v : Text) (d c : ℕ) (u : Token) (us : List Token) → is_foreign v ≡ true → below (no_word_but v d) word.CODED ≡ true → AllGood (u ∷ us) → Neighbours (Coded c ∷ u ∷ us)
     → (c == word.DATA) ≡ true → begins_with v (skip_blanks (source_behind (Coded c) (u ∷ us))) ≡ false
 behind_data_absent v d c u us f all g nb is =
     let m = behind_data c u is nb.0 in
@@ -219,7 +219,7 @@ behind_data_absent v d c u us f all g nb is =
     absent_behind v d (Coded c) u us f all (or_second (is_mark u) (is_image u) no_more) fr
     (λ e same h. absurd (no_mark_word e (ap is_mark (sym same) ∙ or_first (is_mark u) (is_image u) no_more) h)) g nb.1
 
-behind_print_absent : (v : Text) (c : ℕ) (u : Token) (us : List Token) → is_foreign v ≡ true → below (no_word_but v 0) 104 ≡ true → AllGood (u ∷ us) → Neighbours (Coded c ∷ u ∷ us)
+behind_print_absent : (v : Text) (c : ℕ) (u : Token) (us : List Token) → is_foreign v ≡ true → below (no_word_but v 0) word.CODED ≡ true → AllGood (u ∷ us) → Neighbours (Coded c ∷ u ∷ us)
     → (c == word.PRINT) ≡ true → begins_with v (skip_blanks (source_behind (Coded c) (u ∷ us))) ≡ false
 behind_print_absent v c u us f all g nb is =
     let m = behind_print c u is nb.0 in

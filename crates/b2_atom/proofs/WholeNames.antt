@@ -37,14 +37,14 @@ word_code n = grind (arith, nat_tests)
 abbrev typed_of : Bool → Bool → ℕ × ℕ → ℕ → Text → ℕ × Text
 typed_of z l best a y = if z then (upper a, y) else (if l then (1, drop best.0 (a ∷ y)) else joined (best.1 + 128) (drop best.0 (a ∷ y)))
 
-class_by : (q : ℕ → Bool) → IsByteClass q → (best : ℕ × ℕ) (a : ℕ) (y : Text) (z l : Bool) → (best.0 == 0) ≡ z → nat_le 104 best.1 ≡ l
+class_by : (q : ℕ → Bool) → IsByteClass q → (best : ℕ × ℕ) (a : ℕ) (y : Text) (z l : Bool) → (best.0 == 0) ≡ z → nat_le word.CODED best.1 ≡ l
     → q (typed_of z l best a y).0 ≡ true → q (upper a) ≡ true
 class_by q is best a y true l hz hl h = h
 class_by q is best a y false true hz hl h = absurd (false_true (sym is.0 ∙ h))
 class_by q is best a y false false hz hl h = absurd (joined_class q is (best.1 + 128) (drop best.0 (a ∷ y)) (word_code best.1) h)
 
 typed_class : (q : ℕ → Bool) → IsByteClass q → (a : ℕ) (y : Text) → q (typed_ahead (a ∷ y)).0 ≡ true → q (upper a) ≡ true
-typed_class q is a y h = class_by q is (word_at (a ∷ y)) a y ((word_at (a ∷ y)).0 == 0) (nat_le 104 (word_at (a ∷ y)).1) refl refl h
+typed_class q is a y h = class_by q is (word_at (a ∷ y)) a y ((word_at (a ∷ y)).0 == 0) (nat_le word.CODED (word_at (a ∷ y)).1) refl refl h
 
 -- where a byte of such a class stands, it is that byte as it is kept
 pub class_kept : (o : Origin) (q : ℕ → Bool) → IsByteClass q → (a : ℕ) (y : Text) → q (ahead o (a ∷ y)).0 ≡ true → q (kept o a) ≡ true

@@ -20,12 +20,12 @@ lengthens_word c n = ends_wordy (Coded c) && lengthens n
 
 -- a word of the table
 abbrev pub is_code : ℕ → Bool
-is_code c = nat_le 128 c && nat_lt c 232
+is_code c = nat_le 128 c && nat_le c word.LAST
 
-all_found : below (λ i. Found (lengthens_word (i + 128)) texts i) 104 ≡ true
+all_found : below (λ i. Found (lengthens_word (i + 128)) texts i) word.CODED ≡ true
 all_found = refl
 
-pub code_less : (c : ℕ) → is_code c ≡ true → c - 128 < 104
+pub code_less : (c : ℕ) → is_code c ≡ true → c - 128 < word.CODED
 code_less c h = grind (arith, nat_tests)
 
 pub code_again : (c : ℕ) → is_code c ≡ true → c - 128 + 128 ≡ c
@@ -35,9 +35,9 @@ code_again c h = grind (arith, nat_tests)
 word_test : ℕ → List Text → ℕ → Bool
 word_test c ws i = Found (lengthens_word c) ws i
 
-tested : (i : ℕ) → i < 104 → word_test (i + 128) texts i ≡ true
+tested : (i : ℕ) → i < word.CODED → word_test (i + 128) texts i ≡ true
 unfolding word_test
-tested i h = at_below (λ i. Found (lengthens_word (i + 128)) texts i) 104 i all_found h
+tested i h = at_below (λ i. Found (lengthens_word (i + 128)) texts i) word.CODED i all_found h
 
 found_by : (c : ℕ) (ws : List Text) (i : ℕ) (x : Text) → lengthens_word c (upper (first x)) ≡ false → word_test c ws i ≡ true
     → longest ws (get_or ws i [] ++ x) (0, 0) 0 ≡ (length (get_or ws i []), i)
@@ -69,17 +69,17 @@ alone c x h =
     (c == word.PRINT && begins_with (codes "USING") (skip_blanks x))
     (word.DATASAVE, drop 4 (skip_blanks x)) (word.DATALOAD, drop 4 (skip_blanks x)) (word.PRINTUSING, drop 5 (skip_blanks x)) (c, x) h
 
-by_word : (n i c : ℕ) (w x : Text) → length w ≡ n → 0 < n → i < 104 → i + 128 ≡ c → joins c x ≡ false → typed_by (n, i) (w ++ x) ≡ (c, x)
+by_word : (n i c : ℕ) (w x : Text) → length w ≡ n → 0 < n → i < word.CODED → i + 128 ≡ c → joins c x ≡ false → typed_by (n, i) (w ++ x) ≡ (c, x)
 by_word n i c w x long some less is stop =
     let one : (n == 0) ≡ false = grind (arith, nat_tests) in
-    let two : nat_le 104 i ≡ false = grind (arith, nat_tests) in
+    let two : nat_le word.CODED i ≡ false = grind (arith, nat_tests) in
     rw one (rw two (rw (← long) (rw (drop-append_seam w x) (rw is (alone c x stop)))))
 
-some_word : below (λ i. nat_lt 0 (length (get_or texts i []))) 104 ≡ true
+some_word : below (λ i. nat_lt 0 (length (get_or texts i []))) word.CODED ≡ true
 some_word = refl
 
 pub word_some : (c : ℕ) → is_code c ≡ true → 0 < length (word_text c)
-word_some c h = is_less 0 (length (word_text c)) (at_below (λ i. nat_lt 0 (length (get_or texts i []))) 104 (c - 128) some_word (code_less c h))
+word_some c h = is_less 0 (length (word_text c)) (at_below (λ i. nat_lt 0 (length (get_or texts i []))) word.CODED (c - 128) some_word (code_less c h))
 
 -- what stands where a word is spelled
 pub typed_word : (c : ℕ) (x : Text) → is_code c ≡ true → lengthens_word c (upper (first x)) ≡ false → joins c x ≡ false

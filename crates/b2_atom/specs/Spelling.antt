@@ -1,7 +1,7 @@
 -- Which texts spell which tokens, and which tokens may stand side by side.
 use Rattle.std.specs.Prelude.{◌≡◌, ℕ, ◌-◌, ◌<◌, ◌&&◌, ◌||◌, ◌==◌, not, nat_lt, Bool, true, false, List, [], ◌∷◌, ◌++◌, length, drop, codes, if◌then◌else◌}
-use Rattle.b2_atom.specs.Words.{Text, first, skipped, ahead, kept}
-use Rattle.b2_atom.specs.Tokens.{Token, token_atoms}
+use Rattle.b2_atom.specs.Words.{Text, first, skipped, ahead, kept, word_text}
+use Rattle.b2_atom.specs.Tokens.{Token, token_atoms, is_word}
 use Rattle.b2_atom.specs.Tokens.Token.{Coded, Plain, Lined}
 use Rattle.b2_atom.specs.Tree.{one}
 use Rattle.b2_atom.specs.Leaves.{is_letter, is_hex, is_alpha_name, name_width, all_printable, leaf_width}
@@ -27,7 +27,7 @@ is_in b (c ∷ cs) = b == c || is_in b cs
 
 -- a token that may stand in a line: a word of the table, a sign, a whole leaf, or a line number of decimal digits
 abbrev pub good_token : Token → Bool
-good_token (Coded c) = is_among word.REM word.ROUND c || is_in c signs
+good_token (Coded c) = is_among word.REM word.LAST c || is_in c signs
 good_token (Plain k w) = is_whole k w
 good_token (Lined high low) = is_decimal high && is_decimal low
 
@@ -52,7 +52,7 @@ is_image t = false
 
 -- a word that begins with `$`
 abbrev pub is_dollar : Token → Bool
-is_dollar (Coded c) = is_among word.DOLLAR_BREAK word.DOLLAR_CLOSE c || is_among word.DOLLAR_PACK_OPEN word.DOLLAR_UNPACK_OPEN c
+is_dollar (Coded c) = is_word c && first (word_text c) == 36
 is_dollar t = false
 
 -- a token that doesn't begin with a comparison sign

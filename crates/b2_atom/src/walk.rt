@@ -33,7 +33,11 @@ fn row_in(table: &'static [&'static [Item]], place: usize) -> &'static [Item]
 fn row_items(number: u16) -> &'static [Item]
     ensures { result.now ≡ spec.row_items number }
 {
-    let place = usize::from(number % 64);
+    let place = usize::from(if number < 192 {
+        number % 64
+    } else {
+        number - 192
+    });
     match number / 64 {
         0 => row_in(&ROWS_0, place),
         1 => row_in(&ROWS_1, place),

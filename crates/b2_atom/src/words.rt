@@ -221,6 +221,9 @@ pub const HASH_TERM: u8 = 0xE6;
 
 pub const ROUND: u8 = 0xE7;
 
+/// The last word.
+pub const LAST: u8 = 0xE7;
+
 /// The words in the order of their codes, and behind them those that this machine leaves out.
 #[rattlefmt::skip]
 pub const WORDS: [&[u8]; 126] = [
