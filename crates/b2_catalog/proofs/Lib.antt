@@ -1,6 +1,7 @@
 pub mod Finding
 pub mod Looking
 pub mod Mapping
+pub mod Sectors
 pub mod Rows
 pub mod Changed
 pub mod Spelled

@@ -154,7 +154,7 @@ module _ (image : List ℕ) (good : Good Narrow image) (name : List ℕ) where
       let most = first_slot-low s in
       (omega arith, omega arith, omega arith, omega arith)
 
-  absent : slot_of image name ≡ None → (s : ℕ) → s < index_of image → slot_in image name s ≡ None
+  pub absent : slot_of image name ≡ None → (s : ℕ) → s < index_of image → slot_in image name s ≡ None
   unfolding slot_of slot_in
   absent none s below =
       find-none _ (first_slot s) (16 * s + 16 - first_slot s) (λ j low high. let at = in_slots s j below low high in find-missed _ 1 (16 * index_of image - 1) none j at.0 (omega (arith, at.1)))

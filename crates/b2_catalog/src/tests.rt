@@ -1,10 +1,10 @@
 // The catalogue of small disks: names by their hashes, the index when it is full, and what the calls answer.
-ghost use Rattle.std.specs.Prelude.{◌≡◌, ◌<◌};
+ghost use Rattle.std.specs.Prelude.{◌≡◌, ◌<◌, ◌+◌, IfSome};
 
 use crate::{Entry, enter, find, format, limits, listing, look, reuse, scratch, set_used};
 use b2_base::codes::Code;
 use b2_base::{Name8, NoMemory, Steps};
-use b2_platter::Platter;
+use b2_platter::{Platter, checks, image};
 use std::alloc::Global;
 use std::marker::Brand;
 use std::sync::ledger::{Blank, Ledger};
@@ -71,6 +71,38 @@ fn find_counted(p: &Platter, letter: u8) -> bool {
     found::<Brand>(p, letter, Blank::new(1))
 }
 
+// How many of two index sectors the look-up of a name that isn't there reads, which are its steps: one where the first on
+// its way has a free slot, else both. None where the name is there, or the index has another size.
+fn sectors_read<L: Ledger>(p: &Platter, name: Name8, steps: &mut Steps<L>) -> Option<usize>
+    ensures { IfSome result (λ read. steps.new ≡ steps.old + read) }
+{
+    let image = p.image();
+    if image.len() < 512 || image::index(image) != 2 {
+        return None;
+    }
+    if find(p, name, steps).is_some() {
+        return None;
+    }
+    if checks::has_free(image, checks::hash(2, &name.bytes())) {
+        return Some(1);
+    }
+    Some(2)
+}
+
+// The same of a name of one letter, with a count of its own.
+fn sectors_for<L: Ledger>(p: &Platter, letter: u8, blank: Blank) -> Option<usize>
+    requires name { blank.name ≡ L.name }
+    requires parts { blank.parts ≡ L.parts }
+    requires some { 0 < L.parts }
+{
+    let name = name(letter)?;
+    sectors_read(p, name, &mut Steps::<L>::new(blank))
+}
+
+fn sectors(p: &Platter, letter: u8) -> Option<usize> {
+    sectors_for::<Brand>(p, letter, Blank::new(1))
+}
+
 // The names of one letter whose bytes add up to an even number, and to an odd one: seven blanks are 224.
 const EVEN: [u8; 16] = *b"BDFHJLNPRTVXZ024";
 
@@ -104,6 +136,27 @@ fn a_full_index(rt: HostRuntime) -> Result<(), Fail> {
     assert_eq!(rt; (e.live, e.start, e.end, e.used), (true, 2, 3, 1));
     assert!(rt; find_counted(&p, b'4'));
     assert!(rt; !find_counted(&p, b'5'));
+    Ok(())
+}
+
+#[test]
+fn a_look_up_reads_a_sector_more_than_are_full(rt: HostRuntime) -> Result<(), Fail> {
+    let mut p = Platter::blank(rt.alloc(), 256)?;
+    assert_eq!(rt; sectors(&p, b'B'), Some(1));
+    assert_eq!(rt; sectors(&p, b'A'), Some(1));
+    for letter in &EVEN[..15] {
+        assert_eq!(rt; entered(&mut p, *letter, 2), 0);
+    }
+    // Sector 0 is full, and sector 1 is blank.
+    assert_eq!(rt; sectors(&p, b'4'), Some(2));
+    assert_eq!(rt; sectors(&p, b'A'), Some(1));
+    assert_eq!(rt; sectors(&p, b'B'), None);
+    for letter in ODD {
+        assert_eq!(rt; entered(&mut p, letter, 2), 0);
+    }
+    // Both are full.
+    assert_eq!(rt; sectors(&p, b'4'), Some(2));
+    assert_eq!(rt; sectors(&p, b'7'), Some(2));
     Ok(())
 }
 
