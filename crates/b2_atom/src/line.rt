@@ -1,5 +1,5 @@
 // Lines as atoms, their units, and a cursor over the bytes of one.
-ghost use Rattle.std.specs.Prelude.{◌≡◌, ◌≢◌, ◌≤◌, ◌<◌, ◌&&◌, nat_lt, length, drop, IfErr, IfOk, MatchResult, Some, None, if◌then◌else◌, true, slice_get};
+ghost use Rattle.std.specs.Prelude.{◌≡◌, ◌≢◌, ◌≤◌, ◌<◌, ◌&&◌, nat_lt, length, drop, ◌+◌, ◌==◌, ◌||◌, IfErr, IfOk, IfSome, MatchResult, Some, None, if◌then◌else◌, true, slice_get};
 ghost use Rattle.std.specs.Option.{option_map};
 ghost use Rattle.b2_atom.specs.Lines.{IsKnown, is_line, line_atoms, line_source, short_line, behind_unit, next_place, next_text, units_of, further_unit, is_further};
 
@@ -41,6 +41,13 @@ impl<'a> Model for Cursor<'a> {
     ghost Value = { List ℕ };
 
     ghost view = { λ c. c.left.now };
+}
+
+/// A unit of a line: its bytes, and whether it is the last one.
+#[derive(Drop)]
+pub struct FoundUnit<'a> {
+    pub cursor: Cursor<'a>,
+    pub is_last: bool,
 }
 
 // Whether bytes spell a line.
@@ -138,17 +145,28 @@ fn count_units(line: &[u8]) -> usize
     line.len()
 }
 
-// The bytes of a unit.
+// Whether no unit stands behind so many, of at most so many.
+fn ends_line(rest: &[u8], units: usize, most: usize) -> bool
+    ensures { result ≡ (length rest.now == 0 || units == most) }
+{
+    rest.is_empty() || units == most
+}
+
+// A unit, and whether it is the last, by a walk up to its end.
 #[tactic(auto, unfolding(crate::specs::Lines::units_of))]
-fn unit_bytes(line: &[u8], unit: usize) -> Option<&[u8]>
-    ensures { option_map (λ b. b.now) result ≡ option_map (λ u. u.bytes) (slice_get (units_of line.now) unit) }
+fn unit_in(line: &[u8], unit: usize) -> Option<FoundUnit<'_>>
+    ensures bytes { option_map (λ u. u.cursor) result ≡ option_map (λ u. u.bytes) (slice_get (units_of line.now) unit) }
+    ensures last { IfSome result (λ u. u.is_last ≡ (unit + 1 == length (units_of line.now))) }
 {
     let mut place = Place::First;
     let mut left = line;
     for i in 0..line.len() {
         let rest = behind_unit(place, left);
         if i == unit {
-            return Some(front(left, left.len().saturating_sub(rest.len())));
+            return Some(FoundUnit {
+                cursor: Cursor::over(front(left, left.len().saturating_sub(rest.len()))),
+                is_last: ends_line(rest, i + 1, line.len()),
+            });
         }
         if rest.is_empty() {
             return None;
@@ -258,10 +276,19 @@ impl Atoms {
     pub fn unit(&self, k: usize) -> Option<Cursor<'_>>
         ensures { result ≡ option_map (λ u. u.bytes) (slice_get (units_of self.now) k) }
     {
-        match unit_bytes(&self.bytes, k) {
-            Some(left) => Some(Cursor { left }),
+        match unit_in(&self.bytes, k) {
+            Some(unit) => Some(unit.cursor),
             None => None,
         }
+    }
+
+    /// A unit, with whether it is the last: one walk finds both, and ends where the unit ends.
+    pub fn find_unit(&self, k: usize) -> Option<FoundUnit<'_>>
+        ensures bytes { option_map (λ u. u.cursor) result ≡ option_map (λ u. u.bytes) (slice_get (units_of self.now) k) }
+        ensures last { IfSome result (λ u. u.is_last ≡ (k + 1 == length (units_of self.now))) }
+        ensures few { IfSome result (λ u. k < 255) }
+    {
+        unit_in(&self.bytes, k)
     }
 
     /// The first unit behind the k-th that follows a `:`, or the number of units where there is none.

@@ -84,10 +84,10 @@ abbrev pub to_line : Option ℕ → SoloState → Stepped
 to_line None s = stops [] s
 to_line (Some n) s = goes_to (Program n 0) s
 
--- the place behind a unit, in a line of so many units
-abbrev pub goes_on : Place → ℕ → SoloState → Stepped
-goes_on (Immediate unit) size s = if nat_lt (unit + 1) size then goes_to (Immediate (unit + 1)) s else stops [] s
-goes_on (Program line unit) size s = if nat_lt (unit + 1) size then goes_to (Program line (unit + 1)) s else to_line (number_after (Some line) s.text.lines) s
+-- the place behind a unit, which is the last of its line or not
+abbrev pub goes_on : Place → Bool → SoloState → Stepped
+goes_on (Immediate unit) last s = if last then stops [] s else goes_to (Immediate (unit + 1)) s
+goes_on (Program line unit) last s = if last then to_line (number_after (Some line) s.text.lines) s else goes_to (Program line (unit + 1)) s
 
 abbrev pub shows : List ℕ → SoloState → SoloState
 shows text s = record s { terminal = record s.terminal { transcript = s.terminal.transcript ++ text }; column = column_after s.column text }
@@ -119,19 +119,20 @@ listed from to lines = each_listed (filter (λ l. is_within from to l.0) lines)
 abbrev pub with_lines : Lines → SoloState → SoloState
 with_lines lines s = record s { text = record s.text { lines = lines } }
 
--- What was asked for is done, by the unit at a place in a line of so many. CLEAR and CLEAR P end what they stand in.
-abbrev pub does : Request → Place → ℕ → SoloState → Stepped
-does (request.Show text) place size s = goes_on place size (shows text s)
-does (request.Assign letters x) place size s = goes_on place size (record s { variables = assigned letters x s.variables })
-does (request.Jump n) place size s = jumps (line_at n s.text.lines) n place s
-does (request.Select chosen) place size s = goes_on place size (record s { mode = chosen })
-does request.Nothing place size s = goes_on place size s
-does request.End place size s = stops [] s
-does request.Run place size s = to_line (number_after None s.text.lines) (record s { variables = no_values })
-does (request.List from to) place size s = goes_on place size (shows (listed from to s.text.lines) s)
-does request.Clear place size s = stops (codes "READY" ++ 10 ∷ []) (record (with_lines [] s) { variables = no_values })
-does (request.ClearProgram from to) place size s = stops [] (with_lines (without from to s.text.lines) s)
-does (request.Fail code) place size s = fails code place s
+-- What was asked for is done, by the unit at a place, which is the last of its line or not. CLEAR and CLEAR P end what they
+-- stand in.
+abbrev pub does : Request → Place → Bool → SoloState → Stepped
+does (request.Show text) place last s = goes_on place last (shows text s)
+does (request.Assign letters x) place last s = goes_on place last (record s { variables = assigned letters x s.variables })
+does (request.Jump n) place last s = jumps (line_at n s.text.lines) n place s
+does (request.Select chosen) place last s = goes_on place last (record s { mode = chosen })
+does request.Nothing place last s = goes_on place last s
+does request.End place last s = stops [] s
+does request.Run place last s = to_line (number_after None s.text.lines) (record s { variables = no_values })
+does (request.List from to) place last s = goes_on place last (shows (listed from to s.text.lines) s)
+does request.Clear place last s = stops (codes "READY" ++ 10 ∷ []) (record (with_lines [] s) { variables = no_values })
+does (request.ClearProgram from to) place last s = stops [] (with_lines (without from to s.text.lines) s)
+does (request.Fail code) place last s = fails code place s
 
 abbrev pub unit_of : Place → ℕ
 unit_of (Immediate unit) = unit
@@ -146,13 +147,13 @@ abbrev pub line_of : Place → SoloState → Option (List ℕ)
 line_of place s = line_in s.immediate s.text.lines place
 
 -- a unit that isn't there ends the program or the immediate line
-abbrev pub performs_unit : Option (List ℕ) → Place → ℕ → SoloState → Stepped
-performs_unit None place size s = stops [] s
-performs_unit (Some unit) place size s = does (plan s.variables s.mode s.column unit) place size s
+abbrev pub performs_unit : Option (List ℕ) → Place → Bool → SoloState → Stepped
+performs_unit None place last s = stops [] s
+performs_unit (Some unit) place last s = does (plan s.variables s.mode s.column unit) place last s
 
 abbrev pub performs_in : Option (List ℕ) → Place → SoloState → Stepped
 performs_in None place s = stops [] s
-performs_in (Some line) place s = performs_unit (option_map (λ u. u.bytes) (slice_get (units_of line) (unit_of place))) place (length (units_of line)) s
+performs_in (Some line) place s = performs_unit (option_map (λ u. u.bytes) (slice_get (units_of line) (unit_of place))) place (unit_of place + 1 == length (units_of line)) s
 
 -- what a typed line says is taken; a number alone deletes the line of that number
 abbrev pub enters : Entered → SoloState → SoloState

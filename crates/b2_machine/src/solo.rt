@@ -1,5 +1,5 @@
 // The machine of one partition at one terminal.
-ghost use Rattle.std.specs.Prelude.{◌≡◌, ◌≢◌, Some, Err, ◌<◌, ◌≤◌, ◌++◌, ◌+◌, ◌∷◌, [], length, IfOk, OnOk, nat_lt, set};
+ghost use Rattle.std.specs.Prelude.{◌≡◌, ◌≢◌, Some, Err, ◌<◌, ◌≤◌, ◌++◌, ◌+◌, ◌∷◌, [], length, IfOk, OnOk, nat_lt, set, true};
 ghost use Rattle.std.specs.Option.{option_copied};
 ghost use Rattle.b2_syntax.specs.Reading as syntax;
 ghost use Rattle.b2_term.specs.Terminal.{line_read, after_read};
@@ -193,25 +193,19 @@ impl Solo {
         }
     }
 
-    // To the place behind a unit, in a line of so many.
-    fn go_on(&mut self, place: Place, size: usize) -> Result<StepEnd, NoMemory>
-        requires { unit_of place < size }
-        ensures { IfOk result (λ how. record { after = self.new; end = how } ≡ goes_on place size self.old) }
+    // To the place behind a unit, which is the last of its line or not.
+    fn go_on(&mut self, place: Place, is_last: bool) -> Result<StepEnd, NoMemory>
+        requires { unit_of place < 255 }
+        ensures { IfOk result (λ how. record { after = self.new; end = how } ≡ goes_on place is_last self.old) }
     {
         match place {
-            Place::Immediate(unit) => {
-                if unit + 1 < size {
-                    return Ok(self.go_to(Place::Immediate(unit + 1)));
-                }
-                self.stop(b"")
-            }
-            Place::Program(n, unit) => {
-                if unit + 1 < size {
-                    return Ok(self.go_to(Place::Program(n, unit + 1)));
-                }
+            Place::Immediate(_) if is_last => self.stop(b""),
+            Place::Immediate(unit) => Ok(self.go_to(Place::Immediate(unit + 1))),
+            Place::Program(n, _) if is_last => {
                 let line = self.text.next_after(Some(n));
                 self.go_to_line(line)
             }
+            Place::Program(n, unit) => Ok(self.go_to(Place::Program(n, unit + 1))),
         }
     }
 
@@ -225,7 +219,7 @@ impl Solo {
 
     // To a line that a unit at a place names.
     fn jump(&mut self, n: u16, place: Place) -> Result<StepEnd, NoMemory>
-        ensures { IfOk result (λ how. record { after = self.new; end = how } ≡ does (Request.Jump n) place 0 self.old) }
+        ensures { IfOk result (λ how. record { after = self.new; end = how } ≡ does (Request.Jump n) place true self.old) }
     {
         if self.text.line(n).is_none() {
             return self.fail(Code::known(P36_NO_LINE), place);
@@ -233,31 +227,31 @@ impl Solo {
         Ok(self.go_to(Place::Program(n, 0)))
     }
 
-    // Does what was asked for, by the unit at a place in a line of so many.
+    // Does what was asked for, by the unit at a place, which is the last of its line or not.
     fn carry_out(
         &mut self,
         request: Request,
         place: Place,
-        size: usize,
+        is_last: bool,
     ) -> Result<StepEnd, NoMemory>
-        requires { unit_of place < size }
-        ensures { IfOk result (λ how. record { after = self.new; end = how } ≡ does request place size self.old) }
+        requires { unit_of place < 255 }
+        ensures { IfOk result (λ how. record { after = self.new; end = how } ≡ does request place is_last self.old) }
     {
         match request {
             Request::Show(text) => {
                 self.show(text.bytes())?;
-                self.go_on(place, size)
+                self.go_on(place, is_last)
             }
             Request::Assign(letters, n) => {
                 assign(&mut self.variables, letters.bytes(), n);
-                self.go_on(place, size)
+                self.go_on(place, is_last)
             }
             Request::Jump(n) => self.jump(n, place),
             Request::Select(mode) => {
                 self.mode = mode;
-                self.go_on(place, size)
+                self.go_on(place, is_last)
             }
-            Request::Nothing => self.go_on(place, size),
+            Request::Nothing => self.go_on(place, is_last),
             Request::End => self.stop(b""),
             Request::Run => {
                 self.forget();
@@ -267,7 +261,7 @@ impl Solo {
             Request::List(from, to) => {
                 let text = listed(self.alloc, &self.text, from, to)?;
                 self.show(text.bytes())?;
-                self.go_on(place, size)
+                self.go_on(place, is_last)
             }
             Request::Clear => {
                 self.text.clear();
@@ -289,12 +283,12 @@ impl Solo {
         let Some(line) = line_at(&self.immediate, &self.text, place) else {
             return self.stop(b"");
         };
-        let size = line.units();
-        let Some(unit) = line.unit(unit_of(place)) else {
+        let Some(unit) = line.find_unit(unit_of(place)) else {
             return self.stop(b"");
         };
-        let request = ask(self.alloc, &self.variables, self.mode, self.column, unit)?;
-        self.carry_out(request, place, size)
+        let is_last = unit.is_last;
+        let request = ask(self.alloc, &self.variables, self.mode, self.column, unit.cursor)?;
+        self.carry_out(request, place, is_last)
     }
 
     // Takes what a typed line says.
