@@ -13,12 +13,12 @@ use Rattle.b2_atom.specs.declared.words.Origin.{Origin}
 use Rattle.b2_atom.specs.declared.words.Origin.TheVariants.{Program, Immediate, Atoms}
 use Rattle.b2_atom.specs.declared.forms.Leaf.{Leaf}
 use Rattle.b2_atom.specs.declared.forms.Leaf.TheVariants as leaf
-use Rattle.b2_atom.proofs.Longest.{and_left, and_right, false_true}
+use Rattle.b2_atom.proofs.Booleans.{and_left, and_right, false_true, not_true}
 use Rattle.b2_atom.proofs.WordsRead.{begins_word, and_false}
 use Rattle.b2_atom.proofs.Keywords.{is_keyword, not_before_sign, not_at_sign}
 use Rattle.b2_atom.proofs.Names.{NameShape, numeric_shape, numeric_read, local_shape, alpha_shape, alpha_read, ahead_sign, ahead_letter, digit_upper}
 use Rattle.b2_atom.proofs.Characters.{hex_kept, function_of, is_function_name, function_ahead}
-use Rattle.b2_atom.proofs.LeavesRead.{ends, leaf_read, not_true, name_digit, name_letter, name_dollar, dollar_before, dollar_long}
+use Rattle.b2_atom.proofs.LeavesRead.{ends, leaf_read, name_digit, name_letter, name_dollar, dollar_before, dollar_long}
 use Rattle.b2_atom.proofs.LeafFronts.{front, leaf_front, width_yes}
 use Rattle.b2_atom.proofs.CleanLeaves.{whole_upper}
 use Rattle.b2_atom.proofs.Widths.{get_first}

@@ -5,7 +5,7 @@ use Rattle.b2_atom.specs.Words.{Text, first, kept, upper, ahead}
 use Rattle.b2_atom.specs.Leaves.{is_digit, is_letter, is_hex, function_name_width, hex_pair_width, hex_digit_width, address_width, relation_of, relation_width, ends_image, until_parenthesis, image_width}
 use Rattle.b2_atom.specs.declared.words.Origin.{Origin}
 use Rattle.b2_atom.specs.declared.words.Origin.TheVariants.{Program, Immediate, Atoms}
-use Rattle.b2_atom.proofs.Longest.{and_left, and_right, false_true}
+use Rattle.b2_atom.proofs.Booleans.{and_left, and_right, false_true}
 use Rattle.b2_atom.proofs.Widths.{get_first, get_front}
 use Rattle.b2_atom.proofs.Names.{ahead_letter}
 

@@ -6,7 +6,8 @@ use Rattle.b2_atom.specs.Leaves.{is_digit, is_letter, is_hex, is_printable, all_
 use Rattle.b2_atom.specs.declared.words.Origin.TheVariants.{Atoms}
 use Rattle.b2_atom.specs.declared.forms.Leaf.{Leaf}
 use Rattle.b2_atom.specs.declared.forms.Leaf.TheVariants as leaf
-use Rattle.b2_atom.proofs.Longest.{and_left, and_right, equal, every, both}
+use Rattle.b2_atom.proofs.Booleans.{and_left, and_right, equal, both}
+use Rattle.b2_atom.proofs.Longest.{every}
 use Rattle.b2_atom.proofs.Widths.{pointed, no_exponent, number_parts, signed_parts}
 use Rattle.b2_atom.proofs.Names.{NameShape, numeric_shape, local_shape, alpha_shape}
 use Rattle.b2_atom.proofs.Characters.{is_function_name, image_parts, relation_most}

@@ -20,6 +20,7 @@ use Rattle.b2_atom.specs.declared.forms.Place.{Place}
 use Rattle.b2_atom.specs.declared.forms.Item.{Item}
 use Rattle.b2_atom.specs.declared.forms.Item.TheVariants.{Word, Sign, Among, ProgramWord, Ignored, Comma, LeftOut, End, Typed, Part, Maybe, Either, Many, Nest, Statement}
 use Rattle.b2_atom.specs.Table.{forms, rows_0, rows_1, rows_2, rows_3}
+use Rattle.b2_atom.proofs.Booleans.{and_left, and_right}
 
 abbrev Known : Outcome → Type 0
 Known (Ok p) = Unit {0}
@@ -128,14 +129,6 @@ good_row (i ∷ is) = good_item i && good_row is
 abbrev good_rows : List (List Item) → Bool
 good_rows [] = true
 good_rows (r ∷ rs) = good_row r && good_rows rs
-
-and_left : (a b : Bool) → (a && b) ≡ true → a ≡ true
-and_left true b h = refl
-and_left false b h = cc
-
-and_right : (a b : Bool) → (a && b) ≡ true → b ≡ true
-and_right true b h = h
-and_right false b h = cc
 
 get_good : (rs : List (List Item)) (k : ℕ) → good_rows rs ≡ true → good_row (get_or rs k []) ≡ true
 get_good [] k h = refl

@@ -22,9 +22,9 @@ use Rattle.b2_atom.specs.declared.forms.Place.{Place}
 use Rattle.b2_atom.specs.declared.forms.Item.{Item}
 use Rattle.b2_atom.specs.declared.forms.Item.TheVariants.{Word, Sign, Among, ProgramWord, Ignored, Comma, LeftOut, End, Typed, Part, Maybe, Either, Many, Nest, Statement}
 use Rattle.b2_atom.specs.declared.sink.Stop.TheVariants.{At}
-use Rattle.b2_atom.proofs.Longest.{and_left, and_right, below, at_below, both}
+use Rattle.b2_atom.proofs.Booleans.{and_left, and_right, both, not_true}
+use Rattle.b2_atom.proofs.Longest.{below, at_below}
 use Rattle.b2_atom.proofs.WordsRead.{typed_end}
-use Rattle.b2_atom.proofs.LeavesRead.{not_true}
 use Rattle.b2_atom.proofs.SideBySide.{is_text}
 use Rattle.b2_atom.proofs.GoodLeaves.{GoodTree, GoodLeaf, leaf_good}
 

@@ -23,7 +23,8 @@ use Rattle.b2_atom.specs.declared.forms.Item.{Item}
 use Rattle.b2_atom.specs.declared.forms.Item.TheVariants.{Word, Sign, Typed, Part, Either, Many, Statement, End}
 use Rattle.b2_atom.specs.declared.sink.Stop.{Stop}
 use Rattle.b2_atom.specs.declared.sink.Stop.TheVariants.{At}
-use Rattle.b2_atom.proofs.Longest.{and_left, and_right, every, equal, both}
+use Rattle.b2_atom.proofs.Booleans.{and_left, and_right, equal, both, or_one, or_other}
+use Rattle.b2_atom.proofs.Longest.{every}
 use Rattle.b2_atom.proofs.Fitted.{no_remark, Good, Leads, tokens_also, append_remarks, calm_row, calm_part, calm_level, calm_deep, calm_item_good, calm_item, skipped_short, ahead_less, nothing_left, drop_short, same_code, le_both}
 
 -- no remark, or nothing behind it
@@ -366,15 +367,8 @@ fact_if : (fs : List Form) (o : Origin) (p : Place) (b : Bool) (r q : Result ℕ
 fact_if fs o p true r q h k = h
 fact_if fs o p false r q h k = k
 
-or_right : (a b : Bool) → b ≡ true → (a || b) ≡ true
-or_right true b h = refl
-or_right false b h = h
-
-or_left : (a b : Bool) → a ≡ true → (a || b) ≡ true
-or_left a b h = rw h refl
-
 fact_later : (f : Form) (fs : List Form) (o : Origin) (p : Place) (r : Result ℕ Stop) → RowFact fs o p r → RowFact (f ∷ fs) o p r
-fact_later f fs o p (Ok n) h = (or_right (f.row == n && is_allowed o p f.rule) (is_statement fs o p n) h.0, h.1)
+fact_later f fs o p (Ok n) h = (or_other (f.row == n && is_allowed o p f.rule) (is_statement fs o p n) h.0, h.1)
 fact_later f fs o p (Err e) h = tt
 
 none_barred : (a b c : Bool) → a ≡ false → b ≡ false → c ≡ false → not (a || (b || c)) ≡ true
@@ -387,7 +381,7 @@ allowed_by f fs o p t true b c ha hb hc h = tt
 allowed_by f fs o p t false true c ha hb hc h = tt
 allowed_by f fs o p t false false true ha hb hc h = tt
 allowed_by f fs o p t false false false ha hb hc h = (
-  or_left (f.row == f.row && is_allowed o p f.rule) (is_statement fs o p f.row)
+  or_one (f.row == f.row && is_allowed o p f.rule) (is_statement fs o p f.row)
       (both (f.row == f.row) (is_allowed o p f.rule) (same_code f.row) (none_barred (barred_following p f.rule) (barred_line o f.rule) (barred_place p f.rule) ha hb hc)),
   h,
 )
@@ -404,7 +398,7 @@ row_fact (f ∷ fs) o p t h =
 
 always_assignment : (fs : List Form) (o : Origin) (p : Place) → is_statement fs o p row.ASSIGNMENT ≡ true
 always_assignment [] o p = refl
-always_assignment (f ∷ fs) o p = or_right (f.row == row.ASSIGNMENT && is_allowed o p f.rule) (is_statement fs o p row.ASSIGNMENT) (always_assignment fs o p)
+always_assignment (f ∷ fs) o p = or_other (f.row == row.ASSIGNMENT && is_allowed o p f.rule) (is_statement fs o p row.ASSIGNMENT) (always_assignment fs o p)
 
 -- and where it is read
 abbrev PlaceFact : Origin → Place → Text → Result (ℕ × Text) Stop → Type 0

@@ -16,7 +16,7 @@ use Rattle.b2_atom.specs.declared.forms.Leaf.{Leaf}
 use Rattle.b2_atom.specs.declared.forms.Leaf.TheVariants as leaf
 use Rattle.b2_atom.specs.declared.sink.Stop.{Stop}
 use Rattle.b2_atom.specs.declared.sink.Stop.TheVariants.{At}
-use Rattle.b2_atom.proofs.Longest.{and_right, false_true, both}
+use Rattle.b2_atom.proofs.Booleans.{and_right, false_true, both}
 use Rattle.b2_atom.proofs.WordsRead.{typed_end}
 use Rattle.b2_atom.proofs.Widths.{get_none, digits_most, if_most}
 use Rattle.b2_atom.proofs.Names.{width_of, no_name}

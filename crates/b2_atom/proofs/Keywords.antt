@@ -5,7 +5,8 @@ use Rattle.std.proofs.lemmas.Bool.Decides.{nat_tests}
 use Rattle.b2_atom.specs.Words.{Text, upper, begins_with, first, texts, word_text, skip_blanks}
 use Rattle.b2_atom.specs.Leaves.{is_letter}
 use Rattle.b2_atom.specs.declared.words.TheConstants as word
-use Rattle.b2_atom.proofs.Longest.{apart, and_left, and_right, lost, below, at_below}
+use Rattle.b2_atom.proofs.Booleans.{and_left, and_right}
+use Rattle.b2_atom.proofs.Longest.{apart, lost, below, at_below}
 use Rattle.b2_atom.proofs.WordsRead.{is_code, joins, letter_stops, and_false, code_less}
 
 -- two letters at the front

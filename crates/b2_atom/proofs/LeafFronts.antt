@@ -6,7 +6,7 @@ use Rattle.b2_atom.specs.Leaves.{is_digit, is_letter, is_hex, digits, number_wid
 use Rattle.b2_atom.specs.declared.words.Origin.TheVariants.{Atoms}
 use Rattle.b2_atom.specs.declared.forms.Leaf.{Leaf}
 use Rattle.b2_atom.specs.declared.forms.Leaf.TheVariants as leaf
-use Rattle.b2_atom.proofs.Longest.{and_left}
+use Rattle.b2_atom.proofs.Booleans.{and_left, or_one}
 use Rattle.b2_atom.proofs.Names.{NameShape, numeric_shape, local_shape, alpha_shape}
 use Rattle.b2_atom.proofs.Characters.{function_of, is_function_name, image_front}
 
@@ -33,13 +33,6 @@ pub width_yes : (b : Bool) (n m : ℕ) → (if b then n else 0) ≡ suc m → (b
 width_yes true n m h = (refl, h)
 width_yes false n m h = cc
 
-or_right : (a b : Bool) → b ≡ true → (a || b) ≡ true
-or_right true b h = refl
-or_right false b h = h
-
-or_left : (a b : Bool) → a ≡ true → (a || b) ≡ true
-or_left a b h = rw h refl
-
 no_digits : (a : ℕ) (w : Text) → is_digit a ≡ false → digits (a ∷ w) ≡ 0
 no_digits a w h = rw h refl
 
@@ -62,8 +55,8 @@ signed_by a w n true h = refl
 signed_by a w n false h = number_front a w n h
 
 shape_front : (a : ℕ) (w : Text) → NameShape (a ∷ w) → (is_letter a || a == 64) ≡ true
-shape_front a [] h = or_left (is_letter a) (a == 64) h
-shape_front a (b ∷ []) (inl h) = or_left (is_letter a) (a == 64) h.0
+shape_front a [] h = or_one (is_letter a) (a == 64) h
+shape_front a (b ∷ []) (inl h) = or_one (is_letter a) (a == 64) h.0
 shape_front a (b ∷ []) (inr h) = ap (λ (n : ℕ). is_letter n || n == 64) h.0
 shape_front a (b ∷ c ∷ []) h = ap (λ (n : ℕ). is_letter n || n == 64) h.0
 shape_front a (b ∷ c ∷ d ∷ w) h = absurd h

@@ -12,7 +12,8 @@ use Rattle.b2_atom.specs.declared.words.Origin.{Origin}
 use Rattle.b2_atom.specs.declared.words.Origin.TheVariants.{Program, Immediate, Atoms}
 use Rattle.b2_atom.specs.declared.forms.Leaf.{Leaf}
 use Rattle.b2_atom.specs.declared.forms.Leaf.TheVariants as leaf
-use Rattle.b2_atom.proofs.Longest.{and_left, and_right, equal, every}
+use Rattle.b2_atom.proofs.Booleans.{and_left, and_right, equal, not_true}
+use Rattle.b2_atom.proofs.Longest.{every}
 use Rattle.b2_atom.proofs.Widths.{ends_number, number_more, signed_number_more, small_more, slot_more, literal_more}
 use Rattle.b2_atom.proofs.Names.{numeric_shape, numeric_read, local_shape, alpha_shape, alpha_read}
 use Rattle.b2_atom.proofs.Characters.{hex_digit_more, hex_pair_more, address_more, function_name_more, function_of, is_function_name, ends_relation, relation_more, image_more}
@@ -32,10 +33,6 @@ ends leaf.Small n = not (is_digit n)
 ends leaf.Slot n = not (is_digit n)
 ends leaf.Relation n = ends_relation n
 ends k n = true
-
-pub not_true : (b : Bool) → not b ≡ true → b ≡ false
-not_true true h = cc
-not_true false h = refl
 
 pub name_digit : (n : ℕ) → ends_name n ≡ true → is_digit n ≡ false
 name_digit n h = grind (arith, nat_tests)

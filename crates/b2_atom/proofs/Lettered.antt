@@ -10,7 +10,7 @@ use Rattle.b2_atom.specs.Spelling.{good_token, is_free, is_mark, is_image, is_le
 use Rattle.b2_atom.specs.declared.words.TheConstants as word
 use Rattle.b2_atom.specs.declared.words.Origin.{Origin}
 use Rattle.b2_atom.specs.declared.words.Origin.TheVariants.{Program, Immediate, Atoms}
-use Rattle.b2_atom.proofs.Longest.{and_left, and_right, false_true, equal}
+use Rattle.b2_atom.proofs.Booleans.{and_left, and_right, false_true, equal}
 use Rattle.b2_atom.proofs.WordsRead.{typed_b, typed_e}
 use Rattle.b2_atom.proofs.Names.{ahead_letter, letter_upper}
 use Rattle.b2_atom.proofs.Begun.{no_e}

@@ -1,9 +1,9 @@
+pub mod Booleans
 pub mod Binds
 pub mod Units
 pub mod Sound
 pub mod Codes
 pub mod Fronts
-pub mod Booleans
 pub mod FrontAnswers
 pub mod Settled
 pub mod Heads

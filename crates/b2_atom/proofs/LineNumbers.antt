@@ -8,7 +8,7 @@ use Rattle.b2_atom.specs.Tree.{one}
 use Rattle.b2_atom.specs.Leaves.{is_digit, is_printable, all_printable, digits, refused}
 use Rattle.b2_atom.specs.Grammar.{typed_line_number, two_digits, is_decimal}
 use Rattle.b2_atom.specs.declared.words.Origin.{Origin}
-use Rattle.b2_atom.proofs.Longest.{and_left, and_right, both}
+use Rattle.b2_atom.proofs.Booleans.{and_left, and_right, both}
 use Rattle.b2_atom.proofs.Widths.{digits_stop}
 
 one_digit : (p : ℕ) (x : Text) (n : ℕ) → is_digit p ≡ true → digits x ≡ n → digits (p ∷ x) ≡ suc n

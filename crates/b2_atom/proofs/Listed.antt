@@ -9,11 +9,11 @@ use Rattle.b2_atom.specs.Grammar.{is_among, is_decimal}
 use Rattle.b2_atom.specs.Spelling.{good_token, signs, is_in, is_dollar}
 use Rattle.b2_atom.specs.declared.words.TheConstants as word
 use Rattle.b2_atom.specs.declared.words.Origin.{Origin}
-use Rattle.b2_atom.proofs.Longest.{and_left, and_right, false_true, every, below, at_below, and_none}
+use Rattle.b2_atom.proofs.Booleans.{and_left, and_right, false_true, not_true}
+use Rattle.b2_atom.proofs.Longest.{every, below, at_below, and_none}
 use Rattle.b2_atom.proofs.WordsRead.{is_code, word_some, code_less, code_again}
 use Rattle.b2_atom.proofs.Characters.{ends_relation}
 use Rattle.b2_atom.proofs.LineNumbers.{LineShown, line_shown}
-use Rattle.b2_atom.proofs.LeavesRead.{not_true}
 use Rattle.b2_atom.proofs.SideBySide.{FirstOf, Showing, quiet, coded_first, among_signs, or_none}
 use Rattle.b2_atom.proofs.SpellsAtoms.{good_first}
 

@@ -2,6 +2,7 @@
 use Rattle.std.proofs.Common.{◌≡◌, ℕ, zero, suc, ◌+◌, ◌<◌, Bool, true, false, not, if◌then◌else◌, ◌==◌, ◌||◌, ◌&&◌, List, [], ◌∷◌, ◌++◌, length, drop, take, get_or, refl, sym, ap, subst, ◌∙◌, arith, nat_le, nat_lt, add-zero, zero-add, inl, inr, ◌⊎◌}
 use Rattle.std.proofs.lemmas.Bool.Decides.{nat_tests}
 use Rattle.b2_atom.specs.Words.{Text, upper, begins_with, longest, better, first}
+use Rattle.b2_atom.proofs.Booleans.{and_left, and_right, equal, or_cases, false_true}
 
 -- no text that begins with w, and goes on with no byte of a kind, begins with v
 abbrev pub apart : (ℕ → Bool) → Text → Text → Bool
@@ -12,23 +13,6 @@ apart more (c ∷ v) (d ∷ w) = not (c == upper d) || apart more v w
 abbrev pub every : {A : Type 0} → (A → Bool) → List A → Bool
 every p [] = true
 every p (w ∷ ws) = p w && every p ws
-
-pub and_left : (a b : Bool) → (a && b) ≡ true → a ≡ true
-and_left true b h = refl
-and_left false b h = cc
-
-pub and_right : (a b : Bool) → (a && b) ≡ true → b ≡ true
-and_right true b h = h
-and_right false b h = cc
-
-pub both : (a b : Bool) → a ≡ true → b ≡ true → (a && b) ≡ true
-both a b h k = rw h k
-
-pub false_true : false ≡ true → ⊥
-false_true h = cc
-
-pub equal : (a b : ℕ) → (a == b) ≡ true → a ≡ b
-equal a b h = grind (arith, nat_tests)
 
 split_here : (same a b : Bool) → (not same || a) ≡ true → (a ≡ true → b ≡ false) → (same && b) ≡ false
 split_here false a b h more = refl
@@ -43,10 +27,6 @@ lost more [] w r stop h = cc
 lost more (c ∷ v) [] [] stop h = refl
 lost more (c ∷ v) [] (b ∷ r) stop h = stopped more c (upper b) (c == upper b) (begins_with v r) refl stop h
 lost more (c ∷ v) (d ∷ w) r stop h = split_here (c == upper d) (apart more v w) (begins_with v (w ++ r)) h (lost more v w r stop)
-
-or_cases : (a b : Bool) → (a || b) ≡ true → (a ≡ true) ⊎ (b ≡ true)
-or_cases true b h = inl refl
-or_cases false b h = inr h
 
 pub and_none : (a : Bool) → (a && false) ≡ false
 and_none true = refl

@@ -5,7 +5,7 @@ use Rattle.b2_atom.specs.Words.{Text, first, kept, upper, ahead}
 use Rattle.b2_atom.specs.Leaves.{is_digit, is_letter, name_width, is_alpha_name, numeric_name_width, alpha_name_width, local_name_width, any_name_width}
 use Rattle.b2_atom.specs.declared.words.Origin.{Origin}
 use Rattle.b2_atom.specs.declared.words.Origin.TheVariants.{Program, Immediate, Atoms}
-use Rattle.b2_atom.proofs.Longest.{and_right, equal}
+use Rattle.b2_atom.proofs.Booleans.{and_right, equal}
 use Rattle.b2_atom.proofs.WordsRead.{begins_word, typed_sign, typed_letter, typed_global}
 use Rattle.b2_atom.proofs.Widths.{get_first}
 

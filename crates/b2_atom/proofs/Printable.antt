@@ -9,7 +9,8 @@ use Rattle.b2_atom.specs.Grammar.{is_decimal}
 use Rattle.b2_atom.specs.Spelling.{good_token, is_whole, signs, AllGood}
 use Rattle.b2_atom.specs.declared.forms.Leaf.{Leaf}
 use Rattle.b2_atom.specs.declared.forms.Leaf.TheVariants as leaf
-use Rattle.b2_atom.proofs.Longest.{and_left, and_right, every, below, both}
+use Rattle.b2_atom.proofs.Booleans.{and_left, and_right, both}
+use Rattle.b2_atom.proofs.Longest.{every, below}
 use Rattle.b2_atom.proofs.LineNumbers.{line_printable}
 use Rattle.b2_atom.proofs.CleanLeaves.{whole_printable}
 use Rattle.b2_atom.proofs.SideBySide.{among_signs, whole_width, is_text}

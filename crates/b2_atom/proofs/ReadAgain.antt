@@ -14,7 +14,7 @@ use Rattle.b2_atom.specs.declared.forms.Place.TheVariants.{First}
 use Rattle.b2_atom.specs.declared.forms.Leaf.{Leaf}
 use Rattle.b2_atom.specs.declared.sink.Stop.{Stop}
 use Rattle.b2_atom.specs.declared.sink.Stop.TheVariants.{At}
-use Rattle.b2_atom.proofs.Longest.{false_true, equal}
+use Rattle.b2_atom.proofs.Booleans.{false_true, equal}
 use Rattle.b2_atom.proofs.SideBySide.{not_empty}
 use Rattle.b2_atom.proofs.SpellsSource.{token_fronted}
 use Rattle.b2_atom.proofs.Printable.{listed_printable}

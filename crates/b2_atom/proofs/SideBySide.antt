@@ -12,9 +12,10 @@ use Rattle.b2_atom.specs.declared.words.Origin.{Origin}
 use Rattle.b2_atom.specs.declared.words.Origin.TheVariants.{Atoms}
 use Rattle.b2_atom.specs.declared.forms.Leaf.{Leaf}
 use Rattle.b2_atom.specs.declared.forms.Leaf.TheVariants as leaf
-use Rattle.b2_atom.proofs.Longest.{and_left, and_right, equal, every}
+use Rattle.b2_atom.proofs.Booleans.{and_left, and_right, equal, not_true}
+use Rattle.b2_atom.proofs.Longest.{every}
 use Rattle.b2_atom.proofs.Characters.{ends_relation}
-use Rattle.b2_atom.proofs.LeavesRead.{ends, not_true}
+use Rattle.b2_atom.proofs.LeavesRead.{ends}
 use Rattle.b2_atom.proofs.LeafFronts.{front, leaf_front, turned}
 
 pub later : (t : Token) (ts : List Token) → Neighbours (t ∷ ts) → Neighbours ts

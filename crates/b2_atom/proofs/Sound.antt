@@ -19,6 +19,7 @@ use Rattle.b2_atom.specs.declared.forms.Place.{Place}
 use Rattle.b2_atom.specs.declared.forms.Item.{Item}
 use Rattle.b2_atom.specs.declared.forms.Item.TheVariants.{Word, Sign, Among, ProgramWord, Ignored, Comma, LeftOut, End, Typed, Part, Maybe, Either, Many, Nest, Statement}
 use Rattle.b2_atom.specs.Table.{forms, rows_0, rows_1, rows_2, rows_3}
+use Rattle.b2_atom.proofs.Booleans.{equal, and_left, and_right}
 
 -- a reading that takes its atoms from the front of a text
 abbrev pub Takes : Text → Outcome → Type 0
@@ -51,9 +52,6 @@ takes_many : (st : Start) (p : Parser Text) → ((u : Text) → Takes u (p u)) �
 unfolding many
 takes_many st p h zero s = takes_if (starts Atoms st s) s _ _ tt refl
 takes_many st p h (suc n) s = takes_if (starts Atoms st s) s _ _ (takes_then s (under 1 (p s)) _ (takes_under 1 s (p s) (h s)) (takes_many st p h n)) refl
-
-equal : (a b : ℕ) → (a == b) ≡ true → a ≡ b
-equal a b h = grind (arith, nat_tests)
 
 not_zero : (c : ℕ) → nat_lt 0 c ≡ true → (0 == c) ≡ true → ⊥
 not_zero c h k = grind (arith, nat_tests)
@@ -130,14 +128,6 @@ good_row (i ∷ is) = good_item i && good_row is
 abbrev good_rows : List (List Item) → Bool
 good_rows [] = true
 good_rows (r ∷ rs) = good_row r && good_rows rs
-
-and_left : (a b : Bool) → (a && b) ≡ true → a ≡ true
-and_left true b h = refl
-and_left false b h = cc
-
-and_right : (a b : Bool) → (a && b) ≡ true → b ≡ true
-and_right true b h = h
-and_right false b h = cc
 
 get_good : (rs : List (List Item)) (k : ℕ) → good_rows rs ≡ true → good_row (get_or rs k []) ≡ true
 get_good [] k h = refl

@@ -14,11 +14,12 @@ use Rattle.b2_atom.specs.declared.words.Origin.{Origin}
 use Rattle.b2_atom.specs.declared.words.Origin.TheVariants.{Program, Immediate, Atoms}
 use Rattle.b2_atom.specs.declared.forms.Leaf.{Leaf}
 use Rattle.b2_atom.specs.declared.forms.Leaf.TheVariants as leaf
-use Rattle.b2_atom.proofs.Longest.{and_left, and_right, equal, every, below}
+use Rattle.b2_atom.proofs.Booleans.{and_left, and_right, equal, not_true}
+use Rattle.b2_atom.proofs.Longest.{every, below}
 use Rattle.b2_atom.proofs.WordsRead.{is_code, lengthens, lengthens_word, typed_word, word_some, joins}
 use Rattle.b2_atom.proofs.Keywords.{is_keyword, not_at_sign, not_at_other, at_no_word, no_word_but, never_let, never_using, only_save, only_load}
 use Rattle.b2_atom.proofs.LineNumbers.{LineShown, line_shown, line_read}
-use Rattle.b2_atom.proofs.LeavesRead.{ends, not_true}
+use Rattle.b2_atom.proofs.LeavesRead.{ends}
 use Rattle.b2_atom.proofs.LeafFronts.{leaf_front}
 use Rattle.b2_atom.proofs.Begun.{begins_plain, begins_coded, begins_lined, front_no_blank, leaf_quiet, quiet_keyword, is_plain_sign, ahead_plain, let_none}
 use Rattle.b2_atom.proofs.SideBySide.{among_signs, later, whole_width, not_empty, is_text, leaf_ends, line_ends}

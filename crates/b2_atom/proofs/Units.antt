@@ -7,6 +7,7 @@ use Rattle.b2_atom.specs.Words.{Text}
 use Rattle.b2_atom.specs.Lines.{LineUnit, unit_at, units_from, further, behind_unit, next_place, next_text, is_line, units_of}
 use Rattle.b2_atom.specs.declared.forms.Place.{Place}
 use Rattle.b2_atom.specs.declared.forms.Place.TheVariants.{First}
+use Rattle.b2_atom.proofs.Booleans.{and_left}
 
 some_left : (n i : ℕ) → i < n → suc (n - (i + 1)) ≡ n - i
 some_left n i h = omega arith
@@ -92,10 +93,6 @@ few_from : (n : ℕ) (p : Place) (t : Text) → length (units_from n p t) ≤ n
 few_from zero p t = omega arith
 few_from (suc n) p t = let few = further_few n (behind_unit p t) (few_from n) in omega (arith, few)
 
-both : (a b : Bool) → a && b ≡ true → a ≡ true
-both true b h = refl
-both false b h = h
-
 short : (n : ℕ) → nat_le n 255 ≡ true → n ≤ 255
 short n h = grind (arith, nat_tests)
 
@@ -103,7 +100,7 @@ short n h = grind (arith, nat_tests)
 pub few_units : (t : Text) → is_line t ≡ true → length (units_of t) ≤ 255
 unfolding is_line units_of
 few_units t h =
-    let bytes = short (length t) (both (nat_le (length t) 255) _ h) in
+    let bytes = short (length t) (and_left (nat_le (length t) 255) _ h) in
     let few = few_from (length t) First t in
     omega (arith, bytes, few)
 

@@ -7,7 +7,7 @@ use Rattle.b2_atom.specs.Leaves.{is_digit, is_letter, name_width, is_alpha_name,
 use Rattle.b2_atom.specs.declared.words.TheConstants as word
 use Rattle.b2_atom.specs.declared.words.Origin.{Origin}
 use Rattle.b2_atom.specs.declared.words.Origin.TheVariants.{Program, Immediate, Atoms}
-use Rattle.b2_atom.proofs.Longest.{false_true, equal}
+use Rattle.b2_atom.proofs.Booleans.{false_true, equal}
 use Rattle.b2_atom.proofs.Names.{NameShape, numeric_read, alpha_read, width_of, three_shape, two_kinds, too_wide, numeric_of, local_of, named_of, dollar_of, no_width}
 use Rattle.b2_atom.proofs.Characters.{is_function_name}
 use Rattle.b2_atom.proofs.LeafFronts.{width_yes}

@@ -5,7 +5,7 @@ use Rattle.b2_atom.specs.Words.{Text, first, kept}
 use Rattle.b2_atom.specs.Leaves.{is_digit, is_printable, digits, until_quote, small_value, mantissa_of, mantissa_width, sign_width, exponent_of, exponent_width, number_of, number_width, one_more, signed_number_width, literal_width, small_width, slot_width}
 use Rattle.b2_atom.specs.declared.words.Origin.{Origin}
 use Rattle.b2_atom.specs.declared.words.Origin.TheVariants.{Program, Immediate, Atoms}
-use Rattle.b2_atom.proofs.Longest.{false_true, equal}
+use Rattle.b2_atom.proofs.Booleans.{false_true, equal}
 
 pub get_first : (x : Text) → get_or x 0 0 ≡ first x
 get_first [] = refl

@@ -8,7 +8,8 @@ use Rattle.b2_atom.specs.Tokens.{ends_wordy}
 use Rattle.b2_atom.specs.Tokens.Token.{Coded}
 use Rattle.b2_atom.specs.Leaves.{is_letter}
 use Rattle.b2_atom.specs.declared.words.TheConstants as word
-use Rattle.b2_atom.proofs.Longest.{apart, every, and_left, and_right, false_true, Found, found, none, below, at_below, and_none, is_less, stopped}
+use Rattle.b2_atom.proofs.Booleans.{and_left, and_right, false_true}
+use Rattle.b2_atom.proofs.Longest.{apart, every, Found, found, none, below, at_below, and_none, is_less, stopped}
 
 -- a byte by which a word that ends in a letter may become another word
 abbrev pub lengthens : ℕ → Bool
