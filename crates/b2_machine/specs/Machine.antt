@@ -1,5 +1,5 @@
 -- The machine of one partition at one terminal: its state, a step and a turn.
-use Rattle.std.specs.Prelude.{ℕ, suc, zero, ◌+◌, ◌/◌, ◌%◌, ◌==◌, nat_lt, List, [], ◌∷◌, ◌++◌, length, set, replicate, codes, filter, flat_map, Option, Some, None, Result, Ok, Err, option_map, if◌then◌else◌, slice_get}
+use Rattle.std.specs.Prelude.{ℕ, suc, zero, ◌+◌, ◌/◌, ◌%◌, ◌==◌, nat_lt, Bool, List, [], ◌∷◌, ◌++◌, length, set, replicate, codes, filter, flat_map, Option, Some, None, Result, Ok, Err, option_map, if◌then◌else◌, slice_get}
 use Rattle.std.specs.Fmt.{decimal}
 use Rattle.b2_base.specs.Codes.{class_of}
 use Rattle.b2_base.specs.declared.codes.Fault.{Fault}

@@ -199,13 +199,19 @@ impl Solo {
         ensures { IfOk result (λ how. record { after = self.new; end = how } ≡ goes_on place is_last self.old) }
     {
         match place {
-            Place::Immediate(_) if is_last => self.stop(b""),
-            Place::Immediate(unit) => Ok(self.go_to(Place::Immediate(unit + 1))),
-            Place::Program(n, _) if is_last => {
-                let line = self.text.next_after(Some(n));
-                self.go_to_line(line)
+            Place::Immediate(unit) => {
+                if is_last {
+                    return self.stop(b"");
+                }
+                Ok(self.go_to(Place::Immediate(unit + 1)))
             }
-            Place::Program(n, unit) => Ok(self.go_to(Place::Program(n, unit + 1))),
+            Place::Program(n, unit) => {
+                if is_last {
+                    let line = self.text.next_after(Some(n));
+                    return self.go_to_line(line);
+                }
+                Ok(self.go_to(Place::Program(n, unit + 1)))
+            }
         }
     }
 
