@@ -1,5 +1,6 @@
 // What begins a part, and which statement begins.
 ghost use Rattle.std.specs.Prelude.{◌≡◌, ◌≢◌, ◌<◌, length, IfErr, MatchResult};
+ghost use Rattle.b2_atom.specs.Words as words;
 ghost use Rattle.b2_atom.specs.Grammar as spec;
 
 use crate::forms::{Form, Place, Rule, Start};
@@ -90,11 +91,12 @@ fn print_item_begins(origin: Origin, text: &[u8]) -> bool
         || alpha_begins(origin, text)
 }
 
-// Whether what begins a part stands at a text without blanks at its front.
-fn starts_at(origin: Origin, start: Start, text: &[u8]) -> bool
+// Whether what begins a part stands at a text without blanks at its front, of which what comes first is known.
+fn starts_by(origin: Origin, start: Start, class: u8, behind: &[u8], text: &[u8]) -> bool
+    requires class { class ≡ (words.ahead origin text.now).0 }
+    requires behind { behind.now ≡ (words.ahead origin text.now).1 }
     ensures { result ≡ spec.starts_at origin start text.now }
 {
-    let (class, behind) = ahead(origin, text);
     match start {
         Start::Code(code) => class == code,
         Start::Two(one, two) => class == one || class == two,
@@ -121,7 +123,9 @@ fn starts_at(origin: Origin, start: Start, text: &[u8]) -> bool
 pub fn begins(origin: Origin, start: Start, text: &[u8]) -> bool
     ensures { result ≡ spec.starts origin start text.now }
 {
-    starts_at(origin, start, skipped(origin, text))
+    let here = skipped(origin, text);
+    let (class, behind) = ahead(origin, here);
+    starts_by(origin, start, class, behind, here)
 }
 
 fn barred_following(place: Place, rule: Rule) -> bool
@@ -167,13 +171,16 @@ fn allowed(origin: Origin, place: Place, form: &Form, text: &[u8]) -> Result<u16
 }
 
 // The row of the first form that begins, and else of an assignment.
+#[tactic(auto, unfolding(crate::specs::Grammar::starts))]
 fn row_at(forms: &[Form], origin: Origin, place: Place, text: &[u8]) -> Result<u16, Stop>
     ensures row { result ≡ spec.row_at forms.now origin place text.now }
     ensures known { IfErr result (λ e. e ≢ Stop.NoMemory) }
 {
+    let here = skipped(origin, text);
+    let (class, behind) = ahead(origin, here);
     let mut left = forms;
     while let [form, others @ ..] = left {
-        if begins(origin, form.start, text) {
+        if starts_by(origin, form.start, class, behind, here) {
             return allowed(origin, place, form, text);
         }
         left = others;

@@ -1,7 +1,7 @@
 use Rattle.std.proofs.Common.{◌≡◌, ◌+◌, ◌-◌, ◌<◌, ◌==◌, ◌∙◌, arith, ap, sym, length, List, ℕ, take, Some}
 use Rattle.std.specs.Prelude.{slice_get}
 use Rattle.std.specs.Option.{option_map}
-use Rattle.b2_atom.specs.Lines.{LineUnit, units_from, units_of, unit_at, behind_unit, next_place, next_text}
+use Rattle.b2_atom.specs.Lines.{LineUnit, units_from, units_of, unit_at, next_place, next_text}
 use Rattle.b2_atom.proofs.Units.{next_units, get_next, is_last_unit, this_unit}
 use Rattle.b2_atom.proofs.line.unit_in.Goals as goal
 
