@@ -1,4 +1,5 @@
 pub mod Turns
 pub mod Listings
 pub mod Planning
+pub mod OtherRows
 pub mod PlainTrees

@@ -1,9 +1,9 @@
--- Units without operands, row by row: what their bytes ask for is what their trees say.
-use Rattle.std.proofs.Common.{◌≡◌, ℕ, zero, suc, Bool, true, false, if◌then◌else◌, ◌==◌, ◌&&◌, nat_lt, List, [], ◌∷◌, length, drop, refl, sym, ap, subst, ◌∙◌, arith, Option, Some, Result, Ok, Err}
+-- Units but for PRINT and assignments, row by row: what their bytes ask for is what their trees say.
+use Rattle.std.proofs.Common.{◌≡◌, ℕ, zero, suc, Bool, true, false, if◌then◌else◌, ◌==◌, ◌&&◌, ◌||◌, nat_lt, List, [], ◌∷◌, length, drop, refl, sym, ap, subst, ◌∙◌, arith, inl, inr, Option, Some, Result, Ok, Err}
 use Rattle.std.proofs.lemmas.Bool.Decides.{nat_tests}
 use Rattle.b2_dec.specs.Number.{Number}
 use Rattle.b2_dec.specs.declared.number.Mode.{Mode}
-use Rattle.b2_dec.specs.declared.number.Mode.TheVariants.{Cut}
+use Rattle.b2_dec.specs.declared.number.Mode.TheVariants.{Round, Cut}
 use Rattle.b2_atom.specs.Words.{Text, first}
 use Rattle.b2_atom.specs.Tokens.{Token}
 use Rattle.b2_atom.specs.Tokens.Token.{Coded, Lined}
@@ -19,7 +19,7 @@ use Rattle.b2_atom.specs.declared.forms.Place.{Place}
 use Rattle.b2_atom.specs.declared.forms.Start.TheVariants as start
 use Rattle.b2_atom.specs.declared.forms.Leaf.TheVariants as leaf
 use Rattle.b2_atom.specs.declared.forms.Item.{Item}
-use Rattle.b2_atom.specs.declared.forms.Item.TheVariants.{Word, Sign, Typed, Maybe}
+use Rattle.b2_atom.specs.declared.forms.Item.TheVariants.{Word, Sign, LeftOut, Typed, Maybe, Either}
 use Rattle.b2_atom.specs.declared.rows.TheConstants as row
 use Rattle.b2_atom.specs.declared.words.TheConstants as word
 use Rattle.b2_expr.specs.Value.{Surroundings, behind, branch}
@@ -27,6 +27,7 @@ use Rattle.b2_machine.specs.Plan.{not_built, line_of, range_at, plan_with, plan}
 use Rattle.b2_machine.specs.Planned.{line_in, lines_in, range_in, plain_request}
 use Rattle.b2_machine.specs.declared.request.Request.{Request}
 use Rattle.b2_machine.specs.declared.request.Request.TheVariants as request
+use Rattle.b2_machine.proofs.OtherRows.{NotBuilt, is_built_row, Otherwise, other_rows}
 
 -- what holds of a reading's tree and of what it leaves
 abbrev Holds : (Trees → Text → Type 0) → Outcome → Type 0
@@ -92,6 +93,18 @@ remark_row = refl
 image_row : row_items row.IMAGE_LINE ≡ Sign 37 14 ∷ Typed leaf.Text 14 ∷ []
 unfolding row_items
 image_row = refl
+
+select_row : row_items row.SELECT ≡ Word word.SELECT ∷ Either (start.Letters 79 70 70) row.LEFT_OUT row.ROUND ∷ []
+unfolding row_items
+select_row = refl
+
+left_out_row : row_items row.LEFT_OUT ≡ LeftOut ∷ []
+unfolding row_items
+left_out_row = refl
+
+round_row : row_items row.ROUND ≡ Word word.ROUND ∷ []
+unfolding row_items
+round_row = refl
 
 no_round_row : row_items row.SELECT_NO_ROUND ≡ Word word.SELECT ∷ Word word.NO ∷ Word word.ROUND ∷ []
 unfolding row_items
@@ -173,6 +186,38 @@ image_is : (s : Surroundings) (column : ℕ) (st : Place → Parser Text) (dp : 
     → Holds (λ a r. plan_with s column t ≡ request.Nothing) (level (reader Atoms) st dp l row.IMAGE_LINE t)
 image_is s column st dp l t = by_row _ st dp row.IMAGE_LINE (Sign 37 14 ∷ Typed leaf.Text 14 ∷ []) t image_row (λ m.
     sign_items 37 14 st dp _ t (Typed leaf.Text 14 ∷ []) _ refl (λ front. any _ _ (λ a r. ap (plan_with s column) front))) l
+
+-- SELECT ROUND, where OFF is left out
+holds_either : (b : Bool) (v : Trees → Text → Type 0) (o u : Outcome) → (b ≡ true → Holds (λ a r. v (In 1 a Done) r) o) → (b ≡ false → Holds (λ a r. v (In 0 a Done) r) u)
+    → Holds v (and_then (if b then under 1 o else under 0 u) nothing)
+holds_either true v (Ok p) u h k = h refl
+holds_either true v (Err e) u h k = tt
+holds_either false v o (Ok p) h k = k refl
+holds_either false v o (Err e) h k = tt
+
+left_out_items : (v : Trees → Text → Type 0) (st : Place → Parser Text) (dp p : ℕ → Parser Text) (t : Text) → Holds v (items st dp p (reader Atoms) (LeftOut ∷ []) t)
+unfolding items item
+left_out_items v st dp p t = tt
+
+left_out_is : (v : Trees → Text → Type 0) (st : Place → Parser Text) (dp : ℕ → Parser Text) (l : ℕ) (t : Text) → Holds v (level (reader Atoms) st dp l row.LEFT_OUT t)
+left_out_is v st dp l t = by_row v st dp row.LEFT_OUT (LeftOut ∷ []) t left_out_row (λ m. left_out_items v st dp _ t) l
+
+round_is : (s : Surroundings) (column : ℕ) (st : Place → Parser Text) (dp : ℕ → Parser Text) (l : ℕ) (t u : Text) → t ≡ word.SELECT ∷ u
+    → Holds (λ a r. plan_with s column t ≡ request.Select Round) (level (reader Atoms) st dp l row.ROUND u)
+round_is s column st dp l t u front = by_row _ st dp row.ROUND (Word word.ROUND ∷ []) u round_row (λ m.
+    word_items word.ROUND st dp _ u [] _ refl (λ second. none_items st dp _ (drop 1 u) _ (ap (plan_with s column) (front ∙ ap (λ (x : Text). word.SELECT ∷ x) second)))) l
+
+select_items : (s : Surroundings) (column : ℕ) (st : Place → Parser Text) (dp : ℕ → Parser Text) (m : ℕ) (t u : Text) → t ≡ word.SELECT ∷ u
+    → Holds (λ a r. plan_with s column t ≡ request.Select Round) (items st dp (level (reader Atoms) st dp m) (reader Atoms) (Either (start.Letters 79 70 70) row.LEFT_OUT row.ROUND ∷ []) u)
+unfolding items item
+select_items s column st dp m t u front =
+    holds_either (starts Atoms (start.Letters 79 70 70) u) _ (level (reader Atoms) st dp m row.LEFT_OUT u) (level (reader Atoms) st dp m row.ROUND u)
+    (λ is. left_out_is _ st dp m u) (λ is. round_is s column st dp m t u front)
+
+select_is : (s : Surroundings) (column : ℕ) (st : Place → Parser Text) (dp : ℕ → Parser Text) (l : ℕ) (t : Text)
+    → Holds (λ a r. plan_with s column t ≡ request.Select Round) (level (reader Atoms) st dp l row.SELECT t)
+select_is s column st dp l t = by_row _ st dp row.SELECT (Word word.SELECT ∷ Either (start.Letters 79 70 70) row.LEFT_OUT row.ROUND ∷ []) t select_row (λ m.
+    word_items word.SELECT st dp _ t (Either (start.Letters 79 70 70) row.LEFT_OUT row.ROUND ∷ []) _ refl (λ front. select_items s column st dp m t (drop 1 t) front)) l
 
 no_round_is : (s : Surroundings) (column : ℕ) (st : Place → Parser Text) (dp : ℕ → Parser Text) (l : ℕ) (t : Text)
     → Holds (λ a r. plan_with s column t ≡ request.Select Cut) (level (reader Atoms) st dp l row.SELECT_NO_ROUND t)
@@ -295,6 +340,14 @@ chosen_is (Err e) q t r a rest is = cc
 chosen_is (Ok n) q t r a rest is =
     let facts = under_is n r (q n t) a rest is in ap (λ (k : ℕ). q k t) (sym facts.0) ∙ facts.1
 
+chosen_row : (o : Result ℕ Stop) (q : ℕ → Parser Text) (t : Text) (r : ℕ) (a : Trees) (rest : Text) → chosen (from t o) q ≡ Ok (In r a Done, rest) → o ≡ Ok r
+chosen_row (Err e) q t r a rest is = cc
+chosen_row (Ok n) q t r a rest is = ap Ok (under_is n r (q n t) a rest is).0
+
+row_chosen : (p : Place) (t : Text) (r : ℕ) (a : Trees) (rest : Text) → statement (reader Atoms) 1 p t ≡ Ok (In r a Done, rest) → row_at forms Atoms p t ≡ Ok r
+unfolding statement statement_row
+row_chosen p t r a rest is = chosen_row (row_at forms Atoms p t) (level (reader Atoms) (statement (reader Atoms) 0) (deep (reader Atoms) (statement (reader Atoms) 0) 32) 40) t r a rest is
+
 row_read : (p : Place) (t : Text) (r : ℕ) (a : Trees) (rest : Text) → statement (reader Atoms) 1 p t ≡ Ok (In r a Done, rest)
     → level (reader Atoms) (statement (reader Atoms) 0) (deep (reader Atoms) (statement (reader Atoms) 0) 32) 40 r t ≡ Ok (a, rest)
 unfolding statement statement_row
@@ -312,21 +365,33 @@ at_row : (n r l : ℕ) (st : Place → Parser Text) (dp : ℕ → Parser Text) (
     → level (reader Atoms) st dp l r t ≡ Ok (a, []) → level (reader Atoms) st dp l n t ≡ Ok (a, [])
 at_row n r l st dp t a is read = subst (λ (k : ℕ). level (reader Atoms) st dp l k t ≡ Ok (a, [])) (equal r n is) read
 
+-- a row that isn't built: none of those that are
+no_row : (a b c d e f g h i j k : Bool) → a ≡ false → b ≡ false → c ≡ false → d ≡ false → e ≡ false → f ≡ false → g ≡ false → h ≡ false → i ≡ false → j ≡ false → k ≡ false
+    → (a || (b || (c || (d || (e || (f || (g || (h || (i || (j || k)))))))))) ≡ true → ⊥
+no_row a b c d e f g h i j k ha hb hc hd he hf hg hh hi hj hk is = cc
+
+not_row : (t : Text) (r : ℕ) → Otherwise t r → (is_built_row r ≡ true → ⊥) → NotBuilt t
+not_row t r (inl h) none = absurd (none h)
+not_row t r (inr h) none = h
+
 by_rows : (s : Surroundings) (column : ℕ) (st : Place → Parser Text) (dp : ℕ → Parser Text) (l : ℕ) (t : Text) (r : ℕ) (a : Trees) (q : Request)
-    → level (reader Atoms) st dp l r t ≡ Ok (a, []) → plain_request r a ≡ Some q → plan_with s column t ≡ q
-by_rows s column st dp l t r a q read is =
+    → level (reader Atoms) st dp l r t ≡ Ok (a, []) → Otherwise t r → plain_request r a ≡ Some q → plan_with s column t ≡ q
+by_rows s column st dp l t r a q read others is =
     pick _ (r == row.GOTO) _ _ q is (λ b h. known _ _ a [] (goto_is s column st dp l t) (at_row row.GOTO r l st dp t a b read) ∙ some_is _ q h) (λ b1 is1.
     pick _ (r == row.END) _ _ q is1 (λ b h. known _ _ a [] (end_is s column st dp l t) (at_row row.END r l st dp t a b read) ∙ some_is _ q h) (λ b2 is2.
     pick _ (r == row.REMARK) _ _ q is2 (λ b h. known _ _ a [] (remark_is s column st dp l t) (at_row row.REMARK r l st dp t a b read) ∙ some_is _ q h) (λ b3 is3.
     pick _ (r == row.IMAGE_LINE) _ _ q is3 (λ b h. known _ _ a [] (image_is s column st dp l t) (at_row row.IMAGE_LINE r l st dp t a b read) ∙ some_is _ q h) (λ b4 is4.
-    pick _ (r == row.SELECT_NO_ROUND) _ _ q is4 (λ b h. known _ _ a [] (no_round_is s column st dp l t) (at_row row.SELECT_NO_ROUND r l st dp t a b read) ∙ some_is _ q h) (λ b5 is5.
-    pick _ (r == row.RUN) _ _ q is5 (λ b h. known _ _ a [] (run_is s column st dp l t) (at_row row.RUN r l st dp t a b read) refl ∙ some_is _ q h) (λ b6 is6.
-    pick _ (r == row.LIST) _ _ q is6 (λ b h. known _ _ a [] (list_is s column st dp l t) (at_row row.LIST r l st dp t a b read) refl ∙ some_is _ q h) (λ b7 is7.
-    pick _ (r == row.CLEAR) _ _ q is7 (λ b h. known _ _ a [] (clear_is s column st dp l t) (at_row row.CLEAR r l st dp t a b read) refl ∙ some_is _ q h) (λ b8 is8.
-    pick _ (r == row.CLEAR_P) _ _ q is8 (λ b h. known _ _ a [] (clear_p_is s column st dp l t) (at_row row.CLEAR_P r l st dp t a b read) refl ∙ some_is _ q h) (λ b9 is9. cc)))))))))
+    pick _ (r == row.SELECT) _ _ q is4 (λ b h. known _ _ a [] (select_is s column st dp l t) (at_row row.SELECT r l st dp t a b read) ∙ some_is _ q h) (λ b5 is5.
+    pick _ (r == row.SELECT_NO_ROUND) _ _ q is5 (λ b h. known _ _ a [] (no_round_is s column st dp l t) (at_row row.SELECT_NO_ROUND r l st dp t a b read) ∙ some_is _ q h) (λ b6 is6.
+    pick _ (r == row.RUN) _ _ q is6 (λ b h. known _ _ a [] (run_is s column st dp l t) (at_row row.RUN r l st dp t a b read) refl ∙ some_is _ q h) (λ b7 is7.
+    pick _ (r == row.LIST) _ _ q is7 (λ b h. known _ _ a [] (list_is s column st dp l t) (at_row row.LIST r l st dp t a b read) refl ∙ some_is _ q h) (λ b8 is8.
+    pick _ (r == row.CLEAR) _ _ q is8 (λ b h. known _ _ a [] (clear_is s column st dp l t) (at_row row.CLEAR r l st dp t a b read) refl ∙ some_is _ q h) (λ b9 is9.
+    pick _ (r == row.CLEAR_P) _ _ q is9 (λ b h. known _ _ a [] (clear_p_is s column st dp l t) (at_row row.CLEAR_P r l st dp t a b read) refl ∙ some_is _ q h) (λ b10 is10.
+    pick _ (r == row.PRINT || r == row.ASSIGNMENT) _ _ q is10 (λ b h. cc) (λ b11 is11.
+    not_row t r others (no_row _ _ _ _ _ _ _ _ _ _ _ b1 b2 b3 b4 b5 b6 b7 b8 b9 b10 b11) s column ∙ some_is _ q is11)))))))))))
 
 pub plain_units : (variables : List Number) (mode : Mode) (column : ℕ) (p : Place) (unit : Text) (r : ℕ) (t : Trees) (q : Request)
     → statement (reader Atoms) 1 p unit ≡ Ok (In r t Done, []) → plain_request r t ≡ Some q → plan variables mode column unit ≡ q
 unfolding plan
 plain_units variables mode column p unit r t q is asks =
-    by_rows (record { letters = variables; mode = mode }) column (statement (reader Atoms) 0) (deep (reader Atoms) (statement (reader Atoms) 0) 32) 40 unit r t q (row_read p unit r t [] is) asks
+    by_rows (record { letters = variables; mode = mode }) column (statement (reader Atoms) 0) (deep (reader Atoms) (statement (reader Atoms) 0) 32) 40 unit r t q (row_read p unit r t [] is) (other_rows p unit r (row_chosen p unit r t [] is)) asks

@@ -1,8 +1,8 @@
--- What a unit asks for by its tree, for statements that have no operands: the law above what Plan says of the bytes.
-use Rattle.std.specs.Prelude.{◌≡◌, ℕ, ◌==◌, List, [], Option, Some, None, Ok, if◌then◌else◌}
+-- What a unit asks for by its tree, but for PRINT and assignments: the law above what Plan says of the bytes.
+use Rattle.std.specs.Prelude.{◌≡◌, ℕ, ◌==◌, ◌||◌, List, [], Option, Some, None, Ok, if◌then◌else◌}
 use Rattle.b2_dec.specs.Number.{Number}
 use Rattle.b2_dec.specs.declared.number.Mode.{Mode}
-use Rattle.b2_dec.specs.declared.number.Mode.TheVariants.{Cut}
+use Rattle.b2_dec.specs.declared.number.Mode.TheVariants.{Round, Cut}
 use Rattle.b2_atom.specs.Words.{Text}
 use Rattle.b2_atom.specs.Tokens.Token.{Coded, Plain, Lined}
 use Rattle.b2_atom.specs.Tree.{Trees}
@@ -32,18 +32,20 @@ lines_in last f t =
 abbrev pub range_in : (ℕ → ℕ) → (ℕ → ℕ → Request) → Trees → Request
 range_in last f t = if branch t == 0 then f 0 9999 else lines_in last f (inside t)
 
--- what the statement of a row asks for; None for the other rows
+-- what the statement of a row asks for; None for PRINT and assignments
 abbrev pub plain_request : ℕ → Trees → Option Request
 plain_request r t =
     if r == row.GOTO then Some (request.Jump (line_in (behind t)))
     else (if r == row.END then Some request.End
     else (if r == row.REMARK then Some request.Nothing
     else (if r == row.IMAGE_LINE then Some request.Nothing
+    else (if r == row.SELECT then Some (request.Select Round)
     else (if r == row.SELECT_NO_ROUND then Some (request.Select Cut)
     else (if r == row.RUN then Some (if branch (behind t) == 0 then request.Run else not_built)
     else (if r == row.LIST then Some (range_in (λ l. l) request.List (behind t))
     else (if r == row.CLEAR then Some request.Clear
-    else (if r == row.CLEAR_P then Some (range_in (λ l. 9999) request.ClearProgram (behind (behind t))) else None))))))))
+    else (if r == row.CLEAR_P then Some (range_in (λ l. 9999) request.ClearProgram (behind (behind t)))
+    else (if r == row.PRINT || r == row.ASSIGNMENT then None else Some not_built))))))))))
 
 -- A unit that is read as a statement of one of these rows asks for what its tree says.
 abbrev pub PlainUnitsAskByTheirTrees : Type 0
