@@ -17,13 +17,14 @@ use Rattle.b2_atom.specs.declared.words.TheConstants as word
 use Rattle.b2_expr.specs.Value.{Surroundings}
 use Rattle.b2_machine.specs.Plan.{not_built, plan_with}
 use Rattle.b2_machine.specs.declared.request.Request.{Request}
+use Rattle.b2_machine.proofs.Booleans.{equal, and_left, and_right, or_cases, not_true, begins}
 
 -- a unit that isn't built, whatever it works on
 abbrev pub NotBuilt : Text → Type 0
 NotBuilt t = (s : Surroundings) (column : ℕ) → plan_with s column t ≡ not_built
 
 -- a byte that begins no statement that is built
-abbrev other : ℕ → Bool
+abbrev pub other : ℕ → Bool
 other n =
     if is_letter n then false
     else (if n == word.PRINT then false
@@ -74,25 +75,6 @@ begins_other start.AlphaInside = false
 begins_other start.CommaOrAlpha = false
 begins_other start.PrintItem = false
 
-equal : (a b : ℕ) → (a == b) ≡ true → a ≡ b
-equal a b h = grind (arith, nat_tests)
-
-and_left : (a b : Bool) → (a && b) ≡ true → a ≡ true
-and_left true b h = refl
-and_left false b h = cc
-
-and_right : (a b : Bool) → (a && b) ≡ true → b ≡ true
-and_right true b h = h
-and_right false b h = cc
-
-or_cases : (z : Type 0) (a b : Bool) → (a || b) ≡ true → (a ≡ true → z) → (b ≡ true → z) → z
-or_cases z true b h k m = k refl
-or_cases z false b h k m = m h
-
-not_true : (b : Bool) → not b ≡ true → b ≡ false
-not_true true h = cc
-not_true false h = refl
-
 early : (a b n : ℕ) → (nat_lt word.REM a && nat_lt b word.GOTO) ≡ true → (nat_le a n && nat_le n b) ≡ true → nat_lt word.REM n && nat_lt n word.GOTO ≡ true
 early a b n h k = grind (arith, nat_tests)
 
@@ -133,14 +115,7 @@ among_plan a b t h k =
     (λ e. other_plan t (between word.REM word.GOTO (first t) (early a b (first t) e k) refl refl refl refl refl refl refl refl refl refl))
     (λ e. other_plan t (between word.PRINT word.LIST (first t) (late a b (first t) e k) refl refl refl refl refl refl refl refl refl refl))
 
--- the front of a text by a byte that stands there
-not_zero : (c : ℕ) → nat_lt 0 c ≡ true → (0 == c) ≡ true → ⊥
-not_zero c h k = grind (arith, nat_tests)
-
-begins : (c : ℕ) (t : Text) → nat_lt 0 c ≡ true → (first t == c) ≡ true → t ≡ c ∷ drop 1 t
-begins c [] some h = absurd (not_zero c some h)
-begins c (b ∷ bs) some h = ap (λ (n : ℕ). n ∷ bs) (equal b c h)
-
+-- statements that the second byte makes one that isn't built
 same : (n b c : ℕ) → (n == b) ≡ true → (b == c) ≡ false → (n == c) ≡ false
 same n b c h k = grind (arith, nat_tests)
 
@@ -171,7 +146,7 @@ list_pair a b t h k m s column =
     ap (plan_with s column) (begun word.LIST a t refl (and_left _ _ h) k)
     ∙ if_some (first (drop 1 t) == word.DC) _ _ (subst (λ (n : ℕ). (first (drop 1 t) == n) ≡ true) (equal b word.DC (and_right _ _ h)) m)
 
-code_plan : (a : ℕ) (t : Text) → other a ≡ true → (first t == a) ≡ true → NotBuilt t
+pub code_plan : (a : ℕ) (t : Text) → other a ≡ true → (first t == a) ≡ true → NotBuilt t
 code_plan a t h k = other_plan t (subst (λ (n : ℕ). other n ≡ true) (sym (equal (first t) a k)) h)
 
 pair_plan : (a b : ℕ) (t : Text) → (other a || other_pair a b) ≡ true → (first t == a) ≡ true → (first (drop 1 t) == b) ≡ true → NotBuilt t
@@ -238,3 +213,26 @@ by_forms p (f ∷ fs) t r h read = by_form p f fs t r (starts Atoms f.start t) r
 -- a unit of a row that isn't built
 pub other_rows : (p : Place) (t : Text) (r : ℕ) → row_at forms Atoms p t ≡ Ok r → Otherwise t r
 other_rows p t r read = by_forms p forms t r refl read
+
+-- an assignment, which no form names
+abbrev no_assignment : List Form → Bool
+no_assignment [] = true
+no_assignment (f ∷ fs) = not (f.row == row.ASSIGNMENT) && no_assignment fs
+
+when_begun : (b : Bool) (e : Stop) (r : ℕ) → (if b then Ok row.ASSIGNMENT else Err e) ≡ Ok r → b ≡ true
+when_begun true e r is = refl
+when_begun false e r is = cc
+
+assigned_form : (p : Place) (f : Form) (fs : List Form) (t : Text) (b : Bool) → (f.row == row.ASSIGNMENT) ≡ false
+    → (row_at fs Atoms p t ≡ Ok row.ASSIGNMENT → variable_begins Atoms t ≡ true) → (if b then allowed Atoms p f t else row_at fs Atoms p t) ≡ Ok row.ASSIGNMENT → variable_begins Atoms t ≡ true
+assigned_form p f fs t true h more read =
+    let is : f.row ≡ row.ASSIGNMENT = allowed_is (barred_following p f.rule) (barred_line Atoms f.rule) (barred_place p f.rule) (At 14 (length t)) (At 26 (length t)) (At 28 (length t)) f.row row.ASSIGNMENT read in
+    absurd (let never : true ≡ false = ap (λ (n : ℕ). n == row.ASSIGNMENT) (sym is) ∙ h in cc)
+assigned_form p f fs t false h more read = more read
+
+by_assignment : (p : Place) (fs : List Form) (t : Text) → no_assignment fs ≡ true → row_at fs Atoms p t ≡ Ok row.ASSIGNMENT → variable_begins Atoms t ≡ true
+by_assignment p [] t h read = when_begun (variable_begins Atoms t) (refused Atoms 14 t) row.ASSIGNMENT read
+by_assignment p (f ∷ fs) t h read = assigned_form p f fs t (starts Atoms f.start t) (not_true _ (and_left _ _ h)) (by_assignment p fs t (and_right _ _ h)) read
+
+pub assigned_row : (p : Place) (t : Text) → row_at forms Atoms p t ≡ Ok row.ASSIGNMENT → variable_begins Atoms t ≡ true
+assigned_row p t read = by_assignment p forms t refl read

@@ -1,8 +1,6 @@
--- Units but for PRINT and assignments, row by row: what their bytes ask for is what their trees say.
-use Rattle.std.proofs.Common.{◌≡◌, ℕ, zero, suc, Bool, true, false, if◌then◌else◌, ◌==◌, ◌&&◌, ◌||◌, nat_lt, List, [], ◌∷◌, length, drop, refl, sym, ap, subst, ◌∙◌, arith, inl, inr, Option, Some, Result, Ok, Err}
+-- Units without operands, row by row: what their bytes ask for is what their trees say.
+use Rattle.std.proofs.Common.{◌≡◌, ℕ, zero, suc, Bool, true, false, if◌then◌else◌, ◌==◌, ◌&&◌, nat_lt, List, [], ◌∷◌, length, drop, refl, sym, ap, subst, ◌∙◌, arith, Ok, Err}
 use Rattle.std.proofs.lemmas.Bool.Decides.{nat_tests}
-use Rattle.b2_dec.specs.Number.{Number}
-use Rattle.b2_dec.specs.declared.number.Mode.{Mode}
 use Rattle.b2_dec.specs.declared.number.Mode.TheVariants.{Round, Cut}
 use Rattle.b2_atom.specs.Words.{Text, first}
 use Rattle.b2_atom.specs.Tokens.{Token}
@@ -10,8 +8,7 @@ use Rattle.b2_atom.specs.Tokens.Token.{Coded, Lined}
 use Rattle.b2_atom.specs.Tree.{Trees, Outcome, Parser, one, nothing, joined, and_then, under, also}
 use Rattle.b2_atom.specs.Tree.Trees.{Done, Put, In}
 use Rattle.b2_atom.specs.Leaves.{refused}
-use Rattle.b2_atom.specs.Grammar.{reader, item, items, level, deep, statement, chosen, from, statement_row, row_at, absent, row_items, starts, mark, read_leaf, atoms_line_number, is_decimal}
-use Rattle.b2_atom.specs.Table.{forms}
+use Rattle.b2_atom.specs.Grammar.{reader, item, items, level, absent, row_items, starts, mark, read_leaf, atoms_line_number, is_decimal}
 use Rattle.b2_atom.specs.declared.words.Origin.TheVariants.{Atoms}
 use Rattle.b2_atom.specs.declared.sink.Stop.{Stop}
 use Rattle.b2_atom.specs.declared.sink.Stop.TheVariants.{At}
@@ -23,35 +20,25 @@ use Rattle.b2_atom.specs.declared.forms.Item.TheVariants.{Word, Sign, LeftOut, T
 use Rattle.b2_atom.specs.declared.rows.TheConstants as row
 use Rattle.b2_atom.specs.declared.words.TheConstants as word
 use Rattle.b2_expr.specs.Value.{Surroundings, behind, branch}
-use Rattle.b2_machine.specs.Plan.{not_built, line_of, range_at, plan_with, plan}
-use Rattle.b2_machine.specs.Planned.{line_in, lines_in, range_in, plain_request}
+use Rattle.b2_machine.specs.Plan.{not_built, line_of, range_at, plan_with}
+use Rattle.b2_machine.specs.Planned.{line_in, lines_in, range_in}
 use Rattle.b2_machine.specs.declared.request.Request.{Request}
 use Rattle.b2_machine.specs.declared.request.Request.TheVariants as request
-use Rattle.b2_machine.proofs.OtherRows.{NotBuilt, is_built_row, Otherwise, other_rows}
+use Rattle.b2_machine.proofs.Booleans.{equal, begins}
 
 -- what holds of a reading's tree and of what it leaves
-abbrev Holds : (Trees → Text → Type 0) → Outcome → Type 0
+abbrev pub Holds : (Trees → Text → Type 0) → Outcome → Type 0
 Holds v (Ok p) = v p.0 p.1
 Holds v (Err e) = Unit {0}
 
-holds_joined : (v : Trees → Text → Type 0) (a : Trees) (o : Outcome) → Holds (λ b rest. v (also a b) rest) o → Holds v (joined a o)
+pub holds_joined : (v : Trees → Text → Type 0) (a : Trees) (o : Outcome) → Holds (λ b rest. v (also a b) rest) o → Holds v (joined a o)
 holds_joined v a (Ok p) h = h
 holds_joined v a (Err e) h = h
 
-holds_mark : (b : Bool) (v : Trees → Text → Type 0) (token : Token) (rest : Text) (e : Stop) (q : Parser Text)
+pub holds_mark : (b : Bool) (v : Trees → Text → Type 0) (token : Token) (rest : Text) (e : Stop) (q : Parser Text)
     → (b ≡ true → Holds (λ c r. v (Put token c) r) (q rest)) → Holds v (and_then (if b then one token rest else Err e) q)
 holds_mark true v token rest e q h = holds_joined v (Put token Done) (q rest) (h refl)
 holds_mark false v token rest e q h = tt
-
-equal : (a b : ℕ) → (a == b) ≡ true → a ≡ b
-equal a b h = grind (arith, nat_tests)
-
-not_zero : (c : ℕ) → nat_lt 0 c ≡ true → (0 == c) ≡ true → ⊥
-not_zero c h k = grind (arith, nat_tests)
-
-begins : (c : ℕ) (t : Text) → nat_lt 0 c ≡ true → (first t == c) ≡ true → t ≡ c ∷ drop 1 t
-begins c [] some h = absurd (not_zero c some h)
-begins c (b ∷ bs) some h = ap (λ (n : ℕ). n ∷ bs) (equal b c h)
 
 numbered : (x y : Bool) (a b c : ℕ) (t : Text) (code : ℕ) (v : Trees → Text → Type 0) (q : Parser Text) → (a == 255) ≡ x
     → (a ≡ 255 → Holds (λ d r. v (Put (Lined b c) d) r) (q t)) → Holds v (and_then (if x && y then one (Lined b c) t else Err (At code (length (a ∷ b ∷ c ∷ t)))) q)
@@ -72,7 +59,7 @@ holds_maybe true v (Ok p) u h k = h refl
 holds_maybe true v (Err e) u h k = tt
 holds_maybe false v o u h k = k refl
 
-by_row : (v : Trees → Text → Type 0) (st : Place → Parser Text) (dp : ℕ → Parser Text) (n : ℕ) (is : List Item) (t : Text) → row_items n ≡ is
+pub by_row : (v : Trees → Text → Type 0) (st : Place → Parser Text) (dp : ℕ → Parser Text) (n : ℕ) (is : List Item) (t : Text) → row_items n ≡ is
     → ((m : ℕ) → Holds v (items st dp (level (reader Atoms) st dp m) (reader Atoms) is t)) → (l : ℕ) → Holds v (level (reader Atoms) st dp l n t)
 unfolding level
 by_row v st dp n is t same some zero = tt
@@ -140,12 +127,12 @@ ending_items : (c code : ℕ) (st : Place → Parser Text) (dp p : ℕ → Parse
 unfolding items item mark
 ending_items c code st dp p t v some h = holds_mark (first t == c) v (Coded c) (drop 1 t) (refused Atoms code t) _ (λ is. h (begins c t some is))
 
-word_items : (c : ℕ) (st : Place → Parser Text) (dp p : ℕ → Parser Text) (t : Text) (is : List Item) (v : Trees → Text → Type 0) → nat_lt 0 c ≡ true
+pub word_items : (c : ℕ) (st : Place → Parser Text) (dp p : ℕ → Parser Text) (t : Text) (is : List Item) (v : Trees → Text → Type 0) → nat_lt 0 c ≡ true
     → (t ≡ c ∷ drop 1 t → Holds (λ a r. v (Put (Coded c) a) r) (items st dp p (reader Atoms) is (drop 1 t))) → Holds v (items st dp p (reader Atoms) (Word c ∷ is) t)
 unfolding items item mark
 word_items c st dp p t is v some h = holds_mark (first t == c) v (Coded c) (drop 1 t) (refused Atoms 22 t) _ (λ is. h (begins c t some is))
 
-sign_items : (c code : ℕ) (st : Place → Parser Text) (dp p : ℕ → Parser Text) (t : Text) (is : List Item) (v : Trees → Text → Type 0) → nat_lt 0 c ≡ true
+pub sign_items : (c code : ℕ) (st : Place → Parser Text) (dp p : ℕ → Parser Text) (t : Text) (is : List Item) (v : Trees → Text → Type 0) → nat_lt 0 c ≡ true
     → (t ≡ c ∷ drop 1 t → Holds (λ a r. v (Put (Coded c) a) r) (items st dp p (reader Atoms) is (drop 1 t))) → Holds v (items st dp p (reader Atoms) (Sign c code ∷ is) t)
 unfolding items item mark
 sign_items c code st dp p t is v some h = holds_mark (first t == c) v (Coded c) (drop 1 t) (refused Atoms code t) _ (λ is. h (begins c t some is))
@@ -156,33 +143,33 @@ line_items : (code : ℕ) (st : Place → Parser Text) (dp p : ℕ → Parser Te
 unfolding items item read_leaf
 line_items code st dp p u is v h = holds_line code u v _ h
 
-none_items : (st : Place → Parser Text) (dp p : ℕ → Parser Text) (t : Text) (v : Trees → Text → Type 0) → v Done t → Holds v (items st dp p (reader Atoms) [] t)
+pub none_items : (st : Place → Parser Text) (dp p : ℕ → Parser Text) (t : Text) (v : Trees → Text → Type 0) → v Done t → Holds v (items st dp p (reader Atoms) [] t)
 unfolding items
 none_items st dp p t v h = h
 
-any : (v : Trees → Text → Type 0) (o : Outcome) → ((a : Trees) (r : Text) → v a r) → Holds v o
+pub any : (v : Trees → Text → Type 0) (o : Outcome) → ((a : Trees) (r : Text) → v a r) → Holds v o
 any v (Ok p) h = h p.0 p.1
 any v (Err e) h = tt
 
 -- each row
-goto_is : (s : Surroundings) (column : ℕ) (st : Place → Parser Text) (dp : ℕ → Parser Text) (l : ℕ) (t : Text)
+pub goto_is : (s : Surroundings) (column : ℕ) (st : Place → Parser Text) (dp : ℕ → Parser Text) (l : ℕ) (t : Text)
     → Holds (λ a r. plan_with s column t ≡ request.Jump (line_in (behind a))) (level (reader Atoms) st dp l row.GOTO t)
 goto_is s column st dp l t = by_row _ st dp row.GOTO (Word word.GOTO ∷ Typed leaf.LineNumber 15 ∷ []) t goto_row (λ m.
     word_items word.GOTO st dp _ t (Typed leaf.LineNumber 15 ∷ []) _ refl (λ front.
     line_items 15 st dp _ (drop 1 t) [] _ (λ b c u behind_it.
     none_items st dp _ u _ (ap (plan_with s column) (front ∙ ap (λ (x : Text). word.GOTO ∷ x) behind_it))))) l
 
-end_is : (s : Surroundings) (column : ℕ) (st : Place → Parser Text) (dp : ℕ → Parser Text) (l : ℕ) (t : Text)
+pub end_is : (s : Surroundings) (column : ℕ) (st : Place → Parser Text) (dp : ℕ → Parser Text) (l : ℕ) (t : Text)
     → Holds (λ a r. plan_with s column t ≡ request.End) (level (reader Atoms) st dp l row.END t)
 end_is s column st dp l t = by_row _ st dp row.END (Word word.END ∷ []) t end_row (λ m.
     word_items word.END st dp _ t [] _ refl (λ front. none_items st dp _ (drop 1 t) _ (ap (plan_with s column) front))) l
 
-remark_is : (s : Surroundings) (column : ℕ) (st : Place → Parser Text) (dp : ℕ → Parser Text) (l : ℕ) (t : Text)
+pub remark_is : (s : Surroundings) (column : ℕ) (st : Place → Parser Text) (dp : ℕ → Parser Text) (l : ℕ) (t : Text)
     → Holds (λ a r. plan_with s column t ≡ request.Nothing) (level (reader Atoms) st dp l row.REMARK t)
 remark_is s column st dp l t = by_row _ st dp row.REMARK (Word word.REM ∷ Typed leaf.Text 14 ∷ []) t remark_row (λ m.
     word_items word.REM st dp _ t (Typed leaf.Text 14 ∷ []) _ refl (λ front. any _ _ (λ a r. ap (plan_with s column) front))) l
 
-image_is : (s : Surroundings) (column : ℕ) (st : Place → Parser Text) (dp : ℕ → Parser Text) (l : ℕ) (t : Text)
+pub image_is : (s : Surroundings) (column : ℕ) (st : Place → Parser Text) (dp : ℕ → Parser Text) (l : ℕ) (t : Text)
     → Holds (λ a r. plan_with s column t ≡ request.Nothing) (level (reader Atoms) st dp l row.IMAGE_LINE t)
 image_is s column st dp l t = by_row _ st dp row.IMAGE_LINE (Sign 37 14 ∷ Typed leaf.Text 14 ∷ []) t image_row (λ m.
     sign_items 37 14 st dp _ t (Typed leaf.Text 14 ∷ []) _ refl (λ front. any _ _ (λ a r. ap (plan_with s column) front))) l
@@ -214,19 +201,19 @@ select_items s column st dp m t u front =
     holds_either (starts Atoms (start.Letters 79 70 70) u) _ (level (reader Atoms) st dp m row.LEFT_OUT u) (level (reader Atoms) st dp m row.ROUND u)
     (λ is. left_out_is _ st dp m u) (λ is. round_is s column st dp m t u front)
 
-select_is : (s : Surroundings) (column : ℕ) (st : Place → Parser Text) (dp : ℕ → Parser Text) (l : ℕ) (t : Text)
+pub select_is : (s : Surroundings) (column : ℕ) (st : Place → Parser Text) (dp : ℕ → Parser Text) (l : ℕ) (t : Text)
     → Holds (λ a r. plan_with s column t ≡ request.Select Round) (level (reader Atoms) st dp l row.SELECT t)
 select_is s column st dp l t = by_row _ st dp row.SELECT (Word word.SELECT ∷ Either (start.Letters 79 70 70) row.LEFT_OUT row.ROUND ∷ []) t select_row (λ m.
     word_items word.SELECT st dp _ t (Either (start.Letters 79 70 70) row.LEFT_OUT row.ROUND ∷ []) _ refl (λ front. select_items s column st dp m t (drop 1 t) front)) l
 
-no_round_is : (s : Surroundings) (column : ℕ) (st : Place → Parser Text) (dp : ℕ → Parser Text) (l : ℕ) (t : Text)
+pub no_round_is : (s : Surroundings) (column : ℕ) (st : Place → Parser Text) (dp : ℕ → Parser Text) (l : ℕ) (t : Text)
     → Holds (λ a r. plan_with s column t ≡ request.Select Cut) (level (reader Atoms) st dp l row.SELECT_NO_ROUND t)
 no_round_is s column st dp l t = by_row _ st dp row.SELECT_NO_ROUND (Word word.SELECT ∷ Word word.NO ∷ Word word.ROUND ∷ []) t no_round_row (λ m.
     word_items word.SELECT st dp _ t (Word word.NO ∷ Word word.ROUND ∷ []) _ refl (λ front.
     word_items word.NO st dp _ (drop 1 t) (Word word.ROUND ∷ []) _ refl (λ second.
     any _ _ (λ a r. ap (plan_with s column) (front ∙ ap (λ (x : Text). word.SELECT ∷ x) second))))) l
 
-clear_is : (s : Surroundings) (column : ℕ) (st : Place → Parser Text) (dp : ℕ → Parser Text) (l : ℕ) (t : Text)
+pub clear_is : (s : Surroundings) (column : ℕ) (st : Place → Parser Text) (dp : ℕ → Parser Text) (l : ℕ) (t : Text)
     → Holds (λ a r. r ≡ [] → plan_with s column t ≡ request.Clear) (level (reader Atoms) st dp l row.CLEAR t)
 clear_is s column st dp l t = by_row _ st dp row.CLEAR (Word word.CLEAR ∷ []) t clear_row (λ m.
     word_items word.CLEAR st dp _ t [] _ refl (λ front. none_items st dp _ (drop 1 t) _ (λ none. ap (plan_with s column) (front ∙ ap (λ (x : Text). word.CLEAR ∷ x) none)))) l
@@ -281,7 +268,7 @@ listed : (b : Bool) (x y : Request) → b ≡ false → (if b then x else y) ≡
 listed false x y h = refl
 listed true x y h = cc
 
-list_is : (s : Surroundings) (column : ℕ) (st : Place → Parser Text) (dp : ℕ → Parser Text) (l : ℕ) (t : Text)
+pub list_is : (s : Surroundings) (column : ℕ) (st : Place → Parser Text) (dp : ℕ → Parser Text) (l : ℕ) (t : Text)
     → Holds (λ a r. r ≡ [] → plan_with s column t ≡ range_in (λ n. n) request.List (behind a)) (level (reader Atoms) st dp l row.LIST t)
 list_is s column st dp l t = by_row _ st dp row.LIST (Word word.LIST ∷ Maybe start.Line row.LINE_NUMBERS ∷ []) t list_row (λ m.
     word_items word.LIST st dp _ t (Maybe start.Line row.LINE_NUMBERS ∷ []) _ refl (λ front.
@@ -294,7 +281,7 @@ list_is s column st dp l t = by_row _ st dp row.LIST (Word word.LIST ∷ Maybe s
         ap (plan_with s column) front ∙ listed (first (drop 1 t) == word.DC) not_built (range_at (λ n. n) request.List (drop 1 t)) (h none).0 ∙ (h none).1
     shown (Err e) front h = tt
 
-clear_p_is : (s : Surroundings) (column : ℕ) (st : Place → Parser Text) (dp : ℕ → Parser Text) (l : ℕ) (t : Text)
+pub clear_p_is : (s : Surroundings) (column : ℕ) (st : Place → Parser Text) (dp : ℕ → Parser Text) (l : ℕ) (t : Text)
     → Holds (λ a r. r ≡ [] → plan_with s column t ≡ range_in (λ n. 9999) request.ClearProgram (behind (behind a))) (level (reader Atoms) st dp l row.CLEAR_P t)
 clear_p_is s column st dp l t = by_row _ st dp row.CLEAR_P (Word word.CLEAR ∷ Sign 80 22 ∷ Maybe start.Line row.LINE_NUMBERS ∷ []) t clear_p_row (λ m.
     word_items word.CLEAR st dp _ t (Sign 80 22 ∷ Maybe start.Line row.LINE_NUMBERS ∷ []) _ refl (λ front.
@@ -317,81 +304,11 @@ run_items s column st dp m t u front =
     (λ is. any (λ a r. r ≡ [] → plan_with s column t ≡ not_built) (level (reader Atoms) st dp m row.LINE_NUMBER u) (λ a r none. ap (plan_with s column) (front ∙ ap (λ (x : Text). word.RUN ∷ x) (begins 255 u refl is))))
     (λ is none. ap (plan_with s column) (front ∙ ap (λ (x : Text). word.RUN ∷ x) none))
 
-run_is : (s : Surroundings) (column : ℕ) (st : Place → Parser Text) (dp : ℕ → Parser Text) (l : ℕ) (t : Text)
+pub run_is : (s : Surroundings) (column : ℕ) (st : Place → Parser Text) (dp : ℕ → Parser Text) (l : ℕ) (t : Text)
     → Holds (λ a r. r ≡ [] → plan_with s column t ≡ (if branch (behind a) == 0 then request.Run else not_built)) (level (reader Atoms) st dp l row.RUN t)
 run_is s column st dp l t = by_row _ st dp row.RUN (Word word.RUN ∷ Maybe start.Line row.LINE_NUMBER ∷ []) t run_row (λ m.
     word_items word.RUN st dp _ t (Maybe start.Line row.LINE_NUMBER ∷ []) _ refl (λ front. run_items s column st dp m t (drop 1 t) front)) l
 
 -- what is known of a reading that is there
-known : (v : Trees → Text → Type 0) (o : Outcome) (a : Trees) (r : Text) → Holds v o → o ≡ Ok (a, r) → v a r
+pub known : (v : Trees → Text → Type 0) (o : Outcome) (a : Trees) (r : Text) → Holds v o → o ≡ Ok (a, r) → v a r
 known v o a r h is = subst (λ (x : Outcome). Holds v x) is h
-
-under_is : (n r : ℕ) (x : Outcome) (a : Trees) (rest : Text) → under n x ≡ Ok (In r a Done, rest) → (n ≡ r) × (x ≡ Ok (a, rest))
-under_is n r (Err e) a rest is = cc
-under_is n r (Ok p) a rest is =
-    let pairs : ◌≡◌ {A = Trees × Text} (In n p.0 Done, p.1) (In r a Done, rest) = cc in
-    let same : In n p.0 Done ≡ In r a Done = ap (λ (q : Trees × Text). q.0) pairs in
-    let tree : p.0 ≡ a = cc in
-    let left : p.1 ≡ rest = ap (λ (q : Trees × Text). q.1) pairs in
-    (cc, λ i. Ok (tree i, left i))
-
-chosen_is : (o : Result ℕ Stop) (q : ℕ → Parser Text) (t : Text) (r : ℕ) (a : Trees) (rest : Text) → chosen (from t o) q ≡ Ok (In r a Done, rest) → q r t ≡ Ok (a, rest)
-chosen_is (Err e) q t r a rest is = cc
-chosen_is (Ok n) q t r a rest is =
-    let facts = under_is n r (q n t) a rest is in ap (λ (k : ℕ). q k t) (sym facts.0) ∙ facts.1
-
-chosen_row : (o : Result ℕ Stop) (q : ℕ → Parser Text) (t : Text) (r : ℕ) (a : Trees) (rest : Text) → chosen (from t o) q ≡ Ok (In r a Done, rest) → o ≡ Ok r
-chosen_row (Err e) q t r a rest is = cc
-chosen_row (Ok n) q t r a rest is = ap Ok (under_is n r (q n t) a rest is).0
-
-row_chosen : (p : Place) (t : Text) (r : ℕ) (a : Trees) (rest : Text) → statement (reader Atoms) 1 p t ≡ Ok (In r a Done, rest) → row_at forms Atoms p t ≡ Ok r
-unfolding statement statement_row
-row_chosen p t r a rest is = chosen_row (row_at forms Atoms p t) (level (reader Atoms) (statement (reader Atoms) 0) (deep (reader Atoms) (statement (reader Atoms) 0) 32) 40) t r a rest is
-
-row_read : (p : Place) (t : Text) (r : ℕ) (a : Trees) (rest : Text) → statement (reader Atoms) 1 p t ≡ Ok (In r a Done, rest)
-    → level (reader Atoms) (statement (reader Atoms) 0) (deep (reader Atoms) (statement (reader Atoms) 0) 32) 40 r t ≡ Ok (a, rest)
-unfolding statement statement_row
-row_read p t r a rest is = chosen_is (row_at forms Atoms p t) (level (reader Atoms) (statement (reader Atoms) 0) (deep (reader Atoms) (statement (reader Atoms) 0) 32) 40) t r a rest is
-
--- the case of a row
-pick : (z : Type 0) (b : Bool) (x y : Option Request) (q : Request) → (if b then x else y) ≡ Some q → (b ≡ true → x ≡ Some q → z) → (b ≡ false → y ≡ Some q → z) → z
-pick z true x y q is h k = h refl is
-pick z false x y q is h k = k refl is
-
-some_is : (x q : Request) → Some x ≡ Some q → x ≡ q
-some_is x q is = cc
-
-at_row : (n r l : ℕ) (st : Place → Parser Text) (dp : ℕ → Parser Text) (t : Text) (a : Trees) → (r == n) ≡ true
-    → level (reader Atoms) st dp l r t ≡ Ok (a, []) → level (reader Atoms) st dp l n t ≡ Ok (a, [])
-at_row n r l st dp t a is read = subst (λ (k : ℕ). level (reader Atoms) st dp l k t ≡ Ok (a, [])) (equal r n is) read
-
--- a row that isn't built: none of those that are
-no_row : (a b c d e f g h i j k : Bool) → a ≡ false → b ≡ false → c ≡ false → d ≡ false → e ≡ false → f ≡ false → g ≡ false → h ≡ false → i ≡ false → j ≡ false → k ≡ false
-    → (a || (b || (c || (d || (e || (f || (g || (h || (i || (j || k)))))))))) ≡ true → ⊥
-no_row a b c d e f g h i j k ha hb hc hd he hf hg hh hi hj hk is = cc
-
-not_row : (t : Text) (r : ℕ) → Otherwise t r → (is_built_row r ≡ true → ⊥) → NotBuilt t
-not_row t r (inl h) none = absurd (none h)
-not_row t r (inr h) none = h
-
-by_rows : (s : Surroundings) (column : ℕ) (st : Place → Parser Text) (dp : ℕ → Parser Text) (l : ℕ) (t : Text) (r : ℕ) (a : Trees) (q : Request)
-    → level (reader Atoms) st dp l r t ≡ Ok (a, []) → Otherwise t r → plain_request r a ≡ Some q → plan_with s column t ≡ q
-by_rows s column st dp l t r a q read others is =
-    pick _ (r == row.GOTO) _ _ q is (λ b h. known _ _ a [] (goto_is s column st dp l t) (at_row row.GOTO r l st dp t a b read) ∙ some_is _ q h) (λ b1 is1.
-    pick _ (r == row.END) _ _ q is1 (λ b h. known _ _ a [] (end_is s column st dp l t) (at_row row.END r l st dp t a b read) ∙ some_is _ q h) (λ b2 is2.
-    pick _ (r == row.REMARK) _ _ q is2 (λ b h. known _ _ a [] (remark_is s column st dp l t) (at_row row.REMARK r l st dp t a b read) ∙ some_is _ q h) (λ b3 is3.
-    pick _ (r == row.IMAGE_LINE) _ _ q is3 (λ b h. known _ _ a [] (image_is s column st dp l t) (at_row row.IMAGE_LINE r l st dp t a b read) ∙ some_is _ q h) (λ b4 is4.
-    pick _ (r == row.SELECT) _ _ q is4 (λ b h. known _ _ a [] (select_is s column st dp l t) (at_row row.SELECT r l st dp t a b read) ∙ some_is _ q h) (λ b5 is5.
-    pick _ (r == row.SELECT_NO_ROUND) _ _ q is5 (λ b h. known _ _ a [] (no_round_is s column st dp l t) (at_row row.SELECT_NO_ROUND r l st dp t a b read) ∙ some_is _ q h) (λ b6 is6.
-    pick _ (r == row.RUN) _ _ q is6 (λ b h. known _ _ a [] (run_is s column st dp l t) (at_row row.RUN r l st dp t a b read) refl ∙ some_is _ q h) (λ b7 is7.
-    pick _ (r == row.LIST) _ _ q is7 (λ b h. known _ _ a [] (list_is s column st dp l t) (at_row row.LIST r l st dp t a b read) refl ∙ some_is _ q h) (λ b8 is8.
-    pick _ (r == row.CLEAR) _ _ q is8 (λ b h. known _ _ a [] (clear_is s column st dp l t) (at_row row.CLEAR r l st dp t a b read) refl ∙ some_is _ q h) (λ b9 is9.
-    pick _ (r == row.CLEAR_P) _ _ q is9 (λ b h. known _ _ a [] (clear_p_is s column st dp l t) (at_row row.CLEAR_P r l st dp t a b read) refl ∙ some_is _ q h) (λ b10 is10.
-    pick _ (r == row.PRINT || r == row.ASSIGNMENT) _ _ q is10 (λ b h. cc) (λ b11 is11.
-    not_row t r others (no_row _ _ _ _ _ _ _ _ _ _ _ b1 b2 b3 b4 b5 b6 b7 b8 b9 b10 b11) s column ∙ some_is _ q is11)))))))))))
-
-pub plain_units : (variables : List Number) (mode : Mode) (column : ℕ) (p : Place) (unit : Text) (r : ℕ) (t : Trees) (q : Request)
-    → statement (reader Atoms) 1 p unit ≡ Ok (In r t Done, []) → plain_request r t ≡ Some q → plan variables mode column unit ≡ q
-unfolding plan
-plain_units variables mode column p unit r t q is asks =
-    by_rows (record { letters = variables; mode = mode }) column (statement (reader Atoms) 0) (deep (reader Atoms) (statement (reader Atoms) 0) 32) 40 unit r t q (row_read p unit r t [] is) (other_rows p unit r (row_chosen p unit r t [] is)) asks

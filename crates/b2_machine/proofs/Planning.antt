@@ -84,7 +84,7 @@ laid_item old column (printed.Number x) r = laid_one old column (item.Number x) 
 laid_item old column printed.Zone r = laid_one old column item.Zone r
 laid_item old column printed.Join r = laid_none old column r
 
-items-suc : (s : Surroundings) (n : ℕ) (line : Bool) (b : ℕ) (bs : Text) → print_items s (suc n) line (b ∷ bs) ≡ further_items (printed_at s (b ∷ bs)) (print_items s n)
+pub items-suc : (s : Surroundings) (n : ℕ) (line : Bool) (b : ℕ) (bs : Text) → print_items s (suc n) line (b ∷ bs) ≡ further_items (printed_at s (b ∷ bs)) (print_items s n)
 unfolding print_items
 items-suc s n line b bs = refl
 
@@ -108,11 +108,11 @@ pub item_refused : (s : Surroundings) (fuel i : ℕ) (line : Bool) (t : Text) (c
     → laid old column (print_items s (fuel - i) line t) ≡ Err code
 item_refused s fuel i line t code old column h some is = ap (laid old column) (items-next s fuel i line t (Err code) h some is)
 
-items-end : (s : Surroundings) (n : ℕ) (line : Bool) → print_items s (suc n) line [] ≡ Ok (ended line)
+pub items-end : (s : Surroundings) (n : ℕ) (line : Bool) → print_items s (suc n) line [] ≡ Ok (ended line)
 unfolding print_items
 items-end s n line = refl
 
-items-zero : (s : Surroundings) (line : Bool) (t : Text) → print_items s zero line t ≡ Ok (ended line)
+pub items-zero : (s : Surroundings) (line : Bool) (t : Text) → print_items s zero line t ≡ Ok (ended line)
 unfolding print_items
 items-zero s line t = refl
 

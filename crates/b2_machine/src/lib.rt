@@ -20,7 +20,7 @@ mod tests;
 mod texts;
 mod typed;
 
-pub use laws::plain_units_ask_by_their_trees;
+pub use laws::units_ask_by_their_trees;
 pub use request::Request;
 pub use solo::{Doing, Place, Solo, StepEnd};
 pub use statement::ask;
