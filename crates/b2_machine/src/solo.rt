@@ -293,7 +293,13 @@ impl Solo {
             return self.stop(b"");
         };
         let is_last = unit.is_last;
-        let request = ask(self.alloc, &self.variables, self.mode, self.column, unit.cursor)?;
+        let request = ask(
+            self.alloc,
+            &self.variables,
+            self.mode,
+            self.column,
+            unit.cursor,
+        )?;
         self.carry_out(request, place, is_last)
     }
 
