@@ -9,7 +9,7 @@ use Rattle.b2_atom.specs.Tree.{Trees, tokens, atoms, Outcome, Parser, nothing, j
 use Rattle.b2_atom.specs.Tree.Trees.{Done, Put, In}
 use Rattle.b2_atom.specs.Grammar.{reader, items, item, level, deep, statement, row_items, starts, chosen}
 use Rattle.b2_atom.specs.Spelling.{Spells, AllGood, Neighbours, atoms_of_tokens}
-use Rattle.b2_atom.specs.Fitting.{Fits, is_statement, is_allowed, is_rest, RemarksEnd}
+use Rattle.b2_atom.specs.Fitting.{Fits, is_statement, is_rest, RemarksEnd}
 use Rattle.b2_atom.specs.Table.{forms}
 use Rattle.b2_atom.specs.declared.words.TheConstants as word
 use Rattle.b2_atom.specs.declared.rows.TheConstants as row
@@ -17,12 +17,12 @@ use Rattle.b2_atom.specs.declared.words.Origin.TheVariants.{Atoms}
 use Rattle.b2_atom.specs.declared.forms.Start.TheVariants as start
 use Rattle.b2_atom.specs.declared.forms.Place.{Place}
 use Rattle.b2_atom.specs.declared.forms.Place.TheVariants as place
-use Rattle.b2_atom.specs.declared.forms.Form.{Form}
 use Rattle.b2_atom.specs.declared.forms.Item.{Item}
 use Rattle.b2_atom.specs.declared.forms.Item.TheVariants.{Word, Part, Either, Statement}
 use Rattle.b2_atom.specs.declared.sink.Stop.{Stop}
 use Rattle.b2_atom.proofs.Booleans.{and_left, and_right, never, or_cases, equal}
-use Rattle.b2_atom.proofs.Fronts.{every, some, Front, fronts, surely, Tail, of_items, of_row, of, settled, marked_choice, is_free_row, statement_heads}
+use Rattle.b2_atom.proofs.Fronts.{every, some, Front, fronts, surely, Tail, of_items, of_row, of, settled, marked_choice, is_free_row, statement_heads, every_statement}
+use Rattle.b2_atom.proofs.Settled.{one_of_statements}
 use Rattle.b2_atom.proofs.Heads.{Refused, is_closing, leads}
 use Rattle.b2_atom.proofs.Fitted.{tokens_also}
 use Rattle.b2_atom.proofs.FittedLines.{following_is, error_is, else_is, if_is as if_row_is}
@@ -490,25 +490,13 @@ plain_first m plain p t more stated fits closed st = record {
   next = inl refl;
 }
 
--- no other row has a statement in it
+-- no other statement's row has a statement in it
 is_known : ℕ → Bool
 is_known m = (of m).plain || (m == row.IF || (m == row.ELSE || m == row.ERROR))
 
-all_known : List Form → Bool
-all_known [] = is_known row.ASSIGNMENT
-all_known (f ∷ fs) = is_known f.row && all_known fs
-
-forms_known : all_known forms ≡ true
-unfolding of_row of row_items is_known all_known
+forms_known : every_statement is_known forms ≡ true
+unfolding of_row of row_items is_known
 forms_known = refl
-
-one_known : (p : Place) (m : ℕ) (fs : List Form) → all_known fs ≡ true → is_statement fs Atoms p m ≡ true → is_known m ≡ true
-unfolding all_known
-one_known p m [] h k = subst (λ (n : ℕ). is_known n ≡ true) (sym (equal m row.ASSIGNMENT k)) h
-one_known p m (f ∷ fs) h k = elim (or_cases (f.row == m && is_allowed Atoms p f.rule) (is_statement fs Atoms p m) k) [
-  | inl g ↦ subst (λ (n : ℕ). is_known n ≡ true) (equal f.row m (and_left _ _ g)) (and_left _ _ h)
-  | inr g ↦ one_known p m fs (and_right (is_known f.row) _ h) g
-]
 
 of_equal : (m n : ℕ) → (m == n) ≡ true → OfRow n → OfRow m
 of_equal m n same h = subst OfRow (sym (equal m n same)) h
@@ -530,4 +518,4 @@ of_known m h = elim (or_cases (of m).plain _ h) [
 pub first_unit : (p : Place) (m : ℕ) (t : Trees) (more : List Token) → is_statement forms Atoms p m ≡ true → Fits Atoms 32 (row_items m) t → is_closing more ≡ true
     → Stand (tokens t ++ more) → FirstUnit p (tokens t ++ more) more
 unfolding FirstOf
-first_unit p m t more stated fits closed st = of_known m (one_known p m forms forms_known stated) p t more stated fits closed st
+first_unit p m t more stated fits closed st = of_known m (one_of_statements is_known Atoms p m forms forms_known stated) p t more stated fits closed st
