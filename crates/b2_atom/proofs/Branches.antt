@@ -105,7 +105,7 @@ led_row : (inner : Trees) (o : Origin) (room n : ℕ) → Fits o room (row_items
 led_row inner o room n fits more = led_known n (tokens inner) more (leads inner o room (row_items n) fits more)
 
 -- a row that isn't empty begins as it must
-row_fronts : (inner : Trees) (o : Origin) (room n : ℕ) → Fits o room (row_items n) inner → not (of n).empty ≡ true → (more : List Token)
+pub row_fronts : (inner : Trees) (o : Origin) (room n : ℕ) → Fits o room (row_items n) inner → not (of n).empty ≡ true → (more : List Token)
     → some (λ (f : Front). fronts f (tokens inner ++ more)) (of n).heads ≡ true
 row_fronts inner o room n fits full more = elim (led_row inner o room n fits more) [
   | inl g ↦ never (of n).empty g.1 (not_true _ full)

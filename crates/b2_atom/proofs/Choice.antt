@@ -241,7 +241,7 @@ result_row : (b : Bool) (u : Text) (r : Result ℕ Stop) (m : ℕ) (v : Text) �
 result_row true u r m v h k = cc
 result_row false u r m v h k = ap (from u) k
 
-abbrev Stands : Origin → Place → ℕ → List Token → Text → Type 0
+abbrev pub Stands : Origin → Place → ℕ → List Token → Text → Type 0
 Stands o p m ts s = (u : Text) × ((statement_row o p s ≡ Ok (m, u)) × Spells o ts u)
 
 stands : (o : Origin) (p : Place) (m : ℕ) (f g : Front) (t : Token) (ts : List Token) (s : Text) → choose forms m f g ≡ true → fronts f (t ∷ ts) ≡ true → fronts g ts ≡ true
@@ -318,7 +318,7 @@ mark_end (Among a b code) is h k = cc
 mark_end i is h k = cc
 
 -- a statement that begins with a word or a sign
-marked : (o : Origin) (p : Place) (m : ℕ) (is : List Item) (t : Trees) (more : List Token) (s : Text) → leading is ≡ true → marked_choice m is ≡ true
+pub marked : (o : Origin) (p : Place) (m : ℕ) (is : List Item) (t : Trees) (more : List Token) (s : Text) → leading is ≡ true → marked_choice m is ≡ true
     → ((xs : List Token) (x : Token) → tokens t ++ more ≡ x ∷ xs → opens_statement x ≡ true) → is_statement forms o p m ≡ true → Fits o 32 is t → is_closing more ≡ true
     → Spells o (tokens t ++ more) s → Stands o p m (tokens t ++ more) s
 marked o p m [] t more s led test opens stated fits closed spelled = cc

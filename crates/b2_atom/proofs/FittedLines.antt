@@ -222,7 +222,7 @@ statement_last : (o : Origin) (stf : Place → Parser Text) (f l : ℕ) → Belo
 unfolding item
 statement_last o stf f l st p s less = last_step o stf l (Statement p) s (ends_map (StatementTree o p) (Leads o 32 (Statement p) []) s (stf p s) (statement_leads o p []) (st p s less))
 
-following_is : row_items row.FOLLOWING ≡ Statement place.Following ∷ []
+pub following_is : row_items row.FOLLOWING ≡ Statement place.Following ∷ []
 unfolding row_items
 following_is = refl
 
@@ -231,7 +231,7 @@ following_row : (o : Origin) (stf : Place → Parser Text) (f l : ℕ) → Below
 following_row o stf f l st s less =
     ends_row o stf l row.FOLLOWING (Statement place.Following ∷ []) s following_is (statement_last o stf f l st place.Following s less)
 
-error_is : row_items row.ERROR ≡ Word word.ERROR ∷ Part row.FOLLOWING ∷ []
+pub error_is : row_items row.ERROR ≡ Word word.ERROR ∷ Part row.FOLLOWING ∷ []
 unfolding row_items
 error_is = refl
 
@@ -272,7 +272,7 @@ line_or_statement o stf f l st s less =
     (ends_under (Fits o 32 (row_items row.FOLLOWING)) (Leads o 32 (Either start.Line row.LINE_NUMBER row.FOLLOWING) []) 0 s (level (reader o) stf (deep (reader o) stf 32) (suc l) row.FOLLOWING s)
     (λ t g b fit. (g, fit)) (following_row o stf f l st s less)))
 
-else_is : row_items row.ELSE ≡ Word word.ELSE ∷ Either start.Line row.LINE_NUMBER row.FOLLOWING ∷ []
+pub else_is : row_items row.ELSE ≡ Word word.ELSE ∷ Either start.Line row.LINE_NUMBER row.FOLLOWING ∷ []
 unfolding row_items
 else_is = refl
 
@@ -282,7 +282,7 @@ else_row o stf f l st s le =
     ends_row o stf (suc l) row.ELSE (Word word.ELSE ∷ Either start.Line row.LINE_NUMBER row.FOLLOWING ∷ []) s else_is
     (word_step o stf (suc l) word.ELSE (Either start.Line row.LINE_NUMBER row.FOLLOWING ∷ []) s refl refl (λ u less. line_or_statement o stf f l st u (lt_le (length u) (length s) f less le)))
 
-if_is : row_items row.IF ≡ Word word.IF ∷ Part row.CONDITION ∷ Word word.THEN ∷ Either start.Line row.LINE_NUMBER row.FOLLOWING ∷ []
+pub if_is : row_items row.IF ≡ Word word.IF ∷ Part row.CONDITION ∷ Word word.THEN ∷ Either start.Line row.LINE_NUMBER row.FOLLOWING ∷ []
 unfolding row_items
 if_is = refl
 
@@ -470,7 +470,7 @@ statements_below o (suc f) p s less =
     statement_chosen o (statement (reader o) f) f p s (statement_row o p s) (statements_below o f) (less_suc (length s) f less) (place_fact o p s)
 
 -- further statements
-further_is : row_items row.FURTHER_STATEMENT ≡ Sign 58 25 ∷ Statement place.Further ∷ []
+pub further_is : row_items row.FURTHER_STATEMENT ≡ Sign 58 25 ∷ Statement place.Further ∷ []
 unfolding row_items
 further_is = refl
 
@@ -528,7 +528,7 @@ unfolding items item end_of_line
 end_idles o stf l v = end_by o v (skipped o v)
 
 -- a line
-line_is : row_items row.LINE ≡ Statement place.First ∷ Many (start.Code 58) row.FURTHER_STATEMENT ∷ End ∷ []
+pub line_is : row_items row.LINE ≡ Statement place.First ∷ Many (start.Code 58) row.FURTHER_STATEMENT ∷ End ∷ []
 unfolding row_items
 line_is = refl
 

@@ -344,9 +344,10 @@ good_statement n =
     not (of n).empty
     && (covered statement_heads (of n).heads && (((of n).plain || leading (row_items n)) && ((is_free_row (row_items n) || refuse (of n).tails (None ∷ Spanned 58 58 ∷ [])) && covered statement_ends (of n).ends)))
 
-abbrev pub good_forms : List Form → Bool
-good_forms [] = good_statement row.ASSIGNMENT
-good_forms (f ∷ fs) = good_statement f.row && good_forms fs
+-- a test of the row of each form, and of assignments
+abbrev pub every_statement : (ℕ → Bool) → List Form → Bool
+every_statement test [] = test row.ASSIGNMENT
+every_statement test (f ∷ fs) = test f.row && every_statement test fs
 
 -- the choice of a statement by its first two tokens
 abbrev pub is_spanned : Front → Bool
@@ -387,9 +388,8 @@ abbrev pub chosen_row : ℕ → Bool → Bool
 chosen_row m true = marked_choice m (row_items m)
 chosen_row m false = every (λ (f : Front). choose forms m f Any) (of m).heads
 
-abbrev pub chosen_forms : List Form → Bool
-chosen_forms [] = chosen_row row.ASSIGNMENT (leading (row_items row.ASSIGNMENT))
-chosen_forms (x ∷ xs) = chosen_row x.row (leading (row_items x.row)) && chosen_forms xs
+abbrev pub chosen_statement : ℕ → Bool
+chosen_statement m = chosen_row m (leading (row_items m))
 
 -- what stands at the front of items, also where it stands in parentheses
 abbrev pub next_heads : List Item → List Front

@@ -39,4 +39,6 @@ pub mod Fitted
 pub mod FittedLines
 pub mod Anywhere
 pub mod LineLaws
+pub mod OneUnit
+pub mod EachUnit
 pub mod ReadAgain

@@ -31,7 +31,7 @@ use Rattle.b2_atom.proofs.FittedLines.{reads_fit}
 use Rattle.b2_atom.proofs.Anywhere.{anywhere}
 
 -- the choices hold
-chooses : (o : Origin) → Chooses o
+pub chooses : (o : Origin) → Chooses o
 chooses o = record { far_first = far_first o; far_second = far_second o; one_statement = one_statement o }
 
 line_bound : not (is_free_row (row_items row.LINE)) ≡ true
@@ -64,7 +64,7 @@ read_line_back o t s h spelled =
     ran.1.0 ∙ ap (λ (r : Text). Ok (t, r)) ran.1.1
 
 -- the atoms of a tree are those of its tokens
-append_atoms : (xs ys : List Token) → atoms_of_tokens (xs ++ ys) ≡ atoms_of_tokens xs ++ atoms_of_tokens ys
+pub append_atoms : (xs ys : List Token) → atoms_of_tokens (xs ++ ys) ≡ atoms_of_tokens xs ++ atoms_of_tokens ys
 append_atoms [] ys = refl
 append_atoms (x ∷ xs) ys = ap (λ (l : Text). token_atoms x ++ l) (append_atoms xs ys) ∙ sym (append_assoc (token_atoms x) (atoms_of_tokens xs) (atoms_of_tokens ys))
 

@@ -42,9 +42,9 @@ or_false_left false b h k = h
 enough_lead : (n f l : ℕ) → n ≤ suc f → l ≡ 1 → n ≤ l + f
 enough_lead n f l h k = omega (arith, h, k)
 
--- a statement's row
-statement_row_runs : (inner : Trees) → Good inner → (o : Origin) → Chooses o → (f : ℕ) (p : Place) (m : ℕ) (more : List Token) (u : Text) → is_statement forms o p m ≡ true
-    → Fits o 32 (row_items m) inner → is_closing more ≡ true → RemarksEnd (tokens inner ++ more) → length (tokens inner) ≤ suc f → Spells o (tokens inner ++ more) u
+-- a statement's row, which needs no fuel where no statement stands in it
+pub statement_row_runs : (inner : Trees) → Good inner → (o : Origin) → Chooses o → (f : ℕ) (p : Place) (m : ℕ) (more : List Token) (u : Text) → is_statement forms o p m ≡ true
+    → Fits o 32 (row_items m) inner → is_closing more ≡ true → RemarksEnd (tokens inner ++ more) → ((of m).plain ≡ false → length (tokens inner) ≤ suc f) → Spells o (tokens inner ++ more) u
     → Runs o (reads_part o 32 40 f m u) inner more
 unfolding level
 statement_row_runs inner good o chooses f p m more u stated fits closed remarks_ less spelled =
@@ -57,8 +57,9 @@ statement_row_runs inner good o chooses f p m more u stated fits closed remarks_
           (record {
             settles = bound_row m (ap not g);
             ranked = (let P : Known → Type 0 = λ k. suc k.rank ≤ 40 in let e : suc (of_items of (row_items m)).rank ≤ 40 = subst P (sym (known m)) (row_rank m) in omega (arith, e));
-            enough = λ h. enough_lead (length (tokens inner)) f (lead (row_items m)) less
-                (lead_one (row_items m) (or_false_left (of m).plain (leading (row_items m)) (and_left _ _ rest) (ap (λ (k : Known). k.plain) (sym (known m)) ∙ h)));
+            enough = λ h. let followed : (of m).plain ≡ false = ap (λ (k : Known). k.plain) (sym (known m)) ∙ h in
+                enough_lead (length (tokens inner)) f (lead (row_items m)) (less followed)
+                (lead_one (row_items m) (or_false_left (of m).plain (leading (row_items m)) (and_left _ _ rest) followed));
             refuses = (let P : Known → Type 0 = λ k. Refused o k.tails more in
                 subst P (sym (known m)) (refused_fronts o (of m).tails (None ∷ Spanned 58 58 ∷ []) more (or_false_left (is_free_row (row_items m)) _ free_or g) (closing_fronts more closed)));
             remarks = remarks_;
@@ -88,7 +89,7 @@ statement_runs inner ts gi gt o chooses room l (suc f) p m is stated fi ft more 
     (ap (λ (w : Result (ℕ × Text) Stop). chosen w (level (reader o) (statement (reader o) f) (deep (reader o) (statement (reader o) f) 32) 40)) one.1.0)
     (runs_under o m (reads_part o 32 40 f m one.0) inner (tokens ts ++ more)
     (statement_row_runs inner gi o chooses f p m (tokens ts ++ more) one.0 stated fi behind_.0 (inner_remarks inner ts more r.remarks)
-    (statement_fuel (length (tokens inner)) (length (tokens ts)) (length (tokens inner ++ tokens ts)) f (length_append (tokens inner) (tokens ts)) (r.enough refl)) one.1.1)))
+    (λ h. statement_fuel (length (tokens inner)) (length (tokens ts)) (length (tokens inner ++ tokens ts)) f (length_append (tokens inner) (tokens ts)) (r.enough refl)) one.1.1)))
     (λ u spelled_. gt o chooses room l (suc f) is ft more (ready_in o room l (suc f) m (Statement p) is inner ts more refl (and_right (refuse (of_item of (Statement p)).tails (of_items of is).heads) _ tests) r) u spelled_)
 
 -- no fewer bytes than tokens

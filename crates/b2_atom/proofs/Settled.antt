@@ -9,7 +9,7 @@ use Rattle.b2_atom.specs.declared.forms.Place.{Place}
 use Rattle.b2_atom.specs.declared.forms.Form.{Form}
 use Rattle.b2_atom.specs.declared.forms.Item.{Item}
 use Rattle.b2_atom.proofs.Booleans.{and_left, and_right, or_cases, equal}
-use Rattle.b2_atom.proofs.Fronts.{of_row, of, settled_row, settled_rows, good_statement, good_forms, chosen_forms, chosen_row, leading, paired, beside, Beside, before_good, good_front, every, covered, statement_heads}
+use Rattle.b2_atom.proofs.Fronts.{of_row, of, settled_row, settled_rows, good_statement, every_statement, chosen_statement, chosen_row, leading, paired, beside, Beside, before_good, good_front, every, covered, statement_heads}
 
 settled_0 : settled_rows rows_0 ≡ true
 unfolding of_row of row_items
@@ -47,33 +47,27 @@ pub row_settled : (n : ℕ) → settled_row (row_items n) ≡ true
 unfolding row_items
 row_settled n = one_of_rows (rows_of (n / 64)) (place_of n) (all_rows (n / 64))
 
-forms_good : good_forms forms ≡ true
+-- a test that holds for the row of each form holds for that of each statement
+pub one_of_statements : (test : ℕ → Bool) (o : Origin) (p : Place) (m : ℕ) (fs : List Form) → every_statement test fs ≡ true → is_statement fs o p m ≡ true → test m ≡ true
+one_of_statements test o p m [] h k = let P : ℕ → Type 0 = λ n. test n ≡ true in subst P (sym (equal m row.ASSIGNMENT k)) h
+one_of_statements test o p m (f ∷ fs) h k = elim (or_cases (f.row == m && is_allowed o p f.rule) (is_statement fs o p m) k) [
+  | inl g ↦ (let P : ℕ → Type 0 = λ n. test n ≡ true in subst P (equal f.row m (and_left _ _ g)) (and_left _ _ h))
+  | inr g ↦ one_of_statements test o p m fs (and_right (test f.row) _ h) g
+]
+
+forms_good : every_statement good_statement forms ≡ true
 unfolding of_row of row_items
 forms_good = refl
 
-one_of_forms : (o : Origin) (p : Place) (m : ℕ) (fs : List Form) → good_forms fs ≡ true → is_statement fs o p m ≡ true → good_statement m ≡ true
-one_of_forms o p m [] h k = let P : ℕ → Type 0 = λ n. good_statement n ≡ true in subst P (sym (equal m row.ASSIGNMENT k)) h
-one_of_forms o p m (f ∷ fs) h k = elim (or_cases (f.row == m && is_allowed o p f.rule) (is_statement fs o p m) k) [
-  | inl g ↦ (let P : ℕ → Type 0 = λ n. good_statement n ≡ true in subst P (equal f.row m (and_left _ _ g)) (and_left _ _ h))
-  | inr g ↦ one_of_forms o p m fs (and_right (good_statement f.row) _ h) g
-]
-
 pub statement_good : (o : Origin) (p : Place) (m : ℕ) → is_statement forms o p m ≡ true → good_statement m ≡ true
-statement_good o p m h = one_of_forms o p m forms forms_good h
+statement_good o p m h = one_of_statements good_statement o p m forms forms_good h
 
-forms_chosen : chosen_forms forms ≡ true
+forms_chosen : every_statement chosen_statement forms ≡ true
 unfolding of_row of row_items
 forms_chosen = refl
 
-one_chosen : (o : Origin) (p : Place) (m : ℕ) (fs : List Form) → chosen_forms fs ≡ true → is_statement fs o p m ≡ true → chosen_row m (leading (row_items m)) ≡ true
-one_chosen o p m [] h k = let P : ℕ → Type 0 = λ n. chosen_row n (leading (row_items n)) ≡ true in subst P (sym (equal m row.ASSIGNMENT k)) h
-one_chosen o p m (f ∷ fs) h k = elim (or_cases (f.row == m && is_allowed o p f.rule) (is_statement fs o p m) k) [
-  | inl g ↦ (let P : ℕ → Type 0 = λ n. chosen_row n (leading (row_items n)) ≡ true in subst P (equal f.row m (and_left _ _ g)) (and_left _ _ h))
-  | inr g ↦ one_chosen o p m fs (and_right (chosen_row f.row (leading (row_items f.row))) _ h) g
-]
-
 pub statement_chosen : (o : Origin) (p : Place) (m : ℕ) → is_statement forms o p m ≡ true → chosen_row m (leading (row_items m)) ≡ true
-statement_chosen o p m h = one_chosen o p m forms forms_chosen h
+statement_chosen o p m h = one_of_statements chosen_statement o p m forms forms_chosen h
 
 -- the tokens of each row may stand side by side, and are good tokens
 abbrev pub paired_rows : Beside → List (List Item) → Bool

@@ -208,7 +208,7 @@ takes_chosen : (r : Result ℕ Stop) (q : ℕ → Parser Text) (s : Text) → ((
 takes_chosen (Err e) q s h = tt
 takes_chosen (Ok n) q s h = takes_under n s (q n s) (h n s)
 
-takes_statement : (f : ℕ) (x : Place) → AllTake (statement (reader Atoms) f x)
+pub takes_statement : (f : ℕ) (x : Place) → AllTake (statement (reader Atoms) f x)
 unfolding statement statement_row
 takes_statement zero x s = refl
 takes_statement (suc f) x s =

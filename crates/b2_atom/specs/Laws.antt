@@ -1,9 +1,12 @@
 -- Laws of lines: which trees there are, that each is spelled by its atoms alone, and that what is listed is read back.
-use Rattle.std.specs.Prelude.{◌≡◌, ◌≤◌, true, false, Ok, length}
+use Rattle.std.specs.Prelude.{◌≡◌, ◌≤◌, ℕ, true, false, [], Ok, length}
+use Rattle.std.specs.List.{All}
 use Rattle.b2_atom.specs.Words.{Text}
 use Rattle.b2_atom.specs.Tokens.{listed}
 use Rattle.b2_atom.specs.Tree.{Trees, atoms, tokens}
-use Rattle.b2_atom.specs.Lines.{is_line, line_atoms}
+use Rattle.b2_atom.specs.Tree.Trees.{Done, In}
+use Rattle.b2_atom.specs.Grammar.{reader, statement}
+use Rattle.b2_atom.specs.Lines.{is_line, line_atoms, LineUnit, units_of}
 use Rattle.b2_atom.specs.Fitting.{LineTree}
 use Rattle.b2_atom.specs.declared.words.Origin.{Origin}
 use Rattle.b2_atom.specs.declared.words.Origin.TheVariants as origin
@@ -40,3 +43,13 @@ abbrev pub WhatIsListedIsReadBack : Type 0
 WhatIsListedIsReadBack =
     ((t : Trees) → LineTree origin.Program t → line_atoms origin.Program (listed false false (tokens t)) ≡ Ok (atoms t))
     × ((t : Trees) → LineTree origin.Immediate t → line_atoms origin.Immediate (listed false false (tokens t)) ≡ Ok (atoms t))
+
+-- a unit is read as one statement, with nothing left
+pub record IsStatement (u : LineUnit) : Type 0 where
+  pub row : ℕ
+  pub tree : Trees
+  pub read : statement (reader origin.Atoms) 1 u.place u.bytes ≡ Ok (In row tree Done, [])
+
+-- each unit of a line is one statement by itself
+abbrev pub EachUnitIsAStatement : Type 0
+EachUnitIsAStatement = (line : Text) → is_line line ≡ true → All IsStatement (units_of line)

@@ -1,5 +1,5 @@
 // Laws of lines, which no code states: each is the contract of a function without a body.
-ghost use Rattle.b2_atom.specs.Laws.{EachLineSpellsATree, EachTreeIsALine, NoTwoTreesShareAtoms, WhatIsReadIsALine, WhatIsListedIsReadBack};
+ghost use Rattle.b2_atom.specs.Laws.{EachLineSpellsATree, EachTreeIsALine, NoTwoTreesShareAtoms, WhatIsReadIsALine, WhatIsListedIsReadBack, EachUnitIsAStatement};
 
 /// Each list of bytes that spells a line is the atoms of a tree that the table allows.
 pub fn each_line_spells_a_tree()
@@ -24,4 +24,9 @@ pub fn what_is_read_is_a_line()
 /// The canonical source of each tree that a line of its kind allows is read back as the tree's atoms.
 pub fn what_is_listed_is_read_back()
     ensures { WhatIsListedIsReadBack }
+{}
+
+/// Each unit of a line is read as one statement by itself, cut off where the next begins.
+pub fn each_unit_is_a_statement()
+    ensures { EachUnitIsAStatement }
 {}

@@ -32,8 +32,8 @@ mod walk;
 mod words;
 
 pub use laws::{
-    each_line_spells_a_tree, each_tree_is_a_line, no_two_trees_share_atoms,
-    what_is_listed_is_read_back, what_is_read_is_a_line,
+    each_line_spells_a_tree, each_tree_is_a_line, each_unit_is_a_statement,
+    no_two_trees_share_atoms, what_is_listed_is_read_back, what_is_read_is_a_line,
 };
 pub use leaves::number_width;
 pub use line::{Atoms, Cursor, FoundUnit, read_source};

@@ -1,5 +1,6 @@
 -- What a unit asks for by its tree: the law above what Plan says of the bytes.
 use Rattle.std.specs.Prelude.{◌≡◌, ℕ, ◌-◌, ◌==◌, ◌&&◌, not, Bool, true, false, List, [], ◌∷◌, ◌++◌, Result, Ok, if◌then◌else◌}
+use Rattle.std.specs.List.{All}
 use Rattle.b2_dec.specs.Number.{Number}
 use Rattle.b2_dec.specs.declared.number.Mode.{Mode}
 use Rattle.b2_dec.specs.declared.number.Mode.TheVariants.{Round, Cut}
@@ -13,6 +14,8 @@ use Rattle.b2_atom.specs.Tokens.Token.{Coded, Plain, Lined}
 use Rattle.b2_atom.specs.Tree.{Trees}
 use Rattle.b2_atom.specs.Tree.Trees.{Done, Put, In}
 use Rattle.b2_atom.specs.Grammar.{reader, statement}
+use Rattle.b2_atom.specs.Lines.{LineUnit, units_of, is_line}
+use Rattle.b2_atom.specs.Laws.{IsStatement}
 use Rattle.b2_atom.specs.declared.words.Origin.TheVariants as origin
 use Rattle.b2_atom.specs.declared.forms.Leaf.{Leaf}
 use Rattle.b2_atom.specs.declared.forms.Leaf.TheVariants as leaf
@@ -132,7 +135,16 @@ request_of s column r t =
     else (if r == row.PRINT then where_tree_built (behind t) (asked (λ its. request.Show (layout width column its)) (shown_in s (behind t)))
     else (if r == row.ASSIGNMENT then where_tree_built t (assigned_in s (inside t)) else not_built)))))))))))
 
--- A unit that is read as a statement asks for what its tree says.
+-- a unit that is read as a statement asks for what its tree says
 abbrev pub UnitsAskByTheirTrees : Type 0
 UnitsAskByTheirTrees = (variables : List Number) (mode : Mode) (column : ℕ) (p : Place) (unit : Text) (r : ℕ) (t : Trees)
     → statement (reader origin.Atoms) 1 p unit ≡ Ok (In r t Done, []) → plan variables mode column unit ≡ request_of (record { letters = variables; mode = mode }) column r t
+
+-- a unit is one statement, and asks for what its tree says, whatever the variables, the mode and the column are
+pub record AsksByItsTree (u : LineUnit) : Type 0 where
+  pub is : IsStatement u
+  pub asks : (variables : List Number) (mode : Mode) (column : ℕ) → plan variables mode column u.bytes ≡ request_of (record { letters = variables; mode = mode }) column is.row is.tree
+
+-- and so does each unit of a line
+abbrev pub EachUnitAsksByItsTree : Type 0
+EachUnitAsksByItsTree = (line : Text) → is_line line ≡ true → All AsksByItsTree (units_of line)

@@ -20,7 +20,7 @@ mod tests;
 mod texts;
 mod typed;
 
-pub use laws::units_ask_by_their_trees;
+pub use laws::{each_unit_asks_by_its_tree, units_ask_by_their_trees};
 pub use request::Request;
 pub use solo::{Doing, Place, Solo, StepEnd};
 pub use statement::ask;

@@ -1,0 +1,5 @@
+use Rattle.b2_atom.proofs.EachUnit.{each_unit}
+use Rattle.b2_atom.proofs.laws.each_unit_is_a_statement.Goals as goal
+
+pub returns : goal.returns
+returns c = each_unit
