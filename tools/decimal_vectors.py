@@ -195,7 +195,7 @@ if __name__ == "__main__":
     with open("crates/b2_dec/src/tests/vectors.rt", "w") as f:
         f.write("// Written by tools/decimal_vectors.py: operations with the results of another implementation, in packed form.\n")
         f.write("use super::{Op, Row};\nuse crate::Mode;\n\n")
-        f.write("pub(super) const ROWS: [Row; %d] = [\n" % len(rows_text))
+        f.write("#[rattlefmt::skip]\npub(super) const ROWS: [Row; %d] = [\n" % len(rows_text))
         for line in rows_text:
             f.write(line.replace("row(", "(").replace("),\n", "),\n"))
         f.write("];\n")
