@@ -24,6 +24,7 @@ mod line;
 mod marks;
 mod rows;
 mod sink;
+mod spans;
 mod starts;
 mod table;
 #[cfg(test)]
