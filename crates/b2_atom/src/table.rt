@@ -180,11 +180,7 @@ pub const ROWS_1: [&[Item]; 64] = [
     // BUFFER
     &[Item::Either(Start::Code(words::STR_OPEN), rows::STRING_PART, rows::BUFFER_VARIABLE)],
     // BUFFER_VARIABLE
-    &[Item::Typed(Leaf::AlphaName, 20), Item::Maybe(Start::Code(b'('), rows::ARRAY_OR_ELEMENT)],
-    // ARRAY_OR_ELEMENT
-    &[Item::Sign(b'(', 10), Item::Nest(rows::MAYBE_SUBSCRIPTS), Item::Sign(b')', 11)],
-    // MAYBE_SUBSCRIPTS
-    &[Item::Maybe(Start::Numeric, rows::ONE_OR_TWO_NUMBERS)],
+    &[Item::Either(Start::Array, rows::ALPHA_ARRAY, rows::ALPHA_RECEIVER_VARIABLE)],
     // COMMA_BUFFER
     &[Item::Sign(b',', 13), Item::Part(rows::BUFFER)],
     // OPERAND_OF_ANY_KIND
@@ -275,15 +271,15 @@ pub const ROWS_1: [&[Item]; 64] = [
     &[Item::Part(rows::SUBSCRIPTS), Item::Maybe(Start::Numeric, rows::SUM)],
     // MAYBE_LENGTH
     &[Item::Maybe(Start::Numeric, rows::LENGTH)],
+    // LENGTH
+    &[Item::Part(rows::LENGTH_PRODUCT), Item::Many(Start::Two(b'+', b'-'), rows::ADDEND)],
+    // LENGTH_PRODUCT
+    &[Item::Part(rows::LENGTH_FACTOR), Item::Many(Start::Two(b'*', b'/'), rows::MULTIPLIER)],
 ];
 
 /// The rows from 128 on.
 #[rattlefmt::skip]
 pub const ROWS_2: [&[Item]; 64] = [
-    // LENGTH
-    &[Item::Part(rows::LENGTH_PRODUCT), Item::Many(Start::Two(b'+', b'-'), rows::ADDEND)],
-    // LENGTH_PRODUCT
-    &[Item::Part(rows::LENGTH_FACTOR), Item::Many(Start::Two(b'*', b'/'), rows::MULTIPLIER)],
     // LENGTH_FACTOR
     &[Item::Either(Start::Two(b'+', b'-'), rows::SIGNED_FACTOR, rows::LENGTH_POWER)],
     // SIGNED_FACTOR
@@ -409,15 +405,15 @@ pub const ROWS_2: [&[Item]; 64] = [
     &[Item::Word(words::TAB_OPEN), Item::Nest(rows::SUM), Item::Sign(b')', 11)],
     // HEXOF
     &[Item::Word(words::HEXOF_OPEN), Item::Nest(rows::ALPHA), Item::Sign(b')', 11)],
-];
-
-/// The rows from 192 on.
-#[rattlefmt::skip]
-pub const ROWS_3: [&[Item]; 61] = [
     // PRINTUSING
     &[Item::Word(words::PRINTUSING), Item::Either(Start::Line, rows::LINE_NUMBER, rows::IMAGE_LITERAL), Item::Sign(b',', 13), Item::Part(rows::OPERAND_OF_ANY_KIND), Item::Many(Start::Code(b','), rows::COMMA_OPERAND), Item::Maybe(Start::Code(b';'), rows::SEMICOLON)],
     // IMAGE_LITERAL
     &[Item::Typed(Leaf::Literal, 15)],
+];
+
+/// The rows from 192 on.
+#[rattlefmt::skip]
+pub const ROWS_3: [&[Item]; 59] = [
     // INPUT
     &[Item::Word(words::INPUT), Item::Maybe(Start::Code(b'"'), rows::PROMPT), Item::Part(rows::RECEIVER), Item::Many(Start::Code(b','), rows::COMMA_RECEIVER)],
     // LINPUT
@@ -549,7 +545,7 @@ pub const FORMS: [Form; 71] = [
     Form { start: Start::Code(words::GOTO), rule: Rule::Anywhere, row: rows::GOTO },
     Form { start: Start::Code(words::GOSUB), rule: Rule::Program, row: rows::GOSUB },
     Form { start: Start::Code(words::GOSUB_PRIME), rule: Rule::Program, row: rows::GOSUB_MARKED },
-    Form { start: Start::Pair(words::RETURN, words::CLEAR), rule: Rule::Anywhere, row: rows::RETURN_CLEAR },
+    Form { start: Start::Pair(words::RETURN, words::CLEAR), rule: Rule::Program, row: rows::RETURN_CLEAR },
     Form { start: Start::Code(words::RETURN), rule: Rule::Program, row: rows::RETURN },
     Form { start: Start::Code(words::ON), rule: Rule::Anywhere, row: rows::ON },
     Form { start: Start::Pair(words::IF, words::END), rule: Rule::Anywhere, row: rows::IF_END },

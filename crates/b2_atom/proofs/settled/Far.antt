@@ -26,7 +26,7 @@ use Rattle.b2_atom.proofs.settled.Fronts.Tail.{Asked}
 use Rattle.b2_atom.proofs.settled.FrontAnswers.{some_front, class_says, says_alpha, same_leaf, not_named, not_alpha}
 use Rattle.b2_atom.proofs.settled.Heads.{known, Refused, RefusedBy, leads, led_known, fills}
 use Rattle.b2_atom.proofs.settled.Pairs.{TwoTokens, Tells, Chain, Follows, chained, front_last, before_fronts}
-use Rattle.b2_atom.proofs.settled.FarComputed.{row_within, operand_ends, receiver_ends, sum_heads, alpha_heads, operand_full}
+use Rattle.b2_atom.proofs.settled.FarComputed.{row_within, operand_ends, receiver_ends, element_ends, sum_heads, alpha_heads, operand_full, element_full}
 
 -- the front of a token by itself
 abbrev pub front_of : Token → Front
@@ -465,6 +465,10 @@ array_first o room (In zero a ts) more s h spelled = array_row o room leaf.Name 
 array_first o room (In (suc zero) a ts) more s h spelled = array_row o room leaf.AlphaName 20 10 11 a (tokens ts ++ more) s refl h.0 (apart_tokens o (tokens a) (tokens ts) more s spelled)
 array_first o room (In (suc (suc m)) a ts) more s h spelled = absurd h
 
+alpha_array_first : (o : Origin) (room : ℕ) (inner : Trees) (more : List Token) (s : Text) → Fits o room (row_items row.ALPHA_ARRAY) inner → Spells o (tokens inner ++ more) s → starts o start.Array s ≡ true
+unfolding row_items
+alpha_array_first o room inner more s fits spelled = array_row o room leaf.AlphaName 20 10 11 inner more s refl fits spelled
+
 -- a scratched file
 alpha_row : (o : Origin) (room : ℕ) (b : Trees) (more : List Token) (s : Text) → Fits o room (row_items row.ALPHA) b → Spells o (tokens b ++ more) s → alpha_begins o (skipped o s) ≡ true
 alpha_row o room b more s fits spelled =
@@ -537,7 +541,11 @@ letters_same o a b c s x h i l is = (λ j. starts o (start.Letters (equal a 66 h
 
 pub far_first : (o : Origin) (st : Start) (n k room : ℕ) (inner : Trees) (more : List Token) (s : Text) → is_far st n k ≡ true → Fits o room (row_items n) inner
     → Spells o (tokens inner ++ more) s → starts o st s ≡ true
-far_first o start.Array n k room inner more s h fits spelled = array_first o room inner more s (fits_same o room n row.WHOLE_ARRAY inner (and_left _ _ h) fits) spelled
+far_first o start.Array n k room inner more s h fits spelled =
+    elim (or_cases (n == row.WHOLE_ARRAY && (k == row.OPERAND_OF_ANY_KIND || k == row.RECEIVER)) (n == row.ALPHA_ARRAY && k == row.ALPHA_RECEIVER_VARIABLE) h) [
+      | inl e ↦ array_first o room inner more s (fits_same o room n row.WHOLE_ARRAY inner (and_left _ _ e) fits) spelled
+      | inr e ↦ alpha_array_first o room inner more s (fits_same o room n row.ALPHA_ARRAY inner (and_left _ _ e) fits) spelled
+    ]
 far_first o start.AlphaInside n k room inner more s h fits spelled = inside_first_row o room inner more s (fits_same o room n row.SCRATCHED_FILE inner (and_left _ _ h) fits) spelled
 far_first o (start.Letters a b c) n k room inner more s h fits spelled =
     let rest = and_right (a == 66) _ h in
@@ -555,9 +563,19 @@ array_other o k room inner more s h fits refused spelled = elim (or_cases (k == 
       array_second o room row.RECEIVER inner more s refl receiver_ends (and_right (not (of row.OPERAND_OF_ANY_KIND).empty) _ operand_full) (fits_same o room k row.RECEIVER inner e fits) (subst P (equal k row.RECEIVER e) refused) spelled)
 ]
 
+no_element : (o : Origin) (k room : ℕ) (inner : Trees) (more : List Token) (s : Text) → (k == row.ALPHA_RECEIVER_VARIABLE) ≡ true → Fits o room (row_items k) inner
+    → Refused o (of k).tails more → Spells o (tokens inner ++ more) s → starts o start.Array s ≡ false
+no_element o k room inner more s h fits refused spelled =
+    let P : ℕ → Type 0 = λ n. Refused o (of n).tails more in
+    array_second o room row.ALPHA_RECEIVER_VARIABLE inner more s refl element_ends element_full (fits_same o room k row.ALPHA_RECEIVER_VARIABLE inner h fits) (subst P (equal k row.ALPHA_RECEIVER_VARIABLE h) refused) spelled
+
 pub far_second : (o : Origin) (st : Start) (n k room : ℕ) (inner : Trees) (more : List Token) (s : Text) → is_far st n k ≡ true → Fits o room (row_items k) inner
     → Refused o (of k).tails more → Spells o (tokens inner ++ more) s → starts o st s ≡ false
-far_second o start.Array n k room inner more s h fits refused spelled = array_other o k room inner more s (and_right (n == row.WHOLE_ARRAY) _ h) fits refused spelled
+far_second o start.Array n k room inner more s h fits refused spelled =
+    elim (or_cases (n == row.WHOLE_ARRAY && (k == row.OPERAND_OF_ANY_KIND || k == row.RECEIVER)) (n == row.ALPHA_ARRAY && k == row.ALPHA_RECEIVER_VARIABLE) h) [
+      | inl e ↦ array_other o k room inner more s (and_right (n == row.WHOLE_ARRAY) _ e) fits refused spelled
+      | inr e ↦ no_element o k room inner more s (and_right (n == row.ALPHA_ARRAY) _ e) fits refused spelled
+    ]
 far_second o start.AlphaInside n k room inner more s h fits refused spelled = inside_second o room inner more s (fits_same o room k row.SUM inner (and_right (n == row.SCRATCHED_FILE) _ h) fits) spelled
 far_second o (start.Letters a b c) n k room inner more s h fits refused spelled =
     let rest = and_right (a == 66) _ h in

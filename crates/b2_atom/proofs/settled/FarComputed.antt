@@ -57,6 +57,10 @@ pub receiver_ends : ends_open row.RECEIVER ≡ true
 unfolding of_row of row_items
 receiver_ends = refl
 
+pub element_ends : ends_open row.ALPHA_RECEIVER_VARIABLE ≡ true
+unfolding of_row of row_items
+element_ends = refl
+
 pub sum_heads : (every not_open (of row.SUM).heads && (every not_b (of row.SUM).heads && (besides before_number (of row.SUM).ends (Spanned 41 41 ∷ []) && not (of row.SUM).empty))) ≡ true
 unfolding of_row of row_items
 sum_heads = refl
@@ -68,3 +72,7 @@ alpha_heads = refl
 pub operand_full : (not (of row.OPERAND_OF_ANY_KIND).empty && not (of row.RECEIVER).empty) ≡ true
 unfolding of_row of row_items
 operand_full = refl
+
+pub element_full : not (of row.ALPHA_RECEIVER_VARIABLE).empty ≡ true
+unfolding of_row of row_items
+element_full = refl

@@ -261,7 +261,8 @@ refuse ts fs = every (λ (t : Tail). every (refused_by t) fs) ts
 
 -- a choice by more than the next token, and between which rows
 abbrev pub is_far : Start → ℕ → ℕ → Bool
-is_far start.Array n m = n == row.WHOLE_ARRAY && (m == row.OPERAND_OF_ANY_KIND || m == row.RECEIVER)
+is_far start.Array n m =
+    (n == row.WHOLE_ARRAY && (m == row.OPERAND_OF_ANY_KIND || m == row.RECEIVER)) || (n == row.ALPHA_ARRAY && m == row.ALPHA_RECEIVER_VARIABLE)
 is_far start.AlphaInside n m = n == row.SCRATCHED_FILE && m == row.SUM
 is_far (start.Letters a b c) n m = a == 66 && ((b == 69 && c == 71) && (n == row.BEG && m == row.SUM))
 is_far s n m = false
