@@ -7,6 +7,7 @@ use crate::sink::Stop;
 use crate::words::{
     LEFT_OUT, Origin, ahead, at, begins_with, dropped, first, kept, skipped, upper,
 };
+use b2_base::codes;
 
 pub fn is_digit(byte: u8) -> bool
     ensures { result ≡ spec.is_digit byte }
@@ -377,7 +378,7 @@ pub fn refused(origin: Origin, code: u8, text: &[u8]) -> Stop
     ensures known { result ≢ Stop.NoMemory }
 {
     if ahead(origin, text).0 == LEFT_OUT {
-        Stop::At(27, text.len())
+        Stop::At(codes::S27_LEFT_OUT, text.len())
     } else {
         Stop::At(code, text.len())
     }
@@ -420,8 +421,8 @@ fn missing_literal(origin: Origin, code: u8, text: &[u8]) -> Stop
         return refused(origin, code, text);
     }
     if at(text, 1) == b'"' {
-        return Stop::At(18, text.len());
+        return Stop::At(codes::S18_ALPHA, text.len());
     }
     let count = until_quote(dropped(text, 1));
-    Stop::At(19, text.len().saturating_sub(count.saturating_add(1)))
+    Stop::At(codes::S19_HEX_OR_QUOTE, text.len().saturating_sub(count.saturating_add(1)))
 }

@@ -8,6 +8,7 @@ use crate::forms::{Item, Leaf};
 use crate::leaves::{all_printable, digits, leaf_width, missing, refused};
 use crate::sink::{Sink, Stop, put_code, put_line, put_text};
 use crate::words::{Origin, ahead, at, dropped, front, is_source, skipped};
+use b2_base::codes;
 
 // Reads a word or a sign.
 #[tactic(auto, unfolding(crate::specs::Grammar::mark))]
@@ -69,10 +70,10 @@ fn program_word<'a>(
     let here = skipped(origin, text);
     let (class, behind) = ahead(origin, here);
     if class != wanted {
-        return Err(refused(origin, 22, here));
+        return Err(refused(origin, codes::S22_WORD, here));
     }
     if origin == Origin::Immediate {
-        return Err(Stop::At(26, here.len()));
+        return Err(Stop::At(codes::S26_PROGRAM_ONLY, here.len()));
     }
     put_code(out, wanted)?;
     Ok(behind)
@@ -92,7 +93,7 @@ fn comma<'a>(out: &mut Sink, origin: Origin, text: &'a [u8]) -> Result<&'a [u8],
         return Ok(behind);
     }
     if !is_source(origin) {
-        return Err(refused(origin, 13, here));
+        return Err(refused(origin, codes::S13_SEPARATOR, here));
     }
     put_code(out, b',')?;
     Ok(text)
@@ -259,7 +260,7 @@ fn end_of_line<'a>(out: &mut Sink, origin: Origin, text: &'a [u8]) -> Result<&'a
     if here.is_empty() {
         Ok(here)
     } else {
-        Err(refused(origin, 25, here))
+        Err(refused(origin, codes::S25_END, here))
     }
 }
 
@@ -275,13 +276,13 @@ pub fn read_item<'a>(
     ensures silent { is_silent (seen out.new) ≡ is_silent (seen out.old) }
 {
     match item {
-        Item::Word(word) => mark(out, origin, word, 22, text),
+        Item::Word(word) => mark(out, origin, word, codes::S22_WORD, text),
         Item::Sign(sign, code) => mark(out, origin, sign, code, text),
         Item::Among(low, high, code) => among(out, origin, low, high, code, text),
         Item::ProgramWord(word) => program_word(out, origin, word, text),
         Item::Ignored(word) => Ok(ignored(origin, word, text)),
         Item::Comma => comma(out, origin, text),
-        Item::LeftOut => Err(Stop::At(27, skipped(origin, text).len())),
+        Item::LeftOut => Err(Stop::At(codes::S27_LEFT_OUT, skipped(origin, text).len())),
         Item::End => end_of_line(out, origin, text),
         Item::Typed(leaf, code) => read_leaf(out, origin, leaf, code, text),
         Item::Part(_)
@@ -289,6 +290,6 @@ pub fn read_item<'a>(
         | Item::Either(_, _, _)
         | Item::Many(_, _)
         | Item::Nest(_)
-        | Item::Statement(_) => Err(Stop::At(14, 0)),
+        | Item::Statement(_) => Err(Stop::At(codes::S14_STATEMENT, 0)),
     }
 }

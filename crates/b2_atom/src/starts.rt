@@ -14,6 +14,7 @@ use crate::words::{
     ABS_OPEN, BIN_OPEN, FN, HASH_TERM, HEX_OPEN, HEXOF_OPEN, Origin, STR_OPEN, TAB_OPEN, ahead, at,
     begins_with, dropped, first, is_source, kept, skipped,
 };
+use b2_base::codes;
 
 fn is_among(low: u8, high: u8, class: u8) -> bool
     ensures { result ≡ spec.is_among low high class }
@@ -160,11 +161,11 @@ fn allowed(origin: Origin, place: Place, form: &Form, text: &[u8]) -> Result<u16
     ensures known { IfErr result (λ e. e ≢ Stop.NoMemory) }
 {
     if barred_following(place, form.rule) {
-        Err(Stop::At(14, text.len()))
+        Err(Stop::At(codes::S14_STATEMENT, text.len()))
     } else if barred_line(origin, form.rule) {
-        Err(Stop::At(26, text.len()))
+        Err(Stop::At(codes::S26_PROGRAM_ONLY, text.len()))
     } else if barred_place(place, form.rule) {
-        Err(Stop::At(28, text.len()))
+        Err(Stop::At(codes::S28_PLACE_ON_LINE, text.len()))
     } else {
         Ok(form.row)
     }
@@ -188,7 +189,7 @@ fn row_at(forms: &[Form], origin: Origin, place: Place, text: &[u8]) -> Result<u
     if variable_begins(origin, text) {
         return Ok(rows::ASSIGNMENT);
     }
-    Err(refused(origin, 14, text))
+    Err(refused(origin, codes::S14_STATEMENT, text))
 }
 
 /// The row of a statement at a text, and where to read it.

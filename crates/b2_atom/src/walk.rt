@@ -11,6 +11,7 @@ use crate::sink::{Sink, Stop};
 use crate::starts::{begins, statement_row};
 use crate::table::{ROWS_0, ROWS_1, ROWS_2, ROWS_3};
 use crate::words::Origin;
+use b2_base::codes;
 
 /// How many parentheses may be open at a place.
 pub const DEPTH: u8 = 32;
@@ -125,7 +126,7 @@ fn many<'a>(
         left = part(out, origin, fuel, room, level, row, left)?;
     }
     if begins(origin, start, left) {
-        return Err(Stop::At(14, 0));
+        return Err(Stop::At(codes::S14_STATEMENT, 0));
     }
     Ok(left)
 }
@@ -148,7 +149,7 @@ fn part<'a>(
     ensures silent { is_silent (seen out.new) ≡ is_silent (seen out.old) }
 {
     if level == 0 {
-        return Err(Stop::At(14, 0));
+        return Err(Stop::At(codes::S14_STATEMENT, 0));
     }
     let mut wanted = row_items(row);
     let mut left = text;

@@ -1,5 +1,6 @@
 -- What a typed line means: nothing, a deletion, a line of a program or an immediate line, or what is missing where.
 use Rattle.std.specs.Prelude.{◌≤◌, ℕ, zero, suc, ◌+◌, ◌-◌, ◌*◌, ◌&&◌, ◌==◌, nat_le, nat_lt, min, Bool, true, false, List, [], ◌∷◌, length, if◌then◌else◌, Result, Ok, Err}
+use Rattle.b2_base.specs.declared.codes.TheConstants.{A04_TOO_DEEP, A05_LINE_TOO_LONG, A07_LINE_NUMBER, S29_BYTE}
 use Rattle.b2_atom.specs.Words.{Text}
 use Rattle.b2_atom.specs.Lines.{line_atoms}
 use Rattle.b2_atom.specs.declared.words.Origin.{Origin}
@@ -38,13 +39,13 @@ number n (b ∷ bs) = if is_digit b then number (min (n * 10 + (b - 48)) 10000) 
 -- a refusal of the table, as one of a line of so many bytes: the column is one more than the bytes before the place
 abbrev pub refusal : Stop → ℕ → LineErr
 refusal (stop.At code left) n = At code (n - left + 1)
-refusal stop.Deep n = At 4 0
+refusal stop.Deep n = At A04_TOO_DEEP 0
 refusal stop.NoMemory n = NoMemory
 
 -- more than 255 bytes of atoms are too long
 abbrev pub fitted : Result Text Stop → ℕ → Result Text LineErr
 fitted (Err e) n = Err (refusal e n)
-fitted (Ok a) n = if nat_lt 255 (length a) then Err (At 5 0) else Ok a
+fitted (Ok a) n = if nat_lt 255 (length a) then Err (At A05_LINE_TOO_LONG 0) else Ok a
 
 abbrev pub atoms : Origin → Text → ℕ → Result Text LineErr
 atoms o rest n = fitted (line_atoms o rest) n
@@ -66,7 +67,7 @@ behind_number n number (b ∷ bs) = with_atoms (Numbered number) (atoms origin.P
 
 -- a line with a number of its own, which is at most 9999
 abbrev pub numbered : ℕ → Text → Result Entered LineErr
-numbered n own = if nat_lt 9999 (number 0 own) then Err (At 7 0) else behind_number n (number 0 own) (skip_blanks (behind_digits own))
+numbered n own = if nat_lt 9999 (number 0 own) then Err (At A07_LINE_NUMBER 0) else behind_number n (number 0 own) (skip_blanks (behind_digits own))
 
 abbrev pub immediate : ℕ → Text → Result Entered LineErr
 immediate n rest = with_atoms Immediate (atoms origin.Immediate rest n)
@@ -77,4 +78,4 @@ by_first n (b ∷ bs) = if is_digit b then numbered n (b ∷ bs) else immediate 
 
 -- every byte is tested first, then the line's number, and then the items from the left
 abbrev pub reads : Text → Result Entered LineErr
-reads line = if nat_lt (printable line) (length line) then Err (At 29 (printable line + 1)) else by_first (length line) (skip_blanks line)
+reads line = if nat_lt (printable line) (length line) then Err (At S29_BYTE (printable line + 1)) else by_first (length line) (skip_blanks line)

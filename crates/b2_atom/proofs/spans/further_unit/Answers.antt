@@ -1,5 +1,5 @@
 use Rattle.std.proofs.Common.{◌≡◌, ◌∙◌, length, arith, sym}
-use Rattle.b2_atom.proofs.Units.{further_first, further_no_more, further_passed, further_found, further_none_left}
+use Rattle.b2_atom.proofs.lines.Units.{further_first, further_no_more, further_passed, further_found, further_none_left}
 use Rattle.b2_atom.proofs.spans.further_unit.Goals as goal
 
 pub returns-then-k-units : goal.returns-then-k-units

@@ -1,4 +1,4 @@
-use Rattle.b2_atom.proofs.Units.{shorter}
+use Rattle.b2_atom.proofs.lines.Units.{shorter}
 use Rattle.b2_atom.proofs.spans.span_between.Goals as goal
 
 pub overflow_sub-width : goal.overflow_sub-width

@@ -1,6 +1,6 @@
 use Rattle.std.proofs.Common.{◌∙◌, sym, subst, length, List, ℕ}
 use Rattle.b2_atom.specs.Lines.{IsEndOf}
-use Rattle.b2_atom.proofs.Units.{end_whole, end_next, found_none, found_next, found_last, found_all}
+use Rattle.b2_atom.proofs.lines.Units.{end_whole, end_next, found_none, found_next, found_last, found_all}
 use Rattle.b2_atom.proofs.spans.spans_of.Goals as goal
 
 pub loop-init : goal.loop-init

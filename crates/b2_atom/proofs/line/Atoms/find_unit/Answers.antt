@@ -1,6 +1,6 @@
 use Rattle.std.proofs.Common.{◌∙◌, sym, arith}
 use Rattle.b2_atom.specs.Lines.{units_of}
-use Rattle.b2_atom.proofs.Units.{number_within}
+use Rattle.b2_atom.proofs.lines.Units.{number_within}
 use Rattle.b2_atom.proofs.line.Atoms.find_unit.Goals as goal
 
 pub returns-in-Some-clause-few : goal.returns-in-Some-clause-few

@@ -1,6 +1,6 @@
 use Rattle.std.proofs.Common.{◌∙◌, ap, sym}
 use Rattle.b2_atom.specs.Lines.{is_line}
-use Rattle.b2_atom.proofs.Units.{short_line}
+use Rattle.b2_atom.proofs.lines.Units.{short_line}
 use Rattle.b2_atom.proofs.line.Atoms.of.Goals as goal
 
 pub spans_of-requires : goal.spans_of-requires

@@ -1,5 +1,5 @@
 use Rattle.std.proofs.Common.{length, List, ap, arith}
-use Rattle.b2_atom.proofs.Units.{few_kept}
+use Rattle.b2_atom.proofs.lines.Units.{few_kept}
 use Rattle.b2_atom.specs.declared.spans.Span.{Span}
 use Rattle.b2_atom.proofs.line.Atoms.units.Goals as goal
 
