@@ -1,10 +1,11 @@
 -- Which texts spell which tokens, and which tokens may stand side by side.
 use Rattle.std.specs.Prelude.{◌≡◌, ℕ, ◌-◌, ◌<◌, ◌&&◌, ◌||◌, ◌==◌, not, nat_lt, Bool, true, false, List, [], ◌∷◌, ◌++◌, length, drop, codes, if◌then◌else◌}
-use Rattle.b2_atom.specs.Words.{Text, first, skipped, ahead, kept, word_text}
+use Rattle.b2_base.specs.Lexical.{all_printable, first, is_hex_digit, is_letter}
+use Rattle.b2_atom.specs.Words.{Text, skipped, ahead, kept, word_text}
 use Rattle.b2_atom.specs.Tokens.{Token, token_atoms, is_word}
 use Rattle.b2_atom.specs.Tokens.Token.{Coded, Plain, Lined}
 use Rattle.b2_atom.specs.Tree.{one}
-use Rattle.b2_atom.specs.Leaves.{is_letter, is_hex, is_alpha_name, name_width, all_printable, leaf_width}
+use Rattle.b2_atom.specs.Leaves.{is_alpha_name, name_width, leaf_width}
 use Rattle.b2_atom.specs.Grammar.{class_at, is_line, is_decimal, is_among, read_leaf, begins_let, spelled_behind}
 use Rattle.b2_atom.specs.declared.words.TheConstants as word
 use Rattle.b2_atom.specs.declared.words.Origin.{Origin}
@@ -154,7 +155,7 @@ ShowsName o (Plain leaf.AlphaName w) s rest = Named o true (length w - 1) w (ski
 ShowsName o t s rest = Unit {0}
 
 abbrev pub ShowsHex : Origin → Token → Text → Type 0
-ShowsHex o (Plain leaf.HexPair w) s = is_hex (kept o (first (skipped o s))) ≡ true
+ShowsHex o (Plain leaf.HexPair w) s = is_hex_digit (kept o (first (skipped o s))) ≡ true
 ShowsHex o t s = Unit {0}
 
 abbrev pub ShowsLine : Origin → Token → Text → Type 0

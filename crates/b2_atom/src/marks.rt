@@ -5,10 +5,11 @@ ghost use Rattle.b2_atom.specs.Tree.Trees.{Done};
 ghost use Rattle.b2_atom.specs.Grammar as spec;
 
 use crate::forms::{Item, Leaf};
-use crate::leaves::{all_printable, digits, leaf_width, missing, refused};
+use crate::leaves::{leaf_width, missing, refused};
 use crate::sink::{Sink, Stop, put_code, put_line, put_text};
-use crate::words::{Origin, ahead, at, dropped, front, is_source, skipped};
+use crate::words::{Origin, ahead, is_source, skipped};
 use b2_base::codes;
+use b2_base::lexical::{all_printable, at, digits_width, dropped, front};
 
 // Reads a word or a sign.
 #[tactic(auto, unfolding(crate::specs::Grammar::mark))]
@@ -147,7 +148,7 @@ fn typed_line_number<'a>(
     ensures memory { IfErr result (IsFree (seen out.old)) }
     ensures silent { is_silent (seen out.new) ≡ is_silent (seen out.old) }
 {
-    let count = digits(text);
+    let count = digits_width(text);
     if count < 1 || count > 4 {
         return Err(refused(origin, code, text));
     }

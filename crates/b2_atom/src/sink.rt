@@ -1,6 +1,6 @@
 // Where what is read goes to, and why a reading ends early.
 ghost use Rattle.std.specs.Prelude.{◌≡◌, ◌+◌, ◌++◌, [], IfErr, OnOk, map};
-ghost use Rattle.b2_atom.specs.Words as words;
+ghost use Rattle.b2_base.specs.Lexical as lexical;
 ghost use Rattle.b2_atom.specs.Words.{kept};
 ghost use Rattle.b2_atom.specs.Tokens as tokens;
 ghost use Rattle.b2_atom.specs.Tokens.{kept_text, spaced};
@@ -8,7 +8,8 @@ ghost use Rattle.b2_atom.specs.Tokens.Token.{Coded, Plain, Lined};
 ghost use Rattle.b2_atom.specs.Tree.{seen, told, bytes_of, is_silent, IsFree};
 
 use crate::forms::Leaf;
-use crate::words::{Origin, REM, at, first, kept, word_text};
+use crate::words::{Origin, REM, kept, word_text};
+use b2_base::lexical::{at, first, is_letter, without_zeros};
 use std::alloc::{AllocError, AllocFailed, Global};
 
 /// A source that is being written, and whether a word that ends in a letter and whether an operand stands at its end.
@@ -83,7 +84,7 @@ fn push_upper(out: &mut Vec<u8>, origin: Origin, bytes: &[u8]) -> Result<(), Sto
 
 // The first byte of what is typed by hand, as it is kept; 0 where there is none.
 fn first_kept(origin: Origin, leaf: Leaf, bytes: &[u8]) -> u8
-    ensures { result ≡ words.first (kept_text origin leaf bytes.now) }
+    ensures { result ≡ lexical.first (kept_text origin leaf bytes.now) }
 {
     if leaf == Leaf::Literal || leaf == Leaf::Text {
         return first(bytes);
@@ -92,7 +93,7 @@ fn first_kept(origin: Origin, leaf: Leaf, bytes: &[u8]) -> u8
 }
 
 fn first_upper(origin: Origin, bytes: &[u8]) -> u8
-    ensures { result ≡ words.first (map (kept origin) bytes.now) }
+    ensures { result ≡ lexical.first (map (kept origin) bytes.now) }
 {
     match bytes {
         [byte, ..] => kept(origin, *byte),
@@ -113,12 +114,6 @@ fn push_gap(source: &mut Source, is_apart: bool) -> Result<(), Stop>
     Ok(())
 }
 
-fn is_upper(byte: u8) -> bool
-    ensures { result ≡ tokens.is_upper byte }
-{
-    byte >= b'A' && byte <= b'Z'
-}
-
 fn last(text: &[u8]) -> u8
     ensures { result ≡ tokens.last text.now }
 {
@@ -134,13 +129,13 @@ fn is_closing(code: u8) -> bool
 fn begins_wordy(code: u8) -> bool
     ensures { result ≡ tokens.begins_wordy (Coded code) }
 {
-    code >= 128 && is_upper(first(word_text(code)))
+    code >= 128 && is_letter(first(word_text(code)))
 }
 
 fn ends_wordy(code: u8) -> bool
     ensures { result ≡ tokens.ends_wordy (Coded code) }
 {
-    code >= 128 && code != REM && is_upper(last(word_text(code)))
+    code >= 128 && code != REM && is_letter(last(word_text(code)))
 }
 
 // Appends a word or a sign to a source.
@@ -156,7 +151,7 @@ fn list_code(source: &mut Source, code: u8) -> Result<(), Stop>
         source.bytes.push(code)?;
     }
     source.wordy = ends_wordy(code);
-    source.operand = code == b')' || is_upper(code);
+    source.operand = code == b')' || is_letter(code);
     Ok(())
 }
 
@@ -197,20 +192,6 @@ fn list_line(source: &mut Source, high: u8, low: u8) -> Result<(), Stop>
     source.wordy = false;
     source.operand = true;
     Ok(())
-}
-
-// Digits without the zeros at their front, but the last.
-fn without_zeros(digits: &[u8]) -> &[u8]
-    ensures { result.now ≡ tokens.without_zeros digits.now }
-{
-    let mut left = digits;
-    while let [b'0', others @ ..] = left {
-        if others.is_empty() {
-            return left;
-        }
-        left = others;
-    }
-    left
 }
 
 /// Puts a word or a sign.

@@ -2,6 +2,8 @@
 ghost use Rattle.std.specs.Prelude.{◌≡◌, ◌≤◌, ◌<◌, [], length, map, drop, take, get_or};
 ghost use Rattle.b2_atom.specs.Words as spec;
 
+use b2_base::lexical::{dropped, first, skip_blanks, upper};
+
 /// Where a text is read from: a typed line of a program or an immediate one, or atoms.
 #[derive(Clone, Copy, Debug, PartialEq, Eq)]
 pub enum Origin {
@@ -368,17 +370,6 @@ pub fn is_source(origin: Origin) -> bool
     }
 }
 
-/// A letter as its upper case.
-pub fn upper(byte: u8) -> u8
-    ensures { result ≡ spec.upper byte }
-{
-    if byte >= b'a' && byte <= b'z' {
-        byte - 32
-    } else {
-        byte
-    }
-}
-
 /// A byte as it is kept: a letter of a source in upper case.
 pub fn kept(origin: Origin, byte: u8) -> u8
     ensures { result ≡ spec.kept origin byte }
@@ -434,17 +425,6 @@ fn word_at(text: &[u8]) -> (usize, usize)
     longest(&WORDS, text)
 }
 
-/// Without the blanks at the front.
-pub fn skip_blanks(text: &[u8]) -> &[u8]
-    ensures { result.now ≡ spec.skip_blanks text.now }
-{
-    let mut rest = text;
-    while let [b' ', after @ ..] = rest {
-        rest = after;
-    }
-    rest
-}
-
 /// Where the next item begins.
 pub fn skipped(origin: Origin, text: &[u8]) -> &[u8]
     ensures { result.now ≡ spec.skipped origin text.now }
@@ -452,48 +432,6 @@ pub fn skipped(origin: Origin, text: &[u8]) -> &[u8]
     match origin {
         Origin::Program | Origin::Immediate => skip_blanks(text),
         Origin::Atoms => text,
-    }
-}
-
-/// The first byte, or 0.
-pub fn first(text: &[u8]) -> u8
-    ensures { result ≡ spec.first text.now }
-{
-    match text {
-        [byte, ..] => *byte,
-        _ => 0,
-    }
-}
-
-/// The byte at a place, or 0.
-pub fn at(text: &[u8], index: usize) -> u8
-    ensures { result ≡ get_or text.now index 0 }
-{
-    match text.get(index) {
-        Some(byte) => *byte,
-        None => 0,
-    }
-}
-
-/// Without the first bytes.
-pub fn dropped(text: &[u8], count: usize) -> &[u8]
-    ensures { result.now ≡ drop count text.now }
-{
-    if count <= text.len() {
-        &text[count..]
-    } else {
-        &[]
-    }
-}
-
-/// The first bytes.
-pub fn front(text: &[u8], count: usize) -> &[u8]
-    ensures { result.now ≡ take count text.now }
-{
-    if count <= text.len() {
-        &text[..count]
-    } else {
-        text
     }
 }
 
