@@ -7,7 +7,7 @@ ghost use Rattle.b2_atom.specs.Grammar as spec;
 use crate::forms::{Item, Leaf};
 use crate::leaves::{leaf_width, missing, refused};
 use crate::sink::{Sink, Stop, put_code, put_line, put_text};
-use crate::words::{Origin, ahead, is_source, skipped};
+use crate::words::{LINE_MARK, Origin, ahead, is_source, skipped};
 use b2_base::codes;
 use b2_base::lexical::{all_printable, at, digits_width, dropped, front};
 
@@ -168,7 +168,7 @@ fn atoms_line_number<'a>(out: &mut Sink, code: u8, text: &'a [u8]) -> Result<&'a
     ensures memory { IfErr result (IsFree (seen out.old)) }
     ensures silent { is_silent (seen out.new) ≡ is_silent (seen out.old) }
 {
-    let [255, high, low, rest @ ..] = text else {
+    let [LINE_MARK, high, low, rest @ ..] = text else {
         return Err(Stop::At(code, text.len()));
     };
     if !is_decimal(*high) || !is_decimal(*low) {

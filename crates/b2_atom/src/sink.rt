@@ -8,7 +8,7 @@ ghost use Rattle.b2_atom.specs.Tokens.Token.{Coded, Plain, Lined};
 ghost use Rattle.b2_atom.specs.Tree.{seen, told, bytes_of, is_silent, IsFree};
 
 use crate::forms::Leaf;
-use crate::words::{Origin, REM, kept, word_text};
+use crate::words::{LINE_MARK, Origin, REM, kept, word_text};
 use b2_base::lexical::{at, first, is_letter, without_zeros};
 use std::alloc::{AllocError, AllocFailed, Global};
 
@@ -129,13 +129,13 @@ fn is_closing(code: u8) -> bool
 fn begins_wordy(code: u8) -> bool
     ensures { result ≡ tokens.begins_wordy (Coded code) }
 {
-    code >= 128 && is_letter(first(word_text(code)))
+    code >= REM && is_letter(first(word_text(code)))
 }
 
 fn ends_wordy(code: u8) -> bool
     ensures { result ≡ tokens.ends_wordy (Coded code) }
 {
-    code >= 128 && code != REM && is_letter(last(word_text(code)))
+    code >= REM && code != REM && is_letter(last(word_text(code)))
 }
 
 // Appends a word or a sign to a source.
@@ -145,7 +145,7 @@ fn list_code(source: &mut Source, code: u8) -> Result<(), Stop>
 {
     let is_apart = source.wordy && !is_closing(code) || source.operand && begins_wordy(code);
     push_gap(source, is_apart)?;
-    if code >= 128 {
+    if code >= REM {
         source.bytes.extend_from_slice(word_text(code))?;
     } else {
         source.bytes.push(code)?;
@@ -235,7 +235,7 @@ pub fn put_line(sink: &mut Sink, high: u8, low: u8) -> Result<(), Stop>
     match sink {
         Sink::Silent => Ok(()),
         Sink::Written(out) => {
-            out.extend_from_slice(&[255, high, low])?;
+            out.extend_from_slice(&[LINE_MARK, high, low])?;
             Ok(())
         }
         Sink::Listed(source) => list_line(source, high, low),

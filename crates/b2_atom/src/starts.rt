@@ -9,7 +9,7 @@ use crate::rows;
 use crate::sink::Stop;
 use crate::table::FORMS;
 use crate::words::{
-    ABS_OPEN, BIN_OPEN, FN, HASH_TERM, HEX_OPEN, HEXOF_OPEN, Origin, STR_OPEN, TAB_OPEN, ahead,
+    ABS_OPEN, BIN_OPEN, FN, HASH_TERM, HEX_OPEN, HEXOF_OPEN, LINE_MARK, Origin, STR_OPEN, TAB_OPEN, ahead,
     begins_with, is_source, kept, skipped,
 };
 use b2_base::codes;
@@ -27,7 +27,7 @@ fn is_line(origin: Origin, class: u8) -> bool
     if is_source(origin) {
         is_digit(class)
     } else {
-        class == 255
+        class == LINE_MARK
     }
 }
 

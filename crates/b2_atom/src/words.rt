@@ -15,6 +15,10 @@ pub enum Origin {
 /// What stands at a text where one of the words begins that this machine leaves out.
 pub const LEFT_OUT: u8 = 1;
 
+/// The byte before the two bytes of a line number.
+pub const LINE_MARK: u8 = 0xFF;
+
+/// The first word; the others follow in the order of `WORDS`.
 pub const REM: u8 = 0x80;
 
 pub const DIM: u8 = 0x81;
@@ -449,7 +453,7 @@ fn text_in(table: &'static [&'static [u8]], place: usize) -> &'static [u8]
 pub fn word_text(code: u8) -> &'static [u8]
     ensures { result.now ≡ spec.word_text code }
 {
-    text_in(&WORDS, usize::from(code.saturating_sub(128)))
+    text_in(&WORDS, usize::from(code.saturating_sub(REM)))
 }
 
 // A word, or a longer one that is typed with blanks in it, and what stands behind it.
@@ -482,7 +486,7 @@ fn typed_ahead(text: &[u8]) -> (u8, &[u8])
     if place >= CODED {
         return (LEFT_OUT, dropped(text, length));
     }
-    joined(place as u8 + 128, dropped(text, length))
+    joined(place as u8 + REM, dropped(text, length))
 }
 
 /// What stands at a text, a word's code or a byte or 0 at the end, and what stands behind it.
