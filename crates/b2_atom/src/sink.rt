@@ -5,7 +5,7 @@ ghost use Rattle.b2_atom.specs.Words.{kept};
 ghost use Rattle.b2_atom.specs.Tokens as tokens;
 ghost use Rattle.b2_atom.specs.Tokens.{kept_text, spaced};
 ghost use Rattle.b2_atom.specs.Tokens.Token.{Coded, Plain, Lined};
-ghost use Rattle.b2_atom.specs.Tree.{seen, told, bytes_of, is_silent, IsFree};
+ghost use Rattle.b2_atom.specs.Tree.{seen, bytes_of, Puts};
 
 use crate::forms::Leaf;
 use crate::words::{LINE_MARK, Origin, REM, kept, word_text};
@@ -140,8 +140,7 @@ fn ends_wordy(code: u8) -> bool
 
 // Appends a word or a sign to a source.
 fn list_code(source: &mut Source, code: u8) -> Result<(), Stop>
-    ensures ok { OnOk result (seen (Sink.Listed source.new) ≡ told (seen (Sink.Listed source.old)) (Coded code)) }
-    ensures err { IfErr result (λ e. e ≡ Stop.NoMemory) }
+    ensures { Puts (seen (Sink.Listed source.old)) (Coded code) (seen (Sink.Listed source.new)) result }
 {
     let is_apart = source.wordy && !is_closing(code) || source.operand && begins_wordy(code);
     push_gap(source, is_apart)?;
@@ -164,8 +163,7 @@ fn is_text_apart(source: &Source, origin: Origin, leaf: Leaf, bytes: &[u8]) -> b
 
 // Appends what is typed by hand to a source.
 fn list_text(source: &mut Source, origin: Origin, leaf: Leaf, bytes: &[u8]) -> Result<(), Stop>
-    ensures ok { OnOk result (seen (Sink.Listed source.new) ≡ told (seen (Sink.Listed source.old)) (Plain leaf (kept_text origin leaf bytes.now))) }
-    ensures err { IfErr result (λ e. e ≡ Stop.NoMemory) }
+    ensures { Puts (seen (Sink.Listed source.old)) (Plain leaf (kept_text origin leaf bytes.now)) (seen (Sink.Listed source.new)) result }
 {
     let is_apart = is_text_apart(source, origin, leaf, bytes);
     push_gap(source, is_apart)?;
@@ -177,8 +175,7 @@ fn list_text(source: &mut Source, origin: Origin, leaf: Leaf, bytes: &[u8]) -> R
 
 // Appends a line number to a source.
 fn list_line(source: &mut Source, high: u8, low: u8) -> Result<(), Stop>
-    ensures ok { OnOk result (seen (Sink.Listed source.new) ≡ told (seen (Sink.Listed source.old)) (Lined high low)) }
-    ensures err { IfErr result (λ e. e ≡ Stop.NoMemory) }
+    ensures { Puts (seen (Sink.Listed source.old)) (Lined high low) (seen (Sink.Listed source.new)) result }
 {
     let is_apart = source.wordy;
     push_gap(source, is_apart)?;
@@ -196,10 +193,7 @@ fn list_line(source: &mut Source, high: u8, low: u8) -> Result<(), Stop>
 
 /// Puts a word or a sign.
 pub fn put_code(sink: &mut Sink, code: u8) -> Result<(), Stop>
-    ensures ok { OnOk result (seen sink.new ≡ told (seen sink.old) (Coded code)) }
-    ensures err { IfErr result (λ e. e ≡ Stop.NoMemory) }
-    ensures memory { IfErr result (IsFree (seen sink.old)) }
-    ensures silent { is_silent (seen sink.new) ≡ is_silent (seen sink.old) }
+    ensures { Puts (seen sink.old) (Coded code) (seen sink.new) result }
 {
     match sink {
         Sink::Silent => Ok(()),
@@ -213,10 +207,7 @@ pub fn put_code(sink: &mut Sink, code: u8) -> Result<(), Stop>
 
 /// Puts what is typed by hand.
 pub fn put_text(sink: &mut Sink, origin: Origin, leaf: Leaf, bytes: &[u8]) -> Result<(), Stop>
-    ensures ok { OnOk result (seen sink.new ≡ told (seen sink.old) (Plain leaf (kept_text origin leaf bytes.now))) }
-    ensures err { IfErr result (λ e. e ≡ Stop.NoMemory) }
-    ensures memory { IfErr result (IsFree (seen sink.old)) }
-    ensures silent { is_silent (seen sink.new) ≡ is_silent (seen sink.old) }
+    ensures { Puts (seen sink.old) (Plain leaf (kept_text origin leaf bytes.now)) (seen sink.new) result }
 {
     match sink {
         Sink::Silent => Ok(()),
@@ -227,10 +218,7 @@ pub fn put_text(sink: &mut Sink, origin: Origin, leaf: Leaf, bytes: &[u8]) -> Re
 
 /// Puts a line number, by its two bytes of decimal digits.
 pub fn put_line(sink: &mut Sink, high: u8, low: u8) -> Result<(), Stop>
-    ensures ok { OnOk result (seen sink.new ≡ told (seen sink.old) (Lined high low)) }
-    ensures err { IfErr result (λ e. e ≡ Stop.NoMemory) }
-    ensures memory { IfErr result (IsFree (seen sink.old)) }
-    ensures silent { is_silent (seen sink.new) ≡ is_silent (seen sink.old) }
+    ensures { Puts (seen sink.old) (Lined high low) (seen sink.new) result }
 {
     match sink {
         Sink::Silent => Ok(()),
