@@ -168,7 +168,7 @@ leaf_first leaf.Image w h k = cc
 leaf_first leaf.Text w h k = cc
 leaf_first leaf.Relation w h k = begun _ _ _ (no_relation w) h
 
--- kinds are put_one apart by their numbers
+-- kinds are told apart by their numbers
 leaf_of : ℕ → Leaf
 leaf_of n =
     if n == 0 then leaf.Number else (if n == 1 then leaf.SignedNumber else (if n == 2 then leaf.Name else (if n == 3 then leaf.AlphaName
