@@ -1,5 +1,6 @@
 -- Which trees the rows of the table allow, said without any reading.
 use Rattle.std.specs.Prelude.{◌≡◌, ℕ, zero, suc, ◌&&◌, ◌||◌, ◌==◌, not, Bool, true, false, List, [], ◌∷◌}
+use Rattle.b2_base.specs.Byte as byte
 use Rattle.b2_atom.specs.Tokens.{Token}
 use Rattle.b2_atom.specs.Tokens.Token.{Coded, Plain, Lined}
 use Rattle.b2_atom.specs.Tree.{Trees, tokens}
@@ -44,7 +45,7 @@ fits_token o (Sign c code) (Coded d) = d == c
 fits_token o (Among low high code) (Coded d) = is_among low high d
 fits_token origin.Immediate (ProgramWord c) (Coded d) = false
 fits_token o (ProgramWord c) (Coded d) = d == c
-fits_token o Comma (Coded d) = d == 44
+fits_token o Comma (Coded d) = d == byte.comma
 fits_token o (Typed k code) (Plain j w) = leaf_number j == leaf_number k && is_whole j w
 fits_token o (Typed k code) (Lined high low) = leaf_number k == 7 && (is_decimal high && is_decimal low)
 fits_token o i t = false
@@ -104,7 +105,7 @@ Fits o room is (In m inner ts) =
 
 -- a remark and an image line run to the line's end
 abbrev pub is_remark : Token → Bool
-is_remark (Coded c) = c == word.REM || c == 37
+is_remark (Coded c) = c == word.REM || c == byte.percent
 is_remark t = false
 
 abbrev pub is_rest : List Token → Bool

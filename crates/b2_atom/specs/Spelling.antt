@@ -1,10 +1,12 @@
 -- Which texts spell which tokens, and which tokens may stand side by side.
 use Rattle.std.specs.Prelude.{◌≡◌, ℕ, ◌-◌, ◌<◌, ◌&&◌, ◌||◌, ◌==◌, not, nat_lt, Bool, true, false, List, [], ◌∷◌, ◌++◌, length, drop, codes, if◌then◌else◌}
-use Rattle.b2_atom.specs.Words.{Text, first, skipped, ahead, kept, word_text}
+use Rattle.b2_base.specs.Byte as byte
+use Rattle.b2_base.specs.Lexical.{all_printable, first, is_hex_digit, is_letter}
+use Rattle.b2_atom.specs.Words.{Text, skipped, ahead, kept, word_text}
 use Rattle.b2_atom.specs.Tokens.{Token, token_atoms, is_word}
 use Rattle.b2_atom.specs.Tokens.Token.{Coded, Plain, Lined}
 use Rattle.b2_atom.specs.Tree.{one}
-use Rattle.b2_atom.specs.Leaves.{is_letter, is_hex, is_alpha_name, name_width, all_printable, leaf_width}
+use Rattle.b2_atom.specs.Leaves.{is_alpha_name, name_width, leaf_width}
 use Rattle.b2_atom.specs.Grammar.{class_at, is_line, is_decimal, is_among, read_leaf, begins_let, spelled_behind}
 use Rattle.b2_atom.specs.declared.words.TheConstants as word
 use Rattle.b2_atom.specs.declared.words.Origin.{Origin}
@@ -52,25 +54,25 @@ is_image t = false
 
 -- a word that begins with `$`
 abbrev pub is_dollar : Token → Bool
-is_dollar (Coded c) = is_word c && first (word_text c) == 36
+is_dollar (Coded c) = is_word c && first (word_text c) == byte.dollar
 is_dollar t = false
 
 -- a token that doesn't begin with a comparison sign
 abbrev pub is_unrelated : Token → Bool
-is_unrelated (Coded c) = not (c == 61)
+is_unrelated (Coded c) = not (c == byte.equals)
 is_unrelated (Plain leaf.Relation w) = false
 is_unrelated t = true
 
 -- the two letters that stand behind others: of B E G
 abbrev pub is_lettered : ℕ → Token → Bool
-is_lettered c (Coded d) = not (is_letter d) || (c == 66 && d == 69) || (c == 69 && d == 71)
+is_lettered c (Coded d) = not (is_letter d) || (c == byte.upper_b && d == byte.upper_e) || (c == byte.upper_e && d == byte.upper_g)
 is_lettered c (Plain k w) = false
 is_lettered c (Lined high low) = true
 
 -- what may stand behind a word or a sign
 abbrev pub may_follow_code : ℕ → Token → Bool
 may_follow_code c t =
-    if c == word.REM || c == 37 then is_free t
+    if c == word.REM || c == byte.percent then is_free t
     else (not (is_free t) && (if is_letter c then is_lettered c t
     else (if c == word.DATA then not (is_mark t || is_image t) else (if c == word.PRINT then not (is_image t) else true))))
 
@@ -119,7 +121,7 @@ has_class (Lined high low) = false
 abbrev pub class_of : Token → ℕ
 class_of (Coded c) = c
 class_of (Plain k w) = first w
-class_of (Lined high low) = 255
+class_of (Lined high low) = word.LINE_MARK
 
 abbrev pub is_code : ℕ → Token → Bool
 is_code c (Coded d) = d == c
@@ -127,7 +129,7 @@ is_code c t = false
 
 -- BEG, letter by letter
 abbrev pub is_beg : Token → List Token → Bool
-is_beg (Coded c) (Coded d ∷ Coded e ∷ ts) = c == 66 && (d == 69 && e == 71)
+is_beg (Coded c) (Coded d ∷ Coded e ∷ ts) = c == byte.upper_b && (d == byte.upper_e && e == byte.upper_g)
 is_beg t ts = false
 
 -- where a token begins: blanks before it don't count, but before free text they do
@@ -154,7 +156,7 @@ ShowsName o (Plain leaf.AlphaName w) s rest = Named o true (length w - 1) w (ski
 ShowsName o t s rest = Unit {0}
 
 abbrev pub ShowsHex : Origin → Token → Text → Type 0
-ShowsHex o (Plain leaf.HexPair w) s = is_hex (kept o (first (skipped o s))) ≡ true
+ShowsHex o (Plain leaf.HexPair w) s = is_hex_digit (kept o (first (skipped o s))) ≡ true
 ShowsHex o t s = Unit {0}
 
 abbrev pub ShowsLine : Origin → Token → Text → Type 0
@@ -167,10 +169,10 @@ pub record Begins (o : Origin) (t : Token) (behind : List Token) (s rest : Text)
   pub reads : Reads o t s rest
   pub shorter : length rest < length (here o t s)
   pub class : has_class t ≡ true → class_at o s ≡ class_of t
-  pub opens : has_class t ≡ true → (first (skipped o s) == 40) ≡ is_code 40 t
-  pub closes : has_class t ≡ true → (first (skipped o s) == 41) ≡ is_code 41 t
+  pub opens : has_class t ≡ true → (first (skipped o s) == byte.opening) ≡ is_code byte.opening t
+  pub closes : has_class t ≡ true → (first (skipped o s) == byte.closing) ≡ is_code byte.closing t
   pub lets : has_class t ≡ true → begins_let o (skipped o s) ≡ false
-  pub begs : has_class t ≡ true → (class_at o s == 66 && spelled_behind o (ahead o (skipped o s)).1 69 71) ≡ is_beg t behind
+  pub begs : has_class t ≡ true → (class_at o s == byte.upper_b && spelled_behind o (ahead o (skipped o s)).1 byte.upper_e byte.upper_g) ≡ is_beg t behind
   pub name : ShowsName o t s rest
   pub hex : ShowsHex o t s
   pub line : ShowsLine o t s

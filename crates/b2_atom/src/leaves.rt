@@ -4,51 +4,12 @@ ghost use Rattle.b2_atom.specs.Leaves as spec;
 
 use crate::forms::Leaf;
 use crate::sink::Stop;
-use crate::words::{
-    LEFT_OUT, Origin, ahead, at, begins_with, dropped, first, kept, skipped, upper,
-};
+use crate::words::{LEFT_OUT, Origin, ahead, kept};
 use b2_base::codes;
-
-pub fn is_digit(byte: u8) -> bool
-    ensures { result ≡ spec.is_digit byte }
-{
-    byte >= b'0' && byte <= b'9'
-}
-
-pub fn is_letter(byte: u8) -> bool
-    ensures { result ≡ spec.is_letter byte }
-{
-    byte >= b'A' && byte <= b'Z'
-}
-
-pub fn is_hex(byte: u8) -> bool
-    ensures { result ≡ spec.is_hex byte }
-{
-    is_digit(byte) || byte >= b'A' && byte <= b'F'
-}
-
-fn is_printable(byte: u8) -> bool
-    ensures { result ≡ spec.is_printable byte }
-{
-    byte >= 0x20 && byte <= 0x7e
-}
-
-// How many digits stand at a text.
-pub fn digits(text: &[u8]) -> usize
-    ensures count { result ≡ spec.digits text.now }
-    ensures within { result ≤ length text.now }
-{
-    let mut rest = text;
-    let mut count = 0usize;
-    while let [byte, after @ ..] = rest {
-        if !is_digit(*byte) {
-            return count;
-        }
-        rest = after;
-        count += 1;
-    }
-    count
-}
+use b2_base::lexical::{
+    at, capped_value, digits_width, dropped, first, is_digit, is_hex_digit, is_letter,
+    is_printable, upper,
+};
 
 // How many bytes of a literal stand before its closing quote.
 fn until_quote(text: &[u8]) -> usize
@@ -85,47 +46,16 @@ fn until_parenthesis(origin: Origin, text: &[u8]) -> usize
     count
 }
 
-/// Whether all bytes can stand in a line.
-pub fn all_printable(text: &[u8]) -> bool
-    ensures { result ≡ spec.all_printable text.now }
-{
-    let mut rest = text;
-    while let [byte, after @ ..] = rest {
-        if !is_printable(*byte) {
-            return false;
-        }
-        rest = after;
-    }
-    true
-}
-
-// The number that the digits at a text spell, at most 999.
-fn small_value(text: &[u8]) -> u16
-    ensures value { result ≡ spec.small_value 0 text.now }
-    ensures small { result ≤ 999 }
-{
-    let mut rest = text;
-    let mut value = 0u16;
-    while let [byte, after @ ..] = rest {
-        if !is_digit(*byte) {
-            return value;
-        }
-        value = (value * 10 + u16::from(*byte - b'0')).min(999);
-        rest = after;
-    }
-    value
-}
-
 // How many bytes spell the digits and the point of a number, or 0.
 fn mantissa_width(text: &[u8]) -> usize
     ensures count { result ≡ spec.mantissa_width text.now }
     ensures bound { result ≤ length text.now + 1 }
 {
-    let whole = digits(text);
+    let whole = digits_width(text);
     if at(text, whole) != b'.' {
         return whole;
     }
-    let part = digits(dropped(text, whole.saturating_add(1)));
+    let part = digits_width(dropped(text, whole.saturating_add(1)));
     if whole == 0 && part == 0 {
         0
     } else {
@@ -277,7 +207,7 @@ fn literal_width(text: &[u8]) -> usize
 fn is_hex_at(origin: Origin, text: &[u8], place: usize) -> bool
     ensures { result ≡ spec.is_hex_at origin text.now place }
 {
-    is_hex(kept(origin, at(text, place)))
+    is_hex_digit(kept(origin, at(text, place)))
 }
 
 fn hex_pair_width(origin: Origin, text: &[u8]) -> usize
@@ -309,8 +239,8 @@ fn address_width(origin: Origin, text: &[u8]) -> usize
 fn small_width(text: &[u8]) -> usize
     ensures { result ≡ spec.small_width text.now }
 {
-    if small_value(text) <= 255 {
-        digits(text)
+    if capped_value(text, 999) <= 255 {
+        digits_width(text)
     } else {
         0
     }
@@ -320,8 +250,8 @@ fn slot_width(text: &[u8]) -> usize
     ensures { result ≡ spec.slot_width text.now }
 {
     let number = dropped(text, 1);
-    let count = digits(number);
-    if first(text) == b'#' && count > 0 && small_value(number) <= 15 {
+    let count = digits_width(number);
+    if first(text) == b'#' && count > 0 && capped_value(number, 999) <= 15 {
         count.saturating_add(1)
     } else {
         0
@@ -391,7 +321,7 @@ pub fn missing(origin: Origin, leaf: Leaf, code: u8, text: &[u8]) -> Stop
     match leaf {
         Leaf::Literal => missing_literal(origin, code, text),
         Leaf::HexPair => {
-            if is_hex(kept(origin, first(text))) {
+            if is_hex_digit(kept(origin, first(text))) {
                 Stop::At(code, text.len().saturating_sub(1))
             } else {
                 Stop::At(code, text.len())

@@ -46,7 +46,7 @@ use table::{FORMS, ROWS_0, ROWS_1, ROWS_2, ROWS_3};
 use words::WORDS;
 pub use words::{
     CLEAR, DATA, DC, DEFFN, DEFFN_PRIME, END, GOTO, LIST, NO, Origin, PRINT, REM, ROUND, RUN,
-    SELECT, dropped, front,
+    SELECT,
 };
 
 /// The table and the words that the code walks over are the language's.

@@ -1,14 +1,15 @@
 // The items that stand for themselves: words, signs, what is typed by hand, the line's end.
 ghost use Rattle.std.specs.Prelude.{◌≡◌, ◌≤◌, ◌<◌, ◌+◌, length, MatchResult, IfErr};
-ghost use Rattle.b2_atom.specs.Tree.{seen, is_silent, IsFree, Gives, Stops};
+ghost use Rattle.b2_atom.specs.Tree.{seen, Takes};
 ghost use Rattle.b2_atom.specs.Tree.Trees.{Done};
 ghost use Rattle.b2_atom.specs.Grammar as spec;
 
 use crate::forms::{Item, Leaf};
-use crate::leaves::{all_printable, digits, leaf_width, missing, refused};
+use crate::leaves::{leaf_width, missing, refused};
 use crate::sink::{Sink, Stop, put_code, put_line, put_text};
-use crate::words::{Origin, ahead, at, dropped, front, is_source, skipped};
+use crate::words::{LINE_MARK, Origin, ahead, is_source, skipped};
 use b2_base::codes;
+use b2_base::lexical::{all_printable, at, digits_width, dropped, front};
 
 // Reads a word or a sign.
 #[tactic(auto, unfolding(crate::specs::Grammar::mark))]
@@ -19,9 +20,7 @@ fn mark<'a>(
     code: u8,
     text: &'a [u8],
 ) -> Result<&'a [u8], Stop>
-    ensures gives { MatchResult result (λ rest. Gives (seen out.old) (spec.mark origin wanted code text.now) (seen out.new) rest.now) (λ e. Stops (seen out.old) (spec.mark origin wanted code text.now) e) }
-    ensures memory { IfErr result (IsFree (seen out.old)) }
-    ensures silent { is_silent (seen out.new) ≡ is_silent (seen out.old) }
+    ensures { Takes (seen out.old) (spec.mark origin wanted code text.now) (seen out.new) result }
 {
     let here = skipped(origin, text);
     let (class, behind) = ahead(origin, here);
@@ -42,9 +41,7 @@ fn among<'a>(
     code: u8,
     text: &'a [u8],
 ) -> Result<&'a [u8], Stop>
-    ensures gives { MatchResult result (λ rest. Gives (seen out.old) (spec.among origin low high code text.now) (seen out.new) rest.now) (λ e. Stops (seen out.old) (spec.among origin low high code text.now) e) }
-    ensures memory { IfErr result (IsFree (seen out.old)) }
-    ensures silent { is_silent (seen out.new) ≡ is_silent (seen out.old) }
+    ensures { Takes (seen out.old) (spec.among origin low high code text.now) (seen out.new) result }
 {
     let here = skipped(origin, text);
     let (class, behind) = ahead(origin, here);
@@ -63,9 +60,7 @@ fn program_word<'a>(
     wanted: u8,
     text: &'a [u8],
 ) -> Result<&'a [u8], Stop>
-    ensures gives { MatchResult result (λ rest. Gives (seen out.old) (spec.program_word origin wanted text.now) (seen out.new) rest.now) (λ e. Stops (seen out.old) (spec.program_word origin wanted text.now) e) }
-    ensures memory { IfErr result (IsFree (seen out.old)) }
-    ensures silent { is_silent (seen out.new) ≡ is_silent (seen out.old) }
+    ensures { Takes (seen out.old) (spec.program_word origin wanted text.now) (seen out.new) result }
 {
     let here = skipped(origin, text);
     let (class, behind) = ahead(origin, here);
@@ -82,9 +77,7 @@ fn program_word<'a>(
 // Reads a comma, which a source may leave out.
 #[tactic(auto, unfolding(crate::specs::Grammar::comma))]
 fn comma<'a>(out: &mut Sink, origin: Origin, text: &'a [u8]) -> Result<&'a [u8], Stop>
-    ensures gives { MatchResult result (λ rest. Gives (seen out.old) (spec.comma origin text.now) (seen out.new) rest.now) (λ e. Stops (seen out.old) (spec.comma origin text.now) e) }
-    ensures memory { IfErr result (IsFree (seen out.old)) }
-    ensures silent { is_silent (seen out.new) ≡ is_silent (seen out.old) }
+    ensures { Takes (seen out.old) (spec.comma origin text.now) (seen out.new) result }
 {
     let here = skipped(origin, text);
     let (class, behind) = ahead(origin, here);
@@ -143,11 +136,9 @@ fn typed_line_number<'a>(
     code: u8,
     text: &'a [u8],
 ) -> Result<&'a [u8], Stop>
-    ensures gives { MatchResult result (λ rest. Gives (seen out.old) (spec.typed_line_number origin code text.now) (seen out.new) rest.now) (λ e. Stops (seen out.old) (spec.typed_line_number origin code text.now) e) }
-    ensures memory { IfErr result (IsFree (seen out.old)) }
-    ensures silent { is_silent (seen out.new) ≡ is_silent (seen out.old) }
+    ensures { Takes (seen out.old) (spec.typed_line_number origin code text.now) (seen out.new) result }
 {
-    let count = digits(text);
+    let count = digits_width(text);
     if count < 1 || count > 4 {
         return Err(refused(origin, code, text));
     }
@@ -163,11 +154,9 @@ fn is_decimal(byte: u8) -> bool
 
 // Reads a line number from atoms.
 fn atoms_line_number<'a>(out: &mut Sink, code: u8, text: &'a [u8]) -> Result<&'a [u8], Stop>
-    ensures gives { MatchResult result (λ rest. Gives (seen out.old) (spec.atoms_line_number code text.now) (seen out.new) rest.now) (λ e. Stops (seen out.old) (spec.atoms_line_number code text.now) e) }
-    ensures memory { IfErr result (IsFree (seen out.old)) }
-    ensures silent { is_silent (seen out.new) ≡ is_silent (seen out.old) }
+    ensures { Takes (seen out.old) (spec.atoms_line_number code text.now) (seen out.new) result }
 {
-    let [255, high, low, rest @ ..] = text else {
+    let [LINE_MARK, high, low, rest @ ..] = text else {
         return Err(Stop::At(code, text.len()));
     };
     if !is_decimal(*high) || !is_decimal(*low) {
@@ -184,9 +173,7 @@ fn line_number<'a>(
     code: u8,
     text: &'a [u8],
 ) -> Result<&'a [u8], Stop>
-    ensures gives { MatchResult result (λ rest. Gives (seen out.old) (spec.line_number_at origin code text.now) (seen out.new) rest.now) (λ e. Stops (seen out.old) (spec.line_number_at origin code text.now) e) }
-    ensures memory { IfErr result (IsFree (seen out.old)) }
-    ensures silent { is_silent (seen out.new) ≡ is_silent (seen out.old) }
+    ensures { Takes (seen out.old) (spec.line_number_at origin code text.now) (seen out.new) result }
 {
     match origin {
         Origin::Program | Origin::Immediate => typed_line_number(out, origin, code, text),
@@ -196,9 +183,7 @@ fn line_number<'a>(
 
 // Reads everything to the line's end.
 fn text_to_end<'a>(out: &mut Sink, code: u8, text: &'a [u8]) -> Result<&'a [u8], Stop>
-    ensures gives { MatchResult result (λ rest. Gives (seen out.old) (spec.text_to_end code text.now) (seen out.new) rest.now) (λ e. Stops (seen out.old) (spec.text_to_end code text.now) e) }
-    ensures memory { IfErr result (IsFree (seen out.old)) }
-    ensures silent { is_silent (seen out.new) ≡ is_silent (seen out.old) }
+    ensures { Takes (seen out.old) (spec.text_to_end code text.now) (seen out.new) result }
 {
     if !all_printable(text) {
         return Err(Stop::At(code, text.len()));
@@ -217,9 +202,7 @@ fn plain<'a>(
     code: u8,
     text: &'a [u8],
 ) -> Result<&'a [u8], Stop>
-    ensures gives { MatchResult result (λ rest. Gives (seen out.old) (spec.plain origin leaf code text.now) (seen out.new) rest.now) (λ e. Stops (seen out.old) (spec.plain origin leaf code text.now) e) }
-    ensures memory { IfErr result (IsFree (seen out.old)) }
-    ensures silent { is_silent (seen out.new) ≡ is_silent (seen out.old) }
+    ensures { Takes (seen out.old) (spec.plain origin leaf code text.now) (seen out.new) result }
 {
     let width = leaf_width(origin, leaf, text);
     if width == 0 {
@@ -238,9 +221,7 @@ fn read_leaf<'a>(
     code: u8,
     text: &'a [u8],
 ) -> Result<&'a [u8], Stop>
-    ensures gives { MatchResult result (λ rest. Gives (seen out.old) (spec.read_leaf origin leaf code text.now) (seen out.new) rest.now) (λ e. Stops (seen out.old) (spec.read_leaf origin leaf code text.now) e) }
-    ensures memory { IfErr result (IsFree (seen out.old)) }
-    ensures silent { is_silent (seen out.new) ≡ is_silent (seen out.old) }
+    ensures { Takes (seen out.old) (spec.read_leaf origin leaf code text.now) (seen out.new) result }
 {
     match leaf {
         Leaf::LineNumber => line_number(out, origin, code, skipped(origin, text)),
@@ -252,9 +233,7 @@ fn read_leaf<'a>(
 // Reads the line's end.
 #[tactic(auto, unfolding(crate::specs::Grammar::end_of_line))]
 fn end_of_line<'a>(out: &mut Sink, origin: Origin, text: &'a [u8]) -> Result<&'a [u8], Stop>
-    ensures gives { MatchResult result (λ rest. Gives (seen out.old) (spec.end_of_line origin text.now) (seen out.new) rest.now) (λ e. Stops (seen out.old) (spec.end_of_line origin text.now) e) }
-    ensures memory { IfErr result (IsFree (seen out.old)) }
-    ensures silent { is_silent (seen out.new) ≡ is_silent (seen out.old) }
+    ensures { Takes (seen out.old) (spec.end_of_line origin text.now) (seen out.new) result }
 {
     let here = skipped(origin, text);
     if here.is_empty() {
@@ -271,9 +250,7 @@ pub fn read_item<'a>(
     item: Item,
     text: &'a [u8],
 ) -> Result<&'a [u8], Stop>
-    ensures gives { MatchResult result (λ rest. Gives (seen out.old) (spec.read_item origin item text.now) (seen out.new) rest.now) (λ e. Stops (seen out.old) (spec.read_item origin item text.now) e) }
-    ensures memory { IfErr result (IsFree (seen out.old)) }
-    ensures silent { is_silent (seen out.new) ≡ is_silent (seen out.old) }
+    ensures { Takes (seen out.old) (spec.read_item origin item text.now) (seen out.new) result }
 {
     match item {
         Item::Word(word) => mark(out, origin, word, codes::S22_WORD, text),

@@ -5,8 +5,9 @@ ghost use Rattle.b2_atom.specs.Lines.{IsEndOf, behind_unit, further_unit, is_fur
 use crate::forms::Place;
 use crate::sink::Sink;
 use crate::walk::statement;
-use crate::words::{Origin, dropped, first, front};
+use crate::words::Origin;
 use b2_base::NoMemory;
+use b2_base::lexical::{dropped, first, front};
 use std::alloc::Global;
 
 /// A unit of a line: where it stands, and which of the line's bytes are its own.

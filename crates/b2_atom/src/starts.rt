@@ -4,17 +4,16 @@ ghost use Rattle.b2_atom.specs.Words as words;
 ghost use Rattle.b2_atom.specs.Grammar as spec;
 
 use crate::forms::{Form, Place, Rule, Start};
-use crate::leaves::{
-    any_name_width, is_alpha_name, is_digit, is_hex, is_letter, numeric_name_width, refused,
-};
+use crate::leaves::{any_name_width, is_alpha_name, numeric_name_width, refused};
 use crate::rows;
 use crate::sink::Stop;
 use crate::table::FORMS;
 use crate::words::{
-    ABS_OPEN, BIN_OPEN, FN, HASH_TERM, HEX_OPEN, HEXOF_OPEN, Origin, STR_OPEN, TAB_OPEN, ahead, at,
-    begins_with, dropped, first, is_source, kept, skipped,
+    ABS_OPEN, BIN_OPEN, FN, HASH_TERM, HEX_OPEN, HEXOF_OPEN, LINE_MARK, Origin, STR_OPEN, TAB_OPEN, ahead,
+    begins_with, is_source, kept, skipped,
 };
 use b2_base::codes;
+use b2_base::lexical::{at, dropped, first, is_digit, is_hex_digit, is_letter};
 
 fn is_among(low: u8, high: u8, class: u8) -> bool
     ensures { result ≡ spec.is_among low high class }
@@ -28,7 +27,7 @@ fn is_line(origin: Origin, class: u8) -> bool
     if is_source(origin) {
         is_digit(class)
     } else {
-        class == 255
+        class == LINE_MARK
     }
 }
 
@@ -111,7 +110,7 @@ fn starts_by(origin: Origin, start: Start, class: u8, behind: &[u8], text: &[u8]
         Start::Line => is_line(origin, class),
         Start::Numeric => numeric_begins(origin, text),
         Start::Alpha => alpha_begins(origin, text),
-        Start::Hex => is_hex(kept(origin, first(text))),
+        Start::Hex => is_hex_digit(kept(origin, first(text))),
         Start::Array => array_begins(origin, text),
         Start::AlphaInside => class == b'(' && alpha_begins(origin, skipped(origin, behind)),
         Start::CommaOrAlpha => class == b',' || alpha_begins(origin, text),

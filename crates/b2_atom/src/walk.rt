@@ -1,6 +1,6 @@
 // One walk over the table of forms, from a source as from atoms.
 ghost use Rattle.std.specs.Prelude.{◌≡◌, ◌≤◌, ◌<◌, ◌+◌, ℕ, [], length, map, get_or, MatchResult, IfErr};
-ghost use Rattle.b2_atom.specs.Tree.{seen, is_silent, IsFree, Gives, Stops};
+ghost use Rattle.b2_atom.specs.Tree.{seen, Takes};
 ghost use Rattle.b2_atom.specs.Table.{rows_0, rows_1, rows_2, rows_3};
 ghost use Rattle.b2_atom.specs.Grammar as spec;
 
@@ -60,9 +60,7 @@ fn take_item<'a>(
 ) -> Result<&'a [u8], Stop>
     requires room { room ≤ 32 }
     requires level { level ≤ 40 }
-    ensures gives { MatchResult result (λ rest. Gives (seen out.old) (spec.item (spec.statement (spec.reader origin) fuel) (spec.deep (spec.reader origin) (spec.statement (spec.reader origin) fuel) room) (spec.part origin fuel room level) (spec.reader origin) item text.now) (seen out.new) rest.now) (λ e. Stops (seen out.old) (spec.item (spec.statement (spec.reader origin) fuel) (spec.deep (spec.reader origin) (spec.statement (spec.reader origin) fuel) room) (spec.part origin fuel room level) (spec.reader origin) item text.now) e) }
-    ensures memory { IfErr result (IsFree (seen out.old)) }
-    ensures silent { is_silent (seen out.new) ≡ is_silent (seen out.old) }
+    ensures { Takes (seen out.old) (spec.item_in origin fuel room level item text.now) (seen out.new) result }
 {
     match item {
         Item::Part(row) => part(out, origin, fuel, room, level, row, text),
@@ -114,9 +112,7 @@ fn many<'a>(
 ) -> Result<&'a [u8], Stop>
     requires room { room ≤ 32 }
     requires level { level ≤ 40 }
-    ensures gives { MatchResult result (λ rest. Gives (seen out.old) (spec.many (spec.reader origin) start (spec.part origin fuel room level row) (length text.now) text.now) (seen out.new) rest.now) (λ e. Stops (seen out.old) (spec.many (spec.reader origin) start (spec.part origin fuel room level row) (length text.now) text.now) e) }
-    ensures memory { IfErr result (IsFree (seen out.old)) }
-    ensures silent { is_silent (seen out.new) ≡ is_silent (seen out.old) }
+    ensures { Takes (seen out.old) (spec.many (spec.reader origin) start (spec.part origin fuel room level row) (length text.now) text.now) (seen out.new) result }
 {
     let mut left = text;
     for _ in 0..text.len() {
@@ -144,9 +140,7 @@ fn part<'a>(
 ) -> Result<&'a [u8], Stop>
     requires room { room ≤ 32 }
     requires level { level ≤ 40 }
-    ensures gives { MatchResult result (λ rest. Gives (seen out.old) (spec.part origin fuel room level row text.now) (seen out.new) rest.now) (λ e. Stops (seen out.old) (spec.part origin fuel room level row text.now) e) }
-    ensures memory { IfErr result (IsFree (seen out.old)) }
-    ensures silent { is_silent (seen out.new) ≡ is_silent (seen out.old) }
+    ensures { Takes (seen out.old) (spec.part origin fuel room level row text.now) (seen out.new) result }
 {
     if level == 0 {
         return Err(Stop::At(codes::S14_STATEMENT, 0));
@@ -169,9 +163,7 @@ pub fn statement<'a>(
     place: Place,
     text: &'a [u8],
 ) -> Result<&'a [u8], Stop>
-    ensures gives { MatchResult result (λ rest. Gives (seen out.old) (spec.statement (spec.reader origin) fuel place text.now) (seen out.new) rest.now) (λ e. Stops (seen out.old) (spec.statement (spec.reader origin) fuel place text.now) e) }
-    ensures memory { IfErr result (IsFree (seen out.old)) }
-    ensures silent { is_silent (seen out.new) ≡ is_silent (seen out.old) }
+    ensures { Takes (seen out.old) (spec.statement (spec.reader origin) fuel place text.now) (seen out.new) result }
 {
     if fuel == 0 {
         return Ok(text);
@@ -184,9 +176,7 @@ pub fn statement<'a>(
 
 /// Reads a whole line.
 pub fn read_line<'a>(out: &mut Sink, origin: Origin, text: &'a [u8]) -> Result<&'a [u8], Stop>
-    ensures gives { MatchResult result (λ rest. Gives (seen out.old) (spec.read_line origin text.now) (seen out.new) rest.now) (λ e. Stops (seen out.old) (spec.read_line origin text.now) e) }
-    ensures memory { IfErr result (IsFree (seen out.old)) }
-    ensures silent { is_silent (seen out.new) ≡ is_silent (seen out.old) }
+    ensures { Takes (seen out.old) (spec.read_line origin text.now) (seen out.new) result }
 {
     part(out, origin, text.len() + 1, DEPTH, LEVELS, rows::LINE, text)
 }

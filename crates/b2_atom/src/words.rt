@@ -2,6 +2,8 @@
 ghost use Rattle.std.specs.Prelude.{◌≡◌, ◌≤◌, ◌<◌, [], length, map, drop, take, get_or};
 ghost use Rattle.b2_atom.specs.Words as spec;
 
+use b2_base::lexical::{dropped, first, skip_blanks, upper};
+
 /// Where a text is read from: a typed line of a program or an immediate one, or atoms.
 #[derive(Clone, Copy, Debug, PartialEq, Eq)]
 pub enum Origin {
@@ -13,6 +15,10 @@ pub enum Origin {
 /// What stands at a text where one of the words begins that this machine leaves out.
 pub const LEFT_OUT: u8 = 1;
 
+/// The byte before the two bytes of a line number.
+pub const LINE_MARK: u8 = 0xFF;
+
+/// The first word; the others follow in the order of `WORDS`.
 pub const REM: u8 = 0x80;
 
 pub const DIM: u8 = 0x81;
@@ -368,17 +374,6 @@ pub fn is_source(origin: Origin) -> bool
     }
 }
 
-/// A letter as its upper case.
-pub fn upper(byte: u8) -> u8
-    ensures { result ≡ spec.upper byte }
-{
-    if byte >= b'a' && byte <= b'z' {
-        byte - 32
-    } else {
-        byte
-    }
-}
-
 /// A byte as it is kept: a letter of a source in upper case.
 pub fn kept(origin: Origin, byte: u8) -> u8
     ensures { result ≡ spec.kept origin byte }
@@ -434,17 +429,6 @@ fn word_at(text: &[u8]) -> (usize, usize)
     longest(&WORDS, text)
 }
 
-/// Without the blanks at the front.
-pub fn skip_blanks(text: &[u8]) -> &[u8]
-    ensures { result.now ≡ spec.skip_blanks text.now }
-{
-    let mut rest = text;
-    while let [b' ', after @ ..] = rest {
-        rest = after;
-    }
-    rest
-}
-
 /// Where the next item begins.
 pub fn skipped(origin: Origin, text: &[u8]) -> &[u8]
     ensures { result.now ≡ spec.skipped origin text.now }
@@ -452,48 +436,6 @@ pub fn skipped(origin: Origin, text: &[u8]) -> &[u8]
     match origin {
         Origin::Program | Origin::Immediate => skip_blanks(text),
         Origin::Atoms => text,
-    }
-}
-
-/// The first byte, or 0.
-pub fn first(text: &[u8]) -> u8
-    ensures { result ≡ spec.first text.now }
-{
-    match text {
-        [byte, ..] => *byte,
-        _ => 0,
-    }
-}
-
-/// The byte at a place, or 0.
-pub fn at(text: &[u8], index: usize) -> u8
-    ensures { result ≡ get_or text.now index 0 }
-{
-    match text.get(index) {
-        Some(byte) => *byte,
-        None => 0,
-    }
-}
-
-/// Without the first bytes.
-pub fn dropped(text: &[u8], count: usize) -> &[u8]
-    ensures { result.now ≡ drop count text.now }
-{
-    if count <= text.len() {
-        &text[count..]
-    } else {
-        &[]
-    }
-}
-
-/// The first bytes.
-pub fn front(text: &[u8], count: usize) -> &[u8]
-    ensures { result.now ≡ take count text.now }
-{
-    if count <= text.len() {
-        &text[..count]
-    } else {
-        text
     }
 }
 
@@ -511,7 +453,7 @@ fn text_in(table: &'static [&'static [u8]], place: usize) -> &'static [u8]
 pub fn word_text(code: u8) -> &'static [u8]
     ensures { result.now ≡ spec.word_text code }
 {
-    text_in(&WORDS, usize::from(code.saturating_sub(128)))
+    text_in(&WORDS, usize::from(code.saturating_sub(REM)))
 }
 
 // A word, or a longer one that is typed with blanks in it, and what stands behind it.
@@ -544,7 +486,7 @@ fn typed_ahead(text: &[u8]) -> (u8, &[u8])
     if place >= CODED {
         return (LEFT_OUT, dropped(text, length));
     }
-    joined(place as u8 + 128, dropped(text, length))
+    joined(place as u8 + REM, dropped(text, length))
 }
 
 /// What stands at a text, a word's code or a byte or 0 at the end, and what stands behind it.

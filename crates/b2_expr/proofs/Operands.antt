@@ -3,12 +3,13 @@ use Rattle.std.proofs.Common.{◌≡◌, ℕ, zero, suc, ◌-◌, Bool, true, fa
 use Rattle.std.proofs.lemmas.Bool.Decides.{nat_tests}
 use Rattle.b2_base.specs.declared.codes.TheConstants.{S27_LEFT_OUT}
 use Rattle.b2_dec.specs.Number.{Number, zero_number}
-use Rattle.b2_atom.specs.Words.{Text, first, kept}
+use Rattle.b2_base.specs.Lexical.{first, is_digit, is_letter}
+use Rattle.b2_atom.specs.Words.{Text, kept}
 use Rattle.b2_atom.specs.Tokens.{Token}
 use Rattle.b2_atom.specs.Tokens.Token.{Coded, Plain}
 use Rattle.b2_atom.specs.Tree.{Trees, Outcome, Parser, one, nothing, and_then, under}
 use Rattle.b2_atom.specs.Tree.Trees.{Done, Put}
-use Rattle.b2_atom.specs.Leaves.{is_digit, is_letter, number_width, numeric_name_width, name_width, is_alpha_name, refused, missing}
+use Rattle.b2_atom.specs.Leaves.{number_width, numeric_name_width, name_width, is_alpha_name, refused, missing}
 use Rattle.b2_atom.specs.Grammar.{reader, item, items, level, deep, statement, absent, row_items, starts, mark, read_leaf, part}
 use Rattle.b2_atom.specs.declared.words.Origin.TheVariants.{Atoms}
 use Rattle.b2_atom.specs.declared.sink.Stop.{Stop}

@@ -1,10 +1,11 @@
 -- Assignments: what their bytes ask for is what their trees say.
 use Rattle.std.proofs.Common.{◌≡◌, ℕ, zero, suc, ◌+◌, ◌-◌, ◌≤◌, Bool, true, false, if◌then◌else◌, ◌==◌, ◌&&◌, ◌||◌, List, [], ◌∷◌, length, take, drop, map, get_or, refl, sym, ap, subst, ◌∙◌, arith, None, Ok, Err}
-use Rattle.b2_atom.specs.Words.{Text, first, kept}
+use Rattle.b2_base.specs.Lexical.{first, is_letter}
+use Rattle.b2_atom.specs.Words.{Text, kept}
 use Rattle.b2_atom.specs.Tokens.Token.{Coded, Plain}
 use Rattle.b2_atom.specs.Tree.{Trees, Outcome, Parser, one, nothing, joined, and_then, under, also}
 use Rattle.b2_atom.specs.Tree.Trees.{Done, Put, In}
-use Rattle.b2_atom.specs.Leaves.{is_letter, numeric_name_width, missing}
+use Rattle.b2_atom.specs.Leaves.{numeric_name_width, missing}
 use Rattle.b2_atom.specs.Grammar.{reader, item, items, level, deep, statement, many, absent, row_items, starts, read_leaf, variable_begins}
 use Rattle.b2_atom.specs.declared.words.Origin.TheVariants.{Atoms}
 use Rattle.b2_atom.specs.declared.sink.Stop.{Stop}

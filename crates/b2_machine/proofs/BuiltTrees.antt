@@ -2,11 +2,12 @@
 -- that PRINT and assignments reach, as computed.
 use Rattle.std.proofs.Common.{◌≡◌, ℕ, zero, suc, ◌+◌, ◌≤◌, Bool, true, false, not, if◌then◌else◌, ◌==◌, ◌&&◌, ◌||◌, nat_lt, nat_le, List, [], ◌∷◌, length, take, drop, map, get_or, length-drop, Option, Some, None, refl, sym, ap, subst, ◌∙◌, arith, Ok, Err}
 use Rattle.std.proofs.lemmas.Bool.Decides.{nat_tests}
-use Rattle.b2_atom.specs.Words.{Text, first, kept}
+use Rattle.b2_base.specs.Lexical.{digits_width, first, is_digit, is_letter}
+use Rattle.b2_atom.specs.Words.{Text, kept}
 use Rattle.b2_atom.specs.Tokens.Token.{Coded, Plain}
 use Rattle.b2_atom.specs.Tree.{Trees, Outcome, Parser, one, nothing, joined, and_then, under, also}
 use Rattle.b2_atom.specs.Tree.Trees.{Done, Put, In}
-use Rattle.b2_atom.specs.Leaves.{is_digit, is_letter, number_width, mantissa_of, digits, number_of, name_width, is_alpha_name, alpha_name_width, literal_width, until_quote, refused, missing}
+use Rattle.b2_atom.specs.Leaves.{number_width, mantissa_of, number_of, name_width, is_alpha_name, alpha_name_width, literal_width, until_quote, refused, missing}
 use Rattle.b2_atom.specs.Grammar.{reader, item, items, level, deep, many, absent, row_items, starts, mark, among, read_leaf}
 use Rattle.b2_atom.specs.declared.words.Origin.TheVariants.{Atoms}
 use Rattle.b2_atom.specs.declared.sink.Stop.{Stop}
@@ -265,8 +266,8 @@ among_by low high t e true is h = (some_text t (among_none low high t h is), λ 
 no_number : (b : ℕ) (bs : Text) → is_digit b ≡ false → (b == 46) ≡ false → number_width Atoms (b ∷ bs) ≡ 0
 no_number b bs h k =
     ap (λ (m : ℕ). number_of Atoms m (b ∷ bs))
-    (ap (λ (d : ℕ). if get_or (b ∷ bs) d 0 == 46 then mantissa_of d (digits (drop (d + 1) (b ∷ bs))) else d) (ap (λ (x : Bool). if x then suc (digits bs) else 0) h)
-    ∙ ap (λ (x : Bool). if x then mantissa_of 0 (digits (drop 1 (b ∷ bs))) else 0) k)
+    (ap (λ (d : ℕ). if get_or (b ∷ bs) d 0 == 46 then mantissa_of d (digits_width (drop (d + 1) (b ∷ bs))) else d) (ap (λ (x : Bool). if x then suc (digits_width bs) else 0) h)
+    ∙ ap (λ (x : Bool). if x then mantissa_of 0 (digits_width (drop 1 (b ∷ bs))) else 0) k)
 
 is_number : (b : ℕ) (bs : Text) (w : ℕ) (x y : Bool) → is_digit b ≡ x → (b == 46) ≡ y → number_width Atoms (b ∷ bs) ≡ suc w → (is_digit b || b == 46) ≡ true
 is_number b bs w true y hx hy is = ap (λ (v : Bool). v || b == 46) hx

@@ -7,8 +7,9 @@ use Rattle.b2_dec.specs.declared.number.Mode.TheVariants.{Round, Cut}
 use Rattle.b2_print.specs.Layout.{layout}
 use Rattle.b2_print.specs.declared.layout.Item.{Item}
 use Rattle.b2_print.specs.declared.layout.Item.TheVariants as item
-use Rattle.b2_atom.specs.Words.{Text, first}
-use Rattle.b2_atom.specs.Leaves.{is_digit, is_letter, number_width}
+use Rattle.b2_base.specs.Lexical.{first, is_digit, is_letter}
+use Rattle.b2_atom.specs.Words.{Text}
+use Rattle.b2_atom.specs.Leaves.{number_width}
 use Rattle.b2_atom.specs.declared.words.Origin.TheVariants as origin
 use Rattle.b2_atom.specs.declared.words.TheConstants as word
 use Rattle.b2_expr.specs.Value.{Surroundings}

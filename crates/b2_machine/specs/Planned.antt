@@ -7,8 +7,8 @@ use Rattle.b2_dec.specs.declared.number.Mode.TheVariants.{Round, Cut}
 use Rattle.b2_print.specs.Layout.{layout}
 use Rattle.b2_print.specs.declared.layout.Item.{Item}
 use Rattle.b2_print.specs.declared.layout.Item.TheVariants as item
-use Rattle.b2_atom.specs.Words.{Text, first}
-use Rattle.b2_atom.specs.Leaves.{is_letter}
+use Rattle.b2_base.specs.Lexical.{first, is_letter}
+use Rattle.b2_atom.specs.Words.{Text}
 use Rattle.b2_atom.specs.Tokens.{Token}
 use Rattle.b2_atom.specs.Tokens.Token.{Coded, Plain, Lined}
 use Rattle.b2_atom.specs.Tree.{Trees}

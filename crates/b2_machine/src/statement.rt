@@ -2,18 +2,17 @@
 ghost use Rattle.std.specs.Prelude.{◌≡◌, ◌<◌, ◌++◌, ◌∷◌, [], length, drop, get_or, true, MatchResult, IfOk, OnOk, Ok, Err};
 ghost use Rattle.b2_print.specs.Columns.{column_after};
 ghost use Rattle.b2_print.specs.Layout.{layout};
-ghost use Rattle.b2_atom.specs.Words.{first};
-ghost use Rattle.b2_atom.specs.Leaves.{is_letter};
+ghost use Rattle.b2_base.specs.Lexical.{first, is_letter};
 ghost use Rattle.b2_machine.specs.Refusals.{Refused, FailsWith};
 ghost use Rattle.b2_machine.specs.Plan.{is_sign, goes_on_name, built_width, is_built, line_of, line_at, range_at, letters_at, with_rest, behind_letters, number_in, assigns, printed_at, items_of, wants_line, ended, print_items, laid, prints, selects, clears, lists, runs, where_built, plan_word, plan_with, plan};
 ghost use Rattle.b2_machine.specs.declared.request.Request.TheVariants as request;
 
 use crate::request::Request;
 use b2_atom::{
-    CLEAR, Cursor, DC, END, GOTO, LIST, NO, Origin, PRINT, REM, ROUND, RUN, SELECT, dropped,
-    number_width,
+    CLEAR, Cursor, DC, END, GOTO, LIST, NO, Origin, PRINT, REM, ROUND, RUN, SELECT, number_width,
 };
 use b2_base::codes::S27_LEFT_OUT;
+use b2_base::lexical::{at, dropped, is_letter};
 use b2_base::{ByteList, Code, Fault, NoMemory};
 use b2_dec::{Dec, Mode};
 use b2_expr::{Env, number};
@@ -77,16 +76,6 @@ fn is_built(text: &[u8]) -> bool
         left = dropped(left, width);
     }
     true
-}
-
-// The byte at a place, 0 where there is none.
-fn at(text: &[u8], place: usize) -> u8
-    ensures { result ≡ get_or text.now place 0 }
-{
-    match text.get(place) {
-        Some(byte) => *byte,
-        None => 0,
-    }
 }
 
 // The line number at a text: FF and four decimal digits.
@@ -324,12 +313,6 @@ fn ask_word(
         CLEAR => Ok(ask_clear(rest)),
         _ => Ok(not_built()),
     }
-}
-
-fn is_letter(byte: u8) -> bool
-    ensures { result ≡ is_letter byte }
-{
-    byte >= b'A' && byte <= b'Z'
 }
 
 // What the bytes of a unit ask for.

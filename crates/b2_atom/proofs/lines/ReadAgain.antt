@@ -1,10 +1,10 @@
 -- A tree of a program's line: its atoms spell a line, whose canonical source is read as the same atoms.
 use Rattle.std.proofs.Common.{◌≡◌, ℕ, zero, suc, ◌+◌, ◌<◌, Bool, true, false, ◌==◌, List, [], ◌∷◌, ◌++◌, length, refl, sym, ap, subst, ◌∙◌, arith, Ok, Err, is_ok}
-use Rattle.b2_atom.specs.Words.{Text, first, skip_blanks}
+use Rattle.b2_base.specs.Lexical.{all_printable, first, skip_blanks}
+use Rattle.b2_atom.specs.Words.{Text}
 use Rattle.b2_atom.specs.Tokens.{Token, token_atoms, listed, spelled, ends_wordy, is_operand}
 use Rattle.b2_atom.specs.Tokens.Token.{Coded, Plain, Lined}
 use Rattle.b2_atom.specs.Tree.{Trees, Outcome, tokens, atoms}
-use Rattle.b2_atom.specs.Leaves.{all_printable}
 use Rattle.b2_atom.specs.Lines.{line_atoms, line_source, atoms_of, source_of}
 use Rattle.b2_atom.specs.Grammar.{reader, items, item, level, deep, statement, statement_row, starts, row_items, read_line}
 use Rattle.b2_atom.specs.Spelling.{AllGood, good_token, is_whole, is_free, atoms_of_tokens}

@@ -1,10 +1,10 @@
 -- One reading after another, and what a sink holds behind it.
-use Rattle.std.proofs.Common.{◌≡◌, ℕ, zero, suc, ◌+◌, ◌-◌, ◌<◌, List, [], ◌∷◌, ◌++◌, length, refl, sym, ap, ◌∙◌, arith, Result, Ok, Err, true, false, Bool, if◌then◌else◌, ◌≤◌, is_ok, append_assoc, append-nil, ◌&&◌, nat_le}
+use Rattle.std.proofs.Common.{◌≡◌, ℕ, zero, suc, ◌+◌, ◌-◌, ◌<◌, List, [], ◌∷◌, ◌++◌, length, refl, sym, ap, ◌∙◌, arith, Bor, Result, Ok, Err, true, false, Bool, if◌then◌else◌, ◌≤◌, is_ok, append_assoc, append-nil, ◌&&◌, nat_le}
 use Rattle.b2_atom.specs.Words.{Text}
 use Rattle.b2_atom.specs.Tokens.{Token, token_atoms, listed, ending, ends_wordy, is_operand, is_apart, spaced, spelled}
-use Rattle.b2_atom.specs.Tree.{Trees, Outcome, Parser, Seen, atoms, also, joined, and_then, under, emitted, told, put_all, bytes_of, tokens}
+use Rattle.b2_atom.specs.Tree.{Trees, Outcome, Parser, Seen, atoms, also, joined, and_then, under, emitted, put_one, put_all, bytes_of, is_silent, Takes, tokens}
 use Rattle.b2_atom.specs.Tree.Trees.{Done, Put, In}
-use Rattle.b2_atom.specs.Tree.Seen.{Written, Listed}
+use Rattle.b2_atom.specs.Tree.Seen.{Silent, Written, Listed}
 use Rattle.b2_atom.specs.Lines.{rest_of, atoms_of, source_of, is_line, line_source}
 use Rattle.b2_atom.specs.declared.sink.Stop.{Stop}
 use Rattle.b2_atom.specs.declared.sink.Stop.TheVariants.{At}
@@ -13,11 +13,12 @@ use Rattle.b2_atom.specs.declared.words.Origin.TheVariants as origin
 use Rattle.b2_atom.specs.declared.forms.Start.{Start}
 use Rattle.b2_atom.specs.declared.forms.Place.{Place}
 use Rattle.b2_atom.specs.declared.forms.Item.{Item}
-use Rattle.b2_atom.specs.Grammar.{Reader, reader, items, item, level, statement, many, row_items, starts, absent, part, read_line, chosen, statement_row}
+use Rattle.b2_atom.specs.declared.forms.Item.TheVariants.{Nest}
+use Rattle.b2_atom.specs.Grammar.{Reader, reader, items, item, item_in, deep, level, statement, many, row_items, starts, absent, part, read_line, chosen, statement_row}
 
 pub put_all-also : (s : Seen) (a b : Trees) → put_all s (also a b) ≡ put_all (put_all s a) b
 put_all-also s Done b = refl
-put_all-also s (Put t a) b = put_all-also (told s t) a b
+put_all-also s (Put t a) b = put_all-also (put_one s t) a b
 put_all-also s (In n i a) b = put_all-also (put_all s i) a b
 
 pub emitted-joined : (old : Seen) (a : Trees) (o : Outcome) → emitted old (joined a o) ≡ emitted (put_all old a) o
@@ -40,6 +41,26 @@ pub bind_err : (old : Seen) (e : Stop) (o : Outcome) (q : Parser Text) → emitt
 bind_err old e (Err f) q is = is
 bind_err old e (Ok p) q is = cc
 
+-- a sink that holds nothing holds nothing after a reading, and no other does
+pub put_all-silent : (s : Seen) (t : Trees) → is_silent (put_all s t) ≡ is_silent s
+put_all-silent s Done = refl
+put_all-silent Silent (Put t ts) = put_all-silent Silent ts
+put_all-silent (Written bs) (Put t ts) = put_all-silent (put_one (Written bs) t) ts
+put_all-silent (Listed bs w o) (Put t ts) = put_all-silent (put_one (Listed bs w o) t) ts
+put_all-silent s (In n inner ts) = put_all-silent (put_all s inner) ts ∙ put_all-silent s inner
+
+pub emitted-silent : (old new : Seen) (rest : Text) (o : Outcome) → emitted old o ≡ Ok (new, rest) → is_silent new ≡ is_silent old
+emitted-silent old new rest (Err e) is = cc
+emitted-silent old new rest (Ok p) is =
+    let pairs : ◌≡◌ {A = Seen × Text} (put_all old p.0, p.1) (new, rest) = cc in
+    let front : put_all old p.0 ≡ new = ap (λ (r : Seen × Text). r.0) pairs in
+    ap is_silent (sym front) ∙ put_all-silent old p.0
+
+-- what a taker answers by a reading, it answers by each that leaves the same
+pub takes_same : (old new : Seen) (o p : Outcome) (r : Result (Bor Text) Stop) → emitted old o ≡ emitted old p → Takes old o new r → Takes old p new r
+takes_same old new o p (Ok rest) same h = sym same ∙ h
+takes_same old new o p (Err e) same h = (λ not. sym same ∙ h.0 not, h.1)
+
 -- the next item of a row
 pub next_item : (st : Place → Parser Text) (d p : ℕ → Parser Text) (r : Reader Text) (i : Item) (is : List Item) (old new : Seen) (left rest : Text)
     → emitted old (item st d p r i left) ≡ Ok (new, rest) → emitted new (items st d p r is rest) ≡ emitted old (items st d p r (i ∷ is) left)
@@ -60,6 +81,13 @@ pub row_of_part : (r : Reader Text) (st : Place → Parser Text) (d : ℕ → Pa
 unfolding level
 row_of_part r st d zero n old t h = absurd (omega arith)
 row_of_part r st d (suc l) n old t h = let less : suc l - 1 ≡ l = omega arith in ap (λ (m : ℕ). emitted old (items st d (level r st d m) r (row_items n) t)) less
+
+-- what stands in parentheses, where one may still open
+pub nest_more : (o : Origin) (fuel room l n : ℕ) (old : Seen) (t : Text) → 0 < room → emitted old (part o fuel (room - 1) 40 n t) ≡ emitted old (item_in o fuel room l (Nest n) t)
+unfolding item deep
+nest_more o fuel zero l n old t h = absurd (omega arith)
+nest_more o fuel (suc m) l n old t h =
+    let less : suc m - 1 ≡ m = omega arith in ap (λ (k : ℕ). emitted old (part o fuel k 40 n t)) less ∙ sym (emitted-under 2 old (part o fuel m 40 n t))
 
 -- a part once more, where there are n more turns
 pub turn : (o : Origin) (s : Start) (p : Parser Text) (n : ℕ) (old : Seen) (left : Text) (b : Bool) → starts o s left ≡ b

@@ -2,12 +2,13 @@
 use Rattle.std.proofs.Common.{◌≡◌, ℕ, zero, suc, ◌+◌, ◌<◌, ◌≤◌, Bool, true, false, not, if◌then◌else◌, ◌==◌, ◌||◌, ◌&&◌, List, [], ◌∷◌, ◌++◌, length, take, drop, refl, sym, ap, subst, ◌∙◌, arith, nat_le, nat_lt, append-nil, append_assoc, length-drop, Ok, Err}
 use Rattle.std.specs.Prelude.{codes}
 use Rattle.std.proofs.lemmas.Bool.Decides.{nat_tests}
-use Rattle.b2_atom.specs.Words.{Text, is_source, ahead, skipped, skip_blanks, joined as joined_words, word_at, begins_with, upper}
+use Rattle.b2_base.specs.Lexical.{all_printable, digits_width, skip_blanks, upper}
+use Rattle.b2_atom.specs.Words.{Text, is_source, ahead, skipped, joined as joined_words, word_at, begins_with}
 use Rattle.b2_atom.specs.Tokens.{Token, kept_text}
 use Rattle.b2_atom.specs.Tokens.Token.{Coded, Plain, Lined}
 use Rattle.b2_atom.specs.Tree.{Trees, Outcome, Parser, one, nothing, joined, and_then, under, also, tokens}
 use Rattle.b2_atom.specs.Tree.Trees.{Done, Put, In}
-use Rattle.b2_atom.specs.Leaves.{leaf_width, digits, refused, missing, all_printable}
+use Rattle.b2_atom.specs.Leaves.{leaf_width, refused, missing}
 use Rattle.b2_atom.specs.Grammar.{reader, items, item, level, deep, many, row_items, starts, absent, mark, among, program_word, ignored, comma, end_of_line, end_at, read_leaf, plain, line_number_at, typed_line_number, two_digits, atoms_line_number, is_decimal, text_to_end, is_among}
 use Rattle.b2_atom.specs.Spelling.{is_whole, good_token}
 use Rattle.b2_atom.specs.Fitting.{leaf_number, fits_token, Fits, is_remark}
@@ -166,8 +167,8 @@ plain_short o k code s =
 typed_line_short : (o : Origin) (code : ℕ) (s : Text) → Short s (typed_line_number o code (skipped o s))
 typed_line_short o code s =
     let t : Text = skipped o s in
-    short_if s (nat_lt (digits t) 1 || nat_lt 4 (digits t)) (Err (refused o code t)) (one (Lined (two_digits t (digits t) 0) (two_digits t (digits t) 2)) (drop (digits t) t)) tt
-    (drop_skipped o (digits (skipped o s)) s)
+    short_if s (nat_lt (digits_width t) 1 || nat_lt 4 (digits_width t)) (Err (refused o code t)) (one (Lined (two_digits t (digits_width t) 0) (two_digits t (digits_width t) 2)) (drop (digits_width t) t)) tt
+    (drop_skipped o (digits_width (skipped o s)) s)
 
 atoms_line_short : (code : ℕ) (s : Text) → Short s (atoms_line_number code s)
 atoms_line_short code [] = tt

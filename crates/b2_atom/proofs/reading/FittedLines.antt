@@ -6,7 +6,8 @@ use Rattle.b2_atom.specs.Tokens.{Token}
 use Rattle.b2_atom.specs.Tokens.Token.{Coded, Plain}
 use Rattle.b2_atom.specs.Tree.{Trees, Outcome, Parser, one, nothing, joined, and_then, under, also, tokens}
 use Rattle.b2_atom.specs.Tree.Trees.{Done, Put, In}
-use Rattle.b2_atom.specs.Leaves.{refused, all_printable}
+use Rattle.b2_base.specs.Lexical.{all_printable}
+use Rattle.b2_atom.specs.Leaves.{refused}
 use Rattle.b2_atom.specs.Grammar.{reader, items, item, level, deep, many, statement, chosen, statement_row, row_at, allowed, from, begins_let, variable_begins, barred_following, barred_line, barred_place, row_items, starts, absent, mark, end_of_line, end_at, read_leaf, text_to_end, read_line}
 use Rattle.b2_atom.specs.Fitting.{fits_token, giving, FitsPut, Fits, is_remark, RemarksEnd, is_statement, is_allowed, LineTree}
 use Rattle.b2_atom.specs.Table.{forms}

@@ -1,13 +1,14 @@
 -- What is read from atoms is spelled by them: a reading's atoms and what it leaves are the text that it began at.
 use Rattle.std.proofs.Common.{◌≡◌, ℕ, zero, suc, ◌+◌, Bool, true, false, if◌then◌else◌, ◌==◌, ◌&&◌, nat_le, List, [], ◌∷◌, ◌++◌, length, take, drop, map, refl, sym, ap, ◌∙◌, arith, get_or, nat_lt, ◌/◌, append_assoc, append-nil, Result, Ok, Err}
 use Rattle.std.proofs.lemmas.Bool.Decides.{nat_tests}
-use Rattle.b2_atom.specs.Words.{Text, kept, first, skipped}
+use Rattle.b2_base.specs.Lexical.{all_printable, first}
+use Rattle.b2_atom.specs.Words.{Text, kept, skipped}
 use Rattle.b2_atom.specs.Tokens.{token_atoms, kept_text}
 use Rattle.b2_atom.specs.Tokens.Token.{Coded, Lined}
 use Rattle.std.proofs.lemmas.List.{take-append-drop}
 use Rattle.b2_atom.specs.Tree.{Trees, Outcome, Parser, one, nothing, joined, and_then, under, also, atoms}
 use Rattle.b2_atom.specs.Tree.Trees.{Done, Put, In}
-use Rattle.b2_atom.specs.Leaves.{refused, all_printable, leaf_width}
+use Rattle.b2_atom.specs.Leaves.{refused, leaf_width}
 use Rattle.b2_atom.specs.Grammar.{reader, read_item, items, item, level, deep, statement, many, row_items, rows_of, place_of, starts, read_line, chosen, statement_row, row_at, from, mark, among, program_word, ignored, comma, end_of_line, end_at, read_leaf, leaf_at, plain_of, atoms_line_number, text_to_end, is_decimal}
 use Rattle.b2_atom.specs.declared.words.Origin.{Origin}
 use Rattle.b2_atom.specs.declared.words.Origin.TheVariants.{Atoms}

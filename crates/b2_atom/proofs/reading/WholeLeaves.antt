@@ -1,8 +1,9 @@
 -- What is read of a leaf is a whole leaf by itself.
 use Rattle.std.proofs.Common.{◌≡◌, ℕ, zero, suc, ◌+◌, ◌-◌, ◌*◌, ◌<◌, ◌≤◌, Bool, true, false, not, if◌then◌else◌, ◌==◌, ◌||◌, ◌&&◌, [], ◌∷◌, ◌++◌, map, length, get_or, drop, min, refl, sym, ap, ◌∙◌, arith, nat_le, nat_lt, inl, inr, ◌⊎◌, length-drop}
 use Rattle.std.proofs.lemmas.Bool.Decides.{nat_tests}
-use Rattle.b2_atom.specs.Words.{Text, first, kept}
-use Rattle.b2_atom.specs.Leaves.{is_digit, is_printable, digits, number_width, number_of, mantissa_of, mantissa_width, sign_width, exponent_of, exponent_width, one_more, signed_number_width, literal_width, until_quote, small_value, small_width, slot_width, relation_of, relation_width, ends_image, until_parenthesis, image_width}
+use Rattle.b2_base.specs.Lexical.{capped_value, digits_width, first, is_digit, is_printable}
+use Rattle.b2_atom.specs.Words.{Text, kept}
+use Rattle.b2_atom.specs.Leaves.{number_width, number_of, mantissa_of, mantissa_width, sign_width, exponent_of, exponent_width, one_more, signed_number_width, literal_width, until_quote, small_width, slot_width, relation_of, relation_width, ends_image, until_parenthesis, image_width}
 use Rattle.b2_atom.specs.declared.words.Origin.{Origin}
 use Rattle.b2_atom.specs.declared.words.Origin.TheVariants.{Program, Immediate, Atoms}
 use Rattle.b2_atom.proofs.typed.Widths.{get_front, get_none, drop_front, small_more, slot_more, number_parts, signed_parts, one_more_suc}
@@ -14,24 +15,24 @@ no_digit_by : (b : Bool) (n : ℕ) → (if b then suc n else 0) ≡ 0 → b ≡ 
 no_digit_by true n h = cc
 no_digit_by false n h = refl
 
-no_digit_first : (x : Text) → digits x ≡ 0 → is_digit (first x) ≡ false
+no_digit_first : (x : Text) → digits_width x ≡ 0 → is_digit (first x) ≡ false
 no_digit_first [] h = refl
-no_digit_first (b ∷ x) h = no_digit_by (is_digit b) (digits x) h
+no_digit_first (b ∷ x) h = no_digit_by (is_digit b) (digits_width x) h
 
 digit_more : (b : Bool) (n m : ℕ) → (if b then suc n else 0) ≡ suc m → n ≡ m
 digit_more true n m h = omega arith
 digit_more false n m h = cc
 
-digits_end : (u x : Text) → digits (u ++ x) ≡ length u → is_digit (first x) ≡ false
+digits_end : (u x : Text) → digits_width (u ++ x) ≡ length u → is_digit (first x) ≡ false
 digits_end [] x h = no_digit_first x h
-digits_end (b ∷ u) x h = digits_end u x (digit_more (is_digit b) (digits (u ++ x)) (length u) h)
+digits_end (b ∷ u) x h = digits_end u x (digit_more (is_digit b) (digits_width (u ++ x)) (length u) h)
 
-back_by : (b : Bool) (u x : Text) → (if b then suc (digits (u ++ x)) else 0) ≤ suc (length u) → (digits (u ++ x) ≤ length u → digits u ≡ digits (u ++ x))
-    → ◌≡◌ {A = ℕ} (if b then suc (digits u) else 0) (if b then suc (digits (u ++ x)) else 0)
-back_by true u x h more = let less : digits (u ++ x) ≤ length u = omega arith in ap suc (more less)
+back_by : (b : Bool) (u x : Text) → (if b then suc (digits_width (u ++ x)) else 0) ≤ suc (length u) → (digits_width (u ++ x) ≤ length u → digits_width u ≡ digits_width (u ++ x))
+    → ◌≡◌ {A = ℕ} (if b then suc (digits_width u) else 0) (if b then suc (digits_width (u ++ x)) else 0)
+back_by true u x h more = let less : digits_width (u ++ x) ≤ length u = omega arith in ap suc (more less)
 back_by false u x h more = refl
 
-pub digits_back : (u x : Text) → digits (u ++ x) ≤ length u → digits u ≡ digits (u ++ x)
+pub digits_back : (u x : Text) → digits_width (u ++ x) ≤ length u → digits_width u ≡ digits_width (u ++ x)
 digits_back [] x h = omega arith
 digits_back (b ∷ u) x h = back_by (is_digit b) u x h (digits_back u x)
 
@@ -60,30 +61,30 @@ le_of n m h = omega arith
 whole_front : (n p : ℕ) → 0 < mantissa_of n p → mantissa_of n p ≡ n + 1 + p
 whole_front n p h = front_of (n == 0 && p == 0) n p h
 
-mantissa_from : (u : Text) (n : ℕ) (c : Bool) → digits u ≡ n → (get_or u n 0 == 46) ≡ c → mantissa_width u ≡ (if c then mantissa_of n (digits (drop (n + 1) u)) else n)
+mantissa_from : (u : Text) (n : ℕ) (c : Bool) → digits_width u ≡ n → (get_or u n 0 == 46) ≡ c → mantissa_width u ≡ (if c then mantissa_of n (digits_width (drop (n + 1) u)) else n)
 mantissa_from u n c hn hc =
-    ap (λ (m : ℕ). if get_or u m 0 == 46 then mantissa_of m (digits (drop (m + 1) u)) else m) hn
-    ∙ ap (λ (b : Bool). if b then mantissa_of n (digits (drop (n + 1) u)) else n) hc
+    ap (λ (m : ℕ). if get_or u m 0 == 46 then mantissa_of m (digits_width (drop (m + 1) u)) else m) hn
+    ∙ ap (λ (b : Bool). if b then mantissa_of n (digits_width (drop (n + 1) u)) else n) hc
 
-front_by : (u x : Text) (n : ℕ) (c : Bool) → (get_or (u ++ x) n 0 == 46) ≡ c → n ≡ digits (u ++ x)
-    → (if c then mantissa_of n (digits (drop (n + 1) (u ++ x))) else n) ≤ length u → 0 < (if c then mantissa_of n (digits (drop (n + 1) (u ++ x))) else n)
-    → mantissa_width u ≡ (if c then mantissa_of n (digits (drop (n + 1) (u ++ x))) else n)
+front_by : (u x : Text) (n : ℕ) (c : Bool) → (get_or (u ++ x) n 0 == 46) ≡ c → n ≡ digits_width (u ++ x)
+    → (if c then mantissa_of n (digits_width (drop (n + 1) (u ++ x))) else n) ≤ length u → 0 < (if c then mantissa_of n (digits_width (drop (n + 1) (u ++ x))) else n)
+    → mantissa_width u ≡ (if c then mantissa_of n (digits_width (drop (n + 1) (u ++ x))) else n)
 front_by u x n false is hn le some =
-    let fits : digits (u ++ x) ≤ length u = omega arith in
+    let fits : digits_width (u ++ x) ≤ length u = omega arith in
     mantissa_from u n false (digits_back u x fits ∙ sym hn) (test_by (λ b. b == 46) u x n false is refl le (λ h. cc))
 front_by u x n true is hn le some =
-    let sum = whole_front n (digits (drop (n + 1) (u ++ x))) some in
+    let sum = whole_front n (digits_width (drop (n + 1) (u ++ x))) some in
     let less : n < length u = omega arith in
-    let fits : digits (u ++ x) ≤ length u = omega arith in
+    let fits : digits_width (u ++ x) ≤ length u = omega arith in
     let there : n + 1 ≤ length u = omega arith in
     let rest : drop (n + 1) (u ++ x) ≡ drop (n + 1) u ++ x = drop_front u x (n + 1) there in
-    let same : digits (drop (n + 1) (u ++ x)) ≡ digits (drop (n + 1) u ++ x) = ap digits rest in
-    let short : digits (drop (n + 1) u ++ x) ≤ length (drop (n + 1) u) = omega (arith, length-drop (n + 1) u) in
+    let same : digits_width (drop (n + 1) (u ++ x)) ≡ digits_width (drop (n + 1) u ++ x) = ap digits_width rest in
+    let short : digits_width (drop (n + 1) u ++ x) ≤ length (drop (n + 1) u) = omega (arith, length-drop (n + 1) u) in
     mantissa_from u n true (digits_back u x fits ∙ sym hn) (test_by (λ b. b == 46) u x n true is refl (le_of n (length u) less) (λ h. less))
     ∙ ap (mantissa_of n) (digits_back (drop (n + 1) u) x short ∙ sym same)
 
 mantissa_back : (u x : Text) → mantissa_width (u ++ x) ≤ length u → 0 < mantissa_width (u ++ x) → mantissa_width u ≡ mantissa_width (u ++ x)
-mantissa_back u x le some = front_by u x (digits (u ++ x)) (get_or (u ++ x) (digits (u ++ x)) 0 == 46) refl refl le some
+mantissa_back u x le some = front_by u x (digits_width (u ++ x)) (get_or (u ++ x) (digits_width (u ++ x)) 0 == 46) refl refl le some
 
 -- an exponent
 no_e_at_end : (o : Origin) → (kept o 0 == 69) ≡ false
@@ -181,20 +182,20 @@ first_kept : (o : Origin) (u : Text) → first (map (kept o) u) ≡ kept o (firs
 first_kept o [] = sym (kept_null o)
 first_kept o (b ∷ u) = refl
 
-digits_kept : (o : Origin) (u : Text) → digits (map (kept o) u) ≡ digits u
+digits_kept : (o : Origin) (u : Text) → digits_width (map (kept o) u) ≡ digits_width u
 digits_kept o [] = refl
 digits_kept o (b ∷ u) = λ i. if kept_digit o b i then suc (digits_kept o u i) else 0
 
 point_kept : (o : Origin) (u : Text) (n : ℕ) → (get_or (map (kept o) u) n 0 == 46) ≡ (get_or u n 0 == 46)
 point_kept o u n = ap (λ (b : ℕ). b == 46) (get_kept o u n) ∙ kept_fixed o (get_or u n 0) 46 refl
 
-part_kept : (o : Origin) (u : Text) (n : ℕ) → digits (drop n (map (kept o) u)) ≡ digits (drop n u)
-part_kept o u n = ap digits (drop_kept o u n) ∙ digits_kept o (drop n u)
+part_kept : (o : Origin) (u : Text) (n : ℕ) → digits_width (drop n (map (kept o) u)) ≡ digits_width (drop n u)
+part_kept o u n = ap digits_width (drop_kept o u n) ∙ digits_kept o (drop n u)
 
 mantissa_kept : (o : Origin) (u : Text) → mantissa_width (map (kept o) u) ≡ mantissa_width u
 mantissa_kept o u =
-    ap (λ (n : ℕ). if get_or (map (kept o) u) n 0 == 46 then mantissa_of n (digits (drop (n + 1) (map (kept o) u))) else n) (digits_kept o u)
-    ∙ (λ i. if point_kept o u (digits u) i then mantissa_of (digits u) (part_kept o u (digits u + 1) i) else digits u)
+    ap (λ (n : ℕ). if get_or (map (kept o) u) n 0 == 46 then mantissa_of n (digits_width (drop (n + 1) (map (kept o) u))) else n) (digits_kept o u)
+    ∙ (λ i. if point_kept o u (digits_width u) i then mantissa_of (digits_width u) (part_kept o u (digits_width u + 1) i) else digits_width u)
 
 digit_at : (o : Origin) (u : Text) (n : ℕ) → is_digit (get_or (map (kept o) u) n 0) ≡ is_digit (get_or u n 0)
 digit_at o u n = ap is_digit (get_kept o u n) ∙ kept_digit o (get_or u n 0)
@@ -233,15 +234,15 @@ digit_same Program b h = grind (arith, nat_tests)
 digit_same Immediate b h = grind (arith, nat_tests)
 digit_same Atoms b h = refl
 
-value_by : (o : Origin) (n b : ℕ) (u : Text) (d : Bool) → is_digit b ≡ d → small_value (min (n * 10 + (b - 48)) 999) (map (kept o) u) ≡ small_value (min (n * 10 + (b - 48)) 999) u
-    → (if d then small_value (min (n * 10 + (kept o b - 48)) 999) (map (kept o) u) else n) ≡ (if d then small_value (min (n * 10 + (b - 48)) 999) u else n)
-value_by o n b u true is more = ap (λ (k : ℕ). small_value (min (n * 10 + (k - 48)) 999) (map (kept o) u)) (digit_same o b is) ∙ more
+value_by : (o : Origin) (n b : ℕ) (u : Text) (d : Bool) → is_digit b ≡ d → capped_value 999 (min (n * 10 + (b - 48)) 999) (map (kept o) u) ≡ capped_value 999 (min (n * 10 + (b - 48)) 999) u
+    → (if d then capped_value 999 (min (n * 10 + (kept o b - 48)) 999) (map (kept o) u) else n) ≡ (if d then capped_value 999 (min (n * 10 + (b - 48)) 999) u else n)
+value_by o n b u true is more = ap (λ (k : ℕ). capped_value 999 (min (n * 10 + (k - 48)) 999) (map (kept o) u)) (digit_same o b is) ∙ more
 value_by o n b u false is more = refl
 
-value_kept : (o : Origin) (n : ℕ) (u : Text) → small_value n (map (kept o) u) ≡ small_value n u
+value_kept : (o : Origin) (n : ℕ) (u : Text) → capped_value 999 n (map (kept o) u) ≡ capped_value 999 n u
 value_kept o n [] = refl
 value_kept o n (b ∷ u) =
-    ap (λ (d : Bool). if d then small_value (min (n * 10 + (kept o b - 48)) 999) (map (kept o) u) else n) (kept_digit o b)
+    ap (λ (d : Bool). if d then capped_value 999 (min (n * 10 + (kept o b - 48)) 999) (map (kept o) u) else n) (kept_digit o b)
     ∙ value_by o n b u (is_digit b) refl (value_kept o (min (n * 10 + (b - 48)) 999) u)
 
 pub small_kept : (o : Origin) (u : Text) → small_width (map (kept o) u) ≡ small_width u
@@ -278,13 +279,13 @@ signed_back o a w x h = signed_by o a w x (a == 43 || a == 45) h
 
 pub small_back : (a : ℕ) (w x : Text) → small_width (a ∷ (w ++ x)) ≡ suc (length w) → small_width (a ∷ w) ≡ suc (length w)
 small_back a w x h =
-    let is = width_yes (nat_le (small_value 0 (a ∷ (w ++ x))) 255) (digits (a ∷ (w ++ x))) (length w) h in
+    let is = width_yes (nat_le (capped_value 999 0 (a ∷ (w ++ x))) 255) (digits_width (a ∷ (w ++ x))) (length w) h in
     sym (small_more (a ∷ w) x (digits_end (a ∷ w) x is.1)) ∙ h
 
 pub slot_back : (a : ℕ) (w x : Text) → slot_width (a ∷ (w ++ x)) ≡ suc (length w) → slot_width (a ∷ w) ≡ suc (length w)
 slot_back a w x h =
-    let is = width_yes (a == 35 && (nat_lt 0 (digits (w ++ x)) && nat_le (small_value 0 (w ++ x)) 15)) (digits (w ++ x) + 1) (length w) h in
-    let long : digits (w ++ x) ≡ length w = (let sum = is.1 in omega arith) in
+    let is = width_yes (a == 35 && (nat_lt 0 (digits_width (w ++ x)) && nat_le (capped_value 999 0 (w ++ x)) 15)) (digits_width (w ++ x) + 1) (length w) h in
+    let long : digits_width (w ++ x) ≡ length w = (let sum = is.1 in omega arith) in
     sym (slot_more a w x (digits_end w x long)) ∙ h
 
 quote_by : (b : Bool) (w x : Text) → (if b then 0 else suc (until_quote (w ++ x))) < suc (length w) → (until_quote (w ++ x) < length w → until_quote w ≡ until_quote (w ++ x))

@@ -2,8 +2,9 @@
 use Rattle.std.proofs.Common.{◌≡◌, ℕ, suc, ◌+◌, Bool, true, false, if◌then◌else◌, ◌==◌, ◌&&◌, [], ◌∷◌, ◌++◌, map, length, get_or, drop, refl, sym, ap, ◌∙◌, arith, nat_le, inl, inr, ◌⊎◌, append-nil}
 use Rattle.std.specs.Prelude.{codes}
 use Rattle.std.proofs.lemmas.Bool.Decides.{nat_tests}
-use Rattle.b2_atom.specs.Words.{Text, upper, kept, ahead, typed_ahead, joined, word_at, begins_with, skip_blanks}
-use Rattle.b2_atom.specs.Leaves.{is_digit, is_letter, name_width, is_alpha_name, numeric_name_width, alpha_name_width, local_name_width, function_name_width}
+use Rattle.b2_base.specs.Lexical.{is_digit, is_letter, skip_blanks, upper}
+use Rattle.b2_atom.specs.Words.{Text, kept, ahead, typed_ahead, joined, word_at, begins_with}
+use Rattle.b2_atom.specs.Leaves.{name_width, is_alpha_name, numeric_name_width, alpha_name_width, local_name_width, function_name_width}
 use Rattle.b2_atom.specs.declared.words.TheConstants as word
 use Rattle.b2_atom.specs.declared.words.Origin.{Origin}
 use Rattle.b2_atom.specs.declared.words.Origin.TheVariants.{Program, Immediate, Atoms}

@@ -1,12 +1,12 @@
 -- A statement's row is chosen by its first two tokens.
 use Rattle.std.proofs.Common.{◌≡◌, ℕ, ◌-◌, ◌<◌, ◌==◌, ◌&&◌, ◌||◌, not, Bool, true, false, if◌then◌else◌, List, [], ◌∷◌, ◌++◌, length, refl, sym, ap, subst, ◌∙◌, arith, inl, inr, Result, Ok, Err}
 use Rattle.std.proofs.lemmas.Bool.Decides.{nat_tests}
-use Rattle.b2_atom.specs.Words.{Text, first, skipped, skip_blanks, ahead}
+use Rattle.b2_base.specs.Lexical.{first, is_letter, skip_blanks}
+use Rattle.b2_atom.specs.Words.{Text, skipped, ahead}
 use Rattle.b2_atom.specs.Tokens.{Token}
 use Rattle.b2_atom.specs.Tokens.Token.{Coded, Plain, Lined}
 use Rattle.b2_atom.specs.Tree.{Trees, tokens}
 use Rattle.b2_atom.specs.Tree.Trees.{Done, Put, In}
-use Rattle.b2_atom.specs.Leaves.{is_letter}
 use Rattle.b2_atom.specs.Grammar.{row_items, starts, class_at, is_among, row_at, allowed, from, statement_row, begins_let, variable_begins, read_leaf, plain, spelled_behind, barred_following, barred_line, barred_place}
 use Rattle.b2_atom.specs.Spelling.{Begins, Spells, Named, has_class, is_whole}
 use Rattle.b2_atom.specs.Fitting.{Fits, FitsPut, FitsIn, FitsBranch, giving, may_end, leaf_number, is_statement, is_allowed}

@@ -1,11 +1,11 @@
 -- What may stand at the front of a row's trees, and whether it settles each choice of the table.
 use Rattle.std.proofs.Common.{ℕ, zero, suc, ◌==◌, ◌&&◌, ◌||◌, not, nat_le, nat_lt, Bool, true, false, if◌then◌else◌, List, [], ◌∷◌, ◌++◌}
-use Rattle.b2_atom.specs.Words.{Text, first, texts}
+use Rattle.b2_base.specs.Lexical.{first, is_letter}
+use Rattle.b2_atom.specs.Words.{Text, texts}
 use Rattle.b2_atom.specs.Tokens.{Token}
 use Rattle.b2_atom.specs.Tokens.Token.{Coded, Plain, Lined}
 use Rattle.b2_atom.specs.Table.{forms}
 use Rattle.b2_atom.specs.Grammar.{row_items, is_among, is_decimal}
-use Rattle.b2_atom.specs.Leaves.{is_letter}
 use Rattle.b2_atom.specs.Spelling.{is_whole, is_in, signs, is_classed}
 use Rattle.b2_atom.specs.Fitting.{leaf_number}
 use Rattle.b2_atom.specs.declared.words.TheConstants as word

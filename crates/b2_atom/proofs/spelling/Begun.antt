@@ -2,11 +2,12 @@
 use Rattle.std.proofs.Common.{◌≡◌, ℕ, suc, ◌+◌, ◌-◌, ◌<◌, Bool, true, false, not, if◌then◌else◌, ◌==◌, ◌&&◌, List, [], ◌∷◌, ◌++◌, length, get_or, drop, refl, sym, ap, subst, ◌∙◌, arith, nat_le, nat_lt, length-append, inl, inr, ◌⊎◌}
 use Rattle.std.proofs.Math.Seq.{drop-append_seam}
 use Rattle.std.proofs.lemmas.Bool.Decides.{nat_tests}
-use Rattle.b2_atom.specs.Words.{Text, first, kept, upper, ahead, skipped, begins_with}
+use Rattle.b2_base.specs.Lexical.{capped_value, digits_width, first, is_digit, is_hex_digit, is_letter, upper}
+use Rattle.b2_atom.specs.Words.{Text, kept, ahead, skipped, begins_with}
 use Rattle.b2_atom.specs.Tokens.{Token}
 use Rattle.b2_atom.specs.Tokens.Token.{Coded, Plain, Lined}
 use Rattle.b2_atom.specs.Tree.{one}
-use Rattle.b2_atom.specs.Leaves.{is_digit, is_letter, is_hex, digits, name_width, is_alpha_name, leaf_width, small_value}
+use Rattle.b2_atom.specs.Leaves.{name_width, is_alpha_name, leaf_width}
 use Rattle.b2_atom.specs.Grammar.{read_leaf, plain, line_number_at, begins_let, spelled_behind, is_line}
 use Rattle.b2_atom.specs.Spelling.{Begins, is_classed, is_beg, here, Named, ShowsName, ShowsHex}
 use Rattle.b2_atom.specs.declared.words.Origin.{Origin}
@@ -76,9 +77,9 @@ some_digit false n h = cc
 slot_digit : (a : ℕ) (w y : Text) → leaf_width Atoms leaf.Slot (a ∷ w) ≡ suc (length w) → is_letter (upper (first (w ++ y))) ≡ false
 slot_digit a [] y h = absurd (false_true (and_right (a == 35) false (width_yes (a == 35 && false) 1 0 h).0))
 slot_digit a (b ∷ w) y h =
-    let is = (width_yes (a == 35 && (nat_lt 0 (digits (b ∷ w)) && nat_le (small_value 0 (b ∷ w)) 15)) (digits (b ∷ w) + 1) (suc (length w)) h).0 in
-    let some = and_left (nat_lt 0 (digits (b ∷ w))) _ (and_right (a == 35) _ is) in
-    digit_upper b (some_digit (is_digit b) (suc (digits w)) some)
+    let is = (width_yes (a == 35 && (nat_lt 0 (digits_width (b ∷ w)) && nat_le (capped_value 999 0 (b ∷ w)) 15)) (digits_width (b ∷ w) + 1) (suc (length w)) h).0 in
+    let some = and_left (nat_lt 0 (digits_width (b ∷ w))) _ (and_right (a == 35) _ is) in
+    digit_upper b (some_digit (is_digit b) (suc (digits_width w)) some)
 
 function_quiet : (a : ℕ) (w y : Text) → leaf_width Atoms leaf.FunctionName (a ∷ w) ≡ suc (length w) → is_letter (upper (first y)) ≡ false → is_letter (upper (first (w ++ y))) ≡ false
 function_quiet a [] y h stop = stop
@@ -253,8 +254,8 @@ alpha_named o a w s y e h =
       behind = behind_by (skipped o s) y a w e;
     }
 
-hex_shown : (o : Origin) (a : ℕ) (w s y : Text) → skipped o s ≡ a ∷ (w ++ y) → is_hex a ≡ true → is_hex (kept o (first (skipped o s))) ≡ true
-hex_shown o a w s y e h = ap (λ (t : Text). is_hex (kept o (first t))) e ∙ ap is_hex (hex_kept o a h) ∙ h
+hex_shown : (o : Origin) (a : ℕ) (w s y : Text) → skipped o s ≡ a ∷ (w ++ y) → is_hex_digit a ≡ true → is_hex_digit (kept o (first (skipped o s))) ≡ true
+hex_shown o a w s y e h = ap (λ (t : Text). is_hex_digit (kept o (first t))) e ∙ ap is_hex_digit (hex_kept o a h) ∙ h
 
 reads_by_kind : (o : Origin) (k : Leaf) (a : ℕ) (w s y : Text) → skipped o s ≡ a ∷ (w ++ y) → leaf_width Atoms k (a ∷ w) ≡ suc (length w) → ends k (first y) ≡ true
     → (code : ℕ) → read_leaf o k code s ≡ one (Plain k (a ∷ w)) y

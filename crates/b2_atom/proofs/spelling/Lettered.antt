@@ -1,10 +1,10 @@
 -- Letters that stand for themselves, and the three of BEG.
 use Rattle.std.proofs.Common.{◌≡◌, ℕ, Bool, true, false, not, if◌then◌else◌, ◌==◌, ◌||◌, ◌&&◌, List, [], ◌∷◌, get_or, refl, sym, ap, subst, ◌∙◌, arith}
 use Rattle.std.proofs.lemmas.Bool.Decides.{nat_tests}
-use Rattle.b2_atom.specs.Words.{Text, first, kept, upper, ahead}
+use Rattle.b2_base.specs.Lexical.{first, is_letter, upper}
+use Rattle.b2_atom.specs.Words.{Text, kept, ahead}
 use Rattle.b2_atom.specs.Tokens.{Token, is_operand}
 use Rattle.b2_atom.specs.Tokens.Token.{Coded, Plain, Lined}
-use Rattle.b2_atom.specs.Leaves.{is_letter}
 use Rattle.b2_atom.specs.Grammar.{spelled_behind}
 use Rattle.b2_atom.specs.Spelling.{good_token, is_free, is_mark, is_image, is_lettered, may_follow_code, Neighbours, AllGood, is_beg}
 use Rattle.b2_atom.specs.declared.words.TheConstants as word

@@ -1,10 +1,10 @@
 -- The canonical source: what stands behind a token there, and that it makes no other word of DATA and PRINT.
 use Rattle.std.proofs.Common.{◌≡◌, ℕ, ◌+◌, ◌-◌, ◌<◌, Bool, true, false, not, ◌==◌, ◌||◌, ◌&&◌, List, [], ◌∷◌, ◌++◌, length, get_or, refl, sym, ap, subst, ◌∙◌, arith}
 use Rattle.std.proofs.lemmas.Bool.Decides.{nat_tests}
-use Rattle.b2_atom.specs.Words.{Text, first, upper, texts, word_text}
-use Rattle.b2_atom.specs.Tokens.{Token, listed, spaced, spelled, is_apart, is_word, is_upper, ends_wordy, begins_wordy, is_operand, last, closes}
+use Rattle.b2_base.specs.Lexical.{first, is_digit, is_letter, upper}
+use Rattle.b2_atom.specs.Words.{Text, texts, word_text}
+use Rattle.b2_atom.specs.Tokens.{Token, listed, spaced, spelled, is_apart, is_word, ends_wordy, begins_wordy, is_operand, last, closes}
 use Rattle.b2_atom.specs.Tokens.Token.{Coded, Plain, Lined}
-use Rattle.b2_atom.specs.Leaves.{is_digit, is_letter}
 use Rattle.b2_atom.specs.Grammar.{is_among, is_decimal}
 use Rattle.b2_atom.specs.Spelling.{good_token, signs, is_in, is_dollar}
 use Rattle.b2_atom.specs.declared.words.TheConstants as word
@@ -182,8 +182,8 @@ letter_word c h = grind (arith, nat_tests)
 
 letters_apart : (c d : ℕ) → is_word c ≡ false → is_word d ≡ false → is_apart (ends_wordy (Coded c)) (is_operand (Coded c)) (Coded d) ≡ false
 letters_apart c d hc hd =
-    let e : ends_wordy (Coded c) ≡ false = ap (λ (b : Bool). b && (not (c == word.REM) && is_upper (last (word_text c)))) hc in
-    let b : begins_wordy (Coded d) ≡ false = ap (λ (b : Bool). b && is_upper (first (word_text d))) hd in
+    let e : ends_wordy (Coded c) ≡ false = ap (λ (b : Bool). b && (not (c == word.REM) && is_letter (last (word_text c)))) hc in
+    let b : begins_wordy (Coded d) ≡ false = ap (λ (b : Bool). b && is_letter (first (word_text d))) hd in
     (λ i. e i && not (closes (Coded d)) || (is_operand (Coded c) && b i)) ∙ and_none (is_operand (Coded c))
 
 letters_listed : (c d : ℕ) (us : List Token) → is_letter c ≡ true → is_letter d ≡ true → source_behind (Coded c) (Coded d ∷ us) ≡ d ∷ source_behind (Coded d) us

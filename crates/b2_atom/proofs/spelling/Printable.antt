@@ -4,7 +4,7 @@ use Rattle.b2_atom.specs.declared.words.TheConstants as word
 use Rattle.b2_atom.specs.Words.{Text, texts}
 use Rattle.b2_atom.specs.Tokens.{Token, listed, spaced, spelled, is_apart, is_word, ends_wordy, is_operand}
 use Rattle.b2_atom.specs.Tokens.Token.{Coded, Plain, Lined}
-use Rattle.b2_atom.specs.Leaves.{is_printable, all_printable}
+use Rattle.b2_base.specs.Lexical.{all_printable, is_printable}
 use Rattle.b2_atom.specs.Grammar.{is_decimal}
 use Rattle.b2_atom.specs.Spelling.{good_token, is_whole, signs, AllGood}
 use Rattle.b2_atom.specs.declared.forms.Leaf.{Leaf}

@@ -1,10 +1,11 @@
 -- Tokens that may stand side by side don't run on into each other: what the first byte behind a token is.
 use Rattle.std.proofs.Common.{◌≡◌, ℕ, suc, Bool, true, false, not, ◌==◌, ◌||◌, ◌&&◌, List, [], ◌∷◌, length, refl, ap, ◌∙◌, arith, nat_lt}
 use Rattle.std.proofs.lemmas.Bool.Decides.{nat_tests}
-use Rattle.b2_atom.specs.Words.{Text, first, upper}
+use Rattle.b2_base.specs.Lexical.{first, is_digit, is_letter, upper}
+use Rattle.b2_atom.specs.Words.{Text}
 use Rattle.b2_atom.specs.Tokens.{Token, is_operand, is_operand_leaf}
 use Rattle.b2_atom.specs.Tokens.Token.{Coded, Plain, Lined}
-use Rattle.b2_atom.specs.Leaves.{is_digit, is_letter, leaf_width}
+use Rattle.b2_atom.specs.Leaves.{leaf_width}
 use Rattle.b2_atom.specs.Grammar.{is_among}
 use Rattle.b2_atom.specs.Spelling.{is_whole, signs, is_in, good_token, is_mark, is_literal, is_free, is_image, is_dollar, is_unrelated, may_follow_leaf, Neighbours, AllGood}
 use Rattle.b2_atom.specs.declared.words.TheConstants as word

@@ -2,11 +2,12 @@
 use Rattle.std.proofs.Common.{◌≡◌, ℕ, suc, ◌<◌, Bool, true, false, not, if◌then◌else◌, ◌==◌, ◌||◌, ◌&&◌, List, [], ◌∷◌, ◌++◌, length, refl, sym, ap, subst, ◌∙◌, arith, nat_lt, append-nil, length-append}
 use Rattle.std.specs.Prelude.{codes}
 use Rattle.std.proofs.lemmas.Bool.Decides.{nat_tests}
-use Rattle.b2_atom.specs.Words.{Text, first, upper, ahead, skipped, skip_blanks, word_text, begins_with, is_source, typed_ahead}
+use Rattle.b2_base.specs.Lexical.{all_printable, first, is_digit, is_hex_digit, is_letter, skip_blanks, upper}
+use Rattle.b2_atom.specs.Words.{Text, ahead, skipped, word_text, begins_with, is_source, typed_ahead}
 use Rattle.b2_atom.specs.Tokens.{Token, listed, spaced, spelled, is_apart, is_word, ends_wordy, begins_wordy, is_operand, closes}
 use Rattle.b2_atom.specs.Tokens.Token.{Coded, Plain, Lined}
 use Rattle.b2_atom.specs.Tree.{one}
-use Rattle.b2_atom.specs.Leaves.{is_digit, is_letter, is_hex, leaf_width, all_printable}
+use Rattle.b2_atom.specs.Leaves.{leaf_width}
 use Rattle.b2_atom.specs.Grammar.{is_decimal, is_line, line_number_at, typed_line_number}
 use Rattle.b2_atom.specs.Spelling.{Begins, Spells, good_token, is_whole, signs, is_in, is_mark, is_free, is_image, may_follow, may_follow_code, may_follow_leaf, AllGood, Neighbours, is_classed}
 use Rattle.b2_atom.specs.declared.words.TheConstants as word
@@ -114,9 +115,9 @@ token_fronted (Lined high low) n g = shown_fronted (spelled (Lined high low)) (l
 
 -- a word that isn't in the table: its first letter is no hexadecimal digit and no letter that stands for itself
 abbrev is_foreign : Text → Bool
-is_foreign v = is_keyword v && (not (is_hex (first v)) && every (λ c. not (first v == upper c) || is_plain_sign c) signs)
+is_foreign v = is_keyword v && (not (is_hex_digit (first v)) && every (λ c. not (first v == upper c) || is_plain_sign c) signs)
 
-hex_other : (v b : ℕ) → not (is_hex v) ≡ true → is_hex b ≡ true → (v == upper b) ≡ false
+hex_other : (v b : ℕ) → not (is_hex_digit v) ≡ true → is_hex_digit b ≡ true → (v == upper b) ≡ false
 hex_other v b h k = grind (arith, nat_tests)
 
 plain_letter : (c : ℕ) → is_plain_sign c ≡ true → is_letter (upper c) ≡ false
@@ -129,10 +130,10 @@ sign_case v c x k false is h = not_at_other v c x k is
 foreign_sign : (v : Text) (c : ℕ) (x : Text) → is_keyword v ≡ true → (not (first v == upper c) || is_plain_sign c) ≡ true → begins_with v (c ∷ x) ≡ false
 foreign_sign v c x k h = sign_case v c x k (first v == upper c) refl h
 
-hex_leaf : (v : Text) (a : ℕ) (x : Text) → is_foreign v ≡ true → is_hex a ≡ true → begins_with v (a ∷ x) ≡ false
+hex_leaf : (v : Text) (a : ℕ) (x : Text) → is_foreign v ≡ true → is_hex_digit a ≡ true → begins_with v (a ∷ x) ≡ false
 hex_leaf v a x f h =
-    let rest = and_right (is_keyword v) (not (is_hex (first v)) && every (λ c. not (first v == upper c) || is_plain_sign c) signs) f in
-    not_at_other v a x (and_left (is_keyword v) _ f) (hex_other (first v) a (and_left (not (is_hex (first v))) _ rest) h)
+    let rest = and_right (is_keyword v) (not (is_hex_digit (first v)) && every (λ c. not (first v == upper c) || is_plain_sign c) signs) f in
+    not_at_other v a x (and_left (is_keyword v) _ f) (hex_other (first v) a (and_left (not (is_hex_digit (first v))) _ rest) h)
 
 classed_leaf : (v : Text) (k : Leaf) (a : ℕ) (w y : Text) → is_foreign v ≡ true → is_classed k ≡ true → leaf_width Atoms k (a ∷ w) ≡ suc (length w) → ends k (first y) ≡ true
     → begins_with v (a ∷ (w ++ y)) ≡ false
@@ -162,9 +163,9 @@ line_absent v w y f s =
 
 sign_absent : (v : Text) (c : ℕ) (y : Text) → is_foreign v ≡ true → is_in c signs ≡ true → begins_with v (c ∷ y) ≡ false
 sign_absent v c y f h =
-    let rest = and_right (is_keyword v) (not (is_hex (first v)) && every (λ c. not (first v == upper c) || is_plain_sign c) signs) f in
+    let rest = and_right (is_keyword v) (not (is_hex_digit (first v)) && every (λ c. not (first v == upper c) || is_plain_sign c) signs) f in
     foreign_sign v c y (and_left (is_keyword v) _ f)
-    (among_signs (λ c. not (first v == upper c) || is_plain_sign c) c signs (and_right (not (is_hex (first v))) (every (λ c. not (first v == upper c) || is_plain_sign c) signs) rest) h)
+    (among_signs (λ c. not (first v == upper c) || is_plain_sign c) c signs (and_right (not (is_hex_digit (first v))) (every (λ c. not (first v == upper c) || is_plain_sign c) signs) rest) h)
 
 -- the code of a word, where it may be one
 coded_absent : (v : Text) (d c : ℕ) (y : Text) (b : Bool) → is_word c ≡ b → is_foreign v ≡ true → good_token (Coded c) ≡ true → (b ≡ true → (c == d) ≡ false)

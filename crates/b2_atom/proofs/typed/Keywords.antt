@@ -2,8 +2,8 @@
 use Rattle.std.proofs.Common.{◌≡◌, ℕ, ◌+◌, ◌-◌, Bool, true, false, ◌==◌, ◌||◌, ◌&&◌, [], ◌∷◌, ◌++◌, get_or, refl, ap, arith}
 use Rattle.std.specs.Prelude.{codes}
 use Rattle.std.proofs.lemmas.Bool.Decides.{nat_tests}
-use Rattle.b2_atom.specs.Words.{Text, upper, begins_with, first, texts, word_text, skip_blanks}
-use Rattle.b2_atom.specs.Leaves.{is_letter}
+use Rattle.b2_base.specs.Lexical.{first, is_letter, skip_blanks, upper}
+use Rattle.b2_atom.specs.Words.{Text, begins_with, texts, word_text}
 use Rattle.b2_atom.specs.declared.words.TheConstants as word
 use Rattle.b2_atom.proofs.Booleans.{and_left, and_right}
 use Rattle.b2_atom.proofs.typed.Longest.{apart, lost, below, at_below}

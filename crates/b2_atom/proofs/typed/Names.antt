@@ -1,8 +1,9 @@
 -- Names, hexadecimal digits, comparison signs and images have their width, whatever stands behind them that doesn't run on.
 use Rattle.std.proofs.Common.{◌≡◌, ℕ, zero, suc, ◌+◌, Bool, true, false, if◌then◌else◌, ◌==◌, ◌&&◌, [], ◌∷◌, ◌++◌, length, get_or, drop, refl, sym, ap, ◌∙◌, arith, nat_lt, inl, inr, ◌⊎◌}
 use Rattle.std.proofs.lemmas.Bool.Decides.{nat_tests}
-use Rattle.b2_atom.specs.Words.{Text, first, kept, upper, ahead}
-use Rattle.b2_atom.specs.Leaves.{is_digit, is_letter, name_width, is_alpha_name, numeric_name_width, alpha_name_width, local_name_width, any_name_width}
+use Rattle.b2_base.specs.Lexical.{first, is_digit, is_letter, upper}
+use Rattle.b2_atom.specs.Words.{Text, kept, ahead}
+use Rattle.b2_atom.specs.Leaves.{name_width, is_alpha_name, numeric_name_width, alpha_name_width, local_name_width, any_name_width}
 use Rattle.b2_atom.specs.declared.words.Origin.{Origin}
 use Rattle.b2_atom.specs.declared.words.Origin.TheVariants.{Program, Immediate, Atoms}
 use Rattle.b2_atom.proofs.Booleans.{and_right, equal}

@@ -3,10 +3,10 @@ use Rattle.std.proofs.Common.{◌≡◌, ℕ, suc, ◌+◌, ◌-◌, ◌<◌, Bo
 use Rattle.std.specs.Prelude.{codes}
 use Rattle.std.proofs.Math.Seq.{drop-append_seam}
 use Rattle.std.proofs.lemmas.Bool.Decides.{nat_tests}
-use Rattle.b2_atom.specs.Words.{Text, upper, begins_with, longest, better, first, texts, word_text, word_at, typed_ahead, typed_by, joined, skip_blanks}
+use Rattle.b2_base.specs.Lexical.{first, is_letter, skip_blanks, upper}
+use Rattle.b2_atom.specs.Words.{Text, begins_with, longest, better, texts, word_text, word_at, typed_ahead, typed_by, joined}
 use Rattle.b2_atom.specs.Tokens.{ends_wordy}
 use Rattle.b2_atom.specs.Tokens.Token.{Coded}
-use Rattle.b2_atom.specs.Leaves.{is_letter}
 use Rattle.b2_atom.specs.declared.words.TheConstants as word
 use Rattle.b2_atom.proofs.Booleans.{and_left, and_right, false_true}
 use Rattle.b2_atom.proofs.typed.Longest.{apart, every, Found, found, none, below, at_below, and_none, is_less, stopped}
