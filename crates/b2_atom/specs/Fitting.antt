@@ -1,13 +1,14 @@
 -- Which trees the rows of the table allow, said without any reading.
 use Rattle.std.specs.Prelude.{◌≡◌, ℕ, zero, suc, ◌&&◌, ◌||◌, ◌==◌, not, Bool, true, false, List, [], ◌∷◌}
+use Rattle.b2_base.specs.Lexical.{is_decimal}
 use Rattle.b2_base.specs.Byte as byte
 use Rattle.b2_atom.specs.Tokens.{Token}
 use Rattle.b2_atom.specs.Tokens.Token.{Coded, Plain, Lined}
 use Rattle.b2_atom.specs.Tree.{Trees, tokens}
 use Rattle.b2_atom.specs.Tree.Trees.{Done, Put, In}
 use Rattle.b2_atom.specs.Table.{forms}
-use Rattle.b2_atom.specs.Grammar.{row_items, is_among, is_decimal, barred_following, barred_line, barred_place}
-use Rattle.b2_atom.specs.Spelling.{is_whole, is_free}
+use Rattle.b2_atom.specs.Grammar.{row_items, is_among, barred_following, barred_line, barred_place}
+use Rattle.b2_atom.specs.Spelling.{is_whole, is_free_text}
 use Rattle.b2_atom.specs.declared.words.TheConstants as word
 use Rattle.b2_atom.specs.declared.rows.TheConstants as row
 use Rattle.b2_atom.specs.declared.words.Origin.{Origin}
@@ -110,7 +111,7 @@ is_remark t = false
 
 abbrev pub is_rest : List Token → Bool
 is_rest [] = true
-is_rest (t ∷ []) = is_free t
+is_rest (t ∷ []) = is_free_text t
 is_rest (t ∷ u ∷ ts) = false
 
 abbrev pub RemarksEnd : List Token → Type 0

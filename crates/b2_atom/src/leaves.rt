@@ -4,7 +4,7 @@ ghost use Rattle.b2_atom.specs.Leaves as spec;
 
 use crate::forms::Leaf;
 use crate::sink::Stop;
-use crate::words::{LEFT_OUT, Origin, ahead, kept};
+use crate::words::{LEFT_OUT, Origin, ahead, kept_byte};
 use b2_base::codes;
 use b2_base::lexical::{
     at, capped_value, digits_width, dropped, first, is_digit, is_hex_digit, is_letter,
@@ -36,7 +36,7 @@ fn until_parenthesis(origin: Origin, text: &[u8]) -> usize
     let mut rest = text;
     let mut count = 0usize;
     while let [byte, after @ ..] = rest {
-        let shown = kept(origin, *byte);
+        let shown = kept_byte(origin, *byte);
         if shown == b')' || !is_printable(shown) || upper(shown) != shown {
             return count;
         }
@@ -68,7 +68,7 @@ fn exponent_width(origin: Origin, text: &[u8]) -> usize
     ensures count { result ≡ spec.exponent_width origin text.now }
     ensures short { result ≤ 4 }
 {
-    if kept(origin, first(text)) != b'E' {
+    if kept_byte(origin, first(text)) != b'E' {
         return 0;
     }
     let sign = if at(text, 1) == b'+' || at(text, 1) == b'-' {
@@ -121,7 +121,7 @@ fn name_width(origin: Origin, text: &[u8]) -> usize
     let class = ahead(origin, text).0;
     if is_letter(class) {
         if is_digit(at(text, 1)) { 2 } else { 1 }
-    } else if class == b'@' && is_letter(kept(origin, at(text, 1))) {
+    } else if class == b'@' && is_letter(kept_byte(origin, at(text, 1))) {
         if is_digit(at(text, 2)) { 3 } else { 2 }
     } else {
         0
@@ -207,7 +207,7 @@ fn literal_width(text: &[u8]) -> usize
 fn is_hex_at(origin: Origin, text: &[u8], place: usize) -> bool
     ensures { result ≡ spec.is_hex_at origin text.now place }
 {
-    is_hex_digit(kept(origin, at(text, place)))
+    is_hex_digit(kept_byte(origin, at(text, place)))
 }
 
 fn hex_pair_width(origin: Origin, text: &[u8]) -> usize
@@ -321,7 +321,7 @@ pub fn missing(origin: Origin, leaf: Leaf, code: u8, text: &[u8]) -> Stop
     match leaf {
         Leaf::Literal => missing_literal(origin, code, text),
         Leaf::HexPair => {
-            if is_hex_digit(kept(origin, first(text))) {
+            if is_hex_digit(kept_byte(origin, first(text))) {
                 Stop::At(code, text.len().saturating_sub(1))
             } else {
                 Stop::At(code, text.len())

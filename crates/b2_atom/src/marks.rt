@@ -1,6 +1,6 @@
 // The items that stand for themselves: words, signs, what is typed by hand, the line's end.
 ghost use Rattle.std.specs.Prelude.{◌≡◌, ◌≤◌, ◌<◌, ◌+◌, length, MatchResult, IfErr};
-ghost use Rattle.b2_atom.specs.Tree.{seen, Takes};
+ghost use Rattle.b2_atom.specs.Tree.{seen_sink, Takes};
 ghost use Rattle.b2_atom.specs.Tree.Trees.{Done};
 ghost use Rattle.b2_atom.specs.Grammar as spec;
 
@@ -9,7 +9,7 @@ use crate::leaves::{leaf_width, missing, refused};
 use crate::sink::{Sink, Stop, put_code, put_line, put_text};
 use crate::words::{LINE_MARK, Origin, ahead, is_source, skipped};
 use b2_base::codes;
-use b2_base::lexical::{all_printable, at, digits_width, dropped, front};
+use b2_base::lexical::{all_printable, at, digits_width, dropped, front, is_decimal};
 
 // Reads a word or a sign.
 #[tactic(auto, unfolding(crate::specs::Grammar::mark))]
@@ -20,7 +20,7 @@ fn mark<'a>(
     code: u8,
     text: &'a [u8],
 ) -> Result<&'a [u8], Stop>
-    ensures { Takes (seen out.old) (spec.mark origin wanted code text.now) (seen out.new) result }
+    ensures { Takes (seen_sink out.old) (spec.mark origin wanted code text.now) (seen_sink out.new) result }
 {
     let here = skipped(origin, text);
     let (class, behind) = ahead(origin, here);
@@ -41,7 +41,7 @@ fn among<'a>(
     code: u8,
     text: &'a [u8],
 ) -> Result<&'a [u8], Stop>
-    ensures { Takes (seen out.old) (spec.among origin low high code text.now) (seen out.new) result }
+    ensures { Takes (seen_sink out.old) (spec.among origin low high code text.now) (seen_sink out.new) result }
 {
     let here = skipped(origin, text);
     let (class, behind) = ahead(origin, here);
@@ -60,7 +60,7 @@ fn program_word<'a>(
     wanted: u8,
     text: &'a [u8],
 ) -> Result<&'a [u8], Stop>
-    ensures { Takes (seen out.old) (spec.program_word origin wanted text.now) (seen out.new) result }
+    ensures { Takes (seen_sink out.old) (spec.program_word origin wanted text.now) (seen_sink out.new) result }
 {
     let here = skipped(origin, text);
     let (class, behind) = ahead(origin, here);
@@ -75,9 +75,9 @@ fn program_word<'a>(
 }
 
 // Reads a comma, which a source may leave out.
-#[tactic(auto, unfolding(crate::specs::Grammar::comma))]
-fn comma<'a>(out: &mut Sink, origin: Origin, text: &'a [u8]) -> Result<&'a [u8], Stop>
-    ensures { Takes (seen out.old) (spec.comma origin text.now) (seen out.new) result }
+#[tactic(auto, unfolding(crate::specs::Grammar::optional_comma))]
+fn optional_comma<'a>(out: &mut Sink, origin: Origin, text: &'a [u8]) -> Result<&'a [u8], Stop>
+    ensures { Takes (seen_sink out.old) (spec.optional_comma origin text.now) (seen_sink out.new) result }
 {
     let here = skipped(origin, text);
     let (class, behind) = ahead(origin, here);
@@ -106,10 +106,10 @@ fn ignored(origin: Origin, word: u8, text: &[u8]) -> &[u8]
 }
 
 // A digit of a line number, which is right aligned in four.
-fn digit_of(text: &[u8], count: usize, place: usize) -> u8
+fn line_digit(text: &[u8], count: usize, place: usize) -> u8
     requires few { count ≤ 4 }
     requires inside { place < 4 }
-    ensures { result ≡ spec.digit_of text.now count place }
+    ensures { result ≡ spec.line_digit text.now count place }
 {
     if place + count < 4 {
         0
@@ -124,8 +124,8 @@ fn two_digits(text: &[u8], count: usize, place: usize) -> u8
     requires inside { place < 3 }
     ensures { result ≡ spec.two_digits text.now count place }
 {
-    let high = digit_of(text, count, place).min(9);
-    let low = digit_of(text, count, place + 1).min(9);
+    let high = line_digit(text, count, place).min(9);
+    let low = line_digit(text, count, place + 1).min(9);
     high * 16 + low
 }
 
@@ -136,7 +136,7 @@ fn typed_line_number<'a>(
     code: u8,
     text: &'a [u8],
 ) -> Result<&'a [u8], Stop>
-    ensures { Takes (seen out.old) (spec.typed_line_number origin code text.now) (seen out.new) result }
+    ensures { Takes (seen_sink out.old) (spec.typed_line_number origin code text.now) (seen_sink out.new) result }
 {
     let count = digits_width(text);
     if count < 1 || count > 4 {
@@ -146,15 +146,9 @@ fn typed_line_number<'a>(
     Ok(dropped(text, count))
 }
 
-fn is_decimal(byte: u8) -> bool
-    ensures { result ≡ spec.is_decimal byte }
-{
-    byte / 16 <= 9 && byte % 16 <= 9
-}
-
 // Reads a line number from atoms.
 fn atoms_line_number<'a>(out: &mut Sink, code: u8, text: &'a [u8]) -> Result<&'a [u8], Stop>
-    ensures { Takes (seen out.old) (spec.atoms_line_number code text.now) (seen out.new) result }
+    ensures { Takes (seen_sink out.old) (spec.atoms_line_number code text.now) (seen_sink out.new) result }
 {
     let [LINE_MARK, high, low, rest @ ..] = text else {
         return Err(Stop::At(code, text.len()));
@@ -173,7 +167,7 @@ fn line_number<'a>(
     code: u8,
     text: &'a [u8],
 ) -> Result<&'a [u8], Stop>
-    ensures { Takes (seen out.old) (spec.line_number_at origin code text.now) (seen out.new) result }
+    ensures { Takes (seen_sink out.old) (spec.line_number_at origin code text.now) (seen_sink out.new) result }
 {
     match origin {
         Origin::Program | Origin::Immediate => typed_line_number(out, origin, code, text),
@@ -183,7 +177,7 @@ fn line_number<'a>(
 
 // Reads everything to the line's end.
 fn text_to_end<'a>(out: &mut Sink, code: u8, text: &'a [u8]) -> Result<&'a [u8], Stop>
-    ensures { Takes (seen out.old) (spec.text_to_end code text.now) (seen out.new) result }
+    ensures { Takes (seen_sink out.old) (spec.text_to_end code text.now) (seen_sink out.new) result }
 {
     if !all_printable(text) {
         return Err(Stop::At(code, text.len()));
@@ -202,7 +196,7 @@ fn plain<'a>(
     code: u8,
     text: &'a [u8],
 ) -> Result<&'a [u8], Stop>
-    ensures { Takes (seen out.old) (spec.plain origin leaf code text.now) (seen out.new) result }
+    ensures { Takes (seen_sink out.old) (spec.plain origin leaf code text.now) (seen_sink out.new) result }
 {
     let width = leaf_width(origin, leaf, text);
     if width == 0 {
@@ -221,7 +215,7 @@ fn read_leaf<'a>(
     code: u8,
     text: &'a [u8],
 ) -> Result<&'a [u8], Stop>
-    ensures { Takes (seen out.old) (spec.read_leaf origin leaf code text.now) (seen out.new) result }
+    ensures { Takes (seen_sink out.old) (spec.read_leaf origin leaf code text.now) (seen_sink out.new) result }
 {
     match leaf {
         Leaf::LineNumber => line_number(out, origin, code, skipped(origin, text)),
@@ -233,7 +227,7 @@ fn read_leaf<'a>(
 // Reads the line's end.
 #[tactic(auto, unfolding(crate::specs::Grammar::end_of_line))]
 fn end_of_line<'a>(out: &mut Sink, origin: Origin, text: &'a [u8]) -> Result<&'a [u8], Stop>
-    ensures { Takes (seen out.old) (spec.end_of_line origin text.now) (seen out.new) result }
+    ensures { Takes (seen_sink out.old) (spec.end_of_line origin text.now) (seen_sink out.new) result }
 {
     let here = skipped(origin, text);
     if here.is_empty() {
@@ -250,7 +244,7 @@ pub fn read_item<'a>(
     item: Item,
     text: &'a [u8],
 ) -> Result<&'a [u8], Stop>
-    ensures { Takes (seen out.old) (spec.read_item origin item text.now) (seen out.new) result }
+    ensures { Takes (seen_sink out.old) (spec.read_item origin item text.now) (seen_sink out.new) result }
 {
     match item {
         Item::Word(word) => mark(out, origin, word, codes::S22_WORD, text),
@@ -258,7 +252,7 @@ pub fn read_item<'a>(
         Item::Among(low, high, code) => among(out, origin, low, high, code, text),
         Item::ProgramWord(word) => program_word(out, origin, word, text),
         Item::Ignored(word) => Ok(ignored(origin, word, text)),
-        Item::Comma => comma(out, origin, text),
+        Item::Comma => optional_comma(out, origin, text),
         Item::LeftOut => Err(Stop::At(codes::S27_LEFT_OUT, skipped(origin, text).len())),
         Item::End => end_of_line(out, origin, text),
         Item::Typed(leaf, code) => read_leaf(out, origin, leaf, code, text),

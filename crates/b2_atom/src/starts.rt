@@ -10,7 +10,7 @@ use crate::sink::Stop;
 use crate::table::FORMS;
 use crate::words::{
     ABS_OPEN, BIN_OPEN, FN, HASH_TERM, HEX_OPEN, HEXOF_OPEN, LINE_MARK, Origin, STR_OPEN, TAB_OPEN, ahead,
-    begins_with, is_source, kept, skipped,
+    begins_with, is_source, kept_byte, skipped,
 };
 use b2_base::codes;
 use b2_base::lexical::{at, dropped, first, is_digit, is_hex_digit, is_letter};
@@ -74,7 +74,7 @@ fn variable_begins(origin: Origin, text: &[u8]) -> bool
 fn spelled_behind(origin: Origin, text: &[u8], second: u8, third: u8) -> bool
     ensures { result ≡ spec.spelled_behind origin text.now second third }
 {
-    kept(origin, at(text, 0)) == second && kept(origin, at(text, 1)) == third
+    kept_byte(origin, at(text, 0)) == second && kept_byte(origin, at(text, 1)) == third
 }
 
 fn class_at(origin: Origin, text: &[u8]) -> u8
@@ -110,7 +110,7 @@ fn starts_by(origin: Origin, start: Start, class: u8, behind: &[u8], text: &[u8]
         Start::Line => is_line(origin, class),
         Start::Numeric => numeric_begins(origin, text),
         Start::Alpha => alpha_begins(origin, text),
-        Start::Hex => is_hex_digit(kept(origin, first(text))),
+        Start::Hex => is_hex_digit(kept_byte(origin, first(text))),
         Start::Array => array_begins(origin, text),
         Start::AlphaInside => class == b'(' && alpha_begins(origin, skipped(origin, behind)),
         Start::CommaOrAlpha => class == b',' || alpha_begins(origin, text),

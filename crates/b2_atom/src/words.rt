@@ -375,8 +375,8 @@ pub fn is_source(origin: Origin) -> bool
 }
 
 /// A byte as it is kept: a letter of a source in upper case.
-pub fn kept(origin: Origin, byte: u8) -> u8
-    ensures { result ≡ spec.kept origin byte }
+pub fn kept_byte(origin: Origin, byte: u8) -> u8
+    ensures { result ≡ spec.kept_byte origin byte }
 {
     match origin {
         Origin::Program | Origin::Immediate => upper(byte),
@@ -457,9 +457,9 @@ pub fn word_text(code: u8) -> &'static [u8]
 }
 
 // A word, or a longer one that is typed with blanks in it, and what stands behind it.
-fn joined(code: u8, rest: &[u8]) -> (u8, &[u8])
-    ensures class { result.0 ≡ (spec.joined code rest.now).0 }
-    ensures behind { result.1.now ≡ (spec.joined code rest.now).1 }
+fn longer_word(code: u8, rest: &[u8]) -> (u8, &[u8])
+    ensures class { result.0 ≡ (spec.longer_word code rest.now).0 }
+    ensures behind { result.1.now ≡ (spec.longer_word code rest.now).1 }
 {
     let next = skip_blanks(rest);
     if code == DATA && begins_with(b"SAVE", next) {
@@ -486,7 +486,7 @@ fn typed_ahead(text: &[u8]) -> (u8, &[u8])
     if place >= CODED {
         return (LEFT_OUT, dropped(text, length));
     }
-    joined(place as u8 + REM, dropped(text, length))
+    longer_word(place as u8 + REM, dropped(text, length))
 }
 
 /// What stands at a text, a word's code or a byte or 0 at the end, and what stands behind it.

@@ -5,7 +5,7 @@ use Rattle.std.proofs.lemmas.Bool.Decides.{nat_tests}
 use Rattle.b2_atom.specs.Words.{Text}
 use Rattle.b2_atom.specs.Tokens.{Token}
 use Rattle.b2_atom.specs.Tokens.Token.{Coded, Plain, Lined}
-use Rattle.b2_atom.specs.Tree.{Trees, tokens, Outcome, Parser, joined, and_then, under, also}
+use Rattle.b2_atom.specs.Tree.{Trees, tokens, Outcome, Parser, preceded, and_then, under, also}
 use Rattle.b2_atom.specs.Tree.Trees.{Done, Put, In}
 use Rattle.b2_atom.specs.Grammar.{reader, items, item, level, deep, statement, many, row_items, starts, absent, statement_row, read_leaf, text_to_end}
 use Rattle.b2_atom.specs.Spelling.{Spells}
@@ -259,11 +259,11 @@ also_assoc Done b c = refl
 also_assoc (Put t a) b c = ap (Put t) (also_assoc a b c)
 also_assoc (In n i a) b c = ap (In n i) (also_assoc a b c)
 
-joined_joined : (a b : Trees) (o : Outcome) → joined (also a b) o ≡ joined a (joined b o)
+joined_joined : (a b : Trees) (o : Outcome) → preceded (also a b) o ≡ preceded a (preceded b o)
 joined_joined a b (Ok p) = ap (λ (t : Trees). Ok (t, p.1)) (also_assoc a b p.0)
 joined_joined a b (Err e) = refl
 
-then_joined : (a : Trees) (o : Outcome) (q : Parser Text) → and_then (joined a o) q ≡ joined a (and_then o q)
+then_joined : (a : Trees) (o : Outcome) (q : Parser Text) → and_then (preceded a o) q ≡ preceded a (and_then o q)
 then_joined a (Ok p) q = joined_joined a p.0 (q p.1)
 then_joined a (Err e) q = refl
 

@@ -4,10 +4,10 @@ use Rattle.std.proofs.lemmas.Bool.Decides.{nat_tests}
 use Rattle.b2_atom.specs.Words.{Text, skipped, ahead}
 use Rattle.b2_atom.specs.Tokens.{Token}
 use Rattle.b2_atom.specs.Tokens.Token.{Coded, Plain, Lined}
-use Rattle.b2_atom.specs.Tree.{Trees, tokens, Outcome, Parser, one, joined, and_then, under, also}
+use Rattle.b2_atom.specs.Tree.{Trees, tokens, Outcome, Parser, one, preceded, and_then, under, also}
 use Rattle.b2_atom.specs.Tree.Trees.{Done, Put, In}
 use Rattle.b2_atom.specs.Leaves.{refused}
-use Rattle.b2_atom.specs.Grammar.{reader, items, item, level, deep, statement, row_items, starts, mark, mark_at, among, among_at, program_word, comma, comma_at, read_leaf, ignored, end_of_line, end_at, is_among}
+use Rattle.b2_atom.specs.Grammar.{reader, items, item, level, deep, statement, row_items, starts, mark, mark_at, among, among_at, program_word, optional_comma, optional_comma_at, read_leaf, ignored, end_of_line, end_at, is_among}
 use Rattle.b2_atom.specs.Spelling.{Spells}
 use Rattle.b2_atom.specs.Fitting.{giving, may_end, fits_token, leaf_number, RemarksEnd}
 use Rattle.b2_atom.specs.declared.words.Origin.{Origin}
@@ -32,7 +32,7 @@ pub runs_then : (o : Origin) (out : Outcome) (q : Parser Text) (a b : Trees) (mi
     → Runs o (and_then out q) (also a b) more
 runs_then o out q a b mid more h k =
     let next = k h.0 h.1.1 in
-    (next.0, (ap (λ (r : Outcome). and_then r q) h.1.0 ∙ ap (joined a) next.1.0, next.1.1))
+    (next.0, (ap (λ (r : Outcome). and_then r q) h.1.0 ∙ ap (preceded a) next.1.0, next.1.1))
 
 pub runs_under : (o : Origin) (n : ℕ) (out : Outcome) (t : Trees) (more : List Token) → Runs o out t more → Runs o (under n out) (In n t Done) more
 runs_under o n out t more h = (h.0, (ap (under n) h.1.0, h.1.1))
@@ -56,11 +56,11 @@ coded_among o a b d code ts s h spelled =
     let there : ahead o (skipped o s) ≡ (d, spelled.0) = spelled.1.0.reads in
     (spelled.0, (ap (λ (x : ℕ × Text). if is_among a b x.0 then one (Coded x.0) x.1 else Err (refused o code (skipped o s))) there ∙ if_is (is_among a b d) true _ _ h, spelled.1.1))
 
-coded_comma : (o : Origin) (d : ℕ) (ts : List Token) (s : Text) → (d == 44) ≡ true → Spells o (Coded d ∷ ts) s → Runs o (comma_at o s (skipped o s)) (Put (Coded d) Done) ts
+coded_comma : (o : Origin) (d : ℕ) (ts : List Token) (s : Text) → (d == 44) ≡ true → Spells o (Coded d ∷ ts) s → Runs o (optional_comma_at o s (skipped o s)) (Put (Coded d) Done) ts
 coded_comma o d ts s h spelled =
     let there : ahead o (skipped o s) ≡ (d, spelled.0) = spelled.1.0.reads in
-    let P : Trees → Type 0 = λ t. Runs o (comma_at o s (skipped o s)) t ts in
-    let other : Outcome = comma_at o s (skipped o s) in
+    let P : Trees → Type 0 = λ t. Runs o (optional_comma_at o s (skipped o s)) t ts in
+    let other : Outcome = optional_comma_at o s (skipped o s) in
     subst P (ap (λ (n : ℕ). Put (Coded n) Done) (sym (equal d 44 h)))
     (spelled.0, (if_is ((ahead o (skipped o s)).0 == 44) true _ _ (ap (λ (x : ℕ × Text). x.0 == 44) there ∙ h) ∙ ap (λ (x : ℕ × Text). one (Coded 44) x.1) there, spelled.1.1))
 
@@ -82,7 +82,7 @@ lined_leaf o k x y code ts s h spelled =
 -- a token is read by its item
 pub token_runs : (st : Place → Parser Text) (d p : ℕ → Parser Text) (o : Origin) (i : Item) (t : Token) (ts : List Token) (s : Text) → fits_token o i t ≡ true → Spells o (t ∷ ts) s
     → Runs o (item st d p (reader o) i s) (Put t Done) ts
-unfolding item mark among program_word comma
+unfolding item mark among program_word optional_comma
 token_runs st dp p o (Word c) (Coded d) ts s h spelled = coded o c d 22 ts s h spelled
 token_runs st dp p o (Sign c code) (Coded d) ts s h spelled = coded o c d code ts s h spelled
 token_runs st dp p o (Among a b code) (Coded d) ts s h spelled = coded_among o a b d code ts s h spelled

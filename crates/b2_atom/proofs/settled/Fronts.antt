@@ -1,12 +1,12 @@
 -- What may stand at the front of a row's trees, and whether it settles each choice of the table.
 use Rattle.std.proofs.Common.{ℕ, zero, suc, ◌==◌, ◌&&◌, ◌||◌, not, nat_le, nat_lt, Bool, true, false, if◌then◌else◌, List, [], ◌∷◌, ◌++◌}
-use Rattle.b2_base.specs.Lexical.{first, is_letter}
-use Rattle.b2_atom.specs.Words.{Text, texts}
+use Rattle.b2_base.specs.Lexical.{first, is_decimal, is_letter}
+use Rattle.b2_atom.specs.Words.{Text, all_words}
 use Rattle.b2_atom.specs.Tokens.{Token}
 use Rattle.b2_atom.specs.Tokens.Token.{Coded, Plain, Lined}
 use Rattle.b2_atom.specs.Table.{forms}
-use Rattle.b2_atom.specs.Grammar.{row_items, is_among, is_decimal}
-use Rattle.b2_atom.specs.Spelling.{is_whole, is_in, signs, is_classed}
+use Rattle.b2_atom.specs.Grammar.{row_items, is_among}
+use Rattle.b2_atom.specs.Spelling.{is_whole, is_in, plain_signs, is_classed}
 use Rattle.b2_atom.specs.Fitting.{leaf_number}
 use Rattle.b2_atom.specs.declared.words.TheConstants as word
 use Rattle.b2_atom.specs.declared.rows.TheConstants as row
@@ -200,7 +200,7 @@ every_sign (c ∷ cs) = Spanned c c ∷ every_sign cs
 -- the last tokens that statements may have: all but DATA
 abbrev pub statement_ends : List Front
 statement_ends =
-    every_sign signs
+    every_sign plain_signs
     ++ (Spanned word.REM word.REM ∷ Spanned word.DIM word.READ ∷ Spanned word.RESTORE word.SELECT ∷ Spanned word.PRINT word.PRINT ∷ Spanned word.PRINTUSING word.LAST
     ∷ Hand leaf.Number ∷ Hand leaf.SignedNumber ∷ Hand leaf.Name ∷ Hand leaf.AlphaName ∷ Hand leaf.LocalName ∷ Hand leaf.FunctionName ∷ Hand leaf.Literal ∷ Hand leaf.HexPair
     ∷ Hand leaf.HexDigit ∷ Hand leaf.Address ∷ Hand leaf.Slot ∷ Hand leaf.Small ∷ Hand leaf.Image ∷ Hand leaf.Text ∷ Hand leaf.Relation ∷ Numbered ∷ [])
@@ -448,7 +448,7 @@ dollar_spans [] c = []
 dollar_spans (w ∷ ws) c = when (first w == 36) ((c, c) ∷ []) ++ dollar_spans ws (suc c)
 
 abbrev pub no_dollar : Front → Bool
-no_dollar (Spanned a b) = nat_lt b 128 || apart (dollar_spans texts 128) (a, b)
+no_dollar (Spanned a b) = nat_lt b 128 || apart (dollar_spans all_words 128) (a, b)
 no_dollar f = is_one f
 
 abbrev pub unrelated : Front → Bool
@@ -494,7 +494,7 @@ beside f g = false
 
 -- whether each token of a front is a good token
 abbrev pub good_front : Front → Bool
-good_front (Spanned a b) = (nat_le word.REM a && nat_le b word.LAST) || (a == b && is_in a signs)
+good_front (Spanned a b) = (nat_le word.REM a && nat_le b word.LAST) || (a == b && is_in a plain_signs)
 good_front (Hand k) = true
 good_front Numbered = true
 good_front f = false

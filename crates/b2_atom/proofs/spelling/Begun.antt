@@ -3,7 +3,7 @@ use Rattle.std.proofs.Common.{◌≡◌, ℕ, suc, ◌+◌, ◌-◌, ◌<◌, Bo
 use Rattle.std.proofs.Math.Seq.{drop-append_seam}
 use Rattle.std.proofs.lemmas.Bool.Decides.{nat_tests}
 use Rattle.b2_base.specs.Lexical.{capped_value, digits_width, first, is_digit, is_hex_digit, is_letter, upper}
-use Rattle.b2_atom.specs.Words.{Text, kept, ahead, skipped, begins_with}
+use Rattle.b2_atom.specs.Words.{Text, kept_byte, ahead, skipped, begins_with}
 use Rattle.b2_atom.specs.Tokens.{Token}
 use Rattle.b2_atom.specs.Tokens.Token.{Coded, Plain, Lined}
 use Rattle.b2_atom.specs.Tree.{one}
@@ -205,7 +205,7 @@ pub quiet_let : (o : Origin) (a : ℕ) (z : Text) → Quiet a z → begins_let o
 quiet_let o a z q = let_none o (a ∷ z) (quiet_keyword (76 ∷ 69 ∷ 84 ∷ []) a z refl q)
 
 -- no letter E, in either case
-pub no_e : (o : Origin) (n : ℕ) → is_letter (upper n) ≡ false → (kept o n == 69) ≡ false
+pub no_e : (o : Origin) (n : ℕ) → is_letter (upper n) ≡ false → (kept_byte o n == 69) ≡ false
 no_e Program n h = grind (arith, nat_tests)
 no_e Immediate n h = grind (arith, nat_tests)
 no_e Atoms n h = grind (arith, nat_tests)
@@ -216,8 +216,8 @@ no_b a h = grind (arith, nat_tests)
 pub quiet_beg : (o : Origin) (a : ℕ) (z : Text) → Quiet a z → (a == 66 && spelled_behind o z 69 71) ≡ false
 quiet_beg o a z (inl h) = ap (λ (b : Bool). b && spelled_behind o z 69 71) (no_b a h)
 quiet_beg o a z (inr h) =
-    let e : (kept o (get_or z 0 0) == 69) ≡ false = ap (λ (n : ℕ). kept o n == 69) (get_first z) ∙ no_e o (first z) h in
-    and_false (a == 66) (spelled_behind o z 69 71) (ap (λ (b : Bool). b && kept o (get_or z 1 0) == 71) e)
+    let e : (kept_byte o (get_or z 0 0) == 69) ≡ false = ap (λ (n : ℕ). kept_byte o n == 69) (get_first z) ∙ no_e o (first z) h in
+    and_false (a == 66) (spelled_behind o z 69 71) (ap (λ (b : Bool). b && kept_byte o (get_or z 1 0) == 71) e)
 
 -- what the reader shows of a whole leaf
 read_whole : (o : Origin) (k : Leaf) (code a : ℕ) (w s y : Text) → skipped o s ≡ a ∷ (w ++ y) → leaf_width Atoms k (a ∷ w) ≡ suc (length w) → ends k (first y) ≡ true
@@ -254,8 +254,8 @@ alpha_named o a w s y e h =
       behind = behind_by (skipped o s) y a w e;
     }
 
-hex_shown : (o : Origin) (a : ℕ) (w s y : Text) → skipped o s ≡ a ∷ (w ++ y) → is_hex_digit a ≡ true → is_hex_digit (kept o (first (skipped o s))) ≡ true
-hex_shown o a w s y e h = ap (λ (t : Text). is_hex_digit (kept o (first t))) e ∙ ap is_hex_digit (hex_kept o a h) ∙ h
+hex_shown : (o : Origin) (a : ℕ) (w s y : Text) → skipped o s ≡ a ∷ (w ++ y) → is_hex_digit a ≡ true → is_hex_digit (kept_byte o (first (skipped o s))) ≡ true
+hex_shown o a w s y e h = ap (λ (t : Text). is_hex_digit (kept_byte o (first t))) e ∙ ap is_hex_digit (hex_kept o a h) ∙ h
 
 reads_by_kind : (o : Origin) (k : Leaf) (a : ℕ) (w s y : Text) → skipped o s ≡ a ∷ (w ++ y) → leaf_width Atoms k (a ∷ w) ≡ suc (length w) → ends k (first y) ≡ true
     → (code : ℕ) → read_leaf o k code s ≡ one (Plain k (a ∷ w)) y

@@ -3,7 +3,7 @@ use Rattle.std.proofs.Common.{◌≡◌, ℕ, suc, ◌+◌, Bool, true, false, n
 use Rattle.std.proofs.Math.Seq.{drop-append_seam, take-append_seam}
 use Rattle.std.proofs.lemmas.Bool.Decides.{nat_tests}
 use Rattle.b2_base.specs.Lexical.{first, is_digit, is_letter, upper}
-use Rattle.b2_atom.specs.Words.{Text, kept}
+use Rattle.b2_atom.specs.Words.{Text, kept_byte}
 use Rattle.b2_atom.specs.Tokens.{kept_text}
 use Rattle.b2_atom.specs.Tokens.Token.{Plain}
 use Rattle.b2_atom.specs.Tree.{one}
@@ -88,12 +88,12 @@ leaf_more o leaf.Relation a w x h stop = relation_more a w x h stop
 abbrev pub all_upper : Text → Bool
 all_upper w = every (λ b. upper b == b) w
 
-one_kept : (o : Origin) (b : ℕ) → (upper b == b) ≡ true → kept o b ≡ b
+one_kept : (o : Origin) (b : ℕ) → (upper b == b) ≡ true → kept_byte o b ≡ b
 one_kept Program b h = equal (upper b) b h
 one_kept Immediate b h = equal (upper b) b h
 one_kept Atoms b h = refl
 
-pub kept_upper : (o : Origin) (w : Text) → all_upper w ≡ true → map (kept o) w ≡ w
+pub kept_upper : (o : Origin) (w : Text) → all_upper w ≡ true → map (kept_byte o) w ≡ w
 kept_upper o [] h = refl
 kept_upper o (b ∷ w) h =
     λ i. one_kept o b (and_left (upper b == b) (all_upper w) h) i ∷ kept_upper o w (and_right (upper b == b) (all_upper w) h) i
