@@ -80,7 +80,7 @@ abbrev pub FitsPut : Origin → List Item → Token → (List Item → Type 0) �
 FitsPut o [] t more = ⊥
 FitsPut o (i ∷ is) t more = (fits_token o i t ≡ true) × more is
 
--- a branch in the place of an item, where so many parentheses may still open
+-- a branch in the place of an item, where `room` parentheses may still open
 abbrev pub FitsBranch : Origin → ℕ → Item → List Item → ℕ → (ℕ → List Item → Type 0) → (List Item → Type 0) → Type 0
 FitsBranch o room (Part n) is m below more = (m ≡ 2) × (below room (row_items n) × more is)
 FitsBranch o room (Maybe s n) is zero below more = below room [] × more is
@@ -97,7 +97,7 @@ abbrev pub FitsIn : Origin → ℕ → List Item → ℕ → (ℕ → List Item 
 FitsIn o room [] m below more = ⊥
 FitsIn o room (i ∷ is) m below more = FitsBranch o room i is m below more
 
--- the trees that items allow in such a line, where so many parentheses may still open
+-- the trees that items allow in such a line, where `room` parentheses may still open
 abbrev pub Fits : Origin → ℕ → List Item → Trees → Type 0
 Fits o room is Done = may_end is ≡ true
 Fits o room is (Put t ts) = FitsPut o (giving is) t (λ (rest : List Item). Fits o room rest ts)

@@ -7,7 +7,7 @@ use Rattle.b2_atom.specs.Tokens.{Token, token_atoms, is_word}
 use Rattle.b2_atom.specs.Tokens.Token.{Coded, Plain, Lined}
 use Rattle.b2_atom.specs.Tree.{one}
 use Rattle.b2_atom.specs.Leaves.{is_alpha_name, name_width, leaf_width}
-use Rattle.b2_atom.specs.Grammar.{class_at, is_line, is_among, read_leaf, begins_let, spelled_behind}
+use Rattle.b2_atom.specs.Grammar.{class_at, is_line, is_among, read_leaf, begins_let, spelled_after}
 use Rattle.b2_atom.specs.declared.words.TheConstants as word
 use Rattle.b2_atom.specs.declared.words.Origin.{Origin}
 use Rattle.b2_atom.specs.declared.words.Origin.TheVariants as origin
@@ -63,20 +63,20 @@ is_unrelated (Coded c) = not (c == byte.equals)
 is_unrelated (Plain leaf.Relation w) = false
 is_unrelated t = true
 
--- the two letters that stand behind others: of B E G
+-- the two letters that stand after others: of B E G
 abbrev pub is_lettered : ℕ → Token → Bool
 is_lettered c (Coded d) = not (is_letter d) || (c == byte.upper_b && d == byte.upper_e) || (c == byte.upper_e && d == byte.upper_g)
 is_lettered c (Plain k w) = false
 is_lettered c (Lined high low) = true
 
--- what may stand behind a word or a sign
+-- what may follow a word or a sign
 abbrev pub may_follow_code : ℕ → Token → Bool
 may_follow_code c t =
     if c == word.REM || c == byte.percent then is_free_text t
     else (not (is_free_text t) && (if is_letter c then is_lettered c t
     else (if c == word.DATA then not (is_word_or_sign t || is_image t) else (if c == word.PRINT then not (is_image t) else true))))
 
--- what may stand behind what is typed by hand
+-- what may follow what is typed by hand
 abbrev pub may_follow_leaf : Leaf → Token → Bool
 may_follow_leaf leaf.Number t = is_word_or_sign t
 may_follow_leaf leaf.SignedNumber t = is_word_or_sign t
@@ -89,7 +89,7 @@ may_follow_leaf leaf.Relation t = is_unrelated t && not (is_free_text t || is_im
 may_follow_leaf leaf.Text t = false
 may_follow_leaf k t = not (is_free_text t)
 
--- whether a token may stand directly behind another, so that neither runs on into the other
+-- whether a token may stand directly after another, so that neither runs on into the other
 abbrev pub may_follow : Token → Token → Bool
 may_follow (Coded c) t = may_follow_code c t
 may_follow (Plain k w) t = may_follow_leaf k t
@@ -163,7 +163,7 @@ abbrev pub ShowsLine : Origin → Token → Text → Type 0
 ShowsLine o (Lined high low) s = is_line o (class_at o s) ≡ true
 ShowsLine o t s = Unit {0}
 
--- a text that begins with a token, behind which others stand: it is read as that token, and its first bytes show which one
+-- a text that begins with a token, after which others stand: it is read as that token, and its first bytes show which one
 -- it is
 pub record Begins (o : Origin) (t : Token) (behind : List Token) (s rest : Text) : Type 0 where
   pub reads : Reads o t s rest
@@ -172,7 +172,7 @@ pub record Begins (o : Origin) (t : Token) (behind : List Token) (s rest : Text)
   pub opens : has_class t ≡ true → (first (skipped o s) == byte.opening) ≡ is_code byte.opening t
   pub closes : has_class t ≡ true → (first (skipped o s) == byte.closing) ≡ is_code byte.closing t
   pub lets : has_class t ≡ true → begins_let o (skipped o s) ≡ false
-  pub begs : has_class t ≡ true → (class_at o s == byte.upper_b && spelled_behind o (ahead o (skipped o s)).1 byte.upper_e byte.upper_g) ≡ is_beg t behind
+  pub begs : has_class t ≡ true → (class_at o s == byte.upper_b && spelled_after o (ahead o (skipped o s)).1 byte.upper_e byte.upper_g) ≡ is_beg t behind
   pub name : ShowsName o t s rest
   pub hex : ShowsHex o t s
   pub line : ShowsLine o t s

@@ -11,7 +11,7 @@ use b2_base::lexical::{
     is_printable, upper,
 };
 
-// How many bytes of a literal stand before its closing quote.
+/// How many bytes of a literal stand before its closing quote.
 fn until_quote(text: &[u8]) -> usize
     ensures count { result ≡ spec.until_quote text.now }
     ensures within { result ≤ length text.now }
@@ -28,7 +28,7 @@ fn until_quote(text: &[u8]) -> usize
     count
 }
 
-// How many bytes of an image stand before its closing parenthesis.
+/// How many bytes of an image stand before its closing parenthesis.
 fn until_parenthesis(origin: Origin, text: &[u8]) -> usize
     ensures count { result ≡ spec.until_parenthesis origin text.now }
     ensures within { result ≤ length text.now }
@@ -46,7 +46,7 @@ fn until_parenthesis(origin: Origin, text: &[u8]) -> usize
     count
 }
 
-// How many bytes spell the digits and the point of a number, or 0.
+/// How many bytes spell the digits and the point of a number, or 0.
 fn mantissa_width(text: &[u8]) -> usize
     ensures count { result ≡ spec.mantissa_width text.now }
     ensures bound { result ≤ length text.now + 1 }
@@ -63,7 +63,7 @@ fn mantissa_width(text: &[u8]) -> usize
     }
 }
 
-// How many bytes at a text spell an exponent, or 0.
+/// How many bytes at a text spell an exponent, or 0.
 fn exponent_width(origin: Origin, text: &[u8]) -> usize
     ensures count { result ≡ spec.exponent_width origin text.now }
     ensures short { result ≤ 4 }
@@ -113,7 +113,7 @@ fn signed_number_width(origin: Origin, text: &[u8]) -> usize
     }
 }
 
-// How many bytes spell a name without its `$`, or 0.
+/// How many bytes spell a name without its `$`, or 0.
 fn name_width(origin: Origin, text: &[u8]) -> usize
     ensures count { result ≡ spec.name_width origin text.now }
     ensures short { result ≤ 3 }
@@ -203,7 +203,7 @@ fn literal_width(text: &[u8]) -> usize
     }
 }
 
-// Whether a hexadecimal digit stands at a place of a text.
+/// Whether a hexadecimal digit stands at a place of a text.
 fn is_hex_at(origin: Origin, text: &[u8], place: usize) -> bool
     ensures { result ≡ spec.is_hex_at origin text.now place }
 {
@@ -343,7 +343,7 @@ pub fn missing(origin: Origin, leaf: Leaf, code: u8, text: &[u8]) -> Stop
     }
 }
 
-// Where a quote opens, its literal is empty or isn't closed.
+/// Where a quote opens, its literal is empty or isn't closed.
 fn missing_literal(origin: Origin, code: u8, text: &[u8]) -> Stop
     ensures { result ≡ spec.missing_literal origin code text.now }
 {

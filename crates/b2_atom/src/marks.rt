@@ -11,7 +11,7 @@ use crate::words::{LINE_MARK, Origin, ahead, is_source, skipped};
 use b2_base::codes;
 use b2_base::lexical::{all_printable, at, digits_width, dropped, front, is_decimal};
 
-// Reads a word or a sign.
+/// Reads a word or a sign.
 #[tactic(auto, unfolding(crate::specs::Grammar::mark))]
 fn mark<'a>(
     out: &mut Sink,
@@ -23,15 +23,15 @@ fn mark<'a>(
     ensures { Takes (seen_sink out.old) (spec.mark origin wanted code text.now) (seen_sink out.new) result }
 {
     let here = skipped(origin, text);
-    let (class, behind) = ahead(origin, here);
+    let (class, after) = ahead(origin, here);
     if class != wanted {
         return Err(refused(origin, code, here));
     }
     put_code(out, wanted)?;
-    Ok(behind)
+    Ok(after)
 }
 
-// Reads one of the words from the first to the second.
+/// Reads one of the words from the first to the second.
 #[tactic(auto, unfolding(crate::specs::Grammar::among))]
 fn among<'a>(
     out: &mut Sink,
@@ -44,15 +44,15 @@ fn among<'a>(
     ensures { Takes (seen_sink out.old) (spec.among origin low high code text.now) (seen_sink out.new) result }
 {
     let here = skipped(origin, text);
-    let (class, behind) = ahead(origin, here);
+    let (class, after) = ahead(origin, here);
     if class < low || class > high {
         return Err(refused(origin, code, here));
     }
     put_code(out, class)?;
-    Ok(behind)
+    Ok(after)
 }
 
-// Reads a word that an immediate line may not have.
+/// Reads a word that an immediate line may not have.
 #[tactic(auto, unfolding(crate::specs::Grammar::program_word))]
 fn program_word<'a>(
     out: &mut Sink,
@@ -63,7 +63,7 @@ fn program_word<'a>(
     ensures { Takes (seen_sink out.old) (spec.program_word origin wanted text.now) (seen_sink out.new) result }
 {
     let here = skipped(origin, text);
-    let (class, behind) = ahead(origin, here);
+    let (class, after) = ahead(origin, here);
     if class != wanted {
         return Err(refused(origin, codes::S22_WORD, here));
     }
@@ -71,19 +71,19 @@ fn program_word<'a>(
         return Err(Stop::At(codes::S26_PROGRAM_ONLY, here.len()));
     }
     put_code(out, wanted)?;
-    Ok(behind)
+    Ok(after)
 }
 
-// Reads a comma, which a source may leave out.
+/// Reads a comma, which a source may leave out.
 #[tactic(auto, unfolding(crate::specs::Grammar::optional_comma))]
 fn optional_comma<'a>(out: &mut Sink, origin: Origin, text: &'a [u8]) -> Result<&'a [u8], Stop>
     ensures { Takes (seen_sink out.old) (spec.optional_comma origin text.now) (seen_sink out.new) result }
 {
     let here = skipped(origin, text);
-    let (class, behind) = ahead(origin, here);
+    let (class, after) = ahead(origin, here);
     if class == b',' {
         put_code(out, b',')?;
-        return Ok(behind);
+        return Ok(after);
     }
     if !is_source(origin) {
         return Err(refused(origin, codes::S13_SEPARATOR, here));
@@ -92,20 +92,20 @@ fn optional_comma<'a>(out: &mut Sink, origin: Origin, text: &'a [u8]) -> Result<
     Ok(text)
 }
 
-// Skips a word that isn't kept.
+/// Skips a word that isn't kept.
 #[tactic(auto, unfolding(crate::specs::Grammar::ignored))]
 fn ignored(origin: Origin, word: u8, text: &[u8]) -> &[u8]
     ensures { spec.ignored origin word text.now ≡ Ok (Done, result.now) }
 {
-    let (class, behind) = ahead(origin, skipped(origin, text));
+    let (class, after) = ahead(origin, skipped(origin, text));
     if is_source(origin) && class == word {
-        behind
+        after
     } else {
         text
     }
 }
 
-// A digit of a line number, which is right aligned in four.
+/// A digit of a line number, which is right aligned in four.
 fn line_digit(text: &[u8], count: usize, place: usize) -> u8
     requires few { count ≤ 4 }
     requires inside { place < 4 }
@@ -118,7 +118,7 @@ fn line_digit(text: &[u8], count: usize, place: usize) -> u8
     }
 }
 
-// Two digits of a line number in a byte.
+/// Two digits of a line number in a byte.
 fn two_digits(text: &[u8], count: usize, place: usize) -> u8
     requires few { count ≤ 4 }
     requires inside { place < 3 }
@@ -129,7 +129,7 @@ fn two_digits(text: &[u8], count: usize, place: usize) -> u8
     high * 16 + low
 }
 
-// Reads a line number that was typed.
+/// Reads a line number that was typed.
 fn typed_line_number<'a>(
     out: &mut Sink,
     origin: Origin,
@@ -146,7 +146,7 @@ fn typed_line_number<'a>(
     Ok(dropped(text, count))
 }
 
-// Reads a line number from atoms.
+/// Reads a line number from atoms.
 fn atoms_line_number<'a>(out: &mut Sink, code: u8, text: &'a [u8]) -> Result<&'a [u8], Stop>
     ensures { Takes (seen_sink out.old) (spec.atoms_line_number code text.now) (seen_sink out.new) result }
 {
@@ -160,7 +160,7 @@ fn atoms_line_number<'a>(out: &mut Sink, code: u8, text: &'a [u8]) -> Result<&'a
     Ok(rest)
 }
 
-// Reads a line number.
+/// Reads a line number.
 fn line_number<'a>(
     out: &mut Sink,
     origin: Origin,
@@ -175,7 +175,7 @@ fn line_number<'a>(
     }
 }
 
-// Reads everything to the line's end.
+/// Reads everything to the line's end.
 fn text_to_end<'a>(out: &mut Sink, code: u8, text: &'a [u8]) -> Result<&'a [u8], Stop>
     ensures { Takes (seen_sink out.old) (spec.text_to_end code text.now) (seen_sink out.new) result }
 {
@@ -188,7 +188,7 @@ fn text_to_end<'a>(out: &mut Sink, code: u8, text: &'a [u8]) -> Result<&'a [u8],
     Ok(&[])
 }
 
-// Reads a leaf by its width.
+/// Reads a leaf by its width.
 fn plain<'a>(
     out: &mut Sink,
     origin: Origin,
@@ -206,7 +206,7 @@ fn plain<'a>(
     Ok(dropped(text, width))
 }
 
-// Reads what is typed by hand.
+/// Reads what is typed by hand.
 #[tactic(auto, unfolding(crate::specs::Grammar::read_leaf))]
 fn read_leaf<'a>(
     out: &mut Sink,
@@ -224,7 +224,7 @@ fn read_leaf<'a>(
     }
 }
 
-// Reads the line's end.
+/// Reads the line's end.
 #[tactic(auto, unfolding(crate::specs::Grammar::end_of_line))]
 fn end_of_line<'a>(out: &mut Sink, origin: Origin, text: &'a [u8]) -> Result<&'a [u8], Stop>
     ensures { Takes (seen_sink out.old) (spec.end_of_line origin text.now) (seen_sink out.new) result }
@@ -237,7 +237,7 @@ fn end_of_line<'a>(out: &mut Sink, origin: Origin, text: &'a [u8]) -> Result<&'a
     }
 }
 
-// Reads an item that stands for itself.
+/// Reads an item that stands for itself.
 pub fn read_item<'a>(
     out: &mut Sink,
     origin: Origin,

@@ -20,7 +20,7 @@ pub struct Source {
     pub operand: bool,
 }
 
-/// Where what is read goes to: nowhere; as atoms behind the bytes that are there; or as the canonical source.
+/// Where what is read goes to: nowhere; as atoms after the bytes that are there; or as the canonical source.
 #[derive(Drop)]
 pub enum Sink {
     Silent,
@@ -28,7 +28,7 @@ pub enum Sink {
     Listed(Source),
 }
 
-/// Why a reading ends early: a code and how many bytes are left there, too many parentheses, or want of memory.
+/// Why a reading ends early: a code and how many bytes are left there, too many parentheses, or that memory fails.
 #[derive(Clone, Copy, Debug, PartialEq, Eq)]
 pub enum Stop {
     At(u8, usize),
@@ -58,7 +58,7 @@ impl<T: Drop> From<AllocFailed<T>> for Stop {
     }
 }
 
-// Appends bytes as they are kept.
+/// Appends bytes as they are kept.
 fn push_kept(out: &mut Vec<u8>, origin: Origin, leaf: Leaf, bytes: &[u8]) -> Result<(), Stop>
     ensures ok { OnOk result (out.new.items ≡ out.old.items ++ kept_text origin leaf bytes.now) }
     ensures err { IfErr result (λ e. e ≡ Stop.NoMemory) }
@@ -82,7 +82,7 @@ fn push_upper(out: &mut Vec<u8>, origin: Origin, bytes: &[u8]) -> Result<(), Sto
     Ok(())
 }
 
-// The first byte of what is typed by hand, as it is kept; 0 where there is none.
+/// The first byte of what is typed by hand, as it is kept; 0 where there is none.
 fn first_kept(origin: Origin, leaf: Leaf, bytes: &[u8]) -> u8
     ensures { result ≡ lexical.first (kept_text origin leaf bytes.now) }
 {
@@ -101,7 +101,7 @@ fn first_upper(origin: Origin, bytes: &[u8]) -> u8
     }
 }
 
-// Appends a blank, where one stands before a token.
+/// Appends a blank, where one stands before a token.
 fn push_gap(source: &mut Source, is_apart: bool) -> Result<(), Stop>
     ensures bytes { OnOk result (source.new.bytes.items ≡ source.old.bytes.items ++ maybe_spaced is_apart []) }
     ensures wordy { source.new.wordy ≡ source.old.wordy }
@@ -138,7 +138,7 @@ fn ends_wordy(code: u8) -> bool
     code >= REM && code != REM && is_letter(last(word_text(code)))
 }
 
-// Appends a word or a sign to a source.
+/// Appends a word or a sign to a source.
 fn list_code(source: &mut Source, code: u8) -> Result<(), Stop>
     ensures { Puts (seen_sink (Sink.Listed source.old)) (Coded code) (seen_sink (Sink.Listed source.new)) result }
 {
@@ -154,14 +154,14 @@ fn list_code(source: &mut Source, code: u8) -> Result<(), Stop>
     Ok(())
 }
 
-// Whether a blank stands before what is typed by hand.
+/// Whether a blank stands before what is typed by hand.
 fn is_text_apart(source: &Source, origin: Origin, leaf: Leaf, bytes: &[u8]) -> bool
     ensures { result ≡ tokens.is_apart source.now.wordy source.now.operand (Plain leaf (kept_text origin leaf bytes.now)) }
 {
     source.wordy && !is_closing(first_kept(origin, leaf, bytes))
 }
 
-// Appends what is typed by hand to a source.
+/// Appends what is typed by hand to a source.
 fn list_text(source: &mut Source, origin: Origin, leaf: Leaf, bytes: &[u8]) -> Result<(), Stop>
     ensures { Puts (seen_sink (Sink.Listed source.old)) (Plain leaf (kept_text origin leaf bytes.now)) (seen_sink (Sink.Listed source.new)) result }
 {
@@ -173,7 +173,7 @@ fn list_text(source: &mut Source, origin: Origin, leaf: Leaf, bytes: &[u8]) -> R
     Ok(())
 }
 
-// Appends a line number to a source.
+/// Appends a line number to a source.
 fn list_line(source: &mut Source, high: u8, low: u8) -> Result<(), Stop>
     ensures { Puts (seen_sink (Sink.Listed source.old)) (Lined high low) (seen_sink (Sink.Listed source.new)) result }
 {

@@ -19,7 +19,7 @@ pub const DEPTH: u8 = 32;
 /// How many parts may stand in one another between two parentheses; no form has as many.
 pub const LEVELS: u8 = 40;
 
-// A row of a table, or an empty one.
+/// A row of a table, or an empty one.
 fn row_in(table: &'static [&'static [Item]], place: usize) -> &'static [Item]
     ensures { result.now ≡ get_or (map (λ r. r.now) table.now) place [] }
 {
@@ -29,7 +29,7 @@ fn row_in(table: &'static [&'static [Item]], place: usize) -> &'static [Item]
     }
 }
 
-// A row.
+/// A row.
 #[tactic(auto, unfolding(crate::specs::Grammar::row_items))]
 fn row_items(number: u16) -> &'static [Item]
     ensures { result.now ≡ spec.row_items number }
@@ -47,7 +47,7 @@ fn row_items(number: u16) -> &'static [Item]
     }
 }
 
-// Reads an item.
+/// Reads an item.
 #[cycle(walk)]
 fn take_item<'a>(
     out: &mut Sink,
@@ -98,7 +98,7 @@ fn take_item<'a>(
     }
 }
 
-// Reads a part as often as it begins.
+/// Reads a part as often as it begins.
 #[cycle(walk)]
 fn many<'a>(
     out: &mut Sink,
@@ -127,7 +127,7 @@ fn many<'a>(
     Ok(left)
 }
 
-// Reads a part.
+/// Reads a part.
 #[cycle(walk)]
 fn part<'a>(
     out: &mut Sink,
@@ -154,7 +154,7 @@ fn part<'a>(
     Ok(left)
 }
 
-// Reads a statement, with the statements that follow it behind THEN, ELSE or ERROR.
+/// Reads a statement, with the statements that follow it after THEN, ELSE or ERROR.
 #[cycle(walk)]
 pub fn statement<'a>(
     out: &mut Sink,

@@ -1,4 +1,4 @@
--- One reading after another, and what a sink holds behind it.
+-- One reading after another, and what a sink holds after it.
 use Rattle.std.proofs.Common.{◌≡◌, ℕ, zero, suc, ◌+◌, ◌-◌, ◌<◌, List, [], ◌∷◌, ◌++◌, length, refl, sym, ap, ◌∙◌, arith, Bor, Result, Ok, Err, true, false, Bool, if◌then◌else◌, ◌≤◌, is_ok, append_assoc, append-nil, ◌&&◌, nat_le}
 use Rattle.b2_atom.specs.Words.{Text}
 use Rattle.b2_atom.specs.Tokens.{Token, token_atoms, listed, ending, ends_wordy, is_operand, is_apart, maybe_spaced, spelled}
@@ -147,7 +147,7 @@ pub statement_err : (o : Origin) (f : ℕ) (p : Place) (old : Seen) (t : Text) (
 statement_err o f p old t e h is =
     statement_more o f p old t h ∙ ap (λ (r : Result (ℕ × Text) Stop). emitted old (chosen r (part o (f - 1) 32 40))) is
 
--- what is left behind a reading, as its sink tells
+-- what is left after a reading, as its sink tells
 pub rest_ok : (s n : Seen) (o : Outcome) (r : Text) → emitted s o ≡ Ok (n, r) → rest_of o ≡ r
 rest_ok s n (Err e) r is = cc
 rest_ok s n (Ok p) r is =
@@ -165,7 +165,7 @@ pub reads_err : (s : Seen) (o : Outcome) (e : Stop) → emitted s o ≡ Err e �
 reads_err s (Err f) e is = refl
 reads_err s (Ok p) e is = cc
 
--- the atoms behind bytes
+-- the atoms after bytes
 pub put_all-written : (bs : Text) (t : Trees) → put_all (Written bs) t ≡ Written (bs ++ atoms t)
 put_all-written bs Done = ap Written (sym (append-nil bs))
 put_all-written bs (Put t ts) =
@@ -184,7 +184,7 @@ pub held_none : (s : Seen) (o : Outcome) (e : Stop) → emitted s o ≡ Err e �
 held_none s (Err f) e is = let same : f ≡ e = cc in ap Err same
 held_none s (Ok p) e is = cc
 
--- the source behind another
+-- the source after another
 pub ending-append : (f : Token → Bool) (before : Bool) (xs ys : List Token) → ending f before (xs ++ ys) ≡ ending f (ending f before xs) ys
 ending-append f before [] ys = refl
 ending-append f before (x ∷ xs) ys = ending-append f (f x) xs ys

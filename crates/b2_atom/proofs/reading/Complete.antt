@@ -108,7 +108,7 @@ token_runs st dp p o (Many x n) t ts s h spelled = cc
 token_runs st dp p o (Nest n) t ts s h spelled = cc
 token_runs st dp p o (Statement x) t ts s h spelled = cc
 
--- the items of a row, where so many parentheses, levels and statements may still be in it
+-- the items of a row, where `room` parentheses, l levels and f statements may still be in it
 abbrev pub reads_row : Origin → ℕ → ℕ → ℕ → List Item → Parser Text
 reads_row o room l f is =
     items (statement (reader o) f) (deep (reader o) (statement (reader o) f) room) (level (reader o) (statement (reader o) f) (deep (reader o) (statement (reader o) f) room) l) (reader o) is
@@ -117,7 +117,7 @@ abbrev pub reads_item : Origin → ℕ → ℕ → ℕ → Item → Parser Text
 reads_item o room l f i =
     item (statement (reader o) f) (deep (reader o) (statement (reader o) f) room) (level (reader o) (statement (reader o) f) (deep (reader o) (statement (reader o) f) room) l) (reader o) i
 
--- a statement's word or sign counts where fuel is needed for the statements behind it
+-- a statement's word or sign counts where fuel is needed for the statements after it
 abbrev pub lead : List Item → ℕ
 lead [] = 0
 lead (i ∷ is) = if is_mark_item i then 1 else 0
@@ -134,7 +134,7 @@ when_true : (b : Bool) (xs : List Tail) (ys : List Tail) (o : Origin) (more : Li
 when_true true xs ys o more h k = refused_left o xs ys more k
 when_true false xs ys o more h k = cc
 
--- what stands behind an item refuses what it must
+-- what follows an item refuses what it must
 pub behind : (o : Origin) (i : Item) (is : List Item) (xs more : List Token) → Led (of_items of is) xs more → refuse (of_item of i).tails (of_items of is).heads ≡ true
     → Refused o (of_items of (i ∷ is)).tails more → Refused o (of_item of i).tails (xs ++ more)
 behind o i is xs more (inl h) test refused =
@@ -214,7 +214,7 @@ less_in : (b : Bool) (a c n m f : ℕ) → b ≡ false → n ≡ a + c → n ≤
 less_in true a c n m f h is e = cc
 less_in false a c n m f h is e = omega (arith, e, is)
 
--- behind the items that give nothing
+-- after the items that give nothing
 ready_behind : (o : Origin) (room l f : ℕ) (i : Item) (is : List Item) (t : Trees) (more : List Token) → is_mark_item i ≡ false → (tests : settled of is ≡ true) → Ready o room l f (i ∷ is) t more → Ready o room l f is t more
 ready_behind o room l f i is t more unmarked tests r = record {
   settles = tests;
@@ -247,7 +247,7 @@ put_enough : (b : Bool) (n m f : ℕ) → suc n ≤ (if b then 1 else 0) + f →
 put_enough true n m f h = omega (arith, h)
 put_enough false n m f h = omega (arith, h)
 
--- what a token's item leaves to the items behind it
+-- what a token's item leaves to the items after it
 pub ready_put : (o : Origin) (room l f : ℕ) (i : Item) (is : List Item) (t : Token) (ts : Trees) (more : List Token) → settled of is ≡ true
     → Ready o room l f (i ∷ is) (Put t ts) more → Ready o room l f is ts more
 ready_put o room l f i is t ts more tests r = record {

@@ -124,7 +124,7 @@ typed_short best a y true l h = omega arith
 typed_short best a y false true h = some_word best.0 a y h
 typed_short best a y false false h = let one = joined_short (best.1 + 128) (drop best.0 (a ∷ y)) in let two = some_word best.0 a y h in omega arith
 
--- what stands behind something that is there is shorter
+-- what follows something that is there is shorter
 pub ahead_less : (o : Origin) (a : ℕ) (y : Text) → length (ahead o (a ∷ y)).1 ≤ length y
 ahead_less Program a y = typed_short (word_at (a ∷ y)) a y ((word_at (a ∷ y)).0 == 0) (nat_le word.CODED (word_at (a ∷ y)).1) refl
 ahead_less Immediate a y = typed_short (word_at (a ∷ y)) a y ((word_at (a ∷ y)).0 == 0) (nat_le word.CODED (word_at (a ∷ y)).1) refl
@@ -337,7 +337,7 @@ calm_small n h = small_of n (and_left (nat_lt n row.COUNT) (not (is_other_row n)
 calm_closed : (n : ℕ) → calm_row n ≡ true → calm_items (row_items n) ≡ true
 calm_closed n h = calm_or (calm_row n) (calm_items (row_items n)) (at_below (λ m. not (calm_row m) || calm_items (row_items m)) row.COUNT n rows_calm (calm_small n h)) h
 
--- a part in parentheses, where so many may still open
+-- a part in parentheses, where `room` may still open
 abbrev pub Nested : Origin → ℕ → ℕ → Trees → Type 0
 Nested o zero n t = ⊥
 Nested o (suc room) n t = Fits o room (row_items n) t

@@ -28,7 +28,7 @@ use Rattle.b2_atom.proofs.Booleans.{and_left, and_right, equal, both, or_one, or
 use Rattle.b2_atom.proofs.typed.Longest.{every}
 use Rattle.b2_atom.proofs.reading.Fitted.{no_remark, Good, Leads, tokens_also, append_remarks, calm_row, calm_part, calm_level, calm_deep, calm_item_good, calm_item, skipped_short, ahead_less, nothing_left, drop_short, same_code, le_both}
 
--- no remark, or nothing behind it
+-- no remark, or nothing after it
 pub record Ended (ts : List Token) (rest : Text) : Type 0 where
   pub remarks : RemarksEnd ts
   pub ended : (no_remark ts ≡ true) ⊎ (rest ≡ [])
@@ -159,7 +159,7 @@ mark_first : (o : Origin) (P R : Trees → Type 0) (c code : ℕ) (s : Text) (q 
 unfolding mark
 mark_first o P R c code s q some calm more h = mark_by o P R c code s q ((ahead o (skipped o s)).0 == c) refl some calm more h
 
--- the readers of a row: parentheses, and parts with so many levels in them
+-- the readers of a row: parentheses, and parts with l levels in them
 abbrev pub row_read : Origin → (Place → Parser Text) → ℕ → List Item → Parser Text
 row_read o stf l is = items stf (deep (reader o) stf 32) (level (reader o) stf (deep (reader o) stf 32) l) (reader o) is
 

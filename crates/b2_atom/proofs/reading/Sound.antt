@@ -219,7 +219,7 @@ takes_statement (suc f) x s =
 pub takes_line : (s : Text) → Takes s (read_line Atoms s)
 takes_line s = takes_level (statement (reader Atoms) (length s + 1)) _ (takes_statement (length s + 1)) (takes_deep (statement (reader Atoms) (length s + 1)) (takes_statement (length s + 1)) 32) 40 _ s
 
--- nothing is left behind a line
+-- nothing is left after a line
 abbrev pub Ends : Outcome → Type 0
 Ends (Ok p) = p.1 ≡ []
 Ends (Err e) = Unit {0}

@@ -10,7 +10,7 @@ use Rattle.b2_atom.proofs.typed.Widths.{get_front, get_none, drop_front, small_m
 use Rattle.b2_atom.proofs.typed.LeafFronts.{width_yes}
 use Rattle.b2_atom.proofs.typed.Characters.{image_parts, relation_most}
 
--- the same width without what stands behind
+-- the same width without what stands after
 no_digit_by : (b : Bool) (n : ℕ) → (if b then suc n else 0) ≡ 0 → b ≡ false
 no_digit_by true n h = cc
 no_digit_by false n h = refl
@@ -263,7 +263,7 @@ image_kept o a u =
     ap (λ (n : ℕ). if not (kept_byte o a == 32) && get_or (map (kept_byte o) (a ∷ u)) n 0 == 41 then n + 1 else 0) (until_kept o (a ∷ u))
     ∙ (λ i. if not (kept_fixed o a 32 refl i) && point_of o (a ∷ u) (until_parenthesis o (a ∷ u)) i then until_parenthesis o (a ∷ u) + 1 else 0)
 
--- the same widths without what stands behind, of the other kinds
+-- the same widths without what stands after, of the other kinds
 no_more : (n : ℕ) → one_more n ≡ 1 → ⊥
 no_more n h = grind (arith, nat_tests)
 

@@ -23,7 +23,7 @@ use Rattle.b2_atom.proofs.settled.Heads.{leads, led_known, covered_all}
 use Rattle.b2_atom.proofs.settled.Choice.{opens_statement, opening}
 use Rattle.b2_atom.proofs.settled.Pairs.{TwoTokens, Tells, front_last, Chain, Follows, chained}
 
--- behind a remark any token may stand here, since nothing does
+-- after a remark any token may stand here, since nothing does
 abbrev pub may_stand : TwoTokens
 may_stand t u = is_remark t || is_free_text t || may_follow t u
 
@@ -313,7 +313,7 @@ all_good : (t : Token) (ts : List Token) → good_token t ≡ true → Chain the
 all_good t [] h c = (h, tt)
 all_good t (u ∷ us) h c = (h, all_good u us c.0 c.1)
 
--- free text stands behind a remark alone
+-- free text stands after a remark alone
 unfree_mark : (u : Token) → is_word_or_sign u ≡ true → is_free_text u ≡ false
 unfree_mark (Coded c) h = refl
 unfree_mark (Plain leaf.Text w) h = cc

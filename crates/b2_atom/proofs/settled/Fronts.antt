@@ -151,8 +151,8 @@ surely start.CommaOrAlpha f false = alpha f false && sure ((44, 44) ∷ []) f fa
 surely start.PrintItem f true = numeric f true || (alpha f true || sure ((word.TAB_OPEN, word.HEXOF_OPEN) ∷ []) f true)
 surely start.PrintItem f false = numeric f false && (alpha f false && sure ((word.TAB_OPEN, word.HEXOF_OPEN) ∷ []) f false)
 
--- what must not be asked of what stands behind some items: a question of them; a statement ends only at `:` and the end;
--- or nothing may stand behind them
+-- what must not be asked of what follows some items: a question of them; a statement ends only at `:` and the end;
+-- or nothing may stand after them
 pub data Tail : Type 0 where
   Asked : Start → Tail
   Closed : Tail
@@ -171,7 +171,7 @@ refused_by (Asked s) f = surely s f false
 refused_by Closed f = is_none f || is_colon f
 refused_by Over f = is_none f
 
--- what is known of a row: the fronts of its trees, whether they may be empty, what must not stand behind them, how
+-- what is known of a row: the fronts of its trees, whether they may be empty, what must not stand after them, how
 -- deep their parts go, whether no statement stands in them, and what may be
 -- their last token
 pub record Known : Type 0 where
@@ -421,7 +421,7 @@ abbrev pub paired : Within → Beside → List Item → Bool
 paired r p [] = true
 paired r p (i ∷ is) = paired_item r p i is && (besides p (of_item of i).ends (next_heads is) && paired r p is)
 
--- whether a token of one front may stand before one of another, as far as the fronts tell; behind a remark anything may
+-- whether a token of one front may stand before one of another, as far as the fronts tell; after a remark anything may
 abbrev pub marks : Front → Bool
 marks (Spanned a b) = nat_lt b 65 || nat_lt 90 a
 marks (Hand leaf.Relation) = true
@@ -482,7 +482,7 @@ beside_leaf leaf.Relation g = unrelated g && (not_free g && not_image g)
 beside_leaf leaf.Text g = true
 beside_leaf k g = not_free g
 
--- words behind which any token but free text may stand
+-- words after which any token but free text may stand
 abbrev pub is_calm : ℕ → ℕ → Bool
 is_calm a b = nat_le 128 a && apart ((word.REM, word.REM) ∷ (word.DATA, word.DATA) ∷ (word.PRINT, word.PRINT) ∷ []) (a, b)
 
@@ -517,7 +517,7 @@ abbrev pub not_close : Front → Bool
 not_close (Spanned a b) = nat_lt b 41 || nat_lt 41 a
 not_close f = true
 
--- what stands behind a `(` of an expression: no `)`, and nothing of an alpha expression
+-- what follows a `(` of an expression: no `)`, and nothing of an alpha expression
 abbrev pub number_front : Front → Bool
 number_front f = alpha f false && (class_front f && not_close f)
 

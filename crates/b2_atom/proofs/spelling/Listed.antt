@@ -1,4 +1,4 @@
--- The canonical source: what stands behind a token there, and that it makes no other word of DATA and PRINT.
+-- The canonical source: what follows a token there, and that it makes no other word of DATA and PRINT.
 use Rattle.std.proofs.Common.{◌≡◌, ℕ, ◌+◌, ◌-◌, ◌<◌, Bool, true, false, not, ◌==◌, ◌||◌, ◌&&◌, List, [], ◌∷◌, ◌++◌, length, get_or, refl, sym, ap, subst, ◌∙◌, arith}
 use Rattle.std.proofs.lemmas.Bool.Decides.{nat_tests}
 use Rattle.b2_base.specs.Lexical.{first, is_decimal, is_digit, is_letter, upper}
@@ -173,7 +173,7 @@ apart_by wordy operand (Lined high low) x false is g =
 pub listed_first : (wordy operand : Bool) (u : Token) (us : List Token) → good_token u ≡ true → FirstOf operand u (first (listed wordy operand (u ∷ us)))
 listed_first wordy operand u us g = apart_by wordy operand u (listed (ends_wordy u) (is_operand u) us) (is_apart wordy operand u) refl g
 
--- what is listed behind a token
+-- what is listed after a token
 unfoldable pub source_behind : Token → List Token → Text
 source_behind t ts = listed (ends_wordy t) (is_operand t) ts
 

@@ -1,4 +1,4 @@
--- Tokens that may stand side by side don't run on into each other: what the first byte behind a token is.
+-- Tokens that may stand side by side don't run on into each other: what the first byte after a token is.
 use Rattle.std.proofs.Common.{◌≡◌, ℕ, suc, Bool, true, false, not, ◌==◌, ◌||◌, ◌&&◌, List, [], ◌∷◌, length, refl, ap, ◌∙◌, arith, nat_lt}
 use Rattle.std.proofs.lemmas.Bool.Decides.{nat_tests}
 use Rattle.b2_base.specs.Lexical.{first, is_digit, is_letter, upper}
@@ -47,7 +47,7 @@ abbrev pub is_lined : Token → Bool
 is_lined (Lined high low) = true
 is_lined t = false
 
--- what the first byte is where a token stands, behind an operand or another token
+-- what the first byte is where a token stands, after an operand or another token
 pub record FirstOf (operand : Bool) (u : Token) (n : ℕ) : Type 0 where
   pub mark : (is_word_or_sign u || is_literal u) ≡ true → operand ≡ true → quiet n ≡ true
   pub dollar : is_word_or_sign u ≡ true → is_dollar u ≡ false → (n == 36) ≡ false
@@ -187,7 +187,7 @@ ends_at_end leaf.Slot = refl
 ends_at_end leaf.Relation = refl
 ends_at_end k = refl
 
--- how tokens are shown behind a token, in a source or among atoms
+-- how tokens are shown after a token, in a source or among atoms
 pub record Showing (o : Origin) (shown : Token → List Token → Text) : Type 0 where
   pub empty : (t : Token) → shown t [] ≡ []
   pub first_is : (t u : Token) (us : List Token) → good_token u ≡ true → FirstOf (is_operand t) u (first (shown t (u ∷ us)))

@@ -44,7 +44,7 @@ skip_spaced o s apart [] y h some = absurd (omega arith)
 skip_spaced o s true (a ∷ v) y h some = skip_blank o s (a ∷ (v ++ y)) ∙ skip_sure o s a (v ++ y) h
 skip_spaced o s false (a ∷ v) y h some = skip_sure o s a (v ++ y) h
 
--- what may stand behind a word that ends in a letter
+-- what may follow a word that ends in a letter
 abbrev closing : ℕ → Bool
 closing b = b == 58 || b == 44 || b == 59 || b == 41 || b == 61 || b == 47
 
@@ -182,7 +182,7 @@ absent v d (Coded c) us f all n t other g nb = coded_absent v d c (source_behind
 absent v d (Plain k w) us f all n t other g nb = plain_absent v k w (source_behind (Plain k w) us) f n t g.0 (leaf_ends Program source_behind (source_shown Program) k w us g.1 nb)
 absent v d (Lined high low) us f all n t other g nb = line_absent v (spelled (Lined high low)) (source_behind (Lined high low) us) f (line_of high low g.0)
 
--- DATA and PRINT make no other word with what is listed behind them
+-- DATA and PRINT make no other word with what is listed after them
 join_cases : (a b s l u : Bool) → (a ≡ true → s ≡ false) → (a ≡ true → l ≡ false) → (b ≡ true → u ≡ false) → (a && s || (a && l || b && u)) ≡ false
 join_cases true true s l u hs hl hu = rw (hs refl) (rw (hl refl) (hu refl))
 join_cases true false s l u hs hl hu = rw (hs refl) (rw (hl refl) refl)
@@ -201,7 +201,7 @@ behind_data c u is h = ap (λ (n : ℕ). may_follow_code n u) (sym (equal c word
 behind_print : (c : ℕ) (u : Token) → (c == word.PRINT) ≡ true → may_follow_code c u ≡ true → (not (is_free_text u) && not (is_image u)) ≡ true
 behind_print c u is h = ap (λ (n : ℕ). may_follow_code n u) (sym (equal c word.PRINT is)) ∙ h
 
--- a text behind a word: what is listed there begins with a token
+-- a text after a word: what is listed there begins with a token
 pub next_shown : (t u : Token) (us : List Token) → is_free_text u ≡ false → good_token u ≡ true → skip_blanks (source_behind t (u ∷ us)) ≡ spelled u ++ source_behind u us
 unfolding source_behind
 next_shown t u us n g =
@@ -366,7 +366,7 @@ line_source o s apart high low ts g gs nb =
     (longer (spelled (Lined high low)) (source_behind (Lined high low) ts) f.some)
     (shown_line o s (spelled (Lined high low)) (source_behind (Lined high low) ts) sh)
 
--- free text stands behind REM and `%`, which no blank follows
+-- free text stands after REM and `%`, which no blank follows
 abbrev pub FreeFirst : Bool → Bool → List Token → Type 0
 FreeFirst wordy operand [] = Unit {0}
 FreeFirst wordy operand (u ∷ us) = is_free_text u ≡ true → (wordy ≡ false) × (operand ≡ false)

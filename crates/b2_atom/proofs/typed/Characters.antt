@@ -1,4 +1,4 @@
--- Hexadecimal digits, comparison signs, functions' names and images have their width, whatever stands behind them.
+-- Hexadecimal digits, comparison signs, functions' names and images have their width, whatever stands after them.
 use Rattle.std.proofs.Common.{◌≡◌, ℕ, suc, ◌+◌, ◌<◌, Bool, true, false, not, if◌then◌else◌, ◌==◌, ◌||◌, ◌&&◌, [], ◌∷◌, ◌++◌, length, get_or, refl, ap, ◌∙◌, arith}
 use Rattle.std.proofs.lemmas.Bool.Decides.{nat_tests}
 use Rattle.b2_base.specs.Lexical.{first, is_digit, is_hex_digit, is_letter, upper}

@@ -1,4 +1,4 @@
--- Which texts don't begin with a given word: what stands behind DATA and PRINT, and LET before an assignment.
+-- Which texts don't begin with a given word: what follows DATA and PRINT, and LET before an assignment.
 use Rattle.std.proofs.Common.{◌≡◌, ℕ, ◌+◌, ◌-◌, Bool, true, false, ◌==◌, ◌||◌, ◌&&◌, [], ◌∷◌, ◌++◌, get_or, refl, ap, arith}
 use Rattle.std.specs.Prelude.{codes}
 use Rattle.std.proofs.lemmas.Bool.Decides.{nat_tests}

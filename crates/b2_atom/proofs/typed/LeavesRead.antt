@@ -19,7 +19,7 @@ use Rattle.b2_atom.proofs.typed.Widths.{ends_number, number_more, signed_number_
 use Rattle.b2_atom.proofs.typed.Names.{numeric_shape, numeric_read, local_shape, alpha_shape, alpha_read}
 use Rattle.b2_atom.proofs.typed.Characters.{hex_digit_more, hex_pair_more, address_more, function_name_more, function_of, is_function_name, ends_relation, relation_more, image_more}
 
--- a byte behind the name of a number: no digit, no `$`, no letter
+-- a byte after the name of a number: no digit, no `$`, no letter
 abbrev pub ends_name : ℕ → Bool
 ends_name n = not (is_digit n || (n == 36 || is_letter (upper n)))
 
@@ -44,7 +44,7 @@ name_letter n h = grind (arith, nat_tests)
 pub name_dollar : (n : ℕ) → ends_name n ≡ true → (n == 36) ≡ false
 name_dollar n h = grind (arith, nat_tests)
 
--- before the end of what stands there, `$` and what stands behind it
+-- before the end of what stands there, `$` and what follows it
 pub dollar_before : (a : ℕ) (w : Text) (h : ℕ) (r x : Text) → a ∷ w ≡ h ∷ (r ++ 36 ∷ []) → a ∷ (w ++ x) ≡ h ∷ (r ++ 36 ∷ x)
 dollar_before a w h r x is = ap (λ (l : Text). l ++ x) is ∙ append_assoc (h ∷ r) (36 ∷ []) x
 

@@ -1,4 +1,4 @@
--- Names, hexadecimal digits, comparison signs and images have their width, whatever stands behind them that doesn't run on.
+-- Names, hexadecimal digits, comparison signs and images have their width, whatever stands after them that doesn't run on.
 use Rattle.std.proofs.Common.{◌≡◌, ℕ, zero, suc, ◌+◌, Bool, true, false, if◌then◌else◌, ◌==◌, ◌&&◌, [], ◌∷◌, ◌++◌, length, get_or, drop, refl, sym, ap, ◌∙◌, arith, nat_lt, inl, inr, ◌⊎◌}
 use Rattle.std.proofs.lemmas.Bool.Decides.{nat_tests}
 use Rattle.b2_base.specs.Lexical.{first, is_digit, is_letter, upper}
@@ -41,7 +41,7 @@ digit_upper b h = grind (arith, nat_tests)
 no_both : (b : ℕ) → is_digit b ≡ true → is_letter b ≡ false
 no_both b h = grind (arith, nat_tests)
 
--- a letter and a digit or none, behind `@` or not
+-- a letter and a digit or none, after `@` or not
 abbrev pub NameShape : Text → Type 0
 NameShape [] = ⊥
 NameShape (a ∷ []) = is_letter a ≡ true
@@ -146,7 +146,7 @@ some_left n = grind (arith, nat_tests)
 behind_some : (n : ℕ) (b : Bool) → (nat_lt 0 (suc n) && b) ≡ b
 behind_some n b = rw (some_left n) refl
 
--- whether `$` stands behind a name
+-- whether `$` stands after a name
 pub alpha_by : (o : Origin) (t : Text) (n : ℕ) → name_width o t ≡ suc n → is_alpha_name o t ≡ (get_or t (suc n) 0 == 36)
 alpha_by o t n h = ap (λ (m : ℕ). nat_lt 0 m && get_or t m 0 == 36) h ∙ behind_some n (get_or t (suc n) 0 == 36)
 

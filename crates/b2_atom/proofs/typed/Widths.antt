@@ -1,4 +1,4 @@
--- What is typed by hand has its width, whatever stands behind it that doesn't run on: numbers, digits, literals, images.
+-- What is typed by hand has its width, whatever stands after it that doesn't run on: numbers, digits, literals, images.
 use Rattle.std.proofs.Common.{◌≡◌, ℕ, zero, suc, ◌+◌, ◌-◌, ◌*◌, ◌<◌, ◌≤◌, Bool, true, false, not, if◌then◌else◌, ◌==◌, ◌||◌, ◌&&◌, [], ◌∷◌, ◌++◌, length, drop, get_or, min, refl, sym, ap, ◌∙◌, arith, nat_le, nat_lt, length-drop, inl, inr, ◌⊎◌}
 use Rattle.std.proofs.lemmas.Bool.Decides.{nat_tests}
 use Rattle.b2_base.specs.Lexical.{capped_value, digits_width, first, is_digit, is_printable}
@@ -12,7 +12,7 @@ pub get_first : (x : Text) → get_or x 0 0 ≡ first x
 get_first [] = refl
 get_first (b ∷ x) = refl
 
--- a test of one byte, where it fails at the end and behind it
+-- a test of one byte, where it fails at the end and after it
 pub test_at : (p : ℕ → Bool) (w x : Text) (i : ℕ) → i ≤ length w → p 0 ≡ false → p (first x) ≡ false → p (get_or (w ++ x) i 0) ≡ p (get_or w i 0)
 test_at p [] x zero le at_end stop = ap p (get_first x) ∙ stop ∙ sym at_end
 test_at p [] x (suc i) le at_end stop = absurd (omega arith)
@@ -114,7 +114,7 @@ with_e : (a n m : ℕ) (b : Bool) → (a == 69) ≡ b → (if b then n else 0) �
 with_e a n m true is h = (equal a 69 is, h)
 with_e a n m false is h = cc
 
--- the first byte behind a number: no digit, no point, no E
+-- the first byte after a number: no digit, no point, no E
 abbrev pub ends_number : ℕ → Bool
 ends_number n = not (is_digit n || (n == 46 || (n == 69 || n == 101)))
 

@@ -32,7 +32,7 @@ code_less c h = grind (arith, nat_tests)
 pub code_again : (c : ℕ) → is_code c ≡ true → c - 128 + 128 ≡ c
 code_again c h = grind (arith, nat_tests)
 
--- the tests of the table behind a word
+-- the tests of the table after a word
 word_test : ℕ → List Text → ℕ → Bool
 word_test c ws i = Found (lengthens_word c) ws i
 
@@ -93,7 +93,7 @@ typed_word c x h stop single =
 typed_byte : (b : ℕ) (x : Text) → word_at (b ∷ x) ≡ (0, 0) → typed_ahead (b ∷ x) ≡ (upper b, x)
 typed_byte b x h = ap (λ (best : ℕ × ℕ). typed_by best (b ∷ x)) h
 
--- each word begins with a letter, `$`, `#` or `@`, and goes on with a letter; behind `@` with two
+-- each word begins with a letter, `$`, `#` or `@`, and goes on with a letter; after `@` with two
 abbrev pub begins_word : ℕ → Bool
 begins_word b = is_letter b || (b == 36 || (b == 35 || b == 64))
 
