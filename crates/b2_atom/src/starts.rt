@@ -9,8 +9,8 @@ use crate::rows;
 use crate::sink::Stop;
 use crate::table::FORMS;
 use crate::words::{
-    ABS_OPEN, BIN_OPEN, FN, HASH_TERM, HEX_OPEN, HEXOF_OPEN, LINE_MARK, Origin, STR_OPEN, TAB_OPEN, ahead,
-    begins_with, is_source, kept_byte, skipped,
+    ABS_OPEN, BIN_OPEN, FN, HASH_TERM, HEX_OPEN, HEXOF_OPEN, LINE_MARK, Origin, STR_OPEN, TAB_OPEN,
+    ahead, begins_with, is_source, kept_byte, skipped,
 };
 use b2_base::codes;
 use b2_base::lexical::{at, dropped, first, is_digit, is_hex_digit, is_letter};
