@@ -65,12 +65,7 @@ fn all_lie_in(layout: Layout, bytes: &[u8]) -> bool
 {
     let index = image::index(bytes);
     let next = image::next_free(layout, bytes);
-    for k in 1..16 * index {
-        if !lies_in(layout, index, next, image::row(bytes, k)) {
-            return false;
-        }
-    }
-    true
+    (1..16 * index).all(|k| lies_in(layout, index, next, image::row(bytes, k)))
 }
 
 // 5: each slot is spelled as its status wants.
@@ -79,12 +74,7 @@ fn all_spelled(layout: Layout, bytes: &[u8]) -> bool
     requires room { 256 * index_of bytes.now ≤ length bytes.now }
     ensures { result ≡ all_spelled layout bytes.now }
 {
-    for k in 1..16 * image::index(bytes) {
-        if !slot::is_spelled(layout, image::row(bytes, k)) {
-            return false;
-        }
-    }
-    true
+    (1..16 * image::index(bytes)).all(|k| slot::is_spelled(layout, image::row(bytes, k)))
 }
 
 // Two slots are not of two files with one name.
@@ -103,12 +93,7 @@ fn differs_from_later(bytes: &[u8], j: usize) -> bool
     ensures { result ≡ list_all (λ k. differ_in_name (row bytes.now j) (row bytes.now k)) (range_with_len (j + 1) (16 * index_of bytes.now - (j + 1))) }
 {
     let slot = image::row(bytes, j);
-    for k in j + 1..16 * image::index(bytes) {
-        if !differ_in_name(slot, image::row(bytes, k)) {
-            return false;
-        }
-    }
-    true
+    (j + 1..16 * image::index(bytes)).all(|k| differ_in_name(slot, image::row(bytes, k)))
 }
 
 // 6: no two files have one name.
@@ -140,12 +125,7 @@ pub fn has_free(bytes: &[u8], s: usize) -> bool
     requires { 256 * s + 256 ≤ length bytes.now }
     ensures { result ≡ has_free bytes.now s }
 {
-    for k in first_slot(s)..16 * s + 16 {
-        if slot::is_free(image::row(bytes, k)) {
-            return true;
-        }
-    }
-    false
+    (first_slot(s)..16 * s + 16).any(|k| slot::is_free(image::row(bytes, k)))
 }
 
 // Whether no sector before this one, from the first on, has a free slot.
@@ -199,12 +179,7 @@ fn all_reached(bytes: &[u8]) -> bool
     requires room { 256 * index_of bytes.now ≤ length bytes.now }
     ensures { result ≡ all_reached bytes.now }
 {
-    for k in 1..16 * image::index(bytes) {
-        if !is_reached(bytes, k) {
-            return false;
-        }
-    }
-    true
+    (1..16 * image::index(bytes)).all(|k| is_reached(bytes, k))
 }
 
 // Two slots are not of two files that share a sector.
@@ -226,12 +201,7 @@ fn lies_apart_from_later(layout: Layout, bytes: &[u8], j: usize) -> bool
     ensures { result ≡ list_all (λ k. lie_apart layout (row bytes.now j) (row bytes.now k)) (range_with_len (j + 1) (16 * index_of bytes.now - (j + 1))) }
 {
     let slot = image::row(bytes, j);
-    for k in j + 1..16 * image::index(bytes) {
-        if !lie_apart(layout, slot, image::row(bytes, k)) {
-            return false;
-        }
-    }
-    true
+    (j + 1..16 * image::index(bytes)).all(|k| lie_apart(layout, slot, image::row(bytes, k)))
 }
 
 // 8: no two files share a sector.

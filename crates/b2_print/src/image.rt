@@ -106,24 +106,16 @@ fn places_len(text: &[u8]) -> usize
     ensures len { result ≡ prefix_len spec.is_place text.now }
     ensures within { result ≤ length text.now }
 {
-    for (i, byte) in text.iter().enumerate() {
-        if *byte != b'#' && *byte != b',' {
-            return i;
-        }
-    }
-    text.len()
+    text.iter()
+        .take_while(|b| **b == b'#' || **b == b',')
+        .count()
 }
 
 /// How many `#` a text begins with.
 fn marks_len(text: &[u8]) -> usize
     ensures { result ≡ prefix_len spec.is_mark text.now }
 {
-    for (i, byte) in text.iter().enumerate() {
-        if *byte != b'#' {
-            return i;
-        }
-    }
-    text.len()
+    text.iter().take_while(|b| **b == b'#').count()
 }
 
 /// How many `#` stand behind a point that a text begins with.
