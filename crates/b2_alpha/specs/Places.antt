@@ -2,11 +2,11 @@
 use Rattle.std.specs.Prelude.{ℕ, zero, suc, ◌+◌, ◌*◌, ◌/◌, ◌%◌, ◌^◌, List, [], ◌∷◌, length}
 
 -- the number that digits of a base spell
-abbrev pub number_in : ℕ → List ℕ → ℕ
-number_in base [] = 0
-number_in base (x ∷ xs) = x * base ^ length xs + number_in base xs
+abbrev pub number_in_base : ℕ → List ℕ → ℕ
+number_in_base base [] = 0
+number_in_base base (x ∷ xs) = x * base ^ length xs + number_in_base base xs
 
--- a number in so many places of a base; what is above them is lost
-abbrev pub digits_in : ℕ → ℕ → ℕ → List ℕ
-digits_in base zero n = []
-digits_in base (suc k) n = n / base ^ k % base ∷ digits_in base k n
+-- a number in k places of a base; what is above them is lost
+abbrev pub digits_in_base : ℕ → ℕ → ℕ → List ℕ
+digits_in_base base zero n = []
+digits_in_base base (suc k) n = n / base ^ k % base ∷ digits_in_base base k n

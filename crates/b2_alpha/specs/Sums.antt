@@ -1,7 +1,7 @@
 -- Sums and differences of byte strings that end at the same place.
 use Rattle.std.specs.Prelude.{ℕ, ◌+◌, ◌-◌, ◌*◌, ◌/◌, ◌%◌, ◌^◌, Bool, ◌&&◌, nat_le, List, ◌++◌, length, map, drop, replicate}
 use Rattle.std.specs.List.{list_all}
-use Rattle.b2_alpha.specs.Places.{number_in, digits_in}
+use Rattle.b2_alpha.specs.Places.{number_in_base, digits_in_base}
 use Rattle.b2_alpha.specs.Values.{each_pair}
 
 -- an operand under a receiver of n bytes: zeros left of a shorter one, a longer one cut at the left
@@ -18,11 +18,11 @@ bytewise_difference xs ys = each_pair (λ x y. (256 + x - y) % 256) xs (aligned 
 -- Sum and difference of two numbers in as many places as the first has. Above them a carry is lost, and a difference
 -- below zero borrows from there.
 abbrev pub sum_in : ℕ → List ℕ → List ℕ → List ℕ
-sum_in base xs ys = digits_in base (length xs) (number_in base xs + number_in base ys)
+sum_in base xs ys = digits_in_base base (length xs) (number_in_base base xs + number_in_base base ys)
 
 abbrev pub difference_in : ℕ → List ℕ → List ℕ → List ℕ
 difference_in base xs ys =
-    digits_in base (length xs) (base ^ length xs + number_in base xs - number_in base ys)
+    digits_in_base base (length xs) (base ^ length xs + number_in_base base xs - number_in_base base ys)
 
 abbrev pub binary_sum : List ℕ → List ℕ → List ℕ
 binary_sum xs ys = sum_in 256 xs (aligned (length xs) ys)
@@ -42,7 +42,7 @@ nibbles_of d = d / 10 * 16 + d % 10
 
 -- the number that a string's decimal nibbles spell
 abbrev pub decimal_value : List ℕ → ℕ
-decimal_value xs = number_in 100 (map decimal_of xs)
+decimal_value xs = number_in_base 100 (map decimal_of xs)
 
 -- all nibbles that a decimal sum or difference uses are decimal digits
 abbrev pub are_decimal : List ℕ → List ℕ → Bool

@@ -2,7 +2,7 @@
 ghost use Rattle.std.specs.Prelude.{◌≡◌, ◌<◌, ◌≤◌, ◌+◌, ◌-◌, ◌*◌, ◌/◌, ◌%◌, ◌^◌, pos, negsuc, ◌≤ℤ◌, length, map};
 ghost use Rattle.std.specs.Int.{bit_at};
 ghost use Rattle.b2_alpha.specs.Bits.{byte_by, joined_by, turned, turned_whole, rotated};
-ghost use Rattle.b2_alpha.specs.Places.{number_in, digits_in};
+ghost use Rattle.b2_alpha.specs.Places.{number_in_base, digits_in_base};
 
 /// All ones where the digit has a 1 at the place, else all zeros.
 fn mask(digit: u8, place: u8) -> u8
@@ -36,7 +36,7 @@ pub fn bool_op(to: &mut [u8], from: &[u8], digit: u8)
 /// The bits that leave a string at the left when it is turned.
 fn high_bits(bytes: &[u8], left: u8) -> u32
     requires { left ≤ 8 }
-    ensures value { result ≡ number_in 256 bytes.now / 2 ^ (8 * length bytes.now - left) }
+    ensures value { result ≡ number_in_base 256 bytes.now / 2 ^ (8 * length bytes.now - left) }
     ensures small { result < 256 }
 {
     match bytes {
@@ -48,7 +48,7 @@ fn high_bits(bytes: &[u8], left: u8) -> u32
 /// The bits that leave it at the right.
 fn low_bits(bytes: &[u8], right: u8) -> u32
     requires { right ≤ 8 }
-    ensures value { result ≡ number_in 256 bytes.now % 2 ^ right }
+    ensures value { result ≡ number_in_base 256 bytes.now % 2 ^ right }
     ensures small { result < 2 ^ right }
 {
     match bytes {
@@ -61,7 +61,7 @@ fn low_bits(bytes: &[u8], right: u8) -> u32
 fn shift_left(to: &mut [u8], left: u8, incoming: u32)
     requires within { left ≤ 8 }
     requires small { incoming < 256 }
-    ensures { to.new ≡ digits_in 256 (length to.old) (number_in 256 to.old * 2 ^ left + incoming) }
+    ensures { to.new ≡ digits_in_base 256 (length to.old) (number_in_base 256 to.old * 2 ^ left + incoming) }
 {
     let mut carry = incoming;
     for i in 0..to.len() {
@@ -76,7 +76,7 @@ fn shift_left(to: &mut [u8], left: u8, incoming: u32)
 fn shift_right(to: &mut [u8], right: u8, incoming: u32)
     requires within { right ≤ 8 }
     requires small { incoming < 2 ^ right }
-    ensures { to.new ≡ digits_in 256 (length to.old) ((incoming * 256 ^ length to.old + number_in 256 to.old) / 2 ^ right) }
+    ensures { to.new ≡ digits_in_base 256 (length to.old) ((incoming * 256 ^ length to.old + number_in_base 256 to.old) / 2 ^ right) }
 {
     let unit = 1u32 << right;
     let mut carry = incoming;

@@ -1,6 +1,6 @@
 // Numbers in bytes, high byte first, and bytes in hexadecimal.
 ghost use Rattle.std.specs.Prelude.{◌≡◌, ◌+◌, ◌*◌, ◌^◌, ◌<◌, ◌≤◌, ◌↔◌, length, take, OnOk, OnErr, IfErr, IsErr, IsTrue, slice_index};
-ghost use Rattle.b2_alpha.specs.Places.{number_in, digits_in};
+ghost use Rattle.b2_alpha.specs.Places.{number_in_base, digits_in_base};
 ghost use Rattle.b2_base.specs.Lexical.{hex_pair, hex_value};
 
 use b2_base::Code;
@@ -12,7 +12,7 @@ pub fn val(a: &[u8], n: usize) -> u32
     requires one { 1 ≤ n }
     requires four { n ≤ 4 }
     requires there { n ≤ length a.now }
-    ensures { result ≡ number_in 256 (take n a.now) }
+    ensures { result ≡ number_in_base 256 (take n a.now) }
 {
     let mut value = 0;
     for b in &a[..n] {
@@ -34,8 +34,8 @@ fn fits(v: u64, n: usize) -> bool
 
 /// Puts a number into all bytes of `to`. P34 exactly where it doesn't fit, and then `to` is as before.
 pub fn bin(v: u64, to: &mut [u8]) -> Result<(), Code>
-    ensures ok { OnOk result (to.new ≡ digits_in 256 (length to.old) v) }
-    ensures read_back { OnOk result (number_in 256 to.new ≡ v) }
+    ensures ok { OnOk result (to.new ≡ digits_in_base 256 (length to.old) v) }
+    ensures read_back { OnOk result (number_in_base 256 to.new ≡ v) }
     ensures unfit { IsErr result ↔ (256 ^ length to.old ≤ v) }
     ensures code { IfErr result (λ code. code ≡ P34_RANGE) }
     ensures refused { OnErr result (to.new ≡ to.old) }

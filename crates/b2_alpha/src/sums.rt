@@ -1,7 +1,7 @@
 // Sums and differences of strings that end at the same place.
 ghost use Rattle.std.specs.Prelude.{◌≡◌, ◌+◌, ◌-◌, ◌%◌, ◌^◌, ◌<◌, length, true, nat_lt, slice_index, if◌then◌else◌, OnOk, OnErr, IfErr, is_ok};
 ghost use Rattle.std.specs.List.{list_all};
-ghost use Rattle.b2_alpha.specs.Places.{number_in};
+ghost use Rattle.b2_alpha.specs.Places.{number_in_base};
 ghost use Rattle.b2_alpha.specs.Sums.{bytewise_sum, bytewise_difference, binary_sum, binary_difference, has_decimal_nibbles, decimal_of, decimal_value, nibbles_of, are_decimal, decimal_sum, decimal_difference};
 
 use b2_base::Code;
@@ -63,7 +63,7 @@ fn sum_bytes(to: &mut [u8], from: &[u8], subtract: bool)
 /// Adds the operand with carries, both from the right. The last carry is lost.
 pub fn addc(to: &mut [u8], from: &[u8])
     ensures sum { to.new ≡ binary_sum to.old from.now }
-    ensures modular { number_in 256 to.new ≡ (number_in 256 to.old + number_in 256 from.now) % 256 ^ length to.old }
+    ensures modular { number_in_base 256 to.new ≡ (number_in_base 256 to.old + number_in_base 256 from.now) % 256 ^ length to.old }
 {
     sum_bytes(to, from, false);
 }
@@ -71,7 +71,7 @@ pub fn addc(to: &mut [u8], from: &[u8])
 /// Takes the operand away with borrows, both from the right. The last borrow is lost.
 pub fn subc(to: &mut [u8], from: &[u8])
     ensures difference { to.new ≡ binary_difference to.old from.now }
-    ensures modular { (number_in 256 to.new + number_in 256 from.now) % 256 ^ length to.old ≡ number_in 256 to.old % 256 ^ length to.old }
+    ensures modular { (number_in_base 256 to.new + number_in_base 256 from.now) % 256 ^ length to.old ≡ number_in_base 256 to.old % 256 ^ length to.old }
 {
     sum_bytes(to, from, true);
 }

@@ -60,8 +60,8 @@ floor_of x (pos d) = floored x d
 floor_of x (negsuc d) = floored (neg_ℤ x) (suc d)
 
 -- what is left of a number by another one: it has the sign of that one
-abbrev pub rest_of : Mode → Number → Number → Result Number ℕ
-rest_of mode a b =
+abbrev pub modulo_of : Mode → Number → Number → Result Number ℕ
+modulo_of mode a b =
     if b.coef == 0 then Err C62_ZERO_DIVISOR
     else rounded mode (value a -ℤ value b *ℤ floor_of (value a) (value b)) (10 ^ 111)
 

@@ -7,7 +7,7 @@ use Rattle.b2_base.specs.Byte as byte
 use Rattle.b2_base.specs.Lexical.{first}
 use Rattle.b2_print.specs.declared.image.Sign.{Sign}
 use Rattle.b2_print.specs.declared.image.Sign.TheVariants.{Unsigned, Always, Negative}
-use Rattle.b2_print.specs.Images.{Field, sign_bytes, dollar_bytes, point_bytes, point_width, field_bytes, width_of, is_hash, is_place, sign_of, after_sign, after_dollar, decimals_of, field_at, piece_of, width_after_first, pieces_after, pieces_of, spelled}
+use Rattle.b2_print.specs.Images.{Field, sign_bytes, dollar_bytes, point_bytes, point_width, field_bytes, width_of, is_hash, is_place, leading_sign, after_sign, after_dollar, decimals_of, field_at, piece_of, width_after_first, further_pieces, pieces_of, spelled}
 use Rattle.b2_print.proofs.ImageLemmas.{field-some, drop-first}
 
 -- a number of `#` and what follows them
@@ -22,7 +22,7 @@ hash_count-spelled (c ∷ cs) = by_first (hash_count-spelled cs) (c == 35) refl
         ap (λ k. replicate k 35 ++ drop k (c ∷ cs)) next ∙ ap (λ t. 35 ∷ t) more ∙ ap (λ b. b ∷ cs) (sym (eqb-true c 35 e))
     by_first more false e = refl
 
-sign-spelled : (text : List ℕ) → sign_bytes (sign_of text) ++ after_sign text ≡ text
+sign-spelled : (text : List ℕ) → sign_bytes (leading_sign text) ++ after_sign text ≡ text
 sign-spelled [] = refl
 sign-spelled (b ∷ bs) = by_tests (b == 43) refl (b == 45) refl
   where
@@ -94,7 +94,7 @@ pub field-spelled : (text : List ℕ) → IfSome (field_at text) (λ f. field_by
 unfolding field_at
 field-spelled text =
     let t1 = after_sign text in
-    places-spelled text t1 (after_dollar t1) (sign_of text) (first t1 == byte.dollar) (first (after_dollar t1) == byte.hash) (sign-spelled text) (dollar-spelled t1)
+    places-spelled text t1 (after_dollar t1) (leading_sign text) (first t1 == byte.dollar) (first (after_dollar t1) == byte.hash) (sign-spelled text) (dollar-spelled t1)
 
 piece-spelled : (b : ℕ) (bs : List ℕ) (o : Option Field) → field_at (b ∷ bs) ≡ o → spelled (piece_of b o) ++ drop (width_after_first o) bs ≡ b ∷ bs
 piece-spelled b bs None e = refl
@@ -103,14 +103,14 @@ piece-spelled b bs (Some f) e =
     let whole : field_bytes f ++ drop (width_of f) (b ∷ bs) ≡ b ∷ bs = rw e at (field-spelled (b ∷ bs)) in
     ap (λ t. field_bytes f ++ t) (sym (drop-first (width_of f) b bs some)) ∙ whole
 
-pieces_after-spelled : (text : List ℕ) (n : ℕ) → flat_map spelled (pieces_after n text) ≡ drop n text
-unfolding pieces_after
-pieces_after-spelled [] zero = refl
-pieces_after-spelled [] (suc n) = refl
-pieces_after-spelled (b ∷ bs) (suc n) = pieces_after-spelled bs n
-pieces_after-spelled (b ∷ bs) zero =
+further_pieces-spelled : (text : List ℕ) (n : ℕ) → flat_map spelled (further_pieces n text) ≡ drop n text
+unfolding further_pieces
+further_pieces-spelled [] zero = refl
+further_pieces-spelled [] (suc n) = refl
+further_pieces-spelled (b ∷ bs) (suc n) = further_pieces-spelled bs n
+further_pieces-spelled (b ∷ bs) zero =
     let o = field_at (b ∷ bs) in
-    ap (λ t. spelled (piece_of b o) ++ t) (pieces_after-spelled bs (width_after_first o)) ∙ piece-spelled b bs o refl
+    ap (λ t. spelled (piece_of b o) ++ t) (further_pieces-spelled bs (width_after_first o)) ∙ piece-spelled b bs o refl
 
 pub pieces_of-spelled : (image : List ℕ) → flat_map spelled (pieces_of image) ≡ image
-pieces_of-spelled image = pieces_after-spelled image 0
+pieces_of-spelled image = further_pieces-spelled image 0

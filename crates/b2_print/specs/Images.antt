@@ -39,12 +39,12 @@ abbrev pub is_place : ℕ → Bool
 is_place b = b == byte.hash || b == byte.comma
 
 -- the sign that a text begins with
-abbrev pub sign_of : List ℕ → Sign
-sign_of text = if first text == byte.plus then Always else (if first text == byte.minus then Negative else Unsigned)
+abbrev pub leading_sign : List ℕ → Sign
+leading_sign text = if first text == byte.plus then Always else (if first text == byte.minus then Negative else Unsigned)
 
 -- what follows it, and what follows a `$` there
 abbrev pub after_sign : List ℕ → List ℕ
-after_sign text = drop (length (sign_bytes (sign_of text))) text
+after_sign text = drop (length (sign_bytes (leading_sign text))) text
 
 abbrev pub after_dollar : List ℕ → List ℕ
 after_dollar text = drop (length (dollar_bytes (first text == byte.dollar))) text
@@ -63,7 +63,7 @@ with_places sign dollar text =
 
 unfoldable pub field_at : List ℕ → Option Field
 field_at text =
-    with_places (sign_of text) (first (after_sign text) == byte.dollar) (after_dollar (after_sign text))
+    with_places (leading_sign text) (first (after_sign text) == byte.dollar) (after_dollar (after_sign text))
 
 -- a piece of an image: a byte of its own, or a field
 pub data Piece : Type 0 where
@@ -80,10 +80,10 @@ width_after_first None = 0
 width_after_first (Some f) = width_of f - 1
 
 -- the pieces of what stands after the first n bytes, which belong to a piece that has begun
-unfoldable pub pieces_after : ℕ → List ℕ → List Piece
-pieces_after n [] = []
-pieces_after (suc n) (b ∷ bs) = pieces_after n bs
-pieces_after zero (b ∷ bs) = piece_of b (field_at (b ∷ bs)) ∷ pieces_after (width_after_first (field_at (b ∷ bs))) bs
+unfoldable pub further_pieces : ℕ → List ℕ → List Piece
+further_pieces n [] = []
+further_pieces (suc n) (b ∷ bs) = further_pieces n bs
+further_pieces zero (b ∷ bs) = piece_of b (field_at (b ∷ bs)) ∷ further_pieces (width_after_first (field_at (b ∷ bs))) bs
 
 -- the bytes that write a piece
 abbrev pub point_bytes : ℕ → List ℕ
@@ -99,7 +99,7 @@ spelled (field f) = field_bytes f
 
 -- the pieces of an image
 abbrev pub pieces_of : List ℕ → List Piece
-pieces_of image = pieces_after 0 image
+pieces_of image = further_pieces 0 image
 
 -- the fields among them
 abbrev pub fields : List Piece → List Field

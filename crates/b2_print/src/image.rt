@@ -82,7 +82,7 @@ impl Field<'_> {
 
 /// The sign that a text begins with, and what follows it.
 fn split_sign(text: &[u8]) -> (Sign, &[u8])
-    ensures sign { result.0 ≡ spec.sign_of text.now }
+    ensures sign { result.0 ≡ spec.leading_sign text.now }
     ensures rest { result.1.now ≡ spec.after_sign text.now }
 {
     match text {
