@@ -19,7 +19,7 @@ use Rattle.b2_atom.specs.declared.words.TheConstants as word
 use Rattle.b2_expr.specs.Value.{Surroundings, Answer, ◌>>=◌, inside, behind, branch, choose, value, not_built as left_out}
 use Rattle.b2_expr.specs.Walk.{left, expression_at}
 use Rattle.b2_machine.specs.Plan.{built_width, asked, printed_at, number_printed, ended, behind_items, further_items, print_items, width, plan_with}
-use Rattle.b2_machine.specs.Planned.{is_built_tree, where_tree_built, item_value, item_in, separator_in, further_in, ends_line, shown_in}
+use Rattle.b2_machine.specs.AskedByTree.{is_built_tree, where_tree_built, item_value, item_in, separator_in, further_in, ends_line, shown_in}
 use Rattle.b2_machine.specs.declared.request.Request.TheVariants as request
 use Rattle.b2_machine.specs.declared.statement.Printed.{Printed}
 use Rattle.b2_machine.specs.declared.statement.Printed.TheVariants as printed

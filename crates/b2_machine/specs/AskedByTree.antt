@@ -7,8 +7,9 @@ use Rattle.b2_dec.specs.declared.number.Mode.TheVariants.{Round, Cut}
 use Rattle.b2_print.specs.Layout.{layout}
 use Rattle.b2_print.specs.declared.layout.Item.{Item}
 use Rattle.b2_print.specs.declared.layout.Item.TheVariants as item
-use Rattle.b2_atom.specs.Words.{Text, first}
-use Rattle.b2_atom.specs.Leaves.{is_letter}
+use Rattle.b2_base.specs.Byte as byte
+use Rattle.b2_base.specs.Lexical.{first, is_letter}
+use Rattle.b2_atom.specs.Words.{Text}
 use Rattle.b2_atom.specs.Tokens.{Token}
 use Rattle.b2_atom.specs.Tokens.Token.{Coded, Plain, Lined}
 use Rattle.b2_atom.specs.Tree.{Trees}
@@ -22,22 +23,22 @@ use Rattle.b2_atom.specs.declared.forms.Leaf.TheVariants as leaf
 use Rattle.b2_atom.specs.declared.forms.Place.{Place}
 use Rattle.b2_atom.specs.declared.rows.TheConstants as row
 use Rattle.b2_expr.specs.Value.{Surroundings, Answer, ◌>>=◌, inside, behind, branch, leaf_text, choose, value, not_built as left_out}
-use Rattle.b2_machine.specs.Plan.{not_built, is_sign, line_of, asked, ended, width, plan}
+use Rattle.b2_machine.specs.Plan.{not_built, is_sign, line_number, asked, ended, width, plan}
 use Rattle.b2_machine.specs.declared.request.Request.{Request}
 use Rattle.b2_machine.specs.declared.request.Request.TheVariants as request
 
 -- a line number
-abbrev pub line_in : Trees → ℕ
-line_in Done = 0
-line_in (Put (Coded c) ts) = 0
-line_in (Put (Plain k text) ts) = 0
-line_in (Put (Lined high low) ts) = line_of high low
-line_in (In n part ts) = 0
+abbrev pub line_number_in : Trees → ℕ
+line_number_in Done = 0
+line_number_in (Put (Coded c) ts) = 0
+line_number_in (Put (Plain k text) ts) = 0
+line_number_in (Put (Lined high low) ts) = line_number high low
+line_number_in (In n part ts) = 0
 
 -- one or two of them, or none; one alone goes to a last line of its own
 abbrev pub lines_in : (ℕ → ℕ) → (ℕ → ℕ → Request) → Trees → Request
 lines_in last f t =
-    if branch (behind t) == 0 then f (line_in t) (last (line_in t)) else f (line_in t) (line_in (behind (inside (behind t))))
+    if branch (behind t) == 0 then f (line_number_in t) (last (line_number_in t)) else f (line_number_in t) (line_number_in (behind (inside (behind t))))
 
 abbrev pub range_in : (ℕ → ℕ) → (ℕ → ℕ → Request) → Trees → Request
 range_in last f t = if branch t == 0 then f 0 9999 else lines_in last f (inside t)
@@ -48,7 +49,7 @@ is_letter_alone [] = false
 is_letter_alone (b ∷ []) = is_letter b
 is_letter_alone (b ∷ c ∷ more) = false
 
--- whether something that is typed by hand is built, by what stands behind it in its row: a number, or such a name without
+-- whether something that is typed by hand is built, by what stands after it in its row: a number, or such a name without
 -- subscripts
 abbrev pub is_built_leaf : Leaf → Text → Trees → Bool
 is_built_leaf leaf.Number text ts = true
@@ -73,9 +74,9 @@ where_tree_built t r = if is_built_tree t then r else not_built
 
 -- a letter, from 0 for A
 abbrev pub letter_in : Trees → ℕ
-letter_in t = first (leaf_text t) - 65
+letter_in t = first (leaf_text t) - byte.upper_a
 
--- the letters behind commas, and what stands behind all of them
+-- the letters after commas, and what stands after all of them
 abbrev pub letters_in : Trees → List ℕ
 letters_in Done = []
 letters_in (Put token ts) = []
@@ -102,14 +103,14 @@ item_in s t = if branch t == 0 then Ok [] else item_value s (inside t) >>= (λ x
 abbrev pub separator_in : Trees → List Item
 separator_in t = if branch t == 1 then item.Zone ∷ [] else []
 
--- separators, each with an item behind it or none
+-- separators, each with an item after it or none
 abbrev pub further_in : Surroundings → Trees → Result (List Item) ℕ
 further_in s Done = Ok []
 further_in s (Put token ts) = Ok []
 further_in s (In n part ts) =
     if n == 0 then Ok [] else item_in s (behind part) >>= (λ its. further_in s ts >>= (λ more. Ok (separator_in (inside part) ++ its ++ more)))
 
--- whether a newline belongs behind these: not where a separator stands last; where there are none, as was known before
+-- whether a newline belongs after these: not where a separator stands last; where there are none, as was known before
 abbrev pub ends_line : Bool → Trees → Bool
 ends_line before Done = before
 ends_line before (Put token ts) = before
@@ -122,7 +123,7 @@ shown_in s t = item_in s t >>= (λ its. further_in s (behind t) >>= (λ more. Ok
 -- what the statement of a row asks for, at a column
 abbrev pub request_of : Surroundings → ℕ → ℕ → Trees → Request
 request_of s column r t =
-    if r == row.GOTO then request.Jump (line_in (behind t))
+    if r == row.GOTO then request.Jump (line_number_in (behind t))
     else (if r == row.END then request.End
     else (if r == row.REMARK then request.Nothing
     else (if r == row.IMAGE_LINE then request.Nothing
