@@ -1,6 +1,8 @@
 -- Lines as atoms: which lists of bytes spell a line, and its units.
 use Rattle.std.specs.Prelude.{◌≡◌, ℕ, zero, suc, ◌-◌, ◌&&◌, ◌==◌, nat_le, nat_lt, Bool, true, false, List, [], ◌∷◌, length, take, drop, if◌then◌else◌, Result, Ok, Err, is_ok, Option, Some, None}
-use Rattle.b2_atom.specs.Words.{Text, first}
+use Rattle.b2_base.specs.Byte as byte
+use Rattle.b2_base.specs.Lexical.{first}
+use Rattle.b2_atom.specs.Words.{Text}
 use Rattle.b2_atom.specs.Tokens.{listed}
 use Rattle.b2_atom.specs.Tree.{Outcome, atoms, tokens}
 use Rattle.b2_atom.specs.Grammar.{reader, statement, read_line}
@@ -66,10 +68,10 @@ unit_at p t = record { place = p; bytes = take (length t - length (behind_unit p
 
 -- the units in what stands behind one: a `:` parts them, or nothing where a statement follows
 abbrev pub next_place : Text → Place
-next_place rest = if first rest == 58 then Further else Following
+next_place rest = if first rest == byte.colon then Further else Following
 
 abbrev pub next_text : Text → Text
-next_text rest = if first rest == 58 then drop 1 rest else rest
+next_text rest = if first rest == byte.colon then drop 1 rest else rest
 
 abbrev pub further : (Place → Text → List LineUnit) → Text → List LineUnit
 further more [] = []

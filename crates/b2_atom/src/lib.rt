@@ -15,7 +15,7 @@
 
 ghost use Rattle.std.specs.Prelude.{◌≡◌, map};
 ghost use Rattle.b2_atom.specs.Table as spec;
-ghost use Rattle.b2_atom.specs.Words.{texts};
+ghost use Rattle.b2_atom.specs.Words.{all_words};
 
 mod forms;
 mod laws;
@@ -42,7 +42,7 @@ use table::{FORMS, ROWS_0, ROWS_1, ROWS_2, ROWS_3};
 use words::WORDS;
 pub use words::{
     CLEAR, DATA, DC, DEFFN, DEFFN_PRIME, END, GOTO, LIST, NO, Origin, PRINT, REM, ROUND, RUN,
-    SELECT, dropped, front,
+    SELECT,
 };
 
 /// The table and the words that the code walks over are the language's.
@@ -52,5 +52,5 @@ pub fn table_is_the_language()
     ensures third { map (λ r. r.now) ROWS_2 ≡ spec.rows_2 }
     ensures fourth { map (λ r. r.now) ROWS_3 ≡ spec.rows_3 }
     ensures statements { FORMS ≡ spec.forms }
-    ensures words { map (λ w. w.now) WORDS ≡ texts }
+    ensures words { map (λ w. w.now) WORDS ≡ all_words }
 {}

@@ -7,8 +7,9 @@ use crate::forms::Place;
 use crate::laws::what_is_read_is_a_line;
 use crate::sink::{Sink, Source, Stop, bytes_of};
 use crate::walk::{read_line, statement};
-use crate::words::{Origin, dropped, first, front};
+use crate::words::Origin;
 use b2_base::NoMemory;
+use b2_base::lexical::{dropped, first, front};
 use std::alloc::Global;
 use std::marker::Model;
 

@@ -2,13 +2,14 @@
 use Rattle.std.proofs.Common.{◌≡◌, ℕ, zero, suc, Bool, true, false, if◌then◌else◌, ◌==◌, ◌&&◌, nat_lt, List, [], ◌∷◌, length, drop, refl, sym, ap, subst, ◌∙◌, arith, Ok, Err}
 use Rattle.std.proofs.lemmas.Bool.Decides.{nat_tests}
 use Rattle.b2_dec.specs.declared.number.Mode.TheVariants.{Round, Cut}
-use Rattle.b2_atom.specs.Words.{Text, first}
+use Rattle.b2_base.specs.Lexical.{first, is_decimal}
+use Rattle.b2_atom.specs.Words.{Text}
 use Rattle.b2_atom.specs.Tokens.{Token}
 use Rattle.b2_atom.specs.Tokens.Token.{Coded, Lined}
-use Rattle.b2_atom.specs.Tree.{Trees, Outcome, Parser, one, nothing, joined, and_then, under, also}
+use Rattle.b2_atom.specs.Tree.{Trees, Outcome, Parser, one, nothing, preceded, and_then, under, also}
 use Rattle.b2_atom.specs.Tree.Trees.{Done, Put, In}
 use Rattle.b2_atom.specs.Leaves.{refused}
-use Rattle.b2_atom.specs.Grammar.{reader, item, items, level, absent, row_items, starts, mark, read_leaf, atoms_line_number, is_decimal}
+use Rattle.b2_atom.specs.Grammar.{reader, item, items, level, absent, row_items, starts, mark, read_leaf, atoms_line_number}
 use Rattle.b2_atom.specs.declared.words.Origin.TheVariants.{Atoms}
 use Rattle.b2_atom.specs.declared.sink.Stop.{Stop}
 use Rattle.b2_atom.specs.declared.sink.Stop.TheVariants.{At}
@@ -31,7 +32,7 @@ abbrev pub Holds : (Trees → Text → Type 0) → Outcome → Type 0
 Holds v (Ok p) = v p.0 p.1
 Holds v (Err e) = Unit {0}
 
-pub holds_joined : (v : Trees → Text → Type 0) (a : Trees) (o : Outcome) → Holds (λ b rest. v (also a b) rest) o → Holds v (joined a o)
+pub holds_joined : (v : Trees → Text → Type 0) (a : Trees) (o : Outcome) → Holds (λ b rest. v (also a b) rest) o → Holds v (preceded a o)
 holds_joined v a (Ok p) h = h
 holds_joined v a (Err e) h = h
 

@@ -3,7 +3,8 @@ use Rattle.std.proofs.Common.{◌≡◌, ℕ, zero, suc, ◌+◌, ◌≤◌, Boo
 use Rattle.b2_print.specs.Layout.{layout}
 use Rattle.b2_print.specs.declared.layout.Item.{Item as Shown}
 use Rattle.b2_print.specs.declared.layout.Item.TheVariants as shown
-use Rattle.b2_atom.specs.Words.{Text, first}
+use Rattle.b2_base.specs.Lexical.{first}
+use Rattle.b2_atom.specs.Words.{Text}
 use Rattle.b2_atom.specs.Tokens.Token.{Coded}
 use Rattle.b2_atom.specs.Tree.{Trees, Outcome, Parser, and_then, under, also}
 use Rattle.b2_atom.specs.Tree.Trees.{Done, Put, In}
