@@ -1,4 +1,4 @@
--- Two values compared byte by byte, where the shorter one has blanks behind it.
+-- Two values compared byte by byte, where the shorter one has blanks after it.
 use Rattle.std.proofs.Common.{◌≡◌, ℕ, zero, suc, ◌+◌, ◌-◌, ◌<◌, ◌≤◌, max, List, [], ◌∷◌, ◌++◌, length, drop, get_or, replicate, refl, sym, ap, ◌∙◌, arith, add-one, drop-cons, length-append, true, false, not, ◌==◌}
 use Rattle.std.proofs.lemmas.List.{length-replicate, take_all, drop_all}
 use Rattle.std.specs.declared.cmp.Ordering.{Ordering}
@@ -40,7 +40,7 @@ from_at n xs i fits within =
     let cons : drop i (padded n xs) ≡ get_or (padded n xs) i 32 ∷ drop (i + 1) (padded n xs) = rw add-one (drop-cons (padded n xs) i 32 here) in
     cons ∙ ap (λ (b : ℕ). b ∷ drop (i + 1) (padded n xs)) (padded_at n xs i fits)
 
--- the order from a place on is that of the two bytes there, and then the order behind them
+-- the order from a place on is that of the two bytes there, and then the order after them
 from_here : (xs ys : List ℕ) (i : ℕ) → let n : ℕ = max (length xs) (length ys) in i < n
     → slice_cmp nat_cmp (drop i (padded n xs)) (drop i (padded n ys))
     ≡ ordering_then (nat_cmp (get_or xs i 32) (get_or ys i 32)) (slice_cmp nat_cmp (drop (i + 1) (padded n xs)) (drop (i + 1) (padded n ys)))
@@ -48,7 +48,7 @@ from_here xs ys i within =
     let n : ℕ = max (length xs) (length ys) in
     λ j. slice_cmp nat_cmp (from_at n xs i (omega arith) within j) (from_at n ys i (omega arith) within j)
 
--- nothing is left behind the longer one
+-- nothing is left after the longer one
 pub at_end : (xs ys : List ℕ) → let n : ℕ = max (length xs) (length ys) in slice_cmp nat_cmp (drop n (padded n xs)) (drop n (padded n ys)) ≡ Equal
 at_end xs ys =
     let n : ℕ = max (length xs) (length ys) in
@@ -62,7 +62,7 @@ decided Less rest h = refl
 decided Equal rest h = cc
 decided Greater rest h = refl
 
--- equal ones leave it to those behind them
+-- equal ones leave it to those after them
 undecided : (order rest : Ordering) → false ≡ not (ordering_index order == 1) → ordering_then order rest ≡ rest
 undecided Less rest h = cc
 undecided Equal rest h = refl
@@ -82,7 +82,7 @@ pub decides : (xs ys : List ℕ) (i : ℕ) (order : Ordering) → i < max (lengt
     → order ≡ order_of xs ys
 decides xs ys i order within is differ so_far = sym (decided order _ differ) ∙ from_order xs ys i order within is so_far
 
--- bytes that are equal leave it to those behind them
+-- bytes that are equal leave it to those after them
 pub goes_on : (xs ys : List ℕ) (i : ℕ) (order : Ordering) → i < max (length xs) (length ys) → order ≡ nat_cmp (get_or xs i 32) (get_or ys i 32)
     → false ≡ not (ordering_index order == 1)
     → slice_cmp nat_cmp (drop i (padded (max (length xs) (length ys)) xs)) (drop i (padded (max (length xs) (length ys)) ys)) ≡ order_of xs ys

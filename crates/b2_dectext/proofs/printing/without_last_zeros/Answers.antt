@@ -1,8 +1,8 @@
 use Rattle.std.proofs.Common.{◌≡◌, ◌==◌, ◌<◌, ◌-◌, false, length, get_or, take, sym, ap, arith, eq-eqb, ne_eqb}
 use Rattle.std.specs.List.{suffix_len}
 use Rattle.std.proofs.lemmas.List.Sums.{suffix_len_is}
-use Rattle.b2_dectext.proofs.printing.trim.Goals as goal
-use Rattle.b2_dectext.proofs.printing.trim.Goals.{then-loop-kept-test+else-digits-kept-eq48, else-loop-kept-test}
+use Rattle.b2_dectext.proofs.printing.without_last_zeros.Goals as goal
+use Rattle.b2_dectext.proofs.printing.without_last_zeros.Goals.{then-loop-kept-test+else-digits-kept-eq48, else-loop-kept-test}
 
 pub returns : goal.returns
 returns c =

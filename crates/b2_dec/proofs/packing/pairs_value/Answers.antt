@@ -1,6 +1,6 @@
 use Rattle.std.proofs.Common.{◌≤◌, ◌<◌, ◌+◌, ◌*◌, ◌^◌, arith, get_or}
 use Rattle.b2_dec.proofs.Nibbles.{hundred_most, byte_fits}
-use Rattle.b2_dec.proofs.packing.joined.Goals as goal
+use Rattle.b2_dec.proofs.packing.pairs_value.Goals as goal
 
 pub overflow_mul-n : goal.overflow_mul-n
 overflow_mul-n c =

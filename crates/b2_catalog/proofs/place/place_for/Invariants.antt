@@ -1,7 +1,7 @@
 use Rattle.std.proofs.Common.{◌≡◌, ◌+◌, ◌-◌, ◌%◌, ℕ, map}
 use Rattle.std.specs.List.{range_with_len}
 use Rattle.b2_catalog.specs.Ways.{lowest_free, place, place_along}
-use Rattle.b2_catalog.proofs.place.place_of.Given as goal
+use Rattle.b2_catalog.proofs.place.place_for.Given as goal
 
 abbrev pub invariant-loop-j : goal.invariant-loop-j
 invariant-loop-j l =

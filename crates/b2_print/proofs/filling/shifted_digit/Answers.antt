@@ -1,6 +1,6 @@
 use Rattle.std.proofs.Common.{◌-◌, ◌+◌, ◌%◌, ap, sym, arith}
 use Rattle.b2_print.proofs.DigitLemmas.{ten_pos, shifted, digit-left, digit-right}
-use Rattle.b2_print.proofs.filling.digit.Goals as goal
+use Rattle.b2_print.proofs.filling.shifted_digit.Goals as goal
 
 pub returns-then-down-up : goal.returns-then-down-up
 returns-then-down-up c = ap (λ t. 48 + t) (sym (digit-right c.args.coef c.args.up c.args.down c.if-down-up.true))

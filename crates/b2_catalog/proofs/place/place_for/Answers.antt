@@ -3,7 +3,7 @@ use Rattle.std.specs.Prelude.{is_some}
 use Rattle.b2_platter.specs.Image.{index_of}
 use Rattle.b2_catalog.specs.Ways.{lowest_free, place}
 use Rattle.b2_catalog.proofs.Finding.{place_here, place_more}
-use Rattle.b2_catalog.proofs.place.place_of.Goals as goal
+use Rattle.b2_catalog.proofs.place.place_for.Goals as goal
 
 pub loop-j-init : goal.loop-j-init
 unfolding place

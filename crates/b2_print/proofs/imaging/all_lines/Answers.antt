@@ -1,14 +1,14 @@
 use Rattle.std.proofs.Common.{◌≡◌, ℕ, ◌+◌, ◌-◌, ◌<◌, List, ◌∷◌, ◌++◌, [], min, take, drop, length, sym, ap, ◌∙◌, append_assoc, length-drop, arith}
 use Rattle.std.proofs.lemmas.List.{take_rest, drop_min, drop-drop}
 use Rattle.b2_dec.specs.declared.values.Value.{Value}
-use Rattle.b2_print.specs.Images.{Piece, pieces, fields}
+use Rattle.b2_print.specs.Images.{Piece, pieces_of, fields}
 use Rattle.b2_print.specs.Imaged as spec
 use Rattle.b2_print.proofs.LineLemmas.{further_lines-drop, further_lines-step, has_field}
-use Rattle.b2_print.proofs.imaging.lines.Goals as goal
+use Rattle.b2_print.proofs.imaging.all_lines.Goals as goal
 
 pub loop-used-init : goal.loop-used-init
 loop-used-init c =
-    let ps : List Piece = pieces c.args.image.now in
+    let ps : List Piece = pieces_of c.args.image.now in
     let values = c.args.values.now in
     let rest : drop c.in_ok-used.used values ≡ drop (length (fields ps)) values = ap (λ n. drop n values) c.in_ok-used.ensures.used ∙ drop_min (length (fields ps)) values in
     record {
@@ -20,7 +20,7 @@ loop-used-init c =
 
 pub loop-used-preserved : goal.loop-used-preserved
 loop-used-preserved c =
-    let ps : List Piece = pieces c.args.image.now in
+    let ps : List Piece = pieces_of c.args.image.now in
     let values = c.args.values.now in
     let left : List Value = drop c.loop-used.used values in
     let n : ℕ = length (fields ps) in
