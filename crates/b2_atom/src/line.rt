@@ -66,7 +66,7 @@ fn spells_line(bytes: &[u8]) -> bool
 }
 
 /// Reads a typed line without its number, and gives its atom bytes.
-#[tactic(auto, using(crate::proofs::Binds::held, crate::proofs::Binds::held_none), unfolding(crate::specs::Lines::line_atoms))]
+#[tactic(auto, using(crate::proofs::reading::Binds::held, crate::proofs::reading::Binds::held_none), unfolding(crate::specs::Lines::line_atoms))]
 pub fn read_source(alloc: Global, origin: Origin, text: &[u8]) -> Result<Vec<u8>, Stop>
     ensures known { IfErr result IsKnown }
     ensures read { MatchResult result (λ bytes. line_atoms origin text.now ≡ Ok bytes.items) (λ e. e ≢ Stop.NoMemory → line_atoms origin text.now ≡ Err e) }
@@ -79,7 +79,7 @@ pub fn read_source(alloc: Global, origin: Origin, text: &[u8]) -> Result<Vec<u8>
 }
 
 // The canonical source of a line of atoms.
-#[tactic(auto, using(crate::proofs::Binds::shown, crate::proofs::Binds::shown_none), unfolding(crate::specs::Lines::line_source))]
+#[tactic(auto, using(crate::proofs::reading::Binds::shown, crate::proofs::reading::Binds::shown_none), unfolding(crate::specs::Lines::line_source))]
 fn line_source(alloc: Global, line: &[u8]) -> Result<Vec<u8>, Stop>
     ensures { MatchResult result (λ bytes. line_source line.now ≡ Ok bytes.items) (λ e. e ≢ Stop.NoMemory → line_source line.now ≡ Err e) }
 {
@@ -251,7 +251,7 @@ impl Atoms {
     }
 
     /// Its canonical source.
-    #[tactic(auto, using(crate::proofs::Binds::line_has_source))]
+    #[tactic(auto, using(crate::proofs::reading::Binds::line_has_source))]
     pub fn source(&self, alloc: Global) -> Result<Vec<u8>, NoMemory>
         ensures { IfOk result (λ bytes. line_source self.now ≡ Ok bytes.items) }
     {
@@ -264,7 +264,7 @@ impl Atoms {
     }
 
     /// How many units it has: statements, where one that follows THEN, ELSE or ERROR is a unit of its own.
-    #[tactic(auto, using(crate::proofs::Units::few_units))]
+    #[tactic(auto, using(crate::proofs::lines::Units::few_units))]
     pub fn units(&self) -> usize
         ensures count { result ≡ length (units_of self.now) }
         ensures few { result ≤ 255 }

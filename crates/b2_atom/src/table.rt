@@ -3,6 +3,7 @@
 
 use crate::forms::{Form, Item, Leaf, Place, Rule, Start};
 use crate::{rows, words};
+use b2_base::codes;
 
 /// The rows from 0 on.
 #[rattlefmt::skip]
@@ -11,17 +12,17 @@ pub const ROWS_0: [&[Item]; 64] = [
     // LINE
     &[Item::Statement(Place::First), Item::Many(Start::Code(b':'), rows::FURTHER_STATEMENT), Item::End],
     // FURTHER_STATEMENT
-    &[Item::Sign(b':', 25), Item::Statement(Place::Further)],
+    &[Item::Sign(b':', codes::S25_END), Item::Statement(Place::Further)],
     // FOLLOWING
     &[Item::Statement(Place::Following)],
     // LINE_NUMBER
-    &[Item::Typed(Leaf::LineNumber, 15)],
+    &[Item::Typed(Leaf::LineNumber, codes::S15_LINE_NUMBER)],
     // COMMA_LINE
-    &[Item::Sign(b',', 13), Item::Typed(Leaf::LineNumber, 15)],
+    &[Item::Sign(b',', codes::S13_SEPARATOR), Item::Typed(Leaf::LineNumber, codes::S15_LINE_NUMBER)],
     // COMMA_LINES
-    &[Item::Sign(b',', 13), Item::Typed(Leaf::LineNumber, 15), Item::Maybe(Start::Code(b','), rows::COMMA_LINE)],
+    &[Item::Sign(b',', codes::S13_SEPARATOR), Item::Typed(Leaf::LineNumber, codes::S15_LINE_NUMBER), Item::Maybe(Start::Code(b','), rows::COMMA_LINE)],
     // LINE_NUMBERS
-    &[Item::Typed(Leaf::LineNumber, 15), Item::Maybe(Start::Code(b','), rows::COMMA_LINE)],
+    &[Item::Typed(Leaf::LineNumber, codes::S15_LINE_NUMBER), Item::Maybe(Start::Code(b','), rows::COMMA_LINE)],
     // LEFT_OUT
     &[Item::LeftOut],
     // numeric expressions
@@ -32,23 +33,23 @@ pub const ROWS_0: [&[Item]; 64] = [
     // SIGN
     &[Item::Either(Start::Code(b'+'), rows::PLUS, rows::MINUS)],
     // PLUS
-    &[Item::Sign(b'+', 22)],
+    &[Item::Sign(b'+', codes::S22_WORD)],
     // MINUS
-    &[Item::Sign(b'-', 22)],
+    &[Item::Sign(b'-', codes::S22_WORD)],
     // PRODUCT
     &[Item::Part(rows::FACTOR), Item::Many(Start::Two(b'*', b'/'), rows::MULTIPLIER)],
     // MULTIPLIER
     &[Item::Either(Start::Code(b'*'), rows::TIMES, rows::OVER), Item::Part(rows::FACTOR)],
     // TIMES
-    &[Item::Sign(b'*', 22)],
+    &[Item::Sign(b'*', codes::S22_WORD)],
     // OVER
-    &[Item::Sign(b'/', 22)],
+    &[Item::Sign(b'/', codes::S22_WORD)],
     // FACTOR
     &[Item::Maybe(Start::Two(b'+', b'-'), rows::SIGN), Item::Part(rows::POWER)],
     // POWER
     &[Item::Part(rows::OPERAND), Item::Many(Start::Code(b'^'), rows::EXPONENT)],
     // EXPONENT
-    &[Item::Sign(b'^', 22), Item::Part(rows::OPERAND)],
+    &[Item::Sign(b'^', codes::S22_WORD), Item::Part(rows::OPERAND)],
     // OPERAND
     &[Item::Either(Start::Number, rows::NUMBER, rows::OPERAND_BUT_NUMBER)],
     // OPERAND_BUT_NUMBER
@@ -70,56 +71,56 @@ pub const ROWS_0: [&[Item]; 64] = [
     // OPERAND_BUT_VALUE
     &[Item::Either(Start::Among(words::ERR, words::HASH_TERM), rows::KEPT_NUMBER, rows::VARIABLE)],
     // NUMBER
-    &[Item::Typed(Leaf::Number, 17)],
+    &[Item::Typed(Leaf::Number, codes::S17_NUMERIC)],
     // PARENTHESES
-    &[Item::Sign(b'(', 10), Item::Nest(rows::SUM), Item::Sign(b')', 11)],
+    &[Item::Sign(b'(', codes::S10_OPEN), Item::Nest(rows::SUM), Item::Sign(b')', codes::S11_CLOSE)],
     // FUNCTION
-    &[Item::Word(words::FN), Item::Typed(Leaf::FunctionName, 22), Item::Sign(b'(', 10), Item::Nest(rows::SUM), Item::Sign(b')', 11)],
+    &[Item::Word(words::FN), Item::Typed(Leaf::FunctionName, codes::S22_WORD), Item::Sign(b'(', codes::S10_OPEN), Item::Nest(rows::SUM), Item::Sign(b')', codes::S11_CLOSE)],
     // OF_ONE
-    &[Item::Among(words::ABS_OPEN, words::SQR_OPEN, 17), Item::Nest(rows::SUM), Item::Sign(b')', 11)],
+    &[Item::Among(words::ABS_OPEN, words::SQR_OPEN, codes::S17_NUMERIC), Item::Nest(rows::SUM), Item::Sign(b')', codes::S11_CLOSE)],
     // OF_TWO
-    &[Item::Among(words::ROUND_OPEN, words::MOD_OPEN, 17), Item::Nest(rows::TWO_NUMBERS), Item::Sign(b')', 11)],
+    &[Item::Among(words::ROUND_OPEN, words::MOD_OPEN, codes::S17_NUMERIC), Item::Nest(rows::TWO_NUMBERS), Item::Sign(b')', codes::S11_CLOSE)],
     // OF_MORE
-    &[Item::Among(words::MAX_OPEN, words::MIN_OPEN, 17), Item::Nest(rows::NUMBERS_2), Item::Sign(b')', 11)],
+    &[Item::Among(words::MAX_OPEN, words::MIN_OPEN, codes::S17_NUMERIC), Item::Nest(rows::NUMBERS_2), Item::Sign(b')', codes::S11_CLOSE)],
     // OF_ALPHA
-    &[Item::Among(words::LEN_OPEN, words::NUM_OPEN, 17), Item::Nest(rows::ALPHA), Item::Sign(b')', 11)],
+    &[Item::Among(words::LEN_OPEN, words::NUM_OPEN, codes::S17_NUMERIC), Item::Nest(rows::ALPHA), Item::Sign(b')', codes::S11_CLOSE)],
     // POSITION
-    &[Item::Word(words::POS_OPEN), Item::Nest(rows::POSITION_ARGUMENTS), Item::Sign(b')', 11)],
+    &[Item::Word(words::POS_OPEN), Item::Nest(rows::POSITION_ARGUMENTS), Item::Sign(b')', codes::S11_CLOSE)],
     // VALUE
-    &[Item::Word(words::VAL_OPEN), Item::Nest(rows::ALPHA_AND_NUMBER), Item::Sign(b')', 11)],
+    &[Item::Word(words::VAL_OPEN), Item::Nest(rows::ALPHA_AND_NUMBER), Item::Sign(b')', codes::S11_CLOSE)],
     // KEPT_NUMBER
-    &[Item::Among(words::ERR, words::HASH_TERM, 17)],
+    &[Item::Among(words::ERR, words::HASH_TERM, codes::S17_NUMERIC)],
     // VARIABLE
-    &[Item::Typed(Leaf::Name, 17), Item::Maybe(Start::Code(b'('), rows::SUBSCRIPTS)],
+    &[Item::Typed(Leaf::Name, codes::S17_NUMERIC), Item::Maybe(Start::Code(b'('), rows::SUBSCRIPTS)],
     // TWO_NUMBERS
-    &[Item::Part(rows::SUM), Item::Sign(b',', 13), Item::Part(rows::SUM)],
+    &[Item::Part(rows::SUM), Item::Sign(b',', codes::S13_SEPARATOR), Item::Part(rows::SUM)],
     // COMMA_NUMBER
-    &[Item::Sign(b',', 13), Item::Part(rows::SUM)],
+    &[Item::Sign(b',', codes::S13_SEPARATOR), Item::Part(rows::SUM)],
     // NUMBERS_2
-    &[Item::Part(rows::SUM), Item::Sign(b',', 13), Item::Part(rows::SUM), Item::Maybe(Start::Code(b','), rows::NUMBERS_3)],
+    &[Item::Part(rows::SUM), Item::Sign(b',', codes::S13_SEPARATOR), Item::Part(rows::SUM), Item::Maybe(Start::Code(b','), rows::NUMBERS_3)],
     // NUMBERS_3
-    &[Item::Sign(b',', 13), Item::Part(rows::SUM), Item::Maybe(Start::Code(b','), rows::NUMBERS_4)],
+    &[Item::Sign(b',', codes::S13_SEPARATOR), Item::Part(rows::SUM), Item::Maybe(Start::Code(b','), rows::NUMBERS_4)],
     // NUMBERS_4
-    &[Item::Sign(b',', 13), Item::Part(rows::SUM), Item::Maybe(Start::Code(b','), rows::NUMBERS_5)],
+    &[Item::Sign(b',', codes::S13_SEPARATOR), Item::Part(rows::SUM), Item::Maybe(Start::Code(b','), rows::NUMBERS_5)],
     // NUMBERS_5
-    &[Item::Sign(b',', 13), Item::Part(rows::SUM), Item::Maybe(Start::Code(b','), rows::NUMBERS_6)],
+    &[Item::Sign(b',', codes::S13_SEPARATOR), Item::Part(rows::SUM), Item::Maybe(Start::Code(b','), rows::NUMBERS_6)],
     // NUMBERS_6
-    &[Item::Sign(b',', 13), Item::Part(rows::SUM), Item::Maybe(Start::Code(b','), rows::NUMBERS_7)],
+    &[Item::Sign(b',', codes::S13_SEPARATOR), Item::Part(rows::SUM), Item::Maybe(Start::Code(b','), rows::NUMBERS_7)],
     // NUMBERS_7
-    &[Item::Sign(b',', 13), Item::Part(rows::SUM), Item::Maybe(Start::Code(b','), rows::COMMA_NUMBER)],
+    &[Item::Sign(b',', codes::S13_SEPARATOR), Item::Part(rows::SUM), Item::Maybe(Start::Code(b','), rows::COMMA_NUMBER)],
     // POSITION_ARGUMENTS
-    &[Item::Part(rows::ALPHA), Item::Typed(Leaf::Relation, 21), Item::Part(rows::ALPHA)],
+    &[Item::Part(rows::ALPHA), Item::Typed(Leaf::Relation, codes::S21_COMPARISON), Item::Part(rows::ALPHA)],
     // ALPHA_AND_NUMBER
     &[Item::Part(rows::ALPHA), Item::Maybe(Start::Code(b','), rows::COMMA_NUMBER)],
     // SUBSCRIPTS
-    &[Item::Sign(b'(', 10), Item::Nest(rows::ONE_OR_TWO_NUMBERS), Item::Sign(b')', 11)],
+    &[Item::Sign(b'(', codes::S10_OPEN), Item::Nest(rows::ONE_OR_TWO_NUMBERS), Item::Sign(b')', codes::S11_CLOSE)],
     // ONE_OR_TWO_NUMBERS
     &[Item::Part(rows::SUM), Item::Maybe(Start::Code(b','), rows::COMMA_NUMBER)],
     // alpha expressions
     // ALPHA
     &[Item::Part(rows::ALPHA_OPERAND), Item::Many(Start::Code(b'&'), rows::JOINED)],
     // JOINED
-    &[Item::Sign(b'&', 22), Item::Part(rows::ALPHA_OPERAND)],
+    &[Item::Sign(b'&', codes::S22_WORD), Item::Part(rows::ALPHA_OPERAND)],
     // ALPHA_OPERAND
     &[Item::Either(Start::Code(b'"'), rows::LITERAL, rows::ALPHA_BUT_LITERAL)],
     // ALPHA_BUT_LITERAL
@@ -129,120 +130,116 @@ pub const ROWS_0: [&[Item]; 64] = [
     // ALPHA_BUT_HEX
     &[Item::Either(Start::Code(words::BIN_OPEN), rows::BINARY, rows::ALPHA_VARIABLE)],
     // LITERAL
-    &[Item::Typed(Leaf::Literal, 18)],
+    &[Item::Typed(Leaf::Literal, codes::S18_ALPHA)],
     // STRING_PART
-    &[Item::Word(words::STR_OPEN), Item::Nest(rows::STRING_PART_ARGUMENTS), Item::Sign(b')', 11)],
+    &[Item::Word(words::STR_OPEN), Item::Nest(rows::STRING_PART_ARGUMENTS), Item::Sign(b')', codes::S11_CLOSE)],
     // STRING_PART_ARGUMENTS
-    &[Item::Part(rows::ALPHA_RECEIVER_VARIABLE), Item::Sign(b',', 13), Item::Part(rows::SUM), Item::Maybe(Start::Code(b','), rows::COMMA_NUMBER)],
+    &[Item::Part(rows::ALPHA_RECEIVER_VARIABLE), Item::Sign(b',', codes::S13_SEPARATOR), Item::Part(rows::SUM), Item::Maybe(Start::Code(b','), rows::COMMA_NUMBER)],
     // HEX
-    &[Item::Word(words::HEX_OPEN), Item::Nest(rows::HEX_PAIRS), Item::Sign(b')', 11)],
+    &[Item::Word(words::HEX_OPEN), Item::Nest(rows::HEX_PAIRS), Item::Sign(b')', codes::S11_CLOSE)],
     // HEX_PAIRS
-    &[Item::Typed(Leaf::HexPair, 19), Item::Many(Start::Hex, rows::HEX_PAIR)],
+    &[Item::Typed(Leaf::HexPair, codes::S19_HEX_OR_QUOTE), Item::Many(Start::Hex, rows::HEX_PAIR)],
 ];
 
 /// The rows from 64 on.
 #[rattlefmt::skip]
 pub const ROWS_1: [&[Item]; 64] = [
     // HEX_PAIR
-    &[Item::Typed(Leaf::HexPair, 19)],
+    &[Item::Typed(Leaf::HexPair, codes::S19_HEX_OR_QUOTE)],
     // BINARY
-    &[Item::Word(words::BIN_OPEN), Item::Nest(rows::ONE_OR_TWO_NUMBERS), Item::Sign(b')', 11)],
+    &[Item::Word(words::BIN_OPEN), Item::Nest(rows::ONE_OR_TWO_NUMBERS), Item::Sign(b')', codes::S11_CLOSE)],
     // ALPHA_VARIABLE
-    &[Item::Typed(Leaf::AlphaName, 18), Item::Maybe(Start::Code(b'('), rows::SUBSCRIPTS)],
+    &[Item::Typed(Leaf::AlphaName, codes::S18_ALPHA), Item::Maybe(Start::Code(b'('), rows::SUBSCRIPTS)],
     // conditions
     // CONDITION
     &[Item::Part(rows::COMPARISON), Item::Many(Start::Among(words::AND, words::XOR), rows::FURTHER_COMPARISON)],
     // FURTHER_COMPARISON
-    &[Item::Among(words::AND, words::XOR, 22), Item::Part(rows::COMPARISON)],
+    &[Item::Among(words::AND, words::XOR, codes::S22_WORD), Item::Part(rows::COMPARISON)],
     // COMPARISON
     &[Item::Either(Start::Alpha, rows::ALPHA_COMPARISON, rows::NUMERIC_COMPARISON)],
     // ALPHA_COMPARISON
-    &[Item::Part(rows::ALPHA), Item::Typed(Leaf::Relation, 21), Item::Part(rows::ALPHA)],
+    &[Item::Part(rows::ALPHA), Item::Typed(Leaf::Relation, codes::S21_COMPARISON), Item::Part(rows::ALPHA)],
     // NUMERIC_COMPARISON
-    &[Item::Part(rows::SUM), Item::Typed(Leaf::Relation, 21), Item::Part(rows::SUM)],
+    &[Item::Part(rows::SUM), Item::Typed(Leaf::Relation, codes::S21_COMPARISON), Item::Part(rows::SUM)],
     // receivers and operands
     // NUMERIC_RECEIVER
-    &[Item::Typed(Leaf::Name, 20), Item::Maybe(Start::Code(b'('), rows::SUBSCRIPTS)],
+    &[Item::Typed(Leaf::Name, codes::S20_VARIABLE), Item::Maybe(Start::Code(b'('), rows::SUBSCRIPTS)],
     // ALPHA_RECEIVER
     &[Item::Either(Start::Code(words::STR_OPEN), rows::STRING_PART, rows::ALPHA_RECEIVER_VARIABLE)],
     // ALPHA_RECEIVER_VARIABLE
-    &[Item::Typed(Leaf::AlphaName, 20), Item::Maybe(Start::Code(b'('), rows::SUBSCRIPTS)],
+    &[Item::Typed(Leaf::AlphaName, codes::S20_VARIABLE), Item::Maybe(Start::Code(b'('), rows::SUBSCRIPTS)],
     // RECEIVER
     &[Item::Either(Start::Alpha, rows::ALPHA_RECEIVER, rows::NUMERIC_RECEIVER)],
     // COMMA_NUMERIC_RECEIVER
-    &[Item::Sign(b',', 13), Item::Part(rows::NUMERIC_RECEIVER)],
+    &[Item::Sign(b',', codes::S13_SEPARATOR), Item::Part(rows::NUMERIC_RECEIVER)],
     // COMMA_ALPHA_RECEIVER
-    &[Item::Sign(b',', 13), Item::Part(rows::ALPHA_RECEIVER)],
+    &[Item::Sign(b',', codes::S13_SEPARATOR), Item::Part(rows::ALPHA_RECEIVER)],
     // COMMA_RECEIVER
-    &[Item::Sign(b',', 13), Item::Part(rows::RECEIVER)],
+    &[Item::Sign(b',', codes::S13_SEPARATOR), Item::Part(rows::RECEIVER)],
     // RECEIVERS
     &[Item::Part(rows::RECEIVER), Item::Many(Start::Code(b','), rows::COMMA_RECEIVER)],
     // BUFFER
     &[Item::Either(Start::Code(words::STR_OPEN), rows::STRING_PART, rows::BUFFER_VARIABLE)],
     // BUFFER_VARIABLE
-    &[Item::Typed(Leaf::AlphaName, 20), Item::Maybe(Start::Code(b'('), rows::ARRAY_OR_ELEMENT)],
-    // ARRAY_OR_ELEMENT
-    &[Item::Sign(b'(', 10), Item::Nest(rows::MAYBE_SUBSCRIPTS), Item::Sign(b')', 11)],
-    // MAYBE_SUBSCRIPTS
-    &[Item::Maybe(Start::Numeric, rows::ONE_OR_TWO_NUMBERS)],
+    &[Item::Either(Start::Array, rows::ALPHA_ARRAY, rows::ALPHA_RECEIVER_VARIABLE)],
     // COMMA_BUFFER
-    &[Item::Sign(b',', 13), Item::Part(rows::BUFFER)],
+    &[Item::Sign(b',', codes::S13_SEPARATOR), Item::Part(rows::BUFFER)],
     // OPERAND_OF_ANY_KIND
     &[Item::Either(Start::Alpha, rows::ALPHA, rows::SUM)],
     // COMMA_OPERAND
-    &[Item::Sign(b',', 13), Item::Part(rows::OPERAND_OF_ANY_KIND)],
+    &[Item::Sign(b',', codes::S13_SEPARATOR), Item::Part(rows::OPERAND_OF_ANY_KIND)],
     // OPERANDS
     &[Item::Part(rows::OPERAND_OF_ANY_KIND), Item::Many(Start::Code(b','), rows::COMMA_OPERAND)],
     // ALPHA_ARRAY
-    &[Item::Typed(Leaf::AlphaName, 20), Item::Sign(b'(', 10), Item::Sign(b')', 11)],
+    &[Item::Typed(Leaf::AlphaName, codes::S20_VARIABLE), Item::Sign(b'(', codes::S10_OPEN), Item::Sign(b')', codes::S11_CLOSE)],
     // NUMERIC_ARRAY
-    &[Item::Typed(Leaf::Name, 20), Item::Sign(b'(', 10), Item::Sign(b')', 11)],
+    &[Item::Typed(Leaf::Name, codes::S20_VARIABLE), Item::Sign(b'(', codes::S10_OPEN), Item::Sign(b')', codes::S11_CLOSE)],
     // WHOLE_ARRAY
     &[Item::Either(Start::Alpha, rows::ALPHA_ARRAY, rows::NUMERIC_ARRAY)],
     // SAVED
     &[Item::Either(Start::Array, rows::WHOLE_ARRAY, rows::OPERAND_OF_ANY_KIND)],
     // COMMA_SAVED
-    &[Item::Sign(b',', 13), Item::Part(rows::SAVED)],
+    &[Item::Sign(b',', codes::S13_SEPARATOR), Item::Part(rows::SAVED)],
     // LOADED
     &[Item::Either(Start::Array, rows::WHOLE_ARRAY, rows::RECEIVER)],
     // COMMA_LOADED
-    &[Item::Sign(b',', 13), Item::Part(rows::LOADED)],
+    &[Item::Sign(b',', codes::S13_SEPARATOR), Item::Part(rows::LOADED)],
     // NUMERIC_NAME
-    &[Item::Typed(Leaf::Name, 20)],
+    &[Item::Typed(Leaf::Name, codes::S20_VARIABLE)],
     // ALPHA_NAME
-    &[Item::Typed(Leaf::AlphaName, 20)],
+    &[Item::Typed(Leaf::AlphaName, codes::S20_VARIABLE)],
     // devices
     // DEVICE
-    &[Item::Sign(b'/', 23), Item::Typed(Leaf::Address, 23)],
+    &[Item::Sign(b'/', codes::S23_DEVICE), Item::Typed(Leaf::Address, codes::S23_DEVICE)],
     // COMMA_DEVICE_2
-    &[Item::Sign(b',', 13), Item::Part(rows::DEVICE), Item::Maybe(Start::Code(b','), rows::COMMA_DEVICE_3)],
+    &[Item::Sign(b',', codes::S13_SEPARATOR), Item::Part(rows::DEVICE), Item::Maybe(Start::Code(b','), rows::COMMA_DEVICE_3)],
     // COMMA_DEVICE_3
-    &[Item::Sign(b',', 13), Item::Part(rows::DEVICE), Item::Maybe(Start::Code(b','), rows::COMMA_DEVICE_4)],
+    &[Item::Sign(b',', codes::S13_SEPARATOR), Item::Part(rows::DEVICE), Item::Maybe(Start::Code(b','), rows::COMMA_DEVICE_4)],
     // COMMA_DEVICE_4
-    &[Item::Sign(b',', 13), Item::Part(rows::DEVICE)],
+    &[Item::Sign(b',', codes::S13_SEPARATOR), Item::Part(rows::DEVICE)],
     // DEVICES
     &[Item::Part(rows::DEVICE), Item::Maybe(Start::Code(b','), rows::COMMA_DEVICE_2)],
     // DRIVE
     &[Item::Either(Start::Two(b'F', b'R'), rows::LEFT_OUT, rows::DRIVE_OF_T)],
     // DRIVE_OF_T
-    &[Item::Sign(b'T', 23), Item::Maybe(Start::Code(b'/'), rows::DEVICE)],
+    &[Item::Sign(b'T', codes::S23_DEVICE), Item::Maybe(Start::Code(b'/'), rows::DEVICE)],
     // DRIVE_COMMA
     &[Item::Either(Start::Two(b'F', b'R'), rows::LEFT_OUT, rows::DRIVE_OF_T_COMMA)],
     // DRIVE_OF_T_COMMA
-    &[Item::Sign(b'T', 23), Item::Either(Start::Code(b'/'), rows::DEVICE_COMMA, rows::COMMA_AFTER_T)],
+    &[Item::Sign(b'T', codes::S23_DEVICE), Item::Either(Start::Code(b'/'), rows::DEVICE_COMMA, rows::COMMA_AFTER_T)],
     // DEVICE_COMMA
-    &[Item::Part(rows::DEVICE), Item::Sign(b',', 13)],
+    &[Item::Part(rows::DEVICE), Item::Sign(b',', codes::S13_SEPARATOR)],
     // COMMA_AFTER_T
     &[Item::Comma],
     // SLOT
-    &[Item::Typed(Leaf::Slot, 24), Item::Sign(b',', 13)],
+    &[Item::Typed(Leaf::Slot, codes::S24_SMALL_NUMBER), Item::Sign(b',', codes::S13_SEPARATOR)],
     // statements on variables and on the course of a program
     // ASSIGNMENT
     &[Item::Either(Start::Alpha, rows::ALPHA_ASSIGNMENT, rows::NUMERIC_ASSIGNMENT)],
     // NUMERIC_ASSIGNMENT
-    &[Item::Part(rows::NUMERIC_RECEIVER), Item::Many(Start::Code(b','), rows::COMMA_NUMERIC_RECEIVER), Item::Sign(b'=', 12), Item::Part(rows::SUM)],
+    &[Item::Part(rows::NUMERIC_RECEIVER), Item::Many(Start::Code(b','), rows::COMMA_NUMERIC_RECEIVER), Item::Sign(b'=', codes::S12_EQUALS), Item::Part(rows::SUM)],
     // ALPHA_ASSIGNMENT
-    &[Item::Part(rows::ALPHA_RECEIVER), Item::Many(Start::Code(b','), rows::COMMA_ALPHA_RECEIVER), Item::Sign(b'=', 12), Item::Either(Start::Alpha, rows::FIRST_AND_OPERATIONS, rows::OPERATIONS)],
+    &[Item::Part(rows::ALPHA_RECEIVER), Item::Many(Start::Code(b','), rows::COMMA_ALPHA_RECEIVER), Item::Sign(b'=', codes::S12_EQUALS), Item::Either(Start::Alpha, rows::FIRST_AND_OPERATIONS, rows::OPERATIONS)],
     // FIRST_AND_OPERATIONS
     &[Item::Part(rows::ALPHA), Item::Many(Start::Among(words::AND, words::DSC), rows::OPERATION)],
     // OPERATIONS
@@ -250,40 +247,40 @@ pub const ROWS_1: [&[Item]; 64] = [
     // OPERATION
     &[Item::Either(Start::Code(words::BOOL), rows::BOOLEAN, rows::OTHER_OPERATION)],
     // BOOLEAN
-    &[Item::Word(words::BOOL), Item::Typed(Leaf::HexDigit, 19), Item::Part(rows::ALPHA)],
+    &[Item::Word(words::BOOL), Item::Typed(Leaf::HexDigit, codes::S19_HEX_OR_QUOTE), Item::Part(rows::ALPHA)],
     // OTHER_OPERATION
     &[Item::Either(Start::Among(words::AND, words::XOR), rows::LOGICAL, rows::BINARY_SUM)],
     // LOGICAL
-    &[Item::Among(words::AND, words::XOR, 18), Item::Part(rows::ALPHA)],
+    &[Item::Among(words::AND, words::XOR, codes::S18_ALPHA), Item::Part(rows::ALPHA)],
     // BINARY_SUM
-    &[Item::Among(words::ADD, words::DSC, 18), Item::Part(rows::ALPHA)],
+    &[Item::Among(words::ADD, words::DSC, codes::S18_ALPHA), Item::Part(rows::ALPHA)],
     // REMARK
-    &[Item::Word(words::REM), Item::Typed(Leaf::Text, 14)],
+    &[Item::Word(words::REM), Item::Typed(Leaf::Text, codes::S14_STATEMENT)],
     // IMAGE_LINE
-    &[Item::Sign(b'%', 14), Item::Typed(Leaf::Text, 14)],
+    &[Item::Sign(b'%', codes::S14_STATEMENT), Item::Typed(Leaf::Text, codes::S14_STATEMENT)],
     // DIM
-    &[Item::Among(words::DIM, words::COM, 22), Item::Part(rows::DIMENSIONED), Item::Many(Start::Code(b','), rows::COMMA_DIMENSIONED)],
+    &[Item::Among(words::DIM, words::COM, codes::S22_WORD), Item::Part(rows::DIMENSIONED), Item::Many(Start::Code(b','), rows::COMMA_DIMENSIONED)],
     // COMMA_DIMENSIONED
-    &[Item::Sign(b',', 13), Item::Part(rows::DIMENSIONED)],
+    &[Item::Sign(b',', codes::S13_SEPARATOR), Item::Part(rows::DIMENSIONED)],
     // DIMENSIONED
     &[Item::Either(Start::Alpha, rows::DIMENSIONED_ALPHA, rows::DIMENSIONED_NUMERIC)],
     // DIMENSIONED_ALPHA
-    &[Item::Typed(Leaf::AlphaName, 20), Item::Either(Start::Code(b'('), rows::SUBSCRIPTS_AND_LENGTH, rows::MAYBE_LENGTH)],
+    &[Item::Typed(Leaf::AlphaName, codes::S20_VARIABLE), Item::Either(Start::Code(b'('), rows::SUBSCRIPTS_AND_LENGTH, rows::MAYBE_LENGTH)],
     // DIMENSIONED_NUMERIC
-    &[Item::Typed(Leaf::Name, 20), Item::Maybe(Start::Code(b'('), rows::SUBSCRIPTS_AND_LENGTH)],
+    &[Item::Typed(Leaf::Name, codes::S20_VARIABLE), Item::Maybe(Start::Code(b'('), rows::SUBSCRIPTS_AND_LENGTH)],
     // SUBSCRIPTS_AND_LENGTH
     &[Item::Part(rows::SUBSCRIPTS), Item::Maybe(Start::Numeric, rows::SUM)],
     // MAYBE_LENGTH
     &[Item::Maybe(Start::Numeric, rows::LENGTH)],
+    // LENGTH
+    &[Item::Part(rows::LENGTH_PRODUCT), Item::Many(Start::Two(b'+', b'-'), rows::ADDEND)],
+    // LENGTH_PRODUCT
+    &[Item::Part(rows::LENGTH_FACTOR), Item::Many(Start::Two(b'*', b'/'), rows::MULTIPLIER)],
 ];
 
 /// The rows from 128 on.
 #[rattlefmt::skip]
 pub const ROWS_2: [&[Item]; 64] = [
-    // LENGTH
-    &[Item::Part(rows::LENGTH_PRODUCT), Item::Many(Start::Two(b'+', b'-'), rows::ADDEND)],
-    // LENGTH_PRODUCT
-    &[Item::Part(rows::LENGTH_FACTOR), Item::Many(Start::Two(b'*', b'/'), rows::MULTIPLIER)],
     // LENGTH_FACTOR
     &[Item::Either(Start::Two(b'+', b'-'), rows::SIGNED_FACTOR, rows::LENGTH_POWER)],
     // SIGNED_FACTOR
@@ -293,13 +290,13 @@ pub const ROWS_2: [&[Item]; 64] = [
     // LENGTH_OPERAND
     &[Item::Either(Start::Number, rows::NUMBER, rows::NAMED_OPERAND)],
     // GOTO
-    &[Item::Word(words::GOTO), Item::Typed(Leaf::LineNumber, 15)],
+    &[Item::Word(words::GOTO), Item::Typed(Leaf::LineNumber, codes::S15_LINE_NUMBER)],
     // GOSUB
-    &[Item::Word(words::GOSUB), Item::Typed(Leaf::LineNumber, 15)],
+    &[Item::Word(words::GOSUB), Item::Typed(Leaf::LineNumber, codes::S15_LINE_NUMBER)],
     // GOSUB_MARKED
-    &[Item::Word(words::GOSUB_PRIME), Item::Typed(Leaf::Small, 24), Item::Maybe(Start::Code(b'('), rows::ARGUMENTS)],
+    &[Item::Word(words::GOSUB_PRIME), Item::Typed(Leaf::Small, codes::S24_SMALL_NUMBER), Item::Maybe(Start::Code(b'('), rows::ARGUMENTS)],
     // ARGUMENTS
-    &[Item::Sign(b'(', 10), Item::Nest(rows::OPERANDS), Item::Sign(b')', 11)],
+    &[Item::Sign(b'(', codes::S10_OPEN), Item::Nest(rows::OPERANDS), Item::Sign(b')', codes::S11_CLOSE)],
     // RETURN
     &[Item::Word(words::RETURN)],
     // RETURN_CLEAR
@@ -309,23 +306,23 @@ pub const ROWS_2: [&[Item]; 64] = [
     // ON
     &[Item::Word(words::ON), Item::Part(rows::SUM), Item::Either(Start::Code(words::GOTO), rows::ON_GOTO, rows::ON_GOSUB)],
     // ON_GOTO
-    &[Item::Word(words::GOTO), Item::Typed(Leaf::LineNumber, 15), Item::Many(Start::Code(b','), rows::COMMA_LINE)],
+    &[Item::Word(words::GOTO), Item::Typed(Leaf::LineNumber, codes::S15_LINE_NUMBER), Item::Many(Start::Code(b','), rows::COMMA_LINE)],
     // ON_GOSUB
-    &[Item::ProgramWord(words::GOSUB), Item::Typed(Leaf::LineNumber, 15), Item::Many(Start::Code(b','), rows::COMMA_LINE)],
+    &[Item::ProgramWord(words::GOSUB), Item::Typed(Leaf::LineNumber, codes::S15_LINE_NUMBER), Item::Many(Start::Code(b','), rows::COMMA_LINE)],
     // IF
     &[Item::Word(words::IF), Item::Part(rows::CONDITION), Item::Word(words::THEN), Item::Either(Start::Line, rows::LINE_NUMBER, rows::FOLLOWING)],
     // IF_END
-    &[Item::Word(words::IF), Item::Word(words::END), Item::Word(words::THEN), Item::Typed(Leaf::LineNumber, 15)],
+    &[Item::Word(words::IF), Item::Word(words::END), Item::Word(words::THEN), Item::Typed(Leaf::LineNumber, codes::S15_LINE_NUMBER)],
     // ELSE
     &[Item::Word(words::ELSE), Item::Either(Start::Line, rows::LINE_NUMBER, rows::FOLLOWING)],
     // ERROR
     &[Item::Word(words::ERROR), Item::Part(rows::FOLLOWING)],
     // FOR
-    &[Item::Word(words::FOR), Item::Typed(Leaf::LocalName, 20), Item::Sign(b'=', 12), Item::Part(rows::SUM), Item::Word(words::TO), Item::Part(rows::SUM), Item::Maybe(Start::Code(words::STEP), rows::STEP)],
+    &[Item::Word(words::FOR), Item::Typed(Leaf::LocalName, codes::S20_VARIABLE), Item::Sign(b'=', codes::S12_EQUALS), Item::Part(rows::SUM), Item::Word(words::TO), Item::Part(rows::SUM), Item::Maybe(Start::Code(words::STEP), rows::STEP)],
     // STEP
     &[Item::Word(words::STEP), Item::Part(rows::SUM)],
     // NEXT
-    &[Item::Word(words::NEXT), Item::Typed(Leaf::LocalName, 20)],
+    &[Item::Word(words::NEXT), Item::Typed(Leaf::LocalName, codes::S20_VARIABLE)],
     // END
     &[Item::Word(words::END)],
     // STOP
@@ -335,47 +332,47 @@ pub const ROWS_2: [&[Item]; 64] = [
     // GLOBAL_PART
     &[Item::Word(words::GLOBAL_PART), Item::Part(rows::LITERAL)],
     // FUNCTION_BODY
-    &[Item::Typed(Leaf::FunctionName, 22), Item::Sign(b'(', 10), Item::Nest(rows::NUMERIC_NAME), Item::Sign(b')', 11), Item::Sign(b'=', 12), Item::Part(rows::SUM)],
+    &[Item::Typed(Leaf::FunctionName, codes::S22_WORD), Item::Sign(b'(', codes::S10_OPEN), Item::Nest(rows::NUMERIC_NAME), Item::Sign(b')', codes::S11_CLOSE), Item::Sign(b'=', codes::S12_EQUALS), Item::Part(rows::SUM)],
     // DEFFN_MARKED
-    &[Item::Word(words::DEFFN_PRIME), Item::Typed(Leaf::Small, 24), Item::Maybe(Start::Two(b'"', b'('), rows::MARKED_TAIL)],
+    &[Item::Word(words::DEFFN_PRIME), Item::Typed(Leaf::Small, codes::S24_SMALL_NUMBER), Item::Maybe(Start::Two(b'"', b'('), rows::MARKED_TAIL)],
     // MARKED_TAIL
     &[Item::Either(Start::Code(b'"'), rows::LITERAL, rows::PARAMETERS)],
     // PARAMETERS
-    &[Item::Sign(b'(', 10), Item::Nest(rows::RECEIVERS), Item::Sign(b')', 11)],
+    &[Item::Sign(b'(', codes::S10_OPEN), Item::Nest(rows::RECEIVERS), Item::Sign(b')', codes::S11_CLOSE)],
     // READ
     &[Item::Word(words::READ), Item::Part(rows::RECEIVER), Item::Many(Start::Code(b','), rows::COMMA_RECEIVER)],
     // DATA
     &[Item::Word(words::DATA), Item::Part(rows::DATUM), Item::Many(Start::Code(b','), rows::COMMA_DATUM)],
     // COMMA_DATUM
-    &[Item::Sign(b',', 13), Item::Part(rows::DATUM)],
+    &[Item::Sign(b',', codes::S13_SEPARATOR), Item::Part(rows::DATUM)],
     // DATUM
     &[Item::Either(Start::Code(b'"'), rows::LITERAL, rows::NUMBER_DATUM)],
     // NUMBER_DATUM
-    &[Item::Typed(Leaf::SignedNumber, 16)],
+    &[Item::Typed(Leaf::SignedNumber, codes::S16_NUMBER_LITERAL)],
     // RESTORE
     &[Item::Word(words::RESTORE), Item::Maybe(Start::Code(words::LINE), rows::LINE_OF_DATA)],
     // LINE_OF_DATA
-    &[Item::Word(words::LINE), Item::Typed(Leaf::LineNumber, 15)],
+    &[Item::Word(words::LINE), Item::Typed(Leaf::LineNumber, codes::S15_LINE_NUMBER)],
     // CLEAR
     &[Item::Word(words::CLEAR)],
     // CLEAR_V
-    &[Item::Word(words::CLEAR), Item::Sign(b'V', 22)],
+    &[Item::Word(words::CLEAR), Item::Sign(b'V', codes::S22_WORD)],
     // CLEAR_N
-    &[Item::Word(words::CLEAR), Item::Sign(b'N', 22)],
+    &[Item::Word(words::CLEAR), Item::Sign(b'N', codes::S22_WORD)],
     // CLEAR_P
-    &[Item::Word(words::CLEAR), Item::Sign(b'P', 22), Item::Maybe(Start::Line, rows::LINE_NUMBERS)],
+    &[Item::Word(words::CLEAR), Item::Sign(b'P', codes::S22_WORD), Item::Maybe(Start::Line, rows::LINE_NUMBERS)],
     // INIT
-    &[Item::Word(words::INIT_OPEN), Item::Nest(rows::HEX_PAIR), Item::Sign(b')', 11), Item::Part(rows::BUFFER), Item::Many(Start::Code(b','), rows::COMMA_BUFFER)],
+    &[Item::Word(words::INIT_OPEN), Item::Nest(rows::HEX_PAIR), Item::Sign(b')', codes::S11_CLOSE), Item::Part(rows::BUFFER), Item::Many(Start::Code(b','), rows::COMMA_BUFFER)],
     // CONVERT
     &[Item::Word(words::CONVERT), Item::Either(Start::Alpha, rows::CONVERT_ALPHA, rows::CONVERT_NUMBER)],
     // CONVERT_ALPHA
     &[Item::Part(rows::ALPHA), Item::Word(words::TO), Item::Part(rows::NUMERIC_RECEIVER)],
     // CONVERT_NUMBER
-    &[Item::Part(rows::SUM), Item::Word(words::TO), Item::Part(rows::ALPHA_RECEIVER), Item::Sign(b',', 13), Item::Sign(b'(', 10), Item::Typed(Leaf::Image, 11)],
+    &[Item::Part(rows::SUM), Item::Word(words::TO), Item::Part(rows::ALPHA_RECEIVER), Item::Sign(b',', codes::S13_SEPARATOR), Item::Sign(b'(', codes::S10_OPEN), Item::Typed(Leaf::Image, codes::S11_CLOSE)],
     // ROTATE
-    &[Item::Among(words::ROTATE_OPEN, words::ROTATEC_OPEN, 22), Item::Nest(rows::ROTATION), Item::Sign(b')', 11)],
+    &[Item::Among(words::ROTATE_OPEN, words::ROTATEC_OPEN, codes::S22_WORD), Item::Nest(rows::ROTATION), Item::Sign(b')', codes::S11_CLOSE)],
     // ROTATION
-    &[Item::Part(rows::ALPHA_RECEIVER), Item::Sign(b',', 13), Item::Part(rows::SUM)],
+    &[Item::Part(rows::ALPHA_RECEIVER), Item::Sign(b',', codes::S13_SEPARATOR), Item::Part(rows::SUM)],
     // SELECT
     &[Item::Word(words::SELECT), Item::Either(Start::Letters(b'O', b'F', b'F'), rows::LEFT_OUT, rows::ROUND)],
     // ROUND
@@ -383,9 +380,9 @@ pub const ROWS_2: [&[Item]; 64] = [
     // SELECT_NO_ROUND
     &[Item::Word(words::SELECT), Item::Word(words::NO), Item::Word(words::ROUND)],
     // SELECT_PRINT
-    &[Item::Word(words::SELECT), Item::Word(words::PRINT), Item::Typed(Leaf::Address, 23)],
+    &[Item::Word(words::SELECT), Item::Word(words::PRINT), Item::Typed(Leaf::Address, codes::S23_DEVICE)],
     // SELECT_DISK
-    &[Item::Word(words::SELECT), Item::Word(words::DISK), Item::Typed(Leaf::Address, 23)],
+    &[Item::Word(words::SELECT), Item::Word(words::DISK), Item::Typed(Leaf::Address, codes::S23_DEVICE)],
     // SELECT_PART
     &[Item::Word(words::SELECT), Item::Part(rows::GLOBAL_PART)],
     // SELECT_LEFT_OUT
@@ -398,102 +395,102 @@ pub const ROWS_2: [&[Item]; 64] = [
     // SEPARATOR
     &[Item::Either(Start::Code(b','), rows::COMMA, rows::SEMICOLON)],
     // COMMA
-    &[Item::Sign(b',', 13)],
+    &[Item::Sign(b',', codes::S13_SEPARATOR)],
     // SEMICOLON
-    &[Item::Sign(b';', 13)],
+    &[Item::Sign(b';', codes::S13_SEPARATOR)],
     // PRINT_ITEM
     &[Item::Either(Start::Code(words::TAB_OPEN), rows::TAB, rows::PRINT_BUT_TAB)],
     // PRINT_BUT_TAB
     &[Item::Either(Start::Code(words::HEXOF_OPEN), rows::HEXOF, rows::OPERAND_OF_ANY_KIND)],
     // TAB
-    &[Item::Word(words::TAB_OPEN), Item::Nest(rows::SUM), Item::Sign(b')', 11)],
+    &[Item::Word(words::TAB_OPEN), Item::Nest(rows::SUM), Item::Sign(b')', codes::S11_CLOSE)],
     // HEXOF
-    &[Item::Word(words::HEXOF_OPEN), Item::Nest(rows::ALPHA), Item::Sign(b')', 11)],
+    &[Item::Word(words::HEXOF_OPEN), Item::Nest(rows::ALPHA), Item::Sign(b')', codes::S11_CLOSE)],
+    // PRINTUSING
+    &[Item::Word(words::PRINTUSING), Item::Either(Start::Line, rows::LINE_NUMBER, rows::IMAGE_LITERAL), Item::Sign(b',', codes::S13_SEPARATOR), Item::Part(rows::OPERAND_OF_ANY_KIND), Item::Many(Start::Code(b','), rows::COMMA_OPERAND), Item::Maybe(Start::Code(b';'), rows::SEMICOLON)],
+    // IMAGE_LITERAL
+    &[Item::Typed(Leaf::Literal, codes::S15_LINE_NUMBER)],
 ];
 
 /// The rows from 192 on.
 #[rattlefmt::skip]
-pub const ROWS_3: [&[Item]; 61] = [
-    // PRINTUSING
-    &[Item::Word(words::PRINTUSING), Item::Either(Start::Line, rows::LINE_NUMBER, rows::IMAGE_LITERAL), Item::Sign(b',', 13), Item::Part(rows::OPERAND_OF_ANY_KIND), Item::Many(Start::Code(b','), rows::COMMA_OPERAND), Item::Maybe(Start::Code(b';'), rows::SEMICOLON)],
-    // IMAGE_LITERAL
-    &[Item::Typed(Leaf::Literal, 15)],
+pub const ROWS_3: [&[Item]; 59] = [
     // INPUT
     &[Item::Word(words::INPUT), Item::Maybe(Start::Code(b'"'), rows::PROMPT), Item::Part(rows::RECEIVER), Item::Many(Start::Code(b','), rows::COMMA_RECEIVER)],
     // LINPUT
     &[Item::Word(words::LINPUT), Item::Maybe(Start::Code(b'"'), rows::PROMPT), Item::Part(rows::ALPHA_RECEIVER)],
     // PROMPT
-    &[Item::Part(rows::LITERAL), Item::Sign(b',', 13)],
+    &[Item::Part(rows::LITERAL), Item::Sign(b',', codes::S13_SEPARATOR)],
     // KEYIN
     &[Item::Word(words::KEYIN), Item::Part(rows::ALPHA_RECEIVER), Item::Maybe(Start::Code(b','), rows::COMMA_TWO_LINES)],
     // COMMA_TWO_LINES
-    &[Item::Sign(b',', 13), Item::Typed(Leaf::LineNumber, 15), Item::Sign(b',', 13), Item::Typed(Leaf::LineNumber, 15)],
+    &[Item::Sign(b',', codes::S13_SEPARATOR), Item::Typed(Leaf::LineNumber, codes::S15_LINE_NUMBER), Item::Sign(b',', codes::S13_SEPARATOR), Item::Typed(Leaf::LineNumber, codes::S15_LINE_NUMBER)],
     // BREAK
     &[Item::Word(words::DOLLAR_BREAK)],
     // OPEN
     &[Item::Word(words::DOLLAR_OPEN), Item::Maybe(Start::Line, rows::LINE_AND_COMMA), Item::Part(rows::DEVICES)],
     // LINE_AND_COMMA
-    &[Item::Typed(Leaf::LineNumber, 15), Item::Sign(b',', 13)],
+    &[Item::Typed(Leaf::LineNumber, codes::S15_LINE_NUMBER), Item::Sign(b',', codes::S13_SEPARATOR)],
     // CLOSE
     &[Item::Word(words::DOLLAR_CLOSE), Item::Maybe(Start::Code(b'/'), rows::DEVICES)],
     // statements on arrays and on packed fields
     // MAT
-    &[Item::Word(words::MAT), Item::Typed(Leaf::Name, 20), Item::Sign(b'=', 12), Item::Either(Start::Code(b'('), rows::SCALED, rows::MATRIX_BUT_SCALED)],
+    &[Item::Word(words::MAT), Item::Typed(Leaf::Name, codes::S20_VARIABLE), Item::Sign(b'=', codes::S12_EQUALS), Item::Either(Start::Code(b'('), rows::SCALED, rows::MATRIX_BUT_SCALED)],
     // SCALED
-    &[Item::Sign(b'(', 10), Item::Nest(rows::SUM), Item::Sign(b')', 11), Item::Sign(b'*', 22), Item::Typed(Leaf::Name, 20)],
+    &[Item::Sign(b'(', codes::S10_OPEN), Item::Nest(rows::SUM), Item::Sign(b')', codes::S11_CLOSE), Item::Sign(b'*', codes::S22_WORD), Item::Typed(Leaf::Name, codes::S20_VARIABLE)],
     // MATRIX_BUT_SCALED
     &[Item::Either(Start::Code(words::TRN_OPEN), rows::TRANSPOSED, rows::MATRIX_BUT_TRANSPOSED)],
     // TRANSPOSED
-    &[Item::Word(words::TRN_OPEN), Item::Nest(rows::NUMERIC_NAME), Item::Sign(b')', 11)],
+    &[Item::Word(words::TRN_OPEN), Item::Nest(rows::NUMERIC_NAME), Item::Sign(b')', codes::S11_CLOSE)],
     // MATRIX_BUT_TRANSPOSED
     &[Item::Either(Start::Among(words::CON, words::IDN), rows::FILLED, rows::MATRICES)],
     // FILLED
-    &[Item::Among(words::CON, words::IDN, 20), Item::Maybe(Start::Code(b'('), rows::SUBSCRIPTS)],
+    &[Item::Among(words::CON, words::IDN, codes::S20_VARIABLE), Item::Maybe(Start::Code(b'('), rows::SUBSCRIPTS)],
     // MATRICES
-    &[Item::Typed(Leaf::Name, 20), Item::Maybe(Start::Three(b'*', b'+', b'-'), rows::SECOND_MATRIX)],
+    &[Item::Typed(Leaf::Name, codes::S20_VARIABLE), Item::Maybe(Start::Three(b'*', b'+', b'-'), rows::SECOND_MATRIX)],
     // SECOND_MATRIX
-    &[Item::Either(Start::Code(b'*'), rows::TIMES, rows::SIGN), Item::Typed(Leaf::Name, 20)],
+    &[Item::Either(Start::Code(b'*'), rows::TIMES, rows::SIGN), Item::Typed(Leaf::Name, codes::S20_VARIABLE)],
     // MAT_LEFT_OUT
     &[Item::Word(words::MAT), Item::LeftOut],
     // MAT_REDIM
     &[Item::Word(words::MAT), Item::Word(words::REDIM), Item::Either(Start::Alpha, rows::ALPHA_NAME, rows::NUMERIC_NAME), Item::Part(rows::SUBSCRIPTS_AND_LENGTH)],
     // MAT_SEARCH
-    &[Item::Word(words::MAT), Item::Word(words::SEARCH), Item::Part(rows::BUFFER), Item::Sign(b',', 13), Item::Typed(Leaf::Relation, 21), Item::Part(rows::ALPHA), Item::Word(words::TO), Item::Part(rows::ALPHA_RECEIVER), Item::Maybe(Start::Code(words::STEP), rows::STEP)],
+    &[Item::Word(words::MAT), Item::Word(words::SEARCH), Item::Part(rows::BUFFER), Item::Sign(b',', codes::S13_SEPARATOR), Item::Typed(Leaf::Relation, codes::S21_COMPARISON), Item::Part(rows::ALPHA), Item::Word(words::TO), Item::Part(rows::ALPHA_RECEIVER), Item::Maybe(Start::Code(words::STEP), rows::STEP)],
     // MAT_MOVE
-    &[Item::Word(words::MAT), Item::Word(words::MOVE), Item::Part(rows::ALPHA_ARRAY), Item::Sign(b',', 13), Item::Part(rows::ALPHA_ARRAY), Item::Word(words::TO), Item::Part(rows::ALPHA_ARRAY)],
+    &[Item::Word(words::MAT), Item::Word(words::MOVE), Item::Part(rows::ALPHA_ARRAY), Item::Sign(b',', codes::S13_SEPARATOR), Item::Part(rows::ALPHA_ARRAY), Item::Word(words::TO), Item::Part(rows::ALPHA_ARRAY)],
     // MAT_SORT
-    &[Item::Word(words::MAT), Item::Word(words::SORT), Item::Part(rows::ALPHA_ARRAY), Item::Word(words::TO), Item::Part(rows::ALPHA_ARRAY), Item::Sign(b',', 13), Item::Part(rows::ALPHA_ARRAY)],
+    &[Item::Word(words::MAT), Item::Word(words::SORT), Item::Part(rows::ALPHA_ARRAY), Item::Word(words::TO), Item::Part(rows::ALPHA_ARRAY), Item::Sign(b',', codes::S13_SEPARATOR), Item::Part(rows::ALPHA_ARRAY)],
     // MAT_COPY
     &[Item::Word(words::MAT), Item::Word(words::COPY), Item::Part(rows::ALPHA_ARRAY), Item::Word(words::TO), Item::Part(rows::ALPHA_ARRAY)],
     // PACK
-    &[Item::Word(words::PACK_OPEN), Item::Typed(Leaf::Image, 11), Item::Part(rows::BUFFER), Item::Word(words::FROM), Item::Part(rows::SUM), Item::Many(Start::Code(b','), rows::COMMA_NUMBER)],
+    &[Item::Word(words::PACK_OPEN), Item::Typed(Leaf::Image, codes::S11_CLOSE), Item::Part(rows::BUFFER), Item::Word(words::FROM), Item::Part(rows::SUM), Item::Many(Start::Code(b','), rows::COMMA_NUMBER)],
     // UNPACK
-    &[Item::Word(words::UNPACK_OPEN), Item::Typed(Leaf::Image, 11), Item::Part(rows::BUFFER), Item::Word(words::TO), Item::Part(rows::NUMERIC_RECEIVER), Item::Many(Start::Code(b','), rows::COMMA_NUMERIC_RECEIVER)],
+    &[Item::Word(words::UNPACK_OPEN), Item::Typed(Leaf::Image, codes::S11_CLOSE), Item::Part(rows::BUFFER), Item::Word(words::TO), Item::Part(rows::NUMERIC_RECEIVER), Item::Many(Start::Code(b','), rows::COMMA_NUMERIC_RECEIVER)],
     // FIELD_PACK
-    &[Item::Word(words::DOLLAR_PACK_OPEN), Item::Nest(rows::SPECIFICATION), Item::Sign(b')', 11), Item::Part(rows::BUFFER), Item::Word(words::FROM), Item::Part(rows::OPERAND_OF_ANY_KIND), Item::Many(Start::Code(b','), rows::COMMA_OPERAND)],
+    &[Item::Word(words::DOLLAR_PACK_OPEN), Item::Nest(rows::SPECIFICATION), Item::Sign(b')', codes::S11_CLOSE), Item::Part(rows::BUFFER), Item::Word(words::FROM), Item::Part(rows::OPERAND_OF_ANY_KIND), Item::Many(Start::Code(b','), rows::COMMA_OPERAND)],
     // FIELD_UNPACK
-    &[Item::Word(words::DOLLAR_UNPACK_OPEN), Item::Nest(rows::SPECIFICATION), Item::Sign(b')', 11), Item::Part(rows::BUFFER), Item::Word(words::TO), Item::Part(rows::RECEIVER), Item::Many(Start::Code(b','), rows::COMMA_RECEIVER)],
+    &[Item::Word(words::DOLLAR_UNPACK_OPEN), Item::Nest(rows::SPECIFICATION), Item::Sign(b')', codes::S11_CLOSE), Item::Part(rows::BUFFER), Item::Word(words::TO), Item::Part(rows::RECEIVER), Item::Many(Start::Code(b','), rows::COMMA_RECEIVER)],
     // SPECIFICATION
     &[Item::Either(Start::Code(b'D'), rows::LEFT_OUT, rows::FIELDS)],
     // FIELDS
-    &[Item::Sign(b'F', 22), Item::Sign(b'=', 12), Item::Part(rows::ALPHA_RECEIVER)],
+    &[Item::Sign(b'F', codes::S22_WORD), Item::Sign(b'=', codes::S12_EQUALS), Item::Part(rows::ALPHA_RECEIVER)],
     // statements on disks
     // LIMITS
     &[Item::Word(words::LIMITS), Item::Part(rows::DRIVE_COMMA), Item::Either(Start::Alpha, rows::FILE_LIMITS, rows::DISK_LIMITS)],
     // FILE_LIMITS
-    &[Item::Part(rows::ALPHA), Item::Sign(b',', 13), Item::Part(rows::NUMERIC_RECEIVER), Item::Sign(b',', 13), Item::Part(rows::NUMERIC_RECEIVER), Item::Sign(b',', 13), Item::Part(rows::NUMERIC_RECEIVER), Item::Maybe(Start::Code(b','), rows::COMMA_NUMERIC_RECEIVER)],
+    &[Item::Part(rows::ALPHA), Item::Sign(b',', codes::S13_SEPARATOR), Item::Part(rows::NUMERIC_RECEIVER), Item::Sign(b',', codes::S13_SEPARATOR), Item::Part(rows::NUMERIC_RECEIVER), Item::Sign(b',', codes::S13_SEPARATOR), Item::Part(rows::NUMERIC_RECEIVER), Item::Maybe(Start::Code(b','), rows::COMMA_NUMERIC_RECEIVER)],
     // DISK_LIMITS
-    &[Item::Part(rows::NUMERIC_RECEIVER), Item::Sign(b',', 13), Item::Part(rows::NUMERIC_RECEIVER), Item::Sign(b',', 13), Item::Part(rows::NUMERIC_RECEIVER)],
+    &[Item::Part(rows::NUMERIC_RECEIVER), Item::Sign(b',', codes::S13_SEPARATOR), Item::Part(rows::NUMERIC_RECEIVER), Item::Sign(b',', codes::S13_SEPARATOR), Item::Part(rows::NUMERIC_RECEIVER)],
     // SCRATCH
     &[Item::Word(words::SCRATCH), Item::Part(rows::DRIVE_COMMA), Item::Part(rows::ALPHA)],
     // SCRATCH_DISK
-    &[Item::Word(words::SCRATCH), Item::Word(words::DISK), Item::Part(rows::DRIVE_COMMA), Item::Word(words::LS), Item::Sign(b'=', 12), Item::Part(rows::SUM), Item::Sign(b',', 13), Item::Word(words::END), Item::Sign(b'=', 12), Item::Part(rows::SUM)],
+    &[Item::Word(words::SCRATCH), Item::Word(words::DISK), Item::Part(rows::DRIVE_COMMA), Item::Word(words::LS), Item::Sign(b'=', codes::S12_EQUALS), Item::Part(rows::SUM), Item::Sign(b',', codes::S13_SEPARATOR), Item::Word(words::END), Item::Sign(b'=', codes::S12_EQUALS), Item::Part(rows::SUM)],
     // DATASAVE
     &[Item::Word(words::DATASAVE), Item::Word(words::DC), Item::Either(Start::Code(words::OPEN), rows::NEW_FILE, rows::SAVED_VALUES)],
     // NEW_FILE
-    &[Item::Word(words::OPEN), Item::Part(rows::DRIVE_COMMA), Item::Maybe(Start::Code(b'#'), rows::SLOT), Item::Either(Start::AlphaInside, rows::SCRATCHED_FILE, rows::SUM), Item::Sign(b',', 13), Item::Part(rows::ALPHA)],
+    &[Item::Word(words::OPEN), Item::Part(rows::DRIVE_COMMA), Item::Maybe(Start::Code(b'#'), rows::SLOT), Item::Either(Start::AlphaInside, rows::SCRATCHED_FILE, rows::SUM), Item::Sign(b',', codes::S13_SEPARATOR), Item::Part(rows::ALPHA)],
     // SCRATCHED_FILE
-    &[Item::Sign(b'(', 10), Item::Nest(rows::ALPHA), Item::Sign(b')', 11)],
+    &[Item::Sign(b'(', codes::S10_OPEN), Item::Nest(rows::ALPHA), Item::Sign(b')', codes::S11_CLOSE)],
     // SAVED_VALUES
     &[Item::Maybe(Start::Code(b'#'), rows::SLOT), Item::Either(Start::Code(words::END), rows::END, rows::SAVED_LIST)],
     // SAVED_LIST
@@ -509,15 +506,15 @@ pub const ROWS_3: [&[Item]; 61] = [
     // DBACKSPACE
     &[Item::Word(words::DBACKSPACE), Item::Maybe(Start::Code(b'#'), rows::SLOT), Item::Either(Start::Letters(b'B', b'E', b'G'), rows::BEG, rows::SUM)],
     // BEG
-    &[Item::Sign(b'B', 22), Item::Sign(b'E', 22), Item::Sign(b'G', 22)],
+    &[Item::Sign(b'B', codes::S22_WORD), Item::Sign(b'E', codes::S22_WORD), Item::Sign(b'G', codes::S22_WORD)],
     // MOVE
     &[Item::Word(words::MOVE), Item::Either(Start::Two(b'F', b'R'), rows::LEFT_OUT, rows::MOVED), Item::Word(words::TO), Item::Part(rows::DRIVE)],
     // MOVED
-    &[Item::Sign(b'T', 23), Item::Either(Start::Code(b'/'), rows::MOVED_FROM_DEVICE, rows::MOVED_FROM_T)],
+    &[Item::Sign(b'T', codes::S23_DEVICE), Item::Either(Start::Code(b'/'), rows::MOVED_FROM_DEVICE, rows::MOVED_FROM_T)],
     // MOVED_FROM_DEVICE
     &[Item::Part(rows::DEVICE), Item::Maybe(Start::Code(b','), rows::COMMA_ALPHA)],
     // COMMA_ALPHA
-    &[Item::Sign(b',', 13), Item::Part(rows::ALPHA)],
+    &[Item::Sign(b',', codes::S13_SEPARATOR), Item::Part(rows::ALPHA)],
     // MOVED_FROM_T
     &[Item::Maybe(Start::CommaOrAlpha, rows::COMMA_AFTER_T_AND_ALPHA)],
     // COMMA_AFTER_T_AND_ALPHA
@@ -525,7 +522,7 @@ pub const ROWS_3: [&[Item]; 61] = [
     // SAVE
     &[Item::Word(words::SAVE), Item::Ignored(words::DC), Item::Part(rows::DRIVE_COMMA), Item::Maybe(Start::Code(b'('), rows::SCRATCHED_AND_COMMA), Item::Part(rows::ALPHA), Item::Maybe(Start::Code(b','), rows::COMMA_LINES)],
     // SCRATCHED_AND_COMMA
-    &[Item::Part(rows::SCRATCHED_FILE), Item::Sign(b',', 13)],
+    &[Item::Part(rows::SCRATCHED_FILE), Item::Sign(b',', codes::S13_SEPARATOR)],
     // LOAD
     &[Item::Word(words::LOAD), Item::Ignored(words::DC), Item::Maybe(Start::Code(words::RUN), rows::RUN_WORD), Item::Part(rows::DRIVE_COMMA), Item::Part(rows::ALPHA)],
     // RUN_WORD
@@ -549,7 +546,7 @@ pub const FORMS: [Form; 71] = [
     Form { start: Start::Code(words::GOTO), rule: Rule::Anywhere, row: rows::GOTO },
     Form { start: Start::Code(words::GOSUB), rule: Rule::Program, row: rows::GOSUB },
     Form { start: Start::Code(words::GOSUB_PRIME), rule: Rule::Program, row: rows::GOSUB_MARKED },
-    Form { start: Start::Pair(words::RETURN, words::CLEAR), rule: Rule::Anywhere, row: rows::RETURN_CLEAR },
+    Form { start: Start::Pair(words::RETURN, words::CLEAR), rule: Rule::Program, row: rows::RETURN_CLEAR },
     Form { start: Start::Code(words::RETURN), rule: Rule::Program, row: rows::RETURN },
     Form { start: Start::Code(words::ON), rule: Rule::Anywhere, row: rows::ON },
     Form { start: Start::Pair(words::IF, words::END), rule: Rule::Anywhere, row: rows::IF_END },

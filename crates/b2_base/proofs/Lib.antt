@@ -1,3 +1,4 @@
 pub mod Cutting
+pub mod DigitsWidth
 pub mod Keyed
 pub mod Padding

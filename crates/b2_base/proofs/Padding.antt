@@ -4,7 +4,8 @@ use Rattle.std.proofs.lemmas.Bool.{leb-true, le-leb}
 use Rattle.std.specs.List.{list_all}
 use Rattle.std.proofs.lemmas.List.{length-replicate}
 use Rattle.std.proofs.lemmas.List.Folds.{list_all-append}
-use Rattle.b2_base.specs.Names.{is_name8, is_printable, padded8}
+use Rattle.b2_base.specs.Lexical.{is_printable}
+use Rattle.b2_base.specs.Names.{is_name8, padded8}
 
 blanks : (n : ℕ) → list_all is_printable (replicate n 32) ≡ true
 blanks zero = refl

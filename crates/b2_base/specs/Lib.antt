@@ -1,7 +1,9 @@
+pub mod Byte
 pub mod Codes
 pub mod Counts
 pub mod Files
 pub mod Keyed
+pub mod Lexical
 pub mod Memory
 pub mod Names
 pub mod Outside

@@ -1,7 +1,8 @@
 // The addresses of devices.
 ghost use Rattle.std.specs.Prelude.{◌≡◌, ◌≤◌, ◌<◌, ◌++◌, [], ◌∷◌, length, true, IsTrue, ◌↔◌};
-ghost use Rattle.b2_base.specs.Names.{is_address, is_hex_digit, address_of};
+ghost use Rattle.b2_base.specs.Names.{is_address, address_of};
 
+use crate::lexical::is_hex_digit;
 use arrayvec::ArrayVec;
 use std::marker::Model;
 
@@ -24,17 +25,11 @@ impl Model for Addr {
     ghost inverse = { λ bytes. record { digits = bytes } };
 }
 
-fn is_digit(b: u8) -> bool
-    ensures { result ≡ is_hex_digit b }
-{
-    b.is_ascii_digit() || (b >= b'A' && b <= b'F')
-}
-
 /// The address 005, the terminal's.
 impl Default for Addr {
-    ghost use Rattle.std.specs.Prelude.{◌≡◌, [], ◌∷◌};
+    ghost use Rattle.std.specs.Prelude.{◌≡◌, codes};
 
-    ghost is_default = { λ a. a ≡ 48 ∷ 48 ∷ 53 ∷ [] };
+    ghost is_default = { λ a. a ≡ codes "005" };
 
     fn default() -> Addr {
         Addr { digits: *b"005" }
@@ -47,7 +42,7 @@ impl Addr {
         ensures { result ≡ address_of bytes.now }
     {
         match bytes {
-            [a, b, c] if is_digit(*a) && is_digit(*b) && is_digit(*c) => Some(Addr {
+            [a, b, c] if is_hex_digit(*a) && is_hex_digit(*b) && is_hex_digit(*c) => Some(Addr {
                 digits: [*a, *b, *c],
             }),
             _ => None,

@@ -12,6 +12,7 @@ mod addresses;
 mod bytes;
 pub mod codes;
 mod file_name;
+pub mod lexical;
 mod line_text;
 mod memory;
 mod name8;

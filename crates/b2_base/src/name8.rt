@@ -1,8 +1,9 @@
 // The names of files on disks, and of global texts.
 ghost use Rattle.std.specs.Prelude.{◌≡◌, ◌≤◌, length, true};
 ghost use Rattle.std.specs.List.{list_all};
-ghost use Rattle.b2_base.specs.Names.{is_name8, is_printable, padded8, name8_of};
+ghost use Rattle.b2_base.specs.Names.{is_name8, padded8, name8_of};
 
+use crate::lexical::all_printable;
 use std::marker::Model;
 
 /// A name of 1 to 8 bytes from 20 to 7E, the first not 20, padded with 20. Contracts see it as its eight bytes.
@@ -22,12 +23,6 @@ impl Model for Name8 {
     ghost invariant = { λ n. is_name8 n.padded ≡ true };
 
     ghost inverse = { λ bytes. record { padded = bytes } };
-}
-
-fn all_printable(bytes: &[u8]) -> bool
-    ensures { result ≡ list_all is_printable bytes.now }
-{
-    bytes.iter().all(|b| *b >= 0x20 && *b <= 0x7e)
 }
 
 // Whether the bytes are a name.

@@ -1,11 +1,14 @@
 // The trusted edge: files of the file system, and standard output. They tell no bytes.
-ghost use Rattle.std.specs.Prelude.{◌≡◌, ◌≤◌, ◌<◌, ◌+◌, ◌^◌, ◌++◌, None, Option, option_map, List, [], ℕ, length};
+ghost use Rattle.std.specs.Prelude.{◌≡◌, ◌≤◌, ◌<◌, ◌+◌, ◌^◌, ◌++◌, None, Option, option_map, List, [], ℕ, length, take, IfSome, true};
 ghost use Rattle.b2_base.specs.Counts.{Rose};
 ghost use Rattle.b2_base.specs.Files.{Files, IsFetched, IsAbsent, IsCutShort, kept, without};
 ghost use Rattle.b2_base.specs.Outside.{IsPartWritten};
+ghost use Rattle.std.specs.Io.KnownBytes.{Appends};
 ghost use Rattle.b2_base.specs.declared.real.Reading.TheVariants.{Whole, TooLong};
 
 use crate::{Fetch, Keep, Shelf, Sink};
+use arrayvec::ArrayString;
+use std::fs::OpenFile;
 use std::io::{self, ErrorKind, Read, Write};
 use std::marker::Model;
 use std::rt::Files;
@@ -52,31 +55,31 @@ enum Reading {
     NoMemory,
 }
 
-// Reads to the end, or to one byte past the limit.
-fn read_whole<F: Read>(file: &mut F, limit: usize, into: &mut Vec<u8>) -> Reading
+// Reads what remains of a file, or as much as passes the limit by one byte.
+fn read_whole<F: Read + Drop>(file: F, limit: usize, into: &mut Vec<u8>) -> Reading
     requires empty { into.old.items ≡ [] }
     requires limit { limit < 2 ^ 31 }
     ensures whole { result ≡ Whole → length into.new.items ≤ limit }
     ensures too_long { result ≡ TooLong → length into.new.items ≡ limit + 1 }
+    ensures all { result ≡ Whole → IfSome (F.remaining file) (λ xs. into.new.items ≡ take (limit + 1) xs) }
+    ensures front { result ≡ TooLong → IfSome (F.remaining file) (λ xs. into.new.items ≡ take (limit + 1) xs) }
 {
-    let mut piece = [0u8; 4096];
-    for _ in 0..=limit {
-        let Ok(count) = file.read(&mut piece) else {
-            return Reading::Failed;
-        };
-        if count == 0 {
-            return Reading::Whole;
+    match file.take(limit as u64 + 1).read_to_end(into) {
+        Ok(_) => {
+            if into.len() <= limit {
+                return Reading::Whole;
+            }
+            into.truncate(limit + 1);
+            Reading::TooLong
         }
-        let room = limit - into.len();
-        let taken = if count > room { room + 1 } else { count };
-        let Ok(()) = into.extend_from_slice(&piece[..taken]) else {
-            return Reading::NoMemory;
-        };
-        if count > room {
-            return Reading::TooLong;
+        Err(e) => {
+            if e.kind() == ErrorKind::OutOfMemory {
+                Reading::NoMemory
+            } else {
+                Reading::Failed
+            }
         }
     }
-    Reading::Failed
 }
 
 // Reads the file of a name.
@@ -90,7 +93,7 @@ fn read_file<R: Files>(rt: &R, name: &[u8], limit: usize, into: &mut Vec<u8>) ->
         return Reading::Failed;
     };
     match fs::open(rt, path) {
-        Ok(mut file) => read_whole(&mut file, limit, into),
+        Ok(file) => read_whole(file, limit, into),
         Err(e) => {
             if e.kind() == ErrorKind::NotFound {
                 Reading::Missing
@@ -157,12 +160,36 @@ impl<'a, R: Files> Shelf for FileShelf<'a, R> {
     }
 }
 
-// Writes the file of a name: whether all went well.
+// Hands all bytes to a writer, in their order: whether all went well.
+fn write_whole<W: Write>(writer: &mut W, bytes: &[u8]) -> bool
+    ensures handed_on { result ≡ true → Appends (W.contents writer.old) (W.contents writer.new) bytes.now }
+{
+    writer.write_all(bytes).is_ok()
+}
+
+// Writes the file of a name: whether all went well. The bytes go to a file beside it, whose name is moved over once they
+// are on the disk; where a step fails, the file beside it is removed and an old file of the name stays whole.
 fn write_file<R: Files>(rt: &R, name: &[u8], bytes: &[u8]) -> bool {
-    match str::from_utf8(name) {
-        Ok(path) => fs::write(rt, path, bytes).is_ok(),
-        Err(_) => false,
+    let Ok(path) = str::from_utf8(name) else {
+        return false;
+    };
+    let mut beside = ArrayString::<256>::new();
+    if beside.try_push_str(path).is_err() || beside.try_push('~').is_err() {
+        return false;
     }
+    let Ok(file) = fs::create(rt, beside.as_str()) else {
+        return false;
+    };
+    if write_down(file, bytes) && fs::rename(rt, beside.as_str(), path).is_ok() {
+        return true;
+    }
+    let _ = fs::remove_file(rt, beside.as_str());
+    false
+}
+
+// Writes a new file whole, down to the disk, and closes it.
+fn write_down<F: OpenFile + Write + Drop>(mut file: F, bytes: &[u8]) -> bool {
+    write_whole(&mut file, bytes) && file.sync_all().is_ok()
 }
 
 /// Standard output.
@@ -203,12 +230,10 @@ impl<'a, P: Print> Sink for OutSink<'a, P> {
         ensures failed { result ≡ Keep.Failed → Rose self.old self.new }
         ensures counts { self.new ≡ put_counts result self.old }
     {
-        match io::writer(self.rt).write_all(bytes) {
-            Ok(()) => Keep::Done,
-            Err(_) => {
-                self.faults = self.faults.saturating_add(1);
-                Keep::Failed
-            }
+        if write_whole(&mut io::writer(self.rt), bytes) {
+            return Keep::Done;
         }
+        self.faults = self.faults.saturating_add(1);
+        Keep::Failed
     }
 }

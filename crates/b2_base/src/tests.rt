@@ -1,3 +1,8 @@
+use crate::lexical::{
+    all_printable, at, capped_value, digits_width, dropped, first, front, hex_digit, hex_pair,
+    hex_value, is_digit, is_hex_digit, is_letter, is_printable, is_small_letter, skip_blanks,
+    upper, without_zeros,
+};
 use crate::{
     Addr, AddrList, ByteList, Code, Fetch, FileName, FileShelf, Keep, LineText, MemShelf, MemSink,
     Name8, OutSink, Part, Shelf, Sink, Term, cut,
@@ -38,6 +43,91 @@ fn numbers_and_classes(rt: HostRuntime) -> Result<(), Fail> {
     assert_eq!(rt; Code::known(61).number(), 61);
     assert_eq!(rt; Part::known(1).number(), 1);
     assert_eq!(rt; Term::known(1).number(), 1);
+    Ok(())
+}
+
+#[test]
+fn kinds_of_bytes(rt: HostRuntime) -> Result<(), Fail> {
+    // a byte, and whether it is a digit, a letter, a small letter, a hexadecimal digit and can be shown
+    let kinds = [
+        (0x1f, [false, false, false, false, false]),
+        (b' ', [false, false, false, false, true]),
+        (b'/', [false, false, false, false, true]),
+        (b'0', [true, false, false, true, true]),
+        (b'9', [true, false, false, true, true]),
+        (b':', [false, false, false, false, true]),
+        (b'@', [false, false, false, false, true]),
+        (b'A', [false, true, false, true, true]),
+        (b'F', [false, true, false, true, true]),
+        (b'G', [false, true, false, false, true]),
+        (b'Z', [false, true, false, false, true]),
+        (b'[', [false, false, false, false, true]),
+        (b'`', [false, false, false, false, true]),
+        (b'a', [false, false, true, false, true]),
+        (b'z', [false, false, true, false, true]),
+        (b'{', [false, false, false, false, true]),
+        (b'~', [false, false, false, false, true]),
+        (0x7f, [false, false, false, false, false]),
+        (0xff, [false, false, false, false, false]),
+    ];
+    for (b, [digit, letter, small, hex, printable]) in kinds {
+        assert_eq!(rt; (is_digit(b), is_letter(b)), (digit, letter), "of {b}");
+        assert_eq!(rt;
+            (is_small_letter(b), is_hex_digit(b)),
+            (small, hex),
+            "of {b}"
+        );
+        assert_eq!(rt; is_printable(b), printable, "of {b}");
+    }
+    assert!(rt; all_printable(b" ~") && !all_printable(b" \x7f"));
+    assert_eq!(rt;
+        [upper(b'a'), upper(b'z'), upper(b'{'), upper(b'A')],
+        *b"AZ{A"
+    );
+    assert_eq!(rt;
+        [hex_value(b'0'), hex_value(b'9'), hex_value(b'F')],
+        [0, 9, 15]
+    );
+    assert_eq!(rt; [hex_digit(9), hex_digit(10), hex_digit(15)], *b"9AF");
+    assert_eq!(rt; hex_pair(0xA9), *b"A9");
+    Ok(())
+}
+
+#[test]
+fn fronts_of_texts(rt: HostRuntime) -> Result<(), Fail> {
+    assert_eq!(rt;
+        [first(b"AB"), first(b""), at(b"AB", 1), at(b"AB", 2)],
+        [b'A', 0, b'B', 0]
+    );
+    assert_eq!(rt;
+        (dropped(b"ABC", 1), dropped(b"ABC", 4)),
+        (b"BC".as_slice(), b"".as_slice())
+    );
+    assert_eq!(rt;
+        (front(b"ABC", 1), front(b"ABC", 4)),
+        (b"A".as_slice(), b"ABC".as_slice())
+    );
+    assert_eq!(rt; skip_blanks(b"  A "), b"A ".as_slice());
+    let digits = [
+        (b"".as_slice(), 0, 0),
+        (b"A1", 0, 0),
+        (b"007 ", 3, 7),
+        (b"998", 3, 998),
+        (b"1000A", 4, 999),
+    ];
+    for (text, width, value) in digits {
+        assert_eq!(rt;
+            (digits_width(text), capped_value(text, 999)),
+            (width, value)
+        );
+    }
+    for (digits, plain) in [
+        (b"0".as_slice(), b"0".as_slice()),
+        (b"000", b"0"),
+        (b"0100", b"100"),
+    ] {
+        assert_eq!(rt; without_zeros(digits), plain);
+    }
     Ok(())
 }
 
@@ -154,5 +244,57 @@ fn real_files_and_standard_output(rt: HostRuntime) -> Result<(), Fail> {
     fs::remove_file(&rt, "b2_base_test.tmp")?;
     let mut sink = OutSink::new(&rt);
     assert_eq!(rt; sink.put(b"standard output\n"), Keep::Done);
+    Ok(())
+}
+
+// Ten thousand bytes, which end in `Z`.
+fn large(alloc: Global) -> Result<Vec<u8>, AllocError> {
+    let mut bytes = vec![in alloc; b'A'; 9_999]?;
+    bytes.push(b'Z')?;
+    Ok(bytes)
+}
+
+#[test]
+fn a_large_file_is_kept_whole(rt: HostRuntime) -> Result<(), Fail> {
+    let alloc = rt.alloc();
+    let bytes = large(alloc)?;
+    let mut shelf = FileShelf::new(&rt);
+    assert_eq!(rt; shelf.keep(b"b2_base_large.tmp", &bytes), Keep::Done);
+    let mut into = Vec::new(alloc);
+    assert_eq!(rt;
+        shelf.fetch(b"b2_base_large.tmp", 10_000, &mut into),
+        Fetch::Done
+    );
+    assert!(rt; into.as_slice() == bytes.as_slice());
+    let mut beside = Vec::new(alloc);
+    assert_eq!(rt;
+        shelf.fetch(b"b2_base_large.tmp~", 9, &mut beside),
+        Fetch::Missing
+    );
+    fs::remove_file(&rt, "b2_base_large.tmp")?;
+    let mut sink = OutSink::new(&rt);
+    assert_eq!(rt; sink.put(&bytes), Keep::Done);
+    Ok(())
+}
+
+#[test]
+fn a_folder_in_the_way_loses_nothing(rt: HostRuntime) -> Result<(), Fail> {
+    let alloc = rt.alloc();
+    let mut shelf = FileShelf::new(&rt);
+    fs::create_dir(&rt, "b2_base_folder.tmp")?;
+    assert_eq!(rt; shelf.keep(b"b2_base_folder.tmp", b"new"), Keep::Failed);
+    assert_eq!(rt;
+        shelf.fetch(b"b2_base_folder.tmp~", 9, &mut Vec::new(alloc)),
+        Fetch::Missing
+    );
+    fs::create_dir(&rt, "b2_base_old.tmp~")?;
+    fs::write(&rt, "b2_base_old.tmp", b"old")?;
+    assert_eq!(rt; shelf.keep(b"b2_base_old.tmp", b"new"), Keep::Failed);
+    let mut old = Vec::new(alloc);
+    assert_eq!(rt; shelf.fetch(b"b2_base_old.tmp", 9, &mut old), Fetch::Done);
+    assert_eq!(rt; old.as_slice(), b"old".as_slice());
+    fs::remove_file(&rt, "b2_base_old.tmp")?;
+    fs::remove_dir(&rt, "b2_base_old.tmp~")?;
+    fs::remove_dir(&rt, "b2_base_folder.tmp")?;
     Ok(())
 }

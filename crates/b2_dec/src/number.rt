@@ -18,9 +18,10 @@ pub enum Mode {
 /// A decimal number of thirteen digits. Contracts see it as its sign, its digits and the place of the last of them.
 #[derive(Clone, Copy, Debug, PartialEq, Eq)]
 pub struct Dec {
-    neg: bool,
-    coef: u64,
-    exp: i8,
+    /// The thirteen digits, with the sign of the number.
+    signed_digits: i64,
+    /// The exponent of ten of the first digit.
+    exponent: i64,
 }
 
 impl Model for Dec {
@@ -46,9 +47,8 @@ impl Dec {
         ensures { result ≡ zero_number }
     {
         Dec {
-            neg: false,
-            coef: 0,
-            exp: 0,
+            signed_digits: 0,
+            exponent: 0,
         }
     }
 
@@ -77,10 +77,10 @@ impl Dec {
         requires highest { place ≤ 198 }
         ensures { result ≡ record { neg = neg; coef = coef; place = place } }
     {
+        let digits = coef as i64;
         Dec {
-            neg,
-            coef,
-            exp: (place as i16 - 99) as i8,
+            signed_digits: if neg { -digits } else { digits },
+            exponent: i64::from(place) - 99,
         }
     }
 
@@ -89,21 +89,16 @@ impl Dec {
         ensures value { result ≡ self.place }
         ensures highest { result ≤ 198 }
     {
-        (self.exp as i32 + 99) as u32
+        (self.exponent + 99) as u32
     }
 
     /// The number of the other sign; zero is its own.
     pub(crate) fn opposite(self) -> Dec
         ensures { result ≡ opposite self }
     {
-        if self.coef == 0 {
-            self
-        } else {
-            Dec {
-                neg: !self.neg,
-                coef: self.coef,
-                exp: self.exp,
-            }
+        Dec {
+            signed_digits: -self.signed_digits,
+            exponent: self.exponent,
         }
     }
 
@@ -112,7 +107,7 @@ impl Dec {
         ensures zero { result ≡ (self.coef == 0) }
         ensures spelling { IsNumber self }
     {
-        self.coef == 0
+        self.signed_digits == 0
     }
 
     /// True for numbers below zero.
@@ -120,7 +115,7 @@ impl Dec {
         ensures value { result ≡ self.neg }
         ensures spelling { IsNumber self }
     {
-        self.neg
+        self.signed_digits < 0
     }
 
     /// The thirteen digits as a whole number: 0, or from 10^12 to 10^13 - 1.
@@ -129,13 +124,13 @@ impl Dec {
         ensures digits { result < 10000000000000 }
         ensures spelling { IsNumber self }
     {
-        self.coef
+        self.signed_digits.unsigned_abs()
     }
 
     /// The exponent of ten of the first digit, from -99 to 99; 0 for zero.
     pub fn exponent(self) -> i8
         ensures { result ≡ pos self.place -ℤ pos 99 }
     {
-        self.exp
+        self.exponent as i8
     }
 }

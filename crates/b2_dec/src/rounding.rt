@@ -116,7 +116,7 @@ fn whole_by(mode: Mode, m: u128, dropped: u32) -> u128
 }
 
 /// What every fraction becomes whose whole part is `m` in units of `10 ^ at`, counted from 10^-222.
-pub(crate) fn round_whole_part(neg: bool, m: u128, at: u32, mode: Mode) -> Result<Dec, Code>
+pub fn round_whole_part(neg: bool, m: u128, at: u32, mode: Mode) -> Result<Dec, Code>
     requires digits { 10000000000000 ≤ m }
     requires fits { m < 10 ^ 38 }
     requires near { at < 1000 }
@@ -128,7 +128,7 @@ pub(crate) fn round_whole_part(neg: bool, m: u128, at: u32, mode: Mode) -> Resul
 }
 
 /// What the exact number `m · 10 ^ at`, counted from 10^-222, becomes.
-pub(crate) fn round_exact(neg: bool, m: u128, at: u32, mode: Mode) -> Result<Dec, Code>
+pub fn round_exact(neg: bool, m: u128, at: u32, mode: Mode) -> Result<Dec, Code>
     requires fits { m < 10 ^ 38 }
     requires low { 25 ≤ at }
     requires near { at < 1000 }

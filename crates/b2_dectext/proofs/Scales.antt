@@ -1,5 +1,5 @@
 -- What leading digits say of the fraction that is rounded.
-use Rattle.std.proofs.Common.{◌≡◌, ℕ, zero, suc, ◌+◌, ◌-◌, ◌*◌, ◌/◌, ◌^◌, ◌<◌, ◌≤◌, ◌==◌, Bool, true, false, Ok, Err, refl, sym, ap, ap₂, ◌∙◌, subst, arith, lit<, lit≤, pow-add, mul_assoc, mul_comm, mul-pos, mul-le-mul_right, le_trans, lt_of_lt_of_le, lt_of_le_of_lt, ne_eqb, le-leb, lt-ltb, inl, inr, length, add-zero}
+use Rattle.std.proofs.Common.{◌≡◌, ℕ, zero, suc, ◌+◌, ◌-◌, ◌*◌, ◌/◌, ◌^◌, ◌<◌, ◌≤◌, ◌==◌, Bool, true, false, Ok, Err, refl, sym, ap, ap₂, ◌∙◌, subst, arith, lit<, lit≤, pow-add, mul_assoc, mul_comm, mul-pos, mul-le-mul_right, le_trans, lt_of_lt_of_le, lt_of_le_of_lt, one-mul, ne_eqb, le-leb, lt-ltb, inl, inr, length, add-zero}
 use Rattle.std.proofs.lemmas.Bool.{cases_lt, cases_Bool, lt-leb}
 use native.Mathlib.Nat.{mul-lt-mul_of_pos_right}
 use Rattle.b2_dec.specs.declared.number.Mode.TheVariants.{Round}
@@ -76,23 +76,25 @@ written-some n m more tens some h none =
     let npos : 0 < n = lt_of_lt_of_le u h.low in
     absurd (omega (arith, mul-pos npos (ten_pos tens)))
 
-pub too_low : (n m more tens r low high : ℕ) → IsLeading n m more → m < 10 * 10 ^ r → high ≡ 222 + (more + tens) → high + r < low + 122
+pub too_low : (n m more tens low high : ℕ) → IsLeading n m more → high ≡ 222 + (more + tens) → high < low + 25
     → n * 10 ^ tens * 10 ^ 222 < 10 ^ (13 + 109) * 10 ^ low
-too_low n m more tens r low high h below e far =
-    let next : m + 1 ≤ 10 ^ (1 + r) = rw (pow-add 10 1 r) (omega arith) in
-    let first : n < 10 ^ (1 + r + more) = rw (pow-add 10 (1 + r) more) (lt_of_lt_of_le h.high (mul-le-mul_right (10 ^ more) next)) in
-    let all : n * 10 ^ (tens + 222) < 10 ^ (1 + r + more + (tens + 222)) =
-    rw (pow-add 10 (1 + r + more) (tens + 222)) (mul-lt-mul_of_pos_right first (ten_pos (tens + 222))) in
-    let top : 10 ^ (1 + r + more + (tens + 222)) ≤ 10 ^ (13 + 109 + low) = ten_le _ _ (omega arith) in
+too_low n m more tens low high h e far =
+    let next : m + 1 ≤ 10 ^ 14 = omega (arith, h.few) in
+    let first : n < 10 ^ (14 + more) = rw (pow-add 10 14 more) (lt_of_lt_of_le h.high (mul-le-mul_right (10 ^ more) next)) in
+    let all : n * 10 ^ (tens + 222) < 10 ^ (14 + more + (tens + 222)) =
+    rw (pow-add 10 (14 + more) (tens + 222)) (mul-lt-mul_of_pos_right first (ten_pos (tens + 222))) in
+    let top : 10 ^ (14 + more + (tens + 222)) ≤ 10 ^ (13 + 109 + low) = ten_le _ _ (omega arith) in
     rw (in_tens n tens, ← pow-add 10 (13 + 109) low) (lt_of_lt_of_le all top)
 
-pub too_high : (n m more tens r low high : ℕ) → IsLeading n m more → 10 ^ r ≤ m → high ≡ 222 + (more + tens) → low + 321 < high + r
+pub too_high : (n m more tens low high : ℕ) → IsLeading n m more → (m ≡ 0 → ⊥) → high ≡ 222 + (more + tens) → low + 321 < high
     → 10 ^ (13 + 309) * 10 ^ low ≤ n * 10 ^ tens * 10 ^ 222
-too_high n m more tens r low high h least e far =
-    let first : 10 ^ (r + more) ≤ n = rw (pow-add 10 r more) (le_trans (mul-le-mul_right (10 ^ more) least) h.low) in
-    let all : 10 ^ (r + more + (tens + 222)) ≤ n * 10 ^ (tens + 222) =
-    rw (pow-add 10 (r + more) (tens + 222)) (mul-le-mul_right (10 ^ (tens + 222)) first) in
-    let top : 10 ^ (13 + 309 + low) ≤ 10 ^ (r + more + (tens + 222)) = ten_le _ _ (omega arith) in
+too_high n m more tens low high h some e far =
+    let one : 1 ≤ m = omega arith in
+    let part : 1 * 10 ^ more ≤ m * 10 ^ more = mul-le-mul_right (10 ^ more) one in
+    let first : 10 ^ more ≤ n = le_trans (omega (arith, part)) h.low in
+    let all : 10 ^ (more + (tens + 222)) ≤ n * 10 ^ (tens + 222) =
+    rw (pow-add 10 more (tens + 222)) (mul-le-mul_right (10 ^ (tens + 222)) first) in
+    let top : 10 ^ (13 + 309 + low) ≤ 10 ^ (more + (tens + 222)) = ten_le _ _ (omega arith) in
     rw (in_tens n tens, ← pow-add 10 (13 + 309) low) (le_trans top all)
 
 -- a unit of the last leading digit
@@ -110,24 +112,16 @@ written-part n m more tens at low h e =
     let some : 0 < u = mul-pos (ten_pos tens) (lit< tt) in
     record { low = rw (unit m, all) (mul-le-mul_right u h.low); high = rw (unit (m + 1), all) (mul-lt-mul_of_pos_right h.high some) }
 
-pub written-fourteen : (neg : Bool) (n m more tens at low : ℕ) → IsLeading n m more → 10000000000000 ≤ m → at + low ≡ 222 + (more + tens)
-    → fitted neg ((m + 5) / 10) (at + 1) ≡ rnd Round neg (n * 10 ^ tens) (10 ^ low)
-written-fourteen neg n m more tens at low h large e =
-    ap (λ c. fitted neg c (at + 1)) (half_of m 1 (lit≤ tt))
-    ∙ sym (rnd-whole_part Round neg m at (n * 10 ^ tens) (10 ^ low) 0 (ten_pos low) (written-part n m more tens at low h e) large h.few)
-
-pub written-few : (neg : Bool) (n m more tens at low r : ℕ) → IsLeading n m more → m < 10000000000000 → r ≤ 12 → 10 ^ r ≤ m → m < 10 * 10 ^ r
-    → 25 ≤ at → at + low ≡ 222 + (more + tens) → in_range neg (m * 10 ^ (12 - r)) (at - (12 - r)) ≡ rnd Round neg (n * 10 ^ tens) (10 ^ low)
-written-few neg n m more tens at low r h small few least below far e =
+pub written-exact : (n m more tens at low : ℕ) → IsLeading n m more → m < 10000000000000 → at + low ≡ 222 + (more + tens)
+    → m * (10 ^ at * 10 ^ low) ≡ n * 10 ^ tens * 10 ^ 222
+written-exact n m more tens at low h small e =
     let none : more ≡ 0 = nothing_left n m more h small in
-    let least' : m * 1 ≤ n = subst (λ k. m * 10 ^ k ≤ n) none h.low in
-    let most' : n < (m + 1) * 1 = subst (λ k. n < (m + 1) * 10 ^ k) none h.high in
+    let least : m * 1 ≤ n = subst (λ k. m * 10 ^ k ≤ n) none h.low in
+    let most : n < (m + 1) * 1 = subst (λ k. n < (m + 1) * 10 ^ k) none h.high in
     let same : m ≡ n = omega arith in
     let unit : 10 ^ at * 10 ^ low ≡ 10 ^ tens * 10 ^ 222 =
     leading_unit at low more tens e ∙ ap (λ k. 10 ^ k * (10 ^ tens * 10 ^ 222)) none ∙ omega arith in
-    let exact : m * (10 ^ at * 10 ^ low) ≡ n * 10 ^ tens * 10 ^ 222 =
-    ap₂ (λ a t. a * t) same unit ∙ sym (mul_assoc n (10 ^ tens) (10 ^ 222)) in
-    filled-rnd Round neg m r at (n * 10 ^ tens) (10 ^ low) few least below far (ten_pos low) exact
+    ap₂ (λ a t. a * t) same unit ∙ sym (mul_assoc n (10 ^ tens) (10 ^ 222))
 
 pub written-none : (neg : Bool) (n more tens low : ℕ) → IsLeading n 0 more → rnd Round neg (n * 10 ^ tens) (10 ^ low) ≡ Ok zero_number
 written-none neg n more tens low h =
@@ -135,15 +129,6 @@ written-none neg n more tens low h =
     let most : n < 1 * 1 = subst (λ k. n < 1 * 10 ^ k) none h.high in
     let nought : n ≡ 0 = omega arith in
     rnd-none Round neg (n * 10 ^ tens) (10 ^ low) (rw nought (omega arith))
-
-pub fourteen_digits : (m r : ℕ) → m < 100000000000000 → 10 ^ r ≤ m → r ≤ 13
-fourteen_digits m r few least = let less : r < 14 = ten_lt r 14 (lt_of_le_of_lt least few) in omega arith
-
-pub half-least : (m : ℕ) → 10000000000000 ≤ m → 1000000000000 ≤ (m + 5) / 10
-half-least m large = omega arith
-
-pub half-most : (m : ℕ) → m < 100000000000000 → (m + 5) / 10 ≤ 10000000000000
-half-most m few = omega arith
 
 -- the number of given parts, as code finds it
 pub value_of-divided : (p : Parts) → p.exponent_neg ≡ true

@@ -1,6 +1,5 @@
 // Which number a text begins with.
 ghost use Rattle.std.specs.Prelude.{◌≡◌, ℕ, ◌+◌, ◌-◌, ◌*◌, ◌^◌, ◌<◌, ◌≤◌, ◌==◌, length, IfSome, Some, None, if◌then◌else◌};
-ghost use Rattle.b2_dec.specs.Rounding as spec;
 ghost use Rattle.b2_dec.specs.Rounding.{rnd};
 ghost use Rattle.b2_dec.specs.declared.number.Mode.TheVariants.{Round};
 ghost use Rattle.b2_dectext.specs.Digits.{AreDigits, IsLeading, value_after, digits_value};
@@ -14,40 +13,10 @@ use crate::scanning::{
 };
 use b2_base::Code;
 use b2_base::codes::{C60_UNDERFLOW, C61_OVERFLOW};
-use b2_dec::Dec;
+use b2_dec::{Dec, Mode, round_exact, round_whole_part};
 
 /// The number above the largest thirteen digits.
 const ABOVE: u64 = 10_000_000_000_000;
-
-/// The number of a sign whose thirteen digits end at a place counted from 10^-222; C60 and C61 where its exponent is too
-/// small or too large.
-fn in_range(neg: bool, coef: u64, place: u32) -> Result<Dec, Code>
-    requires least { 1000000000000 ≤ coef }
-    requires most { coef < 10000000000000 }
-    ensures { result ≡ spec.in_range neg coef place }
-{
-    if place < 111 {
-        return Err(Code::known(C60_UNDERFLOW));
-    }
-    if place > 309 {
-        return Err(Code::known(C61_OVERFLOW));
-    }
-    Ok(Dec::at(neg, coef, (place - 111) as u8))
-}
-
-/// The same where rounding may have led to 10^13.
-fn fitted(neg: bool, coef: u64, place: u32) -> Result<Dec, Code>
-    requires least { 1000000000000 ≤ coef }
-    requires most { coef ≤ 10000000000000 }
-    requires near { place < 1000 }
-    ensures { result ≡ spec.fitted neg coef place }
-{
-    if coef == ABOVE {
-        in_range(neg, 1_000_000_000_000, place + 1)
-    } else {
-        in_range(neg, coef, place)
-    }
-}
 
 /// The leading digits of a number that is written, fourteen at most, and how many follow them.
 #[derive(Clone, Copy)]
@@ -102,20 +71,18 @@ fn rounded(neg: bool, digits: u64, high: u128, low: u128) -> Result<Dec, Code>
     if digits == 0 {
         return Ok(Dec::zero());
     }
-    let first = digits.ilog10();
-    let top = high + first as u128;
-    if top < low + 122 {
+    if high < low + 25 {
         return Err(Code::known(C60_UNDERFLOW));
     }
-    if top > low + 321 {
+    if high > low + 321 {
         return Err(Code::known(C61_OVERFLOW));
     }
     let place = (high - low) as u32;
-    if digits >= ABOVE {
-        return fitted(neg, (digits + 5) / 10, place + 1);
+    if digits < ABOVE {
+        round_exact(neg, digits as u128, place, Mode::Round)
+    } else {
+        round_whole_part(neg, digits as u128, place, Mode::Round)
     }
-    let missing = 12 - first;
-    in_range(neg, digits * 10u64.pow(missing), place - missing)
 }
 
 /// The number that the digits of an exponent write, of which there are two at most.

@@ -15,7 +15,7 @@ use Rattle.b2_syntax.specs.declared.LineErr.{LineErr}
 use Rattle.b2_syntax.specs.declared.LineErr.TheVariants.{At}
 use Rattle.b2_lister.specs.Listing.{five_digits, decimal, text_of, listing}
 use Rattle.b2_lister.specs.Laws.{EachListedLineIsReadBack}
-use Rattle.b2_atom.proofs.ReadAgain.{typed_again}
+use Rattle.b2_atom.proofs.lines.ReadAgain.{typed_again}
 
 -- digits, and the number that they spell
 abbrev all_digits : Text → Bool

@@ -158,7 +158,7 @@ fn lines_of_a_program_on_disks(rt: HostRuntime) -> Result<(), Fail> {
 #[test]
 #[rattlefmt::skip]
 fn immediate_lines(rt: HostRuntime) -> Result<(), Fail> {
-    let cases: [(&[u8], &[u8]); 10] = [
+    let cases: [(&[u8], &[u8]); 9] = [
         (b"list", b"\xC3"),
         (b"list 10,20", b"\xC3\xFF\x00\x10,\xFF\x00 "),
         (b"list dc t/d11", b"\xC3\xBCT/D11"),
@@ -166,7 +166,6 @@ fn immediate_lines(rt: HostRuntime) -> Result<(), Fail> {
         (b"run 20", b"\xC4\xFF\x00 "),
         (b"continue", b"\xC5"),
         (b"print 2+2", b"\x9C2+2"),
-        (b"return clear", b"\x86\x87"),
         (b"read a", b"\x97A"),
         (b"  clear", b"\x87"),
     ];

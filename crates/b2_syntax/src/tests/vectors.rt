@@ -1,7 +1,7 @@
 // Written by tools/line_vectors.py.
 
 /// Lines of number 10 as they are typed, with their atoms.
-pub const PROGRAMS_COUNT: usize = 113;
+pub const PROGRAMS_COUNT: usize = 114;
 
 #[rattlefmt::skip]
 pub const PROGRAMS: &[u8] = b"\
@@ -29,6 +29,7 @@ pub const PROGRAMS: &[u8] = b"\
 10 GOSUB'007~85303037\n\
 10 A=1:RETURN~413D313A86\n\
 10 IF A=1 THEN RETURN~8A413D318B86\n\
+10 RETURN CLEAR ALL~868788\n\
 10 RETURN CLEAR~8687\n\
 10 RETURN CLEAR:END~86873A8D\n\
 10 ON A GOTO 1~894183FF0001\n\
@@ -121,7 +122,7 @@ pub const PROGRAMS: &[u8] = b"\
 ";
 
 /// Immediate lines with their atoms.
-pub const IMMEDIATES_COUNT: usize = 97;
+pub const IMMEDIATES_COUNT: usize = 96;
 
 #[rattlefmt::skip]
 pub const IMMEDIATES: &[u8] = b"\
@@ -139,7 +140,6 @@ PRINT FN A(FN2(X1))~9C95412895322858312929\n\
 PRINT 1E5;1E-5;.5;5.;1.5E+10~9C3145353B31452D353B2E353B352E3B312E35452B3130\n\
 A=1:rem  x ~413D313A8020207820\n\
 GOTO 9999~83FF9999\n\
-RETURN CLEAR ALL~868788\n\
 ON A+1 GOTO 1,2,3~89412B3183FF00012CFF00022CFF0003\n\
 IF A=1 THEN IF B=2 THEN END~8A413D318B8A423D328B8D\n\
 IF A=1 THEN 5:ELSE IF B=1 THEN 6:ELSE 7~8A413D318BFF00053A8C8A423D318BFF00063A8CFF0007\n\
@@ -225,7 +225,7 @@ ON A GOTO 1,1,1,1,1,1,1,1,1,1,1,1,1,1,1,1,1,1,1,1,1,1,1,1,1,1,1,1,1,1,1,1,1,1,1,
 ";
 
 /// Lines that are refused, each with its code and its column, or 0 where it has none.
-pub const REFUSALS_COUNT: usize = 140;
+pub const REFUSALS_COUNT: usize = 150;
 
 #[rattlefmt::skip]
 pub const REFUSALS: &[u8] = b"\
@@ -254,6 +254,9 @@ GOTO X~0F06\n\
 10 GOSUB~0F09\n\
 10 GOSUB'X~180A\n\
 A=1:RETURN~1A05\n\
+RETURN CLEAR~1A01\n\
+RETURN CLEAR ALL~1A01\n\
+A=1:RETURN CLEAR~1A05\n\
 ON A GOTO 1,~0F0D\n\
 ON GOTO 1~1104\n\
 10 IF A=1 STOP~160B\n\
@@ -285,6 +288,13 @@ READ 5~1406\n\
 10 DATA 1,~100B\n\
 RESTORE LINE A~0F0E\n\
 CLEAR X~1907\n\
+INIT(00) F$(~110D\n\
+INIT(00) F$(B$)~110D\n\
+INIT(00) F$(1~0B0E\n\
+MAT SEARCH A$(B$),=\"X\" TO C$~110F\n\
+PACK(##)A$(\"X\") FROM 1~110C\n\
+DATASAVE DC A$(~1110\n\
+DATALOAD DC A$(~1110\n\
 INIT(G0)A$~1306\n\
 INIT(20 A$~0B09\n\
 INIT(20)A~1409\n\

@@ -1,4 +1,4 @@
-use Rattle.b2_atom.proofs.LineLaws.{one_tree}
+use Rattle.b2_atom.proofs.lines.LineLaws.{one_tree}
 use Rattle.b2_atom.proofs.laws.no_two_trees_share_atoms.Goals as goal
 
 pub returns : goal.returns

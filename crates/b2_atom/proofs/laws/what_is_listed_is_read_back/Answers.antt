@@ -1,4 +1,4 @@
-use Rattle.b2_atom.proofs.LineLaws.{listed_back}
+use Rattle.b2_atom.proofs.lines.LineLaws.{listed_back}
 use Rattle.b2_atom.proofs.laws.what_is_listed_is_read_back.Goals as goal
 
 pub returns : goal.returns

@@ -1,4 +1,4 @@
-use Rattle.b2_atom.proofs.LineLaws.{read_is_line}
+use Rattle.b2_atom.proofs.lines.LineLaws.{read_is_line}
 use Rattle.b2_atom.proofs.laws.what_is_read_is_a_line.Goals as goal
 
 pub returns : goal.returns

@@ -1,6 +1,6 @@
 use Rattle.std.proofs.Common.{◌≡◌, ◌+◌, ◌-◌, ◌∙◌, arith, ap, sym, length, List}
 use Rattle.b2_atom.specs.Lines.{LineUnit, units_from, next_place, next_text}
-use Rattle.b2_atom.proofs.Units.{next_units}
+use Rattle.b2_atom.proofs.lines.Units.{next_units}
 use Rattle.b2_atom.proofs.line.count_units.Goals as goal
 
 pub loop-i-preserved : goal.loop-i-preserved

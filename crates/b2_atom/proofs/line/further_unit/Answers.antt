@@ -1,6 +1,6 @@
 use Rattle.std.proofs.Common.{◌≡◌, ◌+◌, ◌-◌, ◌&&◌, nat_lt, Bool, false, if◌then◌else◌, ◌∙◌, ap, sym, length, List, ℕ, suc, add-one, [], ◌∷◌}
 use Rattle.b2_atom.specs.Lines.{LineUnit, units_from, unit_at, further_unit, is_further}
-use Rattle.b2_atom.proofs.Units.{next_units, last_unit}
+use Rattle.b2_atom.proofs.lines.Units.{next_units, last_unit}
 use Rattle.b2_atom.proofs.line.further_unit.Goals as goal
 
 -- a unit that isn't the one

@@ -1,4 +1,4 @@
-use Rattle.b2_atom.proofs.Codes.{known_stopped}
+use Rattle.b2_atom.proofs.reading.Codes.{known_stopped}
 use Rattle.b2_atom.proofs.line.read_source.Goals as goal
 
 pub returns-in-Err-clause-known : goal.returns-in-Err-clause-known

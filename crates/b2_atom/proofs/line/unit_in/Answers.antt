@@ -2,7 +2,7 @@ use Rattle.std.proofs.Common.{◌≡◌, ◌+◌, ◌-◌, ◌<◌, ◌==◌, �
 use Rattle.std.specs.Prelude.{slice_get}
 use Rattle.std.specs.Option.{option_map}
 use Rattle.b2_atom.specs.Lines.{LineUnit, units_from, units_of, unit_at, next_place, next_text}
-use Rattle.b2_atom.proofs.Units.{next_units, get_next, is_last_unit, this_unit}
+use Rattle.b2_atom.proofs.lines.Units.{next_units, get_next, is_last_unit, this_unit}
 use Rattle.b2_atom.proofs.line.unit_in.Goals as goal
 
 pub loop-i-preserved : goal.loop-i-preserved

@@ -6,7 +6,7 @@ use Rattle.b2_atom.specs.declared.sink.Stop.{Stop}
 use Rattle.b2_atom.specs.declared.sink.Stop.TheVariants.{NoMemory}
 use Rattle.std.proofs.lemmas.Grind.{common_steps}
 use Rattle.b2_atom.specs.Grammar.{starts, item, level, deep, statement, part, reader, read_item}
-use Rattle.b2_atom.proofs.Binds.{emitted-under, next_item, no_item, row_end, row_of_part, once_more, once_failed, many_end, many_out, statement_ok, statement_err}
+use Rattle.b2_atom.proofs.reading.Binds.{emitted-under, next_item, no_item, row_end, row_of_part, once_more, once_failed, many_end, many_out, statement_ok, statement_err}
 use Rattle.b2_atom.proofs.walk.+walk.Goals as goal
 
 pub part-returns-then-level-eq0-clause-gives : goal.part-returns-then-level-eq0-clause-gives

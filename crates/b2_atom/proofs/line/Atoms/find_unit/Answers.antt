@@ -1,7 +1,7 @@
 use Rattle.std.proofs.Common.{ap, ◌∙◌}
 use Rattle.b2_atom.specs.Lines.{is_line}
 use Rattle.b2_atom.specs.declared.line.FoundUnit.{FoundUnit}
-use Rattle.b2_atom.proofs.Units.{few_found}
+use Rattle.b2_atom.proofs.lines.Units.{few_found}
 use Rattle.b2_atom.proofs.line.Atoms.find_unit.Goals as goal
 
 pub returns-clause-few : goal.returns-clause-few

@@ -1,0 +1,18 @@
+-- The laws of lines, and what each rests on.
+--
+-- Each tree's atoms are a line (`tree_is_line`), and no two trees share their atoms (`one_tree`): LineLaws, by `read_line_back`,
+-- which is `read_back` (reading.ReadBack) for the choices that settled.Choice and settled.Far settle, at the text that
+-- `spells_atoms` (spelling.SpellsAtoms) and `good_tree` (settled.Beside) give.
+-- What is listed is read back (`listed_back`): the same with spelling.SpellsSource. ReadAgain has it once more for a line of
+-- atoms, in the form that the lister asks for (`typed_again`).
+-- Each line spells a tree (`spells_tree`), and what is read is a line (`read_is_line`): LineLaws, by `reads_fit`
+-- (reading.FittedLines), by reading.Sound and by Anywhere, that what some line allows is allowed in a line of atoms.
+-- Each unit is a statement (`each_unit`): EachUnit, by OneUnit, that a statement up to its THEN, ELSE or ERROR is read alike
+-- before other tokens and before nothing.
+-- Units has what the functions that count and find units rest on.
+pub mod Anywhere
+pub mod LineLaws
+pub mod ReadAgain
+pub mod Units
+pub mod OneUnit
+pub mod EachUnit
