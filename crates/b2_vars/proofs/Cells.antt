@@ -12,21 +12,21 @@ use Rattle.b2_vars.specs.Variables.{VariableState, fresh}
 use Rattle.b2_vars.specs.Tables.{Table, IsSound, IsVariable, shape_at, variable_at}
 use Rattle.b2_vars.specs.Calls.{IsPart, part_place}
 
-first : (a b : Bool) → a && b ≡ true → a ≡ true
-first true b p = refl
-first false b p = absurd (true≢false (sym p))
+left_true : (a b : Bool) → a && b ≡ true → a ≡ true
+left_true true b p = refl
+left_true false b p = absurd (true≢false (sym p))
 
-second : (a b : Bool) → a && b ≡ true → b ≡ true
-second true b p = p
-second false b p = absurd (true≢false (sym p))
+right_true : (a b : Bool) → a && b ≡ true → b ≡ true
+right_true true b p = p
+right_true false b p = absurd (true≢false (sym p))
 
 subscript-lt : (size k : ℕ) → is_subscript size k ≡ true → k - 1 < max 1 size
 subscript-lt size k h = grind (arith, nat_tests)
 
 pub cell-lt : (s : Shape) (r c : ℕ) → has_cell s r c ≡ true → cell_at s r c < cells s
 cell-lt s r c h =
-    let rows = subscript-lt s.rows r (first _ _ h) in
-    let cols = subscript-lt s.cols c (second _ _ h) in
+    let rows = subscript-lt s.rows r (left_true _ _ h) in
+    let cols = subscript-lt s.cols c (right_true _ _ h) in
     omega (arith, mul-add-lt (r - 1) (max 1 s.cols) (c - 1) (max 1 s.rows) rows cols)
 
 -- the bytes of a value among those of all

@@ -1,16 +1,11 @@
 -- The names of variables, and their order.
-use Rattle.std.specs.Prelude.{ℕ, Bool, true, ◌&&◌, nat_le, Option, refl}
+use Rattle.std.specs.Prelude.{ℕ, Bool, true, ◌&&◌, Option, refl}
 use Rattle.std.specs.Coded.{Coded, code_by, coded×, coded_ℕ, coded_bool, coded_option}
 use Rattle.std.specs.Option.{option_cmp, option_map_or}
 use Rattle.std.specs.Ordering.{nat_cmp, bool_cmp, ordering_then}
 use Rattle.std.specs.declared.cmp.Ordering.{Ordering}
+use Rattle.b2_base.specs.Lexical.{is_digit, is_letter}
 use Rattle.b2_vars.specs.declared.name.Var.{Var}
-
-abbrev pub is_digit : ℕ → Bool
-is_digit b = nat_le 48 b && nat_le b 57
-
-abbrev pub is_letter : ℕ → Bool
-is_letter b = nat_le 65 b && nat_le b 90
 
 -- a letter, and a digit where there is one
 abbrev pub is_name : Var → Bool

@@ -1,6 +1,7 @@
 -- What stands under a name, as contracts see it, and what each change leaves of it.
 use Rattle.std.specs.Prelude.{◌≡◌, ℕ, ◌+◌, ◌*◌, Bool, true, false, List, ◌++◌, length, take, drop, get_or, replicate, slice_range, slice_set, Option, None, Some, if◌then◌else◌, refl}
 use Rattle.std.specs.Coded.{Coded, code_by, coded×, coded_ℕ, coded_bool, coded_list}
+use Rattle.b2_base.specs.Byte as byte
 use Rattle.b2_dec.specs.Number.{Number, zero_number}
 use Rattle.b2_dec.specs.declared.values.Value.{Value}
 use Rattle.b2_dec.specs.declared.values.Value.TheVariants as value
@@ -27,7 +28,7 @@ coded_variable = code_by ((ℕ × (ℕ × ℕ)) × (Bool × (List Number × List
 
 -- a variable that is made: zeros, or blanks
 abbrev pub fresh : Var → Shape → Bool → VariableState
-fresh v s common = record { shape = s; common = common; numbers = replicate (number_cells v s) zero_number; bytes = replicate (alpha_bytes s) 32 }
+fresh v s common = record { shape = s; common = common; numbers = replicate (number_cells v s) zero_number; bytes = replicate (alpha_bytes s) byte.blank }
 
 -- a number; a scalar that was never set is zero
 abbrev pub number_at : ℕ → Option VariableState → Number
@@ -40,7 +41,7 @@ part from n bytes = slice_range bytes from (from + n)
 
 -- an alpha value; a scalar that was never set is 16 blanks
 abbrev pub alpha_at : ℕ → Option VariableState → List ℕ
-alpha_at cell None = replicate 16 32
+alpha_at cell None = replicate 16 byte.blank
 alpha_at cell (Some x) = part (cell * x.shape.len) x.shape.len x.bytes
 
 abbrev pub value_at : Var → ℕ → Option VariableState → Value

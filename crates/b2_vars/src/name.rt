@@ -2,6 +2,8 @@
 ghost use Rattle.std.specs.Prelude.{◌≡◌};
 ghost use Rattle.b2_vars.specs.Names.{is_name};
 
+use b2_base::lexical::{is_digit, is_letter};
+
 /// The name of a variable: a letter, at most one digit after it, and whether its values are bytes and whether it is an
 /// array. Names that differ in any of these are different variables.
 #[derive(Clone, Copy, Debug, PartialEq, Eq, PartialOrd, Ord, Hash)]
@@ -18,9 +20,9 @@ impl Var {
     pub fn is_name(self) -> bool
         ensures { result ≡ is_name self }
     {
-        self.letter.is_ascii_uppercase()
+        is_letter(self.letter)
             && match self.digit {
-                Some(digit) => digit.is_ascii_digit(),
+                Some(digit) => is_digit(digit),
                 None => true,
             }
     }
