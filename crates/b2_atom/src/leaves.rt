@@ -4,52 +4,14 @@ ghost use Rattle.b2_atom.specs.Leaves as spec;
 
 use crate::forms::Leaf;
 use crate::sink::Stop;
-use crate::words::{
-    LEFT_OUT, Origin, ahead, at, begins_with, dropped, first, kept, skipped, upper,
+use crate::words::{LEFT_OUT, Origin, ahead, kept_byte};
+use b2_base::codes;
+use b2_base::lexical::{
+    at, capped_value, digits_width, dropped, first, is_digit, is_hex_digit, is_letter,
+    is_printable, upper,
 };
 
-pub fn is_digit(byte: u8) -> bool
-    ensures { result ≡ spec.is_digit byte }
-{
-    byte >= b'0' && byte <= b'9'
-}
-
-pub fn is_letter(byte: u8) -> bool
-    ensures { result ≡ spec.is_letter byte }
-{
-    byte >= b'A' && byte <= b'Z'
-}
-
-pub fn is_hex(byte: u8) -> bool
-    ensures { result ≡ spec.is_hex byte }
-{
-    is_digit(byte) || byte >= b'A' && byte <= b'F'
-}
-
-fn is_printable(byte: u8) -> bool
-    ensures { result ≡ spec.is_printable byte }
-{
-    byte >= 0x20 && byte <= 0x7e
-}
-
-// How many digits stand at a text.
-pub fn digits(text: &[u8]) -> usize
-    ensures count { result ≡ spec.digits text.now }
-    ensures within { result ≤ length text.now }
-{
-    let mut rest = text;
-    let mut count = 0usize;
-    while let [byte, after @ ..] = rest {
-        if !is_digit(*byte) {
-            return count;
-        }
-        rest = after;
-        count += 1;
-    }
-    count
-}
-
-// How many bytes of a literal stand before its closing quote.
+/// How many bytes of a literal stand before its closing quote.
 fn until_quote(text: &[u8]) -> usize
     ensures count { result ≡ spec.until_quote text.now }
     ensures within { result ≤ length text.now }
@@ -66,7 +28,7 @@ fn until_quote(text: &[u8]) -> usize
     count
 }
 
-// How many bytes of an image stand before its closing parenthesis.
+/// How many bytes of an image stand before its closing parenthesis.
 fn until_parenthesis(origin: Origin, text: &[u8]) -> usize
     ensures count { result ≡ spec.until_parenthesis origin text.now }
     ensures within { result ≤ length text.now }
@@ -74,7 +36,7 @@ fn until_parenthesis(origin: Origin, text: &[u8]) -> usize
     let mut rest = text;
     let mut count = 0usize;
     while let [byte, after @ ..] = rest {
-        let shown = kept(origin, *byte);
+        let shown = kept_byte(origin, *byte);
         if shown == b')' || !is_printable(shown) || upper(shown) != shown {
             return count;
         }
@@ -84,47 +46,16 @@ fn until_parenthesis(origin: Origin, text: &[u8]) -> usize
     count
 }
 
-/// Whether all bytes can stand in a line.
-pub fn all_printable(text: &[u8]) -> bool
-    ensures { result ≡ spec.all_printable text.now }
-{
-    let mut rest = text;
-    while let [byte, after @ ..] = rest {
-        if !is_printable(*byte) {
-            return false;
-        }
-        rest = after;
-    }
-    true
-}
-
-// The number that the digits at a text spell, at most 999.
-fn small_value(text: &[u8]) -> u16
-    ensures value { result ≡ spec.small_value 0 text.now }
-    ensures small { result ≤ 999 }
-{
-    let mut rest = text;
-    let mut value = 0u16;
-    while let [byte, after @ ..] = rest {
-        if !is_digit(*byte) {
-            return value;
-        }
-        value = (value * 10 + u16::from(*byte - b'0')).min(999);
-        rest = after;
-    }
-    value
-}
-
-// How many bytes spell the digits and the point of a number, or 0.
+/// How many bytes spell the digits and the point of a number, or 0.
 fn mantissa_width(text: &[u8]) -> usize
     ensures count { result ≡ spec.mantissa_width text.now }
     ensures bound { result ≤ length text.now + 1 }
 {
-    let whole = digits(text);
+    let whole = digits_width(text);
     if at(text, whole) != b'.' {
         return whole;
     }
-    let part = digits(dropped(text, whole.saturating_add(1)));
+    let part = digits_width(dropped(text, whole.saturating_add(1)));
     if whole == 0 && part == 0 {
         0
     } else {
@@ -132,12 +63,12 @@ fn mantissa_width(text: &[u8]) -> usize
     }
 }
 
-// How many bytes at a text spell an exponent, or 0.
+/// How many bytes at a text spell an exponent, or 0.
 fn exponent_width(origin: Origin, text: &[u8]) -> usize
     ensures count { result ≡ spec.exponent_width origin text.now }
     ensures short { result ≤ 4 }
 {
-    if kept(origin, first(text)) != b'E' {
+    if kept_byte(origin, first(text)) != b'E' {
         return 0;
     }
     let sign = if at(text, 1) == b'+' || at(text, 1) == b'-' {
@@ -182,7 +113,7 @@ fn signed_number_width(origin: Origin, text: &[u8]) -> usize
     }
 }
 
-// How many bytes spell a name without its `$`, or 0.
+/// How many bytes spell a name without its `$`, or 0.
 fn name_width(origin: Origin, text: &[u8]) -> usize
     ensures count { result ≡ spec.name_width origin text.now }
     ensures short { result ≤ 3 }
@@ -190,7 +121,7 @@ fn name_width(origin: Origin, text: &[u8]) -> usize
     let class = ahead(origin, text).0;
     if is_letter(class) {
         if is_digit(at(text, 1)) { 2 } else { 1 }
-    } else if class == b'@' && is_letter(kept(origin, at(text, 1))) {
+    } else if class == b'@' && is_letter(kept_byte(origin, at(text, 1))) {
         if is_digit(at(text, 2)) { 3 } else { 2 }
     } else {
         0
@@ -272,11 +203,11 @@ fn literal_width(text: &[u8]) -> usize
     }
 }
 
-// Whether a hexadecimal digit stands at a place of a text.
+/// Whether a hexadecimal digit stands at a place of a text.
 fn is_hex_at(origin: Origin, text: &[u8], place: usize) -> bool
     ensures { result ≡ spec.is_hex_at origin text.now place }
 {
-    is_hex(kept(origin, at(text, place)))
+    is_hex_digit(kept_byte(origin, at(text, place)))
 }
 
 fn hex_pair_width(origin: Origin, text: &[u8]) -> usize
@@ -308,8 +239,8 @@ fn address_width(origin: Origin, text: &[u8]) -> usize
 fn small_width(text: &[u8]) -> usize
     ensures { result ≡ spec.small_width text.now }
 {
-    if small_value(text) <= 255 {
-        digits(text)
+    if capped_value(text, 999) <= 255 {
+        digits_width(text)
     } else {
         0
     }
@@ -319,8 +250,8 @@ fn slot_width(text: &[u8]) -> usize
     ensures { result ≡ spec.slot_width text.now }
 {
     let number = dropped(text, 1);
-    let count = digits(number);
-    if first(text) == b'#' && count > 0 && small_value(number) <= 15 {
+    let count = digits_width(number);
+    if first(text) == b'#' && count > 0 && capped_value(number, 999) <= 15 {
         count.saturating_add(1)
     } else {
         0
@@ -377,7 +308,7 @@ pub fn refused(origin: Origin, code: u8, text: &[u8]) -> Stop
     ensures known { result ≢ Stop.NoMemory }
 {
     if ahead(origin, text).0 == LEFT_OUT {
-        Stop::At(27, text.len())
+        Stop::At(codes::S27_LEFT_OUT, text.len())
     } else {
         Stop::At(code, text.len())
     }
@@ -390,7 +321,7 @@ pub fn missing(origin: Origin, leaf: Leaf, code: u8, text: &[u8]) -> Stop
     match leaf {
         Leaf::Literal => missing_literal(origin, code, text),
         Leaf::HexPair => {
-            if is_hex(kept(origin, first(text))) {
+            if is_hex_digit(kept_byte(origin, first(text))) {
                 Stop::At(code, text.len().saturating_sub(1))
             } else {
                 Stop::At(code, text.len())
@@ -412,7 +343,7 @@ pub fn missing(origin: Origin, leaf: Leaf, code: u8, text: &[u8]) -> Stop
     }
 }
 
-// Where a quote opens, its literal is empty or isn't closed.
+/// Where a quote opens, its literal is empty or isn't closed.
 fn missing_literal(origin: Origin, code: u8, text: &[u8]) -> Stop
     ensures { result ≡ spec.missing_literal origin code text.now }
 {
@@ -420,8 +351,8 @@ fn missing_literal(origin: Origin, code: u8, text: &[u8]) -> Stop
         return refused(origin, code, text);
     }
     if at(text, 1) == b'"' {
-        return Stop::At(18, text.len());
+        return Stop::At(codes::S18_ALPHA, text.len());
     }
     let count = until_quote(dropped(text, 1));
-    Stop::At(19, text.len().saturating_sub(count.saturating_add(1)))
+    Stop::At(codes::S19_HEX_OR_QUOTE, text.len().saturating_sub(count.saturating_add(1)))
 }

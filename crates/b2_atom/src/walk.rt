@@ -1,6 +1,6 @@
 // One walk over the table of forms, from a source as from atoms.
 ghost use Rattle.std.specs.Prelude.{◌≡◌, ◌≤◌, ◌<◌, ◌+◌, ℕ, [], length, map, get_or, MatchResult, IfErr};
-ghost use Rattle.b2_atom.specs.Tree.{seen, is_silent, IsFree, Gives, Stops};
+ghost use Rattle.b2_atom.specs.Tree.{seen_sink, Takes};
 ghost use Rattle.b2_atom.specs.Table.{rows_0, rows_1, rows_2, rows_3};
 ghost use Rattle.b2_atom.specs.Grammar as spec;
 
@@ -11,6 +11,7 @@ use crate::sink::{Sink, Stop};
 use crate::starts::{begins, statement_row};
 use crate::table::{ROWS_0, ROWS_1, ROWS_2, ROWS_3};
 use crate::words::Origin;
+use b2_base::codes;
 
 /// How many parentheses may be open at a place.
 pub const DEPTH: u8 = 32;
@@ -18,7 +19,7 @@ pub const DEPTH: u8 = 32;
 /// How many parts may stand in one another between two parentheses; no form has as many.
 pub const LEVELS: u8 = 40;
 
-// A row of a table, or an empty one.
+/// A row of a table, or an empty one.
 fn row_in(table: &'static [&'static [Item]], place: usize) -> &'static [Item]
     ensures { result.now ≡ get_or (map (λ r. r.now) table.now) place [] }
 {
@@ -28,7 +29,7 @@ fn row_in(table: &'static [&'static [Item]], place: usize) -> &'static [Item]
     }
 }
 
-// A row.
+/// A row.
 #[tactic(auto, unfolding(crate::specs::Grammar::row_items))]
 fn row_items(number: u16) -> &'static [Item]
     ensures { result.now ≡ spec.row_items number }
@@ -46,7 +47,7 @@ fn row_items(number: u16) -> &'static [Item]
     }
 }
 
-// Reads an item.
+/// Reads an item.
 #[cycle(walk)]
 fn take_item<'a>(
     out: &mut Sink,
@@ -59,9 +60,7 @@ fn take_item<'a>(
 ) -> Result<&'a [u8], Stop>
     requires room { room ≤ 32 }
     requires level { level ≤ 40 }
-    ensures gives { MatchResult result (λ rest. Gives (seen out.old) (spec.item (spec.statement (spec.reader origin) fuel) (spec.deep (spec.reader origin) (spec.statement (spec.reader origin) fuel) room) (spec.part origin fuel room level) (spec.reader origin) item text.now) (seen out.new) rest.now) (λ e. Stops (seen out.old) (spec.item (spec.statement (spec.reader origin) fuel) (spec.deep (spec.reader origin) (spec.statement (spec.reader origin) fuel) room) (spec.part origin fuel room level) (spec.reader origin) item text.now) e) }
-    ensures memory { IfErr result (IsFree (seen out.old)) }
-    ensures silent { is_silent (seen out.new) ≡ is_silent (seen out.old) }
+    ensures { Takes (seen_sink out.old) (spec.item_of_part origin fuel room level item text.now) (seen_sink out.new) result }
 {
     match item {
         Item::Part(row) => part(out, origin, fuel, room, level, row, text),
@@ -99,7 +98,7 @@ fn take_item<'a>(
     }
 }
 
-// Reads a part as often as it begins.
+/// Reads a part as often as it begins.
 #[cycle(walk)]
 fn many<'a>(
     out: &mut Sink,
@@ -113,9 +112,7 @@ fn many<'a>(
 ) -> Result<&'a [u8], Stop>
     requires room { room ≤ 32 }
     requires level { level ≤ 40 }
-    ensures gives { MatchResult result (λ rest. Gives (seen out.old) (spec.many (spec.reader origin) start (spec.part origin fuel room level row) (length text.now) text.now) (seen out.new) rest.now) (λ e. Stops (seen out.old) (spec.many (spec.reader origin) start (spec.part origin fuel room level row) (length text.now) text.now) e) }
-    ensures memory { IfErr result (IsFree (seen out.old)) }
-    ensures silent { is_silent (seen out.new) ≡ is_silent (seen out.old) }
+    ensures { Takes (seen_sink out.old) (spec.many (spec.reader origin) start (spec.part origin fuel room level row) (length text.now) text.now) (seen_sink out.new) result }
 {
     let mut left = text;
     for _ in 0..text.len() {
@@ -125,12 +122,12 @@ fn many<'a>(
         left = part(out, origin, fuel, room, level, row, left)?;
     }
     if begins(origin, start, left) {
-        return Err(Stop::At(14, 0));
+        return Err(Stop::At(codes::S14_STATEMENT, 0));
     }
     Ok(left)
 }
 
-// Reads a part.
+/// Reads a part.
 #[cycle(walk)]
 fn part<'a>(
     out: &mut Sink,
@@ -143,12 +140,10 @@ fn part<'a>(
 ) -> Result<&'a [u8], Stop>
     requires room { room ≤ 32 }
     requires level { level ≤ 40 }
-    ensures gives { MatchResult result (λ rest. Gives (seen out.old) (spec.part origin fuel room level row text.now) (seen out.new) rest.now) (λ e. Stops (seen out.old) (spec.part origin fuel room level row text.now) e) }
-    ensures memory { IfErr result (IsFree (seen out.old)) }
-    ensures silent { is_silent (seen out.new) ≡ is_silent (seen out.old) }
+    ensures { Takes (seen_sink out.old) (spec.part origin fuel room level row text.now) (seen_sink out.new) result }
 {
     if level == 0 {
-        return Err(Stop::At(14, 0));
+        return Err(Stop::At(codes::S14_STATEMENT, 0));
     }
     let mut wanted = row_items(row);
     let mut left = text;
@@ -159,7 +154,7 @@ fn part<'a>(
     Ok(left)
 }
 
-// Reads a statement, with the statements that follow it behind THEN, ELSE or ERROR.
+/// Reads a statement, with the statements that follow it after THEN, ELSE or ERROR.
 #[cycle(walk)]
 pub fn statement<'a>(
     out: &mut Sink,
@@ -168,9 +163,7 @@ pub fn statement<'a>(
     place: Place,
     text: &'a [u8],
 ) -> Result<&'a [u8], Stop>
-    ensures gives { MatchResult result (λ rest. Gives (seen out.old) (spec.statement (spec.reader origin) fuel place text.now) (seen out.new) rest.now) (λ e. Stops (seen out.old) (spec.statement (spec.reader origin) fuel place text.now) e) }
-    ensures memory { IfErr result (IsFree (seen out.old)) }
-    ensures silent { is_silent (seen out.new) ≡ is_silent (seen out.old) }
+    ensures { Takes (seen_sink out.old) (spec.statement (spec.reader origin) fuel place text.now) (seen_sink out.new) result }
 {
     if fuel == 0 {
         return Ok(text);
@@ -183,9 +176,7 @@ pub fn statement<'a>(
 
 /// Reads a whole line.
 pub fn read_line<'a>(out: &mut Sink, origin: Origin, text: &'a [u8]) -> Result<&'a [u8], Stop>
-    ensures gives { MatchResult result (λ rest. Gives (seen out.old) (spec.read_line origin text.now) (seen out.new) rest.now) (λ e. Stops (seen out.old) (spec.read_line origin text.now) e) }
-    ensures memory { IfErr result (IsFree (seen out.old)) }
-    ensures silent { is_silent (seen out.new) ≡ is_silent (seen out.old) }
+    ensures { Takes (seen_sink out.old) (spec.read_line origin text.now) (seen_sink out.new) result }
 {
     part(out, origin, text.len() + 1, DEPTH, LEVELS, rows::LINE, text)
 }

@@ -76,11 +76,38 @@ at_sign = 64
 abbrev pub upper_a : ℕ
 upper_a = 65
 
+abbrev pub upper_b : ℕ
+upper_b = 66
+
+abbrev pub upper_d : ℕ
+upper_d = 68
+
 abbrev pub upper_e : ℕ
 upper_e = 69
 
 abbrev pub upper_f : ℕ
 upper_f = 70
+
+abbrev pub upper_g : ℕ
+upper_g = 71
+
+abbrev pub upper_n : ℕ
+upper_n = 78
+
+abbrev pub upper_o : ℕ
+upper_o = 79
+
+abbrev pub upper_p : ℕ
+upper_p = 80
+
+abbrev pub upper_r : ℕ
+upper_r = 82
+
+abbrev pub upper_t : ℕ
+upper_t = 84
+
+abbrev pub upper_v : ℕ
+upper_v = 86
 
 abbrev pub upper_z : ℕ
 upper_z = 90

@@ -5,7 +5,7 @@ use Rattle.b2_dec.specs.Number.{Number, zero_number}
 use Rattle.b2_dec.specs.declared.number.Mode.{Mode}
 use Rattle.b2_dectext.specs.NumberText.{number_len, number_value}
 use Rattle.b2_atom.specs.Words.{Text}
-use Rattle.b2_atom.specs.Leaves.{is_letter}
+use Rattle.b2_base.specs.Lexical.{is_letter}
 use Rattle.b2_atom.specs.Tokens.Token.{Coded, Plain, Lined}
 use Rattle.b2_atom.specs.Tree.{Trees}
 use Rattle.b2_atom.specs.Tree.Trees.{Done, Put, In}

@@ -3,8 +3,9 @@ use Rattle.std.specs.Prelude.{ℕ, zero, suc, ◌-◌, ◌==◌, ◌||◌, lengt
 use Rattle.b2_base.specs.declared.codes.TheConstants.{S27_LEFT_OUT}
 use Rattle.b2_dec.specs.Number.{Number, zero_number}
 use Rattle.b2_dec.specs.declared.number.Mode.{Mode}
-use Rattle.b2_atom.specs.Words.{Text, first}
-use Rattle.b2_atom.specs.Leaves.{is_digit, is_letter, number_width}
+use Rattle.b2_base.specs.Lexical.{first, is_digit, is_letter}
+use Rattle.b2_atom.specs.Words.{Text}
+use Rattle.b2_atom.specs.Leaves.{number_width}
 use Rattle.b2_atom.specs.declared.words.Origin.TheVariants as origin
 use Rattle.b2_expr.specs.Operators.{is_operator, operator_of, joined, signed}
 use Rattle.b2_expr.specs.Value.{Surroundings, Answer, literal_value}

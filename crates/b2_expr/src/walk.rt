@@ -6,9 +6,10 @@ ghost use Rattle.b2_expr.specs.Walk.{operator_at, level_at, item_at, factor_at, 
 
 use crate::operators::{Level, Operator, joined, operator_of, signed};
 use crate::value::Env;
-use b2_atom::{Origin, dropped, front, number_width};
+use b2_atom::{Origin, number_width};
 use b2_base::Code;
 use b2_base::codes::{S17_NUMERIC, S27_LEFT_OUT};
+use b2_base::lexical::{dropped, front};
 use b2_dec::Dec;
 use b2_dectext::literal;
 

@@ -7,20 +7,20 @@
 
 ghost use Rattle.std.specs.Prelude.{◌≡◌, ◌++◌, OnOk, OnErr};
 ghost use Rattle.b2_lister.specs.Listing.{five_digits, listing};
-ghost use Rattle.b2_atom.specs.Tokens.{without_zeros};
 
 use b2_atom::Atoms;
 use b2_base::NoMemory;
+use b2_base::lexical::without_zeros;
 use std::alloc::Global;
 
 mod laws;
 #[cfg(test)]
 mod tests;
 
-pub use laws::each_listed_line_is_read_back;
+pub use laws::{each_listed_line_is_read_back, each_tree_is_listed_and_read_back};
 
-// The five digits of a number.
-fn digits(number: u16) -> [u8; 5]
+/// The five digits of a number.
+fn five_digits(number: u16) -> [u8; 5]
     ensures { result ≡ five_digits number }
 {
     [
@@ -32,26 +32,12 @@ fn digits(number: u16) -> [u8; 5]
     ]
 }
 
-// Digits without the zeros at their front, but the last.
-fn without_zeros(digits: &[u8]) -> &[u8]
-    ensures { result.now ≡ without_zeros digits.now }
-{
-    let mut left = digits;
-    while let [b'0', others @ ..] = left {
-        if others.is_empty() {
-            return left;
-        }
-        left = others;
-    }
-    left
-}
-
 /// Appends the number of a line, a blank and its canonical source; after `NoMemory` nothing is appended.
 pub fn list(alloc: Global, line: u16, atoms: &Atoms, into: &mut Vec<u8>) -> Result<(), NoMemory>
     ensures ok { OnOk result (into.new.items ≡ into.old.items ++ listing line atoms.now) }
     ensures err { OnErr result (into.new.items ≡ into.old.items) }
 {
-    let digits = digits(line);
+    let digits = five_digits(line);
     let source = atoms.source(alloc)?;
     let mut text = Vec::new(alloc);
     text.extend_from_slice(without_zeros(&digits))?;

@@ -1,7 +1,8 @@
 -- Tests that hold: of two, of one of two, and of numbers; and the byte that a text begins with.
 use Rattle.std.proofs.Common.{◌≡◌, ℕ, Bool, true, false, not, ◌==◌, ◌&&◌, ◌||◌, nat_lt, [], ◌∷◌, drop, refl, ap, arith}
 use Rattle.std.proofs.lemmas.Bool.Decides.{nat_tests}
-use Rattle.b2_atom.specs.Words.{Text, first}
+use Rattle.b2_base.specs.Lexical.{first}
+use Rattle.b2_atom.specs.Words.{Text}
 
 pub and_left : (a b : Bool) → (a && b) ≡ true → a ≡ true
 and_left true b h = refl

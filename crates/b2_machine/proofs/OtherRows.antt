@@ -1,8 +1,9 @@
 -- Units whose statement isn't built: the first byte or the first two say so, as computed over all forms.
 use Rattle.std.proofs.Common.{◌≡◌, ℕ, Bool, true, false, not, if◌then◌else◌, ◌==◌, ◌&&◌, ◌||◌, nat_lt, nat_le, List, [], ◌∷◌, length, drop, refl, sym, ap, subst, ◌∙◌, arith, inl, inr, ◌⊎◌, Ok, Err}
 use Rattle.std.proofs.lemmas.Bool.Decides.{nat_tests}
-use Rattle.b2_atom.specs.Words.{Text, first}
-use Rattle.b2_atom.specs.Leaves.{is_letter, refused}
+use Rattle.b2_base.specs.Lexical.{first, is_letter}
+use Rattle.b2_atom.specs.Words.{Text}
+use Rattle.b2_atom.specs.Leaves.{refused}
 use Rattle.b2_atom.specs.Grammar.{starts, row_at, allowed, barred_following, barred_line, barred_place, variable_begins}
 use Rattle.b2_atom.specs.Table.{forms}
 use Rattle.b2_atom.specs.declared.words.Origin.TheVariants.{Atoms}

@@ -3,7 +3,8 @@ use Rattle.std.proofs.Common.{◌≡◌, ℕ, zero, suc, ◌+◌, ◌≤◌, Boo
 use Rattle.b2_print.specs.Layout.{layout}
 use Rattle.b2_print.specs.declared.layout.Item.{Item as Shown}
 use Rattle.b2_print.specs.declared.layout.Item.TheVariants as shown
-use Rattle.b2_atom.specs.Words.{Text, first}
+use Rattle.b2_base.specs.Lexical.{first}
+use Rattle.b2_atom.specs.Words.{Text}
 use Rattle.b2_atom.specs.Tokens.Token.{Coded}
 use Rattle.b2_atom.specs.Tree.{Trees, Outcome, Parser, and_then, under, also}
 use Rattle.b2_atom.specs.Tree.Trees.{Done, Put, In}
@@ -19,7 +20,7 @@ use Rattle.b2_atom.specs.declared.words.TheConstants as word
 use Rattle.b2_expr.specs.Value.{Surroundings, Answer, ◌>>=◌, inside, behind, branch, choose, value, not_built as left_out}
 use Rattle.b2_expr.specs.Walk.{left, expression_at}
 use Rattle.b2_machine.specs.Plan.{built_width, asked, printed_at, number_printed, ended, behind_items, further_items, print_items, width, plan_with}
-use Rattle.b2_machine.specs.Planned.{is_built_tree, where_tree_built, item_value, item_in, separator_in, further_in, ends_line, shown_in}
+use Rattle.b2_machine.specs.AskedByTree.{is_built_tree, where_tree_built, item_value, item_in, separator_in, further_in, ends_line, shown_in}
 use Rattle.b2_machine.specs.declared.request.Request.TheVariants as request
 use Rattle.b2_machine.specs.declared.statement.Printed.{Printed}
 use Rattle.b2_machine.specs.declared.statement.Printed.TheVariants as printed

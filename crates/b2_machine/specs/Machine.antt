@@ -1,6 +1,7 @@
 -- The machine of one partition at one terminal: its state, a step and a turn.
 use Rattle.std.specs.Prelude.{ℕ, suc, zero, ◌+◌, ◌/◌, ◌%◌, ◌==◌, nat_lt, Bool, List, [], ◌∷◌, ◌++◌, length, set, replicate, codes, filter, flat_map, Option, Some, None, Result, Ok, Err, option_map, if◌then◌else◌, slice_get}
 use Rattle.std.specs.Fmt.{decimal}
+use Rattle.b2_base.specs.Byte as byte
 use Rattle.b2_base.specs.Codes.{class_of}
 use Rattle.b2_base.specs.declared.codes.Fault.{Fault}
 use Rattle.b2_base.specs.declared.codes.Fault.TheVariants as fault
@@ -48,16 +49,16 @@ pub record Stepped : Type 0 where
   pub after : SoloState
   pub end : StepEnd
 
--- it becomes ready, and `:` is to be shown behind a text
+-- it becomes ready, and `:` is to be shown after a text
 abbrev pub stops : List ℕ → SoloState → Stepped
-stops text s = record { after = record s { pending = Some (text ++ 58 ∷ []); doing = Ready }; end = ends.Ready }
+stops text s = record { after = record s { pending = Some (text ++ byte.colon ∷ []); doing = Ready }; end = ends.Ready }
 
 abbrev pub goes_to : Place → SoloState → Stepped
 goes_to place s = record { after = record s { doing = Running place }; end = ends.GoesOn }
 
 -- `ERR`, the letter of a code's class and its two digits
 abbrev pub code_text : ℕ → List ℕ
-code_text code = codes "ERR " ++ class_of code ∷ (48 + code / 10) ∷ (48 + code % 10) ∷ []
+code_text code = codes "ERR " ++ class_of code ∷ (byte.digit_0 + code / 10) ∷ (byte.digit_0 + code % 10) ∷ []
 
 -- ` AT l` for a program line
 abbrev pub at_text : Place → List ℕ
@@ -65,15 +66,19 @@ at_text (Immediate unit) = []
 at_text (Program line unit) = codes " AT " ++ decimal line
 
 abbrev pub error_text : ℕ → Place → List ℕ
-error_text code place = code_text code ++ at_text place ++ 10 ∷ []
+error_text code place = code_text code ++ at_text place ++ byte.newline ∷ []
+
+-- the letter of the codes that have a column
+abbrev pub class_s : ℕ
+class_s = 83
 
 -- ` COL c` for a code of class S
 abbrev pub column_text : ℕ → ℕ → List ℕ
-column_text code column = if class_of code == 83 then codes " COL " ++ decimal column else []
+column_text code column = if class_of code == class_s then codes " COL " ++ decimal column else []
 
 -- why a typed line isn't taken
 abbrev pub refusal_text : ℕ → ℕ → List ℕ
-refusal_text code column = code_text code ++ column_text code column ++ 10 ∷ []
+refusal_text code column = code_text code ++ column_text code column ++ byte.newline ∷ []
 
 -- an error at a place
 abbrev pub fails : ℕ → Place → SoloState → Stepped
@@ -84,7 +89,7 @@ abbrev pub to_line : Option ℕ → SoloState → Stepped
 to_line None s = stops [] s
 to_line (Some n) s = goes_to (Program n 0) s
 
--- the place behind a unit, which is the last of its line or not
+-- the place after a unit, which is the last of its line or not
 abbrev pub goes_on : Place → Bool → SoloState → Stepped
 goes_on (Immediate unit) last s = if last then stops [] s else goes_to (Immediate (unit + 1)) s
 goes_on (Program line unit) last s = if last then to_line (number_after (Some line) s.text.lines) s else goes_to (Program line (unit + 1)) s
@@ -94,7 +99,7 @@ shows text s = record s { terminal = record s.terminal { transcript = s.terminal
 
 -- pending output goes on a line of its own
 abbrev pub on_new_line : List ℕ → SoloState → List ℕ
-on_new_line text s = if s.column == 0 then text else 10 ∷ text
+on_new_line text s = if s.column == 0 then text else byte.newline ∷ text
 
 abbrev pub jumps : Option (List ℕ) → ℕ → Place → SoloState → Stepped
 jumps None n place s = fails P36_NO_LINE place s
@@ -110,7 +115,7 @@ assigned (l ∷ ls) x values = assigned ls x (set values l x)
 
 -- lines as they are listed, each ended by a newline
 abbrev pub each_listed : Lines → List ℕ
-each_listed lines = flat_map (λ l. listing l.0 l.1 ++ 10 ∷ []) lines
+each_listed lines = flat_map (λ l. listing l.0 l.1 ++ byte.newline ∷ []) lines
 
 -- the lines from a number to another as they are listed
 abbrev pub listed : ℕ → ℕ → Lines → List ℕ
@@ -130,7 +135,7 @@ does request.Nothing place last s = goes_on place last s
 does request.End place last s = stops [] s
 does request.Run place last s = to_line (number_after None s.text.lines) (record s { variables = no_values })
 does (request.List from to) place last s = goes_on place last (shows (listed from to s.text.lines) s)
-does request.Clear place last s = stops (codes "READY" ++ 10 ∷ []) (record (with_lines [] s) { variables = no_values })
+does request.Clear place last s = stops (codes "READY" ++ byte.newline ∷ []) (record (with_lines [] s) { variables = no_values })
 does (request.ClearProgram from to) place last s = stops [] (with_lines (without from to s.text.lines) s)
 does (request.Fail code) place last s = fails code place s
 
@@ -143,8 +148,8 @@ abbrev pub line_in : Option (List ℕ) → Lines → Place → Option (List ℕ)
 line_in immediate lines (Immediate unit) = immediate
 line_in immediate lines (Program line unit) = line_at line lines
 
-abbrev pub line_of : Place → SoloState → Option (List ℕ)
-line_of place s = line_in s.immediate s.text.lines place
+abbrev pub current_line : Place → SoloState → Option (List ℕ)
+current_line place s = line_in s.immediate s.text.lines place
 
 -- a unit that isn't there ends the program or the immediate line
 abbrev pub performs_unit : Option (List ℕ) → Place → Bool → SoloState → Stepped
@@ -157,14 +162,14 @@ performs_in (Some line) place s = performs_unit (option_map (λ u. u.bytes) (sli
 
 -- what a typed line says is taken; a number alone deletes the line of that number
 abbrev pub enters : Entered → SoloState → SoloState
-enters entered.Empty s = record s { pending = Some (58 ∷ []) }
+enters entered.Empty s = record s { pending = Some (byte.colon ∷ []) }
 enters (entered.Delete n) s = record s { doing = Entering (n, None) }
 enters (entered.Numbered n atoms) s = record s { doing = Entering (n, Some atoms) }
 enters (entered.Immediate atoms) s = record s { immediate = Some atoms; doing = Running (Immediate 0) }
 
 -- or what is missing is shown
 abbrev pub refuses : ℕ → ℕ → SoloState → SoloState
-refuses code column s = record s { pending = Some (refusal_text code column ++ 58 ∷ []) }
+refuses code column s = record s { pending = Some (refusal_text code column ++ byte.colon ∷ []) }
 
 -- or a fault's code, where it has one
 abbrev pub refuses_by : Fault → SoloState → SoloState
@@ -183,7 +188,7 @@ reads read.NoKeys s = record { after = s; end = ends.NoKeys }
 
 -- the program has these lines from now on
 abbrev pub edited : Lines → SoloState → SoloState
-edited lines s = record (with_lines lines s) { pending = Some (58 ∷ []) }
+edited lines s = record (with_lines lines s) { pending = Some (byte.colon ∷ []) }
 
 -- a numbered line goes into the program where its area has room, and a number alone takes its line out
 abbrev pub puts : ℕ → Option (List ℕ) → SoloState → SoloState
@@ -196,7 +201,7 @@ puts n (Some atoms) s =
 abbrev pub acts : Doing → SoloState → Stepped
 acts Ready s = reads (line_read s.terminal) (record s { terminal = after_read s.terminal })
 acts (Entering line) s = record { after = record (puts line.0 line.1 s) { doing = Ready }; end = ends.GoesOn }
-acts (Running place) s = performs_in (line_of place s) place s
+acts (Running place) s = performs_in (current_line place s) place s
 
 abbrev pub step_by : Option (List ℕ) → SoloState → Stepped
 step_by None s = acts s.doing s
@@ -234,7 +239,7 @@ started = record {
   variables = no_values;
   text = record { area = 8192; lines = [] };
   immediate = None;
-  pending = Some (codes "READY" ++ 10 ∷ 58 ∷ []);
+  pending = Some (codes "READY" ++ byte.newline ∷ byte.colon ∷ []);
   doing = Ready;
 }
 

@@ -1,6 +1,7 @@
 -- What events do, and what a run writes.
 use Rattle.std.specs.Prelude.{ℕ, zero, suc, ◌+◌, ◌-◌, ◌^◌, min, nat_lt, List, [], ◌∷◌, ◌++◌, length, codes, if◌then◌else◌}
 use Rattle.std.specs.Fmt.{decimal}
+use Rattle.b2_base.specs.Byte as byte
 use Rattle.b2_base.specs.Counts.{counted}
 use Rattle.b2_machine.specs.Machine.{Turned, byte_keyed, turned, started}
 use Rattle.b2_mvp.specs.declared.log.Event.{Event}
@@ -45,4 +46,4 @@ started_world = record { solo = started; turns = 0; steps = 0; dropped = 0 }
 
 -- the line that a run ends with
 abbrev pub summary : World → List ℕ
-summary w = codes "turns " ++ decimal w.turns ++ codes " steps " ++ decimal w.steps ++ codes " dropped " ++ decimal w.dropped ++ 10 ∷ []
+summary w = codes "turns " ++ decimal w.turns ++ codes " steps " ++ decimal w.steps ++ codes " dropped " ++ decimal w.dropped ++ byte.newline ∷ []

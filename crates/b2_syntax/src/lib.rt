@@ -13,6 +13,7 @@ ghost use Rattle.b2_syntax.specs.Reading as spec;
 use b2_atom::{Atoms, Origin, Stop};
 use b2_base::Code;
 use b2_base::codes::{A04_TOO_DEEP, A05_LINE_TOO_LONG, A07_LINE_NUMBER, S29_BYTE};
+use b2_base::lexical::{capped_value, digits_width, dropped, is_printable, skip_blanks};
 use std::alloc::Global;
 
 #[cfg(test)]
@@ -39,21 +40,9 @@ pub enum LineErr {
     NoMemory,
 }
 
-fn is_printable(byte: u8) -> bool
-    ensures { result ≡ spec.is_printable byte }
-{
-    byte >= 0x20 && byte <= 0x7e
-}
-
-fn is_digit(byte: u8) -> bool
-    ensures { result ≡ spec.is_digit byte }
-{
-    byte >= b'0' && byte <= b'9'
-}
-
-// How many bytes stand before the first that can't stand in a line.
-fn printable(line: &[u8]) -> usize
-    ensures count { result ≡ spec.printable line.now }
+/// How many bytes stand before the first that can't stand in a line.
+fn printable_width(line: &[u8]) -> usize
+    ensures count { result ≡ spec.printable_width line.now }
     ensures within { result ≤ length line.now }
 {
     let mut rest = line;
@@ -68,49 +57,7 @@ fn printable(line: &[u8]) -> usize
     count
 }
 
-// Without the blanks at the front.
-fn skip_blanks(line: &[u8]) -> &[u8]
-    ensures { result.now ≡ spec.skip_blanks line.now }
-{
-    let mut rest = line;
-    while let [b' ', after @ ..] = rest {
-        rest = after;
-    }
-    rest
-}
-
-// What stands behind the digits at the front.
-fn behind_digits(line: &[u8]) -> &[u8]
-    ensures { result.now ≡ spec.behind_digits line.now }
-{
-    let mut rest = line;
-    while let [byte, after @ ..] = rest {
-        if !is_digit(*byte) {
-            return rest;
-        }
-        rest = after;
-    }
-    rest
-}
-
-// The number of a line, counted up to 10000.
-fn number(line: &[u8]) -> u16
-    ensures value { result ≡ spec.number 0 line.now }
-    ensures small { result ≤ 10000 }
-{
-    let mut rest = line;
-    let mut value = 0u32;
-    while let [byte, after @ ..] = rest {
-        if !is_digit(*byte) {
-            return value as u16;
-        }
-        value = (value * 10 + u32::from(*byte - b'0')).min(10000);
-        rest = after;
-    }
-    value as u16
-}
-
-// A refusal of the table as the refusal of a line of so many bytes.
+/// A refusal of the table as the refusal of a line of `length` bytes.
 fn refusal(stop: Stop, length: usize) -> LineErr
     requires known { IsKnown stop }
     requires short { length < 2 ^ 63 }
@@ -126,10 +73,10 @@ fn refusal(stop: Stop, length: usize) -> LineErr
     }
 }
 
-// The atoms of a line of so many bytes, whose own number stands before `rest`.
-fn atoms(alloc: Global, origin: Origin, rest: &[u8], length: usize) -> Result<Atoms, LineErr>
+/// The atoms of a line of `length` bytes, of which `rest` follows its own number.
+fn read_atoms(alloc: Global, origin: Origin, rest: &[u8], length: usize) -> Result<Atoms, LineErr>
     requires { length < 2 ^ 63 }
-    ensures { MatchResult result (λ a. spec.atoms origin rest.now length ≡ Ok a) (λ e. e ≢ LineErr.NoMemory → spec.atoms origin rest.now length ≡ Err e) }
+    ensures { MatchResult result (λ a. spec.read_atoms origin rest.now length ≡ Ok a) (λ e. e ≢ LineErr.NoMemory → spec.read_atoms origin rest.now length ≡ Err e) }
 {
     match Atoms::read(alloc, origin, rest) {
         Ok(Some(atoms)) => Ok(atoms),
@@ -138,31 +85,31 @@ fn atoms(alloc: Global, origin: Origin, rest: &[u8], length: usize) -> Result<At
     }
 }
 
-// A line of a program, behind its number.
+/// A line of a program: `own` begins with its number.
 fn numbered(alloc: Global, line: &[u8], own: &[u8]) -> Result<Entered, LineErr>
     ensures value { MatchResult result (λ e. spec.numbered (length line.now) own.now ≡ Ok e) (λ e. e ≢ LineErr.NoMemory → spec.numbered (length line.now) own.now ≡ Err e) }
     ensures number { IfOk result spec.IsNumbered }
 {
-    let number = number(own);
+    let number = capped_value(own, 10000) as u16;
     if number > 9999 {
         return Err(LineErr::At(Code::known(A07_LINE_NUMBER), 0));
     }
-    let rest = skip_blanks(behind_digits(own));
+    let rest = skip_blanks(dropped(own, digits_width(own)));
     if rest.is_empty() {
         return Ok(Entered::Delete(number));
     }
-    match atoms(alloc, Origin::Program, rest, line.len()) {
+    match read_atoms(alloc, Origin::Program, rest, line.len()) {
         Ok(atoms) => Ok(Entered::Numbered(number, atoms)),
         Err(error) => Err(error),
     }
 }
 
-// An immediate line.
+/// An immediate line, without the blanks at its front.
 fn immediate(alloc: Global, line: &[u8], rest: &[u8]) -> Result<Entered, LineErr>
     ensures value { MatchResult result (λ e. spec.immediate (length line.now) rest.now ≡ Ok e) (λ e. e ≢ LineErr.NoMemory → spec.immediate (length line.now) rest.now ≡ Err e) }
     ensures number { IfOk result spec.IsNumbered }
 {
-    match atoms(alloc, Origin::Immediate, rest, line.len()) {
+    match read_atoms(alloc, Origin::Immediate, rest, line.len()) {
         Ok(atoms) => Ok(Entered::Immediate(atoms)),
         Err(error) => Err(error),
     }
@@ -173,7 +120,7 @@ pub fn read(alloc: Global, line: &[u8]) -> Result<Entered, LineErr>
     ensures value { MatchResult result (λ e. spec.reads line.now ≡ Ok e) (λ e. e ≢ LineErr.NoMemory → spec.reads line.now ≡ Err e) }
     ensures number { IfOk result spec.IsNumbered }
 {
-    let count = printable(line);
+    let count = printable_width(line);
     if count < line.len() {
         return Err(LineErr::At(Code::known(S29_BYTE), count + 1));
     }

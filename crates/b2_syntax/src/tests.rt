@@ -7,7 +7,7 @@ use vectors::{IMMEDIATES, IMMEDIATES_COUNT, PROGRAMS, PROGRAMS_COUNT, REFUSALS, 
 mod vectors;
 
 /// A code and a column.
-fn told(rt: &HostRuntime, error: LineErr) -> Result<Vec<u8>, Fail> {
+fn code_and_column(rt: &HostRuntime, error: LineErr) -> Result<Vec<u8>, Fail> {
     let mut out = Vec::new(rt.alloc());
     if let LineErr::At(code, column) = error {
         out.push(code.number())?;
@@ -26,7 +26,7 @@ fn taken(rt: &HostRuntime, line: &[u8]) -> Result<(u16, Vec<u8>), Fail> {
         Ok(Entered::Immediate(atoms)) => Ok((10000, Vec::from_slice(rt.alloc(), atoms.bytes())?)),
         Ok(Entered::Delete(number)) => Ok((number, Vec::new(rt.alloc()))),
         Ok(Entered::Empty) => Ok((10001, Vec::new(rt.alloc()))),
-        Err(error) => Ok((10002, told(rt, error)?)),
+        Err(error) => Ok((10002, code_and_column(rt, error)?)),
     }
 }
 

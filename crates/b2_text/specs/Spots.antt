@@ -2,7 +2,7 @@
 use Rattle.std.specs.Prelude.{ℕ, ◌&&◌, ◌==◌, nat_lt, Bool, false, List, [], ◌∷◌, drop, find, slice_get, option_map, Option, Some, None, if◌then◌else◌}
 use Rattle.std.specs.Option.{option_map_or}
 use Rattle.std.specs.List.{position_from}
-use Rattle.b2_atom.specs.Leaves.{small_value}
+use Rattle.b2_base.specs.Lexical.{capped_value}
 use Rattle.b2_atom.specs.Lines.{units_of}
 use Rattle.b2_atom.specs.declared.words.TheConstants.{DEFFN, DEFFN_PRIME, DATA}
 use Rattle.b2_text.specs.Program.{Lines}
@@ -15,7 +15,7 @@ unit_of k atoms = option_map_or (λ u. u.bytes) (slice_get (units_of atoms) k) [
 -- DEFFN' and a small number of that value
 abbrev pub is_mark : ℕ → List ℕ → Bool
 is_mark n [] = false
-is_mark n (b ∷ bs) = b == DEFFN_PRIME && small_value 0 bs == n
+is_mark n (b ∷ bs) = b == DEFFN_PRIME && capped_value 999 0 bs == n
 
 -- DEFFN, the name and `(`
 abbrev pub is_function : ℕ → List ℕ → Bool

@@ -1,10 +1,10 @@
 // What is found in the lines of a text.
 ghost use Rattle.std.specs.Prelude.{◌≡◌};
-ghost use Rattle.b2_atom.specs.Leaves.{is_digit, small_value};
 ghost use Rattle.b2_text.specs.Spots.{unit_of, is_mark, is_function, is_data, data_in, data_of, first_opening, data_from};
 
 use crate::lines::Lines;
 use b2_atom::{Atoms, DATA, DEFFN, DEFFN_PRIME};
+use b2_base::lexical::capped_value;
 
 /// A place in a text: a unit of a line, counted from 0.
 #[derive(Clone, Copy, Debug, PartialEq, Eq)]
@@ -13,34 +13,12 @@ pub struct Spot {
     pub unit: u8,
 }
 
-fn is_digit(byte: u8) -> bool
-    ensures { result ≡ is_digit byte }
-{
-    byte >= b'0' && byte <= b'9'
-}
-
-// The number that digits spell, counted up to 999.
-fn small_value(text: &[u8]) -> u16
-    ensures value { result ≡ small_value 0 text.now }
-{
-    let mut rest = text;
-    let mut value = 0u16;
-    while let [byte, after @ ..] = rest {
-        if !is_digit(*byte) {
-            return value;
-        }
-        value = (value * 10 + u16::from(*byte - b'0')).min(999);
-        rest = after;
-    }
-    value
-}
-
 // Whether a unit is the DEFFN' of a number.
 fn is_mark(n: u8, unit: &[u8]) -> bool
     ensures { result ≡ is_mark n unit.now }
 {
     match unit {
-        [word, number @ ..] => *word == DEFFN_PRIME && small_value(number) == u16::from(n),
+        [word, number @ ..] => *word == DEFFN_PRIME && capped_value(number, 999) == u32::from(n),
         [] => false,
     }
 }

@@ -1,8 +1,9 @@
--- Hexadecimal digits, comparison signs, functions' names and images have their width, whatever stands behind them.
+-- Hexadecimal digits, comparison signs, functions' names and images have their width, whatever stands after them.
 use Rattle.std.proofs.Common.{◌≡◌, ℕ, suc, ◌+◌, ◌<◌, Bool, true, false, not, if◌then◌else◌, ◌==◌, ◌||◌, ◌&&◌, [], ◌∷◌, ◌++◌, length, get_or, refl, ap, ◌∙◌, arith}
 use Rattle.std.proofs.lemmas.Bool.Decides.{nat_tests}
-use Rattle.b2_atom.specs.Words.{Text, first, kept, upper, ahead}
-use Rattle.b2_atom.specs.Leaves.{is_digit, is_letter, is_hex, function_name_width, hex_pair_width, hex_digit_width, address_width, relation_of, relation_width, ends_image, until_parenthesis, image_width}
+use Rattle.b2_base.specs.Lexical.{first, is_digit, is_hex_digit, is_letter, upper}
+use Rattle.b2_atom.specs.Words.{Text, kept_byte, ahead}
+use Rattle.b2_atom.specs.Leaves.{function_name_width, hex_pair_width, hex_digit_width, address_width, relation_of, relation_width, ends_image, until_parenthesis, image_width}
 use Rattle.b2_atom.specs.declared.words.Origin.{Origin}
 use Rattle.b2_atom.specs.declared.words.Origin.TheVariants.{Program, Immediate, Atoms}
 use Rattle.b2_atom.proofs.Booleans.{and_left, and_right, false_true}
@@ -10,13 +11,13 @@ use Rattle.b2_atom.proofs.typed.Widths.{get_first, get_front}
 use Rattle.b2_atom.proofs.typed.Names.{ahead_letter}
 
 -- hexadecimal digits
-pub hex_kept : (o : Origin) (b : ℕ) → is_hex b ≡ true → kept o b ≡ b
+pub hex_kept : (o : Origin) (b : ℕ) → is_hex_digit b ≡ true → kept_byte o b ≡ b
 hex_kept Program b h = grind (arith, nat_tests)
 hex_kept Immediate b h = grind (arith, nat_tests)
 hex_kept Atoms b h = refl
 
-still_hex : (o : Origin) (b : ℕ) → is_hex b ≡ true → is_hex (kept o b) ≡ true
-still_hex o b h = ap is_hex (hex_kept o b h) ∙ h
+still_hex : (o : Origin) (b : ℕ) → is_hex_digit b ≡ true → is_hex_digit (kept_byte o b) ≡ true
+still_hex o b h = ap is_hex_digit (hex_kept o b h) ∙ h
 
 one_hex : (a : Bool) (n m : ℕ) → (if a then suc n else 0) ≡ suc m → (a ≡ true) × (n ≡ m)
 one_hex true n m h = (refl, (let same : n ≡ m = omega arith in same))
@@ -24,7 +25,7 @@ one_hex false n m h = cc
 
 pub hex_digit_more : (o : Origin) (a : ℕ) (w x : Text) → hex_digit_width Atoms (a ∷ w) ≡ suc (length w) → hex_digit_width o (a ∷ (w ++ x)) ≡ suc (length w)
 hex_digit_more o a w x h =
-    let is = one_hex (is_hex a) 0 (length w) h in
+    let is = one_hex (is_hex_digit a) 0 (length w) h in
     ap (λ (b : Bool). if b then 1 else 0) (still_hex o a is.0) ∙ ap suc is.1
 
 one_is_none : ◌≡◌ {A = ℕ} 1 0 → ⊥
@@ -38,24 +39,24 @@ two_is_one h = omega arith
 
 pub hex_pair_more : (o : Origin) (a : ℕ) (w x : Text) → hex_pair_width Atoms (a ∷ w) ≡ suc (length w) → hex_pair_width o (a ∷ (w ++ x)) ≡ suc (length w)
 hex_pair_more o a [] x h =
-    let is = one_hex (is_hex a && false) 1 0 h in absurd (one_is_none is.1)
+    let is = one_hex (is_hex_digit a && false) 1 0 h in absurd (one_is_none is.1)
 hex_pair_more o a (b ∷ w) x h =
-    let is = one_hex (is_hex a && is_hex b) 1 (suc (length w)) h in
-    let l = still_hex o a (and_left (is_hex a) (is_hex b) is.0) in
-    let r = still_hex o b (and_right (is_hex a) (is_hex b) is.0) in
+    let is = one_hex (is_hex_digit a && is_hex_digit b) 1 (suc (length w)) h in
+    let l = still_hex o a (and_left (is_hex_digit a) (is_hex_digit b) is.0) in
+    let r = still_hex o b (and_right (is_hex_digit a) (is_hex_digit b) is.0) in
     (λ i. if l i && r i then 2 else 0) ∙ ap suc is.1
 
 pub address_more : (o : Origin) (a : ℕ) (w x : Text) → address_width Atoms (a ∷ w) ≡ suc (length w) → address_width o (a ∷ (w ++ x)) ≡ suc (length w)
 address_more o a [] x h =
-    let is = one_hex (is_hex a && false) 2 0 h in absurd (two_is_none is.1)
+    let is = one_hex (is_hex_digit a && false) 2 0 h in absurd (two_is_none is.1)
 address_more o a (b ∷ []) x h =
-    let is = one_hex (is_hex a && (is_hex b && false)) 2 1 h in absurd (two_is_one is.1)
+    let is = one_hex (is_hex_digit a && (is_hex_digit b && false)) 2 1 h in absurd (two_is_one is.1)
 address_more o a (b ∷ c ∷ w) x h =
-    let is = one_hex (is_hex a && (is_hex b && is_hex c)) 2 (suc (suc (length w))) h in
-    let rest = and_right (is_hex a) (is_hex b && is_hex c) is.0 in
-    let l = still_hex o a (and_left (is_hex a) (is_hex b && is_hex c) is.0) in
-    let m = still_hex o b (and_left (is_hex b) (is_hex c) rest) in
-    let r = still_hex o c (and_right (is_hex b) (is_hex c) rest) in
+    let is = one_hex (is_hex_digit a && (is_hex_digit b && is_hex_digit c)) 2 (suc (suc (length w))) h in
+    let rest = and_right (is_hex_digit a) (is_hex_digit b && is_hex_digit c) is.0 in
+    let l = still_hex o a (and_left (is_hex_digit a) (is_hex_digit b && is_hex_digit c) is.0) in
+    let m = still_hex o b (and_left (is_hex_digit b) (is_hex_digit c) rest) in
+    let r = still_hex o c (and_right (is_hex_digit b) (is_hex_digit c) rest) in
     (λ i. if l i && (m i && r i) then 3 else 0) ∙ ap suc is.1
 
 -- a function's name

@@ -1,8 +1,9 @@
 -- A whole leaf has no small letters, and no byte that may not stand in a line.
 use Rattle.std.proofs.Common.{◌≡◌, ℕ, zero, suc, ◌+◌, ◌<◌, ◌≤◌, Bool, true, false, not, if◌then◌else◌, ◌==◌, ◌||◌, ◌&&◌, [], ◌∷◌, ◌++◌, length, get_or, drop, refl, sym, ap, ◌∙◌, arith, nat_le, nat_lt, inl, inr, length-drop, drop-drop}
 use Rattle.std.proofs.lemmas.Bool.Decides.{nat_tests}
-use Rattle.b2_atom.specs.Words.{Text, upper}
-use Rattle.b2_atom.specs.Leaves.{is_digit, is_letter, is_hex, is_printable, all_printable, digits, number_width, mantissa_of, mantissa_width, sign_width, exponent_of, exponent_width, one_more, leaf_width, until_quote, small_value, relation_of, ends_image, until_parenthesis}
+use Rattle.b2_base.specs.Lexical.{all_printable, capped_value, digits_width, is_digit, is_hex_digit, is_letter, is_printable, upper}
+use Rattle.b2_atom.specs.Words.{Text}
+use Rattle.b2_atom.specs.Leaves.{number_width, mantissa_of, mantissa_width, sign_width, exponent_of, exponent_width, one_more, leaf_width, until_quote, relation_of, ends_image, until_parenthesis}
 use Rattle.b2_atom.specs.declared.words.Origin.TheVariants.{Atoms}
 use Rattle.b2_atom.specs.declared.forms.Leaf.{Leaf}
 use Rattle.b2_atom.specs.declared.forms.Leaf.TheVariants as leaf
@@ -27,15 +28,15 @@ digit_same b h = grind (arith, nat_tests)
 letter_same : (b : ℕ) → is_letter b ≡ true → is_clean b ≡ true
 letter_same b h = grind (arith, nat_tests)
 
-pub hex_same : (b : ℕ) → is_hex b ≡ true → is_clean b ≡ true
+pub hex_same : (b : ℕ) → is_hex_digit b ≡ true → is_clean b ≡ true
 hex_same b h = grind (arith, nat_tests)
 
-digits_by : (b : ℕ) (t : Text) (d : Bool) → is_digit b ≡ d → (all_clean (drop (digits t) t) ≡ true → all_clean t ≡ true)
-    → all_clean (drop (if d then suc (digits t) else 0) (b ∷ t)) ≡ true → all_clean (b ∷ t) ≡ true
+digits_by : (b : ℕ) (t : Text) (d : Bool) → is_digit b ≡ d → (all_clean (drop (digits_width t) t) ≡ true → all_clean t ≡ true)
+    → all_clean (drop (if d then suc (digits_width t) else 0) (b ∷ t)) ≡ true → all_clean (b ∷ t) ≡ true
 digits_by b t true is more h = both (is_clean b) (all_clean t) (digit_same b is) (more h)
 digits_by b t false is more h = h
 
-pub digits_clean : (t : Text) → all_clean (drop (digits t) t) ≡ true → all_clean t ≡ true
+pub digits_clean : (t : Text) → all_clean (drop (digits_width t) t) ≡ true → all_clean t ≡ true
 digits_clean [] h = refl
 digits_clean (b ∷ t) h = digits_by b t (is_digit b) refl (digits_clean t) h
 
@@ -45,7 +46,7 @@ drop_all [] (suc n) h = refl
 drop_all (b ∷ t) zero h = absurd (omega arith)
 drop_all (b ∷ t) (suc n) h = let less : length t ≤ n = omega arith in drop_all t n less
 
-digits_all_clean : (t : Text) (n : ℕ) → digits t ≡ n → length t ≤ n → all_clean t ≡ true
+digits_all_clean : (t : Text) (n : ℕ) → digits_width t ≡ n → length t ≤ n → all_clean t ≡ true
 digits_all_clean t n is h = digits_clean t (ap (λ (m : ℕ). all_clean (drop m t)) is ∙ ap all_clean (drop_all t n h))
 
 drop_at : (t : Text) (n : ℕ) → n < length t → drop n t ≡ get_or t n 0 ∷ drop (n + 1) t
@@ -64,21 +65,21 @@ point_clean t n is h =
 drop_twice : (t : Text) (i j : ℕ) → drop (i + j) t ≡ drop j (drop i t)
 drop_twice t i j = rw drop-drop refl
 
-mantissa_by : (t : Text) (n m : ℕ) (z : Bool) → n ≡ digits t → m ≡ digits (drop (n + 1) t) → (get_or t n 0 == 46) ≡ true
+mantissa_by : (t : Text) (n m : ℕ) (z : Bool) → n ≡ digits_width t → m ≡ digits_width (drop (n + 1) t) → (get_or t n 0 == 46) ≡ true
     → all_clean (drop (if z then 0 else n + 1 + m) t) ≡ true → all_clean t ≡ true
 mantissa_by t n m true hn hm is h = h
 mantissa_by t n m false hn hm is h =
-    let apart : drop (n + 1 + m) t ≡ drop (digits (drop (n + 1) t)) (drop (n + 1) t) = drop_twice t (n + 1) m ∙ ap (λ (i : ℕ). drop i (drop (n + 1) t)) hm in
+    let apart : drop (n + 1 + m) t ≡ drop (digits_width (drop (n + 1) t)) (drop (n + 1) t) = drop_twice t (n + 1) m ∙ ap (λ (i : ℕ). drop i (drop (n + 1) t)) hm in
     digits_clean t (ap (λ (i : ℕ). all_clean (drop i t)) (sym hn) ∙ point_clean t n is (digits_clean (drop (n + 1) t) (ap all_clean (sym apart) ∙ h)))
 
-mantissa_at : (t : Text) (c : Bool) → (get_or t (digits t) 0 == 46) ≡ c
-    → all_clean (drop (if c then mantissa_of (digits t) (digits (drop (digits t + 1) t)) else digits t) t) ≡ true → all_clean t ≡ true
+mantissa_at : (t : Text) (c : Bool) → (get_or t (digits_width t) 0 == 46) ≡ c
+    → all_clean (drop (if c then mantissa_of (digits_width t) (digits_width (drop (digits_width t + 1) t)) else digits_width t) t) ≡ true → all_clean t ≡ true
 mantissa_at t false is h = digits_clean t h
 mantissa_at t true is h =
-    mantissa_by t (digits t) (digits (drop (digits t + 1) t)) (digits t == 0 && digits (drop (digits t + 1) t) == 0) refl refl is h
+    mantissa_by t (digits_width t) (digits_width (drop (digits_width t + 1) t)) (digits_width t == 0 && digits_width (drop (digits_width t + 1) t) == 0) refl refl is h
 
 mantissa_clean : (t : Text) → all_clean (drop (mantissa_width t) t) ≡ true → all_clean t ≡ true
-mantissa_clean t h = mantissa_at t (get_or t (digits t) 0 == 46) refl h
+mantissa_clean t h = mantissa_at t (get_or t (digits_width t) 0 == 46) refl h
 
 sign_same : (b : ℕ) → (b == 43 || b == 45) ≡ true → is_clean b ≡ true
 sign_same b h = grind (arith, nat_tests)
@@ -189,33 +190,33 @@ wide_by n m h = omega arith
 pair_clean : (a : ℕ) (w : Text) → leaf_width Atoms leaf.HexPair (a ∷ w) ≡ suc (length w) → all_clean (a ∷ w) ≡ true
 pair_clean a [] h = both (is_clean a) true (hex_same a (leaf_front leaf.HexPair a [] h)) refl
 pair_clean a (b ∷ []) h =
-    let is = (width_yes (is_hex a && is_hex b) 2 1 h).0 in
-    both (is_clean a) (all_clean (b ∷ [])) (hex_same a (and_left (is_hex a) (is_hex b) is)) (both (is_clean b) true (hex_same b (and_right (is_hex a) (is_hex b) is)) refl)
-pair_clean a (b ∷ c ∷ w) h = let is = (width_yes (is_hex a && is_hex b) 2 (suc (suc (length w))) h).1 in absurd (omega arith)
+    let is = (width_yes (is_hex_digit a && is_hex_digit b) 2 1 h).0 in
+    both (is_clean a) (all_clean (b ∷ [])) (hex_same a (and_left (is_hex_digit a) (is_hex_digit b) is)) (both (is_clean b) true (hex_same b (and_right (is_hex_digit a) (is_hex_digit b) is)) refl)
+pair_clean a (b ∷ c ∷ w) h = let is = (width_yes (is_hex_digit a && is_hex_digit b) 2 (suc (suc (length w))) h).1 in absurd (omega arith)
 
 digit_clean : (a : ℕ) (w : Text) → leaf_width Atoms leaf.HexDigit (a ∷ w) ≡ suc (length w) → all_clean (a ∷ w) ≡ true
 digit_clean a [] h = both (is_clean a) true (hex_same a (leaf_front leaf.HexDigit a [] h)) refl
-digit_clean a (b ∷ w) h = let is = (width_yes (is_hex a) 1 (suc (length w)) h).1 in absurd (omega arith)
+digit_clean a (b ∷ w) h = let is = (width_yes (is_hex_digit a) 1 (suc (length w)) h).1 in absurd (omega arith)
 
 address_clean : (a : ℕ) (w : Text) → leaf_width Atoms leaf.Address (a ∷ w) ≡ suc (length w) → all_clean (a ∷ w) ≡ true
-address_clean a [] h = let is = (width_yes (is_hex a && (is_hex 0 && is_hex 0)) 3 0 h).1 in absurd (omega arith)
-address_clean a (b ∷ []) h = let is = (width_yes (is_hex a && (is_hex b && is_hex 0)) 3 1 h).1 in absurd (omega arith)
+address_clean a [] h = let is = (width_yes (is_hex_digit a && (is_hex_digit 0 && is_hex_digit 0)) 3 0 h).1 in absurd (omega arith)
+address_clean a (b ∷ []) h = let is = (width_yes (is_hex_digit a && (is_hex_digit b && is_hex_digit 0)) 3 1 h).1 in absurd (omega arith)
 address_clean a (b ∷ c ∷ []) h =
-    let is = (width_yes (is_hex a && (is_hex b && is_hex c)) 3 2 h).0 in
-    let rest = and_right (is_hex a) (is_hex b && is_hex c) is in
-    both (is_clean a) (all_clean (b ∷ c ∷ [])) (hex_same a (and_left (is_hex a) (is_hex b && is_hex c) is))
-    (both (is_clean b) (all_clean (c ∷ [])) (hex_same b (and_left (is_hex b) (is_hex c) rest)) (both (is_clean c) true (hex_same c (and_right (is_hex b) (is_hex c) rest)) refl))
-address_clean a (b ∷ c ∷ d ∷ w) h = let is = (width_yes (is_hex a && (is_hex b && is_hex c)) 3 (suc (suc (suc (length w)))) h).1 in absurd (omega arith)
+    let is = (width_yes (is_hex_digit a && (is_hex_digit b && is_hex_digit c)) 3 2 h).0 in
+    let rest = and_right (is_hex_digit a) (is_hex_digit b && is_hex_digit c) is in
+    both (is_clean a) (all_clean (b ∷ c ∷ [])) (hex_same a (and_left (is_hex_digit a) (is_hex_digit b && is_hex_digit c) is))
+    (both (is_clean b) (all_clean (c ∷ [])) (hex_same b (and_left (is_hex_digit b) (is_hex_digit c) rest)) (both (is_clean c) true (hex_same c (and_right (is_hex_digit b) (is_hex_digit c) rest)) refl))
+address_clean a (b ∷ c ∷ d ∷ w) h = let is = (width_yes (is_hex_digit a && (is_hex_digit b && is_hex_digit c)) 3 (suc (suc (suc (length w)))) h).1 in absurd (omega arith)
 
 slot_clean : (a : ℕ) (w : Text) → leaf_width Atoms leaf.Slot (a ∷ w) ≡ suc (length w) → all_clean (a ∷ w) ≡ true
 slot_clean a w h =
-    let is = width_yes (a == 35 && (nat_lt 0 (digits w) && nat_le (small_value 0 w) 15)) (digits w + 1) (length w) h in
-    let long : length w ≤ digits w = (let sum = is.1 in omega arith) in
-    both (is_clean a) (all_clean w) (ap is_clean (equal a 35 (leaf_front leaf.Slot a w h))) (digits_all_clean w (digits w) refl long)
+    let is = width_yes (a == 35 && (nat_lt 0 (digits_width w) && nat_le (capped_value 999 0 w) 15)) (digits_width w + 1) (length w) h in
+    let long : length w ≤ digits_width w = (let sum = is.1 in omega arith) in
+    both (is_clean a) (all_clean w) (ap is_clean (equal a 35 (leaf_front leaf.Slot a w h))) (digits_all_clean w (digits_width w) refl long)
 
 small_clean : (a : ℕ) (w : Text) → leaf_width Atoms leaf.Small (a ∷ w) ≡ suc (length w) → all_clean (a ∷ w) ≡ true
 small_clean a w h =
-    let is = width_yes (nat_le (small_value 0 (a ∷ w)) 255) (digits (a ∷ w)) (length w) h in
+    let is = width_yes (nat_le (capped_value 999 0 (a ∷ w)) 255) (digits_width (a ∷ w)) (length w) h in
     let long : length (a ∷ w) ≤ suc (length w) = omega arith in
     digits_all_clean (a ∷ w) (suc (length w)) is.1 long
 

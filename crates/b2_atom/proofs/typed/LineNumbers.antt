@@ -1,24 +1,25 @@
 -- A line number that is listed without zeros at its front is read as its two bytes.
 use Rattle.std.proofs.Common.{◌≡◌, ℕ, suc, ◌+◌, ◌-◌, ◌*◌, ◌/◌, ◌%◌, ◌≤◌, Bool, true, false, if◌then◌else◌, ◌==◌, ◌||◌, [], ◌∷◌, ◌++◌, drop, min, refl, sym, ap, subst, ◌∙◌, arith, nat_le, nat_lt, Err}
 use Rattle.std.proofs.lemmas.Bool.Decides.{nat_tests}
-use Rattle.b2_atom.specs.Words.{Text, first}
+use Rattle.b2_base.specs.Lexical.{all_printable, digits_width, first, is_decimal, is_digit, is_printable}
+use Rattle.b2_atom.specs.Words.{Text}
 use Rattle.b2_atom.specs.Tokens.{spelled}
 use Rattle.b2_atom.specs.Tokens.Token.{Lined}
 use Rattle.b2_atom.specs.Tree.{one}
-use Rattle.b2_atom.specs.Leaves.{is_digit, is_printable, all_printable, digits, refused}
-use Rattle.b2_atom.specs.Grammar.{typed_line_number, two_digits, is_decimal}
+use Rattle.b2_atom.specs.Leaves.{refused}
+use Rattle.b2_atom.specs.Grammar.{typed_line_number, two_digits}
 use Rattle.b2_atom.specs.declared.words.Origin.{Origin}
 use Rattle.b2_atom.proofs.Booleans.{and_left, and_right, both}
 use Rattle.b2_atom.proofs.typed.Widths.{digits_stop}
 
-one_digit : (p : ℕ) (x : Text) (n : ℕ) → is_digit p ≡ true → digits x ≡ n → digits (p ∷ x) ≡ suc n
+one_digit : (p : ℕ) (x : Text) (n : ℕ) → is_digit p ≡ true → digits_width x ≡ n → digits_width (p ∷ x) ≡ suc n
 one_digit p x n h e = rw h (ap suc e)
 
 digit_shown : (a : ℕ) → a ≤ 9 → is_digit (48 + a) ≡ true
 digit_shown a h = grind (arith, nat_tests)
 
 -- a line number by the count of its digits
-by_count : (o : Origin) (code : ℕ) (t : Text) (n : ℕ) → digits t ≡ n
+by_count : (o : Origin) (code : ℕ) (t : Text) (n : ℕ) → digits_width t ≡ n
     → typed_line_number o code t ≡ (if nat_lt n 1 || nat_lt 4 n then Err (refused o code t) else one (Lined (two_digits t n 0) (two_digits t n 2)) (drop n t))
 by_count o code t n e = ap (λ (m : ℕ). if nat_lt m 1 || nat_lt 4 m then Err (refused o code t) else one (Lined (two_digits t m 0) (two_digits t m 2)) (drop m t)) e
 
@@ -28,11 +29,11 @@ two_shown a b h k = omega arith
 one_shown : (b : ℕ) → b ≤ 9 → 0 * 16 + min (48 + b - 48) 9 ≡ b
 one_shown b k = omega arith
 
-double_digits : (c d : ℕ) (x : Text) → c ≤ 9 → d ≤ 9 → is_digit (first x) ≡ false → digits ((48 + c) ∷ (48 + d) ∷ x) ≡ 2
+double_digits : (c d : ℕ) (x : Text) → c ≤ 9 → d ≤ 9 → is_digit (first x) ≡ false → digits_width ((48 + c) ∷ (48 + d) ∷ x) ≡ 2
 double_digits c d x hc hd stop =
     one_digit (48 + c) ((48 + d) ∷ x) 1 (digit_shown c hc) (one_digit (48 + d) x 0 (digit_shown d hd) (digits_stop x stop))
 
-three_digits : (b c d : ℕ) (x : Text) → b ≤ 9 → c ≤ 9 → d ≤ 9 → is_digit (first x) ≡ false → digits ((48 + b) ∷ (48 + c) ∷ (48 + d) ∷ x) ≡ 3
+three_digits : (b c d : ℕ) (x : Text) → b ≤ 9 → c ≤ 9 → d ≤ 9 → is_digit (first x) ≡ false → digits_width ((48 + b) ∷ (48 + c) ∷ (48 + d) ∷ x) ≡ 3
 three_digits b c d x hb hc hd stop = one_digit (48 + b) ((48 + c) ∷ (48 + d) ∷ x) 2 (digit_shown b hb) (double_digits c d x hc hd stop)
 
 four_read : (o : Origin) (code a b c d : ℕ) (x : Text) → a ≤ 9 → b ≤ 9 → c ≤ 9 → d ≤ 9 → is_digit (first x) ≡ false

@@ -1,7 +1,8 @@
 -- A word is read where it is spelled and nothing lengthens it; and where no word begins.
 use Rattle.std.proofs.Common.{◌≡◌, ℕ, zero, suc, ◌+◌, ◌<◌, Bool, true, false, not, if◌then◌else◌, ◌==◌, ◌||◌, ◌&&◌, List, [], ◌∷◌, ◌++◌, length, drop, take, get_or, refl, sym, ap, subst, ◌∙◌, arith, nat_le, nat_lt, add-zero, zero-add, inl, inr, ◌⊎◌}
 use Rattle.std.proofs.lemmas.Bool.Decides.{nat_tests}
-use Rattle.b2_atom.specs.Words.{Text, upper, begins_with, longest, better, first}
+use Rattle.b2_base.specs.Lexical.{first, upper}
+use Rattle.b2_atom.specs.Words.{Text, begins_with, longest, better}
 use Rattle.b2_atom.proofs.Booleans.{and_left, and_right, equal, or_cases, false_true}
 
 -- no text that begins with w, and goes on with no byte of a kind, begins with v

@@ -1,8 +1,9 @@
--- What is typed by hand has its width, whatever stands behind it that doesn't run on: numbers, digits, literals, images.
+-- What is typed by hand has its width, whatever stands after it that doesn't run on: numbers, digits, literals, images.
 use Rattle.std.proofs.Common.{◌≡◌, ℕ, zero, suc, ◌+◌, ◌-◌, ◌*◌, ◌<◌, ◌≤◌, Bool, true, false, not, if◌then◌else◌, ◌==◌, ◌||◌, ◌&&◌, [], ◌∷◌, ◌++◌, length, drop, get_or, min, refl, sym, ap, ◌∙◌, arith, nat_le, nat_lt, length-drop, inl, inr, ◌⊎◌}
 use Rattle.std.proofs.lemmas.Bool.Decides.{nat_tests}
-use Rattle.b2_atom.specs.Words.{Text, first, kept}
-use Rattle.b2_atom.specs.Leaves.{is_digit, is_printable, digits, until_quote, small_value, mantissa_of, mantissa_width, sign_width, exponent_of, exponent_width, number_of, number_width, one_more, signed_number_width, literal_width, small_width, slot_width}
+use Rattle.b2_base.specs.Lexical.{capped_value, digits_width, first, is_digit, is_printable}
+use Rattle.b2_atom.specs.Words.{Text, kept_byte}
+use Rattle.b2_atom.specs.Leaves.{until_quote, mantissa_of, mantissa_width, sign_width, exponent_of, exponent_width, number_width_by, number_width, one_more, signed_number_width, literal_width, small_width, slot_width}
 use Rattle.b2_atom.specs.declared.words.Origin.{Origin}
 use Rattle.b2_atom.specs.declared.words.Origin.TheVariants.{Program, Immediate, Atoms}
 use Rattle.b2_atom.proofs.Booleans.{false_true, equal}
@@ -11,7 +12,7 @@ pub get_first : (x : Text) → get_or x 0 0 ≡ first x
 get_first [] = refl
 get_first (b ∷ x) = refl
 
--- a test of one byte, where it fails at the end and behind it
+-- a test of one byte, where it fails at the end and after it
 pub test_at : (p : ℕ → Bool) (w x : Text) (i : ℕ) → i ≤ length w → p 0 ≡ false → p (first x) ≡ false → p (get_or (w ++ x) i 0) ≡ p (get_or w i 0)
 test_at p [] x zero le at_end stop = ap p (get_first x) ∙ stop ∙ sym at_end
 test_at p [] x (suc i) le at_end stop = absurd (omega arith)
@@ -34,7 +35,7 @@ drop_front [] x (suc i) h = absurd (omega arith)
 drop_front (b ∷ w) x (suc i) h = let less : i ≤ length w = omega arith in drop_front w x i less
 
 -- digits
-pub digits_stop : (x : Text) → is_digit (first x) ≡ false → digits x ≡ 0
+pub digits_stop : (x : Text) → is_digit (first x) ≡ false → digits_width x ≡ 0
 digits_stop [] h = refl
 digits_stop (b ∷ x) h = rw h refl
 
@@ -42,17 +43,17 @@ same_if : (b : Bool) (x y z : ℕ) → x ≡ y → (if b then x else z) ≡ (if 
 same_if true x y z h = h
 same_if false x y z h = refl
 
-pub digits_more : (w x : Text) → is_digit (first x) ≡ false → digits (w ++ x) ≡ digits w
+pub digits_more : (w x : Text) → is_digit (first x) ≡ false → digits_width (w ++ x) ≡ digits_width w
 digits_more [] x h = digits_stop x h
-digits_more (b ∷ w) x h = same_if (is_digit b) (suc (digits (w ++ x))) (suc (digits w)) 0 (ap suc (digits_more w x h))
+digits_more (b ∷ w) x h = same_if (is_digit b) (suc (digits_width (w ++ x))) (suc (digits_width w)) 0 (ap suc (digits_more w x h))
 
 pub if_most : (b : Bool) (x n : ℕ) → x ≤ n → (if b then x else 0) ≤ n
 if_most true x n h = h
 if_most false x n h = omega arith
 
-pub digits_most : (w : Text) → digits w ≤ length w
+pub digits_most : (w : Text) → digits_width w ≤ length w
 digits_most [] = omega arith
-digits_most (b ∷ w) = let less = digits_most w in let more : suc (digits w) ≤ suc (length w) = omega arith in if_most (is_digit b) (suc (digits w)) (suc (length w)) more
+digits_most (b ∷ w) = let less = digits_most w in let more : suc (digits_width w) ≤ suc (length w) = omega arith in if_most (is_digit b) (suc (digits_width w)) (suc (length w)) more
 
 -- digits with a point or none
 pub behind : (w : Text) (n : ℕ) → (n < length w) ⊎ (length w ≤ n)
@@ -62,23 +63,23 @@ pub pointed : (w : Text) (n : ℕ) → (get_or w n 0 == 46) ≡ true → n < len
 pointed w n h = elim (behind w n) [ inl less ↦ less | inr none ↦ absurd (false_true (ap (λ (b : ℕ). b == 46) (sym (get_none w n none)) ∙ h)) ]
 
 part_more : (w x : Text) (n : ℕ) (b : Bool) → (get_or w n 0 == 46) ≡ b → is_digit (first x) ≡ false
-    → (if b then mantissa_of n (digits (drop (n + 1) (w ++ x))) else n) ≡ (if b then mantissa_of n (digits (drop (n + 1) w)) else n)
+    → (if b then mantissa_of n (digits_width (drop (n + 1) (w ++ x))) else n) ≡ (if b then mantissa_of n (digits_width (drop (n + 1) w)) else n)
 part_more w x n false is stop = refl
 part_more w x n true is stop =
     let less = pointed w n is in
     let fits : n + 1 ≤ length w = omega arith in
-    ap (λ (m : ℕ). mantissa_of n m) (ap digits (drop_front w x (n + 1) fits) ∙ digits_more (drop (n + 1) w) x stop)
+    ap (λ (m : ℕ). mantissa_of n m) (ap digits_width (drop_front w x (n + 1) fits) ∙ digits_more (drop (n + 1) w) x stop)
 
 mantissa_at : (w x : Text) (n : ℕ) → n ≤ length w → is_digit (first x) ≡ false → (first x == 46) ≡ false
-    → (if get_or (w ++ x) n 0 == 46 then mantissa_of n (digits (drop (n + 1) (w ++ x))) else n) ≡ (if get_or w n 0 == 46 then mantissa_of n (digits (drop (n + 1) w)) else n)
+    → (if get_or (w ++ x) n 0 == 46 then mantissa_of n (digits_width (drop (n + 1) (w ++ x))) else n) ≡ (if get_or w n 0 == 46 then mantissa_of n (digits_width (drop (n + 1) w)) else n)
 mantissa_at w x n le stop point =
-    ap (λ (b : Bool). if b then mantissa_of n (digits (drop (n + 1) (w ++ x))) else n) (test_at (λ b. b == 46) w x n le refl point)
+    ap (λ (b : Bool). if b then mantissa_of n (digits_width (drop (n + 1) (w ++ x))) else n) (test_at (λ b. b == 46) w x n le refl point)
     ∙ part_more w x n (get_or w n 0 == 46) refl stop
 
 pub mantissa_more : (w x : Text) → is_digit (first x) ≡ false → (first x == 46) ≡ false → mantissa_width (w ++ x) ≡ mantissa_width w
 mantissa_more w x stop point =
-    ap (λ (n : ℕ). if get_or (w ++ x) n 0 == 46 then mantissa_of n (digits (drop (n + 1) (w ++ x))) else n) (digits_more w x stop)
-    ∙ mantissa_at w x (digits w) (digits_most w) stop point
+    ap (λ (n : ℕ). if get_or (w ++ x) n 0 == 46 then mantissa_of n (digits_width (drop (n + 1) (w ++ x))) else n) (digits_more w x stop)
+    ∙ mantissa_at w x (digits_width w) (digits_most w) stop point
 
 -- an exponent
 digit_inside : (w : Text) (n : ℕ) → is_digit (get_or w n 0) ≡ true → n < length w
@@ -104,7 +105,7 @@ pub no_exponent : (b : Bool) → ◌≡◌ {A = ℕ} (if b then 0 else 0) 1 → 
 no_exponent true h = cc
 no_exponent false h = cc
 
-pub kept_e : (o : Origin) → kept o 69 ≡ 69
+pub kept_e : (o : Origin) → kept_byte o 69 ≡ 69
 kept_e Program = refl
 kept_e Immediate = refl
 kept_e Atoms = refl
@@ -113,7 +114,7 @@ with_e : (a n m : ℕ) (b : Bool) → (a == 69) ≡ b → (if b then n else 0) �
 with_e a n m true is h = (equal a 69 is, h)
 with_e a n m false is h = cc
 
--- the first byte behind a number: no digit, no point, no E
+-- the first byte after a number: no digit, no point, no E
 abbrev pub ends_number : ℕ → Bool
 ends_number n = not (is_digit n || (n == 46 || (n == 69 || n == 101)))
 
@@ -123,7 +124,7 @@ ends_digits n h = grind (arith, nat_tests)
 ends_point : (n : ℕ) → ends_number n ≡ true → (n == 46) ≡ false
 ends_point n h = grind (arith, nat_tests)
 
-ends_e : (o : Origin) (n : ℕ) → ends_number n ≡ true → (kept o n == 69) ≡ false
+ends_e : (o : Origin) (n : ℕ) → ends_number n ≡ true → (kept_byte o n == 69) ≡ false
 ends_e Program n h = grind (arith, nat_tests)
 ends_e Immediate n h = grind (arith, nat_tests)
 ends_e Atoms n h = grind (arith, nat_tests)
@@ -135,7 +136,7 @@ exponent_more o (a ∷ b ∷ v) x whole stop =
     let is = with_e a (exponent_of (sign_width b) (a ∷ b ∷ v)) (suc (length v)) (a == 69) refl whole in
     let short = sign_least b in
     let fits : 1 + sign_width b ≤ suc (suc (length v)) = omega arith in
-    let e : (kept o a == 69) ≡ true = ap (λ (n : ℕ). kept o n == 69) is.0 ∙ ap (λ (n : ℕ). n == 69) (kept_e o) in
+    let e : (kept_byte o a == 69) ≡ true = ap (λ (n : ℕ). kept_byte o n == 69) is.0 ∙ ap (λ (n : ℕ). n == 69) (kept_e o) in
     ap (λ (c : Bool). if c then exponent_of (sign_width b) (a ∷ b ∷ (v ++ x)) else 0) e
     ∙ exponent_of_more (sign_width b) (a ∷ b ∷ v) x fits (ends_digits (first x) stop)
     ∙ is.1
@@ -156,7 +157,7 @@ number_more o d w x whole stop =
     let is = number_parts m (exponent_width Atoms (drop m t)) (length w) (m == 0) refl whole in
     let fits : m ≤ length t = (let sum = is.1 in omega arith) in
     let tail : exponent_width Atoms (drop m t) ≡ length (drop m t) = length_rest t m _ is.1 in
-    ap (λ (n : ℕ). number_of o n (t ++ x)) (mantissa_more t x (ends_digits (first x) stop) (ends_point (first x) stop))
+    ap (λ (n : ℕ). number_width_by o n (t ++ x)) (mantissa_more t x (ends_digits (first x) stop) (ends_point (first x) stop))
     ∙ ap (λ (b : Bool). if b then 0 else m + exponent_width o (drop m (t ++ x))) is.0
     ∙ ap (λ (l : Text). m + exponent_width o l) (drop_front t x m fits)
     ∙ ap (λ (n : ℕ). m + n) (exponent_more o (drop m t) x tail stop ∙ sym tail)
@@ -180,24 +181,24 @@ pub signed_number_more : (o : Origin) (d : ℕ) (w x : Text) → signed_number_w
 signed_number_more o d w x whole stop = signed_by o d w x (d == 43 || d == 45) whole stop
 
 -- small numbers
-value_stop : (n : ℕ) (x : Text) → is_digit (first x) ≡ false → small_value n x ≡ n
+value_stop : (n : ℕ) (x : Text) → is_digit (first x) ≡ false → capped_value 999 n x ≡ n
 value_stop n [] h = refl
 value_stop n (b ∷ x) h = rw h refl
 
-pub small_value_more : (n : ℕ) (w x : Text) → is_digit (first x) ≡ false → small_value n (w ++ x) ≡ small_value n w
+pub small_value_more : (n : ℕ) (w x : Text) → is_digit (first x) ≡ false → capped_value 999 n (w ++ x) ≡ capped_value 999 n w
 small_value_more n [] x h = value_stop n x h
 small_value_more n (b ∷ w) x h =
     same_if (is_digit b) _ _ n (small_value_more (min (n * 10 + (b - 48)) 999) w x h)
 
 pub small_more : (w x : Text) → is_digit (first x) ≡ false → small_width (w ++ x) ≡ small_width w
 small_more w x h =
-    ap (λ (n : ℕ). if nat_le n 255 then digits (w ++ x) else 0) (small_value_more 0 w x h)
-    ∙ ap (λ (n : ℕ). if nat_le (small_value 0 w) 255 then n else 0) (digits_more w x h)
+    ap (λ (n : ℕ). if nat_le n 255 then digits_width (w ++ x) else 0) (small_value_more 0 w x h)
+    ∙ ap (λ (n : ℕ). if nat_le (capped_value 999 0 w) 255 then n else 0) (digits_more w x h)
 
 pub slot_more : (d : ℕ) (w x : Text) → is_digit (first x) ≡ false → slot_width (d ∷ (w ++ x)) ≡ slot_width (d ∷ w)
 slot_more d w x h =
-    ap (λ (n : ℕ). if d == 35 && (nat_lt 0 n && nat_le (small_value 0 (w ++ x)) 15) then n + 1 else 0) (digits_more w x h)
-    ∙ ap (λ (n : ℕ). if d == 35 && (nat_lt 0 (digits w) && nat_le n 15) then digits w + 1 else 0) (small_value_more 0 w x h)
+    ap (λ (n : ℕ). if d == 35 && (nat_lt 0 n && nat_le (capped_value 999 0 (w ++ x)) 15) then n + 1 else 0) (digits_more w x h)
+    ∙ ap (λ (n : ℕ). if d == 35 && (nat_lt 0 (digits_width w) && nat_le n 15) then digits_width w + 1 else 0) (small_value_more 0 w x h)
 
 -- literals
 quote_by : (b : Bool) (w x : Text) → (if b then 0 else suc (until_quote w)) < suc (length w) → (until_quote w < length w → until_quote (w ++ x) ≡ until_quote w)

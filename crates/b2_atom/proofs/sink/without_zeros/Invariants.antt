@@ -1,9 +1,0 @@
-use Rattle.std.proofs.Common.{◌≡◌, length}
-use Rattle.b2_atom.specs.Tokens.{without_zeros}
-use Rattle.b2_atom.proofs.sink.without_zeros.Given as goal
-
-abbrev pub invariant-loop-left : goal.invariant-loop-left
-invariant-loop-left l = without_zeros l.left ≡ without_zeros l.fn.digits
-
-abbrev pub decreases-loop-left : goal.decreases-loop-left
-decreases-loop-left l = length l.left
