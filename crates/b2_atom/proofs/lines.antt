@@ -7,12 +7,14 @@
 -- atoms, in the form that the lister asks for (`typed_again`).
 -- Each line spells a tree (`spells_tree`), and what is read is a line (`read_is_line`): LineLaws, by `reads_fit`
 -- (reading.FittedLines), by reading.Sound and by Anywhere, that what some line allows is allowed in a line of atoms.
--- Each unit is a statement (`each_unit`): EachUnit, by OneUnit, that a statement up to its THEN, ELSE or ERROR is read alike
--- before other tokens and before nothing.
--- Units has what the functions that count and find units rest on.
+-- The units of a line are those of its tree (`tree_is_cut`), and each is a statement (`each_unit`): EachUnit, by OneUnit, that
+-- a statement up to its THEN, ELSE or ERROR is read alike before other tokens and before nothing, and by Own, that a tree of
+-- items without statements has no units in it.
+-- Units has what the functions that find the units of a line and look them up rest on.
 pub mod Anywhere
 pub mod LineLaws
 pub mod ReadAgain
 pub mod Units
+pub mod Own
 pub mod OneUnit
 pub mod EachUnit

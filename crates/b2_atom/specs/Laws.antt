@@ -1,13 +1,14 @@
 -- Laws of lines: which trees there are, that each is spelled by its atoms alone, and that what is listed is read back.
-use Rattle.std.specs.Prelude.{◌≡◌, ◌≤◌, ℕ, true, false, [], Ok, length}
+use Rattle.std.specs.Prelude.{◌≡◌, ◌≤◌, ℕ, true, false, [], Ok, length, map}
 use Rattle.std.specs.List.{All}
 use Rattle.b2_atom.specs.Words.{Text}
 use Rattle.b2_atom.specs.Tokens.{listed}
 use Rattle.b2_atom.specs.Tree.{Trees, atoms, tokens}
 use Rattle.b2_atom.specs.Tree.Trees.{Done, In}
-use Rattle.b2_atom.specs.Grammar.{reader, statement}
+use Rattle.b2_atom.specs.Grammar.{reader, statement, read_line}
 use Rattle.b2_atom.specs.Lines.{is_line, line_atoms, LineUnit, units_of}
 use Rattle.b2_atom.specs.Fitting.{LineTree}
+use Rattle.b2_atom.specs.Units.{TreeUnit, unit_atoms, units_on}
 use Rattle.b2_atom.specs.declared.words.Origin.{Origin}
 use Rattle.b2_atom.specs.declared.words.Origin.TheVariants as origin
 
@@ -28,6 +29,18 @@ EachLineSpellsATree = (line : Text) → is_line line ≡ true → SpellsTree lin
 -- the atoms of each tree of the language are a line, where they are no more than 255 bytes
 abbrev pub EachTreeIsALine : Type 0
 EachTreeIsALine = (t : Trees) → IsTree t → length (atoms t) ≤ 255 → is_line (atoms t) ≡ true
+
+-- and are read as this tree, with nothing left
+abbrev pub EachTreeIsReadFromItsAtoms : Type 0
+EachTreeIsReadFromItsAtoms = (t : Trees) → IsTree t → read_line origin.Atoms (atoms t) ≡ Ok (t, [])
+
+-- what is read of a line of any kind is a tree that the rows allow in such a line, and nothing is left
+pub record FitsWhole (o : Origin) (t : Trees) (rest : Text) : Type 0 where
+  pub tree : LineTree o t
+  pub whole : rest ≡ []
+
+abbrev pub WhatIsReadFitsTheRows : Type 0
+WhatIsReadFitsTheRows = (o : Origin) (source : Text) (t : Trees) (rest : Text) → read_line o source ≡ Ok (t, rest) → FitsWhole o t rest
 
 -- no two trees have the same atoms
 abbrev pub NoTwoTreesShareAtoms : Type 0
@@ -53,3 +66,15 @@ pub record IsStatement (u : LineUnit) : Type 0 where
 -- each unit of a line is one statement by itself
 abbrev pub EachUnitIsAStatement : Type 0
 EachUnitIsAStatement = (line : Text) → is_line line ≡ true → All IsStatement (units_of line)
+
+-- a unit on a tree is read as its own tree by itself, with nothing left
+abbrev pub IsReadAlone : TreeUnit → Type 0
+IsReadAlone u = statement (reader origin.Atoms) 1 u.place (atoms u.tree) ≡ Ok (In u.row u.tree Done, [])
+
+-- the units of a tree's atoms are the atoms of its units, each of which is read by itself
+pub record IsCutIntoUnits (t : Trees) : Type 0 where
+  pub units : units_of (atoms t) ≡ map unit_atoms (units_on t)
+  pub alone : All IsReadAlone (units_on t)
+
+abbrev pub EachTreeIsCutIntoUnits : Type 0
+EachTreeIsCutIntoUnits = (t : Trees) → IsTree t → IsCutIntoUnits t

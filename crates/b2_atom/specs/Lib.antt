@@ -7,4 +7,5 @@ pub mod Grammar
 pub mod Lines
 pub mod Spelling
 pub mod Fitting
+pub mod Units
 pub mod Laws

@@ -1,5 +1,5 @@
 -- Lines as atoms: which lists of bytes spell a line, and its units.
-use Rattle.std.specs.Prelude.{◌≡◌, ℕ, zero, suc, ◌-◌, ◌&&◌, ◌==◌, nat_le, nat_lt, Bool, true, false, List, [], ◌∷◌, length, take, drop, if◌then◌else◌, Result, Ok, Err, is_ok, Option, Some, None}
+use Rattle.std.specs.Prelude.{◌≡◌, ℕ, zero, suc, ◌-◌, ◌≤◌, ◌&&◌, ◌==◌, nat_le, nat_lt, map, Bool, true, false, List, [], ◌∷◌, length, take, drop, if◌then◌else◌, Result, Ok, Err, is_ok, Option, Some, None}
 use Rattle.b2_base.specs.Byte as byte
 use Rattle.b2_base.specs.Lexical.{first}
 use Rattle.b2_atom.specs.Words.{Text}
@@ -11,6 +11,7 @@ use Rattle.b2_atom.specs.declared.words.Origin.TheVariants as origin
 use Rattle.b2_atom.specs.declared.sink.Stop.{Stop}
 use Rattle.b2_atom.specs.declared.sink.Stop.TheVariants.{At, Deep, NoMemory}
 use Rattle.b2_atom.specs.declared.forms.Place.{Place}
+use Rattle.b2_atom.specs.declared.spans.Span.{Span}
 use Rattle.b2_atom.specs.declared.forms.Place.TheVariants.{First, Further, Following}
 
 -- a list of at most 255 bytes that the table reads as a line of atoms
@@ -85,6 +86,20 @@ units_from (suc n) p t = unit_at p t ∷ further (units_from n) (behind_unit p t
 -- the units of a line, which are no more than its bytes
 unfoldable pub units_of : Text → List LineUnit
 units_of t = units_from (length t) First t
+
+-- a unit by its span: its place, and which of the line's bytes are its own
+abbrev pub spanned : Text → Span → LineUnit
+spanned line s = record { place = s.place; bytes = take s.width (drop s.from line) }
+
+-- the spans of all units of a line
+pub record KeepsUnits (line : Text) (spans : List Span) : Type 0 where
+  pub line_is : is_line line ≡ true
+  pub units : map (spanned line) spans ≡ units_of line
+
+-- a text at the end of another
+pub record IsEndOf (line left : Text) : Type 0 where
+  pub short : length left ≤ length line
+  pub is : drop (length line - length left) line ≡ left
 
 abbrev pub is_further : Place → Bool
 is_further First = false

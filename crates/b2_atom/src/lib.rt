@@ -5,12 +5,14 @@
 //! words is adding a row.
 //!
 //! Stands on `b2_base`. `Atoms::of` is None exactly on lists of bytes that spell no line; `Atoms::read` gives the atoms of
-//! a typed line, or the first code and its place; `Atoms::source` gives the canonical source of a line. Which trees the
-//! table allows is said without any reading, and the laws in `laws` tie them to their atoms and to their source.
+//! a typed line, or the first code and its place; `Atoms::source` gives the canonical source of a line. A line keeps where
+//! its units stand, so that `units`, `unit`, `find_unit` and `skip` look them up. Which trees the table allows is said
+//! without any reading, and the laws in `laws` tie them to their atoms, to their source and to the units of a line.
 //!
 //! The definitions are in `specs/`: the words in `Words`, tokens and their source in `Tokens`, trees in `Tree`, what is
 //! typed by hand in `Leaves`, the language's own table in `Table`, reading by it in `Grammar`, lines with their units in
-//! `Lines`, which texts spell which tokens in `Spelling`, which trees the rows allow in `Fitting`, and the laws in `Laws`.
+//! `Lines`, which texts spell which tokens in `Spelling`, which trees the rows allow in `Fitting`, the units of a line on its
+//! tree in `Units`, and the laws in `Laws`.
 #![tactic(auto)]
 
 ghost use Rattle.std.specs.Prelude.{◌≡◌, map};
@@ -24,6 +26,7 @@ mod line;
 mod marks;
 mod rows;
 mod sink;
+mod spans;
 mod starts;
 mod table;
 #[cfg(test)]
@@ -32,8 +35,9 @@ mod walk;
 mod words;
 
 pub use laws::{
-    each_line_spells_a_tree, each_tree_is_a_line, each_unit_is_a_statement,
-    no_two_trees_share_atoms, what_is_listed_is_read_back, what_is_read_is_a_line,
+    each_line_spells_a_tree, each_tree_is_a_line, each_tree_is_cut_into_units,
+    each_tree_is_read_from_its_atoms, each_unit_is_a_statement, no_two_trees_share_atoms,
+    what_is_listed_is_read_back, what_is_read_fits_the_rows, what_is_read_is_a_line,
 };
 pub use leaves::number_width;
 pub use line::{Atoms, Cursor, FoundUnit, read_source};

@@ -3,13 +3,12 @@ ghost use Rattle.std.specs.Prelude.{◌≡◌, ◌≢◌, ◌≤◌, ◌<◌, �
 ghost use Rattle.std.specs.Option.{option_map};
 ghost use Rattle.b2_atom.specs.Lines.{IsKnown, is_line, line_atoms, line_source, short_line, behind_unit, next_place, next_text, units_of, further_unit, is_further};
 
-use crate::forms::Place;
 use crate::laws::what_is_read_is_a_line;
 use crate::sink::{Sink, Source, Stop, bytes_of};
-use crate::walk::{read_line, statement};
+use crate::spans::{Span, further_unit, spans_of};
+use crate::walk::read_line;
 use crate::words::Origin;
 use b2_base::NoMemory;
-use b2_base::lexical::{dropped, first, front};
 use std::alloc::Global;
 use std::marker::Model;
 
@@ -17,17 +16,18 @@ use std::marker::Model;
 #[derive(Debug, Drop)]
 pub struct Atoms {
     bytes: Vec<u8>,
+    units: Vec<Span>,
 }
 
 impl Model for Atoms {
-    ghost use Rattle.std.specs.Prelude.{ℕ, List, ◌≡◌, true};
-    ghost use Rattle.b2_atom.specs.Lines.{is_line};
+    ghost use Rattle.std.specs.Prelude.{ℕ, List};
+    ghost use Rattle.b2_atom.specs.Lines.{KeepsUnits};
 
     ghost Value = { List ℕ };
 
     ghost view = { λ a. a.bytes.items };
 
-    ghost invariant = { λ a. is_line a.bytes.items ≡ true };
+    ghost invariant = { λ a. KeepsUnits a.bytes.items a.units.items };
 }
 
 /// The bytes of a unit from a place on. Contracts see it as the list of them.
@@ -95,117 +95,6 @@ fn line_source(alloc: Global, line: &[u8]) -> Result<Vec<u8>, Stop>
     }
 }
 
-// What stands behind the first unit of a text.
-#[tactic(auto, unfolding(crate::specs::Lines::behind_unit))]
-fn behind_unit(place: Place, text: &[u8]) -> &[u8]
-    ensures { result.now ≡ behind_unit place text.now }
-{
-    let mut sink = Sink::Silent;
-    match statement(&mut sink, Origin::Atoms, 1, place, text) {
-        Ok(rest) => rest,
-        Err(_) => &[],
-    }
-}
-
-// Where the unit stands that begins behind another.
-fn next_place(rest: &[u8]) -> Place
-    ensures { result ≡ next_place rest.now }
-{
-    if first(rest) == b':' {
-        Place::Further
-    } else {
-        Place::Following
-    }
-}
-
-fn next_text(rest: &[u8]) -> &[u8]
-    ensures { result.now ≡ next_text rest.now }
-{
-    if first(rest) == b':' {
-        dropped(rest, 1)
-    } else {
-        rest
-    }
-}
-
-// How many units a line has.
-#[tactic(auto, unfolding(crate::specs::Lines::units_of))]
-fn count_units(line: &[u8]) -> usize
-    ensures { result ≡ length (units_of line.now) }
-{
-    let mut place = Place::First;
-    let mut left = line;
-    for i in 0..line.len() {
-        let rest = behind_unit(place, left);
-        if rest.is_empty() {
-            return i + 1;
-        }
-        place = next_place(rest);
-        left = next_text(rest);
-    }
-    line.len()
-}
-
-// Whether no unit stands behind so many, of at most so many.
-fn ends_line(rest: &[u8], units: usize, most: usize) -> bool
-    ensures { result ≡ (length rest.now == 0 || units == most) }
-{
-    rest.is_empty() || units == most
-}
-
-// A unit, and whether it is the last, by a walk up to its end.
-#[tactic(auto, unfolding(crate::specs::Lines::units_of))]
-fn unit_in(line: &[u8], unit: usize) -> Option<FoundUnit<'_>>
-    ensures bytes { option_map (λ u. u.cursor) result ≡ option_map (λ u. u.bytes) (slice_get (units_of line.now) unit) }
-    ensures last { IfSome result (λ u. u.is_last ≡ (unit + 1 == length (units_of line.now))) }
-{
-    let mut place = Place::First;
-    let mut left = line;
-    for i in 0..line.len() {
-        let rest = behind_unit(place, left);
-        if i == unit {
-            return Some(FoundUnit {
-                cursor: Cursor::over(front(left, left.len().saturating_sub(rest.len()))),
-                is_last: ends_line(rest, i + 1, line.len()),
-            });
-        }
-        if rest.is_empty() {
-            return None;
-        }
-        place = next_place(rest);
-        left = next_text(rest);
-    }
-    None
-}
-
-// Whether a unit stands behind another and follows a `:`.
-fn follows_colon(unit: usize, i: usize, place: Place) -> bool
-    ensures { result ≡ (nat_lt unit i && is_further place) }
-{
-    i > unit && place == Place::Further
-}
-
-// The first unit behind another that follows a `:`, or the number of units.
-#[tactic(auto, unfolding(crate::specs::Lines::units_of))]
-fn further_unit(line: &[u8], unit: usize) -> usize
-    ensures { result ≡ further_unit unit 0 (units_of line.now) }
-{
-    let mut place = Place::First;
-    let mut left = line;
-    for i in 0..line.len() {
-        if follows_colon(unit, i, place) {
-            return i;
-        }
-        let rest = behind_unit(place, left);
-        if rest.is_empty() {
-            return i + 1;
-        }
-        place = next_place(rest);
-        left = next_text(rest);
-    }
-    line.len()
-}
-
 impl Atoms {
     /// The line that these bytes spell, None exactly where they spell none.
     pub fn of(alloc: Global, bytes: &[u8]) -> Result<Option<Atoms>, NoMemory>
@@ -215,7 +104,8 @@ impl Atoms {
             return Ok(None);
         }
         let bytes = Vec::from_slice(alloc, bytes)?;
-        Ok(Some(Atoms { bytes }))
+        let units = spans_of(alloc, &bytes)?;
+        Ok(Some(Atoms { bytes, units }))
     }
 
     /// Reads a typed line without its number. A line of more than 255 atom bytes is None.
@@ -231,7 +121,10 @@ impl Atoms {
             return Ok(None);
         }
         what_is_read_is_a_line();
-        Ok(Some(Atoms { bytes: line }))
+        let Ok(units) = spans_of(alloc, &line) else {
+            return Err(Stop::NoMemory);
+        };
+        Ok(Some(Atoms { bytes: line, units }))
     }
 
     /// Its bytes.
@@ -248,7 +141,8 @@ impl Atoms {
         ensures { IfOk result (λ copy. copy ≡ self.now) }
     {
         let bytes = Vec::from_slice(alloc, &self.bytes)?;
-        Ok(Atoms { bytes })
+        let units = Vec::from_slice(alloc, &self.units)?;
+        Ok(Atoms { bytes, units })
     }
 
     /// Its canonical source.
@@ -270,33 +164,41 @@ impl Atoms {
         ensures count { result ≡ length (units_of self.now) }
         ensures few { result ≤ 255 }
     {
-        count_units(&self.bytes)
+        let units = self.units.as_slice();
+        units.len()
     }
 
     /// A cursor over a unit, None exactly where there are at most so many units.
     pub fn unit(&self, k: usize) -> Option<Cursor<'_>>
         ensures { result ≡ option_map (λ u. u.bytes) (slice_get (units_of self.now) k) }
     {
-        match unit_in(&self.bytes, k) {
-            Some(unit) => Some(unit.cursor),
+        match self.units.get(k) {
+            Some(span) => Some(Cursor::over(span.cut(&self.bytes))),
             None => None,
         }
     }
 
-    /// A unit, with whether it is the last: one walk finds both, and ends where the unit ends.
+    /// A unit, with whether it is the last.
     pub fn find_unit(&self, k: usize) -> Option<FoundUnit<'_>>
         ensures bytes { option_map (λ u. u.cursor) result ≡ option_map (λ u. u.bytes) (slice_get (units_of self.now) k) }
         ensures last { IfSome result (λ u. u.is_last ≡ (k + 1 == length (units_of self.now))) }
         ensures few { IfSome result (λ u. k < 255) }
     {
-        unit_in(&self.bytes, k)
+        let count = self.units();
+        match self.unit(k) {
+            Some(cursor) => Some(FoundUnit {
+                cursor,
+                is_last: k + 1 == count,
+            }),
+            None => None,
+        }
     }
 
     /// The first unit behind the k-th that follows a `:`, or the number of units where there is none.
     pub fn skip(&self, k: usize) -> usize
         ensures { result ≡ further_unit k 0 (units_of self.now) }
     {
-        further_unit(&self.bytes, k)
+        further_unit(&self.units, k)
     }
 }
 

@@ -11,9 +11,13 @@ use Rattle.b2_syntax.specs.declared.Entered.{Entered}
 use Rattle.b2_syntax.specs.declared.Entered.TheVariants.{Numbered, Immediate}
 use Rattle.b2_syntax.specs.declared.LineErr.{LineErr}
 use Rattle.b2_syntax.specs.declared.LineErr.TheVariants.{At}
-use Rattle.b2_lister.specs.Listing.{decimal, text_of}
-use Rattle.b2_lister.specs.Laws.{EachListedLineIsReadBack}
-use Rattle.b2_atom.proofs.lines.ReadAgain.{typed_again}
+use Rattle.b2_lister.specs.Listing.{decimal, text_of, listing}
+use Rattle.b2_lister.specs.Laws.{EachListedLineIsReadBack, EachTreeIsListedAndReadBack}
+use Rattle.b2_atom.specs.Tree as tree
+use Rattle.b2_atom.specs.Tree.{Trees, tokens}
+use Rattle.b2_atom.specs.Tokens.{listed}
+use Rattle.b2_atom.specs.Fitting.{LineTree}
+use Rattle.b2_atom.proofs.lines.ReadAgain.{typed_again, read_again}
 
 -- digits, and the number that they spell
 abbrev all_digits : Text → Bool
@@ -255,3 +259,14 @@ listed_again line n a h =
     let r = again.1 in
     ap (λ (s : Result Text Stop). reads (decimal n ++ 32 ∷ text_of s)) r.source
     ∙ whole_line n again.0 a t.small r.printable r.skips r.some r.again t.short
+
+-- and each tree is listed and read back
+pub tree_again : EachTreeIsListedAndReadBack
+tree_again t n h short small =
+    let r = read_again t h in
+    let source : Text = listed false false (tokens t) in
+    let shown : listing n (tree.atoms t) ≡ decimal n ++ 32 ∷ source = ap (λ (s : Result Text Stop). decimal n ++ 32 ∷ text_of s) r.source in
+    record {
+      shown = shown;
+      back = ap reads shown ∙ whole_line n source (tree.atoms t) small r.printable r.skips r.some r.again short;
+    }

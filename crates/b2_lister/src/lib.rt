@@ -17,7 +17,7 @@ mod laws;
 #[cfg(test)]
 mod tests;
 
-pub use laws::each_listed_line_is_read_back;
+pub use laws::{each_listed_line_is_read_back, each_tree_is_listed_and_read_back};
 
 /// The five digits of a number.
 fn five_digits(number: u16) -> [u8; 5]

@@ -22,7 +22,7 @@ use Rattle.b2_expr.specs.Value.{Surroundings, Answer, inside, behind, leaf_text,
 use Rattle.b2_expr.specs.Walk.{Found, left, expression_at}
 use Rattle.b2_expr.proofs.Operands.{expression_read}
 use Rattle.b2_machine.specs.Plan.{not_built, built_width, asked, number_in, letters_behind, letters_at, assigns, plan_word, plan_with}
-use Rattle.b2_machine.specs.Planned.{is_letter_alone, is_built_tree, letter_in, letters_in, behind_all, assigned_in, where_tree_built}
+use Rattle.b2_machine.specs.AskedByTree.{is_letter_alone, is_built_tree, letter_in, letters_in, behind_all, assigned_in, where_tree_built}
 use Rattle.b2_machine.specs.declared.request.Request.{Request}
 use Rattle.b2_machine.specs.declared.request.Request.TheVariants as request
 use Rattle.b2_machine.proofs.PlainTrees.{Holds, holds_joined, by_row, sign_items, none_items}

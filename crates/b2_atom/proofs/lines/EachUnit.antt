@@ -1,20 +1,21 @@
--- Each unit of a line is one statement by itself.
-use Rattle.std.proofs.Common.{◌≡◌, ℕ, zero, suc, ◌-◌, ◌==◌, if◌then◌else◌, true, false, List, [], ◌∷◌, ◌++◌, length, take, refl, sym, ap, subst, ◌∙◌, arith, append-nil, inl, inr}
+-- The units of a line are those of its tree, and each is one statement by itself.
+use Rattle.std.proofs.Common.{◌≡◌, ℕ, zero, suc, ◌-◌, ◌==◌, if◌then◌else◌, true, false, List, [], ◌∷◌, ◌++◌, length, take, refl, sym, ap, subst, ◌∙◌, arith, append-nil, inl, inr, ◌≤◌, map, Ok, is_ok}
 use Rattle.std.proofs.lemmas.List.{length-append}
-use Rattle.std.proofs.lemmas.List.Elements.{All-nil, All-cons}
+use Rattle.std.proofs.lemmas.List.Elements.{All-nil, All-cons, All-head, All-tail}
 use Rattle.std.proofs.Math.Seq.{take-append_seam}
 use Rattle.std.specs.List.{All}
 use Rattle.b2_base.specs.Lexical.{first}
 use Rattle.b2_atom.specs.Words.{Text}
 use Rattle.b2_atom.specs.Tokens.{Token}
 use Rattle.b2_atom.specs.Tokens.Token.{Coded, Plain, Lined}
-use Rattle.b2_atom.specs.Tree.{Trees, tokens}
+use Rattle.b2_atom.specs.Tree.{Trees, Outcome, atoms, tokens}
 use Rattle.b2_atom.specs.Tree.Trees.{Done, Put, In}
-use Rattle.b2_atom.specs.Grammar.{reader, statement, row_items, starts}
+use Rattle.b2_atom.specs.Grammar.{reader, statement, statement_row, row_items, starts}
 use Rattle.b2_atom.specs.Lines.{LineUnit, unit_at, units_from, further, behind_unit, rest_of, units_of}
 use Rattle.b2_atom.specs.Spelling.{Spells, atoms_of_tokens}
 use Rattle.b2_atom.specs.Fitting.{Fits, is_statement}
-use Rattle.b2_atom.specs.Laws.{IsStatement, SpellsTree, EachUnitIsAStatement}
+use Rattle.b2_atom.specs.Units.{TreeUnit, own, units_in, units_on, unit_atoms}
+use Rattle.b2_atom.specs.Laws.{IsTree, IsStatement, EachUnitIsAStatement, IsReadAlone, EachTreeIsCutIntoUnits}
 use Rattle.b2_atom.specs.Table.{forms}
 use Rattle.b2_atom.specs.declared.rows.TheConstants as row
 use Rattle.b2_atom.specs.declared.words.Origin.TheVariants.{Atoms}
@@ -23,6 +24,8 @@ use Rattle.b2_atom.specs.declared.forms.Place.{Place}
 use Rattle.b2_atom.specs.declared.forms.Place.TheVariants as place
 use Rattle.b2_atom.specs.declared.forms.Item.{Item}
 use Rattle.b2_atom.specs.declared.forms.Item.TheVariants.{Sign, Many, End, Statement}
+use Rattle.b2_atom.proofs.Booleans.{never}
+use Rattle.b2_atom.proofs.reading.Sound.{Takes, takes_statement}
 use Rattle.b2_atom.proofs.settled.Fronts.{some, Front, fronts, statement_heads}
 use Rattle.b2_atom.proofs.settled.FrontAnswers.{answers}
 use Rattle.b2_atom.proofs.settled.Heads.{is_closing}
@@ -50,24 +53,53 @@ unit_bytes p m t xs more h =
     ∙ ap (λ (s : Text). take (length s - length (atoms_of_tokens more)) s) (append_atoms xs more)
     ∙ front_taken (atoms_of_tokens xs) (atoms_of_tokens more)
 
-unit_statement : (p : Place) (m : ℕ) (t : Trees) (xs more : List Token) → UnitRead p m t xs more → IsStatement (unit_at p (atoms_of_tokens (xs ++ more)))
-unit_statement p m t xs more h = record {
-  row = m;
-  tree = t;
-  read = ap (statement (reader Atoms) 1 p) (unit_bytes p m t xs more h) ∙ h.alone;
+unit_atoms_are : (p : Place) (m : ℕ) (t : Trees) (xs more : List Token) → UnitRead p m t xs more → atoms t ≡ atoms_of_tokens xs
+unit_atoms_are p m t xs more h =
+    let takes : (atoms t ++ []) ++ [] ≡ atoms_of_tokens xs = subst (λ (o : Outcome). Takes (atoms_of_tokens xs) o) h.alone (takes_statement 1 p (atoms_of_tokens xs)) in
+    sym (append-nil (atoms t)) ∙ sym (append-nil (atoms t ++ [])) ∙ takes
+
+-- nothing is read as a statement of no bytes
+none_there : (p : Place) → is_ok (statement (reader Atoms) 1 p []) ≡ false
+unfolding statement statement_row starts
+none_there p = refl
+
+some_bytes : (p : Place) (t : Trees) (s rest : Text) → statement (reader Atoms) 1 p s ≡ Ok (t, rest) → 1 ≤ length s
+some_bytes p t [] rest h = never (is_ok (statement (reader Atoms) 1 p [])) (ap is_ok h) (none_there p)
+some_bytes p t (b ∷ s) rest h = omega arith
+
+-- units of a line's bytes that are those of a tree
+record Cut (us : List LineUnit) (vs : List TreeUnit) : Type 0 where
+  units : us ≡ map unit_atoms vs
+  alone : All IsReadAlone vs
+
+cut_none : Cut [] []
+cut_none = record { units = refl; alone = All-nil IsReadAlone }
+
+cut_one : (p : Place) (m : ℕ) (t : Trees) (xs more : List Token) (us : List LineUnit) (vs : List TreeUnit) → UnitRead p m t xs more → Cut us vs
+    → Cut (unit_at p (atoms_of_tokens (xs ++ more)) ∷ us) (record { place = p; row = m; tree = t } ∷ vs)
+cut_one p m t xs more us vs h cut = record {
+  units = (λ i. record { place = p; bytes = (unit_bytes p m t xs more h ∙ sym (unit_atoms_are p m t xs more h)) i } ∷ cut.units i);
+  alone = All-cons IsReadAlone (record { place = p; row = m; tree = t }) vs (ap (statement (reader Atoms) 1 p) (unit_atoms_are p m t xs more h) ∙ h.alone) cut.alone;
 }
 
--- the rows behind a statement, and one of them
+-- the items behind a statement, and one of them
+abbrev FurtherItems : List Item
+FurtherItems = Many (start.Code 58) row.FURTHER_STATEMENT ∷ End ∷ []
+
 abbrev FurtherRows : Trees → Type 0
-FurtherRows ts = Fits Atoms 32 (Many (start.Code 58) row.FURTHER_STATEMENT ∷ End ∷ []) ts
+FurtherRows ts = Fits Atoms 32 FurtherItems ts
 
 abbrev FurtherRow : Trees → Type 0
 FurtherRow q = Fits Atoms 32 (Sign 58 25 ∷ Statement place.Further ∷ []) q
 
--- what gives units that are all statements, from where a statement stands
-abbrev AllOf : (Place → Text → List LineUnit) → Type 0
-AllOf f = (p : Place) (m : ℕ) (t ts : Trees) → is_statement forms Atoms p m ≡ true → Fits Atoms 32 (row_items m) t → FurtherRows ts
-    → Stand (tokens t ++ tokens ts) → All IsStatement (f p (atoms_of_tokens (tokens t ++ tokens ts)))
+-- the units from a statement on
+abbrev units_from_it : Place → ℕ → Trees → Trees → List TreeUnit
+units_from_it p m t ts = record { place = p; row = m; tree = own (row_items m) t } ∷ (units_in (row_items m) t ++ units_in FurtherItems ts)
+
+-- what gives the units from where a statement stands, in so many bytes
+abbrev AllOf : ℕ → (Place → Text → List LineUnit) → Type 0
+AllOf n f = (p : Place) (m : ℕ) (t ts : Trees) → is_statement forms Atoms p m ≡ true → Fits Atoms 32 (row_items m) t → FurtherRows ts
+    → Stand (tokens t ++ tokens ts) → length (atoms_of_tokens (tokens t ++ tokens ts)) ≤ n → Cut (f p (atoms_of_tokens (tokens t ++ tokens ts))) (units_from_it p m t ts)
 
 -- behind a `:`
 colon_next : (f : Place → Text → List LineUnit) (d : ℕ) (s : Text) → (d == 58) ≡ true → further f (d ∷ s) ≡ f place.Further s
@@ -77,39 +109,46 @@ colon_next f d s h = (λ i. f (if h i then place.Further else place.Following) (
 following_next : (f : Place → Text → List LineUnit) (b : ℕ) (s : Text) → (b == 58) ≡ false → further f (b ∷ s) ≡ f place.Following (b ∷ s)
 following_next f b s h = (λ i. f (if h i then place.Further else place.Following) (if h i then s else b ∷ s))
 
-further_units : (f : Place → Text → List LineUnit) → AllOf f → (q ts : Trees) → FurtherRow q → FurtherRows ts
-    → Stand (tokens q ++ tokens ts) → All IsStatement (further f (atoms_of_tokens (tokens q ++ tokens ts)))
-further_units f all (Put (Coded d) (In m t Done)) ts fits more st =
+further_bytes : (n d : ℕ) (s : Text) → length (d ∷ s) ≤ n → length s ≤ n
+further_bytes n d s h = omega (arith, h)
+
+further_units : (n : ℕ) (f : Place → Text → List LineUnit) → AllOf n f → (q ts : Trees) → FurtherRow q → FurtherRows ts
+    → Stand (tokens q ++ tokens ts) → length (atoms_of_tokens (tokens q ++ tokens ts)) ≤ n
+    → Cut (further f (atoms_of_tokens (tokens q ++ tokens ts))) (units_in (Sign 58 25 ∷ Statement place.Further ∷ []) q ++ units_in FurtherItems ts)
+further_units n f all (Put (Coded d) (In m t Done)) ts fits more st few =
     let same : (tokens t ++ []) ++ tokens ts ≡ tokens t ++ tokens ts = ap (λ (l : List Token). l ++ tokens ts) (append-nil (tokens t)) in
     let st_ = subst (λ (l : List Token). Stand l) same (stand_behind (Coded d ∷ []) ((tokens t ++ []) ++ tokens ts) st) in
-    subst (λ (us : List LineUnit). All IsStatement us)
+    let few_ = subst (λ (l : List Token). length (atoms_of_tokens l) ≤ n) same (further_bytes n d (atoms_of_tokens ((tokens t ++ []) ++ tokens ts)) few) in
+    let vs : List TreeUnit = units_in (row_items m) t in
+    subst (λ (us : List LineUnit). Cut us (record { place = place.Further; row = m; tree = own (row_items m) t } ∷ ((vs ++ []) ++ units_in FurtherItems ts)))
     (sym (colon_next f d (atoms_of_tokens ((tokens t ++ []) ++ tokens ts)) fits.0 ∙ ap (λ (l : List Token). f place.Further (atoms_of_tokens l)) same))
-    (all place.Further m t ts fits.1.0 fits.1.1.0 more st_)
-further_units f all (Put (Coded d) (In m t (Put u us))) ts fits more st = absurd fits.1.1.1
-further_units f all (Put (Coded d) (In m t (In n u us))) ts fits more st = absurd fits.1.1.1
-further_units f all (Put (Coded d) (Put u us)) ts fits more st = cc
-further_units f all (Put (Coded d) Done) ts fits more st = cc
-further_units f all (Put (Plain k w) us) ts fits more st = cc
-further_units f all (Put (Lined h l) us) ts fits more st = cc
-further_units f all (In m t us) ts fits more st = absurd fits
-further_units f all Done ts fits more st = cc
+    (subst (λ (ws : List TreeUnit). Cut (f place.Further (atoms_of_tokens (tokens t ++ tokens ts))) (record { place = place.Further; row = m; tree = own (row_items m) t } ∷ (ws ++ units_in FurtherItems ts)))
+    (sym (append-nil vs)) (all place.Further m t ts fits.1.0 fits.1.1.0 more st_ few_))
+further_units n f all (Put (Coded d) (In m t (Put u us))) ts fits more st few = absurd fits.1.1.1
+further_units n f all (Put (Coded d) (In m t (In k u us))) ts fits more st few = absurd fits.1.1.1
+further_units n f all (Put (Coded d) (Put u us)) ts fits more st few = cc
+further_units n f all (Put (Coded d) Done) ts fits more st few = cc
+further_units n f all (Put (Plain k w) us) ts fits more st few = cc
+further_units n f all (Put (Lined h l) us) ts fits more st few = cc
+further_units n f all (In m t us) ts fits more st few = absurd fits
+further_units n f all Done ts fits more st few = cc
 
 further_row : (q : Trees) → Fits Atoms 32 (row_items row.FURTHER_STATEMENT) q → FurtherRow q
 further_row q fits = subst (λ (is : List Item). Fits Atoms 32 is q) further_is fits
 
-no_units : (f : Place → Text → List LineUnit) → All IsStatement (further f [])
-no_units f = All-nil IsStatement
-
 -- the units behind a statement
-behind_units : (f : Place → Text → List LineUnit) → AllOf f → (ts : Trees) → FurtherRows ts → Stand (tokens ts) → All IsStatement (further f (atoms_of_tokens (tokens ts)))
-behind_units f all (In zero q Done) fits st =
-    let P : Trees → Type 0 = λ x. All IsStatement (further f (atoms_of_tokens (tokens (In 0 x Done)))) in subst P (sym (done_of Atoms 32 q fits.0)) (no_units f)
-behind_units f all (In zero q (Put t ts)) fits st = absurd fits.1
-behind_units f all (In zero q (In n t ts)) fits st = absurd fits.1
-behind_units f all (In (suc zero) q ts) fits st = further_units f all q ts (further_row q fits.0) fits.1 st
-behind_units f all (In (suc (suc k)) q ts) fits st = absurd fits
-behind_units f all Done fits st = cc
-behind_units f all (Put t ts) fits st = cc
+behind_units : (n : ℕ) (f : Place → Text → List LineUnit) → AllOf n f → (ts : Trees) → FurtherRows ts → Stand (tokens ts) → length (atoms_of_tokens (tokens ts)) ≤ n
+    → Cut (further f (atoms_of_tokens (tokens ts))) (units_in FurtherItems ts)
+behind_units n f all (In zero q Done) fits st few =
+    let P : Trees → Type 0 = λ x. Cut (further f (atoms_of_tokens (tokens (In 0 x Done)))) (units_in FurtherItems (In 0 x Done)) in subst P (sym (done_of Atoms 32 q fits.0)) cut_none
+behind_units n f all (In zero q (Put t ts)) fits st few = absurd fits.1
+behind_units n f all (In zero q (In k t ts)) fits st few = absurd fits.1
+behind_units n f all (In (suc zero) q ts) fits st few =
+    subst (λ (is : List Item). Cut (further f (atoms_of_tokens (tokens q ++ tokens ts))) (units_in is q ++ units_in FurtherItems ts)) (sym further_is)
+    (further_units n f all q ts (further_row q fits.0) fits.1 st few)
+behind_units n f all (In (suc (suc k)) q ts) fits st few = absurd fits
+behind_units n f all Done fits st few = cc
+behind_units n f all (Put t ts) fits st few = cc
 
 -- which begin with `:`
 further_closes : (q ts : Trees) → FurtherRow q → is_closing (tokens q ++ tokens ts) ≡ true
@@ -133,50 +172,87 @@ no_colon : (ts : List Token) (s : Text) → some (λ (f : Front). fronts f ts) s
 unfolding starts
 no_colon ts s heads spelled = answers Atoms (start.Code 58) statement_heads false ts s refl heads spelled
 
-following_units : (f : Place → Text → List LineUnit) (s : Text) → (first s == 58) ≡ false → All IsStatement (f place.Following s) → All IsStatement (further f s)
-following_units f [] h all = no_units f
-following_units f (b ∷ s) h all = subst (λ (us : List LineUnit). All IsStatement us) (sym (following_next f b s h)) all
+following_units : (f : Place → Text → List LineUnit) (s : Text) (vs : List TreeUnit) → (first s == 58) ≡ false → 1 ≤ length s → Cut (f place.Following s) vs → Cut (further f s) vs
+following_units f [] vs h some_ cut = absurd (omega arith)
+following_units f (b ∷ s) vs h some_ cut = subst (λ (us : List LineUnit). Cut us vs) (sym (following_next f b s h)) cut
 
-next_units : (f : Place → Text → List LineUnit) → AllOf f → (ts : Trees) (here : List Token) → FurtherRows ts → Next (tokens ts) here → Stand here
-    → All IsStatement (further f (atoms_of_tokens here))
-next_units f all ts here fits next st =
+next_units : (n : ℕ) (f : Place → Text → List LineUnit) → AllOf n f → (us : List TreeUnit) (ts : Trees) (here : List Token) → FurtherRows ts → Next us (tokens ts) here → Stand here
+    → length (atoms_of_tokens here) ≤ n → Cut (further f (atoms_of_tokens here)) (us ++ units_in FurtherItems ts)
+next_units n f all us ts here fits next st few =
     let s : Text = atoms_of_tokens here in
-    following_units f s (no_colon here s next.heads (spells_atoms here st.good st.neighbours))
-    (subst (λ (l : List Token). All IsStatement (f place.Following (atoms_of_tokens l))) (sym next.same)
-    (all place.Following next.row next.tree ts next.stated next.fits fits (subst (λ (l : List Token). Stand l) next.same st)))
+    let st_ = subst (λ (l : List Token). Stand l) next.same st in
+    let one = first_unit place.Following next.row next.tree (tokens ts) next.stated next.fits (rows_close ts fits) st_ in
+    let same_ : s ≡ atoms_of_tokens (one.front ++ one.behind) = ap atoms_of_tokens (next.same ∙ one.same) in
+    let some_ = some_bytes place.Following _ s _ (ap (statement (reader Atoms) 1 place.Following) same_ ∙ one.read.here) in
+    let vs : List TreeUnit = units_from_it place.Following next.row next.tree ts in
+    subst (λ (ws : List TreeUnit). Cut (further f s) (ws ++ units_in FurtherItems ts)) (sym next.units)
+    (following_units f s vs (no_colon here s next.heads (spells_atoms here st.good st.neighbours)) some_
+    (subst (λ (l : List Token). Cut (f place.Following (atoms_of_tokens l)) vs) (sym next.same)
+    (all place.Following next.row next.tree ts next.stated next.fits fits st_ (subst (λ (l : List Token). length (atoms_of_tokens l) ≤ n) next.same few))))
+
+fewer : (n : ℕ) (xs ys : List Token) → 1 ≤ length (atoms_of_tokens xs) → length (atoms_of_tokens (xs ++ ys)) ≤ suc n → length (atoms_of_tokens ys) ≤ n
+fewer n xs ys some_ few =
+    let parts = ap (λ (l : Text). length l) (append_atoms xs ys) in
+    let both = length-append (atoms_of_tokens xs) (atoms_of_tokens ys) in
+    omega (arith, parts, both, some_, few)
 
 -- all units from a statement on
-units_on : (f : Place → Text → List LineUnit) → AllOf f → (p : Place) (ts : Trees) (all : List Token) → FurtherRows ts → FirstUnit p all (tokens ts) → Stand all
-    → All IsStatement (unit_at p (atoms_of_tokens all) ∷ further f (behind_unit p (atoms_of_tokens all)))
-units_on f all_of p ts all fits one st =
+units_from_one : (n : ℕ) (f : Place → Text → List LineUnit) → AllOf n f → (p : Place) (m : ℕ) (t ts : Trees) (all : List Token) → FurtherRows ts → FirstUnit p m t all (tokens ts)
+    → Stand all → length (atoms_of_tokens all) ≤ suc n
+    → Cut (unit_at p (atoms_of_tokens all) ∷ further f (behind_unit p (atoms_of_tokens all))) (units_from_it p m t ts)
+units_from_one n f all_of p m t ts all fits one st few =
     let s : Text = atoms_of_tokens (one.front ++ one.behind) in
     let st_ = stand_behind one.front one.behind (subst (λ (l : List Token). Stand l) one.same st) in
-    let behind_ : All IsStatement (further f (atoms_of_tokens one.behind)) = elim one.next [
-      | inl same ↦ subst (λ (l : List Token). All IsStatement (further f (atoms_of_tokens l))) (sym same) (behind_units f all_of ts fits (subst (λ (l : List Token). Stand l) same st_))
-      | inr next ↦ next_units f all_of ts one.behind fits next st_
+    let some_ = some_bytes p _ (atoms_of_tokens one.front) _ one.read.alone in
+    let few_ = fewer n one.front one.behind some_ (subst (λ (l : List Token). length (atoms_of_tokens l) ≤ suc n) one.same few) in
+    let vs : List TreeUnit = units_in (row_items m) t ++ units_in FurtherItems ts in
+    let behind_ : Cut (further f (atoms_of_tokens one.behind)) vs = elim one.next [
+      | inl g ↦ subst (λ (us : List TreeUnit). Cut (further f (atoms_of_tokens one.behind)) (us ++ units_in FurtherItems ts)) (sym g.1)
+          (subst (λ (l : List Token). Cut (further f (atoms_of_tokens l)) (units_in FurtherItems ts)) (sym g.0)
+          (behind_units n f all_of ts fits (subst (λ (l : List Token). Stand l) g.0 st_) (subst (λ (l : List Token). length (atoms_of_tokens l) ≤ n) g.0 few_)))
+      | inr next ↦ next_units n f all_of (units_in (row_items m) t) ts one.behind fits next st_ few_
     ] in
-    subst (λ (l : List Token). All IsStatement (unit_at p (atoms_of_tokens l) ∷ further f (behind_unit p (atoms_of_tokens l)))) (sym one.same)
-    (All-cons IsStatement (unit_at p s) (further f (behind_unit p s)) (unit_statement p one.row one.tree one.front one.behind one.read)
-    (subst (λ (rest : Text). All IsStatement (further f rest)) (sym (behind_read p one.row one.tree one.front one.behind one.read)) behind_))
+    subst (λ (l : List Token). Cut (unit_at p (atoms_of_tokens l) ∷ further f (behind_unit p (atoms_of_tokens l))) (units_from_it p m t ts)) (sym one.same)
+    (cut_one p m (own (row_items m) t) one.front one.behind (further f (behind_unit p s)) vs one.read
+    (subst (λ (rest : Text). Cut (further f rest) vs) (sym (behind_read p m (own (row_items m) t) one.front one.behind one.read)) behind_))
 
-all_units : (n : ℕ) → AllOf (units_from n)
-all_units zero p m t ts stated fits more st = All-nil IsStatement
-all_units (suc n) p m t ts stated fits more st =
-    units_on (units_from n) (all_units n) p ts (tokens t ++ tokens ts) more (first_unit p m t (tokens ts) stated fits (rows_close ts more) st) st
+all_units : (n : ℕ) → AllOf n (units_from n)
+all_units zero p m t ts stated fits more st few =
+    let one = first_unit p m t (tokens ts) stated fits (rows_close ts more) st in
+    let some_ = some_bytes p _ (atoms_of_tokens (tokens t ++ tokens ts)) _ (ap (λ (l : List Token). statement (reader Atoms) 1 p (atoms_of_tokens l)) one.same ∙ one.read.here) in
+    absurd (omega (arith, some_, few))
+all_units (suc n) p m t ts stated fits more st few =
+    units_from_one n (units_from n) (all_units n) p m t ts (tokens t ++ tokens ts) more (first_unit p m t (tokens ts) stated fits (rows_close ts more) st) st few
 
-line_units : (n : ℕ) (t : Trees) → Fits Atoms 32 (Statement place.First ∷ Many (start.Code 58) row.FURTHER_STATEMENT ∷ End ∷ []) t → Stand (tokens t)
-    → All IsStatement (units_from n place.First (atoms_of_tokens (tokens t)))
-line_units n Done fits st = cc
-line_units n (Put x ts) fits st = cc
-line_units n (In m t ts) fits st = all_units n place.First m t ts fits.0 fits.1.0 fits.1.1 st
+line_units : (n : ℕ) (t : Trees) → Fits Atoms 32 (Statement place.First ∷ FurtherItems) t → Stand (tokens t) → length (atoms_of_tokens (tokens t)) ≤ n
+    → Cut (units_from n place.First (atoms_of_tokens (tokens t))) (units_in (Statement place.First ∷ FurtherItems) t)
+line_units n Done fits st few = cc
+line_units n (Put x ts) fits st few = cc
+line_units n (In m t ts) fits st few = all_units n place.First m t ts fits.0 fits.1.0 fits.1.1 st few
 
-tree_units : (line : Text) → SpellsTree line → All IsStatement (units_of line)
-unfolding units_of
-tree_units line h =
-    let good = good_tree Atoms h.tree h.is_tree in
-    let st : Stand (tokens h.tree) = record { good = good.0; neighbours = good.1; remarks = h.is_tree.remarks } in
-    subst (λ (s : Text). All IsStatement (units_from (length line) place.First s)) (tree_atoms h.tree ∙ h.spelled)
-    (line_units (length line) h.tree (subst (λ (is : List Item). Fits Atoms 32 is h.tree) line_is h.is_tree.fits) st)
+tree_cut : (t : Trees) → IsTree t → Cut (units_of (atoms t)) (units_on t)
+unfolding units_of units_on
+tree_cut t h =
+    let good = good_tree Atoms t h in
+    let st : Stand (tokens t) = record { good = good.0; neighbours = good.1; remarks = h.remarks } in
+    let same : atoms_of_tokens (tokens t) ≡ atoms t = tree_atoms t in
+    let few : length (atoms_of_tokens (tokens t)) ≤ length (atoms t) = (let e = ap (λ (l : Text). length l) same in omega (arith, e)) in
+    subst (λ (s : Text). Cut (units_from (length (atoms t)) place.First s) (units_in (row_items row.LINE) t)) same
+    (subst (λ (is : List Item). Cut (units_from (length (atoms t)) place.First (atoms_of_tokens (tokens t))) (units_in is t)) (sym line_is)
+    (line_units (length (atoms t)) t (subst (λ (is : List Item). Fits Atoms 32 is t) line_is h.fits) st few))
+
+pub tree_is_cut : EachTreeIsCutIntoUnits
+tree_is_cut t h = let c = tree_cut t h in record { units = c.units; alone = c.alone }
+
+-- so each unit of a line is a statement
+each_of : (vs : List TreeUnit) → All IsReadAlone vs → All IsStatement (map unit_atoms vs)
+each_of [] h = All-nil IsStatement
+each_of (v ∷ vs) h =
+    All-cons IsStatement (unit_atoms v) (map unit_atoms vs) (record { row = v.row; tree = v.tree; read = All-head IsReadAlone v vs h }) (each_of vs (All-tail IsReadAlone v vs h))
 
 pub each_unit : EachUnitIsAStatement
-each_unit line h = tree_units line (spells_tree line h)
+each_unit line h =
+    let spelled = spells_tree line h in
+    let c = tree_cut spelled.tree spelled.is_tree in
+    subst (λ (s : Text). All IsStatement (units_of s)) spelled.spelled
+    (subst (λ (us : List LineUnit). All IsStatement us) (sym c.units) (each_of (units_on spelled.tree) c.alone))

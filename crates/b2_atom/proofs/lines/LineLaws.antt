@@ -9,7 +9,7 @@ use Rattle.b2_atom.specs.Grammar.{row_items, read_line, level}
 use Rattle.b2_atom.specs.Lines.{is_line, line_atoms, atoms_of}
 use Rattle.b2_atom.specs.Spelling.{Spells, atoms_of_tokens}
 use Rattle.b2_atom.specs.Fitting.{LineTree, RemarksEnd}
-use Rattle.b2_atom.specs.Laws.{SpellsTree, EachLineSpellsATree, EachTreeIsALine, NoTwoTreesShareAtoms, WhatIsReadIsALine, WhatIsListedIsReadBack}
+use Rattle.b2_atom.specs.Laws.{SpellsTree, EachLineSpellsATree, EachTreeIsALine, EachTreeIsReadFromItsAtoms, WhatIsReadFitsTheRows, NoTwoTreesShareAtoms, WhatIsReadIsALine, WhatIsListedIsReadBack}
 use Rattle.b2_atom.specs.declared.rows.TheConstants as row
 use Rattle.b2_atom.specs.declared.words.Origin.{Origin}
 use Rattle.b2_atom.specs.declared.words.Origin.TheVariants as origin
@@ -74,7 +74,7 @@ tree_atoms (Put t ts) = ap (λ (l : Text). token_atoms t ++ l) (tree_atoms ts)
 tree_atoms (In m inner ts) = append_atoms (tokens inner) (tokens ts) ∙ (λ i. tree_atoms inner i ++ tree_atoms ts i)
 
 -- from its atoms
-pub atoms_back : (t : Trees) → LineTree origin.Atoms t → read_line origin.Atoms (atoms t) ≡ Ok (t, [])
+pub atoms_back : EachTreeIsReadFromItsAtoms
 atoms_back t h =
     let good = good_tree origin.Atoms t h in
     let P : Text → Type 0 = λ s. Spells origin.Atoms (tokens t) s in
@@ -84,6 +84,13 @@ pub tree_is_line : EachTreeIsALine
 unfolding is_line
 tree_is_line t h less =
     both (nat_le (length (atoms t)) 255) _ (grind (arith, nat_tests)) (ap (λ (r : Outcome). is_ok r) (atoms_back t h))
+
+-- what is read of a line fits the rows, and is all of it
+pub read_fits : WhatIsReadFitsTheRows
+read_fits o s t rest is = record {
+  tree = reads_fit o s t rest is;
+  whole = (let P : Outcome → Type 0 = λ r. Ends r in subst P is (ends_line o s));
+}
 
 read_tree : Outcome → Trees → Trees
 read_tree (Ok p) d = p.0
@@ -106,7 +113,7 @@ tree_of s (Ok p) is h takes ends = record {
 -- each line spells a tree
 pub spells_tree : EachLineSpellsATree
 unfolding is_line
-spells_tree s h = tree_of s (read_line origin.Atoms s) refl (and_right (nat_le (length s) 255) _ h) (takes_line s) (ends_line s)
+spells_tree s h = tree_of s (read_line origin.Atoms s) refl (and_right (nat_le (length s) 255) _ h) (takes_line s) (ends_line origin.Atoms s)
 
 -- what is listed is read back
 listed_program : (t : Trees) → LineTree origin.Program t → line_atoms origin.Program (listed false false (tokens t)) ≡ Ok (atoms t)

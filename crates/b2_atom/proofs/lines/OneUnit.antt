@@ -10,6 +10,7 @@ use Rattle.b2_atom.specs.Tree.Trees.{Done, Put, In}
 use Rattle.b2_atom.specs.Grammar.{reader, items, item, level, deep, statement, row_items, starts, chosen}
 use Rattle.b2_atom.specs.Spelling.{Spells, AllGood, Neighbours, atoms_of_tokens}
 use Rattle.b2_atom.specs.Fitting.{Fits, is_statement, is_rest, RemarksEnd}
+use Rattle.b2_atom.specs.Units.{TreeUnit, own, units_in}
 use Rattle.b2_atom.specs.Table.{forms}
 use Rattle.b2_atom.specs.declared.words.TheConstants as word
 use Rattle.b2_atom.specs.declared.rows.TheConstants as row
@@ -34,6 +35,7 @@ use Rattle.b2_atom.proofs.settled.Choice.{one_statement, marked, Stands, opens_s
 use Rattle.b2_atom.proofs.spelling.SideBySide.{later}
 use Rattle.b2_atom.proofs.spelling.SpellsAtoms.{spells_atoms}
 use Rattle.b2_atom.proofs.reading.Sound.{Takes, takes_statement}
+use Rattle.b2_atom.proofs.lines.Own.{AllOwn, all_own, whole, whole_row}
 use Rattle.b2_atom.proofs.lines.LineLaws.{chooses, append_atoms, tree_atoms}
 
 -- tokens that may stand in a line
@@ -249,24 +251,26 @@ either_line b more v fits remarks_ spelled_ =
     (row_runs b (read_back b) Atoms (chooses Atoms) 32 39 0 row.LINE_NUMBER fits more line_bound (rank_lt _ (and_right (of row.LINE_NUMBER).plain _ line_plain))
     (λ h. never _ (and_left _ _ line_plain) h) (subst (λ (ts : List Tail). Refused Atoms ts more) (sym line_tails) tt) remarks_ v spelled_)))
 
--- a statement that stands next, before tokens
-pub record Next (more here : List Token) : Type 0 where
+-- a statement that stands next, before tokens, and the units from it on
+pub record Next (us : List TreeUnit) (more here : List Token) : Type 0 where
   pub row : ℕ
   pub tree : Trees
   pub stated : is_statement forms Atoms place.Following row ≡ true
   pub fits : Fits Atoms 32 (row_items row) tree
   pub same : here ≡ tokens tree ++ more
   pub heads : some (λ (f : Front). fronts f here) statement_heads ≡ true
+  pub units : us ≡ record { place = place.Following; row = row; tree = own (row_items row) tree } ∷ units_in (row_items row) tree
 
 -- the first unit of a statement's tokens: all of them, or another statement follows
-pub record FirstUnit (p : Place) (all more : List Token) : Type 0 where
-  pub row : ℕ
-  pub tree : Trees
+pub record FirstUnit (p : Place) (m : ℕ) (t : Trees) (all more : List Token) : Type 0 where
   pub front : List Token
   pub behind : List Token
   pub same : all ≡ front ++ behind
-  pub read : UnitRead p row tree front behind
-  pub next : (behind ≡ more) ⊎ Next more behind
+  pub read : UnitRead p m (own (row_items m) t) front behind
+  pub next : ((behind ≡ more) × (units_in (row_items m) t ≡ [])) ⊎ Next (units_in (row_items m) t) more behind
+
+own_read : (p : Place) (m : ℕ) (t u : Trees) (xs more : List Token) → t ≡ u → UnitRead p m u xs more → UnitRead p m t xs more
+own_read p m t u xs more same h = subst (λ (v : Trees). UnitRead p m v xs more) (sym same) h
 
 -- a row's tree by its front and its last item
 record Split (front : List Item) (last : Item) (t : Trees) : Type 0 where
@@ -275,25 +279,44 @@ record Split (front : List Item) (last : Item) (t : Trees) : Type 0 where
   same : t ≡ also first second
   fits_first : Fits Atoms 32 front first
   fits_second : Fits Atoms 32 (last ∷ []) second
+  own_is : own (front ++ last ∷ []) t ≡ also first (own (last ∷ []) second)
+  units_are : units_in (front ++ last ∷ []) t ≡ units_in (last ∷ []) second
 
 split_last : (last : Item) (t : Trees) → Fits Atoms 32 (last ∷ []) t → Split [] last t
-split_last last t h = record { first = Done; second = t; same = refl; fits_first = refl; fits_second = h }
+split_last last t h = record { first = Done; second = t; same = refl; fits_first = refl; fits_second = h; own_is = refl; units_are = refl }
 
 split_word : (c : ℕ) (front : List Item) (last : Item) → ((t : Trees) → Fits Atoms 32 (front ++ last ∷ []) t → Split front last t) → (t : Trees)
     → Fits Atoms 32 (Word c ∷ (front ++ last ∷ [])) t → Split (Word c ∷ front) last t
 split_word c front last split Done h = cc
 split_word c front last split (Put x ts) h =
     let s = split ts h.1 in
-    record { first = Put x s.first; second = s.second; same = ap (Put x) s.same; fits_first = (h.0, s.fits_first); fits_second = s.fits_second }
+    record {
+      first = Put x s.first;
+      second = s.second;
+      same = ap (Put x) s.same;
+      fits_first = (h.0, s.fits_first);
+      fits_second = s.fits_second;
+      own_is = ap (Put x) s.own_is;
+      units_are = s.units_are;
+    }
 split_word c front last split (In m inner ts) h = absurd h
 
-split_part : (n : ℕ) (front : List Item) (last : Item) → ((t : Trees) → Fits Atoms 32 (front ++ last ∷ []) t → Split front last t) → (t : Trees)
+split_part : (n : ℕ) (front : List Item) (last : Item) → whole (row_items n) ≡ true → ((t : Trees) → Fits Atoms 32 (front ++ last ∷ []) t → Split front last t) → (t : Trees)
     → Fits Atoms 32 (Part n ∷ (front ++ last ∷ [])) t → Split (Part n ∷ front) last t
-split_part n front last split Done h = cc
-split_part n front last split (Put x ts) h = cc
-split_part n front last split (In m inner ts) h =
+split_part n front last plain split Done h = cc
+split_part n front last plain split (Put x ts) h = cc
+split_part n front last plain split (In m inner ts) h =
     let s = split ts h.1.1 in
-    record { first = In m inner s.first; second = s.second; same = ap (In m inner) s.same; fits_first = (h.0, (h.1.0, s.fits_first)); fits_second = s.fits_second }
+    let r = all_own inner (row_items n) plain in
+    record {
+      first = In m inner s.first;
+      second = s.second;
+      same = ap (In m inner) s.same;
+      fits_first = (h.0, (h.1.0, s.fits_first));
+      fits_second = s.fits_second;
+      own_is = (λ x. In m (r.tree x) (s.own_is x));
+      units_are = (λ x. r.units x ++ s.units_are x);
+    }
 
 -- a statement that follows
 open_heads : (q : Trees) (more : List Token) → Fits Atoms 32 (Statement place.Following ∷ []) q → some (λ (f : Front). fronts f (tokens q ++ more)) statement_heads ≡ true
@@ -302,7 +325,7 @@ open_heads q more fits = elim (leads q Atoms 32 (Statement place.Following ∷ [
   | inr g ↦ g
 ]
 
-next_statement : (q : Trees) (more : List Token) → Fits Atoms 32 (Statement place.Following ∷ []) q → Next more (tokens q ++ more)
+next_statement : (q : Trees) (more : List Token) → Fits Atoms 32 (Statement place.Following ∷ []) q → Next (units_in (Statement place.Following ∷ []) q) more (tokens q ++ more)
 next_statement Done more fits = cc
 next_statement (Put t ts) more fits = cc
 next_statement (In m inner Done) more fits = record {
@@ -312,12 +335,27 @@ next_statement (In m inner Done) more fits = record {
   fits = fits.1.0;
   same = ap (λ (l : List Token). l ++ more) (append-nil (tokens inner));
   heads = open_heads (In m inner Done) more fits;
+  units = ap (λ (us : List TreeUnit). record { place = place.Following; row = m; tree = own (row_items m) inner } ∷ us) (append-nil (units_in (row_items m) inner));
 }
 next_statement (In m inner (Put t ts)) more fits = absurd fits.1.1
 next_statement (In m inner (In n other ts)) more fits = absurd fits.1.1
 
 followed_by : (q : Trees) → Fits Atoms 32 (row_items row.FOLLOWING) q → Fits Atoms 32 (Statement place.Following ∷ []) q
 followed_by q fits = subst (λ (is : List Item). Fits Atoms 32 is q) following_is fits
+
+-- which is cut out
+own_statement : (q : Trees) → Fits Atoms 32 (Statement place.Following ∷ []) q → own (Statement place.Following ∷ []) q ≡ Done
+own_statement Done fits = cc
+own_statement (Put t ts) fits = cc
+own_statement (In m inner Done) fits = refl
+own_statement (In m inner (Put t ts)) fits = absurd fits.1.1
+own_statement (In m inner (In n other ts)) fits = absurd fits.1.1
+
+own_followed : (k : ℕ) (q : Trees) → Fits Atoms 32 (row_items row.FOLLOWING) q → In k (own (row_items row.FOLLOWING) q) Done ≡ In k Done Done
+own_followed k q fits = ap (λ (u : Trees). In k u Done) (ap (λ (is : List Item). own is q) following_is ∙ own_statement q (followed_by q fits))
+
+units_followed : (q : Trees) → units_in (row_items row.FOLLOWING) q ++ [] ≡ units_in (Statement place.Following ∷ []) q
+units_followed q = append-nil (units_in (row_items row.FOLLOWING) q) ∙ ap (λ (is : List Item). units_in is q) following_is
 
 unlined : (ts : List Token) (v : Text) → some (λ (f : Front). fronts f ts) statement_heads ≡ true → Spells Atoms ts v → starts Atoms start.Line v ≡ false
 unlined ts v heads spelled_ = answers Atoms start.Line statement_heads false ts v refl heads spelled_
@@ -352,19 +390,20 @@ line_runs m c front f p a b more stated fits fits_a fits_b closed st =
 
 line_unit : (m c : ℕ) (front : List Item) → Followed m c front LineOrStatement → (p : Place) (a b : Trees) (more : List Token) → is_statement forms Atoms p m ≡ true
     → Fits Atoms 32 (row_items m) (also a (In 1 b Done)) → Fits Atoms 32 (Word c ∷ front) a → Fits Atoms 32 (row_items row.LINE_NUMBER) b → is_closing more ≡ true
-    → Stand (tokens (also a (In 1 b Done)) ++ more) → FirstUnit p (tokens (also a (In 1 b Done)) ++ more) more
-line_unit m c front f p a b more stated fits fits_a fits_b closed st =
+    → own (row_items m) (also a (In 1 b Done)) ≡ also a (own (LineOrStatement ∷ []) (In 1 b Done)) → units_in (row_items m) (also a (In 1 b Done)) ≡ units_in (LineOrStatement ∷ []) (In 1 b Done)
+    → Stand (tokens (also a (In 1 b Done)) ++ more) → FirstUnit p m (also a (In 1 b Done)) (tokens (also a (In 1 b Done)) ++ more) more
+line_unit m c front f p a b more stated fits fits_a fits_b closed own_is units_are st =
     let same_ = ap (λ (l : List Token). l ++ more) (line_tokens a b) in
     let st_ = subst (λ (l : List Token). Stand l) same_ st in
+    let r = all_own b (row_items row.LINE_NUMBER) (whole_row row.LINE_NUMBER (and_left _ _ line_plain)) in
     record {
-      row = m;
-      tree = also a (In 1 b Done);
       front = tokens a ++ tokens b;
       behind = more;
       same = same_;
-      read = unit_read p m (also a (In 1 b Done)) (tokens a ++ tokens b) more (line_tokens a b) (line_runs m c front f p a b more stated fits fits_a fits_b closed st_)
-          (line_runs m c front f p a b [] stated fits fits_a fits_b refl (stand_alone (tokens a ++ tokens b) more st_));
-      next = inl refl;
+      read = own_read p m (own (row_items m) (also a (In 1 b Done))) (also a (In 1 b Done)) (tokens a ++ tokens b) more (own_is ∙ ap (λ (u : Trees). also a (In 1 u Done)) r.tree)
+          (unit_read p m (also a (In 1 b Done)) (tokens a ++ tokens b) more (line_tokens a b) (line_runs m c front f p a b more stated fits fits_a fits_b closed st_)
+          (line_runs m c front f p a b [] stated fits fits_a fits_b refl (stand_alone (tokens a ++ tokens b) more st_)));
+      next = inl (refl, units_are ∙ ap (λ (us : List TreeUnit). us ++ []) r.units);
     }
 
 -- with a statement behind its front
@@ -386,60 +425,66 @@ follow_tokens a q k more =
 
 follow_unit : (m c : ℕ) (front : List Item) (last : Item) → Followed m c front last → (p : Place) (a q : Trees) (k : ℕ) (more : List Token) → is_statement forms Atoms p m ≡ true
     → Fits Atoms 32 (row_items m) (also a (In k q Done)) → Fits Atoms 32 (Word c ∷ front) a → Fits Atoms 32 (row_items row.FOLLOWING) q → is_closing more ≡ true
-    → Stops last k (tokens q ++ more) → Stops last k [] → Stand (tokens (also a (In k q Done)) ++ more) → FirstUnit p (tokens (also a (In k q Done)) ++ more) more
-follow_unit m c front last f p a q k more stated fits fits_a fits_q closed stops ends st =
+    → own (row_items m) (also a (In k q Done)) ≡ also a (In k Done Done) → units_in (row_items m) (also a (In k q Done)) ≡ units_in (Statement place.Following ∷ []) q
+    → Stops last k (tokens q ++ more) → Stops last k [] → Stand (tokens (also a (In k q Done)) ++ more) → FirstUnit p m (also a (In k q Done)) (tokens (also a (In k q Done)) ++ more) more
+follow_unit m c front last f p a q k more stated fits fits_a fits_q closed own_is units_are stops ends st =
     let mid : List Token = tokens q ++ more in
     let same_ = follow_tokens a q k more in
     let st_ = subst (λ (l : List Token). Stand l) same_ st in
     let alone_ = stand_alone (tokens a) mid st_ in
     record {
-      row = m;
-      tree = also a (In k Done Done);
       front = tokens a;
       behind = mid;
       same = same_;
-      read = unit_read p m (also a (In k Done Done)) (tokens a) mid (stop_tokens a k)
+      read = own_read p m (own (row_items m) (also a (In k q Done))) (also a (In k Done Done)) (tokens a) mid own_is
+          (unit_read p m (also a (In k Done Done)) (tokens a) mid (stop_tokens a k)
           (stop_runs m c front last f p a k mid fits_a st_
           (whole_stands p m (also a (In k q Done)) more (tokens a ++ mid) (atoms_of_tokens (tokens a ++ mid)) stated fits closed same_ (spelled (tokens a ++ mid) st_)) stops)
           (stop_runs m c front last f p a k [] fits_a alone_
-          (cut_stands m c front last f p a (atoms_of_tokens (tokens a ++ [])) stated fits_a (spelled (tokens a ++ []) alone_)) ends);
-      next = inr (next_statement q more (followed_by q fits_q));
+          (cut_stands m c front last f p a (atoms_of_tokens (tokens a ++ [])) stated fits_a (spelled (tokens a ++ []) alone_)) ends));
+      next = inr (subst (λ (us : List TreeUnit). Next us more mid) (sym units_are) (next_statement q more (followed_by q fits_q)));
     }
 
 -- by what stands there
-FirstOf : Place → List Token → Trees → Type 0
-FirstOf p more t = Stand (tokens t ++ more) → FirstUnit p (tokens t ++ more) more
+FirstOf : Place → ℕ → List Token → Trees → Type 0
+FirstOf p m more t = Stand (tokens t ++ more) → FirstUnit p m t (tokens t ++ more) more
+
+-- the tree of a row by its front and its last item, with its units
+abbrev IsCut : ℕ → Item → Trees → Trees → Trees → Type 0
+IsCut m last a b t = (own (row_items m) t ≡ also a (own (last ∷ []) b)) × (units_in (row_items m) t ≡ units_in (last ∷ []) b)
 
 either_unit : (m c : ℕ) (front : List Item) → Followed m c front LineOrStatement → (p : Place) (a b : Trees) (more : List Token) → is_statement forms Atoms p m ≡ true
     → Fits Atoms 32 (row_items m) (also a b) → Fits Atoms 32 (Word c ∷ front) a → Fits Atoms 32 (LineOrStatement ∷ []) b → is_closing more ≡ true
-    → FirstOf p more (also a b)
+    → IsCut m LineOrStatement a b (also a b) → FirstOf p m more (also a b)
 unfolding FirstOf
-either_unit m c front f p a (In zero q Done) more stated fits fits_a fits_b closed st =
+either_unit m c front f p a (In zero q Done) more stated fits fits_a fits_b closed cut st =
     let heads = open_heads q more (followed_by q fits_b.0) in
     follow_unit m c front LineOrStatement f p a q 0 more stated fits fits_a fits_b.0 closed
+    (cut.0 ∙ ap (also a) (own_followed 0 q fits_b.0)) (cut.1 ∙ units_followed q)
     (λ v spelled_. either_stops (tokens q ++ more) v (unlined (tokens q ++ more) v heads spelled_) spelled_)
     (λ v spelled_. either_stops [] v (nothing_there v spelled_) spelled_) st
-either_unit m c front f p a (In (suc zero) q Done) more stated fits fits_a fits_b closed st = line_unit m c front f p a q more stated fits fits_a fits_b.0 closed st
-either_unit m c front f p a (In (suc (suc k)) q ts) more stated fits fits_a fits_b closed st = absurd fits_b
-either_unit m c front f p a (In zero q (Put t ts)) more stated fits fits_a fits_b closed st = absurd fits_b.1
-either_unit m c front f p a (In zero q (In n o ts)) more stated fits fits_a fits_b closed st = absurd fits_b.1
-either_unit m c front f p a (In (suc zero) q (Put t ts)) more stated fits fits_a fits_b closed st = absurd fits_b.1
-either_unit m c front f p a (In (suc zero) q (In n o ts)) more stated fits fits_a fits_b closed st = absurd fits_b.1
-either_unit m c front f p a Done more stated fits fits_a fits_b closed st = cc
-either_unit m c front f p a (Put t ts) more stated fits fits_a fits_b closed st = cc
+either_unit m c front f p a (In (suc zero) q Done) more stated fits fits_a fits_b closed cut st = line_unit m c front f p a q more stated fits fits_a fits_b.0 closed cut.0 cut.1 st
+either_unit m c front f p a (In (suc (suc k)) q ts) more stated fits fits_a fits_b closed cut st = absurd fits_b
+either_unit m c front f p a (In zero q (Put t ts)) more stated fits fits_a fits_b closed cut st = absurd fits_b.1
+either_unit m c front f p a (In zero q (In n o ts)) more stated fits fits_a fits_b closed cut st = absurd fits_b.1
+either_unit m c front f p a (In (suc zero) q (Put t ts)) more stated fits fits_a fits_b closed cut st = absurd fits_b.1
+either_unit m c front f p a (In (suc zero) q (In n o ts)) more stated fits fits_a fits_b closed cut st = absurd fits_b.1
+either_unit m c front f p a Done more stated fits fits_a fits_b closed cut st = cc
+either_unit m c front f p a (Put t ts) more stated fits fits_a fits_b closed cut st = cc
 
 part_unit : (m c : ℕ) (front : List Item) → Followed m c front (Part row.FOLLOWING) → (p : Place) (a b : Trees) (more : List Token) → is_statement forms Atoms p m ≡ true
     → Fits Atoms 32 (row_items m) (also a b) → Fits Atoms 32 (Word c ∷ front) a → Fits Atoms 32 (Part row.FOLLOWING ∷ []) b → is_closing more ≡ true
-    → FirstOf p more (also a b)
+    → IsCut m (Part row.FOLLOWING) a b (also a b) → FirstOf p m more (also a b)
 unfolding FirstOf
-part_unit m c front f p a (In k q Done) more stated fits fits_a fits_b closed st =
-    let P : ℕ → Type 0 = λ n. Fits Atoms 32 (row_items m) (also a (In n q Done)) → FirstOf p more (also a (In n q Done)) in
+part_unit m c front f p a (In k q Done) more stated fits fits_a fits_b closed cut st =
+    let P : ℕ → Type 0 = λ n. Fits Atoms 32 (row_items m) (also a (In n q Done)) → IsCut m (Part row.FOLLOWING) a (In n q Done) (also a (In n q Done)) → FirstOf p m more (also a (In n q Done)) in
     subst P (sym fits_b.0)
-    (λ fits_ st_. follow_unit m c front (Part row.FOLLOWING) f p a q 2 more stated fits_ fits_a fits_b.1.0 closed (part_stops (tokens q ++ more)) (part_stops []) st_) fits st
-part_unit m c front f p a (In k q (Put t ts)) more stated fits fits_a fits_b closed st = absurd fits_b.1.1
-part_unit m c front f p a (In k q (In n o ts)) more stated fits fits_a fits_b closed st = absurd fits_b.1.1
-part_unit m c front f p a Done more stated fits fits_a fits_b closed st = cc
-part_unit m c front f p a (Put t ts) more stated fits fits_a fits_b closed st = cc
+    (λ fits_ cut_ st_. follow_unit m c front (Part row.FOLLOWING) f p a q 2 more stated fits_ fits_a fits_b.1.0 closed
+    (cut_.0 ∙ ap (also a) (own_followed 2 q fits_b.1.0)) (cut_.1 ∙ units_followed q) (part_stops (tokens q ++ more)) (part_stops []) st_) fits cut st
+part_unit m c front f p a (In k q (Put t ts)) more stated fits fits_a fits_b closed cut st = absurd fits_b.1.1
+part_unit m c front f p a (In k q (In n o ts)) more stated fits fits_a fits_b closed cut st = absurd fits_b.1.1
+part_unit m c front f p a Done more stated fits fits_a fits_b closed cut st = cc
+part_unit m c front f p a (Put t ts) more stated fits fits_a fits_b closed cut st = cc
 
 -- the rows in which a statement may follow
 if_followed : Followed row.IF word.IF (Part row.CONDITION ∷ Word word.THEN ∷ []) LineOrStatement
@@ -456,39 +501,52 @@ error_followed = record { is = refl; settles = refl; plain = refl; tails = refl;
 
 -- the statements of a row
 abbrev OfRow : ℕ → Type 0
-OfRow m = (p : Place) (t : Trees) (more : List Token) → is_statement forms Atoms p m ≡ true → Fits Atoms 32 (row_items m) t → is_closing more ≡ true → FirstOf p more t
+OfRow m = (p : Place) (t : Trees) (more : List Token) → is_statement forms Atoms p m ≡ true → Fits Atoms 32 (row_items m) t → is_closing more ≡ true → FirstOf p m more t
+
+condition_plain : (of row.CONDITION).plain ≡ true
+unfolding of_row of row_items
+condition_plain = refl
+
+-- a row's items, which are known
+split_row : (m : ℕ) (front : List Item) (last : Item) (p : Place) (more : List Token) (t : Trees) → row_items m ≡ front ++ last ∷ [] → (s : Split front last t)
+    → Fits Atoms 32 (row_items m) t → ((a b : Trees) → Fits Atoms 32 (row_items m) (also a b) → Fits Atoms 32 front a → Fits Atoms 32 (last ∷ []) b → IsCut m last a b (also a b) → FirstOf p m more (also a b))
+    → FirstOf p m more t
+split_row m front last p more t is s fits read_ =
+    subst (λ (u : Trees). Fits Atoms 32 (row_items m) u → IsCut m last s.first s.second u → FirstOf p m more u) (sym s.same)
+    (λ fits_ cut_. read_ s.first s.second fits_ s.fits_first s.fits_second cut_) fits
+    (ap (λ (js : List Item). own js t) is ∙ s.own_is, ap (λ (js : List Item). units_in js t) is ∙ s.units_are)
 
 if_unit : OfRow row.IF
 if_unit p t more stated fits closed =
-    let s = split_word word.IF (Part row.CONDITION ∷ Word word.THEN ∷ []) LineOrStatement
-    (split_part row.CONDITION (Word word.THEN ∷ []) LineOrStatement (split_word word.THEN [] LineOrStatement (split_last LineOrStatement)))
-    t (subst (λ (is : List Item). Fits Atoms 32 is t) if_row_is fits) in
-    subst (λ (u : Trees). Fits Atoms 32 (row_items row.IF) u → FirstOf p more u) (sym s.same)
-    (λ fits_. either_unit row.IF word.IF (Part row.CONDITION ∷ Word word.THEN ∷ []) if_followed p s.first s.second more stated fits_ s.fits_first s.fits_second closed) fits
+    split_row row.IF (Word word.IF ∷ Part row.CONDITION ∷ Word word.THEN ∷ []) LineOrStatement p more t if_row_is
+    (split_word word.IF (Part row.CONDITION ∷ Word word.THEN ∷ []) LineOrStatement
+    (split_part row.CONDITION (Word word.THEN ∷ []) LineOrStatement (whole_row row.CONDITION condition_plain) (split_word word.THEN [] LineOrStatement (split_last LineOrStatement)))
+    t (subst (λ (is : List Item). Fits Atoms 32 is t) if_row_is fits)) fits
+    (λ a b fits_ fits_a fits_b cut_. either_unit row.IF word.IF (Part row.CONDITION ∷ Word word.THEN ∷ []) if_followed p a b more stated fits_ fits_a fits_b closed cut_)
 
 else_unit : OfRow row.ELSE
 else_unit p t more stated fits closed =
-    let s = split_word word.ELSE [] LineOrStatement (split_last LineOrStatement) t (subst (λ (is : List Item). Fits Atoms 32 is t) else_is fits) in
-    subst (λ (u : Trees). Fits Atoms 32 (row_items row.ELSE) u → FirstOf p more u) (sym s.same)
-    (λ fits_. either_unit row.ELSE word.ELSE [] else_followed p s.first s.second more stated fits_ s.fits_first s.fits_second closed) fits
+    split_row row.ELSE (Word word.ELSE ∷ []) LineOrStatement p more t else_is
+    (split_word word.ELSE [] LineOrStatement (split_last LineOrStatement) t (subst (λ (is : List Item). Fits Atoms 32 is t) else_is fits)) fits
+    (λ a b fits_ fits_a fits_b cut_. either_unit row.ELSE word.ELSE [] else_followed p a b more stated fits_ fits_a fits_b closed cut_)
 
 error_unit : OfRow row.ERROR
 error_unit p t more stated fits closed =
-    let s = split_word word.ERROR [] (Part row.FOLLOWING) (split_last (Part row.FOLLOWING)) t (subst (λ (is : List Item). Fits Atoms 32 is t) error_is fits) in
-    subst (λ (u : Trees). Fits Atoms 32 (row_items row.ERROR) u → FirstOf p more u) (sym s.same)
-    (λ fits_. part_unit row.ERROR word.ERROR [] error_followed p s.first s.second more stated fits_ s.fits_first s.fits_second closed) fits
+    split_row row.ERROR (Word word.ERROR ∷ []) (Part row.FOLLOWING) p more t error_is
+    (split_word word.ERROR [] (Part row.FOLLOWING) (split_last (Part row.FOLLOWING)) t (subst (λ (is : List Item). Fits Atoms 32 is t) error_is fits)) fits
+    (λ a b fits_ fits_a fits_b cut_. part_unit row.ERROR word.ERROR [] error_followed p a b more stated fits_ fits_a fits_b closed cut_)
 
 plain_first : (m : ℕ) → (of m).plain ≡ true → OfRow m
 unfolding FirstOf
-plain_first m plain p t more stated fits closed st = record {
-  row = m;
-  tree = t;
-  front = tokens t;
-  behind = more;
-  same = refl;
-  read = plain_unit p m t more stated plain fits closed st;
-  next = inl refl;
-}
+plain_first m plain p t more stated fits closed st =
+    let r = all_own t (row_items m) (whole_row m plain) in
+    record {
+      front = tokens t;
+      behind = more;
+      same = refl;
+      read = own_read p m (own (row_items m) t) t (tokens t) more r.tree (plain_unit p m t more stated plain fits closed st);
+      next = inl (refl, r.units);
+    }
 
 -- no other statement's row has a statement in it
 is_known : ℕ → Bool
@@ -516,6 +574,6 @@ of_known m h = elim (or_cases (of m).plain _ h) [
 
 -- the tokens of each statement begin with a unit
 pub first_unit : (p : Place) (m : ℕ) (t : Trees) (more : List Token) → is_statement forms Atoms p m ≡ true → Fits Atoms 32 (row_items m) t → is_closing more ≡ true
-    → Stand (tokens t ++ more) → FirstUnit p (tokens t ++ more) more
+    → Stand (tokens t ++ more) → FirstUnit p m t (tokens t ++ more) more
 unfolding FirstOf
 first_unit p m t more stated fits closed st = of_known m (one_of_statements is_known Atoms p m forms forms_known stated) p t more stated fits closed st

@@ -2,7 +2,7 @@
 use Rattle.std.proofs.Common.{◌≡◌, ℕ, zero, suc, ◌+◌, Bool, true, false, if◌then◌else◌, ◌==◌, ◌&&◌, nat_le, List, [], ◌∷◌, ◌++◌, length, take, drop, map, refl, sym, ap, ◌∙◌, arith, get_or, nat_lt, ◌/◌, append_assoc, append-nil, Result, Ok, Err}
 use Rattle.std.proofs.lemmas.Bool.Decides.{nat_tests}
 use Rattle.b2_base.specs.Lexical.{all_printable, first, is_decimal}
-use Rattle.b2_atom.specs.Words.{Text, kept_byte}
+use Rattle.b2_atom.specs.Words.{Text, kept_byte, skipped}
 use Rattle.b2_atom.specs.Tokens.{token_atoms, kept_text}
 use Rattle.b2_atom.specs.Tokens.Token.{Coded, Lined}
 use Rattle.std.proofs.lemmas.List.{take-append-drop}
@@ -10,6 +10,7 @@ use Rattle.b2_atom.specs.Tree.{Trees, Outcome, Parser, one, nothing, preceded, a
 use Rattle.b2_atom.specs.Tree.Trees.{Done, Put, In}
 use Rattle.b2_atom.specs.Leaves.{refused, leaf_width}
 use Rattle.b2_atom.specs.Grammar.{reader, read_item, items, item, level, deep, statement, many, row_items, rows_of, row_place, starts, read_line, chosen, statement_row, row_at, from, mark, among, program_word, ignored, optional_comma, end_of_line, end_at, read_leaf, leaf_at, plain_of, atoms_line_number, text_to_end}
+use Rattle.b2_atom.specs.declared.words.Origin.{Origin}
 use Rattle.b2_atom.specs.declared.words.Origin.TheVariants.{Atoms}
 use Rattle.b2_atom.specs.declared.sink.Stop.{Stop}
 use Rattle.b2_atom.specs.declared.sink.Stop.TheVariants.{At}
@@ -232,14 +233,14 @@ ends_then : (o : Outcome) (q : Parser Text) → ((u : Text) → Ends (q u)) → 
 ends_then (Ok p) q h = ends_joined p.0 (q p.1) (h p.1)
 ends_then (Err e) q h = tt
 
-ends_at : (u : Text) → Ends (and_then (end_at Atoms u) nothing)
-ends_at [] = refl
-ends_at (b ∷ bs) = tt
+ends_at : (o : Origin) (u : Text) → Ends (and_then (end_at o u) nothing)
+ends_at o [] = refl
+ends_at o (b ∷ bs) = tt
 
-ends_row : (st : Place → Parser Text) (d p : ℕ → Parser Text) (i j : Item) (s : Text) → Ends (items st d p (reader Atoms) (i ∷ j ∷ End ∷ []) s)
+ends_row : (o : Origin) (st : Place → Parser Text) (d p : ℕ → Parser Text) (i j : Item) (s : Text) → Ends (items st d p (reader o) (i ∷ j ∷ End ∷ []) s)
 unfolding items item end_of_line
-ends_row st d p i j s = ends_then (item st d p (reader Atoms) i s) _ (λ u. ends_then (item st d p (reader Atoms) j u) _ (λ v. ends_at v))
+ends_row o st d p i j s = ends_then (item st d p (reader o) i s) _ (λ u. ends_then (item st d p (reader o) j u) _ (λ v. ends_at o (skipped o v)))
 
-pub ends_line : (s : Text) → Ends (read_line Atoms s)
+pub ends_line : (o : Origin) (s : Text) → Ends (read_line o s)
 unfolding level row_items
-ends_line s = ends_row _ _ _ _ _ s
+ends_line o s = ends_row o _ _ _ _ _ s

@@ -1,0 +1,125 @@
+// The units of a line: found once, when the line is made, and looked up from then on.
+ghost use Rattle.std.specs.Prelude.{◌≡◌, ◌≤◌, ℕ, List, IfOk, length, map};
+ghost use Rattle.b2_atom.specs.Lines.{IsEndOf, behind_unit, further_unit, is_further, next_place, next_text, spanned, unit_at, units_of};
+
+use crate::forms::Place;
+use crate::sink::Sink;
+use crate::walk::statement;
+use crate::words::Origin;
+use b2_base::NoMemory;
+use b2_base::lexical::{dropped, first, front};
+use std::alloc::Global;
+
+/// A unit of a line: where it stands, and which of the line's bytes are its own.
+#[derive(Clone, Copy, Debug)]
+pub struct Span {
+    place: Place,
+    from: u8,
+    width: u8,
+}
+
+impl Span {
+    /// The unit's bytes.
+    pub fn cut<'a>(&self, line: &'a [u8]) -> &'a [u8]
+        ensures { result.now ≡ (spanned line.now self.now).bytes }
+    {
+        front(
+            dropped(line, usize::from(self.from)),
+            usize::from(self.width),
+        )
+    }
+
+    /// Whether the unit stands after a `:`.
+    fn follows_colon(&self) -> bool
+        ensures { result ≡ is_further self.now.place }
+    {
+        self.place == Place::Further
+    }
+}
+
+/// What stands after the first unit of a text.
+#[tactic(auto, unfolding(crate::specs::Lines::behind_unit))]
+fn behind_unit(place: Place, text: &[u8]) -> &[u8]
+    ensures { result.now ≡ behind_unit place text.now }
+{
+    let mut sink = Sink::Silent;
+    match statement(&mut sink, Origin::Atoms, 1, place, text) {
+        Ok(rest) => rest,
+        Err(_) => &[],
+    }
+}
+
+/// Where the unit stands that begins after another.
+fn next_place(rest: &[u8]) -> Place
+    ensures { result ≡ next_place rest.now }
+{
+    if first(rest) == b':' {
+        Place::Further
+    } else {
+        Place::Following
+    }
+}
+
+/// What is left of a line where the next unit begins.
+fn next_text(rest: &[u8]) -> &[u8]
+    ensures { result.now ≡ next_text rest.now }
+{
+    if first(rest) == b':' {
+        dropped(rest, 1)
+    } else {
+        rest
+    }
+}
+
+/// The unit at a text that is left of a line, before what stands after the unit.
+fn span_between(line: &[u8], place: Place, left: &[u8], rest: &[u8]) -> Span
+    requires few { length line.now ≤ 255 }
+    requires left { IsEndOf line.now left.now }
+    requires rest { rest.now ≡ behind_unit place left.now }
+    ensures { spanned line.now result ≡ unit_at place left.now }
+{
+    let from = line.len() - left.len();
+    let width = left.len() - rest.len();
+    Span {
+        place,
+        from: from as u8,
+        width: width as u8,
+    }
+}
+
+/// The units of a line of at most 255 bytes.
+pub fn spans_of(alloc: Global, line: &[u8]) -> Result<Vec<Span>, NoMemory>
+    requires { length line.now ≤ 255 }
+    ensures { IfOk result (λ spans. map (spanned line.now) spans.items ≡ units_of line.now) }
+{
+    let mut spans = Vec::new(alloc);
+    let mut place = Place::First;
+    let mut left = line;
+    for _ in 0..line.len() {
+        let rest = behind_unit(place, left);
+        spans.push(span_between(line, place, left, rest))?;
+        if rest.is_empty() {
+            return Ok(spans);
+        }
+        place = next_place(rest);
+        left = next_text(rest);
+    }
+    Ok(spans)
+}
+
+/// The first unit after the k-th that follows a `:`, or the number of units.
+pub fn further_unit(units: &[Span], k: usize) -> usize
+    ensures { (line : List ℕ) → result ≡ further_unit k 0 (map (spanned line) units.now) }
+{
+    if k >= units.len() {
+        return units.len();
+    }
+    let mut unit = k + 1;
+    while unit < units.len() {
+        if units[unit].follows_colon() {
+            return unit;
+        }
+        unit += 1;
+    }
+    units.len()
+}
