@@ -454,7 +454,7 @@ def answer(expected):
 
 
 def table(name, rows, comment):
-    """Rows of a text and of bytes in hexadecimal, `~` between them and a newline behind them."""
+    """Rows of a text and of bytes in hexadecimal, `~` between them and a newline after them."""
     out = ["/// " + comment, "pub const %s_COUNT: usize = %d;" % (name, len(rows)), "", "#[rattlefmt::skip]", 'pub const %s: &[u8] = b"\\' % name]
     out += ["%s~%s\\n\\" % (literal(text.encode("latin-1")), data.hex().upper()) for text, data in rows]
     return out + ['";']

@@ -5,10 +5,10 @@ use Rattle.std.proofs.lemmas.List.{length-take, length-append, length-replicate,
 use Rattle.std.proofs.lemmas.List.Sums.{suffix_len_is}
 use Rattle.b2_alpha.specs.Values.{is_blank, padded, value_of}
 
--- behind a byte that is no blank there are only blanks
+-- after a byte that is no blank there are only blanks
 pub length-value_of : (xs : List ℕ) (n : ℕ) → 0 < n → n ≤ length xs → ((k : ℕ) → n ≤ k → k < length xs → is_blank (get_or xs k 0) ≡ true) → is_blank (get_or xs (n - 1) 0) ≡ false → n ≡ length (value_of xs)
 length-value_of xs n some within blanks last =
-    let behind : suffix_len is_blank xs ≡ length xs - n = suffix_len_is is_blank xs n 0 within blanks (λ _. last) in
+    let blanks_after : suffix_len is_blank xs ≡ length xs - n = suffix_len_is is_blank xs n 0 within blanks (λ _. last) in
     let taken : length (value_of xs) ≡ min (max 1 (length xs - suffix_len is_blank xs)) (length xs) = length-take (max 1 (length xs - suffix_len is_blank xs)) xs in
     omega arith
 
@@ -16,13 +16,13 @@ all_blank : (xs : List ℕ) → ((k : ℕ) → 1 ≤ k → k < length xs → is_
 all_blank xs blanks here zero low inside = here
 all_blank xs blanks here (suc k) low inside = blanks (suc k) (omega arith) inside
 
--- behind the first byte there are only blanks, and it may be one
+-- after the first byte there are only blanks, and it may be one
 pub length-value_of-one : (xs : List ℕ) → 0 < length xs → ((k : ℕ) → 1 ≤ k → k < length xs → is_blank (get_or xs k 0) ≡ true) → 1 ≡ length (value_of xs)
 length-value_of-one xs some blanks =
     let either : (b : Bool) → is_blank (get_or xs 0 0) ≡ b → 1 ≡ length (value_of xs) =
     λ b. elim b as (λ v. is_blank (get_or xs 0 0) ≡ v → 1 ≡ length (value_of xs)) [
       | true ↦ λ here.
-          let behind : suffix_len is_blank xs ≡ length xs - 0 = suffix_len_is is_blank xs 0 0 (omega arith) (all_blank xs blanks here) (λ never. absurd (omega arith)) in
+          let blanks_after : suffix_len is_blank xs ≡ length xs - 0 = suffix_len_is is_blank xs 0 0 (omega arith) (all_blank xs blanks here) (λ never. absurd (omega arith)) in
           let taken : length (value_of xs) ≡ min (max 1 (length xs - suffix_len is_blank xs)) (length xs) = length-take (max 1 (length xs - suffix_len is_blank xs)) xs in
           omega arith
       | false ↦ λ here. length-value_of xs 1 (omega arith) (omega arith) blanks here

@@ -4,9 +4,9 @@ use Rattle.std.proofs.lemmas.Int.{ints}
 use Rattle.std.proofs.lemmas.Nat.{pow-add, pow_pos, div-mul-add, mod-mul-add, mul-add-lt, div-add-mod', div_below, mod_below}
 use Rattle.std.proofs.lemmas.List.{length-append, get_or_append_left, get_or-append_right}
 use Rattle.std.proofs.lemmas.Bool.{cases_lt}
-use Rattle.b2_alpha.specs.Places.{number, digits}
+use Rattle.b2_alpha.specs.Places.{number_in_base, digits_in_base}
 use Rattle.b2_alpha.specs.Bits.{turned, turned_whole, left_by, rotated}
-use Rattle.b2_alpha.proofs.PlaceValues.{AllBelow, tail_below, number-lt, number-push, number-digits_fitting, length-digits, digits-number}
+use Rattle.b2_alpha.proofs.PlaceValues.{AllBelow, tail_below, number_in_base-lt, number_in_base-push, number_in_base-digits_fitting, length-digits, digits_in_base-number}
 use Rattle.b2_alpha.proofs.Turning.{bytes_of_bits}
 
 -- the two parts of a number
@@ -56,24 +56,24 @@ each_back n (x ∷ xs) low high below =
     ap (λ y. y ∷ map (turned 8 (left_by 8 (neg_ℤ n))) (map (turned 8 (left_by 8 n)) xs)) (turned_by_opposite 8 n (omega arith) low high x (below 0))
     ∙ ap (λ l. x ∷ l) (each_back n xs low high (tail_below 256 x xs below))
 
-number_small : (xs : List ℕ) → AllBelow 256 xs → number 256 xs < 2 ^ (8 * length xs)
-number_small xs below = rw (sym (bytes_of_bits (length xs))) (number-lt 256 xs below)
+number_small : (xs : List ℕ) → AllBelow 256 xs → number_in_base 256 xs < 2 ^ (8 * length xs)
+number_small xs below = rw (sym (bytes_of_bits (length xs))) (number_in_base-lt 256 xs below)
 
-digits_of_number : (xs : List ℕ) → AllBelow 256 xs → digits 256 (length xs) (number 256 xs) ≡ xs
+digits_of_number : (xs : List ℕ) → AllBelow 256 xs → digits_in_base 256 (length xs) (number_in_base 256 xs) ≡ xs
 digits_of_number xs below =
-    ap (digits 256 (length xs)) (let e : number 256 xs ≡ 0 * 256 ^ length xs + number 256 xs = omega arith in e) ∙ digits-number 256 xs 0 below
+    ap (digits_in_base 256 (length xs)) (let e : number_in_base 256 xs ≡ 0 * 256 ^ length xs + number_in_base 256 xs = omega arith in e) ∙ digits_in_base-number 256 xs 0 below
 
-number_of_digits : (k n : ℕ) → n < 2 ^ (8 * k) → number 256 (digits 256 k n) ≡ n
-number_of_digits k n small = number-digits_fitting 256 k n (omega arith) (rw (bytes_of_bits k) small)
+number_of_digits : (k n : ℕ) → n < 2 ^ (8 * k) → number_in_base 256 (digits_in_base 256 k n) ≡ n
+number_of_digits k n small = number_in_base-digits_fitting 256 k n (omega arith) (rw (bytes_of_bits k) small)
 
 whole_back : (n : ℤ) (xs : List ℕ) → 8 ≤ 8 * length xs → negsuc 7 ≤ℤ n → n ≤ℤ pos 8 → AllBelow 256 xs → turned_whole (left_by (8 * length (turned_whole (left_by (8 * length xs) n) xs)) (neg_ℤ n)) (turned_whole (left_by (8 * length xs) n) xs) ≡ xs
 whole_back n xs wide low high below =
-    let small : turned (8 * length xs) (left_by (8 * length xs) n) (number 256 xs) < 2 ^ (8 * length xs) =
-    turned-lt (8 * length xs) (left_by (8 * length xs) n) (number 256 xs) (left_within (8 * length xs) n wide high) (number_small xs below) in
-    let same : length (turned_whole (left_by (8 * length xs) n) xs) ≡ length xs = length-digits 256 (length xs) (turned (8 * length xs) (left_by (8 * length xs) n) (number 256 xs)) in
-    ap (λ len. digits 256 len (turned (8 * len) (left_by (8 * len) (neg_ℤ n)) (number 256 (turned_whole (left_by (8 * length xs) n) xs)))) same
-    ∙ ap (λ m. digits 256 (length xs) (turned (8 * length xs) (left_by (8 * length xs) (neg_ℤ n)) m)) (number_of_digits (length xs) (turned (8 * length xs) (left_by (8 * length xs) n) (number 256 xs)) small)
-    ∙ ap (digits 256 (length xs)) (turned_by_opposite (8 * length xs) n wide low high (number 256 xs) (number_small xs below))
+    let small : turned (8 * length xs) (left_by (8 * length xs) n) (number_in_base 256 xs) < 2 ^ (8 * length xs) =
+    turned-lt (8 * length xs) (left_by (8 * length xs) n) (number_in_base 256 xs) (left_within (8 * length xs) n wide high) (number_small xs below) in
+    let same : length (turned_whole (left_by (8 * length xs) n) xs) ≡ length xs = length-digits 256 (length xs) (turned (8 * length xs) (left_by (8 * length xs) n) (number_in_base 256 xs)) in
+    ap (λ len. digits_in_base 256 len (turned (8 * len) (left_by (8 * len) (neg_ℤ n)) (number_in_base 256 (turned_whole (left_by (8 * length xs) n) xs)))) same
+    ∙ ap (λ m. digits_in_base 256 (length xs) (turned (8 * length xs) (left_by (8 * length xs) (neg_ℤ n)) m)) (number_of_digits (length xs) (turned (8 * length xs) (left_by (8 * length xs) n) (number_in_base 256 xs)) small)
+    ∙ ap (digits_in_base 256 (length xs)) (turned_by_opposite (8 * length xs) n wide low high (number_in_base 256 xs) (number_small xs below))
     ∙ digits_of_number xs below
 
 pub rotated_back : (whole : Bool) (n : ℤ) (xs : List ℕ) → negsuc 7 ≤ℤ n → n ≤ℤ pos 8 → AllBelow 256 xs → rotated whole (neg_ℤ n) (rotated whole n xs) ≡ xs
@@ -95,16 +95,16 @@ below_one_at b small (suc k) = omega arith
 below_turned : (b : ℕ) (bs : List ℕ) → AllBelow 256 (b ∷ bs) → AllBelow 256 (bs ++ b ∷ [])
 below_turned b bs below = below_append bs (b ∷ []) (tail_below 256 b bs below) (λ k. below_one_at b (below 0) k)
 
--- the first byte goes behind the others
+-- the first byte goes after the others
 pub rotated_byte : (xs : List ℕ) → 0 < length xs → AllBelow 256 xs → rotated true (pos 8) xs ≡ drop 1 xs ++ take 1 xs
 rotated_byte [] some below = absurd (omega arith)
 rotated_byte (b ∷ bs) some below =
-    let small : number 256 bs < 256 ^ length bs = number-lt 256 bs (tail_below 256 b bs below) in
+    let small : number_in_base 256 bs < 256 ^ length bs = number_in_base-lt 256 bs (tail_below 256 b bs below) in
     let power : 2 ^ (8 * length (b ∷ bs) - 8) ≡ 256 ^ length bs = ap (λ n. 2 ^ n) (let e : 8 * suc (length bs) - 8 ≡ 8 * length bs = omega arith in e) ∙ sym (bytes_of_bits (length bs)) in
-    let value : turned (8 * length (b ∷ bs)) 8 (number 256 (b ∷ bs)) ≡ number 256 (bs ++ b ∷ []) =
-    ap (λ p. number 256 (b ∷ bs) % p * 256 + number 256 (b ∷ bs) / p) power
-    ∙ ap (λ r. r * 256 + number 256 (b ∷ bs) / 256 ^ length bs) (mod-mul-add b (256 ^ length bs) (number 256 bs) small)
-    ∙ ap (λ q. number 256 bs * 256 + q) (div-mul-add b (256 ^ length bs) (number 256 bs) small)
-    ∙ sym (number-push 256 bs b) in
+    let value : turned (8 * length (b ∷ bs)) 8 (number_in_base 256 (b ∷ bs)) ≡ number_in_base 256 (bs ++ b ∷ []) =
+    ap (λ p. number_in_base 256 (b ∷ bs) % p * 256 + number_in_base 256 (b ∷ bs) / p) power
+    ∙ ap (λ r. r * 256 + number_in_base 256 (b ∷ bs) / 256 ^ length bs) (mod-mul-add b (256 ^ length bs) (number_in_base 256 bs) small)
+    ∙ ap (λ q. number_in_base 256 bs * 256 + q) (div-mul-add b (256 ^ length bs) (number_in_base 256 bs) small)
+    ∙ sym (number_in_base-push 256 bs b) in
     let same : length (b ∷ bs) ≡ length (bs ++ b ∷ []) = omega (arith, length-append bs (b ∷ [])) in
-    ap (digits 256 (length (b ∷ bs))) value ∙ ap (λ n. digits 256 n (number 256 (bs ++ b ∷ []))) same ∙ digits_of_number (bs ++ b ∷ []) (below_turned b bs below)
+    ap (digits_in_base 256 (length (b ∷ bs))) value ∙ ap (λ n. digits_in_base 256 n (number_in_base 256 (bs ++ b ∷ []))) same ∙ digits_of_number (bs ++ b ∷ []) (below_turned b bs below)

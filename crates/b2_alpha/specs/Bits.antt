@@ -2,7 +2,7 @@
 use Rattle.std.specs.Prelude.{ℕ, suc, ◌+◌, ◌-◌, ◌*◌, ◌/◌, ◌%◌, ◌^◌, ℤ, pos, negsuc, Bool, true, false, List, length, map}
 use Rattle.std.specs.Int.{bit_at}
 use Rattle.std.specs.List.{sum_by, range_with_len}
-use Rattle.b2_alpha.specs.Places.{number, digits}
+use Rattle.b2_alpha.specs.Places.{number_in_base, digits_in_base}
 use Rattle.b2_alpha.specs.Values.{each_pair}
 
 -- The digit is a table of four bits: for a bit r of the receiver and a bit o of the operand it has the answer at the
@@ -16,16 +16,16 @@ byte_by digit r o =
     sum_by (λ i. bit_by digit (bit_at r i) (bit_at o i) * 2 ^ i) (range_with_len 0 8)
 
 -- receiver and operand joined from the left; the receiver's bytes past the operand stay
-abbrev pub joined : ℕ → List ℕ → List ℕ → List ℕ
-joined digit rs os = each_pair (byte_by digit) rs os
+abbrev pub joined_by : ℕ → List ℕ → List ℕ → List ℕ
+joined_by digit rs os = each_pair (byte_by digit) rs os
 
--- a number of so many bits turned left by k: the k high bits come in below the others
+-- a number of `width` bits turned left by k: the k high bits come in below the others
 abbrev pub turned : ℕ → ℕ → ℕ → ℕ
 turned width k x = x % 2 ^ (width - k) * 2 ^ k + x / 2 ^ (width - k)
 
 -- a string turned as one number
 abbrev pub turned_whole : ℕ → List ℕ → List ℕ
-turned_whole k xs = digits 256 (length xs) (turned (8 * length xs) k (number 256 xs))
+turned_whole k xs = digits_in_base 256 (length xs) (turned (8 * length xs) k (number_in_base 256 xs))
 
 -- by how much to turn left: turning right by k is turning left by all bits but k
 abbrev pub left_by : ℕ → ℤ → ℕ

@@ -3,4 +3,3 @@ pub mod Values
 pub mod Bits
 pub mod Sums
 pub mod Relations
-pub mod Texts

@@ -24,13 +24,13 @@ holds rel.Ge Less = false
 holds rel.Ge _ = true
 
 -- a place counted from 1, and 0 for none
-abbrev pub counted : Option ℕ → ℕ
-counted None = 0
-counted (Some i) = suc i
+abbrev pub counted_from_1 : Option ℕ → ℕ
+counted_from_1 None = 0
+counted_from_1 (Some i) = suc i
 
 -- the place of the first byte that stands in the relation to b
-abbrev pub place_of : List ℕ → Rel → ℕ → ℕ
-place_of xs rel b = counted (position (λ x. holds rel (nat_cmp x b)) xs)
+abbrev pub found_place : List ℕ → Rel → ℕ → ℕ
+found_place xs rel b = counted_from_1 (position (λ x. holds rel (nat_cmp x b)) xs)
 
 -- the order of two values by their bytes, the shorter one padded to the length of the other
 abbrev pub order_of : List ℕ → List ℕ → Ordering

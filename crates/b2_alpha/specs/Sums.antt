@@ -1,7 +1,7 @@
 -- Sums and differences of byte strings that end at the same place.
 use Rattle.std.specs.Prelude.{ℕ, ◌+◌, ◌-◌, ◌*◌, ◌/◌, ◌%◌, ◌^◌, Bool, ◌&&◌, nat_le, List, ◌++◌, length, map, drop, replicate}
 use Rattle.std.specs.List.{list_all}
-use Rattle.b2_alpha.specs.Places.{number, digits}
+use Rattle.b2_alpha.specs.Places.{number_in_base, digits_in_base}
 use Rattle.b2_alpha.specs.Values.{each_pair}
 
 -- an operand under a receiver of n bytes: zeros left of a shorter one, a longer one cut at the left
@@ -18,11 +18,11 @@ bytewise_difference xs ys = each_pair (λ x y. (256 + x - y) % 256) xs (aligned 
 -- Sum and difference of two numbers in as many places as the first has. Above them a carry is lost, and a difference
 -- below zero borrows from there.
 abbrev pub sum_in : ℕ → List ℕ → List ℕ → List ℕ
-sum_in base xs ys = digits base (length xs) (number base xs + number base ys)
+sum_in base xs ys = digits_in_base base (length xs) (number_in_base base xs + number_in_base base ys)
 
 abbrev pub difference_in : ℕ → List ℕ → List ℕ → List ℕ
 difference_in base xs ys =
-    digits base (length xs) (base ^ length xs + number base xs - number base ys)
+    digits_in_base base (length xs) (base ^ length xs + number_in_base base xs - number_in_base base ys)
 
 abbrev pub binary_sum : List ℕ → List ℕ → List ℕ
 binary_sum xs ys = sum_in 256 xs (aligned (length xs) ys)
@@ -31,8 +31,8 @@ abbrev pub binary_difference : List ℕ → List ℕ → List ℕ
 binary_difference xs ys = difference_in 256 xs (aligned (length xs) ys)
 
 -- a byte of two decimal nibbles, the number from 0 to 99 in it, and back
-abbrev pub is_decimal : ℕ → Bool
-is_decimal b = nat_le (b / 16) 9 && nat_le (b % 16) 9
+abbrev pub has_decimal_nibbles : ℕ → Bool
+has_decimal_nibbles b = nat_le (b / 16) 9 && nat_le (b % 16) 9
 
 abbrev pub decimal_of : ℕ → ℕ
 decimal_of b = b / 16 * 10 + b % 16
@@ -42,11 +42,11 @@ nibbles_of d = d / 10 * 16 + d % 10
 
 -- the number that a string's decimal nibbles spell
 abbrev pub decimal_value : List ℕ → ℕ
-decimal_value xs = number 100 (map decimal_of xs)
+decimal_value xs = number_in_base 100 (map decimal_of xs)
 
 -- all nibbles that a decimal sum or difference uses are decimal digits
 abbrev pub are_decimal : List ℕ → List ℕ → Bool
-are_decimal xs ys = list_all is_decimal xs && list_all is_decimal (aligned (length xs) ys)
+are_decimal xs ys = list_all has_decimal_nibbles xs && list_all has_decimal_nibbles (aligned (length xs) ys)
 
 -- each byte is one place of base 100
 abbrev pub decimal_sum : List ℕ → List ℕ → List ℕ

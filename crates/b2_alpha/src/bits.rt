@@ -1,10 +1,10 @@
 // Bits: a receiver and an operand joined by a digit, and rotation.
 ghost use Rattle.std.specs.Prelude.{◌≡◌, ◌<◌, ◌≤◌, ◌+◌, ◌-◌, ◌*◌, ◌/◌, ◌%◌, ◌^◌, pos, negsuc, ◌≤ℤ◌, length, map};
 ghost use Rattle.std.specs.Int.{bit_at};
-ghost use Rattle.b2_alpha.specs.Bits.{byte_by, joined, turned, turned_whole, rotated};
-ghost use Rattle.b2_alpha.specs.Places.{number, digits};
+ghost use Rattle.b2_alpha.specs.Bits.{byte_by, joined_by, turned, turned_whole, rotated};
+ghost use Rattle.b2_alpha.specs.Places.{number_in_base, digits_in_base};
 
-// All ones where the digit has a 1 at the place, else all zeros.
+/// All ones where the digit has a 1 at the place, else all zeros.
 fn mask(digit: u8, place: u8) -> u8
     requires { place < 4 }
     ensures { result ≡ 255 * bit_at digit place }
@@ -12,7 +12,7 @@ fn mask(digit: u8, place: u8) -> u8
     if digit >> place & 1 == 1 { 0xff } else { 0 }
 }
 
-// Two bytes joined bit by bit: the digit's bit 2r + o for a bit r and a bit o.
+/// Two bytes joined bit by bit: the digit's bit 2r + o for a bit r and a bit o.
 fn join(digit: u8, r: u8, o: u8) -> u8
     ensures { result ≡ byte_by digit r o }
 {
@@ -26,17 +26,17 @@ fn join(digit: u8, r: u8, o: u8) -> u8
 /// the bit o, the receiver gets bit 2r + o of the digit, which is below 16. The receiver's bytes past the operand stay.
 pub fn bool_op(to: &mut [u8], from: &[u8], digit: u8)
     requires { digit < 16 }
-    ensures { to.new ≡ joined digit to.old from.now }
+    ensures { to.new ≡ joined_by digit to.old from.now }
 {
     for i in 0..to.len().min(from.len()) {
         to[i] = join(digit, to[i], from[i]);
     }
 }
 
-// The bits that leave a string at the left when it is turned.
+/// The bits that leave a string at the left when it is turned.
 fn high_bits(bytes: &[u8], left: u8) -> u32
     requires { left ≤ 8 }
-    ensures value { result ≡ number 256 bytes.now / 2 ^ (8 * length bytes.now - left) }
+    ensures value { result ≡ number_in_base 256 bytes.now / 2 ^ (8 * length bytes.now - left) }
     ensures small { result < 256 }
 {
     match bytes {
@@ -45,10 +45,10 @@ fn high_bits(bytes: &[u8], left: u8) -> u32
     }
 }
 
-// The bits that leave it at the right.
+/// The bits that leave it at the right.
 fn low_bits(bytes: &[u8], right: u8) -> u32
     requires { right ≤ 8 }
-    ensures value { result ≡ number 256 bytes.now % 2 ^ right }
+    ensures value { result ≡ number_in_base 256 bytes.now % 2 ^ right }
     ensures small { result < 2 ^ right }
 {
     match bytes {
@@ -57,11 +57,11 @@ fn low_bits(bytes: &[u8], right: u8) -> u32
     }
 }
 
-// The string's number times 2 ^ left, with other bits coming in at the right.
+/// The string's number times 2 ^ left, with other bits coming in at the right.
 fn shift_left(to: &mut [u8], left: u8, incoming: u32)
     requires within { left ≤ 8 }
     requires small { incoming < 256 }
-    ensures { to.new ≡ digits 256 (length to.old) (number 256 to.old * 2 ^ left + incoming) }
+    ensures { to.new ≡ digits_in_base 256 (length to.old) (number_in_base 256 to.old * 2 ^ left + incoming) }
 {
     let mut carry = incoming;
     for i in 0..to.len() {
@@ -72,11 +72,11 @@ fn shift_left(to: &mut [u8], left: u8, incoming: u32)
     }
 }
 
-// The string's number divided by 2 ^ right, with other bits coming in at the left.
+/// The string's number divided by 2 ^ right, with other bits coming in at the left.
 fn shift_right(to: &mut [u8], right: u8, incoming: u32)
     requires within { right ≤ 8 }
     requires small { incoming < 2 ^ right }
-    ensures { to.new ≡ digits 256 (length to.old) ((incoming * 256 ^ length to.old + number 256 to.old) / 2 ^ right) }
+    ensures { to.new ≡ digits_in_base 256 (length to.old) ((incoming * 256 ^ length to.old + number_in_base 256 to.old) / 2 ^ right) }
 {
     let unit = 1u32 << right;
     let mut carry = incoming;
@@ -87,7 +87,7 @@ fn shift_right(to: &mut [u8], right: u8, incoming: u32)
     }
 }
 
-// The string turned as one number.
+/// The string turned as one number.
 fn turn_left(to: &mut [u8], left: u8)
     requires { left ≤ 8 }
     ensures { to.new ≡ turned_whole left to.old }
@@ -104,7 +104,7 @@ fn turn_right(to: &mut [u8], right: u8)
     shift_right(to, right, leaving);
 }
 
-// Each byte turned by itself.
+/// Each byte turned by itself.
 fn turn_each(to: &mut [u8], left: u8)
     requires { left ≤ 8 }
     ensures { to.new ≡ map (turned 8 left) to.old }

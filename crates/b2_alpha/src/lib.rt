@@ -6,7 +6,7 @@
 //!
 //! Stands on `b2_base` alone. Each contract is a function on whole lists of bytes in `specs/`: `Values` has the padding,
 //! `Bits` what a bit becomes, `Places` numbers in places of a base, `Sums` the sums as such numbers, `Relations` the
-//! comparisons, `Texts` hexadecimal. What holds of these functions themselves is said by the calls of `laws`.
+//! comparisons. What holds of these functions themselves is said by the calls of `laws`.
 #![tactic(auto)]
 
 mod bits;

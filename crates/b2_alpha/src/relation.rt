@@ -1,7 +1,8 @@
 // The relations of a comparison, and the search for a byte.
 ghost use Rattle.std.specs.Prelude.{◌≡◌, ◌<◌, length, position, get_or, IfSome};
 ghost use Rattle.std.specs.Ordering.{nat_cmp};
-ghost use Rattle.b2_alpha.specs.Relations.{holds, place_of, order_of};
+ghost use Rattle.b2_base.specs.Byte as byte;
+ghost use Rattle.b2_alpha.specs.Relations.{holds, found_place, order_of};
 
 use std::cmp::Ordering;
 
@@ -32,7 +33,7 @@ impl Rel {
     }
 }
 
-// The index of the first byte that stands in the relation to `b`.
+/// The index of the first byte that stands in the relation to `b`.
 fn first_place(a: &[u8], rel: Rel, b: u8) -> Option<usize>
     ensures place { result ≡ position (λ x. holds rel (nat_cmp x b)) a.now }
     ensures within { IfSome result (λ i. i < length a.now) }
@@ -42,7 +43,7 @@ fn first_place(a: &[u8], rel: Rel, b: u8) -> Option<usize>
 
 /// The place, counted from 1, of the first byte of `a` that stands in the relation to `b`, and 0 where none does.
 pub fn pos(a: &[u8], rel: Rel, b: u8) -> usize
-    ensures { result ≡ place_of a.now rel b }
+    ensures { result ≡ found_place a.now rel b }
 {
     match first_place(a, rel, b) {
         Some(i) => i + 1,
@@ -50,9 +51,9 @@ pub fn pos(a: &[u8], rel: Rel, b: u8) -> usize
     }
 }
 
-// The byte of a value at a place; blanks stand behind its last.
+/// The byte of a value at a place; blanks stand after its last.
 fn byte_at(a: &[u8], i: usize) -> u8
-    ensures { result ≡ get_or a.now i 32 }
+    ensures { result ≡ get_or a.now i byte.blank }
 {
     match a.get(i) {
         Some(b) => *b,
@@ -60,7 +61,7 @@ fn byte_at(a: &[u8], i: usize) -> u8
     }
 }
 
-/// The order of two values by their bytes, where the shorter one has blanks behind it.
+/// The order of two values by their bytes, where the shorter one has blanks after it.
 pub fn compare(a: &[u8], b: &[u8]) -> Ordering
     ensures { result ≡ order_of a.now b.now }
 {

@@ -1,13 +1,13 @@
 // Sums and differences of strings that end at the same place.
 ghost use Rattle.std.specs.Prelude.{◌≡◌, ◌+◌, ◌-◌, ◌%◌, ◌^◌, ◌<◌, length, true, nat_lt, slice_index, if◌then◌else◌, OnOk, OnErr, IfErr, is_ok};
 ghost use Rattle.std.specs.List.{list_all};
-ghost use Rattle.b2_alpha.specs.Places.{number};
-ghost use Rattle.b2_alpha.specs.Sums.{bytewise_sum, bytewise_difference, binary_sum, binary_difference, is_decimal, decimal_of, decimal_value, nibbles_of, are_decimal, decimal_sum, decimal_difference};
+ghost use Rattle.b2_alpha.specs.Places.{number_in_base};
+ghost use Rattle.b2_alpha.specs.Sums.{bytewise_sum, bytewise_difference, binary_sum, binary_difference, has_decimal_nibbles, decimal_of, decimal_value, nibbles_of, are_decimal, decimal_sum, decimal_difference};
 
 use b2_base::Code;
 use b2_base::codes::X75_NOT_DECIMAL;
 
-// The operand's byte at a place counted from its end, and 0 past its first.
+/// The operand's byte at a place counted from its end, and 0 past its first.
 fn from_end(from: &[u8], i: usize) -> u8
     ensures { result ≡ (if nat_lt i (length from.now) then slice_index from.now (length from.now - 1 - i) else 0) }
 {
@@ -38,7 +38,7 @@ pub fn sub(to: &mut [u8], from: &[u8])
     }
 }
 
-// The operand's place in a sum, or its complement, which with a carry of 1 takes it away.
+/// The operand's place in a sum, or its complement, which with a carry of 1 takes it away.
 fn addend(place: u16, base: u16, subtract: bool) -> u16
     requires { place < base }
     ensures { result ≡ (if subtract then base - 1 - place else place) }
@@ -46,7 +46,7 @@ fn addend(place: u16, base: u16, subtract: bool) -> u16
     if subtract { base - 1 - place } else { place }
 }
 
-// Sum or difference with carries over places of base 256. A difference adds the complement and 1.
+/// Sum or difference with carries over places of base 256. A difference adds the complement and 1.
 fn sum_bytes(to: &mut [u8], from: &[u8], subtract: bool)
     ensures { to.new ≡ (if subtract then binary_difference to.old from.now else binary_sum to.old from.now) }
 {
@@ -63,7 +63,7 @@ fn sum_bytes(to: &mut [u8], from: &[u8], subtract: bool)
 /// Adds the operand with carries, both from the right. The last carry is lost.
 pub fn addc(to: &mut [u8], from: &[u8])
     ensures sum { to.new ≡ binary_sum to.old from.now }
-    ensures modular { number 256 to.new ≡ (number 256 to.old + number 256 from.now) % 256 ^ length to.old }
+    ensures modular { number_in_base 256 to.new ≡ (number_in_base 256 to.old + number_in_base 256 from.now) % 256 ^ length to.old }
 {
     sum_bytes(to, from, false);
 }
@@ -71,34 +71,34 @@ pub fn addc(to: &mut [u8], from: &[u8])
 /// Takes the operand away with borrows, both from the right. The last borrow is lost.
 pub fn subc(to: &mut [u8], from: &[u8])
     ensures difference { to.new ≡ binary_difference to.old from.now }
-    ensures modular { (number 256 to.new + number 256 from.now) % 256 ^ length to.old ≡ number 256 to.old % 256 ^ length to.old }
+    ensures modular { (number_in_base 256 to.new + number_in_base 256 from.now) % 256 ^ length to.old ≡ number_in_base 256 to.old % 256 ^ length to.old }
 {
     sum_bytes(to, from, true);
 }
 
-// Whether both nibbles are decimal digits.
-fn is_decimal(b: u8) -> bool
-    ensures { result ≡ is_decimal b }
+/// Whether both nibbles are decimal digits.
+fn has_decimal_nibbles(b: u8) -> bool
+    ensures { result ≡ has_decimal_nibbles b }
 {
     b / 16 <= 9 && b % 16 <= 9
 }
 
 fn all_decimal(bytes: &[u8]) -> bool
-    ensures { result ≡ list_all is_decimal bytes.now }
+    ensures { result ≡ list_all has_decimal_nibbles bytes.now }
 {
-    bytes.iter().all(|b| is_decimal(*b))
+    bytes.iter().all(|b| has_decimal_nibbles(*b))
 }
 
-// The number in two decimal nibbles.
+/// The number in two decimal nibbles.
 fn decimal(b: u8) -> u16
-    requires { is_decimal b ≡ true }
+    requires { has_decimal_nibbles b ≡ true }
     ensures value { result ≡ decimal_of b }
     ensures below { result < 100 }
 {
     u16::from(b / 16 * 10 + b % 16)
 }
 
-// The two decimal nibbles of a number.
+/// The two decimal nibbles of a number.
 fn nibbles(d: u16) -> u8
     requires { d < 100 }
     ensures { result ≡ nibbles_of d }
@@ -106,7 +106,7 @@ fn nibbles(d: u16) -> u8
     (d / 10 * 16 + d % 10) as u8
 }
 
-// Sum or difference with carries over places of base 100, where all nibbles are decimal digits.
+/// Sum or difference with carries over places of base 100, where all nibbles are decimal digits.
 fn sum_decimals(to: &mut [u8], from: &[u8], subtract: bool)
     requires { are_decimal to.old from.now ≡ true }
     ensures { to.new ≡ (if subtract then decimal_difference to.old from.now else decimal_sum to.old from.now) }
@@ -121,7 +121,7 @@ fn sum_decimals(to: &mut [u8], from: &[u8], subtract: bool)
     }
 }
 
-// X75 exactly where a nibble that a decimal sum of the two uses is no decimal digit.
+/// X75 exactly where a nibble that a decimal sum of the two uses is no decimal digit.
 fn check_decimal(to: &[u8], from: &[u8]) -> Result<(), Code>
     ensures exact { is_ok result ≡ are_decimal to.now from.now }
     ensures code { IfErr result (λ code. code ≡ X75_NOT_DECIMAL) }

@@ -1,8 +1,9 @@
 // The value in a byte string, and assignment with its padding.
 ghost use Rattle.std.specs.Prelude.{◌≡◌, ◌≢◌, ◌-◌, ◌<◌, ◌≤◌, length, drop, replicate, slice_index};
+ghost use Rattle.b2_base.specs.Byte as byte;
 ghost use Rattle.b2_alpha.specs.Values.{padded, value_of};
 
-/// Puts `from` into the whole of `to`: cut where it is longer, with blanks behind it where it is shorter.
+/// Puts `from` into the whole of `to`: cut where it is longer, with blanks after it where it is shorter.
 pub fn assign(to: &mut [u8], from: &[u8])
     ensures { to.new ≡ padded (length to.old) from.now }
 {
@@ -17,8 +18,8 @@ pub fn value_len(a: &[u8]) -> usize
     ensures value { result ≡ length (value_of a.now) }
     ensures within { result ≤ length a.now }
     ensures some { 0 < length a.now → 0 < result }
-    ensures blanks { drop result a.now ≡ replicate (length a.now - result) 32 }
-    ensures last { 1 < result → slice_index a.now (result - 1) ≢ 32 }
+    ensures blanks { drop result a.now ≡ replicate (length a.now - result) byte.blank }
+    ensures last { 1 < result → slice_index a.now (result - 1) ≢ byte.blank }
 {
     let mut len = a.len();
     while len > 1 && a[len - 1] == b' ' {

@@ -1,13 +1,14 @@
 -- Which trees the rows of the table allow, said without any reading.
 use Rattle.std.specs.Prelude.{◌≡◌, ℕ, zero, suc, ◌&&◌, ◌||◌, ◌==◌, not, Bool, true, false, List, [], ◌∷◌}
+use Rattle.b2_base.specs.Lexical.{is_decimal}
 use Rattle.b2_base.specs.Byte as byte
 use Rattle.b2_atom.specs.Tokens.{Token}
 use Rattle.b2_atom.specs.Tokens.Token.{Coded, Plain, Lined}
 use Rattle.b2_atom.specs.Tree.{Trees, tokens}
 use Rattle.b2_atom.specs.Tree.Trees.{Done, Put, In}
 use Rattle.b2_atom.specs.Table.{forms}
-use Rattle.b2_atom.specs.Grammar.{row_items, is_among, is_decimal, barred_following, barred_line, barred_place}
-use Rattle.b2_atom.specs.Spelling.{is_whole, is_free}
+use Rattle.b2_atom.specs.Grammar.{row_items, is_among, barred_following, barred_line, barred_place}
+use Rattle.b2_atom.specs.Spelling.{is_whole, is_free_text}
 use Rattle.b2_atom.specs.declared.words.TheConstants as word
 use Rattle.b2_atom.specs.declared.rows.TheConstants as row
 use Rattle.b2_atom.specs.declared.words.Origin.{Origin}
@@ -79,7 +80,7 @@ abbrev pub FitsPut : Origin → List Item → Token → (List Item → Type 0) �
 FitsPut o [] t more = ⊥
 FitsPut o (i ∷ is) t more = (fits_token o i t ≡ true) × more is
 
--- a branch in the place of an item, where so many parentheses may still open
+-- a branch in the place of an item, where `room` parentheses may still open
 abbrev pub FitsBranch : Origin → ℕ → Item → List Item → ℕ → (ℕ → List Item → Type 0) → (List Item → Type 0) → Type 0
 FitsBranch o room (Part n) is m below more = (m ≡ 2) × (below room (row_items n) × more is)
 FitsBranch o room (Maybe s n) is zero below more = below room [] × more is
@@ -96,7 +97,7 @@ abbrev pub FitsIn : Origin → ℕ → List Item → ℕ → (ℕ → List Item 
 FitsIn o room [] m below more = ⊥
 FitsIn o room (i ∷ is) m below more = FitsBranch o room i is m below more
 
--- the trees that items allow in such a line, where so many parentheses may still open
+-- the trees that items allow in such a line, where `room` parentheses may still open
 abbrev pub Fits : Origin → ℕ → List Item → Trees → Type 0
 Fits o room is Done = may_end is ≡ true
 Fits o room is (Put t ts) = FitsPut o (giving is) t (λ (rest : List Item). Fits o room rest ts)
@@ -110,7 +111,7 @@ is_remark t = false
 
 abbrev pub is_rest : List Token → Bool
 is_rest [] = true
-is_rest (t ∷ []) = is_free t
+is_rest (t ∷ []) = is_free_text t
 is_rest (t ∷ u ∷ ts) = false
 
 abbrev pub RemarksEnd : List Token → Type 0

@@ -1,13 +1,13 @@
 -- Which texts spell which tokens, and which tokens may stand side by side.
 use Rattle.std.specs.Prelude.{◌≡◌, ℕ, ◌-◌, ◌<◌, ◌&&◌, ◌||◌, ◌==◌, not, nat_lt, Bool, true, false, List, [], ◌∷◌, ◌++◌, length, drop, codes, if◌then◌else◌}
 use Rattle.b2_base.specs.Byte as byte
-use Rattle.b2_base.specs.Lexical.{all_printable, first, is_hex_digit, is_letter}
-use Rattle.b2_atom.specs.Words.{Text, skipped, ahead, kept, word_text}
+use Rattle.b2_base.specs.Lexical.{all_printable, first, is_decimal, is_hex_digit, is_letter}
+use Rattle.b2_atom.specs.Words.{Text, skipped, ahead, kept_byte, word_text}
 use Rattle.b2_atom.specs.Tokens.{Token, token_atoms, is_word}
 use Rattle.b2_atom.specs.Tokens.Token.{Coded, Plain, Lined}
 use Rattle.b2_atom.specs.Tree.{one}
 use Rattle.b2_atom.specs.Leaves.{is_alpha_name, name_width, leaf_width}
-use Rattle.b2_atom.specs.Grammar.{class_at, is_line, is_decimal, is_among, read_leaf, begins_let, spelled_behind}
+use Rattle.b2_atom.specs.Grammar.{class_at, is_line, is_among, read_leaf, begins_let, spelled_after}
 use Rattle.b2_atom.specs.declared.words.TheConstants as word
 use Rattle.b2_atom.specs.declared.words.Origin.{Origin}
 use Rattle.b2_atom.specs.declared.words.Origin.TheVariants as origin
@@ -20,8 +20,8 @@ is_whole leaf.Text w = nat_lt 0 (length w) && all_printable w
 is_whole k w = nat_lt 0 (length w) && leaf_width origin.Atoms k w == length w
 
 -- the bytes that stand for themselves in a line
-abbrev pub signs : Text
-signs = codes "%&()*+,-/:;=^BEGFNPTV"
+abbrev pub plain_signs : Text
+plain_signs = codes "%&()*+,-/:;=^BEGFNPTV"
 
 abbrev pub is_in : ℕ → Text → Bool
 is_in b [] = false
@@ -29,24 +29,24 @@ is_in b (c ∷ cs) = b == c || is_in b cs
 
 -- a token that may stand in a line: a word of the table, a sign, a whole leaf, or a line number of decimal digits
 abbrev pub good_token : Token → Bool
-good_token (Coded c) = is_among word.REM word.LAST c || is_in c signs
+good_token (Coded c) = is_among word.REM word.LAST c || is_in c plain_signs
 good_token (Plain k w) = is_whole k w
 good_token (Lined high low) = is_decimal high && is_decimal low
 
 -- a word or a sign that isn't a letter, also a comparison sign
-abbrev pub is_mark : Token → Bool
-is_mark (Coded c) = not (is_letter c)
-is_mark (Plain leaf.Relation w) = true
-is_mark (Plain k w) = false
-is_mark (Lined high low) = false
+abbrev pub is_word_or_sign : Token → Bool
+is_word_or_sign (Coded c) = not (is_letter c)
+is_word_or_sign (Plain leaf.Relation w) = true
+is_word_or_sign (Plain k w) = false
+is_word_or_sign (Lined high low) = false
 
 abbrev pub is_literal : Token → Bool
 is_literal (Plain leaf.Literal w) = true
 is_literal t = false
 
-abbrev pub is_free : Token → Bool
-is_free (Plain leaf.Text w) = true
-is_free t = false
+abbrev pub is_free_text : Token → Bool
+is_free_text (Plain leaf.Text w) = true
+is_free_text t = false
 
 abbrev pub is_image : Token → Bool
 is_image (Plain leaf.Image w) = true
@@ -63,37 +63,37 @@ is_unrelated (Coded c) = not (c == byte.equals)
 is_unrelated (Plain leaf.Relation w) = false
 is_unrelated t = true
 
--- the two letters that stand behind others: of B E G
+-- the two letters that stand after others: of B E G
 abbrev pub is_lettered : ℕ → Token → Bool
 is_lettered c (Coded d) = not (is_letter d) || (c == byte.upper_b && d == byte.upper_e) || (c == byte.upper_e && d == byte.upper_g)
 is_lettered c (Plain k w) = false
 is_lettered c (Lined high low) = true
 
--- what may stand behind a word or a sign
+-- what may follow a word or a sign
 abbrev pub may_follow_code : ℕ → Token → Bool
 may_follow_code c t =
-    if c == word.REM || c == byte.percent then is_free t
-    else (not (is_free t) && (if is_letter c then is_lettered c t
-    else (if c == word.DATA then not (is_mark t || is_image t) else (if c == word.PRINT then not (is_image t) else true))))
+    if c == word.REM || c == byte.percent then is_free_text t
+    else (not (is_free_text t) && (if is_letter c then is_lettered c t
+    else (if c == word.DATA then not (is_word_or_sign t || is_image t) else (if c == word.PRINT then not (is_image t) else true))))
 
--- what may stand behind what is typed by hand
+-- what may follow what is typed by hand
 abbrev pub may_follow_leaf : Leaf → Token → Bool
-may_follow_leaf leaf.Number t = is_mark t
-may_follow_leaf leaf.SignedNumber t = is_mark t
-may_follow_leaf leaf.Name t = is_mark t && not (is_dollar t)
-may_follow_leaf leaf.LocalName t = is_mark t && not (is_dollar t)
-may_follow_leaf leaf.FunctionName t = is_mark t
-may_follow_leaf leaf.Slot t = is_mark t
-may_follow_leaf leaf.Small t = is_mark t || is_literal t
-may_follow_leaf leaf.Relation t = is_unrelated t && not (is_free t || is_image t)
+may_follow_leaf leaf.Number t = is_word_or_sign t
+may_follow_leaf leaf.SignedNumber t = is_word_or_sign t
+may_follow_leaf leaf.Name t = is_word_or_sign t && not (is_dollar t)
+may_follow_leaf leaf.LocalName t = is_word_or_sign t && not (is_dollar t)
+may_follow_leaf leaf.FunctionName t = is_word_or_sign t
+may_follow_leaf leaf.Slot t = is_word_or_sign t
+may_follow_leaf leaf.Small t = is_word_or_sign t || is_literal t
+may_follow_leaf leaf.Relation t = is_unrelated t && not (is_free_text t || is_image t)
 may_follow_leaf leaf.Text t = false
-may_follow_leaf k t = not (is_free t)
+may_follow_leaf k t = not (is_free_text t)
 
--- whether a token may stand directly behind another, so that neither runs on into the other
+-- whether a token may stand directly after another, so that neither runs on into the other
 abbrev pub may_follow : Token → Token → Bool
 may_follow (Coded c) t = may_follow_code c t
 may_follow (Plain k w) t = may_follow_leaf k t
-may_follow (Lined high low) t = is_mark t
+may_follow (Lined high low) t = is_word_or_sign t
 
 abbrev pub Neighbours : List Token → Type 0
 Neighbours [] = Unit {0}
@@ -118,10 +118,10 @@ has_class (Coded c) = true
 has_class (Plain k w) = is_classed k
 has_class (Lined high low) = false
 
-abbrev pub class_of : Token → ℕ
-class_of (Coded c) = c
-class_of (Plain k w) = first w
-class_of (Lined high low) = word.LINE_MARK
+abbrev pub token_class : Token → ℕ
+token_class (Coded c) = c
+token_class (Plain k w) = first w
+token_class (Lined high low) = word.LINE_MARK
 
 abbrev pub is_code : ℕ → Token → Bool
 is_code c (Coded d) = d == c
@@ -156,23 +156,23 @@ ShowsName o (Plain leaf.AlphaName w) s rest = Named o true (length w - 1) w (ski
 ShowsName o t s rest = Unit {0}
 
 abbrev pub ShowsHex : Origin → Token → Text → Type 0
-ShowsHex o (Plain leaf.HexPair w) s = is_hex_digit (kept o (first (skipped o s))) ≡ true
+ShowsHex o (Plain leaf.HexPair w) s = is_hex_digit (kept_byte o (first (skipped o s))) ≡ true
 ShowsHex o t s = Unit {0}
 
 abbrev pub ShowsLine : Origin → Token → Text → Type 0
 ShowsLine o (Lined high low) s = is_line o (class_at o s) ≡ true
 ShowsLine o t s = Unit {0}
 
--- a text that begins with a token, behind which others stand: it is read as that token, and its first bytes show which one
+-- a text that begins with a token, after which others stand: it is read as that token, and its first bytes show which one
 -- it is
 pub record Begins (o : Origin) (t : Token) (behind : List Token) (s rest : Text) : Type 0 where
   pub reads : Reads o t s rest
   pub shorter : length rest < length (here o t s)
-  pub class : has_class t ≡ true → class_at o s ≡ class_of t
+  pub class : has_class t ≡ true → class_at o s ≡ token_class t
   pub opens : has_class t ≡ true → (first (skipped o s) == byte.opening) ≡ is_code byte.opening t
   pub closes : has_class t ≡ true → (first (skipped o s) == byte.closing) ≡ is_code byte.closing t
   pub lets : has_class t ≡ true → begins_let o (skipped o s) ≡ false
-  pub begs : has_class t ≡ true → (class_at o s == byte.upper_b && spelled_behind o (ahead o (skipped o s)).1 byte.upper_e byte.upper_g) ≡ is_beg t behind
+  pub begs : has_class t ≡ true → (class_at o s == byte.upper_b && spelled_after o (ahead o (skipped o s)).1 byte.upper_e byte.upper_g) ≡ is_beg t behind
   pub name : ShowsName o t s rest
   pub hex : ShowsHex o t s
   pub line : ShowsLine o t s

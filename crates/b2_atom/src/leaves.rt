@@ -4,14 +4,14 @@ ghost use Rattle.b2_atom.specs.Leaves as spec;
 
 use crate::forms::Leaf;
 use crate::sink::Stop;
-use crate::words::{LEFT_OUT, Origin, ahead, kept};
+use crate::words::{LEFT_OUT, Origin, ahead, kept_byte};
 use b2_base::codes;
 use b2_base::lexical::{
     at, capped_value, digits_width, dropped, first, is_digit, is_hex_digit, is_letter,
     is_printable, upper,
 };
 
-// How many bytes of a literal stand before its closing quote.
+/// How many bytes of a literal stand before its closing quote.
 fn until_quote(text: &[u8]) -> usize
     ensures count { result ≡ spec.until_quote text.now }
     ensures within { result ≤ length text.now }
@@ -28,7 +28,7 @@ fn until_quote(text: &[u8]) -> usize
     count
 }
 
-// How many bytes of an image stand before its closing parenthesis.
+/// How many bytes of an image stand before its closing parenthesis.
 fn until_parenthesis(origin: Origin, text: &[u8]) -> usize
     ensures count { result ≡ spec.until_parenthesis origin text.now }
     ensures within { result ≤ length text.now }
@@ -36,7 +36,7 @@ fn until_parenthesis(origin: Origin, text: &[u8]) -> usize
     let mut rest = text;
     let mut count = 0usize;
     while let [byte, after @ ..] = rest {
-        let shown = kept(origin, *byte);
+        let shown = kept_byte(origin, *byte);
         if shown == b')' || !is_printable(shown) || upper(shown) != shown {
             return count;
         }
@@ -46,7 +46,7 @@ fn until_parenthesis(origin: Origin, text: &[u8]) -> usize
     count
 }
 
-// How many bytes spell the digits and the point of a number, or 0.
+/// How many bytes spell the digits and the point of a number, or 0.
 fn mantissa_width(text: &[u8]) -> usize
     ensures count { result ≡ spec.mantissa_width text.now }
     ensures bound { result ≤ length text.now + 1 }
@@ -63,12 +63,12 @@ fn mantissa_width(text: &[u8]) -> usize
     }
 }
 
-// How many bytes at a text spell an exponent, or 0.
+/// How many bytes at a text spell an exponent, or 0.
 fn exponent_width(origin: Origin, text: &[u8]) -> usize
     ensures count { result ≡ spec.exponent_width origin text.now }
     ensures short { result ≤ 4 }
 {
-    if kept(origin, first(text)) != b'E' {
+    if kept_byte(origin, first(text)) != b'E' {
         return 0;
     }
     let sign = if at(text, 1) == b'+' || at(text, 1) == b'-' {
@@ -113,7 +113,7 @@ fn signed_number_width(origin: Origin, text: &[u8]) -> usize
     }
 }
 
-// How many bytes spell a name without its `$`, or 0.
+/// How many bytes spell a name without its `$`, or 0.
 fn name_width(origin: Origin, text: &[u8]) -> usize
     ensures count { result ≡ spec.name_width origin text.now }
     ensures short { result ≤ 3 }
@@ -121,7 +121,7 @@ fn name_width(origin: Origin, text: &[u8]) -> usize
     let class = ahead(origin, text).0;
     if is_letter(class) {
         if is_digit(at(text, 1)) { 2 } else { 1 }
-    } else if class == b'@' && is_letter(kept(origin, at(text, 1))) {
+    } else if class == b'@' && is_letter(kept_byte(origin, at(text, 1))) {
         if is_digit(at(text, 2)) { 3 } else { 2 }
     } else {
         0
@@ -203,11 +203,11 @@ fn literal_width(text: &[u8]) -> usize
     }
 }
 
-// Whether a hexadecimal digit stands at a place of a text.
+/// Whether a hexadecimal digit stands at a place of a text.
 fn is_hex_at(origin: Origin, text: &[u8], place: usize) -> bool
     ensures { result ≡ spec.is_hex_at origin text.now place }
 {
-    is_hex_digit(kept(origin, at(text, place)))
+    is_hex_digit(kept_byte(origin, at(text, place)))
 }
 
 fn hex_pair_width(origin: Origin, text: &[u8]) -> usize
@@ -321,7 +321,7 @@ pub fn missing(origin: Origin, leaf: Leaf, code: u8, text: &[u8]) -> Stop
     match leaf {
         Leaf::Literal => missing_literal(origin, code, text),
         Leaf::HexPair => {
-            if is_hex_digit(kept(origin, first(text))) {
+            if is_hex_digit(kept_byte(origin, first(text))) {
                 Stop::At(code, text.len().saturating_sub(1))
             } else {
                 Stop::At(code, text.len())
@@ -343,7 +343,7 @@ pub fn missing(origin: Origin, leaf: Leaf, code: u8, text: &[u8]) -> Stop
     }
 }
 
-// Where a quote opens, its literal is empty or isn't closed.
+/// Where a quote opens, its literal is empty or isn't closed.
 fn missing_literal(origin: Origin, code: u8, text: &[u8]) -> Stop
     ensures { result ≡ spec.missing_literal origin code text.now }
 {
@@ -354,5 +354,8 @@ fn missing_literal(origin: Origin, code: u8, text: &[u8]) -> Stop
         return Stop::At(codes::S18_ALPHA, text.len());
     }
     let count = until_quote(dropped(text, 1));
-    Stop::At(codes::S19_HEX_OR_QUOTE, text.len().saturating_sub(count.saturating_add(1)))
+    Stop::At(
+        codes::S19_HEX_OR_QUOTE,
+        text.len().saturating_sub(count.saturating_add(1)),
+    )
 }

@@ -17,7 +17,7 @@
 
 ghost use Rattle.std.specs.Prelude.{◌≡◌, map};
 ghost use Rattle.b2_atom.specs.Table as spec;
-ghost use Rattle.b2_atom.specs.Words.{texts};
+ghost use Rattle.b2_atom.specs.Words.{all_words};
 
 mod forms;
 mod laws;
@@ -56,5 +56,5 @@ pub fn table_is_the_language()
     ensures third { map (λ r. r.now) ROWS_2 ≡ spec.rows_2 }
     ensures fourth { map (λ r. r.now) ROWS_3 ≡ spec.rows_3 }
     ensures statements { FORMS ≡ spec.forms }
-    ensures words { map (λ w. w.now) WORDS ≡ texts }
+    ensures words { map (λ w. w.now) WORDS ≡ all_words }
 {}

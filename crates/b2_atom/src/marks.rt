@@ -1,6 +1,6 @@
 // The items that stand for themselves: words, signs, what is typed by hand, the line's end.
 ghost use Rattle.std.specs.Prelude.{◌≡◌, ◌≤◌, ◌<◌, ◌+◌, length, MatchResult, IfErr};
-ghost use Rattle.b2_atom.specs.Tree.{seen, Takes};
+ghost use Rattle.b2_atom.specs.Tree.{seen_sink, Takes};
 ghost use Rattle.b2_atom.specs.Tree.Trees.{Done};
 ghost use Rattle.b2_atom.specs.Grammar as spec;
 
@@ -9,9 +9,9 @@ use crate::leaves::{leaf_width, missing, refused};
 use crate::sink::{Sink, Stop, put_code, put_line, put_text};
 use crate::words::{LINE_MARK, Origin, ahead, is_source, skipped};
 use b2_base::codes;
-use b2_base::lexical::{all_printable, at, digits_width, dropped, front};
+use b2_base::lexical::{all_printable, at, digits_width, dropped, front, is_decimal};
 
-// Reads a word or a sign.
+/// Reads a word or a sign.
 #[tactic(auto, unfolding(crate::specs::Grammar::mark))]
 fn mark<'a>(
     out: &mut Sink,
@@ -20,18 +20,18 @@ fn mark<'a>(
     code: u8,
     text: &'a [u8],
 ) -> Result<&'a [u8], Stop>
-    ensures { Takes (seen out.old) (spec.mark origin wanted code text.now) (seen out.new) result }
+    ensures { Takes (seen_sink out.old) (spec.mark origin wanted code text.now) (seen_sink out.new) result }
 {
     let here = skipped(origin, text);
-    let (class, behind) = ahead(origin, here);
+    let (class, after) = ahead(origin, here);
     if class != wanted {
         return Err(refused(origin, code, here));
     }
     put_code(out, wanted)?;
-    Ok(behind)
+    Ok(after)
 }
 
-// Reads one of the words from the first to the second.
+/// Reads one of the words from the first to the second.
 #[tactic(auto, unfolding(crate::specs::Grammar::among))]
 fn among<'a>(
     out: &mut Sink,
@@ -41,18 +41,18 @@ fn among<'a>(
     code: u8,
     text: &'a [u8],
 ) -> Result<&'a [u8], Stop>
-    ensures { Takes (seen out.old) (spec.among origin low high code text.now) (seen out.new) result }
+    ensures { Takes (seen_sink out.old) (spec.among origin low high code text.now) (seen_sink out.new) result }
 {
     let here = skipped(origin, text);
-    let (class, behind) = ahead(origin, here);
+    let (class, after) = ahead(origin, here);
     if class < low || class > high {
         return Err(refused(origin, code, here));
     }
     put_code(out, class)?;
-    Ok(behind)
+    Ok(after)
 }
 
-// Reads a word that an immediate line may not have.
+/// Reads a word that an immediate line may not have.
 #[tactic(auto, unfolding(crate::specs::Grammar::program_word))]
 fn program_word<'a>(
     out: &mut Sink,
@@ -60,10 +60,10 @@ fn program_word<'a>(
     wanted: u8,
     text: &'a [u8],
 ) -> Result<&'a [u8], Stop>
-    ensures { Takes (seen out.old) (spec.program_word origin wanted text.now) (seen out.new) result }
+    ensures { Takes (seen_sink out.old) (spec.program_word origin wanted text.now) (seen_sink out.new) result }
 {
     let here = skipped(origin, text);
-    let (class, behind) = ahead(origin, here);
+    let (class, after) = ahead(origin, here);
     if class != wanted {
         return Err(refused(origin, codes::S22_WORD, here));
     }
@@ -71,19 +71,19 @@ fn program_word<'a>(
         return Err(Stop::At(codes::S26_PROGRAM_ONLY, here.len()));
     }
     put_code(out, wanted)?;
-    Ok(behind)
+    Ok(after)
 }
 
-// Reads a comma, which a source may leave out.
-#[tactic(auto, unfolding(crate::specs::Grammar::comma))]
-fn comma<'a>(out: &mut Sink, origin: Origin, text: &'a [u8]) -> Result<&'a [u8], Stop>
-    ensures { Takes (seen out.old) (spec.comma origin text.now) (seen out.new) result }
+/// Reads a comma, which a source may leave out.
+#[tactic(auto, unfolding(crate::specs::Grammar::optional_comma))]
+fn optional_comma<'a>(out: &mut Sink, origin: Origin, text: &'a [u8]) -> Result<&'a [u8], Stop>
+    ensures { Takes (seen_sink out.old) (spec.optional_comma origin text.now) (seen_sink out.new) result }
 {
     let here = skipped(origin, text);
-    let (class, behind) = ahead(origin, here);
+    let (class, after) = ahead(origin, here);
     if class == b',' {
         put_code(out, b',')?;
-        return Ok(behind);
+        return Ok(after);
     }
     if !is_source(origin) {
         return Err(refused(origin, codes::S13_SEPARATOR, here));
@@ -92,24 +92,24 @@ fn comma<'a>(out: &mut Sink, origin: Origin, text: &'a [u8]) -> Result<&'a [u8],
     Ok(text)
 }
 
-// Skips a word that isn't kept.
+/// Skips a word that isn't kept.
 #[tactic(auto, unfolding(crate::specs::Grammar::ignored))]
 fn ignored(origin: Origin, word: u8, text: &[u8]) -> &[u8]
     ensures { spec.ignored origin word text.now ≡ Ok (Done, result.now) }
 {
-    let (class, behind) = ahead(origin, skipped(origin, text));
+    let (class, after) = ahead(origin, skipped(origin, text));
     if is_source(origin) && class == word {
-        behind
+        after
     } else {
         text
     }
 }
 
-// A digit of a line number, which is right aligned in four.
-fn digit_of(text: &[u8], count: usize, place: usize) -> u8
+/// A digit of a line number, which is right aligned in four.
+fn line_digit(text: &[u8], count: usize, place: usize) -> u8
     requires few { count ≤ 4 }
     requires inside { place < 4 }
-    ensures { result ≡ spec.digit_of text.now count place }
+    ensures { result ≡ spec.line_digit text.now count place }
 {
     if place + count < 4 {
         0
@@ -118,25 +118,25 @@ fn digit_of(text: &[u8], count: usize, place: usize) -> u8
     }
 }
 
-// Two digits of a line number in a byte.
+/// Two digits of a line number in a byte.
 fn two_digits(text: &[u8], count: usize, place: usize) -> u8
     requires few { count ≤ 4 }
     requires inside { place < 3 }
     ensures { result ≡ spec.two_digits text.now count place }
 {
-    let high = digit_of(text, count, place).min(9);
-    let low = digit_of(text, count, place + 1).min(9);
+    let high = line_digit(text, count, place).min(9);
+    let low = line_digit(text, count, place + 1).min(9);
     high * 16 + low
 }
 
-// Reads a line number that was typed.
+/// Reads a line number that was typed.
 fn typed_line_number<'a>(
     out: &mut Sink,
     origin: Origin,
     code: u8,
     text: &'a [u8],
 ) -> Result<&'a [u8], Stop>
-    ensures { Takes (seen out.old) (spec.typed_line_number origin code text.now) (seen out.new) result }
+    ensures { Takes (seen_sink out.old) (spec.typed_line_number origin code text.now) (seen_sink out.new) result }
 {
     let count = digits_width(text);
     if count < 1 || count > 4 {
@@ -146,15 +146,9 @@ fn typed_line_number<'a>(
     Ok(dropped(text, count))
 }
 
-fn is_decimal(byte: u8) -> bool
-    ensures { result ≡ spec.is_decimal byte }
-{
-    byte / 16 <= 9 && byte % 16 <= 9
-}
-
-// Reads a line number from atoms.
+/// Reads a line number from atoms.
 fn atoms_line_number<'a>(out: &mut Sink, code: u8, text: &'a [u8]) -> Result<&'a [u8], Stop>
-    ensures { Takes (seen out.old) (spec.atoms_line_number code text.now) (seen out.new) result }
+    ensures { Takes (seen_sink out.old) (spec.atoms_line_number code text.now) (seen_sink out.new) result }
 {
     let [LINE_MARK, high, low, rest @ ..] = text else {
         return Err(Stop::At(code, text.len()));
@@ -166,14 +160,14 @@ fn atoms_line_number<'a>(out: &mut Sink, code: u8, text: &'a [u8]) -> Result<&'a
     Ok(rest)
 }
 
-// Reads a line number.
+/// Reads a line number.
 fn line_number<'a>(
     out: &mut Sink,
     origin: Origin,
     code: u8,
     text: &'a [u8],
 ) -> Result<&'a [u8], Stop>
-    ensures { Takes (seen out.old) (spec.line_number_at origin code text.now) (seen out.new) result }
+    ensures { Takes (seen_sink out.old) (spec.line_number_at origin code text.now) (seen_sink out.new) result }
 {
     match origin {
         Origin::Program | Origin::Immediate => typed_line_number(out, origin, code, text),
@@ -181,9 +175,9 @@ fn line_number<'a>(
     }
 }
 
-// Reads everything to the line's end.
+/// Reads everything to the line's end.
 fn text_to_end<'a>(out: &mut Sink, code: u8, text: &'a [u8]) -> Result<&'a [u8], Stop>
-    ensures { Takes (seen out.old) (spec.text_to_end code text.now) (seen out.new) result }
+    ensures { Takes (seen_sink out.old) (spec.text_to_end code text.now) (seen_sink out.new) result }
 {
     if !all_printable(text) {
         return Err(Stop::At(code, text.len()));
@@ -194,7 +188,7 @@ fn text_to_end<'a>(out: &mut Sink, code: u8, text: &'a [u8]) -> Result<&'a [u8],
     Ok(&[])
 }
 
-// Reads a leaf by its width.
+/// Reads a leaf by its width.
 fn plain<'a>(
     out: &mut Sink,
     origin: Origin,
@@ -202,7 +196,7 @@ fn plain<'a>(
     code: u8,
     text: &'a [u8],
 ) -> Result<&'a [u8], Stop>
-    ensures { Takes (seen out.old) (spec.plain origin leaf code text.now) (seen out.new) result }
+    ensures { Takes (seen_sink out.old) (spec.plain origin leaf code text.now) (seen_sink out.new) result }
 {
     let width = leaf_width(origin, leaf, text);
     if width == 0 {
@@ -212,7 +206,7 @@ fn plain<'a>(
     Ok(dropped(text, width))
 }
 
-// Reads what is typed by hand.
+/// Reads what is typed by hand.
 #[tactic(auto, unfolding(crate::specs::Grammar::read_leaf))]
 fn read_leaf<'a>(
     out: &mut Sink,
@@ -221,7 +215,7 @@ fn read_leaf<'a>(
     code: u8,
     text: &'a [u8],
 ) -> Result<&'a [u8], Stop>
-    ensures { Takes (seen out.old) (spec.read_leaf origin leaf code text.now) (seen out.new) result }
+    ensures { Takes (seen_sink out.old) (spec.read_leaf origin leaf code text.now) (seen_sink out.new) result }
 {
     match leaf {
         Leaf::LineNumber => line_number(out, origin, code, skipped(origin, text)),
@@ -230,10 +224,10 @@ fn read_leaf<'a>(
     }
 }
 
-// Reads the line's end.
+/// Reads the line's end.
 #[tactic(auto, unfolding(crate::specs::Grammar::end_of_line))]
 fn end_of_line<'a>(out: &mut Sink, origin: Origin, text: &'a [u8]) -> Result<&'a [u8], Stop>
-    ensures { Takes (seen out.old) (spec.end_of_line origin text.now) (seen out.new) result }
+    ensures { Takes (seen_sink out.old) (spec.end_of_line origin text.now) (seen_sink out.new) result }
 {
     let here = skipped(origin, text);
     if here.is_empty() {
@@ -243,14 +237,14 @@ fn end_of_line<'a>(out: &mut Sink, origin: Origin, text: &'a [u8]) -> Result<&'a
     }
 }
 
-// Reads an item that stands for itself.
+/// Reads an item that stands for itself.
 pub fn read_item<'a>(
     out: &mut Sink,
     origin: Origin,
     item: Item,
     text: &'a [u8],
 ) -> Result<&'a [u8], Stop>
-    ensures { Takes (seen out.old) (spec.read_item origin item text.now) (seen out.new) result }
+    ensures { Takes (seen_sink out.old) (spec.read_item origin item text.now) (seen_sink out.new) result }
 {
     match item {
         Item::Word(word) => mark(out, origin, word, codes::S22_WORD, text),
@@ -258,7 +252,7 @@ pub fn read_item<'a>(
         Item::Among(low, high, code) => among(out, origin, low, high, code, text),
         Item::ProgramWord(word) => program_word(out, origin, word, text),
         Item::Ignored(word) => Ok(ignored(origin, word, text)),
-        Item::Comma => comma(out, origin, text),
+        Item::Comma => optional_comma(out, origin, text),
         Item::LeftOut => Err(Stop::At(codes::S27_LEFT_OUT, skipped(origin, text).len())),
         Item::End => end_of_line(out, origin, text),
         Item::Typed(leaf, code) => read_leaf(out, origin, leaf, code, text),

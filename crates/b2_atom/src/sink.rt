@@ -1,14 +1,14 @@
 // Where what is read goes to, and why a reading ends early.
 ghost use Rattle.std.specs.Prelude.{◌≡◌, ◌+◌, ◌++◌, [], IfErr, OnOk, map};
 ghost use Rattle.b2_base.specs.Lexical as lexical;
-ghost use Rattle.b2_atom.specs.Words.{kept};
+ghost use Rattle.b2_atom.specs.Words.{kept_byte};
 ghost use Rattle.b2_atom.specs.Tokens as tokens;
-ghost use Rattle.b2_atom.specs.Tokens.{kept_text, spaced};
+ghost use Rattle.b2_atom.specs.Tokens.{kept_text, maybe_spaced};
 ghost use Rattle.b2_atom.specs.Tokens.Token.{Coded, Plain, Lined};
-ghost use Rattle.b2_atom.specs.Tree.{seen, bytes_of, Puts};
+ghost use Rattle.b2_atom.specs.Tree.{seen_sink, bytes_of, Puts};
 
 use crate::forms::Leaf;
-use crate::words::{LINE_MARK, Origin, REM, kept, word_text};
+use crate::words::{LINE_MARK, Origin, REM, kept_byte, word_text};
 use b2_base::lexical::{at, first, is_letter, without_zeros};
 use std::alloc::{AllocError, AllocFailed, Global};
 
@@ -20,7 +20,7 @@ pub struct Source {
     pub operand: bool,
 }
 
-/// Where what is read goes to: nowhere; as atoms behind the bytes that are there; or as the canonical source.
+/// Where what is read goes to: nowhere; as atoms after the bytes that are there; or as the canonical source.
 #[derive(Drop)]
 pub enum Sink {
     Silent,
@@ -28,7 +28,7 @@ pub enum Sink {
     Listed(Source),
 }
 
-/// Why a reading ends early: a code and how many bytes are left there, too many parentheses, or want of memory.
+/// Why a reading ends early: a code and how many bytes are left there, too many parentheses, or that memory fails.
 #[derive(Clone, Copy, Debug, PartialEq, Eq)]
 pub enum Stop {
     At(u8, usize),
@@ -58,7 +58,7 @@ impl<T: Drop> From<AllocFailed<T>> for Stop {
     }
 }
 
-// Appends bytes as they are kept.
+/// Appends bytes as they are kept.
 fn push_kept(out: &mut Vec<u8>, origin: Origin, leaf: Leaf, bytes: &[u8]) -> Result<(), Stop>
     ensures ok { OnOk result (out.new.items ≡ out.old.items ++ kept_text origin leaf bytes.now) }
     ensures err { IfErr result (λ e. e ≡ Stop.NoMemory) }
@@ -71,18 +71,18 @@ fn push_kept(out: &mut Vec<u8>, origin: Origin, leaf: Leaf, bytes: &[u8]) -> Res
 }
 
 fn push_upper(out: &mut Vec<u8>, origin: Origin, bytes: &[u8]) -> Result<(), Stop>
-    ensures ok { OnOk result (out.new.items ≡ out.old.items ++ map (kept origin) bytes.now) }
+    ensures ok { OnOk result (out.new.items ≡ out.old.items ++ map (kept_byte origin) bytes.now) }
     ensures err { IfErr result (λ e. e ≡ Stop.NoMemory) }
 {
     let mut left = bytes;
     while let [byte, others @ ..] = left {
-        out.push(kept(origin, *byte))?;
+        out.push(kept_byte(origin, *byte))?;
         left = others;
     }
     Ok(())
 }
 
-// The first byte of what is typed by hand, as it is kept; 0 where there is none.
+/// The first byte of what is typed by hand, as it is kept; 0 where there is none.
 fn first_kept(origin: Origin, leaf: Leaf, bytes: &[u8]) -> u8
     ensures { result ≡ lexical.first (kept_text origin leaf bytes.now) }
 {
@@ -93,17 +93,17 @@ fn first_kept(origin: Origin, leaf: Leaf, bytes: &[u8]) -> u8
 }
 
 fn first_upper(origin: Origin, bytes: &[u8]) -> u8
-    ensures { result ≡ lexical.first (map (kept origin) bytes.now) }
+    ensures { result ≡ lexical.first (map (kept_byte origin) bytes.now) }
 {
     match bytes {
-        [byte, ..] => kept(origin, *byte),
+        [byte, ..] => kept_byte(origin, *byte),
         [] => 0,
     }
 }
 
-// Appends a blank, where one stands before a token.
+/// Appends a blank, where one stands before a token.
 fn push_gap(source: &mut Source, is_apart: bool) -> Result<(), Stop>
-    ensures bytes { OnOk result (source.new.bytes.items ≡ source.old.bytes.items ++ spaced is_apart []) }
+    ensures bytes { OnOk result (source.new.bytes.items ≡ source.old.bytes.items ++ maybe_spaced is_apart []) }
     ensures wordy { source.new.wordy ≡ source.old.wordy }
     ensures operand { source.new.operand ≡ source.old.operand }
     ensures err { IfErr result (λ e. e ≡ Stop.NoMemory) }
@@ -138,9 +138,9 @@ fn ends_wordy(code: u8) -> bool
     code >= REM && code != REM && is_letter(last(word_text(code)))
 }
 
-// Appends a word or a sign to a source.
+/// Appends a word or a sign to a source.
 fn list_code(source: &mut Source, code: u8) -> Result<(), Stop>
-    ensures { Puts (seen (Sink.Listed source.old)) (Coded code) (seen (Sink.Listed source.new)) result }
+    ensures { Puts (seen_sink (Sink.Listed source.old)) (Coded code) (seen_sink (Sink.Listed source.new)) result }
 {
     let is_apart = source.wordy && !is_closing(code) || source.operand && begins_wordy(code);
     push_gap(source, is_apart)?;
@@ -154,16 +154,16 @@ fn list_code(source: &mut Source, code: u8) -> Result<(), Stop>
     Ok(())
 }
 
-// Whether a blank stands before what is typed by hand.
+/// Whether a blank stands before what is typed by hand.
 fn is_text_apart(source: &Source, origin: Origin, leaf: Leaf, bytes: &[u8]) -> bool
     ensures { result ≡ tokens.is_apart source.now.wordy source.now.operand (Plain leaf (kept_text origin leaf bytes.now)) }
 {
     source.wordy && !is_closing(first_kept(origin, leaf, bytes))
 }
 
-// Appends what is typed by hand to a source.
+/// Appends what is typed by hand to a source.
 fn list_text(source: &mut Source, origin: Origin, leaf: Leaf, bytes: &[u8]) -> Result<(), Stop>
-    ensures { Puts (seen (Sink.Listed source.old)) (Plain leaf (kept_text origin leaf bytes.now)) (seen (Sink.Listed source.new)) result }
+    ensures { Puts (seen_sink (Sink.Listed source.old)) (Plain leaf (kept_text origin leaf bytes.now)) (seen_sink (Sink.Listed source.new)) result }
 {
     let is_apart = is_text_apart(source, origin, leaf, bytes);
     push_gap(source, is_apart)?;
@@ -173,9 +173,9 @@ fn list_text(source: &mut Source, origin: Origin, leaf: Leaf, bytes: &[u8]) -> R
     Ok(())
 }
 
-// Appends a line number to a source.
+/// Appends a line number to a source.
 fn list_line(source: &mut Source, high: u8, low: u8) -> Result<(), Stop>
-    ensures { Puts (seen (Sink.Listed source.old)) (Lined high low) (seen (Sink.Listed source.new)) result }
+    ensures { Puts (seen_sink (Sink.Listed source.old)) (Lined high low) (seen_sink (Sink.Listed source.new)) result }
 {
     let is_apart = source.wordy;
     push_gap(source, is_apart)?;
@@ -193,7 +193,7 @@ fn list_line(source: &mut Source, high: u8, low: u8) -> Result<(), Stop>
 
 /// Puts a word or a sign.
 pub fn put_code(sink: &mut Sink, code: u8) -> Result<(), Stop>
-    ensures { Puts (seen sink.old) (Coded code) (seen sink.new) result }
+    ensures { Puts (seen_sink sink.old) (Coded code) (seen_sink sink.new) result }
 {
     match sink {
         Sink::Silent => Ok(()),
@@ -207,7 +207,7 @@ pub fn put_code(sink: &mut Sink, code: u8) -> Result<(), Stop>
 
 /// Puts what is typed by hand.
 pub fn put_text(sink: &mut Sink, origin: Origin, leaf: Leaf, bytes: &[u8]) -> Result<(), Stop>
-    ensures { Puts (seen sink.old) (Plain leaf (kept_text origin leaf bytes.now)) (seen sink.new) result }
+    ensures { Puts (seen_sink sink.old) (Plain leaf (kept_text origin leaf bytes.now)) (seen_sink sink.new) result }
 {
     match sink {
         Sink::Silent => Ok(()),
@@ -218,7 +218,7 @@ pub fn put_text(sink: &mut Sink, origin: Origin, leaf: Leaf, bytes: &[u8]) -> Re
 
 /// Puts a line number, by its two bytes of decimal digits.
 pub fn put_line(sink: &mut Sink, high: u8, low: u8) -> Result<(), Stop>
-    ensures { Puts (seen sink.old) (Lined high low) (seen sink.new) result }
+    ensures { Puts (seen_sink sink.old) (Lined high low) (seen_sink sink.new) result }
 {
     match sink {
         Sink::Silent => Ok(()),
@@ -232,7 +232,7 @@ pub fn put_line(sink: &mut Sink, high: u8, low: u8) -> Result<(), Stop>
 
 /// The bytes of a sink.
 pub fn bytes_of(alloc: Global, sink: Sink) -> Vec<u8>
-    ensures { result.items ≡ bytes_of (seen sink) }
+    ensures { result.items ≡ bytes_of (seen_sink sink) }
 {
     match sink {
         Sink::Silent => Vec::new(alloc),

@@ -9,8 +9,8 @@ use crate::rows;
 use crate::sink::Stop;
 use crate::table::FORMS;
 use crate::words::{
-    ABS_OPEN, BIN_OPEN, FN, HASH_TERM, HEX_OPEN, HEXOF_OPEN, LINE_MARK, Origin, STR_OPEN, TAB_OPEN, ahead,
-    begins_with, is_source, kept, skipped,
+    ABS_OPEN, BIN_OPEN, FN, HASH_TERM, HEX_OPEN, HEXOF_OPEN, LINE_MARK, Origin, STR_OPEN, TAB_OPEN,
+    ahead, begins_with, is_source, kept_byte, skipped,
 };
 use b2_base::codes;
 use b2_base::lexical::{at, dropped, first, is_digit, is_hex_digit, is_letter};
@@ -60,8 +60,8 @@ fn array_begins(origin: Origin, text: &[u8]) -> bool
     ensures { result ≡ spec.starts_at origin Start.Array text.now }
 {
     let width = any_name_width(origin, text);
-    let behind = skipped(origin, dropped(text, width));
-    width > 0 && first(behind) == b'(' && first(skipped(origin, dropped(behind, 1))) == b')'
+    let after = skipped(origin, dropped(text, width));
+    width > 0 && first(after) == b'(' && first(skipped(origin, dropped(after, 1))) == b')'
 }
 
 fn variable_begins(origin: Origin, text: &[u8]) -> bool
@@ -71,10 +71,10 @@ fn variable_begins(origin: Origin, text: &[u8]) -> bool
     is_letter(class) || class == b'@' || class == STR_OPEN
 }
 
-fn spelled_behind(origin: Origin, text: &[u8], second: u8, third: u8) -> bool
-    ensures { result ≡ spec.spelled_behind origin text.now second third }
+fn spelled_after(origin: Origin, text: &[u8], second: u8, third: u8) -> bool
+    ensures { result ≡ spec.spelled_after origin text.now second third }
 {
-    kept(origin, at(text, 0)) == second && kept(origin, at(text, 1)) == third
+    kept_byte(origin, at(text, 0)) == second && kept_byte(origin, at(text, 1)) == third
 }
 
 fn class_at(origin: Origin, text: &[u8]) -> u8
@@ -91,10 +91,10 @@ fn print_item_begins(origin: Origin, text: &[u8]) -> bool
         || alpha_begins(origin, text)
 }
 
-// Whether what begins a part stands at a text without blanks at its front, of which what comes first is known.
-fn starts_by(origin: Origin, start: Start, class: u8, behind: &[u8], text: &[u8]) -> bool
+/// Whether what begins a part stands at a text without blanks at its front, of which what comes first is known.
+fn starts_by(origin: Origin, start: Start, class: u8, after: &[u8], text: &[u8]) -> bool
     requires class { class ≡ (words.ahead origin text.now).0 }
-    requires behind { behind.now ≡ (words.ahead origin text.now).1 }
+    requires after { after.now ≡ (words.ahead origin text.now).1 }
     ensures { result ≡ spec.starts_at origin start text.now }
 {
     match start {
@@ -102,17 +102,17 @@ fn starts_by(origin: Origin, start: Start, class: u8, behind: &[u8], text: &[u8]
         Start::Two(one, two) => class == one || class == two,
         Start::Three(one, two, three) => class == one || class == two || class == three,
         Start::Among(low, high) => is_among(low, high, class),
-        Start::Pair(one, next) => class == one && class_at(origin, behind) == next,
+        Start::Pair(one, next) => class == one && class_at(origin, after) == next,
         Start::Letters(one, second, third) => {
-            class == one && spelled_behind(origin, behind, second, third)
+            class == one && spelled_after(origin, after, second, third)
         }
         Start::Number => is_digit(class) || class == b'.',
         Start::Line => is_line(origin, class),
         Start::Numeric => numeric_begins(origin, text),
         Start::Alpha => alpha_begins(origin, text),
-        Start::Hex => is_hex_digit(kept(origin, first(text))),
+        Start::Hex => is_hex_digit(kept_byte(origin, first(text))),
         Start::Array => array_begins(origin, text),
-        Start::AlphaInside => class == b'(' && alpha_begins(origin, skipped(origin, behind)),
+        Start::AlphaInside => class == b'(' && alpha_begins(origin, skipped(origin, after)),
         Start::CommaOrAlpha => class == b',' || alpha_begins(origin, text),
         Start::PrintItem => print_item_begins(origin, text),
     }
@@ -124,14 +124,14 @@ pub fn begins(origin: Origin, start: Start, text: &[u8]) -> bool
     ensures { result ≡ spec.starts origin start text.now }
 {
     let here = skipped(origin, text);
-    let (class, behind) = ahead(origin, here);
-    starts_by(origin, start, class, behind, here)
+    let (class, after) = ahead(origin, here);
+    starts_by(origin, start, class, after, here)
 }
 
 fn barred_following(place: Place, rule: Rule) -> bool
     ensures { result ≡ spec.barred_following place rule }
 {
-    place == Place::Following && rule == Rule::Behind
+    place == Place::Following && rule == Rule::AfterColon
 }
 
 fn barred_line(origin: Origin, rule: Rule) -> bool
@@ -148,13 +148,13 @@ fn barred_place(place: Place, rule: Rule) -> bool
     ensures { result ≡ spec.barred_place place rule }
 {
     match (place, rule) {
-        (Place::First, Rule::Behind) => true,
+        (Place::First, Rule::AfterColon) => true,
         (Place::Further | Place::Following, Rule::First | Rule::FirstInProgram) => true,
         _ => false,
     }
 }
 
-// The row of a form, where its rule allows it.
+/// The row of a form, where its rule allows it.
 fn allowed(origin: Origin, place: Place, form: &Form, text: &[u8]) -> Result<u16, Stop>
     ensures row { result ≡ spec.allowed origin place form.now text.now }
     ensures known { IfErr result (λ e. e ≢ Stop.NoMemory) }
@@ -170,17 +170,17 @@ fn allowed(origin: Origin, place: Place, form: &Form, text: &[u8]) -> Result<u16
     }
 }
 
-// The row of the first form that begins, and else of an assignment.
+/// The row of the first form that begins, and else of an assignment.
 #[tactic(auto, unfolding(crate::specs::Grammar::starts))]
 fn row_at(forms: &[Form], origin: Origin, place: Place, text: &[u8]) -> Result<u16, Stop>
     ensures row { result ≡ spec.row_at forms.now origin place text.now }
     ensures known { IfErr result (λ e. e ≢ Stop.NoMemory) }
 {
     let here = skipped(origin, text);
-    let (class, behind) = ahead(origin, here);
+    let (class, after) = ahead(origin, here);
     let mut left = forms;
     while let [form, others @ ..] = left {
-        if starts_by(origin, form.start, class, behind, here) {
+        if starts_by(origin, form.start, class, after, here) {
             return allowed(origin, place, form, text);
         }
         left = others;

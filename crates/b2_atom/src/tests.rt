@@ -2,8 +2,8 @@
 use crate::{Atoms, Origin, Stop, read_source};
 use std::test::Fail;
 
-// The units of a line, each behind a `|`, and behind each the unit to which a false IF goes on. A `!` stands where a
-// cursor gives other bytes than it has.
+/// The units of a line, each after a `|`, and after each the unit to which a false IF goes on. A `!` stands where a
+/// cursor gives other bytes than it has.
 fn parts(rt: &HostRuntime, atoms: &[u8]) -> Result<Vec<u8>, Fail> {
     let mut out = Vec::new(rt.alloc());
     let Some(line) = Atoms::of(rt.alloc(), atoms)? else {

@@ -1,6 +1,6 @@
 // One walk over the table of forms, from a source as from atoms.
 ghost use Rattle.std.specs.Prelude.{◌≡◌, ◌≤◌, ◌<◌, ◌+◌, ℕ, [], length, map, get_or, MatchResult, IfErr};
-ghost use Rattle.b2_atom.specs.Tree.{seen, Takes};
+ghost use Rattle.b2_atom.specs.Tree.{seen_sink, Takes};
 ghost use Rattle.b2_atom.specs.Table.{rows_0, rows_1, rows_2, rows_3};
 ghost use Rattle.b2_atom.specs.Grammar as spec;
 
@@ -19,7 +19,7 @@ pub const DEPTH: u8 = 32;
 /// How many parts may stand in one another between two parentheses; no form has as many.
 pub const LEVELS: u8 = 40;
 
-// A row of a table, or an empty one.
+/// A row of a table, or an empty one.
 fn row_in(table: &'static [&'static [Item]], place: usize) -> &'static [Item]
     ensures { result.now ≡ get_or (map (λ r. r.now) table.now) place [] }
 {
@@ -29,7 +29,7 @@ fn row_in(table: &'static [&'static [Item]], place: usize) -> &'static [Item]
     }
 }
 
-// A row.
+/// A row.
 #[tactic(auto, unfolding(crate::specs::Grammar::row_items))]
 fn row_items(number: u16) -> &'static [Item]
     ensures { result.now ≡ spec.row_items number }
@@ -47,7 +47,7 @@ fn row_items(number: u16) -> &'static [Item]
     }
 }
 
-// Reads an item.
+/// Reads an item.
 #[cycle(walk)]
 fn take_item<'a>(
     out: &mut Sink,
@@ -60,7 +60,7 @@ fn take_item<'a>(
 ) -> Result<&'a [u8], Stop>
     requires room { room ≤ 32 }
     requires level { level ≤ 40 }
-    ensures { Takes (seen out.old) (spec.item_in origin fuel room level item text.now) (seen out.new) result }
+    ensures { Takes (seen_sink out.old) (spec.item_of_part origin fuel room level item text.now) (seen_sink out.new) result }
 {
     match item {
         Item::Part(row) => part(out, origin, fuel, room, level, row, text),
@@ -98,7 +98,7 @@ fn take_item<'a>(
     }
 }
 
-// Reads a part as often as it begins.
+/// Reads a part as often as it begins.
 #[cycle(walk)]
 fn many<'a>(
     out: &mut Sink,
@@ -112,7 +112,7 @@ fn many<'a>(
 ) -> Result<&'a [u8], Stop>
     requires room { room ≤ 32 }
     requires level { level ≤ 40 }
-    ensures { Takes (seen out.old) (spec.many (spec.reader origin) start (spec.part origin fuel room level row) (length text.now) text.now) (seen out.new) result }
+    ensures { Takes (seen_sink out.old) (spec.many (spec.reader origin) start (spec.part origin fuel room level row) (length text.now) text.now) (seen_sink out.new) result }
 {
     let mut left = text;
     for _ in 0..text.len() {
@@ -127,7 +127,7 @@ fn many<'a>(
     Ok(left)
 }
 
-// Reads a part.
+/// Reads a part.
 #[cycle(walk)]
 fn part<'a>(
     out: &mut Sink,
@@ -140,7 +140,7 @@ fn part<'a>(
 ) -> Result<&'a [u8], Stop>
     requires room { room ≤ 32 }
     requires level { level ≤ 40 }
-    ensures { Takes (seen out.old) (spec.part origin fuel room level row text.now) (seen out.new) result }
+    ensures { Takes (seen_sink out.old) (spec.part origin fuel room level row text.now) (seen_sink out.new) result }
 {
     if level == 0 {
         return Err(Stop::At(codes::S14_STATEMENT, 0));
@@ -154,7 +154,7 @@ fn part<'a>(
     Ok(left)
 }
 
-// Reads a statement, with the statements that follow it behind THEN, ELSE or ERROR.
+/// Reads a statement, with the statements that follow it after THEN, ELSE or ERROR.
 #[cycle(walk)]
 pub fn statement<'a>(
     out: &mut Sink,
@@ -163,7 +163,7 @@ pub fn statement<'a>(
     place: Place,
     text: &'a [u8],
 ) -> Result<&'a [u8], Stop>
-    ensures { Takes (seen out.old) (spec.statement (spec.reader origin) fuel place text.now) (seen out.new) result }
+    ensures { Takes (seen_sink out.old) (spec.statement (spec.reader origin) fuel place text.now) (seen_sink out.new) result }
 {
     if fuel == 0 {
         return Ok(text);
@@ -176,7 +176,7 @@ pub fn statement<'a>(
 
 /// Reads a whole line.
 pub fn read_line<'a>(out: &mut Sink, origin: Origin, text: &'a [u8]) -> Result<&'a [u8], Stop>
-    ensures { Takes (seen out.old) (spec.read_line origin text.now) (seen out.new) result }
+    ensures { Takes (seen_sink out.old) (spec.read_line origin text.now) (seen_sink out.new) result }
 {
     part(out, origin, text.len() + 1, DEPTH, LEVELS, rows::LINE, text)
 }

@@ -230,7 +230,7 @@ pub const ROUND: u8 = 0xE7;
 /// The last word.
 pub const LAST: u8 = 0xE7;
 
-/// The words in the order of their codes, and behind them those that this machine leaves out.
+/// The words in the order of their codes, and after them those that this machine leaves out.
 #[rattlefmt::skip]
 pub const WORDS: [&[u8]; 126] = [
     b"REM",
@@ -375,8 +375,8 @@ pub fn is_source(origin: Origin) -> bool
 }
 
 /// A byte as it is kept: a letter of a source in upper case.
-pub fn kept(origin: Origin, byte: u8) -> u8
-    ensures { result ≡ spec.kept origin byte }
+pub fn kept_byte(origin: Origin, byte: u8) -> u8
+    ensures { result ≡ spec.kept_byte origin byte }
 {
     match origin {
         Origin::Program | Origin::Immediate => upper(byte),
@@ -403,7 +403,7 @@ pub fn begins_with(word: &[u8], text: &[u8]) -> bool
     true
 }
 
-// The longest word of a table at a text: its length and its place, or length 0.
+/// The longest word of a table at a text: its length and its place, or length 0.
 fn longest(table: &[&[u8]], text: &[u8]) -> (usize, usize)
     ensures place { result ≡ spec.longest (map (λ w. w.now) table.now) text.now (0, 0) 0 }
     ensures within { result.1 ≤ length table.now }
@@ -421,7 +421,7 @@ fn longest(table: &[&[u8]], text: &[u8]) -> (usize, usize)
     best
 }
 
-// The longest word at a text: its length, or 0, and its place.
+/// The longest word at a text: its length, or 0, and its place.
 #[tactic(auto, unfolding(crate::specs::Words::word_at))]
 fn word_at(text: &[u8]) -> (usize, usize)
     ensures { result ≡ spec.word_at text.now }
@@ -439,7 +439,7 @@ pub fn skipped(origin: Origin, text: &[u8]) -> &[u8]
     }
 }
 
-// An entry of a table, or none.
+/// An entry of a table, or none.
 fn text_in(table: &'static [&'static [u8]], place: usize) -> &'static [u8]
     ensures { result.now ≡ get_or (map (λ w. w.now) table.now) place [] }
 {
@@ -456,10 +456,10 @@ pub fn word_text(code: u8) -> &'static [u8]
     text_in(&WORDS, usize::from(code.saturating_sub(REM)))
 }
 
-// A word, or a longer one that is typed with blanks in it, and what stands behind it.
-fn joined(code: u8, rest: &[u8]) -> (u8, &[u8])
-    ensures class { result.0 ≡ (spec.joined code rest.now).0 }
-    ensures behind { result.1.now ≡ (spec.joined code rest.now).1 }
+/// A word, or a longer one that is typed with blanks in it, and what follows it.
+fn longer_word(code: u8, rest: &[u8]) -> (u8, &[u8])
+    ensures class { result.0 ≡ (spec.longer_word code rest.now).0 }
+    ensures after { result.1.now ≡ (spec.longer_word code rest.now).1 }
 {
     let next = skip_blanks(rest);
     if code == DATA && begins_with(b"SAVE", next) {
@@ -474,10 +474,10 @@ fn joined(code: u8, rest: &[u8]) -> (u8, &[u8])
     (code, rest)
 }
 
-// What stands at a typed text and what stands behind it.
+/// What stands at a typed text and what follows it.
 fn typed_ahead(text: &[u8]) -> (u8, &[u8])
     ensures class { result.0 ≡ (spec.typed_ahead text.now).0 }
-    ensures behind { result.1.now ≡ (spec.typed_ahead text.now).1 }
+    ensures after { result.1.now ≡ (spec.typed_ahead text.now).1 }
 {
     let (length, place) = word_at(text);
     if length == 0 {
@@ -486,13 +486,13 @@ fn typed_ahead(text: &[u8]) -> (u8, &[u8])
     if place >= CODED {
         return (LEFT_OUT, dropped(text, length));
     }
-    joined(place as u8 + REM, dropped(text, length))
+    longer_word(place as u8 + REM, dropped(text, length))
 }
 
-/// What stands at a text, a word's code or a byte or 0 at the end, and what stands behind it.
+/// What stands at a text, a word's code or a byte or 0 at the end, and what follows it.
 pub fn ahead(origin: Origin, text: &[u8]) -> (u8, &[u8])
     ensures class { result.0 ≡ (spec.ahead origin text.now).0 }
-    ensures behind { result.1.now ≡ (spec.ahead origin text.now).1 }
+    ensures after { result.1.now ≡ (spec.ahead origin text.now).1 }
 {
     match origin {
         Origin::Program | Origin::Immediate => typed_ahead(text),

@@ -1,5 +1,5 @@
 -- How many digits a text begins with, in the standard library's words.
-use Rattle.std.proofs.Common.{◌≡◌, ℕ, suc, ◌+◌, List, [], ◌∷◌, Bool, true, false, cond, if◌then◌else◌, refl, ap, ◌∙◌, arith}
+use Rattle.std.proofs.Common.{◌≡◌, ℕ, suc, ◌+◌, List, [], ◌∷◌, Bool, true, false, cond, if◌then◌else◌, refl, arith}
 use Rattle.std.specs.List.{prefix_len}
 use Rattle.b2_base.specs.Lexical.{is_digit, digits_width}
 

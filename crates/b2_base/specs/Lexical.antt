@@ -42,6 +42,10 @@ hex_digit n = if nat_lt n 10 then byte.digit_0 + n else byte.upper_a + (n - 10)
 abbrev pub hex_pair : ℕ → List ℕ
 hex_pair b = hex_digit (b / 16) ∷ hex_digit (b % 16) ∷ []
 
+-- a byte of two decimal digits, one in each half
+abbrev pub is_decimal : ℕ → Bool
+is_decimal b = nat_le (b / 16) 9 && nat_le (b % 16) 9
+
 -- the first byte of a text, and 0 where there is none
 abbrev pub first : List ℕ → ℕ
 first [] = 0

@@ -3,6 +3,7 @@ pub mod Codes
 pub mod Counts
 pub mod Files
 pub mod Keyed
+pub mod Laws
 pub mod Lexical
 pub mod Memory
 pub mod Names

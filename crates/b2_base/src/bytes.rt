@@ -1,10 +1,10 @@
-// A list of bytes of its own, and want of memory.
-ghost use Rattle.std.specs.Prelude.{◌≡◌};
+// A list of bytes of its own, and the answer where memory fails.
+ghost use Rattle.std.specs.Prelude.{◌≡◌, IfOk};
 
-use std::alloc::{AllocError, AllocFailed};
+use std::alloc::{AllocError, AllocFailed, Global};
 use std::marker::Model;
 
-/// Want of memory, the one answer that no contract ties to a cause.
+/// Memory failed: the one answer that no contract ties to a cause.
 #[derive(Clone, Copy, Debug, PartialEq, Eq)]
 pub struct NoMemory;
 
@@ -42,6 +42,15 @@ impl ByteList {
         ByteList { bytes }
     }
 
+    /// A list of its own of these bytes.
+    pub fn from_slice(alloc: Global, bytes: &[u8]) -> Result<ByteList, NoMemory>
+        ensures { IfOk result (λ list. list ≡ bytes.now) }
+    {
+        let bytes = Vec::from_slice(alloc, bytes)?;
+        Ok(ByteList { bytes })
+    }
+
+    /// Its bytes.
     pub fn bytes(&self) -> &[u8]
         ensures { result.now ≡ self.now }
     {

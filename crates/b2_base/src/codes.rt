@@ -212,7 +212,7 @@ impl Code {
     }
 }
 
-/// A refusal with its code, or want of memory.
+/// A refusal with its code, or that memory failed.
 #[derive(Clone, Copy, Debug, PartialEq, Eq)]
 pub enum Fault {
     Code(Code),

@@ -61,7 +61,7 @@ impl FileName {
     }
 }
 
-// Whether a command line may give this name.
+/// Whether a command line may give this name.
 fn is_name(bytes: &[u8]) -> bool
     ensures value { result ≡ is_file_name bytes.now }
     ensures short { result ≡ true → length bytes.now ≤ 190 }
@@ -75,7 +75,7 @@ fn all_name_bytes(bytes: &[u8]) -> bool
     bytes.iter().all(|b| is_byte_of_name(*b))
 }
 
-// Whether a name may have this byte.
+/// Whether a name may have this byte.
 fn is_byte_of_name(b: u8) -> bool
     ensures { result ≡ is_name_byte b }
 {

@@ -85,6 +85,13 @@ pub fn hex_pair(byte: u8) -> [u8; 2]
     [hex_digit(byte / 16), hex_digit(byte % 16)]
 }
 
+/// Whether a byte is of two decimal digits, one in each half.
+pub fn is_decimal(byte: u8) -> bool
+    ensures { result ≡ spec.is_decimal byte }
+{
+    byte / 16 <= 9 && byte % 16 <= 9
+}
+
 /// The first byte, or 0 where there is none.
 pub fn first(text: &[u8]) -> u8
     ensures { result ≡ spec.first text.now }

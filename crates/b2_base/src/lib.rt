@@ -1,17 +1,20 @@
 //! What all crates of the machine have in common.
 //!
 //! The small values: codes of errors, numbers of partitions and terminals, device addresses, names, a list of bytes.
+//! The lexical layer (`lexical`): kinds of bytes, digits, and the fronts of texts, which all crates use from here.
 //! The outside: a `Shelf` of files and a `Sink` for text, in memory and real. A call that gives up shows why by counts
 //! that never fall.
 //!
 //! Stands on `arrayvec` alone. The definitions are in `specs/`, one file for each concept: a code, a number or a name is
-//! seen in contracts as its number or its bytes, and what a shelf and a sink promise is in `Outside`.
+//! seen in contracts as its number or its bytes, what a shelf and a sink promise is in `Outside`, bytes have their names in
+//! `Byte`, and `Lexical` has what kinds of bytes there are.
 #![tactic(auto)]
 
 mod addresses;
 mod bytes;
 pub mod codes;
 mod file_name;
+mod laws;
 pub mod lexical;
 mod line_text;
 mod memory;
@@ -28,6 +31,7 @@ pub use addresses::{Addr, AddrList};
 pub use bytes::{ByteList, NoMemory};
 pub use codes::{Code, Fault};
 pub use file_name::FileName;
+pub use laws::what_rose_is_greater;
 pub use line_text::LineText;
 pub use memory::{MemShelf, MemSink};
 pub use name8::Name8;

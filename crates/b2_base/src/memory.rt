@@ -2,7 +2,7 @@
 ghost use Rattle.std.specs.Prelude.{◌≡◌, ◌≤◌, ◌<◌, ◌^◌, ◌++◌, [], List, ℕ, Some, Option, option_map, option_copied, OnOk, OnErr};
 ghost use Rattle.std.specs.FinMap as map;
 ghost use Rattle.b2_base.specs.Counts.{Rose};
-ghost use Rattle.b2_base.specs.Files.{Files, IsFetched, IsAbsent, IsCutShort, kept, without};
+ghost use Rattle.b2_base.specs.Files.{Files, IsFetched, IsAbsent, IsCutShort, with_file, without_file};
 ghost use Rattle.b2_base.specs.Keyed.{files_of};
 ghost use Rattle.b2_base.specs.Memory.{is_listed};
 ghost use Rattle.b2_base.specs.Outside.{IsPartWritten};
@@ -12,7 +12,7 @@ use std::alloc::{AllocError, Global};
 use std::collections::BTreeMap;
 use std::marker::Model;
 
-// Whether a call is one of those that fail.
+/// Whether a call is one of those that fail.
 fn is_failing(failing: &[u32], call: u32) -> bool
     ensures { result ≡ is_listed call failing.now }
 {
@@ -130,7 +130,7 @@ impl MemShelf {
     }
 }
 
-// The bytes of a file.
+/// The bytes of a file.
 fn look<'a>(files: &'a BTreeMap<Vec<u8>, Vec<u8>>, name: &[u8]) -> Option<&'a [u8]>
     ensures { option_copied result ≡ map.get (files_of files.now.entries) name.now }
 {
@@ -140,7 +140,7 @@ fn look<'a>(files: &'a BTreeMap<Vec<u8>, Vec<u8>>, name: &[u8]) -> Option<&'a [u
     }
 }
 
-// Sets the bytes of a file.
+/// Sets the bytes of a file.
 fn store(
     alloc: Global,
     files: &mut BTreeMap<Vec<u8>, Vec<u8>>,
@@ -206,8 +206,8 @@ impl Shelf for MemShelf {
         ensures faults { self.old.faults ≤ self.new.faults }
         ensures misses { self.old.misses ≤ self.new.misses }
         ensures longs { self.old.longs ≤ self.new.longs }
-        ensures done { result ≡ Keep.Done → Some self.new.files ≡ kept name.now bytes.now (Some self.old.files) }
-        ensures others { without name.now (Some self.new.files) ≡ without name.now (Some self.old.files) }
+        ensures done { result ≡ Keep.Done → Some self.new.files ≡ with_file name.now bytes.now (Some self.old.files) }
+        ensures others { without_file name.now (Some self.new.files) ≡ without_file name.now (Some self.old.files) }
         ensures failed { result ≡ Keep.Failed → Rose self.old.faults self.new.faults }
         ensures exactly { MemKeeps name.now bytes.now self.old self.new result }
     {

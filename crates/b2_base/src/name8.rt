@@ -25,7 +25,7 @@ impl Model for Name8 {
     ghost inverse = { λ bytes. record { padded = bytes } };
 }
 
-// Whether the bytes are a name.
+/// Whether the bytes are a name.
 fn is_name(bytes: &[u8]) -> bool
     ensures value { result ≡ is_name8 bytes.now }
     ensures short { result ≡ true → length bytes.now ≤ 8 }
@@ -36,7 +36,7 @@ fn is_name(bytes: &[u8]) -> bool
     *first != b' ' && bytes.len() <= 8 && all_printable(bytes)
 }
 
-// Up to eight bytes, padded with blanks.
+/// Up to eight bytes, padded with blanks.
 fn pad(bytes: &[u8]) -> [u8; 8]
     requires { length bytes.now ≤ 8 }
     ensures { result ≡ padded8 bytes.now }

@@ -1,7 +1,7 @@
 // The outside: a shelf of files and a sink for text, by what they tell and by counts that show why a call gave up.
 ghost use Rattle.std.specs.Prelude.{◌≡◌, ◌≤◌, ◌<◌, ◌^◌, ◌++◌, List, [], ℕ, Option, option_map};
 ghost use Rattle.b2_base.specs.Counts.{Rose};
-ghost use Rattle.b2_base.specs.Files.{Files, IsFetched, IsAbsent, IsCutShort, kept, without};
+ghost use Rattle.b2_base.specs.Files.{Files, IsFetched, IsAbsent, IsCutShort, with_file, without_file};
 ghost use Rattle.b2_base.specs.Outside.{IsPartWritten};
 
 /// The answer of a fetch.
@@ -64,8 +64,8 @@ pub trait Shelf {
         ensures faults { faults self.old ≤ faults self.new }
         ensures misses { misses self.old ≤ misses self.new }
         ensures longs { longs self.old ≤ longs self.new }
-        ensures done { result ≡ Keep.Done → files self.new ≡ kept name.now bytes.now (files self.old) }
-        ensures others { without name.now (files self.new) ≡ without name.now (files self.old) }
+        ensures done { result ≡ Keep.Done → files self.new ≡ with_file name.now bytes.now (files self.old) }
+        ensures others { without_file name.now (files self.new) ≡ without_file name.now (files self.old) }
         ensures failed { result ≡ Keep.Failed → Rose (faults self.old) (faults self.new) };
 }
 

@@ -1,7 +1,7 @@
 // The trusted edge: files of the file system, and standard output. They tell no bytes.
 ghost use Rattle.std.specs.Prelude.{◌≡◌, ◌≤◌, ◌<◌, ◌+◌, ◌^◌, ◌++◌, None, Option, option_map, List, [], ℕ, length, take, IfSome, true};
 ghost use Rattle.b2_base.specs.Counts.{Rose};
-ghost use Rattle.b2_base.specs.Files.{Files, IsFetched, IsAbsent, IsCutShort, kept, without};
+ghost use Rattle.b2_base.specs.Files.{Files, IsFetched, IsAbsent, IsCutShort, with_file, without_file};
 ghost use Rattle.b2_base.specs.Outside.{IsPartWritten};
 ghost use Rattle.std.specs.Io.KnownBytes.{Appends};
 ghost use Rattle.b2_base.specs.declared.real.Reading.TheVariants.{Whole, TooLong};
@@ -46,7 +46,7 @@ impl<'a, R: Files> FileShelf<'a, R> {
     }
 }
 
-// How reading a file went.
+/// How reading a file went.
 enum Reading {
     Whole,
     Missing,
@@ -55,7 +55,7 @@ enum Reading {
     NoMemory,
 }
 
-// Reads what remains of a file, or as much as passes the limit by one byte.
+/// Reads what remains of a file, or as much as passes the limit by one byte.
 fn read_whole<F: Read + Drop>(file: F, limit: usize, into: &mut Vec<u8>) -> Reading
     requires empty { into.old.items ≡ [] }
     requires limit { limit < 2 ^ 31 }
@@ -82,7 +82,7 @@ fn read_whole<F: Read + Drop>(file: F, limit: usize, into: &mut Vec<u8>) -> Read
     }
 }
 
-// Reads the file of a name.
+/// Reads the file of a name.
 fn read_file<R: Files>(rt: &R, name: &[u8], limit: usize, into: &mut Vec<u8>) -> Reading
     requires empty { into.old.items ≡ [] }
     requires limit { limit < 2 ^ 31 }
@@ -160,15 +160,15 @@ impl<'a, R: Files> Shelf for FileShelf<'a, R> {
     }
 }
 
-// Hands all bytes to a writer, in their order: whether all went well.
+/// Hands all bytes to a writer, in their order: whether all went well.
 fn write_whole<W: Write>(writer: &mut W, bytes: &[u8]) -> bool
     ensures handed_on { result ≡ true → Appends (W.contents writer.old) (W.contents writer.new) bytes.now }
 {
     writer.write_all(bytes).is_ok()
 }
 
-// Writes the file of a name: whether all went well. The bytes go to a file beside it, whose name is moved over once they
-// are on the disk; where a step fails, the file beside it is removed and an old file of the name stays whole.
+/// Writes the file of a name: whether all went well. The bytes go to a file beside it, whose name is moved over once they
+/// are on the disk; where a step fails, the file beside it is removed and an old file of the name stays whole.
 fn write_file<R: Files>(rt: &R, name: &[u8], bytes: &[u8]) -> bool {
     let Ok(path) = str::from_utf8(name) else {
         return false;
@@ -187,7 +187,7 @@ fn write_file<R: Files>(rt: &R, name: &[u8], bytes: &[u8]) -> bool {
     false
 }
 
-// Writes a new file whole, down to the disk, and closes it.
+/// Writes a new file whole, down to the disk, and closes it.
 fn write_down<F: OpenFile + Write + Drop>(mut file: F, bytes: &[u8]) -> bool {
     write_whole(&mut file, bytes) && file.sync_all().is_ok()
 }

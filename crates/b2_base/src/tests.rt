@@ -167,6 +167,8 @@ fn lists(rt: HostRuntime) -> Result<(), Fail> {
     line.add(b"bad log ");
     line.add(b"2 2");
     assert_eq!(rt; line.bytes(), b"bad log 2 2".as_slice());
+    let copied = ByteList::from_slice(rt.alloc(), b"AB")?;
+    assert_eq!(rt; copied.bytes(), b"AB".as_slice());
     let bytes = ByteList::new(Vec::from_slice(rt.alloc(), b"AB")?);
     assert_eq!(rt; bytes.bytes(), b"AB".as_slice());
     assert_eq!(rt; bytes.into_vec().as_slice(), b"AB".as_slice());

@@ -15,10 +15,10 @@ use Rattle.b2_platter.proofs.Soundness.{Sound-from_Good}
 use Rattle.b2_platter.proofs.Puts.{length-put_sector, row_before, sector_before, sector_same}
 use Rattle.b2_platter.proofs.Fresh.{HeadSays, head_says_row, head_passes, length-head_bytes}
 use Rattle.b2_catalog.specs.Catalogue.{entry_at, catalogue}
-use Rattle.b2_catalog.specs.Ways.{holds, slot_of, way_of}
+use Rattle.b2_catalog.specs.Ways.{has_name, slot_of, way_of}
 use Rattle.b2_catalog.specs.Changes.{put_row, file_slot, control_sector, head_with_next, entered}
 use Rattle.b2_catalog.specs.Calls.{new_entry}
-use Rattle.b2_catalog.proofs.Looking.{holds-from, find-missed}
+use Rattle.b2_catalog.proofs.Looking.{has_name-from, find-missed}
 use Rattle.b2_catalog.proofs.Scratching.{row_in_sector}
 use Rattle.b2_catalog.proofs.Rows.{whole_first, length-put_row, row_same, row_below, row_above, sector_above}
 use Rattle.b2_catalog.proofs.Spelled.{SaysFile, says_file, control_long, control_used, control_spelled}
@@ -27,20 +27,20 @@ use Rattle.b2_catalog.proofs.Maps.{catalogue-inserted}
 use Rattle.b2_catalog.proofs.Placing.{Placed}
 
 -- a name that no slot has
-pub slot_missed : (a name : List ℕ) → slot_of a name ≡ None → (j : ℕ) → 1 ≤ j → j < 16 * index_of a → holds name (row a j) ≡ false
+pub slot_missed : (a name : List ℕ) → slot_of a name ≡ None → (j : ℕ) → 1 ≤ j → j < 16 * index_of a → has_name name (row a j) ≡ false
 unfolding slot_of
-slot_missed a name none j low high = find-missed (λ (k : ℕ). holds name (row a k)) 1 (16 * index_of a - 1) none j low (omega arith)
+slot_missed a name none j low high = find-missed (λ (k : ℕ). has_name name (row a k)) 1 (16 * index_of a - 1) none j low (omega arith)
 
 -- tests of a slot against another file
-pub differ_from_missed : (slot other name : List ℕ) → name_of slot ≡ name → holds name other ≡ false → differ_in_name slot other ≡ true
+pub differ_from_missed : (slot other name : List ℕ) → name_of slot ≡ name → has_name name other ≡ false → differ_in_name slot other ≡ true
 unfolding differ_in_name
 differ_from_missed slot other name is miss =
-    not_from_false _ (false_from_ne_true _ (λ h. let parts = and_parts _ _ h in let entries = and_parts _ _ parts.0 in false≢true (sym miss ∙ holds-from name other entries.1 (sym ((bytes_eq-Decides (name_of slot) (name_of other)).0 parts.1) ∙ is))))
+    not_from_false _ (false_from_ne_true _ (λ h. let parts = and_parts _ _ h in let entries = and_parts _ _ parts.0 in false≢true (sym miss ∙ has_name-from name other entries.1 (sym ((bytes_eq-Decides (name_of slot) (name_of other)).0 parts.1) ∙ is))))
 
-pub apart_from_behind : (slot other : List ℕ) → (is_entry other ≡ true → end_of Narrow other < start_of Narrow slot) → lie_apart Narrow slot other ≡ true
+pub apart_from_after : (slot other : List ℕ) → (is_entry other ≡ true → end_of Narrow other < start_of Narrow slot) → lie_apart Narrow slot other ≡ true
 unfolding lie_apart
-apart_from_behind slot other behind =
-    not_from_false _ (false_from_ne_true _ (λ h. (let outer = and_parts _ _ h in let inner = and_parts _ _ outer.0 in let entries = and_parts _ _ inner.0 in let meets : start_of Narrow slot ≤ end_of Narrow other = leb-true _ _ inner.1 in omega (arith, meets, behind entries.1))))
+apart_from_after slot other after =
+    not_from_false _ (false_from_ne_true _ (λ h. (let outer = and_parts _ _ h in let inner = and_parts _ _ outer.0 in let entries = and_parts _ _ inner.0 in let meets : start_of Narrow slot ≤ end_of Narrow other = leb-true _ _ inner.1 in omega (arith, meets, after entries.1))))
 
 pub lies_from : (index next : ℕ) (slot : List ℕ) → index ≤ start_of Narrow slot → start_of Narrow slot < end_of Narrow slot → end_of Narrow slot < next → lies_in Narrow index next slot ≡ true
 unfolding lies_in
@@ -188,7 +188,7 @@ module _ (a : List ℕ) (good : Good Narrow a) (name : List ℕ) (legal : is_nam
         spelled = ap (is_spelled Narrow) slot_now ∙ says.spelled;
         lies = rw (i, n, slot_now) (lies_from (index_of a) (next_free Narrow a + sectors) slot (omega (arith, start_is)) (omega (arith, start_is, end_is)) (omega (arith, end_is)));
         names = λ j low high other. rw slot_now (differ_from_missed slot (row a j) name says.name (slot_missed a name none j low high));
-        apart = λ j low high other. rw slot_now (apart_from_behind slot (row a j) (λ e. omega (arith, start_is, (lies_of j low high e).high)));
+        apart = λ j low high other. rw slot_now (apart_from_after slot (row a j) (λ e. omega (arith, start_is, (lies_of j low high e).high)));
         free = taken;
         reached = reached_now;
         controlled = controlled_now;
@@ -209,7 +209,7 @@ module _ (a : List ℕ) (good : Good Narrow a) (name : List ℕ) (legal : is_nam
   pub catalogue-entered : catalogue (entered a k name program sectors) ≡ insert (catalogue a) name (new_entry a name program sectors)
   unfolding entered
   catalogue-entered =
-      catalogue-inserted a b k good entered_changes placed.low placed.high name (ap (holds name) slot_now ∙ holds-from name slot says.entry says.name) free_no_entry
+      catalogue-inserted a b k good entered_changes placed.low placed.high name (ap (has_name name) slot_now ∙ has_name-from name slot says.entry says.name) free_no_entry
       ∙ ap (insert (catalogue a) name) entry_entered
 
 -- three sectors put in place make that image

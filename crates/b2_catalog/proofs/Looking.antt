@@ -14,7 +14,7 @@ use Rattle.b2_platter.proofs.Rooms.{LiesIn-from}
 use Rattle.b2_platter.proofs.Goodness.{Parts-of}
 use Rattle.b2_platter.proofs.Soundness.{Sound-from_Good}
 use Rattle.b2_platter.proofs.Kept.{first_slot-low}
-use Rattle.b2_catalog.specs.Ways.{holds, slot_in, way_of, found_along, slot_of, IsSlotOf}
+use Rattle.b2_catalog.specs.Ways.{has_name, slot_in, way_of, found_along, slot_of, IsSlotOf}
 
 -- what a search in a range finds
 pub find-none : (p : ℕ → Bool) (a n : ℕ) → ((k : ℕ) → a ≤ k → k < a + n → p k ≡ false) → find p (range_with_len a n) ≡ None
@@ -66,13 +66,13 @@ pub record Holds (name slot : List ℕ) : Type 0 where
   pub entry : is_entry slot ≡ true
   pub same : name_of slot ≡ name
 
-pub Holds-from : (name slot : List ℕ) → holds name slot ≡ true → Holds name slot
-unfolding holds
+pub Holds-from : (name slot : List ℕ) → has_name name slot ≡ true → Holds name slot
+unfolding has_name
 Holds-from name slot h = let parts = and_parts _ _ h in record { entry = parts.0; same = (bytes_eq-Decides (name_of slot) name).0 parts.1 }
 
-pub holds-from : (name slot : List ℕ) → is_entry slot ≡ true → name_of slot ≡ name → holds name slot ≡ true
-unfolding holds
-holds-from name slot e same = and_from _ _ e ((bytes_eq-Decides (name_of slot) name).1 same)
+pub has_name-from : (name slot : List ℕ) → is_entry slot ≡ true → name_of slot ≡ name → has_name name slot ≡ true
+unfolding has_name
+has_name-from name slot e same = and_from _ _ e ((bytes_eq-Decides (name_of slot) name).1 same)
 
 -- two slots that differ in name
 names_apart : (slot other : List ℕ) → differ_in_name slot other ≡ true → is_entry slot ≡ true → is_entry other ≡ true → name_of slot ≡ name_of other → ⊥
@@ -122,7 +122,7 @@ pub met : (first index own : ℕ) → first < index → own < index → (i : ℕ
 met first index own f o =
     elim (cases_lt own first) as (λ _. (i : ℕ) × (i < index) × ((first + i) % index ≡ own)) [
       | inl before ↦ (own + index - first, omega arith, ap (λ (q : ℕ). q % index) (omega arith) ∙ add-mod_right own index ∙ mod-eq_of_lt o)
-      | inr behind ↦ (own - first, omega arith, ap (λ (q : ℕ). q % index) (omega arith) ∙ mod-eq_of_lt o)
+      | inr after ↦ (own - first, omega arith, ap (λ (q : ℕ). q % index) (omega arith) ∙ mod-eq_of_lt o)
     ]
 
 pub clear_of : (e rest : Bool) → (not e || rest) ≡ true → e ≡ true → rest ≡ true
@@ -134,7 +134,7 @@ module _ (image : List ℕ) (good : Good Narrow image) (name : List ℕ) where
   some = (Parts-of Narrow image good).some
 
   -- no other slot has the name
-  pub one_slot : (j k : ℕ) → 1 ≤ j → j < 16 * index_of image → 1 ≤ k → k < 16 * index_of image → holds name (row image j) ≡ true → holds name (row image k) ≡ true → j ≡ k
+  pub one_slot : (j k : ℕ) → 1 ≤ j → j < 16 * index_of image → 1 ≤ k → k < 16 * index_of image → has_name name (row image j) ≡ true → has_name name (row image k) ≡ true → j ≡ k
   one_slot j k j_low j_high k_low k_high hj hk =
       let s = Sound-from_Good Narrow image good in
       let a = Holds-from name (row image j) hj in
@@ -160,7 +160,7 @@ module _ (image : List ℕ) (good : Good Narrow image) (name : List ℕ) where
       find-none _ (first_slot s) (16 * s + 16 - first_slot s) (λ j low high. let at = in_slots s j below low high in find-missed _ 1 (16 * index_of image - 1) none j at.0 (omega (arith, at.1)))
 
   module _ (k : ℕ) (is : slot_of image name ≡ Some k) where
-    found : Found (λ (k : ℕ). holds name (row image k)) 1 (16 * index_of image - 1) k
+    found : Found (λ (k : ℕ). has_name name (row image k)) 1 (16 * index_of image - 1) k
     unfolding slot_of
     found = find-some _ 1 (16 * index_of image - 1) k is
 
@@ -205,7 +205,7 @@ module _ (image : List ℕ) (good : Good Narrow image) (name : List ℕ) where
 pub IsSlotOf-from : (image name : List ℕ) (k : ℕ) → slot_of image name ≡ Some k → IsSlotOf image name k
 unfolding slot_of
 IsSlotOf-from image name k is =
-    let f = find-some (λ (k : ℕ). holds name (row image k)) 1 (16 * index_of image - 1) k is in
+    let f = find-some (λ (k : ℕ). has_name name (row image k)) 1 (16 * index_of image - 1) k is in
     record { low = f.low; high = omega (arith, f.low, f.high); held = f.passes }
 
 pub held-from_found : (image name : List ℕ) (o : Option ℕ) → o ≡ slot_of image name → IfSome o (IsSlotOf image name)

@@ -14,10 +14,10 @@ use Rattle.b2_platter.proofs.Goodness.{most_of_good}
 use Rattle.b2_platter.proofs.Soundness.{Sound-from_Good}
 use Rattle.b2_platter.proofs.Kept.{next-same}
 use Rattle.b2_catalog.specs.Catalogue.{entry_at, catalogue}
-use Rattle.b2_catalog.specs.Ways.{holds, way_of, slot_of, place, IsSlotOf}
+use Rattle.b2_catalog.specs.Ways.{has_name, way_of, slot_of, place, IsSlotOf}
 use Rattle.b2_catalog.specs.Calls.{reused_place}
 use Rattle.b2_catalog.specs.Changes.{put_row, file_slot, gone_slot, reused}
-use Rattle.b2_catalog.proofs.Looking.{Holds, Holds-from, holds-from, FileSlot, FileSlot-from, IsSlotOf-from, one_slot, clear_of}
+use Rattle.b2_catalog.proofs.Looking.{Holds, Holds-from, has_name-from, FileSlot, FileSlot-from, IsSlotOf-from, one_slot, clear_of}
 use Rattle.b2_catalog.proofs.Placing.{Placed-from}
 use Rattle.b2_catalog.proofs.Refusals.{slot_none}
 use Rattle.b2_catalog.proofs.Rows.{row_same}
@@ -31,7 +31,7 @@ control_of : (image slot : List ℕ) → is_controlled Narrow image slot ≡ tru
 unfolding is_controlled
 control_of image slot h e = subst (λ (b : Bool). (not b || is_control Narrow (end_of Narrow slot - start_of Narrow slot) (sector image (end_of Narrow slot))) ≡ true) e h
 
-module _ (a : List ℕ) (good : Good Narrow a) (old : List ℕ) (k : ℕ) (at : IsSlotOf a old k) (name : List ℕ) (legal : is_name8 name ≡ true) (eight : length name ≡ 8) (alone : (j : ℕ) → 1 ≤ j → j < 16 * index_of a → j ≢ k → holds name (row a j) ≡ false) (to : ℕ) (low : 1 ≤ to) (high : to < 16 * index_of a) (vacant : to ≢ k → is_entry (row a to) ≡ false) (clear : is_clear_to (has_free a) (to / 16) (way_of a name) ≡ true) (program : Bool) where
+module _ (a : List ℕ) (good : Good Narrow a) (old : List ℕ) (k : ℕ) (at : IsSlotOf a old k) (name : List ℕ) (legal : is_name8 name ≡ true) (eight : length name ≡ 8) (alone : (j : ℕ) → 1 ≤ j → j < 16 * index_of a → j ≢ k → has_name name (row a j) ≡ false) (to : ℕ) (low : 1 ≤ to) (high : to < 16 * index_of a) (vacant : to ≢ k → is_entry (row a to) ≡ false) (clear : is_clear_to (has_free a) (to / 16) (way_of a name) ≡ true) (program : Bool) where
   abbrev gone : List ℕ
   gone = put_row a k gone_slot
 
@@ -145,7 +145,7 @@ module _ (a : List ℕ) (good : Good Narrow a) (old : List ℕ) (k : ℕ) (at : 
   pub catalogue-reused : catalogue (reused a k to name program) ≡ insert (remove (catalogue a) old) name (record (entry_at a k) { name = name; live = true; program = program })
   unfolding reused
   catalogue-reused =
-      catalogue-inserted gone after to gone_good again low high' name (ap (holds name) slot_now ∙ holds-from name slot says.entry says.name) (λ e. absurd (false≢true (sym vacant_now ∙ e)))
+      catalogue-inserted gone after to gone_good again low high' name (ap (has_name name) slot_now ∙ has_name-from name slot says.entry says.name) (λ e. absurd (false≢true (sym vacant_now ∙ e)))
       ∙ ap (insert (catalogue gone) name) entry_now
       ∙ ap (λ m. insert m name (record (entry_at a k) { name = name; live = true; program = program })) (catalogue-removed a gone k good changes at.low at.high old (ap is_entry gone_now ∙ gone_no_entry) at.held)
 
@@ -153,7 +153,7 @@ module _ (a : List ℕ) (good : Good Narrow a) (old : List ℕ) (k : ℕ) (at : 
 pub record Ready (a name : List ℕ) (k to : ℕ) : Type 0 where
   pub low : 1 ≤ to
   pub high : to < 16 * index_of a
-  pub alone : (j : ℕ) → 1 ≤ j → j < 16 * index_of a → j ≢ k → holds name (row a j) ≡ false
+  pub alone : (j : ℕ) → 1 ≤ j → j < 16 * index_of a → j ≢ k → has_name name (row a j) ≡ false
   pub vacant : to ≢ k → is_entry (row a to) ≡ false
   pub clear : is_clear_to (has_free a) (to / 16) (way_of a name) ≡ true
 

@@ -4,7 +4,7 @@ use Rattle.std.proofs.lemmas.List.{take_at, drop_at, drop-drop, take-take, drop-
 use Rattle.std.proofs.Math.Seq.{take-add}
 use Rattle.b2_platter.specs.Image.{row, sector}
 use Rattle.b2_platter.specs.Edits.{put_sector}
-use Rattle.b2_platter.proofs.Puts.{piece-before, piece-behind, sector_same}
+use Rattle.b2_platter.proofs.Puts.{piece-before, piece-after, sector_same}
 use Rattle.b2_catalog.specs.Changes.{put_row}
 
 module _ (image : List ℕ) (k : ℕ) (bytes : List ℕ) (long : length bytes ≡ 16) (room : 16 * k + 16 ≤ length image) where
@@ -25,11 +25,11 @@ module _ (image : List ℕ) (k : ℕ) (bytes : List ℕ) (long : length bytes �
 
   pub row_above : (j : ℕ) → k < j → row (put_row image k bytes) j ≡ row image j
   unfolding put_row row
-  row_above j h = piece-behind image bytes (16 * k) 16 (16 * j) 16 (omega arith) (omega arith) long
+  row_above j h = piece-after image bytes (16 * k) 16 (16 * j) 16 (omega arith) (omega arith) long
 
   pub sector_above : (n : ℕ) → 16 * k + 16 ≤ 256 * n → sector (put_row image k bytes) n ≡ sector image n
   unfolding put_row sector
-  sector_above n h = piece-behind image bytes (16 * k) 16 (256 * n) 256 h (omega arith) long
+  sector_above n h = piece-after image bytes (16 * k) 16 (256 * n) 256 h (omega arith) long
 
   pub sector_below : (n : ℕ) → 256 * n + 256 ≤ 16 * k → sector (put_row image k bytes) n ≡ sector image n
   unfolding put_row sector

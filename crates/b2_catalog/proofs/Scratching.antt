@@ -11,15 +11,15 @@ use Rattle.b2_platter.specs.Edits.{put_sector}
 use Rattle.b2_platter.proofs.Rooms.{LiesIn-from}
 use Rattle.b2_platter.proofs.Goodness.{most_of_good}
 use Rattle.b2_platter.proofs.Soundness.{Sound-from_Good}
-use Rattle.b2_platter.proofs.Puts.{length-put_sector, row_before, sector_before, sector_behind, sector_same}
+use Rattle.b2_platter.proofs.Puts.{length-put_sector, row_before, sector_before, sector_after, sector_same}
 use Rattle.b2_platter.proofs.Kept.{index-same, next-same, head-same, ordered-same, shared}
 use Rattle.b2_catalog.proofs.Mapping.{get-catalogue}
 use Rattle.b2_catalog.specs.declared.entry.Entry.{Entry}
 use Rattle.b2_catalog.specs.Catalogue.{entry_at, catalogue}
-use Rattle.b2_catalog.specs.Ways.{holds, slot_of, IsSlotOf}
+use Rattle.b2_catalog.specs.Ways.{has_name, slot_of, IsSlotOf}
 use Rattle.b2_catalog.specs.Changes.{put_row, scratched_slot, control_sector}
 use Rattle.b2_catalog.specs.Calls.{with_scratched, catalogue_scratched}
-use Rattle.b2_catalog.proofs.Looking.{IsSlotOf-from, Holds, Holds-from, holds-from, FileSlot, FileSlot-from}
+use Rattle.b2_catalog.proofs.Looking.{IsSlotOf-from, Holds, Holds-from, has_name-from, FileSlot, FileSlot-from}
 use Rattle.b2_catalog.proofs.Rows.{row_same, put_sector-put_row}
 use Rattle.b2_catalog.proofs.Spelled.{SaysScratched, says_scratched, control_long, control_used, control_spelled}
 use Rattle.b2_catalog.proofs.Changed.{Changes, changed_good, reached_still, differ_turned, apart_turned}
@@ -63,7 +63,7 @@ module _ (a : List ℕ) (good : Good Narrow a) (name : List ℕ) (k : ℕ) (at :
 
   pub catalogue-scratched : catalogue (put_row a k (scratched_slot (row a k))) ≡ catalogue_scratched (catalogue a) name
   catalogue-scratched =
-      catalogue-inserted a _ k good scratched_changes at.low at.high name (ap (holds name) now_row ∙ holds-from name (scratched_slot (row a k)) says.entry (says.name ∙ held.same)) (λ e. held.same)
+      catalogue-inserted a _ k good scratched_changes at.low at.high name (ap (has_name name) now_row ∙ has_name-from name (scratched_slot (row a k)) says.entry (says.name ∙ held.same)) (λ e. held.same)
       ∙ ap (insert (catalogue a) name) entry_scratched
       ∙ sym (ap (with_scratched (catalogue a) name) (get-at a good name k at))
 
@@ -121,7 +121,7 @@ module _ (a : List ℕ) (good : Good Narrow a) (name : List ℕ) (k : ℕ) (at :
         | inl same ↦ absurd (apart_end j low high other e same)
         | inr unequal ↦ elim unequal [
           | inl less ↦ sector_before a (end_of Narrow (row a k)) (control_sector used) (control_long used) f.inside (end_of Narrow (row a j)) less
-          | inr more ↦ sector_behind a (end_of Narrow (row a k)) (control_sector used) (control_long used) f.inside (end_of Narrow (row a j)) more
+          | inr more ↦ sector_after a (end_of Narrow (row a k)) (control_sector used) (control_long used) f.inside (end_of Narrow (row a j)) more
         ]
       ]
 
@@ -171,5 +171,5 @@ module _ (a : List ℕ) (good : Good Narrow a) (name : List ℕ) (k : ℕ) (at :
 
   pub catalogue-used : catalogue (put_sector a (end_of Narrow (row a k)) (control_sector used)) ≡ insert (catalogue a) name (record (entry_at a k) { used = used })
   catalogue-used =
-      catalogue-inserted a _ k good used_changes at.low at.high name (ap (holds name) (rows_stay k at.high) ∙ at.held) (λ e. holds_at.same)
+      catalogue-inserted a _ k good used_changes at.low at.high name (ap (has_name name) (rows_stay k at.high) ∙ at.held) (λ e. holds_at.same)
       ∙ ap (insert (catalogue a) name) entry_used

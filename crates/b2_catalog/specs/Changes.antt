@@ -1,5 +1,7 @@
 -- Rows and sectors as the catalogue's calls write them, and images with them in place.
 use Rattle.std.specs.Prelude.{ℕ, ◌+◌, ◌-◌, ◌*◌, Bool, List, ◌∷◌, ◌++◌, take, drop, replicate, if◌then◌else◌}
+use Rattle.b2_platter.specs.declared.checks.TheConstants.{CONTROL}
+use Rattle.b2_platter.specs.declared.slot.TheConstants.{LIVE, SCRATCHED, GONE, PROGRAM, DATA}
 use Rattle.b2_platter.specs.declared.layout.Layout.TheVariants.{Narrow}
 use Rattle.b2_platter.specs.Layout.{width_of, third_place}
 use Rattle.b2_platter.specs.Slot.{start_of, end_of}
@@ -12,24 +14,24 @@ put_row bytes k row = take (16 * k) bytes ++ (row ++ drop (16 * k + 16) bytes)
 
 -- the kind of a program, or of data
 abbrev pub kind_of : Bool → ℕ
-kind_of program = if program then 80 else 68
+kind_of program = if program then PROGRAM else DATA
 
 -- the slot of a live file
 unfoldable pub file_slot : Bool → ℕ → ℕ → List ℕ → List ℕ
 file_slot program start end name =
-    16 ∷ kind_of program ∷ (spelled Narrow start ++ spelled Narrow end ++ replicate (8 - third_place Narrow) 0 ++ name)
+    LIVE ∷ kind_of program ∷ (spelled Narrow start ++ spelled Narrow end ++ replicate (8 - third_place Narrow) 0 ++ name)
 
 -- the slot of a file that was scratched: its other bytes stay
 unfoldable pub scratched_slot : List ℕ → List ℕ
-scratched_slot slot = 17 ∷ drop 1 slot
+scratched_slot slot = SCRATCHED ∷ drop 1 slot
 
 -- the slot of a file that took another name
 unfoldable pub gone_slot : List ℕ
-gone_slot = 18 ∷ replicate 15 0
+gone_slot = GONE ∷ replicate 15 0
 
--- a control sector: A1, how many sectors are used, and 00
+-- a control sector: its first byte, how many sectors are used, and 00
 unfoldable pub control_sector : ℕ → List ℕ
-control_sector used = 161 ∷ (spelled Narrow used ++ replicate (255 - width_of Narrow) 0)
+control_sector used = CONTROL ∷ (spelled Narrow used ++ replicate (255 - width_of Narrow) 0)
 
 -- the head, with another next free sector
 unfoldable pub head_with_next : List ℕ → ℕ → List ℕ

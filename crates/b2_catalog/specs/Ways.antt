@@ -6,12 +6,12 @@ use Rattle.b2_platter.specs.Slot.{is_entry, is_free, name_of}
 use Rattle.b2_platter.specs.Image.{row, index_of, slots_of, slots_in, has_free, hash, around}
 
 -- a slot is that of the file with a name
-unfoldable pub holds : List ℕ → List ℕ → Bool
-holds name slot = is_entry slot && bytes_eq (name_of slot) name
+unfoldable pub has_name : List ℕ → List ℕ → Bool
+has_name name slot = is_entry slot && bytes_eq (name_of slot) name
 
 -- the slot of an index sector that has the name
 unfoldable pub slot_in : List ℕ → List ℕ → ℕ → Option ℕ
-slot_in image name s = find (λ k. holds name (row image k)) (slots_in s)
+slot_in image name s = find (λ k. has_name name (row image k)) (slots_in s)
 
 -- the index sectors from the name's hash on, cyclically
 abbrev pub way_of : List ℕ → List ℕ → List ℕ
@@ -49,10 +49,10 @@ place image name = place_along (lowest_free image) (way_of image name)
 
 -- the slot of the file with a name, wherever it stands
 unfoldable pub slot_of : List ℕ → List ℕ → Option ℕ
-slot_of image name = find (λ k. holds name (row image k)) (slots_of (index_of image))
+slot_of image name = find (λ k. has_name name (row image k)) (slots_of (index_of image))
 
 -- a slot of the index is that of the file with a name
 pub record IsSlotOf (image name : List ℕ) (k : ℕ) : Type 0 where
   pub low : 1 ≤ k
   pub high : k < 16 * index_of image
-  pub held : holds name (row image k) ≡ true
+  pub held : has_name name (row image k) ≡ true

@@ -14,7 +14,7 @@ use b2_base::Name8;
 use b2_base::codes::{Code, D83_NAME_PRESENT, D85_INDEX_FULL, D86_NO_ROOM};
 use b2_platter::{Layout, Platter, edits, image};
 
-// The head with another next free sector.
+/// The head with another next free sector.
 #[tactic(auto, unfolding(crate::specs::Changes::head_with_next))]
 fn head_with_next(p: &Platter, next: u32) -> [u8; 16]
     requires { next ≤ catalogue_end Narrow p.now }
@@ -25,7 +25,7 @@ fn head_with_next(p: &Platter, next: u32) -> [u8; 16]
     edits::head(Layout::Narrow, index as u8, sectors, end, next)
 }
 
-// A sector of the index, with the head in place.
+/// A sector of the index, with the head in place.
 fn index_sector(p: &Platter, s: usize, head: &[u8; 16]) -> [u8; 256]
     requires { s < index_of p.now }
     ensures { result ≡ sector (put_row p.now 0 head.now) s }
@@ -37,7 +37,7 @@ fn index_sector(p: &Platter, s: usize, head: &[u8; 16]) -> [u8; 256]
     spelling::with_row(sector, 0, head)
 }
 
-// Puts a new file into a slot, with the next free sectors.
+/// Puts a new file into a slot, with the next free sectors.
 fn put_new(p: &mut Platter, k: usize, name: Name8, program: bool, sectors: u32)
     requires low { 1 ≤ k }
     requires high { k < 16 * index_of p.old }
@@ -59,7 +59,7 @@ fn put_new(p: &mut Platter, k: usize, name: Name8, program: bool, sectors: u32)
     ]);
 }
 
-/// Enters a live file with so many sectors, the last of which says that one is used. D83 where the catalogue has the
+/// Enters a live file of some sectors, the last of which says that one is used. D83 where the catalogue has the
 /// name, else D85 where no slot is free, else D86 where the catalogue has no room for the sectors.
 pub fn enter(p: &mut Platter, name: Name8, program: bool, sectors: u32) -> Result<Entry, Code>
     requires { 2 ≤ sectors }
@@ -71,7 +71,7 @@ pub fn enter(p: &mut Platter, name: Name8, program: bool, sectors: u32) -> Resul
     if lookup::look_slot(p, name).is_some() {
         return Err(Code::known(D83_NAME_PRESENT));
     }
-    let Some(k) = place::place_of(p.image(), &name.bytes()) else {
+    let Some(k) = place::place_for(p.image(), &name.bytes()) else {
         return Err(Code::known(D85_INDEX_FULL));
     };
     let (_, end, next) = limits(p);

@@ -25,7 +25,7 @@ fn push_spaced(into: &mut Vec<u8>, n: u32) -> Result<(), NoMemory>
     push_number(into, n)
 }
 
-// The line of the head.
+/// The line of the head.
 #[tactic(auto, unfolding(crate::specs::Listing::head_line))]
 fn push_head(p: &Platter, into: &mut Vec<u8>) -> Result<(), NoMemory>
     ensures { OnOk result (into.new.items ≡ into.old.items ++ head_line p.now) }
@@ -41,8 +41,8 @@ fn push_head(p: &Platter, into: &mut Vec<u8>) -> Result<(), NoMemory>
     Ok(())
 }
 
-// A space, the kind of the file, and whether it is scratched.
-fn marks(slot: &[u8; 16]) -> &'static [u8]
+/// A space, the kind of the file, and whether it is scratched.
+fn marks_of(slot: &[u8; 16]) -> &'static [u8]
     ensures { result.now ≡ marks_of (is_program slot.now) (is_live slot.now) }
 {
     match (slot::is_program(slot), slot::is_live(slot)) {
@@ -53,7 +53,7 @@ fn marks(slot: &[u8; 16]) -> &'static [u8]
     }
 }
 
-// The line of a file.
+/// The line of a file.
 #[tactic(auto, unfolding(crate::specs::Listing::file_line))]
 fn push_file(p: &Platter, k: usize, into: &mut Vec<u8>) -> Result<(), NoMemory>
     requires low { 1 ≤ k }
@@ -65,7 +65,7 @@ fn push_file(p: &Platter, k: usize, into: &mut Vec<u8>) -> Result<(), NoMemory>
     let end = slot::end(Layout::Narrow, slot);
     let used = checks::used(Layout::Narrow, p.sector(end));
     into.extend_from_slice(slot::name(slot))?;
-    into.extend_from_slice(marks(slot))?;
+    into.extend_from_slice(marks_of(slot))?;
     push_spaced(into, slot::start(Layout::Narrow, slot))?;
     push_spaced(into, end)?;
     push_spaced(into, used)?;
@@ -73,7 +73,7 @@ fn push_file(p: &Platter, k: usize, into: &mut Vec<u8>) -> Result<(), NoMemory>
     Ok(())
 }
 
-// The line of a slot, where it is a file's.
+/// The line of a slot, where it is a file's.
 fn push_slot(p: &Platter, k: usize, into: &mut Vec<u8>) -> Result<(), NoMemory>
     requires low { 1 ≤ k }
     requires high { k < 16 * index_of p.now }

@@ -5,7 +5,7 @@ ghost use Rattle.b2_platter.specs.declared.layout.Layout.TheVariants.{Narrow};
 ghost use Rattle.b2_platter.specs.Image.{row, index_of, has_free};
 ghost use Rattle.b2_platter.specs.Checks.{Good};
 ghost use Rattle.b2_catalog.specs.Catalogue.{catalogue, entry_at};
-ghost use Rattle.b2_catalog.specs.Ways.{holds, slot_in, way_of, way, found_along, slot_of, IsSlotOf};
+ghost use Rattle.b2_catalog.specs.Ways.{has_name, slot_in, way_of, way, found_along, slot_of, IsSlotOf};
 
 use crate::Entry;
 use b2_base::{Name8, Steps};
@@ -13,28 +13,28 @@ use b2_platter::{Layout, Platter, checks, image, slot};
 use std::marker::Brand;
 use std::sync::ledger::{Blank, Ledger};
 
-// Whether a slot is that of the file with a name.
-#[tactic(auto, unfolding(crate::specs::Ways::holds))]
-fn holds(name: &[u8], slot: &[u8; 16]) -> bool
-    ensures { result ≡ holds name.now slot.now }
+/// Whether a slot is that of the file with a name.
+#[tactic(auto, unfolding(crate::specs::Ways::has_name))]
+fn has_name(name: &[u8], slot: &[u8; 16]) -> bool
+    ensures { result ≡ has_name name.now slot.now }
 {
     slot::is_entry(slot) && slot::name(slot) == name
 }
 
-// The slot of an index sector that has the name.
+/// The slot of an index sector that has the name.
 fn slot_in(bytes: &[u8], name: &[u8], s: usize) -> Option<usize>
     requires { 256 * s + 256 ≤ length bytes.now }
     ensures { result ≡ slot_in bytes.now name.now s }
 {
     for k in checks::first_slot(s)..16 * s + 16 {
-        if holds(name, image::row(bytes, k)) {
+        if has_name(name, image::row(bytes, k)) {
             return Some(k);
         }
     }
     None
 }
 
-// The slot that a look-up finds, with a tick for each index sector that it reads.
+/// The slot that a look-up finds, with a tick for each index sector that it reads.
 fn slot_of<L: Ledger>(bytes: &[u8], name: &[u8], steps: &mut Steps<L>) -> Option<usize>
     requires some { 1 ≤ index_of bytes.now }
     requires room { 256 * index_of bytes.now ≤ length bytes.now }
@@ -96,7 +96,7 @@ pub fn find<L: Ledger>(p: &Platter, name: Name8, steps: &mut Steps<L>) -> Option
     Some(entry_at(p, k, name))
 }
 
-// The slot of the file with the name, where nobody counts the steps.
+/// The slot of the file with the name, where nobody counts the steps.
 fn uncounted<L: Ledger>(p: &Platter, name: Name8, blank: Blank) -> Option<usize>
     requires name { blank.name ≡ L.name }
     requires parts { blank.parts ≡ L.parts }

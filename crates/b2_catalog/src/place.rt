@@ -5,7 +5,7 @@ ghost use Rattle.b2_catalog.specs.Ways.{lowest_free, place};
 
 use b2_platter::{checks, image, slot};
 
-// The lowest free slot of an index sector.
+/// The lowest free slot of an index sector.
 fn lowest_free(bytes: &[u8], s: usize) -> Option<usize>
     requires { 256 * s + 256 ≤ length bytes.now }
     ensures { result ≡ lowest_free bytes.now s }
@@ -19,7 +19,7 @@ fn lowest_free(bytes: &[u8], s: usize) -> Option<usize>
 }
 
 /// The slot that a new name takes, None where no slot is free.
-pub fn place_of(bytes: &[u8], name: &[u8]) -> Option<usize>
+pub fn place_for(bytes: &[u8], name: &[u8]) -> Option<usize>
     requires some { 1 ≤ index_of bytes.now }
     requires room { 256 * index_of bytes.now ≤ length bytes.now }
     requires len { length name.now ≡ 8 }

@@ -11,7 +11,7 @@ ghost use Rattle.b2_catalog.specs.Catalogue.{catalogue};
 use b2_base::codes::{Code, P34_RANGE};
 use b2_platter::{Layout, Platter, image};
 
-/// How many sectors the index takes, the first sector behind the catalogue, and the next free sector.
+/// How many sectors the index takes, the first sector after the catalogue, and the next free sector.
 pub fn limits(p: &Platter) -> (u32, u32, u32)
     ensures index { result.0 ≡ index_of p.now }
     ensures few { result.0 ≤ 255 }
@@ -27,8 +27,8 @@ pub fn limits(p: &Platter) -> (u32, u32, u32)
     )
 }
 
-/// Formats the platter: an empty index of so many sectors, and a catalogue up to a last sector. P34 where the index
-/// isn't from 1 to 255 sectors, or the catalogue wouldn't end behind the index and within the platter.
+/// Formats the platter: an empty index of `index` sectors, and a catalogue up to a last sector. P34 where the index
+/// isn't from 1 to 255 sectors, or the catalogue wouldn't end after the index and within the platter.
 pub fn format(p: &mut Platter, index: u32, end: u32) -> Result<(), Code>
     ensures ok { OnOk result (CanFormat Narrow p.old index end × (p.new ≡ formatted Narrow p.old index end)) }
     ensures empties { OnOk result (catalogue p.new ≡ empty) }

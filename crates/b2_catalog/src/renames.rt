@@ -15,14 +15,14 @@ use b2_base::Name8;
 use b2_base::codes::{Code, D82_NO_FILE, D83_NAME_PRESENT, D84_NOT_SCRATCHED, D85_INDEX_FULL};
 use b2_platter::Platter;
 
-// Whether two names are one.
+/// Whether two names are one.
 fn is_same(old: Name8, name: Name8) -> bool
     ensures { result ≡ bytes_eq old name }
 {
     old == name
 }
 
-// Whether another name is in the catalogue already.
+/// Whether another name is in the catalogue already.
 fn is_taken(p: &Platter, old: Name8, name: Name8) -> bool
     ensures value { result ≡ (not (bytes_eq old name) && is_some (slot_of p.now name)) }
     ensures good { Good Narrow p.now }
@@ -31,7 +31,7 @@ fn is_taken(p: &Platter, old: Name8, name: Name8) -> bool
     !is_same(old, name) && lookup::look_slot(p, name).is_some()
 }
 
-// The slot for the file in slot k: its own where the name stays, else the place of the new name.
+/// The slot for the file in slot k: its own where the name stays, else the place of the new name.
 fn new_place(p: &Platter, k: usize, old: Name8, name: Name8) -> Option<usize>
     requires { slot_of p.now old ≡ Some k }
     ensures { result ≡ reused_place p.now old name }
@@ -39,7 +39,7 @@ fn new_place(p: &Platter, k: usize, old: Name8, name: Name8) -> Option<usize>
     if is_same(old, name) {
         return Some(k);
     }
-    place::place_of(p.image(), &name.bytes())
+    place::place_for(p.image(), &name.bytes())
 }
 
 /// Makes a scratched file live again, under its own name or another; it keeps its sectors. D83 where another name is in

@@ -6,7 +6,7 @@ ghost use Rattle.b2_catalog.specs.Changes.{put_row, kind_of, file_slot, scratche
 use b2_base::Name8;
 use b2_platter::{Layout, checks, edits, slot};
 
-// The kind of a program, or of data.
+/// The kind of a program, or of data.
 fn kind(program: bool) -> u8
     ensures { result ≡ kind_of program }
 {
@@ -50,7 +50,7 @@ pub fn gone_slot() -> [u8; 16]
     bytes
 }
 
-/// A control sector that says so many sectors are used.
+/// A control sector that says how many sectors are used.
 pub fn control_sector(used: u32) -> [u8; 256]
     requires { used < 65536 }
     ensures { result ≡ control_sector used }

@@ -5,12 +5,12 @@ use native.Mathlib.Nat.{div-eq_of_lt-le, eq-zero-or-pos}
 use Rattle.b2_dec.specs.declared.number.Mode.{Mode}
 use Rattle.b2_dec.specs.declared.number.Mode.TheVariants.{Round, Cut}
 use Rattle.b2_dec.specs.Number.{Number}
-use Rattle.b2_dec.specs.Rounding.{whole_by, place_of, in_range, fitted, of_units, rnd}
+use Rattle.b2_dec.specs.Rounding.{whole_by, place_of, in_range, after_carry, of_units, rnd}
 use Rattle.b2_dec.specs.Laws.{edge, IsInLimits}
 use Rattle.b2_dec.proofs.TenLemmas.{ten_le}
 use Rattle.b2_dec.proofs.Places.{place_of-is, place_of-top}
-use Rattle.b2_dec.proofs.Rounds.{fitted-large}
-use Rattle.b2_dec.proofs.Exact.{fitted-digits}
+use Rattle.b2_dec.proofs.Rounds.{after_carry-large}
+use Rattle.b2_dec.proofs.Exact.{after_carry-digits}
 use Rattle.b2_dec.proofs.Grid.{place_of-within, place_of-under}
 
 -- ---- the thirteen digits at one place
@@ -35,8 +35,8 @@ edge-least Cut u = omega arith
 
 -- ---- the answers at one place
 
-fitted-small : (neg : Bool) (c p : ℕ) → p < 110 → fitted neg c p ≡ Err 60
-fitted-small neg c p h =
+after_carry-small : (neg : Bool) (c p : ℕ) → p < 110 → after_carry neg c p ≡ Err 60
+after_carry-small neg c p h =
     let low : p < 111 = omega arith in
     let next : p + 1 < 111 = omega arith in
     elim (cases_Bool (c == 10000000000000)) [
@@ -51,23 +51,23 @@ record IsNumberOk (r : Result Number ℕ) : Type 0 where
 in_range-ok : (neg : Bool) (c p : ℕ) → 111 ≤ p → p ≤ 309 → IsNumberOk (in_range neg c p)
 in_range-ok neg c p h k = record { number = record { neg = neg; coef = c; place = p - 111 }; is = rw (le-ltb _ _ h, le-ltb _ _ k) refl }
 
-fitted-full : (neg : Bool) (p : ℕ) → 110 ≤ p → p ≤ 308 → IsNumberOk (fitted neg 10000000000000 p)
-fitted-full neg p h k = in_range-ok neg 1000000000000 (p + 1) (omega arith) (omega arith)
+after_carry-full : (neg : Bool) (p : ℕ) → 110 ≤ p → p ≤ 308 → IsNumberOk (after_carry neg 10000000000000 p)
+after_carry-full neg p h k = in_range-ok neg 1000000000000 (p + 1) (omega arith) (omega arith)
 
-fitted-part : (neg : Bool) (c p : ℕ) → c < 10000000000000 → 111 ≤ p → p ≤ 309 → IsNumberOk (fitted neg c p)
-fitted-part neg c p few h k = subst IsNumberOk (sym (fitted-digits neg c p few)) (in_range-ok neg c p h k)
+after_carry-part : (neg : Bool) (c p : ℕ) → c < 10000000000000 → 111 ≤ p → p ≤ 309 → IsNumberOk (after_carry neg c p)
+after_carry-part neg c p few h k = subst IsNumberOk (sym (after_carry-digits neg c p few)) (in_range-ok neg c p h k)
 
-fitted-middle : (neg : Bool) (c p : ℕ) → 111 ≤ p → p ≤ 308 → IsNumberOk (fitted neg c p)
-fitted-middle neg c p h k =
+after_carry-middle : (neg : Bool) (c p : ℕ) → 111 ≤ p → p ≤ 308 → IsNumberOk (after_carry neg c p)
+after_carry-middle neg c p h k =
     elim (cases_Bool (c == 10000000000000)) [
       | inl up ↦ subst IsNumberOk (sym (next up)) (in_range-ok neg 1000000000000 (p + 1) (omega arith) (omega arith))
       | inr stay ↦ subst IsNumberOk (sym (here stay)) (in_range-ok neg c p h (omega arith))
     ]
   where
-    next : (c == 10000000000000) ≡ true → fitted neg c p ≡ in_range neg 1000000000000 (p + 1)
+    next : (c == 10000000000000) ≡ true → after_carry neg c p ≡ in_range neg 1000000000000 (p + 1)
     next e = rw e refl
 
-    here : (c == 10000000000000) ≡ false → fitted neg c p ≡ in_range neg c p
+    here : (c == 10000000000000) ≡ false → after_carry neg c p ≡ in_range neg c p
     here e = rw e refl
 
 -- ---- the answers of a fraction in units
@@ -81,7 +81,7 @@ too_small mode neg n d dpos less =
     let p : ℕ = place_of 310 n d in
     let under : n < 10 ^ (13 + 110) * d = omega (arith, edge-most mode (10 ^ 110 * d)) in
     elim (cases_lt p 110) [
-      | inl lower ↦ fitted-small neg (whole_by mode n (10 ^ p * d)) p lower
+      | inl lower ↦ after_carry-small neg (whole_by mode n (10 ^ p * d)) p lower
       | inr upper ↦ elim (cases_lt 110 p) [
         | inl far ↦
             let over : 10 ^ (12 + p) * d ≤ n = place_of-under 310 n d (omega arith) in
@@ -90,7 +90,7 @@ too_small mode neg n d dpos less =
         | inr near ↦
             let here : place_of 310 n d ≡ 110 = omega arith in
             let few : whole_by mode n (10 ^ 110 * d) < 10000000000000 = below_edge mode n (10 ^ 110 * d) (mul-pos {m = 10 ^ 110} (lit< tt) dpos) less in
-            rw here (fitted-digits neg (whole_by mode n (10 ^ 110 * d)) 110 few)
+            rw here (after_carry-digits neg (whole_by mode n (10 ^ 110 * d)) 110 few)
       ]
     ]
 
@@ -100,7 +100,7 @@ too_large mode neg n d dpos more =
     elim (cases_lt n (10 ^ (13 + 309) * d)) [
       | inr above ↦
           let here : place_of 310 n d ≡ 310 = place_of-top 309 n d above in
-          rw here (fitted-large neg (whole_by mode n (10 ^ 310 * d)) 310 (lit< tt))
+          rw here (after_carry-large neg (whole_by mode n (10 ^ 310 * d)) 310 (lit< tt))
       | inl below ↦
           let low : 10 ^ (12 + 309) * d ≤ n = omega (arith, edge-least mode (10 ^ 309 * d)) in
           let here : place_of 310 n d ≡ 309 = place_of-is 310 n d 309 (lit≤ tt) low below in
@@ -134,13 +134,13 @@ in_limits mode neg n d dpos low high =
               let under : n < 10000000000000 * (10 ^ 110 * d) = omega (arith, subst (λ t. n < 10 ^ (13 + t) * d) here within) in
               let full : whole_by mode n (10 ^ 110 * d) ≡ 10000000000000 =
               from_edge mode n (10 ^ 110 * d) (mul-pos {m = 10 ^ 110} (lit< tt) dpos) low under in
-              rw here (rw full (fitted-full neg 110 (lit≤ tt) (lit≤ tt)))
+              rw here (rw full (after_carry-full neg 110 (lit≤ tt) (lit≤ tt)))
           | inl more ↦ elim (cases_lt p 309) [
-            | inl middle ↦ fitted-middle neg (whole_by mode n (10 ^ p * d)) p more (omega arith)
+            | inl middle ↦ after_carry-middle neg (whole_by mode n (10 ^ p * d)) p more (omega arith)
             | inr last ↦
                 let here : place_of 310 n d ≡ 309 = omega arith in
                 let few : whole_by mode n (10 ^ 309 * d) < 10000000000000 = below_edge mode n (10 ^ 309 * d) (mul-pos {m = 10 ^ 309} (lit< tt) dpos) high in
-                rw here (fitted-part neg (whole_by mode n (10 ^ 309 * d)) 309 few (lit≤ tt) (lit≤ tt))
+                rw here (after_carry-part neg (whole_by mode n (10 ^ 309 * d)) 309 few (lit≤ tt) (lit≤ tt))
           ]
         ]
       ]

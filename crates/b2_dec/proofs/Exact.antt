@@ -8,7 +8,7 @@ use Rattle.std.specs.Prelude.{ℤ, pos, ◌+ℤ◌}
 use Rattle.std.proofs.lemmas.Int.{ints}
 use Rattle.b2_dec.specs.Number.{Number, zero_number, IsNumber, size, signed, value}
 use Rattle.b2_dec.specs.Arithmetic.{sum_of}
-use Rattle.b2_dec.specs.Rounding.{whole_by, rnd, rounded, in_range, fitted, IsWholePart}
+use Rattle.b2_dec.specs.Rounding.{whole_by, rnd, rounded, in_range, after_carry, IsWholePart}
 use Rattle.b2_dec.proofs.TenLemmas.{ten_pos, ten_lt}
 use Rattle.b2_dec.proofs.Rounds.{rnd-whole_part}
 use Rattle.b2_dec.proofs.Signs.{in_units, rounded-signed, add_comm_ℤ}
@@ -17,8 +17,8 @@ whole_by-exact : (mode : Mode) (c : ℕ) → whole_by mode (c * 10000000000000) 
 whole_by-exact Cut c = mul-div_cancel c (lit< tt)
 whole_by-exact Round c = div-eq_of_lt-le 20000000000000 (omega arith) (omega arith)
 
-pub fitted-digits : (neg : Bool) (c p : ℕ) → c < 10000000000000 → fitted neg c p ≡ in_range neg c p
-fitted-digits neg c p h = let other : c ≡ 10000000000000 → ⊥ = λ e. omega arith in rw (ne_eqb c 10000000000000 other) refl
+pub after_carry-digits : (neg : Bool) (c p : ℕ) → c < 10000000000000 → after_carry neg c p ≡ in_range neg c p
+after_carry-digits neg c p h = let other : c ≡ 10000000000000 → ⊥ = λ e. omega arith in rw (ne_eqb c 10000000000000 other) refl
 
 digits_from : (mode : Mode) (neg : Bool) (c b n d : ℕ) → 1000000000000 ≤ c → c < 10000000000000 → 0 < d
     → c * (10 ^ (b + 13) * d) ≡ n * 10 ^ 222 → rnd mode neg n d ≡ in_range neg c (b + 13)
@@ -30,7 +30,7 @@ digits_from mode neg c b n d least most dpos e =
     let low : c * 10000000000000 * (10 ^ b * d) ≤ n * 10 ^ 222 = le_of_eq same in
     let high : n * 10 ^ 222 < (c * 10000000000000 + 1) * (10 ^ b * d) = rw (more, ← same) (omega arith) in
     rnd-whole_part mode neg (c * 10000000000000) b n d 12 dpos (record { low = low; high = high }) (omega arith) (omega arith)
-    ∙ ap (λ t. fitted neg t (b + 13)) (whole_by-exact mode c) ∙ fitted-digits neg c (b + 13) most
+    ∙ ap (λ t. after_carry neg t (b + 13)) (whole_by-exact mode c) ∙ after_carry-digits neg c (b + 13) most
 
 -- Thirteen digits stay as they are.
 pub rnd-digits : (mode : Mode) (neg : Bool) (c p n d : ℕ) → 1000000000000 ≤ c → c < 10000000000000 → 13 ≤ p → 0 < d

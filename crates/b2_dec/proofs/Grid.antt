@@ -6,7 +6,7 @@ use native.Mathlib.Nat.{mul-lt-mul_of_pos_right, lt-div-mul-add, add-mul, lt_of_
 use Rattle.b2_dec.specs.declared.number.Mode.{Mode}
 use Rattle.b2_dec.specs.declared.number.Mode.TheVariants.{Round, Cut}
 use Rattle.b2_dec.specs.Number.{Number, zero_number, IsNumber, size}
-use Rattle.b2_dec.specs.Rounding.{whole_by, place_of, in_range, fitted, of_units, rnd}
+use Rattle.b2_dec.specs.Rounding.{whole_by, place_of, in_range, after_carry, of_units, rnd}
 use Rattle.b2_dec.specs.Laws.{gap, IsNearest, IsLargestBelow}
 use Rattle.b2_dec.proofs.TenLemmas.{ten_pos, ten_le}
 use Rattle.b2_dec.proofs.Places.{place_of-top}
@@ -73,20 +73,20 @@ stands_in_range neg c p x e =
       ]
     ]
 
-stands_fitted : (neg : Bool) (c p : ℕ) (x : Number) → fitted neg c p ≡ Ok x → Stands c p x
+stands_fitted : (neg : Bool) (c p : ℕ) (x : Number) → after_carry neg c p ≡ Ok x → Stands c p x
 stands_fitted neg c p x e =
     elim (cases_Bool (c == 10000000000000)) [
       | inl next ↦
-          let up : fitted neg c p ≡ in_range neg 1000000000000 (p + 1) = rw next refl in
+          let up : after_carry neg c p ≡ in_range neg 1000000000000 (p + 1) = rw next refl in
           let parts = stands_in_range neg 1000000000000 (p + 1) x (sym up ∙ e) in
           record { units = parts.0 ∙ carried c p (eqb-true c 10000000000000 next); low = omega arith; high = omega arith }
       | inr other ↦
-          let stay : fitted neg c p ≡ in_range neg c p = rw other refl in
+          let stay : after_carry neg c p ≡ in_range neg c p = rw other refl in
           let parts = stands_in_range neg c p x (sym stay ∙ e) in
           record { units = parts.0; low = omega arith; high = parts.1.1 }
     ]
 
--- A number is so many units of a place, or smaller than thirteen digits there.
+-- A number is whole units of a place, or smaller than thirteen digits there.
 grid : (y : Number) (p : ℕ) → IsNumber y → ((m : ℕ) × (size y * 10 ^ 111 ≡ m * 10 ^ p)) ⊎ (size y * 10 ^ 111 < 1000000000000 * 10 ^ p)
 grid y p h =
     let at : size y * 10 ^ 111 ≡ y.coef * 10 ^ (y.place + 111) = mul_assoc y.coef (10 ^ y.place) (10 ^ 111) ∙ ap (λ t. y.coef * t) (sym (pow-add 10 y.place 111)) in
@@ -221,7 +221,7 @@ next_below m c u h =
     let next : m + 1 ≤ c = omega arith in
     omega (arith, mul-le-mul_right u next, add-mul m 1 u)
 
--- where so many units stand
+-- where whole units stand
 beside-units : (m c t u : ℕ) → Beside (c * u) (m * u) t u
 beside-units m c t u =
     elim (cases_order m c) [

@@ -4,7 +4,7 @@ use Rattle.std.proofs.lemmas.Nat.{mod-mul-add, div-mul-add}
 use Rattle.std.proofs.lemmas.Bool.{cases_lt}
 use native.Mathlib.Nat.{pow-le-pow_right, div-div-eq-div-mul, div-lt_iff_lt-mul, pow-suc}
 use Rattle.b2_dec.specs.Number.{Number, IsNumber}
-use Rattle.b2_dec.specs.Packing.{exponent_size, signs, digits, pair, pairs, packed, pair_in, joined}
+use Rattle.b2_dec.specs.Packing.{exponent_size, signs, packed_digits, pair, pairs, packed, pair_in, pairs_value}
 
 -- a nibble and another one
 pub pair_in-nibbles : (h l : ℕ) → l < 16 → pair_in (16 * h + l) ≡ h * 10 + l
@@ -17,24 +17,24 @@ pair_in-pair n =
     let small : n % 10 < 10 = mod-lt n (lit< tt) in
     pair_in-nibbles (n / 10) (n % 10) (omega arith) ∙ div-add-mod' n 10
 
--- The digits behind others are joined to them.
-pub joined-pairs : (k n a : ℕ) → joined (a + n / 100 ^ k) (pairs k n) ≡ a * 100 ^ k + n
-joined-pairs zero n a = rw (div-one n) (omega arith)
-joined-pairs (suc k) n a =
+-- Digits that follow others.
+pub pairs_value-pairs : (k n a : ℕ) → pairs_value (a + n / 100 ^ k) (pairs k n) ≡ a * 100 ^ k + n
+pairs_value-pairs zero n a = rw (div-one n) (omega arith)
+pairs_value-pairs (suc k) n a =
     let shorter : n / 100 ^ suc k ≡ n / 100 ^ k / 100 =
     ap (λ t. n / t) (pow-suc 100 k) ∙ sym (div-div-eq-div-mul n (100 ^ k) 100) in
     let step : (a + n / 100 ^ suc k) * 100 + pair_in (pair (n / 100 ^ k % 100)) ≡ a * 100 + n / 100 ^ k =
     rw (shorter, pair_in-pair (n / 100 ^ k % 100)) (omega (arith, div-add-mod' (n / 100 ^ k) 100)) in
-    ap (λ t. joined t (pairs k n)) step ∙ joined-pairs k n (a * 100) ∙ rw (pow-suc 100 k) (omega arith)
+    ap (λ t. pairs_value t (pairs k n)) step ∙ pairs_value-pairs k n (a * 100) ∙ rw (pow-suc 100 k) (omega arith)
 
 -- All sixteen nibbles of a packed number.
-pub joined-packed : (x : Number) → digits x < 1000000000000000 → joined 0 (packed x) ≡ signs x * 1000000000000000 + digits x
-joined-packed x few =
-    let first : digits x / 100000000000000 < 10 = (div-lt_iff_lt-mul {x = digits x} {y = 10} (lit< tt)).1 few in
-    let start : 0 * 100 + pair_in (16 * signs x + digits x / 100000000000000) ≡ signs x * 10 + digits x / 100 ^ 7 =
-    rw (pair_in-nibbles (signs x) (digits x / 100000000000000) (omega arith)) (omega arith) in
-    let all : signs x * 10 * 100 ^ 7 + digits x ≡ signs x * 1000000000000000 + digits x = omega arith in
-    ap (λ t. joined t (pairs 7 (digits x))) start ∙ joined-pairs 7 (digits x) (signs x * 10) ∙ all
+pub pairs_value-packed : (x : Number) → packed_digits x < 1000000000000000 → pairs_value 0 (packed x) ≡ signs x * 1000000000000000 + packed_digits x
+pairs_value-packed x few =
+    let first : packed_digits x / 100000000000000 < 10 = (div-lt_iff_lt-mul {x = packed_digits x} {y = 10} (lit< tt)).1 few in
+    let start : 0 * 100 + pair_in (16 * signs x + packed_digits x / 100000000000000) ≡ signs x * 10 + packed_digits x / 100 ^ 7 =
+    rw (pair_in-nibbles (signs x) (packed_digits x / 100000000000000) (omega arith)) (omega arith) in
+    let all : signs x * 10 * 100 ^ 7 + packed_digits x ≡ signs x * 1000000000000000 + packed_digits x = omega arith in
+    ap (λ t. pairs_value t (pairs 7 (packed_digits x))) start ∙ pairs_value-pairs 7 (packed_digits x) (signs x * 10) ∙ all
 
 -- what is read back
 pub exponent_size-most : (x : Number) → x.place ≤ 198 → exponent_size x ≤ 99
@@ -44,8 +44,8 @@ exponent_size-most x h =
       | inr high ↦ rw (le-ltb _ _ high) (omega arith)
     ]
 
-pub digits-most : (x : Number) → IsNumber x → digits x < 1000000000000000
-digits-most x h = omega (arith, exponent_size-most x h.highest, h.digits)
+pub packed_digits-most : (x : Number) → IsNumber x → packed_digits x < 1000000000000000
+packed_digits-most x h = omega (arith, exponent_size-most x h.highest, h.digits)
 
 pub hundred_most : (i : ℕ) → i ≤ 7 → 100 ^ i ≤ 100 ^ 7
 hundred_most i h = pow-le-pow_right {n = 100} (lit< tt) h
@@ -54,19 +54,19 @@ pub byte_fits : (n b : ℕ) → n ≤ 200000000000000 → b < 256 → n * 100 + 
 byte_fits n b h k = omega (arith, div-add-mod' b 16)
 
 -- The first nibble, the next two digits and the others of a packed number.
-pub signs-packed : (x : Number) → digits x < 1000000000000000 → (16 * signs x + digits x / 100000000000000) / 16 ≡ signs x
+pub signs-packed : (x : Number) → packed_digits x < 1000000000000000 → (16 * signs x + packed_digits x / 100000000000000) / 16 ≡ signs x
 signs-packed x few =
-    let first : digits x / 100000000000000 < 10 = (div-lt_iff_lt-mul {x = digits x} {y = 10} (lit< tt)).1 few in
-    ap (λ t. t / 16) turned ∙ div-mul-add (signs x) 16 (digits x / 100000000000000) (omega arith)
+    let first : packed_digits x / 100000000000000 < 10 = (div-lt_iff_lt-mul {x = packed_digits x} {y = 10} (lit< tt)).1 few in
+    ap (λ t. t / 16) turned ∙ div-mul-add (signs x) 16 (packed_digits x / 100000000000000) (omega arith)
   where
-    turned : 16 * signs x + digits x / 100000000000000 ≡ signs x * 16 + digits x / 100000000000000
+    turned : 16 * signs x + packed_digits x / 100000000000000 ≡ signs x * 16 + packed_digits x / 100000000000000
     turned = omega arith
 
-pub digits-joined : (s d : ℕ) → d < 1000000000000000 → (s * 1000000000000000 + d) % 1000000000000000 ≡ d
-digits-joined s d h = mod-mul-add s 1000000000000000 d h
+pub packed_digits-joined : (s d : ℕ) → d < 1000000000000000 → (s * 1000000000000000 + d) % 1000000000000000 ≡ d
+packed_digits-joined s d h = mod-mul-add s 1000000000000000 d h
 
-pub exponent-digits : (x : Number) → IsNumber x → digits x / 10000000000000 ≡ exponent_size x
-exponent-digits x h = div-mul-add (exponent_size x) 10000000000000 x.coef h.digits
+pub exponent-packed_digits : (x : Number) → IsNumber x → packed_digits x / 10000000000000 ≡ exponent_size x
+exponent-packed_digits x h = div-mul-add (exponent_size x) 10000000000000 x.coef h.digits
 
-pub coef-digits : (x : Number) → IsNumber x → digits x % 10000000000000 ≡ x.coef
-coef-digits x h = mod-mul-add (exponent_size x) 10000000000000 x.coef h.digits
+pub coef-packed_digits : (x : Number) → IsNumber x → packed_digits x % 10000000000000 ≡ x.coef
+coef-packed_digits x h = mod-mul-add (exponent_size x) 10000000000000 x.coef h.digits

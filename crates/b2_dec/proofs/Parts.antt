@@ -9,7 +9,7 @@ use Rattle.b2_dec.specs.Arithmetic.{fits_64, whole_of}
 use Rattle.b2_dec.proofs.TenLemmas.{ten_pos, ten_le}
 use Rattle.b2_dec.proofs.Ranks.{something}
 
--- a size in units of one, where no digit stands behind the point
+-- a size in units of one, where no digit stands after the point
 pub size-high : (x : Number) → 111 ≤ x.place → size x ≡ x.coef * 10 ^ (x.place - 111) * 10 ^ 111
 size-high x h =
     let all : x.place - 111 + 111 ≡ x.place = sub-add_cancel h in

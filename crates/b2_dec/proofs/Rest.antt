@@ -6,7 +6,7 @@ use native.Mathlib.Nat.{lt-div-mul-add, zero-mod, eq_of_mul-eq-mul_right}
 use Rattle.b2_dec.specs.declared.number.Mode.{Mode}
 use Rattle.b2_dec.specs.Number.{Number, zero_number, IsNumber, size, value, signed}
 use Rattle.b2_dec.specs.Rounding.{rnd, rounded}
-use Rattle.b2_dec.specs.Arithmetic.{floored, floor_of, rest_of, whole_above, sum_of, product_of, times, onwards}
+use Rattle.b2_dec.specs.Arithmetic.{floored, floor_of, modulo_of, whole_above, sum_of, product_of, times, onwards}
 use Rattle.b2_dec.proofs.TenLemmas.{ten_pos}
 use Rattle.b2_dec.proofs.Signs.{rounded-signed, sum-other-sizes, size-lower, in_units, times-sub}
 use Rattle.b2_dec.proofs.Factors.{signed-mul}
@@ -85,38 +85,38 @@ missing-some m n some h rest =
     omega arith
 
 -- What is left of two numbers, by their sizes.
-pub rest_of-same : (mode : Mode) (a b : Number) → (b.coef ≡ 0 → ⊥) → a.neg ≡ b.neg → rest_of mode a b ≡ rnd mode b.neg (size a % size b) (10 ^ 111)
-rest_of-same mode a b some same =
+pub modulo_of-same : (mode : Mode) (a b : Number) → (b.coef ≡ 0 → ⊥) → a.neg ≡ b.neg → modulo_of mode a b ≡ rnd mode b.neg (size a % size b) (10 ^ 111)
+modulo_of-same mode a b some same =
     let more : 0 < size b = mul-pos {m = b.coef} (omega arith) (ten_pos b.place) in
     rw (ne_eqb b.coef 0 some)
     (ap (λ z. rounded mode z (10 ^ 111))
     (ap (λ s. signed s (size a) -ℤ value b *ℤ floor_of (signed s (size a)) (value b)) same ∙ rest-same b.neg (size a) (size b) more)
     ∙ rounded-signed mode b.neg (size a % size b) (10 ^ 111))
 
-rest_of-turned : (mode : Mode) (a b : Number) → (b.coef ≡ 0 → ⊥) → a.neg ≡ not b.neg → 0 < size a
-    → rest_of mode a b ≡ rnd mode b.neg (size b * whole_above (size a) (size b) - size a) (10 ^ 111)
-rest_of-turned mode a b some other here =
+modulo_of-turned : (mode : Mode) (a b : Number) → (b.coef ≡ 0 → ⊥) → a.neg ≡ not b.neg → 0 < size a
+    → modulo_of mode a b ≡ rnd mode b.neg (size b * whole_above (size a) (size b) - size a) (10 ^ 111)
+modulo_of-turned mode a b some other here =
     let more : 0 < size b = mul-pos {m = b.coef} (omega arith) (ten_pos b.place) in
     rw (ne_eqb b.coef 0 some)
     (ap (λ z. rounded mode z (10 ^ 111))
     (ap (λ s. signed s (size a) -ℤ value b *ℤ floor_of (signed s (size a)) (value b)) other ∙ rest-other b.neg (size a) (size b) here more)
     ∙ rounded-signed mode b.neg (size b * whole_above (size a) (size b) - size a) (10 ^ 111))
 
-pub rest_of-even : (mode : Mode) (a b : Number) → (b.coef ≡ 0 → ⊥) → a.neg ≡ not b.neg → 0 < size a → size a % size b ≡ 0
-    → rest_of mode a b ≡ rnd mode b.neg (size a % size b) (10 ^ 111)
-rest_of-even mode a b some other here e =
+pub modulo_of-even : (mode : Mode) (a b : Number) → (b.coef ≡ 0 → ⊥) → a.neg ≡ not b.neg → 0 < size a → size a % size b ≡ 0
+    → modulo_of mode a b ≡ rnd mode b.neg (size a % size b) (10 ^ 111)
+modulo_of-even mode a b some other here e =
     let more : 0 < size b = mul-pos {m = b.coef} (omega arith) (ten_pos b.place) in
-    rest_of-turned mode a b some other here ∙ ap (λ n. rnd mode b.neg n (10 ^ 111)) (missing-none (size a) (size b) here more e ∙ sym e)
+    modulo_of-turned mode a b some other here ∙ ap (λ n. rnd mode b.neg n (10 ^ 111)) (missing-none (size a) (size b) here more e ∙ sym e)
 
-pub rest_of-other : (mode : Mode) (a b : Number) → (b.coef ≡ 0 → ⊥) → a.neg ≡ not b.neg → 0 < size a → (size a % size b ≡ 0 → ⊥)
-    → rest_of mode a b ≡ rnd mode b.neg (size b - size a % size b) (10 ^ 111)
-rest_of-other mode a b some other here rest =
+pub modulo_of-other : (mode : Mode) (a b : Number) → (b.coef ≡ 0 → ⊥) → a.neg ≡ not b.neg → 0 < size a → (size a % size b ≡ 0 → ⊥)
+    → modulo_of mode a b ≡ rnd mode b.neg (size b - size a % size b) (10 ^ 111)
+modulo_of-other mode a b some other here rest =
     let more : 0 < size b = mul-pos {m = b.coef} (omega arith) (ten_pos b.place) in
-    rest_of-turned mode a b some other here ∙ ap (λ n. rnd mode b.neg n (10 ^ 111)) (missing-some (size a) (size b) here more rest)
+    modulo_of-turned mode a b some other here ∙ ap (λ n. rnd mode b.neg n (10 ^ 111)) (missing-some (size a) (size b) here more rest)
 
 -- The rest of zero is zero.
-pub rest_of-zero : (mode : Mode) (a b : Number) → (b.coef ≡ 0 → ⊥) → a.coef ≡ 0 → rest_of mode a b ≡ Ok zero_number
-rest_of-zero mode a b some none =
+pub modulo_of-zero : (mode : Mode) (a b : Number) → (b.coef ≡ 0 → ⊥) → a.coef ≡ 0 → modulo_of mode a b ≡ Ok zero_number
+modulo_of-zero mode a b some none =
     let more : 0 < size b = mul-pos {m = b.coef} (omega arith) (ten_pos b.place) in
     rw (ne_eqb b.coef 0 some)
     (ap (λ z. rounded mode z (10 ^ 111))
@@ -124,15 +124,15 @@ rest_of-zero mode a b some none =
     ∙ rounded-signed mode b.neg (0 % size b) (10 ^ 111) ∙ rnd-none mode b.neg (0 % size b) (10 ^ 111) (zero-mod (size b)))
 
 -- A smaller number of the same sign is left as it is.
-pub rest_of-small : (mode : Mode) (a b : Number) → IsNumber a → (b.coef ≡ 0 → ⊥) → a.neg ≡ b.neg → size a < size b → rest_of mode a b ≡ Ok a
-rest_of-small mode a b h some same less =
-    rest_of-same mode a b some same ∙ ap₂ (λ s n. rnd mode s n (10 ^ 111)) (sym same) (mod-eq_of_lt less) ∙ rnd-number mode a h
+pub modulo_of-small : (mode : Mode) (a b : Number) → IsNumber a → (b.coef ≡ 0 → ⊥) → a.neg ≡ b.neg → size a < size b → modulo_of mode a b ≡ Ok a
+modulo_of-small mode a b h some same less =
+    modulo_of-same mode a b some same ∙ ap₂ (λ s n. rnd mode s n (10 ^ 111)) (sym same) (mod-eq_of_lt less) ∙ rnd-number mode a h
 
 -- A smaller number of the other sign is added.
-pub rest_of-sum : (mode : Mode) (a b : Number) → (b.coef ≡ 0 → ⊥) → a.neg ≡ not b.neg → 0 < size a → size a < size b → rest_of mode a b ≡ sum_of mode a b
-rest_of-sum mode a b some other here less =
+pub modulo_of-sum : (mode : Mode) (a b : Number) → (b.coef ≡ 0 → ⊥) → a.neg ≡ not b.neg → 0 < size a → size a < size b → modulo_of mode a b ≡ sum_of mode a b
+modulo_of-sum mode a b some other here less =
     let itself : size a % size b ≡ size a = mod-eq_of_lt less in
-    rest_of-other mode a b some other here (λ e. let none : size a ≡ 0 = sym itself ∙ e in omega arith)
+    modulo_of-other mode a b some other here (λ e. let none : size a ≡ 0 = sym itself ∙ e in omega arith)
     ∙ ap (λ n. rnd mode b.neg (size b - n) (10 ^ 111)) itself
     ∙ sym (sum-other-sizes mode b a other (omega arith)) ∙ sum-comm mode b a
 
@@ -142,18 +142,18 @@ rest-units a b k h e = ap (λ n. n % size b) (size-lower a b.place k e) ∙ mul-
 
 pub rest-kept : (mode : Mode) (a b : Number) (k x q : ℕ) (s : Bool) (r : Result Number ℕ) → (b.coef ≡ 0 → ⊥) → 0 < size a → a.place ≡ b.place + k
     → x ≡ a.coef * 10 ^ k % b.coef → q ≡ b.place → s ≡ b.neg → (a.neg ≡ b.neg) ⊎ ((a.neg ≡ not b.neg) × (x ≡ 0))
-    → ((n d : ℕ) → 0 < d → x * (10 ^ (q + 111) * d) ≡ n * 10 ^ 222 → r ≡ rnd mode s n d) → r ≡ rest_of mode a b
+    → ((n d : ℕ) → 0 < d → x * (10 ^ (q + 111) * d) ≡ n * 10 ^ 222 → r ≡ rnd mode s n d) → r ≡ modulo_of mode a b
 rest-kept mode a b k x q s r some here apart ex eq es signs made =
     let more : 0 < b.coef = omega arith in
     let rest : size a % size b ≡ x * 10 ^ b.place = rest-units a b k more apart ∙ ap (λ t. t * 10 ^ b.place) (sym ex) in
     made (x * 10 ^ b.place) (10 ^ 111) (lit< tt) (rw eq (in_units x b.place))
     ∙ ap₂ (λ t n. rnd mode t n (10 ^ 111)) es (sym rest)
-    ∙ sym (⊎_elim (λ same. rest_of-same mode a b some same)
-    (λ other. rest_of-even mode a b some other.0 here (rest ∙ ap (λ t. t * 10 ^ b.place) other.1 ∙ zero-mul (10 ^ b.place))) signs)
+    ∙ sym (⊎_elim (λ same. modulo_of-same mode a b some same)
+    (λ other. modulo_of-even mode a b some other.0 here (rest ∙ ap (λ t. t * 10 ^ b.place) other.1 ∙ zero-mul (10 ^ b.place))) signs)
 
 pub rest-turned : (mode : Mode) (a b : Number) (k x q : ℕ) (s : Bool) (r : Result Number ℕ) → (b.coef ≡ 0 → ⊥) → 0 < size a → a.place ≡ b.place + k
     → x ≡ a.coef * 10 ^ k % b.coef → q ≡ b.place → s ≡ b.neg → a.neg ≡ not b.neg → (x ≡ 0 → ⊥) → (y : ℕ) → y ≡ b.coef
-    → ((n d : ℕ) → 0 < d → (y - x) * (10 ^ (q + 111) * d) ≡ n * 10 ^ 222 → r ≡ rnd mode s n d) → r ≡ rest_of mode a b
+    → ((n d : ℕ) → 0 < d → (y - x) * (10 ^ (q + 111) * d) ≡ n * 10 ^ 222 → r ≡ rnd mode s n d) → r ≡ modulo_of mode a b
 rest-turned mode a b k x q s r some here apart ex eq es other left y ey made =
     let more : 0 < b.coef = omega arith in
     let rest : size a % size b ≡ x * 10 ^ b.place = rest-units a b k more apart ∙ ap (λ t. t * 10 ^ b.place) (sym ex) in
@@ -162,4 +162,4 @@ rest-turned mode a b k x q s r some here apart ex eq es other left y ey made =
     made ((b.coef - x) * 10 ^ b.place) (10 ^ 111) (lit< tt) (rw (ey, eq) (in_units (b.coef - x) b.place))
     ∙ ap (λ t. rnd mode t ((b.coef - x) * 10 ^ b.place) (10 ^ 111)) es
     ∙ ap (λ n. rnd mode b.neg n (10 ^ 111)) (sym (times-sub b.coef x (10 ^ b.place)) ∙ ap (λ t. size b - t) (sym rest))
-    ∙ sym (rest_of-other mode a b some other here some')
+    ∙ sym (modulo_of-other mode a b some other here some')

@@ -1,6 +1,6 @@
 -- Square roots, and multiples of one unit.
 use Rattle.std.proofs.Common.{◌≡◌, ℕ, zero, suc, ◌+◌, ◌-◌, ◌*◌, ◌/◌, ◌%◌, ◌^◌, ◌<◌, ◌≤◌, sym, refl, ap, ap₂, ◌∙◌, subst, arith, lit<, lit≤, pow-add, mul_assoc, mul-pos, mul-le-mul, mul-le-mul_right, lt_of_le_of_lt, le-leb, add_comm, zero-mul, inl, inr, add-sub_of_le, Result, Ok, IsOk, Bool, false, div-lt_iff_lt-mul, le-ltb}
-use Rattle.b2_dec.proofs.Exact.{rnd-none, fitted-digits}
+use Rattle.b2_dec.proofs.Exact.{rnd-none, after_carry-digits}
 use Rattle.b2_dec.proofs.Rounds.{rnd-whole_part}
 use borrow.Author.Tests.{lt-leb}
 use Rattle.std.proofs.lemmas.Bool.{cases_lt}
@@ -34,7 +34,7 @@ root-high (suc n) =
       | inr above ↦ rw (le-leb _ _ above) (omega (arith, root-high n))
     ]
 
--- the root of digits with an even number of places behind them
+-- the root of digits with an even number of places after them
 pub root-part : (m r q : ℕ) → r * r ≤ m → m < (r + 1) * (r + 1) → (n : ℕ) → n ≡ m * (q * q) → 0 < q
     → (r * q ≤ root n) × (root n < (r + 1) * q)
 root-part m r q low high n e qpos =
@@ -147,7 +147,7 @@ pub cut-ok : (r at n d : ℕ) → 10000000000000 ≤ r → r < 100000000000000 �
 cut-ok r at n d least most low high dpos whole =
     let few : r / 10 < 10000000000000 = (div-lt_iff_lt-mul {x = r} {y = 10000000000000} (lit< tt)).1 most in
     let number : rnd Cut false n d ≡ Ok (record { neg = false; coef = r / 10; place = at + 1 - 111 }) =
-    rnd-whole_part Cut false r at n d 0 dpos whole least most ∙ fitted-digits false (r / 10) (at + 1) few ∙ in_range-ok (r / 10) (at + 1) (omega arith) (omega arith) in
+    rnd-whole_part Cut false r at n d 0 dpos whole least most ∙ after_carry-digits false (r / 10) (at + 1) few ∙ in_range-ok (r / 10) (at + 1) (omega arith) (omega arith) in
     subst IsOk (sym number) refl
   where
     in_range-ok : (c p : ℕ) → 111 ≤ p → p ≤ 309 → in_range false c p ≡ Ok (record { neg = false; coef = c; place = p - 111 })

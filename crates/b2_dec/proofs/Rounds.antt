@@ -3,14 +3,14 @@ use Rattle.std.proofs.Common.{◌≡◌, ℕ, suc, ◌+◌, ◌-◌, ◌*◌, �
 use Rattle.std.proofs.lemmas.Bool.{cases_lt, cases_Bool}
 use native.Mathlib.Nat.{pow-succ'}
 use Rattle.b2_dec.specs.declared.number.Mode.{Mode}
-use Rattle.b2_dec.specs.Rounding.{whole_by, place_of, fitted, of_units, rnd, IsWholePart}
+use Rattle.b2_dec.specs.Rounding.{whole_by, place_of, after_carry, of_units, rnd, IsWholePart}
 use Rattle.b2_dec.proofs.Quotients.{whole_by-parts, whole_by-least, whole_by-most}
 use Rattle.b2_dec.proofs.TenLemmas.{ten_pos, ten_le, ilog_of}
 use Rattle.b2_dec.proofs.Places.{place_of-is, place_of-top}
 
 -- Past the highest place every result is too large.
-pub fitted-large : (neg : Bool) (c p : ℕ) → 309 < p → fitted neg c p ≡ Err 61
-fitted-large neg c p h =
+pub after_carry-large : (neg : Bool) (c p : ℕ) → 309 < p → after_carry neg c p ≡ Err 61
+after_carry-large neg c p h =
     let up : 309 < p + 1 = omega arith in
     let far : 111 ≤ p = omega arith in
     let far' : 111 ≤ p + 1 = omega arith in
@@ -31,7 +31,7 @@ twice_five i = rw (pow-succ' 10 i) (omega arith)
 
 -- The digits and the place of a fraction in units, from a whole part of it.
 of_units-is : (mode : Mode) (neg : Bool) (m b n d i : ℕ) → 0 < d → m * (10 ^ b * d) ≤ n → n < (m + 1) * (10 ^ b * d)
-    → 10 ^ (13 + i) ≤ m → m < 10 ^ (14 + i) → of_units mode neg n d ≡ fitted neg (whole_by mode m (10 ^ suc i)) (b + suc i)
+    → 10 ^ (13 + i) ≤ m → m < 10 ^ (14 + i) → of_units mode neg n d ≡ after_carry neg (whole_by mode m (10 ^ suc i)) (b + suc i)
 unfolding of_units
 of_units-is mode neg m b n d i dpos low high least below =
     let more : m + 1 ≤ 10 ^ (14 + i) = omega arith in
@@ -44,11 +44,11 @@ of_units-is mode neg m b n d i dpos low high least below =
           let top : 10 ^ (13 + 309) * d ≤ n =
           le_trans (mul-le-mul_right d (ten_le (13 + 309) (12 + (b + suc i)) (omega arith))) least' in
           let here : place_of 310 n d ≡ 310 = place_of-top 309 n d top in
-          rw here (fitted-large neg (whole_by mode n (10 ^ 310 * d)) 310 (lit< tt)
-          ∙ sym (fitted-large neg (whole_by mode m (10 ^ suc i)) (b + suc i) (omega arith)))
+          rw here (after_carry-large neg (whole_by mode n (10 ^ 310 * d)) 310 (lit< tt)
+          ∙ sym (after_carry-large neg (whole_by mode m (10 ^ suc i)) (b + suc i) (omega arith)))
       | inr within ↦
           let here : place_of 310 n d ≡ b + suc i = place_of-is 310 n d (b + suc i) within least' below' in
-          rw here (ap (λ c. fitted neg c (b + suc i))
+          rw here (ap (λ c. after_carry neg c (b + suc i))
           (ap (whole_by mode n) (even b d i) ∙ whole_by-parts mode n (10 ^ b * d) m (5 * 10 ^ i) (mul-pos (ten_pos b) dpos) low high
           ∙ ap (whole_by mode m) (twice_five i)))
     ]
@@ -59,7 +59,7 @@ some_from_part m b n d dpos mpos whole none = absurd (omega (arith, mul-pos mpos
 
 -- The digits and the place of a fraction, from a whole part of it with fourteen digits or more.
 pub rnd-whole_part : (mode : Mode) (neg : Bool) (m b n d i : ℕ) → 0 < d → IsWholePart m b n d → 10 ^ (13 + i) ≤ m → m < 10 ^ (14 + i)
-    → rnd mode neg n d ≡ fitted neg (whole_by mode m (10 ^ suc i)) (b + suc i)
+    → rnd mode neg n d ≡ after_carry neg (whole_by mode m (10 ^ suc i)) (b + suc i)
 unfolding rnd
 rnd-whole_part mode neg m b n d i dpos whole least below =
     let some : n ≡ 0 → ⊥ = some_from_part m b n d dpos (lt_of_lt_of_le (ten_pos (13 + i)) least) whole in
@@ -67,7 +67,7 @@ rnd-whole_part mode neg m b n d i dpos whole least below =
 
 -- The same, as code finds it: r is one less than the number of digits of the whole part.
 pub rnd-from_digits : (mode : Mode) (neg : Bool) (m b n d r : ℕ) → 10000000000000 ≤ m → 10 ^ r ≤ m → m < 10 * 10 ^ r → 0 < d → IsWholePart m b n d
-    → fitted neg (whole_by mode m (10 ^ (r - 12))) (b + (r - 12)) ≡ rnd mode neg n d
+    → after_carry neg (whole_by mode m (10 ^ (r - 12))) (b + (r - 12)) ≡ rnd mode neg n d
 rnd-from_digits mode neg m b n d r large least below dpos whole =
     let high : 13 ≤ r = ilog_of m r 13 below large in
     let i : ℕ = r - 13 in

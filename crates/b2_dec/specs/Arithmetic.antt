@@ -60,20 +60,20 @@ floor_of x (pos d) = floored x d
 floor_of x (negsuc d) = floored (neg_ℤ x) (suc d)
 
 -- what is left of a number by another one: it has the sign of that one
-abbrev pub rest_of : Mode → Number → Number → Result Number ℕ
-rest_of mode a b =
+abbrev pub modulo_of : Mode → Number → Number → Result Number ℕ
+modulo_of mode a b =
     if b.coef == 0 then Err C62_ZERO_DIVISOR
     else rounded mode (value a -ℤ value b *ℤ floor_of (value a) (value b)) (10 ^ 111)
 
--- the place of the last digit that is kept, where n of them stand behind the point
-abbrev pub place_behind : ℤ → ℕ
-place_behind n = nat_abs (pos 111 -ℤ n)
+-- the place of the last digit that is kept, where n of them stand after the point
+abbrev pub place_after_point : ℤ → ℕ
+place_after_point n = nat_abs (pos 111 -ℤ n)
 
 -- the nearest multiple of 10^-n, a half away from zero, for n from -99 to 99
 abbrev pub multiple_of : Number → ℤ → Result Number ℕ
 multiple_of a n =
     if int_le (negsuc 98) n && int_le n (pos 99)
-    then (let unit = 10 ^ place_behind n in rnd Cut a.neg (whole_by Round (size a) unit * unit) (10 ^ 111))
+    then (let unit = 10 ^ place_after_point n in rnd Cut a.neg (whole_by Round (size a) unit * unit) (10 ^ 111))
     else Err P34_RANGE
 
 -- the greatest whole number whose square is not above a number
@@ -93,7 +93,7 @@ abbrev pub onwards : Result Number ℕ → (Number → Result Number ℕ) → Re
 onwards (Ok x) f = f x
 onwards (Err e) f = Err e
 
--- a number multiplied so many times by another one, and rounded each time
+-- a number multiplied n times by another one, and rounded each time
 abbrev pub times : Mode → ℕ → Number → Number → Result Number ℕ
 times mode zero a p = Ok p
 times mode (suc n) a p = onwards (product_of mode p a) (times mode n a)

@@ -11,8 +11,8 @@ abbrev pub signs : Number → ℕ
 signs x = (if x.neg then 1 else 0) + (if nat_lt x.place 99 then 8 else 0)
 
 -- fifteen digits: two of the exponent's size and thirteen of the number
-abbrev pub digits : Number → ℕ
-digits x = exponent_size x * 10000000000000 + x.coef
+abbrev pub packed_digits : Number → ℕ
+packed_digits x = exponent_size x * 10000000000000 + x.coef
 
 -- two decimal digits in a byte
 abbrev pub pair : ℕ → ℕ
@@ -25,13 +25,13 @@ pairs (suc k) n = pair (n / 100 ^ k % 100) ∷ pairs k n
 
 -- the nibble of the signs, and the digits
 abbrev pub packed : Number → List ℕ
-packed x = (16 * signs x + digits x / 100000000000000) ∷ pairs 7 (digits x)
+packed x = (16 * signs x + packed_digits x / 100000000000000) ∷ pairs 7 (packed_digits x)
 
 -- the digits in a byte
 abbrev pub pair_in : ℕ → ℕ
 pair_in b = b / 16 * 10 + b % 16
 
--- the digits in bytes, behind others
-abbrev pub joined : ℕ → List ℕ → ℕ
-joined n [] = n
-joined n (b ∷ bs) = joined (n * 100 + pair_in b) bs
+-- the number that the digits in bytes spell when they follow those of n
+abbrev pub pairs_value : ℕ → List ℕ → ℕ
+pairs_value n [] = n
+pairs_value n (b ∷ bs) = pairs_value (n * 100 + pair_in b) bs

@@ -23,14 +23,14 @@ in_range neg coef place =
     else Ok (record { neg = neg; coef = coef; place = place - 111 }))
 
 -- Where rounding leads to 10^13, the thirteen digits are 10^12 at the next place.
-abbrev pub fitted : Bool → ℕ → ℕ → Result Number ℕ
-fitted neg coef place =
+abbrev pub after_carry : Bool → ℕ → ℕ → Result Number ℕ
+after_carry neg coef place =
     if coef == 10000000000000 then in_range neg 1000000000000 (place + 1) else in_range neg coef place
 
 -- What thirteen digits n / d, counted in units of 10^-222, become: the digits are found at the place where thirteen of
 -- them stand before the point, and only then does it count whether the exponent is too small or too large.
 unfoldable pub of_units : Mode → Bool → ℕ → ℕ → Result Number ℕ
-of_units mode neg n d = let place = place_of 310 n d in fitted neg (whole_by mode n (10 ^ place * d)) place
+of_units mode neg n d = let place = place_of 310 n d in after_carry neg (whole_by mode n (10 ^ place * d)) place
 
 -- The number of thirteen digits that a fraction becomes, of a sign and of the size n / d. 10^-222 is the last digit of
 -- the smallest product, and smaller than any digit of a number.

@@ -13,8 +13,8 @@ pub record IsSpelled (a : Inside) : Type 0 where
   pub lowest : negsuc 98 ≤ℤ a.exponent
   pub number : IsNumber (seen a)
 
-abbrev pub fields : Number → Inside
-fields x = record { signed_digits = signed x.neg x.coef; exponent = pos x.place -ℤ pos 99 }
+abbrev pub inside_of : Number → Inside
+inside_of x = record { signed_digits = signed x.neg x.coef; exponent = pos x.place -ℤ pos 99 }
 
 exponent-back : (z : ℤ) → negsuc 98 ≤ℤ z → pos (nat_abs (z +ℤ pos 99)) -ℤ pos 99 ≡ z
 exponent-back z h = omega (arith, ints)
@@ -26,6 +26,6 @@ signed-back : (z : ℤ) → signed (int_lt z (pos 0)) (nat_abs z) ≡ z
 signed-back (pos n) = rw (int_lt_pos n) refl
 signed-back (negsuc n) = refl
 
-pub fields-seen : (a : Inside) → IsSpelled a → fields (seen a) ≡ a
-fields-seen a h =
+pub inside_of-seen : (a : Inside) → IsSpelled a → inside_of (seen a) ≡ a
+inside_of-seen a h =
     ap₂ (λ d e. record { signed_digits = d; exponent = e }) (signed-back a.signed_digits) (exponent-back a.exponent h.lowest)

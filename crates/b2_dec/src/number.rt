@@ -30,15 +30,15 @@ impl Model for Dec {
 
     ghost Value = { Number };
 
-    ghost use Rattle.b2_dec.specs.Spelling.{seen, IsSpelled, fields, fields-seen};
+    ghost use Rattle.b2_dec.specs.Spelling.{seen, IsSpelled, inside_of, inside_of-seen};
 
     ghost view = { seen };
 
     ghost invariant = { IsSpelled };
 
-    ghost inverse = { fields };
+    ghost inverse = { inside_of };
 
-    ghost inverse_ok = { fields-seen };
+    ghost inverse_ok = { inside_of-seen };
 }
 
 impl Dec {
@@ -85,7 +85,7 @@ impl Dec {
     }
 
     /// The place of the last digit, counted from 10^-111: from 0 to 198, and 99 for zero.
-    pub(crate) fn place(self) -> u32
+    pub fn place(self) -> u32
         ensures value { result ≡ self.place }
         ensures highest { result ≤ 198 }
     {
@@ -102,7 +102,7 @@ impl Dec {
         }
     }
 
-    /// True for zero.
+    /// Whether the number is zero.
     pub fn is_zero(self) -> bool
         ensures zero { result ≡ (self.coef == 0) }
         ensures spelling { IsNumber self }
@@ -110,7 +110,7 @@ impl Dec {
         self.signed_digits == 0
     }
 
-    /// True for numbers below zero.
+    /// Whether the number is below zero.
     pub fn is_negative(self) -> bool
         ensures value { result ≡ self.neg }
         ensures spelling { IsNumber self }

@@ -40,7 +40,7 @@ pub fn unpack(b: &[u8; 8]) -> Option<Dec>
 fn decoded(b: &[u8; 8]) -> Option<Dec>
     ensures { (x : Number) → IsNumber x → b.now ≡ packed x → result ≡ Some x }
 {
-    let n = joined(b) % 1_000_000_000_000_000;
+    let n = pairs_value(b) % 1_000_000_000_000_000;
     candidate(
         b[0] / 16,
         (n / 10_000_000_000_000) as u8,
@@ -64,10 +64,10 @@ fn candidate(signs: u8, size: u8, coef: u64) -> Option<Dec>
     Some(Dec::at(signs % 2 == 1, coef, place))
 }
 
-/// All sixteen nibbles as digits.
-fn joined(bytes: &[u8]) -> u64
+/// The number that all nibbles of the bytes spell as digits.
+fn pairs_value(bytes: &[u8]) -> u64
     requires { length bytes.now ≤ 8 }
-    ensures { result ≡ spec.joined 0 bytes.now }
+    ensures { result ≡ spec.pairs_value 0 bytes.now }
 {
     let mut n = 0;
     for byte in bytes {

@@ -3,7 +3,7 @@ ghost use Rattle.std.specs.Prelude.{◌≡◌, ◌*◌, ◌%◌, ◌^◌, ◌<�
 ghost use Rattle.b2_dec.specs.declared.number.Mode.TheVariants.{Round, Cut};
 ghost use Rattle.b2_dec.specs.Number.{size};
 ghost use Rattle.b2_dec.specs.Rounding.{whole_by, rnd};
-ghost use Rattle.b2_dec.specs.Arithmetic.{rest_of, multiple_of};
+ghost use Rattle.b2_dec.specs.Arithmetic.{modulo_of, multiple_of};
 
 use crate::number::{Dec, Mode};
 use crate::rounding::{round_exact, ten_to};
@@ -14,7 +14,7 @@ use b2_base::codes::{C62_ZERO_DIVISOR, P34_RANGE};
 /// What is left of `a` by `b`: `a - b * floor(a / b)`, rounded. C62 for a zero divisor; C60 and C61 where it is too small
 /// or too large.
 pub fn modulo(a: Dec, b: Dec, m: Mode) -> Result<Dec, Code>
-    ensures { result ≡ rest_of m a b }
+    ensures { result ≡ modulo_of m a b }
 {
     let (x, y) = (a.coefficient(), b.coefficient());
     if y == 0 {

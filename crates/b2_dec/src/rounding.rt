@@ -88,11 +88,11 @@ fn in_range(neg: bool, coef: u64, place: u32) -> Result<Dec, Code>
 }
 
 /// The same where rounding may have led to 10^13.
-fn fitted(neg: bool, coef: u64, place: u32) -> Result<Dec, Code>
+fn after_carry(neg: bool, coef: u64, place: u32) -> Result<Dec, Code>
     requires least { 1000000000000 ≤ coef }
     requires digits { coef ≤ 10000000000000 }
     requires highest { place < 2 ^ 31 }
-    ensures { result ≡ spec.fitted neg coef place }
+    ensures { result ≡ spec.after_carry neg coef place }
 {
     if coef == ABOVE {
         in_range(neg, 1_000_000_000_000, place + 1)
@@ -124,7 +124,7 @@ pub fn round_whole_part(neg: bool, m: u128, at: u32, mode: Mode) -> Result<Dec, 
 {
     let dropped = m.ilog10() - 12;
     let coef = whole_by(mode, m, dropped);
-    fitted(neg, coef as u64, at + dropped)
+    after_carry(neg, coef as u64, at + dropped)
 }
 
 /// What the exact number `m · 10 ^ at`, counted from 10^-222, becomes.

@@ -49,13 +49,14 @@ impl Bytes {
         self.items.len()
     }
 
-    /// True where there are none.
+    /// Whether there are none.
     pub fn is_empty(&self) -> bool
         ensures { result ≡ (length self.now == 0) }
     {
         self.items.is_empty()
     }
 
+    /// All bytes.
     pub fn bytes(&self) -> &[u8]
         ensures value { result.now ≡ self.now }
         ensures bound { length result.now ≤ 255 }
@@ -124,6 +125,7 @@ impl ValueList {
         ValueList { values }
     }
 
+    /// The values.
     pub fn values(&self) -> &[Value]
         ensures { result.now ≡ self.now }
     {
@@ -161,6 +163,7 @@ impl KindList {
         KindList { kinds }
     }
 
+    /// The kinds.
     pub fn kinds(&self) -> &[Kind]
         ensures { result.now ≡ self.now }
     {

@@ -1,18 +1,23 @@
 -- How many bytes of a text there are, by what it begins with.
-use Rattle.std.proofs.Common.{◌≡◌, ℕ, ◌<◌, ◌≤◌, true, List, [], ◌∷◌, length, take, arith, ap, ◌∙◌}
-use Rattle.std.proofs.lemmas.List.Sums.{prefix_len_passes}
+use Rattle.std.proofs.Common.{◌≡◌, ℕ, ◌<◌, ◌≤◌, true, List, [], ◌∷◌, length, take, arith, ap, ◌∙◌, ◌==◌, eqb-true}
+use Rattle.std.proofs.lemmas.List.Sums.{prefix_len_passes, prefix_len-le-length}
 use Rattle.std.proofs.lemmas.List.{get_or-take, length-take}
-use Rattle.std.specs.Char.{is_ascii_digit}
-use Rattle.b2_dectext.specs.Digits.{digits_len, AreDigits}
-use Rattle.b2_dectext.specs.NumberText.{begins}
+use Rattle.std.specs.List.{prefix_len}
+use Rattle.b2_base.proofs.DigitsWidth.{digits_width-prefix_len}
+use Rattle.b2_base.specs.Lexical.{is_digit, digits_width, first}
+use Rattle.b2_dectext.specs.Digits.{AreDigits}
 
-pub begins-some : (b : ℕ) (text : List ℕ) → begins b text ≡ true → 0 < length text
-begins-some b [] e = absurd (cc)
-begins-some b (c ∷ cs) e = omega arith
+pub first-some : (b : ℕ) (text : List ℕ) → 0 < b → (first text == b) ≡ true → 0 < length text
+first-some b [] some e = absurd (omega (arith, eqb-true 0 b e))
+first-some b (c ∷ cs) some e = omega arith
 
-pub digits_at_front : (text : List ℕ) (n : ℕ) → n ≤ digits_len text → AreDigits (take n text)
+pub digits_width-le-length : (text : List ℕ) → digits_width text ≤ length text
+digits_width-le-length text = rw (digits_width-prefix_len text) (prefix_len-le-length is_digit text)
+
+pub digits_at_front : (text : List ℕ) (n : ℕ) → n ≤ digits_width text → AreDigits (take n text)
 digits_at_front text n few = record {
   each = λ k h.
       let below : k < n = omega (arith, length-take n text) in
-      ap is_ascii_digit (get_or-take n text k 0 below) ∙ prefix_len_passes is_ascii_digit text k 0 (omega arith);
+      let passed : k < prefix_len is_digit text = omega (arith, digits_width-prefix_len text) in
+      ap is_digit (get_or-take n text k 0 below) ∙ prefix_len_passes is_digit text k 0 passed;
 }

@@ -3,37 +3,38 @@ use Rattle.std.proofs.Common.{Result, Bool, ◌≡◌, ℕ, suc, ◌+◌, ◌<�
 use Rattle.std.proofs.Math.Seq.{drop-append_seam, take-append_seam}
 use Rattle.std.proofs.lemmas.Bool.{eqb-false}
 use Rattle.std.proofs.lemmas.List.{length-take-le, take-append-drop}
-use Rattle.std.proofs.lemmas.List.Sums.{prefix_len-le-length}
-use Rattle.std.specs.Char.{is_ascii_digit}
+use Rattle.b2_base.specs.Byte as byte
+use Rattle.b2_base.specs.Lexical.{is_digit, digits_width, first}
 use Rattle.b2_dec.specs.Number.{Number}
-use Rattle.b2_dectext.specs.Digits.{digits_len, AreDigits}
-use Rattle.b2_dectext.specs.NumberText.{Parts, begins, sign_len, unsigned, whole_part, fraction_part, point_len, mantissa_len, exponent_digits, exponent_len, number_len, number_value, parts_of, value_of}
-use Rattle.b2_dectext.specs.Grammar.{Sign, Spelling, sign_text, point_text, exponent_text, spelled, behind, parts, is_minus, IsSpelling, IsNumberText, IsLongest}
+use Rattle.b2_dectext.specs.Digits.{AreDigits}
+use Rattle.b2_dectext.specs.NumberText.{Parts, sign_len, unsigned, whole_part, fraction_part, point_len, mantissa_len, exponent_digits, exponent_len, number_len, number_value, parts_of, value_of}
+use Rattle.b2_dectext.specs.Grammar.{Sign, Spelling, sign_text, point_text, exponent_text, spelled, fraction_digits, parts, is_minus, IsSpelling, IsNumberText, IsLongest}
 use Rattle.b2_dectext.specs.Grammar as grammar
+use Rattle.b2_dectext.proofs.Lengths.{digits_width-le-length}
 use Rattle.b2_dectext.proofs.Spellings.{read-number}
 
 digits_rest : (d : ℕ) (ds : List ℕ) → AreDigits (d ∷ ds) → AreDigits ds
 digits_rest d ds h = record { each = λ k below. h.each (suc k) (omega arith) }
 
-first_digit : (d : ℕ) (ds : List ℕ) → AreDigits (d ∷ ds) → is_ascii_digit d ≡ true
+first_digit : (d : ℕ) (ds : List ℕ) → AreDigits (d ∷ ds) → is_digit d ≡ true
 first_digit d ds h = h.each 0 (omega arith)
 
 -- digits at the front are counted first
-digits_len-append : (ds t : List ℕ) → AreDigits ds → digits_len (ds ++ t) ≡ length ds + digits_len t
-digits_len-append [] t h = omega arith
-digits_len-append (d ∷ ds) t h =
-    let more : digits_len (ds ++ t) ≡ length ds + digits_len t = digits_len-append ds t (digits_rest d ds h) in
+digits_width-append : (ds t : List ℕ) → AreDigits ds → digits_width (ds ++ t) ≡ length ds + digits_width t
+digits_width-append [] t h = omega arith
+digits_width-append (d ∷ ds) t h =
+    let more : digits_width (ds ++ t) ≡ length ds + digits_width t = digits_width-append ds t (digits_rest d ds h) in
     rw (first_digit d ds h) (omega arith)
 
-not_sign : (b d : ℕ) → is_ascii_digit b ≡ false → is_ascii_digit d ≡ true → (d == b) ≡ false
-not_sign b d other digit = ne_eqb d b (λ e. let both : is_ascii_digit b ≡ true = subst (λ x. is_ascii_digit x ≡ true) e digit in absurd (cc (other, both)))
+not_sign : (b d : ℕ) → is_digit b ≡ false → is_digit d ≡ true → (d == b) ≡ false
+not_sign b d other digit = ne_eqb d b (λ e. let both : is_digit b ≡ true = subst (λ x. is_digit x ≡ true) e digit in absurd (cc (other, both)))
 
 -- a text that begins with a digit or a point
 pub record IsBody (text : List ℕ) : Type 0 where
-  pub plus : begins 43 text ≡ false
-  pub minus : begins 45 text ≡ false
+  pub plus : (first text == byte.plus) ≡ false
+  pub minus : (first text == byte.minus) ≡ false
 
-digit_body : (d : ℕ) (t : List ℕ) → is_ascii_digit d ≡ true → IsBody (d ∷ t)
+digit_body : (d : ℕ) (t : List ℕ) → is_digit d ≡ true → IsBody (d ∷ t)
 digit_body d t h = record { plus = not_sign 43 d refl h; minus = not_sign 45 d refl h }
 
 sign-skipped : (g : Sign) (t : List ℕ) → IsBody t → sign_len (sign_text g ++ t) ≡ length (sign_text g)
@@ -56,44 +57,44 @@ exponent-read g (d ∷ ds) t h few =
     let apart : text ≡ sign_text g ++ (all ++ t) = append_assoc (sign_text g) all t in
     let skipped : sign_len text ≡ length (sign_text g) = ap sign_len apart ∙ sign-skipped g (all ++ t) body in
     let rest : unsigned text ≡ all ++ t = ap unsigned apart ∙ unsigned-skipped g (all ++ t) body in
-    let count : digits_len (all ++ t) ≡ length all + digits_len t = digits_len-append all t h in
-    let within : digits_len (all ++ t) ≤ length (all ++ t) = prefix_len-le-length is_ascii_digit (all ++ t) in
-    let found : length (take (min (digits_len (unsigned text)) 2) (unsigned text)) ≡ min (digits_len (all ++ t)) 2 =
-    ap (λ u. length (take (min (digits_len u) 2) u)) rest ∙ length-take-le (min (digits_len (all ++ t)) 2) (all ++ t) (omega arith) in
-    let some : (length (take (min (digits_len (unsigned text)) 2) (unsigned text)) == 0) ≡ false = ne_eqb _ 0 (λ e. absurd (omega arith)) in
+    let count : digits_width (all ++ t) ≡ length all + digits_width t = digits_width-append all t h in
+    let within : digits_width (all ++ t) ≤ length (all ++ t) = digits_width-le-length (all ++ t) in
+    let found : length (take (min (digits_width (unsigned text)) 2) (unsigned text)) ≡ min (digits_width (all ++ t)) 2 =
+    ap (λ u. length (take (min (digits_width u) 2) u)) rest ∙ length-take-le (min (digits_width (all ++ t)) 2) (all ++ t) (omega arith) in
+    let some : (length (take (min (digits_width (unsigned text)) 2) (unsigned text)) == 0) ≡ false = ne_eqb _ 0 (λ e. absurd (omega arith)) in
     rw some (omega (arith, length-append (sign_text g) all))
 
-mantissa-is : (body : List ℕ) → 0 < digits_len body + length (fraction_part (drop (digits_len body) body))
-    → mantissa_len body ≡ digits_len body + point_len (drop (digits_len body) body)
+mantissa-is : (body : List ℕ) → 0 < digits_width body + length (fraction_part (drop (digits_width body) body))
+    → mantissa_len body ≡ digits_width body + point_len (drop (digits_width body) body)
 unfolding mantissa_len
 mantissa-is body some =
-    let other : (digits_len body + length (fraction_part (drop (digits_len body) body)) == 0) ≡ false = ne_eqb _ 0 (λ e. absurd (omega arith)) in
+    let other : (digits_width body + length (fraction_part (drop (digits_width body) body)) == 0) ≡ false = ne_eqb _ 0 (λ e. absurd (omega arith)) in
     rw other refl
 
-fraction-count : (t : List ℕ) → length (fraction_part (46 ∷ t)) ≡ digits_len t
+fraction-count : (t : List ℕ) → length (fraction_part (46 ∷ t)) ≡ digits_width t
 unfolding fraction_part
-fraction-count t = length-take-le (digits_len t) t (prefix_len-le-length is_ascii_digit t)
+fraction-count t = length-take-le (digits_width t) t (digits_width-le-length t)
 
-fraction-none : (t : List ℕ) → begins 46 t ≡ false → fraction_part t ≡ []
+fraction-none : (t : List ℕ) → (first t == byte.point) ≡ false → fraction_part t ≡ []
 unfolding fraction_part
 fraction-none t none = rw none refl
 
-point-none : (t : List ℕ) → begins 46 t ≡ false → point_len t ≡ 0
+point-none : (t : List ℕ) → (first t == byte.point) ≡ false → point_len t ≡ 0
 point-none t none = rw none refl
 
--- where a point stands behind the digits
+-- where a point stands after the digits
 record IsPointed (body : List ℕ) (n fraction : ℕ) : Type 0 where
-  digits : digits_len body ≡ n
-  count : length (fraction_part (drop (digits_len body) body)) ≡ fraction
-  point : point_len (drop (digits_len body) body) ≡ 1 + fraction
+  digits : digits_width body ≡ n
+  count : length (fraction_part (drop (digits_width body) body)) ≡ fraction
+  point : point_len (drop (digits_width body) body) ≡ 1 + fraction
 
-pointed : (w fs r : List ℕ) → AreDigits w → AreDigits fs → IsPointed (w ++ (46 ∷ (fs ++ r))) (length w) (length fs + digits_len r)
+pointed : (w fs r : List ℕ) → AreDigits w → AreDigits fs → IsPointed (w ++ (46 ∷ (fs ++ r))) (length w) (length fs + digits_width r)
 pointed w fs r hw hf =
     let t : List ℕ = 46 ∷ (fs ++ r) in
-    let stop : digits_len t ≡ 0 = refl in
-    let n : digits_len (w ++ t) ≡ length w = omega (arith, digits_len-append w t hw, stop) in
-    let here : drop (digits_len (w ++ t)) (w ++ t) ≡ t = ap (λ k. drop k (w ++ t)) n ∙ drop-append_seam w t in
-    let count : length (fraction_part t) ≡ length fs + digits_len r = fraction-count (fs ++ r) ∙ digits_len-append fs r hf in
+    let stop : digits_width t ≡ 0 = refl in
+    let n : digits_width (w ++ t) ≡ length w = omega (arith, digits_width-append w t hw, stop) in
+    let here : drop (digits_width (w ++ t)) (w ++ t) ≡ t = ap (λ k. drop k (w ++ t)) n ∙ drop-append_seam w t in
+    let count : length (fraction_part t) ≡ length fs + digits_width r = fraction-count (fs ++ r) ∙ digits_width-append fs r hf in
     record {
       digits = n;
       count = ap (λ u. length (fraction_part u)) here ∙ count;
@@ -101,22 +102,22 @@ pointed w fs r hw hf =
     }
 
 -- at least as many bytes are read as are spelled before the exponent
-mantissa-least : (w r : List ℕ) (f : Option (List ℕ)) → AreDigits w → AreDigits (behind f) → 0 < length w + length (behind f)
+mantissa-least : (w r : List ℕ) (f : Option (List ℕ)) → AreDigits w → AreDigits (fraction_digits f) → 0 < length w + length (fraction_digits f)
     → length w + length (point_text f) ≤ mantissa_len (w ++ (point_text f ++ r))
 mantissa-least w r None hw hf some =
-    let n : digits_len (w ++ r) ≡ length w + digits_len r = digits_len-append w r hw in
+    let n : digits_width (w ++ r) ≡ length w + digits_width r = digits_width-append w r hw in
     let m = mantissa-is (w ++ r) (omega arith) in omega arith
 mantissa-least w r (Some fs) hw hf some =
     let p = pointed w fs r hw hf in
     let m = mantissa-is (w ++ (46 ∷ (fs ++ r))) (omega (arith, p.digits, p.count)) in omega (arith, p.digits, p.point, m)
 
 -- and exactly as many where no digit and no point follows
-mantissa-exact : (w r : List ℕ) (f : Option (List ℕ)) → AreDigits w → AreDigits (behind f) → 0 < length w + length (behind f)
-    → digits_len r ≡ 0 → begins 46 r ≡ false → mantissa_len (w ++ (point_text f ++ r)) ≡ length w + length (point_text f)
+mantissa-exact : (w r : List ℕ) (f : Option (List ℕ)) → AreDigits w → AreDigits (fraction_digits f) → 0 < length w + length (fraction_digits f)
+    → digits_width r ≡ 0 → (first r == byte.point) ≡ false → mantissa_len (w ++ (point_text f ++ r)) ≡ length w + length (point_text f)
 mantissa-exact w r None hw hf some stop none =
-    let n : digits_len (w ++ r) ≡ length w = omega (arith, digits_len-append w r hw) in
-    let here : drop (digits_len (w ++ r)) (w ++ r) ≡ r = ap (λ k. drop k (w ++ r)) n ∙ drop-append_seam w r in
-    let last : point_len (drop (digits_len (w ++ r)) (w ++ r)) ≡ 0 = ap point_len here ∙ point-none r none in
+    let n : digits_width (w ++ r) ≡ length w = omega (arith, digits_width-append w r hw) in
+    let here : drop (digits_width (w ++ r)) (w ++ r) ≡ r = ap (λ k. drop k (w ++ r)) n ∙ drop-append_seam w r in
+    let last : point_len (drop (digits_width (w ++ r)) (w ++ r)) ≡ 0 = ap point_len here ∙ point-none r none in
     let m = mantissa-is (w ++ r) (omega arith) in omega (arith, n, last, m)
 mantissa-exact w r (Some fs) hw hf some stop none =
     let p = pointed w fs r hw hf in
@@ -126,8 +127,8 @@ mantissa-skipped : (w r : List ℕ) (f : Option (List ℕ)) → drop (length w +
 mantissa-skipped w r f =
     ap₂ drop (sym (length-append w (point_text f))) (sym (append_assoc w (point_text f) r)) ∙ drop-append_seam (w ++ point_text f) r
 
--- as many bytes are read as are spelled behind the sign
-body-least : (w : List ℕ) (f : Option (List ℕ)) (g : Sign) (ds t : List ℕ) → AreDigits w → AreDigits (behind f) → 0 < length w + length (behind f)
+-- as many bytes are read as are spelled after the sign
+body-least : (w : List ℕ) (f : Option (List ℕ)) (g : Sign) (ds t : List ℕ) → AreDigits w → AreDigits (fraction_digits f) → 0 < length w + length (fraction_digits f)
     → AreDigits ds → length ds ≤ 2
     → let body = w ++ (point_text f ++ (exponent_text g ds ++ t)) in
     length w + length (point_text f) + length (exponent_text g ds) ≤ mantissa_len body + exponent_len (drop (mantissa_len body) body)
@@ -141,7 +142,7 @@ body-least w f g (d ∷ ds) t hw hf some hd few =
     let same : exponent_len (drop (mantissa_len body) body) ≡ exponent_len r = ap exponent_len here in
     omega (arith, m, e, same)
 
-body-begins : (w : List ℕ) (f : Option (List ℕ)) (r : List ℕ) → AreDigits w → 0 < length w + length (behind f) → IsBody (w ++ (point_text f ++ r))
+body-begins : (w : List ℕ) (f : Option (List ℕ)) (r : List ℕ) → AreDigits w → 0 < length w + length (fraction_digits f) → IsBody (w ++ (point_text f ++ r))
 body-begins [] None r hw some = absurd (omega arith)
 body-begins [] (Some fs) r hw some = record { plus = refl; minus = refl }
 body-begins (d ∷ ds) f r hw some = digit_body d (ds ++ (point_text f ++ r)) (first_digit d ds hw)
@@ -153,7 +154,7 @@ apart a b c d t =
 pub spelled-length : (a b c d : List ℕ) → length (a ++ (b ++ (c ++ d))) ≡ length a + (length b + length c + length d)
 spelled-length a b c d = omega (arith, length-append a (b ++ (c ++ d)), length-append b (c ++ d), length-append c d)
 
-pub some_text : (w : List ℕ) (f : Option (List ℕ)) → 0 < length w + length (behind f) → length w + length (point_text f) ≤ 0 → ⊥
+pub some_text : (w : List ℕ) (f : Option (List ℕ)) → 0 < length w + length (fraction_digits f) → length w + length (point_text f) ≤ 0 → ⊥
 some_text w None some none = omega arith
 some_text w (Some fs) some none = omega arith
 
@@ -195,24 +196,24 @@ pub record IsReadWhole (text : List ℕ) (number : Result Number ℕ) : Type 0 w
   pub some : 0 < number_len text
   pub value : number_value text ≡ number
 
-sign-begins : (g : Sign) (t : List ℕ) → IsBody t → begins 45 (sign_text g ++ t) ≡ is_minus g
+sign-begins : (g : Sign) (t : List ℕ) → IsBody t → (first (sign_text g ++ t) == byte.minus) ≡ is_minus g
 sign-begins grammar.unsigned t h = h.minus
 sign-begins grammar.plus t h = refl
 sign-begins grammar.minus t h = refl
 
-whole-exact : (w : List ℕ) (f : Option (List ℕ)) → AreDigits w → AreDigits (behind f) → digits_len (w ++ (point_text f ++ [])) ≡ length w
-whole-exact w None hw hf = omega (arith, digits_len-append w [] hw)
+whole-exact : (w : List ℕ) (f : Option (List ℕ)) → AreDigits w → AreDigits (fraction_digits f) → digits_width (w ++ (point_text f ++ [])) ≡ length w
+whole-exact w None hw hf = omega (arith, digits_width-append w [] hw)
 whole-exact w (Some fs) hw hf = let p = pointed w fs [] hw hf in p.digits
 
-fraction-exact : (f : Option (List ℕ)) → AreDigits (behind f) → fraction_part (point_text f ++ []) ≡ behind f
+fraction-exact : (f : Option (List ℕ)) → AreDigits (fraction_digits f) → fraction_part (point_text f ++ []) ≡ fraction_digits f
 unfolding fraction_part
 fraction-exact None hf = refl
 fraction-exact (Some fs) hf =
-    let n : digits_len (fs ++ []) ≡ length fs = omega (arith, digits_len-append fs [] hf) in
+    let n : digits_width (fs ++ []) ≡ length fs = omega (arith, digits_width-append fs [] hf) in
     ap (λ k. take k (fs ++ [])) n ∙ take-append_seam fs []
 
 made : Bool → List ℕ → List ℕ → List ℕ → Parts
-made neg w f rest = record { neg = neg; whole = w; fraction = f; exponent_neg = begins 45 (drop 1 rest); exponent = exponent_digits rest }
+made neg w f rest = record { neg = neg; whole = w; fraction = f; exponent_neg = (first (drop 1 rest) == byte.minus); exponent = exponent_digits rest }
 
 no_exponent : exponent_digits [] ≡ []
 unfolding exponent_digits
@@ -223,20 +224,20 @@ unfolding exponent_len exponent_digits
 no_exponent_len = refl
 
 parts-made : (text body : List ℕ) → unsigned text ≡ body
-    → parts_of text ≡ made (begins 45 text) (whole_part body) (fraction_part (drop (digits_len body) body)) (drop (mantissa_len body) body)
+    → parts_of text ≡ made (first text == byte.minus) (whole_part body) (fraction_part (drop (digits_width body) body)) (drop (mantissa_len body) body)
 unfolding parts_of made
 parts-made text body same =
-    ap (λ u. made (begins 45 text) (whole_part u) (fraction_part (drop (digits_len u) u)) (drop (mantissa_len u) u)) same
+    ap (λ u. made (first text == byte.minus) (whole_part u) (fraction_part (drop (digits_width u) u)) (drop (mantissa_len u) u)) same
 
-made-plain : (g : Sign) (w : List ℕ) (f : Option (List ℕ)) → made (is_minus g) w (behind f) [] ≡ parts (plain g w f)
+made-plain : (g : Sign) (w : List ℕ) (f : Option (List ℕ)) → made (is_minus g) w (fraction_digits f) [] ≡ parts (plain g w f)
 unfolding made
-made-plain g w f = ap (λ e. record { neg = is_minus g; whole = w; fraction = behind f; exponent_neg = false; exponent = e }) no_exponent
+made-plain g w f = ap (λ e. record { neg = is_minus g; whole = w; fraction = fraction_digits f; exponent_neg = false; exponent = e }) no_exponent
 
-whole_part-is : (w r : List ℕ) → digits_len (w ++ r) ≡ length w → whole_part (w ++ r) ≡ w
+whole_part-is : (w r : List ℕ) → digits_width (w ++ r) ≡ length w → whole_part (w ++ r) ≡ w
 unfolding whole_part
 whole_part-is w r n = ap (λ k. take k (w ++ r)) n ∙ take-append_seam w r
 
-pub plain-read : (g : Sign) (w : List ℕ) (f : Option (List ℕ)) → AreDigits w → AreDigits (behind f) → 0 < length w + length (behind f)
+pub plain-read : (g : Sign) (w : List ℕ) (f : Option (List ℕ)) → AreDigits w → AreDigits (fraction_digits f) → 0 < length w + length (fraction_digits f)
     → IsReadWhole (spelled (plain g w f)) (value_of (parts (plain g w f)))
 unfolding number_len
 plain-read g w f hw hf some =
@@ -246,10 +247,10 @@ plain-read g w f hw hf some =
     let begun : IsBody body = body-begins w f [] hw some in
     let sign : sign_len text ≡ length (sign_text g) = sign-skipped g body begun in
     let same : unsigned text ≡ body = unsigned-skipped g body begun in
-    let n : digits_len body ≡ length w = whole-exact w f hw hf in
+    let n : digits_width body ≡ length w = whole-exact w f hw hf in
     let m : mantissa_len body ≡ length w + length (point_text f) = mantissa-exact w [] f hw hf some refl refl in
     let end : drop (mantissa_len body) body ≡ [] = ap (λ k. drop k body) m ∙ mantissa-skipped w [] f in
-    let here : drop (digits_len body) body ≡ rest = ap (λ k. drop k body) n ∙ drop-append_seam w rest in
+    let here : drop (digits_width body) body ≡ rest = ap (λ k. drop k body) n ∙ drop-append_seam w rest in
     let found : mantissa_len (unsigned text) ≡ mantissa_len body = ap mantissa_len same in
     let there : (mantissa_len (unsigned text) == 0) ≡ false = ne_eqb _ 0 (λ e. absurd (some_text w f some (omega (arith, m, found, e)))) in
     let none : exponent_len (drop (mantissa_len (unsigned text)) (unsigned text)) ≡ 0 =
@@ -260,9 +261,9 @@ plain-read g w f hw hf some =
       some = let first : mantissa_len (unsigned text) ≡ 0 → ⊥ = eqb-false _ 0 there in rw there (omega arith);
       value = ap value_of (
           parts-made text body same
-          ∙ ap (λ b. made b (whole_part body) (fraction_part (drop (digits_len body) body)) (drop (mantissa_len body) body)) (sign-begins g body begun)
-          ∙ ap (λ t. made (is_minus g) t (fraction_part (drop (digits_len body) body)) (drop (mantissa_len body) body)) (whole_part-is w rest n)
+          ∙ ap (λ b. made b (whole_part body) (fraction_part (drop (digits_width body) body)) (drop (mantissa_len body) body)) (sign-begins g body begun)
+          ∙ ap (λ t. made (is_minus g) t (fraction_part (drop (digits_width body) body)) (drop (mantissa_len body) body)) (whole_part-is w rest n)
           ∙ ap (λ t. made (is_minus g) w t (drop (mantissa_len body) body)) (ap fraction_part here ∙ fraction-exact f hf)
-          ∙ ap (made (is_minus g) w (behind f)) end
+          ∙ ap (made (is_minus g) w (fraction_digits f)) end
           ∙ made-plain g w f);
     }

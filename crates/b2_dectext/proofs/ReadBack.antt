@@ -4,10 +4,10 @@ use native.Mathlib.Nat.{pow-succ'}
 use Rattle.std.proofs.Math.Arith.{mod-mul}
 use Rattle.std.proofs.Math.Seq.{take-append_seam}
 use Rattle.std.proofs.lemmas.Bool.{cases_Bool, cases_lt, leb-true}
+use Rattle.b2_base.specs.Lexical.{is_digit}
 use Rattle.b2_dectext.proofs.Putting.{shown_size-fixed}
 use Rattle.std.proofs.lemmas.List.{append-nil, length-take, length-take-le, length-reverse, reverse-append, reverse-reverse, take-append-drop, length-drop, get_or-take, get_or-drop}
 use Rattle.std.proofs.lemmas.List.Sums.{fold-append}
-use Rattle.std.specs.Char.{is_ascii_digit}
 use Rattle.std.specs.List.{prefix_len, suffix_len}
 use Rattle.b2_dec.specs.declared.number.Mode.TheVariants.{Round}
 use Rattle.b2_dec.specs.Number.{Number, IsNumber, zero_number}
@@ -16,29 +16,29 @@ use Rattle.b2_dec.proofs.TenLemmas.{ten_pos}
 use Rattle.b2_dec.proofs.Exact.{rnd-digits, in_range-number, rnd-zero}
 use Rattle.b2_dec.proofs.Ranks.{thirteen}
 use Rattle.b2_dectext.specs.NumberText.{number_len, number_read, in_result, value_of}
-use Rattle.b2_dectext.specs.Printed.{behind_point, with_point, is_plain, shown_size, without_spaces, printed}
-use Rattle.b2_dectext.specs.Grammar.{Sign, Spelling, sign_text, point_text, spelled, behind, parts, is_minus}
+use Rattle.b2_dectext.specs.Printed.{after_point, with_point, is_plain, shown_size, without_spaces, printed}
+use Rattle.b2_dectext.specs.Grammar.{Sign, Spelling, sign_text, point_text, spelled, fraction_digits, parts, is_minus}
 use Rattle.b2_dectext.specs.Grammar as grammar
 use Rattle.b2_dectext.proofs.Longest.{plain, plain-read, IsReadWhole}
-use Rattle.b2_dectext.specs.Digits.{digit, digits, trimmed, AreDigits, value_after, digits_value}
+use Rattle.b2_dectext.specs.Digits.{digit_byte, digit_bytes, without_last_zeros, AreDigits, value_after, digits_value}
 
 -- The last k digits of n write n, where it has no more.
-digits-value : (k m n : ℕ) → value_after m (digits k n) ≡ m * 10 ^ k + n % 10 ^ k
-unfolding digits
-digits-value zero m n = omega arith
-digits-value (suc k) m n =
+digit_bytes-value : (k m n : ℕ) → value_after m (digit_bytes k n) ≡ m * 10 ^ k + n % 10 ^ k
+unfolding digit_bytes
+digit_bytes-value zero m n = omega arith
+digit_bytes-value (suc k) m n =
     let d : ℕ = n / 10 ^ k % 10 in
-    let rest : value_after (10 * m + (48 + d - 48)) (digits k n) ≡ (10 * m + (48 + d - 48)) * 10 ^ k + n % 10 ^ k = digits-value k (10 * m + (48 + d - 48)) n in
+    let rest : value_after (10 * m + (48 + d - 48)) (digit_bytes k n) ≡ (10 * m + (48 + d - 48)) * 10 ^ k + n % 10 ^ k = digit_bytes-value k (10 * m + (48 + d - 48)) n in
     let parted : n % (10 * 10 ^ k) ≡ d * 10 ^ k + n % 10 ^ k = mod-mul n {m = 10} {c = 10 ^ k} (lit< tt) (ten_pos k) in
     let plain : 48 + d - 48 ≡ d = omega arith in
     rest ∙ ap (λ e. (10 * m + e) * 10 ^ k + n % 10 ^ k) plain ∙ rw (pow-succ' 10 k, parted) (omega arith)
 
-digits-length : (k n : ℕ) → length (digits k n) ≡ k
-unfolding digits
-digits-length zero n = refl
-digits-length (suc k) n = ap suc (digits-length k n)
+digit_bytes-length : (k n : ℕ) → length (digit_bytes k n) ≡ k
+unfolding digit_bytes
+digit_bytes-length zero n = refl
+digit_bytes-length (suc k) n = ap suc (digit_bytes-length k n)
 
-is-digit : (n k : ℕ) → is_ascii_digit (digit k n) ≡ true
+is-digit : (n k : ℕ) → is_digit (digit_byte k n) ≡ true
 is-digit n k =
     let d : ℕ = n / 10 ^ k % 10 in
     let small : d < 10 = mod-lt (n / 10 ^ k) (lit< tt) in
@@ -46,13 +46,13 @@ is-digit n k =
     let high : 48 + d ≤ 57 = omega arith in
     rw (le-leb _ _ low, le-leb _ _ high) refl
 
-digits_at : (k n i : ℕ) → i < length (digits k n) → is_ascii_digit (get_or (digits k n) i 0) ≡ true
-unfolding digits
+digits_at : (k n i : ℕ) → i < length (digit_bytes k n) → is_digit (get_or (digit_bytes k n) i 0) ≡ true
+unfolding digit_bytes
 digits_at zero n i h = absurd (omega arith)
 digits_at (suc k) n zero h = is-digit n k
 digits_at (suc k) n (suc i) h = digits_at k n i (omega arith)
 
-pub are_digits : (k n : ℕ) → AreDigits (digits k n)
+pub are_digits : (k n : ℕ) → AreDigits (digit_bytes k n)
 are_digits k n = record { each = digits_at k n }
 
 -- zeros at the end
@@ -90,15 +90,15 @@ zeros-front (x ∷ xs) =
       | inr other ↦ rw other refl
     ]
 
-trimmed-split : (ds : List ℕ) → ds ≡ trimmed ds ++ zeros (suffix_len (λ d. d == 48) ds)
-trimmed-split ds =
+without_last_zeros-split : (ds : List ℕ) → ds ≡ without_last_zeros ds ++ zeros (suffix_len (λ d. d == 48) ds)
+without_last_zeros-split ds =
     let n : ℕ = suffix_len (λ d. d == 48) ds in
     let kept : List ℕ = reverse (drop n (reverse ds)) in
     let all : ds ≡ kept ++ zeros n =
     sym (reverse-reverse ds) ∙ ap reverse (sym (take-append-drop n (reverse ds)) ∙ ap (λ t. t ++ drop n (reverse ds)) (zeros-front (reverse ds)))
     ∙ reverse-append (zeros n) (drop n (reverse ds)) ∙ ap (λ t. kept ++ t) (zeros-reverse n) in
     let long : length kept ≡ length ds - n = omega (arith, length-reverse (drop n (reverse ds)), length-drop n (reverse ds), length-reverse ds) in
-    let front : trimmed ds ≡ kept = ap (take (length ds - n)) all ∙ ap (λ k. take k (kept ++ zeros n)) (sym long) ∙ take-append_seam kept (zeros n) in
+    let front : without_last_zeros ds ≡ kept = ap (take (length ds - n)) all ∙ ap (λ k. take k (kept ++ zeros n)) (sym long) ∙ take-append_seam kept (zeros n) in
     all ∙ ap (λ t. t ++ zeros n) (sym front)
 
 sign_for : Bool → Sign
@@ -118,50 +118,50 @@ unfolding sign_for
 sign_for-minus true = refl
 sign_for-minus false = refl
 
-fraction_for-text : (ds : List ℕ) → point_text (fraction_for ds) ++ [] ≡ behind_point ds
+fraction_for-text : (ds : List ℕ) → point_text (fraction_for ds) ++ [] ≡ after_point ds
 unfolding fraction_for
 fraction_for-text [] = refl
 fraction_for-text (d ∷ ds) = append-nil (46 ∷ d ∷ ds)
 
-fraction_for-behind : (ds : List ℕ) → behind (fraction_for ds) ≡ ds
+fraction_for-digits : (ds : List ℕ) → fraction_digits (fraction_for ds) ≡ ds
 unfolding fraction_for
-fraction_for-behind [] = refl
-fraction_for-behind (d ∷ ds) = refl
+fraction_for-digits [] = refl
+fraction_for-digits (d ∷ ds) = refl
 
 take_digits : (n : ℕ) (ds : List ℕ) → AreDigits ds → AreDigits (take n ds)
 take_digits n ds h = record {
   each = λ k below.
       let within : k < n = omega (arith, length-take n ds) in
       let there : k < length ds = omega (arith, length-take n ds) in
-      ap is_ascii_digit (get_or-take n ds k 0 within) ∙ h.each k there;
+      ap is_digit (get_or-take n ds k 0 within) ∙ h.each k there;
 }
 
 drop_digits : (n : ℕ) (ds : List ℕ) → AreDigits ds → AreDigits (drop n ds)
 drop_digits n ds h = record {
   each = λ k below.
       let there : n + k < length ds = omega (arith, length-drop n ds) in
-      ap is_ascii_digit (get_or-drop n ds k 0) ∙ h.each (n + k) there;
+      ap is_digit (get_or-drop n ds k 0) ∙ h.each (n + k) there;
 }
 
 -- the digits that are shown are those of the number, but for the last zeros
 shown-digits : (n c : ℕ) → n ≤ 13 → c < 10000000000000
-    → digits_value (take n (digits 13 c) ++ trimmed (drop n (digits 13 c))) * 10 ^ suffix_len (λ d. d == 48) (drop n (digits 13 c)) ≡ c
+    → digits_value (take n (digit_bytes 13 c) ++ without_last_zeros (drop n (digit_bytes 13 c))) * 10 ^ suffix_len (λ d. d == 48) (drop n (digit_bytes 13 c)) ≡ c
 shown-digits n c few small =
-    let ds : List ℕ = digits 13 c in
+    let ds : List ℕ = digit_bytes 13 c in
     let w : List ℕ = take n ds in
-    let t : List ℕ = trimmed (drop n ds) in
+    let t : List ℕ = without_last_zeros (drop n ds) in
     let z : ℕ = suffix_len (λ d. d == 48) (drop n ds) in
     let all : ds ≡ (w ++ t) ++ zeros z =
-    sym (take-append-drop n ds) ∙ ap (λ u. w ++ u) (trimmed-split (drop n ds)) ∙ sym (append_assoc w t (zeros z)) in
+    sym (take-append-drop n ds) ∙ ap (λ u. w ++ u) (without_last_zeros-split (drop n ds)) ∙ sym (append_assoc w t (zeros z)) in
     let rest : c % 10000000000000 ≡ c = mod-eq_of_lt small in
-    let value : digits_value ds ≡ c = digits-value 13 0 c ∙ omega (arith, rest) in
+    let value : digits_value ds ≡ c = digit_bytes-value 13 0 c ∙ omega (arith, rest) in
     sym (zeros-value z (digits_value (w ++ t))) ∙ sym (fold-append (λ m d. 10 * m + (d - 48)) 0 (w ++ t) (zeros z)) ∙ ap digits_value (sym all) ∙ value
 
-shown-count : (n c : ℕ) → n ≤ 13 → length (trimmed (drop n (digits 13 c))) + suffix_len (λ d. d == 48) (drop n (digits 13 c)) ≡ 13 - n
+shown-count : (n c : ℕ) → n ≤ 13 → length (without_last_zeros (drop n (digit_bytes 13 c))) + suffix_len (λ d. d == 48) (drop n (digit_bytes 13 c)) ≡ 13 - n
 shown-count n c few =
-    let rest : List ℕ = drop n (digits 13 c) in
-    let long : length rest ≡ 13 - n = omega (arith, length-drop n (digits 13 c), digits-length 13 c) in
-    let split : length rest ≡ length (trimmed rest) + length (zeros (suffix_len (λ d. d == 48) rest)) = ap length (trimmed-split rest) ∙ length-append (trimmed rest) (zeros (suffix_len (λ d. d == 48) rest)) in
+    let rest : List ℕ = drop n (digit_bytes 13 c) in
+    let long : length rest ≡ 13 - n = omega (arith, length-drop n (digit_bytes 13 c), digit_bytes-length 13 c) in
+    let split : length rest ≡ length (without_last_zeros rest) + length (zeros (suffix_len (λ d. d == 48) rest)) = ap length (without_last_zeros-split rest) ∙ length-append (without_last_zeros rest) (zeros (suffix_len (λ d. d == 48) rest)) in
     omega (arith, long, split, zeros-length (suffix_len (λ d. d == 48) rest))
 
 no_item : (xs : List ℕ) → length xs ≡ 0 → xs ≡ []
@@ -169,10 +169,10 @@ no_item [] e = refl
 no_item (x ∷ xs) e = absurd (omega arith)
 
 -- a number other than zero shows a digit
-shown-some : (n c : ℕ) → n ≤ 13 → c < 10000000000000 → 1000000000000 ≤ c → 0 < n + length (trimmed (drop n (digits 13 c)))
+shown-some : (n c : ℕ) → n ≤ 13 → c < 10000000000000 → 1000000000000 ≤ c → 0 < n + length (without_last_zeros (drop n (digit_bytes 13 c)))
 shown-some n c few small least =
-    let ds : List ℕ = digits 13 c in
-    let t : List ℕ = trimmed (drop n ds) in
+    let ds : List ℕ = digit_bytes 13 c in
+    let t : List ℕ = without_last_zeros (drop n ds) in
     let shown : List ℕ = take n ds ++ t in
     elim (cases_lt 0 (n + length t)) [
       | inl some ↦ some
@@ -211,7 +211,7 @@ zero-value : value_of (parts (plain grammar.unsigned (48 ∷ []) None)) ≡ Ok z
 unfolding value_of
 zero-value = rnd-zero Round false 1
 
-zero-digit : (k : ℕ) → k < 1 → is_ascii_digit (get_or (48 ∷ []) k 0) ≡ true
+zero-digit : (k : ℕ) → k < 1 → is_digit (get_or (48 ∷ []) k 0) ≡ true
 zero-digit zero h = refl
 zero-digit (suc k) h = absurd (omega arith)
 
@@ -221,36 +221,36 @@ zero-back =
     (plain-read grammar.unsigned (48 ∷ []) None (record { each = zero-digit }) (record { each = λ k h. absurd (omega arith) }) (omega arith))
 
 number-shown : (x : Number) → (x.coef == 0) ≡ false → 98 ≤ x.place → x.place ≤ 111
-    → spelled (plain (sign_for x.neg) (take (x.place - 98) (digits 13 x.coef)) (fraction_for (trimmed (drop (x.place - 98) (digits 13 x.coef))))) ≡ without_spaces x
+    → spelled (plain (sign_for x.neg) (take (x.place - 98) (digit_bytes 13 x.coef)) (fraction_for (without_last_zeros (drop (x.place - 98) (digit_bytes 13 x.coef))))) ≡ without_spaces x
 unfolding with_point
 number-shown x some low high =
-    let w : List ℕ = take (x.place - 98) (digits 13 x.coef) in
-    ap₂ (λ s b. s ++ (w ++ b)) (sign_for-text x.neg) (fraction_for-text (trimmed (drop (x.place - 98) (digits 13 x.coef))))
+    let w : List ℕ = take (x.place - 98) (digit_bytes 13 x.coef) in
+    ap₂ (λ s b. s ++ (w ++ b)) (sign_for-text x.neg) (fraction_for-text (without_last_zeros (drop (x.place - 98) (digit_bytes 13 x.coef))))
     ∙ ap (λ t. (if x.neg then 45 ∷ [] else []) ++ t) (shown_size-fixed x some low high)
 
 number-value : (x : Number) (w t : List ℕ) → rnd Round x.neg (digits_value (w ++ t) * 10 ^ 0) (10 ^ (length t + 0)) ≡ Ok x
     → value_of (parts (plain (sign_for x.neg) w (fraction_for t))) ≡ Ok x
 unfolding value_of
 number-value x w t h =
-    ap (λ s. rnd Round s (digits_value (w ++ behind (fraction_for t)) * 10 ^ 0) (10 ^ (length (behind (fraction_for t)) + 0))) (sign_for-minus x.neg)
-    ∙ ap (λ u. rnd Round x.neg (digits_value (w ++ u) * 10 ^ 0) (10 ^ (length u + 0))) (fraction_for-behind t) ∙ h
+    ap (λ s. rnd Round s (digits_value (w ++ fraction_digits (fraction_for t)) * 10 ^ 0) (10 ^ (length (fraction_digits (fraction_for t)) + 0))) (sign_for-minus x.neg)
+    ∙ ap (λ u. rnd Round x.neg (digits_value (w ++ u) * 10 ^ 0) (10 ^ (length u + 0))) (fraction_for-digits t) ∙ h
 
 number-back : (x : Number) → IsNumber x → (x.coef == 0) ≡ false → 98 ≤ x.place → x.place ≤ 111 → IsReadWhole (without_spaces x) (Ok x)
 number-back x h some low high =
     let n : ℕ = x.place - 98 in
-    let ds : List ℕ = digits 13 x.coef in
+    let ds : List ℕ = digit_bytes 13 x.coef in
     let w : List ℕ = take n ds in
-    let t : List ℕ = trimmed (drop n ds) in
+    let t : List ℕ = without_last_zeros (drop n ds) in
     let z : ℕ = suffix_len (λ d. d == 48) (drop n ds) in
     let few : n ≤ 13 = omega arith in
     let least : 1000000000000 ≤ x.coef = thirteen x h (λ e. let zero_there : (x.coef == 0) ≡ true = eq-eqb x.coef 0 e in absurd (cc (some, zero_there))) in
     let value : digits_value (w ++ t) * 10 ^ z ≡ x.coef = shown-digits n x.coef few h.digits in
     let count : length t + z ≡ 13 - n = shown-count n x.coef few in
     let place : length t + z + x.place ≡ 111 = omega arith in
-    let fraction : behind (fraction_for t) ≡ t = fraction_for-behind t in
+    let fraction : fraction_digits (fraction_for t) ≡ t = fraction_for-digits t in
     let rest_digits : AreDigits t = take_digits _ (drop n ds) (drop_digits n ds (are_digits 13 x.coef)) in
-    let long : length w ≡ n = length-take-le n ds (omega (arith, digits-length 13 x.coef)) in
-    let any : 0 < length w + length (behind (fraction_for t)) = rw fraction (omega (arith, long, shown-some n x.coef few h.digits least)) in
+    let long : length w ≡ n = length-take-le n ds (omega (arith, digit_bytes-length 13 x.coef)) in
+    let any : 0 < length w + length (fraction_digits (fraction_for t)) = rw fraction (omega (arith, long, shown-some n x.coef few h.digits least)) in
     read_as _ _ _ _ (number-shown x some low high) (number-value x w t (shown-number x (digits_value (w ++ t)) z (length t) least h value place))
     (plain-read (sign_for x.neg) w (fraction_for t) (take_digits n ds (are_digits 13 x.coef)) (subst AreDigits (sym fraction) rest_digits) any)
 

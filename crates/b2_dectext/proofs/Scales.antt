@@ -4,10 +4,10 @@ use Rattle.std.proofs.lemmas.Bool.{cases_lt, cases_Bool, lt-leb}
 use native.Mathlib.Nat.{mul-lt-mul_of_pos_right}
 use Rattle.b2_dec.specs.declared.number.Mode.TheVariants.{Round}
 use Rattle.b2_dec.specs.Number.{zero_number}
-use Rattle.b2_dec.specs.Rounding.{rnd, of_units, place_of, fitted, in_range, IsWholePart}
+use Rattle.b2_dec.specs.Rounding.{rnd, of_units, place_of, after_carry, in_range, IsWholePart}
 use Rattle.b2_dec.proofs.TenLemmas.{ten_pos, ten_le, ten_lt, ten_lt_back}
 use Rattle.b2_dec.proofs.Places.{place_of-top}
-use Rattle.b2_dec.proofs.Rounds.{fitted-large, rnd-whole_part}
+use Rattle.b2_dec.proofs.Rounds.{after_carry-large, rnd-whole_part}
 use Rattle.b2_dec.proofs.Quotients.{half_of}
 use Rattle.b2_dec.proofs.Exact.{rnd-none, filled-rnd}
 use Rattle.std.proofs.lemmas.List.Sums.{fold-append}
@@ -46,8 +46,8 @@ place_of-low (suc k) n d p below =
           rw (le-leb _ _ more) (omega arith)
     ]
 
-fitted-small : (neg : Bool) (c p : ℕ) → p ≤ 109 → fitted neg c p ≡ Err 60
-fitted-small neg c p h =
+after_carry-small : (neg : Bool) (c p : ℕ) → p ≤ 109 → after_carry neg c p ≡ Err 60
+after_carry-small neg c p h =
     let here : p < 111 = omega arith in
     let next : p + 1 < 111 = omega arith in
     elim (cases_Bool (c == 10000000000000)) [
@@ -57,13 +57,13 @@ fitted-small neg c p h =
 
 pub rnd-small : (neg : Bool) (n d : ℕ) → (n ≡ 0 → ⊥) → n * 10 ^ 222 < 10 ^ (13 + 109) * d → rnd Round neg n d ≡ Err 60
 unfolding rnd of_units
-rnd-small neg n d some below = rw (ne_eqb n 0 some) (fitted-small neg _ _ (place_of-low 310 (n * 10 ^ 222) d 109 below))
+rnd-small neg n d some below = rw (ne_eqb n 0 some) (after_carry-small neg _ _ (place_of-low 310 (n * 10 ^ 222) d 109 below))
 
 pub rnd-large : (neg : Bool) (n d : ℕ) → (n ≡ 0 → ⊥) → 10 ^ (13 + 309) * d ≤ n * 10 ^ 222 → rnd Round neg n d ≡ Err 61
 unfolding rnd of_units
 rnd-large neg n d some above =
     let top : place_of 310 (n * 10 ^ 222) d ≡ 310 = place_of-top 309 (n * 10 ^ 222) d above in
-    rw (ne_eqb n 0 some, top) (fitted-large neg _ 310 (lit< tt))
+    rw (ne_eqb n 0 some, top) (after_carry-large neg _ 310 (lit< tt))
 
 -- the units of the fraction
 in_tens : (n tens : ℕ) → n * 10 ^ tens * 10 ^ 222 ≡ n * 10 ^ (tens + 222)

@@ -5,11 +5,11 @@ use Rattle.std.proofs.Math.Seq.{take-add, drop-append_seam, take-append_seam, ge
 use Rattle.std.proofs.lemmas.Bool.{cases_Bool, cases_lt, eqb-false}
 use Rattle.std.proofs.lemmas.List.{length-take, length-take-le, drop-drop, get_or-take, take-append-drop}
 use Rattle.std.proofs.lemmas.List.Sums.{prefix_len_passes}
-use Rattle.std.specs.Char.{is_ascii_digit}
+use Rattle.b2_base.specs.Lexical.{is_digit}
 use Rattle.b2_dec.specs.Number.{Number}
 use Rattle.b2_dectext.specs.Digits.{AreDigits}
 use Rattle.b2_dectext.specs.NumberText.{number_len, number_value, spaces_len, spaced_number_len}
-use Rattle.b2_dectext.specs.Grammar.{Sign, Spelling, sign_text, point_text, exponent_text, spelled, behind, IsSpelling, IsNumberText, IsLongest, AreSpaces, IsSpacedNumber, IsLongestSpaced}
+use Rattle.b2_dectext.specs.Grammar.{Sign, Spelling, sign_text, point_text, exponent_text, spelled, fraction_digits, IsSpelling, IsNumberText, IsLongest, AreSpaces, IsSpacedNumber, IsLongestSpaced}
 use Rattle.b2_dectext.specs.Grammar as grammar
 use Rattle.b2_dectext.proofs.Longest.{longest-read, spelled-length, some_text}
 
@@ -37,7 +37,7 @@ spaceless-one b other = record { each = λ k below e. other (sym (one_at b k (om
 
 spaceless-digits : (ds : List ℕ) → AreDigits ds → IsSpaceless ds
 spaceless-digits ds h = record {
-  each = λ k below e. let digit : is_ascii_digit 32 ≡ true = subst (λ b. is_ascii_digit b ≡ true) e (h.each k below) in absurd (cc digit);
+  each = λ k below e. let digit : is_digit 32 ≡ true = subst (λ b. is_digit b ≡ true) e (h.each k below) in absurd (cc digit);
 }
 
 spaceless-sign : (g : Sign) → IsSpaceless (sign_text g)
@@ -45,7 +45,7 @@ spaceless-sign grammar.unsigned = spaceless-none
 spaceless-sign grammar.plus = spaceless-one 43 (λ e. omega arith)
 spaceless-sign grammar.minus = spaceless-one 45 (λ e. omega arith)
 
-spaceless-point : (f : Option (List ℕ)) → AreDigits (behind f) → IsSpaceless (point_text f)
+spaceless-point : (f : Option (List ℕ)) → AreDigits (fraction_digits f) → IsSpaceless (point_text f)
 spaceless-point None h = spaceless-none
 spaceless-point (Some ds) h = spaceless-append (46 ∷ []) ds (spaceless-one 46 (λ e. omega arith)) (spaceless-digits ds h)
 

@@ -3,20 +3,20 @@ use Rattle.std.proofs.Common.{◌≡◌, ℕ, zero, suc, ◌+◌, ◌<◌, ◌�
 use Rattle.std.proofs.Math.Seq.{take-add}
 use Rattle.std.proofs.lemmas.Bool.{cases_Bool, eqb-false}
 use Rattle.std.proofs.lemmas.List.{length-take, length-take-le, drop-drop}
-use Rattle.std.proofs.lemmas.List.Sums.{prefix_len-le-length}
-use Rattle.std.specs.Char.{is_ascii_digit}
-use Rattle.b2_dectext.specs.Digits.{digits_len, AreDigits}
-use Rattle.b2_dectext.specs.NumberText.{begins, sign_len, unsigned, whole_part, fraction_part, point_len, mantissa_len, exponent_digits, exponent_len, number_len, parts_of, value_of, number_value}
-use Rattle.b2_dectext.specs.Grammar.{Sign, Spelling, sign_text, point_text, exponent_text, spelled, behind, parts, IsSpelling, IsNumberText, is_minus}
+use Rattle.b2_base.specs.Byte as byte
+use Rattle.b2_base.specs.Lexical.{is_digit, digits_width, first}
+use Rattle.b2_dectext.specs.Digits.{AreDigits}
+use Rattle.b2_dectext.specs.NumberText.{sign_len, unsigned, whole_part, fraction_part, point_len, mantissa_len, exponent_digits, exponent_len, number_len, parts_of, value_of, number_value}
+use Rattle.b2_dectext.specs.Grammar.{Sign, Spelling, sign_text, point_text, exponent_text, spelled, fraction_digits, parts, IsSpelling, IsNumberText, is_minus}
 use Rattle.b2_dectext.specs.Grammar as grammar
-use Rattle.b2_dectext.proofs.Lengths.{digits_at_front}
+use Rattle.b2_dectext.proofs.Lengths.{digits_at_front, digits_width-le-length}
 
 -- the sign, the point with its digits, and the sign of the exponent at the front of a text
 abbrev pub sign_of : List ℕ → Sign
-sign_of text = if begins 43 text then grammar.plus else (if begins 45 text then grammar.minus else grammar.unsigned)
+sign_of text = if (first text == byte.plus) then grammar.plus else (if (first text == byte.minus) then grammar.minus else grammar.unsigned)
 
 abbrev pub point_of : List ℕ → Option (List ℕ)
-point_of text = if begins 46 text then Some (fraction_part text) else None
+point_of text = if (first text == byte.point) then Some (fraction_part text) else None
 
 pub sign-front : (text : List ℕ) → take (sign_len text) text ≡ sign_text (sign_of text)
 unfolding sign_len
@@ -30,7 +30,7 @@ sign-front (c ∷ cs) =
       ])
     ]
 
-pub sign-minus : (text : List ℕ) → is_minus (sign_of text) ≡ begins 45 text
+pub sign-minus : (text : List ℕ) → is_minus (sign_of text) ≡ (first text == byte.minus)
 sign-minus [] = refl
 sign-minus (c ∷ cs) =
     elim (cases_Bool (c == 43)) [
@@ -41,28 +41,28 @@ sign-minus (c ∷ cs) =
 take_next : (n : ℕ) (c : ℕ) (cs : List ℕ) → take (1 + n) (c ∷ cs) ≡ c ∷ take n cs
 take_next n c cs = ap (λ k. take k (c ∷ cs)) (one-add n)
 
-whole-length : (text : List ℕ) → length (take (digits_len text) text) ≡ digits_len text
-whole-length text = length-take-le (digits_len text) text (prefix_len-le-length is_ascii_digit text)
+whole-length : (text : List ℕ) → length (take (digits_width text) text) ≡ digits_width text
+whole-length text = length-take-le (digits_width text) text (digits_width-le-length text)
 
 pub point-front : (text : List ℕ) → take (point_len text) text ≡ point_text (point_of text)
 unfolding fraction_part
 point-front [] = refl
 point-front (c ∷ cs) =
     elim (cases_Bool (c == 46)) [
-      | inl point ↦ rw point (take_next (length (take (digits_len cs) cs)) c cs
+      | inl point ↦ rw point (take_next (length (take (digits_width cs) cs)) c cs
           ∙ ap₂ (λ b n. b ∷ take n cs) (eqb-true c 46 point) (whole-length cs))
       | inr none ↦ rw none refl
     ]
 
-pub behind-point : (text : List ℕ) → behind (point_of text) ≡ fraction_part text
+pub fraction_digits-point : (text : List ℕ) → fraction_digits (point_of text) ≡ fraction_part text
 unfolding fraction_part
-behind-point text = elim (cases_Bool (begins 46 text)) [ inl point ↦ rw point refl | inr none ↦ rw none refl ]
+fraction_digits-point text = elim (cases_Bool (first text == byte.point)) [ inl point ↦ rw point refl | inr none ↦ rw none refl ]
 
 pub fraction-digits : (text : List ℕ) → AreDigits (fraction_part text)
 unfolding fraction_part
 fraction-digits text =
-    elim (cases_Bool (begins 46 text)) [
-      | inl point ↦ rw point (digits_at_front (drop 1 text) (digits_len (drop 1 text)) (omega arith))
+    elim (cases_Bool (first text == byte.point)) [
+      | inl point ↦ rw point (digits_at_front (drop 1 text) (digits_width (drop 1 text)) (omega arith))
       | inr none ↦ rw none (record { each = λ k h. absurd (omega arith) })
     ]
 
@@ -87,41 +87,41 @@ unfolding exponent_len exponent_digits
 exponent-front [] = refl
 exponent-front (c ∷ cs) =
     elim (cases_Bool (c == 69)) [
-      | inl here ↦ rw here (exponent-written cs (take (min (digits_len (unsigned cs)) 2) (unsigned cs)) c (eqb-true c 69 here) (front_again (min (digits_len (unsigned cs)) 2) (unsigned cs)))
+      | inl here ↦ rw here (exponent-written cs (take (min (digits_width (unsigned cs)) 2) (unsigned cs)) c (eqb-true c 69 here) (front_again (min (digits_width (unsigned cs)) 2) (unsigned cs)))
       | inr none ↦ rw none refl
     ]
 
 pub exponent-digits : (text : List ℕ) → AreDigits (exponent_digits text)
 unfolding exponent_digits
 exponent-digits text =
-    elim (cases_Bool (begins 69 text)) [
-      | inl here ↦ rw here (digits_at_front (unsigned (drop 1 text)) (min (digits_len (unsigned (drop 1 text))) 2) (omega arith))
+    elim (cases_Bool (first text == byte.upper_e)) [
+      | inl here ↦ rw here (digits_at_front (unsigned (drop 1 text)) (min (digits_width (unsigned (drop 1 text))) 2) (omega arith))
       | inr none ↦ rw none (record { each = λ k h. absurd (omega arith) })
     ]
 
 pub exponent-few : (text : List ℕ) → length (exponent_digits text) ≤ 2
 unfolding exponent_digits
 exponent-few text =
-    elim (cases_Bool (begins 69 text)) [
-      | inl here ↦ rw here (omega (arith, length-take (min (digits_len (unsigned (drop 1 text))) 2) (unsigned (drop 1 text))))
+    elim (cases_Bool (first text == byte.upper_e)) [
+      | inl here ↦ rw here (omega (arith, length-take (min (digits_width (unsigned (drop 1 text))) 2) (unsigned (drop 1 text))))
       | inr none ↦ rw none (omega arith)
     ]
 
 -- digits with a point or without one
 pub mantissa-front : (body : List ℕ) → (mantissa_len body ≡ 0 → ⊥)
-    → take (mantissa_len body) body ≡ whole_part body ++ point_text (point_of (drop (digits_len body) body))
+    → take (mantissa_len body) body ≡ whole_part body ++ point_text (point_of (drop (digits_width body) body))
 unfolding mantissa_len whole_part
 mantissa-front body some =
-    elim (cases_Bool (digits_len body + length (fraction_part (drop (digits_len body) body)) == 0)) [
+    elim (cases_Bool (digits_width body + length (fraction_part (drop (digits_width body) body)) == 0)) [
       | inl none ↦ absurd (some (rw none refl))
-      | inr other ↦ rw other (take-add (digits_len body) (point_len (drop (digits_len body) body)) body
-          ∙ ap (λ t. take (digits_len body) body ++ t) (point-front (drop (digits_len body) body)))
+      | inr other ↦ rw other (take-add (digits_width body) (point_len (drop (digits_width body) body)) body
+          ∙ ap (λ t. take (digits_width body) body ++ t) (point-front (drop (digits_width body) body)))
     ]
 
-pub mantissa-some : (body : List ℕ) → (mantissa_len body ≡ 0 → ⊥) → 0 < digits_len body + length (fraction_part (drop (digits_len body) body))
+pub mantissa-some : (body : List ℕ) → (mantissa_len body ≡ 0 → ⊥) → 0 < digits_width body + length (fraction_part (drop (digits_width body) body))
 unfolding mantissa_len
 mantissa-some body some =
-    elim (cases_Bool (digits_len body + length (fraction_part (drop (digits_len body) body)) == 0)) [
+    elim (cases_Bool (digits_width body + length (fraction_part (drop (digits_width body) body)) == 0)) [
       | inl none ↦ absurd (some (rw none refl))
       | inr other ↦ omega (arith, eqb-false _ _ other)
     ]
@@ -134,28 +134,28 @@ read_spelling text =
     record {
       sign = sign_of text;
       whole = whole_part body;
-      fraction = point_of (drop (digits_len body) body);
+      fraction = point_of (drop (digits_width body) body);
       exponent_sign = sign_of (drop 1 rest);
       exponent = exponent_digits rest;
     }
 
 pub whole-digits : (body : List ℕ) → AreDigits (whole_part body)
 unfolding whole_part
-whole-digits body = digits_at_front body (digits_len body) (omega arith)
+whole-digits body = digits_at_front body (digits_width body) (omega arith)
 
-pub whole-count : (body : List ℕ) → length (whole_part body) ≡ digits_len body
+pub whole-count : (body : List ℕ) → length (whole_part body) ≡ digits_width body
 unfolding whole_part
 whole-count body = whole-length body
 
 pub read-fine : (text : List ℕ) → (mantissa_len (unsigned text) ≡ 0 → ⊥) → IsSpelling (read_spelling text)
 read-fine text some =
     let body : List ℕ = unsigned text in
-    let behind_whole : List ℕ = drop (digits_len body) body in
+    let after_whole : List ℕ = drop (digits_width body) body in
     let rest : List ℕ = drop (mantissa_len body) body in
     record {
       whole = whole-digits body;
-      fraction = subst AreDigits (sym (behind-point behind_whole)) (fraction-digits behind_whole);
-      some = rw (behind-point behind_whole, whole-count body) (mantissa-some body some);
+      fraction = subst AreDigits (sym (fraction_digits-point after_whole)) (fraction-digits after_whole);
+      some = rw (fraction_digits-point after_whole, whole-count body) (mantissa-some body some);
       exponent = exponent-digits rest;
       few = exponent-few rest;
     }
@@ -166,7 +166,7 @@ unfolding parts_of
 read-parts text =
     let body : List ℕ = unsigned text in
     let rest : List ℕ = drop (mantissa_len body) body in
-    rw (sign-minus text, behind-point (drop (digits_len body) body), sign-minus (drop 1 rest)) refl
+    rw (sign-minus text, fraction_digits-point (drop (digits_width body) body), sign-minus (drop 1 rest)) refl
 
 pub read-number : (text : List ℕ) → 0 < number_len text → IsNumberText (take (number_len text) text) (number_value text)
 unfolding number_len
@@ -178,7 +178,7 @@ read-number text some =
       | inl none ↦ let nothing : 0 < 0 = rw none at some in absurd (omega arith)
       | inr other ↦
           let there : m ≡ 0 → ⊥ = eqb-false m 0 other in
-          let front : take (sign_len text + m) text ≡ sign_text (sign_of text) ++ (whole_part body ++ point_text (point_of (drop (digits_len body) body))) =
+          let front : take (sign_len text + m) text ≡ sign_text (sign_of text) ++ (whole_part body ++ point_text (point_of (drop (digits_width body) body))) =
           take-add (sign_len text) m text ∙ ap₂ (λ s t. s ++ t) (sign-front text) (mantissa-front body there) in
           let back : take (exponent_len rest) (drop (sign_len text + m) text) ≡ exponent_text (sign_of (drop 1 rest)) (exponent_digits rest) =
           ap (take (exponent_len rest)) (sym (drop-drop m (sign_len text) text)) ∙ exponent-front rest in

@@ -1,32 +1,29 @@
 -- Decimal digits as bytes.
 use Rattle.std.specs.Prelude.{◌≡◌, ℕ, zero, suc, true, fold, slice_index, ◌<◌, ◌≤◌, ◌+◌, ◌-◌, ◌*◌, ◌/◌, ◌%◌, ◌^◌, ◌==◌, List, [], ◌∷◌, length, take}
-use Rattle.std.specs.Char.{is_ascii_digit}
-use Rattle.std.specs.List.{prefix_len, suffix_len}
+use Rattle.b2_base.specs.Byte as byte
+use Rattle.b2_base.specs.Lexical.{is_digit}
+use Rattle.std.specs.List.{suffix_len}
 
--- the digit of n that counts 10 ^ k
-abbrev pub digit : ℕ → ℕ → ℕ
-digit k n = 48 + n / 10 ^ k % 10
+-- the digit of n that counts 10 ^ k, as a byte
+abbrev pub digit_byte : ℕ → ℕ → ℕ
+digit_byte k n = byte.digit_0 + n / 10 ^ k % 10
 
 -- the last k digits of n, with the zeros before them
-unfoldable pub digits : ℕ → ℕ → List ℕ
-digits zero n = []
-digits (suc k) n = digit k n ∷ digits k n
+unfoldable pub digit_bytes : ℕ → ℕ → List ℕ
+digit_bytes zero n = []
+digit_bytes (suc k) n = digit_byte k n ∷ digit_bytes k n
 
 -- digits without the zeros at their end
-abbrev pub trimmed : List ℕ → List ℕ
-trimmed ds = take (length ds - suffix_len (λ d. d == 48) ds) ds
-
--- how many digits a text begins with
-abbrev pub digits_len : List ℕ → ℕ
-digits_len text = prefix_len is_ascii_digit text
+abbrev pub without_last_zeros : List ℕ → List ℕ
+without_last_zeros ds = take (length ds - suffix_len (λ d. d == byte.digit_0) ds) ds
 
 -- each byte is a digit
 pub record AreDigits (ds : List ℕ) : Type 0 where
-  pub each : (k : ℕ) → k < length ds → is_ascii_digit (slice_index ds k) ≡ true
+  pub each : (k : ℕ) → k < length ds → is_digit (slice_index ds k) ≡ true
 
 -- the number that digits write when they follow those of n
 abbrev pub value_after : ℕ → List ℕ → ℕ
-value_after n ds = fold (λ m d. 10 * m + (d - 48)) n ds
+value_after n ds = fold (λ m d. 10 * m + (d - byte.digit_0)) n ds
 
 -- the number that digits write
 abbrev pub digits_value : List ℕ → ℕ

@@ -1,5 +1,6 @@
 -- The grammar of number text, by its parts and with no word on how it is read.
 use Rattle.std.specs.Prelude.{◌≡◌, ℕ, ◌+◌, ◌<◌, ◌≤◌, Bool, true, false, Option, Some, None, Result, List, [], ◌∷◌, ◌++◌, length, take, slice_index}
+use Rattle.b2_base.specs.Byte as byte
 use Rattle.b2_dectext.specs.Digits.{AreDigits}
 use Rattle.b2_dec.specs.Number.{Number}
 use Rattle.b2_dectext.specs.NumberText.{Parts, value_of}
@@ -19,32 +20,32 @@ pub record Spelling : Type 0 where
 
 abbrev pub sign_text : Sign → List ℕ
 sign_text unsigned = []
-sign_text plus = 43 ∷ []
-sign_text minus = 45 ∷ []
+sign_text plus = byte.plus ∷ []
+sign_text minus = byte.minus ∷ []
 
 abbrev pub point_text : Option (List ℕ) → List ℕ
 point_text None = []
-point_text (Some ds) = 46 ∷ ds
+point_text (Some ds) = byte.point ∷ ds
 
 -- an exponent without digits is not written
 abbrev pub exponent_text : Sign → List ℕ → List ℕ
 exponent_text s [] = []
-exponent_text s (d ∷ ds) = 69 ∷ (sign_text s ++ d ∷ ds)
+exponent_text s (d ∷ ds) = byte.upper_e ∷ (sign_text s ++ d ∷ ds)
 
 -- the text that such parts spell
 abbrev pub spelled : Spelling → List ℕ
 spelled s = sign_text s.sign ++ (s.whole ++ (point_text s.fraction ++ exponent_text s.exponent_sign s.exponent))
 
--- the digits behind the point
-abbrev pub behind : Option (List ℕ) → List ℕ
-behind None = []
-behind (Some ds) = ds
+-- the digits after the point
+abbrev pub fraction_digits : Option (List ℕ) → List ℕ
+fraction_digits None = []
+fraction_digits (Some ds) = ds
 
 -- There is a digit before the exponent, and the exponent has two at most.
 pub record IsSpelling (s : Spelling) : Type 0 where
   pub whole : AreDigits s.whole
-  pub fraction : AreDigits (behind s.fraction)
-  pub some : 0 < length s.whole + length (behind s.fraction)
+  pub fraction : AreDigits (fraction_digits s.fraction)
+  pub some : 0 < length s.whole + length (fraction_digits s.fraction)
   pub exponent : AreDigits s.exponent
   pub few : length s.exponent ≤ 2
 
@@ -59,7 +60,7 @@ abbrev pub parts : Spelling → Parts
 parts s = record {
   neg = is_minus s.sign;
   whole = s.whole;
-  fraction = behind s.fraction;
+  fraction = fraction_digits s.fraction;
   exponent_neg = is_minus s.exponent_sign;
   exponent = s.exponent;
 }
@@ -78,7 +79,7 @@ pub record IsLongest (text : List ℕ) (n : ℕ) (number : Result Number ℕ) : 
 
 -- each byte is a space
 pub record AreSpaces (bs : List ℕ) : Type 0 where
-  pub each : (k : ℕ) → k < length bs → slice_index bs k ≡ 32
+  pub each : (k : ℕ) → k < length bs → slice_index bs k ≡ byte.blank
 
 -- spaces, a number and spaces, and nothing else
 pub record IsSpacedNumber (text : List ℕ) : Type 0 where

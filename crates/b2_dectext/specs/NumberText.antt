@@ -1,19 +1,16 @@
 -- How a number is written, and which number a text begins with.
 use Rattle.std.specs.Prelude.{ℕ, ◌+◌, ◌*◌, ◌^◌, ◌==◌, ◌||◌, min, Bool, false, if◌then◌else◌, Option, Some, None, Result, Ok, Err, List, [], ◌∷◌, ◌++◌, length, take, drop}
 use Rattle.std.specs.List.{prefix_len}
+use Rattle.b2_base.specs.Byte as byte
+use Rattle.b2_base.specs.Lexical.{first, digits_width}
 use Rattle.b2_dec.specs.declared.number.Mode.TheVariants.{Round}
 use Rattle.b2_dec.specs.Number.{Number}
 use Rattle.b2_dec.specs.Rounding.{rnd}
-use Rattle.b2_dectext.specs.Digits.{digits_len, digits_value}
-
--- whether a text begins with a byte
-abbrev pub begins : ℕ → List ℕ → Bool
-begins b [] = false
-begins b (c ∷ cs) = c == b
+use Rattle.b2_dectext.specs.Digits.{digits_value}
 
 -- 1 where a text begins with `+` or `-`
 unfoldable pub sign_len : List ℕ → ℕ
-sign_len text = if begins 43 text || begins 45 text then 1 else 0
+sign_len text = if first text == byte.plus || first text == byte.minus then 1 else 0
 
 -- a text without the sign that it begins with
 abbrev pub unsigned : List ℕ → List ℕ
@@ -21,27 +18,27 @@ unsigned text = drop (sign_len text) text
 
 -- the digits at the front
 unfoldable pub whole_part : List ℕ → List ℕ
-whole_part text = take (digits_len text) text
+whole_part text = take (digits_width text) text
 
--- the digits behind the point, where a text begins with one
+-- the digits after the point, where a text begins with one
 unfoldable pub fraction_part : List ℕ → List ℕ
-fraction_part text = if begins 46 text then take (digits_len (drop 1 text)) (drop 1 text) else []
+fraction_part text = if first text == byte.point then take (digits_width (drop 1 text)) (drop 1 text) else []
 
--- how many bytes are a point and the digits behind it
+-- how many bytes are a point and the digits after it
 abbrev pub point_len : List ℕ → ℕ
-point_len text = if begins 46 text then 1 + length (fraction_part text) else 0
+point_len text = if first text == byte.point then 1 + length (fraction_part text) else 0
 
 -- how many bytes are digits with a point or without one; a point alone is none
 unfoldable pub mantissa_len : List ℕ → ℕ
 mantissa_len text =
-    let behind = drop (digits_len text) text in
-    if digits_len text + length (fraction_part behind) == 0 then 0 else digits_len text + point_len behind
+    let after = drop (digits_width text) text in
+    if digits_width text + length (fraction_part after) == 0 then 0 else digits_width text + point_len after
 
 -- the digits of an exponent, of which there are two at most
 unfoldable pub exponent_digits : List ℕ → List ℕ
 exponent_digits text =
     let digits = unsigned (drop 1 text) in
-    if begins 69 text then take (min (digits_len digits) 2) digits else []
+    if first text == byte.upper_e then take (min (digits_width digits) 2) digits else []
 
 -- how many bytes are E, perhaps a sign, and one or two digits
 unfoldable pub exponent_len : List ℕ → ℕ
@@ -54,7 +51,7 @@ number_len text =
     let body = unsigned text in
     if mantissa_len body == 0 then 0 else sign_len text + mantissa_len body + exponent_len (drop (mantissa_len body) body)
 
--- The parts of a number that is written: whether `-` stands first, the digits before and behind the point, whether `-`
+-- The parts of a number that is written: whether `-` stands first, the digits before and after the point, whether `-`
 -- stands in the exponent, and its digits.
 pub record Parts : Type 0 where
   pub neg : Bool
@@ -81,10 +78,10 @@ parts_of text =
     let body = unsigned text in
     let rest = drop (mantissa_len body) body in
     record {
-      neg = begins 45 text;
+      neg = first text == byte.minus;
       whole = whole_part body;
-      fraction = fraction_part (drop (digits_len body) body);
-      exponent_neg = begins 45 (drop 1 rest);
+      fraction = fraction_part (drop (digits_width body) body);
+      exponent_neg = first (drop 1 rest) == byte.minus;
       exponent = exponent_digits rest;
     }
 
@@ -103,7 +100,7 @@ number_read text = if number_len text == 0 then None else in_result (number_valu
 
 -- how many spaces a text begins with
 abbrev pub spaces_len : List ℕ → ℕ
-spaces_len text = prefix_len (λ b. b == 32) text
+spaces_len text = prefix_len (λ b. b == byte.blank) text
 
 -- the length of spaces, a number and spaces at the front of a text, 0 where there is no number
 unfoldable pub spaced_number_len : List ℕ → ℕ

@@ -1,5 +1,6 @@
 // What the printed form and number text have to do with each other.
 ghost use Rattle.std.specs.Prelude.{◌≡◌, ◌∷◌, [], ◌++◌, true, Some, if◌then◌else◌, length};
+ghost use Rattle.b2_base.specs.Byte as byte;
 ghost use Rattle.b2_dectext.specs.NumberText.{number_len, number_read};
 ghost use Rattle.b2_dectext.specs.Printed.{printed, without_spaces, is_plain};
 
@@ -8,7 +9,7 @@ use b2_dec::Dec;
 /// A printed form is `-` or a space, the number, one space. Without an exponent, and without its outer spaces, it is read
 /// back whole, and is the number.
 pub fn printed_is_read(a: Dec)
-    ensures spaces { printed a ≡ (if a.neg then [] else 32 ∷ []) ++ without_spaces a ++ (32 ∷ []) }
+    ensures spaces { printed a ≡ (if a.neg then [] else byte.blank ∷ []) ++ without_spaces a ++ (byte.blank ∷ []) }
     ensures len { is_plain a ≡ true → number_len (without_spaces a) ≡ length (without_spaces a) }
     ensures value { is_plain a ≡ true → number_read (without_spaces a) ≡ Some a }
 {

@@ -1,42 +1,43 @@
 // The printed form of a number.
 ghost use Rattle.std.specs.Prelude.{◌≡◌, ℕ, ◌+◌, ◌-◌, ◌*◌, ◌/◌, ◌%◌, ◌^◌, ◌<◌, ◌≤◌, ◌++◌, ◌∷◌, length, take, drop};
-ghost use Rattle.b2_dectext.specs.Digits.{digits, trimmed};
+ghost use Rattle.b2_base.specs.Byte as byte;
+ghost use Rattle.b2_dectext.specs.Digits.{digit_bytes, without_last_zeros};
 ghost use Rattle.b2_dectext.specs.Printed.{with_point, nine_digits, exponent_shown, sign_shown, shown_size, printed, IsPut};
 
 use b2_dec::Dec;
 
 /// The digit of a number that counts a power of ten, as a byte.
-fn digit(n: u64, unit: u64) -> u8
+fn digit_byte(n: u64, unit: u64) -> u8
     requires { 0 < unit }
-    ensures { result ≡ 48 + n / unit % 10 }
+    ensures { result ≡ byte.digit_0 + n / unit % 10 }
 {
     b'0' + (n / unit % 10) as u8
 }
 
 /// The thirteen digits of a number.
 fn thirteen(coef: u64) -> [u8; 13]
-    ensures { result ≡ digits 13 coef }
+    ensures { result ≡ digit_bytes 13 coef }
 {
     [
-        digit(coef, 1_000_000_000_000),
-        digit(coef, 100_000_000_000),
-        digit(coef, 10_000_000_000),
-        digit(coef, 1_000_000_000),
-        digit(coef, 100_000_000),
-        digit(coef, 10_000_000),
-        digit(coef, 1_000_000),
-        digit(coef, 100_000),
-        digit(coef, 10_000),
-        digit(coef, 1_000),
-        digit(coef, 100),
-        digit(coef, 10),
-        digit(coef, 1),
+        digit_byte(coef, 1_000_000_000_000),
+        digit_byte(coef, 100_000_000_000),
+        digit_byte(coef, 10_000_000_000),
+        digit_byte(coef, 1_000_000_000),
+        digit_byte(coef, 100_000_000),
+        digit_byte(coef, 10_000_000),
+        digit_byte(coef, 1_000_000),
+        digit_byte(coef, 100_000),
+        digit_byte(coef, 10_000),
+        digit_byte(coef, 1_000),
+        digit_byte(coef, 100),
+        digit_byte(coef, 10),
+        digit_byte(coef, 1),
     ]
 }
 
 /// Digits without the zeros at their end.
-fn trim(digits: &[u8]) -> &[u8]
-    ensures { result.now ≡ trimmed digits.now }
+fn without_last_zeros(digits: &[u8]) -> &[u8]
+    ensures { result.now ≡ without_last_zeros digits.now }
 {
     let mut kept = digits.len();
     while kept > 0 && digits[kept - 1] == b'0' {
@@ -45,7 +46,7 @@ fn trim(digits: &[u8]) -> &[u8]
     &digits[..kept]
 }
 
-/// The text so far with more bytes behind it, and its length then.
+/// Puts bytes after the first `at` ones, and gives where they end.
 fn put(into: &mut [u8; 24], at: usize, bytes: &[u8]) -> usize
     requires { at + length bytes.now ≤ 24 }
     ensures { IsPut bytes.now at into.old into.new result }
@@ -55,23 +56,16 @@ fn put(into: &mut [u8; 24], at: usize, bytes: &[u8]) -> usize
     end
 }
 
-/// The place of a number's last digit: from 0 to 198, and 99 for zero.
-fn place_of(a: Dec) -> usize
-    ensures { result ≡ a.place }
-{
-    (a.exponent() as i16 + 99) as usize
-}
-
 /// The exponent of a number whose last digit stands at a place: E, its sign, its two digits.
 fn exponent_at(place: usize) -> [u8; 4]
     ensures { result ≡ exponent_shown place }
 {
     if place < 99 {
         let size = (99 - place) as u64;
-        [b'E', b'-', digit(size, 10), digit(size, 1)]
+        [b'E', b'-', digit_byte(size, 10), digit_byte(size, 1)]
     } else {
         let size = (place - 99) as u64;
-        [b'E', b'+', digit(size, 10), digit(size, 1)]
+        [b'E', b'+', digit_byte(size, 10), digit_byte(size, 1)]
     }
 }
 
@@ -82,7 +76,7 @@ fn sign_of(a: Dec) -> u8
     if a.is_negative() { b'-' } else { b' ' }
 }
 
-/// Adds digits with a point behind the first `whole` ones, and without the last zeros behind it.
+/// Adds digits with a point after the first `whole` ones, and without the last zeros after it.
 fn put_fixed(into: &mut [u8; 24], at: usize, digits: &[u8], whole: usize) -> usize
     requires room { at + length digits.now < 24 }
     requires within { whole ≤ length digits.now }
@@ -90,24 +84,24 @@ fn put_fixed(into: &mut [u8; 24], at: usize, digits: &[u8], whole: usize) -> usi
     ensures text { IsPut (with_point whole digits.now) at into.old into.new result }
 {
     let (front, back) = digits.split_at(whole);
-    let fraction = trim(back);
+    let fraction = without_last_zeros(back);
     let pointed = put(into, at, front);
     if fraction.is_empty() {
         return pointed;
     }
-    let behind = put(into, pointed, b".");
-    put(into, behind, fraction)
+    let after = put(into, pointed, b".");
+    put(into, after, fraction)
 }
 
-/// Adds nine of thirteen digits with a point behind the first one, and the exponent.
+/// Adds nine of thirteen digits with a point after the first one, and the exponent.
 fn put_with_exponent(into: &mut [u8; 24], at: usize, digits: &[u8; 13], place: usize) -> usize
     requires room { at + 14 ≤ 24 }
     ensures few { result ≡ at + 14 }
     ensures text { IsPut (nine_digits digits.now ++ exponent_shown place) at into.old into.new result }
 {
     let pointed = put(into, at, &digits[..1]);
-    let behind = put(into, pointed, b".");
-    let end = put(into, behind, &digits[1..9]);
+    let after = put(into, pointed, b".");
+    let end = put(into, after, &digits[1..9]);
     put(into, end, &exponent_at(place))
 }
 
@@ -120,7 +114,7 @@ fn put_size(into: &mut [u8; 24], at: usize, a: Dec) -> usize
     if a.is_zero() {
         return put(into, at, b"0");
     }
-    let place = place_of(a);
+    let place = a.place() as usize;
     let digits = thirteen(a.coefficient());
     if place >= 98 && place <= 111 {
         put_fixed(into, at, &digits, place - 98)
@@ -129,7 +123,7 @@ fn put_size(into: &mut [u8; 24], at: usize, a: Dec) -> usize
     }
 }
 
-/// The printed form of a number at the front of `into`, and its length. The bytes behind it stay.
+/// The printed form of a number at the front of `into`, and its length. The bytes after it stay.
 pub fn write(a: Dec, into: &mut [u8; 24]) -> usize
     ensures form { take result into.new ≡ printed a }
     ensures len { result ≡ length (printed a) }

@@ -8,17 +8,17 @@ ghost use Rattle.b2_dectext.specs.NumberText as grammar;
 ghost use Rattle.b2_dectext.specs.NumberText.{Parts, value_of, number_value, number_read, spaced_number_len};
 
 use crate::scanning::{
-    begins, exponent_digits, fraction_part, mantissa_len, number_len, rest, spaces_len, unsigned,
-    whole_part,
+    exponent_digits, fraction_part, mantissa_len, number_len, spaces_len, unsigned, whole_part,
 };
 use b2_base::Code;
 use b2_base::codes::{C60_UNDERFLOW, C61_OVERFLOW};
+use b2_base::lexical::{dropped, first};
 use b2_dec::{Dec, Mode, round_exact, round_whole_part};
 
 /// The number above the largest thirteen digits.
 const ABOVE: u64 = 10_000_000_000_000;
 
-/// The leading digits of a number that is written, fourteen at most, and how many follow them.
+/// The leading digits of a number that is written, at most fourteen, and how many follow them.
 #[derive(Clone, Copy)]
 struct Leading {
     digits: u64,
@@ -59,7 +59,7 @@ fn with_digits(start: Leading, text: &[u8]) -> Leading
     leading
 }
 
-/// The number that leading digits become, a half going away from zero. Behind them `high - 222` digits stand before the
+/// The number that leading digits become, a half going away from zero. After them `high - 222` digits stand before the
 /// point; the whole is divided by ten `low` times. C60 and C61 where it is too small or too large.
 fn rounded(neg: bool, digits: u64, high: u128, low: u128) -> Result<Dec, Code>
     requires few { digits < 10 ^ 14 }
@@ -85,7 +85,7 @@ fn rounded(neg: bool, digits: u64, high: u128, low: u128) -> Result<Dec, Code>
     }
 }
 
-/// The number that the digits of an exponent write, of which there are two at most.
+/// The number that the digits of an exponent write, at most two.
 fn exponent_value(digits: &[u8]) -> usize
     requires digits { AreDigits digits.now }
     requires few { length digits.now ≤ 2 }
@@ -135,13 +135,13 @@ fn number_at_front(text: &[u8]) -> Result<Dec, Code>
     let body = unsigned(text);
     let whole = whole_part(body);
     let fraction = fraction_part(&body[whole.len()..]);
-    let behind = &body[mantissa_len(body)..];
+    let rest = &body[mantissa_len(body)..];
     value(
-        begins(text, b'-'),
+        first(text) == b'-',
         whole,
         fraction,
-        begins(rest(behind), b'-'),
-        exponent_digits(behind),
+        first(dropped(rest, 1)) == b'-',
+        exponent_digits(rest),
     )
 }
 

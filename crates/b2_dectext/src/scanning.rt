@@ -1,16 +1,11 @@
 // How many bytes of a text are a number.
 ghost use Rattle.std.specs.Prelude.{◌≡◌, ℕ, ◌+◌, ◌<◌, ◌≤◌, ◌==◌, length, drop, if◌then◌else◌};
-ghost use Rattle.b2_dectext.specs.Digits as spec;
+ghost use Rattle.b2_base.specs.Byte as byte;
+ghost use Rattle.b2_base.specs.Lexical.{first, digits_width};
 ghost use Rattle.b2_dectext.specs.Digits.{AreDigits};
 ghost use Rattle.b2_dectext.specs.NumberText as grammar;
 
-/// How many digits a text begins with.
-pub(crate) fn digits_len(text: &[u8]) -> usize
-    ensures value { result ≡ spec.digits_len text.now }
-    ensures bound { result ≤ length text.now }
-{
-    text.iter().take_while(|b| b.is_ascii_digit()).count()
-}
+use b2_base::lexical::{digits_width, dropped, first};
 
 /// How many spaces a text begins with.
 pub(crate) fn spaces_len(text: &[u8]) -> usize
@@ -20,30 +15,13 @@ pub(crate) fn spaces_len(text: &[u8]) -> usize
     text.iter().take_while(|b| **b == b' ').count()
 }
 
-/// Whether a text begins with a byte.
-pub(crate) fn begins(text: &[u8], byte: u8) -> bool
-    ensures { result ≡ grammar.begins byte text.now }
-{
-    match text.first() {
-        Some(first) => *first == byte,
-        None => false,
-    }
-}
-
-/// A text without its first byte.
-pub(crate) fn rest(text: &[u8]) -> &[u8]
-    ensures { result.now ≡ drop 1 text.now }
-{
-    if text.is_empty() { text } else { &text[1..] }
-}
-
 /// How many bytes of sign a text begins with.
 #[tactic(auto, unfolding(crate::specs::NumberText::sign_len))]
 fn sign_len(text: &[u8]) -> usize
     ensures value { result ≡ grammar.sign_len text.now }
     ensures bound { result ≤ length text.now }
 {
-    if begins(text, b'+') || begins(text, b'-') {
+    if first(text) == b'+' || first(text) == b'-' {
         1
     } else {
         0
@@ -61,22 +39,22 @@ pub(crate) fn unsigned(text: &[u8]) -> &[u8]
 #[tactic(auto, unfolding(crate::specs::NumberText::whole_part))]
 pub(crate) fn whole_part(text: &[u8]) -> &[u8]
     ensures value { result.now ≡ grammar.whole_part text.now }
-    ensures len { length result.now ≡ spec.digits_len text.now }
+    ensures len { length result.now ≡ digits_width text.now }
     ensures bound { length result.now ≤ length text.now }
     ensures digits { AreDigits result.now }
 {
-    &text[..digits_len(text)]
+    &text[..digits_width(text)]
 }
 
-/// The digits behind the point, where a text begins with one.
+/// The digits after the point, where a text begins with one.
 #[tactic(auto, unfolding(crate::specs::NumberText::fraction_part, crate::specs::NumberText::whole_part))]
 pub(crate) fn fraction_part(text: &[u8]) -> &[u8]
     ensures value { result.now ≡ grammar.fraction_part text.now }
-    ensures bound { length result.now + (if grammar.begins 46 text.now then 1 else 0) ≤ length text.now }
+    ensures bound { length result.now + (if first text.now == byte.point then 1 else 0) ≤ length text.now }
     ensures digits { AreDigits result.now }
 {
-    if begins(text, b'.') {
-        whole_part(rest(text))
+    if first(text) == b'.' {
+        whole_part(dropped(text, 1))
     } else {
         &text[..0]
     }
@@ -88,20 +66,20 @@ pub(crate) fn mantissa_len(text: &[u8]) -> usize
     ensures value { result ≡ grammar.mantissa_len text.now }
     ensures bound { result ≤ length text.now }
 {
-    let whole = digits_len(text);
-    let behind = &text[whole..];
-    let fraction = fraction_part(behind).len();
+    let whole = digits_width(text);
+    let after = &text[whole..];
+    let fraction = fraction_part(after).len();
     if whole + fraction == 0 {
         return 0;
     }
-    if begins(behind, b'.') {
+    if first(after) == b'.' {
         whole + 1 + fraction
     } else {
         whole
     }
 }
 
-/// The digits of the exponent that a text begins with, of which there are two at most.
+/// The digits of the exponent that a text begins with, at most two.
 #[tactic(auto, unfolding(crate::specs::NumberText::exponent_digits))]
 pub(crate) fn exponent_digits(text: &[u8]) -> &[u8]
     ensures value { result.now ≡ grammar.exponent_digits text.now }
@@ -109,9 +87,9 @@ pub(crate) fn exponent_digits(text: &[u8]) -> &[u8]
     ensures bound { 0 < length result.now → 1 + grammar.sign_len (drop 1 text.now) + length result.now ≤ length text.now }
     ensures digits { AreDigits result.now }
 {
-    if begins(text, b'E') {
-        let digits = unsigned(rest(text));
-        &digits[..digits_len(digits).min(2)]
+    if first(text) == b'E' {
+        let digits = unsigned(dropped(text, 1));
+        &digits[..digits_width(digits).min(2)]
     } else {
         &text[..0]
     }
@@ -127,7 +105,7 @@ fn exponent_len(text: &[u8]) -> usize
     if digits == 0 {
         return 0;
     }
-    1 + sign_len(rest(text)) + digits
+    1 + sign_len(dropped(text, 1)) + digits
 }
 
 /// The length of the longest number at the front of a text, 0 where there is none.

@@ -5,7 +5,7 @@ use Rattle.b2_dec.specs.declared.number.Mode.{Mode}
 use Rattle.b2_base.specs.Lexical.{first}
 use Rattle.b2_atom.specs.Words.{Text}
 use Rattle.b2_atom.specs.Tokens.{Token}
-use Rattle.b2_atom.specs.Tree.{Trees, Outcome, Parser, one, nothing, joined, and_then, under, also}
+use Rattle.b2_atom.specs.Tree.{Trees, Outcome, Parser, one, nothing, preceded, and_then, under, also}
 use Rattle.b2_atom.specs.Tree.Trees.{Done, Put, In}
 use Rattle.b2_atom.specs.Grammar.{reader, many, absent, starts}
 use Rattle.b2_atom.specs.declared.words.Origin.TheVariants.{Atoms}
@@ -28,7 +28,7 @@ also_done (Put t a) = ap (Put t) (also_done a)
 also_done (In n i a) = ap (In n i) (also_done a)
 
 -- one reading and then another
-pub agrees_joined : (d : Found) (v : Trees → Answer) (a : Trees) (o : Outcome) → Agrees d (λ b. v (also a b)) o → Agrees d v (joined a o)
+pub agrees_joined : (d : Found) (v : Trees → Answer) (a : Trees) (o : Outcome) → Agrees d (λ b. v (also a b)) o → Agrees d v (preceded a o)
 agrees_joined d v a (Ok p) h = h
 agrees_joined d v a (Err e) h = tt
 

@@ -4,7 +4,7 @@ use Rattle.std.proofs.lemmas.Bool.Decides.{nat_tests}
 use Rattle.b2_base.specs.declared.codes.TheConstants.{S27_LEFT_OUT}
 use Rattle.b2_dec.specs.Number.{Number, zero_number}
 use Rattle.b2_base.specs.Lexical.{first, is_digit, is_letter}
-use Rattle.b2_atom.specs.Words.{Text, kept}
+use Rattle.b2_atom.specs.Words.{Text, kept_byte}
 use Rattle.b2_atom.specs.Tokens.{Token}
 use Rattle.b2_atom.specs.Tokens.Token.{Coded, Plain}
 use Rattle.b2_atom.specs.Tree.{Trees, Outcome, Parser, one, nothing, and_then, under}
@@ -124,7 +124,7 @@ unfolding starts
 unbuilt_among s low high t o above is = unbuilt (named_at s t) o (no_letter s t (among_above low high (first t) above is))
 
 -- names
-kept_same : (t : Text) → map (kept Atoms) t ≡ t
+kept_same : (t : Text) → map (kept_byte Atoms) t ≡ t
 kept_same [] = refl
 kept_same (b ∷ bs) = ap (λ (l : Text). b ∷ l) (kept_same bs)
 
@@ -132,9 +132,9 @@ other_name : (s : Surroundings) (b : ℕ) (bs : Text) → is_letter b ≡ false 
 other_name s b [] h = ap (λ (x : Bool). if x then Ok (get_or s.letters (b - 65) zero_number) else Err S27_LEFT_OUT) h
 other_name s b (c ∷ cs) h = refl
 
-other_names : (s : Surroundings) (b : ℕ) (bs : Text) (width : ℕ) → is_letter b ≡ false → letter_value s (map (kept Atoms) (take width (b ∷ bs))) ≡ Err S27_LEFT_OUT
+other_names : (s : Surroundings) (b : ℕ) (bs : Text) (width : ℕ) → is_letter b ≡ false → letter_value s (map (kept_byte Atoms) (take width (b ∷ bs))) ≡ Err S27_LEFT_OUT
 other_names s b bs zero h = refl
-other_names s b bs (suc width) h = other_name s b (map (kept Atoms) (take width bs)) h
+other_names s b bs (suc width) h = other_name s b (map (kept_byte Atoms) (take width bs)) h
 
 -- what a name and its subscripts come to
 named_end : (d : Found) (x : Answer) (rest : Text) (b : Bool) (o : Outcome) → d ≡ left rest (if b then Err S27_LEFT_OUT else x)
@@ -187,11 +187,11 @@ letter_or_array false false x rest = refl
 
 -- a name's value by its width
 NameIs : Surroundings → Text → ℕ → Type 0
-NameIs s t width = named_at s t ≡ left (drop width t) (if first (drop width t) == 40 then Err S27_LEFT_OUT else letter_value s (map (kept Atoms) (take width t)))
+NameIs s t width = named_at s t ≡ left (drop width t) (if first (drop width t) == 40 then Err S27_LEFT_OUT else letter_value s (map (kept_byte Atoms) (take width t)))
 
 longer_name : (s : Surroundings) (b c : ℕ) (cs : Text) (q : Bool)
     → (if is_letter b then (if q || c == 40 then Err S27_LEFT_OUT else Ok (get_or s.letters (b - 65) zero_number, c ∷ cs)) else Err S27_LEFT_OUT)
-    ≡ left (drop (if q then 2 else 1) (b ∷ c ∷ cs)) (if first (drop (if q then 2 else 1) (b ∷ c ∷ cs)) == 40 then Err S27_LEFT_OUT else letter_value s (map (kept Atoms) (take (if q then 2 else 1) (b ∷ c ∷ cs))))
+    ≡ left (drop (if q then 2 else 1) (b ∷ c ∷ cs)) (if first (drop (if q then 2 else 1) (b ∷ c ∷ cs)) == 40 then Err S27_LEFT_OUT else letter_value s (map (kept_byte Atoms) (take (if q then 2 else 1) (b ∷ c ∷ cs))))
 longer_name s b c cs true = two_letters (is_letter b) (first cs == 40) cs
 longer_name s b c cs false = letter_or_array (is_letter b) (c == 40) (get_or s.letters (b - 65) zero_number) (c ∷ cs)
 
@@ -215,7 +215,7 @@ variable_items : (s : Surroundings) (st : Place → Parser Text) (dp : ℕ → P
     → Agrees (named_at s t) (variable_operand s) (items st dp (rowed st dp m) (reader Atoms) (Typed leaf.Name 17 ∷ Maybe (start.Code 40) row.SUBSCRIPTS ∷ []) t)
 unfolding items item starts read_leaf NameIs
 variable_items s st dp m t =
-    named_by s (named_at s t) (numeric_name_width Atoms t == 0) (λ u. first u == 40) (map (kept Atoms) (take (numeric_name_width Atoms t) t)) (drop (numeric_name_width Atoms t) t)
+    named_by s (named_at s t) (numeric_name_width Atoms t == 0) (λ u. first u == 40) (map (kept_byte Atoms) (take (numeric_name_width Atoms t) t)) (drop (numeric_name_width Atoms t) t)
     (rowed st dp m row.SUBSCRIPTS) (missing Atoms leaf.Name 17 t) (name_value s t)
 
 variables : (s : Surroundings) (st : Place → Parser Text) (dp : ℕ → Parser Text) (l : ℕ) (t : Text) → Agrees (named_at s t) (variable_operand s) (rowed st dp l row.VARIABLE t)
@@ -232,7 +232,7 @@ number_items : (st : Place → Parser Text) (dp : ℕ → Parser Text) (m : ℕ)
     → Agrees (literal_at t) number_operand (items st dp (rowed st dp m) (reader Atoms) (Typed leaf.Number 17 ∷ []) t)
 unfolding items item read_leaf
 number_items st dp m t =
-    leaf_end (number_width Atoms t == 0) (literal_at t) number_operand (Plain leaf.Number (map (kept Atoms) (take (number_width Atoms t) t))) (drop (number_width Atoms t) t) (missing Atoms leaf.Number 17 t)
+    leaf_end (number_width Atoms t == 0) (literal_at t) number_operand (Plain leaf.Number (map (kept_byte Atoms) (take (number_width Atoms t) t))) (drop (number_width Atoms t) t) (missing Atoms leaf.Number 17 t)
     (ap (λ (u : Text). left (drop (number_width Atoms t) t) (literal_value u)) (sym (kept_same (take (number_width Atoms t) t))))
 
 numbers : (st : Place → Parser Text) (dp : ℕ → Parser Text) (l : ℕ) (t : Text) → Agrees (literal_at t) number_operand (rowed st dp l row.NUMBER t)

@@ -1,6 +1,6 @@
 // What joins two numbers, by levels: sums of products of powers.
 ghost use Rattle.std.specs.Prelude.{◌≡◌, Some, None, if◌then◌else◌};
-ghost use Rattle.b2_expr.specs.Operators.{is_operator, operator_of, raised, joined, signed};
+ghost use Rattle.b2_expr.specs.Operators.{is_operator, operator_of, raised_by, raised, joined, signed};
 
 use b2_base::Code;
 use b2_base::codes::C65_EXPONENT;
@@ -38,13 +38,23 @@ pub fn operator_of(level: Level, byte: u8) -> Option<Operator>
     }
 }
 
-// A number to the power of a whole one of at most 255.
+/// A number to the power of a whole one, which must be from 0 to 255.
+fn raised_to(a: Dec, exponent: i64, mode: Mode) -> Result<Dec, Code>
+    ensures { result ≡ raised_by mode a (Some exponent) }
+{
+    if exponent < 0 || exponent > 255 {
+        return Err(Code::known(C65_EXPONENT));
+    }
+    power(a, exponent as u8, mode)
+}
+
+/// A number to the power of another, which must be a whole one from 0 to 255.
 fn raised(a: Dec, b: Dec, mode: Mode) -> Result<Dec, Code>
     ensures { result ≡ raised mode a b }
 {
     match whole(b) {
-        Some(n @ 0..=255) => power(a, n as u8, mode),
-        _ => Err(Code::known(C65_EXPONENT)),
+        Some(exponent) => raised_to(a, exponent, mode),
+        None => Err(Code::known(C65_EXPONENT)),
     }
 }
 

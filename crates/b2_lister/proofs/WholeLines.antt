@@ -1,17 +1,17 @@
 -- A listed line is read with its number, a blank and its source.
-use Rattle.std.proofs.Common.{◌≡◌, ℕ, zero, suc, ◌+◌, ◌-◌, ◌*◌, ◌/◌, ◌%◌, ◌<◌, ◌≤◌, Bool, true, false, if◌then◌else◌, ◌==◌, ◌&&◌, List, [], ◌∷◌, ◌++◌, length, min, refl, sym, ap, subst, ◌∙◌, arith, nat_le, nat_lt, Result, Ok, Err}
+use Rattle.std.proofs.Common.{◌≡◌, ℕ, suc, ◌+◌, ◌-◌, ◌*◌, ◌/◌, ◌%◌, ◌<◌, ◌≤◌, Bool, true, false, if◌then◌else◌, ◌==◌, ◌&&◌, [], ◌∷◌, ◌++◌, length, min, refl, ap, subst, ◌∙◌, arith, nat_lt, Result, Ok, Err}
 use Rattle.std.proofs.lemmas.Bool.Decides.{nat_tests}
 use Rattle.b2_atom.specs.Words.{Text}
-use Rattle.b2_base.specs.Lexical.{all_printable, capped_value, is_digit, is_printable, skip_blanks, without_zeros}
-use Rattle.b2_atom.specs.Lines.{line_atoms, line_source}
+use Rattle.b2_base.specs.Lexical.{all_printable, capped_value, is_digit, is_printable, skip_blanks}
+use Rattle.b2_atom.specs.Lines.{line_atoms}
 use Rattle.b2_atom.specs.declared.words.Origin.TheVariants as origin
 use Rattle.b2_atom.specs.declared.sink.Stop.{Stop}
-use Rattle.b2_syntax.specs.Reading.{printable_width, after_digits, fitted, atoms, with_atoms, after_number, numbered, immediate, by_first, reads}
+use Rattle.b2_syntax.specs.Reading.{printable_width, after_digits, not_too_long, read_atoms, with_atoms, after_number, numbered, immediate, by_first, reads}
 use Rattle.b2_syntax.specs.declared.Entered.{Entered}
 use Rattle.b2_syntax.specs.declared.Entered.TheVariants.{Numbered, Immediate}
 use Rattle.b2_syntax.specs.declared.LineErr.{LineErr}
 use Rattle.b2_syntax.specs.declared.LineErr.TheVariants.{At}
-use Rattle.b2_lister.specs.Listing.{five_digits, decimal, text_of, listing}
+use Rattle.b2_lister.specs.Listing.{decimal, text_of, listing}
 use Rattle.b2_lister.specs.Laws.{EachListedLineIsReadBack, EachTreeIsListedAndReadBack}
 use Rattle.b2_atom.specs.Tree as tree
 use Rattle.b2_atom.specs.Tree.{Trees, tokens}
@@ -156,13 +156,13 @@ not_less n = grind (arith, nat_tests)
 not_more : (n m : ℕ) → n ≤ m → nat_lt m n ≡ false
 not_more n m h = grind (arith, nat_tests)
 
-fitted_line : (a : Text) (n : ℕ) → length a ≤ 255 → fitted (Ok a) n ≡ Ok a
+fitted_line : (a : Text) (n : ℕ) → length a ≤ 255 → not_too_long (Ok a) n ≡ Ok a
 fitted_line a n h = rw (not_more (length a) 255 h) refl
 
 behind : (n number : ℕ) (s a : Text) → 0 < length s → line_atoms origin.Program s ≡ Ok a → length a ≤ 255 → after_number n number s ≡ Ok (Numbered number a)
 behind n number [] a some is h = absurd (omega arith)
 behind n number (b ∷ s) a some is h =
-    ap (λ (r : Result Text Stop). with_atoms (Numbered number) (fitted r n)) is ∙ ap (with_atoms (Numbered number)) (fitted_line a n h)
+    ap (λ (r : Result Text Stop). with_atoms (Numbered number) (not_too_long r n)) is ∙ ap (with_atoms (Numbered number)) (fitted_line a n h)
 
 own_line : (n m : ℕ) (own s a : Text) → m ≤ 9999 → capped_value 10000 0 own ≡ m → after_digits own ≡ 32 ∷ s → skip_blanks s ≡ s → 0 < length s
     → line_atoms origin.Program s ≡ Ok a → length a ≤ 255 → numbered n own ≡ Ok (Numbered m a)
@@ -216,7 +216,7 @@ fits_by : (n m : ℕ) (a b : Text) (long : Bool) → nat_lt 255 (length b) ≡ l
 fits_by n m a b true is h = cc
 fits_by n m a b false is h = let same = same_entered m n b a h in (same.0, (same.1, short_of (length b) is))
 
-fits_of : (k n m : ℕ) (a : Text) (r : Result Text Stop) → with_atoms (Numbered m) (fitted r k) ≡ Ok (Numbered n a) → (m ≡ n) × ((r ≡ Ok a) × (length a ≤ 255))
+fits_of : (k n m : ℕ) (a : Text) (r : Result Text Stop) → with_atoms (Numbered m) (not_too_long r k) ≡ Ok (Numbered n a) → (m ≡ n) × ((r ≡ Ok a) × (length a ≤ 255))
 fits_of k n m a (Err e) h = cc
 fits_of k n m a (Ok b) h =
     let is = fits_by n m a b (nat_lt 255 (length b)) refl h in
@@ -238,7 +238,7 @@ immediate_of k n a (Ok b) h = cc
 
 first_by : (k n : ℕ) (a : Text) (b : ℕ) (bs : Text) (digit : Bool) → (if digit then numbered k (b ∷ bs) else immediate k (b ∷ bs)) ≡ Ok (Numbered n a) → Typed n a
 first_by k n a b bs true h = numbered_by k n (capped_value 10000 0 (b ∷ bs)) a (skip_blanks (after_digits (b ∷ bs))) (nat_lt 9999 (capped_value 10000 0 (b ∷ bs))) refl h
-first_by k n a b bs false h = absurd (immediate_of k n a (atoms origin.Immediate (b ∷ bs) k) h)
+first_by k n a b bs false h = absurd (immediate_of k n a (read_atoms origin.Immediate (b ∷ bs) k) h)
 
 typed_first : (k n : ℕ) (a t : Text) → by_first k t ≡ Ok (Numbered n a) → Typed n a
 typed_first k n a [] h = cc

@@ -1,9 +1,9 @@
 -- Assignments: what their bytes ask for is what their trees say.
 use Rattle.std.proofs.Common.{◌≡◌, ℕ, zero, suc, ◌+◌, ◌-◌, ◌≤◌, Bool, true, false, if◌then◌else◌, ◌==◌, ◌&&◌, ◌||◌, List, [], ◌∷◌, length, take, drop, map, get_or, refl, sym, ap, subst, ◌∙◌, arith, None, Ok, Err}
 use Rattle.b2_base.specs.Lexical.{first, is_letter}
-use Rattle.b2_atom.specs.Words.{Text, kept}
+use Rattle.b2_atom.specs.Words.{Text, kept_byte}
 use Rattle.b2_atom.specs.Tokens.Token.{Coded, Plain}
-use Rattle.b2_atom.specs.Tree.{Trees, Outcome, Parser, one, nothing, joined, and_then, under, also}
+use Rattle.b2_atom.specs.Tree.{Trees, Outcome, Parser, one, nothing, preceded, and_then, under, also}
 use Rattle.b2_atom.specs.Tree.Trees.{Done, Put, In}
 use Rattle.b2_atom.specs.Leaves.{numeric_name_width, missing}
 use Rattle.b2_atom.specs.Grammar.{reader, item, items, level, deep, statement, many, absent, row_items, starts, read_leaf, variable_begins}
@@ -22,7 +22,7 @@ use Rattle.b2_expr.specs.Value.{Surroundings, Answer, inside, behind, leaf_text,
 use Rattle.b2_expr.specs.Walk.{Found, left, expression_at}
 use Rattle.b2_expr.proofs.Operands.{expression_read}
 use Rattle.b2_machine.specs.Plan.{not_built, built_width, asked, number_in, letters_behind, letters_at, assigns, plan_word, plan_with}
-use Rattle.b2_machine.specs.Planned.{is_letter_alone, is_built_tree, letter_in, letters_in, behind_all, assigned_in, where_tree_built}
+use Rattle.b2_machine.specs.AskedByTree.{is_letter_alone, is_built_tree, letter_in, letters_in, behind_all, assigned_in, where_tree_built}
 use Rattle.b2_machine.specs.declared.request.Request.{Request}
 use Rattle.b2_machine.specs.declared.request.Request.TheVariants as request
 use Rattle.b2_machine.proofs.PlainTrees.{Holds, holds_joined, by_row, sign_items, none_items}
@@ -64,7 +64,7 @@ unfolding row_items
 assignment_row = refl
 
 -- a receiver that is built is a letter
-alone_front : (w : ℕ) (t : Text) → is_letter_alone (map (kept Atoms) (take w t)) ≡ true → t ≡ first (map (kept Atoms) (take w t)) ∷ drop w t
+alone_front : (w : ℕ) (t : Text) → is_letter_alone (map (kept_byte Atoms) (take w t)) ≡ true → t ≡ first (map (kept_byte Atoms) (take w t)) ∷ drop w t
 alone_front zero t h = cc
 alone_front (suc w) [] h = cc
 alone_front (suc zero) (b ∷ bs) h = refl
@@ -77,14 +77,14 @@ never_built false y h = cc
 
 letter_maybe : (x : Bool) (w : ℕ) (t : Text) (o : Outcome)
     → Holds (λ a r. is_built_tree a ≡ true → t ≡ first (leaf_text a) ∷ r)
-    (joined (Put (Plain leaf.Name (map (kept Atoms) (take w t))) Done) (and_then (if x then under 1 o else absent (drop w t)) nothing))
-letter_maybe true w t (Ok p) = λ built. never_built (is_letter_alone (map (kept Atoms) (take w t))) (is_built_tree p.0 && true) built
+    (preceded (Put (Plain leaf.Name (map (kept_byte Atoms) (take w t))) Done) (and_then (if x then under 1 o else absent (drop w t)) nothing))
+letter_maybe true w t (Ok p) = λ built. never_built (is_letter_alone (map (kept_byte Atoms) (take w t))) (is_built_tree p.0 && true) built
 letter_maybe true w t (Err e) = tt
 letter_maybe false w t o = λ built. alone_front w t (and_left _ _ (and_left _ _ built))
 
 letter_by : (none : Bool) (w : ℕ) (t : Text) (e : Stop) (sub : Parser Text)
     → Holds (λ a r. is_built_tree a ≡ true → t ≡ first (leaf_text a) ∷ r)
-    (and_then (if none then Err e else one (Plain leaf.Name (map (kept Atoms) (take w t))) (drop w t)) (λ u. and_then (if first u == 40 then under 1 (sub u) else absent u) nothing))
+    (and_then (if none then Err e else one (Plain leaf.Name (map (kept_byte Atoms) (take w t))) (drop w t)) (λ u. and_then (if first u == 40 then under 1 (sub u) else absent u) nothing))
 letter_by true w t e sub = tt
 letter_by false w t e sub = letter_maybe (first (drop w t) == 40) w t (sub (drop w t))
 

@@ -3,11 +3,11 @@
 use Rattle.std.proofs.Common.{◌≡◌, ℕ, zero, suc, ◌+◌, ◌≤◌, Bool, true, false, not, if◌then◌else◌, ◌==◌, ◌&&◌, ◌||◌, nat_lt, nat_le, List, [], ◌∷◌, length, take, drop, map, get_or, length-drop, Option, Some, None, refl, sym, ap, subst, ◌∙◌, arith, Ok, Err}
 use Rattle.std.proofs.lemmas.Bool.Decides.{nat_tests}
 use Rattle.b2_base.specs.Lexical.{digits_width, first, is_digit, is_letter}
-use Rattle.b2_atom.specs.Words.{Text, kept}
+use Rattle.b2_atom.specs.Words.{Text, kept_byte}
 use Rattle.b2_atom.specs.Tokens.Token.{Coded, Plain}
-use Rattle.b2_atom.specs.Tree.{Trees, Outcome, Parser, one, nothing, joined, and_then, under, also}
+use Rattle.b2_atom.specs.Tree.{Trees, Outcome, Parser, one, nothing, preceded, and_then, under, also}
 use Rattle.b2_atom.specs.Tree.Trees.{Done, Put, In}
-use Rattle.b2_atom.specs.Leaves.{number_width, mantissa_of, number_of, name_width, is_alpha_name, alpha_name_width, literal_width, until_quote, refused, missing}
+use Rattle.b2_atom.specs.Leaves.{number_width, mantissa_of, number_width_by, name_width, is_alpha_name, alpha_name_width, literal_width, until_quote, refused, missing}
 use Rattle.b2_atom.specs.Grammar.{reader, item, items, level, deep, many, absent, row_items, starts, mark, among, read_leaf}
 use Rattle.b2_atom.specs.declared.words.Origin.TheVariants.{Atoms}
 use Rattle.b2_atom.specs.declared.sink.Stop.{Stop}
@@ -21,7 +21,7 @@ use Rattle.b2_atom.specs.declared.forms.Item.TheVariants.{Word, Sign, Among, Pro
 use Rattle.b2_atom.specs.declared.rows.TheConstants as row
 use Rattle.b2_expr.specs.Value.{branch}
 use Rattle.b2_machine.specs.Plan.{is_sign, goes_on_name, built_width, is_built_behind, is_built}
-use Rattle.b2_machine.specs.Planned.{is_letter_alone, is_built_tree}
+use Rattle.b2_machine.specs.AskedByTree.{is_letter_alone, is_built_tree}
 use Rattle.b2_machine.proofs.Booleans.{equal, and_left, and_right, or_cases, not_true, begins, and_true, never}
 
 -- all of a text
@@ -108,7 +108,7 @@ both_say k m t u v a b first_says alone says = (
       ),
 )
 
-joined_row : (k m : ℕ) (t u : Text) (a : Trees) (o : Outcome) → Says k t a u → Alone a → Row m u o → Row (k + m) t (joined a o)
+joined_row : (k m : ℕ) (t u : Text) (a : Trees) (o : Outcome) → Says k t a u → Alone a → Row m u o → Row (k + m) t (preceded a o)
 joined_row k m t u a (Ok p) says alone h = both_say k m t u p.1 a p.0 says alone h
 joined_row k m t u a (Err e) says alone h = tt
 
@@ -159,7 +159,7 @@ chain_say k m t u v a b says alone more ends = (
     also_assoc (Put token x) y z = ap (Put token) (also_assoc x y z)
     also_assoc (In n part x) y z = ap (In n part) (also_assoc x y z)
 
-joined_items : (k m : ℕ) (t u : Text) (a : Trees) (o : Outcome) → Says k t a u → Alone a → OneItem m u o → OneItem (k + m) t (joined a o)
+joined_items : (k m : ℕ) (t u : Text) (a : Trees) (o : Outcome) → Says k t a u → Alone a → OneItem m u o → OneItem (k + m) t (preceded a o)
 joined_items k m t u a (Ok p) says alone h = chain_say k m t u p.1 a p.0 says alone h.0 h.1
 joined_items k m t u a (Err e) says alone h = tt
 
@@ -183,7 +183,7 @@ Stopped t (Err e) = Unit {0}
 both_false : (a b c : Bool) → a ≡ false → b ≡ false → a ≡ (b && c)
 both_false a b c h k = h ∙ sym (ap (λ (x : Bool). x && c) k)
 
-joined_stop : (k : ℕ) (t : Text) (a : Trees) (o : Outcome) → whole t ≡ false → ((b : Trees) → is_built_tree (also a b) ≡ false) → Row k t (joined a o)
+joined_stop : (k : ℕ) (t : Text) (a : Trees) (o : Outcome) → whole t ≡ false → ((b : Trees) → is_built_tree (also a b) ≡ false) → Row k t (preceded a o)
 joined_stop k t a (Ok p) h unbuilt = (both_false (whole t) (is_built_tree (also a p.0)) (whole p.1) h (unbuilt p.0), λ built. never (is_built_tree (also a p.0)) built (unbuilt p.0))
 joined_stop k t a (Err e) h unbuilt = tt
 
@@ -265,7 +265,7 @@ among_by low high t e true is h = (some_text t (among_none low high t h is), λ 
 -- numbers
 no_number : (b : ℕ) (bs : Text) → is_digit b ≡ false → (b == 46) ≡ false → number_width Atoms (b ∷ bs) ≡ 0
 no_number b bs h k =
-    ap (λ (m : ℕ). number_of Atoms m (b ∷ bs))
+    ap (λ (m : ℕ). number_width_by Atoms m (b ∷ bs))
     (ap (λ (d : ℕ). if get_or (b ∷ bs) d 0 == 46 then mantissa_of d (digits_width (drop (d + 1) (b ∷ bs))) else d) (ap (λ (x : Bool). if x then suc (digits_width bs) else 0) h)
     ∙ ap (λ (x : Bool). if x then mantissa_of 0 (digits_width (drop 1 (b ∷ bs))) else 0) k)
 
@@ -364,7 +364,7 @@ literal_stops t e text n false y false is h = cc
 
 -- names, and subscripts behind them
 abbrev name_read : ℕ → Text → Stop → Outcome
-name_read w t e = if w == 0 then Err e else one (Plain leaf.Name (map (kept Atoms) (take w t))) (drop w t)
+name_read w t e = if w == 0 then Err e else one (Plain leaf.Name (map (kept_byte Atoms) (take w t))) (drop w t)
 
 abbrev behind_name : Parser Text → Parser Text → Parser Text
 behind_name sub q u = and_then (if first u == 40 then under 1 (sub u) else absent u) q
@@ -373,10 +373,10 @@ and_false : (a : Bool) → (a && false) ≡ false
 and_false true = refl
 and_false false = refl
 
-name_stops : (k : ℕ) (t text : Text) (o : Outcome) → built_width t ≡ None → is_letter_alone text ≡ false → Row k t (joined (Put (Plain leaf.Name text) Done) o)
+name_stops : (k : ℕ) (t text : Text) (o : Outcome) → built_width t ≡ None → is_letter_alone text ≡ false → Row k t (preceded (Put (Plain leaf.Name text) Done) o)
 name_stops k t text o none other = joined_stop k t (Put (Plain leaf.Name text) Done) o (some_text t none) (λ b. ap (λ (x : Bool). (x && branch b == 0) && is_built_tree b) other)
 
-subscripted : (k : ℕ) (t text : Text) (a : Trees) (o : Outcome) → built_width t ≡ None → Row k t (joined (Put (Plain leaf.Name text) Done) (joined (In 1 a Done) o))
+subscripted : (k : ℕ) (t text : Text) (a : Trees) (o : Outcome) → built_width t ≡ None → Row k t (preceded (Put (Plain leaf.Name text) Done) (preceded (In 1 a Done) o))
 subscripted k t text a (Err e) none = tt
 subscripted k t text a (Ok p) none =
     let unbuilt : is_built_tree (Put (Plain leaf.Name text) (In 1 a p.0)) ≡ false = ap (λ (x : Bool). x && (is_built_tree a && is_built_tree p.0)) (and_false (is_letter_alone text)) in
@@ -386,7 +386,7 @@ one_more : (k a b : ℕ) → k + a ≤ b → suc k + a ≤ suc b
 one_more k a b h = omega arith
 
 letter_says : (k b : ℕ) (bs : Text) (o : Outcome) → is_letter b ≡ true → built_width (b ∷ bs) ≡ Some 1 → Row k bs o
-    → Row (suc k) (b ∷ bs) (joined (Put (Plain leaf.Name (b ∷ [])) Done) (joined (In 0 Done Done) o))
+    → Row (suc k) (b ∷ bs) (preceded (Put (Plain leaf.Name (b ∷ [])) Done) (preceded (In 0 Done Done) o))
 letter_says k b bs (Err e) letter is h = tt
 letter_says k b bs (Ok p) letter is h =
     let tree : is_built_tree (Put (Plain leaf.Name (b ∷ [])) (In 0 Done p.0)) ≡ is_built_tree p.0 = ap (λ (x : Bool). (x && true) && is_built_tree p.0) letter in (
@@ -397,13 +397,13 @@ letter_says k b bs (Ok p) letter is h =
 -- a letter alone, with subscripts or none
 letter_row : (k b : ℕ) (bs : Text) (sub q : Parser Text) (x : Bool) → is_letter b ≡ true → is_digit (get_or (b ∷ bs) 1 0) ≡ false → is_alpha_name Atoms (b ∷ bs) ≡ false
     → ((u : Text) → Row k u (q u)) → (first bs == 40) ≡ x
-    → Row (suc k) (b ∷ bs) (joined (Put (Plain leaf.Name (b ∷ [])) Done) (and_then (if x then under 1 (sub bs) else absent bs) q))
+    → Row (suc k) (b ∷ bs) (preceded (Put (Plain leaf.Name (b ∷ [])) Done) (and_then (if x then under 1 (sub bs) else absent bs) q))
 letter_row k b bs sub q true letter digit alpha h is = by_sub (sub bs)
   where
     none : built_width (b ∷ bs) ≡ None
     none = letter_width b bs true letter (goes_on_open (first bs) is)
 
-    by_sub : (o : Outcome) → Row (suc k) (b ∷ bs) (joined (Put (Plain leaf.Name (b ∷ [])) Done) (and_then (under 1 o) q))
+    by_sub : (o : Outcome) → Row (suc k) (b ∷ bs) (preceded (Put (Plain leaf.Name (b ∷ [])) Done) (and_then (under 1 o) q))
     by_sub (Ok p) = subscripted (suc k) (b ∷ bs) (b ∷ []) p.0 (q p.1) none
     by_sub (Err e) = tt
 letter_row k b bs sub q false letter digit alpha h is =
@@ -411,7 +411,7 @@ letter_row k b bs sub q false letter digit alpha h is =
     letter_says k b bs (q bs) letter
     (letter_width b bs false letter (goes_not_on (first bs) (ap is_digit (sym (second_is b bs)) ∙ digit) (ap (λ (n : ℕ). n == 36) (sym (second_is b bs)) ∙ dollar) is)) (h bs)
 
-two_bytes : (b : ℕ) (bs : Text) → is_digit (get_or (b ∷ bs) 1 0) ≡ true → is_letter_alone (map (kept Atoms) (take 2 (b ∷ bs))) ≡ false
+two_bytes : (b : ℕ) (bs : Text) → is_digit (get_or (b ∷ bs) 1 0) ≡ true → is_letter_alone (map (kept_byte Atoms) (take 2 (b ∷ bs))) ≡ false
 two_bytes b [] h = cc
 two_bytes b (c ∷ cs) h = refl
 
@@ -420,16 +420,16 @@ other_byte b [] h = h
 other_byte b (c ∷ cs) h = refl
 
 at_row : (k w b : ℕ) (bs : Text) (e : Stop) (q : Parser Text) (none : Bool) → (w == 0) ≡ none → is_letter b ≡ false → built_width (b ∷ bs) ≡ None
-    → Row k (b ∷ bs) (and_then (if none then Err e else one (Plain leaf.Name (map (kept Atoms) (take w (b ∷ bs)))) (drop w (b ∷ bs))) q)
+    → Row k (b ∷ bs) (and_then (if none then Err e else one (Plain leaf.Name (map (kept_byte Atoms) (take w (b ∷ bs)))) (drop w (b ∷ bs))) q)
 at_row k w b bs e q true is letter width = tt
 at_row k zero b bs e q false is letter width = cc
-at_row k (suc w) b bs e q false is letter width = name_stops k (b ∷ bs) (b ∷ map (kept Atoms) (take w bs)) (q (drop w bs)) width (other_byte b (map (kept Atoms) (take w bs)) letter)
+at_row k (suc w) b bs e q false is letter width = name_stops k (b ∷ bs) (b ∷ map (kept_byte Atoms) (take w bs)) (q (drop w bs)) width (other_byte b (map (kept_byte Atoms) (take w bs)) letter)
 
 name_by : (k b : ℕ) (bs : Text) (e : Stop) (sub q : Parser Text) (x y z : Bool) → is_letter b ≡ x → is_digit (get_or (b ∷ bs) 1 0) ≡ y → (b == 64) ≡ z → is_alpha_name Atoms (b ∷ bs) ≡ false
     → ((u : Text) → Row k u (q u)) → Row (suc k) (b ∷ bs) (and_then (name_read (name_width Atoms (b ∷ bs)) (b ∷ bs) e) (behind_name sub q))
 name_by k b bs e sub q true true z hx hy hz alpha h =
     subst (λ (w : ℕ). Row (suc k) (b ∷ bs) (and_then (name_read w (b ∷ bs) e) (behind_name sub q))) (sym (width_letter b bs true hx hy))
-    (name_stops (suc k) (b ∷ bs) (map (kept Atoms) (take 2 (b ∷ bs))) (behind_name sub q (drop 2 (b ∷ bs)))
+    (name_stops (suc k) (b ∷ bs) (map (kept_byte Atoms) (take 2 (b ∷ bs))) (behind_name sub q (drop 2 (b ∷ bs)))
     (letter_width b bs true hx (goes_on_digit (first bs) (ap is_digit (sym (second_is b bs)) ∙ hy))) (two_bytes b bs hy))
 name_by k b bs e sub q true false z hx hy hz alpha h =
     subst (λ (w : ℕ). Row (suc k) (b ∷ bs) (and_then (name_read w (b ∷ bs) e) (behind_name sub q))) (sym (width_letter b bs false hx hy))
@@ -557,11 +557,11 @@ items_row st dp p hd hp (LeftOut ∷ is) h t = cc
 items_row st dp p hd hp (End ∷ is) h t = cc
 items_row st dp p hd hp (Typed leaf.Number code ∷ is) h t =
     row_then 1 (least is) t _ (items st dp p (reader Atoms) is)
-    (number_by t (missing Atoms leaf.Number code t) (number_width Atoms t) (number_width Atoms t == 0) (λ w. map (kept Atoms) (take w t)) refl refl) (items_row st dp p hd hp is h)
+    (number_by t (missing Atoms leaf.Number code t) (number_width Atoms t) (number_width Atoms t == 0) (λ w. map (kept_byte Atoms) (take w t)) refl refl) (items_row st dp p hd hp is h)
 items_row st dp p hd hp (Typed leaf.SignedNumber code ∷ is) h t = cc
 items_row st dp p hd hp (Typed leaf.Name code ∷ is) h t = cc
 items_row st dp p hd hp (Typed leaf.AlphaName code ∷ is) h t =
-    stopped_then _ t _ _ (alpha_stops t (missing Atoms leaf.AlphaName code t) (map (kept Atoms) (take (alpha_name_width Atoms t) t)) (name_width Atoms t + 1) (is_alpha_name Atoms t) (alpha_name_width Atoms t == 0) refl refl)
+    stopped_then _ t _ _ (alpha_stops t (missing Atoms leaf.AlphaName code t) (map (kept_byte Atoms) (take (alpha_name_width Atoms t) t)) (name_width Atoms t + 1) (is_alpha_name Atoms t) (alpha_name_width Atoms t == 0) refl refl)
 items_row st dp p hd hp (Typed leaf.LocalName code ∷ is) h t = cc
 items_row st dp p hd hp (Typed leaf.FunctionName code ∷ is) h t = cc
 items_row st dp p hd hp (Typed leaf.Literal code ∷ is) h t =

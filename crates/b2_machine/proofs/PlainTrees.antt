@@ -2,14 +2,14 @@
 use Rattle.std.proofs.Common.{◌≡◌, ℕ, zero, suc, Bool, true, false, if◌then◌else◌, ◌==◌, ◌&&◌, nat_lt, List, [], ◌∷◌, length, drop, refl, sym, ap, subst, ◌∙◌, arith, Ok, Err}
 use Rattle.std.proofs.lemmas.Bool.Decides.{nat_tests}
 use Rattle.b2_dec.specs.declared.number.Mode.TheVariants.{Round, Cut}
-use Rattle.b2_base.specs.Lexical.{first}
+use Rattle.b2_base.specs.Lexical.{first, is_decimal}
 use Rattle.b2_atom.specs.Words.{Text}
 use Rattle.b2_atom.specs.Tokens.{Token}
 use Rattle.b2_atom.specs.Tokens.Token.{Coded, Lined}
-use Rattle.b2_atom.specs.Tree.{Trees, Outcome, Parser, one, nothing, joined, and_then, under, also}
+use Rattle.b2_atom.specs.Tree.{Trees, Outcome, Parser, one, nothing, preceded, and_then, under, also}
 use Rattle.b2_atom.specs.Tree.Trees.{Done, Put, In}
 use Rattle.b2_atom.specs.Leaves.{refused}
-use Rattle.b2_atom.specs.Grammar.{reader, item, items, level, absent, row_items, starts, mark, read_leaf, atoms_line_number, is_decimal}
+use Rattle.b2_atom.specs.Grammar.{reader, item, items, level, absent, row_items, starts, mark, read_leaf, atoms_line_number}
 use Rattle.b2_atom.specs.declared.words.Origin.TheVariants.{Atoms}
 use Rattle.b2_atom.specs.declared.sink.Stop.{Stop}
 use Rattle.b2_atom.specs.declared.sink.Stop.TheVariants.{At}
@@ -21,8 +21,8 @@ use Rattle.b2_atom.specs.declared.forms.Item.TheVariants.{Word, Sign, LeftOut, T
 use Rattle.b2_atom.specs.declared.rows.TheConstants as row
 use Rattle.b2_atom.specs.declared.words.TheConstants as word
 use Rattle.b2_expr.specs.Value.{Surroundings, behind, branch}
-use Rattle.b2_machine.specs.Plan.{not_built, line_of, range_at, plan_with}
-use Rattle.b2_machine.specs.Planned.{line_in, lines_in, range_in}
+use Rattle.b2_machine.specs.Plan.{not_built, line_number, range_at, plan_with}
+use Rattle.b2_machine.specs.AskedByTree.{line_number_in, lines_in, range_in}
 use Rattle.b2_machine.specs.declared.request.Request.{Request}
 use Rattle.b2_machine.specs.declared.request.Request.TheVariants as request
 use Rattle.b2_machine.proofs.Booleans.{equal, begins}
@@ -32,7 +32,7 @@ abbrev pub Holds : (Trees → Text → Type 0) → Outcome → Type 0
 Holds v (Ok p) = v p.0 p.1
 Holds v (Err e) = Unit {0}
 
-pub holds_joined : (v : Trees → Text → Type 0) (a : Trees) (o : Outcome) → Holds (λ b rest. v (also a b) rest) o → Holds v (joined a o)
+pub holds_joined : (v : Trees → Text → Type 0) (a : Trees) (o : Outcome) → Holds (λ b rest. v (also a b) rest) o → Holds v (preceded a o)
 holds_joined v a (Ok p) h = h
 holds_joined v a (Err e) h = h
 
@@ -154,7 +154,7 @@ any v (Err e) h = tt
 
 -- each row
 pub goto_is : (s : Surroundings) (column : ℕ) (st : Place → Parser Text) (dp : ℕ → Parser Text) (l : ℕ) (t : Text)
-    → Holds (λ a r. plan_with s column t ≡ request.Jump (line_in (behind a))) (level (reader Atoms) st dp l row.GOTO t)
+    → Holds (λ a r. plan_with s column t ≡ request.Jump (line_number_in (behind a))) (level (reader Atoms) st dp l row.GOTO t)
 goto_is s column st dp l t = by_row _ st dp row.GOTO (Word word.GOTO ∷ Typed leaf.LineNumber 15 ∷ []) t goto_row (λ m.
     word_items word.GOTO st dp _ t (Typed leaf.LineNumber 15 ∷ []) _ refl (λ front.
     line_items 15 st dp _ (drop 1 t) [] _ (λ b c u behind_it.
@@ -221,7 +221,7 @@ clear_is s column st dp l t = by_row _ st dp row.CLEAR (Word word.CLEAR ∷ []) 
 
 -- line numbers
 second_line : (st : Place → Parser Text) (dp : ℕ → Parser Text) (last : ℕ → ℕ) (f : ℕ → ℕ → Request) (b c l : ℕ) (t : Text)
-    → Holds (λ a r. range_at last f (255 ∷ b ∷ c ∷ t) ≡ f (line_of b c) (line_in (behind a))) (level (reader Atoms) st dp l row.COMMA_LINE t)
+    → Holds (λ a r. range_at last f (255 ∷ b ∷ c ∷ t) ≡ f (line_number b c) (line_number_in (behind a))) (level (reader Atoms) st dp l row.COMMA_LINE t)
 second_line st dp last f b c l t = by_row _ st dp row.COMMA_LINE (Sign 44 13 ∷ Typed leaf.LineNumber 15 ∷ []) t comma_line_row (λ m.
     sign_items 44 13 st dp _ t (Typed leaf.LineNumber 15 ∷ []) _ refl (λ comma.
     line_items 15 st dp _ (drop 1 t) [] _ (λ d e u next.
@@ -233,7 +233,7 @@ unfolding items item starts
 lines_items st dp last f m b c t =
     holds_maybe (first t == 44) _ (level (reader Atoms) st dp m row.COMMA_LINE t) t (λ is. two (level (reader Atoms) st dp m row.COMMA_LINE t) (second_line st dp last f b c m t)) (λ is none. ap (λ (x : Text). range_at last f (255 ∷ b ∷ c ∷ x)) none)
   where
-    two : (o : Outcome) → Holds (λ a r. range_at last f (255 ∷ b ∷ c ∷ t) ≡ f (line_of b c) (line_in (behind a))) o
+    two : (o : Outcome) → Holds (λ a r. range_at last f (255 ∷ b ∷ c ∷ t) ≡ f (line_number b c) (line_number_in (behind a))) o
         → Holds (λ a r. r ≡ [] → range_at last f (255 ∷ b ∷ c ∷ t) ≡ lines_in last f (Put (Lined b c) (In 1 a Done))) o
     two (Ok p) h = λ none. h
     two (Err e) h = tt

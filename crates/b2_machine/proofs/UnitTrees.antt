@@ -13,7 +13,7 @@ use Rattle.b2_atom.specs.declared.forms.Place.{Place}
 use Rattle.b2_atom.specs.declared.rows.TheConstants as row
 use Rattle.b2_expr.specs.Value.{Surroundings}
 use Rattle.b2_machine.specs.Plan.{plan_with, plan}
-use Rattle.b2_machine.specs.Planned.{request_of}
+use Rattle.b2_machine.specs.AskedByTree.{request_of}
 use Rattle.b2_machine.specs.declared.request.Request.{Request}
 use Rattle.b2_machine.proofs.OtherRows.{NotBuilt, is_built_row, Otherwise, other_rows, assigned_row}
 use Rattle.b2_machine.proofs.PlainTrees.{known, goto_is, end_is, remark_is, image_is, select_is, no_round_is, run_is, list_is, clear_is, clear_p_is}

@@ -1,4 +1,4 @@
 pub mod Refusals
 pub mod Plan
-pub mod Planned
+pub mod AskedByTree
 pub mod Machine

@@ -1,6 +1,7 @@
 -- The machine of one partition at one terminal: its state, a step and a turn.
 use Rattle.std.specs.Prelude.{ℕ, suc, zero, ◌+◌, ◌/◌, ◌%◌, ◌==◌, nat_lt, Bool, List, [], ◌∷◌, ◌++◌, length, set, replicate, codes, filter, flat_map, Option, Some, None, Result, Ok, Err, option_map, if◌then◌else◌, slice_get}
 use Rattle.std.specs.Fmt.{decimal}
+use Rattle.b2_base.specs.Byte as byte
 use Rattle.b2_base.specs.Codes.{class_of}
 use Rattle.b2_base.specs.declared.codes.Fault.{Fault}
 use Rattle.b2_base.specs.declared.codes.Fault.TheVariants as fault
@@ -48,16 +49,16 @@ pub record Stepped : Type 0 where
   pub after : SoloState
   pub end : StepEnd
 
--- it becomes ready, and `:` is to be shown behind a text
-abbrev pub stops : List ℕ → SoloState → Stepped
-stops text s = record { after = record s { pending = Some (text ++ 58 ∷ []); doing = Ready }; end = ends.Ready }
+-- it becomes ready, and `:` is to be shown after a text
+abbrev pub becomes_ready : List ℕ → SoloState → Stepped
+becomes_ready text s = record { after = record s { pending = Some (text ++ byte.colon ∷ []); doing = Ready }; end = ends.Ready }
 
 abbrev pub goes_to : Place → SoloState → Stepped
 goes_to place s = record { after = record s { doing = Running place }; end = ends.GoesOn }
 
 -- `ERR`, the letter of a code's class and its two digits
 abbrev pub code_text : ℕ → List ℕ
-code_text code = codes "ERR " ++ class_of code ∷ (48 + code / 10) ∷ (48 + code % 10) ∷ []
+code_text code = codes "ERR " ++ class_of code ∷ (byte.digit_0 + code / 10) ∷ (byte.digit_0 + code % 10) ∷ []
 
 -- ` AT l` for a program line
 abbrev pub at_text : Place → List ℕ
@@ -65,28 +66,32 @@ at_text (Immediate unit) = []
 at_text (Program line unit) = codes " AT " ++ decimal line
 
 abbrev pub error_text : ℕ → Place → List ℕ
-error_text code place = code_text code ++ at_text place ++ 10 ∷ []
+error_text code place = code_text code ++ at_text place ++ byte.newline ∷ []
+
+-- the letter of the codes that have a column
+abbrev pub class_s : ℕ
+class_s = 83
 
 -- ` COL c` for a code of class S
 abbrev pub column_text : ℕ → ℕ → List ℕ
-column_text code column = if class_of code == 83 then codes " COL " ++ decimal column else []
+column_text code column = if class_of code == class_s then codes " COL " ++ decimal column else []
 
 -- why a typed line isn't taken
 abbrev pub refusal_text : ℕ → ℕ → List ℕ
-refusal_text code column = code_text code ++ column_text code column ++ 10 ∷ []
+refusal_text code column = code_text code ++ column_text code column ++ byte.newline ∷ []
 
 -- an error at a place
 abbrev pub fails : ℕ → Place → SoloState → Stepped
-fails code place s = stops (error_text code place) s
+fails code place s = becomes_ready (error_text code place) s
 
 -- to the first unit of a line, or to the end of the program
 abbrev pub to_line : Option ℕ → SoloState → Stepped
-to_line None s = stops [] s
+to_line None s = becomes_ready [] s
 to_line (Some n) s = goes_to (Program n 0) s
 
--- the place behind a unit, which is the last of its line or not
+-- the place after a unit, which is the last of its line or not
 abbrev pub goes_on : Place → Bool → SoloState → Stepped
-goes_on (Immediate unit) last s = if last then stops [] s else goes_to (Immediate (unit + 1)) s
+goes_on (Immediate unit) last s = if last then becomes_ready [] s else goes_to (Immediate (unit + 1)) s
 goes_on (Program line unit) last s = if last then to_line (number_after (Some line) s.text.lines) s else goes_to (Program line (unit + 1)) s
 
 abbrev pub shows : List ℕ → SoloState → SoloState
@@ -94,7 +99,7 @@ shows text s = record s { terminal = record s.terminal { transcript = s.terminal
 
 -- pending output goes on a line of its own
 abbrev pub on_new_line : List ℕ → SoloState → List ℕ
-on_new_line text s = if s.column == 0 then text else 10 ∷ text
+on_new_line text s = if s.column == 0 then text else byte.newline ∷ text
 
 abbrev pub jumps : Option (List ℕ) → ℕ → Place → SoloState → Stepped
 jumps None n place s = fails P36_NO_LINE place s
@@ -110,11 +115,11 @@ assigned (l ∷ ls) x values = assigned ls x (set values l x)
 
 -- lines as they are listed, each ended by a newline
 abbrev pub each_listed : Lines → List ℕ
-each_listed lines = flat_map (λ l. listing l.0 l.1 ++ 10 ∷ []) lines
+each_listed lines = flat_map (λ l. listing l.0 l.1 ++ byte.newline ∷ []) lines
 
 -- the lines from a number to another as they are listed
-abbrev pub listed : ℕ → ℕ → Lines → List ℕ
-listed from to lines = each_listed (filter (λ l. is_within from to l.0) lines)
+abbrev pub lines_listed : ℕ → ℕ → Lines → List ℕ
+lines_listed from to lines = each_listed (filter (λ l. is_within from to l.0) lines)
 
 abbrev pub with_lines : Lines → SoloState → SoloState
 with_lines lines s = record s { text = record s.text { lines = lines } }
@@ -127,44 +132,44 @@ does (request.Assign letters x) place last s = goes_on place last (record s { va
 does (request.Jump n) place last s = jumps (line_at n s.text.lines) n place s
 does (request.Select chosen) place last s = goes_on place last (record s { mode = chosen })
 does request.Nothing place last s = goes_on place last s
-does request.End place last s = stops [] s
+does request.End place last s = becomes_ready [] s
 does request.Run place last s = to_line (number_after None s.text.lines) (record s { variables = no_values })
-does (request.List from to) place last s = goes_on place last (shows (listed from to s.text.lines) s)
-does request.Clear place last s = stops (codes "READY" ++ 10 ∷ []) (record (with_lines [] s) { variables = no_values })
-does (request.ClearProgram from to) place last s = stops [] (with_lines (without from to s.text.lines) s)
+does (request.List from to) place last s = goes_on place last (shows (lines_listed from to s.text.lines) s)
+does request.Clear place last s = becomes_ready (codes "READY" ++ byte.newline ∷ []) (record (with_lines [] s) { variables = no_values })
+does (request.ClearProgram from to) place last s = becomes_ready [] (with_lines (without from to s.text.lines) s)
 does (request.Fail code) place last s = fails code place s
 
-abbrev pub unit_of : Place → ℕ
-unit_of (Immediate unit) = unit
-unit_of (Program line unit) = unit
+abbrev pub unit_number : Place → ℕ
+unit_number (Immediate unit) = unit
+unit_number (Program line unit) = unit
 
 -- the line at a place
 abbrev pub line_in : Option (List ℕ) → Lines → Place → Option (List ℕ)
 line_in immediate lines (Immediate unit) = immediate
 line_in immediate lines (Program line unit) = line_at line lines
 
-abbrev pub line_of : Place → SoloState → Option (List ℕ)
-line_of place s = line_in s.immediate s.text.lines place
+abbrev pub current_line : Place → SoloState → Option (List ℕ)
+current_line place s = line_in s.immediate s.text.lines place
 
 -- a unit that isn't there ends the program or the immediate line
 abbrev pub performs_unit : Option (List ℕ) → Place → Bool → SoloState → Stepped
-performs_unit None place last s = stops [] s
+performs_unit None place last s = becomes_ready [] s
 performs_unit (Some unit) place last s = does (plan s.variables s.mode s.column unit) place last s
 
 abbrev pub performs_in : Option (List ℕ) → Place → SoloState → Stepped
-performs_in None place s = stops [] s
-performs_in (Some line) place s = performs_unit (option_map (λ u. u.bytes) (slice_get (units_of line) (unit_of place))) place (unit_of place + 1 == length (units_of line)) s
+performs_in None place s = becomes_ready [] s
+performs_in (Some line) place s = performs_unit (option_map (λ u. u.bytes) (slice_get (units_of line) (unit_number place))) place (unit_number place + 1 == length (units_of line)) s
 
 -- what a typed line says is taken; a number alone deletes the line of that number
 abbrev pub enters : Entered → SoloState → SoloState
-enters entered.Empty s = record s { pending = Some (58 ∷ []) }
+enters entered.Empty s = record s { pending = Some (byte.colon ∷ []) }
 enters (entered.Delete n) s = record s { doing = Entering (n, None) }
 enters (entered.Numbered n atoms) s = record s { doing = Entering (n, Some atoms) }
 enters (entered.Immediate atoms) s = record s { immediate = Some atoms; doing = Running (Immediate 0) }
 
 -- or what is missing is shown
 abbrev pub refuses : ℕ → ℕ → SoloState → SoloState
-refuses code column s = record s { pending = Some (refusal_text code column ++ 58 ∷ []) }
+refuses code column s = record s { pending = Some (refusal_text code column ++ byte.colon ∷ []) }
 
 -- or a fault's code, where it has one
 abbrev pub refuses_by : Fault → SoloState → SoloState
@@ -176,14 +181,14 @@ takes (Ok e) s = enters e s
 takes (Err (refusal.At code column)) s = refuses code column s
 takes (Err refusal.NoMemory) s = s
 
-abbrev pub reads : Read → SoloState → Stepped
-reads (read.Line bytes) s = record { after = takes (syntax.reads bytes) (record s { column = 0 }); end = ends.GoesOn }
-reads (read.Special n) s = record { after = s; end = ends.GoesOn }
-reads read.NoKeys s = record { after = s; end = ends.NoKeys }
+abbrev pub reads_line : Read → SoloState → Stepped
+reads_line (read.Line bytes) s = record { after = takes (syntax.reads bytes) (record s { column = 0 }); end = ends.GoesOn }
+reads_line (read.Special n) s = record { after = s; end = ends.GoesOn }
+reads_line read.NoKeys s = record { after = s; end = ends.NoKeys }
 
 -- the program has these lines from now on
 abbrev pub edited : Lines → SoloState → SoloState
-edited lines s = record (with_lines lines s) { pending = Some (58 ∷ []) }
+edited lines s = record (with_lines lines s) { pending = Some (byte.colon ∷ []) }
 
 -- a numbered line goes into the program where its area has room, and a number alone takes its line out
 abbrev pub puts : ℕ → Option (List ℕ) → SoloState → SoloState
@@ -194,9 +199,9 @@ puts n (Some atoms) s =
 
 -- A ready partition reads a line; a numbered line is put into the program; a running one executes a unit.
 abbrev pub acts : Doing → SoloState → Stepped
-acts Ready s = reads (line_read s.terminal) (record s { terminal = after_read s.terminal })
+acts Ready s = reads_line (line_read s.terminal) (record s { terminal = after_read s.terminal })
 acts (Entering line) s = record { after = record (puts line.0 line.1 s) { doing = Ready }; end = ends.GoesOn }
-acts (Running place) s = performs_in (line_of place s) place s
+acts (Running place) s = performs_in (current_line place s) place s
 
 abbrev pub step_by : Option (List ℕ) → SoloState → Stepped
 step_by None s = acts s.doing s
@@ -218,10 +223,10 @@ by_end ends.NoKeys goes_on ready no_keys = no_keys
 
 -- A turn goes on until its steps are done, after a step by which the partition becomes ready, and after one that finds no
 -- line, which doesn't count.
-unfoldable pub turned : ℕ → SoloState → ℕ → Turned
-turned zero s steps = record { after = s; steps = steps }
-turned (suc quota) s steps = by_end (step s).end
-    (turned quota (step s).after (steps + 1))
+unfoldable pub turn_of : ℕ → SoloState → ℕ → Turned
+turn_of zero s steps = record { after = s; steps = steps }
+turn_of (suc quota) s steps = by_end (step s).end
+    (turn_of quota (step s).after (steps + 1))
     (record { after = (step s).after; steps = steps + 1 })
     (record { after = (step s).after; steps = steps })
 
@@ -234,7 +239,7 @@ started = record {
   variables = no_values;
   text = record { area = 8192; lines = [] };
   immediate = None;
-  pending = Some (codes "READY" ++ 10 ∷ 58 ∷ []);
+  pending = Some (codes "READY" ++ byte.newline ∷ byte.colon ∷ []);
   doing = Ready;
 }
 

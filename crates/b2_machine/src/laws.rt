@@ -1,5 +1,5 @@
 // Laws of units, which no code states: each is the contract of a function that does nothing.
-ghost use Rattle.b2_machine.specs.Planned.{UnitsAskByTheirTrees, EachUnitAsksByItsTree};
+ghost use Rattle.b2_machine.specs.AskedByTree.{UnitsAskByTheirTrees, EachUnitAsksByItsTree};
 
 use b2_atom::each_unit_is_a_statement;
 

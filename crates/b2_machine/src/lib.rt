@@ -4,7 +4,7 @@
 //! Stands on `b2_term` for the terminal, on `b2_syntax`, `b2_text` and `b2_lister` for lines, on `b2_expr` for
 //! values, and on `b2_print` for what PRINT shows.
 //!
-//! The definitions are in `specs/`: `Plan` says what a unit asks for by its bytes and `Planned` by its tree, which are the
+//! The definitions are in `specs/`: `Plan` says what a unit asks for by its bytes and `AskedByTree` by its tree, which are the
 //! same (`laws`), and `Machine` what a step and a turn do. `Solo` is seen in contracts as the record `SoloState`, and each
 //! of its calls is proved to be the function of these files, for every state.
 #![tactic(auto)]

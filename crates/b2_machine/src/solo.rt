@@ -3,11 +3,11 @@ ghost use Rattle.std.specs.Prelude.{◌≡◌, ◌≢◌, Some, Err, ◌<◌, �
 ghost use Rattle.std.specs.Option.{option_copied};
 ghost use Rattle.b2_syntax.specs.Reading as syntax;
 ghost use Rattle.b2_term.specs.Terminal.{line_read, after_read};
-ghost use Rattle.b2_machine.specs.Machine.{started, byte_keyed, shows, stops, goes_to, fails, to_line, goes_on, does, assigned, no_values, unit_of, line_in, line_of, performs_in, enters, takes, refuses, refuses_by, reads, acts, puts, step, turned};
+ghost use Rattle.b2_machine.specs.Machine.{started, byte_keyed, shows, becomes_ready, goes_to, fails, to_line, goes_on, does, assigned, no_values, unit_number, line_in, current_line, performs_in, enters, takes, refuses, refuses_by, reads_line, acts, puts, step, turn_of};
 
 use crate::request::Request;
 use crate::statement::ask;
-use crate::texts::{add_error, add_refusal, listed, text_of};
+use crate::texts::{add_error, add_refusal, lines_listed};
 use crate::typed::NumberedLine;
 use b2_atom::Atoms;
 use b2_base::codes::P36_NO_LINE;
@@ -75,8 +75,8 @@ impl Model for Solo {
     ghost view = { λ s. record { terminal = s.terminal; column = s.column; mode = s.mode; variables = s.variables; text = s.text; immediate = s.immediate; pending = s.pending; doing = s.doing } };
 }
 
-// The line at a place, None where there is none.
-fn line_at<'a>(immediate: &'a Option<Atoms>, text: &'a Text, place: Place) -> Option<&'a Atoms>
+/// The line at a place, None where there is none.
+fn line_in<'a>(immediate: &'a Option<Atoms>, text: &'a Text, place: Place) -> Option<&'a Atoms>
     ensures { option_copied result ≡ line_in immediate.now text.now.lines place }
 {
     match place {
@@ -88,8 +88,8 @@ fn line_at<'a>(immediate: &'a Option<Atoms>, text: &'a Text, place: Place) -> Op
     }
 }
 
-fn unit_of(place: Place) -> usize
-    ensures { result ≡ unit_of place }
+fn unit_number(place: Place) -> usize
+    ensures { result ≡ unit_number place }
 {
     match place {
         Place::Immediate(unit) => unit,
@@ -97,8 +97,8 @@ fn unit_of(place: Place) -> usize
     }
 }
 
-// Assigns to letters, from 0 for A, one after another.
-fn assign(variables: &mut [Dec], letters: &[u8], n: Dec)
+/// Assigns to letters, from 0 for A, one after another.
+fn assign_letters(variables: &mut [Dec], letters: &[u8], n: Dec)
     ensures { variables.new ≡ assigned letters.now n variables.old }
 {
     for letter in letters {
@@ -127,7 +127,7 @@ impl Solo {
             variables: [Dec::zero(); 26],
             text: Text::new(alloc, TEXT_AREA)?,
             immediate: None,
-            pending: Some(text_of(alloc, b"READY\n:")?),
+            pending: Some(ByteList::from_slice(alloc, b"READY\n:")?),
             doing: Doing::Ready,
         })
     }
@@ -147,7 +147,7 @@ impl Solo {
         self.terminal.transcript()
     }
 
-    // Shows bytes at the terminal.
+    /// Shows bytes at the terminal.
     fn show(&mut self, bytes: &[u8]) -> Result<(), NoMemory>
         ensures { OnOk result (self.new ≡ shows bytes.now self.old) }
     {
@@ -156,9 +156,9 @@ impl Solo {
         Ok(())
     }
 
-    // It becomes ready, and `:` is to be shown behind a text.
+    /// It becomes ready, and `:` is to be shown after a text.
     fn stop(&mut self, text: &[u8]) -> Result<StepEnd, NoMemory>
-        ensures { IfOk result (λ how. record { after = self.new; end = how } ≡ stops text.now self.old) }
+        ensures { IfOk result (λ how. record { after = self.new; end = how } ≡ becomes_ready text.now self.old) }
     {
         let mut pending = Vec::from_slice(self.alloc, text)?;
         pending.push(b':')?;
@@ -174,16 +174,16 @@ impl Solo {
         StepEnd::GoesOn
     }
 
-    // An error at a place.
+    /// An error at a place.
     fn fail(&mut self, code: Code, place: Place) -> Result<StepEnd, NoMemory>
         ensures { IfOk result (λ how. record { after = self.new; end = how } ≡ fails code place self.old) }
     {
         let mut line = Vec::new(self.alloc);
-        add_error(self.alloc, code, place, &mut line)?;
+        add_error(code, place, &mut line)?;
         self.stop(&line)
     }
 
-    // To the first unit of a line, or to the end of the program.
+    /// To the first unit of a line, or to the end of the program.
     fn go_to_line(&mut self, n: Option<u16>) -> Result<StepEnd, NoMemory>
         ensures { IfOk result (λ how. record { after = self.new; end = how } ≡ to_line n self.old) }
     {
@@ -193,9 +193,9 @@ impl Solo {
         }
     }
 
-    // To the place behind a unit, which is the last of its line or not.
+    /// To the place after a unit, which is the last of its line or not.
     fn go_on(&mut self, place: Place, is_last: bool) -> Result<StepEnd, NoMemory>
-        requires { unit_of place < 255 }
+        requires { unit_number place < 255 }
         ensures { IfOk result (λ how. record { after = self.new; end = how } ≡ goes_on place is_last self.old) }
     {
         match place {
@@ -215,7 +215,7 @@ impl Solo {
         }
     }
 
-    // All variables are zero again.
+    /// All variables are zero again.
     fn forget(&mut self)
         ensures { self.new ≡ record self.old { variables = no_values } }
     {
@@ -223,7 +223,7 @@ impl Solo {
         self.variables = no_values;
     }
 
-    // To a line that a unit at a place names.
+    /// To a line that a unit at a place names.
     fn jump(&mut self, n: u16, place: Place) -> Result<StepEnd, NoMemory>
         ensures { IfOk result (λ how. record { after = self.new; end = how } ≡ does (Request.Jump n) place true self.old) }
     {
@@ -233,14 +233,14 @@ impl Solo {
         Ok(self.go_to(Place::Program(n, 0)))
     }
 
-    // Does what was asked for, by the unit at a place, which is the last of its line or not.
+    /// Does what was asked for, by the unit at a place, which is the last of its line or not.
     fn carry_out(
         &mut self,
         request: Request,
         place: Place,
         is_last: bool,
     ) -> Result<StepEnd, NoMemory>
-        requires { unit_of place < 255 }
+        requires { unit_number place < 255 }
         ensures { IfOk result (λ how. record { after = self.new; end = how } ≡ does request place is_last self.old) }
     {
         match request {
@@ -249,7 +249,7 @@ impl Solo {
                 self.go_on(place, is_last)
             }
             Request::Assign(letters, n) => {
-                assign(&mut self.variables, letters.bytes(), n);
+                assign_letters(&mut self.variables, letters.bytes(), n);
                 self.go_on(place, is_last)
             }
             Request::Jump(n) => self.jump(n, place),
@@ -265,7 +265,7 @@ impl Solo {
                 self.go_to_line(line)
             }
             Request::List(from, to) => {
-                let text = listed(self.alloc, &self.text, from, to)?;
+                let text = lines_listed(self.alloc, &self.text, from, to)?;
                 self.show(text.bytes())?;
                 self.go_on(place, is_last)
             }
@@ -282,14 +282,14 @@ impl Solo {
         }
     }
 
-    // Executes the unit at a place.
+    /// Executes the unit at a place.
     fn perform(&mut self, place: Place) -> Result<StepEnd, NoMemory>
-        ensures { IfOk result (λ how. record { after = self.new; end = how } ≡ performs_in (line_of place self.old) place self.old) }
+        ensures { IfOk result (λ how. record { after = self.new; end = how } ≡ performs_in (current_line place self.old) place self.old) }
     {
-        let Some(line) = line_at(&self.immediate, &self.text, place) else {
+        let Some(line) = line_in(&self.immediate, &self.text, place) else {
             return self.stop(b"");
         };
-        let Some(unit) = line.find_unit(unit_of(place)) else {
+        let Some(unit) = line.find_unit(unit_number(place)) else {
             return self.stop(b"");
         };
         let is_last = unit.is_last;
@@ -303,7 +303,7 @@ impl Solo {
         self.carry_out(request, place, is_last)
     }
 
-    // Takes what a typed line says.
+    /// Takes what a typed line says.
     fn enter(&mut self, entered: Entered) -> Result<(), NoMemory>
         requires { syntax.IsNumbered entered }
         ensures { OnOk result (self.new ≡ enters entered self.old) }
@@ -322,26 +322,26 @@ impl Solo {
         Ok(())
     }
 
-    // `:` is to be shown.
+    /// `:` is to be shown.
     fn accept(&mut self) -> Result<(), NoMemory>
         ensures { OnOk result (self.new ≡ record self.old { pending = Some (58 ∷ []) }) }
     {
-        self.pending = Some(text_of(self.alloc, b":")?);
+        self.pending = Some(ByteList::from_slice(self.alloc, b":")?);
         Ok(())
     }
 
-    // Why a typed line isn't taken is to be shown.
+    /// Why a typed line isn't taken is to be shown.
     fn refuse(&mut self, code: Code, column: usize) -> Result<(), NoMemory>
         ensures { OnOk result (self.new ≡ refuses code column self.old) }
     {
         let mut text = Vec::new(self.alloc);
-        add_refusal(self.alloc, code, column, &mut text)?;
+        add_refusal(code, column, &mut text)?;
         text.push(b':')?;
         self.pending = Some(ByteList::new(text));
         Ok(())
     }
 
-    // The same, where memory didn't fail.
+    /// The same, where memory didn't fail.
     fn refuse_line(&mut self, error: LineErr) -> Result<(), NoMemory>
         ensures { OnOk result ((error ≢ LineErr.NoMemory) × (self.new ≡ takes (Err error) self.old)) }
     {
@@ -351,7 +351,7 @@ impl Solo {
         }
     }
 
-    // The same of a line that isn't put.
+    /// The same of a line that isn't put.
     fn refuse_put(&mut self, fault: Fault) -> Result<(), NoMemory>
         ensures { OnOk result ((fault ≢ Fault.NoMemory) × (self.new ≡ refuses_by fault self.old)) }
     {
@@ -361,7 +361,7 @@ impl Solo {
         }
     }
 
-    // Takes a typed line.
+    /// Takes a typed line.
     fn take(&mut self, line: &[u8]) -> Result<(), NoMemory>
         ensures { OnOk result (self.new ≡ takes (syntax.reads line.now) self.old) }
     {
@@ -371,9 +371,9 @@ impl Solo {
         }
     }
 
-    // Reads a line from the terminal.
+    /// Reads a line from the terminal.
     fn read(&mut self) -> Result<StepEnd, NoMemory>
-        ensures { IfOk result (λ how. record { after = self.new; end = how } ≡ reads (line_read self.old.terminal) (record self.old { terminal = after_read self.old.terminal })) }
+        ensures { IfOk result (λ how. record { after = self.new; end = how } ≡ reads_line (line_read self.old.terminal) (record self.old { terminal = after_read self.old.terminal })) }
     {
         match self.terminal.read_line()? {
             Read::Line(line) => {
@@ -386,7 +386,7 @@ impl Solo {
         }
     }
 
-    // Puts a line into the program where its area has room.
+    /// Puts a line into the program where its area has room.
     fn put(&mut self, n: u16, atoms: &Atoms) -> Result<(), NoMemory>
         requires { n ≤ 9999 }
         ensures { OnOk result (self.new ≡ puts n (Some atoms.now) self.old) }
@@ -397,7 +397,7 @@ impl Solo {
         }
     }
 
-    // Puts a numbered line into the program, or deletes the line of its number.
+    /// Puts a numbered line into the program, or deletes the line of its number.
     fn put_in(&mut self, line: NumberedLine) -> Result<StepEnd, NoMemory>
         ensures { IfOk result (λ how. record { after = self.new; end = how } ≡ acts (Doing.Entering line) self.old) }
     {
@@ -413,7 +413,7 @@ impl Solo {
         Ok(StepEnd::GoesOn)
     }
 
-    // What it does where nothing is to be shown.
+    /// What it does where nothing is to be shown.
     fn act(&mut self) -> Result<StepEnd, NoMemory>
         ensures { IfOk result (λ how. record { after = self.new; end = how } ≡ acts self.old.doing self.old) }
     {
@@ -424,7 +424,7 @@ impl Solo {
         }
     }
 
-    // One step.
+    /// One step.
     fn step(&mut self) -> Result<StepEnd, NoMemory>
         ensures { IfOk result (λ how. record { after = self.new; end = how } ≡ step self.old) }
     {
@@ -440,9 +440,10 @@ impl Solo {
         }
     }
 
-    /// A turn of at most so many counting steps: how many there were.
+    /// A turn of at most `quota` counting steps: how many there were.
     pub fn turn(&mut self, quota: u16) -> Result<u16, NoMemory>
-        ensures { IfOk result (λ steps. record { after = self.new; steps = steps } ≡ turned quota self.old 0) }
+        ensures few { IfOk result (λ steps. steps ≤ quota) }
+        ensures turn_of { IfOk result (λ steps. record { after = self.new; steps = steps } ≡ turn_of quota self.old 0) }
     {
         let mut steps = 0;
         for _ in 0..quota {

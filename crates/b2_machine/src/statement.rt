@@ -2,9 +2,9 @@
 ghost use Rattle.std.specs.Prelude.{◌≡◌, ◌<◌, ◌++◌, ◌∷◌, [], length, drop, get_or, true, MatchResult, IfOk, OnOk, Ok, Err};
 ghost use Rattle.b2_print.specs.Columns.{column_after};
 ghost use Rattle.b2_print.specs.Layout.{layout};
-ghost use Rattle.b2_base.specs.Lexical.{first, is_letter};
+ghost use Rattle.b2_base.specs.Lexical.{first};
 ghost use Rattle.b2_machine.specs.Refusals.{Refused, FailsWith};
-ghost use Rattle.b2_machine.specs.Plan.{is_sign, goes_on_name, built_width, is_built, line_of, line_at, range_at, letters_at, with_rest, behind_letters, number_in, assigns, printed_at, items_of, wants_line, ended, print_items, laid, prints, selects, clears, lists, runs, where_built, plan_word, plan_with, plan};
+ghost use Rattle.b2_machine.specs.Plan.{not_built, is_sign, goes_on_name, built_width, is_built, line_number, line_number_at, range_at, letters_at, with_rest, behind_letters, number_in, assigns, printed_at, items_of, wants_line, newline_where, print_items, laid, prints, selects, clears, lists, runs, where_built, plan_word, plan_with, plan};
 ghost use Rattle.b2_machine.specs.declared.request.Request.TheVariants as request;
 
 use crate::request::Request;
@@ -32,9 +32,9 @@ pub enum Printed {
     Join,
 }
 
-// A statement, or a part of one, that isn't built yet.
+/// A statement, or a part of one, that isn't built yet.
 fn not_built() -> Request
-    ensures { result ≡ request.Fail 27 }
+    ensures { result ≡ not_built }
 {
     Request::Fail(Code::known(S27_LEFT_OUT))
 }
@@ -45,14 +45,14 @@ fn is_sign(byte: u8) -> bool
     byte >= b'(' && byte <= b'-' || byte == b'/' || byte == b';' || byte == b'=' || byte == b'^'
 }
 
-// Whether a byte behind a letter makes it another name, an alpha name or an element.
+/// Whether a byte after a letter makes it another name, an alpha name or an element.
 fn goes_on_name(text: &[u8]) -> bool
     ensures { result ≡ goes_on_name (first text.now) }
 {
     matches!(text, [b'0'..=b'9' | b'$' | b'(', ..])
 }
 
-// How wide the operand or sign at a text is, where it is built.
+/// How wide the operand or sign at a text is, where it is built.
 fn built_width(text: &[u8]) -> Option<usize>
     ensures { result ≡ built_width text.now }
 {
@@ -64,7 +64,7 @@ fn built_width(text: &[u8]) -> Option<usize>
     }
 }
 
-// Whether all operands and signs of a text are built.
+/// Whether all operands and signs of a text are built.
 fn is_built(text: &[u8]) -> bool
     ensures { result ≡ is_built (length text.now) text.now }
 {
@@ -78,15 +78,15 @@ fn is_built(text: &[u8]) -> bool
     true
 }
 
-// The line number at a text: FF and four decimal digits.
-fn line_at(text: &[u8]) -> u16
-    ensures { result ≡ line_at text.now }
+/// The line number at a text: FF and four decimal digits.
+fn line_number_at(text: &[u8]) -> u16
+    ensures { result ≡ line_number_at text.now }
 {
     let (high, low) = (u16::from(at(text, 1)), u16::from(at(text, 2)));
     high / 16 * 1000 + high % 16 * 100 + low / 16 * 10 + low % 16
 }
 
-// What LIST asks for.
+/// What LIST asks for.
 fn ask_list(text: &[u8]) -> Request
     ensures { result ≡ lists text.now }
 {
@@ -96,15 +96,15 @@ fn ask_list(text: &[u8]) -> Request
     if text.is_empty() {
         return Request::List(0, 9999);
     }
-    let first = line_at(text);
+    let first = line_number_at(text);
     if at(text, 3) == b',' {
-        Request::List(first, line_at(dropped(text, 4)))
+        Request::List(first, line_number_at(dropped(text, 4)))
     } else {
         Request::List(first, first)
     }
 }
 
-// What CLEAR asks for.
+/// What CLEAR asks for.
 fn ask_clear(text: &[u8]) -> Request
     ensures { result ≡ clears text.now }
 {
@@ -115,22 +115,22 @@ fn ask_clear(text: &[u8]) -> Request
     }
 }
 
-// What CLEAR P asks for.
+/// What CLEAR P asks for.
 fn ask_clear_program(text: &[u8]) -> Request
     ensures { result ≡ range_at (λ l. 9999) request.ClearProgram text.now }
 {
     if text.is_empty() {
         return Request::ClearProgram(0, 9999);
     }
-    let first = line_at(text);
+    let first = line_number_at(text);
     if at(text, 3) == b',' {
-        Request::ClearProgram(first, line_at(dropped(text, 4)))
+        Request::ClearProgram(first, line_number_at(dropped(text, 4)))
     } else {
         Request::ClearProgram(first, 9999)
     }
 }
 
-// What SELECT asks for.
+/// What SELECT asks for.
 fn ask_select(text: &[u8]) -> Request
     ensures { result ≡ selects text.now }
 {
@@ -144,7 +144,7 @@ fn ask_select(text: &[u8]) -> Request
     }
 }
 
-// What RUN asks for.
+/// What RUN asks for.
 fn ask_run(text: &[u8]) -> Request
     ensures { result ≡ runs text.now }
 {
@@ -162,7 +162,7 @@ fn add_byte(list: &mut Vec<u8>, byte: u8) -> Result<(), NoMemory>
     Ok(())
 }
 
-// The letters before `=`, from 0 for A, and what stands behind them.
+/// The letters before `=`, from 0 for A, and what stands after them.
 fn letters_at<'a>(letters: &mut Vec<u8>, text: &'a [u8]) -> Result<&'a [u8], NoMemory>
     ensures { IfOk result (λ rest. behind_letters letters.old.items (letters_at (length text.now) text.now) ≡ with_rest letters.new.items rest.now) }
 {
@@ -178,7 +178,7 @@ fn letters_at<'a>(letters: &mut Vec<u8>, text: &'a [u8]) -> Result<&'a [u8], NoM
     Ok(left)
 }
 
-// What an assignment asks for.
+/// What an assignment asks for.
 fn ask_assign(alloc: Global, e: &Env<'_>, text: &[u8]) -> Result<Request, NoMemory>
     ensures { IfOk result (λ request. request ≡ where_built text.now (assigns e.now (letters_at (length text.now) text.now))) }
 {
@@ -193,7 +193,7 @@ fn ask_assign(alloc: Global, e: &Env<'_>, text: &[u8]) -> Result<Request, NoMemo
     }
 }
 
-// The item of PRINT at a cursor, or a separator.
+/// The item of PRINT at a cursor, or a separator.
 fn take_printed(c: &mut Cursor<'_>, e: &Env<'_>) -> Result<Printed, Code>
     ensures { MatchResult result (λ it. printed_at e.now c.old ≡ Ok (it, c.new)) (λ code. printed_at e.now c.old ≡ Err code) }
 {
@@ -213,14 +213,14 @@ fn take_printed(c: &mut Cursor<'_>, e: &Env<'_>) -> Result<Printed, Code>
     }
 }
 
-// Whether a newline belongs behind an item where nothing follows.
+/// Whether a newline belongs after an item where nothing follows.
 fn wants_line(item: &Printed) -> bool
     ensures { result ≡ wants_line item.now }
 {
     matches!(item, Printed::Number(_))
 }
 
-// Shows an item behind a text, and gives the column after it.
+/// Shows an item after a text, and gives the column after it.
 fn show_item(alloc: Global, item: Printed, column: u16, out: &mut Vec<u8>) -> Result<u16, NoMemory>
     ensures text { OnOk result (out.new.items ≡ out.old.items ++ layout 80 column (items_of item)) }
     ensures column { IfOk result (λ after. after ≡ column_after column (layout 80 column (items_of item))) }
@@ -232,9 +232,9 @@ fn show_item(alloc: Global, item: Printed, column: u16, out: &mut Vec<u8>) -> Re
     }
 }
 
-// Shows the newline at the end, where one belongs there.
+/// Shows the newline at the end, where one belongs there.
 fn show_end(alloc: Global, line: bool, column: u16, out: &mut Vec<u8>) -> Result<(), NoMemory>
-    ensures { OnOk result (out.new.items ≡ out.old.items ++ layout 80 column (ended line)) }
+    ensures { OnOk result (out.new.items ≡ out.old.items ++ layout 80 column (newline_where line)) }
 {
     if line {
         lay(alloc, &[Item::Line], column, WIDTH, out)?;
@@ -242,7 +242,7 @@ fn show_end(alloc: Global, line: bool, column: u16, out: &mut Vec<u8>) -> Result
     Ok(())
 }
 
-// Shows the items of PRINT behind a text, or gives the first code.
+/// Shows the items of PRINT after a text, or gives the first code.
 fn show_items(
     alloc: Global,
     e: &Env<'_>,
@@ -268,7 +268,7 @@ fn show_items(
     Ok(())
 }
 
-// A code is shown; want of memory isn't.
+/// A code is shown; that memory failed isn't.
 fn failing(fault: Fault) -> Result<Request, NoMemory>
     ensures { IfOk result (λ request. FailsWith fault request) }
 {
@@ -278,7 +278,7 @@ fn failing(fault: Fault) -> Result<Request, NoMemory>
     }
 }
 
-// What PRINT asks for.
+/// What PRINT asks for.
 fn ask_print(alloc: Global, e: &Env<'_>, column: u16, items: &[u8]) -> Result<Request, NoMemory>
     ensures { IfOk result (λ request. request ≡ where_built items.now (prints e.now column items.now)) }
 {
@@ -292,7 +292,7 @@ fn ask_print(alloc: Global, e: &Env<'_>, column: u16, items: &[u8]) -> Result<Re
     }
 }
 
-// What a statement that begins with a word or with `%` asks for.
+/// What a statement that begins with a word or with `%` asks for.
 fn ask_word(
     alloc: Global,
     e: &Env<'_>,
@@ -304,7 +304,7 @@ fn ask_word(
 {
     match byte {
         PRINT => ask_print(alloc, e, column, rest),
-        GOTO => Ok(Request::Jump(line_at(rest))),
+        GOTO => Ok(Request::Jump(line_number_at(rest))),
         END => Ok(Request::End),
         REM | b'%' => Ok(Request::Nothing),
         SELECT => Ok(ask_select(rest)),
@@ -315,7 +315,7 @@ fn ask_word(
     }
 }
 
-// What the bytes of a unit ask for.
+/// What the bytes of a unit ask for.
 fn ask_bytes(alloc: Global, e: &Env<'_>, column: u16, text: &[u8]) -> Result<Request, NoMemory>
     ensures { IfOk result (λ request. request ≡ plan_with e.now column text.now) }
 {

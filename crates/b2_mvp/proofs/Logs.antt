@@ -1,7 +1,7 @@
 -- A log, line by line.
 use Rattle.std.proofs.Common.{◌≡◌, ℕ, ◌+◌, ◌<◌, ◌≤◌, List, [], ◌∷◌, ◌++◌, ◌==◌, Bool, true, false, length, refl, sym, ap, ◌∙◌, append_assoc, arith, if◌then◌else◌}
 use Rattle.b2_base.specs.Pieces.{pieces, onto}
-use Rattle.b2_mvp.specs.Log.{log_from, onto_log, line_read, lines_of, without_return, without_returns, grants, by_line}
+use Rattle.b2_mvp.specs.Log.{log_from, onto_log, log_line, lines_of, without_return, without_returns, grants, granted_by, by_line}
 use Rattle.b2_mvp.specs.declared.log.Event.{Event}
 use Rattle.b2_mvp.specs.declared.log.LogRead.{LogRead}
 use Rattle.b2_mvp.specs.declared.log.LogRead.TheVariants as log
@@ -14,20 +14,20 @@ onto-onto xs ys (log.Fails line check) = refl
 
 -- the rest of a log by what its first line says
 first_line : (line granted : ℕ) (l : List ℕ) (before after : List (List ℕ)) (r : LineRead)
-    → before ≡ l ∷ after → r ≡ line_read granted l
+    → before ≡ l ∷ after → r ≡ log_line granted l
     → log_from line granted before ≡ by_line r (log_from (line + 1) granted after) (λ e. onto_log (e ∷ []) (log_from (line + 1) (granted + grants e) after)) (λ check. log.Fails line check)
 first_line line granted l before after r cut_is is =
     ap (log_from line granted) cut_is
     ∙ ap (λ (r : LineRead). by_line r (log_from (line + 1) granted after) (λ e. onto_log (e ∷ []) (log_from (line + 1) (granted + grants e) after)) (λ check. log.Fails line check)) (sym is)
 
 pub after_nothing : (line granted : ℕ) (events : List Event) (l : List ℕ) (before after : List (List ℕ)) (all : LogRead)
-    → before ≡ l ∷ after → Nothing ≡ line_read granted l → onto_log events (log_from line granted before) ≡ all
+    → before ≡ l ∷ after → Nothing ≡ log_line granted l → onto_log events (log_from line granted before) ≡ all
     → onto_log events (log_from (line + 1) granted after) ≡ all
 after_nothing line granted events l before after all cut_is is so_far =
     ap (onto_log events) (sym (first_line line granted l before after Nothing cut_is is)) ∙ so_far
 
 pub after_event : (line granted : ℕ) (events : List Event) (e : Event) (l : List ℕ) (before after : List (List ℕ)) (all : LogRead)
-    → before ≡ l ∷ after → Reads e ≡ line_read granted l → onto_log events (log_from line granted before) ≡ all
+    → before ≡ l ∷ after → Reads e ≡ log_line granted l → onto_log events (log_from line granted before) ≡ all
     → onto_log (events ++ e ∷ []) (log_from (line + 1) (granted + grants e) after) ≡ all
 after_event line granted events e l before after all cut_is is so_far =
     onto-onto events (e ∷ []) _
@@ -79,3 +79,8 @@ line_ended text line rest is = ap without_returns is ∙ before_more line (piece
 -- the last line, which no newline ends
 pub last_line : (text line : List ℕ) → pieces 10 text ≡ line ∷ [] → lines_of text ≡ line ∷ []
 last_line text line is = ap without_returns is
+
+-- the steps that one more event grants
+pub granted_more : (es : List Event) (e : Event) → granted_by (es ++ e ∷ []) ≡ granted_by es + grants e
+granted_more [] e = omega arith
+granted_more (x ∷ es) e = let h = granted_more es e in omega arith

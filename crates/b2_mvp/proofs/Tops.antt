@@ -2,7 +2,7 @@
 use Rattle.std.proofs.Common.{◌≡◌, ℕ, ◌≤◌, length, ◌<◌, nat_le, Bool, true, false, if◌then◌else◌, List, ◌++◌, Option, Some, None, refl, sym, ap, subst, ◌∙◌, arith, inl, inr}
 use Rattle.std.specs.Option.{option_map, IfSome, IsSomeAnd}
 use Rattle.b2_base.specs.Counts.{Rose}
-use Rattle.b2_base.specs.Files.{Files, IsAbsent, kept, without}
+use Rattle.b2_base.specs.Files.{Files, IsAbsent, with_file, without_file}
 use Rattle.b2_base.specs.Outside.{IsPartWritten}
 use Rattle.b2_base.specs.Seen.{ShelfSeen, SinkSeen, Later}
 use Rattle.b2_mvp.specs.Log.{log_of}
@@ -30,8 +30,8 @@ output : (name : List ℕ) (ready : Ready) (w : World) (line : List ℕ) (old mi
     → FailsOutput name w.solo.terminal.transcript line old new before after at later_cause sink_cause
 output name ready w line old mid new before after at cause later_cause sink_cause world_is line_is same later h =
     elim h as (λ _. FailsOutput name w.solo.terminal.transcript line old new before after at later_cause sink_cause) [
-      | inl a ↦ inl (a.0, later a.1, a.2 ∙ ap (without name) same, a.3)
-      | inr b ↦ inr (b.0, b.1, b.2 ∙ (λ i. kept name (world_is i).solo.terminal.transcript (same i)), subst (IsPartWritten before.written after.written) line_is b.3)
+      | inl a ↦ inl (a.0, later a.1, a.2 ∙ ap (without_file name) same, a.3)
+      | inr b ↦ inr (b.0, b.1, b.2 ∙ (λ i. with_file name (world_is i).solo.terminal.transcript (same i)), subst (IsPartWritten before.written after.written) line_is b.3)
     ]
 
 pub from_delivery : (words : List (List ℕ)) (c : Command) (log : List ℕ) (ready : Ready) (old mid new : ShelfSeen) (before after : SinkSeen) (s : Status)
@@ -45,7 +45,7 @@ from_delivery words c log ready old mid new before after status.Ok is later same
   within = within;
   told = told;
   read = r.read;
-  files = h.0 ∙ (λ i. kept (transcript_name c) (r.world i).solo.terminal.transcript (same i));
+  files = h.0 ∙ (λ i. with_file (transcript_name c) (r.world i).solo.terminal.transcript (same i));
   written = h.1 ∙ ap (λ (line : List ℕ). option_map (λ w. w ++ line) before.written) r.line;
 }
 from_delivery words c log ready old mid new before after status.Usage is later same within told r h = absurd h

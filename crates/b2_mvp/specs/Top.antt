@@ -4,7 +4,7 @@ use Rattle.std.specs.Global.{Vec}
 use Rattle.std.specs.FinMap.{get}
 use Rattle.std.specs.Cmp.Lexicographic.{pointwise}
 use Rattle.b2_base.specs.Counts.{Rose}
-use Rattle.b2_base.specs.Files.{Files, IsAbsent, kept, without}
+use Rattle.b2_base.specs.Files.{Files, IsAbsent, with_file, without_file}
 use Rattle.b2_base.specs.Names.{is_file_name}
 use Rattle.b2_base.specs.Outside.{IsPartWritten}
 use Rattle.b2_base.specs.Seen.{ShelfSeen, SinkSeen}
@@ -61,7 +61,7 @@ pub record IsRun (words : List (List ℕ)) (old new : ShelfSeen) (before after :
   pub within : length log ≤ log_limit
   pub told : IsTold old.files command.log log
   pub read : log_of log ≡ Events events
-  pub files : new.files ≡ kept (transcript_name command) (ran events).solo.terminal.transcript old.files
+  pub files : new.files ≡ with_file (transcript_name command) (ran events).solo.terminal.transcript old.files
   pub written : after.written ≡ option_map (λ w. w ++ summary (ran events)) before.written
 
 -- an input of the command failed, so nothing was kept or put
@@ -90,8 +90,8 @@ pub record IsBadLog (words : List (List ℕ)) (line check : ℕ) (old new : Shel
 -- the transcript failed, and nothing was put; or the line did, and the transcript was kept
 abbrev pub FailsOutput : List ℕ → List ℕ → List ℕ → ShelfSeen → ShelfSeen → SinkSeen → SinkSeen → List ℕ → Type 0 → Type 0 → Type 0
 FailsOutput name text line old new before after at shelf_cause sink_cause =
-    ((at ≡ name) × shelf_cause × (without name new.files ≡ without name old.files) × (after ≡ before))
-    ⊎ ((at ≡ []) × sink_cause × (new.files ≡ kept name text old.files) × IsPartWritten before.written after.written line)
+    ((at ≡ name) × shelf_cause × (without_file name new.files ≡ without_file name old.files) × (after ≡ before))
+    ⊎ ((at ≡ []) × sink_cause × (new.files ≡ with_file name text old.files) × IsPartWritten before.written after.written line)
 
 -- a keep or the put of a run failed
 pub record FailsKeep (words : List (List ℕ)) (name : List ℕ) (old new : ShelfSeen) (before after : SinkSeen) (shelf_cause sink_cause : Type 0) : Type 0 where
@@ -150,7 +150,7 @@ CannotRun log (status.KeepNoMemory name) = ⊥
 
 -- how the outputs went
 abbrev pub Delivers : List ℕ → List ℕ → List ℕ → ShelfSeen → ShelfSeen → SinkSeen → SinkSeen → Status → Type 0
-Delivers name text line old new before after status.Ok = (new.files ≡ kept name text old.files) × (after.written ≡ option_map (λ w. w ++ line) before.written)
+Delivers name text line old new before after status.Ok = (new.files ≡ with_file name text old.files) × (after.written ≡ option_map (λ w. w ++ line) before.written)
 Delivers name text line old new before after status.Usage = ⊥
 Delivers name text line old new before after (status.Missing at) = ⊥
 Delivers name text line old new before after (status.ReadFault at) = ⊥
@@ -183,7 +183,7 @@ by_command files (Some c) = by_file c (get files c.log)
 abbrev pub expected : List (List ℕ) → Files → Expected
 expected words files = by_command files (command_of words)
 
--- a status that answers it, but for want of memory
+-- a status that answers it, unless memory fails
 abbrev pub Answers : Expected → Status → Type 0
 Answers NoCommand s = s ≡ status.Usage
 Answers (IsMissing name) s = (s ≡ status.Missing name) ⊎ (s ≡ status.NoMemory)

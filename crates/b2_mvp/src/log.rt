@@ -1,10 +1,9 @@
 // The log: lines of events.
 ghost use Rattle.std.specs.Prelude.{◌≡◌, ◌≤◌, ◌<◌, ◌^◌, ◌∷◌, IfOk, IfSome, Some, min, length, ◌+◌, true};
-ghost use Rattle.std.specs.List.{list_all};
 ghost use Rattle.std.specs.Option.{option_copied};
-ghost use Rattle.b2_base.specs.Names.{is_printable, is_hex_digit};
-ghost use Rattle.b2_mvp.specs.Log.{lines_of, lines_after, number_of, number_from, terminal_check, text_args, hex_value, byte_of, key_args, rounds_args, event_of, line_read, grants, GrantsWithin, GrantsNothing, without_return, log_of};
+ghost use Rattle.b2_mvp.specs.Log.{lines_of, lines_after, plain_number, terminal_check, text_args, byte_of, key_args, rounds_args, event_of, log_line, grants, GrantsWithin, GrantsNothing, without_return, log_of, GrantsInAll};
 
+use b2_base::lexical::{all_printable, capped_value, digits_width, hex_value, is_hex_digit};
 use b2_base::{ByteList, NoMemory, cut};
 use std::alloc::Global;
 use std::marker::Model;
@@ -62,9 +61,12 @@ impl EventList {
     }
 }
 
-// A number without leading zeros; a million stands for all from there on, which are out of each range.
+/// A million, which stands for all numbers from there on: they are out of each range.
+const ABOVE_ALL: u32 = 1_000_000;
+
+/// A number without leading zeros, None where the word is none.
 fn read_number(word: &[u8]) -> Option<u32>
-    ensures value { result ≡ number_of word.now }
+    ensures value { result ≡ plain_number word.now }
     ensures small { IfSome result (λ n. n ≤ 1000000) }
 {
     let [first, rest @ ..] = word else {
@@ -73,19 +75,15 @@ fn read_number(word: &[u8]) -> Option<u32>
     if *first == b'0' && !rest.is_empty() {
         return None;
     }
-    let mut n = 0u32;
-    for b in word {
-        if !b.is_ascii_digit() {
-            return None;
-        }
-        n = (n * 10 + u32::from(*b - b'0')).min(1_000_000);
+    if digits_width(word) < word.len() {
+        return None;
     }
-    Some(n)
+    Some(capped_value(word, ABOVE_ALL))
 }
 
-// The check that a terminal's number fails, None for the one that is there.
+/// The check that a terminal's number fails, None for the one that is there.
 fn terminal_check(word: &[u8]) -> Option<u8>
-    ensures { result ≡ terminal_check (number_of word.now) }
+    ensures { result ≡ terminal_check (plain_number word.now) }
 {
     let Some(terminal) = read_number(word) else {
         return Some(3);
@@ -96,7 +94,7 @@ fn terminal_check(word: &[u8]) -> Option<u8>
     if terminal == 1 { None } else { Some(5) }
 }
 
-// A terminal and a text, with what is typed behind it.
+/// A terminal and a text, with what is typed after it.
 fn read_text(alloc: Global, args: Option<&[u8]>, end: &[u8]) -> Result<LineRead, NoMemory>
     ensures value { IfOk result (λ line. line ≡ text_args end.now (option_copied args.entry)) }
     ensures grants { IfOk result (λ line. GrantsNothing line) }
@@ -113,21 +111,7 @@ fn read_text(alloc: Global, args: Option<&[u8]>, end: &[u8]) -> Result<LineRead,
     Ok(LineRead::Reads(Event::Keys(ByteList::new(keys))))
 }
 
-fn hex_value(b: u8) -> u8
-    requires { is_hex_digit b ≡ true }
-    ensures value { result ≡ hex_value b }
-    ensures small { result ≤ 15 }
-{
-    if b.is_ascii_digit() { b - b'0' } else { b - 55 }
-}
-
-fn is_hex_digit(b: u8) -> bool
-    ensures { result ≡ is_hex_digit b }
-{
-    (b >= b'0' && b <= b'9') || (b >= b'A' && b <= b'F')
-}
-
-// A byte as two upper hexadecimal digits.
+/// A byte as two upper hexadecimal digits.
 fn read_byte(word: Option<&[u8]>) -> Option<u8>
     ensures { result ≡ byte_of (option_copied word.entry) }
 {
@@ -141,7 +125,7 @@ fn read_byte(word: Option<&[u8]>) -> Option<u8>
     }
 }
 
-// A terminal and a byte.
+/// A terminal and a byte.
 fn read_key(alloc: Global, args: Option<&[u8]>) -> Result<LineRead, NoMemory>
     ensures value { IfOk result (λ line. line ≡ key_args (option_copied args.entry)) }
     ensures grants { IfOk result (λ line. GrantsNothing line) }
@@ -180,13 +164,7 @@ fn read_rounds(granted: u32, args: Option<&[u8]>) -> LineRead
     LineRead::Reads(Event::Rounds(n))
 }
 
-fn all_printable(line: &[u8]) -> bool
-    ensures { result ≡ list_all is_printable line.now }
-{
-    line.iter().all(|b| *b >= 0x20 && *b <= 0x7e)
-}
-
-// The event of a line, after so many steps were granted.
+/// The event of a line, where `granted` steps were granted before it.
 fn read_event(alloc: Global, granted: u32, line: &[u8]) -> Result<LineRead, NoMemory>
     requires { granted ≤ 5000000 }
     ensures value { IfOk result (λ read. read ≡ event_of granted line.now) }
@@ -208,10 +186,10 @@ fn read_event(alloc: Global, granted: u32, line: &[u8]) -> Result<LineRead, NoMe
     Ok(LineRead::Fails(2))
 }
 
-// A line, after so many steps were granted.
-fn read_line(alloc: Global, granted: u32, line: &[u8]) -> Result<LineRead, NoMemory>
+/// What a line says, where `granted` steps were granted before it.
+fn read_log_line(alloc: Global, granted: u32, line: &[u8]) -> Result<LineRead, NoMemory>
     requires { granted ≤ 5000000 }
-    ensures value { IfOk result (λ read. read ≡ line_read granted line.now) }
+    ensures value { IfOk result (λ read. read ≡ log_line granted line.now) }
     ensures grants { IfOk result (λ read. GrantsWithin granted read) }
 {
     if !all_printable(line) {
@@ -223,8 +201,8 @@ fn read_line(alloc: Global, granted: u32, line: &[u8]) -> Result<LineRead, NoMem
     }
 }
 
-// A line without the carriage return at its end.
-fn trim(line: &[u8]) -> &[u8]
+/// A line without the carriage return at its end.
+fn without_return(line: &[u8]) -> &[u8]
     ensures { result.now ≡ without_return line.now }
 {
     match line {
@@ -233,19 +211,19 @@ fn trim(line: &[u8]) -> &[u8]
     }
 }
 
-// The first line of a text, and what follows its newline, if there is one.
+/// The first line of a text, and what follows its newline, if there is one.
 fn first_line(text: &[u8]) -> (&[u8], Option<&[u8]>)
     ensures lines { lines_of text.now ≡ result.0.now ∷ lines_after (option_copied result.1) }
     ensures shorter { IfSome result.1 (λ rest. length rest.now < length text.now) }
 {
     let (line, rest) = cut(text, b'\n');
     match rest {
-        Some(following) => (trim(line), Some(following)),
+        Some(following) => (without_return(line), Some(following)),
         None => (line, None),
     }
 }
 
-// The steps that an event grants.
+/// The steps that an event grants.
 fn steps_granted(event: &Event) -> u32
     requires { grants event.now ≤ 5000000 }
     ensures { result ≡ grants event.now }
@@ -256,10 +234,11 @@ fn steps_granted(event: &Event) -> u32
     }
 }
 
-/// The events of a log, or the first line that fails a check.
+/// The events of a log, which grant at most five million steps in all, or the first line that fails a check.
 pub fn read_log(alloc: Global, text: &[u8]) -> Result<LogRead, NoMemory>
     requires { length text.now < 2 ^ 31 }
-    ensures { IfOk result (λ log. log ≡ log_of text.now) }
+    ensures value { IfOk result (λ log. log ≡ log_of text.now) }
+    ensures grants { IfOk result GrantsInAll }
 {
     let mut events = Vec::new(alloc);
     let mut granted = 0u32;
@@ -270,7 +249,7 @@ pub fn read_log(alloc: Global, text: &[u8]) -> Result<LogRead, NoMemory>
         let here = number;
         number += 1;
         left = rest;
-        match read_line(alloc, granted, line)? {
+        match read_log_line(alloc, granted, line)? {
             LineRead::Nothing => continue,
             LineRead::Fails(check) => return Ok(LogRead::Fails(here, check)),
             LineRead::Reads(event) => {

@@ -23,7 +23,7 @@ use std::io::{self, ErrorKind};
 use std::process::ExitCode;
 use std::str;
 
-// The words after the program's name.
+/// The words after the program's name.
 fn words(rt: &(impl Env + AllocGlobal)) -> io::Result<Vec<Vec<u8>>> {
     let mut words = Vec::new(rt.alloc());
     for word in env::args(rt)?.skip(1) {
@@ -32,7 +32,7 @@ fn words(rt: &(impl Env + AllocGlobal)) -> io::Result<Vec<Vec<u8>>> {
     Ok(words)
 }
 
-// Runs the program. Words that are no text are no command.
+/// Runs the program. Words that are no text are no command.
 fn run_process(rt: &HostRuntime) -> Status {
     match words(rt) {
         Ok(words) => {

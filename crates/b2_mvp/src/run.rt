@@ -21,7 +21,7 @@ pub struct World {
 }
 
 /// The machine before any event.
-pub fn start(alloc: Global) -> Result<World, NoMemory>
+pub fn start_world(alloc: Global) -> Result<World, NoMemory>
     ensures { IfOk result (λ world. world ≡ started_world) }
 {
     Ok(World {
@@ -32,7 +32,7 @@ pub fn start(alloc: Global) -> Result<World, NoMemory>
     })
 }
 
-// A key at the terminal.
+/// A key at the terminal.
 fn type_key(world: &mut World, b: u8)
     ensures { world.new ≡ key_typed b world.old }
 {
@@ -49,7 +49,7 @@ fn type_keys(world: &mut World, text: &[u8])
     }
 }
 
-// A turn of the partition.
+/// A turn of the partition.
 fn take_turn(world: &mut World) -> Result<(), NoMemory>
     ensures { OnOk result (world.new ≡ round world.old) }
 {

@@ -1,7 +1,7 @@
 // The statuses of the program.
 ghost use Rattle.std.specs.Prelude.{◌≡◌, ◌≤◌, ◌+◌, ◌++◌, length};
 ghost use Rattle.std.specs.Fmt.{decimal};
-ghost use Rattle.b2_mvp.specs.Status.{number_of, line_of};
+ghost use Rattle.b2_mvp.specs.Status.{status_number, status_line};
 
 use b2_base::{FileName, LineText};
 use itoa::Buffer;
@@ -23,16 +23,16 @@ pub enum Status {
     BadLog(u32, u8),
     /// Writing an output failed; the name is empty for the summary.
     WriteFault(FileName),
-    /// Want of memory before anything was written.
+    /// Memory failed before anything was written.
     NoMemory,
-    /// Want of memory in writing an output; the name is empty for the summary.
+    /// Memory failed in writing an output; the name is empty for the summary.
     KeepNoMemory(FileName),
 }
 
 impl Status {
     /// The number that the process ends with.
     pub fn number(&self) -> u8
-        ensures { result ≡ number_of self.now }
+        ensures { result ≡ status_number self.now }
     {
         match self {
             Status::Ok => 0,
@@ -49,7 +49,7 @@ impl Status {
 
     /// The line for standard error, empty for `Ok`. It takes no memory.
     pub fn line(&self) -> LineText
-        ensures { result ≡ line_of self.now }
+        ensures { result ≡ status_line self.now }
     {
         match self {
             Status::Ok => LineText::empty(),

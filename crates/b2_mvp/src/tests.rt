@@ -184,7 +184,7 @@ fn runs_write_a_transcript_and_a_summary(rt: HostRuntime) -> Result<(), Fail> {
     Ok(())
 }
 
-// A typed line, of a text and so many copies of a part, and what is shown for it.
+// A typed line, of a text and a number of copies of a part, and what is shown for it.
 struct Long {
     start: &'static [u8],
     part: &'static [u8],
@@ -260,7 +260,7 @@ const LAST_LINES: [Long; 6] = [
     },
 ];
 
-// A line of 256 bytes, behind its number.
+// A line of 256 bytes, after its number.
 const FULL: Long = Long {
     start: b"REM",
     part: b"A",
@@ -278,7 +278,7 @@ fn add_long(
     add_line(alloc, log, transcript, b"", long)
 }
 
-// The same, behind a number.
+// The same, after a number.
 fn add_line(
     alloc: Global,
     log: &mut Vec<u8>,

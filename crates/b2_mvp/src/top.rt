@@ -4,7 +4,7 @@ ghost use Rattle.b2_base.specs.Seen.{shelf_seen, sink_seen, Later};
 ghost use Rattle.b2_mvp.specs.Top.{command_of, texts, IsTold, FetchFails, IsRead, CannotRun, Delivers, Comes, IsComplete, log_limit};
 
 use crate::log::{LogRead, read_log};
-use crate::run::{World, run_events, start, summarize};
+use crate::run::{World, run_events, start_world, summarize};
 use crate::status::Status;
 use b2_base::{Fetch, FileName, Keep, Shelf, Sink};
 use std::alloc::Global;
@@ -16,14 +16,14 @@ pub struct Command {
     pub out: FileName,
 }
 
-// The world at the end of a run, and the line for it.
+/// The world at the end of a run, and the line for it.
 #[derive(Drop)]
 struct Ready {
     world: World,
     line: Vec<u8>,
 }
 
-// The command that the words are.
+/// The command that the words are.
 fn read_command(words: &[Vec<u8>]) -> Option<Command>
     ensures value { result ≡ command_of (texts words.now) }
     ensures short { IfSome result (λ c. length c.out ≤ 190) }
@@ -42,7 +42,7 @@ fn read_command(words: &[Vec<u8>]) -> Option<Command>
 /// How many bytes a log may have.
 const LOG_LIMIT: u32 = 4_194_304;
 
-// The bytes of an input within its limit.
+/// The bytes of an input within its limit.
 fn fetch_log<F: Shelf>(alloc: Global, name: FileName, shelf: &mut F) -> Result<Vec<u8>, Status>
     ensures same { F.files shelf.new ≡ F.files shelf.old }
     ensures later { Later (shelf_seen F.files F.faults F.misses F.longs shelf.old) (shelf_seen F.files F.faults F.misses F.longs shelf.new) }
@@ -60,7 +60,7 @@ fn fetch_log<F: Shelf>(alloc: Global, name: FileName, shelf: &mut F) -> Result<V
     }
 }
 
-// Runs a log.
+/// Runs a log.
 fn run_log(alloc: Global, text: &[u8]) -> Result<Ready, Status>
     requires { length text.now ≤ log_limit }
     ensures ok { IfOk result (λ ready. IsRead text.now ready) }
@@ -71,7 +71,7 @@ fn run_log(alloc: Global, text: &[u8]) -> Result<Ready, Status>
         Ok(LogRead::Fails(line, check)) => return Err(Status::BadLog(line, check)),
         Err(_) => return Err(Status::NoMemory),
     };
-    let Ok(mut world) = start(alloc) else {
+    let Ok(mut world) = start_world(alloc) else {
         return Err(Status::NoMemory);
     };
     let Ok(()) = run_events(&mut world, events.events()) else {
@@ -83,7 +83,7 @@ fn run_log(alloc: Global, text: &[u8]) -> Result<Ready, Status>
     Ok(Ready { world, line })
 }
 
-// Keeps the transcript, and puts the line.
+/// Keeps the transcript, and puts the line.
 fn deliver<F: Shelf, O: Sink>(name: FileName, ready: &Ready, shelf: &mut F, sink: &mut O) -> Status
     ensures { Delivers name ready.now.world.solo.terminal.transcript ready.now.line.items
         (shelf_seen F.files F.faults F.misses F.longs shelf.old) (shelf_seen F.files F.faults F.misses F.longs shelf.new)
@@ -101,7 +101,7 @@ fn deliver<F: Shelf, O: Sink>(name: FileName, ready: &Ready, shelf: &mut F, sink
     }
 }
 
-// Does what the words say.
+/// Does what the words say.
 fn run_words<F: Shelf, O: Sink>(
     alloc: Global,
     words: &[Vec<u8>],
@@ -142,7 +142,7 @@ pub fn mvp<F: Shelf, O: Sink>(
         (shelf_seen F.files F.faults F.misses F.longs shelf.old) (shelf_seen F.files F.faults F.misses F.longs shelf.new)
         (sink_seen O.written O.faults out.old) (sink_seen O.written O.faults out.new) result }
 
-    // Where the files are told and no fault rises, the status is the one that the files ask for, but for want of memory.
+    // Where the files are told and no fault rises, the status is the one that the files ask for, unless memory fails.
     ensures complete { IsComplete (texts words.now)
         (shelf_seen F.files F.faults F.misses F.longs shelf.old) (shelf_seen F.files F.faults F.misses F.longs shelf.new)
         (sink_seen O.written O.faults out.old) (sink_seen O.written O.faults out.new) result }

@@ -94,16 +94,16 @@ module _ (layout : Layout) (image : List ℕ) (empty : (k : ℕ) → 1 ≤ k →
         controls = list_all-from _ 1 _ (λ k low high. controlled_free layout image _ (free_row k low high));
       })
 
--- the rows behind a head and before the end of 00
+-- the rows after a head and before the end of 00
 pub row-fresh : (front rest : List ℕ) (n k : ℕ) → length front ≡ 16 → 1 ≤ k → 16 * k + 16 ≤ n → row (front ++ (replicate (n - 16) 0 ++ rest)) k ≡ replicate 16 0
 unfolding row
 row-fresh front rest n k long low high =
     let m = k - 1 in
-    let behind : drop (16 * k) (front ++ (replicate (n - 16) 0 ++ rest)) ≡ drop (16 * (k - 1)) (replicate (n - 16) 0 ++ rest) =
+    let rest_of : drop (16 * k) (front ++ (replicate (n - 16) 0 ++ rest)) ≡ drop (16 * (k - 1)) (replicate (n - 16) 0 ++ rest) =
     ap (λ (p : ℕ). drop p (front ++ (replicate (n - 16) 0 ++ rest))) (omega arith) ∙ sym (drop-drop (16 * (k - 1)) 16 _) ∙ ap (drop (16 * (k - 1))) (drop_at front (replicate (n - 16) 0 ++ rest) 16 long) in
     let cut : drop (16 * (k - 1)) (replicate (n - 16) 0 ++ rest) ≡ replicate (n - 16 - 16 * (k - 1)) 0 ++ rest =
     drop-append-le (16 * (k - 1)) (replicate (n - 16) 0) rest (omega (arith, length-replicate {A = ℕ} (n - 16) 0)) ∙ ap (λ (xs : List ℕ). xs ++ rest) (drop-replicate (16 * (k - 1)) (n - 16) 0) in
-    ap (take 16) (behind ∙ cut)
+    ap (take 16) (rest_of ∙ cut)
     ∙ take-append-le 16 (replicate (n - 16 - 16 * (k - 1)) 0) rest (omega (arith, length-replicate {A = ℕ} (n - 16 - 16 * (k - 1)) 0))
     ∙ take-replicate 16 (n - 16 - 16 * (k - 1)) 0 (omega arith)
 

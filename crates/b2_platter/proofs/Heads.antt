@@ -11,7 +11,7 @@ pub head_made : (layout : Layout) (v i total end next w w' : ℕ) (x y z : List 
 unfolding head_bytes
 head_made Narrow v i total end next w w' x y z ev ew ew' ex ey ez = rw (ez, ey, ex, ew, ew', ev) refl
 
--- a head put in front, and 00 behind it
+-- a head put in front, and 00 after it
 pub cleared : (head bytes front middle : List ℕ) (n : ℕ) → length head ≡ 16 → 16 ≤ n → n ≤ length bytes → front ≡ head → middle ≡ replicate (n - 16) 0 → take 16 (front ++ drop 16 bytes) ++ (middle ++ drop (n - 16) (drop 16 (front ++ drop 16 bytes))) ≡ head ++ replicate (n - 16) 0 ++ drop n bytes
 cleared head bytes front middle n long low high f m =
     let front_is = take_at head (drop 16 bytes) 16 long in

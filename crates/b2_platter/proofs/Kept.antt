@@ -12,7 +12,7 @@ use Rattle.b2_platter.proofs.Ranges.{list_any-same, list_any-found}
 use Rattle.b2_platter.proofs.Rooms.{LiesIn-from}
 use Rattle.b2_platter.proofs.Goodness.{Parts-of}
 use Rattle.b2_platter.proofs.Soundness.{Sound-from_Good, Good-from_Sound}
-use Rattle.b2_platter.proofs.Puts.{length-put_sector, row_before, sector_before, sector_behind}
+use Rattle.b2_platter.proofs.Puts.{length-put_sector, row_before, sector_before, sector_after}
 
 pub first_slot-low : (s : ℕ) → first_slot s ≤ 16 * s + 1
 first_slot-low s = cond_both (s == 0) 1 (16 * s) (λ v. v ≤ 16 * s + 1) (λ e. omega arith) (λ e. omega arith)
@@ -172,6 +172,6 @@ module _ (layout : Layout) (image : List ℕ) (good : Good layout image) (n : �
         | inl at ↦ absurd (no_end k low high e (sym at))
         | inr unequal ↦ elim unequal as (λ _. sector (put_sector image n bytes) (end_of layout (row image k)) ≡ sector image (end_of layout (row image k))) [
           | inl less ↦ sector_before image n bytes long data_room (end_of layout (row image k)) less
-          | inr more ↦ sector_behind image n bytes long data_room (end_of layout (row image k)) more
+          | inr more ↦ sector_after image n bytes long data_room (end_of layout (row image k)) more
         ]
       ])

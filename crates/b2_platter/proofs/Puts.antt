@@ -14,9 +14,9 @@ piece-before x y a p n inside long =
     ∙ ap (take n) cut
     ∙ take-take n (a - p) (drop p x) (omega arith)
 
--- a piece that begins behind the write
-pub piece-behind : (x y : List ℕ) (a m p n : ℕ) → a + m ≤ p → a ≤ length x → length y ≡ m → take n (drop p (take a x ++ (y ++ drop (a + m) x))) ≡ take n (drop p x)
-piece-behind x y a m p n behind long middle =
+-- a piece that begins after the write
+pub piece-after : (x y : List ℕ) (a m p n : ℕ) → a + m ≤ p → a ≤ length x → length y ≡ m → take n (drop p (take a x ++ (y ++ drop (a + m) x))) ≡ take n (drop p x)
+piece-after x y a m p n rest_of long middle =
     let front : length (take a x) ≡ a = length-take-le a x long in
     let rest = y ++ drop (a + m) x in
     let first : drop p (take a x ++ rest) ≡ drop (p - a) rest =
@@ -44,9 +44,9 @@ module _ (image : List ℕ) (n : ℕ) (bytes : List ℕ) (long : length bytes �
   unfolding put_sector row
   row_before k h = piece-before image (bytes ++ drop (256 * n + 256) image) (256 * n) (16 * k) 16 h (omega arith)
 
-  pub row_behind : (k : ℕ) → 256 * n + 256 ≤ 16 * k → row (put_sector image n bytes) k ≡ row image k
+  pub row_after : (k : ℕ) → 256 * n + 256 ≤ 16 * k → row (put_sector image n bytes) k ≡ row image k
   unfolding put_sector row
-  row_behind k h = piece-behind image bytes (256 * n) 256 (16 * k) 16 h (omega arith) long
+  row_after k h = piece-after image bytes (256 * n) 256 (16 * k) 16 h (omega arith) long
 
   pub row_inside : (p : ℕ) → p < 16 → row (put_sector image n bytes) (16 * n + p) ≡ take 16 (drop (16 * p) bytes)
   unfolding put_sector row
@@ -58,9 +58,9 @@ module _ (image : List ℕ) (n : ℕ) (bytes : List ℕ) (long : length bytes �
   unfolding put_sector sector
   sector_before m h = piece-before image (bytes ++ drop (256 * n + 256) image) (256 * n) (256 * m) 256 (omega arith) (omega arith)
 
-  pub sector_behind : (m : ℕ) → n < m → sector (put_sector image n bytes) m ≡ sector image m
+  pub sector_after : (m : ℕ) → n < m → sector (put_sector image n bytes) m ≡ sector image m
   unfolding put_sector sector
-  sector_behind m h = piece-behind image bytes (256 * n) 256 (256 * m) 256 (omega arith) (omega arith) long
+  sector_after m h = piece-after image bytes (256 * n) 256 (256 * m) 256 (omega arith) (omega arith) long
 
   pub sector_same : sector (put_sector image n bytes) n ≡ bytes
   unfolding put_sector sector

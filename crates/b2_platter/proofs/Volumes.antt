@@ -66,7 +66,7 @@ head_spelled bytes long small has =
     same_head (get_or (row bytes 0) 1 0) _ _ _ _ _ _ numbers.0 numbers.1 numbers.2
     ∙ head_cells (λ i. get_or (row bytes 0) i 0) (drop 8 (row bytes 0)) small first zeros ∙ sym cells
 
--- the rows and the sectors one behind the other
+-- the rows and the sectors one after the other
 rows_joined : (bytes : List ℕ) (a n : ℕ) → flat_map (row bytes) (range_with_len a n) ≡ take (16 * n) (drop (16 * a) bytes)
 unfolding row
 rows_joined bytes a zero = refl

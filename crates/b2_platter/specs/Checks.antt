@@ -2,6 +2,7 @@
 use Rattle.std.specs.Prelude.{◌≡◌, ℕ, ◌+◌, ◌-◌, ◌/◌, ◌%◌, Bool, true, ◌&&◌, ◌||◌, ◌==◌, not, nat_le, nat_lt, List, [], ◌∷◌, length, drop, slice_index, Option, Some, None, if◌then◌else◌}
 use Rattle.std.specs.List.{list_all}
 use Rattle.std.specs.Str.{bytes_eq}
+use Rattle.b2_platter.specs.declared.checks.TheConstants.{CONTROL}
 use Rattle.b2_platter.specs.declared.layout.Layout.{Layout}
 use Rattle.b2_platter.specs.Layout.{version_of, width_of, most_sectors, number_at, fourth_place, is_zero}
 use Rattle.b2_platter.specs.Slot.{is_entry, is_spelled, start_of, end_of, name_of}
@@ -12,7 +13,7 @@ unfoldable pub is_sized : Layout → List ℕ → Bool
 is_sized layout image =
     (length image % 256 == 0) && nat_le 16 (length image / 256) && nat_le (length image / 256) (most_sectors layout)
 
--- 2: the version, an index, the number of sectors, and 00 behind the head's numbers
+-- 2: the version, an index, the number of sectors, and 00 after the head's numbers
 unfoldable pub has_head : Layout → List ℕ → Bool
 has_head layout image =
     (slice_index (head image) 0 == version_of layout) && nat_le 1 (index_of image) && (total_of layout image == length image / 256)
@@ -71,10 +72,10 @@ all_apart layout image = each_two (λ j k. lie_apart layout (row image j) (row i
 unfoldable pub used_of : Layout → List ℕ → ℕ
 used_of layout control = number_at layout 1 control
 
--- a control sector that says from 1 to so many sectors are used: A1, the number, and 00
+-- a control sector that says at least one and at most `most` sectors are used: its first byte, the number, and 00
 unfoldable pub is_control : Layout → ℕ → List ℕ → Bool
 is_control layout most control =
-    (slice_index control 0 == 161) && nat_le 1 (used_of layout control) && nat_le (used_of layout control) most
+    (slice_index control 0 == CONTROL) && nat_le 1 (used_of layout control) && nat_le (used_of layout control) most
     && list_all is_zero (drop (1 + width_of layout) control)
 
 -- 9: the last sector of a file is its control sector

@@ -25,7 +25,7 @@ index_of image = slice_index (head image) 1
 unfoldable pub total_of : Layout → List ℕ → ℕ
 total_of layout image = number_at layout first_place (head image)
 
--- the first sector behind the catalogue
+-- the first sector after the catalogue
 unfoldable pub catalogue_end : Layout → List ℕ → ℕ
 catalogue_end layout image = number_at layout (second_place layout) (head image)
 
@@ -33,7 +33,7 @@ catalogue_end layout image = number_at layout (second_place layout) (head image)
 unfoldable pub next_free : Layout → List ℕ → ℕ
 next_free layout image = number_at layout (third_place layout) (head image)
 
--- the rows that are slots, of an index of so many sectors
+-- the rows that are slots, in an index of some sectors
 abbrev pub slots_of : ℕ → List ℕ
 slots_of index = range_with_len 1 (16 * index - 1)
 

@@ -12,7 +12,7 @@ version_of Narrow = 1
 abbrev pub width_of : Layout → ℕ
 width_of Narrow = 2
 
--- an image has at most so many sectors
+-- how many sectors an image has at most
 abbrev pub most_sectors : Layout → ℕ
 most_sectors Narrow = 32512
 
@@ -20,7 +20,7 @@ most_sectors Narrow = 32512
 abbrev pub number_at : Layout → ℕ → List ℕ → ℕ
 number_at layout place bytes = big_number (width_of layout) (drop place bytes)
 
--- where the first, the second and the third sector number of a head or of a slot stand: behind two bytes
+-- where the first, the second and the third sector number of a head or of a slot stand: after two bytes
 abbrev pub first_place : ℕ
 first_place = 2
 

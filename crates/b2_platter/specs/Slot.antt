@@ -4,33 +4,34 @@ use Rattle.std.specs.Prelude.{ℕ, Bool, ◌&&◌, ◌||◌, ◌==◌, List, tak
 use Rattle.std.specs.List.{list_all}
 use Rattle.b2_base.specs.Names.{is_name8}
 use Rattle.b2_platter.specs.declared.layout.Layout.{Layout}
+use Rattle.b2_platter.specs.declared.slot.TheConstants.{FREE, LIVE, SCRATCHED, GONE, PROGRAM, DATA}
 use Rattle.b2_platter.specs.Layout.{number_at, first_place, second_place, third_place, is_zero}
 
 abbrev pub status : List ℕ → ℕ
 status slot = slice_index slot 0
 
--- never used: 00
+-- never used
 unfoldable pub is_free : List ℕ → Bool
-is_free slot = status slot == 0
+is_free slot = status slot == FREE
 
--- the file was renamed away: 12
+-- the file was renamed away
 unfoldable pub is_gone : List ℕ → Bool
-is_gone slot = status slot == 18
+is_gone slot = status slot == GONE
 
--- a live file: 10
+-- a live file
 unfoldable pub is_live : List ℕ → Bool
-is_live slot = status slot == 16
+is_live slot = status slot == LIVE
 
--- a file, live or scratched: 10 or 11
+-- a file, live or scratched
 unfoldable pub is_entry : List ℕ → Bool
-is_entry slot = (status slot == 16) || (status slot == 17)
+is_entry slot = (status slot == LIVE) || (status slot == SCRATCHED)
 
--- a program: 50, where a data file has 44
+-- a program
 unfoldable pub is_program : List ℕ → Bool
-is_program slot = slice_index slot 1 == 80
+is_program slot = slice_index slot 1 == PROGRAM
 
 unfoldable pub has_kind : List ℕ → Bool
-has_kind slot = (slice_index slot 1 == 80) || (slice_index slot 1 == 68)
+has_kind slot = (slice_index slot 1 == PROGRAM) || (slice_index slot 1 == DATA)
 
 -- the first sector of the file
 unfoldable pub start_of : Layout → List ℕ → ℕ
@@ -43,7 +44,7 @@ end_of layout slot = number_at layout (second_place layout) slot
 unfoldable pub name_of : List ℕ → List ℕ
 name_of slot = drop 8 slot
 
--- a free or a gone slot is 00 behind its status; a file has a kind, 00 before its name, and a legal name
+-- a free or a gone slot is 00 after its status; a file has a kind, 00 before its name, and a legal name
 unfoldable pub is_spelled : Layout → List ℕ → Bool
 is_spelled layout slot =
     if is_entry slot then has_kind slot && list_all is_zero (drop (third_place layout) (take 8 slot)) && is_name8 (name_of slot)

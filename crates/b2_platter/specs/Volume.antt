@@ -1,6 +1,7 @@
 -- What an image says, as whole values: a platter's counts, its slots and its sectors. Its spelling is its image.
 use Rattle.std.specs.Prelude.{ℕ, ◌+◌, ◌-◌, Bool, List, ◌∷◌, ◌++◌, map, length, replicate, if◌then◌else◌}
 use Rattle.std.specs.List.{flat_map, range_with_len}
+use Rattle.b2_platter.specs.declared.slot.TheConstants.{LIVE, SCRATCHED, GONE, PROGRAM, DATA}
 use Rattle.b2_platter.specs.declared.layout.Layout.{Layout}
 use Rattle.b2_platter.specs.Layout.{third_place}
 use Rattle.b2_platter.specs.Slot.{is_free, is_gone, is_live, is_program, start_of, end_of, name_of}
@@ -21,8 +22,8 @@ pub data Slot : Type 0 where
   Gone : Slot
   Of : File → Slot
 
--- a platter: the index sectors, the first sector behind the catalogue, the next free sector, the slots, and the sectors
--- behind the index
+-- a platter: the index sectors, the first sector after the catalogue, the next free sector, the slots, and the sectors
+-- after the index
 pub record Volume : Type 0 where
   pub index : ℕ
   pub end : ℕ
@@ -33,12 +34,12 @@ pub record Volume : Type 0 where
 -- the sixteen bytes of a slot
 abbrev pub slot_bytes : Layout → Slot → List ℕ
 slot_bytes layout Free = replicate 16 0
-slot_bytes layout Gone = 18 ∷ replicate 15 0
+slot_bytes layout Gone = GONE ∷ replicate 15 0
 slot_bytes layout (Of f) =
-    (if f.live then 16 else 17) ∷ (if f.program then 80 else 68)
+    (if f.live then LIVE else SCRATCHED) ∷ (if f.program then PROGRAM else DATA)
     ∷ (spelled layout f.start ++ spelled layout f.end ++ replicate (8 - third_place layout) 0 ++ f.name)
 
--- the bytes of a platter: its head, its slots and its sectors, one behind the other
+-- the bytes of a platter: its head, its slots and its sectors, one after the other
 abbrev pub image : Layout → Volume → List ℕ
 image layout v =
     head_bytes layout v.index (v.index + length v.sectors) v.end v.next ++ (flat_map (slot_bytes layout) v.slots ++ flat_map (λ s. s) v.sectors)

@@ -11,7 +11,7 @@ use crate::{Layout, slot};
 /// The first byte of a control sector.
 pub const CONTROL: u8 = 0xA1;
 
-// 1: whole sectors, as many as the layout allows.
+/// 1: whole sectors, as many as the layout allows.
 #[tactic(auto, unfolding(crate::specs::Checks::is_sized))]
 fn is_sized(layout: Layout, bytes: &[u8]) -> bool
     ensures { result ≡ is_sized layout bytes.now }
@@ -20,7 +20,7 @@ fn is_sized(layout: Layout, bytes: &[u8]) -> bool
     bytes.len() % SECTOR_BYTES == 0 && 16 <= sectors && sectors <= layout.most_sectors()
 }
 
-// 2: version, index and total, and 00 behind the head's numbers.
+/// 2: version, index and total, and 00 after the head's numbers.
 #[tactic(auto, unfolding(crate::specs::Checks::has_head))]
 fn has_head(layout: Layout, bytes: &[u8]) -> bool
     requires { 16 ≤ length bytes.now }
@@ -33,7 +33,7 @@ fn has_head(layout: Layout, bytes: &[u8]) -> bool
         && slot::all_zero(&head[2 + 3 * layout.width()..])
 }
 
-// 3: index, files, catalogue and image end in this order.
+/// 3: index, files, catalogue and image end in this order.
 #[tactic(auto, unfolding(crate::specs::Checks::is_ordered))]
 fn is_ordered(layout: Layout, bytes: &[u8]) -> bool
     requires { 16 ≤ length bytes.now }
@@ -44,7 +44,7 @@ fn is_ordered(layout: Layout, bytes: &[u8]) -> bool
     image::index(bytes) <= next as usize && next <= end && end <= image::total(layout, bytes)
 }
 
-// A file lies between the index and the next free sector.
+/// A file lies between the index and the next free sector.
 #[tactic(auto, unfolding(crate::specs::Checks::lies_in))]
 fn lies_in(layout: Layout, index: usize, next: u32, slot: &[u8; 16]) -> bool
     ensures { result ≡ lies_in layout index next slot.now }
@@ -57,7 +57,7 @@ fn lies_in(layout: Layout, index: usize, next: u32, slot: &[u8; 16]) -> bool
     index <= start as usize && start < end && end < next
 }
 
-// 4: each file lies there.
+/// 4: each file lies there.
 fn all_lie_in(layout: Layout, bytes: &[u8]) -> bool
     requires some { 16 ≤ length bytes.now }
     requires room { 256 * index_of bytes.now ≤ length bytes.now }
@@ -65,29 +65,19 @@ fn all_lie_in(layout: Layout, bytes: &[u8]) -> bool
 {
     let index = image::index(bytes);
     let next = image::next_free(layout, bytes);
-    for k in 1..16 * index {
-        if !lies_in(layout, index, next, image::row(bytes, k)) {
-            return false;
-        }
-    }
-    true
+    (1..16 * index).all(|k| lies_in(layout, index, next, image::row(bytes, k)))
 }
 
-// 5: each slot is spelled as its status wants.
+/// 5: each slot is spelled as its status wants.
 fn all_spelled(layout: Layout, bytes: &[u8]) -> bool
     requires some { 16 ≤ length bytes.now }
     requires room { 256 * index_of bytes.now ≤ length bytes.now }
     ensures { result ≡ all_spelled layout bytes.now }
 {
-    for k in 1..16 * image::index(bytes) {
-        if !slot::is_spelled(layout, image::row(bytes, k)) {
-            return false;
-        }
-    }
-    true
+    (1..16 * image::index(bytes)).all(|k| slot::is_spelled(layout, image::row(bytes, k)))
 }
 
-// Two slots are not of two files with one name.
+/// Two slots are not of two files with one name.
 #[tactic(auto, unfolding(crate::specs::Checks::differ_in_name))]
 fn differ_in_name(slot: &[u8; 16], other: &[u8; 16]) -> bool
     ensures { result ≡ differ_in_name slot.now other.now }
@@ -95,7 +85,7 @@ fn differ_in_name(slot: &[u8; 16], other: &[u8; 16]) -> bool
     !(slot::is_entry(slot) && slot::is_entry(other) && slot::name(slot) == slot::name(other))
 }
 
-// A slot against all that follow it.
+/// A slot against all that follow it.
 fn differs_from_later(bytes: &[u8], j: usize) -> bool
     requires some { 16 ≤ length bytes.now }
     requires room { 256 * index_of bytes.now ≤ length bytes.now }
@@ -103,15 +93,10 @@ fn differs_from_later(bytes: &[u8], j: usize) -> bool
     ensures { result ≡ list_all (λ k. differ_in_name (row bytes.now j) (row bytes.now k)) (range_with_len (j + 1) (16 * index_of bytes.now - (j + 1))) }
 {
     let slot = image::row(bytes, j);
-    for k in j + 1..16 * image::index(bytes) {
-        if !differ_in_name(slot, image::row(bytes, k)) {
-            return false;
-        }
-    }
-    true
+    (j + 1..16 * image::index(bytes)).all(|k| differ_in_name(slot, image::row(bytes, k)))
 }
 
-// 6: no two files have one name.
+/// 6: no two files have one name.
 fn all_differ(bytes: &[u8]) -> bool
     requires some { 16 ≤ length bytes.now }
     requires room { 256 * index_of bytes.now ≤ length bytes.now }
@@ -140,15 +125,10 @@ pub fn has_free(bytes: &[u8], s: usize) -> bool
     requires { 256 * s + 256 ≤ length bytes.now }
     ensures { result ≡ has_free bytes.now s }
 {
-    for k in first_slot(s)..16 * s + 16 {
-        if slot::is_free(image::row(bytes, k)) {
-            return true;
-        }
-    }
-    false
+    (first_slot(s)..16 * s + 16).any(|k| slot::is_free(image::row(bytes, k)))
 }
 
-// Whether no sector before this one, from the first on, has a free slot.
+/// Whether no sector before this one, from the first on, has a free slot.
 fn is_clear_to(bytes: &[u8], own: usize, first: usize) -> bool
     requires within { first < index_of bytes.now }
     requires room { 256 * index_of bytes.now ≤ length bytes.now }
@@ -181,7 +161,7 @@ pub fn hash(index: usize, name: &[u8]) -> usize
     sum % index
 }
 
-// The file of a slot is found from its hash on.
+/// The file of a slot is found from its hash on.
 #[tactic(auto, unfolding(crate::specs::Checks::is_reached))]
 fn is_reached(bytes: &[u8], k: usize) -> bool
     requires some { 1 ≤ index_of bytes.now }
@@ -193,21 +173,16 @@ fn is_reached(bytes: &[u8], k: usize) -> bool
     !slot::is_entry(slot) || is_clear_to(bytes, k / 16, hash(image::index(bytes), slot::name(slot)))
 }
 
-// 7: each file is found so.
+/// 7: each file is found so.
 fn all_reached(bytes: &[u8]) -> bool
     requires some { 1 ≤ index_of bytes.now }
     requires room { 256 * index_of bytes.now ≤ length bytes.now }
     ensures { result ≡ all_reached bytes.now }
 {
-    for k in 1..16 * image::index(bytes) {
-        if !is_reached(bytes, k) {
-            return false;
-        }
-    }
-    true
+    (1..16 * image::index(bytes)).all(|k| is_reached(bytes, k))
 }
 
-// Two slots are not of two files that share a sector.
+/// Two slots are not of two files that share a sector.
 #[tactic(auto, unfolding(crate::specs::Checks::lie_apart))]
 fn lie_apart(layout: Layout, slot: &[u8; 16], other: &[u8; 16]) -> bool
     ensures { result ≡ lie_apart layout slot.now other.now }
@@ -218,7 +193,7 @@ fn lie_apart(layout: Layout, slot: &[u8; 16], other: &[u8; 16]) -> bool
         && slot::start(layout, other) <= slot::end(layout, slot))
 }
 
-// A slot against all that follow it.
+/// A slot against all that follow it.
 fn lies_apart_from_later(layout: Layout, bytes: &[u8], j: usize) -> bool
     requires some { 16 ≤ length bytes.now }
     requires room { 256 * index_of bytes.now ≤ length bytes.now }
@@ -226,15 +201,10 @@ fn lies_apart_from_later(layout: Layout, bytes: &[u8], j: usize) -> bool
     ensures { result ≡ list_all (λ k. lie_apart layout (row bytes.now j) (row bytes.now k)) (range_with_len (j + 1) (16 * index_of bytes.now - (j + 1))) }
 {
     let slot = image::row(bytes, j);
-    for k in j + 1..16 * image::index(bytes) {
-        if !lie_apart(layout, slot, image::row(bytes, k)) {
-            return false;
-        }
-    }
-    true
+    (j + 1..16 * image::index(bytes)).all(|k| lie_apart(layout, slot, image::row(bytes, k)))
 }
 
-// 8: no two files share a sector.
+/// 8: no two files share a sector.
 fn all_apart(layout: Layout, bytes: &[u8]) -> bool
     requires some { 16 ≤ length bytes.now }
     requires room { 256 * index_of bytes.now ≤ length bytes.now }
@@ -256,7 +226,7 @@ pub fn used(layout: Layout, control: &[u8; 256]) -> u32
     layout.number(control, 1)
 }
 
-// A control sector that says from 1 to so many sectors are used.
+/// Whether a control sector says that at least one and at most `most` sectors are used.
 #[tactic(auto, unfolding(crate::specs::Checks::is_control))]
 fn is_control(layout: Layout, most: u32, control: &[u8; 256]) -> bool
     ensures { result ≡ is_control layout most control.now }
@@ -268,7 +238,7 @@ fn is_control(layout: Layout, most: u32, control: &[u8; 256]) -> bool
         && slot::all_zero(&control[1 + layout.width()..])
 }
 
-// The last sector of the slot's file is its control sector.
+/// The last sector of the slot's file is its control sector.
 #[tactic(auto, unfolding(crate::specs::Checks::is_controlled))]
 fn is_controlled(layout: Layout, bytes: &[u8], slot: &[u8; 16]) -> bool
     requires order { is_entry slot.now ≡ true → start_of layout slot.now < end_of layout slot.now }
@@ -286,7 +256,7 @@ fn is_controlled(layout: Layout, bytes: &[u8], slot: &[u8; 16]) -> bool
     )
 }
 
-// 9: the last sector of each file is its control sector.
+/// 9: the last sector of each file is its control sector.
 fn all_controlled(layout: Layout, bytes: &[u8]) -> bool
     requires some { 16 ≤ length bytes.now }
     requires room { 256 * index_of bytes.now ≤ length bytes.now }

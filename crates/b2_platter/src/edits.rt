@@ -31,7 +31,7 @@ pub fn head(layout: Layout, index: u8, total: u32, end: u32, next: u32) -> [u8; 
     head
 }
 
-/// Makes the first sectors a head with 00 behind it.
+/// Makes the first sectors a head with 00 after it.
 pub fn clear(bytes: &mut [u8], head: &[u8; 16], sectors: usize)
     requires some { 1 ≤ sectors }
     requires room { 256 * sectors ≤ length bytes.old }

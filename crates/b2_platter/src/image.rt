@@ -45,7 +45,7 @@ pub fn total(layout: Layout, image: &[u8]) -> u32
     layout.number(row(image, 0), 2)
 }
 
-/// The first sector behind the catalogue.
+/// The first sector after the catalogue.
 #[tactic(auto, unfolding(crate::specs::Image::catalogue_end))]
 pub fn catalogue_end(layout: Layout, image: &[u8]) -> u32
     requires { 16 ≤ length image.now }

@@ -1,7 +1,7 @@
 //! Disk images that are good by their type.
 //!
 //! An image is whole sectors of 256 bytes. The first of them are the index: a head of sixteen bytes (version, index
-//! sectors, all sectors, the first sector behind the catalogue, the next free sector, and 00) and then slots of sixteen
+//! sectors, all sectors, the first sector after the catalogue, the next free sector, and 00) and then slots of sixteen
 //! bytes, each free, gone, or that of a file. A file is live or scratched, a program or data; its slot has its first and
 //! its last sector and its name, and its last sector is its control sector, which says how many are used.
 //!

@@ -71,6 +71,7 @@ impl Platter {
     {
         image::sector(&self.bytes, n as usize)
     }
+
     /// A blank platter: an index of two sectors, no files, and the catalogue to its end.
     pub fn blank(alloc: Global, sectors: u32) -> Result<Platter, NoMemory>
         requires least { 16 ≤ sectors }
@@ -103,7 +104,7 @@ impl Platter {
         edits::put_sectors(&mut self.bytes, edits);
     }
 
-    /// Formats the platter: an empty index of so many sectors, and a catalogue up to a last sector.
+    /// Formats the platter: an empty index of `index` sectors, and a catalogue up to a last sector.
     pub fn put_index(&mut self, index: u32, end: u32)
         requires { CanFormat Narrow self.old index end }
         ensures { self.new ≡ formatted Narrow self.old index end }

@@ -92,7 +92,7 @@ fn each_check(rt: HostRuntime) -> Result<(), Fail> {
 #[test]
 fn two_files(rt: HostRuntime) -> Result<(), Fail> {
     let second: [(u8, &[(usize, u8)], usize); 4] = [
-        // The name A again, behind the first.
+        // The name A again, after the first.
         (
             6,
             &[(272, 0x10), (273, 0x44), (275, 2), (277, 4), (280, 0x41)],

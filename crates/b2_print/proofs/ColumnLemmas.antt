@@ -5,13 +5,13 @@ use Rattle.std.proofs.lemmas.Bool.{le-ltb, lt-ltb, cases_lt}
 use native.Mathlib.Nat.{mul-mod_left}
 use Rattle.b2_print.specs.Columns.{next_column, column_after, passes}
 use Rattle.b2_print.specs.declared.layout.Item.{Item}
-use Rattle.b2_print.specs.Layout.{text_of, placed, layout, fits_line, next_zone, zone_text}
+use Rattle.b2_print.specs.Layout.{item_text, placed, layout, fits_line, next_zone, zone_text}
 
 or_assoc : (a b c : Bool) → (a || (b || c)) ≡ ((a || b) || c)
 or_assoc true b c = refl
 or_assoc false b c = refl
 
--- a text passes the width in its first part or behind it
+-- a text passes the width in its first part or after it
 passes-append : (width column : ℕ) (xs ys : List ℕ) → passes width column (xs ++ ys) ≡ (passes width column xs || passes width (column_after column xs) ys)
 passes-append width column [] ys = refl
 passes-append width column (x ∷ xs) ys =
@@ -37,10 +37,10 @@ placed_if width column there own false false same at_here alone fits = at_here
 
 pub placed-fits : (width column : ℕ) (it : Item) → fits_line width it ≡ true → passes width column (placed width column it) ≡ false
 placed-fits width column it h =
-    let fits : passes width 0 (text_of width 0 it) ≡ false = none-passes (passes width 0 (text_of width 0 it)) h in
-    placed_if width column (text_of width column it) (text_of width 0 it) (column == 0) (passes width column (text_of width column it))
-    (λ e. ap (λ c. text_of width c it) (eqb-true column 0 e)) refl
-    (λ e. ap (λ c. passes width c (text_of width 0 it)) (eqb-true column 0 e) ∙ fits) fits
+    let fits : passes width 0 (item_text width 0 it) ≡ false = none-passes (passes width 0 (item_text width 0 it)) h in
+    placed_if width column (item_text width column it) (item_text width 0 it) (column == 0) (passes width column (item_text width column it))
+    (λ e. ap (λ c. item_text width c it) (eqb-true column 0 e)) refl
+    (λ e. ap (λ c. passes width c (item_text width 0 it)) (eqb-true column 0 e) ∙ fits) fits
 
 pub layout-fits : (width column : ℕ) (items : List Item) → list_all (fits_line width) items ≡ true → passes width column (layout width column items) ≡ false
 layout-fits width column [] h = refl

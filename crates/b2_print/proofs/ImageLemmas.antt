@@ -3,13 +3,15 @@ use Rattle.std.proofs.Common.{◌≡◌, ℕ, zero, suc, ◌+◌, ◌-◌, ◌<�
 use Rattle.std.specs.List.{prefix_len, take_while}
 use Rattle.std.specs.Option.{IfSome}
 use Rattle.std.proofs.lemmas.List.Sums.{prefix_len-le-length}
+use Rattle.b2_base.specs.Byte as byte
+use Rattle.b2_base.specs.Lexical.{first}
 use Rattle.b2_print.specs.declared.image.Sign.{Sign}
 use Rattle.b2_print.specs.declared.image.Sign.TheVariants.{Unsigned, Always, Negative}
-use Rattle.b2_print.specs.Images.{Field, sign_bytes, dollar_bytes, point_width, width_of, begins, is_mark, is_place, sign_of, behind_sign, behind_dollar, decimals_of, with_places, field_at, literal, field, piece_of, behind_first, pieces_behind, pieces}
+use Rattle.b2_print.specs.Images.{Field, sign_bytes, dollar_bytes, point_width, width_of, is_hash, is_place, leading_sign, after_sign, after_dollar, decimals_of, with_places, field_at, literal, field, piece_of, width_after_first, further_pieces, pieces_of}
 
-point-within_if : (test : Bool) (ds : List ℕ) (n : ℕ) → (test ≡ true → suc (length ds) ≡ n) → point_width (if test then prefix_len is_mark ds else 0) ≤ n
+point-within_if : (test : Bool) (ds : List ℕ) (n : ℕ) → (test ≡ true → suc (length ds) ≡ n) → point_width (if test then prefix_len is_hash ds else 0) ≤ n
 point-within_if false ds n h = omega arith
-point-within_if true ds n h = point_of (prefix_len is_mark ds) (length ds) n (prefix_len-le-length is_mark ds) (h refl)
+point-within_if true ds n h = point_of (prefix_len is_hash ds) (length ds) n (prefix_len-le-length is_hash ds) (h refl)
   where
     point_of : (p d n : ℕ) → p ≤ d → suc d ≡ n → point_width p ≤ n
     point_of zero d n le e = omega arith
@@ -19,7 +21,7 @@ pub point-within : (text : List ℕ) → point_width (decimals_of text) ≤ leng
 point-within [] = omega arith
 point-within (b ∷ bs) = point-within_if (b == 46) bs (suc (length bs)) (λ _. refl)
 
-pub sign-within : (text : List ℕ) → length (sign_bytes (sign_of text)) + length (behind_sign text) ≡ length text
+pub sign-within : (text : List ℕ) → length (sign_bytes (leading_sign text)) + length (after_sign text) ≡ length text
 sign-within [] = refl
 sign-within (b ∷ bs) = by_tests (b == 43) (b == 45)
   where
@@ -28,7 +30,7 @@ sign-within (b ∷ bs) = by_tests (b == 43) (b == 45)
     by_tests false true = omega arith
     by_tests false false = omega arith
 
-pub dollar-within : (text : List ℕ) → length (dollar_bytes (begins 36 text)) + length (behind_dollar text) ≡ length text
+pub dollar-within : (text : List ℕ) → length (dollar_bytes (first text == byte.dollar)) + length (after_dollar text) ≡ length text
 dollar-within [] = refl
 dollar-within (b ∷ bs) = by_test (b == 36)
   where
@@ -47,10 +49,10 @@ places-within sign dollar text true =
 pub field-within : (text : List ℕ) → IfSome (field_at text) (λ f. width_of f ≤ length text)
 unfolding field_at
 field-within text =
-    let body = behind_dollar (behind_sign text) in
-    let all : length (sign_bytes (sign_of text)) + length (dollar_bytes (begins 36 (behind_sign text))) + length body ≡ length text =
-    omega (arith, sign-within text, dollar-within (behind_sign text)) in
-    rw all at (places-within (sign_of text) (begins 36 (behind_sign text)) body (begins 35 body))
+    let body = after_dollar (after_sign text) in
+    let all : length (sign_bytes (leading_sign text)) + length (dollar_bytes (first (after_sign text) == byte.dollar)) + length body ≡ length text =
+    omega (arith, sign-within text, dollar-within (after_sign text)) in
+    rw all at (places-within (leading_sign text) (first (after_sign text) == byte.dollar) body (first body == byte.hash))
 
 places-some : (sign : Sign) (dollar : Bool) (c : ℕ) (cs : List ℕ) (test : Bool) → (c == 35) ≡ test →
     IfSome (if test then Some (record { sign = sign; dollar = dollar; whole = take_while is_place (c ∷ cs); decimals = decimals_of (drop (prefix_len is_place (c ∷ cs)) (c ∷ cs)) }) else None)
@@ -67,26 +69,26 @@ with_places-some sign dollar (c ∷ cs) = places-some sign dollar c cs (c == 35)
 
 pub field-some : (text : List ℕ) → IfSome (field_at text) (λ f. 0 < width_of f)
 unfolding field_at
-field-some text = with_places-some (sign_of text) (begins 36 (behind_sign text)) (behind_dollar (behind_sign text))
+field-some text = with_places-some (leading_sign text) (first (after_sign text) == byte.dollar) (after_dollar (after_sign text))
 
--- the pieces behind some bytes are those of the rest
-pub pieces_behind-drop : (n : ℕ) (text : List ℕ) → pieces_behind n text ≡ pieces (drop n text)
-unfolding pieces_behind
-pieces_behind-drop zero text = refl
-pieces_behind-drop (suc n) [] = refl
-pieces_behind-drop (suc n) (b ∷ bs) = pieces_behind-drop n bs
+-- the pieces after some bytes are those of the rest
+pub further_pieces-drop : (n : ℕ) (text : List ℕ) → further_pieces n text ≡ pieces_of (drop n text)
+unfolding further_pieces
+further_pieces-drop zero text = refl
+further_pieces-drop (suc n) [] = refl
+further_pieces-drop (suc n) (b ∷ bs) = further_pieces-drop n bs
 
-pub pieces-nil : pieces [] ≡ []
-unfolding pieces_behind
-pieces-nil = refl
+pub pieces_of-nil : pieces_of [] ≡ []
+unfolding further_pieces
+pieces_of-nil = refl
 
-pieces-cons : (b : ℕ) (bs : List ℕ) → pieces (b ∷ bs) ≡ piece_of b (field_at (b ∷ bs)) ∷ pieces_behind (behind_first (field_at (b ∷ bs))) bs
-unfolding pieces_behind
-pieces-cons b bs = refl
+pieces_of-cons : (b : ℕ) (bs : List ℕ) → pieces_of (b ∷ bs) ≡ piece_of b (field_at (b ∷ bs)) ∷ further_pieces (width_after_first (field_at (b ∷ bs))) bs
+unfolding further_pieces
+pieces_of-cons b bs = refl
 
 -- a byte outside fields, and the pieces of the rest
-pub pieces-literal : (b : ℕ) (bs : List ℕ) → field_at (b ∷ bs) ≡ None → pieces (b ∷ bs) ≡ literal b ∷ pieces bs
-pieces-literal b bs e = pieces-cons b bs ∙ ap (λ o. piece_of b o ∷ pieces_behind (behind_first o) bs) e ∙ ap (λ ps. literal b ∷ ps) (pieces_behind-drop 0 bs)
+pub pieces_of-literal : (b : ℕ) (bs : List ℕ) → field_at (b ∷ bs) ≡ None → pieces_of (b ∷ bs) ≡ literal b ∷ pieces_of bs
+pieces_of-literal b bs e = pieces_of-cons b bs ∙ ap (λ o. piece_of b o ∷ further_pieces (width_after_first o) bs) e ∙ ap (λ ps. literal b ∷ ps) (further_pieces-drop 0 bs)
 
 pub drop-first : (n : ℕ) (b : ℕ) (bs : List ℕ) → 0 < n → drop n (b ∷ bs) ≡ drop (n - 1) bs
 drop-first zero b bs h = absurd (omega arith)
@@ -95,8 +97,8 @@ drop-first (suc n) b bs h =
     ap (λ k. drop k bs) (sym less)
 
 -- a field, and the pieces of what follows it
-pub pieces-field : (b : ℕ) (bs : List ℕ) (f : Field) → field_at (b ∷ bs) ≡ Some f → pieces (b ∷ bs) ≡ field f ∷ pieces (drop (width_of f) (b ∷ bs))
-pieces-field b bs f e =
+pub pieces_of-field : (b : ℕ) (bs : List ℕ) (f : Field) → field_at (b ∷ bs) ≡ Some f → pieces_of (b ∷ bs) ≡ field f ∷ pieces_of (drop (width_of f) (b ∷ bs))
+pieces_of-field b bs f e =
     let some : 0 < width_of f = rw e at (field-some (b ∷ bs)) in
-    pieces-cons b bs ∙ ap (λ o. piece_of b o ∷ pieces_behind (behind_first o) bs) e
-    ∙ ap (λ ps. field f ∷ ps) (pieces_behind-drop (width_of f - 1) bs ∙ ap pieces (sym (drop-first (width_of f) b bs some)))
+    pieces_of-cons b bs ∙ ap (λ o. piece_of b o ∷ further_pieces (width_after_first o) bs) e
+    ∙ ap (λ ps. field f ∷ ps) (further_pieces-drop (width_of f - 1) bs ∙ ap pieces_of (sym (drop-first (width_of f) b bs some)))

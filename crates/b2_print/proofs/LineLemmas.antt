@@ -5,24 +5,24 @@ use Rattle.b2_base.specs.declared.codes.TheConstants.{P42_IMAGE, X71_DOES_NOT_FI
 use Rattle.b2_dec.specs.Number.{Number}
 use Rattle.b2_dec.specs.declared.values.Value.TheVariants as value
 use Rattle.b2_dec.specs.declared.values.Value.{Value}
-use Rattle.b2_print.specs.Images.{Field, width_of, field_at, Piece, literal, field, pieces, fields, literals, IsFirstField}
+use Rattle.b2_print.specs.Images.{Field, width_of, field_at, Piece, literal, field, pieces_of, fields, literals, IsFirstField}
 use Rattle.b2_print.specs.Filling.{filled, fits, number_filled}
 use Rattle.b2_print.specs.Imaged.{line, further_lines, lacks_field, converted, converted_in}
-use Rattle.b2_print.proofs.ImageLemmas.{pieces-nil, pieces-literal, pieces-field, field-some}
+use Rattle.b2_print.proofs.ImageLemmas.{pieces_of-nil, pieces_of-literal, pieces_of-field, field-some}
 
-pub pieces-drop_literal : (image : List ℕ) (at : ℕ) → at < length image → field_at (drop at image) ≡ None → pieces (drop at image) ≡ literal (get_or image at 0) ∷ pieces (drop (at + 1) image)
-pieces-drop_literal image at h e =
+pub pieces_of-drop_literal : (image : List ℕ) (at : ℕ) → at < length image → field_at (drop at image) ≡ None → pieces_of (drop at image) ≡ literal (get_or image at 0) ∷ pieces_of (drop (at + 1) image)
+pieces_of-drop_literal image at h e =
     let cons = drop_more image at 0 h in
-    ap pieces cons ∙ pieces-literal (get_or image at 0) (drop (at + 1) image) (ap field_at (sym cons) ∙ e)
+    ap pieces_of cons ∙ pieces_of-literal (get_or image at 0) (drop (at + 1) image) (ap field_at (sym cons) ∙ e)
 
-pub pieces-drop_field : (image : List ℕ) (at : ℕ) (f : Field) → at < length image → field_at (drop at image) ≡ Some f → pieces (drop at image) ≡ field f ∷ pieces (drop (at + width_of f) image)
-pieces-drop_field image at f h e =
+pub pieces_of-drop_field : (image : List ℕ) (at : ℕ) (f : Field) → at < length image → field_at (drop at image) ≡ Some f → pieces_of (drop at image) ≡ field f ∷ pieces_of (drop (at + width_of f) image)
+pieces_of-drop_field image at f h e =
     let cons = drop_more image at 0 h in
-    let here = pieces-field (get_or image at 0) (drop (at + 1) image) f (ap field_at (sym cons) ∙ e) in
-    ap pieces cons ∙ here ∙ ap (λ xs. field f ∷ pieces (drop (width_of f) xs)) (sym cons) ∙ ap (λ xs. field f ∷ pieces xs) (drop-drop (width_of f) at image)
+    let here = pieces_of-field (get_or image at 0) (drop (at + 1) image) f (ap field_at (sym cons) ∙ e) in
+    ap pieces_of cons ∙ here ∙ ap (λ xs. field f ∷ pieces_of (drop (width_of f) xs)) (sym cons) ∙ ap (λ xs. field f ∷ pieces_of xs) (drop-drop (width_of f) at image)
 
-pub pieces-drop_all : (image : List ℕ) (at : ℕ) → length image ≤ at → pieces (drop at image) ≡ []
-pieces-drop_all image at h = ap pieces (drop_all at image h) ∙ pieces-nil
+pub pieces_of-drop_all : (image : List ℕ) (at : ℕ) → length image ≤ at → pieces_of (drop at image) ≡ []
+pieces_of-drop_all image at h = ap pieces_of (drop_all at image h) ∙ pieces_of-nil
 
 pub line-field : (f : Field) (ps : List Piece) (values : List Value) (used : ℕ) (v : Value) → used < length values → v ≡ get_or values used v →
     line (field f ∷ ps) (drop used values) ≡ filled f v ++ line ps (drop (used + 1) values)
@@ -34,16 +34,16 @@ line-no_value f ps values used h = ap (line (field f ∷ ps)) (drop_all used val
 
 -- bytes before the first field
 pub literals_more : (image : List ℕ) (at : ℕ) → at < length image → field_at (drop at image) ≡ None →
-    literals (take at image) ++ pieces (drop at image) ≡ literals (take (at + 1) image) ++ pieces (drop (at + 1) image)
+    literals (take at image) ++ pieces_of (drop at image) ≡ literals (take (at + 1) image) ++ pieces_of (drop (at + 1) image)
 literals_more image at h e =
-    let rest : List Piece = pieces (drop (at + 1) image) in
-    ap (λ ps. literals (take at image) ++ ps) (pieces-drop_literal image at h e)
+    let rest : List Piece = pieces_of (drop (at + 1) image) in
+    ap (λ ps. literals (take at image) ++ ps) (pieces_of-drop_literal image at h e)
     ∙ sym (append_assoc (literals (take at image)) (literal (get_or image at 0) ∷ []) rest)
     ∙ ap (λ ps. ps ++ rest) (sym (map_more literal image at 0 h))
 
-pub literals_all : (image : List ℕ) (at : ℕ) → length image ≤ at → literals (take at image) ++ pieces (drop at image) ≡ literals image
+pub literals_all : (image : List ℕ) (at : ℕ) → length image ≤ at → literals (take at image) ++ pieces_of (drop at image) ≡ literals image
 literals_all image at h =
-    ap (λ xs. literals xs ++ pieces (drop at image)) (take_all at image h) ∙ ap (λ ps. literals image ++ ps) (pieces-drop_all image at h) ∙ append-nil (literals image)
+    ap (λ xs. literals xs ++ pieces_of (drop at image)) (take_all at image h) ∙ ap (λ ps. literals image ++ ps) (pieces_of-drop_all image at h) ∙ append-nil (literals image)
 
 fields-literals : (xs : List ℕ) (ps : List Piece) → fields (literals xs ++ ps) ≡ fields ps
 fields-literals [] ps = refl
@@ -66,32 +66,32 @@ first-inside image at f h =
     let some : 0 < width_of f = rw h.here at (field-some (drop at image)) in
     omega (arith, some, h.inside)
 
-first-pieces : (image : List ℕ) (at : ℕ) (f : Field) → IsFirstField image at f → pieces image ≡ literals (take at image) ++ field f ∷ pieces (drop (at + width_of f) image)
-first-pieces image at f h = h.before ∙ ap (λ ps. literals (take at image) ++ ps) (pieces-drop_field image at f (first-inside image at f h) h.here)
+first-pieces : (image : List ℕ) (at : ℕ) (f : Field) → IsFirstField image at f → pieces_of image ≡ literals (take at image) ++ field f ∷ pieces_of (drop (at + width_of f) image)
+first-pieces image at f h = h.before ∙ ap (λ ps. literals (take at image) ++ ps) (pieces_of-drop_field image at f (first-inside image at f h) h.here)
 
-pub first-fields : (image : List ℕ) (at : ℕ) (f : Field) → IsFirstField image at f → fields (pieces image) ≡ f ∷ fields (pieces (drop (at + width_of f) image))
-first-fields image at f h = ap fields (first-pieces image at f h) ∙ fields-literals (take at image) (field f ∷ pieces (drop (at + width_of f) image))
+pub first-fields : (image : List ℕ) (at : ℕ) (f : Field) → IsFirstField image at f → fields (pieces_of image) ≡ f ∷ fields (pieces_of (drop (at + width_of f) image))
+first-fields image at f h = ap fields (first-pieces image at f h) ∙ fields-literals (take at image) (field f ∷ pieces_of (drop (at + width_of f) image))
 
 pub first-line : (image : List ℕ) (at : ℕ) (f : Field) → IsFirstField image at f → (v : Value) →
-    line (pieces image) (v ∷ []) ≡ take at image ++ (filled f v ++ line (pieces (drop (at + width_of f) image)) [])
-first-line image at f h v = ap (λ ps. line ps (v ∷ [])) (first-pieces image at f h) ∙ line-literals (take at image) (field f ∷ pieces (drop (at + width_of f) image)) (v ∷ [])
+    line (pieces_of image) (v ∷ []) ≡ take at image ++ (filled f v ++ line (pieces_of (drop (at + width_of f) image)) [])
+first-line image at f h v = ap (λ ps. line ps (v ∷ [])) (first-pieces image at f h) ∙ line-literals (take at image) (field f ∷ pieces_of (drop (at + width_of f) image)) (v ∷ [])
 
-pub first-line_empty : (image : List ℕ) (at : ℕ) (f : Field) → IsFirstField image at f → line (pieces image) [] ≡ take at image
+pub first-line_empty : (image : List ℕ) (at : ℕ) (f : Field) → IsFirstField image at f → line (pieces_of image) [] ≡ take at image
 first-line_empty image at f h =
-    ap (λ ps. line ps []) (first-pieces image at f h) ∙ line-literals (take at image) (field f ∷ pieces (drop (at + width_of f) image)) [] ∙ append-nil (take at image)
+    ap (λ ps. line ps []) (first-pieces image at f h) ∙ line-literals (take at image) (field f ∷ pieces_of (drop (at + width_of f) image)) [] ∙ append-nil (take at image)
 
 -- what CONVERT makes
-pub converted-no_field : (image : List ℕ) (x : Number) → pieces image ≡ literals image → converted image x ≡ Err P42_IMAGE
-converted-no_field image x e = ap (λ fs. converted_in (pieces image) fs x) (ap fields e ∙ fields-all_literals image)
+pub converted-no_field : (image : List ℕ) (x : Number) → pieces_of image ≡ literals image → converted image x ≡ Err P42_IMAGE
+converted-no_field image x e = ap (λ fs. converted_in (pieces_of image) fs x) (ap fields e ∙ fields-all_literals image)
 
 pub converted-too_large : (image : List ℕ) (at : ℕ) (f : Field) (x : Number) → IsFirstField image at f → fits f x ≡ false → converted image x ≡ Err X71_DOES_NOT_FIT
 converted-too_large image at f x h large =
-    ap (λ fs. converted_in (pieces image) fs x) (first-fields image at f h) ∙ ap (λ t. cond t (Ok (line (pieces image) (value.Number x ∷ []))) (Err X71_DOES_NOT_FIT)) large
+    ap (λ fs. converted_in (pieces_of image) fs x) (first-fields image at f h) ∙ ap (λ t. cond t (Ok (line (pieces_of image) (value.Number x ∷ []))) (Err X71_DOES_NOT_FIT)) large
 
 pub converted-fits : (image : List ℕ) (at : ℕ) (f : Field) (x : Number) → IsFirstField image at f → fits f x ≡ true →
-    converted image x ≡ Ok (take at image ++ (number_filled f x ++ line (pieces (drop (at + width_of f) image)) []))
+    converted image x ≡ Ok (take at image ++ (number_filled f x ++ line (pieces_of (drop (at + width_of f) image)) []))
 converted-fits image at f x h small =
-    ap (λ fs. converted_in (pieces image) fs x) (first-fields image at f h) ∙ ap (λ t. cond t (Ok (line (pieces image) (value.Number x ∷ []))) (Err X71_DOES_NOT_FIT)) small
+    ap (λ fs. converted_in (pieces_of image) fs x) (first-fields image at f h) ∙ ap (λ t. cond t (Ok (line (pieces_of image) (value.Number x ∷ []))) (Err X71_DOES_NOT_FIT)) small
     ∙ ap (λ t. Ok t) (first-line image at f h (value.Number x))
 
 -- further lines
@@ -100,9 +100,9 @@ further_lines-drop ps zero values = refl
 further_lines-drop ps (suc n) [] = refl
 further_lines-drop ps (suc n) (v ∷ values) = further_lines-drop ps n values
 
-drop-behind_first : (n : ℕ) (v : Value) (values : List Value) → 0 < n → drop (n - 1) values ≡ drop n (v ∷ values)
-drop-behind_first zero v values h = absurd (omega arith)
-drop-behind_first (suc n) v values h =
+drop-after_first : (n : ℕ) (v : Value) (values : List Value) → 0 < n → drop (n - 1) values ≡ drop n (v ∷ values)
+drop-after_first zero v values h = absurd (omega arith)
+drop-after_first (suc n) v values h =
     let less : suc n - 1 ≡ n = omega arith in
     ap (λ k. drop k values) less
 
@@ -112,7 +112,7 @@ further_lines-step ps [] some more = absurd (omega arith)
 further_lines-step ps (v ∷ values) some more =
     let n = length (fields ps) in
     ap (λ t. (10 ∷ line ps (v ∷ values)) ++ t)
-    (further_lines-drop ps (n - 1) values ∙ ap (further_lines ps 0) (drop-behind_first n v values some ∙ sym (drop_min n (v ∷ values))))
+    (further_lines-drop ps (n - 1) values ∙ ap (further_lines ps 0) (drop-after_first n v values some ∙ sym (drop_min n (v ∷ values))))
 
 pub has_field : (n m : ℕ) → (not (m == 0) && (n == 0)) ≡ false → 0 < m → 0 < n
 has_field zero m e some =
@@ -132,15 +132,15 @@ and-false : (b : Bool) → (b && false) ≡ false
 and-false true = refl
 and-false false = refl
 
-pub lacks_field-none : (image : List ℕ) (values : List Value) → pieces image ≡ literals image → lacks_field (pieces image) values ≡ not (length values == 0)
+pub lacks_field-none : (image : List ℕ) (values : List Value) → pieces_of image ≡ literals image → lacks_field (pieces_of image) values ≡ not (length values == 0)
 lacks_field-none image values e =
-    let none : length (fields (pieces image)) ≡ 0 = ap (λ ps. length (fields ps)) e ∙ ap (λ (fs : List Field). length fs) (fields-all_literals image) in
+    let none : length (fields (pieces_of image)) ≡ 0 = ap (λ ps. length (fields ps)) e ∙ ap (λ (fs : List Field). length fs) (fields-all_literals image) in
     rw none (and-true (not (length values == 0)))
 
-pub lacks_field-some : (image : List ℕ) (at : ℕ) (f : Field) (values : List Value) → IsFirstField image at f → lacks_field (pieces image) values ≡ false
+pub lacks_field-some : (image : List ℕ) (at : ℕ) (f : Field) (values : List Value) → IsFirstField image at f → lacks_field (pieces_of image) values ≡ false
 lacks_field-some image at f values h =
     let some = ap (λ (fs : List Field). length fs) (first-fields image at f h) in
-    let other : (length (fields (pieces image)) == 0) ≡ false = ne_eqb _ 0 (λ z. absurd (omega arith)) in
+    let other : (length (fields (pieces_of image)) == 0) ≡ false = ne_eqb _ 0 (λ z. absurd (omega arith)) in
     rw other (and-false (not (length values == 0)))
 
 -- which branch an option came from

@@ -3,24 +3,26 @@ use Rattle.std.proofs.Common.{◌≡◌, ℕ, zero, suc, ◌+◌, ◌<◌, ◌==
 use Rattle.std.specs.List.{prefix_len, take_while, flat_map}
 use Rattle.std.specs.Option.{IfSome}
 use Rattle.std.proofs.lemmas.List.{take-append-drop, drop_at, length-replicate}
+use Rattle.b2_base.specs.Byte as byte
+use Rattle.b2_base.specs.Lexical.{first}
 use Rattle.b2_print.specs.declared.image.Sign.{Sign}
 use Rattle.b2_print.specs.declared.image.Sign.TheVariants.{Unsigned, Always, Negative}
-use Rattle.b2_print.specs.Images.{Field, sign_bytes, dollar_bytes, point_bytes, point_width, field_bytes, width_of, begins, is_mark, is_place, sign_of, behind_sign, behind_dollar, decimals_of, field_at, piece_of, behind_first, pieces_behind, pieces, spelled}
+use Rattle.b2_print.specs.Images.{Field, sign_bytes, dollar_bytes, point_bytes, point_width, field_bytes, width_of, is_hash, is_place, leading_sign, after_sign, after_dollar, decimals_of, field_at, piece_of, width_after_first, further_pieces, pieces_of, spelled}
 use Rattle.b2_print.proofs.ImageLemmas.{field-some, drop-first}
 
 -- a number of `#` and what follows them
-marks-spelled : (text : List ℕ) → replicate (prefix_len is_mark text) 35 ++ drop (prefix_len is_mark text) text ≡ text
-marks-spelled [] = refl
-marks-spelled (c ∷ cs) = by_first (marks-spelled cs) (c == 35) refl
+hash_count-spelled : (text : List ℕ) → replicate (prefix_len is_hash text) 35 ++ drop (prefix_len is_hash text) text ≡ text
+hash_count-spelled [] = refl
+hash_count-spelled (c ∷ cs) = by_first (hash_count-spelled cs) (c == 35) refl
   where
-    by_first : replicate (prefix_len is_mark cs) 35 ++ drop (prefix_len is_mark cs) cs ≡ cs → (test : Bool) → (c == 35) ≡ test → replicate (cond test (1 + prefix_len is_mark cs) 0) 35 ++ drop (cond test (1 + prefix_len is_mark cs) 0) (c ∷ cs) ≡ c ∷ cs
+    by_first : replicate (prefix_len is_hash cs) 35 ++ drop (prefix_len is_hash cs) cs ≡ cs → (test : Bool) → (c == 35) ≡ test → replicate (cond test (1 + prefix_len is_hash cs) 0) 35 ++ drop (cond test (1 + prefix_len is_hash cs) 0) (c ∷ cs) ≡ c ∷ cs
     by_first more true e =
-        let n = prefix_len is_mark cs in
+        let n = prefix_len is_hash cs in
         let next : 1 + n ≡ suc n = omega arith in
         ap (λ k. replicate k 35 ++ drop k (c ∷ cs)) next ∙ ap (λ t. 35 ∷ t) more ∙ ap (λ b. b ∷ cs) (sym (eqb-true c 35 e))
     by_first more false e = refl
 
-sign-spelled : (text : List ℕ) → sign_bytes (sign_of text) ++ behind_sign text ≡ text
+sign-spelled : (text : List ℕ) → sign_bytes (leading_sign text) ++ after_sign text ≡ text
 sign-spelled [] = refl
 sign-spelled (b ∷ bs) = by_tests (b == 43) refl (b == 45) refl
   where
@@ -30,7 +32,7 @@ sign-spelled (b ∷ bs) = by_tests (b == 43) refl (b == 45) refl
     by_tests false e true d = ap (λ t. t ∷ bs) (sym (eqb-true b 45 d))
     by_tests false e false d = refl
 
-dollar-spelled : (text : List ℕ) → dollar_bytes (begins 36 text) ++ behind_dollar text ≡ text
+dollar-spelled : (text : List ℕ) → dollar_bytes (first text == byte.dollar) ++ after_dollar text ≡ text
 dollar-spelled [] = refl
 dollar-spelled (b ∷ bs) = by_test (b == 36) refl
   where
@@ -49,8 +51,8 @@ point-spelled [] = refl
 point-spelled (b ∷ bs) = by_test (b == 46) refl
   where
     by_test : (p : Bool) → (b == 46) ≡ p →
-        point_bytes (if p then prefix_len is_mark bs else 0) ++ drop (point_width (if p then prefix_len is_mark bs else 0)) (b ∷ bs) ≡ b ∷ bs
-    by_test true e = point_of_marks b bs (prefix_len is_mark bs) (eqb-true b 46 e) (marks-spelled bs)
+        point_bytes (if p then prefix_len is_hash bs else 0) ++ drop (point_width (if p then prefix_len is_hash bs else 0)) (b ∷ bs) ≡ b ∷ bs
+    by_test true e = point_of_marks b bs (prefix_len is_hash bs) (eqb-true b 46 e) (hash_count-spelled bs)
     by_test false e = refl
 
 length-point_bytes : (n : ℕ) → length (point_bytes n) ≡ point_width n
@@ -67,8 +69,8 @@ length-field_bytes f =
 -- a text that begins with a field's bytes
 begins-with : (f : Field) (text rest : List ℕ) → field_bytes f ++ rest ≡ text → field_bytes f ++ drop (width_of f) text ≡ text
 begins-with f text rest e =
-    let behind : drop (width_of f) text ≡ rest = ap (drop (width_of f)) (sym e) ∙ drop_at (field_bytes f) rest (width_of f) (length-field_bytes f) in
-    ap (λ t. field_bytes f ++ t) behind ∙ e
+    let left : drop (width_of f) text ≡ rest = ap (drop (width_of f)) (sym e) ∙ drop_at (field_bytes f) rest (width_of f) (length-field_bytes f) in
+    ap (λ t. field_bytes f ++ t) left ∙ e
 
 joined : (s d w p r : List ℕ) → (((s ++ d) ++ w) ++ p) ++ r ≡ s ++ (d ++ (w ++ (p ++ r)))
 joined s d w p r = simp append_assoc
@@ -91,24 +93,24 @@ places-spelled text t1 t2 sign dollar true e1 e2 =
 pub field-spelled : (text : List ℕ) → IfSome (field_at text) (λ f. field_bytes f ++ drop (width_of f) text ≡ text)
 unfolding field_at
 field-spelled text =
-    let t1 = behind_sign text in
-    places-spelled text t1 (behind_dollar t1) (sign_of text) (begins 36 t1) (begins 35 (behind_dollar t1)) (sign-spelled text) (dollar-spelled t1)
+    let t1 = after_sign text in
+    places-spelled text t1 (after_dollar t1) (leading_sign text) (first t1 == byte.dollar) (first (after_dollar t1) == byte.hash) (sign-spelled text) (dollar-spelled t1)
 
-piece-spelled : (b : ℕ) (bs : List ℕ) (o : Option Field) → field_at (b ∷ bs) ≡ o → spelled (piece_of b o) ++ drop (behind_first o) bs ≡ b ∷ bs
+piece-spelled : (b : ℕ) (bs : List ℕ) (o : Option Field) → field_at (b ∷ bs) ≡ o → spelled (piece_of b o) ++ drop (width_after_first o) bs ≡ b ∷ bs
 piece-spelled b bs None e = refl
 piece-spelled b bs (Some f) e =
     let some : 0 < width_of f = rw e at (field-some (b ∷ bs)) in
     let whole : field_bytes f ++ drop (width_of f) (b ∷ bs) ≡ b ∷ bs = rw e at (field-spelled (b ∷ bs)) in
     ap (λ t. field_bytes f ++ t) (sym (drop-first (width_of f) b bs some)) ∙ whole
 
-pieces_behind-spelled : (text : List ℕ) (n : ℕ) → flat_map spelled (pieces_behind n text) ≡ drop n text
-unfolding pieces_behind
-pieces_behind-spelled [] zero = refl
-pieces_behind-spelled [] (suc n) = refl
-pieces_behind-spelled (b ∷ bs) (suc n) = pieces_behind-spelled bs n
-pieces_behind-spelled (b ∷ bs) zero =
+further_pieces-spelled : (text : List ℕ) (n : ℕ) → flat_map spelled (further_pieces n text) ≡ drop n text
+unfolding further_pieces
+further_pieces-spelled [] zero = refl
+further_pieces-spelled [] (suc n) = refl
+further_pieces-spelled (b ∷ bs) (suc n) = further_pieces-spelled bs n
+further_pieces-spelled (b ∷ bs) zero =
     let o = field_at (b ∷ bs) in
-    ap (λ t. spelled (piece_of b o) ++ t) (pieces_behind-spelled bs (behind_first o)) ∙ piece-spelled b bs o refl
+    ap (λ t. spelled (piece_of b o) ++ t) (further_pieces-spelled bs (width_after_first o)) ∙ piece-spelled b bs o refl
 
-pub pieces-spelled : (image : List ℕ) → flat_map spelled (pieces image) ≡ image
-pieces-spelled image = pieces_behind-spelled image 0
+pub pieces_of-spelled : (image : List ℕ) → flat_map spelled (pieces_of image) ≡ image
+pieces_of-spelled image = further_pieces-spelled image 0

@@ -1,11 +1,12 @@
 -- Where the next byte goes. Columns are counted from 0.
 use Rattle.std.specs.Prelude.{ℕ, ◌+◌, ◌==◌, ◌||◌, nat_lt, min, Bool, false, if◌then◌else◌, List, [], ◌∷◌}
 use Rattle.std.specs.List.{fold}
+use Rattle.b2_base.specs.Byte as byte
 
 -- A newline and a return lead to the first column, and other bytes below a space stay in theirs. The count of columns
 -- ends at 65,535.
 abbrev pub next_column : ℕ → ℕ → ℕ
-next_column column b = if b == 10 || b == 13 then 0 else (if nat_lt b 32 then column else min (column + 1) 65535)
+next_column column b = if b == byte.newline || b == byte.carriage_return then 0 else (if nat_lt b byte.blank then column else min (column + 1) 65535)
 
 -- the column after a text
 abbrev pub column_after : ℕ → List ℕ → ℕ

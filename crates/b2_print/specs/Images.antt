@@ -1,10 +1,12 @@
 -- What an image is made of: fields, and bytes outside them.
 use Rattle.std.specs.Prelude.{◌≡◌, ◌≤◌, ℕ, zero, suc, ◌+◌, ◌-◌, ◌==◌, ◌||◌, Bool, true, false, if◌then◌else◌, List, [], ◌∷◌, ◌++◌, length, take, drop, map, replicate, Option, Some, None}
 use Rattle.std.specs.List.{prefix_len, take_while}
+use Rattle.b2_base.specs.Byte as byte
+use Rattle.b2_base.specs.Lexical.{first}
 use Rattle.b2_print.specs.declared.image.Sign.{Sign}
 use Rattle.b2_print.specs.declared.image.Sign.TheVariants.{Unsigned, Always, Negative}
 
--- A field: its sign, whether it has a `$`, the `#` and `,` before its point, and the number of `#` behind the point.
+-- A field: its sign, whether it has a `$`, the `#` and `,` before its point, and the number of `#` after the point.
 pub record Field : Type 0 where
   pub sign : Sign
   pub dollar : Bool
@@ -14,14 +16,14 @@ pub record Field : Type 0 where
 -- the bytes that write the parts of a field
 abbrev pub sign_bytes : Sign → List ℕ
 sign_bytes Unsigned = []
-sign_bytes Always = 43 ∷ []
-sign_bytes Negative = 45 ∷ []
+sign_bytes Always = byte.plus ∷ []
+sign_bytes Negative = byte.minus ∷ []
 
 abbrev pub dollar_bytes : Bool → List ℕ
-dollar_bytes true = 36 ∷ []
+dollar_bytes true = byte.dollar ∷ []
 dollar_bytes false = []
 
--- a point and digits behind it take one byte more than the digits, and no byte where there are none
+-- a point and digits after it take one byte more than the digits, and no byte where there are none
 abbrev pub point_width : ℕ → ℕ
 point_width zero = 0
 point_width (suc n) = n + 2
@@ -30,43 +32,38 @@ point_width (suc n) = n + 2
 abbrev pub width_of : Field → ℕ
 width_of f = length (sign_bytes f.sign) + length (dollar_bytes f.dollar) + length f.whole + point_width f.decimals
 
--- whether a text begins with a byte
-abbrev pub begins : ℕ → List ℕ → Bool
-begins b [] = false
-begins b (c ∷ cs) = c == b
-
-abbrev pub is_mark : ℕ → Bool
-is_mark b = b == 35
+abbrev pub is_hash : ℕ → Bool
+is_hash b = b == byte.hash
 
 abbrev pub is_place : ℕ → Bool
-is_place b = b == 35 || b == 44
+is_place b = b == byte.hash || b == byte.comma
 
 -- the sign that a text begins with
-abbrev pub sign_of : List ℕ → Sign
-sign_of text = if begins 43 text then Always else (if begins 45 text then Negative else Unsigned)
+abbrev pub leading_sign : List ℕ → Sign
+leading_sign text = if first text == byte.plus then Always else (if first text == byte.minus then Negative else Unsigned)
 
 -- what follows it, and what follows a `$` there
-abbrev pub behind_sign : List ℕ → List ℕ
-behind_sign text = drop (length (sign_bytes (sign_of text))) text
+abbrev pub after_sign : List ℕ → List ℕ
+after_sign text = drop (length (sign_bytes (leading_sign text))) text
 
-abbrev pub behind_dollar : List ℕ → List ℕ
-behind_dollar text = drop (length (dollar_bytes (begins 36 text))) text
+abbrev pub after_dollar : List ℕ → List ℕ
+after_dollar text = drop (length (dollar_bytes (first text == byte.dollar))) text
 
--- how many `#` stand behind a point that a text begins with
+-- how many `#` stand after a point that a text begins with
 abbrev pub decimals_of : List ℕ → ℕ
-decimals_of text = if begins 46 text then prefix_len is_mark (drop 1 text) else 0
+decimals_of text = if first text == byte.point then prefix_len is_hash (drop 1 text) else 0
 
 -- the longest field that a text begins with, if there is one: a sign, a `$`, a `#` with any number of `#` and `,`, and
 -- a point with one `#` or more; only the first `#` must be there
 abbrev pub with_places : Sign → Bool → List ℕ → Option Field
 with_places sign dollar text =
-    if begins 35 text
+    if first text == byte.hash
     then Some (record { sign = sign; dollar = dollar; whole = take_while is_place text; decimals = decimals_of (drop (prefix_len is_place text) text) })
     else None
 
 unfoldable pub field_at : List ℕ → Option Field
 field_at text =
-    with_places (sign_of text) (begins 36 (behind_sign text)) (behind_dollar (behind_sign text))
+    with_places (leading_sign text) (first (after_sign text) == byte.dollar) (after_dollar (after_sign text))
 
 -- a piece of an image: a byte of its own, or a field
 pub data Piece : Type 0 where
@@ -77,21 +74,21 @@ abbrev pub piece_of : ℕ → Option Field → Piece
 piece_of b None = literal b
 piece_of b (Some f) = field f
 
--- how many bytes a piece has behind its first
-abbrev pub behind_first : Option Field → ℕ
-behind_first None = 0
-behind_first (Some f) = width_of f - 1
+-- how many bytes a piece has after its first
+abbrev pub width_after_first : Option Field → ℕ
+width_after_first None = 0
+width_after_first (Some f) = width_of f - 1
 
--- the pieces of what stands behind the first n bytes, which belong to a piece that has begun
-unfoldable pub pieces_behind : ℕ → List ℕ → List Piece
-pieces_behind n [] = []
-pieces_behind (suc n) (b ∷ bs) = pieces_behind n bs
-pieces_behind zero (b ∷ bs) = piece_of b (field_at (b ∷ bs)) ∷ pieces_behind (behind_first (field_at (b ∷ bs))) bs
+-- the pieces of what stands after the first n bytes, which belong to a piece that has begun
+unfoldable pub further_pieces : ℕ → List ℕ → List Piece
+further_pieces n [] = []
+further_pieces (suc n) (b ∷ bs) = further_pieces n bs
+further_pieces zero (b ∷ bs) = piece_of b (field_at (b ∷ bs)) ∷ further_pieces (width_after_first (field_at (b ∷ bs))) bs
 
 -- the bytes that write a piece
 abbrev pub point_bytes : ℕ → List ℕ
 point_bytes zero = []
-point_bytes (suc n) = 46 ∷ replicate (suc n) 35
+point_bytes (suc n) = byte.point ∷ replicate (suc n) byte.hash
 
 abbrev pub field_bytes : Field → List ℕ
 field_bytes f = sign_bytes f.sign ++ dollar_bytes f.dollar ++ f.whole ++ point_bytes f.decimals
@@ -101,8 +98,8 @@ spelled (literal b) = b ∷ []
 spelled (field f) = field_bytes f
 
 -- the pieces of an image
-abbrev pub pieces : List ℕ → List Piece
-pieces image = pieces_behind 0 image
+abbrev pub pieces_of : List ℕ → List Piece
+pieces_of image = further_pieces 0 image
 
 -- the fields among them
 abbrev pub fields : List Piece → List Field
@@ -118,4 +115,4 @@ literals text = map literal text
 pub record IsFirstField (image : List ℕ) (at : ℕ) (f : Field) : Type 0 where
   pub inside : at + width_of f ≤ length image
   pub here : field_at (drop at image) ≡ Some f
-  pub before : pieces image ≡ literals (take at image) ++ pieces (drop at image)
+  pub before : pieces_of image ≡ literals (take at image) ++ pieces_of (drop at image)

@@ -5,7 +5,7 @@ use Rattle.b2_dec.specs.declared.values.Value.{Value}
 use Rattle.b2_print.specs.Columns.{column_after, passes}
 use Rattle.b2_print.specs.declared.layout.Item.{Item}
 use Rattle.b2_print.specs.Layout.{layout, fits_line, zone_text}
-use Rattle.b2_print.specs.Images.{Field, width_of, pieces, spelled}
+use Rattle.b2_print.specs.Images.{Field, width_of, pieces_of, spelled}
 use Rattle.b2_print.specs.Filling.{filled}
 
 -- Where each item has room on a line of its own, no line passes the width.
@@ -18,7 +18,7 @@ ZonesEnd = (width column : ℕ) → width ≤ 65535 → column_after column (zon
 
 -- The pieces of an image, written one after another, are the image.
 abbrev pub PiecesAreTheImage : Type 0
-PiecesAreTheImage = (image : List ℕ) → flat_map spelled (pieces image) ≡ image
+PiecesAreTheImage = (image : List ℕ) → flat_map spelled (pieces_of image) ≡ image
 
 -- A value takes as many bytes as its field.
 abbrev pub FieldsKeepTheirWidth : Type 0

@@ -24,7 +24,7 @@ pub fn column_after(column: u16, text: &[u8]) -> u16
     at
 }
 
-/// True where the column after one of the bytes is above the width.
+/// Whether the column after one of the bytes is above the width.
 pub(crate) fn passes(width: u16, column: u16, text: &[u8]) -> bool
     ensures { result ≡ spec.passes width column text.now }
 {

@@ -1,23 +1,17 @@
 // A value in a field.
 ghost use Rattle.std.specs.Prelude.{◌≡◌, ℕ, ◌+◌, ◌-ℤ◌, ◌*◌, ◌/◌, ◌%◌, ◌^◌, ◌<◌, ◌≤◌, ◌++◌, pos, length, drop, not};
+ghost use Rattle.b2_base.specs.Byte as byte;
 ghost use Rattle.b2_dec.specs.Number.{IsNumber};
-ghost use Rattle.b2_print.specs.Images.{point_width, width_of, sign_bytes, dollar_bytes, is_mark};
+ghost use Rattle.b2_print.specs.Images.{point_width, width_of, sign_bytes, dollar_bytes, is_hash};
 ghost use Rattle.b2_print.specs.Filling as spec;
 
 use crate::image::{Field, Sign};
 use b2_dec::{Dec, Value};
 
-/// The place of the last digit of a number, counted from 10^-111.
-fn place(x: Dec) -> usize
-    ensures { result ≡ x.place }
-{
-    (x.exponent() as i16 + 99) as usize
-}
-
 /// The digit of `coef · 10^up / 10^down` that counts one, as a byte.
-fn digit(coef: u64, up: usize, down: usize) -> u8
+fn shifted_digit(coef: u64, up: usize, down: usize) -> u8
     requires { coef < 10 ^ 13 }
-    ensures { result ≡ 48 + coef * 10 ^ up / 10 ^ down % 10 }
+    ensures { result ≡ byte.digit_0 + coef * 10 ^ up / 10 ^ down % 10 }
 {
     if down < up {
         return b'0';
@@ -35,26 +29,26 @@ fn whole_digit(x: Dec, k: usize) -> u8
     requires { k < 2 ^ 63 }
     ensures { result ≡ spec.whole_digit x k }
 {
-    digit(x.coefficient(), place(x), 111 + k)
+    shifted_digit(x.coefficient(), x.place() as usize, 111 + k)
 }
 
-/// The k-th digit of a number behind the point, counted from 1.
+/// The k-th digit of a number after the point, counted from 1.
 fn decimal_digit(x: Dec, k: usize) -> u8
     requires { k < 2 ^ 63 }
     ensures { result ≡ spec.decimal_digit x k }
 {
-    digit(x.coefficient(), place(x) + k, 111)
+    shifted_digit(x.coefficient(), x.place() as usize + k, 111)
 }
 
-/// True where the size of a number is 10^k or more.
+/// Whether the size of a number is 10^k or more.
 fn reaches(x: Dec, k: usize) -> bool
     requires { k < 2 ^ 63 }
     ensures { result ≡ spec.reaches x k }
 {
-    !x.is_zero() && place(x) >= 99 + k
+    !x.is_zero() && x.place() as usize >= 99 + k
 }
 
-/// True where a number has a digit at 10^k.
+/// Whether a number has a digit at 10^k.
 fn has_digit(x: Dec, k: usize) -> bool
     requires { k < 2 ^ 63 }
     ensures { result ≡ spec.has_digit x k }
@@ -74,18 +68,18 @@ fn place_byte(x: Dec, k: usize, place: u8) -> u8
     }
 }
 
-/// How many digits the places of a field have.
-fn marks(places: &[u8]) -> usize
-    ensures { result ≡ spec.marks places.now }
+/// How many `#` the places of a field have.
+fn hash_count(places: &[u8]) -> usize
+    ensures { result ≡ spec.hash_count places.now }
 {
     places.iter().filter(|place| **place == b'#').count()
 }
 
-/// Writes the point and the digits behind it to the end of a text, and gives the place of the point.
+/// Writes the point and the digits after it to the end of a text, and gives the place of the point.
 fn fill_point(x: Dec, decimals: usize, into: &mut [u8]) -> usize
     requires { point_width decimals ≤ length into.old }
     ensures start { result + point_width decimals ≡ length into.old }
-    ensures text { drop result into.new ≡ spec.point_text x decimals }
+    ensures text { drop result into.new ≡ spec.point_filled x decimals }
 {
     let mut start = into.len();
     if decimals == 0 {
@@ -129,7 +123,7 @@ fn fill_signs(field: &Field<'_>, neg: bool, end: usize, into: &mut [u8]) -> usiz
     requires within { end ≤ length into.old }
     ensures start { result + (length (sign_bytes field.now.sign) + length (dollar_bytes field.now.dollar)) ≡ end }
     ensures text { drop result into.new
-        ≡ spec.sign_text field.now.sign neg ++ dollar_bytes field.now.dollar ++ drop end into.old }
+        ≡ spec.sign_filled field.now.sign neg ++ dollar_bytes field.now.dollar ++ drop end into.old }
 {
     let mut start = end;
     if field.has_dollar() {
@@ -155,7 +149,7 @@ pub(crate) fn fill_number(field: &Field<'_>, x: Dec, into: &mut [u8]) -> bool
     ensures fits { result ≡ spec.fits field.now x }
     ensures text { into.new ≡ spec.number_filled field.now x }
 {
-    if reaches(x, marks(field.whole())) {
+    if reaches(x, hash_count(field.whole())) {
         into.fill(b'#');
         return false;
     }

@@ -1,6 +1,8 @@
 // The fields of an image.
-ghost use Rattle.std.specs.Prelude.{◌≡◌, ◌≤◌, ◌<◌, ◌^◌, length, IfSome};
+ghost use Rattle.std.specs.Prelude.{◌≡◌, ◌==◌, ◌≤◌, ◌<◌, ◌^◌, length, IfSome};
 ghost use Rattle.std.specs.List.{prefix_len};
+ghost use Rattle.b2_base.specs.Byte as byte;
+ghost use Rattle.b2_base.specs.Lexical.{first};
 ghost use Rattle.b2_print.specs.Images as spec;
 
 use std::marker::Model;
@@ -23,7 +25,7 @@ pub(crate) struct Field<'a> {
     dollar: bool,
     /// The `#` and `,` before the point.
     whole: &'a [u8],
-    /// The number of `#` behind the point.
+    /// The number of `#` after the point.
     decimals: usize,
 }
 
@@ -55,7 +57,7 @@ impl Field<'_> {
         self.whole
     }
 
-    /// The number of `#` behind the point.
+    /// The number of `#` after the point.
     pub(crate) fn decimals(&self) -> usize
         ensures { result ≡ self.now.decimals }
     {
@@ -80,8 +82,8 @@ impl Field<'_> {
 
 /// The sign that a text begins with, and what follows it.
 fn split_sign(text: &[u8]) -> (Sign, &[u8])
-    ensures sign { result.0 ≡ spec.sign_of text.now }
-    ensures rest { result.1.now ≡ spec.behind_sign text.now }
+    ensures sign { result.0 ≡ spec.leading_sign text.now }
+    ensures rest { result.1.now ≡ spec.after_sign text.now }
 {
     match text {
         [b'+', rest @ ..] => (Sign::Always, rest),
@@ -92,8 +94,8 @@ fn split_sign(text: &[u8]) -> (Sign, &[u8])
 
 /// Whether a text begins with a `$`, and what follows it.
 fn split_dollar(text: &[u8]) -> (bool, &[u8])
-    ensures dollar { result.0 ≡ spec.begins 36 text.now }
-    ensures rest { result.1.now ≡ spec.behind_dollar text.now }
+    ensures dollar { result.0 ≡ (first text.now == byte.dollar) }
+    ensures rest { result.1.now ≡ spec.after_dollar text.now }
 {
     match text {
         [b'$', rest @ ..] => (true, rest),
@@ -106,27 +108,19 @@ fn places_len(text: &[u8]) -> usize
     ensures len { result ≡ prefix_len spec.is_place text.now }
     ensures within { result ≤ length text.now }
 {
-    for (i, byte) in text.iter().enumerate() {
-        if *byte != b'#' && *byte != b',' {
-            return i;
-        }
-    }
-    text.len()
+    text.iter()
+        .take_while(|b| **b == b'#' || **b == b',')
+        .count()
 }
 
 /// How many `#` a text begins with.
 fn marks_len(text: &[u8]) -> usize
-    ensures { result ≡ prefix_len spec.is_mark text.now }
+    ensures { result ≡ prefix_len spec.is_hash text.now }
 {
-    for (i, byte) in text.iter().enumerate() {
-        if *byte != b'#' {
-            return i;
-        }
-    }
-    text.len()
+    text.iter().take_while(|b| **b == b'#').count()
 }
 
-/// How many `#` stand behind a point that a text begins with.
+/// How many `#` stand after a point that a text begins with.
 fn decimals_of(text: &[u8]) -> usize
     ensures { result ≡ spec.decimals_of text.now }
 {

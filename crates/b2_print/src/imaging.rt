@@ -1,6 +1,7 @@
 // Values in an image.
 ghost use Rattle.std.specs.Prelude.{◌≡◌, false, Ok, Err, Some, None, MatchOption, if◌then◌else◌, ◌++◌, ◌-◌, ◌≤◌, ◌<◌, ◌^◌, [], ◌∷◌, length, drop, min, OnOk, OnErr, IfOk, IfErr, IfSome, MatchResult};
-ghost use Rattle.b2_print.specs.Images.{width_of, pieces, fields, literals, IsFirstField};
+ghost use Rattle.b2_base.specs.Byte as byte;
+ghost use Rattle.b2_print.specs.Images.{width_of, pieces_of, fields, literals, IsFirstField};
 ghost use Rattle.b2_print.specs.Filling.{filled, fits, number_filled};
 ghost use Rattle.b2_print.specs.Imaged as spec;
 
@@ -29,8 +30,8 @@ fn line(
     values: &[Value],
     text: &mut Vec<u8>,
 ) -> Result<usize, NoMemory>
-    ensures line { OnOk result (text.new.items ≡ text.old.items ++ spec.line (pieces image.now) values.now) }
-    ensures used { IfOk result (λ used. used ≡ min (length (fields (pieces image.now))) (length values.now)) }
+    ensures line { OnOk result (text.new.items ≡ text.old.items ++ spec.line (pieces_of image.now) values.now) }
+    ensures used { IfOk result (λ used. used ≡ min (length (fields (pieces_of image.now))) (length values.now)) }
 {
     let mut at = 0;
     let mut used = 0;
@@ -56,7 +57,7 @@ fn line(
 /// The place of the first field of an image, and that field.
 fn first_field(image: &[u8]) -> Option<(usize, Field<'_>)>
     ensures { MatchOption result
-        (pieces image.now ≡ literals image.now)
+        (pieces_of image.now ≡ literals image.now)
         (λ found. IsFirstField image.now found.0 found.1) }
 {
     for at in 0..image.len() {
@@ -67,9 +68,9 @@ fn first_field(image: &[u8]) -> Option<(usize, Field<'_>)>
     None
 }
 
-/// True where there are values and no field for them.
+/// Whether there are values and no field for them.
 fn lacks_field(image: &[u8], values: &[Value]) -> bool
-    ensures { result ≡ spec.lacks_field (pieces image.now) values.now }
+    ensures { result ≡ spec.lacks_field (pieces_of image.now) values.now }
 {
     match first_field(image) {
         Some(_) => false,
@@ -77,11 +78,11 @@ fn lacks_field(image: &[u8], values: &[Value]) -> bool
     }
 }
 
-/// All lines of the image, with a newline behind them unless more follows.
-fn lines(alloc: Global, image: &[u8], values: &[Value], more: bool) -> Result<Vec<u8>, NoMemory>
-    requires { spec.lacks_field (pieces image.now) values.now ≡ false }
+/// All lines of the image, with a newline after them unless more follows.
+fn all_lines(alloc: Global, image: &[u8], values: &[Value], more: bool) -> Result<Vec<u8>, NoMemory>
+    requires { spec.lacks_field (pieces_of image.now) values.now ≡ false }
     ensures { IfOk result
-        (λ text. text.items ≡ spec.all_lines (pieces image.now) values.now ++ (if more then [] else 10 ∷ [])) }
+        (λ text. text.items ≡ spec.all_lines (pieces_of image.now) values.now ++ (if more then [] else byte.newline ∷ [])) }
 {
     let mut text = Vec::new(alloc);
     let mut used = line(alloc, image, values, &mut text)?;
@@ -122,7 +123,7 @@ pub fn using(
     if lacks_field(image, items) {
         return Err(Fault::Code(Code::known(P42_IMAGE)));
     }
-    let text = lines(alloc, image, items, more)?;
+    let text = all_lines(alloc, image, items, more)?;
     append(into, &text)?;
     Ok(())
 }
@@ -142,11 +143,11 @@ pub fn convert(image: &[u8], x: Dec, into: &mut Bytes) -> Result<(), Code>
     let Some(number) = filled_number(&field, x) else {
         return Err(Code::known(X71_DOES_NOT_FIT));
     };
-    let behind = start + field.width();
+    let after = start + field.width();
     into.clear();
     into.extend(&image[..start]);
     into.extend(number.bytes());
-    into.extend(before_field(&image[behind..]));
+    into.extend(before_field(&image[after..]));
     Ok(())
 }
 
@@ -167,7 +168,7 @@ fn filled_number(field: &Field<'_>, x: Dec) -> Option<Bytes>
 
 /// The bytes of an image before its first field.
 fn before_field(image: &[u8]) -> &[u8]
-    ensures text { result.now ≡ spec.line (pieces image.now) [] }
+    ensures text { result.now ≡ spec.line (pieces_of image.now) [] }
     ensures within { length result.now ≤ length image.now }
 {
     match first_field(image) {

@@ -2,11 +2,14 @@
 ghost use Rattle.b2_dectext.specs.Printed.{printed};
 ghost use Rattle.std.specs.Prelude.{◌≡◌, ◌<◌, ◌++◌, OnOk, OnErr, IfOk, replicate};
 ghost use Rattle.std.specs.List.{flat_map};
+ghost use Rattle.b2_base.specs.Byte as byte;
+ghost use Rattle.b2_base.specs.Lexical.{hex_pair};
 ghost use Rattle.b2_print.specs.Columns as columns;
 ghost use Rattle.b2_print.specs.Layout as spec;
 
 use crate::columns::{column_after, passes};
 use b2_base::NoMemory;
+use b2_base::lexical::hex_pair;
 use b2_dec::Dec;
 use b2_dectext::write;
 use std::alloc::Global;
@@ -28,35 +31,26 @@ pub enum Item<'a> {
     Line,
 }
 
-/// The upper hexadecimal digit of a number below 16.
-fn hex_digit(n: u8) -> u8
-    requires { n < 16 }
-    ensures { result ≡ spec.hex_digit n }
-{
-    if n < 10 { b'0' + n } else { b'A' + (n - 10) }
-}
-
 /// Each byte as two hexadecimal digits.
 fn hex(alloc: Global, bytes: &[u8]) -> Result<Vec<u8>, NoMemory>
-    ensures { IfOk result (λ text. text.items ≡ flat_map spec.hex_pair bytes.now) }
+    ensures { IfOk result (λ text. text.items ≡ flat_map hex_pair bytes.now) }
 {
     let mut text = Vec::new(alloc);
     for byte in bytes {
-        text.push(hex_digit(*byte / 16))?;
-        text.push(hex_digit(*byte % 16))?;
+        text.extend_from_slice(&hex_pair(*byte))?;
     }
     Ok(text)
 }
 
 /// A number of blanks.
 fn blanks(alloc: Global, count: u16) -> Result<Vec<u8>, NoMemory>
-    ensures { IfOk result (λ text. text.items ≡ replicate count 32) }
+    ensures { IfOk result (λ text. text.items ≡ replicate count byte.blank) }
 {
     Ok(vec![in alloc; b' '; count as usize]?)
 }
 
 /// The printed form of a number.
-fn number(alloc: Global, x: Dec) -> Result<Vec<u8>, NoMemory>
+fn printed(alloc: Global, x: Dec) -> Result<Vec<u8>, NoMemory>
     ensures { IfOk result (λ text. text.items ≡ printed x) }
 {
     let mut digits = [0; 24];
@@ -77,11 +71,11 @@ fn zone(alloc: Global, width: u16, column: u16) -> Result<Vec<u8>, NoMemory>
 }
 
 /// What an item shows at a column.
-fn text_of(alloc: Global, width: u16, column: u16, item: &Item<'_>) -> Result<Vec<u8>, NoMemory>
-    ensures { IfOk result (λ text. text.items ≡ spec.text_of width column item.now) }
+fn item_text(alloc: Global, width: u16, column: u16, item: &Item<'_>) -> Result<Vec<u8>, NoMemory>
+    ensures { IfOk result (λ text. text.items ≡ spec.item_text width column item.now) }
 {
     match item {
-        Item::Number(x) => number(alloc, *x),
+        Item::Number(x) => printed(alloc, *x),
         Item::Alpha(bytes) => Ok(Vec::from_slice(alloc, bytes)?),
         Item::Tab(to) => blanks(alloc, (*to as u16).saturating_sub(column)),
         Item::Hex(bytes) => hex(alloc, bytes),
@@ -91,15 +85,15 @@ fn text_of(alloc: Global, width: u16, column: u16, item: &Item<'_>) -> Result<Ve
 }
 
 /// An item at the column where it goes: on a new line where it would pass the width.
-fn place(alloc: Global, width: u16, column: u16, item: &Item<'_>) -> Result<Vec<u8>, NoMemory>
+fn placed(alloc: Global, width: u16, column: u16, item: &Item<'_>) -> Result<Vec<u8>, NoMemory>
     ensures { IfOk result (λ text. text.items ≡ spec.placed width column item.now) }
 {
-    let text = text_of(alloc, width, column, item)?;
+    let text = item_text(alloc, width, column, item)?;
     if column == 0 || !passes(width, column, &text) {
         return Ok(text);
     }
     let mut on_new_line = vec![in alloc; b'\n']?;
-    on_new_line.extend_from_slice(&text_of(alloc, width, 0, item)?)?;
+    on_new_line.extend_from_slice(&item_text(alloc, width, 0, item)?)?;
     Ok(on_new_line)
 }
 
@@ -120,7 +114,7 @@ pub fn lay(
     let mut shown = Vec::new(alloc);
     let mut at = column;
     for item in items {
-        let text = place(alloc, width, at, item)?;
+        let text = placed(alloc, width, at, item)?;
         at = column_after(at, &text);
         shown.extend_from_slice(&text)?;
     }

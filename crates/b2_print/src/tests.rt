@@ -194,7 +194,7 @@ const IMAGED: [Imaged; 32] = [
     (b"", &[Text(b"A")], false, Err(42)),
 ];
 
-// The number of a refusal's code, 0 for want of memory.
+// The number of a refusal's code, 0 where memory fails.
 fn refusal(fault: Fault) -> u8 {
     match fault {
         Fault::Code(code) => code.number(),

@@ -29,12 +29,12 @@ refusal stop.Deep n = At A04_TOO_DEEP 0
 refusal stop.NoMemory n = NoMemory
 
 -- more than 255 bytes of atoms are too long
-abbrev pub fitted : Result Text Stop → ℕ → Result Text LineErr
-fitted (Err e) n = Err (refusal e n)
-fitted (Ok a) n = if nat_lt 255 (length a) then Err (At A05_LINE_TOO_LONG 0) else Ok a
+abbrev pub not_too_long : Result Text Stop → ℕ → Result Text LineErr
+not_too_long (Err e) n = Err (refusal e n)
+not_too_long (Ok a) n = if nat_lt 255 (length a) then Err (At A05_LINE_TOO_LONG 0) else Ok a
 
-abbrev pub atoms : Origin → Text → ℕ → Result Text LineErr
-atoms o rest n = fitted (line_atoms o rest) n
+abbrev pub read_atoms : Origin → Text → ℕ → Result Text LineErr
+read_atoms o rest n = not_too_long (line_atoms o rest) n
 
 -- the number of a line is at most 9999
 abbrev pub IsNumbered : Entered → Type 0
@@ -49,14 +49,14 @@ with_atoms f (Err e) = Err e
 
 abbrev pub after_number : ℕ → ℕ → Text → Result Entered LineErr
 after_number n number [] = Ok (Delete number)
-after_number n number (b ∷ bs) = with_atoms (Numbered number) (atoms origin.Program (b ∷ bs) n)
+after_number n number (b ∷ bs) = with_atoms (Numbered number) (read_atoms origin.Program (b ∷ bs) n)
 
 -- a line with a number of its own, which is at most 9999
 abbrev pub numbered : ℕ → Text → Result Entered LineErr
 numbered n own = if nat_lt 9999 (capped_value 10000 0 own) then Err (At A07_LINE_NUMBER 0) else after_number n (capped_value 10000 0 own) (skip_blanks (after_digits own))
 
 abbrev pub immediate : ℕ → Text → Result Entered LineErr
-immediate n rest = with_atoms Immediate (atoms origin.Immediate rest n)
+immediate n rest = with_atoms Immediate (read_atoms origin.Immediate rest n)
 
 abbrev pub by_first : ℕ → Text → Result Entered LineErr
 by_first n [] = Ok Empty

@@ -74,9 +74,9 @@ fn refusal(stop: Stop, length: usize) -> LineErr
 }
 
 /// The atoms of a line of `length` bytes, of which `rest` follows its own number.
-fn atoms(alloc: Global, origin: Origin, rest: &[u8], length: usize) -> Result<Atoms, LineErr>
+fn read_atoms(alloc: Global, origin: Origin, rest: &[u8], length: usize) -> Result<Atoms, LineErr>
     requires { length < 2 ^ 63 }
-    ensures { MatchResult result (λ a. spec.atoms origin rest.now length ≡ Ok a) (λ e. e ≢ LineErr.NoMemory → spec.atoms origin rest.now length ≡ Err e) }
+    ensures { MatchResult result (λ a. spec.read_atoms origin rest.now length ≡ Ok a) (λ e. e ≢ LineErr.NoMemory → spec.read_atoms origin rest.now length ≡ Err e) }
 {
     match Atoms::read(alloc, origin, rest) {
         Ok(Some(atoms)) => Ok(atoms),
@@ -98,7 +98,7 @@ fn numbered(alloc: Global, line: &[u8], own: &[u8]) -> Result<Entered, LineErr>
     if rest.is_empty() {
         return Ok(Entered::Delete(number));
     }
-    match atoms(alloc, Origin::Program, rest, line.len()) {
+    match read_atoms(alloc, Origin::Program, rest, line.len()) {
         Ok(atoms) => Ok(Entered::Numbered(number, atoms)),
         Err(error) => Err(error),
     }
@@ -109,7 +109,7 @@ fn immediate(alloc: Global, line: &[u8], rest: &[u8]) -> Result<Entered, LineErr
     ensures value { MatchResult result (λ e. spec.immediate (length line.now) rest.now ≡ Ok e) (λ e. e ≢ LineErr.NoMemory → spec.immediate (length line.now) rest.now ≡ Err e) }
     ensures number { IfOk result spec.IsNumbered }
 {
-    match atoms(alloc, Origin::Immediate, rest, line.len()) {
+    match read_atoms(alloc, Origin::Immediate, rest, line.len()) {
         Ok(atoms) => Ok(Entered::Immediate(atoms)),
         Err(error) => Err(error),
     }

@@ -7,8 +7,9 @@
 ghost use Rattle.std.specs.Prelude.{◌≡◌, ◌≤◌, ◌<◌, [], ◌∷◌, ◌++◌, length, nat_lt, OnOk, IfOk, false, ◌↔◌};
 ghost use Rattle.std.specs.List.{list_any};
 ghost use Rattle.std.specs.VecDeque.{deque_capacity};
-ghost use Rattle.b2_term.specs.Terminal.{Typing, reading, line_read, after_read, typed, echo, keyed, ends_line};
+ghost use Rattle.b2_term.specs.Terminal.{Typing, reading, line_read, after_read, typed, echo, keyed, ends_line, IsShortLine};
 
+use b2_base::lexical::is_printable;
 use b2_base::{ByteList, NoMemory, Part};
 use std::alloc::Global;
 use std::collections::VecDeque;
@@ -23,6 +24,12 @@ const QUEUE_SIZE: usize = 128;
 
 /// How many bytes a typed line may have.
 const LINE_SIZE: usize = 256;
+
+/// What is shown where a line has no room.
+const BELL: u8 = 7;
+
+/// What takes the last byte of a line away.
+const BACKSPACE: u8 = 8;
 
 /// A key: a byte, or a special function key by its number.
 #[derive(Clone, Copy, Debug, PartialEq, Eq)]
@@ -42,7 +49,7 @@ pub enum Read {
     NoKeys,
 }
 
-/// A terminal.
+/// A terminal. At most 128 keys wait, and the line being typed has at most 256 bytes.
 #[derive(Drop)]
 pub struct Terminal {
     alloc: Global,
@@ -61,39 +68,44 @@ impl Model for Terminal {
 
     ghost view = { λ t. record { queue = t.queue.items; front = t.front; line = t.line.items; transcript = t.transcript.items } };
 
-    ghost invariant = { λ t. (128 ≤ deque_capacity t.queue) × (length t.queue.items ≤ 128) };
+    ghost invariant = { λ t. (128 ≤ deque_capacity t.queue) × (length t.queue.items ≤ 128) × (length t.line.items ≤ 256) };
 }
 
-// Types a byte that doesn't end the line.
+/// Types a byte that doesn't end the line.
 fn type_byte(line: &mut Vec<u8>, transcript: &mut Vec<u8>, b: u8) -> Result<(), NoMemory>
+    requires { length line.old.items ≤ 256 }
     ensures line { OnOk result (line.new.items ≡ typed b line.old.items) }
+    ensures short { length line.new.items ≤ 256 }
     ensures transcript { OnOk result (transcript.new.items ≡ transcript.old.items ++ echo b line.old.items) }
 {
-    if b >= 0x20 && b <= 0x7e {
+    if is_printable(b) {
         if line.len() < LINE_SIZE {
             line.push(b)?;
             transcript.push(b)?;
         } else {
-            transcript.push(7)?;
+            transcript.push(BELL)?;
         }
-    } else if b == 8 && !line.is_empty() {
+    } else if b == BACKSPACE && !line.is_empty() {
         line.truncate(line.len() - 1);
-        transcript.extend_from_slice(&[8, 0x20, 8])?;
+        transcript.extend_from_slice(&[BACKSPACE, b' ', BACKSPACE])?;
     }
     Ok(())
 }
 
-// Takes keys up to one that ends the reading.
+/// Takes keys up to one that ends the reading.
 fn read_keys(
     alloc: Global,
     queue: &mut VecDeque<KeyItem>,
     line: &mut Vec<u8>,
     transcript: &mut Vec<u8>,
 ) -> Result<Read, NoMemory>
+    requires { length line.old.items ≤ 256 }
     ensures reads { IfOk result (λ read. record { answer = read; queue = queue.new.items; line = line.new.items; transcript = transcript.new.items }
         ≡ reading queue.old.items (record { line = line.old.items; transcript = transcript.old.items })) }
     ensures capacity { deque_capacity queue.new ≡ deque_capacity queue.old }
     ensures shorter { length queue.new.items ≤ length queue.old.items }
+    ensures short { length line.new.items ≤ 256 }
+    ensures line { IfOk result IsShortLine }
 {
     while let Some(key) = queue.pop_front() {
         match key {
@@ -157,10 +169,11 @@ impl Terminal {
         Ok(())
     }
 
-    /// Types the keys that wait, up to one that ends the line.
+    /// Types the keys that wait, up to one that ends the line, which has at most 256 bytes.
     pub fn read_line(&mut self) -> Result<Read, NoMemory>
         ensures answer { IfOk result (λ read. read ≡ line_read self.old) }
         ensures after { OnOk result (self.new ≡ after_read self.old) }
+        ensures short { IfOk result IsShortLine }
         ensures no_keys { IfOk result (λ read. (read ≡ Read.NoKeys) ↔ (list_any ends_line self.old.queue ≡ false)) }
     {
         read_keys(

@@ -5,7 +5,7 @@ use Rattle.std.proofs.lemmas.List.{append_cancel_left}
 use Rattle.b2_atom.specs.Words.{Text}
 use Rattle.b2_atom.specs.Tokens.{Token}
 use Rattle.b2_atom.specs.Tokens.Token.{Coded, Plain, Lined}
-use Rattle.b2_atom.specs.Tree.{Trees, tokens, atoms, Outcome, Parser, nothing, joined, and_then, under, also}
+use Rattle.b2_atom.specs.Tree.{Trees, tokens, atoms, Outcome, Parser, nothing, preceded, and_then, under, also}
 use Rattle.b2_atom.specs.Tree.Trees.{Done, Put, In}
 use Rattle.b2_atom.specs.Grammar.{reader, items, item, level, deep, statement, row_items, starts, chosen}
 use Rattle.b2_atom.specs.Spelling.{Spells, AllGood, Neighbours, atoms_of_tokens}
@@ -156,7 +156,7 @@ front_runs m c front last f a mid u fits remarks_ spelled_ =
       remarks = remarks_;
     }) u spelled_
 
-joined_done : (o : Outcome) → joined Done o ≡ o
+joined_done : (o : Outcome) → preceded Done o ≡ o
 joined_done (Ok p) = refl
 joined_done (Err e) = refl
 

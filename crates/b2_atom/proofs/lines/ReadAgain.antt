@@ -7,7 +7,7 @@ use Rattle.b2_atom.specs.Tokens.Token.{Coded, Plain, Lined}
 use Rattle.b2_atom.specs.Tree.{Trees, Outcome, tokens, atoms}
 use Rattle.b2_atom.specs.Lines.{line_atoms, line_source, atoms_of, source_of}
 use Rattle.b2_atom.specs.Grammar.{reader, items, item, level, deep, statement, statement_row, starts, row_items, read_line}
-use Rattle.b2_atom.specs.Spelling.{AllGood, good_token, is_whole, is_free, atoms_of_tokens}
+use Rattle.b2_atom.specs.Spelling.{AllGood, good_token, is_whole, is_free_text, atoms_of_tokens}
 use Rattle.b2_atom.specs.Fitting.{LineTree}
 use Rattle.b2_atom.specs.declared.words.Origin.TheVariants as origin
 use Rattle.b2_atom.specs.declared.forms.Place.TheVariants.{First}
@@ -73,7 +73,7 @@ whole_some k (a ∷ w) h = omega arith
 begun_more : (w x : Text) → 0 < length w → (first w == 32) ≡ false → Begun (w ++ x)
 begun_more w x some h = record { some = some_more w x some; blank = ap (λ (n : ℕ). n == 32) (first_more w x some) ∙ h }
 
-front_by : (u : Token) (x : Text) (b : Bool) → is_free u ≡ b → good_token u ≡ true → Begun (token_atoms u ++ x) → (y : Text) → Begun (spelled u ++ y)
+front_by : (u : Token) (x : Text) (b : Bool) → is_free_text u ≡ b → good_token u ≡ true → Begun (token_atoms u ++ x) → (y : Text) → Begun (spelled u ++ y)
 front_by u x false is g h y = let f = token_fronted u is g in begun_more (spelled u) y f.some f.blank
 front_by (Coded c) x true is g h y = cc
 front_by (Plain k w) x true is g h y =
@@ -83,7 +83,7 @@ front_by (Lined high low) x true is g h y = cc
 
 listed_begun : (ts : List Token) → AllGood ts → Begun (atoms_of_tokens ts) → Begun (listed false false ts)
 listed_begun [] g h = h
-listed_begun (u ∷ us) g h = front_by u (atoms_of_tokens us) (is_free u) refl g.0 h (listed (ends_wordy u) (is_operand u) us)
+listed_begun (u ∷ us) g h = front_by u (atoms_of_tokens us) (is_free_text u) refl g.0 h (listed (ends_wordy u) (is_operand u) us)
 
 begun_skips : (s : Text) → Begun s → skip_blanks s ≡ s
 begun_skips [] h = refl

@@ -1,8 +1,8 @@
--- One reading after another, and what a sink holds behind it.
+-- One reading after another, and what a sink holds after it.
 use Rattle.std.proofs.Common.{◌≡◌, ℕ, zero, suc, ◌+◌, ◌-◌, ◌<◌, List, [], ◌∷◌, ◌++◌, length, refl, sym, ap, ◌∙◌, arith, Bor, Result, Ok, Err, true, false, Bool, if◌then◌else◌, ◌≤◌, is_ok, append_assoc, append-nil, ◌&&◌, nat_le}
 use Rattle.b2_atom.specs.Words.{Text}
-use Rattle.b2_atom.specs.Tokens.{Token, token_atoms, listed, ending, ends_wordy, is_operand, is_apart, spaced, spelled}
-use Rattle.b2_atom.specs.Tree.{Trees, Outcome, Parser, Seen, atoms, also, joined, and_then, under, emitted, put_one, put_all, bytes_of, is_silent, Takes, tokens}
+use Rattle.b2_atom.specs.Tokens.{Token, token_atoms, listed, ending, ends_wordy, is_operand, is_apart, maybe_spaced, spelled}
+use Rattle.b2_atom.specs.Tree.{Trees, Outcome, Parser, Seen, atoms, also, preceded, and_then, under, emitted, put_one, put_all, bytes_of, is_silent, Takes, tokens}
 use Rattle.b2_atom.specs.Tree.Trees.{Done, Put, In}
 use Rattle.b2_atom.specs.Tree.Seen.{Silent, Written, Listed}
 use Rattle.b2_atom.specs.Lines.{rest_of, atoms_of, source_of, is_line, line_source}
@@ -14,14 +14,14 @@ use Rattle.b2_atom.specs.declared.forms.Start.{Start}
 use Rattle.b2_atom.specs.declared.forms.Place.{Place}
 use Rattle.b2_atom.specs.declared.forms.Item.{Item}
 use Rattle.b2_atom.specs.declared.forms.Item.TheVariants.{Nest}
-use Rattle.b2_atom.specs.Grammar.{Reader, reader, items, item, item_in, deep, level, statement, many, row_items, starts, absent, part, read_line, chosen, statement_row}
+use Rattle.b2_atom.specs.Grammar.{Reader, reader, items, item, item_of_part, deep, level, statement, many, row_items, starts, absent, part, read_line, chosen, statement_row}
 
 pub put_all-also : (s : Seen) (a b : Trees) → put_all s (also a b) ≡ put_all (put_all s a) b
 put_all-also s Done b = refl
 put_all-also s (Put t a) b = put_all-also (put_one s t) a b
 put_all-also s (In n i a) b = put_all-also (put_all s i) a b
 
-pub emitted-joined : (old : Seen) (a : Trees) (o : Outcome) → emitted old (joined a o) ≡ emitted (put_all old a) o
+pub emitted-joined : (old : Seen) (a : Trees) (o : Outcome) → emitted old (preceded a o) ≡ emitted (put_all old a) o
 emitted-joined old a (Err e) = refl
 emitted-joined old a (Ok p) = ap (λ (s : Seen). Ok (s, p.1)) (put_all-also old a p.0)
 
@@ -83,7 +83,7 @@ row_of_part r st d zero n old t h = absurd (omega arith)
 row_of_part r st d (suc l) n old t h = let less : suc l - 1 ≡ l = omega arith in ap (λ (m : ℕ). emitted old (items st d (level r st d m) r (row_items n) t)) less
 
 -- what stands in parentheses, where one may still open
-pub nest_more : (o : Origin) (fuel room l n : ℕ) (old : Seen) (t : Text) → 0 < room → emitted old (part o fuel (room - 1) 40 n t) ≡ emitted old (item_in o fuel room l (Nest n) t)
+pub nest_more : (o : Origin) (fuel room l n : ℕ) (old : Seen) (t : Text) → 0 < room → emitted old (part o fuel (room - 1) 40 n t) ≡ emitted old (item_of_part o fuel room l (Nest n) t)
 unfolding item deep
 nest_more o fuel zero l n old t h = absurd (omega arith)
 nest_more o fuel (suc m) l n old t h =
@@ -147,7 +147,7 @@ pub statement_err : (o : Origin) (f : ℕ) (p : Place) (old : Seen) (t : Text) (
 statement_err o f p old t e h is =
     statement_more o f p old t h ∙ ap (λ (r : Result (ℕ × Text) Stop). emitted old (chosen r (part o (f - 1) 32 40))) is
 
--- what is left behind a reading, as its sink tells
+-- what is left after a reading, as its sink tells
 pub rest_ok : (s n : Seen) (o : Outcome) (r : Text) → emitted s o ≡ Ok (n, r) → rest_of o ≡ r
 rest_ok s n (Err e) r is = cc
 rest_ok s n (Ok p) r is =
@@ -165,7 +165,7 @@ pub reads_err : (s : Seen) (o : Outcome) (e : Stop) → emitted s o ≡ Err e �
 reads_err s (Err f) e is = refl
 reads_err s (Ok p) e is = cc
 
--- the atoms behind bytes
+-- the atoms after bytes
 pub put_all-written : (bs : Text) (t : Trees) → put_all (Written bs) t ≡ Written (bs ++ atoms t)
 put_all-written bs Done = ap Written (sym (append-nil bs))
 put_all-written bs (Put t ts) =
@@ -184,7 +184,7 @@ pub held_none : (s : Seen) (o : Outcome) (e : Stop) → emitted s o ≡ Err e �
 held_none s (Err f) e is = let same : f ≡ e = cc in ap Err same
 held_none s (Ok p) e is = cc
 
--- the source behind another
+-- the source after another
 pub ending-append : (f : Token → Bool) (before : Bool) (xs ys : List Token) → ending f before (xs ++ ys) ≡ ending f (ending f before xs) ys
 ending-append f before [] ys = refl
 ending-append f before (x ∷ xs) ys = ending-append f (f x) xs ys
@@ -192,16 +192,16 @@ ending-append f before (x ∷ xs) ys = ending-append f (f x) xs ys
 pub listed-append : (w o : Bool) (xs ys : List Token) → listed w o (xs ++ ys) ≡ listed w o xs ++ listed (ending ends_wordy w xs) (ending is_operand o xs) ys
 listed-append w o [] ys = refl
 listed-append w o (x ∷ xs) ys =
-    ap (λ (l : Text). spaced (is_apart w o x) (spelled x) ++ l) (listed-append (ends_wordy x) (is_operand x) xs ys)
-    ∙ sym (append_assoc (spaced (is_apart w o x) (spelled x)) (listed (ends_wordy x) (is_operand x) xs) _)
+    ap (λ (l : Text). maybe_spaced (is_apart w o x) (spelled x) ++ l) (listed-append (ends_wordy x) (is_operand x) xs ys)
+    ∙ sym (append_assoc (maybe_spaced (is_apart w o x) (spelled x)) (listed (ends_wordy x) (is_operand x) xs) _)
 
 pub put_all-listed : (bs : Text) (w o : Bool) (t : Trees)
     → put_all (Listed bs w o) t ≡ Listed (bs ++ listed w o (tokens t)) (ending ends_wordy w (tokens t)) (ending is_operand o (tokens t))
 put_all-listed bs w o Done = ap (λ (l : Text). Listed l w o) (sym (append-nil bs))
 put_all-listed bs w o (Put t ts) =
-    put_all-listed (bs ++ spaced (is_apart w o t) (spelled t)) (ends_wordy t) (is_operand t) ts
+    put_all-listed (bs ++ maybe_spaced (is_apart w o t) (spelled t)) (ends_wordy t) (is_operand t) ts
     ∙ ap (λ (l : Text). Listed l (ending ends_wordy (ends_wordy t) (tokens ts)) (ending is_operand (is_operand t) (tokens ts)))
-    (append_assoc bs (spaced (is_apart w o t) (spelled t)) (listed (ends_wordy t) (is_operand t) (tokens ts)))
+    (append_assoc bs (maybe_spaced (is_apart w o t) (spelled t)) (listed (ends_wordy t) (is_operand t) (tokens ts)))
 put_all-listed bs w o (In n i ts) =
     ap (λ (s : Seen). put_all s ts) (put_all-listed bs w o i)
     ∙ put_all-listed (bs ++ listed w o (tokens i)) (ending ends_wordy w (tokens i)) (ending is_operand o (tokens i)) ts

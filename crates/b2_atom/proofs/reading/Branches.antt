@@ -5,7 +5,7 @@ use Rattle.std.proofs.lemmas.Bool.Decides.{nat_tests}
 use Rattle.b2_atom.specs.Words.{Text}
 use Rattle.b2_atom.specs.Tokens.{Token}
 use Rattle.b2_atom.specs.Tokens.Token.{Coded, Plain, Lined}
-use Rattle.b2_atom.specs.Tree.{Trees, tokens, Outcome, Parser, joined, and_then, under, also}
+use Rattle.b2_atom.specs.Tree.{Trees, tokens, Outcome, Parser, preceded, and_then, under, also}
 use Rattle.b2_atom.specs.Tree.Trees.{Done, Put, In}
 use Rattle.b2_atom.specs.Grammar.{reader, items, item, level, deep, statement, many, row_items, starts, absent, statement_row, read_leaf, text_to_end}
 use Rattle.b2_atom.specs.Spelling.{Spells}
@@ -81,7 +81,7 @@ inner_remarks inner ts more h = let P : List Token → Type 0 = λ l. RemarksEnd
 pub inner_spelled : (o : Origin) (inner ts : Trees) (more : List Token) (s : Text) → Spells o ((tokens inner ++ tokens ts) ++ more) s → Spells o (tokens inner ++ (tokens ts ++ more)) s
 inner_spelled o inner ts more s h = let P : List Token → Type 0 = λ l. Spells o l s in subst P (append_assoc (tokens inner) (tokens ts) more) h
 
--- what stands behind a branch refuses what it must
+-- what follows a branch refuses what it must
 pub branch_behind : (o : Origin) (room l f m : ℕ) (i : Item) (is : List Item) (inner ts : Trees) (more : List Token) → Fits o room is ts
     → refuse (of_item of i).tails (of_items of is).heads ≡ true → Ready o room l f (i ∷ is) (In m inner ts) more → Refused o (of_item of i).tails (tokens ts ++ more)
 branch_behind o room l f m i is inner ts more fits test r = behind o i is (tokens ts) more (leads ts o room is fits more) test r.refuses
@@ -221,7 +221,7 @@ close_heads : (c : ℕ) (code : ℕ) (is : List Item) (xs more : List Token) →
 close_heads c code is xs more h (inl g) = cc
 close_heads c code is xs more h (inr g) = ap (λ (n : ℕ). some (λ (f : Front). fronts f (xs ++ more)) (Spanned n n ∷ [])) (sym (equal c 41 h)) ∙ g
 
--- a `)` stands behind what stands in parentheses
+-- a `)` stands after what stands in parentheses
 nest_behind : (o : Origin) (room n : ℕ) (is : List Item) (ts : Trees) (more : List Token) → is_closed is ≡ true → refuse (of n).tails (Spanned 41 41 ∷ []) ≡ true → Fits o room is ts
     → Refused o (of n).tails (tokens ts ++ more)
 nest_behind o room n (Sign c code ∷ is) ts more h test fits =
@@ -259,11 +259,11 @@ also_assoc Done b c = refl
 also_assoc (Put t a) b c = ap (Put t) (also_assoc a b c)
 also_assoc (In n i a) b c = ap (In n i) (also_assoc a b c)
 
-joined_joined : (a b : Trees) (o : Outcome) → joined (also a b) o ≡ joined a (joined b o)
+joined_joined : (a b : Trees) (o : Outcome) → preceded (also a b) o ≡ preceded a (preceded b o)
 joined_joined a b (Ok p) = ap (λ (t : Trees). Ok (t, p.1)) (also_assoc a b p.0)
 joined_joined a b (Err e) = refl
 
-then_joined : (a : Trees) (o : Outcome) (q : Parser Text) → and_then (joined a o) q ≡ joined a (and_then o q)
+then_joined : (a : Trees) (o : Outcome) (q : Parser Text) → and_then (preceded a o) q ≡ preceded a (and_then o q)
 then_joined a (Ok p) q = joined_joined a p.0 (q p.1)
 then_joined a (Err e) q = refl
 
@@ -281,7 +281,7 @@ some_split p (x ∷ xs) ys h = elim (or_cases (p x) (some p (xs ++ ys)) h) [
   ]
 ]
 
--- what stands behind one turn of a repetition
+-- what follows one turn of a repetition
 turn_behind : (o : Origin) (x : Start) (n : ℕ) (is : List Item) (xs more : List Token) → Led (of_items of (Many x n ∷ is)) xs more → refuse (of n).tails (of n).heads ≡ true
     → refuse (of_item of (Many x n)).tails (of_items of is).heads ≡ true → Refused o (of_items of (Many x n ∷ is)).tails more → Refused o (of n).tails (xs ++ more)
 turn_behind o x n is xs more (inl g) own test refused = (behind o (Many x n) is xs more (inl g) test refused).1
@@ -308,7 +308,7 @@ many_left ts gt o chooses room l f x n is ft more r (suc k) s spelled =
     (s, (if_is (starts o x s) false _ _ (behind_.0 s spelled), spelled))
     (λ u spelled_. gt o chooses room l f is ft more (ready_in o room l f 0 (Many x n) is Done ts more refl (and_right (refuse (of_item of (Many x n)).tails (of_items of is).heads) _ tests) r) u spelled_)
 
--- the same with what stands behind it unchanged
+-- the same with what follows it unchanged
 ready_turn : (o : Origin) (room l f : ℕ) (x : Start) (n : ℕ) (is : List Item) (inner ts : Trees) (more : List Token)
     → Ready o room l f (Many x n ∷ is) (In 1 inner ts) more → Ready o room l f (Many x n ∷ is) ts more
 ready_turn o room l f x n is inner ts more r = record {

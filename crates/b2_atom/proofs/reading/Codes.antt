@@ -3,12 +3,12 @@ use Rattle.std.proofs.Common.{◌≡◌, ◌≢◌, ℕ, zero, suc, ◌+◌, ◌
 use Rattle.b2_atom.specs.Tokens.{Token, kept_text}
 use Rattle.b2_atom.specs.Tokens.Token.{Coded, Plain, Lined}
 use Rattle.b2_atom.specs.declared.rows.TheConstants as row
-use Rattle.b2_base.specs.Lexical.{all_printable, digits_width, first, is_hex_digit}
-use Rattle.b2_atom.specs.Words.{Text, kept, ahead, skipped, is_source}
-use Rattle.b2_atom.specs.Tree.{Trees, Seen, emitted, Outcome, Parser, one, nothing, joined, and_then, under}
+use Rattle.b2_base.specs.Lexical.{all_printable, digits_width, first, is_decimal, is_hex_digit}
+use Rattle.b2_atom.specs.Words.{Text, kept_byte, ahead, skipped, is_source}
+use Rattle.b2_atom.specs.Tree.{Trees, Seen, emitted, Outcome, Parser, one, nothing, preceded, and_then, under}
 use Rattle.b2_atom.specs.Leaves.{refused, missing, leaf_width, until_quote}
 use Rattle.b2_atom.specs.Lines.{good_code, IsKnown}
-use Rattle.b2_atom.specs.Grammar.{reader, read_item, items, item, level, deep, statement, many, row_items, rows_of, place_of, starts, absent, read_line, chosen, statement_row, row_at, allowed, from, mark, among, program_word, program_word_at, ignored, comma, end_of_line, end_at, read_leaf, leaf_at, plain, atoms_line_number, typed_line_number, line_number_at, text_to_end, is_decimal, two_digits, begins_let, variable_begins, barred_following, barred_line, barred_place}
+use Rattle.b2_atom.specs.Grammar.{reader, read_item, items, item, level, deep, statement, many, row_items, rows_of, row_place, starts, absent, read_line, chosen, statement_row, row_at, allowed, from, mark, among, program_word, program_word_at, ignored, optional_comma, end_of_line, end_at, read_leaf, leaf_at, plain, atoms_line_number, typed_line_number, line_number_at, text_to_end, two_digits, begins_let, variable_begins, barred_following, barred_line, barred_place}
 use Rattle.b2_atom.specs.declared.words.Origin.{Origin}
 use Rattle.b2_atom.specs.declared.words.Origin.TheVariants.{Program, Immediate, Atoms}
 use Rattle.b2_atom.specs.declared.sink.Stop.{Stop}
@@ -35,7 +35,7 @@ known_if : (b : Bool) (o u : Outcome) → Known o → Known u → Known (if b th
 known_if true o u h k = h
 known_if false o u h k = k
 
-known_joined : (a : Trees) (o : Outcome) → Known o → Known (joined a o)
+known_joined : (a : Trees) (o : Outcome) → Known o → Known (preceded a o)
 known_joined a (Ok p) h = tt
 known_joined a (Err e) h = h
 
@@ -68,7 +68,7 @@ known_missing o leaf.FunctionName code t h = known_refused o code t h
 known_missing o leaf.Literal code t h = known_stop (first t == 34) (if get_or t 1 0 == 34 then At 18 (length t) else At 19 (length t - (until_quote (drop 1 t) + 1))) (refused o code t)
     (known_stop (get_or t 1 0 == 34) (At 18 (length t)) (At 19 (length t - (until_quote (drop 1 t) + 1))) refl refl) (known_refused o code t h)
 known_missing o leaf.LineNumber code t h = known_refused o code t h
-known_missing o leaf.HexPair code t h = known_stop (is_hex_digit (kept o (first t))) (At code (length t - 1)) (At code (length t)) h h
+known_missing o leaf.HexPair code t h = known_stop (is_hex_digit (kept_byte o (first t))) (At code (length t - 1)) (At code (length t)) h h
 known_missing o leaf.HexDigit code t h = h
 known_missing o leaf.Address code t h = h
 known_missing o leaf.Slot code t h = h
@@ -145,7 +145,7 @@ all_good k = if_good (k == 0) rows_0 _ refl (if_good (k == 1) rows_1 _ refl (if_
 
 row_good : (n : ℕ) → good_row (row_items n) ≡ true
 unfolding row_items
-row_good n = get_good (rows_of (n / 64)) (place_of n) (all_good (n / 64))
+row_good n = get_good (rows_of (n / 64)) (row_place n) (all_good (n / 64))
 
 known_program_word : (o : Origin) (c : ℕ) (t : Text) → Known (program_word_at o c t)
 known_program_word Program c t = one_or ((ahead Program t).0 == c) (Coded c) (ahead Program t).1 (refused Program 22 t) (known_refused Program 22 t refl)
@@ -157,7 +157,7 @@ known_end o [] = tt
 known_end o (b ∷ bs) = known_refused o 25 (b ∷ bs) refl
 
 known_read : (o : Origin) (i : Item) (s : Text) → good_item i ≡ true → Known (read_item o i s)
-unfolding mark among program_word ignored comma end_of_line read_leaf
+unfolding mark among program_word ignored optional_comma end_of_line read_leaf
 known_read o (Word c) s h = one_or ((ahead o (skipped o s)).0 == c) (Coded c) (ahead o (skipped o s)).1 (refused o 22 (skipped o s)) (known_refused o 22 (skipped o s) refl)
 known_read o (Sign c code) s h = one_or ((ahead o (skipped o s)).0 == c) (Coded c) (ahead o (skipped o s)).1 (refused o code (skipped o s)) (known_refused o code (skipped o s) h)
 known_read o (Among low high code) s h = one_or (nat_le low (ahead o (skipped o s)).0 && nat_le (ahead o (skipped o s)).0 high) (Coded (ahead o (skipped o s)).0) (ahead o (skipped o s)).1 (refused o code (skipped o s)) (known_refused o code (skipped o s) h)

@@ -4,10 +4,10 @@ use Rattle.std.proofs.lemmas.Bool.Decides.{nat_tests}
 use Rattle.b2_atom.specs.Words.{Text, skipped, ahead}
 use Rattle.b2_atom.specs.Tokens.{Token}
 use Rattle.b2_atom.specs.Tokens.Token.{Coded, Plain, Lined}
-use Rattle.b2_atom.specs.Tree.{Trees, tokens, Outcome, Parser, one, joined, and_then, under, also}
+use Rattle.b2_atom.specs.Tree.{Trees, tokens, Outcome, Parser, one, preceded, and_then, under, also}
 use Rattle.b2_atom.specs.Tree.Trees.{Done, Put, In}
 use Rattle.b2_atom.specs.Leaves.{refused}
-use Rattle.b2_atom.specs.Grammar.{reader, items, item, level, deep, statement, row_items, starts, mark, mark_at, among, among_at, program_word, comma, comma_at, read_leaf, ignored, end_of_line, end_at, is_among}
+use Rattle.b2_atom.specs.Grammar.{reader, items, item, level, deep, statement, row_items, starts, mark, mark_at, among, among_at, program_word, optional_comma, optional_comma_at, read_leaf, ignored, end_of_line, end_at, is_among}
 use Rattle.b2_atom.specs.Spelling.{Spells}
 use Rattle.b2_atom.specs.Fitting.{giving, may_end, fits_token, leaf_number, RemarksEnd}
 use Rattle.b2_atom.specs.declared.words.Origin.{Origin}
@@ -32,7 +32,7 @@ pub runs_then : (o : Origin) (out : Outcome) (q : Parser Text) (a b : Trees) (mi
     → Runs o (and_then out q) (also a b) more
 runs_then o out q a b mid more h k =
     let next = k h.0 h.1.1 in
-    (next.0, (ap (λ (r : Outcome). and_then r q) h.1.0 ∙ ap (joined a) next.1.0, next.1.1))
+    (next.0, (ap (λ (r : Outcome). and_then r q) h.1.0 ∙ ap (preceded a) next.1.0, next.1.1))
 
 pub runs_under : (o : Origin) (n : ℕ) (out : Outcome) (t : Trees) (more : List Token) → Runs o out t more → Runs o (under n out) (In n t Done) more
 runs_under o n out t more h = (h.0, (ap (under n) h.1.0, h.1.1))
@@ -56,11 +56,11 @@ coded_among o a b d code ts s h spelled =
     let there : ahead o (skipped o s) ≡ (d, spelled.0) = spelled.1.0.reads in
     (spelled.0, (ap (λ (x : ℕ × Text). if is_among a b x.0 then one (Coded x.0) x.1 else Err (refused o code (skipped o s))) there ∙ if_is (is_among a b d) true _ _ h, spelled.1.1))
 
-coded_comma : (o : Origin) (d : ℕ) (ts : List Token) (s : Text) → (d == 44) ≡ true → Spells o (Coded d ∷ ts) s → Runs o (comma_at o s (skipped o s)) (Put (Coded d) Done) ts
+coded_comma : (o : Origin) (d : ℕ) (ts : List Token) (s : Text) → (d == 44) ≡ true → Spells o (Coded d ∷ ts) s → Runs o (optional_comma_at o s (skipped o s)) (Put (Coded d) Done) ts
 coded_comma o d ts s h spelled =
     let there : ahead o (skipped o s) ≡ (d, spelled.0) = spelled.1.0.reads in
-    let P : Trees → Type 0 = λ t. Runs o (comma_at o s (skipped o s)) t ts in
-    let other : Outcome = comma_at o s (skipped o s) in
+    let P : Trees → Type 0 = λ t. Runs o (optional_comma_at o s (skipped o s)) t ts in
+    let other : Outcome = optional_comma_at o s (skipped o s) in
     subst P (ap (λ (n : ℕ). Put (Coded n) Done) (sym (equal d 44 h)))
     (spelled.0, (if_is ((ahead o (skipped o s)).0 == 44) true _ _ (ap (λ (x : ℕ × Text). x.0 == 44) there ∙ h) ∙ ap (λ (x : ℕ × Text). one (Coded 44) x.1) there, spelled.1.1))
 
@@ -82,7 +82,7 @@ lined_leaf o k x y code ts s h spelled =
 -- a token is read by its item
 pub token_runs : (st : Place → Parser Text) (d p : ℕ → Parser Text) (o : Origin) (i : Item) (t : Token) (ts : List Token) (s : Text) → fits_token o i t ≡ true → Spells o (t ∷ ts) s
     → Runs o (item st d p (reader o) i s) (Put t Done) ts
-unfolding item mark among program_word comma
+unfolding item mark among program_word optional_comma
 token_runs st dp p o (Word c) (Coded d) ts s h spelled = coded o c d 22 ts s h spelled
 token_runs st dp p o (Sign c code) (Coded d) ts s h spelled = coded o c d code ts s h spelled
 token_runs st dp p o (Among a b code) (Coded d) ts s h spelled = coded_among o a b d code ts s h spelled
@@ -108,7 +108,7 @@ token_runs st dp p o (Many x n) t ts s h spelled = cc
 token_runs st dp p o (Nest n) t ts s h spelled = cc
 token_runs st dp p o (Statement x) t ts s h spelled = cc
 
--- the items of a row, where so many parentheses, levels and statements may still be in it
+-- the items of a row, where `room` parentheses, l levels and f statements may still be in it
 abbrev pub reads_row : Origin → ℕ → ℕ → ℕ → List Item → Parser Text
 reads_row o room l f is =
     items (statement (reader o) f) (deep (reader o) (statement (reader o) f) room) (level (reader o) (statement (reader o) f) (deep (reader o) (statement (reader o) f) room) l) (reader o) is
@@ -117,7 +117,7 @@ abbrev pub reads_item : Origin → ℕ → ℕ → ℕ → Item → Parser Text
 reads_item o room l f i =
     item (statement (reader o) f) (deep (reader o) (statement (reader o) f) room) (level (reader o) (statement (reader o) f) (deep (reader o) (statement (reader o) f) room) l) (reader o) i
 
--- a statement's word or sign counts where fuel is needed for the statements behind it
+-- a statement's word or sign counts where fuel is needed for the statements after it
 abbrev pub lead : List Item → ℕ
 lead [] = 0
 lead (i ∷ is) = if is_mark_item i then 1 else 0
@@ -134,7 +134,7 @@ when_true : (b : Bool) (xs : List Tail) (ys : List Tail) (o : Origin) (more : Li
 when_true true xs ys o more h k = refused_left o xs ys more k
 when_true false xs ys o more h k = cc
 
--- what stands behind an item refuses what it must
+-- what follows an item refuses what it must
 pub behind : (o : Origin) (i : Item) (is : List Item) (xs more : List Token) → Led (of_items of is) xs more → refuse (of_item of i).tails (of_items of is).heads ≡ true
     → Refused o (of_items of (i ∷ is)).tails more → Refused o (of_item of i).tails (xs ++ more)
 behind o i is xs more (inl h) test refused =
@@ -214,7 +214,7 @@ less_in : (b : Bool) (a c n m f : ℕ) → b ≡ false → n ≡ a + c → n ≤
 less_in true a c n m f h is e = cc
 less_in false a c n m f h is e = omega (arith, e, is)
 
--- behind the items that give nothing
+-- after the items that give nothing
 ready_behind : (o : Origin) (room l f : ℕ) (i : Item) (is : List Item) (t : Trees) (more : List Token) → is_mark_item i ≡ false → (tests : settled of is ≡ true) → Ready o room l f (i ∷ is) t more → Ready o room l f is t more
 ready_behind o room l f i is t more unmarked tests r = record {
   settles = tests;
@@ -247,7 +247,7 @@ put_enough : (b : Bool) (n m f : ℕ) → suc n ≤ (if b then 1 else 0) + f →
 put_enough true n m f h = omega (arith, h)
 put_enough false n m f h = omega (arith, h)
 
--- what a token's item leaves to the items behind it
+-- what a token's item leaves to the items after it
 pub ready_put : (o : Origin) (room l f : ℕ) (i : Item) (is : List Item) (t : Token) (ts : Trees) (more : List Token) → settled of is ≡ true
     → Ready o room l f (i ∷ is) (Put t ts) more → Ready o room l f is ts more
 ready_put o room l f i is t ts more tests r = record {

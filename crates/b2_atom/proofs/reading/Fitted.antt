@@ -2,14 +2,14 @@
 use Rattle.std.proofs.Common.{◌≡◌, ℕ, zero, suc, ◌+◌, ◌<◌, ◌≤◌, Bool, true, false, not, if◌then◌else◌, ◌==◌, ◌||◌, ◌&&◌, List, [], ◌∷◌, ◌++◌, length, take, drop, refl, sym, ap, subst, ◌∙◌, arith, nat_le, nat_lt, append-nil, append_assoc, length-drop, Ok, Err}
 use Rattle.std.specs.Prelude.{codes}
 use Rattle.std.proofs.lemmas.Bool.Decides.{nat_tests}
-use Rattle.b2_base.specs.Lexical.{all_printable, digits_width, skip_blanks, upper}
-use Rattle.b2_atom.specs.Words.{Text, is_source, ahead, skipped, joined as joined_words, word_at, begins_with}
+use Rattle.b2_base.specs.Lexical.{all_printable, digits_width, is_decimal, skip_blanks, upper}
+use Rattle.b2_atom.specs.Words.{Text, is_source, ahead, skipped, longer_word as joined_words, word_at, begins_with}
 use Rattle.b2_atom.specs.Tokens.{Token, kept_text}
 use Rattle.b2_atom.specs.Tokens.Token.{Coded, Plain, Lined}
-use Rattle.b2_atom.specs.Tree.{Trees, Outcome, Parser, one, nothing, joined, and_then, under, also, tokens}
+use Rattle.b2_atom.specs.Tree.{Trees, Outcome, Parser, one, nothing, preceded, and_then, under, also, tokens}
 use Rattle.b2_atom.specs.Tree.Trees.{Done, Put, In}
 use Rattle.b2_atom.specs.Leaves.{leaf_width, refused, missing}
-use Rattle.b2_atom.specs.Grammar.{reader, items, item, level, deep, many, row_items, starts, absent, mark, among, program_word, ignored, comma, end_of_line, end_at, read_leaf, plain, line_number_at, typed_line_number, two_digits, atoms_line_number, is_decimal, text_to_end, is_among}
+use Rattle.b2_atom.specs.Grammar.{reader, items, item, level, deep, many, row_items, starts, absent, mark, among, program_word, ignored, optional_comma, end_of_line, end_at, read_leaf, plain, line_number_at, typed_line_number, two_digits, atoms_line_number, text_to_end, is_among}
 use Rattle.b2_atom.specs.Spelling.{is_whole, good_token}
 use Rattle.b2_atom.specs.Fitting.{leaf_number, fits_token, Fits, is_remark}
 use Rattle.b2_atom.specs.declared.words.TheConstants as word
@@ -56,7 +56,7 @@ pub le_both : (a b c : ℕ) → a ≤ b → b ≤ c → a ≤ c
 le_both a b c h k = omega arith
 
 good_joined : (P Q R : Trees → Type 0) (s : Text) (a : Trees) (rest : Text) (u : Outcome) → ((a b : Trees) → P a → Q b → R (also a b))
-    → P a → no_remark (tokens a) ≡ true → length rest ≤ length s → Good Q rest u → Good R s (joined a u)
+    → P a → no_remark (tokens a) ≡ true → length rest ≤ length s → Good Q rest u → Good R s (preceded a u)
 good_joined P Q R s a rest (Err e) both_ g n l h = tt
 good_joined P Q R s a rest (Ok p) both_ g n l h = (both_ a p.0 g h.0, (also_remarks a p.0 n h.1.0, le_both (length p.1) (length rest) (length s) h.1.1 l))
 
@@ -124,7 +124,7 @@ typed_short best a y true l h = omega arith
 typed_short best a y false true h = some_word best.0 a y h
 typed_short best a y false false h = let one = joined_short (best.1 + 128) (drop best.0 (a ∷ y)) in let two = some_word best.0 a y h in omega arith
 
--- what stands behind something that is there is shorter
+-- what follows something that is there is shorter
 pub ahead_less : (o : Origin) (a : ℕ) (y : Text) → length (ahead o (a ∷ y)).1 ≤ length y
 ahead_less Program a y = typed_short (word_at (a ∷ y)) a y ((word_at (a ∷ y)).0 == 0) (nat_le word.CODED (word_at (a ∷ y)).1) refl
 ahead_less Immediate a y = typed_short (word_at (a ∷ y)) a y ((word_at (a ∷ y)).0 == 0) (nat_le word.CODED (word_at (a ∷ y)).1) refl
@@ -278,8 +278,8 @@ ignored_good o room c is s =
     good_if (Leads o room (Ignored c) is) s (is_source o && (ahead o (skipped o s)).0 == c) (nothing (ahead o (skipped o s)).1) (nothing s)
     (ignored_leads o room c is, (refl, behind_short o s)) (ignored_leads o room c is, (refl, self_le (length s)))
 
-comma_good : (o : Origin) (room : ℕ) (is : List Item) (s : Text) → Good (Leads o room Comma is) s (comma o s)
-unfolding comma
+comma_good : (o : Origin) (room : ℕ) (is : List Item) (s : Text) → Good (Leads o room Comma is) s (optional_comma o s)
+unfolding optional_comma
 comma_good o room is s =
     good_if (Leads o room Comma is) s ((ahead o (skipped o s)).0 == 44) (one (Coded 44) (ahead o (skipped o s)).1) _
     ((λ b fit. (refl, fit)), (refl, behind_short o s))
@@ -337,7 +337,7 @@ calm_small n h = small_of n (and_left (nat_lt n row.COUNT) (not (is_other_row n)
 calm_closed : (n : ℕ) → calm_row n ≡ true → calm_items (row_items n) ≡ true
 calm_closed n h = calm_or (calm_row n) (calm_items (row_items n)) (at_below (λ m. not (calm_row m) || calm_items (row_items m)) row.COUNT n rows_calm (calm_small n h)) h
 
--- a part in parentheses, where so many may still open
+-- a part in parentheses, where `room` may still open
 abbrev pub Nested : Origin → ℕ → ℕ → Trees → Type 0
 Nested o zero n t = ⊥
 Nested o (suc room) n t = Fits o room (row_items n) t

@@ -4,7 +4,7 @@ use Rattle.std.proofs.lemmas.Bool.Decides.{nat_tests}
 use Rattle.b2_atom.specs.Words.{Text, ahead, skipped}
 use Rattle.b2_atom.specs.Tokens.{Token}
 use Rattle.b2_atom.specs.Tokens.Token.{Coded, Plain}
-use Rattle.b2_atom.specs.Tree.{Trees, Outcome, Parser, one, nothing, joined, and_then, under, also, tokens}
+use Rattle.b2_atom.specs.Tree.{Trees, Outcome, Parser, one, nothing, preceded, and_then, under, also, tokens}
 use Rattle.b2_atom.specs.Tree.Trees.{Done, Put, In}
 use Rattle.b2_base.specs.Lexical.{all_printable}
 use Rattle.b2_atom.specs.Leaves.{refused}
@@ -28,7 +28,7 @@ use Rattle.b2_atom.proofs.Booleans.{and_left, and_right, equal, both, or_one, or
 use Rattle.b2_atom.proofs.typed.Longest.{every}
 use Rattle.b2_atom.proofs.reading.Fitted.{no_remark, Good, Leads, tokens_also, append_remarks, calm_row, calm_part, calm_level, calm_deep, calm_item_good, calm_item, skipped_short, ahead_less, nothing_left, drop_short, same_code, le_both}
 
--- no remark, or nothing behind it
+-- no remark, or nothing after it
 pub record Ended (ts : List Token) (rest : Text) : Type 0 where
   pub remarks : RemarksEnd ts
   pub ended : (no_remark ts ≡ true) ⊎ (rest ≡ [])
@@ -80,7 +80,7 @@ ends_under P Q n s (Ok p) more g =
 
 -- a part without a remark, and then another
 calm_joined : (P Q R : Trees → Type 0) (s : Text) (a : Trees) (rest : Text) (u : Outcome) → ((a b : Trees) → P a → Q b → R (also a b)) → P a → no_remark (tokens a) ≡ true
-    → length rest ≤ length s → Ends Q rest u → Ends R s (joined a u)
+    → length rest ≤ length s → Ends Q rest u → Ends R s (preceded a u)
 calm_joined P Q R s a rest (Err e) more g n l h = tt
 calm_joined P Q R s a rest (Ok p) more g n l h =
     (more a p.0 g h.0, (subst (λ ts. Ended ts p.1) (sym (tokens_also a p.0)) (calm_then (tokens a) (tokens p.0) p.1 n h.1.0), le_both (length p.1) (length rest) (length s) h.1.1 l))
@@ -101,7 +101,7 @@ ended_then ts us rest left h k idle = elim h.ended [
 ]
 
 idle_joined : (P Q R : Trees → Type 0) (s : Text) (a : Trees) (rest : Text) (u : Outcome) → ((a b : Trees) → P a → Q b → R (also a b)) → P a → Ended (tokens a) rest
-    → length rest ≤ length s → Idles Q rest u → Ends R s (joined a u)
+    → length rest ≤ length s → Idles Q rest u → Ends R s (preceded a u)
 idle_joined P Q R s a rest (Err e) more g n l h = tt
 idle_joined P Q R s a rest (Ok p) more g n l h = (
   more a p.0 g h.0,
@@ -118,7 +118,7 @@ idle_then P Q R s (Ok p) q more g h = idle_joined P Q R s p.0 p.1 (q p.1) more g
 
 -- and both idle
 idles_joined : (P Q R : Trees → Type 0) (s : Text) (a : Trees) (rest : Text) (u : Outcome) → ((a b : Trees) → P a → Q b → R (also a b)) → P a → Ended (tokens a) rest
-    → length rest ≤ length s → (s ≡ [] → (tokens a ≡ []) × (rest ≡ [])) → Idles Q rest u → Idles R s (joined a u)
+    → length rest ≤ length s → (s ≡ [] → (tokens a ≡ []) × (rest ≡ [])) → Idles Q rest u → Idles R s (preceded a u)
 idles_joined P Q R s a rest (Err e) more g n l idle h = tt
 idles_joined P Q R s a rest (Ok p) more g n l idle h = (
   more a p.0 g h.0,
@@ -159,7 +159,7 @@ mark_first : (o : Origin) (P R : Trees → Type 0) (c code : ℕ) (s : Text) (q 
 unfolding mark
 mark_first o P R c code s q some calm more h = mark_by o P R c code s q ((ahead o (skipped o s)).0 == c) refl some calm more h
 
--- the readers of a row: parentheses, and parts with so many levels in them
+-- the readers of a row: parentheses, and parts with l levels in them
 abbrev pub row_read : Origin → (Place → Parser Text) → ℕ → List Item → Parser Text
 row_read o stf l is = items stf (deep (reader o) stf 32) (level (reader o) stf (deep (reader o) stf 32) l) (reader o) is
 
@@ -307,7 +307,7 @@ abbrev TextRow : Item → List Item
 TextRow i = i ∷ Typed leaf.Text 14 ∷ []
 
 text_by : (o : Origin) (i : Item) (c : ℕ) (s : Text) (b : ℕ) (bs : Text) (p : Bool) → all_printable (b ∷ bs) ≡ p → fits_token o i (Coded c) ≡ true → giving (TextRow i) ≡ TextRow i
-    → Ends (Fits o 32 (TextRow i)) s (joined (Put (Coded c) Done) (and_then (if p then one (Plain leaf.Text (b ∷ bs)) [] else Err (At 14 (length (b ∷ bs)))) nothing))
+    → Ends (Fits o 32 (TextRow i)) s (preceded (Put (Coded c) Done) (and_then (if p then one (Plain leaf.Text (b ∷ bs)) [] else Err (At 14 (length (b ∷ bs)))) nothing))
 text_by o i c s b bs false h t g = tt
 text_by o i c s b bs true h t g =
     let P : List Item → Type 0 = λ is. FitsPut o is (Coded c) (λ (rest : List Item). Fits o 32 rest (Put (Plain leaf.Text (b ∷ bs)) Done)) in (
@@ -316,7 +316,7 @@ text_by o i c s b bs true h t g =
     )
 
 text_ends : (o : Origin) (i : Item) (c : ℕ) (s x : Text) → fits_token o i (Coded c) ≡ true → giving (TextRow i) ≡ TextRow i
-    → Ends (Fits o 32 (TextRow i)) s (joined (Put (Coded c) Done) (and_then (text_to_end 14 x) nothing))
+    → Ends (Fits o 32 (TextRow i)) s (preceded (Put (Coded c) Done) (and_then (text_to_end 14 x) nothing))
 text_ends o i c s [] t g =
     let P : List Item → Type 0 = λ is. FitsPut o is (Coded c) (λ (rest : List Item). Fits o 32 rest Done) in
     (subst P (sym g) (t, refl), (record { remarks = ((λ h. refl), tt); ended = inr refl }, (let least : 0 ≤ length s = omega arith in least)))

@@ -2,14 +2,14 @@
 use Rattle.std.proofs.Common.{◌≡◌, ℕ, zero, suc, ◌+◌, ◌*◌, ◌/◌, ◌%◌, ◌<◌, ◌≤◌, Bool, true, false, not, if◌then◌else◌, ◌==◌, ◌||◌, ◌&&◌, [], ◌∷◌, ◌++◌, map, length, get_or, take, drop, min, refl, sym, ap, ◌∙◌, arith, nat_le, nat_lt, inl, inr, ◌⊎◌, length-drop, Ok, Err}
 use Rattle.std.proofs.lemmas.List.{take-append-drop}
 use Rattle.std.proofs.lemmas.Bool.Decides.{nat_tests}
-use Rattle.b2_base.specs.Lexical.{all_printable, capped_value, digits_width, first, is_digit, is_hex_digit, is_letter}
-use Rattle.b2_atom.specs.Words.{Text, kept, ahead, skipped}
+use Rattle.b2_base.specs.Lexical.{all_printable, capped_value, digits_width, first, is_decimal, is_digit, is_hex_digit, is_letter}
+use Rattle.b2_atom.specs.Words.{Text, kept_byte, ahead, skipped}
 use Rattle.b2_atom.specs.Tokens.{kept_text}
 use Rattle.b2_atom.specs.Tokens.Token.{Plain, Lined}
 use Rattle.b2_atom.specs.Tree.{Trees, Outcome, one}
 use Rattle.b2_atom.specs.Tree.Trees.{Done, Put}
 use Rattle.b2_atom.specs.Leaves.{number_width, mantissa_of, mantissa_width, sign_width, exponent_of, exponent_width, one_more, signed_number_width, name_width, is_alpha_name, numeric_name_width, leaf_width, until_quote, relation_of, until_parenthesis, missing, refused}
-use Rattle.b2_atom.specs.Grammar.{read_leaf, plain_of, line_number_at, typed_line_number, two_digits, digit_of, atoms_line_number, is_decimal, text_to_end}
+use Rattle.b2_atom.specs.Grammar.{read_leaf, plain_of, line_number_at, typed_line_number, two_digits, line_digit, atoms_line_number, text_to_end}
 use Rattle.b2_atom.specs.Spelling.{is_whole, good_token}
 use Rattle.b2_atom.specs.declared.words.Origin.{Origin}
 use Rattle.b2_atom.specs.declared.words.Origin.TheVariants.{Program, Immediate, Atoms}
@@ -28,20 +28,20 @@ use Rattle.b2_atom.proofs.reading.WholeLeaves.{number_kept, number_back, signed_
 use Rattle.b2_atom.proofs.reading.WholeNames.{name_whole, local_whole, alpha_whole, function_whole, length_kept}
 
 -- the part of a text that is read is a whole leaf
-pair_whole : (o : Origin) (a : ℕ) (w x : Text) → leaf_width o leaf.HexPair (a ∷ (w ++ x)) ≡ suc (length w) → leaf_width Atoms leaf.HexPair (map (kept o) (a ∷ w)) ≡ suc (length w)
-pair_whole o a [] x h = let is = (width_yes (is_hex_digit (kept o a) && is_hex_digit (kept o (get_or x 0 0))) 2 0 h).1 in absurd (omega arith)
+pair_whole : (o : Origin) (a : ℕ) (w x : Text) → leaf_width o leaf.HexPair (a ∷ (w ++ x)) ≡ suc (length w) → leaf_width Atoms leaf.HexPair (map (kept_byte o) (a ∷ w)) ≡ suc (length w)
+pair_whole o a [] x h = let is = (width_yes (is_hex_digit (kept_byte o a) && is_hex_digit (kept_byte o (get_or x 0 0))) 2 0 h).1 in absurd (omega arith)
 pair_whole o a (b ∷ []) x h = h
-pair_whole o a (b ∷ c ∷ w) x h = let is = (width_yes (is_hex_digit (kept o a) && is_hex_digit (kept o b)) 2 (suc (suc (length w))) h).1 in absurd (omega arith)
+pair_whole o a (b ∷ c ∷ w) x h = let is = (width_yes (is_hex_digit (kept_byte o a) && is_hex_digit (kept_byte o b)) 2 (suc (suc (length w))) h).1 in absurd (omega arith)
 
-digit_whole : (o : Origin) (a : ℕ) (w x : Text) → leaf_width o leaf.HexDigit (a ∷ (w ++ x)) ≡ suc (length w) → leaf_width Atoms leaf.HexDigit (map (kept o) (a ∷ w)) ≡ suc (length w)
+digit_whole : (o : Origin) (a : ℕ) (w x : Text) → leaf_width o leaf.HexDigit (a ∷ (w ++ x)) ≡ suc (length w) → leaf_width Atoms leaf.HexDigit (map (kept_byte o) (a ∷ w)) ≡ suc (length w)
 digit_whole o a [] x h = h
-digit_whole o a (b ∷ w) x h = let is = (width_yes (is_hex_digit (kept o a)) 1 (suc (length w)) h).1 in absurd (omega arith)
+digit_whole o a (b ∷ w) x h = let is = (width_yes (is_hex_digit (kept_byte o a)) 1 (suc (length w)) h).1 in absurd (omega arith)
 
-address_whole : (o : Origin) (a : ℕ) (w x : Text) → leaf_width o leaf.Address (a ∷ (w ++ x)) ≡ suc (length w) → leaf_width Atoms leaf.Address (map (kept o) (a ∷ w)) ≡ suc (length w)
-address_whole o a [] x h = let is = (width_yes (is_hex_digit (kept o a) && (is_hex_digit (kept o (get_or x 0 0)) && is_hex_digit (kept o (get_or x 1 0)))) 3 0 h).1 in absurd (omega arith)
-address_whole o a (b ∷ []) x h = let is = (width_yes (is_hex_digit (kept o a) && (is_hex_digit (kept o b) && is_hex_digit (kept o (get_or x 0 0)))) 3 1 h).1 in absurd (omega arith)
+address_whole : (o : Origin) (a : ℕ) (w x : Text) → leaf_width o leaf.Address (a ∷ (w ++ x)) ≡ suc (length w) → leaf_width Atoms leaf.Address (map (kept_byte o) (a ∷ w)) ≡ suc (length w)
+address_whole o a [] x h = let is = (width_yes (is_hex_digit (kept_byte o a) && (is_hex_digit (kept_byte o (get_or x 0 0)) && is_hex_digit (kept_byte o (get_or x 1 0)))) 3 0 h).1 in absurd (omega arith)
+address_whole o a (b ∷ []) x h = let is = (width_yes (is_hex_digit (kept_byte o a) && (is_hex_digit (kept_byte o b) && is_hex_digit (kept_byte o (get_or x 0 0)))) 3 1 h).1 in absurd (omega arith)
 address_whole o a (b ∷ c ∷ []) x h = h
-address_whole o a (b ∷ c ∷ d ∷ w) x h = let is = (width_yes (is_hex_digit (kept o a) && (is_hex_digit (kept o b) && is_hex_digit (kept o c))) 3 (suc (suc (suc (length w)))) h).1 in absurd (omega arith)
+address_whole o a (b ∷ c ∷ d ∷ w) x h = let is = (width_yes (is_hex_digit (kept_byte o a) && (is_hex_digit (kept_byte o b) && is_hex_digit (kept_byte o c))) 3 (suc (suc (suc (length w)))) h).1 in absurd (omega arith)
 
 pub whole_part : (o : Origin) (k : Leaf) (a : ℕ) (w x : Text) → leaf_width o k (a ∷ (w ++ x)) ≡ suc (length w) → leaf_width Atoms k (kept_text o k (a ∷ w)) ≡ suc (length w)
 whole_part o leaf.Number a w x h = number_kept o (a ∷ w) ∙ number_back o a w x h
@@ -91,7 +91,7 @@ exponent_in t s false b ha hb = omega arith
 exponent_most : (o : Origin) (t : Text) → exponent_width o t ≤ length t
 exponent_most o t =
     let s : ℕ = sign_width (get_or t 1 0) in
-    if_most (kept o (first t) == 69) (exponent_of s t) (length t) (exponent_in t s (is_digit (get_or t (1 + s) 0)) (is_digit (get_or t (2 + s) 0)) refl refl)
+    if_most (kept_byte o (first t) == 69) (exponent_of s t) (length t) (exponent_in t s (is_digit (get_or t (1 + s) 0)) (is_digit (get_or t (2 + s) 0)) refl refl)
 
 number_most : (o : Origin) (t : Text) → number_width o t ≤ length t
 number_most o t =
@@ -119,24 +119,24 @@ nothing_ahead Atoms = refl
 no_name_at_end : (o : Origin) → name_width o [] ≡ 0
 no_name_at_end o = no_name o [] (ap is_letter (nothing_ahead o)) (ap (λ (n : ℕ). n == 64) (nothing_ahead o))
 
-kept_end : (o : Origin) → is_letter (kept o 0) ≡ false
+kept_end : (o : Origin) → is_letter (kept_byte o 0) ≡ false
 kept_end Program = refl
 kept_end Immediate = refl
 kept_end Atoms = refl
 
-name_in : (o : Origin) (y : Text) (l d z g e : Bool) → is_digit (get_or y 0 0) ≡ d → is_letter (kept o (get_or y 0 0)) ≡ g → is_digit (get_or y 1 0) ≡ e
+name_in : (o : Origin) (y : Text) (l d z g e : Bool) → is_digit (get_or y 0 0) ≡ d → is_letter (kept_byte o (get_or y 0 0)) ≡ g → is_digit (get_or y 1 0) ≡ e
     → width_of l d (z && g) e ≤ suc (length y)
 name_in o y true true z g e hd hg he = let less = inside is_digit y 0 refl hd in omega arith
 name_in o y true false z g e hd hg he = omega arith
 name_in o y false d true true true hd hg he = let less = inside is_digit y 1 refl he in omega arith
-name_in o y false d true true false hd hg he = let less = inside (λ b. is_letter (kept o b)) y 0 (kept_end o) hg in omega arith
+name_in o y false d true true false hd hg he = let less = inside (λ b. is_letter (kept_byte o b)) y 0 (kept_end o) hg in omega arith
 name_in o y false d true false e hd hg he = omega arith
 name_in o y false d false g e hd hg he = omega arith
 
 name_most : (o : Origin) (t : Text) → name_width o t ≤ length t
 name_most o [] = let none = no_name_at_end o in omega arith
 name_most o (a ∷ y) =
-    name_in o y (is_letter (ahead o (a ∷ y)).0) (is_digit (get_or y 0 0)) ((ahead o (a ∷ y)).0 == 64) (is_letter (kept o (get_or y 0 0))) (is_digit (get_or y 1 0)) refl refl refl
+    name_in o y (is_letter (ahead o (a ∷ y)).0) (is_digit (get_or y 0 0)) ((ahead o (a ∷ y)).0 == 64) (is_letter (kept_byte o (get_or y 0 0))) (is_digit (get_or y 1 0)) refl refl refl
 
 numeric_most : (o : Origin) (t : Text) → numeric_name_width o t ≤ length t
 numeric_most o t = if_rest (is_alpha_name o t) (name_width o t) (length t) (name_most o t)
@@ -158,24 +158,24 @@ literal_in t true true false n h = omega arith
 literal_in t true false c n h = omega arith
 literal_in t false b c n h = omega arith
 
-hex_end : (o : Origin) → is_hex_digit (kept o 0) ≡ false
+hex_end : (o : Origin) → is_hex_digit (kept_byte o 0) ≡ false
 hex_end Program = refl
 hex_end Immediate = refl
 hex_end Atoms = refl
 
-hex_inside : (o : Origin) (t : Text) (i : ℕ) → is_hex_digit (kept o (get_or t i 0)) ≡ true → i < length t
-hex_inside o t i h = inside (λ b. is_hex_digit (kept o b)) t i (hex_end o) h
+hex_inside : (o : Origin) (t : Text) (i : ℕ) → is_hex_digit (kept_byte o (get_or t i 0)) ≡ true → i < length t
+hex_inside o t i h = inside (λ b. is_hex_digit (kept_byte o b)) t i (hex_end o) h
 
-pair_in : (o : Origin) (t : Text) (a b : Bool) → is_hex_digit (kept o (get_or t 1 0)) ≡ b → (if a && b then 2 else 0) ≤ length t
+pair_in : (o : Origin) (t : Text) (a b : Bool) → is_hex_digit (kept_byte o (get_or t 1 0)) ≡ b → (if a && b then 2 else 0) ≤ length t
 pair_in o t true true h = hex_inside o t 1 h
 pair_in o t true false h = omega arith
 pair_in o t false b h = omega arith
 
-digit_in : (o : Origin) (t : Text) (a : Bool) → is_hex_digit (kept o (get_or t 0 0)) ≡ a → (if a then 1 else 0) ≤ length t
+digit_in : (o : Origin) (t : Text) (a : Bool) → is_hex_digit (kept_byte o (get_or t 0 0)) ≡ a → (if a then 1 else 0) ≤ length t
 digit_in o t true h = hex_inside o t 0 h
 digit_in o t false h = omega arith
 
-address_in : (o : Origin) (t : Text) (a b c : Bool) → is_hex_digit (kept o (get_or t 2 0)) ≡ c → (if a && (b && c) then 3 else 0) ≤ length t
+address_in : (o : Origin) (t : Text) (a b c : Bool) → is_hex_digit (kept_byte o (get_or t 2 0)) ≡ c → (if a && (b && c) then 3 else 0) ≤ length t
 address_in o t true true true h = hex_inside o t 2 h
 address_in o t true true false h = omega arith
 address_in o t true false c h = omega arith
@@ -217,9 +217,9 @@ leaf_most o leaf.FunctionName t = function_most o t
 leaf_most o leaf.Literal t =
     literal_in t (first t == 34) (nat_lt 0 (until_quote (drop 1 t))) (get_or t (until_quote (drop 1 t) + 1) 0 == 34) (until_quote (drop 1 t)) refl
 leaf_most o leaf.LineNumber t = omega arith
-leaf_most o leaf.HexPair t = pair_in o t (is_hex_digit (kept o (get_or t 0 0))) (is_hex_digit (kept o (get_or t 1 0))) refl
-leaf_most o leaf.HexDigit t = digit_in o t (is_hex_digit (kept o (get_or t 0 0))) refl
-leaf_most o leaf.Address t = address_in o t (is_hex_digit (kept o (get_or t 0 0))) (is_hex_digit (kept o (get_or t 1 0))) (is_hex_digit (kept o (get_or t 2 0))) refl
+leaf_most o leaf.HexPair t = pair_in o t (is_hex_digit (kept_byte o (get_or t 0 0))) (is_hex_digit (kept_byte o (get_or t 1 0))) refl
+leaf_most o leaf.HexDigit t = digit_in o t (is_hex_digit (kept_byte o (get_or t 0 0))) refl
+leaf_most o leaf.Address t = address_in o t (is_hex_digit (kept_byte o (get_or t 0 0))) (is_hex_digit (kept_byte o (get_or t 1 0))) (is_hex_digit (kept_byte o (get_or t 2 0))) refl
 leaf_most o leaf.Slot t = slot_most t
 leaf_most o leaf.Small t = if_most (nat_le (capped_value 999 0 t) 255) (digits_width t) (length t) (digits_most t)
 leaf_most o leaf.Image t = image_in t (not (first t == 32)) (get_or t (until_parenthesis o t) 0 == 41) (until_parenthesis o t) refl
@@ -303,7 +303,7 @@ typed_good o code t =
     good_if leaf.LineNumber (nat_lt (digits_width t) 1 || nat_lt 4 (digits_width t)) (Err (refused o code t)) (one (Lined (two_digits t (digits_width t) 0) (two_digits t (digits_width t) 2)) (drop (digits_width t) t)) tt (
       refl,
       both (is_decimal (two_digits t (digits_width t) 0)) (is_decimal (two_digits t (digits_width t) 2))
-          (two_decimal (digit_of t (digits_width t) 0) (digit_of t (digits_width t) 1)) (two_decimal (digit_of t (digits_width t) 2) (digit_of t (digits_width t) 3)),
+          (two_decimal (line_digit t (digits_width t) 0) (line_digit t (digits_width t) 1)) (two_decimal (line_digit t (digits_width t) 2) (line_digit t (digits_width t) 3)),
     )
 
 lined_good : (a b c : ℕ) (t : Text) (e : Stop) (x y z : Bool) → is_decimal b ≡ y → is_decimal c ≡ z → GoodLeaf leaf.LineNumber (if x && (y && z) then one (Lined b c) t else Err e)

@@ -1,15 +1,15 @@
 -- What is read from atoms is spelled by them: a reading's atoms and what it leaves are the text that it began at.
 use Rattle.std.proofs.Common.{◌≡◌, ℕ, zero, suc, ◌+◌, Bool, true, false, if◌then◌else◌, ◌==◌, ◌&&◌, nat_le, List, [], ◌∷◌, ◌++◌, length, take, drop, map, refl, sym, ap, ◌∙◌, arith, get_or, nat_lt, ◌/◌, append_assoc, append-nil, Result, Ok, Err}
 use Rattle.std.proofs.lemmas.Bool.Decides.{nat_tests}
-use Rattle.b2_base.specs.Lexical.{all_printable, first}
-use Rattle.b2_atom.specs.Words.{Text, kept, skipped}
+use Rattle.b2_base.specs.Lexical.{all_printable, first, is_decimal}
+use Rattle.b2_atom.specs.Words.{Text, kept_byte, skipped}
 use Rattle.b2_atom.specs.Tokens.{token_atoms, kept_text}
 use Rattle.b2_atom.specs.Tokens.Token.{Coded, Lined}
 use Rattle.std.proofs.lemmas.List.{take-append-drop}
-use Rattle.b2_atom.specs.Tree.{Trees, Outcome, Parser, one, nothing, joined, and_then, under, also, atoms}
+use Rattle.b2_atom.specs.Tree.{Trees, Outcome, Parser, one, nothing, preceded, and_then, under, also, atoms}
 use Rattle.b2_atom.specs.Tree.Trees.{Done, Put, In}
 use Rattle.b2_atom.specs.Leaves.{refused, leaf_width}
-use Rattle.b2_atom.specs.Grammar.{reader, read_item, items, item, level, deep, statement, many, row_items, rows_of, place_of, starts, read_line, chosen, statement_row, row_at, from, mark, among, program_word, ignored, comma, end_of_line, end_at, read_leaf, leaf_at, plain_of, atoms_line_number, text_to_end, is_decimal}
+use Rattle.b2_atom.specs.Grammar.{reader, read_item, items, item, level, deep, statement, many, row_items, rows_of, row_place, starts, read_line, chosen, statement_row, row_at, from, mark, among, program_word, ignored, optional_comma, end_of_line, end_at, read_leaf, leaf_at, plain_of, atoms_line_number, text_to_end}
 use Rattle.b2_atom.specs.declared.words.Origin.{Origin}
 use Rattle.b2_atom.specs.declared.words.Origin.TheVariants.{Atoms}
 use Rattle.b2_atom.specs.declared.sink.Stop.{Stop}
@@ -33,7 +33,7 @@ atoms-also Done b = refl
 atoms-also (Put t a) b = ap (λ (l : Text). token_atoms t ++ l) (atoms-also a b) ∙ sym (append_assoc (token_atoms t) (atoms a) (atoms b))
 atoms-also (In n i a) b = ap (λ (l : Text). atoms i ++ l) (atoms-also a b) ∙ sym (append_assoc (atoms i) (atoms a) (atoms b))
 
-takes_joined : (s rest : Text) (a : Trees) (o : Outcome) → atoms a ++ rest ≡ s → Takes rest o → Takes s (joined a o)
+takes_joined : (s rest : Text) (a : Trees) (o : Outcome) → atoms a ++ rest ≡ s → Takes rest o → Takes s (preceded a o)
 takes_joined s rest a (Err e) h k = tt
 takes_joined s rest a (Ok p) h k =
     ap (λ (l : Text). l ++ p.1) (atoms-also a p.0) ∙ append_assoc (atoms a) (atoms p.0) p.1 ∙ ap (λ (l : Text). atoms a ++ l) k ∙ h
@@ -88,7 +88,7 @@ takes_text : (code : ℕ) (s : Text) → Takes s (text_to_end code s)
 takes_text code [] = refl
 takes_text code (b ∷ bs) = takes_if (all_printable (b ∷ bs)) (b ∷ bs) _ _ (append-nil ((b ∷ bs) ++ []) ∙ append-nil (b ∷ bs)) tt
 
-kept_atoms : (t : Text) → map (kept Atoms) t ≡ t
+kept_atoms : (t : Text) → map (kept_byte Atoms) t ≡ t
 kept_atoms [] = refl
 kept_atoms (b ∷ bs) = ap (λ (l : Text). b ∷ l) (kept_atoms bs)
 
@@ -145,10 +145,10 @@ all_good k = if_good (k == 0) rows_0 _ refl (if_good (k == 1) rows_1 _ refl (if_
 
 row_good : (n : ℕ) → good_row (row_items n) ≡ true
 unfolding row_items
-row_good n = get_good (rows_of (n / 64)) (place_of n) (all_good (n / 64))
+row_good n = get_good (rows_of (n / 64)) (row_place n) (all_good (n / 64))
 
 takes_read : (i : Item) (s : Text) → good_item i ≡ true → Takes s (read_item Atoms i s)
-unfolding mark among program_word ignored comma end_of_line read_leaf
+unfolding mark among program_word ignored optional_comma end_of_line read_leaf
 takes_read (Word c) s h = front_byte c s (refused Atoms 22 s) h (first s == c) refl
 takes_read (Sign c code) s h = front_byte c s (refused Atoms code s) h (first s == c) refl
 takes_read (Among low high code) s h = front_among low high s (refused Atoms code s) h (nat_le low (first s) && nat_le (first s) high) refl
@@ -220,12 +220,12 @@ takes_statement (suc f) x s =
 pub takes_line : (s : Text) → Takes s (read_line Atoms s)
 takes_line s = takes_level (statement (reader Atoms) (length s + 1)) _ (takes_statement (length s + 1)) (takes_deep (statement (reader Atoms) (length s + 1)) (takes_statement (length s + 1)) 32) 40 _ s
 
--- nothing is left behind a line
+-- nothing is left after a line
 abbrev pub Ends : Outcome → Type 0
 Ends (Ok p) = p.1 ≡ []
 Ends (Err e) = Unit {0}
 
-ends_joined : (a : Trees) (o : Outcome) → Ends o → Ends (joined a o)
+ends_joined : (a : Trees) (o : Outcome) → Ends o → Ends (preceded a o)
 ends_joined a (Ok p) h = h
 ends_joined a (Err e) h = tt
 

@@ -2,15 +2,15 @@
 use Rattle.std.proofs.Common.{◌≡◌, ℕ, zero, suc, ◌+◌, ◌-◌, ◌*◌, ◌<◌, ◌≤◌, Bool, true, false, not, if◌then◌else◌, ◌==◌, ◌||◌, ◌&&◌, [], ◌∷◌, ◌++◌, map, length, get_or, drop, min, refl, sym, ap, ◌∙◌, arith, nat_le, nat_lt, inl, inr, ◌⊎◌, length-drop}
 use Rattle.std.proofs.lemmas.Bool.Decides.{nat_tests}
 use Rattle.b2_base.specs.Lexical.{capped_value, digits_width, first, is_digit, is_printable}
-use Rattle.b2_atom.specs.Words.{Text, kept}
-use Rattle.b2_atom.specs.Leaves.{number_width, number_of, mantissa_of, mantissa_width, sign_width, exponent_of, exponent_width, one_more, signed_number_width, literal_width, until_quote, small_width, slot_width, relation_of, relation_width, ends_image, until_parenthesis, image_width}
+use Rattle.b2_atom.specs.Words.{Text, kept_byte}
+use Rattle.b2_atom.specs.Leaves.{number_width, number_width_by, mantissa_of, mantissa_width, sign_width, exponent_of, exponent_width, one_more, signed_number_width, literal_width, until_quote, small_width, slot_width, relation_of, relation_width, ends_image, until_parenthesis, image_width}
 use Rattle.b2_atom.specs.declared.words.Origin.{Origin}
 use Rattle.b2_atom.specs.declared.words.Origin.TheVariants.{Program, Immediate, Atoms}
 use Rattle.b2_atom.proofs.typed.Widths.{get_front, get_none, drop_front, small_more, slot_more, number_parts, signed_parts, one_more_suc}
 use Rattle.b2_atom.proofs.typed.LeafFronts.{width_yes}
 use Rattle.b2_atom.proofs.typed.Characters.{image_parts, relation_most}
 
--- the same width without what stands behind
+-- the same width without what stands after
 no_digit_by : (b : Bool) (n : ℕ) → (if b then suc n else 0) ≡ 0 → b ≡ false
 no_digit_by true n h = cc
 no_digit_by false n h = refl
@@ -87,7 +87,7 @@ mantissa_back : (u x : Text) → mantissa_width (u ++ x) ≤ length u → 0 < ma
 mantissa_back u x le some = front_by u x (digits_width (u ++ x)) (get_or (u ++ x) (digits_width (u ++ x)) 0 == 46) refl refl le some
 
 -- an exponent
-no_e_at_end : (o : Origin) → (kept o 0 == 69) ≡ false
+no_e_at_end : (o : Origin) → (kept_byte o 0 == 69) ≡ false
 no_e_at_end Program = refl
 no_e_at_end Immediate = refl
 no_e_at_end Atoms = refl
@@ -123,9 +123,9 @@ exponent_by t x s false b ha hb long some = absurd (omega arith)
 exponent_back : (o : Origin) (v x : Text) → exponent_width o (v ++ x) ≡ length v → exponent_width o v ≡ length v
 exponent_back o [] x h = ap (λ (b : Bool). if b then exponent_of (sign_width 0) [] else 0) (no_e_at_end o)
 exponent_back o (a ∷ []) x h =
-    absurd (one_exponent (kept o a == 69) (is_digit (get_or (a ∷ x) (1 + sign_width (get_or x 0 0)) 0)) (is_digit (get_or (a ∷ x) (2 + sign_width (get_or x 0 0)) 0)) (sign_width (get_or x 0 0)) h)
+    absurd (one_exponent (kept_byte o a == 69) (is_digit (get_or (a ∷ x) (1 + sign_width (get_or x 0 0)) 0)) (is_digit (get_or (a ∷ x) (2 + sign_width (get_or x 0 0)) 0)) (sign_width (get_or x 0 0)) h)
 exponent_back o (a ∷ b ∷ v) x h =
-    let is = width_yes (kept o a == 69) (exponent_of (sign_width b) (a ∷ b ∷ (v ++ x))) (suc (length v)) h in
+    let is = width_yes (kept_byte o a == 69) (exponent_of (sign_width b) (a ∷ b ∷ (v ++ x))) (suc (length v)) h in
     let t : Text = a ∷ b ∷ v in
     ap (λ (e : Bool). if e then exponent_of (sign_width b) (a ∷ b ∷ v) else 0) is.0
     ∙ exponent_by (a ∷ b ∷ v) x (sign_width b) (is_digit (get_or (a ∷ b ∷ (v ++ x)) (1 + sign_width b) 0)) (is_digit (get_or (a ∷ b ∷ (v ++ x)) (2 + sign_width b) 0)) refl refl is.1 (omega arith)
@@ -143,13 +143,13 @@ number_back o a w x h =
     let same : mantissa_width u ≡ m = mantissa_back u x fits (some_of m is.0) in
     let rest : exponent_width o (drop m (u ++ x)) ≡ exponent_width o (drop m u ++ x) = ap (exponent_width o) (drop_front u x m fits) in
     let tail : exponent_width o (drop m u ++ x) ≡ length (drop m u) = (let sum = is.1 in omega (arith, length-drop m u)) in
-    ap (λ (n : ℕ). number_of o n u) same
+    ap (λ (n : ℕ). number_width_by o n u) same
     ∙ ap (λ (b : Bool). if b then 0 else m + exponent_width o (drop m u)) is.0
     ∙ ap (λ (n : ℕ). m + n) (exponent_back o (drop m u) x tail ∙ sym tail ∙ sym rest)
     ∙ is.1
 
 -- what is kept of a text has the same widths
-pub kept_digit : (o : Origin) (b : ℕ) → is_digit (kept o b) ≡ is_digit b
+pub kept_digit : (o : Origin) (b : ℕ) → is_digit (kept_byte o b) ≡ is_digit b
 kept_digit Program b = grind (arith, nat_tests)
 kept_digit Immediate b = grind (arith, nat_tests)
 kept_digit Atoms b = refl
@@ -158,112 +158,112 @@ kept_digit Atoms b = refl
 abbrev pub is_fixed : ℕ → Bool
 is_fixed c = nat_lt c 65 && nat_lt 0 c
 
-pub kept_fixed : (o : Origin) (b c : ℕ) → is_fixed c ≡ true → (kept o b == c) ≡ (b == c)
+pub kept_fixed : (o : Origin) (b c : ℕ) → is_fixed c ≡ true → (kept_byte o b == c) ≡ (b == c)
 kept_fixed Program b c h = grind (arith, nat_tests)
 kept_fixed Immediate b c h = grind (arith, nat_tests)
 kept_fixed Atoms b c h = refl
 
-kept_null : (o : Origin) → kept o 0 ≡ 0
+kept_null : (o : Origin) → kept_byte o 0 ≡ 0
 kept_null Program = refl
 kept_null Immediate = refl
 kept_null Atoms = refl
 
-get_kept : (o : Origin) (u : Text) (i : ℕ) → get_or (map (kept o) u) i 0 ≡ kept o (get_or u i 0)
+get_kept : (o : Origin) (u : Text) (i : ℕ) → get_or (map (kept_byte o) u) i 0 ≡ kept_byte o (get_or u i 0)
 get_kept o [] i = sym (kept_null o)
 get_kept o (b ∷ u) zero = refl
 get_kept o (b ∷ u) (suc i) = get_kept o u i
 
-drop_kept : (o : Origin) (u : Text) (i : ℕ) → drop i (map (kept o) u) ≡ map (kept o) (drop i u)
+drop_kept : (o : Origin) (u : Text) (i : ℕ) → drop i (map (kept_byte o) u) ≡ map (kept_byte o) (drop i u)
 drop_kept o u zero = refl
 drop_kept o [] (suc i) = refl
 drop_kept o (b ∷ u) (suc i) = drop_kept o u i
 
-first_kept : (o : Origin) (u : Text) → first (map (kept o) u) ≡ kept o (first u)
+first_kept : (o : Origin) (u : Text) → first (map (kept_byte o) u) ≡ kept_byte o (first u)
 first_kept o [] = sym (kept_null o)
 first_kept o (b ∷ u) = refl
 
-digits_kept : (o : Origin) (u : Text) → digits_width (map (kept o) u) ≡ digits_width u
+digits_kept : (o : Origin) (u : Text) → digits_width (map (kept_byte o) u) ≡ digits_width u
 digits_kept o [] = refl
 digits_kept o (b ∷ u) = λ i. if kept_digit o b i then suc (digits_kept o u i) else 0
 
-point_kept : (o : Origin) (u : Text) (n : ℕ) → (get_or (map (kept o) u) n 0 == 46) ≡ (get_or u n 0 == 46)
+point_kept : (o : Origin) (u : Text) (n : ℕ) → (get_or (map (kept_byte o) u) n 0 == 46) ≡ (get_or u n 0 == 46)
 point_kept o u n = ap (λ (b : ℕ). b == 46) (get_kept o u n) ∙ kept_fixed o (get_or u n 0) 46 refl
 
-part_kept : (o : Origin) (u : Text) (n : ℕ) → digits_width (drop n (map (kept o) u)) ≡ digits_width (drop n u)
+part_kept : (o : Origin) (u : Text) (n : ℕ) → digits_width (drop n (map (kept_byte o) u)) ≡ digits_width (drop n u)
 part_kept o u n = ap digits_width (drop_kept o u n) ∙ digits_kept o (drop n u)
 
-mantissa_kept : (o : Origin) (u : Text) → mantissa_width (map (kept o) u) ≡ mantissa_width u
+mantissa_kept : (o : Origin) (u : Text) → mantissa_width (map (kept_byte o) u) ≡ mantissa_width u
 mantissa_kept o u =
-    ap (λ (n : ℕ). if get_or (map (kept o) u) n 0 == 46 then mantissa_of n (digits_width (drop (n + 1) (map (kept o) u))) else n) (digits_kept o u)
+    ap (λ (n : ℕ). if get_or (map (kept_byte o) u) n 0 == 46 then mantissa_of n (digits_width (drop (n + 1) (map (kept_byte o) u))) else n) (digits_kept o u)
     ∙ (λ i. if point_kept o u (digits_width u) i then mantissa_of (digits_width u) (part_kept o u (digits_width u + 1) i) else digits_width u)
 
-digit_at : (o : Origin) (u : Text) (n : ℕ) → is_digit (get_or (map (kept o) u) n 0) ≡ is_digit (get_or u n 0)
+digit_at : (o : Origin) (u : Text) (n : ℕ) → is_digit (get_or (map (kept_byte o) u) n 0) ≡ is_digit (get_or u n 0)
 digit_at o u n = ap is_digit (get_kept o u n) ∙ kept_digit o (get_or u n 0)
 
-sign_kept : (o : Origin) (b : ℕ) → sign_width (kept o b) ≡ sign_width b
+sign_kept : (o : Origin) (b : ℕ) → sign_width (kept_byte o b) ≡ sign_width b
 sign_kept o b = λ i. if kept_fixed o b 43 refl i || kept_fixed o b 45 refl i then 1 else 0
 
-tail_of : (o : Origin) (u : Text) (n : ℕ) → exponent_of n (map (kept o) u) ≡ exponent_of n u
+tail_of : (o : Origin) (u : Text) (n : ℕ) → exponent_of n (map (kept_byte o) u) ≡ exponent_of n u
 tail_of o u n = λ i. if digit_at o u (1 + n) i then (if digit_at o u (2 + n) i then 3 + n else 2 + n) else 0
 
-tail_kept : (o : Origin) (u : Text) → exponent_of (sign_width (get_or (map (kept o) u) 1 0)) (map (kept o) u) ≡ exponent_of (sign_width (get_or u 1 0)) u
+tail_kept : (o : Origin) (u : Text) → exponent_of (sign_width (get_or (map (kept_byte o) u) 1 0)) (map (kept_byte o) u) ≡ exponent_of (sign_width (get_or u 1 0)) u
 tail_kept o u =
-    ap (λ (n : ℕ). exponent_of n (map (kept o) u)) (ap sign_width (get_kept o u 1) ∙ sign_kept o (get_or u 1 0)) ∙ tail_of o u (sign_width (get_or u 1 0))
+    ap (λ (n : ℕ). exponent_of n (map (kept_byte o) u)) (ap sign_width (get_kept o u 1) ∙ sign_kept o (get_or u 1 0)) ∙ tail_of o u (sign_width (get_or u 1 0))
 
-exponent_kept : (o : Origin) (u : Text) → exponent_width Atoms (map (kept o) u) ≡ exponent_width o u
+exponent_kept : (o : Origin) (u : Text) → exponent_width Atoms (map (kept_byte o) u) ≡ exponent_width o u
 exponent_kept o u =
-    ap (λ (n : ℕ). if n == 69 then exponent_of (sign_width (get_or (map (kept o) u) 1 0)) (map (kept o) u) else 0) (first_kept o u)
-    ∙ ap (λ (n : ℕ). if kept o (first u) == 69 then n else 0) (tail_kept o u)
+    ap (λ (n : ℕ). if n == 69 then exponent_of (sign_width (get_or (map (kept_byte o) u) 1 0)) (map (kept_byte o) u) else 0) (first_kept o u)
+    ∙ ap (λ (n : ℕ). if kept_byte o (first u) == 69 then n else 0) (tail_kept o u)
 
-pub number_kept : (o : Origin) (u : Text) → number_width Atoms (map (kept o) u) ≡ number_width o u
+pub number_kept : (o : Origin) (u : Text) → number_width Atoms (map (kept_byte o) u) ≡ number_width o u
 number_kept o u =
-    ap (λ (m : ℕ). number_of Atoms m (map (kept o) u)) (mantissa_kept o u)
+    ap (λ (m : ℕ). number_width_by Atoms m (map (kept_byte o) u)) (mantissa_kept o u)
     ∙ ap (λ (n : ℕ). if mantissa_width u == 0 then 0 else mantissa_width u + n) (ap (exponent_width Atoms) (drop_kept o u (mantissa_width u)) ∙ exponent_kept o (drop (mantissa_width u) u))
 
-front_signed : (o : Origin) (u : Text) → (first (map (kept o) u) == 43 || first (map (kept o) u) == 45) ≡ (first u == 43 || first u == 45)
+front_signed : (o : Origin) (u : Text) → (first (map (kept_byte o) u) == 43 || first (map (kept_byte o) u) == 45) ≡ (first u == 43 || first u == 45)
 front_signed o u =
     ap (λ (b : ℕ). b == 43 || b == 45) (first_kept o u) ∙ (λ i. kept_fixed o (first u) 43 refl i || kept_fixed o (first u) 45 refl i)
 
-pub signed_kept : (o : Origin) (u : Text) → signed_number_width Atoms (map (kept o) u) ≡ signed_number_width o u
+pub signed_kept : (o : Origin) (u : Text) → signed_number_width Atoms (map (kept_byte o) u) ≡ signed_number_width o u
 signed_kept o u =
     (λ i. if front_signed o u i then one_more (number_width Atoms (drop_kept o u 1 i)) else number_kept o u i)
     ∙ ap (λ (n : ℕ). if first u == 43 || first u == 45 then one_more n else number_width o u) (number_kept o (drop 1 u))
 
-digit_same : (o : Origin) (b : ℕ) → is_digit b ≡ true → kept o b ≡ b
+digit_same : (o : Origin) (b : ℕ) → is_digit b ≡ true → kept_byte o b ≡ b
 digit_same Program b h = grind (arith, nat_tests)
 digit_same Immediate b h = grind (arith, nat_tests)
 digit_same Atoms b h = refl
 
-value_by : (o : Origin) (n b : ℕ) (u : Text) (d : Bool) → is_digit b ≡ d → capped_value 999 (min (n * 10 + (b - 48)) 999) (map (kept o) u) ≡ capped_value 999 (min (n * 10 + (b - 48)) 999) u
-    → (if d then capped_value 999 (min (n * 10 + (kept o b - 48)) 999) (map (kept o) u) else n) ≡ (if d then capped_value 999 (min (n * 10 + (b - 48)) 999) u else n)
-value_by o n b u true is more = ap (λ (k : ℕ). capped_value 999 (min (n * 10 + (k - 48)) 999) (map (kept o) u)) (digit_same o b is) ∙ more
+value_by : (o : Origin) (n b : ℕ) (u : Text) (d : Bool) → is_digit b ≡ d → capped_value 999 (min (n * 10 + (b - 48)) 999) (map (kept_byte o) u) ≡ capped_value 999 (min (n * 10 + (b - 48)) 999) u
+    → (if d then capped_value 999 (min (n * 10 + (kept_byte o b - 48)) 999) (map (kept_byte o) u) else n) ≡ (if d then capped_value 999 (min (n * 10 + (b - 48)) 999) u else n)
+value_by o n b u true is more = ap (λ (k : ℕ). capped_value 999 (min (n * 10 + (k - 48)) 999) (map (kept_byte o) u)) (digit_same o b is) ∙ more
 value_by o n b u false is more = refl
 
-value_kept : (o : Origin) (n : ℕ) (u : Text) → capped_value 999 n (map (kept o) u) ≡ capped_value 999 n u
+value_kept : (o : Origin) (n : ℕ) (u : Text) → capped_value 999 n (map (kept_byte o) u) ≡ capped_value 999 n u
 value_kept o n [] = refl
 value_kept o n (b ∷ u) =
-    ap (λ (d : Bool). if d then capped_value 999 (min (n * 10 + (kept o b - 48)) 999) (map (kept o) u) else n) (kept_digit o b)
+    ap (λ (d : Bool). if d then capped_value 999 (min (n * 10 + (kept_byte o b - 48)) 999) (map (kept_byte o) u) else n) (kept_digit o b)
     ∙ value_by o n b u (is_digit b) refl (value_kept o (min (n * 10 + (b - 48)) 999) u)
 
-pub small_kept : (o : Origin) (u : Text) → small_width (map (kept o) u) ≡ small_width u
+pub small_kept : (o : Origin) (u : Text) → small_width (map (kept_byte o) u) ≡ small_width u
 small_kept o u = λ i. if nat_le (value_kept o 0 u i) 255 then digits_kept o u i else 0
 
-pub slot_kept : (o : Origin) (a : ℕ) (u : Text) → slot_width (map (kept o) (a ∷ u)) ≡ slot_width (a ∷ u)
+pub slot_kept : (o : Origin) (a : ℕ) (u : Text) → slot_width (map (kept_byte o) (a ∷ u)) ≡ slot_width (a ∷ u)
 slot_kept o a u = λ i. if kept_fixed o a 35 refl i && (nat_lt 0 (digits_kept o u i) && nat_le (value_kept o 0 u i) 15) then digits_kept o u i + 1 else 0
 
-until_kept : (o : Origin) (u : Text) → until_parenthesis Atoms (map (kept o) u) ≡ until_parenthesis o u
+until_kept : (o : Origin) (u : Text) → until_parenthesis Atoms (map (kept_byte o) u) ≡ until_parenthesis o u
 until_kept o [] = refl
 until_kept o (b ∷ u) = ap (λ (n : ℕ). if ends_image o b then 0 else suc n) (until_kept o u)
 
-point_of : (o : Origin) (u : Text) (n : ℕ) → (get_or (map (kept o) u) n 0 == 41) ≡ (get_or u n 0 == 41)
+point_of : (o : Origin) (u : Text) (n : ℕ) → (get_or (map (kept_byte o) u) n 0 == 41) ≡ (get_or u n 0 == 41)
 point_of o u n = ap (λ (b : ℕ). b == 41) (get_kept o u n) ∙ kept_fixed o (get_or u n 0) 41 refl
 
-pub image_kept : (o : Origin) (a : ℕ) (u : Text) → image_width Atoms (map (kept o) (a ∷ u)) ≡ image_width o (a ∷ u)
+pub image_kept : (o : Origin) (a : ℕ) (u : Text) → image_width Atoms (map (kept_byte o) (a ∷ u)) ≡ image_width o (a ∷ u)
 image_kept o a u =
-    ap (λ (n : ℕ). if not (kept o a == 32) && get_or (map (kept o) (a ∷ u)) n 0 == 41 then n + 1 else 0) (until_kept o (a ∷ u))
+    ap (λ (n : ℕ). if not (kept_byte o a == 32) && get_or (map (kept_byte o) (a ∷ u)) n 0 == 41 then n + 1 else 0) (until_kept o (a ∷ u))
     ∙ (λ i. if not (kept_fixed o a 32 refl i) && point_of o (a ∷ u) (until_parenthesis o (a ∷ u)) i then until_parenthesis o (a ∷ u) + 1 else 0)
 
--- the same widths without what stands behind, of the other kinds
+-- the same widths without what stands after, of the other kinds
 no_more : (n : ℕ) → one_more n ≡ 1 → ⊥
 no_more n h = grind (arith, nat_tests)
 
@@ -336,10 +336,10 @@ relation_back a [] x h = relation_one a (get_or x 0 0) h
 relation_back a (b ∷ []) x h = h
 relation_back a (b ∷ c ∷ w) x h = absurd (relation_most a b (length w) h)
 
-relation_kept : (o : Origin) (a b : ℕ) → relation_of (kept o a) (kept o b) ≡ relation_of a b
+relation_kept : (o : Origin) (a b : ℕ) → relation_of (kept_byte o a) (kept_byte o b) ≡ relation_of a b
 relation_kept o a b = λ i.
     if kept_fixed o a 60 refl i && (kept_fixed o b 61 refl i || kept_fixed o b 62 refl i) || (kept_fixed o a 62 refl i && kept_fixed o b 61 refl i) then 2
     else (if kept_fixed o a 60 refl i || (kept_fixed o a 62 refl i || kept_fixed o a 61 refl i) then 1 else 0)
 
-pub relation_kept_text : (o : Origin) (a : ℕ) (w : Text) → relation_width (map (kept o) (a ∷ w)) ≡ relation_width (a ∷ w)
-relation_kept_text o a w = ap (relation_of (kept o a)) (get_kept o w 0) ∙ relation_kept o a (get_or w 0 0)
+pub relation_kept_text : (o : Origin) (a : ℕ) (w : Text) → relation_width (map (kept_byte o) (a ∷ w)) ≡ relation_width (a ∷ w)
+relation_kept_text o a w = ap (relation_of (kept_byte o a)) (get_kept o w 0) ∙ relation_kept o a (get_or w 0 0)

@@ -3,7 +3,7 @@ use Rattle.std.proofs.Common.{◌≡◌, ℕ, suc, ◌+◌, Bool, true, false, i
 use Rattle.std.specs.Prelude.{codes}
 use Rattle.std.proofs.lemmas.Bool.Decides.{nat_tests}
 use Rattle.b2_base.specs.Lexical.{is_digit, is_letter, skip_blanks, upper}
-use Rattle.b2_atom.specs.Words.{Text, kept, ahead, typed_ahead, joined, word_at, begins_with}
+use Rattle.b2_atom.specs.Words.{Text, kept_byte, ahead, typed_ahead, longer_word, word_at, begins_with}
 use Rattle.b2_atom.specs.Leaves.{name_width, is_alpha_name, numeric_name_width, alpha_name_width, local_name_width, function_name_width}
 use Rattle.b2_atom.specs.declared.words.TheConstants as word
 use Rattle.b2_atom.specs.declared.words.Origin.{Origin}
@@ -27,7 +27,7 @@ joined_by q is c false true d x y z w h k = false_true (sym (is.1 word.DATALOAD 
 joined_by q is c false false true x y z w h k = false_true (sym (is.1 word.PRINTUSING refl) ∙ k)
 joined_by q is c false false false x y z w h k = false_true (sym (is.1 c h) ∙ k)
 
-joined_class : (q : ℕ → Bool) → IsByteClass q → (c : ℕ) (x : Text) → nat_le 128 c ≡ true → q (joined c x).0 ≡ true → ⊥
+joined_class : (q : ℕ → Bool) → IsByteClass q → (c : ℕ) (x : Text) → nat_le 128 c ≡ true → q (longer_word c x).0 ≡ true → ⊥
 joined_class q is c x h k =
     joined_by q is c (c == word.DATA && begins_with (codes "SAVE") (skip_blanks x)) (c == word.DATA && begins_with (codes "LOAD") (skip_blanks x))
     (c == word.PRINT && begins_with (codes "USING") (skip_blanks x)) (drop 4 (skip_blanks x)) (drop 4 (skip_blanks x)) (drop 5 (skip_blanks x)) x h k
@@ -36,7 +36,7 @@ word_code : (n : ℕ) → nat_le 128 (n + 128) ≡ true
 word_code n = grind (arith, nat_tests)
 
 abbrev typed_of : Bool → Bool → ℕ × ℕ → ℕ → Text → ℕ × Text
-typed_of z l best a y = if z then (upper a, y) else (if l then (1, drop best.0 (a ∷ y)) else joined (best.1 + 128) (drop best.0 (a ∷ y)))
+typed_of z l best a y = if z then (upper a, y) else (if l then (1, drop best.0 (a ∷ y)) else longer_word (best.1 + 128) (drop best.0 (a ∷ y)))
 
 class_by : (q : ℕ → Bool) → IsByteClass q → (best : ℕ × ℕ) (a : ℕ) (y : Text) (z l : Bool) → (best.0 == 0) ≡ z → nat_le word.CODED best.1 ≡ l
     → q (typed_of z l best a y).0 ≡ true → q (upper a) ≡ true
@@ -48,7 +48,7 @@ typed_class : (q : ℕ → Bool) → IsByteClass q → (a : ℕ) (y : Text) → 
 typed_class q is a y h = class_by q is (word_at (a ∷ y)) a y ((word_at (a ∷ y)).0 == 0) (nat_le word.CODED (word_at (a ∷ y)).1) refl refl h
 
 -- where a byte of such a class stands, it is that byte as it is kept
-pub class_kept : (o : Origin) (q : ℕ → Bool) → IsByteClass q → (a : ℕ) (y : Text) → q (ahead o (a ∷ y)).0 ≡ true → q (kept o a) ≡ true
+pub class_kept : (o : Origin) (q : ℕ → Bool) → IsByteClass q → (a : ℕ) (y : Text) → q (ahead o (a ∷ y)).0 ≡ true → q (kept_byte o a) ≡ true
 class_kept Program q is a y h = typed_class q is a y h
 class_kept Immediate q is a y h = typed_class q is a y h
 class_kept Atoms q is a y h = h
@@ -72,10 +72,10 @@ functions : IsByteClass is_function_name
 functions = (refl, no_name_word)
 
 -- the shape of a name as it is kept
-kept_two : (o : Origin) (a b : ℕ) (y : Text) → ((is_letter (ahead o (a ∷ y)).0 ≡ true) × (is_digit b ≡ true)) ⊎ ((((ahead o (a ∷ y)).0 == 64) ≡ true) × (is_letter (kept o b) ≡ true))
-    → NameShape (kept o a ∷ kept o b ∷ [])
+kept_two : (o : Origin) (a b : ℕ) (y : Text) → ((is_letter (ahead o (a ∷ y)).0 ≡ true) × (is_digit b ≡ true)) ⊎ ((((ahead o (a ∷ y)).0 == 64) ≡ true) × (is_letter (kept_byte o b) ≡ true))
+    → NameShape (kept_byte o a ∷ kept_byte o b ∷ [])
 kept_two o a b y (inl h) = inl (class_kept o is_letter letters a y h.0, kept_digit o b ∙ h.1)
-kept_two o a b y (inr h) = inr (equal (kept o a) 64 (class_kept o (λ n. n == 64) signs a y h.0), h.1)
+kept_two o a b y (inr h) = inr (equal (kept_byte o a) 64 (class_kept o (λ n. n == 64) signs a y h.0), h.1)
 
 first_letter : (l d g e : Bool) → width_of l d g e ≡ 1 → l ≡ true
 first_letter true d g e h = refl
@@ -83,28 +83,28 @@ first_letter false d true true h = absurd (omega arith)
 first_letter false d true false h = absurd (omega arith)
 first_letter false d false e h = cc
 
-kept_one : (o : Origin) (a : ℕ) (y : Text) → width_of (is_letter (ahead o (a ∷ y)).0) (is_digit (get_or y 0 0)) ((ahead o (a ∷ y)).0 == 64 && is_letter (kept o (get_or y 0 0))) (is_digit (get_or y 1 0)) ≡ 1
-    → NameShape (kept o a ∷ [])
+kept_one : (o : Origin) (a : ℕ) (y : Text) → width_of (is_letter (ahead o (a ∷ y)).0) (is_digit (get_or y 0 0)) ((ahead o (a ∷ y)).0 == 64 && is_letter (kept_byte o (get_or y 0 0))) (is_digit (get_or y 1 0)) ≡ 1
+    → NameShape (kept_byte o a ∷ [])
 kept_one o a y h =
     class_kept o is_letter letters a y
-    (first_letter (is_letter (ahead o (a ∷ y)).0) (is_digit (get_or y 0 0)) ((ahead o (a ∷ y)).0 == 64 && is_letter (kept o (get_or y 0 0))) (is_digit (get_or y 1 0)) h)
+    (first_letter (is_letter (ahead o (a ∷ y)).0) (is_digit (get_or y 0 0)) ((ahead o (a ∷ y)).0 == 64 && is_letter (kept_byte o (get_or y 0 0))) (is_digit (get_or y 1 0)) h)
 
 kept_three : (o : Origin) (a b c : ℕ) (y : Text)
-    → width_of (is_letter (ahead o (a ∷ b ∷ c ∷ y)).0) (is_digit b) ((ahead o (a ∷ b ∷ c ∷ y)).0 == 64 && is_letter (kept o b)) (is_digit c) ≡ 3 → NameShape (kept o a ∷ kept o b ∷ kept o c ∷ [])
+    → width_of (is_letter (ahead o (a ∷ b ∷ c ∷ y)).0) (is_digit b) ((ahead o (a ∷ b ∷ c ∷ y)).0 == 64 && is_letter (kept_byte o b)) (is_digit c) ≡ 3 → NameShape (kept_byte o a ∷ kept_byte o b ∷ kept_byte o c ∷ [])
 kept_three o a b c y h =
-    let is = three_shape (is_letter (ahead o (a ∷ b ∷ c ∷ y)).0) (is_digit b) ((ahead o (a ∷ b ∷ c ∷ y)).0 == 64) (is_letter (kept o b)) (is_digit c) h in
-    (equal (kept o a) 64 (class_kept o (λ n. n == 64) signs a (b ∷ c ∷ y) is.0), (is.1.0, kept_digit o c ∙ is.1.1))
+    let is = three_shape (is_letter (ahead o (a ∷ b ∷ c ∷ y)).0) (is_digit b) ((ahead o (a ∷ b ∷ c ∷ y)).0 == 64) (is_letter (kept_byte o b)) (is_digit c) h in
+    (equal (kept_byte o a) 64 (class_kept o (λ n. n == 64) signs a (b ∷ c ∷ y) is.0), (is.1.0, kept_digit o c ∙ is.1.1))
 
-name_kept : (o : Origin) (a : ℕ) (w x : Text) → name_width o (a ∷ (w ++ x)) ≡ suc (length w) → NameShape (map (kept o) (a ∷ w))
+name_kept : (o : Origin) (a : ℕ) (w x : Text) → name_width o (a ∷ (w ++ x)) ≡ suc (length w) → NameShape (map (kept_byte o) (a ∷ w))
 name_kept o a [] x h = kept_one o a x h
 name_kept o a (b ∷ []) x h =
-    kept_two o a b (b ∷ x) (two_kinds (is_letter (ahead o (a ∷ b ∷ x)).0) (is_digit b) ((ahead o (a ∷ b ∷ x)).0 == 64) (is_letter (kept o b)) (is_digit (get_or x 0 0)) h)
+    kept_two o a b (b ∷ x) (two_kinds (is_letter (ahead o (a ∷ b ∷ x)).0) (is_digit b) ((ahead o (a ∷ b ∷ x)).0 == 64) (is_letter (kept_byte o b)) (is_digit (get_or x 0 0)) h)
 name_kept o a (b ∷ c ∷ []) x h = kept_three o a b c x h
 name_kept o a (b ∷ c ∷ d ∷ w) x h =
     let t : Text = a ∷ b ∷ c ∷ d ∷ (w ++ x) in
-    absurd (too_wide (is_letter (ahead o t).0) (is_digit b) ((ahead o t).0 == 64 && is_letter (kept o b)) (is_digit c) (length w) h)
+    absurd (too_wide (is_letter (ahead o t).0) (is_digit b) ((ahead o t).0 == 64 && is_letter (kept_byte o b)) (is_digit c) (length w) h)
 
-pub length_kept : (o : Origin) (w : Text) → length (map (kept o) w) ≡ length w
+pub length_kept : (o : Origin) (w : Text) → length (map (kept_byte o) w) ≡ length w
 length_kept o [] = refl
 length_kept o (b ∷ w) = ap suc (length_kept o w)
 
@@ -114,41 +114,41 @@ whole_numeric [] h = absurd h
 whole_numeric (a ∷ w) h =
     ap (numeric_name_width Atoms) (sym (append-nil (a ∷ w))) ∙ (numeric_read Atoms a w [] h refl refl refl).numeric
 
-pub name_whole : (o : Origin) (a : ℕ) (w x : Text) → numeric_name_width o (a ∷ (w ++ x)) ≡ suc (length w) → numeric_name_width Atoms (map (kept o) (a ∷ w)) ≡ suc (length w)
+pub name_whole : (o : Origin) (a : ℕ) (w x : Text) → numeric_name_width o (a ∷ (w ++ x)) ≡ suc (length w) → numeric_name_width Atoms (map (kept_byte o) (a ∷ w)) ≡ suc (length w)
 name_whole o a w x h =
-    whole_numeric (map (kept o) (a ∷ w)) (name_kept o a w x (numeric_of (is_alpha_name o (a ∷ (w ++ x))) (name_width o (a ∷ (w ++ x))) (length w) h)) ∙ ap suc (length_kept o w)
+    whole_numeric (map (kept_byte o) (a ∷ w)) (name_kept o a w x (numeric_of (is_alpha_name o (a ∷ (w ++ x))) (name_width o (a ∷ (w ++ x))) (length w) h)) ∙ ap suc (length_kept o w)
 
-kept_sign : (o : Origin) (a : ℕ) → (kept o a == 64) ≡ (a == 64)
+kept_sign : (o : Origin) (a : ℕ) → (kept_byte o a == 64) ≡ (a == 64)
 kept_sign o a = kept_fixed o a 64 refl
 
-pub local_whole : (o : Origin) (a : ℕ) (w x : Text) → local_name_width o (a ∷ (w ++ x)) ≡ suc (length w) → local_name_width Atoms (map (kept o) (a ∷ w)) ≡ suc (length w)
+pub local_whole : (o : Origin) (a : ℕ) (w x : Text) → local_name_width o (a ∷ (w ++ x)) ≡ suc (length w) → local_name_width Atoms (map (kept_byte o) (a ∷ w)) ≡ suc (length w)
 local_whole o a w x h =
     let is = local_of (a == 64) (numeric_name_width o (a ∷ (w ++ x))) (length w) h in
-    ap (λ (b : Bool). if b then 0 else numeric_name_width Atoms (map (kept o) (a ∷ w))) (kept_sign o a ∙ is.0) ∙ name_whole o a w x is.1
+    ap (λ (b : Bool). if b then 0 else numeric_name_width Atoms (map (kept_byte o) (a ∷ w))) (kept_sign o a ∙ is.0) ∙ name_whole o a w x is.1
 
 -- a name of an alpha value
 whole_alpha : (a : ℕ) (w : Text) → NameShape (a ∷ w) → alpha_name_width Atoms (a ∷ (w ++ 36 ∷ [])) ≡ suc (length w) + 1
 whole_alpha a w h = (alpha_read Atoms a w [] h).named
 
-map_last : (o : Origin) (v : Text) (d : ℕ) → map (kept o) (v ++ d ∷ []) ≡ map (kept o) v ++ kept o d ∷ []
+map_last : (o : Origin) (v : Text) (d : ℕ) → map (kept_byte o) (v ++ d ∷ []) ≡ map (kept_byte o) v ++ kept_byte o d ∷ []
 map_last o [] d = refl
-map_last o (b ∷ v) d = ap (λ (l : Text). kept o b ∷ l) (map_last o v d)
+map_last o (b ∷ v) d = ap (λ (l : Text). kept_byte o b ∷ l) (map_last o v d)
 
-last_kept : (o : Origin) (a : ℕ) (v : Text) (d : ℕ) → map (kept o) (a ∷ (v ++ d ∷ [])) ≡ kept o a ∷ (map (kept o) v ++ kept o d ∷ [])
-last_kept o a v d = ap (λ (l : Text). kept o a ∷ l) (map_last o v d)
+last_kept : (o : Origin) (a : ℕ) (v : Text) (d : ℕ) → map (kept_byte o) (a ∷ (v ++ d ∷ [])) ≡ kept_byte o a ∷ (map (kept_byte o) v ++ kept_byte o d ∷ [])
+last_kept o a v d = ap (λ (l : Text). kept_byte o a ∷ l) (map_last o v d)
 
-kept_dollar : (o : Origin) → kept o 36 ≡ 36
+kept_dollar : (o : Origin) → kept_byte o 36 ≡ 36
 kept_dollar Program = refl
 kept_dollar Immediate = refl
 kept_dollar Atoms = refl
 
-alpha_by : (o : Origin) (a : ℕ) (v : Text) (d : ℕ) (n : ℕ) → NameShape (map (kept o) (a ∷ v)) → d ≡ 36 → suc (length v) + 1 ≡ n
-    → alpha_name_width Atoms (map (kept o) (a ∷ (v ++ d ∷ []))) ≡ n
+alpha_by : (o : Origin) (a : ℕ) (v : Text) (d : ℕ) (n : ℕ) → NameShape (map (kept_byte o) (a ∷ v)) → d ≡ 36 → suc (length v) + 1 ≡ n
+    → alpha_name_width Atoms (map (kept_byte o) (a ∷ (v ++ d ∷ []))) ≡ n
 alpha_by o a v d n shape is long =
-    ap (alpha_name_width Atoms) (last_kept o a v d ∙ ap (λ (k : ℕ). kept o a ∷ (map (kept o) v ++ k ∷ [])) (ap (kept o) is ∙ kept_dollar o))
-    ∙ whole_alpha (kept o a) (map (kept o) v) shape ∙ ap (λ (m : ℕ). suc m + 1) (length_kept o v) ∙ long
+    ap (alpha_name_width Atoms) (last_kept o a v d ∙ ap (λ (k : ℕ). kept_byte o a ∷ (map (kept_byte o) v ++ k ∷ [])) (ap (kept_byte o) is ∙ kept_dollar o))
+    ∙ whole_alpha (kept_byte o a) (map (kept_byte o) v) shape ∙ ap (λ (m : ℕ). suc m + 1) (length_kept o v) ∙ long
 
-pub alpha_whole : (o : Origin) (a : ℕ) (w x : Text) → alpha_name_width o (a ∷ (w ++ x)) ≡ suc (length w) → alpha_name_width Atoms (map (kept o) (a ∷ w)) ≡ suc (length w)
+pub alpha_whole : (o : Origin) (a : ℕ) (w x : Text) → alpha_name_width o (a ∷ (w ++ x)) ≡ suc (length w) → alpha_name_width Atoms (map (kept_byte o) (a ∷ w)) ≡ suc (length w)
 alpha_whole o a [] x h =
     let t : Text = a ∷ x in
     let is = named_of (is_alpha_name o t) (name_width o t) 0 h in
@@ -168,10 +168,10 @@ alpha_whole o a (b ∷ c ∷ d ∷ []) x h =
 alpha_whole o a (b ∷ c ∷ d ∷ e ∷ w) x h =
     let t : Text = a ∷ b ∷ c ∷ d ∷ e ∷ (w ++ x) in
     let is = named_of (is_alpha_name o t) (name_width o t) (suc (suc (suc (suc (length w))))) h in
-    absurd (too_wide (is_letter (ahead o t).0) (is_digit b) ((ahead o t).0 == 64 && is_letter (kept o b)) (is_digit c) (length w) is.1)
+    absurd (too_wide (is_letter (ahead o t).0) (is_digit b) ((ahead o t).0 == 64 && is_letter (kept_byte o b)) (is_digit c) (length w) is.1)
 
 -- a function's name
-pub function_whole : (o : Origin) (a : ℕ) (w x : Text) → function_name_width o (a ∷ (w ++ x)) ≡ suc (length w) → function_name_width Atoms (map (kept o) (a ∷ w)) ≡ suc (length w)
+pub function_whole : (o : Origin) (a : ℕ) (w x : Text) → function_name_width o (a ∷ (w ++ x)) ≡ suc (length w) → function_name_width Atoms (map (kept_byte o) (a ∷ w)) ≡ suc (length w)
 function_whole o a w x h =
     let is = width_yes (is_function_name (ahead o (a ∷ (w ++ x))).0) 1 (length w) h in
     ap (λ (b : Bool). if b then 1 else 0) (class_kept o is_function_name functions a (w ++ x) is.0) ∙ is.1

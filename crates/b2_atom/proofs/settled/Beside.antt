@@ -2,12 +2,12 @@
 use Rattle.std.proofs.Common.{◌≡◌, ℕ, zero, suc, ◌+◌, ◌-◌, get_or, ◌==◌, ◌&&◌, ◌||◌, not, nat_le, nat_lt, Bool, true, false, if◌then◌else◌, List, [], ◌∷◌, ◌++◌, refl, sym, ap, subst, ◌∙◌, arith, append-nil, inl, inr, ◌⊎◌}
 use Rattle.std.proofs.lemmas.Bool.Decides.{nat_tests}
 use Rattle.b2_base.specs.Lexical.{first, is_letter}
-use Rattle.b2_atom.specs.Words.{Text, texts, word_text}
+use Rattle.b2_atom.specs.Words.{Text, all_words, word_text}
 use Rattle.b2_atom.specs.Tokens.{Token, is_word}
 use Rattle.b2_atom.specs.Tokens.Token.{Coded, Plain, Lined}
 use Rattle.b2_atom.specs.Tree.{Trees, tokens}
 use Rattle.b2_atom.specs.Grammar.{row_items, is_among}
-use Rattle.b2_atom.specs.Spelling.{is_mark, is_literal, is_free, is_image, is_dollar, is_unrelated, is_lettered, may_follow, may_follow_leaf, Neighbours, AllGood, good_token, is_in, signs}
+use Rattle.b2_atom.specs.Spelling.{is_word_or_sign, is_literal, is_free_text, is_image, is_dollar, is_unrelated, is_lettered, may_follow, may_follow_leaf, Neighbours, AllGood, good_token, is_in, plain_signs}
 use Rattle.b2_atom.specs.Fitting.{leaf_number, is_remark, is_rest, RemarksEnd, LineTree}
 use Rattle.b2_atom.specs.declared.rows.TheConstants as row
 use Rattle.b2_atom.specs.declared.words.Origin.{Origin}
@@ -23,9 +23,9 @@ use Rattle.b2_atom.proofs.settled.Heads.{leads, led_known, covered_all}
 use Rattle.b2_atom.proofs.settled.Choice.{opens_statement, opening}
 use Rattle.b2_atom.proofs.settled.Pairs.{TwoTokens, Tells, front_last, Chain, Follows, chained}
 
--- behind a remark any token may stand here, since nothing does
+-- after a remark any token may stand here, since nothing does
 abbrev pub may_stand : TwoTokens
-may_stand t u = is_remark t || is_free t || may_follow t u
+may_stand t u = is_remark t || is_free_text t || may_follow t u
 
 turn_not : (b : Bool) → b ≡ false → not b ≡ true
 turn_not true h = cc
@@ -38,7 +38,7 @@ kind_of n j None w h m one = cc
 kind_of n j (Spanned a b) w h m one = cc
 kind_of n j Numbered w h m one = cc
 
-free_kind : (j : Leaf) (w : Text) → (leaf_number j == 14) ≡ false → is_free (Plain j w) ≡ false
+free_kind : (j : Leaf) (w : Text) → (leaf_number j == 14) ≡ false → is_free_text (Plain j w) ≡ false
 free_kind leaf.Text w h = cc
 free_kind j w h = refl
 
@@ -46,7 +46,7 @@ image_kind : (j : Leaf) (w : Text) → (leaf_number j == 13) ≡ false → is_im
 image_kind leaf.Image w h = cc
 image_kind j w h = refl
 
-tells_free : (g : Front) (u : Token) → not_free g ≡ true → fronts g (u ∷ []) ≡ true → is_free u ≡ false
+tells_free : (g : Front) (u : Token) → not_free g ≡ true → fronts g (u ∷ []) ≡ true → is_free_text u ≡ false
 tells_free g (Coded c) h m = refl
 tells_free g (Lined x y) h m = refl
 tells_free g (Plain j w) h m = free_kind j w (kind_of 14 j g w (not_true _ (and_right (is_one g) _ h)) m (and_left _ _ h))
@@ -59,14 +59,14 @@ tells_image g (Plain j w) h m = image_kind j w (kind_of 13 j g w (not_true _ (an
 code_mark : (a b c : ℕ) → (nat_lt b 65 || nat_lt 90 a) ≡ true → is_among a b c ≡ true → not (is_letter c) ≡ true
 code_mark a b c h m = grind (arith, nat_tests)
 
-hand_relation : (j : Leaf) (w : Text) → j ≡ leaf.Relation → is_mark (Plain j w) ≡ true
-hand_relation j w h = ap (λ (l : Leaf). is_mark (Plain l w)) h
+hand_relation : (j : Leaf) (w : Text) → j ≡ leaf.Relation → is_word_or_sign (Plain j w) ≡ true
+hand_relation j w h = ap (λ (l : Leaf). is_word_or_sign (Plain l w)) h
 
-hand_mark : (k j : Leaf) (w : Text) → marks (Hand k) ≡ true → j ≡ k → is_mark (Plain j w) ≡ true
+hand_mark : (k j : Leaf) (w : Text) → marks (Hand k) ≡ true → j ≡ k → is_word_or_sign (Plain j w) ≡ true
 hand_mark leaf.Relation j w h same = hand_relation j w same
 hand_mark k j w h same = cc
 
-tells_mark : (g : Front) (u : Token) → marks g ≡ true → fronts g (u ∷ []) ≡ true → is_mark u ≡ true
+tells_mark : (g : Front) (u : Token) → marks g ≡ true → fronts g (u ∷ []) ≡ true → is_word_or_sign u ≡ true
 tells_mark (Spanned a b) (Coded c) h m = code_mark a b c h m
 tells_mark (Spanned a b) (Plain j w) h m = cc
 tells_mark (Spanned a b) (Lined x y) h m = cc
@@ -104,7 +104,7 @@ dollar_by a b c false is h m = refl
 dollar_by a b c true is h m =
     let high : nat_lt b 128 ≡ false = grind (arith, nat_tests) in
     let again : c - 128 + 128 ≡ c = grind (arith, nat_tests) in
-    no_dollar_at texts (c - 128) a b 128 (high_apart (nat_lt b 128) _ h high) (ap (is_among a b) again ∙ m)
+    no_dollar_at all_words (c - 128) a b 128 (high_apart (nat_lt b 128) _ h high) (ap (is_among a b) again ∙ m)
 
 dollar_code : (a b c : ℕ) → no_dollar (Spanned a b) ≡ true → is_among a b c ≡ true → is_dollar (Coded c) ≡ false
 dollar_code a b c h m = dollar_by a b c (is_word c) refl h m
@@ -156,12 +156,12 @@ tells_lettered c Numbered (Lined x y) h m = refl
 tells_lettered c Any u h m = cc
 tells_lettered c None u h m = cc
 
-data_kind : (j : Leaf) (w : Text) → (leaf_number j == 13) ≡ false → (leaf_number j == 15) ≡ false → (is_mark (Plain j w) || is_image (Plain j w)) ≡ false
+data_kind : (j : Leaf) (w : Text) → (leaf_number j == 13) ≡ false → (leaf_number j == 15) ≡ false → (is_word_or_sign (Plain j w) || is_image (Plain j w)) ≡ false
 data_kind leaf.Image w h k = cc
 data_kind leaf.Relation w h k = cc
 data_kind j w h k = refl
 
-tells_data : (g : Front) (u : Token) → is_data g ≡ true → fronts g (u ∷ []) ≡ true → (is_mark u || is_image u) ≡ false
+tells_data : (g : Front) (u : Token) → is_data g ≡ true → fronts g (u ∷ []) ≡ true → (is_word_or_sign u || is_image u) ≡ false
 tells_data (Hand k) (Plain j w) h m =
     let none = not_true (is_kind 13 (Hand k) || is_kind 15 (Hand k)) h in
     data_kind j w (kind_of 13 j (Hand k) w (or_left _ _ none) m refl) (kind_of 15 j (Hand k) w (or_right (is_kind 13 (Hand k)) _ none) m refl)
@@ -188,7 +188,7 @@ code_by false false false false nf lt da im free lett bad img h a b c e = turn_t
 tells_code : (c : ℕ) (g : Front) (u : Token) → beside_code c g ≡ true → fronts g (u ∷ []) ≡ true → may_stand (Coded c) u ≡ true
 tells_code c g u h m =
     code_by (c == word.REM || c == 37) (is_letter c) (c == word.DATA) (c == word.PRINT) (not_free g) (lettered c g) (is_data g) (not_image g)
-    (is_free u) (is_lettered c u) (is_mark u || is_image u) (is_image u) h
+    (is_free_text u) (is_lettered c u) (is_word_or_sign u || is_image u) (is_image u) h
     (λ k. tells_free g u k m) (λ k. tells_lettered c g u k m) (λ k. tells_data g u k m) (λ k. tells_image g u k m)
 
 calm_remark : (a b c : ℕ) → is_calm a b ≡ true → is_among a b c ≡ true → (c == word.REM || c == 37) ≡ false
@@ -211,9 +211,9 @@ calm_by false false true p free lett bad img a b c e f = cc
 calm_by false false false true free lett bad img a b c e f = cc
 calm_by false false false false free lett bad img a b c e f = turn_true free true f refl
 
-calm_stands : (a b c : ℕ) (u : Token) → is_calm a b ≡ true → is_among a b c ≡ true → is_free u ≡ false → may_stand (Coded c) u ≡ true
+calm_stands : (a b c : ℕ) (u : Token) → is_calm a b ≡ true → is_among a b c ≡ true → is_free_text u ≡ false → may_stand (Coded c) u ≡ true
 calm_stands a b c u h m f =
-    calm_by (c == word.REM || c == 37) (is_letter c) (c == word.DATA) (c == word.PRINT) (is_free u) (is_lettered c u) (is_mark u || is_image u) (is_image u)
+    calm_by (c == word.REM || c == 37) (is_letter c) (c == word.DATA) (c == word.PRINT) (is_free_text u) (is_lettered c u) (is_word_or_sign u || is_image u) (is_image u)
     (calm_remark a b c h m) (calm_letter a b c h m) (calm_data a b c h m) (calm_print a b c h m) f
 
 literal_kind : (j : Leaf) (w : Text) → j ≡ leaf.Literal → is_literal (Plain j w) ≡ true
@@ -235,13 +235,13 @@ tells_literal None u h m = cc
 tells_leaf : (k : Leaf) (w : Text) (g : Front) (u : Token) → beside_leaf k g ≡ true → fronts g (u ∷ []) ≡ true → may_stand (Plain k w) u ≡ true
 tells_leaf leaf.Number w g u h m = tells_mark g u h m
 tells_leaf leaf.SignedNumber w g u h m = tells_mark g u h m
-tells_leaf leaf.Name w g u h m = both (is_mark u) _ (tells_mark g u (and_left _ _ h) m) (turn_not _ (tells_dollar g u (and_right (marks g) _ h) m))
-tells_leaf leaf.LocalName w g u h m = both (is_mark u) _ (tells_mark g u (and_left _ _ h) m) (turn_not _ (tells_dollar g u (and_right (marks g) _ h) m))
+tells_leaf leaf.Name w g u h m = both (is_word_or_sign u) _ (tells_mark g u (and_left _ _ h) m) (turn_not _ (tells_dollar g u (and_right (marks g) _ h) m))
+tells_leaf leaf.LocalName w g u h m = both (is_word_or_sign u) _ (tells_mark g u (and_left _ _ h) m) (turn_not _ (tells_dollar g u (and_right (marks g) _ h) m))
 tells_leaf leaf.FunctionName w g u h m = tells_mark g u h m
 tells_leaf leaf.Slot w g u h m = tells_mark g u h m
 tells_leaf leaf.Small w g u h m = elim (or_cases (marks g) (is_kind 6 g) h) [
   | inl e ↦ or_one _ _ (tells_mark g u e m)
-  | inr e ↦ or_other (is_mark u) _ (tells_literal g u e m)
+  | inr e ↦ or_other (is_word_or_sign u) _ (tells_literal g u e m)
 ]
 tells_leaf leaf.Relation w g u h m =
     let rest = and_right (unrelated g) _ h in
@@ -285,9 +285,9 @@ good_span : (a b c : ℕ) → (nat_le word.REM a && nat_le b word.LAST) ≡ true
 good_span a b c h m = grind (arith, nat_tests)
 
 good_code : (a b c : ℕ) → good_front (Spanned a b) ≡ true → is_among a b c ≡ true → good_token (Coded c) ≡ true
-good_code a b c h m = elim (or_cases (nat_le word.REM a && nat_le b word.LAST) (a == b && is_in a signs) h) [
+good_code a b c h m = elim (or_cases (nat_le word.REM a && nat_le b word.LAST) (a == b && is_in a plain_signs) h) [
   | inl e ↦ or_one _ _ (good_span a b c e m)
-  | inr e ↦ or_other (is_among word.REM word.LAST c) _ (ap (λ (n : ℕ). is_in n signs) (single a b c (and_left _ _ e) m) ∙ and_right (a == b) _ e)
+  | inr e ↦ or_other (is_among word.REM word.LAST c) _ (ap (λ (n : ℕ). is_in n plain_signs) (single a b c (and_left _ _ e) m) ∙ and_right (a == b) _ e)
 ]
 
 front_good : (g : Front) (u : Token) (us : List Token) → good_front g ≡ true → fronts g (u ∷ us) ≡ true → good_token u ≡ true
@@ -313,27 +313,27 @@ all_good : (t : Token) (ts : List Token) → good_token t ≡ true → Chain the
 all_good t [] h c = (h, tt)
 all_good t (u ∷ us) h c = (h, all_good u us c.0 c.1)
 
--- free text stands behind a remark alone
-unfree_mark : (u : Token) → is_mark u ≡ true → is_free u ≡ false
+-- free text stands after a remark alone
+unfree_mark : (u : Token) → is_word_or_sign u ≡ true → is_free_text u ≡ false
 unfree_mark (Coded c) h = refl
 unfree_mark (Plain leaf.Text w) h = cc
 unfree_mark (Plain k w) h = refl
 unfree_mark (Lined x y) h = refl
 
-unfree_literal : (u : Token) → is_literal u ≡ true → is_free u ≡ false
+unfree_literal : (u : Token) → is_literal u ≡ true → is_free_text u ≡ false
 unfree_literal (Coded c) h = refl
 unfree_literal (Plain leaf.Text w) h = cc
 unfree_literal (Plain k w) h = refl
 unfree_literal (Lined x y) h = refl
 
-unfree_leaf : (k : Leaf) (u : Token) → may_follow_leaf k u ≡ true → is_free u ≡ false
+unfree_leaf : (k : Leaf) (u : Token) → may_follow_leaf k u ≡ true → is_free_text u ≡ false
 unfree_leaf leaf.Number u h = unfree_mark u h
 unfree_leaf leaf.SignedNumber u h = unfree_mark u h
 unfree_leaf leaf.Name u h = unfree_mark u (and_left _ _ h)
 unfree_leaf leaf.LocalName u h = unfree_mark u (and_left _ _ h)
 unfree_leaf leaf.FunctionName u h = unfree_mark u h
 unfree_leaf leaf.Slot u h = unfree_mark u h
-unfree_leaf leaf.Small u h = elim (or_cases (is_mark u) (is_literal u) h) [
+unfree_leaf leaf.Small u h = elim (or_cases (is_word_or_sign u) (is_literal u) h) [
   | inl e ↦ unfree_mark u e
   | inr e ↦ unfree_literal u e
 ]
@@ -345,8 +345,8 @@ unfree_by : (r free : Bool) (x : Bool) → r ≡ false → (if r then free else 
 unfree_by true free x h k = cc
 unfree_by false free x h k = not_true _ (and_left _ _ k)
 
-unfree : (t u : Token) → is_remark t ≡ false → may_follow t u ≡ true → is_free u ≡ false
-unfree (Coded c) u r h = unfree_by (c == word.REM || c == 37) (is_free u) _ r h
+unfree : (t u : Token) → is_remark t ≡ false → may_follow t u ≡ true → is_free_text u ≡ false
+unfree (Coded c) u r h = unfree_by (c == word.REM || c == 37) (is_free_text u) _ r h
 unfree (Plain k w) u r h = unfree_leaf k u h
 unfree (Lined x y) u r h = unfree_mark u h
 
@@ -355,9 +355,9 @@ stands_follow true f m a b h = cc
 stands_follow false true m a b h = cc
 stands_follow false false m a b h = h
 
-remark_free : (t u : Token) → is_remark t ≡ true → is_free u ≡ true → may_follow t u ≡ true
-remark_free (Coded c) u r h = ap (λ (b : Bool). if b then is_free u else (not (is_free u) && (if is_letter c then is_lettered c u
-    else (if c == word.DATA then not (is_mark u || is_image u) else (if c == word.PRINT then not (is_image u) else true))))) r ∙ h
+remark_free : (t u : Token) → is_remark t ≡ true → is_free_text u ≡ true → may_follow t u ≡ true
+remark_free (Coded c) u r h = ap (λ (b : Bool). if b then is_free_text u else (not (is_free_text u) && (if is_letter c then is_lettered c u
+    else (if c == word.DATA then not (is_word_or_sign u || is_image u) else (if c == word.PRINT then not (is_image u) else true))))) r ∙ h
 remark_free (Plain k w) u r h = cc
 remark_free (Lined x y) u r h = cc
 
@@ -365,17 +365,17 @@ after_remark : (t u : Token) (us : List Token) → is_remark t ≡ true → is_r
 after_remark t u [] r h = (remark_free t u r h, tt)
 after_remark t u (v ∷ us) r h = cc
 
-opens_unfree : (t : Token) → opens_statement t ≡ true → is_free t ≡ false
+opens_unfree : (t : Token) → opens_statement t ≡ true → is_free_text t ≡ false
 opens_unfree (Coded c) h = refl
 opens_unfree (Plain leaf.Name w) h = refl
 opens_unfree (Plain leaf.AlphaName w) h = refl
 opens_unfree t h = cc
 
-side_by_side : (t : Token) (ts : List Token) → is_free t ≡ false → Chain may_stand (t ∷ ts) → RemarksEnd (t ∷ ts) → Neighbours (t ∷ ts)
+side_by_side : (t : Token) (ts : List Token) → is_free_text t ≡ false → Chain may_stand (t ∷ ts) → RemarksEnd (t ∷ ts) → Neighbours (t ∷ ts)
 side_by_side t [] f c r = tt
 side_by_side t (u ∷ us) f c r = elim (either_way (is_remark t)) [
   | inl e ↦ after_remark t u us e (r.0 e)
-  | inr e ↦ (let m = stands_follow (is_remark t) (is_free t) (may_follow t u) e f c.0 in (m, side_by_side u us (unfree t u e m) c.1 r.1))
+  | inr e ↦ (let m = stands_follow (is_remark t) (is_free_text t) (may_follow t u) e f c.0 in (m, side_by_side u us (unfree t u e m) c.1 r.1))
 ]
 
 -- the tokens of a line's tree are good, and may stand side by side

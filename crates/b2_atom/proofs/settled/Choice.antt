@@ -7,7 +7,7 @@ use Rattle.b2_atom.specs.Tokens.{Token}
 use Rattle.b2_atom.specs.Tokens.Token.{Coded, Plain, Lined}
 use Rattle.b2_atom.specs.Tree.{Trees, tokens}
 use Rattle.b2_atom.specs.Tree.Trees.{Done, Put, In}
-use Rattle.b2_atom.specs.Grammar.{row_items, starts, class_at, is_among, row_at, allowed, from, statement_row, begins_let, variable_begins, read_leaf, plain, spelled_behind, barred_following, barred_line, barred_place}
+use Rattle.b2_atom.specs.Grammar.{row_items, starts, class_at, is_among, row_at, allowed, from, statement_row, begins_let, variable_begins, read_leaf, plain, spelled_after, barred_following, barred_line, barred_place}
 use Rattle.b2_atom.specs.Spelling.{Begins, Spells, Named, has_class, is_whole}
 use Rattle.b2_atom.specs.Fitting.{Fits, FitsPut, FitsIn, FitsBranch, giving, may_end, leaf_number, is_statement, is_allowed}
 use Rattle.b2_atom.specs.Table.{forms}
@@ -65,7 +65,7 @@ respelled o (Coded c) ts s rest h b =
       opens = λ k. ap (λ (u : Text). first u == 40) e ∙ b.opens k;
       closes = λ k. ap (λ (u : Text). first u == 41) e ∙ b.closes k;
       lets = λ k. ap (begins_let o) e ∙ b.lets k;
-      begs = λ k. ap (λ (u : Text). (ahead o u).0 == 66 && spelled_behind o (ahead o u).1 69 71) e ∙ b.begs k;
+      begs = λ k. ap (λ (u : Text). (ahead o u).0 == 66 && spelled_after o (ahead o u).1 69 71) e ∙ b.begs k;
       name = tt;
       hex = tt;
       line = tt;
@@ -79,7 +79,7 @@ respelled o (Plain leaf.Name w) ts s rest h b =
       opens = λ k. ap (λ (u : Text). first u == 40) e ∙ b.opens k;
       closes = λ k. ap (λ (u : Text). first u == 41) e ∙ b.closes k;
       lets = λ k. ap (begins_let o) e ∙ b.lets k;
-      begs = λ k. ap (λ (u : Text). (ahead o u).0 == 66 && spelled_behind o (ahead o u).1 69 71) e ∙ b.begs k;
+      begs = λ k. ap (λ (u : Text). (ahead o u).0 == 66 && spelled_after o (ahead o u).1 69 71) e ∙ b.begs k;
       name = (let P : Text → Type 0 = λ u. Named o false (length w) w u rest in subst P (sym e) b.name);
       hex = tt;
       line = tt;
@@ -93,7 +93,7 @@ respelled o (Plain leaf.AlphaName w) ts s rest h b =
       opens = λ k. ap (λ (u : Text). first u == 40) e ∙ b.opens k;
       closes = λ k. ap (λ (u : Text). first u == 41) e ∙ b.closes k;
       lets = λ k. ap (begins_let o) e ∙ b.lets k;
-      begs = λ k. ap (λ (u : Text). (ahead o u).0 == 66 && spelled_behind o (ahead o u).1 69 71) e ∙ b.begs k;
+      begs = λ k. ap (λ (u : Text). (ahead o u).0 == 66 && spelled_after o (ahead o u).1 69 71) e ∙ b.begs k;
       name = (let P : Text → Type 0 = λ u. Named o true (length w - 1) w u rest in subst P (sym e) b.name);
       hex = tt;
       line = tt;

@@ -1,6 +1,6 @@
 -- The table is settled, as computed: each choice of a row by what stands next.
 use Rattle.std.proofs.Common.{◌≡◌, zero, suc, ◌==◌, ◌&&◌, not, ◌/◌, Bool, true, false, if◌then◌else◌, List, [], ◌∷◌, get_or, refl, sym, subst, inl, inr, ℕ}
-use Rattle.b2_atom.specs.Grammar.{row_items, rows_of, place_of}
+use Rattle.b2_atom.specs.Grammar.{row_items, rows_of, row_place}
 use Rattle.b2_atom.specs.Table.{rows_0, rows_1, rows_2, rows_3, forms}
 use Rattle.b2_atom.specs.Fitting.{is_statement, is_allowed}
 use Rattle.b2_atom.specs.declared.rows.TheConstants as row
@@ -45,7 +45,7 @@ all_rows k = either_rows (k == 0) rows_0 _ settled_0 (either_rows (k == 1) rows_
 
 pub row_settled : (n : ℕ) → settled_row (row_items n) ≡ true
 unfolding row_items
-row_settled n = one_of_rows (rows_of (n / 64)) (place_of n) (all_rows (n / 64))
+row_settled n = one_of_rows (rows_of (n / 64)) (row_place n) (all_rows (n / 64))
 
 -- a test that holds for the row of each form holds for that of each statement
 pub one_of_statements : (test : ℕ → Bool) (o : Origin) (p : Place) (m : ℕ) (fs : List Form) → every_statement test fs ≡ true → is_statement fs o p m ≡ true → test m ≡ true
@@ -120,11 +120,11 @@ all_paired p a b c d k = either_paired p (k == 0) rows_0 _ a (either_paired p (k
 
 pub row_paired : (n : ℕ) → paired (λ m. true) beside (row_items n) ≡ true
 unfolding row_items
-row_paired n = one_paired beside (rows_of (n / 64)) (place_of n) (all_paired beside paired_0 paired_1 paired_2 paired_3 (n / 64))
+row_paired n = one_paired beside (rows_of (n / 64)) (row_place n) (all_paired beside paired_0 paired_1 paired_2 paired_3 (n / 64))
 
 pub row_good : (n : ℕ) → paired (λ m. true) before_good (row_items n) ≡ true
 unfolding row_items
-row_good n = one_paired before_good (rows_of (n / 64)) (place_of n) (all_paired before_good good_0 good_1 good_2 good_3 (n / 64))
+row_good n = one_paired before_good (rows_of (n / 64)) (row_place n) (all_paired before_good good_0 good_1 good_2 good_3 (n / 64))
 
 -- a line begins with good tokens, as statements do
 pub line_heads : (covered statement_heads (of row.LINE).heads && (every good_front (of row.LINE).heads && not (of row.LINE).empty)) ≡ true

@@ -160,7 +160,7 @@ inside_closed o s h = and_none _ _ h
 front_here : (u : Token) (us : List Token) → fronts (front_of u) (u ∷ []) ≡ true → fronts (front_of u) (u ∷ us) ≡ true
 front_here u us h = front_last (front_of u) u us ∙ h
 
--- what stands behind a `(` begins no alpha operand
+-- what follows a `(` begins no alpha operand
 not_inside : (o : Origin) (u : Token) (us : List Token) (s : Text) → number_token u ≡ true → Spells o (u ∷ us) s → alpha_begins o (skipped o s) ≡ false
 not_inside o u us s h spelled = says_alpha o (front_of u) false (u ∷ us) s (and_left _ _ (and_right (fronts (front_of u) (u ∷ [])) _ h)) (front_here u us (and_left _ _ h)) spelled
 
@@ -309,7 +309,7 @@ no_array_code o d (x ∷ us) more r chain spelled = elim (either_way (d == 40)) 
   | inr e ↦ and_none _ _ (spelled.1.0.opens refl ∙ e)
 ]
 
--- behind a name of an expression no `(` `)` stands
+-- after a name of an expression no `(` `)` stands
 no_array : (o : Origin) (t : Token) (xs more : List Token) (r : Text) → named_token t ≡ true → Chain opens_well ((t ∷ xs) ++ (Coded 41 ∷ [])) → ((s : Text) → Spells o more s → starts o (start.Code 40) s ≡ false)
     → Spells o (xs ++ more) r → OpenAndClosed o r ≡ false
 no_array o t [] more r named chain refused spelled = and_none _ _ (not_open_there o r (code_seen o r (refused r spelled)))

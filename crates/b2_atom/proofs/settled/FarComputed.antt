@@ -1,7 +1,7 @@
 -- The choices that look further than the next token, as computed.
 use Rattle.std.proofs.Common.{◌≡◌, ℕ, zero, suc, ◌+◌, ◌&&◌, ◌||◌, not, ◌/◌, ◌%◌, ◌<◌, ◌≤◌, nat_lt, Bool, true, false, List, [], ◌∷◌, get_or, refl, sym, ap, ◌∙◌, arith, inl, inr, ◌⊎◌}
 use Rattle.std.proofs.lemmas.Bool.Decides.{nat_tests}
-use Rattle.b2_atom.specs.Grammar.{row_items, rows_of, place_of}
+use Rattle.b2_atom.specs.Grammar.{row_items, rows_of, row_place}
 use Rattle.b2_atom.specs.Table.{rows_0, rows_1}
 use Rattle.b2_atom.specs.declared.rows.TheConstants as row
 use Rattle.b2_atom.specs.declared.forms.Item.{Item}
@@ -33,10 +33,10 @@ low_row n h = grind (arith, nat_tests)
 split : (n : ℕ) → (n < 64) ⊎ (64 ≤ n)
 split n = grind arith
 
-place_low : (n : ℕ) → n < 128 → place_of n ≡ n % 64
+place_low : (n : ℕ) → n < 128 → row_place n ≡ n % 64
 place_low n h = let low : nat_lt n 192 ≡ true = grind (arith, nat_tests) in rw low refl
 
-parts_of : (n : ℕ) → n < 128 → ((n / 64 ≡ 0) × (0 + place_of n ≡ n)) ⊎ ((n / 64 ≡ 1) × (64 + place_of n ≡ n))
+parts_of : (n : ℕ) → n < 128 → ((n / 64 ≡ 0) × (0 + row_place n ≡ n)) ⊎ ((n / 64 ≡ 1) × (64 + row_place n ≡ n))
 parts_of n h = elim (split n) [
   | inl g ↦ (let a : n / 64 ≡ 0 = omega (arith, g) in let b : 0 + n % 64 ≡ n = omega (arith, g) in inl (a, ap (λ (k : ℕ). 0 + k) (place_low n h) ∙ b))
   | inr g ↦ (let a : n / 64 ≡ 1 = omega (arith, g, h) in let b : 64 + n % 64 ≡ n = omega (arith, g, h) in inr (a, ap (λ (k : ℕ). 64 + k) (place_low n h) ∙ b))
@@ -45,8 +45,8 @@ parts_of n h = elim (split n) [
 pub row_within : (n : ℕ) → is_expression n ≡ true → paired is_expression before_number (row_items n) ≡ true
 unfolding row_items
 row_within n h = elim (parts_of n (low_row n h)) [
-  | inl g ↦ ap (λ (k : ℕ). paired is_expression before_number (get_or (rows_of k) (place_of n) [])) g.0 ∙ one_within is_expression before_number rows_0 0 (place_of n) within_0 (ap is_expression g.1 ∙ h)
-  | inr g ↦ ap (λ (k : ℕ). paired is_expression before_number (get_or (rows_of k) (place_of n) [])) g.0 ∙ one_within is_expression before_number rows_1 64 (place_of n) within_1 (ap is_expression g.1 ∙ h)
+  | inl g ↦ ap (λ (k : ℕ). paired is_expression before_number (get_or (rows_of k) (row_place n) [])) g.0 ∙ one_within is_expression before_number rows_0 0 (row_place n) within_0 (ap is_expression g.1 ∙ h)
+  | inr g ↦ ap (λ (k : ℕ). paired is_expression before_number (get_or (rows_of k) (row_place n) [])) g.0 ∙ one_within is_expression before_number rows_1 64 (row_place n) within_1 (ap is_expression g.1 ∙ h)
 ]
 
 pub operand_ends : ends_open row.OPERAND_OF_ANY_KIND ≡ true

@@ -2,7 +2,7 @@
 use Rattle.std.proofs.Common.{◌≡◌, ℕ, ◌-◌, ◌==◌, ◌&&◌, ◌||◌, nat_le, nat_lt, Bool, true, false, if◌then◌else◌, List, [], ◌∷◌, ◌++◌, length, get_or, refl, sym, ap, subst, ◌∙◌, arith, inl, inr}
 use Rattle.std.proofs.lemmas.Bool.Decides.{nat_tests}
 use Rattle.b2_base.specs.Lexical.{capped_value, digits_width, first, is_digit, is_hex_digit, is_letter}
-use Rattle.b2_atom.specs.Words.{Text, skipped, ahead, kept, word_at}
+use Rattle.b2_atom.specs.Words.{Text, skipped, ahead, kept_byte, word_at}
 use Rattle.b2_atom.specs.Tokens.{Token}
 use Rattle.b2_atom.specs.Tokens.Token.{Coded, Plain, Lined}
 use Rattle.b2_atom.specs.Leaves.{is_alpha_name, name_width, numeric_name_width, mantissa_width, number_width, local_name_width, function_name_width, literal_width, slot_width, small_width, signed_number_width, relation_width, alpha_name_width}
@@ -404,11 +404,11 @@ and_none : (a b : Bool) → a ≡ false → (a && b) ≡ false
 and_none true b h = cc
 and_none false b h = refl
 
-shows_hex : (o : Origin) (k j : Leaf) (w s : Text) → j ≡ k → is_hex_front (Hand k) ≡ true → ShowsHex o (Plain j w) s → is_hex_digit (kept o (first (skipped o s))) ≡ true
+shows_hex : (o : Origin) (k j : Leaf) (w s : Text) → j ≡ k → is_hex_front (Hand k) ≡ true → ShowsHex o (Plain j w) s → is_hex_digit (kept_byte o (first (skipped o s))) ≡ true
 shows_hex o leaf.HexPair j w s same h shown = let P : Leaf → Type 0 = λ l. ShowsHex o (Plain l w) s in subst P same shown
 shows_hex o k j w s same h shown = cc
 
-says_hex : (o : Origin) (f : Front) (ts : List Token) (s : Text) → is_hex_front f ≡ true → fronts f ts ≡ true → Spells o ts s → is_hex_digit (kept o (first (skipped o s))) ≡ true
+says_hex : (o : Origin) (f : Front) (ts : List Token) (s : Text) → is_hex_front f ≡ true → fronts f ts ≡ true → Spells o ts s → is_hex_digit (kept_byte o (first (skipped o s))) ≡ true
 says_hex o (Hand k) (Plain j w ∷ ts) s n h spelled = shows_hex o k j w s (same_leaf k j (and_left _ _ h)) n spelled.1.0.hex
 says_hex o Any ts s n h spelled = cc
 says_hex o None ts s n h spelled = cc
@@ -418,7 +418,7 @@ says_hex o (Hand k) (Coded c ∷ ts) s n h spelled = cc
 says_hex o (Hand k) (Lined a b ∷ ts) s n h spelled = cc
 says_hex o Numbered ts s n h spelled = cc
 
-close_kept : (o : Origin) → is_hex_digit (kept o 41) ≡ false
+close_kept : (o : Origin) → is_hex_digit (kept_byte o 41) ≡ false
 close_kept origin.Program = refl
 close_kept origin.Immediate = refl
 close_kept origin.Atoms = refl
@@ -426,9 +426,9 @@ close_kept origin.Atoms = refl
 close_code : (a b c : ℕ) → (a == 41 && b == 41) ≡ true → is_among a b c ≡ true → (c == 41) ≡ true
 close_code a b c h k = grind (arith, nat_tests)
 
-no_hex : (o : Origin) (f : Front) (ts : List Token) (s : Text) → surely start.Hex f false ≡ true → fronts f ts ≡ true → Spells o ts s → is_hex_digit (kept o (first (skipped o s))) ≡ false
+no_hex : (o : Origin) (f : Front) (ts : List Token) (s : Text) → surely start.Hex f false ≡ true → fronts f ts ≡ true → Spells o ts s → is_hex_digit (kept_byte o (first (skipped o s))) ≡ false
 no_hex o (Spanned a b) (Coded c ∷ ts) s h k spelled =
-    ap (λ (n : ℕ). is_hex_digit (kept o n)) (equal (first (skipped o s)) 41 (spelled.1.0.closes refl ∙ close_code a b c h k)) ∙ close_kept o
+    ap (λ (n : ℕ). is_hex_digit (kept_byte o n)) (equal (first (skipped o s)) 41 (spelled.1.0.closes refl ∙ close_code a b c h k)) ∙ close_kept o
 no_hex o (Spanned a b) [] s h k spelled = cc
 no_hex o (Spanned a b) (Plain j w ∷ ts) s h k spelled = cc
 no_hex o (Spanned a b) (Lined x y ∷ ts) s h k spelled = cc

@@ -1,12 +1,12 @@
 -- What may stand at the front of a row's trees, and whether it settles each choice of the table.
 use Rattle.std.proofs.Common.{ℕ, zero, suc, ◌==◌, ◌&&◌, ◌||◌, not, nat_le, nat_lt, Bool, true, false, if◌then◌else◌, List, [], ◌∷◌, ◌++◌}
-use Rattle.b2_base.specs.Lexical.{first, is_letter}
-use Rattle.b2_atom.specs.Words.{Text, texts}
+use Rattle.b2_base.specs.Lexical.{first, is_decimal, is_letter}
+use Rattle.b2_atom.specs.Words.{Text, all_words}
 use Rattle.b2_atom.specs.Tokens.{Token}
 use Rattle.b2_atom.specs.Tokens.Token.{Coded, Plain, Lined}
 use Rattle.b2_atom.specs.Table.{forms}
-use Rattle.b2_atom.specs.Grammar.{row_items, is_among, is_decimal}
-use Rattle.b2_atom.specs.Spelling.{is_whole, is_in, signs, is_classed}
+use Rattle.b2_atom.specs.Grammar.{row_items, is_among}
+use Rattle.b2_atom.specs.Spelling.{is_whole, is_in, plain_signs, is_classed}
 use Rattle.b2_atom.specs.Fitting.{leaf_number}
 use Rattle.b2_atom.specs.declared.words.TheConstants as word
 use Rattle.b2_atom.specs.declared.rows.TheConstants as row
@@ -151,8 +151,8 @@ surely start.CommaOrAlpha f false = alpha f false && sure ((44, 44) ∷ []) f fa
 surely start.PrintItem f true = numeric f true || (alpha f true || sure ((word.TAB_OPEN, word.HEXOF_OPEN) ∷ []) f true)
 surely start.PrintItem f false = numeric f false && (alpha f false && sure ((word.TAB_OPEN, word.HEXOF_OPEN) ∷ []) f false)
 
--- what must not be asked of what stands behind some items: a question of them; a statement ends only at `:` and the end;
--- or nothing may stand behind them
+-- what must not be asked of what follows some items: a question of them; a statement ends only at `:` and the end;
+-- or nothing may stand after them
 pub data Tail : Type 0 where
   Asked : Start → Tail
   Closed : Tail
@@ -171,7 +171,7 @@ refused_by (Asked s) f = surely s f false
 refused_by Closed f = is_none f || is_colon f
 refused_by Over f = is_none f
 
--- what is known of a row: the fronts of its trees, whether they may be empty, what must not stand behind them, how
+-- what is known of a row: the fronts of its trees, whether they may be empty, what must not stand after them, how
 -- deep their parts go, whether no statement stands in them, and what may be
 -- their last token
 pub record Known : Type 0 where
@@ -200,7 +200,7 @@ every_sign (c ∷ cs) = Spanned c c ∷ every_sign cs
 -- the last tokens that statements may have: all but DATA
 abbrev pub statement_ends : List Front
 statement_ends =
-    every_sign signs
+    every_sign plain_signs
     ++ (Spanned word.REM word.REM ∷ Spanned word.DIM word.READ ∷ Spanned word.RESTORE word.SELECT ∷ Spanned word.PRINT word.PRINT ∷ Spanned word.PRINTUSING word.LAST
     ∷ Hand leaf.Number ∷ Hand leaf.SignedNumber ∷ Hand leaf.Name ∷ Hand leaf.AlphaName ∷ Hand leaf.LocalName ∷ Hand leaf.FunctionName ∷ Hand leaf.Literal ∷ Hand leaf.HexPair
     ∷ Hand leaf.HexDigit ∷ Hand leaf.Address ∷ Hand leaf.Slot ∷ Hand leaf.Small ∷ Hand leaf.Image ∷ Hand leaf.Text ∷ Hand leaf.Relation ∷ Numbered ∷ [])
@@ -421,7 +421,7 @@ abbrev pub paired : Within → Beside → List Item → Bool
 paired r p [] = true
 paired r p (i ∷ is) = paired_item r p i is && (besides p (of_item of i).ends (next_heads is) && paired r p is)
 
--- whether a token of one front may stand before one of another, as far as the fronts tell; behind a remark anything may
+-- whether a token of one front may stand before one of another, as far as the fronts tell; after a remark anything may
 abbrev pub marks : Front → Bool
 marks (Spanned a b) = nat_lt b 65 || nat_lt 90 a
 marks (Hand leaf.Relation) = true
@@ -448,7 +448,7 @@ dollar_spans [] c = []
 dollar_spans (w ∷ ws) c = when (first w == 36) ((c, c) ∷ []) ++ dollar_spans ws (suc c)
 
 abbrev pub no_dollar : Front → Bool
-no_dollar (Spanned a b) = nat_lt b 128 || apart (dollar_spans texts 128) (a, b)
+no_dollar (Spanned a b) = nat_lt b 128 || apart (dollar_spans all_words 128) (a, b)
 no_dollar f = is_one f
 
 abbrev pub unrelated : Front → Bool
@@ -482,7 +482,7 @@ beside_leaf leaf.Relation g = unrelated g && (not_free g && not_image g)
 beside_leaf leaf.Text g = true
 beside_leaf k g = not_free g
 
--- words behind which any token but free text may stand
+-- words after which any token but free text may stand
 abbrev pub is_calm : ℕ → ℕ → Bool
 is_calm a b = nat_le 128 a && apart ((word.REM, word.REM) ∷ (word.DATA, word.DATA) ∷ (word.PRINT, word.PRINT) ∷ []) (a, b)
 
@@ -494,7 +494,7 @@ beside f g = false
 
 -- whether each token of a front is a good token
 abbrev pub good_front : Front → Bool
-good_front (Spanned a b) = (nat_le word.REM a && nat_le b word.LAST) || (a == b && is_in a signs)
+good_front (Spanned a b) = (nat_le word.REM a && nat_le b word.LAST) || (a == b && is_in a plain_signs)
 good_front (Hand k) = true
 good_front Numbered = true
 good_front f = false
@@ -517,7 +517,7 @@ abbrev pub not_close : Front → Bool
 not_close (Spanned a b) = nat_lt b 41 || nat_lt 41 a
 not_close f = true
 
--- what stands behind a `(` of an expression: no `)`, and nothing of an alpha expression
+-- what follows a `(` of an expression: no `)`, and nothing of an alpha expression
 abbrev pub number_front : Front → Bool
 number_front f = alpha f false && (class_front f && not_close f)
 

@@ -1,4 +1,4 @@
--- What trees that fit begin with, and what is refused by what stands behind items.
+-- What trees that fit begin with, and what is refused by what follows items.
 use Rattle.std.proofs.Common.{◌≡◌, ℕ, zero, suc, ◌<◌, ◌≤◌, ◌==◌, ◌&&◌, ◌||◌, not, nat_le, Bool, true, false, List, [], ◌∷◌, ◌++◌, length, refl, sym, ap, subst, ◌∙◌, arith, append_assoc, inl, inr, ◌⊎◌}
 use Rattle.std.proofs.lemmas.Bool.Decides.{nat_tests}
 use Rattle.b2_atom.specs.Words.{Text}
@@ -270,7 +270,7 @@ no_tokens o room Done h = refl
 no_tokens o room (Put t ts) h = absurd h
 no_tokens o room (In m inner ts) h = absurd h
 
--- a branch of an item, and what stands behind it
+-- a branch of an item, and what follows it
 abbrev Leads : Trees → Type 0
 Leads t = (o : Origin) (room : ℕ) (is : List Item) → Fits o room is t → (more : List Token) → Led (of_items of is) (tokens t) more
 

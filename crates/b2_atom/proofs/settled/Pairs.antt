@@ -24,7 +24,7 @@ use Rattle.b2_atom.proofs.settled.Heads.{known, Led, leads, led_known, token_lea
 abbrev pub TwoTokens : Type 0
 TwoTokens = Token → Token → Bool
 
--- each token and the one behind it
+-- each token and the one after it
 abbrev pub Before : TwoTokens → Token → List Token → Type 0
 Before q t [] = Unit {0}
 Before q t (u ∷ us) = q t u ≡ true
@@ -33,7 +33,7 @@ abbrev pub Chain : TwoTokens → List Token → Type 0
 Chain q [] = Unit {0}
 Chain q (t ∷ ts) = Before q t ts × Chain q ts
 
--- what may stand behind the last token of some items
+-- what may follow the last token of some items
 abbrev pub Follows : TwoTokens → List Front → List Token → Type 0
 Follows q fs more = (t : Token) → some (λ (f : Front). fronts f (t ∷ [])) fs ≡ true → Before q t more
 

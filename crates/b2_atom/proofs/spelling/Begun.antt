@@ -3,12 +3,12 @@ use Rattle.std.proofs.Common.{◌≡◌, ℕ, suc, ◌+◌, ◌-◌, ◌<◌, Bo
 use Rattle.std.proofs.Math.Seq.{drop-append_seam}
 use Rattle.std.proofs.lemmas.Bool.Decides.{nat_tests}
 use Rattle.b2_base.specs.Lexical.{capped_value, digits_width, first, is_digit, is_hex_digit, is_letter, upper}
-use Rattle.b2_atom.specs.Words.{Text, kept, ahead, skipped, begins_with}
+use Rattle.b2_atom.specs.Words.{Text, kept_byte, ahead, skipped, begins_with}
 use Rattle.b2_atom.specs.Tokens.{Token}
 use Rattle.b2_atom.specs.Tokens.Token.{Coded, Plain, Lined}
 use Rattle.b2_atom.specs.Tree.{one}
 use Rattle.b2_atom.specs.Leaves.{name_width, is_alpha_name, leaf_width}
-use Rattle.b2_atom.specs.Grammar.{read_leaf, plain, line_number_at, begins_let, spelled_behind, is_line}
+use Rattle.b2_atom.specs.Grammar.{read_leaf, plain, line_number_at, begins_let, spelled_after, is_line}
 use Rattle.b2_atom.specs.Spelling.{Begins, is_classed, is_beg, here, Named, ShowsName, ShowsHex}
 use Rattle.b2_atom.specs.declared.words.Origin.{Origin}
 use Rattle.b2_atom.specs.declared.words.Origin.TheVariants.{Program, Immediate, Atoms}
@@ -24,7 +24,7 @@ use Rattle.b2_atom.proofs.typed.LeafFronts.{front, leaf_front, width_yes}
 use Rattle.b2_atom.proofs.typed.CleanLeaves.{whole_upper}
 use Rattle.b2_atom.proofs.typed.Widths.{get_first}
 
--- a byte that is no letter, or one behind it that is none
+-- a byte that is no letter, or one after it that is none
 abbrev pub Quiet : ℕ → Text → Type 0
 Quiet a z = (is_letter (upper a) ≡ false) ⊎ (is_letter (upper (first z)) ≡ false)
 
@@ -69,7 +69,7 @@ name_quiet a (b ∷ []) y (inr h) stop = inl (global_quiet a h.0)
 name_quiet a (b ∷ c ∷ []) y h stop = inl (global_quiet a h.0)
 name_quiet a (b ∷ c ∷ d ∷ w) y h stop = absurd h
 
--- digits behind `#`
+-- digits after `#`
 some_digit : (d : Bool) (n : ℕ) → nat_lt 0 (if d then n else 0) ≡ true → d ≡ true
 some_digit true n h = refl
 some_digit false n h = cc
@@ -205,7 +205,7 @@ pub quiet_let : (o : Origin) (a : ℕ) (z : Text) → Quiet a z → begins_let o
 quiet_let o a z q = let_none o (a ∷ z) (quiet_keyword (76 ∷ 69 ∷ 84 ∷ []) a z refl q)
 
 -- no letter E, in either case
-pub no_e : (o : Origin) (n : ℕ) → is_letter (upper n) ≡ false → (kept o n == 69) ≡ false
+pub no_e : (o : Origin) (n : ℕ) → is_letter (upper n) ≡ false → (kept_byte o n == 69) ≡ false
 no_e Program n h = grind (arith, nat_tests)
 no_e Immediate n h = grind (arith, nat_tests)
 no_e Atoms n h = grind (arith, nat_tests)
@@ -213,11 +213,11 @@ no_e Atoms n h = grind (arith, nat_tests)
 no_b : (a : ℕ) → is_letter (upper a) ≡ false → (a == 66) ≡ false
 no_b a h = grind (arith, nat_tests)
 
-pub quiet_beg : (o : Origin) (a : ℕ) (z : Text) → Quiet a z → (a == 66 && spelled_behind o z 69 71) ≡ false
-quiet_beg o a z (inl h) = ap (λ (b : Bool). b && spelled_behind o z 69 71) (no_b a h)
+pub quiet_beg : (o : Origin) (a : ℕ) (z : Text) → Quiet a z → (a == 66 && spelled_after o z 69 71) ≡ false
+quiet_beg o a z (inl h) = ap (λ (b : Bool). b && spelled_after o z 69 71) (no_b a h)
 quiet_beg o a z (inr h) =
-    let e : (kept o (get_or z 0 0) == 69) ≡ false = ap (λ (n : ℕ). kept o n == 69) (get_first z) ∙ no_e o (first z) h in
-    and_false (a == 66) (spelled_behind o z 69 71) (ap (λ (b : Bool). b && kept o (get_or z 1 0) == 71) e)
+    let e : (kept_byte o (get_or z 0 0) == 69) ≡ false = ap (λ (n : ℕ). kept_byte o n == 69) (get_first z) ∙ no_e o (first z) h in
+    and_false (a == 66) (spelled_after o z 69 71) (ap (λ (b : Bool). b && kept_byte o (get_or z 1 0) == 71) e)
 
 -- what the reader shows of a whole leaf
 read_whole : (o : Origin) (k : Leaf) (code a : ℕ) (w s y : Text) → skipped o s ≡ a ∷ (w ++ y) → leaf_width Atoms k (a ∷ w) ≡ suc (length w) → ends k (first y) ≡ true
@@ -254,8 +254,8 @@ alpha_named o a w s y e h =
       behind = behind_by (skipped o s) y a w e;
     }
 
-hex_shown : (o : Origin) (a : ℕ) (w s y : Text) → skipped o s ≡ a ∷ (w ++ y) → is_hex_digit a ≡ true → is_hex_digit (kept o (first (skipped o s))) ≡ true
-hex_shown o a w s y e h = ap (λ (t : Text). is_hex_digit (kept o (first t))) e ∙ ap is_hex_digit (hex_kept o a h) ∙ h
+hex_shown : (o : Origin) (a : ℕ) (w s y : Text) → skipped o s ≡ a ∷ (w ++ y) → is_hex_digit a ≡ true → is_hex_digit (kept_byte o (first (skipped o s))) ≡ true
+hex_shown o a w s y e h = ap (λ (t : Text). is_hex_digit (kept_byte o (first t))) e ∙ ap is_hex_digit (hex_kept o a h) ∙ h
 
 reads_by_kind : (o : Origin) (k : Leaf) (a : ℕ) (w s y : Text) → skipped o s ≡ a ∷ (w ++ y) → leaf_width Atoms k (a ∷ w) ≡ suc (length w) → ends k (first y) ≡ true
     → (code : ℕ) → read_leaf o k code s ≡ one (Plain k (a ∷ w)) y
@@ -333,7 +333,7 @@ hex_by_kind o leaf.Image a w s y e h = tt
 hex_by_kind o leaf.Text a w s y e h = tt
 hex_by_kind o leaf.Relation a w s y e h = tt
 
--- a whole leaf, and behind it what doesn't run on
+-- a whole leaf, and after it what doesn't run on
 pub begins_plain : (o : Origin) (k : Leaf) (a : ℕ) (w : Text) (behind : List Token) (s y : Text) → skipped o s ≡ a ∷ (w ++ y)
     → leaf_width Atoms k (a ∷ w) ≡ suc (length w) → ends k (first y) ≡ true → Begins o (Plain k (a ∷ w)) behind s y
 begins_plain o k a w behind s y e h stop = record {
@@ -343,8 +343,8 @@ begins_plain o k a w behind s y e h stop = record {
   opens = λ c. ap (λ (t : Text). first t == 40) e ∙ front_opens k a c (leaf_front k a w h);
   closes = λ c. ap (λ (t : Text). first t == 41) e ∙ front_closes k a c (leaf_front k a w h);
   lets = λ c. ap (begins_let o) e ∙ quiet_let o a (w ++ y) (leaf_quiet k a w y c h stop);
-  begs = λ c. ap (λ (t : Text). (ahead o t).0 == 66 && spelled_behind o (ahead o t).1 69 71) e
-      ∙ ap (λ (p : ℕ × Text). p.0 == 66 && spelled_behind o p.1 69 71) (leaf_ahead o k a w y c h stop)
+  begs = λ c. ap (λ (t : Text). (ahead o t).0 == 66 && spelled_after o (ahead o t).1 69 71) e
+      ∙ ap (λ (p : ℕ × Text). p.0 == 66 && spelled_after o p.1 69 71) (leaf_ahead o k a w y c h stop)
       ∙ quiet_beg o a (w ++ y) (leaf_quiet k a w y c h stop);
   name = name_by_kind o k a w s y e h stop;
   hex = hex_by_kind o k a w s y e h;
@@ -353,7 +353,7 @@ begins_plain o k a w behind s y e h stop = record {
 
 -- a word or a sign
 pub begins_coded : (o : Origin) (c : ℕ) (behind : List Token) (s u y : Text) → skipped o s ≡ u → ahead o u ≡ (c, y) → length y < length u
-    → (first u == 40) ≡ (c == 40) → (first u == 41) ≡ (c == 41) → begins_let o u ≡ false → (c == 66 && spelled_behind o y 69 71) ≡ is_beg (Coded c) behind
+    → (first u == 40) ≡ (c == 40) → (first u == 41) ≡ (c == 41) → begins_let o u ≡ false → (c == 66 && spelled_after o y 69 71) ≡ is_beg (Coded c) behind
     → Begins o (Coded c) behind s y
 begins_coded o c behind s u y e is less open_ close_ lets begs = record {
   reads = ap (ahead o) e ∙ is;
@@ -362,8 +362,8 @@ begins_coded o c behind s u y e is less open_ close_ lets begs = record {
   opens = λ h. ap (λ (t : Text). first t == 40) e ∙ open_;
   closes = λ h. ap (λ (t : Text). first t == 41) e ∙ close_;
   lets = λ h. ap (begins_let o) e ∙ lets;
-  begs = λ h. ap (λ (t : Text). (ahead o t).0 == 66 && spelled_behind o (ahead o t).1 69 71) e
-      ∙ ap (λ (p : ℕ × Text). p.0 == 66 && spelled_behind o p.1 69 71) is ∙ begs;
+  begs = λ h. ap (λ (t : Text). (ahead o t).0 == 66 && spelled_after o (ahead o t).1 69 71) e
+      ∙ ap (λ (p : ℕ × Text). p.0 == 66 && spelled_after o p.1 69 71) is ∙ begs;
   name = tt;
   hex = tt;
   line = tt;

@@ -1,12 +1,12 @@
--- The canonical source: what stands behind a token there, and that it makes no other word of DATA and PRINT.
+-- The canonical source: what follows a token there, and that it makes no other word of DATA and PRINT.
 use Rattle.std.proofs.Common.{◌≡◌, ℕ, ◌+◌, ◌-◌, ◌<◌, Bool, true, false, not, ◌==◌, ◌||◌, ◌&&◌, List, [], ◌∷◌, ◌++◌, length, get_or, refl, sym, ap, subst, ◌∙◌, arith}
 use Rattle.std.proofs.lemmas.Bool.Decides.{nat_tests}
-use Rattle.b2_base.specs.Lexical.{first, is_digit, is_letter, upper}
-use Rattle.b2_atom.specs.Words.{Text, texts, word_text}
-use Rattle.b2_atom.specs.Tokens.{Token, listed, spaced, spelled, is_apart, is_word, ends_wordy, begins_wordy, is_operand, last, closes}
+use Rattle.b2_base.specs.Lexical.{first, is_decimal, is_digit, is_letter, upper}
+use Rattle.b2_atom.specs.Words.{Text, all_words, word_text}
+use Rattle.b2_atom.specs.Tokens.{Token, listed, maybe_spaced, spelled, is_apart, is_word, ends_wordy, begins_wordy, is_operand, last, closes}
 use Rattle.b2_atom.specs.Tokens.Token.{Coded, Plain, Lined}
-use Rattle.b2_atom.specs.Grammar.{is_among, is_decimal}
-use Rattle.b2_atom.specs.Spelling.{good_token, signs, is_in, is_dollar}
+use Rattle.b2_atom.specs.Grammar.{is_among}
+use Rattle.b2_atom.specs.Spelling.{good_token, plain_signs, is_in, is_dollar}
 use Rattle.b2_atom.specs.declared.words.TheConstants as word
 use Rattle.b2_atom.specs.declared.words.Origin.{Origin}
 use Rattle.b2_atom.proofs.Booleans.{and_left, and_right, false_true, not_true}
@@ -22,17 +22,17 @@ pub good_code : (c : ℕ) → is_among word.REM word.LAST c ≡ true → is_code
 good_code c h = grind (arith, nat_tests)
 
 -- a fact of each word and its code
-pub at_code : (p : ℕ → Text → Bool) → below (λ i. p (i + 128) (get_or texts i [])) word.CODED ≡ true → (c : ℕ) → is_code c ≡ true → p c (word_text c) ≡ true
+pub at_code : (p : ℕ → Text → Bool) → below (λ i. p (i + 128) (get_or all_words i [])) word.CODED ≡ true → (c : ℕ) → is_code c ≡ true → p c (word_text c) ≡ true
 at_code p all c h =
-    ap (λ (d : ℕ). p d (get_or texts (c - 128) [])) (sym (code_again c h))
-    ∙ at_below (λ i. p (i + 128) (get_or texts i [])) word.CODED (c - 128) all (code_less c h)
+    ap (λ (d : ℕ). p d (get_or all_words (c - 128) [])) (sym (code_again c h))
+    ∙ at_below (λ i. p (i + 128) (get_or all_words i [])) word.CODED (c - 128) all (code_less c h)
 
 -- what a word begins with, where it doesn't begin with a letter
 abbrev word_front : ℕ → Text → Bool
 word_front c w = not (first w == 32) && (not (first w == 40) && (not (first w == 41) && (ends_relation (first w)
     && ((begins_wordy (Coded c) || quiet (first w)) && (not (first w == 36) || is_dollar (Coded c))))))
 
-words_front : below (λ i. word_front (i + 128) (get_or texts i [])) word.CODED ≡ true
+words_front : below (λ i. word_front (i + 128) (get_or all_words i [])) word.CODED ≡ true
 words_front = refl
 
 front_of : (c : ℕ) → is_code c ≡ true → word_front c (word_text c) ≡ true
@@ -128,22 +128,22 @@ no_code c h k = grind (arith, nat_tests)
 abbrev small_sign : ℕ → Bool
 small_sign c = not (is_word c)
 
-signs_small : every small_sign signs ≡ true
+signs_small : every small_sign plain_signs ≡ true
 signs_small = refl
 
-by_word : (c : ℕ) (b : Bool) → is_in c signs ≡ b → (is_among word.REM word.LAST c || is_in c signs) ≡ true → is_word c ≡ true → is_among word.REM word.LAST c ≡ true
-by_word c true is h k = let clash = among_signs small_sign c signs signs_small is in absurd (false_true (sym (ap not k) ∙ clash))
+by_word : (c : ℕ) (b : Bool) → is_in c plain_signs ≡ b → (is_among word.REM word.LAST c || is_in c plain_signs) ≡ true → is_word c ≡ true → is_among word.REM word.LAST c ≡ true
+by_word c true is h k = let clash = among_signs small_sign c plain_signs signs_small is in absurd (false_true (sym (ap not k) ∙ clash))
 by_word c false is h k = or_none (is_among word.REM word.LAST c) (ap (λ (b : Bool). is_among word.REM word.LAST c || b) (sym is) ∙ h)
 
 -- a good word has a code of the table, and a good sign is one of the signs
 pub good_word : (c : ℕ) → good_token (Coded c) ≡ true → is_word c ≡ true → is_code c ≡ true
-good_word c h k = good_code c (by_word c (is_in c signs) refl h k)
+good_word c h k = good_code c (by_word c (is_in c plain_signs) refl h k)
 
-by_sign : (c : ℕ) (b : Bool) → is_among word.REM word.LAST c ≡ b → (b || is_in c signs) ≡ true → is_word c ≡ false → is_in c signs ≡ true
+by_sign : (c : ℕ) (b : Bool) → is_among word.REM word.LAST c ≡ b → (b || is_in c plain_signs) ≡ true → is_word c ≡ false → is_in c plain_signs ≡ true
 by_sign c true is h k = absurd (no_code c k is)
 by_sign c false is h k = h
 
-pub good_sign : (c : ℕ) → good_token (Coded c) ≡ true → is_word c ≡ false → is_in c signs ≡ true
+pub good_sign : (c : ℕ) → good_token (Coded c) ≡ true → is_word c ≡ false → is_in c plain_signs ≡ true
 good_sign c h k = by_sign c (is_among word.REM word.LAST c) refl h k
 
 coded_by : (operand : Bool) (c : ℕ) (x : Text) (b : Bool) → is_word c ≡ b → good_token (Coded c) ≡ true → (operand && begins_wordy (Coded c)) ≡ false
@@ -163,7 +163,7 @@ pub or_first : (a b : Bool) → (a || b) ≡ false → a ≡ false
 or_first true b h = cc
 or_first false b h = refl
 
-apart_by : (wordy operand : Bool) (u : Token) (x : Text) (b : Bool) → is_apart wordy operand u ≡ b → good_token u ≡ true → FirstOf operand u (first (spaced b (spelled u) ++ x))
+apart_by : (wordy operand : Bool) (u : Token) (x : Text) (b : Bool) → is_apart wordy operand u ≡ b → good_token u ≡ true → FirstOf operand u (first (maybe_spaced b (spelled u) ++ x))
 apart_by wordy operand u x true is g = blank_first operand u
 apart_by wordy operand (Coded c) x false is g = coded_by operand c x (is_word c) refl g (or_second (wordy && not (closes (Coded c))) (operand && begins_wordy (Coded c)) is)
 apart_by wordy operand (Plain k w) x false is g = good_first operand k w x g
@@ -173,7 +173,7 @@ apart_by wordy operand (Lined high low) x false is g =
 pub listed_first : (wordy operand : Bool) (u : Token) (us : List Token) → good_token u ≡ true → FirstOf operand u (first (listed wordy operand (u ∷ us)))
 listed_first wordy operand u us g = apart_by wordy operand u (listed (ends_wordy u) (is_operand u) us) (is_apart wordy operand u) refl g
 
--- what is listed behind a token
+-- what is listed after a token
 unfoldable pub source_behind : Token → List Token → Text
 source_behind t ts = listed (ends_wordy t) (is_operand t) ts
 
@@ -189,7 +189,7 @@ letters_apart c d hc hd =
 letters_listed : (c d : ℕ) (us : List Token) → is_letter c ≡ true → is_letter d ≡ true → source_behind (Coded c) (Coded d ∷ us) ≡ d ∷ source_behind (Coded d) us
 unfolding source_behind
 letters_listed c d us hc hd =
-    ap (λ (b : Bool). spaced b (spelled (Coded d)) ++ listed (ends_wordy (Coded d)) (is_operand (Coded d)) us) (letters_apart c d (letter_word c hc) (letter_word d hd))
+    ap (λ (b : Bool). maybe_spaced b (spelled (Coded d)) ++ listed (ends_wordy (Coded d)) (is_operand (Coded d)) us) (letters_apart c d (letter_word c hc) (letter_word d hd))
     ∙ ap (λ (t : Text). t ++ listed (ends_wordy (Coded d)) (is_operand (Coded d)) us) (spelled_sign d (letter_word d hd))
 
 pub source_shown : (o : Origin) → Showing o source_behind

@@ -1,4 +1,4 @@
--- Tokens that may stand side by side don't run on into each other: what the first byte behind a token is.
+-- Tokens that may stand side by side don't run on into each other: what the first byte after a token is.
 use Rattle.std.proofs.Common.{◌≡◌, ℕ, suc, Bool, true, false, not, ◌==◌, ◌||◌, ◌&&◌, List, [], ◌∷◌, length, refl, ap, ◌∙◌, arith, nat_lt}
 use Rattle.std.proofs.lemmas.Bool.Decides.{nat_tests}
 use Rattle.b2_base.specs.Lexical.{first, is_digit, is_letter, upper}
@@ -7,7 +7,7 @@ use Rattle.b2_atom.specs.Tokens.{Token, is_operand, is_operand_leaf}
 use Rattle.b2_atom.specs.Tokens.Token.{Coded, Plain, Lined}
 use Rattle.b2_atom.specs.Leaves.{leaf_width}
 use Rattle.b2_atom.specs.Grammar.{is_among}
-use Rattle.b2_atom.specs.Spelling.{is_whole, signs, is_in, good_token, is_mark, is_literal, is_free, is_image, is_dollar, is_unrelated, may_follow_leaf, Neighbours, AllGood}
+use Rattle.b2_atom.specs.Spelling.{is_whole, plain_signs, is_in, good_token, is_word_or_sign, is_literal, is_free_text, is_image, is_dollar, is_unrelated, may_follow_leaf, Neighbours, AllGood}
 use Rattle.b2_atom.specs.declared.words.TheConstants as word
 use Rattle.b2_atom.specs.declared.words.Origin.{Origin}
 use Rattle.b2_atom.specs.declared.words.Origin.TheVariants.{Atoms}
@@ -47,11 +47,11 @@ abbrev pub is_lined : Token → Bool
 is_lined (Lined high low) = true
 is_lined t = false
 
--- what the first byte is where a token stands, behind an operand or another token
+-- what the first byte is where a token stands, after an operand or another token
 pub record FirstOf (operand : Bool) (u : Token) (n : ℕ) : Type 0 where
-  pub mark : (is_mark u || is_literal u) ≡ true → operand ≡ true → quiet n ≡ true
-  pub dollar : is_mark u ≡ true → is_dollar u ≡ false → (n == 36) ≡ false
-  pub unrelated : (is_unrelated u && not (is_free u || is_image u)) ≡ true → ends_relation n ≡ true
+  pub mark : (is_word_or_sign u || is_literal u) ≡ true → operand ≡ true → quiet n ≡ true
+  pub dollar : is_word_or_sign u ≡ true → is_dollar u ≡ false → (n == 36) ≡ false
+  pub unrelated : (is_unrelated u && not (is_free_text u || is_image u)) ≡ true → ends_relation n ≡ true
   pub lined : is_lined u ≡ true → is_letter (upper n) ≡ false
 
 -- one of the bytes that stand for themselves
@@ -67,7 +67,7 @@ among_signs p d (c ∷ cs) h k = by_sign p d c cs (d == c) refl h k (among_signs
 abbrev pub sign_byte : ℕ → Bool
 sign_byte n = is_letter n || (quiet n && (not (n == 36) && (n == 61 || ends_relation n)))
 
-signs_are : every sign_byte signs ≡ true
+signs_are : every sign_byte plain_signs ≡ true
 signs_are = refl
 
 code_quiet : (n : ℕ) → is_among word.REM word.LAST n ≡ true → sign_byte n ≡ true
@@ -78,7 +78,7 @@ or_true p true b f g h = f refl
 or_true p false b f g h = g h
 
 pub coded_byte : (d : ℕ) → good_token (Coded d) ≡ true → sign_byte d ≡ true
-coded_byte d h = or_true (sign_byte d) (is_among word.REM word.LAST d) (is_in d signs) (code_quiet d) (among_signs sign_byte d signs signs_are) h
+coded_byte d h = or_true (sign_byte d) (is_among word.REM word.LAST d) (is_in d plain_signs) (code_quiet d) (among_signs sign_byte d plain_signs signs_are) h
 
 byte_quiet : (n : ℕ) → sign_byte n ≡ true → not (is_letter n) ≡ true → quiet n ≡ true
 byte_quiet n h k = grind (arith, nat_tests)
@@ -102,7 +102,7 @@ coded_first operand d h = record {
 }
 
 -- the first byte of what is typed by hand
-front_unrelated : (k : Leaf) (a : ℕ) (w : Text) → front k a ≡ true → (is_unrelated (Plain k w) && not (is_free (Plain k w) || is_image (Plain k w))) ≡ true → ends_relation a ≡ true
+front_unrelated : (k : Leaf) (a : ℕ) (w : Text) → front k a ≡ true → (is_unrelated (Plain k w) && not (is_free_text (Plain k w) || is_image (Plain k w))) ≡ true → ends_relation a ≡ true
 front_unrelated leaf.Number a w h m = grind (arith, nat_tests)
 front_unrelated leaf.SignedNumber a w h m = grind (arith, nat_tests)
 front_unrelated leaf.Name a w h m = grind (arith, nat_tests)
@@ -120,12 +120,12 @@ front_unrelated leaf.Image a w h m = cc
 front_unrelated leaf.Text a w h m = cc
 front_unrelated leaf.Relation a w h m = cc
 
-literal_quiet : (k : Leaf) (a : ℕ) (w : Text) → front k a ≡ true → (is_mark (Plain k w) || is_literal (Plain k w)) ≡ true → quiet a ≡ true
+literal_quiet : (k : Leaf) (a : ℕ) (w : Text) → front k a ≡ true → (is_word_or_sign (Plain k w) || is_literal (Plain k w)) ≡ true → quiet a ≡ true
 literal_quiet leaf.Literal a w h m = grind (arith, nat_tests)
 literal_quiet leaf.Relation a w h m = grind (arith, nat_tests)
 literal_quiet k a w h m = cc
 
-no_dollar : (k : Leaf) (a : ℕ) (w : Text) → front k a ≡ true → is_mark (Plain k w) ≡ true → (a == 36) ≡ false
+no_dollar : (k : Leaf) (a : ℕ) (w : Text) → front k a ≡ true → is_word_or_sign (Plain k w) ≡ true → (a == 36) ≡ false
 no_dollar leaf.Relation a w h m = grind (arith, nat_tests)
 no_dollar k a w h m = cc
 
@@ -160,19 +160,19 @@ quiet_letter n h = grind (arith, nat_tests)
 or_first : (a b : Bool) → a ≡ true → (a || b) ≡ true
 or_first a b h = rw h refl
 
-name_ends : (u : Token) (n : ℕ) → (is_mark u && not (is_dollar u)) ≡ true → FirstOf true u n → ends leaf.Name n ≡ true
+name_ends : (u : Token) (n : ℕ) → (is_word_or_sign u && not (is_dollar u)) ≡ true → FirstOf true u n → ends leaf.Name n ≡ true
 name_ends u n m is =
-    let mark = and_left (is_mark u) (not (is_dollar u)) m in
-    quiet_name n (is.mark (or_first (is_mark u) (is_literal u) mark) refl) (is.dollar mark (not_true (is_dollar u) (and_right (is_mark u) (not (is_dollar u)) m)))
+    let mark = and_left (is_word_or_sign u) (not (is_dollar u)) m in
+    quiet_name n (is.mark (or_first (is_word_or_sign u) (is_literal u) mark) refl) (is.dollar mark (not_true (is_dollar u) (and_right (is_word_or_sign u) (not (is_dollar u)) m)))
 
 pub ends_next : (k : Leaf) (u : Token) (n : ℕ) → may_follow_leaf k u ≡ true → FirstOf (is_operand_leaf k) u n → ends k n ≡ true
-ends_next leaf.Number u n m is = quiet_number n (is.mark (or_first (is_mark u) (is_literal u) m) refl)
-ends_next leaf.SignedNumber u n m is = quiet_number n (is.mark (or_first (is_mark u) (is_literal u) m) refl)
+ends_next leaf.Number u n m is = quiet_number n (is.mark (or_first (is_word_or_sign u) (is_literal u) m) refl)
+ends_next leaf.SignedNumber u n m is = quiet_number n (is.mark (or_first (is_word_or_sign u) (is_literal u) m) refl)
 ends_next leaf.Name u n m is = name_ends u n m is
 ends_next leaf.LocalName u n m is = name_ends u n m is
-ends_next leaf.FunctionName u n m is = quiet_function n (is.mark (or_first (is_mark u) (is_literal u) m) refl)
+ends_next leaf.FunctionName u n m is = quiet_function n (is.mark (or_first (is_word_or_sign u) (is_literal u) m) refl)
 ends_next leaf.Small u n m is = turned (is_digit n) (quiet_digits n (is.mark m refl))
-ends_next leaf.Slot u n m is = turned (is_digit n) (quiet_digits n (is.mark (or_first (is_mark u) (is_literal u) m) refl))
+ends_next leaf.Slot u n m is = turned (is_digit n) (quiet_digits n (is.mark (or_first (is_word_or_sign u) (is_literal u) m) refl))
 ends_next leaf.Relation u n m is = is.unrelated m
 ends_next k u n m is = refl
 
@@ -187,7 +187,7 @@ ends_at_end leaf.Slot = refl
 ends_at_end leaf.Relation = refl
 ends_at_end k = refl
 
--- how tokens are shown behind a token, in a source or among atoms
+-- how tokens are shown after a token, in a source or among atoms
 pub record Showing (o : Origin) (shown : Token → List Token → Text) : Type 0 where
   pub empty : (t : Token) → shown t [] ≡ []
   pub first_is : (t u : Token) (us : List Token) → good_token u ≡ true → FirstOf (is_operand t) u (first (shown t (u ∷ us)))
@@ -202,4 +202,4 @@ pub line_ends : (o : Origin) (shown : Token → List Token → Text) → Showing
     → is_digit (first (shown (Lined high low) ts)) ≡ false
 line_ends o shown is high low [] g nb = ap (λ (t : Text). is_digit (first t)) (is.empty (Lined high low))
 line_ends o shown is high low (u ∷ us) g nb =
-    quiet_digits (first (shown (Lined high low) (u ∷ us))) ((is.first_is (Lined high low) u us g.0).mark (or_first (is_mark u) (is_literal u) nb.0) refl)
+    quiet_digits (first (shown (Lined high low) (u ∷ us))) ((is.first_is (Lined high low) u us g.0).mark (or_first (is_word_or_sign u) (is_literal u) nb.0) refl)

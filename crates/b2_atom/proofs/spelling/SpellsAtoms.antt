@@ -1,11 +1,11 @@
 -- The atoms of tokens spell them.
 use Rattle.std.proofs.Common.{◌≡◌, ℕ, Bool, true, false, if◌then◌else◌, ◌&&◌, List, [], ◌∷◌, ◌++◌, length, refl, sym, ap, subst, ◌∙◌, arith, nat_lt, append-nil, Err}
-use Rattle.b2_base.specs.Lexical.{all_printable, first}
+use Rattle.b2_base.specs.Lexical.{all_printable, first, is_decimal}
 use Rattle.b2_atom.specs.Words.{Text}
 use Rattle.b2_atom.specs.Tokens.{Token, is_operand}
 use Rattle.b2_atom.specs.Tokens.Token.{Coded, Plain, Lined}
 use Rattle.b2_atom.specs.Tree.{one}
-use Rattle.b2_atom.specs.Grammar.{read_leaf, is_decimal}
+use Rattle.b2_atom.specs.Grammar.{read_leaf}
 use Rattle.b2_atom.specs.Spelling.{Begins, Spells, AllGood, Neighbours, good_token, is_whole, atoms_of_tokens}
 use Rattle.b2_atom.specs.declared.words.Origin.{Origin}
 use Rattle.b2_atom.specs.declared.words.Origin.TheVariants.{Atoms}

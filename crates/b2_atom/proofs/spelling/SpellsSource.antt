@@ -2,14 +2,14 @@
 use Rattle.std.proofs.Common.{◌≡◌, ℕ, suc, ◌<◌, Bool, true, false, not, if◌then◌else◌, ◌==◌, ◌||◌, ◌&&◌, List, [], ◌∷◌, ◌++◌, length, refl, sym, ap, subst, ◌∙◌, arith, nat_lt, append-nil, length-append}
 use Rattle.std.specs.Prelude.{codes}
 use Rattle.std.proofs.lemmas.Bool.Decides.{nat_tests}
-use Rattle.b2_base.specs.Lexical.{all_printable, first, is_digit, is_hex_digit, is_letter, skip_blanks, upper}
+use Rattle.b2_base.specs.Lexical.{all_printable, first, is_decimal, is_digit, is_hex_digit, is_letter, skip_blanks, upper}
 use Rattle.b2_atom.specs.Words.{Text, ahead, skipped, word_text, begins_with, is_source, typed_ahead}
-use Rattle.b2_atom.specs.Tokens.{Token, listed, spaced, spelled, is_apart, is_word, ends_wordy, begins_wordy, is_operand, closes}
+use Rattle.b2_atom.specs.Tokens.{Token, listed, maybe_spaced, spelled, is_apart, is_word, ends_wordy, begins_wordy, is_operand, closes}
 use Rattle.b2_atom.specs.Tokens.Token.{Coded, Plain, Lined}
 use Rattle.b2_atom.specs.Tree.{one}
 use Rattle.b2_atom.specs.Leaves.{leaf_width}
-use Rattle.b2_atom.specs.Grammar.{is_decimal, is_line, line_number_at, typed_line_number}
-use Rattle.b2_atom.specs.Spelling.{Begins, Spells, good_token, is_whole, signs, is_in, is_mark, is_free, is_image, may_follow, may_follow_code, may_follow_leaf, AllGood, Neighbours, is_classed}
+use Rattle.b2_atom.specs.Grammar.{is_line, line_number_at, typed_line_number}
+use Rattle.b2_atom.specs.Spelling.{Begins, Spells, good_token, is_whole, plain_signs, is_in, is_word_or_sign, is_free_text, is_image, may_follow, may_follow_code, may_follow_leaf, AllGood, Neighbours, is_classed}
 use Rattle.b2_atom.specs.declared.words.TheConstants as word
 use Rattle.b2_atom.specs.declared.words.Origin.{Origin}
 use Rattle.b2_atom.specs.declared.words.Origin.TheVariants.{Program, Immediate, Atoms}
@@ -39,12 +39,12 @@ skip_blank Program s y = refl
 skip_blank Immediate s y = refl
 skip_blank Atoms s y = cc
 
-pub skip_spaced : (o : Origin) → is_source o ≡ true → (apart : Bool) (v y : Text) → (first v == 32) ≡ false → 0 < length v → skipped o (spaced apart v ++ y) ≡ v ++ y
+pub skip_spaced : (o : Origin) → is_source o ≡ true → (apart : Bool) (v y : Text) → (first v == 32) ≡ false → 0 < length v → skipped o (maybe_spaced apart v ++ y) ≡ v ++ y
 skip_spaced o s apart [] y h some = absurd (omega arith)
 skip_spaced o s true (a ∷ v) y h some = skip_blank o s (a ∷ (v ++ y)) ∙ skip_sure o s a (v ++ y) h
 skip_spaced o s false (a ∷ v) y h some = skip_sure o s a (v ++ y) h
 
--- what may stand behind a word that ends in a letter
+-- what may follow a word that ends in a letter
 abbrev closing : ℕ → Bool
 closing b = b == 58 || b == 44 || b == 59 || b == 41 || b == 61 || b == 47
 
@@ -67,7 +67,7 @@ closes_not : (b : Bool) → not b ≡ false → b ≡ true
 closes_not true h = refl
 closes_not false h = cc
 
-stops_by : (operand : Bool) (u : Token) (x : Text) (b : Bool) → is_apart true operand u ≡ b → lengthens (upper (first (spaced b (spelled u) ++ x))) ≡ false
+stops_by : (operand : Bool) (u : Token) (x : Text) (b : Bool) → is_apart true operand u ≡ b → lengthens (upper (first (maybe_spaced b (spelled u) ++ x))) ≡ false
 stops_by operand u x true is = refl
 stops_by operand u x false is =
     closing_stops (first (spelled u ++ x)) (closing_first u x (closes_not (closes u) (or_first (not (closes u)) (operand && begins_wordy u) is)))
@@ -78,7 +78,7 @@ stops_listed true operand [] = refl
 stops_listed true operand (u ∷ us) = stops_by operand u (listed (ends_wordy u) (is_operand u) us) (is_apart true operand u) refl
 
 -- tokens begin with no blank, but for free text
-signs_no_blank : every (λ c. not (c == 32)) signs ≡ true
+signs_no_blank : every (λ c. not (c == 32)) plain_signs ≡ true
 signs_no_blank = refl
 
 pub record Fronted (v : Text) : Type 0 where
@@ -92,7 +92,7 @@ coded_fronted : (c : ℕ) (b : Bool) → is_word c ≡ b → good_token (Coded c
 coded_fronted c true is g =
     subst Fronted (sym (spelled_word c is)) (record { blank = (word_fronts c (good_word c g is)).blank; some = word_some c (good_word c g is) })
 coded_fronted c false is g =
-    subst Fronted (sym (spelled_sign c is)) (record { blank = not_true (c == 32) (among_signs (λ c. not (c == 32)) c signs signs_no_blank (good_sign c g is)); some = omega arith })
+    subst Fronted (sym (spelled_sign c is)) (record { blank = not_true (c == 32) (among_signs (λ c. not (c == 32)) c plain_signs signs_no_blank (good_sign c g is)); some = omega arith })
 
 plain_fronted : (k : Leaf) (w : Text) → is_text k ≡ false → is_whole k w ≡ true → Fronted w
 plain_fronted k [] n h = absurd (not_empty k h)
@@ -104,18 +104,18 @@ shown_fronted w s = subst Fronted (sym s.is) (record { blank = digit_blank s.dig
 line_of : (high low : ℕ) → good_token (Lined high low) ≡ true → LineShown (spelled (Lined high low))
 line_of high low g = line_shown high low (and_left (is_decimal high) (is_decimal low) g) (and_right (is_decimal high) (is_decimal low) g)
 
-not_free_text : (k : Leaf) (w : Text) → is_free (Plain k w) ≡ false → is_text k ≡ false
+not_free_text : (k : Leaf) (w : Text) → is_free_text (Plain k w) ≡ false → is_text k ≡ false
 not_free_text leaf.Text w h = cc
 not_free_text k w h = refl
 
-pub token_fronted : (u : Token) → is_free u ≡ false → good_token u ≡ true → Fronted (spelled u)
+pub token_fronted : (u : Token) → is_free_text u ≡ false → good_token u ≡ true → Fronted (spelled u)
 token_fronted (Coded c) n g = coded_fronted c (is_word c) refl g
 token_fronted (Plain k w) n g = plain_fronted k w (not_free_text k w n) g
 token_fronted (Lined high low) n g = shown_fronted (spelled (Lined high low)) (line_of high low g)
 
 -- a word that isn't in the table: its first letter is no hexadecimal digit and no letter that stands for itself
 abbrev is_foreign : Text → Bool
-is_foreign v = is_keyword v && (not (is_hex_digit (first v)) && every (λ c. not (first v == upper c) || is_plain_sign c) signs)
+is_foreign v = is_keyword v && (not (is_hex_digit (first v)) && every (λ c. not (first v == upper c) || is_plain_sign c) plain_signs)
 
 hex_other : (v b : ℕ) → not (is_hex_digit v) ≡ true → is_hex_digit b ≡ true → (v == upper b) ≡ false
 hex_other v b h k = grind (arith, nat_tests)
@@ -132,7 +132,7 @@ foreign_sign v c x k h = sign_case v c x k (first v == upper c) refl h
 
 hex_leaf : (v : Text) (a : ℕ) (x : Text) → is_foreign v ≡ true → is_hex_digit a ≡ true → begins_with v (a ∷ x) ≡ false
 hex_leaf v a x f h =
-    let rest = and_right (is_keyword v) (not (is_hex_digit (first v)) && every (λ c. not (first v == upper c) || is_plain_sign c) signs) f in
+    let rest = and_right (is_keyword v) (not (is_hex_digit (first v)) && every (λ c. not (first v == upper c) || is_plain_sign c) plain_signs) f in
     not_at_other v a x (and_left (is_keyword v) _ f) (hex_other (first v) a (and_left (not (is_hex_digit (first v))) _ rest) h)
 
 classed_leaf : (v : Text) (k : Leaf) (a : ℕ) (w y : Text) → is_foreign v ≡ true → is_classed k ≡ true → leaf_width Atoms k (a ∷ w) ≡ suc (length w) → ends k (first y) ≡ true
@@ -148,7 +148,7 @@ kind_absent v leaf.Image a w y f n h stop = cc
 kind_absent v leaf.Text a w y f n h stop = cc
 kind_absent v k a w y f n h stop = classed_leaf v k a w y f refl h stop
 
-plain_absent : (v : Text) (k : Leaf) (w y : Text) → is_foreign v ≡ true → is_image (Plain k w) ≡ false → is_free (Plain k w) ≡ false → is_whole k w ≡ true → ends k (first y) ≡ true
+plain_absent : (v : Text) (k : Leaf) (w y : Text) → is_foreign v ≡ true → is_image (Plain k w) ≡ false → is_free_text (Plain k w) ≡ false → is_whole k w ≡ true → ends k (first y) ≡ true
     → begins_with v (w ++ y) ≡ false
 plain_absent v k [] y f n t h stop = absurd (not_empty k h)
 plain_absent v k (a ∷ w) y f n t h stop = kind_absent v k a w y f n (whole_width k a w (not_free_text k (a ∷ w) t) h) stop
@@ -161,11 +161,11 @@ line_absent v w y f s =
     let P : Text → Type 0 = λ t. begins_with v (t ++ y) ≡ false in
     subst P (sym s.is) (not_at_sign v (s.digit ∷ (s.rest ++ y)) (and_left (is_keyword v) _ f) (plain_letter s.digit (digit_plain s.digit s.good)))
 
-sign_absent : (v : Text) (c : ℕ) (y : Text) → is_foreign v ≡ true → is_in c signs ≡ true → begins_with v (c ∷ y) ≡ false
+sign_absent : (v : Text) (c : ℕ) (y : Text) → is_foreign v ≡ true → is_in c plain_signs ≡ true → begins_with v (c ∷ y) ≡ false
 sign_absent v c y f h =
-    let rest = and_right (is_keyword v) (not (is_hex_digit (first v)) && every (λ c. not (first v == upper c) || is_plain_sign c) signs) f in
+    let rest = and_right (is_keyword v) (not (is_hex_digit (first v)) && every (λ c. not (first v == upper c) || is_plain_sign c) plain_signs) f in
     foreign_sign v c y (and_left (is_keyword v) _ f)
-    (among_signs (λ c. not (first v == upper c) || is_plain_sign c) c signs (and_right (not (is_hex_digit (first v))) (every (λ c. not (first v == upper c) || is_plain_sign c) signs) rest) h)
+    (among_signs (λ c. not (first v == upper c) || is_plain_sign c) c plain_signs (and_right (not (is_hex_digit (first v))) (every (λ c. not (first v == upper c) || is_plain_sign c) plain_signs) rest) h)
 
 -- the code of a word, where it may be one
 coded_absent : (v : Text) (d c : ℕ) (y : Text) (b : Bool) → is_word c ≡ b → is_foreign v ≡ true → good_token (Coded c) ≡ true → (b ≡ true → (c == d) ≡ false)
@@ -176,13 +176,13 @@ coded_absent v d c y false is f g other all =
     ap (λ (t : Text). begins_with v (t ++ y)) (spelled_sign c is) ∙ sign_absent v c y f (good_sign c g is)
 
 -- no such word stands where a token does
-pub absent : (v : Text) (d : ℕ) (u : Token) (us : List Token) → is_foreign v ≡ true → below (no_word_but v d) word.CODED ≡ true → is_image u ≡ false → is_free u ≡ false
+pub absent : (v : Text) (d : ℕ) (u : Token) (us : List Token) → is_foreign v ≡ true → below (no_word_but v d) word.CODED ≡ true → is_image u ≡ false → is_free_text u ≡ false
     → ((c : ℕ) → u ≡ Coded c → is_word c ≡ true → (c == d) ≡ false) → AllGood (u ∷ us) → Neighbours (u ∷ us) → begins_with v (spelled u ++ source_behind u us) ≡ false
 absent v d (Coded c) us f all n t other g nb = coded_absent v d c (source_behind (Coded c) us) (is_word c) refl f g.0 (other c refl) all
 absent v d (Plain k w) us f all n t other g nb = plain_absent v k w (source_behind (Plain k w) us) f n t g.0 (leaf_ends Program source_behind (source_shown Program) k w us g.1 nb)
 absent v d (Lined high low) us f all n t other g nb = line_absent v (spelled (Lined high low)) (source_behind (Lined high low) us) f (line_of high low g.0)
 
--- DATA and PRINT make no other word with what is listed behind them
+-- DATA and PRINT make no other word with what is listed after them
 join_cases : (a b s l u : Bool) → (a ≡ true → s ≡ false) → (a ≡ true → l ≡ false) → (b ≡ true → u ≡ false) → (a && s || (a && l || b && u)) ≡ false
 join_cases true true s l u hs hl hu = rw (hs refl) (rw (hl refl) (hu refl))
 join_cases true false s l u hs hl hu = rw (hs refl) (rw (hl refl) refl)
@@ -195,20 +195,20 @@ no_mark_word e h k = grind (arith, nat_tests)
 word_not_zero : (e : ℕ) → is_word e ≡ true → (e == 0) ≡ false
 word_not_zero e h = grind (arith, nat_tests)
 
-behind_data : (c : ℕ) (u : Token) → (c == word.DATA) ≡ true → may_follow_code c u ≡ true → (not (is_free u) && not (is_mark u || is_image u)) ≡ true
+behind_data : (c : ℕ) (u : Token) → (c == word.DATA) ≡ true → may_follow_code c u ≡ true → (not (is_free_text u) && not (is_word_or_sign u || is_image u)) ≡ true
 behind_data c u is h = ap (λ (n : ℕ). may_follow_code n u) (sym (equal c word.DATA is)) ∙ h
 
-behind_print : (c : ℕ) (u : Token) → (c == word.PRINT) ≡ true → may_follow_code c u ≡ true → (not (is_free u) && not (is_image u)) ≡ true
+behind_print : (c : ℕ) (u : Token) → (c == word.PRINT) ≡ true → may_follow_code c u ≡ true → (not (is_free_text u) && not (is_image u)) ≡ true
 behind_print c u is h = ap (λ (n : ℕ). may_follow_code n u) (sym (equal c word.PRINT is)) ∙ h
 
--- a text behind a word: what is listed there begins with a token
-pub next_shown : (t u : Token) (us : List Token) → is_free u ≡ false → good_token u ≡ true → skip_blanks (source_behind t (u ∷ us)) ≡ spelled u ++ source_behind u us
+-- a text after a word: what is listed there begins with a token
+pub next_shown : (t u : Token) (us : List Token) → is_free_text u ≡ false → good_token u ≡ true → skip_blanks (source_behind t (u ∷ us)) ≡ spelled u ++ source_behind u us
 unfolding source_behind
 next_shown t u us n g =
     let f = token_fronted u n g in
     skip_spaced Program refl (is_apart (ends_wordy t) (is_operand t) u) (spelled u) (listed (ends_wordy u) (is_operand u) us) f.blank f.some
 
-absent_behind : (v : Text) (d : ℕ) (t u : Token) (us : List Token) → is_foreign v ≡ true → below (no_word_but v d) word.CODED ≡ true → is_image u ≡ false → is_free u ≡ false
+absent_behind : (v : Text) (d : ℕ) (t u : Token) (us : List Token) → is_foreign v ≡ true → below (no_word_but v d) word.CODED ≡ true → is_image u ≡ false → is_free_text u ≡ false
     → ((c : ℕ) → u ≡ Coded c → is_word c ≡ true → (c == d) ≡ false) → AllGood (u ∷ us) → Neighbours (u ∷ us) → begins_with v (skip_blanks (source_behind t (u ∷ us))) ≡ false
 absent_behind v d t u us f all n fr other g nb = ap (begins_with v) (next_shown t u us fr g.0) ∙ absent v d u us f all n fr other g nb
 
@@ -216,16 +216,16 @@ behind_data_absent : (v : Text) (d c : ℕ) (u : Token) (us : List Token) → is
     → (c == word.DATA) ≡ true → begins_with v (skip_blanks (source_behind (Coded c) (u ∷ us))) ≡ false
 behind_data_absent v d c u us f all g nb is =
     let m = behind_data c u is nb.0 in
-    let fr = not_true (is_free u) (and_left (not (is_free u)) _ m) in
-    let no_more = not_true (is_mark u || is_image u) (and_right (not (is_free u)) _ m) in
-    absent_behind v d (Coded c) u us f all (or_second (is_mark u) (is_image u) no_more) fr
-    (λ e same h. absurd (no_mark_word e (ap is_mark (sym same) ∙ or_first (is_mark u) (is_image u) no_more) h)) g nb.1
+    let fr = not_true (is_free_text u) (and_left (not (is_free_text u)) _ m) in
+    let no_more = not_true (is_word_or_sign u || is_image u) (and_right (not (is_free_text u)) _ m) in
+    absent_behind v d (Coded c) u us f all (or_second (is_word_or_sign u) (is_image u) no_more) fr
+    (λ e same h. absurd (no_mark_word e (ap is_word_or_sign (sym same) ∙ or_first (is_word_or_sign u) (is_image u) no_more) h)) g nb.1
 
 behind_print_absent : (v : Text) (c : ℕ) (u : Token) (us : List Token) → is_foreign v ≡ true → below (no_word_but v 0) word.CODED ≡ true → AllGood (u ∷ us) → Neighbours (Coded c ∷ u ∷ us)
     → (c == word.PRINT) ≡ true → begins_with v (skip_blanks (source_behind (Coded c) (u ∷ us))) ≡ false
 behind_print_absent v c u us f all g nb is =
     let m = behind_print c u is nb.0 in
-    absent_behind v 0 (Coded c) u us f all (not_true (is_image u) (and_right (not (is_free u)) (not (is_image u)) m)) (not_true (is_free u) (and_left (not (is_free u)) (not (is_image u)) m))
+    absent_behind v 0 (Coded c) u us f all (not_true (is_image u) (and_right (not (is_free_text u)) (not (is_image u)) m)) (not_true (is_free_text u) (and_left (not (is_free_text u)) (not (is_image u)) m))
     (λ e same h. word_not_zero e h) g nb.1
 
 joins_listed : (c : ℕ) (ts : List Token) → AllGood ts → Neighbours (Coded c ∷ ts) → joins c (source_behind (Coded c) ts) ≡ false
@@ -266,13 +266,13 @@ unfolding source_behind
 stops_behind c ts = stops_listed (ends_wordy (Coded c)) (is_operand (Coded c)) ts
 
 word_source : (o : Origin) → is_source o ≡ true → (apart : Bool) (c : ℕ) (ts : List Token) → is_word c ≡ true → good_token (Coded c) ≡ true → AllGood ts → Neighbours (Coded c ∷ ts)
-    → Begins o (Coded c) ts (spaced apart (spelled (Coded c)) ++ source_behind (Coded c) ts) (source_behind (Coded c) ts)
+    → Begins o (Coded c) ts (maybe_spaced apart (spelled (Coded c)) ++ source_behind (Coded c) ts) (source_behind (Coded c) ts)
 word_source o s apart c ts is g gs nb =
     let code = good_word c g is in
     let f = coded_fronted c true is g in
     let fronts = word_fronts c code in
     let some = word_some c code in
-    begins_coded o c ts (spaced apart (spelled (Coded c)) ++ source_behind (Coded c) ts) (word_text c ++ source_behind (Coded c) ts) (source_behind (Coded c) ts)
+    begins_coded o c ts (maybe_spaced apart (spelled (Coded c)) ++ source_behind (Coded c) ts) (word_text c ++ source_behind (Coded c) ts) (source_behind (Coded c) ts)
     (skip_spaced o s apart (spelled (Coded c)) (source_behind (Coded c) ts) f.blank f.some ∙ ap (λ (t : Text). t ++ source_behind (Coded c) ts) (spelled_word c is))
     (source_ahead o s (word_text c ++ source_behind (Coded c) ts) (c, source_behind (Coded c) ts) (typed_word c (source_behind (Coded c) ts) code (stops_behind c ts) (joins_listed c ts gs nb)))
     (longer (word_text c) (source_behind (Coded c) ts) some)
@@ -282,8 +282,8 @@ word_source o s apart c ts is g gs nb =
     (beg_shown o source_behind (source_shown o) c ts gs nb)
 
 -- signs and letters
-plain_signs : every (λ c. is_letter c || is_plain_sign c) signs ≡ true
-plain_signs = refl
+letters_or_plain : every (λ c. is_letter c || is_plain_sign c) plain_signs ≡ true
+letters_or_plain = refl
 
 sign_ahead : (o : Origin) (c : ℕ) (ts : List Token) (b : Bool) → is_letter c ≡ b → (b || is_plain_sign c) ≡ true → AllGood ts → Neighbours (Coded c ∷ ts)
     → ahead o (c ∷ source_behind (Coded c) ts) ≡ (c, source_behind (Coded c) ts)
@@ -291,29 +291,29 @@ sign_ahead o c ts true is h gs nb = letter_ahead o source_behind (source_shown o
 sign_ahead o c ts false is h gs nb = ahead_plain o c (source_behind (Coded c) ts) h
 
 sign_source : (o : Origin) → is_source o ≡ true → (apart : Bool) (c : ℕ) (ts : List Token) → is_word c ≡ false → good_token (Coded c) ≡ true → AllGood ts → Neighbours (Coded c ∷ ts)
-    → Begins o (Coded c) ts (spaced apart (spelled (Coded c)) ++ source_behind (Coded c) ts) (source_behind (Coded c) ts)
+    → Begins o (Coded c) ts (maybe_spaced apart (spelled (Coded c)) ++ source_behind (Coded c) ts) (source_behind (Coded c) ts)
 sign_source o s apart c ts is g gs nb =
     let f = coded_fronted c false is g in
     let sign = good_sign c g is in
-    begins_coded o c ts (spaced apart (spelled (Coded c)) ++ source_behind (Coded c) ts) (c ∷ source_behind (Coded c) ts) (source_behind (Coded c) ts)
+    begins_coded o c ts (maybe_spaced apart (spelled (Coded c)) ++ source_behind (Coded c) ts) (c ∷ source_behind (Coded c) ts) (source_behind (Coded c) ts)
     (skip_spaced o s apart (spelled (Coded c)) (source_behind (Coded c) ts) f.blank f.some ∙ ap (λ (t : Text). t ++ source_behind (Coded c) ts) (spelled_sign c is))
-    (sign_ahead o c ts (is_letter c) refl (among_signs (λ c. is_letter c || is_plain_sign c) c signs plain_signs sign) gs nb)
+    (sign_ahead o c ts (is_letter c) refl (among_signs (λ c. is_letter c || is_plain_sign c) c plain_signs letters_or_plain sign) gs nb)
     (omega arith) refl refl
     (let_none o (c ∷ source_behind (Coded c) ts) (sign_absent (76 ∷ 69 ∷ 84 ∷ []) c (source_behind (Coded c) ts) refl sign))
     (beg_shown o source_behind (source_shown o) c ts gs nb)
 
 coded_source : (o : Origin) → is_source o ≡ true → (apart : Bool) (c : ℕ) (ts : List Token) (b : Bool) → is_word c ≡ b → good_token (Coded c) ≡ true → AllGood ts → Neighbours (Coded c ∷ ts)
-    → Begins o (Coded c) ts (spaced apart (spelled (Coded c)) ++ source_behind (Coded c) ts) (source_behind (Coded c) ts)
+    → Begins o (Coded c) ts (maybe_spaced apart (spelled (Coded c)) ++ source_behind (Coded c) ts) (source_behind (Coded c) ts)
 coded_source o s apart c ts true is g gs nb = word_source o s apart c ts is g gs nb
 coded_source o s apart c ts false is g gs nb = sign_source o s apart c ts is g gs nb
 
 -- what is typed by hand
 kind_source : (o : Origin) → is_source o ≡ true → (apart : Bool) (k : Leaf) (w : Text) (ts : List Token) → is_text k ≡ false → is_whole k w ≡ true → AllGood ts → Neighbours (Plain k w ∷ ts)
-    → Begins o (Plain k w) ts (spaced apart w ++ source_behind (Plain k w) ts) (source_behind (Plain k w) ts)
+    → Begins o (Plain k w) ts (maybe_spaced apart w ++ source_behind (Plain k w) ts) (source_behind (Plain k w) ts)
 kind_source o s apart k [] ts n h gs nb = absurd (not_empty k h)
 kind_source o s apart k (a ∷ w) ts n h gs nb =
     let f = plain_fronted k (a ∷ w) n h in
-    begins_plain o k a w ts (spaced apart (a ∷ w) ++ source_behind (Plain k (a ∷ w)) ts) (source_behind (Plain k (a ∷ w)) ts)
+    begins_plain o k a w ts (maybe_spaced apart (a ∷ w) ++ source_behind (Plain k (a ∷ w)) ts) (source_behind (Plain k (a ∷ w)) ts)
     (skip_spaced o s apart (a ∷ w) (source_behind (Plain k (a ∷ w)) ts) f.blank f.some) (whole_width k a w n h)
     (leaf_ends o source_behind (source_shown o) k (a ∷ w) ts gs nb)
 
@@ -329,9 +329,9 @@ text_source o (a ∷ w) ts h nb =
 
 plain_source : (o : Origin) → is_source o ≡ true → (apart : Bool) (k : Leaf) (w : Text) (ts : List Token) (b : Bool) → is_text k ≡ b → (b ≡ true → apart ≡ false)
     → is_whole k w ≡ true → AllGood ts → Neighbours (Plain k w ∷ ts)
-    → Begins o (Plain k w) ts (spaced apart w ++ source_behind (Plain k w) ts) (source_behind (Plain k w) ts)
+    → Begins o (Plain k w) ts (maybe_spaced apart w ++ source_behind (Plain k w) ts) (source_behind (Plain k w) ts)
 plain_source o s apart leaf.Text w ts b is near h gs nb =
-    let P : Bool → Type 0 = λ x. Begins o (Plain leaf.Text w) ts (spaced x w ++ source_behind (Plain leaf.Text w) ts) (source_behind (Plain leaf.Text w) ts) in
+    let P : Bool → Type 0 = λ x. Begins o (Plain leaf.Text w) ts (maybe_spaced x w ++ source_behind (Plain leaf.Text w) ts) (source_behind (Plain leaf.Text w) ts) in
     subst P (sym (near (sym is))) (text_source o w ts h nb)
 plain_source o s apart k w ts true is near h gs nb = cc
 plain_source o s apart k w ts false is near h gs nb = kind_source o s apart k w ts is h gs nb
@@ -354,11 +354,11 @@ shown_line o s w y sh =
     (ap (λ (p : ℕ × Text). is_line o p.0) (ahead_plain o sh.digit (sh.rest ++ y) (digit_plain sh.digit sh.good)) ∙ digit_line o s sh.digit sh.good)
 
 line_source : (o : Origin) → is_source o ≡ true → (apart : Bool) (high low : ℕ) (ts : List Token) → good_token (Lined high low) ≡ true → AllGood ts → Neighbours (Lined high low ∷ ts)
-    → Begins o (Lined high low) ts (spaced apart (spelled (Lined high low)) ++ source_behind (Lined high low) ts) (source_behind (Lined high low) ts)
+    → Begins o (Lined high low) ts (maybe_spaced apart (spelled (Lined high low)) ++ source_behind (Lined high low) ts) (source_behind (Lined high low) ts)
 line_source o s apart high low ts g gs nb =
     let sh = line_of high low g in
     let f = shown_fronted (spelled (Lined high low)) sh in
-    begins_lined o high low ts (spaced apart (spelled (Lined high low)) ++ source_behind (Lined high low) ts) (spelled (Lined high low) ++ source_behind (Lined high low) ts)
+    begins_lined o high low ts (maybe_spaced apart (spelled (Lined high low)) ++ source_behind (Lined high low) ts) (spelled (Lined high low) ++ source_behind (Lined high low) ts)
     (source_behind (Lined high low) ts) (skip_spaced o s apart (spelled (Lined high low)) (source_behind (Lined high low) ts) f.blank f.some)
     (typed_line o s high low (spelled (Lined high low) ++ source_behind (Lined high low) ts) (source_behind (Lined high low) ts)
     (λ code. line_read o code high low (source_behind (Lined high low) ts) (and_left (is_decimal high) (is_decimal low) g) (and_right (is_decimal high) (is_decimal low) g)
@@ -366,10 +366,10 @@ line_source o s apart high low ts g gs nb =
     (longer (spelled (Lined high low)) (source_behind (Lined high low) ts) f.some)
     (shown_line o s (spelled (Lined high low)) (source_behind (Lined high low) ts) sh)
 
--- free text stands behind REM and `%`, which no blank follows
+-- free text stands after REM and `%`, which no blank follows
 abbrev pub FreeFirst : Bool → Bool → List Token → Type 0
 FreeFirst wordy operand [] = Unit {0}
-FreeFirst wordy operand (u ∷ us) = is_free u ≡ true → (wordy ≡ false) × (operand ≡ false)
+FreeFirst wordy operand (u ∷ us) = is_free_text u ≡ true → (wordy ≡ false) × (operand ≡ false)
 
 no_free_leaf : (k : Leaf) (w : Text) → may_follow_leaf k (Plain leaf.Text w) ≡ true → ⊥
 no_free_leaf leaf.Number w h = cc
@@ -400,11 +400,11 @@ free_behind (Coded c) w h = free_code c w (c == word.REM || c == 37) refl h
 free_behind (Plain k v) w h = absurd (no_free_leaf k w h)
 free_behind (Lined high low) w h = cc
 
-free_kind : (t : Token) (k : Leaf) (w : Text) → may_follow t (Plain k w) ≡ true → is_free (Plain k w) ≡ true → NotApart t
+free_kind : (t : Token) (k : Leaf) (w : Text) → may_follow t (Plain k w) ≡ true → is_free_text (Plain k w) ≡ true → NotApart t
 free_kind t leaf.Text w h f = free_behind t w h
 free_kind t k w h f = cc
 
-free_after : (t u : Token) → may_follow t u ≡ true → is_free u ≡ true → NotApart t
+free_after : (t u : Token) → may_follow t u ≡ true → is_free_text u ≡ true → NotApart t
 free_after t (Coded c) h f = cc
 free_after t (Plain k w) h f = free_kind t k w h f
 free_after t (Lined high low) h f = cc
@@ -413,7 +413,7 @@ free_next : (t : Token) (ts : List Token) → Neighbours (t ∷ ts) → FreeFirs
 free_next t [] nb = tt
 free_next t (u ∷ us) nb = λ f. free_after t u nb.0 f
 
-free_text : (k : Leaf) (w : Text) → is_text k ≡ true → is_free (Plain k w) ≡ true
+free_text : (k : Leaf) (w : Text) → is_text k ≡ true → is_free_text (Plain k w) ≡ true
 free_text leaf.Text w h = refl
 free_text k w h = cc
 

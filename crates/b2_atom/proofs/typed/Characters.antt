@@ -1,8 +1,8 @@
--- Hexadecimal digits, comparison signs, functions' names and images have their width, whatever stands behind them.
+-- Hexadecimal digits, comparison signs, functions' names and images have their width, whatever stands after them.
 use Rattle.std.proofs.Common.{◌≡◌, ℕ, suc, ◌+◌, ◌<◌, Bool, true, false, not, if◌then◌else◌, ◌==◌, ◌||◌, ◌&&◌, [], ◌∷◌, ◌++◌, length, get_or, refl, ap, ◌∙◌, arith}
 use Rattle.std.proofs.lemmas.Bool.Decides.{nat_tests}
 use Rattle.b2_base.specs.Lexical.{first, is_digit, is_hex_digit, is_letter, upper}
-use Rattle.b2_atom.specs.Words.{Text, kept, ahead}
+use Rattle.b2_atom.specs.Words.{Text, kept_byte, ahead}
 use Rattle.b2_atom.specs.Leaves.{function_name_width, hex_pair_width, hex_digit_width, address_width, relation_of, relation_width, ends_image, until_parenthesis, image_width}
 use Rattle.b2_atom.specs.declared.words.Origin.{Origin}
 use Rattle.b2_atom.specs.declared.words.Origin.TheVariants.{Program, Immediate, Atoms}
@@ -11,12 +11,12 @@ use Rattle.b2_atom.proofs.typed.Widths.{get_first, get_front}
 use Rattle.b2_atom.proofs.typed.Names.{ahead_letter}
 
 -- hexadecimal digits
-pub hex_kept : (o : Origin) (b : ℕ) → is_hex_digit b ≡ true → kept o b ≡ b
+pub hex_kept : (o : Origin) (b : ℕ) → is_hex_digit b ≡ true → kept_byte o b ≡ b
 hex_kept Program b h = grind (arith, nat_tests)
 hex_kept Immediate b h = grind (arith, nat_tests)
 hex_kept Atoms b h = refl
 
-still_hex : (o : Origin) (b : ℕ) → is_hex_digit b ≡ true → is_hex_digit (kept o b) ≡ true
+still_hex : (o : Origin) (b : ℕ) → is_hex_digit b ≡ true → is_hex_digit (kept_byte o b) ≡ true
 still_hex o b h = ap is_hex_digit (hex_kept o b h) ∙ h
 
 one_hex : (a : Bool) (n m : ℕ) → (if a then suc n else 0) ≡ suc m → (a ≡ true) × (n ≡ m)

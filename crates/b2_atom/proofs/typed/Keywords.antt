@@ -1,9 +1,9 @@
--- Which texts don't begin with a given word: what stands behind DATA and PRINT, and LET before an assignment.
+-- Which texts don't begin with a given word: what follows DATA and PRINT, and LET before an assignment.
 use Rattle.std.proofs.Common.{◌≡◌, ℕ, ◌+◌, ◌-◌, Bool, true, false, ◌==◌, ◌||◌, ◌&&◌, [], ◌∷◌, ◌++◌, get_or, refl, ap, arith}
 use Rattle.std.specs.Prelude.{codes}
 use Rattle.std.proofs.lemmas.Bool.Decides.{nat_tests}
 use Rattle.b2_base.specs.Lexical.{first, is_letter, skip_blanks, upper}
-use Rattle.b2_atom.specs.Words.{Text, begins_with, texts, word_text}
+use Rattle.b2_atom.specs.Words.{Text, begins_with, all_words, word_text}
 use Rattle.b2_atom.specs.declared.words.TheConstants as word
 use Rattle.b2_atom.proofs.Booleans.{and_left, and_right}
 use Rattle.b2_atom.proofs.typed.Longest.{apart, lost, below, at_below}
@@ -34,7 +34,7 @@ not_at_other (c ∷ v) b x k h = ap (λ (s : Bool). s && begins_with v x) h
 
 -- at a word of the table
 abbrev pub no_word_but : Text → ℕ → ℕ → Bool
-no_word_but v c i = (i + 128 == c) || apart (λ n. false) v (get_or texts i [])
+no_word_but v c i = (i + 128 == c) || apart (λ n. false) v (get_or all_words i [])
 
 other_word : (v : Text) (i c : ℕ) (w x : Text) → (i + 128 == c) ≡ false → ((i + 128 == c) || apart (λ n. false) v w) ≡ true → begins_with v (w ++ x) ≡ false
 other_word v i c w x is h = lost (λ n. false) v w x refl (rw is at h)
@@ -45,7 +45,7 @@ code_place c d h k = grind (arith, nat_tests)
 pub at_no_word : (v : Text) (d c : ℕ) (x : Text) → below (no_word_but v d) word.CODED ≡ true → is_code c ≡ true → (c == d) ≡ false
     → begins_with v (word_text c ++ x) ≡ false
 at_no_word v d c x all h other =
-    other_word v (c - 128) d (get_or texts (c - 128) []) x (code_place c d h other) (at_below (no_word_but v d) word.CODED (c - 128) all (code_less c h))
+    other_word v (c - 128) d (get_or all_words (c - 128) []) x (code_place c d h other) (at_below (no_word_but v d) word.CODED (c - 128) all (code_less c h))
 
 pub only_save : below (no_word_but (codes "SAVE") word.SAVE) word.CODED ≡ true
 only_save = refl

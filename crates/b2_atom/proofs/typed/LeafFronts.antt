@@ -3,7 +3,7 @@ use Rattle.std.proofs.Common.{◌≡◌, ℕ, suc, ◌+◌, Bool, true, false, n
 use Rattle.std.proofs.lemmas.Bool.Decides.{nat_tests}
 use Rattle.b2_base.specs.Lexical.{capped_value, digits_width, first, is_digit, is_hex_digit, is_letter}
 use Rattle.b2_atom.specs.Words.{Text}
-use Rattle.b2_atom.specs.Leaves.{number_width, number_of, mantissa_of, mantissa_width, one_more, leaf_width, until_quote, relation_of}
+use Rattle.b2_atom.specs.Leaves.{number_width, number_width_by, mantissa_of, mantissa_width, one_more, leaf_width, until_quote, relation_of}
 use Rattle.b2_atom.specs.declared.words.Origin.TheVariants.{Atoms}
 use Rattle.b2_atom.specs.declared.forms.Leaf.{Leaf}
 use Rattle.b2_atom.specs.declared.forms.Leaf.TheVariants as leaf
@@ -46,7 +46,7 @@ number_by : (a : ℕ) (w : Text) (n : ℕ) (b c : Bool) → is_digit a ≡ b →
 number_by a w n true c hb hc h = refl
 number_by a w n false true hb hc h = refl
 number_by a w n false false hb hc h =
-    let none : 0 ≡ suc n = sym (ap (λ (m : ℕ). number_of Atoms m (a ∷ w)) (no_mantissa a w hb hc)) ∙ h in cc
+    let none : 0 ≡ suc n = sym (ap (λ (m : ℕ). number_width_by Atoms m (a ∷ w)) (no_mantissa a w hb hc)) ∙ h in cc
 
 number_front : (a : ℕ) (w : Text) (n : ℕ) → number_width Atoms (a ∷ w) ≡ suc n → (is_digit a || a == 46) ≡ true
 number_front a w n h = number_by a w n (is_digit a) (a == 46) refl refl h

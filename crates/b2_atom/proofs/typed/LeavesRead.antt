@@ -3,7 +3,7 @@ use Rattle.std.proofs.Common.{◌≡◌, ℕ, suc, ◌+◌, Bool, true, false, n
 use Rattle.std.proofs.Math.Seq.{drop-append_seam, take-append_seam}
 use Rattle.std.proofs.lemmas.Bool.Decides.{nat_tests}
 use Rattle.b2_base.specs.Lexical.{first, is_digit, is_letter, upper}
-use Rattle.b2_atom.specs.Words.{Text, kept}
+use Rattle.b2_atom.specs.Words.{Text, kept_byte}
 use Rattle.b2_atom.specs.Tokens.{kept_text}
 use Rattle.b2_atom.specs.Tokens.Token.{Plain}
 use Rattle.b2_atom.specs.Tree.{one}
@@ -19,7 +19,7 @@ use Rattle.b2_atom.proofs.typed.Widths.{ends_number, number_more, signed_number_
 use Rattle.b2_atom.proofs.typed.Names.{numeric_shape, numeric_read, local_shape, alpha_shape, alpha_read}
 use Rattle.b2_atom.proofs.typed.Characters.{hex_digit_more, hex_pair_more, address_more, function_name_more, function_of, is_function_name, ends_relation, relation_more, image_more}
 
--- a byte behind the name of a number: no digit, no `$`, no letter
+-- a byte after the name of a number: no digit, no `$`, no letter
 abbrev pub ends_name : ℕ → Bool
 ends_name n = not (is_digit n || (n == 36 || is_letter (upper n)))
 
@@ -44,7 +44,7 @@ name_letter n h = grind (arith, nat_tests)
 pub name_dollar : (n : ℕ) → ends_name n ≡ true → (n == 36) ≡ false
 name_dollar n h = grind (arith, nat_tests)
 
--- before the end of what stands there, `$` and what stands behind it
+-- before the end of what stands there, `$` and what follows it
 pub dollar_before : (a : ℕ) (w : Text) (h : ℕ) (r x : Text) → a ∷ w ≡ h ∷ (r ++ 36 ∷ []) → a ∷ (w ++ x) ≡ h ∷ (r ++ 36 ∷ x)
 dollar_before a w h r x is = ap (λ (l : Text). l ++ x) is ∙ append_assoc (h ∷ r) (36 ∷ []) x
 
@@ -88,12 +88,12 @@ leaf_more o leaf.Relation a w x h stop = relation_more a w x h stop
 abbrev pub all_upper : Text → Bool
 all_upper w = every (λ b. upper b == b) w
 
-one_kept : (o : Origin) (b : ℕ) → (upper b == b) ≡ true → kept o b ≡ b
+one_kept : (o : Origin) (b : ℕ) → (upper b == b) ≡ true → kept_byte o b ≡ b
 one_kept Program b h = equal (upper b) b h
 one_kept Immediate b h = equal (upper b) b h
 one_kept Atoms b h = refl
 
-pub kept_upper : (o : Origin) (w : Text) → all_upper w ≡ true → map (kept o) w ≡ w
+pub kept_upper : (o : Origin) (w : Text) → all_upper w ≡ true → map (kept_byte o) w ≡ w
 kept_upper o [] h = refl
 kept_upper o (b ∷ w) h =
     λ i. one_kept o b (and_left (upper b == b) (all_upper w) h) i ∷ kept_upper o w (and_right (upper b == b) (all_upper w) h) i

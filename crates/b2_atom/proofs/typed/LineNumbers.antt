@@ -1,13 +1,13 @@
 -- A line number that is listed without zeros at its front is read as its two bytes.
 use Rattle.std.proofs.Common.{◌≡◌, ℕ, suc, ◌+◌, ◌-◌, ◌*◌, ◌/◌, ◌%◌, ◌≤◌, Bool, true, false, if◌then◌else◌, ◌==◌, ◌||◌, [], ◌∷◌, ◌++◌, drop, min, refl, sym, ap, subst, ◌∙◌, arith, nat_le, nat_lt, Err}
 use Rattle.std.proofs.lemmas.Bool.Decides.{nat_tests}
-use Rattle.b2_base.specs.Lexical.{all_printable, digits_width, first, is_digit, is_printable}
+use Rattle.b2_base.specs.Lexical.{all_printable, digits_width, first, is_decimal, is_digit, is_printable}
 use Rattle.b2_atom.specs.Words.{Text}
 use Rattle.b2_atom.specs.Tokens.{spelled}
 use Rattle.b2_atom.specs.Tokens.Token.{Lined}
 use Rattle.b2_atom.specs.Tree.{one}
 use Rattle.b2_atom.specs.Leaves.{refused}
-use Rattle.b2_atom.specs.Grammar.{typed_line_number, two_digits, is_decimal}
+use Rattle.b2_atom.specs.Grammar.{typed_line_number, two_digits}
 use Rattle.b2_atom.specs.declared.words.Origin.{Origin}
 use Rattle.b2_atom.proofs.Booleans.{and_left, and_right, both}
 use Rattle.b2_atom.proofs.typed.Widths.{digits_stop}

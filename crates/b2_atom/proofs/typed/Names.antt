@@ -1,8 +1,8 @@
--- Names, hexadecimal digits, comparison signs and images have their width, whatever stands behind them that doesn't run on.
+-- Names, hexadecimal digits, comparison signs and images have their width, whatever stands after them that doesn't run on.
 use Rattle.std.proofs.Common.{◌≡◌, ℕ, zero, suc, ◌+◌, Bool, true, false, if◌then◌else◌, ◌==◌, ◌&&◌, [], ◌∷◌, ◌++◌, length, get_or, drop, refl, sym, ap, ◌∙◌, arith, nat_lt, inl, inr, ◌⊎◌}
 use Rattle.std.proofs.lemmas.Bool.Decides.{nat_tests}
 use Rattle.b2_base.specs.Lexical.{first, is_digit, is_letter, upper}
-use Rattle.b2_atom.specs.Words.{Text, kept, ahead}
+use Rattle.b2_atom.specs.Words.{Text, kept_byte, ahead}
 use Rattle.b2_atom.specs.Leaves.{name_width, is_alpha_name, numeric_name_width, alpha_name_width, local_name_width, any_name_width}
 use Rattle.b2_atom.specs.declared.words.Origin.{Origin}
 use Rattle.b2_atom.specs.declared.words.Origin.TheVariants.{Program, Immediate, Atoms}
@@ -27,7 +27,7 @@ ahead_global Program y x h = typed_global y x h
 ahead_global Immediate y x h = typed_global y x h
 ahead_global Atoms y x h = refl
 
-pub letter_kept : (o : Origin) (b : ℕ) → is_letter b ≡ true → kept o b ≡ b
+pub letter_kept : (o : Origin) (b : ℕ) → is_letter b ≡ true → kept_byte o b ≡ b
 letter_kept Program b h = grind (arith, nat_tests)
 letter_kept Immediate b h = grind (arith, nat_tests)
 letter_kept Atoms b h = refl
@@ -41,7 +41,7 @@ digit_upper b h = grind (arith, nat_tests)
 no_both : (b : ℕ) → is_digit b ≡ true → is_letter b ≡ false
 no_both b h = grind (arith, nat_tests)
 
--- a letter and a digit or none, behind `@` or not
+-- a letter and a digit or none, after `@` or not
 abbrev pub NameShape : Text → Type 0
 NameShape [] = ⊥
 NameShape (a ∷ []) = is_letter a ≡ true
@@ -111,7 +111,7 @@ name_read o (a ∷ []) x shape digit letter =
     let l : is_letter (ahead o (a ∷ x)).0 ≡ true = ap (λ (p : ℕ × Text). is_letter p.0) e ∙ shape in
     let d = no_digit_first x digit in
     record {
-      width = λ i. width_of (l i) (d i) ((ahead o (a ∷ x)).0 == 64 && is_letter (kept o (get_or x 0 0))) (is_digit (get_or x 1 0));
+      width = λ i. width_of (l i) (d i) ((ahead o (a ∷ x)).0 == 64 && is_letter (kept_byte o (get_or x 0 0))) (is_digit (get_or x 1 0));
       whole = e;
     }
 name_read o (a ∷ b ∷ []) x (inl shape) digit letter =
@@ -119,20 +119,20 @@ name_read o (a ∷ b ∷ []) x (inl shape) digit letter =
     let l : is_letter (ahead o (a ∷ b ∷ x)).0 ≡ true = ap (λ (p : ℕ × Text). is_letter p.0) e ∙ shape.0 in
     let d = shape.1 in
     record {
-      width = λ i. width_of (l i) (d i) ((ahead o (a ∷ b ∷ x)).0 == 64 && is_letter (kept o b)) (is_digit (get_or x 0 0));
+      width = λ i. width_of (l i) (d i) ((ahead o (a ∷ b ∷ x)).0 == 64 && is_letter (kept_byte o b)) (is_digit (get_or x 0 0));
       whole = e;
     }
 name_read o (a ∷ b ∷ []) x (inr shape) digit letter =
     let e : ahead o (a ∷ b ∷ x) ≡ (64, b ∷ x) = ap (λ (n : ℕ). ahead o (n ∷ b ∷ x)) shape.0 ∙ ahead_global o b x letter in
     let d = no_digit_first x digit in
-    let y : is_letter (kept o b) ≡ true = ap is_letter (letter_kept o b shape.1) ∙ shape.1 in
+    let y : is_letter (kept_byte o b) ≡ true = ap is_letter (letter_kept o b shape.1) ∙ shape.1 in
     record {
       width = (λ i. width_of (is_letter (e i).0) (is_digit b) ((e i).0 == 64 && y i) (d i));
       whole = e ∙ ap (λ (n : ℕ). (n, b ∷ x)) (sym shape.0);
     }
 name_read o (a ∷ b ∷ c ∷ []) x shape digit letter =
     let e : ahead o (a ∷ b ∷ c ∷ x) ≡ (64, b ∷ c ∷ x) = ap (λ (n : ℕ). ahead o (n ∷ b ∷ c ∷ x)) shape.0 ∙ ahead_global o b (c ∷ x) (digit_upper c shape.1.1) in
-    let y : is_letter (kept o b) ≡ true = ap is_letter (letter_kept o b shape.1.0) ∙ shape.1.0 in
+    let y : is_letter (kept_byte o b) ≡ true = ap is_letter (letter_kept o b shape.1.0) ∙ shape.1.0 in
     let d = shape.1.1 in
     record {
       width = (λ i. width_of (is_letter (e i).0) (is_digit b) ((e i).0 == 64 && y i) (d i));
@@ -146,7 +146,7 @@ some_left n = grind (arith, nat_tests)
 behind_some : (n : ℕ) (b : Bool) → (nat_lt 0 (suc n) && b) ≡ b
 behind_some n b = rw (some_left n) refl
 
--- whether `$` stands behind a name
+-- whether `$` stands after a name
 pub alpha_by : (o : Origin) (t : Text) (n : ℕ) → name_width o t ≡ suc n → is_alpha_name o t ≡ (get_or t (suc n) 0 == 36)
 alpha_by o t n h = ap (λ (m : ℕ). nat_lt 0 m && get_or t m 0 == 36) h ∙ behind_some n (get_or t (suc n) 0 == 36)
 
@@ -202,7 +202,7 @@ alpha_read o a w x shape =
 -- where no name stands
 pub no_name : (o : Origin) (t : Text) → is_letter (ahead o t).0 ≡ false → ((ahead o t).0 == 64) ≡ false → name_width o t ≡ 0
 no_name o t letter sign =
-    λ i. width_of (letter i) (is_digit (get_or t 1 0)) (sign i && is_letter (kept o (get_or t 1 0))) (is_digit (get_or t 2 0))
+    λ i. width_of (letter i) (is_digit (get_or t 1 0)) (sign i && is_letter (kept_byte o (get_or t 1 0))) (is_digit (get_or t 2 0))
 
 pub no_alpha : (o : Origin) (t : Text) → name_width o t ≡ 0 → is_alpha_name o t ≡ false
 no_alpha o t h = ap (λ (m : ℕ). nat_lt 0 m && get_or t m 0 == 36) h

@@ -1,9 +1,9 @@
--- What is typed by hand has its width, whatever stands behind it that doesn't run on: numbers, digits, literals, images.
+-- What is typed by hand has its width, whatever stands after it that doesn't run on: numbers, digits, literals, images.
 use Rattle.std.proofs.Common.{◌≡◌, ℕ, zero, suc, ◌+◌, ◌-◌, ◌*◌, ◌<◌, ◌≤◌, Bool, true, false, not, if◌then◌else◌, ◌==◌, ◌||◌, ◌&&◌, [], ◌∷◌, ◌++◌, length, drop, get_or, min, refl, sym, ap, ◌∙◌, arith, nat_le, nat_lt, length-drop, inl, inr, ◌⊎◌}
 use Rattle.std.proofs.lemmas.Bool.Decides.{nat_tests}
 use Rattle.b2_base.specs.Lexical.{capped_value, digits_width, first, is_digit, is_printable}
-use Rattle.b2_atom.specs.Words.{Text, kept}
-use Rattle.b2_atom.specs.Leaves.{until_quote, mantissa_of, mantissa_width, sign_width, exponent_of, exponent_width, number_of, number_width, one_more, signed_number_width, literal_width, small_width, slot_width}
+use Rattle.b2_atom.specs.Words.{Text, kept_byte}
+use Rattle.b2_atom.specs.Leaves.{until_quote, mantissa_of, mantissa_width, sign_width, exponent_of, exponent_width, number_width_by, number_width, one_more, signed_number_width, literal_width, small_width, slot_width}
 use Rattle.b2_atom.specs.declared.words.Origin.{Origin}
 use Rattle.b2_atom.specs.declared.words.Origin.TheVariants.{Program, Immediate, Atoms}
 use Rattle.b2_atom.proofs.Booleans.{false_true, equal}
@@ -12,7 +12,7 @@ pub get_first : (x : Text) → get_or x 0 0 ≡ first x
 get_first [] = refl
 get_first (b ∷ x) = refl
 
--- a test of one byte, where it fails at the end and behind it
+-- a test of one byte, where it fails at the end and after it
 pub test_at : (p : ℕ → Bool) (w x : Text) (i : ℕ) → i ≤ length w → p 0 ≡ false → p (first x) ≡ false → p (get_or (w ++ x) i 0) ≡ p (get_or w i 0)
 test_at p [] x zero le at_end stop = ap p (get_first x) ∙ stop ∙ sym at_end
 test_at p [] x (suc i) le at_end stop = absurd (omega arith)
@@ -105,7 +105,7 @@ pub no_exponent : (b : Bool) → ◌≡◌ {A = ℕ} (if b then 0 else 0) 1 → 
 no_exponent true h = cc
 no_exponent false h = cc
 
-pub kept_e : (o : Origin) → kept o 69 ≡ 69
+pub kept_e : (o : Origin) → kept_byte o 69 ≡ 69
 kept_e Program = refl
 kept_e Immediate = refl
 kept_e Atoms = refl
@@ -114,7 +114,7 @@ with_e : (a n m : ℕ) (b : Bool) → (a == 69) ≡ b → (if b then n else 0) �
 with_e a n m true is h = (equal a 69 is, h)
 with_e a n m false is h = cc
 
--- the first byte behind a number: no digit, no point, no E
+-- the first byte after a number: no digit, no point, no E
 abbrev pub ends_number : ℕ → Bool
 ends_number n = not (is_digit n || (n == 46 || (n == 69 || n == 101)))
 
@@ -124,7 +124,7 @@ ends_digits n h = grind (arith, nat_tests)
 ends_point : (n : ℕ) → ends_number n ≡ true → (n == 46) ≡ false
 ends_point n h = grind (arith, nat_tests)
 
-ends_e : (o : Origin) (n : ℕ) → ends_number n ≡ true → (kept o n == 69) ≡ false
+ends_e : (o : Origin) (n : ℕ) → ends_number n ≡ true → (kept_byte o n == 69) ≡ false
 ends_e Program n h = grind (arith, nat_tests)
 ends_e Immediate n h = grind (arith, nat_tests)
 ends_e Atoms n h = grind (arith, nat_tests)
@@ -136,7 +136,7 @@ exponent_more o (a ∷ b ∷ v) x whole stop =
     let is = with_e a (exponent_of (sign_width b) (a ∷ b ∷ v)) (suc (length v)) (a == 69) refl whole in
     let short = sign_least b in
     let fits : 1 + sign_width b ≤ suc (suc (length v)) = omega arith in
-    let e : (kept o a == 69) ≡ true = ap (λ (n : ℕ). kept o n == 69) is.0 ∙ ap (λ (n : ℕ). n == 69) (kept_e o) in
+    let e : (kept_byte o a == 69) ≡ true = ap (λ (n : ℕ). kept_byte o n == 69) is.0 ∙ ap (λ (n : ℕ). n == 69) (kept_e o) in
     ap (λ (c : Bool). if c then exponent_of (sign_width b) (a ∷ b ∷ (v ++ x)) else 0) e
     ∙ exponent_of_more (sign_width b) (a ∷ b ∷ v) x fits (ends_digits (first x) stop)
     ∙ is.1
@@ -157,7 +157,7 @@ number_more o d w x whole stop =
     let is = number_parts m (exponent_width Atoms (drop m t)) (length w) (m == 0) refl whole in
     let fits : m ≤ length t = (let sum = is.1 in omega arith) in
     let tail : exponent_width Atoms (drop m t) ≡ length (drop m t) = length_rest t m _ is.1 in
-    ap (λ (n : ℕ). number_of o n (t ++ x)) (mantissa_more t x (ends_digits (first x) stop) (ends_point (first x) stop))
+    ap (λ (n : ℕ). number_width_by o n (t ++ x)) (mantissa_more t x (ends_digits (first x) stop) (ends_point (first x) stop))
     ∙ ap (λ (b : Bool). if b then 0 else m + exponent_width o (drop m (t ++ x))) is.0
     ∙ ap (λ (l : Text). m + exponent_width o l) (drop_front t x m fits)
     ∙ ap (λ (n : ℕ). m + n) (exponent_more o (drop m t) x tail stop ∙ sym tail)

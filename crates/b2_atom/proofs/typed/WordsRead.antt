@@ -4,7 +4,7 @@ use Rattle.std.specs.Prelude.{codes}
 use Rattle.std.proofs.Math.Seq.{drop-append_seam}
 use Rattle.std.proofs.lemmas.Bool.Decides.{nat_tests}
 use Rattle.b2_base.specs.Lexical.{first, is_letter, skip_blanks, upper}
-use Rattle.b2_atom.specs.Words.{Text, begins_with, longest, better, texts, word_text, word_at, typed_ahead, typed_by, joined}
+use Rattle.b2_atom.specs.Words.{Text, begins_with, longest, better, all_words, word_text, word_at, typed_ahead, typed_by, longer_word}
 use Rattle.b2_atom.specs.Tokens.{ends_wordy}
 use Rattle.b2_atom.specs.Tokens.Token.{Coded}
 use Rattle.b2_atom.specs.declared.words.TheConstants as word
@@ -23,7 +23,7 @@ lengthens_word c n = ends_wordy (Coded c) && lengthens n
 abbrev pub is_code : ℕ → Bool
 is_code c = nat_le 128 c && nat_le c word.LAST
 
-all_found : below (λ i. Found (lengthens_word (i + 128)) texts i) word.CODED ≡ true
+all_found : below (λ i. Found (lengthens_word (i + 128)) all_words i) word.CODED ≡ true
 all_found = refl
 
 pub code_less : (c : ℕ) → is_code c ≡ true → c - 128 < word.CODED
@@ -32,13 +32,13 @@ code_less c h = grind (arith, nat_tests)
 pub code_again : (c : ℕ) → is_code c ≡ true → c - 128 + 128 ≡ c
 code_again c h = grind (arith, nat_tests)
 
--- the tests of the table behind a word
+-- the tests of the table after a word
 word_test : ℕ → List Text → ℕ → Bool
 word_test c ws i = Found (lengthens_word c) ws i
 
-tested : (i : ℕ) → i < word.CODED → word_test (i + 128) texts i ≡ true
+tested : (i : ℕ) → i < word.CODED → word_test (i + 128) all_words i ≡ true
 unfolding word_test
-tested i h = at_below (λ i. Found (lengthens_word (i + 128)) texts i) word.CODED i all_found h
+tested i h = at_below (λ i. Found (lengthens_word (i + 128)) all_words i) word.CODED i all_found h
 
 found_by : (c : ℕ) (ws : List Text) (i : ℕ) (x : Text) → lengthens_word c (upper (first x)) ≡ false → word_test c ws i ≡ true
     → longest ws (get_or ws i [] ++ x) (0, 0) 0 ≡ (length (get_or ws i []), i)
@@ -50,7 +50,7 @@ pub word_found : (c : ℕ) (x : Text) → is_code c ≡ true → lengthens_word 
     → word_at (word_text c ++ x) ≡ (length (word_text c), c - 128)
 unfolding word_at
 word_found c x h stop =
-    found_by c texts (c - 128) x stop (ap (λ (d : ℕ). word_test d texts (c - 128)) (sym (code_again c h)) ∙ tested (c - 128) (code_less c h))
+    found_by c all_words (c - 128) x stop (ap (λ (d : ℕ). word_test d all_words (c - 128)) (sym (code_again c h)) ∙ tested (c - 128) (code_less c h))
 
 -- whether blanks and a further word make another word of DATA or PRINT
 abbrev pub joins : ℕ → Text → Bool
@@ -64,7 +64,7 @@ none_joined false true c x y z w h = cc
 none_joined false false true x y z w h = cc
 none_joined false false false x y z w h = refl
 
-alone : (c : ℕ) (x : Text) → joins c x ≡ false → joined c x ≡ (c, x)
+alone : (c : ℕ) (x : Text) → joins c x ≡ false → longer_word c x ≡ (c, x)
 alone c x h =
     none_joined (c == word.DATA && begins_with (codes "SAVE") (skip_blanks x)) (c == word.DATA && begins_with (codes "LOAD") (skip_blanks x))
     (c == word.PRINT && begins_with (codes "USING") (skip_blanks x))
@@ -76,11 +76,11 @@ by_word n i c w x long some less is stop =
     let two : nat_le word.CODED i ≡ false = grind (arith, nat_tests) in
     rw one (rw two (rw (← long) (rw (drop-append_seam w x) (rw is (alone c x stop)))))
 
-some_word : below (λ i. nat_lt 0 (length (get_or texts i []))) word.CODED ≡ true
+some_word : below (λ i. nat_lt 0 (length (get_or all_words i []))) word.CODED ≡ true
 some_word = refl
 
 pub word_some : (c : ℕ) → is_code c ≡ true → 0 < length (word_text c)
-word_some c h = is_less 0 (length (word_text c)) (at_below (λ i. nat_lt 0 (length (get_or texts i []))) word.CODED (c - 128) some_word (code_less c h))
+word_some c h = is_less 0 (length (word_text c)) (at_below (λ i. nat_lt 0 (length (get_or all_words i []))) word.CODED (c - 128) some_word (code_less c h))
 
 -- what stands where a word is spelled
 pub typed_word : (c : ℕ) (x : Text) → is_code c ≡ true → lengthens_word c (upper (first x)) ≡ false → joins c x ≡ false
@@ -93,14 +93,14 @@ typed_word c x h stop single =
 typed_byte : (b : ℕ) (x : Text) → word_at (b ∷ x) ≡ (0, 0) → typed_ahead (b ∷ x) ≡ (upper b, x)
 typed_byte b x h = ap (λ (best : ℕ × ℕ). typed_by best (b ∷ x)) h
 
--- each word begins with a letter, `$`, `#` or `@`, and goes on with a letter; behind `@` with two
+-- each word begins with a letter, `$`, `#` or `@`, and goes on with a letter; after `@` with two
 abbrev pub begins_word : ℕ → Bool
 begins_word b = is_letter b || (b == 36 || (b == 35 || b == 64))
 
 abbrev shaped : Text → Bool
 shaped v = begins_word (first v) && (is_letter (get_or v 1 0) && (not (first v == 64) || is_letter (get_or v 2 0)))
 
-all_shaped : every shaped texts ≡ true
+all_shaped : every shaped all_words ≡ true
 all_shaped = refl
 
 not_here : (v t : Text) (at : ℕ) → begins_with v t ≡ false → better (0, 0) v t at ≡ (0, 0)
@@ -114,7 +114,7 @@ no_words (v ∷ ws) t at h never =
 
 no_word : (t : Text) → ((v : Text) → shaped v ≡ true → begins_with v t ≡ false) → word_at t ≡ (0, 0)
 unfolding word_at
-no_word t never = no_words texts t 0 all_shaped never
+no_word t never = no_words all_words t 0 all_shaped never
 
 no_first : (b : ℕ) (x v : Text) → begins_word (upper b) ≡ false → shaped v ≡ true → begins_with v (b ∷ x) ≡ false
 no_first b x [] h k = cc
@@ -167,9 +167,9 @@ unfolding word_at
 typed_end = refl
 
 -- two bytes with which no word begins
-no_pair : (a b : ℕ) (x : Text) → every (λ v. apart (λ n. false) v (a ∷ b ∷ [])) texts ≡ true → word_at (a ∷ b ∷ x) ≡ (0, 0)
+no_pair : (a b : ℕ) (x : Text) → every (λ v. apart (λ n. false) v (a ∷ b ∷ [])) all_words ≡ true → word_at (a ∷ b ∷ x) ≡ (0, 0)
 unfolding word_at
-no_pair a b x h = none (λ n. false) texts (a ∷ b ∷ []) x (0, 0) 0 refl h
+no_pair a b x h = none (λ n. false) all_words (a ∷ b ∷ []) x (0, 0) 0 refl h
 
 -- the letters of BEG
 pub typed_b : (x : Text) → typed_ahead (66 ∷ 69 ∷ x) ≡ (66, 69 ∷ x)

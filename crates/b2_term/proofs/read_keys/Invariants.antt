@@ -8,6 +8,7 @@ abbrev pub invariant-loop-key : goal.invariant-loop-key
 invariant-loop-key l = record {
   same : reading l.queue.items (record { line = l.line.items; transcript = l.transcript.items }) ≡ reading l.fn.queue.items (record { line = l.fn.line.items; transcript = l.fn.transcript.items });
   capacity : deque_capacity l.queue ≡ deque_capacity l.fn.queue;
+  short : length l.line.items ≤ 256;
   shorter : length l.queue.items ≤ length l.fn.queue.items;
 }
 

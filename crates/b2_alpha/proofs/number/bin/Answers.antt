@@ -1,14 +1,14 @@
 use Rattle.std.proofs.Common.{◌≡◌, ℕ, ◌+◌, ◌-◌, ◌/◌, ◌%◌, ◌^◌, List, ◌∷◌, length, set, drop, sym, ap, ◌∙◌, arith}
 use Rattle.std.proofs.Math.Nat.{div-div-eq-div-mul}
 use Rattle.std.proofs.lemmas.List.{drop-set, length-set}
-use Rattle.b2_alpha.specs.Places.{number, digits}
-use Rattle.b2_alpha.proofs.PlaceValues.{pow_more, digits_more, number-digits_fitting}
+use Rattle.b2_alpha.specs.Places.{number_in_base, digits_in_base}
+use Rattle.b2_alpha.proofs.PlaceValues.{pow_more, digits_more, number_in_base-digits_fitting}
 use Rattle.b2_alpha.proofs.number.bin.Goals as goal
 
 -- one digit more, written before the others
-one_more : (xs : List ℕ) (v rest i p : ℕ) → length xs ≡ p + 1 + i → rest ≡ v / 256 ^ i → drop (p + 1) xs ≡ digits 256 i v → drop p (set xs p (rest % 256)) ≡ digits 256 (i + 1) v
+one_more : (xs : List ℕ) (v rest i p : ℕ) → length xs ≡ p + 1 + i → rest ≡ v / 256 ^ i → drop (p + 1) xs ≡ digits_in_base 256 i v → drop p (set xs p (rest % 256)) ≡ digits_in_base 256 (i + 1) v
 one_more xs v rest i p len is_rest so_far =
-    drop-set xs p (rest % 256) (omega arith) ∙ ap (λ l. rest % 256 ∷ l) so_far ∙ ap (λ r. r % 256 ∷ digits 256 i v) is_rest ∙ sym (digits_more 256 i v)
+    drop-set xs p (rest % 256) (omega arith) ∙ ap (λ l. rest % 256 ∷ l) so_far ∙ ap (λ r. r % 256 ∷ digits_in_base 256 i v) is_rest ∙ sym (digits_more 256 i v)
 
 pub loop-i-preserved : goal.loop-i-preserved
 loop-i-preserved c =
@@ -23,6 +23,6 @@ pub returns-clause-read_back : goal.returns-clause-read_back
 returns-clause-read_back c =
     let at_end : length c.loop-i.to - c.loop-i.i ≡ 0 = omega arith in
     let whole : c.loop-i.i ≡ length c.args.to.now = omega arith in
-    let written : c.loop-i.to ≡ digits 256 (length c.args.to.now) c.args.v = rw whole at (rw at_end at c.loop-i.invariant.1) in
-    ap (number 256) written
-    ∙ number-digits_fitting 256 (length c.args.to.now) c.args.v (omega arith) (c.fits.ensures.0 c.if-not-fits.false)
+    let written : c.loop-i.to ≡ digits_in_base 256 (length c.args.to.now) c.args.v = rw whole at (rw at_end at c.loop-i.invariant.1) in
+    ap (number_in_base 256) written
+    ∙ number_in_base-digits_fitting 256 (length c.args.to.now) c.args.v (omega arith) (c.fits.ensures.0 c.if-not-fits.false)

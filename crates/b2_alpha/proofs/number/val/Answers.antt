@@ -1,7 +1,7 @@
 use Rattle.std.proofs.Common.{◌+◌, ◌*◌, take, sym, ap, ◌∙◌, arith}
 use Rattle.std.proofs.lemmas.List.{length-take}
-use Rattle.b2_alpha.specs.Places.{number}
-use Rattle.b2_alpha.proofs.PlaceValues.{below_take, front-lt, number-more}
+use Rattle.b2_alpha.specs.Places.{number_in_base}
+use Rattle.b2_alpha.proofs.PlaceValues.{below_take, front-lt, number_in_base-more}
 use Rattle.b2_alpha.proofs.number.val.Goals as goal
 
 pub overflow_mul-value : goal.overflow_mul-value
@@ -18,5 +18,5 @@ overflow_add-value c =
 pub loop-b-preserved : goal.loop-b-preserved
 loop-b-preserved c =
     ap (λ v. v * 256 + c.from.result) c.loop-b.invariant
-    ∙ ap (λ x. number 256 (take c.loop-b.b-index (take c.args.n c.args.a.now)) * 256 + x) c.from.ensures
-    ∙ sym (number-more 256 (take c.args.n c.args.a.now) c.loop-b.b-index (omega arith))
+    ∙ ap (λ x. number_in_base 256 (take c.loop-b.b-index (take c.args.n c.args.a.now)) * 256 + x) c.from.ensures
+    ∙ sym (number_in_base-more 256 (take c.args.n c.args.a.now) c.loop-b.b-index (omega arith))

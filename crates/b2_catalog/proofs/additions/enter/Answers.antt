@@ -14,11 +14,11 @@ returns-then-is_some-clause-err c =
     let has : is_some (slot_of c.args.p.now c.args.name) ≡ true = cc in
     (enter_present c.args.p.now c.args.name c.args.sectors has ∙ ap Some (sym c.known.ensures), refl)
 
-pub place_of-requires-clause-some : goal.place_of-requires-clause-some
-place_of-requires-clause-some c = let parts = Parts-of Narrow c.args.p.now c.image.ensures.good in rw c.image.ensures.value parts.some
+pub place_for-requires-clause-some : goal.place_for-requires-clause-some
+place_for-requires-clause-some c = let parts = Parts-of Narrow c.args.p.now c.image.ensures.good in rw c.image.ensures.value parts.some
 
-pub place_of-requires-clause-room : goal.place_of-requires-clause-room
-place_of-requires-clause-room c = let parts = Parts-of Narrow c.args.p.now c.image.ensures.good in rw c.image.ensures.value (omega (arith, parts.whole, parts.files, parts.free, parts.rest))
+pub place_for-requires-clause-room : goal.place_for-requires-clause-room
+place_for-requires-clause-room c = let parts = Parts-of Narrow c.args.p.now c.image.ensures.good in rw c.image.ensures.value (omega (arith, parts.whole, parts.files, parts.free, parts.rest))
 
 pub returns-in_default-clause-err : goal.returns-in_default-clause-err
 returns-in_default-clause-err c =

@@ -3,8 +3,8 @@ use Rattle.b2_platter.specs.declared.layout.Layout.TheVariants.{Narrow}
 use Rattle.b2_platter.proofs.Goodness.{Parts-of}
 use Rattle.b2_catalog.proofs.renames.new_place.Goals as goal
 
-pub place_of-requires-clause-some : goal.place_of-requires-clause-some
-place_of-requires-clause-some c = let parts = Parts-of Narrow c.args.p.now c.image.ensures.good in rw c.image.ensures.value parts.some
+pub place_for-requires-clause-some : goal.place_for-requires-clause-some
+place_for-requires-clause-some c = let parts = Parts-of Narrow c.args.p.now c.image.ensures.good in rw c.image.ensures.value parts.some
 
-pub place_of-requires-clause-room : goal.place_of-requires-clause-room
-place_of-requires-clause-room c = let parts = Parts-of Narrow c.args.p.now c.image.ensures.good in rw c.image.ensures.value (omega (arith, parts.whole, parts.files, parts.free, parts.rest))
+pub place_for-requires-clause-room : goal.place_for-requires-clause-room
+place_for-requires-clause-room c = let parts = Parts-of Narrow c.args.p.now c.image.ensures.good in rw c.image.ensures.value (omega (arith, parts.whole, parts.files, parts.free, parts.rest))

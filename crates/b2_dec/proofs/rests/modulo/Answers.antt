@@ -2,19 +2,19 @@ use Rattle.std.proofs.Common.{sym, ◌∙◌, ◌≡◌, ◌≤◌, ◌<◌, ◌
 use Rattle.b2_dec.specs.Number.{size}
 use Rattle.b2_dec.proofs.Ranks.{thirteen, something, less_place}
 use Rattle.b2_dec.proofs.Nearby.{same_sign, other_sign, not-back}
-use Rattle.b2_dec.proofs.Rest.{rest_of-zero, rest_of-small, rest_of-sum, rest-kept, rest-turned}
+use Rattle.b2_dec.proofs.Rest.{modulo_of-zero, modulo_of-small, modulo_of-sum, rest-kept, rest-turned}
 use Rattle.b2_dec.proofs.rests.modulo.Goals as goal
 
 pub returns-then-x-eq0 : goal.returns-then-x-eq0
 returns-then-x-eq0 c =
-    rw c.zero.ensures (sym (rest_of-zero c.args.m c.args.a c.args.b (λ e. c.if-y-eq0.false (c.coefficient-y.ensures.value ∙ e))
+    rw c.zero.ensures (sym (modulo_of-zero c.args.m c.args.a c.args.b (λ e. c.if-y-eq0.false (c.coefficient-y.ensures.value ∙ e))
     (sym c.coefficient-x.ensures.value ∙ c.if-x-eq0.true)))
 
 pub returns-then-same : goal.returns-then-same
 returns-then-same c =
     let some : c.args.b.coef ≡ 0 → ⊥ = λ e. c.if-y-eq0.false (c.coefficient-y.ensures.value ∙ e) in
     let digits : 1000000000000 ≤ c.args.b.coef = thirteen c.args.b c.coefficient-y.ensures.spelling some in
-    sym (rest_of-small c.args.m c.args.a c.args.b c.coefficient-x.ensures.spelling some
+    sym (modulo_of-small c.args.m c.args.a c.args.b c.coefficient-x.ensures.spelling some
     (sym (same_sign _ _ _ _ c.if-same.true c.is_negative.ensures.value c.is_negative-2.ensures.value))
     (less_place c.args.a c.args.b c.coefficient-x.ensures.spelling.digits digits (omega arith)))
 
@@ -24,7 +24,7 @@ returns-else-same c =
     let digits : 1000000000000 ≤ c.args.b.coef = thirteen c.args.b c.coefficient-y.ensures.spelling some in
     let here : 0 < size c.args.a = something c.args.a (omega arith) in
     c.add.ensures
-    ∙ sym (rest_of-sum c.args.m c.args.a c.args.b some
+    ∙ sym (modulo_of-sum c.args.m c.args.a c.args.b some
     (not-back _ _ (other_sign _ _ _ _ c.if-same.false c.is_negative.ensures.value c.is_negative-2.ensures.value)) here
     (less_place c.args.a c.args.b c.coefficient-x.ensures.spelling.digits digits (omega arith)))
 

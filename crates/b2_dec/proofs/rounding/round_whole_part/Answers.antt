@@ -13,15 +13,15 @@ overflow_cast-coef c =
     let most = kept-most c.args.mode c.args.m _ c.requires.digits c.ilog10-dropped.ensures.next_power_gt in
     rw c.whole_by-coef.ensures (search (arith, most))
 
-pub fitted-requires-clause-least : goal.fitted-requires-clause-least
-fitted-requires-clause-least c =
+pub after_carry-requires-clause-least : goal.after_carry-requires-clause-least
+after_carry-requires-clause-least c =
     rw c.whole_by-coef.ensures (kept-least c.args.mode c.args.m _ c.requires.digits c.ilog10-dropped.ensures.power_le c.ilog10-dropped.ensures.next_power_gt)
 
-pub fitted-requires-clause-digits : goal.fitted-requires-clause-digits
-fitted-requires-clause-digits c =
+pub after_carry-requires-clause-digits : goal.after_carry-requires-clause-digits
+after_carry-requires-clause-digits c =
     rw c.whole_by-coef.ensures (kept-most c.args.mode c.args.m _ c.requires.digits c.ilog10-dropped.ensures.next_power_gt)
 
 pub returns : goal.returns
 returns c n d some whole =
-    rw (c.fitted.ensures, c.whole_by-coef.ensures) (rnd-from_digits c.args.mode c.args.neg c.args.m c.args.at n d _ c.requires.digits
+    rw (c.after_carry.ensures, c.whole_by-coef.ensures) (rnd-from_digits c.args.mode c.args.neg c.args.m c.args.at n d _ c.requires.digits
     c.ilog10-dropped.ensures.power_le c.ilog10-dropped.ensures.next_power_gt some whole)

@@ -8,5 +8,5 @@ unfolding nine_digits
 returns-clause-text c =
     let ds = c.args.digits.now in
     let nine = IsPut-append (nine_digits ds) _ _ _ _ _ _ _ _ (append_assoc (take 1 ds) (46 ∷ []) (take 8 (drop 1 ds)))
-    (IsPut-append (take 1 ds ++ (46 ∷ [])) _ _ _ _ _ _ _ _ refl c.put-pointed.ensures c.put-behind.ensures) c.put-end.ensures in
+    (IsPut-append (take 1 ds ++ (46 ∷ [])) _ _ _ _ _ _ _ _ refl c.put-pointed.ensures c.put-after.ensures) c.put-end.ensures in
     IsPut-append (nine_digits ds ++ exponent_shown c.args.place) _ _ _ _ _ _ _ _ (ap (λ t. nine_digits ds ++ t) c.exponent_at.ensures) nine c.put.ensures

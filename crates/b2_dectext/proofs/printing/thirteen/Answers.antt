@@ -1,6 +1,6 @@
-use Rattle.b2_dectext.specs.Digits.{digits}
+use Rattle.b2_dectext.specs.Digits.{digit_bytes}
 use Rattle.b2_dectext.proofs.printing.thirteen.Goals as goal
 
 pub returns : goal.returns
-unfolding digits
+unfolding digit_bytes
 returns c = cc

@@ -15,7 +15,7 @@ pub returns-clause-longest : goal.returns-clause-longest
 returns-clause-longest c =
     let text = c.args.text.now in
     let front = c.spaces_len-front.result in
-    let behind = front + c.number_len-number.result in
+    let after = front + c.number_len-number.result in
     spaced-is text front _ _ c.spaces_len-front.ensures.value
     (c.number_len-number.ensures.value ∙ ap number_len (between_to_end text front (length text) (le_refl (length text))))
-    (c.spaces_len.ensures.value ∙ ap spaces_len (between_to_end text behind (length text) (le_refl (length text)))) c.if-number-eq0.false
+    (c.spaces_len.ensures.value ∙ ap spaces_len (between_to_end text after (length text) (le_refl (length text)))) c.if-number-eq0.false

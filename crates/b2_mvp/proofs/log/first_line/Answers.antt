@@ -9,7 +9,7 @@ pub returns-in-Some-clause-lines : goal.returns-in-Some-clause-lines
 returns-in-Some-clause-lines c =
     line_ended c.args.text.now c.cut.result.0.now c.in-Some.following.now
     (c.cut.ensures.pieces ∙ ap (λ o. c.cut.result.0.now ∷ pieces_after 10 (option_copied o)) c.in-Some.is)
-    ∙ ap (λ (line : List ℕ). line ∷ lines_of c.in-Some.following.now) (sym c.trim.ensures)
+    ∙ ap (λ (line : List ℕ). line ∷ lines_of c.in-Some.following.now) (sym c.without_return.ensures)
 
 pub returns-in-None-clause-lines : goal.returns-in-None-clause-lines
 returns-in-None-clause-lines c =

@@ -6,7 +6,7 @@ pub returns-then-not-is_zero : goal.returns-then-not-is_zero
 returns-then-not-is_zero c =
     let some : (c.args.x.coef == 0) ≡ false = cc in
     let many = least c.args.x c.is_zero.ensures.spelling some in
-    rw c.place.ensures (reaches-at c.args.x c.args.k many c.is_zero.ensures.spelling.digits)
+    rw c.place.ensures.value (reaches-at c.args.x c.args.k many c.is_zero.ensures.spelling.digits)
 
 pub returns-else-not-is_zero : goal.returns-else-not-is_zero
 returns-else-not-is_zero c =

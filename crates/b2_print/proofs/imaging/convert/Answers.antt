@@ -1,6 +1,6 @@
 use Rattle.std.proofs.Common.{◌≡◌, ℕ, ◌+◌, List, [], take, drop, false, sym, ap, ◌∙◌, append_assoc, Ok}
 use Rattle.std.proofs.lemmas.List.{take_rest}
-use Rattle.b2_print.specs.Images.{Field, width_of, pieces}
+use Rattle.b2_print.specs.Images.{Field, width_of, pieces_of}
 use Rattle.b2_print.specs.Filling.{fits, number_filled}
 use Rattle.b2_print.specs.Imaged as spec
 use Rattle.b2_print.proofs.LineLemmas.{converted-no_field, converted-too_large, converted-fits, none_if, some_if}
@@ -18,12 +18,12 @@ pub returns-clause-ok : goal.returns-clause-ok
 returns-clause-ok c =
     let image = c.args.image.now in
     let f : Field = c.in-Some.field in
-    let behind : ℕ = c.in-Some.start + width_of f in
+    let after : ℕ = c.in-Some.start + width_of f in
     let found = some_if (fits f c.args.x) (number_filled f c.args.x) c.in-Some-filled_number.number c.in-Some-filled_number.ensures.text in
-    let tail : List ℕ = spec.line (pieces (drop behind image)) [] in
+    let tail : List ℕ = spec.line (pieces_of (drop after image)) [] in
     let rest : c.before_field.result.now ≡ tail =
-    c.before_field.ensures.text ∙ ap (λ xs. spec.line (pieces xs) []) (take_rest image (c.in-Some.start + c.width.result))
-    ∙ ap (λ w. spec.line (pieces (drop (c.in-Some.start + w) image)) []) c.width.ensures in
+    c.before_field.ensures.text ∙ ap (λ xs. spec.line (pieces_of xs) []) (take_rest image (c.in-Some.start + c.width.result))
+    ∙ ap (λ w. spec.line (pieces_of (drop (c.in-Some.start + w) image)) []) c.width.ensures in
     converted-fits image c.in-Some.start f c.args.x c.in-Some.ensures found.0
     ∙ ap (λ t. Ok t)
     (rw (c.extend-3.ensures, c.extend-2.ensures, c.extend.ensures, c.clear.ensures, c.bytes.ensures.value, rest, found.1)

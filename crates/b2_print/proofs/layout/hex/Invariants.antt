@@ -1,6 +1,6 @@
 use Rattle.std.proofs.Common.{◌≡◌, take}
 use Rattle.std.specs.List.{flat_map}
-use Rattle.b2_print.specs.Layout.{hex_pair}
+use Rattle.b2_base.specs.Lexical.{hex_pair}
 use Rattle.b2_print.proofs.layout.hex.Given as goal
 
 abbrev pub invariant-loop-byte : goal.invariant-loop-byte

@@ -1,7 +1,6 @@
-use Rattle.std.proofs.Common.{ℕ, ◌≡◌, ◌∙◌, zero, suc, ap, refl, subst, ℤ, pos, negsuc, ◌-ℤ◌, neg_ℤ, ◌≤ℤ◌, nat_abs, ◌+ℤ◌, sym, to_z, of_z, w64, FitsSigned, arith}
+use Rattle.std.proofs.Common.{ℕ, ◌≡◌, zero, suc, ap, ℤ, pos, negsuc, ◌-ℤ◌, neg_ℤ, to_z, of_z, w64, arith}
 use Rattle.std.proofs.lemmas.Int.{ints}
-use Rattle.b2_dec.specs.Number.{IsNumber}
-use Rattle.b2_dec.specs.Spelling.{seen, IsSpelled}
+use Rattle.b2_dec.specs.Spelling.{IsSpelled}
 use Rattle.b2_dec.proofs.number.Dec.opposite.Goals as goal
 
 not_nothing : (n : ℕ) → suc n ≡ 0 → ⊥

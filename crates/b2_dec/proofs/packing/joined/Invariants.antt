@@ -1,7 +1,0 @@
-use Rattle.std.proofs.Common.{◌≡◌, ◌+◌, ◌*◌, ◌^◌, ◌≤◌, drop}
-use Rattle.b2_dec.specs.Packing.{joined}
-use Rattle.b2_dec.proofs.packing.joined.Given as goal
-
--- What is left leads to the same number, and each byte adds two digits at most.
-abbrev pub invariant-loop-byte : goal.invariant-loop-byte
-invariant-loop-byte l = (joined l.n (drop l.byte-index l.bytes) ≡ joined 0 l.bytes) × (l.n + 2 ≤ 2 * 100 ^ l.byte-index)

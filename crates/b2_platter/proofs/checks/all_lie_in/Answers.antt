@@ -1,9 +1,0 @@
-use Rattle.std.proofs.Common.{arith, ℕ}
-use Rattle.b2_platter.specs.Image.{row}
-use Rattle.b2_platter.specs.Checks.{lies_in}
-use Rattle.b2_platter.proofs.Ranges.{all_more}
-use Rattle.b2_platter.proofs.checks.all_lie_in.Goals as goal
-
-pub loop-k-preserved : goal.loop-k-preserved
-loop-k-preserved c =
-    all_more (λ (k : ℕ). lies_in c.args.layout c.index-index.result c.next_free-next.result (row c.args.bytes.now k)) c.loop-k.k _ _ (omega arith) c.loop-k.invariant (cc)

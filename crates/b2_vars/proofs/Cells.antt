@@ -1,0 +1,70 @@
+-- Where a value stands: its place is one of the shape's, and its bytes are among the variable's.
+use Rattle.std.proofs.Common.{◌≡◌, ◌≢◌, ℕ, suc, ◌+◌, ◌-◌, ◌*◌, ◌<◌, ◌≤◌, max, Bool, true, false, cond, ◌&&◌, ◌==◌, nat_le, List, length, Option, Some, None, IfSome, refl, ap, sym, subst, ◌∙◌, arith, true≢false}
+use Rattle.std.proofs.lemmas.Nat.{mul-add-lt}
+use Rattle.std.proofs.Math.Nat.{mul-le-mul_right}
+use Rattle.std.proofs.lemmas.Bool.Decides.{nat_tests}
+use Rattle.std.specs.Option.{unwrap_or}
+use Rattle.std.specs.FinMap.{get}
+use Rattle.b2_vars.specs.declared.name.Var.{Var}
+use Rattle.b2_vars.specs.declared.shape.Shape.{Shape}
+use Rattle.b2_vars.specs.Shapes.{is_subscript, has_cell, cell_at, cells, number_cells, alpha_bytes, scalar_shape}
+use Rattle.b2_vars.specs.Variables.{VariableState, fresh}
+use Rattle.b2_vars.specs.Tables.{Table, IsSound, IsVariable, shape_at, variable_at}
+use Rattle.b2_vars.specs.Calls.{IsPart, part_place}
+
+left_true : (a b : Bool) → a && b ≡ true → a ≡ true
+left_true true b p = refl
+left_true false b p = absurd (true≢false (sym p))
+
+right_true : (a b : Bool) → a && b ≡ true → b ≡ true
+right_true true b p = p
+right_true false b p = absurd (true≢false (sym p))
+
+subscript-lt : (size k : ℕ) → is_subscript size k ≡ true → k - 1 < max 1 size
+subscript-lt size k h = grind (arith, nat_tests)
+
+pub cell-lt : (s : Shape) (r c : ℕ) → has_cell s r c ≡ true → cell_at s r c < cells s
+cell-lt s r c h =
+    let rows = subscript-lt s.rows r (left_true _ _ h) in
+    let cols = subscript-lt s.cols c (right_true _ _ h) in
+    omega (arith, mul-add-lt (r - 1) (max 1 s.cols) (c - 1) (max 1 s.rows) rows cols)
+
+-- the bytes of a value among those of all
+pub value-le : (cell count len : ℕ) → cell < count → cell * len + len ≤ count * len
+value-le cell count len h = omega (arith, mul-le-mul_right {m = suc cell} {n = count} len h, suc_row)
+  where
+    suc_row : suc cell * len ≡ cell * len + len
+    suc_row = omega arith
+
+pub variable_at-Some : (t : Table) (v : Var) (x : VariableState) → get t v ≡ Some x → variable_at v t ≡ x
+variable_at-Some t v x is = ap (λ (o : Option VariableState). unwrap_or o (fresh v (scalar_shape v) false)) is
+
+-- what stands under a name of sound variables is a variable of that name
+pub sound-Some : (area count : ℕ) (t : Table) (v : Var) (x : VariableState) → IsSound area count t → get t v ≡ Some x → IsVariable v x
+sound-Some area count t v x sound is = subst (λ (o : Option VariableState). IfSome o (IsVariable v)) is (sound.each v)
+
+not_alpha : (v : Var) (s : Shape) → v.alpha ≡ false → number_cells v s ≡ cells s
+not_alpha v s is = ap (λ b. cond b 0 (cells s)) is
+
+pub number-within : (t : Table) (v : Var) (x : VariableState) (r c : ℕ) → IsVariable v x → get t v ≡ Some x → v.alpha ≡ false → has_cell (shape_at v t) r c ≡ true
+    → cell_at (shape_at v t) r c < length x.numbers
+number-within t v x r c sound is number has =
+    let shape : shape_at v t ≡ x.shape = ap (λ (x : VariableState). x.shape) (variable_at-Some t v x is) in
+    let below : cell_at x.shape r c < cells x.shape = cell-lt x.shape r c (subst (λ (s : Shape). has_cell s r c ≡ true) shape has) in
+    omega (arith, ap (λ (s : Shape). cell_at s r c) shape, below, sound.numbers, not_alpha v x.shape number)
+
+pub value-within : (t : Table) (v : Var) (x : VariableState) (r c : ℕ) → IsVariable v x → get t v ≡ Some x → has_cell (shape_at v t) r c ≡ true
+    → cell_at (shape_at v t) r c * x.shape.len + x.shape.len ≤ length x.bytes
+value-within t v x r c sound is has =
+    let shape : shape_at v t ≡ x.shape = ap (λ (x : VariableState). x.shape) (variable_at-Some t v x is) in
+    let below : cell_at x.shape r c < cells x.shape = cell-lt x.shape r c (subst (λ (s : Shape). has_cell s r c ≡ true) shape has) in
+    omega (arith, ap (λ (s : Shape). cell_at s r c * x.shape.len) shape, value-le (cell_at x.shape r c) (cells x.shape) x.shape.len below, sound.bytes)
+
+-- the bytes of a value at a place, and a part of them, are among those of the variable
+pub cell-within : (t : Table) (v : Var) (cell : ℕ) → IsVariable v (variable_at v t) → cell < cells (shape_at v t) → cell * (shape_at v t).len + (shape_at v t).len ≤ length (variable_at v t).bytes
+cell-within t v cell is below = omega (arith, value-le cell (cells (shape_at v t)) (shape_at v t).len below, is.bytes)
+
+pub part-within : (t : Table) (v : Var) (r c from n : ℕ) → IsVariable v (variable_at v t) → IsPart v r c from n t → part_place v r c from t + n ≤ length (variable_at v t).bytes
+part-within t v r c from n is there =
+    let s = shape_at v t in
+    omega (arith, cell-within t v (cell_at s r c) is (cell-lt s r c there.cell), there.within)

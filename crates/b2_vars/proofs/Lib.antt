@@ -1,0 +1,9 @@
+pub mod Overwriting
+pub mod NamesAsKeys
+pub mod EntriesAsMap
+pub mod Counts
+pub mod Commons
+pub mod Cells
+pub mod Refusals
+pub mod Soundness
+pub mod Scalars

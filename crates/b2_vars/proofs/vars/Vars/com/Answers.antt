@@ -1,0 +1,16 @@
+use Rattle.std.proofs.Common.{◌≡◌, ℕ, Option, None, sym, subst, true}
+use Rattle.b2_vars.specs.Answers.{AnswersOrFails}
+use Rattle.b2_vars.specs.Tables.{VarsState}
+use Rattle.b2_vars.specs.Calls.{bad_dimensions, bad_length, not_common, other_shape, full, with_new}
+use Rattle.b2_vars.proofs.Refusals.{fifth}
+use Rattle.b2_vars.proofs.vars.Vars.com.Goals as goal
+
+pub returns-clause-code : goal.returns-clause-code
+returns-clause-code c =
+    let v = c.args.v in
+    let s = c.args.self.now in
+    let common : not_common v s.table ≡ None = subst (λ (s : VarsState). not_common v s.table ≡ None) c.self.view_is c.in_ok-require_common.ensures in
+    let same : other_shape v c.args.shape s.table ≡ None = subst (λ (s : VarsState). other_shape v c.args.shape s.table ≡ None) c.self.view_is c.in_ok-require_shape.ensures in
+    subst (λ (code : Option ℕ). AnswersOrFails code c.make.result)
+    (sym (fifth (bad_dimensions v c.args.shape) (bad_length v c.args.shape) (not_common v s.table) (other_shape v c.args.shape s.table) (full s.area (with_new v c.args.shape true s.table)) c.in_ok-allow.ensures common same))
+    c.make.ensures.code

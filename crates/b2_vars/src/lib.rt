@@ -1,0 +1,24 @@
+//! A partition's variables: one finite map from names to shapes and values, within an area of bytes.
+//!
+//! Stands on `b2_base` for codes and faults, on `b2_dec` for numbers and values, on `b2_alpha` for the padding of what is
+//! assigned, and on the toolchain's `indexmap`.
+//!
+//! A `Vars` is seen in contracts as its area and a finite map, whatever order the variables were made in. `specs/Names`
+//! has the order of names, `Shapes` which shapes a variable may have, what it takes and where a value stands in it,
+//! `Variables` what stands under a name and what each change leaves of it, and `Tables` the map, its count, and the code
+//! with which each call refuses. What is counted never passes the area; every call that refuses leaves all as it was.
+//! Where several causes stand together, the first of P59, P57, P50, P53, P56, P55, P34 and A02 is the answer. `laws` says
+//! what holds of these definitions themselves.
+#![tactic(auto)]
+
+mod name;
+mod shape;
+mod table;
+#[cfg(test)]
+mod tests;
+mod variable;
+mod vars;
+
+pub use name::Var;
+pub use shape::Shape;
+pub use vars::Vars;
