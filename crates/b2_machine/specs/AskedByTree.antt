@@ -20,7 +20,7 @@ use Rattle.b2_atom.specs.Laws.{IsStatement}
 use Rattle.b2_atom.specs.declared.words.Origin.TheVariants as origin
 use Rattle.b2_atom.specs.declared.forms.Leaf.{Leaf}
 use Rattle.b2_atom.specs.declared.forms.Leaf.TheVariants as leaf
-use Rattle.b2_atom.specs.declared.forms.Place.{Place}
+use Rattle.b2_atom.specs.declared.forms.Position.{Position}
 use Rattle.b2_atom.specs.declared.rows.TheConstants as row
 use Rattle.b2_expr.specs.Value.{Surroundings, Answer, ◌>>=◌, inside, behind, branch, leaf_text, choose, value, not_built as left_out}
 use Rattle.b2_machine.specs.Plan.{not_built, is_sign, line_number, asked, newline_where, width, plan}
@@ -138,7 +138,7 @@ request_of s column r t =
 
 -- a unit that is read as a statement asks for what its tree says
 abbrev pub UnitsAskByTheirTrees : Type 0
-UnitsAskByTheirTrees = (variables : List Number) (mode : Mode) (column : ℕ) (p : Place) (unit : Text) (r : ℕ) (t : Trees)
+UnitsAskByTheirTrees = (variables : List Number) (mode : Mode) (column : ℕ) (p : Position) (unit : Text) (r : ℕ) (t : Trees)
     → statement (reader origin.Atoms) 1 p unit ≡ Ok (In r t Done, []) → plan variables mode column unit ≡ request_of (record { letters = variables; mode = mode }) column r t
 
 -- a unit is one statement, and asks for what its tree says, whatever the variables, the mode and the column are

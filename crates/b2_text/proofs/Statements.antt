@@ -14,8 +14,8 @@ use Rattle.b2_atom.specs.declared.words.TheConstants as word
 use Rattle.b2_atom.specs.declared.rows.TheConstants as row
 use Rattle.b2_atom.specs.declared.words.Origin.TheVariants.{Atoms}
 use Rattle.b2_atom.specs.declared.forms.Leaf.TheVariants as leaf
-use Rattle.b2_atom.specs.declared.forms.Place.{Place}
-use Rattle.b2_atom.specs.declared.forms.Place.TheVariants as place
+use Rattle.b2_atom.specs.declared.forms.Position.{Position}
+use Rattle.b2_atom.specs.declared.forms.Position.TheVariants as place
 use Rattle.b2_atom.specs.declared.forms.Item.{Item}
 use Rattle.b2_atom.specs.declared.forms.Item.TheVariants.{Word, Sign, Typed, Part, Maybe, Either, Many, Nest}
 use Rattle.b2_atom.specs.declared.forms.Start.TheVariants as start
@@ -49,11 +49,11 @@ tree_in d (Ok r) = r.0
 tree_in d (Err e) = d
 
 -- the row of a statement that is read, and its tree
-pub record Chosen (p : Place) (s : Text) (m : ℕ) (t : Trees) : Type 0 where
+pub record Chosen (p : Position) (s : Text) (m : ℕ) (t : Trees) : Type 0 where
   pub chosen_row : row_at forms Atoms p s ≡ Ok m
   pub read : row_read m s ≡ Ok (t, [])
 
-by_read : (p : Place) (s : Text) (n m : ℕ) (t : Trees) (o : Outcome) → row_at forms Atoms p s ≡ Ok n → row_read n s ≡ o → under n o ≡ Ok (In m t Done, []) → Chosen p s m t
+by_read : (p : Position) (s : Text) (n m : ℕ) (t : Trees) (o : Outcome) → row_at forms Atoms p s ≡ Ok n → row_read n s ≡ o → under n o ≡ Ok (In m t Done, []) → Chosen p s m t
 by_read p s n m t (Err e) is is_read h = cc
 by_read p s n m t (Ok r) is is_read h = record {
   chosen_row = is ∙ ap Ok row_is;
@@ -71,11 +71,11 @@ by_read p s n m t (Ok r) is is_read h = record {
   rest_is : r.1 ≡ []
   rest_is = ap (rest_in []) h
 
-by_row : (p : Place) (s : Text) (m : ℕ) (t : Trees) (r : Result ℕ Stop) → row_at forms Atoms p s ≡ r → chosen (from s r) row_read ≡ Ok (In m t Done, []) → Chosen p s m t
+by_row : (p : Position) (s : Text) (m : ℕ) (t : Trees) (r : Result ℕ Stop) → row_at forms Atoms p s ≡ r → chosen (from s r) row_read ≡ Ok (In m t Done, []) → Chosen p s m t
 by_row p s m t (Err e) is h = cc
 by_row p s m t (Ok n) is h = by_read p s n m t (row_read n s) is refl h
 
-pub chosen_of : (p : Place) (s : Text) (m : ℕ) (t : Trees) → statement (reader Atoms) 1 p s ≡ Ok (In m t Done, []) → Chosen p s m t
+pub chosen_of : (p : Position) (s : Text) (m : ℕ) (t : Trees) → statement (reader Atoms) 1 p s ≡ Ok (In m t Done, []) → Chosen p s m t
 unfolding statement statement_row
 chosen_of p s m t h = by_row p s m t (row_at forms Atoms p s) refl h
 
@@ -108,12 +108,12 @@ unfolding items item mark
 word_front l c is b s t h = token_front (b == c) (Coded c) s (refused Atoms S22_WORD (b ∷ s)) (items_read l is) t h
 
 -- nothing is read of no bytes
-none_chosen : (p : Place) (m : ℕ) → row_at forms Atoms p [] ≡ Ok m → ⊥
+none_chosen : (p : Position) (m : ℕ) → row_at forms Atoms p [] ≡ Ok m → ⊥
 unfolding starts
 none_chosen p m h = cc
 
 -- DATA
-data_chosen : (p : Place) (s : Text) (m : ℕ) → row_at forms Atoms p (word.DATA ∷ s) ≡ Ok m → m ≡ row.DATA
+data_chosen : (p : Position) (s : Text) (m : ℕ) → row_at forms Atoms p (word.DATA ∷ s) ≡ Ok m → m ≡ row.DATA
 unfolding starts
 data_chosen place.First s m h = cc
 data_chosen place.Further s m h = cc
@@ -131,7 +131,7 @@ data_front b s t h =
 same_row : (m n : ℕ) → m ≡ n → (m == n) ≡ true
 same_row m n h = grind (arith, nat_tests)
 
-by_data : (p : Place) (b : ℕ) (s : Text) (m : ℕ) (t : Trees) (c d : Bool) → (b == word.DATA) ≡ c → (m == row.DATA) ≡ d → Chosen p (b ∷ s) m t → c ≡ d
+by_data : (p : Position) (b : ℕ) (s : Text) (m : ℕ) (t : Trees) (c d : Bool) → (b == word.DATA) ≡ c → (m == row.DATA) ≡ d → Chosen p (b ∷ s) m t → c ≡ d
 by_data p b s m t true true is is_row h = refl
 by_data p b s m t false false is is_row h = refl
 by_data p b s m t true false is is_row h =
@@ -140,7 +140,7 @@ by_data p b s m t true false is is_row h =
 by_data p b s m t false true is is_row h =
     absurd (never (b == word.DATA) (data_front b s t (ap (λ (k : ℕ). row_read k (b ∷ s)) (sym (equal m row.DATA is_row)) ∙ h.read)) is)
 
-pub data_is : (p : Place) (s : Text) (m : ℕ) (t : Trees) → Chosen p s m t → is_data s ≡ (m == row.DATA)
+pub data_is : (p : Position) (s : Text) (m : ℕ) (t : Trees) → Chosen p s m t → is_data s ≡ (m == row.DATA)
 data_is p [] m t h = absurd (none_chosen p m h.chosen_row)
 data_is p (b ∷ s) m t h = by_data p b s m t (b == word.DATA) (m == row.DATA) refl refl h
 
@@ -175,7 +175,7 @@ value_of_digits n (b ∷ s) = by_digit (is_digit b) refl (value_of_digits (min (
   by_digit true is rest = ap (λ (c : Bool). if c then capped_value 999 (min (n * 10 + (b - 48)) 999) (take (digits_width s) s) else n) is ∙ rest
 
 -- DEFFN' and its number
-mark_chosen : (p : Place) (s : Text) (m : ℕ) → row_at forms Atoms p (word.DEFFN_PRIME ∷ s) ≡ Ok m → m ≡ row.DEFFN_MARKED
+mark_chosen : (p : Position) (s : Text) (m : ℕ) → row_at forms Atoms p (word.DEFFN_PRIME ∷ s) ≡ Ok m → m ≡ row.DEFFN_MARKED
 unfolding starts
 mark_chosen place.First s m h = cc
 mark_chosen place.Further s m h = cc
@@ -205,7 +205,7 @@ mark_tree n b s t h =
     let g = small_front 39 S24_SMALL_NUMBER MarkTail s f.tail.tree f.tail.read in
     (f.there, (ap (is_numbered n) (f.tail.is ∙ ap (Put (Coded word.DEFFN_PRIME)) g.tail.is) ∙ ap (λ (v : ℕ). v == n) (mark_width n s (nat_le (capped_value 999 0 s) 255) refl g.there)))
 
-by_mark : (n : ℕ) (p : Place) (b : ℕ) (s : Text) (m : ℕ) (t : Trees) (c d : Bool) → (b == word.DEFFN_PRIME) ≡ c → (m == row.DEFFN_MARKED) ≡ d → Chosen p (b ∷ s) m t
+by_mark : (n : ℕ) (p : Position) (b : ℕ) (s : Text) (m : ℕ) (t : Trees) (c d : Bool) → (b == word.DEFFN_PRIME) ≡ c → (m == row.DEFFN_MARKED) ≡ d → Chosen p (b ∷ s) m t
     → (c && capped_value 999 0 s == n) ≡ (d && is_numbered n t)
 by_mark n p b s m t true true is is_row h = sym (mark_tree n b s t (ap (λ (k : ℕ). row_read k (b ∷ s)) (sym (equal m row.DEFFN_MARKED is_row)) ∙ h.read)).1
 by_mark n p b s m t false false is is_row h = refl
@@ -215,12 +215,12 @@ by_mark n p b s m t true false is is_row h =
 by_mark n p b s m t false true is is_row h =
     absurd (never (b == word.DEFFN_PRIME) (mark_tree n b s t (ap (λ (k : ℕ). row_read k (b ∷ s)) (sym (equal m row.DEFFN_MARKED is_row)) ∙ h.read)).0 is)
 
-pub mark_is : (n : ℕ) (p : Place) (s : Text) (m : ℕ) (t : Trees) → Chosen p s m t → is_mark n s ≡ (m == row.DEFFN_MARKED && is_numbered n t)
+pub mark_is : (n : ℕ) (p : Position) (s : Text) (m : ℕ) (t : Trees) → Chosen p s m t → is_mark n s ≡ (m == row.DEFFN_MARKED && is_numbered n t)
 mark_is n p [] m t h = absurd (none_chosen p m h.chosen_row)
 mark_is n p (b ∷ s) m t h = by_mark n p b s m t (b == word.DEFFN_PRIME) (m == row.DEFFN_MARKED) refl refl h
 
 -- DEFFN and its name
-function_chosen : (p : Place) (s : Text) (m : ℕ) → row_at forms Atoms p (word.DEFFN ∷ s) ≡ Ok m → m ≡ row.DEFFN
+function_chosen : (p : Position) (s : Text) (m : ℕ) → row_at forms Atoms p (word.DEFFN ∷ s) ≡ Ok m → m ≡ row.DEFFN
 unfolding starts
 function_chosen place.First s m h = cc
 function_chosen place.Further s m h = cc
@@ -331,7 +331,7 @@ function_tree name b s t h read_ =
     let g = either_front 39 word.GLOBAL_PART row.GLOBAL_PART row.FUNCTION_BODY s f.tail.tree f.tail.read in
     (f.there, ap (is_named name) f.tail.is ∙ function_body name word.DEFFN s f.tail.tree (first s == word.GLOBAL_PART) refl h g)
 
-by_function : (name : ℕ) (p : Place) (b : ℕ) (s : Text) (m : ℕ) (t : Trees) (c d : Bool) → (is_letter name || is_digit name) ≡ true → (b == word.DEFFN) ≡ c → (m == row.DEFFN) ≡ d
+by_function : (name : ℕ) (p : Position) (b : ℕ) (s : Text) (m : ℕ) (t : Trees) (c d : Bool) → (is_letter name || is_digit name) ≡ true → (b == word.DEFFN) ≡ c → (m == row.DEFFN) ≡ d
     → Chosen p (b ∷ s) m t → (c && named_at name s) ≡ (d && is_named name t)
 by_function name p b s m t true true k is is_row h = sym (function_tree name b s t k (ap (λ (n : ℕ). row_read n (b ∷ s)) (sym (equal m row.DEFFN is_row)) ∙ h.read)).1
 by_function name p b s m t false false k is is_row h = refl
@@ -341,7 +341,7 @@ by_function name p b s m t true false k is is_row h =
 by_function name p b s m t false true k is is_row h =
     absurd (never (b == word.DEFFN) (function_tree name b s t k (ap (λ (n : ℕ). row_read n (b ∷ s)) (sym (equal m row.DEFFN is_row)) ∙ h.read)).0 is)
 
-pub function_is : (name : ℕ) (p : Place) (s : Text) (m : ℕ) (t : Trees) → (is_letter name || is_digit name) ≡ true → Chosen p s m t
+pub function_is : (name : ℕ) (p : Position) (s : Text) (m : ℕ) (t : Trees) → (is_letter name || is_digit name) ≡ true → Chosen p s m t
     → is_function name s ≡ (m == row.DEFFN && is_named name t)
 function_is name p [] m t k h = absurd (none_chosen p m h.chosen_row)
 function_is name p (b ∷ s) m t k h = function_is_named name b s ∙ by_function name p b s m t (b == word.DEFFN) (m == row.DEFFN) k refl refl h
