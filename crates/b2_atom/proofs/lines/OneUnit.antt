@@ -35,7 +35,7 @@ use Rattle.b2_atom.proofs.settled.Choice.{one_statement, marked, Stands, opens_s
 use Rattle.b2_atom.proofs.spelling.SideBySide.{later}
 use Rattle.b2_atom.proofs.spelling.SpellsAtoms.{spells_atoms}
 use Rattle.b2_atom.proofs.reading.Sound.{Takes, takes_statement}
-use Rattle.b2_atom.proofs.lines.Own.{AllOwn, all_own, whole, whole_row}
+use Rattle.b2_atom.proofs.lines.Own.{all_own, whole, whole_row}
 use Rattle.b2_atom.proofs.lines.LineLaws.{chooses, append_atoms, tree_atoms}
 
 -- tokens that may stand in a line
