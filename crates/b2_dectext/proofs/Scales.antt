@@ -1,15 +1,14 @@
 -- What leading digits say of the fraction that is rounded.
-use Rattle.std.proofs.Common.{◌≡◌, ℕ, zero, suc, ◌+◌, ◌-◌, ◌*◌, ◌/◌, ◌^◌, ◌<◌, ◌≤◌, ◌==◌, Bool, true, false, Ok, Err, refl, sym, ap, ap₂, ◌∙◌, subst, arith, lit<, lit≤, pow-add, mul_assoc, mul_comm, mul-pos, mul-le-mul_right, le_trans, lt_of_lt_of_le, lt_of_le_of_lt, one-mul, ne_eqb, le-leb, lt-ltb, inl, inr, length, add-zero}
+use Rattle.std.proofs.Common.{◌≡◌, ℕ, zero, suc, ◌+◌, ◌-◌, ◌*◌, ◌^◌, ◌<◌, ◌≤◌, ◌==◌, Bool, true, false, Ok, Err, refl, sym, ap, ap₂, ◌∙◌, subst, arith, lit<, lit≤, pow-add, mul_assoc, mul_comm, mul-pos, mul-le-mul_right, le_trans, lt_of_lt_of_le, lt_of_le_of_lt, ne_eqb, le-leb, lt-ltb, inl, inr, length, add-zero}
 use Rattle.std.proofs.lemmas.Bool.{cases_lt, cases_Bool, lt-leb}
 use native.Mathlib.Nat.{mul-lt-mul_of_pos_right}
 use Rattle.b2_dec.specs.declared.number.Mode.TheVariants.{Round}
 use Rattle.b2_dec.specs.Number.{zero_number}
-use Rattle.b2_dec.specs.Rounding.{rnd, of_units, place_of, after_carry, in_range, IsWholePart}
-use Rattle.b2_dec.proofs.TenLemmas.{ten_pos, ten_le, ten_lt, ten_lt_back}
+use Rattle.b2_dec.specs.Rounding.{rnd, of_units, place_of, after_carry, IsWholePart}
+use Rattle.b2_dec.proofs.TenLemmas.{ten_pos, ten_le, ten_lt_back}
 use Rattle.b2_dec.proofs.Places.{place_of-top}
-use Rattle.b2_dec.proofs.Rounds.{after_carry-large, rnd-whole_part}
-use Rattle.b2_dec.proofs.Quotients.{half_of}
-use Rattle.b2_dec.proofs.Exact.{rnd-none, filled-rnd}
+use Rattle.b2_dec.proofs.Rounds.{after_carry-large}
+use Rattle.b2_dec.proofs.Exact.{rnd-none}
 use Rattle.std.proofs.lemmas.List.Sums.{fold-append}
 use Rattle.b2_dectext.specs.Digits.{IsLeading, value_after, digits_value}
 use Rattle.b2_dectext.specs.NumberText.{Parts, value_of}

@@ -4,7 +4,7 @@ use Rattle.std.proofs.Math.Seq.{take-add}
 use Rattle.std.proofs.lemmas.Bool.{cases_Bool, eqb-false}
 use Rattle.std.proofs.lemmas.List.{length-take, length-take-le, drop-drop}
 use Rattle.b2_base.specs.Byte as byte
-use Rattle.b2_base.specs.Lexical.{is_digit, digits_width, first}
+use Rattle.b2_base.specs.Lexical.{digits_width, first}
 use Rattle.b2_dectext.specs.Digits.{AreDigits}
 use Rattle.b2_dectext.specs.NumberText.{sign_len, unsigned, whole_part, fraction_part, point_len, mantissa_len, exponent_digits, exponent_len, number_len, parts_of, value_of, number_value}
 use Rattle.b2_dectext.specs.Grammar.{Sign, Spelling, sign_text, point_text, exponent_text, spelled, fraction_digits, parts, IsSpelling, IsNumberText, is_minus}

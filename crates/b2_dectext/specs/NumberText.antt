@@ -1,5 +1,5 @@
 -- How a number is written, and which number a text begins with.
-use Rattle.std.specs.Prelude.{ℕ, ◌+◌, ◌*◌, ◌^◌, ◌==◌, ◌||◌, min, Bool, false, if◌then◌else◌, Option, Some, None, Result, Ok, Err, List, [], ◌∷◌, ◌++◌, length, take, drop}
+use Rattle.std.specs.Prelude.{ℕ, ◌+◌, ◌*◌, ◌^◌, ◌==◌, ◌||◌, min, Bool, if◌then◌else◌, Option, Some, None, Result, Ok, Err, List, [], ◌++◌, length, take, drop}
 use Rattle.std.specs.List.{prefix_len}
 use Rattle.b2_base.specs.Byte as byte
 use Rattle.b2_base.specs.Lexical.{first, digits_width}

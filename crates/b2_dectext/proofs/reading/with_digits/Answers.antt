@@ -1,6 +1,5 @@
 use Rattle.std.proofs.Common.{◌≡◌, ◌<◌, ◌+◌, ◌-◌, ◌*◌, get_or, take, length, sym, subst, arith}
 use Rattle.std.proofs.lemmas.List.Sums.{fold_more}
-use Rattle.b2_base.specs.Byte as byte
 use Rattle.b2_dectext.specs.Digits.{IsLeading, value_after}
 use Rattle.b2_dectext.proofs.reading.with_digits.Goals as goal
 

@@ -1,5 +1,4 @@
 use Rattle.std.proofs.Common.{◌≡◌, ℕ, ◌+◌, ◌-◌, ◌<◌, ◌≤◌, ◌∷◌, List, true, false, length, drop, get_or, ap, sym, ◌∙◌, arith}
-use Rattle.b2_base.specs.Byte as byte
 use Rattle.b2_print.specs.Filling.{has_digit, place_byte, hash_count}
 use Rattle.b2_print.proofs.PlaceLemmas.{one_more, whole_text-shown, whole_text-skipped, hash_count-mark, hash_count-other, put_before}
 use Rattle.b2_print.proofs.filling.fill_whole.Goals as goal
