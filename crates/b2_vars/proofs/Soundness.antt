@@ -49,7 +49,7 @@ times_zero : (n : ℕ) → n * 0 ≡ 0
 times_zero n = omega arith
 
 -- what stands under a name that is common, and nothing else
-get-common : (t : Table) (q : Var) → get (common_only t) q ≡ cond (is_common q t) (get t q) None
+pub get-common : (t : Table) (q : Var) → get (common_only t) q ≡ cond (is_common q t) (get t q) None
 get-common t q = get-retain_keys t (λ v. is_common v t) q (λ x tie. ap (λ v. is_common v t) (sym (names_exact q x tie)))
 
 pub sound-empty : (area : ℕ) → IsSound area 0 empty
@@ -100,7 +100,7 @@ sound-found area count t v sound found = by (get t v) refl found
     by None e s = absurd (true≢false (sym s))
     by (Some x) e s = subst (IsVariable v) (sym (variable_at-Some t v x e)) (sound-Some area count t v x sound e)
 
-found-cost : (t : Table) (v : Var) → IsSome (get t v) → cost_of v (get t v) ≡ cost v (shape_at v t)
+pub found-cost : (t : Table) (v : Var) → IsSome (get t v) → cost_of v (get t v) ≡ cost v (shape_at v t)
 found-cost t v found = by (get t v) refl found
   where
     by : (o : Option VariableState) → get t v ≡ o → IsSome o → cost_of v (get t v) ≡ cost v (shape_at v t)
