@@ -3,7 +3,7 @@ use Rattle.std.proofs.Common.{◌≡◌, ℕ, ◌+◌, ◌*◌, max, Bool, true,
 use Rattle.std.proofs.lemmas.Bool.Decides.{nat_tests}
 use Rattle.b2_vars.specs.declared.name.Var.{Var}
 use Rattle.b2_vars.specs.declared.shape.Shape.{Shape}
-use Rattle.b2_vars.specs.Shapes.{cost, cells, has_dimensions, is_within}
+use Rattle.b2_vars.specs.Shapes.{cost, cells, has_dimensions, is_up_to}
 
 -- a shape without dimensions has one value
 one_cell : (rows cols : ℕ) → (rows == 0 && cols == 0) ≡ true → max 1 rows * max 1 cols ≡ 1
@@ -13,7 +13,7 @@ one_cell rows cols h =
 
 scalar_cell : (v : Var) (s : Shape) → v.array ≡ false → has_dimensions v s ≡ true → cells s ≡ 1
 scalar_cell v s array has =
-    one_cell s.rows s.cols (sym (ap (λ b. cond b (cond (s.cols == 0) (is_within 1 4000 s.rows) (is_within 1 255 s.rows && is_within 1 255 s.cols)) (s.rows == 0 && s.cols == 0)) array) ∙ has)
+    one_cell s.rows s.cols (sym (ap (λ b. cond b (cond (s.cols == 0) (is_up_to 4000 s.rows) (is_up_to 255 s.rows && is_up_to 255 s.cols)) (s.rows == 0 && s.cols == 0)) array) ∙ has)
 
 kinds : (v : Var) (s : Shape) (alpha array : Bool) → v.alpha ≡ alpha → v.array ≡ array → cost v s ≡ cond alpha (cond array 9 5) (cond array 8 4) + cond alpha (cells s * s.len) (cells s * 8)
 kinds v s alpha array a r = λ i. cond (a i) (cond (r i) 9 5) (cond (r i) 8 4) + cond (a i) (cells s * s.len) (cells s * 8)

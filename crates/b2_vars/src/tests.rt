@@ -1,6 +1,6 @@
 // Calls in order with their answers, and what the variables take after each. The codes and sizes are the language's rules.
 ghost use Rattle.std.specs.Prelude.{◌≡◌, true};
-ghost use Rattle.b2_vars.specs.Names.{is_name};
+ghost use Rattle.b2_vars.specs.Names.{is_legal_name};
 
 use crate::{Shape, Var, Vars};
 use b2_base::codes::{
@@ -137,7 +137,7 @@ fn ok_if(right: bool) -> u8 {
 }
 
 fn read_number(vars: &Vars, v: Var, r: u16, c: u16, n: u64) -> u8
-    requires { is_name v ≡ true }
+    requires { is_legal_name v ≡ true }
 {
     match vars.get(v, r, c) {
         Ok(value) => match value {
@@ -149,7 +149,7 @@ fn read_number(vars: &Vars, v: Var, r: u16, c: u16, n: u64) -> u8
 }
 
 fn read_alpha(vars: &Vars, v: Var, r: u16, c: u16, bytes: &[u8]) -> u8
-    requires { is_name v ≡ true }
+    requires { is_legal_name v ≡ true }
 {
     match vars.get(v, r, c) {
         Ok(value) => match value {
@@ -161,7 +161,7 @@ fn read_alpha(vars: &Vars, v: Var, r: u16, c: u16, bytes: &[u8]) -> u8
 }
 
 fn read_all(vars: &Vars, v: Var, bytes: &[u8]) -> u8
-    requires { is_name v ≡ true }
+    requires { is_legal_name v ≡ true }
 {
     match vars.all(v) {
         Ok(all) => ok_if(all == bytes),
@@ -170,7 +170,7 @@ fn read_all(vars: &Vars, v: Var, bytes: &[u8]) -> u8
 }
 
 fn read(vars: &Vars, v: Var, call: Call) -> u8
-    requires { is_name v ≡ true }
+    requires { is_legal_name v ≡ true }
 {
     match call {
         ReadNumber(r, c, n) => read_number(vars, v, r, c, n),
@@ -183,7 +183,7 @@ fn read(vars: &Vars, v: Var, call: Call) -> u8
 }
 
 fn set_number(vars: &mut Vars, v: Var, call: Call) -> u8
-    requires { is_name v ≡ true }
+    requires { is_legal_name v ≡ true }
 {
     if v.alpha {
         return WRONG;
@@ -199,7 +199,7 @@ fn set_number(vars: &mut Vars, v: Var, call: Call) -> u8
 }
 
 fn set_alpha(vars: &mut Vars, v: Var, call: Call) -> u8
-    requires { is_name v ≡ true }
+    requires { is_legal_name v ≡ true }
 {
     if !v.alpha {
         return WRONG;
@@ -215,7 +215,7 @@ fn set_alpha(vars: &mut Vars, v: Var, call: Call) -> u8
 }
 
 fn set_part(vars: &mut Vars, v: Var, r: u16, c: u16, from: usize, bytes: &[u8]) -> u8
-    requires { is_name v ≡ true }
+    requires { is_legal_name v ≡ true }
 {
     match vars.reach_part(v, r, c, from, bytes.len()) {
         Ok(()) => vars.set_part(v, r, c, from, bytes),
@@ -225,7 +225,7 @@ fn set_part(vars: &mut Vars, v: Var, r: u16, c: u16, from: usize, bytes: &[u8]) 
 }
 
 fn fill_part(vars: &mut Vars, v: Var, r: u16, c: u16, from: usize, n: usize) -> u8
-    requires { is_name v ≡ true }
+    requires { is_legal_name v ≡ true }
 {
     match vars.reach_part(v, r, c, from, n) {
         Ok(()) => vars.part_mut(v, r, c, from, n).fill(b'X'),
@@ -235,7 +235,7 @@ fn fill_part(vars: &mut Vars, v: Var, r: u16, c: u16, from: usize, n: usize) -> 
 }
 
 fn reverse_part(vars: &mut Vars, v: Var, r: u16, c: u16, from: usize, n: usize) -> u8
-    requires { is_name v ≡ true }
+    requires { is_legal_name v ≡ true }
 {
     match vars.reach_part(v, r, c, from, n) {
         Ok(()) => vars.change_part(v, r, c, from, n, |part: &mut [u8]| part.reverse()),
@@ -245,7 +245,7 @@ fn reverse_part(vars: &mut Vars, v: Var, r: u16, c: u16, from: usize, n: usize) 
 }
 
 fn fill_all(vars: &mut Vars, v: Var) -> u8
-    requires { is_name v ≡ true }
+    requires { is_legal_name v ≡ true }
 {
     match vars.reach_all(v) {
         Ok(()) => vars.all_mut(v).fill(b'0'),
@@ -255,7 +255,7 @@ fn fill_all(vars: &mut Vars, v: Var) -> u8
 }
 
 fn reverse_all(vars: &mut Vars, v: Var) -> u8
-    requires { is_name v ≡ true }
+    requires { is_legal_name v ≡ true }
 {
     match vars.reach_all(v) {
         Ok(()) => vars.change_all(v, |all: &mut [u8]| all.reverse()),
@@ -265,7 +265,7 @@ fn reverse_all(vars: &mut Vars, v: Var) -> u8
 }
 
 fn change(vars: &mut Vars, v: Var, call: Call) -> u8
-    requires { is_name v ≡ true }
+    requires { is_legal_name v ≡ true }
 {
     match call {
         ReachPart(r, c, from, n) => code_of(vars.reach_part(v, r, c, from, n)),
@@ -289,7 +289,7 @@ fn clear_non_common(vars: &mut Vars) -> u8 {
 }
 
 fn run(vars: &mut Vars, v: Var, call: Call) -> u8 {
-    if !v.is_name() {
+    if !v.is_legal() {
         return WRONG;
     }
     match call {
@@ -317,7 +317,7 @@ fn first_wrong(vars: &mut Vars, rows: &[Row]) -> Option<usize> {
 
 #[test]
 fn names_are_letters_and_digits(rt: HostRuntime) -> Result<(), Fail> {
-    for (letter, digit, is_name) in [
+    for (letter, digit, is_legal) in [
         (b'A', None, true),
         (b'Z', Some(b'0'), true),
         (b'M', Some(b'9'), true),
@@ -326,7 +326,7 @@ fn names_are_letters_and_digits(rt: HostRuntime) -> Result<(), Fail> {
         (b'A', Some(b'/'), false),
         (b'A', Some(b':'), false),
     ] {
-        assert_eq!(rt; name(letter, digit, true, false).is_name(), is_name);
+        assert_eq!(rt; name(letter, digit, true, false).is_legal(), is_legal);
     }
     Ok(())
 }
