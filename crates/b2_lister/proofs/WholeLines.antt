@@ -16,7 +16,6 @@ use Rattle.b2_lister.specs.Laws.{EachListedLineIsReadBack, EachTreeIsListedAndRe
 use Rattle.b2_atom.specs.Tree as tree
 use Rattle.b2_atom.specs.Tree.{Trees, tokens}
 use Rattle.b2_atom.specs.Tokens.{listed}
-use Rattle.b2_atom.specs.Fitting.{LineTree}
 use Rattle.b2_atom.proofs.lines.ReadAgain.{typed_again, read_again}
 
 -- digits, and the number that they spell
@@ -149,7 +148,7 @@ shows n h =
     shows_by n (n / 10000) (n / 1000 % 10) (n / 100 % 10) (n / 10 % 10) (n % 10) (48 + n / 10000 == 48) (48 + n / 1000 % 10 == 48) (48 + n / 100 % 10 == 48) (48 + n / 10 % 10 == 48)
     refl refl refl refl (no_fifth n h) (digit_most (n / 1000)) (digit_most (n / 100)) (digit_most (n / 10)) (digit_most n) (digits_sum n h)
 
--- a line behind its number
+-- a line after its number
 not_less : (n : ℕ) → nat_lt n n ≡ false
 not_less n = grind (arith, nat_tests)
 
