@@ -50,14 +50,14 @@ source_of (Err e) = Err e
 unfoldable pub line_source : Text → Result Text Stop
 line_source t = source_of (read_line origin.Atoms t)
 
--- what is left behind a reading
-abbrev pub rest_of : Outcome → Text
-rest_of (Ok p) = p.1
-rest_of (Err e) = []
+-- what is left after a reading
+abbrev pub left_after : Outcome → Text
+left_after (Ok p) = p.1
+left_after (Err e) = []
 
--- what stands behind the first unit of a text: a statement without the one that follows its THEN, ELSE or ERROR
-unfoldable pub behind_unit : Position → Text → Text
-behind_unit p t = rest_of (statement (reader origin.Atoms) 1 p t)
+-- what stands after the first unit of a text: a statement without the one that follows its THEN, ELSE or ERROR
+unfoldable pub after_unit : Position → Text → Text
+after_unit p t = left_after (statement (reader origin.Atoms) 1 p t)
 
 -- a unit: where it stands, and its bytes
 pub record LineUnit : Type 0 where
@@ -65,23 +65,23 @@ pub record LineUnit : Type 0 where
   pub bytes : Text
 
 abbrev pub unit_at : Position → Text → LineUnit
-unit_at p t = record { place = p; bytes = take (length t - length (behind_unit p t)) t }
+unit_at p t = record { place = p; bytes = take (length t - length (after_unit p t)) t }
 
--- the units in what stands behind one: a `:` parts them, or nothing where a statement follows
+-- the units in what stands after one: a `:` parts them, or nothing where a statement follows
 abbrev pub next_place : Text → Position
 next_place rest = if first rest == byte.colon then Further else Following
 
 abbrev pub next_text : Text → Text
 next_text rest = if first rest == byte.colon then drop 1 rest else rest
 
-abbrev pub further : (Position → Text → List LineUnit) → Text → List LineUnit
-further more [] = []
-further more (b ∷ bs) = more (next_place (b ∷ bs)) (next_text (b ∷ bs))
+abbrev pub units_after : (Position → Text → List LineUnit) → Text → List LineUnit
+units_after more [] = []
+units_after more (b ∷ bs) = more (next_place (b ∷ bs)) (next_text (b ∷ bs))
 
--- the units of a text from a place on, no more than so many
+-- the first units of a text from a place on, at most n
 abbrev pub units_from : ℕ → Position → Text → List LineUnit
 units_from zero p t = []
-units_from (suc n) p t = unit_at p t ∷ further (units_from n) (behind_unit p t)
+units_from (suc n) p t = unit_at p t ∷ units_after (units_from n) (after_unit p t)
 
 -- the units of a line, which are no more than its bytes
 unfoldable pub units_of : Text → List LineUnit
@@ -106,7 +106,7 @@ is_further First = false
 is_further Further = true
 is_further Following = false
 
--- the first unit behind the k-th that follows a `:`, or the number of units; i units were counted before
+-- the first unit after the k-th that follows a `:`, or the number of units; i units were counted before
 abbrev pub further_unit : ℕ → ℕ → List LineUnit → ℕ
 further_unit k i [] = i
 further_unit k i (u ∷ us) = if nat_lt k i && is_further u.place then i else further_unit k (suc i) us

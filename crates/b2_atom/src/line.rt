@@ -1,7 +1,7 @@
 // Lines as atoms, their units, and a cursor over the bytes of one.
 ghost use Rattle.std.specs.Prelude.{◌≡◌, ◌≢◌, ◌≤◌, ◌<◌, ◌&&◌, nat_lt, length, drop, ◌+◌, ◌==◌, ◌||◌, IfErr, IfOk, IfSome, MatchResult, Some, None, if◌then◌else◌, true, slice_get};
 ghost use Rattle.std.specs.Option.{option_map};
-ghost use Rattle.b2_atom.specs.Lines.{IsKnown, is_line, line_atoms, line_source, short_line, behind_unit, next_place, next_text, units_of, further_unit, is_further};
+ghost use Rattle.b2_atom.specs.Lines.{IsKnown, is_line, line_atoms, line_source, short_line, after_unit, next_place, next_text, units_of, further_unit, is_further};
 
 use crate::laws::what_is_read_is_a_line;
 use crate::sink::{Sink, Source, Stop, bytes_of};
@@ -168,17 +168,17 @@ impl Atoms {
         units.len()
     }
 
-    /// A cursor over a unit, None exactly where there are at most so many units.
+    /// A cursor over the k-th unit, counted from 0, None exactly where there are at most k units.
     pub fn unit(&self, k: usize) -> Option<Cursor<'_>>
         ensures { result ≡ option_map (λ u. u.bytes) (slice_get (units_of self.now) k) }
     {
         match self.units.get(k) {
-            Some(span) => Some(Cursor::over(span.cut(&self.bytes))),
+            Some(span) => Some(Cursor::over(span.unit_bytes(&self.bytes))),
             None => None,
         }
     }
 
-    /// A unit, with whether it is the last.
+    /// The k-th unit, with whether it is the last.
     pub fn find_unit(&self, k: usize) -> Option<FoundUnit<'_>>
         ensures bytes { option_map (λ u. u.cursor) result ≡ option_map (λ u. u.bytes) (slice_get (units_of self.now) k) }
         ensures last { IfSome result (λ u. u.is_last ≡ (k + 1 == length (units_of self.now))) }
@@ -194,7 +194,7 @@ impl Atoms {
         }
     }
 
-    /// The first unit behind the k-th that follows a `:`, or the number of units where there is none.
+    /// The first unit after the k-th that follows a `:`, or the number of units where there is none.
     pub fn skip(&self, k: usize) -> usize
         ensures { result ≡ further_unit k 0 (units_of self.now) }
     {

@@ -1,6 +1,6 @@
 // The units of a line: found once, when the line is made, and looked up from then on.
 ghost use Rattle.std.specs.Prelude.{◌≡◌, ◌≤◌, ℕ, List, IfOk, length, map};
-ghost use Rattle.b2_atom.specs.Lines.{IsEndOf, behind_unit, further_unit, is_further, next_place, next_text, spanned, unit_at, units_of};
+ghost use Rattle.b2_atom.specs.Lines.{IsEndOf, after_unit, further_unit, is_further, next_place, next_text, spanned, unit_at, units_of};
 
 use crate::forms::Position;
 use crate::sink::Sink;
@@ -20,7 +20,7 @@ pub struct Span {
 
 impl Span {
     /// The unit's bytes.
-    pub fn cut<'a>(&self, line: &'a [u8]) -> &'a [u8]
+    pub fn unit_bytes<'a>(&self, line: &'a [u8]) -> &'a [u8]
         ensures { result.now ≡ (spanned line.now self.now).bytes }
     {
         front(
@@ -38,9 +38,9 @@ impl Span {
 }
 
 /// What stands after the first unit of a text.
-#[tactic(auto, unfolding(crate::specs::Lines::behind_unit))]
-fn behind_unit(place: Position, text: &[u8]) -> &[u8]
-    ensures { result.now ≡ behind_unit place text.now }
+#[tactic(auto, unfolding(crate::specs::Lines::after_unit))]
+fn after_unit(place: Position, text: &[u8]) -> &[u8]
+    ensures { result.now ≡ after_unit place text.now }
 {
     let mut sink = Sink::Silent;
     match statement(&mut sink, Origin::Atoms, 1, place, text) {
@@ -75,7 +75,7 @@ fn next_text(rest: &[u8]) -> &[u8]
 fn span_between(line: &[u8], place: Position, left: &[u8], rest: &[u8]) -> Span
     requires few { length line.now ≤ 255 }
     requires left { IsEndOf line.now left.now }
-    requires rest { rest.now ≡ behind_unit place left.now }
+    requires rest { rest.now ≡ after_unit place left.now }
     ensures { spanned line.now result ≡ unit_at place left.now }
 {
     let from = line.len() - left.len();
@@ -96,7 +96,7 @@ pub fn spans_of(alloc: Global, line: &[u8]) -> Result<Vec<Span>, NoMemory>
     let mut place = Position::First;
     let mut left = line;
     for _ in 0..line.len() {
-        let rest = behind_unit(place, left);
+        let rest = after_unit(place, left);
         spans.push(span_between(line, place, left, rest))?;
         if rest.is_empty() {
             return Ok(spans);

@@ -148,7 +148,7 @@ shows n h =
     shows_by n (n / 10000) (n / 1000 % 10) (n / 100 % 10) (n / 10 % 10) (n % 10) (48 + n / 10000 == 48) (48 + n / 1000 % 10 == 48) (48 + n / 100 % 10 == 48) (48 + n / 10 % 10 == 48)
     refl refl refl refl (no_fifth n h) (digit_most (n / 1000)) (digit_most (n / 100)) (digit_most (n / 10)) (digit_most n) (digits_sum n h)
 
--- a line behind its number
+-- a line after its number
 not_less : (n : ℕ) → nat_lt n n ≡ false
 not_less n = grind (arith, nat_tests)
 

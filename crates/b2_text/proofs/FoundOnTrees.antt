@@ -12,7 +12,7 @@ use Rattle.b2_atom.specs.Units.{TreeUnit, unit_atoms, units_on}
 use Rattle.b2_atom.specs.Laws.{IsTree, IsReadAlone}
 use Rattle.b2_atom.proofs.lines.EachUnit.{tree_is_cut}
 use Rattle.b2_text.specs.Spots.{unit_of, is_mark, is_function, is_data, first_line, data_in, or_else}
-use Rattle.b2_text.specs.Trees.{TreeLines, lines_of, is_mark_unit, is_function_unit, is_data_unit, opens, data_on}
+use Rattle.b2_text.specs.Trees.{TreeLines, spelled_lines, is_mark_unit, is_function_unit, is_data_unit, opens, data_on}
 use Rattle.b2_text.specs.Laws.{AreTrees, MarksAreFound, FunctionsAreFound, DataAreFound}
 use Rattle.b2_text.specs.declared.spots.Spot.{Spot}
 use Rattle.b2_text.proofs.Statements.{chosen_of, data_is, mark_is, function_is}
@@ -43,12 +43,12 @@ line_opening test on tells none t h =
 
 -- the lowest line
 first_is : (test : Text → Bool) (on : Trees → Bool) → ((t : Trees) → IsTree t → test (atoms t) ≡ on t) → (lines : TreeLines) → AreTrees lines
-    → first_line test (lines_of lines) ≡ first_line on lines
+    → first_line test (spelled_lines lines) ≡ first_line on lines
 first_is test on same [] h = refl
 first_is test on same (l ∷ ls) h =
     by_test (test (atoms l.1)) (on l.1) (same l.1 (All-head (λ (k : ℕ × Trees). IsTree k.1) l ls h)) (first_is test on same ls (All-tail (λ (k : ℕ × Trees). IsTree k.1) l ls h)) where
-      by_test : (b c : Bool) → b ≡ c → first_line test (lines_of ls) ≡ first_line on ls
-          → option_map {U = Spot} (λ (k : ℕ × Text). record { line = k.0; unit = 0 }) (cond b (Some (l.0, atoms l.1)) (find (λ (k : ℕ × Text). test k.1) (lines_of ls)))
+      by_test : (b c : Bool) → b ≡ c → first_line test (spelled_lines ls) ≡ first_line on ls
+          → option_map {U = Spot} (λ (k : ℕ × Text). record { line = k.0; unit = 0 }) (cond b (Some (l.0, atoms l.1)) (find (λ (k : ℕ × Text). test k.1) (spelled_lines ls)))
           ≡ option_map {U = Spot} (λ (k : ℕ × Trees). record { line = k.0; unit = 0 }) (cond c (Some l) (find (λ (k : ℕ × Trees). on k.1) ls))
       by_test true true is rest = refl
       by_test false false is rest = rest

@@ -2,7 +2,7 @@
 use Rattle.std.proofs.Common.{◌≡◌, ℕ, suc, ◌&&◌, ◌||◌, ◌==◌, ◌+◌, ◌-◌, ◌*◌, not, min, nat_le, Bool, true, false, if◌then◌else◌, List, [], ◌∷◌, take, drop, map, refl, sym, ap, subst, ◌∙◌, arith, Result, Ok, Err}
 use Rattle.std.proofs.lemmas.Bool.Decides.{nat_tests}
 use Rattle.b2_base.specs.Lexical.{capped_value, digits_width, is_digit, is_letter, first}
-use Rattle.b2_atom.specs.Words.{Text, kept}
+use Rattle.b2_atom.specs.Words.{Text, kept_byte}
 use Rattle.b2_atom.specs.Leaves.{missing, refused, small_width, function_name_width}
 use Rattle.b2_atom.specs.Tokens.{Token}
 use Rattle.b2_atom.specs.Tokens.Token.{Coded, Plain}
@@ -145,25 +145,25 @@ data_is p [] m t h = absurd (none_chosen p m h.chosen_row)
 data_is p (b ∷ s) m t h = by_data p b s m t (b == word.DATA) (m == row.DATA) refl refl h
 
 -- what is typed by hand
-kept_same : (s : Text) → map (kept Atoms) s ≡ s
+kept_same : (s : Text) → map (kept_byte Atoms) s ≡ s
 kept_same [] = refl
 kept_same (b ∷ s) = ap (λ (r : Text). b ∷ r) (kept_same s)
 
 typed_small : (w code : ℕ) (s : Text) (q : Parser Text) (t : Trees) → and_then (plain_of Atoms leaf.Small code w s) q ≡ Ok (t, [])
-    → Fronted (not (w == 0)) (Plain leaf.Small (map (kept Atoms) (take w s))) t (q (drop w s))
+    → Fronted (not (w == 0)) (Plain leaf.Small (map (kept_byte Atoms) (take w s))) t (q (drop w s))
 typed_small w code s q t h = by_width (w == 0) h where
-  by_width : (b : Bool) → and_then (if b then Err (missing Atoms leaf.Small code s) else one (Plain leaf.Small (map (kept Atoms) (take w s))) (drop w s)) q ≡ Ok (t, [])
-      → Fronted (not b) (Plain leaf.Small (map (kept Atoms) (take w s))) t (q (drop w s))
+  by_width : (b : Bool) → and_then (if b then Err (missing Atoms leaf.Small code s) else one (Plain leaf.Small (map (kept_byte Atoms) (take w s))) (drop w s)) q ≡ Ok (t, [])
+      → Fronted (not b) (Plain leaf.Small (map (kept_byte Atoms) (take w s))) t (q (drop w s))
   by_width true h = cc
-  by_width false h = record { there = refl; tail = tail_of (Plain leaf.Small (map (kept Atoms) (take w s))) t (q (drop w s)) h }
+  by_width false h = record { there = refl; tail = tail_of (Plain leaf.Small (map (kept_byte Atoms) (take w s))) t (q (drop w s)) h }
 
 typed_name : (w code : ℕ) (s : Text) (q : Parser Text) (t : Trees) → and_then (plain_of Atoms leaf.FunctionName code w s) q ≡ Ok (t, [])
-    → Fronted (not (w == 0)) (Plain leaf.FunctionName (map (kept Atoms) (take w s))) t (q (drop w s))
+    → Fronted (not (w == 0)) (Plain leaf.FunctionName (map (kept_byte Atoms) (take w s))) t (q (drop w s))
 typed_name w code s q t h = by_width (w == 0) h where
-  by_width : (b : Bool) → and_then (if b then Err (missing Atoms leaf.FunctionName code s) else one (Plain leaf.FunctionName (map (kept Atoms) (take w s))) (drop w s)) q ≡ Ok (t, [])
-      → Fronted (not b) (Plain leaf.FunctionName (map (kept Atoms) (take w s))) t (q (drop w s))
+  by_width : (b : Bool) → and_then (if b then Err (missing Atoms leaf.FunctionName code s) else one (Plain leaf.FunctionName (map (kept_byte Atoms) (take w s))) (drop w s)) q ≡ Ok (t, [])
+      → Fronted (not b) (Plain leaf.FunctionName (map (kept_byte Atoms) (take w s))) t (q (drop w s))
   by_width true h = cc
-  by_width false h = record { there = refl; tail = tail_of (Plain leaf.FunctionName (map (kept Atoms) (take w s))) t (q (drop w s)) h }
+  by_width false h = record { there = refl; tail = tail_of (Plain leaf.FunctionName (map (kept_byte Atoms) (take w s))) t (q (drop w s)) h }
 
 -- the number that digits spell is that of the digits alone
 value_of_digits : (n : ℕ) (s : Text) → capped_value 999 n (take (digits_width s) s) ≡ capped_value 999 n s
@@ -182,7 +182,7 @@ mark_chosen place.Further s m h = cc
 mark_chosen place.Following s m h = cc
 
 mark_width : (n : ℕ) (s : Text) (b : Bool) → nat_le (capped_value 999 0 s) 255 ≡ b → not ((if b then digits_width s else 0) == 0) ≡ true
-    → capped_value 999 0 (map (kept Atoms) (take (if b then digits_width s else 0) s)) ≡ capped_value 999 0 s
+    → capped_value 999 0 (map (kept_byte Atoms) (take (if b then digits_width s else 0) s)) ≡ capped_value 999 0 s
 mark_width n s true is h = ap (capped_value 999 0) (kept_same (take (digits_width s) s)) ∙ value_of_digits 0 s
 mark_width n s false is h = cc
 
@@ -194,7 +194,7 @@ unfolding row_items
 mark_items = refl
 
 small_front : (l code : ℕ) (is : List Item) (s : Text) (t : Trees) → items_read l (Typed leaf.Small code ∷ is) s ≡ Ok (t, [])
-    → Fronted (not (small_width s == 0)) (Plain leaf.Small (map (kept Atoms) (take (small_width s) s))) t (items_read l is (drop (small_width s) s))
+    → Fronted (not (small_width s == 0)) (Plain leaf.Small (map (kept_byte Atoms) (take (small_width s) s))) t (items_read l is (drop (small_width s) s))
 unfolding items item read_leaf
 small_front l code is s t h = typed_small (small_width s) code s (items_read l is) t h
 
@@ -238,7 +238,7 @@ unfolding row_items
 body_items = refl
 
 name_front : (l code : ℕ) (is : List Item) (s : Text) (t : Trees) → items_read l (Typed leaf.FunctionName code ∷ is) s ≡ Ok (t, [])
-    → Fronted (not (function_name_width Atoms s == 0)) (Plain leaf.FunctionName (map (kept Atoms) (take (function_name_width Atoms s) s))) t (items_read l is (drop (function_name_width Atoms s) s))
+    → Fronted (not (function_name_width Atoms s == 0)) (Plain leaf.FunctionName (map (kept_byte Atoms) (take (function_name_width Atoms s) s))) t (items_read l is (drop (function_name_width Atoms s) s))
 unfolding items item read_leaf
 name_front l code is s t h = typed_name (function_name_width Atoms s) code s (items_read l is) t h
 
@@ -296,7 +296,7 @@ body_sign name c [] v h = absurd (no_sign 38 S10_OPEN BodyTail v h)
 body_sign name c (d ∷ s) v h = and_true (c == name) (d == byte.opening) (sign_front 38 byte.opening S10_OPEN BodyTail d s v h).there
 
 body_width : (name x : ℕ) (c : ℕ) (s : Text) (v : Trees) (b : Bool)
-    → Fronted (not ((if b then 1 else 0) == 0)) (Plain leaf.FunctionName (map (kept Atoms) (take (if b then 1 else 0) (c ∷ s)))) v
+    → Fronted (not ((if b then 1 else 0) == 0)) (Plain leaf.FunctionName (map (kept_byte Atoms) (take (if b then 1 else 0) (c ∷ s)))) v
     (items_read 38 (Sign byte.opening S10_OPEN ∷ BodyTail) (drop (if b then 1 else 0) (c ∷ s)))
     → is_named name (Put (Coded x) (In 0 v Done)) ≡ named_at name (c ∷ s)
 body_width name x c s v true f = ap (λ (u : Trees). is_named name (Put (Coded x) (In 0 u Done))) f.tail.is ∙ body_sign name c s f.tail.tree f.tail.read
@@ -304,7 +304,7 @@ body_width name x c s v false f = let wrong = f.there in cc
 
 body_tree : (name x : ℕ) (s : Text) (v : Trees) → level_read 39 row.FUNCTION_BODY s ≡ Ok (v, []) → is_named name (Put (Coded x) (In 0 v Done)) ≡ named_at name s
 body_tree name x s v h = by_text s (name_front 38 S22_WORD (Sign byte.opening S10_OPEN ∷ BodyTail) s v (sym (items_of 38 row.FUNCTION_BODY _ s body_items) ∙ h)) where
-  by_text : (s : Text) → Fronted (not (function_name_width Atoms s == 0)) (Plain leaf.FunctionName (map (kept Atoms) (take (function_name_width Atoms s) s))) v
+  by_text : (s : Text) → Fronted (not (function_name_width Atoms s == 0)) (Plain leaf.FunctionName (map (kept_byte Atoms) (take (function_name_width Atoms s) s))) v
       (items_read 38 (Sign byte.opening S10_OPEN ∷ BodyTail) (drop (function_name_width Atoms s) s))
       → is_named name (Put (Coded x) (In 0 v Done)) ≡ named_at name s
   by_text [] f = let wrong = f.there in cc

@@ -14,8 +14,8 @@ use Rattle.b2_text.specs.Program.{Lines}
 abbrev pub TreeLines : Type 0
 TreeLines = List (ℕ × Trees)
 
-abbrev pub lines_of : TreeLines → Lines
-lines_of lines = map (λ l. (l.0, atoms l.1)) lines
+abbrev pub spelled_lines : TreeLines → Lines
+spelled_lines lines = map (λ l. (l.0, atoms l.1)) lines
 
 -- whether a number stands after the first word
 abbrev pub is_numbered : ℕ → Trees → Bool

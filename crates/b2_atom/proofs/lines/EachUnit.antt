@@ -11,7 +11,7 @@ use Rattle.b2_atom.specs.Tokens.Token.{Coded, Plain, Lined}
 use Rattle.b2_atom.specs.Tree.{Trees, Outcome, atoms, tokens}
 use Rattle.b2_atom.specs.Tree.Trees.{Done, Put, In}
 use Rattle.b2_atom.specs.Grammar.{reader, statement, statement_row, row_items, starts}
-use Rattle.b2_atom.specs.Lines.{LineUnit, unit_at, units_from, further, behind_unit, rest_of, units_of}
+use Rattle.b2_atom.specs.Lines.{LineUnit, unit_at, units_from, units_after, after_unit, left_after, units_of}
 use Rattle.b2_atom.specs.Spelling.{Spells, atoms_of_tokens}
 use Rattle.b2_atom.specs.Fitting.{Fits, is_statement}
 use Rattle.b2_atom.specs.Units.{TreeUnit, own, units_in, units_on, unit_atoms}
@@ -43,9 +43,9 @@ front_taken a b =
     let less : length (a ++ b) - length b ≡ length a = omega (arith, both) in
     ap (λ (n : ℕ). take n (a ++ b)) less ∙ take-append_seam a b
 
-behind_read : (p : Position) (m : ℕ) (t : Trees) (xs more : List Token) → UnitRead p m t xs more → behind_unit p (atoms_of_tokens (xs ++ more)) ≡ atoms_of_tokens more
-unfolding behind_unit
-behind_read p m t xs more h = ap rest_of h.here
+behind_read : (p : Position) (m : ℕ) (t : Trees) (xs more : List Token) → UnitRead p m t xs more → after_unit p (atoms_of_tokens (xs ++ more)) ≡ atoms_of_tokens more
+unfolding after_unit
+behind_read p m t xs more h = ap left_after h.here
 
 unit_bytes : (p : Position) (m : ℕ) (t : Trees) (xs more : List Token) → UnitRead p m t xs more → (unit_at p (atoms_of_tokens (xs ++ more))).bytes ≡ atoms_of_tokens xs
 unit_bytes p m t xs more h =
@@ -82,7 +82,7 @@ cut_one p m t xs more us vs h cut = record {
   alone = All-cons IsReadAlone (record { place = p; row = m; tree = t }) vs (ap (statement (reader Atoms) 1 p) (unit_atoms_are p m t xs more h) ∙ h.alone) cut.alone;
 }
 
--- the items behind a statement, and one of them
+-- the items after a statement, and one of them
 abbrev FurtherItems : List Item
 FurtherItems = Many (start.Code 58) row.FURTHER_STATEMENT ∷ End ∷ []
 
@@ -96,17 +96,17 @@ FurtherRow q = Fits Atoms 32 (Sign 58 25 ∷ Statement place.Further ∷ []) q
 abbrev units_from_it : Position → ℕ → Trees → Trees → List TreeUnit
 units_from_it p m t ts = record { place = p; row = m; tree = own (row_items m) t } ∷ (units_in (row_items m) t ++ units_in FurtherItems ts)
 
--- what gives the units from where a statement stands, in so many bytes
+-- what gives the units from where a statement stands, in at most n bytes
 abbrev AllOf : ℕ → (Position → Text → List LineUnit) → Type 0
 AllOf n f = (p : Position) (m : ℕ) (t ts : Trees) → is_statement forms Atoms p m ≡ true → Fits Atoms 32 (row_items m) t → FurtherRows ts
     → Stand (tokens t ++ tokens ts) → length (atoms_of_tokens (tokens t ++ tokens ts)) ≤ n → Cut (f p (atoms_of_tokens (tokens t ++ tokens ts))) (units_from_it p m t ts)
 
--- behind a `:`
-colon_next : (f : Position → Text → List LineUnit) (d : ℕ) (s : Text) → (d == 58) ≡ true → further f (d ∷ s) ≡ f place.Further s
+-- after a `:`
+colon_next : (f : Position → Text → List LineUnit) (d : ℕ) (s : Text) → (d == 58) ≡ true → units_after f (d ∷ s) ≡ f place.Further s
 colon_next f d s h = (λ i. f (if h i then place.Further else place.Following) (if h i then s else d ∷ s))
 
 -- where a statement follows
-following_next : (f : Position → Text → List LineUnit) (b : ℕ) (s : Text) → (b == 58) ≡ false → further f (b ∷ s) ≡ f place.Following (b ∷ s)
+following_next : (f : Position → Text → List LineUnit) (b : ℕ) (s : Text) → (b == 58) ≡ false → units_after f (b ∷ s) ≡ f place.Following (b ∷ s)
 following_next f b s h = (λ i. f (if h i then place.Further else place.Following) (if h i then s else b ∷ s))
 
 further_bytes : (n d : ℕ) (s : Text) → length (d ∷ s) ≤ n → length s ≤ n
@@ -114,7 +114,7 @@ further_bytes n d s h = omega (arith, h)
 
 further_units : (n : ℕ) (f : Position → Text → List LineUnit) → AllOf n f → (q ts : Trees) → FurtherRow q → FurtherRows ts
     → Stand (tokens q ++ tokens ts) → length (atoms_of_tokens (tokens q ++ tokens ts)) ≤ n
-    → Cut (further f (atoms_of_tokens (tokens q ++ tokens ts))) (units_in (Sign 58 25 ∷ Statement place.Further ∷ []) q ++ units_in FurtherItems ts)
+    → Cut (units_after f (atoms_of_tokens (tokens q ++ tokens ts))) (units_in (Sign 58 25 ∷ Statement place.Further ∷ []) q ++ units_in FurtherItems ts)
 further_units n f all (Put (Coded d) (In m t Done)) ts fits more st few =
     let same : (tokens t ++ []) ++ tokens ts ≡ tokens t ++ tokens ts = ap (λ (l : List Token). l ++ tokens ts) (append-nil (tokens t)) in
     let st_ = subst (λ (l : List Token). Stand l) same (stand_behind (Coded d ∷ []) ((tokens t ++ []) ++ tokens ts) st) in
@@ -136,15 +136,15 @@ further_units n f all Done ts fits more st few = cc
 further_row : (q : Trees) → Fits Atoms 32 (row_items row.FURTHER_STATEMENT) q → FurtherRow q
 further_row q fits = subst (λ (is : List Item). Fits Atoms 32 is q) further_is fits
 
--- the units behind a statement
+-- the units after a statement
 behind_units : (n : ℕ) (f : Position → Text → List LineUnit) → AllOf n f → (ts : Trees) → FurtherRows ts → Stand (tokens ts) → length (atoms_of_tokens (tokens ts)) ≤ n
-    → Cut (further f (atoms_of_tokens (tokens ts))) (units_in FurtherItems ts)
+    → Cut (units_after f (atoms_of_tokens (tokens ts))) (units_in FurtherItems ts)
 behind_units n f all (In zero q Done) fits st few =
-    let P : Trees → Type 0 = λ x. Cut (further f (atoms_of_tokens (tokens (In 0 x Done)))) (units_in FurtherItems (In 0 x Done)) in subst P (sym (done_of Atoms 32 q fits.0)) cut_none
+    let P : Trees → Type 0 = λ x. Cut (units_after f (atoms_of_tokens (tokens (In 0 x Done)))) (units_in FurtherItems (In 0 x Done)) in subst P (sym (done_of Atoms 32 q fits.0)) cut_none
 behind_units n f all (In zero q (Put t ts)) fits st few = absurd fits.1
 behind_units n f all (In zero q (In k t ts)) fits st few = absurd fits.1
 behind_units n f all (In (suc zero) q ts) fits st few =
-    subst (λ (is : List Item). Cut (further f (atoms_of_tokens (tokens q ++ tokens ts))) (units_in is q ++ units_in FurtherItems ts)) (sym further_is)
+    subst (λ (is : List Item). Cut (units_after f (atoms_of_tokens (tokens q ++ tokens ts))) (units_in is q ++ units_in FurtherItems ts)) (sym further_is)
     (further_units n f all q ts (further_row q fits.0) fits.1 st few)
 behind_units n f all (In (suc (suc k)) q ts) fits st few = absurd fits
 behind_units n f all Done fits st few = cc
@@ -172,12 +172,12 @@ no_colon : (ts : List Token) (s : Text) → some (λ (f : Front). fronts f ts) s
 unfolding starts
 no_colon ts s heads spelled = answers Atoms (start.Code 58) statement_heads false ts s refl heads spelled
 
-following_units : (f : Position → Text → List LineUnit) (s : Text) (vs : List TreeUnit) → (first s == 58) ≡ false → 1 ≤ length s → Cut (f place.Following s) vs → Cut (further f s) vs
+following_units : (f : Position → Text → List LineUnit) (s : Text) (vs : List TreeUnit) → (first s == 58) ≡ false → 1 ≤ length s → Cut (f place.Following s) vs → Cut (units_after f s) vs
 following_units f [] vs h some_ cut = absurd (omega arith)
 following_units f (b ∷ s) vs h some_ cut = subst (λ (us : List LineUnit). Cut us vs) (sym (following_next f b s h)) cut
 
 next_units : (n : ℕ) (f : Position → Text → List LineUnit) → AllOf n f → (us : List TreeUnit) (ts : Trees) (here : List Token) → FurtherRows ts → Next us (tokens ts) here → Stand here
-    → length (atoms_of_tokens here) ≤ n → Cut (further f (atoms_of_tokens here)) (us ++ units_in FurtherItems ts)
+    → length (atoms_of_tokens here) ≤ n → Cut (units_after f (atoms_of_tokens here)) (us ++ units_in FurtherItems ts)
 next_units n f all us ts here fits next st few =
     let s : Text = atoms_of_tokens here in
     let st_ = subst (λ (l : List Token). Stand l) next.same st in
@@ -185,7 +185,7 @@ next_units n f all us ts here fits next st few =
     let same_ : s ≡ atoms_of_tokens (one.front ++ one.behind) = ap atoms_of_tokens (next.same ∙ one.same) in
     let some_ = some_bytes place.Following _ s _ (ap (statement (reader Atoms) 1 place.Following) same_ ∙ one.read.here) in
     let vs : List TreeUnit = units_from_it place.Following next.row next.tree ts in
-    subst (λ (ws : List TreeUnit). Cut (further f s) (ws ++ units_in FurtherItems ts)) (sym next.units)
+    subst (λ (ws : List TreeUnit). Cut (units_after f s) (ws ++ units_in FurtherItems ts)) (sym next.units)
     (following_units f s vs (no_colon here s next.heads (spells_atoms here st.good st.neighbours)) some_
     (subst (λ (l : List Token). Cut (f place.Following (atoms_of_tokens l)) vs) (sym next.same)
     (all place.Following next.row next.tree ts next.stated next.fits fits st_ (subst (λ (l : List Token). length (atoms_of_tokens l) ≤ n) next.same few))))
@@ -199,22 +199,22 @@ fewer n xs ys some_ few =
 -- all units from a statement on
 units_from_one : (n : ℕ) (f : Position → Text → List LineUnit) → AllOf n f → (p : Position) (m : ℕ) (t ts : Trees) (all : List Token) → FurtherRows ts → FirstUnit p m t all (tokens ts)
     → Stand all → length (atoms_of_tokens all) ≤ suc n
-    → Cut (unit_at p (atoms_of_tokens all) ∷ further f (behind_unit p (atoms_of_tokens all))) (units_from_it p m t ts)
+    → Cut (unit_at p (atoms_of_tokens all) ∷ units_after f (after_unit p (atoms_of_tokens all))) (units_from_it p m t ts)
 units_from_one n f all_of p m t ts all fits one st few =
     let s : Text = atoms_of_tokens (one.front ++ one.behind) in
     let st_ = stand_behind one.front one.behind (subst (λ (l : List Token). Stand l) one.same st) in
     let some_ = some_bytes p _ (atoms_of_tokens one.front) _ one.read.alone in
     let few_ = fewer n one.front one.behind some_ (subst (λ (l : List Token). length (atoms_of_tokens l) ≤ suc n) one.same few) in
     let vs : List TreeUnit = units_in (row_items m) t ++ units_in FurtherItems ts in
-    let behind_ : Cut (further f (atoms_of_tokens one.behind)) vs = elim one.next [
-      | inl g ↦ subst (λ (us : List TreeUnit). Cut (further f (atoms_of_tokens one.behind)) (us ++ units_in FurtherItems ts)) (sym g.1)
-          (subst (λ (l : List Token). Cut (further f (atoms_of_tokens l)) (units_in FurtherItems ts)) (sym g.0)
+    let behind_ : Cut (units_after f (atoms_of_tokens one.behind)) vs = elim one.next [
+      | inl g ↦ subst (λ (us : List TreeUnit). Cut (units_after f (atoms_of_tokens one.behind)) (us ++ units_in FurtherItems ts)) (sym g.1)
+          (subst (λ (l : List Token). Cut (units_after f (atoms_of_tokens l)) (units_in FurtherItems ts)) (sym g.0)
           (behind_units n f all_of ts fits (subst (λ (l : List Token). Stand l) g.0 st_) (subst (λ (l : List Token). length (atoms_of_tokens l) ≤ n) g.0 few_)))
       | inr next ↦ next_units n f all_of (units_in (row_items m) t) ts one.behind fits next st_ few_
     ] in
-    subst (λ (l : List Token). Cut (unit_at p (atoms_of_tokens l) ∷ further f (behind_unit p (atoms_of_tokens l))) (units_from_it p m t ts)) (sym one.same)
-    (cut_one p m (own (row_items m) t) one.front one.behind (further f (behind_unit p s)) vs one.read
-    (subst (λ (rest : Text). Cut (further f rest) vs) (sym (behind_read p m (own (row_items m) t) one.front one.behind one.read)) behind_))
+    subst (λ (l : List Token). Cut (unit_at p (atoms_of_tokens l) ∷ units_after f (after_unit p (atoms_of_tokens l))) (units_from_it p m t ts)) (sym one.same)
+    (cut_one p m (own (row_items m) t) one.front one.behind (units_after f (after_unit p s)) vs one.read
+    (subst (λ (rest : Text). Cut (units_after f rest) vs) (sym (behind_read p m (own (row_items m) t) one.front one.behind one.read)) behind_))
 
 all_units : (n : ℕ) → AllOf n (units_from n)
 all_units zero p m t ts stated fits more st few =

@@ -177,7 +177,7 @@ followed_runs m c front last f a b mid more u fits remarks_ spelled_ behind_ =
     (ap (λ (is : List Item). reads_row Atoms 32 39 0 is u) f.is ∙ items_append _ _ _ (Word c ∷ front) (last ∷ []) u)
     (runs_then Atoms (reads_row Atoms 32 39 0 (Word c ∷ front) u) (reads_row Atoms 32 39 0 (last ∷ [])) a b mid more (front_runs m c front last f a mid u fits remarks_ spelled_) behind_)
 
--- by itself such a row ends behind its front
+-- by itself such a row ends after its front
 opens_first : List Token → Bool
 opens_first [] = true
 opens_first (x ∷ xs) = opens_statement x
@@ -208,7 +208,7 @@ last_runs i t more v h = next_runs Atoms 32 39 0 i [] t Done more more v h (λ u
 abbrev LineOrStatement : Item
 LineOrStatement = Either start.Line row.LINE_NUMBER row.FOLLOWING
 
--- what stands behind THEN or ELSE is no line number: nothing is read
+-- what stands after THEN or ELSE is no line number: nothing is read
 either_stops : (mid : List Token) (v : Text) → starts Atoms start.Line v ≡ false → Spells Atoms mid v → Runs Atoms (reads_row Atoms 32 39 0 (LineOrStatement ∷ []) v) (In 0 Done Done) mid
 unfolding item
 either_stops mid v other spelled_ =
@@ -371,7 +371,7 @@ whole_stands p m inner more ys s stated fits closed same spelled_ =
     subst (λ (l : List Token). Stands Atoms p m l s) same
     (one_statement Atoms p m inner more s stated fits closed (subst (λ (l : List Token). Spells Atoms l s) (sym same) spelled_))
 
--- with a line number behind its front
+-- with a line number after its front
 line_tokens : (a b : Trees) → tokens (also a (In 1 b Done)) ≡ tokens a ++ tokens b
 line_tokens a b = tokens_also a (In 1 b Done) ∙ ap (λ (l : List Token). tokens a ++ l) (append-nil (tokens b))
 
@@ -406,7 +406,7 @@ line_unit m c front f p a b more stated fits fits_a fits_b closed own_is units_a
       next = inl (refl, units_are ∙ ap (λ (us : List TreeUnit). us ++ []) r.units);
     }
 
--- with a statement behind its front
+-- with a statement after its front
 abbrev Stops : Item → ℕ → List Token → Type 0
 Stops last k mid = (v : Text) → Spells Atoms mid v → Runs Atoms (reads_row Atoms 32 39 0 (last ∷ []) v) (In k Done Done) mid
 

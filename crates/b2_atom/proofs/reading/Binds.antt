@@ -5,7 +5,7 @@ use Rattle.b2_atom.specs.Tokens.{Token, token_atoms, listed, ending, ends_wordy,
 use Rattle.b2_atom.specs.Tree.{Trees, Outcome, Parser, Seen, atoms, also, preceded, and_then, under, emitted, put_one, put_all, bytes_of, is_silent, Takes, tokens}
 use Rattle.b2_atom.specs.Tree.Trees.{Done, Put, In}
 use Rattle.b2_atom.specs.Tree.Seen.{Silent, Written, Listed}
-use Rattle.b2_atom.specs.Lines.{rest_of, atoms_of, source_of, is_line, line_source}
+use Rattle.b2_atom.specs.Lines.{left_after, atoms_of, source_of, is_line, line_source}
 use Rattle.b2_atom.specs.declared.sink.Stop.{Stop}
 use Rattle.b2_atom.specs.declared.sink.Stop.TheVariants.{At}
 use Rattle.b2_atom.specs.declared.words.Origin.{Origin}
@@ -148,12 +148,12 @@ statement_err o f p old t e h is =
     statement_more o f p old t h ∙ ap (λ (r : Result (ℕ × Text) Stop). emitted old (chosen r (part o (f - 1) 32 40))) is
 
 -- what is left after a reading, as its sink tells
-pub rest_ok : (s n : Seen) (o : Outcome) (r : Text) → emitted s o ≡ Ok (n, r) → rest_of o ≡ r
+pub rest_ok : (s n : Seen) (o : Outcome) (r : Text) → emitted s o ≡ Ok (n, r) → left_after o ≡ r
 rest_ok s n (Err e) r is = cc
 rest_ok s n (Ok p) r is =
     let pairs : ◌≡◌ {A = Seen × Text} (put_all s p.0, p.1) (n, r) = cc in ap (λ (x : Seen × Text). x.1) pairs
 
-pub rest_err : (s : Seen) (o : Outcome) (e : Stop) → emitted s o ≡ Err e → rest_of o ≡ []
+pub rest_err : (s : Seen) (o : Outcome) (e : Stop) → emitted s o ≡ Err e → left_after o ≡ []
 rest_err s (Err f) e is = refl
 rest_err s (Ok p) e is = cc
 

@@ -14,16 +14,16 @@ span_between-requires-clause-left c = c.loop.invariant.left
 
 pub returns-then-is_empty : goal.returns-then-is_empty
 returns-then-is_empty c =
-    found_last c.args.line.now (length c.args.line.now) c.loop.counter c.loop.place c.loop.left.now c.behind_unit-rest.result.now c.loop.spans.items c.push.new.self.items c.span_between.result
-    c.in_ok-push.ensures.items c.span_between.ensures c.loop-test.true c.behind_unit-rest.ensures (sym c.is_empty.ensures ∙ c.if-is_empty.true) c.loop.invariant.units
+    found_last c.args.line.now (length c.args.line.now) c.loop.counter c.loop.place c.loop.left.now c.after_unit-rest.result.now c.loop.spans.items c.push.new.self.items c.span_between.result
+    c.in_ok-push.ensures.items c.span_between.ensures c.loop-test.true c.after_unit-rest.ensures (sym c.is_empty.ensures ∙ c.if-is_empty.true) c.loop.invariant.units
 
 pub loop-preserved : goal.loop-preserved
 loop-preserved c = record {
   left = subst (λ (t : List ℕ). IsEndOf c.args.line.now t) (sym c.next_text-left.ensures)
-      (end_next c.args.line.now c.loop.left.now c.behind_unit-rest.result.now c.loop.place c.loop.invariant.left c.behind_unit-rest.ensures);
+      (end_next c.args.line.now c.loop.left.now c.after_unit-rest.result.now c.loop.place c.loop.invariant.left c.after_unit-rest.ensures);
   units =
-      found_next c.args.line.now (length c.args.line.now) c.loop.counter c.loop.place c.next_place-place.result c.loop.left.now c.behind_unit-rest.result.now c.next_text-left.result.now
-      c.loop.spans.items c.push.new.self.items c.span_between.result c.in_ok-push.ensures.items c.span_between.ensures c.loop-test.true c.behind_unit-rest.ensures
+      found_next c.args.line.now (length c.args.line.now) c.loop.counter c.loop.place c.next_place-place.result c.loop.left.now c.after_unit-rest.result.now c.next_text-left.result.now
+      c.loop.spans.items c.push.new.self.items c.span_between.result c.in_ok-push.ensures.items c.span_between.ensures c.loop-test.true c.after_unit-rest.ensures
       (sym c.is_empty.ensures ∙ c.if-is_empty.false) c.next_place-place.ensures c.next_text-left.ensures c.loop.invariant.units;
 }
 
