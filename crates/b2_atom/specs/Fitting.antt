@@ -15,7 +15,7 @@ use Rattle.b2_atom.specs.declared.words.Origin.{Origin}
 use Rattle.b2_atom.specs.declared.words.Origin.TheVariants as origin
 use Rattle.b2_atom.specs.declared.forms.Leaf.{Leaf}
 use Rattle.b2_atom.specs.declared.forms.Leaf.TheVariants as leaf
-use Rattle.b2_atom.specs.declared.forms.Place.{Place}
+use Rattle.b2_atom.specs.declared.forms.Position.{Position}
 use Rattle.b2_atom.specs.declared.forms.Rule.{Rule}
 use Rattle.b2_atom.specs.declared.forms.Form.{Form}
 use Rattle.b2_atom.specs.declared.forms.Item.{Item}
@@ -52,11 +52,11 @@ fits_token o (Typed k code) (Lined high low) = leaf_number k == 7 && (is_decimal
 fits_token o i t = false
 
 -- whether a rule allows a statement at a place in such a line
-abbrev pub is_allowed : Origin → Place → Rule → Bool
+abbrev pub is_allowed : Origin → Position → Rule → Bool
 is_allowed o p r = not (barred_following p r || (barred_line o r || barred_place p r))
 
 -- whether a row is that of a statement that is allowed there: one of the forms, or an assignment
-abbrev pub is_statement : List Form → Origin → Place → ℕ → Bool
+abbrev pub is_statement : List Form → Origin → Position → ℕ → Bool
 is_statement [] o p n = n == row.ASSIGNMENT
 is_statement (f ∷ fs) o p n = (f.row == n && is_allowed o p f.rule) || is_statement fs o p n
 

@@ -10,9 +10,9 @@ use Rattle.b2_atom.specs.declared.words.Origin.{Origin}
 use Rattle.b2_atom.specs.declared.words.Origin.TheVariants as origin
 use Rattle.b2_atom.specs.declared.sink.Stop.{Stop}
 use Rattle.b2_atom.specs.declared.sink.Stop.TheVariants.{At, Deep, NoMemory}
-use Rattle.b2_atom.specs.declared.forms.Place.{Place}
+use Rattle.b2_atom.specs.declared.forms.Position.{Position}
 use Rattle.b2_atom.specs.declared.spans.Span.{Span}
-use Rattle.b2_atom.specs.declared.forms.Place.TheVariants.{First, Further, Following}
+use Rattle.b2_atom.specs.declared.forms.Position.TheVariants.{First, Further, Following}
 
 -- a list of at most 255 bytes that the table reads as a line of atoms
 unfoldable pub is_line : Text → Bool
@@ -56,30 +56,30 @@ rest_of (Ok p) = p.1
 rest_of (Err e) = []
 
 -- what stands behind the first unit of a text: a statement without the one that follows its THEN, ELSE or ERROR
-unfoldable pub behind_unit : Place → Text → Text
+unfoldable pub behind_unit : Position → Text → Text
 behind_unit p t = rest_of (statement (reader origin.Atoms) 1 p t)
 
 -- a unit: where it stands, and its bytes
 pub record LineUnit : Type 0 where
-  pub place : Place
+  pub place : Position
   pub bytes : Text
 
-abbrev pub unit_at : Place → Text → LineUnit
+abbrev pub unit_at : Position → Text → LineUnit
 unit_at p t = record { place = p; bytes = take (length t - length (behind_unit p t)) t }
 
 -- the units in what stands behind one: a `:` parts them, or nothing where a statement follows
-abbrev pub next_place : Text → Place
+abbrev pub next_place : Text → Position
 next_place rest = if first rest == byte.colon then Further else Following
 
 abbrev pub next_text : Text → Text
 next_text rest = if first rest == byte.colon then drop 1 rest else rest
 
-abbrev pub further : (Place → Text → List LineUnit) → Text → List LineUnit
+abbrev pub further : (Position → Text → List LineUnit) → Text → List LineUnit
 further more [] = []
 further more (b ∷ bs) = more (next_place (b ∷ bs)) (next_text (b ∷ bs))
 
 -- the units of a text from a place on, no more than so many
-abbrev pub units_from : ℕ → Place → Text → List LineUnit
+abbrev pub units_from : ℕ → Position → Text → List LineUnit
 units_from zero p t = []
 units_from (suc n) p t = unit_at p t ∷ further (units_from n) (behind_unit p t)
 
@@ -101,7 +101,7 @@ pub record IsEndOf (line left : Text) : Type 0 where
   pub short : length left ≤ length line
   pub is : drop (length line - length left) line ≡ left
 
-abbrev pub is_further : Place → Bool
+abbrev pub is_further : Position → Bool
 is_further First = false
 is_further Further = true
 is_further Following = false

@@ -6,14 +6,14 @@ use Rattle.b2_atom.specs.Grammar.{row_items}
 use Rattle.b2_atom.specs.Fitting.{giving}
 use Rattle.b2_atom.specs.Lines.{LineUnit}
 use Rattle.b2_atom.specs.declared.rows.TheConstants as row
-use Rattle.b2_atom.specs.declared.forms.Place.{Place}
+use Rattle.b2_atom.specs.declared.forms.Position.{Position}
 use Rattle.b2_atom.specs.declared.forms.Item.{Item}
 use Rattle.b2_atom.specs.declared.forms.Item.TheVariants.{Part, Maybe, Either, Many, Nest, Statement}
 
 -- a statement of a line: where it stands, its row, and its own tree, without the statement that follows its THEN, ELSE or
 -- ERROR
 pub record TreeUnit : Type 0 where
-  pub place : Place
+  pub place : Position
   pub row : ℕ
   pub tree : Trees
 

@@ -354,5 +354,8 @@ fn missing_literal(origin: Origin, code: u8, text: &[u8]) -> Stop
         return Stop::At(codes::S18_ALPHA, text.len());
     }
     let count = until_quote(dropped(text, 1));
-    Stop::At(codes::S19_HEX_OR_QUOTE, text.len().saturating_sub(count.saturating_add(1)))
+    Stop::At(
+        codes::S19_HEX_OR_QUOTE,
+        text.len().saturating_sub(count.saturating_add(1)),
+    )
 }

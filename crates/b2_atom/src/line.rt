@@ -51,7 +51,7 @@ pub struct FoundUnit<'a> {
     pub is_last: bool,
 }
 
-// Whether bytes spell a line.
+/// Whether bytes spell a line.
 #[tactic(auto, unfolding(crate::specs::Lines::is_line))]
 fn spells_line(bytes: &[u8]) -> bool
     ensures { result ≡ is_line bytes.now }
@@ -79,7 +79,7 @@ pub fn read_source(alloc: Global, origin: Origin, text: &[u8]) -> Result<Vec<u8>
     }
 }
 
-// The canonical source of a line of atoms.
+/// The canonical source of a line of atoms.
 #[tactic(auto, using(crate::proofs::reading::Binds::shown, crate::proofs::reading::Binds::shown_none), unfolding(crate::specs::Lines::line_source))]
 fn line_source(alloc: Global, line: &[u8]) -> Result<Vec<u8>, Stop>
     ensures { MatchResult result (λ bytes. line_source line.now ≡ Ok bytes.items) (λ e. e ≢ Stop.NoMemory → line_source line.now ≡ Err e) }

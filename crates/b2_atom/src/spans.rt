@@ -2,7 +2,7 @@
 ghost use Rattle.std.specs.Prelude.{◌≡◌, ◌≤◌, ℕ, List, IfOk, length, map};
 ghost use Rattle.b2_atom.specs.Lines.{IsEndOf, behind_unit, further_unit, is_further, next_place, next_text, spanned, unit_at, units_of};
 
-use crate::forms::Place;
+use crate::forms::Position;
 use crate::sink::Sink;
 use crate::walk::statement;
 use crate::words::Origin;
@@ -13,7 +13,7 @@ use std::alloc::Global;
 /// A unit of a line: where it stands, and which of the line's bytes are its own.
 #[derive(Clone, Copy, Debug)]
 pub struct Span {
-    place: Place,
+    place: Position,
     from: u8,
     width: u8,
 }
@@ -33,13 +33,13 @@ impl Span {
     fn follows_colon(&self) -> bool
         ensures { result ≡ is_further self.now.place }
     {
-        self.place == Place::Further
+        self.place == Position::Further
     }
 }
 
 /// What stands after the first unit of a text.
 #[tactic(auto, unfolding(crate::specs::Lines::behind_unit))]
-fn behind_unit(place: Place, text: &[u8]) -> &[u8]
+fn behind_unit(place: Position, text: &[u8]) -> &[u8]
     ensures { result.now ≡ behind_unit place text.now }
 {
     let mut sink = Sink::Silent;
@@ -50,13 +50,13 @@ fn behind_unit(place: Place, text: &[u8]) -> &[u8]
 }
 
 /// Where the unit stands that begins after another.
-fn next_place(rest: &[u8]) -> Place
+fn next_place(rest: &[u8]) -> Position
     ensures { result ≡ next_place rest.now }
 {
     if first(rest) == b':' {
-        Place::Further
+        Position::Further
     } else {
-        Place::Following
+        Position::Following
     }
 }
 
@@ -72,7 +72,7 @@ fn next_text(rest: &[u8]) -> &[u8]
 }
 
 /// The unit at a text that is left of a line, before what stands after the unit.
-fn span_between(line: &[u8], place: Place, left: &[u8], rest: &[u8]) -> Span
+fn span_between(line: &[u8], place: Position, left: &[u8], rest: &[u8]) -> Span
     requires few { length line.now ≤ 255 }
     requires left { IsEndOf line.now left.now }
     requires rest { rest.now ≡ behind_unit place left.now }
@@ -93,7 +93,7 @@ pub fn spans_of(alloc: Global, line: &[u8]) -> Result<Vec<Span>, NoMemory>
     ensures { IfOk result (λ spans. map (spanned line.now) spans.items ≡ units_of line.now) }
 {
     let mut spans = Vec::new(alloc);
-    let mut place = Place::First;
+    let mut place = Position::First;
     let mut left = line;
     for _ in 0..line.len() {
         let rest = behind_unit(place, left);

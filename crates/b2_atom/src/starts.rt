@@ -3,14 +3,14 @@ ghost use Rattle.std.specs.Prelude.{◌≡◌, ◌≢◌, ◌<◌, length, IfErr
 ghost use Rattle.b2_atom.specs.Words as words;
 ghost use Rattle.b2_atom.specs.Grammar as spec;
 
-use crate::forms::{Form, Place, Rule, Start};
+use crate::forms::{Form, Position, Rule, Start};
 use crate::leaves::{any_name_width, is_alpha_name, numeric_name_width, refused};
 use crate::rows;
 use crate::sink::Stop;
 use crate::table::FORMS;
 use crate::words::{
-    ABS_OPEN, BIN_OPEN, FN, HASH_TERM, HEX_OPEN, HEXOF_OPEN, LINE_MARK, Origin, STR_OPEN, TAB_OPEN, ahead,
-    begins_with, is_source, kept_byte, skipped,
+    ABS_OPEN, BIN_OPEN, FN, HASH_TERM, HEX_OPEN, HEXOF_OPEN, LINE_MARK, Origin, STR_OPEN, TAB_OPEN,
+    ahead, begins_with, is_source, kept_byte, skipped,
 };
 use b2_base::codes;
 use b2_base::lexical::{at, dropped, first, is_digit, is_hex_digit, is_letter};
@@ -128,10 +128,10 @@ pub fn begins(origin: Origin, start: Start, text: &[u8]) -> bool
     starts_by(origin, start, class, after, here)
 }
 
-fn barred_following(place: Place, rule: Rule) -> bool
+fn barred_following(place: Position, rule: Rule) -> bool
     ensures { result ≡ spec.barred_following place rule }
 {
-    place == Place::Following && rule == Rule::AfterColon
+    place == Position::Following && rule == Rule::AfterColon
 }
 
 fn barred_line(origin: Origin, rule: Rule) -> bool
@@ -144,18 +144,18 @@ fn barred_line(origin: Origin, rule: Rule) -> bool
     }
 }
 
-fn barred_place(place: Place, rule: Rule) -> bool
+fn barred_place(place: Position, rule: Rule) -> bool
     ensures { result ≡ spec.barred_place place rule }
 {
     match (place, rule) {
-        (Place::First, Rule::AfterColon) => true,
-        (Place::Further | Place::Following, Rule::First | Rule::FirstInProgram) => true,
+        (Position::First, Rule::AfterColon) => true,
+        (Position::Further | Position::Following, Rule::First | Rule::FirstInProgram) => true,
         _ => false,
     }
 }
 
 /// The row of a form, where its rule allows it.
-fn allowed(origin: Origin, place: Place, form: &Form, text: &[u8]) -> Result<u16, Stop>
+fn allowed(origin: Origin, place: Position, form: &Form, text: &[u8]) -> Result<u16, Stop>
     ensures row { result ≡ spec.allowed origin place form.now text.now }
     ensures known { IfErr result (λ e. e ≢ Stop.NoMemory) }
 {
@@ -172,7 +172,7 @@ fn allowed(origin: Origin, place: Place, form: &Form, text: &[u8]) -> Result<u16
 
 /// The row of the first form that begins, and else of an assignment.
 #[tactic(auto, unfolding(crate::specs::Grammar::starts))]
-fn row_at(forms: &[Form], origin: Origin, place: Place, text: &[u8]) -> Result<u16, Stop>
+fn row_at(forms: &[Form], origin: Origin, place: Position, text: &[u8]) -> Result<u16, Stop>
     ensures row { result ≡ spec.row_at forms.now origin place text.now }
     ensures known { IfErr result (λ e. e ≢ Stop.NoMemory) }
 {
@@ -193,7 +193,7 @@ fn row_at(forms: &[Form], origin: Origin, place: Place, text: &[u8]) -> Result<u
 
 /// The row of a statement at a text, and where to read it.
 #[tactic(auto, unfolding(crate::specs::Grammar::statement_row))]
-pub fn statement_row(origin: Origin, place: Place, text: &[u8]) -> Result<(u16, &[u8]), Stop>
+pub fn statement_row(origin: Origin, place: Position, text: &[u8]) -> Result<(u16, &[u8]), Stop>
     ensures known { IfErr result (λ e. e ≢ Stop.NoMemory) }
     ensures row { MatchResult result (λ r. spec.statement_row origin place text.now ≡ Ok (r.0, r.1.now)) (λ e. spec.statement_row origin place text.now ≡ Err e) }
 {

@@ -1,7 +1,7 @@
 // The table of forms: what a line, an expression and each statement are made of, as the code walks over it. The
 // definition's own table stands in specs/Table.antt, and `Table` below says that the two are one.
 
-use crate::forms::{Form, Item, Leaf, Place, Rule, Start};
+use crate::forms::{Form, Item, Leaf, Position, Rule, Start};
 use crate::{rows, words};
 use b2_base::codes;
 
@@ -10,11 +10,11 @@ use b2_base::codes;
 pub const ROWS_0: [&[Item]; 64] = [
     // a line
     // LINE
-    &[Item::Statement(Place::First), Item::Many(Start::Code(b':'), rows::FURTHER_STATEMENT), Item::End],
+    &[Item::Statement(Position::First), Item::Many(Start::Code(b':'), rows::FURTHER_STATEMENT), Item::End],
     // FURTHER_STATEMENT
-    &[Item::Sign(b':', codes::S25_END), Item::Statement(Place::Further)],
+    &[Item::Sign(b':', codes::S25_END), Item::Statement(Position::Further)],
     // FOLLOWING
-    &[Item::Statement(Place::Following)],
+    &[Item::Statement(Position::Following)],
     // LINE_NUMBER
     &[Item::Typed(Leaf::LineNumber, codes::S15_LINE_NUMBER)],
     // COMMA_LINE

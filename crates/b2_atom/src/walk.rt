@@ -4,7 +4,7 @@ ghost use Rattle.b2_atom.specs.Tree.{seen_sink, Takes};
 ghost use Rattle.b2_atom.specs.Table.{rows_0, rows_1, rows_2, rows_3};
 ghost use Rattle.b2_atom.specs.Grammar as spec;
 
-use crate::forms::{Item, Place, Start};
+use crate::forms::{Item, Position, Start};
 use crate::marks::read_item;
 use crate::rows;
 use crate::sink::{Sink, Stop};
@@ -160,7 +160,7 @@ pub fn statement<'a>(
     out: &mut Sink,
     origin: Origin,
     fuel: usize,
-    place: Place,
+    place: Position,
     text: &'a [u8],
 ) -> Result<&'a [u8], Stop>
     ensures { Takes (seen_sink out.old) (spec.statement (spec.reader origin) fuel place text.now) (seen_sink out.new) result }

@@ -14,7 +14,7 @@ use Rattle.b2_atom.specs.Grammar.{reader, item, items, level, deep, statement, a
 use Rattle.b2_atom.specs.declared.words.Origin.TheVariants.{Atoms}
 use Rattle.b2_atom.specs.declared.sink.Stop.{Stop}
 use Rattle.b2_atom.specs.declared.sink.Stop.TheVariants.{Deep}
-use Rattle.b2_atom.specs.declared.forms.Place.{Place}
+use Rattle.b2_atom.specs.declared.forms.Position.{Position}
 use Rattle.b2_atom.specs.declared.forms.Start.{Start}
 use Rattle.b2_atom.specs.declared.forms.Start.TheVariants as start
 use Rattle.b2_atom.specs.declared.forms.Leaf.TheVariants as leaf
@@ -88,13 +88,13 @@ choice false d f fs last o (Ok p) h k = k refl
 choice false d f fs last o (Err e) h k = tt
 
 -- a row that is a choice
-chosen_items : (st : Place → Parser Text) (dp : ℕ → Parser Text) (m : ℕ) (s : Start) (x y : ℕ) (t : Text) (d : Found) (f : Trees → Answer) (fs : List (Trees → Answer)) (last : Trees → Answer)
+chosen_items : (st : Position → Parser Text) (dp : ℕ → Parser Text) (m : ℕ) (s : Start) (x y : ℕ) (t : Text) (d : Found) (f : Trees → Answer) (fs : List (Trees → Answer)) (last : Trees → Answer)
     → (starts Atoms s t ≡ true → Agrees d f (rowed st dp m x t)) → (starts Atoms s t ≡ false → Agrees d (choose fs last) (rowed st dp m y t))
     → Agrees d (choose (f ∷ fs) last) (items st dp (rowed st dp m) (reader Atoms) (Either s x y ∷ []) t)
 unfolding items item
 chosen_items st dp m s x y t d f fs last h k = choice (starts Atoms s t) d f fs last (rowed st dp m x t) (rowed st dp m y t) h k
 
-choice_row : (st : Place → Parser Text) (dp : ℕ → Parser Text) (n : ℕ) (s : Start) (x y : ℕ) (t : Text) (d : Found) (f : Trees → Answer) (fs : List (Trees → Answer)) (last : Trees → Answer)
+choice_row : (st : Position → Parser Text) (dp : ℕ → Parser Text) (n : ℕ) (s : Start) (x y : ℕ) (t : Text) (d : Found) (f : Trees → Answer) (fs : List (Trees → Answer)) (last : Trees → Answer)
     → row_items n ≡ Either s x y ∷ []
     → ((m : ℕ) → starts Atoms s t ≡ true → Agrees d f (rowed st dp m x t)) → ((m : ℕ) → starts Atoms s t ≡ false → Agrees d (choose fs last) (rowed st dp m y t))
     → (l : ℕ) → Agrees d (choose (f ∷ fs) last) (rowed st dp l n t)
@@ -211,14 +211,14 @@ name_value : (s : Surroundings) (t : Text) → (numeric_name_width Atoms t == 0)
 name_value s [] some = cc
 name_value s (b ∷ bs) some = name_by s b bs (is_letter b) refl some
 
-variable_items : (s : Surroundings) (st : Place → Parser Text) (dp : ℕ → Parser Text) (m : ℕ) (t : Text)
+variable_items : (s : Surroundings) (st : Position → Parser Text) (dp : ℕ → Parser Text) (m : ℕ) (t : Text)
     → Agrees (named_at s t) (variable_operand s) (items st dp (rowed st dp m) (reader Atoms) (Typed leaf.Name 17 ∷ Maybe (start.Code 40) row.SUBSCRIPTS ∷ []) t)
 unfolding items item starts read_leaf NameIs
 variable_items s st dp m t =
     named_by s (named_at s t) (numeric_name_width Atoms t == 0) (λ u. first u == 40) (map (kept_byte Atoms) (take (numeric_name_width Atoms t) t)) (drop (numeric_name_width Atoms t) t)
     (rowed st dp m row.SUBSCRIPTS) (missing Atoms leaf.Name 17 t) (name_value s t)
 
-variables : (s : Surroundings) (st : Place → Parser Text) (dp : ℕ → Parser Text) (l : ℕ) (t : Text) → Agrees (named_at s t) (variable_operand s) (rowed st dp l row.VARIABLE t)
+variables : (s : Surroundings) (st : Position → Parser Text) (dp : ℕ → Parser Text) (l : ℕ) (t : Text) → Agrees (named_at s t) (variable_operand s) (rowed st dp l row.VARIABLE t)
 variables s st dp l t =
     by_row (Agrees (named_at s t) (variable_operand s)) st dp row.VARIABLE (Typed leaf.Name 17 ∷ Maybe (start.Code 40) row.SUBSCRIPTS ∷ []) t variable_row tt (λ m. variable_items s st dp m t) l
 
@@ -228,14 +228,14 @@ leaf_end : (none : Bool) (d : Found) (v : Trees → Answer) (token : Token) (res
 leaf_end true d v token rest e h = tt
 leaf_end false d v token rest e h = h
 
-number_items : (st : Place → Parser Text) (dp : ℕ → Parser Text) (m : ℕ) (t : Text)
+number_items : (st : Position → Parser Text) (dp : ℕ → Parser Text) (m : ℕ) (t : Text)
     → Agrees (literal_at t) number_operand (items st dp (rowed st dp m) (reader Atoms) (Typed leaf.Number 17 ∷ []) t)
 unfolding items item read_leaf
 number_items st dp m t =
     leaf_end (number_width Atoms t == 0) (literal_at t) number_operand (Plain leaf.Number (map (kept_byte Atoms) (take (number_width Atoms t) t))) (drop (number_width Atoms t) t) (missing Atoms leaf.Number 17 t)
     (ap (λ (u : Text). left (drop (number_width Atoms t) t) (literal_value u)) (sym (kept_same (take (number_width Atoms t) t))))
 
-numbers : (st : Place → Parser Text) (dp : ℕ → Parser Text) (l : ℕ) (t : Text) → Agrees (literal_at t) number_operand (rowed st dp l row.NUMBER t)
+numbers : (st : Position → Parser Text) (dp : ℕ → Parser Text) (l : ℕ) (t : Text) → Agrees (literal_at t) number_operand (rowed st dp l row.NUMBER t)
 numbers st dp l t = by_row (Agrees (literal_at t) number_operand) st dp row.NUMBER (Typed leaf.Number 17 ∷ []) t number_row tt (λ m. number_items st dp m t) l
 
 -- so many kinds of operands that aren't built
@@ -244,7 +244,7 @@ others zero = []
 others (suc n) = not_built ∷ others n
 
 -- named operands: all that aren't built, and variables
-named_operands : (s : Surroundings) (st : Place → Parser Text) (dp : ℕ → Parser Text) (l : ℕ) (t : Text)
+named_operands : (s : Surroundings) (st : Position → Parser Text) (dp : ℕ → Parser Text) (l : ℕ) (t : Text)
     → Agrees (named_at s t) (choose (others 8) (variable_operand s)) (rowed st dp l row.NAMED_OPERAND t)
 named_operands s st dp l t =
     choice_row st dp _ (start.Code word.FN) row.FUNCTION row.OPERAND_BUT_FN t (named_at s t) not_built (others 7) (variable_operand s) named_row (λ m is. unbuilt_code s word.FN t _ refl is) (λ m is.
@@ -266,7 +266,7 @@ when_false : (b : Bool) (x y : Found) → b ≡ false → y ≡ (if b then x els
 when_false false x y h = refl
 when_false true x y h = cc
 
-but_numbers : (s : Surroundings) (st : Place → Parser Text) (dp : ℕ → Parser Text) (d : Text → Found) (v : Trees → Answer)
+but_numbers : (s : Surroundings) (st : Position → Parser Text) (dp : ℕ → Parser Text) (d : Text → Found) (v : Trees → Answer)
     → ((l : ℕ) (t : Text) → Agrees (d (drop 1 t)) v (rowed st dp l row.PARENTHESES t)) → (l : ℕ) (t : Text)
     → Agrees (if first t == 40 then d (drop 1 t) else named_at s t)
     (choose (v ∷ others 8) (variable_operand s)) (rowed st dp l row.OPERAND_BUT_NUMBER t)
@@ -278,7 +278,7 @@ but_numbers s st dp d v h l t =
     (when_false (first t == 40) (d (drop 1 t)) (named_at s t) is) (named_operands s st dp m t))
     l
 
-pub operands : (s : Surroundings) (st : Place → Parser Text) (dp : ℕ → Parser Text) (d : Text → Found) (v : Trees → Answer)
+pub operands : (s : Surroundings) (st : Position → Parser Text) (dp : ℕ → Parser Text) (d : Text → Found) (v : Trees → Answer)
     → ((l : ℕ) (t : Text) → Agrees (d (drop 1 t)) v (rowed st dp l row.PARENTHESES t)) → (l : ℕ) (t : Text)
     → Agrees (operand_with d s t) (operand_by v s) (rowed st dp l row.OPERAND t)
 unfolding starts
@@ -295,7 +295,7 @@ closes : (rest : Text) (x : Answer) → followed_by (left rest x) (λ y u. Ok (y
 closes rest (Ok x) = refl
 closes rest (Err code) = refl
 
-group_items : (st : Place → Parser Text) (dp p : ℕ → Parser Text) (d : Text → Found) (v : Trees → Answer) → ((u : Text) → Agrees (d u) v (dp row.SUM u)) → (t : Text)
+group_items : (st : Position → Parser Text) (dp p : ℕ → Parser Text) (d : Text → Found) (v : Trees → Answer) → ((u : Text) → Agrees (d u) v (dp row.SUM u)) → (t : Text)
     → Agrees (followed_by (d (drop 1 t)) (λ y u. Ok (y, drop 1 u))) (λ a. v (inside (behind a))) (items st dp p (reader Atoms) (Sign 40 10 ∷ Nest row.SUM ∷ Sign 41 11 ∷ []) t)
 unfolding items item mark
 group_items st dp p d v h t =
@@ -308,14 +308,14 @@ never : (o : Outcome) → Agrees (Err S27_LEFT_OUT) (λ t. Err S27_LEFT_OUT) o
 never (Ok p) = refl
 never (Err e) = tt
 
-deeper : (st : Place → Parser Text) (room : ℕ) (P : Outcome → Type 0) (n : ℕ) (u : Text) → P (Err Deep)
+deeper : (st : Position → Parser Text) (room : ℕ) (P : Outcome → Type 0) (n : ℕ) (u : Text) → P (Err Deep)
     → ((r : ℕ) → P (level (reader Atoms) st (deep (reader Atoms) st r) 40 n u)) → P (deep (reader Atoms) st room n u)
 unfolding deep
 deeper st zero P n u none some = none
 deeper st (suc r) P n u none some = some r
 
 -- expressions in parentheses, however many the reading and the definition allow
-groups : (s : Surroundings) (st : Place → Parser Text) (depth room l : ℕ) (t : Text)
+groups : (s : Surroundings) (st : Position → Parser Text) (depth room l : ℕ) (t : Text)
     → Agrees (group_at s depth (drop 1 t)) (group_value s depth) (rowed st (deep (reader Atoms) st room) l row.PARENTHESES t)
 unfolding group_at group_value
 groups s st zero room l t = never (rowed st (deep (reader Atoms) st room) l row.PARENTHESES t)

@@ -16,7 +16,6 @@ use Rattle.b2_lister.specs.Laws.{EachListedLineIsReadBack, EachTreeIsListedAndRe
 use Rattle.b2_atom.specs.Tree as tree
 use Rattle.b2_atom.specs.Tree.{Trees, tokens}
 use Rattle.b2_atom.specs.Tokens.{listed}
-use Rattle.b2_atom.specs.Fitting.{LineTree}
 use Rattle.b2_atom.proofs.lines.ReadAgain.{typed_again, read_again}
 
 -- digits, and the number that they spell

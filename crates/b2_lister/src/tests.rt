@@ -9,7 +9,7 @@ use vectors::{LINES, LINES_COUNT};
 
 mod vectors;
 
-// A line of these atoms as it is listed, or nothing where they spell none.
+/// A line of these atoms as it is listed, or nothing where they spell none.
 fn listed(rt: &HostRuntime, number: u16, atoms: &[u8]) -> Result<Vec<u8>, Fail> {
     let mut into = Vec::new(rt.alloc());
     if let Some(atoms) = Atoms::of(rt.alloc(), atoms)? {
@@ -128,7 +128,7 @@ fn more_lines(rt: HostRuntime) -> Result<(), Fail> {
     Ok(())
 }
 
-// The number of a hexadecimal digit.
+/// The number of a hexadecimal digit.
 fn digit(byte: u8) -> u8
     ensures { result ≤ 15 }
 {
@@ -139,7 +139,7 @@ fn digit(byte: u8) -> u8
     }
 }
 
-// The bytes of a text in hexadecimal.
+/// The bytes of a text in hexadecimal.
 fn unhex(rt: &HostRuntime, text: &[u8]) -> Result<Vec<u8>, Fail> {
     let mut out = Vec::new(rt.alloc());
     let mut left = text;
@@ -153,8 +153,8 @@ fn unhex(rt: &HostRuntime, text: &[u8]) -> Result<Vec<u8>, Fail> {
     Ok(out)
 }
 
-// How many rows are listed as they say, up to the first that is not. A row is a listed line, `~` and its atoms in
-// hexadecimal.
+/// How many rows are listed as they say, up to the first that is not. A row is a listed line, `~` and its atoms in
+/// hexadecimal.
 fn listed_rows(rt: &HostRuntime, table: &[u8]) -> Result<usize, Fail> {
     let mut left = table;
     for count in 0..table.len() {

@@ -10,7 +10,7 @@ use Rattle.b2_atom.specs.Grammar.{reader, item, items, level, deep, statement, m
 use Rattle.b2_atom.specs.declared.words.Origin.TheVariants.{Atoms}
 use Rattle.b2_atom.specs.declared.sink.Stop.{Stop}
 use Rattle.b2_atom.specs.declared.sink.Stop.TheVariants.{At}
-use Rattle.b2_atom.specs.declared.forms.Place.{Place}
+use Rattle.b2_atom.specs.declared.forms.Position.{Position}
 use Rattle.b2_atom.specs.declared.forms.Start.{Start}
 use Rattle.b2_atom.specs.declared.forms.Start.TheVariants as start
 use Rattle.b2_atom.specs.declared.forms.Leaf.TheVariants as leaf
@@ -88,21 +88,21 @@ letter_by : (none : Bool) (w : ℕ) (t : Text) (e : Stop) (sub : Parser Text)
 letter_by true w t e sub = tt
 letter_by false w t e sub = letter_maybe (first (drop w t) == 40) w t (sub (drop w t))
 
-receiver_items : (st : Place → Parser Text) (dp p : ℕ → Parser Text) (t : Text)
+receiver_items : (st : Position → Parser Text) (dp p : ℕ → Parser Text) (t : Text)
     → Holds (λ a r. is_built_tree a ≡ true → t ≡ first (leaf_text a) ∷ r) (items st dp p (reader Atoms) (Typed leaf.Name 20 ∷ Maybe (start.Code 40) row.SUBSCRIPTS ∷ []) t)
 unfolding items item starts read_leaf
 receiver_items st dp p t = letter_by (numeric_name_width Atoms t == 0) (numeric_name_width Atoms t) t (missing Atoms leaf.Name 20 t) (p row.SUBSCRIPTS)
 
-receiver_is : (st : Place → Parser Text) (dp : ℕ → Parser Text) (l : ℕ) (t : Text)
+receiver_is : (st : Position → Parser Text) (dp : ℕ → Parser Text) (l : ℕ) (t : Text)
     → Holds (λ a r. is_built_tree a ≡ true → t ≡ first (leaf_text a) ∷ r) (level (reader Atoms) st dp l row.NUMERIC_RECEIVER t)
 receiver_is st dp l t = by_row _ st dp row.NUMERIC_RECEIVER (Typed leaf.Name 20 ∷ Maybe (start.Code 40) row.SUBSCRIPTS ∷ []) t receiver_row (λ m. receiver_items st dp _ t) l
 
-pub part_items : (n : ℕ) (st : Place → Parser Text) (dp p : ℕ → Parser Text) (t : Text) (is : List Item) (v : Trees → Text → Type 0)
+pub part_items : (n : ℕ) (st : Position → Parser Text) (dp p : ℕ → Parser Text) (t : Text) (is : List Item) (v : Trees → Text → Type 0)
     → Holds (λ a r. Holds (λ b rest. v (In 2 a b) rest) (items st dp p (reader Atoms) is r)) (p n t) → Holds v (items st dp p (reader Atoms) (Part n ∷ is) t)
 unfolding items item
 part_items n st dp p t is v h = holds_under 2 v (p n t) (items st dp p (reader Atoms) is) h
 
-comma_receiver_is : (st : Place → Parser Text) (dp : ℕ → Parser Text) (l : ℕ) (t : Text)
+comma_receiver_is : (st : Position → Parser Text) (dp : ℕ → Parser Text) (l : ℕ) (t : Text)
     → Holds (λ a r. is_built_tree a ≡ true → t ≡ 44 ∷ first (leaf_text (inside (behind a))) ∷ r) (level (reader Atoms) st dp l row.COMMA_NUMERIC_RECEIVER t)
 comma_receiver_is st dp l t = by_row _ st dp row.COMMA_NUMERIC_RECEIVER (Sign 44 13 ∷ Part row.NUMERIC_RECEIVER ∷ []) t comma_receiver_row (λ m.
     sign_items 44 13 st dp _ t (Part row.NUMERIC_RECEIVER ∷ []) _ refl (λ comma.
@@ -198,7 +198,7 @@ value_items s m r v h =
     part_items row.SUM _ _ (row_read m) (drop 1 r) [] _
     (holds_map _ _ (row_read m row.SUM (drop 1 r)) (value_found s m (drop 1 r)) (λ x rest found. none_items _ _ (row_read m) rest _ (h x rest found))))
 
-pub many_items : (x : Start) (n : ℕ) (st : Place → Parser Text) (dp p : ℕ → Parser Text) (t : Text) (is : List Item) (v : Trees → Text → Type 0)
+pub many_items : (x : Start) (n : ℕ) (st : Position → Parser Text) (dp p : ℕ → Parser Text) (t : Text) (is : List Item) (v : Trees → Text → Type 0)
     → Holds (λ a r. Holds (λ b rest. v (also a b) rest) (items st dp p (reader Atoms) is r)) (many (reader Atoms) x (p n) (length t) t)
     → Holds v (items st dp p (reader Atoms) (Many x n ∷ is) t)
 unfolding items item

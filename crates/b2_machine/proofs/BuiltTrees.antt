@@ -12,7 +12,7 @@ use Rattle.b2_atom.specs.Grammar.{reader, item, items, level, deep, many, absent
 use Rattle.b2_atom.specs.declared.words.Origin.TheVariants.{Atoms}
 use Rattle.b2_atom.specs.declared.sink.Stop.{Stop}
 use Rattle.b2_atom.specs.declared.sink.Stop.TheVariants.{At}
-use Rattle.b2_atom.specs.declared.forms.Place.{Place}
+use Rattle.b2_atom.specs.declared.forms.Position.{Position}
 use Rattle.b2_atom.specs.declared.forms.Start.{Start}
 use Rattle.b2_atom.specs.declared.forms.Start.TheVariants as start
 use Rattle.b2_atom.specs.declared.forms.Leaf.TheVariants as leaf
@@ -444,7 +444,7 @@ name_row k t e sub q true is h = tt
 name_row k [] e sub q false is h = tt
 name_row k (b ∷ bs) e sub q false is h = name_by k b bs e sub q (is_letter b) (is_digit (get_or (b ∷ bs) 1 0)) (b == 64) refl refl refl is h
 
-name_items : (code n : ℕ) (st : Place → Parser Text) (dp p : ℕ → Parser Text) (t : Text) → Row 1 t (items st dp p (reader Atoms) (Typed leaf.Name code ∷ Maybe (start.Code 40) n ∷ []) t)
+name_items : (code n : ℕ) (st : Position → Parser Text) (dp p : ℕ → Parser Text) (t : Text) → Row 1 t (items st dp p (reader Atoms) (Typed leaf.Name code ∷ Maybe (start.Code 40) n ∷ []) t)
 unfolding items item starts read_leaf
 name_items code n st dp p t = name_row 0 t (missing Atoms leaf.Name code t) (p n) nothing (is_alpha_name Atoms t) refl nothing_says
 
@@ -544,7 +544,7 @@ sign_row k c t e q holds h more =
     (λ stops. stopped_then (1 + k) t _ q (code_by c t e (first t == c) refl stops))
     (λ both. row_then 1 k t _ q (sign_by c t e (first t == c) refl (and_left _ _ both)) (more (and_right _ _ both)))
 
-items_row : (st : Place → Parser Text) (dp p : ℕ → Parser Text) → Reached dp → Reached p → (is : List Item) → items_hold is ≡ true → (t : Text) → Row (least is) t (items st dp p (reader Atoms) is t)
+items_row : (st : Position → Parser Text) (dp p : ℕ → Parser Text) → Reached dp → Reached p → (is : List Item) → items_hold is ≡ true → (t : Text) → Row (least is) t (items st dp p (reader Atoms) is t)
 unfolding items item starts mark among read_leaf
 items_row st dp p hd hp [] h t = nothing_says t
 items_row st dp p hd hp (Word c ∷ is) h t = stopped_then _ t _ _ (code_by c t (refused Atoms 22 t) (first t == c) refl h)
@@ -609,7 +609,7 @@ receiver_row : row_items row.NUMERIC_RECEIVER ≡ Typed leaf.Name 20 ∷ Maybe (
 unfolding row_items
 receiver_row = refl
 
-reached_items : (st : Place → Parser Text) (dp p : ℕ → Parser Text) → Reached dp → Reached p → (n : ℕ) → is_reached n ≡ true → (t : Text) → Row 1 t (items st dp p (reader Atoms) (row_items n) t)
+reached_items : (st : Position → Parser Text) (dp p : ℕ → Parser Text) → Reached dp → Reached p → (n : ℕ) → is_reached n ≡ true → (t : Text) → Row 1 t (items st dp p (reader Atoms) (row_items n) t)
 reached_items st dp p hd hp n h t =
     or_cases _ (n == row.VARIABLE) _ h
     (λ same. subst (λ (is : List Item). Row 1 t (items st dp p (reader Atoms) is t)) (sym (ap row_items (equal n row.VARIABLE same) ∙ variable_row)) (name_items 17 row.SUBSCRIPTS st dp p t)) (λ h1.
@@ -618,17 +618,17 @@ reached_items st dp p hd hp n h t =
     let holds = one_holds n rows all_rows_hold h2 in
     weaker (least (row_items n)) 1 t _ (at_least _ (and_right (items_hold (row_items n)) _ holds)) (items_row st dp p hd hp (row_items n) (and_left _ _ holds) t)))
 
-pub reached_level : (st : Place → Parser Text) (dp : ℕ → Parser Text) → Reached dp → (l : ℕ) → Reached (level (reader Atoms) st dp l)
+pub reached_level : (st : Position → Parser Text) (dp : ℕ → Parser Text) → Reached dp → (l : ℕ) → Reached (level (reader Atoms) st dp l)
 unfolding level
 reached_level st dp hd zero n h t = tt
 reached_level st dp hd (suc l) n h t = reached_items st dp (level (reader Atoms) st dp l) hd (reached_level st dp hd l) n h t
 
-pub reached_deep : (st : Place → Parser Text) (room : ℕ) → Reached (deep (reader Atoms) st room)
+pub reached_deep : (st : Position → Parser Text) (room : ℕ) → Reached (deep (reader Atoms) st room)
 unfolding deep
 reached_deep st zero n h t = tt
 reached_deep st (suc m) n h t = reached_level st (deep (reader Atoms) st m) (reached_deep st m) 40 n h t
 
 -- items of which each is such a part, or a sign
-pub reached_row : (st : Place → Parser Text) (room l : ℕ) (is : List Item) → items_hold is ≡ true → (t : Text)
+pub reached_row : (st : Position → Parser Text) (room l : ℕ) (is : List Item) → items_hold is ≡ true → (t : Text)
     → Row (least is) t (items st (deep (reader Atoms) st room) (level (reader Atoms) st (deep (reader Atoms) st room) l) (reader Atoms) is t)
 reached_row st room l is h t = items_row st (deep (reader Atoms) st room) (level (reader Atoms) st (deep (reader Atoms) st room) l) (reached_deep st room) (reached_level st (deep (reader Atoms) st room) (reached_deep st room) l) is h t

@@ -9,7 +9,7 @@ use Rattle.b2_atom.specs.Table.{forms}
 use Rattle.b2_atom.specs.declared.words.Origin.TheVariants.{Atoms}
 use Rattle.b2_atom.specs.declared.sink.Stop.{Stop}
 use Rattle.b2_atom.specs.declared.sink.Stop.TheVariants.{At}
-use Rattle.b2_atom.specs.declared.forms.Place.{Place}
+use Rattle.b2_atom.specs.declared.forms.Position.{Position}
 use Rattle.b2_atom.specs.declared.forms.Form.{Form}
 use Rattle.b2_atom.specs.declared.forms.Start.{Start}
 use Rattle.b2_atom.specs.declared.forms.Start.TheVariants as start
@@ -194,7 +194,7 @@ allowed_is false true c x y z n r is = cc
 allowed_is false false true x y z n r is = cc
 allowed_is false false false x y z n r is = cc
 
-this_form : (p : Place) (f : Form) (t : Text) (r : ℕ) → (is_built_row f.row || begins_other f.start) ≡ true → starts Atoms f.start t ≡ true → f.row ≡ r → Otherwise t r
+this_form : (p : Position) (f : Form) (t : Text) (r : ℕ) → (is_built_row f.row || begins_other f.start) ≡ true → starts Atoms f.start t ≡ true → f.row ≡ r → Otherwise t r
 this_form p f t r h k is =
     or_cases (Otherwise t r) _ _ h (λ e. inl (subst (λ (n : ℕ). is_built_row n ≡ true) is e)) (λ e. inr (begun_plan f.start t e k))
 
@@ -202,17 +202,17 @@ last_form : (b : Bool) (e : Stop) (t : Text) (r : ℕ) → (if b then Ok row.ASS
 last_form true e t r is = let same_row : row.ASSIGNMENT ≡ r = cc in inl (subst (λ (n : ℕ). is_built_row n ≡ true) same_row refl)
 last_form false e t r is = cc
 
-by_form : (p : Place) (f : Form) (fs : List Form) (t : Text) (r : ℕ) (b : Bool) → starts Atoms f.start t ≡ b → (is_built_row f.row || begins_other f.start) ≡ true
+by_form : (p : Position) (f : Form) (fs : List Form) (t : Text) (r : ℕ) (b : Bool) → starts Atoms f.start t ≡ b → (is_built_row f.row || begins_other f.start) ≡ true
     → (row_at fs Atoms p t ≡ Ok r → Otherwise t r) → (if b then allowed Atoms p f t else row_at fs Atoms p t) ≡ Ok r → Otherwise t r
 by_form p f fs t r true is h more read = this_form p f t r h is (allowed_is (barred_following p f.rule) (barred_line Atoms f.rule) (barred_place p f.rule) (At 14 (length t)) (At 26 (length t)) (At 28 (length t)) f.row r read)
 by_form p f fs t r false is h more read = more read
 
-by_forms : (p : Place) (fs : List Form) (t : Text) (r : ℕ) → forms_hold fs ≡ true → row_at fs Atoms p t ≡ Ok r → Otherwise t r
+by_forms : (p : Position) (fs : List Form) (t : Text) (r : ℕ) → forms_hold fs ≡ true → row_at fs Atoms p t ≡ Ok r → Otherwise t r
 by_forms p [] t r h read = last_form (variable_begins Atoms t) (refused Atoms 14 t) t r read
 by_forms p (f ∷ fs) t r h read = by_form p f fs t r (starts Atoms f.start t) refl (and_left _ _ h) (by_forms p fs t r (and_right _ _ h)) read
 
 -- a unit of a row that isn't built
-pub other_rows : (p : Place) (t : Text) (r : ℕ) → row_at forms Atoms p t ≡ Ok r → Otherwise t r
+pub other_rows : (p : Position) (t : Text) (r : ℕ) → row_at forms Atoms p t ≡ Ok r → Otherwise t r
 other_rows p t r read = by_forms p forms t r refl read
 
 -- an assignment, which no form names
@@ -224,16 +224,16 @@ when_begun : (b : Bool) (e : Stop) (r : ℕ) → (if b then Ok row.ASSIGNMENT el
 when_begun true e r is = refl
 when_begun false e r is = cc
 
-assigned_form : (p : Place) (f : Form) (fs : List Form) (t : Text) (b : Bool) → (f.row == row.ASSIGNMENT) ≡ false
+assigned_form : (p : Position) (f : Form) (fs : List Form) (t : Text) (b : Bool) → (f.row == row.ASSIGNMENT) ≡ false
     → (row_at fs Atoms p t ≡ Ok row.ASSIGNMENT → variable_begins Atoms t ≡ true) → (if b then allowed Atoms p f t else row_at fs Atoms p t) ≡ Ok row.ASSIGNMENT → variable_begins Atoms t ≡ true
 assigned_form p f fs t true h more read =
     let is : f.row ≡ row.ASSIGNMENT = allowed_is (barred_following p f.rule) (barred_line Atoms f.rule) (barred_place p f.rule) (At 14 (length t)) (At 26 (length t)) (At 28 (length t)) f.row row.ASSIGNMENT read in
     absurd (let never : true ≡ false = ap (λ (n : ℕ). n == row.ASSIGNMENT) (sym is) ∙ h in cc)
 assigned_form p f fs t false h more read = more read
 
-by_assignment : (p : Place) (fs : List Form) (t : Text) → no_assignment fs ≡ true → row_at fs Atoms p t ≡ Ok row.ASSIGNMENT → variable_begins Atoms t ≡ true
+by_assignment : (p : Position) (fs : List Form) (t : Text) → no_assignment fs ≡ true → row_at fs Atoms p t ≡ Ok row.ASSIGNMENT → variable_begins Atoms t ≡ true
 by_assignment p [] t h read = when_begun (variable_begins Atoms t) (refused Atoms 14 t) row.ASSIGNMENT read
 by_assignment p (f ∷ fs) t h read = assigned_form p f fs t (starts Atoms f.start t) (not_true _ (and_left _ _ h)) (by_assignment p fs t (and_right _ _ h)) read
 
-pub assigned_row : (p : Place) (t : Text) → row_at forms Atoms p t ≡ Ok row.ASSIGNMENT → variable_begins Atoms t ≡ true
+pub assigned_row : (p : Position) (t : Text) → row_at forms Atoms p t ≡ Ok row.ASSIGNMENT → variable_begins Atoms t ≡ true
 assigned_row p t read = by_assignment p forms t refl read

@@ -7,7 +7,7 @@ use Rattle.b2_print.specs.Layout.{layout, placed}
 use Rattle.b2_print.specs.declared.layout.Item.{Item}
 use Rattle.b2_print.specs.declared.layout.Item.TheVariants as item
 use Rattle.b2_expr.specs.Value.{Surroundings}
-use Rattle.b2_machine.specs.Plan.{built_width, is_built_behind, is_built, letters_behind, letters_at, with_rest, behind_letters, printed_at, items_of, wants_line, ended, behind_items, further_items, print_items, laid}
+use Rattle.b2_machine.specs.Plan.{built_width, is_built_behind, is_built, letters_behind, letters_at, with_rest, behind_letters, printed_at, items_of, wants_line, newline_where, behind_items, further_items, print_items, laid}
 use Rattle.b2_machine.specs.declared.statement.Printed.{Printed}
 use Rattle.b2_machine.specs.declared.statement.Printed.TheVariants as printed
 
@@ -108,22 +108,22 @@ pub item_refused : (s : Surroundings) (fuel i : ℕ) (line : Bool) (t : Text) (c
     → laid old column (print_items s (fuel - i) line t) ≡ Err code
 item_refused s fuel i line t code old column h some is = ap (laid old column) (items-next s fuel i line t (Err code) h some is)
 
-pub items-end : (s : Surroundings) (n : ℕ) (line : Bool) → print_items s (suc n) line [] ≡ Ok (ended line)
+pub items-end : (s : Surroundings) (n : ℕ) (line : Bool) → print_items s (suc n) line [] ≡ Ok (newline_where line)
 unfolding print_items
 items-end s n line = refl
 
-pub items-zero : (s : Surroundings) (line : Bool) (t : Text) → print_items s zero line t ≡ Ok (ended line)
+pub items-zero : (s : Surroundings) (line : Bool) (t : Text) → print_items s zero line t ≡ Ok (newline_where line)
 unfolding print_items
 items-zero s line t = refl
 
-pub items_ended : (s : Surroundings) (fuel i : ℕ) (line : Bool) (t : Text) (old new : List ℕ) (column : ℕ) → i < fuel → t ≡ [] → new ≡ old ++ layout 80 column (ended line)
+pub items_ended : (s : Surroundings) (fuel i : ℕ) (line : Bool) (t : Text) (old new : List ℕ) (column : ℕ) → i < fuel → t ≡ [] → new ≡ old ++ layout 80 column (newline_where line)
     → laid old column (print_items s (fuel - i) line t) ≡ Ok new
 items_ended s fuel i line t old new column h none text =
     ap (λ (u : Text). laid old column (print_items s (fuel - i) line u)) none
     ∙ ap (λ (n : ℕ). laid old column (print_items s n line [])) (one_fewer fuel i h)
     ∙ ap (laid old column) (items-end s (fuel - (i + 1)) line) ∙ ap Ok (sym text)
 
-pub no_more_items : (s : Surroundings) (fuel i : ℕ) (line : Bool) (t : Text) (old new : List ℕ) (column : ℕ) → fuel ≤ i → new ≡ old ++ layout 80 column (ended line)
+pub no_more_items : (s : Surroundings) (fuel i : ℕ) (line : Bool) (t : Text) (old new : List ℕ) (column : ℕ) → fuel ≤ i → new ≡ old ++ layout 80 column (newline_where line)
     → laid old column (print_items s (fuel - i) line t) ≡ Ok new
 no_more_items s fuel i line t old new column h text =
     ap (λ (n : ℕ). laid old column (print_items s n line t)) (none_left fuel i h)

@@ -19,8 +19,8 @@ use Rattle.b2_atom.specs.declared.rows.TheConstants as row
 use Rattle.b2_atom.specs.declared.words.TheConstants as word
 use Rattle.b2_expr.specs.Value.{Surroundings, Answer, ◌>>=◌, inside, behind, branch, choose, value, not_built as left_out}
 use Rattle.b2_expr.specs.Walk.{left, expression_at}
-use Rattle.b2_machine.specs.Plan.{built_width, asked, printed_at, number_printed, ended, behind_items, further_items, print_items, width, plan_with}
-use Rattle.b2_machine.specs.AskedByTree.{is_built_tree, where_tree_built, item_value, item_in, separator_in, further_in, ends_line, shown_in}
+use Rattle.b2_machine.specs.Plan.{built_width, asked, printed_at, number_printed, newline_where, behind_items, further_items, print_items, width, plan_with}
+use Rattle.b2_machine.specs.AskedByTree.{is_built_tree, where_tree_built, item_value, item_in, separator_in, further_in, wants_newline, shown_in}
 use Rattle.b2_machine.specs.declared.request.Request.TheVariants as request
 use Rattle.b2_machine.specs.declared.statement.Printed.{Printed}
 use Rattle.b2_machine.specs.declared.statement.Printed.TheVariants as printed
@@ -69,10 +69,10 @@ shown_from s line t more = if branch t == 0 then more line else item_value s (in
 
 -- what is shown by separators, each with an item behind it or none
 abbrev shown_behind : Surroundings → Bool → Trees → Result (List Shown) ℕ
-shown_behind s line Done = Ok (ended line)
-shown_behind s line (Put token ts) = Ok (ended line)
+shown_behind s line Done = Ok (newline_where line)
+shown_behind s line (Put token ts) = Ok (newline_where line)
 shown_behind s line (In n part ts) =
-    if n == 0 then Ok (ended line) else behind_items (separator_in (inside part)) (shown_from s false (behind part) (λ after. shown_behind s after ts))
+    if n == 0 then Ok (newline_where line) else behind_items (separator_in (inside part)) (shown_from s false (behind part) (λ after. shown_behind s after ts))
 
 abbrev all_shown : Surroundings → Trees → Result (List Shown) ℕ
 all_shown s t = shown_from s true t (λ line. shown_behind s line (behind t))
@@ -91,16 +91,16 @@ step sep false (Err code) m bare full e h k = refl
 step sep false (Ok x) (Ok more) bare full e h k = ap (λ (r : Result (List Shown) ℕ). behind_items sep (behind_items (shown.Number x ∷ []) r)) k ∙ ap Ok (in_order sep (shown.Number x ∷ []) more (e true))
 step sep false (Ok x) (Err code) bare full e h k = ap (λ (r : Result (List Shown) ℕ). behind_items sep (behind_items (shown.Number x ∷ []) r)) k
 
-behind_by : (s : Surroundings) (line : Bool) (none : Bool) (part ts : Trees) → ((before : Bool) → shown_behind s before ts ≡ (further_in s ts >>= (λ its. Ok (its ++ ended (ends_line before ts)))))
-    → (if none then Ok (ended line) else behind_items (separator_in (inside part)) (shown_from s false (behind part) (λ after. shown_behind s after ts)))
+behind_by : (s : Surroundings) (line : Bool) (none : Bool) (part ts : Trees) → ((before : Bool) → shown_behind s before ts ≡ (further_in s ts >>= (λ its. Ok (its ++ newline_where (wants_newline before ts)))))
+    → (if none then Ok (newline_where line) else behind_items (separator_in (inside part)) (shown_from s false (behind part) (λ after. shown_behind s after ts)))
     ≡ ((if none then Ok [] else item_in s (behind part) >>= (λ its. further_in s ts >>= (λ more. Ok (separator_in (inside part) ++ its ++ more))))
-    >>= (λ its. Ok (its ++ ended (if none then line else ends_line (not (branch (behind part) == 0)) ts))))
+    >>= (λ its. Ok (its ++ newline_where (if none then line else wants_newline (not (branch (behind part) == 0)) ts))))
 behind_by s line true part ts h = refl
 behind_by s line false part ts h =
     step (separator_in (inside part)) (branch (behind part) == 0) (item_value s (inside (behind part))) (further_in s ts) (shown_behind s false ts) (shown_behind s true ts)
-    (λ before. ended (ends_line before ts)) (h false) (h true)
+    (λ before. newline_where (wants_newline before ts)) (h false) (h true)
 
-behind_is : (s : Surroundings) (line : Bool) (t : Trees) → shown_behind s line t ≡ (further_in s t >>= (λ its. Ok (its ++ ended (ends_line line t))))
+behind_is : (s : Surroundings) (line : Bool) (t : Trees) → shown_behind s line t ≡ (further_in s t >>= (λ its. Ok (its ++ newline_where (wants_newline line t))))
 behind_is s line Done = refl
 behind_is s line (Put token ts) = refl
 behind_is s line (In n part ts) = behind_by s line (n == 0) part ts (λ before. behind_is s before ts)
@@ -115,7 +115,7 @@ first_step false (Ok x) (Err code) full e h = ap (behind_items (shown.Number x �
 
 all_shown_is : (s : Surroundings) (t : Trees) → all_shown s t ≡ shown_in s t
 all_shown_is s t =
-    first_step (branch t == 0) (item_value s (inside t)) (further_in s (behind t)) (shown_behind s true (behind t)) (ended (ends_line true (behind t))) (behind_is s true (behind t))
+    first_step (branch t == 0) (item_value s (inside t)) (further_in s (behind t)) (shown_behind s true (behind t)) (newline_where (wants_newline true (behind t))) (behind_is s true (behind t))
 
 -- the value of an item that is built: of the choices before the last none is
 abbrev Valued : Surroundings → Text → (Trees → Answer) → Trees → Text → Type 0
@@ -267,7 +267,7 @@ further_is s l t = by_row _ _ _ row.FURTHER_ITEM (Part row.SEPARATOR ∷ Maybe s
     option_items s m u [] _ (λ k x r shows. none_items _ _ (row_read m) r _ (further_shows s t u r a (In k x Done) separates (shows Done)))))) l
 
 -- all of them up to the end
-ended_items : (s : Surroundings) (n : ℕ) (line : Bool) → print_items s n line [] ≡ Ok (ended line)
+ended_items : (s : Surroundings) (n : ℕ) (line : Bool) → print_items s n line [] ≡ Ok (newline_where line)
 ended_items s zero line = items-zero s line []
 ended_items s (suc n) line = items-end s n line
 

@@ -9,7 +9,7 @@ use Rattle.b2_atom.specs.Grammar.{reader, level, deep, statement, chosen, from, 
 use Rattle.b2_atom.specs.Table.{forms}
 use Rattle.b2_atom.specs.declared.words.Origin.TheVariants.{Atoms}
 use Rattle.b2_atom.specs.declared.sink.Stop.{Stop}
-use Rattle.b2_atom.specs.declared.forms.Place.{Place}
+use Rattle.b2_atom.specs.declared.forms.Position.{Position}
 use Rattle.b2_atom.specs.declared.rows.TheConstants as row
 use Rattle.b2_expr.specs.Value.{Surroundings}
 use Rattle.b2_machine.specs.Plan.{plan_with, plan}
@@ -40,11 +40,11 @@ chosen_row : (o : Result ℕ Stop) (q : ℕ → Parser Text) (t : Text) (r : ℕ
 chosen_row (Err e) q t r a rest is = cc
 chosen_row (Ok n) q t r a rest is = ap Ok (under_is n r (q n t) a rest is).0
 
-row_chosen : (p : Place) (t : Text) (r : ℕ) (a : Trees) (rest : Text) → statement (reader Atoms) 1 p t ≡ Ok (In r a Done, rest) → row_at forms Atoms p t ≡ Ok r
+row_chosen : (p : Position) (t : Text) (r : ℕ) (a : Trees) (rest : Text) → statement (reader Atoms) 1 p t ≡ Ok (In r a Done, rest) → row_at forms Atoms p t ≡ Ok r
 unfolding statement statement_row
 row_chosen p t r a rest is = chosen_row (row_at forms Atoms p t) (level (reader Atoms) (statement (reader Atoms) 0) (deep (reader Atoms) (statement (reader Atoms) 0) 32) 40) t r a rest is
 
-level_read : (p : Place) (t : Text) (r : ℕ) (a : Trees) (rest : Text) → statement (reader Atoms) 1 p t ≡ Ok (In r a Done, rest)
+level_read : (p : Position) (t : Text) (r : ℕ) (a : Trees) (rest : Text) → statement (reader Atoms) 1 p t ≡ Ok (In r a Done, rest)
     → level (reader Atoms) (statement (reader Atoms) 0) (deep (reader Atoms) (statement (reader Atoms) 0) 32) 40 r t ≡ Ok (a, rest)
 unfolding statement statement_row
 level_read p t r a rest is = chosen_is (row_at forms Atoms p t) (level (reader Atoms) (statement (reader Atoms) 0) (deep (reader Atoms) (statement (reader Atoms) 0) 32) 40) t r a rest is
@@ -57,7 +57,7 @@ case false p x y h k = k refl
 at_row : (n r l : ℕ) (t : Text) (a : Trees) → (r == n) ≡ true → row_read l r t ≡ Ok (a, []) → row_read l n t ≡ Ok (a, [])
 at_row n r l t a is read = subst (λ (k : ℕ). row_read l k t ≡ Ok (a, [])) (equal r n is) read
 
-chosen_at : (n r : ℕ) (p : Place) (t : Text) → (r == n) ≡ true → row_at forms Atoms p t ≡ Ok r → row_at forms Atoms p t ≡ Ok n
+chosen_at : (n r : ℕ) (p : Position) (t : Text) → (r == n) ≡ true → row_at forms Atoms p t ≡ Ok r → row_at forms Atoms p t ≡ Ok n
 chosen_at n r p t is chosen_is = chosen_is ∙ ap Ok (equal r n is)
 
 -- a row that isn't built is none of those that are
@@ -69,7 +69,7 @@ not_row : (t : Text) (r : ℕ) → Otherwise t r → (is_built_row r ≡ true �
 not_row t r (inl h) none = absurd (none h)
 not_row t r (inr h) none = h
 
-by_rows : (s : Surroundings) (column l : ℕ) (p : Place) (t : Text) (r : ℕ) (a : Trees) → row_read l r t ≡ Ok (a, []) → row_at forms Atoms p t ≡ Ok r → plan_with s column t ≡ request_of s column r a
+by_rows : (s : Surroundings) (column l : ℕ) (p : Position) (t : Text) (r : ℕ) (a : Trees) → row_read l r t ≡ Ok (a, []) → row_at forms Atoms p t ≡ Ok r → plan_with s column t ≡ request_of s column r a
 by_rows s column l p t r a read chosen_row_is =
     case (r == row.GOTO) _ _ _ (λ b. known _ _ a [] (goto_is s column _ _ l t) (at_row row.GOTO r l t a b read)) (λ b1.
     case (r == row.END) _ _ _ (λ b. known _ _ a [] (end_is s column _ _ l t) (at_row row.END r l t a b read)) (λ b2.
@@ -85,7 +85,7 @@ by_rows s column l p t r a read chosen_row_is =
     case (r == row.ASSIGNMENT) _ _ _ (λ b. known _ _ a [] (assignment_is s column l t (assigned_row p t (chosen_at row.ASSIGNMENT r p t b chosen_row_is))) (at_row row.ASSIGNMENT r l t a b read) refl) (λ b12.
     not_row t r (other_rows p t r chosen_row_is) (no_row _ _ _ _ _ _ _ _ _ _ _ _ b1 b2 b3 b4 b5 b6 b7 b8 b9 b10 b11 b12) s column))))))))))))
 
-pub units : (variables : List Number) (mode : Mode) (column : ℕ) (p : Place) (unit : Text) (r : ℕ) (t : Trees)
+pub units : (variables : List Number) (mode : Mode) (column : ℕ) (p : Position) (unit : Text) (r : ℕ) (t : Trees)
     → statement (reader Atoms) 1 p unit ≡ Ok (In r t Done, []) → plan variables mode column unit ≡ request_of (record { letters = variables; mode = mode }) column r t
 unfolding plan
 units variables mode column p unit r t is =

@@ -20,10 +20,10 @@ use Rattle.b2_atom.specs.Laws.{IsStatement}
 use Rattle.b2_atom.specs.declared.words.Origin.TheVariants as origin
 use Rattle.b2_atom.specs.declared.forms.Leaf.{Leaf}
 use Rattle.b2_atom.specs.declared.forms.Leaf.TheVariants as leaf
-use Rattle.b2_atom.specs.declared.forms.Place.{Place}
+use Rattle.b2_atom.specs.declared.forms.Position.{Position}
 use Rattle.b2_atom.specs.declared.rows.TheConstants as row
 use Rattle.b2_expr.specs.Value.{Surroundings, Answer, ◌>>=◌, inside, behind, branch, leaf_text, choose, value, not_built as left_out}
-use Rattle.b2_machine.specs.Plan.{not_built, is_sign, line_number, asked, ended, width, plan}
+use Rattle.b2_machine.specs.Plan.{not_built, is_sign, line_number, asked, newline_where, width, plan}
 use Rattle.b2_machine.specs.declared.request.Request.{Request}
 use Rattle.b2_machine.specs.declared.request.Request.TheVariants as request
 
@@ -111,14 +111,14 @@ further_in s (In n part ts) =
     if n == 0 then Ok [] else item_in s (behind part) >>= (λ its. further_in s ts >>= (λ more. Ok (separator_in (inside part) ++ its ++ more)))
 
 -- whether a newline belongs after these: not where a separator stands last; where there are none, as was known before
-abbrev pub ends_line : Bool → Trees → Bool
-ends_line before Done = before
-ends_line before (Put token ts) = before
-ends_line before (In n part ts) = if n == 0 then before else ends_line (not (branch (behind part) == 0)) ts
+abbrev pub wants_newline : Bool → Trees → Bool
+wants_newline before Done = before
+wants_newline before (Put token ts) = before
+wants_newline before (In n part ts) = if n == 0 then before else wants_newline (not (branch (behind part) == 0)) ts
 
 -- PRINT: an item or none, separators with more items, and a newline unless a separator stands last; or the first code
 abbrev pub shown_in : Surroundings → Trees → Result (List Item) ℕ
-shown_in s t = item_in s t >>= (λ its. further_in s (behind t) >>= (λ more. Ok (its ++ more ++ ended (ends_line true (behind t)))))
+shown_in s t = item_in s t >>= (λ its. further_in s (behind t) >>= (λ more. Ok (its ++ more ++ newline_where (wants_newline true (behind t)))))
 
 -- what the statement of a row asks for, at a column
 abbrev pub request_of : Surroundings → ℕ → ℕ → Trees → Request
@@ -138,7 +138,7 @@ request_of s column r t =
 
 -- a unit that is read as a statement asks for what its tree says
 abbrev pub UnitsAskByTheirTrees : Type 0
-UnitsAskByTheirTrees = (variables : List Number) (mode : Mode) (column : ℕ) (p : Place) (unit : Text) (r : ℕ) (t : Trees)
+UnitsAskByTheirTrees = (variables : List Number) (mode : Mode) (column : ℕ) (p : Position) (unit : Text) (r : ℕ) (t : Trees)
     → statement (reader origin.Atoms) 1 p unit ≡ Ok (In r t Done, []) → plan variables mode column unit ≡ request_of (record { letters = variables; mode = mode }) column r t
 
 -- a unit is one statement, and asks for what its tree says, whatever the variables, the mode and the column are

@@ -50,8 +50,8 @@ pub record Stepped : Type 0 where
   pub end : StepEnd
 
 -- it becomes ready, and `:` is to be shown after a text
-abbrev pub stops : List ℕ → SoloState → Stepped
-stops text s = record { after = record s { pending = Some (text ++ byte.colon ∷ []); doing = Ready }; end = ends.Ready }
+abbrev pub becomes_ready : List ℕ → SoloState → Stepped
+becomes_ready text s = record { after = record s { pending = Some (text ++ byte.colon ∷ []); doing = Ready }; end = ends.Ready }
 
 abbrev pub goes_to : Place → SoloState → Stepped
 goes_to place s = record { after = record s { doing = Running place }; end = ends.GoesOn }
@@ -82,16 +82,16 @@ refusal_text code column = code_text code ++ column_text code column ++ byte.new
 
 -- an error at a place
 abbrev pub fails : ℕ → Place → SoloState → Stepped
-fails code place s = stops (error_text code place) s
+fails code place s = becomes_ready (error_text code place) s
 
 -- to the first unit of a line, or to the end of the program
 abbrev pub to_line : Option ℕ → SoloState → Stepped
-to_line None s = stops [] s
+to_line None s = becomes_ready [] s
 to_line (Some n) s = goes_to (Program n 0) s
 
 -- the place after a unit, which is the last of its line or not
 abbrev pub goes_on : Place → Bool → SoloState → Stepped
-goes_on (Immediate unit) last s = if last then stops [] s else goes_to (Immediate (unit + 1)) s
+goes_on (Immediate unit) last s = if last then becomes_ready [] s else goes_to (Immediate (unit + 1)) s
 goes_on (Program line unit) last s = if last then to_line (number_after (Some line) s.text.lines) s else goes_to (Program line (unit + 1)) s
 
 abbrev pub shows : List ℕ → SoloState → SoloState
@@ -118,8 +118,8 @@ abbrev pub each_listed : Lines → List ℕ
 each_listed lines = flat_map (λ l. listing l.0 l.1 ++ byte.newline ∷ []) lines
 
 -- the lines from a number to another as they are listed
-abbrev pub listed : ℕ → ℕ → Lines → List ℕ
-listed from to lines = each_listed (filter (λ l. is_within from to l.0) lines)
+abbrev pub lines_listed : ℕ → ℕ → Lines → List ℕ
+lines_listed from to lines = each_listed (filter (λ l. is_within from to l.0) lines)
 
 abbrev pub with_lines : Lines → SoloState → SoloState
 with_lines lines s = record s { text = record s.text { lines = lines } }
@@ -132,16 +132,16 @@ does (request.Assign letters x) place last s = goes_on place last (record s { va
 does (request.Jump n) place last s = jumps (line_at n s.text.lines) n place s
 does (request.Select chosen) place last s = goes_on place last (record s { mode = chosen })
 does request.Nothing place last s = goes_on place last s
-does request.End place last s = stops [] s
+does request.End place last s = becomes_ready [] s
 does request.Run place last s = to_line (number_after None s.text.lines) (record s { variables = no_values })
-does (request.List from to) place last s = goes_on place last (shows (listed from to s.text.lines) s)
-does request.Clear place last s = stops (codes "READY" ++ byte.newline ∷ []) (record (with_lines [] s) { variables = no_values })
-does (request.ClearProgram from to) place last s = stops [] (with_lines (without from to s.text.lines) s)
+does (request.List from to) place last s = goes_on place last (shows (lines_listed from to s.text.lines) s)
+does request.Clear place last s = becomes_ready (codes "READY" ++ byte.newline ∷ []) (record (with_lines [] s) { variables = no_values })
+does (request.ClearProgram from to) place last s = becomes_ready [] (with_lines (without from to s.text.lines) s)
 does (request.Fail code) place last s = fails code place s
 
-abbrev pub unit_of : Place → ℕ
-unit_of (Immediate unit) = unit
-unit_of (Program line unit) = unit
+abbrev pub unit_number : Place → ℕ
+unit_number (Immediate unit) = unit
+unit_number (Program line unit) = unit
 
 -- the line at a place
 abbrev pub line_in : Option (List ℕ) → Lines → Place → Option (List ℕ)
@@ -153,12 +153,12 @@ current_line place s = line_in s.immediate s.text.lines place
 
 -- a unit that isn't there ends the program or the immediate line
 abbrev pub performs_unit : Option (List ℕ) → Place → Bool → SoloState → Stepped
-performs_unit None place last s = stops [] s
+performs_unit None place last s = becomes_ready [] s
 performs_unit (Some unit) place last s = does (plan s.variables s.mode s.column unit) place last s
 
 abbrev pub performs_in : Option (List ℕ) → Place → SoloState → Stepped
-performs_in None place s = stops [] s
-performs_in (Some line) place s = performs_unit (option_map (λ u. u.bytes) (slice_get (units_of line) (unit_of place))) place (unit_of place + 1 == length (units_of line)) s
+performs_in None place s = becomes_ready [] s
+performs_in (Some line) place s = performs_unit (option_map (λ u. u.bytes) (slice_get (units_of line) (unit_number place))) place (unit_number place + 1 == length (units_of line)) s
 
 -- what a typed line says is taken; a number alone deletes the line of that number
 abbrev pub enters : Entered → SoloState → SoloState
@@ -181,10 +181,10 @@ takes (Ok e) s = enters e s
 takes (Err (refusal.At code column)) s = refuses code column s
 takes (Err refusal.NoMemory) s = s
 
-abbrev pub reads : Read → SoloState → Stepped
-reads (read.Line bytes) s = record { after = takes (syntax.reads bytes) (record s { column = 0 }); end = ends.GoesOn }
-reads (read.Special n) s = record { after = s; end = ends.GoesOn }
-reads read.NoKeys s = record { after = s; end = ends.NoKeys }
+abbrev pub reads_line : Read → SoloState → Stepped
+reads_line (read.Line bytes) s = record { after = takes (syntax.reads bytes) (record s { column = 0 }); end = ends.GoesOn }
+reads_line (read.Special n) s = record { after = s; end = ends.GoesOn }
+reads_line read.NoKeys s = record { after = s; end = ends.NoKeys }
 
 -- the program has these lines from now on
 abbrev pub edited : Lines → SoloState → SoloState
@@ -199,7 +199,7 @@ puts n (Some atoms) s =
 
 -- A ready partition reads a line; a numbered line is put into the program; a running one executes a unit.
 abbrev pub acts : Doing → SoloState → Stepped
-acts Ready s = reads (line_read s.terminal) (record s { terminal = after_read s.terminal })
+acts Ready s = reads_line (line_read s.terminal) (record s { terminal = after_read s.terminal })
 acts (Entering line) s = record { after = record (puts line.0 line.1 s) { doing = Ready }; end = ends.GoesOn }
 acts (Running place) s = performs_in (current_line place s) place s
 
@@ -223,10 +223,10 @@ by_end ends.NoKeys goes_on ready no_keys = no_keys
 
 -- A turn goes on until its steps are done, after a step by which the partition becomes ready, and after one that finds no
 -- line, which doesn't count.
-unfoldable pub turned : ℕ → SoloState → ℕ → Turned
-turned zero s steps = record { after = s; steps = steps }
-turned (suc quota) s steps = by_end (step s).end
-    (turned quota (step s).after (steps + 1))
+unfoldable pub turn_of : ℕ → SoloState → ℕ → Turned
+turn_of zero s steps = record { after = s; steps = steps }
+turn_of (suc quota) s steps = by_end (step s).end
+    (turn_of quota (step s).after (steps + 1))
     (record { after = (step s).after; steps = steps + 1 })
     (record { after = (step s).after; steps = steps })
 

@@ -113,9 +113,9 @@ wants_line (printed.Number x) = true
 wants_line printed.Zone = false
 wants_line printed.Join = false
 
-abbrev pub ended : Bool → List Item
-ended true = item.Line ∷ []
-ended false = []
+abbrev pub newline_where : Bool → List Item
+newline_where true = item.Line ∷ []
+newline_where false = []
 
 -- items after others
 abbrev pub behind_items : List Item → Result (List Item) ℕ → Result (List Item) ℕ
@@ -128,8 +128,8 @@ further_items (Err code) more = Err code
 
 -- the items of PRINT with their values, or the first code; there are at most n
 unfoldable pub print_items : Surroundings → ℕ → Bool → Text → Result (List Item) ℕ
-print_items s zero line t = Ok (ended line)
-print_items s (suc n) line [] = Ok (ended line)
+print_items s zero line t = Ok (newline_where line)
+print_items s (suc n) line [] = Ok (newline_where line)
 print_items s (suc n) line (b ∷ bs) = further_items (printed_at s (b ∷ bs)) (print_items s n)
 
 -- the width of the terminal

@@ -3,11 +3,11 @@ ghost use Rattle.std.specs.Prelude.{◌≡◌, ◌≢◌, Some, Err, ◌<◌, �
 ghost use Rattle.std.specs.Option.{option_copied};
 ghost use Rattle.b2_syntax.specs.Reading as syntax;
 ghost use Rattle.b2_term.specs.Terminal.{line_read, after_read};
-ghost use Rattle.b2_machine.specs.Machine.{started, byte_keyed, shows, stops, goes_to, fails, to_line, goes_on, does, assigned, no_values, unit_of, line_in, current_line, performs_in, enters, takes, refuses, refuses_by, reads, acts, puts, step, turned};
+ghost use Rattle.b2_machine.specs.Machine.{started, byte_keyed, shows, becomes_ready, goes_to, fails, to_line, goes_on, does, assigned, no_values, unit_number, line_in, current_line, performs_in, enters, takes, refuses, refuses_by, reads_line, acts, puts, step, turn_of};
 
 use crate::request::Request;
 use crate::statement::ask;
-use crate::texts::{add_error, add_refusal, listed};
+use crate::texts::{add_error, add_refusal, lines_listed};
 use crate::typed::NumberedLine;
 use b2_atom::Atoms;
 use b2_base::codes::P36_NO_LINE;
@@ -88,8 +88,8 @@ fn line_in<'a>(immediate: &'a Option<Atoms>, text: &'a Text, place: Place) -> Op
     }
 }
 
-fn unit_of(place: Place) -> usize
-    ensures { result ≡ unit_of place }
+fn unit_number(place: Place) -> usize
+    ensures { result ≡ unit_number place }
 {
     match place {
         Place::Immediate(unit) => unit,
@@ -98,7 +98,7 @@ fn unit_of(place: Place) -> usize
 }
 
 /// Assigns to letters, from 0 for A, one after another.
-fn assign(variables: &mut [Dec], letters: &[u8], n: Dec)
+fn assign_letters(variables: &mut [Dec], letters: &[u8], n: Dec)
     ensures { variables.new ≡ assigned letters.now n variables.old }
 {
     for letter in letters {
@@ -158,7 +158,7 @@ impl Solo {
 
     /// It becomes ready, and `:` is to be shown after a text.
     fn stop(&mut self, text: &[u8]) -> Result<StepEnd, NoMemory>
-        ensures { IfOk result (λ how. record { after = self.new; end = how } ≡ stops text.now self.old) }
+        ensures { IfOk result (λ how. record { after = self.new; end = how } ≡ becomes_ready text.now self.old) }
     {
         let mut pending = Vec::from_slice(self.alloc, text)?;
         pending.push(b':')?;
@@ -195,7 +195,7 @@ impl Solo {
 
     /// To the place after a unit, which is the last of its line or not.
     fn go_on(&mut self, place: Place, is_last: bool) -> Result<StepEnd, NoMemory>
-        requires { unit_of place < 255 }
+        requires { unit_number place < 255 }
         ensures { IfOk result (λ how. record { after = self.new; end = how } ≡ goes_on place is_last self.old) }
     {
         match place {
@@ -240,7 +240,7 @@ impl Solo {
         place: Place,
         is_last: bool,
     ) -> Result<StepEnd, NoMemory>
-        requires { unit_of place < 255 }
+        requires { unit_number place < 255 }
         ensures { IfOk result (λ how. record { after = self.new; end = how } ≡ does request place is_last self.old) }
     {
         match request {
@@ -249,7 +249,7 @@ impl Solo {
                 self.go_on(place, is_last)
             }
             Request::Assign(letters, n) => {
-                assign(&mut self.variables, letters.bytes(), n);
+                assign_letters(&mut self.variables, letters.bytes(), n);
                 self.go_on(place, is_last)
             }
             Request::Jump(n) => self.jump(n, place),
@@ -265,7 +265,7 @@ impl Solo {
                 self.go_to_line(line)
             }
             Request::List(from, to) => {
-                let text = listed(self.alloc, &self.text, from, to)?;
+                let text = lines_listed(self.alloc, &self.text, from, to)?;
                 self.show(text.bytes())?;
                 self.go_on(place, is_last)
             }
@@ -289,7 +289,7 @@ impl Solo {
         let Some(line) = line_in(&self.immediate, &self.text, place) else {
             return self.stop(b"");
         };
-        let Some(unit) = line.find_unit(unit_of(place)) else {
+        let Some(unit) = line.find_unit(unit_number(place)) else {
             return self.stop(b"");
         };
         let is_last = unit.is_last;
@@ -373,7 +373,7 @@ impl Solo {
 
     /// Reads a line from the terminal.
     fn read(&mut self) -> Result<StepEnd, NoMemory>
-        ensures { IfOk result (λ how. record { after = self.new; end = how } ≡ reads (line_read self.old.terminal) (record self.old { terminal = after_read self.old.terminal })) }
+        ensures { IfOk result (λ how. record { after = self.new; end = how } ≡ reads_line (line_read self.old.terminal) (record self.old { terminal = after_read self.old.terminal })) }
     {
         match self.terminal.read_line()? {
             Read::Line(line) => {
@@ -443,7 +443,7 @@ impl Solo {
     /// A turn of at most `quota` counting steps: how many there were.
     pub fn turn(&mut self, quota: u16) -> Result<u16, NoMemory>
         ensures few { IfOk result (λ steps. steps ≤ quota) }
-        ensures turned { IfOk result (λ steps. record { after = self.new; steps = steps } ≡ turned quota self.old 0) }
+        ensures turn_of { IfOk result (λ steps. record { after = self.new; steps = steps } ≡ turn_of quota self.old 0) }
     {
         let mut steps = 0;
         for _ in 0..quota {

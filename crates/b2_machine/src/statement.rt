@@ -4,7 +4,7 @@ ghost use Rattle.b2_print.specs.Columns.{column_after};
 ghost use Rattle.b2_print.specs.Layout.{layout};
 ghost use Rattle.b2_base.specs.Lexical.{first};
 ghost use Rattle.b2_machine.specs.Refusals.{Refused, FailsWith};
-ghost use Rattle.b2_machine.specs.Plan.{not_built, is_sign, goes_on_name, built_width, is_built, line_number, line_number_at, range_at, letters_at, with_rest, behind_letters, number_in, assigns, printed_at, items_of, wants_line, ended, print_items, laid, prints, selects, clears, lists, runs, where_built, plan_word, plan_with, plan};
+ghost use Rattle.b2_machine.specs.Plan.{not_built, is_sign, goes_on_name, built_width, is_built, line_number, line_number_at, range_at, letters_at, with_rest, behind_letters, number_in, assigns, printed_at, items_of, wants_line, newline_where, print_items, laid, prints, selects, clears, lists, runs, where_built, plan_word, plan_with, plan};
 ghost use Rattle.b2_machine.specs.declared.request.Request.TheVariants as request;
 
 use crate::request::Request;
@@ -234,7 +234,7 @@ fn show_item(alloc: Global, item: Printed, column: u16, out: &mut Vec<u8>) -> Re
 
 /// Shows the newline at the end, where one belongs there.
 fn show_end(alloc: Global, line: bool, column: u16, out: &mut Vec<u8>) -> Result<(), NoMemory>
-    ensures { OnOk result (out.new.items ≡ out.old.items ++ layout 80 column (ended line)) }
+    ensures { OnOk result (out.new.items ≡ out.old.items ++ layout 80 column (newline_where line)) }
 {
     if line {
         lay(alloc, &[Item::Line], column, WIDTH, out)?;

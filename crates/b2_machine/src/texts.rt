@@ -2,7 +2,7 @@
 ghost use Rattle.std.specs.Prelude.{◌≡◌, ◌≤◌, ◌++◌, ◌∷◌, [], IfOk, OnOk};
 ghost use Rattle.b2_lister.specs.Listing.{listing};
 ghost use Rattle.std.specs.Fmt.{decimal};
-ghost use Rattle.b2_machine.specs.Machine.{code_text, error_text, refusal_text, listed};
+ghost use Rattle.b2_machine.specs.Machine.{code_text, error_text, refusal_text, lines_listed};
 
 use crate::Place;
 use b2_atom::Atoms;
@@ -69,8 +69,8 @@ fn add_line(alloc: Global, n: u16, atoms: &Atoms, out: &mut Vec<u8>) -> Result<(
 
 /// The lines of a text from a number to another as they are listed, each ended by a newline.
 #[tactic(auto, using(crate::proofs::Listings::nothing_listed))]
-pub fn listed(alloc: Global, text: &Text, from: u16, to: u16) -> Result<ByteList, NoMemory>
-    ensures { IfOk result (λ lines. lines ≡ listed from to text.now.lines) }
+pub fn lines_listed(alloc: Global, text: &Text, from: u16, to: u16) -> Result<ByteList, NoMemory>
+    ensures { IfOk result (λ lines. lines ≡ lines_listed from to text.now.lines) }
 {
     let mut out = Vec::new(alloc);
     if from > to {

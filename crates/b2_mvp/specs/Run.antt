@@ -3,7 +3,7 @@ use Rattle.std.specs.Prelude.{ℕ, zero, suc, ◌+◌, ◌-◌, ◌^◌, min, na
 use Rattle.std.specs.Fmt.{decimal}
 use Rattle.b2_base.specs.Byte as byte
 use Rattle.b2_base.specs.Counts.{counted}
-use Rattle.b2_machine.specs.Machine.{Turned, byte_keyed, turned, started}
+use Rattle.b2_machine.specs.Machine.{Turned, byte_keyed, turn_of, started}
 use Rattle.b2_mvp.specs.declared.log.Event.{Event}
 use Rattle.b2_mvp.specs.declared.log.Event.TheVariants as event
 use Rattle.b2_mvp.specs.declared.run.World.{World}
@@ -24,7 +24,7 @@ keys_typed (b ∷ bs) w = keys_typed bs (key_typed b w)
 -- a turn of the partition with the built-in quota, counted with its steps
 abbrev pub round : World → World
 round w =
-    let t : Turned = turned 20 w.solo 0 in
+    let t : Turned = turn_of 20 w.solo 0 in
     record { solo = t.after; turns = counted w.turns; steps = min (w.steps + t.steps) (2 ^ 64 - 1); dropped = w.dropped }
 
 abbrev pub rounds : ℕ → World → World

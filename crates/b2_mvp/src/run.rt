@@ -21,7 +21,7 @@ pub struct World {
 }
 
 /// The machine before any event.
-pub fn start(alloc: Global) -> Result<World, NoMemory>
+pub fn start_world(alloc: Global) -> Result<World, NoMemory>
     ensures { IfOk result (λ world. world ≡ started_world) }
 {
     Ok(World {

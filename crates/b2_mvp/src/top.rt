@@ -4,7 +4,7 @@ ghost use Rattle.b2_base.specs.Seen.{shelf_seen, sink_seen, Later};
 ghost use Rattle.b2_mvp.specs.Top.{command_of, texts, IsTold, FetchFails, IsRead, CannotRun, Delivers, Comes, IsComplete, log_limit};
 
 use crate::log::{LogRead, read_log};
-use crate::run::{World, run_events, start, summarize};
+use crate::run::{World, run_events, start_world, summarize};
 use crate::status::Status;
 use b2_base::{Fetch, FileName, Keep, Shelf, Sink};
 use std::alloc::Global;
@@ -71,7 +71,7 @@ fn run_log(alloc: Global, text: &[u8]) -> Result<Ready, Status>
         Ok(LogRead::Fails(line, check)) => return Err(Status::BadLog(line, check)),
         Err(_) => return Err(Status::NoMemory),
     };
-    let Ok(mut world) = start(alloc) else {
+    let Ok(mut world) = start_world(alloc) else {
         return Err(Status::NoMemory);
     };
     let Ok(()) = run_events(&mut world, events.events()) else {

@@ -1,3 +1,5 @@
 pub mod Sizes
 pub mod Ranges
 pub mod Positions
+pub mod Statements
+pub mod FoundOnTrees

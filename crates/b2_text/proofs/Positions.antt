@@ -24,6 +24,6 @@ passed_by test us k h is =
     ap (λ (m : ℕ). position_from (λ u. test u.bytes) (k + 1) (drop m us)) (add-one k)
     ∙ sym (step test us k k h ∙ ap (λ (b : Bool). cond b (Some k) (position_from (λ u. test u.bytes) (k + 1) (drop (suc k) us))) is)
 
--- behind the last there is none
+-- after the last there is none
 pub none_behind : (test : List ℕ → Bool) (us : List LineUnit) (k : ℕ) → length us ≤ k → position_from (λ u. test u.bytes) k (drop k us) ≡ None
 none_behind test us k h = ap (λ (vs : List LineUnit). position_from (λ u. test u.bytes) k vs) (drop_of_length-le us h)

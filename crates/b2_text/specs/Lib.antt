@@ -1,2 +1,4 @@
 pub mod Program
 pub mod Spots
+pub mod Trees
+pub mod Laws

@@ -13,7 +13,7 @@ pub struct Spot {
     pub unit: u8,
 }
 
-// Whether a unit is the DEFFN' of a number.
+/// Whether a unit is the DEFFN' of a number.
 fn is_mark(n: u8, unit: &[u8]) -> bool
     ensures { result ≡ is_mark n unit.now }
 {
@@ -23,7 +23,7 @@ fn is_mark(n: u8, unit: &[u8]) -> bool
     }
 }
 
-// Whether a unit is the DEFFN of a name.
+/// Whether a unit is the DEFFN of a name.
 fn is_function(name: u8, unit: &[u8]) -> bool
     ensures { result ≡ is_function name unit.now }
 {
@@ -42,7 +42,7 @@ fn is_data(unit: &[u8]) -> bool
     }
 }
 
-// The bytes of a unit, none where there is no such unit.
+/// The bytes of a unit, none where there is no such unit.
 fn unit_at(atoms: &Atoms, unit: u8) -> &[u8]
     ensures { result.now ≡ unit_of unit atoms.now }
 {
@@ -52,7 +52,7 @@ fn unit_at(atoms: &Atoms, unit: u8) -> &[u8]
     }
 }
 
-// The first DATA of a line from a unit on.
+/// The first DATA of a line from a unit on.
 fn data_in(from: u8, atoms: &Atoms) -> Option<u8>
     ensures { result ≡ data_in from atoms.now }
 {
@@ -65,7 +65,7 @@ fn data_in(from: u8, atoms: &Atoms) -> Option<u8>
     None
 }
 
-// The first DATA of a line at or after a spot.
+/// The first DATA of a line at or after a spot.
 fn data_of(from: Spot, number: u16, atoms: &Atoms) -> Option<Spot>
     ensures { result ≡ data_of from (number, atoms.now) }
 {
@@ -80,7 +80,7 @@ fn data_of(from: Spot, number: u16, atoms: &Atoms) -> Option<Spot>
 }
 
 impl Spot {
-    // The first unit of a line.
+    /// The first unit of a line.
     fn first_of(line: u16) -> Spot
         ensures { result ≡ record { line = line; unit = 0 } }
     {

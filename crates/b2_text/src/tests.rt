@@ -14,7 +14,7 @@ fn line(alloc: Global, bytes: &[u8]) -> Result<Atoms, Fail> {
     }
 }
 
-/// REM and so many letters.
+/// REM and a number of letters.
 fn remark(alloc: Global, letters: usize) -> Result<Atoms, Fail> {
     let mut bytes = vec![in alloc; 0x80]?;
     for _ in 0..letters {

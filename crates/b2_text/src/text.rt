@@ -1,9 +1,10 @@
 // A program text: its lines by number.
-ghost use Rattle.std.specs.Prelude.{ℕ, List, filter, ◌≡◌, ◌≢◌, ◌<◌, ◌≤◌, [], option_map, Ok, OnOk, OnErr, IfErr, IfSome};
+ghost use Rattle.std.specs.Prelude.{ℕ, List, filter, true, ◌||◌, ◌≡◌, ◌≢◌, ◌<◌, ◌≤◌, [], option_map, Ok, OnOk, OnErr, IfErr, IfSome};
 ghost use Rattle.std.specs.List.Sorted.{IsStrictlySortedBy};
 ghost use Rattle.std.specs.Map.{keys_of};
 ghost use Rattle.std.specs.Ordering.{nat_cmp};
 ghost use Rattle.std.specs.Map.Iter.{ShowsInOrder, deref_pair};
+ghost use Rattle.b2_base.specs.Lexical.{is_digit, is_letter};
 ghost use Rattle.b2_text.specs.Program.{is_within, size_of, line_at, with_line, without_line, without, number_after, first_number};
 ghost use Rattle.b2_text.specs.Spots.{is_mark, is_function, first_opening, data_from};
 
@@ -45,7 +46,7 @@ impl Model for Text {
 }
 
 impl Text {
-    /// An empty text of an area of so many bytes. It takes no memory.
+    /// An empty text with an area of `area` bytes. It takes no memory.
     pub fn new(alloc: Global, area: usize) -> Result<Text, NoMemory>
         ensures { result ≡ Ok (record { area = area; lines = [] }) }
     {
@@ -103,8 +104,9 @@ impl Text {
         first_mark(&self.lines, n)
     }
 
-    /// The DEFFN of a name in the lowest line that has one, None where no line has.
+    /// The DEFFN of a name, a letter or a digit, in the lowest line that has one, None where no line has.
     pub fn function(&self, name: u8) -> Option<Spot>
+        requires { (is_letter name || is_digit name) ≡ true }
         ensures { result ≡ first_opening (is_function name) self.now.lines }
     {
         first_function(&self.lines, name)
@@ -164,7 +166,7 @@ impl Text {
         first_within(&self.lines, from, to)
     }
 
-    // Deletes the line of a number.
+    /// Deletes the line of a number.
     fn remove(&mut self, n: u16)
         ensures { self.new ≡ record self.old { lines = without_line n self.old.lines } }
     {

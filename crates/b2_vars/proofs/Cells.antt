@@ -1,6 +1,6 @@
 -- Where a value stands: its place is one of the shape's, and its bytes are among the variable's.
-use Rattle.std.proofs.Common.{◌≡◌, ◌≢◌, ℕ, suc, ◌+◌, ◌-◌, ◌*◌, ◌<◌, ◌≤◌, max, Bool, true, false, cond, ◌&&◌, ◌==◌, nat_le, List, length, Option, Some, None, IfSome, refl, ap, sym, subst, ◌∙◌, arith, true≢false}
-use Rattle.std.proofs.lemmas.Nat.{mul-add-lt}
+use Rattle.std.proofs.Common.{◌≡◌, ◌≢◌, ℕ, suc, ◌+◌, ◌-◌, ◌*◌, ◌/◌, ◌<◌, ◌≤◌, max, Bool, true, false, cond, ◌&&◌, ◌==◌, nat_le, List, length, Option, Some, None, IfSome, refl, ap, sym, subst, ◌∙◌, arith, true≢false}
+use Rattle.std.proofs.lemmas.Nat.{mul-add-lt, div-mul-add}
 use Rattle.std.proofs.Math.Nat.{mul-le-mul_right}
 use Rattle.std.proofs.lemmas.Bool.Decides.{nat_tests}
 use Rattle.std.specs.Option.{unwrap_or}
@@ -68,3 +68,16 @@ pub part-within : (t : Table) (v : Var) (r c from n : ℕ) → IsVariable v (var
 part-within t v r c from n is there =
     let s = shape_at v t in
     omega (arith, cell-within t v (cell_at s r c) is (cell-lt s r c there.cell), there.within)
+
+-- subscripts of one place are the same
+same_subscript : (size k j : ℕ) → is_subscript size k ≡ true → is_subscript size j ≡ true → k - 1 ≡ j - 1 → k ≡ j
+same_subscript size k j h g e = grind (arith, nat_tests)
+
+pub cells-apart : (s : Shape) (r c row col : ℕ) → has_cell s r c ≡ true → has_cell s row col ≡ true → cell_at s r c ≡ cell_at s row col → (r ≡ row) × (c ≡ col)
+cells-apart s r c row col h g e =
+    let width = max 1 s.cols in
+    let one = subscript-lt s.cols c (right_true _ _ h) in
+    let other = subscript-lt s.cols col (right_true _ _ g) in
+    let rows : r - 1 ≡ row - 1 = sym (div-mul-add (r - 1) width (c - 1) one) ∙ ap (λ n. n / width) e ∙ div-mul-add (row - 1) width (col - 1) other in
+    let cols : c - 1 ≡ col - 1 = omega (arith, e, ap (λ n. n * width) rows) in
+    (same_subscript s.rows r row (left_true _ _ h) (left_true _ _ g) rows, same_subscript s.cols c col (right_true _ _ h) (right_true _ _ g) cols)

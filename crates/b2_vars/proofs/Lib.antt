@@ -7,3 +7,4 @@ pub mod Cells
 pub mod Refusals
 pub mod Soundness
 pub mod Scalars
+pub mod Costs

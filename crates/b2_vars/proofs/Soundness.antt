@@ -9,8 +9,8 @@ use Rattle.indexmap.specs.IndexMap.{set_value_at}
 use Rattle.b2_dec.specs.Number.{Number}
 use Rattle.b2_vars.specs.declared.name.Var.{Var}
 use Rattle.b2_vars.specs.declared.shape.Shape.{Shape}
-use Rattle.b2_vars.specs.Names.{var_cmp, is_name}
-use Rattle.b2_vars.specs.Shapes.{has_dimensions, has_length, cost, size_of, cells, number_cells, alpha_bytes, is_within}
+use Rattle.b2_vars.specs.Names.{var_cmp, is_legal_name}
+use Rattle.b2_vars.specs.Shapes.{has_dimensions, has_length, cost, size_of, cells, number_cells, alpha_bytes, is_up_to}
 use Rattle.b2_vars.specs.Variables.{VariableState, fresh, with_number, with_bytes, reshaped}
 use Rattle.b2_vars.specs.Tables.{Table, IsSound, IsVariable, IsPlaceOf, count_of, table_of, variable_at, shape_at}
 use Rattle.b2_vars.specs.Calls.{full, common_only, is_common}
@@ -49,7 +49,7 @@ times_zero : (n : ℕ) → n * 0 ≡ 0
 times_zero n = omega arith
 
 -- what stands under a name that is common, and nothing else
-get-common : (t : Table) (q : Var) → get (common_only t) q ≡ cond (is_common q t) (get t q) None
+pub get-common : (t : Table) (q : Var) → get (common_only t) q ≡ cond (is_common q t) (get t q) None
 get-common t q = get-retain_keys t (λ v. is_common v t) q (λ x tie. ap (λ v. is_common v t) (sym (names_exact q x tie)))
 
 pub sound-empty : (area : ℕ) → IsSound area 0 empty
@@ -59,7 +59,7 @@ sound-empty area = record {
   each = λ q. subst (λ (o : Option VariableState). IfSome o (IsVariable q)) (sym (get-empty var_cmp q)) tt;
 }
 
-pub fresh-variable : (v : Var) (s : Shape) (common : Bool) → is_name v ≡ true → has_dimensions v s ≡ true → has_length v s ≡ true → IsVariable v (fresh v s common)
+pub fresh-variable : (v : Var) (s : Shape) (common : Bool) → is_legal_name v ≡ true → has_dimensions v s ≡ true → has_length v s ≡ true → IsVariable v (fresh v s common)
 fresh-variable v s common named dimensions value_length = record {
   named = named;
   dimensions = dimensions;
@@ -100,7 +100,7 @@ sound-found area count t v sound found = by (get t v) refl found
     by None e s = absurd (true≢false (sym s))
     by (Some x) e s = subst (IsVariable v) (sym (variable_at-Some t v x e)) (sound-Some area count t v x sound e)
 
-found-cost : (t : Table) (v : Var) → IsSome (get t v) → cost_of v (get t v) ≡ cost v (shape_at v t)
+pub found-cost : (t : Table) (v : Var) → IsSome (get t v) → cost_of v (get t v) ≡ cost v (shape_at v t)
 found-cost t v found = by (get t v) refl found
   where
     by : (o : Option VariableState) → get t v ≡ o → IsSome o → cost_of v (get t v) ≡ cost v (shape_at v t)
@@ -170,7 +170,7 @@ smaller v s old is fits = by v.alpha refl
     by : (b : Bool) → v.alpha ≡ b → (number_cells v s ≤ number_cells v old) × (alpha_bytes s ≤ alpha_bytes old)
     by true e = (omega (arith, ap (λ b. cond b 0 (cells s)) e), omega (arith, fits, ap (λ b. cond b (alpha_bytes s) (cells s * 8)) e, ap (λ b. cond b (alpha_bytes old) (cells old * 8)) e))
     by false e =
-        let no_length : s.len ≡ 0 = is_zero s.len (sym (ap (λ b. cond b (is_within 1 124 s.len) (s.len == 0)) e) ∙ is) in
+        let no_length : s.len ≡ 0 = is_zero s.len (sym (ap (λ b. cond b (is_up_to 124 s.len) (s.len == 0)) e) ∙ is) in
         let none : alpha_bytes s ≡ 0 = ap (λ n. cells s * n) no_length ∙ times_zero (cells s) in (
           omega (arith, fits, ap (λ b. cond b 0 (cells s)) e, ap (λ b. cond b 0 (cells old)) e, ap (λ b. cond b (alpha_bytes s) (cells s * 8)) e, ap (λ b. cond b (alpha_bytes old) (cells old * 8)) e),
           omega (arith, none),

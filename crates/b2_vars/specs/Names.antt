@@ -8,8 +8,8 @@ use Rattle.b2_base.specs.Lexical.{is_digit, is_letter}
 use Rattle.b2_vars.specs.declared.name.Var.{Var}
 
 -- a letter, and a digit where there is one
-abbrev pub is_name : Var → Bool
-is_name v = is_letter v.letter && option_map_or is_digit v.digit true
+abbrev pub is_legal_name : Var → Bool
+is_legal_name v = is_letter v.letter && option_map_or is_digit v.digit true
 
 -- by letter, then by digit with none first, then numbers before alpha, then scalars before arrays
 abbrev pub var_cmp : Var → Var → Ordering

@@ -3,18 +3,19 @@ use Rattle.std.specs.Prelude.{ℕ, ◌+◌, ◌-◌, ◌*◌, max, Bool, ◌&&�
 use Rattle.b2_vars.specs.declared.name.Var.{Var}
 use Rattle.b2_vars.specs.declared.shape.Shape.{Shape}
 
-abbrev pub is_within : ℕ → ℕ → ℕ → Bool
-is_within least most n = nat_le least n && nat_le n most
+-- from 1 to the most
+abbrev pub is_up_to : ℕ → ℕ → Bool
+is_up_to most n = nat_le 1 n && nat_le n most
 
 -- a scalar has no dimensions; an array has one of up to 4,000, or two of up to 255 each
 abbrev pub has_dimensions : Var → Shape → Bool
 has_dimensions v s =
-    if v.array then (if s.cols == 0 then is_within 1 4000 s.rows else (is_within 1 255 s.rows && is_within 1 255 s.cols))
+    if v.array then (if s.cols == 0 then is_up_to 4000 s.rows else (is_up_to 255 s.rows && is_up_to 255 s.cols))
     else (s.rows == 0 && s.cols == 0)
 
 -- an alpha value is from 1 to 124 bytes long, a number has no length
 abbrev pub has_length : Var → Shape → Bool
-has_length v s = if v.alpha then is_within 1 124 s.len else s.len == 0
+has_length v s = if v.alpha then is_up_to 124 s.len else s.len == 0
 
 abbrev pub is_same_shape : Shape → Shape → Bool
 is_same_shape a b = a.rows == b.rows && (a.cols == b.cols && a.len == b.len)
@@ -50,7 +51,7 @@ cost v s = overhead v + size_of v s
 
 -- a subscript is 0 for a dimension that isn't there, and else from 1 to its size
 abbrev pub is_subscript : ℕ → ℕ → Bool
-is_subscript size k = if size == 0 then k == 0 else is_within 1 size k
+is_subscript size k = if size == 0 then k == 0 else is_up_to size k
 
 abbrev pub has_cell : Shape → ℕ → ℕ → Bool
 has_cell s r c = is_subscript s.rows r && is_subscript s.cols c

@@ -7,7 +7,7 @@ use Rattle.std.specs.FinMap as map
 use Rattle.std.specs.Option.{option_map_or, unwrap_or}
 use Rattle.b2_vars.specs.declared.name.Var.{Var}
 use Rattle.b2_vars.specs.declared.shape.Shape.{Shape}
-use Rattle.b2_vars.specs.Names.{var_cmp, coded_var, is_name}
+use Rattle.b2_vars.specs.Names.{var_cmp, coded_var, is_legal_name}
 use Rattle.b2_vars.specs.Shapes.{has_dimensions, has_length, cost, scalar_shape, number_cells, alpha_bytes}
 use Rattle.b2_vars.specs.Variables.{VariableState, coded_variable, fresh}
 
@@ -45,7 +45,7 @@ table_of es = map.from_entries es
 
 -- a variable has a name, a shape that its name allows, and as many values as its shape says
 pub record IsVariable (v : Var) (x : VariableState) : Type 0 where
-  pub named : is_name v ≡ true
+  pub named : is_legal_name v ≡ true
   pub dimensions : has_dimensions v x.shape ≡ true
   pub value_length : has_length v x.shape ≡ true
   pub numbers : length x.numbers ≡ number_cells v x.shape

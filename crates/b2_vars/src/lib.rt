@@ -11,6 +11,7 @@
 //! what holds of these definitions themselves.
 #![tactic(auto)]
 
+pub mod laws;
 mod name;
 mod shape;
 mod table;

@@ -1,6 +1,6 @@
 // The names of variables.
 ghost use Rattle.std.specs.Prelude.{◌≡◌};
-ghost use Rattle.b2_vars.specs.Names.{is_name};
+ghost use Rattle.b2_vars.specs.Names.{is_legal_name};
 
 use b2_base::lexical::{is_digit, is_letter};
 
@@ -17,8 +17,8 @@ pub struct Var {
 impl Var {
     /// Whether the letter is from A to Z and the digit, if there is one, from 0 to 9. Every call that takes a name wants
     /// this.
-    pub fn is_name(self) -> bool
-        ensures { result ≡ is_name self }
+    pub fn is_legal(self) -> bool
+        ensures { result ≡ is_legal_name self }
     {
         is_letter(self.letter)
             && match self.digit {

@@ -1,6 +1,6 @@
 // The shapes of variables.
 ghost use Rattle.std.specs.Prelude.{◌≡◌, ◌≤◌, ◌<◌, ◌^◌, true};
-ghost use Rattle.b2_vars.specs.Shapes.{has_dimensions, has_length, is_same_shape, scalar_shape, cells, size_of, overhead, cost, is_subscript, has_cell, cell_at, is_within, alpha_bytes, number_cells};
+ghost use Rattle.b2_vars.specs.Shapes.{has_dimensions, has_length, is_same_shape, scalar_shape, cells, size_of, overhead, cost, is_subscript, has_cell, cell_at, is_up_to, alpha_bytes, number_cells};
 
 use crate::name::Var;
 
@@ -27,15 +27,16 @@ pub fn has_dimensions(v: Var, shape: Shape) -> bool
 {
     match (v.array, shape.cols) {
         (false, cols) => shape.rows == 0 && cols == 0,
-        (true, 0) => is_within(1, LONGEST, shape.rows),
-        (true, cols) => is_within(1, WIDEST, shape.rows) && is_within(1, WIDEST, cols),
+        (true, 0) => is_up_to(LONGEST, shape.rows),
+        (true, cols) => is_up_to(WIDEST, shape.rows) && is_up_to(WIDEST, cols),
     }
 }
 
-fn is_within(least: u16, most: u16, n: u16) -> bool
-    ensures { result ≡ is_within least most n }
+/// Whether a number is from 1 to the most.
+fn is_up_to(most: u16, n: u16) -> bool
+    ensures { result ≡ is_up_to most n }
 {
-    least <= n && n <= most
+    1 <= n && n <= most
 }
 
 /// Whether the values of this name may have this length.
@@ -131,7 +132,7 @@ fn is_subscript(size: u16, subscript: u16) -> bool
     if size == 0 {
         subscript == 0
     } else {
-        is_within(1, size, subscript)
+        is_up_to(size, subscript)
     }
 }
 

@@ -64,7 +64,7 @@ pub fn byte_count(table: &Table, v: Var) -> usize
 }
 
 /// P59 exactly where nothing stands under a name.
-pub fn find(table: &Table, v: Var) -> Result<(), Code>
+pub fn require_variable(table: &Table, v: Var) -> Result<(), Code>
     ensures { Answers (missing v (table_of table.now.entries)) result }
 {
     match look(table, v) {
@@ -74,17 +74,17 @@ pub fn find(table: &Table, v: Var) -> Result<(), Code>
 }
 
 /// P59 exactly where a name is that of an array that wasn't made.
-fn find_array(table: &Table, v: Var) -> Result<(), Code>
+fn require_array(table: &Table, v: Var) -> Result<(), Code>
     ensures { Answers (no_array v (table_of table.now.entries)) result }
 {
     if v.array {
-        return find(table, v);
+        return require_variable(table, v);
     }
     Ok(())
 }
 
 /// P57 exactly where a shape has no value at these subscripts.
-fn find_cell(table: &Table, v: Var, r: u16, c: u16) -> Result<usize, Code>
+fn require_cell(table: &Table, v: Var, r: u16, c: u16) -> Result<usize, Code>
     ensures place { IfOk result (λ cell. cell ≡ cell_at (shape_at v (table_of table.now.entries)) r c) }
     ensures there { OnOk result (has_cell (shape_at v (table_of table.now.entries)) r c ≡ true) }
     ensures code { Answers (no_cell v r c (table_of table.now.entries)) result }
@@ -102,12 +102,12 @@ pub fn cell_of(table: &Table, v: Var, r: u16, c: u16) -> Result<usize, Code>
     ensures there { OnOk result (has_cell (shape_at v (table_of table.now.entries)) r c ≡ true) }
     ensures code { Answers (get_code v r c (table_of table.now.entries)) result }
 {
-    find_array(table, v)?;
-    find_cell(table, v, r, c)
+    require_array(table, v)?;
+    require_cell(table, v, r, c)
 }
 
 /// P34 exactly where the values of a name have no such part.
-pub fn find_part(table: &Table, v: Var, from: usize, n: usize) -> Result<(), Code>
+pub fn require_part(table: &Table, v: Var, from: usize, n: usize) -> Result<(), Code>
     ensures { Answers (no_part v from n (table_of table.now.entries)) result }
 {
     let len = usize::from(shape_at(table, v).len);
@@ -118,7 +118,7 @@ pub fn find_part(table: &Table, v: Var, from: usize, n: usize) -> Result<(), Cod
 }
 
 /// P50 or P53 exactly where a name can't have a shape.
-pub fn allow(v: Var, shape: Shape) -> Result<(), Code>
+pub fn require_allowed(v: Var, shape: Shape) -> Result<(), Code>
     ensures { Answers (first_of (bad_dimensions v shape ∷ bad_length v shape ∷ [])) result }
 {
     if !has_dimensions(v, shape) {

@@ -6,7 +6,7 @@ ghost use Rattle.std.specs.Fn.{FnOnceReturnsAtMut};
 ghost use Rattle.std.specs.Option.{option_map};
 ghost use Rattle.b2_vars.specs.Answers.{Answers, AnswersOrFails, first_of};
 ghost use Rattle.b2_vars.specs.Calls.{ChangesPart, IsPart, IsCell, full, no_array, get_code, set_code, part_code, dim_code, com_code, redim_code, missing, with_new, with_scalar, with_change, with_bytes_of, part_place, common_only};
-ghost use Rattle.b2_vars.specs.Names.{is_name};
+ghost use Rattle.b2_vars.specs.Names.{is_legal_name};
 ghost use Rattle.b2_vars.specs.Shapes.{has_dimensions, has_length, has_cell, cell_at, size_of, alpha_bytes};
 ghost use Rattle.b2_vars.specs.Tables.{count_of, shape_at, variable_at, IsVariable};
 ghost use Rattle.b2_vars.specs.Variables.{VariableState, fresh, value_at, number_at, alpha_at, is_alpha, part, with_number, with_alpha, with_value, reshaped};
@@ -62,7 +62,7 @@ impl Vars {
 
     /// The shape of a variable, None where nothing stands under the name.
     pub fn shape(&self, v: Var) -> Option<Shape>
-        requires { is_name v ≡ true }
+        requires { is_legal_name v ≡ true }
         ensures shape { result ≡ option_map (λ (x : VariableState). x.shape) (map.get self.now.table v) }
         ensures sound { IfSome (map.get self.now.table v) (IsVariable v) }
     {
@@ -83,7 +83,7 @@ impl Vars {
     /// A value. A scalar that was never set is zero or 16 blanks. P59 and P57 come in this order, each exactly where the
     /// array isn't there or has no such element.
     pub fn get(&self, v: Var, r: u16, c: u16) -> Result<Value, Code>
-        requires { is_name v ≡ true }
+        requires { is_legal_name v ≡ true }
         ensures value { IfOk result (λ x. x ≡ value_at v (cell_at (shape_at v self.now.table) r c) (map.get self.now.table v)) }
         ensures code { Answers (get_code v r c self.now.table) result }
     {
@@ -97,7 +97,7 @@ impl Vars {
 
     /// A number, as `get`.
     pub fn number(&self, v: Var, r: u16, c: u16) -> Result<Dec, Code>
-        requires named { is_name v ≡ true }
+        requires named { is_legal_name v ≡ true }
         requires number { v.alpha ≡ false }
         ensures value { IfOk result (λ x. x ≡ number_at (cell_at (shape_at v self.now.table) r c) (map.get self.now.table v)) }
         ensures code { Answers (get_code v r c self.now.table) result }
@@ -111,7 +111,7 @@ impl Vars {
 
     /// The bytes of an alpha value, as `get`.
     pub fn alpha(&self, v: Var, r: u16, c: u16) -> Result<&[u8], Code>
-        requires named { is_name v ≡ true }
+        requires named { is_legal_name v ≡ true }
         requires alpha { v.alpha ≡ true }
         ensures value { IfOk result (λ x. x.now ≡ alpha_at (cell_at (shape_at v self.now.table) r c) (map.get self.now.table v)) }
         ensures short { IfOk result (λ x. length x.now ≤ 124) }
@@ -128,7 +128,7 @@ impl Vars {
     /// isn't there is made first. P59, P57 and A02 come in this order, each exactly where the array isn't there, it has no
     /// such element, or the new scalar would take the count past the area. After an error all is as before.
     pub fn set(&mut self, v: Var, r: u16, c: u16, x: &Value) -> Result<(), Fault>
-        requires named { is_name v ≡ true }
+        requires named { is_legal_name v ≡ true }
         requires kind { is_alpha x.now ≡ v.alpha }
         ensures ok { OnOk result (self.new ≡ with_change v (with_value (cell_at (shape_at v self.old.table) r c) x.now) (with_scalar v self.old)) }
         ensures code { AnswersOrFails (set_code v r c self.old) result }
@@ -142,7 +142,7 @@ impl Vars {
 
     /// Assigns a number, as `set`.
     pub fn set_number(&mut self, v: Var, r: u16, c: u16, n: Dec) -> Result<(), Fault>
-        requires named { is_name v ≡ true }
+        requires named { is_legal_name v ≡ true }
         requires number { v.alpha ≡ false }
         ensures ok { OnOk result (self.new ≡ with_change v (with_number (cell_at (shape_at v self.old.table) r c) n) (with_scalar v self.old)) }
         ensures code { AnswersOrFails (set_code v r c self.old) result }
@@ -155,7 +155,7 @@ impl Vars {
 
     /// Assigns bytes to an alpha value, as `set`.
     pub fn set_alpha(&mut self, v: Var, r: u16, c: u16, bytes: &[u8]) -> Result<(), Fault>
-        requires named { is_name v ≡ true }
+        requires named { is_legal_name v ≡ true }
         requires alpha { v.alpha ≡ true }
         ensures ok { OnOk result (self.new ≡ with_change v (with_alpha (cell_at (shape_at v self.old.table) r c) bytes.now) (with_scalar v self.old)) }
         ensures code { AnswersOrFails (set_code v r c self.old) result }
@@ -171,14 +171,14 @@ impl Vars {
     /// exactly where the array isn't there, it has no such element, the value has no such part, or the new scalar would
     /// take the count past the area. After an error all is as before.
     pub fn reach_part(&mut self, v: Var, r: u16, c: u16, from: usize, n: usize) -> Result<(), Fault>
-        requires { is_name v ≡ true }
+        requires { is_legal_name v ≡ true }
         ensures ok { OnOk result (self.new ≡ with_scalar v self.old) }
         ensures part { OnOk result (IsPart v r c from n self.new.table) }
         ensures code { AnswersOrFails (part_code v r c from n self.old) result }
         ensures err { OnErr result (self.new ≡ self.old) }
     {
         let _cell = table::cell_of(&self.table, v, r, c)?;
-        table::find_part(&self.table, v, from, n)?;
+        table::require_part(&self.table, v, from, n)?;
         self.make_scalar(v)
     }
 
@@ -223,7 +223,7 @@ impl Vars {
 
     /// The bytes of all values of an alpha array, along rows. P59 comes exactly where nothing stands under the name.
     pub fn all(&self, v: Var) -> Result<&[u8], Code>
-        requires { is_name v ≡ true }
+        requires { is_legal_name v ≡ true }
         ensures value { IfOk result (λ x. x.now ≡ (variable_at v self.now.table).bytes) }
         ensures long { IfOk result (λ x. length x.now ≡ alpha_bytes (shape_at v self.now.table)) }
         ensures code { Answers (missing v self.now.table) result }
@@ -237,11 +237,11 @@ impl Vars {
     /// Reaches all values of a variable, the test that `all_mut` and `change_all` want passed. P59 comes exactly where
     /// nothing stands under the name.
     pub fn reach_all(&self, v: Var) -> Result<(), Code>
-        requires { is_name v ≡ true }
+        requires { is_legal_name v ≡ true }
         ensures there { OnOk result (IsSome (map.get self.now.table v)) }
         ensures code { Answers (missing v self.now.table) result }
     {
-        table::find(&self.table, v)
+        table::require_variable(&self.table, v)
     }
 
     /// The bytes of all values of an alpha array, along rows, to be written.
@@ -269,24 +269,24 @@ impl Vars {
     /// P53, P55 and A02 come in this order, each exactly where the name can't have these dimensions or this length, it is
     /// there in another shape, or the count would pass the area. After an error all is as before.
     pub fn dim(&mut self, v: Var, shape: Shape) -> Result<(), Fault>
-        requires { is_name v ≡ true }
+        requires { is_legal_name v ≡ true }
         ensures ok { OnOk result (self.new ≡ record self.old { table = with_new v shape false self.old.table }) }
         ensures code { AnswersOrFails (dim_code v shape self.old) result }
         ensures err { OnErr result (self.new ≡ self.old) }
     {
-        table::allow(v, shape)?;
+        table::require_allowed(v, shape)?;
         table::require_shape(&self.table, v, shape)?;
         self.make(v, shape, false)
     }
 
     /// Makes a common variable, as `dim`; P56, before P55, comes exactly where it is there and not common.
     pub fn com(&mut self, v: Var, shape: Shape) -> Result<(), Fault>
-        requires { is_name v ≡ true }
+        requires { is_legal_name v ≡ true }
         ensures ok { OnOk result (self.new ≡ record self.old { table = with_new v shape true self.old.table }) }
         ensures code { AnswersOrFails (com_code v shape self.old) result }
         ensures err { OnErr result (self.new ≡ self.old) }
     {
-        table::allow(v, shape)?;
+        table::require_allowed(v, shape)?;
         table::require_common(&self.table, v)?;
         table::require_shape(&self.table, v, shape)?;
         self.make(v, shape, true)
@@ -296,13 +296,13 @@ impl Vars {
     /// and P55 come in this order, each exactly where nothing stands under the name, it can't have these dimensions or this
     /// length, or the shape takes more than the variable has. After an error all is as before.
     pub fn redim(&mut self, v: Var, shape: Shape) -> Result<(), Code>
-        requires { is_name v ≡ true }
+        requires { is_legal_name v ≡ true }
         ensures ok { OnOk result (self.new ≡ with_change v (reshaped v shape) self.old) }
         ensures code { Answers (redim_code v shape self.old.table) result }
         ensures err { OnErr result (self.new ≡ self.old) }
     {
-        table::find(&self.table, v)?;
-        table::allow(v, shape)?;
+        table::require_variable(&self.table, v)?;
+        table::require_allowed(v, shape)?;
         table::require_room(&self.table, v, shape)?;
         self.reshape(v, shape);
         Ok(())
@@ -326,7 +326,7 @@ impl Vars {
 
     /// Reaches a value, whose place along rows it gives; a scalar that isn't there is made.
     fn reach(&mut self, v: Var, r: u16, c: u16) -> Result<usize, Fault>
-        requires { is_name v ≡ true }
+        requires { is_legal_name v ≡ true }
         ensures place { IfOk result (λ cell. cell ≡ cell_at (shape_at v self.old.table) r c) }
         ensures ok { OnOk result (self.new ≡ with_scalar v self.old) }
         ensures there { IfOk result (λ cell. IsCell v cell self.new.table) }
@@ -381,7 +381,7 @@ impl Vars {
 
     /// Makes a scalar that isn't there.
     fn make_scalar(&mut self, v: Var) -> Result<(), Fault>
-        requires named { is_name v ≡ true }
+        requires named { is_legal_name v ≡ true }
         requires array { no_array v self.old.table ≡ None }
         ensures ok { OnOk result (self.new ≡ with_scalar v self.old) }
         ensures there { OnOk result (IsSome (map.get self.new.table v)) }
@@ -394,7 +394,7 @@ impl Vars {
     /// Makes a variable of zeros or blanks, where nothing stands under the name. A02 comes exactly where the count would
     /// pass the area.
     fn make(&mut self, v: Var, shape: Shape, common: bool) -> Result<(), Fault>
-        requires named { is_name v ≡ true }
+        requires named { is_legal_name v ≡ true }
         requires allowed { map.get self.old.table v ≡ None → (has_dimensions v shape ≡ true) × (has_length v shape ≡ true) }
         ensures ok { OnOk result (self.new ≡ record self.old { table = with_new v shape common self.old.table }) }
         ensures there { OnOk result (IsSome (map.get self.new.table v)) }
@@ -410,7 +410,7 @@ impl Vars {
     /// Puts a new variable of zeros or blanks under its name.
     fn add(&mut self, v: Var, shape: Shape, common: bool) -> Result<(), Fault>
         requires missing { map.get self.old.table v ≡ None }
-        requires named { is_name v ≡ true }
+        requires named { is_legal_name v ≡ true }
         requires dimensions { has_dimensions v shape ≡ true }
         requires value_length { has_length v shape ≡ true }
         ensures ok { OnOk result (self.new ≡ record self.old { table = map.insert self.old.table v (fresh v shape common) }) }

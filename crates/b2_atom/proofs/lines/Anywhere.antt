@@ -10,7 +10,7 @@ use Rattle.b2_atom.specs.Table.{forms}
 use Rattle.b2_atom.specs.declared.rows.TheConstants as row
 use Rattle.b2_atom.specs.declared.words.Origin.{Origin}
 use Rattle.b2_atom.specs.declared.words.Origin.TheVariants as origin
-use Rattle.b2_atom.specs.declared.forms.Place.{Place}
+use Rattle.b2_atom.specs.declared.forms.Position.{Position}
 use Rattle.b2_atom.specs.declared.forms.Rule.{Rule}
 use Rattle.b2_atom.specs.declared.forms.Form.{Form}
 use Rattle.b2_atom.specs.declared.forms.Item.{Item}
@@ -124,10 +124,10 @@ allowed_by false false c h = h
 no_bar : (r : Rule) → barred_line origin.Atoms r ≡ false
 no_bar r = refl
 
-allowed_anywhere : (o : Origin) (p : Place) (r : Rule) → is_allowed o p r ≡ true → is_allowed origin.Atoms p r ≡ true
+allowed_anywhere : (o : Origin) (p : Position) (r : Rule) → is_allowed o p r ≡ true → is_allowed origin.Atoms p r ≡ true
 allowed_anywhere o p r h = allowed_by (barred_following p r) (barred_line o r) (barred_place p r) h
 
-statement_anywhere : (o : Origin) (p : Place) (m : ℕ) (fs : List Form) → is_statement fs o p m ≡ true → is_statement fs origin.Atoms p m ≡ true
+statement_anywhere : (o : Origin) (p : Position) (m : ℕ) (fs : List Form) → is_statement fs o p m ≡ true → is_statement fs origin.Atoms p m ≡ true
 statement_anywhere o p m [] h = h
 statement_anywhere o p m (f ∷ fs) h = elim (or_cases (f.row == m && is_allowed o p f.rule) (is_statement fs o p m) h) [
   | inl g ↦ or_one _ _ (both (f.row == m) _ (and_left _ _ g) (allowed_anywhere o p f.rule (and_right (f.row == m) _ g)))

@@ -20,8 +20,8 @@ use Rattle.b2_atom.specs.Table.{forms}
 use Rattle.b2_atom.specs.declared.rows.TheConstants as row
 use Rattle.b2_atom.specs.declared.words.Origin.TheVariants.{Atoms}
 use Rattle.b2_atom.specs.declared.forms.Start.TheVariants as start
-use Rattle.b2_atom.specs.declared.forms.Place.{Place}
-use Rattle.b2_atom.specs.declared.forms.Place.TheVariants as place
+use Rattle.b2_atom.specs.declared.forms.Position.{Position}
+use Rattle.b2_atom.specs.declared.forms.Position.TheVariants as place
 use Rattle.b2_atom.specs.declared.forms.Item.{Item}
 use Rattle.b2_atom.specs.declared.forms.Item.TheVariants.{Sign, Many, End, Statement}
 use Rattle.b2_atom.proofs.Booleans.{never}
@@ -43,27 +43,27 @@ front_taken a b =
     let less : length (a ++ b) - length b ≡ length a = omega (arith, both) in
     ap (λ (n : ℕ). take n (a ++ b)) less ∙ take-append_seam a b
 
-behind_read : (p : Place) (m : ℕ) (t : Trees) (xs more : List Token) → UnitRead p m t xs more → behind_unit p (atoms_of_tokens (xs ++ more)) ≡ atoms_of_tokens more
+behind_read : (p : Position) (m : ℕ) (t : Trees) (xs more : List Token) → UnitRead p m t xs more → behind_unit p (atoms_of_tokens (xs ++ more)) ≡ atoms_of_tokens more
 unfolding behind_unit
 behind_read p m t xs more h = ap rest_of h.here
 
-unit_bytes : (p : Place) (m : ℕ) (t : Trees) (xs more : List Token) → UnitRead p m t xs more → (unit_at p (atoms_of_tokens (xs ++ more))).bytes ≡ atoms_of_tokens xs
+unit_bytes : (p : Position) (m : ℕ) (t : Trees) (xs more : List Token) → UnitRead p m t xs more → (unit_at p (atoms_of_tokens (xs ++ more))).bytes ≡ atoms_of_tokens xs
 unit_bytes p m t xs more h =
     ap (λ (rest : Text). take (length (atoms_of_tokens (xs ++ more)) - length rest) (atoms_of_tokens (xs ++ more))) (behind_read p m t xs more h)
     ∙ ap (λ (s : Text). take (length s - length (atoms_of_tokens more)) s) (append_atoms xs more)
     ∙ front_taken (atoms_of_tokens xs) (atoms_of_tokens more)
 
-unit_atoms_are : (p : Place) (m : ℕ) (t : Trees) (xs more : List Token) → UnitRead p m t xs more → atoms t ≡ atoms_of_tokens xs
+unit_atoms_are : (p : Position) (m : ℕ) (t : Trees) (xs more : List Token) → UnitRead p m t xs more → atoms t ≡ atoms_of_tokens xs
 unit_atoms_are p m t xs more h =
     let takes : (atoms t ++ []) ++ [] ≡ atoms_of_tokens xs = subst (λ (o : Outcome). Takes (atoms_of_tokens xs) o) h.alone (takes_statement 1 p (atoms_of_tokens xs)) in
     sym (append-nil (atoms t)) ∙ sym (append-nil (atoms t ++ [])) ∙ takes
 
 -- nothing is read as a statement of no bytes
-none_there : (p : Place) → is_ok (statement (reader Atoms) 1 p []) ≡ false
+none_there : (p : Position) → is_ok (statement (reader Atoms) 1 p []) ≡ false
 unfolding statement statement_row starts
 none_there p = refl
 
-some_bytes : (p : Place) (t : Trees) (s rest : Text) → statement (reader Atoms) 1 p s ≡ Ok (t, rest) → 1 ≤ length s
+some_bytes : (p : Position) (t : Trees) (s rest : Text) → statement (reader Atoms) 1 p s ≡ Ok (t, rest) → 1 ≤ length s
 some_bytes p t [] rest h = never (is_ok (statement (reader Atoms) 1 p [])) (ap is_ok h) (none_there p)
 some_bytes p t (b ∷ s) rest h = omega arith
 
@@ -75,7 +75,7 @@ record Cut (us : List LineUnit) (vs : List TreeUnit) : Type 0 where
 cut_none : Cut [] []
 cut_none = record { units = refl; alone = All-nil IsReadAlone }
 
-cut_one : (p : Place) (m : ℕ) (t : Trees) (xs more : List Token) (us : List LineUnit) (vs : List TreeUnit) → UnitRead p m t xs more → Cut us vs
+cut_one : (p : Position) (m : ℕ) (t : Trees) (xs more : List Token) (us : List LineUnit) (vs : List TreeUnit) → UnitRead p m t xs more → Cut us vs
     → Cut (unit_at p (atoms_of_tokens (xs ++ more)) ∷ us) (record { place = p; row = m; tree = t } ∷ vs)
 cut_one p m t xs more us vs h cut = record {
   units = (λ i. record { place = p; bytes = (unit_bytes p m t xs more h ∙ sym (unit_atoms_are p m t xs more h)) i } ∷ cut.units i);
@@ -93,26 +93,26 @@ abbrev FurtherRow : Trees → Type 0
 FurtherRow q = Fits Atoms 32 (Sign 58 25 ∷ Statement place.Further ∷ []) q
 
 -- the units from a statement on
-abbrev units_from_it : Place → ℕ → Trees → Trees → List TreeUnit
+abbrev units_from_it : Position → ℕ → Trees → Trees → List TreeUnit
 units_from_it p m t ts = record { place = p; row = m; tree = own (row_items m) t } ∷ (units_in (row_items m) t ++ units_in FurtherItems ts)
 
 -- what gives the units from where a statement stands, in so many bytes
-abbrev AllOf : ℕ → (Place → Text → List LineUnit) → Type 0
-AllOf n f = (p : Place) (m : ℕ) (t ts : Trees) → is_statement forms Atoms p m ≡ true → Fits Atoms 32 (row_items m) t → FurtherRows ts
+abbrev AllOf : ℕ → (Position → Text → List LineUnit) → Type 0
+AllOf n f = (p : Position) (m : ℕ) (t ts : Trees) → is_statement forms Atoms p m ≡ true → Fits Atoms 32 (row_items m) t → FurtherRows ts
     → Stand (tokens t ++ tokens ts) → length (atoms_of_tokens (tokens t ++ tokens ts)) ≤ n → Cut (f p (atoms_of_tokens (tokens t ++ tokens ts))) (units_from_it p m t ts)
 
 -- behind a `:`
-colon_next : (f : Place → Text → List LineUnit) (d : ℕ) (s : Text) → (d == 58) ≡ true → further f (d ∷ s) ≡ f place.Further s
+colon_next : (f : Position → Text → List LineUnit) (d : ℕ) (s : Text) → (d == 58) ≡ true → further f (d ∷ s) ≡ f place.Further s
 colon_next f d s h = (λ i. f (if h i then place.Further else place.Following) (if h i then s else d ∷ s))
 
 -- where a statement follows
-following_next : (f : Place → Text → List LineUnit) (b : ℕ) (s : Text) → (b == 58) ≡ false → further f (b ∷ s) ≡ f place.Following (b ∷ s)
+following_next : (f : Position → Text → List LineUnit) (b : ℕ) (s : Text) → (b == 58) ≡ false → further f (b ∷ s) ≡ f place.Following (b ∷ s)
 following_next f b s h = (λ i. f (if h i then place.Further else place.Following) (if h i then s else b ∷ s))
 
 further_bytes : (n d : ℕ) (s : Text) → length (d ∷ s) ≤ n → length s ≤ n
 further_bytes n d s h = omega (arith, h)
 
-further_units : (n : ℕ) (f : Place → Text → List LineUnit) → AllOf n f → (q ts : Trees) → FurtherRow q → FurtherRows ts
+further_units : (n : ℕ) (f : Position → Text → List LineUnit) → AllOf n f → (q ts : Trees) → FurtherRow q → FurtherRows ts
     → Stand (tokens q ++ tokens ts) → length (atoms_of_tokens (tokens q ++ tokens ts)) ≤ n
     → Cut (further f (atoms_of_tokens (tokens q ++ tokens ts))) (units_in (Sign 58 25 ∷ Statement place.Further ∷ []) q ++ units_in FurtherItems ts)
 further_units n f all (Put (Coded d) (In m t Done)) ts fits more st few =
@@ -137,7 +137,7 @@ further_row : (q : Trees) → Fits Atoms 32 (row_items row.FURTHER_STATEMENT) q 
 further_row q fits = subst (λ (is : List Item). Fits Atoms 32 is q) further_is fits
 
 -- the units behind a statement
-behind_units : (n : ℕ) (f : Place → Text → List LineUnit) → AllOf n f → (ts : Trees) → FurtherRows ts → Stand (tokens ts) → length (atoms_of_tokens (tokens ts)) ≤ n
+behind_units : (n : ℕ) (f : Position → Text → List LineUnit) → AllOf n f → (ts : Trees) → FurtherRows ts → Stand (tokens ts) → length (atoms_of_tokens (tokens ts)) ≤ n
     → Cut (further f (atoms_of_tokens (tokens ts))) (units_in FurtherItems ts)
 behind_units n f all (In zero q Done) fits st few =
     let P : Trees → Type 0 = λ x. Cut (further f (atoms_of_tokens (tokens (In 0 x Done)))) (units_in FurtherItems (In 0 x Done)) in subst P (sym (done_of Atoms 32 q fits.0)) cut_none
@@ -172,11 +172,11 @@ no_colon : (ts : List Token) (s : Text) → some (λ (f : Front). fronts f ts) s
 unfolding starts
 no_colon ts s heads spelled = answers Atoms (start.Code 58) statement_heads false ts s refl heads spelled
 
-following_units : (f : Place → Text → List LineUnit) (s : Text) (vs : List TreeUnit) → (first s == 58) ≡ false → 1 ≤ length s → Cut (f place.Following s) vs → Cut (further f s) vs
+following_units : (f : Position → Text → List LineUnit) (s : Text) (vs : List TreeUnit) → (first s == 58) ≡ false → 1 ≤ length s → Cut (f place.Following s) vs → Cut (further f s) vs
 following_units f [] vs h some_ cut = absurd (omega arith)
 following_units f (b ∷ s) vs h some_ cut = subst (λ (us : List LineUnit). Cut us vs) (sym (following_next f b s h)) cut
 
-next_units : (n : ℕ) (f : Place → Text → List LineUnit) → AllOf n f → (us : List TreeUnit) (ts : Trees) (here : List Token) → FurtherRows ts → Next us (tokens ts) here → Stand here
+next_units : (n : ℕ) (f : Position → Text → List LineUnit) → AllOf n f → (us : List TreeUnit) (ts : Trees) (here : List Token) → FurtherRows ts → Next us (tokens ts) here → Stand here
     → length (atoms_of_tokens here) ≤ n → Cut (further f (atoms_of_tokens here)) (us ++ units_in FurtherItems ts)
 next_units n f all us ts here fits next st few =
     let s : Text = atoms_of_tokens here in
@@ -197,7 +197,7 @@ fewer n xs ys some_ few =
     omega (arith, parts, both, some_, few)
 
 -- all units from a statement on
-units_from_one : (n : ℕ) (f : Place → Text → List LineUnit) → AllOf n f → (p : Place) (m : ℕ) (t ts : Trees) (all : List Token) → FurtherRows ts → FirstUnit p m t all (tokens ts)
+units_from_one : (n : ℕ) (f : Position → Text → List LineUnit) → AllOf n f → (p : Position) (m : ℕ) (t ts : Trees) (all : List Token) → FurtherRows ts → FirstUnit p m t all (tokens ts)
     → Stand all → length (atoms_of_tokens all) ≤ suc n
     → Cut (unit_at p (atoms_of_tokens all) ∷ further f (behind_unit p (atoms_of_tokens all))) (units_from_it p m t ts)
 units_from_one n f all_of p m t ts all fits one st few =

@@ -16,8 +16,8 @@ use Rattle.b2_atom.specs.declared.words.TheConstants as word
 use Rattle.b2_atom.specs.declared.rows.TheConstants as row
 use Rattle.b2_atom.specs.declared.words.Origin.TheVariants.{Atoms}
 use Rattle.b2_atom.specs.declared.forms.Start.TheVariants as start
-use Rattle.b2_atom.specs.declared.forms.Place.{Place}
-use Rattle.b2_atom.specs.declared.forms.Place.TheVariants as place
+use Rattle.b2_atom.specs.declared.forms.Position.{Position}
+use Rattle.b2_atom.specs.declared.forms.Position.TheVariants as place
 use Rattle.b2_atom.specs.declared.forms.Item.{Item}
 use Rattle.b2_atom.specs.declared.forms.Item.TheVariants.{Word, Part, Either, Statement}
 use Rattle.b2_atom.specs.declared.sink.Stop.{Stop}
@@ -35,7 +35,7 @@ use Rattle.b2_atom.proofs.settled.Choice.{one_statement, marked, Stands, opens_s
 use Rattle.b2_atom.proofs.spelling.SideBySide.{later}
 use Rattle.b2_atom.proofs.spelling.SpellsAtoms.{spells_atoms}
 use Rattle.b2_atom.proofs.reading.Sound.{Takes, takes_statement}
-use Rattle.b2_atom.proofs.lines.Own.{AllOwn, all_own, whole, whole_row}
+use Rattle.b2_atom.proofs.lines.Own.{all_own, whole, whole_row}
 use Rattle.b2_atom.proofs.lines.LineLaws.{chooses, append_atoms, tree_atoms}
 
 -- tokens that may stand in a line
@@ -84,15 +84,15 @@ spelled : (ts : List Token) → Stand ts → Spells Atoms ts (atoms_of_tokens ts
 spelled ts h = spells_atoms ts h.good h.neighbours
 
 -- tokens of a unit before others: it is read as a statement where it stands, and by itself
-pub record UnitRead (p : Place) (m : ℕ) (t : Trees) (xs more : List Token) : Type 0 where
+pub record UnitRead (p : Position) (m : ℕ) (t : Trees) (xs more : List Token) : Type 0 where
   pub here : statement (reader Atoms) 1 p (atoms_of_tokens (xs ++ more)) ≡ Ok (In m t Done, atoms_of_tokens more)
   pub alone : statement (reader Atoms) 1 p (atoms_of_tokens xs) ≡ Ok (In m t Done, [])
 
 -- a statement that is read before tokens
-abbrev ReadsUnit : Place → ℕ → Trees → List Token → List Token → Type 0
+abbrev ReadsUnit : Position → ℕ → Trees → List Token → List Token → Type 0
 ReadsUnit p m t xs more = Runs Atoms (statement (reader Atoms) 1 p (atoms_of_tokens (xs ++ more))) (In m t Done) more
 
-exact : (p : Place) (m : ℕ) (t : Trees) (xs more : List Token) → tokens t ≡ xs → ReadsUnit p m t xs more
+exact : (p : Position) (m : ℕ) (t : Trees) (xs more : List Token) → tokens t ≡ xs → ReadsUnit p m t xs more
     → statement (reader Atoms) 1 p (atoms_of_tokens (xs ++ more)) ≡ Ok (In m t Done, atoms_of_tokens more)
 exact p m t xs more same h =
     let s : Text = atoms_of_tokens (xs ++ more) in
@@ -102,14 +102,14 @@ exact p m t xs more same h =
     append_cancel_left (atoms_of_tokens xs) h.0 (atoms_of_tokens more) (ap (λ (l : Text). l ++ h.0) (sym front) ∙ takes ∙ append_atoms xs more) in
     h.1.0 ∙ ap (λ (r : Text). Ok (In m t Done, r)) rest
 
-unit_read : (p : Place) (m : ℕ) (t : Trees) (xs more : List Token) → tokens t ≡ xs → ReadsUnit p m t xs more → ReadsUnit p m t xs [] → UnitRead p m t xs more
+unit_read : (p : Position) (m : ℕ) (t : Trees) (xs more : List Token) → tokens t ≡ xs → ReadsUnit p m t xs more → ReadsUnit p m t xs [] → UnitRead p m t xs more
 unit_read p m t xs more same h k = record {
   here = exact p m t xs more same h;
   alone = ap (λ (l : List Token). statement (reader Atoms) 1 p (atoms_of_tokens l)) (sym (append-nil xs)) ∙ exact p m t xs [] same k;
 }
 
 -- what a statement's row reads is the statement's
-chosen_runs : (p : Place) (m : ℕ) (t : Trees) (ts more : List Token) (s : Text) → (one : Stands Atoms p m ts s) → Runs Atoms (reads_part Atoms 32 40 0 m one.0) t more
+chosen_runs : (p : Position) (m : ℕ) (t : Trees) (ts more : List Token) (s : Text) → (one : Stands Atoms p m ts s) → Runs Atoms (reads_part Atoms 32 40 0 m one.0) t more
     → Runs Atoms (statement (reader Atoms) 1 p s) (In m t Done) more
 unfolding statement
 chosen_runs p m t ts more s one h =
@@ -118,7 +118,7 @@ chosen_runs p m t ts more s one h =
     (runs_under Atoms m (reads_part Atoms 32 40 0 m one.0) t more h)
 
 -- a row in which no statement stands
-plain_runs : (p : Place) (m : ℕ) (inner : Trees) (more : List Token) → is_statement forms Atoms p m ≡ true → (of m).plain ≡ true → Fits Atoms 32 (row_items m) inner
+plain_runs : (p : Position) (m : ℕ) (inner : Trees) (more : List Token) → is_statement forms Atoms p m ≡ true → (of m).plain ≡ true → Fits Atoms 32 (row_items m) inner
     → is_closing more ≡ true → Stand (tokens inner ++ more) → ReadsUnit p m inner (tokens inner) more
 plain_runs p m inner more stated plain fits closed st =
     let s : Text = atoms_of_tokens (tokens inner ++ more) in
@@ -126,7 +126,7 @@ plain_runs p m inner more stated plain fits closed st =
     chosen_runs p m inner (tokens inner ++ more) more s one
     (statement_row_runs inner (read_back inner) Atoms (chooses Atoms) 0 p m more one.0 stated fits closed st.remarks (λ h. never (of m).plain plain h) one.1.1)
 
-plain_unit : (p : Place) (m : ℕ) (inner : Trees) (more : List Token) → is_statement forms Atoms p m ≡ true → (of m).plain ≡ true → Fits Atoms 32 (row_items m) inner
+plain_unit : (p : Position) (m : ℕ) (inner : Trees) (more : List Token) → is_statement forms Atoms p m ≡ true → (of m).plain ≡ true → Fits Atoms 32 (row_items m) inner
     → is_closing more ≡ true → Stand (tokens inner ++ more) → UnitRead p m inner (tokens inner) more
 plain_unit p m inner more stated plain fits closed st =
     unit_read p m inner (tokens inner) more refl (plain_runs p m inner more stated plain fits closed st)
@@ -160,7 +160,7 @@ joined_done : (o : Outcome) → preceded Done o ≡ o
 joined_done (Ok p) = refl
 joined_done (Err e) = refl
 
-items_append : (st : Place → Parser Text) (d p : ℕ → Parser Text) (is js : List Item) (s : Text)
+items_append : (st : Position → Parser Text) (d p : ℕ → Parser Text) (is js : List Item) (s : Text)
     → items st d p (reader Atoms) (is ++ js) s ≡ and_then (items st d p (reader Atoms) is s) (items st d p (reader Atoms) js)
 unfolding items
 items_append st d p [] js s = sym (joined_done (items st d p (reader Atoms) js s))
@@ -182,7 +182,7 @@ opens_first : List Token → Bool
 opens_first [] = true
 opens_first (x ∷ xs) = opens_statement x
 
-cut_stands : (m c : ℕ) (front : List Item) (last : Item) → Followed m c front last → (p : Place) (a : Trees) (s : Text) → is_statement forms Atoms p m ≡ true
+cut_stands : (m c : ℕ) (front : List Item) (last : Item) → Followed m c front last → (p : Position) (a : Trees) (s : Text) → is_statement forms Atoms p m ≡ true
     → Fits Atoms 32 (Word c ∷ front) a → Spells Atoms (tokens a ++ []) s → Stands Atoms p m (tokens a ++ []) s
 unfolding opens_first
 cut_stands m c front last f p Done s stated fits spelled_ = cc
@@ -193,7 +193,7 @@ cut_stands m c front last f p (Put (Lined h l) ts) s stated fits spelled_ = cc
 cut_stands m c front last f p (In n inner ts) s stated fits spelled_ = absurd fits
 
 -- no fuel is left for a statement
-none_read : (st : Place → Parser Text) (d p : ℕ → Parser Text) (v : Text) → st place.Following v ≡ Ok (Done, v) → items st d p (reader Atoms) (Statement place.Following ∷ []) v ≡ Ok (Done, v)
+none_read : (st : Position → Parser Text) (d p : ℕ → Parser Text) (v : Text) → st place.Following v ≡ Ok (Done, v) → items st d p (reader Atoms) (Statement place.Following ∷ []) v ≡ Ok (Done, v)
 unfolding items item
 none_read st d p v h = ap (λ (o : Outcome). and_then o (nothing)) h
 
@@ -262,14 +262,14 @@ pub record Next (us : List TreeUnit) (more here : List Token) : Type 0 where
   pub units : us ≡ record { place = place.Following; row = row; tree = own (row_items row) tree } ∷ units_in (row_items row) tree
 
 -- the first unit of a statement's tokens: all of them, or another statement follows
-pub record FirstUnit (p : Place) (m : ℕ) (t : Trees) (all more : List Token) : Type 0 where
+pub record FirstUnit (p : Position) (m : ℕ) (t : Trees) (all more : List Token) : Type 0 where
   pub front : List Token
   pub behind : List Token
   pub same : all ≡ front ++ behind
   pub read : UnitRead p m (own (row_items m) t) front behind
   pub next : ((behind ≡ more) × (units_in (row_items m) t ≡ [])) ⊎ Next (units_in (row_items m) t) more behind
 
-own_read : (p : Place) (m : ℕ) (t u : Trees) (xs more : List Token) → t ≡ u → UnitRead p m u xs more → UnitRead p m t xs more
+own_read : (p : Position) (m : ℕ) (t u : Trees) (xs more : List Token) → t ≡ u → UnitRead p m u xs more → UnitRead p m t xs more
 own_read p m t u xs more same h = subst (λ (v : Trees). UnitRead p m v xs more) (sym same) h
 
 -- a row's tree by its front and its last item
@@ -365,7 +365,7 @@ unfolding starts
 nothing_there v h = ap (λ (u : Text). starts Atoms start.Line u) h
 
 -- the statement's row, by all of its tokens
-whole_stands : (p : Place) (m : ℕ) (inner : Trees) (more ys : List Token) (s : Text) → is_statement forms Atoms p m ≡ true → Fits Atoms 32 (row_items m) inner → is_closing more ≡ true
+whole_stands : (p : Position) (m : ℕ) (inner : Trees) (more ys : List Token) (s : Text) → is_statement forms Atoms p m ≡ true → Fits Atoms 32 (row_items m) inner → is_closing more ≡ true
     → tokens inner ++ more ≡ ys → Spells Atoms ys s → Stands Atoms p m ys s
 whole_stands p m inner more ys s stated fits closed same spelled_ =
     subst (λ (l : List Token). Stands Atoms p m l s) same
@@ -375,7 +375,7 @@ whole_stands p m inner more ys s stated fits closed same spelled_ =
 line_tokens : (a b : Trees) → tokens (also a (In 1 b Done)) ≡ tokens a ++ tokens b
 line_tokens a b = tokens_also a (In 1 b Done) ∙ ap (λ (l : List Token). tokens a ++ l) (append-nil (tokens b))
 
-line_runs : (m c : ℕ) (front : List Item) → Followed m c front LineOrStatement → (p : Place) (a b : Trees) (more : List Token) → is_statement forms Atoms p m ≡ true
+line_runs : (m c : ℕ) (front : List Item) → Followed m c front LineOrStatement → (p : Position) (a b : Trees) (more : List Token) → is_statement forms Atoms p m ≡ true
     → Fits Atoms 32 (row_items m) (also a (In 1 b Done)) → Fits Atoms 32 (Word c ∷ front) a → Fits Atoms 32 (row_items row.LINE_NUMBER) b → is_closing more ≡ true
     → Stand ((tokens a ++ tokens b) ++ more) → ReadsUnit p m (also a (In 1 b Done)) (tokens a ++ tokens b) more
 line_runs m c front f p a b more stated fits fits_a fits_b closed st =
@@ -388,7 +388,7 @@ line_runs m c front f p a b more stated fits fits_a fits_b closed st =
     (followed_runs m c front LineOrStatement f a (In 1 b Done) (tokens b ++ more) more one.0 fits_a remarks_ one.1.1
     (λ v spelled_v. either_line b more v fits_b (remarks_right (tokens a) (tokens b ++ more) remarks_) spelled_v))
 
-line_unit : (m c : ℕ) (front : List Item) → Followed m c front LineOrStatement → (p : Place) (a b : Trees) (more : List Token) → is_statement forms Atoms p m ≡ true
+line_unit : (m c : ℕ) (front : List Item) → Followed m c front LineOrStatement → (p : Position) (a b : Trees) (more : List Token) → is_statement forms Atoms p m ≡ true
     → Fits Atoms 32 (row_items m) (also a (In 1 b Done)) → Fits Atoms 32 (Word c ∷ front) a → Fits Atoms 32 (row_items row.LINE_NUMBER) b → is_closing more ≡ true
     → own (row_items m) (also a (In 1 b Done)) ≡ also a (own (LineOrStatement ∷ []) (In 1 b Done)) → units_in (row_items m) (also a (In 1 b Done)) ≡ units_in (LineOrStatement ∷ []) (In 1 b Done)
     → Stand (tokens (also a (In 1 b Done)) ++ more) → FirstUnit p m (also a (In 1 b Done)) (tokens (also a (In 1 b Done)) ++ more) more
@@ -413,7 +413,7 @@ Stops last k mid = (v : Text) → Spells Atoms mid v → Runs Atoms (reads_row A
 stop_tokens : (a : Trees) (k : ℕ) → tokens (also a (In k Done Done)) ≡ tokens a
 stop_tokens a k = tokens_also a (In k Done Done) ∙ append-nil (tokens a)
 
-stop_runs : (m c : ℕ) (front : List Item) (last : Item) → Followed m c front last → (p : Place) (a : Trees) (k : ℕ) (mid : List Token) → Fits Atoms 32 (Word c ∷ front) a
+stop_runs : (m c : ℕ) (front : List Item) (last : Item) → Followed m c front last → (p : Position) (a : Trees) (k : ℕ) (mid : List Token) → Fits Atoms 32 (Word c ∷ front) a
     → Stand (tokens a ++ mid) → Stands Atoms p m (tokens a ++ mid) (atoms_of_tokens (tokens a ++ mid)) → Stops last k mid → ReadsUnit p m (also a (In k Done Done)) (tokens a) mid
 stop_runs m c front last f p a k mid fits_a st one stops =
     chosen_runs p m (also a (In k Done Done)) (tokens a ++ mid) mid (atoms_of_tokens (tokens a ++ mid)) one
@@ -423,7 +423,7 @@ follow_tokens : (a q : Trees) (k : ℕ) (more : List Token) → tokens (also a (
 follow_tokens a q k more =
     ap (λ (l : List Token). l ++ more) (tokens_also a (In k q Done) ∙ ap (λ (l : List Token). tokens a ++ l) (append-nil (tokens q))) ∙ append_assoc (tokens a) (tokens q) more
 
-follow_unit : (m c : ℕ) (front : List Item) (last : Item) → Followed m c front last → (p : Place) (a q : Trees) (k : ℕ) (more : List Token) → is_statement forms Atoms p m ≡ true
+follow_unit : (m c : ℕ) (front : List Item) (last : Item) → Followed m c front last → (p : Position) (a q : Trees) (k : ℕ) (more : List Token) → is_statement forms Atoms p m ≡ true
     → Fits Atoms 32 (row_items m) (also a (In k q Done)) → Fits Atoms 32 (Word c ∷ front) a → Fits Atoms 32 (row_items row.FOLLOWING) q → is_closing more ≡ true
     → own (row_items m) (also a (In k q Done)) ≡ also a (In k Done Done) → units_in (row_items m) (also a (In k q Done)) ≡ units_in (Statement place.Following ∷ []) q
     → Stops last k (tokens q ++ more) → Stops last k [] → Stand (tokens (also a (In k q Done)) ++ more) → FirstUnit p m (also a (In k q Done)) (tokens (also a (In k q Done)) ++ more) more
@@ -446,14 +446,14 @@ follow_unit m c front last f p a q k more stated fits fits_a fits_q closed own_i
     }
 
 -- by what stands there
-FirstOf : Place → ℕ → List Token → Trees → Type 0
+FirstOf : Position → ℕ → List Token → Trees → Type 0
 FirstOf p m more t = Stand (tokens t ++ more) → FirstUnit p m t (tokens t ++ more) more
 
 -- the tree of a row by its front and its last item, with its units
 abbrev IsCut : ℕ → Item → Trees → Trees → Trees → Type 0
 IsCut m last a b t = (own (row_items m) t ≡ also a (own (last ∷ []) b)) × (units_in (row_items m) t ≡ units_in (last ∷ []) b)
 
-either_unit : (m c : ℕ) (front : List Item) → Followed m c front LineOrStatement → (p : Place) (a b : Trees) (more : List Token) → is_statement forms Atoms p m ≡ true
+either_unit : (m c : ℕ) (front : List Item) → Followed m c front LineOrStatement → (p : Position) (a b : Trees) (more : List Token) → is_statement forms Atoms p m ≡ true
     → Fits Atoms 32 (row_items m) (also a b) → Fits Atoms 32 (Word c ∷ front) a → Fits Atoms 32 (LineOrStatement ∷ []) b → is_closing more ≡ true
     → IsCut m LineOrStatement a b (also a b) → FirstOf p m more (also a b)
 unfolding FirstOf
@@ -472,7 +472,7 @@ either_unit m c front f p a (In (suc zero) q (In n o ts)) more stated fits fits_
 either_unit m c front f p a Done more stated fits fits_a fits_b closed cut st = cc
 either_unit m c front f p a (Put t ts) more stated fits fits_a fits_b closed cut st = cc
 
-part_unit : (m c : ℕ) (front : List Item) → Followed m c front (Part row.FOLLOWING) → (p : Place) (a b : Trees) (more : List Token) → is_statement forms Atoms p m ≡ true
+part_unit : (m c : ℕ) (front : List Item) → Followed m c front (Part row.FOLLOWING) → (p : Position) (a b : Trees) (more : List Token) → is_statement forms Atoms p m ≡ true
     → Fits Atoms 32 (row_items m) (also a b) → Fits Atoms 32 (Word c ∷ front) a → Fits Atoms 32 (Part row.FOLLOWING ∷ []) b → is_closing more ≡ true
     → IsCut m (Part row.FOLLOWING) a b (also a b) → FirstOf p m more (also a b)
 unfolding FirstOf
@@ -501,14 +501,14 @@ error_followed = record { is = refl; settles = refl; plain = refl; tails = refl;
 
 -- the statements of a row
 abbrev OfRow : ℕ → Type 0
-OfRow m = (p : Place) (t : Trees) (more : List Token) → is_statement forms Atoms p m ≡ true → Fits Atoms 32 (row_items m) t → is_closing more ≡ true → FirstOf p m more t
+OfRow m = (p : Position) (t : Trees) (more : List Token) → is_statement forms Atoms p m ≡ true → Fits Atoms 32 (row_items m) t → is_closing more ≡ true → FirstOf p m more t
 
 condition_plain : (of row.CONDITION).plain ≡ true
 unfolding of_row of row_items
 condition_plain = refl
 
 -- a row's items, which are known
-split_row : (m : ℕ) (front : List Item) (last : Item) (p : Place) (more : List Token) (t : Trees) → row_items m ≡ front ++ last ∷ [] → (s : Split front last t)
+split_row : (m : ℕ) (front : List Item) (last : Item) (p : Position) (more : List Token) (t : Trees) → row_items m ≡ front ++ last ∷ [] → (s : Split front last t)
     → Fits Atoms 32 (row_items m) t → ((a b : Trees) → Fits Atoms 32 (row_items m) (also a b) → Fits Atoms 32 front a → Fits Atoms 32 (last ∷ []) b → IsCut m last a b (also a b) → FirstOf p m more (also a b))
     → FirstOf p m more t
 split_row m front last p more t is s fits read_ =
@@ -573,7 +573,7 @@ of_known m h = elim (or_cases (of m).plain _ h) [
 ]
 
 -- the tokens of each statement begin with a unit
-pub first_unit : (p : Place) (m : ℕ) (t : Trees) (more : List Token) → is_statement forms Atoms p m ≡ true → Fits Atoms 32 (row_items m) t → is_closing more ≡ true
+pub first_unit : (p : Position) (m : ℕ) (t : Trees) (more : List Token) → is_statement forms Atoms p m ≡ true → Fits Atoms 32 (row_items m) t → is_closing more ≡ true
     → Stand (tokens t ++ more) → FirstUnit p m t (tokens t ++ more) more
 unfolding FirstOf
 first_unit p m t more stated fits closed st = of_known m (one_of_statements is_known Atoms p m forms forms_known stated) p t more stated fits closed st

@@ -10,7 +10,7 @@ use Rattle.b2_atom.specs.Grammar.{reader, items, item, level, deep, statement, s
 use Rattle.b2_atom.specs.Spelling.{AllGood, good_token, is_whole, is_free_text, atoms_of_tokens}
 use Rattle.b2_atom.specs.Fitting.{LineTree}
 use Rattle.b2_atom.specs.declared.words.Origin.TheVariants as origin
-use Rattle.b2_atom.specs.declared.forms.Place.TheVariants.{First}
+use Rattle.b2_atom.specs.declared.forms.Position.TheVariants.{First}
 use Rattle.b2_atom.specs.declared.forms.Leaf.{Leaf}
 use Rattle.b2_atom.specs.declared.sink.Stop.{Stop}
 use Rattle.b2_atom.specs.declared.sink.Stop.TheVariants.{At}

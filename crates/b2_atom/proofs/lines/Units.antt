@@ -10,8 +10,8 @@ use Rattle.b2_atom.specs.Tree.{Outcome, atoms}
 use Rattle.b2_atom.specs.Grammar.{reader, statement}
 use Rattle.b2_atom.specs.Lines.{LineUnit, unit_at, units_from, further, behind_unit, rest_of, next_place, next_text, is_line, units_of, spanned, KeepsUnits, IsEndOf, further_unit, is_further}
 use Rattle.b2_atom.specs.declared.words.Origin.TheVariants.{Atoms}
-use Rattle.b2_atom.specs.declared.forms.Place.{Place}
-use Rattle.b2_atom.specs.declared.forms.Place.TheVariants.{First}
+use Rattle.b2_atom.specs.declared.forms.Position.{Position}
+use Rattle.b2_atom.specs.declared.forms.Position.TheVariants.{First}
 use Rattle.b2_atom.specs.declared.spans.Span.{Span}
 use Rattle.b2_atom.proofs.Booleans.{and_left}
 use Rattle.b2_atom.proofs.reading.Sound.{Takes, takes_statement}
@@ -19,25 +19,25 @@ use Rattle.b2_atom.proofs.reading.Sound.{Takes, takes_statement}
 some_left : (n i : ℕ) → i < n → suc (n - (i + 1)) ≡ n - i
 some_left n i h = omega arith
 
-further_some : (f : Place → Text → List LineUnit) (rest : Text) → (length rest == 0) ≡ false → further f rest ≡ f (next_place rest) (next_text rest)
+further_some : (f : Position → Text → List LineUnit) (rest : Text) → (length rest == 0) ≡ false → further f rest ≡ f (next_place rest) (next_text rest)
 further_some f [] h = cc
 further_some f (b ∷ bs) h = refl
 
 nonempty : (n : ℕ) → (suc n == 0) ≡ true → ⊥
 nonempty n h = grind (arith, nat_tests)
 
-further_none : (f : Place → Text → List LineUnit) (rest : Text) → (length rest == 0) ≡ true → further f rest ≡ []
+further_none : (f : Position → Text → List LineUnit) (rest : Text) → (length rest == 0) ≡ true → further f rest ≡ []
 further_none f [] h = refl
 further_none f (b ∷ bs) h = absurd (nonempty (length bs) h)
 
-pub next_units : (n i : ℕ) (p : Place) (t rest : Text) → i < n → rest ≡ behind_unit p t → (length rest == 0) ≡ false
+pub next_units : (n i : ℕ) (p : Position) (t rest : Text) → i < n → rest ≡ behind_unit p t → (length rest == 0) ≡ false
     → units_from (n - i) p t ≡ unit_at p t ∷ units_from (n - (i + 1)) (next_place rest) (next_text rest)
 next_units n i p t rest h is some =
     ap (λ (m : ℕ). units_from m p t) (sym (some_left n i h))
     ∙ ap (λ (r : Text). unit_at p t ∷ further (units_from (n - (i + 1))) r) (sym is)
     ∙ ap (λ (us : List LineUnit). unit_at p t ∷ us) (further_some (units_from (n - (i + 1))) rest some)
 
-pub last_unit : (n i : ℕ) (p : Place) (t rest : Text) → i < n → rest ≡ behind_unit p t → (length rest == 0) ≡ true
+pub last_unit : (n i : ℕ) (p : Position) (t rest : Text) → i < n → rest ≡ behind_unit p t → (length rest == 0) ≡ true
     → units_from (n - i) p t ≡ unit_at p t ∷ []
 last_unit n i p t rest h is none =
     ap (λ (m : ℕ). units_from m p t) (sym (some_left n i h))
@@ -53,7 +53,7 @@ one_more line spans more s u us added is =
     ∙ append_assoc (map (spanned line) spans) (spanned line s ∷ []) us
     ∙ ap (λ (v : LineUnit). map (spanned line) spans ++ v ∷ us) is
 
-pub found_next : (line : Text) (n i : ℕ) (p q : Place) (t rest next : Text) (spans more : List Span) (s : Span) → more ≡ spans ++ s ∷ [] → spanned line s ≡ unit_at p t
+pub found_next : (line : Text) (n i : ℕ) (p q : Position) (t rest next : Text) (spans more : List Span) (s : Span) → more ≡ spans ++ s ∷ [] → spanned line s ≡ unit_at p t
     → i < n → rest ≡ behind_unit p t → (length rest == 0) ≡ false → q ≡ next_place rest → next ≡ next_text rest
     → map (spanned line) spans ++ units_from (n - i) p t ≡ units_of line → map (spanned line) more ++ units_from (n - (i + 1)) q next ≡ units_of line
 found_next line n i p q t rest next spans more s added is h behind_ some placed left found =
@@ -62,7 +62,7 @@ found_next line n i p q t rest next spans more s added is h behind_ some placed 
     ∙ ap (λ (us : List LineUnit). map (spanned line) spans ++ us) (sym (next_units n i p t rest h behind_ some))
     ∙ found
 
-pub found_last : (line : Text) (n i : ℕ) (p : Place) (t rest : Text) (spans more : List Span) (s : Span) → more ≡ spans ++ s ∷ [] → spanned line s ≡ unit_at p t
+pub found_last : (line : Text) (n i : ℕ) (p : Position) (t rest : Text) (spans more : List Span) (s : Span) → more ≡ spans ++ s ∷ [] → spanned line s ≡ unit_at p t
     → i < n → rest ≡ behind_unit p t → (length rest == 0) ≡ true
     → map (spanned line) spans ++ units_from (n - i) p t ≡ units_of line → map (spanned line) more ≡ units_of line
 found_last line n i p t rest spans more s added is h behind_ none found =
@@ -71,7 +71,7 @@ found_last line n i p t rest spans more s added is h behind_ none found =
     ∙ ap (λ (us : List LineUnit). map (spanned line) spans ++ us) (sym (last_unit n i p t rest h behind_ none))
     ∙ found
 
-pub found_all : (line : Text) (n i : ℕ) (p : Place) (t : Text) (spans : List Span) → n ≤ i → map (spanned line) spans ++ units_from (n - i) p t ≡ units_of line
+pub found_all : (line : Text) (n i : ℕ) (p : Position) (t : Text) (spans : List Span) → n ≤ i → map (spanned line) spans ++ units_from (n - i) p t ≡ units_of line
     → map (spanned line) spans ≡ units_of line
 found_all line n i p t spans h found =
     let none : n - i ≡ 0 = omega arith in
@@ -112,7 +112,7 @@ end_taken : (s : Text) (o : Outcome) → Takes s o → IsEndOf s (rest_of o)
 end_taken s (Err e) h = end_none s
 end_taken s (Ok p) h = let P : Text → Type 0 = λ t. IsEndOf t p.1 in subst P h (end_behind (atoms p.0) p.1)
 
-end_rest : (p : Place) (t : Text) → IsEndOf t (behind_unit p t)
+end_rest : (p : Position) (t : Text) → IsEndOf t (behind_unit p t)
 unfolding behind_unit
 end_rest p t = end_taken t (statement (reader Atoms) 1 p t) (takes_statement 1 p t)
 
@@ -127,22 +127,22 @@ end_text (b ∷ t) = by_colon (b == 58) where
   by_colon false = end_whole (b ∷ t)
 
 -- what stands after a unit, and where the next one begins
-pub end_unit : (line left rest : Text) (p : Place) → IsEndOf line left → rest ≡ behind_unit p left → IsEndOf line rest
+pub end_unit : (line left rest : Text) (p : Position) → IsEndOf line left → rest ≡ behind_unit p left → IsEndOf line rest
 end_unit line left rest p h is =
     let P : Text → Type 0 = λ t. IsEndOf line t in
     subst P (sym is) (end_of_end line left (behind_unit p left) h (end_rest p left))
 
-pub end_next : (line left rest : Text) (p : Place) → IsEndOf line left → rest ≡ behind_unit p left → IsEndOf line (next_text rest)
+pub end_next : (line left rest : Text) (p : Position) → IsEndOf line left → rest ≡ behind_unit p left → IsEndOf line (next_text rest)
 end_next line left rest p h is = end_of_end line rest (next_text rest) (end_unit line left rest p h is) (end_text rest)
 
-pub shorter : (left rest : Text) (p : Place) → rest ≡ behind_unit p left → length rest ≤ length left
+pub shorter : (left rest : Text) (p : Position) → rest ≡ behind_unit p left → length rest ≤ length left
 shorter left rest p is = (end_unit left left rest p (end_whole left) is).short
 
-further_few : (n : ℕ) (rest : Text) → ((p : Place) (t : Text) → length (units_from n p t) ≤ n) → length (further (units_from n) rest) ≤ n
+further_few : (n : ℕ) (rest : Text) → ((p : Position) (t : Text) → length (units_from n p t) ≤ n) → length (further (units_from n) rest) ≤ n
 further_few n [] few = omega arith
 further_few n (b ∷ bs) few = few (next_place (b ∷ bs)) (next_text (b ∷ bs))
 
-few_from : (n : ℕ) (p : Place) (t : Text) → length (units_from n p t) ≤ n
+few_from : (n : ℕ) (p : Position) (t : Text) → length (units_from n p t) ≤ n
 few_from zero p t = omega arith
 few_from (suc n) p t = let few = further_few n (behind_unit p t) (few_from n) in omega (arith, few)
 

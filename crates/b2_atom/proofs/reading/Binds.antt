@@ -11,7 +11,7 @@ use Rattle.b2_atom.specs.declared.sink.Stop.TheVariants.{At}
 use Rattle.b2_atom.specs.declared.words.Origin.{Origin}
 use Rattle.b2_atom.specs.declared.words.Origin.TheVariants as origin
 use Rattle.b2_atom.specs.declared.forms.Start.{Start}
-use Rattle.b2_atom.specs.declared.forms.Place.{Place}
+use Rattle.b2_atom.specs.declared.forms.Position.{Position}
 use Rattle.b2_atom.specs.declared.forms.Item.{Item}
 use Rattle.b2_atom.specs.declared.forms.Item.TheVariants.{Nest}
 use Rattle.b2_atom.specs.Grammar.{Reader, reader, items, item, item_of_part, deep, level, statement, many, row_items, starts, absent, part, read_line, chosen, statement_row}
@@ -62,21 +62,21 @@ takes_same old new o p (Ok rest) same h = sym same ∙ h
 takes_same old new o p (Err e) same h = (λ not. sym same ∙ h.0 not, h.1)
 
 -- the next item of a row
-pub next_item : (st : Place → Parser Text) (d p : ℕ → Parser Text) (r : Reader Text) (i : Item) (is : List Item) (old new : Seen) (left rest : Text)
+pub next_item : (st : Position → Parser Text) (d p : ℕ → Parser Text) (r : Reader Text) (i : Item) (is : List Item) (old new : Seen) (left rest : Text)
     → emitted old (item st d p r i left) ≡ Ok (new, rest) → emitted new (items st d p r is rest) ≡ emitted old (items st d p r (i ∷ is) left)
 unfolding items
 next_item st d p r i is old new left rest taken = bind_ok old new rest (item st d p r i left) (items st d p r is) taken
 
-pub no_item : (st : Place → Parser Text) (d p : ℕ → Parser Text) (r : Reader Text) (i : Item) (is : List Item) (old : Seen) (left : Text) (f : Stop)
+pub no_item : (st : Position → Parser Text) (d p : ℕ → Parser Text) (r : Reader Text) (i : Item) (is : List Item) (old : Seen) (left : Text) (f : Stop)
     → emitted old (item st d p r i left) ≡ Err f → emitted old (items st d p r (i ∷ is) left) ≡ Err f
 unfolding items
 no_item st d p r i is old left f taken = bind_err old f (item st d p r i left) (items st d p r is) taken
 
-pub row_end : (st : Place → Parser Text) (d p : ℕ → Parser Text) (r : Reader Text) (old : Seen) (left : Text) → emitted old (items st d p r [] left) ≡ Ok (old, left)
+pub row_end : (st : Position → Parser Text) (d p : ℕ → Parser Text) (r : Reader Text) (old : Seen) (left : Text) → emitted old (items st d p r [] left) ≡ Ok (old, left)
 unfolding items
 row_end st d p r old left = refl
 
-pub row_of_part : (r : Reader Text) (st : Place → Parser Text) (d : ℕ → Parser Text) (l n : ℕ) (old : Seen) (t : Text) → 0 < l
+pub row_of_part : (r : Reader Text) (st : Position → Parser Text) (d : ℕ → Parser Text) (l n : ℕ) (old : Seen) (t : Text) → 0 < l
     → emitted old (items st d (level r st d (l - 1)) r (row_items n) t) ≡ emitted old (level r st d l n t)
 unfolding level
 row_of_part r st d zero n old t h = absurd (omega arith)
@@ -128,21 +128,21 @@ many_out o s p n i old left h y =
     ∙ ap (λ (b : Bool). emitted old (if b then Err (At 14 0) else absent left)) y
 
 -- a statement by its row
-pub statement_more : (o : Origin) (f : ℕ) (p : Place) (old : Seen) (t : Text) → 0 < f
+pub statement_more : (o : Origin) (f : ℕ) (p : Position) (old : Seen) (t : Text) → 0 < f
     → emitted old (statement (reader o) f p t) ≡ emitted old (chosen (statement_row o p t) (part o (f - 1) 32 40))
 unfolding statement
 statement_more o zero p old t h = absurd (omega arith)
 statement_more o (suc f) p old t h =
     let less : f ≡ suc f - 1 = omega arith in ap (λ (m : ℕ). emitted old (chosen (statement_row o p t) (part o m 32 40))) less
 
-pub statement_ok : (o : Origin) (f : ℕ) (p : Place) (old : Seen) (t here : Text) (n : ℕ) → 0 < f → statement_row o p t ≡ Ok (n, here)
+pub statement_ok : (o : Origin) (f : ℕ) (p : Position) (old : Seen) (t here : Text) (n : ℕ) → 0 < f → statement_row o p t ≡ Ok (n, here)
     → emitted old (part o (f - 1) 32 40 n here) ≡ emitted old (statement (reader o) f p t)
 statement_ok o f p old t here n h is =
     sym (emitted-under n old (part o (f - 1) 32 40 n here))
     ∙ ap (λ (r : Result (ℕ × Text) Stop). emitted old (chosen r (part o (f - 1) 32 40))) (sym is)
     ∙ sym (statement_more o f p old t h)
 
-pub statement_err : (o : Origin) (f : ℕ) (p : Place) (old : Seen) (t : Text) (e : Stop) → 0 < f → statement_row o p t ≡ Err e
+pub statement_err : (o : Origin) (f : ℕ) (p : Position) (old : Seen) (t : Text) (e : Stop) → 0 < f → statement_row o p t ≡ Err e
     → emitted old (statement (reader o) f p t) ≡ Err e
 statement_err o f p old t e h is =
     statement_more o f p old t h ∙ ap (λ (r : Result (ℕ × Text) Stop). emitted old (chosen r (part o (f - 1) 32 40))) is

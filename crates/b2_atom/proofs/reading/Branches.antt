@@ -15,7 +15,7 @@ use Rattle.b2_atom.specs.declared.words.Origin.{Origin}
 use Rattle.b2_atom.specs.declared.words.TheConstants as word
 use Rattle.b2_atom.specs.declared.forms.Leaf.TheVariants as leaf
 use Rattle.b2_atom.specs.declared.forms.Start.{Start}
-use Rattle.b2_atom.specs.declared.forms.Place.{Place}
+use Rattle.b2_atom.specs.declared.forms.Position.{Position}
 use Rattle.b2_atom.specs.declared.forms.Item.{Item}
 use Rattle.b2_atom.specs.declared.forms.Item.TheVariants.{Word, Sign, Typed, Part, Maybe, Either, Many, Nest}
 use Rattle.b2_atom.proofs.Booleans.{equal, and_left, and_right, or_one, or_other, or_cases, never, not_true}
@@ -33,7 +33,7 @@ pub record Chooses (o : Origin) : Type 0 where
       → Spells o (tokens inner ++ more) s → starts o st s ≡ true
   pub far_second : (st : Start) (n k room : ℕ) (inner : Trees) (more : List Token) (s : Text) → is_far st n k ≡ true → Fits o room (row_items k) inner
       → Refused o (of k).tails more → Spells o (tokens inner ++ more) s → starts o st s ≡ false
-  pub one_statement : (p : Place) (m : ℕ) (inner : Trees) (more : List Token) (s : Text) → is_statement forms o p m ≡ true → Fits o 32 (row_items m) inner
+  pub one_statement : (p : Position) (m : ℕ) (inner : Trees) (more : List Token) (s : Text) → is_statement forms o p m ≡ true → Fits o 32 (row_items m) inner
       → is_closing more ≡ true → Spells o (tokens inner ++ more) s → (u : Text) × ((statement_row o p s ≡ Ok (m, u)) × Spells o (tokens inner ++ more) u)
 
 abbrev pub Good : Trees → Type 0

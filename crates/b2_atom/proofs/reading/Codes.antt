@@ -17,7 +17,7 @@ use Rattle.b2_atom.specs.declared.forms.Form.{Form}
 use Rattle.b2_atom.specs.declared.forms.Leaf.{Leaf}
 use Rattle.b2_atom.specs.declared.forms.Leaf.TheVariants as leaf
 use Rattle.b2_atom.specs.declared.forms.Start.{Start}
-use Rattle.b2_atom.specs.declared.forms.Place.{Place}
+use Rattle.b2_atom.specs.declared.forms.Position.{Position}
 use Rattle.b2_atom.specs.declared.forms.Item.{Item}
 use Rattle.b2_atom.specs.declared.forms.Item.TheVariants.{Word, Sign, Among, ProgramWord, Ignored, Comma, LeftOut, End, Typed, Part, Maybe, Either, Many, Nest, Statement}
 use Rattle.b2_atom.specs.Table.{forms, rows_0, rows_1, rows_2, rows_3}
@@ -184,7 +184,7 @@ unfolding many
 known_many o st p h zero s = known_if (starts o st s) (Err (At 14 0)) (absent s) refl tt
 known_many o st p h (suc n) s = known_if (starts o st s) (and_then (under 1 (p s)) (many (reader o) st p n)) (absent s) (known_then (under 1 (p s)) _ (known_under 1 (p s) (h s)) (known_many o st p h n)) tt
 
-known_item : (o : Origin) (st : Place → Parser Text) (d p : ℕ → Parser Text) → ((x : Place) → AllKnown (st x)) → ((n : ℕ) → AllKnown (d n)) → ((n : ℕ) → AllKnown (p n))
+known_item : (o : Origin) (st : Position → Parser Text) (d p : ℕ → Parser Text) → ((x : Position) → AllKnown (st x)) → ((n : ℕ) → AllKnown (d n)) → ((n : ℕ) → AllKnown (p n))
     → (i : Item) (s : Text) → good_item i ≡ true → Known (item st d p (reader o) i s)
 unfolding item
 known_item o st d p hs hd hp (Word c) s h = known_read o (Word c) s h
@@ -203,7 +203,7 @@ known_item o st d p hs hd hp (Many x n) s h = known_many o x (p n) (hp n) (lengt
 known_item o st d p hs hd hp (Nest n) s h = known_under 2 (d n s) (hd n s)
 known_item o st d p hs hd hp (Statement x) s h = hs x s
 
-known_items : (o : Origin) (st : Place → Parser Text) (d p : ℕ → Parser Text) → ((x : Place) → AllKnown (st x)) → ((n : ℕ) → AllKnown (d n)) → ((n : ℕ) → AllKnown (p n))
+known_items : (o : Origin) (st : Position → Parser Text) (d p : ℕ → Parser Text) → ((x : Position) → AllKnown (st x)) → ((n : ℕ) → AllKnown (d n)) → ((n : ℕ) → AllKnown (p n))
     → (is : List Item) → good_row is ≡ true → AllKnown (items st d p (reader o) is)
 unfolding items
 known_items o st d p hs hd hp [] h s = tt
@@ -211,12 +211,12 @@ known_items o st d p hs hd hp (i ∷ is) h s =
     known_then (item st d p (reader o) i s) (items st d p (reader o) is)
     (known_item o st d p hs hd hp i s (and_left (good_item i) _ h)) (known_items o st d p hs hd hp is (and_right (good_item i) _ h))
 
-known_level : (o : Origin) (st : Place → Parser Text) (d : ℕ → Parser Text) → ((x : Place) → AllKnown (st x)) → ((n : ℕ) → AllKnown (d n)) → (l n : ℕ) → AllKnown (level (reader o) st d l n)
+known_level : (o : Origin) (st : Position → Parser Text) (d : ℕ → Parser Text) → ((x : Position) → AllKnown (st x)) → ((n : ℕ) → AllKnown (d n)) → (l n : ℕ) → AllKnown (level (reader o) st d l n)
 unfolding level
 known_level o st d hs hd zero n s = refl
 known_level o st d hs hd (suc l) n s = known_items o st d (level (reader o) st d l) hs hd (known_level o st d hs hd l) (row_items n) (row_good n) s
 
-known_deep : (o : Origin) (st : Place → Parser Text) → ((x : Place) → AllKnown (st x)) → (m n : ℕ) → AllKnown (deep (reader o) st m n)
+known_deep : (o : Origin) (st : Position → Parser Text) → ((x : Position) → AllKnown (st x)) → (m n : ℕ) → AllKnown (deep (reader o) st m n)
 unfolding deep
 known_deep o st hs zero n s = tt
 known_deep o st hs (suc m) n s = known_level o st (deep (reader o) st m) hs (known_deep o st hs m) 40 n s
@@ -229,13 +229,13 @@ known_row_if : {A : Type 0} (b : Bool) (r q : Result A Stop) → KnownRow r → 
 known_row_if true r q h k = h
 known_row_if false r q h k = k
 
-known_allowed : (o : Origin) (x : Place) (f : Form) (t : Text) → KnownRow (allowed o x f t)
+known_allowed : (o : Origin) (x : Position) (f : Form) (t : Text) → KnownRow (allowed o x f t)
 known_allowed o x f t =
     known_row_if (barred_following x f.rule) (Err (At 14 (length t)))
     (if barred_line o f.rule then Err (At 26 (length t)) else (if barred_place x f.rule then Err (At 28 (length t)) else Ok f.row)) refl
     (known_row_if (barred_line o f.rule) (Err (At 26 (length t))) (if barred_place x f.rule then Err (At 28 (length t)) else Ok f.row) refl (known_row_if (barred_place x f.rule) (Err (At 28 (length t))) (Ok f.row) refl tt))
 
-known_row : (fs : List Form) (o : Origin) (x : Place) (t : Text) → KnownRow (row_at fs o x t)
+known_row : (fs : List Form) (o : Origin) (x : Position) (t : Text) → KnownRow (row_at fs o x t)
 known_row [] o x t = known_row_if (variable_begins o t) (Ok row.ASSIGNMENT) (Err (refused o 14 t)) tt (known_refused o 14 t refl)
 known_row (f ∷ fs) o x t = known_row_if (starts o f.start t) (allowed o x f t) (row_at fs o x t) (known_allowed o x f t) (known_row fs o x t)
 
@@ -247,11 +247,11 @@ known_chosen : (r : Result (ℕ × Text) Stop) (q : ℕ → Parser Text) → Kno
 known_chosen (Ok p) q h k = known_under p.0 (q p.0 p.1) (k p.0 p.1)
 known_chosen (Err e) q h k = h
 
-known_statement_row : (o : Origin) (x : Place) (s : Text) → KnownRow (statement_row o x s)
+known_statement_row : (o : Origin) (x : Position) (s : Text) → KnownRow (statement_row o x s)
 unfolding statement_row
 known_statement_row o x s = known_row_if (begins_let o (skipped o s)) (Ok (row.ASSIGNMENT, drop 3 (skipped o s))) (from (skipped o s) (row_at forms o x (skipped o s))) tt (known_from (skipped o s) (row_at forms o x (skipped o s)) (known_row forms o x (skipped o s)))
 
-known_statement : (o : Origin) (f : ℕ) (x : Place) → AllKnown (statement (reader o) f x)
+known_statement : (o : Origin) (f : ℕ) (x : Position) → AllKnown (statement (reader o) f x)
 unfolding statement
 known_statement o zero x s = tt
 known_statement o (suc f) x s =

@@ -15,7 +15,7 @@ use Rattle.b2_atom.specs.declared.words.Origin.TheVariants as origin
 use Rattle.b2_atom.specs.declared.forms.Leaf.{Leaf}
 use Rattle.b2_atom.specs.declared.forms.Leaf.TheVariants as leaf
 use Rattle.b2_atom.specs.declared.forms.Start.TheVariants as start
-use Rattle.b2_atom.specs.declared.forms.Place.{Place}
+use Rattle.b2_atom.specs.declared.forms.Position.{Position}
 use Rattle.b2_atom.specs.declared.forms.Item.{Item}
 use Rattle.b2_atom.specs.declared.forms.Item.TheVariants.{Word, Sign, Among, ProgramWord, Ignored, Comma, LeftOut, End, Typed, Part, Maybe, Either, Many, Nest, Statement}
 use Rattle.b2_atom.proofs.Booleans.{and_left, and_right, or_cases, never, equal, not_true}
@@ -80,7 +80,7 @@ lined_leaf o k x y code ts s h spelled =
     (spelled.0, (ap (λ (l : Leaf). read_leaf o l code s) same ∙ there, spelled.1.1))
 
 -- a token is read by its item
-pub token_runs : (st : Place → Parser Text) (d p : ℕ → Parser Text) (o : Origin) (i : Item) (t : Token) (ts : List Token) (s : Text) → fits_token o i t ≡ true → Spells o (t ∷ ts) s
+pub token_runs : (st : Position → Parser Text) (d p : ℕ → Parser Text) (o : Origin) (i : Item) (t : Token) (ts : List Token) (s : Text) → fits_token o i t ≡ true → Spells o (t ∷ ts) s
     → Runs o (item st d p (reader o) i s) (Put t Done) ts
 unfolding item mark among program_word optional_comma
 token_runs st dp p o (Word c) (Coded d) ts s h spelled = coded o c d 22 ts s h spelled

@@ -19,7 +19,7 @@ use Rattle.b2_atom.specs.declared.words.Origin.TheVariants.{Program, Immediate, 
 use Rattle.b2_atom.specs.declared.forms.Leaf.{Leaf}
 use Rattle.b2_atom.specs.declared.forms.Leaf.TheVariants as leaf
 use Rattle.b2_atom.specs.declared.forms.Start.{Start}
-use Rattle.b2_atom.specs.declared.forms.Place.{Place}
+use Rattle.b2_atom.specs.declared.forms.Position.{Position}
 use Rattle.b2_atom.specs.declared.forms.Item.{Item}
 use Rattle.b2_atom.specs.declared.forms.Item.TheVariants.{Word, Sign, Among, ProgramWord, Ignored, Comma, LeftOut, End, Typed, Part, Maybe, Either, Many, Nest, Statement}
 use Rattle.b2_atom.specs.declared.sink.Stop.TheVariants.{At}
@@ -365,7 +365,7 @@ many_good o room st n p is h (suc f) s =
     (many_good o room st n p is h f))
     (none_good o room is s (Leads o room (Many st n) is) (λ b fit. (refl, fit)))
 
-pub calm_item_good : (o : Origin) (room : ℕ) (stf : Place → Parser Text) (d p : ℕ → Parser Text) → ((n : ℕ) → calm_row n ≡ true → AllGoodAt (Nested o room n) (d n))
+pub calm_item_good : (o : Origin) (room : ℕ) (stf : Position → Parser Text) (d p : ℕ → Parser Text) → ((n : ℕ) → calm_row n ≡ true → AllGoodAt (Nested o room n) (d n))
     → ((n : ℕ) → calm_row n ≡ true → AllGoodAt (Fits o room (row_items n)) (p n)) → (i : Item) (is : List Item) (s : Text) → calm_item i ≡ true
     → Good (Leads o room i is) s (item stf d p (reader o) i s)
 unfolding item
@@ -392,7 +392,7 @@ calm_item_good o room stf d p hd hp (Many st n) is s calm = many_good o room st 
 calm_item_good o room stf d p hd hp (Nest n) is s calm = good_under (Nested o room n) (Leads o room (Nest n) is) 2 s (d n s) (nest_leads o room n is) (hd n calm s)
 calm_item_good o room stf d p hd hp (Statement x) is s calm = cc
 
-calm_items_good : (o : Origin) (room : ℕ) (stf : Place → Parser Text) (d p : ℕ → Parser Text) → ((n : ℕ) → calm_row n ≡ true → AllGoodAt (Nested o room n) (d n))
+calm_items_good : (o : Origin) (room : ℕ) (stf : Position → Parser Text) (d p : ℕ → Parser Text) → ((n : ℕ) → calm_row n ≡ true → AllGoodAt (Nested o room n) (d n))
     → ((n : ℕ) → calm_row n ≡ true → AllGoodAt (Fits o room (row_items n)) (p n)) → (is : List Item) → calm_items is ≡ true → AllGoodAt (Fits o room is) (items stf d p (reader o) is)
 unfolding items
 calm_items_good o room stf d p hd hp [] calm s = (refl, (refl, self_le (length s)))
@@ -401,18 +401,18 @@ calm_items_good o room stf d p hd hp (i ∷ is) calm s =
     (calm_item_good o room stf d p hd hp i is s (and_left (calm_item i) (calm_items is) calm))
     (calm_items_good o room stf d p hd hp is (and_right (calm_item i) (calm_items is) calm))
 
-pub calm_level : (o : Origin) (room : ℕ) (stf : Place → Parser Text) (d : ℕ → Parser Text) → ((n : ℕ) → calm_row n ≡ true → AllGoodAt (Nested o room n) (d n))
+pub calm_level : (o : Origin) (room : ℕ) (stf : Position → Parser Text) (d : ℕ → Parser Text) → ((n : ℕ) → calm_row n ≡ true → AllGoodAt (Nested o room n) (d n))
     → (l n : ℕ) → calm_row n ≡ true → AllGoodAt (Fits o room (row_items n)) (level (reader o) stf d l n)
 unfolding level
 calm_level o room stf d hd zero n calm s = tt
 calm_level o room stf d hd (suc l) n calm s =
     calm_items_good o room stf d (level (reader o) stf d l) hd (calm_level o room stf d hd l) (row_items n) (calm_closed n calm) s
 
-pub calm_deep : (o : Origin) (stf : Place → Parser Text) (room n : ℕ) → calm_row n ≡ true → AllGoodAt (Nested o room n) (deep (reader o) stf room n)
+pub calm_deep : (o : Origin) (stf : Position → Parser Text) (room n : ℕ) → calm_row n ≡ true → AllGoodAt (Nested o room n) (deep (reader o) stf room n)
 unfolding deep
 calm_deep o stf zero n calm s = tt
 calm_deep o stf (suc room) n calm s = calm_level o room stf (deep (reader o) stf room) (calm_deep o stf room) 40 n calm s
 
 -- a part without statements and remarks in it
-pub calm_part : (o : Origin) (stf : Place → Parser Text) (l n : ℕ) → calm_row n ≡ true → AllGoodAt (Fits o 32 (row_items n)) (level (reader o) stf (deep (reader o) stf 32) l n)
+pub calm_part : (o : Origin) (stf : Position → Parser Text) (l n : ℕ) → calm_row n ≡ true → AllGoodAt (Fits o 32 (row_items n)) (level (reader o) stf (deep (reader o) stf 32) l n)
 calm_part o stf l n calm s = calm_level o 32 stf (deep (reader o) stf 32) (calm_deep o stf 32) l n calm s

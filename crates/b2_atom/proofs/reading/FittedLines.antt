@@ -17,8 +17,8 @@ use Rattle.b2_atom.specs.declared.words.Origin.{Origin}
 use Rattle.b2_atom.specs.declared.words.Origin.TheVariants.{Program, Immediate, Atoms}
 use Rattle.b2_atom.specs.declared.forms.Leaf.TheVariants as leaf
 use Rattle.b2_atom.specs.declared.forms.Start.TheVariants as start
-use Rattle.b2_atom.specs.declared.forms.Place.{Place}
-use Rattle.b2_atom.specs.declared.forms.Place.TheVariants as place
+use Rattle.b2_atom.specs.declared.forms.Position.{Position}
+use Rattle.b2_atom.specs.declared.forms.Position.TheVariants as place
 use Rattle.b2_atom.specs.declared.forms.Form.{Form}
 use Rattle.b2_atom.specs.declared.forms.Item.{Item}
 use Rattle.b2_atom.specs.declared.forms.Item.TheVariants.{Word, Sign, Typed, Part, Either, Many, Statement, End}
@@ -160,10 +160,10 @@ unfolding mark
 mark_first o P R c code s q some calm more h = mark_by o P R c code s q ((ahead o (skipped o s)).0 == c) refl some calm more h
 
 -- the readers of a row: parentheses, and parts with l levels in them
-abbrev pub row_read : Origin → (Place → Parser Text) → ℕ → List Item → Parser Text
+abbrev pub row_read : Origin → (Position → Parser Text) → ℕ → List Item → Parser Text
 row_read o stf l is = items stf (deep (reader o) stf 32) (level (reader o) stf (deep (reader o) stf 32) l) (reader o) is
 
-calm_step : (o : Origin) (stf : Place → Parser Text) (l : ℕ) (i : Item) (is : List Item) (s : Text) → calm_item i ≡ true
+calm_step : (o : Origin) (stf : Position → Parser Text) (l : ℕ) (i : Item) (is : List Item) (s : Text) → calm_item i ≡ true
     → ((u : Text) → length u ≤ length s → Ends (Fits o 32 is) u (row_read o stf l is u)) → Ends (Fits o 32 (i ∷ is)) s (row_read o stf l (i ∷ is) s)
 unfolding items
 calm_step o stf l i is s calm h =
@@ -174,7 +174,7 @@ calm_step o stf l i is s calm h =
 ends_le : (n : ℕ) → n ≤ n
 ends_le n = omega arith
 
-last_step : (o : Origin) (stf : Place → Parser Text) (l : ℕ) (i : Item) (s : Text)
+last_step : (o : Origin) (stf : Position → Parser Text) (l : ℕ) (i : Item) (s : Text)
     → Ends (Leads o 32 i []) s (item stf (deep (reader o) stf 32) (level (reader o) stf (deep (reader o) stf 32) l) (reader o) i s)
     → Ends (Fits o 32 (i ∷ [])) s (row_read o stf l (i ∷ []) s)
 unfolding items
@@ -182,28 +182,28 @@ last_step o stf l i s g =
     idle_then (Leads o 32 i []) (Fits o 32 []) (Fits o 32 (i ∷ [])) s (item stf (deep (reader o) stf 32) (level (reader o) stf (deep (reader o) stf 32) l) (reader o) i s)
     (row_read o stf l []) (λ a b x y. x b y) g (λ u le. (refl, (calm_ended [] u refl, (ends_le (length u), λ e. (refl, e)))))
 
-word_step : (o : Origin) (stf : Place → Parser Text) (l c : ℕ) (is : List Item) (s : Text) → nat_lt 0 c ≡ true → no_remark (Coded c ∷ []) ≡ true
+word_step : (o : Origin) (stf : Position → Parser Text) (l c : ℕ) (is : List Item) (s : Text) → nat_lt 0 c ≡ true → no_remark (Coded c ∷ []) ≡ true
     → ((u : Text) → length u < length s → Ends (Fits o 32 is) u (row_read o stf l is u)) → Ends (Fits o 32 (Word c ∷ is)) s (row_read o stf l (Word c ∷ is) s)
 unfolding items item
 word_step o stf l c is s some calm h = mark_first o (Fits o 32 is) (Fits o 32 (Word c ∷ is)) c 22 s (row_read o stf l is) some calm (λ t fit. (same_code c, fit)) h
 
-sign_step : (o : Origin) (stf : Place → Parser Text) (l c code : ℕ) (is : List Item) (s : Text) → nat_lt 0 c ≡ true → no_remark (Coded c ∷ []) ≡ true
+sign_step : (o : Origin) (stf : Position → Parser Text) (l c code : ℕ) (is : List Item) (s : Text) → nat_lt 0 c ≡ true → no_remark (Coded c ∷ []) ≡ true
     → ((u : Text) → length u < length s → Ends (Fits o 32 is) u (row_read o stf l is u)) → Ends (Fits o 32 (Sign c code ∷ is)) s (row_read o stf l (Sign c code ∷ is) s)
 unfolding items item
 sign_step o stf l c code is s some calm h = mark_first o (Fits o 32 is) (Fits o 32 (Sign c code ∷ is)) c code s (row_read o stf l is) some calm (λ t fit. (same_code c, fit)) h
 
-ends_row : (o : Origin) (stf : Place → Parser Text) (l n : ℕ) (is : List Item) (s : Text) → row_items n ≡ is → Ends (Fits o 32 is) s (row_read o stf l is s)
+ends_row : (o : Origin) (stf : Position → Parser Text) (l n : ℕ) (is : List Item) (s : Text) → row_items n ≡ is → Ends (Fits o 32 is) s (row_read o stf l is s)
     → Ends (Fits o 32 (row_items n)) s (level (reader o) stf (deep (reader o) stf 32) (suc l) n s)
 unfolding level
 ends_row o stf l n is s e g =
     let P : List Item → Type 0 = λ r. Ends (Fits o 32 r) s (row_read o stf l r s) in subst P (sym e) g
 
 -- a statement's tree
-abbrev pub StatementTree : Origin → Place → Trees → Type 0
+abbrev pub StatementTree : Origin → Position → Trees → Type 0
 StatementTree o p (In n inner Done) = (is_statement forms o p n ≡ true) × Fits o 32 (row_items n) inner
 StatementTree o p t = ⊥
 
-statement_leads : (o : Origin) (p : Place) (is : List Item) (t : Trees) → StatementTree o p t → Leads o 32 (Statement p) is t
+statement_leads : (o : Origin) (p : Position) (is : List Item) (t : Trees) → StatementTree o p t → Leads o 32 (Statement p) is t
 statement_leads o p is Done h b fit = absurd h
 statement_leads o p is (Put t ts) h b fit = absurd h
 statement_leads o p is (In n inner Done) h b fit = (h.0, (h.1, fit))
@@ -215,10 +215,10 @@ ends_map P Q s (Err e) more g = tt
 ends_map P Q s (Ok p) more g = (more p.0 g.0, g.1)
 
 -- statements of texts that are shorter than some length
-abbrev pub Below : Origin → (Place → Parser Text) → ℕ → Type 0
-Below o stf f = (p : Place) (s : Text) → length s < f → Ends (StatementTree o p) s (stf p s)
+abbrev pub Below : Origin → (Position → Parser Text) → ℕ → Type 0
+Below o stf f = (p : Position) (s : Text) → length s < f → Ends (StatementTree o p) s (stf p s)
 
-statement_last : (o : Origin) (stf : Place → Parser Text) (f l : ℕ) → Below o stf f → (p : Place) (s : Text) → length s < f
+statement_last : (o : Origin) (stf : Position → Parser Text) (f l : ℕ) → Below o stf f → (p : Position) (s : Text) → length s < f
     → Ends (Fits o 32 (Statement p ∷ [])) s (row_read o stf l (Statement p ∷ []) s)
 unfolding item
 statement_last o stf f l st p s less = last_step o stf l (Statement p) s (ends_map (StatementTree o p) (Leads o 32 (Statement p) []) s (stf p s) (statement_leads o p []) (st p s less))
@@ -227,7 +227,7 @@ pub following_is : row_items row.FOLLOWING ≡ Statement place.Following ∷ []
 unfolding row_items
 following_is = refl
 
-following_row : (o : Origin) (stf : Place → Parser Text) (f l : ℕ) → Below o stf f → (s : Text) → length s < f
+following_row : (o : Origin) (stf : Position → Parser Text) (f l : ℕ) → Below o stf f → (s : Text) → length s < f
     → Ends (Fits o 32 (row_items row.FOLLOWING)) s (level (reader o) stf (deep (reader o) stf 32) (suc l) row.FOLLOWING s)
 following_row o stf f l st s less =
     ends_row o stf l row.FOLLOWING (Statement place.Following ∷ []) s following_is (statement_last o stf f l st place.Following s less)
@@ -236,7 +236,7 @@ pub error_is : row_items row.ERROR ≡ Word word.ERROR ∷ Part row.FOLLOWING �
 unfolding row_items
 error_is = refl
 
-part_following : (o : Origin) (stf : Place → Parser Text) (f l : ℕ) → Below o stf f → (s : Text) → length s < f
+part_following : (o : Origin) (stf : Position → Parser Text) (f l : ℕ) → Below o stf f → (s : Text) → length s < f
     → Ends (Fits o 32 (Part row.FOLLOWING ∷ [])) s (row_read o stf (suc l) (Part row.FOLLOWING ∷ []) s)
 unfolding item
 part_following o stf f l st s less =
@@ -247,7 +247,7 @@ part_following o stf f l st s less =
 lt_le : (a b c : ℕ) → a < b → b ≤ c → a < c
 lt_le a b c h k = omega arith
 
-error_row : (o : Origin) (stf : Place → Parser Text) (f l : ℕ) → Below o stf f → (s : Text) → length s ≤ f
+error_row : (o : Origin) (stf : Position → Parser Text) (f l : ℕ) → Below o stf f → (s : Text) → length s ≤ f
     → Ends (Fits o 32 (row_items row.ERROR)) s (level (reader o) stf (deep (reader o) stf 32) (suc (suc l)) row.ERROR s)
 error_row o stf f l st s le =
     ends_row o stf (suc l) row.ERROR (Word word.ERROR ∷ Part row.FOLLOWING ∷ []) s error_is
@@ -261,7 +261,7 @@ condition_calm : calm_row row.CONDITION ≡ true
 unfolding calm_row
 condition_calm = refl
 
-line_or_statement : (o : Origin) (stf : Place → Parser Text) (f l : ℕ) → Below o stf f → (s : Text) → length s < f
+line_or_statement : (o : Origin) (stf : Position → Parser Text) (f l : ℕ) → Below o stf f → (s : Text) → length s < f
     → Ends (Fits o 32 (Either start.Line row.LINE_NUMBER row.FOLLOWING ∷ [])) s (row_read o stf (suc l) (Either start.Line row.LINE_NUMBER row.FOLLOWING ∷ []) s)
 unfolding item
 line_or_statement o stf f l st s less =
@@ -277,7 +277,7 @@ pub else_is : row_items row.ELSE ≡ Word word.ELSE ∷ Either start.Line row.LI
 unfolding row_items
 else_is = refl
 
-else_row : (o : Origin) (stf : Place → Parser Text) (f l : ℕ) → Below o stf f → (s : Text) → length s ≤ f
+else_row : (o : Origin) (stf : Position → Parser Text) (f l : ℕ) → Below o stf f → (s : Text) → length s ≤ f
     → Ends (Fits o 32 (row_items row.ELSE)) s (level (reader o) stf (deep (reader o) stf 32) (suc (suc l)) row.ELSE s)
 else_row o stf f l st s le =
     ends_row o stf (suc l) row.ELSE (Word word.ELSE ∷ Either start.Line row.LINE_NUMBER row.FOLLOWING ∷ []) s else_is
@@ -290,7 +290,7 @@ if_is = refl
 le_lt : (a b c : ℕ) → a ≤ b → b < c → a < c
 le_lt a b c h k = omega arith
 
-if_row : (o : Origin) (stf : Place → Parser Text) (f l : ℕ) → Below o stf f → (s : Text) → length s ≤ f
+if_row : (o : Origin) (stf : Position → Parser Text) (f l : ℕ) → Below o stf f → (s : Text) → length s ≤ f
     → Ends (Fits o 32 (row_items row.IF)) s (level (reader o) stf (deep (reader o) stf 32) (suc (suc l)) row.IF s)
 if_row o stf f l st s le =
     ends_row o stf (suc l) row.IF (Word word.IF ∷ Part row.CONDITION ∷ Word word.THEN ∷ Either start.Line row.LINE_NUMBER row.FOLLOWING ∷ []) s if_is
@@ -335,12 +335,12 @@ image_is : row_items row.IMAGE_LINE ≡ Sign 37 14 ∷ Typed leaf.Text 14 ∷ []
 unfolding row_items
 image_is = refl
 
-remark_row : (o : Origin) (stf : Place → Parser Text) (l : ℕ) (s : Text) → Ends (Fits o 32 (row_items row.REMARK)) s (level (reader o) stf (deep (reader o) stf 32) (suc l) row.REMARK s)
+remark_row : (o : Origin) (stf : Position → Parser Text) (l : ℕ) (s : Text) → Ends (Fits o 32 (row_items row.REMARK)) s (level (reader o) stf (deep (reader o) stf 32) (suc l) row.REMARK s)
 unfolding items item mark read_leaf
 remark_row o stf l s =
     ends_row o stf l row.REMARK (Word word.REM ∷ Typed leaf.Text 14 ∷ []) s remark_is (remark_by o (Word word.REM) word.REM 22 s ((ahead o (skipped o s)).0 == word.REM) refl refl)
 
-image_row : (o : Origin) (stf : Place → Parser Text) (l : ℕ) (s : Text) → Ends (Fits o 32 (row_items row.IMAGE_LINE)) s (level (reader o) stf (deep (reader o) stf 32) (suc l) row.IMAGE_LINE s)
+image_row : (o : Origin) (stf : Position → Parser Text) (l : ℕ) (s : Text) → Ends (Fits o 32 (row_items row.IMAGE_LINE)) s (level (reader o) stf (deep (reader o) stf 32) (suc l) row.IMAGE_LINE s)
 unfolding items item mark read_leaf
 image_row o stf l s =
     ends_row o stf l row.IMAGE_LINE (Sign 37 14 ∷ Typed leaf.Text 14 ∷ []) s image_is (remark_by o (Sign 37 14) 37 14 s ((ahead o (skipped o s)).0 == 37) refl refl)
@@ -360,22 +360,22 @@ assignment_row : is_statement_row row.ASSIGNMENT ≡ true
 unfolding is_statement_row calm_row
 assignment_row = refl
 
-abbrev RowFact : List Form → Origin → Place → Result ℕ Stop → Type 0
+abbrev RowFact : List Form → Origin → Position → Result ℕ Stop → Type 0
 RowFact fs o p (Ok n) = (is_statement fs o p n ≡ true) × (is_statement_row n ≡ true)
 RowFact fs o p (Err e) = Unit {0}
 
-fact_if : (fs : List Form) (o : Origin) (p : Place) (b : Bool) (r q : Result ℕ Stop) → RowFact fs o p r → RowFact fs o p q → RowFact fs o p (if b then r else q)
+fact_if : (fs : List Form) (o : Origin) (p : Position) (b : Bool) (r q : Result ℕ Stop) → RowFact fs o p r → RowFact fs o p q → RowFact fs o p (if b then r else q)
 fact_if fs o p true r q h k = h
 fact_if fs o p false r q h k = k
 
-fact_later : (f : Form) (fs : List Form) (o : Origin) (p : Place) (r : Result ℕ Stop) → RowFact fs o p r → RowFact (f ∷ fs) o p r
+fact_later : (f : Form) (fs : List Form) (o : Origin) (p : Position) (r : Result ℕ Stop) → RowFact fs o p r → RowFact (f ∷ fs) o p r
 fact_later f fs o p (Ok n) h = (or_other (f.row == n && is_allowed o p f.rule) (is_statement fs o p n) h.0, h.1)
 fact_later f fs o p (Err e) h = tt
 
 none_barred : (a b c : Bool) → a ≡ false → b ≡ false → c ≡ false → not (a || (b || c)) ≡ true
 none_barred a b c ha hb hc = rw ha (rw hb (rw hc refl))
 
-allowed_by : (f : Form) (fs : List Form) (o : Origin) (p : Place) (t : Text) (a b c : Bool) → barred_following p f.rule ≡ a → barred_line o f.rule ≡ b → barred_place p f.rule ≡ c
+allowed_by : (f : Form) (fs : List Form) (o : Origin) (p : Position) (t : Text) (a b c : Bool) → barred_following p f.rule ≡ a → barred_line o f.rule ≡ b → barred_place p f.rule ≡ c
     → is_statement_row f.row ≡ true
     → RowFact (f ∷ fs) o p (if a then Err (At 14 (length t)) else (if b then Err (At 26 (length t)) else (if c then Err (At 28 (length t)) else Ok f.row)))
 allowed_by f fs o p t true b c ha hb hc h = tt
@@ -387,34 +387,34 @@ allowed_by f fs o p t false false false ha hb hc h = (
   h,
 )
 
-assignment_fact : (o : Origin) (p : Place) → RowFact [] o p (Ok row.ASSIGNMENT)
+assignment_fact : (o : Origin) (p : Position) → RowFact [] o p (Ok row.ASSIGNMENT)
 assignment_fact o p = (refl, assignment_row)
 
-row_fact : (fs : List Form) (o : Origin) (p : Place) (t : Text) → every (λ f. is_statement_row f.row) fs ≡ true → RowFact fs o p (row_at fs o p t)
+row_fact : (fs : List Form) (o : Origin) (p : Position) (t : Text) → every (λ f. is_statement_row f.row) fs ≡ true → RowFact fs o p (row_at fs o p t)
 row_fact [] o p t h = fact_if [] o p (variable_begins o t) (Ok row.ASSIGNMENT) (Err (refused o 14 t)) (assignment_fact o p) tt
 row_fact (f ∷ fs) o p t h =
     fact_if (f ∷ fs) o p (starts o f.start t) (allowed o p f t) (row_at fs o p t)
     (allowed_by f fs o p t (barred_following p f.rule) (barred_line o f.rule) (barred_place p f.rule) refl refl refl (and_left (is_statement_row f.row) (every (λ f. is_statement_row f.row) fs) h))
     (fact_later f fs o p (row_at fs o p t) (row_fact fs o p t (and_right (is_statement_row f.row) (every (λ f. is_statement_row f.row) fs) h)))
 
-always_assignment : (fs : List Form) (o : Origin) (p : Place) → is_statement fs o p row.ASSIGNMENT ≡ true
+always_assignment : (fs : List Form) (o : Origin) (p : Position) → is_statement fs o p row.ASSIGNMENT ≡ true
 always_assignment [] o p = refl
 always_assignment (f ∷ fs) o p = or_other (f.row == row.ASSIGNMENT && is_allowed o p f.rule) (is_statement fs o p row.ASSIGNMENT) (always_assignment fs o p)
 
 -- and where it is read
-abbrev PlaceFact : Origin → Place → Text → Result (ℕ × Text) Stop → Type 0
+abbrev PlaceFact : Origin → Position → Text → Result (ℕ × Text) Stop → Type 0
 PlaceFact o p s (Ok r) = ((is_statement forms o p r.0 ≡ true) × (is_statement_row r.0 ≡ true)) × (length r.1 ≤ length s)
 PlaceFact o p s (Err e) = Unit {0}
 
-place_if : (o : Origin) (p : Place) (s : Text) (b : Bool) (r q : Result (ℕ × Text) Stop) → PlaceFact o p s r → PlaceFact o p s q → PlaceFact o p s (if b then r else q)
+place_if : (o : Origin) (p : Position) (s : Text) (b : Bool) (r q : Result (ℕ × Text) Stop) → PlaceFact o p s r → PlaceFact o p s q → PlaceFact o p s (if b then r else q)
 place_if o p s true r q h k = h
 place_if o p s false r q h k = k
 
-place_from : (o : Origin) (p : Place) (s t : Text) (r : Result ℕ Stop) → length t ≤ length s → RowFact forms o p r → PlaceFact o p s (from t r)
+place_from : (o : Origin) (p : Position) (s t : Text) (r : Result ℕ Stop) → length t ≤ length s → RowFact forms o p r → PlaceFact o p s (from t r)
 place_from o p s t (Ok n) le h = (h, le)
 place_from o p s t (Err e) le h = tt
 
-place_fact : (o : Origin) (p : Place) (s : Text) → PlaceFact o p s (statement_row o p s)
+place_fact : (o : Origin) (p : Position) (s : Text) → PlaceFact o p s (statement_row o p s)
 unfolding statement_row
 place_fact o p s =
     place_if o p s (begins_let o (skipped o s)) (Ok (row.ASSIGNMENT, drop 3 (skipped o s))) (from (skipped o s) (row_at forms o p (skipped o s)))
@@ -422,7 +422,7 @@ place_fact o p s =
     (place_from o p s (skipped o s) (row_at forms o p (skipped o s)) (skipped_short o s) (row_fact forms o p (skipped o s) forms_rows))
 
 -- a statement's row
-row_by : (o : Origin) (stf : Place → Parser Text) (f n : ℕ) → Below o stf f → (s : Text) → length s ≤ f → (a b c d e : Bool) → (n == row.REMARK) ≡ a → (n == row.IMAGE_LINE) ≡ b
+row_by : (o : Origin) (stf : Position → Parser Text) (f n : ℕ) → Below o stf f → (s : Text) → length s ≤ f → (a b c d e : Bool) → (n == row.REMARK) ≡ a → (n == row.IMAGE_LINE) ≡ b
     → (n == row.IF) ≡ c → (n == row.ELSE) ≡ d → (n == row.ERROR) ≡ e → (a || (b || (c || (d || e)))) ≡ true
     → Ends (Fits o 32 (row_items n)) s (level (reader o) stf (deep (reader o) stf 32) 40 n s)
 row_by o stf f n st s le true b c d e ha hb hc hd he h =
@@ -437,7 +437,7 @@ row_by o stf f n st s le false false false false true ha hb hc hd he h =
     let P : ℕ → Type 0 = λ m. Ends (Fits o 32 (row_items m)) s (level (reader o) stf (deep (reader o) stf 32) 40 m s) in subst P (sym (equal n row.ERROR he)) (error_row o stf f 38 st s le)
 row_by o stf f n st s le false false false false false ha hb hc hd he h = cc
 
-statement_part : (o : Origin) (stf : Place → Parser Text) (f n : ℕ) → Below o stf f → (s : Text) → length s ≤ f → (b : Bool) → calm_row n ≡ b → (b || is_text_row n) ≡ true
+statement_part : (o : Origin) (stf : Position → Parser Text) (f n : ℕ) → Below o stf f → (s : Text) → length s ≤ f → (b : Bool) → calm_row n ≡ b → (b || is_text_row n) ≡ true
     → Ends (Fits o 32 (row_items n)) s (level (reader o) stf (deep (reader o) stf 32) 40 n s)
 statement_part o stf f n st s le true is h =
     good_ends (Fits o 32 (row_items n)) s (level (reader o) stf (deep (reader o) stf 32) 40 n s) (calm_part o stf 40 n is s)
@@ -453,7 +453,7 @@ ends_wider : (P : Trees → Type 0) (s u : Text) (o : Outcome) → length u ≤ 
 ends_wider P s u (Err e) le g = tt
 ends_wider P s u (Ok p) le g = (g.0, (g.1.0, le_both (length p.1) (length u) (length s) g.1.1 le))
 
-statement_chosen : (o : Origin) (stf : Place → Parser Text) (f : ℕ) (p : Place) (s : Text) (r : Result (ℕ × Text) Stop) → Below o stf f → length s ≤ f → PlaceFact o p s r
+statement_chosen : (o : Origin) (stf : Position → Parser Text) (f : ℕ) (p : Position) (s : Text) (r : Result (ℕ × Text) Stop) → Below o stf f → length s ≤ f → PlaceFact o p s r
     → Ends (StatementTree o p) s (chosen r (level (reader o) stf (deep (reader o) stf 32) 40))
 statement_chosen o stf f p s (Err e) st le fact = tt
 statement_chosen o stf f p s (Ok r) st le fact =
@@ -475,7 +475,7 @@ pub further_is : row_items row.FURTHER_STATEMENT ≡ Sign 58 25 ∷ Statement pl
 unfolding row_items
 further_is = refl
 
-further_row : (o : Origin) (stf : Place → Parser Text) (f l : ℕ) → Below o stf f → (s : Text) → length s ≤ f
+further_row : (o : Origin) (stf : Position → Parser Text) (f l : ℕ) → Below o stf f → (s : Text) → length s ≤ f
     → Ends (Fits o 32 (row_items row.FURTHER_STATEMENT)) s (level (reader o) stf (deep (reader o) stf 32) (suc l) row.FURTHER_STATEMENT s)
 further_row o stf f l st s le =
     ends_row o stf l row.FURTHER_STATEMENT (Sign 58 25 ∷ Statement place.Further ∷ []) s further_is
@@ -506,7 +506,7 @@ many_by : (o : Origin) (is : List Item) (u : Text) (b : Bool) (q : Outcome) → 
 many_by o is u true q h = h refl
 many_by o is u false q h = absent_idles o is u
 
-furthers : (o : Origin) (stf : Place → Parser Text) (f l : ℕ) → Below o stf f → (is : List Item) (n : ℕ) (u : Text) → length u ≤ f
+furthers : (o : Origin) (stf : Position → Parser Text) (f l : ℕ) → Below o stf f → (is : List Item) (n : ℕ) (u : Text) → length u ≤ f
     → Idles (Further o is) u (many (reader o) (start.Code 58) (level (reader o) stf (deep (reader o) stf 32) (suc l) row.FURTHER_STATEMENT) n u)
 unfolding many
 furthers o stf f l st is zero u le = many_by o is u (starts o (start.Code 58) u) (Err (At 14 0)) (λ h. tt)
@@ -524,7 +524,7 @@ end_by : (o : Origin) (v t : Text) → Idles (Fits o 32 (End ∷ [])) v (and_the
 end_by o v [] = (refl, (calm_ended [] [] refl, ((let least : 0 ≤ length v = omega arith in least), λ e. (refl, refl))))
 end_by o v (b ∷ t) = tt
 
-end_idles : (o : Origin) (stf : Place → Parser Text) (l : ℕ) (v : Text) → Idles (Fits o 32 (End ∷ [])) v (row_read o stf l (End ∷ []) v)
+end_idles : (o : Origin) (stf : Position → Parser Text) (l : ℕ) (v : Text) → Idles (Fits o 32 (End ∷ [])) v (row_read o stf l (End ∷ []) v)
 unfolding items item end_of_line
 end_idles o stf l v = end_by o v (skipped o v)
 
@@ -533,7 +533,7 @@ pub line_is : row_items row.LINE ≡ Statement place.First ∷ Many (start.Code 
 unfolding row_items
 line_is = refl
 
-line_rest : (o : Origin) (stf : Place → Parser Text) (f l : ℕ) → Below o stf f → (u : Text) → length u ≤ f
+line_rest : (o : Origin) (stf : Position → Parser Text) (f l : ℕ) → Below o stf f → (u : Text) → length u ≤ f
     → Idles (Fits o 32 (Many (start.Code 58) row.FURTHER_STATEMENT ∷ End ∷ [])) u (row_read o stf (suc l) (Many (start.Code 58) row.FURTHER_STATEMENT ∷ End ∷ []) u)
 unfolding items item
 line_rest o stf f l st u le =
@@ -544,7 +544,7 @@ line_rest o stf f l st u le =
 fewer : (a b c : ℕ) → a ≤ b → b < c → a ≤ c
 fewer a b c h k = omega arith
 
-line_items : (o : Origin) (stf : Place → Parser Text) (f l : ℕ) → Below o stf f → (s : Text) → length s < f
+line_items : (o : Origin) (stf : Position → Parser Text) (f l : ℕ) → Below o stf f → (s : Text) → length s < f
     → Ends (Fits o 32 (Statement place.First ∷ Many (start.Code 58) row.FURTHER_STATEMENT ∷ End ∷ [])) s
     (row_read o stf (suc l) (Statement place.First ∷ Many (start.Code 58) row.FURTHER_STATEMENT ∷ End ∷ []) s)
 unfolding items item

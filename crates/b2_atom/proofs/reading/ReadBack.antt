@@ -14,7 +14,7 @@ use Rattle.b2_atom.specs.Table.{forms}
 use Rattle.b2_atom.specs.declared.words.Origin.{Origin}
 use Rattle.b2_atom.specs.declared.words.Origin.TheVariants as origin
 use Rattle.b2_atom.specs.declared.forms.Leaf.TheVariants as leaf
-use Rattle.b2_atom.specs.declared.forms.Place.{Place}
+use Rattle.b2_atom.specs.declared.forms.Position.{Position}
 use Rattle.b2_atom.specs.declared.forms.Item.{Item}
 use Rattle.b2_atom.specs.declared.forms.Item.TheVariants.{Word, Sign, Among, ProgramWord, Ignored, Comma, LeftOut, End, Typed, Part, Maybe, Either, Many, Nest, Statement}
 use Rattle.b2_atom.specs.declared.sink.Stop.{Stop}
@@ -44,7 +44,7 @@ enough_lead : (n f l : ℕ) → n ≤ suc f → l ≡ 1 → n ≤ l + f
 enough_lead n f l h k = omega (arith, h, k)
 
 -- a statement's row, which needs no fuel where no statement stands in it
-pub statement_row_runs : (inner : Trees) → Good inner → (o : Origin) → Chooses o → (f : ℕ) (p : Place) (m : ℕ) (more : List Token) (u : Text) → is_statement forms o p m ≡ true
+pub statement_row_runs : (inner : Trees) → Good inner → (o : Origin) → Chooses o → (f : ℕ) (p : Position) (m : ℕ) (more : List Token) (u : Text) → is_statement forms o p m ≡ true
     → Fits o 32 (row_items m) inner → is_closing more ≡ true → RemarksEnd (tokens inner ++ more) → ((of m).plain ≡ false → length (tokens inner) ≤ suc f) → Spells o (tokens inner ++ more) u
     → Runs o (reads_part o 32 40 f m u) inner more
 unfolding level
@@ -74,7 +74,7 @@ statement_fuel : (a b n f : ℕ) → n ≡ a + b → n ≤ 0 + suc f → a ≤ s
 statement_fuel a b n f is h = omega (arith, is, h)
 
 -- a statement
-statement_runs : (inner ts : Trees) → Good inner → Good ts → (o : Origin) → Chooses o → (room l f : ℕ) (p : Place) (m : ℕ) (is : List Item) → is_statement forms o p m ≡ true
+statement_runs : (inner ts : Trees) → Good inner → Good ts → (o : Origin) → Chooses o → (room l f : ℕ) (p : Position) (m : ℕ) (is : List Item) → is_statement forms o p m ≡ true
     → Fits o 32 (row_items m) inner → Fits o room is ts → (more : List Token) → Ready o room l f (Statement p ∷ is) (In m inner ts) more → (s : Text)
     → Spells o ((tokens inner ++ tokens ts) ++ more) s → Runs o (reads_row o room l f (Statement p ∷ is) s) (In m inner ts) more
 unfolding item statement

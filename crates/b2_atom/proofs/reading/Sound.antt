@@ -17,7 +17,7 @@ use Rattle.b2_atom.specs.declared.sink.Stop.TheVariants.{At}
 use Rattle.b2_atom.specs.declared.forms.Leaf.{Leaf}
 use Rattle.b2_atom.specs.declared.forms.Leaf.TheVariants as leaf
 use Rattle.b2_atom.specs.declared.forms.Start.{Start}
-use Rattle.b2_atom.specs.declared.forms.Place.{Place}
+use Rattle.b2_atom.specs.declared.forms.Position.{Position}
 use Rattle.b2_atom.specs.declared.forms.Item.{Item}
 use Rattle.b2_atom.specs.declared.forms.Item.TheVariants.{Word, Sign, Among, ProgramWord, Ignored, Comma, LeftOut, End, Typed, Part, Maybe, Either, Many, Nest, Statement}
 use Rattle.b2_atom.specs.Table.{forms, rows_0, rows_1, rows_2, rows_3}
@@ -169,7 +169,7 @@ takes_read (Statement p) s h = tt
 abbrev AllTake : Parser Text → Type 0
 AllTake q = (u : Text) → Takes u (q u)
 
-takes_item : (st : Place → Parser Text) (d p : ℕ → Parser Text) → ((x : Place) → AllTake (st x)) → ((n : ℕ) → AllTake (d n)) → ((n : ℕ) → AllTake (p n))
+takes_item : (st : Position → Parser Text) (d p : ℕ → Parser Text) → ((x : Position) → AllTake (st x)) → ((n : ℕ) → AllTake (d n)) → ((n : ℕ) → AllTake (p n))
     → (i : Item) (s : Text) → good_item i ≡ true → Takes s (item st d p (reader Atoms) i s)
 unfolding item
 takes_item st d p hs hd hp (Word c) s h = takes_read (Word c) s h
@@ -188,7 +188,7 @@ takes_item st d p hs hd hp (Many x n) s h = takes_many x (p n) (hp n) (length s)
 takes_item st d p hs hd hp (Nest n) s h = takes_under 2 s (d n s) (hd n s)
 takes_item st d p hs hd hp (Statement x) s h = hs x s
 
-takes_items : (st : Place → Parser Text) (d p : ℕ → Parser Text) → ((x : Place) → AllTake (st x)) → ((n : ℕ) → AllTake (d n)) → ((n : ℕ) → AllTake (p n))
+takes_items : (st : Position → Parser Text) (d p : ℕ → Parser Text) → ((x : Position) → AllTake (st x)) → ((n : ℕ) → AllTake (d n)) → ((n : ℕ) → AllTake (p n))
     → (is : List Item) → good_row is ≡ true → AllTake (items st d p (reader Atoms) is)
 unfolding items
 takes_items st d p hs hd hp [] h s = refl
@@ -196,12 +196,12 @@ takes_items st d p hs hd hp (i ∷ is) h s =
     takes_then s (item st d p (reader Atoms) i s) (items st d p (reader Atoms) is)
     (takes_item st d p hs hd hp i s (and_left (good_item i) _ h)) (takes_items st d p hs hd hp is (and_right (good_item i) _ h))
 
-takes_level : (st : Place → Parser Text) (d : ℕ → Parser Text) → ((x : Place) → AllTake (st x)) → ((n : ℕ) → AllTake (d n)) → (l n : ℕ) → AllTake (level (reader Atoms) st d l n)
+takes_level : (st : Position → Parser Text) (d : ℕ → Parser Text) → ((x : Position) → AllTake (st x)) → ((n : ℕ) → AllTake (d n)) → (l n : ℕ) → AllTake (level (reader Atoms) st d l n)
 unfolding level
 takes_level st d hs hd zero n s = tt
 takes_level st d hs hd (suc l) n s = takes_items st d (level (reader Atoms) st d l) hs hd (takes_level st d hs hd l) (row_items n) (row_good n) s
 
-takes_deep : (st : Place → Parser Text) → ((x : Place) → AllTake (st x)) → (m n : ℕ) → AllTake (deep (reader Atoms) st m n)
+takes_deep : (st : Position → Parser Text) → ((x : Position) → AllTake (st x)) → (m n : ℕ) → AllTake (deep (reader Atoms) st m n)
 unfolding deep
 takes_deep st hs zero n s = tt
 takes_deep st hs (suc m) n s = takes_level st (deep (reader Atoms) st m) hs (takes_deep st hs m) 40 n s
@@ -210,7 +210,7 @@ takes_chosen : (r : Result ℕ Stop) (q : ℕ → Parser Text) (s : Text) → ((
 takes_chosen (Err e) q s h = tt
 takes_chosen (Ok n) q s h = takes_under n s (q n s) (h n s)
 
-pub takes_statement : (f : ℕ) (x : Place) → AllTake (statement (reader Atoms) f x)
+pub takes_statement : (f : ℕ) (x : Position) → AllTake (statement (reader Atoms) f x)
 unfolding statement statement_row
 takes_statement zero x s = refl
 takes_statement (suc f) x s =
@@ -237,7 +237,7 @@ ends_at : (o : Origin) (u : Text) → Ends (and_then (end_at o u) nothing)
 ends_at o [] = refl
 ends_at o (b ∷ bs) = tt
 
-ends_row : (o : Origin) (st : Place → Parser Text) (d p : ℕ → Parser Text) (i j : Item) (s : Text) → Ends (items st d p (reader o) (i ∷ j ∷ End ∷ []) s)
+ends_row : (o : Origin) (st : Position → Parser Text) (d p : ℕ → Parser Text) (i j : Item) (s : Text) → Ends (items st d p (reader o) (i ∷ j ∷ End ∷ []) s)
 unfolding items item end_of_line
 ends_row o st d p i j s = ends_then (item st d p (reader o) i s) _ (λ u. ends_then (item st d p (reader o) j u) _ (λ v. ends_at o (skipped o v)))
 

@@ -19,7 +19,7 @@ use Rattle.b2_atom.specs.declared.forms.Leaf.{Leaf}
 use Rattle.b2_atom.specs.declared.forms.Leaf.TheVariants as leaf
 use Rattle.b2_atom.specs.declared.forms.Start.{Start}
 use Rattle.b2_atom.specs.declared.forms.Start.TheVariants as start
-use Rattle.b2_atom.specs.declared.forms.Place.{Place}
+use Rattle.b2_atom.specs.declared.forms.Position.{Position}
 use Rattle.b2_atom.specs.declared.forms.Form.{Form}
 use Rattle.b2_atom.specs.declared.forms.Item.{Item}
 use Rattle.b2_atom.specs.declared.forms.Item.TheVariants.{Word, Sign, Among}
@@ -181,21 +181,21 @@ pair_says o (start.Pair a c) f g false t ts u h k l spelled = elim (or_cases (su
 pair_says o st f g b t ts u h k l spelled = says o st f b (t ∷ ts) u h k spelled
 
 -- the form that begins is the statement's
-no_statement : (o : Origin) (p : Place) (xs : List Form) (m : ℕ) → lacks xs m ≡ true → is_statement xs o p m ≡ true → ⊥
+no_statement : (o : Origin) (p : Position) (xs : List Form) (m : ℕ) → lacks xs m ≡ true → is_statement xs o p m ≡ true → ⊥
 no_statement o p [] m h k = never (m == row.ASSIGNMENT) k (not_true _ h)
 no_statement o p (x ∷ xs) m h k = elim (or_cases (x.row == m && is_allowed o p x.rule) (is_statement xs o p m) k) [
   | inl g ↦ never (x.row == m) (and_left _ _ g) (not_true _ (and_left _ _ h))
   | inr g ↦ no_statement o p xs m (and_right (not (x.row == m)) _ h) g
 ]
 
-allowed_there : (o : Origin) (p : Place) (x : Form) (u : Text) (a b c : Bool) → not (a || (b || c)) ≡ true
+allowed_there : (o : Origin) (p : Position) (x : Form) (u : Text) (a b c : Bool) → not (a || (b || c)) ≡ true
     → (if a then Err (At 14 (length u)) else (if b then Err (At 26 (length u)) else (if c then Err (At 28 (length u)) else Ok x.row))) ≡ Ok x.row
 allowed_there o p x u true b c h = cc
 allowed_there o p x u false true c h = cc
 allowed_there o p x u false false true h = cc
 allowed_there o p x u false false false h = refl
 
-allowed_row : (o : Origin) (p : Place) (x : Form) (u : Text) → is_allowed o p x.rule ≡ true → allowed o p x u ≡ Ok x.row
+allowed_row : (o : Origin) (p : Position) (x : Form) (u : Text) → is_allowed o p x.rule ≡ true → allowed o p x u ≡ Ok x.row
 allowed_row o p x u h = allowed_there o p x u (barred_following p x.rule) (barred_line o x.rule) (barred_place p x.rule) h
 
 variable_code : (c : ℕ) → spans variable_spans c ≡ true → (is_letter c || c == 64 || c == word.STR_OPEN) ≡ true
@@ -212,7 +212,7 @@ if_other false x y h k = k
 if_row : (b c : Bool) (x y : Result ℕ Stop) → b ≡ c → (if b then x else y) ≡ (if c then x else y)
 if_row b c x y h = ap (λ (d : Bool). if d then x else y) h
 
-at_row : (o : Origin) (p : Place) (xs : List Form) (m : ℕ) (f g : Front) (t : Token) (ts : List Token) (u : Text) → choose xs m f g ≡ true → fronts f (t ∷ ts) ≡ true → fronts g ts ≡ true
+at_row : (o : Origin) (p : Position) (xs : List Form) (m : ℕ) (f g : Front) (t : Token) (ts : List Token) (u : Text) → choose xs m f g ≡ true → fronts f (t ∷ ts) ≡ true → fronts g ts ≡ true
     → Spells o (t ∷ ts) u → skipped o u ≡ u → is_statement xs o p m ≡ true → row_at xs o p u ≡ Ok m
 at_row o p [] m f g t ts u h k l spelled same stated =
     let class = class_says variable_spans o f true (t ∷ ts) u (and_right (m == row.ASSIGNMENT) _ h) k spelled in
@@ -241,10 +241,10 @@ result_row : (b : Bool) (u : Text) (r : Result ℕ Stop) (m : ℕ) (v : Text) �
 result_row true u r m v h k = cc
 result_row false u r m v h k = ap (from u) k
 
-abbrev pub Stands : Origin → Place → ℕ → List Token → Text → Type 0
+abbrev pub Stands : Origin → Position → ℕ → List Token → Text → Type 0
 Stands o p m ts s = (u : Text) × ((statement_row o p s ≡ Ok (m, u)) × Spells o ts u)
 
-stands : (o : Origin) (p : Place) (m : ℕ) (f g : Front) (t : Token) (ts : List Token) (s : Text) → choose forms m f g ≡ true → fronts f (t ∷ ts) ≡ true → fronts g ts ≡ true
+stands : (o : Origin) (p : Position) (m : ℕ) (f g : Front) (t : Token) (ts : List Token) (s : Text) → choose forms m f g ≡ true → fronts f (t ∷ ts) ≡ true → fronts g ts ≡ true
     → opens_statement t ≡ true → is_statement forms o p m ≡ true → Spells o (t ∷ ts) s → Stands o p m (t ∷ ts) s
 unfolding statement_row
 stands o p m f g t ts s h k l opens stated spelled =
@@ -258,7 +258,7 @@ stands o p m f g t ts s h k l opens stated spelled =
     )
 
 -- by its first two tokens
-by_two : (o : Origin) (p : Place) (m : ℕ) (fs gs : List Front) (t : Token) (ts : List Token) (s : Text) → every (λ (f : Front). every (λ (g : Front). choose forms m f g) gs) fs ≡ true
+by_two : (o : Origin) (p : Position) (m : ℕ) (fs gs : List Front) (t : Token) (ts : List Token) (s : Text) → every (λ (f : Front). every (λ (g : Front). choose forms m f g) gs) fs ≡ true
     → some (λ (f : Front). fronts f (t ∷ ts)) fs ≡ true → some (λ (g : Front). fronts g ts) gs ≡ true → opens_statement t ≡ true → is_statement forms o p m ≡ true
     → Spells o (t ∷ ts) s → Stands o p m (t ∷ ts) s
 by_two o p m fs gs t ts s h k l opens stated spelled =
@@ -266,7 +266,7 @@ by_two o p m fs gs t ts s h k l opens stated spelled =
     let g = some_front (λ (y : Front). choose forms m f.0 y) gs ts f.1.0 l in
     stands o p m f.0 g.0 t ts s g.1.0 f.1.1 g.1.1 opens stated spelled
 
-by_one : (o : Origin) (p : Place) (m : ℕ) (fs : List Front) (t : Token) (ts : List Token) (s : Text) → every (λ (f : Front). choose forms m f Any) fs ≡ true
+by_one : (o : Origin) (p : Position) (m : ℕ) (fs : List Front) (t : Token) (ts : List Token) (s : Text) → every (λ (f : Front). choose forms m f Any) fs ≡ true
     → some (λ (f : Front). fronts f (t ∷ ts)) fs ≡ true → opens_statement t ≡ true → is_statement forms o p m ≡ true → Spells o (t ∷ ts) s → Stands o p m (t ∷ ts) s
 by_one o p m fs t ts s h k opens stated spelled =
     let f = some_front (λ (x : Front). choose forms m x Any) fs (t ∷ ts) h k in
@@ -318,7 +318,7 @@ mark_end (Among a b code) is h k = cc
 mark_end i is h k = cc
 
 -- a statement that begins with a word or a sign
-pub marked : (o : Origin) (p : Place) (m : ℕ) (is : List Item) (t : Trees) (more : List Token) (s : Text) → leading is ≡ true → marked_choice m is ≡ true
+pub marked : (o : Origin) (p : Position) (m : ℕ) (is : List Item) (t : Trees) (more : List Token) (s : Text) → leading is ≡ true → marked_choice m is ≡ true
     → ((xs : List Token) (x : Token) → tokens t ++ more ≡ x ∷ xs → opens_statement x ≡ true) → is_statement forms o p m ≡ true → Fits o 32 is t → is_closing more ≡ true
     → Spells o (tokens t ++ more) s → Stands o p m (tokens t ++ more) s
 marked o p m [] t more s led test opens stated fits closed spelled = cc
@@ -333,14 +333,14 @@ marked o p m (i ∷ is) (In n inner ts) more s led test opens stated fits closed
     let there : P (i ∷ is) = subst P (mark_giving i is led) fits in
     absurd (mark_branch o 32 n i is (λ (deep : ℕ) (items : List Item). Fits o deep items inner) (λ (rest : List Item). Fits o 32 rest ts) led there)
 
-unmarked : (o : Origin) (p : Place) (m : ℕ) (xs : List Token) (s : Text) → every (λ (f : Front). choose forms m f Any) (of m).heads ≡ true
+unmarked : (o : Origin) (p : Position) (m : ℕ) (xs : List Token) (s : Text) → every (λ (f : Front). choose forms m f Any) (of m).heads ≡ true
     → some (λ (f : Front). fronts f xs) (of m).heads ≡ true → ((ys : List Token) (x : Token) → xs ≡ x ∷ ys → opens_statement x ≡ true)
     → is_statement forms o p m ≡ true → Spells o xs s → (some (λ (f : Front). fronts f xs) statement_heads ≡ true) → Stands o p m xs s
 unmarked o p m [] s test begun opens stated spelled heads = cc
 unmarked o p m (x ∷ xs) s test begun opens stated spelled heads = by_one o p m (of m).heads x xs s test begun (opens xs x refl) stated spelled
 
 -- a statement is chosen by its tokens
-pub one_statement : (o : Origin) (p : Place) (m : ℕ) (inner : Trees) (more : List Token) (s : Text) → is_statement forms o p m ≡ true → Fits o 32 (row_items m) inner
+pub one_statement : (o : Origin) (p : Position) (m : ℕ) (inner : Trees) (more : List Token) (s : Text) → is_statement forms o p m ≡ true → Fits o 32 (row_items m) inner
     → is_closing more ≡ true → Spells o (tokens inner ++ more) s → Stands o p m (tokens inner ++ more) s
 one_statement o p m inner more s stated fits closed spelled =
     let test = statement_good o p m stated in

@@ -5,7 +5,7 @@ use Rattle.b2_atom.specs.Table.{rows_0, rows_1, rows_2, rows_3, forms}
 use Rattle.b2_atom.specs.Fitting.{is_statement, is_allowed}
 use Rattle.b2_atom.specs.declared.rows.TheConstants as row
 use Rattle.b2_atom.specs.declared.words.Origin.{Origin}
-use Rattle.b2_atom.specs.declared.forms.Place.{Place}
+use Rattle.b2_atom.specs.declared.forms.Position.{Position}
 use Rattle.b2_atom.specs.declared.forms.Form.{Form}
 use Rattle.b2_atom.specs.declared.forms.Item.{Item}
 use Rattle.b2_atom.proofs.Booleans.{and_left, and_right, or_cases, equal}
@@ -48,7 +48,7 @@ unfolding row_items
 row_settled n = one_of_rows (rows_of (n / 64)) (row_place n) (all_rows (n / 64))
 
 -- a test that holds for the row of each form holds for that of each statement
-pub one_of_statements : (test : ℕ → Bool) (o : Origin) (p : Place) (m : ℕ) (fs : List Form) → every_statement test fs ≡ true → is_statement fs o p m ≡ true → test m ≡ true
+pub one_of_statements : (test : ℕ → Bool) (o : Origin) (p : Position) (m : ℕ) (fs : List Form) → every_statement test fs ≡ true → is_statement fs o p m ≡ true → test m ≡ true
 one_of_statements test o p m [] h k = let P : ℕ → Type 0 = λ n. test n ≡ true in subst P (sym (equal m row.ASSIGNMENT k)) h
 one_of_statements test o p m (f ∷ fs) h k = elim (or_cases (f.row == m && is_allowed o p f.rule) (is_statement fs o p m) k) [
   | inl g ↦ (let P : ℕ → Type 0 = λ n. test n ≡ true in subst P (equal f.row m (and_left _ _ g)) (and_left _ _ h))
@@ -59,14 +59,14 @@ forms_good : every_statement good_statement forms ≡ true
 unfolding of_row of row_items
 forms_good = refl
 
-pub statement_good : (o : Origin) (p : Place) (m : ℕ) → is_statement forms o p m ≡ true → good_statement m ≡ true
+pub statement_good : (o : Origin) (p : Position) (m : ℕ) → is_statement forms o p m ≡ true → good_statement m ≡ true
 statement_good o p m h = one_of_statements good_statement o p m forms forms_good h
 
 forms_chosen : every_statement chosen_statement forms ≡ true
 unfolding of_row of row_items
 forms_chosen = refl
 
-pub statement_chosen : (o : Origin) (p : Place) (m : ℕ) → is_statement forms o p m ≡ true → chosen_row m (leading (row_items m)) ≡ true
+pub statement_chosen : (o : Origin) (p : Position) (m : ℕ) → is_statement forms o p m ≡ true → chosen_row m (leading (row_items m)) ≡ true
 statement_chosen o p m h = one_of_statements chosen_statement o p m forms forms_chosen h
 
 -- the tokens of each row may stand side by side, and are good tokens

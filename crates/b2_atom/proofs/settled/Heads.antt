@@ -15,7 +15,7 @@ use Rattle.b2_atom.specs.declared.words.Origin.TheVariants as origin
 use Rattle.b2_atom.specs.declared.forms.Leaf.{Leaf}
 use Rattle.b2_atom.specs.declared.forms.Leaf.TheVariants as leaf
 use Rattle.b2_atom.specs.declared.forms.Start.{Start}
-use Rattle.b2_atom.specs.declared.forms.Place.{Place}
+use Rattle.b2_atom.specs.declared.forms.Position.{Position}
 use Rattle.b2_atom.specs.declared.forms.Item.{Item}
 use Rattle.b2_atom.specs.declared.forms.Item.TheVariants.{Word, Sign, Among, ProgramWord, Ignored, Comma, LeftOut, End, Typed, Part, Maybe, Either, Many, Nest, Statement}
 use Rattle.b2_atom.proofs.Booleans.{not_true, among_inside, and_left, and_right, or_left, or_right, or_one, or_other, or_cases, never, span_of}
@@ -260,7 +260,7 @@ led_second : (s : Start) (n m : ℕ) (xs more : List Token) → Led (of m) xs mo
 led_second s n m xs more (inl h) = inl (h.0, or_other (of n).empty _ h.1)
 led_second s n m xs more (inr h) = inr (some_right _ (of n).heads _ h)
 
-led_statement : (o : Origin) (p : Place) (m : ℕ) (xs more : List Token) → is_statement forms o p m ≡ true → Led (of m) xs more → Led (of_item of (Statement p)) xs more
+led_statement : (o : Origin) (p : Position) (m : ℕ) (xs more : List Token) → is_statement forms o p m ≡ true → Led (of m) xs more → Led (of_item of (Statement p)) xs more
 led_statement o p m xs more h (inl k) = never (of m).empty k.1 (not_true _ (and_left _ _ (statement_good o p m h)))
 led_statement o p m xs more h (inr k) =
     inr (covered_all statement_heads (of m).heads (xs ++ more) (and_left _ _ (and_right (not (of m).empty) _ (statement_good o p m h))) k)

@@ -10,7 +10,7 @@ use Rattle.b2_atom.specs.Table.{forms}
 use Rattle.b2_atom.specs.declared.rows.TheConstants as row
 use Rattle.b2_atom.specs.declared.words.Origin.{Origin}
 use Rattle.b2_atom.specs.declared.forms.Item.{Item}
-use Rattle.b2_atom.specs.declared.forms.Place.{Place}
+use Rattle.b2_atom.specs.declared.forms.Position.{Position}
 use Rattle.b2_atom.specs.declared.forms.Start.{Start}
 use Rattle.b2_atom.proofs.settled.Computed.{statement_good}
 use Rattle.b2_atom.specs.declared.forms.Leaf.TheVariants as leaf
@@ -166,7 +166,7 @@ nest_follows p q tells o room n (i ∷ is) ts more h test fits = cc
 covers_last : (g f : Front) (t : Token) → covers g f ≡ true → fronts f (t ∷ []) ≡ true → fronts g (t ∷ []) ≡ true
 covers_last g f t h k = covered_front g f (t ∷ []) h k
 
-statement_follows : (q : TwoTokens) (o : Origin) (x : Place) (m : ℕ) (more : List Token) → is_statement forms o x m ≡ true → Follows q statement_ends more → Follows q (of m).ends more
+statement_follows : (q : TwoTokens) (o : Origin) (x : Position) (m : ℕ) (more : List Token) → is_statement forms o x m ≡ true → Follows q statement_ends more → Follows q (of m).ends more
 statement_follows q o x m more stated h = λ t k.
     let test = statement_good o x m stated in
     let last = and_right (is_free_row (row_items m) || refuse (of m).tails (None ∷ Spanned 58 58 ∷ [])) _

@@ -5,13 +5,13 @@ use Rattle.b2_machine.specs.declared.solo.StepEnd.TheVariants.{GoesOn, Ready, No
 use Rattle.b2_machine.proofs.Turns.{one_step, at_end}
 use Rattle.b2_machine.proofs.solo.Solo.turn.Goals as goal
 
-pub returns-in-Ready-clause-turned : goal.returns-in-Ready-clause-turned
-returns-in-Ready-clause-turned c =
+pub returns-in-Ready-clause-turn_of : goal.returns-in-Ready-clause-turn_of
+returns-in-Ready-clause-turn_of c =
     let is = subst (λ (h : StepEnd). ◌≡◌ {A = Stepped} (record { after = c.step.new.self; end = h }) (step c.loop.self)) c.in-Ready.is c.in_ok-step.ensures in
     one_step c.args.quota c.loop.counter c.loop.self c.step.new.self Ready c.loop.steps c.loop-test.true is ∙ c.loop.invariant.told
 
-pub returns-in-NoKeys-clause-turned : goal.returns-in-NoKeys-clause-turned
-returns-in-NoKeys-clause-turned c =
+pub returns-in-NoKeys-clause-turn_of : goal.returns-in-NoKeys-clause-turn_of
+returns-in-NoKeys-clause-turn_of c =
     let is = subst (λ (h : StepEnd). ◌≡◌ {A = Stepped} (record { after = c.step.new.self; end = h }) (step c.loop.self)) c.in-NoKeys.is c.in_ok-step.ensures in
     one_step c.args.quota c.loop.counter c.loop.self c.step.new.self NoKeys c.loop.steps c.loop-test.true is ∙ c.loop.invariant.told
 
@@ -23,5 +23,5 @@ loop-preserved c =
       few = omega arith;
     }
 
-pub returns-clause-turned : goal.returns-clause-turned
-returns-clause-turned c = at_end c.args.quota c.loop.counter c.loop.self c.loop.steps c.loop-test.false ∙ c.loop.invariant.told
+pub returns-clause-turn_of : goal.returns-clause-turn_of
+returns-clause-turn_of c = at_end c.args.quota c.loop.counter c.loop.self c.loop.steps c.loop-test.false ∙ c.loop.invariant.told

@@ -12,5 +12,5 @@ returns-clause-code c =
     let common : not_common v s.table ≡ None = subst (λ (s : VarsState). not_common v s.table ≡ None) c.self.view_is c.in_ok-require_common.ensures in
     let same : other_shape v c.args.shape s.table ≡ None = subst (λ (s : VarsState). other_shape v c.args.shape s.table ≡ None) c.self.view_is c.in_ok-require_shape.ensures in
     subst (λ (code : Option ℕ). AnswersOrFails code c.make.result)
-    (sym (fifth (bad_dimensions v c.args.shape) (bad_length v c.args.shape) (not_common v s.table) (other_shape v c.args.shape s.table) (full s.area (with_new v c.args.shape true s.table)) c.in_ok-allow.ensures common same))
+    (sym (fifth (bad_dimensions v c.args.shape) (bad_length v c.args.shape) (not_common v s.table) (other_shape v c.args.shape s.table) (full s.area (with_new v c.args.shape true s.table)) c.in_ok-require_allowed.ensures common same))
     c.make.ensures.code

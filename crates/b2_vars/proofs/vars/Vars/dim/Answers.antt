@@ -11,5 +11,5 @@ returns-clause-code c =
     let s = c.args.self.now in
     let same : other_shape v c.args.shape s.table ≡ None = subst (λ (s : VarsState). other_shape v c.args.shape s.table ≡ None) c.self.view_is c.in_ok-require_shape.ensures in
     subst (λ (code : Option ℕ). AnswersOrFails code c.make.result)
-    (sym (fourth (bad_dimensions v c.args.shape) (bad_length v c.args.shape) (other_shape v c.args.shape s.table) (full s.area (with_new v c.args.shape false s.table)) c.in_ok-allow.ensures same))
+    (sym (fourth (bad_dimensions v c.args.shape) (bad_length v c.args.shape) (other_shape v c.args.shape s.table) (full s.area (with_new v c.args.shape false s.table)) c.in_ok-require_allowed.ensures same))
     c.make.ensures.code

@@ -1,6 +1,6 @@
 use Rattle.std.proofs.Common.{◌≡◌, drop}
 use Rattle.b2_machine.specs.Machine.{assigned}
-use Rattle.b2_machine.proofs.solo.assign.Given as goal
+use Rattle.b2_machine.proofs.solo.assign_letters.Given as goal
 
 -- the letters that are left, assigned from here, are all assigned
 abbrev pub invariant-loop-letter : goal.invariant-loop-letter
