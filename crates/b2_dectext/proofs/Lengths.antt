@@ -1,15 +1,11 @@
--- How many bytes of a text there are, by what it begins with.
-use Rattle.std.proofs.Common.{◌≡◌, ℕ, ◌<◌, ◌≤◌, true, List, [], ◌∷◌, length, take, arith, ap, ◌∙◌, ◌==◌, eqb-true}
+-- The digits at the front of a text.
+use Rattle.std.proofs.Common.{ℕ, ◌<◌, ◌≤◌, List, length, take, arith, ap, ◌∙◌}
 use Rattle.std.proofs.lemmas.List.Sums.{prefix_len_passes, prefix_len-le-length}
 use Rattle.std.proofs.lemmas.List.{get_or-take, length-take}
 use Rattle.std.specs.List.{prefix_len}
 use Rattle.b2_base.proofs.DigitsWidth.{digits_width-prefix_len}
-use Rattle.b2_base.specs.Lexical.{is_digit, digits_width, first}
+use Rattle.b2_base.specs.Lexical.{is_digit, digits_width}
 use Rattle.b2_dectext.specs.Digits.{AreDigits}
-
-pub first-some : (b : ℕ) (text : List ℕ) → 0 < b → (first text == b) ≡ true → 0 < length text
-first-some b [] some e = absurd (omega (arith, eqb-true 0 b e))
-first-some b (c ∷ cs) some e = omega arith
 
 pub digits_width-le-length : (text : List ℕ) → digits_width text ≤ length text
 digits_width-le-length text = rw (digits_width-prefix_len text) (prefix_len-le-length is_digit text)

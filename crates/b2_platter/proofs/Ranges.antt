@@ -15,15 +15,6 @@ range-end k n h = let e : n - k ≡ zero = omega arith in ap (range_with_len k) 
 pub list_all_step : (p : ℕ → Bool) (k n : ℕ) → k < n → list_all p (range_with_len k (n - k)) ≡ (p k && list_all p (range_with_len (k + 1) (n - (k + 1))))
 list_all_step p k n h = ap (list_all p) (range-step k n h)
 
-pub list_any_step : (p : ℕ → Bool) (k n : ℕ) → k < n → list_any p (range_with_len k (n - k)) ≡ (p k || list_any p (range_with_len (k + 1) (n - (k + 1))))
-list_any_step p k n h = ap (list_any p) (range-step k n h)
-
-pub list_all_end : (p : ℕ → Bool) (k n : ℕ) → n ≤ k → list_all p (range_with_len k (n - k)) ≡ true
-list_all_end p k n h = ap (list_all p) (range-end k n h)
-
-pub list_any_end : (p : ℕ → Bool) (k n : ℕ) → n ≤ k → list_any p (range_with_len k (n - k)) ≡ false
-list_any_end p k n h = ap (list_any p) (range-end k n h)
-
 pub here : (a k : ℕ) → a ≤ k → (a ≡ k) ⊎ (a + 1 ≤ k)
 here a k low = elim (cases_lt a k) as (λ _. (a ≡ k) ⊎ (a + 1 ≤ k)) [ inl l ↦ inr (omega arith) | inr l ↦ inl (omega arith) ]
 
@@ -46,19 +37,6 @@ list_all-from p a (suc n) h =
 pub all_more : (p : ℕ → Bool) (k n : ℕ) (whole : Bool) → k < n → list_all p (range_with_len k (n - k)) ≡ whole → p k ≡ true → list_all p (range_with_len (k + 1) (n - (k + 1))) ≡ whole
 all_more p k n whole h was passes =
     ap (λ (b : Bool). b && list_all p (range_with_len (k + 1) (n - (k + 1)))) (sym passes) ∙ sym (list_all_step p k n h) ∙ was
-
--- and ends where it doesn't
-pub all_over : (p : ℕ → Bool) (k n : ℕ) (whole : Bool) → k < n → list_all p (range_with_len k (n - k)) ≡ whole → p k ≡ false → false ≡ whole
-all_over p k n whole h was fails =
-    ap (λ (b : Bool). b && list_all p (range_with_len (k + 1) (n - (k + 1)))) (sym fails) ∙ sym (list_all_step p k n h) ∙ was
-
-pub any_more : (p : ℕ → Bool) (k n : ℕ) (whole : Bool) → k < n → list_any p (range_with_len k (n - k)) ≡ whole → p k ≡ false → list_any p (range_with_len (k + 1) (n - (k + 1))) ≡ whole
-any_more p k n whole h was fails =
-    ap (λ (b : Bool). b || list_any p (range_with_len (k + 1) (n - (k + 1)))) (sym fails) ∙ sym (list_any_step p k n h) ∙ was
-
-pub any_over : (p : ℕ → Bool) (k n : ℕ) (whole : Bool) → k < n → list_any p (range_with_len k (n - k)) ≡ whole → p k ≡ true → true ≡ whole
-any_over p k n whole h was passes =
-    ap (λ (b : Bool). b || list_any p (range_with_len (k + 1) (n - (k + 1)))) (sym passes) ∙ sym (list_any_step p k n h) ∙ was
 
 -- a number of the range that passes
 pub list_any-found : (p : ℕ → Bool) (a n : ℕ) → list_any p (range_with_len a n) ≡ true → (k : ℕ) × (a ≤ k) × (k < a + n) × (p k ≡ true)
