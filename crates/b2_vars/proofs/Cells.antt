@@ -1,5 +1,5 @@
 -- Where a value stands: its place is one of the shape's, and its bytes are among the variable's.
-use Rattle.std.proofs.Common.{◌≡◌, ◌≢◌, ℕ, suc, ◌+◌, ◌-◌, ◌*◌, ◌/◌, ◌<◌, ◌≤◌, max, Bool, true, false, cond, ◌&&◌, ◌==◌, nat_le, List, length, Option, Some, None, IfSome, refl, ap, sym, subst, ◌∙◌, arith, true≢false}
+use Rattle.std.proofs.Common.{◌≡◌, ℕ, suc, ◌+◌, ◌-◌, ◌*◌, ◌/◌, ◌<◌, ◌≤◌, max, Bool, true, false, cond, ◌&&◌, length, Option, Some, IfSome, refl, ap, sym, subst, ◌∙◌, arith, true≢false}
 use Rattle.std.proofs.lemmas.Nat.{mul-add-lt, div-mul-add}
 use Rattle.std.proofs.Math.Nat.{mul-le-mul_right}
 use Rattle.std.proofs.lemmas.Bool.Decides.{nat_tests}
@@ -7,7 +7,7 @@ use Rattle.std.specs.Option.{unwrap_or}
 use Rattle.std.specs.FinMap.{get}
 use Rattle.b2_vars.specs.declared.name.Var.{Var}
 use Rattle.b2_vars.specs.declared.shape.Shape.{Shape}
-use Rattle.b2_vars.specs.Shapes.{is_subscript, has_cell, cell_at, cells, number_cells, alpha_bytes, scalar_shape}
+use Rattle.b2_vars.specs.Shapes.{is_subscript, has_cell, cell_at, cells, number_cells, scalar_shape}
 use Rattle.b2_vars.specs.Variables.{VariableState, fresh}
 use Rattle.b2_vars.specs.Tables.{Table, IsSound, IsVariable, shape_at, variable_at}
 use Rattle.b2_vars.specs.Calls.{IsPart, part_place}

@@ -1,5 +1,5 @@
 -- The common variables alone: what they are, and what they take.
-use Rattle.std.proofs.Common.{◌≡◌, ◌≤◌, ◌+◌, ℕ, zero, suc, Bool, true, false, cond, List, [], ◌∷◌, drop, filter, slice_get, Option, None, Some, refl, ap, sym, ◌∙◌, arith, true≢false, is_some, Ordering, Less, Equal, Greater}
+use Rattle.std.proofs.Common.{◌≡◌, ◌≤◌, ◌+◌, ℕ, zero, suc, Bool, true, false, cond, [], ◌∷◌, drop, filter, slice_get, Option, None, Some, refl, ap, sym, ◌∙◌, arith, true≢false, is_some, Ordering, Less, Equal, Greater}
 use Rattle.std.specs.List.{IsDistinct}
 use Rattle.std.specs.Map.{keys_of}
 use Rattle.std.specs.Option.{option_map_or, unwrap_or}

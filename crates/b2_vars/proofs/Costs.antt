@@ -1,5 +1,5 @@
 -- What a variable of each kind takes.
-use Rattle.std.proofs.Common.{◌≡◌, ℕ, ◌+◌, ◌*◌, max, Bool, true, false, cond, ◌&&◌, ◌==◌, refl, ap, sym, ◌∙◌, arith, true≢false}
+use Rattle.std.proofs.Common.{◌≡◌, ℕ, ◌+◌, ◌*◌, max, Bool, true, false, cond, ◌&&◌, ◌==◌, ap, sym, ◌∙◌, arith}
 use Rattle.std.proofs.lemmas.Bool.Decides.{nat_tests}
 use Rattle.b2_vars.specs.declared.name.Var.{Var}
 use Rattle.b2_vars.specs.declared.shape.Shape.{Shape}

@@ -1,5 +1,5 @@
 -- Bytes that are overwritten from a place on: as many as before, and the rest stays.
-use Rattle.std.proofs.Common.{◌≡◌, ℕ, ◌+◌, ◌-◌, ◌≤◌, List, ◌++◌, take, drop, length, arith, length-append, length-drop, ap, sym, ◌∙◌}
+use Rattle.std.proofs.Common.{◌≡◌, ℕ, ◌+◌, ◌≤◌, List, ◌++◌, take, drop, length, arith, length-append, length-drop, ap, sym, ◌∙◌}
 use Rattle.std.proofs.lemmas.List.{length-take, length-take-le, take_all, drop-drop}
 use Rattle.std.proofs.Math.Seq.{take-append_seam, drop-append_seam, drop-append-add}
 use Rattle.b2_vars.specs.Variables.{overwritten, part}

@@ -7,7 +7,7 @@ use Rattle.b2_vars.specs.declared.name.Var.{Var}
 use Rattle.b2_vars.specs.declared.shape.Shape.{Shape}
 use Rattle.b2_vars.specs.Shapes.{scalar_shape, has_cell, cell_at, cells}
 use Rattle.b2_vars.specs.Variables.{VariableState, fresh}
-use Rattle.b2_vars.specs.Tables.{Table, VarsState, shape_at, variable_at}
+use Rattle.b2_vars.specs.Tables.{Table, VarsState, shape_at}
 use Rattle.b2_vars.specs.Calls.{made, with_new, with_scalar, no_part, IsCell, IsPart}
 use Rattle.b2_vars.proofs.EntriesAsMap.{get_put}
 use Rattle.b2_vars.proofs.Cells.{variable_at-Some, cell-lt}

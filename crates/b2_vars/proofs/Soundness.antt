@@ -1,5 +1,5 @@
 -- What holds of the variables after one of them is made or changed.
-use Rattle.std.proofs.Common.{◌≡◌, ◌≢◌, ℕ, zero, suc, ◌*◌, ◌==◌, IsSome, slice_get, ◌+◌, ◌-◌, ◌≤◌, ◌<◌, Bool, true, false, cond, not, nat_lt, List, length, Option, Some, None, IfSome, is_eq, is_some, refl, ap, sym, subst, ◌∙◌, arith, Ordering, Less, Equal, Greater, true≢false}
+use Rattle.std.proofs.Common.{◌≡◌, ℕ, ◌*◌, ◌==◌, IsSome, slice_get, ◌+◌, ◌-◌, ◌≤◌, ◌<◌, Bool, true, false, cond, List, Option, Some, None, IfSome, is_eq, is_some, refl, ap, sym, subst, ◌∙◌, arith, Ordering, Less, Equal, Greater, true≢false}
 use Rattle.std.proofs.lemmas.List.{length-replicate, length-take-le, length-set}
 use Rattle.std.proofs.lemmas.Bool.Decides.{nat_tests}
 use Rattle.std.specs.Ordering.{eq_by_cmp}

@@ -3,13 +3,11 @@ use Rattle.std.specs.Prelude.{◌≡◌, ℕ, ◌+◌, ◌*◌, Bool, true, fals
 use Rattle.std.specs.FinMap as map
 use Rattle.std.specs.Option.{option_map_or}
 use Rattle.b2_base.specs.declared.codes.TheConstants.{A02_DATA_AREA, P34_RANGE, P50_DIMENSION, P53_LENGTH, P55_SHAPE_DIFFERS, P56_NOT_COMMON, P57_SUBSCRIPT, P59_NO_ARRAY}
-use Rattle.b2_dec.specs.Number.{Number}
-use Rattle.b2_dec.specs.declared.values.Value.{Value}
 use Rattle.b2_vars.specs.declared.name.Var.{Var}
 use Rattle.b2_vars.specs.declared.shape.Shape.{Shape}
 use Rattle.b2_vars.specs.Answers.{code_if, first_of}
 use Rattle.b2_vars.specs.Shapes.{has_dimensions, has_length, is_same_shape, scalar_shape, size_of, has_cell, cell_at, cells}
-use Rattle.b2_vars.specs.Variables.{VariableState, fresh, part, with_number, with_value, with_bytes, reshaped}
+use Rattle.b2_vars.specs.Variables.{VariableState, fresh, part, with_bytes}
 use Rattle.b2_vars.specs.Tables.{Table, VarsState, count_of, variable_at, shape_at}
 
 -- a new variable under a name where nothing stands, and else all as before
@@ -37,7 +35,7 @@ with_change v change s = with_variable v (change (variable_at v s.table)) s
 abbrev pub with_bytes_of : Var → ℕ → VarsState → List ℕ → VarsState
 with_bytes_of v from s bytes = with_change v (λ x. with_bytes from x bytes) s
 
--- so many bytes from a place on of one variable are changed to others, which the relation allows
+-- n bytes from a place on of one variable are changed to others, which the relation allows
 abbrev pub ChangesTable : (List ℕ → List ℕ → Type 0) → Var → ℕ → ℕ → Table → Table → Type 0
 ChangesTable gives v from n old new =
     (y : List ℕ) × (length y ≡ n) × gives (part from n (variable_at v old).bytes) y × (new ≡ map.insert old v (with_bytes from (variable_at v old) y))

@@ -74,6 +74,6 @@ abbrev pub is_alpha : Value → Bool
 is_alpha (value.Number n) = false
 is_alpha (value.Alpha bytes) = true
 
--- so many bytes from a place on are changed to others, which the relation allows
+-- n bytes from a place on are changed to others, which the relation allows
 abbrev pub ChangesBytes : (List ℕ → List ℕ → Type 0) → ℕ → ℕ → VariableState → VariableState → Type 0
 ChangesBytes gives from n old new = (y : List ℕ) × (length y ≡ n) × gives (part from n old.bytes) y × (new ≡ with_bytes from old y)

@@ -211,7 +211,7 @@ pub fn set_number(table: &mut Table, v: Var, cell: usize, n: Dec)
     variable.set_number(cell, n);
 }
 
-/// Assigns to so many bytes from a place on: cut or padded with blanks.
+/// Assigns to the `n` bytes after the first `from`: cut or padded with blanks.
 pub fn assign(table: &mut Table, v: Var, from: usize, n: usize, bytes: &[u8])
     requires there { IsSome (map.get (table_of table.old.entries) v) }
     requires room { from + n ≤ length (variable_at v (table_of table.old.entries)).bytes }
@@ -222,7 +222,7 @@ pub fn assign(table: &mut Table, v: Var, from: usize, n: usize, bytes: &[u8])
     variable.assign(from, n, bytes);
 }
 
-/// Puts bytes from a place on.
+/// Overwrites the bytes after the first `from`.
 pub fn set_part(table: &mut Table, v: Var, from: usize, bytes: &[u8])
     requires there { IsSome (map.get (table_of table.old.entries) v) }
     requires room { from + length bytes.now ≤ length (variable_at v (table_of table.old.entries)).bytes }
@@ -243,7 +243,7 @@ pub fn reshape(table: &mut Table, v: Var, shape: Shape)
     variable.reshape(v, shape);
 }
 
-/// Hands so many bytes from a place on to a closure, which may change them.
+/// Hands the `n` bytes after the first `from` to a closure, which may change them.
 pub fn change_part<F: FnOnce(&mut [u8])>(
     table: &mut Table,
     v: Var,

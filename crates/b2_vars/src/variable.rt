@@ -91,7 +91,7 @@ impl Variable {
         self.numbers[cell] = n;
     }
 
-    /// Puts bytes from a place on.
+    /// Overwrites the bytes after the first `from`.
     pub fn set_part(&mut self, from: usize, bytes: &[u8])
         requires { from + length bytes.now ≤ length self.old.bytes }
         ensures { self.new ≡ with_bytes from self.old bytes.now }
@@ -99,7 +99,7 @@ impl Variable {
         write(&mut self.bytes, from, bytes);
     }
 
-    /// Assigns to so many bytes from a place on: cut or padded with blanks.
+    /// Assigns to the `n` bytes after the first `from`: cut or padded with blanks.
     pub fn assign(&mut self, from: usize, n: usize, bytes: &[u8])
         requires { from + n ≤ length self.old.bytes }
         ensures { self.new ≡ with_bytes from self.old (padded n bytes.now) }
@@ -107,7 +107,7 @@ impl Variable {
         assign(&mut self.bytes, from, n, bytes);
     }
 
-    /// Hands so many bytes from a place on to a closure, which may change them.
+    /// Hands the `n` bytes after the first `from` to a closure, which may change them.
     pub fn change_part<F: FnOnce(&mut [u8])>(&mut self, from: usize, n: usize, change: F)
         requires room { from + n ≤ length self.old.bytes }
         requires callable { F.IsAlwaysCallable change }
@@ -145,7 +145,7 @@ impl Variable {
     }
 }
 
-/// Writes bytes from a place on.
+/// Overwrites the bytes after the first `from`.
 fn write(all: &mut [u8], from: usize, bytes: &[u8])
     requires { from + length bytes.now ≤ length all.old }
     ensures { all.new ≡ overwritten from bytes.now all.old }
@@ -153,7 +153,7 @@ fn write(all: &mut [u8], from: usize, bytes: &[u8])
     all[from..from + bytes.len()].copy_from_slice(bytes);
 }
 
-/// Assigns to so many bytes from a place on.
+/// Assigns to the `n` bytes after the first `from`.
 fn assign(all: &mut [u8], from: usize, n: usize, bytes: &[u8])
     requires { from + n ≤ length all.old }
     ensures { all.new ≡ overwritten from (padded n bytes.now) all.old }
@@ -161,7 +161,7 @@ fn assign(all: &mut [u8], from: usize, n: usize, bytes: &[u8])
     b2_alpha::assign(&mut all[from..from + n], bytes);
 }
 
-/// Hands so many bytes from a place on to a closure.
+/// Hands the `n` bytes after the first `from` to a closure.
 fn change_bytes<F: FnOnce(&mut [u8])>(all: &mut [u8], from: usize, n: usize, change: F)
     requires room { from + n ≤ length all.old }
     requires callable { F.IsAlwaysCallable change }

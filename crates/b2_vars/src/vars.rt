@@ -48,7 +48,7 @@ impl Model for Vars {
 }
 
 impl Vars {
-    /// No variables, in an area of so many bytes. It takes no memory.
+    /// No variables, in an area of `area` bytes. It takes no memory.
     pub fn new(alloc: Global, area: usize) -> Result<Vars, NoMemory>
         ensures { result ≡ Ok (record { area = area; table = map.empty }) }
     {

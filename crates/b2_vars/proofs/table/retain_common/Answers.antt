@@ -1,7 +1,6 @@
-use Rattle.std.proofs.Common.{◌≡◌, List, filter, rules, ap, sym, arith, ◌∙◌}
+use Rattle.std.proofs.Common.{◌≡◌, filter, rules, ap, arith, ◌∙◌}
 use Rattle.b2_vars.specs.Tables.{costs, table_of}
 use Rattle.indexmap.proofs.CallerLemmas.{filter-RetainsPairs}
-use Rattle.b2_vars.proofs.Counts.{Entries}
 use Rattle.b2_vars.proofs.Commons.{costs_of_distinct, costs_filter, table_common}
 use Rattle.b2_vars.proofs.table.retain_common.Goals as goal
 

@@ -2,7 +2,6 @@ use Rattle.std.proofs.Common.{ap, sym, ◌∙◌, arith}
 use Rattle.std.specs.Option.{option_map}
 use Rattle.std.specs.Map.Iter.{deref_pair}
 use Rattle.b2_vars.specs.Shapes.{cost}
-use Rattle.b2_vars.specs.declared.shape.Shape.{Shape}
 use Rattle.b2_vars.proofs.Commons.{costs_step}
 use Rattle.b2_vars.proofs.table.total.Goals as goal
 

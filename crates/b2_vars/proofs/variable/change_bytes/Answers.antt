@@ -1,4 +1,4 @@
-use Rattle.std.proofs.Common.{◌≡◌, ◌+◌, ◌-◌, ◌++◌, ◌∙◌, ap, sym, ℕ, List, length, take, drop, arith, refl, length-drop}
+use Rattle.std.proofs.Common.{◌≡◌, ◌+◌, ◌-◌, ◌++◌, ◌∙◌, ap, sym, ℕ, length, take, drop, arith, refl, length-drop}
 use Rattle.std.proofs.lemmas.List.{length-take-le}
 use Rattle.b2_vars.proofs.Overwriting.{overwritten-within}
 use Rattle.b2_vars.proofs.variable.change_bytes.Goals as goal

@@ -1,9 +1,8 @@
-use Rattle.std.proofs.Common.{◌≡◌, ◌+◌, ℕ, ap, sym, subst, ◌∙◌, arith, Option, None, Some, IsSome}
+use Rattle.std.proofs.Common.{◌≡◌, ◌+◌, ℕ, ap, sym, subst, ◌∙◌, arith, None, Some, IsSome}
 use Rattle.std.specs.FinMap as map
 use Rattle.b2_vars.specs.Shapes.{cost}
 use Rattle.b2_vars.specs.Variables.{VariableState, fresh}
 use Rattle.b2_vars.specs.Tables.{VarsState, Table, IsSound, table_of}
-use Rattle.b2_vars.specs.Calls.{full}
 use Rattle.b2_vars.proofs.Refusals.{memory_fails}
 use Rattle.b2_vars.proofs.Soundness.{full-new, room-new, sound-new, found-put, fresh-variable}
 use Rattle.b2_vars.proofs.vars.Vars.add.Goals as goal

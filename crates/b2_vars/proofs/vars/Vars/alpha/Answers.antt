@@ -1,4 +1,4 @@
-use Rattle.std.proofs.Common.{◌≡◌, ◌+◌, ◌*◌, ◌≤◌, ℕ, length, subst, sym}
+use Rattle.std.proofs.Common.{◌+◌, ◌*◌, ◌≤◌, ℕ, length, subst, sym}
 use Rattle.b2_vars.specs.Tables.{table_of}
 use Rattle.b2_vars.proofs.Cells.{sound-Some, value-within}
 use Rattle.b2_vars.proofs.vars.Vars.alpha.Goals as goal

@@ -1,5 +1,5 @@
-use Rattle.std.proofs.Common.{◌≡◌, ◌+◌, ◌≤◌, ℕ, List, length, ap, sym, subst, ◌∙◌, arith}
-use Rattle.b2_vars.specs.Tables.{VarsState, Table, IsSound, table_of}
+use Rattle.std.proofs.Common.{ap, sym, subst, arith}
+use Rattle.b2_vars.specs.Tables.{VarsState, IsSound, table_of}
 use Rattle.b2_vars.specs.Calls.{IsPart, part_place}
 use Rattle.b2_vars.proofs.Cells.{part-within}
 use Rattle.b2_vars.proofs.Soundness.{sound-bytes, sound-found}

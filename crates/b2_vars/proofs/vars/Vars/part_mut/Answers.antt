@@ -1,7 +1,6 @@
-use Rattle.std.proofs.Common.{◌≡◌, ◌+◌, ◌≤◌, ℕ, List, length, ap, sym, subst, ◌∙◌, arith, IfSome, IsSome, Option}
-use Rattle.std.specs.FinMap as map
+use Rattle.std.proofs.Common.{ℕ, length, ap, sym, subst, ◌∙◌, arith, IfSome, Option}
 use Rattle.b2_vars.specs.Variables.{VariableState}
-use Rattle.b2_vars.specs.Tables.{VarsState, IsPlaceOf, table_of, variable_at}
+use Rattle.b2_vars.specs.Tables.{VarsState, IsPlaceOf, table_of}
 use Rattle.b2_vars.specs.Calls.{IsPart, part_place}
 use Rattle.b2_vars.proofs.Cells.{part-within, variable_at-Some}
 use Rattle.b2_vars.proofs.Soundness.{sound-lent, sound-found}

@@ -1,6 +1,5 @@
-use Rattle.std.proofs.Common.{◌≤◌, ◌≡◌, ℕ, IsSome, ap, sym, subst, arith}
+use Rattle.std.proofs.Common.{◌≤◌, IsSome, ap, sym, subst, arith}
 use Rattle.std.specs.FinMap as map
-use Rattle.b2_vars.specs.declared.shape.Shape.{Shape}
 use Rattle.b2_vars.specs.Shapes.{size_of, cost}
 use Rattle.b2_vars.specs.Tables.{VarsState, IsSound, table_of, shape_at}
 use Rattle.b2_vars.proofs.Soundness.{sound-reshaped, found-le}
