@@ -13,8 +13,8 @@ blank = 32
 abbrev pub quote : ℕ
 quote = 34
 
-abbrev pub hash : ℕ
-hash = 35
+abbrev pub number_sign : ℕ
+number_sign = 35
 
 abbrev pub dollar : ℕ
 dollar = 36

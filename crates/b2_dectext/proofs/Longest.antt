@@ -7,7 +7,7 @@ use Rattle.b2_base.specs.Byte as byte
 use Rattle.b2_base.specs.Lexical.{is_digit, digits_width, first}
 use Rattle.b2_dec.specs.Number.{Number}
 use Rattle.b2_dectext.specs.Digits.{AreDigits}
-use Rattle.b2_dectext.specs.NumberText.{Parts, sign_len, unsigned, whole_part, fraction_part, point_len, mantissa_len, exponent_digits, exponent_len, number_len, number_value, parts_of, value_of}
+use Rattle.b2_dectext.specs.NumberText.{Parts, sign_len, unsigned, whole_part, fraction_part, point_len, mantissa_len, exponent_digits, exponent_len, number_len, number_value, parts_of, parts_value}
 use Rattle.b2_dectext.specs.Grammar.{Sign, Spelling, sign_text, point_text, exponent_text, spelled, fraction_digits, parts, is_minus, IsSpelling, IsNumberText, IsLongest}
 use Rattle.b2_dectext.specs.Grammar as grammar
 use Rattle.b2_dectext.proofs.Lengths.{digits_width-le-length}
@@ -238,7 +238,7 @@ unfolding whole_part
 whole_part-is w r n = ap (λ k. take k (w ++ r)) n ∙ take-append_seam w r
 
 pub plain-read : (g : Sign) (w : List ℕ) (f : Option (List ℕ)) → AreDigits w → AreDigits (fraction_digits f) → 0 < length w + length (fraction_digits f)
-    → IsReadWhole (spelled (plain g w f)) (value_of (parts (plain g w f)))
+    → IsReadWhole (spelled (plain g w f)) (parts_value (parts (plain g w f)))
 unfolding number_len
 plain-read g w f hw hf some =
     let rest : List ℕ = point_text f ++ [] in
@@ -259,7 +259,7 @@ plain-read g w f hw hf some =
     record {
       len = rw there (omega (arith, sign, m, found, none, count));
       some = let first : mantissa_len (unsigned text) ≡ 0 → ⊥ = eqb-false _ 0 there in rw there (omega arith);
-      value = ap value_of (
+      value = ap parts_value (
           parts-made text body same
           ∙ ap (λ b. made b (whole_part body) (fraction_part (drop (digits_width body) body)) (drop (mantissa_len body) body)) (sign-begins g body begun)
           ∙ ap (λ t. made (is_minus g) t (fraction_part (drop (digits_width body) body)) (drop (mantissa_len body) body)) (whole_part-is w rest n)

@@ -15,7 +15,7 @@ use Rattle.b2_dec.specs.Rounding.{rnd}
 use Rattle.b2_dec.proofs.TenLemmas.{ten_pos}
 use Rattle.b2_dec.proofs.Exact.{rnd-digits, in_range-number, rnd-zero}
 use Rattle.b2_dec.proofs.Ranks.{thirteen}
-use Rattle.b2_dectext.specs.NumberText.{number_len, number_read, in_result, value_of}
+use Rattle.b2_dectext.specs.NumberText.{number_len, number_read, in_result, parts_value}
 use Rattle.b2_dectext.specs.Printed.{after_point, with_point, is_plain, shown_size, without_spaces, printed}
 use Rattle.b2_dectext.specs.Grammar.{Sign, Spelling, sign_text, point_text, spelled, fraction_digits, parts, is_minus}
 use Rattle.b2_dectext.specs.Grammar as grammar
@@ -207,8 +207,8 @@ zero-shown : spelled (plain grammar.unsigned (48 ∷ []) None) ≡ without_space
 unfolding shown_size
 zero-shown = refl
 
-zero-value : value_of (parts (plain grammar.unsigned (48 ∷ []) None)) ≡ Ok zero_number
-unfolding value_of
+zero-value : parts_value (parts (plain grammar.unsigned (48 ∷ []) None)) ≡ Ok zero_number
+unfolding parts_value
 zero-value = rnd-zero Round false 1
 
 zero-digit : (k : ℕ) → k < 1 → is_digit (get_or (48 ∷ []) k 0) ≡ true
@@ -229,8 +229,8 @@ number-shown x some low high =
     ∙ ap (λ t. (if x.neg then 45 ∷ [] else []) ++ t) (shown_size-fixed x some low high)
 
 number-value : (x : Number) (w t : List ℕ) → rnd Round x.neg (digits_value (w ++ t) * 10 ^ 0) (10 ^ (length t + 0)) ≡ Ok x
-    → value_of (parts (plain (sign_for x.neg) w (fraction_for t))) ≡ Ok x
-unfolding value_of
+    → parts_value (parts (plain (sign_for x.neg) w (fraction_for t))) ≡ Ok x
+unfolding parts_value
 number-value x w t h =
     ap (λ s. rnd Round s (digits_value (w ++ fraction_digits (fraction_for t)) * 10 ^ 0) (10 ^ (length (fraction_digits (fraction_for t)) + 0))) (sign_for-minus x.neg)
     ∙ ap (λ u. rnd Round x.neg (digits_value (w ++ u) * 10 ^ 0) (10 ^ (length u + 0))) (fraction_for-digits t) ∙ h

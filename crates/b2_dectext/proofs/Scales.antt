@@ -11,7 +11,7 @@ use Rattle.b2_dec.proofs.Rounds.{after_carry-large}
 use Rattle.b2_dec.proofs.Exact.{rnd-none}
 use Rattle.std.proofs.lemmas.List.Sums.{fold-append}
 use Rattle.b2_dectext.specs.Digits.{IsLeading, value_after, digits_value}
-use Rattle.b2_dectext.specs.NumberText.{Parts, value_of}
+use Rattle.b2_dectext.specs.NumberText.{Parts, parts_value}
 
 nothing_left : (n m r : ℕ) → IsLeading n m r → m < 10000000000000 → r ≡ 0
 nothing_left n m zero h small = refl
@@ -131,13 +131,13 @@ written-none neg n more tens low h =
 
 -- the number of given parts, as code finds it
 pub value_of-divided : (p : Parts) → p.exponent_neg ≡ true
-    → rnd Round p.neg (value_after (value_after 0 p.whole) p.fraction * 10 ^ 0) (10 ^ (length p.fraction + digits_value p.exponent)) ≡ value_of p
-unfolding value_of
+    → rnd Round p.neg (value_after (value_after 0 p.whole) p.fraction * 10 ^ 0) (10 ^ (length p.fraction + digits_value p.exponent)) ≡ parts_value p
+unfolding parts_value
 value_of-divided p e = rw (e, fold-append (λ m d. 10 * m + (d - 48)) 0 p.whole p.fraction) refl
 
 pub value_of-multiplied : (p : Parts) → p.exponent_neg ≡ false
-    → rnd Round p.neg (value_after (value_after 0 p.whole) p.fraction * 10 ^ digits_value p.exponent) (10 ^ length p.fraction) ≡ value_of p
-unfolding value_of
+    → rnd Round p.neg (value_after (value_after 0 p.whole) p.fraction * 10 ^ digits_value p.exponent) (10 ^ length p.fraction) ≡ parts_value p
+unfolding parts_value
 value_of-multiplied p e =
     ap (λ k. rnd Round p.neg (value_after (value_after 0 p.whole) p.fraction * 10 ^ digits_value p.exponent) (10 ^ k)) (sym (add-zero (length p.fraction)))
     ∙ rw (e, fold-append (λ m d. 10 * m + (d - 48)) 0 p.whole p.fraction) refl

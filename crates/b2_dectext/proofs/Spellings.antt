@@ -6,7 +6,7 @@ use Rattle.std.proofs.lemmas.List.{length-take, length-take-le, drop-drop}
 use Rattle.b2_base.specs.Byte as byte
 use Rattle.b2_base.specs.Lexical.{digits_width, first}
 use Rattle.b2_dectext.specs.Digits.{AreDigits}
-use Rattle.b2_dectext.specs.NumberText.{sign_len, unsigned, whole_part, fraction_part, point_len, mantissa_len, exponent_digits, exponent_len, number_len, parts_of, value_of, number_value}
+use Rattle.b2_dectext.specs.NumberText.{sign_len, unsigned, whole_part, fraction_part, point_len, mantissa_len, exponent_digits, exponent_len, number_len, parts_of, parts_value, number_value}
 use Rattle.b2_dectext.specs.Grammar.{Sign, Spelling, sign_text, point_text, exponent_text, spelled, fraction_digits, parts, IsSpelling, IsNumberText, is_minus}
 use Rattle.b2_dectext.specs.Grammar as grammar
 use Rattle.b2_dectext.proofs.Lengths.{digits_at_front, digits_width-le-length}
@@ -186,5 +186,5 @@ read-number text some =
           take-add (sign_len text + m) (exponent_len rest) text ∙ ap₂ (λ s t. s ++ t) front back
           ∙ append_assoc (sign_text (sign_of text)) _ _
           ∙ ap (λ t. sign_text (sign_of text) ++ t) (append_assoc (whole_part body) _ _) in
-          rw other (record { spelling = read_spelling text; fine = read-fine text there; text_is = sym all; value = ap value_of (read-parts text) })
+          rw other (record { spelling = read_spelling text; fine = read-fine text there; text_is = sym all; value = ap parts_value (read-parts text) })
     ]

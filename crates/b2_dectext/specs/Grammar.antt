@@ -3,7 +3,7 @@ use Rattle.std.specs.Prelude.{◌≡◌, ℕ, ◌+◌, ◌<◌, ◌≤◌, Bool,
 use Rattle.b2_base.specs.Byte as byte
 use Rattle.b2_dectext.specs.Digits.{AreDigits}
 use Rattle.b2_dec.specs.Number.{Number}
-use Rattle.b2_dectext.specs.NumberText.{Parts, value_of}
+use Rattle.b2_dectext.specs.NumberText.{Parts, parts_value}
 
 pub data Sign : Type 0 where
   unsigned : Sign
@@ -70,7 +70,7 @@ pub record IsNumberText (text : List ℕ) (number : Result Number ℕ) : Type 0 
   pub spelling : Spelling
   pub fine : IsSpelling spelling
   pub text_is : spelled spelling ≡ text
-  pub value : value_of (parts spelling) ≡ number
+  pub value : parts_value (parts spelling) ≡ number
 
 -- n is the length of the longest number at the front of a text, and 0 where none stands there.
 pub record IsLongest (text : List ℕ) (n : ℕ) (number : Result Number ℕ) : Type 0 where

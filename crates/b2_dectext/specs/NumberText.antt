@@ -69,8 +69,8 @@ tens_down p = length p.fraction + (if p.exponent_neg then digits_value p.exponen
 
 -- The number of such parts is the fraction of its digits and its exponent, rounded to thirteen digits, a half away from
 -- zero; C60 and C61 where it is too small or too large.
-unfoldable pub value_of : Parts → Result Number ℕ
-value_of p = rnd Round p.neg (digits_value (p.whole ++ p.fraction) * 10 ^ tens_up p) (10 ^ tens_down p)
+unfoldable pub parts_value : Parts → Result Number ℕ
+parts_value p = rnd Round p.neg (digits_value (p.whole ++ p.fraction) * 10 ^ tens_up p) (10 ^ tens_down p)
 
 -- the parts of the number at the front of a text
 unfoldable pub parts_of : List ℕ → Parts
@@ -87,7 +87,7 @@ parts_of text =
 
 -- the number at the front of a text
 abbrev pub number_value : List ℕ → Result Number ℕ
-number_value text = value_of (parts_of text)
+number_value text = parts_value (parts_of text)
 
 -- the number in a result
 abbrev pub in_result : Result Number ℕ → Option Number

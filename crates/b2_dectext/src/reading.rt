@@ -5,7 +5,7 @@ ghost use Rattle.b2_dec.specs.declared.number.Mode.TheVariants.{Round};
 ghost use Rattle.b2_dectext.specs.Digits.{AreDigits, IsLeading, value_after, digits_value};
 ghost use Rattle.b2_dectext.specs.Grammar.{IsLongest, IsLongestSpaced};
 ghost use Rattle.b2_dectext.specs.NumberText as grammar;
-ghost use Rattle.b2_dectext.specs.NumberText.{Parts, value_of, number_value, number_read, spaced_number_len};
+ghost use Rattle.b2_dectext.specs.NumberText.{Parts, parts_value, number_value, number_read, spaced_number_len};
 
 use crate::scanning::{
     exponent_digits, fraction_part, mantissa_len, number_len, spaces_len, unsigned, whole_part,
@@ -113,7 +113,7 @@ fn value(
     requires exponent { AreDigits exponent.now }
     requires few { length exponent.now ≤ 2 }
     ensures { let parts : Parts = record { neg = neg; whole = whole.now; fraction = fraction.now; exponent_neg = exponent_neg; exponent = exponent.now } in
-        result ≡ value_of parts }
+        result ≡ parts_value parts }
 {
     let none = Leading { digits: 0, more: 0 };
     let leading = with_digits(with_digits(none, whole), fraction);

@@ -53,14 +53,14 @@ is_built (suc n) t = is_built_behind (built_width t) (λ width. is_built n (drop
 abbrev pub line_number : ℕ → ℕ → ℕ
 line_number high low = (high / 16) * 1000 + (high % 16) * 100 + (low / 16) * 10 + low % 16
 
-abbrev pub line_number_at : Text → ℕ
-line_number_at t = line_number (get_or t 1 0) (get_or t 2 0)
+abbrev pub line_named : Text → ℕ
+line_named t = line_number (get_or t 1 0) (get_or t 2 0)
 
 -- the first and the last line that two numbers, one or none name; one alone goes to a last line of its own
 abbrev pub range_at : (ℕ → ℕ) → (ℕ → ℕ → Request) → Text → Request
 range_at last f [] = f 0 9999
 range_at last f (b ∷ bs) =
-    if get_or (b ∷ bs) 3 0 == byte.comma then f (line_number_at (b ∷ bs)) (line_number_at (drop 4 (b ∷ bs))) else f (line_number_at (b ∷ bs)) (last (line_number_at (b ∷ bs)))
+    if get_or (b ∷ bs) 3 0 == byte.comma then f (line_named (b ∷ bs)) (line_named (drop 4 (b ∷ bs))) else f (line_named (b ∷ bs)) (last (line_named (b ∷ bs)))
 
 -- what is asked for by a value, or its code
 abbrev pub asked : {A : Type 0} → (A → Request) → Result A ℕ → Request
@@ -173,7 +173,7 @@ where_built t r = if is_built (length t) t then r else not_built
 abbrev pub plan_word : Surroundings → ℕ → ℕ → Text → Request
 plan_word s column b t =
     if b == word.PRINT then where_built t (prints s column t)
-    else (if b == word.GOTO then request.Jump (line_number_at t)
+    else (if b == word.GOTO then request.Jump (line_named t)
     else (if b == word.END then request.End
     else (if b == word.REM || b == byte.percent then request.Nothing
     else (if b == word.SELECT then selects t

@@ -4,7 +4,7 @@ ghost use Rattle.b2_print.specs.Columns.{column_after};
 ghost use Rattle.b2_print.specs.Layout.{layout};
 ghost use Rattle.b2_base.specs.Lexical.{first};
 ghost use Rattle.b2_machine.specs.Refusals.{Refused, FailsWith};
-ghost use Rattle.b2_machine.specs.Plan.{not_built, is_sign, goes_on_name, built_width, is_built, line_number, line_number_at, range_at, letters_at, with_rest, behind_letters, number_in, assigns, printed_at, items_of, wants_line, newline_where, print_items, laid, prints, selects, clears, lists, runs, where_built, plan_word, plan_with, plan};
+ghost use Rattle.b2_machine.specs.Plan.{not_built, is_sign, goes_on_name, built_width, is_built, line_number, line_named, range_at, letters_at, with_rest, behind_letters, number_in, assigns, printed_at, items_of, wants_line, newline_where, print_items, laid, prints, selects, clears, lists, runs, where_built, plan_word, plan_with, plan};
 ghost use Rattle.b2_machine.specs.declared.request.Request.TheVariants as request;
 
 use crate::request::Request;
@@ -79,8 +79,8 @@ fn is_built(text: &[u8]) -> bool
 }
 
 /// The line number at a text: FF and four decimal digits.
-fn line_number_at(text: &[u8]) -> u16
-    ensures { result ≡ line_number_at text.now }
+fn line_named(text: &[u8]) -> u16
+    ensures { result ≡ line_named text.now }
 {
     let (high, low) = (u16::from(at(text, 1)), u16::from(at(text, 2)));
     high / 16 * 1000 + high % 16 * 100 + low / 16 * 10 + low % 16
@@ -96,9 +96,9 @@ fn ask_list(text: &[u8]) -> Request
     if text.is_empty() {
         return Request::List(0, 9999);
     }
-    let first = line_number_at(text);
+    let first = line_named(text);
     if at(text, 3) == b',' {
-        Request::List(first, line_number_at(dropped(text, 4)))
+        Request::List(first, line_named(dropped(text, 4)))
     } else {
         Request::List(first, first)
     }
@@ -122,9 +122,9 @@ fn ask_clear_program(text: &[u8]) -> Request
     if text.is_empty() {
         return Request::ClearProgram(0, 9999);
     }
-    let first = line_number_at(text);
+    let first = line_named(text);
     if at(text, 3) == b',' {
-        Request::ClearProgram(first, line_number_at(dropped(text, 4)))
+        Request::ClearProgram(first, line_named(dropped(text, 4)))
     } else {
         Request::ClearProgram(first, 9999)
     }
@@ -304,7 +304,7 @@ fn ask_word(
 {
     match byte {
         PRINT => ask_print(alloc, e, column, rest),
-        GOTO => Ok(Request::Jump(line_number_at(rest))),
+        GOTO => Ok(Request::Jump(line_named(rest))),
         END => Ok(Request::End),
         REM | b'%' => Ok(Request::Nothing),
         SELECT => Ok(ask_select(rest)),

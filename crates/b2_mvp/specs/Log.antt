@@ -93,7 +93,7 @@ event_of granted line = event_by granted (before byte.blank line) (after byte.bl
 -- an empty line and one that begins with `#` say nothing
 abbrev pub line_by : ℕ → List ℕ → LineRead
 line_by granted [] = Nothing
-line_by granted (b ∷ bs) = if b == byte.hash then Nothing else event_of granted (b ∷ bs)
+line_by granted (b ∷ bs) = if b == byte.number_sign then Nothing else event_of granted (b ∷ bs)
 
 -- what a line says, where some steps were granted before it
 abbrev pub log_line : ℕ → List ℕ → LineRead

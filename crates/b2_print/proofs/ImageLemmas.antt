@@ -52,7 +52,7 @@ field-within text =
     let body = after_dollar (after_sign text) in
     let all : length (sign_bytes (leading_sign text)) + length (dollar_bytes (first (after_sign text) == byte.dollar)) + length body ≡ length text =
     omega (arith, sign-within text, dollar-within (after_sign text)) in
-    rw all at (places-within (leading_sign text) (first (after_sign text) == byte.dollar) body (first body == byte.hash))
+    rw all at (places-within (leading_sign text) (first (after_sign text) == byte.dollar) body (first body == byte.number_sign))
 
 places-some : (sign : Sign) (dollar : Bool) (c : ℕ) (cs : List ℕ) (test : Bool) → (c == 35) ≡ test →
     IfSome (if test then Some (record { sign = sign; dollar = dollar; whole = take_while is_place (c ∷ cs); decimals = decimals_of (drop (prefix_len is_place (c ∷ cs)) (c ∷ cs)) }) else None)

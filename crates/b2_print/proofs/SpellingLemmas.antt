@@ -94,7 +94,7 @@ pub field-spelled : (text : List ℕ) → IfSome (field_at text) (λ f. field_by
 unfolding field_at
 field-spelled text =
     let t1 = after_sign text in
-    places-spelled text t1 (after_dollar t1) (leading_sign text) (first t1 == byte.dollar) (first (after_dollar t1) == byte.hash) (sign-spelled text) (dollar-spelled t1)
+    places-spelled text t1 (after_dollar t1) (leading_sign text) (first t1 == byte.dollar) (first (after_dollar t1) == byte.number_sign) (sign-spelled text) (dollar-spelled t1)
 
 piece-spelled : (b : ℕ) (bs : List ℕ) (o : Option Field) → field_at (b ∷ bs) ≡ o → spelled (piece_of b o) ++ drop (width_after_first o) bs ≡ b ∷ bs
 piece-spelled b bs None e = refl

@@ -74,7 +74,7 @@ fits f x = not (reaches x (hash_count f.whole))
 
 -- a number in a field, which it fills with `#` where it doesn't fit
 abbrev pub number_filled : Field → Number → List ℕ
-number_filled f x = if fits f x then right_aligned (width_of f) (number_text f x) else replicate (width_of f) byte.hash
+number_filled f x = if fits f x then right_aligned (width_of f) (number_text f x) else replicate (width_of f) byte.number_sign
 
 abbrev pub filled : Field → Value → List ℕ
 filled f (value.Number x) = number_filled f x

@@ -33,10 +33,10 @@ abbrev pub width_of : Field → ℕ
 width_of f = length (sign_bytes f.sign) + length (dollar_bytes f.dollar) + length f.whole + point_width f.decimals
 
 abbrev pub is_hash : ℕ → Bool
-is_hash b = b == byte.hash
+is_hash b = b == byte.number_sign
 
 abbrev pub is_place : ℕ → Bool
-is_place b = b == byte.hash || b == byte.comma
+is_place b = b == byte.number_sign || b == byte.comma
 
 -- the sign that a text begins with
 abbrev pub leading_sign : List ℕ → Sign
@@ -57,7 +57,7 @@ decimals_of text = if first text == byte.point then prefix_len is_hash (drop 1 t
 -- a point with one `#` or more; only the first `#` must be there
 abbrev pub with_places : Sign → Bool → List ℕ → Option Field
 with_places sign dollar text =
-    if first text == byte.hash
+    if first text == byte.number_sign
     then Some (record { sign = sign; dollar = dollar; whole = take_while is_place text; decimals = decimals_of (drop (prefix_len is_place text) text) })
     else None
 
@@ -88,7 +88,7 @@ further_pieces zero (b ∷ bs) = piece_of b (field_at (b ∷ bs)) ∷ further_pi
 -- the bytes that write a piece
 abbrev pub point_bytes : ℕ → List ℕ
 point_bytes zero = []
-point_bytes (suc n) = byte.point ∷ replicate (suc n) byte.hash
+point_bytes (suc n) = byte.point ∷ replicate (suc n) byte.number_sign
 
 abbrev pub field_bytes : Field → List ℕ
 field_bytes f = sign_bytes f.sign ++ dollar_bytes f.dollar ++ f.whole ++ point_bytes f.decimals
