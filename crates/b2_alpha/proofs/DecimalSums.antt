@@ -2,7 +2,8 @@
 use Rattle.std.proofs.Common.{◌≡◌, ℕ, ◌+◌, ◌%◌, ◌^◌, List, length, map, sym, ap, ◌∙◌, arith}
 use Rattle.std.proofs.lemmas.List.{length-map}
 use Rattle.b2_alpha.specs.Places.{number_in_base}
-use Rattle.b2_alpha.specs.Sums.{aligned, sum_in, difference_in, decimal_of, decimal_value, decimal_sum, decimal_difference}
+use Rattle.b2_base.specs.Lexical.{decimal_of}
+use Rattle.b2_alpha.specs.Sums.{aligned, sum_in, difference_in, decimal_value, decimal_sum, decimal_difference}
 use Rattle.b2_alpha.proofs.PlaceValues.{AllBelow, digits_below}
 use Rattle.b2_alpha.proofs.Decimals.{AllDecimal, decimals_back, decimals_aligned, decimals_below}
 use Rattle.b2_alpha.proofs.Modular.{number_in_base-sum_in, number_in_base-difference_in_aligned}

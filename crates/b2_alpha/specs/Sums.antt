@@ -1,6 +1,7 @@
 -- Sums and differences of byte strings that end at the same place.
-use Rattle.std.specs.Prelude.{ℕ, ◌+◌, ◌-◌, ◌*◌, ◌/◌, ◌%◌, ◌^◌, Bool, ◌&&◌, nat_le, List, ◌++◌, length, map, drop, replicate}
+use Rattle.std.specs.Prelude.{ℕ, ◌+◌, ◌-◌, ◌%◌, ◌^◌, Bool, ◌&&◌, List, ◌++◌, length, map, drop, replicate}
 use Rattle.std.specs.List.{list_all}
+use Rattle.b2_base.specs.Lexical.{is_decimal, decimal_of, decimal_byte}
 use Rattle.b2_alpha.specs.Places.{number_in_base, digits_in_base}
 use Rattle.b2_alpha.specs.Values.{each_pair}
 
@@ -30,29 +31,19 @@ binary_sum xs ys = sum_in 256 xs (aligned (length xs) ys)
 abbrev pub binary_difference : List ℕ → List ℕ → List ℕ
 binary_difference xs ys = difference_in 256 xs (aligned (length xs) ys)
 
--- a byte of two decimal nibbles, the number from 0 to 99 in it, and back
-abbrev pub has_decimal_nibbles : ℕ → Bool
-has_decimal_nibbles b = nat_le (b / 16) 9 && nat_le (b % 16) 9
-
-abbrev pub decimal_of : ℕ → ℕ
-decimal_of b = b / 16 * 10 + b % 16
-
-abbrev pub nibbles_of : ℕ → ℕ
-nibbles_of d = d / 10 * 16 + d % 10
-
 -- the number that a string's decimal nibbles spell
 abbrev pub decimal_value : List ℕ → ℕ
 decimal_value xs = number_in_base 100 (map decimal_of xs)
 
 -- all nibbles that a decimal sum or difference uses are decimal digits
 abbrev pub are_decimal : List ℕ → List ℕ → Bool
-are_decimal xs ys = list_all has_decimal_nibbles xs && list_all has_decimal_nibbles (aligned (length xs) ys)
+are_decimal xs ys = list_all is_decimal xs && list_all is_decimal (aligned (length xs) ys)
 
 -- each byte is one place of base 100
 abbrev pub decimal_sum : List ℕ → List ℕ → List ℕ
 decimal_sum xs ys =
-    map nibbles_of (sum_in 100 (map decimal_of xs) (map decimal_of (aligned (length xs) ys)))
+    map decimal_byte (sum_in 100 (map decimal_of xs) (map decimal_of (aligned (length xs) ys)))
 
 abbrev pub decimal_difference : List ℕ → List ℕ → List ℕ
 decimal_difference xs ys =
-    map nibbles_of (difference_in 100 (map decimal_of xs) (map decimal_of (aligned (length xs) ys)))
+    map decimal_byte (difference_in 100 (map decimal_of xs) (map decimal_of (aligned (length xs) ys)))

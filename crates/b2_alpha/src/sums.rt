@@ -2,10 +2,12 @@
 ghost use Rattle.std.specs.Prelude.{◌≡◌, ◌+◌, ◌-◌, ◌%◌, ◌^◌, ◌<◌, length, true, nat_lt, slice_index, if◌then◌else◌, OnOk, OnErr, IfErr, is_ok};
 ghost use Rattle.std.specs.List.{list_all};
 ghost use Rattle.b2_alpha.specs.Places.{number_in_base};
-ghost use Rattle.b2_alpha.specs.Sums.{bytewise_sum, bytewise_difference, binary_sum, binary_difference, has_decimal_nibbles, decimal_of, decimal_value, nibbles_of, are_decimal, decimal_sum, decimal_difference};
+ghost use Rattle.b2_base.specs.Lexical.{is_decimal, decimal_of, decimal_byte};
+ghost use Rattle.b2_alpha.specs.Sums.{bytewise_sum, bytewise_difference, binary_sum, binary_difference, decimal_value, are_decimal, decimal_sum, decimal_difference};
 
 use b2_base::Code;
 use b2_base::codes::X75_NOT_DECIMAL;
+use b2_base::lexical::{decimal_byte, decimal_of, is_decimal};
 
 /// The operand's byte at a place counted from its end, and 0 past its first.
 fn from_end(from: &[u8], i: usize) -> u8
@@ -76,34 +78,27 @@ pub fn subc(to: &mut [u8], from: &[u8])
     sum_bytes(to, from, true);
 }
 
-/// Whether both nibbles are decimal digits.
-fn has_decimal_nibbles(b: u8) -> bool
-    ensures { result ≡ has_decimal_nibbles b }
-{
-    b / 16 <= 9 && b % 16 <= 9
-}
-
 fn all_decimal(bytes: &[u8]) -> bool
-    ensures { result ≡ list_all has_decimal_nibbles bytes.now }
+    ensures { result ≡ list_all is_decimal bytes.now }
 {
-    bytes.iter().all(|b| has_decimal_nibbles(*b))
+    bytes.iter().all(|b| is_decimal(*b))
 }
 
 /// The number in two decimal nibbles.
 fn decimal(b: u8) -> u16
-    requires { has_decimal_nibbles b ≡ true }
+    requires { is_decimal b ≡ true }
     ensures value { result ≡ decimal_of b }
     ensures below { result < 100 }
 {
-    u16::from(b / 16 * 10 + b % 16)
+    u16::from(decimal_of(b))
 }
 
 /// The two decimal nibbles of a number.
 fn nibbles(d: u16) -> u8
     requires { d < 100 }
-    ensures { result ≡ nibbles_of d }
+    ensures { result ≡ decimal_byte d }
 {
-    (d / 10 * 16 + d % 10) as u8
+    decimal_byte(d as u8)
 }
 
 /// Sum or difference with carries over places of base 100, where all nibbles are decimal digits.

@@ -46,6 +46,14 @@ hex_pair b = hex_digit (b / 16) ∷ hex_digit (b % 16) ∷ []
 abbrev pub is_decimal : ℕ → Bool
 is_decimal b = nat_le (b / 16) 9 && nat_le (b % 16) 9
 
+-- the number below 100 that these two digits spell
+abbrev pub decimal_of : ℕ → ℕ
+decimal_of b = b / 16 * 10 + b % 16
+
+-- the byte of the two decimal digits of a number below 100
+abbrev pub decimal_byte : ℕ → ℕ
+decimal_byte n = n / 10 * 16 + n % 10
+
 -- the first byte of a text, and 0 where there is none
 abbrev pub first : List ℕ → ℕ
 first [] = 0

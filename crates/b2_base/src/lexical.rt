@@ -92,6 +92,23 @@ pub fn is_decimal(byte: u8) -> bool
     byte / 16 <= 9 && byte % 16 <= 9
 }
 
+/// The number that the two decimal digits of a byte spell.
+pub fn decimal_of(byte: u8) -> u8
+    ensures { result ≡ spec.decimal_of byte }
+{
+    byte / 16 * 10 + byte % 16
+}
+
+/// The byte of the two decimal digits of a number below 100.
+pub fn decimal_byte(n: u8) -> u8
+    requires { n < 100 }
+    ensures value { result ≡ spec.decimal_byte n }
+    ensures legal { spec.is_decimal result ≡ true }
+    ensures read_back { spec.decimal_of result ≡ n }
+{
+    n / 10 * 16 + n % 10
+}
+
 /// The first byte, or 0 where there is none.
 pub fn first(text: &[u8]) -> u8
     ensures { result ≡ spec.first text.now }

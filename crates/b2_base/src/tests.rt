@@ -1,7 +1,7 @@
 use crate::lexical::{
-    all_printable, at, capped_value, digits_width, dropped, first, front, hex_digit, hex_pair,
-    hex_value, is_digit, is_hex_digit, is_letter, is_printable, is_small_letter, skip_blanks,
-    upper, without_zeros,
+    all_printable, at, capped_value, decimal_byte, decimal_of, digits_width, dropped, first, front,
+    hex_digit, hex_pair, hex_value, is_decimal, is_digit, is_hex_digit, is_letter, is_printable,
+    is_small_letter, skip_blanks, upper, without_zeros,
 };
 use crate::{
     Addr, AddrList, ByteList, Code, Fetch, FileName, FileShelf, Keep, LineText, MemShelf, MemSink,
@@ -90,6 +90,9 @@ fn kinds_of_bytes(rt: HostRuntime) -> Result<(), Fail> {
     );
     assert_eq!(rt; [hex_digit(9), hex_digit(10), hex_digit(15)], *b"9AF");
     assert_eq!(rt; hex_pair(0xA9), *b"A9");
+    assert!(rt; is_decimal(0x99) && !is_decimal(0x9A) && !is_decimal(0xA0));
+    assert_eq!(rt; [decimal_of(0x07), decimal_of(0x99)], [7, 99]);
+    assert_eq!(rt; [decimal_byte(7), decimal_byte(99)], [0x07, 0x99]);
     Ok(())
 }
 

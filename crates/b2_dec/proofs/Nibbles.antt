@@ -4,18 +4,20 @@ use Rattle.std.proofs.lemmas.Nat.{mod-mul-add, div-mul-add}
 use Rattle.std.proofs.lemmas.Bool.{cases_lt}
 use native.Mathlib.Nat.{pow-le-pow_right, div-div-eq-div-mul, div-lt_iff_lt-mul, pow-suc}
 use Rattle.b2_dec.specs.Number.{Number, IsNumber}
-use Rattle.b2_dec.specs.Packing.{exponent_size, signs, packed_digits, pair, pairs, packed, pair_in, pairs_value}
+use Rattle.b2_base.specs.Lexical.{decimal_byte, decimal_of}
+use Rattle.b2_dec.specs.Packing.{exponent_size, signs, packed_digits, pairs, packed, pairs_value}
 
 -- a nibble and another one
-pub pair_in-nibbles : (h l : ℕ) → l < 16 → pair_in (16 * h + l) ≡ h * 10 + l
-pair_in-nibbles h l small =
+pub decimal_of-nibbles : (h l : ℕ) → l < 16 → decimal_of (16 * h + l) ≡ h * 10 + l
+decimal_of-nibbles h l small =
     let turned : 16 * h + l ≡ h * 16 + l = omega arith in
     rw turned (ap₂ (λ t u. t * 10 + u) (div-mul-add h 16 l small) (mod-mul-add h 16 l small))
 
-pub pair_in-pair : (n : ℕ) → pair_in (pair n) ≡ n
-pair_in-pair n =
+pub decimal_of-decimal_byte : (n : ℕ) → decimal_of (decimal_byte n) ≡ n
+decimal_of-decimal_byte n =
     let small : n % 10 < 10 = mod-lt n (lit< tt) in
-    pair_in-nibbles (n / 10) (n % 10) (omega arith) ∙ div-add-mod' n 10
+    let turned : n / 10 * 16 + n % 10 ≡ 16 * (n / 10) + n % 10 = omega arith in
+    ap decimal_of turned ∙ decimal_of-nibbles (n / 10) (n % 10) (omega arith) ∙ div-add-mod' n 10
 
 -- Digits that follow others.
 pub pairs_value-pairs : (k n a : ℕ) → pairs_value (a + n / 100 ^ k) (pairs k n) ≡ a * 100 ^ k + n
@@ -23,16 +25,16 @@ pairs_value-pairs zero n a = rw (div-one n) (omega arith)
 pairs_value-pairs (suc k) n a =
     let shorter : n / 100 ^ suc k ≡ n / 100 ^ k / 100 =
     ap (λ t. n / t) (pow-suc 100 k) ∙ sym (div-div-eq-div-mul n (100 ^ k) 100) in
-    let step : (a + n / 100 ^ suc k) * 100 + pair_in (pair (n / 100 ^ k % 100)) ≡ a * 100 + n / 100 ^ k =
-    rw (shorter, pair_in-pair (n / 100 ^ k % 100)) (omega (arith, div-add-mod' (n / 100 ^ k) 100)) in
+    let step : (a + n / 100 ^ suc k) * 100 + decimal_of (decimal_byte (n / 100 ^ k % 100)) ≡ a * 100 + n / 100 ^ k =
+    rw (shorter, decimal_of-decimal_byte (n / 100 ^ k % 100)) (omega (arith, div-add-mod' (n / 100 ^ k) 100)) in
     ap (λ t. pairs_value t (pairs k n)) step ∙ pairs_value-pairs k n (a * 100) ∙ rw (pow-suc 100 k) (omega arith)
 
 -- All sixteen nibbles of a packed number.
 pub pairs_value-packed : (x : Number) → packed_digits x < 1000000000000000 → pairs_value 0 (packed x) ≡ signs x * 1000000000000000 + packed_digits x
 pairs_value-packed x few =
     let first : packed_digits x / 100000000000000 < 10 = (div-lt_iff_lt-mul {x = packed_digits x} {y = 10} (lit< tt)).1 few in
-    let start : 0 * 100 + pair_in (16 * signs x + packed_digits x / 100000000000000) ≡ signs x * 10 + packed_digits x / 100 ^ 7 =
-    rw (pair_in-nibbles (signs x) (packed_digits x / 100000000000000) (omega arith)) (omega arith) in
+    let start : 0 * 100 + decimal_of (16 * signs x + packed_digits x / 100000000000000) ≡ signs x * 10 + packed_digits x / 100 ^ 7 =
+    rw (decimal_of-nibbles (signs x) (packed_digits x / 100000000000000) (omega arith)) (omega arith) in
     let all : signs x * 10 * 100 ^ 7 + packed_digits x ≡ signs x * 1000000000000000 + packed_digits x = omega arith in
     ap (λ t. pairs_value t (pairs 7 (packed_digits x))) start ∙ pairs_value-pairs 7 (packed_digits x) (signs x * 10) ∙ all
 

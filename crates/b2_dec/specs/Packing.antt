@@ -1,5 +1,6 @@
 -- A number in eight bytes.
 use Rattle.std.specs.Prelude.{ℕ, zero, suc, ◌+◌, ◌-◌, ◌*◌, ◌/◌, ◌%◌, ◌^◌, nat_lt, if◌then◌else◌, List, [], ◌∷◌}
+use Rattle.b2_base.specs.Lexical.{decimal_of, decimal_byte}
 use Rattle.b2_dec.specs.Number.{Number}
 
 -- the size of the exponent, which is 0 where the last digit stands at 99
@@ -14,24 +15,16 @@ signs x = (if x.neg then 1 else 0) + (if nat_lt x.place 99 then 8 else 0)
 abbrev pub packed_digits : Number → ℕ
 packed_digits x = exponent_size x * 10000000000000 + x.coef
 
--- two decimal digits in a byte
-abbrev pub pair : ℕ → ℕ
-pair n = 16 * (n / 10) + n % 10
-
 -- the last 2 · k digits, two in a byte
 abbrev pub pairs : ℕ → ℕ → List ℕ
 pairs zero n = []
-pairs (suc k) n = pair (n / 100 ^ k % 100) ∷ pairs k n
+pairs (suc k) n = decimal_byte (n / 100 ^ k % 100) ∷ pairs k n
 
 -- the nibble of the signs, and the digits
 abbrev pub packed : Number → List ℕ
 packed x = (16 * signs x + packed_digits x / 100000000000000) ∷ pairs 7 (packed_digits x)
 
--- the digits in a byte
-abbrev pub pair_in : ℕ → ℕ
-pair_in b = b / 16 * 10 + b % 16
-
 -- the number that the digits in bytes spell when they follow those of n
 abbrev pub pairs_value : ℕ → List ℕ → ℕ
 pairs_value n [] = n
-pairs_value n (b ∷ bs) = pairs_value (n * 100 + pair_in b) bs
+pairs_value n (b ∷ bs) = pairs_value (n * 100 + decimal_of b) bs

@@ -5,6 +5,7 @@ ghost use Rattle.b2_dec.specs.Packing as spec;
 ghost use Rattle.b2_dec.specs.Packing.{packed};
 
 use crate::number::Dec;
+use b2_base::lexical::{decimal_byte, decimal_of};
 
 /// The number in eight bytes: a nibble for the two signs, two digits of the exponent's size, and the thirteen digits.
 pub fn pack(a: Dec) -> [u8; 8]
@@ -13,13 +14,13 @@ pub fn pack(a: Dec) -> [u8; 8]
     let n = exponent_size(a) * 10_000_000_000_000 + a.coefficient();
     [
         16 * signs(a) + (n / 100_000_000_000_000) as u8,
-        pair(n / 1_000_000_000_000 % 100),
-        pair(n / 10_000_000_000 % 100),
-        pair(n / 100_000_000 % 100),
-        pair(n / 1_000_000 % 100),
-        pair(n / 10_000 % 100),
-        pair(n / 100 % 100),
-        pair(n % 100),
+        decimal_byte((n / 1_000_000_000_000 % 100) as u8),
+        decimal_byte((n / 10_000_000_000 % 100) as u8),
+        decimal_byte((n / 100_000_000 % 100) as u8),
+        decimal_byte((n / 1_000_000 % 100) as u8),
+        decimal_byte((n / 10_000 % 100) as u8),
+        decimal_byte((n / 100 % 100) as u8),
+        decimal_byte((n % 100) as u8),
     ]
 }
 
@@ -71,7 +72,7 @@ fn pairs_value(bytes: &[u8]) -> u64
 {
     let mut n = 0;
     for byte in bytes {
-        n = n * 100 + (*byte / 16) as u64 * 10 + (*byte % 16) as u64;
+        n = n * 100 + u64::from(decimal_of(*byte));
     }
     n
 }
@@ -92,12 +93,4 @@ fn signs(a: Dec) -> u8
 {
     let number = if a.is_negative() { 1 } else { 0 };
     if a.place() < 99 { number + 8 } else { number }
-}
-
-/// Two decimal digits in a byte.
-fn pair(n: u64) -> u8
-    requires { n < 100 }
-    ensures { result ≡ spec.pair n }
-{
-    (16 * (n / 10) + n % 10) as u8
 }

@@ -1,5 +1,6 @@
 use Rattle.std.proofs.Common.{length, map}
-use Rattle.b2_alpha.specs.Sums.{aligned, decimal_of}
+use Rattle.b2_base.specs.Lexical.{decimal_of}
+use Rattle.b2_alpha.specs.Sums.{aligned}
 use Rattle.b2_alpha.proofs.Carrying.{Carried, addends}
 use Rattle.b2_alpha.proofs.Decimals.{AllDecimal}
 use Rattle.b2_alpha.proofs.sums.sum_decimals.Given as goal
