@@ -32,7 +32,7 @@ abbrev pub ◌>>=◌ : {A B E : Type 0} → Result A E → (A → Result B E) �
 (Ok a) >>= f = f a
 (Err e) >>= f = Err e
 
--- what a part of a tree that stands first has in it, what stands behind it, and its branch: 1 for the first of two or
+-- what a part of a tree that stands first has in it, what stands after it, and its branch: 1 for the first of two or
 -- one more of many, 0 for the second of two or no more
 abbrev pub inside : Trees → Trees
 inside Done = Done
@@ -126,7 +126,7 @@ operand_by group s t = choose
     not_built ∷ [])
     (variable_operand s) t
 
--- an expression in parentheses, where so many may be open
+-- an expression in parentheses, where at most `room` may be open
 unfoldable pub group_value : Surroundings → ℕ → Trees → Answer
 group_value s zero t = Err S27_LEFT_OUT
 group_value s (suc room) t = sum_value s.mode (operand_by (group_value s room) s) (inside (behind t))

@@ -25,7 +25,7 @@ abbrev pub left : Text → Answer → Found
 left rest (Ok x) = Ok (x, rest)
 left rest (Err code) = Err code
 
--- an operator of a level, and what stands behind it
+-- an operator of a level, and what stands after it
 abbrev pub operator_at : Level → Text → Option (Operator × Text)
 operator_at l t = if is_operator l (first t) then Some (operator_of l (first t), drop 1 t) else None
 
@@ -33,7 +33,7 @@ abbrev pub continued : Option (Operator × Text) → Found → (Operator → Tex
 continued None end more = end
 continued (Some p) end more = more p.0 p.1
 
--- a number, joined to at most so many further items
+-- a number, joined to at most n further items
 unfoldable pub further : Mode → Level → (Text → Found) → ℕ → Number → Text → Found
 further mode l item zero x t = Ok (x, t)
 further mode l item (suc n) x t =
@@ -74,7 +74,7 @@ operand_with group s t =
     if is_digit (first t) || first t == 46 then literal_at t
     else (if first t == 40 then group (drop 1 t) else named_at s t)
 
--- what stands behind an opened parenthesis, where so many may be open
+-- what stands after an opened parenthesis, where at most `room` may be open
 unfoldable pub group_at : Surroundings → ℕ → Text → Found
 group_at s zero t = Err S27_LEFT_OUT
 group_at s (suc room) t =

@@ -32,7 +32,7 @@ impl<'a> Model for Env<'a> {
 /// How many parentheses may be open.
 const DEPTH: u8 = 32;
 
-/// The value of the numeric expression at a cursor, which then stands behind it, or the first code from the left, and then
+/// The value of the numeric expression at a cursor, which then stands after it, or the first code from the left, and then
 /// the cursor is as before.
 pub fn number<'a>(c: &mut Cursor<'a>, e: &Env<'_>) -> Result<Dec, Code>
     ensures value { (t : Trees) (rest : Text) → IsExpression c.old t rest → MatchResult result (λ x. (value e.now t ≡ Ok x) × (c.new ≡ rest)) (λ code. (value e.now t ≡ Err code) × (c.new ≡ c.old)) }

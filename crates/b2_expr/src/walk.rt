@@ -13,7 +13,7 @@ use b2_base::lexical::{dropped, front};
 use b2_dec::Dec;
 use b2_dectext::literal;
 
-// An operator of a level at the front of a text, and what stands behind it.
+/// An operator of a level at the front of a text, and what stands after it.
 fn operator_at(level: Level, text: &[u8]) -> Option<(Operator, &[u8])>
     ensures { operator_at level text.now ≡ option_map (λ p. (p.0, p.1.now)) result }
 {
@@ -26,7 +26,7 @@ fn operator_at(level: Level, text: &[u8]) -> Option<(Operator, &[u8])>
     }
 }
 
-// The number that a literal spells.
+/// The number that a literal spells.
 fn literal_value(text: &[u8]) -> Result<Dec, Code>
     ensures { result ≡ literal_value text.now }
 {
@@ -36,7 +36,7 @@ fn literal_value(text: &[u8]) -> Result<Dec, Code>
     }
 }
 
-// A literal.
+/// A literal.
 fn literal_at(text: &[u8]) -> Result<(Dec, &[u8]), Code>
     ensures { MatchResult result (λ p. literal_at text.now ≡ Ok (p.0, p.1.now)) (λ code. literal_at text.now ≡ Err code) }
 {
@@ -45,7 +45,7 @@ fn literal_at(text: &[u8]) -> Result<(Dec, &[u8]), Code>
     Ok((number, dropped(text, width)))
 }
 
-// A letter without a digit or subscripts.
+/// A letter without a digit or subscripts.
 fn letter_at<'a>(e: &Env<'_>, byte: u8, rest: &'a [u8]) -> Result<(Dec, &'a [u8]), Code>
     requires { 65 ≤ byte }
     ensures { MatchResult result (λ p. letter_at e.now byte rest.now ≡ Ok (p.0, p.1.now)) (λ code. letter_at e.now byte rest.now ≡ Err code) }
@@ -59,7 +59,7 @@ fn letter_at<'a>(e: &Env<'_>, byte: u8, rest: &'a [u8]) -> Result<(Dec, &'a [u8]
     }
 }
 
-// A letter.
+/// A letter.
 fn named_at<'a>(e: &Env<'_>, text: &'a [u8]) -> Result<(Dec, &'a [u8]), Code>
     ensures { MatchResult result (λ p. named_at e.now text.now ≡ Ok (p.0, p.1.now)) (λ code. named_at e.now text.now ≡ Err code) }
 {
@@ -69,7 +69,7 @@ fn named_at<'a>(e: &Env<'_>, text: &'a [u8]) -> Result<(Dec, &'a [u8]), Code>
     }
 }
 
-// What stands behind the parenthesis that closes.
+/// What stands after the parenthesis that closes.
 fn closed(text: &[u8]) -> &[u8]
     ensures { result.now ≡ drop 1 text.now }
 {
@@ -79,7 +79,7 @@ fn closed(text: &[u8]) -> &[u8]
     }
 }
 
-// What stands behind an opened parenthesis, where so many may be open.
+/// What stands after an opened parenthesis, where `room` more may open.
 #[cycle(expression)]
 fn group<'a>(room: u8, e: &Env<'_>, inner: &'a [u8]) -> Result<(Dec, &'a [u8]), Code>
     ensures { MatchResult result (λ p. group_at e.now room inner.now ≡ Ok (p.0, p.1.now)) (λ code. group_at e.now room inner.now ≡ Err code) }
@@ -94,7 +94,7 @@ fn group<'a>(room: u8, e: &Env<'_>, inner: &'a [u8]) -> Result<(Dec, &'a [u8]), 
     Ok((number, closed(rest)))
 }
 
-// An operand, in which at most so many parentheses are open.
+/// An operand, in which at most `room` parentheses open.
 #[cycle(expression)]
 fn operand<'a>(room: u8, e: &Env<'_>, text: &'a [u8]) -> Result<(Dec, &'a [u8]), Code>
     ensures { MatchResult result (λ p. operand_at e.now room text.now ≡ Ok (p.0, p.1.now)) (λ code. operand_at e.now room text.now ≡ Err code) }
@@ -106,7 +106,7 @@ fn operand<'a>(room: u8, e: &Env<'_>, text: &'a [u8]) -> Result<(Dec, &'a [u8]),
     }
 }
 
-// A power, with the sign before it.
+/// A power, with the sign before it.
 #[cycle(expression)]
 fn factor<'a>(room: u8, e: &Env<'_>, text: &'a [u8]) -> Result<(Dec, &'a [u8]), Code>
     ensures { MatchResult result (λ p. item_at e.now.mode (operand_at e.now room) level_of.Product text.now ≡ Ok (p.0, p.1.now)) (λ code. item_at e.now.mode (operand_at e.now room) level_of.Product text.now ≡ Err code) }
@@ -122,7 +122,7 @@ fn factor<'a>(room: u8, e: &Env<'_>, text: &'a [u8]) -> Result<(Dec, &'a [u8]), 
     Ok((number, rest))
 }
 
-// What the operators of a level join.
+/// What the operators of a level join.
 #[cycle(expression)]
 fn item<'a>(wanted: Level, room: u8, e: &Env<'_>, text: &'a [u8]) -> Result<(Dec, &'a [u8]), Code>
     ensures { MatchResult result (λ p. item_at e.now.mode (operand_at e.now room) wanted text.now ≡ Ok (p.0, p.1.now)) (λ code. item_at e.now.mode (operand_at e.now room) wanted text.now ≡ Err code) }

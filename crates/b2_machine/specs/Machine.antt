@@ -211,7 +211,7 @@ step_by (Some text) s = record { after = record (shows (on_new_line text s) s) {
 abbrev pub step : SoloState → Stepped
 step s = step_by s.pending s
 
--- a turn, as the fold of at most so many counting steps
+-- a turn, as the fold of at most `quota` counting steps
 pub record Turned : Type 0 where
   pub after : SoloState
   pub steps : ℕ

@@ -2,7 +2,7 @@ use crate::Solo;
 use std::alloc::Global;
 use std::test::Fail;
 
-// Lines typed one after another, and what stands behind the echo of the last.
+// Lines typed one after another, and what stands after the echo of the last.
 const ROWS: [(&[&[u8]], &[u8]); 45] = [
     (&[b"PRINT 2+2"], b" 4 \n:"),
     (&[b"  print  2 + 2 - 9  "], b"-5 \n:"),
@@ -63,7 +63,7 @@ const ROWS: [(&[&[u8]], &[u8]); 45] = [
     (&[b"10 GOTO 20", b"RUN"], b"ERR P36 AT 10\n:"),
 ];
 
-// Programs that are typed, listed, edited and run, and what stands behind the echo of the last line.
+// Programs that are typed, listed, edited and run, and what stands after the echo of the last line.
 const PROGRAMS: [(&[&[u8]], &[u8]); 26] = [
     (&[b"RUN"], b":"),
     (&[b"10"], b":"),
