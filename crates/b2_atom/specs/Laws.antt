@@ -16,8 +16,7 @@ use Rattle.b2_atom.specs.declared.words.Origin.TheVariants as origin
 abbrev pub IsTree : Trees → Type 0
 IsTree t = LineTree origin.Atoms t
 
--- a tree of any depth: one that the rows allow in such a line where some number of parentheses may be open in a statement,
--- whatever that number is
+-- a tree of any depth: one that the rows allow in such a line, however many parentheses are open in its statements
 abbrev pub IsTreeOfAnyDepth : Trees → Type 0
 IsTreeOfAnyDepth t = (most : ℕ) × LineTreeWithin most origin.Atoms t
 

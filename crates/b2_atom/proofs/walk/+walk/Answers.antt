@@ -2,7 +2,7 @@ use Rattle.std.proofs.Common.{rules, arith, sym, ap, ◌∙◌, ◌≡◌, ◌<�
 use Rattle.b2_atom.specs.Tree.{seen_sink, emitted}
 use Rattle.b2_atom.specs.declared.forms.Item.{Item}
 use Rattle.std.proofs.lemmas.Grind.{common_steps}
-use Rattle.b2_atom.specs.Grammar.{starts, item, item_of_part, level, deep, statement, statement_within, read_item}
+use Rattle.b2_atom.specs.Grammar.{starts, item, item_of_part, level, deep, statement_within, read_item}
 use Rattle.b2_atom.proofs.reading.Binds.{emitted-under, next_item, no_item, row_end, row_of_part, once_more, once_failed, many_end, many_out, nest_more, takes_same, emitted-silent, statement_ok, statement_err}
 use Rattle.b2_atom.proofs.walk.+walk.Goals as goal
 
