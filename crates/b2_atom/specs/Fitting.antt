@@ -80,29 +80,29 @@ abbrev pub FitsPut : Origin → List Item → Token → (List Item → Type 0) �
 FitsPut o [] t more = ⊥
 FitsPut o (i ∷ is) t more = (fits_token o i t ≡ true) × more is
 
--- a branch in the place of an item, where `room` parentheses may still open
-abbrev pub FitsBranch : Origin → ℕ → Item → List Item → ℕ → (ℕ → List Item → Type 0) → (List Item → Type 0) → Type 0
-FitsBranch o room (Part n) is m below more = (m ≡ 2) × (below room (row_items n) × more is)
-FitsBranch o room (Maybe s n) is zero below more = below room [] × more is
-FitsBranch o room (Maybe s n) is (suc zero) below more = below room (row_items n) × more is
-FitsBranch o room (Either s n k) is zero below more = below room (row_items k) × more is
-FitsBranch o room (Either s n k) is (suc zero) below more = below room (row_items n) × more is
-FitsBranch o room (Many s n) is zero below more = below room [] × more is
-FitsBranch o room (Many s n) is (suc zero) below more = below room (row_items n) × more (Many s n ∷ is)
-FitsBranch o (suc room) (Nest n) is m below more = (m ≡ 2) × (below room (row_items n) × more is)
-FitsBranch o room (Statement p) is m below more = (is_statement forms o p m ≡ true) × (below 32 (row_items m) × more is)
-FitsBranch o room i is m below more = ⊥
+-- a branch in the place of an item, where `room` parentheses may still open, and `most` in a statement that begins there
+abbrev pub FitsBranch : Origin → ℕ → ℕ → Item → List Item → ℕ → (ℕ → List Item → Type 0) → (List Item → Type 0) → Type 0
+FitsBranch o most room (Part n) is m below more = (m ≡ 2) × (below room (row_items n) × more is)
+FitsBranch o most room (Maybe s n) is zero below more = below room [] × more is
+FitsBranch o most room (Maybe s n) is (suc zero) below more = below room (row_items n) × more is
+FitsBranch o most room (Either s n k) is zero below more = below room (row_items k) × more is
+FitsBranch o most room (Either s n k) is (suc zero) below more = below room (row_items n) × more is
+FitsBranch o most room (Many s n) is zero below more = below room [] × more is
+FitsBranch o most room (Many s n) is (suc zero) below more = below room (row_items n) × more (Many s n ∷ is)
+FitsBranch o most (suc room) (Nest n) is m below more = (m ≡ 2) × (below room (row_items n) × more is)
+FitsBranch o most room (Statement p) is m below more = (is_statement forms o p m ≡ true) × (below most (row_items m) × more is)
+FitsBranch o most room i is m below more = ⊥
 
-abbrev pub FitsIn : Origin → ℕ → List Item → ℕ → (ℕ → List Item → Type 0) → (List Item → Type 0) → Type 0
-FitsIn o room [] m below more = ⊥
-FitsIn o room (i ∷ is) m below more = FitsBranch o room i is m below more
+abbrev pub FitsIn : Origin → ℕ → ℕ → List Item → ℕ → (ℕ → List Item → Type 0) → (List Item → Type 0) → Type 0
+FitsIn o most room [] m below more = ⊥
+FitsIn o most room (i ∷ is) m below more = FitsBranch o most room i is m below more
 
--- the trees that items allow in such a line, where `room` parentheses may still open
-abbrev pub Fits : Origin → ℕ → List Item → Trees → Type 0
-Fits o room is Done = may_end is ≡ true
-Fits o room is (Put t ts) = FitsPut o (giving is) t (λ (rest : List Item). Fits o room rest ts)
-Fits o room is (In m inner ts) =
-    FitsIn o room (giving is) m (λ (deep : ℕ) (items : List Item). Fits o deep items inner) (λ (rest : List Item). Fits o room rest ts)
+-- the trees that items allow in such a line, where at most `most` parentheses are open in a statement, and `room` may still open
+abbrev pub Fits : Origin → ℕ → ℕ → List Item → Trees → Type 0
+Fits o most room is Done = may_end is ≡ true
+Fits o most room is (Put t ts) = FitsPut o (giving is) t (λ (rest : List Item). Fits o most room rest ts)
+Fits o most room is (In m inner ts) =
+    FitsIn o most room (giving is) m (λ (deep : ℕ) (items : List Item). Fits o most deep items inner) (λ (rest : List Item). Fits o most room rest ts)
 
 -- a remark and an image line run to the line's end
 abbrev pub is_remark : Token → Bool
@@ -118,7 +118,11 @@ abbrev pub RemarksEnd : List Token → Type 0
 RemarksEnd [] = Unit {0}
 RemarksEnd (t ∷ ts) = (is_remark t ≡ true → is_rest ts ≡ true) × RemarksEnd ts
 
--- the trees of lines
-pub record LineTree (o : Origin) (t : Trees) : Type 0 where
-  pub fits : Fits o 32 (row_items row.LINE) t
+-- the trees of lines in whose statements at most `most` parentheses are open
+pub record LineTreeWithin (most : ℕ) (o : Origin) (t : Trees) : Type 0 where
+  pub fits : Fits o most most (row_items row.LINE) t
   pub remarks : RemarksEnd (tokens t)
+
+-- in the lines of the language at most 32 are open
+abbrev pub LineTree : Origin → Trees → Type 0
+LineTree o t = LineTreeWithin 32 o t

@@ -7,7 +7,7 @@ use Rattle.b2_atom.specs.Tree.{Trees, atoms, tokens}
 use Rattle.b2_atom.specs.Tree.Trees.{Done, In}
 use Rattle.b2_atom.specs.Grammar.{reader, statement, read_line}
 use Rattle.b2_atom.specs.Lines.{is_line, line_atoms, LineUnit, units_of}
-use Rattle.b2_atom.specs.Fitting.{LineTree}
+use Rattle.b2_atom.specs.Fitting.{LineTree, LineTreeWithin}
 use Rattle.b2_atom.specs.Units.{TreeUnit, unit_atoms, units_on}
 use Rattle.b2_atom.specs.declared.words.Origin.{Origin}
 use Rattle.b2_atom.specs.declared.words.Origin.TheVariants as origin
@@ -15,6 +15,10 @@ use Rattle.b2_atom.specs.declared.words.Origin.TheVariants as origin
 -- a tree of the language: one that the rows of the table allow in a line of atoms, where every statement may stand
 abbrev pub IsTree : Trees → Type 0
 IsTree t = LineTree origin.Atoms t
+
+-- a tree of any depth: one that the rows allow in such a line, however many parentheses are open in its statements
+abbrev pub IsTreeOfAnyDepth : Trees → Type 0
+IsTreeOfAnyDepth t = (most : ℕ) × LineTreeWithin most origin.Atoms t
 
 -- a line spells a tree
 pub record SpellsTree (line : Text) : Type 0 where
@@ -42,9 +46,9 @@ pub record FitsWhole (o : Origin) (t : Trees) (rest : Text) : Type 0 where
 abbrev pub WhatIsReadFitsTheRows : Type 0
 WhatIsReadFitsTheRows = (o : Origin) (source : Text) (t : Trees) (rest : Text) → read_line o source ≡ Ok (t, rest) → FitsWhole o t rest
 
--- no two trees have the same atoms
+-- no two trees have the same atoms, however deep their parentheses are
 abbrev pub NoTwoTreesShareAtoms : Type 0
-NoTwoTreesShareAtoms = (t u : Trees) → IsTree t → IsTree u → atoms t ≡ atoms u → t ≡ u
+NoTwoTreesShareAtoms = (t u : Trees) → IsTreeOfAnyDepth t → IsTreeOfAnyDepth u → atoms t ≡ atoms u → t ≡ u
 
 -- what a source is read as is a tree of the language that such a line allows, and its atoms are a line again
 abbrev pub WhatIsReadIsALine : Type 0

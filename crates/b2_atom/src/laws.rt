@@ -21,7 +21,7 @@ pub fn what_is_read_fits_the_rows()
     ensures { WhatIsReadFitsTheRows }
 {}
 
-/// No two trees that the table allows have the same atoms.
+/// No two trees that the table allows have the same atoms, however deep their parentheses are.
 pub fn no_two_trees_share_atoms()
     ensures { NoTwoTreesShareAtoms }
 {}

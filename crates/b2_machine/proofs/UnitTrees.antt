@@ -5,7 +5,7 @@ use Rattle.b2_dec.specs.declared.number.Mode.{Mode}
 use Rattle.b2_atom.specs.Words.{Text}
 use Rattle.b2_atom.specs.Tree.{Trees, Outcome, Parser, under}
 use Rattle.b2_atom.specs.Tree.Trees.{Done, In}
-use Rattle.b2_atom.specs.Grammar.{reader, level, deep, statement, chosen, from, statement_row, row_at}
+use Rattle.b2_atom.specs.Grammar.{reader, level, deep, statement, statement_within, chosen, from, statement_row, row_at}
 use Rattle.b2_atom.specs.Table.{forms}
 use Rattle.b2_atom.specs.declared.words.Origin.TheVariants.{Atoms}
 use Rattle.b2_atom.specs.declared.sink.Stop.{Stop}
@@ -41,12 +41,12 @@ chosen_row (Err e) q t r a rest is = cc
 chosen_row (Ok n) q t r a rest is = ap Ok (under_is n r (q n t) a rest is).0
 
 row_chosen : (p : Position) (t : Text) (r : ℕ) (a : Trees) (rest : Text) → statement (reader Atoms) 1 p t ≡ Ok (In r a Done, rest) → row_at forms Atoms p t ≡ Ok r
-unfolding statement statement_row
+unfolding statement_within statement_row
 row_chosen p t r a rest is = chosen_row (row_at forms Atoms p t) (level (reader Atoms) (statement (reader Atoms) 0) (deep (reader Atoms) (statement (reader Atoms) 0) 32) 40) t r a rest is
 
 level_read : (p : Position) (t : Text) (r : ℕ) (a : Trees) (rest : Text) → statement (reader Atoms) 1 p t ≡ Ok (In r a Done, rest)
     → level (reader Atoms) (statement (reader Atoms) 0) (deep (reader Atoms) (statement (reader Atoms) 0) 32) 40 r t ≡ Ok (a, rest)
-unfolding statement statement_row
+unfolding statement_within statement_row
 level_read p t r a rest is = chosen_is (row_at forms Atoms p t) (level (reader Atoms) (statement (reader Atoms) 0) (deep (reader Atoms) (statement (reader Atoms) 0) 32) 40) t r a rest is
 
 -- the case of a row

@@ -9,7 +9,7 @@ use Rattle.b2_atom.specs.Tokens.Token.{Coded, Plain}
 use Rattle.b2_atom.specs.Tree.{Trees, Outcome, Parser, one, nothing, and_then, under}
 use Rattle.b2_atom.specs.Tree.Trees.{Done, Put, In}
 use Rattle.b2_atom.specs.Table.{forms}
-use Rattle.b2_atom.specs.Grammar.{reader, statement, statement_row, row_at, from, chosen, plain_of, level, deep, items, item, mark, read_leaf, row_items, starts}
+use Rattle.b2_atom.specs.Grammar.{reader, statement, statement_within, statement_row, row_at, from, chosen, plain_of, level, deep, items, item, mark, read_leaf, row_items, starts}
 use Rattle.b2_atom.specs.declared.words.TheConstants as word
 use Rattle.b2_atom.specs.declared.rows.TheConstants as row
 use Rattle.b2_atom.specs.declared.words.Origin.TheVariants.{Atoms}
@@ -76,7 +76,7 @@ by_row p s m t (Err e) is h = cc
 by_row p s m t (Ok n) is h = by_read p s n m t (row_read n s) is refl h
 
 pub chosen_of : (p : Position) (s : Text) (m : ℕ) (t : Trees) → statement (reader Atoms) 1 p s ≡ Ok (In m t Done, []) → Chosen p s m t
-unfolding statement statement_row
+unfolding statement_within statement_row
 chosen_of p s m t h = by_row p s m t (row_at forms Atoms p s) refl h
 
 -- what is read after a token

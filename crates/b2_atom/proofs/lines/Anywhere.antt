@@ -1,11 +1,11 @@
--- A tree that some kind of line allows is one that a line of atoms allows.
-use Rattle.std.proofs.Common.{◌≡◌, ℕ, zero, suc, ◌==◌, ◌&&◌, ◌||◌, not, Bool, true, false, List, [], ◌∷◌, refl, inl, inr}
+-- A tree that some kind of line allows is one that a line of atoms allows, also where more parentheses may be open.
+use Rattle.std.proofs.Common.{◌≡◌, ℕ, zero, suc, ◌≤◌, ◌==◌, ◌&&◌, ◌||◌, not, Bool, true, false, List, [], ◌∷◌, refl, arith, inl, inr}
 use Rattle.b2_atom.specs.Tokens.{Token}
 use Rattle.b2_atom.specs.Tokens.Token.{Coded, Plain, Lined}
 use Rattle.b2_atom.specs.Tree.{Trees}
 use Rattle.b2_atom.specs.Tree.Trees.{Done, Put, In}
 use Rattle.b2_atom.specs.Grammar.{row_items, barred_following, barred_line, barred_place}
-use Rattle.b2_atom.specs.Fitting.{Fits, FitsPut, FitsIn, FitsBranch, fits_token, giving, is_statement, is_allowed, LineTree}
+use Rattle.b2_atom.specs.Fitting.{Fits, FitsPut, FitsIn, FitsBranch, fits_token, giving, is_statement, is_allowed, LineTree, LineTreeWithin}
 use Rattle.b2_atom.specs.Table.{forms}
 use Rattle.b2_atom.specs.declared.rows.TheConstants as row
 use Rattle.b2_atom.specs.declared.words.Origin.{Origin}
@@ -134,50 +134,62 @@ statement_anywhere o p m (f ∷ fs) h = elim (or_cases (f.row == m && is_allowed
   | inr g ↦ or_other (f.row == m && is_allowed origin.Atoms p f.rule) _ (statement_anywhere o p m fs g)
 ]
 
+none_less : (n : ℕ) → suc n ≤ 0 → ⊥
+none_less n h = omega (arith, h)
+
+one_less : (n m : ℕ) → suc n ≤ suc m → n ≤ m
+one_less n m h = omega (arith, h)
+
 abbrev Anywhere : Trees → Type 0
-Anywhere t = (o : Origin) (room : ℕ) (is : List Item) → Fits o room is t → Fits origin.Atoms room is t
+Anywhere t = (o : Origin) (most more room wider : ℕ) → most ≤ more → room ≤ wider → (is : List Item) → Fits o most room is t → Fits origin.Atoms more wider is t
 
-branch_anywhere : (inner ts : Trees) → Anywhere inner → Anywhere ts → (o : Origin) (room m : ℕ) (i : Item) (is : List Item)
-    → FitsBranch o room i is m (λ (deep : ℕ) (items : List Item). Fits o deep items inner) (λ (rest : List Item). Fits o room rest ts)
-    → FitsBranch origin.Atoms room i is m (λ (deep : ℕ) (items : List Item). Fits origin.Atoms deep items inner) (λ (rest : List Item). Fits origin.Atoms room rest ts)
-branch_anywhere inner ts ai at o room m (Part n) is h = (h.0, (ai o room (row_items n) h.1.0, at o room is h.1.1))
-branch_anywhere inner ts ai at o room zero (Maybe s n) is h = (ai o room [] h.0, at o room is h.1)
-branch_anywhere inner ts ai at o room (suc zero) (Maybe s n) is h = (ai o room (row_items n) h.0, at o room is h.1)
-branch_anywhere inner ts ai at o room (suc (suc m)) (Maybe s n) is h = absurd h
-branch_anywhere inner ts ai at o room zero (Either s n k) is h = (ai o room (row_items k) h.0, at o room is h.1)
-branch_anywhere inner ts ai at o room (suc zero) (Either s n k) is h = (ai o room (row_items n) h.0, at o room is h.1)
-branch_anywhere inner ts ai at o room (suc (suc m)) (Either s n k) is h = absurd h
-branch_anywhere inner ts ai at o room zero (Many s n) is h = (ai o room [] h.0, at o room is h.1)
-branch_anywhere inner ts ai at o room (suc zero) (Many s n) is h = (ai o room (row_items n) h.0, at o room (Many s n ∷ is) h.1)
-branch_anywhere inner ts ai at o room (suc (suc m)) (Many s n) is h = absurd h
-branch_anywhere inner ts ai at o zero m (Nest n) is h = absurd h
-branch_anywhere inner ts ai at o (suc room) m (Nest n) is h = (h.0, (ai o room (row_items n) h.1.0, at o (suc room) is h.1.1))
-branch_anywhere inner ts ai at o room m (Statement p) is h = (statement_anywhere o p m forms h.0, (ai o 32 (row_items m) h.1.0, at o room is h.1.1))
-branch_anywhere inner ts ai at o room m (Word c) is h = absurd h
-branch_anywhere inner ts ai at o room m (Sign c code) is h = absurd h
-branch_anywhere inner ts ai at o room m (Among a b code) is h = absurd h
-branch_anywhere inner ts ai at o room m (ProgramWord c) is h = absurd h
-branch_anywhere inner ts ai at o room m (Ignored c) is h = absurd h
-branch_anywhere inner ts ai at o room m Comma is h = absurd h
-branch_anywhere inner ts ai at o room m LeftOut is h = absurd h
-branch_anywhere inner ts ai at o room m End is h = absurd h
-branch_anywhere inner ts ai at o room m (Typed k code) is h = absurd h
+branch_anywhere : (inner ts : Trees) → Anywhere inner → Anywhere ts → (o : Origin) (most more room wider : ℕ) → most ≤ more → room ≤ wider → (m : ℕ) (i : Item) (is : List Item)
+    → FitsBranch o most room i is m (λ (deep : ℕ) (items : List Item). Fits o most deep items inner) (λ (rest : List Item). Fits o most room rest ts)
+    → FitsBranch origin.Atoms more wider i is m (λ (deep : ℕ) (items : List Item). Fits origin.Atoms more deep items inner) (λ (rest : List Item). Fits origin.Atoms more wider rest ts)
+branch_anywhere inner ts ai at o most more room wider greater roomier m (Part n) is h = (h.0, (ai o most more room wider greater roomier (row_items n) h.1.0, at o most more room wider greater roomier is h.1.1))
+branch_anywhere inner ts ai at o most more room wider greater roomier zero (Maybe s n) is h = (ai o most more room wider greater roomier [] h.0, at o most more room wider greater roomier is h.1)
+branch_anywhere inner ts ai at o most more room wider greater roomier (suc zero) (Maybe s n) is h = (ai o most more room wider greater roomier (row_items n) h.0, at o most more room wider greater roomier is h.1)
+branch_anywhere inner ts ai at o most more room wider greater roomier (suc (suc m)) (Maybe s n) is h = absurd h
+branch_anywhere inner ts ai at o most more room wider greater roomier zero (Either s n k) is h = (ai o most more room wider greater roomier (row_items k) h.0, at o most more room wider greater roomier is h.1)
+branch_anywhere inner ts ai at o most more room wider greater roomier (suc zero) (Either s n k) is h = (ai o most more room wider greater roomier (row_items n) h.0, at o most more room wider greater roomier is h.1)
+branch_anywhere inner ts ai at o most more room wider greater roomier (suc (suc m)) (Either s n k) is h = absurd h
+branch_anywhere inner ts ai at o most more room wider greater roomier zero (Many s n) is h = (ai o most more room wider greater roomier [] h.0, at o most more room wider greater roomier is h.1)
+branch_anywhere inner ts ai at o most more room wider greater roomier (suc zero) (Many s n) is h = (ai o most more room wider greater roomier (row_items n) h.0, at o most more room wider greater roomier (Many s n ∷ is) h.1)
+branch_anywhere inner ts ai at o most more room wider greater roomier (suc (suc m)) (Many s n) is h = absurd h
+branch_anywhere inner ts ai at o most more zero wider greater roomier m (Nest n) is h = absurd h
+branch_anywhere inner ts ai at o most more (suc room) zero greater roomier m (Nest n) is h = absurd (none_less room roomier)
+branch_anywhere inner ts ai at o most more (suc room) (suc wider) greater roomier m (Nest n) is h =
+    (h.0, (ai o most more room wider greater (one_less room wider roomier) (row_items n) h.1.0, at o most more (suc room) (suc wider) greater roomier is h.1.1))
+branch_anywhere inner ts ai at o most more room wider greater roomier m (Statement p) is h = (statement_anywhere o p m forms h.0, (ai o most more most more greater greater (row_items m) h.1.0, at o most more room wider greater roomier is h.1.1))
+branch_anywhere inner ts ai at o most more room wider greater roomier m (Word c) is h = absurd h
+branch_anywhere inner ts ai at o most more room wider greater roomier m (Sign c code) is h = absurd h
+branch_anywhere inner ts ai at o most more room wider greater roomier m (Among a b code) is h = absurd h
+branch_anywhere inner ts ai at o most more room wider greater roomier m (ProgramWord c) is h = absurd h
+branch_anywhere inner ts ai at o most more room wider greater roomier m (Ignored c) is h = absurd h
+branch_anywhere inner ts ai at o most more room wider greater roomier m Comma is h = absurd h
+branch_anywhere inner ts ai at o most more room wider greater roomier m LeftOut is h = absurd h
+branch_anywhere inner ts ai at o most more room wider greater roomier m End is h = absurd h
+branch_anywhere inner ts ai at o most more room wider greater roomier m (Typed k code) is h = absurd h
 
-in_anywhere : (inner ts : Trees) → Anywhere inner → Anywhere ts → (o : Origin) (room m : ℕ) (is : List Item)
-    → FitsIn o room is m (λ (deep : ℕ) (items : List Item). Fits o deep items inner) (λ (rest : List Item). Fits o room rest ts)
-    → FitsIn origin.Atoms room is m (λ (deep : ℕ) (items : List Item). Fits origin.Atoms deep items inner) (λ (rest : List Item). Fits origin.Atoms room rest ts)
-in_anywhere inner ts ai at o room m [] h = absurd h
-in_anywhere inner ts ai at o room m (i ∷ is) h = branch_anywhere inner ts ai at o room m i is h
+in_anywhere : (inner ts : Trees) → Anywhere inner → Anywhere ts → (o : Origin) (most more room wider : ℕ) → most ≤ more → room ≤ wider → (m : ℕ) (is : List Item)
+    → FitsIn o most room is m (λ (deep : ℕ) (items : List Item). Fits o most deep items inner) (λ (rest : List Item). Fits o most room rest ts)
+    → FitsIn origin.Atoms more wider is m (λ (deep : ℕ) (items : List Item). Fits origin.Atoms more deep items inner) (λ (rest : List Item). Fits origin.Atoms more wider rest ts)
+in_anywhere inner ts ai at o most more room wider greater roomier m [] h = absurd h
+in_anywhere inner ts ai at o most more room wider greater roomier m (i ∷ is) h = branch_anywhere inner ts ai at o most more room wider greater roomier m i is h
 
-put_anywhere : (t : Token) (ts : Trees) → Anywhere ts → (o : Origin) (room : ℕ) (is : List Item) → FitsPut o is t (λ (rest : List Item). Fits o room rest ts)
-    → FitsPut origin.Atoms is t (λ (rest : List Item). Fits origin.Atoms room rest ts)
-put_anywhere t ts at o room [] h = absurd h
-put_anywhere t ts at o room (i ∷ is) h = (token_anywhere o i t h.0, at o room is h.1)
+put_anywhere : (t : Token) (ts : Trees) → Anywhere ts → (o : Origin) (most more room wider : ℕ) → most ≤ more → room ≤ wider → (is : List Item) → FitsPut o is t (λ (rest : List Item). Fits o most room rest ts)
+    → FitsPut origin.Atoms is t (λ (rest : List Item). Fits origin.Atoms more wider rest ts)
+put_anywhere t ts at o most more room wider greater roomier [] h = absurd h
+put_anywhere t ts at o most more room wider greater roomier (i ∷ is) h = (token_anywhere o i t h.0, at o most more room wider greater roomier is h.1)
 
 fits_anywhere : (t : Trees) → Anywhere t
-fits_anywhere Done o room is h = h
-fits_anywhere (Put t ts) o room is h = put_anywhere t ts (fits_anywhere ts) o room (giving is) h
-fits_anywhere (In m inner ts) o room is h = in_anywhere inner ts (fits_anywhere inner) (fits_anywhere ts) o room m (giving is) h
+fits_anywhere Done o most more room wider greater roomier is h = h
+fits_anywhere (Put t ts) o most more room wider greater roomier is h = put_anywhere t ts (fits_anywhere ts) o most more room wider greater roomier (giving is) h
+fits_anywhere (In m inner ts) o most more room wider greater roomier is h = in_anywhere inner ts (fits_anywhere inner) (fits_anywhere ts) o most more room wider greater roomier m (giving is) h
+
+-- and where more parentheses may be open
+pub anywhere_wider : (most more : ℕ) → most ≤ more → (o : Origin) (t : Trees) → LineTreeWithin most o t → LineTreeWithin more origin.Atoms t
+anywhere_wider most more greater o t h = record { fits = fits_anywhere t o most more most more greater greater (row_items row.LINE) h.fits; remarks = h.remarks }
 
 pub anywhere : (o : Origin) (t : Trees) → LineTree o t → LineTree origin.Atoms t
-anywhere o t h = record { fits = fits_anywhere t o 32 (row_items row.LINE) h.fits; remarks = h.remarks }
+anywhere o t h = anywhere_wider 32 32 (let same : 32 ≤ 32 = omega arith in same) o t h

@@ -10,7 +10,7 @@ use Rattle.b2_atom.specs.Tokens.{Token}
 use Rattle.b2_atom.specs.Tokens.Token.{Coded, Plain, Lined}
 use Rattle.b2_atom.specs.Tree.{Trees, Outcome, atoms, tokens}
 use Rattle.b2_atom.specs.Tree.Trees.{Done, Put, In}
-use Rattle.b2_atom.specs.Grammar.{reader, statement, statement_row, row_items, starts}
+use Rattle.b2_atom.specs.Grammar.{reader, statement, statement_within, statement_row, row_items, starts}
 use Rattle.b2_atom.specs.Lines.{LineUnit, unit_at, units_from, units_after, after_unit, left_after, units_of}
 use Rattle.b2_atom.specs.Spelling.{Spells, atoms_of_tokens}
 use Rattle.b2_atom.specs.Fitting.{Fits, is_statement}
@@ -60,7 +60,7 @@ unit_atoms_are p m t xs more h =
 
 -- nothing is read as a statement of no bytes
 none_there : (p : Position) → is_ok (statement (reader Atoms) 1 p []) ≡ false
-unfolding statement statement_row starts
+unfolding statement_within statement_row starts
 none_there p = refl
 
 some_bytes : (p : Position) (t : Trees) (s rest : Text) → statement (reader Atoms) 1 p s ≡ Ok (t, rest) → 1 ≤ length s
@@ -87,10 +87,10 @@ abbrev FurtherItems : List Item
 FurtherItems = Many (start.Code 58) row.FURTHER_STATEMENT ∷ End ∷ []
 
 abbrev FurtherRows : Trees → Type 0
-FurtherRows ts = Fits Atoms 32 FurtherItems ts
+FurtherRows ts = Fits Atoms 32 32 FurtherItems ts
 
 abbrev FurtherRow : Trees → Type 0
-FurtherRow q = Fits Atoms 32 (Sign 58 25 ∷ Statement place.Further ∷ []) q
+FurtherRow q = Fits Atoms 32 32 (Sign 58 25 ∷ Statement place.Further ∷ []) q
 
 -- the units from a statement on
 abbrev units_from_it : Position → ℕ → Trees → Trees → List TreeUnit
@@ -98,7 +98,7 @@ units_from_it p m t ts = record { place = p; row = m; tree = own (row_items m) t
 
 -- what gives the units from where a statement stands, in at most n bytes
 abbrev AllOf : ℕ → (Position → Text → List LineUnit) → Type 0
-AllOf n f = (p : Position) (m : ℕ) (t ts : Trees) → is_statement forms Atoms p m ≡ true → Fits Atoms 32 (row_items m) t → FurtherRows ts
+AllOf n f = (p : Position) (m : ℕ) (t ts : Trees) → is_statement forms Atoms p m ≡ true → Fits Atoms 32 32 (row_items m) t → FurtherRows ts
     → Stand (tokens t ++ tokens ts) → length (atoms_of_tokens (tokens t ++ tokens ts)) ≤ n → Cut (f p (atoms_of_tokens (tokens t ++ tokens ts))) (units_from_it p m t ts)
 
 -- after a `:`
@@ -133,14 +133,14 @@ further_units n f all (Put (Lined h l) us) ts fits more st few = cc
 further_units n f all (In m t us) ts fits more st few = absurd fits
 further_units n f all Done ts fits more st few = cc
 
-further_row : (q : Trees) → Fits Atoms 32 (row_items row.FURTHER_STATEMENT) q → FurtherRow q
-further_row q fits = subst (λ (is : List Item). Fits Atoms 32 is q) further_is fits
+further_row : (q : Trees) → Fits Atoms 32 32 (row_items row.FURTHER_STATEMENT) q → FurtherRow q
+further_row q fits = subst (λ (is : List Item). Fits Atoms 32 32 is q) further_is fits
 
 -- the units after a statement
 behind_units : (n : ℕ) (f : Position → Text → List LineUnit) → AllOf n f → (ts : Trees) → FurtherRows ts → Stand (tokens ts) → length (atoms_of_tokens (tokens ts)) ≤ n
     → Cut (units_after f (atoms_of_tokens (tokens ts))) (units_in FurtherItems ts)
 behind_units n f all (In zero q Done) fits st few =
-    let P : Trees → Type 0 = λ x. Cut (units_after f (atoms_of_tokens (tokens (In 0 x Done)))) (units_in FurtherItems (In 0 x Done)) in subst P (sym (done_of Atoms 32 q fits.0)) cut_none
+    let P : Trees → Type 0 = λ x. Cut (units_after f (atoms_of_tokens (tokens (In 0 x Done)))) (units_in FurtherItems (In 0 x Done)) in subst P (sym (done_of Atoms 32 32 q fits.0)) cut_none
 behind_units n f all (In zero q (Put t ts)) fits st few = absurd fits.1
 behind_units n f all (In zero q (In k t ts)) fits st few = absurd fits.1
 behind_units n f all (In (suc zero) q ts) fits st few =
@@ -159,7 +159,7 @@ further_closes (In m t us) ts fits = absurd fits
 further_closes Done ts fits = cc
 
 rows_close : (ts : Trees) → FurtherRows ts → is_closing (tokens ts) ≡ true
-rows_close (In zero q Done) fits = let P : Trees → Type 0 = λ x. is_closing (tokens (In 0 x Done)) ≡ true in subst P (sym (done_of Atoms 32 q fits.0)) refl
+rows_close (In zero q Done) fits = let P : Trees → Type 0 = λ x. is_closing (tokens (In 0 x Done)) ≡ true in subst P (sym (done_of Atoms 32 32 q fits.0)) refl
 rows_close (In zero q (Put t ts)) fits = absurd fits.1
 rows_close (In zero q (In n t ts)) fits = absurd fits.1
 rows_close (In (suc zero) q ts) fits = further_closes q ts (further_row q fits.0)
@@ -224,7 +224,7 @@ all_units zero p m t ts stated fits more st few =
 all_units (suc n) p m t ts stated fits more st few =
     units_from_one n (units_from n) (all_units n) p m t ts (tokens t ++ tokens ts) more (first_unit p m t (tokens ts) stated fits (rows_close ts more) st) st few
 
-line_units : (n : ℕ) (t : Trees) → Fits Atoms 32 (Statement place.First ∷ FurtherItems) t → Stand (tokens t) → length (atoms_of_tokens (tokens t)) ≤ n
+line_units : (n : ℕ) (t : Trees) → Fits Atoms 32 32 (Statement place.First ∷ FurtherItems) t → Stand (tokens t) → length (atoms_of_tokens (tokens t)) ≤ n
     → Cut (units_from n place.First (atoms_of_tokens (tokens t))) (units_in (Statement place.First ∷ FurtherItems) t)
 line_units n Done fits st few = cc
 line_units n (Put x ts) fits st few = cc
@@ -233,13 +233,13 @@ line_units n (In m t ts) fits st few = all_units n place.First m t ts fits.0 fit
 tree_cut : (t : Trees) → IsTree t → Cut (units_of (atoms t)) (units_on t)
 unfolding units_of units_on
 tree_cut t h =
-    let good = good_tree Atoms t h in
+    let good = good_tree 32 Atoms t h in
     let st : Stand (tokens t) = record { good = good.0; neighbours = good.1; remarks = h.remarks } in
     let same : atoms_of_tokens (tokens t) ≡ atoms t = tree_atoms t in
     let few : length (atoms_of_tokens (tokens t)) ≤ length (atoms t) = (let e = ap (λ (l : Text). length l) same in omega (arith, e)) in
     subst (λ (s : Text). Cut (units_from (length (atoms t)) place.First s) (units_in (row_items row.LINE) t)) same
     (subst (λ (is : List Item). Cut (units_from (length (atoms t)) place.First (atoms_of_tokens (tokens t))) (units_in is t)) (sym line_is)
-    (line_units (length (atoms t)) t (subst (λ (is : List Item). Fits Atoms 32 is t) line_is h.fits) st few))
+    (line_units (length (atoms t)) t (subst (λ (is : List Item). Fits Atoms 32 32 is t) line_is h.fits) st few))
 
 pub tree_is_cut : EachTreeIsCutIntoUnits
 tree_is_cut t h = let c = tree_cut t h in record { units = c.units; alone = c.alone }

@@ -7,7 +7,7 @@ use Rattle.b2_atom.specs.Tokens.{Token}
 use Rattle.b2_atom.specs.Tokens.Token.{Coded, Plain, Lined}
 use Rattle.b2_atom.specs.Tree.{Trees, tokens, atoms, Outcome, Parser, nothing, preceded, and_then, under, also}
 use Rattle.b2_atom.specs.Tree.Trees.{Done, Put, In}
-use Rattle.b2_atom.specs.Grammar.{reader, items, item, level, deep, statement, row_items, starts, chosen}
+use Rattle.b2_atom.specs.Grammar.{reader, items, item, level, deep, statement, statement_within, row_items, starts, chosen}
 use Rattle.b2_atom.specs.Spelling.{Spells, AllGood, Neighbours, atoms_of_tokens}
 use Rattle.b2_atom.specs.Fitting.{Fits, is_statement, is_rest, RemarksEnd}
 use Rattle.b2_atom.specs.Units.{TreeUnit, own, units_in}
@@ -109,24 +109,24 @@ unit_read p m t xs more same h k = record {
 }
 
 -- what a statement's row reads is the statement's
-chosen_runs : (p : Position) (m : ℕ) (t : Trees) (ts more : List Token) (s : Text) → (one : Stands Atoms p m ts s) → Runs Atoms (reads_part Atoms 32 40 0 m one.0) t more
+chosen_runs : (p : Position) (m : ℕ) (t : Trees) (ts more : List Token) (s : Text) → (one : Stands Atoms p m ts s) → Runs Atoms (reads_part Atoms 32 32 40 0 m one.0) t more
     → Runs Atoms (statement (reader Atoms) 1 p s) (In m t Done) more
-unfolding statement
+unfolding statement_within
 chosen_runs p m t ts more s one h =
-    runs_is Atoms _ (under m (reads_part Atoms 32 40 0 m one.0)) (In m t Done) more
+    runs_is Atoms _ (under m (reads_part Atoms 32 32 40 0 m one.0)) (In m t Done) more
     (ap (λ (w : Result (ℕ × Text) Stop). chosen w (level (reader Atoms) (statement (reader Atoms) 0) (deep (reader Atoms) (statement (reader Atoms) 0) 32) 40)) one.1.0)
-    (runs_under Atoms m (reads_part Atoms 32 40 0 m one.0) t more h)
+    (runs_under Atoms m (reads_part Atoms 32 32 40 0 m one.0) t more h)
 
 -- a row in which no statement stands
-plain_runs : (p : Position) (m : ℕ) (inner : Trees) (more : List Token) → is_statement forms Atoms p m ≡ true → (of m).plain ≡ true → Fits Atoms 32 (row_items m) inner
+plain_runs : (p : Position) (m : ℕ) (inner : Trees) (more : List Token) → is_statement forms Atoms p m ≡ true → (of m).plain ≡ true → Fits Atoms 32 32 (row_items m) inner
     → is_closing more ≡ true → Stand (tokens inner ++ more) → ReadsUnit p m inner (tokens inner) more
 plain_runs p m inner more stated plain fits closed st =
     let s : Text = atoms_of_tokens (tokens inner ++ more) in
-    let one = one_statement Atoms p m inner more s stated fits closed (spelled (tokens inner ++ more) st) in
+    let one = one_statement Atoms p 32 m inner more s stated fits closed (spelled (tokens inner ++ more) st) in
     chosen_runs p m inner (tokens inner ++ more) more s one
-    (statement_row_runs inner (read_back inner) Atoms (chooses Atoms) 0 p m more one.0 stated fits closed st.remarks (λ h. never (of m).plain plain h) one.1.1)
+    (statement_row_runs inner (read_back inner) Atoms (chooses Atoms) 32 0 p m more one.0 stated fits closed st.remarks (λ h. never (of m).plain plain h) one.1.1)
 
-plain_unit : (p : Position) (m : ℕ) (inner : Trees) (more : List Token) → is_statement forms Atoms p m ≡ true → (of m).plain ≡ true → Fits Atoms 32 (row_items m) inner
+plain_unit : (p : Position) (m : ℕ) (inner : Trees) (more : List Token) → is_statement forms Atoms p m ≡ true → (of m).plain ≡ true → Fits Atoms 32 32 (row_items m) inner
     → is_closing more ≡ true → Stand (tokens inner ++ more) → UnitRead p m inner (tokens inner) more
 plain_unit p m inner more stated plain fits closed st =
     unit_read p m inner (tokens inner) more refl (plain_runs p m inner more stated plain fits closed st)
@@ -144,10 +144,10 @@ record Followed (m c : ℕ) (front : List Item) (last : Item) : Type 0 where
 rank_le : (n : ℕ) → nat_le n 39 ≡ true → n ≤ 39
 rank_le n h = grind (arith, nat_tests)
 
-front_runs : (m c : ℕ) (front : List Item) (last : Item) → Followed m c front last → (a : Trees) (mid : List Token) (u : Text) → Fits Atoms 32 (Word c ∷ front) a
-    → RemarksEnd (tokens a ++ mid) → Spells Atoms (tokens a ++ mid) u → Runs Atoms (reads_row Atoms 32 39 0 (Word c ∷ front) u) a mid
+front_runs : (m c : ℕ) (front : List Item) (last : Item) → Followed m c front last → (a : Trees) (mid : List Token) (u : Text) → Fits Atoms 32 32 (Word c ∷ front) a
+    → RemarksEnd (tokens a ++ mid) → Spells Atoms (tokens a ++ mid) u → Runs Atoms (reads_row Atoms 32 32 39 0 (Word c ∷ front) u) a mid
 front_runs m c front last f a mid u fits remarks_ spelled_ =
-    read_back a Atoms (chooses Atoms) 32 39 0 (Word c ∷ front) fits mid
+    read_back a Atoms (chooses Atoms) 32 32 39 0 (Word c ∷ front) fits mid
     (record {
       settles = f.settles;
       ranked = rank_le _ f.ranked;
@@ -168,14 +168,14 @@ items_append st d p (i ∷ is) js s =
     (λ x. and_then (item st d p (reader Atoms) i s) (λ (u : Text). items_append st d p is js u x))
     ∙ sym (then_then (item st d p (reader Atoms) i s) (items st d p (reader Atoms) is) (items st d p (reader Atoms) js))
 
-followed_runs : (m c : ℕ) (front : List Item) (last : Item) → Followed m c front last → (a b : Trees) (mid more : List Token) (u : Text) → Fits Atoms 32 (Word c ∷ front) a
-    → RemarksEnd (tokens a ++ mid) → Spells Atoms (tokens a ++ mid) u → ((v : Text) → Spells Atoms mid v → Runs Atoms (reads_row Atoms 32 39 0 (last ∷ []) v) b more)
-    → Runs Atoms (reads_part Atoms 32 40 0 m u) (also a b) more
+followed_runs : (m c : ℕ) (front : List Item) (last : Item) → Followed m c front last → (a b : Trees) (mid more : List Token) (u : Text) → Fits Atoms 32 32 (Word c ∷ front) a
+    → RemarksEnd (tokens a ++ mid) → Spells Atoms (tokens a ++ mid) u → ((v : Text) → Spells Atoms mid v → Runs Atoms (reads_row Atoms 32 32 39 0 (last ∷ []) v) b more)
+    → Runs Atoms (reads_part Atoms 32 32 40 0 m u) (also a b) more
 unfolding level
 followed_runs m c front last f a b mid more u fits remarks_ spelled_ behind_ =
-    runs_is Atoms _ (and_then (reads_row Atoms 32 39 0 (Word c ∷ front) u) (reads_row Atoms 32 39 0 (last ∷ []))) (also a b) more
-    (ap (λ (is : List Item). reads_row Atoms 32 39 0 is u) f.is ∙ items_append _ _ _ (Word c ∷ front) (last ∷ []) u)
-    (runs_then Atoms (reads_row Atoms 32 39 0 (Word c ∷ front) u) (reads_row Atoms 32 39 0 (last ∷ [])) a b mid more (front_runs m c front last f a mid u fits remarks_ spelled_) behind_)
+    runs_is Atoms _ (and_then (reads_row Atoms 32 32 39 0 (Word c ∷ front) u) (reads_row Atoms 32 32 39 0 (last ∷ []))) (also a b) more
+    (ap (λ (is : List Item). reads_row Atoms 32 32 39 0 is u) f.is ∙ items_append _ _ _ (Word c ∷ front) (last ∷ []) u)
+    (runs_then Atoms (reads_row Atoms 32 32 39 0 (Word c ∷ front) u) (reads_row Atoms 32 32 39 0 (last ∷ [])) a b mid more (front_runs m c front last f a mid u fits remarks_ spelled_) behind_)
 
 -- by itself such a row ends after its front
 opens_first : List Token → Bool
@@ -183,11 +183,11 @@ opens_first [] = true
 opens_first (x ∷ xs) = opens_statement x
 
 cut_stands : (m c : ℕ) (front : List Item) (last : Item) → Followed m c front last → (p : Position) (a : Trees) (s : Text) → is_statement forms Atoms p m ≡ true
-    → Fits Atoms 32 (Word c ∷ front) a → Spells Atoms (tokens a ++ []) s → Stands Atoms p m (tokens a ++ []) s
+    → Fits Atoms 32 32 (Word c ∷ front) a → Spells Atoms (tokens a ++ []) s → Stands Atoms p m (tokens a ++ []) s
 unfolding opens_first
 cut_stands m c front last f p Done s stated fits spelled_ = cc
 cut_stands m c front last f p (Put (Coded d) ts) s stated fits spelled_ =
-    marked Atoms p m (Word c ∷ front) (Put (Coded d) ts) [] s refl f.chosen (λ xs x same. sym (ap opens_first same)) stated fits refl spelled_
+    marked Atoms p 32 m (Word c ∷ front) (Put (Coded d) ts) [] s refl f.chosen (λ xs x same. sym (ap opens_first same)) stated fits refl spelled_
 cut_stands m c front last f p (Put (Plain k w) ts) s stated fits spelled_ = cc
 cut_stands m c front last f p (Put (Lined h l) ts) s stated fits spelled_ = cc
 cut_stands m c front last f p (In n inner ts) s stated fits spelled_ = absurd fits
@@ -197,25 +197,25 @@ none_read : (st : Position → Parser Text) (d p : ℕ → Parser Text) (v : Tex
 unfolding items item
 none_read st d p v h = ap (λ (o : Outcome). and_then o (nothing)) h
 
-none_follows : (v : Text) → reads_part Atoms 32 39 0 row.FOLLOWING v ≡ Ok (Done, v)
-unfolding level statement
-none_follows v = ap (λ (is : List Item). reads_row Atoms 32 38 0 is v) following_is ∙ none_read (statement (reader Atoms) 0) _ _ v refl
+none_follows : (v : Text) → reads_part Atoms 32 32 39 0 row.FOLLOWING v ≡ Ok (Done, v)
+unfolding level statement_within
+none_follows v = ap (λ (is : List Item). reads_row Atoms 32 32 38 0 is v) following_is ∙ none_read (statement (reader Atoms) 0) _ _ v refl
 
-last_runs : (i : Item) (t : Trees) (more : List Token) (v : Text) → Runs Atoms (reads_item Atoms 32 39 0 i v) t more → Runs Atoms (reads_row Atoms 32 39 0 (i ∷ []) v) (also t Done) more
+last_runs : (i : Item) (t : Trees) (more : List Token) (v : Text) → Runs Atoms (reads_item Atoms 32 32 39 0 i v) t more → Runs Atoms (reads_row Atoms 32 32 39 0 (i ∷ []) v) (also t Done) more
 unfolding items
-last_runs i t more v h = next_runs Atoms 32 39 0 i [] t Done more more v h (λ u spelled_. (u, (refl, spelled_)))
+last_runs i t more v h = next_runs Atoms 32 32 39 0 i [] t Done more more v h (λ u spelled_. (u, (refl, spelled_)))
 
 abbrev LineOrStatement : Item
 LineOrStatement = Either start.Line row.LINE_NUMBER row.FOLLOWING
 
 -- what stands after THEN or ELSE is no line number: nothing is read
-either_stops : (mid : List Token) (v : Text) → starts Atoms start.Line v ≡ false → Spells Atoms mid v → Runs Atoms (reads_row Atoms 32 39 0 (LineOrStatement ∷ []) v) (In 0 Done Done) mid
+either_stops : (mid : List Token) (v : Text) → starts Atoms start.Line v ≡ false → Spells Atoms mid v → Runs Atoms (reads_row Atoms 32 32 39 0 (LineOrStatement ∷ []) v) (In 0 Done Done) mid
 unfolding item
 either_stops mid v other spelled_ =
     last_runs LineOrStatement (In 0 Done Done) mid v
     (v, (if_is (starts Atoms start.Line v) false _ _ other ∙ ap (under 0) (none_follows v), spelled_))
 
-part_stops : (mid : List Token) (v : Text) → Spells Atoms mid v → Runs Atoms (reads_row Atoms 32 39 0 (Part row.FOLLOWING ∷ []) v) (In 2 Done Done) mid
+part_stops : (mid : List Token) (v : Text) → Spells Atoms mid v → Runs Atoms (reads_row Atoms 32 32 39 0 (Part row.FOLLOWING ∷ []) v) (In 2 Done Done) mid
 unfolding item
 part_stops mid v spelled_ = last_runs (Part row.FOLLOWING) (In 2 Done Done) mid v (v, (ap (under 2) (none_follows v), spelled_))
 
@@ -239,16 +239,16 @@ line_tails = refl
 rank_lt : (n : ℕ) → nat_lt n 39 ≡ true → suc n ≤ 39
 rank_lt n h = grind (arith, nat_tests)
 
-either_line : (b : Trees) (more : List Token) (v : Text) → Fits Atoms 32 (row_items row.LINE_NUMBER) b → RemarksEnd (tokens b ++ more) → Spells Atoms (tokens b ++ more) v
-    → Runs Atoms (reads_row Atoms 32 39 0 (LineOrStatement ∷ []) v) (In 1 b Done) more
+either_line : (b : Trees) (more : List Token) (v : Text) → Fits Atoms 32 32 (row_items row.LINE_NUMBER) b → RemarksEnd (tokens b ++ more) → Spells Atoms (tokens b ++ more) v
+    → Runs Atoms (reads_row Atoms 32 32 39 0 (LineOrStatement ∷ []) v) (In 1 b Done) more
 unfolding item
 either_line b more v fits remarks_ spelled_ =
     let asked = answers Atoms start.Line (of row.LINE_NUMBER).heads true (tokens b ++ more) v (and_right (not (of row.LINE_NUMBER).empty) _ line_heads)
-    (row_fronts b Atoms 32 row.LINE_NUMBER fits (and_left _ _ line_heads) more) spelled_ in
+    (row_fronts b Atoms 32 32 row.LINE_NUMBER fits (and_left _ _ line_heads) more) spelled_ in
     last_runs LineOrStatement (In 1 b Done) more v
-    (runs_is Atoms _ (under 1 (reads_part Atoms 32 39 0 row.LINE_NUMBER v)) (In 1 b Done) more (if_is (starts Atoms start.Line v) true _ _ asked)
-    (runs_under Atoms 1 (reads_part Atoms 32 39 0 row.LINE_NUMBER v) b more
-    (row_runs b (read_back b) Atoms (chooses Atoms) 32 39 0 row.LINE_NUMBER fits more line_bound (rank_lt _ (and_right (of row.LINE_NUMBER).plain _ line_plain))
+    (runs_is Atoms _ (under 1 (reads_part Atoms 32 32 39 0 row.LINE_NUMBER v)) (In 1 b Done) more (if_is (starts Atoms start.Line v) true _ _ asked)
+    (runs_under Atoms 1 (reads_part Atoms 32 32 39 0 row.LINE_NUMBER v) b more
+    (row_runs b (read_back b) Atoms (chooses Atoms) 32 32 39 0 row.LINE_NUMBER fits more line_bound (rank_lt _ (and_right (of row.LINE_NUMBER).plain _ line_plain))
     (λ h. never _ (and_left _ _ line_plain) h) (subst (λ (ts : List Tail). Refused Atoms ts more) (sym line_tails) tt) remarks_ v spelled_)))
 
 -- a statement that stands next, before tokens, and the units from it on
@@ -256,7 +256,7 @@ pub record Next (us : List TreeUnit) (more here : List Token) : Type 0 where
   pub row : ℕ
   pub tree : Trees
   pub stated : is_statement forms Atoms place.Following row ≡ true
-  pub fits : Fits Atoms 32 (row_items row) tree
+  pub fits : Fits Atoms 32 32 (row_items row) tree
   pub same : here ≡ tokens tree ++ more
   pub heads : some (λ (f : Front). fronts f here) statement_heads ≡ true
   pub units : us ≡ record { place = place.Following; row = row; tree = own (row_items row) tree } ∷ units_in (row_items row) tree
@@ -277,16 +277,16 @@ record Split (front : List Item) (last : Item) (t : Trees) : Type 0 where
   first : Trees
   second : Trees
   same : t ≡ also first second
-  fits_first : Fits Atoms 32 front first
-  fits_second : Fits Atoms 32 (last ∷ []) second
+  fits_first : Fits Atoms 32 32 front first
+  fits_second : Fits Atoms 32 32 (last ∷ []) second
   own_is : own (front ++ last ∷ []) t ≡ also first (own (last ∷ []) second)
   units_are : units_in (front ++ last ∷ []) t ≡ units_in (last ∷ []) second
 
-split_last : (last : Item) (t : Trees) → Fits Atoms 32 (last ∷ []) t → Split [] last t
+split_last : (last : Item) (t : Trees) → Fits Atoms 32 32 (last ∷ []) t → Split [] last t
 split_last last t h = record { first = Done; second = t; same = refl; fits_first = refl; fits_second = h; own_is = refl; units_are = refl }
 
-split_word : (c : ℕ) (front : List Item) (last : Item) → ((t : Trees) → Fits Atoms 32 (front ++ last ∷ []) t → Split front last t) → (t : Trees)
-    → Fits Atoms 32 (Word c ∷ (front ++ last ∷ [])) t → Split (Word c ∷ front) last t
+split_word : (c : ℕ) (front : List Item) (last : Item) → ((t : Trees) → Fits Atoms 32 32 (front ++ last ∷ []) t → Split front last t) → (t : Trees)
+    → Fits Atoms 32 32 (Word c ∷ (front ++ last ∷ [])) t → Split (Word c ∷ front) last t
 split_word c front last split Done h = cc
 split_word c front last split (Put x ts) h =
     let s = split ts h.1 in
@@ -301,8 +301,8 @@ split_word c front last split (Put x ts) h =
     }
 split_word c front last split (In m inner ts) h = absurd h
 
-split_part : (n : ℕ) (front : List Item) (last : Item) → whole (row_items n) ≡ true → ((t : Trees) → Fits Atoms 32 (front ++ last ∷ []) t → Split front last t) → (t : Trees)
-    → Fits Atoms 32 (Part n ∷ (front ++ last ∷ [])) t → Split (Part n ∷ front) last t
+split_part : (n : ℕ) (front : List Item) (last : Item) → whole (row_items n) ≡ true → ((t : Trees) → Fits Atoms 32 32 (front ++ last ∷ []) t → Split front last t) → (t : Trees)
+    → Fits Atoms 32 32 (Part n ∷ (front ++ last ∷ [])) t → Split (Part n ∷ front) last t
 split_part n front last plain split Done h = cc
 split_part n front last plain split (Put x ts) h = cc
 split_part n front last plain split (In m inner ts) h =
@@ -319,13 +319,13 @@ split_part n front last plain split (In m inner ts) h =
     }
 
 -- a statement that follows
-open_heads : (q : Trees) (more : List Token) → Fits Atoms 32 (Statement place.Following ∷ []) q → some (λ (f : Front). fronts f (tokens q ++ more)) statement_heads ≡ true
-open_heads q more fits = elim (leads q Atoms 32 (Statement place.Following ∷ []) fits more) [
+open_heads : (q : Trees) (more : List Token) → Fits Atoms 32 32 (Statement place.Following ∷ []) q → some (λ (f : Front). fronts f (tokens q ++ more)) statement_heads ≡ true
+open_heads q more fits = elim (leads q Atoms 32 32 (Statement place.Following ∷ []) fits more) [
   | inl g ↦ cc
   | inr g ↦ g
 ]
 
-next_statement : (q : Trees) (more : List Token) → Fits Atoms 32 (Statement place.Following ∷ []) q → Next (units_in (Statement place.Following ∷ []) q) more (tokens q ++ more)
+next_statement : (q : Trees) (more : List Token) → Fits Atoms 32 32 (Statement place.Following ∷ []) q → Next (units_in (Statement place.Following ∷ []) q) more (tokens q ++ more)
 next_statement Done more fits = cc
 next_statement (Put t ts) more fits = cc
 next_statement (In m inner Done) more fits = record {
@@ -340,18 +340,18 @@ next_statement (In m inner Done) more fits = record {
 next_statement (In m inner (Put t ts)) more fits = absurd fits.1.1
 next_statement (In m inner (In n other ts)) more fits = absurd fits.1.1
 
-followed_by : (q : Trees) → Fits Atoms 32 (row_items row.FOLLOWING) q → Fits Atoms 32 (Statement place.Following ∷ []) q
-followed_by q fits = subst (λ (is : List Item). Fits Atoms 32 is q) following_is fits
+followed_by : (q : Trees) → Fits Atoms 32 32 (row_items row.FOLLOWING) q → Fits Atoms 32 32 (Statement place.Following ∷ []) q
+followed_by q fits = subst (λ (is : List Item). Fits Atoms 32 32 is q) following_is fits
 
 -- which is cut out
-own_statement : (q : Trees) → Fits Atoms 32 (Statement place.Following ∷ []) q → own (Statement place.Following ∷ []) q ≡ Done
+own_statement : (q : Trees) → Fits Atoms 32 32 (Statement place.Following ∷ []) q → own (Statement place.Following ∷ []) q ≡ Done
 own_statement Done fits = cc
 own_statement (Put t ts) fits = cc
 own_statement (In m inner Done) fits = refl
 own_statement (In m inner (Put t ts)) fits = absurd fits.1.1
 own_statement (In m inner (In n other ts)) fits = absurd fits.1.1
 
-own_followed : (k : ℕ) (q : Trees) → Fits Atoms 32 (row_items row.FOLLOWING) q → In k (own (row_items row.FOLLOWING) q) Done ≡ In k Done Done
+own_followed : (k : ℕ) (q : Trees) → Fits Atoms 32 32 (row_items row.FOLLOWING) q → In k (own (row_items row.FOLLOWING) q) Done ≡ In k Done Done
 own_followed k q fits = ap (λ (u : Trees). In k u Done) (ap (λ (is : List Item). own is q) following_is ∙ own_statement q (followed_by q fits))
 
 units_followed : (q : Trees) → units_in (row_items row.FOLLOWING) q ++ [] ≡ units_in (Statement place.Following ∷ []) q
@@ -365,18 +365,18 @@ unfolding starts
 nothing_there v h = ap (λ (u : Text). starts Atoms start.Line u) h
 
 -- the statement's row, by all of its tokens
-whole_stands : (p : Position) (m : ℕ) (inner : Trees) (more ys : List Token) (s : Text) → is_statement forms Atoms p m ≡ true → Fits Atoms 32 (row_items m) inner → is_closing more ≡ true
+whole_stands : (p : Position) (m : ℕ) (inner : Trees) (more ys : List Token) (s : Text) → is_statement forms Atoms p m ≡ true → Fits Atoms 32 32 (row_items m) inner → is_closing more ≡ true
     → tokens inner ++ more ≡ ys → Spells Atoms ys s → Stands Atoms p m ys s
 whole_stands p m inner more ys s stated fits closed same spelled_ =
     subst (λ (l : List Token). Stands Atoms p m l s) same
-    (one_statement Atoms p m inner more s stated fits closed (subst (λ (l : List Token). Spells Atoms l s) (sym same) spelled_))
+    (one_statement Atoms p 32 m inner more s stated fits closed (subst (λ (l : List Token). Spells Atoms l s) (sym same) spelled_))
 
 -- with a line number after its front
 line_tokens : (a b : Trees) → tokens (also a (In 1 b Done)) ≡ tokens a ++ tokens b
 line_tokens a b = tokens_also a (In 1 b Done) ∙ ap (λ (l : List Token). tokens a ++ l) (append-nil (tokens b))
 
 line_runs : (m c : ℕ) (front : List Item) → Followed m c front LineOrStatement → (p : Position) (a b : Trees) (more : List Token) → is_statement forms Atoms p m ≡ true
-    → Fits Atoms 32 (row_items m) (also a (In 1 b Done)) → Fits Atoms 32 (Word c ∷ front) a → Fits Atoms 32 (row_items row.LINE_NUMBER) b → is_closing more ≡ true
+    → Fits Atoms 32 32 (row_items m) (also a (In 1 b Done)) → Fits Atoms 32 32 (Word c ∷ front) a → Fits Atoms 32 32 (row_items row.LINE_NUMBER) b → is_closing more ≡ true
     → Stand ((tokens a ++ tokens b) ++ more) → ReadsUnit p m (also a (In 1 b Done)) (tokens a ++ tokens b) more
 line_runs m c front f p a b more stated fits fits_a fits_b closed st =
     let s : Text = atoms_of_tokens ((tokens a ++ tokens b) ++ more) in
@@ -389,7 +389,7 @@ line_runs m c front f p a b more stated fits fits_a fits_b closed st =
     (λ v spelled_v. either_line b more v fits_b (remarks_right (tokens a) (tokens b ++ more) remarks_) spelled_v))
 
 line_unit : (m c : ℕ) (front : List Item) → Followed m c front LineOrStatement → (p : Position) (a b : Trees) (more : List Token) → is_statement forms Atoms p m ≡ true
-    → Fits Atoms 32 (row_items m) (also a (In 1 b Done)) → Fits Atoms 32 (Word c ∷ front) a → Fits Atoms 32 (row_items row.LINE_NUMBER) b → is_closing more ≡ true
+    → Fits Atoms 32 32 (row_items m) (also a (In 1 b Done)) → Fits Atoms 32 32 (Word c ∷ front) a → Fits Atoms 32 32 (row_items row.LINE_NUMBER) b → is_closing more ≡ true
     → own (row_items m) (also a (In 1 b Done)) ≡ also a (own (LineOrStatement ∷ []) (In 1 b Done)) → units_in (row_items m) (also a (In 1 b Done)) ≡ units_in (LineOrStatement ∷ []) (In 1 b Done)
     → Stand (tokens (also a (In 1 b Done)) ++ more) → FirstUnit p m (also a (In 1 b Done)) (tokens (also a (In 1 b Done)) ++ more) more
 line_unit m c front f p a b more stated fits fits_a fits_b closed own_is units_are st =
@@ -408,12 +408,12 @@ line_unit m c front f p a b more stated fits fits_a fits_b closed own_is units_a
 
 -- with a statement after its front
 abbrev Stops : Item → ℕ → List Token → Type 0
-Stops last k mid = (v : Text) → Spells Atoms mid v → Runs Atoms (reads_row Atoms 32 39 0 (last ∷ []) v) (In k Done Done) mid
+Stops last k mid = (v : Text) → Spells Atoms mid v → Runs Atoms (reads_row Atoms 32 32 39 0 (last ∷ []) v) (In k Done Done) mid
 
 stop_tokens : (a : Trees) (k : ℕ) → tokens (also a (In k Done Done)) ≡ tokens a
 stop_tokens a k = tokens_also a (In k Done Done) ∙ append-nil (tokens a)
 
-stop_runs : (m c : ℕ) (front : List Item) (last : Item) → Followed m c front last → (p : Position) (a : Trees) (k : ℕ) (mid : List Token) → Fits Atoms 32 (Word c ∷ front) a
+stop_runs : (m c : ℕ) (front : List Item) (last : Item) → Followed m c front last → (p : Position) (a : Trees) (k : ℕ) (mid : List Token) → Fits Atoms 32 32 (Word c ∷ front) a
     → Stand (tokens a ++ mid) → Stands Atoms p m (tokens a ++ mid) (atoms_of_tokens (tokens a ++ mid)) → Stops last k mid → ReadsUnit p m (also a (In k Done Done)) (tokens a) mid
 stop_runs m c front last f p a k mid fits_a st one stops =
     chosen_runs p m (also a (In k Done Done)) (tokens a ++ mid) mid (atoms_of_tokens (tokens a ++ mid)) one
@@ -424,7 +424,7 @@ follow_tokens a q k more =
     ap (λ (l : List Token). l ++ more) (tokens_also a (In k q Done) ∙ ap (λ (l : List Token). tokens a ++ l) (append-nil (tokens q))) ∙ append_assoc (tokens a) (tokens q) more
 
 follow_unit : (m c : ℕ) (front : List Item) (last : Item) → Followed m c front last → (p : Position) (a q : Trees) (k : ℕ) (more : List Token) → is_statement forms Atoms p m ≡ true
-    → Fits Atoms 32 (row_items m) (also a (In k q Done)) → Fits Atoms 32 (Word c ∷ front) a → Fits Atoms 32 (row_items row.FOLLOWING) q → is_closing more ≡ true
+    → Fits Atoms 32 32 (row_items m) (also a (In k q Done)) → Fits Atoms 32 32 (Word c ∷ front) a → Fits Atoms 32 32 (row_items row.FOLLOWING) q → is_closing more ≡ true
     → own (row_items m) (also a (In k q Done)) ≡ also a (In k Done Done) → units_in (row_items m) (also a (In k q Done)) ≡ units_in (Statement place.Following ∷ []) q
     → Stops last k (tokens q ++ more) → Stops last k [] → Stand (tokens (also a (In k q Done)) ++ more) → FirstUnit p m (also a (In k q Done)) (tokens (also a (In k q Done)) ++ more) more
 follow_unit m c front last f p a q k more stated fits fits_a fits_q closed own_is units_are stops ends st =
@@ -454,7 +454,7 @@ abbrev IsCut : ℕ → Item → Trees → Trees → Trees → Type 0
 IsCut m last a b t = (own (row_items m) t ≡ also a (own (last ∷ []) b)) × (units_in (row_items m) t ≡ units_in (last ∷ []) b)
 
 either_unit : (m c : ℕ) (front : List Item) → Followed m c front LineOrStatement → (p : Position) (a b : Trees) (more : List Token) → is_statement forms Atoms p m ≡ true
-    → Fits Atoms 32 (row_items m) (also a b) → Fits Atoms 32 (Word c ∷ front) a → Fits Atoms 32 (LineOrStatement ∷ []) b → is_closing more ≡ true
+    → Fits Atoms 32 32 (row_items m) (also a b) → Fits Atoms 32 32 (Word c ∷ front) a → Fits Atoms 32 32 (LineOrStatement ∷ []) b → is_closing more ≡ true
     → IsCut m LineOrStatement a b (also a b) → FirstOf p m more (also a b)
 unfolding FirstOf
 either_unit m c front f p a (In zero q Done) more stated fits fits_a fits_b closed cut st =
@@ -473,11 +473,11 @@ either_unit m c front f p a Done more stated fits fits_a fits_b closed cut st = 
 either_unit m c front f p a (Put t ts) more stated fits fits_a fits_b closed cut st = cc
 
 part_unit : (m c : ℕ) (front : List Item) → Followed m c front (Part row.FOLLOWING) → (p : Position) (a b : Trees) (more : List Token) → is_statement forms Atoms p m ≡ true
-    → Fits Atoms 32 (row_items m) (also a b) → Fits Atoms 32 (Word c ∷ front) a → Fits Atoms 32 (Part row.FOLLOWING ∷ []) b → is_closing more ≡ true
+    → Fits Atoms 32 32 (row_items m) (also a b) → Fits Atoms 32 32 (Word c ∷ front) a → Fits Atoms 32 32 (Part row.FOLLOWING ∷ []) b → is_closing more ≡ true
     → IsCut m (Part row.FOLLOWING) a b (also a b) → FirstOf p m more (also a b)
 unfolding FirstOf
 part_unit m c front f p a (In k q Done) more stated fits fits_a fits_b closed cut st =
-    let P : ℕ → Type 0 = λ n. Fits Atoms 32 (row_items m) (also a (In n q Done)) → IsCut m (Part row.FOLLOWING) a (In n q Done) (also a (In n q Done)) → FirstOf p m more (also a (In n q Done)) in
+    let P : ℕ → Type 0 = λ n. Fits Atoms 32 32 (row_items m) (also a (In n q Done)) → IsCut m (Part row.FOLLOWING) a (In n q Done) (also a (In n q Done)) → FirstOf p m more (also a (In n q Done)) in
     subst P (sym fits_b.0)
     (λ fits_ cut_ st_. follow_unit m c front (Part row.FOLLOWING) f p a q 2 more stated fits_ fits_a fits_b.1.0 closed
     (cut_.0 ∙ ap (also a) (own_followed 2 q fits_b.1.0)) (cut_.1 ∙ units_followed q) (part_stops (tokens q ++ more)) (part_stops []) st_) fits cut st
@@ -501,7 +501,7 @@ error_followed = record { is = refl; settles = refl; plain = refl; tails = refl;
 
 -- the statements of a row
 abbrev OfRow : ℕ → Type 0
-OfRow m = (p : Position) (t : Trees) (more : List Token) → is_statement forms Atoms p m ≡ true → Fits Atoms 32 (row_items m) t → is_closing more ≡ true → FirstOf p m more t
+OfRow m = (p : Position) (t : Trees) (more : List Token) → is_statement forms Atoms p m ≡ true → Fits Atoms 32 32 (row_items m) t → is_closing more ≡ true → FirstOf p m more t
 
 condition_plain : (of row.CONDITION).plain ≡ true
 unfolding of_row of row_items
@@ -509,10 +509,10 @@ condition_plain = refl
 
 -- a row's items, which are known
 split_row : (m : ℕ) (front : List Item) (last : Item) (p : Position) (more : List Token) (t : Trees) → row_items m ≡ front ++ last ∷ [] → (s : Split front last t)
-    → Fits Atoms 32 (row_items m) t → ((a b : Trees) → Fits Atoms 32 (row_items m) (also a b) → Fits Atoms 32 front a → Fits Atoms 32 (last ∷ []) b → IsCut m last a b (also a b) → FirstOf p m more (also a b))
+    → Fits Atoms 32 32 (row_items m) t → ((a b : Trees) → Fits Atoms 32 32 (row_items m) (also a b) → Fits Atoms 32 32 front a → Fits Atoms 32 32 (last ∷ []) b → IsCut m last a b (also a b) → FirstOf p m more (also a b))
     → FirstOf p m more t
 split_row m front last p more t is s fits read_ =
-    subst (λ (u : Trees). Fits Atoms 32 (row_items m) u → IsCut m last s.first s.second u → FirstOf p m more u) (sym s.same)
+    subst (λ (u : Trees). Fits Atoms 32 32 (row_items m) u → IsCut m last s.first s.second u → FirstOf p m more u) (sym s.same)
     (λ fits_ cut_. read_ s.first s.second fits_ s.fits_first s.fits_second cut_) fits
     (ap (λ (js : List Item). own js t) is ∙ s.own_is, ap (λ (js : List Item). units_in js t) is ∙ s.units_are)
 
@@ -521,19 +521,19 @@ if_unit p t more stated fits closed =
     split_row row.IF (Word word.IF ∷ Part row.CONDITION ∷ Word word.THEN ∷ []) LineOrStatement p more t if_row_is
     (split_word word.IF (Part row.CONDITION ∷ Word word.THEN ∷ []) LineOrStatement
     (split_part row.CONDITION (Word word.THEN ∷ []) LineOrStatement (whole_row row.CONDITION condition_plain) (split_word word.THEN [] LineOrStatement (split_last LineOrStatement)))
-    t (subst (λ (is : List Item). Fits Atoms 32 is t) if_row_is fits)) fits
+    t (subst (λ (is : List Item). Fits Atoms 32 32 is t) if_row_is fits)) fits
     (λ a b fits_ fits_a fits_b cut_. either_unit row.IF word.IF (Part row.CONDITION ∷ Word word.THEN ∷ []) if_followed p a b more stated fits_ fits_a fits_b closed cut_)
 
 else_unit : OfRow row.ELSE
 else_unit p t more stated fits closed =
     split_row row.ELSE (Word word.ELSE ∷ []) LineOrStatement p more t else_is
-    (split_word word.ELSE [] LineOrStatement (split_last LineOrStatement) t (subst (λ (is : List Item). Fits Atoms 32 is t) else_is fits)) fits
+    (split_word word.ELSE [] LineOrStatement (split_last LineOrStatement) t (subst (λ (is : List Item). Fits Atoms 32 32 is t) else_is fits)) fits
     (λ a b fits_ fits_a fits_b cut_. either_unit row.ELSE word.ELSE [] else_followed p a b more stated fits_ fits_a fits_b closed cut_)
 
 error_unit : OfRow row.ERROR
 error_unit p t more stated fits closed =
     split_row row.ERROR (Word word.ERROR ∷ []) (Part row.FOLLOWING) p more t error_is
-    (split_word word.ERROR [] (Part row.FOLLOWING) (split_last (Part row.FOLLOWING)) t (subst (λ (is : List Item). Fits Atoms 32 is t) error_is fits)) fits
+    (split_word word.ERROR [] (Part row.FOLLOWING) (split_last (Part row.FOLLOWING)) t (subst (λ (is : List Item). Fits Atoms 32 32 is t) error_is fits)) fits
     (λ a b fits_ fits_a fits_b cut_. part_unit row.ERROR word.ERROR [] error_followed p a b more stated fits_ fits_a fits_b closed cut_)
 
 plain_first : (m : ℕ) → (of m).plain ≡ true → OfRow m
@@ -573,7 +573,7 @@ of_known m h = elim (or_cases (of m).plain _ h) [
 ]
 
 -- the tokens of each statement begin with a unit
-pub first_unit : (p : Position) (m : ℕ) (t : Trees) (more : List Token) → is_statement forms Atoms p m ≡ true → Fits Atoms 32 (row_items m) t → is_closing more ≡ true
+pub first_unit : (p : Position) (m : ℕ) (t : Trees) (more : List Token) → is_statement forms Atoms p m ≡ true → Fits Atoms 32 32 (row_items m) t → is_closing more ≡ true
     → Stand (tokens t ++ more) → FirstUnit p m t (tokens t ++ more) more
 unfolding FirstOf
 first_unit p m t more stated fits closed st = of_known m (one_of_statements is_known Atoms p m forms forms_known stated) p t more stated fits closed st

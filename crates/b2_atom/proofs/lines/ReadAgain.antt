@@ -6,7 +6,7 @@ use Rattle.b2_atom.specs.Tokens.{Token, token_atoms, listed, spelled, ends_wordy
 use Rattle.b2_atom.specs.Tokens.Token.{Coded, Plain, Lined}
 use Rattle.b2_atom.specs.Tree.{Trees, Outcome, tokens, atoms}
 use Rattle.b2_atom.specs.Lines.{line_atoms, line_source, atoms_of, source_of}
-use Rattle.b2_atom.specs.Grammar.{reader, items, item, level, deep, statement, statement_row, starts, row_items, read_line}
+use Rattle.b2_atom.specs.Grammar.{reader, items, item, level, deep, statement, statement_within, statement_row, starts, row_items, read_line}
 use Rattle.b2_atom.specs.Spelling.{AllGood, good_token, is_whole, is_free_text, atoms_of_tokens}
 use Rattle.b2_atom.specs.Fitting.{LineTree}
 use Rattle.b2_atom.specs.declared.words.Origin.TheVariants as origin
@@ -27,7 +27,7 @@ use Rattle.b2_atom.proofs.spelling.Listed.{first_more}
 -- a line begins with something, and with no blank
 stopped_line : (s : Text) (n : ℕ) (e : Stop) → statement_row origin.Atoms First s ≡ Err e → 0 < n
     → is_ok (level (reader origin.Atoms) (statement (reader origin.Atoms) n) (deep (reader origin.Atoms) (statement (reader origin.Atoms) n) 32) 40 0 s) ≡ false
-unfolding level items item row_items statement
+unfolding level items item row_items statement_within
 stopped_line s zero e h some = absurd (omega arith)
 stopped_line s (suc n) e h some = rw h refl
 
@@ -101,7 +101,7 @@ pub record ReadAgain (a s : Text) : Type 0 where
 pub read_again : (t : Trees) → LineTree origin.Program t → ReadAgain (atoms t) (listed false false (tokens t))
 unfolding line_source
 read_again t h =
-    let g = good_tree origin.Program t h in
+    let g = good_tree 32 origin.Program t h in
     let is = atoms_back t (anywhere origin.Program t h) in
     let front : Begun (listed false false (tokens t)) = listed_begun (tokens t) g.0 (subst Begun (sym (tree_atoms t)) (begun (atoms t) (ap is_ok is))) in
     record {

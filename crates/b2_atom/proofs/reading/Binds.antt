@@ -14,7 +14,7 @@ use Rattle.b2_atom.specs.declared.forms.Start.{Start}
 use Rattle.b2_atom.specs.declared.forms.Position.{Position}
 use Rattle.b2_atom.specs.declared.forms.Item.{Item}
 use Rattle.b2_atom.specs.declared.forms.Item.TheVariants.{Nest}
-use Rattle.b2_atom.specs.Grammar.{Reader, reader, items, item, item_of_part, deep, level, statement, many, row_items, starts, absent, part, read_line, chosen, statement_row}
+use Rattle.b2_atom.specs.Grammar.{Reader, reader, items, item, item_of_part, deep, level, statement, statement_within, many, row_items, starts, absent, part, read_line, chosen, statement_row}
 
 pub put_all-also : (s : Seen) (a b : Trees) → put_all s (also a b) ≡ put_all (put_all s a) b
 put_all-also s Done b = refl
@@ -130,7 +130,7 @@ many_out o s p n i old left h y =
 -- a statement by its row
 pub statement_more : (o : Origin) (f : ℕ) (p : Position) (old : Seen) (t : Text) → 0 < f
     → emitted old (statement (reader o) f p t) ≡ emitted old (chosen (statement_row o p t) (part o (f - 1) 32 40))
-unfolding statement
+unfolding statement_within
 statement_more o zero p old t h = absurd (omega arith)
 statement_more o (suc f) p old t h =
     let less : f ≡ suc f - 1 = omega arith in ap (λ (m : ℕ). emitted old (chosen (statement_row o p t) (part o m 32 40))) less

@@ -8,7 +8,7 @@ use Rattle.b2_atom.specs.Words.{Text, kept_byte, ahead, skipped, is_source}
 use Rattle.b2_atom.specs.Tree.{Trees, Seen, emitted, Outcome, Parser, one, nothing, preceded, and_then, under}
 use Rattle.b2_atom.specs.Leaves.{refused, missing, leaf_width, until_quote}
 use Rattle.b2_atom.specs.Lines.{good_code, IsKnown}
-use Rattle.b2_atom.specs.Grammar.{reader, read_item, items, item, level, deep, statement, many, row_items, rows_of, row_place, starts, absent, read_line, chosen, statement_row, row_at, allowed, from, mark, among, program_word, program_word_at, ignored, optional_comma, end_of_line, end_at, read_leaf, leaf_at, plain, atoms_line_number, typed_line_number, line_number_at, text_to_end, two_digits, begins_let, variable_begins, barred_following, barred_line, barred_place}
+use Rattle.b2_atom.specs.Grammar.{reader, read_item, items, item, level, deep, statement, statement_within, many, row_items, rows_of, row_place, starts, absent, read_line, chosen, statement_row, row_at, allowed, from, mark, among, program_word, program_word_at, ignored, optional_comma, end_of_line, end_at, read_leaf, leaf_at, plain, atoms_line_number, typed_line_number, line_number_at, text_to_end, two_digits, begins_let, variable_begins, barred_following, barred_line, barred_place}
 use Rattle.b2_atom.specs.declared.words.Origin.{Origin}
 use Rattle.b2_atom.specs.declared.words.Origin.TheVariants.{Program, Immediate, Atoms}
 use Rattle.b2_atom.specs.declared.sink.Stop.{Stop}
@@ -252,7 +252,7 @@ unfolding statement_row
 known_statement_row o x s = known_row_if (begins_let o (skipped o s)) (Ok (row.ASSIGNMENT, drop 3 (skipped o s))) (from (skipped o s) (row_at forms o x (skipped o s))) tt (known_from (skipped o s) (row_at forms o x (skipped o s)) (known_row forms o x (skipped o s)))
 
 known_statement : (o : Origin) (f : ℕ) (x : Position) → AllKnown (statement (reader o) f x)
-unfolding statement
+unfolding statement_within
 known_statement o zero x s = tt
 known_statement o (suc f) x s =
     known_chosen (statement_row o x s) _ (known_statement_row o x s) (known_level o (statement (reader o) f) _ (known_statement o f) (known_deep o (statement (reader o) f) (known_statement o f) 32) 40)

@@ -7,7 +7,7 @@ use Rattle.b2_atom.specs.Tokens.Token.{Coded, Plain, Lined}
 use Rattle.b2_atom.specs.Tree.{Trees, tokens, Outcome, Parser, one, preceded, and_then, under, also}
 use Rattle.b2_atom.specs.Tree.Trees.{Done, Put, In}
 use Rattle.b2_atom.specs.Leaves.{refused}
-use Rattle.b2_atom.specs.Grammar.{reader, items, item, level, deep, statement, row_items, starts, mark, mark_at, among, among_at, program_word, optional_comma, optional_comma_at, read_leaf, ignored, end_of_line, end_at, is_among}
+use Rattle.b2_atom.specs.Grammar.{reader, items, item, level, deep, statement_within, row_items, starts, mark, mark_at, among, among_at, program_word, optional_comma, optional_comma_at, read_leaf, ignored, end_of_line, end_at, is_among}
 use Rattle.b2_atom.specs.Spelling.{Spells}
 use Rattle.b2_atom.specs.Fitting.{giving, may_end, fits_token, leaf_number, RemarksEnd}
 use Rattle.b2_atom.specs.declared.words.Origin.{Origin}
@@ -108,14 +108,14 @@ token_runs st dp p o (Many x n) t ts s h spelled = cc
 token_runs st dp p o (Nest n) t ts s h spelled = cc
 token_runs st dp p o (Statement x) t ts s h spelled = cc
 
--- the items of a row, where `room` parentheses, l levels and f statements may still be in it
-abbrev pub reads_row : Origin → ℕ → ℕ → ℕ → List Item → Parser Text
-reads_row o room l f is =
-    items (statement (reader o) f) (deep (reader o) (statement (reader o) f) room) (level (reader o) (statement (reader o) f) (deep (reader o) (statement (reader o) f) room) l) (reader o) is
+-- the items of a row, where `most room` parentheses, l levels and f statements may still be in it
+abbrev pub reads_row : Origin → ℕ → ℕ → ℕ → ℕ → List Item → Parser Text
+reads_row o most room l f is =
+    items (statement_within most (reader o) f) (deep (reader o) (statement_within most (reader o) f) room) (level (reader o) (statement_within most (reader o) f) (deep (reader o) (statement_within most (reader o) f) room) l) (reader o) is
 
-abbrev pub reads_item : Origin → ℕ → ℕ → ℕ → Item → Parser Text
-reads_item o room l f i =
-    item (statement (reader o) f) (deep (reader o) (statement (reader o) f) room) (level (reader o) (statement (reader o) f) (deep (reader o) (statement (reader o) f) room) l) (reader o) i
+abbrev pub reads_item : Origin → ℕ → ℕ → ℕ → ℕ → Item → Parser Text
+reads_item o most room l f i =
+    item (statement_within most (reader o) f) (deep (reader o) (statement_within most (reader o) f) room) (level (reader o) (statement_within most (reader o) f) (deep (reader o) (statement_within most (reader o) f) room) l) (reader o) i
 
 -- a statement's word or sign counts where fuel is needed for the statements after it
 abbrev pub lead : List Item → ℕ
@@ -123,7 +123,7 @@ lead [] = 0
 lead (i ∷ is) = if is_mark_item i then 1 else 0
 
 -- what is known where items are read
-pub record Ready (o : Origin) (room l f : ℕ) (is : List Item) (t : Trees) (more : List Token) : Type 0 where
+pub record Ready (o : Origin) (most room l f : ℕ) (is : List Item) (t : Trees) (more : List Token) : Type 0 where
   pub settles : settled of is ≡ true
   pub ranked : (of_items of is).rank ≤ l
   pub enough : (of_items of is).plain ≡ false → length (tokens t) ≤ lead is + f
@@ -153,46 +153,46 @@ remarks_right [] ys h = h
 remarks_right (x ∷ xs) ys h = remarks_right xs ys h.1
 
 -- one item and then the others
-pub next_runs : (o : Origin) (room l f : ℕ) (i : Item) (is : List Item) (a b : Trees) (mid more : List Token) (s : Text) → Runs o (reads_item o room l f i s) a mid
-    → ((u : Text) → Spells o mid u → Runs o (reads_row o room l f is u) b more) → Runs o (reads_row o room l f (i ∷ is) s) (also a b) more
+pub next_runs : (o : Origin) (most room l f : ℕ) (i : Item) (is : List Item) (a b : Trees) (mid more : List Token) (s : Text) → Runs o (reads_item o most room l f i s) a mid
+    → ((u : Text) → Spells o mid u → Runs o (reads_row o most room l f is u) b more) → Runs o (reads_row o most room l f (i ∷ is) s) (also a b) more
 unfolding items
-next_runs o room l f i is a b mid more s h k = runs_then o (reads_item o room l f i s) (reads_row o room l f is) a b mid more h k
+next_runs o most room l f i is a b mid more s h k = runs_then o (reads_item o most room l f i s) (reads_row o most room l f is) a b mid more h k
 
 -- no token where none is given
-pub ignored_runs : (o : Origin) (room l f c : ℕ) (more : List Token) (s : Text) → starts o (start.Code c) s ≡ false → Spells o more s → Runs o (reads_item o room l f (Ignored c) s) Done more
+pub ignored_runs : (o : Origin) (most room l f c : ℕ) (more : List Token) (s : Text) → starts o (start.Code c) s ≡ false → Spells o more s → Runs o (reads_item o most room l f (Ignored c) s) Done more
 unfolding item ignored starts
-ignored_runs origin.Program room l f c more s h spelled = (s, (if_is ((ahead origin.Program (skipped origin.Program s)).0 == c) false _ _ h, spelled))
-ignored_runs origin.Immediate room l f c more s h spelled = (s, (if_is ((ahead origin.Immediate (skipped origin.Immediate s)).0 == c) false _ _ h, spelled))
-ignored_runs origin.Atoms room l f c more s h spelled = (s, (refl, spelled))
+ignored_runs origin.Program most room l f c more s h spelled = (s, (if_is ((ahead origin.Program (skipped origin.Program s)).0 == c) false _ _ h, spelled))
+ignored_runs origin.Immediate most room l f c more s h spelled = (s, (if_is ((ahead origin.Immediate (skipped origin.Immediate s)).0 == c) false _ _ h, spelled))
+ignored_runs origin.Atoms most room l f c more s h spelled = (s, (refl, spelled))
 
 end_there : (o : Origin) → end_at o (skipped o []) ≡ Ok (Done, [])
 end_there origin.Program = refl
 end_there origin.Immediate = refl
 end_there origin.Atoms = refl
 
-pub end_runs : (o : Origin) (room l f : ℕ) (more : List Token) (s : Text) → more ≡ [] → Spells o more s → Runs o (reads_item o room l f End s) Done more
+pub end_runs : (o : Origin) (most room l f : ℕ) (more : List Token) (s : Text) → more ≡ [] → Spells o more s → Runs o (reads_item o most room l f End s) Done more
 unfolding item end_of_line
-end_runs o room l f more s none spelled =
+end_runs o most room l f more s none spelled =
     let P : List Token → Type 0 = λ ts. Spells o ts s in
     let Q : List Token → Type 0 = λ ts. Spells o ts [] in
     let is : s ≡ [] = subst P none spelled in
     ([], (ap (λ (u : Text). end_at o (skipped o u)) is ∙ end_there o, subst Q (sym none) refl))
 
 -- items that give nothing
-pub done_runs : (o : Origin) (room l f : ℕ) (is : List Item) (more : List Token) → may_end is ≡ true → settled of is ≡ true → Refused o (of_items of is).tails more
-    → (s : Text) → Spells o more s → Runs o (reads_row o room l f is s) Done more
+pub done_runs : (o : Origin) (most room l f : ℕ) (is : List Item) (more : List Token) → may_end is ≡ true → settled of is ≡ true → Refused o (of_items of is).tails more
+    → (s : Text) → Spells o more s → Runs o (reads_row o most room l f is s) Done more
 unfolding items
-done_runs o room l f [] more h ok refused s spelled = (s, (refl, spelled))
-done_runs o room l f (Ignored c ∷ is) more h ok refused s spelled =
+done_runs o most room l f [] more h ok refused s spelled = (s, (refl, spelled))
+done_runs o most room l f (Ignored c ∷ is) more h ok refused s spelled =
     let asked = when_true (of_items of is).empty (of_item of (Ignored c)).tails (of_items of is).tails o more (may_end_empty is h) refused in
-    next_runs o room l f (Ignored c) is Done Done more more s (ignored_runs o room l f c more s (asked.0 s spelled) spelled)
-    (done_runs o room l f is more h (and_right (refuse (of_item of (Ignored c)).tails (of_items of is).heads) _ ok) (refused_right o (when (of_items of is).empty (of_item of (Ignored c)).tails) _ more refused))
-done_runs o room l f (End ∷ is) more h ok refused s spelled =
+    next_runs o most room l f (Ignored c) is Done Done more more s (ignored_runs o most room l f c more s (asked.0 s spelled) spelled)
+    (done_runs o most room l f is more h (and_right (refuse (of_item of (Ignored c)).tails (of_items of is).heads) _ ok) (refused_right o (when (of_items of is).empty (of_item of (Ignored c)).tails) _ more refused))
+done_runs o most room l f (End ∷ is) more h ok refused s spelled =
     let asked = when_true (of_items of is).empty (of_item of End).tails (of_items of is).tails o more (may_end_empty is h) refused in
-    next_runs o room l f End is Done Done more more s (end_runs o room l f more s asked.0 spelled)
-    (done_runs o room l f is more h (and_right (refuse (of_item of End).tails (of_items of is).heads) _ (and_right (is_last is) _ ok)) (refused_right o (when (of_items of is).empty (of_item of End).tails) _ more refused))
-done_runs o room l f (Typed leaf.Text code ∷ is) more h ok refused s spelled = cc
-done_runs o room l f (i ∷ is) more h ok refused s spelled = cc
+    next_runs o most room l f End is Done Done more more s (end_runs o most room l f more s asked.0 spelled)
+    (done_runs o most room l f is more h (and_right (refuse (of_item of End).tails (of_items of is).heads) _ (and_right (is_last is) _ ok)) (refused_right o (when (of_items of is).empty (of_item of End).tails) _ more refused))
+done_runs o most room l f (Typed leaf.Text code ∷ is) more h ok refused s spelled = cc
+done_runs o most room l f (i ∷ is) more h ok refused s spelled = cc
 
 pub length_append : (xs ys : List Token) → length (xs ++ ys) ≡ length xs + length ys
 length_append [] ys = omega arith
@@ -215,8 +215,8 @@ less_in true a c n m f h is e = cc
 less_in false a c n m f h is e = omega (arith, e, is)
 
 -- after the items that give nothing
-ready_behind : (o : Origin) (room l f : ℕ) (i : Item) (is : List Item) (t : Trees) (more : List Token) → is_mark_item i ≡ false → (tests : settled of is ≡ true) → Ready o room l f (i ∷ is) t more → Ready o room l f is t more
-ready_behind o room l f i is t more unmarked tests r = record {
+ready_behind : (o : Origin) (most room l f : ℕ) (i : Item) (is : List Item) (t : Trees) (more : List Token) → is_mark_item i ≡ false → (tests : settled of is ≡ true) → Ready o most room l f (i ∷ is) t more → Ready o most room l f is t more
+ready_behind o most room l f i is t more unmarked tests r = record {
   settles = tests;
   ranked = rank_right (of_item of i).rank (of_items of is).rank l r.ranked;
   enough = λ h. let e = r.enough (and_false (of_item of i).plain (of_items of is).plain h) in
@@ -225,32 +225,32 @@ ready_behind o room l f i is t more unmarked tests r = record {
   remarks = r.remarks;
 }
 
-abbrev pub RunsFrom : Origin → ℕ → ℕ → ℕ → List Item → Trees → List Token → Type 0
-RunsFrom o room l f is t more = Ready o room l f is t more → (s : Text) → Spells o (tokens t ++ more) s → Runs o (reads_row o room l f is s) t more
+abbrev pub RunsFrom : Origin → ℕ → ℕ → ℕ → ℕ → List Item → Trees → List Token → Type 0
+RunsFrom o most room l f is t more = Ready o most room l f is t more → (s : Text) → Spells o (tokens t ++ more) s → Runs o (reads_row o most room l f is s) t more
 
 led_from : (is : List Item) (t : Trees) (more : List Token) → Led (of_items of (giving is)) (tokens t) more → Led (of_items of is) (tokens t) more
 led_from is t more h = led_giving is (tokens t) more h
 
-pub by_giving : (o : Origin) (room l f : ℕ) (is : List Item) (t : Trees) (more : List Token) → Led (of_items of (giving is)) (tokens t) more → is_last (giving is) ≡ false
-    → RunsFrom o room l f (giving is) t more → RunsFrom o room l f is t more
-by_giving o room l f [] t more led some_item run ready s spelled = cc
-by_giving o room l f (Ignored c ∷ is) t more led some_item run ready s spelled =
+pub by_giving : (o : Origin) (most room l f : ℕ) (is : List Item) (t : Trees) (more : List Token) → Led (of_items of (giving is)) (tokens t) more → is_last (giving is) ≡ false
+    → RunsFrom o most room l f (giving is) t more → RunsFrom o most room l f is t more
+by_giving o most room l f [] t more led some_item run ready s spelled = cc
+by_giving o most room l f (Ignored c ∷ is) t more led some_item run ready s spelled =
     let refuses_ = behind o (Ignored c) is (tokens t) more (led_from is t more led) (and_left _ _ ready.settles) ready.refuses in
-    let ready_ = ready_behind o room l f (Ignored c) is t more refl (and_right (refuse (of_item of (Ignored c)).tails (of_items of is).heads) _ ready.settles) ready in
-    next_runs o room l f (Ignored c) is Done t (tokens t ++ more) more s (ignored_runs o room l f c (tokens t ++ more) s (refuses_.0 s spelled) spelled)
-    (λ u spelled_. by_giving o room l f is t more led some_item run ready_ u spelled_)
-by_giving o room l f (End ∷ []) t more led some_item run ready s spelled = cc
-by_giving o room l f (End ∷ i ∷ is) t more led some_item run ready s spelled = cc
-by_giving o room l f (i ∷ is) t more led some_item run ready s spelled = run ready s spelled
+    let ready_ = ready_behind o most room l f (Ignored c) is t more refl (and_right (refuse (of_item of (Ignored c)).tails (of_items of is).heads) _ ready.settles) ready in
+    next_runs o most room l f (Ignored c) is Done t (tokens t ++ more) more s (ignored_runs o most room l f c (tokens t ++ more) s (refuses_.0 s spelled) spelled)
+    (λ u spelled_. by_giving o most room l f is t more led some_item run ready_ u spelled_)
+by_giving o most room l f (End ∷ []) t more led some_item run ready s spelled = cc
+by_giving o most room l f (End ∷ i ∷ is) t more led some_item run ready s spelled = cc
+by_giving o most room l f (i ∷ is) t more led some_item run ready s spelled = run ready s spelled
 
 put_enough : (b : Bool) (n m f : ℕ) → suc n ≤ (if b then 1 else 0) + f → n ≤ m + f
 put_enough true n m f h = omega (arith, h)
 put_enough false n m f h = omega (arith, h)
 
 -- what a token's item leaves to the items after it
-pub ready_put : (o : Origin) (room l f : ℕ) (i : Item) (is : List Item) (t : Token) (ts : Trees) (more : List Token) → settled of is ≡ true
-    → Ready o room l f (i ∷ is) (Put t ts) more → Ready o room l f is ts more
-ready_put o room l f i is t ts more tests r = record {
+pub ready_put : (o : Origin) (most room l f : ℕ) (i : Item) (is : List Item) (t : Token) (ts : Trees) (more : List Token) → settled of is ≡ true
+    → Ready o most room l f (i ∷ is) (Put t ts) more → Ready o most room l f is ts more
+ready_put o most room l f i is t ts more tests r = record {
   settles = tests;
   ranked = rank_right (of_item of i).rank (of_items of is).rank l r.ranked;
   enough = λ h. let e = r.enough (and_false (of_item of i).plain (of_items of is).plain h) in put_enough (is_mark_item i) (length (tokens ts)) (lead is) f e;
@@ -259,9 +259,9 @@ ready_put o room l f i is t ts more tests r = record {
 }
 
 -- and what a branch leaves to them
-pub ready_in : (o : Origin) (room l f m : ℕ) (i : Item) (is : List Item) (inner ts : Trees) (more : List Token) → is_mark_item i ≡ false → settled of is ≡ true
-    → Ready o room l f (i ∷ is) (In m inner ts) more → Ready o room l f is ts more
-ready_in o room l f m i is inner ts more unmarked tests r = record {
+pub ready_in : (o : Origin) (most room l f m : ℕ) (i : Item) (is : List Item) (inner ts : Trees) (more : List Token) → is_mark_item i ≡ false → settled of is ≡ true
+    → Ready o most room l f (i ∷ is) (In m inner ts) more → Ready o most room l f is ts more
+ready_in o most room l f m i is inner ts more unmarked tests r = record {
   settles = tests;
   ranked = rank_right (of_item of i).rank (of_items of is).rank l r.ranked;
   enough = λ h. let e = r.enough (and_false (of_item of i).plain (of_items of is).plain h) in
@@ -278,9 +278,9 @@ bound_row n h = elim (or_cases (is_free_row (row_items n)) (settled of (row_item
 ]
 
 -- what is known where a row is read inside an item
-pub ready_row : (o : Origin) (room l f n : ℕ) (inner : Trees) (more : List Token) → not (is_free_row (row_items n)) ≡ true → (of n).rank ≤ l
-    → ((of n).plain ≡ false → length (tokens inner) ≤ f) → Refused o (of n).tails more → RemarksEnd (tokens inner ++ more) → Ready o room l f (row_items n) inner more
-ready_row o room l f n inner more bound rank_is enough_is refuses_ remarks_ = record {
+pub ready_row : (o : Origin) (most room l f n : ℕ) (inner : Trees) (more : List Token) → not (is_free_row (row_items n)) ≡ true → (of n).rank ≤ l
+    → ((of n).plain ≡ false → length (tokens inner) ≤ f) → Refused o (of n).tails more → RemarksEnd (tokens inner ++ more) → Ready o most room l f (row_items n) inner more
+ready_row o most room l f n inner more bound rank_is enough_is refuses_ remarks_ = record {
   settles = bound_row n bound;
   ranked = (let P : Known → Type 0 = λ k. k.rank ≤ l in subst P (sym (known n)) rank_is);
   enough = λ h. let e = enough_is (ap (λ (k : Known). k.plain) (sym (known n)) ∙ h) in omega (arith, e);
@@ -288,6 +288,6 @@ ready_row o room l f n inner more bound rank_is enough_is refuses_ remarks_ = re
   remarks = remarks_;
 }
 
-pub put_runs : (o : Origin) (room l f : ℕ) (i : Item) (t : Token) (ts : List Token) (s : Text) → fits_token o i t ≡ true → Spells o (t ∷ ts) s → Runs o (reads_item o room l f i s) (Put t Done) ts
-put_runs o room l f i t ts s fits spelled =
-    token_runs (statement (reader o) f) (deep (reader o) (statement (reader o) f) room) (level (reader o) (statement (reader o) f) (deep (reader o) (statement (reader o) f) room) l) o i t ts s fits spelled
+pub put_runs : (o : Origin) (most room l f : ℕ) (i : Item) (t : Token) (ts : List Token) (s : Text) → fits_token o i t ≡ true → Spells o (t ∷ ts) s → Runs o (reads_item o most room l f i s) (Put t Done) ts
+put_runs o most room l f i t ts s fits spelled =
+    token_runs (statement_within most (reader o) f) (deep (reader o) (statement_within most (reader o) f) room) (level (reader o) (statement_within most (reader o) f) (deep (reader o) (statement_within most (reader o) f) room) l) o i t ts s fits spelled

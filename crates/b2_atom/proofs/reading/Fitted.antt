@@ -144,7 +144,7 @@ behind_short o t = le_both (length (ahead o (skipped o t)).1) (length (skipped o
 
 -- the tree of an item is one that the rest of the row can follow
 abbrev pub Leads : Origin → ℕ → Item → List Item → Trees → Type 0
-Leads o room i is a = (b : Trees) → Fits o room is b → Fits o room (i ∷ is) (also a b)
+Leads o room i is a = (b : Trees) → Fits o 32 room is b → Fits o 32 room (i ∷ is) (also a b)
 
 -- what is typed by hand
 abbrev Short : Text → Outcome → Type 0
@@ -340,7 +340,7 @@ calm_closed n h = calm_or (calm_row n) (calm_items (row_items n)) (at_below (λ 
 -- a part in parentheses, where `room` may still open
 abbrev pub Nested : Origin → ℕ → ℕ → Trees → Type 0
 Nested o zero n t = ⊥
-Nested o (suc room) n t = Fits o room (row_items n) t
+Nested o (suc room) n t = Fits o 32 room (row_items n) t
 
 nest_leads : (o : Origin) (room n : ℕ) (is : List Item) (t : Trees) → Nested o room n t → Leads o room (Nest n) is (In 2 t Done)
 nest_leads o zero n is t h b fit = absurd h
@@ -352,21 +352,21 @@ AllGoodAt P q = (s : Text) → Good P s (q s)
 none_good : (o : Origin) (room : ℕ) (is : List Item) (s : Text) (P : Trees → Type 0) → P (In 0 Done Done) → Good P s (absent s)
 none_good o room is s P p = (p, (refl, self_le (length s)))
 
-many_good : (o : Origin) (room : ℕ) (st : Start) (n : ℕ) (p : Parser Text) (is : List Item) → AllGoodAt (Fits o room (row_items n)) p
+many_good : (o : Origin) (room : ℕ) (st : Start) (n : ℕ) (p : Parser Text) (is : List Item) → AllGoodAt (Fits o 32 room (row_items n)) p
     → (f : ℕ) → AllGoodAt (Leads o room (Many st n) is) (many (reader o) st p f)
 unfolding many
 many_good o room st n p is h zero s =
     good_if (Leads o room (Many st n) is) s (starts o st s) (Err (At 14 0)) (absent s) tt (none_good o room is s (Leads o room (Many st n) is) (λ b fit. (refl, fit)))
 many_good o room st n p is h (suc f) s =
     good_if (Leads o room (Many st n) is) s (starts o st s) (and_then (under 1 (p s)) (many (reader o) st p f)) (absent s)
-    (good_then (λ a. (t : Trees) × (Fits o room (row_items n) t × (a ≡ In 1 t Done))) (Leads o room (Many st n) is) (Leads o room (Many st n) is) s (under 1 (p s)) (many (reader o) st p f)
+    (good_then (λ a. (t : Trees) × (Fits o 32 room (row_items n) t × (a ≡ In 1 t Done))) (Leads o room (Many st n) is) (Leads o room (Many st n) is) s (under 1 (p s)) (many (reader o) st p f)
     (λ a b x y. let P : Trees → Type 0 = λ c. Leads o room (Many st n) is (also c b) in subst P (sym x.1.1) (λ c fit. (x.1.0, y c fit)))
-    (good_under (Fits o room (row_items n)) (λ a. (t : Trees) × (Fits o room (row_items n) t × (a ≡ In 1 t Done))) 1 s (p s) (λ t g. (t, (g, refl))) (h s))
+    (good_under (Fits o 32 room (row_items n)) (λ a. (t : Trees) × (Fits o 32 room (row_items n) t × (a ≡ In 1 t Done))) 1 s (p s) (λ t g. (t, (g, refl))) (h s))
     (many_good o room st n p is h f))
     (none_good o room is s (Leads o room (Many st n) is) (λ b fit. (refl, fit)))
 
 pub calm_item_good : (o : Origin) (room : ℕ) (stf : Position → Parser Text) (d p : ℕ → Parser Text) → ((n : ℕ) → calm_row n ≡ true → AllGoodAt (Nested o room n) (d n))
-    → ((n : ℕ) → calm_row n ≡ true → AllGoodAt (Fits o room (row_items n)) (p n)) → (i : Item) (is : List Item) (s : Text) → calm_item i ≡ true
+    → ((n : ℕ) → calm_row n ≡ true → AllGoodAt (Fits o 32 room (row_items n)) (p n)) → (i : Item) (is : List Item) (s : Text) → calm_item i ≡ true
     → Good (Leads o room i is) s (item stf d p (reader o) i s)
 unfolding item
 calm_item_good o room stf d p hd hp (Word c) is s calm = code_good o (Leads o room (Word c) is) c 22 s calm (λ b fit. (same_code c, fit))
@@ -379,30 +379,30 @@ calm_item_good o room stf d p hd hp LeftOut is s calm = tt
 calm_item_good o room stf d p hd hp End is s calm = end_good o room is s
 calm_item_good o room stf d p hd hp (Typed k code) is s calm = good_leaf o room k code is s (not_true (is_text k) calm)
 calm_item_good o room stf d p hd hp (Part n) is s calm =
-    good_under (Fits o room (row_items n)) (Leads o room (Part n) is) 2 s (p n s) (λ t g b fit. (refl, (g, fit))) (hp n calm s)
+    good_under (Fits o 32 room (row_items n)) (Leads o room (Part n) is) 2 s (p n s) (λ t g b fit. (refl, (g, fit))) (hp n calm s)
 calm_item_good o room stf d p hd hp (Maybe st n) is s calm =
     good_if (Leads o room (Maybe st n) is) s (starts o st s) (under 1 (p n s)) (absent s)
-    (good_under (Fits o room (row_items n)) (Leads o room (Maybe st n) is) 1 s (p n s) (λ t g b fit. (g, fit)) (hp n calm s))
+    (good_under (Fits o 32 room (row_items n)) (Leads o room (Maybe st n) is) 1 s (p n s) (λ t g b fit. (g, fit)) (hp n calm s))
     (none_good o room is s (Leads o room (Maybe st n) is) (λ b fit. (refl, fit)))
 calm_item_good o room stf d p hd hp (Either st n m) is s calm =
     good_if (Leads o room (Either st n m) is) s (starts o st s) (under 1 (p n s)) (under 0 (p m s))
-    (good_under (Fits o room (row_items n)) (Leads o room (Either st n m) is) 1 s (p n s) (λ t g b fit. (g, fit)) (hp n (and_left (calm_row n) (calm_row m) calm) s))
-    (good_under (Fits o room (row_items m)) (Leads o room (Either st n m) is) 0 s (p m s) (λ t g b fit. (g, fit)) (hp m (and_right (calm_row n) (calm_row m) calm) s))
+    (good_under (Fits o 32 room (row_items n)) (Leads o room (Either st n m) is) 1 s (p n s) (λ t g b fit. (g, fit)) (hp n (and_left (calm_row n) (calm_row m) calm) s))
+    (good_under (Fits o 32 room (row_items m)) (Leads o room (Either st n m) is) 0 s (p m s) (λ t g b fit. (g, fit)) (hp m (and_right (calm_row n) (calm_row m) calm) s))
 calm_item_good o room stf d p hd hp (Many st n) is s calm = many_good o room st n (p n) is (hp n calm) (length s) s
 calm_item_good o room stf d p hd hp (Nest n) is s calm = good_under (Nested o room n) (Leads o room (Nest n) is) 2 s (d n s) (nest_leads o room n is) (hd n calm s)
 calm_item_good o room stf d p hd hp (Statement x) is s calm = cc
 
 calm_items_good : (o : Origin) (room : ℕ) (stf : Position → Parser Text) (d p : ℕ → Parser Text) → ((n : ℕ) → calm_row n ≡ true → AllGoodAt (Nested o room n) (d n))
-    → ((n : ℕ) → calm_row n ≡ true → AllGoodAt (Fits o room (row_items n)) (p n)) → (is : List Item) → calm_items is ≡ true → AllGoodAt (Fits o room is) (items stf d p (reader o) is)
+    → ((n : ℕ) → calm_row n ≡ true → AllGoodAt (Fits o 32 room (row_items n)) (p n)) → (is : List Item) → calm_items is ≡ true → AllGoodAt (Fits o 32 room is) (items stf d p (reader o) is)
 unfolding items
 calm_items_good o room stf d p hd hp [] calm s = (refl, (refl, self_le (length s)))
 calm_items_good o room stf d p hd hp (i ∷ is) calm s =
-    good_then (Leads o room i is) (Fits o room is) (Fits o room (i ∷ is)) s (item stf d p (reader o) i s) (items stf d p (reader o) is) (λ a b x y. x b y)
+    good_then (Leads o room i is) (Fits o 32 room is) (Fits o 32 room (i ∷ is)) s (item stf d p (reader o) i s) (items stf d p (reader o) is) (λ a b x y. x b y)
     (calm_item_good o room stf d p hd hp i is s (and_left (calm_item i) (calm_items is) calm))
     (calm_items_good o room stf d p hd hp is (and_right (calm_item i) (calm_items is) calm))
 
 pub calm_level : (o : Origin) (room : ℕ) (stf : Position → Parser Text) (d : ℕ → Parser Text) → ((n : ℕ) → calm_row n ≡ true → AllGoodAt (Nested o room n) (d n))
-    → (l n : ℕ) → calm_row n ≡ true → AllGoodAt (Fits o room (row_items n)) (level (reader o) stf d l n)
+    → (l n : ℕ) → calm_row n ≡ true → AllGoodAt (Fits o 32 room (row_items n)) (level (reader o) stf d l n)
 unfolding level
 calm_level o room stf d hd zero n calm s = tt
 calm_level o room stf d hd (suc l) n calm s =
@@ -414,5 +414,5 @@ calm_deep o stf zero n calm s = tt
 calm_deep o stf (suc room) n calm s = calm_level o room stf (deep (reader o) stf room) (calm_deep o stf room) 40 n calm s
 
 -- a part without statements and remarks in it
-pub calm_part : (o : Origin) (stf : Position → Parser Text) (l n : ℕ) → calm_row n ≡ true → AllGoodAt (Fits o 32 (row_items n)) (level (reader o) stf (deep (reader o) stf 32) l n)
+pub calm_part : (o : Origin) (stf : Position → Parser Text) (l n : ℕ) → calm_row n ≡ true → AllGoodAt (Fits o 32 32 (row_items n)) (level (reader o) stf (deep (reader o) stf 32) l n)
 calm_part o stf l n calm s = calm_level o 32 stf (deep (reader o) stf 32) (calm_deep o stf 32) l n calm s

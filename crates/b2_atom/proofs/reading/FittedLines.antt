@@ -8,7 +8,7 @@ use Rattle.b2_atom.specs.Tree.{Trees, Outcome, Parser, one, nothing, preceded, a
 use Rattle.b2_atom.specs.Tree.Trees.{Done, Put, In}
 use Rattle.b2_base.specs.Lexical.{all_printable}
 use Rattle.b2_atom.specs.Leaves.{refused}
-use Rattle.b2_atom.specs.Grammar.{reader, items, item, level, deep, many, statement, chosen, statement_row, row_at, allowed, from, begins_let, variable_begins, barred_following, barred_line, barred_place, row_items, starts, absent, mark, end_of_line, end_at, read_leaf, text_to_end, read_line}
+use Rattle.b2_atom.specs.Grammar.{reader, items, item, level, deep, many, statement, statement_within, chosen, statement_row, row_at, allowed, from, begins_let, variable_begins, barred_following, barred_line, barred_place, row_items, starts, absent, mark, end_of_line, end_at, read_leaf, text_to_end, read_line}
 use Rattle.b2_atom.specs.Fitting.{fits_token, giving, FitsPut, Fits, is_remark, RemarksEnd, is_statement, is_allowed, LineTree}
 use Rattle.b2_atom.specs.Table.{forms}
 use Rattle.b2_atom.specs.declared.words.TheConstants as word
@@ -164,10 +164,10 @@ abbrev pub row_read : Origin → (Position → Parser Text) → ℕ → List Ite
 row_read o stf l is = items stf (deep (reader o) stf 32) (level (reader o) stf (deep (reader o) stf 32) l) (reader o) is
 
 calm_step : (o : Origin) (stf : Position → Parser Text) (l : ℕ) (i : Item) (is : List Item) (s : Text) → calm_item i ≡ true
-    → ((u : Text) → length u ≤ length s → Ends (Fits o 32 is) u (row_read o stf l is u)) → Ends (Fits o 32 (i ∷ is)) s (row_read o stf l (i ∷ is) s)
+    → ((u : Text) → length u ≤ length s → Ends (Fits o 32 32 is) u (row_read o stf l is u)) → Ends (Fits o 32 32 (i ∷ is)) s (row_read o stf l (i ∷ is) s)
 unfolding items
 calm_step o stf l i is s calm h =
-    calm_first (Leads o 32 i is) (Fits o 32 is) (Fits o 32 (i ∷ is)) s (item stf (deep (reader o) stf 32) (level (reader o) stf (deep (reader o) stf 32) l) (reader o) i s)
+    calm_first (Leads o 32 i is) (Fits o 32 32 is) (Fits o 32 32 (i ∷ is)) s (item stf (deep (reader o) stf 32) (level (reader o) stf (deep (reader o) stf 32) l) (reader o) i s)
     (row_read o stf l is) (λ a b x y. x b y)
     (calm_item_good o 32 stf (deep (reader o) stf 32) (level (reader o) stf (deep (reader o) stf 32) l) (calm_deep o stf 32) (calm_level o 32 stf (deep (reader o) stf 32) (calm_deep o stf 32) l) i is s calm) h
 
@@ -176,31 +176,31 @@ ends_le n = omega arith
 
 last_step : (o : Origin) (stf : Position → Parser Text) (l : ℕ) (i : Item) (s : Text)
     → Ends (Leads o 32 i []) s (item stf (deep (reader o) stf 32) (level (reader o) stf (deep (reader o) stf 32) l) (reader o) i s)
-    → Ends (Fits o 32 (i ∷ [])) s (row_read o stf l (i ∷ []) s)
+    → Ends (Fits o 32 32 (i ∷ [])) s (row_read o stf l (i ∷ []) s)
 unfolding items
 last_step o stf l i s g =
-    idle_then (Leads o 32 i []) (Fits o 32 []) (Fits o 32 (i ∷ [])) s (item stf (deep (reader o) stf 32) (level (reader o) stf (deep (reader o) stf 32) l) (reader o) i s)
+    idle_then (Leads o 32 i []) (Fits o 32 32 []) (Fits o 32 32 (i ∷ [])) s (item stf (deep (reader o) stf 32) (level (reader o) stf (deep (reader o) stf 32) l) (reader o) i s)
     (row_read o stf l []) (λ a b x y. x b y) g (λ u le. (refl, (calm_ended [] u refl, (ends_le (length u), λ e. (refl, e)))))
 
 word_step : (o : Origin) (stf : Position → Parser Text) (l c : ℕ) (is : List Item) (s : Text) → nat_lt 0 c ≡ true → no_remark (Coded c ∷ []) ≡ true
-    → ((u : Text) → length u < length s → Ends (Fits o 32 is) u (row_read o stf l is u)) → Ends (Fits o 32 (Word c ∷ is)) s (row_read o stf l (Word c ∷ is) s)
+    → ((u : Text) → length u < length s → Ends (Fits o 32 32 is) u (row_read o stf l is u)) → Ends (Fits o 32 32 (Word c ∷ is)) s (row_read o stf l (Word c ∷ is) s)
 unfolding items item
-word_step o stf l c is s some calm h = mark_first o (Fits o 32 is) (Fits o 32 (Word c ∷ is)) c 22 s (row_read o stf l is) some calm (λ t fit. (same_code c, fit)) h
+word_step o stf l c is s some calm h = mark_first o (Fits o 32 32 is) (Fits o 32 32 (Word c ∷ is)) c 22 s (row_read o stf l is) some calm (λ t fit. (same_code c, fit)) h
 
 sign_step : (o : Origin) (stf : Position → Parser Text) (l c code : ℕ) (is : List Item) (s : Text) → nat_lt 0 c ≡ true → no_remark (Coded c ∷ []) ≡ true
-    → ((u : Text) → length u < length s → Ends (Fits o 32 is) u (row_read o stf l is u)) → Ends (Fits o 32 (Sign c code ∷ is)) s (row_read o stf l (Sign c code ∷ is) s)
+    → ((u : Text) → length u < length s → Ends (Fits o 32 32 is) u (row_read o stf l is u)) → Ends (Fits o 32 32 (Sign c code ∷ is)) s (row_read o stf l (Sign c code ∷ is) s)
 unfolding items item
-sign_step o stf l c code is s some calm h = mark_first o (Fits o 32 is) (Fits o 32 (Sign c code ∷ is)) c code s (row_read o stf l is) some calm (λ t fit. (same_code c, fit)) h
+sign_step o stf l c code is s some calm h = mark_first o (Fits o 32 32 is) (Fits o 32 32 (Sign c code ∷ is)) c code s (row_read o stf l is) some calm (λ t fit. (same_code c, fit)) h
 
-ends_row : (o : Origin) (stf : Position → Parser Text) (l n : ℕ) (is : List Item) (s : Text) → row_items n ≡ is → Ends (Fits o 32 is) s (row_read o stf l is s)
-    → Ends (Fits o 32 (row_items n)) s (level (reader o) stf (deep (reader o) stf 32) (suc l) n s)
+ends_row : (o : Origin) (stf : Position → Parser Text) (l n : ℕ) (is : List Item) (s : Text) → row_items n ≡ is → Ends (Fits o 32 32 is) s (row_read o stf l is s)
+    → Ends (Fits o 32 32 (row_items n)) s (level (reader o) stf (deep (reader o) stf 32) (suc l) n s)
 unfolding level
 ends_row o stf l n is s e g =
-    let P : List Item → Type 0 = λ r. Ends (Fits o 32 r) s (row_read o stf l r s) in subst P (sym e) g
+    let P : List Item → Type 0 = λ r. Ends (Fits o 32 32 r) s (row_read o stf l r s) in subst P (sym e) g
 
 -- a statement's tree
 abbrev pub StatementTree : Origin → Position → Trees → Type 0
-StatementTree o p (In n inner Done) = (is_statement forms o p n ≡ true) × Fits o 32 (row_items n) inner
+StatementTree o p (In n inner Done) = (is_statement forms o p n ≡ true) × Fits o 32 32 (row_items n) inner
 StatementTree o p t = ⊥
 
 statement_leads : (o : Origin) (p : Position) (is : List Item) (t : Trees) → StatementTree o p t → Leads o 32 (Statement p) is t
@@ -219,7 +219,7 @@ abbrev pub Below : Origin → (Position → Parser Text) → ℕ → Type 0
 Below o stf f = (p : Position) (s : Text) → length s < f → Ends (StatementTree o p) s (stf p s)
 
 statement_last : (o : Origin) (stf : Position → Parser Text) (f l : ℕ) → Below o stf f → (p : Position) (s : Text) → length s < f
-    → Ends (Fits o 32 (Statement p ∷ [])) s (row_read o stf l (Statement p ∷ []) s)
+    → Ends (Fits o 32 32 (Statement p ∷ [])) s (row_read o stf l (Statement p ∷ []) s)
 unfolding item
 statement_last o stf f l st p s less = last_step o stf l (Statement p) s (ends_map (StatementTree o p) (Leads o 32 (Statement p) []) s (stf p s) (statement_leads o p []) (st p s less))
 
@@ -228,7 +228,7 @@ unfolding row_items
 following_is = refl
 
 following_row : (o : Origin) (stf : Position → Parser Text) (f l : ℕ) → Below o stf f → (s : Text) → length s < f
-    → Ends (Fits o 32 (row_items row.FOLLOWING)) s (level (reader o) stf (deep (reader o) stf 32) (suc l) row.FOLLOWING s)
+    → Ends (Fits o 32 32 (row_items row.FOLLOWING)) s (level (reader o) stf (deep (reader o) stf 32) (suc l) row.FOLLOWING s)
 following_row o stf f l st s less =
     ends_row o stf l row.FOLLOWING (Statement place.Following ∷ []) s following_is (statement_last o stf f l st place.Following s less)
 
@@ -237,18 +237,18 @@ unfolding row_items
 error_is = refl
 
 part_following : (o : Origin) (stf : Position → Parser Text) (f l : ℕ) → Below o stf f → (s : Text) → length s < f
-    → Ends (Fits o 32 (Part row.FOLLOWING ∷ [])) s (row_read o stf (suc l) (Part row.FOLLOWING ∷ []) s)
+    → Ends (Fits o 32 32 (Part row.FOLLOWING ∷ [])) s (row_read o stf (suc l) (Part row.FOLLOWING ∷ []) s)
 unfolding item
 part_following o stf f l st s less =
     last_step o stf (suc l) (Part row.FOLLOWING) s
-    (ends_under (Fits o 32 (row_items row.FOLLOWING)) (Leads o 32 (Part row.FOLLOWING) []) 2 s (level (reader o) stf (deep (reader o) stf 32) (suc l) row.FOLLOWING s)
+    (ends_under (Fits o 32 32 (row_items row.FOLLOWING)) (Leads o 32 (Part row.FOLLOWING) []) 2 s (level (reader o) stf (deep (reader o) stf 32) (suc l) row.FOLLOWING s)
     (λ t g b fit. (refl, (g, fit))) (following_row o stf f l st s less))
 
 lt_le : (a b c : ℕ) → a < b → b ≤ c → a < c
 lt_le a b c h k = omega arith
 
 error_row : (o : Origin) (stf : Position → Parser Text) (f l : ℕ) → Below o stf f → (s : Text) → length s ≤ f
-    → Ends (Fits o 32 (row_items row.ERROR)) s (level (reader o) stf (deep (reader o) stf 32) (suc (suc l)) row.ERROR s)
+    → Ends (Fits o 32 32 (row_items row.ERROR)) s (level (reader o) stf (deep (reader o) stf 32) (suc (suc l)) row.ERROR s)
 error_row o stf f l st s le =
     ends_row o stf (suc l) row.ERROR (Word word.ERROR ∷ Part row.FOLLOWING ∷ []) s error_is
     (word_step o stf (suc l) word.ERROR (Part row.FOLLOWING ∷ []) s refl refl (λ u less. part_following o stf f l st u (lt_le (length u) (length s) f less le)))
@@ -262,15 +262,15 @@ unfolding calm_row
 condition_calm = refl
 
 line_or_statement : (o : Origin) (stf : Position → Parser Text) (f l : ℕ) → Below o stf f → (s : Text) → length s < f
-    → Ends (Fits o 32 (Either start.Line row.LINE_NUMBER row.FOLLOWING ∷ [])) s (row_read o stf (suc l) (Either start.Line row.LINE_NUMBER row.FOLLOWING ∷ []) s)
+    → Ends (Fits o 32 32 (Either start.Line row.LINE_NUMBER row.FOLLOWING ∷ [])) s (row_read o stf (suc l) (Either start.Line row.LINE_NUMBER row.FOLLOWING ∷ []) s)
 unfolding item
 line_or_statement o stf f l st s less =
     last_step o stf (suc l) (Either start.Line row.LINE_NUMBER row.FOLLOWING) s
     (ends_if (Leads o 32 (Either start.Line row.LINE_NUMBER row.FOLLOWING) []) s (starts o start.Line s)
     (under 1 (level (reader o) stf (deep (reader o) stf 32) (suc l) row.LINE_NUMBER s)) (under 0 (level (reader o) stf (deep (reader o) stf 32) (suc l) row.FOLLOWING s))
-    (ends_under (Fits o 32 (row_items row.LINE_NUMBER)) (Leads o 32 (Either start.Line row.LINE_NUMBER row.FOLLOWING) []) 1 s (level (reader o) stf (deep (reader o) stf 32) (suc l) row.LINE_NUMBER s)
-    (λ t g b fit. (g, fit)) (good_ends (Fits o 32 (row_items row.LINE_NUMBER)) s (level (reader o) stf (deep (reader o) stf 32) (suc l) row.LINE_NUMBER s) (calm_part o stf (suc l) row.LINE_NUMBER line_calm s)))
-    (ends_under (Fits o 32 (row_items row.FOLLOWING)) (Leads o 32 (Either start.Line row.LINE_NUMBER row.FOLLOWING) []) 0 s (level (reader o) stf (deep (reader o) stf 32) (suc l) row.FOLLOWING s)
+    (ends_under (Fits o 32 32 (row_items row.LINE_NUMBER)) (Leads o 32 (Either start.Line row.LINE_NUMBER row.FOLLOWING) []) 1 s (level (reader o) stf (deep (reader o) stf 32) (suc l) row.LINE_NUMBER s)
+    (λ t g b fit. (g, fit)) (good_ends (Fits o 32 32 (row_items row.LINE_NUMBER)) s (level (reader o) stf (deep (reader o) stf 32) (suc l) row.LINE_NUMBER s) (calm_part o stf (suc l) row.LINE_NUMBER line_calm s)))
+    (ends_under (Fits o 32 32 (row_items row.FOLLOWING)) (Leads o 32 (Either start.Line row.LINE_NUMBER row.FOLLOWING) []) 0 s (level (reader o) stf (deep (reader o) stf 32) (suc l) row.FOLLOWING s)
     (λ t g b fit. (g, fit)) (following_row o stf f l st s less)))
 
 pub else_is : row_items row.ELSE ≡ Word word.ELSE ∷ Either start.Line row.LINE_NUMBER row.FOLLOWING ∷ []
@@ -278,7 +278,7 @@ unfolding row_items
 else_is = refl
 
 else_row : (o : Origin) (stf : Position → Parser Text) (f l : ℕ) → Below o stf f → (s : Text) → length s ≤ f
-    → Ends (Fits o 32 (row_items row.ELSE)) s (level (reader o) stf (deep (reader o) stf 32) (suc (suc l)) row.ELSE s)
+    → Ends (Fits o 32 32 (row_items row.ELSE)) s (level (reader o) stf (deep (reader o) stf 32) (suc (suc l)) row.ELSE s)
 else_row o stf f l st s le =
     ends_row o stf (suc l) row.ELSE (Word word.ELSE ∷ Either start.Line row.LINE_NUMBER row.FOLLOWING ∷ []) s else_is
     (word_step o stf (suc l) word.ELSE (Either start.Line row.LINE_NUMBER row.FOLLOWING ∷ []) s refl refl (λ u less. line_or_statement o stf f l st u (lt_le (length u) (length s) f less le)))
@@ -291,7 +291,7 @@ le_lt : (a b c : ℕ) → a ≤ b → b < c → a < c
 le_lt a b c h k = omega arith
 
 if_row : (o : Origin) (stf : Position → Parser Text) (f l : ℕ) → Below o stf f → (s : Text) → length s ≤ f
-    → Ends (Fits o 32 (row_items row.IF)) s (level (reader o) stf (deep (reader o) stf 32) (suc (suc l)) row.IF s)
+    → Ends (Fits o 32 32 (row_items row.IF)) s (level (reader o) stf (deep (reader o) stf 32) (suc (suc l)) row.IF s)
 if_row o stf f l st s le =
     ends_row o stf (suc l) row.IF (Word word.IF ∷ Part row.CONDITION ∷ Word word.THEN ∷ Either start.Line row.LINE_NUMBER row.FOLLOWING ∷ []) s if_is
     (word_step o stf (suc l) word.IF (Part row.CONDITION ∷ Word word.THEN ∷ Either start.Line row.LINE_NUMBER row.FOLLOWING ∷ []) s refl refl (λ u less.
@@ -307,23 +307,23 @@ abbrev TextRow : Item → List Item
 TextRow i = i ∷ Typed leaf.Text 14 ∷ []
 
 text_by : (o : Origin) (i : Item) (c : ℕ) (s : Text) (b : ℕ) (bs : Text) (p : Bool) → all_printable (b ∷ bs) ≡ p → fits_token o i (Coded c) ≡ true → giving (TextRow i) ≡ TextRow i
-    → Ends (Fits o 32 (TextRow i)) s (preceded (Put (Coded c) Done) (and_then (if p then one (Plain leaf.Text (b ∷ bs)) [] else Err (At 14 (length (b ∷ bs)))) nothing))
+    → Ends (Fits o 32 32 (TextRow i)) s (preceded (Put (Coded c) Done) (and_then (if p then one (Plain leaf.Text (b ∷ bs)) [] else Err (At 14 (length (b ∷ bs)))) nothing))
 text_by o i c s b bs false h t g = tt
 text_by o i c s b bs true h t g =
-    let P : List Item → Type 0 = λ is. FitsPut o is (Coded c) (λ (rest : List Item). Fits o 32 rest (Put (Plain leaf.Text (b ∷ bs)) Done)) in (
+    let P : List Item → Type 0 = λ is. FitsPut o is (Coded c) (λ (rest : List Item). Fits o 32 32 rest (Put (Plain leaf.Text (b ∷ bs)) Done)) in (
       subst P (sym g) (t, (both (nat_lt 0 (suc (length bs))) (all_printable (b ∷ bs)) (some_text (length bs)) h, refl)),
       (record { remarks = ((λ h. refl), ((λ h. refl), tt)); ended = inr refl }, (let least : 0 ≤ length s = omega arith in least)),
     )
 
 text_ends : (o : Origin) (i : Item) (c : ℕ) (s x : Text) → fits_token o i (Coded c) ≡ true → giving (TextRow i) ≡ TextRow i
-    → Ends (Fits o 32 (TextRow i)) s (preceded (Put (Coded c) Done) (and_then (text_to_end 14 x) nothing))
+    → Ends (Fits o 32 32 (TextRow i)) s (preceded (Put (Coded c) Done) (and_then (text_to_end 14 x) nothing))
 text_ends o i c s [] t g =
-    let P : List Item → Type 0 = λ is. FitsPut o is (Coded c) (λ (rest : List Item). Fits o 32 rest Done) in
+    let P : List Item → Type 0 = λ is. FitsPut o is (Coded c) (λ (rest : List Item). Fits o 32 32 rest Done) in
     (subst P (sym g) (t, refl), (record { remarks = ((λ h. refl), tt); ended = inr refl }, (let least : 0 ≤ length s = omega arith in least)))
 text_ends o i c s (b ∷ bs) t g = text_by o i c s b bs (all_printable (b ∷ bs)) refl t g
 
 remark_by : (o : Origin) (i : Item) (c code : ℕ) (s : Text) (b : Bool) → fits_token o i (Coded c) ≡ true → giving (TextRow i) ≡ TextRow i
-    → Ends (Fits o 32 (TextRow i)) s (and_then (if b then one (Coded c) (ahead o (skipped o s)).1 else Err (refused o code (skipped o s))) (λ x. and_then (text_to_end 14 x) nothing))
+    → Ends (Fits o 32 32 (TextRow i)) s (and_then (if b then one (Coded c) (ahead o (skipped o s)).1 else Err (refused o code (skipped o s))) (λ x. and_then (text_to_end 14 x) nothing))
 remark_by o i c code s true t g = text_ends o i c s (ahead o (skipped o s)).1 t g
 remark_by o i c code s false t g = tt
 
@@ -335,12 +335,12 @@ image_is : row_items row.IMAGE_LINE ≡ Sign 37 14 ∷ Typed leaf.Text 14 ∷ []
 unfolding row_items
 image_is = refl
 
-remark_row : (o : Origin) (stf : Position → Parser Text) (l : ℕ) (s : Text) → Ends (Fits o 32 (row_items row.REMARK)) s (level (reader o) stf (deep (reader o) stf 32) (suc l) row.REMARK s)
+remark_row : (o : Origin) (stf : Position → Parser Text) (l : ℕ) (s : Text) → Ends (Fits o 32 32 (row_items row.REMARK)) s (level (reader o) stf (deep (reader o) stf 32) (suc l) row.REMARK s)
 unfolding items item mark read_leaf
 remark_row o stf l s =
     ends_row o stf l row.REMARK (Word word.REM ∷ Typed leaf.Text 14 ∷ []) s remark_is (remark_by o (Word word.REM) word.REM 22 s ((ahead o (skipped o s)).0 == word.REM) refl refl)
 
-image_row : (o : Origin) (stf : Position → Parser Text) (l : ℕ) (s : Text) → Ends (Fits o 32 (row_items row.IMAGE_LINE)) s (level (reader o) stf (deep (reader o) stf 32) (suc l) row.IMAGE_LINE s)
+image_row : (o : Origin) (stf : Position → Parser Text) (l : ℕ) (s : Text) → Ends (Fits o 32 32 (row_items row.IMAGE_LINE)) s (level (reader o) stf (deep (reader o) stf 32) (suc l) row.IMAGE_LINE s)
 unfolding items item mark read_leaf
 image_row o stf l s =
     ends_row o stf l row.IMAGE_LINE (Sign 37 14 ∷ Typed leaf.Text 14 ∷ []) s image_is (remark_by o (Sign 37 14) 37 14 s ((ahead o (skipped o s)).0 == 37) refl refl)
@@ -424,23 +424,23 @@ place_fact o p s =
 -- a statement's row
 row_by : (o : Origin) (stf : Position → Parser Text) (f n : ℕ) → Below o stf f → (s : Text) → length s ≤ f → (a b c d e : Bool) → (n == row.REMARK) ≡ a → (n == row.IMAGE_LINE) ≡ b
     → (n == row.IF) ≡ c → (n == row.ELSE) ≡ d → (n == row.ERROR) ≡ e → (a || (b || (c || (d || e)))) ≡ true
-    → Ends (Fits o 32 (row_items n)) s (level (reader o) stf (deep (reader o) stf 32) 40 n s)
+    → Ends (Fits o 32 32 (row_items n)) s (level (reader o) stf (deep (reader o) stf 32) 40 n s)
 row_by o stf f n st s le true b c d e ha hb hc hd he h =
-    let P : ℕ → Type 0 = λ m. Ends (Fits o 32 (row_items m)) s (level (reader o) stf (deep (reader o) stf 32) 40 m s) in subst P (sym (equal n row.REMARK ha)) (remark_row o stf 39 s)
+    let P : ℕ → Type 0 = λ m. Ends (Fits o 32 32 (row_items m)) s (level (reader o) stf (deep (reader o) stf 32) 40 m s) in subst P (sym (equal n row.REMARK ha)) (remark_row o stf 39 s)
 row_by o stf f n st s le false true c d e ha hb hc hd he h =
-    let P : ℕ → Type 0 = λ m. Ends (Fits o 32 (row_items m)) s (level (reader o) stf (deep (reader o) stf 32) 40 m s) in subst P (sym (equal n row.IMAGE_LINE hb)) (image_row o stf 39 s)
+    let P : ℕ → Type 0 = λ m. Ends (Fits o 32 32 (row_items m)) s (level (reader o) stf (deep (reader o) stf 32) 40 m s) in subst P (sym (equal n row.IMAGE_LINE hb)) (image_row o stf 39 s)
 row_by o stf f n st s le false false true d e ha hb hc hd he h =
-    let P : ℕ → Type 0 = λ m. Ends (Fits o 32 (row_items m)) s (level (reader o) stf (deep (reader o) stf 32) 40 m s) in subst P (sym (equal n row.IF hc)) (if_row o stf f 38 st s le)
+    let P : ℕ → Type 0 = λ m. Ends (Fits o 32 32 (row_items m)) s (level (reader o) stf (deep (reader o) stf 32) 40 m s) in subst P (sym (equal n row.IF hc)) (if_row o stf f 38 st s le)
 row_by o stf f n st s le false false false true e ha hb hc hd he h =
-    let P : ℕ → Type 0 = λ m. Ends (Fits o 32 (row_items m)) s (level (reader o) stf (deep (reader o) stf 32) 40 m s) in subst P (sym (equal n row.ELSE hd)) (else_row o stf f 38 st s le)
+    let P : ℕ → Type 0 = λ m. Ends (Fits o 32 32 (row_items m)) s (level (reader o) stf (deep (reader o) stf 32) 40 m s) in subst P (sym (equal n row.ELSE hd)) (else_row o stf f 38 st s le)
 row_by o stf f n st s le false false false false true ha hb hc hd he h =
-    let P : ℕ → Type 0 = λ m. Ends (Fits o 32 (row_items m)) s (level (reader o) stf (deep (reader o) stf 32) 40 m s) in subst P (sym (equal n row.ERROR he)) (error_row o stf f 38 st s le)
+    let P : ℕ → Type 0 = λ m. Ends (Fits o 32 32 (row_items m)) s (level (reader o) stf (deep (reader o) stf 32) 40 m s) in subst P (sym (equal n row.ERROR he)) (error_row o stf f 38 st s le)
 row_by o stf f n st s le false false false false false ha hb hc hd he h = cc
 
 statement_part : (o : Origin) (stf : Position → Parser Text) (f n : ℕ) → Below o stf f → (s : Text) → length s ≤ f → (b : Bool) → calm_row n ≡ b → (b || is_text_row n) ≡ true
-    → Ends (Fits o 32 (row_items n)) s (level (reader o) stf (deep (reader o) stf 32) 40 n s)
+    → Ends (Fits o 32 32 (row_items n)) s (level (reader o) stf (deep (reader o) stf 32) 40 n s)
 statement_part o stf f n st s le true is h =
-    good_ends (Fits o 32 (row_items n)) s (level (reader o) stf (deep (reader o) stf 32) 40 n s) (calm_part o stf 40 n is s)
+    good_ends (Fits o 32 32 (row_items n)) s (level (reader o) stf (deep (reader o) stf 32) 40 n s) (calm_part o stf 40 n is s)
 statement_part o stf f n st s le false is h =
     row_by o stf f n st s le (n == row.REMARK) (n == row.IMAGE_LINE) (n == row.IF) (n == row.ELSE) (n == row.ERROR) refl refl refl refl refl h
 
@@ -457,15 +457,15 @@ statement_chosen : (o : Origin) (stf : Position → Parser Text) (f : ℕ) (p : 
     → Ends (StatementTree o p) s (chosen r (level (reader o) stf (deep (reader o) stf 32) 40))
 statement_chosen o stf f p s (Err e) st le fact = tt
 statement_chosen o stf f p s (Ok r) st le fact =
-    ends_under (Fits o 32 (row_items r.0)) (StatementTree o p) r.0 s (level (reader o) stf (deep (reader o) stf 32) 40 r.0 r.1) (λ t g. (fact.0.0, g))
-    (ends_wider (Fits o 32 (row_items r.0)) s r.1 (level (reader o) stf (deep (reader o) stf 32) 40 r.0 r.1) fact.1
+    ends_under (Fits o 32 32 (row_items r.0)) (StatementTree o p) r.0 s (level (reader o) stf (deep (reader o) stf 32) 40 r.0 r.1) (λ t g. (fact.0.0, g))
+    (ends_wider (Fits o 32 32 (row_items r.0)) s r.1 (level (reader o) stf (deep (reader o) stf 32) 40 r.0 r.1) fact.1
     (statement_part o stf f r.0 st r.1 (le_both (length r.1) (length s) f fact.1 le) (calm_row r.0) refl (row_known r.0 fact.0.1)))
 
 less_suc : (n f : ℕ) → n < suc f → n ≤ f
 less_suc n f h = omega arith
 
 statements_below : (o : Origin) (f : ℕ) → Below o (statement (reader o) f) f
-unfolding statement
+unfolding statement_within
 statements_below o zero p s less = absurd (omega arith)
 statements_below o (suc f) p s less =
     statement_chosen o (statement (reader o) f) f p s (statement_row o p s) (statements_below o f) (less_suc (length s) f less) (place_fact o p s)
@@ -476,7 +476,7 @@ unfolding row_items
 further_is = refl
 
 further_row : (o : Origin) (stf : Position → Parser Text) (f l : ℕ) → Below o stf f → (s : Text) → length s ≤ f
-    → Ends (Fits o 32 (row_items row.FURTHER_STATEMENT)) s (level (reader o) stf (deep (reader o) stf 32) (suc l) row.FURTHER_STATEMENT s)
+    → Ends (Fits o 32 32 (row_items row.FURTHER_STATEMENT)) s (level (reader o) stf (deep (reader o) stf 32) (suc l) row.FURTHER_STATEMENT s)
 further_row o stf f l st s le =
     ends_row o stf l row.FURTHER_STATEMENT (Sign 58 25 ∷ Statement place.Further ∷ []) s further_is
     (sign_step o stf l 58 25 (Statement place.Further ∷ []) s refl refl (λ u less. statement_last o stf f l st place.Further u (lt_le (length u) (length s) f less le)))
@@ -514,17 +514,17 @@ furthers o stf f l st is (suc n) u le =
     let p : Parser Text = level (reader o) stf (deep (reader o) stf 32) (suc l) row.FURTHER_STATEMENT in
     many_by o is u (starts o (start.Code 58) u) (and_then (under 1 (p u)) (many (reader o) (start.Code 58) p n)) (λ h.
     idles_of (Further o is) u (and_then (under 1 (p u)) (many (reader o) (start.Code 58) p n)) (λ e. asks_none o u e h)
-    (idle_then (λ a. (t : Trees) × (Fits o 32 (row_items row.FURTHER_STATEMENT) t × (a ≡ In 1 t Done))) (Further o is) (Further o is) u (under 1 (p u)) (many (reader o) (start.Code 58) p n)
+    (idle_then (λ a. (t : Trees) × (Fits o 32 32 (row_items row.FURTHER_STATEMENT) t × (a ≡ In 1 t Done))) (Further o is) (Further o is) u (under 1 (p u)) (many (reader o) (start.Code 58) p n)
     (λ a b x y. let P : Trees → Type 0 = λ c. Further o is (also c b) in subst P (sym x.1.1) (λ c fit. (x.1.0, y c fit)))
-    (ends_under (Fits o 32 (row_items row.FURTHER_STATEMENT)) (λ a. (t : Trees) × (Fits o 32 (row_items row.FURTHER_STATEMENT) t × (a ≡ In 1 t Done))) 1 u (p u) (λ t g. (t, (g, refl))) (further_row o stf f l st u le))
+    (ends_under (Fits o 32 32 (row_items row.FURTHER_STATEMENT)) (λ a. (t : Trees) × (Fits o 32 32 (row_items row.FURTHER_STATEMENT) t × (a ≡ In 1 t Done))) 1 u (p u) (λ t g. (t, (g, refl))) (further_row o stf f l st u le))
     (λ v less. furthers o stf f l st is n v (le_both (length v) (length u) f less le))))
 
 -- the line's end
-end_by : (o : Origin) (v t : Text) → Idles (Fits o 32 (End ∷ [])) v (and_then (end_at o t) nothing)
+end_by : (o : Origin) (v t : Text) → Idles (Fits o 32 32 (End ∷ [])) v (and_then (end_at o t) nothing)
 end_by o v [] = (refl, (calm_ended [] [] refl, ((let least : 0 ≤ length v = omega arith in least), λ e. (refl, refl))))
 end_by o v (b ∷ t) = tt
 
-end_idles : (o : Origin) (stf : Position → Parser Text) (l : ℕ) (v : Text) → Idles (Fits o 32 (End ∷ [])) v (row_read o stf l (End ∷ []) v)
+end_idles : (o : Origin) (stf : Position → Parser Text) (l : ℕ) (v : Text) → Idles (Fits o 32 32 (End ∷ [])) v (row_read o stf l (End ∷ []) v)
 unfolding items item end_of_line
 end_idles o stf l v = end_by o v (skipped o v)
 
@@ -534,10 +534,10 @@ unfolding row_items
 line_is = refl
 
 line_rest : (o : Origin) (stf : Position → Parser Text) (f l : ℕ) → Below o stf f → (u : Text) → length u ≤ f
-    → Idles (Fits o 32 (Many (start.Code 58) row.FURTHER_STATEMENT ∷ End ∷ [])) u (row_read o stf (suc l) (Many (start.Code 58) row.FURTHER_STATEMENT ∷ End ∷ []) u)
+    → Idles (Fits o 32 32 (Many (start.Code 58) row.FURTHER_STATEMENT ∷ End ∷ [])) u (row_read o stf (suc l) (Many (start.Code 58) row.FURTHER_STATEMENT ∷ End ∷ []) u)
 unfolding items item
 line_rest o stf f l st u le =
-    idles_then (Further o (End ∷ [])) (Fits o 32 (End ∷ [])) (Fits o 32 (Many (start.Code 58) row.FURTHER_STATEMENT ∷ End ∷ [])) u
+    idles_then (Further o (End ∷ [])) (Fits o 32 32 (End ∷ [])) (Fits o 32 32 (Many (start.Code 58) row.FURTHER_STATEMENT ∷ End ∷ [])) u
     (many (reader o) (start.Code 58) (level (reader o) stf (deep (reader o) stf 32) (suc l) row.FURTHER_STATEMENT) (length u) u) (row_read o stf (suc l) (End ∷ []))
     (λ a b x y. x b y) (furthers o stf f l st (End ∷ []) (length u) u le) (λ v less. end_idles o stf (suc l) v)
 
@@ -545,27 +545,27 @@ fewer : (a b c : ℕ) → a ≤ b → b < c → a ≤ c
 fewer a b c h k = omega arith
 
 line_items : (o : Origin) (stf : Position → Parser Text) (f l : ℕ) → Below o stf f → (s : Text) → length s < f
-    → Ends (Fits o 32 (Statement place.First ∷ Many (start.Code 58) row.FURTHER_STATEMENT ∷ End ∷ [])) s
+    → Ends (Fits o 32 32 (Statement place.First ∷ Many (start.Code 58) row.FURTHER_STATEMENT ∷ End ∷ [])) s
     (row_read o stf (suc l) (Statement place.First ∷ Many (start.Code 58) row.FURTHER_STATEMENT ∷ End ∷ []) s)
 unfolding items item
 line_items o stf f l st s less =
-    idle_then (StatementTree o place.First) (Fits o 32 (Many (start.Code 58) row.FURTHER_STATEMENT ∷ End ∷ []))
-    (Fits o 32 (Statement place.First ∷ Many (start.Code 58) row.FURTHER_STATEMENT ∷ End ∷ [])) s (stf place.First s)
+    idle_then (StatementTree o place.First) (Fits o 32 32 (Many (start.Code 58) row.FURTHER_STATEMENT ∷ End ∷ []))
+    (Fits o 32 32 (Statement place.First ∷ Many (start.Code 58) row.FURTHER_STATEMENT ∷ End ∷ [])) s (stf place.First s)
     (row_read o stf (suc l) (Many (start.Code 58) row.FURTHER_STATEMENT ∷ End ∷ []))
     (λ a b x y. statement_leads o place.First (Many (start.Code 58) row.FURTHER_STATEMENT ∷ End ∷ []) a x b y) (st place.First s less)
     (λ u le. line_rest o stf f l st u (fewer (length u) (length s) f le less))
 
-line_ends : (o : Origin) (s : Text) → Ends (Fits o 32 (row_items row.LINE)) s (read_line o s)
+line_ends : (o : Origin) (s : Text) → Ends (Fits o 32 32 (row_items row.LINE)) s (read_line o s)
 line_ends o s =
     ends_row o (statement (reader o) (length s + 1)) 39 row.LINE (Statement place.First ∷ Many (start.Code 58) row.FURTHER_STATEMENT ∷ End ∷ []) s line_is
     (line_items o (statement (reader o) (length s + 1)) (length s + 1) 38 (statements_below o (length s + 1)) s (let less : length s < length s + 1 = omega arith in less))
 
-fit_of : (o : Origin) (s : Text) (u : Outcome) (t : Trees) (rest : Text) → u ≡ Ok (t, rest) → Ends (Fits o 32 (row_items row.LINE)) s u → LineTree o t
+fit_of : (o : Origin) (s : Text) (u : Outcome) (t : Trees) (rest : Text) → u ≡ Ok (t, rest) → Ends (Fits o 32 32 (row_items row.LINE)) s u → LineTree o t
 fit_of o s (Err e) t rest is g = cc
 fit_of o s (Ok p) t rest is g =
     let pairs : ◌≡◌ {A = Trees × Text} p (t, rest) = cc in
     let same : p.0 ≡ t = ap (λ (x : Trees × Text). x.0) pairs in
-    record { fits = subst (Fits o 32 (row_items row.LINE)) same g.0; remarks = subst (λ a. RemarksEnd (tokens a)) same g.1.0.remarks }
+    record { fits = subst (Fits o 32 32 (row_items row.LINE)) same g.0; remarks = subst (λ a. RemarksEnd (tokens a)) same g.1.0.remarks }
 
 -- what is read of a line is a tree that the table allows
 pub reads_fit : (o : Origin) (s : Text) (t : Trees) (rest : Text) → read_line o s ≡ Ok (t, rest) → LineTree o t

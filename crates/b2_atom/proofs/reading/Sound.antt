@@ -9,7 +9,7 @@ use Rattle.std.proofs.lemmas.List.{take-append-drop}
 use Rattle.b2_atom.specs.Tree.{Trees, Outcome, Parser, one, nothing, preceded, and_then, under, also, atoms}
 use Rattle.b2_atom.specs.Tree.Trees.{Done, Put, In}
 use Rattle.b2_atom.specs.Leaves.{refused, leaf_width}
-use Rattle.b2_atom.specs.Grammar.{reader, read_item, items, item, level, deep, statement, many, row_items, rows_of, row_place, starts, read_line, chosen, statement_row, row_at, from, mark, among, program_word, ignored, optional_comma, end_of_line, end_at, read_leaf, leaf_at, plain_of, atoms_line_number, text_to_end}
+use Rattle.b2_atom.specs.Grammar.{reader, read_item, items, item, level, deep, statement, statement_within, many, row_items, rows_of, row_place, starts, read_line, chosen, statement_row, row_at, from, mark, among, program_word, ignored, optional_comma, end_of_line, end_at, read_leaf, leaf_at, plain_of, atoms_line_number, text_to_end}
 use Rattle.b2_atom.specs.declared.words.Origin.{Origin}
 use Rattle.b2_atom.specs.declared.words.Origin.TheVariants.{Atoms}
 use Rattle.b2_atom.specs.declared.sink.Stop.{Stop}
@@ -211,7 +211,7 @@ takes_chosen (Err e) q s h = tt
 takes_chosen (Ok n) q s h = takes_under n s (q n s) (h n s)
 
 pub takes_statement : (f : ℕ) (x : Position) → AllTake (statement (reader Atoms) f x)
-unfolding statement statement_row
+unfolding statement_within statement_row
 takes_statement zero x s = refl
 takes_statement (suc f) x s =
     takes_chosen (row_at forms Atoms x s) _ s (takes_level (statement (reader Atoms) f) _ (takes_statement f) (takes_deep (statement (reader Atoms) f) (takes_statement f) 32) 40)

@@ -8,7 +8,7 @@ use Rattle.b2_atom.specs.Tokens.Token.{Coded, Plain, Lined}
 use Rattle.b2_atom.specs.Tree.{Trees, tokens}
 use Rattle.b2_atom.specs.Grammar.{row_items, is_among}
 use Rattle.b2_atom.specs.Spelling.{is_word_or_sign, is_literal, is_free_text, is_image, is_dollar, is_unrelated, is_lettered, may_follow, may_follow_leaf, Neighbours, AllGood, good_token, is_in, plain_signs}
-use Rattle.b2_atom.specs.Fitting.{leaf_number, is_remark, is_rest, RemarksEnd, LineTree}
+use Rattle.b2_atom.specs.Fitting.{leaf_number, is_remark, is_rest, RemarksEnd, LineTreeWithin}
 use Rattle.b2_atom.specs.declared.rows.TheConstants as row
 use Rattle.b2_atom.specs.declared.words.Origin.{Origin}
 use Rattle.b2_atom.specs.declared.words.TheConstants as word
@@ -389,9 +389,9 @@ good_line o (t ∷ ts) begun a b r =
 none_follows : (q : TwoTokens) (fs : List Front) → Follows q fs []
 none_follows q fs = λ t k. tt
 
-pub good_tree : (o : Origin) (t : Trees) → LineTree o t → AllGood (tokens t) × Neighbours (tokens t)
-good_tree o t h =
-    let led = led_known row.LINE (tokens t) [] (leads t o 32 (row_items row.LINE) h.fits []) in
+pub good_tree : (most : ℕ) (o : Origin) (t : Trees) → LineTreeWithin most o t → AllGood (tokens t) × Neighbours (tokens t)
+good_tree most o t h =
+    let led = led_known row.LINE (tokens t) [] (leads t o most most (row_items row.LINE) h.fits []) in
     let begun : some (λ (f : Front). fronts f (tokens t ++ [])) (of row.LINE).heads ≡ true = elim led [
       | inl g ↦ never (of row.LINE).empty g.1 (not_true _ (and_right (every good_front (of row.LINE).heads) _ (and_right (covered statement_heads (of row.LINE).heads) _ line_heads)))
       | inr g ↦ g
@@ -400,6 +400,6 @@ good_tree o t h =
     let Q : List Token → Type 0 = λ l. Chain then_good l in
     let same = append-nil (tokens t) in
     good_line o (tokens t) (ap (λ (l : List Token). some (λ (f : Front). fronts f l) (of row.LINE).heads) (sym same) ∙ begun)
-    (subst P same (chained (λ n. true) beside may_stand tells (λ n k. row_paired n) (λ k n. refl) t o 32 (row_items row.LINE) h.fits (row_paired row.LINE) [] (none_follows may_stand ((of_items of (row_items row.LINE)).ends)) tt))
-    (subst Q same (chained (λ n. true) before_good then_good tells_good (λ n k. row_good n) (λ k n. refl) t o 32 (row_items row.LINE) h.fits (row_good row.LINE) [] (none_follows then_good ((of_items of (row_items row.LINE)).ends)) tt))
+    (subst P same (chained (λ n. true) beside may_stand tells (λ n k. row_paired n) (λ k n. refl) t o most most (row_items row.LINE) h.fits (row_paired row.LINE) [] (none_follows may_stand ((of_items of (row_items row.LINE)).ends)) tt))
+    (subst Q same (chained (λ n. true) before_good then_good tells_good (λ n k. row_good n) (λ k n. refl) t o most most (row_items row.LINE) h.fits (row_good row.LINE) [] (none_follows then_good ((of_items of (row_items row.LINE)).ends)) tt))
     h.remarks

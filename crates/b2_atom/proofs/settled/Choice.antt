@@ -305,11 +305,11 @@ mark_giving (Sign c code) is h = refl
 mark_giving (Among a b code) is h = refl
 mark_giving i is h = cc
 
-mark_branch : (o : Origin) (room m : ℕ) (i : Item) (is : List Item) (below : ℕ → List Item → Type 0) (rest : List Item → Type 0) → is_mark_item i ≡ true → FitsBranch o room i is m below rest → ⊥
-mark_branch o room m (Word c) is below rest h fits = fits
-mark_branch o room m (Sign c code) is below rest h fits = fits
-mark_branch o room m (Among a b code) is below rest h fits = fits
-mark_branch o room m i is below rest h fits = cc
+mark_branch : (o : Origin) (most room m : ℕ) (i : Item) (is : List Item) (below : ℕ → List Item → Type 0) (rest : List Item → Type 0) → is_mark_item i ≡ true → FitsBranch o most room i is m below rest → ⊥
+mark_branch o most room m (Word c) is below rest h fits = fits
+mark_branch o most room m (Sign c code) is below rest h fits = fits
+mark_branch o most room m (Among a b code) is below rest h fits = fits
+mark_branch o most room m i is below rest h fits = cc
 
 mark_end : (i : Item) (is : List Item) → is_mark_item i ≡ true → may_end (i ∷ is) ≡ true → ⊥
 mark_end (Word c) is h k = cc
@@ -318,20 +318,20 @@ mark_end (Among a b code) is h k = cc
 mark_end i is h k = cc
 
 -- a statement that begins with a word or a sign
-pub marked : (o : Origin) (p : Position) (m : ℕ) (is : List Item) (t : Trees) (more : List Token) (s : Text) → leading is ≡ true → marked_choice m is ≡ true
-    → ((xs : List Token) (x : Token) → tokens t ++ more ≡ x ∷ xs → opens_statement x ≡ true) → is_statement forms o p m ≡ true → Fits o 32 is t → is_closing more ≡ true
+pub marked : (o : Origin) (p : Position) (most m : ℕ) (is : List Item) (t : Trees) (more : List Token) (s : Text) → leading is ≡ true → marked_choice m is ≡ true
+    → ((xs : List Token) (x : Token) → tokens t ++ more ≡ x ∷ xs → opens_statement x ≡ true) → is_statement forms o p m ≡ true → Fits o most most is t → is_closing more ≡ true
     → Spells o (tokens t ++ more) s → Stands o p m (tokens t ++ more) s
-marked o p m [] t more s led test opens stated fits closed spelled = cc
-marked o p m (i ∷ is) Done more s led test opens stated fits closed spelled = absurd (mark_end i is led fits)
-marked o p m (i ∷ is) (Put t ts) more s led test opens stated fits closed spelled =
-    let P : List Item → Type 0 = λ js. FitsPut o js t (λ (rest : List Item). Fits o 32 rest ts) in
+marked o p most m [] t more s led test opens stated fits closed spelled = cc
+marked o p most m (i ∷ is) Done more s led test opens stated fits closed spelled = absurd (mark_end i is led fits)
+marked o p most m (i ∷ is) (Put t ts) more s led test opens stated fits closed spelled =
+    let P : List Item → Type 0 = λ js. FitsPut o js t (λ (rest : List Item). Fits o most most rest ts) in
     let there : P (i ∷ is) = subst P (mark_giving i is led) fits in
     by_two o p m (of_item of i).heads (seconds is) t (tokens ts ++ more) s test (token_leads o i t (tokens ts ++ more) there.0)
-    (second_front is (tokens ts) more (leads ts o 32 is there.1 more) closed) (opens (tokens ts ++ more) t refl) stated spelled
-marked o p m (i ∷ is) (In n inner ts) more s led test opens stated fits closed spelled =
-    let P : List Item → Type 0 = λ js. FitsIn o 32 js n (λ (deep : ℕ) (items : List Item). Fits o deep items inner) (λ (rest : List Item). Fits o 32 rest ts) in
+    (second_front is (tokens ts) more (leads ts o most most is there.1 more) closed) (opens (tokens ts ++ more) t refl) stated spelled
+marked o p most m (i ∷ is) (In n inner ts) more s led test opens stated fits closed spelled =
+    let P : List Item → Type 0 = λ js. FitsIn o most most js n (λ (deep : ℕ) (items : List Item). Fits o most deep items inner) (λ (rest : List Item). Fits o most most rest ts) in
     let there : P (i ∷ is) = subst P (mark_giving i is led) fits in
-    absurd (mark_branch o 32 n i is (λ (deep : ℕ) (items : List Item). Fits o deep items inner) (λ (rest : List Item). Fits o 32 rest ts) led there)
+    absurd (mark_branch o most most n i is (λ (deep : ℕ) (items : List Item). Fits o most deep items inner) (λ (rest : List Item). Fits o most most rest ts) led there)
 
 unmarked : (o : Origin) (p : Position) (m : ℕ) (xs : List Token) (s : Text) → every (λ (f : Front). choose forms m f Any) (of m).heads ≡ true
     → some (λ (f : Front). fronts f xs) (of m).heads ≡ true → ((ys : List Token) (x : Token) → xs ≡ x ∷ ys → opens_statement x ≡ true)
@@ -340,12 +340,12 @@ unmarked o p m [] s test begun opens stated spelled heads = cc
 unmarked o p m (x ∷ xs) s test begun opens stated spelled heads = by_one o p m (of m).heads x xs s test begun (opens xs x refl) stated spelled
 
 -- a statement is chosen by its tokens
-pub one_statement : (o : Origin) (p : Position) (m : ℕ) (inner : Trees) (more : List Token) (s : Text) → is_statement forms o p m ≡ true → Fits o 32 (row_items m) inner
+pub one_statement : (o : Origin) (p : Position) (most m : ℕ) (inner : Trees) (more : List Token) (s : Text) → is_statement forms o p m ≡ true → Fits o most most (row_items m) inner
     → is_closing more ≡ true → Spells o (tokens inner ++ more) s → Stands o p m (tokens inner ++ more) s
-one_statement o p m inner more s stated fits closed spelled =
+one_statement o p most m inner more s stated fits closed spelled =
     let test = statement_good o p m stated in
     let full = not_true _ (and_left _ _ test) in
-    let led = led_known m (tokens inner) more (leads inner o 32 (row_items m) fits more) in
+    let led = led_known m (tokens inner) more (leads inner o most most (row_items m) fits more) in
     let begun : some (λ (f : Front). fronts f (tokens inner ++ more)) (of m).heads ≡ true = elim led [
       | inl g ↦ never (of m).empty g.1 full
       | inr g ↦ g
@@ -354,6 +354,6 @@ one_statement o p m inner more s stated fits closed spelled =
     let opens : (xs : List Token) (x : Token) → tokens inner ++ more ≡ x ∷ xs → opens_statement x ≡ true =
     λ xs x same. opening x xs (ap (λ (l : List Token). some (λ (f : Front). fronts f l) statement_heads) (sym same) ∙ heads) in
     elim (either_way (leading (row_items m))) [
-      | inl g ↦ marked o p m (row_items m) inner more s g (ap (chosen_row m) (sym g) ∙ statement_chosen o p m stated) opens stated fits closed spelled
+      | inl g ↦ marked o p most m (row_items m) inner more s g (ap (chosen_row m) (sym g) ∙ statement_chosen o p m stated) opens stated fits closed spelled
       | inr g ↦ unmarked o p m (tokens inner ++ more) s (ap (chosen_row m) (sym g) ∙ statement_chosen o p m stated) begun opens stated spelled heads
     ]

@@ -128,10 +128,10 @@ no_line : is_expression row.LINE ≡ true → (n : ℕ) → is_expression n ≡ 
 no_line h n = cc
 
 -- the tokens of an expression before a `)`
-well : (o : Origin) (room k : ℕ) (inner : Trees) → is_expression k ≡ true → besides before_number (of k).ends (Spanned 41 41 ∷ []) ≡ true → Fits o room (row_items k) inner
+well : (o : Origin) (most room k : ℕ) (inner : Trees) → is_expression k ≡ true → besides before_number (of k).ends (Spanned 41 41 ∷ []) ≡ true → Fits o most room (row_items k) inner
     → Chain opens_well (tokens inner ++ (Coded 41 ∷ []))
-well o room k inner h test fits =
-    chained is_expression before_number opens_well tells_well row_within no_line inner o room (row_items k) fits (row_within k h) (Coded 41 ∷ [])
+well o most room k inner h test fits =
+    chained is_expression before_number opens_well tells_well row_within no_line inner o most room (row_items k) fits (row_within k h) (Coded 41 ∷ [])
     (let P : List Front → Type 0 = λ l. Follows opens_well l (Coded 41 ∷ []) in subst P (ap (λ (x : Known). x.ends) (sym (known k))) (before_fronts before_number opens_well tells_well (of k).ends (Spanned 41 41 ∷ []) (Coded 41 ∷ []) test refl))
     (tt, tt)
 
@@ -199,23 +199,23 @@ inside_by o (Lined x y ∷ xs) more s f h m full chain spelled = elim (or_cases 
   | inr e ↦ inside_closed o s (one_code 40 (class_at o s) false (class_says ((40, 40) ∷ []) o f false (Lined x y ∷ (xs ++ more)) s e m spelled))
 ]
 
-row_begun : (inner : Trees) (o : Origin) (room n : ℕ) → Fits o room (row_items n) inner → not (of n).empty ≡ true → (more : List Token) → some (λ (f : Front). fronts f (tokens inner ++ more)) (of n).heads ≡ true
-row_begun inner o room n fits full more = elim (led_known n (tokens inner) more (leads inner o room (row_items n) fits more)) [
+row_begun : (inner : Trees) (o : Origin) (most room n : ℕ) → Fits o most room (row_items n) inner → not (of n).empty ≡ true → (more : List Token) → some (λ (f : Front). fronts f (tokens inner ++ more)) (of n).heads ≡ true
+row_begun inner o most room n fits full more = elim (led_known n (tokens inner) more (leads inner o most room (row_items n) fits more)) [
   | inl g ↦ never (of n).empty g.1 (not_true _ full)
   | inr g ↦ g
 ]
 
-row_full : (inner : Trees) (o : Origin) (room n : ℕ) → Fits o room (row_items n) inner → not (of n).empty ≡ true → 0 < length (tokens inner)
-row_full inner o room n fits full = fills inner o room (row_items n) fits (ap (λ (k : Known). k.empty) (known n) ∙ not_true _ full)
+row_full : (inner : Trees) (o : Origin) (most room n : ℕ) → Fits o most room (row_items n) inner → not (of n).empty ≡ true → 0 < length (tokens inner)
+row_full inner o most room n fits full = fills inner o most room (row_items n) fits (ap (λ (k : Known). k.empty) (known n) ∙ not_true _ full)
 
 -- a sum is no scratched file
-inside_second : (o : Origin) (room : ℕ) (inner : Trees) (more : List Token) (s : Text) → Fits o room (row_items row.SUM) inner → Spells o (tokens inner ++ more) s → starts o start.AlphaInside s ≡ false
-inside_second o room inner more s fits spelled =
+inside_second : (o : Origin) (most room : ℕ) (inner : Trees) (more : List Token) (s : Text) → Fits o most room (row_items row.SUM) inner → Spells o (tokens inner ++ more) s → starts o start.AlphaInside s ≡ false
+inside_second o most room inner more s fits spelled =
     let rest = and_right (every not_open (of row.SUM).heads) _ sum_heads in
     let ends_ = and_right (every not_b (of row.SUM).heads) _ rest in
     let full = and_right (besides before_number (of row.SUM).ends (Spanned 41 41 ∷ [])) _ ends_ in
-    let one = some_front not_open (of row.SUM).heads (tokens inner ++ more) (and_left _ _ sum_heads) (row_begun inner o room row.SUM fits full more) in
-    inside_by o (tokens inner) more s one.0 one.1.0 one.1.1 (row_full inner o room row.SUM fits full) (well o room row.SUM inner refl (and_left _ _ ends_) fits) spelled
+    let one = some_front not_open (of row.SUM).heads (tokens inner ++ more) (and_left _ _ sum_heads) (row_begun inner o most room row.SUM fits full more) in
+    inside_by o (tokens inner) more s one.0 one.1.0 one.1.1 (row_full inner o most room row.SUM fits full) (well o most room row.SUM inner refl (and_left _ _ ends_) fits) spelled
 
 -- B E G
 letters_seen : (o : Origin) (t : Token) (ts : List Token) (s : Text) → has_class t ≡ true → Spells o (t ∷ ts) s → starts o (start.Letters 66 69 71) s ≡ is_beg t ts
@@ -257,12 +257,12 @@ letters_by o f [] s h m spelled = never (fronts f []) m (numeric_front f [] h re
 letters_by o f (Coded c ∷ ts) s h m spelled = never (fronts f (Coded c ∷ ts)) m (numeric_front f (Coded c ∷ ts) h refl)
 letters_by o f (Lined x y ∷ ts) s h m spelled = never (fronts f (Lined x y ∷ ts)) m (numeric_front f (Lined x y ∷ ts) h refl)
 
-letters_second : (o : Origin) (room : ℕ) (inner : Trees) (more : List Token) (s : Text) → Fits o room (row_items row.SUM) inner → Spells o (tokens inner ++ more) s → starts o (start.Letters 66 69 71) s ≡ false
-letters_second o room inner more s fits spelled =
+letters_second : (o : Origin) (most room : ℕ) (inner : Trees) (more : List Token) (s : Text) → Fits o most room (row_items row.SUM) inner → Spells o (tokens inner ++ more) s → starts o (start.Letters 66 69 71) s ≡ false
+letters_second o most room inner more s fits spelled =
     let rest = and_right (every not_open (of row.SUM).heads) _ sum_heads in
     let ends_ = and_right (every not_b (of row.SUM).heads) _ rest in
     let full = and_right (besides before_number (of row.SUM).ends (Spanned 41 41 ∷ [])) _ ends_ in
-    let one = some_front not_b (of row.SUM).heads (tokens inner ++ more) (and_left _ _ rest) (row_begun inner o room row.SUM fits full more) in
+    let one = some_front not_b (of row.SUM).heads (tokens inner ++ more) (and_left _ _ rest) (row_begun inner o most room row.SUM fits full more) in
     elim (or_cases (sure ((66, 66) ∷ []) one.0 false) (is_numeric_name one.0) one.1.0) [
       | inl e ↦ letters_none o s (one_code 66 (class_at o s) false (class_says ((66, 66) ∷ []) o one.0 false (tokens inner ++ more) s e one.1.1 spelled))
       | inr e ↦ letters_by o one.0 (tokens inner ++ more) s e one.1.1 spelled
@@ -385,29 +385,29 @@ array_by o None xs more s h m full chain refused spelled = array_none o s (class
 array_by o (Spanned a b) xs more s h m full chain refused spelled = array_none o s (class_says name_spans o (Spanned a b) false (xs ++ more) s h m spelled)
 array_by o Numbered xs more s h m full chain refused spelled = array_none o s (class_says name_spans o Numbered false (xs ++ more) s h m spelled)
 
-array_second : (o : Origin) (room k : ℕ) (inner : Trees) (more : List Token) (s : Text) → is_expression k ≡ true → ends_open k ≡ true → not (of k).empty ≡ true → Fits o room (row_items k) inner
+array_second : (o : Origin) (most room k : ℕ) (inner : Trees) (more : List Token) (s : Text) → is_expression k ≡ true → ends_open k ≡ true → not (of k).empty ≡ true → Fits o most room (row_items k) inner
     → Refused o (of k).tails more → Spells o (tokens inner ++ more) s → starts o start.Array s ≡ false
-array_second o room k inner more s within ends_ full fits refused spelled =
+array_second o most room k inner more s within ends_ full fits refused spelled =
     let rest = and_right (some_tail asks_open (of k).tails) _ ends_ in
-    let one = some_front named_or_not (of k).heads (tokens inner ++ more) (and_right (besides before_number (of k).ends (Spanned 41 41 ∷ [])) _ rest) (row_begun inner o room k fits full more) in
-    array_by o one.0 (tokens inner) more s one.1.0 one.1.1 (row_full inner o room k fits full) (well o room k inner within (and_left _ _ rest) fits)
+    let one = some_front named_or_not (of k).heads (tokens inner ++ more) (and_right (besides before_number (of k).ends (Spanned 41 41 ∷ [])) _ rest) (row_begun inner o most room k fits full more) in
+    array_by o one.0 (tokens inner) more s one.1.0 one.1.1 (row_full inner o most room k fits full) (well o most room k inner within (and_left _ _ rest) fits)
     (refused_open o (of k).tails more (and_left _ _ ends_) refused) spelled
 
 -- the first token of a tree
-abbrev Step : Origin → ℕ → Item → List Item → Trees → Type 0
-Step o room i is a = (t : Token) × ((ts : Trees) × ((fits_token o i t ≡ true) × (Fits o room is ts × (a ≡ Put t ts))))
+abbrev Step : Origin → ℕ → ℕ → Item → List Item → Trees → Type 0
+Step o most room i is a = (t : Token) × ((ts : Trees) × ((fits_token o i t ≡ true) × (Fits o most room is ts × (a ≡ Put t ts))))
 
-sign_step : (o : Origin) (room c code : ℕ) (is : List Item) (a : Trees) → Fits o room (Sign c code ∷ is) a → Step o room (Sign c code) is a
-sign_step o room c code is Done h = cc
-sign_step o room c code is (Put t ts) h = (t, (ts, (h.0, (h.1, refl))))
-sign_step o room c code is (In m inner ts) h = absurd h
+sign_step : (o : Origin) (most room c code : ℕ) (is : List Item) (a : Trees) → Fits o most room (Sign c code ∷ is) a → Step o most room (Sign c code) is a
+sign_step o most room c code is Done h = cc
+sign_step o most room c code is (Put t ts) h = (t, (ts, (h.0, (h.1, refl))))
+sign_step o most room c code is (In m inner ts) h = absurd h
 
-named_step : (o : Origin) (room : ℕ) (k : Leaf) (code : ℕ) (is : List Item) (a : Trees) → is_named k ≡ true → Fits o room (Typed k code ∷ is) a → Step o room (Typed k code) is a
-named_step o room leaf.Name code is Done n h = cc
-named_step o room leaf.AlphaName code is Done n h = cc
-named_step o room k code is Done n h = cc
-named_step o room k code is (Put t ts) n h = (t, (ts, (h.0, (h.1, refl))))
-named_step o room k code is (In m inner ts) n h = absurd h
+named_step : (o : Origin) (most room : ℕ) (k : Leaf) (code : ℕ) (is : List Item) (a : Trees) → is_named k ≡ true → Fits o most room (Typed k code ∷ is) a → Step o most room (Typed k code) is a
+named_step o most room leaf.Name code is Done n h = cc
+named_step o most room leaf.AlphaName code is Done n h = cc
+named_step o most room k code is Done n h = cc
+named_step o most room k code is (Put t ts) n h = (t, (ts, (h.0, (h.1, refl))))
+named_step o most room k code is (In m inner ts) n h = absurd h
 
 array_tokens : (o : Origin) (k j : Leaf) (w : Text) (d e : ℕ) (ts : List Token) (s : Text) → is_named k ≡ true → j ≡ k → is_whole j w ≡ true → nat_lt 0 (length w) ≡ true → (d == 40) ≡ true → (e == 41) ≡ true
     → Spells o (Plain j w ∷ Coded d ∷ Coded e ∷ ts) s → starts o start.Array s ≡ true
@@ -442,12 +442,12 @@ array_put o k c1 c2 c3 (Plain j w) (Lined x y) v ts s named h i l spelled = cc
 array_put o k c1 c2 c3 (Plain j w) (Coded d) (Plain x y) ts s named h i l spelled = cc
 array_put o k c1 c2 c3 (Plain j w) (Coded d) (Lined x y) ts s named h i l spelled = cc
 
-array_row : (o : Origin) (room : ℕ) (k : Leaf) (c1 c2 c3 : ℕ) (a : Trees) (more : List Token) (s : Text) → is_named k ≡ true → Fits o room (Typed k c1 ∷ Sign 40 c2 ∷ Sign 41 c3 ∷ []) a
+array_row : (o : Origin) (most room : ℕ) (k : Leaf) (c1 c2 c3 : ℕ) (a : Trees) (more : List Token) (s : Text) → is_named k ≡ true → Fits o most room (Typed k c1 ∷ Sign 40 c2 ∷ Sign 41 c3 ∷ []) a
     → Spells o (tokens a ++ more) s → starts o start.Array s ≡ true
-array_row o room k c1 c2 c3 a more s named fits spelled =
-    let one = named_step o room k c1 (Sign 40 c2 ∷ Sign 41 c3 ∷ []) a named fits in
-    let two_ = sign_step o room 40 c2 (Sign 41 c3 ∷ []) one.1.0 one.1.1.1.0 in
-    let three = sign_step o room 41 c3 [] two_.1.0 two_.1.1.1.0 in
+array_row o most room k c1 c2 c3 a more s named fits spelled =
+    let one = named_step o most room k c1 (Sign 40 c2 ∷ Sign 41 c3 ∷ []) a named fits in
+    let two_ = sign_step o most room 40 c2 (Sign 41 c3 ∷ []) one.1.0 one.1.1.1.0 in
+    let three = sign_step o most room 41 c3 [] two_.1.0 two_.1.1.1.0 in
     let same : tokens a ≡ one.0 ∷ two_.0 ∷ three.0 ∷ tokens three.1.0 =
     ap tokens one.1.1.1.1 ∙ ap (λ (b : Trees). one.0 ∷ tokens b) two_.1.1.1.1 ∙ ap (λ (b : Trees). one.0 ∷ two_.0 ∷ tokens b) three.1.1.1.1 in
     let P : List Token → Type 0 = λ l. Spells o (l ++ more) s in
@@ -456,52 +456,52 @@ array_row o room k c1 c2 c3 a more s named fits spelled =
 apart_tokens : (o : Origin) (xs ys more : List Token) (s : Text) → Spells o ((xs ++ ys) ++ more) s → Spells o (xs ++ (ys ++ more)) s
 apart_tokens o xs ys more s h = let P : List Token → Type 0 = λ l. Spells o l s in subst P (append_assoc xs ys more) h
 
-array_first : (o : Origin) (room : ℕ) (inner : Trees) (more : List Token) (s : Text) → Fits o room (row_items row.WHOLE_ARRAY) inner → Spells o (tokens inner ++ more) s → starts o start.Array s ≡ true
+array_first : (o : Origin) (most room : ℕ) (inner : Trees) (more : List Token) (s : Text) → Fits o most room (row_items row.WHOLE_ARRAY) inner → Spells o (tokens inner ++ more) s → starts o start.Array s ≡ true
 unfolding row_items
-array_first o room Done more s h spelled = cc
-array_first o room (Put (Coded c) ts) more s h spelled = never false h.0 refl
-array_first o room (Put (Plain j w) ts) more s h spelled = never false h.0 refl
-array_first o room (Put (Lined x y) ts) more s h spelled = never false h.0 refl
-array_first o room (In zero a ts) more s h spelled = array_row o room leaf.Name 20 10 11 a (tokens ts ++ more) s refl h.0 (apart_tokens o (tokens a) (tokens ts) more s spelled)
-array_first o room (In (suc zero) a ts) more s h spelled = array_row o room leaf.AlphaName 20 10 11 a (tokens ts ++ more) s refl h.0 (apart_tokens o (tokens a) (tokens ts) more s spelled)
-array_first o room (In (suc (suc m)) a ts) more s h spelled = absurd h
+array_first o most room Done more s h spelled = cc
+array_first o most room (Put (Coded c) ts) more s h spelled = never false h.0 refl
+array_first o most room (Put (Plain j w) ts) more s h spelled = never false h.0 refl
+array_first o most room (Put (Lined x y) ts) more s h spelled = never false h.0 refl
+array_first o most room (In zero a ts) more s h spelled = array_row o most room leaf.Name 20 10 11 a (tokens ts ++ more) s refl h.0 (apart_tokens o (tokens a) (tokens ts) more s spelled)
+array_first o most room (In (suc zero) a ts) more s h spelled = array_row o most room leaf.AlphaName 20 10 11 a (tokens ts ++ more) s refl h.0 (apart_tokens o (tokens a) (tokens ts) more s spelled)
+array_first o most room (In (suc (suc m)) a ts) more s h spelled = absurd h
 
-alpha_array_first : (o : Origin) (room : ℕ) (inner : Trees) (more : List Token) (s : Text) → Fits o room (row_items row.ALPHA_ARRAY) inner → Spells o (tokens inner ++ more) s → starts o start.Array s ≡ true
+alpha_array_first : (o : Origin) (most room : ℕ) (inner : Trees) (more : List Token) (s : Text) → Fits o most room (row_items row.ALPHA_ARRAY) inner → Spells o (tokens inner ++ more) s → starts o start.Array s ≡ true
 unfolding row_items
-alpha_array_first o room inner more s fits spelled = array_row o room leaf.AlphaName 20 10 11 inner more s refl fits spelled
+alpha_array_first o most room inner more s fits spelled = array_row o most room leaf.AlphaName 20 10 11 inner more s refl fits spelled
 
 -- a scratched file
-alpha_row : (o : Origin) (room : ℕ) (b : Trees) (more : List Token) (s : Text) → Fits o room (row_items row.ALPHA) b → Spells o (tokens b ++ more) s → alpha_begins o (skipped o s) ≡ true
-alpha_row o room b more s fits spelled =
+alpha_row : (o : Origin) (most room : ℕ) (b : Trees) (more : List Token) (s : Text) → Fits o most room (row_items row.ALPHA) b → Spells o (tokens b ++ more) s → alpha_begins o (skipped o s) ≡ true
+alpha_row o most room b more s fits spelled =
     let one = some_front (λ (f : Front). alpha f true) (of row.ALPHA).heads (tokens b ++ more) (and_left _ _ alpha_heads)
-    (row_begun b o room row.ALPHA fits (and_right (every (λ (f : Front). alpha f true) (of row.ALPHA).heads) _ alpha_heads) more) in
+    (row_begun b o most room row.ALPHA fits (and_right (every (λ (f : Front). alpha f true) (of row.ALPHA).heads) _ alpha_heads) more) in
     says_alpha o one.0 true (tokens b ++ more) s one.1.0 one.1.1 spelled
 
-nest_alpha : (o : Origin) (room : ℕ) (is : List Item) (a : Trees) (more : List Token) (s : Text) → Fits o room (Nest row.ALPHA ∷ is) a → Spells o (tokens a ++ more) s → alpha_begins o (skipped o s) ≡ true
-nest_alpha o room is Done more s h spelled = cc
-nest_alpha o room is (Put (Coded c) ts) more s h spelled = never false h.0 refl
-nest_alpha o room is (Put (Plain j w) ts) more s h spelled = never false h.0 refl
-nest_alpha o room is (Put (Lined x y) ts) more s h spelled = never false h.0 refl
-nest_alpha o zero is (In m b ts) more s h spelled = absurd h
-nest_alpha o (suc room) is (In m b ts) more s h spelled = alpha_row o room b (tokens ts ++ more) s h.1.0 (apart_tokens o (tokens b) (tokens ts) more s spelled)
+nest_alpha : (o : Origin) (most room : ℕ) (is : List Item) (a : Trees) (more : List Token) (s : Text) → Fits o most room (Nest row.ALPHA ∷ is) a → Spells o (tokens a ++ more) s → alpha_begins o (skipped o s) ≡ true
+nest_alpha o most room is Done more s h spelled = cc
+nest_alpha o most room is (Put (Coded c) ts) more s h spelled = never false h.0 refl
+nest_alpha o most room is (Put (Plain j w) ts) more s h spelled = never false h.0 refl
+nest_alpha o most room is (Put (Lined x y) ts) more s h spelled = never false h.0 refl
+nest_alpha o most zero is (In m b ts) more s h spelled = absurd h
+nest_alpha o most (suc room) is (In m b ts) more s h spelled = alpha_row o most room b (tokens ts ++ more) s h.1.0 (apart_tokens o (tokens b) (tokens ts) more s spelled)
 
-inside_put : (o : Origin) (room code : ℕ) (is : List Item) (t : Token) (ts : Trees) (more : List Token) (s : Text) → fits_token o (Sign 40 code) t ≡ true → Fits o room (Nest row.ALPHA ∷ is) ts
+inside_put : (o : Origin) (most room code : ℕ) (is : List Item) (t : Token) (ts : Trees) (more : List Token) (s : Text) → fits_token o (Sign 40 code) t ≡ true → Fits o most room (Nest row.ALPHA ∷ is) ts
     → Spells o (t ∷ (tokens ts ++ more)) s → starts o start.AlphaInside s ≡ true
-inside_put o room code is (Coded c) ts more s h fits spelled =
-    inside_seen o c (tokens ts ++ more) s spelled ∙ both (c == 40) _ h (nest_alpha o room is ts more spelled.0 fits spelled.1.1)
-inside_put o room code is (Plain j w) ts more s h fits spelled = cc
-inside_put o room code is (Lined x y) ts more s h fits spelled = cc
+inside_put o most room code is (Coded c) ts more s h fits spelled =
+    inside_seen o c (tokens ts ++ more) s spelled ∙ both (c == 40) _ h (nest_alpha o most room is ts more spelled.0 fits spelled.1.1)
+inside_put o most room code is (Plain j w) ts more s h fits spelled = cc
+inside_put o most room code is (Lined x y) ts more s h fits spelled = cc
 
-inside_row : (o : Origin) (room code : ℕ) (is : List Item) (a : Trees) (more : List Token) (s : Text) → Fits o room (Sign 40 code ∷ Nest row.ALPHA ∷ is) a → Spells o (tokens a ++ more) s
+inside_row : (o : Origin) (most room code : ℕ) (is : List Item) (a : Trees) (more : List Token) (s : Text) → Fits o most room (Sign 40 code ∷ Nest row.ALPHA ∷ is) a → Spells o (tokens a ++ more) s
     → starts o start.AlphaInside s ≡ true
-inside_row o room code is a more s fits spelled =
-    let one = sign_step o room 40 code (Nest row.ALPHA ∷ is) a fits in
+inside_row o most room code is a more s fits spelled =
+    let one = sign_step o most room 40 code (Nest row.ALPHA ∷ is) a fits in
     let P : List Token → Type 0 = λ l. Spells o (l ++ more) s in
-    inside_put o room code is one.0 one.1.0 more s one.1.1.0 one.1.1.1.0 (subst P (ap tokens one.1.1.1.1) spelled)
+    inside_put o most room code is one.0 one.1.0 more s one.1.1.0 one.1.1.1.0 (subst P (ap tokens one.1.1.1.1) spelled)
 
-inside_first_row : (o : Origin) (room : ℕ) (inner : Trees) (more : List Token) (s : Text) → Fits o room (row_items row.SCRATCHED_FILE) inner → Spells o (tokens inner ++ more) s → starts o start.AlphaInside s ≡ true
+inside_first_row : (o : Origin) (most room : ℕ) (inner : Trees) (more : List Token) (s : Text) → Fits o most room (row_items row.SCRATCHED_FILE) inner → Spells o (tokens inner ++ more) s → starts o start.AlphaInside s ≡ true
 unfolding row_items
-inside_first_row o room inner more s fits spelled = inside_row o room 10 (Sign 41 11 ∷ []) inner more s fits spelled
+inside_first_row o most room inner more s fits spelled = inside_row o most room 10 (Sign 41 11 ∷ []) inner more s fits spelled
 
 -- B E G
 three_codes : (o : Origin) (c d e : ℕ) (ts : List Token) (s : Text) → (c == 66) ≡ true → (d == 69) ≡ true → (e == 71) ≡ true → Spells o (Coded c ∷ Coded d ∷ Coded e ∷ ts) s
@@ -518,69 +518,69 @@ beg_put o c1 c2 c3 (Coded c) (Lined x y) v ts s h i l spelled = cc
 beg_put o c1 c2 c3 (Coded c) (Coded d) (Plain x y) ts s h i l spelled = cc
 beg_put o c1 c2 c3 (Coded c) (Coded d) (Lined x y) ts s h i l spelled = cc
 
-beg_row : (o : Origin) (room c1 c2 c3 : ℕ) (a : Trees) (more : List Token) (s : Text) → Fits o room (Sign 66 c1 ∷ Sign 69 c2 ∷ Sign 71 c3 ∷ []) a
+beg_row : (o : Origin) (most room c1 c2 c3 : ℕ) (a : Trees) (more : List Token) (s : Text) → Fits o most room (Sign 66 c1 ∷ Sign 69 c2 ∷ Sign 71 c3 ∷ []) a
     → Spells o (tokens a ++ more) s → starts o (start.Letters 66 69 71) s ≡ true
-beg_row o room c1 c2 c3 a more s fits spelled =
-    let one = sign_step o room 66 c1 (Sign 69 c2 ∷ Sign 71 c3 ∷ []) a fits in
-    let two_ = sign_step o room 69 c2 (Sign 71 c3 ∷ []) one.1.0 one.1.1.1.0 in
-    let three = sign_step o room 71 c3 [] two_.1.0 two_.1.1.1.0 in
+beg_row o most room c1 c2 c3 a more s fits spelled =
+    let one = sign_step o most room 66 c1 (Sign 69 c2 ∷ Sign 71 c3 ∷ []) a fits in
+    let two_ = sign_step o most room 69 c2 (Sign 71 c3 ∷ []) one.1.0 one.1.1.1.0 in
+    let three = sign_step o most room 71 c3 [] two_.1.0 two_.1.1.1.0 in
     let same : tokens a ≡ one.0 ∷ two_.0 ∷ three.0 ∷ tokens three.1.0 =
     ap tokens one.1.1.1.1 ∙ ap (λ (b : Trees). one.0 ∷ tokens b) two_.1.1.1.1 ∙ ap (λ (b : Trees). one.0 ∷ two_.0 ∷ tokens b) three.1.1.1.1 in
     let P : List Token → Type 0 = λ l. Spells o (l ++ more) s in
     beg_put o c1 c2 c3 one.0 two_.0 three.0 (tokens three.1.0 ++ more) s one.1.1.0 two_.1.1.0 three.1.1.0 (subst P same spelled)
 
-beg_first : (o : Origin) (room : ℕ) (inner : Trees) (more : List Token) (s : Text) → Fits o room (row_items row.BEG) inner → Spells o (tokens inner ++ more) s → starts o (start.Letters 66 69 71) s ≡ true
+beg_first : (o : Origin) (most room : ℕ) (inner : Trees) (more : List Token) (s : Text) → Fits o most room (row_items row.BEG) inner → Spells o (tokens inner ++ more) s → starts o (start.Letters 66 69 71) s ≡ true
 unfolding row_items
-beg_first o room inner more s fits spelled = beg_row o room 22 22 22 inner more s fits spelled
+beg_first o most room inner more s fits spelled = beg_row o most room 22 22 22 inner more s fits spelled
 
 -- all of them
-fits_same : (o : Origin) (room n m : ℕ) (inner : Trees) → (n == m) ≡ true → Fits o room (row_items n) inner → Fits o room (row_items m) inner
-fits_same o room n m inner h fits = let P : ℕ → Type 0 = λ k. Fits o room (row_items k) inner in subst P (equal n m h) fits
+fits_same : (o : Origin) (most room n m : ℕ) (inner : Trees) → (n == m) ≡ true → Fits o most room (row_items n) inner → Fits o most room (row_items m) inner
+fits_same o most room n m inner h fits = let P : ℕ → Type 0 = λ k. Fits o most room (row_items k) inner in subst P (equal n m h) fits
 
 letters_same : (o : Origin) (a b c : ℕ) (s : Text) (x : Bool) → (a == 66) ≡ true → (b == 69) ≡ true → (c == 71) ≡ true → starts o (start.Letters 66 69 71) s ≡ x → starts o (start.Letters a b c) s ≡ x
 letters_same o a b c s x h i l is = (λ j. starts o (start.Letters (equal a 66 h j) (equal b 69 i j) (equal c 71 l j)) s) ∙ is
 
-pub far_first : (o : Origin) (st : Start) (n k room : ℕ) (inner : Trees) (more : List Token) (s : Text) → is_far st n k ≡ true → Fits o room (row_items n) inner
+pub far_first : (o : Origin) (st : Start) (n k most room : ℕ) (inner : Trees) (more : List Token) (s : Text) → is_far st n k ≡ true → Fits o most room (row_items n) inner
     → Spells o (tokens inner ++ more) s → starts o st s ≡ true
-far_first o start.Array n k room inner more s h fits spelled =
+far_first o start.Array n k most room inner more s h fits spelled =
     elim (or_cases (n == row.WHOLE_ARRAY && (k == row.OPERAND_OF_ANY_KIND || k == row.RECEIVER)) (n == row.ALPHA_ARRAY && k == row.ALPHA_RECEIVER_VARIABLE) h) [
-      | inl e ↦ array_first o room inner more s (fits_same o room n row.WHOLE_ARRAY inner (and_left _ _ e) fits) spelled
-      | inr e ↦ alpha_array_first o room inner more s (fits_same o room n row.ALPHA_ARRAY inner (and_left _ _ e) fits) spelled
+      | inl e ↦ array_first o most room inner more s (fits_same o most room n row.WHOLE_ARRAY inner (and_left _ _ e) fits) spelled
+      | inr e ↦ alpha_array_first o most room inner more s (fits_same o most room n row.ALPHA_ARRAY inner (and_left _ _ e) fits) spelled
     ]
-far_first o start.AlphaInside n k room inner more s h fits spelled = inside_first_row o room inner more s (fits_same o room n row.SCRATCHED_FILE inner (and_left _ _ h) fits) spelled
-far_first o (start.Letters a b c) n k room inner more s h fits spelled =
+far_first o start.AlphaInside n k most room inner more s h fits spelled = inside_first_row o most room inner more s (fits_same o most room n row.SCRATCHED_FILE inner (and_left _ _ h) fits) spelled
+far_first o (start.Letters a b c) n k most room inner more s h fits spelled =
     let rest = and_right (a == 66) _ h in
     let letters = and_left (b == 69 && c == 71) _ rest in
     letters_same o a b c s true (and_left _ _ h) (and_left _ _ letters) (and_right (b == 69) _ letters)
-    (beg_first o room inner more s (fits_same o room n row.BEG inner (and_left _ _ (and_right (b == 69 && c == 71) _ rest)) fits) spelled)
-far_first o st n k room inner more s h fits spelled = cc
+    (beg_first o most room inner more s (fits_same o most room n row.BEG inner (and_left _ _ (and_right (b == 69 && c == 71) _ rest)) fits) spelled)
+far_first o st n k most room inner more s h fits spelled = cc
 
-array_other : (o : Origin) (k room : ℕ) (inner : Trees) (more : List Token) (s : Text) → (k == row.OPERAND_OF_ANY_KIND || k == row.RECEIVER) ≡ true → Fits o room (row_items k) inner
+array_other : (o : Origin) (k most room : ℕ) (inner : Trees) (more : List Token) (s : Text) → (k == row.OPERAND_OF_ANY_KIND || k == row.RECEIVER) ≡ true → Fits o most room (row_items k) inner
     → Refused o (of k).tails more → Spells o (tokens inner ++ more) s → starts o start.Array s ≡ false
-array_other o k room inner more s h fits refused spelled = elim (or_cases (k == row.OPERAND_OF_ANY_KIND) (k == row.RECEIVER) h) [
+array_other o k most room inner more s h fits refused spelled = elim (or_cases (k == row.OPERAND_OF_ANY_KIND) (k == row.RECEIVER) h) [
   | inl e ↦ (let P : ℕ → Type 0 = λ n. Refused o (of n).tails more in
-      array_second o room row.OPERAND_OF_ANY_KIND inner more s refl operand_ends (and_left _ _ operand_full) (fits_same o room k row.OPERAND_OF_ANY_KIND inner e fits) (subst P (equal k row.OPERAND_OF_ANY_KIND e) refused) spelled)
+      array_second o most room row.OPERAND_OF_ANY_KIND inner more s refl operand_ends (and_left _ _ operand_full) (fits_same o most room k row.OPERAND_OF_ANY_KIND inner e fits) (subst P (equal k row.OPERAND_OF_ANY_KIND e) refused) spelled)
   | inr e ↦ (let P : ℕ → Type 0 = λ n. Refused o (of n).tails more in
-      array_second o room row.RECEIVER inner more s refl receiver_ends (and_right (not (of row.OPERAND_OF_ANY_KIND).empty) _ operand_full) (fits_same o room k row.RECEIVER inner e fits) (subst P (equal k row.RECEIVER e) refused) spelled)
+      array_second o most room row.RECEIVER inner more s refl receiver_ends (and_right (not (of row.OPERAND_OF_ANY_KIND).empty) _ operand_full) (fits_same o most room k row.RECEIVER inner e fits) (subst P (equal k row.RECEIVER e) refused) spelled)
 ]
 
-no_element : (o : Origin) (k room : ℕ) (inner : Trees) (more : List Token) (s : Text) → (k == row.ALPHA_RECEIVER_VARIABLE) ≡ true → Fits o room (row_items k) inner
+no_element : (o : Origin) (k most room : ℕ) (inner : Trees) (more : List Token) (s : Text) → (k == row.ALPHA_RECEIVER_VARIABLE) ≡ true → Fits o most room (row_items k) inner
     → Refused o (of k).tails more → Spells o (tokens inner ++ more) s → starts o start.Array s ≡ false
-no_element o k room inner more s h fits refused spelled =
+no_element o k most room inner more s h fits refused spelled =
     let P : ℕ → Type 0 = λ n. Refused o (of n).tails more in
-    array_second o room row.ALPHA_RECEIVER_VARIABLE inner more s refl element_ends element_full (fits_same o room k row.ALPHA_RECEIVER_VARIABLE inner h fits) (subst P (equal k row.ALPHA_RECEIVER_VARIABLE h) refused) spelled
+    array_second o most room row.ALPHA_RECEIVER_VARIABLE inner more s refl element_ends element_full (fits_same o most room k row.ALPHA_RECEIVER_VARIABLE inner h fits) (subst P (equal k row.ALPHA_RECEIVER_VARIABLE h) refused) spelled
 
-pub far_second : (o : Origin) (st : Start) (n k room : ℕ) (inner : Trees) (more : List Token) (s : Text) → is_far st n k ≡ true → Fits o room (row_items k) inner
+pub far_second : (o : Origin) (st : Start) (n k most room : ℕ) (inner : Trees) (more : List Token) (s : Text) → is_far st n k ≡ true → Fits o most room (row_items k) inner
     → Refused o (of k).tails more → Spells o (tokens inner ++ more) s → starts o st s ≡ false
-far_second o start.Array n k room inner more s h fits refused spelled =
+far_second o start.Array n k most room inner more s h fits refused spelled =
     elim (or_cases (n == row.WHOLE_ARRAY && (k == row.OPERAND_OF_ANY_KIND || k == row.RECEIVER)) (n == row.ALPHA_ARRAY && k == row.ALPHA_RECEIVER_VARIABLE) h) [
-      | inl e ↦ array_other o k room inner more s (and_right (n == row.WHOLE_ARRAY) _ e) fits refused spelled
-      | inr e ↦ no_element o k room inner more s (and_right (n == row.ALPHA_ARRAY) _ e) fits refused spelled
+      | inl e ↦ array_other o k most room inner more s (and_right (n == row.WHOLE_ARRAY) _ e) fits refused spelled
+      | inr e ↦ no_element o k most room inner more s (and_right (n == row.ALPHA_ARRAY) _ e) fits refused spelled
     ]
-far_second o start.AlphaInside n k room inner more s h fits refused spelled = inside_second o room inner more s (fits_same o room k row.SUM inner (and_right (n == row.SCRATCHED_FILE) _ h) fits) spelled
-far_second o (start.Letters a b c) n k room inner more s h fits refused spelled =
+far_second o start.AlphaInside n k most room inner more s h fits refused spelled = inside_second o most room inner more s (fits_same o most room k row.SUM inner (and_right (n == row.SCRATCHED_FILE) _ h) fits) spelled
+far_second o (start.Letters a b c) n k most room inner more s h fits refused spelled =
     let rest = and_right (a == 66) _ h in
     let letters = and_left (b == 69 && c == 71) _ rest in
     letters_same o a b c s false (and_left _ _ h) (and_left _ _ letters) (and_right (b == 69) _ letters)
-    (letters_second o room inner more s (fits_same o room k row.SUM inner (and_right (n == row.BEG) _ (and_right (b == 69 && c == 71) _ rest)) fits) spelled)
-far_second o st n k room inner more s h fits refused spelled = cc
+    (letters_second o most room inner more s (fits_same o most room k row.SUM inner (and_right (n == row.BEG) _ (and_right (b == 69 && c == 71) _ rest)) fits) spelled)
+far_second o st n k most room inner more s h fits refused spelled = cc

@@ -265,77 +265,77 @@ led_statement o p m xs more h (inl k) = never (of m).empty k.1 (not_true _ (and_
 led_statement o p m xs more h (inr k) =
     inr (covered_all statement_heads (of m).heads (xs ++ more) (and_left _ _ (and_right (not (of m).empty) _ (statement_good o p m h))) k)
 
-no_tokens : (o : Origin) (room : ℕ) (t : Trees) → Fits o room [] t → tokens t ≡ []
-no_tokens o room Done h = refl
-no_tokens o room (Put t ts) h = absurd h
-no_tokens o room (In m inner ts) h = absurd h
+no_tokens : (o : Origin) (most room : ℕ) (t : Trees) → Fits o most room [] t → tokens t ≡ []
+no_tokens o most room Done h = refl
+no_tokens o most room (Put t ts) h = absurd h
+no_tokens o most room (In m inner ts) h = absurd h
 
 -- a branch of an item, and what follows it
 abbrev Leads : Trees → Type 0
-Leads t = (o : Origin) (room : ℕ) (is : List Item) → Fits o room is t → (more : List Token) → Led (of_items of is) (tokens t) more
+Leads t = (o : Origin) (most room : ℕ) (is : List Item) → Fits o most room is t → (more : List Token) → Led (of_items of is) (tokens t) more
 
-led_row : (inner : Trees) → Leads inner → (o : Origin) (room n : ℕ) → Fits o room (row_items n) inner → (more : List Token) → Led (of n) (tokens inner) more
-led_row inner leads_inner o room n h more = led_known n (tokens inner) more (leads_inner o room (row_items n) h more)
+led_row : (inner : Trees) → Leads inner → (o : Origin) (most room n : ℕ) → Fits o most room (row_items n) inner → (more : List Token) → Led (of n) (tokens inner) more
+led_row inner leads_inner o most room n h more = led_known n (tokens inner) more (leads_inner o most room (row_items n) h more)
 
-branch_leads : (inner ts : Trees) → Leads inner → Leads ts → (o : Origin) (room m : ℕ) (i : Item) (is : List Item)
-    → FitsBranch o room i is m (λ (deep : ℕ) (items : List Item). Fits o deep items inner) (λ (rest : List Item). Fits o room rest ts)
+branch_leads : (inner ts : Trees) → Leads inner → Leads ts → (o : Origin) (most room m : ℕ) (i : Item) (is : List Item)
+    → FitsBranch o most room i is m (λ (deep : ℕ) (items : List Item). Fits o most deep items inner) (λ (rest : List Item). Fits o most room rest ts)
     → (more : List Token) → Led (of_items of (i ∷ is)) (tokens inner ++ tokens ts) more
-branch_leads inner ts li lt o room m (Part n) is h more =
-    led_seq (of_item of (Part n)) (of_items of is) (tokens inner) (tokens ts) more (led_row inner li o room n h.1.0 (tokens ts ++ more)) (lt o room is h.1.1 more)
-branch_leads inner ts li lt o room zero (Maybe s n) is h more =
-    led_seq (of_item of (Maybe s n)) (of_items of is) (tokens inner) (tokens ts) more (inl (no_tokens o room inner h.0, refl)) (lt o room is h.1 more)
-branch_leads inner ts li lt o room (suc zero) (Maybe s n) is h more =
+branch_leads inner ts li lt o most room m (Part n) is h more =
+    led_seq (of_item of (Part n)) (of_items of is) (tokens inner) (tokens ts) more (led_row inner li o most room n h.1.0 (tokens ts ++ more)) (lt o most room is h.1.1 more)
+branch_leads inner ts li lt o most room zero (Maybe s n) is h more =
+    led_seq (of_item of (Maybe s n)) (of_items of is) (tokens inner) (tokens ts) more (inl (no_tokens o most room inner h.0, refl)) (lt o most room is h.1 more)
+branch_leads inner ts li lt o most room (suc zero) (Maybe s n) is h more =
     led_seq (of_item of (Maybe s n)) (of_items of is) (tokens inner) (tokens ts) more
-    (led_maybe s n (tokens inner) (tokens ts ++ more) (led_row inner li o room n h.0 (tokens ts ++ more))) (lt o room is h.1 more)
-branch_leads inner ts li lt o room (suc (suc m)) (Maybe s n) is h more = absurd h
-branch_leads inner ts li lt o room zero (Either s n k) is h more =
+    (led_maybe s n (tokens inner) (tokens ts ++ more) (led_row inner li o most room n h.0 (tokens ts ++ more))) (lt o most room is h.1 more)
+branch_leads inner ts li lt o most room (suc (suc m)) (Maybe s n) is h more = absurd h
+branch_leads inner ts li lt o most room zero (Either s n k) is h more =
     led_seq (of_item of (Either s n k)) (of_items of is) (tokens inner) (tokens ts) more
-    (led_second s n k (tokens inner) (tokens ts ++ more) (led_row inner li o room k h.0 (tokens ts ++ more))) (lt o room is h.1 more)
-branch_leads inner ts li lt o room (suc zero) (Either s n k) is h more =
+    (led_second s n k (tokens inner) (tokens ts ++ more) (led_row inner li o most room k h.0 (tokens ts ++ more))) (lt o most room is h.1 more)
+branch_leads inner ts li lt o most room (suc zero) (Either s n k) is h more =
     led_seq (of_item of (Either s n k)) (of_items of is) (tokens inner) (tokens ts) more
-    (led_first s n k (tokens inner) (tokens ts ++ more) (led_row inner li o room n h.0 (tokens ts ++ more))) (lt o room is h.1 more)
-branch_leads inner ts li lt o room (suc (suc m)) (Either s n k) is h more = absurd h
-branch_leads inner ts li lt o room zero (Many s n) is h more =
-    led_seq (of_item of (Many s n)) (of_items of is) (tokens inner) (tokens ts) more (inl (no_tokens o room inner h.0, refl)) (lt o room is h.1 more)
-branch_leads inner ts li lt o room (suc zero) (Many s n) is h more = elim (led_row inner li o room n h.0 (tokens ts ++ more)) [
-  | inl g ↦ (let P : List Token → Type 0 = λ l. Led (of_items of (Many s n ∷ is)) (l ++ tokens ts) more in subst P (sym g.0) (lt o room (Many s n ∷ is) h.1 more))
+    (led_first s n k (tokens inner) (tokens ts ++ more) (led_row inner li o most room n h.0 (tokens ts ++ more))) (lt o most room is h.1 more)
+branch_leads inner ts li lt o most room (suc (suc m)) (Either s n k) is h more = absurd h
+branch_leads inner ts li lt o most room zero (Many s n) is h more =
+    led_seq (of_item of (Many s n)) (of_items of is) (tokens inner) (tokens ts) more (inl (no_tokens o most room inner h.0, refl)) (lt o most room is h.1 more)
+branch_leads inner ts li lt o most room (suc zero) (Many s n) is h more = elim (led_row inner li o most room n h.0 (tokens ts ++ more)) [
+  | inl g ↦ (let P : List Token → Type 0 = λ l. Led (of_items of (Many s n ∷ is)) (l ++ tokens ts) more in subst P (sym g.0) (lt o most room (Many s n ∷ is) h.1 more))
   | inr g ↦ inr (some_left _ (of n).heads _ (ap (λ (l : List Token). some (λ (f : Front). fronts f l) (of n).heads) (append_assoc (tokens inner) (tokens ts) more) ∙ g))
 ]
-branch_leads inner ts li lt o room (suc (suc m)) (Many s n) is h more = absurd h
-branch_leads inner ts li lt o room m (Nest n) is h more = inr refl
-branch_leads inner ts li lt o room m (Statement p) is h more =
+branch_leads inner ts li lt o most room (suc (suc m)) (Many s n) is h more = absurd h
+branch_leads inner ts li lt o most room m (Nest n) is h more = inr refl
+branch_leads inner ts li lt o most room m (Statement p) is h more =
     led_seq (of_item of (Statement p)) (of_items of is) (tokens inner) (tokens ts) more
-    (led_statement o p m (tokens inner) (tokens ts ++ more) h.0 (led_row inner li o 32 m h.1.0 (tokens ts ++ more))) (lt o room is h.1.1 more)
-branch_leads inner ts li lt o room m (Word c) is h more = absurd h
-branch_leads inner ts li lt o room m (Sign c code) is h more = absurd h
-branch_leads inner ts li lt o room m (Among a b code) is h more = absurd h
-branch_leads inner ts li lt o room m (ProgramWord c) is h more = absurd h
-branch_leads inner ts li lt o room m (Ignored c) is h more = absurd h
-branch_leads inner ts li lt o room m Comma is h more = absurd h
-branch_leads inner ts li lt o room m LeftOut is h more = absurd h
-branch_leads inner ts li lt o room m End is h more = absurd h
-branch_leads inner ts li lt o room m (Typed k code) is h more = absurd h
+    (led_statement o p m (tokens inner) (tokens ts ++ more) h.0 (led_row inner li o most most m h.1.0 (tokens ts ++ more))) (lt o most room is h.1.1 more)
+branch_leads inner ts li lt o most room m (Word c) is h more = absurd h
+branch_leads inner ts li lt o most room m (Sign c code) is h more = absurd h
+branch_leads inner ts li lt o most room m (Among a b code) is h more = absurd h
+branch_leads inner ts li lt o most room m (ProgramWord c) is h more = absurd h
+branch_leads inner ts li lt o most room m (Ignored c) is h more = absurd h
+branch_leads inner ts li lt o most room m Comma is h more = absurd h
+branch_leads inner ts li lt o most room m LeftOut is h more = absurd h
+branch_leads inner ts li lt o most room m End is h more = absurd h
+branch_leads inner ts li lt o most room m (Typed k code) is h more = absurd h
 
-put_leads : (t : Token) (ts : Trees) → Leads ts → (o : Origin) (room : ℕ) (is : List Item) → FitsPut o is t (λ (rest : List Item). Fits o room rest ts)
+put_leads : (t : Token) (ts : Trees) → Leads ts → (o : Origin) (most room : ℕ) (is : List Item) → FitsPut o is t (λ (rest : List Item). Fits o most room rest ts)
     → (more : List Token) → Led (of_items of is) (t ∷ tokens ts) more
-put_leads t ts lt o room [] h more = absurd h
-put_leads t ts lt o room (i ∷ is) h more = inr (some_left _ (of_item of i).heads _ (token_leads o i t (tokens ts ++ more) h.0))
+put_leads t ts lt o most room [] h more = absurd h
+put_leads t ts lt o most room (i ∷ is) h more = inr (some_left _ (of_item of i).heads _ (token_leads o i t (tokens ts ++ more) h.0))
 
-in_leads : (inner ts : Trees) → Leads inner → Leads ts → (o : Origin) (room m : ℕ) (is : List Item)
-    → FitsIn o room is m (λ (deep : ℕ) (items : List Item). Fits o deep items inner) (λ (rest : List Item). Fits o room rest ts)
+in_leads : (inner ts : Trees) → Leads inner → Leads ts → (o : Origin) (most room m : ℕ) (is : List Item)
+    → FitsIn o most room is m (λ (deep : ℕ) (items : List Item). Fits o most deep items inner) (λ (rest : List Item). Fits o most room rest ts)
     → (more : List Token) → Led (of_items of is) (tokens inner ++ tokens ts) more
-in_leads inner ts li lt o room m [] h more = absurd h
-in_leads inner ts li lt o room m (i ∷ is) h more = branch_leads inner ts li lt o room m i is h more
+in_leads inner ts li lt o most room m [] h more = absurd h
+in_leads inner ts li lt o most room m (i ∷ is) h more = branch_leads inner ts li lt o most room m i is h more
 
 -- a tree that fits begins as its row does
 pub leads : (t : Trees) → Leads t
-leads Done o room is h more = inl (refl, may_end_empty is h)
-leads (Put t ts) o room is h more = led_giving is (t ∷ tokens ts) more (put_leads t ts (leads ts) o room (giving is) h more)
-leads (In m inner ts) o room is h more = led_giving is (tokens inner ++ tokens ts) more (in_leads inner ts (leads inner) (leads ts) o room m (giving is) h more)
+leads Done o most room is h more = inl (refl, may_end_empty is h)
+leads (Put t ts) o most room is h more = led_giving is (t ∷ tokens ts) more (put_leads t ts (leads ts) o most room (giving is) h more)
+leads (In m inner ts) o most room is h more = led_giving is (tokens inner ++ tokens ts) more (in_leads inner ts (leads inner) (leads ts) o most room m (giving is) h more)
 
 -- a tree of a row that isn't empty has a token
 abbrev Fills : Trees → Type 0
-Fills t = (o : Origin) (room : ℕ) (is : List Item) → Fits o room is t → (of_items of is).empty ≡ false → 0 < length (tokens t)
+Fills t = (o : Origin) (most room : ℕ) (is : List Item) → Fits o most room is t → (of_items of is).empty ≡ false → 0 < length (tokens t)
 
 and_cases : (a b : Bool) → (a && b) ≡ false → (a ≡ false) ⊎ (b ≡ false)
 and_cases true b h = inr h
@@ -349,8 +349,8 @@ more_right : (xs ys : List Token) → 0 < length ys → 0 < length (xs ++ ys)
 more_right [] ys h = h
 more_right (x ∷ xs) ys h = omega arith
 
-fills_row : (inner : Trees) → Fills inner → (o : Origin) (room n : ℕ) → Fits o room (row_items n) inner → (of n).empty ≡ false → 0 < length (tokens inner)
-fills_row inner fi o room n h e = fi o room (row_items n) h (ap (λ (k : Known). k.empty) (known n) ∙ e)
+fills_row : (inner : Trees) → Fills inner → (o : Origin) (most room n : ℕ) → Fits o most room (row_items n) inner → (of n).empty ≡ false → 0 < length (tokens inner)
+fills_row inner fi o most room n h e = fi o most room (row_items n) h (ap (λ (k : Known). k.empty) (known n) ∙ e)
 
 fills_two : (inner ts : Trees) (a b : Bool) → (a && b) ≡ false → (a ≡ false → 0 < length (tokens inner)) → (b ≡ false → 0 < length (tokens ts)) → 0 < length (tokens inner ++ tokens ts)
 fills_two inner ts a b h f g = elim (and_cases a b h) [
@@ -358,42 +358,42 @@ fills_two inner ts a b h f g = elim (and_cases a b h) [
   | inr e ↦ more_right (tokens inner) (tokens ts) (g e)
 ]
 
-branch_fills : (inner ts : Trees) → Fills inner → Fills ts → (o : Origin) (room m : ℕ) (i : Item) (is : List Item)
-    → FitsBranch o room i is m (λ (deep : ℕ) (items : List Item). Fits o deep items inner) (λ (rest : List Item). Fits o room rest ts)
+branch_fills : (inner ts : Trees) → Fills inner → Fills ts → (o : Origin) (most room m : ℕ) (i : Item) (is : List Item)
+    → FitsBranch o most room i is m (λ (deep : ℕ) (items : List Item). Fits o most deep items inner) (λ (rest : List Item). Fits o most room rest ts)
     → (of_items of (i ∷ is)).empty ≡ false → 0 < length (tokens inner ++ tokens ts)
-branch_fills inner ts fi ft o room m (Part n) is h e = fills_two inner ts (of n).empty (of_items of is).empty e (fills_row inner fi o room n h.1.0) (ft o room is h.1.1)
-branch_fills inner ts fi ft o room zero (Maybe s n) is h e = more_right (tokens inner) (tokens ts) (ft o room is h.1 e)
-branch_fills inner ts fi ft o room (suc zero) (Maybe s n) is h e = more_right (tokens inner) (tokens ts) (ft o room is h.1 e)
-branch_fills inner ts fi ft o room (suc (suc m)) (Maybe s n) is h e = absurd h
-branch_fills inner ts fi ft o room zero (Either s n k) is h e =
-    fills_two inner ts ((of n).empty || (of k).empty) (of_items of is).empty e (λ g. fills_row inner fi o room k h.0 (or_right (of n).empty _ g)) (ft o room is h.1)
-branch_fills inner ts fi ft o room (suc zero) (Either s n k) is h e =
-    fills_two inner ts ((of n).empty || (of k).empty) (of_items of is).empty e (λ g. fills_row inner fi o room n h.0 (or_left _ _ g)) (ft o room is h.1)
-branch_fills inner ts fi ft o room (suc (suc m)) (Either s n k) is h e = absurd h
-branch_fills inner ts fi ft o room zero (Many s n) is h e = more_right (tokens inner) (tokens ts) (ft o room is h.1 e)
-branch_fills inner ts fi ft o room (suc zero) (Many s n) is h e = more_right (tokens inner) (tokens ts) (ft o room (Many s n ∷ is) h.1 e)
-branch_fills inner ts fi ft o room (suc (suc m)) (Many s n) is h e = absurd h
-branch_fills inner ts fi ft o zero m (Nest n) is h e = absurd h
-branch_fills inner ts fi ft o (suc room) m (Nest n) is h e = more_right (tokens inner) (tokens ts) (ft o (suc room) is h.1.1 e)
-branch_fills inner ts fi ft o room m (Statement p) is h e =
-    more_left (tokens inner) (tokens ts) (fills_row inner fi o 32 m h.1.0 (not_true _ (and_left _ _ (statement_good o p m h.0))))
-branch_fills inner ts fi ft o room m (Word c) is h e = absurd h
-branch_fills inner ts fi ft o room m (Sign c code) is h e = absurd h
-branch_fills inner ts fi ft o room m (Among a b code) is h e = absurd h
-branch_fills inner ts fi ft o room m (ProgramWord c) is h e = absurd h
-branch_fills inner ts fi ft o room m (Ignored c) is h e = absurd h
-branch_fills inner ts fi ft o room m Comma is h e = absurd h
-branch_fills inner ts fi ft o room m LeftOut is h e = absurd h
-branch_fills inner ts fi ft o room m End is h e = absurd h
-branch_fills inner ts fi ft o room m (Typed k code) is h e = absurd h
+branch_fills inner ts fi ft o most room m (Part n) is h e = fills_two inner ts (of n).empty (of_items of is).empty e (fills_row inner fi o most room n h.1.0) (ft o most room is h.1.1)
+branch_fills inner ts fi ft o most room zero (Maybe s n) is h e = more_right (tokens inner) (tokens ts) (ft o most room is h.1 e)
+branch_fills inner ts fi ft o most room (suc zero) (Maybe s n) is h e = more_right (tokens inner) (tokens ts) (ft o most room is h.1 e)
+branch_fills inner ts fi ft o most room (suc (suc m)) (Maybe s n) is h e = absurd h
+branch_fills inner ts fi ft o most room zero (Either s n k) is h e =
+    fills_two inner ts ((of n).empty || (of k).empty) (of_items of is).empty e (λ g. fills_row inner fi o most room k h.0 (or_right (of n).empty _ g)) (ft o most room is h.1)
+branch_fills inner ts fi ft o most room (suc zero) (Either s n k) is h e =
+    fills_two inner ts ((of n).empty || (of k).empty) (of_items of is).empty e (λ g. fills_row inner fi o most room n h.0 (or_left _ _ g)) (ft o most room is h.1)
+branch_fills inner ts fi ft o most room (suc (suc m)) (Either s n k) is h e = absurd h
+branch_fills inner ts fi ft o most room zero (Many s n) is h e = more_right (tokens inner) (tokens ts) (ft o most room is h.1 e)
+branch_fills inner ts fi ft o most room (suc zero) (Many s n) is h e = more_right (tokens inner) (tokens ts) (ft o most room (Many s n ∷ is) h.1 e)
+branch_fills inner ts fi ft o most room (suc (suc m)) (Many s n) is h e = absurd h
+branch_fills inner ts fi ft o most zero m (Nest n) is h e = absurd h
+branch_fills inner ts fi ft o most (suc room) m (Nest n) is h e = more_right (tokens inner) (tokens ts) (ft o most (suc room) is h.1.1 e)
+branch_fills inner ts fi ft o most room m (Statement p) is h e =
+    more_left (tokens inner) (tokens ts) (fills_row inner fi o most most m h.1.0 (not_true _ (and_left _ _ (statement_good o p m h.0))))
+branch_fills inner ts fi ft o most room m (Word c) is h e = absurd h
+branch_fills inner ts fi ft o most room m (Sign c code) is h e = absurd h
+branch_fills inner ts fi ft o most room m (Among a b code) is h e = absurd h
+branch_fills inner ts fi ft o most room m (ProgramWord c) is h e = absurd h
+branch_fills inner ts fi ft o most room m (Ignored c) is h e = absurd h
+branch_fills inner ts fi ft o most room m Comma is h e = absurd h
+branch_fills inner ts fi ft o most room m LeftOut is h e = absurd h
+branch_fills inner ts fi ft o most room m End is h e = absurd h
+branch_fills inner ts fi ft o most room m (Typed k code) is h e = absurd h
 
-in_fills : (inner ts : Trees) → Fills inner → Fills ts → (o : Origin) (room m : ℕ) (is : List Item)
-    → FitsIn o room is m (λ (deep : ℕ) (items : List Item). Fits o deep items inner) (λ (rest : List Item). Fits o room rest ts)
+in_fills : (inner ts : Trees) → Fills inner → Fills ts → (o : Origin) (most room m : ℕ) (is : List Item)
+    → FitsIn o most room is m (λ (deep : ℕ) (items : List Item). Fits o most deep items inner) (λ (rest : List Item). Fits o most room rest ts)
     → (of_items of is).empty ≡ false → 0 < length (tokens inner ++ tokens ts)
-in_fills inner ts fi ft o room m [] h e = absurd h
-in_fills inner ts fi ft o room m (i ∷ is) h e = branch_fills inner ts fi ft o room m i is h e
+in_fills inner ts fi ft o most room m [] h e = absurd h
+in_fills inner ts fi ft o most room m (i ∷ is) h e = branch_fills inner ts fi ft o most room m i is h e
 
 pub fills : (t : Trees) → Fills t
-fills Done o room is h e = never (of_items of is).empty (may_end_empty is h) e
-fills (Put t ts) o room is h e = omega arith
-fills (In m inner ts) o room is h e = in_fills inner ts (fills inner) (fills ts) o room m (giving is) h ((giving_known is).1 ∙ e)
+fills Done o most room is h e = never (of_items of is).empty (may_end_empty is h) e
+fills (Put t ts) o most room is h e = omega arith
+fills (In m inner ts) o most room is h e = in_fills inner ts (fills inner) (fills ts) o most room m (giving is) h ((giving_known is).1 ∙ e)

@@ -85,17 +85,17 @@ nest_led n is xs ys more (inl h) (inr k) =
 nest_led n is xs ys more (inr h) k =
     inr (some_left _ (of n).heads _ (ap (λ (l : List Token). some (λ (f : Front). fronts f l) (of n).heads) (append_assoc xs ys more) ∙ h))
 
-nest_next : (t : Trees) (o : Origin) (room n : ℕ) (is : List Item) → Fits o room (Nest n ∷ is) t → (more : List Token) → NextLed (Nest n ∷ is) (tokens t) more
-nest_next Done o room n is h more = cc
-nest_next (Put t ts) o room n is h more = cc
-nest_next (In m inner ts) o zero n is h more = absurd h
-nest_next (In m inner ts) o (suc room) n is h more =
-    nest_led n is (tokens inner) (tokens ts) more (led_known n (tokens inner) (tokens ts ++ more) (leads inner o room (row_items n) h.1.0 (tokens ts ++ more))) (leads ts o (suc room) is h.1.1 more)
+nest_next : (t : Trees) (o : Origin) (most room n : ℕ) (is : List Item) → Fits o most room (Nest n ∷ is) t → (more : List Token) → NextLed (Nest n ∷ is) (tokens t) more
+nest_next Done o most room n is h more = cc
+nest_next (Put t ts) o most room n is h more = cc
+nest_next (In m inner ts) o most zero n is h more = absurd h
+nest_next (In m inner ts) o most (suc room) n is h more =
+    nest_led n is (tokens inner) (tokens ts) more (led_known n (tokens inner) (tokens ts ++ more) (leads inner o most room (row_items n) h.1.0 (tokens ts ++ more))) (leads ts o most (suc room) is h.1.1 more)
 
-next_led : (is : List Item) (t : Trees) (o : Origin) (room : ℕ) → Fits o room is t → (more : List Token) → NextLed is (tokens t) more
-next_led (Nest n ∷ is) t o room h more = nest_next t o room n is h more
-next_led [] t o room h more = leads t o room [] h more
-next_led (i ∷ is) t o room h more = leads t o room (i ∷ is) h more
+next_led : (is : List Item) (t : Trees) (o : Origin) (most room : ℕ) → Fits o most room is t → (more : List Token) → NextLed is (tokens t) more
+next_led (Nest n ∷ is) t o most room h more = nest_next t o most room n is h more
+next_led [] t o most room h more = leads t o most room [] h more
+next_led (i ∷ is) t o most room h more = leads t o most room (i ∷ is) h more
 
 item_follows : (p : Beside) (q : TwoTokens) → Tells p q → (i : Item) (is : List Item) (xs more : List Token) → NextLed is xs more → besides p (of_item of i).ends (next_heads is) ≡ true
     → Follows q (of_items of (i ∷ is)).ends more → Follows q (of_item of i).ends (xs ++ more)
@@ -113,25 +113,25 @@ abbrev pub Everywhere : Within → Type 0
 Everywhere r = r row.LINE ≡ true → (n : ℕ) → r n ≡ true
 
 abbrev pub Chained : Within → Beside → TwoTokens → Trees → Type 0
-Chained r p q t = (o : Origin) (room : ℕ) (is : List Item) → Fits o room is t → paired r p is ≡ true → (more : List Token) → Follows q (of_items of is).ends more → Chain q more
+Chained r p q t = (o : Origin) (most room : ℕ) (is : List Item) → Fits o most room is t → paired r p is ≡ true → (more : List Token) → Follows q (of_items of is).ends more → Chain q more
     → Chain q (tokens t ++ more)
 
 chain_apart : (q : TwoTokens) (xs ys zs : List Token) → Chain q (xs ++ (ys ++ zs)) → Chain q ((xs ++ ys) ++ zs)
 chain_apart q xs ys zs h = let P : List Token → Type 0 = λ l. Chain q l in subst P (sym (append_assoc xs ys zs)) h
 
-chain_row : (r : Within) (p : Beside) (q : TwoTokens) → Rows r p → (inner : Trees) → Chained r p q inner → (o : Origin) (room n : ℕ) → Fits o room (row_items n) inner → r n ≡ true
+chain_row : (r : Within) (p : Beside) (q : TwoTokens) → Rows r p → (inner : Trees) → Chained r p q inner → (o : Origin) (most room n : ℕ) → Fits o most room (row_items n) inner → r n ≡ true
     → (more : List Token) → Follows q (of n).ends more → Chain q more → Chain q (tokens inner ++ more)
-chain_row r p q rows inner ci o room n fits within more follows chain =
+chain_row r p q rows inner ci o most room n fits within more follows chain =
     let P : Known → Type 0 = λ k. Follows q k.ends more in
-    ci o room (row_items n) fits (rows n within) more (subst P (sym (known n)) follows) chain
+    ci o most room (row_items n) fits (rows n within) more (subst P (sym (known n)) follows) chain
 
-no_tokens : (o : Origin) (room : ℕ) (t : Trees) → Fits o room [] t → tokens t ≡ []
-no_tokens o room Done h = refl
-no_tokens o room (Put t ts) h = absurd h
-no_tokens o room (In m inner ts) h = absurd h
+no_tokens : (o : Origin) (most room : ℕ) (t : Trees) → Fits o most room [] t → tokens t ≡ []
+no_tokens o most room Done h = refl
+no_tokens o most room (Put t ts) h = absurd h
+no_tokens o most room (In m inner ts) h = absurd h
 
-chain_none : (q : TwoTokens) (o : Origin) (room : ℕ) (inner : Trees) (ys more : List Token) → Fits o room [] inner → Chain q (ys ++ more) → Chain q ((tokens inner ++ ys) ++ more)
-chain_none q o room inner ys more fits h = let P : List Token → Type 0 = λ l. Chain q ((l ++ ys) ++ more) in subst P (sym (no_tokens o room inner fits)) h
+chain_none : (q : TwoTokens) (o : Origin) (most room : ℕ) (inner : Trees) (ys more : List Token) → Fits o most room [] inner → Chain q (ys ++ more) → Chain q ((tokens inner ++ ys) ++ more)
+chain_none q o most room inner ys more fits h = let P : List Token → Type 0 = λ l. Chain q ((l ++ ys) ++ more) in subst P (sym (no_tokens o most room inner fits)) h
 
 some_split : (p : Front → Bool) (xs ys : List Front) → some p (xs ++ ys) ≡ true → (some p xs ≡ true) ⊎ (some p ys ≡ true)
 some_split p [] ys h = inr h
@@ -156,12 +156,12 @@ close_front : (c code : ℕ) (is : List Item) (xs more : List Token) → (c == 4
 close_front c code is xs more h (inl g) = cc
 close_front c code is xs more h (inr g) = ap (λ (n : ℕ). some (λ (f : Front). fronts f (xs ++ more)) (Spanned n n ∷ [])) (sym (equal c 41 h)) ∙ g
 
-nest_follows : (p : Beside) (q : TwoTokens) → Tells p q → (o : Origin) (room n : ℕ) (is : List Item) (ts : Trees) (more : List Token) → is_closed is ≡ true
-    → besides p (of n).ends (Spanned 41 41 ∷ []) ≡ true → Fits o room is ts → Follows q (of n).ends (tokens ts ++ more)
-nest_follows p q tells o room n (Sign c code ∷ is) ts more h test fits =
-    before_fronts p q tells (of n).ends (Spanned 41 41 ∷ []) (tokens ts ++ more) test (close_front c code is (tokens ts) more h (leads ts o room (Sign c code ∷ is) fits more))
-nest_follows p q tells o room n [] ts more h test fits = cc
-nest_follows p q tells o room n (i ∷ is) ts more h test fits = cc
+nest_follows : (p : Beside) (q : TwoTokens) → Tells p q → (o : Origin) (most room n : ℕ) (is : List Item) (ts : Trees) (more : List Token) → is_closed is ≡ true
+    → besides p (of n).ends (Spanned 41 41 ∷ []) ≡ true → Fits o most room is ts → Follows q (of n).ends (tokens ts ++ more)
+nest_follows p q tells o most room n (Sign c code ∷ is) ts more h test fits =
+    before_fronts p q tells (of n).ends (Spanned 41 41 ∷ []) (tokens ts ++ more) test (close_front c code is (tokens ts) more h (leads ts o most room (Sign c code ∷ is) fits more))
+nest_follows p q tells o most room n [] ts more h test fits = cc
+nest_follows p q tells o most room n (i ∷ is) ts more h test fits = cc
 
 covers_last : (g f : Front) (t : Token) → covers g f ≡ true → fronts f (t ∷ []) ≡ true → fronts g (t ∷ []) ≡ true
 covers_last g f t h k = covered_front g f (t ∷ []) h k
@@ -174,73 +174,73 @@ statement_follows q o x m more stated h = λ t k.
     h t (covered_all statement_ends (of m).ends (t ∷ []) last k)
 
 branch_chain : (r : Within) (p : Beside) (q : TwoTokens) → Tells p q → Rows r p → Everywhere r → (inner ts : Trees) → Chained r p q inner → Chained r p q ts
-    → (o : Origin) (room m : ℕ) (i : Item) (is : List Item)
-    → FitsBranch o room i is m (λ (deep : ℕ) (items : List Item). Fits o deep items inner) (λ (rest : List Item). Fits o room rest ts)
+    → (o : Origin) (most room m : ℕ) (i : Item) (is : List Item)
+    → FitsBranch o most room i is m (λ (deep : ℕ) (items : List Item). Fits o most deep items inner) (λ (rest : List Item). Fits o most room rest ts)
     → paired r p (i ∷ is) ≡ true → (more : List Token) → Follows q (of_items of (i ∷ is)).ends more → Chain q more → Chain q ((tokens inner ++ tokens ts) ++ more)
-branch_chain r p q tells rows all_ inner ts ci ct o room m (Part n) is h test more follows chain =
+branch_chain r p q tells rows all_ inner ts ci ct o most room m (Part n) is h test more follows chain =
     let tests = and_right (r n) _ test in
-    let rest = ct o room is h.1.1 (and_right (besides p (of_item of (Part n)).ends (next_heads is)) _ tests) more (follows_right q (when (of_items of is).empty (of n).ends) _ more follows) chain in
+    let rest = ct o most room is h.1.1 (and_right (besides p (of_item of (Part n)).ends (next_heads is)) _ tests) more (follows_right q (when (of_items of is).empty (of n).ends) _ more follows) chain in
     chain_apart q (tokens inner) (tokens ts) more
-    (chain_row r p q rows inner ci o room n h.1.0 (and_left _ _ test) (tokens ts ++ more) (item_follows p q tells (Part n) is (tokens ts) more (next_led is ts o room h.1.1 more) (and_left _ _ tests) follows) rest)
-branch_chain r p q tells rows all_ inner ts ci ct o room zero (Maybe s n) is h test more follows chain =
+    (chain_row r p q rows inner ci o most room n h.1.0 (and_left _ _ test) (tokens ts ++ more) (item_follows p q tells (Part n) is (tokens ts) more (next_led is ts o most room h.1.1 more) (and_left _ _ tests) follows) rest)
+branch_chain r p q tells rows all_ inner ts ci ct o most room zero (Maybe s n) is h test more follows chain =
     let tests = and_right (r n) _ test in
-    let rest = ct o room is h.1 (and_right (besides p (of_item of (Maybe s n)).ends (next_heads is)) _ tests) more (follows_right q (when (of_items of is).empty (of n).ends) _ more follows) chain in
-    chain_none q o room inner (tokens ts) more h.0 rest
-branch_chain r p q tells rows all_ inner ts ci ct o room (suc zero) (Maybe s n) is h test more follows chain =
+    let rest = ct o most room is h.1 (and_right (besides p (of_item of (Maybe s n)).ends (next_heads is)) _ tests) more (follows_right q (when (of_items of is).empty (of n).ends) _ more follows) chain in
+    chain_none q o most room inner (tokens ts) more h.0 rest
+branch_chain r p q tells rows all_ inner ts ci ct o most room (suc zero) (Maybe s n) is h test more follows chain =
     let tests = and_right (r n) _ test in
-    let rest = ct o room is h.1 (and_right (besides p (of_item of (Maybe s n)).ends (next_heads is)) _ tests) more (follows_right q (when (of_items of is).empty (of n).ends) _ more follows) chain in
+    let rest = ct o most room is h.1 (and_right (besides p (of_item of (Maybe s n)).ends (next_heads is)) _ tests) more (follows_right q (when (of_items of is).empty (of n).ends) _ more follows) chain in
     chain_apart q (tokens inner) (tokens ts) more
-    (chain_row r p q rows inner ci o room n h.0 (and_left _ _ test) (tokens ts ++ more) (item_follows p q tells (Maybe s n) is (tokens ts) more (next_led is ts o room h.1 more) (and_left _ _ tests) follows) rest)
-branch_chain r p q tells rows all_ inner ts ci ct o room (suc (suc m)) (Maybe s n) is h test more follows chain = absurd h
-branch_chain r p q tells rows all_ inner ts ci ct o room zero (Either s n k) is h test more follows chain =
+    (chain_row r p q rows inner ci o most room n h.0 (and_left _ _ test) (tokens ts ++ more) (item_follows p q tells (Maybe s n) is (tokens ts) more (next_led is ts o most room h.1 more) (and_left _ _ tests) follows) rest)
+branch_chain r p q tells rows all_ inner ts ci ct o most room (suc (suc m)) (Maybe s n) is h test more follows chain = absurd h
+branch_chain r p q tells rows all_ inner ts ci ct o most room zero (Either s n k) is h test more follows chain =
     let tests = and_right (r n && r k) _ test in
-    let rest = ct o room is h.1 (and_right (besides p (of_item of (Either s n k)).ends (next_heads is)) _ tests) more (follows_right q (when (of_items of is).empty (of_item of (Either s n k)).ends) _ more follows) chain in
-    let behind_ = item_follows p q tells (Either s n k) is (tokens ts) more (next_led is ts o room h.1 more) (and_left _ _ tests) follows in
+    let rest = ct o most room is h.1 (and_right (besides p (of_item of (Either s n k)).ends (next_heads is)) _ tests) more (follows_right q (when (of_items of is).empty (of_item of (Either s n k)).ends) _ more follows) chain in
+    let behind_ = item_follows p q tells (Either s n k) is (tokens ts) more (next_led is ts o most room h.1 more) (and_left _ _ tests) follows in
     chain_apart q (tokens inner) (tokens ts) more
-    (chain_row r p q rows inner ci o room k h.0 (and_right (r n) _ (and_left _ _ test)) (tokens ts ++ more) (follows_right q (of n).ends (of k).ends _ behind_) rest)
-branch_chain r p q tells rows all_ inner ts ci ct o room (suc zero) (Either s n k) is h test more follows chain =
+    (chain_row r p q rows inner ci o most room k h.0 (and_right (r n) _ (and_left _ _ test)) (tokens ts ++ more) (follows_right q (of n).ends (of k).ends _ behind_) rest)
+branch_chain r p q tells rows all_ inner ts ci ct o most room (suc zero) (Either s n k) is h test more follows chain =
     let tests = and_right (r n && r k) _ test in
-    let rest = ct o room is h.1 (and_right (besides p (of_item of (Either s n k)).ends (next_heads is)) _ tests) more (follows_right q (when (of_items of is).empty (of_item of (Either s n k)).ends) _ more follows) chain in
-    let behind_ = item_follows p q tells (Either s n k) is (tokens ts) more (next_led is ts o room h.1 more) (and_left _ _ tests) follows in
+    let rest = ct o most room is h.1 (and_right (besides p (of_item of (Either s n k)).ends (next_heads is)) _ tests) more (follows_right q (when (of_items of is).empty (of_item of (Either s n k)).ends) _ more follows) chain in
+    let behind_ = item_follows p q tells (Either s n k) is (tokens ts) more (next_led is ts o most room h.1 more) (and_left _ _ tests) follows in
     chain_apart q (tokens inner) (tokens ts) more
-    (chain_row r p q rows inner ci o room n h.0 (and_left _ _ (and_left _ _ test)) (tokens ts ++ more) (follows_left q (of n).ends (of k).ends _ behind_) rest)
-branch_chain r p q tells rows all_ inner ts ci ct o room (suc (suc m)) (Either s n k) is h test more follows chain = absurd h
-branch_chain r p q tells rows all_ inner ts ci ct o room zero (Many s n) is h test more follows chain =
+    (chain_row r p q rows inner ci o most room n h.0 (and_left _ _ (and_left _ _ test)) (tokens ts ++ more) (follows_left q (of n).ends (of k).ends _ behind_) rest)
+branch_chain r p q tells rows all_ inner ts ci ct o most room (suc (suc m)) (Either s n k) is h test more follows chain = absurd h
+branch_chain r p q tells rows all_ inner ts ci ct o most room zero (Many s n) is h test more follows chain =
     let tests = and_right (paired_item r p (Many s n) is) _ test in
-    let rest = ct o room is h.1 (and_right (besides p (of_item of (Many s n)).ends (next_heads is)) _ tests) more (follows_right q (when (of_items of is).empty (of n).ends) _ more follows) chain in
-    chain_none q o room inner (tokens ts) more h.0 rest
-branch_chain r p q tells rows all_ inner ts ci ct o room (suc zero) (Many s n) is h test more follows chain =
+    let rest = ct o most room is h.1 (and_right (besides p (of_item of (Many s n)).ends (next_heads is)) _ tests) more (follows_right q (when (of_items of is).empty (of n).ends) _ more follows) chain in
+    chain_none q o most room inner (tokens ts) more h.0 rest
+branch_chain r p q tells rows all_ inner ts ci ct o most room (suc zero) (Many s n) is h test more follows chain =
     let own = and_left (paired_item r p (Many s n) is) _ test in
     let turns = and_right (r n) _ own in
-    let rest = ct o room (Many s n ∷ is) h.1 test more follows chain in
+    let rest = ct o most room (Many s n ∷ is) h.1 test more follows chain in
     chain_apart q (tokens inner) (tokens ts) more
-    (chain_row r p q rows inner ci o room n h.0 (and_left _ _ own) (tokens ts ++ more)
-    (turn_follows p q tells s n is (tokens ts) more (leads ts o room (Many s n ∷ is) h.1 more) (and_left _ _ turns) (and_right (besides p (of n).ends (of n).heads) _ turns) follows) rest)
-branch_chain r p q tells rows all_ inner ts ci ct o room (suc (suc m)) (Many s n) is h test more follows chain = absurd h
-branch_chain r p q tells rows all_ inner ts ci ct o zero m (Nest n) is h test more follows chain = absurd h
-branch_chain r p q tells rows all_ inner ts ci ct o (suc room) m (Nest n) is h test more follows chain =
+    (chain_row r p q rows inner ci o most room n h.0 (and_left _ _ own) (tokens ts ++ more)
+    (turn_follows p q tells s n is (tokens ts) more (leads ts o most room (Many s n ∷ is) h.1 more) (and_left _ _ turns) (and_right (besides p (of n).ends (of n).heads) _ turns) follows) rest)
+branch_chain r p q tells rows all_ inner ts ci ct o most room (suc (suc m)) (Many s n) is h test more follows chain = absurd h
+branch_chain r p q tells rows all_ inner ts ci ct o most zero m (Nest n) is h test more follows chain = absurd h
+branch_chain r p q tells rows all_ inner ts ci ct o most (suc room) m (Nest n) is h test more follows chain =
     let own = and_left (paired_item r p (Nest n) is) _ test in
     let tests = and_right (paired_item r p (Nest n) is) _ test in
     let closes = and_right (r n) _ own in
-    let rest = ct o (suc room) is h.1.1 (and_right (besides p (of_item of (Nest n)).ends (next_heads is)) _ tests) more (follows_right q (when (of_items of is).empty []) _ more follows) chain in
+    let rest = ct o most (suc room) is h.1.1 (and_right (besides p (of_item of (Nest n)).ends (next_heads is)) _ tests) more (follows_right q (when (of_items of is).empty []) _ more follows) chain in
     chain_apart q (tokens inner) (tokens ts) more
-    (chain_row r p q rows inner ci o room n h.1.0 (and_left _ _ own) (tokens ts ++ more)
-    (nest_follows p q tells o (suc room) n is ts more (and_left _ _ closes) (and_right (is_closed is) _ closes) h.1.1) rest)
-branch_chain r p q tells rows all_ inner ts ci ct o room m (Statement x) is h test more follows chain =
+    (chain_row r p q rows inner ci o most room n h.1.0 (and_left _ _ own) (tokens ts ++ more)
+    (nest_follows p q tells o most (suc room) n is ts more (and_left _ _ closes) (and_right (is_closed is) _ closes) h.1.1) rest)
+branch_chain r p q tells rows all_ inner ts ci ct o most room m (Statement x) is h test more follows chain =
     let tests = and_right (r row.LINE) _ test in
-    let rest = ct o room is h.1.1 (and_right (besides p (of_item of (Statement x)).ends (next_heads is)) _ tests) more (follows_right q (when (of_items of is).empty (of_item of (Statement x)).ends) _ more follows) chain in
+    let rest = ct o most room is h.1.1 (and_right (besides p (of_item of (Statement x)).ends (next_heads is)) _ tests) more (follows_right q (when (of_items of is).empty (of_item of (Statement x)).ends) _ more follows) chain in
     chain_apart q (tokens inner) (tokens ts) more
-    (chain_row r p q rows inner ci o 32 m h.1.0 (all_ (and_left _ _ test) m) (tokens ts ++ more)
-    (statement_follows q o x m (tokens ts ++ more) h.0 (item_follows p q tells (Statement x) is (tokens ts) more (next_led is ts o room h.1.1 more) (and_left _ _ tests) follows)) rest)
-branch_chain r p q tells rows all_ inner ts ci ct o room m (Word c) is h test more follows chain = absurd h
-branch_chain r p q tells rows all_ inner ts ci ct o room m (Sign c code) is h test more follows chain = absurd h
-branch_chain r p q tells rows all_ inner ts ci ct o room m (Among a b code) is h test more follows chain = absurd h
-branch_chain r p q tells rows all_ inner ts ci ct o room m (ProgramWord c) is h test more follows chain = absurd h
-branch_chain r p q tells rows all_ inner ts ci ct o room m (Ignored c) is h test more follows chain = absurd h
-branch_chain r p q tells rows all_ inner ts ci ct o room m Comma is h test more follows chain = absurd h
-branch_chain r p q tells rows all_ inner ts ci ct o room m LeftOut is h test more follows chain = absurd h
-branch_chain r p q tells rows all_ inner ts ci ct o room m End is h test more follows chain = absurd h
-branch_chain r p q tells rows all_ inner ts ci ct o room m (Typed k code) is h test more follows chain = absurd h
+    (chain_row r p q rows inner ci o most most m h.1.0 (all_ (and_left _ _ test) m) (tokens ts ++ more)
+    (statement_follows q o x m (tokens ts ++ more) h.0 (item_follows p q tells (Statement x) is (tokens ts) more (next_led is ts o most room h.1.1 more) (and_left _ _ tests) follows)) rest)
+branch_chain r p q tells rows all_ inner ts ci ct o most room m (Word c) is h test more follows chain = absurd h
+branch_chain r p q tells rows all_ inner ts ci ct o most room m (Sign c code) is h test more follows chain = absurd h
+branch_chain r p q tells rows all_ inner ts ci ct o most room m (Among a b code) is h test more follows chain = absurd h
+branch_chain r p q tells rows all_ inner ts ci ct o most room m (ProgramWord c) is h test more follows chain = absurd h
+branch_chain r p q tells rows all_ inner ts ci ct o most room m (Ignored c) is h test more follows chain = absurd h
+branch_chain r p q tells rows all_ inner ts ci ct o most room m Comma is h test more follows chain = absurd h
+branch_chain r p q tells rows all_ inner ts ci ct o most room m LeftOut is h test more follows chain = absurd h
+branch_chain r p q tells rows all_ inner ts ci ct o most room m End is h test more follows chain = absurd h
+branch_chain r p q tells rows all_ inner ts ci ct o most room m (Typed k code) is h test more follows chain = absurd h
 
 pub front_last : (f : Front) (t : Token) (ts : List Token) → fronts f (t ∷ ts) ≡ fronts f (t ∷ [])
 front_last Any t ts = refl
@@ -274,21 +274,21 @@ token_ends o (Many s n) t h = cc
 token_ends o (Nest n) t h = cc
 token_ends o (Statement p) t h = cc
 
-put_chain : (r : Within) (p : Beside) (q : TwoTokens) → Tells p q → (t : Token) (ts : Trees) → Chained r p q ts → (o : Origin) (room : ℕ) (is : List Item)
-    → FitsPut o is t (λ (rest : List Item). Fits o room rest ts) → paired r p is ≡ true → (more : List Token) → Follows q (of_items of is).ends more → Chain q more → Chain q (t ∷ (tokens ts ++ more))
-put_chain r p q tells t ts ct o room [] h test more follows chain = absurd h
-put_chain r p q tells t ts ct o room (i ∷ is) h test more follows chain =
+put_chain : (r : Within) (p : Beside) (q : TwoTokens) → Tells p q → (t : Token) (ts : Trees) → Chained r p q ts → (o : Origin) (most room : ℕ) (is : List Item)
+    → FitsPut o is t (λ (rest : List Item). Fits o most room rest ts) → paired r p is ≡ true → (more : List Token) → Follows q (of_items of is).ends more → Chain q more → Chain q (t ∷ (tokens ts ++ more))
+put_chain r p q tells t ts ct o most room [] h test more follows chain = absurd h
+put_chain r p q tells t ts ct o most room (i ∷ is) h test more follows chain =
     let tests = and_right (paired_item r p i is) _ test in (
-      item_follows p q tells i is (tokens ts) more (next_led is ts o room h.1 more) (and_left _ _ tests) follows t (token_ends o i t h.0),
-      ct o room is h.1 (and_right (besides p (of_item of i).ends (next_heads is)) _ tests) more (follows_right q (when (of_items of is).empty (of_item of i).ends) _ more follows) chain,
+      item_follows p q tells i is (tokens ts) more (next_led is ts o most room h.1 more) (and_left _ _ tests) follows t (token_ends o i t h.0),
+      ct o most room is h.1 (and_right (besides p (of_item of i).ends (next_heads is)) _ tests) more (follows_right q (when (of_items of is).empty (of_item of i).ends) _ more follows) chain,
     )
 
 in_chain : (r : Within) (p : Beside) (q : TwoTokens) → Tells p q → Rows r p → Everywhere r → (inner ts : Trees) → Chained r p q inner → Chained r p q ts
-    → (o : Origin) (room m : ℕ) (is : List Item)
-    → FitsIn o room is m (λ (deep : ℕ) (items : List Item). Fits o deep items inner) (λ (rest : List Item). Fits o room rest ts)
+    → (o : Origin) (most room m : ℕ) (is : List Item)
+    → FitsIn o most room is m (λ (deep : ℕ) (items : List Item). Fits o most deep items inner) (λ (rest : List Item). Fits o most room rest ts)
     → paired r p is ≡ true → (more : List Token) → Follows q (of_items of is).ends more → Chain q more → Chain q ((tokens inner ++ tokens ts) ++ more)
-in_chain r p q tells rows all_ inner ts ci ct o room m [] h test more follows chain = absurd h
-in_chain r p q tells rows all_ inner ts ci ct o room m (i ∷ is) h test more follows chain = branch_chain r p q tells rows all_ inner ts ci ct o room m i is h test more follows chain
+in_chain r p q tells rows all_ inner ts ci ct o most room m [] h test more follows chain = absurd h
+in_chain r p q tells rows all_ inner ts ci ct o most room m (i ∷ is) h test more follows chain = branch_chain r p q tells rows all_ inner ts ci ct o most room m i is h test more follows chain
 
 giving_paired : (r : Within) (p : Beside) (is : List Item) → paired r p is ≡ true → paired r p (giving is) ≡ true
 giving_paired r p [] h = refl
@@ -304,8 +304,8 @@ giving_follows q (i ∷ is) more h = h
 
 -- the tokens of a tree that fits may stand side by side
 pub chained : (r : Within) (p : Beside) (q : TwoTokens) → Tells p q → Rows r p → Everywhere r → (t : Trees) → Chained r p q t
-chained r p q tells rows all_ Done o room is fits test more follows chain = chain
-chained r p q tells rows all_ (Put t ts) o room is fits test more follows chain =
-    put_chain r p q tells t ts (chained r p q tells rows all_ ts) o room (giving is) fits (giving_paired r p is test) more (giving_follows q is more follows) chain
-chained r p q tells rows all_ (In m inner ts) o room is fits test more follows chain =
-    in_chain r p q tells rows all_ inner ts (chained r p q tells rows all_ inner) (chained r p q tells rows all_ ts) o room m (giving is) fits (giving_paired r p is test) more (giving_follows q is more follows) chain
+chained r p q tells rows all_ Done o most room is fits test more follows chain = chain
+chained r p q tells rows all_ (Put t ts) o most room is fits test more follows chain =
+    put_chain r p q tells t ts (chained r p q tells rows all_ ts) o most room (giving is) fits (giving_paired r p is test) more (giving_follows q is more follows) chain
+chained r p q tells rows all_ (In m inner ts) o most room is fits test more follows chain =
+    in_chain r p q tells rows all_ inner ts (chained r p q tells rows all_ inner) (chained r p q tells rows all_ ts) o most room m (giving is) fits (giving_paired r p is test) more (giving_follows q is more follows) chain

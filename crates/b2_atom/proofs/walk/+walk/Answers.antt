@@ -2,7 +2,7 @@ use Rattle.std.proofs.Common.{rules, arith, sym, ap, ◌∙◌, ◌≡◌, ◌<�
 use Rattle.b2_atom.specs.Tree.{seen_sink, emitted}
 use Rattle.b2_atom.specs.declared.forms.Item.{Item}
 use Rattle.std.proofs.lemmas.Grind.{common_steps}
-use Rattle.b2_atom.specs.Grammar.{starts, item, item_of_part, level, deep, statement, read_item}
+use Rattle.b2_atom.specs.Grammar.{starts, item, item_of_part, level, deep, statement_within, read_item}
 use Rattle.b2_atom.proofs.reading.Binds.{emitted-under, next_item, no_item, row_end, row_of_part, once_more, once_failed, many_end, many_out, nest_more, takes_same, emitted-silent, statement_ok, statement_err}
 use Rattle.b2_atom.proofs.walk.+walk.Goals as goal
 
@@ -68,7 +68,7 @@ many-returns t c =
     sym c.loop.invariant.read ∙ many_end _ _ _ _ _ _ h
 
 pub statement-returns-then-fuel-eq0 : goal.statement-returns-then-fuel-eq0
-unfolding statement
+unfolding statement_within
 statement-returns-then-fuel-eq0 t c = first_of (search rules, grind (arith, common_steps))
 
 pub take_item-returns-in-Many : goal.take_item-returns-in-Many
@@ -93,7 +93,7 @@ statement-returns-in-Ok t c =
     (statement_ok c.args.origin c.args.fuel c.args.place (seen_sink c.args.out.now) c.args.text.now c.in-Ok.here.now c.in-Ok.row some c.in-Ok.ensures.row) c.part.ensures
 
 pub statement-returns-in-Err : goal.statement-returns-in-Err
-unfolding statement
+unfolding statement_within
 statement-returns-in-Err t c = first_of (search (rules, statement_err), grind (arith, common_steps, statement_err))
 
 pub take_item-returns-in-Word : goal.take_item-returns-in-Word
