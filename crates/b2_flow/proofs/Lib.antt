@@ -1,0 +1,5 @@
+pub mod Marks
+pub mod Searching
+pub mod Variables
+pub mod Loops
+pub mod Calls

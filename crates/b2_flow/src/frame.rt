@@ -1,0 +1,99 @@
+// What stands on the stack: loops and calls, and the places that they lead to.
+ghost use Rattle.std.specs.Prelude.{◌≡◌, ◌≤◌, ◌-◌, ◌==◌, ℕ, if◌then◌else◌};
+ghost use Rattle.std.specs.Int.{bit_at};
+ghost use Rattle.b2_flow.specs.Frames.{is_loop_of, is_immediate_loop, is_back_home, is_entered, names_home};
+
+use b2_base::Part;
+use b2_dec::Dec;
+
+/// A unit of a text: that of a line of the home's program, or of the immediate line where there is no line number.
+#[derive(Clone, Copy, Debug, PartialEq, Eq)]
+pub struct Place {
+    pub home: Part,
+    pub line: Option<u16>,
+    pub unit: u8,
+}
+
+/// The numeric scalar that a loop counts: a letter, and a digit where there is one.
+#[derive(Clone, Copy, Debug, PartialEq, Eq)]
+pub struct Var2 {
+    pub letter: u8,
+    pub digit: Option<u8>,
+}
+
+/// A loop or a call that hasn't ended.
+#[derive(Clone, Copy, Debug, PartialEq, Eq)]
+pub enum Frame {
+    /// A loop: its variable, the last value, what NEXT adds, and the unit after its FOR.
+    For {
+        var: Var2,
+        limit: Dec,
+        step: Dec,
+        body: Place,
+    },
+    /// A call: the unit that RETURN leads to, and the partition whose text it entered. Where there is no unit, RETURN ends
+    /// in the ready state.
+    Call {
+        back: Option<Place>,
+        entered: Option<Part>,
+    },
+}
+
+impl Frame {
+    /// Whether the frame is a loop of a variable.
+    pub(crate) fn is_loop_of(self, v: Var2) -> bool
+        ensures { result ≡ is_loop_of v self }
+    {
+        match self {
+            Frame::For { var, .. } => var == v,
+            Frame::Call { .. } => false,
+        }
+    }
+
+    /// Whether the frame is a loop of an immediate line.
+    pub(crate) fn is_immediate_loop(self) -> bool
+        ensures { result ≡ is_immediate_loop self }
+    {
+        match self {
+            Frame::For { body, .. } => body.line.is_none(),
+            Frame::Call { .. } => false,
+        }
+    }
+
+    /// The partitions that the frame names, as marks.
+    pub(crate) fn homes(self) -> u16
+        ensures { (h : ℕ) → 1 ≤ h → bit_at result (h - 1) ≡ (if names_home h self then 1 else 0) }
+    {
+        match self {
+            Frame::For { body, .. } => mark(body.home),
+            Frame::Call { back, entered } => back_mark(back) | entered_mark(entered),
+        }
+    }
+}
+
+/// The mark of the home that a call leads back to.
+fn back_mark(back: Option<Place>) -> u16
+    ensures { (h : ℕ) → 1 ≤ h → bit_at result (h - 1) ≡ (if is_back_home h back then 1 else 0) }
+{
+    match back {
+        Some(place) => mark(place.home),
+        None => 0,
+    }
+}
+
+/// The mark of the partition whose text a call entered.
+fn entered_mark(entered: Option<Part>) -> u16
+    ensures { (h : ℕ) → 1 ≤ h → bit_at result (h - 1) ≡ (if is_entered h entered then 1 else 0) }
+{
+    match entered {
+        Some(part) => mark(part),
+        None => 0,
+    }
+}
+
+/// The mark of a partition: its bit is its number less 1.
+fn mark(part: Part) -> u16
+    ensures { (h : ℕ) → 1 ≤ h → bit_at result (h - 1) ≡ (if part == h then 1 else 0) }
+{
+    1 << (part.number() - 1)
+}
