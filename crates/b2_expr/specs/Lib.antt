@@ -1,4 +1,6 @@
-pub mod Laws
+pub mod Answers
 pub mod Operators
-pub mod Value
-pub mod Walk
+pub mod Functions
+pub mod Kinds
+pub mod Scope
+pub mod Named

@@ -1,41 +1,22 @@
-// What joins two numbers, by levels: sums of products of powers.
-ghost use Rattle.std.specs.Prelude.{◌≡◌, Some, None, if◌then◌else◌};
-ghost use Rattle.b2_expr.specs.Operators.{is_operator, operator_of, raised_by, raised, joined, signed};
+// What joins two numbers, by levels: sums of products of powers; and what compares.
+ghost use Rattle.std.specs.Prelude.{◌≡◌, Some};
+ghost use Rattle.b2_expr.specs.Operators.{joined, joined_condition, raised, raised_by, relation_in, same_bytes, with_sign};
 
+use b2_alpha::Rel;
+use b2_atom::words::{AND, OR};
 use b2_base::Code;
 use b2_base::codes::C65_EXPONENT;
+use b2_base::lexical::at;
 use b2_dec::{Dec, Mode, add, div, mul, power, sub, whole};
 
-/// What joins two numbers.
-#[derive(Clone, Copy, Debug, PartialEq, Eq)]
-pub enum Operator {
-    Add,
-    Subtract,
-    Multiply,
-    Divide,
-    Raise,
-}
-
-/// The levels of operators.
+/// The levels of operators, from what binds least to what binds most.
 #[derive(Clone, Copy, Debug, PartialEq, Eq)]
 pub enum Level {
     Sum,
     Product,
+    Factor,
     Power,
-}
-
-/// The operator of a level that a byte is.
-pub fn operator_of(level: Level, byte: u8) -> Option<Operator>
-    ensures { result ≡ (if is_operator level byte then Some (operator_of level byte) else None) }
-{
-    match (level, byte) {
-        (Level::Sum, b'+') => Some(Operator::Add),
-        (Level::Sum, b'-') => Some(Operator::Subtract),
-        (Level::Product, b'*') => Some(Operator::Multiply),
-        (Level::Product, b'/') => Some(Operator::Divide),
-        (Level::Power, b'^') => Some(Operator::Raise),
-        _ => None,
-    }
+    Operand,
 }
 
 /// A number to the power of a whole one, which must be from 0 to 255.
@@ -58,25 +39,58 @@ fn raised(a: Dec, b: Dec, mode: Mode) -> Result<Dec, Code>
     }
 }
 
-/// What two numbers come to by an operator.
-pub fn joined(mode: Mode, operator: Operator, a: Dec, b: Dec) -> Result<Dec, Code>
+/// What two numbers come to by the operator that a byte is.
+pub fn joined(mode: Mode, operator: u8, a: Dec, b: Dec) -> Result<Dec, Code>
     ensures { result ≡ joined mode operator a b }
 {
     match operator {
-        Operator::Add => add(a, b, mode),
-        Operator::Subtract => sub(a, b, mode),
-        Operator::Multiply => mul(a, b, mode),
-        Operator::Divide => div(a, b, mode),
-        Operator::Raise => raised(a, b, mode),
+        b'+' => add(a, b, mode),
+        b'-' => sub(a, b, mode),
+        b'*' => mul(a, b, mode),
+        b'/' => div(a, b, mode),
+        _ => raised(a, b, mode),
     }
 }
 
 /// A number with `+` or `-` before it.
-pub fn signed(mode: Mode, sign: Operator, number: Dec) -> Result<Dec, Code>
-    ensures { result ≡ signed mode sign number }
+pub fn with_sign(mode: Mode, sign: u8, number: Dec) -> Result<Dec, Code>
+    ensures { result ≡ with_sign mode sign number }
 {
-    match sign {
-        Operator::Subtract => sub(Dec::zero(), number, mode),
-        Operator::Add | Operator::Multiply | Operator::Divide | Operator::Raise => Ok(number),
+    if sign == b'-' {
+        sub(Dec::zero(), number, mode)
+    } else {
+        Ok(number)
     }
+}
+
+/// The relation that a comparison sign is.
+pub fn relation_in(sign: &[u8]) -> Rel
+    ensures { result ≡ relation_in sign.now }
+{
+    match (at(sign, 0), at(sign, 1)) {
+        (b'=', _) => Rel::Eq,
+        (b'<', b'=') => Rel::Le,
+        (b'<', b'>') => Rel::Ne,
+        (b'<', _) => Rel::Lt,
+        (_, b'=') => Rel::Ge,
+        _ => Rel::Gt,
+    }
+}
+
+/// What AND, OR or XOR make of two conditions.
+pub fn joined_condition(word: u8, a: bool, b: bool) -> bool
+    ensures { result ≡ joined_condition word a b }
+{
+    match word {
+        AND => a && b,
+        OR => a || b,
+        _ => a != b,
+    }
+}
+
+/// Whether two names are written alike.
+pub fn same_bytes(a: &[u8], b: &[u8]) -> bool
+    ensures { result ≡ same_bytes a.now b.now }
+{
+    a == b
 }

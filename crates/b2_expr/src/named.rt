@@ -1,0 +1,78 @@
+// Variables by their names as they are written.
+ghost use Rattle.std.specs.Prelude.{◌≡◌, ◌<◌, ◌≤◌, true, length, MatchResult, IfOk, Ok, Err};
+ghost use Rattle.b2_expr.specs.Named.{bytes_there, is_global, number_there, variable_named};
+ghost use Rattle.b2_vars.specs.Names.{is_legal_name};
+
+use b2_base::Code;
+use b2_base::lexical::{at, dropped, first, is_digit};
+use b2_dec::Dec;
+use b2_vars::{Var, Vars};
+use std::marker::Model;
+
+/// A value of a variable: whether its name has `@`, the variable, and the row and the column, 0 where there is none.
+#[derive(Clone, Copy, Debug, PartialEq, Eq)]
+pub struct Element {
+    pub global: bool,
+    pub var: Var,
+    pub row: u16,
+    pub column: u16,
+}
+
+/// An element, and the variables among which it is looked for.
+#[derive(Drop)]
+pub struct Located<'a> {
+    pub vars: &'a Vars,
+    pub element: Element,
+}
+
+impl<'a> Model for Located<'a> {
+    ghost use Rattle.b2_expr.specs.Named.{Located as Place};
+
+    ghost Value = { Place };
+
+    ghost view = { λ l. record { vars = l.vars.now; element = l.element } };
+}
+
+/// Whether `@` stands before a name.
+pub fn is_global(name: &[u8]) -> bool
+    ensures { result ≡ is_global name.now }
+{
+    first(name) == b'@'
+}
+
+/// The variable of a name as it is written, where it is known whether it is an alpha one and whether subscripts follow.
+pub fn variable_named(alpha: bool, array: bool, name: &[u8]) -> Var
+    ensures { result ≡ variable_named alpha array name.now }
+{
+    let plain = if is_global(name) { dropped(name, 1) } else { name };
+    let second = at(plain, 1);
+    Var {
+        letter: first(plain),
+        digit: if is_digit(second) { Some(second) } else { None },
+        alpha,
+        array,
+    }
+}
+
+impl<'a> Located<'a> {
+    /// The number of a numeric element. P59 and P57 come exactly where the array isn't there or has no such element.
+    pub fn number(&self) -> Result<Dec, Code>
+        requires named { is_legal_name self.now.element.var ≡ true }
+        requires number { self.now.element.var.alpha ≡ false }
+        ensures { result ≡ number_there self.now }
+    {
+        let element = self.element;
+        self.vars.number(element.var, element.row, element.column)
+    }
+
+    /// All bytes of an alpha element. P59 and P57 come as for a number.
+    pub fn bytes(&self) -> Result<&'a [u8], Code>
+        requires named { is_legal_name self.now.element.var ≡ true }
+        requires alpha { self.now.element.var.alpha ≡ true }
+        ensures value { MatchResult result (λ x. bytes_there self.now ≡ Ok x.now) (λ code. bytes_there self.now ≡ Err code) }
+        ensures short { IfOk result (λ x. length x.now ≤ 124) }
+    {
+        let element = self.element;
+        self.vars.alpha(element.var, element.row, element.column)
+    }
+}
