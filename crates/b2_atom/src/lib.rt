@@ -39,7 +39,11 @@ pub use laws::{
     each_tree_is_read_from_its_atoms, each_unit_is_a_statement, no_two_trees_share_atoms,
     what_is_listed_is_read_back, what_is_read_fits_the_rows, what_is_read_is_a_line,
 };
-pub use leaves::number_width;
+pub use leaves::{
+    address_width, alpha_name_width, any_name_width, function_name_width, hex_digit_width,
+    hex_pair_width, image_width, is_alpha_name, literal_width, local_name_width, number_width,
+    numeric_name_width, relation_width, signed_number_width, slot_width, small_width,
+};
 pub use line::{Atoms, Cursor, FoundUnit, read_source};
 pub use sink::Stop;
 use table::{FORMS, ROWS_0, ROWS_1, ROWS_2, ROWS_3};

@@ -1,0 +1,5 @@
+pub mod Leaves
+pub mod Rows
+pub mod Takes
+pub mod Laws
+pub mod Optional
