@@ -1,0 +1,6 @@
+pub mod RowsRead
+pub mod Chains
+pub mod Factors
+pub mod Climbs
+pub mod Choices
+pub mod Operands

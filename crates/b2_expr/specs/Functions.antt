@@ -6,7 +6,7 @@ use Rattle.b2_dec.specs.Rounding.{rnd}
 use Rattle.b2_dec.specs.Arithmetic.{int_of, fix_of, whole_of, sign_of, modulo_of, multiple_of, root_of}
 use Rattle.b2_dec.specs.declared.number.Mode.{Mode}
 use Rattle.b2_dec.specs.declared.number.Mode.TheVariants.{Cut}
-use Rattle.b2_dectext.specs.Grammar.{spaced_number_len}
+use Rattle.b2_dectext.specs.NumberText.{spaced_number_len}
 use Rattle.b2_alpha.specs.Places.{number_in_base, digits_in_base}
 use Rattle.b2_alpha.specs.Relations.{found_place}
 use Rattle.b2_alpha.specs.declared.relation.Rel.{Rel}
@@ -41,6 +41,11 @@ subscript_in z = 65535
 
 abbrev pub subscript : Number → ℕ
 subscript x = subscript_in (fixed x)
+
+-- the column that is written, or 0
+abbrev pub column_of : Option Number → ℕ
+column_of None = 0
+column_of (Some x) = subscript x
 
 -- a function of one number, by its word
 abbrev pub of_one : ℕ → Number → Answer

@@ -4,6 +4,7 @@ use Rattle.b2_base.specs.Byte as byte
 use Rattle.b2_base.specs.Lexical.{is_digit}
 use Rattle.b2_atom.specs.Grammar.{is_among}
 use Rattle.b2_atom.specs.declared.words.TheConstants as word
+use Rattle.b2_atom.specs.declared.rows.TheConstants as row
 use Rattle.b2_expr.specs.declared.kinds.Kind.{Kind}
 use Rattle.b2_expr.specs.declared.kinds.Kind.TheVariants as kind
 use Rattle.b2_expr.specs.declared.kinds.AlphaKind.{AlphaKind}
@@ -30,3 +31,24 @@ alpha_kind_of c =
     else (if c == word.HEX_OPEN then alpha_kind.Hex
     else (if c == word.BIN_OPEN then alpha_kind.Binary
     else alpha_kind.Variable)))
+
+-- the row of the table that each kind has
+abbrev pub kind_row : Kind → ℕ
+kind_row kind.Literal = row.NUMBER
+kind_row kind.Group = row.PARENTHESES
+kind_row kind.Function = row.FUNCTION
+kind_row kind.OfOne = row.OF_ONE
+kind_row kind.OfTwo = row.OF_TWO
+kind_row kind.OfMore = row.OF_MORE
+kind_row kind.OfAlpha = row.OF_ALPHA
+kind_row kind.Position = row.POSITION
+kind_row kind.Bytes = row.VALUE
+kind_row kind.Kept = row.KEPT_NUMBER
+kind_row kind.Variable = row.VARIABLE
+
+abbrev pub alpha_kind_row : AlphaKind → ℕ
+alpha_kind_row alpha_kind.Literal = row.LITERAL
+alpha_kind_row alpha_kind.Part = row.STRING_PART
+alpha_kind_row alpha_kind.Hex = row.HEX
+alpha_kind_row alpha_kind.Binary = row.BINARY
+alpha_kind_row alpha_kind.Variable = row.ALPHA_VARIABLE

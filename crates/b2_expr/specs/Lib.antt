@@ -4,3 +4,8 @@ pub mod Functions
 pub mod Kinds
 pub mod Scope
 pub mod Named
+pub mod Value
+pub mod Levels
+pub mod Further
+pub mod Reads
+pub mod Condition

@@ -51,5 +51,5 @@ joined_condition c false b = if c == word.AND then false else b
 -- whether two names are written alike
 abbrev pub same_bytes : List ℕ → List ℕ → Bool
 same_bytes [] [] = true
-same_bytes (a ∷ as) (b ∷ bs) = a == b && same_bytes as bs
-same_bytes as bs = false
+same_bytes (x ∷ xs) (y ∷ ys) = x == y && same_bytes xs ys
+same_bytes xs ys = false

@@ -1,5 +1,5 @@
 -- What expressions look at.
-use Rattle.std.specs.Prelude.{ℕ, ◌==◌, Option, Some, None, if◌then◌else◌}
+use Rattle.std.specs.Prelude.{ℕ, ◌==◌, option_map, Option, Some, None, if◌then◌else◌}
 use Rattle.b2_dec.specs.Number.{Number}
 use Rattle.b2_dec.specs.declared.number.Mode.{Mode}
 use Rattle.b2_vars.specs.Tables.{VarsState}
@@ -8,6 +8,8 @@ use Rattle.b2_atom.specs.Words.{Text}
 use Rattle.b2_atom.specs.declared.words.TheConstants as word
 use Rattle.b2_expr.specs.Answers.{Answer}
 use Rattle.b2_expr.specs.Operators.{same_bytes}
+use Rattle.b2_expr.specs.declared.scope.Env.{Env}
+use Rattle.b2_expr.specs.declared.scope.Parameter.{Parameter as Lent}
 
 -- a partition's own variables, the `@` variables where there are some, the text whose functions are called, how results
 -- become numbers, the last code, the partition and its terminal
@@ -25,19 +27,19 @@ pub record Parameter : Type 0 where
   pub name : Text
   pub value : Number
 
--- where an expression stands: its surroundings, the parameter of the function in whose expression it is, and how many more
--- calls of functions may open in it
-pub record Scope : Type 0 where
-  pub around : Surroundings
-  pub parameter : Option Parameter
-  pub room : ℕ
-
 -- what an expression looks at: its surroundings, the parameter that hides the variable of its name, and what the functions
 -- that it calls give by their names and arguments
 pub record Context : Type 0 where
   pub around : Surroundings
   pub parameter : Option Parameter
   pub call : ℕ → Number → Answer
+
+-- what the code lends as surroundings, and as a parameter
+abbrev pub surroundings : Env → Surroundings
+surroundings e = record { own = e.own.now; globals = option_map (λ v. v.now) e.globals; home = e.home.now; mode = e.mode; err = e.err; part = e.part; term = e.term }
+
+abbrev pub parameter_seen : Lent → Parameter
+parameter_seen p = record { name = p.name.now; value = p.value }
 
 -- the last code, the partition or the terminal
 abbrev pub kept_number : Surroundings → ℕ → ℕ

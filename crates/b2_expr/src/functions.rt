@@ -1,6 +1,6 @@
 // The functions of the language on values, and the numbers that they and subscripts want.
 ghost use Rattle.std.specs.Prelude.{◌≡◌, ◌≤◌, ◌<◌, ◌+◌, ◌++◌, MatchResult, Ok, Err, OnErr, length};
-ghost use Rattle.b2_expr.specs.Functions.{bytes_in, count_or, counted, extreme, fixed, number_of, of_one, of_text, of_two, place_of, rounded_to, subscript, whole_number};
+ghost use Rattle.b2_expr.specs.Functions.{bytes_in, column_of, count_or, counted, extreme, fixed, number_of, of_one, of_text, of_two, place_of, rounded_to, subscript, whole_number};
 
 use b2_alpha::{Rel, bin, pos, val};
 use b2_atom::words::{ABS_OPEN, FIX_OPEN, INT_OPEN, LEN_OPEN, MAX_OPEN, ROUND_OPEN, SGN_OPEN};
@@ -45,6 +45,16 @@ pub fn subscript(x: Dec) -> u16
     match fixed(x) {
         Some(n) if n >= 0 && n < 65_535 => n as u16,
         _ => 65_535,
+    }
+}
+
+/// The column that is written, or 0.
+pub fn column_of(column: Option<Dec>) -> u16
+    ensures { result ≡ column_of column }
+{
+    match column {
+        Some(x) => subscript(x),
+        None => 0,
     }
 }
 

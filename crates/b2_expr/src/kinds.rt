@@ -1,11 +1,16 @@
 // The kinds of operands, by their first bytes.
 ghost use Rattle.std.specs.Prelude.{◌≡◌};
+ghost use Rattle.b2_atom.specs.Grammar.{starts};
+ghost use Rattle.b2_atom.specs.Leaves.{is_alpha_name};
+ghost use Rattle.b2_atom.specs.declared.words.Origin.TheVariants.{Atoms};
+ghost use Rattle.b2_atom.specs.declared.forms.Start.TheVariants as start;
 ghost use Rattle.b2_expr.specs.Kinds.{alpha_kind_of, kind_of};
 
 use b2_atom::words::{
     ABS_OPEN, BIN_OPEN, ERR, FN, HASH_TERM, HEX_OPEN, LEN_OPEN, MAX_OPEN, MIN_OPEN, MOD_OPEN,
     NUM_OPEN, POS_OPEN, ROUND_OPEN, SQR_OPEN, STR_OPEN, VAL_OPEN,
 };
+use b2_base::lexical::{at, first, is_digit, is_letter};
 
 /// The kinds of numeric operands.
 #[derive(Clone, Copy, Debug, PartialEq, Eq)]
@@ -79,4 +84,21 @@ pub fn alpha_kind_of(byte: u8) -> AlphaKind
         BIN_OPEN => AlphaKind::Binary,
         _ => AlphaKind::Variable,
     }
+}
+
+/// Whether an alpha expression begins at a text: with a quote, STR(, HEX(, BIN(, or a name with `$`.
+pub fn begins_alpha(text: &[u8]) -> bool
+    ensures { result ≡ starts Atoms start.Alpha text.now }
+{
+    let byte = first(text);
+    byte == b'"' || byte >= HEX_OPEN && byte <= BIN_OPEN || is_alpha_name(text)
+}
+
+/// Whether a name with `$` stands at a text.
+fn is_alpha_name(text: &[u8]) -> bool
+    ensures { result ≡ is_alpha_name Atoms text.now }
+{
+    let start = if first(text) == b'@' { 1 } else { 0 };
+    is_letter(at(text, start))
+        && at(text, if is_digit(at(text, start + 1)) { start + 2 } else { start + 1 }) == b'$'
 }

@@ -1,6 +1,6 @@
 // What expressions look at.
 ghost use Rattle.std.specs.Prelude.{◌≡◌, option_map};
-ghost use Rattle.b2_expr.specs.Scope.{hidden_by, kept_number};
+ghost use Rattle.b2_expr.specs.Scope.{hidden_by, kept_number, parameter_seen, surroundings};
 
 use crate::operators::same_bytes;
 use b2_atom::words::{ERR, HASH_PART};
@@ -8,7 +8,6 @@ use b2_base::{Part, Term};
 use b2_dec::{Dec, Mode};
 use b2_text::Text;
 use b2_vars::Vars;
-use std::marker::Model;
 
 /// What expressions look at.
 #[derive(Drop)]
@@ -29,15 +28,6 @@ pub struct Env<'a> {
     pub term: Term,
 }
 
-impl<'a> Model for Env<'a> {
-    ghost use Rattle.std.specs.Prelude.{option_map};
-    ghost use Rattle.b2_expr.specs.Scope.{Surroundings};
-
-    ghost Value = { Surroundings };
-
-    ghost view = { λ e. record { own = e.own.now; globals = option_map (λ v. v.now) e.globals; home = e.home.now; mode = e.mode; err = e.err; part = e.part; term = e.term } };
-}
-
 /// The parameter of a function that is called: its name as it is written, and its value.
 #[derive(Clone, Copy)]
 pub struct Parameter<'a> {
@@ -56,18 +46,9 @@ pub struct Scope<'a> {
     pub room: u8,
 }
 
-impl<'a> Model for Scope<'a> {
-    ghost use Rattle.std.specs.Prelude.{option_map};
-    ghost use Rattle.b2_expr.specs.Scope.{Scope as ScopeState};
-
-    ghost Value = { ScopeState };
-
-    ghost view = { λ s. record { around = s.env.now; parameter = option_map (λ p. record { name = p.name.now; value = p.value }) s.parameter; room = s.room } };
-}
-
 /// The value of the parameter, where a name is its name.
 pub fn hidden_by(parameter: Option<Parameter<'_>>, name: &[u8]) -> Option<Dec>
-    ensures { result ≡ hidden_by (option_map (λ p. record { name = p.name.now; value = p.value }) parameter) name.now }
+    ensures { result ≡ hidden_by (option_map parameter_seen parameter) name.now }
 {
     match parameter {
         Some(parameter) if same_bytes(parameter.name, name) => Some(parameter.value),
@@ -77,7 +58,7 @@ pub fn hidden_by(parameter: Option<Parameter<'_>>, name: &[u8]) -> Option<Dec>
 
 /// ERR, #PART or #TERM.
 pub fn kept_number(env: &Env<'_>, word: u8) -> u8
-    ensures { result ≡ kept_number env.now word }
+    ensures { result ≡ kept_number (surroundings env.now) word }
 {
     match word {
         ERR => env.err,

@@ -1,0 +1,686 @@
+// The values of numeric and of alpha expressions, along their bytes.
+ghost use Rattle.std.specs.Prelude.{◌≡◌, ◌≤◌, ◌∷◌, ◌||◌, [], true, length, MatchResult, IfOk, IfSome, Ok, Err, option_map};
+ghost use Rattle.b2_base.specs.Byte as byte;
+ghost use Rattle.b2_base.specs.Lexical.{is_digit, is_letter};
+ghost use Rattle.b2_base.specs.declared.codes.TheConstants.{P38_NO_DEFFN};
+ghost use Rattle.b2_dectext.specs.NumberText.{number_value};
+ghost use Rattle.b2_vars.specs.Names.{is_legal_name};
+ghost use Rattle.b2_atom.specs.declared.rows.TheConstants as row;
+ghost use Rattle.b2_atom.specs.declared.forms.Start.TheVariants as start;
+ghost use Rattle.b2_atom.specs.declared.forms.Leaf.TheVariants as leaf;
+ghost use Rattle.b2_rows.specs.Rows.{is_part, tree_at, after_part};
+ghost use Rattle.b2_rows.specs.Optional.{maybe_part, maybe_tree, after_maybe};
+ghost use Rattle.b2_expr.specs.Answers.{or_code};
+ghost use Rattle.b2_expr.specs.Functions.{joined_text};
+ghost use Rattle.b2_expr.specs.Further.{after_further, are_further, further_tree};
+ghost use Rattle.b2_expr.specs.Kinds.{alpha_kind_row, kind_row};
+ghost use Rattle.b2_expr.specs.Levels.{are_lists, ends, has_sign, pick, rests, row_of, spans};
+ghost use Rattle.b2_expr.specs.Named.{is_alpha_kind, name_row, place_seen, variables_of};
+ghost use Rattle.b2_expr.specs.Scope.{surroundings};
+ghost use Rattle.b2_expr.specs.Reads.{Appends, Gives};
+ghost use Rattle.b2_expr.specs.Value as meaning;
+ghost use Rattle.b2_expr.specs.Value.{called, context, extremes, function_tree, hex_bytes, literal_bytes, literal_number, located, part_of, second, subscripts, text_row, value};
+ghost use Rattle.b2_expr.specs.declared.operators.Level.TheVariants as level_of;
+ghost use Rattle.b2_expr.specs.declared.kinds.Kind.TheVariants as kind_is;
+ghost use Rattle.b2_expr.specs.declared.kinds.AlphaKind.TheVariants as alpha_kind_is;
+
+use crate::functions::{
+    byte_count, bytes_in, column_of, counted, extreme, number_of, of_one, of_text, of_two, place_of,
+    subscript, whole_number,
+};
+use crate::kinds::{AlphaKind, Kind, alpha_kind_of, kind_of};
+use crate::named::{Element, Located, NameKind, Subscripts, is_global, variable_named};
+use crate::operators::{Level, joined, relation_in, with_sign};
+use crate::scope::{Env, Parameter, Scope, hidden_by, kept_number};
+use b2_alpha::value_len;
+use b2_atom::{Origin, number_width};
+use b2_base::Code;
+use b2_base::codes::{A04_TOO_DEEP, P34_RANGE, P38_NO_DEFFN, X72_TOO_LONG, X77_NO_PARTITION};
+use b2_base::lexical::{at, dropped, first, front, hex_value, is_digit};
+use b2_dec::{Bytes, Dec};
+use b2_dectext::literal;
+use b2_vars::Vars;
+
+/// The level of what the operators of a level join.
+fn next(level: Level) -> Level
+    ensures { result ≡ meaning.next level }
+{
+    match level {
+        Level::Sum => Level::Product,
+        Level::Product => Level::Factor,
+        Level::Factor => Level::Power,
+        Level::Power | Level::Operand => Level::Operand,
+    }
+}
+
+/// Whether a sign stands before an item of a level.
+fn is_signed(wanted: Level, byte: u8) -> bool
+    ensures { result ≡ has_sign wanted byte }
+{
+    match wanted {
+        Level::Sum | Level::Product | Level::Factor => byte == b'+' || byte == b'-',
+        Level::Power | Level::Operand => false,
+    }
+}
+
+/// The level of the operator that a byte is, where one of that level may still follow in what is wanted.
+fn operator_at(wanted: Level, top: Level, byte: u8) -> Option<Level>
+    ensures { result ≡ pick (spans wanted top) byte }
+{
+    match (byte, wanted, top) {
+        (b'+' | b'-', Level::Sum, Level::Sum | Level::Product | Level::Power) => Some(Level::Sum),
+        (b'*' | b'/', Level::Sum | Level::Product, Level::Product | Level::Power) => Some(
+            Level::Product,
+        ),
+        (b'^', Level::Sum | Level::Product | Level::Factor | Level::Power, Level::Power) => Some(
+            Level::Power,
+        ),
+        _ => None,
+    }
+}
+
+/// A number that is written out: C60 or C61 where it is out of range.
+fn literal_at(text: &[u8]) -> Result<(Dec, &[u8]), Code>
+    requires part { is_part row.NUMBER text.now ≡ true }
+    ensures { Gives (literal_number (tree_at row.NUMBER text.now)) (after_part row.NUMBER text.now) result }
+{
+    let width = number_width(Origin::Atoms, text);
+    match literal(front(text, width)) {
+        Some((_, Ok(number))) => Ok((number, dropped(text, width))),
+        Some((_, Err(code))) => Err(code),
+        None => Err(Code::known(P34_RANGE)),
+    }
+}
+
+/// The variables of which a name speaks: X77 where there are no `@` variables.
+fn variables_of<'a>(env: &Env<'a>, name: &[u8]) -> Result<&'a Vars, Code>
+    ensures { MatchResult result (λ vars. variables_of (surroundings env.now) name.now ≡ Ok vars.now) (λ code. variables_of (surroundings env.now) name.now ≡ Err code) }
+{
+    if !is_global(name) {
+        return Ok(env.own);
+    }
+    match env.globals {
+        Some(globals) => Ok(globals),
+        None => Err(Code::known(X77_NO_PARTITION)),
+    }
+}
+
+/// How many bytes a name takes without its `$`.
+fn name_width(text: &[u8]) -> usize {
+    let start = if is_global(text) { 2 } else { 1 };
+    if is_digit(at(text, start)) {
+        start + 1
+    } else {
+        start
+    }
+}
+
+/// What an expression of a level begins with, and the level of what it is.
+#[cycle(values)]
+fn head<'a>(
+    wanted: Level,
+    s: &Scope<'_>,
+    text: &'a [u8],
+) -> Result<(Dec, Level, &'a [u8]), Code>
+    requires part { is_part (row_of wanted) text.now ≡ true }
+    ensures { MatchResult result (λ p. (value (context s.now) wanted (tree_at (row_of wanted) text.now) ≡ ends (context s.now) (spans wanted p.1) (Ok p.0) p.2.now) × (are_lists (spans wanted p.1) p.2.now ≡ true) × (after_part (row_of wanted) text.now ≡ rests (spans wanted p.1) p.2.now) × (length p.2.now ≤ length text.now)) (λ code. value (context s.now) wanted (tree_at (row_of wanted) text.now) ≡ Err code) }
+{
+    let sign = first(text);
+    if is_signed(wanted, sign) {
+        let (number, rest) = match climb(Level::Power, s, dropped(text, 1)) {
+            Ok(found) => found,
+            Err(code) => return Err(code),
+        };
+        return match with_sign(s.env.mode, sign, number) {
+            Ok(number) => Ok((number, Level::Product, rest)),
+            Err(code) => Err(code),
+        };
+    }
+    match operand(s, text) {
+        Ok((number, rest)) => Ok((number, Level::Power, rest)),
+        Err(code) => Err(code),
+    }
+}
+
+/// The value of an expression of a level, and what stands after it.
+#[cycle(values)]
+pub fn climb<'a>(wanted: Level, s: &Scope<'_>, text: &'a [u8]) -> Result<(Dec, &'a [u8]), Code>
+    requires part { is_part (row_of wanted) text.now ≡ true }
+    ensures { Gives (value (context s.now) wanted (tree_at (row_of wanted) text.now)) (after_part (row_of wanted) text.now) result }
+{
+    let (start, above, after) = match head(wanted, s, text) {
+        Ok(found) => found,
+        Err(code) => return Err(code),
+    };
+    let mut number = start;
+    let mut top = above;
+    let mut left = after;
+    while let Some(level) = operator_at(wanted, top, first(left)) {
+        let operator = first(left);
+        let (other, rest) = match climb(next(level), s, dropped(left, 1)) {
+            Ok(found) => found,
+            Err(code) => return Err(code),
+        };
+        number = match joined(s.env.mode, operator, number, other) {
+            Ok(found) => found,
+            Err(code) => return Err(code),
+        };
+        top = level;
+        left = rest;
+    }
+    Ok((number, left))
+}
+
+/// An operand.
+#[cycle(values)]
+fn operand<'a>(s: &Scope<'_>, text: &'a [u8]) -> Result<(Dec, &'a [u8]), Code>
+    requires part { is_part row.OPERAND text.now ≡ true }
+    ensures { Gives (value (context s.now) level_of.Operand (tree_at row.OPERAND text.now)) (after_part row.OPERAND text.now) result }
+{
+    match kind_of(first(text)) {
+        Kind::Literal => literal_at(text),
+        Kind::Group => group(s, text),
+        Kind::Function => function(s, text),
+        Kind::OfOne => of_one_at(s, text),
+        Kind::OfTwo => of_two_at(s, text),
+        Kind::OfMore => of_more_at(s, text),
+        Kind::OfAlpha => of_alpha_at(s, text),
+        Kind::Position => position_at(s, text),
+        Kind::Bytes => bytes_at(s, text),
+        Kind::Kept => {
+            let number = kept_number(s.env, first(text));
+            Ok((whole_number(u64::from(number)), dropped(text, 1)))
+        }
+        Kind::Variable => variable(s, text),
+    }
+}
+
+/// An expression in parentheses.
+#[cycle(values)]
+fn group<'a>(s: &Scope<'_>, text: &'a [u8]) -> Result<(Dec, &'a [u8]), Code>
+    requires part { is_part row.PARENTHESES text.now ≡ true }
+    ensures { Gives (meaning.operand (context s.now) kind_is.Group (tree_at row.PARENTHESES text.now)) (after_part row.PARENTHESES text.now) result }
+{
+    match climb(Level::Sum, s, dropped(text, 1)) {
+        Ok((number, rest)) => Ok((number, dropped(rest, 1))),
+        Err(code) => Err(code),
+    }
+}
+
+/// A call of a DEFFN.
+#[cycle(values)]
+fn function<'a>(s: &Scope<'_>, text: &'a [u8]) -> Result<(Dec, &'a [u8]), Code>
+    requires part { is_part row.FUNCTION text.now ≡ true }
+    ensures { Gives (meaning.operand (context s.now) kind_is.Function (tree_at row.FUNCTION text.now)) (after_part row.FUNCTION text.now) result }
+{
+    let (argument, rest) = match climb(Level::Sum, s, dropped(text, 3)) {
+        Ok(found) => found,
+        Err(code) => return Err(code),
+    };
+    match call(s, at(text, 1), argument) {
+        Ok(number) => Ok((number, dropped(rest, 1))),
+        Err(code) => Err(code),
+    }
+}
+
+/// What the function of a name gives for an argument: P38 where the home has none, A04 where sixteen calls are open.
+#[cycle(values)]
+fn call(s: &Scope<'_>, name: u8, argument: Dec) -> Result<Dec, Code>
+    requires named { (is_letter name || is_digit name) ≡ true }
+    ensures { result ≡ called (surroundings s.now.env.now) s.now.room name argument }
+{
+    let Some(unit) = definition_of(s.env, name) else {
+        return Err(Code::known(P38_NO_DEFFN));
+    };
+    if s.room == 0 {
+        return Err(Code::known(A04_TOO_DEEP));
+    }
+    let named = dropped(unit, 3);
+    let width = name_width(named);
+    let inner = Scope {
+        env: s.env,
+        parameter: Some(Parameter {
+            name: front(named, width),
+            value: argument,
+        }),
+        room: s.room - 1,
+    };
+    match climb(Level::Sum, &inner, dropped(dropped(named, width), 2)) {
+        Ok((number, _)) => Ok(number),
+        Err(code) => Err(code),
+    }
+}
+
+/// The unit of the DEFFN of a name.
+fn definition_of<'a>(env: &Env<'a>, name: u8) -> Option<&'a [u8]>
+    requires named { (is_letter name || is_digit name) ≡ true }
+    ensures tree { or_code P38_NO_DEFFN (option_map (λ unit. tree_at row.DEFFN unit.now) result) ≡ function_tree name env.now.home.now }
+    ensures part { IfSome result (λ unit. is_part row.DEFFN unit.now ≡ true) }
+{
+    let home = env.home;
+    let Some(spot) = home.function(name) else {
+        return None;
+    };
+    let Some(line) = home.line(spot.line) else {
+        return None;
+    };
+    match line.atoms.unit(usize::from(spot.unit)) {
+        Some(cursor) => Some(cursor.rest()),
+        None => None,
+    }
+}
+
+/// ABS, INT, FIX, SGN or SQR.
+#[cycle(values)]
+fn of_one_at<'a>(s: &Scope<'_>, text: &'a [u8]) -> Result<(Dec, &'a [u8]), Code>
+    requires part { is_part row.OF_ONE text.now ≡ true }
+    ensures { Gives (meaning.operand (context s.now) kind_is.OfOne (tree_at row.OF_ONE text.now)) (after_part row.OF_ONE text.now) result }
+{
+    let (x, rest) = match climb(Level::Sum, s, dropped(text, 1)) {
+        Ok(found) => found,
+        Err(code) => return Err(code),
+    };
+    match of_one(first(text), x) {
+        Ok(number) => Ok((number, dropped(rest, 1))),
+        Err(code) => Err(code),
+    }
+}
+
+/// ROUND or MOD.
+#[cycle(values)]
+fn of_two_at<'a>(s: &Scope<'_>, text: &'a [u8]) -> Result<(Dec, &'a [u8]), Code>
+    requires part { is_part row.OF_TWO text.now ≡ true }
+    ensures { Gives (meaning.operand (context s.now) kind_is.OfTwo (tree_at row.OF_TWO text.now)) (after_part row.OF_TWO text.now) result }
+{
+    let (x, after) = match climb(Level::Sum, s, dropped(text, 1)) {
+        Ok(found) => found,
+        Err(code) => return Err(code),
+    };
+    let (y, rest) = match climb(Level::Sum, s, dropped(after, 1)) {
+        Ok(found) => found,
+        Err(code) => return Err(code),
+    };
+    match of_two(s.env.mode, first(text), x, y) {
+        Ok(number) => Ok((number, dropped(rest, 1))),
+        Err(code) => Err(code),
+    }
+}
+
+/// MAX or MIN.
+#[cycle(values)]
+fn of_more_at<'a>(s: &Scope<'_>, text: &'a [u8]) -> Result<(Dec, &'a [u8]), Code>
+    requires part { is_part row.OF_MORE text.now ≡ true }
+    ensures { Gives (meaning.operand (context s.now) kind_is.OfMore (tree_at row.OF_MORE text.now)) (after_part row.OF_MORE text.now) result }
+{
+    let word = first(text);
+    let (number, after) = match climb(Level::Sum, s, dropped(text, 1)) {
+        Ok(found) => found,
+        Err(code) => return Err(code),
+    };
+    match further_numbers(word, number, s, after) {
+        Ok((number, rest)) => Ok((number, dropped(rest, 1))),
+        Err(code) => Err(code),
+    }
+}
+
+/// The greatest or the least of a number and of those that follow it, of which there are at most seven.
+#[cycle(values)]
+fn further_numbers<'a>(
+    word: u8,
+    start: Dec,
+    s: &Scope<'_>,
+    text: &'a [u8],
+) -> Result<(Dec, &'a [u8]), Code>
+    requires part { are_further 7 text.now ≡ true }
+    ensures { Gives (extremes (context s.now) word (Ok start) (further_tree 7 text.now)) (after_further 7 text.now) result }
+{
+    let mut number = start;
+    let mut left = text;
+    for _ in 0..7 {
+        if first(left) != b',' {
+            return Ok((number, left));
+        }
+        let (other, rest) = match climb(Level::Sum, s, dropped(left, 1)) {
+            Ok(found) => found,
+            Err(code) => return Err(code),
+        };
+        number = extreme(word, number, other);
+        left = rest;
+    }
+    Ok((number, left))
+}
+
+/// LEN or NUM.
+#[cycle(values)]
+fn of_alpha_at<'a>(s: &Scope<'_>, text: &'a [u8]) -> Result<(Dec, &'a [u8]), Code>
+    requires part { is_part row.OF_ALPHA text.now ≡ true }
+    ensures { Gives (meaning.operand (context s.now) kind_is.OfAlpha (tree_at row.OF_ALPHA text.now)) (after_part row.OF_ALPHA text.now) result }
+{
+    let mut value = Bytes::new();
+    match alpha(s, dropped(text, 1), &mut value) {
+        Ok(rest) => Ok((of_text(first(text), value.bytes()), dropped(rest, 1))),
+        Err(code) => Err(code),
+    }
+}
+
+/// POS.
+#[cycle(values)]
+fn position_at<'a>(s: &Scope<'_>, text: &'a [u8]) -> Result<(Dec, &'a [u8]), Code>
+    requires part { is_part row.POSITION text.now ≡ true }
+    ensures { Gives (meaning.operand (context s.now) kind_is.Position (tree_at row.POSITION text.now)) (after_part row.POSITION text.now) result }
+{
+    let mut value = Bytes::new();
+    let sign = match alpha(s, dropped(text, 1), &mut value) {
+        Ok(rest) => rest,
+        Err(code) => return Err(code),
+    };
+    let width = relation_width(sign);
+    let mut wanted = Bytes::new();
+    match alpha(s, dropped(sign, width), &mut wanted) {
+        Ok(rest) => {
+            let relation = relation_in(front(sign, width));
+            Ok((place_of(relation, value.bytes(), wanted.bytes()), dropped(rest, 1)))
+        }
+        Err(code) => Err(code),
+    }
+}
+
+/// How many bytes a comparison sign takes.
+pub fn relation_width(text: &[u8]) -> usize {
+    match (at(text, 0), at(text, 1)) {
+        (b'<', b'=' | b'>') | (b'>', b'=') => 2,
+        _ => 1,
+    }
+}
+
+/// VAL.
+#[cycle(values)]
+fn bytes_at<'a>(s: &Scope<'_>, text: &'a [u8]) -> Result<(Dec, &'a [u8]), Code>
+    requires part { is_part row.VALUE text.now ≡ true }
+    ensures { Gives (meaning.operand (context s.now) kind_is.Bytes (tree_at row.VALUE text.now)) (after_part row.VALUE text.now) result }
+{
+    let mut value = Bytes::new();
+    let after = match alpha(s, dropped(text, 1), &mut value) {
+        Ok(rest) => rest,
+        Err(code) => return Err(code),
+    };
+    let (count, rest) = match second(s, after) {
+        Ok(found) => found,
+        Err(code) => return Err(code),
+    };
+    let count = match byte_count(count) {
+        Ok(count) => count,
+        Err(code) => return Err(code),
+    };
+    match number_of(value.bytes(), count) {
+        Ok(number) => Ok((number, dropped(rest, 1))),
+        Err(code) => Err(code),
+    }
+}
+
+/// A number after a comma, where one is written.
+#[cycle(values)]
+fn second<'a>(s: &Scope<'_>, text: &'a [u8]) -> Result<(Option<Dec>, &'a [u8]), Code>
+    requires part { maybe_part (start.Code byte.comma) row.COMMA_NUMBER text.now ≡ true }
+    ensures { Gives (second (context s.now) (maybe_tree (start.Code byte.comma) row.COMMA_NUMBER text.now)) (after_maybe (start.Code byte.comma) row.COMMA_NUMBER text.now) result }
+{
+    if first(text) != b',' {
+        return Ok((None, text));
+    }
+    match climb(Level::Sum, s, dropped(text, 1)) {
+        Ok((number, rest)) => Ok((Some(number), rest)),
+        Err(code) => Err(code),
+    }
+}
+
+/// The row and the column of subscripts, 0 where there is none.
+#[cycle(values)]
+fn subscripts<'a>(s: &Scope<'_>, text: &'a [u8]) -> Result<(Subscripts, &'a [u8]), Code>
+    requires part { maybe_part (start.Code byte.opening) row.SUBSCRIPTS text.now ≡ true }
+    ensures { Gives (subscripts (context s.now) (maybe_tree (start.Code byte.opening) row.SUBSCRIPTS text.now)) (after_maybe (start.Code byte.opening) row.SUBSCRIPTS text.now) result }
+{
+    if first(text) != b'(' {
+        return Ok((Subscripts { row: 0, column: 0 }, text));
+    }
+    let (row, after) = match climb(Level::Sum, s, dropped(text, 1)) {
+        Ok(found) => found,
+        Err(code) => return Err(code),
+    };
+    let (column, rest) = match second(s, after) {
+        Ok(found) => found,
+        Err(code) => return Err(code),
+    };
+    let at = Subscripts {
+        row: subscript(row),
+        column: column_of(column),
+    };
+    Ok((at, dropped(rest, 1)))
+}
+
+/// The element that a name and its subscripts stand for. X77 comes at the name, before its subscripts.
+#[cycle(values)]
+pub fn located<'a, 'v>(
+    s: &Scope<'v>,
+    kind: NameKind,
+    text: &'a [u8],
+) -> Result<(Located<'v>, &'a [u8]), Code>
+    requires part { is_part (name_row kind) text.now ≡ true }
+    ensures place { MatchResult result (λ p. (located (context s.now) (is_alpha_kind kind) (tree_at (name_row kind) text.now) ≡ Ok (place_seen p.0)) × (p.1.now ≡ after_part (name_row kind) text.now)) (λ code. located (context s.now) (is_alpha_kind kind) (tree_at (name_row kind) text.now) ≡ Err code) }
+    ensures name { IfOk result (λ p. (is_legal_name p.0.element.var ≡ true) × (p.0.element.var.alpha ≡ is_alpha_kind kind)) }
+{
+    let width = name_width(text);
+    let name = front(text, width);
+    let vars = match variables_of(s.env, name) {
+        Ok(vars) => vars,
+        Err(code) => return Err(code),
+    };
+    let alpha = kind.is_alpha();
+    let after = dropped(text, if alpha { width + 1 } else { width });
+    let (at, rest) = match subscripts(s, after) {
+        Ok(found) => found,
+        Err(code) => return Err(code),
+    };
+    let element = Element {
+        global: is_global(name),
+        var: variable_named(alpha, first(after) == b'(', name),
+        row: at.row,
+        column: at.column,
+    };
+    Ok((Located { vars, element }, rest))
+}
+
+/// A numeric variable: the parameter of its name, and else the number that it has.
+#[cycle(values)]
+fn variable<'a>(s: &Scope<'_>, text: &'a [u8]) -> Result<(Dec, &'a [u8]), Code>
+    requires part { is_part row.VARIABLE text.now ≡ true }
+    ensures { Gives (meaning.operand (context s.now) kind_is.Variable (tree_at row.VARIABLE text.now)) (after_part row.VARIABLE text.now) result }
+{
+    let width = name_width(text);
+    let after = dropped(text, width);
+    if first(after) != b'(' {
+        if let Some(number) = hidden_by(s.parameter, front(text, width)) {
+            return Ok((number, after));
+        }
+    }
+    let (located, rest) = match located(s, NameKind::Number, text) {
+        Ok(found) => found,
+        Err(code) => return Err(code),
+    };
+    match located.number() {
+        Ok(number) => Ok((number, rest)),
+        Err(code) => Err(code),
+    }
+}
+
+/// Puts bytes after others, X72 where they are more than 255.
+fn join(bytes: &[u8], into: &mut Bytes) -> Result<(), Code>
+    ensures { MatchResult result (λ done. joined_text into.old bytes.now ≡ Ok into.new) (λ code. joined_text into.old bytes.now ≡ Err code) }
+{
+    if bytes.len() + into.len() > 255 {
+        return Err(Code::known(X72_TOO_LONG));
+    }
+    into.extend(bytes);
+    Ok(())
+}
+
+/// An alpha expression: its bytes, and what stands after it.
+#[cycle(values)]
+pub fn alpha<'a>(s: &Scope<'_>, text: &'a [u8], into: &mut Bytes) -> Result<&'a [u8], Code>
+    requires part { is_part row.ALPHA text.now ≡ true }
+    requires empty { into.old ≡ [] }
+    ensures { MatchResult result (λ left. (meaning.text (context s.now) (tree_at row.ALPHA text.now) ≡ Ok into.new) × (left.now ≡ after_part row.ALPHA text.now)) (λ code. meaning.text (context s.now) (tree_at row.ALPHA text.now) ≡ Err code) }
+{
+    let mut left = match alpha_operand(s, text, into) {
+        Ok(rest) => rest,
+        Err(code) => return Err(code),
+    };
+    while first(left) == b'&' {
+        left = match alpha_operand(s, dropped(left, 1), into) {
+            Ok(rest) => rest,
+            Err(code) => return Err(code),
+        };
+    }
+    Ok(left)
+}
+
+/// An alpha operand, put after what stands before it.
+#[cycle(values)]
+fn alpha_operand<'a>(s: &Scope<'_>, text: &'a [u8], into: &mut Bytes) -> Result<&'a [u8], Code>
+    requires part { is_part row.ALPHA_OPERAND text.now ≡ true }
+    ensures { Appends (text_row (context s.now) (tree_at row.ALPHA_OPERAND text.now)) (after_part row.ALPHA_OPERAND text.now) into.old into.new result }
+{
+    match alpha_kind_of(first(text)) {
+        AlphaKind::Literal => quoted_at(text, into),
+        AlphaKind::Part => part_at(s, text, into),
+        AlphaKind::Hex => hex_at(text, into),
+        AlphaKind::Binary => binary_at(s, text, into),
+        AlphaKind::Variable => alpha_variable(s, text, into),
+    }
+}
+
+/// Bytes in quotes.
+fn quoted_at<'a>(text: &'a [u8], into: &mut Bytes) -> Result<&'a [u8], Code>
+    requires part { is_part row.LITERAL text.now ≡ true }
+    ensures { Appends (literal_bytes (tree_at row.LITERAL text.now)) (after_part row.LITERAL text.now) into.old into.new result }
+{
+    let inner = dropped(text, 1);
+    let width = quoted_width(inner);
+    join(front(inner, width), into)?;
+    Ok(dropped(inner, width + 1))
+}
+
+/// How many bytes stand before a quote.
+fn quoted_width(text: &[u8]) -> usize {
+    let mut width = 0;
+    for byte in text {
+        if *byte == b'"' {
+            return width;
+        }
+        width += 1;
+    }
+    width
+}
+
+/// HEX.
+fn hex_at<'a>(text: &'a [u8], into: &mut Bytes) -> Result<&'a [u8], Code>
+    requires part { is_part row.HEX text.now ≡ true }
+    ensures { Appends (hex_bytes (tree_at row.HEX text.now)) (after_part row.HEX text.now) into.old into.new result }
+{
+    let mut left = dropped(text, 1);
+    while first(left) != b')' {
+        let byte = hex_value(first(left)) * 16 + hex_value(at(left, 1));
+        join(&[byte], into)?;
+        left = dropped(left, 2);
+    }
+    Ok(dropped(left, 1))
+}
+
+/// STR.
+#[cycle(values)]
+fn part_at<'a>(s: &Scope<'_>, text: &'a [u8], into: &mut Bytes) -> Result<&'a [u8], Code>
+    requires part { is_part row.STRING_PART text.now ≡ true }
+    ensures { Appends (meaning.text_operand (context s.now) alpha_kind_is.Part (tree_at row.STRING_PART text.now)) (after_part row.STRING_PART text.now) into.old into.new result }
+{
+    let (located, after) = match located(s, NameKind::AlphaReceiver, dropped(text, 1)) {
+        Ok(found) => found,
+        Err(code) => return Err(code),
+    };
+    let bytes = match located.bytes() {
+        Ok(bytes) => bytes,
+        Err(code) => return Err(code),
+    };
+    let (from, after) = match climb(Level::Sum, s, dropped(after, 1)) {
+        Ok(found) => found,
+        Err(code) => return Err(code),
+    };
+    let (count, rest) = match second(s, after) {
+        Ok(found) => found,
+        Err(code) => return Err(code),
+    };
+    match part_of(bytes, from, count) {
+        Ok(bytes) => {
+            join(bytes, into)?;
+            Ok(dropped(rest, 1))
+        }
+        Err(code) => Err(code),
+    }
+}
+
+/// The bytes from one place on, and as many as are counted, or all: P34 where they aren't there.
+pub fn part_of(bytes: &[u8], from: Dec, count: Option<Dec>) -> Result<&[u8], Code>
+    requires short { length bytes.now ≤ 124 }
+    ensures { MatchResult result (λ part. part_of bytes.now from count ≡ Ok part.now) (λ code. part_of bytes.now from count ≡ Err code) }
+{
+    let length = bytes.len() as u8;
+    let from = counted(1, length, from)?;
+    let left = dropped(bytes, usize::from(from) - 1);
+    match count {
+        None => Ok(left),
+        Some(count) => {
+            let count = counted(1, left.len() as u8, count)?;
+            Ok(front(left, usize::from(count)))
+        }
+    }
+}
+
+/// BIN.
+#[cycle(values)]
+fn binary_at<'a>(s: &Scope<'_>, text: &'a [u8], into: &mut Bytes) -> Result<&'a [u8], Code>
+    requires part { is_part row.BINARY text.now ≡ true }
+    ensures { Appends (meaning.text_operand (context s.now) alpha_kind_is.Binary (tree_at row.BINARY text.now)) (after_part row.BINARY text.now) into.old into.new result }
+{
+    let (number, after) = match climb(Level::Sum, s, dropped(text, 1)) {
+        Ok(found) => found,
+        Err(code) => return Err(code),
+    };
+    let (count, rest) = match second(s, after) {
+        Ok(found) => found,
+        Err(code) => return Err(code),
+    };
+    let count = byte_count(count)?;
+    let mut bytes = [0; 4];
+    let bytes = &mut bytes[..usize::from(count)];
+    bytes_in(number, bytes)?;
+    join(bytes, into)?;
+    Ok(dropped(rest, 1))
+}
+
+/// An alpha variable: its bytes but the blanks at their end.
+#[cycle(values)]
+fn alpha_variable<'a>(s: &Scope<'_>, text: &'a [u8], into: &mut Bytes) -> Result<&'a [u8], Code>
+    requires part { is_part row.ALPHA_VARIABLE text.now ≡ true }
+    ensures { Appends (meaning.text_operand (context s.now) alpha_kind_is.Variable (tree_at row.ALPHA_VARIABLE text.now)) (after_part row.ALPHA_VARIABLE text.now) into.old into.new result }
+{
+    let (located, rest) = match located(s, NameKind::Alpha, text) {
+        Ok(found) => found,
+        Err(code) => return Err(code),
+    };
+    let bytes = match located.bytes() {
+        Ok(bytes) => bytes,
+        Err(code) => return Err(code),
+    };
+    match join(front(bytes, value_len(bytes)), into) {
+        Ok(()) => Ok(rest),
+        Err(code) => Err(code),
+    }
+}
