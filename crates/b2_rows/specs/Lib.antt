@@ -1,4 +1,7 @@
 pub mod Leaves
 pub mod Rows
 pub mod Takes
+pub mod Links
+pub mod Chains
+pub mod Choices
 pub mod Laws
