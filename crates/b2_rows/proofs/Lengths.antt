@@ -64,14 +64,14 @@ rest_no_longer (Many s n ∷ is) t = over _ _ t (rest_no_longer is _) (list_no_l
 rest_no_longer (Statement p ∷ is) t = rest_no_longer is t
 
 -- a byte that isn't 0 stands in a text that isn't empty
-byte_shorter : (c : ℕ) (t : Text) → nat_lt 0 c ≡ true → first t ≡ c → length (drop 1 t) < length t
+pub byte_shorter : (c : ℕ) (t : Text) → nat_lt 0 c ≡ true → first t ≡ c → length (drop 1 t) < length t
 byte_shorter c [] h is = absurd (none c h is)
   where
     none : (d : ℕ) → nat_lt 0 d ≡ true → 0 ≡ d → ⊥
     none d h is = grind (arith, nat_tests)
 byte_shorter c (b ∷ t) h is = omega arith
 
-among_shorter : (low high : ℕ) (t : Text) → nat_lt 0 low ≡ true → is_among low high (first t) ≡ true → length (drop 1 t) < length t
+pub among_shorter : (low high : ℕ) (t : Text) → nat_lt 0 low ≡ true → is_among low high (first t) ≡ true → length (drop 1 t) < length t
 among_shorter low high [] h is = absurd (none low high h is)
   where
     none : (l m : ℕ) → nat_lt 0 l ≡ true → (nat_le l 0 && nat_le 0 m) ≡ true → ⊥

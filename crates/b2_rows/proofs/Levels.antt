@@ -15,7 +15,7 @@ use Rattle.b2_atom.specs.declared.forms.Item.{Item}
 use Rattle.b2_atom.specs.declared.forms.Item.TheVariants.{Word, Sign, Among, ProgramWord, Ignored, Comma, LeftOut, End, Typed, Part, Maybe, Either, Many, Nest, Statement}
 use Rattle.b2_atom.proofs.reading.Sound.{Takes, takes_level, takes_deep, takes_many, takes_statement}
 use Rattle.b2_rows.specs.Leaves.{leaf_size, after_leaf}
-use Rattle.b2_rows.specs.Rows.{reading, reading_list, after_part, after_list, fits_unit}
+use Rattle.b2_rows.specs.Rows.{reading_row, reading_list, after_part, after_list, fits_unit}
 
 -- the parsers of a unit: of the statements in it, which are none, and of what stands in parentheses
 abbrev pub no_statement : Position → Parser Text
@@ -106,8 +106,8 @@ nested : (n : ℕ) (t : Text) → in_parentheses n t ≡ in_level (deep (reader 
 unfolding deep
 nested n t = refl
 
-pub up_nest : (n : ℕ) (t : Text) → Up (in_parentheses n t) (reading n t)
-unfolding reading
+pub up_nest : (n : ℕ) (t : Text) → Up (in_parentheses n t) (reading_row n t)
+unfolding reading_row
 up_nest n t x is = up_room (deep (reader Atoms) no_statement 31) (deep (reader Atoms) no_statement 32) (up_deep 31) 40 n t x (sym (nested n t) ∙ is)
 
 -- more repetitions
@@ -128,7 +128,7 @@ more_up s p (suc d) k t x is =
 
 -- no more than 256 repetitions are needed in a text of a unit
 pub list_up : (s : Start) (n : ℕ) (t : Text) → length t ≤ 256 → Up (many (reader Atoms) s (at_level 39 n) (length t) t) (reading_list s n t)
-unfolding reading_list reading
+unfolding reading_list reading_row
 list_up s n t short x is =
     let longer : many (reader Atoms) s (at_level 39 n) ((256 - length t) + length t) t ≡ Ok x = more_up s (at_level 39 n) (256 - length t) (length t) t x is in
     let same : (256 - length t) + length t ≡ 256 = omega (arith, short) in
@@ -139,12 +139,12 @@ pub no_longer : (t : Text) (o : Outcome) → Takes t o → length (left_after o)
 no_longer t (Ok p) h = let e : length (atoms p.0 ++ p.1) ≡ length t = ap length h in omega (arith, e, length-append (atoms p.0) p.1)
 no_longer t (Err e) h = omega arith
 
-takes_reading : (n : ℕ) (t : Text) → Takes t (reading n t)
-unfolding reading
+takes_reading : (n : ℕ) (t : Text) → Takes t (reading_row n t)
+unfolding reading_row
 takes_reading n t = takes_level no_statement in_parentheses (takes_statement 0) (takes_deep no_statement (takes_statement 0) 32) 40 n t
 
-pub reading_no_longer : (n : ℕ) (t : Text) → length (left_after (reading n t)) ≤ length t
-reading_no_longer n t = no_longer t (reading n t) (takes_reading n t)
+pub reading_no_longer : (n : ℕ) (t : Text) → length (left_after (reading_row n t)) ≤ length t
+reading_no_longer n t = no_longer t (reading_row n t) (takes_reading n t)
 
 pub part_no_longer : (n : ℕ) (t : Text) → length (after_part n t) ≤ length t
 unfolding after_part
@@ -152,7 +152,7 @@ part_no_longer n t = reading_no_longer n t
 
 pub list_no_longer : (s : Start) (n : ℕ) (t : Text) → length (after_list s n t) ≤ length t
 unfolding after_list reading_list
-list_no_longer s n t = no_longer t (many (reader Atoms) s (reading n) 256 t) (takes_many s (reading n) (takes_reading n) 256 t)
+list_no_longer s n t = no_longer t (many (reader Atoms) s (reading_row n) 256 t) (takes_many s (reading_row n) (takes_reading n) 256 t)
 
 -- so it fits a unit where the text does
 pub short_drop : (k : ℕ) (t : Text) → length t ≤ 256 → length (drop k t) ≤ 256

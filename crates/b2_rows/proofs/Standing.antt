@@ -16,7 +16,7 @@ use Rattle.b2_atom.specs.declared.forms.Item.{Item}
 use Rattle.b2_atom.specs.declared.forms.Item.TheVariants.{Word, Sign, Among, ProgramWord, Ignored, Comma, LeftOut, End, Typed, Part, Maybe, Either, Many, Nest, Statement}
 use Rattle.b2_atom.proofs.Booleans.{and_left, and_right, both}
 use Rattle.b2_rows.specs.Leaves.{put_leaf, after_leaf}
-use Rattle.b2_rows.specs.Rows.{reading, reading_list, tree_of, fits_unit, is_part, tree_at, after_part, is_list, list_at, after_list, When, Stands, tree_by, rest_by, RowStands}
+use Rattle.b2_rows.specs.Rows.{reading_row, reading_list, tree_of, fits_unit, is_part, tree_at, after_part, is_list, list_at, after_list, When, Stands, tree_by, rest_by, RowStands}
 use Rattle.b2_rows.specs.Laws.{EachRowStands}
 use Rattle.b2_rows.proofs.Levels.{no_statement, in_parentheses, at_level, up_level, up_nest, list_up, short_drop, short_leaf, short_part, short_list, is_short, short_of}
 use Rattle.b2_rows.proofs.Items.{Holds, holds_preceded, holds_map, mark_case, among_case, nothing_case, end_case, leaf_case, part_case, list_case}
@@ -36,13 +36,13 @@ when_false true x y h k = cc
 -- a row in a row
 part_at : (b n : ℕ) (t : Text) (q : Parser Text) (v : Trees → Text → Type 0) → length t ≤ 256
     → (is_part n t ≡ true → Holds (λ c r. v (In b (tree_at n t) c) r) (q (after_part n t))) → Holds v (and_then (under b (at_level 39 n t)) q)
-unfolding is_part tree_at after_part reading
-part_at b n t q v short h = part_case b (at_level 39 n t) (reading n t) q v (up_level 39 n t) (λ ok. h (both _ _ (is_short t short) ok))
+unfolding is_part tree_at after_part reading_row
+part_at b n t q v short h = part_case b (at_level 39 n t) (reading_row n t) q v (up_level 39 n t) (λ ok. h (both _ _ (is_short t short) ok))
 
 nest_at : (b n : ℕ) (t : Text) (q : Parser Text) (v : Trees → Text → Type 0) → length t ≤ 256
     → (is_part n t ≡ true → Holds (λ c r. v (In b (tree_at n t) c) r) (q (after_part n t))) → Holds v (and_then (under b (in_parentheses n t)) q)
 unfolding is_part tree_at after_part
-nest_at b n t q v short h = part_case b (in_parentheses n t) (reading n t) q v (up_nest n t) (λ ok. h (both _ _ (is_short t short) ok))
+nest_at b n t q v short h = part_case b (in_parentheses n t) (reading_row n t) q v (up_nest n t) (λ ok. h (both _ _ (is_short t short) ok))
 
 by_start : (b : Bool) (o u : Outcome) (q : Parser Text) (v : Trees → Text → Type 0) → (b ≡ true → Holds v (and_then o q)) → (b ≡ false → Holds v (and_then u q))
     → Holds v (and_then (if b then o else u) q)
@@ -110,7 +110,7 @@ of_ok v (Ok p) is h = h
 of_ok v (Err e) is h = cc
 
 read_row : (n : ℕ) (is : List Item) (t : Text) → row_items n ≡ is → is_part n t ≡ true → Row is t (tree_at n t) (after_part n t)
-unfolding is_part tree_at after_part reading level
+unfolding is_part tree_at after_part reading_row level
 read_row n is t same ok =
     of_ok (Row is t) (at_level 40 n t) (and_right (fits_unit t) _ ok) (subst (λ (xs : List Item). Holds (Row is t) (in_row xs t)) (sym same) (stands is t (short_of t (and_left _ _ ok))))
 

@@ -20,7 +20,7 @@ use Rattle.b2_atom.specs.declared.forms.Position.TheVariants as place
 use Rattle.b2_atom.proofs.Booleans.{both}
 use Rattle.b2_atom.proofs.reading.Sound.{takes_statement}
 use Rattle.b2_atom.proofs.lines.EachUnit.{each_unit, tree_is_cut}
-use Rattle.b2_rows.specs.Rows.{reading, tree_of, is_part, tree_at, after_part}
+use Rattle.b2_rows.specs.Rows.{reading_row, tree_of, is_part, tree_at, after_part}
 use Rattle.b2_rows.specs.Laws.{IsRow, IsRowUnit, EachUnitIsARow, IsRowOnTree, EachTreeUnitIsItsRow}
 use Rattle.b2_rows.proofs.Levels.{no_longer, is_short}
 
@@ -35,7 +35,7 @@ of_under : (m n : ℕ) (t : Trees) (rest : Text) (o : Outcome) → under m o ≡
 of_under m n t rest (Ok p) is = (same_row m n p.0 t (ap tree_of is), (λ i. Ok (same_tree m n p.0 t (ap tree_of is) i, ap left_after is i)))
 of_under m n t rest (Err e) is = cc
 
-row_of_reading : (n : ℕ) (u : Text) (t : Trees) (o : Outcome) → length u ≤ 256 → reading n u ≡ o → o ≡ Ok (t, []) → IsRow n u t
+row_of_reading : (n : ℕ) (u : Text) (t : Trees) (o : Outcome) → length u ≤ 256 → reading_row n u ≡ o → o ≡ Ok (t, []) → IsRow n u t
 unfolding is_part tree_at after_part
 row_of_reading n u t o short is_o is = record {
   part = both _ _ (is_short u short) (ap is_ok (is_o ∙ is));
@@ -43,14 +43,14 @@ row_of_reading n u t o short is_o is = record {
   whole = ap left_after (is_o ∙ is);
 }
 
-of_chosen : (r : Result ℕ Stop) (u : Text) (n : ℕ) (t : Trees) → length u ≤ 256 → chosen (from u r) reading ≡ Ok (In n t Done, []) → IsRow n u t
+of_chosen : (r : Result ℕ Stop) (u : Text) (n : ℕ) (t : Trees) → length u ≤ 256 → chosen (from u r) reading_row ≡ Ok (In n t Done, []) → IsRow n u t
 of_chosen (Err e) u n t short is = cc
 of_chosen (Ok m) u n t short is =
-    let p = of_under m n t [] (reading m u) is in
-    subst (λ (k : ℕ). IsRow k u t) p.0 (row_of_reading m u t (reading m u) short refl p.1)
+    let p = of_under m n t [] (reading_row m u) is in
+    subst (λ (k : ℕ). IsRow k u t) p.0 (row_of_reading m u t (reading_row m u) short refl p.1)
 
 pub statement_is_row : (p : Position) (u : Text) (n : ℕ) (t : Trees) → length u ≤ 256 → statement (reader Atoms) 1 p u ≡ Ok (In n t Done, []) → IsRow n u t
-unfolding statement_within statement_row reading
+unfolding statement_within statement_row reading_row
 statement_is_row p u n t short is = of_chosen (row_at forms Atoms p u) u n t short is
 
 -- the units of a line are no longer than the line

@@ -11,7 +11,11 @@ use Rattle.b2_atom.specs.Units.{TreeUnit, units_on}
 use Rattle.b2_atom.specs.Laws.{IsTree}
 use Rattle.b2_atom.specs.declared.words.Origin.TheVariants.{Atoms}
 use Rattle.b2_atom.specs.declared.forms.Start.{Start}
+use Rattle.b2_base.specs.Lexical.{first}
 use Rattle.b2_rows.specs.Rows.{is_part, tree_at, after_part, is_list, after_list, RowStands, Goes, Ends}
+use Rattle.b2_rows.specs.Links.{Further}
+use Rattle.b2_rows.specs.Chains.{chain_row, item_row, more_row, more_start, is_sign, is_operator_of, ChainStands, SignedFactor, PlainFactor}
+use Rattle.b2_rows.specs.declared.chains.Chain.{Chain}
 
 -- each row that is read stands item by item
 abbrev pub EachRowStands : Type 0
@@ -30,6 +34,15 @@ abbrev pub NothingIsAdded : Type 0
 NothingIsAdded =
     ((n : ℕ) (t : Text) → length (after_part n t) ≤ length t)
     × ((s : Start) (n : ℕ) (t : Text) → length (after_list s n t) ≤ length t)
+
+-- a chain is an item and further items, which go on exactly where an operator stands
+pub record ChainSteps (c : Chain) (t : Text) : Type 0 where
+  pub stands : is_part (chain_row c) t ≡ true → ChainStands c t
+  pub goes : is_list (more_start c) (more_row c) t ≡ true → is_operator_of c (first t) ≡ true → Further (more_start c) (more_row c) (item_row c) t
+  pub ends : is_operator_of c (first t) ≡ false → Ends (more_start c) (more_row c) t
+
+abbrev pub EachChainStands : Type 0
+EachChainStands = (c : Chain) (t : Text) → ChainSteps c t
 
 -- bytes that are a row from the first to the last, and its tree
 pub record IsRow (n : ℕ) (bytes : Text) (t : Trees) : Type 0 where

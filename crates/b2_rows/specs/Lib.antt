@@ -1,5 +1,8 @@
 pub mod Leaves
 pub mod Rows
 pub mod Takes
+pub mod Links
+pub mod Chains
+pub mod Choices
 pub mod Laws
 pub mod Optional

@@ -15,8 +15,8 @@ use Rattle.b2_atom.specs.declared.forms.Item.TheVariants.{Word, Sign, Among, Pro
 use Rattle.b2_rows.specs.Leaves.{is_leaf, leaf_token, after_leaf, put_leaf}
 
 -- what the table reads of a row in a unit: the statement that follows a THEN, ELSE or ERROR is a unit of its own
-unfoldable pub reading : ℕ → Text → Outcome
-reading n t = part Atoms 0 32 40 n t
+unfoldable pub reading_row : ℕ → Text → Outcome
+reading_row n t = part Atoms 0 32 40 n t
 
 abbrev pub tree_of : Outcome → Trees
 tree_of (Ok p) = p.0
@@ -28,17 +28,17 @@ fits_unit t = nat_le (length t) 256
 
 -- whether a row is read at a text of a unit, its tree, and what is left after it
 unfoldable pub is_part : ℕ → Text → Bool
-is_part n t = fits_unit t && is_ok (reading n t)
+is_part n t = fits_unit t && is_ok (reading_row n t)
 
 unfoldable pub tree_at : ℕ → Text → Trees
-tree_at n t = tree_of (reading n t)
+tree_at n t = tree_of (reading_row n t)
 
 unfoldable pub after_part : ℕ → Text → Text
-after_part n t = left_after (reading n t)
+after_part n t = left_after (reading_row n t)
 
 -- a row as often as it begins
 unfoldable pub reading_list : Start → ℕ → Text → Outcome
-reading_list s n t = many (reader Atoms) s (reading n) 256 t
+reading_list s n t = many (reader Atoms) s (reading_row n) 256 t
 
 -- whether a repetition is read at a text, its tree, and what is left after it
 unfoldable pub is_list : Start → ℕ → Text → Bool

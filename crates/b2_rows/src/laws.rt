@@ -1,5 +1,5 @@
 // Laws of rows that are read, which no code states: each is the contract of a function without a body.
-ghost use Rattle.b2_rows.specs.Laws.{EachListSteps, EachRowStands, EachTreeUnitIsItsRow, EachUnitIsARow, NothingIsAdded};
+ghost use Rattle.b2_rows.specs.Laws.{EachChainStands, EachListSteps, EachRowStands, EachTreeUnitIsItsRow, EachUnitIsARow, NothingIsAdded};
 
 /// A row that is read stands item by item at its text, is the tree of its items, and leaves what they leave.
 pub fn each_row_stands()
@@ -9,6 +9,11 @@ pub fn each_row_stands()
 /// A repetition goes on exactly where its row begins: then the row is read, and what is left is the same repetition.
 pub fn each_list_steps()
     ensures { EachListSteps }
+{}
+
+/// A chain is an item and further items, which go on exactly where an operator stands.
+pub fn each_chain_stands()
+    ensures { EachChainStands }
 {}
 
 /// What is left after a row or a repetition is no longer than the text.
