@@ -7,15 +7,17 @@ use Rattle.b2_dec.specs.declared.number.Mode.TheVariants as mode
 use Rattle.b2_atom.specs.Words.{Text}
 use Rattle.b2_atom.specs.declared.rows.TheConstants as row
 use Rattle.b2_rows.specs.Rows.{is_part, tree_at, after_part, is_list, after_list}
+use Rattle.b2_rows.specs.Chains.{is_sign, more_row, more_start}
 use Rattle.b2_rows.proofs.Levels.{part_no_longer}
+use Rattle.b2_rows.proofs.EachChain as each
 use Rattle.b2_expr.specs.Answers.{Answer, ◌>>=◌}
 use Rattle.b2_expr.specs.Operators.{joined, with_sign}
 use Rattle.b2_expr.specs.Scope.{Context}
 use Rattle.b2_expr.specs.Value.{next, value, further}
-use Rattle.b2_expr.specs.Levels.{row_of, start_of, more_row, is_operator, has_sign, spans, pick, ends, rests, are_lists}
+use Rattle.b2_expr.specs.Levels.{chain_of, is_chain, row_of, list_of, after_of, tail_of, is_operator, has_sign, spans, pick, ends, rests, are_lists}
 use Rattle.b2_expr.specs.declared.operators.Level.{Level}
 use Rattle.b2_expr.specs.declared.operators.Level.TheVariants as level
-use Rattle.b2_expr.proofs.Chains.{is_chain, list_of, tail_of, chain_item, chain_list, chain_value, chain_rest, more_item, more_list, more_value, more_rest, no_more, no_rest, refused, more_shorter}
+use Rattle.b2_expr.proofs.Chains.{chain_item, chain_list, chain_value, chain_rest, more_item, more_list, more_value, more_rest, no_more, no_rest, refused, more_shorter}
 use Rattle.b2_expr.proofs.Factors as factors
 
 -- some context, for what doesn't depend on one
@@ -25,9 +27,6 @@ anywhere = record {
   parameter = None;
   call = λ name x. Err 0;
 }
-
-abbrev pub after_of : Level → Text → Text
-after_of l t = after_list (start_of l) (more_row l) t
 
 and_left : (a b : Bool) → (a && b) ≡ true → a ≡ true
 and_left true b h = refl
@@ -52,7 +51,7 @@ rests_more : (ls : List Level) (l : Level) (t : Text) → rests (ls ++ (l ∷ []
 rests_more [] l t = refl
 rests_more (k ∷ ks) l t = rests_more ks l (after_of k t)
 
-lists_more : (ls : List Level) (l : Level) (t : Text) → are_lists ls t ≡ true → is_list (start_of l) (more_row l) (rests ls t) ≡ true → are_lists (ls ++ (l ∷ [])) t ≡ true
+lists_more : (ls : List Level) (l : Level) (t : Text) → are_lists ls t ≡ true → is_list (more_start (chain_of l)) (more_row (chain_of l)) (rests ls t) ≡ true → are_lists (ls ++ (l ∷ [])) t ≡ true
 lists_more [] l t h k = both _ true k refl
 lists_more (m ∷ ms) l t h k = both _ _ (and_left _ _ h) (lists_more ms l (after_of m t) (and_right _ _ h) k)
 
@@ -67,7 +66,7 @@ wider e l ls t x u h ok o = record {
       ∙ ap (λ (y : Answer). further e l y (list_of l (tail_of l t))) (Opens.value o)
       ∙ ap (λ (v : Text). further e l (ends e ls x u) (list_of l v)) (Opens.rest o)
       ∙ sym (ends_more e ls l x u);
-  lists = lists_more ls l u (Opens.lists o) (subst (λ (v : Text). is_list (start_of l) (more_row l) v ≡ true) (Opens.rest o) (chain_list l t h ok));
+  lists = lists_more ls l u (Opens.lists o) (subst (λ (v : Text). is_list (more_start (chain_of l)) (more_row (chain_of l)) v ≡ true) (Opens.rest o) (chain_list l t h ok));
   rest = chain_rest l t h ok ∙ ap (after_of l) (Opens.rest o) ∙ sym (rests_more ls l u);
 }
 
@@ -86,17 +85,17 @@ plain_at_power e t ok =
     let p = plain_at_operand e t (chain_item level.Power t refl ok) in
     (p.0, wider e level.Power [] t (plain_from e t) (after_part row.OPERAND t) refl ok p.1)
 
-plain_at_factor : (e : Context) (t : Text) → is_part row.FACTOR t ≡ true → is_operator level.Sum (first t) ≡ false → Plain e level.Factor t
+plain_at_factor : (e : Context) (t : Text) → is_part row.FACTOR t ≡ true → is_sign (first t) ≡ false → Plain e level.Factor t
 plain_at_factor e t ok none =
-    let p = plain_at_power e t (factors.factor_plain t ok none) in
-    (p.0, record { value = factors.plain_value e t ok none ∙ Opens.value p.1; lists = Opens.lists p.1; rest = factors.plain_rest t ok none ∙ Opens.rest p.1 })
+    let p = plain_at_power e t (each.plain_part t ok none) in
+    (p.0, record { value = factors.plain_value e t ok none ∙ Opens.value p.1; lists = Opens.lists p.1; rest = each.plain_rest t ok none ∙ Opens.rest p.1 })
 
-plain_at_product : (e : Context) (t : Text) → is_part row.PRODUCT t ≡ true → is_operator level.Sum (first t) ≡ false → Plain e level.Product t
+plain_at_product : (e : Context) (t : Text) → is_part row.PRODUCT t ≡ true → is_sign (first t) ≡ false → Plain e level.Product t
 plain_at_product e t ok none =
     let p = plain_at_factor e t (chain_item level.Product t refl ok) none in
     (p.0, wider e level.Product (level.Power ∷ []) t (plain_from e t) (after_part row.OPERAND t) refl ok p.1)
 
-plain_at_sum : (e : Context) (t : Text) → is_part row.SUM t ≡ true → is_operator level.Sum (first t) ≡ false → Plain e level.Sum t
+plain_at_sum : (e : Context) (t : Text) → is_part row.SUM t ≡ true → is_sign (first t) ≡ false → Plain e level.Sum t
 plain_at_sum e t ok none =
     let p = plain_at_product e t (chain_item level.Sum t refl ok) none in
     (p.0, wider e level.Sum (level.Power ∷ level.Product ∷ []) t (plain_from e t) (after_part row.OPERAND t) refl ok p.1)
@@ -128,16 +127,16 @@ signed_from e t = value e level.Power (tree_at row.POWER (drop 1 t)) >>= with_si
 abbrev Signed : Context → Level → Text → Type 0
 Signed e l t = (is_part row.POWER (drop 1 t) ≡ true) × Opens e l (spans l level.Product) t (signed_from e t) (after_part row.POWER (drop 1 t))
 
-signed_at_factor : (e : Context) (t : Text) → is_part row.FACTOR t ≡ true → is_operator level.Sum (first t) ≡ true → Signed e level.Factor t
+signed_at_factor : (e : Context) (t : Text) → is_part row.FACTOR t ≡ true → is_sign (first t) ≡ true → Signed e level.Factor t
 signed_at_factor e t ok is =
-    (factors.factor_signed t ok is, record { value = factors.signed_value e t ok is; lists = refl; rest = factors.signed_rest t ok is })
+    (each.signed_part t ok is, record { value = factors.signed_value e t ok is; lists = refl; rest = each.signed_rest t ok is })
 
-signed_at_product : (e : Context) (t : Text) → is_part row.PRODUCT t ≡ true → is_operator level.Sum (first t) ≡ true → Signed e level.Product t
+signed_at_product : (e : Context) (t : Text) → is_part row.PRODUCT t ≡ true → is_sign (first t) ≡ true → Signed e level.Product t
 signed_at_product e t ok is =
     let p = signed_at_factor e t (chain_item level.Product t refl ok) is in
     (p.0, wider e level.Product [] t (signed_from e t) (after_part row.POWER (drop 1 t)) refl ok p.1)
 
-signed_at_sum : (e : Context) (t : Text) → is_part row.SUM t ≡ true → is_operator level.Sum (first t) ≡ true → Signed e level.Sum t
+signed_at_sum : (e : Context) (t : Text) → is_part row.SUM t ≡ true → is_sign (first t) ≡ true → Signed e level.Sum t
 signed_at_sum e t ok is =
     let p = signed_at_product e t (chain_item level.Sum t refl ok) is in
     (p.0, wider e level.Sum (level.Product ∷ []) t (signed_from e t) (after_part row.POWER (drop 1 t)) refl ok p.1)
@@ -446,7 +445,7 @@ going e w top l x t a h = on e l (spans w top) x t (spans_chains w top) a h
 span_is : (e : Context) (w top l : Level) (x : Answer) (t : Text) (o : Going e w top l x t) → spans w l ≡ l ∷ On.others o
 span_is e w top l x t o = sym (from_top w top l (On.found o)) ∙ On.shape o
 
-list_here : (e : Context) (w top l : Level) (x : Answer) (t : Text) (o : Going e w top l x t) → is_list (start_of l) (more_row l) t ≡ true
+list_here : (e : Context) (w top l : Level) (x : Answer) (t : Text) (o : Going e w top l x t) → is_list (more_start (chain_of l)) (more_row (chain_of l)) t ≡ true
 list_here e w top l x t o = and_left _ _ (On.lists o)
 
 pub on_item : (w top l : Level) (t : Text) → are_lists (spans w top) t ≡ true → pick (spans w top) (first t) ≡ Some l → is_part (row_of (next l)) (drop 1 t) ≡ true

@@ -2,5 +2,5 @@ pub mod RowsRead
 pub mod Chains
 pub mod Factors
 pub mod Climbs
-pub mod Choices
 pub mod Operands
+pub mod OperandKinds

@@ -28,7 +28,7 @@ use Rattle.b2_expr.specs.Operators.{relation_in}
 use Rattle.b2_expr.specs.Scope.{Context, kept_number}
 use Rattle.b2_expr.specs.Value.{value, operand, text, second, subscripts, literal_number}
 use Rattle.b2_expr.specs.declared.operators.Level.TheVariants as level
-use Rattle.b2_expr.specs.declared.kinds.Kind.TheVariants as kind
+use Rattle.b2_rows.specs.declared.operands.Operand.TheVariants as kind
 use Rattle.b2_expr.proofs.RowsRead.{stands_of, shorter_at, shorter_among}
 
 -- an expression in parentheses
@@ -42,9 +42,9 @@ group_row = refl
 pub group_sum : (t : Text) → is_part row.PARENTHESES t ≡ true → is_part row.SUM (drop 1 t) ≡ true
 group_sum t ok = (stands_of row.PARENTHESES group_items t group_row ok).0.1.0
 
-pub group_is : (e : Context) (t : Text) → is_part row.PARENTHESES t ≡ true → operand e kind.Group (tree_at row.PARENTHESES t) ≡ value e level.Sum (tree_at row.SUM (drop 1 t))
+pub group_is : (e : Context) (t : Text) → is_part row.PARENTHESES t ≡ true → operand e kind.Parentheses (tree_at row.PARENTHESES t) ≡ value e level.Sum (tree_at row.SUM (drop 1 t))
 unfolding operand
-group_is e t ok = ap (operand e kind.Group) (stands_of row.PARENTHESES group_items t group_row ok).1
+group_is e t ok = ap (operand e kind.Parentheses) (stands_of row.PARENTHESES group_items t group_row ok).1
 
 pub group_rest : (t : Text) → is_part row.PARENTHESES t ≡ true → after_part row.PARENTHESES t ≡ drop 1 (after_part row.SUM (drop 1 t))
 group_rest t ok = (stands_of row.PARENTHESES group_items t group_row ok).2
@@ -150,9 +150,9 @@ kept_row : row_items row.KEPT_NUMBER ≡ kept_items
 unfolding row_items
 kept_row = refl
 
-pub kept_is : (e : Context) (t : Text) → is_part row.KEPT_NUMBER t ≡ true → operand e kind.Kept (tree_at row.KEPT_NUMBER t) ≡ whole_number (kept_number e.around (first t))
+pub kept_is : (e : Context) (t : Text) → is_part row.KEPT_NUMBER t ≡ true → operand e kind.KeptNumber (tree_at row.KEPT_NUMBER t) ≡ whole_number (kept_number e.around (first t))
 unfolding operand
-kept_is e t ok = ap (operand e kind.Kept) (stands_of row.KEPT_NUMBER kept_items t kept_row ok).1
+kept_is e t ok = ap (operand e kind.KeptNumber) (stands_of row.KEPT_NUMBER kept_items t kept_row ok).1
 
 pub kept_rest : (t : Text) → is_part row.KEPT_NUMBER t ≡ true → after_part row.KEPT_NUMBER t ≡ drop 1 t
 kept_rest t ok = (stands_of row.KEPT_NUMBER kept_items t kept_row ok).2
@@ -278,12 +278,12 @@ counted_tree : (t : Text) → is_part row.VALUE t ≡ true
 unfolding maybe_tree
 counted_tree t ok = (stands_of row.ALPHA_AND_NUMBER counted_items (drop 1 t) counted_row (counted_of t ok)).1
 
-pub bytes_is : (e : Context) (t : Text) → is_part row.VALUE t ≡ true → operand e kind.Bytes (tree_at row.VALUE t)
+pub bytes_is : (e : Context) (t : Text) → is_part row.VALUE t ≡ true → operand e kind.Value (tree_at row.VALUE t)
     ≡ (text e (tree_at row.ALPHA (drop 1 t)) >>= (λ x. second e (maybe_tree (start.Code byte.comma) row.COMMA_NUMBER (after_part row.ALPHA (drop 1 t))) >>= count_or 1 1 4 >>= number_of x))
 unfolding operand
 bytes_is e t ok =
-    ap (operand e kind.Bytes) (stands_of row.VALUE bytes_items t bytes_row ok).1
-    ∙ ap (λ (a : Trees). operand e kind.Bytes (Put (Coded word.VAL_OPEN) (In 2 a (Put (Coded byte.closing) Done)))) (counted_tree t ok)
+    ap (operand e kind.Value) (stands_of row.VALUE bytes_items t bytes_row ok).1
+    ∙ ap (λ (a : Trees). operand e kind.Value (Put (Coded word.VAL_OPEN) (In 2 a (Put (Coded byte.closing) Done)))) (counted_tree t ok)
 
 pub bytes_rest : (t : Text) → is_part row.VALUE t ≡ true → after_part row.VALUE t ≡ drop 1 (after_maybe (start.Code byte.comma) row.COMMA_NUMBER (after_part row.ALPHA (drop 1 t)))
 unfolding after_maybe

@@ -15,6 +15,7 @@ use Rattle.b2_atom.specs.Tree.Trees.{Done, Put, In}
 use Rattle.b2_atom.specs.declared.words.TheConstants as word
 use Rattle.b2_atom.specs.declared.rows.TheConstants as row
 use Rattle.b2_rows.specs.Rows.{tree_at}
+use Rattle.b2_rows.specs.Links.{token_code, first_code}
 use Rattle.b2_text.specs.Program.{TextState, line_at}
 use Rattle.b2_text.specs.Spots.{unit_of, is_function, first_opening}
 use Rattle.b2_text.specs.declared.spots.Spot.{Spot}
@@ -27,10 +28,10 @@ use Rattle.b2_expr.specs.declared.scope.Scope.{Scope}
 use Rattle.b2_expr.specs.declared.named.Subscripts.{Subscripts}
 use Rattle.b2_expr.specs.declared.operators.Level.{Level}
 use Rattle.b2_expr.specs.declared.operators.Level.TheVariants as level
-use Rattle.b2_expr.specs.declared.kinds.Kind.{Kind}
-use Rattle.b2_expr.specs.declared.kinds.Kind.TheVariants as kind
-use Rattle.b2_expr.specs.declared.kinds.AlphaKind.{AlphaKind}
-use Rattle.b2_expr.specs.declared.kinds.AlphaKind.TheVariants as alpha_kind
+use Rattle.b2_rows.specs.declared.operands.Operand.{Operand}
+use Rattle.b2_rows.specs.declared.operands.Operand.TheVariants as kind
+use Rattle.b2_rows.specs.declared.operands.AlphaOperand.{AlphaOperand}
+use Rattle.b2_rows.specs.declared.operands.AlphaOperand.TheVariants as alpha_kind
 
 -- the level of what the operators of a level join
 abbrev pub next : Level → Level
@@ -40,23 +41,12 @@ next level.Factor = level.Power
 next level.Power = level.Operand
 next level.Operand = level.Operand
 
--- the word or sign that a tree begins with
-abbrev pub token_code : Token → ℕ
-token_code (Coded c) = c
-token_code (Plain k text) = 0
-token_code (Lined high low) = 0
-
-abbrev pub sign_in : Trees → ℕ
-sign_in Done = 0
-sign_in (Put token more) = token_code token
-sign_in (In n a more) = sign_in a
-
 -- the kinds of operands after a number that is written out, in the order of the table; what is none of them is a variable
-abbrev pub other_kinds : List Kind
-other_kinds = kind.Group ∷ kind.Function ∷ kind.OfOne ∷ kind.OfTwo ∷ kind.OfMore ∷ kind.OfAlpha ∷ kind.Position ∷ kind.Bytes ∷ kind.Kept ∷ []
+abbrev pub other_kinds : List Operand
+other_kinds = kind.Parentheses ∷ kind.Function ∷ kind.OfOne ∷ kind.OfTwo ∷ kind.OfMore ∷ kind.OfAlpha ∷ kind.Position ∷ kind.Value ∷ kind.KeptNumber ∷ []
 
-abbrev pub other_alpha_kinds : List AlphaKind
-other_alpha_kinds = alpha_kind.Part ∷ alpha_kind.Hex ∷ alpha_kind.Binary ∷ []
+abbrev pub other_alpha_kinds : List AlphaOperand
+other_alpha_kinds = alpha_kind.StringPart ∷ alpha_kind.Hex ∷ alpha_kind.Binary ∷ []
 
 -- the bytes of a literal between its quotes
 abbrev pub quoted : Text → List ℕ
@@ -133,26 +123,26 @@ unfoldable mutual
   pub value : Context → Level → Trees → Answer
   value s level.Sum (In n a more) = further s level.Sum (value s level.Product a) more
   value s level.Product (In n a more) = further s level.Product (value s level.Factor a) more
-  value s level.Factor (In n sign (In m a end)) = value s level.Power a >>= signed_by s.around.mode n (sign_in sign)
+  value s level.Factor (In n sign (In m a end)) = value s level.Power a >>= signed_by s.around.mode n (first_code sign)
   value s level.Power (In n a more) = further s level.Power (value s level.Operand a) more
-  value s level.Operand (In n a end) = if n == 1 then operand s kind.Literal a else choice s other_kinds a
+  value s level.Operand (In n a end) = if n == 1 then operand s kind.Number a else choice s other_kinds a
   value s l t = Err S17_NUMERIC
 
   -- a number, joined to further items from the left
   pub further : Context → Level → Answer → Trees → Answer
-  further s l x (In n (In k operator (In m a end)) more) = further s l (x >>= (λ v. value s (next l) a >>= joined s.around.mode (sign_in operator) v)) more
+  further s l x (In n (In k operator (In m a end)) more) = further s l (x >>= (λ v. value s (next l) a >>= joined s.around.mode (first_code operator) v)) more
   further s l x (In n (Put token (In m a end)) more) = further s l (x >>= (λ v. value s (next l) a >>= joined s.around.mode (token_code token) v)) more
   further s l x t = x
 
   -- an operand of one of these kinds, or a variable
-  pub choice : Context → List Kind → Trees → Answer
+  pub choice : Context → List Operand → Trees → Answer
   choice s (k ∷ ks) (In n a end) = if n == 1 then operand s k a else choice s ks a
   choice s ks (Put token more) = named_number s (token_text token) (first_branch more) (subscripts s more)
   choice s ks t = Err S17_NUMERIC
 
-  pub operand : Context → Kind → Trees → Answer
-  operand s kind.Literal t = literal_number t
-  operand s kind.Group (Put opening (In n a end)) = value s level.Sum a
+  pub operand : Context → Operand → Trees → Answer
+  operand s kind.Number t = literal_number t
+  operand s kind.Parentheses (Put opening (In n a end)) = value s level.Sum a
   operand s kind.Function (Put word (Put (Plain k name) (Put opening (In n a end)))) = value s level.Sum a >>= s.call (first name)
   operand s kind.OfOne (Put word (In n a end)) = value s level.Sum a >>= of_one (token_code word)
   operand s kind.OfTwo (Put word (In n (In m a (Put comma (In k b end))) close)) =
@@ -161,9 +151,9 @@ unfoldable mutual
   operand s kind.OfAlpha (Put word (In n a end)) = text s a >>= of_text (token_code word)
   operand s kind.Position (Put word (In n (In m a (Put (Plain k sign) (In l b end))) close)) =
       text s a >>= (λ x. text s b >>= place_of (relation_in sign) x)
-  operand s kind.Bytes (Put word (In n (In m a count) close)) =
+  operand s kind.Value (Put word (In n (In m a count) close)) =
       text s a >>= (λ x. second s count >>= count_or 1 1 4 >>= number_of x)
-  operand s kind.Kept (Put word end) = whole_number (kept_number s.around (token_code word))
+  operand s kind.KeptNumber (Put word end) = whole_number (kept_number s.around (token_code word))
   operand s kind.Variable (Put token more) = named_number s (token_text token) (first_branch more) (subscripts s more)
   operand s k t = Err S17_NUMERIC
 
@@ -199,14 +189,14 @@ unfoldable mutual
   text_row s t = Err S18_ALPHA
 
   -- one that is of one of these kinds, or a variable
-  pub text_choice : Context → List AlphaKind → Trees → TextAnswer
+  pub text_choice : Context → List AlphaOperand → Trees → TextAnswer
   text_choice s (k ∷ ks) (In n a end) = if n == 1 then text_operand s k a else text_choice s ks a
   text_choice s ks (Put token more) = named_text s (token_text token) (first_branch more) (subscripts s more)
   text_choice s ks t = Err S18_ALPHA
 
-  pub text_operand : Context → AlphaKind → Trees → TextAnswer
+  pub text_operand : Context → AlphaOperand → Trees → TextAnswer
   text_operand s alpha_kind.Literal t = literal_bytes t
-  text_operand s alpha_kind.Part (Put word (In n (In m (Put token more) (Put comma (In l a count))) close)) =
+  text_operand s alpha_kind.StringPart (Put word (In n (In m (Put token more) (Put comma (In l a count))) close)) =
       element s.around true (token_text token) (first_branch more) (subscripts s more) >>= bytes_there >>= (λ bytes. value s level.Sum a >>= (λ from. second s count >>= part_of bytes from))
   text_operand s alpha_kind.Hex t = hex_bytes t
   text_operand s alpha_kind.Binary (Put word (In n (In m a count) close)) =

@@ -7,7 +7,7 @@ ghost use Rattle.b2_expr.specs.Reads.{Gives};
 ghost use Rattle.b2_expr.specs.Value.{context};
 
 use crate::evaluate::{alpha, climb, relation_width};
-use crate::kinds::begins_alpha;
+use crate::named::begins_alpha;
 use crate::operators::{Level, joined_condition, relation_in};
 use crate::scope::Scope;
 use b2_alpha::compare;

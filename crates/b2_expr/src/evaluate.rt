@@ -13,7 +13,6 @@ ghost use Rattle.b2_rows.specs.Optional.{maybe_part, maybe_tree, after_maybe};
 ghost use Rattle.b2_expr.specs.Answers.{or_code};
 ghost use Rattle.b2_expr.specs.Functions.{joined_text};
 ghost use Rattle.b2_expr.specs.Further.{after_further, are_further, further_tree};
-ghost use Rattle.b2_expr.specs.Kinds.{alpha_kind_row, kind_row};
 ghost use Rattle.b2_expr.specs.Levels.{are_lists, ends, has_sign, pick, rests, row_of, spans};
 ghost use Rattle.b2_expr.specs.Named.{is_alpha_kind, name_row, place_seen, variables_of};
 ghost use Rattle.b2_expr.specs.Scope.{surroundings};
@@ -21,14 +20,13 @@ ghost use Rattle.b2_expr.specs.Reads.{Appends, Gives};
 ghost use Rattle.b2_expr.specs.Value as meaning;
 ghost use Rattle.b2_expr.specs.Value.{called, context, extremes, function_tree, hex_bytes, literal_bytes, literal_number, located, part_of, second, subscripts, text_row, value};
 ghost use Rattle.b2_expr.specs.declared.operators.Level.TheVariants as level_of;
-ghost use Rattle.b2_expr.specs.declared.kinds.Kind.TheVariants as kind_is;
-ghost use Rattle.b2_expr.specs.declared.kinds.AlphaKind.TheVariants as alpha_kind_is;
+ghost use Rattle.b2_rows.specs.declared.operands.Operand.TheVariants as kind_is;
+ghost use Rattle.b2_rows.specs.declared.operands.AlphaOperand.TheVariants as alpha_kind_is;
 
 use crate::functions::{
     byte_count, bytes_in, column_of, counted, extreme, number_of, of_one, of_text, of_two, place_of,
     subscript, whole_number,
 };
-use crate::kinds::{AlphaKind, Kind, alpha_kind_of, kind_of};
 use crate::named::{Element, Located, NameKind, Subscripts, is_global, variable_named};
 use crate::operators::{Level, joined, relation_in, with_sign};
 use crate::scope::{Env, Parameter, Scope, hidden_by, kept_number};
@@ -39,6 +37,7 @@ use b2_base::codes::{A04_TOO_DEEP, P34_RANGE, P38_NO_DEFFN, X72_TOO_LONG, X77_NO
 use b2_base::lexical::{at, dropped, first, front, hex_value, is_digit};
 use b2_dec::{Bytes, Dec};
 use b2_dectext::literal;
+use b2_rows::{AlphaOperand, Operand, alpha_operand_at, operand_at};
 use b2_vars::Vars;
 
 /// The level of what the operators of a level join.
@@ -177,21 +176,21 @@ fn operand<'a>(s: &Scope<'_>, text: &'a [u8]) -> Result<(Dec, &'a [u8]), Code>
     requires part { is_part row.OPERAND text.now ≡ true }
     ensures { Gives (value (context s.now) level_of.Operand (tree_at row.OPERAND text.now)) (after_part row.OPERAND text.now) result }
 {
-    match kind_of(first(text)) {
-        Kind::Literal => literal_at(text),
-        Kind::Group => group(s, text),
-        Kind::Function => function(s, text),
-        Kind::OfOne => of_one_at(s, text),
-        Kind::OfTwo => of_two_at(s, text),
-        Kind::OfMore => of_more_at(s, text),
-        Kind::OfAlpha => of_alpha_at(s, text),
-        Kind::Position => position_at(s, text),
-        Kind::Bytes => bytes_at(s, text),
-        Kind::Kept => {
+    match operand_at(text) {
+        Operand::Number => literal_at(text),
+        Operand::Parentheses => group(s, text),
+        Operand::Function => function(s, text),
+        Operand::OfOne => of_one_at(s, text),
+        Operand::OfTwo => of_two_at(s, text),
+        Operand::OfMore => of_more_at(s, text),
+        Operand::OfAlpha => of_alpha_at(s, text),
+        Operand::Position => position_at(s, text),
+        Operand::Value => bytes_at(s, text),
+        Operand::KeptNumber => {
             let number = kept_number(s.env, first(text));
             Ok((whole_number(u64::from(number)), dropped(text, 1)))
         }
-        Kind::Variable => variable(s, text),
+        Operand::Variable => variable(s, text),
     }
 }
 
@@ -199,7 +198,7 @@ fn operand<'a>(s: &Scope<'_>, text: &'a [u8]) -> Result<(Dec, &'a [u8]), Code>
 #[cycle(values)]
 fn group<'a>(s: &Scope<'_>, text: &'a [u8]) -> Result<(Dec, &'a [u8]), Code>
     requires part { is_part row.PARENTHESES text.now ≡ true }
-    ensures { Gives (meaning.operand (context s.now) kind_is.Group (tree_at row.PARENTHESES text.now)) (after_part row.PARENTHESES text.now) result }
+    ensures { Gives (meaning.operand (context s.now) kind_is.Parentheses (tree_at row.PARENTHESES text.now)) (after_part row.PARENTHESES text.now) result }
 {
     match climb(Level::Sum, s, dropped(text, 1)) {
         Ok((number, rest)) => Ok((number, dropped(rest, 1))),
@@ -397,7 +396,7 @@ pub fn relation_width(text: &[u8]) -> usize {
 #[cycle(values)]
 fn bytes_at<'a>(s: &Scope<'_>, text: &'a [u8]) -> Result<(Dec, &'a [u8]), Code>
     requires part { is_part row.VALUE text.now ≡ true }
-    ensures { Gives (meaning.operand (context s.now) kind_is.Bytes (tree_at row.VALUE text.now)) (after_part row.VALUE text.now) result }
+    ensures { Gives (meaning.operand (context s.now) kind_is.Value (tree_at row.VALUE text.now)) (after_part row.VALUE text.now) result }
 {
     let mut value = Bytes::new();
     let after = match alpha(s, dropped(text, 1), &mut value) {
@@ -549,12 +548,12 @@ fn alpha_operand<'a>(s: &Scope<'_>, text: &'a [u8], into: &mut Bytes) -> Result<
     requires part { is_part row.ALPHA_OPERAND text.now ≡ true }
     ensures { Appends (text_row (context s.now) (tree_at row.ALPHA_OPERAND text.now)) (after_part row.ALPHA_OPERAND text.now) into.old into.new result }
 {
-    match alpha_kind_of(first(text)) {
-        AlphaKind::Literal => quoted_at(text, into),
-        AlphaKind::Part => part_at(s, text, into),
-        AlphaKind::Hex => hex_at(text, into),
-        AlphaKind::Binary => binary_at(s, text, into),
-        AlphaKind::Variable => alpha_variable(s, text, into),
+    match alpha_operand_at(text) {
+        AlphaOperand::Literal => quoted_at(text, into),
+        AlphaOperand::StringPart => part_at(s, text, into),
+        AlphaOperand::Hex => hex_at(text, into),
+        AlphaOperand::Binary => binary_at(s, text, into),
+        AlphaOperand::Variable => alpha_variable(s, text, into),
     }
 }
 
@@ -599,7 +598,7 @@ fn hex_at<'a>(text: &'a [u8], into: &mut Bytes) -> Result<&'a [u8], Code>
 #[cycle(values)]
 fn part_at<'a>(s: &Scope<'_>, text: &'a [u8], into: &mut Bytes) -> Result<&'a [u8], Code>
     requires part { is_part row.STRING_PART text.now ≡ true }
-    ensures { Appends (meaning.text_operand (context s.now) alpha_kind_is.Part (tree_at row.STRING_PART text.now)) (after_part row.STRING_PART text.now) into.old into.new result }
+    ensures { Appends (meaning.text_operand (context s.now) alpha_kind_is.StringPart (tree_at row.STRING_PART text.now)) (after_part row.STRING_PART text.now) into.old into.new result }
 {
     let (located, after) = match located(s, NameKind::AlphaReceiver, dropped(text, 1)) {
         Ok(found) => found,

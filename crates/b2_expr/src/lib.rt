@@ -4,14 +4,12 @@
 mod conditions;
 mod evaluate;
 mod functions;
-mod kinds;
 mod named;
 mod operators;
 mod scope;
 mod value;
 
 pub use functions::{byte_count, bytes_in, counted, extreme, fixed, number_of, of_one, of_text, of_two, place_of, subscript, whole_number};
-pub use kinds::{AlphaKind, Kind, alpha_kind_of, kind_of};
 pub use named::{Element, Located, is_global, variable_named};
 pub use operators::{Level, joined, joined_condition, relation_in, same_bytes, with_sign};
 pub use value::{alpha, condition, number};

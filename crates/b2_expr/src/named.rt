@@ -1,10 +1,15 @@
 // Variables by their names as they are written.
 ghost use Rattle.std.specs.Prelude.{◌≡◌, ◌<◌, ◌≤◌, true, false, length, MatchResult, IfOk, Ok, Err};
+ghost use Rattle.b2_atom.specs.Grammar.{starts};
+ghost use Rattle.b2_atom.specs.Leaves.{is_alpha_name};
+ghost use Rattle.b2_atom.specs.declared.words.Origin.TheVariants.{Atoms};
+ghost use Rattle.b2_atom.specs.declared.forms.Start.TheVariants as start;
 ghost use Rattle.b2_expr.specs.Named.{bytes_there, is_alpha_kind, is_global, number_there, place_seen, variable_named};
 ghost use Rattle.b2_vars.specs.Names.{is_legal_name};
 
 use b2_base::Code;
-use b2_base::lexical::{at, dropped, first, is_digit};
+use b2_atom::words::{BIN_OPEN, HEX_OPEN};
+use b2_base::lexical::{at, dropped, first, is_digit, is_letter};
 use b2_dec::Dec;
 use b2_vars::{Var, Vars};
 
@@ -94,4 +99,21 @@ impl<'a> Located<'a> {
         let element = self.element;
         self.vars.alpha(element.var, element.row, element.column)
     }
+}
+
+/// Whether an alpha expression begins at a text: with a quote, STR(, HEX(, BIN(, or a name with `$`.
+pub fn begins_alpha(text: &[u8]) -> bool
+    ensures { result ≡ starts Atoms start.Alpha text.now }
+{
+    let byte = first(text);
+    byte == b'"' || byte >= HEX_OPEN && byte <= BIN_OPEN || is_alpha_name(text)
+}
+
+/// Whether a name with `$` stands at a text.
+fn is_alpha_name(text: &[u8]) -> bool
+    ensures { result ≡ is_alpha_name Atoms text.now }
+{
+    let start = if is_global(text) { 1 } else { 0 };
+    is_letter(at(text, start))
+        && at(text, if is_digit(at(text, start + 1)) { start + 2 } else { start + 1 }) == b'$'
 }

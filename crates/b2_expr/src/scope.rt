@@ -48,7 +48,7 @@ pub struct Scope<'a> {
 
 /// The value of the parameter, where a name is its name.
 pub fn hidden_by(parameter: Option<Parameter<'_>>, name: &[u8]) -> Option<Dec>
-    ensures { result ≡ hidden_by (option_map parameter_seen parameter) name.now }
+    ensures { result ≡ hidden_by (option_map parameter_seen parameter.entry) name.now }
 {
     match parameter {
         Some(parameter) if same_bytes(parameter.name, name) => Some(parameter.value),
