@@ -9,6 +9,8 @@ pub mod Standing
 pub mod Lists
 pub mod Lengths
 pub mod Units
+pub mod Digits
+pub mod Letters
 pub mod Links
 pub mod ChainRows
 pub mod Choices
