@@ -10,6 +10,8 @@ pub mod Lists
 pub mod Lengths
 pub mod Units
 pub mod Optional
+pub mod Digits
+pub mod Letters
 pub mod Links
 pub mod ChainRows
 pub mod Choices

@@ -28,11 +28,15 @@ leaf_size leaf.LineNumber t = 3
 leaf_size leaf.Text t = length t
 leaf_size k t = leaf_width Atoms k t
 
+-- the bytes of one that isn't a line number or free text
+abbrev pub leaf_bytes : Leaf → Text → Text
+leaf_bytes k t = take (leaf_width Atoms k t) t
+
 -- its token: the two bytes of a line number, and else its bytes as they stand
 abbrev pub leaf_token : Leaf → Text → Token
 leaf_token leaf.LineNumber t = Lined (get_or t 1 0) (get_or t 2 0)
 leaf_token leaf.Text t = Plain leaf.Text t
-leaf_token k t = Plain k (take (leaf_width Atoms k t) t)
+leaf_token k t = Plain k (leaf_bytes k t)
 
 -- what stands after it
 abbrev pub after_leaf : Leaf → Text → Text

@@ -1,5 +1,6 @@
 pub mod Leaves
 pub mod Rows
+pub mod Values
 pub mod Takes
 pub mod Links
 pub mod Chains
