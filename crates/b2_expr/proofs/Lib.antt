@@ -4,3 +4,5 @@ pub mod Factors
 pub mod Climbs
 pub mod Operands
 pub mod OperandKinds
+pub mod Names
+pub mod Texts

@@ -3,7 +3,6 @@ use Rattle.std.proofs.Common.{◌≡◌, ◌<◌, ◌≤◌, ◌+◌, ℕ, zero,
 use Rattle.b2_base.specs.Byte as byte
 use Rattle.b2_base.specs.Lexical.{first, is_digit, is_letter}
 use Rattle.b2_base.specs.declared.codes.TheConstants.{S10_OPEN, S11_CLOSE, S13_SEPARATOR, S17_NUMERIC, S18_ALPHA, S21_COMPARISON, S22_WORD}
-use Rattle.b2_dectext.specs.NumberText.{number_value}
 use Rattle.b2_atom.specs.Words.{Text}
 use Rattle.b2_atom.specs.Leaves.{leaf_width}
 use Rattle.b2_atom.specs.Tokens.Token.{Coded}
@@ -19,14 +18,14 @@ use Rattle.b2_atom.specs.declared.forms.Item.{Item}
 use Rattle.b2_atom.specs.declared.forms.Item.TheVariants.{Word, Among, Sign, Typed, Part, Maybe, Either, Nest}
 use Rattle.b2_rows.specs.Rows.{is_part, tree_at, after_part}
 use Rattle.b2_rows.specs.Leaves.{is_leaf}
+use Rattle.b2_rows.specs.Values.{relation_of}
 use Rattle.b2_rows.specs.Optional.{maybe_part, maybe_tree, after_maybe}
 use Rattle.b2_rows.proofs.Optional.{maybe_stands}
 use Rattle.b2_rows.proofs.Levels.{part_no_longer}
 use Rattle.b2_expr.specs.Answers.{Answer, ◌>>=◌}
 use Rattle.b2_expr.specs.Functions.{of_one, of_two, of_text, place_of, count_or, number_of, whole_number}
-use Rattle.b2_expr.specs.Operators.{relation_in}
-use Rattle.b2_expr.specs.Scope.{Context, kept_number}
-use Rattle.b2_expr.specs.Value.{value, operand, text, second, subscripts, literal_number}
+use Rattle.b2_expr.specs.Scope.{Context, Surroundings, kept_number}
+use Rattle.b2_expr.specs.Value.{value, operand, text, second, subscripts, literal_number, literal_value, kept_value}
 use Rattle.b2_expr.specs.declared.operators.Level.TheVariants as level
 use Rattle.b2_rows.specs.declared.operands.Operand.TheVariants as kind
 use Rattle.b2_expr.proofs.RowsRead.{stands_of, shorter_at, shorter_among}
@@ -150,9 +149,8 @@ kept_row : row_items row.KEPT_NUMBER ≡ kept_items
 unfolding row_items
 kept_row = refl
 
-pub kept_is : (e : Context) (t : Text) → is_part row.KEPT_NUMBER t ≡ true → operand e kind.KeptNumber (tree_at row.KEPT_NUMBER t) ≡ whole_number (kept_number e.around (first t))
-unfolding operand
-kept_is e t ok = ap (operand e kind.KeptNumber) (stands_of row.KEPT_NUMBER kept_items t kept_row ok).1
+pub kept_is : (e : Surroundings) (t : Text) → is_part row.KEPT_NUMBER t ≡ true → kept_value e (tree_at row.KEPT_NUMBER t) ≡ whole_number (kept_number e (first t))
+kept_is e t ok = ap (kept_value e) (stands_of row.KEPT_NUMBER kept_items t kept_row ok).1
 
 pub kept_rest : (t : Text) → is_part row.KEPT_NUMBER t ≡ true → after_part row.KEPT_NUMBER t ≡ drop 1 t
 kept_rest t ok = (stands_of row.KEPT_NUMBER kept_items t kept_row ok).2
@@ -165,7 +163,7 @@ literal_row : row_items row.NUMBER ≡ literal_items
 unfolding row_items
 literal_row = refl
 
-pub literal_is : (t : Text) → is_part row.NUMBER t ≡ true → literal_number (tree_at row.NUMBER t) ≡ number_value (take (leaf_width Atoms leaf.Number t) t)
+pub literal_is : (t : Text) → is_part row.NUMBER t ≡ true → literal_number (tree_at row.NUMBER t) ≡ literal_value (take (leaf_width Atoms leaf.Number t) t)
 literal_is t ok = ap literal_number (stands_of row.NUMBER literal_items t literal_row ok).1
 
 pub literal_rest : (t : Text) → is_part row.NUMBER t ≡ true → after_part row.NUMBER t ≡ drop (leaf_width Atoms leaf.Number t) t
@@ -182,13 +180,62 @@ call_row : row_items row.FUNCTION ≡ call_items
 unfolding row_items
 call_row = refl
 
-one_letter : (b : Bool) → nat_lt 0 (if b then 1 else 0) ≡ true → b ≡ true
+-- the name is one byte
+one_letter : (b : Bool) → nat_lt 0 (if b then 1 else 0) ≡ true → (if b then 1 else 0) ≡ 1
 one_letter true h = refl
 one_letter false h = cc
 
--- the name is one byte
-name_here : (t : Text) → is_part row.FUNCTION t ≡ true → (is_letter (get_or t 1 0) || is_digit (get_or t 1 0)) ≡ true
-name_here t ok = one_letter _ (stands_of row.FUNCTION call_items t call_row ok).0.1.0
+name_size : (t : Text) → is_part row.FUNCTION t ≡ true → leaf_width Atoms leaf.FunctionName (drop 1 t) ≡ 1
+name_size t ok = one_letter _ (stands_of row.FUNCTION call_items t call_row ok).0.1.0
+
+abbrev argument_at : Text → Text
+argument_at t = drop 1 (drop (leaf_width Atoms leaf.FunctionName (drop 1 t)) (drop 1 t))
+
+drop_three : (t : Text) → drop 1 (drop 1 (drop 1 t)) ≡ drop 3 t
+drop_three [] = refl
+drop_three (a ∷ []) = refl
+drop_three (a ∷ b ∷ []) = refl
+drop_three (a ∷ b ∷ c ∷ t) = refl
+
+argument_is : (t : Text) → is_part row.FUNCTION t ≡ true → argument_at t ≡ drop 3 t
+argument_is t ok = ap (λ (n : ℕ). drop 1 (drop n (drop 1 t))) (name_size t ok) ∙ drop_three t
+
+pub call_sum : (t : Text) → is_part row.FUNCTION t ≡ true → is_part row.SUM (drop 3 t) ≡ true
+call_sum t ok = subst (λ (u : Text). is_part row.SUM u ≡ true) (argument_is t ok) (stands_of row.FUNCTION call_items t call_row ok).0.1.1.1.0
+
+letter_of : (b c : Bool) → nat_lt 0 (if b || c then 1 else 0) ≡ true → (b || c) ≡ true
+letter_of true c h = refl
+letter_of false true h = refl
+letter_of false false h = cc
+
+first_of_rest : (t : Text) → first (drop 1 t) ≡ get_or t 1 0
+first_of_rest [] = refl
+first_of_rest (a ∷ []) = refl
+first_of_rest (a ∷ b ∷ t) = refl
+
+pub call_name : (t : Text) → is_part row.FUNCTION t ≡ true → (is_letter (get_or t 1 0) || is_digit (get_or t 1 0)) ≡ true
+call_name t ok =
+    subst (λ (b : ℕ). (is_letter b || is_digit b) ≡ true) (first_of_rest t) (letter_of (is_letter (first (drop 1 t))) (is_digit (first (drop 1 t))) (stands_of row.FUNCTION call_items t call_row ok).0.1.0)
+
+first_of_one : (t : Text) → first (take 1 t) ≡ first t
+first_of_one [] = refl
+first_of_one (b ∷ t) = refl
+
+pub call_is : (e : Context) (t : Text) → is_part row.FUNCTION t ≡ true → operand e kind.Function (tree_at row.FUNCTION t) ≡ (value e level.Sum (tree_at row.SUM (drop 3 t)) >>= e.call (get_or t 1 0))
+unfolding operand
+call_is e t ok =
+    ap (operand e kind.Function) (stands_of row.FUNCTION call_items t call_row ok).1
+    ∙ ap (λ (n : ℕ). value e level.Sum (tree_at row.SUM (argument_at t)) >>= e.call (first (take n (drop 1 t)))) (name_size t ok)
+    ∙ ap (λ (b : ℕ). value e level.Sum (tree_at row.SUM (argument_at t)) >>= e.call b) (first_of_one (drop 1 t) ∙ first_of_rest t)
+    ∙ ap (λ (u : Text). value e level.Sum (tree_at row.SUM u) >>= e.call (get_or t 1 0)) (argument_is t ok)
+
+pub call_rest : (t : Text) → is_part row.FUNCTION t ≡ true → after_part row.FUNCTION t ≡ drop 1 (after_part row.SUM (drop 3 t))
+call_rest t ok = (stands_of row.FUNCTION call_items t call_row ok).2 ∙ ap (λ (u : Text). drop 1 (after_part row.SUM u)) (argument_is t ok)
+
+pub call_shorter : (t : Text) → is_part row.FUNCTION t ≡ true → length (drop 3 t) < length t
+call_shorter t ok =
+    let a = shorter_at t 148 (stands_of row.FUNCTION call_items t call_row ok).0.0 in
+    omega (arith, a, length-drop 3 t, length-drop 1 t)
 
 -- a position
 abbrev position_items : List Item
@@ -229,7 +276,7 @@ position_second t ok = (stands_of row.POSITION_ARGUMENTS compared_items (drop 1 
 
 pub position_is : (e : Context) (t : Text) → is_part row.POSITION t ≡ true → operand e kind.Position (tree_at row.POSITION t)
     ≡ (text e (tree_at row.ALPHA (drop 1 t)) >>= (λ x. text e (tree_at row.ALPHA (other_at row.ALPHA (drop 1 t)))
-    >>= place_of (relation_in (take (sign_size row.ALPHA (drop 1 t)) (sign_at row.ALPHA (drop 1 t)))) x))
+    >>= place_of (relation_of (take (sign_size row.ALPHA (drop 1 t)) (sign_at row.ALPHA (drop 1 t)))) x))
 unfolding operand
 position_is e t ok =
     ap (operand e kind.Position) (stands_of row.POSITION position_items t position_row ok).1

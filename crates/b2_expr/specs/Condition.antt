@@ -7,21 +7,23 @@ use Rattle.b2_alpha.specs.Relations.{holds, order_of}
 use Rattle.b2_atom.specs.Tokens.Token.{Coded, Plain, Lined}
 use Rattle.b2_atom.specs.Tree.{Trees}
 use Rattle.b2_atom.specs.Tree.Trees.{Done, Put, In}
+use Rattle.b2_rows.specs.Links.{token_code}
+use Rattle.b2_rows.specs.Values.{relation_of}
 use Rattle.b2_expr.specs.Answers.{◌>>=◌}
-use Rattle.b2_expr.specs.Operators.{relation_in, joined_condition}
+use Rattle.b2_expr.specs.Operators.{joined_condition}
 use Rattle.b2_expr.specs.Scope.{Context}
-use Rattle.b2_expr.specs.Value.{value, text, token_code}
+use Rattle.b2_expr.specs.Value.{value, text}
 use Rattle.b2_expr.specs.declared.operators.Level.TheVariants as level
 
 -- two alpha expressions compared by their bytes
 abbrev pub compared_text : Context → Trees → Result Bool ℕ
-compared_text s (In n a (Put (Plain k sign) (In m b end))) = text s a >>= (λ x. text s b >>= (λ y. Ok (holds (relation_in sign) (order_of x y))))
+compared_text s (In n a (Put (Plain k sign) (In m b end))) = text s a >>= (λ x. text s b >>= (λ y. Ok (holds (relation_of sign) (order_of x y))))
 compared_text s t = Err S21_COMPARISON
 
 -- two numeric expressions compared by their values
 abbrev pub compared_numbers : Context → Trees → Result Bool ℕ
 compared_numbers s (In n a (Put (Plain k sign) (In m b end))) =
-    value s level.Sum a >>= (λ x. value s level.Sum b >>= (λ y. Ok (holds (relation_in sign) (int_cmp (size_of_number x) (size_of_number y)))))
+    value s level.Sum a >>= (λ x. value s level.Sum b >>= (λ y. Ok (holds (relation_of sign) (int_cmp (size_of_number x) (size_of_number y)))))
 compared_numbers s t = Err S21_COMPARISON
 
 abbrev pub compared : Context → Trees → Result Bool ℕ

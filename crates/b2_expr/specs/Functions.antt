@@ -12,7 +12,7 @@ use Rattle.b2_alpha.specs.Relations.{found_place}
 use Rattle.b2_alpha.specs.declared.relation.Rel.{Rel}
 use Rattle.b2_atom.specs.declared.words.TheConstants as word
 use Rattle.b2_base.specs.Lexical.{first}
-use Rattle.b2_expr.specs.Answers.{Answer, TextAnswer}
+use Rattle.b2_expr.specs.Answers.{Answer, TextAnswer, ◌>>=◌}
 
 -- a whole number as a number
 abbrev pub whole_number : ℕ → Answer
@@ -97,3 +97,7 @@ bytes_in n z = Err P34_RANGE
 -- bytes joined to others, X72 where they are more than 255
 abbrev pub joined_text : List ℕ → List ℕ → TextAnswer
 joined_text a b = if nat_le (length a + length b) 255 then Ok (a ++ b) else Err X72_TOO_LONG
+
+-- a number without its fraction, in n bytes after others
+abbrev pub joined_number : ℕ → Number → List ℕ → TextAnswer
+joined_number n x old = bytes_in n (fixed x) >>= joined_text old

@@ -1,37 +1,29 @@
 -- Variables by their names as they are written.
-use Rattle.std.specs.Prelude.{ℕ, ◌==◌, Bool, true, false, drop, get_or, Option, Some, None, Result, Ok, Err, if◌then◌else◌}
-use Rattle.b2_base.specs.Byte as byte
-use Rattle.b2_base.specs.Lexical.{first, is_digit}
-use Rattle.b2_base.specs.declared.codes.TheConstants.{X77_NO_PARTITION}
+use Rattle.std.specs.Prelude.{ℕ, ◌==◌, ◌&&◌, Bool, true, false, drop, Option, Some, None, Result, Ok, if◌then◌else◌}
 use Rattle.std.specs.FinMap as map
+use Rattle.b2_base.specs.declared.codes.TheConstants.{X77_NO_PARTITION}
 use Rattle.b2_vars.specs.declared.name.Var.{Var}
 use Rattle.b2_vars.specs.Shapes.{cell_at}
 use Rattle.b2_vars.specs.Variables.{VariableState, number_at, alpha_at}
 use Rattle.b2_vars.specs.Tables.{VarsState, shape_at}
 use Rattle.b2_vars.specs.Calls.{get_code}
+use Rattle.b2_atom.specs.declared.rows.TheConstants as row
 use Rattle.b2_atom.specs.Words.{Text}
+use Rattle.b2_atom.specs.Leaves.{leaf_width}
+use Rattle.b2_atom.specs.declared.words.Origin.TheVariants.{Atoms}
+use Rattle.b2_atom.specs.declared.forms.Leaf.{Leaf}
+use Rattle.b2_atom.specs.declared.forms.Leaf.TheVariants as leaf
+use Rattle.b2_rows.specs.declared.leaves.Name.{Name}
 use Rattle.b2_expr.specs.Answers.{Answer, TextAnswer, unless, or_code}
 use Rattle.b2_expr.specs.Scope.{Surroundings}
 use Rattle.b2_expr.specs.declared.named.Element.{Element}
 use Rattle.b2_expr.specs.declared.named.Located.{Located}
 use Rattle.b2_expr.specs.declared.named.NameKind.{NameKind}
 use Rattle.b2_expr.specs.declared.named.NameKind.TheVariants as name_kind
-use Rattle.b2_atom.specs.declared.rows.TheConstants as row
 
--- `@` before a name makes it one of the `@` variables
-abbrev pub is_global : Text → Bool
-is_global name = first name == byte.at_sign
-
--- the letter and what stands after it
-abbrev pub plain_name : Text → Text
-plain_name name = if is_global name then drop 1 name else name
-
--- the variable of a name that is written, where it is known whether it is an alpha one and whether subscripts follow
-abbrev pub digit_in : Text → Option ℕ
-digit_in name = if is_digit (get_or name 1 0) then Some (get_or name 1 0) else None
-
-abbrev pub variable_named : Bool → Bool → Text → Var
-variable_named alpha array name = record { letter = first (plain_name name); digit = digit_in (plain_name name); alpha = alpha; array = array }
+-- the variable of a name, where it is known whether subscripts follow
+abbrev pub variable_of : Name → Bool → Var
+variable_of name array = record { letter = name.letter; digit = name.digit; alpha = name.alpha; array = array }
 
 -- an element, and the variables among which it is looked for
 pub record Place : Type 0 where
@@ -39,8 +31,8 @@ pub record Place : Type 0 where
   pub element : Element
 
 -- whose variables a name speaks of; X77 where there are no `@` variables
-abbrev pub variables_of : Surroundings → Text → Result VarsState ℕ
-variables_of e name = if is_global name then or_code X77_NO_PARTITION e.globals else Ok e.own
+abbrev pub variables_of : Surroundings → Name → Result VarsState ℕ
+variables_of e name = if name.global then or_code X77_NO_PARTITION e.globals else Ok e.own
 
 -- what is found there, or P59 or P57 where the array isn't there or has no such element
 abbrev pub there : {A : Type 0} → (ℕ → Option VariableState → A) → Place → Result A ℕ
@@ -72,3 +64,14 @@ is_alpha_kind name_kind.AlphaReceiver = true
 -- what the code looks up
 abbrev pub place_seen : Located → Place
 place_seen l = record { vars = l.vars.now; element = l.element }
+
+-- how it is typed
+abbrev pub name_leaf : NameKind → Leaf
+name_leaf name_kind.Number = leaf.Name
+name_leaf name_kind.Alpha = leaf.AlphaName
+name_leaf name_kind.NumberReceiver = leaf.Name
+name_leaf name_kind.AlphaReceiver = leaf.AlphaName
+
+-- what stands after it
+abbrev pub after_name : NameKind → Text → Text
+after_name k t = drop (leaf_width Atoms (name_leaf k) t) t

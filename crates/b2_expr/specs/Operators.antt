@@ -1,13 +1,10 @@
 -- The operators of expressions: what joins numbers, by levels, and what compares.
-use Rattle.std.specs.Prelude.{ℕ, ◌==◌, ◌||◌, ◌&&◌, nat_le, Bool, true, false, List, [], ◌∷◌, get_or, Option, Some, None, Result, Ok, Err, ℤ, pos, negsuc, if◌then◌else◌}
+use Rattle.std.specs.Prelude.{ℕ, ◌==◌, nat_le, Bool, true, false, Option, Some, None, Result, Ok, Err, ℤ, pos, negsuc, if◌then◌else◌}
 use Rattle.b2_base.specs.Byte as byte
-use Rattle.b2_base.specs.Lexical.{first}
 use Rattle.b2_base.specs.declared.codes.TheConstants.{C65_EXPONENT}
 use Rattle.b2_dec.specs.Number.{Number, zero_number}
 use Rattle.b2_dec.specs.Arithmetic.{sum_of, difference_of, product_of, quotient_of, power_of, whole_of}
 use Rattle.b2_dec.specs.declared.number.Mode.{Mode}
-use Rattle.b2_alpha.specs.declared.relation.Rel.{Rel}
-use Rattle.b2_alpha.specs.declared.relation.Rel.TheVariants as rel
 use Rattle.b2_atom.specs.declared.words.TheConstants as word
 use Rattle.b2_expr.specs.Answers.{Answer}
 
@@ -33,23 +30,7 @@ joined mode c a b =
 abbrev pub with_sign : Mode → ℕ → Number → Answer
 with_sign mode c x = if c == byte.minus then difference_of mode zero_number x else Ok x
 
--- the relation that a comparison sign of one or two bytes is
-abbrev pub relation_by : ℕ → ℕ → Rel
-relation_by a b =
-    if a == byte.equals then rel.Eq
-    else (if a == byte.less then (if b == byte.equals then rel.Le else (if b == byte.greater then rel.Ne else rel.Lt))
-    else (if b == byte.equals then rel.Ge else rel.Gt))
-
-abbrev pub relation_in : List ℕ → Rel
-relation_in sign = relation_by (first sign) (get_or sign 1 0)
-
 -- what AND, OR or XOR make of two conditions
 abbrev pub joined_condition : ℕ → Bool → Bool → Bool
 joined_condition c true b = if c == word.AND then b else (if c == word.OR then true else (if b then false else true))
 joined_condition c false b = if c == word.AND then false else b
-
--- whether two names are written alike
-abbrev pub same_bytes : List ℕ → List ℕ → Bool
-same_bytes [] [] = true
-same_bytes (x ∷ xs) (y ∷ ys) = x == y && same_bytes xs ys
-same_bytes xs ys = false

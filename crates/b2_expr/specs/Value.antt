@@ -5,7 +5,7 @@ use Rattle.b2_base.specs.Lexical.{first, hex_value}
 use Rattle.b2_base.specs.declared.codes.TheConstants.{A04_TOO_DEEP, P34_RANGE, P38_NO_DEFFN, S17_NUMERIC, S18_ALPHA}
 use Rattle.b2_dec.specs.Number.{Number}
 use Rattle.b2_dec.specs.declared.number.Mode.{Mode}
-use Rattle.b2_dectext.specs.NumberText.{number_value}
+use Rattle.b2_dectext.specs.NumberText.{number_len, number_value}
 use Rattle.b2_alpha.specs.Values.{value_of}
 use Rattle.b2_atom.specs.Words.{Text}
 use Rattle.b2_atom.specs.Tokens.{Token}
@@ -16,14 +16,17 @@ use Rattle.b2_atom.specs.declared.words.TheConstants as word
 use Rattle.b2_atom.specs.declared.rows.TheConstants as row
 use Rattle.b2_rows.specs.Rows.{tree_at}
 use Rattle.b2_rows.specs.Links.{token_code, first_code}
-use Rattle.b2_text.specs.Program.{TextState, line_at}
+use Rattle.b2_rows.specs.Values.{name_of, literal_of, hex_byte_of, relation_of}
+use Rattle.b2_rows.specs.declared.leaves.Name.{Name}
+use Rattle.b2_text.specs.Program.{TextState, Lines, line_at}
 use Rattle.b2_text.specs.Spots.{unit_of, is_function, first_opening}
 use Rattle.b2_text.specs.declared.spots.Spot.{Spot}
 use Rattle.b2_expr.specs.Answers.{Answer, TextAnswer, ◌>>=◌, or_code}
 use Rattle.b2_expr.specs.Functions.{whole_number, subscript, column_of, counted, of_one, of_two, extreme, of_text, place_of, count_or, number_of, bytes_in, joined_text, fixed}
-use Rattle.b2_expr.specs.Named.{Place, variable_named, variables_of, number_there, bytes_there, is_global}
-use Rattle.b2_expr.specs.Operators.{joined, with_sign, relation_in}
-use Rattle.b2_expr.specs.Scope.{Surroundings, Parameter, Context, surroundings, parameter_seen, hidden_by, kept_number}
+use Rattle.b2_expr.specs.Named.{Place, variable_of, variables_of, number_there, bytes_there}
+use Rattle.b2_expr.specs.Operators.{joined, with_sign}
+use Rattle.b2_expr.specs.Scope.{Surroundings, Context, surroundings, hidden_by, kept_number}
+use Rattle.b2_expr.specs.declared.scope.Parameter.{Parameter}
 use Rattle.b2_expr.specs.declared.scope.Scope.{Scope}
 use Rattle.b2_expr.specs.declared.named.Subscripts.{Subscripts}
 use Rattle.b2_expr.specs.declared.operators.Level.{Level}
@@ -48,16 +51,9 @@ other_kinds = kind.Parentheses ∷ kind.Function ∷ kind.OfOne ∷ kind.OfTwo �
 abbrev pub other_alpha_kinds : List AlphaOperand
 other_alpha_kinds = alpha_kind.StringPart ∷ alpha_kind.Hex ∷ alpha_kind.Binary ∷ []
 
--- the bytes of a literal between its quotes
-abbrev pub quoted : Text → List ℕ
-quoted text = take (length text - 2) (drop 1 text)
-
--- the byte of a pair of hexadecimal digits
-abbrev pub pair_byte : Text → ℕ
-pair_byte pair = hex_value (get_or pair 0 0) * 16 + hex_value (get_or pair 1 0)
-
+-- the bytes of further pairs of hexadecimal digits
 abbrev pub pair_bytes : Trees → List ℕ
-pair_bytes (In n (Put (Plain k pair) end) more) = pair_byte pair ∷ pair_bytes more
+pair_bytes (In n (Put (Plain k pair) end) more) = hex_byte_of pair ∷ pair_bytes more
 pair_bytes t = []
 
 -- the bytes of a value from the x-th on, and y of them, or all where no count is written
@@ -73,18 +69,30 @@ abbrev pub signed_by : Mode → ℕ → ℕ → Number → Answer
 signed_by mode n c x = if n == 1 then with_sign mode c x else Ok x
 
 -- a number that is written out
+abbrev pub literal_value : Text → Answer
+literal_value text = if number_len text == 0 then Err S17_NUMERIC else number_value text
+
 abbrev pub literal_number : Trees → Answer
-literal_number (Put (Plain k text) end) = number_value text
+literal_number (Put (Plain k text) end) = literal_value text
 literal_number t = Err S17_NUMERIC
+
+-- the last code, the partition or the terminal
+abbrev pub kept_value : Surroundings → Trees → Answer
+kept_value e (Put word end) = whole_number (kept_number e (token_code word))
+kept_value e t = Err S17_NUMERIC
 
 -- bytes in quotes
 abbrev pub literal_bytes : Trees → TextAnswer
-literal_bytes (Put (Plain k text) end) = Ok (quoted text)
+literal_bytes (Put (Plain k text) end) = Ok (literal_of text)
 literal_bytes t = Err S18_ALPHA
 
 -- bytes by their hexadecimal digits
+abbrev pub pairs_of : Trees → TextAnswer
+pairs_of (Put (Plain k pair) more) = Ok (hex_byte_of pair ∷ pair_bytes more)
+pairs_of t = Err S18_ALPHA
+
 abbrev pub hex_bytes : Trees → TextAnswer
-hex_bytes (Put word (In n (Put (Plain k pair) more) close)) = Ok (pair_byte pair ∷ pair_bytes more)
+hex_bytes (Put word (In n pairs close)) = pairs_of pairs
 hex_bytes t = Err S18_ALPHA
 
 -- the text of a token, and the branch that a tree takes first
@@ -93,17 +101,17 @@ token_text (Coded c) = []
 token_text (Plain k text) = text
 token_text (Lined high low) = []
 
-abbrev pub first_branch : Trees → ℕ
-first_branch Done = 0
-first_branch (Put token more) = 0
-first_branch (In n a more) = n
+abbrev pub branch_of : Trees → ℕ
+branch_of Done = 0
+branch_of (Put token more) = 0
+branch_of (In n a more) = n
 
 -- the element that a name and its subscripts stand for: X77 comes at the name, before the subscripts
-abbrev pub element : Surroundings → Bool → Text → ℕ → Result Subscripts ℕ → Result Place ℕ
-element e alpha name n subscripts =
+abbrev pub element : Surroundings → Name → ℕ → Result Subscripts ℕ → Result Place ℕ
+element e name n subscripts =
     variables_of e name >>= (λ vars. subscripts >>= (λ at. Ok (record {
       vars = vars;
-      element = record { global = is_global name; var = variable_named alpha (n == 1) name; row = at.row; column = at.column }
+      element = record { global = name.global; var = variable_of name (n == 1); row = at.row; column = at.column }
     })))
 
 -- a number that a name stands for: the parameter of the name, and else what the variable has
@@ -111,12 +119,18 @@ abbrev pub or_else : Option Number → Answer → Answer
 or_else (Some x) answer = Ok x
 or_else None answer = answer
 
-abbrev pub named_number : Context → Text → ℕ → Result Subscripts ℕ → Answer
-named_number s name n subscripts = or_else (if n == 1 then None else hidden_by s.parameter name) (element s.around false name n subscripts >>= number_there)
+abbrev pub element_number : Result Place ℕ → Answer
+element_number place = place >>= number_there
+
+abbrev pub named_number : Context → Name → ℕ → Result Subscripts ℕ → Answer
+named_number s name n subscripts = or_else (if n == 1 then None else hidden_by s.parameter name) (element_number (element s.around name n subscripts))
 
 -- the value of an alpha variable: its bytes but the blanks at their end
-abbrev pub named_text : Context → Text → ℕ → Result Subscripts ℕ → TextAnswer
-named_text s name n subscripts = element s.around true name n subscripts >>= bytes_there >>= (λ bytes. Ok (value_of bytes))
+abbrev pub text_of_place : Result Place ℕ → TextAnswer
+text_of_place place = place >>= bytes_there >>= (λ bytes. Ok (value_of bytes))
+
+abbrev pub named_text : Context → Name → ℕ → Result Subscripts ℕ → TextAnswer
+named_text s name n subscripts = text_of_place (element s.around name n subscripts)
 
 unfoldable mutual
   -- a row of a level of operators
@@ -137,7 +151,7 @@ unfoldable mutual
   -- an operand of one of these kinds, or a variable
   pub choice : Context → List Operand → Trees → Answer
   choice s (k ∷ ks) (In n a end) = if n == 1 then operand s k a else choice s ks a
-  choice s ks (Put token more) = named_number s (token_text token) (first_branch more) (subscripts s more)
+  choice s ks (Put token more) = named_number s (name_of false (token_text token)) (branch_of more) (subscripts s more)
   choice s ks t = Err S17_NUMERIC
 
   pub operand : Context → Operand → Trees → Answer
@@ -150,11 +164,11 @@ unfoldable mutual
   operand s kind.OfMore (Put word (In n (In m a more) close)) = extremes s (token_code word) (value s level.Sum a) more
   operand s kind.OfAlpha (Put word (In n a end)) = text s a >>= of_text (token_code word)
   operand s kind.Position (Put word (In n (In m a (Put (Plain k sign) (In l b end))) close)) =
-      text s a >>= (λ x. text s b >>= place_of (relation_in sign) x)
+      text s a >>= (λ x. text s b >>= place_of (relation_of sign) x)
   operand s kind.Value (Put word (In n (In m a count) close)) =
       text s a >>= (λ x. second s count >>= count_or 1 1 4 >>= number_of x)
-  operand s kind.KeptNumber (Put word end) = whole_number (kept_number s.around (token_code word))
-  operand s kind.Variable (Put token more) = named_number s (token_text token) (first_branch more) (subscripts s more)
+  operand s kind.KeptNumber t = kept_value s.around t
+  operand s kind.Variable (Put token more) = named_number s (name_of false (token_text token)) (branch_of more) (subscripts s more)
   operand s k t = Err S17_NUMERIC
 
   -- the greatest or the least of a number and further ones
@@ -191,36 +205,36 @@ unfoldable mutual
   -- one that is of one of these kinds, or a variable
   pub text_choice : Context → List AlphaOperand → Trees → TextAnswer
   text_choice s (k ∷ ks) (In n a end) = if n == 1 then text_operand s k a else text_choice s ks a
-  text_choice s ks (Put token more) = named_text s (token_text token) (first_branch more) (subscripts s more)
+  text_choice s ks (Put token more) = named_text s (name_of true (token_text token)) (branch_of more) (subscripts s more)
   text_choice s ks t = Err S18_ALPHA
 
   pub text_operand : Context → AlphaOperand → Trees → TextAnswer
   text_operand s alpha_kind.Literal t = literal_bytes t
   text_operand s alpha_kind.StringPart (Put word (In n (In m (Put token more) (Put comma (In l a count))) close)) =
-      element s.around true (token_text token) (first_branch more) (subscripts s more) >>= bytes_there >>= (λ bytes. value s level.Sum a >>= (λ from. second s count >>= part_of bytes from))
+      element s.around (name_of true (token_text token)) (branch_of more) (subscripts s more) >>= bytes_there >>= (λ bytes. value s level.Sum a >>= (λ from. second s count >>= part_of bytes from))
   text_operand s alpha_kind.Hex t = hex_bytes t
   text_operand s alpha_kind.Binary (Put word (In n (In m a count) close)) =
       value s level.Sum a >>= (λ x. second s count >>= count_or 1 1 4 >>= (λ n. bytes_in n (fixed x)))
-  text_operand s alpha_kind.Variable (Put token more) = named_text s (token_text token) (first_branch more) (subscripts s more)
+  text_operand s alpha_kind.Variable (Put token more) = named_text s (name_of true (token_text token)) (branch_of more) (subscripts s more)
   text_operand s k t = Err S18_ALPHA
 
 -- the element that a name with subscripts or none stands for
 abbrev pub located : Context → Bool → Trees → Result Place ℕ
-located s alpha (Put token more) = element s.around alpha (token_text token) (first_branch more) (subscripts s more)
-located s alpha t = Err S17_NUMERIC
+located s alpha (Put token more) = element s.around (name_of alpha (token_text token)) (branch_of more) (subscripts s more)
+located s alpha t = Err (if alpha then S18_ALPHA else S17_NUMERIC)
 
--- the unit at a spot of a text
-abbrev pub unit_at : Spot → TextState → Text
-unit_at spot home = option_map_or (unit_of spot.unit) (line_at spot.line home.lines) []
+-- the unit at a spot of lines
+abbrev pub unit_at : Spot → Lines → Text
+unit_at spot lines = option_map_or (unit_of spot.unit) (line_at spot.line lines) []
 
 -- the tree of the function of a name, P38 where the text has none
 abbrev pub function_tree : ℕ → TextState → Result Trees ℕ
-function_tree name home = or_code P38_NO_DEFFN (option_map (λ spot. tree_at row.DEFFN (unit_at spot home)) (first_opening (is_function name) home.lines))
+function_tree name home = or_code P38_NO_DEFFN (option_map (λ spot. tree_at row.DEFFN (unit_at spot home.lines)) (first_opening (is_function name) home.lines))
 
 -- what a function gives whose parameter has a value
 abbrev pub applied : (Parameter → Context) → Number → Trees → Answer
 applied s x (Put deffn (In n (Put (Plain k name) (Put opening (In m (Put (Plain j parameter) end) (Put close (Put equals (In i a last)))))) more)) =
-    value (s (record { name = parameter; value = x })) level.Sum a
+    value (s (record { name = name_of false parameter; value = x })) level.Sum a
 applied s x t = Err S17_NUMERIC
 
 -- what the function of a name gives for an argument, where `room` more calls may open: A04 where none may
@@ -230,7 +244,7 @@ called e (suc room) name x = function_tree name e.home >>= applied (λ p. record
 
 -- what an expression looks at that stands somewhere
 abbrev pub context : Scope → Context
-context s = record { around = surroundings s.env.now; parameter = option_map parameter_seen s.parameter; call = called (surroundings s.env.now) s.room }
+context s = record { around = surroundings s.env.now; parameter = s.parameter; call = called (surroundings s.env.now) s.room }
 
 -- and one of a statement, in which at most 16 calls may be open
 abbrev pub in_statement : Surroundings → Context

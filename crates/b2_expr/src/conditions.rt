@@ -6,15 +6,16 @@ ghost use Rattle.b2_expr.specs.Condition.{compared_text, compared_numbers, compa
 ghost use Rattle.b2_expr.specs.Reads.{Gives};
 ghost use Rattle.b2_expr.specs.Value.{context};
 
-use crate::evaluate::{alpha, climb, relation_width};
-use crate::named::begins_alpha;
-use crate::operators::{Level, joined_condition, relation_in};
+use crate::evaluate::{alpha, climb};
+use crate::operators::{Level, joined_condition};
 use crate::scope::Scope;
 use b2_alpha::compare;
+use b2_atom::relation_width;
 use b2_atom::words::{AND, XOR};
 use b2_base::Code;
-use b2_base::lexical::{dropped, first, front};
+use b2_base::lexical::{dropped, first};
 use b2_dec::{Bytes, cmp};
+use b2_rows::{is_alpha_at, relation_at};
 
 /// A condition: comparisons joined from the left, all of which are evaluated.
 pub fn truth<'a>(s: &Scope<'_>, text: &'a [u8]) -> Result<(bool, &'a [u8]), Code>
@@ -44,7 +45,7 @@ fn comparison<'a>(s: &Scope<'_>, text: &'a [u8]) -> Result<(bool, &'a [u8]), Cod
     requires part { is_part row.COMPARISON text.now ≡ true }
     ensures { Gives (compared (context s.now) (tree_at row.COMPARISON text.now)) (after_part row.COMPARISON text.now) result }
 {
-    if begins_alpha(text) {
+    if is_alpha_at(text) {
         alpha_comparison(s, text)
     } else {
         numeric_comparison(s, text)
@@ -66,7 +67,7 @@ fn alpha_comparison<'a>(s: &Scope<'_>, text: &'a [u8]) -> Result<(bool, &'a [u8]
     match alpha(s, dropped(sign, width), &mut right) {
         Ok(rest) => {
             let order = compare(left.bytes(), right.bytes());
-            Ok((relation_in(front(sign, width)).holds(order), rest))
+            Ok((relation_at(sign).holds(order), rest))
         }
         Err(code) => Err(code),
     }
@@ -83,7 +84,7 @@ fn numeric_comparison<'a>(s: &Scope<'_>, text: &'a [u8]) -> Result<(bool, &'a [u
     };
     let width = relation_width(sign);
     match climb(Level::Sum, s, dropped(sign, width)) {
-        Ok((right, rest)) => Ok((relation_in(front(sign, width)).holds(cmp(left, right)), rest)),
+        Ok((right, rest)) => Ok((relation_at(sign).holds(cmp(left, right)), rest)),
         Err(code) => Err(code),
     }
 }

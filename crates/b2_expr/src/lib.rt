@@ -9,8 +9,6 @@ mod operators;
 mod scope;
 mod value;
 
-pub use functions::{byte_count, bytes_in, counted, extreme, fixed, number_of, of_one, of_text, of_two, place_of, subscript, whole_number};
-pub use named::{Element, Located, is_global, variable_named};
-pub use operators::{Level, joined, joined_condition, relation_in, same_bytes, with_sign};
+pub use operators::Level;
+pub use scope::Env;
 pub use value::{alpha, condition, number};
-pub use scope::{Env, Parameter, Scope, hidden_by, kept_number};

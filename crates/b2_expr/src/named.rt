@@ -1,16 +1,11 @@
 // Variables by their names as they are written.
-ghost use Rattle.std.specs.Prelude.{◌≡◌, ◌<◌, ◌≤◌, true, false, length, MatchResult, IfOk, Ok, Err};
-ghost use Rattle.b2_atom.specs.Grammar.{starts};
-ghost use Rattle.b2_atom.specs.Leaves.{is_alpha_name};
-ghost use Rattle.b2_atom.specs.declared.words.Origin.TheVariants.{Atoms};
-ghost use Rattle.b2_atom.specs.declared.forms.Start.TheVariants as start;
-ghost use Rattle.b2_expr.specs.Named.{bytes_there, is_alpha_kind, is_global, number_there, place_seen, variable_named};
+ghost use Rattle.std.specs.Prelude.{◌≡◌, ◌≤◌, true, false, length, MatchResult, IfOk, Ok, Err};
 ghost use Rattle.b2_vars.specs.Names.{is_legal_name};
+ghost use Rattle.b2_expr.specs.Named.{bytes_there, is_alpha_kind, number_there, place_seen, variable_of};
 
 use b2_base::Code;
-use b2_atom::words::{BIN_OPEN, HEX_OPEN};
-use b2_base::lexical::{at, dropped, first, is_digit, is_letter};
 use b2_dec::Dec;
+use b2_rows::Name;
 use b2_vars::{Var, Vars};
 
 /// A value of a variable: whether its name has `@`, the variable, and the row and the column, 0 where there is none.
@@ -57,23 +52,14 @@ pub struct Located<'a> {
     pub element: Element,
 }
 
-/// Whether `@` stands before a name.
-pub fn is_global(name: &[u8]) -> bool
-    ensures { result ≡ is_global name.now }
+/// The variable of a name, where it is known whether subscripts follow.
+pub fn variable_of(name: Name, array: bool) -> Var
+    ensures { result ≡ variable_of name array }
 {
-    first(name) == b'@'
-}
-
-/// The variable of a name as it is written, where it is known whether it is an alpha one and whether subscripts follow.
-pub fn variable_named(alpha: bool, array: bool, name: &[u8]) -> Var
-    ensures { result ≡ variable_named alpha array name.now }
-{
-    let plain = if is_global(name) { dropped(name, 1) } else { name };
-    let second = at(plain, 1);
     Var {
-        letter: first(plain),
-        digit: if is_digit(second) { Some(second) } else { None },
-        alpha,
+        letter: name.letter,
+        digit: name.digit,
+        alpha: name.alpha,
         array,
     }
 }
@@ -99,21 +85,4 @@ impl<'a> Located<'a> {
         let element = self.element;
         self.vars.alpha(element.var, element.row, element.column)
     }
-}
-
-/// Whether an alpha expression begins at a text: with a quote, STR(, HEX(, BIN(, or a name with `$`.
-pub fn begins_alpha(text: &[u8]) -> bool
-    ensures { result ≡ starts Atoms start.Alpha text.now }
-{
-    let byte = first(text);
-    byte == b'"' || byte >= HEX_OPEN && byte <= BIN_OPEN || is_alpha_name(text)
-}
-
-/// Whether a name with `$` stands at a text.
-fn is_alpha_name(text: &[u8]) -> bool
-    ensures { result ≡ is_alpha_name Atoms text.now }
-{
-    let start = if is_global(text) { 1 } else { 0 };
-    is_letter(at(text, start))
-        && at(text, if is_digit(at(text, start + 1)) { start + 2 } else { start + 1 }) == b'$'
 }

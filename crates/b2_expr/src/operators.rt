@@ -1,12 +1,10 @@
 // What joins two numbers, by levels: sums of products of powers; and what compares.
 ghost use Rattle.std.specs.Prelude.{◌≡◌, Some};
-ghost use Rattle.b2_expr.specs.Operators.{joined, joined_condition, raised, raised_by, relation_in, same_bytes, with_sign};
+ghost use Rattle.b2_expr.specs.Operators.{joined, joined_condition, raised, raised_by, with_sign};
 
-use b2_alpha::Rel;
 use b2_atom::words::{AND, OR};
 use b2_base::Code;
 use b2_base::codes::C65_EXPONENT;
-use b2_base::lexical::at;
 use b2_dec::{Dec, Mode, add, div, mul, power, sub, whole};
 
 /// The levels of operators, from what binds least to what binds most.
@@ -63,20 +61,6 @@ pub fn with_sign(mode: Mode, sign: u8, number: Dec) -> Result<Dec, Code>
     }
 }
 
-/// The relation that a comparison sign is.
-pub fn relation_in(sign: &[u8]) -> Rel
-    ensures { result ≡ relation_in sign.now }
-{
-    match (at(sign, 0), at(sign, 1)) {
-        (b'=', _) => Rel::Eq,
-        (b'<', b'=') => Rel::Le,
-        (b'<', b'>') => Rel::Ne,
-        (b'<', _) => Rel::Lt,
-        (_, b'=') => Rel::Ge,
-        _ => Rel::Gt,
-    }
-}
-
 /// What AND, OR or XOR make of two conditions.
 pub fn joined_condition(word: u8, a: bool, b: bool) -> bool
     ensures { result ≡ joined_condition word a b }
@@ -86,11 +70,4 @@ pub fn joined_condition(word: u8, a: bool, b: bool) -> bool
         OR => a || b,
         _ => a != b,
     }
-}
-
-/// Whether two names are written alike.
-pub fn same_bytes(a: &[u8], b: &[u8]) -> bool
-    ensures { result ≡ same_bytes a.now b.now }
-{
-    a == b
 }

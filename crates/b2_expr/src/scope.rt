@@ -1,11 +1,11 @@
 // What expressions look at.
-ghost use Rattle.std.specs.Prelude.{◌≡◌, option_map};
-ghost use Rattle.b2_expr.specs.Scope.{hidden_by, kept_number, parameter_seen, surroundings};
+ghost use Rattle.std.specs.Prelude.{◌≡◌};
+ghost use Rattle.b2_expr.specs.Scope.{hidden_by, is_same_name, kept_number, same_digit, surroundings};
 
-use crate::operators::same_bytes;
 use b2_atom::words::{ERR, HASH_PART};
 use b2_base::{Part, Term};
 use b2_dec::{Dec, Mode};
+use b2_rows::Name;
 use b2_text::Text;
 use b2_vars::Vars;
 
@@ -28,10 +28,10 @@ pub struct Env<'a> {
     pub term: Term,
 }
 
-/// The parameter of a function that is called: its name as it is written, and its value.
+/// The parameter of a function that is called: its name and its value.
 #[derive(Clone, Copy)]
-pub struct Parameter<'a> {
-    pub name: &'a [u8],
+pub struct Parameter {
+    pub name: Name,
     pub value: Dec,
 }
 
@@ -41,18 +41,42 @@ pub struct Scope<'a> {
     /// What it looks at.
     pub env: &'a Env<'a>,
     /// The parameter of the function in whose expression it is, which hides the variable of its name.
-    pub parameter: Option<Parameter<'a>>,
+    pub parameter: Option<Parameter>,
     /// How many more calls of functions may open in it.
     pub room: u8,
 }
 
+/// Whether the digits of two names are one.
+fn same_digit(a: Option<u8>, b: Option<u8>) -> bool
+    ensures { result ≡ same_digit a b }
+{
+    match (a, b) {
+        (None, None) => true,
+        (Some(a), Some(b)) => a == b,
+        _ => false,
+    }
+}
+
+/// Whether two numeric names are one.
+fn is_same_name(a: Name, b: Name) -> bool
+    ensures { result ≡ is_same_name a b }
+{
+    a.letter == b.letter && same_digit(a.digit, b.digit) && a.global == b.global
+}
+
 /// The value of the parameter, where a name is its name.
-pub fn hidden_by(parameter: Option<Parameter<'_>>, name: &[u8]) -> Option<Dec>
-    ensures { result ≡ hidden_by (option_map parameter_seen parameter.entry) name.now }
+pub fn hidden_by(parameter: Option<Parameter>, name: Name) -> Option<Dec>
+    ensures { result ≡ hidden_by parameter name }
 {
     match parameter {
-        Some(parameter) if same_bytes(parameter.name, name) => Some(parameter.value),
-        _ => None,
+        Some(parameter) => {
+            if is_same_name(parameter.name, name) {
+                Some(parameter.value)
+            } else {
+                None
+            }
+        }
+        None => None,
     }
 }
 
