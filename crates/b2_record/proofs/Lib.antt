@@ -1,0 +1,4 @@
+pub mod Values
+pub mod Groups
+pub mod Parsing
+pub mod Reading
