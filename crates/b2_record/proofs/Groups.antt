@@ -8,7 +8,7 @@ use Rattle.b2_dec.specs.declared.values.Value.{Value}
 use Rattle.b2_dec.specs.declared.values.Value.TheVariants as value
 use Rattle.b2_record.specs.declared.sectors.TheConstants.{ROOM}
 use Rattle.b2_record.specs.Items.{value_bytes, group_bytes, is_short, IsStorable, AllStorable}
-use Rattle.b2_record.specs.Records.{has_room, fits, goes_over, go_on, is_record, is_none, joined, sector_of, sector_kind, sectors_from, Spells}
+use Rattle.b2_record.specs.Records.{has_room, fits_in_sector, goes_over, go_on, is_record, is_none, all_values, sector_of, sector_kind, sectors_from, Spells}
 use Rattle.b2_record.specs.Writing.{groups_from, groups_of, record_of, first_count}
 use Rattle.b2_record.proofs.Values.{bytes_joined}
 
@@ -111,7 +111,7 @@ not-false true h = cc
 not-false false h = refl
 
 -- what fits as a whole has room at each value
-room_within : (group : List Value) (v : Value) (rest : List Value) → fits (group ++ v ∷ rest) ≡ true → has_room (length (group_bytes group)) v ≡ true
+room_within : (group : List Value) (v : Value) (rest : List Value) → fits_in_sector (group ++ v ∷ rest) ≡ true → has_room (length (group_bytes group)) v ≡ true
 room_within group v rest h =
     let all = ap length (bytes_joined group (v ∷ rest)) in
     let parts = length-append (group_bytes group) (value_bytes v ++ group_bytes rest) in
@@ -120,15 +120,15 @@ room_within group v rest h =
     le-leb (length (group_bytes group) + length (value_bytes v)) ROOM (omega (arith, all, parts, last, most))
 
 -- values that were parted are parted so by the writer
-pub groups_from-only : (group rest : List Value) (groups : List (List Value)) → fits (group ++ rest) ≡ true → go_on (length (group_bytes (group ++ rest))) groups ≡ true
-    → groups_from group (rest ++ joined groups) ≡ (group ++ rest) ∷ groups
+pub groups_from-only : (group rest : List Value) (groups : List (List Value)) → fits_in_sector (group ++ rest) ≡ true → go_on (length (group_bytes (group ++ rest))) groups ≡ true
+    → groups_from group (rest ++ all_values groups) ≡ (group ++ rest) ∷ groups
 groups_from-only group [] [] h k = ap (λ g. g ∷ []) (sym (append-nil group))
 groups_from-only group [] ([] ∷ groups) h k = cc
 groups_from-only group [] ((v ∷ next) ∷ groups) h k =
     let whole = append-nil group in
     let over : goes_over (length (group_bytes (group ++ []))) (v ∷ next) ≡ true = and-left _ _ (and-left _ _ k) in
     let full : has_room (length (group_bytes group)) v ≡ false = rw (sym whole) (not-false _ over) in
-    let few : fits (v ∷ next) ≡ true = and-right _ _ (and-left _ _ k) in
+    let few : fits_in_sector (v ∷ next) ≡ true = and-right _ _ (and-left _ _ k) in
     let rest = groups_from-only (v ∷ []) next groups few (and-right _ _ k) in
     rw (full, whole) (ap (λ gs. group ∷ gs) rest)
 groups_from-only group (v ∷ rest) groups h k =
@@ -137,27 +137,27 @@ groups_from-only group (v ∷ rest) groups h k =
     let next = groups_from-only (group ++ v ∷ []) rest groups (rw all h) (rw all k) in
     rw room (next ∙ ap (λ g. g ∷ groups) all)
 
-pub groups_of-only : (groups : List (List Value)) → is_record groups ≡ true → groups_of (joined groups) ≡ groups
+pub groups_of-only : (groups : List (List Value)) → is_record groups ≡ true → groups_of (all_values groups) ≡ groups
 groups_of-only [] h = cc
 groups_of-only (group ∷ groups) h = groups_from-only [] group groups (and-left _ _ h) (and-right _ _ h)
 
 -- ---- the writer's parts are a record
 
 joined_chosen : (b : Bool) (group : List Value) (v : Value) (values : List Value)
-    → joined (groups_from (group ++ v ∷ []) values) ≡ (group ++ v ∷ []) ++ values → joined (groups_from (v ∷ []) values) ≡ v ∷ values
-    → joined (if b then groups_from (group ++ v ∷ []) values else group ∷ groups_from (v ∷ []) values) ≡ group ++ v ∷ values
+    → all_values (groups_from (group ++ v ∷ []) values) ≡ (group ++ v ∷ []) ++ values → all_values (groups_from (v ∷ []) values) ≡ v ∷ values
+    → all_values (if b then groups_from (group ++ v ∷ []) values else group ∷ groups_from (v ∷ []) values) ≡ group ++ v ∷ values
 joined_chosen true group v values e k = e ∙ append_assoc group (v ∷ []) values
 joined_chosen false group v values e k = ap (λ t. group ++ t) k
 
-pub joined-groups : (group values : List Value) → joined (groups_from group values) ≡ group ++ values
+pub joined-groups : (group values : List Value) → all_values (groups_from group values) ≡ group ++ values
 joined-groups group [] = refl
 joined-groups group (v ∷ values) = joined_chosen (has_room (length (group_bytes group)) v) group v values (joined-groups (group ++ v ∷ []) values) (joined-groups (v ∷ []) values)
 
 go_on-next : (used : ℕ) (v : Value) (rest : List Value) (after groups : List (List Value)) → groups ≡ (v ∷ rest) ∷ after → is_record groups ≡ true → has_room used v ≡ false → go_on used groups ≡ true
 go_on-next used v rest after groups e h full = rw (e, full) (rw e at h)
 
-parted_chosen : (b : Bool) (group : List Value) (v : Value) (values : List Value) → has_room (length (group_bytes group)) v ≡ b → fits group ≡ true
-    → (fits (group ++ v ∷ []) ≡ true → is_record (groups_from (group ++ v ∷ []) values) ≡ true)
+parted_chosen : (b : Bool) (group : List Value) (v : Value) (values : List Value) → has_room (length (group_bytes group)) v ≡ b → fits_in_sector group ≡ true
+    → (fits_in_sector (group ++ v ∷ []) ≡ true → is_record (groups_from (group ++ v ∷ []) values) ≡ true)
     → is_record (groups_from (v ∷ []) values) ≡ true
     → is_record (if b then groups_from (group ++ v ∷ []) values else group ∷ groups_from (v ∷ []) values) ≡ true
 parted_chosen true group v values room h e k =
@@ -167,10 +167,10 @@ parted_chosen false group v values room h e k =
     rw h (go_on-next (length (group_bytes group)) v (take (first_count (length (group_bytes (v ∷ []))) values) values) (later (drop (first_count (length (group_bytes (v ∷ []))) values) values)) (groups_from (v ∷ []) values)
     (groups_from-first (length (group_bytes (v ∷ []))) (v ∷ []) values refl) k room)
 
-alone-fits : (v : Value) → is_short v ≡ true → fits (v ∷ []) ≡ true
+alone-fits : (v : Value) → is_short v ≡ true → fits_in_sector (v ∷ []) ≡ true
 alone-fits v h = le-leb (length (group_bytes (v ∷ []))) ROOM (omega (arith, short-few v h, ap length (append-nil (value_bytes v))))
 
-pub parted-groups : (group values : List Value) → fits group ≡ true → list_all is_short values ≡ true → is_record (groups_from group values) ≡ true
+pub parted-groups : (group values : List Value) → fits_in_sector group ≡ true → list_all is_short values ≡ true → is_record (groups_from group values) ≡ true
 parted-groups group [] h short = rw h refl
 parted-groups group (v ∷ values) h short =
     parted_chosen (has_room (length (group_bytes group)) v) group v values refl h
@@ -220,7 +220,7 @@ later-rest count (v ∷ rest) after values short some e h =
     let same = ap (λ t. length (later t)) e in
     omega (arith, step, same, h)
 
-length-sectors : (number : ℕ) (groups : List (List Value)) → length (sectors_from number groups) ≡ length groups
+pub length-sectors : (number : ℕ) (groups : List (List Value)) → length (sectors_from number groups) ≡ length groups
 length-sectors number [] = refl
 length-sectors number (group ∷ groups) = ap suc (length-sectors (number + 1) groups)
 
@@ -276,13 +276,13 @@ storable-more (suc n) (w ∷ values) v rest e h k = (h.0, storable-more n values
 pub counted-more : (count used len total : ℕ) (v : Value) (rest after : List Value) → count + first_count used rest ≡ total → rest ≡ v ∷ after → len ≡ length (value_bytes v) → used + len ≤ ROOM
     → count + 1 + first_count (used + len) after ≡ total
 counted-more count used len total v rest after h e n room =
-    let fits : has_room used v ≡ true = le-leb (used + length (value_bytes v)) ROOM (omega (arith, n, room)) in
-    let step : first_count used (v ∷ after) ≡ suc (first_count (used + length (value_bytes v)) after) = rw fits refl in
+    let room_for : has_room used v ≡ true = le-leb (used + length (value_bytes v)) ROOM (omega (arith, n, room)) in
+    let step : first_count used (v ∷ after) ≡ suc (first_count (used + length (value_bytes v)) after) = rw room_for refl in
     let same = ap (first_count used) e in
     let here = ap (λ k. first_count (used + k) after) n in
     omega (arith, h, step, same, here)
 
-pub fits-first : (rest : List Value) → fits (take (first_count 0 rest) rest) ≡ true
+pub fits-first : (rest : List Value) → fits_in_sector (take (first_count 0 rest) rest) ≡ true
 fits-first rest = let few = first-fits 0 rest (omega arith) in le-leb (length (group_bytes (take (first_count 0 rest) rest))) ROOM (omega (arith, few))
 
 pub put-sector : (k : ℕ) (values rest group after : List Value) → 1 ≤ k → groups_of rest ≡ drop (k - 1) (groups_of values) → group ≡ take (first_count 0 rest) rest → after ≡ drop (first_count 0 rest) rest

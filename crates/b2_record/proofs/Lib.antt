@@ -2,3 +2,4 @@ pub mod Values
 pub mod Groups
 pub mod Parsing
 pub mod Reading
+pub mod Unique

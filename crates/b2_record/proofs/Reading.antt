@@ -5,7 +5,7 @@ use Rattle.std.proofs.lemmas.List.FromFn.{map-range_with_len_more}
 use Rattle.b2_dec.specs.declared.values.Value.{Value}
 use Rattle.b2_platter.specs.Image.{sector}
 use Rattle.b2_record.specs.Items.{value_bytes, group_bytes, IsStorable, AllStorable}
-use Rattle.b2_record.specs.Records.{fits, goes_over, go_on, is_record, is_none, joined, sector_of, sector_kind, sectors_from, sectors_at, Spells, IsNoRecord}
+use Rattle.b2_record.specs.Records.{fits_in_sector, goes_over, go_on, is_record, is_none, all_values, sector_of, sector_kind, sectors_from, sectors_at, Spells, IsNoRecord}
 use Rattle.b2_record.proofs.Groups.{and-left, and-right}
 use Rattle.b2_record.proofs.Parsing.{storable-joined, storable-left, storable-right, sector-unique}
 
@@ -22,7 +22,7 @@ follows (suc count) used group = goes_over used group
 -- what was read of a record so far: it is read on exactly as it goes on, and any record that stands there begins so
 pub record Reading (image : List ℕ) (at : ℕ) (values : List Value) (used count : ℕ) : Type 0 where
   pub groups : List (List Value)
-  pub all : joined groups ≡ values
+  pub all : all_values groups ≡ values
   pub storable : AllStorable values
   pub counted : length groups ≡ count
   pub chain : (more : List (List Value)) → is_record (groups ++ more) ≡ continues count used more
@@ -31,9 +31,9 @@ pub record Reading (image : List ℕ) (at : ℕ) (values : List Value) (used cou
 
 -- ---- lists
 
-pub joined-more : (a b : List (List Value)) → joined (a ++ b) ≡ joined a ++ joined b
+pub joined-more : (a b : List (List Value)) → all_values (a ++ b) ≡ all_values a ++ all_values b
 joined-more [] b = refl
-joined-more (g ∷ a) b = ap (λ t. g ++ t) (joined-more a b) ∙ sym (append_assoc g (joined a) (joined b))
+joined-more (g ∷ a) b = ap (λ t. g ++ t) (joined-more a b) ∙ sym (append_assoc g (all_values a) (all_values b))
 
 some_group : (groups : List (List Value)) → is_record groups ≡ true → (group : List Value) × (more : List (List Value)) × (groups ≡ group ∷ more)
 some_group [] h = cc
@@ -79,12 +79,12 @@ next-sector image at used count values r other n spelled =
     let found = r.only other n spelled in
     let all : sectors_at image at n ≡ sectors_at image at count ++ sectors_from (count + 1) (found.0 ∷ found.1) = sym spelled.same ∙ (ap (sectors_from 1) found.2 ∙ r.written found.0 found.1) in
     let here = at-split (sector image) at count n _ _ all in
-    let parts : other ≡ joined r.groups ++ (found.0 ++ joined found.1) = sym spelled.all ∙ (ap joined found.2 ∙ joined-more r.groups (found.0 ∷ found.1)) in
+    let parts : other ≡ all_values r.groups ++ (found.0 ++ all_values found.1) = sym spelled.all ∙ (ap all_values found.2 ∙ joined-more r.groups (found.0 ∷ found.1)) in
     record {
       group = found.0;
       more = found.1;
       parts = found.2;
-      storable = storable-left found.0 (joined found.1) (storable-right (joined r.groups) (found.0 ++ joined found.1) (subst AllStorable parts spelled.storable));
+      storable = storable-left found.0 (all_values found.1) (storable-right (all_values r.groups) (found.0 ++ all_values found.1) (subst AllStorable parts spelled.storable));
       within = here.0;
       same = here.1;
     }
@@ -95,7 +95,7 @@ at-more : (f : ℕ → List ℕ) (at n : ℕ) → map f (range_with_len at (suc 
 at-more f at zero = let here : at ≡ at + 0 = omega arith in ap (λ k. f k ∷ []) here
 at-more f at (suc n) = let here : at + 1 + n ≡ at + suc n = omega arith in ap (λ t. f at ∷ t) (at-more f (at + 1) n ∙ ap (λ k. map f (range_with_len (at + 1) n) ++ f k ∷ []) here)
 
-go-on-more : (count used : ℕ) (group : List Value) (more : List (List Value)) → fits group ≡ true → follows count used group ≡ true
+go-on-more : (count used : ℕ) (group : List Value) (more : List (List Value)) → fits_in_sector group ≡ true → follows count used group ≡ true
     → continues count used (group ∷ more) ≡ go_on (length (group_bytes group)) more
 go-on-more zero used group more h k = rw h refl
 go-on-more (suc count) used group more h k = rw (h, k) refl
@@ -104,7 +104,7 @@ some_more : (more : List (List Value)) → is_none more ≡ false → (next : Li
 some_more [] h = cc
 some_more (next ∷ rest) h = (next, rest, refl)
 
-pub reading-more : (image : List ℕ) (at used count : ℕ) (values group : List Value) → Reading image at values used count → AllStorable group → fits group ≡ true → follows count used group ≡ true
+pub reading-more : (image : List ℕ) (at used count : ℕ) (values group : List Value) → Reading image at values used count → AllStorable group → fits_in_sector group ≡ true → follows count used group ≡ true
     → sector image (at + count) ≡ sector_of (sector_kind (count + 1 == 1) false) (count + 1) group
     → Reading image at (values ++ group) (length (group_bytes group)) (suc count)
 reading-more image at used count values group r storable few over same = record {
@@ -132,7 +132,7 @@ reading-more image at used count values group r storable few over same = record 
 
 -- ---- the last sector was read
 
-pub reading-end : (image : List ℕ) (at used count : ℕ) (values group : List Value) → Reading image at values used count → AllStorable group → fits group ≡ true → follows count used group ≡ true
+pub reading-end : (image : List ℕ) (at used count : ℕ) (values group : List Value) → Reading image at values used count → AllStorable group → fits_in_sector group ≡ true → follows count used group ≡ true
     → sector image (at + count) ≡ sector_of (sector_kind (count + 1 == 1) true) (count + 1) group → count < 255
     → Spells (values ++ group) (sectors_at image at (suc count))
 reading-end image at used count values group r storable few over same within = record {
@@ -165,7 +165,7 @@ stops-unspelled image at used count last values r none other n within spelled =
 
 goes-over : (count used : ℕ) (group : List Value) (more : List (List Value)) → 1 ≤ count → continues count used (group ∷ more) ≡ true → goes_over used group ≡ true
 goes-over zero used group more some h = absurd (omega (arith, some))
-goes-over (suc count) used group more some h = and-left (goes_over used group) (fits group) (and-left (goes_over used group && fits group) (go_on (length (group_bytes group)) more) h)
+goes-over (suc count) used group more some h = and-left (goes_over used group) (fits_in_sector group) (and-left (goes_over used group && fits_in_sector group) (go_on (length (group_bytes group)) more) h)
 
 pub stops-short : (image : List ℕ) (at used count last : ℕ) (values group : List Value) (is_last : Bool) → Reading image at values used count → AllStorable group → 1 ≤ count → goes_over used group ≡ false
     → sector image (at + count) ≡ sector_of (sector_kind (count + 1 == 1) is_last) (count + 1) group → IsNoRecord image at last

@@ -32,8 +32,8 @@ abbrev pub has_room : ℕ → Value → Bool
 has_room used v = nat_le (used + length (value_bytes v)) ROOM
 
 -- the values of a sector fit
-abbrev pub fits : List Value → Bool
-fits group = nat_le (length (group_bytes group)) ROOM
+abbrev pub fits_in_sector : List Value → Bool
+fits_in_sector group = nat_le (length (group_bytes group)) ROOM
 
 -- the values of a further sector begin with one that had no room in the sector before
 abbrev pub goes_over : ℕ → List Value → Bool
@@ -43,21 +43,21 @@ goes_over used (v ∷ group) = not (has_room used v)
 -- the values of further sectors, where those of the sector before take some bytes
 abbrev pub go_on : ℕ → List (List Value) → Bool
 go_on used [] = true
-go_on used (group ∷ groups) = goes_over used group && fits group && go_on (length (group_bytes group)) groups
+go_on used (group ∷ groups) = goes_over used group && fits_in_sector group && go_on (length (group_bytes group)) groups
 
 -- the values of a record, sector by sector: a value goes into the current sector where it fits, and else into the next
 abbrev pub is_record : List (List Value) → Bool
 is_record [] = false
-is_record (group ∷ groups) = fits group && go_on (length (group_bytes group)) groups
+is_record (group ∷ groups) = fits_in_sector group && go_on (length (group_bytes group)) groups
 
 abbrev pub is_none : List (List Value) → Bool
 is_none [] = true
 is_none (group ∷ groups) = false
 
 -- all values, one sector's after another's
-abbrev pub joined : List (List Value) → List Value
-joined [] = []
-joined (group ∷ groups) = group ++ joined groups
+abbrev pub all_values : List (List Value) → List Value
+all_values [] = []
+all_values (group ∷ groups) = group ++ all_values groups
 
 -- the sectors of these values, numbered from some number on
 abbrev pub sectors_from : ℕ → List (List Value) → List (List ℕ)
@@ -68,7 +68,7 @@ sectors_from number (group ∷ groups) = sector_of (sector_kind (number == 1) (i
 pub record Spells (values : List Value) (sectors : List (List ℕ)) : Type 0 where
   pub groups : List (List Value)
   pub storable : AllStorable values
-  pub all : joined groups ≡ values
+  pub all : all_values groups ≡ values
   pub split : is_record groups ≡ true
   pub few : length groups ≤ 255
   pub same : sectors_from 1 groups ≡ sectors

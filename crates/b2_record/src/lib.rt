@@ -2,6 +2,7 @@
 #![tactic(auto)]
 
 pub mod items;
+pub mod laws;
 mod records;
 pub mod sectors;
 #[cfg(test)]

@@ -116,7 +116,7 @@ fn follows(count: u32, used: usize, values: &[Value]) -> bool
 }
 
 /// How many sectors a record from a sector on may have that ends at a last one or before.
-fn most_sectors(at: u32, last: u32) -> u32
+fn sectors_left(at: u32, last: u32) -> u32
     ensures { result ≡ min 255 (last + 1 - at) }
 {
     if last < at {
@@ -126,7 +126,7 @@ fn most_sectors(at: u32, last: u32) -> u32
 }
 
 /// Adds values at the end.
-fn append(values: &mut Vec<Value>, more: Vec<Value>) -> Result<(), NoMemory>
+fn add_all(values: &mut Vec<Value>, more: Vec<Value>) -> Result<(), NoMemory>
     ensures { OnOk result (values.new.items ≡ values.old.items ++ more.items) }
 {
     let mut more = more;
@@ -145,7 +145,7 @@ pub fn take(alloc: Global, p: &Platter, at: u32, last: u32) -> Result<(Vec<Value
     let mut values = Vec::new(alloc);
     let mut used = 0;
     let mut count = 0;
-    let most = most_sectors(at, last);
+    let most = sectors_left(at, last);
     while count < most {
         let group = match group_at(alloc, p.sector(at + count), count as u8 + 1) {
             Ok(group) => group,
@@ -155,7 +155,7 @@ pub fn take(alloc: Global, p: &Platter, at: u32, last: u32) -> Result<(Vec<Value
             return Err(Fault::Code(Code::known(D88_FORMAT)));
         }
         used = bytes_len(&group.values);
-        append(&mut values, group.values)?;
+        add_all(&mut values, group.values)?;
         count += 1;
         if group.is_last {
             return Ok((values, count));

@@ -3,7 +3,7 @@ ghost use Rattle.std.specs.Prelude.{◌≡◌, ℕ, ◌==◌, ◌+◌, ◌-◌, 
 ghost use Rattle.b2_dec.specs.declared.values.Value.{Value as AnyValue};
 ghost use Rattle.b2_record.specs.Items.{value_bytes, group_bytes, is_short, AllStorable};
 ghost use Rattle.std.specs.List.{list_all};
-ghost use Rattle.b2_record.specs.Records.{sector_kind, sector_of, fits, IsGroup, Unspelled};
+ghost use Rattle.b2_record.specs.Records.{sector_kind, sector_of, fits_in_sector, IsGroup, Unspelled};
 
 use crate::items::{ALPHA, END_OF_VALUES, NUMBER, value_len, value_at};
 use arrayvec::ArrayVec;
@@ -105,7 +105,7 @@ fn fill_up(draft: &mut Draft)
 /// Writes a sector: its kind, its number within the record, its values, the byte that ends them, and 00 to the end.
 pub(crate) fn write_sector(kind: u8, number: u8, values: &[Value], into: &mut [u8; 256])
     requires short { list_all is_short values.now ≡ true }
-    requires room { fits values.now ≡ true }
+    requires room { fits_in_sector values.now ≡ true }
     ensures { into.new ≡ sector_of kind number values.now }
 {
     let mut draft = Draft::new();

@@ -33,8 +33,8 @@ returns-then-group-clause-ok c =
     let asked : ((c.loop-count.count == 0) || goes_over c.loop-count.used values) ≡ true = ap (λ vs. (c.loop-count.count == 0) || goes_over c.loop-count.used vs) (sym c.deref.ensures.value) ∙ sym c.if-not-follows.ensures in
     let over = follows-from c.loop-count.count c.loop-count.used values asked in
     let same = subst (λ (b : Bool). sector c.args.p.now (c.args.at + c.loop-count.count) ≡ sector_of (sector_kind (c.loop-count.count + 1 == 1) b) (c.loop-count.count + 1) values) c.if-group.true ok.1 in
-    rw (c.in_ok-append.ensures, add-one c.loop-count.count)
-    (reading-end c.args.p.now c.args.at c.loop-count.used c.loop-count.count c.loop-count.values.items values c.loop-count.invariant.reading ok.0 (le-leb (length (group_bytes values)) 253 c.in-Ok.ensures.room) over same (omega (arith, c.loop-count-test.true, c.most_sectors-most.ensures)))
+    rw (c.in_ok-add_all.ensures, add-one c.loop-count.count)
+    (reading-end c.args.p.now c.args.at c.loop-count.used c.loop-count.count c.loop-count.values.items values c.loop-count.invariant.reading ok.0 (le-leb (length (group_bytes values)) 253 c.in-Ok.ensures.room) over same (omega (arith, c.loop-count-test.true, c.sectors_left-most.ensures)))
 
 pub loop-count-preserved : goal.loop-count-preserved
 loop-count-preserved c =
@@ -45,11 +45,11 @@ loop-count-preserved c =
     let same = subst (λ (b : Bool). sector c.args.p.now (c.args.at + c.loop-count.count) ≡ sector_of (sector_kind (c.loop-count.count + 1 == 1) b) (c.loop-count.count + 1) values) c.if-group.false ok.1 in
     let used : c.bytes_len-used.result ≡ length (group_bytes values) = c.bytes_len-used.ensures ∙ ap (λ vs. length (group_bytes vs)) c.deref-in-loop-count.ensures.value in
     record {
-      reading = rw (c.in_ok-append.ensures, add-one c.loop-count.count, used)
+      reading = rw (c.in_ok-add_all.ensures, add-one c.loop-count.count, used)
         (reading-more c.args.p.now c.args.at c.loop-count.used c.loop-count.count c.loop-count.values.items values c.loop-count.invariant.reading ok.0 (le-leb (length (group_bytes values)) 253 c.in-Ok.ensures.room) over same);
       room = omega (arith, used, c.in-Ok.ensures.room);
     }
 
 pub returns-clause-err : goal.returns-clause-err
 returns-clause-err c =
-    (c.known-2.ensures, stops-most c.args.p.now c.args.at c.loop-count.used c.loop-count.count c.args.last c.loop-count.values.items c.loop-count.invariant.reading (omega (arith, c.loop-count-test.false, c.most_sectors-most.ensures)))
+    (c.known-2.ensures, stops-most c.args.p.now c.args.at c.loop-count.used c.loop-count.count c.args.last c.loop-count.values.items c.loop-count.invariant.reading (omega (arith, c.loop-count-test.false, c.sectors_left-most.ensures)))
