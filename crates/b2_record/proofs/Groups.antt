@@ -1,5 +1,5 @@
 -- The values of a record, sector by sector: how they are parted, and that nothing else parts them so.
-use Rattle.std.proofs.Common.{◌≡◌, ℕ, zero, suc, ◌+◌, ◌-◌, ◌<◌, ◌≤◌, ◌==◌, Bool, true, false, not, ◌&&◌, nat_le, if◌then◌else◌, List, [], ◌∷◌, ◌++◌, length, take, drop, Option, Some, None, sym, refl, ap, ap₂, ◌∙◌, subst, arith, append_assoc, append-nil, length-append, length-drop, le-leb, ne_eqb, get_or, replicate, drop-cons, add-one}
+use Rattle.std.proofs.Common.{◌≡◌, ℕ, zero, suc, ◌+◌, ◌-◌, ◌<◌, ◌≤◌, ◌==◌, Bool, true, false, not, ◌&&◌, nat_le, if◌then◌else◌, List, [], ◌∷◌, ◌++◌, length, take, drop, Some, None, sym, refl, ap, ap₂, ◌∙◌, subst, arith, append_assoc, append-nil, length-append, length-drop, le-leb, ne_eqb, get_or, replicate, drop-cons, add-one}
 use Rattle.b2_record.specs.declared.items.TheConstants.{END_OF_VALUES}
 use Rattle.std.proofs.lemmas.Bool.{leb-true}
 use borrow.Author.Tests.{lt-leb}

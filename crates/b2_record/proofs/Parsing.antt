@@ -1,19 +1,18 @@
 -- Reading the values of a sector: what was read, what follows, and when nothing is spelled.
-use Rattle.std.proofs.Common.{◌≡◌, ℕ, zero, suc, ◌+◌, ◌-◌, ◌<◌, ◌≤◌, ◌==◌, Bool, true, false, ◌&&◌, List, [], ◌∷◌, ◌++◌, length, take, drop, replicate, get_or, sym, refl, ap, ap₂, ◌∙◌, subst, arith, append_assoc, append-nil, length-append, length-drop, eqb}
+use Rattle.std.proofs.Common.{◌≡◌, ℕ, zero, suc, ◌-◌, ◌≤◌, ◌==◌, Bool, true, false, List, [], ◌∷◌, ◌++◌, length, drop, replicate, get_or, sym, refl, ap, ap₂, ◌∙◌, arith, append_assoc, append-nil, length-append, length-drop}
 use Rattle.std.specs.List.{list_all}
 use Rattle.std.proofs.lemmas.List.{length-replicate}
 use Rattle.b2_base.specs.Lexical.{first}
 use Rattle.b2_base.specs.declared.codes.Fault.{Fault}
 use Rattle.b2_base.specs.declared.codes.Fault.TheVariants as fault
 use Rattle.b2_dec.specs.declared.values.Value.{Value}
-use Rattle.b2_dec.specs.declared.values.Value.TheVariants as value
 use Rattle.b2_platter.specs.Layout.{is_zero}
-use Rattle.b2_record.specs.declared.items.TheConstants.{NUMBER, ALPHA, END_OF_VALUES}
+use Rattle.b2_record.specs.declared.items.TheConstants.{END_OF_VALUES}
 use Rattle.b2_record.specs.declared.sectors.TheConstants.{ROOM, ONLY, FIRST, MIDDLE, LAST}
 use Rattle.b2_record.specs.Items.{value_bytes, group_bytes, IsStorable, AllStorable}
 use Rattle.b2_record.specs.Records.{IsGroup, sector_of, sector_kind, Unspelled}
 use Rattle.b2_record.proofs.Values.{rest_of_values, value-not_end, bytes_joined, group_unique}
-use Rattle.b2_record.proofs.Groups.{and-left, and-right}
+use Rattle.b2_record.proofs.Groups.{and-left}
 
 pub storable-joined : (a b : List Value) → AllStorable a → AllStorable b → AllStorable (a ++ b)
 storable-joined [] b h k = k

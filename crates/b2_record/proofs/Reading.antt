@@ -1,12 +1,11 @@
 -- Reading a record sector by sector: what was read so far, and what may follow.
-use Rattle.std.proofs.Common.{◌≡◌, ℕ, zero, suc, ◌+◌, ◌-◌, ◌<◌, ◌≤◌, ◌==◌, Bool, true, false, ◌&&◌, List, [], ◌∷◌, ◌++◌, length, map, sym, refl, ap, ap₂, ◌∙◌, subst, arith, append_assoc, append-nil, length-append, add-one, ◌||◌, ne_eqb, min}
+use Rattle.std.proofs.Common.{◌≡◌, ℕ, zero, suc, ◌+◌, ◌-◌, ◌<◌, ◌≤◌, ◌==◌, Bool, true, false, ◌&&◌, List, [], ◌∷◌, ◌++◌, length, map, sym, refl, ap, ap₂, ◌∙◌, subst, arith, append_assoc, append-nil, length-append, ◌||◌, ne_eqb, min}
 use Rattle.std.specs.List.{range_with_len}
-use Rattle.std.proofs.lemmas.List.FromFn.{map-range_with_len_more}
 use Rattle.b2_dec.specs.declared.values.Value.{Value}
 use Rattle.b2_platter.specs.Image.{sector}
-use Rattle.b2_record.specs.Items.{value_bytes, group_bytes, IsStorable, AllStorable}
+use Rattle.b2_record.specs.Items.{group_bytes, AllStorable}
 use Rattle.b2_record.specs.Records.{fits_in_sector, goes_over, go_on, is_record, is_none, all_values, sector_of, sector_kind, sectors_from, sectors_at, Spells, IsNoRecord}
-use Rattle.b2_record.proofs.Groups.{and-left, and-right}
+use Rattle.b2_record.proofs.Groups.{and-left}
 use Rattle.b2_record.proofs.Parsing.{storable-joined, storable-left, storable-right, sector-unique}
 
 -- whether more sectors go on with a record of which some sectors were read, the last of them with some bytes of values
@@ -123,6 +122,7 @@ reading-more image at used count values group r storable few over same = record 
         ap₂ (λ s k. sectors_at image at count ++ s ∷ sectors_from k (g ∷ more)) (sym same) place
         ∙ (sym (append_assoc (sectors_at image at count) (sector image (at + count) ∷ []) (sectors_from (suc count + 1) (g ∷ more)))
         ∙ ap (λ t. t ++ sectors_from (suc count + 1) (g ∷ more)) (sym (at-more (sector image) at count)))
+
     onward : (other : List Value) (n : ℕ) (spelled : Spells other (sectors_at image at n)) → Next image at count n r.groups spelled.groups
         → (g : List Value) × (more : List (List Value)) × (spelled.groups ≡ (r.groups ++ group ∷ []) ++ g ∷ more)
     onward other n spelled next =

@@ -1,6 +1,5 @@
 -- Values are told apart by their bytes.
-use Rattle.std.proofs.Common.{◌≡◌, ℕ, zero, suc, ◌+◌, ◌-◌, ◌*◌, ◌/◌, ◌%◌, ◌<◌, ◌≤◌, Bool, true, false, if◌then◌else◌, List, [], ◌∷◌, ◌++◌, length, replicate, sym, refl, ap, ap₂, ◌∙◌, subst, arith, inl, inr, nat_lt, append_assoc}
-use Rattle.std.proofs.lemmas.Bool.{cases_lt}
+use Rattle.std.proofs.Common.{◌≡◌, ℕ, ◌+◌, ◌-◌, ◌*◌, ◌/◌, ◌%◌, Bool, true, false, if◌then◌else◌, List, [], ◌∷◌, ◌++◌, length, sym, refl, ap, ap₂, ◌∙◌, arith, nat_lt, append_assoc}
 use Rattle.b2_dec.specs.Number.{Number, IsNumber}
 use Rattle.b2_dec.specs.Packing.{packed, packed_digits, signs, exponent_size, pairs_value}
 use Rattle.b2_dec.proofs.Nibbles.{pairs_value-packed, packed_digits-most, packed_digits-joined, exponent-packed_digits, coef-packed_digits}
@@ -93,7 +92,7 @@ rest_of_values (v ∷ values) rest [] tail h k e =
     absurd (value-not_end v (group_bytes values ++ rest) tail h.0 (sym (append_assoc (value_bytes v) (group_bytes values) rest) ∙ e))
 rest_of_values (v ∷ values) rest (w ∷ group) tail h k e =
     let here : value_bytes v ++ (group_bytes values ++ rest) ≡ value_bytes w ++ (group_bytes group ++ END_OF_VALUES ∷ tail) =
-        sym (append_assoc (value_bytes v) (group_bytes values) rest) ∙ (e ∙ append_assoc (value_bytes w) (group_bytes group) (END_OF_VALUES ∷ tail)) in
+    sym (append_assoc (value_bytes v) (group_bytes values) rest) ∙ (e ∙ append_assoc (value_bytes w) (group_bytes group) (END_OF_VALUES ∷ tail)) in
     let parts = value_unique v w (group_bytes values ++ rest) (group_bytes group ++ END_OF_VALUES ∷ tail) h.0 k.0 here in
     let found = rest_of_values values rest group tail h.1 k.1 parts.1 in
     (found.0, found.1, ap₂ (λ u us. u ∷ us) (sym parts.0) found.2, found.3)

@@ -1,5 +1,6 @@
 // How a value is spelled in a sector.
 ghost use Rattle.std.specs.Prelude.{◌≡◌, ◌+◌, ◌≤◌, ◌++◌, true, List, ℕ, IfSome, IfNone, length, drop};
+ghost use Rattle.std.specs.List.{list_all};
 ghost use Rattle.b2_dec.specs.Number.{Number, IsNumber};
 ghost use Rattle.b2_dec.specs.Packing.{packed};
 ghost use Rattle.b2_dec.specs.declared.values.Value.{Value as AnyValue};
@@ -16,6 +17,28 @@ pub const END_OF_VALUES: u8 = 0xFD;
 
 /// How many bytes an alpha value has at most.
 const MOST_ALPHA: u8 = 124;
+
+/// Whether a value may stand in a record: a number, or an alpha value of 1 to 124 bytes.
+pub fn is_short(value: &Value) -> bool
+    ensures { result ≡ is_short value.now }
+{
+    match value {
+        Value::Number(_) => true,
+        Value::Alpha(bytes) => 1 <= bytes.len() && bytes.len() <= MOST_ALPHA as usize,
+    }
+}
+
+/// Whether all values may stand in a record.
+pub fn all_short(values: &[Value]) -> bool
+    ensures { result ≡ list_all is_short values.now }
+{
+    for value in values {
+        if !is_short(value) {
+            return false;
+        }
+    }
+    true
+}
 
 /// How many bytes a value takes in a sector.
 pub(crate) fn value_len(value: &Value) -> usize

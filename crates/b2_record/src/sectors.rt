@@ -5,7 +5,7 @@ ghost use Rattle.b2_record.specs.Items.{value_bytes, group_bytes, is_short, AllS
 ghost use Rattle.std.specs.List.{list_all};
 ghost use Rattle.b2_record.specs.Records.{sector_kind, sector_of, fits_in_sector, IsGroup, Unspelled};
 
-use crate::items::{ALPHA, END_OF_VALUES, NUMBER, value_len, value_at};
+use crate::items::{ALPHA, END_OF_VALUES, NUMBER, value_at, value_len};
 use arrayvec::ArrayVec;
 use b2_base::codes::D88_FORMAT;
 use b2_base::{Code, Fault, NoMemory, lexical};

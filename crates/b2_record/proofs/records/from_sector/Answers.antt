@@ -1,6 +1,6 @@
 use Rattle.b2_record.specs.Writing.{groups_of}
 use Rattle.b2_record.proofs.Groups.{step-groups}
-use Rattle.std.proofs.Common.{◌∙◌, arith}
+use Rattle.std.proofs.Common.{arith}
 use Rattle.b2_record.proofs.records.from_sector.Goals as goal
 
 pub loop-number-preserved : goal.loop-number-preserved

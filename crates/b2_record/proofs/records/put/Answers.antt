@@ -1,6 +1,5 @@
-use Rattle.std.proofs.Common.{◌≡◌, ◌-◌, ◌==◌, ◌≤◌, Some, length, take, drop, sym, ap, ◌∙◌, subst, true, arith}
-use Rattle.b2_record.specs.Records.{fits_in_sector, sector_of, sector_kind}
-use Rattle.b2_record.specs.Writing.{groups_of, record_of, first_count}
+use Rattle.std.proofs.Common.{◌==◌, Some, take, drop, sym, ap, ◌∙◌, arith}
+use Rattle.b2_record.specs.Records.{sector_of, sector_kind}
 use Rattle.b2_record.proofs.Groups.{length-record, fits-first, put-sector}
 use Rattle.b2_record.proofs.records.put.Goals as goal
 

@@ -1,7 +1,5 @@
-use Rattle.std.proofs.Common.{◌≡◌, ◌+◌, ◌<◌, ◌≤◌, ◌∙◌, ◌∷◌, List, [], true, false, length, drop, nat_le, if◌then◌else◌, Option, Some, None, refl, sym, ap, subst, arith}
-use Rattle.b2_dec.specs.declared.values.Value.{Value}
+use Rattle.std.proofs.Common.{◌≤◌, ◌∙◌, length, sym, ap, subst, arith}
 use Rattle.b2_record.specs.Items.{AllStorable}
-use Rattle.b2_record.specs.Writing.{groups_of, first_count, record_of}
 use Rattle.b2_record.proofs.Groups.{later, groups-first, later-rest, counted-none, counted-all, record-spelled, some-values, no-values, later-some}
 use Rattle.b2_record.proofs.records.sectors_of.Goals as goal
 

@@ -1,10 +1,9 @@
-use Rattle.std.proofs.Common.{◌≡◌, ◌+◌, ◌-◌, ◌==◌, ◌||◌, ◌≤◌, length, ◌∙◌, ◌++◌, true, false, Bool, List, ℕ, sym, ap, subst, arith, rules, add-one, le-leb}
-use Rattle.b2_dec.specs.declared.values.Value.{Value}
+use Rattle.std.proofs.Common.{◌≡◌, ◌+◌, ◌==◌, ◌||◌, length, ◌∙◌, true, false, Bool, sym, ap, subst, arith, add-one, le-leb}
 use Rattle.b2_platter.specs.Image.{sector}
 use Rattle.b2_record.specs.Items.{group_bytes}
-use Rattle.b2_record.specs.Records.{goes_over, sector_of, sector_kind, sectors_at, Spells}
+use Rattle.b2_record.specs.Records.{goes_over, sector_of, sector_kind}
 use Rattle.b2_record.proofs.Parsing.{Unspelled-from}
-use Rattle.b2_record.proofs.Reading.{Reading, reading-none, reading-more, reading-end, stops-full, stops-outside, stops-unspelled, stops-short, stops-most, follows-from, short-from}
+use Rattle.b2_record.proofs.Reading.{reading-none, reading-more, reading-end, stops-unspelled, stops-short, stops-most, follows-from, short-from}
 use Rattle.b2_record.proofs.records.take.Goals as goal
 
 pub loop-count-init : goal.loop-count-init
@@ -46,7 +45,7 @@ loop-count-preserved c =
     let used : c.bytes_len-used.result ≡ length (group_bytes values) = c.bytes_len-used.ensures ∙ ap (λ vs. length (group_bytes vs)) c.deref-in-loop-count.ensures.value in
     record {
       reading = rw (c.in_ok-add_all.ensures, add-one c.loop-count.count, used)
-        (reading-more c.args.p.now c.args.at c.loop-count.used c.loop-count.count c.loop-count.values.items values c.loop-count.invariant.reading ok.0 (le-leb (length (group_bytes values)) 253 c.in-Ok.ensures.room) over same);
+          (reading-more c.args.p.now c.args.at c.loop-count.used c.loop-count.count c.loop-count.values.items values c.loop-count.invariant.reading ok.0 (le-leb (length (group_bytes values)) 253 c.in-Ok.ensures.room) over same);
       room = omega (arith, used, c.in-Ok.ensures.room);
     }
 

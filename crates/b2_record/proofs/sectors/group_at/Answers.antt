@@ -1,6 +1,4 @@
-use Rattle.std.proofs.Common.{◌≡◌, ◌∙◌, ◌∷◌, ◌++◌, drop, sym, ap, rules}
 use Rattle.b2_record.proofs.Parsing.{Unspelled-from, whole-sector, group-room, sector-group}
-use Rattle.b2_record.specs.Records.{sector_kind}
 use Rattle.b2_record.proofs.sectors.group_at.Goals as goal
 
 pub returns-in-Ok-clause-ok : goal.returns-in-Ok-clause-ok

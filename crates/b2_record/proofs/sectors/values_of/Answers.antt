@@ -1,11 +1,13 @@
-use Rattle.std.proofs.Common.{◌≡◌, ◌∙◌, [], ◌∷◌, ◌++◌, drop, sym, ap, rules}
+use Rattle.std.proofs.Common.{◌∙◌, [], ◌∷◌, drop, sym}
 use Rattle.b2_record.proofs.Parsing.{no-group, no-zeros, whole-group, read-more, storable-joined}
 use Rattle.b2_record.proofs.sectors.values_of.Goals as goal
 
 pub returns-in_default-clause-err : goal.returns-in_default-clause-err
-returns-in_default-clause-err c =
-    (c.known.ensures, λ group is. no-group c.args.bytes.now c.loop-value.rest.now c.loop-value.values.items group c.loop-value.invariant.read c.loop-value.invariant.storable
-    (λ e. c.loop-value-test.true (c.first.ensures ∙ e)) c.in_default.ensures.none is)
+returns-in_default-clause-err c = (
+  c.known.ensures,
+  λ group is. no-group c.args.bytes.now c.loop-value.rest.now c.loop-value.values.items group c.loop-value.invariant.read c.loop-value.invariant.storable
+      (λ e. c.loop-value-test.true (c.first.ensures ∙ e)) c.in_default.ensures.none is,
+)
 
 pub loop-value-preserved : goal.loop-value-preserved
 loop-value-preserved c =
@@ -16,9 +18,11 @@ loop-value-preserved c =
     }
 
 pub returns-then-not-all_zero-clause-err : goal.returns-then-not-all_zero-clause-err
-returns-then-not-all_zero-clause-err c =
-    (c.known-then-not-all_zero.ensures, λ group is. no-zeros c.args.bytes.now c.loop-value.rest.now c.loop-value.values.items group c.loop-value.invariant.read c.loop-value.invariant.storable
-    (sym c.first.ensures ∙ c.loop-value-test.false) (cc) is)
+returns-then-not-all_zero-clause-err c = (
+  c.known-then-not-all_zero.ensures,
+  λ group is. no-zeros c.args.bytes.now c.loop-value.rest.now c.loop-value.values.items group c.loop-value.invariant.read c.loop-value.invariant.storable
+      (sym c.first.ensures ∙ c.loop-value-test.false) (cc) is,
+)
 
 pub returns-clause-ok : goal.returns-clause-ok
 returns-clause-ok c =

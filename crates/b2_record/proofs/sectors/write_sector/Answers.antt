@@ -1,4 +1,4 @@
-use Rattle.std.proofs.Common.{◌∙◌, ◌++◌, ◌∷◌, [], ap, sym}
+use Rattle.std.proofs.Common.{◌∙◌, ◌++◌, ◌∷◌, [], ap}
 use Rattle.b2_record.specs.Items.{group_bytes}
 use Rattle.b2_record.proofs.Groups.{draft-sector}
 use Rattle.b2_record.specs.declared.items.TheConstants.{END_OF_VALUES}
