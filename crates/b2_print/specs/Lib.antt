@@ -1,4 +1,5 @@
 pub mod Columns
+pub mod Screen
 pub mod Layout
 pub mod Images
 pub mod Filling

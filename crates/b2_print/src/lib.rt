@@ -18,6 +18,7 @@ mod image;
 mod imaging;
 mod laws;
 mod layout;
+mod screen;
 
 pub use columns::column_after;
 pub use imaging::{convert, using};
