@@ -70,6 +70,6 @@ is_on_screen it = true
 abbrev pub are_on_screen : List Item → Bool
 are_on_screen items = list_all is_on_screen items
 
--- whether an item has room on a line of its own
+-- whether an item has room on a line of its own, where it stands on one
 abbrev pub fits_line : ℕ → Item → Bool
-fits_line width it = not (passes width 0 (item_text width 0 it))
+fits_line width it = not (stands_on_line it && passes width 0 (item_text width 0 it))

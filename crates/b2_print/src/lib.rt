@@ -23,7 +23,8 @@ mod screen;
 pub use columns::column_after;
 pub use imaging::{convert, using};
 pub use laws::{
-    law_fields_keep_their_width, law_lines_fit, law_pieces_are_the_image, law_zones_end,
+    law_column_is_read, law_fields_keep_their_width, law_items_go_on, law_lines_fit,
+    law_pieces_are_the_image, law_screen_stays_within, law_zones_end,
 };
 pub use layout::{Item, lay};
 

@@ -100,6 +100,64 @@ fn widths(rt: HostRuntime) -> Result<(), Fail> {
     Ok(())
 }
 
+fn place(row: u8, column: u8, erase: u8) -> Item<'static> {
+    Item::At { row, column, erase }
+}
+
+fn outline(rows: u8, columns: u8) -> Item<'static> {
+    Item::Outline { rows, columns }
+}
+
+#[test]
+fn places(rt: HostRuntime) -> Result<(), Fail> {
+    let mut erased = b"\x02A\x20\x20".to_vec(rt.alloc())?;
+    erased.extend_from_slice(&BLANKS[..80])?;
+    erased.extend_from_slice(b"\x02A\x20\x20")?;
+    let wide = [place(0, 79, 0), Item::Alpha(b"AB")];
+    let full = [place(0, 78, 0), Item::Alpha(b"AB")];
+    let twice = [Item::Alpha(b"AB"), place(5, 1, 2), place(0, 9, 0)];
+    let zoned = [place(3, 20, 0), Item::Zone, Item::Alpha(b"A")];
+    let rows: [Laid<'_>; 12] = [
+        (&[place(0, 0, 0)], 0, 80, b"\x02A\x20\x20", 0),
+        (&[place(23, 79, 0)], 0, 80, b"\x02A\x37\x6f", 79),
+        (&[place(2, 10, 0)], 40, 80, b"\x02A\x22\x2a", 10),
+        (&[place(2, 10, 0)], 79, 80, b"\x02A\x22\x2a", 10),
+        (&[place(2, 10, 0)], 500, 80, b"\x02A\x22\x2a", 10),
+        (&[place(1, 77, 3)], 9, 80, b"\x02A\x21\x6d   \x02A\x21\x6d", 77),
+        (&[place(0, 0, 80)], 1, 80, &erased, 0),
+        (&[place(7, 60, 20)], 3, 64, b"\x02A\x27\x5c                    \x02A\x27\x5c", 60),
+        (&wide, 5, 80, b"\x02A\x20\x6f\nAB", 2),
+        (&full, 5, 80, b"\x02A\x20\x6eAB", 80),
+        (&twice, 0, 80, b"AB\x02A\x25\x21  \x02A\x25\x21\x02A\x20\x29", 9),
+        (&zoned, 0, 80, b"\x02A\x23\x34            A", 33),
+    ];
+    for row in &rows {
+        assert!(rt; laid(rt.alloc(), row)?);
+    }
+    Ok(())
+}
+
+#[test]
+fn outlines(rt: HostRuntime) -> Result<(), Fail> {
+    let between = [Item::Alpha(b"AB"), outline(3, 10), Item::Alpha(b"C")];
+    let at_end = [Item::Alpha(b"AB"), outline(3, 10), Item::Alpha(b"CD")];
+    let placed = [place(4, 6, 0), outline(5, 7), Item::Number(number(TWO))];
+    let rows: [Laid<'_>; 8] = [
+        (&[outline(2, 2)], 0, 80, b"\x02B\x22\x22", 0),
+        (&[outline(24, 80)], 0, 80, b"\x02B\x38\x70", 0),
+        (&[outline(24, 80)], 79, 80, b"\x02B\x38\x70", 79),
+        (&[outline(3, 10)], 300, 80, b"\x02B\x23\x2a", 300),
+        (&between, 0, 80, b"AB\x02B\x23\x2aC", 3),
+        (&between, 77, 80, b"AB\x02B\x23\x2aC", 80),
+        (&at_end, 77, 80, b"AB\x02B\x23\x2a\nCD", 2),
+        (&placed, 50, 80, b"\x02A\x24\x26\x02B\x25\x27 2 ", 9),
+    ];
+    for row in &rows {
+        assert!(rt; laid(rt.alloc(), row)?);
+    }
+    Ok(())
+}
+
 /// A packed number, or the bytes of an alpha value.
 #[derive(Clone, Copy)]
 enum Given {
