@@ -30,8 +30,8 @@ pub enum Item<'a> {
     Zone,
     /// A newline.
     Line,
-    /// The cursor at a row and a column of the screen, from 0 to 23 and from 0 to 79, where a number of cells of that row
-    /// is erased first. The column after it is its own.
+    /// The cursor at a row of 0 to 23 and a column of 0 to 79, where a number of cells is erased first, at most those up
+    /// to the end of the row. The column after it is its own.
     At { row: u8, column: u8, erase: u8 },
     /// A box of 2 to 24 rows and 2 to 80 columns, with its first cell at the cursor, which stays.
     Outline { rows: u8, columns: u8 },
@@ -144,8 +144,9 @@ fn column_past(column: u16, item: &Item<'_>, text: &[u8]) -> u16
 
 /// Appends the items as they are laid out from a column on, in lines of a width, and gives the column after them.
 ///
-/// The numbers of items for the screen must lie on the screen: a row of 0 to 23, a column of 0 to 79 with at most as
-/// many erased cells as its row has from there on, and an outline of 2 to 24 rows and 2 to 80 columns.
+/// The numbers of items for the screen must lie on it: a row of 0 to 23, a column of 0 to 79, at most as many erased
+/// cells as the row has from there on, and an outline of 2 to 24 rows and 2 to 80 columns. The width doesn't act on
+/// these items.
 ///
 /// Where memory fails, `into` is as before.
 pub fn lay(

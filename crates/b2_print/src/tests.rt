@@ -51,6 +51,15 @@ fn laid(alloc: Global, row: &Laid<'_>) -> Result<bool, Fail> {
     Ok(end == after && into.as_slice() == want.as_slice())
 }
 
+fn all_laid(alloc: Global, rows: &[Laid<'_>]) -> Result<bool, Fail> {
+    for row in rows {
+        if !laid(alloc, row)? {
+            return Ok(false);
+        }
+    }
+    Ok(true)
+}
+
 #[test]
 fn items(rt: HostRuntime) -> Result<(), Fail> {
     let zones = [
@@ -75,9 +84,7 @@ fn items(rt: HostRuntime) -> Result<(), Fail> {
         (&[Item::Tab(100)], 0, 80, &BLANKS[..100], 100),
         (&[Item::Alpha(b"A")], 65535, 65535, b"A", 65535),
     ];
-    for row in &rows {
-        assert!(rt; laid(rt.alloc(), row)?);
-    }
+    assert!(rt; all_laid(rt.alloc(), &rows)?);
     Ok(())
 }
 
@@ -131,9 +138,7 @@ fn places(rt: HostRuntime) -> Result<(), Fail> {
         (&twice, 0, 80, b"AB\x02A\x25\x21  \x02A\x25\x21\x02A\x20\x29", 9),
         (&zoned, 0, 80, b"\x02A\x23\x34            A", 33),
     ];
-    for row in &rows {
-        assert!(rt; laid(rt.alloc(), row)?);
-    }
+    assert!(rt; all_laid(rt.alloc(), &rows)?);
     Ok(())
 }
 
@@ -152,9 +157,7 @@ fn outlines(rt: HostRuntime) -> Result<(), Fail> {
         (&at_end, 77, 80, b"AB\x02B\x23\x2a\nCD", 2),
         (&placed, 50, 80, b"\x02A\x24\x26\x02B\x25\x27 2 ", 9),
     ];
-    for row in &rows {
-        assert!(rt; laid(rt.alloc(), row)?);
-    }
+    assert!(rt; all_laid(rt.alloc(), &rows)?);
     Ok(())
 }
 
