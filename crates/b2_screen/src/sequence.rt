@@ -1,7 +1,7 @@
 // Bytes that come one by one: a sequence of four may be cut anywhere.
 ghost use Rattle.std.specs.Prelude.{◌≡◌, ◌∷◌, []};
 ghost use Rattle.b2_screen.specs.Shown.{fed, sequence_bytes, bytes_read};
-ghost use Rattle.b2_base.specs.Byte as byte;
+ghost use Rattle.b2_base.specs.Byte.{escape};
 
 use crate::sheet::Sheet;
 
@@ -33,7 +33,7 @@ pub enum Sequence {
 /// How far a sequence is after its second byte.
 #[tactic(auto, unfolding(crate::specs::Shown::bytes_read))]
 fn after_escape(byte: u8) -> Sequence
-    ensures { sequence_bytes result ≡ (bytes_read (byte.escape ∷ byte ∷ [])).rest }
+    ensures { sequence_bytes result ≡ (bytes_read (escape ∷ byte ∷ [])).rest }
 {
     match byte {
         b'A' => Sequence::OfKind(SequenceKind::Placing),
