@@ -1,6 +1,6 @@
 -- What a screen reads in the bytes of a layout.
-use Rattle.std.proofs.Common.{◌≡◌, ℕ, zero, suc, ◌+◌, ◌-◌, ◌/◌, ◌%◌, ◌<◌, ◌≤◌, replicate, ◌==◌, ◌&&◌, ◌||◌, nat_lt, nat_le, Bool, true, false, not, if◌then◌else◌, List, [], ◌∷◌, ◌++◌, take, drop, refl, sym, ap, ◌∙◌, append-nil, arith, ne_eqb}
-use Rattle.std.specs.List.{list_all, fold, flat_map}
+use Rattle.std.proofs.Common.{◌≡◌, ℕ, zero, suc, ◌+◌, ◌-◌, ◌/◌, ◌%◌, ◌≤◌, replicate, ◌==◌, ◌&&◌, ◌||◌, nat_lt, nat_le, Bool, true, false, not, if◌then◌else◌, List, [], ◌∷◌, ◌++◌, take, drop, refl, sym, ap, ◌∙◌, arith, ne_eqb}
+use Rattle.std.specs.List.{list_all, flat_map}
 use Rattle.std.proofs.lemmas.Bool.{le-ltb, leb-true, ltb-false}
 use Rattle.std.proofs.lemmas.List.Folds.{list_all-append}
 use Rattle.std.proofs.lemmas.List.Sums.{fold-append}
@@ -9,11 +9,11 @@ use Rattle.b2_dec.specs.Number.{Number}
 use Rattle.b2_dectext.specs.Digits.{digit_byte, digit_bytes, without_last_zeros}
 use Rattle.b2_dectext.specs.Printed.{printed, shown_size, with_point, after_point, nine_digits, exponent_shown, sign_shown, is_fixed}
 use Rattle.b2_print.specs.Columns.{next_column, column_after, passes}
-use Rattle.b2_print.specs.Screen.{placing_bytes, outline_bytes, place_text}
-use Rattle.b2_print.specs.Reading.{Reading, between, begun, of_kind, with_first, column_of, read_byte, read_on, reads_past, is_other_byte, begins_none}
+use Rattle.b2_print.specs.Screen.{placing_bytes, outline_bytes}
+use Rattle.b2_print.specs.Reading.{Reading, between, begun, column_of, read_byte, read_on, reads_past, is_other_byte, begins_none}
 use Rattle.b2_print.specs.declared.layout.Item.{Item}
 use Rattle.b2_print.specs.declared.layout.Item.TheVariants as item
-use Rattle.b2_print.specs.Layout.{zone_text, next_zone, item_text, stands_on_line, placed, item_column, layout, items_column, is_on_screen, are_on_screen, fits_line}
+use Rattle.b2_print.specs.Layout.{next_zone, item_text, stands_on_line, placed, item_column, layout, items_column, is_on_screen, are_on_screen, fits_line}
 use Rattle.b2_print.proofs.ColumnLemmas.{both, none-passes, placed-fits, line-column}
 
 -- texts without the byte that begins a sequence

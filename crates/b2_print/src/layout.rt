@@ -8,7 +8,7 @@ ghost use Rattle.b2_print.specs.Screen as screen;
 ghost use Rattle.b2_print.specs.Layout as spec;
 
 use crate::columns::{column_after, passes};
-use crate::screen::{outline_bytes, placing_bytes};
+use crate::screen::{SCREEN_COLUMNS, SCREEN_ROWS, outline_bytes, placing_bytes};
 use b2_base::NoMemory;
 use b2_base::lexical::hex_pair;
 use b2_dec::Dec;
@@ -35,6 +35,30 @@ pub enum Item<'a> {
     At { row: u8, column: u8, erase: u8 },
     /// A box of 2 to 24 rows and 2 to 80 columns, with its first cell at the cursor, which stays.
     Outline { rows: u8, columns: u8 },
+}
+
+/// Whether the numbers of an item lie on the screen; items on the line have none for it.
+fn is_on_screen(item: &Item<'_>) -> bool
+    ensures { result ≡ spec.is_on_screen item.now }
+{
+    match item {
+        Item::At { row, column, erase } => {
+            *row < SCREEN_ROWS
+                && *column < SCREEN_COLUMNS
+                && *column as u16 + *erase as u16 <= SCREEN_COLUMNS as u16
+        }
+        Item::Outline { rows, columns } => {
+            *rows >= 2 && *rows <= SCREEN_ROWS && *columns >= 2 && *columns <= SCREEN_COLUMNS
+        }
+        _ => true,
+    }
+}
+
+/// Whether `lay` takes the items: the numbers of those for the screen lie on it.
+pub fn are_on_screen(items: &[Item<'_>]) -> bool
+    ensures { result ≡ spec.are_on_screen items.now }
+{
+    items.iter().all(|item| is_on_screen(item))
 }
 
 /// Each byte as two hexadecimal digits.
@@ -145,8 +169,8 @@ fn column_past(column: u16, item: &Item<'_>, text: &[u8]) -> u16
 /// Appends the items as they are laid out from a column on, in lines of a width, and gives the column after them.
 ///
 /// The numbers of items for the screen must lie on it: a row of 0 to 23, a column of 0 to 79, at most as many erased
-/// cells as the row has from there on, and an outline of 2 to 24 rows and 2 to 80 columns. The width doesn't act on
-/// these items.
+/// cells as the row has from there on, and an outline of 2 to 24 rows and 2 to 80 columns. `are_on_screen`
+/// says whether they do. The width doesn't act on these items.
 ///
 /// Where memory fails, `into` is as before.
 pub fn lay(

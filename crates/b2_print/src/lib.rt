@@ -30,7 +30,7 @@ pub use laws::{
     law_column_is_read, law_fields_keep_their_width, law_items_go_on, law_lines_fit,
     law_pieces_are_the_image, law_screen_stays_within, law_zones_end,
 };
-pub use layout::{Item, lay};
+pub use layout::{Item, are_on_screen, lay};
 
 #[cfg(test)]
 mod tests;

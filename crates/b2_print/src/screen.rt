@@ -5,6 +5,12 @@ ghost use Rattle.b2_print.specs.Screen as spec;
 /// The byte that begins a sequence.
 const ESCAPE: u8 = 2;
 
+/// How many rows a screen has.
+pub(crate) const SCREEN_ROWS: u8 = 24;
+
+/// How many columns a screen has.
+pub(crate) const SCREEN_COLUMNS: u8 = 80;
+
 /// The cursor at a row and a column of the screen.
 pub(crate) fn placing_bytes(row: u8, column: u8) -> [u8; 4]
     requires row { row < spec.screen_rows }

@@ -1,5 +1,5 @@
 // What PRINT, PRINTUSING and CONVERT show.
-use crate::{Item, convert, lay, using};
+use crate::{Item, are_on_screen, convert, lay, using};
 use b2_base::Fault;
 use b2_dec::{Bytes, Dec, Value, unpack};
 use std::alloc::{AllocError, Global};
@@ -44,6 +44,9 @@ type Laid<'a> = (&'a [Item<'a>], u16, u16, &'a [u8], u16);
 
 fn laid(alloc: Global, row: &Laid<'_>) -> Result<bool, Fail> {
     let (items, column, width, text, after) = *row;
+    if !are_on_screen(items) {
+        return Ok(false);
+    }
     let mut into = b"before".to_vec(alloc)?;
     let end = lay(alloc, items, column, width, &mut into).map_err(|_| "no memory")?;
     let mut want = b"before".to_vec(alloc)?;
@@ -130,15 +133,55 @@ fn places(rt: HostRuntime) -> Result<(), Fail> {
         (&[place(2, 10, 0)], 40, 80, b"\x02A\x22\x2a", 10),
         (&[place(2, 10, 0)], 79, 80, b"\x02A\x22\x2a", 10),
         (&[place(2, 10, 0)], 500, 80, b"\x02A\x22\x2a", 10),
-        (&[place(1, 77, 3)], 9, 80, b"\x02A\x21\x6d   \x02A\x21\x6d", 77),
+        (
+            &[place(1, 77, 3)],
+            9,
+            80,
+            b"\x02A\x21\x6d   \x02A\x21\x6d",
+            77,
+        ),
         (&[place(0, 0, 80)], 1, 80, &erased, 0),
-        (&[place(7, 60, 20)], 3, 64, b"\x02A\x27\x5c                    \x02A\x27\x5c", 60),
+        (
+            &[place(7, 60, 20)],
+            3,
+            64,
+            b"\x02A\x27\x5c                    \x02A\x27\x5c",
+            60,
+        ),
         (&wide, 5, 80, b"\x02A\x20\x6f\nAB", 2),
         (&full, 5, 80, b"\x02A\x20\x6eAB", 80),
-        (&twice, 0, 80, b"AB\x02A\x25\x21  \x02A\x25\x21\x02A\x20\x29", 9),
+        (
+            &twice,
+            0,
+            80,
+            b"AB\x02A\x25\x21  \x02A\x25\x21\x02A\x20\x29",
+            9,
+        ),
         (&zoned, 0, 80, b"\x02A\x23\x34            A", 33),
     ];
     assert!(rt; all_laid(rt.alloc(), &rows)?);
+    Ok(())
+}
+
+#[test]
+fn places_off_the_screen(rt: HostRuntime) -> Result<(), Fail> {
+    for (row, column, erase) in [
+        (24u8, 0u8, 0u8),
+        (0, 80, 0),
+        (0, 79, 2),
+        (0, 0, 81),
+        (255, 255, 255),
+    ] {
+        assert!(rt; !are_on_screen(&[Item::Line, place(row, column, erase)]));
+    }
+    Ok(())
+}
+
+#[test]
+fn outlines_off_the_screen(rt: HostRuntime) -> Result<(), Fail> {
+    for (rows, columns) in [(1u8, 2u8), (2, 1), (25, 2), (2, 81)] {
+        assert!(rt; !are_on_screen(&[outline(rows, columns), Item::Line]));
+    }
     Ok(())
 }
 
