@@ -16,3 +16,5 @@ pub mod ChainRows
 pub mod Choices
 pub mod EachChain
 pub mod EachOperand
+pub mod LineTrees
+pub mod WhatFollows

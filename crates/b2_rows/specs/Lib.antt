@@ -5,4 +5,5 @@ pub mod Takes
 pub mod Links
 pub mod Chains
 pub mod Choices
+pub mod Following
 pub mod Laws
