@@ -24,7 +24,7 @@ mod laws;
 mod leaves;
 mod line;
 mod marks;
-mod rows;
+pub mod rows;
 mod sink;
 mod spans;
 mod starts;
@@ -32,7 +32,7 @@ mod table;
 #[cfg(test)]
 mod tests;
 mod walk;
-mod words;
+pub mod words;
 
 pub use laws::{
     each_line_spells_a_tree, each_tree_is_a_line, each_tree_is_cut_into_units,
