@@ -40,7 +40,7 @@ pub use laws::{
     what_is_listed_is_read_back, what_is_read_fits_the_rows, what_is_read_is_a_line,
 };
 pub use leaves::number_width;
-pub use line::{Atoms, Cursor, FoundUnit, read_source};
+pub use line::{Atoms, Cursor, FoundUnit, read_source, reads_row};
 pub use sink::Stop;
 use table::{FORMS, ROWS_0, ROWS_1, ROWS_2, ROWS_3};
 use words::WORDS;

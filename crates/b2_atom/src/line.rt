@@ -1,12 +1,13 @@
 // Lines as atoms, their units, and a cursor over the bytes of one.
-ghost use Rattle.std.specs.Prelude.{◌≡◌, ◌≢◌, ◌≤◌, ◌<◌, ◌&&◌, nat_lt, length, drop, ◌+◌, ◌==◌, ◌||◌, IfErr, IfOk, IfSome, MatchResult, Some, None, if◌then◌else◌, true, slice_get};
+ghost use Rattle.std.specs.Prelude.{◌≡◌, ◌≢◌, ◌≤◌, ◌<◌, ◌&&◌, nat_lt, length, drop, ◌+◌, ◌==◌, ◌||◌, IfErr, IfOk, IfSome, MatchResult, Some, None, if◌then◌else◌, true, is_ok, slice_get};
 ghost use Rattle.std.specs.Option.{option_map};
+ghost use Rattle.b2_atom.specs.Grammar as spec;
 ghost use Rattle.b2_atom.specs.Lines.{IsKnown, is_line, line_atoms, line_source, short_line, after_unit, next_place, next_text, units_of, further_unit, is_further};
 
 use crate::laws::what_is_read_is_a_line;
 use crate::sink::{Sink, Source, Stop, bytes_of};
 use crate::spans::{Span, further_unit, spans_of};
-use crate::walk::read_line;
+use crate::walk::{DEPTH, LEVELS, part, read_line};
 use crate::words::Origin;
 use b2_base::NoMemory;
 use std::alloc::Global;
@@ -61,6 +62,18 @@ fn spells_line(bytes: &[u8]) -> bool
     }
     let mut sink = Sink::Silent;
     match read_line(&mut sink, Origin::Atoms, bytes) {
+        Ok(_) => true,
+        Err(_) => false,
+    }
+}
+
+/// Whether a row is read at a text of a unit, which may go on after it; a statement in the row reads nothing. It walks the
+/// table: whoever has a unit finds its row with it.
+pub fn reads_row(row: u16, text: &[u8]) -> bool
+    ensures { result ≡ is_ok (spec.part Origin.Atoms 0 32 40 row text.now) }
+{
+    let mut sink = Sink::Silent;
+    match part(&mut sink, Origin::Atoms, 0, DEPTH, LEVELS, row, text) {
         Ok(_) => true,
         Err(_) => false,
     }
