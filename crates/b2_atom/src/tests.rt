@@ -143,3 +143,35 @@ fn rows_at_texts(rt: HostRuntime) -> Result<(), Fail> {
     }
     Ok(())
 }
+
+/// The rows of a line's units.
+fn rows_of(rt: &HostRuntime, atoms: &[u8]) -> Result<Vec<u16>, Fail> {
+    let mut out = Vec::new(rt.alloc());
+    let Some(line) = Atoms::of(rt.alloc(), atoms)? else {
+        return Ok(out);
+    };
+    for k in 0..line.units() {
+        if let Some(unit) = line.find_unit(k) {
+            out.push(unit.row)?;
+        }
+    }
+    Ok(out)
+}
+
+#[test]
+#[rattlefmt::skip]
+fn rows_of_units(rt: HostRuntime) -> Result<(), Fail> {
+    let cases: [(&[u8], &[u16]); 6] = [
+        (b"\x9C1", &[rows::PRINT]),
+        (b"\x8AA=1\x8B\x9CA:\x8C\x92", &[rows::IF, rows::PRINT, rows::ELSE, rows::STOP]),
+        (b"X=1:\x96\x8AA<>2\x8B\x8AB=1\x8B\xFF\x13\x96:Y=2", &[rows::ASSIGNMENT, rows::ERROR, rows::IF, rows::IF, rows::ASSIGNMENT]),
+        (b"\x8A\x8D\x8B\xFF\x00\x10", &[rows::IF_END]),
+        (b"\x9C\":\":\x80 a:b", &[rows::PRINT, rows::REMARK]),
+        (b"%:x", &[rows::IMAGE_LINE]),
+    ];
+    for (atoms, expected) in cases {
+        let found = rows_of(&rt, atoms)?;
+        assert_eq!(rt; found.as_slice(), expected);
+    }
+    Ok(())
+}
