@@ -3,7 +3,7 @@ use Rattle.std.specs.Option.{option_map}
 use Rattle.std.specs.Map.Iter.{deref_pair}
 use Rattle.b2_vars.specs.Shapes.{cost}
 use Rattle.b2_vars.proofs.Commons.{costs_step}
-use Rattle.b2_vars.proofs.table.total.Goals as goal
+use Rattle.b2_vars.proofs.table.total_cost.Goals as goal
 
 pub overflow_add-sum : goal.overflow_add-sum
 overflow_add-sum c =

@@ -1,6 +1,6 @@
 use Rattle.std.proofs.Common.{◌∙◌, ap, is_some}
 use Rattle.b2_vars.proofs.EntriesAsMap.{get_table, places}
-use Rattle.b2_vars.proofs.table.place.Goals as goal
+use Rattle.b2_vars.proofs.table.entry_index.Goals as goal
 
 pub returns : goal.returns
 returns c = record {
