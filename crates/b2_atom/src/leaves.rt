@@ -99,7 +99,8 @@ pub fn number_width(origin: Origin, text: &[u8]) -> usize
     }
 }
 
-fn signed_number_width(origin: Origin, text: &[u8]) -> usize
+/// How many bytes spell a number with a sign before it or none, or 0.
+pub fn signed_number_width(origin: Origin, text: &[u8]) -> usize
     ensures { result ≡ spec.signed_number_width origin text.now }
 {
     if first(text) != b'+' && first(text) != b'-' {
@@ -148,7 +149,8 @@ pub fn numeric_name_width(origin: Origin, text: &[u8]) -> usize
     }
 }
 
-fn alpha_name_width(origin: Origin, text: &[u8]) -> usize
+/// How many bytes spell the name of an alpha variable with its `$`, or 0.
+pub fn alpha_name_width(origin: Origin, text: &[u8]) -> usize
     ensures count { result ≡ spec.alpha_name_width origin text.now }
     ensures short { result ≤ 4 }
 {
@@ -159,7 +161,8 @@ fn alpha_name_width(origin: Origin, text: &[u8]) -> usize
     }
 }
 
-fn local_name_width(origin: Origin, text: &[u8]) -> usize
+/// How many bytes spell the name of a number without `@`, or 0.
+pub fn local_name_width(origin: Origin, text: &[u8]) -> usize
     ensures { result ≡ spec.local_name_width origin text.now }
 {
     if first(text) == b'@' {
@@ -181,7 +184,8 @@ pub fn any_name_width(origin: Origin, text: &[u8]) -> usize
     }
 }
 
-fn function_name_width(origin: Origin, text: &[u8]) -> usize
+/// How many bytes spell a function's name, a letter or a digit, or 0.
+pub fn function_name_width(origin: Origin, text: &[u8]) -> usize
     ensures { result ≡ spec.function_name_width origin text.now }
 {
     let class = ahead(origin, text).0;
@@ -192,7 +196,8 @@ fn function_name_width(origin: Origin, text: &[u8]) -> usize
     }
 }
 
-fn literal_width(text: &[u8]) -> usize
+/// How many bytes spell a literal with both its quotes, or 0.
+pub fn literal_width(text: &[u8]) -> usize
     ensures { result ≡ spec.literal_width text.now }
 {
     let count = until_quote(dropped(text, 1));
@@ -210,7 +215,8 @@ fn is_hex_at(origin: Origin, text: &[u8], place: usize) -> bool
     is_hex_digit(kept_byte(origin, at(text, place)))
 }
 
-fn hex_pair_width(origin: Origin, text: &[u8]) -> usize
+/// How many bytes spell two hexadecimal digits, or 0.
+pub fn hex_pair_width(origin: Origin, text: &[u8]) -> usize
     ensures { result ≡ spec.hex_pair_width origin text.now }
 {
     if is_hex_at(origin, text, 0) && is_hex_at(origin, text, 1) {
@@ -220,13 +226,15 @@ fn hex_pair_width(origin: Origin, text: &[u8]) -> usize
     }
 }
 
-fn hex_digit_width(origin: Origin, text: &[u8]) -> usize
+/// How many bytes spell a hexadecimal digit, or 0.
+pub fn hex_digit_width(origin: Origin, text: &[u8]) -> usize
     ensures { result ≡ spec.hex_digit_width origin text.now }
 {
     if is_hex_at(origin, text, 0) { 1 } else { 0 }
 }
 
-fn address_width(origin: Origin, text: &[u8]) -> usize
+/// How many bytes spell the three hexadecimal digits of a device, or 0.
+pub fn address_width(origin: Origin, text: &[u8]) -> usize
     ensures { result ≡ spec.address_width origin text.now }
 {
     if is_hex_at(origin, text, 0) && is_hex_at(origin, text, 1) && is_hex_at(origin, text, 2) {
@@ -236,7 +244,8 @@ fn address_width(origin: Origin, text: &[u8]) -> usize
     }
 }
 
-fn small_width(text: &[u8]) -> usize
+/// How many bytes spell a number from 0 to 255, or 0.
+pub fn small_width(text: &[u8]) -> usize
     ensures { result ≡ spec.small_width text.now }
 {
     if capped_value(text, 999) <= 255 {
@@ -246,7 +255,8 @@ fn small_width(text: &[u8]) -> usize
     }
 }
 
-fn slot_width(text: &[u8]) -> usize
+/// How many bytes spell `#` and a number from 0 to 15, or 0.
+pub fn slot_width(text: &[u8]) -> usize
     ensures { result ≡ spec.slot_width text.now }
 {
     let number = dropped(text, 1);
@@ -258,7 +268,8 @@ fn slot_width(text: &[u8]) -> usize
     }
 }
 
-fn image_width(origin: Origin, text: &[u8]) -> usize
+/// How many bytes spell an image with its closing parenthesis, or 0.
+pub fn image_width(origin: Origin, text: &[u8]) -> usize
     ensures { result ≡ spec.image_width origin text.now }
 {
     let count = until_parenthesis(origin, text);
@@ -269,7 +280,8 @@ fn image_width(origin: Origin, text: &[u8]) -> usize
     }
 }
 
-fn relation_width(text: &[u8]) -> usize
+/// How many bytes spell a comparison sign, or 0.
+pub fn relation_width(text: &[u8]) -> usize
     ensures { result ≡ spec.relation_width text.now }
 {
     match text {

@@ -50,7 +50,7 @@ takes_if : (b : Bool) (s : Text) (o u : Outcome) → Takes s o → Takes s u →
 takes_if true s o u h k = h
 takes_if false s o u h k = k
 
-takes_many : (st : Start) (p : Parser Text) → ((u : Text) → Takes u (p u)) → (n : ℕ) (s : Text) → Takes s (many (reader Atoms) st p n s)
+pub takes_many : (st : Start) (p : Parser Text) → ((u : Text) → Takes u (p u)) → (n : ℕ) (s : Text) → Takes s (many (reader Atoms) st p n s)
 unfolding many
 takes_many st p h zero s = takes_if (starts Atoms st s) s _ _ tt refl
 takes_many st p h (suc n) s = takes_if (starts Atoms st s) s _ _ (takes_then s (under 1 (p s)) _ (takes_under 1 s (p s) (h s)) (takes_many st p h n)) refl
@@ -196,12 +196,12 @@ takes_items st d p hs hd hp (i ∷ is) h s =
     takes_then s (item st d p (reader Atoms) i s) (items st d p (reader Atoms) is)
     (takes_item st d p hs hd hp i s (and_left (good_item i) _ h)) (takes_items st d p hs hd hp is (and_right (good_item i) _ h))
 
-takes_level : (st : Position → Parser Text) (d : ℕ → Parser Text) → ((x : Position) → AllTake (st x)) → ((n : ℕ) → AllTake (d n)) → (l n : ℕ) → AllTake (level (reader Atoms) st d l n)
+pub takes_level : (st : Position → Parser Text) (d : ℕ → Parser Text) → ((x : Position) → AllTake (st x)) → ((n : ℕ) → AllTake (d n)) → (l n : ℕ) → AllTake (level (reader Atoms) st d l n)
 unfolding level
 takes_level st d hs hd zero n s = tt
 takes_level st d hs hd (suc l) n s = takes_items st d (level (reader Atoms) st d l) hs hd (takes_level st d hs hd l) (row_items n) (row_good n) s
 
-takes_deep : (st : Position → Parser Text) → ((x : Position) → AllTake (st x)) → (m n : ℕ) → AllTake (deep (reader Atoms) st m n)
+pub takes_deep : (st : Position → Parser Text) → ((x : Position) → AllTake (st x)) → (m n : ℕ) → AllTake (deep (reader Atoms) st m n)
 unfolding deep
 takes_deep st hs zero n s = tt
 takes_deep st hs (suc m) n s = takes_level st (deep (reader Atoms) st m) hs (takes_deep st hs m) 40 n s
