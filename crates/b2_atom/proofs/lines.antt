@@ -12,6 +12,7 @@
 -- The units of a line are those of its tree (`tree_is_cut`), and each is a statement (`each_unit`): EachUnit, by OneUnit, that
 -- a statement up to its THEN, ELSE or ERROR is read alike before other tokens and before nothing, and by Own, that a tree of
 -- items without statements has no units in it.
+-- UnitRows: the row that the table chooses for a unit is the one that reads it (`each_unit_by_its_row`).
 -- Units has what the functions that find the units of a line and look them up rest on.
 pub mod Anywhere
 pub mod LineLaws
@@ -20,3 +21,4 @@ pub mod Units
 pub mod Own
 pub mod OneUnit
 pub mod EachUnit
+pub mod UnitRows

@@ -5,8 +5,8 @@ use Rattle.b2_atom.specs.Words.{Text}
 use Rattle.b2_atom.specs.Tokens.{listed}
 use Rattle.b2_atom.specs.Tree.{Trees, atoms, tokens}
 use Rattle.b2_atom.specs.Tree.Trees.{Done, In}
-use Rattle.b2_atom.specs.Grammar.{reader, statement, read_line}
-use Rattle.b2_atom.specs.Lines.{is_line, line_atoms, LineUnit, units_of}
+use Rattle.b2_atom.specs.Grammar.{reader, part, statement, read_line}
+use Rattle.b2_atom.specs.Lines.{is_line, line_atoms, LineUnit, units_of, unit_row}
 use Rattle.b2_atom.specs.Fitting.{LineTree, LineTreeWithin}
 use Rattle.b2_atom.specs.Units.{TreeUnit, unit_atoms, units_on}
 use Rattle.b2_atom.specs.declared.words.Origin.{Origin}
@@ -70,6 +70,16 @@ pub record IsStatement (u : LineUnit) : Type 0 where
 -- each unit of a line is one statement by itself
 abbrev pub EachUnitIsAStatement : Type 0
 EachUnitIsAStatement = (line : Text) → is_line line ≡ true → All IsStatement (units_of line)
+
+-- a unit is read by its row alone, as the statement that it is, with nothing left
+pub record IsReadByItsRow (u : LineUnit) : Type 0 where
+  pub tree : Trees
+  pub statement : statement (reader origin.Atoms) 1 u.place u.bytes ≡ Ok (In (unit_row u) tree Done, [])
+  pub part : part origin.Atoms 0 32 40 (unit_row u) u.bytes ≡ Ok (tree, [])
+
+-- each unit of a line is read by the row that the table chooses for it
+abbrev pub EachUnitIsReadByItsRow : Type 0
+EachUnitIsReadByItsRow = (line : Text) → is_line line ≡ true → All IsReadByItsRow (units_of line)
 
 -- a unit on a tree is read as its own tree by itself, with nothing left
 abbrev pub IsReadAlone : TreeUnit → Type 0

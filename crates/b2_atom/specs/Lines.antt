@@ -1,11 +1,13 @@
 -- Lines as atoms: which lists of bytes spell a line, and its units.
 use Rattle.std.specs.Prelude.{◌≡◌, ℕ, zero, suc, ◌-◌, ◌≤◌, ◌&&◌, ◌==◌, nat_le, nat_lt, map, Bool, true, false, List, [], ◌∷◌, length, take, drop, if◌then◌else◌, Result, Ok, Err, is_ok, Option, Some, None}
+use Rattle.std.specs.List.{All}
 use Rattle.b2_base.specs.Byte as byte
 use Rattle.b2_base.specs.Lexical.{first}
 use Rattle.b2_atom.specs.Words.{Text}
 use Rattle.b2_atom.specs.Tokens.{listed}
-use Rattle.b2_atom.specs.Tree.{Outcome, atoms, tokens}
-use Rattle.b2_atom.specs.Grammar.{reader, statement, read_line}
+use Rattle.b2_atom.specs.Tree.{Trees, Outcome, atoms, tokens}
+use Rattle.b2_atom.specs.Grammar.{reader, part, statement, statement_row, read_line}
+use Rattle.b2_atom.specs.declared.rows.TheConstants as row
 use Rattle.b2_atom.specs.declared.words.Origin.{Origin}
 use Rattle.b2_atom.specs.declared.words.Origin.TheVariants as origin
 use Rattle.b2_atom.specs.declared.sink.Stop.{Stop}
@@ -67,6 +69,20 @@ pub record LineUnit : Type 0 where
 abbrev pub unit_at : Position → Text → LineUnit
 unit_at p t = record { place = p; bytes = take (length t - length (after_unit p t)) t }
 
+-- the row of a statement that begins somewhere, and the line's own, which is no statement's, where none begins
+abbrev pub chosen_row : Result (ℕ × Text) Stop → ℕ
+chosen_row (Ok p) = p.0
+chosen_row (Err e) = row.LINE
+
+-- the row of a unit: the one that the table chooses for its own bytes at its place
+unfoldable pub unit_row : LineUnit → ℕ
+unit_row u = chosen_row (statement_row origin.Atoms u.place u.bytes)
+
+-- bytes that a row reads from the first to the last, with no statement in it
+pub record IsReadBy (number : ℕ) (bytes : Text) : Type 0 where
+  pub tree : Trees
+  pub read : part origin.Atoms 0 32 40 number bytes ≡ Ok (tree, [])
+
 -- the units in what stands after one: a `:` parts them, or nothing where a statement follows
 abbrev pub next_place : Text → Position
 next_place rest = if first rest == byte.colon then Further else Following
@@ -91,10 +107,15 @@ units_of t = units_from (length t) First t
 abbrev pub spanned : Text → Span → LineUnit
 spanned line s = record { place = s.place; bytes = take s.width (drop s.from line) }
 
--- the spans of all units of a line
+-- a span keeps the row of its unit
+abbrev pub KeepsRow : Text → Span → Type 0
+KeepsRow line s = s.row ≡ unit_row (spanned line s)
+
+-- the spans of all units of a line, each with its unit's row
 pub record KeepsUnits (line : Text) (spans : List Span) : Type 0 where
   pub line_is : is_line line ≡ true
   pub units : map (spanned line) spans ≡ units_of line
+  pub rows : All (KeepsRow line) spans
 
 -- a text at the end of another
 pub record IsEndOf (line left : Text) : Type 0 where

@@ -1,5 +1,5 @@
 // Laws of lines, which no code states: each is the contract of a function without a body.
-ghost use Rattle.b2_atom.specs.Laws.{EachLineSpellsATree, EachTreeIsALine, EachTreeIsReadFromItsAtoms, WhatIsReadFitsTheRows, NoTwoTreesShareAtoms, WhatIsReadIsALine, WhatIsListedIsReadBack, EachUnitIsAStatement, EachTreeIsCutIntoUnits};
+ghost use Rattle.b2_atom.specs.Laws.{EachLineSpellsATree, EachTreeIsALine, EachTreeIsReadFromItsAtoms, WhatIsReadFitsTheRows, NoTwoTreesShareAtoms, WhatIsReadIsALine, WhatIsListedIsReadBack, EachUnitIsAStatement, EachUnitIsReadByItsRow, EachTreeIsCutIntoUnits};
 
 /// Each list of bytes that spells a line is the atoms of a tree that the table allows.
 pub fn each_line_spells_a_tree()
@@ -39,6 +39,11 @@ pub fn what_is_listed_is_read_back()
 /// Each unit of a line is read as one statement by itself, cut off where the next begins.
 pub fn each_unit_is_a_statement()
     ensures { EachUnitIsAStatement }
+{}
+
+/// Each unit of a line is read by its row: the one that the table chooses for the unit's own bytes.
+pub fn each_unit_is_read_by_its_row()
+    ensures { EachUnitIsReadByItsRow }
 {}
 
 /// The units of a tree's atoms are the atoms of the statements at which the tree is cut, each read by itself.

@@ -6,7 +6,7 @@
 //!
 //! Stands on `b2_base`. `Atoms::of` is None exactly on lists of bytes that spell no line; `Atoms::read` gives the atoms of
 //! a typed line, or the first code and its place; `Atoms::source` gives the canonical source of a line. A line keeps where
-//! its units stand, so that `units`, `unit`, `find_unit` and `skip` look them up. Which trees the table allows is said
+//! its units stand and the row of each, so that `units`, `unit`, `find_unit` and `skip` look them up. Which trees the table allows is said
 //! without any reading, and the laws in `laws` tie them to their atoms, to their source and to the units of a line.
 //!
 //! The definitions are in `specs/`: the words in `Words`, tokens and their source in `Tokens`, trees in `Tree`, what is
@@ -36,15 +36,16 @@ pub mod words;
 
 pub use laws::{
     each_line_spells_a_tree, each_tree_is_a_line, each_tree_is_cut_into_units,
-    each_tree_is_read_from_its_atoms, each_unit_is_a_statement, no_two_trees_share_atoms,
-    what_is_listed_is_read_back, what_is_read_fits_the_rows, what_is_read_is_a_line,
+    each_tree_is_read_from_its_atoms, each_unit_is_a_statement, each_unit_is_read_by_its_row,
+    no_two_trees_share_atoms, what_is_listed_is_read_back, what_is_read_fits_the_rows,
+    what_is_read_is_a_line,
 };
 pub use leaves::{
     address_width, alpha_name_width, any_name_width, function_name_width, hex_digit_width,
     hex_pair_width, image_width, is_alpha_name, literal_width, local_name_width, number_width,
     numeric_name_width, relation_width, signed_number_width, slot_width, small_width,
 };
-pub use line::{Atoms, Cursor, FoundUnit, read_source};
+pub use line::{Atoms, Cursor, FoundUnit, read_source, reads_row};
 pub use sink::Stop;
 use table::{FORMS, ROWS_0, ROWS_1, ROWS_2, ROWS_3};
 use words::WORDS;

@@ -1,12 +1,13 @@
 // Lines as atoms, their units, and a cursor over the bytes of one.
-ghost use Rattle.std.specs.Prelude.{◌≡◌, ◌≢◌, ◌≤◌, ◌<◌, ◌&&◌, nat_lt, length, drop, ◌+◌, ◌==◌, ◌||◌, IfErr, IfOk, IfSome, MatchResult, Some, None, if◌then◌else◌, true, slice_get};
+ghost use Rattle.std.specs.Prelude.{◌≡◌, ◌≢◌, ◌≤◌, ◌<◌, ◌&&◌, nat_lt, length, drop, ◌+◌, ◌==◌, ◌||◌, IfErr, IfOk, IfSome, MatchResult, Some, None, if◌then◌else◌, true, is_ok, slice_get};
 ghost use Rattle.std.specs.Option.{option_map};
-ghost use Rattle.b2_atom.specs.Lines.{IsKnown, is_line, line_atoms, line_source, short_line, after_unit, next_place, next_text, units_of, further_unit, is_further};
+ghost use Rattle.b2_atom.specs.Grammar as spec;
+ghost use Rattle.b2_atom.specs.Lines.{IsKnown, is_line, line_atoms, line_source, short_line, after_unit, next_place, next_text, units_of, further_unit, is_further, IsReadBy, unit_row};
 
 use crate::laws::what_is_read_is_a_line;
 use crate::sink::{Sink, Source, Stop, bytes_of};
-use crate::spans::{Span, further_unit, spans_of};
-use crate::walk::read_line;
+use crate::spans::{Span, further_unit, span_at, spans_of};
+use crate::walk::{DEPTH, LEVELS, part, read_line};
 use crate::words::Origin;
 use b2_base::NoMemory;
 use std::alloc::Global;
@@ -44,10 +45,11 @@ impl<'a> Model for Cursor<'a> {
     ghost view = { λ c. c.left.now };
 }
 
-/// A unit of a line: its bytes, and whether it is the last one.
+/// A unit of a line: its bytes, the row of its statement, and whether it is the last one.
 #[derive(Drop)]
 pub struct FoundUnit<'a> {
     pub cursor: Cursor<'a>,
+    pub row: u16,
     pub is_last: bool,
 }
 
@@ -61,6 +63,18 @@ fn spells_line(bytes: &[u8]) -> bool
     }
     let mut sink = Sink::Silent;
     match read_line(&mut sink, Origin::Atoms, bytes) {
+        Ok(_) => true,
+        Err(_) => false,
+    }
+}
+
+/// Whether a row is read at a text of a unit, which may go on after it; a statement in the row reads nothing. It walks the
+/// table: whoever has a unit finds its row with it.
+pub fn reads_row(row: u16, text: &[u8]) -> bool
+    ensures { result ≡ is_ok (spec.part Origin.Atoms 0 32 40 row text.now) }
+{
+    let mut sink = Sink::Silent;
+    match part(&mut sink, Origin::Atoms, 0, DEPTH, LEVELS, row, text) {
         Ok(_) => true,
         Err(_) => false,
     }
@@ -172,22 +186,26 @@ impl Atoms {
     pub fn unit(&self, k: usize) -> Option<Cursor<'_>>
         ensures { result ≡ option_map (λ u. u.bytes) (slice_get (units_of self.now) k) }
     {
-        match self.units.get(k) {
+        match span_at(&self.units, k) {
             Some(span) => Some(Cursor::over(span.unit_bytes(&self.bytes))),
             None => None,
         }
     }
 
-    /// The k-th unit, with whether it is the last.
+    /// The k-th unit, with its row and whether it is the last.
     pub fn find_unit(&self, k: usize) -> Option<FoundUnit<'_>>
         ensures bytes { option_map (λ u. u.cursor) result ≡ option_map (λ u. u.bytes) (slice_get (units_of self.now) k) }
+        ensures row { option_map (λ u. u.row) result ≡ option_map unit_row (slice_get (units_of self.now) k) }
+        ensures read { IfSome result (λ u. IsReadBy u.row u.cursor) }
+        ensures short { IfSome result (λ u. length u.cursor ≤ 255) }
         ensures last { IfSome result (λ u. u.is_last ≡ (k + 1 == length (units_of self.now))) }
         ensures few { IfSome result (λ u. k < 255) }
     {
         let count = self.units();
-        match self.unit(k) {
-            Some(cursor) => Some(FoundUnit {
-                cursor,
+        match span_at(&self.units, k) {
+            Some(span) => Some(FoundUnit {
+                cursor: Cursor::over(span.unit_bytes(&self.bytes)),
+                row: span.unit_row(),
                 is_last: k + 1 == count,
             }),
             None => None,

@@ -1,21 +1,25 @@
 // The units of a line: found once, when the line is made, and looked up from then on.
-ghost use Rattle.std.specs.Prelude.{◌≡◌, ◌≤◌, ℕ, List, IfOk, length, map};
-ghost use Rattle.b2_atom.specs.Lines.{IsEndOf, after_unit, further_unit, is_further, next_place, next_text, spanned, unit_at, units_of};
+ghost use Rattle.std.specs.Prelude.{◌≡◌, ◌≤◌, ℕ, List, IfOk, length, map, slice_get};
+ghost use Rattle.std.specs.List.{All};
+ghost use Rattle.b2_atom.specs.Lines.{IsEndOf, KeepsRow, after_unit, further_unit, is_further, next_place, next_text, spanned, unit_at, unit_row, units_of};
 
 use crate::forms::Position;
+use crate::rows;
 use crate::sink::Sink;
+use crate::starts::statement_row;
 use crate::walk::statement;
 use crate::words::Origin;
 use b2_base::NoMemory;
 use b2_base::lexical::{dropped, first, front};
 use std::alloc::Global;
 
-/// A unit of a line: where it stands, and which of the line's bytes are its own.
+/// A unit of a line: where it stands, which of the line's bytes are its own, and the row of its statement.
 #[derive(Clone, Copy, Debug)]
 pub struct Span {
     place: Position,
     from: u8,
     width: u8,
+    row: u16,
 }
 
 impl Span {
@@ -29,12 +33,26 @@ impl Span {
         )
     }
 
+    /// The row of the unit's statement.
+    pub fn unit_row(&self) -> u16
+        ensures { result ≡ self.now.row }
+    {
+        self.row
+    }
+
     /// Whether the unit stands after a `:`.
     fn follows_colon(&self) -> bool
         ensures { result ≡ is_further self.now.place }
     {
         self.place == Position::Further
     }
+}
+
+/// The k-th of some spans, None exactly where there are at most k.
+pub fn span_at(units: &[Span], k: usize) -> Option<Span>
+    ensures { result ≡ slice_get units.now k }
+{
+    units.get(k).copied()
 }
 
 /// What stands after the first unit of a text.
@@ -46,6 +64,17 @@ fn after_unit(place: Position, text: &[u8]) -> &[u8]
     match statement(&mut sink, Origin::Atoms, 1, place, text) {
         Ok(rest) => rest,
         Err(_) => &[],
+    }
+}
+
+/// The row of the statement that is a unit's bytes.
+#[tactic(auto, unfolding(crate::specs::Lines::unit_row))]
+fn unit_row(place: Position, bytes: &[u8]) -> u16
+    ensures { result ≡ unit_row (record { place = place; bytes = bytes.now }) }
+{
+    match statement_row(Origin::Atoms, place, bytes) {
+        Ok((row, _)) => row,
+        Err(_) => rows::LINE,
     }
 }
 
@@ -76,7 +105,8 @@ fn span_between(line: &[u8], place: Position, left: &[u8], rest: &[u8]) -> Span
     requires few { length line.now ≤ 255 }
     requires left { IsEndOf line.now left.now }
     requires rest { rest.now ≡ after_unit place left.now }
-    ensures { spanned line.now result ≡ unit_at place left.now }
+    ensures unit { spanned line.now result ≡ unit_at place left.now }
+    ensures row { result.row ≡ unit_row (unit_at place left.now) }
 {
     let from = line.len() - left.len();
     let width = left.len() - rest.len();
@@ -84,13 +114,15 @@ fn span_between(line: &[u8], place: Position, left: &[u8], rest: &[u8]) -> Span
         place,
         from: from as u8,
         width: width as u8,
+        row: unit_row(place, front(left, width)),
     }
 }
 
-/// The units of a line of at most 255 bytes.
+/// The units of a line of at most 255 bytes, each with its row.
 pub fn spans_of(alloc: Global, line: &[u8]) -> Result<Vec<Span>, NoMemory>
     requires { length line.now ≤ 255 }
-    ensures { IfOk result (λ spans. map (spanned line.now) spans.items ≡ units_of line.now) }
+    ensures units { IfOk result (λ spans. map (spanned line.now) spans.items ≡ units_of line.now) }
+    ensures rows { IfOk result (λ spans. All (KeepsRow line.now) spans.items) }
 {
     let mut spans = Vec::new(alloc);
     let mut place = Position::First;

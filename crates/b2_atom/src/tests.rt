@@ -1,5 +1,5 @@
 // Lists of bytes that spell a line, with their units, and lists that spell none.
-use crate::{Atoms, Origin, Stop, read_source};
+use crate::{Atoms, Origin, Stop, read_source, reads_row, rows};
 use std::test::Fail;
 
 /// The units of a line, each after a `|`, and after each the unit to which a false IF goes on. A `!` stands where a
@@ -120,5 +120,58 @@ fn lines_of_sources(rt: HostRuntime) -> Result<(), Fail> {
     assert!(rt; matches!(Atoms::read(alloc, Origin::Program, &remark), Ok(Some(_))));
     remark.push(b'x')?;
     assert!(rt; matches!(Atoms::read(alloc, Origin::Program, &remark), Ok(None)));
+    Ok(())
+}
+
+/// Which of some rows are read at some bytes: a row that goes on is read at its front, and one that has a statement in it
+/// without that.
+#[test]
+#[rattlefmt::skip]
+fn rows_at_texts(rt: HostRuntime) -> Result<(), Fail> {
+    let cases: [(u16, &[u8], bool); 8] = [
+        (rows::PRINT, b"\x9C1,2", true),
+        (rows::GOTO, b"\x83\xFF\x00\x10", true),
+        (rows::GOTO, b"\x9C1", false),
+        (rows::SUM, b"1+2*3)", true),
+        (rows::SUM, b"1+", false),
+        (rows::ASSIGNMENT, b"A=1", true),
+        (rows::ASSIGNMENT, b"A", false),
+        (rows::IF, b"\x8AA=1\x8B", true),
+    ];
+    for (row, text, expected) in cases {
+        assert_eq!(rt; reads_row(row, text), expected);
+    }
+    Ok(())
+}
+
+/// The rows of a line's units.
+fn rows_of(rt: &HostRuntime, atoms: &[u8]) -> Result<Vec<u16>, Fail> {
+    let mut out = Vec::new(rt.alloc());
+    let Some(line) = Atoms::of(rt.alloc(), atoms)? else {
+        return Ok(out);
+    };
+    for k in 0..line.units() {
+        if let Some(unit) = line.find_unit(k) {
+            out.push(unit.row)?;
+        }
+    }
+    Ok(out)
+}
+
+#[test]
+#[rattlefmt::skip]
+fn rows_of_units(rt: HostRuntime) -> Result<(), Fail> {
+    let cases: [(&[u8], &[u16]); 6] = [
+        (b"\x9C1", &[rows::PRINT]),
+        (b"\x8AA=1\x8B\x9CA:\x8C\x92", &[rows::IF, rows::PRINT, rows::ELSE, rows::STOP]),
+        (b"X=1:\x96\x8AA<>2\x8B\x8AB=1\x8B\xFF\x13\x96:Y=2", &[rows::ASSIGNMENT, rows::ERROR, rows::IF, rows::IF, rows::ASSIGNMENT]),
+        (b"\x8A\x8D\x8B\xFF\x00\x10", &[rows::IF_END]),
+        (b"\x9C\":\":\x80 a:b", &[rows::PRINT, rows::REMARK]),
+        (b"%:x", &[rows::IMAGE_LINE]),
+    ];
+    for (atoms, expected) in cases {
+        let found = rows_of(&rt, atoms)?;
+        assert_eq!(rt; found.as_slice(), expected);
+    }
     Ok(())
 }

@@ -129,7 +129,7 @@ fn many<'a>(
 
 /// Reads a part.
 #[cycle(walk)]
-fn part<'a>(
+pub fn part<'a>(
     out: &mut Sink,
     origin: Origin,
     fuel: usize,

@@ -1,6 +1,10 @@
 -- Bytes by name.
 use Rattle.std.specs.Prelude.{ℕ}
 
+-- begins a sequence of bytes that is for the terminal as a whole
+abbrev pub escape : ℕ
+escape = 2
+
 abbrev pub newline : ℕ
 newline = 10
 

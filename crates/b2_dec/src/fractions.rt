@@ -52,7 +52,7 @@ fn towards_zero(a: Dec) -> Dec
         return Dec::zero();
     }
     let unit = ten_to(111 - place) as u64;
-    Dec::at(a.is_negative(), coef / unit * unit, place as u8)
+    Dec::ending_at(a.is_negative(), coef / unit * unit, place as u8)
 }
 
 /// The number of the least whole size that is not below this one's.
@@ -65,7 +65,7 @@ fn from_zero(a: Dec) -> Dec
         return a;
     }
     if place < 99 {
-        return Dec::at(true, 1_000_000_000_000, 99);
+        return Dec::ending_at(true, 1_000_000_000_000, 99);
     }
     let unit = ten_to(111 - place) as u64;
     if coef % unit == 0 {
@@ -73,8 +73,8 @@ fn from_zero(a: Dec) -> Dec
     }
     let up = (coef / unit + 1) * unit;
     if up == 10_000_000_000_000 {
-        Dec::at(true, 1_000_000_000_000, place as u8 + 1)
+        Dec::ending_at(true, 1_000_000_000_000, place as u8 + 1)
     } else {
-        Dec::at(true, up, place as u8)
+        Dec::ending_at(true, up, place as u8)
     }
 }

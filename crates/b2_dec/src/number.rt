@@ -63,7 +63,7 @@ impl Dec {
             return Dec::zero();
         }
         let missing = 12 - n.ilog10();
-        Dec::at(
+        Dec::ending_at(
             false,
             (n as u128 * ten_to(missing)) as u64,
             (111 - missing) as u8,
@@ -71,7 +71,7 @@ impl Dec {
     }
 
     /// The number of this sign whose thirteen digits end at this place, counted from 10^-111.
-    pub fn at(neg: bool, coef: u64, place: u8) -> Dec
+    pub fn ending_at(neg: bool, coef: u64, place: u8) -> Dec
         requires least { 1000000000000 ≤ coef }
         requires digits { coef < 10000000000000 }
         requires highest { place ≤ 198 }

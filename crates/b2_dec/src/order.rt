@@ -49,7 +49,7 @@ pub fn sgn(a: Dec) -> Dec
     if a.is_zero() {
         Dec::zero()
     } else {
-        Dec::at(a.is_negative(), 1_000_000_000_000, 99)
+        Dec::ending_at(a.is_negative(), 1_000_000_000_000, 99)
     }
 }
 

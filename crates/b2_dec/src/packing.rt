@@ -62,7 +62,7 @@ fn candidate(signs: u8, size: u8, coef: u64) -> Option<Dec>
         return None;
     }
     let place = if signs >= 8 { 99 - size } else { 99 + size };
-    Some(Dec::at(signs % 2 == 1, coef, place))
+    Some(Dec::ending_at(signs % 2 == 1, coef, place))
 }
 
 /// The number that all nibbles of the bytes spell as digits.

@@ -24,7 +24,7 @@ pub fn power(a: Dec, n: u8, m: Mode) -> Result<Dec, Code>
 fn multiplied(a: Dec, n: u8, mode: Mode) -> Result<Dec, Code>
     ensures { result ≡ times mode n a one_number }
 {
-    let mut product = Dec::at(false, 1_000_000_000_000, 99);
+    let mut product = Dec::ending_at(false, 1_000_000_000_000, 99);
     for _ in 0..n {
         match mul(product, a, mode) {
             Ok(next) => product = next,

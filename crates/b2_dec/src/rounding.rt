@@ -84,7 +84,7 @@ fn in_range(neg: bool, coef: u64, place: u32) -> Result<Dec, Code>
     if place > 309 {
         return Err(Code::known(C61_OVERFLOW));
     }
-    Ok(Dec::at(neg, coef, (place - 111) as u8))
+    Ok(Dec::ending_at(neg, coef, (place - 111) as u8))
 }
 
 /// The same where rounding may have led to 10^13.

@@ -65,34 +65,34 @@ impl Frame {
         ensures { (h : ℕ) → 1 ≤ h → bit_at result (h - 1) ≡ (if names_home h self then 1 else 0) }
     {
         match self {
-            Frame::For { body, .. } => mark(body.home),
+            Frame::For { body, .. } => bit_of(body.home),
             Frame::Call { back, entered } => back_mark(back) | entered_mark(entered),
         }
     }
 }
 
-/// The mark of the home that a call leads back to.
+/// The bit of the home that a call leads back to.
 fn back_mark(back: Option<Place>) -> u16
     ensures { (h : ℕ) → 1 ≤ h → bit_at result (h - 1) ≡ (if is_back_home h back then 1 else 0) }
 {
     match back {
-        Some(place) => mark(place.home),
+        Some(place) => bit_of(place.home),
         None => 0,
     }
 }
 
-/// The mark of the partition whose text a call entered.
+/// The bit of the partition whose text a call entered.
 fn entered_mark(entered: Option<Part>) -> u16
     ensures { (h : ℕ) → 1 ≤ h → bit_at result (h - 1) ≡ (if is_entered h entered then 1 else 0) }
 {
     match entered {
-        Some(part) => mark(part),
+        Some(part) => bit_of(part),
         None => 0,
     }
 }
 
-/// The mark of a partition: its bit is its number less 1.
-fn mark(part: Part) -> u16
+/// The bit of a partition: that of its number less 1.
+fn bit_of(part: Part) -> u16
     ensures { (h : ℕ) → 1 ≤ h → bit_at result (h - 1) ≡ (if part == h then 1 else 0) }
 {
     1 << (part.number() - 1)

@@ -17,3 +17,5 @@ pub mod ChainRows
 pub mod Choices
 pub mod EachChain
 pub mod EachOperand
+pub mod LineTrees
+pub mod WhatFollows

@@ -87,7 +87,7 @@ each_of (u ∷ us) h k =
     (record { row = s.row; tree = s.tree; read = s.read; is = statement_is_row u.place u.bytes s.row s.tree (let e = All-head (Within 255) u us k in omega (arith, e)) s.read })
     (each_of us (All-tail IsStatement u us h) (All-tail (Within 255) u us k))
 
-line_short : (line : Text) → is_line line ≡ true → length line ≤ 255
+pub line_short : (line : Text) → is_line line ≡ true → length line ≤ 255
 unfolding is_line
 line_short line h = short_by (length line) _ h
   where

@@ -5,5 +5,6 @@ pub mod Takes
 pub mod Links
 pub mod Chains
 pub mod Choices
+pub mod Following
 pub mod Laws
 pub mod Optional

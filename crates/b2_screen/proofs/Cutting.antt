@@ -3,7 +3,8 @@ use Rattle.std.proofs.Common.{◌≡◌, ◌<◌, ◌+◌, suc, length, drop, ge
 use Rattle.std.proofs.Math.Seq.{drop-cons}
 use Rattle.std.proofs.lemmas.List.{append_assoc}
 use Rattle.b2_screen.specs.Sheet.{SheetState}
-use Rattle.b2_screen.specs.Shown.{ScreenItem, nothing, BytesRead, ScreenState, escape, is_kind, item_of, item_of_kind, after_item, bytes_read, read_after_escape, read_of_kind, effect, effects, fed, read_onto, shown, blank_screen, bytes_of}
+use Rattle.b2_base.specs.Byte as byte
+use Rattle.b2_screen.specs.Shown.{ScreenItem, nothing, BytesRead, ScreenState, is_kind, item_of, item_of_kind, after_item, bytes_read, read_after_escape, read_of_kind, effect, effects, fed, read_onto, shown, blank_screen, sequence_bytes}
 use Rattle.b2_screen.proofs.Places.{one_more}
 use Rattle.b2_screen.specs.declared.sequence.SequenceKind.TheVariants as kind
 use Rattle.b2_screen.specs.declared.sequence.Sequence.{Sequence}
@@ -38,7 +39,7 @@ mutual
 
   pub cut_read : (xs ys : List ℕ) → read_on (bytes_read xs) ys ≡ bytes_read (xs ++ ys)
   cut_read [] ys = refl
-  cut_read (b ∷ xs) ys = by_escape (b == escape) b xs ys (after_escape_cut xs ys) (cut_read xs ys)
+  cut_read (b ∷ xs) ys = by_escape (b == byte.escape) b xs ys (after_escape_cut xs ys) (cut_read xs ys)
 
   after_escape_cut : (xs ys : List ℕ) → read_on (read_after_escape xs) ys ≡ read_after_escape (xs ++ ys)
   after_escape_cut [] ys = refl
@@ -70,7 +71,7 @@ fed_byte bs i d s h =
     ∙ ap (λ (rest : List ℕ). fed rest s) (sym (drop-cons bs i d h))
 
 -- no bytes leave a screen as it is
-pub fed_nothing : (sheet : SheetState) (q : Sequence) → fed [] (record { sheet = sheet; rest = bytes_of q }) ≡ record { sheet = sheet; rest = bytes_of q }
+pub fed_nothing : (sheet : SheetState) (q : Sequence) → fed [] (record { sheet = sheet; rest = sequence_bytes q }) ≡ record { sheet = sheet; rest = sequence_bytes q }
 unfolding bytes_read read_after_escape read_of_kind effects
 fed_nothing sheet sequence.NotBegun = refl
 fed_nothing sheet sequence.Begun = refl

@@ -8,24 +8,21 @@ use Rattle.b2_screen.specs.declared.sequence.SequenceKind.TheVariants as kind
 use Rattle.b2_screen.specs.declared.sequence.Sequence.{Sequence}
 use Rattle.b2_screen.specs.declared.sequence.Sequence.TheVariants as sequence
 
--- the bytes that move the cursor, and the one that begins a sequence
+-- the bytes that move the cursor
 abbrev pub home : ℕ
 home = 1
-
-abbrev pub escape : ℕ
-escape = 2
 
 abbrev pub clear : ℕ
 clear = 3
 
-abbrev pub left : ℕ
-left = 8
+abbrev pub leftward : ℕ
+leftward = 8
 
-abbrev pub right : ℕ
-right = 9
+abbrev pub rightward : ℕ
+rightward = 9
 
-abbrev pub up : ℕ
-up = 12
+abbrev pub upward : ℕ
+upward = 12
 
 pub data ScreenItem : Type 0 where
   glyph : ℕ → ScreenItem
@@ -46,10 +43,10 @@ item_of b =
     if is_printable b then glyph b
     else (if b == home then move_home
     else (if b == clear then wipe
-    else (if b == left then move_left
-    else (if b == right then move_right
+    else (if b == leftward then move_left
+    else (if b == rightward then move_right
     else (if b == byte.newline then next_row
-    else (if b == up then move_up
+    else (if b == upward then move_up
     else (if b == byte.carriage_return then row_start
     else nothing)))))))
 
@@ -92,15 +89,15 @@ item_of_kind k a b = if k == byte.upper_a then placing a b else outline a b
 unfoldable mutual
   pub bytes_read : List ℕ → BytesRead
   bytes_read [] = unfinished []
-  bytes_read (b ∷ bs) = if b == escape then read_after_escape bs else after_item (item_of b) (bytes_read bs)
+  bytes_read (b ∷ bs) = if b == byte.escape then read_after_escape bs else after_item (item_of b) (bytes_read bs)
 
   pub read_after_escape : List ℕ → BytesRead
-  read_after_escape [] = unfinished (escape ∷ [])
+  read_after_escape [] = unfinished (byte.escape ∷ [])
   read_after_escape (k ∷ bs) = if is_kind k then read_of_kind k bs else after_item nothing (bytes_read bs)
 
   pub read_of_kind : ℕ → List ℕ → BytesRead
-  read_of_kind k [] = unfinished (escape ∷ k ∷ [])
-  read_of_kind k (a ∷ []) = unfinished (escape ∷ k ∷ a ∷ [])
+  read_of_kind k [] = unfinished (byte.escape ∷ k ∷ [])
+  read_of_kind k (a ∷ []) = unfinished (byte.escape ∷ k ∷ a ∷ [])
   read_of_kind k (a ∷ b ∷ bs) = after_item (item_of_kind k a b) (bytes_read bs)
 
 -- a screen: its sheet, and the bytes of a sequence that is not finished
@@ -127,8 +124,8 @@ abbrev pub kind_byte : SequenceKind → ℕ
 kind_byte kind.Placing = byte.upper_a
 kind_byte kind.Outline = byte.upper_b
 
-abbrev pub bytes_of : Sequence → List ℕ
-bytes_of sequence.NotBegun = []
-bytes_of sequence.Begun = escape ∷ []
-bytes_of (sequence.OfKind k) = escape ∷ kind_byte k ∷ []
-bytes_of (sequence.WithFirst k a) = escape ∷ kind_byte k ∷ a ∷ []
+abbrev pub sequence_bytes : Sequence → List ℕ
+sequence_bytes sequence.NotBegun = []
+sequence_bytes sequence.Begun = byte.escape ∷ []
+sequence_bytes (sequence.OfKind k) = byte.escape ∷ kind_byte k ∷ []
+sequence_bytes (sequence.WithFirst k a) = byte.escape ∷ kind_byte k ∷ a ∷ []

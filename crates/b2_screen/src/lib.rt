@@ -26,11 +26,11 @@ pub struct Screen {
 }
 
 impl Model for Screen {
-    ghost use Rattle.b2_screen.specs.Shown.{ScreenState, bytes_of};
+    ghost use Rattle.b2_screen.specs.Shown.{ScreenState, sequence_bytes};
 
     ghost Value = { ScreenState };
 
-    ghost view = { λ s. record { sheet = s.sheet; rest = bytes_of s.sequence } };
+    ghost view = { λ s. record { sheet = s.sheet; rest = sequence_bytes s.sequence } };
 }
 
 impl Screen {

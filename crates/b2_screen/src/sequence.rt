@@ -1,6 +1,7 @@
 // Bytes that come one by one: a sequence of four may be cut anywhere.
 ghost use Rattle.std.specs.Prelude.{◌≡◌, ◌∷◌, []};
-ghost use Rattle.b2_screen.specs.Shown.{fed, bytes_of, bytes_read, escape};
+ghost use Rattle.b2_screen.specs.Shown.{fed, sequence_bytes, bytes_read};
+ghost use Rattle.b2_base.specs.Byte.{escape};
 
 use crate::sheet::Sheet;
 
@@ -32,7 +33,7 @@ pub enum Sequence {
 /// How far a sequence is after its second byte.
 #[tactic(auto, unfolding(crate::specs::Shown::bytes_read))]
 fn after_escape(byte: u8) -> Sequence
-    ensures { bytes_of result ≡ (bytes_read (escape ∷ byte ∷ [])).rest }
+    ensures { sequence_bytes result ≡ (bytes_read (escape ∷ byte ∷ [])).rest }
 {
     match byte {
         b'A' => Sequence::OfKind(SequenceKind::Placing),
@@ -44,8 +45,8 @@ fn after_escape(byte: u8) -> Sequence
 /// Shows one byte.
 #[tactic(auto, unfolding(crate::specs::Shown::bytes_read, crate::specs::Shown::effects))]
 fn feed_byte(sheet: &mut Sheet, sequence: &mut Sequence, byte: u8)
-    ensures { record { sheet = sheet.new; rest = bytes_of sequence.new }
-        ≡ fed (byte ∷ []) (record { sheet = sheet.old; rest = bytes_of sequence.old }) }
+    ensures { record { sheet = sheet.new; rest = sequence_bytes sequence.new }
+        ≡ fed (byte ∷ []) (record { sheet = sheet.old; rest = sequence_bytes sequence.old }) }
 {
     match *sequence {
         Sequence::NotBegun if byte == ESCAPE => *sequence = Sequence::Begun,
@@ -55,7 +56,7 @@ fn feed_byte(sheet: &mut Sheet, sequence: &mut Sequence, byte: u8)
         Sequence::WithFirst(kind, first) => {
             *sequence = Sequence::NotBegun;
             match kind {
-                SequenceKind::Placing => sheet.place(first, byte),
+                SequenceKind::Placing => sheet.place_cursor(first, byte),
                 SequenceKind::Outline => sheet.outline(first, byte),
             }
         }
@@ -64,8 +65,8 @@ fn feed_byte(sheet: &mut Sheet, sequence: &mut Sequence, byte: u8)
 
 /// Shows bytes one by one.
 pub fn feed_bytes(sheet: &mut Sheet, sequence: &mut Sequence, bytes: &[u8])
-    ensures { record { sheet = sheet.new; rest = bytes_of sequence.new }
-        ≡ fed bytes.now (record { sheet = sheet.old; rest = bytes_of sequence.old }) }
+    ensures { record { sheet = sheet.new; rest = sequence_bytes sequence.new }
+        ≡ fed bytes.now (record { sheet = sheet.old; rest = sequence_bytes sequence.old }) }
 {
     for byte in bytes {
         feed_byte(sheet, sequence, *byte);

@@ -241,7 +241,7 @@ impl Sheet {
     }
 
     /// Places the cursor where the two bytes of a placing give a place on the screen.
-    pub fn place(&mut self, row: u8, column: u8)
+    pub fn place_cursor(&mut self, row: u8, column: u8)
         ensures { self.new ≡ cursor_placed row column self.old }
     {
         if gives(0, ROWS - 1, row) && gives(0, COLUMNS - 1, column) {

@@ -2,7 +2,7 @@
 use Rattle.std.proofs.Common.{◌≡◌, ℕ, ◌+◌, ◌≤◌, List, ◌++◌, take, drop, length, arith, length-append, length-drop, ap, sym, ◌∙◌}
 use Rattle.std.proofs.lemmas.List.{length-take, length-take-le, take_all, drop-drop}
 use Rattle.std.proofs.Math.Seq.{take-append_seam, drop-append_seam, drop-append-add}
-use Rattle.b2_vars.specs.Variables.{overwritten, part}
+use Rattle.b2_vars.specs.Variables.{overwritten, bytes_from}
 
 pub length-overwritten : (from : ℕ) (bytes old : List ℕ) → length (overwritten from bytes old) ≡ length old
 length-overwritten from bytes old =
@@ -20,7 +20,7 @@ module _ (from : ℕ) (bytes old : List ℕ) (fits : from + length bytes ≤ len
   front_length : length (take from old) ≡ from
   front_length = length-take-le from old (omega (arith, fits))
 
-  pub part-overwritten : part from (length bytes) (overwritten from bytes old) ≡ bytes
+  pub part-overwritten : bytes_from from (length bytes) (overwritten from bytes old) ≡ bytes
   part-overwritten =
       ap (λ (n : ℕ). take n (drop from (overwritten from bytes old))) (omega arith)
       ∙ ap (λ (ys : List ℕ). take (length bytes) (drop from ys)) (sym (overwritten-within from bytes old fits))

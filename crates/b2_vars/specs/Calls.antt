@@ -7,7 +7,7 @@ use Rattle.b2_vars.specs.declared.name.Var.{Var}
 use Rattle.b2_vars.specs.declared.shape.Shape.{Shape}
 use Rattle.b2_vars.specs.Answers.{code_if, first_of}
 use Rattle.b2_vars.specs.Shapes.{has_dimensions, has_length, is_same_shape, scalar_shape, size_of, has_cell, cell_at, cells}
-use Rattle.b2_vars.specs.Variables.{VariableState, fresh, part, with_bytes}
+use Rattle.b2_vars.specs.Variables.{VariableState, fresh, bytes_from, with_bytes}
 use Rattle.b2_vars.specs.Tables.{Table, VarsState, count_of, variable_at, shape_at}
 
 -- a new variable under a name where nothing stands, and else all as before
@@ -38,7 +38,7 @@ with_bytes_of v from s bytes = with_change v (λ x. with_bytes from x bytes) s
 -- n bytes from a place on of one variable are changed to others, which the relation allows
 abbrev pub ChangesTable : (List ℕ → List ℕ → Type 0) → Var → ℕ → ℕ → Table → Table → Type 0
 ChangesTable gives v from n old new =
-    (y : List ℕ) × (length y ≡ n) × gives (part from n (variable_at v old).bytes) y × (new ≡ map.insert old v (with_bytes from (variable_at v old) y))
+    (y : List ℕ) × (length y ≡ n) × gives (bytes_from from n (variable_at v old).bytes) y × (new ≡ map.insert old v (with_bytes from (variable_at v old) y))
 
 -- the same, within an area
 abbrev pub ChangesPart : (List ℕ → List ℕ → Type 0) → Var → ℕ → ℕ → VarsState → VarsState → Type 0
@@ -68,8 +68,8 @@ abbrev pub common_only : Table → Table
 common_only t = map.retain_keys t (λ v. is_common v t)
 
 -- P59: nothing stands under the name
-abbrev pub missing : Var → Table → Option ℕ
-missing v t = code_if (not (map.contains_key t v)) P59_NO_ARRAY
+abbrev pub missing_code : Var → Table → Option ℕ
+missing_code v t = code_if (not (map.contains_key t v)) P59_NO_ARRAY
 
 -- P59: the name is that of an array that wasn't made
 abbrev pub no_array : Var → Table → Option ℕ
@@ -126,4 +126,4 @@ com_code v shape s =
     first_of (bad_dimensions v shape ∷ bad_length v shape ∷ not_common v s.table ∷ other_shape v shape s.table ∷ full s.area (with_new v shape true s.table) ∷ [])
 
 abbrev pub redim_code : Var → Shape → Table → Option ℕ
-redim_code v shape t = first_of (missing v t ∷ bad_dimensions v shape ∷ bad_length v shape ∷ too_large v shape t ∷ [])
+redim_code v shape t = first_of (missing_code v t ∷ bad_dimensions v shape ∷ bad_length v shape ∷ too_large v shape t ∷ [])

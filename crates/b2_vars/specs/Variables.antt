@@ -36,13 +36,13 @@ number_at cell None = zero_number
 number_at cell (Some x) = get_or x.numbers cell zero_number
 
 -- bytes from a place on
-abbrev pub part : ℕ → ℕ → List ℕ → List ℕ
-part from n bytes = slice_range bytes from (from + n)
+abbrev pub bytes_from : ℕ → ℕ → List ℕ → List ℕ
+bytes_from from n bytes = slice_range bytes from (from + n)
 
 -- an alpha value; a scalar that was never set is 16 blanks
 abbrev pub alpha_at : ℕ → Option VariableState → List ℕ
 alpha_at cell None = replicate 16 byte.blank
-alpha_at cell (Some x) = part (cell * x.shape.len) x.shape.len x.bytes
+alpha_at cell (Some x) = bytes_from (cell * x.shape.len) x.shape.len x.bytes
 
 abbrev pub value_at : Var → ℕ → Option VariableState → Value
 value_at v cell x = if v.alpha then value.Alpha (alpha_at cell x) else value.Number (number_at cell x)
@@ -76,4 +76,4 @@ is_alpha (value.Alpha bytes) = true
 
 -- n bytes from a place on are changed to others, which the relation allows
 abbrev pub ChangesBytes : (List ℕ → List ℕ → Type 0) → ℕ → ℕ → VariableState → VariableState → Type 0
-ChangesBytes gives from n old new = (y : List ℕ) × (length y ≡ n) × gives (part from n old.bytes) y × (new ≡ with_bytes from old y)
+ChangesBytes gives from n old new = (y : List ℕ) × (length y ≡ n) × gives (bytes_from from n old.bytes) y × (new ≡ with_bytes from old y)

@@ -10,7 +10,7 @@ ghost use Rattle.b2_vars.specs.Calls.{common_only, is_common};
 ghost use Rattle.b2_vars.specs.Names.{var_cmp};
 ghost use Rattle.b2_vars.specs.Shapes.{cells, cost, has_cell, cell_at, has_dimensions};
 ghost use Rattle.b2_vars.specs.Tables.{Table, count_of, shape_at, variable_at};
-ghost use Rattle.b2_vars.specs.Variables.{VariableState, number_at, with_number, with_bytes, part};
+ghost use Rattle.b2_vars.specs.Variables.{VariableState, number_at, with_number, with_bytes, bytes_from};
 
 /// The order of names is total, and no two names tie in it.
 pub fn names_are_ordered()
@@ -57,7 +57,7 @@ pub fn numbers_are_read_back()
 
 /// Bytes that are put into a part are read back, those before and after it stay, and a variable has as many as before.
 pub fn bytes_are_read_back()
-    ensures read { (x : VariableState) (from : ℕ) (bytes : List ℕ) → from + length bytes ≤ length x.bytes → part from (length bytes) (with_bytes from x bytes).bytes ≡ bytes }
+    ensures read { (x : VariableState) (from : ℕ) (bytes : List ℕ) → from + length bytes ≤ length x.bytes → bytes_from from (length bytes) (with_bytes from x bytes).bytes ≡ bytes }
     ensures before { (x : VariableState) (from : ℕ) (bytes : List ℕ) → from + length bytes ≤ length x.bytes → take from (with_bytes from x bytes).bytes ≡ take from x.bytes }
     ensures after { (x : VariableState) (from : ℕ) (bytes : List ℕ) → from + length bytes ≤ length x.bytes → drop (from + length bytes) (with_bytes from x bytes).bytes ≡ drop (from + length bytes) x.bytes }
     ensures count { (x : VariableState) (from : ℕ) (bytes : List ℕ) → length (with_bytes from x bytes).bytes ≡ length x.bytes }

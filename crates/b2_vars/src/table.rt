@@ -5,7 +5,7 @@ ghost use Rattle.std.specs.Fn.{FnOnceReturnsAtMut};
 ghost use Rattle.std.specs.Option.{option_copied};
 ghost use Rattle.b2_alpha.specs.Values.{padded};
 ghost use Rattle.b2_vars.specs.Answers.{Answers, first_of};
-ghost use Rattle.b2_vars.specs.Calls.{ChangesTable, common_only, missing, no_array, no_cell, bad_dimensions, bad_length, not_common, other_shape, too_large, no_part, get_code};
+ghost use Rattle.b2_vars.specs.Calls.{ChangesTable, common_only, missing_code, no_array, no_cell, bad_dimensions, bad_length, not_common, other_shape, too_large, no_part, get_code};
 ghost use Rattle.b2_vars.specs.Shapes.{cell_at, has_cell};
 ghost use Rattle.b2_vars.specs.Tables.{table_of, costs, count_of, shape_at, variable_at, IsPlaceOf};
 ghost use Rattle.b2_vars.specs.Variables.{with_number, with_bytes, reshaped};
@@ -35,7 +35,7 @@ pub fn look(table: &Table, v: Var) -> Option<&Variable>
 }
 
 /// The place of a name among the entries.
-pub fn place(table: &Table, v: Var) -> Option<usize>
+pub fn entry_index(table: &Table, v: Var) -> Option<usize>
     ensures found { is_some result ≡ map.contains_key (table_of table.now.entries) v }
     ensures place { IfSome result (IsPlaceOf v table.now.entries) }
 {
@@ -65,7 +65,7 @@ pub fn byte_count(table: &Table, v: Var) -> usize
 
 /// P59 exactly where nothing stands under a name.
 pub fn require_variable(table: &Table, v: Var) -> Result<(), Code>
-    ensures { Answers (missing v (table_of table.now.entries)) result }
+    ensures { Answers (missing_code v (table_of table.now.entries)) result }
 {
     match look(table, v) {
         Some(_) => Ok(()),
@@ -163,7 +163,7 @@ pub fn require_room(table: &Table, v: Var, shape: Shape) -> Result<(), Code>
 }
 
 /// What all variables take.
-pub fn total(table: &Table) -> usize
+pub fn total_cost(table: &Table) -> usize
     requires { costs table.now.entries < 2 ^ 64 }
     ensures { result ≡ costs table.now.entries }
 {
@@ -206,7 +206,7 @@ pub fn set_number(table: &mut Table, v: Var, cell: usize, n: Dec)
     requires room { cell < length (variable_at v (table_of table.old.entries)).numbers }
     ensures { table_of table.new.entries ≡ map.insert (table_of table.old.entries) v (with_number cell n (variable_at v (table_of table.old.entries))) }
 {
-    let i = place(table, v).unwrap();
+    let i = entry_index(table, v).unwrap();
     let variable = &mut table[i];
     variable.set_number(cell, n);
 }
@@ -217,7 +217,7 @@ pub fn assign(table: &mut Table, v: Var, from: usize, n: usize, bytes: &[u8])
     requires room { from + n ≤ length (variable_at v (table_of table.old.entries)).bytes }
     ensures { table_of table.new.entries ≡ map.insert (table_of table.old.entries) v (with_bytes from (variable_at v (table_of table.old.entries)) (padded n bytes.now)) }
 {
-    let i = place(table, v).unwrap();
+    let i = entry_index(table, v).unwrap();
     let variable = &mut table[i];
     variable.assign(from, n, bytes);
 }
@@ -228,7 +228,7 @@ pub fn set_part(table: &mut Table, v: Var, from: usize, bytes: &[u8])
     requires room { from + length bytes.now ≤ length (variable_at v (table_of table.old.entries)).bytes }
     ensures { table_of table.new.entries ≡ map.insert (table_of table.old.entries) v (with_bytes from (variable_at v (table_of table.old.entries)) bytes.now) }
 {
-    let i = place(table, v).unwrap();
+    let i = entry_index(table, v).unwrap();
     let variable = &mut table[i];
     variable.set_part(from, bytes);
 }
@@ -238,7 +238,7 @@ pub fn reshape(table: &mut Table, v: Var, shape: Shape)
     requires there { IsSome (map.get (table_of table.old.entries) v) }
     ensures { table_of table.new.entries ≡ map.insert (table_of table.old.entries) v (reshaped v shape (variable_at v (table_of table.old.entries))) }
 {
-    let i = place(table, v).unwrap();
+    let i = entry_index(table, v).unwrap();
     let variable = &mut table[i];
     variable.reshape(v, shape);
 }
@@ -256,7 +256,7 @@ pub fn change_part<F: FnOnce(&mut [u8])>(
     requires callable { F.IsAlwaysCallable change }
     ensures { ChangesTable (λ x y. FnOnceReturnsAtMut F.FnOnce change x tt y) v from n (table_of table.old.entries) (table_of table.new.entries) }
 {
-    let i = place(table, v).unwrap();
+    let i = entry_index(table, v).unwrap();
     let variable = &mut table[i];
     variable.change_part(from, n, change);
 }

@@ -4,7 +4,7 @@ ghost use Rattle.std.specs.Borrow.{sem};
 ghost use Rattle.std.specs.Fn.{FnOnceReturnsAtMut};
 ghost use Rattle.b2_alpha.specs.Values.{padded};
 ghost use Rattle.b2_dec.specs.Number.{zero_number};
-ghost use Rattle.b2_vars.specs.Variables.{fresh, part, with_number, with_bytes, overwritten, reshaped, ChangesBytes};
+ghost use Rattle.b2_vars.specs.Variables.{fresh, bytes_from, with_number, with_bytes, overwritten, reshaped, ChangesBytes};
 ghost use Rattle.b2_vars.specs.VariableLending.{LendsBytes};
 
 use crate::name::Var;
@@ -77,7 +77,7 @@ impl Variable {
     pub fn value(&self, cell: usize) -> &[u8]
         requires room { cell * self.now.shape.len + self.now.shape.len ≤ length self.now.bytes }
         requires small { length self.now.bytes < 2 ^ 63 }
-        ensures { result.now ≡ part (cell * self.now.shape.len) self.now.shape.len self.now.bytes }
+        ensures { result.now ≡ bytes_from (cell * self.now.shape.len) self.now.shape.len self.now.bytes }
     {
         let len = usize::from(self.shape.len);
         &self.bytes[cell * len..cell * len + len]
@@ -121,7 +121,7 @@ impl Variable {
         requires there { from + n ≤ length self.old.bytes }
         requires fits { from + n < 2 ^ 64 }
         ensures* writes_back { sem 𝓛 (LendsBytes self.entry from result) }
-        ensures part { result.now ≡ part from n self.old.bytes }
+        ensures part { result.now ≡ bytes_from from n self.old.bytes }
     {
         let end = from + n;
         self.bytes.slice_mut(from..end)
@@ -165,7 +165,7 @@ fn assign(all: &mut [u8], from: usize, n: usize, bytes: &[u8])
 fn change_bytes<F: FnOnce(&mut [u8])>(all: &mut [u8], from: usize, n: usize, change: F)
     requires room { from + n ≤ length all.old }
     requires callable { F.IsAlwaysCallable change }
-    ensures { (y : List ℕ) × (length y ≡ n) × FnOnceReturnsAtMut F.FnOnce change (part from n all.old) tt y × (all.new ≡ overwritten from y all.old) }
+    ensures { (y : List ℕ) × (length y ≡ n) × FnOnceReturnsAtMut F.FnOnce change (bytes_from from n all.old) tt y × (all.new ≡ overwritten from y all.old) }
 {
     change(&mut all[from..from + n]);
 }

@@ -5,11 +5,11 @@ ghost use Rattle.std.specs.FinMap as map;
 ghost use Rattle.std.specs.Fn.{FnOnceReturnsAtMut};
 ghost use Rattle.std.specs.Option.{option_map};
 ghost use Rattle.b2_vars.specs.Answers.{Answers, AnswersOrFails, first_of};
-ghost use Rattle.b2_vars.specs.Calls.{ChangesPart, IsPart, IsCell, full, no_array, get_code, set_code, part_code, dim_code, com_code, redim_code, missing, with_new, with_scalar, with_change, with_bytes_of, part_place, common_only};
+ghost use Rattle.b2_vars.specs.Calls.{ChangesPart, IsPart, IsCell, full, no_array, get_code, set_code, part_code, dim_code, com_code, redim_code, missing_code, with_new, with_scalar, with_change, with_bytes_of, part_place, common_only};
 ghost use Rattle.b2_vars.specs.Names.{is_legal_name};
 ghost use Rattle.b2_vars.specs.Shapes.{has_dimensions, has_length, has_cell, cell_at, size_of, alpha_bytes};
 ghost use Rattle.b2_vars.specs.Tables.{count_of, shape_at, variable_at, IsVariable};
-ghost use Rattle.b2_vars.specs.Variables.{VariableState, fresh, value_at, number_at, alpha_at, is_alpha, part, with_number, with_alpha, with_value, reshaped};
+ghost use Rattle.b2_vars.specs.Variables.{VariableState, fresh, value_at, number_at, alpha_at, is_alpha, bytes_from, with_number, with_alpha, with_value, reshaped};
 ghost use Rattle.b2_vars.specs.VarsLending.{LendsPart, LendsAll};
 
 use crate::name::Var;
@@ -186,10 +186,10 @@ impl Vars {
     pub fn part_mut(&mut self, v: Var, r: u16, c: u16, from: usize, n: usize) -> &mut [u8]
         requires { IsPart v r c from n self.old.table }
         ensures* writes_back { sem 𝓛 (LendsPart self.entry v r c from result) }
-        ensures part { result.now ≡ part (part_place v r c from self.old.table) n (variable_at v self.old.table).bytes }
+        ensures part { result.now ≡ bytes_from (part_place v r c from self.old.table) n (variable_at v self.old.table).bytes }
     {
         let at = self.part_place(v, r, c, from);
-        let i = table::place(&self.table, v).unwrap();
+        let i = table::entry_index(&self.table, v).unwrap();
         let variable = &mut self.table[i];
         variable.part_mut(at, n)
     }
@@ -226,7 +226,7 @@ impl Vars {
         requires { is_legal_name v ≡ true }
         ensures value { IfOk result (λ x. x.now ≡ (variable_at v self.now.table).bytes) }
         ensures long { IfOk result (λ x. length x.now ≡ alpha_bytes (shape_at v self.now.table)) }
-        ensures code { Answers (missing v self.now.table) result }
+        ensures code { Answers (missing_code v self.now.table) result }
     {
         match table::look(&self.table, v) {
             Some(variable) => Ok(variable.bytes()),
@@ -239,7 +239,7 @@ impl Vars {
     pub fn reach_all(&self, v: Var) -> Result<(), Code>
         requires { is_legal_name v ≡ true }
         ensures there { OnOk result (IsSome (map.get self.now.table v)) }
-        ensures code { Answers (missing v self.now.table) result }
+        ensures code { Answers (missing_code v self.now.table) result }
     {
         table::require_variable(&self.table, v)
     }
@@ -250,7 +250,7 @@ impl Vars {
         ensures* writes_back { sem 𝓛 (LendsAll self.entry v result) }
         ensures all { result.now ≡ (variable_at v self.old.table).bytes }
     {
-        let i = table::place(&self.table, v).unwrap();
+        let i = table::entry_index(&self.table, v).unwrap();
         let variable = &mut self.table[i];
         variable.all_mut()
     }
@@ -321,7 +321,7 @@ impl Vars {
         ensures { self.new ≡ record self.old { table = common_only self.old.table } }
     {
         table::retain_common(&mut self.table);
-        self.count = table::total(&self.table);
+        self.count = table::total_cost(&self.table);
     }
 
     /// Reaches a value, whose place along rows it gives; a scalar that isn't there is made.

@@ -12,7 +12,7 @@ returns-then-place-ge111 c =
 pub returns-then-place-lt99 : goal.returns-then-place-lt99
 returns-then-place-lt99 c =
     let some : 1000000000000 ≤ c.args.a.coef = some_digits c.args.a c.coefficient-coef.ensures.spelling c.requires in
-    rw c.at.ensures (ap (signed true) (sym (raised-small c.args.a (omega arith) c.coefficient-coef.ensures.spelling.digits (omega arith))))
+    rw c.ending_at.ensures (ap (signed true) (sym (raised-small c.args.a (omega arith) c.coefficient-coef.ensures.spelling.digits (omega arith))))
 
 pub nonzero_rem-coef : goal.nonzero_rem-coef
 nonzero_rem-coef c = rw c.ten_to-unit.ensures (ten_pos (111 - c.place-place.result))
@@ -28,13 +28,13 @@ returns-then-coef-unit-eq0 c =
     ∙ ap (signed true) (sym (raised-even c.args.a (omega arith) (omega arith)
     (sym (ap₂ (λ k u. k % u) c.coefficient-coef.ensures.value unit) ∙ c.if-coef-unit-eq0.true)))
 
-pub at-requires-else-up-eq10000000000000-clause-least : goal.at-requires-else-up-eq10000000000000-clause-least
-at-requires-else-up-eq10000000000000-clause-least c =
+pub ending_at-requires-else-up-eq10000000000000-clause-least : goal.ending_at-requires-else-up-eq10000000000000-clause-least
+ending_at-requires-else-up-eq10000000000000-clause-least c =
     let some : 1000000000000 ≤ c.args.a.coef = some_digits c.args.a c.coefficient-coef.ensures.spelling c.requires in
     rw (c.ten_to-unit.ensures, c.coefficient-coef.ensures.value) (next-least c.args.a.coef (10 ^ (111 - c.place-place.result)) (ten_pos (111 - c.place-place.result)) some)
 
-pub at-requires-else-up-eq10000000000000-clause-digits : goal.at-requires-else-up-eq10000000000000-clause-digits
-at-requires-else-up-eq10000000000000-clause-digits c =
+pub ending_at-requires-else-up-eq10000000000000-clause-digits : goal.ending_at-requires-else-up-eq10000000000000-clause-digits
+ending_at-requires-else-up-eq10000000000000-clause-digits c =
     let most : (c.coefficient-coef.result / c.ten_to-unit.result + 1) * c.ten_to-unit.result ≤ 10000000000000 =
     rw c.ten_to-unit.ensures (next-most c.coefficient-coef.result (111 - c.place-place.result) (omega arith) c.coefficient-coef.ensures.digits) in
     omega arith
@@ -43,7 +43,7 @@ pub returns-then-up-eq10000000000000 : goal.returns-then-up-eq10000000000000
 returns-then-up-eq10000000000000 c =
     let unit = c.ten_to-unit.ensures ∙ ap (λ p. 10 ^ (111 - p)) c.place-place.ensures.value in
     let up = ap₂ (λ k u. (k / u + 1) * u) c.coefficient-coef.ensures.value unit in
-    rw c.at-then-up-eq10000000000000.ensures (ap (signed true)
+    rw c.ending_at-then-up-eq10000000000000.ensures (ap (signed true)
     (carried _ c.place-place.result c.if-up-eq10000000000000.true
     ∙ ap₂ (λ k p. k * 10 ^ p) up c.place-place.ensures.value
     ∙ sym (raised-rest c.args.a (omega arith) (λ e. c.if-coef-unit-eq0.false (ap₂ (λ k u. k % u) c.coefficient-coef.ensures.value unit ∙ e)))))
@@ -52,6 +52,6 @@ pub returns-else-up-eq10000000000000 : goal.returns-else-up-eq10000000000000
 returns-else-up-eq10000000000000 c =
     let unit = c.ten_to-unit.ensures ∙ ap (λ p. 10 ^ (111 - p)) c.place-place.ensures.value in
     let up = ap₂ (λ k u. (k / u + 1) * u) c.coefficient-coef.ensures.value unit in
-    rw c.at-else-up-eq10000000000000.ensures (ap (signed true)
+    rw c.ending_at-else-up-eq10000000000000.ensures (ap (signed true)
     (ap₂ (λ k p. k * 10 ^ p) up c.place-place.ensures.value
     ∙ sym (raised-rest c.args.a (omega arith) (λ e. c.if-coef-unit-eq0.false (ap₂ (λ k u. k % u) c.coefficient-coef.ensures.value unit ∙ e)))))

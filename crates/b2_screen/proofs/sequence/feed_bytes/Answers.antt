@@ -1,6 +1,6 @@
 use Rattle.std.proofs.Common.{◌+◌, ℕ, List, ap, drop, rules, sym, ◌∙◌}
 use Rattle.std.proofs.lemmas.List.{drop_all}
-use Rattle.b2_screen.specs.Shown.{fed, bytes_of}
+use Rattle.b2_screen.specs.Shown.{fed, sequence_bytes}
 use Rattle.b2_screen.proofs.Cutting.{fed_byte, fed_nothing}
 use Rattle.b2_screen.proofs.sequence.feed_bytes.Goals as goal
 
@@ -13,5 +13,5 @@ loop-byte-preserved c =
 pub returns : goal.returns
 returns c =
     sym (fed_nothing c.loop-byte.sheet c.loop-byte.sequence)
-    ∙ sym (ap (λ (bytes : List ℕ). fed bytes (record { sheet = c.loop-byte.sheet; rest = bytes_of c.loop-byte.sequence })) (drop_all c.loop-byte.byte-index c.args.bytes.now (search rules)))
+    ∙ sym (ap (λ (bytes : List ℕ). fed bytes (record { sheet = c.loop-byte.sheet; rest = sequence_bytes c.loop-byte.sequence })) (drop_all c.loop-byte.byte-index c.args.bytes.now (search rules)))
     ∙ c.loop-byte.invariant

@@ -1,14 +1,10 @@
-use Rattle.std.proofs.Common.{◌∙◌, sym, arith}
-use Rattle.b2_atom.specs.Lines.{units_of}
-use Rattle.b2_atom.proofs.lines.Units.{number_within}
+use Rattle.std.proofs.Common.{◌≡◌, Some, slice_get}
+use Rattle.b2_atom.specs.Lines.{spanned}
+use Rattle.b2_atom.proofs.lines.UnitRows.{found_read}
 use Rattle.b2_atom.proofs.line.Atoms.find_unit.Goals as goal
 
-pub returns-in-Some-clause-few : goal.returns-in-Some-clause-few
-returns-in-Some-clause-few c =
-    let within = number_within (units_of c.args.self.now) c.args.k c.in-Some.cursor (sym c.in-Some.is ∙ c.unit.ensures) in
-    omega (arith, within, c.units-count.ensures.count, c.units-count.ensures.few)
-
-pub overflow_add-result : goal.overflow_add-result
-overflow_add-result c =
-    let within = number_within (units_of c.args.self.now) c.args.k c.in-Some.cursor (sym c.in-Some.is ∙ c.unit.ensures) in
-    omega (arith, within, c.units-count.ensures.count, c.units-count.ensures.few)
+pub returns-in-Some-clause-read : goal.returns-in-Some-clause-read
+returns-in-Some-clause-read c =
+    let found : slice_get c.self.inside.units.items c.args.k ≡ Some c.in-Some.span = cc in
+    let bytes : c.over.result ≡ (spanned c.self.inside.bytes.items c.in-Some.span).bytes = cc in
+    found_read c.self.inside.bytes.items c.self.inside.units.items c.args.k c.in-Some.span c.unit_row.result c.over.result c.self.invariant found c.unit_row.ensures bytes

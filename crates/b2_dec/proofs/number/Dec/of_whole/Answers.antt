@@ -8,12 +8,12 @@ returns-then-n-eq0-clause-exact c mode = rw c.zero.ensures (rnd-none mode false 
 pub overflow_sub-missing : goal.overflow_sub-missing
 overflow_sub-missing c = few_digits c.args.n _ c.requires c.ilog10-missing.ensures.power_le
 
-pub at-requires-clause-least : goal.at-requires-clause-least
-at-requires-clause-least c =
+pub ending_at-requires-clause-least : goal.ending_at-requires-clause-least
+ending_at-requires-clause-least c =
     rw c.ten_to.ensures (filled-least c.args.n _ (few_digits c.args.n _ c.requires c.ilog10-missing.ensures.power_le) c.ilog10-missing.ensures.power_le)
 
-pub at-requires-clause-digits : goal.at-requires-clause-digits
-at-requires-clause-digits c =
+pub ending_at-requires-clause-digits : goal.ending_at-requires-clause-digits
+ending_at-requires-clause-digits c =
     rw c.ten_to.ensures (filled-most c.args.n _ (few_digits c.args.n _ c.requires c.ilog10-missing.ensures.power_le) c.ilog10-missing.ensures.next_power_gt)
 
 pub overflow_cast-n-2 : goal.overflow_cast-n-2
@@ -23,9 +23,9 @@ overflow_cast-n-2 c =
 
 pub returns-clause-value : goal.returns-clause-value
 returns-clause-value c =
-    rw (c.at.ensures, c.ten_to.ensures) (ap pos (whole-value c.args.n _ (few_digits c.args.n _ c.requires c.ilog10-missing.ensures.power_le)))
+    rw (c.ending_at.ensures, c.ten_to.ensures) (ap pos (whole-value c.args.n _ (few_digits c.args.n _ c.requires c.ilog10-missing.ensures.power_le)))
 
 pub returns-clause-exact : goal.returns-clause-exact
 returns-clause-exact c mode =
-    rw (c.at.ensures, c.ten_to.ensures) (whole-rnd mode c.args.n _ (few_digits c.args.n _ c.requires c.ilog10-missing.ensures.power_le)
+    rw (c.ending_at.ensures, c.ten_to.ensures) (whole-rnd mode c.args.n _ (few_digits c.args.n _ c.requires c.ilog10-missing.ensures.power_le)
     c.ilog10-missing.ensures.power_le c.ilog10-missing.ensures.next_power_gt)

@@ -6,7 +6,7 @@ use Rattle.b2_vars.proofs.vars.Vars.clear_non_common.Goals as goal
 pub invariant_of-self : goal.invariant_of-self
 invariant_of-self c =
     let t = table_of c.self.inside.table.entries in
-    subst (IsSound c.self.inside.area c.total-self-inside.result) (sym c.retain_common.ensures.table)
-    (sound-common c.self.inside.area c.self.inside.count c.total-self-inside.result t c.self.invariant
-    (c.total-self-inside.ensures ∙ c.retain_common.ensures.counted ∙ ap count_of c.retain_common.ensures.table)
-    (omega (arith, c.total-self-inside.ensures, c.retain_common.ensures.less)))
+    subst (IsSound c.self.inside.area c.total_cost-self-inside.result) (sym c.retain_common.ensures.table)
+    (sound-common c.self.inside.area c.self.inside.count c.total_cost-self-inside.result t c.self.invariant
+    (c.total_cost-self-inside.ensures ∙ c.retain_common.ensures.counted ∙ ap count_of c.retain_common.ensures.table)
+    (omega (arith, c.total_cost-self-inside.ensures, c.retain_common.ensures.less)))
