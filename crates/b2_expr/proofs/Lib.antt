@@ -2,6 +2,7 @@ pub mod RowsRead
 pub mod Chains
 pub mod Factors
 pub mod Climbs
+pub mod Extremes
 pub mod Operands
 pub mod OperandKinds
 pub mod Names

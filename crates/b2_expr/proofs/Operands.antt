@@ -25,10 +25,12 @@ use Rattle.b2_rows.proofs.Levels.{part_no_longer}
 use Rattle.b2_expr.specs.Answers.{Answer, ◌>>=◌}
 use Rattle.b2_expr.specs.Functions.{of_one, of_two, of_text, place_of, count_or, number_of, whole_number}
 use Rattle.b2_expr.specs.Scope.{Context, Surroundings, kept_number}
-use Rattle.b2_expr.specs.Value.{value, operand, text, second, subscripts, literal_number, literal_value, kept_value}
+use Rattle.b2_expr.specs.Value.{value, operand, text, second, subscripts, extremes, literal_number, literal_value, kept_value}
 use Rattle.b2_expr.specs.declared.operators.Level.TheVariants as level
 use Rattle.b2_rows.specs.declared.operands.Operand.TheVariants as kind
+use Rattle.b2_expr.specs.Further.{are_further, further_tree, after_further}
 use Rattle.b2_expr.proofs.RowsRead.{stands_of, shorter_at, shorter_among}
+use Rattle.b2_expr.proofs.Extremes.{numbers_front, numbers_further, numbers_tree, numbers_gives, numbers_rest}
 
 -- an expression in parentheses
 abbrev group_items : List Item
@@ -346,3 +348,36 @@ count_shorter t ok =
     let a = bytes_shorter t ok in
     let b = part_no_longer row.ALPHA (drop 1 t) in
     omega (arith, a, b)
+-- MAX or MIN
+abbrev more_items : List Item
+more_items = Among word.MAX_OPEN word.MIN_OPEN S17_NUMERIC ∷ Nest row.NUMBERS_2 ∷ Sign byte.closing S11_CLOSE ∷ []
+
+more_row : row_items row.OF_MORE ≡ more_items
+unfolding row_items
+more_row = refl
+
+numbers_of : (t : Text) → is_part row.OF_MORE t ≡ true → is_part row.NUMBERS_2 (drop 1 t) ≡ true
+numbers_of t ok = (stands_of row.OF_MORE more_items t more_row ok).0.1.0
+
+pub more_first : (t : Text) → is_part row.OF_MORE t ≡ true → is_part row.SUM (drop 1 t) ≡ true
+more_first t ok = numbers_front (drop 1 t) (numbers_of t ok)
+
+pub more_further : (t : Text) → is_part row.OF_MORE t ≡ true → are_further 7 (after_part row.SUM (drop 1 t)) ≡ true
+more_further t ok = numbers_further (drop 1 t) (numbers_of t ok)
+
+pub more_is : (e : Context) (t : Text) → is_part row.OF_MORE t ≡ true → operand e kind.OfMore (tree_at row.OF_MORE t)
+    ≡ extremes e (first t) (value e level.Sum (tree_at row.SUM (drop 1 t))) (further_tree 7 (after_part row.SUM (drop 1 t)))
+unfolding operand
+more_is e t ok =
+    ap (operand e kind.OfMore) (stands_of row.OF_MORE more_items t more_row ok).1
+    ∙ ap (λ (a : Trees). operand e kind.OfMore (Put (Coded (first t)) (In 2 a (Put (Coded byte.closing) Done)))) (numbers_tree (drop 1 t) (numbers_of t ok))
+    ∙ numbers_gives e (first t) (value e level.Sum (tree_at row.SUM (drop 1 t))) (drop 1 t) (numbers_of t ok)
+
+pub more_rest : (t : Text) → is_part row.OF_MORE t ≡ true → after_part row.OF_MORE t ≡ drop 1 (after_further 7 (after_part row.SUM (drop 1 t)))
+more_rest t ok = (stands_of row.OF_MORE more_items t more_row ok).2 ∙ ap (drop 1) (numbers_rest (drop 1 t) (numbers_of t ok))
+
+pub more_shorter : (t : Text) → is_part row.OF_MORE t ≡ true → length (drop 1 t) < length t
+more_shorter t ok = shorter_among word.MAX_OPEN word.MIN_OPEN t (stands_of row.OF_MORE more_items t more_row ok).0.0
+
+pub rest_shorter : (t : Text) → is_part row.OF_MORE t ≡ true → length (after_part row.SUM (drop 1 t)) < length t
+rest_shorter t ok = let a = more_shorter t ok in let b = part_no_longer row.SUM (drop 1 t) in omega (arith, a, b)
