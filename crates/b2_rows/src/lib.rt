@@ -7,6 +7,7 @@ pub mod laws;
 mod following;
 mod leaves;
 mod operands;
+mod row_units;
 #[cfg(test)]
 mod tests;
 
@@ -18,3 +19,4 @@ pub use leaves::{
     literal_at, local_name, numeric_name, relation_at, slot_at, small_at,
 };
 pub use operands::{AlphaOperand, Operand, alpha_operand_at, operand_at};
+pub use row_units::{RowUnit, is_read, row_unit};
