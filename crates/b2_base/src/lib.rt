@@ -1,6 +1,7 @@
 //! What all crates of the machine have in common.
 //!
-//! The small values: codes of errors, numbers of partitions and terminals, device addresses, names, a list of bytes.
+//! The small values: codes of errors, numbers of partitions and terminals, device addresses, names, a list of bytes, an
+//! open file.
 //! The lexical layer (`lexical`): kinds of bytes, digits, and the fronts of texts, which all crates use from here.
 //! The outside: a `Shelf` of files and a `Sink` for text, in memory and real. A call that gives up shows why by counts
 //! that never fall.
@@ -14,6 +15,7 @@ mod addresses;
 mod bytes;
 pub mod codes;
 mod file_name;
+mod files;
 mod laws;
 pub mod lexical;
 mod line_text;
@@ -31,6 +33,7 @@ pub use addresses::{Addr, AddrList};
 pub use bytes::{ByteList, NoMemory};
 pub use codes::{Code, Fault};
 pub use file_name::FileName;
+pub use files::{By, Slot};
 pub use laws::what_rose_is_greater;
 pub use line_text::LineText;
 pub use memory::{MemShelf, MemSink};

@@ -2,8 +2,7 @@
 use Rattle.std.proofs.Common.{◌≡◌, ℕ, zero, suc, ◌+◌, ◌-◌, ◌<◌, ◌≤◌, Bool, true, false, ◌==◌, List, [], ◌∷◌, ◌++◌, drop, get_or, Option, Some, None, refl, sym, ap, ◌∙◌, arith, append-nil, append_assoc, Result, Ok, Err}
 use Rattle.std.specs.Prelude.{slice_get}
 use Rattle.b2_atom.specs.Words.{Text}
-use Rattle.b2_print.specs.Columns.{column_after}
-use Rattle.b2_print.specs.Layout.{layout, placed}
+use Rattle.b2_print.specs.Layout.{layout, placed, item_column, items_column}
 use Rattle.b2_print.specs.declared.layout.Item.{Item}
 use Rattle.b2_print.specs.declared.layout.Item.TheVariants as item
 use Rattle.b2_expr.specs.Value.{Surroundings}
@@ -68,18 +67,18 @@ no_letter fuel i old t h =
 
 -- items of PRINT
 laid_one : (old : List ℕ) (column : ℕ) (x : Item) (r : Result (List Item) ℕ)
-    → laid old column (behind_items (x ∷ []) r) ≡ laid (old ++ layout 80 column (x ∷ [])) (column_after column (layout 80 column (x ∷ []))) r
+    → laid old column (behind_items (x ∷ []) r) ≡ laid (old ++ layout 80 column (x ∷ [])) (items_column 80 column (x ∷ [])) r
 laid_one old column x (Err code) = refl
 laid_one old column x (Ok its) =
-    ap Ok (sym (append_assoc old (placed 80 column x) (layout 80 (column_after column (placed 80 column x)) its))
-    ∙ ap (λ (p : List ℕ). (old ++ p) ++ layout 80 (column_after column p) its) (sym (append-nil (placed 80 column x))))
+    ap Ok (sym (append_assoc old (placed 80 column x) (layout 80 (item_column 80 column x) its))
+    ∙ ap (λ (p : List ℕ). (old ++ p) ++ layout 80 (item_column 80 column x) its) (sym (append-nil (placed 80 column x))))
 
 laid_none : (old : List ℕ) (column : ℕ) (r : Result (List Item) ℕ) → laid old column (behind_items [] r) ≡ laid (old ++ []) column r
 laid_none old column (Err code) = refl
 laid_none old column (Ok its) = ap (λ (l : List ℕ). Ok (l ++ layout 80 column its)) (sym (append-nil old))
 
 laid_item : (old : List ℕ) (column : ℕ) (it : Printed) (r : Result (List Item) ℕ)
-    → laid old column (behind_items (items_of it) r) ≡ laid (old ++ layout 80 column (items_of it)) (column_after column (layout 80 column (items_of it))) r
+    → laid old column (behind_items (items_of it) r) ≡ laid (old ++ layout 80 column (items_of it)) (items_column 80 column (items_of it)) r
 laid_item old column (printed.Number x) r = laid_one old column (item.Number x) r
 laid_item old column printed.Zone r = laid_one old column item.Zone r
 laid_item old column printed.Join r = laid_none old column r
@@ -96,12 +95,12 @@ items-next s fuel i line (b ∷ bs) r h some is =
     ∙ ap (λ (q : Result (Printed × Text) ℕ). further_items q (print_items s (fuel - (i + 1)))) is
 
 pub item_shown : (s : Surroundings) (fuel i : ℕ) (line : Bool) (t rest : Text) (it : Printed) (old new : List ℕ) (column after : ℕ) → i < fuel → (t ≡ [] → ⊥)
-    → printed_at s t ≡ Ok (it, rest) → new ≡ old ++ layout 80 column (items_of it) → after ≡ column_after column (layout 80 column (items_of it))
+    → printed_at s t ≡ Ok (it, rest) → new ≡ old ++ layout 80 column (items_of it) → after ≡ items_column 80 column (items_of it)
     → laid new after (print_items s (fuel - (i + 1)) (wants_line it) rest) ≡ laid old column (print_items s (fuel - i) line t)
 item_shown s fuel i line t rest it old new column after h some is text at =
     sym (ap (laid old column) (items-next s fuel i line t (Ok (it, rest)) h some is)
     ∙ laid_item old column it (print_items s (fuel - (i + 1)) (wants_line it) rest)
-    ∙ ap (λ (l : List ℕ). laid l (column_after column (layout 80 column (items_of it))) (print_items s (fuel - (i + 1)) (wants_line it) rest)) (sym text)
+    ∙ ap (λ (l : List ℕ). laid l (items_column 80 column (items_of it)) (print_items s (fuel - (i + 1)) (wants_line it) rest)) (sym text)
     ∙ ap (λ (n : ℕ). laid new n (print_items s (fuel - (i + 1)) (wants_line it) rest)) (sym at))
 
 pub item_refused : (s : Surroundings) (fuel i : ℕ) (line : Bool) (t : Text) (code : ℕ) (old : List ℕ) (column : ℕ) → i < fuel → (t ≡ [] → ⊥) → printed_at s t ≡ Err code

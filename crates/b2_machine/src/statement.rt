@@ -1,7 +1,6 @@
 // What a unit asks for.
 ghost use Rattle.std.specs.Prelude.{◌≡◌, ◌<◌, ◌++◌, ◌∷◌, [], length, drop, get_or, true, MatchResult, IfOk, OnOk, Ok, Err};
-ghost use Rattle.b2_print.specs.Columns.{column_after};
-ghost use Rattle.b2_print.specs.Layout.{layout};
+ghost use Rattle.b2_print.specs.Layout.{layout, items_column};
 ghost use Rattle.b2_base.specs.Lexical.{first};
 ghost use Rattle.b2_machine.specs.Refusals.{Refused, FailsWith};
 ghost use Rattle.b2_machine.specs.Plan.{not_built, is_sign, goes_on_name, built_width, is_built, line_number, line_named, range_at, letters_at, with_rest, behind_letters, number_in, assigns, printed_at, items_of, wants_line, newline_where, print_items, laid, prints, selects, clears, lists, runs, where_built, plan_word, plan_with, plan};
@@ -223,7 +222,7 @@ fn wants_line(item: &Printed) -> bool
 /// Shows an item after a text, and gives the column after it.
 fn show_item(alloc: Global, item: Printed, column: u16, out: &mut Vec<u8>) -> Result<u16, NoMemory>
     ensures text { OnOk result (out.new.items ≡ out.old.items ++ layout 80 column (items_of item)) }
-    ensures column { IfOk result (λ after. after ≡ column_after column (layout 80 column (items_of item))) }
+    ensures column { IfOk result (λ after. after ≡ items_column 80 column (items_of item)) }
 {
     match item {
         Printed::Number(x) => lay(alloc, &[Item::Number(x)], column, WIDTH, out),

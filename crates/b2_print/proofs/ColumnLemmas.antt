@@ -1,11 +1,13 @@
 -- Lines that stay within a width.
-use Rattle.std.proofs.Common.{◌≡◌, ℕ, zero, suc, ◌+◌, ◌-◌, ◌/◌, ◌%◌, ◌<◌, ◌≤◌, min, replicate, cond, ◌==◌, ◌&&◌, ◌||◌, nat_lt, Bool, true, false, not, if◌then◌else◌, List, [], ◌∷◌, ◌++◌, refl, ap, ◌∙◌, arith, eqb-true, inl, inr}
+use Rattle.std.proofs.Common.{◌≡◌, ℕ, zero, suc, ◌+◌, ◌-◌, ◌/◌, ◌%◌, ◌<◌, ◌≤◌, min, replicate, cond, ◌==◌, ◌&&◌, ◌||◌, nat_lt, Bool, true, false, not, if◌then◌else◌, List, [], ◌∷◌, ◌++◌, refl, sym, ap, ◌∙◌, append_assoc, arith, eqb-true, inl, inr}
 use Rattle.std.specs.List.{list_all}
 use Rattle.std.proofs.lemmas.Bool.{le-ltb, lt-ltb, cases_lt}
+use Rattle.std.proofs.lemmas.List.Sums.{fold-append}
 use native.Mathlib.Nat.{mul-mod_left}
 use Rattle.b2_print.specs.Columns.{next_column, column_after, passes}
 use Rattle.b2_print.specs.declared.layout.Item.{Item}
-use Rattle.b2_print.specs.Layout.{item_text, placed, layout, fits_line, next_zone, zone_text}
+use Rattle.b2_print.specs.declared.layout.Item.TheVariants as item
+use Rattle.b2_print.specs.Layout.{item_text, stands_on_line, placed, column_past, item_column, layout, items_column, fits_line, next_zone, zone_text}
 
 or_assoc : (a b c : Bool) → (a || (b || c)) ≡ ((a || b) || c)
 or_assoc true b c = refl
@@ -18,11 +20,11 @@ passes-append width column (x ∷ xs) ys =
     ap (λ t. nat_lt width (next_column column x) || t) (passes-append width (next_column column x) xs ys)
     ∙ or_assoc (nat_lt width (next_column column x)) (passes width (next_column column x) xs) (passes width (column_after (next_column column x) xs) ys)
 
-none-passes : (b : Bool) → not b ≡ true → b ≡ false
+pub none-passes : (b : Bool) → not b ≡ true → b ≡ false
 none-passes true h = absurd (cc)
 none-passes false h = refl
 
-both : (a b : Bool) → (a && b) ≡ true → (a ≡ true) × (b ≡ true)
+pub both : (a b : Bool) → (a && b) ≡ true → (a ≡ true) × (b ≡ true)
 both true b h = (refl, h)
 both false b h = absurd (cc)
 
@@ -35,21 +37,53 @@ placed_if width column there own false true same at_here alone fits =
     ap (λ t. t || passes width 0 own) newline ∙ fits
 placed_if width column there own false false same at_here alone fits = at_here
 
-pub placed-fits : (width column : ℕ) (it : Item) → fits_line width it ≡ true → passes width column (placed width column it) ≡ false
-placed-fits width column it h =
-    let fits : passes width 0 (item_text width 0 it) ≡ false = none-passes (passes width 0 (item_text width 0 it)) h in
-    placed_if width column (item_text width column it) (item_text width 0 it) (column == 0) (passes width column (item_text width column it))
+pub standing-fits : (b p : Bool) → b ≡ true → not (b && p) ≡ true → p ≡ false
+standing-fits true p s h = none-passes p h
+standing-fits false p s h = absurd (cc)
+
+pub placed-fits : (width column : ℕ) (it : Item) → stands_on_line it ≡ true → fits_line width it ≡ true → passes width column (placed width column it) ≡ false
+placed-fits width column it s h =
+    let fits : passes width 0 (item_text width 0 it) ≡ false = standing-fits (stands_on_line it) (passes width 0 (item_text width 0 it)) s h in
+    ap (λ t. passes width column (if t && not (column == 0) && passes width column (item_text width column it) then 10 ∷ item_text width 0 it else item_text width column it)) s
+    ∙ placed_if width column (item_text width column it) (item_text width 0 it) (column == 0) (passes width column (item_text width column it))
     (λ e. ap (λ c. item_text width c it) (eqb-true column 0 e)) refl
     (λ e. ap (λ c. passes width c (item_text width 0 it)) (eqb-true column 0 e) ∙ fits) fits
 
-pub layout-fits : (width column : ℕ) (items : List Item) → list_all (fits_line width) items ≡ true → passes width column (layout width column items) ≡ false
-layout-fits width column [] h = refl
-layout-fits width column (it ∷ items) h =
+-- the column after an item on the line
+pub line-column : (column : ℕ) (it : Item) (text : List ℕ) → stands_on_line it ≡ true → column_past column it text ≡ column_after column text
+line-column column (item.Number x) text s = refl
+line-column column (item.Alpha bytes) text s = refl
+line-column column (item.Tab n) text s = refl
+line-column column (item.Hex bytes) text s = refl
+line-column column item.Zone text s = refl
+line-column column item.Line text s = refl
+line-column column (item.At row to erase) text s = absurd (cc)
+line-column column (item.Outline rows columns) text s = absurd (cc)
+
+pub layout-fits : (width column : ℕ) (items : List Item) → list_all stands_on_line items ≡ true → list_all (fits_line width) items ≡ true →
+    passes width column (layout width column items) ≡ false
+layout-fits width column [] s h = refl
+layout-fits width column (it ∷ items) s h =
+    let stand = both (stands_on_line it) (list_all stands_on_line items) s in
     let parts = both (fits_line width it) (list_all (fits_line width) items) h in
     let text : List ℕ = placed width column it in
-    passes-append width column text (layout width (column_after column text) items)
-    ∙ ap (λ t. t || passes width (column_after column text) (layout width (column_after column text) items)) (placed-fits width column it parts.0)
-    ∙ layout-fits width (column_after column text) items parts.1
+    ap (λ c. passes width column (text ++ layout width c items)) (line-column column it text stand.0)
+    ∙ passes-append width column text (layout width (column_after column text) items)
+    ∙ ap (λ t. t || passes width (column_after column text) (layout width (column_after column text) items)) (placed-fits width column it stand.0 parts.0)
+    ∙ layout-fits width (column_after column text) items stand.1 parts.1
+
+-- items after others
+layout-append : (width column : ℕ) (items more : List Item) → layout width column (items ++ more) ≡ layout width column items ++ layout width (items_column width column items) more
+layout-append width column [] more = refl
+layout-append width column (it ∷ items) more =
+    let next : ℕ = item_column width column it in
+    ap (λ t. placed width column it ++ t) (layout-append width next items more)
+    ∙ sym (append_assoc (placed width column it) (layout width next items) (layout width (items_column width next items) more))
+
+pub items-go_on : (width column : ℕ) (items more : List Item) →
+    (layout width column (items ++ more) ≡ layout width column items ++ layout width (items_column width column items) more)
+    × (items_column width column (items ++ more) ≡ items_column width (items_column width column items) more)
+items-go_on width column items more = (layout-append width column items more, fold-append (item_column width) column items more)
 
 blanks-column : (n column : ℕ) → column + n ≤ 65535 → column_after column (replicate n 32) ≡ column + n
 blanks-column zero column h = omega arith

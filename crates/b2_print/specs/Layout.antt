@@ -1,10 +1,11 @@
 -- What the items of PRINT become, on lines of a width.
-use Rattle.std.specs.Prelude.{ℕ, ◌+◌, ◌-◌, ◌*◌, ◌/◌, ◌==◌, ◌&&◌, nat_lt, Bool, not, if◌then◌else◌, List, [], ◌∷◌, ◌++◌, replicate}
-use Rattle.std.specs.List.{flat_map}
+use Rattle.std.specs.Prelude.{ℕ, ◌+◌, ◌-◌, ◌*◌, ◌/◌, ◌==◌, ◌&&◌, nat_lt, nat_le, Bool, true, false, not, if◌then◌else◌, List, [], ◌∷◌, ◌++◌, replicate}
+use Rattle.std.specs.List.{flat_map, fold, list_all}
 use Rattle.b2_base.specs.Byte as byte
 use Rattle.b2_base.specs.Lexical.{hex_pair}
 use Rattle.b2_dectext.specs.Printed.{printed}
 use Rattle.b2_print.specs.Columns.{column_after, passes}
+use Rattle.b2_print.specs.Screen.{place_text, outline_bytes, screen_rows, screen_columns}
 use Rattle.b2_print.specs.declared.layout.Item.{Item}
 use Rattle.b2_print.specs.declared.layout.Item.TheVariants as item
 
@@ -25,19 +26,50 @@ item_text width column (item.Tab n) = replicate (n - column) byte.blank
 item_text width column (item.Hex bytes) = flat_map hex_pair bytes.now
 item_text width column item.Zone = zone_text width column
 item_text width column item.Line = byte.newline ∷ []
+item_text width column (item.At row to erase) = place_text row to erase
+item_text width column (item.Outline rows columns) = outline_bytes rows columns
 
--- An item that would pass the width goes on a new line, unless it is at the beginning of its line.
+-- whether an item stands on the line, as all do but those for the screen as a whole
+abbrev pub stands_on_line : Item → Bool
+stands_on_line (item.At row to erase) = false
+stands_on_line (item.Outline rows columns) = false
+stands_on_line it = true
+
+-- An item on the line that would pass the width goes on a new line, unless it is at the beginning of its line.
 abbrev pub placed : ℕ → ℕ → Item → List ℕ
 placed width column it =
-    if not (column == 0) && passes width column (item_text width column it) then byte.newline ∷ item_text width 0 it
+    if stands_on_line it && not (column == 0) && passes width column (item_text width column it) then byte.newline ∷ item_text width 0 it
     else item_text width column it
 
--- items one after another
+-- The column after an item that shows a text: its own after a place on the screen, the same after an outline. After
+-- other items it is the column after their bytes.
+abbrev pub column_past : ℕ → Item → List ℕ → ℕ
+column_past column (item.At row to erase) text = to
+column_past column (item.Outline rows columns) text = column
+column_past column it text = column_after column text
+
+abbrev pub item_column : ℕ → ℕ → Item → ℕ
+item_column width column it = column_past column it (placed width column it)
+
+-- items one after another, and the column after them
 abbrev pub layout : ℕ → ℕ → List Item → List ℕ
 layout width column [] = []
-layout width column (it ∷ its) =
-    placed width column it ++ layout width (column_after column (placed width column it)) its
+layout width column (it ∷ its) = placed width column it ++ layout width (item_column width column it) its
 
--- whether an item has room on a line of its own
+abbrev pub items_column : ℕ → ℕ → List Item → ℕ
+items_column width column items = fold (item_column width) column items
+
+-- whether the numbers of an item for the screen lie on the screen
+abbrev pub is_on_screen : Item → Bool
+is_on_screen (item.At row column erase) =
+    nat_lt row screen_rows && nat_lt column screen_columns && nat_le (column + erase) screen_columns
+is_on_screen (item.Outline rows columns) =
+    nat_le 2 rows && nat_le rows screen_rows && nat_le 2 columns && nat_le columns screen_columns
+is_on_screen it = true
+
+abbrev pub are_on_screen : List Item → Bool
+are_on_screen items = list_all is_on_screen items
+
+-- whether an item has room on a line of its own, where it stands on one
 abbrev pub fits_line : ℕ → Item → Bool
-fits_line width it = not (passes width 0 (item_text width 0 it))
+fits_line width it = not (stands_on_line it && passes width 0 (item_text width 0 it))

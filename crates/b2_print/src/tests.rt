@@ -1,5 +1,5 @@
 // What PRINT, PRINTUSING and CONVERT show.
-use crate::{Item, convert, lay, using};
+use crate::{Item, are_on_screen, convert, lay, using};
 use b2_base::Fault;
 use b2_dec::{Bytes, Dec, Value, unpack};
 use std::alloc::{AllocError, Global};
@@ -44,11 +44,23 @@ type Laid<'a> = (&'a [Item<'a>], u16, u16, &'a [u8], u16);
 
 fn laid(alloc: Global, row: &Laid<'_>) -> Result<bool, Fail> {
     let (items, column, width, text, after) = *row;
+    if !are_on_screen(items) {
+        return Ok(false);
+    }
     let mut into = b"before".to_vec(alloc)?;
     let end = lay(alloc, items, column, width, &mut into).map_err(|_| "no memory")?;
     let mut want = b"before".to_vec(alloc)?;
     want.extend_from_slice(text)?;
     Ok(end == after && into.as_slice() == want.as_slice())
+}
+
+fn all_laid(alloc: Global, rows: &[Laid<'_>]) -> Result<bool, Fail> {
+    for row in rows {
+        if !laid(alloc, row)? {
+            return Ok(false);
+        }
+    }
+    Ok(true)
 }
 
 #[test]
@@ -75,9 +87,7 @@ fn items(rt: HostRuntime) -> Result<(), Fail> {
         (&[Item::Tab(100)], 0, 80, &BLANKS[..100], 100),
         (&[Item::Alpha(b"A")], 65535, 65535, b"A", 65535),
     ];
-    for row in &rows {
-        assert!(rt; laid(rt.alloc(), row)?);
-    }
+    assert!(rt; all_laid(rt.alloc(), &rows)?);
     Ok(())
 }
 
@@ -97,6 +107,100 @@ fn widths(rt: HostRuntime) -> Result<(), Fail> {
     let mut tab = b"\n".to_vec(rt.alloc())?;
     tab.extend_from_slice(&BLANKS[..100])?;
     assert!(rt; laid(rt.alloc(), &(&[Item::Tab(100)], 5, 80, &tab, 100))?);
+    Ok(())
+}
+
+fn place(row: u8, column: u8, erase: u8) -> Item<'static> {
+    Item::At { row, column, erase }
+}
+
+fn outline(rows: u8, columns: u8) -> Item<'static> {
+    Item::Outline { rows, columns }
+}
+
+#[test]
+fn places(rt: HostRuntime) -> Result<(), Fail> {
+    let mut erased = b"\x02A\x20\x20".to_vec(rt.alloc())?;
+    erased.extend_from_slice(&BLANKS[..80])?;
+    erased.extend_from_slice(b"\x02A\x20\x20")?;
+    let wide = [place(0, 79, 0), Item::Alpha(b"AB")];
+    let full = [place(0, 78, 0), Item::Alpha(b"AB")];
+    let twice = [Item::Alpha(b"AB"), place(5, 1, 2), place(0, 9, 0)];
+    let zoned = [place(3, 20, 0), Item::Zone, Item::Alpha(b"A")];
+    let rows: [Laid<'_>; 12] = [
+        (&[place(0, 0, 0)], 0, 80, b"\x02A\x20\x20", 0),
+        (&[place(23, 79, 0)], 0, 80, b"\x02A\x37\x6f", 79),
+        (&[place(2, 10, 0)], 40, 80, b"\x02A\x22\x2a", 10),
+        (&[place(2, 10, 0)], 79, 80, b"\x02A\x22\x2a", 10),
+        (&[place(2, 10, 0)], 500, 80, b"\x02A\x22\x2a", 10),
+        (
+            &[place(1, 77, 3)],
+            9,
+            80,
+            b"\x02A\x21\x6d   \x02A\x21\x6d",
+            77,
+        ),
+        (&[place(0, 0, 80)], 1, 80, &erased, 0),
+        (
+            &[place(7, 60, 20)],
+            3,
+            64,
+            b"\x02A\x27\x5c                    \x02A\x27\x5c",
+            60,
+        ),
+        (&wide, 5, 80, b"\x02A\x20\x6f\nAB", 2),
+        (&full, 5, 80, b"\x02A\x20\x6eAB", 80),
+        (
+            &twice,
+            0,
+            80,
+            b"AB\x02A\x25\x21  \x02A\x25\x21\x02A\x20\x29",
+            9,
+        ),
+        (&zoned, 0, 80, b"\x02A\x23\x34            A", 33),
+    ];
+    assert!(rt; all_laid(rt.alloc(), &rows)?);
+    Ok(())
+}
+
+#[test]
+fn places_off_the_screen(rt: HostRuntime) -> Result<(), Fail> {
+    for (row, column, erase) in [
+        (24u8, 0u8, 0u8),
+        (0, 80, 0),
+        (0, 79, 2),
+        (0, 0, 81),
+        (255, 255, 255),
+    ] {
+        assert!(rt; !are_on_screen(&[Item::Line, place(row, column, erase)]));
+    }
+    Ok(())
+}
+
+#[test]
+fn outlines_off_the_screen(rt: HostRuntime) -> Result<(), Fail> {
+    for (rows, columns) in [(1u8, 2u8), (2, 1), (25, 2), (2, 81)] {
+        assert!(rt; !are_on_screen(&[outline(rows, columns), Item::Line]));
+    }
+    Ok(())
+}
+
+#[test]
+fn outlines(rt: HostRuntime) -> Result<(), Fail> {
+    let between = [Item::Alpha(b"AB"), outline(3, 10), Item::Alpha(b"C")];
+    let at_end = [Item::Alpha(b"AB"), outline(3, 10), Item::Alpha(b"CD")];
+    let placed = [place(4, 6, 0), outline(5, 7), Item::Number(number(TWO))];
+    let rows: [Laid<'_>; 8] = [
+        (&[outline(2, 2)], 0, 80, b"\x02B\x22\x22", 0),
+        (&[outline(24, 80)], 0, 80, b"\x02B\x38\x70", 0),
+        (&[outline(24, 80)], 79, 80, b"\x02B\x38\x70", 79),
+        (&[outline(3, 10)], 300, 80, b"\x02B\x23\x2a", 300),
+        (&between, 0, 80, b"AB\x02B\x23\x2aC", 3),
+        (&between, 77, 80, b"AB\x02B\x23\x2aC", 80),
+        (&at_end, 77, 80, b"AB\x02B\x23\x2a\nCD", 2),
+        (&placed, 50, 80, b"\x02A\x24\x26\x02B\x25\x27 2 ", 9),
+    ];
+    assert!(rt; all_laid(rt.alloc(), &rows)?);
     Ok(())
 }
 

@@ -61,6 +61,18 @@ abbrev pub type_keys : List KeyItem → Typing → Typing
 type_keys [] t = t
 type_keys (k ∷ ks) t = type_keys ks (type_key k t)
 
+-- bytes typed one after the other, none of which ends the line
+abbrev pub type_bytes : List ℕ → Typing → Typing
+type_bytes [] t = t
+type_bytes (b ∷ bs) t = type_bytes bs (type_key (Byte b) t)
+
+-- the terminal after bytes were typed into its line
+abbrev pub with_typing : TerminalState → Typing → TerminalState
+with_typing t now = record t { line = now.line; transcript = now.transcript }
+
+abbrev pub inserted : List ℕ → TerminalState → TerminalState
+inserted bytes t = with_typing t (type_bytes bytes (record { line = t.line; transcript = t.transcript }))
+
 -- the keys before the first that ends the line
 abbrev pub before_end : List KeyItem → List KeyItem
 before_end [] = []

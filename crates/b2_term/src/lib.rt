@@ -4,10 +4,10 @@
 //! and each call is proved to be the function of that file, for every queue, line and transcript.
 #![tactic(auto)]
 
-ghost use Rattle.std.specs.Prelude.{◌≡◌, ◌≤◌, ◌<◌, [], ◌∷◌, ◌++◌, length, nat_lt, OnOk, IfOk, false, ◌↔◌};
+ghost use Rattle.std.specs.Prelude.{◌≡◌, ◌≤◌, ◌<◌, [], ◌∷◌, ◌++◌, length, nat_lt, drop, slice_get, OnOk, IfOk, false, ◌↔◌};
 ghost use Rattle.std.specs.List.{list_any};
 ghost use Rattle.std.specs.VecDeque.{deque_capacity};
-ghost use Rattle.b2_term.specs.Terminal.{Typing, reading, line_read, after_read, typed, echo, keyed, ends_line, IsShortLine};
+ghost use Rattle.b2_term.specs.Terminal.{Typing, reading, line_read, after_read, typed, type_bytes, inserted, echo, keyed, ends_line, IsShortLine};
 
 use b2_base::lexical::is_printable;
 use b2_base::{ByteList, NoMemory, Part};
@@ -88,6 +88,23 @@ fn type_byte(line: &mut Vec<u8>, transcript: &mut Vec<u8>, b: u8) -> Result<(), 
     } else if b == BACKSPACE && !line.is_empty() {
         line.truncate(line.len() - 1);
         transcript.extend_from_slice(&[BACKSPACE, b' ', BACKSPACE])?;
+    }
+    Ok(())
+}
+
+/// Types bytes that don't end the line.
+fn type_bytes(
+    line: &mut Vec<u8>,
+    transcript: &mut Vec<u8>,
+    bytes: &[u8],
+) -> Result<(), NoMemory>
+    requires { length line.old.items ≤ 256 }
+    ensures typed { OnOk result (record { line = line.new.items; transcript = transcript.new.items }
+        ≡ type_bytes bytes.now (record { line = line.old.items; transcript = transcript.old.items })) }
+    ensures short { length line.new.items ≤ 256 }
+{
+    for b in bytes {
+        type_byte(line, transcript, *b)?;
     }
     Ok(())
 }
@@ -182,6 +199,21 @@ impl Terminal {
             &mut self.line,
             &mut self.transcript,
         )
+    }
+
+    /// Types bytes into the line, as keys that don't end it: RETURN among them does nothing. The keys that wait stay.
+    pub fn insert(&mut self, bytes: &[u8]) -> Result<(), NoMemory>
+        ensures { OnOk result (self.new ≡ inserted bytes.now self.old) }
+    {
+        type_bytes(&mut self.line, &mut self.transcript, bytes)
+    }
+
+    /// Takes the first key that waits, None exactly where none does. It takes no memory.
+    pub fn one_key(&mut self) -> Option<KeyItem>
+        ensures key { result ≡ slice_get self.old.queue 0 }
+        ensures rest { self.new ≡ record self.old { queue = drop 1 self.old.queue } }
+    {
+        self.queue.pop_front()
     }
 
     /// All that was shown and echoed.

@@ -112,3 +112,40 @@ fn a_front_and_shown_bytes(rt: HostRuntime) -> Result<(), Fail> {
     assert_eq!(rt; terminal.transcript(), b"READY\n:".as_slice());
     Ok(())
 }
+
+// Bytes that are inserted after `AB`, and the transcript then.
+const INSERTED: [(&[u8], &[u8]); 5] = [
+    (b"PRINT 5", b"ABPRINT 5"),
+    (b"", b"AB"),
+    (b"X\rY", b"ABXY"),
+    (b"\x08C", b"AB\x08 \x08C"),
+    (b"\x08\x08\x08Z", b"AB\x08 \x08\x08 \x08Z"),
+];
+
+#[test]
+fn bytes_are_inserted(rt: HostRuntime) -> Result<(), Fail> {
+    for (bytes, transcript) in INSERTED {
+        let mut terminal = Terminal::new(rt.alloc(), Part::known(1))?;
+        terminal.key(KeyItem::Byte(b'A'));
+        terminal.key(KeyItem::Byte(b'B'));
+        assert!(rt; is_answer(&terminal.read_line()?, &Answer::NoKeys));
+        terminal.key(KeyItem::Special(3));
+        terminal.insert(bytes)?;
+        assert_eq!(rt; terminal.transcript(), transcript);
+        assert_eq!(rt; terminal.one_key(), Some(KeyItem::Special(3)));
+    }
+    Ok(())
+}
+
+#[test]
+fn keys_are_taken_one_by_one(rt: HostRuntime) -> Result<(), Fail> {
+    let mut terminal = Terminal::new(rt.alloc(), Part::known(1))?;
+    assert_eq!(rt; terminal.one_key(), None);
+    terminal.key(KeyItem::Byte(b'A'));
+    terminal.key(KeyItem::Special(31));
+    assert_eq!(rt; terminal.one_key(), Some(KeyItem::Byte(b'A')));
+    assert_eq!(rt; terminal.one_key(), Some(KeyItem::Special(31)));
+    assert_eq!(rt; terminal.one_key(), None);
+    assert_eq!(rt; terminal.transcript(), b"".as_slice());
+    Ok(())
+}

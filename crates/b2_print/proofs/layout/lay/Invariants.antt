@@ -1,10 +1,10 @@
-use Rattle.std.proofs.Common.{◌≡◌, ◌++◌, drop}
-use Rattle.b2_print.specs.Columns.{column_after}
-use Rattle.b2_print.specs.Layout.{layout}
+use Rattle.std.proofs.Common.{◌≡◌, ◌++◌, drop, true}
+use Rattle.b2_print.specs.Layout.{layout, items_column, are_on_screen}
 use Rattle.b2_print.proofs.layout.lay.Given as goal
 
 abbrev pub invariant-loop-item : goal.invariant-loop-item
 invariant-loop-item l = record {
   text : l.shown.items ++ layout l.width l.at (drop l.item-index l.items) ≡ layout l.width l.column l.items;
-  column : l.at ≡ column_after l.column l.shown.items;
+  column : items_column l.width l.at (drop l.item-index l.items) ≡ items_column l.width l.column l.items;
+  on_screen : are_on_screen (drop l.item-index l.items) ≡ true;
 }

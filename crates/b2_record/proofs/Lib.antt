@@ -1,0 +1,5 @@
+pub mod Values
+pub mod Groups
+pub mod Parsing
+pub mod Reading
+pub mod Unique
