@@ -26,7 +26,7 @@ pub enum Goal {
 }
 
 /// The bytes of a unit, None where the line has no such unit.
-fn unit_at(line: &Atoms, k: usize) -> Option<&[u8]>
+fn bytes_of_unit(line: &Atoms, k: usize) -> Option<&[u8]>
     ensures few { IfSome result (λ unit. k < 255) }
     ensures bytes { option_copied result ≡ option_map (λ u. u.bytes) (slice_get (units_of line.now) k) }
 {
@@ -89,7 +89,7 @@ pub fn after_false(line: &Atoms, k: usize) -> Goal
 {
     spells_a_line(line);
     let further = line.skip(k);
-    match unit_at(line, further) {
+    match bytes_of_unit(line, further) {
         Some(unit) => {
             if is_at(ELSE, unit) {
                 else_goal(unit, further)
@@ -109,7 +109,7 @@ pub fn taken_fault(line: &Atoms, k: usize) -> Option<usize>
 {
     spells_a_line(line);
     let further = line.skip(k);
-    match unit_at(line, further) {
+    match bytes_of_unit(line, further) {
         Some(unit) => {
             if is_at(ERROR, unit) {
                 Some(further + 1)
