@@ -1,4 +1,4 @@
--- Lines that stay within a width.
+-- Lines that stay within a width, and items after others.
 use Rattle.std.proofs.Common.{◌≡◌, ℕ, zero, suc, ◌+◌, ◌-◌, ◌/◌, ◌%◌, ◌<◌, ◌≤◌, min, replicate, cond, ◌==◌, ◌&&◌, ◌||◌, nat_lt, Bool, true, false, not, if◌then◌else◌, List, [], ◌∷◌, ◌++◌, refl, sym, ap, ◌∙◌, append_assoc, arith, eqb-true, inl, inr}
 use Rattle.std.specs.List.{list_all}
 use Rattle.std.proofs.lemmas.Bool.{le-ltb, lt-ltb, cases_lt}
@@ -9,7 +9,7 @@ use Rattle.b2_print.specs.declared.layout.Item.{Item}
 use Rattle.b2_print.specs.declared.layout.Item.TheVariants as item
 use Rattle.b2_print.specs.Layout.{item_text, stands_on_line, placed, column_past, item_column, layout, items_column, fits_line, next_zone, zone_text}
 
-or_assoc : (a b c : Bool) → (a || (b || c)) ≡ ((a || b) || c)
+pub or_assoc : (a b c : Bool) → (a || (b || c)) ≡ ((a || b) || c)
 or_assoc true b c = refl
 or_assoc false b c = refl
 
@@ -37,7 +37,7 @@ placed_if width column there own false true same at_here alone fits =
     ap (λ t. t || passes width 0 own) newline ∙ fits
 placed_if width column there own false false same at_here alone fits = at_here
 
-pub standing-fits : (b p : Bool) → b ≡ true → not (b && p) ≡ true → p ≡ false
+standing-fits : (b p : Bool) → b ≡ true → not (b && p) ≡ true → p ≡ false
 standing-fits true p s h = none-passes p h
 standing-fits false p s h = absurd (cc)
 

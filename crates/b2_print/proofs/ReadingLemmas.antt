@@ -14,7 +14,7 @@ use Rattle.b2_print.specs.Reading.{Reading, between, begun, column_of, read_byte
 use Rattle.b2_print.specs.declared.layout.Item.{Item}
 use Rattle.b2_print.specs.declared.layout.Item.TheVariants as item
 use Rattle.b2_print.specs.Layout.{next_zone, item_text, stands_on_line, placed, item_column, layout, items_column, is_on_screen, are_on_screen, fits_line}
-use Rattle.b2_print.proofs.ColumnLemmas.{both, none-passes, placed-fits, line-column}
+use Rattle.b2_print.proofs.ColumnLemmas.{or_assoc, both, none-passes, placed-fits, line-column}
 
 -- texts without the byte that begins a sequence
 other-append : (xs ys : List ℕ) → list_all is_other_byte xs ≡ true → list_all is_other_byte ys ≡ true → list_all is_other_byte (xs ++ ys) ≡ true
@@ -129,10 +129,6 @@ past-other width column (b ∷ bs) h =
     ap (λ t. nat_lt width (column_of (if t then begun column else between (next_column column b))) || reads_past width (if t then begun column else between (next_column column b)) bs)
     (none-passes (b == 2) parts.0)
     ∙ ap (λ t. nat_lt width (next_column column b) || t) (past-other width (next_column column b) bs parts.1)
-
-or_assoc : (a b c : Bool) → (a || (b || c)) ≡ ((a || b) || c)
-or_assoc true b c = refl
-or_assoc false b c = refl
 
 past-append : (width : ℕ) (r : Reading) (xs ys : List ℕ) → reads_past width r (xs ++ ys) ≡ (reads_past width r xs || reads_past width (read_on r xs) ys)
 past-append width r [] ys = refl

@@ -169,8 +169,8 @@ fn column_past(column: u16, item: &Item<'_>, text: &[u8]) -> u16
 /// Appends the items as they are laid out from a column on, in lines of a width, and gives the column after them.
 ///
 /// The numbers of items for the screen must lie on it: a row of 0 to 23, a column of 0 to 79, at most as many erased
-/// cells as the row has from there on, and an outline of 2 to 24 rows and 2 to 80 columns. `are_on_screen`
-/// says whether they do. The width doesn't act on these items.
+/// cells as the row has from there on, and an outline of 2 to 24 rows and 2 to 80 columns. `are_on_screen` says whether
+/// they do. The width doesn't act on these items.
 ///
 /// Where memory fails, `into` is as before.
 pub fn lay(

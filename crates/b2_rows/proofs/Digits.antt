@@ -5,7 +5,7 @@ use Rattle.b2_base.specs.Lexical.{capped_value, digits_width, first, is_digit}
 use Rattle.b2_atom.specs.Words.{Text}
 use Rattle.b2_atom.specs.declared.forms.Leaf.TheVariants as leaf
 use Rattle.b2_rows.specs.Leaves.{is_leaf, leaf_bytes}
-use Rattle.b2_rows.specs.Values.{small_of, slot_of}
+use Rattle.b2_rows.specs.Values.{small_of, slot_number}
 
 capped_by : (x : Bool) (cap n b : ℕ) (bs : Text) → is_digit b ≡ x
     → capped_value cap (min (n * 10 + (b - byte.digit_0)) cap) (take (digits_width bs) bs) ≡ capped_value cap (min (n * 10 + (b - byte.digit_0)) cap) bs
@@ -27,10 +27,10 @@ small_value t is = small_by (nat_le (capped_value 999 0 t) 255) t is
 one_more : (n b : ℕ) (bs : Text) → take (n + 1) (b ∷ bs) ≡ b ∷ take n bs
 one_more n b bs = ap (λ (k : ℕ). take k (b ∷ bs)) (let e : n + 1 ≡ suc n = omega arith in e)
 
-slot_by : (x : Bool) (t : Text) → nat_lt 0 (if x then digits_width (drop 1 t) + 1 else 0) ≡ true → slot_of (take (if x then digits_width (drop 1 t) + 1 else 0) t) ≡ capped_value 999 0 (drop 1 t)
+slot_by : (x : Bool) (t : Text) → nat_lt 0 (if x then digits_width (drop 1 t) + 1 else 0) ≡ true → slot_number (take (if x then digits_width (drop 1 t) + 1 else 0) t) ≡ capped_value 999 0 (drop 1 t)
 slot_by true [] is = refl
 slot_by true (b ∷ bs) is = ap (λ (w : Text). capped_value 999 0 (drop 1 w)) (one_more (digits_width bs) b bs) ∙ digits_capped 999 0 bs
 slot_by false t is = cc
 
-pub slot_value : (t : Text) → is_leaf leaf.Slot t ≡ true → slot_of (leaf_bytes leaf.Slot t) ≡ capped_value 999 0 (drop 1 t)
+pub slot_value : (t : Text) → is_leaf leaf.Slot t ≡ true → slot_number (leaf_bytes leaf.Slot t) ≡ capped_value 999 0 (drop 1 t)
 slot_value t is = slot_by (first t == byte.number_sign && (nat_lt 0 (digits_width (drop 1 t)) && nat_le (capped_value 999 0 (drop 1 t)) 15)) t is

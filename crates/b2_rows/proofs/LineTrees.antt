@@ -1,5 +1,5 @@
 -- The units of a line are those of its tree, and what a unit begins with is told by its row.
-use Rattle.std.proofs.Common.{◌≡◌, ◌<◌, ◌≤◌, ℕ, zero, suc, ◌+◌, ◌==◌, ◌&&◌, nat_lt, nat_le, Bool, true, false, if◌then◌else◌, List, [], ◌∷◌, map, length, drop, get_or, slice_get, Option, Some, None, refl, sym, ap, subst, ◌∙◌, arith, Result, Ok, Err}
+use Rattle.std.proofs.Common.{◌≡◌, ◌<◌, ◌≤◌, ℕ, zero, suc, ◌+◌, ◌==◌, ◌&&◌, nat_lt, nat_le, Bool, true, false, if◌then◌else◌, List, [], ◌∷◌, map, length, drop, get_or, slice_get, Option, Some, None, refl, sym, ap, subst, ◌∙◌, arith, Result, Ok, Err, is_ok}
 use Rattle.std.proofs.lemmas.Bool.Decides.{nat_tests}
 use Rattle.std.proofs.lemmas.Option.{slice_get-map}
 use Rattle.std.proofs.lemmas.List.{length-map}
@@ -13,7 +13,7 @@ use Rattle.b2_atom.specs.Tree.{Trees, Outcome, atoms, under}
 use Rattle.b2_atom.specs.Tree.Trees.{Done, Put, In}
 use Rattle.b2_atom.specs.Table.{forms}
 use Rattle.b2_atom.specs.Grammar.{reader, statement, statement_within, statement_row, chosen, from, row_at, row_items, starts, read_line}
-use Rattle.b2_atom.specs.Lines.{is_line, LineUnit, units_of, further_unit, is_further}
+use Rattle.b2_atom.specs.Lines.{is_line, LineUnit, units_of, further_unit, is_further, left_after, unit_row, chosen_row, IsReadBy}
 use Rattle.b2_atom.specs.Units.{TreeUnit, unit_atoms, units_on}
 use Rattle.b2_atom.specs.Laws.{IsTree, IsReadAlone}
 use Rattle.b2_atom.specs.declared.words.TheConstants as word
@@ -26,15 +26,16 @@ use Rattle.b2_atom.specs.declared.forms.Item.{Item}
 use Rattle.b2_atom.specs.declared.forms.Item.TheVariants.{Word, Sign, Typed, Part, Maybe, Either, Many, Nest}
 use Rattle.b2_atom.specs.declared.forms.Leaf.TheVariants as leaf
 use Rattle.b2_atom.specs.declared.forms.Start.TheVariants as start
-use Rattle.b2_atom.proofs.Booleans.{equal, never}
+use Rattle.b2_atom.proofs.Booleans.{both, equal, never}
 use Rattle.b2_atom.proofs.lines.EachUnit.{tree_is_cut}
 use Rattle.b2_atom.proofs.lines.LineLaws.{spells_tree, atoms_back}
-use Rattle.b2_rows.specs.Rows.{tree_of, is_part, tree_at, after_part}
+use Rattle.b2_rows.specs.Rows.{reading_row, tree_of, is_part, tree_at, after_part}
 use Rattle.b2_rows.specs.Laws.{IsRow, IsRowOnTree}
 use Rattle.b2_rows.specs.Values.{line_of}
 use Rattle.b2_rows.specs.Following.{line_tree, tree_units, further_on, unit_or_next, past_colon, named_goal, else_goal, false_goal, after_false, error_goal, taken_fault}
 use Rattle.b2_rows.specs.declared.following.Goal.{Goal}
 use Rattle.b2_rows.specs.declared.following.Goal.TheVariants as goal
+use Rattle.b2_rows.proofs.Levels.{is_short}
 use Rattle.b2_rows.proofs.Standing.{row_stands}
 use Rattle.b2_rows.proofs.Choices.{either_first, either_second}
 use Rattle.b2_rows.proofs.Units.{each_tree_unit_is_its_row, line_short}
@@ -197,3 +198,37 @@ else_told u h k = byte_by word.ELSE row.ELSE u.place (atoms u.tree) u.row _ _ re
 
 pub error_told : (u : TreeUnit) → IsReadAlone u → IsRowOnTree u → (first (atoms u.tree) == word.ERROR) ≡ (u.row == row.ERROR)
 error_told u h k = byte_by word.ERROR row.ERROR u.place (atoms u.tree) u.row _ _ refl refl refl error_row (row_of_unit u h) (λ same. error_first (atoms u.tree) (unit_part u row.ERROR k same))
+
+-- a unit with its row
+pub unit_is_row : (n : ℕ) (bytes : Text) → length bytes ≤ 255 → IsReadBy n bytes → IsRow n bytes (tree_at n bytes)
+unfolding is_part tree_at after_part reading_row
+unit_is_row n bytes short h = record {
+  part = both _ _ (is_short bytes (let e : length bytes ≤ 256 = omega (arith, short) in e)) (ap is_ok h.read);
+  tree = refl;
+  whole = ap left_after h.read;
+}
+
+chosen_is : (v : TreeUnit) → IsReadAlone v → unit_row (unit_atoms v) ≡ v.row
+unfolding unit_row statement_row
+chosen_is v h = ap (λ (r : Result ℕ Stop). chosen_row (from (atoms v.tree) r)) (row_of_unit v h)
+
+rows_by : (o : Option TreeUnit) → ((v : TreeUnit) → o ≡ Some v → IsReadAlone v) → option_map unit_row (option_map unit_atoms o) ≡ option_map (λ (v : TreeUnit). v.row) o
+rows_by None h = refl
+rows_by (Some v) h = ap Some (chosen_is v (h v refl))
+
+pub row_is : (line : Text) (k : ℕ) → is_line line ≡ true → option_map unit_row (slice_get (units_of line) k) ≡ option_map (λ (v : TreeUnit). v.row) (slice_get (tree_units line) k)
+row_is line k h =
+    let c = line_cut line h in
+    ap (λ (us : List LineUnit). option_map unit_row (slice_get us k)) c.units
+    ∙ ap (option_map unit_row) (slice_get-map unit_atoms (tree_units line) k)
+    ∙ rows_by (slice_get (tree_units line) k) (λ v is. all_at IsReadAlone (tree_units line) k v c.alone is)
+
+same_some : (a b : ℕ) → Some a ≡ Some b → a ≡ b
+same_some a b e = cc
+
+pub tree_of_unit : (line : Text) (k n : ℕ) (bytes : Text) → is_line line ≡ true → Some n ≡ option_map unit_row (slice_get (units_of line) k)
+    → Some bytes ≡ option_map (λ (u : LineUnit). u.bytes) (slice_get (units_of line) k) → Some (tree_at n bytes) ≡ option_map (λ (v : TreeUnit). v.tree) (slice_get (tree_units line) k)
+tree_of_unit line k n bytes h is_n is_bytes =
+    let f = unit_found line k bytes h (sym is_bytes) in
+    let same : n ≡ f.unit.row = same_some n f.unit.row (is_n ∙ row_is line k h ∙ ap (option_map (λ (v : TreeUnit). v.row)) f.is) in
+    ap Some (ap (λ (m : ℕ). tree_at m bytes) same ∙ ap (tree_at f.unit.row) (sym f.same) ∙ f.row.tree) ∙ sym (ap (option_map (λ (v : TreeUnit). v.tree)) f.is)

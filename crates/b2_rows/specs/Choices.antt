@@ -48,20 +48,20 @@ which [] t = 0
 which (x ∷ xs) t = if starts Atoms x.begin t then 0 else suc (which xs t)
 
 -- the row of the k-th, and else the last row
-abbrev pub chosen_row : ℕ → List Alternative → ℕ → ℕ
-chosen_row n [] k = n
-chosen_row n (x ∷ xs) zero = x.row
-chosen_row n (x ∷ xs) (suc k) = chosen_row x.others xs k
+abbrev pub row_in_choice : ℕ → List Alternative → ℕ → ℕ
+row_in_choice n [] k = n
+row_in_choice n (x ∷ xs) zero = x.row
+row_in_choice n (x ∷ xs) (suc k) = row_in_choice x.others xs k
 
 -- its tree in the branches before it
-abbrev pub chosen_tree : List Alternative → ℕ → Trees → Trees
-chosen_tree [] k a = a
-chosen_tree (x ∷ xs) zero a = first_branch a
-chosen_tree (x ∷ xs) (suc k) a = second_branch (chosen_tree xs k a)
+abbrev pub tree_in_choice : List Alternative → ℕ → Trees → Trees
+tree_in_choice [] k a = a
+tree_in_choice (x ∷ xs) zero a = first_branch a
+tree_in_choice (x ∷ xs) (suc k) a = second_branch (tree_in_choice xs k a)
 
 -- a choice that is read is its alternative
 abbrev pub Chosen : ℕ → List Alternative → ℕ → Text → Type 0
-Chosen n xs k t = ReadAs n (chosen_row n xs k) (chosen_tree xs k) t
+Chosen n xs k t = ReadAs n (row_in_choice n xs k) (tree_in_choice xs k) t
 
 abbrev alternative : Start → ℕ → ℕ → Alternative
 alternative s n m = record { begin = s; row = n; others = m }
@@ -95,10 +95,10 @@ operand_number operand.KeptNumber = 9
 operand_number operand.Variable = 10
 
 abbrev pub operand_row : Operand → ℕ
-operand_row k = chosen_row row.OPERAND operand_kinds (operand_number k)
+operand_row k = row_in_choice row.OPERAND operand_kinds (operand_number k)
 
 abbrev pub operand_tree : Operand → Trees → Trees
-operand_tree k a = chosen_tree operand_kinds (operand_number k) a
+operand_tree k a = tree_in_choice operand_kinds (operand_number k) a
 
 -- the kind of an operand, by its first byte
 abbrev pub operand_of : ℕ → Operand
@@ -132,10 +132,10 @@ alpha_number alpha.Binary = 3
 alpha_number alpha.Variable = 4
 
 abbrev pub alpha_row : AlphaOperand → ℕ
-alpha_row k = chosen_row row.ALPHA_OPERAND alpha_kinds (alpha_number k)
+alpha_row k = row_in_choice row.ALPHA_OPERAND alpha_kinds (alpha_number k)
 
 abbrev pub alpha_tree : AlphaOperand → Trees → Trees
-alpha_tree k a = chosen_tree alpha_kinds (alpha_number k) a
+alpha_tree k a = tree_in_choice alpha_kinds (alpha_number k) a
 
 abbrev pub alpha_operand_of : ℕ → AlphaOperand
 alpha_operand_of c =

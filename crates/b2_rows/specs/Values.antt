@@ -26,8 +26,8 @@ name_of alpha w = lettered alpha (first w == byte.at_sign) (if first w == byte.a
 abbrev pub small_of : Text → ℕ
 small_of w = capped_value 999 0 w
 
-abbrev pub slot_of : Text → ℕ
-slot_of w = capped_value 999 0 (drop 1 w)
+abbrev pub slot_number : Text → ℕ
+slot_number w = capped_value 999 0 (drop 1 w)
 
 -- the bytes between the quotes of a literal, and those before the parenthesis of an image
 abbrev pub literal_of : Text → Text

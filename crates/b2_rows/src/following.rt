@@ -1,6 +1,6 @@
 // What follows a unit of a line.
 ghost use Rattle.std.specs.Prelude.{◌≡◌, ◌<◌, ◌+◌, true, option_copied, IfSome};
-ghost use Rattle.b2_atom.specs.Lines.{is_line, units_of};
+ghost use Rattle.b2_atom.specs.Lines.{units_of};
 ghost use Rattle.b2_atom.specs.declared.rows.TheConstants as row;
 ghost use Rattle.std.specs.Prelude.{slice_get};
 ghost use Rattle.std.specs.Option.{option_map};
@@ -9,6 +9,7 @@ ghost use Rattle.b2_rows.specs.Following as spec;
 
 use crate::begins::{is_at, is_line_at};
 use crate::leaves::line_at;
+use crate::row_units::{row_unit, spells_a_line};
 use b2_atom::Atoms;
 use b2_atom::words::{ELSE, ERROR};
 use b2_base::lexical::dropped;
@@ -24,20 +25,13 @@ pub enum Goal {
     NextLine,
 }
 
-/// The bytes of a line of atoms spell a line.
-fn spells_a_line(line: &Atoms)
-    ensures { is_line line.now ≡ true }
-{
-    line.bytes();
-}
-
 /// The bytes of a unit, None where the line has no such unit.
-fn unit_at(line: &Atoms, k: usize) -> Option<&[u8]>
+fn bytes_of_unit(line: &Atoms, k: usize) -> Option<&[u8]>
     ensures few { IfSome result (λ unit. k < 255) }
     ensures bytes { option_copied result ≡ option_map (λ u. u.bytes) (slice_get (units_of line.now) k) }
 {
-    match line.find_unit(k) {
-        Some(unit) => Some(unit.cursor.rest()),
+    match row_unit(line, k) {
+        Some(unit) => Some(unit.bytes),
         None => None,
     }
 }
@@ -95,7 +89,7 @@ pub fn after_false(line: &Atoms, k: usize) -> Goal
 {
     spells_a_line(line);
     let further = line.skip(k);
-    match unit_at(line, further) {
+    match bytes_of_unit(line, further) {
         Some(unit) => {
             if is_at(ELSE, unit) {
                 else_goal(unit, further)
@@ -115,7 +109,7 @@ pub fn taken_fault(line: &Atoms, k: usize) -> Option<usize>
 {
     spells_a_line(line);
     let further = line.skip(k);
-    match unit_at(line, further) {
+    match bytes_of_unit(line, further) {
         Some(unit) => {
             if is_at(ERROR, unit) {
                 Some(further + 1)

@@ -108,7 +108,7 @@ pub fn small_at(text: &[u8]) -> u8
 /// The number of a slot, from 0 to 15.
 pub fn slot_at(text: &[u8]) -> u8
     requires { is_leaf leaf.Slot text.now ≡ true }
-    ensures value { result ≡ spec.slot_of (leaf_bytes leaf.Slot text.now) }
+    ensures value { result ≡ spec.slot_number (leaf_bytes leaf.Slot text.now) }
     ensures small { result ≤ 15 }
 {
     capped_value(dropped(text, 1), 999) as u8

@@ -1,12 +1,28 @@
-//! Rows of the table as they are read at the bytes of a unit.
+//! Rows of the language's table as they are read at the bytes of a unit: the layer between the table and what expressions and
+//! statements mean.
+//!
+//! A step looks at the bytes of a unit and never walks the table; what those bytes mean is said of their tree. This crate
+//! joins the two. Its definitions say that a row is read at a text, which tree that gives and what is left after it, without
+//! any count of levels, parentheses or repetitions, and `laws` that such a row stands at the text item by item. So a function
+//! above, which wants that its row is read at its text, knows what each byte is and where each row in it begins.
+//!
+//! Stands on `b2_atom` for the table and the units of a line, on `b2_alpha` for relations and on `b2_base`. No call takes
+//! memory. Readers of what is typed by hand want that it stands there, and give its value; `goes_on` and `operand_at` tell by
+//! a byte which way a row goes on; `row_unit` gives a unit with its row, and `next_unit`, `past_colon`, `after_false` and
+//! `taken_fault` what follows it on its line.
+//!
+//! The definitions are in `specs/`: rows in `Rows`, what is typed by hand in `Leaves` and its values in `Values`, which rows
+//! take a byte in `Takes`, items after operators and commas in `Links` and `Chains`, choices in `Choices`, what follows a unit
+//! in `Following`, and the laws in `Laws`. The crates above cite lemmas of `proofs/`, whose first page lists them.
 #![tactic(auto)]
 
 mod begins;
 mod chains;
-pub mod laws;
 mod following;
+pub mod laws;
 mod leaves;
 mod operands;
+mod row_units;
 #[cfg(test)]
 mod tests;
 
@@ -18,3 +34,4 @@ pub use leaves::{
     literal_at, local_name, numeric_name, relation_at, slot_at, small_at,
 };
 pub use operands::{AlphaOperand, Operand, alpha_operand_at, operand_at};
+pub use row_units::{RowUnit, is_read, row_unit};

@@ -1,10 +1,13 @@
 use crate::{
-    AlphaOperand, Chain, Name, Operand, address_at, alpha_name, alpha_operand_at, function_name,
-    goes_on, has_sign, hex_byte_at, hex_digit_at, image_at, is_alpha_at, is_array_at, is_at,
-    is_hex_at, is_line_at, is_numeric_at, line_at, literal_at, local_name, numeric_name,
-    operand_at, relation_at, slot_at, small_at,
+    AlphaOperand, Chain, Goal, Name, Operand, address_at, after_false, alpha_name,
+    alpha_operand_at, function_name, goes_on, has_sign, hex_byte_at, hex_digit_at, image_at,
+    is_alpha_at, is_array_at, is_at, is_hex_at, is_line_at, is_numeric_at, is_read, line_at,
+    literal_at, local_name, next_unit, numeric_name, operand_at, past_colon, relation_at, row_unit,
+    slot_at, small_at, taken_fault,
 };
 use b2_alpha::Rel;
+use b2_atom::Atoms;
+use b2_atom::rows;
 use b2_atom::words::{
     AND, BIN_OPEN, ERR, FN, HASH_PART, HEX_OPEN, INT_OPEN, LINE_MARK, MAX_OPEN, MOD_OPEN, NUM_OPEN,
     OR, Origin, POS_OPEN, SQR_OPEN, STR_OPEN, VAL_OPEN, XOR,
@@ -15,6 +18,8 @@ use b2_atom::{
     small_width,
 };
 use b2_base::lexical::{at, first, is_decimal};
+use std::alloc::Global;
+use std::test::Fail;
 
 // What is read of a text as a number.
 #[derive(Clone, Copy)]
@@ -313,4 +318,77 @@ fn operators_are_told(rt: HostRuntime) {
         assert!(rt; operators(&[byte]) == want, "of {byte}");
         assert!(rt; has_sign(&[byte]) == want[0], "of {byte}");
     }
+}
+
+// A row, a text of atoms, and whether the row is read there.
+const READ: [(u16, &[u8], bool); 14] = [
+    (rows::SUM, b"A+1", true),
+    (rows::SUM, b"-A^2*(B1-.5):", true),
+    (rows::SUM, b"+", false),
+    (rows::SUM, b"", false),
+    (rows::ALPHA, b"\"X\"&A$", true),
+    (rows::ALPHA, b"\"X", false),
+    (rows::SUBSCRIPTS, b"(1,2)", true),
+    (rows::SUBSCRIPTS, b"(1,2", false),
+    (rows::LINE_NUMBER, b"\xFF\x00\x10", true),
+    (rows::LINE_NUMBER, b"12", false),
+    (rows::CONDITION, b"A<>1", true),
+    (rows::CONDITION, b"A", false),
+    (rows::LEFT_OUT, b"A", false),
+    (rows::FOLLOWING, b"", true),
+];
+
+#[test]
+fn rows_are_read(rt: HostRuntime) {
+    for (row, text, want) in READ {
+        assert!(rt; is_read(row, text) == want, "of row {row}");
+    }
+}
+
+// A program line, one of its units, the row of that, where a step goes on after it, past the next `:`, and after a false IF,
+// and the unit at which it goes on after a fault, 0 for none.
+const LINES: [(&[u8], usize, u16, Goal, Goal, Goal, usize); 9] = [
+    (b"STOP", 0, rows::STOP, Goal::NextLine, Goal::NextLine, Goal::NextLine, 0),
+    (b"IF A=1 THEN 10", 0, rows::IF, Goal::NextLine, Goal::NextLine, Goal::NextLine, 0),
+    (b"IF A=1 THEN 10:B=2", 0, rows::IF, Goal::Unit(1), Goal::Unit(1), Goal::Unit(1), 0),
+    (b"IF A=1 THEN B=2:ELSE 200", 0, rows::IF, Goal::Unit(1), Goal::Unit(2), Goal::Line(200), 0),
+    (b"IF A=1 THEN B=2:ELSE C=3", 0, rows::IF, Goal::Unit(1), Goal::Unit(2), Goal::Unit(3), 0),
+    (b"IF A=1 THEN B=2:ELSE C=3", 2, rows::ELSE, Goal::Unit(3), Goal::NextLine, Goal::NextLine, 0),
+    (b"X=1:ERROR STOP", 0, rows::ASSIGNMENT, Goal::Unit(1), Goal::Unit(1), Goal::Unit(1), 2),
+    (b"X=1:END:ERROR STOP", 0, rows::ASSIGNMENT, Goal::Unit(1), Goal::Unit(1), Goal::Unit(1), 0),
+    (b"IF A=1 THEN X=1:ERROR Y=2", 1, rows::ASSIGNMENT, Goal::Unit(2), Goal::Unit(2), Goal::Unit(2), 3),
+];
+
+fn line_of(alloc: Global, source: &[u8]) -> Result<Atoms, Fail> {
+    match Atoms::read(alloc, Origin::Program, source) {
+        Ok(Some(line)) => Ok(line),
+        _ => Err("no line".into()),
+    }
+}
+
+fn taken_as(line: &Atoms, k: usize) -> usize {
+    match taken_fault(line, k) {
+        Some(unit) => unit,
+        None => 0,
+    }
+}
+
+fn is_of_row(line: &Atoms, k: usize, row: u16) -> bool {
+    match row_unit(line, k) {
+        Some(unit) => unit.row == row,
+        None => false,
+    }
+}
+
+#[test]
+fn what_follows(rt: HostRuntime) -> Result<(), Fail> {
+    for (source, k, row, next, past, otherwise, taken) in LINES {
+        let line = line_of(rt.alloc(), source)?;
+        assert!(rt; is_of_row(&line, k, row), "of row {row}");
+        assert!(rt; k < 255 && next_unit(&line, k) == next, "after {k}");
+        assert!(rt; past_colon(&line, k) == past, "past {k}");
+        assert!(rt; after_false(&line, k) == otherwise, "otherwise {k}");
+        assert_eq!(rt; taken_as(&line, k), taken);
+    }
+    Ok(())
 }

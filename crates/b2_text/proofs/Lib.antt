@@ -3,3 +3,4 @@ pub mod Ranges
 pub mod Positions
 pub mod Statements
 pub mod FoundOnTrees
+pub mod FoundInLines

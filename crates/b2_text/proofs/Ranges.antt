@@ -5,10 +5,10 @@ use Rattle.std.specs.declared.ops.Bound.TheVariants.{Included}
 use Rattle.std.specs.BTreeMap.Range.{range_contains, entries_between}
 use Rattle.b2_text.specs.Program.{Lines, without, without_line, is_within, first_number}
 
-at_it : (n m : ℕ) → is_eq (nat_cmp n m) ≡ true → n ≡ m
+pub at_it : (n m : ℕ) → is_eq (nat_cmp n m) ≡ true → n ≡ m
 at_it n m h = grind (arith, nat_tests)
 
-itself : (n m : ℕ) → m ≡ n → is_eq (nat_cmp n m) ≡ true
+pub itself : (n m : ℕ) → m ≡ n → is_eq (nat_cmp n m) ≡ true
 itself n m h = grind (arith, nat_tests)
 
 same_number : (n m : ℕ) → Some m ≡ Some n → m ≡ n

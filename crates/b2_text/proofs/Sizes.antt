@@ -24,7 +24,7 @@ size_of-without_line n (e ∷ es) = taken (is_eq (nat_cmp n e.0)) e es (without_
 pub cost_at-le : (n : ℕ) (es : Lines) → cost_at n es ≤ size_of es
 cost_at-le n es = let whole = size_of-without_line n es in omega (arith, whole)
 
-less : (n m : ℕ) → nat_cmp n m ≡ Less → n < m
+pub less : (n m : ℕ) → nat_cmp n m ≡ Less → n < m
 less n m h = grind (arith, nat_tests)
 
 not_at : (n m : ℕ) → n < m → is_eq (nat_cmp n m) ≡ false

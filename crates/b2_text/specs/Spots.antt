@@ -6,12 +6,16 @@ use Rattle.b2_base.specs.Byte as byte
 use Rattle.b2_base.specs.Lexical.{capped_value}
 use Rattle.b2_atom.specs.Lines.{units_of}
 use Rattle.b2_atom.specs.declared.words.TheConstants.{DEFFN, DEFFN_PRIME, DATA}
-use Rattle.b2_text.specs.Program.{Lines}
+use Rattle.b2_text.specs.Program.{Lines, line_at}
 use Rattle.b2_text.specs.declared.spots.Spot.{Spot}
 
 -- the bytes of a unit of a line, none where there is no such unit
 abbrev pub unit_of : ℕ → List ℕ → List ℕ
 unit_of k atoms = option_map_or (λ u. u.bytes) (slice_get (units_of atoms) k) []
+
+-- the bytes of the unit at a spot, none where there is no such line or no such unit
+abbrev pub unit_at : Spot → Lines → List ℕ
+unit_at spot lines = option_map_or (unit_of spot.unit) (line_at spot.line lines) []
 
 -- DEFFN' and a small number of that value
 abbrev pub is_mark : ℕ → List ℕ → Bool

@@ -43,7 +43,7 @@ fn is_data(unit: &[u8]) -> bool
 }
 
 /// The bytes of a unit, none where there is no such unit.
-fn unit_at(atoms: &Atoms, unit: u8) -> &[u8]
+fn unit_of(atoms: &Atoms, unit: u8) -> &[u8]
     ensures { result.now ≡ unit_of unit atoms.now }
 {
     match atoms.unit(usize::from(unit)) {
@@ -58,7 +58,7 @@ fn data_in(from: u8, atoms: &Atoms) -> Option<u8>
 {
     let count = atoms.units() as u8;
     for unit in from..count {
-        if is_data(unit_at(atoms, unit)) {
+        if is_data(unit_of(atoms, unit)) {
             return Some(unit);
         }
     }
@@ -93,7 +93,7 @@ pub fn first_mark(lines: &Lines, n: u8) -> Option<Spot>
     ensures { result ≡ first_opening (is_mark n) lines.now.entries }
 {
     for (number, atoms) in lines {
-        if is_mark(n, unit_at(atoms, 0)) {
+        if is_mark(n, unit_of(atoms, 0)) {
             return Some(Spot::first_of(*number));
         }
     }
@@ -105,7 +105,7 @@ pub fn first_function(lines: &Lines, name: u8) -> Option<Spot>
     ensures { result ≡ first_opening (is_function name) lines.now.entries }
 {
     for (number, line) in lines {
-        if is_function(name, unit_at(line, 0)) {
+        if is_function(name, unit_of(line, 0)) {
             return Some(Spot::first_of(*number));
         }
     }

@@ -6,7 +6,7 @@ ghost use Rattle.std.specs.Ordering.{nat_cmp};
 ghost use Rattle.std.specs.Map.Iter.{ShowsInOrder, deref_pair};
 ghost use Rattle.b2_base.specs.Lexical.{is_digit, is_letter};
 ghost use Rattle.b2_text.specs.Program.{is_within, size_of, line_at, with_line, without_line, without, number_after, first_number};
-ghost use Rattle.b2_text.specs.Spots.{is_mark, is_function, first_opening, data_from};
+ghost use Rattle.b2_text.specs.Spots.{is_mark, is_function, is_data, unit_at, first_opening, data_from};
 
 use crate::Spot;
 use crate::lines::{Lines, cost, cost_at, first_above, first_of_all, first_within, insert, within};
@@ -99,7 +99,8 @@ impl Text {
 
     /// The DEFFN' of a number in the lowest line that has one, None where no line has.
     pub fn marked(&self, n: u8) -> Option<Spot>
-        ensures { result ≡ first_opening (is_mark n) self.now.lines }
+        ensures lowest { result ≡ first_opening (is_mark n) self.now.lines }
+        ensures there { IfSome result (λ spot. is_mark n (unit_at spot self.now.lines) ≡ true) }
     {
         first_mark(&self.lines, n)
     }
@@ -107,14 +108,16 @@ impl Text {
     /// The DEFFN of a name, a letter or a digit, in the lowest line that has one, None where no line has.
     pub fn function(&self, name: u8) -> Option<Spot>
         requires { (is_letter name || is_digit name) ≡ true }
-        ensures { result ≡ first_opening (is_function name) self.now.lines }
+        ensures lowest { result ≡ first_opening (is_function name) self.now.lines }
+        ensures there { IfSome result (λ spot. is_function name (unit_at spot self.now.lines) ≡ true) }
     {
         first_function(&self.lines, name)
     }
 
     /// The first DATA at or after a spot, None where there is none.
     pub fn data_at(&self, from: Spot) -> Option<Spot>
-        ensures { result ≡ data_from from self.now.lines }
+        ensures first { result ≡ data_from from self.now.lines }
+        ensures there { IfSome result (λ spot. is_data (unit_at spot self.now.lines) ≡ true) }
     {
         first_data(&self.lines, from)
     }
