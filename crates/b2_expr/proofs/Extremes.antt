@@ -1,5 +1,6 @@
 -- The numbers of MAX and MIN after the first, by their rows.
 use Rattle.std.proofs.Common.{◌≡◌, ◌<◌, ◌≤◌, ℕ, zero, suc, length, arith, sym, Bool, true, false, ◌==◌, ◌&&◌, if◌then◌else◌, List, [], ◌∷◌, drop, refl, ap, ◌∙◌, subst, Ok, Err}
+use Rattle.std.proofs.lemmas.Bool.Decides.{nat_tests}
 use Rattle.b2_base.specs.Byte as byte
 use Rattle.b2_base.specs.Lexical.{first}
 use Rattle.b2_base.specs.declared.codes.TheConstants.{S13_SEPARATOR}
@@ -45,7 +46,7 @@ AreRows (suc (suc k)) = (row_items (further_row (suc (suc k))) ≡ longer (furth
 
 six_rows : AreRows 6
 unfolding row_items
-six_rows = (refl, refl, refl, refl, refl, refl)
+six_rows = (refl, (refl, (refl, (refl, (refl, refl)))))
 
 -- a row of one number and of those that follow it
 record Stood (n : ℕ) (k : ℕ) (t : Text) : Type 0 where
@@ -145,11 +146,7 @@ others t ok =
     (maybe_stands (start.Code byte.comma) row.NUMBERS_3 (third_at t) (stands_of row.NUMBERS_2 numbers_items t numbers_row ok).0.1.1.1) (stood 5 (third_at t) six_rows)
 
 is_comma : (t : Text) (c : ℕ) → first t ≡ c → (first t == c) ≡ true
-is_comma t c h = rw h (same c)
-  where
-    same : (n : ℕ) → (n == n) ≡ true
-    same zero = refl
-    same (suc n) = same n
+is_comma t c h = grind (arith, nat_tests)
 
 comma_at : (t : Text) → is_part row.NUMBERS_2 t ≡ true → (first (second_at t) == byte.comma) ≡ true
 comma_at t ok = is_comma (second_at t) byte.comma (stands_of row.NUMBERS_2 numbers_items t numbers_row ok).0.1.0

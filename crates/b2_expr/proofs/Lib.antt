@@ -6,4 +6,6 @@ pub mod Extremes
 pub mod Operands
 pub mod OperandKinds
 pub mod Names
+pub mod Pairs
 pub mod Texts
+pub mod Defined

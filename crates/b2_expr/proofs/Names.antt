@@ -1,5 +1,6 @@
 -- Names with subscripts or none, and a number after a comma, by their rows.
-use Rattle.std.proofs.Common.{◌≡◌, ◌<◌, ◌≤◌, ◌+◌, ℕ, suc, length, arith, sym, Bool, true, false, ◌==◌, ◌||◌, ◌&&◌, nat_lt, if◌then◌else◌, List, [], ◌∷◌, drop, take, get_or, refl, ap, ◌∙◌, subst, Ok, Err, Some, None, length-drop}
+use Rattle.std.proofs.Common.{◌≡◌, ◌<◌, ◌≤◌, ◌+◌, ℕ, suc, length, arith, sym, Bool, true, false, ◌==◌, ◌||◌, ◌&&◌, nat_lt, if◌then◌else◌, List, [], ◌∷◌, drop, take, get_or, refl, ap, ◌∙◌, subst, Ok, Err, Some, None, IfSome, length-drop}
+use Rattle.std.proofs.lemmas.Bool.Decides.{nat_tests}
 use Rattle.std.specs.declared.option.Option.{Option}
 use Rattle.std.specs.Option.{option_map_or}
 use Rattle.b2_base.specs.Byte as byte
@@ -43,8 +44,11 @@ begins : (c : ℕ) (t : Text) (b : Bool) → (first t == c) ≡ b → starts Ato
 unfolding starts
 begins c t b is = is
 
+none_there : (c : ℕ) → (0 == suc c) ≡ true → ⊥
+none_there c h = grind (arith, nat_tests)
+
 is_there : (c : ℕ) (t : Text) → (first t == suc c) ≡ true → length (drop 1 t) < length t
-is_there c [] h = cc
+is_there c [] h = absurd (none_there c h)
 is_there c (b ∷ t) h = omega arith
 
 -- a number after a comma
@@ -215,7 +219,10 @@ number_leaf_is name_kind.NumberReceiver h = refl
 number_leaf_is name_kind.AlphaReceiver h = cc
 
 pub located_subscripts : (k : NameKind) (t : Text) → is_part (name_row k) t ≡ true → maybe_part (start.Code byte.opening) row.SUBSCRIPTS (after_name k t) ≡ true
-located_subscripts k t ok = maybe_stands _ _ _ (stands_of (name_row k) (name_items k) t (name_row_items k) ok).0.1
+located_subscripts name_kind.Number t ok = maybe_stands _ _ _ (stands_of row.VARIABLE (name_items name_kind.Number) t (name_row_items name_kind.Number) ok).0.1
+located_subscripts name_kind.Alpha t ok = maybe_stands _ _ _ (stands_of row.ALPHA_VARIABLE (name_items name_kind.Alpha) t (name_row_items name_kind.Alpha) ok).0.1
+located_subscripts name_kind.NumberReceiver t ok = maybe_stands _ _ _ (stands_of row.NUMERIC_RECEIVER (name_items name_kind.NumberReceiver) t (name_row_items name_kind.NumberReceiver) ok).0.1
+located_subscripts name_kind.AlphaReceiver t ok = maybe_stands _ _ _ (stands_of row.ALPHA_RECEIVER_VARIABLE (name_items name_kind.AlphaReceiver) t (name_row_items name_kind.AlphaReceiver) ok).0.1
 
 name_tree : (k : NameKind) (t : Text) → is_part (name_row k) t ≡ true → tree_at (name_row k) t ≡ Put (Plain (name_leaf k) (leaf_bytes (name_leaf k) t)) (subscripts_tree k t)
 unfolding maybe_tree
@@ -282,3 +289,8 @@ variable_array e t ok is = variable_is e t ok true is
 
 pub variable_rest : (t : Text) → is_part row.VARIABLE t ≡ true → (first (after_name name_kind.Number t) == byte.opening) ≡ false → after_part row.VARIABLE t ≡ after_name name_kind.Number t
 variable_rest t ok is = located_rest name_kind.Number t ok ∙ no_subscripts_rest (after_name name_kind.Number t) is
+
+pub hidden_some : (e : Context) (t : Text) (found : Option Number) → is_part row.VARIABLE t ≡ true → (first (after_name name_kind.Number t) == byte.opening) ≡ false
+    → found ≡ hidden_by e.parameter (name_of false (leaf_bytes leaf.Name t)) → IfSome found (λ x. operand e kind.Variable (tree_at row.VARIABLE t) ≡ Ok x)
+hidden_some e t None ok is h = tt
+hidden_some e t (Some x) ok is h = variable_hidden e t x ok is (sym h)

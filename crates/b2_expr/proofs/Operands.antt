@@ -72,7 +72,7 @@ pub one_rest : (t : Text) → is_part row.OF_ONE t ≡ true → after_part row.O
 one_rest t ok = (stands_of row.OF_ONE one_items t one_row ok).2
 
 pub one_shorter : (t : Text) → is_part row.OF_ONE t ≡ true → length (drop 1 t) < length t
-one_shorter t ok = shorter_among word.ABS_OPEN word.SQR_OPEN t (stands_of row.OF_ONE one_items t one_row ok).0.0
+one_shorter t ok = shorter_among word.ABS_OPEN word.SQR_OPEN t refl (stands_of row.OF_ONE one_items t one_row ok).0.0
 
 -- a function of two numbers
 abbrev two_items : List Item
@@ -114,7 +114,7 @@ two_rest t ok =
     ∙ ap (drop 1) (stands_of row.TWO_NUMBERS pair_items (drop 1 t) pair_row (pair_of t ok)).2
 
 pub two_shorter : (t : Text) → is_part row.OF_TWO t ≡ true → length (drop 1 t) < length t
-two_shorter t ok = shorter_among word.ROUND_OPEN word.MOD_OPEN t (stands_of row.OF_TWO two_items t two_row ok).0.0
+two_shorter t ok = shorter_among word.ROUND_OPEN word.MOD_OPEN t refl (stands_of row.OF_TWO two_items t two_row ok).0.0
 
 pub second_shorter : (t : Text) → is_part row.OF_TWO t ≡ true → length (second_at t) < length t
 second_shorter t ok =
@@ -141,7 +141,7 @@ pub alpha_rest : (t : Text) → is_part row.OF_ALPHA t ≡ true → after_part r
 alpha_rest t ok = (stands_of row.OF_ALPHA alpha_items t alpha_row ok).2
 
 pub alpha_shorter : (t : Text) → is_part row.OF_ALPHA t ≡ true → length (drop 1 t) < length t
-alpha_shorter t ok = shorter_among word.LEN_OPEN word.NUM_OPEN t (stands_of row.OF_ALPHA alpha_items t alpha_row ok).0.0
+alpha_shorter t ok = shorter_among word.LEN_OPEN word.NUM_OPEN t refl (stands_of row.OF_ALPHA alpha_items t alpha_row ok).0.0
 
 -- the last code, the partition or the terminal
 abbrev kept_items : List Item
@@ -183,7 +183,7 @@ unfolding row_items
 call_row = refl
 
 -- the name is one byte
-one_letter : (b : Bool) → nat_lt 0 (if b then 1 else 0) ≡ true → (if b then 1 else 0) ≡ 1
+one_letter : (b : Bool) → nat_lt 0 (if b then 1 else 0) ≡ true → ◌≡◌ {A = ℕ} (if b then 1 else 0) 1
 one_letter true h = refl
 one_letter false h = cc
 
@@ -377,7 +377,7 @@ pub more_rest : (t : Text) → is_part row.OF_MORE t ≡ true → after_part row
 more_rest t ok = (stands_of row.OF_MORE more_items t more_row ok).2 ∙ ap (drop 1) (numbers_rest (drop 1 t) (numbers_of t ok))
 
 pub more_shorter : (t : Text) → is_part row.OF_MORE t ≡ true → length (drop 1 t) < length t
-more_shorter t ok = shorter_among word.MAX_OPEN word.MIN_OPEN t (stands_of row.OF_MORE more_items t more_row ok).0.0
+more_shorter t ok = shorter_among word.MAX_OPEN word.MIN_OPEN t refl (stands_of row.OF_MORE more_items t more_row ok).0.0
 
 pub rest_shorter : (t : Text) → is_part row.OF_MORE t ≡ true → length (after_part row.SUM (drop 1 t)) < length t
 rest_shorter t ok = let a = more_shorter t ok in let b = part_no_longer row.SUM (drop 1 t) in omega (arith, a, b)

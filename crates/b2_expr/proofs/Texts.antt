@@ -2,7 +2,7 @@
 use Rattle.std.proofs.Common.{◌≡◌, ◌<◌, ◌≤◌, ◌+◌, ℕ, suc, length, arith, sym, Bool, true, false, ◌==◌, if◌then◌else◌, List, [], ◌∷◌, drop, take, get_or, refl, ap, ◌∙◌, subst, Ok, Err, length-drop}
 use Rattle.b2_base.specs.Byte as byte
 use Rattle.b2_base.specs.Lexical.{first}
-use Rattle.b2_base.specs.declared.codes.TheConstants.{S10_OPEN, S11_CLOSE, S13_SEPARATOR, S18_ALPHA, S19_HEX_OR_QUOTE}
+use Rattle.b2_base.specs.declared.codes.TheConstants.{S10_OPEN, S11_CLOSE, S13_SEPARATOR, S18_ALPHA, S22_WORD}
 use Rattle.b2_atom.specs.Words.{Text}
 use Rattle.b2_atom.specs.Leaves.{leaf_width}
 use Rattle.b2_atom.specs.Tokens.Token.{Coded, Plain}
@@ -16,16 +16,15 @@ use Rattle.b2_atom.specs.declared.forms.Start.TheVariants as start
 use Rattle.b2_atom.specs.declared.forms.Leaf.TheVariants as leaf
 use Rattle.b2_atom.specs.declared.forms.Item.{Item}
 use Rattle.b2_atom.specs.declared.forms.Item.TheVariants.{Word, Sign, Typed, Part, Maybe, Many, Nest}
-use Rattle.b2_rows.specs.Rows.{is_part, tree_at, after_part, is_list, list_at, after_list}
+use Rattle.b2_rows.specs.Rows.{is_part, tree_at, after_part, is_list, list_at, after_list, Goes}
 use Rattle.b2_rows.specs.Leaves.{is_leaf, leaf_bytes}
 use Rattle.b2_rows.specs.Values.{name_of, literal_of}
 use Rattle.b2_rows.specs.Optional.{maybe_part, maybe_tree, after_maybe}
 use Rattle.b2_rows.specs.Chains.{is_operator_of, more_start}
-use Rattle.b2_rows.specs.Links.{IsLink}
 use Rattle.b2_rows.specs.declared.chains.Chain.TheVariants as chain
 use Rattle.b2_rows.proofs.Optional.{maybe_stands}
 use Rattle.b2_rows.proofs.Levels.{part_no_longer}
-use Rattle.b2_rows.proofs.Links.{link_means}
+use Rattle.b2_rows.proofs.Lists.{goes}
 use Rattle.b2_rows.proofs.EachChain as each
 use Rattle.b2_expr.specs.Answers.{TextAnswer, ◌>>=◌}
 use Rattle.b2_expr.specs.Functions.{joined_text, count_or, bytes_in, fixed}
@@ -59,18 +58,27 @@ on_operand t ok b = each.more_item chain.Alpha t ok b
 pub on_list : (t : Text) → is_list (more_start chain.Alpha) row.JOINED t ≡ true → is_operator_of chain.Alpha (first t) ≡ true → is_list (more_start chain.Alpha) row.JOINED (after_part row.ALPHA_OPERAND (drop 1 t)) ≡ true
 on_list t ok b = each.more_list chain.Alpha t ok b
 
-joins : Context → TextAnswer → Trees → Trees → TextAnswer
-joins e x more a = further_text e (x >>= (λ v. text_row e a >>= joined_text v)) more
+abbrev joined_items : List Item
+joined_items = Sign byte.ampersand S22_WORD ∷ Part row.ALPHA_OPERAND ∷ []
 
-link_text : (e : Context) (x : TextAnswer) (more : Trees) (c : ℕ) (a u : Trees) → IsLink c a u → further_text e x (In 1 u more) ≡ joins e x more a
-unfolding further_text joins
-link_text e x more c a u is = link_means (λ u. further_text e x (In 1 u more)) (λ d b. joins e x more b) (λ token b. refl) (λ k o b. refl) c a u is
+joined_row : row_items row.JOINED ≡ joined_items
+unfolding row_items
+joined_row = refl
+
+begins : (t : Text) → is_operator_of chain.Alpha (first t) ≡ true → starts Atoms (more_start chain.Alpha) t ≡ true
+unfolding starts
+begins t b = b
+
+joined_part : (t : Text) → is_list (more_start chain.Alpha) row.JOINED t ≡ true → is_operator_of chain.Alpha (first t) ≡ true → is_part row.JOINED t ≡ true
+joined_part t ok b = Goes.part (goes (more_start chain.Alpha) row.JOINED t ok (begins t b))
 
 pub on_value : (e : Context) (x : TextAnswer) (t : Text) → is_list (more_start chain.Alpha) row.JOINED t ≡ true → is_operator_of chain.Alpha (first t) ≡ true
     → further_text e x (list_at (more_start chain.Alpha) row.JOINED t)
     ≡ further_text e (x >>= (λ v. text_row e (tree_at row.ALPHA_OPERAND (drop 1 t)) >>= joined_text v)) (list_at (more_start chain.Alpha) row.JOINED (after_part row.ALPHA_OPERAND (drop 1 t)))
-unfolding joins
-on_value e x t ok b = ap (further_text e x) (each.more_tree chain.Alpha t ok b) ∙ link_text e x _ (first t) _ _ (each.more_link chain.Alpha t ok b)
+unfolding further_text
+on_value e x t ok b =
+    ap (further_text e x) (each.more_tree chain.Alpha t ok b)
+    ∙ ap (λ (a : Trees). further_text e x (In 1 a (list_at (more_start chain.Alpha) row.JOINED (after_part row.ALPHA_OPERAND (drop 1 t))))) (stands_of row.JOINED joined_items t joined_row (joined_part t ok b)).1
 
 pub on_rest : (t : Text) → is_list (more_start chain.Alpha) row.JOINED t ≡ true → is_operator_of chain.Alpha (first t) ≡ true
     → after_list (more_start chain.Alpha) row.JOINED t ≡ after_list (more_start chain.Alpha) row.JOINED (after_part row.ALPHA_OPERAND (drop 1 t))

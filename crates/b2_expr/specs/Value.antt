@@ -18,9 +18,8 @@ use Rattle.b2_rows.specs.Rows.{tree_at}
 use Rattle.b2_rows.specs.Links.{token_code, first_code}
 use Rattle.b2_rows.specs.Values.{name_of, literal_of, hex_byte_of, relation_of}
 use Rattle.b2_rows.specs.declared.leaves.Name.{Name}
-use Rattle.b2_text.specs.Program.{TextState, Lines, line_at}
-use Rattle.b2_text.specs.Spots.{unit_of, is_function, first_opening}
-use Rattle.b2_text.specs.declared.spots.Spot.{Spot}
+use Rattle.b2_text.specs.Program.{TextState}
+use Rattle.b2_text.specs.Spots.{unit_at, is_function, first_opening}
 use Rattle.b2_expr.specs.Answers.{Answer, TextAnswer, ◌>>=◌, or_code}
 use Rattle.b2_expr.specs.Functions.{whole_number, subscript, column_of, counted, of_one, of_two, extreme, of_text, place_of, count_or, number_of, bytes_in, joined_text, fixed}
 use Rattle.b2_expr.specs.Named.{Place, variable_of, variables_of, number_there, bytes_there}
@@ -222,10 +221,6 @@ unfoldable mutual
 abbrev pub located : Context → Bool → Trees → Result Place ℕ
 located s alpha (Put token more) = element s.around (name_of alpha (token_text token)) (branch_of more) (subscripts s more)
 located s alpha t = Err (if alpha then S18_ALPHA else S17_NUMERIC)
-
--- the unit at a spot of lines
-abbrev pub unit_at : Spot → Lines → Text
-unit_at spot lines = option_map_or (unit_of spot.unit) (line_at spot.line lines) []
 
 -- the tree of the function of a name, P38 where the text has none
 abbrev pub function_tree : ℕ → TextState → Result Trees ℕ

@@ -1,12 +1,12 @@
 // The values of numeric and of alpha expressions, along their bytes.
-ghost use Rattle.std.specs.Prelude.{◌≡◌, ◌≤◌, ◌∷◌, ◌||◌, ◌==◌, [], true, false, None, length, MatchResult, IfOk, IfSome, Ok, Err, option_map};
+ghost use Rattle.std.specs.Prelude.{◌≡◌, ◌≤◌, ◌∷◌, ◌||◌, ◌==◌, [], Bool, true, false, None, length, MatchResult, IfOk, IfSome, Ok, Err, option_map};
 ghost use Rattle.b2_base.specs.Byte as byte;
 ghost use Rattle.b2_base.specs.Lexical.{is_digit, is_letter};
 ghost use Rattle.b2_base.specs.Lexical as lexical;
 ghost use Rattle.b2_expr.specs.declared.named.NameKind.TheVariants as name_kind;
-ghost use Rattle.b2_base.specs.declared.codes.TheConstants.{P38_NO_DEFFN};
 ghost use Rattle.b2_dectext.specs.NumberText.{number_value};
 ghost use Rattle.b2_vars.specs.Names.{is_legal_name};
+ghost use Rattle.b2_text.specs.Spots.{first_opening, is_function, unit_at};
 ghost use Rattle.b2_atom.specs.declared.rows.TheConstants as row;
 ghost use Rattle.b2_atom.specs.declared.forms.Start.TheVariants as start;
 ghost use Rattle.b2_atom.specs.declared.forms.Leaf.TheVariants as leaf;
@@ -18,7 +18,6 @@ ghost use Rattle.b2_rows.specs.Values.{name_of};
 ghost use Rattle.b2_atom.specs.Leaves.{leaf_width};
 ghost use Rattle.b2_atom.specs.declared.words.Origin.TheVariants.{Atoms};
 ghost use Rattle.b2_rows.specs.Optional.{maybe_part, maybe_tree, after_maybe};
-ghost use Rattle.b2_expr.specs.Answers.{or_code};
 ghost use Rattle.b2_expr.specs.Functions.{joined_number, joined_text};
 ghost use Rattle.b2_expr.specs.Further.{after_further, are_further, further_tree};
 ghost use Rattle.b2_expr.specs.Levels.{are_lists, ends, has_sign, pick, rests, row_of, spans};
@@ -51,7 +50,7 @@ use b2_dec::{Bytes, Dec};
 use b2_dectext::literal;
 use b2_rows::{
     AlphaOperand, Chain, Name, Operand, alpha_name, alpha_operand_at, goes_on, hex_byte_at, is_at, is_hex_at,
-    numeric_name, operand_at, relation_at,
+    numeric_name, operand_at, relation_at, row_unit, spells_a_line,
 };
 use b2_vars::Vars;
 
@@ -252,7 +251,7 @@ fn function<'a>(s: &Scope<'_>, text: &'a [u8]) -> Result<(Dec, &'a [u8]), Code>
 
 /// What the function of a name gives for an argument: P38 where the home has none, A04 where sixteen calls are open.
 #[cycle(values)]
-#[tactic(auto, using(crate::proofs::Operands::body_part, crate::proofs::Operands::body_is, crate::proofs::Operands::body_here))]
+#[tactic(auto, using(crate::proofs::Defined::called_nowhere, crate::proofs::Defined::called_too_deep, crate::proofs::Defined::called_body, crate::proofs::Defined::body_part, crate::proofs::Defined::parameter_here))]
 fn call(s: &Scope<'_>, name: u8, argument: Dec) -> Result<Dec, Code>
     requires named { (is_letter name || is_digit name) ≡ true }
     ensures { result ≡ called (surroundings s.now.env.now) s.now.room name argument }
@@ -280,10 +279,12 @@ fn call(s: &Scope<'_>, name: u8, argument: Dec) -> Result<Dec, Code>
 }
 
 /// The unit of the DEFFN of a name.
+#[tactic(auto, using(crate::proofs::Defined::is_definition))]
 fn definition_of<'a>(env: &Env<'a>, name: u8) -> Option<&'a [u8]>
     requires named { (is_letter name || is_digit name) ≡ true }
-    ensures tree { or_code P38_NO_DEFFN (option_map (λ unit. tree_at row.DEFFN unit.now) result) ≡ function_tree name env.now.home.now }
+    ensures unit { option_map (λ unit. unit.now) result ≡ option_map (λ spot. unit_at spot env.now.home.now.lines) (first_opening (is_function name) env.now.home.now.lines) }
     ensures part { IfSome result (λ unit. is_part row.DEFFN unit.now ≡ true) }
+    ensures found { IfSome result (λ unit. is_function name unit.now ≡ true) }
 {
     let home = env.home;
     let Some(spot) = home.function(name) else {
@@ -292,8 +293,9 @@ fn definition_of<'a>(env: &Env<'a>, name: u8) -> Option<&'a [u8]>
     let Some(line) = home.line(spot.line) else {
         return None;
     };
-    match line.atoms.unit(usize::from(spot.unit)) {
-        Some(cursor) => Some(cursor.rest()),
+    spells_a_line(line.atoms);
+    match row_unit(line.atoms, usize::from(spot.unit)) {
+        Some(unit) => Some(unit.bytes),
         None => None,
     }
 }
@@ -640,22 +642,20 @@ fn quoted_at<'a>(text: &'a [u8], into: &mut Bytes) -> Result<&'a [u8], Code>
 }
 
 /// The bytes of pairs of hexadecimal digits, of which there is one at least, and what stands after them.
-#[tactic(auto, using(crate::proofs::Texts::pairs_here))]
-fn pairs_at<'a>(text: &'a [u8], into: &mut Bytes) -> Result<&'a [u8], Code>
+#[tactic(auto, using(crate::proofs::Pairs::pairs_here, crate::proofs::Pairs::pairs_list, crate::proofs::Pairs::pairs_is, crate::proofs::Pairs::pairs_rest, crate::proofs::Pairs::pair_here, crate::proofs::Pairs::pair_list, crate::proofs::Pairs::pair_is, crate::proofs::Pairs::pair_rest, crate::proofs::Pairs::pair_shorter, crate::proofs::Pairs::none_is, crate::proofs::Pairs::none_rest, crate::proofs::Pairs::pairs_room, crate::proofs::Pairs::pair_room, crate::proofs::Pairs::one_more))]
+fn pairs_at<'a>(text: &'a [u8], into: &mut Bytes) -> &'a [u8]
     requires part { is_part row.HEX_PAIRS text.now ≡ true }
     requires empty { into.old ≡ [] }
-    ensures { Appends (pairs_of (tree_at row.HEX_PAIRS text.now)) (after_part row.HEX_PAIRS text.now) into.old into.new result }
+    ensures bytes { pairs_of (tree_at row.HEX_PAIRS text.now) ≡ Ok into.new }
+    ensures rest { result.now ≡ after_part row.HEX_PAIRS text.now }
 {
     into.push(hex_byte_at(text));
     let mut left = dropped(text, 2);
     while is_hex_at(left) {
-        match join(&[hex_byte_at(left)], into) {
-            Ok(()) => {}
-            Err(code) => return Err(code),
-        }
+        into.push(hex_byte_at(left));
         left = dropped(left, 2);
     }
-    Ok(left)
+    left
 }
 
 /// HEX.
@@ -665,10 +665,7 @@ fn hex_at<'a>(text: &'a [u8], into: &mut Bytes) -> Result<&'a [u8], Code>
     ensures { Appends (hex_bytes (tree_at row.HEX text.now)) (after_part row.HEX text.now) into.old into.new result }
 {
     let mut bytes = Bytes::new();
-    let rest = match pairs_at(dropped(text, 1), &mut bytes) {
-        Ok(rest) => rest,
-        Err(code) => return Err(code),
-    };
+    let rest = pairs_at(dropped(text, 1), &mut bytes);
     match join(bytes.bytes(), into) {
         Ok(()) => Ok(dropped(rest, 1)),
         Err(code) => Err(code),
