@@ -152,6 +152,15 @@ body_part name t ok l f =
     let d : IsDefinition name t = (ok, l, f) in
     subst (λ (u : Text). is_part row.SUM u ≡ true) (after_name name t d) (stands_of row.FUNCTION_BODY body_items (drop 1 t) body_row (body_at name t d)).0.1.1.1.1.1.0
 
+pub body_is : (t u : Text) (n : ℕ) → u ≡ drop 3 t → n ≡ leaf_width Atoms leaf.Name u → drop (n + 2) u ≡ body_of t
+body_is t u n is_u is_n = ap (λ (k : ℕ). drop (k + 2) u) is_n ∙ ap (λ (v : Text). drop (leaf_width Atoms leaf.Name v + 2) v) is_u
+
+pub length_after : (t u v : Text) (n : ℕ) → u ≡ drop 3 t → v ≡ drop n u → length t ≤ 255 → length v ≤ 255
+length_after t u v n is_u is_v short =
+    let a : length v ≡ length (drop n u) = ap length is_v in
+    let b : length u ≡ length (drop 3 t) = ap length is_u in
+    omega (arith, a, b, short, length-drop n u, length-drop 3 t)
+
 deffn_tree : (name : ℕ) (t : Text) → IsDefinition name t → tree_at row.DEFFN t ≡ Put (Coded word.DEFFN) (In 0 (tree_at row.FUNCTION_BODY (drop 1 t)) Done)
 deffn_tree name t d =
     (stands_of row.DEFFN deffn_items t deffn_row d.0).1

@@ -8,6 +8,7 @@ use Rattle.b2_base.specs.Lexical.{first, is_digit, is_letter}
 use Rattle.b2_base.specs.declared.codes.TheConstants.{S10_OPEN, S11_CLOSE, S13_SEPARATOR, S17_NUMERIC, S18_ALPHA, S20_VARIABLE}
 use Rattle.b2_dec.specs.Number.{Number}
 use Rattle.b2_vars.specs.Names.{is_legal_name}
+use Rattle.b2_vars.specs.declared.name.Var.{Var}
 use Rattle.b2_atom.specs.Words.{Text}
 use Rattle.b2_atom.specs.Leaves.{leaf_width}
 use Rattle.b2_atom.specs.Tokens.Token.{Coded, Plain}
@@ -294,3 +295,10 @@ pub hidden_some : (e : Context) (t : Text) (found : Option Number) → is_part r
     → found ≡ hidden_by e.parameter (name_of false (leaf_bytes leaf.Name t)) → IfSome found (λ x. operand e kind.Variable (tree_at row.VARIABLE t) ≡ Ok x)
 hidden_some e t None ok is h = tt
 hidden_some e t (Some x) ok is h = variable_hidden e t x ok is (sym h)
+
+-- the variable of a name is legal, and alpha where its kind is
+pub is_legal : (name : Name) (array : Bool) (var : Var) → var ≡ variable_of name array → ((b : Bool) → is_legal_name (variable_of name b) ≡ true) → is_legal_name var ≡ true
+is_legal name array var is legal = ap is_legal_name is ∙ legal array
+
+pub is_alpha : (k : NameKind) (name : Name) (array : Bool) (var : Var) (bytes : Text) → var ≡ variable_of name array → name ≡ name_of (is_alpha_kind k) bytes → var.alpha ≡ is_alpha_kind k
+is_alpha k name array var bytes is is_name = ap (λ (v : Var). v.alpha) is ∙ ap (λ (n : Name). n.alpha) is_name

@@ -13,7 +13,7 @@ use Rattle.b2_rows.specs.declared.operands.AlphaOperand.{AlphaOperand}
 use Rattle.b2_rows.specs.declared.operands.AlphaOperand.TheVariants as alpha_kind
 use Rattle.b2_rows.proofs.Choices.{operand_stands, alpha_stands}
 use Rattle.b2_expr.specs.Scope.{Context}
-use Rattle.b2_expr.specs.Value.{value, choice, operand, text_row, text_choice, text_operand}
+use Rattle.b2_expr.specs.Value.{value, choice, operand, text_row, text_choice, text_operand, literal_number, kept_value, literal_bytes, hex_bytes}
 use Rattle.b2_expr.specs.declared.operators.Level.TheVariants as level
 
 last_choice : (e : Context) (a : Trees) → choice e [] a ≡ operand e kind.Variable a
@@ -59,7 +59,8 @@ pub text_operand_gives : (e : Context) (k : AlphaOperand) (t : Text) → is_part
     → text_row e (tree_at row.ALPHA_OPERAND t) ≡ text_operand e k (tree_at (alpha_row k) t)
 text_operand_gives e k t ok is = ap (text_row e) (ReadAs.tree (alpha_stands k t ok is)) ∙ wrapped_text e k (tree_at (alpha_row k) t)
 
-pub number_gives : (e : Context) (t : Text) → is_part row.OPERAND t ≡ true → operand_of (first t) ≡ kind.Number → value e level.Operand (tree_at row.OPERAND t) ≡ operand e kind.Number (tree_at row.NUMBER t)
+pub number_gives : (e : Context) (t : Text) → is_part row.OPERAND t ≡ true → operand_of (first t) ≡ kind.Number → value e level.Operand (tree_at row.OPERAND t) ≡ literal_number (tree_at row.NUMBER t)
+unfolding operand
 number_gives e t ok is = operand_gives e kind.Number t ok is
 
 pub parentheses_gives : (e : Context) (t : Text) → is_part row.OPERAND t ≡ true → operand_of (first t) ≡ kind.Parentheses → value e level.Operand (tree_at row.OPERAND t) ≡ operand e kind.Parentheses (tree_at row.PARENTHESES t)
@@ -86,19 +87,22 @@ position_gives e t ok is = operand_gives e kind.Position t ok is
 pub value_gives : (e : Context) (t : Text) → is_part row.OPERAND t ≡ true → operand_of (first t) ≡ kind.Value → value e level.Operand (tree_at row.OPERAND t) ≡ operand e kind.Value (tree_at row.VALUE t)
 value_gives e t ok is = operand_gives e kind.Value t ok is
 
-pub kept_number_gives : (e : Context) (t : Text) → is_part row.OPERAND t ≡ true → operand_of (first t) ≡ kind.KeptNumber → value e level.Operand (tree_at row.OPERAND t) ≡ operand e kind.KeptNumber (tree_at row.KEPT_NUMBER t)
+pub kept_number_gives : (e : Context) (t : Text) → is_part row.OPERAND t ≡ true → operand_of (first t) ≡ kind.KeptNumber → value e level.Operand (tree_at row.OPERAND t) ≡ kept_value e.around (tree_at row.KEPT_NUMBER t)
+unfolding operand
 kept_number_gives e t ok is = operand_gives e kind.KeptNumber t ok is
 
 pub variable_gives : (e : Context) (t : Text) → is_part row.OPERAND t ≡ true → operand_of (first t) ≡ kind.Variable → value e level.Operand (tree_at row.OPERAND t) ≡ operand e kind.Variable (tree_at row.VARIABLE t)
 variable_gives e t ok is = operand_gives e kind.Variable t ok is
 
-pub literal_gives : (e : Context) (t : Text) → is_part row.ALPHA_OPERAND t ≡ true → alpha_operand_of (first t) ≡ alpha_kind.Literal → text_row e (tree_at row.ALPHA_OPERAND t) ≡ text_operand e alpha_kind.Literal (tree_at row.LITERAL t)
+pub literal_gives : (e : Context) (t : Text) → is_part row.ALPHA_OPERAND t ≡ true → alpha_operand_of (first t) ≡ alpha_kind.Literal → text_row e (tree_at row.ALPHA_OPERAND t) ≡ literal_bytes (tree_at row.LITERAL t)
+unfolding text_operand
 literal_gives e t ok is = text_operand_gives e alpha_kind.Literal t ok is
 
 pub string_part_gives : (e : Context) (t : Text) → is_part row.ALPHA_OPERAND t ≡ true → alpha_operand_of (first t) ≡ alpha_kind.StringPart → text_row e (tree_at row.ALPHA_OPERAND t) ≡ text_operand e alpha_kind.StringPart (tree_at row.STRING_PART t)
 string_part_gives e t ok is = text_operand_gives e alpha_kind.StringPart t ok is
 
-pub hex_gives : (e : Context) (t : Text) → is_part row.ALPHA_OPERAND t ≡ true → alpha_operand_of (first t) ≡ alpha_kind.Hex → text_row e (tree_at row.ALPHA_OPERAND t) ≡ text_operand e alpha_kind.Hex (tree_at row.HEX t)
+pub hex_gives : (e : Context) (t : Text) → is_part row.ALPHA_OPERAND t ≡ true → alpha_operand_of (first t) ≡ alpha_kind.Hex → text_row e (tree_at row.ALPHA_OPERAND t) ≡ hex_bytes (tree_at row.HEX t)
+unfolding text_operand
 hex_gives e t ok is = text_operand_gives e alpha_kind.Hex t ok is
 
 pub binary_gives : (e : Context) (t : Text) → is_part row.ALPHA_OPERAND t ≡ true → alpha_operand_of (first t) ≡ alpha_kind.Binary → text_row e (tree_at row.ALPHA_OPERAND t) ≡ text_operand e alpha_kind.Binary (tree_at row.BINARY t)

@@ -1,8 +1,9 @@
 -- Alpha expressions and their operands, by their rows.
-use Rattle.std.proofs.Common.{◌≡◌, ◌<◌, ◌≤◌, ◌+◌, ℕ, suc, length, arith, sym, Bool, true, false, ◌==◌, if◌then◌else◌, List, [], ◌∷◌, drop, take, get_or, refl, ap, ◌∙◌, subst, Ok, Err, length-drop}
+use Rattle.std.proofs.Common.{◌≡◌, ◌<◌, ◌≤◌, ◌+◌, ℕ, zero, suc, length, arith, sym, Bool, true, false, ◌==◌, if◌then◌else◌, List, [], ◌∷◌, drop, take, get_or, refl, ap, ◌∙◌, subst, Ok, Err, length-drop}
 use Rattle.b2_base.specs.Byte as byte
 use Rattle.b2_base.specs.Lexical.{first}
 use Rattle.b2_base.specs.declared.codes.TheConstants.{S10_OPEN, S11_CLOSE, S13_SEPARATOR, S18_ALPHA, S22_WORD}
+use Rattle.b2_alpha.specs.Values.{value_of}
 use Rattle.b2_atom.specs.Words.{Text}
 use Rattle.b2_atom.specs.Leaves.{leaf_width}
 use Rattle.b2_atom.specs.Tokens.Token.{Coded, Plain}
@@ -28,7 +29,7 @@ use Rattle.b2_rows.proofs.Lists.{goes}
 use Rattle.b2_rows.proofs.EachChain as each
 use Rattle.b2_expr.specs.Answers.{TextAnswer, ◌>>=◌}
 use Rattle.b2_expr.specs.Functions.{joined_text, count_or, bytes_in, fixed}
-use Rattle.b2_expr.specs.Named.{name_row, is_alpha_kind, bytes_there}
+use Rattle.b2_expr.specs.Named.{Place, name_row, is_alpha_kind, bytes_there}
 use Rattle.b2_expr.specs.Scope.{Context}
 use Rattle.b2_expr.specs.Value.{value, text, further_text, text_row, text_operand, second, located, part_of, text_of_place, literal_bytes, hex_bytes, pairs_of}
 use Rattle.b2_rows.specs.declared.operands.AlphaOperand.TheVariants as alpha_kind
@@ -251,3 +252,17 @@ unfolding text_operand
 variable_text e Done = refl
 variable_text e (Put token more) = refl
 variable_text e (In n a more) = refl
+
+taken_again : (n : ℕ) (bytes : List ℕ) → take (length (take n bytes)) bytes ≡ take n bytes
+taken_again zero bytes = refl
+taken_again (suc n) [] = refl
+taken_again (suc n) (b ∷ bytes) = ap (λ (t : List ℕ). b ∷ t) (taken_again n bytes)
+
+value_taken : (bytes : List ℕ) → take (length (value_of bytes)) bytes ≡ value_of bytes
+value_taken bytes = taken_again _ bytes
+
+pub text_there : (e : Context) (a : Trees) (p : Place) (bytes part old : List ℕ) (n : ℕ) → located e true a ≡ Ok p → bytes_there p ≡ Ok bytes → n ≡ length (value_of bytes) → part ≡ take n bytes
+    → (text_operand e alpha_kind.Variable a >>= joined_text old) ≡ joined_text old part
+text_there e a p bytes part old n is_p is_b is_n is_part =
+    ap (λ (x : TextAnswer). x >>= joined_text old) (variable_text e a ∙ ap text_of_place is_p ∙ ap (λ (x : TextAnswer). x >>= (λ b. Ok (value_of b))) is_b)
+    ∙ ap (joined_text old) (sym (is_part ∙ ap (λ (k : ℕ). take k bytes) is_n ∙ value_taken bytes))

@@ -10,17 +10,17 @@ use Rattle.b2_atom.specs.declared.rows.TheConstants as row
 use Rattle.b2_rows.specs.Rows.{is_part, tree_at, after_part}
 
 -- whether numbers stand at a text as long as commas do, at most k of them
-abbrev pub are_further : ℕ → Text → Bool
+unfoldable pub are_further : ℕ → Text → Bool
 are_further zero t = true
 are_further (suc k) t = if first t == byte.comma then is_part row.SUM (drop 1 t) && are_further k (after_part row.SUM (drop 1 t)) else true
 
 -- their tree
-abbrev pub further_tree : ℕ → Text → Trees
+unfoldable pub further_tree : ℕ → Text → Trees
 further_tree zero t = Done
 further_tree (suc k) t =
     if first t == byte.comma then Put (Coded byte.comma) (In 2 (tree_at row.SUM (drop 1 t)) (further_tree k (after_part row.SUM (drop 1 t)))) else Done
 
 -- what is left after them
-abbrev pub after_further : ℕ → Text → Text
+unfoldable pub after_further : ℕ → Text → Text
 after_further zero t = t
 after_further (suc k) t = if first t == byte.comma then after_further k (after_part row.SUM (drop 1 t)) else t

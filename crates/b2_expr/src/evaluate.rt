@@ -285,6 +285,7 @@ fn definition_of<'a>(env: &Env<'a>, name: u8) -> Option<&'a [u8]>
     ensures unit { option_map (λ unit. unit.now) result ≡ option_map (λ spot. unit_at spot env.now.home.now.lines) (first_opening (is_function name) env.now.home.now.lines) }
     ensures part { IfSome result (λ unit. is_part row.DEFFN unit.now ≡ true) }
     ensures found { IfSome result (λ unit. is_function name unit.now ≡ true) }
+    ensures short { IfSome result (λ unit. length unit.now ≤ 255) }
 {
     let home = env.home;
     let Some(spot) = home.function(name) else {
@@ -340,7 +341,7 @@ fn of_two_at<'a>(s: &Scope<'_>, text: &'a [u8]) -> Result<(Dec, &'a [u8]), Code>
 
 /// MAX or MIN.
 #[cycle(values)]
-#[tactic(auto, using(crate::proofs::Operands::more_first, crate::proofs::Operands::more_further, crate::proofs::Operands::more_is, crate::proofs::Operands::more_rest, crate::proofs::Operands::more_shorter, crate::proofs::Operands::rest_shorter))]
+#[tactic(auto, using(crate::proofs::Operands::more_first, crate::proofs::Operands::more_further, crate::proofs::Operands::more_is, crate::proofs::Operands::more_rest, crate::proofs::Operands::more_shorter, crate::proofs::Operands::rest_shorter, crate::proofs::Extremes::refused))]
 fn of_more_at<'a>(s: &Scope<'_>, text: &'a [u8]) -> Result<(Dec, &'a [u8]), Code>
     requires part { is_part row.OF_MORE text.now ≡ true }
     ensures { Gives (meaning.operand (context s.now) kind_is.OfMore (tree_at row.OF_MORE text.now)) (after_part row.OF_MORE text.now) result }
@@ -369,7 +370,7 @@ fn further_numbers<'a>(
 {
     let mut number = start;
     let mut left = text;
-    for _ in 0..7 {
+    for _ in 0..7usize {
         if !is_at(b',', left) {
             return Ok((number, left));
         }
@@ -762,7 +763,7 @@ fn join_number(number: Dec, count: u8, into: &mut Bytes) -> Result<(), Code>
 
 /// An alpha variable: its bytes but the blanks at their end.
 #[cycle(values)]
-#[tactic(auto, using(crate::proofs::Texts::variable_text))]
+#[tactic(auto, using(crate::proofs::Texts::variable_text, crate::proofs::Texts::text_there))]
 fn alpha_variable<'a>(s: &Scope<'_>, text: &'a [u8], into: &mut Bytes) -> Result<&'a [u8], Code>
     requires part { is_part row.ALPHA_VARIABLE text.now ≡ true }
     ensures { Appends (meaning.text_operand (context s.now) alpha_kind_is.Variable (tree_at row.ALPHA_VARIABLE text.now)) (after_part row.ALPHA_VARIABLE text.now) into.old into.new result }

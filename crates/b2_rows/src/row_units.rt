@@ -1,5 +1,5 @@
 // The units of a line with their rows, and whether a row is read at a text.
-ghost use Rattle.std.specs.Prelude.{◌≡◌, ◌<◌, ◌+◌, ◌==◌, true, length, slice_get, IfSome};
+ghost use Rattle.std.specs.Prelude.{◌≡◌, ◌≤◌, ◌<◌, ◌+◌, ◌==◌, true, length, slice_get, IfSome};
 ghost use Rattle.std.specs.Option.{option_map};
 ghost use Rattle.b2_atom.specs.Lines.{is_line, units_of};
 ghost use Rattle.b2_rows.specs.Rows.{is_part, tree_at};
@@ -43,6 +43,7 @@ pub fn row_unit(line: &Atoms, k: usize) -> Option<RowUnit<'_>>
     ensures whole { IfSome result (λ u. IsRow u.row u.bytes.now (tree_at u.row u.bytes.now)) }
     ensures last { IfSome result (λ u. u.is_last ≡ (k + 1 == length (units_of line.now))) }
     ensures few { IfSome result (λ u. k < 255) }
+    ensures short { IfSome result (λ u. length u.bytes.now ≤ 255) }
 {
     spells_a_line(line);
     match line.find_unit(k) {
