@@ -9,3 +9,4 @@ pub mod Names
 pub mod Pairs
 pub mod Texts
 pub mod Defined
+pub mod Comparisons
