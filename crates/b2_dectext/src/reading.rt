@@ -180,6 +180,7 @@ pub fn literal(text: &[u8]) -> Option<(usize, Result<Dec, Code>)>
 #[tactic(auto, unfolding(crate::specs::NumberText::spaced_number_len))]
 pub fn num(text: &[u8]) -> usize
     ensures value { result ≡ spaced_number_len text.now }
+    ensures within { result ≤ length text.now }
     ensures longest { IsLongestSpaced text.now result }
 {
     let front = spaces_len(text);
