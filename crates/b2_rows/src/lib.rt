@@ -34,4 +34,4 @@ pub use leaves::{
     literal_at, local_name, numeric_name, relation_at, slot_at, small_at,
 };
 pub use operands::{AlphaOperand, Operand, alpha_operand_at, operand_at};
-pub use row_units::{RowUnit, is_read, row_unit};
+pub use row_units::{RowUnit, is_read, row_unit, spells_a_line};
