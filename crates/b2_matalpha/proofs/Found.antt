@@ -1,0 +1,61 @@
+-- The places of a search, from an index on.
+use Rattle.std.proofs.Common.{◌≡◌, ◌<◌, ◌≤◌, ◌+◌, ◌-◌, ◌∙◌, ℕ, zero, suc, Bool, true, false, cond, if◌then◌else◌, List, [], ◌∷◌, ◌++◌, length, get_or, map, refl, sym, ap, arith}
+use Rattle.std.specs.List.{filter, range_with_len}
+use Rattle.std.specs.List.Sorted.{IsStrictlyIncreasing}
+use Rattle.std.proofs.lemmas.List.{get_or-map, length-map, map-id}
+use Rattle.std.proofs.lemmas.List.FromFn.{length-range_with_len, get_or-range_with_len, map-range_with_len_more}
+use Rattle.std.proofs.lemmas.List.Kept.{IsStrictlyIncreasing-filter}
+use Rattle.b2_alpha.specs.declared.relation.Rel.{Rel}
+use Rattle.b2_matalpha.specs.Searches.{is_found, found_places}
+
+-- the places that are found from an index on
+abbrev pub found_from : List ℕ → Rel → List ℕ → ℕ → ℕ → List ℕ
+found_from of rel want step index = map (λ k. k + 1) (filter (is_found of rel want step) (range_with_len index (length of - index)))
+
+shown : (t : Bool) (index : ℕ) (rest : List ℕ) → map (λ k. k + 1) (cond t (index ∷ rest) rest) ≡ (if t then (index + 1) ∷ map (λ k. k + 1) rest else map (λ k. k + 1) rest)
+shown true index rest = refl
+shown false index rest = refl
+
+-- the index is the first, or it isn't found
+pub found_here : (of : List ℕ) (rel : Rel) (want : List ℕ) (step index : ℕ) → index < length of
+    → found_from of rel want step index ≡ (if is_found of rel want step index then (index + 1) ∷ found_from of rel want step (index + 1) else found_from of rel want step (index + 1))
+found_here of rel want step index low =
+    let longer : length of - index ≡ suc (length of - (index + 1)) = omega arith in
+    ap (λ (n : ℕ). map (λ k. k + 1) (filter (is_found of rel want step) (range_with_len index n))) longer
+    ∙ shown (is_found of rel want step index) index (filter (is_found of rel want step) (range_with_len (index + 1) (length of - (index + 1))))
+
+pub found_if : (of : List ℕ) (rel : Rel) (want : List ℕ) (step index : ℕ) → index < length of → is_found of rel want step index ≡ true
+    → found_from of rel want step index ≡ (index + 1) ∷ found_from of rel want step (index + 1)
+found_if of rel want step index low test =
+    found_here of rel want step index low
+    ∙ ap (λ (t : Bool). if t then (index + 1) ∷ found_from of rel want step (index + 1) else found_from of rel want step (index + 1)) test
+
+pub not_found_if : (of : List ℕ) (rel : Rel) (want : List ℕ) (step index : ℕ) → index < length of → is_found of rel want step index ≡ false
+    → found_from of rel want step index ≡ found_from of rel want step (index + 1)
+not_found_if of rel want step index low test =
+    found_here of rel want step index low
+    ∙ ap (λ (t : Bool). if t then (index + 1) ∷ found_from of rel want step (index + 1) else found_from of rel want step (index + 1)) test
+
+pub none_left : (of : List ℕ) (rel : Rel) (want : List ℕ) (step index : ℕ) → length of ≤ index → found_from of rel want step index ≡ []
+none_left of rel want step index past =
+    let none : length of - index ≡ 0 = omega arith in
+    ap (λ (n : ℕ). map (λ k. k + 1) (filter (is_found of rel want step) (range_with_len index n))) none
+
+range_rises : (a n : ℕ) → IsStrictlyIncreasing (range_with_len a n)
+range_rises a n k low =
+    let len = length-range_with_len a n in
+    omega (arith, get_or-range_with_len a n k 0 (omega arith), get_or-range_with_len a n (k + 1) 0 (omega arith))
+
+rises_by_one : (xs : List ℕ) → IsStrictlyIncreasing xs → IsStrictlyIncreasing (map (λ k. k + 1) xs)
+rises_by_one xs up k low =
+    let len = length-map xs (λ (n : ℕ). n + 1) in
+    omega (arith, up k (omega arith), get_or-map (λ (n : ℕ). n + 1) xs k 0 0 (omega arith), get_or-map (λ (n : ℕ). n + 1) xs (k + 1) 0 0 (omega arith))
+
+pub found_rise : (of : List ℕ) (rel : Rel) (want : List ℕ) (step : ℕ) → IsStrictlyIncreasing (found_places of rel want step)
+found_rise of rel want step =
+    rises_by_one (filter (is_found of rel want step) (range_with_len 0 (length of))) (IsStrictlyIncreasing-filter (is_found of rel want step) (range_with_len 0 (length of)) (range_rises 0 (length of)))
+
+-- one number more
+pub range_more : (a n j : ℕ) → a + n ≡ j → range_with_len a (n + 1) ≡ range_with_len a n ++ j ∷ []
+range_more a n j next =
+    sym (map-id (range_with_len a (n + 1))) ∙ map-range_with_len_more (λ (k : ℕ). k) a n j next ∙ ap (λ (l : List ℕ). l ++ j ∷ []) (map-id (range_with_len a n))
