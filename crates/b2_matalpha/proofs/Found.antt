@@ -1,12 +1,15 @@
 -- The places of a search, from an index on.
-use Rattle.std.proofs.Common.{◌≡◌, ◌<◌, ◌≤◌, ◌+◌, ◌-◌, ◌∙◌, ℕ, zero, suc, Bool, true, false, cond, if◌then◌else◌, List, [], ◌∷◌, ◌++◌, length, get_or, map, refl, sym, ap, arith}
-use Rattle.std.specs.List.{filter, range_with_len}
+use Rattle.std.proofs.Common.{◌≡◌, ◌<◌, ◌≤◌, ◌+◌, ◌-◌, ◌∙◌, ℕ, zero, suc, Bool, true, false, cond, if◌then◌else◌, List, [], ◌∷◌, ◌++◌, length, get_or, map, refl, sym, ap, subst, arith, inl, inr, ⊎_elim}
+use Rattle.std.specs.List.{All, AllByRecursion, Contains, filter, range_with_len}
 use Rattle.std.specs.List.Sorted.{IsStrictlyIncreasing}
 use Rattle.std.proofs.lemmas.List.{get_or-map, length-map, map-id}
 use Rattle.std.proofs.lemmas.List.FromFn.{length-range_with_len, get_or-range_with_len, map-range_with_len_more}
+use Rattle.std.proofs.lemmas.Bool.{cases_lt}
+use Rattle.std.proofs.lemmas.List.Elements.{All-from_recursion}
 use Rattle.std.proofs.lemmas.List.Kept.{IsStrictlyIncreasing-filter}
 use Rattle.b2_alpha.specs.declared.relation.Rel.{Rel}
 use Rattle.b2_matalpha.specs.Searches.{is_found, found_places}
+use Rattle.b2_matalpha.proofs.Orders.{Has, contains_from}
 
 -- the places that are found from an index on
 abbrev pub found_from : List ℕ → Rel → List ℕ → ℕ → ℕ → List ℕ
@@ -59,3 +62,39 @@ found_rise of rel want step =
 pub range_more : (a n j : ℕ) → a + n ≡ j → range_with_len a (n + 1) ≡ range_with_len a n ++ j ∷ []
 range_more a n j next =
     sym (map-id (range_with_len a (n + 1))) ∙ map-range_with_len_more (λ (k : ℕ). k) a n j next ∙ ap (λ (l : List ℕ). l ++ j ∷ []) (map-id (range_with_len a n))
+
+-- each place that is found is one that matches
+one_more : (p : ℕ → Bool) (x : ℕ) (t : Bool) (rest : List ℕ) → p x ≡ t → AllByRecursion (λ k. (0 < k) × (p (k - 1) ≡ true)) (map (λ k. k + 1) rest) → AllByRecursion (λ k. (0 < k) × (p (k - 1) ≡ true)) (map (λ k. k + 1) (cond t (x ∷ rest) rest))
+one_more p x true rest test others = let back : x + 1 - 1 ≡ x = omega arith in ((omega arith, ap p back ∙ test), others)
+one_more p x false rest test others = others
+
+each_matches : (p : ℕ → Bool) (xs : List ℕ) → AllByRecursion (λ k. (0 < k) × (p (k - 1) ≡ true)) (map (λ k. k + 1) (filter p xs))
+each_matches p [] = tt
+each_matches p (x ∷ xs) = one_more p x (p x) (filter p xs) refl (each_matches p xs)
+
+pub found_match : (of : List ℕ) (rel : Rel) (want : List ℕ) (step : ℕ) → All (λ place. (0 < place) × (is_found of rel want step (place - 1) ≡ true)) (found_places of rel want step)
+found_match of rel want step =
+    All-from_recursion (λ place. (0 < place) × (is_found of rel want step (place - 1) ≡ true)) (found_places of rel want step) (each_matches (is_found of rel want step) (range_with_len 0 (length of)))
+
+-- each place that matches is found
+first_has : (x : ℕ) (t : Bool) (rest : List ℕ) → t ≡ true → Has (map (λ k. k + 1) (cond t (x ∷ rest) rest)) (x + 1)
+first_has x true rest test = inl refl
+first_has x false rest test = cc
+
+rest_has : (x z : ℕ) (t : Bool) (rest : List ℕ) → Has (map (λ k. k + 1) rest) z → Has (map (λ k. k + 1) (cond t (x ∷ rest) rest)) z
+rest_has x z true rest has = inr has
+rest_has x z false rest has = has
+
+match_has : (p : ℕ → Bool) (a n index : ℕ) → a ≤ index → index < a + n → p index ≡ true → Has (map (λ k. k + 1) (filter p (range_with_len a n))) (index + 1)
+match_has p a zero index low high test = absurd (omega arith)
+match_has p a (suc n) index low high test =
+    ⊎_elim
+    (λ (later : a < index). rest_has a (index + 1) (p a) (filter p (range_with_len (a + 1) n)) (match_has p (a + 1) n index (omega arith) (omega arith) test))
+    (λ (here : index ≤ a).
+    let same : a ≡ index = omega arith in
+    subst (λ (i : ℕ). Has (map (λ k. k + 1) (filter p (range_with_len a (suc n)))) (i + 1)) same (first_has a (p a) (filter p (range_with_len (a + 1) n)) (ap p same ∙ test)))
+    (cases_lt a index)
+
+pub match_found : (of : List ℕ) (rel : Rel) (want : List ℕ) (step index : ℕ) → index < length of → is_found of rel want step index ≡ true → Contains (found_places of rel want step) (index + 1)
+match_found of rel want step index low test =
+    contains_from (found_places of rel want step) (index + 1) (match_has (is_found of rel want step) 0 (length of) index (omega arith) (omega arith) test)
