@@ -1,16 +1,16 @@
 -- A move, one element further, and how it ends.
-use Rattle.std.proofs.Common.{◌≡◌, ◌≢◌, ◌<◌, ◌≤◌, ◌+◌, ◌-◌, ◌*◌, ◌/◌, ◌==◌, ◌∙◌, ℕ, zero, suc, min, Bool, true, false, cond, nat_le, if◌then◌else◌, List, [], ◌∷◌, ◌++◌, length, get_or, take, drop, replicate, Result, Ok, Err, refl, sym, ap, subst, arith, append_assoc, zero-mul, mul-le-mul_left, eq-eqb, ne_eqb, ⊎_elim}
-use Rattle.std.specs.List.{flat_map, take_while}
+use Rattle.std.proofs.Common.{◌≡◌, ◌≢◌, ◌<◌, ◌≤◌, ◌+◌, ◌-◌, ◌*◌, ◌/◌, ◌==◌, ◌∙◌, ℕ, zero, suc, min, Bool, false, cond, nat_le, if◌then◌else◌, List, [], ◌∷◌, ◌++◌, length, get_or, take, drop, replicate, Result, Ok, Err, refl, sym, ap, arith, append_assoc, zero-mul, mul-le-mul_left, eq-eqb, ne_eqb, ⊎_elim}
+use Rattle.std.specs.List.{flat_map}
 use Rattle.std.proofs.lemmas.Bool.{le-leb, cases_eq, cases_lt}
 use Rattle.std.proofs.lemmas.Bool.Decides.{nat_tests}
-use Rattle.std.proofs.lemmas.List.{take_at, drop_at, take-append-drop, drop-drop, drop_more, drop_all, length-append, length-take, length-take-le, length-drop, length-replicate}
+use Rattle.std.proofs.lemmas.List.{take_at, drop_at, take-append-drop, drop-drop, drop_more, length-append, length-take, length-take-le, length-drop, length-replicate}
 use Rattle.std.proofs.lemmas.List.Sums.{take_while-cons}
 use Rattle.b2_base.specs.Byte as byte
 use Rattle.b2_base.specs.declared.codes.TheConstants.{X76_LOCATOR_OR_FIELD}
 use Rattle.b2_alpha.specs.Values.{padded}
 use Rattle.b2_matalpha.specs.Elements.{element_at, element_count}
 use Rattle.b2_matalpha.specs.Locators.{places_read}
-use Rattle.b2_matalpha.specs.Moves.{wanted_places, moved_places, after_move, move_answer}
+use Rattle.b2_matalpha.specs.Moves.{moved_places, after_move, move_answer}
 
 -- the places that are wanted after the first k
 abbrev pub left_from : List ℕ → ℕ → ℕ → List ℕ

@@ -1,5 +1,5 @@
 -- The elements that a move takes, and what it leaves.
-use Rattle.std.specs.Prelude.{ℕ, ◌*◌, ◌/◌, ◌==◌, nat_le, Bool, List, ◌++◌, length, take, drop, if◌then◌else◌, Result, Ok, Err}
+use Rattle.std.specs.Prelude.{ℕ, ◌*◌, ◌/◌, ◌==◌, nat_le, List, ◌++◌, length, take, drop, if◌then◌else◌, Result, Ok, Err}
 use Rattle.std.specs.List.{flat_map, take_while}
 use Rattle.b2_base.specs.declared.codes.TheConstants.{X76_LOCATOR_OR_FIELD}
 use Rattle.b2_alpha.specs.Values.{padded}

@@ -1,5 +1,5 @@
 -- The places of a search.
-use Rattle.std.specs.Prelude.{ℕ, suc, ◌+◌, ◌%◌, ◌==◌, ◌&&◌, nat_le, Bool, List, length, take, drop, map}
+use Rattle.std.specs.Prelude.{ℕ, ◌+◌, ◌%◌, ◌==◌, ◌&&◌, nat_le, Bool, List, length, take, drop, map}
 use Rattle.std.specs.List.{filter, range_with_len}
 use Rattle.b2_alpha.specs.declared.relation.Rel.{Rel}
 use Rattle.b2_alpha.specs.Relations.{holds, order_of}

@@ -17,7 +17,13 @@ fn after_search(of: &[u8], rel: Rel, want: &[u8], step: usize, room: usize) -> [
 #[test]
 fn searches_in_steps(rt: HostRuntime) -> Result<(), Fail> {
     for (of, want, step, room, into) in [
-        (b"ABCA".as_slice(), b"A".as_slice(), 1, 12, b"\0\x01\0\x04\0\0......"),
+        (
+            b"ABCA".as_slice(),
+            b"A".as_slice(),
+            1,
+            12,
+            b"\0\x01\0\x04\0\0......",
+        ),
         (b"ABABAB", b"A", 2, 12, b"\0\x01\0\x03\0\x05\0\0...."),
         (b"ABABAB", b"A", 3, 12, b"\0\x01\0\0........"),
         (b"ABABAB", b"B", 2, 12, b"\0\0.........."),

@@ -1,4 +1,4 @@
-use Rattle.std.proofs.Common.{◌≡◌, ◌+◌, ◌/◌, ◌%◌, ◌≤◌, ℕ, suc, length, set, ap, ◌∙◌, arith, add-one}
+use Rattle.std.proofs.Common.{◌/◌, ◌%◌, ℕ, set, ap, ◌∙◌, arith, add-one}
 use Rattle.b2_matalpha.proofs.Receiving.{written_at, not_written}
 use Rattle.b2_matalpha.proofs.locators.put_locator.Goals as goal
 

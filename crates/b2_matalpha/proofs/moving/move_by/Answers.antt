@@ -1,7 +1,6 @@
-use Rattle.std.proofs.Common.{◌≡◌, ◌≢◌, ◌<◌, ◌≤◌, ◌+◌, ◌*◌, ◌/◌, ◌++◌, ℕ, List, length, take, drop, Ok, Err, ap, sym, ◌∙◌, arith}
+use Rattle.std.proofs.Common.{◌≡◌, ◌<◌, ◌≤◌, ◌+◌, ◌*◌, ◌/◌, ◌++◌, ℕ, List, length, take, drop, Ok, Err, ap, sym, ◌∙◌, arith}
 use Rattle.b2_alpha.specs.Values.{padded}
-use Rattle.b2_matalpha.specs.Elements.{element_at}
-use Rattle.b2_matalpha.specs.Moves.{wanted_places, after_move, move_answer}
+use Rattle.b2_matalpha.specs.Moves.{after_move, move_answer}
 use Rattle.b2_matalpha.proofs.MovingOn.{left_from, left_next, left_end, after_past, after_none, with_more, answer_next, answer_past, answer_none, room_for, assigned, ends_here}
 use Rattle.b2_matalpha.proofs.moving.move_by.Goals as goal
 
