@@ -8,19 +8,19 @@ use Rattle.b2_matrix.specs.declared.combining.MatOp.{MatOp}
 use Rattle.b2_matrix.specs.declared.combining.MatOp.TheVariants as op
 use Rattle.b2_matrix.specs.declared.array.Fill.{Fill}
 use Rattle.b2_matrix.specs.declared.array.Fill.TheVariants as filled_with
-use Rattle.b2_matrix.specs.Arrays.{row_width, elements}
+use Rattle.b2_matrix.specs.Arrays.{column_count, elements}
 
 -- A product wants as many columns of the first array as the second has rows. Sums and differences want equal shapes.
 abbrev pub suit : MatOp → Mat → Mat → Bool
-suit op.Add a b = a.rows == b.rows && row_width a == row_width b
-suit op.Sub a b = a.rows == b.rows && row_width a == row_width b
-suit op.Mul a b = row_width a == b.rows
+suit op.Add a b = a.rows == b.rows && column_count a == column_count b
+suit op.Sub a b = a.rows == b.rows && column_count a == column_count b
+suit op.Mul a b = column_count a == b.rows
 
 -- A sum and a difference have the shape of the first array. A product has two dimensions.
 abbrev pub shape_of : MatOp → Mat → Mat → ℕ × ℕ
 shape_of op.Add a b = (a.rows, a.cols)
 shape_of op.Sub a b = (a.rows, a.cols)
-shape_of op.Mul a b = (a.rows, row_width b)
+shape_of op.Mul a b = (a.rows, column_count b)
 
 -- the first code of what was made in order, or the answer where there is none
 abbrev pub unless_refused : {A : Type 0} → List (Result Number ℕ) → A → Result A ℕ

@@ -19,16 +19,16 @@ cut_into_rows (suc count) width cells = take width cells ∷ cut_into_rows count
 abbrev pub columns_of : ℕ → ℕ
 columns_of cols = max 1 cols
 
-abbrev pub row_width : Mat → ℕ
-row_width a = columns_of a.cols
+abbrev pub column_count : Mat → ℕ
+column_count a = columns_of a.cols
 
 -- an array has exactly as many numbers as its shape says
 abbrev pub IsWhole : Mat → Type 0
-IsWhole a = length a.cells.now ≡ a.rows * row_width a
+IsWhole a = length a.cells.now ≡ a.rows * column_count a
 
 -- an array as the list of its rows
 abbrev pub array_rows : Mat → List (List Number)
-array_rows a = cut_into_rows a.rows (row_width a) a.cells.now
+array_rows a = cut_into_rows a.rows (column_count a) a.cells.now
 
 -- a row, a column and an element of a list of rows, all counted from 0
 abbrev pub array_row : List (List Number) → ℕ → List Number
@@ -59,11 +59,11 @@ element op.Mul mode xss yss i j = sum_of_products mode zero_number (array_row xs
 
 -- the elements along rows
 abbrev pub elements : MatOp → Mode → Mat → Mat → List (Result Number ℕ)
-elements operation mode a b = along_rows a.rows (row_width b) (element operation mode (array_rows a) (array_rows b))
+elements operation mode a b = along_rows a.rows (column_count b) (element operation mode (array_rows a) (array_rows b))
 
 -- the elements of a multiple
 abbrev pub multiples : Mode → Number → Mat → List (Result Number ℕ)
-multiples mode k a = along_rows a.rows (row_width a) (λ i j. product_of mode k (entry (array_rows a) i j))
+multiples mode k a = along_rows a.rows (column_count a) (λ i j. product_of mode k (entry (array_rows a) i j))
 
 -- rows become columns
 abbrev pub transposed : ℕ → ℕ → List (List Number) → List Number

@@ -1,6 +1,6 @@
 // Arrays as they are lent.
 ghost use Rattle.std.specs.Prelude.{◌≡◌, ◌<◌, ◌≤◌, ◌*◌, ◌^◌, length};
-ghost use Rattle.b2_matrix.specs.Arrays.{columns_of, row_width, array_rows, entry, IsWhole};
+ghost use Rattle.b2_matrix.specs.Arrays.{columns_of, column_count, array_rows, entry, IsWhole};
 
 use b2_dec::Dec;
 
@@ -34,8 +34,8 @@ pub(crate) fn columns_of(cols: u16) -> usize
 
 impl Mat<'_> {
     /// How many numbers a row has, at least 1.
-    pub(crate) fn row_width(&self) -> usize
-        ensures value { result ≡ row_width self.now }
+    pub(crate) fn column_count(&self) -> usize
+        ensures value { result ≡ column_count self.now }
         ensures some { 0 < result }
         ensures small { result < 2 ^ 16 }
     {
@@ -46,9 +46,9 @@ impl Mat<'_> {
     pub(crate) fn entry(&self, row: usize, column: usize) -> Dec
         requires whole { IsWhole self.now }
         requires row { row < self.now.rows }
-        requires column { column < row_width self.now }
+        requires column { column < column_count self.now }
         ensures { result ≡ entry (array_rows self.now) row column }
     {
-        self.cells[row * self.row_width() + column]
+        self.cells[row * self.column_count() + column]
     }
 }

@@ -1,7 +1,7 @@
 // Sums, differences, products and multiples.
 ghost use Rattle.std.specs.Prelude.{◌≡◌, ◌<◌, ◌*◌, true, false, length, map, Ok, OnOk};
 ghost use Rattle.b2_dec.specs.Number.{zero_number};
-ghost use Rattle.b2_matrix.specs.Arrays.{row_width, array_rows, array_row, array_column, element, elements, multiples, sum_of_products, IsWhole};
+ghost use Rattle.b2_matrix.specs.Arrays.{column_count, array_rows, array_row, array_column, element, elements, multiples, sum_of_products, IsWhole};
 ghost use Rattle.b2_matrix.specs.Answers.{suit, shape_of, combined, unless_refused};
 
 use crate::array::Mat;
@@ -25,8 +25,8 @@ fn suit(op: MatOp, a: &Mat<'_>, b: &Mat<'_>) -> bool
     ensures { result ≡ suit op a.now b.now }
 {
     match op {
-        MatOp::Add | MatOp::Sub => a.rows == b.rows && a.row_width() == b.row_width(),
-        MatOp::Mul => a.row_width() == usize::from(b.rows),
+        MatOp::Add | MatOp::Sub => a.rows == b.rows && a.column_count() == b.column_count(),
+        MatOp::Mul => a.column_count() == usize::from(b.rows),
     }
 }
 
@@ -45,13 +45,13 @@ fn shape_of(op: MatOp, a: &Mat<'_>, b: &Mat<'_>) -> (u16, u16)
 fn row_by_column(a: &Mat<'_>, b: &Mat<'_>, m: Mode, i: usize, j: usize) -> Result<Dec, Code>
     requires first { IsWhole a.now }
     requires second { IsWhole b.now }
-    requires suit { row_width a.now ≡ b.now.rows }
+    requires suit { column_count a.now ≡ b.now.rows }
     requires row { i < a.now.rows }
-    requires column { j < row_width b.now }
+    requires column { j < column_count b.now }
     ensures { result ≡ sum_of_products m zero_number (array_row (array_rows a.now) i) (array_column (array_rows b.now) j) }
 {
     let mut sum = Dec::zero();
-    for k in 0..a.row_width() {
+    for k in 0..a.column_count() {
         let product = mul(a.entry(i, k), b.entry(k, j), m)?;
         sum = add(sum, product, m)?;
     }
@@ -64,7 +64,7 @@ fn element(op: MatOp, a: &Mat<'_>, b: &Mat<'_>, m: Mode, i: usize, j: usize) -> 
     requires second { IsWhole b.now }
     requires suit { suit op a.now b.now ≡ true }
     requires row { i < a.now.rows }
-    requires column { j < row_width b.now }
+    requires column { j < column_count b.now }
     ensures { result ≡ element op m (array_rows a.now) (array_rows b.now) i j }
 {
     match op {
@@ -90,7 +90,7 @@ pub fn combine(
 ) -> Result<(u16, u16), Code>
     requires first { IsWhole a }
     requires second { IsWhole b }
-    requires count { suit op a b ≡ true → length into.old ≡ a.rows * row_width b }
+    requires count { suit op a b ≡ true → length into.old ≡ a.rows * column_count b }
     ensures answer { result ≡ combined op m a.entry b.entry }
     ensures elements { OnOk result (map Ok into.new ≡ elements op m a.entry b.entry) }
     ensures shapes { suit op a.entry b.entry ≡ false → into.new ≡ into.old }
@@ -98,7 +98,7 @@ pub fn combine(
     if !suit(op, &a, &b) {
         return Err(Code::known(P43_SHAPES));
     }
-    let width = b.row_width();
+    let width = b.column_count();
     for (place, cell) in into.iter_mut().enumerate() {
         *cell = element(op, &a, &b, m, place / width, place % width)?;
     }
@@ -109,7 +109,7 @@ pub fn combine(
 /// along rows, and then `into` is open.
 pub fn scale(k: Dec, a: Mat<'_>, m: Mode, into: &mut [Dec]) -> Result<(), Code>
     requires whole { IsWhole a }
-    requires count { length into.old ≡ a.rows * row_width a }
+    requires count { length into.old ≡ a.rows * column_count a }
     ensures answer { result ≡ unless_refused (multiples m k a.entry) tt }
     ensures elements { OnOk result (map Ok into.new ≡ multiples m k a.entry) }
 {

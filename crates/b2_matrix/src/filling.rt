@@ -2,7 +2,7 @@
 ghost use Rattle.std.specs.Prelude.{◌≡◌, ◌*◌, Ok, Err, OnOk, OnErr, length, if◌then◌else◌};
 ghost use Rattle.b2_base.specs.declared.codes.TheConstants.{P44_NOT_SQUARE};
 ghost use Rattle.b2_dec.specs.Arithmetic.{one_number};
-ghost use Rattle.b2_matrix.specs.Arrays.{columns_of, row_width, array_rows, transposed, filling, along_rows, IsWhole};
+ghost use Rattle.b2_matrix.specs.Arrays.{columns_of, column_count, array_rows, transposed, filling, along_rows, IsWhole};
 ghost use Rattle.b2_matrix.specs.Answers.{may_fill};
 
 use crate::array::{Fill, Mat, columns_of};
@@ -13,8 +13,8 @@ use b2_dec::Dec;
 /// The array transposed, its rows as columns, into `into`, which has exactly as many numbers.
 pub fn transpose(a: Mat<'_>, into: &mut [Dec])
     requires whole { IsWhole a }
-    requires count { length into.old ≡ a.rows * row_width a }
-    ensures { into.new ≡ transposed a.entry.rows (row_width a.entry) (array_rows a.entry) }
+    requires count { length into.old ≡ a.rows * column_count a }
+    ensures { into.new ≡ transposed a.entry.rows (column_count a.entry) (array_rows a.entry) }
 {
     let count = usize::from(a.rows);
     for (place, cell) in into.iter_mut().enumerate() {

@@ -1,4 +1,6 @@
 // Values computed outside this program.
+ghost use Rattle.std.specs.Prelude.{◌≡◌};
+
 use crate::*;
 use b2_base::Code;
 use b2_base::codes::{C60_UNDERFLOW, C61_OVERFLOW, P43_SHAPES, P44_NOT_SQUARE};
@@ -24,6 +26,15 @@ fn six(xs: [u32; 6]) -> [Dec; 6] {
     ]
 }
 
+/// An array lent.
+fn array(rows: u16, cols: u16, cells: &[Dec]) -> Mat<'_>
+    ensures rows { result.rows ≡ rows }
+    ensures cols { result.cols ≡ cols }
+    ensures cells { result.cells.now ≡ cells.now }
+{
+    Mat { rows, cols, cells }
+}
+
 /// A number of one digit at an exponent.
 fn at_exponent(digit: u8, exponent: i8) -> Dec {
     let coef = u64::from(digit.clamp(1, 9)) * 1_000_000_000_000;
@@ -43,16 +54,8 @@ fn combines_square_arrays(rt: HostRuntime) -> Result<(), Fail> {
     for (op, a, b, result) in rows {
         let (first, second) = (four(a), four(b));
         let mut into = [Dec::zero(); 4];
-        let a = Mat {
-            rows: 2,
-            cols: 2,
-            cells: &first,
-        };
-        let b = Mat {
-            rows: 2,
-            cols: 2,
-            cells: &second,
-        };
+        let a = array(2, 2, &first);
+        let b = array(2, 2, &second);
         assert_eq!(rt; combine(op, a, b, Mode::Round, &mut into), Ok((2, 2)));
         assert_eq!(rt; into, four(result));
     }
@@ -62,21 +65,9 @@ fn combines_square_arrays(rt: HostRuntime) -> Result<(), Fail> {
 #[test]
 fn one_dimension_is_one_column(rt: HostRuntime) -> Result<(), Fail> {
     let cells = four([1, 2, 3, 4]);
-    let line = Mat {
-        rows: 4,
-        cols: 0,
-        cells: &cells,
-    };
-    let column = Mat {
-        rows: 4,
-        cols: 1,
-        cells: &cells,
-    };
-    let row = Mat {
-        rows: 1,
-        cols: 4,
-        cells: &cells,
-    };
+    let line = array(4, 0, &cells);
+    let column = array(4, 1, &cells);
+    let row = array(1, 4, &cells);
     let mut into = [Dec::zero(); 4];
     assert_eq!(rt;
         combine(MatOp::Add, line, line, Mode::Round, &mut into),
@@ -104,16 +95,8 @@ fn one_dimension_is_one_column(rt: HostRuntime) -> Result<(), Fail> {
 #[test]
 fn multiplies_other_shapes(rt: HostRuntime) -> Result<(), Fail> {
     let (first, second) = (six([1, 2, 3, 4, 5, 6]), [whole(7), whole(8), whole(9)]);
-    let a = Mat {
-        rows: 2,
-        cols: 3,
-        cells: &first,
-    };
-    let b = Mat {
-        rows: 3,
-        cols: 0,
-        cells: &second,
-    };
+    let a = array(2, 3, &first);
+    let b = array(3, 0, &second);
     let mut into = [Dec::zero(); 2];
     assert_eq!(rt;
         combine(MatOp::Mul, a, b, Mode::Round, &mut into),
@@ -126,16 +109,8 @@ fn multiplies_other_shapes(rt: HostRuntime) -> Result<(), Fail> {
 #[test]
 fn refuses_shapes(rt: HostRuntime) -> Result<(), Fail> {
     let cells = six([1, 2, 3, 4, 5, 6]);
-    let wide = Mat {
-        rows: 2,
-        cols: 3,
-        cells: &cells,
-    };
-    let high = Mat {
-        rows: 3,
-        cols: 2,
-        cells: &cells,
-    };
+    let wide = array(2, 3, &cells);
+    let high = array(3, 2, &cells);
     let mut into = four([7, 7, 7, 7]);
     for (op, a, b) in [
         (MatOp::Mul, wide, wide),
@@ -161,16 +136,8 @@ fn sums_are_made_from_the_left(rt: HostRuntime) -> Result<(), Fail> {
     ];
     let ones = [whole(1), whole(1), whole(1)];
     for (row, sum) in rows {
-        let a = Mat {
-            rows: 1,
-            cols: 3,
-            cells: &row,
-        };
-        let b = Mat {
-            rows: 3,
-            cols: 1,
-            cells: &ones,
-        };
+        let a = array(1, 3, &row);
+        let b = array(3, 1, &ones);
         let mut into = [Dec::zero(); 1];
         assert_eq!(rt; combine(MatOp::Mul, a, b, Mode::Cut, &mut into), Ok((1, 1)));
         assert_eq!(rt; into, [sum]);
@@ -187,20 +154,12 @@ fn the_first_code_counts(rt: HostRuntime) -> Result<(), Fail> {
         ([one, small, large, one], at_exponent(1, -1), C60_UNDERFLOW),
     ];
     for (cells, k, code) in rows {
-        let a = Mat {
-            rows: 2,
-            cols: 2,
-            cells: &cells,
-        };
+        let a = array(2, 2, &cells);
         let mut into = [Dec::zero(); 4];
         assert_eq!(rt; scale(k, a, Mode::Round, &mut into), Err(Code::known(code)));
     }
     let cells = [one, large, small, large];
-    let a = Mat {
-        rows: 2,
-        cols: 2,
-        cells: &cells,
-    };
+    let a = array(2, 2, &cells);
     let mut into = [Dec::zero(); 4];
     assert_eq!(rt;
         combine(MatOp::Mul, a, a, Mode::Round, &mut into),
@@ -212,11 +171,7 @@ fn the_first_code_counts(rt: HostRuntime) -> Result<(), Fail> {
 #[test]
 fn scales_and_turns(rt: HostRuntime) -> Result<(), Fail> {
     let cells = six([1, 2, 3, 4, 5, 6]);
-    let a = Mat {
-        rows: 2,
-        cols: 3,
-        cells: &cells,
-    };
+    let a = array(2, 3, &cells);
     let mut into = [Dec::zero(); 6];
     assert_eq!(rt; scale(whole(3), a, Mode::Round, &mut into), Ok(()));
     assert_eq!(rt; into, six([3, 6, 9, 12, 15, 18]));
