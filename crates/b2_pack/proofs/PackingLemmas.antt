@@ -1,0 +1,75 @@
+-- Values and numbers that are packed from the left, one step at a time.
+use Rattle.std.proofs.Common.{◌≡◌, ℕ, zero, suc, ◌+◌, ◌<◌, ◌≤◌, nat_lt, not, Bool, true, false, List, [], ◌∷◌, ◌++◌, length, drop, take, get_or, Option, Some, None, sym, ap, ◌∙◌, refl, arith, le-ltb, lt-ltb}
+use Rattle.std.proofs.lemmas.List.{drop_more}
+use Rattle.b2_dec.specs.Number.{Number}
+use Rattle.b2_dec.specs.declared.values.Value.{Value}
+use Rattle.b2_pack.specs.declared.rows.Row.{Row}
+use Rattle.b2_pack.specs.Rows.{row_bytes, row_fits, row_width}
+use Rattle.b2_pack.specs.declared.specification.Pair.{Pair}
+use Rattle.b2_pack.specs.declared.specification.Pair.TheVariants as pair
+use Rattle.b2_pack.specs.Specification.{field_width}
+use Rattle.b2_pack.specs.FieldValues.{value_code, value_bytes}
+use Rattle.b2_pack.specs.Packing.{Placed, placed_from, lacks_room, written_at, or_code, values_code, with_values, numbers_code, with_numbers}
+
+pub cons_at : {A : Type 0} (xs : List A) (i : ℕ) (x : A) → i < length xs → x ≡ get_or xs i x → drop i xs ≡ x ∷ drop (i + 1) xs
+cons_at xs i x below e = drop_more xs i x below ∙ ap (λ y. y ∷ drop (i + 1) xs) (sym e)
+
+pub none_left : {A : Type 0} (xs : List A) (i : ℕ) → length xs ≤ i → drop i xs ≡ []
+none_left [] zero h = refl
+none_left [] (suc i) h = refl
+none_left (x ∷ xs) zero h = absurd (omega arith)
+none_left (x ∷ xs) (suc i) h = none_left xs i (omega arith)
+
+pub code-done : (ps : List Placed) (room : ℕ) → values_code ps [] room ≡ None
+code-done [] room = refl
+code-done (p ∷ ps) room = refl
+
+pub code-lacks : (ps : List Placed) (v : Value) (vs : List Value) (room : ℕ) → lacks_room ps room ≡ true → values_code ps (v ∷ vs) room ≡ Some 70
+code-lacks [] v vs room e = refl
+code-lacks (p ∷ ps) v vs room e = rw e refl
+
+pub code-here : (ps qs : List Placed) (p : Placed) (v : Value) (vs : List Value) (room : ℕ) → ps ≡ p ∷ qs → p.start + field_width p.field ≤ room
+    → values_code ps (v ∷ vs) room ≡ or_code (value_code p.field v) (values_code qs vs room)
+code-here ps qs p v vs room e inside = ap (λ rs. values_code rs (v ∷ vs) room) e ∙ rw (le-ltb room (p.start + field_width p.field) inside) refl
+
+pub code-fits : (first next : Option ℕ) → or_code first next ≡ None → first ≡ None
+code-fits None next e = refl
+code-fits (Some code) next e = e
+
+pub code-after : (first next : Option ℕ) → or_code first next ≡ None → next ≡ None
+code-after None next e = e
+code-after (Some code) next e = absurd (cc)
+
+pub with-done : (ps : List Placed) (buffer : List ℕ) → with_values ps [] buffer ≡ buffer
+with-done [] buffer = refl
+with-done (p ∷ ps) buffer = refl
+
+pub with-here : (ps qs : List Placed) (p : Placed) (v : Value) (vs : List Value) (buffer : List ℕ) → ps ≡ p ∷ qs
+    → with_values ps (v ∷ vs) buffer ≡ with_values qs vs (written_at p.start (value_bytes p.field v) buffer)
+with-here ps qs p v vs buffer e = ap (λ rs. with_values rs (v ∷ vs) buffer) e
+
+pub numbers-short : (row : Row) (at : ℕ) (x : Number) (xs : List Number) (room : ℕ) → room < at + row_width row → numbers_code row at (x ∷ xs) room ≡ Some 70
+numbers-short row at x xs room short = rw (lt-ltb room (at + row_width row) short) refl
+
+pub numbers-large : (row : Row) (at : ℕ) (x : Number) (xs : List Number) (room : ℕ) → at + row_width row ≤ room → row_fits row x ≡ false
+    → numbers_code row at (x ∷ xs) room ≡ Some 71
+numbers-large row at x xs room inside large = rw (le-ltb room (at + row_width row) inside, large) refl
+
+pub numbers-next : (row : Row) (at : ℕ) (x : Number) (xs : List Number) (room : ℕ) → at + row_width row ≤ room → row_fits row x ≡ true
+    → numbers_code row at (x ∷ xs) room ≡ numbers_code row (at + row_width row) xs room
+numbers-next row at x xs room inside fits = rw (le-ltb room (at + row_width row) inside, fits) refl
+
+-- What is known of a number that was tested.
+pub record IsTested (row : Row) (at : ℕ) (xs : List Number) (room : ℕ) : Type 0 where
+  pub inside : at + row_width row ≤ room
+  pub further : numbers_code row (at + row_width row) xs room ≡ None
+
+pub code-lacks_any : (ps : List Placed) (vs : List Value) (room : ℕ) → lacks_room ps room ≡ true → 0 < length vs → values_code ps vs room ≡ Some 70
+code-lacks_any ps [] room e some = absurd (omega arith)
+code-lacks_any ps (v ∷ vs) room e some = code-lacks ps v vs room e
+
+-- a place past the end of the buffer
+pub lacks_room-past : (pairs : List Pair) (at room : ℕ) → room < at → lacks_room (placed_from at pairs) room ≡ true
+lacks_room-past [] at room far = refl
+lacks_room-past (pair.Skip width ∷ pairs) at room far = lacks_room-past pairs (at + width) room (omega arith)
+lacks_room-past (pair.Holding f ∷ pairs) at room far = lt-ltb room (at + field_width f) (omega arith)
