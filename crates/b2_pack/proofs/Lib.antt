@@ -5,3 +5,6 @@ pub mod TextLemmas
 pub mod UnpackedLemmas
 pub mod PackingLemmas
 pub mod ReadingLemmas
+pub mod RoundTrips
+pub mod Standing
+pub mod Returning

@@ -6,3 +6,4 @@ pub mod PackedNumbers
 pub mod FieldValues
 pub mod Packing
 pub mod Unpacking
+pub mod Laws

@@ -1,5 +1,6 @@
 -- Values in a buffer, at the places of their fields.
 use Rattle.std.specs.Prelude.{◌≡◌, ℕ, ◌+◌, ◌≤◌, nat_lt, Bool, true, not, if◌then◌else◌, List, [], ◌∷◌, ◌++◌, length, take, drop, Option, Some, None}
+use Rattle.std.specs.List.{flat_map}
 use Rattle.b2_base.specs.declared.codes.TheConstants.{P58_SPECIFICATION, X70_TOO_LITTLE, X71_DOES_NOT_FIT}
 use Rattle.b2_dec.specs.Number.{Number}
 use Rattle.b2_dec.specs.declared.values.Value.{Value}
@@ -67,10 +68,13 @@ abbrev pub fields_code : List ℕ → List Value → ℕ → Option ℕ
 fields_code specification vs room =
     if is_specification specification then values_code (placed specification) vs room else Some P58_SPECIFICATION
 
--- a buffer with numbers in rows, one after another from a place on
-abbrev pub with_numbers : Row → ℕ → List Number → List ℕ → List ℕ
-with_numbers row at [] buffer = buffer
-with_numbers row at (x ∷ xs) buffer = with_numbers row (at + row_width row) xs (written_at at (row_bytes row x) buffer)
+-- the bytes of numbers in rows side by side
+abbrev pub numbers_bytes : Row → List Number → List ℕ
+numbers_bytes row xs = flat_map (row_bytes row) xs
+
+-- a buffer with bytes at its front
+abbrev pub with_front : List ℕ → List ℕ → List ℕ
+with_front bytes buffer = bytes ++ drop (length bytes) buffer
 
 -- the first code of numbers from the left: X70 where the buffer ends, X71 where a number doesn't fit
 abbrev pub numbers_code : Row → ℕ → List Number → ℕ → Option ℕ
@@ -80,10 +84,10 @@ numbers_code row at (x ∷ xs) room =
     else (if not (row_fits row x) then Some X71_DOES_NOT_FIT
     else numbers_code row (at + row_width row) xs room)
 
--- the same by an image, which is none where there is no row
+-- a buffer with numbers at its front, by an image; there is no row where there is no image
 abbrev pub with_image : Option Row → List Number → List ℕ → List ℕ
 with_image None xs buffer = buffer
-with_image (Some row) xs buffer = with_numbers row 0 xs buffer
+with_image (Some row) xs buffer = with_front (numbers_bytes row xs) buffer
 
 abbrev pub image_code : Option Row → List Number → ℕ → Option ℕ
 image_code None xs room = Some P58_SPECIFICATION

@@ -12,12 +12,17 @@
 
 mod field_values;
 mod image;
+mod laws;
 mod nibbles;
 mod packing;
 mod rows;
 mod specification;
 mod unpacking;
 
+pub use laws::{
+    law_fields_keep_values, law_there_is_one_way_to_pack, law_rows_keep_numbers,
+    law_rows_side_by_side_keep_numbers, law_unpacking_gives_what_was_packed,
+};
 pub use packing::{fields, pack};
 pub use unpacking::{unfields, unpack};
 

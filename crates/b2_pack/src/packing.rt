@@ -5,6 +5,7 @@ ghost use Rattle.b2_pack.specs.Images.{image_row};
 ghost use Rattle.b2_pack.specs.Rows.{row_width};
 ghost use Rattle.b2_pack.specs.Specification.{pairs_of, field_width, IsField};
 ghost use Rattle.b2_pack.specs.Packing as packing;
+ghost use Rattle.b2_pack.specs.Laws.{Packs};
 
 use crate::field_values::{check_value, put_value};
 use crate::image::image_row;
@@ -99,6 +100,7 @@ fn put_values(text: &[u8], values: &[Value], to: &mut [u8])
 pub fn fields(spec: &[u8], values: &[Value], to: &mut [u8]) -> Result<(), Code>
     ensures code { result_err result ≡ packing.fields_code spec.now values.now (length to.old) }
     ensures packed { OnOk result (to.new ≡ packing.with_values (packing.placed spec.now) values.now to.old) }
+    ensures stands { OnOk result (Packs (packing.placed spec.now) values.now to.old to.new) }
     ensures refused { OnErr result (to.new ≡ to.old) }
 {
     if !is_specification(spec) {
@@ -130,7 +132,7 @@ fn check_numbers(row: Row, xs: &[Dec], room: usize) -> Result<(), Code>
 /// Writes numbers into rows side by side, which they fit.
 fn put_numbers(row: Row, xs: &[Dec], to: &mut [u8])
     requires { packing.numbers_code row 0 xs.now (length to.old) ≡ None }
-    ensures { to.new ≡ packing.with_numbers row 0 xs.now to.old }
+    ensures { to.new ≡ packing.with_front (packing.numbers_bytes row xs.now) to.old }
 {
     let width = row_width(row);
     let mut at = 0;

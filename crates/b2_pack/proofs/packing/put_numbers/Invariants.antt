@@ -1,5 +1,6 @@
 use Rattle.std.proofs.Common.{◌≡◌, drop, length, None}
-use Rattle.b2_pack.specs.Packing.{numbers_code, with_numbers}
+use Rattle.b2_pack.specs.Packing.{numbers_code}
+use Rattle.b2_pack.proofs.PackingLemmas.{with_numbers}
 use Rattle.b2_pack.proofs.packing.put_numbers.Given as goal
 
 abbrev pub invariant-loop-x : goal.invariant-loop-x

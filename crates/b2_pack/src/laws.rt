@@ -1,0 +1,27 @@
+// What holds of the definitions, as contracts of functions that do nothing.
+ghost use Rattle.b2_pack.specs.Laws.{ThereIsOneWayToPack, RowsKeepNumbers, RowsSideBySideKeepNumbers, FieldsKeepValues, UnpackingGivesWhatWasPacked};
+
+/// There is one way to pack values into a buffer.
+pub fn law_there_is_one_way_to_pack()
+    ensures { ThereIsOneWayToPack }
+{}
+
+/// A number comes back out of its row where the row spells it exactly.
+pub fn law_rows_keep_numbers()
+    ensures { RowsKeepNumbers }
+{}
+
+/// Numbers side by side come back, whatever follows them.
+pub fn law_rows_side_by_side_keep_numbers()
+    ensures { RowsSideBySideKeepNumbers }
+{}
+
+/// A value comes back out of its field where the field spells it exactly; bytes come back padded or cut to the width.
+pub fn law_fields_keep_values()
+    ensures { FieldsKeepValues }
+{}
+
+/// What is packed is unpacked again.
+pub fn law_unpacking_gives_what_was_packed()
+    ensures { UnpackingGivesWhatWasPacked }
+{}
