@@ -8,3 +8,4 @@ pub mod ReadingLemmas
 pub mod RoundTrips
 pub mod Standing
 pub mod Returning
+pub mod WrittenPairs

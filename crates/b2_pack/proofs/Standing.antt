@@ -38,7 +38,7 @@ either : (b : Bool) (x y : Option Pair) → MayHaveWidth x → MayHaveWidth y �
 either true x y a b = a
 either false x y a b = b
 
-some_width : (w : ℕ) → (w == 0) ≡ false → 1 ≤ w
+pub some_width : (w : ℕ) → (w == 0) ≡ false → 1 ≤ w
 some_width w e =
     elim (cases_lt 0 w) [
       | inl some ↦ omega arith

@@ -1,5 +1,6 @@
 -- What holds of packing: each value stands in its field and nothing else changes, and what its field spells comes back.
-use Rattle.std.specs.Prelude.{◌≡◌, ℕ, ◌+◌, ◌*◌, ◌^◌, ◌%◌, ◌==◌, ◌&&◌, ◌||◌, nat_le, nat_lt, Bool, true, false, List, [], ◌∷◌, ◌++◌, length, take, drop, get_or, map, Result, Ok, Option, Some, None}
+use Rattle.std.specs.Prelude.{◌≡◌, ◌≤◌, ℕ, ◌+◌, ◌*◌, ◌^◌, ◌%◌, ◌==◌, ◌&&◌, ◌||◌, nat_le, nat_lt, Bool, true, false, List, [], ◌∷◌, ◌++◌, length, take, drop, get_or, map, Result, Ok, Option, Some, None}
+use Rattle.std.specs.List.{flat_map}
 use Rattle.b2_dec.specs.Number.{Number, IsNumber, size}
 use Rattle.b2_dec.specs.declared.values.Value.{Value}
 use Rattle.b2_dec.specs.declared.values.Value.TheVariants as value
@@ -13,7 +14,8 @@ use Rattle.b2_pack.specs.declared.rows.Row.{Row}
 use Rattle.b2_pack.specs.declared.specification.Field.{Field}
 use Rattle.b2_pack.specs.declared.specification.Field.TheVariants as field
 use Rattle.b2_pack.specs.Rows.{row_fits, row_bytes, row_number}
-use Rattle.b2_pack.specs.Specification.{digits_row, field_width}
+use Rattle.b2_pack.specs.declared.specification.Pair.{Pair}
+use Rattle.b2_pack.specs.Specification.{digits_row, field_width, pair_bytes, pair_width, pair_decimals, is_ending, is_specification, pairs_of}
 use Rattle.b2_pack.specs.FieldValues.{value_code, value_bytes, value_in, left_aligned}
 use Rattle.b2_pack.specs.Packing.{Placed, values_code, numbers_bytes}
 use Rattle.b2_pack.specs.Unpacking.{values_in, numbers_in}
@@ -107,3 +109,26 @@ abbrev pub UnpackingGivesWhatWasPacked : Type 0
 UnpackingGivesWhatWasPacked =
     (ps : List Placed) (vs : List Value) (old new : List ℕ) → values_code ps vs (length old) ≡ None → Packs ps vs old new → AreExact ps vs
     → values_in ps (map kind_of vs) new ≡ Ok (all_kept ps vs)
+
+-- pairs of at least one byte and at most nine decimals
+abbrev pub ArePairs : List Pair → Type 0
+ArePairs [] = Unit {0}
+ArePairs (p ∷ ps) = ((1 ≤ pair_width p) × (pair_decimals p ≤ 9)) × ArePairs ps
+
+-- the bytes that write pairs
+abbrev pub pairs_bytes : List Pair → List ℕ
+pairs_bytes ps = flat_map pair_bytes ps
+
+-- Pairs and an ending, and nothing else.
+pub record IsWritten (text : List ℕ) (ps : List Pair) : Type 0 where
+  pub ending : List ℕ
+  pub pairs : ArePairs ps
+  pub ends : is_ending ending ≡ true
+  pub text_is : pairs_bytes ps ++ ending ≡ text
+
+-- Bytes that write pairs are a specification of these pairs, and other bytes are none.
+abbrev pub WrittenPairsAreRead : Type 0
+WrittenPairsAreRead = (text : List ℕ) (ps : List Pair) → IsWritten text ps → (is_specification text ≡ true) × (pairs_of text ≡ ps)
+
+abbrev pub OnlyWrittenPairsAreRead : Type 0
+OnlyWrittenPairsAreRead = (text : List ℕ) → is_specification text ≡ true → IsWritten text (pairs_of text)

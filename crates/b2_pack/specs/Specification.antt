@@ -68,3 +68,25 @@ pub record IsField (f : Field) : Type 0 where
 abbrev pub IsPair : Pair → Type 0
 IsPair (pair.Skip width) = Unit {0}
 IsPair (pair.Holding f) = IsField f
+
+-- the two bytes that write a pair
+abbrev pub pair_bytes : Pair → List ℕ
+pair_bytes (pair.Skip width) = SKIP ∷ width ∷ []
+pair_bytes (pair.Holding (field.Text width)) = TEXT ∷ width ∷ []
+pair_bytes (pair.Holding (field.Digits decimals width)) = (DIGITS + decimals) ∷ width ∷ []
+pair_bytes (pair.Holding field.Packed) = PACKED ∷ 8 ∷ []
+pair_bytes (pair.Holding (field.Alpha width)) = ALPHA ∷ width ∷ []
+
+abbrev pub pair_width : Pair → ℕ
+pair_width (pair.Skip width) = width
+pair_width (pair.Holding f) = field_width f
+
+abbrev pub pair_decimals : Pair → ℕ
+pair_decimals (pair.Skip width) = 0
+pair_decimals (pair.Holding f) = field_decimals f
+
+-- what may follow the last pair: nothing, a single blank, or two blanks and any bytes
+abbrev pub is_ending : List ℕ → Bool
+is_ending [] = true
+is_ending (b ∷ []) = b == byte.blank
+is_ending (kind ∷ width ∷ rest) = is_end kind width

@@ -1,5 +1,5 @@
 // What holds of the definitions, as contracts of functions that do nothing.
-ghost use Rattle.b2_pack.specs.Laws.{ThereIsOneWayToPack, RowsKeepNumbers, RowsSideBySideKeepNumbers, FieldsKeepValues, UnpackingGivesWhatWasPacked};
+ghost use Rattle.b2_pack.specs.Laws.{ThereIsOneWayToPack, RowsKeepNumbers, RowsSideBySideKeepNumbers, FieldsKeepValues, UnpackingGivesWhatWasPacked, WrittenPairsAreRead, OnlyWrittenPairsAreRead};
 
 /// There is one way to pack values into a buffer.
 pub fn law_there_is_one_way_to_pack()
@@ -24,4 +24,10 @@ pub fn law_fields_keep_values()
 /// What is packed is unpacked again.
 pub fn law_unpacking_gives_what_was_packed()
     ensures { UnpackingGivesWhatWasPacked }
+{}
+
+/// Bytes that write pairs and an ending are a specification of these pairs, and no other bytes are one.
+pub fn law_written_pairs_are_read()
+    ensures read { WrittenPairsAreRead }
+    ensures only { OnlyWrittenPairsAreRead }
 {}
