@@ -1,5 +1,5 @@
 -- The digits of a number in units of its last decimal, found among its thirteen.
-use Rattle.std.proofs.Common.{◌≡◌, ℕ, suc, ◌+◌, ◌-◌, ◌*◌, ◌/◌, ◌%◌, ◌^◌, ◌<◌, ◌≤◌, ◌==◌, ◌||◌, nat_lt, true, false, Bool, sym, ap, ◌∙◌, subst, refl, arith, lit<, pow-add, mul_assoc, sub-add_cancel, mul-le-mul_right, le_trans, lt_of_lt_of_le, mul-div_cancel, mul_comm, eq-eqb, inl, inr, lt-ltb, le-ltb}
+use Rattle.std.proofs.Common.{◌≡◌, ℕ, suc, ◌+◌, ◌-◌, ◌*◌, ◌/◌, ◌%◌, ◌^◌, ◌<◌, ◌≤◌, nat_lt, true, sym, ap, ◌∙◌, subst, arith, pow-add, mul_assoc, sub-add_cancel, mul-le-mul_right, le_trans, lt_of_lt_of_le, mul-div_cancel, mul_comm, inl, inr, lt-ltb, le-ltb}
 use Rattle.std.proofs.lemmas.Bool.{cases_lt}
 use native.Mathlib.Nat.{mul-div-mul_right, mul-mod_left, mul-lt-mul_of_pos_right, pow-succ', div-eq_of_lt, div-div-eq-div-mul, div-lt_iff_lt-mul}
 use Rattle.b2_dec.specs.Number.{Number, IsNumber, size}

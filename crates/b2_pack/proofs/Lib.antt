@@ -9,3 +9,4 @@ pub mod RoundTrips
 pub mod Standing
 pub mod Returning
 pub mod WrittenPairs
+pub mod WrittenImages

@@ -1,9 +1,9 @@
 -- Nibbles by their places.
-use Rattle.std.proofs.Common.{◌≡◌, ℕ, zero, suc, ◌+◌, ◌-◌, ◌*◌, ◌/◌, ◌%◌, ◌^◌, ◌<◌, ◌≤◌, ◌&&◌, nat_le, Bool, true, false, List, [], ◌∷◌, ◌++◌, length, get_or, take, drop, sym, ap, ◌∙◌, refl, arith}
+use Rattle.std.proofs.Common.{◌≡◌, ℕ, zero, suc, ◌+◌, ◌-◌, ◌*◌, ◌/◌, ◌%◌, ◌^◌, ◌<◌, ◌≤◌, ◌&&◌, Bool, true, false, List, [], ◌∷◌, length, get_or, take, drop, sym, ap, ◌∙◌, refl, arith}
 use Rattle.std.proofs.Math.ListN.{get_or-eq_default}
 use Rattle.std.specs.List.{list_all}
 use Rattle.b2_base.specs.Lexical.{first}
-use Rattle.b2_pack.specs.Nibbles.{nibbles, joined, last_digits, is_decimal_nibble}
+use Rattle.b2_pack.specs.Nibbles.{nibbles, joined, last_digits}
 
 pub nibbles-length : (bs : List ℕ) → length (nibbles bs) ≡ 2 * length bs
 nibbles-length [] = refl

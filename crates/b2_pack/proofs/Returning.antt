@@ -1,9 +1,9 @@
 -- What is packed is unpacked again.
-use Rattle.std.proofs.Common.{◌≡◌, ℕ, zero, suc, ◌+◌, ◌-◌, ◌<◌, ◌≤◌, ◌==◌, nat_le, nat_lt, Bool, true, false, List, [], ◌∷◌, ◌++◌, length, take, drop, map, replicate, Option, Some, None, Result, Ok, Err, sym, ap, ap₂, ◌∙◌, refl, arith, inl, inr, eq-eqb, eqb-true, append_assoc, length-append, length-drop, if◌then◌else◌}
+use Rattle.std.proofs.Common.{◌≡◌, ℕ, zero, suc, ◌+◌, ◌-◌, ◌<◌, ◌≤◌, ◌==◌, true, false, List, [], ◌∷◌, ◌++◌, length, take, drop, map, replicate, Option, Some, None, Ok, Err, sym, ap, ap₂, ◌∙◌, refl, arith, inl, inr, eq-eqb, eqb-true, append_assoc, length-append, length-drop, if◌then◌else◌}
 use Rattle.std.proofs.lemmas.Bool.{cases_Bool, cases_lt}
 use Rattle.std.proofs.lemmas.List.{take_at, drop_at, drop-drop}
 use Rattle.b2_base.specs.Lexical.{skip_blanks}
-use Rattle.b2_dec.specs.Number.{Number, IsNumber}
+use Rattle.b2_dec.specs.Number.{Number}
 use Rattle.b2_dec.specs.declared.values.Value.{Value}
 use Rattle.b2_dec.specs.declared.values.Value.TheVariants as value
 use Rattle.b2_dectext.specs.NumberText.{number_len, number_read, sign_len, mantissa_len, fraction_part}
@@ -16,7 +16,7 @@ use Rattle.b2_pack.specs.Specification.{digits_row, field_width}
 use Rattle.b2_pack.specs.FieldValues.{right_aligned, text_number, number_or, as_value, value_code, value_bytes, value_in}
 use Rattle.b2_pack.specs.Packing.{Placed, values_code, numbers_bytes}
 use Rattle.b2_pack.specs.Unpacking.{before_items, values_in, numbers_in}
-use Rattle.b2_pack.specs.Laws.{Holds, IsSpelled, IsExact, AreExact, kept, all_kept, kind_of, AreSpelled, ReadsAs}
+use Rattle.b2_pack.specs.Laws.{Holds, IsExact, AreExact, kept, all_kept, kind_of, AreSpelled, ReadsAs}
 use Rattle.b2_pack.proofs.RowLemmas.{row_bytes-length}
 use Rattle.b2_pack.proofs.UnpackedLemmas.{unpacked-packed}
 use Rattle.b2_pack.proofs.PackingLemmas.{code-here, code-fits, code-after}
@@ -57,6 +57,7 @@ some-number text x e =
   where
     nothing : (y : Number) → (let none : Option Number = None in none) ≡ Some y → ⊥
     nothing y h = cc
+
     wrong : (number_len text == 0) ≡ false → (number_len text == 0) ≡ true → ⊥
     wrong f t = cc
 

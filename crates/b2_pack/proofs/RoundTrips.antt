@@ -1,24 +1,23 @@
 -- A number that a row spells, and a value that a field spells, come back.
-use Rattle.std.proofs.Common.{◌≡◌, ℕ, zero, suc, ◌+◌, ◌-◌, ◌*◌, ◌/◌, ◌%◌, ◌^◌, ◌<◌, ◌≤◌, ◌==◌, ◌&&◌, ◌||◌, nat_le, nat_lt, not, Bool, true, false, List, [], ◌∷◌, ◌++◌, length, take, drop, get_or, replicate, Option, Some, None, Result, Ok, Err, sym, ap, ap₂, subst, ◌∙◌, refl, arith, lit<, inl, inr, le-leb, lt-ltb, eq-eqb, mod-lt, mod-eq_of_lt, div-add-mod', add-zero, mul_assoc, mul_comm, pow-add, append_assoc, length-append, if◌then◌else◌}
-use Rattle.std.proofs.lemmas.Bool.{cases_lt, cases_Bool}
-use Rattle.std.proofs.lemmas.List.{take_at, drop_at, append-nil}
+use Rattle.std.proofs.Common.{◌≡◌, ℕ, zero, suc, ◌+◌, ◌*◌, ◌/◌, ◌%◌, ◌^◌, ◌<◌, ◌&&◌, Bool, true, false, List, [], ◌∷◌, ◌++◌, length, take, get_or, Ok, sym, ap, ap₂, subst, ◌∙◌, refl, arith, lit<, inl, inr, le-leb, mod-lt, mod-eq_of_lt, div-add-mod', add-zero, mul_assoc, pow-add, append_assoc, if◌then◌else◌}
+use Rattle.std.proofs.lemmas.Bool.{cases_lt}
+use Rattle.std.proofs.lemmas.List.{take_at}
 use Rattle.std.proofs.lemmas.Nat.{mod-mul-add, div-mul-add}
 use native.Mathlib.Nat.{pow-succ'}
 use Rattle.std.proofs.Math.Arith.{mod-mul}
 use Rattle.std.specs.List.{list_all}
 use Rattle.std.proofs.lemmas.List.Folds.{list_all-append}
 use borrow.Author.Tests.{ltb-true}
-use Rattle.b2_base.specs.Lexical.{first, skip_blanks}
 use Rattle.b2_dec.specs.declared.number.Mode.TheVariants.{Round}
 use Rattle.b2_dec.specs.Number.{Number, IsNumber, size, zero_number}
-use Rattle.b2_dec.specs.Rounding.{rnd, in_range}
+use Rattle.b2_dec.specs.Rounding.{rnd}
 use Rattle.b2_dec.proofs.TenLemmas.{ten_pos}
 use Rattle.b2_dec.proofs.Exact.{rnd-digits, in_range-number, rnd-none}
 use Rattle.b2_pack.specs.declared.rows.SignNibble.{SignNibble}
 use Rattle.b2_pack.specs.declared.rows.SignNibble.TheVariants.{Absent, Before, After}
 use Rattle.b2_pack.specs.declared.rows.Row.{Row}
 use Rattle.b2_pack.specs.Nibbles.{nibbles, joined, last_digits, number_after, is_decimal_nibble}
-use Rattle.b2_pack.specs.Rows.{cut_size, row_fits, sign_before, sign_after, row_nibbles, row_bytes, digits_start, digits_in, are_digits, has_sign, is_minus, within_range, nibbles_number, row_number}
+use Rattle.b2_pack.specs.Rows.{cut_size, row_fits, sign_before, sign_after, row_nibbles, row_bytes, digits_in, are_digits, has_sign, is_minus, within_range, nibbles_number, row_number}
 use Rattle.b2_pack.specs.Laws.{has_its_sign, IsSpelled}
 use Rattle.b2_pack.proofs.NibbleLemmas.{last_digits-length}
 

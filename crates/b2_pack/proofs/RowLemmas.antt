@@ -1,12 +1,12 @@
 -- The nibbles and bytes of a row by their places.
-use Rattle.std.proofs.Common.{◌≡◌, ◌&&◌, nat_le, ℕ, zero, suc, ◌+◌, ◌*◌, ◌/◌, ◌<◌, Bool, true, false, List, [], ◌∷◌, ◌++◌, length, get_or, take, drop, sym, ap, ap₂, ◌∙◌, refl, arith, length-append, if◌then◌else◌}
+use Rattle.std.proofs.Common.{◌≡◌, ◌&&◌, nat_le, ℕ, zero, suc, ◌+◌, ◌*◌, ◌/◌, Bool, true, false, List, [], ◌∷◌, ◌++◌, length, get_or, take, drop, sym, ap, ap₂, ◌∙◌, refl, arith, length-append, if◌then◌else◌}
 use Rattle.b2_dec.specs.Number.{Number}
 use Rattle.b2_pack.specs.declared.rows.SignNibble.{SignNibble}
 use Rattle.b2_pack.specs.declared.rows.SignNibble.TheVariants.{Absent, Before, After}
 use Rattle.b2_pack.specs.declared.rows.Row.{Row}
 use Rattle.std.specs.List.{list_all}
 use Rattle.b2_base.specs.Lexical.{first}
-use Rattle.b2_pack.specs.Nibbles.{joined, last_digits, is_decimal_nibble}
+use Rattle.b2_pack.specs.Nibbles.{last_digits, is_decimal_nibble}
 use Rattle.b2_pack.specs.Rows.{sign_before, sign_after, row_nibbles, row_bytes, row_width, nibble_count, cut_size, are_digits, digits_start}
 use Rattle.b2_pack.proofs.NibbleLemmas.{last_digits-length, joined-at, joined-length, all_taken, all_dropped}
 

@@ -1,6 +1,6 @@
 -- After packing each value stands in its field, and every other byte is as it was.
-use Rattle.std.proofs.Common.{◌≡◌, ℕ, zero, suc, ◌+◌, ◌-◌, ◌*◌, ◌/◌, ◌<◌, ◌≤◌, ◌==◌, ◌&&◌, ◌||◌, nat_le, nat_lt, Bool, true, false, List, [], ◌∷◌, ◌++◌, length, take, drop, get_or, replicate, Option, Some, None, sym, ap, subst, ◌∙◌, refl, arith, inl, inr, ◌⊎◌, le-leb, lt-ltb, le-ltb, leb-true, length-append, length-drop, eq-eqb, if◌then◌else◌}
-use Rattle.std.proofs.lemmas.Bool.{cases_lt, cases_Bool, lt-leb}
+use Rattle.std.proofs.Common.{◌≡◌, ℕ, zero, suc, ◌+◌, ◌-◌, ◌<◌, ◌≤◌, ◌==◌, ◌&&◌, ◌||◌, nat_le, nat_lt, Bool, true, false, List, [], ◌∷◌, ◌++◌, length, take, drop, get_or, replicate, Option, Some, None, sym, ap, subst, ◌∙◌, refl, arith, inl, inr, ◌⊎◌, le-leb, lt-ltb, leb-true, length-append, length-drop, eq-eqb, if◌then◌else◌}
+use Rattle.std.proofs.lemmas.Bool.{cases_lt, cases_Bool}
 use Rattle.std.proofs.lemmas.List.{take_at, drop_at, length-take, length-take-le, get_or-take, get_or-drop, get_or_append_left, get_or-append_right, length-replicate, same_lists}
 use Rattle.std.proofs.lemmas.Grind.{get_or_default_zero}
 use borrow.Author.Tests.{ltb-true}
@@ -16,7 +16,7 @@ use Rattle.b2_pack.specs.declared.specification.Pair.{Pair}
 use Rattle.b2_pack.specs.declared.specification.Pair.TheVariants as pair
 use Rattle.b2_pack.specs.Specification.{pair_of, is_end, before_pairs, pairs_of, field_width, digits_row}
 use Rattle.b2_pack.specs.FieldValues.{value_code, value_bytes}
-use Rattle.b2_pack.specs.Packing.{Placed, placed_from, placed, written_at, or_code, values_code, with_values}
+use Rattle.b2_pack.specs.Packing.{Placed, placed_from, placed, written_at, values_code, with_values}
 use Rattle.b2_pack.specs.Laws.{Holds, is_covered, Packs}
 use Rattle.b2_pack.proofs.RowLemmas.{row_bytes-length}
 use Rattle.b2_pack.proofs.PackingLemmas.{code-here, code-fits, code-after}
@@ -122,12 +122,12 @@ part-same at w xs ys long inside same =
     let left : length (take w (drop at xs)) ≡ w = omega (arith, length-take w (drop at xs), length-drop at xs) in
     let right : length (take w (drop at ys)) ≡ w = omega (arith, length-take w (drop at ys), length-drop at ys) in
     same_lists _ _ (left ∙ sym right) (λ k d below.
-        let within : k < w = omega arith in
-        let there : at + k < at + w = omega arith in
-        let other : k < length (take w (drop at ys)) = omega arith in
-        get_or_default_zero (take w (drop at xs)) k d below
-        ∙ get_or-take w (drop at xs) k 0 within ∙ get_or-drop at xs k 0 ∙ same (at + k) there
-        ∙ sym (get_or-take w (drop at ys) k 0 within ∙ get_or-drop at ys k 0) ∙ sym (get_or_default_zero (take w (drop at ys)) k d other))
+    let within : k < w = omega arith in
+    let there : at + k < at + w = omega arith in
+    let other : k < length (take w (drop at ys)) = omega arith in
+    get_or_default_zero (take w (drop at xs)) k d below
+    ∙ get_or-take w (drop at xs) k 0 within ∙ get_or-drop at xs k 0 ∙ same (at + k) there
+    ∙ sym (get_or-take w (drop at ys) k 0 within ∙ get_or-drop at ys k 0) ∙ sym (get_or_default_zero (take w (drop at ys)) k d other))
 
 -- what stands in a buffer after values were packed from a place on
 record Stands (ps : List Pair) (at : ℕ) (vs : List Value) (old new : List ℕ) : Type 0 where
@@ -148,14 +148,15 @@ apart at w k rest e =
     elim (cases_lt k at) [
       | inl below ↦ (inl below, beside (nat_le at k && nat_lt k (at + w)) rest e)
       | inr above ↦ elim (cases_lt k (at + w)) [
-          | inl within ↦ absurd (covered (le-leb at k above) (lt-ltb k (at + w) within))
-          | inr past ↦ (inr past, beside (nat_le at k && nat_lt k (at + w)) rest e)
+        | inl within ↦ absurd (covered (le-leb at k above) (lt-ltb k (at + w) within))
+        | inr past ↦ (inr past, beside (nat_le at k && nat_lt k (at + w)) rest e)
       ]
     ]
   where
     beside : (a b : Bool) → (a || b) ≡ false → b ≡ false
     beside true b h = absurd (cc)
     beside false b h = h
+
     covered : nat_le at k ≡ true → nat_lt k (at + w) ≡ true → ⊥
     covered low high = let t : ((nat_le at k && nat_lt k (at + w)) || rest) ≡ true = rw (low, high) refl in cc
 
@@ -219,9 +220,9 @@ covered-same (p ∷ ps) (v ∷ vs) a b k ha hb e =
 pub one-spelling : (ps : List Placed) (vs : List Value) (old one other : List ℕ) → Packs ps vs old one → Packs ps vs old other → one ≡ other
 one-spelling ps vs old one other h g =
     same_lists one other (h.long ∙ sym g.long) (λ k d below.
-        let there : k < length other = omega (arith, h.long, g.long) in
-        get_or_default_zero one k d below
-        ∙ (elim (cases_Bool (is_covered ps vs k)) [
-          | inl here ↦ covered-same ps vs one other k h.each g.each here
-          | inr free ↦ h.others k free ∙ sym (g.others k free)
-        ]) ∙ sym (get_or_default_zero other k d there))
+    let there : k < length other = omega (arith, h.long, g.long) in
+    get_or_default_zero one k d below
+    ∙ (elim (cases_Bool (is_covered ps vs k)) [
+      | inl here ↦ covered-same ps vs one other k h.each g.each here
+      | inr free ↦ h.others k free ∙ sym (g.others k free)
+    ]) ∙ sym (get_or_default_zero other k d there))

@@ -1,12 +1,12 @@
 -- The number in eight bytes is the one that is packed there.
-use Rattle.std.proofs.Common.{◌≡◌, ℕ, ◌+◌, ◌-◌, ◌*◌, ◌/◌, ◌%◌, ◌<◌, ◌≤◌, ◌==◌, ◌&&◌, ◌||◌, nat_le, nat_lt, not, Bool, true, false, List, Option, Some, None, IfSome, sym, ap, ap₂, subst, ◌∙◌, refl, arith, inl, inr, lt-ltb, le-ltb, le-leb, leb-true, eqb-true, if◌then◌else◌}
+use Rattle.std.proofs.Common.{◌≡◌, ℕ, ◌+◌, ◌-◌, ◌/◌, ◌%◌, ◌≤◌, ◌==◌, ◌&&◌, ◌||◌, nat_le, nat_lt, not, Bool, true, false, List, Option, Some, None, sym, ap, ap₂, ◌∙◌, refl, arith, inl, inr, lt-ltb, le-ltb, le-leb, leb-true, eqb-true, if◌then◌else◌}
 use Rattle.std.proofs.lemmas.Bool.{cases_lt, cases_Bool, lt-leb}
 use Rattle.std.proofs.lemmas.Slice.Eq.{bytes_eq-Decides}
 use borrow.Author.Tests.{ltb-true}
 use Rattle.std.specs.Str.{bytes_eq}
 use Rattle.b2_base.specs.Lexical.{first}
 use Rattle.b2_dec.specs.Number.{Number, IsNumber, zero_number}
-use Rattle.b2_dec.specs.Packing.{packed, packed_digits, pairs_value, signs, exponent_size}
+use Rattle.b2_dec.specs.Packing.{packed, packed_digits, pairs_value, signs}
 use Rattle.b2_dec.proofs.Nibbles.{pairs_value-packed, packed_digits-most, signs-packed, packed_digits-joined, exponent-packed_digits, coef-packed_digits}
 use Rattle.b2_pack.specs.PackedNumbers.{is_number, number_of_nibbles, unpacked_as, unpacked}
 

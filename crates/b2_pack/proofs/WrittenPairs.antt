@@ -1,12 +1,11 @@
 -- Bytes that write pairs are a specification, and no others are.
-use Rattle.std.proofs.Common.{◌≡◌, ℕ, suc, ◌+◌, ◌-◌, ◌≤◌, ◌<◌, ◌==◌, ◌&&◌, nat_le, Bool, true, false, List, [], ◌∷◌, ◌++◌, Option, Some, None, is_some, sym, ap, ap₂, subst, ◌∙◌, refl, arith, le-leb, leb-true, eqb-true, eq-eqb, ne_eqb, inl, inr, append_assoc, if◌then◌else◌}
+use Rattle.std.proofs.Common.{◌≡◌, ℕ, ◌+◌, ◌-◌, ◌≤◌, ◌==◌, ◌&&◌, nat_le, Bool, true, false, List, [], ◌∷◌, ◌++◌, Option, Some, None, is_some, sym, ap, ap₂, ◌∙◌, refl, arith, le-leb, leb-true, eqb-true, ne_eqb, inl, inr, append_assoc, if◌then◌else◌}
 use Rattle.std.proofs.lemmas.Bool.{cases_Bool}
 use Rattle.b2_pack.specs.declared.specification.TheConstants.{SKIP, TEXT, DIGITS, PACKED, ALPHA}
-use Rattle.b2_pack.specs.declared.specification.Field.{Field}
 use Rattle.b2_pack.specs.declared.specification.Field.TheVariants as field
 use Rattle.b2_pack.specs.declared.specification.Pair.{Pair}
 use Rattle.b2_pack.specs.declared.specification.Pair.TheVariants as pair
-use Rattle.b2_pack.specs.Specification.{pair_of, is_end, before_pairs, pairs_of, is_specification, field_width, field_decimals, pair_bytes, pair_width, pair_decimals, is_ending}
+use Rattle.b2_pack.specs.Specification.{pair_of, is_end, before_pairs, pairs_of, is_specification, pair_bytes, pair_width, pair_decimals, is_ending}
 use Rattle.b2_pack.proofs.Standing.{some_width}
 use Rattle.b2_pack.specs.Laws.{ArePairs, pairs_bytes, IsWritten}
 
@@ -63,19 +62,19 @@ first_of false b e = absurd (cc)
 pair-says : (k w : ℕ) → Says k w (pair_of k w)
 pair-says k w =
     says-if k w (w == 0) None _ (λ t. tt) (λ some.
-        let width : 1 ≤ w = some_width w some in
-        says-if k w (k == SKIP) _ _ (λ t. ((width, omega arith), ap (λ c. c ∷ w ∷ []) (sym (eqb-true k 0 t)))) (λ f.
-            says-if k w (k == TEXT) _ _ (λ t. ((width, omega arith), ap (λ c. c ∷ w ∷ []) (sym (eqb-true k 16 t)))) (λ f2.
-                says-if k w (nat_le DIGITS k && nat_le k (DIGITS + 9)) _ _ (λ t.
-                    let range = first_of (nat_le 80 k) (nat_le k 89) t in
-                    let low : 80 ≤ k = leb-true 80 k range.0 in
-                    let high : k ≤ 89 = leb-true k 89 range.1 in
-                    let back : 80 + (k - 80) ≡ k = omega arith in
-                    ((width, omega arith), ap (λ c. c ∷ w ∷ []) back)) (λ f3.
-                    says-if k w ((k == PACKED) && (w == 8)) _ _ (λ t.
-                        let both = first_of (k == 96) (w == 8) t in
-                        ((omega arith, omega arith), ap₂ (λ c d. c ∷ d ∷ []) (sym (eqb-true k 96 both.0)) (sym (eqb-true w 8 both.1)))) (λ f4.
-                        says-if k w (k == ALPHA) _ None (λ t. ((width, omega arith), ap (λ c. c ∷ w ∷ []) (sym (eqb-true k 160 t)))) (λ f5. tt))))))
+    let width : 1 ≤ w = some_width w some in
+    says-if k w (k == SKIP) _ _ (λ t. ((width, omega arith), ap (λ c. c ∷ w ∷ []) (sym (eqb-true k 0 t)))) (λ f.
+    says-if k w (k == TEXT) _ _ (λ t. ((width, omega arith), ap (λ c. c ∷ w ∷ []) (sym (eqb-true k 16 t)))) (λ f2.
+    says-if k w (nat_le DIGITS k && nat_le k (DIGITS + 9)) _ _ (λ t.
+    let range = first_of (nat_le 80 k) (nat_le k 89) t in
+    let low : 80 ≤ k = leb-true 80 k range.0 in
+    let high : k ≤ 89 = leb-true k 89 range.1 in
+    let back : 80 + (k - 80) ≡ k = omega arith in
+    ((width, omega arith), ap (λ c. c ∷ w ∷ []) back)) (λ f3.
+    says-if k w ((k == PACKED) && (w == 8)) _ _ (λ t.
+    let both = first_of (k == 96) (w == 8) t in
+    ((omega arith, omega arith), ap₂ (λ c d. c ∷ d ∷ []) (sym (eqb-true k 96 both.0)) (sym (eqb-true w 8 both.1)))) (λ f4.
+    says-if k w (k == ALPHA) _ None (λ t. ((width, omega arith), ap (λ c. c ∷ w ∷ []) (sym (eqb-true k 160 t)))) (λ f5. tt))))))
 
 written-more : (k w : ℕ) (rest : List ℕ) (o : Option Pair) → Says k w o → (is_some o && is_specification rest) ≡ true → (is_specification rest ≡ true → IsWritten rest (pairs_of rest))
     → IsWritten (k ∷ w ∷ rest) (before_pairs o (pairs_of rest))

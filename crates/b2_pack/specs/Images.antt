@@ -1,5 +1,5 @@
 -- The image of PACK: perhaps a sign, one `#` or more, and perhaps a point and one `#` or more; thirteen `#` at most.
-use Rattle.std.specs.Prelude.{ℕ, ◌+◌, ◌==◌, ◌&&◌, ◌||◌, nat_le, Bool, if◌then◌else◌, List, [], ◌∷◌, length, drop, Option, Some, None}
+use Rattle.std.specs.Prelude.{ℕ, zero, suc, ◌+◌, ◌==◌, ◌&&◌, ◌||◌, nat_le, replicate, Bool, true, false, if◌then◌else◌, List, [], ◌∷◌, length, drop, Option, Some, None}
 use Rattle.std.specs.List.{prefix_len}
 use Rattle.b2_base.specs.Byte as byte
 use Rattle.b2_base.specs.Lexical.{first}
@@ -35,3 +35,16 @@ abbrev pub image_row : List ℕ → Option Row
 image_row text =
     let marks = after_sign text in
     image_row_of (begins_signed text) (prefix_len is_hash marks) (decimals_in (drop (prefix_len is_hash marks) marks))
+
+-- the bytes that write an image: a sign, `#`s, and a point with `#`s
+abbrev pub sign_mark : Option Bool → List ℕ
+sign_mark None = []
+sign_mark (Some false) = byte.plus ∷ []
+sign_mark (Some true) = byte.minus ∷ []
+
+abbrev pub marks : ℕ → List ℕ
+marks n = replicate n byte.number_sign
+
+abbrev pub decimal_marks : ℕ → List ℕ
+decimal_marks zero = []
+decimal_marks (suc n) = byte.point ∷ marks (suc n)

@@ -1,5 +1,5 @@
 -- What holds of packing: each value stands in its field and nothing else changes, and what its field spells comes back.
-use Rattle.std.specs.Prelude.{◌≡◌, ◌≤◌, ℕ, ◌+◌, ◌*◌, ◌^◌, ◌%◌, ◌==◌, ◌&&◌, ◌||◌, nat_le, nat_lt, Bool, true, false, List, [], ◌∷◌, ◌++◌, length, take, drop, get_or, map, Result, Ok, Option, Some, None}
+use Rattle.std.specs.Prelude.{◌≡◌, ◌≤◌, ℕ, ◌+◌, ◌*◌, ◌^◌, ◌%◌, ◌&&◌, ◌||◌, nat_le, nat_lt, Bool, true, false, List, [], ◌∷◌, ◌++◌, length, take, drop, get_or, map, Ok, Option, Some, None, is_some, if◌then◌else◌}
 use Rattle.std.specs.List.{flat_map}
 use Rattle.b2_dec.specs.Number.{Number, IsNumber, size}
 use Rattle.b2_dec.specs.declared.values.Value.{Value}
@@ -15,6 +15,7 @@ use Rattle.b2_pack.specs.declared.specification.Field.{Field}
 use Rattle.b2_pack.specs.declared.specification.Field.TheVariants as field
 use Rattle.b2_pack.specs.Rows.{row_fits, row_bytes, row_number}
 use Rattle.b2_pack.specs.declared.specification.Pair.{Pair}
+use Rattle.b2_pack.specs.Images.{sign_mark, marks, decimal_marks, image_row}
 use Rattle.b2_pack.specs.Specification.{digits_row, field_width, pair_bytes, pair_width, pair_decimals, is_ending, is_specification, pairs_of}
 use Rattle.b2_pack.specs.FieldValues.{value_code, value_bytes, value_in, left_aligned}
 use Rattle.b2_pack.specs.Packing.{Placed, values_code, numbers_bytes}
@@ -132,3 +133,20 @@ WrittenPairsAreRead = (text : List ℕ) (ps : List Pair) → IsWritten text ps �
 
 abbrev pub OnlyWrittenPairsAreRead : Type 0
 OnlyWrittenPairsAreRead = (text : List ℕ) → is_specification text ≡ true → IsWritten text (pairs_of text)
+
+-- A text writes an image: perhaps a sign, one `#` or more, and perhaps a point and one `#` or more; thirteen at most.
+pub record IsImage (text : List ℕ) (row : Row) : Type 0 where
+  pub sign : Option Bool
+  pub whole : ℕ
+  pub decimals : ℕ
+  pub least : 1 ≤ whole
+  pub most : whole + decimals ≤ 13
+  pub text_is : sign_mark sign ++ (marks whole ++ decimal_marks decimals) ≡ text
+  pub row_is : row ≡ record { sign = if is_some sign then Before else Absent; digits = whole + decimals; decimals = decimals }
+
+-- Such a text is read as its row, and no other text is.
+abbrev pub ImagesAreRead : Type 0
+ImagesAreRead = (text : List ℕ) (row : Row) → IsImage text row → image_row text ≡ Some row
+
+abbrev pub OnlyImagesAreRead : Type 0
+OnlyImagesAreRead = (text : List ℕ) (row : Row) → image_row text ≡ Some row → IsImage text row

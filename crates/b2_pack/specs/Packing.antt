@@ -9,7 +9,6 @@ use Rattle.b2_pack.specs.declared.specification.Field.{Field}
 use Rattle.b2_pack.specs.declared.specification.Pair.{Pair}
 use Rattle.b2_pack.specs.declared.specification.Pair.TheVariants as pair
 use Rattle.b2_pack.specs.Rows.{row_bytes, row_fits, row_width}
-use Rattle.b2_pack.specs.Images.{image_row}
 use Rattle.b2_pack.specs.Specification.{pairs_of, is_specification, field_width, IsField}
 use Rattle.b2_pack.specs.FieldValues.{value_code, value_bytes}
 

@@ -1,5 +1,5 @@
 -- A specification of $PACK: pairs of a kind and a width.
-use Rattle.std.specs.Prelude.{ℕ, ◌+◌, ◌-◌, ◌*◌, ◌≤◌, ◌==◌, ◌&&◌, nat_le, Bool, true, false, if◌then◌else◌, List, [], ◌∷◌, Option, Some, None, is_some}
+use Rattle.std.specs.Prelude.{ℕ, ◌+◌, ◌-◌, ◌*◌, ◌≤◌, ◌==◌, ◌&&◌, nat_le, Bool, true, if◌then◌else◌, List, [], ◌∷◌, Option, Some, None, is_some}
 use Rattle.b2_base.specs.Byte as byte
 use Rattle.b2_pack.specs.declared.rows.SignNibble.TheVariants.{After}
 use Rattle.b2_pack.specs.declared.rows.Row.{Row}

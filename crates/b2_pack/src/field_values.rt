@@ -38,11 +38,7 @@ fn unless(fits: bool, code: u8) -> Result<(), Code>
     requires most { code ≤ 99 }
     ensures { result_err result ≡ (if fits then None else Some code) }
 {
-    if fits {
-        Ok(())
-    } else {
-        Err(Code::known(code))
-    }
+    if fits { Ok(()) } else { Err(Code::known(code)) }
 }
 
 /// X74 for a value that isn't of the field's kind, X71 for a number that doesn't fit.

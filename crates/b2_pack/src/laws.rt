@@ -1,5 +1,5 @@
 // What holds of the definitions, as contracts of functions that do nothing.
-ghost use Rattle.b2_pack.specs.Laws.{ThereIsOneWayToPack, RowsKeepNumbers, RowsSideBySideKeepNumbers, FieldsKeepValues, UnpackingGivesWhatWasPacked, WrittenPairsAreRead, OnlyWrittenPairsAreRead};
+ghost use Rattle.b2_pack.specs.Laws.{ThereIsOneWayToPack, RowsKeepNumbers, RowsSideBySideKeepNumbers, FieldsKeepValues, UnpackingGivesWhatWasPacked, WrittenPairsAreRead, OnlyWrittenPairsAreRead, ImagesAreRead, OnlyImagesAreRead};
 
 /// There is one way to pack values into a buffer.
 pub fn law_there_is_one_way_to_pack()
@@ -30,4 +30,10 @@ pub fn law_unpacking_gives_what_was_packed()
 pub fn law_written_pairs_are_read()
     ensures read { WrittenPairsAreRead }
     ensures only { OnlyWrittenPairsAreRead }
+{}
+
+/// A text that writes an image is read as the row of it, and no other text is.
+pub fn law_images_are_read()
+    ensures read { ImagesAreRead }
+    ensures only { OnlyImagesAreRead }
 {}

@@ -20,9 +20,9 @@ mod specification;
 mod unpacking;
 
 pub use laws::{
-    law_fields_keep_values, law_there_is_one_way_to_pack, law_rows_keep_numbers,
-    law_rows_side_by_side_keep_numbers, law_unpacking_gives_what_was_packed,
-    law_written_pairs_are_read,
+    law_fields_keep_values, law_images_are_read, law_rows_keep_numbers,
+    law_rows_side_by_side_keep_numbers, law_there_is_one_way_to_pack,
+    law_unpacking_gives_what_was_packed, law_written_pairs_are_read,
 };
 pub use packing::{fields, pack};
 pub use unpacking::{unfields, unpack};

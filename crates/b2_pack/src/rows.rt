@@ -34,11 +34,7 @@ pub(crate) fn row_width(row: Row) -> usize
     ensures width { result ≡ spec.row_width row }
     ensures bound { result ≤ 32768 }
 {
-    let sign = if row.sign == SignNibble::Absent {
-        0
-    } else {
-        1
-    };
+    let sign = if row.sign == SignNibble::Absent { 0 } else { 1 };
     (row.digits as usize + sign + 1) / 2
 }
 

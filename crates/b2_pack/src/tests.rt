@@ -62,7 +62,13 @@ fn refusal(fault: Fault) -> u8 {
 }
 
 /// An image, numbers, a buffer, the buffer after packing, and a code.
-type Imaged = (&'static [u8], &'static [u64], &'static [u8], &'static [u8], u8);
+type Imaged = (
+    &'static [u8],
+    &'static [u64],
+    &'static [u8],
+    &'static [u8],
+    u8,
+);
 
 fn imaged(alloc: Global, row: &Imaged) -> Result<bool, Fail> {
     let (image, given, before, after, code) = *row;
@@ -75,14 +81,26 @@ fn imaged(alloc: Global, row: &Imaged) -> Result<bool, Fail> {
 #[test]
 fn numbers_by_images(rt: HostRuntime) -> Result<(), Fail> {
     let rows: [Imaged; 14] = [
-        (b"+##.#", &[MINUS_TWELVE], b"\xee\xee\xee", b"\x11\x23\xee", 0),
+        (
+            b"+##.#",
+            &[MINUS_TWELVE],
+            b"\xee\xee\xee",
+            b"\x11\x23\xee",
+            0,
+        ),
         (b"-##.#", &[TWELVE], b"\xee\xee", b"\x01\x23", 0),
         (b"##.#", &[MINUS_TWELVE], b"\xee\xee", b"\x12\x30", 0),
         (b"#", &[FIVE], b"\xee", b"\x50", 0),
         (b"##", &[FIVE, TWELVE], b"\xee\xee\xee", b"\x05\x12\xee", 0),
         (b"+#", &[0], b"\xee", b"\x00", 0),
         (b"+#.#", &[MINUS_SMALL], b"\xee\xee", b"\x10\x00", 0),
-        (b"###.##", &[NEARLY_HUNDRED], b"\xee\xee\xee", b"\x09\x99\x60", 0),
+        (
+            b"###.##",
+            &[NEARLY_HUNDRED],
+            b"\xee\xee\xee",
+            b"\x09\x99\x60",
+            0,
+        ),
         (b"##.#", &[NEARLY_HUNDRED], b"\xee\xee", b"\x99\x90", 0),
         (b"##", &[NEARLY_HUNDRED], b"\xee", b"\x99", 0),
         (
@@ -100,7 +118,13 @@ fn numbers_by_images(rt: HostRuntime) -> Result<(), Fail> {
             0,
         ),
         (b"#", &[], b"AB", b"AB", 0),
-        (b"+#######.#####", &[THOUSAND], b"1234567", b"\x00\x00\x12\x34\x50\x00\x00", 0),
+        (
+            b"+#######.#####",
+            &[THOUSAND],
+            b"1234567",
+            b"\x00\x00\x12\x34\x50\x00\x00",
+            0,
+        ),
     ];
     for row in &rows {
         assert!(rt; imaged(rt.alloc(), row)?);
@@ -180,8 +204,16 @@ fn numbers_out_of_images(rt: HostRuntime) -> Result<(), Fail> {
         (b"##.#", b"\x12\x35", &[0x0011_2300_0000_0000]),
         (b"-##.#", b"\x10\x00", &[0]),
         (b"##", b"\x05\x12\xff", &[FIVE, 0x0011_2000_0000_0000]),
-        (b"#############", b"\x99\x99\x99\x99\x99\x99\x90", &[THIRTEEN_NINES]),
-        (b"#.############", b"\x12\x34\x56\x78\x90\x12\x30", &[0x0001_2345_6789_0123]),
+        (
+            b"#############",
+            b"\x99\x99\x99\x99\x99\x99\x90",
+            &[THIRTEEN_NINES],
+        ),
+        (
+            b"#.############",
+            b"\x12\x34\x56\x78\x90\x12\x30",
+            &[0x0001_2345_6789_0123],
+        ),
         (b"#.##", b"\x00\x50", &[0x8025_0000_0000_0000]),
         (b"#", b"", &[]),
     ];
@@ -278,7 +310,13 @@ fn values_in_fields(rt: HostRuntime) -> Result<(), Fail> {
         (b"\x50\x01", &[Packed(MINUS_SMALL)], b"a", b"\x0d", 0),
         (b"\x51\x01", &[Packed(HALF)], b"a", b"\x5c", 0),
         (b"\x59\x01", &[Packed(LEAST)], b"a", b"\x0c", 0),
-        (b"\x51\x02", &[Packed(NEARLY_HUNDRED)], b"ab", b"\x99\x9c", 0),
+        (
+            b"\x51\x02",
+            &[Packed(NEARLY_HUNDRED)],
+            b"ab",
+            b"\x99\x9c",
+            0,
+        ),
         (b"\xa0\x01\xa0\xff", &[Text(b"A")], b"a", b"A", 0),
         (b"\xa0\x02\x20", &[Text(b"A")], b"abc", b"A c", 0),
         (b"\xa0\x02\x20\x20\xff\xff", &[Text(b"")], b"abc", b"  c", 0),
@@ -295,12 +333,30 @@ fn number_text_in_fields(rt: HostRuntime) -> Result<(), Fail> {
         (b"\x10\x05", &[Packed(TWELVE)], b"abcde", b"12.34", 0),
         (b"\x10\x07", &[Packed(TWELVE)], b"abcdefg", b"  12.34", 0),
         (b"\x10\x04", &[Packed(TWELVE)], b"abcd", b"abcd", 71),
-        (b"\x10\x06", &[Packed(MINUS_TWELVE)], b"abcdef", b"-12.34", 0),
+        (
+            b"\x10\x06",
+            &[Packed(MINUS_TWELVE)],
+            b"abcdef",
+            b"-12.34",
+            0,
+        ),
         (b"\x10\x05", &[Packed(MINUS_TWELVE)], b"abcde", b"abcde", 71),
         (b"\x10\x01", &[Packed(0)], b"a", b"0", 0),
         (b"\x10\x02", &[Packed(HALF)], b"ab", b".5", 0),
-        (b"\x10\x0e", &[Packed(LARGE)], b"abcdefghijklmn", b"1.00000000E+13", 0),
-        (b"\x10\x0d", &[Packed(LARGE)], b"abcdefghijklm", b"abcdefghijklm", 71),
+        (
+            b"\x10\x0e",
+            &[Packed(LARGE)],
+            b"abcdefghijklmn",
+            b"1.00000000E+13",
+            0,
+        ),
+        (
+            b"\x10\x0d",
+            &[Packed(LARGE)],
+            b"abcdefghijklm",
+            b"abcdefghijklm",
+            71,
+        ),
     ];
     for row in &rows {
         assert!(rt; fielded(rt.alloc(), row)?);
@@ -321,7 +377,13 @@ fn values_that_fields_refuse(rt: HostRuntime) -> Result<(), Fail> {
         (b"\x60\x08", &[Text(b"5")], b"abcdefg", b"abcdefg", 70),
         (b"\xa0\x05", &[Text(b"A")], b"abcd", b"abcd", 70),
         (b"\x00\x05\xa0\x01", &[Text(b"A")], b"abcde", b"abcde", 70),
-        (b"\xa0\x01\xa0\x09", &[Packed(FIVE), Text(b"A")], b"ab", b"ab", 74),
+        (
+            b"\xa0\x01\xa0\x09",
+            &[Packed(FIVE), Text(b"A")],
+            b"ab",
+            b"ab",
+            74,
+        ),
         (
             b"\xa0\x01\x50\x01",
             &[Text(b"A"), Packed(TWELVE)],

@@ -23,12 +23,7 @@ fn add<T: Drop>(list: &mut Vec<T>, item: T) -> Result<(), NoMemory>
 }
 
 /// The values of given kinds in the fields of a specification.
-fn values_in(
-    alloc: Global,
-    text: &[u8],
-    kinds: &[Kind],
-    from: &[u8],
-) -> Result<Vec<Value>, Fault>
+fn values_in(alloc: Global, text: &[u8], kinds: &[Kind], from: &[u8]) -> Result<Vec<Value>, Fault>
     ensures ok { IfOk result (λ values. unpacking.values_in (placed text.now) kinds.now from.now ≡ Ok values.items) }
     ensures code { IfErr result (unpacking.IsRefused (unpacking.values_in (placed text.now) kinds.now from.now)) }
 {

@@ -1,5 +1,4 @@
-use Rattle.std.proofs.Common.{sym, ap, ◌∙◌, ◌≡◌, Some, None}
-use Rattle.b2_dec.specs.Number.{Number}
+use Rattle.std.proofs.Common.{sym, ap, ◌∙◌, ◌≡◌}
 use Rattle.b2_dec.specs.Packing.{packed}
 use Rattle.b2_pack.specs.PackedNumbers.{unpacked}
 use Rattle.b2_pack.proofs.UnpackedLemmas.{unpacked-packed, unpacked-none, some_is_none}

@@ -1,4 +1,4 @@
-use Rattle.std.proofs.Common.{◌≡◌, ℕ, ◌+◌, ◌*◌, ◌<◌, ◌≤◌, nat_le, List, true, length, take, drop, get_or, sym, subst, ap, ◌∙◌, arith, length-drop, leb-true}
+use Rattle.std.proofs.Common.{◌≡◌, ℕ, ◌+◌, ◌*◌, ◌<◌, ◌≤◌, List, length, take, drop, get_or, sym, subst, ap, ◌∙◌, arith, length-drop, leb-true}
 use Rattle.std.proofs.lemmas.List.{get_or-take, get_or-drop, length-take}
 use Rattle.std.proofs.lemmas.List.Sums.{fold_more}
 use Rattle.b2_dectext.specs.Digits.{IsLeading}

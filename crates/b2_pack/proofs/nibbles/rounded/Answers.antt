@@ -2,7 +2,6 @@ use Rattle.std.proofs.Common.{◌≡◌, ℕ, ◌+◌, ◌-◌, ◌*◌, ◌^◌
 use Rattle.b2_dec.specs.declared.number.Mode.TheVariants.{Round}
 use Rattle.b2_dec.specs.Rounding.{rnd}
 use Rattle.b2_dec.proofs.TenLemmas.{ten_pos}
-use Rattle.b2_dectext.specs.Digits.{IsLeading}
 use Rattle.b2_dectext.proofs.Scales.{written-none, written-part, written-exact}
 use Rattle.b2_pack.proofs.nibbles.rounded.Goals as goal
 

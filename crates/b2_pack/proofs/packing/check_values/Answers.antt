@@ -1,4 +1,4 @@
-use Rattle.std.proofs.Common.{◌≡◌, ◌<◌, length, drop, Some, sym, ap, ◌∙◌, length-drop, arith}
+use Rattle.std.proofs.Common.{◌<◌, length, drop, Some, sym, ap, ◌∙◌, length-drop, arith}
 use Rattle.b2_pack.specs.Specification.{pairs_of}
 use Rattle.b2_pack.specs.Packing.{placed_from}
 use Rattle.b2_pack.proofs.PackingLemmas.{code-lacks_any}

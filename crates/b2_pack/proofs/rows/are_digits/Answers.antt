@@ -1,9 +1,8 @@
-use Rattle.std.proofs.Common.{◌≡◌, ◌*◌, ◌≤◌, true, nat_le, ◌&&◌, sym, ap, ◌∙◌, le-leb, length, take, arith}
+use Rattle.std.proofs.Common.{◌*◌, ◌≤◌, ap, ◌∙◌, le-leb, length, arith}
 use Rattle.std.proofs.lemmas.List.{take_all}
 use Rattle.std.specs.List.{list_all}
 use Rattle.b2_base.specs.Lexical.{first}
 use Rattle.b2_pack.specs.Nibbles.{nibbles, is_decimal_nibble}
-use Rattle.b2_pack.specs.Rows.{are_digits}
 use Rattle.b2_pack.proofs.NibbleLemmas.{nibbles-length, first-at}
 use Rattle.b2_pack.proofs.rows.are_digits.Goals as goal
 

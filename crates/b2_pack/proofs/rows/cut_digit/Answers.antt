@@ -1,4 +1,4 @@
-use Rattle.std.proofs.Common.{◌≡◌, ◌+◌, ◌-◌, ◌≤◌, ◌<◌, ◌%◌, ◌/◌, ◌^◌, ap, ◌∙◌, sym, arith}
+use Rattle.std.proofs.Common.{◌≡◌, ◌+◌, ◌≤◌, arith}
 use Rattle.b2_dec.proofs.TenLemmas.{ten_pos}
 use Rattle.b2_pack.proofs.DigitLemmas.{digit-here, digit-left, digit-right}
 use Rattle.b2_pack.proofs.rows.cut_digit.Goals as goal

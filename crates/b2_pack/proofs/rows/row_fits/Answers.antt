@@ -1,4 +1,4 @@
-use Rattle.std.proofs.Common.{◌≡◌, ◌==◌, true, false, sym, ◌∙◌, eqb-true, eq-eqb}
+use Rattle.std.proofs.Common.{◌≡◌, ◌==◌, true, false, eqb-true, eq-eqb}
 use Rattle.b2_pack.proofs.DigitLemmas.{fits-zero, fits-some}
 use Rattle.b2_pack.proofs.rows.row_fits.Goals as goal
 

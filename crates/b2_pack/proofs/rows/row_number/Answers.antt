@@ -1,5 +1,4 @@
 use Rattle.std.proofs.Common.{◌≡◌, true, sym, ◌∙◌}
-use Rattle.std.proofs.Common.{take, drop}
 use Rattle.b2_pack.specs.Nibbles.{nibbles}
 use Rattle.b2_pack.specs.Rows.{are_digits}
 use Rattle.b2_pack.proofs.RowLemmas.{decimal-digits}

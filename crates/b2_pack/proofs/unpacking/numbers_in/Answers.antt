@@ -1,4 +1,4 @@
-use Rattle.std.proofs.Common.{◌≡◌, ◌+◌, ◌-◌, ◌<◌, ◌≤◌, length, Err, sym, ap, ◌∙◌, arith}
+use Rattle.std.proofs.Common.{◌+◌, ◌-◌, ◌<◌, length, Err, sym, ap, ◌∙◌, arith}
 use Rattle.b2_pack.specs.Rows.{row_width}
 use Rattle.b2_pack.proofs.ReadingLemmas.{after_items, numbers-short, numbers-ok, numbers-err}
 use Rattle.b2_pack.proofs.unpacking.numbers_in.Goals as goal

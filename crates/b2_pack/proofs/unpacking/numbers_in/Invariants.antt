@@ -1,5 +1,4 @@
 use Rattle.std.proofs.Common.{◌≡◌, ◌-◌, ◌≤◌, length}
-use Rattle.b2_pack.specs.Rows.{row_width}
 use Rattle.b2_pack.specs.Unpacking.{numbers_in}
 use Rattle.b2_pack.proofs.ReadingLemmas.{after_items}
 use Rattle.b2_pack.proofs.unpacking.numbers_in.Given as goal

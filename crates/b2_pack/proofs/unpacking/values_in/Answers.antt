@@ -1,4 +1,4 @@
-use Rattle.std.proofs.Common.{◌≡◌, ◌+◌, ◌<◌, ◌≤◌, length, drop, Err, sym, ap, ◌∙◌, length-drop, arith}
+use Rattle.std.proofs.Common.{◌≡◌, ◌+◌, ◌<◌, length, drop, Err, sym, ap, ◌∙◌, length-drop, arith}
 use Rattle.b2_pack.specs.Specification.{pairs_of, field_width}
 use Rattle.b2_pack.specs.Packing.{Placed, placed_from}
 use Rattle.b2_pack.proofs.ReadingLemmas.{after_items, values-lacks_any, values-ok, values-err}
