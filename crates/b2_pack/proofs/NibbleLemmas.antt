@@ -3,7 +3,7 @@ use Rattle.std.proofs.Common.{◌≡◌, ℕ, zero, suc, ◌+◌, ◌-◌, ◌*�
 use Rattle.std.proofs.Math.ListN.{get_or-eq_default}
 use Rattle.std.specs.List.{list_all}
 use Rattle.b2_base.specs.Lexical.{first}
-use Rattle.b2_pack.specs.Nibbles.{nibbles, joined, last_digits}
+use Rattle.b2_pack.specs.Nibbles.{nibbles, paired, last_digits}
 
 pub nibbles-length : (bs : List ℕ) → length (nibbles bs) ≡ 2 * length bs
 nibbles-length [] = refl
@@ -27,22 +27,22 @@ pub nibble-odd : (bs : List ℕ) (place : ℕ) → (place % 2 ≡ 0 → ⊥) →
 nibble-odd bs place e =
     sym (nibbles-low bs (place / 2)) ∙ ap (λ k. get_or (nibbles bs) k 0) (let same : 2 * (place / 2) + 1 ≡ place = omega arith in same)
 
-pub joined-at : (ns : List ℕ) (i : ℕ) → get_or (joined ns) i 0 ≡ 16 * get_or ns (2 * i) 0 + get_or ns (2 * i + 1) 0
-joined-at [] i = refl
-joined-at (h ∷ []) zero = omega arith
-joined-at (h ∷ []) (suc i) =
+pub paired-at : (ns : List ℕ) (i : ℕ) → get_or (paired ns) i 0 ≡ 16 * get_or ns (2 * i) 0 + get_or ns (2 * i + 1) 0
+paired-at [] i = refl
+paired-at (h ∷ []) zero = omega arith
+paired-at (h ∷ []) (suc i) =
     sym (ap (λ k. 16 * get_or (h ∷ []) k 0 + get_or (h ∷ []) (2 * suc i + 1) 0) (let e : 2 * suc i ≡ suc (suc (2 * i)) = omega arith in e)
     ∙ ap (λ k. 16 * 0 + get_or (h ∷ []) k 0) (let e : 2 * suc i + 1 ≡ suc (suc (2 * i + 1)) = omega arith in e))
-joined-at (h ∷ l ∷ ns) zero = refl
-joined-at (h ∷ l ∷ ns) (suc i) =
-    joined-at ns i
+paired-at (h ∷ l ∷ ns) zero = refl
+paired-at (h ∷ l ∷ ns) (suc i) =
+    paired-at ns i
     ∙ sym (ap (λ k. 16 * get_or (h ∷ l ∷ ns) k 0 + get_or (h ∷ l ∷ ns) (2 * suc i + 1) 0) (let e : 2 * suc i ≡ suc (suc (2 * i)) = omega arith in e)
     ∙ ap (λ k. 16 * get_or ns (2 * i) 0 + get_or (h ∷ l ∷ ns) k 0) (let e : 2 * suc i + 1 ≡ suc (suc (2 * i + 1)) = omega arith in e))
 
-pub joined-length : (ns : List ℕ) → length (joined ns) ≡ (length ns + 1) / 2
-joined-length [] = refl
-joined-length (h ∷ []) = refl
-joined-length (h ∷ l ∷ ns) = omega (arith, joined-length ns)
+pub paired-length : (ns : List ℕ) → length (paired ns) ≡ (length ns + 1) / 2
+paired-length [] = refl
+paired-length (h ∷ []) = refl
+paired-length (h ∷ l ∷ ns) = omega (arith, paired-length ns)
 
 pub last_digits-length : (n m : ℕ) → length (last_digits n m) ≡ n
 unfolding last_digits

@@ -6,7 +6,7 @@ use Rattle.b2_pack.proofs.RowLemmas.{row_bytes-length}
 use Rattle.b2_dec.specs.Number.{Number}
 use Rattle.b2_dec.specs.declared.values.Value.{Value}
 use Rattle.b2_pack.specs.declared.rows.Row.{Row}
-use Rattle.b2_pack.specs.Rows.{row_bytes, row_fits, row_width}
+use Rattle.b2_pack.specs.Rows.{row_bytes, row_fits, row_length}
 use Rattle.b2_pack.specs.declared.specification.Pair.{Pair}
 use Rattle.b2_pack.specs.declared.specification.Pair.TheVariants as pair
 use Rattle.b2_pack.specs.Specification.{field_width}
@@ -16,7 +16,7 @@ use Rattle.b2_pack.specs.Packing.{Placed, placed_from, lacks_room, written_at, o
 -- a buffer with numbers in rows, one after another from a place on
 abbrev pub with_numbers : Row → ℕ → List Number → List ℕ → List ℕ
 with_numbers row at [] buffer = buffer
-with_numbers row at (x ∷ xs) buffer = with_numbers row (at + row_width row) xs (written_at at (row_bytes row x) buffer)
+with_numbers row at (x ∷ xs) buffer = with_numbers row (at + row_length row) xs (written_at at (row_bytes row x) buffer)
 
 pub cons_at : {A : Type 0} (xs : List A) (i : ℕ) (x : A) → i < length xs → x ≡ get_or xs i x → drop i xs ≡ x ∷ drop (i + 1) xs
 cons_at xs i x below e = drop_more xs i x below ∙ ap (λ y. y ∷ drop (i + 1) xs) (sym e)
@@ -55,16 +55,16 @@ pub with-here : (ps qs : List Placed) (p : Placed) (v : Value) (vs : List Value)
     → with_values ps (v ∷ vs) buffer ≡ with_values qs vs (written_at p.start (value_bytes p.field v) buffer)
 with-here ps qs p v vs buffer e = ap (λ rs. with_values rs (v ∷ vs) buffer) e
 
-pub numbers-short : (row : Row) (at : ℕ) (x : Number) (xs : List Number) (room : ℕ) → room < at + row_width row → numbers_code row at (x ∷ xs) room ≡ Some 70
-numbers-short row at x xs room short = rw (lt-ltb room (at + row_width row) short) refl
+pub numbers-short : (row : Row) (at : ℕ) (x : Number) (xs : List Number) (room : ℕ) → room < at + row_length row → numbers_code row at (x ∷ xs) room ≡ Some 70
+numbers-short row at x xs room short = rw (lt-ltb room (at + row_length row) short) refl
 
-pub numbers-large : (row : Row) (at : ℕ) (x : Number) (xs : List Number) (room : ℕ) → at + row_width row ≤ room → row_fits row x ≡ false
+pub numbers-large : (row : Row) (at : ℕ) (x : Number) (xs : List Number) (room : ℕ) → at + row_length row ≤ room → row_fits row x ≡ false
     → numbers_code row at (x ∷ xs) room ≡ Some 71
-numbers-large row at x xs room inside large = rw (le-ltb room (at + row_width row) inside, large) refl
+numbers-large row at x xs room inside large = rw (le-ltb room (at + row_length row) inside, large) refl
 
-pub numbers-next : (row : Row) (at : ℕ) (x : Number) (xs : List Number) (room : ℕ) → at + row_width row ≤ room → row_fits row x ≡ true
-    → numbers_code row at (x ∷ xs) room ≡ numbers_code row (at + row_width row) xs room
-numbers-next row at x xs room inside fits = rw (le-ltb room (at + row_width row) inside, fits) refl
+pub numbers-next : (row : Row) (at : ℕ) (x : Number) (xs : List Number) (room : ℕ) → at + row_length row ≤ room → row_fits row x ≡ true
+    → numbers_code row at (x ∷ xs) room ≡ numbers_code row (at + row_length row) xs room
+numbers-next row at x xs room inside fits = rw (le-ltb room (at + row_length row) inside, fits) refl
 
 pub code-lacks_any : (ps : List Placed) (vs : List Value) (room : ℕ) → lacks_room ps room ≡ true → 0 < length vs → values_code ps vs room ≡ Some 70
 code-lacks_any ps [] room e some = absurd (omega arith)
@@ -76,9 +76,9 @@ lacks_room-past [] at room far = refl
 lacks_room-past (pair.Skip width ∷ pairs) at room far = lacks_room-past pairs (at + width) room (omega arith)
 lacks_room-past (pair.Holding f ∷ pairs) at room far = lt-ltb room (at + field_width f) (omega arith)
 
-numbers-inside : (row : Row) (at : ℕ) (x : Number) (xs : List Number) (room : ℕ) → numbers_code row at (x ∷ xs) room ≡ None → at + row_width row ≤ room
+numbers-inside : (row : Row) (at : ℕ) (x : Number) (xs : List Number) (room : ℕ) → numbers_code row at (x ∷ xs) room ≡ None → at + row_length row ≤ room
 numbers-inside row at x xs room none =
-    elim (cases_lt room (at + row_width row)) [
+    elim (cases_lt room (at + row_length row)) [
       | inl short ↦ absurd (never 70 (sym (numbers-short row at x xs room short) ∙ none))
       | inr inside ↦ inside
     ]
@@ -86,7 +86,7 @@ numbers-inside row at x xs room none =
     never : (n : ℕ) → Some n ≡ None → ⊥
     never n e = cc
 
-numbers-further : (row : Row) (at : ℕ) (x : Number) (xs : List Number) (room : ℕ) → numbers_code row at (x ∷ xs) room ≡ None → numbers_code row (at + row_width row) xs room ≡ None
+numbers-further : (row : Row) (at : ℕ) (x : Number) (xs : List Number) (room : ℕ) → numbers_code row at (x ∷ xs) room ≡ None → numbers_code row (at + row_length row) xs room ≡ None
 numbers-further row at x xs room none =
     let inside = numbers-inside row at x xs room none in
     elim (cases_Bool (row_fits row x)) [
@@ -103,22 +103,22 @@ numbers-over : (row : Row) (at : ℕ) (xs : List Number) (buffer : List ℕ) →
 numbers-over row at [] buffer none = sym (take-append-drop at buffer) ∙ ap (λ k. take at buffer ++ drop k buffer) (let e : at ≡ at + 0 = omega arith in e)
 numbers-over row at (x ∷ xs) buffer none =
     let bytes : List ℕ = row_bytes row x in
-    let wide : length bytes ≡ row_width row = row_bytes-length row x in
+    let wide : length bytes ≡ row_length row = row_bytes-length row x in
     let inside = numbers-inside row at x xs (length buffer) none in
     let next : List ℕ = written_at at bytes buffer in
     let rest : List ℕ = drop (at + length bytes) buffer in
     let more : List ℕ = numbers_bytes row xs in
     let front : length (take at buffer) ≡ at = length-take-le at buffer (omega arith) in
     let split : next ≡ (take at buffer ++ bytes) ++ rest = sym (append_assoc (take at buffer) bytes rest) in
-    let end : length (take at buffer ++ bytes) ≡ at + row_width row = omega (arith, length-append (take at buffer) bytes) in
+    let end : length (take at buffer ++ bytes) ≡ at + row_length row = omega (arith, length-append (take at buffer) bytes) in
     let long : length next ≡ length buffer = omega (arith, length-append (take at buffer) (bytes ++ rest), length-append bytes rest, length-drop (at + length bytes) buffer) in
-    let taken : take (at + row_width row) next ≡ take at buffer ++ bytes = ap (take (at + row_width row)) split ∙ take_at (take at buffer ++ bytes) rest (at + row_width row) end in
-    let left : drop (at + row_width row) next ≡ rest = ap (drop (at + row_width row)) split ∙ drop_at (take at buffer ++ bytes) rest (at + row_width row) end in
-    let after : drop (at + row_width row + length more) next ≡ drop (at + length (bytes ++ more)) buffer =
-    sym (drop-drop (length more) (at + row_width row) next) ∙ ap (drop (length more)) left ∙ drop-drop (length more) (at + length bytes) buffer
+    let taken : take (at + row_length row) next ≡ take at buffer ++ bytes = ap (take (at + row_length row)) split ∙ take_at (take at buffer ++ bytes) rest (at + row_length row) end in
+    let left : drop (at + row_length row) next ≡ rest = ap (drop (at + row_length row)) split ∙ drop_at (take at buffer ++ bytes) rest (at + row_length row) end in
+    let after : drop (at + row_length row + length more) next ≡ drop (at + length (bytes ++ more)) buffer =
+    sym (drop-drop (length more) (at + row_length row) next) ∙ ap (drop (length more)) left ∙ drop-drop (length more) (at + length bytes) buffer
     ∙ ap (λ k. drop k buffer) (let e : at + length bytes + length more ≡ at + length (bytes ++ more) = omega (arith, length-append bytes more) in e) in
-    numbers-over row (at + row_width row) xs next (ap (numbers_code row (at + row_width row) xs) long ∙ numbers-further row at x xs (length buffer) none)
-    ∙ ap (λ t. t ++ (more ++ drop (at + row_width row + length more) next)) taken
+    numbers-over row (at + row_length row) xs next (ap (numbers_code row (at + row_length row) xs) long ∙ numbers-further row at x xs (length buffer) none)
+    ∙ ap (λ t. t ++ (more ++ drop (at + row_length row + length more) next)) taken
     ∙ ap (λ t. (take at buffer ++ bytes) ++ (more ++ t)) after
     ∙ append_assoc (take at buffer) bytes (more ++ drop (at + length (bytes ++ more)) buffer)
     ∙ ap (λ t. take at buffer ++ t) (sym (append_assoc bytes more (drop (at + length (bytes ++ more)) buffer)))

@@ -16,8 +16,8 @@ use Rattle.b2_dec.proofs.Exact.{rnd-digits, in_range-number, rnd-none}
 use Rattle.b2_pack.specs.declared.rows.SignNibble.{SignNibble}
 use Rattle.b2_pack.specs.declared.rows.SignNibble.TheVariants.{Absent, Before, After}
 use Rattle.b2_pack.specs.declared.rows.Row.{Row}
-use Rattle.b2_pack.specs.Nibbles.{nibbles, joined, last_digits, number_after, is_decimal_nibble}
-use Rattle.b2_pack.specs.Rows.{cut_size, row_fits, sign_before, sign_after, row_nibbles, row_bytes, digits_in, are_digits, has_sign, is_minus, within_range, nibbles_number, row_number}
+use Rattle.b2_pack.specs.Nibbles.{nibbles, paired, last_digits, decimal_after, is_decimal_nibble}
+use Rattle.b2_pack.specs.Rows.{cut_size, row_fits, sign_before, sign_after, row_nibbles, row_bytes, digits_in, are_digits, has_sign, is_below_zero, within_range, nibbles_number, row_number}
 use Rattle.b2_pack.specs.Laws.{has_its_sign, IsSpelled}
 use Rattle.b2_pack.proofs.NibbleLemmas.{last_digits-length}
 
@@ -37,15 +37,15 @@ two h l small =
     let turned : 16 * h + l ≡ h * 16 + l = omega arith in
     (ap (λ t. t / 16) turned ∙ div-mul-add h 16 l small, ap (λ t. t % 16) turned ∙ mod-mul-add h 16 l small)
 
-nibbles-joined : (ns : List ℕ) → AreNibbles ns → nibbles (joined ns) ≡ ns ++ pad ns
-nibbles-joined [] small = refl
-nibbles-joined (h ∷ []) small =
+nibbles-paired : (ns : List ℕ) → AreNibbles ns → nibbles (paired ns) ≡ ns ++ pad ns
+nibbles-paired [] small = refl
+nibbles-paired (h ∷ []) small =
     let parts = two h 0 (lit< tt) in
     let whole : 16 * h ≡ 16 * h + 0 = omega arith in
     ap₂ (λ a b. a ∷ b ∷ []) (ap (λ t. t / 16) whole ∙ parts.0) (ap (λ t. t % 16) whole ∙ parts.1)
-nibbles-joined (h ∷ l ∷ ns) small =
+nibbles-paired (h ∷ l ∷ ns) small =
     let parts = two h l small.1.0 in
-    ap₂ (λ a b. a ∷ b ∷ nibbles (joined ns)) parts.0 parts.1 ∙ ap (λ t. h ∷ l ∷ t) (nibbles-joined ns small.1.1)
+    ap₂ (λ a b. a ∷ b ∷ nibbles (paired ns)) parts.0 parts.1 ∙ ap (λ t. h ∷ l ∷ t) (nibbles-paired ns small.1.1)
 
 pad-decimal : (ns : List ℕ) → list_all is_decimal_nibble (pad ns) ≡ true
 pad-decimal [] = refl
@@ -80,12 +80,12 @@ after-small Before neg = tt
 after-small After true = (omega arith, tt)
 after-small After false = (omega arith, tt)
 
-digits-number : (n a m : ℕ) → number_after a (last_digits n m) ≡ a * 10 ^ n + m % 10 ^ n
+digits-number : (n a m : ℕ) → decimal_after a (last_digits n m) ≡ a * 10 ^ n + m % 10 ^ n
 unfolding last_digits
 digits-number zero a m = omega arith
 digits-number (suc n) a m =
     let d : ℕ = m / 10 ^ n % 10 in
-    let rest : number_after (10 * a + d) (last_digits n m) ≡ (10 * a + d) * 10 ^ n + m % 10 ^ n = digits-number n (10 * a + d) m in
+    let rest : decimal_after (10 * a + d) (last_digits n m) ≡ (10 * a + d) * 10 ^ n + m % 10 ^ n = digits-number n (10 * a + d) m in
     let parted : m % (10 * 10 ^ n) ≡ d * 10 ^ n + m % 10 ^ n = mod-mul m {m = 10} {c = 10 ^ n} (lit< tt) (ten_pos n) in
     rest ∙ rw (pow-succ' 10 n, parted) (omega arith)
 
@@ -117,7 +117,7 @@ sign-passes Before n neg ds rest e = refl
 sign-passes After n true ds rest e = rw (sign-there n ds rest 13 e) refl
 sign-passes After n false ds rest e = rw (sign-there n ds rest 12 e) refl
 
-sign-back : (s : SignNibble) (n : ℕ) (neg : Bool) (ds rest : List ℕ) → length ds ≡ n → has_its_sign s neg → is_minus s n (sign_before s neg ++ (ds ++ sign_after s neg) ++ rest) ≡ neg
+sign-back : (s : SignNibble) (n : ℕ) (neg : Bool) (ds rest : List ℕ) → length ds ≡ n → has_its_sign s neg → is_below_zero s n (sign_before s neg ++ (ds ++ sign_after s neg) ++ rest) ≡ neg
 sign-back Absent n neg ds rest e its = sym its
 sign-back Before n true ds rest e its = refl
 sign-back Before n false ds rest e its = refl
@@ -152,8 +152,8 @@ nibbles-read row x rest fits h pass =
     let ds : List ℕ = last_digits n m in
     let long : length ds ≡ n = last_digits-length n m in
     let few : m < 10 ^ n = ltb-true m (10 ^ n) fits in
-    let number : number_after 0 (digits_in row.sign n (row_nibbles row x ++ rest)) ≡ m =
-    ap (number_after 0) (digits-there row.sign n x.neg ds rest long) ∙ digits-number n 0 m ∙ ap (λ t. 0 * 10 ^ n + t) (mod-eq_of_lt few) ∙ omega arith in
+    let number : decimal_after 0 (digits_in row.sign n (row_nibbles row x ++ rest)) ≡ m =
+    ap (decimal_after 0) (digits-there row.sign n x.neg ds rest long) ∙ digits-number n 0 m ∙ ap (λ t. 0 * 10 ^ n + t) (mod-eq_of_lt few) ∙ omega arith in
     rw (digits-pass row.sign n x.neg ds rest long (digits-decimal n m) pass, sign-passes row.sign n x.neg ds rest long)
     (ap within_range (ap₂ (λ neg t. rnd Round neg t (10 ^ row.decimals)) (sign-back row.sign n x.neg ds rest long h.sign) number ∙ cut-exact x row.decimals h.number h.decimals))
 
@@ -163,4 +163,4 @@ row-back row x fits h =
     let small : AreNibbles (row_nibbles row x) =
     small-append (sign_before row.sign x.neg) (ds ++ sign_after row.sign x.neg) (before-small row.sign x.neg)
     (small-append ds (sign_after row.sign x.neg) (digits-small row.digits (cut_size row.decimals x)) (after-small row.sign x.neg)) in
-    ap (nibbles_number row) (nibbles-joined (row_nibbles row x) small) ∙ nibbles-read row x (pad (row_nibbles row x)) fits h (pad-decimal (row_nibbles row x))
+    ap (nibbles_number row) (nibbles-paired (row_nibbles row x) small) ∙ nibbles-read row x (pad (row_nibbles row x)) fits h (pad-decimal (row_nibbles row x))

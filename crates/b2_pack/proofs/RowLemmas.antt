@@ -7,8 +7,8 @@ use Rattle.b2_pack.specs.declared.rows.Row.{Row}
 use Rattle.std.specs.List.{list_all}
 use Rattle.b2_base.specs.Lexical.{first}
 use Rattle.b2_pack.specs.Nibbles.{last_digits, is_decimal_nibble}
-use Rattle.b2_pack.specs.Rows.{sign_before, sign_after, row_nibbles, row_bytes, row_width, nibble_count, cut_size, are_digits, digits_start}
-use Rattle.b2_pack.proofs.NibbleLemmas.{last_digits-length, joined-at, joined-length, all_taken, all_dropped}
+use Rattle.b2_pack.specs.Rows.{sign_before, sign_after, row_nibbles, row_bytes, row_length, nibble_count, cut_size, are_digits, digits_start}
+use Rattle.b2_pack.proofs.NibbleLemmas.{last_digits-length, paired-at, paired-length, all_taken, all_dropped}
 
 last_at : (ds : List ℕ) (s k : ℕ) → k ≡ length ds → get_or (ds ++ s ∷ []) k 0 ≡ s
 last_at [] s zero e = refl
@@ -44,14 +44,14 @@ count Absent n neg ds e = omega (arith, length-append ds [], e)
 count Before n neg ds e = omega (arith, length-append ds [], e)
 count After n neg ds e = omega (arith, length-append ds ((if neg then 13 else 12) ∷ []), e)
 
-pub row_bytes-length : (row : Row) (x : Number) → length (row_bytes row x) ≡ row_width row
+pub row_bytes-length : (row : Row) (x : Number) → length (row_bytes row x) ≡ row_length row
 row_bytes-length row x =
-    joined-length (row_nibbles row x)
+    paired-length (row_nibbles row x)
     ∙ ap (λ n. (n + 1) / 2) (count row.sign row.digits x.neg (last_digits row.digits (cut_size row.decimals x)) (last_digits-length row.digits (cut_size row.decimals x)))
 
 pub row_byte : (row : Row) (x : Number) (i high low : ℕ) → high ≡ get_or (row_nibbles row x) (2 * i) 0 → low ≡ get_or (row_nibbles row x) (2 * i + 1) 0
     → 16 * high + low ≡ get_or (row_bytes row x) i 0
-row_byte row x i high low h l = ap₂ (λ a b. 16 * a + b) h l ∙ sym (joined-at (row_nibbles row x) i)
+row_byte row x i high low h l = ap₂ (λ a b. 16 * a + b) h l ∙ sym (paired-at (row_nibbles row x) i)
 
 second_true : (a b : Bool) → (a && b) ≡ true → b ≡ true
 second_true true b e = e

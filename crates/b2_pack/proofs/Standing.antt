@@ -14,9 +14,9 @@ use Rattle.b2_pack.specs.declared.specification.Field.{Field}
 use Rattle.b2_pack.specs.declared.specification.Field.TheVariants as field
 use Rattle.b2_pack.specs.declared.specification.Pair.{Pair}
 use Rattle.b2_pack.specs.declared.specification.Pair.TheVariants as pair
-use Rattle.b2_pack.specs.Specification.{pair_of, is_end, before_pairs, pairs_of, field_width, digits_row}
+use Rattle.b2_pack.specs.Specification.{pair_of, ends_pairs, before_pairs, pairs_of, field_width, digits_row}
 use Rattle.b2_pack.specs.FieldValues.{value_code, value_bytes}
-use Rattle.b2_pack.specs.Packing.{Placed, placed_from, placed, written_at, values_code, with_values}
+use Rattle.b2_pack.specs.Packing.{Placed, placed_from, placed_fields, written_at, values_code, with_values}
 use Rattle.b2_pack.specs.Laws.{Holds, is_covered, Packs}
 use Rattle.b2_pack.proofs.RowLemmas.{row_bytes-length}
 use Rattle.b2_pack.proofs.PackingLemmas.{code-here, code-fits, code-after}
@@ -69,7 +69,7 @@ widths-if false ps h = h
 pairs_widths : (text : List ℕ) → HasWidths (pairs_of text)
 pairs_widths [] = tt
 pairs_widths (b ∷ []) = tt
-pairs_widths (k ∷ w ∷ rest) = widths-if (is_end k w) (before_pairs (pair_of k w) (pairs_of rest)) (widths-before (pair_of k w) (pairs_of rest) (pair_width k w) (pairs_widths rest))
+pairs_widths (k ∷ w ∷ rest) = widths-if (ends_pairs k w) (before_pairs (pair_of k w) (pairs_of rest)) (widths-before (pair_of k w) (pairs_of rest) (pair_width k w) (pairs_widths rest))
 
 pub never : (n : ℕ) → Some n ≡ None → ⊥
 never n e = cc
@@ -190,7 +190,7 @@ stands (pair.Holding f ∷ ps) at (v ∷ vs) old widths none =
           h.others k parts.1 ∙ written-other at bytes old k room (subst (λ n. (k < at) ⊎ (at + n ≤ k)) (sym wide) parts.0);
     }
 
-pub packs : (text : List ℕ) (vs : List Value) (old : List ℕ) → values_code (placed text) vs (length old) ≡ None → Packs (placed text) vs old (with_values (placed text) vs old)
+pub packs : (text : List ℕ) (vs : List Value) (old : List ℕ) → values_code (placed_fields text) vs (length old) ≡ None → Packs (placed_fields text) vs old (with_values (placed_fields text) vs old)
 packs text vs old none =
     let h = stands (pairs_of text) 0 vs old (pairs_widths text) none in
     record { each = h.each; others = h.others; long = h.long }

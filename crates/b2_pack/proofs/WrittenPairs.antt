@@ -5,7 +5,7 @@ use Rattle.b2_pack.specs.declared.specification.TheConstants.{SKIP, TEXT, DIGITS
 use Rattle.b2_pack.specs.declared.specification.Field.TheVariants as field
 use Rattle.b2_pack.specs.declared.specification.Pair.{Pair}
 use Rattle.b2_pack.specs.declared.specification.Pair.TheVariants as pair
-use Rattle.b2_pack.specs.Specification.{pair_of, is_end, before_pairs, pairs_of, is_specification, pair_bytes, pair_width, pair_decimals, is_ending}
+use Rattle.b2_pack.specs.Specification.{pair_of, ends_pairs, before_pairs, pairs_of, is_specification, pair_bytes, pair_width, pair_decimals, is_ending}
 use Rattle.b2_pack.proofs.Standing.{some_width}
 use Rattle.b2_pack.specs.Laws.{ArePairs, pairs_bytes, IsWritten}
 
@@ -36,10 +36,10 @@ pairs-read : (ps : List Pair) (ending : List ℕ) → ArePairs ps → is_ending 
 pairs-read [] ending h e = ending-read ending e
 pairs-read (p ∷ ps) ending h e =
     let rest : List ℕ = pairs_bytes ps ++ ending in
-    let joined : pairs_bytes (p ∷ ps) ++ ending ≡ pair_bytes p ++ rest = append_assoc (pair_bytes p) (pairs_bytes ps) ending in
+    let paired : pairs_bytes (p ∷ ps) ++ ending ≡ pair_bytes p ++ rest = append_assoc (pair_bytes p) (pairs_bytes ps) ending in
     let here = pair-read p rest h.0.0 h.0.1 in
     let more = pairs-read ps ending h.1 e in
-    (ap is_specification joined ∙ here.0 ∙ more.0, ap pairs_of joined ∙ here.1 ∙ ap (λ qs. p ∷ qs) more.1)
+    (ap is_specification paired ∙ here.0 ∙ more.0, ap pairs_of paired ∙ here.1 ∙ ap (λ qs. p ∷ qs) more.1)
 
 pub written-read : (text : List ℕ) (ps : List Pair) → IsWritten text ps → (is_specification text ≡ true) × (pairs_of text ≡ ps)
 written-read text ps h =
@@ -92,7 +92,7 @@ pub only-written : (text : List ℕ) → is_specification text ≡ true → IsWr
 only-written [] e = record { ending = []; pairs = tt; ends = refl; text_is = refl }
 only-written (b ∷ []) e = record { ending = b ∷ []; pairs = tt; ends = e; text_is = refl }
 only-written (k ∷ w ∷ rest) e =
-    elim (cases_Bool (is_end k w)) [
+    elim (cases_Bool (ends_pairs k w)) [
       | inl end ↦ rw end (record { ending = k ∷ w ∷ rest; pairs = tt; ends = end; text_is = refl })
       | inr more ↦ rw more (written-more k w rest (pair_of k w) (pair-says k w) (rw more at e) (λ h. only-written rest h))
     ]

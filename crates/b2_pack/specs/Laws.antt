@@ -87,13 +87,13 @@ abbrev pub kept : Field → Value → Value
 kept f (value.Number x) = value.Number x
 kept f (value.Alpha a) = value.Alpha (left_aligned (field_width f) a)
 
-abbrev pub kind_of : Value → Kind
-kind_of (value.Number x) = kind.Number
-kind_of (value.Alpha a) = kind.Alpha
+abbrev pub value_kind : Value → Kind
+value_kind (value.Number x) = kind.Number
+value_kind (value.Alpha a) = kind.Alpha
 
 -- Such a value comes back out of its field.
 abbrev pub FieldsKeepValues : Type 0
-FieldsKeepValues = (f : Field) (v : Value) → value_code f v ≡ None → IsExact f v → value_in f (kind_of v) (value_bytes f v) ≡ Ok (kept f v)
+FieldsKeepValues = (f : Field) (v : Value) → value_code f v ≡ None → IsExact f v → value_in f (value_kind v) (value_bytes f v) ≡ Ok (kept f v)
 
 abbrev pub AreExact : List Placed → List Value → Type 0
 AreExact ps [] = Unit {0}
@@ -109,7 +109,7 @@ all_kept (p ∷ ps) (v ∷ vs) = kept p.field v ∷ all_kept ps vs
 abbrev pub UnpackingGivesWhatWasPacked : Type 0
 UnpackingGivesWhatWasPacked =
     (ps : List Placed) (vs : List Value) (old new : List ℕ) → values_code ps vs (length old) ≡ None → Packs ps vs old new → AreExact ps vs
-    → values_in ps (map kind_of vs) new ≡ Ok (all_kept ps vs)
+    → values_in ps (map value_kind vs) new ≡ Ok (all_kept ps vs)
 
 -- pairs of at least one byte and at most nine decimals
 abbrev pub ArePairs : List Pair → Type 0

@@ -8,7 +8,7 @@ use Rattle.b2_pack.specs.declared.rows.Row.{Row}
 use Rattle.b2_pack.specs.declared.specification.Field.{Field}
 use Rattle.b2_pack.specs.declared.specification.Pair.{Pair}
 use Rattle.b2_pack.specs.declared.specification.Pair.TheVariants as pair
-use Rattle.b2_pack.specs.Rows.{row_bytes, row_fits, row_width}
+use Rattle.b2_pack.specs.Rows.{row_bytes, row_fits, row_length}
 use Rattle.b2_pack.specs.Specification.{pairs_of, is_specification, field_width, IsField}
 use Rattle.b2_pack.specs.FieldValues.{value_code, value_bytes}
 
@@ -24,8 +24,8 @@ placed_from at (pair.Skip width ∷ ps) = placed_from (at + width) ps
 placed_from at (pair.Holding f ∷ ps) = record { start = at; field = f } ∷ placed_from (at + field_width f) ps
 
 -- the fields of a specification
-abbrev pub placed : List ℕ → List Placed
-placed specification = placed_from 0 (pairs_of specification)
+abbrev pub placed_fields : List ℕ → List Placed
+placed_fields specification = placed_from 0 (pairs_of specification)
 
 -- whether the first field passes the end of a buffer, or there is none
 abbrev pub lacks_room : List Placed → ℕ → Bool
@@ -65,7 +65,7 @@ values_code (p ∷ ps) (v ∷ vs) room =
 -- P58 comes before all other codes.
 abbrev pub fields_code : List ℕ → List Value → ℕ → Option ℕ
 fields_code specification vs room =
-    if is_specification specification then values_code (placed specification) vs room else Some P58_SPECIFICATION
+    if is_specification specification then values_code (placed_fields specification) vs room else Some P58_SPECIFICATION
 
 -- the bytes of numbers in rows side by side
 abbrev pub numbers_bytes : Row → List Number → List ℕ
@@ -79,9 +79,9 @@ with_front bytes buffer = bytes ++ drop (length bytes) buffer
 abbrev pub numbers_code : Row → ℕ → List Number → ℕ → Option ℕ
 numbers_code row at [] room = None
 numbers_code row at (x ∷ xs) room =
-    if nat_lt room (at + row_width row) then Some X70_TOO_LITTLE
+    if nat_lt room (at + row_length row) then Some X70_TOO_LITTLE
     else (if not (row_fits row x) then Some X71_DOES_NOT_FIT
-    else numbers_code row (at + row_width row) xs room)
+    else numbers_code row (at + row_length row) xs room)
 
 -- a buffer with numbers at its front, by an image; there is no row where there is no image
 abbrev pub with_image : Option Row → List Number → List ℕ → List ℕ

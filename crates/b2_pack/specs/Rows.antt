@@ -9,7 +9,7 @@ use Rattle.b2_dec.specs.Rounding.{rnd}
 use Rattle.b2_pack.specs.declared.rows.SignNibble.{SignNibble}
 use Rattle.b2_pack.specs.declared.rows.SignNibble.TheVariants.{Absent, Before, After}
 use Rattle.b2_pack.specs.declared.rows.Row.{Row}
-use Rattle.b2_pack.specs.Nibbles.{nibbles, joined, last_digits, number_after, is_decimal_nibble}
+use Rattle.b2_pack.specs.Nibbles.{nibbles, paired, last_digits, decimal_after, is_decimal_nibble}
 
 -- the size of a number in units of its last decimal that is kept, of which the further ones are cut
 abbrev pub cut_size : ℕ → Number → ℕ
@@ -36,7 +36,7 @@ row_nibbles row x =
     sign_before row.sign x.neg ++ (last_digits row.digits (cut_size row.decimals x) ++ sign_after row.sign x.neg)
 
 abbrev pub row_bytes : Row → Number → List ℕ
-row_bytes row x = joined (row_nibbles row x)
+row_bytes row x = paired (row_nibbles row x)
 
 -- how many nibbles a row has, and how many bytes
 abbrev pub nibble_count : SignNibble → ℕ → ℕ
@@ -44,8 +44,8 @@ nibble_count Absent digits = digits
 nibble_count Before digits = suc digits
 nibble_count After digits = suc digits
 
-abbrev pub row_width : Row → ℕ
-row_width row = (nibble_count row.sign row.digits + 1) / 2
+abbrev pub row_length : Row → ℕ
+row_length row = (nibble_count row.sign row.digits + 1) / 2
 
 -- the digits among the nibbles of a row, and how many nibbles stand before them
 abbrev pub digits_start : SignNibble → ℕ
@@ -69,10 +69,10 @@ has_sign Before digits ns = true
 has_sign After digits ns = (get_or ns digits 0 == 12) || (get_or ns digits 0 == 13)
 
 -- whether the sign is that of a number below zero
-abbrev pub is_minus : SignNibble → ℕ → List ℕ → Bool
-is_minus Absent digits ns = false
-is_minus Before digits ns = first ns == 1
-is_minus After digits ns = get_or ns digits 0 == 13
+abbrev pub is_below_zero : SignNibble → ℕ → List ℕ → Bool
+is_below_zero Absent digits ns = false
+is_below_zero Before digits ns = first ns == 1
+is_below_zero After digits ns = get_or ns digits 0 == 13
 
 -- a number that is too large is refused as its sign is
 abbrev pub within_range : Result Number ℕ → Result Number ℕ
@@ -84,7 +84,7 @@ abbrev pub nibbles_number : Row → List ℕ → Result Number ℕ
 nibbles_number row ns =
     if not (are_digits row.sign row.digits ns) then Err X75_NOT_DECIMAL
     else (if not (has_sign row.sign row.digits ns) then Err X76_LOCATOR_OR_FIELD
-    else within_range (rnd Round (is_minus row.sign row.digits ns) (number_after 0 (digits_in row.sign row.digits ns)) (10 ^ row.decimals)))
+    else within_range (rnd Round (is_below_zero row.sign row.digits ns) (decimal_after 0 (digits_in row.sign row.digits ns)) (10 ^ row.decimals)))
 
 abbrev pub row_number : Row → List ℕ → Result Number ℕ
 row_number row bytes = nibbles_number row (nibbles bytes)

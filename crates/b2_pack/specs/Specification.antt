@@ -21,8 +21,8 @@ pair_of kind width =
     else None)))))
 
 -- two blanks end a specification
-abbrev pub is_end : ℕ → ℕ → Bool
-is_end kind width = (kind == byte.blank) && (width == byte.blank)
+abbrev pub ends_pairs : ℕ → ℕ → Bool
+ends_pairs kind width = (kind == byte.blank) && (width == byte.blank)
 
 -- a pair before others
 abbrev pub before_pairs : Option Pair → List Pair → List Pair
@@ -33,14 +33,14 @@ before_pairs (Some p) ps = p ∷ ps
 abbrev pub pairs_of : List ℕ → List Pair
 pairs_of [] = []
 pairs_of (b ∷ []) = []
-pairs_of (kind ∷ width ∷ rest) = if is_end kind width then [] else before_pairs (pair_of kind width) (pairs_of rest)
+pairs_of (kind ∷ width ∷ rest) = if ends_pairs kind width then [] else before_pairs (pair_of kind width) (pairs_of rest)
 
 -- Whether bytes are pairs up to an end: two blanks, the last byte, or a single blank after the last pair.
 abbrev pub is_specification : List ℕ → Bool
 is_specification [] = true
 is_specification (b ∷ []) = b == byte.blank
 is_specification (kind ∷ width ∷ rest) =
-    if is_end kind width then true else (is_some (pair_of kind width) && is_specification rest)
+    if ends_pairs kind width then true else (is_some (pair_of kind width) && is_specification rest)
 
 -- A packed decimal has two digits in each of its bytes, but for the nibble of its sign.
 abbrev pub digits_row : ℕ → ℕ → Row
@@ -89,4 +89,4 @@ pair_decimals (pair.Holding f) = field_decimals f
 abbrev pub is_ending : List ℕ → Bool
 is_ending [] = true
 is_ending (b ∷ []) = b == byte.blank
-is_ending (kind ∷ width ∷ rest) = is_end kind width
+is_ending (kind ∷ width ∷ rest) = ends_pairs kind width

@@ -7,10 +7,10 @@ use Rattle.b2_dec.specs.Number.{Number}
 use Rattle.b2_dec.specs.declared.values.Value.{Value}
 use Rattle.b2_dec.specs.declared.values.Kind.{Kind}
 use Rattle.b2_pack.specs.declared.rows.Row.{Row}
-use Rattle.b2_pack.specs.Rows.{row_number, row_width}
+use Rattle.b2_pack.specs.Rows.{row_number, row_length}
 use Rattle.b2_pack.specs.Specification.{is_specification, field_width}
 use Rattle.b2_pack.specs.FieldValues.{value_in}
-use Rattle.b2_pack.specs.Packing.{Placed, placed}
+use Rattle.b2_pack.specs.Packing.{Placed, placed_fields}
 
 -- an item before others; the first code from the left is that of all
 abbrev pub before_items : {A : Type 0} → Result A ℕ → Result (List A) ℕ → Result (List A) ℕ
@@ -30,14 +30,14 @@ values_in (p ∷ ps) (k ∷ ks) bytes =
 -- P58 comes before all other codes.
 abbrev pub fields_in : List ℕ → List Kind → List ℕ → Result (List Value) ℕ
 fields_in specification ks bytes =
-    if is_specification specification then values_in (placed specification) ks bytes else Err P58_SPECIFICATION
+    if is_specification specification then values_in (placed_fields specification) ks bytes else Err P58_SPECIFICATION
 
 -- so many numbers in rows, one after another from a place on
 abbrev pub numbers_in : Row → ℕ → ℕ → List ℕ → Result (List Number) ℕ
 numbers_in row at zero bytes = Ok []
 numbers_in row at (suc n) bytes =
-    if nat_lt (length bytes) (at + row_width row) then Err X70_TOO_LITTLE
-    else before_items (row_number row (take (row_width row) (drop at bytes))) (numbers_in row (at + row_width row) n bytes)
+    if nat_lt (length bytes) (at + row_length row) then Err X70_TOO_LITTLE
+    else before_items (row_number row (take (row_length row) (drop at bytes))) (numbers_in row (at + row_length row) n bytes)
 
 abbrev pub image_in : Option Row → ℕ → List ℕ → Result (List Number) ℕ
 image_in None n bytes = Err P58_SPECIFICATION

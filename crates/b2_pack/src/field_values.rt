@@ -91,13 +91,13 @@ pub(crate) fn put_value(field: Field, value: &Value, to: &mut [u8])
     ensures { to.new ≡ spec.value_bytes field value.now }
 {
     match value {
-        Value::Number(x) => put_number(field, *x, to),
+        Value::Number(x) => put_number_in(field, *x, to),
         Value::Alpha(bytes) => put_left(bytes.bytes(), to),
     }
 }
 
 /// Writes a number into the bytes of a field that it fits.
-fn put_number(field: Field, x: Dec, to: &mut [u8])
+fn put_number_in(field: Field, x: Dec, to: &mut [u8])
     requires legal { specification.IsField field }
     requires fits { spec.value_code field (Value.Number x) ≡ None }
     requires width { length to.old ≡ specification.field_width field }

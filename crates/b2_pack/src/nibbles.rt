@@ -66,7 +66,7 @@ fn with_digit(leading: Leading, digit: u8) -> Leading
 fn leading_digits(bytes: &[u8], start: usize, count: u16) -> Leading
     requires within { start + count ≤ 2 * length bytes.now }
     requires decimal { list_all spec.is_decimal_nibble (take count (drop start (spec.nibbles bytes.now))) ≡ true }
-    ensures value { IsLeading (spec.number_after 0 (take count (drop start (spec.nibbles bytes.now)))) result.digits result.more }
+    ensures value { IsLeading (spec.decimal_after 0 (take count (drop start (spec.nibbles bytes.now)))) result.digits result.more }
     ensures bound { result.more ≤ count }
 {
     let mut leading = Leading { digits: 0, more: 0 };
@@ -108,7 +108,7 @@ pub(crate) fn digits_number(
     requires decimal { list_all spec.is_decimal_nibble (take count (drop start (spec.nibbles bytes.now))) ≡ true }
     requires short { count < 600 }
     requires decimals { decimals ≤ 13 }
-    ensures { result ≡ rnd Round neg (spec.number_after 0 (take count (drop start (spec.nibbles bytes.now)))) (10 ^ decimals) }
+    ensures { result ≡ rnd Round neg (spec.decimal_after 0 (take count (drop start (spec.nibbles bytes.now)))) (10 ^ decimals) }
 {
     rounded(neg, leading_digits(bytes, start, count), decimals)
 }

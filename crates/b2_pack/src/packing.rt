@@ -2,14 +2,14 @@
 ghost use Rattle.std.specs.Prelude.{◌≡◌, ◌+◌, ◌≤◌, ◌<◌, ◌∷◌, None, Some, length, true, OnOk, OnErr, MatchOption};
 ghost use Rattle.std.specs.Result.{result_err};
 ghost use Rattle.b2_pack.specs.Images.{image_row};
-ghost use Rattle.b2_pack.specs.Rows.{row_width};
+ghost use Rattle.b2_pack.specs.Rows.{row_length};
 ghost use Rattle.b2_pack.specs.Specification.{pairs_of, field_width, IsField};
 ghost use Rattle.b2_pack.specs.Packing as packing;
 ghost use Rattle.b2_pack.specs.Laws.{Packs};
 
 use crate::field_values::{check_value, put_value};
 use crate::image::image_row;
-use crate::rows::{Row, put_row, row_fits, row_width};
+use crate::rows::{Row, put_row, row_fits, row_length};
 use crate::specification::{Field, Pair, field_width, is_specification, split_pair};
 use b2_base::Code;
 use b2_base::codes::{P58_SPECIFICATION, X70_TOO_LITTLE, X71_DOES_NOT_FIT};
@@ -59,7 +59,7 @@ pub(crate) fn next_field(text: &[u8], at: usize, room: usize) -> Option<NextFiel
 /// The first code of values from the left: X70 where a value has no field in the buffer, X74 where it is of another kind,
 /// X71 where it doesn't fit.
 fn check_values(text: &[u8], values: &[Value], room: usize) -> Result<(), Code>
-    ensures { result_err result ≡ packing.values_code (packing.placed text.now) values.now room }
+    ensures { result_err result ≡ packing.values_code (packing.placed_fields text.now) values.now room }
 {
     let mut rest = text;
     let mut at = 0;
@@ -76,8 +76,8 @@ fn check_values(text: &[u8], values: &[Value], room: usize) -> Result<(), Code>
 
 /// Writes values into their fields, which they fit.
 fn put_values(text: &[u8], values: &[Value], to: &mut [u8])
-    requires { packing.values_code (packing.placed text.now) values.now (length to.old) ≡ None }
-    ensures { to.new ≡ packing.with_values (packing.placed text.now) values.now to.old }
+    requires { packing.values_code (packing.placed_fields text.now) values.now (length to.old) ≡ None }
+    ensures { to.new ≡ packing.with_values (packing.placed_fields text.now) values.now to.old }
 {
     let mut rest = text;
     let mut at = 0;
@@ -99,8 +99,8 @@ fn put_values(text: &[u8], values: &[Value], to: &mut [u8])
 /// code the buffer is as before. Fields past the last value do nothing, and bytes outside of fields stay.
 pub fn fields(spec: &[u8], values: &[Value], to: &mut [u8]) -> Result<(), Code>
     ensures code { result_err result ≡ packing.fields_code spec.now values.now (length to.old) }
-    ensures packed { OnOk result (to.new ≡ packing.with_values (packing.placed spec.now) values.now to.old) }
-    ensures stands { OnOk result (Packs (packing.placed spec.now) values.now to.old to.new) }
+    ensures packed { OnOk result (to.new ≡ packing.with_values (packing.placed_fields spec.now) values.now to.old) }
+    ensures stands { OnOk result (Packs (packing.placed_fields spec.now) values.now to.old to.new) }
     ensures refused { OnErr result (to.new ≡ to.old) }
 {
     if !is_specification(spec) {
@@ -115,7 +115,7 @@ pub fn fields(spec: &[u8], values: &[Value], to: &mut [u8]) -> Result<(), Code>
 fn check_numbers(row: Row, xs: &[Dec], room: usize) -> Result<(), Code>
     ensures { result_err result ≡ packing.numbers_code row 0 xs.now room }
 {
-    let width = row_width(row);
+    let width = row_length(row);
     let mut at = 0;
     for x in xs {
         if width > room - at {
@@ -134,7 +134,7 @@ fn put_numbers(row: Row, xs: &[Dec], to: &mut [u8])
     requires { packing.numbers_code row 0 xs.now (length to.old) ≡ None }
     ensures { to.new ≡ packing.with_front (packing.numbers_bytes row xs.now) to.old }
 {
-    let width = row_width(row);
+    let width = row_length(row);
     let mut at = 0;
     for x in xs {
         put_row(row, *x, &mut to[at..at + width]);

@@ -30,8 +30,8 @@ pub(crate) struct Row {
 }
 
 /// How many bytes a row has.
-pub(crate) fn row_width(row: Row) -> usize
-    ensures width { result ≡ spec.row_width row }
+pub(crate) fn row_length(row: Row) -> usize
+    ensures width { result ≡ spec.row_length row }
     ensures bound { result ≤ 32768 }
 {
     let sign = if row.sign == SignNibble::Absent { 0 } else { 1 };
@@ -104,7 +104,7 @@ fn row_nibble(row: Row, x: Dec, place: usize) -> u8
 
 /// Writes a number into the bytes of a row.
 pub(crate) fn put_row(row: Row, x: Dec, to: &mut [u8])
-    requires { length to.old ≡ spec.row_width row }
+    requires { length to.old ≡ spec.row_length row }
     ensures { to.new ≡ spec.row_bytes row x }
 {
     for i in 0..to.len() {
@@ -126,7 +126,7 @@ fn digits_start(sign: SignNibble) -> usize
 
 /// Whether all nibbles of a row are digits, but for a sign after them; a sign before them is 0 or 1.
 fn are_digits(row: Row, bytes: &[u8]) -> bool
-    requires { length bytes.now ≡ spec.row_width row }
+    requires { length bytes.now ≡ spec.row_length row }
     ensures { result ≡ spec.are_digits row.sign row.digits (nibbles bytes.now) }
 {
     match row.sign {
@@ -138,7 +138,7 @@ fn are_digits(row: Row, bytes: &[u8]) -> bool
 
 /// Whether the sign after the digits of a row is C or D.
 fn has_sign(row: Row, bytes: &[u8]) -> bool
-    requires { length bytes.now ≡ spec.row_width row }
+    requires { length bytes.now ≡ spec.row_length row }
     ensures { result ≡ spec.has_sign row.sign row.digits (nibbles bytes.now) }
 {
     if row.sign != SignNibble::After {
@@ -149,9 +149,9 @@ fn has_sign(row: Row, bytes: &[u8]) -> bool
 }
 
 /// Whether the sign of a row is that of a number below zero.
-fn is_minus(row: Row, bytes: &[u8]) -> bool
-    requires { length bytes.now ≡ spec.row_width row }
-    ensures { result ≡ spec.is_minus row.sign row.digits (nibbles bytes.now) }
+fn is_below_zero(row: Row, bytes: &[u8]) -> bool
+    requires { length bytes.now ≡ spec.row_length row }
+    ensures { result ≡ spec.is_below_zero row.sign row.digits (nibbles bytes.now) }
 {
     match row.sign {
         SignNibble::Absent => false,
@@ -163,7 +163,7 @@ fn is_minus(row: Row, bytes: &[u8]) -> bool
 /// The number in the bytes of a row: X75 where a nibble isn't a digit or a sign before them isn't 0 or 1, then X76 where
 /// a sign after them isn't C or D, and where the number is too large.
 pub(crate) fn row_number(row: Row, bytes: &[u8]) -> Result<Dec, Code>
-    requires width { length bytes.now ≡ spec.row_width row }
+    requires width { length bytes.now ≡ spec.row_length row }
     requires digits { row.digits < 600 }
     requires decimals { row.decimals ≤ 13 }
     ensures { result ≡ spec.row_number row bytes.now }
@@ -174,7 +174,7 @@ pub(crate) fn row_number(row: Row, bytes: &[u8]) -> Result<Dec, Code>
     if !has_sign(row, bytes) {
         return Err(Code::known(X76_LOCATOR_OR_FIELD));
     }
-    let neg = is_minus(row, bytes);
+    let neg = is_below_zero(row, bytes);
     let start = digits_start(row.sign);
     match digits_number(neg, bytes, start, row.digits, row.decimals) {
         Ok(x) => Ok(x),

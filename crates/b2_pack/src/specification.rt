@@ -91,8 +91,8 @@ fn pair_of(kind: u8, width: u8) -> Option<Pair>
 }
 
 /// Whether two bytes end a specification.
-fn is_end(kind: u8, width: u8) -> bool
-    ensures { result ≡ spec.is_end kind width }
+fn ends_pairs(kind: u8, width: u8) -> bool
+    ensures { result ≡ spec.ends_pairs kind width }
 {
     kind == b' ' && width == b' '
 }
@@ -105,7 +105,7 @@ pub(crate) fn split_pair(text: &[u8]) -> Option<(Pair, &[u8])>
 {
     match text {
         [kind, width, rest @ ..] => {
-            if is_end(*kind, *width) {
+            if ends_pairs(*kind, *width) {
                 return None;
             }
             match pair_of(*kind, *width) {
@@ -123,7 +123,7 @@ pub(crate) fn is_specification(text: &[u8]) -> bool
 {
     let mut rest = text;
     while let [kind, width, after @ ..] = rest {
-        if is_end(*kind, *width) {
+        if ends_pairs(*kind, *width) {
             return true;
         }
         if pair_of(*kind, *width).is_none() {

@@ -1,13 +1,13 @@
 // Values out of a buffer.
 ghost use Rattle.std.specs.Prelude.{◌≡◌, ◌+◌, ◌≤◌, ◌<◌, ◌++◌, ◌∷◌, [], Ok, length, OnOk, IfOk, IfErr};
 ghost use Rattle.b2_pack.specs.Images.{image_row};
-ghost use Rattle.b2_pack.specs.Packing.{placed};
+ghost use Rattle.b2_pack.specs.Packing.{placed_fields};
 ghost use Rattle.b2_pack.specs.Unpacking as unpacking;
 
 use crate::field_values::value_in;
 use crate::image::image_row;
 use crate::packing::next_field;
-use crate::rows::{Row, row_number, row_width};
+use crate::rows::{Row, row_length, row_number};
 use crate::specification::{field_width, is_specification};
 use b2_base::codes::{P58_SPECIFICATION, X70_TOO_LITTLE};
 use b2_base::{Code, Fault, NoMemory};
@@ -24,8 +24,8 @@ fn add<T: Drop>(list: &mut Vec<T>, item: T) -> Result<(), NoMemory>
 
 /// The values of given kinds in the fields of a specification.
 fn values_in(alloc: Global, text: &[u8], kinds: &[Kind], from: &[u8]) -> Result<Vec<Value>, Fault>
-    ensures ok { IfOk result (λ values. unpacking.values_in (placed text.now) kinds.now from.now ≡ Ok values.items) }
-    ensures code { IfErr result (unpacking.IsRefused (unpacking.values_in (placed text.now) kinds.now from.now)) }
+    ensures ok { IfOk result (λ values. unpacking.values_in (placed_fields text.now) kinds.now from.now ≡ Ok values.items) }
+    ensures code { IfErr result (unpacking.IsRefused (unpacking.values_in (placed_fields text.now) kinds.now from.now)) }
 {
     let mut values = Vec::new(alloc);
     let mut rest = text;
@@ -73,7 +73,7 @@ fn numbers_in(alloc: Global, row: Row, n: usize, from: &[u8]) -> Result<Vec<Dec>
     ensures ok { IfOk result (λ xs. unpacking.numbers_in row 0 n from.now ≡ Ok xs.items) }
     ensures code { IfErr result (unpacking.IsRefused (unpacking.numbers_in row 0 n from.now)) }
 {
-    let width = row_width(row);
+    let width = row_length(row);
     let mut xs = Vec::new(alloc);
     let mut at = 0;
     for _ in 0..n {

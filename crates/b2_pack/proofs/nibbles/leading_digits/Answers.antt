@@ -2,7 +2,7 @@ use Rattle.std.proofs.Common.{◌≡◌, ℕ, ◌+◌, ◌*◌, ◌<◌, ◌≤�
 use Rattle.std.proofs.lemmas.List.{get_or-take, get_or-drop, length-take}
 use Rattle.std.proofs.lemmas.List.Sums.{fold_more}
 use Rattle.b2_dectext.specs.Digits.{IsLeading}
-use Rattle.b2_pack.specs.Nibbles.{nibbles, number_after, is_decimal_nibble}
+use Rattle.b2_pack.specs.Nibbles.{nibbles, decimal_after, is_decimal_nibble}
 use Rattle.b2_pack.proofs.NibbleLemmas.{nibbles-length, each_passes}
 use Rattle.b2_pack.proofs.nibbles.leading_digits.Goals as goal
 
@@ -23,8 +23,8 @@ loop-done-preserved c =
     let i = c.loop-done.done in
     let below : i < length rest = omega (arith, length-drop c.args.start (nibbles c.args.bytes.now), nibbles-length c.args.bytes.now) in
     let here : get_or rest i 0 ≡ c.nibble_at.result = get_or-drop c.args.start (nibbles c.args.bytes.now) i 0 ∙ sym c.nibble_at.ensures.nibble in
-    let more : number_after 0 (take (i + 1) rest) ≡ 10 * number_after 0 (take i rest) + c.nibble_at.result =
-    fold_more (λ m d. 10 * m + d) 0 rest i 0 below ∙ ap (λ d. 10 * number_after 0 (take i rest) + d) here in
+    let more : decimal_after 0 (take (i + 1) rest) ≡ 10 * decimal_after 0 (take i rest) + c.nibble_at.result =
+    fold_more (λ m d. 10 * m + d) 0 rest i 0 below ∙ ap (λ d. 10 * decimal_after 0 (take i rest) + d) here in
     record {
       few = omega arith;
       read =
