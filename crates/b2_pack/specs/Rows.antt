@@ -6,6 +6,7 @@ use Rattle.b2_base.specs.declared.codes.TheConstants.{X75_NOT_DECIMAL, X76_LOCAT
 use Rattle.b2_dec.specs.declared.number.Mode.TheVariants.{Round}
 use Rattle.b2_dec.specs.Number.{Number, size}
 use Rattle.b2_dec.specs.Rounding.{rnd}
+use Rattle.b2_pack.specs.declared.rows.TheConstants.{PLUS_NIBBLE, MINUS_NIBBLE}
 use Rattle.b2_pack.specs.declared.rows.SignNibble.{SignNibble}
 use Rattle.b2_pack.specs.declared.rows.SignNibble.TheVariants.{Absent, Before, After}
 use Rattle.b2_pack.specs.declared.rows.Row.{Row}
@@ -28,7 +29,7 @@ sign_before After neg = []
 abbrev pub sign_after : SignNibble → Bool → List ℕ
 sign_after Absent neg = []
 sign_after Before neg = []
-sign_after After neg = (if neg then 13 else 12) ∷ []
+sign_after After neg = (if neg then MINUS_NIBBLE else PLUS_NIBBLE) ∷ []
 
 -- the nibbles of a number in a row, and the bytes that they make
 abbrev pub row_nibbles : Row → Number → List ℕ
@@ -66,13 +67,13 @@ are_digits After digits ns = list_all is_decimal_nibble (take digits ns)
 abbrev pub has_sign : SignNibble → ℕ → List ℕ → Bool
 has_sign Absent digits ns = true
 has_sign Before digits ns = true
-has_sign After digits ns = (get_or ns digits 0 == 12) || (get_or ns digits 0 == 13)
+has_sign After digits ns = (get_or ns digits 0 == PLUS_NIBBLE) || (get_or ns digits 0 == MINUS_NIBBLE)
 
 -- whether the sign is that of a number below zero
 abbrev pub is_below_zero : SignNibble → ℕ → List ℕ → Bool
 is_below_zero Absent digits ns = false
 is_below_zero Before digits ns = first ns == 1
-is_below_zero After digits ns = get_or ns digits 0 == 13
+is_below_zero After digits ns = get_or ns digits 0 == MINUS_NIBBLE
 
 -- a number that is too large is refused as its sign is
 abbrev pub within_range : Result Number ℕ → Result Number ℕ

@@ -8,6 +8,11 @@ use b2_base::Code;
 use b2_base::codes::{X75_NOT_DECIMAL, X76_LOCATOR_OR_FIELD};
 use b2_dec::Dec;
 
+/// The nibble of a sign after the digits of a number that isn't below zero.
+const PLUS_NIBBLE: u8 = 0xC;
+/// The nibble of a sign after the digits of a number below zero.
+const MINUS_NIBBLE: u8 = 0xD;
+
 /// Where the nibble of a sign stands.
 #[derive(Clone, Copy, Debug, PartialEq, Eq)]
 pub(crate) enum SignNibble {
@@ -94,7 +99,11 @@ fn row_nibble(row: Row, x: Dec, place: usize) -> u8
         }
         SignNibble::After => {
             if place == row.digits as usize {
-                if x.is_negative() { 13 } else { 12 }
+                if x.is_negative() {
+                    MINUS_NIBBLE
+                } else {
+                    PLUS_NIBBLE
+                }
             } else {
                 digit_at(row, x, place)
             }
@@ -145,7 +154,7 @@ fn has_sign(row: Row, bytes: &[u8]) -> bool
         return true;
     }
     let sign = nibble_at(bytes, row.digits as usize);
-    sign == 12 || sign == 13
+    sign == PLUS_NIBBLE || sign == MINUS_NIBBLE
 }
 
 /// Whether the sign of a row is that of a number below zero.
@@ -156,7 +165,7 @@ fn is_below_zero(row: Row, bytes: &[u8]) -> bool
     match row.sign {
         SignNibble::Absent => false,
         SignNibble::Before => nibble_at(bytes, 0) == 1,
-        SignNibble::After => nibble_at(bytes, row.digits as usize) == 13,
+        SignNibble::After => nibble_at(bytes, row.digits as usize) == MINUS_NIBBLE,
     }
 }
 
