@@ -22,7 +22,7 @@ decimals_in [] = Some 0
 decimals_in (b ∷ marks) =
     if (b == byte.point) && nat_le 1 (length marks) && (prefix_len is_hash marks == length marks) then Some (length marks) else None
 
--- the row of an image with so many `#` before the point and after it
+-- the row of an image with this many `#` before the point and after it
 abbrev pub image_row_of : Bool → ℕ → Option ℕ → Option Row
 image_row_of signed whole None = None
 image_row_of signed whole (Some decimals) =

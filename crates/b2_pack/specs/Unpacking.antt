@@ -32,7 +32,7 @@ abbrev pub fields_in : List ℕ → List Kind → List ℕ → Result (List Valu
 fields_in specification ks bytes =
     if is_specification specification then values_in (placed_fields specification) ks bytes else Err P58_SPECIFICATION
 
--- so many numbers in rows, one after another from a place on
+-- n numbers in rows, one after another from a place on
 abbrev pub numbers_in : Row → ℕ → ℕ → List ℕ → Result (List Number) ℕ
 numbers_in row at zero bytes = Ok []
 numbers_in row at (suc n) bytes =

@@ -76,8 +76,8 @@ fn leading_digits(bytes: &[u8], start: usize, count: u16) -> Leading
     leading
 }
 
-/// The number of a sign and leading digits, with so many of all digits after the point, a half going away from zero. A
-/// code comes where it is too large.
+/// The number of a sign and the leading digits of a whole number, with `decimals` of all its digits after the point. It is
+/// rounded to thirteen digits, a half going away from zero. A code comes where it is too large.
 fn rounded(neg: bool, leading: Leading, decimals: u8) -> Result<Dec, Code>
     requires few { leading.digits < 10 ^ 14 }
     requires short { leading.more < 600 }
@@ -95,8 +95,8 @@ fn rounded(neg: bool, leading: Leading, decimals: u8) -> Result<Dec, Code>
     }
 }
 
-/// The number of a sign and the digits from a place on, with so many of them after the point, rounded to thirteen digits,
-/// a half going away from zero. A code comes where it is too large.
+/// The number of a sign and `count` digits from a place on, with `decimals` of them after the point. It is rounded to
+/// thirteen digits, a half going away from zero. A code comes where it is too large.
 pub(crate) fn digits_number(
     neg: bool,
     bytes: &[u8],

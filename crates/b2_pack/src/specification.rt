@@ -18,20 +18,20 @@ pub(crate) const ALPHA: u8 = 0xA0;
 /// What a field holds, and in how many bytes.
 #[derive(Clone, Copy, Debug, PartialEq, Eq)]
 pub(crate) enum Field {
-    /// The text of a number, at the right end of so many bytes.
+    /// The text of a number, at the right end of its width in bytes.
     Text(u8),
-    /// A number's decimal digits, with so many of them after the point, and its sign in the last nibble.
+    /// A number's decimal digits, some of them after the point, with the sign in the last nibble.
     Digits { decimals: u8, width: u8 },
     /// A packed number of eight bytes.
     Packed,
-    /// An alpha value of so many bytes.
+    /// An alpha value, padded or cut to its width in bytes.
     Alpha(u8),
 }
 
 /// A pair of a specification.
 #[derive(Clone, Copy, Debug, PartialEq, Eq)]
 pub(crate) enum Pair {
-    /// So many bytes are left as they are.
+    /// A number of bytes that are left as they are.
     Skip(u8),
     /// A field that holds one value.
     Holding(Field),
