@@ -1,6 +1,6 @@
 -- Laws of rows that are read: they stand item by item, repetitions go on where their rows begin, and each unit of a line is a
 -- row that is read.
-use Rattle.std.specs.Prelude.{◌≡◌, ◌≤◌, ◌<◌, ℕ, Bool, true, false, List, [], ◌∷◌, Ok, length}
+use Rattle.std.specs.Prelude.{◌≡◌, ◌≤◌, ℕ, true, false, [], Ok, length}
 use Rattle.std.specs.List.{All}
 use Rattle.b2_atom.specs.Words.{Text}
 use Rattle.b2_atom.specs.Tree.{Trees, atoms}
@@ -14,7 +14,7 @@ use Rattle.b2_atom.specs.declared.forms.Start.{Start}
 use Rattle.b2_base.specs.Lexical.{first}
 use Rattle.b2_rows.specs.Rows.{is_part, tree_at, after_part, is_list, after_list, RowStands, Goes, Ends}
 use Rattle.b2_rows.specs.Links.{Further}
-use Rattle.b2_rows.specs.Chains.{chain_row, item_row, more_row, more_start, is_sign, is_operator_of, ChainStands, SignedFactor, PlainFactor}
+use Rattle.b2_rows.specs.Chains.{chain_row, item_row, more_row, more_start, is_operator_of, ChainStands}
 use Rattle.b2_rows.specs.declared.chains.Chain.{Chain}
 
 -- each row that is read stands item by item

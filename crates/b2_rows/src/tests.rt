@@ -6,16 +6,14 @@ use crate::{
     slot_at, small_at, taken_fault,
 };
 use b2_alpha::Rel;
-use b2_atom::Atoms;
-use b2_atom::rows;
 use b2_atom::words::{
     AND, BIN_OPEN, ERR, FN, HASH_PART, HEX_OPEN, INT_OPEN, LINE_MARK, MAX_OPEN, MOD_OPEN, NUM_OPEN,
     OR, Origin, POS_OPEN, SQR_OPEN, STR_OPEN, VAL_OPEN, XOR,
 };
 use b2_atom::{
-    address_width, alpha_name_width, function_name_width, hex_digit_width, hex_pair_width,
-    image_width, literal_width, local_name_width, numeric_name_width, relation_width, slot_width,
-    small_width,
+    Atoms, address_width, alpha_name_width, function_name_width, hex_digit_width, hex_pair_width,
+    image_width, literal_width, local_name_width, numeric_name_width, relation_width, rows,
+    slot_width, small_width,
 };
 use b2_base::lexical::{at, first, is_decimal};
 use std::alloc::Global;
@@ -211,7 +209,10 @@ fn relation_read(text: &[u8]) -> Option<(Rel, usize)> {
 #[test]
 fn relations_are_read(rt: HostRuntime) {
     for (text, relation, width) in RELATIONS {
-        assert!(rt; relation_read(text) == Some((relation, width)), "of width {width}");
+        assert!(rt;
+            relation_read(text) == Some((relation, width)),
+            "of width {width}"
+        );
     }
 }
 
@@ -348,15 +349,87 @@ fn rows_are_read(rt: HostRuntime) {
 // A program line, one of its units, the row of that, where a step goes on after it, past the next `:`, and after a false IF,
 // and the unit at which it goes on after a fault, 0 for none.
 const LINES: [(&[u8], usize, u16, Goal, Goal, Goal, usize); 9] = [
-    (b"STOP", 0, rows::STOP, Goal::NextLine, Goal::NextLine, Goal::NextLine, 0),
-    (b"IF A=1 THEN 10", 0, rows::IF, Goal::NextLine, Goal::NextLine, Goal::NextLine, 0),
-    (b"IF A=1 THEN 10:B=2", 0, rows::IF, Goal::Unit(1), Goal::Unit(1), Goal::Unit(1), 0),
-    (b"IF A=1 THEN B=2:ELSE 200", 0, rows::IF, Goal::Unit(1), Goal::Unit(2), Goal::Line(200), 0),
-    (b"IF A=1 THEN B=2:ELSE C=3", 0, rows::IF, Goal::Unit(1), Goal::Unit(2), Goal::Unit(3), 0),
-    (b"IF A=1 THEN B=2:ELSE C=3", 2, rows::ELSE, Goal::Unit(3), Goal::NextLine, Goal::NextLine, 0),
-    (b"X=1:ERROR STOP", 0, rows::ASSIGNMENT, Goal::Unit(1), Goal::Unit(1), Goal::Unit(1), 2),
-    (b"X=1:END:ERROR STOP", 0, rows::ASSIGNMENT, Goal::Unit(1), Goal::Unit(1), Goal::Unit(1), 0),
-    (b"IF A=1 THEN X=1:ERROR Y=2", 1, rows::ASSIGNMENT, Goal::Unit(2), Goal::Unit(2), Goal::Unit(2), 3),
+    (
+        b"STOP",
+        0,
+        rows::STOP,
+        Goal::NextLine,
+        Goal::NextLine,
+        Goal::NextLine,
+        0,
+    ),
+    (
+        b"IF A=1 THEN 10",
+        0,
+        rows::IF,
+        Goal::NextLine,
+        Goal::NextLine,
+        Goal::NextLine,
+        0,
+    ),
+    (
+        b"IF A=1 THEN 10:B=2",
+        0,
+        rows::IF,
+        Goal::Unit(1),
+        Goal::Unit(1),
+        Goal::Unit(1),
+        0,
+    ),
+    (
+        b"IF A=1 THEN B=2:ELSE 200",
+        0,
+        rows::IF,
+        Goal::Unit(1),
+        Goal::Unit(2),
+        Goal::Line(200),
+        0,
+    ),
+    (
+        b"IF A=1 THEN B=2:ELSE C=3",
+        0,
+        rows::IF,
+        Goal::Unit(1),
+        Goal::Unit(2),
+        Goal::Unit(3),
+        0,
+    ),
+    (
+        b"IF A=1 THEN B=2:ELSE C=3",
+        2,
+        rows::ELSE,
+        Goal::Unit(3),
+        Goal::NextLine,
+        Goal::NextLine,
+        0,
+    ),
+    (
+        b"X=1:ERROR STOP",
+        0,
+        rows::ASSIGNMENT,
+        Goal::Unit(1),
+        Goal::Unit(1),
+        Goal::Unit(1),
+        2,
+    ),
+    (
+        b"X=1:END:ERROR STOP",
+        0,
+        rows::ASSIGNMENT,
+        Goal::Unit(1),
+        Goal::Unit(1),
+        Goal::Unit(1),
+        0,
+    ),
+    (
+        b"IF A=1 THEN X=1:ERROR Y=2",
+        1,
+        rows::ASSIGNMENT,
+        Goal::Unit(2),
+        Goal::Unit(2),
+        Goal::Unit(2),
+        3,
+    ),
 ];
 
 fn line_of(alloc: Global, source: &[u8]) -> Result<Atoms, Fail> {
