@@ -139,7 +139,7 @@ pub no_longer : (t : Text) (o : Outcome) → Takes t o → length (left_after o)
 no_longer t (Ok p) h = let e : length (atoms p.0 ++ p.1) ≡ length t = ap length h in omega (arith, e, length-append (atoms p.0) p.1)
 no_longer t (Err e) h = omega arith
 
-takes_reading : (n : ℕ) (t : Text) → Takes t (reading_row n t)
+pub takes_reading : (n : ℕ) (t : Text) → Takes t (reading_row n t)
 unfolding reading_row
 takes_reading n t = takes_level no_statement in_parentheses (takes_statement 0) (takes_deep no_statement (takes_statement 0) 32) 40 n t
 

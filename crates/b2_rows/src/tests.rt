@@ -1,9 +1,9 @@
 use crate::{
     AlphaOperand, Chain, Goal, Name, Operand, address_at, after_false, alpha_name,
-    alpha_operand_at, function_name, goes_on, has_sign, hex_byte_at, hex_digit_at, image_at,
-    is_alpha_at, is_array_at, is_at, is_hex_at, is_line_at, is_numeric_at, is_read, line_at,
-    literal_at, local_name, next_unit, numeric_name, operand_at, past_colon, relation_at, row_unit,
-    slot_at, small_at, taken_fault,
+    alpha_operand_at, calls_function, function_name, goes_on, has_sign, hex_byte_at, hex_digit_at,
+    image_at, is_alpha_at, is_array_at, is_at, is_hex_at, is_line_at, is_numeric_at, is_read,
+    line_at, literal_at, local_name, next_unit, numeric_name, operand_at, past_colon, relation_at,
+    row_unit, slot_at, small_at, taken_fault,
 };
 use b2_alpha::Rel;
 use b2_atom::words::{
@@ -462,6 +462,36 @@ fn what_follows(rt: HostRuntime) -> Result<(), Fail> {
         assert!(rt; past_colon(&line, k) == past, "past {k}");
         assert!(rt; after_false(&line, k) == otherwise, "otherwise {k}");
         assert_eq!(rt; taken_as(&line, k), taken);
+    }
+    Ok(())
+}
+
+// A program line, one of its units, and whether FN stands in that.
+const CALLS: [(&[u8], usize, bool); 9] = [
+    (b"B=FNA(1)", 0, true),
+    (b"B=1+A(FN7(X))", 0, true),
+    (b"DEFFN A(X)=X", 0, false),
+    (b"DEFFN A(X)=FNB(X)", 0, true),
+    (b"PRINT \"FN\"", 0, false),
+    (b"GOTO 9500", 0, false),
+    (b"REM FNA(1)", 0, false),
+    (b"IF FNA(1)=2 THEN 9500:A=1", 0, true),
+    (b"IF FNA(1)=2 THEN 9500:A=1", 1, false),
+];
+
+fn is_calling(line: &Atoms, k: usize, want: bool) -> bool {
+    match row_unit(line, k) {
+        Some(unit) => calls_function(&unit) == want,
+        None => false,
+    }
+}
+
+#[test]
+fn calls_are_found(rt: HostRuntime) -> Result<(), Fail> {
+    for (source, k, want) in CALLS {
+        let line = line_of(rt.alloc(), source)?;
+        let count = source.len();
+        assert!(rt; is_calling(&line, k, want), "of {count} bytes");
     }
     Ok(())
 }
