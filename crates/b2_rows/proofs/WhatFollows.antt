@@ -1,5 +1,5 @@
 -- What follows a unit of a line is found at the line's bytes.
-use Rattle.std.proofs.Common.{◌≡◌, ◌<◌, ℕ, suc, ◌+◌, ◌==◌, ◌&&◌, nat_lt, nat_le, Bool, true, false, if◌then◌else◌, List, [], ◌∷◌, length, drop, get_or, slice_get, Option, Some, None, refl, sym, ap, subst, ◌∙◌, arith}
+use Rattle.std.proofs.Common.{◌≡◌, ℕ, ◌+◌, ◌==◌, nat_lt, Bool, true, false, if◌then◌else◌, [], ◌∷◌, length, drop, get_or, slice_get, Option, Some, None, refl, sym, ap, subst, ◌∙◌, arith}
 use Rattle.std.proofs.lemmas.Bool.Decides.{nat_tests}
 use Rattle.std.specs.Option.{option_map}
 use Rattle.b2_base.specs.Lexical.{first}
@@ -9,19 +9,16 @@ use Rattle.b2_atom.specs.Tree.{Trees}
 use Rattle.b2_atom.specs.Tree.Trees.{Done, Put, In}
 use Rattle.b2_atom.specs.Grammar.{row_items, starts}
 use Rattle.b2_atom.specs.Lines.{is_line, LineUnit, units_of, further_unit}
-use Rattle.b2_atom.specs.Units.{TreeUnit}
 use Rattle.b2_atom.specs.declared.words.TheConstants as word
 use Rattle.b2_atom.specs.declared.rows.TheConstants as row
 use Rattle.b2_atom.specs.declared.words.Origin.TheVariants.{Atoms}
 use Rattle.b2_atom.specs.declared.forms.Leaf.TheVariants as leaf
 use Rattle.b2_atom.specs.declared.forms.Start.TheVariants as start
-use Rattle.b2_atom.specs.declared.forms.Item.{Item}
 use Rattle.b2_atom.specs.declared.forms.Item.TheVariants.{Word, Typed, Either}
 use Rattle.b2_rows.specs.Leaves.{is_line_number}
 use Rattle.b2_rows.specs.Rows.{is_part, tree_at, When}
 use Rattle.b2_rows.specs.Values.{line_of}
-use Rattle.b2_rows.specs.Following.{tree_units, further_on, unit_or_next, past_colon, named_goal, else_goal, false_goal, after_false, error_goal, taken_fault}
-use Rattle.b2_rows.specs.declared.following.Goal.{Goal}
+use Rattle.b2_rows.specs.Following.{tree_units, unit_or_next, past_colon, named_goal, else_goal, false_goal, after_false, error_goal, taken_fault}
 use Rattle.b2_rows.specs.declared.following.Goal.TheVariants as goal
 use Rattle.b2_rows.proofs.Standing.{row_stands}
 use Rattle.b2_rows.proofs.LineTrees.{UnitFound, unit_found, none_found, further_is, count_is, else_told, error_told}
