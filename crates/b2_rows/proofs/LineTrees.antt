@@ -149,7 +149,7 @@ error_row place.First s m h = cc
 error_row place.Further s m h = cc
 error_row place.Following s m h = cc
 
-else_items : row_items row.ELSE ≡ Word word.ELSE ∷ Either start.Line row.LINE_NUMBER row.FOLLOWING ∷ []
+pub else_items : row_items row.ELSE ≡ Word word.ELSE ∷ Either start.Line row.LINE_NUMBER row.FOLLOWING ∷ []
 unfolding row_items
 else_items = refl
 
