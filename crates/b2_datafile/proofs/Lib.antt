@@ -1,0 +1,4 @@
+pub mod DataSectors
+pub mod Writing
+pub mod Fronts
+pub mod Saved

@@ -1,0 +1,11 @@
+use Rattle.std.proofs.Common.{◌≡◌, ◌∙◌, Some, sym, ap}
+use Rattle.std.specs.FinMap.{get}
+use Rattle.b2_catalog.specs.Catalogue.{catalogue}
+use Rattle.b2_datafile.proofs.DataSectors.{in-image}
+use Rattle.b2_datafile.proofs.opening.file_of.Goals as goal
+
+pub returns-then-e-s-clause-order : goal.returns-then-e-s-clause-order
+returns-then-e-s-clause-order c = (in-image c.args.p.now c.args.s.now.name c.in_ok-e.e c.image-image.ensures.good (sym c.in_ok-e.ensures.entry)).order
+
+pub returns-then-e-s-clause-within : goal.returns-then-e-s-clause-within
+returns-then-e-s-clause-within c = (in-image c.args.p.now c.args.s.now.name c.in_ok-e.e c.image-image.ensures.good (sym c.in_ok-e.ensures.entry)).within

@@ -1,0 +1,14 @@
+use Rattle.std.proofs.Common.{◌≡◌, ◌∙◌, ◌≤◌, length, Some, sym, ap, arith}
+use Rattle.std.specs.FinMap.{get}
+use Rattle.b2_catalog.specs.Catalogue.{catalogue}
+use Rattle.b2_catalog.specs.declared.entry.Entry.{Entry}
+use Rattle.b2_datafile.proofs.DataSectors.{in-image, catalogue-kept}
+use Rattle.b2_datafile.proofs.saving.end.Goals as goal
+
+pub put_file-requires : goal.put_file-requires
+put_file-requires c = (in-image c.args.p.now c.in-Some.e.name c.in-Some.e c.file_of.ensures.good c.in-Some.ensures.named).own c.args.s.now.pos (omega (arith, c.in-Some.ensures.start, c.requires)) (omega (arith, c.if-s-e.false))
+
+pub set_used-requires-clause-there : goal.set_used-requires-clause-there
+set_used-requires-clause-there c =
+    let own = (in-image c.args.p.now c.in-Some.e.name c.in-Some.e c.file_of.ensures.good c.in-Some.ensures.named).own c.args.s.now.pos (omega (arith, c.in-Some.ensures.start, c.requires)) (omega (arith, c.if-s-e.false)) in
+    ap (λ files. get files c.in-Some.e.name) (ap catalogue c.put_file.ensures ∙ catalogue-kept c.args.p.now c.file_of.ensures.good c.args.s.now.pos own c.end_mark.result c.end_mark.array_long) ∙ c.in-Some.ensures.named
