@@ -1,7 +1,10 @@
 -- A data sector of a file is put in place: the index, the catalogue and all other sectors stay.
-use Rattle.std.proofs.Common.{◌≡◌, ◌≢◌, ℕ, zero, suc, ◌+◌, ◌-◌, ◌*◌, ◌<◌, ◌≤◌, Bool, true, false, List, [], ◌∷◌, length, Option, Some, None, refl, sym, ap, ap₂, ◌∙◌, subst, inl, inr, arith, if◌then◌else◌}
+use Rattle.std.proofs.Common.{◌≡◌, ◌≢◌, ℕ, zero, suc, ◌+◌, ◌-◌, ◌*◌, ◌<◌, ◌≤◌, Bool, true, false, List, [], ◌∷◌, length, Option, Some, None, refl, sym, ap, ap₂, ◌∙◌, subst, inl, inr, arith, cond}
 use Rattle.std.specs.List.{range_with_len, filter_map, list_any}
-use Rattle.std.specs.FinMap.{get, from_entries}
+use Rattle.std.specs.FinMap.{get, insert, from_entries, get-insert}
+use Rattle.std.specs.Cmp.Lexicographic.{nat_list_cmp_total}
+use Rattle.std.proofs.lemmas.Slice.Eq.{bytes_eq-Decides}
+use Rattle.b2_catalog.proofs.Mapping.{tie-eq}
 use Rattle.std.specs.Ordering.{nat_cmp}
 use Rattle.std.specs.Cmp.Lexicographic.{slice_cmp}
 use Rattle.std.proofs.lemmas.Bool.{and_parts, and_from, ltb-true, leb-true, le-leb, lt-ltb, cases_order}
@@ -16,7 +19,7 @@ use Rattle.b2_platter.proofs.Soundness.{Sound-from_Good}
 use Rattle.b2_platter.proofs.Kept.{HoldsData, HoldsData-from, shared, data_low, data_room, put_file_good, index-same}
 use Rattle.b2_platter.proofs.Puts.{row_before, sector_before, sector_after, sector_same, length-put_sector}
 use Rattle.b2_catalog.specs.declared.entry.Entry.{Entry}
-use Rattle.b2_catalog.specs.Catalogue.{entry_at, named_entry, catalogue}
+use Rattle.b2_catalog.specs.Catalogue.{Catalogue, entry_at, named_entry, catalogue}
 use Rattle.b2_catalog.specs.Ways.{IsSlotOf}
 use Rattle.b2_catalog.proofs.Looking.{FileSlot, FileSlot-from, Holds-from}
 use Rattle.b2_catalog.proofs.Scratching.{stands, StandsAt, entry_end, entry_start}
@@ -84,7 +87,7 @@ module _ (image : List ℕ) (good : Good Narrow image) (n : ℕ) (within : is_da
   good-kept = put_file_good Narrow image good n within bytes long
 
   named_chosen : (k : ℕ) → 1 ≤ k → k < 16 * index_of image → (t : Bool) → is_entry (row image k) ≡ t
-      → (if t then Some (name_of (row image k), entry_at (put_sector image n bytes) k) else None) ≡ (if t then Some (name_of (row image k), entry_at image k) else None)
+      → cond {A = Option (List ℕ × Entry)} t (Some (name_of (row image k), entry_at (put_sector image n bytes) k)) None ≡ cond {A = Option (List ℕ × Entry)} t (Some (name_of (row image k), entry_at image k)) None
   unfolding entry_at
   named_chosen k l h true e = rw (rows-kept k h, sector-kept (end_of Narrow (row image k)) (no_end k l h e)) refl
   named_chosen k l h false e = refl
@@ -124,3 +127,8 @@ in-image image name e good there =
       within = omega (arith, f.within, end);
       own = λ n low high. data-from image w.0 n w.1.at.low w.1.at.high (holds-from (row image w.0) n (Holds-from name (row image w.0) w.1.at.held).entry (omega (arith, low, start)) (omega (arith, high, end)));
     }
+
+-- what was put at a name
+pub get-put : (files : Catalogue) (name : List ℕ) (e : Entry) → get (insert files name e) name ≡ Some e
+get-put files name e =
+    get-insert nat_list_cmp_total files name e name ∙ ap (λ (t : Bool). cond t (Some e) (get files name)) (tie-eq name name ∙ (bytes_eq-Decides name name).1 refl)

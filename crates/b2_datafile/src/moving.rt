@@ -84,12 +84,18 @@ fn before(alloc: Global, p: &Platter, e: &Entry, pos: u32) -> Result<u32, Fault>
 {
     let last = pos - 1;
     let count = u32::from(p.sector(last)[1]);
-    if count == 0 || count > pos - e.start {
+    if count == 0 {
         return Err(Fault::Code(Code::known(D88_FORMAT)));
     }
-    match take(alloc, p, pos - count, last) {
-        Ok((_, sectors)) if sectors == count => Ok(pos - count),
-        Ok(_) => Err(Fault::Code(Code::known(D88_FORMAT))),
-        Err(fault) => Err(fault),
+    if count > pos - e.start {
+        return Err(Fault::Code(Code::known(D88_FORMAT)));
     }
+    let found = match take(alloc, p, pos - count, last) {
+        Ok((_, sectors)) => sectors,
+        Err(fault) => return Err(fault),
+    };
+    if found != count {
+        return Err(Fault::Code(Code::known(D88_FORMAT)));
+    }
+    Ok(pos - count)
 }

@@ -105,6 +105,7 @@ pub fn open_new(
         Ok(e) => e,
         Err(code) => return Err(code),
     };
+    let _image = p.image();
     let slot = slot_of(addr, name, &e);
     p.put_file(slot.start, &marks::end_mark());
     set_used(p, e, 1);

@@ -12,7 +12,7 @@ loop-k-init c =
     let place : c.args.at + 0 ≡ c.args.at = omega arith in
     record {
       rest = ap (λ (n : ℕ). put_all c.args.p.now n (record_of c.args.values.now)) place;
-      good = c.image.ensures.good;
+      good = c.image-image.ensures.good;
       own = c.requires.sectors;
     }
 
