@@ -1,5 +1,5 @@
 -- A data sector of a file is put in place: the index, the catalogue and all other sectors stay.
-use Rattle.std.proofs.Common.{◌≡◌, ◌≢◌, ℕ, zero, suc, ◌+◌, ◌-◌, ◌*◌, ◌<◌, ◌≤◌, Bool, true, false, List, [], ◌∷◌, length, Option, Some, None, refl, sym, ap, ap₂, ◌∙◌, subst, inl, inr, arith, cond}
+use Rattle.std.proofs.Common.{◌≡◌, ◌≢◌, ℕ, zero, suc, ◌+◌, ◌-◌, ◌*◌, ◌<◌, ◌≤◌, Bool, true, false, not, ◌||◌, ◌&&◌, List, [], ◌∷◌, length, Option, Some, None, refl, sym, ap, ap₂, ◌∙◌, subst, inl, inr, arith, cond}
 use Rattle.std.specs.List.{range_with_len, filter_map, list_any}
 use Rattle.std.specs.FinMap.{get, insert, from_entries, get-insert}
 use Rattle.std.specs.Cmp.Lexicographic.{nat_list_cmp_total}
@@ -11,7 +11,7 @@ use Rattle.std.proofs.lemmas.Bool.{and_parts, and_from, ltb-true, leb-true, le-l
 use Rattle.b2_platter.specs.declared.layout.Layout.TheVariants.{Narrow}
 use Rattle.b2_platter.specs.Slot.{is_entry, start_of, end_of, name_of}
 use Rattle.b2_platter.specs.Image.{row, sector, index_of, total_of, next_free, slots_of}
-use Rattle.b2_platter.specs.Checks.{Good}
+use Rattle.b2_platter.specs.Checks.{Good, is_control, is_controlled, used_of}
 use Rattle.b2_platter.specs.Edits.{put_sector, holds_data, is_data_sector}
 use Rattle.b2_platter.proofs.Ranges.{list_any-same, list_any-found, list_any-at}
 use Rattle.b2_platter.proofs.Rooms.{LiesIn-from}
@@ -106,6 +106,8 @@ module _ (image : List ℕ) (good : Good Narrow image) (n : ℕ) (within : is_da
 pub record InImage (image : List ℕ) (e : Entry) : Type 0 where
   pub order : e.start < e.end
   pub within : e.end < total_of Narrow image
+  pub used : 1 ≤ e.used
+  pub few : e.used ≤ e.end - e.start
   pub own : (n : ℕ) → e.start ≤ n → n < e.end → is_data_sector Narrow image n ≡ true
 
 holds-from : (slot : List ℕ) (n : ℕ) → is_entry slot ≡ true → start_of Narrow slot ≤ n → n < end_of Narrow slot → holds_data Narrow slot n ≡ true
@@ -116,13 +118,35 @@ data-from : (image : List ℕ) (k n : ℕ) → 1 ≤ k → k < 16 * index_of ima
 unfolding is_data_sector
 data-from image k n low high h = list_any-at (λ k. holds_data Narrow (row image k) n) 1 (16 * index_of image - 1) k low (omega (arith, high, low)) h
 
+entry_used : (a : List ℕ) (k : ℕ) → (entry_at a k).used ≡ used_of Narrow (sector a (end_of Narrow (row a k)))
+unfolding entry_at
+entry_used a k = refl
+
+passed-or : (t u : Bool) → (not t || u) ≡ true → t ≡ true → u ≡ true
+passed-or true u h e = h
+passed-or false u h e = cc
+
+used-from : (image slot : List ℕ) → is_controlled Narrow image slot ≡ true → is_entry slot ≡ true
+    → (1 ≤ used_of Narrow (sector image (end_of Narrow slot))) × (used_of Narrow (sector image (end_of Narrow slot)) ≤ end_of Narrow slot - start_of Narrow slot)
+unfolding is_controlled is_control
+used-from image slot h e =
+    let all = and_parts _ _ (passed-or (is_entry slot) _ h e) in
+    let three = and_parts _ _ all.0 in
+    let two = and_parts _ _ three.0 in
+    (leb-true _ _ two.1, leb-true _ _ three.1)
+
 pub in-image : (image name : List ℕ) (e : Entry) → Good Narrow image → get (catalogue image) name ≡ Some e → InImage image e
 in-image image name e good there =
     let w = stands image name e there in
     let f = FileSlot-from image name w.0 good w.1.at in
     let start : e.start ≡ start_of Narrow (row image w.0) = ap (λ (e : Entry). e.start) w.1.is ∙ entry_start image w.0 in
     let end : e.end ≡ end_of Narrow (row image w.0) = ap (λ (e : Entry). e.end) w.1.is ∙ entry_end image w.0 in
+    let held = (Holds-from name (row image w.0) w.1.at.held).entry in
+    let used : e.used ≡ used_of Narrow (sector image (end_of Narrow (row image w.0))) = ap (λ (e : Entry). e.used) w.1.is ∙ entry_used image w.0 in
+    let some = used-from image (row image w.0) ((Sound-from_Good Narrow image good).controls w.0 w.1.at.low w.1.at.high) held in
     record {
+      used = omega (arith, used, some.0);
+      few = omega (arith, used, some.1, start, end);
       order = omega (arith, f.order, start, end);
       within = omega (arith, f.within, end);
       own = λ n low high. data-from image w.0 n w.1.at.low w.1.at.high (holds-from (row image w.0) n (Holds-from name (row image w.0) w.1.at.held).entry (omega (arith, low, start)) (omega (arith, high, end)));

@@ -4,11 +4,13 @@ use Rattle.std.specs.List.{range_with_len}
 use Rattle.b2_catalog.specs.declared.entry.Entry.{Entry}
 use Rattle.b2_dec.specs.declared.values.Value.{Value}
 use Rattle.b2_platter.specs.Image.{sector}
-use Rattle.b2_record.specs.Records.{is_record, sectors_from, sectors_at, Spells, IsNoRecord}
+use Rattle.b2_record.specs.Records.{is_record, sectors_from, sectors_at, Spells, IsNoRecord, Unspelled}
 use Rattle.b2_record.proofs.Unique.{record-length, length-unique}
 use Rattle.b2_datafile.specs.Files.{IsEnd}
 use Rattle.b2_datafile.specs.Loading.{IsRecordAt}
-use Rattle.b2_datafile.specs.Moving.{Ahead, NoneAhead, Behind, NoneBehind, IsRecordBefore}
+use Rattle.b2_datafile.specs.Moving.{Ahead, NoneAhead, Behind, NoneBehind, IsRecordBefore, NoRecordBefore, AheadFails, BehindFails}
+use Rattle.b2_base.specs.declared.codes.Fault.{Fault}
+use Rattle.b2_base.specs.declared.codes.Fault.TheVariants as fault
 
 -- ---- ahead
 
@@ -71,3 +73,27 @@ before-number image e pos n values r =
     let here : pos - n + (n - 1) ≡ pos - 1 = omega (arith, some, r.within) in
     let all : 1 + (n - 1) ≡ n = omega (arith, some) in
     ap (λ k. get_or (sector image k) 1 0) (sym here) ∙ (last-number (sector image) (pos - n) n 1 r.spelled.groups r.spelled.same some ∙ all)
+
+-- ---- why there is none
+
+pub no-before : (image : List ℕ) (e : Entry) (pos count : ℕ) (fault : Fault) → 1 ≤ pos → get_or (sector image (pos - 1)) 1 0 ≡ count → Unspelled (IsNoRecord image (pos - count) (pos - 1)) fault → NoRecordBefore image e pos fault
+no-before image e pos count (fault.Code code) some number h =
+    (h.0, λ values n r.
+    let same : n ≡ count = sym (before-number image e pos n values r) ∙ number in
+    h.1 values n (omega (arith, r.within, same, some)) (subst (λ (at : ℕ). Spells values (sectors_at image at n)) (ap (λ (k : ℕ). pos - k) same) r.spelled))
+no-before image e pos count fault.NoMemory some number h = tt
+
+pub no-such : (image : List ℕ) (e : Entry) (pos count found : ℕ) (taken : List Value) → get_or (sector image (pos - 1)) 1 0 ≡ count → Spells taken (sectors_at image (pos - count) found) → (found ≡ count → ⊥)
+    → (values : List Value) (n : ℕ) → IsRecordBefore image e pos values n → ⊥
+no-such image e pos count found taken number there other values n r =
+    let same : n ≡ count = sym (before-number image e pos n values r) ∙ number in
+    let here = subst (λ (at : ℕ). Spells values (sectors_at image at n)) (ap (λ (k : ℕ). pos - k) same) r.spelled in
+    other (length-unique image (pos - count) found n taken values there here ∙ same)
+
+pub ahead-fails : (image : List ℕ) (e : Entry) (count from : ℕ) (nothing : Type 0) (fault : Fault) → (nothing → NoneAhead image e count from) → Unspelled nothing fault → AheadFails image e count from fault
+ahead-fails image e count from nothing (fault.Code code) f h = (h.0, f h.1)
+ahead-fails image e count from nothing fault.NoMemory f h = tt
+
+pub behind-fails : (image : List ℕ) (e : Entry) (count from pos : ℕ) (fault : Fault) → (((values : List Value) (n : ℕ) → IsRecordBefore image e pos values n → ⊥) → NoneBehind image e count from) → NoRecordBefore image e pos fault → BehindFails image e count from fault
+behind-fails image e count from pos (fault.Code code) f h = (h.0, f h.1)
+behind-fails image e count from pos fault.NoMemory f h = tt

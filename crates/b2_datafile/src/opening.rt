@@ -1,5 +1,5 @@
 // A file is opened, and found again by its slot.
-ghost use Rattle.std.specs.Prelude.{◌≡◌, ◌+◌, ◌<◌, ◌≤◌, ℕ, [], true, false, Some, None, IfSome, IfOk, IfErr, OnOk};
+ghost use Rattle.std.specs.Prelude.{◌≡◌, ◌+◌, ◌-◌, ◌<◌, ◌≤◌, ℕ, [], true, false, Some, None, IfSome, IfOk, IfErr, OnOk};
 ghost use Rattle.std.specs.FinMap.{get};
 ghost use Rattle.b2_platter.specs.declared.layout.Layout.TheVariants.{Narrow};
 ghost use Rattle.b2_platter.specs.Image.{total_of};
@@ -55,6 +55,8 @@ pub(crate) fn file_of(p: &Platter, s: &Slot) -> Option<Entry>
     ensures start { IfSome result (λ e. e.start ≡ s.now.start) }
     ensures order { IfSome result (λ e. e.start < e.end) }
     ensures within { IfSome result (λ e. e.end < total_of Narrow p.now) }
+    ensures used { IfSome result (λ e. 1 ≤ e.used) }
+    ensures few { IfSome result (λ e. e.used ≤ e.end - e.start) }
     ensures good { Good Narrow p.now }
 {
     let _image = p.image();

@@ -1,5 +1,5 @@
 // Records and end marks are written.
-ghost use Rattle.std.specs.Prelude.{◌≡◌, ◌+◌, ◌-◌, ◌<◌, ◌≤◌, ℕ, [], ◌∷◌, true, Some, None, IfSome, IfOk, IfErr, OnOk, length};
+ghost use Rattle.std.specs.Prelude.{◌≡◌, ◌+◌, ◌-◌, ◌^◌, ◌<◌, ◌≤◌, ℕ, [], ◌∷◌, true, Some, None, IfSome, IfOk, IfErr, OnOk, length};
 ghost use Rattle.std.specs.List.{list_all};
 ghost use Rattle.b2_platter.specs.declared.layout.Layout.TheVariants.{Narrow};
 ghost use Rattle.b2_platter.specs.Edits.{put_sector, is_data_sector};
@@ -24,6 +24,7 @@ fn put_record(p: &mut Platter, at: u32, values: &[Value], count: u32)
     requires short { list_all is_short values.now ≡ true }
     requires count { count ≡ length (record_of values.now) }
     requires few { count ≤ 255 }
+    requires ends { at + count < 2 ^ 32 }
     requires sectors { (n : ℕ) → at ≤ n → n < at + count → is_data_sector Narrow p.old n ≡ true }
     ensures { p.new ≡ put_all p.old at (record_of values.now) }
 {

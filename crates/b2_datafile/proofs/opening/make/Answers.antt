@@ -1,4 +1,4 @@
-use Rattle.std.proofs.Common.{◌≡◌, ◌∙◌, Result, Ok, Err, IfOk, Some, ℕ, List, ap, sym}
+use Rattle.std.proofs.Common.{◌≡◌, ◌∙◌, Result, Ok, Err, IfOk, Some, ℕ, List, ap, sym, rules}
 use Rattle.std.specs.FinMap.{get, insert, remove}
 use Rattle.b2_catalog.specs.declared.entry.Entry.{Entry}
 use Rattle.b2_catalog.specs.Catalogue.{Catalogue, catalogue}
@@ -10,7 +10,7 @@ there files new name (Ok e) made named = ap (get new) named ∙ (ap (λ m. get m
 there files new name (Err code) made named = tt
 
 pub returns-in-None-clause-file : goal.returns-in-None-clause-file
-returns-in-None-clause-file c = there (catalogue c.args.p.now) (catalogue c.enter.new.p) c.args.name c.enter.result c.enter.ensures.catalogue ?
+returns-in-None-clause-file c = there (catalogue c.args.p.now) (catalogue c.enter.new.p) c.args.name c.enter.result c.enter.ensures.catalogue (search rules)
 
 pub returns-in-Some-clause-file : goal.returns-in-Some-clause-file
-returns-in-Some-clause-file c = there (remove (catalogue c.args.p.now) c.in-Some.old) (catalogue c.reuse.new.p) c.args.name c.reuse.result c.reuse.ensures.catalogue ?
+returns-in-Some-clause-file c = there (remove (catalogue c.args.p.now) c.in-Some.old) (catalogue c.reuse.new.p) c.args.name c.reuse.result c.reuse.ensures.catalogue (search rules)

@@ -11,4 +11,4 @@ put_file-requires c = (in-image c.args.p.now c.in-Some.e.name c.in-Some.e c.file
 pub set_used-requires-clause-there : goal.set_used-requires-clause-there
 set_used-requires-clause-there c =
     let own = (in-image c.args.p.now c.in-Some.e.name c.in-Some.e c.file_of.ensures.good c.in-Some.ensures.named).own c.args.s.now.pos (omega (arith, c.in-Some.ensures.start, c.requires)) (omega (arith, c.if-s-e.false)) in
-    ap (λ files. get files c.in-Some.e.name) (ap catalogue c.put_file.ensures ∙ catalogue-kept c.args.p.now c.file_of.ensures.good c.args.s.now.pos own c.end_mark.result c.end_mark.array_long) ∙ c.in-Some.ensures.named
+    ap (λ files. get files c.in-Some.e.name) (ap catalogue c.put_file.ensures ∙ catalogue-kept c.args.p.now c.file_of.ensures.good c.args.s.now.pos own c.end_mark.result (ap length c.end_mark.ensures)) ∙ c.in-Some.ensures.named
