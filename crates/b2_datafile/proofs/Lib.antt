@@ -1,5 +1,5 @@
 pub mod DataSectors
 pub mod Writing
 pub mod Fronts
-pub mod Saved
 pub mod Passing
+pub mod Saved

@@ -58,7 +58,7 @@ last-number f at (suc (suc n)) number (group ∷ groups) e h =
     let same : number + 1 + (suc n - 1) ≡ number + (suc (suc n) - 1) = omega arith in
     ap (λ k. get_or (f k) 1 0) (sym here) ∙ (rest ∙ same)
 
-some-groups : (groups : List (List Value)) → is_record groups ≡ true → 1 ≤ length groups
+pub some-groups : (groups : List (List Value)) → is_record groups ≡ true → 1 ≤ length groups
 some-groups [] h = cc
 some-groups (group ∷ groups) h = omega arith
 

@@ -1,5 +1,6 @@
 // Records and end marks are written.
 ghost use Rattle.std.specs.Prelude.{◌≡◌, ◌+◌, ◌-◌, ◌^◌, ◌<◌, ◌≤◌, ℕ, [], ◌∷◌, true, Some, None, IfSome, IfOk, IfErr, OnOk, length};
+ghost use Rattle.std.specs.FinMap.{insert};
 ghost use Rattle.std.specs.List.{list_all};
 ghost use Rattle.b2_platter.specs.declared.layout.Layout.TheVariants.{Narrow};
 ghost use Rattle.b2_platter.specs.Edits.{put_sector, is_data_sector};
@@ -64,6 +65,7 @@ pub fn end(p: &mut Platter, s: &Slot) -> Result<u32, Code>
     requires { s.now.start ≤ s.now.pos }
     ensures ok { IfOk result (λ pos. (write_refusal (file_of p.old s.now) s.now.pos 1 ≡ None) × (pos ≡ s.now.pos)) }
     ensures image { OnOk result (IfSome (file_of p.old s.now) (λ e. p.new ≡ put_sector (put_sector p.old s.now.pos end_mark) e.end (control_sector (s.now.pos - s.now.start + 1)))) }
+    ensures files { OnOk result (IfSome (file_of p.old s.now) (λ e. catalogue p.new ≡ insert (catalogue p.old) e.name (record e { used = s.now.pos - s.now.start + 1 }))) }
     ensures err { IfErr result (λ code. (write_refusal (file_of p.old s.now) s.now.pos 1 ≡ Some code) × (p.new ≡ p.old)) }
 {
     let Some(e) = file_of(p, s) else {
