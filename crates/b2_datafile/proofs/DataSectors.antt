@@ -1,28 +1,25 @@
 -- A data sector of a file is put in place: the index, the catalogue and all other sectors stay.
-use Rattle.std.proofs.Common.{◌≡◌, ◌≢◌, ℕ, zero, suc, ◌+◌, ◌-◌, ◌*◌, ◌<◌, ◌≤◌, Bool, true, false, not, ◌||◌, ◌&&◌, List, [], ◌∷◌, length, Option, Some, None, refl, sym, ap, ap₂, ◌∙◌, subst, inl, inr, arith, cond}
-use Rattle.std.specs.List.{range_with_len, filter_map, list_any}
+use Rattle.std.proofs.Common.{◌≡◌, ℕ, zero, suc, ◌+◌, ◌-◌, ◌*◌, ◌<◌, ◌≤◌, Bool, true, false, not, ◌||◌, List, length, Option, Some, None, refl, sym, ap, ◌∙◌, inl, inr, arith, cond}
+use Rattle.std.specs.List.{range_with_len, filter_map}
 use Rattle.std.specs.FinMap.{get, insert, from_entries, get-insert}
 use Rattle.std.specs.Cmp.Lexicographic.{nat_list_cmp_total}
 use Rattle.std.proofs.lemmas.Slice.Eq.{bytes_eq-Decides}
 use Rattle.b2_catalog.proofs.Mapping.{tie-eq}
-use Rattle.std.specs.Ordering.{nat_cmp}
-use Rattle.std.specs.Cmp.Lexicographic.{slice_cmp}
-use Rattle.std.proofs.lemmas.Bool.{and_parts, and_from, ltb-true, leb-true, le-leb, lt-ltb, cases_order}
+use Rattle.std.proofs.lemmas.Bool.{and_parts, and_from, leb-true, le-leb, lt-ltb, cases_order}
 use Rattle.b2_platter.specs.declared.layout.Layout.TheVariants.{Narrow}
 use Rattle.b2_platter.specs.Slot.{is_entry, start_of, end_of, name_of}
-use Rattle.b2_platter.specs.Image.{row, sector, index_of, total_of, next_free, slots_of}
+use Rattle.b2_platter.specs.Image.{row, sector, index_of, total_of, next_free}
 use Rattle.b2_platter.specs.Checks.{Good, is_control, is_controlled, used_of}
 use Rattle.b2_platter.specs.Edits.{put_sector, holds_data, is_data_sector}
 use Rattle.b2_platter.proofs.Ranges.{list_any-same, list_any-found, list_any-at}
 use Rattle.b2_platter.proofs.Rooms.{LiesIn-from}
 use Rattle.b2_platter.proofs.Soundness.{Sound-from_Good}
-use Rattle.b2_platter.proofs.Kept.{HoldsData, HoldsData-from, shared, data_low, data_room, put_file_good, index-same}
-use Rattle.b2_platter.proofs.Puts.{row_before, sector_before, sector_after, sector_same, length-put_sector}
+use Rattle.b2_platter.proofs.Kept.{HoldsData-from, shared, data_low, data_room, put_file_good, index-same}
+use Rattle.b2_platter.proofs.Puts.{row_before, sector_before, sector_after, sector_same}
 use Rattle.b2_catalog.specs.declared.entry.Entry.{Entry}
 use Rattle.b2_catalog.specs.Catalogue.{Catalogue, entry_at, named_entry, catalogue}
-use Rattle.b2_catalog.specs.Ways.{IsSlotOf}
-use Rattle.b2_catalog.proofs.Looking.{FileSlot, FileSlot-from, Holds-from}
-use Rattle.b2_catalog.proofs.Scratching.{stands, StandsAt, entry_end, entry_start}
+use Rattle.b2_catalog.proofs.Looking.{FileSlot-from, Holds-from}
+use Rattle.b2_catalog.proofs.Scratching.{stands, entry_end, entry_start}
 
 filter_map-same : {B : Type 0} (f g : ℕ → Option B) (a n : ℕ) → ((k : ℕ) → a ≤ k → k < a + n → f k ≡ g k) → filter_map f (range_with_len a n) ≡ filter_map g (range_with_len a n)
 filter_map-same f g a zero h = refl

@@ -1,5 +1,5 @@
 -- A place is moved over one record.
-use Rattle.std.proofs.Common.{◌≡◌, ℕ, zero, suc, ◌+◌, ◌-◌, ◌<◌, ◌≤◌, ◌==◌, true, Bool, List, [], ◌∷◌, length, map, get_or, refl, sym, ap, ◌∙◌, subst, arith, inl, inr}
+use Rattle.std.proofs.Common.{◌≡◌, ℕ, zero, suc, ◌+◌, ◌-◌, ◌<◌, ◌≤◌, true, List, [], ◌∷◌, length, map, get_or, refl, sym, ap, ◌∙◌, subst, arith, inl, inr}
 use Rattle.std.specs.List.{range_with_len}
 use Rattle.b2_catalog.specs.declared.entry.Entry.{Entry}
 use Rattle.b2_dec.specs.declared.values.Value.{Value}
@@ -77,10 +77,12 @@ before-number image e pos n values r =
 -- ---- why there is none
 
 pub no-before : (image : List ℕ) (e : Entry) (pos count : ℕ) (fault : Fault) → 1 ≤ pos → get_or (sector image (pos - 1)) 1 0 ≡ count → Unspelled (IsNoRecord image (pos - count) (pos - 1)) fault → NoRecordBefore image e pos fault
-no-before image e pos count (fault.Code code) some number h =
-    (h.0, λ values n r.
-    let same : n ≡ count = sym (before-number image e pos n values r) ∙ number in
-    h.1 values n (omega (arith, r.within, same, some)) (subst (λ (at : ℕ). Spells values (sectors_at image at n)) (ap (λ (k : ℕ). pos - k) same) r.spelled))
+no-before image e pos count (fault.Code code) some number h = (
+  h.0,
+  λ values n r.
+      let same : n ≡ count = sym (before-number image e pos n values r) ∙ number in
+      h.1 values n (omega (arith, r.within, same, some)) (subst (λ (at : ℕ). Spells values (sectors_at image at n)) (ap (λ (k : ℕ). pos - k) same) r.spelled),
+)
 no-before image e pos count fault.NoMemory some number h = tt
 
 pub no-such : (image : List ℕ) (e : Entry) (pos count found : ℕ) (taken : List Value) → get_or (sector image (pos - 1)) 1 0 ≡ count → Spells taken (sectors_at image (pos - count) found) → (found ≡ count → ⊥)

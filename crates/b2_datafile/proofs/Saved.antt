@@ -1,8 +1,8 @@
 -- A record is saved at its place.
-use Rattle.std.proofs.Common.{◌≡◌, ℕ, ◌+◌, ◌*◌, ◌<◌, ◌≤◌, true, refl, List, [], ◌∷◌, ◌++◌, length, sym, subst, ap, ap₂, ◌∙◌, ◌-◌, arith, inl, inr}
+use Rattle.std.proofs.Common.{◌≡◌, ℕ, ◌+◌, ◌*◌, ◌≤◌, refl, List, [], ◌∷◌, ◌++◌, length, sym, subst, ap, ap₂, ◌∙◌, ◌-◌, arith, inl, inr}
 use Rattle.b2_dec.specs.declared.values.Value.{Value}
 use Rattle.b2_platter.specs.declared.layout.Layout.TheVariants.{Narrow}
-use Rattle.b2_platter.specs.Edits.{is_data_sector, put_sector}
+use Rattle.b2_platter.specs.Edits.{put_sector}
 use Rattle.b2_catalog.specs.declared.entry.Entry.{Entry}
 use Rattle.b2_record.specs.Records.{Spells, sectors_at}
 use Rattle.b2_record.specs.Writing.{record_of}

@@ -1,5 +1,5 @@
 -- A data file: records one after the other, and an end mark.
-use Rattle.std.specs.Prelude.{◌≡◌, ℕ, ◌+◌, ◌-◌, Bool, true, ◌==◌, ◌&&◌, ◌||◌, nat_le, List, [], ◌∷◌, length, replicate, Option, Some, None, if◌then◌else◌}
+use Rattle.std.specs.Prelude.{◌≡◌, ℕ, ◌+◌, ◌-◌, true, ◌==◌, ◌||◌, nat_le, List, [], ◌∷◌, replicate}
 use Rattle.b2_base.specs.Lexical.{first}
 use Rattle.b2_dec.specs.declared.values.Value.{Value}
 use Rattle.b2_platter.specs.Image.{sector}

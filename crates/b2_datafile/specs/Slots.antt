@@ -1,5 +1,5 @@
 -- What a slot opens, and why a call on it is refused.
-use Rattle.std.specs.Prelude.{◌≡◌, ℕ, ◌+◌, ◌-◌, Bool, true, not, ◌&&◌, ◌==◌, nat_le, List, length, Option, Some, None, if◌then◌else◌}
+use Rattle.std.specs.Prelude.{ℕ, ◌+◌, not, ◌&&◌, ◌==◌, nat_le, List, Option, Some, None, if◌then◌else◌}
 use Rattle.std.specs.FinMap.{get}
 use Rattle.b2_base.specs.declared.codes.TheConstants.{D80_NOT_OPEN, D81_FILE_FULL, D82_NO_FILE, D89_OTHER_KIND}
 use Rattle.b2_base.specs.declared.files.Slot.{Slot}

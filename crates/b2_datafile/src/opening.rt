@@ -9,9 +9,9 @@ ghost use Rattle.b2_catalog.specs.Catalogue.{catalogue};
 ghost use Rattle.b2_datafile.specs.Slots.{open_refusal, opened, file_of, new_refusal};
 ghost use Rattle.b2_datafile.specs.Files.{IsWhole};
 
+use crate::marks;
 use b2_base::codes::{D82_NO_FILE, D89_OTHER_KIND};
 use b2_base::{Addr, Code, Name8, Slot};
-use crate::marks;
 use b2_catalog::{Entry, enter, look, reuse, set_used};
 use b2_platter::Platter;
 
@@ -68,12 +68,7 @@ pub(crate) fn file_of(p: &Platter, s: &Slot) -> Option<Entry>
 }
 
 /// Makes a new file of some sectors, or takes a scratched file's sectors again.
-fn make(
-    p: &mut Platter,
-    old: Option<Name8>,
-    sectors: u32,
-    name: Name8,
-) -> Result<Entry, Code>
+fn make(p: &mut Platter, old: Option<Name8>, sectors: u32, name: Name8) -> Result<Entry, Code>
     requires { old ≡ None → 2 ≤ sectors }
     ensures err { IfErr result (λ code. (new_refusal p.old old sectors name ≡ Some code) × (p.new ≡ p.old)) }
     ensures ok { OnOk result (new_refusal p.old old sectors name ≡ None) }

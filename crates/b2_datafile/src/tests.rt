@@ -152,7 +152,10 @@ fn one_record(rt: HostRuntime) -> Result<(), Fail> {
 fn a_full_file(rt: HostRuntime) -> Result<(), Fail> {
     let (mut p, s) = disk(rt.alloc(), 3)?.ok_or("no disk")?;
     assert_eq!(rt; saved(rt.alloc(), &mut p, &s, &[0])?, 3);
-    assert_eq!(rt; saved(rt.alloc(), &mut p, &at(&s, 3), &[124, 124, 3])?, 100_081);
+    assert_eq!(rt;
+        saved(rt.alloc(), &mut p, &at(&s, 3), &[124, 124, 3])?,
+        100_081
+    );
     assert_eq!(rt; saved(rt.alloc(), &mut p, &at(&s, 3), &[0])?, 4);
     assert_eq!(rt; saved(rt.alloc(), &mut p, &at(&s, 4), &[0])?, 100_081);
     assert_eq!(rt; ended(&mut p, &at(&s, 4)), 100_081);

@@ -1,4 +1,4 @@
-use Rattle.std.proofs.Common.{◌≡◌, ◌∙◌, ◌≤◌, ◌<◌, ◌+◌, ◌-◌, ℕ, suc, sym, ap, subst, arith}
+use Rattle.std.proofs.Common.{◌≡◌, ◌+◌, ◌-◌, ℕ, suc, subst, arith}
 use Rattle.b2_datafile.specs.Moving.{Behind, NoneBehind}
 use Rattle.b2_datafile.proofs.Passing.{behind-stop, behind-step, none-behind-step, none-behind-here, behind-fails}
 use Rattle.b2_datafile.proofs.moving.back.Goals as goal
@@ -18,8 +18,8 @@ loop-passed-preserved c =
     let found = c.in-Ok.ensures.ok in
     record {
       behind = λ to a. c.loop-passed.invariant.behind to (behind-step c.args.p.now c.args.e.now _ (c.args.count - (c.loop-passed._passed + 1)) c.loop-passed.pos found.1 to found.0 step c.if-pos-e.false found.2
-        (subst (λ (q : ℕ). Behind c.args.p.now c.args.e.now (c.args.count - (c.loop-passed._passed + 1)) q to) found.3 a));
+          (subst (λ (q : ℕ). Behind c.args.p.now c.args.e.now (c.args.count - (c.loop-passed._passed + 1)) q to) found.3 a));
       none = λ a. c.loop-passed.invariant.none (none-behind-step c.args.p.now c.args.e.now _ (c.args.count - (c.loop-passed._passed + 1)) c.loop-passed.pos found.1 found.0 step c.if-pos-e.false found.2
-        (subst (λ (q : ℕ). NoneBehind c.args.p.now c.args.e.now (c.args.count - (c.loop-passed._passed + 1)) q) found.3 a));
+          (subst (λ (q : ℕ). NoneBehind c.args.p.now c.args.e.now (c.args.count - (c.loop-passed._passed + 1)) q) found.3 a));
       within = omega (arith, found.3, c.loop-passed.invariant.within);
     }

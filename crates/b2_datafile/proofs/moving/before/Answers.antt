@@ -1,19 +1,20 @@
-use Rattle.std.proofs.Common.{◌≡◌, ◌∙◌, ◌≤◌, ◌<◌, ◌-◌, get_or, sym, ap, arith, subst, ℕ}
-use Rattle.b2_platter.specs.Image.{sector}
-use Rattle.b2_record.proofs.Unique.{length-unique}
-use Rattle.b2_record.specs.Records.{Spells, sectors_at}
+use Rattle.std.proofs.Common.{◌∙◌, get_or, sym, ap, arith}
 use Rattle.b2_datafile.proofs.Passing.{before-some, before-number, no-before, no-such}
 use Rattle.b2_datafile.proofs.moving.before.Goals as goal
 
 pub returns-then-count-eq0-clause-err : goal.returns-then-count-eq0-clause-err
-returns-then-count-eq0-clause-err c =
-    (cc, λ values n r. let count = c.from-count.ensures in let value = c.sector.ensures.value in
-    omega (arith, before-some c.args.p.now c.args.e.now c.args.pos n values r, before-number c.args.p.now c.args.e.now c.args.pos n values r, ap (λ s. get_or s 1 0) value, count, c.if-count-eq0.true))
+returns-then-count-eq0-clause-err c = (
+  cc,
+  λ values n r. let count = c.from-count.ensures in let value = c.sector.ensures.value in
+      omega (arith, before-some c.args.p.now c.args.e.now c.args.pos n values r, before-number c.args.p.now c.args.e.now c.args.pos n values r, ap (λ s. get_or s 1 0) value, count, c.if-count-eq0.true),
+)
 
 pub returns-then-count-pos-clause-err : goal.returns-then-count-pos-clause-err
-returns-then-count-pos-clause-err c =
-    (cc, λ values n r. let count = c.from-count.ensures in let value = c.sector.ensures.value in
-    omega (arith, r.within, before-number c.args.p.now c.args.e.now c.args.pos n values r, ap (λ s. get_or s 1 0) value, count, c.if-count-pos.true))
+returns-then-count-pos-clause-err c = (
+  cc,
+  λ values n r. let count = c.from-count.ensures in let value = c.sector.ensures.value in
+      omega (arith, r.within, before-number c.args.p.now c.args.e.now c.args.pos n values r, ap (λ s. get_or s 1 0) value, count, c.if-count-pos.true),
+)
 
 pub returns-in-Err-clause-err : goal.returns-in-Err-clause-err
 returns-in-Err-clause-err c =

@@ -1,4 +1,4 @@
-use Rattle.std.proofs.Common.{◌≡◌, ◌∙◌, ◌≤◌, ◌<◌, ◌+◌, ◌-◌, suc, true, false, sym, ap, arith}
+use Rattle.std.proofs.Common.{◌≡◌, ◌∙◌, ◌+◌, ◌-◌, suc, true, false, sym, arith}
 use Rattle.b2_record.specs.Records.{IsNoRecord}
 use Rattle.b2_datafile.specs.Files.{IsEnd}
 use Rattle.b2_datafile.specs.Loading.{IsRecordAt}

@@ -1,6 +1,4 @@
-use Rattle.std.proofs.Common.{◌≡◌, ◌∙◌, Some, sym, ap}
-use Rattle.std.specs.FinMap.{get}
-use Rattle.b2_catalog.specs.Catalogue.{catalogue}
+use Rattle.std.proofs.Common.{sym}
 use Rattle.b2_datafile.proofs.DataSectors.{in-image}
 use Rattle.b2_datafile.proofs.opening.file_of.Goals as goal
 

@@ -1,13 +1,11 @@
-use Rattle.std.proofs.Common.{◌≡◌, ◌∙◌, ◌≤◌, ◌+◌, ◌-◌, length, Some, ℕ, List, [], IfSome, sym, ap, subst, refl, arith}
+use Rattle.std.proofs.Common.{◌≡◌, ◌∙◌, ◌+◌, ◌-◌, length, ℕ, List, sym, ap, arith}
 use Rattle.std.specs.FinMap.{get}
 use Rattle.b2_base.specs.declared.files.Slot.{Slot}
-use Rattle.b2_catalog.specs.declared.entry.Entry.{Entry}
 use Rattle.b2_catalog.specs.Catalogue.{catalogue}
 use Rattle.b2_platter.specs.Edits.{put_sector}
 use Rattle.b2_platter.specs.Image.{sector}
 use Rattle.b2_catalog.specs.Changes.{control_sector}
-use Rattle.b2_datafile.specs.Files.{end_mark, IsWhole}
-use Rattle.b2_datafile.specs.Slots.{opened}
+use Rattle.b2_datafile.specs.Files.{end_mark}
 use Rattle.b2_datafile.proofs.DataSectors.{in-image, catalogue-kept, get-put}
 use Rattle.b2_datafile.proofs.Saved.{made-mark}
 use Rattle.b2_datafile.proofs.opening.open_new.Goals as goal

@@ -1,7 +1,6 @@
-use Rattle.std.proofs.Common.{◌≡◌, ◌∙◌, ◌≤◌, ◌+◌, ◌-◌, length, Some, sym, ap, arith}
+use Rattle.std.proofs.Common.{◌∙◌, ◌+◌, ◌-◌, length, sym, ap, arith}
 use Rattle.std.specs.FinMap.{get, insert}
 use Rattle.b2_catalog.specs.Catalogue.{Catalogue, catalogue}
-use Rattle.b2_catalog.specs.declared.entry.Entry.{Entry}
 use Rattle.b2_datafile.proofs.DataSectors.{in-image, catalogue-kept}
 use Rattle.b2_datafile.proofs.saving.end.Goals as goal
 

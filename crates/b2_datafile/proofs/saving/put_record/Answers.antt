@@ -1,6 +1,4 @@
-use Rattle.std.proofs.Common.{◌≡◌, ℕ, List, ◌+◌, ◌<◌, ◌≤◌, ◌∙◌, length, drop, true, sym, ap, arith}
-use Rattle.b2_platter.specs.declared.layout.Layout.TheVariants.{Narrow}
-use Rattle.b2_platter.specs.Edits.{put_sector, is_data_sector}
+use Rattle.std.proofs.Common.{◌≡◌, ℕ, ◌+◌, ◌∙◌, sym, ap, arith}
 use Rattle.b2_record.specs.Writing.{record_of}
 use Rattle.b2_datafile.specs.Files.{put_all}
 use Rattle.b2_datafile.proofs.Writing.{put-next, drop-all}

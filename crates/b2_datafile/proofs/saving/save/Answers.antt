@@ -1,4 +1,4 @@
-use Rattle.std.proofs.Common.{◌≡◌, arith}
+use Rattle.std.proofs.Common.{arith}
 use Rattle.b2_datafile.proofs.DataSectors.{in-image}
 use Rattle.b2_datafile.proofs.saving.save.Goals as goal
 
