@@ -1,5 +1,5 @@
 -- Chains of the table: their first item, the items after operators, and where they end; and factors.
-use Rattle.std.proofs.Common.{◌≡◌, ◌<◌, ℕ, Bool, true, false, if◌then◌else◌, List, [], ◌∷◌, length, drop, refl, sym, ap, subst, ◌∙◌}
+use Rattle.std.proofs.Common.{◌≡◌, Bool, true, false, if◌then◌else◌, [], ◌∷◌, refl, ap, subst, ◌∙◌}
 use Rattle.b2_base.specs.Lexical.{first}
 use Rattle.b2_atom.specs.Words.{Text}
 use Rattle.b2_atom.specs.Tree.{Trees, also}
@@ -10,8 +10,8 @@ use Rattle.b2_atom.specs.declared.words.TheConstants as word
 use Rattle.b2_atom.specs.declared.rows.TheConstants as row
 use Rattle.b2_atom.specs.declared.forms.Start.TheVariants as start
 use Rattle.b2_atom.specs.declared.forms.Item.TheVariants.{Part, Many, Maybe}
-use Rattle.b2_rows.specs.Rows.{is_part, tree_at, after_part, is_list, list_at, after_list, When, Ends}
-use Rattle.b2_rows.specs.Links.{first_code, IsLink, Linked, Further}
+use Rattle.b2_rows.specs.Rows.{is_part, tree_at, after_part, is_list, list_at, When, Ends}
+use Rattle.b2_rows.specs.Links.{Linked, Further}
 use Rattle.b2_rows.specs.Chains.{chain_row, front_row, item_row, more_row, more_start, is_sign, is_operator_of, ChainStands, SignedFactor, PlainFactor}
 use Rattle.b2_rows.specs.Laws.{EachChainStands}
 use Rattle.b2_rows.specs.declared.chains.Chain.{Chain}

@@ -1,8 +1,7 @@
 -- Choices that are read are the first alternative that begins, and else the last.
-use Rattle.std.proofs.Common.{◌≡◌, ℕ, suc, Bool, true, false, if◌then◌else◌, ◌==◌, ◌||◌, List, [], ◌∷◌, refl, sym, ap, subst, ◌∙◌}
+use Rattle.std.proofs.Common.{◌≡◌, ℕ, suc, Bool, true, false, if◌then◌else◌, List, [], ◌∷◌, refl, sym, ap, subst, ◌∙◌}
 use Rattle.b2_base.specs.Lexical.{first}
 use Rattle.b2_atom.specs.Words.{Text}
-use Rattle.b2_atom.specs.Tree.{Trees}
 use Rattle.b2_atom.specs.Tree.Trees.{Done, In}
 use Rattle.b2_atom.specs.Grammar.{row_items, starts}
 use Rattle.b2_atom.specs.declared.words.Origin.TheVariants.{Atoms}
@@ -10,7 +9,7 @@ use Rattle.b2_atom.specs.declared.rows.TheConstants as row
 use Rattle.b2_atom.specs.declared.forms.Start.{Start}
 use Rattle.b2_atom.specs.declared.forms.Item.TheVariants.{Either}
 use Rattle.b2_rows.specs.Rows.{is_part, tree_at, after_part, When}
-use Rattle.b2_rows.specs.Choices.{ReadAs, first_branch, second_branch, Alternative, IsChoice, which, row_in_choice, tree_in_choice, Chosen, operand_kinds, operand_number, operand_of, alpha_kinds, alpha_number, alpha_operand_of}
+use Rattle.b2_rows.specs.Choices.{ReadAs, first_branch, second_branch, Alternative, IsChoice, which, Chosen, operand_kinds, operand_number, operand_of, alpha_kinds, alpha_number, alpha_operand_of}
 use Rattle.b2_rows.specs.declared.operands.Operand.{Operand}
 use Rattle.b2_rows.specs.declared.operands.Operand.TheVariants as operand
 use Rattle.b2_rows.specs.declared.operands.AlphaOperand.{AlphaOperand}

@@ -1,5 +1,5 @@
 -- The number of a run of digits is that of the digits alone.
-use Rattle.std.proofs.Common.{◌≡◌, ℕ, suc, ◌+◌, ◌-◌, ◌*◌, ◌&&◌, ◌==◌, min, nat_le, nat_lt, Bool, true, false, if◌then◌else◌, [], ◌∷◌, take, drop, refl, sym, ap, ◌∙◌, arith}
+use Rattle.std.proofs.Common.{◌≡◌, ℕ, suc, ◌+◌, ◌-◌, ◌*◌, ◌&&◌, ◌==◌, min, nat_le, nat_lt, Bool, true, false, if◌then◌else◌, [], ◌∷◌, take, drop, refl, ap, ◌∙◌, arith}
 use Rattle.b2_base.specs.Byte as byte
 use Rattle.b2_base.specs.Lexical.{capped_value, digits_width, first, is_digit}
 use Rattle.b2_atom.specs.Words.{Text}

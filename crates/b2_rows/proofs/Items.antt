@@ -1,9 +1,9 @@
 -- One reading after another, item by item: what holds of the second holds of both.
-use Rattle.std.proofs.Common.{◌≡◌, ℕ, zero, suc, ◌+◌, ◌≤◌, Bool, true, false, if◌then◌else◌, ◌==◌, ◌&&◌, nat_le, nat_lt, List, [], ◌∷◌, length, take, drop, map, get_or, refl, sym, ap, subst, ◌∙◌, arith, Ok, Err, is_ok}
+use Rattle.std.proofs.Common.{◌≡◌, ℕ, Bool, true, false, if◌then◌else◌, ◌==◌, ◌&&◌, nat_le, nat_lt, [], ◌∷◌, length, take, drop, map, get_or, refl, sym, ap, subst, arith, Ok, Err, is_ok}
 use Rattle.std.proofs.lemmas.Bool.Decides.{nat_tests}
 use Rattle.b2_base.specs.Lexical.{all_printable, first, is_decimal}
 use Rattle.b2_atom.specs.Words.{Text, kept_byte}
-use Rattle.b2_atom.specs.Tokens.{Token, kept_text}
+use Rattle.b2_atom.specs.Tokens.{kept_text}
 use Rattle.b2_atom.specs.Tokens.Token.{Coded, Plain, Lined}
 use Rattle.b2_atom.specs.Tree.{Trees, Outcome, Parser, one, nothing, preceded, and_then, under, also}
 use Rattle.b2_atom.specs.Tree.Trees.{Done, Put, In}
@@ -15,8 +15,8 @@ use Rattle.b2_atom.specs.declared.sink.Stop.{Stop}
 use Rattle.b2_atom.specs.declared.sink.Stop.TheVariants.{At}
 use Rattle.b2_atom.specs.declared.forms.Leaf.{Leaf}
 use Rattle.b2_atom.specs.declared.forms.Leaf.TheVariants as leaf
-use Rattle.b2_atom.proofs.Booleans.{and_left, and_right, both, equal}
-use Rattle.b2_rows.specs.Leaves.{is_leaf, leaf_size, leaf_token, after_leaf, put_leaf}
+use Rattle.b2_atom.proofs.Booleans.{both, equal}
+use Rattle.b2_rows.specs.Leaves.{is_leaf, after_leaf, put_leaf}
 use Rattle.b2_rows.specs.Rows.{tree_of}
 use Rattle.b2_rows.proofs.Levels.{Up}
 

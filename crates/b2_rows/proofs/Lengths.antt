@@ -1,22 +1,23 @@
 -- What is left after a row that takes a byte is shorter than the text.
-use Rattle.std.proofs.Common.{◌≡◌, ◌≤◌, ◌<◌, ℕ, zero, suc, ◌-◌, Bool, true, false, if◌then◌else◌, ◌==◌, ◌&&◌, ◌||◌, nat_le, nat_lt, List, [], ◌∷◌, length, drop, length-drop, refl, sym, ap, subst, arith, inl, inr, ◌⊎◌}
+use Rattle.std.proofs.Common.{◌≡◌, ◌≤◌, ◌<◌, ℕ, zero, suc, ◌-◌, Bool, true, false, if◌then◌else◌, ◌&&◌, ◌||◌, nat_le, nat_lt, List, [], ◌∷◌, length, drop, length-drop, refl, sym, subst, arith, inl, inr}
 use Rattle.std.proofs.lemmas.Bool.Decides.{nat_tests}
 use Rattle.b2_base.specs.Byte as byte
 use Rattle.b2_base.specs.Lexical.{first}
 use Rattle.b2_atom.specs.Words.{Text}
-use Rattle.b2_atom.specs.Leaves.{leaf_width}
 use Rattle.b2_atom.specs.Grammar.{is_among, row_items, starts}
 use Rattle.b2_atom.specs.declared.words.Origin.TheVariants.{Atoms}
+use Rattle.b2_atom.specs.declared.rows.TheConstants as row
+use Rattle.b2_atom.specs.declared.forms.Start.{Start}
 use Rattle.b2_atom.specs.declared.forms.Leaf.{Leaf}
 use Rattle.b2_atom.specs.declared.forms.Leaf.TheVariants as leaf
 use Rattle.b2_atom.specs.declared.forms.Item.{Item}
 use Rattle.b2_atom.specs.declared.forms.Item.TheVariants.{Word, Sign, Among, ProgramWord, Ignored, Comma, LeftOut, End, Typed, Part, Maybe, Either, Many, Nest, Statement}
-use Rattle.b2_atom.proofs.Booleans.{and_left, and_right, or_cases, either_way}
+use Rattle.b2_atom.proofs.Booleans.{and_left, and_right, or_cases}
 use Rattle.b2_rows.specs.Leaves.{is_leaf, leaf_size, after_leaf}
-use Rattle.b2_rows.specs.Rows.{is_part, after_part, after_list, When, Stands, rest_by}
+use Rattle.b2_rows.specs.Rows.{fits_unit, is_part, after_part, is_list, after_list, When, Stands, rest_by}
 use Rattle.b2_rows.specs.Takes.{leaf_takes, items_take, row_takes, takes_byte}
-use Rattle.b2_rows.specs.Laws.{NothingIsAdded}
-use Rattle.b2_rows.proofs.Levels.{part_no_longer, list_no_longer}
+use Rattle.b2_rows.specs.Laws.{NothingIsAdded, EachTakerShortens}
+use Rattle.b2_rows.proofs.Levels.{part_no_longer, list_no_longer, short_of}
 use Rattle.b2_rows.proofs.Standing.{row_stands}
 
 pub nothing_is_added : NothingIsAdded
@@ -168,3 +169,56 @@ shortens (suc k) n t h ok =
 pub part_shorter : (n : ℕ) (t : Text) → takes_byte n ≡ true → is_part n t ≡ true → length (after_part n t) < length t
 unfolding takes_byte
 part_shorter n t h ok = shortens 40 n t h ok
+
+-- so a text at which it is read isn't empty
+pub part_some : (n : ℕ) (t : Text) → takes_byte n ≡ true → is_part n t ≡ true → 0 < length t
+part_some n t h ok = let e = part_shorter n t h ok in omega (arith, e)
+
+pub each_taker_shortens : EachTakerShortens
+each_taker_shortens n t h ok = part_shorter n t h ok
+
+-- a text at which a row or a repetition is read has at most 256 bytes
+pub part_fits : (n : ℕ) (t : Text) → is_part n t ≡ true → length t ≤ 256
+unfolding is_part
+part_fits n t ok = short_of t (and_left (fits_unit t) _ ok)
+
+pub list_fits : (s : Start) (n : ℕ) (t : Text) → is_list s n t ≡ true → length t ≤ 256
+unfolding is_list
+list_fits s n t ok = short_of t (and_left (fits_unit t) _ ok)
+
+-- the rows of expressions, receivers and conditions take a byte
+pub sum_takes : takes_byte row.SUM ≡ true
+unfolding takes_byte row_items
+sum_takes = refl
+
+pub operand_takes : takes_byte row.OPERAND ≡ true
+unfolding takes_byte row_items
+operand_takes = refl
+
+pub alpha_takes : takes_byte row.ALPHA ≡ true
+unfolding takes_byte row_items
+alpha_takes = refl
+
+pub condition_takes : takes_byte row.CONDITION ≡ true
+unfolding takes_byte row_items
+condition_takes = refl
+
+pub receiver_takes : takes_byte row.RECEIVER ≡ true
+unfolding takes_byte row_items
+receiver_takes = refl
+
+pub operand_of_any_kind_takes : takes_byte row.OPERAND_OF_ANY_KIND ≡ true
+unfolding takes_byte row_items
+operand_of_any_kind_takes = refl
+
+pub sum_shorter : (t : Text) → is_part row.SUM t ≡ true → length (after_part row.SUM t) < length t
+sum_shorter t ok = part_shorter row.SUM t sum_takes ok
+
+pub operand_shorter : (t : Text) → is_part row.OPERAND t ≡ true → length (after_part row.OPERAND t) < length t
+operand_shorter t ok = part_shorter row.OPERAND t operand_takes ok
+
+pub alpha_shorter : (t : Text) → is_part row.ALPHA t ≡ true → length (after_part row.ALPHA t) < length t
+alpha_shorter t ok = part_shorter row.ALPHA t alpha_takes ok
+
+pub condition_shorter : (t : Text) → is_part row.CONDITION t ≡ true → length (after_part row.CONDITION t) < length t
+condition_shorter t ok = part_shorter row.CONDITION t condition_takes ok

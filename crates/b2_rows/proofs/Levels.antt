@@ -1,5 +1,5 @@
 -- What is read with fewer levels, parentheses and repetitions is read with more; and what is left is no longer than the text.
-use Rattle.std.proofs.Common.{◌≡◌, ℕ, zero, suc, ◌+◌, ◌-◌, ◌≤◌, Bool, true, false, if◌then◌else◌, List, [], ◌∷◌, ◌++◌, length, drop, length-drop, length-append, nat_le, refl, sym, ap, subst, ◌∙◌, arith, Ok, Err}
+use Rattle.std.proofs.Common.{◌≡◌, ℕ, zero, suc, ◌+◌, ◌-◌, ◌≤◌, Bool, true, false, if◌then◌else◌, List, [], ◌∷◌, ◌++◌, length, drop, length-drop, length-append, refl, sym, ap, subst, ◌∙◌, arith, Ok, Err}
 use Rattle.std.proofs.lemmas.Bool.Decides.{nat_tests}
 use Rattle.b2_atom.specs.Words.{Text}
 use Rattle.b2_atom.specs.Tree.{Trees, Outcome, Parser, preceded, and_then, under, atoms}
@@ -139,7 +139,7 @@ pub no_longer : (t : Text) (o : Outcome) → Takes t o → length (left_after o)
 no_longer t (Ok p) h = let e : length (atoms p.0 ++ p.1) ≡ length t = ap length h in omega (arith, e, length-append (atoms p.0) p.1)
 no_longer t (Err e) h = omega arith
 
-takes_reading : (n : ℕ) (t : Text) → Takes t (reading_row n t)
+pub takes_reading : (n : ℕ) (t : Text) → Takes t (reading_row n t)
 unfolding reading_row
 takes_reading n t = takes_level no_statement in_parentheses (takes_statement 0) (takes_deep no_statement (takes_statement 0) 32) 40 n t
 

@@ -1,8 +1,15 @@
--- The proofs of rows that are read. Levels: what is read with fewer levels, parentheses and repetitions is read with more. Items:
--- one reading after another, item by item. Standing: `row_stands`. Lists: `goes` and `ended`. Lengths: what is left is shorter.
--- Units: a unit of a line is
--- a row that is read. Links, ChainRows and Choices: what the rows of expressions and of lists say, over the
--- table alone. EachChain and EachOperand: the same one fact at a time.
+-- The proofs of rows that are read, lowest first. The crates above cite `row_stands`, `goes`, `ended`, `part_shorter`,
+-- `link_means`, `further_of`, `either_first`, `either_second`, and the facts of EachChain and EachOperand.
+--
+-- Levels: what is read with fewer levels, parentheses and repetitions is read with more; what is left is no longer.
+-- Items: one reading after another, item by item. Standing: a row that is read stands item by item (`row_stands`).
+-- Lists: a repetition goes on where its row begins (`goes`) and ends elsewhere (`ended`).
+-- Lengths: what is left after a row that takes a byte is shorter (`part_shorter`).
+-- Units: a unit of a line is a row that is read. Digits and Letters: the values of numbers and names that are typed.
+-- Links, ChainRows and Choices: what the rows of expressions and of lists say, over the table alone; EachChain and EachOperand
+-- have the same one fact at a time, as the tactics of functions want it.
+-- GoodTokens and Scanning: the tokens of a row that is read, and whether FN is one of them.
+-- LineTrees and WhatFollows: the units of a line on its tree, and what follows one.
 pub mod Levels
 pub mod Items
 pub mod Standing
@@ -17,5 +24,7 @@ pub mod ChainRows
 pub mod Choices
 pub mod EachChain
 pub mod EachOperand
+pub mod GoodTokens
+pub mod Scanning
 pub mod LineTrees
 pub mod WhatFollows

@@ -1,5 +1,5 @@
 -- The units of a line are those of its tree, and what a unit begins with is told by its row.
-use Rattle.std.proofs.Common.{◌≡◌, ◌<◌, ◌≤◌, ℕ, zero, suc, ◌+◌, ◌==◌, ◌&&◌, nat_lt, nat_le, Bool, true, false, if◌then◌else◌, List, [], ◌∷◌, map, length, drop, get_or, slice_get, Option, Some, None, refl, sym, ap, subst, ◌∙◌, arith, Result, Ok, Err, is_ok}
+use Rattle.std.proofs.Common.{◌≡◌, ◌≤◌, ℕ, zero, suc, ◌==◌, ◌&&◌, nat_lt, Bool, true, false, if◌then◌else◌, List, [], ◌∷◌, map, length, slice_get, Option, Some, None, refl, sym, ap, subst, ◌∙◌, arith, Result, Ok, Err, is_ok}
 use Rattle.std.proofs.lemmas.Bool.Decides.{nat_tests}
 use Rattle.std.proofs.lemmas.Option.{slice_get-map}
 use Rattle.std.proofs.lemmas.List.{length-map}
@@ -8,11 +8,10 @@ use Rattle.std.specs.List.{All}
 use Rattle.std.proofs.lemmas.List.Elements.{All-head, All-tail}
 use Rattle.b2_base.specs.Lexical.{first}
 use Rattle.b2_atom.specs.Words.{Text}
-use Rattle.b2_atom.specs.Tokens.Token.{Coded, Lined}
 use Rattle.b2_atom.specs.Tree.{Trees, Outcome, atoms, under}
-use Rattle.b2_atom.specs.Tree.Trees.{Done, Put, In}
+use Rattle.b2_atom.specs.Tree.Trees.{Done, In}
 use Rattle.b2_atom.specs.Table.{forms}
-use Rattle.b2_atom.specs.Grammar.{reader, statement, statement_within, statement_row, chosen, from, row_at, row_items, starts, read_line}
+use Rattle.b2_atom.specs.Grammar.{statement_within, statement_row, chosen, from, row_at, row_items, starts, read_line}
 use Rattle.b2_atom.specs.Lines.{is_line, LineUnit, units_of, further_unit, is_further, left_after, unit_row, chosen_row, IsReadBy}
 use Rattle.b2_atom.specs.Units.{TreeUnit, unit_atoms, units_on}
 use Rattle.b2_atom.specs.Laws.{IsTree, IsReadAlone}
@@ -22,22 +21,16 @@ use Rattle.b2_atom.specs.declared.words.Origin.TheVariants.{Atoms}
 use Rattle.b2_atom.specs.declared.sink.Stop.{Stop}
 use Rattle.b2_atom.specs.declared.forms.Position.{Position}
 use Rattle.b2_atom.specs.declared.forms.Position.TheVariants as place
-use Rattle.b2_atom.specs.declared.forms.Item.{Item}
-use Rattle.b2_atom.specs.declared.forms.Item.TheVariants.{Word, Sign, Typed, Part, Maybe, Either, Many, Nest}
-use Rattle.b2_atom.specs.declared.forms.Leaf.TheVariants as leaf
+use Rattle.b2_atom.specs.declared.forms.Item.TheVariants.{Word, Part, Either}
 use Rattle.b2_atom.specs.declared.forms.Start.TheVariants as start
 use Rattle.b2_atom.proofs.Booleans.{both, equal, never}
 use Rattle.b2_atom.proofs.lines.EachUnit.{tree_is_cut}
 use Rattle.b2_atom.proofs.lines.LineLaws.{spells_tree, atoms_back}
 use Rattle.b2_rows.specs.Rows.{reading_row, tree_of, is_part, tree_at, after_part}
 use Rattle.b2_rows.specs.Laws.{IsRow, IsRowOnTree}
-use Rattle.b2_rows.specs.Values.{line_of}
-use Rattle.b2_rows.specs.Following.{line_tree, tree_units, further_on, unit_or_next, past_colon, named_goal, else_goal, false_goal, after_false, error_goal, taken_fault}
-use Rattle.b2_rows.specs.declared.following.Goal.{Goal}
-use Rattle.b2_rows.specs.declared.following.Goal.TheVariants as goal
+use Rattle.b2_rows.specs.Following.{line_tree, tree_units, further_on}
 use Rattle.b2_rows.proofs.Levels.{is_short}
 use Rattle.b2_rows.proofs.Standing.{row_stands}
-use Rattle.b2_rows.proofs.Choices.{either_first, either_second}
 use Rattle.b2_rows.proofs.Units.{each_tree_unit_is_its_row, line_short}
 
 -- a line and its tree
@@ -156,7 +149,7 @@ error_row place.First s m h = cc
 error_row place.Further s m h = cc
 error_row place.Following s m h = cc
 
-else_items : row_items row.ELSE ≡ Word word.ELSE ∷ Either start.Line row.LINE_NUMBER row.FOLLOWING ∷ []
+pub else_items : row_items row.ELSE ≡ Word word.ELSE ∷ Either start.Line row.LINE_NUMBER row.FOLLOWING ∷ []
 unfolding row_items
 else_items = refl
 

@@ -1,16 +1,15 @@
 -- A further item is an operator and an item: by its row, and in a repetition that goes on.
-use Rattle.std.proofs.Common.{◌≡◌, ◌≤◌, ◌<◌, ℕ, Bool, true, false, if◌then◌else◌, ◌==◌, nat_lt, List, [], ◌∷◌, length, drop, refl, sym, ap, subst, ◌∙◌, arith}
+use Rattle.std.proofs.Common.{◌≡◌, ◌<◌, ℕ, Bool, true, false, if◌then◌else◌, nat_lt, [], ◌∷◌, length, drop, refl, sym, ap, subst, ◌∙◌, arith}
 use Rattle.b2_base.specs.Lexical.{first}
 use Rattle.b2_atom.specs.Words.{Text}
 use Rattle.b2_atom.specs.Tokens.{Token}
-use Rattle.b2_atom.specs.Tokens.Token.{Coded}
 use Rattle.b2_atom.specs.Tree.{Trees}
 use Rattle.b2_atom.specs.Tree.Trees.{Done, Put, In}
 use Rattle.b2_atom.specs.Grammar.{row_items, starts}
 use Rattle.b2_atom.specs.declared.words.Origin.TheVariants.{Atoms}
 use Rattle.b2_atom.specs.declared.forms.Start.{Start}
 use Rattle.b2_atom.specs.declared.forms.Item.TheVariants.{Sign, Among, Part, Either}
-use Rattle.b2_rows.specs.Rows.{is_part, tree_at, after_part, is_list, list_at, after_list, When, Goes}
+use Rattle.b2_rows.specs.Rows.{is_part, tree_at, after_part, is_list, list_at, after_list, When}
 use Rattle.b2_rows.specs.Links.{token_code, first_code, IsLink, Linked, Further}
 use Rattle.b2_rows.proofs.Levels.{part_no_longer}
 use Rattle.b2_rows.proofs.Standing.{row_stands}
@@ -86,7 +85,7 @@ after_sign : (n item k : ℕ) (t : Text) (u : Trees) (r : Text) → OneSign n t 
     → (is_part item (drop 1 t) ≡ true) × (IsLink (first t) (tree_at item (drop 1 t)) u × (r ≡ after_part item (drop 1 t)))
 after_sign n item k t u r s ok is_u is_r = (
   subst (λ (x : Text). is_part item x ≡ true) s.rest ok,
-  (subst (IsLink (first t) (tree_at item (drop 1 t))) (sym (is_u ∙ ap (λ (x : Text). In k (tree_at n t) (In 2 (tree_at item x) Done)) s.rest)) (s.code, (refl, refl)), is_r ∙ ap (after_part item) s.rest)
+  (subst (IsLink (first t) (tree_at item (drop 1 t))) (sym (is_u ∙ ap (λ (x : Text). In k (tree_at n t) (In 2 (tree_at item x) Done)) s.rest)) (s.code, (refl, refl)), is_r ∙ ap (after_part item) s.rest),
 )
 
 pub row_linked : (more item sign : ℕ) (t : Text) → row_items more ≡ Part sign ∷ Part item ∷ [] → (is_part sign t ≡ true → OneSign sign t) → is_part more t ≡ true → Linked more item t

@@ -9,7 +9,7 @@ use Rattle.b2_atom.specs.declared.words.Origin.TheVariants.{Atoms}
 use Rattle.b2_atom.specs.declared.forms.Start.{Start}
 use Rattle.b2_atom.proofs.Booleans.{and_left, and_right, both, false_true}
 use Rattle.b2_rows.specs.Rows.{reading_row, reading_list, tree_of, fits_unit, is_part, tree_at, after_part, is_list, list_at, after_list, Goes, Ends}
-use Rattle.b2_rows.specs.Laws.{ListsStep, EachListSteps}
+use Rattle.b2_rows.specs.Laws.{EachListSteps}
 use Rattle.b2_rows.proofs.Levels.{Up, many_up, reading_no_longer, is_short, short_of}
 
 going : (s : Start) (n : ℕ) (t : Text) (o u w : Outcome) → length t ≤ 256 → reading_row n t ≡ o → many (reader Atoms) s (reading_row n) 255 (left_after o) ≡ u → reading_list s n (left_after o) ≡ w

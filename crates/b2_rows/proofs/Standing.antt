@@ -1,10 +1,10 @@
 -- A row that is read stands item by item, and makes its tree.
-use Rattle.std.proofs.Common.{◌≡◌, ◌≤◌, ℕ, Bool, true, false, if◌then◌else◌, ◌==◌, ◌&&◌, List, [], ◌∷◌, length, drop, refl, sym, ap, subst, ◌∙◌, Ok, Err, is_ok}
+use Rattle.std.proofs.Common.{◌≡◌, ◌≤◌, ℕ, Bool, true, false, if◌then◌else◌, ◌==◌, List, [], ◌∷◌, length, drop, refl, sym, ap, subst, ◌∙◌, Ok, Err, is_ok}
 use Rattle.b2_base.specs.Lexical.{first}
 use Rattle.b2_base.specs.Byte as byte
 use Rattle.b2_atom.specs.Words.{Text}
 use Rattle.b2_atom.specs.Tokens.Token.{Coded}
-use Rattle.b2_atom.specs.Tree.{Trees, Outcome, Parser, nothing, and_then, under, also}
+use Rattle.b2_atom.specs.Tree.{Trees, Outcome, Parser, and_then, under, also}
 use Rattle.b2_atom.specs.Tree.Trees.{Done, Put, In}
 use Rattle.b2_atom.specs.Leaves.{refused}
 use Rattle.b2_atom.specs.Grammar.{is_among, among, reader, item, many, items, level, absent, row_items, starts, mark, program_word, ignored, optional_comma, end_of_line, read_leaf, statement_within}

@@ -1,17 +1,16 @@
 -- Each unit of a line is a row that is read.
-use Rattle.std.proofs.Common.{◌≡◌, ◌≤◌, ℕ, zero, suc, ◌-◌, ◌==◌, Bool, true, false, if◌then◌else◌, ◌&&◌, nat_le, List, [], ◌∷◌, map, length, take, drop, length-take, refl, sym, ap, subst, ◌∙◌, arith, Result, Ok, Err, is_ok}
+use Rattle.std.proofs.Common.{◌≡◌, ◌≤◌, ℕ, zero, suc, ◌==◌, Bool, true, false, if◌then◌else◌, ◌&&◌, nat_le, List, [], ◌∷◌, map, length, take, drop, length-take, refl, ap, subst, ◌∙◌, arith, Result, Ok, Err, is_ok}
 use Rattle.std.proofs.lemmas.Bool.Decides.{nat_tests}
 use Rattle.std.specs.List.{All}
 use Rattle.std.proofs.lemmas.List.Elements.{All-nil, All-cons, All-head, All-tail}
-use Rattle.b2_base.specs.Lexical.{first}
 use Rattle.b2_base.specs.Byte as byte
 use Rattle.b2_atom.specs.Words.{Text}
-use Rattle.b2_atom.specs.Tree.{Trees, Outcome, Parser, under, atoms}
-use Rattle.b2_atom.specs.Tree.Trees.{Done, Put, In}
-use Rattle.b2_atom.specs.Grammar.{reader, statement, statement_within, chosen, from, statement_row, row_at, part}
+use Rattle.b2_atom.specs.Tree.{Trees, Outcome, under, atoms}
+use Rattle.b2_atom.specs.Tree.Trees.{Done, In}
+use Rattle.b2_atom.specs.Grammar.{reader, statement, statement_within, chosen, from, statement_row, row_at}
 use Rattle.b2_atom.specs.Lines.{left_after, is_line, after_unit, LineUnit, unit_at, next_place, next_text, units_after, units_from, units_of}
 use Rattle.b2_atom.specs.Units.{TreeUnit, unit_atoms, units_on}
-use Rattle.b2_atom.specs.Laws.{IsTree, IsStatement, IsReadAlone}
+use Rattle.b2_atom.specs.Laws.{IsStatement, IsReadAlone}
 use Rattle.b2_atom.specs.Table.{forms}
 use Rattle.b2_atom.specs.declared.words.Origin.TheVariants.{Atoms}
 use Rattle.b2_atom.specs.declared.sink.Stop.{Stop}

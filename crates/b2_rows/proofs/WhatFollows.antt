@@ -1,6 +1,5 @@
 -- What follows a unit of a line is found at the line's bytes.
-use Rattle.std.proofs.Common.{◌≡◌, ◌<◌, ℕ, suc, ◌+◌, ◌==◌, ◌&&◌, nat_lt, nat_le, Bool, true, false, if◌then◌else◌, List, [], ◌∷◌, length, drop, get_or, slice_get, Option, Some, None, refl, sym, ap, subst, ◌∙◌, arith}
-use Rattle.std.proofs.lemmas.Bool.Decides.{nat_tests}
+use Rattle.std.proofs.Common.{◌≡◌, ℕ, ◌+◌, ◌==◌, nat_lt, Bool, true, false, if◌then◌else◌, [], ◌∷◌, length, drop, get_or, slice_get, Option, Some, None, refl, sym, ap, subst, ◌∙◌}
 use Rattle.std.specs.Option.{option_map}
 use Rattle.b2_base.specs.Lexical.{first}
 use Rattle.b2_atom.specs.Words.{Text}
@@ -9,22 +8,20 @@ use Rattle.b2_atom.specs.Tree.{Trees}
 use Rattle.b2_atom.specs.Tree.Trees.{Done, Put, In}
 use Rattle.b2_atom.specs.Grammar.{row_items, starts}
 use Rattle.b2_atom.specs.Lines.{is_line, LineUnit, units_of, further_unit}
-use Rattle.b2_atom.specs.Units.{TreeUnit}
 use Rattle.b2_atom.specs.declared.words.TheConstants as word
 use Rattle.b2_atom.specs.declared.rows.TheConstants as row
 use Rattle.b2_atom.specs.declared.words.Origin.TheVariants.{Atoms}
 use Rattle.b2_atom.specs.declared.forms.Leaf.TheVariants as leaf
 use Rattle.b2_atom.specs.declared.forms.Start.TheVariants as start
-use Rattle.b2_atom.specs.declared.forms.Item.{Item}
 use Rattle.b2_atom.specs.declared.forms.Item.TheVariants.{Word, Typed, Either}
 use Rattle.b2_rows.specs.Leaves.{is_line_number}
 use Rattle.b2_rows.specs.Rows.{is_part, tree_at, When}
 use Rattle.b2_rows.specs.Values.{line_of}
-use Rattle.b2_rows.specs.Following.{tree_units, further_on, unit_or_next, past_colon, named_goal, else_goal, false_goal, after_false, error_goal, taken_fault}
-use Rattle.b2_rows.specs.declared.following.Goal.{Goal}
+use Rattle.b2_rows.specs.Following.{tree_units, unit_or_next, past_colon, named_goal, else_goal, false_goal, after_false, error_goal, taken_fault}
 use Rattle.b2_rows.specs.declared.following.Goal.TheVariants as goal
+use Rattle.b2_atom.proofs.Booleans.{equal}
 use Rattle.b2_rows.proofs.Standing.{row_stands}
-use Rattle.b2_rows.proofs.LineTrees.{UnitFound, unit_found, none_found, further_is, count_is, else_told, error_told}
+use Rattle.b2_rows.proofs.LineTrees.{else_items, UnitFound, unit_found, none_found, further_is, count_is, else_told, error_told}
 
 -- a unit, or the next line
 chosen_unit : (b : Bool) (k n : ℕ) → nat_lt k n ≡ b → (if nat_lt k n then goal.Unit k else goal.NextLine) ≡ (if b then goal.Unit k else goal.NextLine)
@@ -40,10 +37,6 @@ pub past_is : (line : Text) (k : ℕ) → is_line line ≡ true → past_colon k
 past_is line k h = ap (λ (j : ℕ). unit_or_next j (tree_units line)) (sym (further_is line k h))
 
 -- ELSE
-else_items : row_items row.ELSE ≡ Word word.ELSE ∷ Either start.Line row.LINE_NUMBER row.FOLLOWING ∷ []
-unfolding row_items
-else_items = refl
-
 line_items : row_items row.LINE_NUMBER ≡ Typed leaf.LineNumber 15 ∷ []
 unfolding row_items
 line_items = refl
@@ -111,17 +104,14 @@ pub false_plain : (line : Text) (k : ℕ) (bytes : Text) → is_line line ≡ tr
     → after_false k (tree_units line) ≡ goal.Unit (further_unit k 0 (units_of line))
 false_plain line k bytes h is none = false_some line k bytes false (unit_found line (further_unit k 0 (units_of line)) bytes h is) h none
 
-is_equal : (m n : ℕ) → (m == n) ≡ true → m ≡ n
-is_equal m n h = grind (arith, nat_tests)
-
 part_of : (line : Text) (j : ℕ) (bytes : Text) (f : UnitFound line j bytes) → (first bytes == word.ELSE) ≡ true → is_part row.ELSE bytes ≡ true
 part_of line j bytes f is =
-    let same : f.unit.row ≡ row.ELSE = is_equal f.unit.row row.ELSE (sym (row_test line j bytes f) ∙ is) in
+    let same : f.unit.row ≡ row.ELSE = equal f.unit.row row.ELSE (sym (row_test line j bytes f) ∙ is) in
     subst (λ (m : ℕ). is_part m bytes ≡ true) same (subst (λ (s : Text). is_part f.unit.row s ≡ true) f.same f.row.part)
 
 tree_of_else : (line : Text) (j : ℕ) (bytes : Text) (f : UnitFound line j bytes) → (first bytes == word.ELSE) ≡ true → tree_at row.ELSE bytes ≡ f.unit.tree
 tree_of_else line j bytes f is =
-    let same : f.unit.row ≡ row.ELSE = is_equal f.unit.row row.ELSE (sym (row_test line j bytes f) ∙ is) in
+    let same : f.unit.row ≡ row.ELSE = equal f.unit.row row.ELSE (sym (row_test line j bytes f) ∙ is) in
     subst (λ (m : ℕ). tree_at m bytes ≡ f.unit.tree) same (subst (λ (s : Text). tree_at f.unit.row s ≡ f.unit.tree) f.same f.row.tree)
 
 pub false_part : (line : Text) (k : ℕ) (bytes : Text) → is_line line ≡ true → FoundAt line k (Some bytes) → (first bytes == word.ELSE) ≡ true → is_part row.ELSE bytes ≡ true

@@ -1,5 +1,5 @@
 -- Choices of the table: rows that stand in one another, of which the first that begins is read, and else the last.
-use Rattle.std.specs.Prelude.{◌≡◌, ℕ, zero, suc, ◌==◌, ◌||◌, Bool, true, false, List, [], ◌∷◌, if◌then◌else◌}
+use Rattle.std.specs.Prelude.{◌≡◌, ℕ, zero, suc, ◌==◌, ◌||◌, true, List, [], ◌∷◌, if◌then◌else◌}
 use Rattle.b2_base.specs.Byte as byte
 use Rattle.b2_base.specs.Lexical.{is_digit}
 use Rattle.b2_atom.specs.Words.{Text}

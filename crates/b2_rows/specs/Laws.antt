@@ -1,6 +1,6 @@
 -- Laws of rows that are read: they stand item by item, repetitions go on where their rows begin, and each unit of a line is a
 -- row that is read.
-use Rattle.std.specs.Prelude.{◌≡◌, ◌≤◌, ◌<◌, ℕ, Bool, true, false, List, [], ◌∷◌, Ok, length}
+use Rattle.std.specs.Prelude.{◌≡◌, ◌≤◌, ◌<◌, ℕ, true, false, [], Ok, length}
 use Rattle.std.specs.List.{All}
 use Rattle.b2_atom.specs.Words.{Text}
 use Rattle.b2_atom.specs.Tree.{Trees, atoms}
@@ -13,8 +13,9 @@ use Rattle.b2_atom.specs.declared.words.Origin.TheVariants.{Atoms}
 use Rattle.b2_atom.specs.declared.forms.Start.{Start}
 use Rattle.b2_base.specs.Lexical.{first}
 use Rattle.b2_rows.specs.Rows.{is_part, tree_at, after_part, is_list, after_list, RowStands, Goes, Ends}
+use Rattle.b2_rows.specs.Takes.{takes_byte}
 use Rattle.b2_rows.specs.Links.{Further}
-use Rattle.b2_rows.specs.Chains.{chain_row, item_row, more_row, more_start, is_sign, is_operator_of, ChainStands, SignedFactor, PlainFactor}
+use Rattle.b2_rows.specs.Chains.{chain_row, item_row, more_row, more_start, is_operator_of, ChainStands}
 use Rattle.b2_rows.specs.declared.chains.Chain.{Chain}
 
 -- each row that is read stands item by item
@@ -34,6 +35,10 @@ abbrev pub NothingIsAdded : Type 0
 NothingIsAdded =
     ((n : ℕ) (t : Text) → length (after_part n t) ≤ length t)
     × ((s : Start) (n : ℕ) (t : Text) → length (after_list s n t) ≤ length t)
+
+-- and shorter after a row that takes a byte
+abbrev pub EachTakerShortens : Type 0
+EachTakerShortens = (n : ℕ) (t : Text) → takes_byte n ≡ true → is_part n t ≡ true → length (after_part n t) < length t
 
 -- a chain is an item and further items, which go on exactly where an operator stands
 pub record ChainSteps (c : Chain) (t : Text) : Type 0 where

@@ -1,5 +1,5 @@
 -- What is typed by hand at a text of a unit: whether it stands there, its token, and what stands after it.
-use Rattle.std.specs.Prelude.{ℕ, ◌==◌, ◌&&◌, nat_le, nat_lt, Bool, [], ◌∷◌, length, take, drop, get_or}
+use Rattle.std.specs.Prelude.{ℕ, ◌==◌, ◌&&◌, nat_le, nat_lt, Bool, [], length, take, drop, get_or}
 use Rattle.b2_base.specs.Lexical.{all_printable, first, is_decimal}
 use Rattle.b2_atom.specs.Words.{Text}
 use Rattle.b2_atom.specs.Tokens.{Token}

@@ -6,5 +6,6 @@ pub mod Links
 pub mod Chains
 pub mod Choices
 pub mod Following
+pub mod FunctionCalls
 pub mod Laws
 pub mod Optional

@@ -1,5 +1,5 @@
 -- What follows an operator: the tree of a further item, an operator and the item, wherever such items are repeated.
-use Rattle.std.specs.Prelude.{◌≡◌, ◌<◌, ℕ, Bool, true, length, drop}
+use Rattle.std.specs.Prelude.{◌≡◌, ◌<◌, ℕ, true, length, drop}
 use Rattle.b2_base.specs.Lexical.{first}
 use Rattle.b2_atom.specs.Words.{Text}
 use Rattle.b2_atom.specs.Tokens.{Token}

@@ -12,7 +12,7 @@ use Rattle.b2_atom.specs.declared.words.Origin.TheVariants.{Atoms}
 use Rattle.b2_atom.specs.declared.forms.Start.{Start}
 use Rattle.b2_atom.specs.declared.forms.Item.{Item}
 use Rattle.b2_atom.specs.declared.forms.Item.TheVariants.{Word, Sign, Among, ProgramWord, Ignored, Comma, LeftOut, End, Typed, Part, Maybe, Either, Many, Nest, Statement}
-use Rattle.b2_rows.specs.Leaves.{is_leaf, leaf_token, after_leaf, put_leaf}
+use Rattle.b2_rows.specs.Leaves.{is_leaf, after_leaf, put_leaf}
 
 -- what the table reads of a row in a unit: the statement that follows a THEN, ELSE or ERROR is a unit of its own
 unfoldable pub reading_row : ℕ → Text → Outcome

@@ -1,5 +1,5 @@
 // Laws of rows that are read, which no code states: each is the contract of a function without a body.
-ghost use Rattle.b2_rows.specs.Laws.{EachChainStands, EachListSteps, EachRowStands, EachTreeUnitIsItsRow, EachUnitIsARow, NothingIsAdded};
+ghost use Rattle.b2_rows.specs.Laws.{EachChainStands, EachListSteps, EachRowStands, EachTakerShortens, EachTreeUnitIsItsRow, EachUnitIsARow, NothingIsAdded};
 
 /// A row that is read stands item by item at its text, is the tree of its items, and leaves what they leave.
 pub fn each_row_stands()
@@ -19,6 +19,11 @@ pub fn each_chain_stands()
 /// What is left after a row or a repetition is no longer than the text.
 pub fn nothing_is_added()
     ensures { NothingIsAdded }
+{}
+
+/// What is left after a row that takes a byte is shorter than the text.
+pub fn each_taker_shortens()
+    ensures { EachTakerShortens }
 {}
 
 /// Each unit of a line is a row that is read, from its first byte to its last.

@@ -13,9 +13,7 @@ use b2_atom::{
     numeric_name_width,
 };
 use b2_base::Addr;
-use b2_base::lexical::{
-    at, capped_value, decimal_of, dropped, first, front, hex_value, is_digit,
-};
+use b2_base::lexical::{at, capped_value, decimal_of, dropped, first, front, hex_value, is_digit};
 
 /// The name of a variable as it is typed, without subscripts.
 #[derive(Clone, Copy, Debug, PartialEq, Eq)]

@@ -1,21 +1,19 @@
 use crate::{
     AlphaOperand, Chain, Goal, Name, Operand, address_at, after_false, alpha_name,
-    alpha_operand_at, function_name, goes_on, has_sign, hex_byte_at, hex_digit_at, image_at,
-    is_alpha_at, is_array_at, is_at, is_hex_at, is_line_at, is_numeric_at, is_read, line_at,
-    literal_at, local_name, next_unit, numeric_name, operand_at, past_colon, relation_at, row_unit,
-    slot_at, small_at, taken_fault,
+    alpha_operand_at, calls_function, function_name, goes_on, has_sign, hex_byte_at, hex_digit_at,
+    image_at, is_alpha_at, is_array_at, is_at, is_hex_at, is_line_at, is_numeric_at, is_read,
+    line_at, literal_at, local_name, next_unit, numeric_name, operand_at, past_colon, relation_at,
+    row_unit, slot_at, small_at, taken_fault,
 };
 use b2_alpha::Rel;
-use b2_atom::Atoms;
-use b2_atom::rows;
 use b2_atom::words::{
     AND, BIN_OPEN, ERR, FN, HASH_PART, HEX_OPEN, INT_OPEN, LINE_MARK, MAX_OPEN, MOD_OPEN, NUM_OPEN,
     OR, Origin, POS_OPEN, SQR_OPEN, STR_OPEN, VAL_OPEN, XOR,
 };
 use b2_atom::{
-    address_width, alpha_name_width, function_name_width, hex_digit_width, hex_pair_width,
-    image_width, literal_width, local_name_width, numeric_name_width, relation_width, slot_width,
-    small_width,
+    Atoms, address_width, alpha_name_width, function_name_width, hex_digit_width, hex_pair_width,
+    image_width, literal_width, local_name_width, numeric_name_width, relation_width, rows,
+    slot_width, small_width,
 };
 use b2_base::lexical::{at, first, is_decimal};
 use std::alloc::Global;
@@ -211,7 +209,10 @@ fn relation_read(text: &[u8]) -> Option<(Rel, usize)> {
 #[test]
 fn relations_are_read(rt: HostRuntime) {
     for (text, relation, width) in RELATIONS {
-        assert!(rt; relation_read(text) == Some((relation, width)), "of width {width}");
+        assert!(rt;
+            relation_read(text) == Some((relation, width)),
+            "of width {width}"
+        );
     }
 }
 
@@ -348,15 +349,87 @@ fn rows_are_read(rt: HostRuntime) {
 // A program line, one of its units, the row of that, where a step goes on after it, past the next `:`, and after a false IF,
 // and the unit at which it goes on after a fault, 0 for none.
 const LINES: [(&[u8], usize, u16, Goal, Goal, Goal, usize); 9] = [
-    (b"STOP", 0, rows::STOP, Goal::NextLine, Goal::NextLine, Goal::NextLine, 0),
-    (b"IF A=1 THEN 10", 0, rows::IF, Goal::NextLine, Goal::NextLine, Goal::NextLine, 0),
-    (b"IF A=1 THEN 10:B=2", 0, rows::IF, Goal::Unit(1), Goal::Unit(1), Goal::Unit(1), 0),
-    (b"IF A=1 THEN B=2:ELSE 200", 0, rows::IF, Goal::Unit(1), Goal::Unit(2), Goal::Line(200), 0),
-    (b"IF A=1 THEN B=2:ELSE C=3", 0, rows::IF, Goal::Unit(1), Goal::Unit(2), Goal::Unit(3), 0),
-    (b"IF A=1 THEN B=2:ELSE C=3", 2, rows::ELSE, Goal::Unit(3), Goal::NextLine, Goal::NextLine, 0),
-    (b"X=1:ERROR STOP", 0, rows::ASSIGNMENT, Goal::Unit(1), Goal::Unit(1), Goal::Unit(1), 2),
-    (b"X=1:END:ERROR STOP", 0, rows::ASSIGNMENT, Goal::Unit(1), Goal::Unit(1), Goal::Unit(1), 0),
-    (b"IF A=1 THEN X=1:ERROR Y=2", 1, rows::ASSIGNMENT, Goal::Unit(2), Goal::Unit(2), Goal::Unit(2), 3),
+    (
+        b"STOP",
+        0,
+        rows::STOP,
+        Goal::NextLine,
+        Goal::NextLine,
+        Goal::NextLine,
+        0,
+    ),
+    (
+        b"IF A=1 THEN 10",
+        0,
+        rows::IF,
+        Goal::NextLine,
+        Goal::NextLine,
+        Goal::NextLine,
+        0,
+    ),
+    (
+        b"IF A=1 THEN 10:B=2",
+        0,
+        rows::IF,
+        Goal::Unit(1),
+        Goal::Unit(1),
+        Goal::Unit(1),
+        0,
+    ),
+    (
+        b"IF A=1 THEN B=2:ELSE 200",
+        0,
+        rows::IF,
+        Goal::Unit(1),
+        Goal::Unit(2),
+        Goal::Line(200),
+        0,
+    ),
+    (
+        b"IF A=1 THEN B=2:ELSE C=3",
+        0,
+        rows::IF,
+        Goal::Unit(1),
+        Goal::Unit(2),
+        Goal::Unit(3),
+        0,
+    ),
+    (
+        b"IF A=1 THEN B=2:ELSE C=3",
+        2,
+        rows::ELSE,
+        Goal::Unit(3),
+        Goal::NextLine,
+        Goal::NextLine,
+        0,
+    ),
+    (
+        b"X=1:ERROR STOP",
+        0,
+        rows::ASSIGNMENT,
+        Goal::Unit(1),
+        Goal::Unit(1),
+        Goal::Unit(1),
+        2,
+    ),
+    (
+        b"X=1:END:ERROR STOP",
+        0,
+        rows::ASSIGNMENT,
+        Goal::Unit(1),
+        Goal::Unit(1),
+        Goal::Unit(1),
+        0,
+    ),
+    (
+        b"IF A=1 THEN X=1:ERROR Y=2",
+        1,
+        rows::ASSIGNMENT,
+        Goal::Unit(2),
+        Goal::Unit(2),
+        Goal::Unit(2),
+        3,
+    ),
 ];
 
 fn line_of(alloc: Global, source: &[u8]) -> Result<Atoms, Fail> {
@@ -389,6 +462,36 @@ fn what_follows(rt: HostRuntime) -> Result<(), Fail> {
         assert!(rt; past_colon(&line, k) == past, "past {k}");
         assert!(rt; after_false(&line, k) == otherwise, "otherwise {k}");
         assert_eq!(rt; taken_as(&line, k), taken);
+    }
+    Ok(())
+}
+
+// A program line, one of its units, and whether FN stands in that.
+const CALLS: [(&[u8], usize, bool); 9] = [
+    (b"B=FNA(1)", 0, true),
+    (b"B=1+A(FN7(X))", 0, true),
+    (b"DEFFN A(X)=X", 0, false),
+    (b"DEFFN A(X)=FNB(X)", 0, true),
+    (b"PRINT \"FN\"", 0, false),
+    (b"GOTO 9500", 0, false),
+    (b"REM FNA(1)", 0, false),
+    (b"IF FNA(1)=2 THEN 9500:A=1", 0, true),
+    (b"IF FNA(1)=2 THEN 9500:A=1", 1, false),
+];
+
+fn is_calling(line: &Atoms, k: usize, want: bool) -> bool {
+    match row_unit(line, k) {
+        Some(unit) => calls_function(&unit) == want,
+        None => false,
+    }
+}
+
+#[test]
+fn calls_are_found(rt: HostRuntime) -> Result<(), Fail> {
+    for (source, k, want) in CALLS {
+        let line = line_of(rt.alloc(), source)?;
+        let count = source.len();
+        assert!(rt; is_calling(&line, k, want), "of {count} bytes");
     }
     Ok(())
 }

@@ -1,0 +1,5 @@
+pub mod DataSectors
+pub mod Writing
+pub mod Fronts
+pub mod Passing
+pub mod Saved

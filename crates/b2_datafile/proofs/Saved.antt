@@ -1,0 +1,105 @@
+-- A record is saved at its place.
+use Rattle.std.proofs.Common.{◌≡◌, ℕ, ◌+◌, ◌*◌, ◌≤◌, refl, List, [], ◌∷◌, ◌++◌, length, sym, subst, ap, ap₂, ◌∙◌, ◌-◌, arith, inl, inr}
+use Rattle.b2_dec.specs.declared.values.Value.{Value}
+use Rattle.b2_platter.specs.declared.layout.Layout.TheVariants.{Narrow}
+use Rattle.b2_platter.specs.Edits.{put_sector}
+use Rattle.b2_catalog.specs.declared.entry.Entry.{Entry}
+use Rattle.b2_record.specs.Records.{Spells, sectors_at}
+use Rattle.b2_record.specs.Writing.{record_of}
+use Rattle.b2_datafile.specs.Files.{Fills, IsFront, IsWhole, put_all}
+use Rattle.b2_datafile.specs.Laws.{SavesAt, EndsAt, ended}
+use Rattle.b2_datafile.proofs.DataSectors.{InImage, in-image, sector-put, sector-kept}
+use Rattle.b2_datafile.specs.Files.{end_mark}
+use Rattle.b2_platter.specs.Checks.{Good}
+use Rattle.b2_platter.specs.Image.{sector}
+use Rattle.b2_platter.proofs.Goodness.{sectors_of_good}
+use Rattle.b2_platter.proofs.Puts.{sector_before, sector_after, length-put_sector}
+use Rattle.b2_catalog.specs.Changes.{control_sector}
+use Rattle.b2_catalog.proofs.Spelled.{control_long}
+use Rattle.b2_datafile.proofs.Fronts.{PutAll, put-all, long-record, fills-same, fills-more, fills-le}
+use Rattle.b2_datafile.proofs.Passing.{some-groups}
+use Rattle.b2_record.proofs.Unique.{record-length, length-unique, values-unique}
+use Rattle.std.proofs.lemmas.Bool.{cases_order}
+
+pub saved : (image : List ℕ) (e : Entry) (pos : ℕ) (values : List Value) → SavesAt image e pos values → PutAll image (put_all image pos (record_of values)) pos (record_of values)
+saved image e pos values s =
+    put-all image pos (record_of values) s.good (long-record values (record_of values) s.record_is)
+    (λ n low high. (in-image image e.name e s.good s.file).own n (omega (arith, low, s.low)) (omega (arith, high, s.high)))
+
+pub saved-front : (image : List ℕ) (e : Entry) (pos : ℕ) (values : List Value) (records : List (List Value)) → SavesAt image e pos values → IsFront image e pos records
+    → IsFront (put_all image pos (record_of values)) e (pos + length (record_of values)) (records ++ values ∷ [])
+saved-front image e pos values records s f =
+    let p = saved image e pos values s in
+    fills-more (put_all image pos (record_of values)) e.start pos (length (record_of values)) records values
+    (fills-same image (put_all image pos (record_of values)) e.start pos records (λ k low high. p.before k high) f)
+    (subst (Spells values) (sym p.there) s.record_is)
+
+-- a file that was made has the end mark in its first sector
+pub made-mark : (image : List ℕ) (e : Entry) → Good Narrow image → InImage image e → sector (put_sector (put_sector image e.start end_mark) e.end (control_sector 1)) e.start ≡ end_mark
+made-mark image e good inside =
+    let whole = sectors_of_good Narrow image good in
+    let room : 256 * e.start + 256 ≤ length image = omega (arith, inside.within, inside.order, whole) in
+    let own = inside.own e.start (omega arith) inside.order in
+    let same = length-put_sector image e.start end_mark refl room in
+    sector_before (put_sector image e.start end_mark) e.end (control_sector 1) (control_long 1) (omega (arith, same, whole, inside.within)) e.start inside.order
+    ∙ sector-put image good e.start own end_mark refl
+
+-- ---- the end
+
+inside-of : (image : List ℕ) (e : Entry) (pos : ℕ) → EndsAt image e pos → InImage image e
+inside-of image e pos s = in-image image e.name e s.good s.file
+
+pub ended-other : (image : List ℕ) (e : Entry) (pos k : ℕ) → EndsAt image e pos → (k ≡ pos → ⊥) → (k ≡ e.end → ⊥) → sector (ended image e pos) k ≡ sector image k
+ended-other image e pos k s other control =
+    let inside = inside-of image e pos s in
+    let whole = sectors_of_good Narrow image s.good in
+    let own = inside.own pos s.low s.high in
+    let room : 256 * pos + 256 ≤ length image = omega (arith, inside.within, s.high, whole) in
+    let same = length-put_sector image pos end_mark refl room in
+    let control_room : 256 * e.end + 256 ≤ length (put_sector image pos end_mark) = omega (arith, same, whole, inside.within) in
+    let first = sector-kept image s.good pos own end_mark refl k (λ is. other (sym is)) in
+    elim (cases_order k e.end) as (λ _. sector (ended image e pos) k ≡ sector image k) [
+      | inl at ↦ absurd (control at)
+      | inr unequal ↦ elim unequal as (λ _. sector (ended image e pos) k ≡ sector image k) [
+        | inl less ↦ sector_before (put_sector image pos end_mark) e.end (control_sector (pos - e.start + 1)) (control_long (pos - e.start + 1)) control_room k less ∙ first
+        | inr more ↦ sector_after (put_sector image pos end_mark) e.end (control_sector (pos - e.start + 1)) (control_long (pos - e.start + 1)) control_room k more ∙ first
+      ]
+    ]
+
+ended-mark : (image : List ℕ) (e : Entry) (pos : ℕ) → EndsAt image e pos → sector (ended image e pos) pos ≡ end_mark
+ended-mark image e pos s =
+    let inside = inside-of image e pos s in
+    let whole = sectors_of_good Narrow image s.good in
+    let own = inside.own pos s.low s.high in
+    let room : 256 * pos + 256 ≤ length image = omega (arith, inside.within, s.high, whole) in
+    let same = length-put_sector image pos end_mark refl room in
+    let control_room : 256 * e.end + 256 ≤ length (put_sector image pos end_mark) = omega (arith, same, whole, inside.within) in
+    sector_before (put_sector image pos end_mark) e.end (control_sector (pos - e.start + 1)) (control_long (pos - e.start + 1)) control_room pos s.high
+    ∙ sector-put image s.good pos own end_mark refl
+
+pub ended-whole : (image : List ℕ) (e : Entry) (pos : ℕ) (records : List (List Value)) → EndsAt image e pos → IsFront image e pos records → IsWhole (ended image e pos) (record e { used = pos - e.start + 1 }) records
+ended-whole image e pos records s f =
+    let place : e.start + (pos - e.start + 1) - 1 ≡ pos = omega (arith, s.low) in
+    let same = fills-same image (ended image e pos) e.start pos records (λ k low high. ended-other image e pos k s (λ is. omega (arith, is, high)) (λ is. omega (arith, is, high, s.high))) f in
+    record {
+      front = subst (λ (p : ℕ). Fills (ended image e pos) e.start p records) (sym place) same;
+      mark = ap (sector (ended image e pos)) place ∙ ended-mark image e pos s;
+    }
+
+-- ---- one list of records
+
+record-some : (image : List ℕ) (at n : ℕ) (values : List Value) → Spells values (sectors_at image at n) → 1 ≤ n
+record-some image at n values p = omega (arith, some-groups p.groups p.split, record-length image at n values p)
+
+pub fills-unique : (image : List ℕ) (at pos : ℕ) (a b : List (List Value)) → Fills image at pos a → Fills image at pos b → a ≡ b
+fills-unique image at pos [] [] f g = refl
+fills-unique image at pos [] (w ∷ b) f g = absurd (omega (arith, f, record-some image at g.0 w g.1, fills-le image (at + g.0) pos b g.2))
+fills-unique image at pos (v ∷ a) [] f g = absurd (omega (arith, g, record-some image at f.0 v f.1, fills-le image (at + f.0) pos a f.2))
+fills-unique image at pos (v ∷ a) (w ∷ b) f g =
+    let n : f.0 ≡ g.0 = length-unique image at f.0 g.0 v w f.1 g.1 in
+    let same : v ≡ w = values-unique image at f.0 g.0 v w f.1 g.1 in
+    let rest = fills-unique image (at + f.0) pos a b f.2 (subst (λ (k : ℕ). Fills image (at + k) pos b) (sym n) g.2) in
+    ap₂ (λ u us. u ∷ us) same rest
+
+pub front-unique : (image : List ℕ) (e : Entry) (pos : ℕ) (a b : List (List Value)) → IsFront image e pos a → IsFront image e pos b → a ≡ b
+front-unique image e pos a b f g = fills-unique image e.start pos a b f g

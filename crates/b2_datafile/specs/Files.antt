@@ -1,0 +1,36 @@
+-- A data file: records one after the other, and an end mark.
+use Rattle.std.specs.Prelude.{◌≡◌, ℕ, ◌+◌, ◌-◌, true, ◌==◌, ◌||◌, nat_le, List, [], ◌∷◌, replicate}
+use Rattle.b2_base.specs.Lexical.{first}
+use Rattle.b2_dec.specs.declared.values.Value.{Value}
+use Rattle.b2_platter.specs.Image.{sector}
+use Rattle.b2_platter.specs.Edits.{put_sector}
+use Rattle.b2_catalog.specs.declared.entry.Entry.{Entry}
+use Rattle.b2_record.specs.Records.{sectors_at, Spells}
+use Rattle.b2_datafile.specs.declared.marks.TheConstants.{END_MARK}
+
+-- the sector that ends a file's records
+abbrev pub end_mark : List ℕ
+end_mark = END_MARK ∷ replicate 255 0
+
+-- records fill the sectors from one on, up to another
+abbrev pub Fills : List ℕ → ℕ → ℕ → List (List Value) → Type 0
+Fills image at pos [] = at ≡ pos
+Fills image at pos (values ∷ records) = (n : ℕ) × Spells values (sectors_at image at n) × Fills image (at + n) pos records
+
+-- the records of a file up to a place
+abbrev pub IsFront : List ℕ → Entry → ℕ → List (List Value) → Type 0
+IsFront image e pos records = Fills image e.start pos records
+
+-- the records of a file up to its end mark, which stands where the file says that its used sectors end
+pub record IsWhole (image : List ℕ) (e : Entry) (records : List (List Value)) : Type 0 where
+  pub front : IsFront image e (e.start + e.used - 1) records
+  pub mark : sector image (e.start + e.used - 1) ≡ end_mark
+
+-- sectors from one on are these
+abbrev pub put_all : List ℕ → ℕ → List (List ℕ) → List ℕ
+put_all image at [] = image
+put_all image at (s ∷ sectors) = put_all (put_sector image at s) (at + 1) sectors
+
+-- a place where the records end: that of the control sector, one after it, or one with the end mark
+abbrev pub IsEnd : List ℕ → Entry → ℕ → Type 0
+IsEnd image e pos = (nat_le e.end pos || (first (sector image pos) == END_MARK)) ≡ true

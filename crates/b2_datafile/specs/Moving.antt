@@ -1,0 +1,86 @@
+-- How a place in a file is moved over records, and when it can't be.
+use Rattle.std.specs.Prelude.{◌≡◌, ℕ, zero, suc, ◌+◌, ◌-◌, ◌<◌, ◌≤◌, ◌⊎◌, List, Some, None, min}
+use Rattle.b2_base.specs.declared.codes.Fault.{Fault}
+use Rattle.b2_base.specs.declared.codes.Fault.TheVariants as fault
+use Rattle.b2_base.specs.declared.codes.TheConstants.{D80_NOT_OPEN, D88_FORMAT}
+use Rattle.b2_base.specs.declared.files.Slot.{Slot}
+use Rattle.b2_base.specs.declared.files.By.{By}
+use Rattle.b2_base.specs.declared.files.By.TheVariants as by
+use Rattle.b2_catalog.specs.declared.entry.Entry.{Entry}
+use Rattle.b2_dec.specs.declared.values.Value.{Value}
+use Rattle.b2_record.specs.Records.{sectors_at, Spells, IsNoRecord}
+use Rattle.b2_datafile.specs.Files.{IsEnd}
+use Rattle.b2_datafile.specs.Loading.{IsRecordAt}
+use Rattle.b2_datafile.specs.Slots.{file_of}
+
+-- over records towards the end: it stays where they end, and else goes over the record that stands there
+abbrev pub Ahead : List ℕ → Entry → ℕ → ℕ → ℕ → Type 0
+Ahead image e zero from to = from ≡ to
+Ahead image e (suc count) from to =
+    (IsEnd image e from × (from ≡ to))
+    ⊎ ((values : List Value) × (n : ℕ) × ¬ IsEnd image e from × IsRecordAt image e from values n × Ahead image e count (from + n) to)
+
+-- it can't where, after some records, neither their end nor a record follows
+abbrev pub NoneAhead : List ℕ → Entry → ℕ → ℕ → Type 0
+NoneAhead image e zero from = ⊥
+NoneAhead image e (suc count) from =
+    ¬ IsEnd image e from
+    × (IsNoRecord image from (e.end - 1) ⊎ ((values : List Value) × (n : ℕ) × IsRecordAt image e from values n × NoneAhead image e count (from + n)))
+
+-- a record ends directly before a place of a file
+pub record IsRecordBefore (image : List ℕ) (e : Entry) (pos : ℕ) (values : List Value) (n : ℕ) : Type 0 where
+  pub within : e.start + n ≤ pos
+  pub spelled : Spells values (sectors_at image (pos - n) n)
+
+-- over records towards the beginning: it stays at the first sector, and else goes to where the record begins that ends
+-- directly before it
+abbrev pub Behind : List ℕ → Entry → ℕ → ℕ → ℕ → Type 0
+Behind image e zero from to = from ≡ to
+Behind image e (suc count) from to =
+    ((from ≤ e.start) × (from ≡ to))
+    ⊎ ((values : List Value) × (n : ℕ) × (e.start < from) × IsRecordBefore image e from values n × Behind image e count (from - n) to)
+
+-- it can't where, before some records, none ends directly before the place
+abbrev pub NoneBehind : List ℕ → Entry → ℕ → ℕ → Type 0
+NoneBehind image e zero from = ⊥
+NoneBehind image e (suc count) from =
+    (e.start < from)
+    × (((values : List Value) (n : ℕ) → ¬ IsRecordBefore image e from values n)
+    ⊎ ((values : List Value) × (n : ℕ) × IsRecordBefore image e from values n × NoneBehind image e count (from - n)))
+
+-- the record that ends directly before a place begins at a sector
+abbrev pub IsRecordFrom : List ℕ → Entry → ℕ → ℕ → Type 0
+IsRecordFrom image e pos to = (values : List Value) × (n : ℕ) × IsRecordBefore image e pos values n × (to ≡ pos - n)
+
+-- why there is no such record; or memory failed
+abbrev pub NoRecordBefore : List ℕ → Entry → ℕ → Fault → Type 0
+NoRecordBefore image e pos (fault.Code code) = (code ≡ D88_FORMAT) × ((values : List Value) (n : ℕ) → ¬ IsRecordBefore image e pos values n)
+NoRecordBefore image e pos fault.NoMemory = Unit {0}
+
+abbrev pub AheadFails : List ℕ → Entry → ℕ → ℕ → Fault → Type 0
+AheadFails image e count from (fault.Code code) = (code ≡ D88_FORMAT) × NoneAhead image e count from
+AheadFails image e count from fault.NoMemory = Unit {0}
+
+abbrev pub BehindFails : List ℕ → Entry → ℕ → ℕ → Fault → Type 0
+BehindFails image e count from (fault.Code code) = (code ≡ D88_FORMAT) × NoneBehind image e count from
+BehindFails image e count from fault.NoMemory = Unit {0}
+
+-- where a slot's place goes; a place after the control sector counts as the control sector's
+abbrev pub Moves : List ℕ → Entry → ℕ → By → ℕ → Type 0
+Moves image e pos (by.Forward count) to = Ahead image e count (min pos e.end) to
+Moves image e pos (by.Back count) to = Behind image e count (min pos e.end) to
+Moves image e pos by.Begin to = to ≡ e.start
+Moves image e pos by.End to = to ≡ e.start + e.used - 1
+
+abbrev pub NoMove : List ℕ → Entry → ℕ → By → Type 0
+NoMove image e pos (by.Forward count) = NoneAhead image e count (min pos e.end)
+NoMove image e pos (by.Back count) = NoneBehind image e count (min pos e.end)
+NoMove image e pos by.Begin = ⊥
+NoMove image e pos by.End = ⊥
+
+-- why a slot's place isn't moved: its file isn't there, or there is no record to go over; or memory failed
+abbrev pub SkipFails : List ℕ → Slot → By → Fault → Type 0
+SkipFails image slot way (fault.Code code) =
+    ((code ≡ D80_NOT_OPEN) × (file_of image slot ≡ None))
+    ⊎ ((e : Entry) × (file_of image slot ≡ Some e) × (code ≡ D88_FORMAT) × NoMove image e slot.pos way)
+SkipFails image slot way fault.NoMemory = Unit {0}

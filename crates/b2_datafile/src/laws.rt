@@ -1,0 +1,43 @@
+//! What saving and ending do to the records of a file. Each call does nothing: its contract is the law.
+ghost use Rattle.std.specs.Prelude.{◌≡◌, ◌+◌, ◌-◌, ◌<◌, ◌≤◌, [], ◌∷◌, ◌++◌, ℕ, List, Some, length};
+ghost use Rattle.std.specs.FinMap.{get};
+ghost use Rattle.b2_dec.specs.declared.values.Value.{Value as AnyValue};
+ghost use Rattle.b2_platter.specs.declared.layout.Layout.TheVariants.{Narrow};
+ghost use Rattle.b2_platter.specs.Image.{sector};
+ghost use Rattle.b2_platter.specs.Checks.{Good};
+ghost use Rattle.b2_platter.specs.Edits.{put_sector};
+ghost use Rattle.b2_catalog.specs.declared.entry.Entry.{Entry as File};
+ghost use Rattle.b2_catalog.specs.Catalogue.{catalogue};
+ghost use Rattle.b2_catalog.specs.Changes.{control_sector};
+ghost use Rattle.b2_record.specs.Records.{Spells};
+ghost use Rattle.b2_record.specs.Writing.{record_of};
+ghost use Rattle.b2_datafile.specs.Files.{end_mark, IsFront, IsWhole, put_all};
+ghost use Rattle.b2_datafile.specs.Laws.{SavesAt, EndsAt, ended};
+
+/// A record that is saved at a place follows the records up to that place.
+pub fn saving_adds_the_record()
+    ensures { (image : List ℕ) (e : File) (pos : ℕ) (values : List AnyValue) (records : List (List AnyValue)) → SavesAt image e pos values → IsFront image e pos records → IsFront (put_all image pos (record_of values)) e (pos + length (record_of values)) (records ++ values ∷ []) }
+{}
+
+/// Saving leaves the catalogue, the image good, and all sectors but those of the record.
+pub fn saving_leaves_the_rest()
+    ensures good { (image : List ℕ) (e : File) (pos : ℕ) (values : List AnyValue) → SavesAt image e pos values → Good Narrow (put_all image pos (record_of values)) }
+    ensures files { (image : List ℕ) (e : File) (pos : ℕ) (values : List AnyValue) → SavesAt image e pos values → catalogue (put_all image pos (record_of values)) ≡ catalogue image }
+    ensures before { (image : List ℕ) (e : File) (pos : ℕ) (values : List AnyValue) (k : ℕ) → SavesAt image e pos values → k < pos → sector (put_all image pos (record_of values)) k ≡ sector image k }
+    ensures after { (image : List ℕ) (e : File) (pos : ℕ) (values : List AnyValue) (k : ℕ) → SavesAt image e pos values → pos + length (record_of values) ≤ k → sector (put_all image pos (record_of values)) k ≡ sector image k }
+{}
+
+/// An end mark that is written at a place makes the file whole, with the records up to that place.
+pub fn ending_makes_the_file_whole()
+    ensures { (image : List ℕ) (e : File) (pos : ℕ) (records : List (List AnyValue)) → EndsAt image e pos → IsFront image e pos records → IsWhole (ended image e pos) (record e { used = pos - e.start + 1 }) records }
+{}
+
+/// Ending leaves all sectors but that of the place and the file's control sector.
+pub fn ending_leaves_other_sectors()
+    ensures { (image : List ℕ) (e : File) (pos k : ℕ) → EndsAt image e pos → (k ≡ pos → ⊥) → (k ≡ e.end → ⊥) → sector (ended image e pos) k ≡ sector image k }
+{}
+
+/// The records up to a place are told by the sectors.
+pub fn one_list_of_records_fills()
+    ensures { (image : List ℕ) (e : File) (pos : ℕ) (a b : List (List AnyValue)) → IsFront image e pos a → IsFront image e pos b → a ≡ b }
+{}

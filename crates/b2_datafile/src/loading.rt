@@ -1,0 +1,88 @@
+// Records are read.
+ghost use Rattle.std.specs.Prelude.{◌≡◌, ◌+◌, ◌-◌, ◌<◌, ◌≤◌, ◌||◌, ◌==◌, nat_le, ℕ, true, Some, None, IfSome, IfOk, IfErr, length};
+ghost use Rattle.b2_base.specs.Lexical.{first};
+ghost use Rattle.b2_platter.specs.declared.layout.Layout.TheVariants.{Narrow};
+ghost use Rattle.b2_platter.specs.Image.{sector, total_of};
+ghost use Rattle.b2_datafile.specs.declared.marks.TheConstants.{END_MARK};
+ghost use Rattle.b2_datafile.specs.Loading.{Loads, LoadFails, agree, is_of};
+
+use crate::marks::END_MARK;
+use crate::opening::file_of;
+use b2_base::codes::{D80_NOT_OPEN, X70_TOO_LITTLE, X74_OTHER_KIND};
+use b2_base::{Code, Fault, Slot};
+use b2_catalog::Entry;
+use b2_dec::{Kind, Value};
+use b2_platter::Platter;
+use b2_record::take;
+use std::alloc::Global;
+
+/// Whether the records of a file end at a place: that of its control sector, one after it, or one with the end mark.
+pub(crate) fn is_end(p: &Platter, e: &Entry, pos: u32) -> bool
+    requires { e.now.end < total_of Narrow p.now }
+    ensures { result ≡ (nat_le e.now.end pos || (first (sector p.now pos) == END_MARK)) }
+{
+    e.end <= pos || p.sector(pos)[0] == END_MARK
+}
+
+/// Whether a value is of a kind.
+fn is_of(kind: Kind, value: &Value) -> bool
+    ensures { result ≡ is_of kind value.now }
+{
+    match value {
+        Value::Number(_) => kind == Kind::Number,
+        Value::Alpha(_) => kind == Kind::Alpha,
+    }
+}
+
+/// Whether each value is of the kind that is asked at its place, as far as there are both.
+fn agree(kinds: &[Kind], values: &[Value]) -> bool
+    ensures { result ≡ agree kinds.now values.now }
+{
+    let mut rest = values;
+    for kind in kinds {
+        let Some((value, after)) = rest.split_first() else {
+            return true;
+        };
+        if !is_of(*kind, value) {
+            return false;
+        }
+        rest = after;
+    }
+    true
+}
+
+/// Loads the record at a slot's place: its first values, as many as there are kinds, and the place after it; None where
+/// the records end there. D80 where the slot's file isn't there, else D88 where no record is spelled at the place, else
+/// X74 where a value is of another kind than asked, else X70 where more values are asked than there are.
+pub fn load(
+    alloc: Global,
+    p: &Platter,
+    s: &Slot,
+    kinds: &[Kind],
+) -> Result<Option<(Vec<Value>, u32)>, Fault>
+    requires { s.now.start ≤ s.now.pos }
+    ensures ok { IfOk result (Loads p.now s.now kinds.now) }
+    ensures err { IfErr result (LoadFails p.now s.now kinds.now) }
+{
+    let Some(e) = file_of(p, s) else {
+        return Err(Fault::Code(Code::known(D80_NOT_OPEN)));
+    };
+    if is_end(p, &e, s.pos) {
+        return Ok(None);
+    }
+    let pos = s.pos;
+    let last = e.end - 1;
+    let (values, count) = match take(alloc, p, pos, last) {
+        Ok(found) => found,
+        Err(fault) => return Err(fault),
+    };
+    if !agree(kinds, &values) {
+        return Err(Fault::Code(Code::known(X74_OTHER_KIND)));
+    }
+    if values.len() < kinds.len() {
+        return Err(Fault::Code(Code::known(X70_TOO_LITTLE)));
+    }
+    let mut asked = values;
+    asked.truncate(kinds.len());
+    Ok(Some((asked, pos + count)))
+}

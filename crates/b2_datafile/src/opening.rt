@@ -1,0 +1,110 @@
+// A file is opened, and found again by its slot.
+ghost use Rattle.std.specs.Prelude.{◌≡◌, ◌+◌, ◌-◌, ◌<◌, ◌≤◌, ℕ, [], true, false, Some, None, IfSome, IfOk, IfErr, OnOk};
+ghost use Rattle.std.specs.FinMap.{get};
+ghost use Rattle.b2_platter.specs.declared.layout.Layout.TheVariants.{Narrow};
+ghost use Rattle.b2_platter.specs.Image.{total_of};
+ghost use Rattle.b2_platter.specs.Checks.{Good};
+ghost use Rattle.b2_platter.specs.Edits.{is_data_sector};
+ghost use Rattle.b2_catalog.specs.Catalogue.{catalogue};
+ghost use Rattle.b2_datafile.specs.Slots.{open_refusal, opened, file_of, new_refusal};
+ghost use Rattle.b2_datafile.specs.Files.{IsWhole};
+
+use crate::marks;
+use b2_base::codes::{D82_NO_FILE, D89_OTHER_KIND};
+use b2_base::{Addr, Code, Name8, Slot};
+use b2_catalog::{Entry, enter, look, reuse, set_used};
+use b2_platter::Platter;
+
+/// Opens the live data file of a name at its first record. D82 where there is no live file of the name, else D89 where it
+/// is a program.
+pub fn open(p: &Platter, addr: Addr, name: Name8) -> Result<Slot, Code>
+    ensures ok { IfOk result (λ slot. (open_refusal (get (catalogue p.now) name) ≡ None) × IfSome (get (catalogue p.now) name) (λ e. slot ≡ opened addr e)) }
+    ensures err { IfErr result (λ code. open_refusal (get (catalogue p.now) name) ≡ Some code) }
+{
+    let Some(e) = look(p, name) else {
+        return Err(Code::known(D82_NO_FILE));
+    };
+    if !e.live {
+        return Err(Code::known(D82_NO_FILE));
+    }
+    if e.program {
+        return Err(Code::known(D89_OTHER_KIND));
+    }
+    Ok(slot_of(addr, name, &e))
+}
+
+/// The slot of a file of a name, at its first record.
+pub(crate) fn slot_of(addr: Addr, name: Name8, e: &Entry) -> Slot
+    requires { e.now.name ≡ name }
+    ensures { result ≡ opened addr e.now }
+{
+    Slot {
+        addr,
+        name,
+        start: e.start,
+        end: e.end,
+        pos: e.start,
+    }
+}
+
+/// The live data file of a slot's name that begins at its start, None where there is none.
+pub(crate) fn file_of(p: &Platter, s: &Slot) -> Option<Entry>
+    ensures entry { result ≡ file_of p.now s.now }
+    ensures named { IfSome result (λ e. get (catalogue p.now) e.name ≡ Some e) }
+    ensures live { IfSome result (λ e. e.live ≡ true) }
+    ensures start { IfSome result (λ e. e.start ≡ s.now.start) }
+    ensures order { IfSome result (λ e. e.start < e.end) }
+    ensures within { IfSome result (λ e. e.end < total_of Narrow p.now) }
+    ensures used { IfSome result (λ e. 1 ≤ e.used) }
+    ensures few { IfSome result (λ e. e.used ≤ e.end - e.start) }
+    ensures good { Good Narrow p.now }
+{
+    let _image = p.image();
+    let e = look(p, s.name)?;
+    if e.live && !e.program && e.start == s.start {
+        return Some(e);
+    }
+    None
+}
+
+/// Makes a new file of some sectors, or takes a scratched file's sectors again.
+fn make(p: &mut Platter, old: Option<Name8>, sectors: u32, name: Name8) -> Result<Entry, Code>
+    requires { old ≡ None → 2 ≤ sectors }
+    ensures err { IfErr result (λ code. (new_refusal p.old old sectors name ≡ Some code) × (p.new ≡ p.old)) }
+    ensures ok { OnOk result (new_refusal p.old old sectors name ≡ None) }
+    ensures file { IfOk result (λ e. get (catalogue p.new) e.name ≡ Some e) }
+    ensures named { IfOk result (λ e. e.name ≡ name) }
+    ensures live { IfOk result (λ e. e.live ≡ true) }
+    ensures kind { IfOk result (λ e. e.program ≡ false) }
+{
+    match old {
+        None => enter(p, name, false, sectors),
+        Some(old) => reuse(p, old, name, false),
+    }
+}
+
+/// Makes a data file with no records and opens it: a new file of some sectors, or a scratched file's sectors again where an
+/// old name is given. The codes are those of `enter` and of `reuse`.
+pub fn open_new(
+    p: &mut Platter,
+    addr: Addr,
+    old: Option<Name8>,
+    sectors: u32,
+    name: Name8,
+) -> Result<Slot, Code>
+    requires { old ≡ None → 2 ≤ sectors }
+    ensures err { IfErr result (λ code. (new_refusal p.old old sectors name ≡ Some code) × (p.new ≡ p.old)) }
+    ensures ok { OnOk result (new_refusal p.old old sectors name ≡ None) }
+    ensures file { IfOk result (λ slot. IfSome (get (catalogue p.new) name) (λ e. slot ≡ opened addr e)) }
+    ensures whole { OnOk result (IfSome (get (catalogue p.new) name) (λ e. IsWhole p.new e [])) }
+{
+    let e = match make(p, old, sectors, name) {
+        Ok(e) => e,
+        Err(code) => return Err(code),
+    };
+    let _image = p.image();
+    let slot = slot_of(addr, name, &e);
+    p.put_file(slot.start, &marks::end_mark());
+    set_used(p, e, 1);
+    Ok(slot)
+}

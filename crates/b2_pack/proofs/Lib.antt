@@ -1,0 +1,12 @@
+pub mod NibbleLemmas
+pub mod DigitLemmas
+pub mod RowLemmas
+pub mod TextLemmas
+pub mod UnpackedLemmas
+pub mod PackingLemmas
+pub mod ReadingLemmas
+pub mod RoundTrips
+pub mod Standing
+pub mod Returning
+pub mod WrittenPairs
+pub mod WrittenImages

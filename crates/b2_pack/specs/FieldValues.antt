@@ -1,0 +1,77 @@
+-- One value in one field.
+use Rattle.std.specs.Prelude.{ℕ, ◌-◌, ◌==◌, nat_le, if◌then◌else◌, List, [], ◌++◌, length, take, replicate, Option, Some, None, Result, Ok, Err}
+use Rattle.b2_base.specs.Byte as byte
+use Rattle.b2_base.specs.Lexical.{skip_blanks}
+use Rattle.b2_base.specs.declared.codes.TheConstants.{X71_DOES_NOT_FIT, X73_NOT_A_NUMBER, X74_OTHER_KIND, X76_LOCATOR_OR_FIELD}
+use Rattle.b2_dec.specs.Number.{Number}
+use Rattle.b2_dec.specs.Packing.{packed}
+use Rattle.b2_dec.specs.declared.values.Value.{Value}
+use Rattle.b2_dec.specs.declared.values.Value.TheVariants as value
+use Rattle.b2_dec.specs.declared.values.Kind.{Kind}
+use Rattle.b2_dec.specs.declared.values.Kind.TheVariants as kind
+use Rattle.b2_dectext.specs.NumberText.{number_len, number_read}
+use Rattle.b2_dectext.specs.Printed.{without_spaces}
+use Rattle.b2_pack.specs.declared.specification.Field.{Field}
+use Rattle.b2_pack.specs.declared.specification.Field.TheVariants as field
+use Rattle.b2_pack.specs.Rows.{row_bytes, row_fits, row_number}
+use Rattle.b2_pack.specs.Specification.{digits_row}
+use Rattle.b2_pack.specs.PackedNumbers.{unpacked}
+
+-- a text at the right end of a width
+abbrev pub right_aligned : ℕ → List ℕ → List ℕ
+right_aligned width text = replicate (width - length text) byte.blank ++ text
+
+-- a text at the left end of a width, cut there
+abbrev pub left_aligned : ℕ → List ℕ → List ℕ
+left_aligned width text = take width text ++ replicate (width - length text) byte.blank
+
+-- The code where a value isn't packed into a field: X74 for one of another kind, X71 for a number that doesn't fit.
+abbrev pub value_code : Field → Value → Option ℕ
+value_code (field.Text width) (value.Number x) = if nat_le (length (without_spaces x)) width then None else Some X71_DOES_NOT_FIT
+value_code (field.Text width) (value.Alpha a) = Some X74_OTHER_KIND
+value_code (field.Digits decimals width) (value.Number x) = if row_fits (digits_row decimals width) x then None else Some X71_DOES_NOT_FIT
+value_code (field.Digits decimals width) (value.Alpha a) = Some X74_OTHER_KIND
+value_code field.Packed (value.Number x) = None
+value_code field.Packed (value.Alpha a) = Some X74_OTHER_KIND
+value_code (field.Alpha width) (value.Number x) = Some X74_OTHER_KIND
+value_code (field.Alpha width) (value.Alpha a) = None
+
+-- The bytes of a value in a field, where it is of the field's kind.
+abbrev pub value_bytes : Field → Value → List ℕ
+value_bytes (field.Text width) (value.Number x) = right_aligned width (without_spaces x)
+value_bytes (field.Text width) (value.Alpha a) = []
+value_bytes (field.Digits decimals width) (value.Number x) = row_bytes (digits_row decimals width) x
+value_bytes (field.Digits decimals width) (value.Alpha a) = []
+value_bytes field.Packed (value.Number x) = packed x
+value_bytes field.Packed (value.Alpha a) = []
+value_bytes (field.Alpha width) (value.Number x) = []
+value_bytes (field.Alpha width) (value.Alpha a) = left_aligned width a
+
+-- the number, or a code where there is none
+abbrev pub number_or : ℕ → Option Number → Result Number ℕ
+number_or code None = Err code
+number_or code (Some x) = Ok x
+
+-- one number with blanks before it, and nothing else
+abbrev pub text_number : List ℕ → Result Number ℕ
+text_number bytes =
+    let text = skip_blanks bytes in
+    if number_len text == length text then number_or X73_NOT_A_NUMBER (number_read text) else Err X73_NOT_A_NUMBER
+
+abbrev pub packed_number : List ℕ → Result Number ℕ
+packed_number bytes = number_or X76_LOCATOR_OR_FIELD (unpacked bytes)
+
+abbrev pub as_value : Result Number ℕ → Result Value ℕ
+as_value (Ok x) = Ok (value.Number x)
+as_value (Err code) = Err code
+
+-- the value of a kind that the bytes of a field hold, or the code where they hold none
+abbrev pub value_in : Field → Kind → List ℕ → Result Value ℕ
+value_in (field.Text width) kind.Number bytes = as_value (text_number bytes)
+value_in (field.Text width) kind.Alpha bytes = Err X74_OTHER_KIND
+value_in (field.Digits decimals width) kind.Number bytes = as_value (row_number (digits_row decimals width) bytes)
+value_in (field.Digits decimals width) kind.Alpha bytes = Err X74_OTHER_KIND
+value_in field.Packed kind.Number bytes = as_value (packed_number bytes)
+value_in field.Packed kind.Alpha bytes = Err X74_OTHER_KIND
+value_in (field.Alpha width) kind.Number bytes = Err X74_OTHER_KIND
+value_in (field.Alpha width) kind.Alpha bytes = Ok (value.Alpha bytes)

@@ -1,0 +1,66 @@
+// The image of PACK.
+ghost use Rattle.std.specs.Prelude.{◌≡◌, ◌<◌, ◌≤◌, IfSome, length};
+ghost use Rattle.std.specs.List.{prefix_len};
+ghost use Rattle.b2_pack.specs.Images as spec;
+
+use crate::rows::{Row, SignNibble};
+
+/// Whether a text begins with a sign, and what follows it.
+fn split_sign(text: &[u8]) -> (bool, &[u8])
+    ensures signed { result.0 ≡ spec.begins_signed text.now }
+    ensures rest { result.1.now ≡ spec.after_sign text.now }
+{
+    match text {
+        [b'+', rest @ ..] => (true, rest),
+        [b'-', rest @ ..] => (true, rest),
+        _ => (false, text),
+    }
+}
+
+/// How many `#` a text begins with.
+fn marks_len(text: &[u8]) -> usize
+    ensures count { result ≡ prefix_len spec.is_hash text.now }
+    ensures within { result ≤ length text.now }
+{
+    text.iter().take_while(|b| **b == b'#').count()
+}
+
+/// How many `#` follow a point, where a text is nothing else; none where it is empty.
+fn decimals_in(text: &[u8]) -> Option<usize>
+    ensures { result ≡ spec.decimals_in text.now }
+{
+    match text {
+        [] => Some(0),
+        [b'.', marks @ ..] => {
+            if marks.len() >= 1 && marks_len(marks) == marks.len() {
+                Some(marks.len())
+            } else {
+                None
+            }
+        }
+        _ => None,
+    }
+}
+
+/// The row in which an image packs a number; None where the bytes are no image.
+pub(crate) fn image_row(text: &[u8]) -> Option<Row>
+    ensures row { result ≡ spec.image_row text.now }
+    ensures digits { IfSome result (λ row. row.digits ≤ 13) }
+    ensures decimals { IfSome result (λ row. row.decimals < row.digits) }
+{
+    let (signed, marks) = split_sign(text);
+    let whole = marks_len(marks);
+    let decimals = decimals_in(&marks[whole..])?;
+    if whole < 1 || whole > 13 || decimals > 13 - whole {
+        return None;
+    }
+    Some(Row {
+        sign: if signed {
+            SignNibble::Before
+        } else {
+            SignNibble::Absent
+        },
+        digits: (whole + decimals) as u16,
+        decimals: decimals as u8,
+    })
+}
