@@ -18,9 +18,9 @@ use Rattle.b2_atom.specs.declared.forms.Item.{Item}
 use Rattle.b2_atom.specs.declared.forms.Item.TheVariants.{Sign, Typed, Part, Maybe, Either, Many}
 use Rattle.b2_atom.specs.declared.rows.TheConstants as row
 use Rattle.b2_atom.specs.declared.words.TheConstants as word
-use Rattle.b2_expr.specs.Value.{Surroundings, Answer, inside, behind, leaf_text, value}
-use Rattle.b2_expr.specs.Walk.{Found, left, expression_at}
-use Rattle.b2_expr.proofs.Operands.{expression_read}
+use Rattle.b2_letters.specs.Value.{Surroundings, Answer, inside, behind, leaf_text, value}
+use Rattle.b2_letters.specs.Walk.{Found, left, expression_at}
+use Rattle.b2_letters.proofs.Operands.{expression_read}
 use Rattle.b2_machine.specs.Plan.{not_built, built_width, asked, number_in, letters_behind, letters_at, assigns, plan_word, plan_with}
 use Rattle.b2_machine.specs.AskedByTree.{is_letter_alone, is_built_tree, letter_in, letters_in, behind_all, assigned_in, where_tree_built}
 use Rattle.b2_machine.specs.declared.request.Request.{Request}

@@ -19,7 +19,7 @@ use Rattle.b2_atom.specs.declared.forms.Leaf.TheVariants as leaf
 use Rattle.b2_atom.specs.declared.forms.Item.{Item}
 use Rattle.b2_atom.specs.declared.forms.Item.TheVariants.{Word, Sign, Among, ProgramWord, Ignored, Comma, LeftOut, End, Typed, Part, Maybe, Either, Many, Nest, Statement}
 use Rattle.b2_atom.specs.declared.rows.TheConstants as row
-use Rattle.b2_expr.specs.Value.{branch}
+use Rattle.b2_letters.specs.Value.{branch}
 use Rattle.b2_machine.specs.Plan.{is_sign, goes_on_name, built_width, is_built_behind, is_built}
 use Rattle.b2_machine.specs.AskedByTree.{is_letter_alone, is_built_tree}
 use Rattle.b2_machine.proofs.Booleans.{equal, and_left, and_right, or_cases, not_true, begins, and_true, never}

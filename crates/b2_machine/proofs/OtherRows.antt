@@ -15,7 +15,7 @@ use Rattle.b2_atom.specs.declared.forms.Start.{Start}
 use Rattle.b2_atom.specs.declared.forms.Start.TheVariants as start
 use Rattle.b2_atom.specs.declared.rows.TheConstants as row
 use Rattle.b2_atom.specs.declared.words.TheConstants as word
-use Rattle.b2_expr.specs.Value.{Surroundings}
+use Rattle.b2_letters.specs.Value.{Surroundings}
 use Rattle.b2_machine.specs.Plan.{not_built, plan_with}
 use Rattle.b2_machine.specs.declared.request.Request.{Request}
 use Rattle.b2_machine.proofs.Booleans.{equal, and_left, and_right, or_cases, not_true, begins}

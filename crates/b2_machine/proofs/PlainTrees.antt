@@ -20,7 +20,7 @@ use Rattle.b2_atom.specs.declared.forms.Item.{Item}
 use Rattle.b2_atom.specs.declared.forms.Item.TheVariants.{Word, Sign, LeftOut, Typed, Maybe, Either}
 use Rattle.b2_atom.specs.declared.rows.TheConstants as row
 use Rattle.b2_atom.specs.declared.words.TheConstants as word
-use Rattle.b2_expr.specs.Value.{Surroundings, behind, branch}
+use Rattle.b2_letters.specs.Value.{Surroundings, behind, branch}
 use Rattle.b2_machine.specs.Plan.{not_built, line_number, range_at, plan_with}
 use Rattle.b2_machine.specs.AskedByTree.{line_number_in, lines_in, range_in}
 use Rattle.b2_machine.specs.declared.request.Request.{Request}

@@ -5,7 +5,7 @@ use Rattle.b2_atom.specs.Words.{Text}
 use Rattle.b2_print.specs.Layout.{layout, placed, item_column, items_column}
 use Rattle.b2_print.specs.declared.layout.Item.{Item}
 use Rattle.b2_print.specs.declared.layout.Item.TheVariants as item
-use Rattle.b2_expr.specs.Value.{Surroundings}
+use Rattle.b2_letters.specs.Value.{Surroundings}
 use Rattle.b2_machine.specs.Plan.{built_width, is_built_behind, is_built, letters_behind, letters_at, with_rest, behind_letters, printed_at, items_of, wants_line, newline_where, behind_items, further_items, print_items, laid}
 use Rattle.b2_machine.specs.declared.statement.Printed.{Printed}
 use Rattle.b2_machine.specs.declared.statement.Printed.TheVariants as printed

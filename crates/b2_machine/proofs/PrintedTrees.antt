@@ -17,8 +17,8 @@ use Rattle.b2_atom.specs.declared.forms.Item.{Item}
 use Rattle.b2_atom.specs.declared.forms.Item.TheVariants.{Word, Sign, Part, Maybe, Either, Many}
 use Rattle.b2_atom.specs.declared.rows.TheConstants as row
 use Rattle.b2_atom.specs.declared.words.TheConstants as word
-use Rattle.b2_expr.specs.Value.{Surroundings, Answer, ◌>>=◌, inside, behind, branch, choose, value, not_built as left_out}
-use Rattle.b2_expr.specs.Walk.{left, expression_at}
+use Rattle.b2_letters.specs.Value.{Surroundings, Answer, ◌>>=◌, inside, behind, branch, choose, value, not_built as left_out}
+use Rattle.b2_letters.specs.Walk.{left, expression_at}
 use Rattle.b2_machine.specs.Plan.{built_width, asked, printed_at, number_printed, newline_where, behind_items, further_items, print_items, width, plan_with}
 use Rattle.b2_machine.specs.AskedByTree.{is_built_tree, where_tree_built, item_value, item_in, separator_in, further_in, wants_newline, shown_in}
 use Rattle.b2_machine.specs.declared.request.Request.TheVariants as request

@@ -11,7 +11,7 @@ use Rattle.b2_atom.specs.declared.words.Origin.TheVariants.{Atoms}
 use Rattle.b2_atom.specs.declared.sink.Stop.{Stop}
 use Rattle.b2_atom.specs.declared.forms.Position.{Position}
 use Rattle.b2_atom.specs.declared.rows.TheConstants as row
-use Rattle.b2_expr.specs.Value.{Surroundings}
+use Rattle.b2_letters.specs.Value.{Surroundings}
 use Rattle.b2_machine.specs.Plan.{plan_with, plan}
 use Rattle.b2_machine.specs.AskedByTree.{request_of}
 use Rattle.b2_machine.specs.declared.request.Request.{Request}

@@ -22,7 +22,7 @@ use Rattle.b2_atom.specs.declared.forms.Leaf.{Leaf}
 use Rattle.b2_atom.specs.declared.forms.Leaf.TheVariants as leaf
 use Rattle.b2_atom.specs.declared.forms.Position.{Position}
 use Rattle.b2_atom.specs.declared.rows.TheConstants as row
-use Rattle.b2_expr.specs.Value.{Surroundings, Answer, ◌>>=◌, inside, behind, branch, leaf_text, choose, value, not_built as left_out}
+use Rattle.b2_letters.specs.Value.{Surroundings, Answer, ◌>>=◌, inside, behind, branch, leaf_text, choose, value, not_built as left_out}
 use Rattle.b2_machine.specs.Plan.{not_built, is_sign, line_number, asked, newline_where, width, plan}
 use Rattle.b2_machine.specs.declared.request.Request.{Request}
 use Rattle.b2_machine.specs.declared.request.Request.TheVariants as request

@@ -13,8 +13,8 @@ use Rattle.b2_atom.specs.Words.{Text}
 use Rattle.b2_atom.specs.Leaves.{number_width}
 use Rattle.b2_atom.specs.declared.words.Origin.TheVariants as origin
 use Rattle.b2_atom.specs.declared.words.TheConstants as word
-use Rattle.b2_expr.specs.Value.{Surroundings}
-use Rattle.b2_expr.specs.Walk.{Found, expression_at}
+use Rattle.b2_letters.specs.Value.{Surroundings}
+use Rattle.b2_letters.specs.Walk.{Found, expression_at}
 use Rattle.b2_machine.specs.declared.request.Request.{Request}
 use Rattle.b2_machine.specs.declared.request.Request.TheVariants as request
 use Rattle.b2_machine.specs.declared.statement.Printed.{Printed}

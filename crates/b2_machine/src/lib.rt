@@ -1,7 +1,7 @@
 //! The machine of one partition at one terminal.
 //!
 //! It reads typed lines, keeps numbered ones as its program, and executes units, one a step. A turn is a number of steps.
-//! Stands on `b2_term` for the terminal, on `b2_syntax`, `b2_text` and `b2_lister` for lines, on `b2_expr` for
+//! Stands on `b2_term` for the terminal, on `b2_syntax`, `b2_text` and `b2_lister` for lines, on `b2_letters` for
 //! values, and on `b2_print` for what PRINT shows.
 //!
 //! The definitions are in `specs/`: `Plan` says what a unit asks for by its bytes and `AskedByTree` by its tree, which are the

@@ -14,7 +14,7 @@ use b2_base::codes::S27_LEFT_OUT;
 use b2_base::lexical::{at, dropped, is_letter};
 use b2_base::{ByteList, Code, Fault, NoMemory};
 use b2_dec::{Dec, Mode};
-use b2_expr::{Env, number};
+use b2_letters::{Env, number};
 use b2_print::{Item, lay};
 use std::alloc::Global;
 

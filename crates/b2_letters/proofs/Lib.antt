@@ -1,0 +1,5 @@
+pub mod Agreement
+pub mod Chains
+pub mod Operands
+pub mod Ranks
+pub mod Rows

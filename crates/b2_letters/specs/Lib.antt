@@ -1,0 +1,4 @@
+pub mod Laws
+pub mod Operators
+pub mod Value
+pub mod Walk
