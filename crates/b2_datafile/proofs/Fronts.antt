@@ -13,7 +13,7 @@ use Rattle.b2_record.specs.declared.sectors.TheConstants.{ROOM}
 use Rattle.b2_record.specs.Items.{group_bytes}
 use Rattle.b2_record.specs.Records.{fits_in_sector, goes_over, go_on, is_record, is_none, sector_of, sector_kind, sectors_from, sectors_at, Spells}
 use Rattle.b2_record.proofs.Groups.{and-left, and-right}
-use Rattle.b2_datafile.specs.Files.{Fills, put_all}
+use Rattle.b2_datafile.specs.Files.{Fills, put_from}
 use Rattle.b2_datafile.proofs.DataSectors.{data-kept, good-kept, catalogue-kept, sector-kept, sector-put}
 
 -- ---- the same sectors have the same records
@@ -73,7 +73,7 @@ long-record values sectors p = subst AllLong p.same (long-groups p.groups p.spli
 
 -- ---- sectors put in place one after the other
 
-pub record PutAll (image new : List ℕ) (at : ℕ) (sectors : List (List ℕ)) : Type 0 where
+pub record PutFrom (image new : List ℕ) (at : ℕ) (sectors : List (List ℕ)) : Type 0 where
   pub good : Good Narrow new
   pub files : catalogue new ≡ catalogue image
   pub before : (k : ℕ) → k < at → sector new k ≡ sector image k
@@ -81,7 +81,7 @@ pub record PutAll (image new : List ℕ) (at : ℕ) (sectors : List (List ℕ)) 
   pub there : sectors_at new at (length sectors) ≡ sectors
 
 pub put-all : (image : List ℕ) (at : ℕ) (sectors : List (List ℕ)) → Good Narrow image → AllLong sectors → ((n : ℕ) → at ≤ n → n < at + length sectors → is_data_sector Narrow image n ≡ true)
-    → PutAll image (put_all image at sectors) at sectors
+    → PutFrom image (put_from image at sectors) at sectors
 put-all image at [] good long own = record { good = good; files = refl; before = λ k h. refl; after = λ k h. refl; there = refl }
 put-all image at (s ∷ sectors) good long own =
     let first = own at (omega arith) (omega arith) in

@@ -6,8 +6,8 @@ use Rattle.b2_platter.specs.Edits.{put_sector}
 use Rattle.b2_catalog.specs.declared.entry.Entry.{Entry}
 use Rattle.b2_record.specs.Records.{Spells, sectors_at}
 use Rattle.b2_record.specs.Writing.{record_of}
-use Rattle.b2_datafile.specs.Files.{Fills, IsFront, IsWhole, put_all}
-use Rattle.b2_datafile.specs.Laws.{SavesAt, EndsAt, ended}
+use Rattle.b2_datafile.specs.Files.{Fills, IsFront, IsWhole, put_from}
+use Rattle.b2_datafile.specs.Laws.{SavesAt, EndsAt, with_end}
 use Rattle.b2_datafile.proofs.DataSectors.{InImage, in-image, sector-put, sector-kept}
 use Rattle.b2_datafile.specs.Files.{end_mark}
 use Rattle.b2_platter.specs.Checks.{Good}
@@ -16,22 +16,22 @@ use Rattle.b2_platter.proofs.Goodness.{sectors_of_good}
 use Rattle.b2_platter.proofs.Puts.{sector_before, sector_after, length-put_sector}
 use Rattle.b2_catalog.specs.Changes.{control_sector}
 use Rattle.b2_catalog.proofs.Spelled.{control_long}
-use Rattle.b2_datafile.proofs.Fronts.{PutAll, put-all, long-record, fills-same, fills-more, fills-le}
+use Rattle.b2_datafile.proofs.Fronts.{PutFrom, put-all, long-record, fills-same, fills-more, fills-le}
 use Rattle.b2_datafile.proofs.Passing.{some-groups}
 use Rattle.b2_record.proofs.Unique.{record-length, length-unique, values-unique}
 use Rattle.std.proofs.lemmas.Bool.{cases_order}
 
-pub saved : (image : List ℕ) (e : Entry) (pos : ℕ) (values : List Value) → SavesAt image e pos values → PutAll image (put_all image pos (record_of values)) pos (record_of values)
+pub saved : (image : List ℕ) (e : Entry) (pos : ℕ) (values : List Value) → SavesAt image e pos values → PutFrom image (put_from image pos (record_of values)) pos (record_of values)
 saved image e pos values s =
     put-all image pos (record_of values) s.good (long-record values (record_of values) s.record_is)
     (λ n low high. (in-image image e.name e s.good s.file).own n (omega (arith, low, s.low)) (omega (arith, high, s.high)))
 
 pub saved-front : (image : List ℕ) (e : Entry) (pos : ℕ) (values : List Value) (records : List (List Value)) → SavesAt image e pos values → IsFront image e pos records
-    → IsFront (put_all image pos (record_of values)) e (pos + length (record_of values)) (records ++ values ∷ [])
+    → IsFront (put_from image pos (record_of values)) e (pos + length (record_of values)) (records ++ values ∷ [])
 saved-front image e pos values records s f =
     let p = saved image e pos values s in
-    fills-more (put_all image pos (record_of values)) e.start pos (length (record_of values)) records values
-    (fills-same image (put_all image pos (record_of values)) e.start pos records (λ k low high. p.before k high) f)
+    fills-more (put_from image pos (record_of values)) e.start pos (length (record_of values)) records values
+    (fills-same image (put_from image pos (record_of values)) e.start pos records (λ k low high. p.before k high) f)
     (subst (Spells values) (sym p.there) s.record_is)
 
 -- a file that was made has the end mark in its first sector
@@ -49,8 +49,8 @@ made-mark image e good inside =
 inside-of : (image : List ℕ) (e : Entry) (pos : ℕ) → EndsAt image e pos → InImage image e
 inside-of image e pos s = in-image image e.name e s.good s.file
 
-pub ended-other : (image : List ℕ) (e : Entry) (pos k : ℕ) → EndsAt image e pos → (k ≡ pos → ⊥) → (k ≡ e.end → ⊥) → sector (ended image e pos) k ≡ sector image k
-ended-other image e pos k s other control =
+pub with_end-other : (image : List ℕ) (e : Entry) (pos k : ℕ) → EndsAt image e pos → (k ≡ pos → ⊥) → (k ≡ e.end → ⊥) → sector (with_end image e pos) k ≡ sector image k
+with_end-other image e pos k s other control =
     let inside = inside-of image e pos s in
     let whole = sectors_of_good Narrow image s.good in
     let own = inside.own pos s.low s.high in
@@ -58,16 +58,16 @@ ended-other image e pos k s other control =
     let same = length-put_sector image pos end_mark refl room in
     let control_room : 256 * e.end + 256 ≤ length (put_sector image pos end_mark) = omega (arith, same, whole, inside.within) in
     let first = sector-kept image s.good pos own end_mark refl k (λ is. other (sym is)) in
-    elim (cases_order k e.end) as (λ _. sector (ended image e pos) k ≡ sector image k) [
+    elim (cases_order k e.end) as (λ _. sector (with_end image e pos) k ≡ sector image k) [
       | inl at ↦ absurd (control at)
-      | inr unequal ↦ elim unequal as (λ _. sector (ended image e pos) k ≡ sector image k) [
+      | inr unequal ↦ elim unequal as (λ _. sector (with_end image e pos) k ≡ sector image k) [
         | inl less ↦ sector_before (put_sector image pos end_mark) e.end (control_sector (pos - e.start + 1)) (control_long (pos - e.start + 1)) control_room k less ∙ first
         | inr more ↦ sector_after (put_sector image pos end_mark) e.end (control_sector (pos - e.start + 1)) (control_long (pos - e.start + 1)) control_room k more ∙ first
       ]
     ]
 
-ended-mark : (image : List ℕ) (e : Entry) (pos : ℕ) → EndsAt image e pos → sector (ended image e pos) pos ≡ end_mark
-ended-mark image e pos s =
+with_end-mark : (image : List ℕ) (e : Entry) (pos : ℕ) → EndsAt image e pos → sector (with_end image e pos) pos ≡ end_mark
+with_end-mark image e pos s =
     let inside = inside-of image e pos s in
     let whole = sectors_of_good Narrow image s.good in
     let own = inside.own pos s.low s.high in
@@ -77,13 +77,13 @@ ended-mark image e pos s =
     sector_before (put_sector image pos end_mark) e.end (control_sector (pos - e.start + 1)) (control_long (pos - e.start + 1)) control_room pos s.high
     ∙ sector-put image s.good pos own end_mark refl
 
-pub ended-whole : (image : List ℕ) (e : Entry) (pos : ℕ) (records : List (List Value)) → EndsAt image e pos → IsFront image e pos records → IsWhole (ended image e pos) (record e { used = pos - e.start + 1 }) records
-ended-whole image e pos records s f =
+pub with_end-whole : (image : List ℕ) (e : Entry) (pos : ℕ) (records : List (List Value)) → EndsAt image e pos → IsFront image e pos records → IsWhole (with_end image e pos) (record e { used = pos - e.start + 1 }) records
+with_end-whole image e pos records s f =
     let place : e.start + (pos - e.start + 1) - 1 ≡ pos = omega (arith, s.low) in
-    let same = fills-same image (ended image e pos) e.start pos records (λ k low high. ended-other image e pos k s (λ is. omega (arith, is, high)) (λ is. omega (arith, is, high, s.high))) f in
+    let same = fills-same image (with_end image e pos) e.start pos records (λ k low high. with_end-other image e pos k s (λ is. omega (arith, is, high)) (λ is. omega (arith, is, high, s.high))) f in
     record {
-      front = subst (λ (p : ℕ). Fills (ended image e pos) e.start p records) (sym place) same;
-      mark = ap (sector (ended image e pos)) place ∙ ended-mark image e pos s;
+      front = subst (λ (p : ℕ). Fills (with_end image e pos) e.start p records) (sym place) same;
+      mark = ap (sector (with_end image e pos)) place ∙ with_end-mark image e pos s;
     }
 
 -- ---- one list of records

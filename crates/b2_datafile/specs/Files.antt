@@ -27,9 +27,9 @@ pub record IsWhole (image : List ℕ) (e : Entry) (records : List (List Value)) 
   pub mark : sector image (e.start + e.used - 1) ≡ end_mark
 
 -- sectors from one on are these
-abbrev pub put_all : List ℕ → ℕ → List (List ℕ) → List ℕ
-put_all image at [] = image
-put_all image at (s ∷ sectors) = put_all (put_sector image at s) (at + 1) sectors
+abbrev pub put_from : List ℕ → ℕ → List (List ℕ) → List ℕ
+put_from image at [] = image
+put_from image at (s ∷ sectors) = put_from (put_sector image at s) (at + 1) sectors
 
 -- a place where the records end: that of the control sector, one after it, or one with the end mark
 abbrev pub IsEnd : List ℕ → Entry → ℕ → Type 0

@@ -28,5 +28,5 @@ pub record EndsAt (image : List ℕ) (e : Entry) (pos : ℕ) : Type 0 where
   pub high : pos < e.end
 
 -- the end mark at a place, and the control sector that says so
-abbrev pub ended : List ℕ → Entry → ℕ → List ℕ
-ended image e pos = put_sector (put_sector image pos end_mark) e.end (control_sector (pos - e.start + 1))
+abbrev pub with_end : List ℕ → Entry → ℕ → List ℕ
+with_end image e pos = put_sector (put_sector image pos end_mark) e.end (control_sector (pos - e.start + 1))

@@ -11,30 +11,30 @@ ghost use Rattle.b2_catalog.specs.Catalogue.{catalogue};
 ghost use Rattle.b2_catalog.specs.Changes.{control_sector};
 ghost use Rattle.b2_record.specs.Records.{Spells};
 ghost use Rattle.b2_record.specs.Writing.{record_of};
-ghost use Rattle.b2_datafile.specs.Files.{end_mark, IsFront, IsWhole, put_all};
-ghost use Rattle.b2_datafile.specs.Laws.{SavesAt, EndsAt, ended};
+ghost use Rattle.b2_datafile.specs.Files.{end_mark, IsFront, IsWhole, put_from};
+ghost use Rattle.b2_datafile.specs.Laws.{SavesAt, EndsAt, with_end};
 
 /// A record that is saved at a place follows the records up to that place.
 pub fn saving_adds_the_record()
-    ensures { (image : List ℕ) (e : File) (pos : ℕ) (values : List AnyValue) (records : List (List AnyValue)) → SavesAt image e pos values → IsFront image e pos records → IsFront (put_all image pos (record_of values)) e (pos + length (record_of values)) (records ++ values ∷ []) }
+    ensures { (image : List ℕ) (e : File) (pos : ℕ) (values : List AnyValue) (records : List (List AnyValue)) → SavesAt image e pos values → IsFront image e pos records → IsFront (put_from image pos (record_of values)) e (pos + length (record_of values)) (records ++ values ∷ []) }
 {}
 
 /// Saving leaves the catalogue, the image good, and all sectors but those of the record.
 pub fn saving_leaves_the_rest()
-    ensures good { (image : List ℕ) (e : File) (pos : ℕ) (values : List AnyValue) → SavesAt image e pos values → Good Narrow (put_all image pos (record_of values)) }
-    ensures files { (image : List ℕ) (e : File) (pos : ℕ) (values : List AnyValue) → SavesAt image e pos values → catalogue (put_all image pos (record_of values)) ≡ catalogue image }
-    ensures before { (image : List ℕ) (e : File) (pos : ℕ) (values : List AnyValue) (k : ℕ) → SavesAt image e pos values → k < pos → sector (put_all image pos (record_of values)) k ≡ sector image k }
-    ensures after { (image : List ℕ) (e : File) (pos : ℕ) (values : List AnyValue) (k : ℕ) → SavesAt image e pos values → pos + length (record_of values) ≤ k → sector (put_all image pos (record_of values)) k ≡ sector image k }
+    ensures good { (image : List ℕ) (e : File) (pos : ℕ) (values : List AnyValue) → SavesAt image e pos values → Good Narrow (put_from image pos (record_of values)) }
+    ensures files { (image : List ℕ) (e : File) (pos : ℕ) (values : List AnyValue) → SavesAt image e pos values → catalogue (put_from image pos (record_of values)) ≡ catalogue image }
+    ensures before { (image : List ℕ) (e : File) (pos : ℕ) (values : List AnyValue) (k : ℕ) → SavesAt image e pos values → k < pos → sector (put_from image pos (record_of values)) k ≡ sector image k }
+    ensures after { (image : List ℕ) (e : File) (pos : ℕ) (values : List AnyValue) (k : ℕ) → SavesAt image e pos values → pos + length (record_of values) ≤ k → sector (put_from image pos (record_of values)) k ≡ sector image k }
 {}
 
 /// An end mark that is written at a place makes the file whole, with the records up to that place.
 pub fn ending_makes_the_file_whole()
-    ensures { (image : List ℕ) (e : File) (pos : ℕ) (records : List (List AnyValue)) → EndsAt image e pos → IsFront image e pos records → IsWhole (ended image e pos) (record e { used = pos - e.start + 1 }) records }
+    ensures { (image : List ℕ) (e : File) (pos : ℕ) (records : List (List AnyValue)) → EndsAt image e pos → IsFront image e pos records → IsWhole (with_end image e pos) (record e { used = pos - e.start + 1 }) records }
 {}
 
 /// Ending leaves all sectors but that of the place and the file's control sector.
 pub fn ending_leaves_other_sectors()
-    ensures { (image : List ℕ) (e : File) (pos k : ℕ) → EndsAt image e pos → (k ≡ pos → ⊥) → (k ≡ e.end → ⊥) → sector (ended image e pos) k ≡ sector image k }
+    ensures { (image : List ℕ) (e : File) (pos k : ℕ) → EndsAt image e pos → (k ≡ pos → ⊥) → (k ≡ e.end → ⊥) → sector (with_end image e pos) k ≡ sector image k }
 {}
 
 /// The records up to a place are told by the sectors.

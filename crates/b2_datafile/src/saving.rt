@@ -8,7 +8,7 @@ ghost use Rattle.b2_catalog.specs.Catalogue.{catalogue};
 ghost use Rattle.b2_catalog.specs.Changes.{control_sector};
 ghost use Rattle.b2_record.specs.Items.{is_short};
 ghost use Rattle.b2_record.specs.Writing.{record_of};
-ghost use Rattle.b2_datafile.specs.Files.{end_mark, put_all};
+ghost use Rattle.b2_datafile.specs.Files.{end_mark, put_from};
 ghost use Rattle.b2_datafile.specs.Slots.{file_of, write_refusal};
 
 use crate::marks;
@@ -27,7 +27,7 @@ fn put_record(p: &mut Platter, at: u32, values: &[Value], count: u32)
     requires few { count ≤ 255 }
     requires ends { at + count < 2 ^ 32 }
     requires sectors { (n : ℕ) → at ≤ n → n < at + count → is_data_sector Narrow p.old n ≡ true }
-    ensures { p.new ≡ put_all p.old at (record_of values.now) }
+    ensures { p.new ≡ put_from p.old at (record_of values.now) }
 {
     let _image = p.image();
     let mut sector = [0; 256];
@@ -43,7 +43,7 @@ pub fn save(p: &mut Platter, s: &Slot, values: &[Value]) -> Result<u32, Code>
     requires short { list_all is_short values.now ≡ true }
     requires place { s.now.start ≤ s.now.pos }
     ensures ok { IfOk result (λ pos. (write_refusal (file_of p.old s.now) s.now.pos (length (record_of values.now)) ≡ None) × (pos ≡ s.now.pos + length (record_of values.now))) }
-    ensures image { OnOk result (p.new ≡ put_all p.old s.now.pos (record_of values.now)) }
+    ensures image { OnOk result (p.new ≡ put_from p.old s.now.pos (record_of values.now)) }
     ensures err { IfErr result (λ code. (write_refusal (file_of p.old s.now) s.now.pos (length (record_of values.now)) ≡ Some code) × (p.new ≡ p.old)) }
 {
     let Some(e) = file_of(p, s) else {

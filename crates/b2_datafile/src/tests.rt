@@ -60,7 +60,7 @@ fn saved(alloc: Global, p: &mut Platter, s: &Slot, lengths: &[usize]) -> Result<
     Ok(place(save(p, s, &record)))
 }
 
-fn ended(p: &mut Platter, s: &Slot) -> u32 {
+fn end_at(p: &mut Platter, s: &Slot) -> u32 {
     if s.pos < s.start {
         return WRONG;
     }
@@ -128,7 +128,7 @@ fn one_record(rt: HostRuntime) -> Result<(), Fail> {
     assert_eq!(rt; used(&p, s.name), 1);
     assert_eq!(rt; loaded(rt.alloc(), &p, &s, &[])?, 0);
     assert_eq!(rt; saved(rt.alloc(), &mut p, &s, &[0])?, 3);
-    assert_eq!(rt; ended(&mut p, &at(&s, 3)), 3);
+    assert_eq!(rt; end_at(&mut p, &at(&s, 3)), 3);
     assert_eq!(rt; used(&p, s.name), 2);
     let rows: [(u32, &[Kind], u32); 7] = [
         (2, &[Kind::Number], 3),
@@ -158,10 +158,10 @@ fn a_full_file(rt: HostRuntime) -> Result<(), Fail> {
     );
     assert_eq!(rt; saved(rt.alloc(), &mut p, &at(&s, 3), &[0])?, 4);
     assert_eq!(rt; saved(rt.alloc(), &mut p, &at(&s, 4), &[0])?, 100_081);
-    assert_eq!(rt; ended(&mut p, &at(&s, 4)), 100_081);
+    assert_eq!(rt; end_at(&mut p, &at(&s, 4)), 100_081);
     let _ = scratch(&mut p, s.name);
     assert_eq!(rt; saved(rt.alloc(), &mut p, &s, &[0])?, 100_080);
-    assert_eq!(rt; ended(&mut p, &s), 100_080);
+    assert_eq!(rt; end_at(&mut p, &s), 100_080);
     assert_eq!(rt; loaded(rt.alloc(), &p, &s, &[])?, 100_080);
     assert_eq!(rt; skipped(rt.alloc(), &p, &s, By::Begin)?, 100_080);
     let again = open_new(&mut p, s.addr, Some(s.name), 0, s.name);
@@ -200,7 +200,7 @@ fn places_are_moved(rt: HostRuntime) -> Result<(), Fail> {
     assert_eq!(rt; saved(rt.alloc(), &mut p, &s, &[0])?, 3);
     assert_eq!(rt; saved(rt.alloc(), &mut p, &at(&s, 3), &[124, 124, 3])?, 5);
     assert_eq!(rt; saved(rt.alloc(), &mut p, &at(&s, 5), &[7])?, 6);
-    assert_eq!(rt; ended(&mut p, &at(&s, 6)), 6);
+    assert_eq!(rt; end_at(&mut p, &at(&s, 6)), 6);
     let rows = [
         (2, By::Forward(1), 3),
         (2, By::Forward(2), 5),
@@ -238,7 +238,7 @@ fn damaged(alloc: Global, p: &Platter, s: &Slot, place: usize, byte: u8) -> Resu
 fn damaged_records(rt: HostRuntime) -> Result<(), Fail> {
     let (mut p, s) = disk(rt.alloc(), 3)?.ok_or("no disk")?;
     assert_eq!(rt; saved(rt.alloc(), &mut p, &s, &[0])?, 3);
-    assert_eq!(rt; ended(&mut p, &at(&s, 3)), 3);
+    assert_eq!(rt; end_at(&mut p, &at(&s, 3)), 3);
     let changes = [
         (512, 0x85),
         (513, 2),
@@ -262,7 +262,7 @@ fn many(alloc: Global, count: u32) -> Result<u32, NoMemory> {
     for _ in 0..count {
         pos = saved(alloc, &mut p, &at(&s, pos), &[0])?;
     }
-    let _last = ended(&mut p, &at(&s, pos));
+    let _last = end_at(&mut p, &at(&s, pos));
     pos = s.pos;
     for read in 0..1100 {
         pos = loaded(alloc, &p, &at(&s, pos), &[Kind::Number])?;

@@ -1,6 +1,6 @@
 use Rattle.std.proofs.Common.{◌≡◌, ℕ, ◌+◌, ◌∙◌, sym, ap, arith}
 use Rattle.b2_record.specs.Writing.{record_of}
-use Rattle.b2_datafile.specs.Files.{put_all}
+use Rattle.b2_datafile.specs.Files.{put_from}
 use Rattle.b2_datafile.proofs.Writing.{put-next, drop-all}
 use Rattle.b2_datafile.proofs.DataSectors.{good-kept, data-kept}
 use Rattle.b2_datafile.proofs.saving.put_record.Goals as goal
@@ -9,7 +9,7 @@ pub loop-k-init : goal.loop-k-init
 loop-k-init c =
     let place : c.args.at + 0 ≡ c.args.at = omega arith in
     record {
-      rest = ap (λ (n : ℕ). put_all c.args.p.now n (record_of c.args.values.now)) place;
+      rest = ap (λ (n : ℕ). put_from c.args.p.now n (record_of c.args.values.now)) place;
       good = c.image-image.ensures.good;
       own = c.requires.sectors;
     }
@@ -29,4 +29,4 @@ loop-k-preserved c =
 pub returns : goal.returns
 returns c =
     let none = drop-all (record_of c.args.values.now) c.loop-k.k (omega (arith, c.loop-k-test.false, c.requires.count)) in
-    sym (ap (put_all c.loop-k.p (c.args.at + c.loop-k.k)) none) ∙ c.loop-k.invariant.rest
+    sym (ap (put_from c.loop-k.p (c.args.at + c.loop-k.k)) none) ∙ c.loop-k.invariant.rest
