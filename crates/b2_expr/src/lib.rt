@@ -1,4 +1,14 @@
-//! The values of expressions, read from atoms.
+//! The values of expressions and conditions, by their trees.
+//!
+//! `number`, `alpha` and `condition` give the value of what stands at a cursor, or the first code from the left. They want
+//! that a numeric expression, an alpha expression or a condition is read there (`is_part` of `b2_rows`), and what it comes
+//! to is said by its tree: `specs/Value.antt` for numbers and bytes, `specs/Condition.antt` for conditions, with
+//! `specs/Functions.antt` and `specs/Operators.antt` on values alone and `specs/Named.antt` for variables by their names.
+//! `specs/Scope.antt` says what an expression looks at. The code goes along the bytes and keeps no tree: one loop over the
+//! operators, a call for parentheses and arguments.
+//!
+//! Stands on `b2_rows` for rows at the bytes of a unit, on `b2_atom` for the table, on `b2_dec`, `b2_dectext` and `b2_alpha`
+//! for values, on `b2_vars` for variables and on `b2_text` for the functions of a program. No call takes memory.
 #![tactic(auto)]
 
 mod conditions;

@@ -1,4 +1,5 @@
-//! The values of expressions, read from atoms.
+//! The values of expressions over the letters A to Z, read from atoms: those that the machine evaluates so far. Every
+//! other operand is S27. It goes when the machine's statements stand on `b2_expr`, which evaluates every expression.
 //!
 //! `number` gives the value of the numeric expression at a cursor, or the first code from the left. What an expression
 //! comes to is said by its tree, as the language's table gives it: `specs/Value.antt`. The code walks along the bytes and
