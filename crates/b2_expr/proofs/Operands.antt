@@ -348,6 +348,7 @@ count_shorter t ok =
     let a = bytes_shorter t ok in
     let b = part_no_longer row.ALPHA (drop 1 t) in
     omega (arith, a, b)
+
 -- MAX or MIN
 abbrev more_items : List Item
 more_items = Among word.MAX_OPEN word.MIN_OPEN S17_NUMERIC ∷ Nest row.NUMBERS_2 ∷ Sign byte.closing S11_CLOSE ∷ []

@@ -110,7 +110,7 @@ abbrev pub element : Surroundings → Name → ℕ → Result Subscripts ℕ →
 element e name n subscripts =
     variables_of e name >>= (λ vars. subscripts >>= (λ at. Ok (record {
       vars = vars;
-      element = record { global = name.global; var = variable_of name (n == 1); row = at.row; column = at.column }
+      element = record { global = name.global; var = variable_of name (n == 1); row = at.row; column = at.column };
     })))
 
 -- a number that a name stands for: the parameter of the name, and else what the variable has

@@ -31,8 +31,8 @@ ghost use Rattle.b2_rows.specs.declared.operands.Operand.TheVariants as kind_is;
 ghost use Rattle.b2_rows.specs.declared.operands.AlphaOperand.TheVariants as alpha_kind_is;
 
 use crate::functions::{
-    byte_count, bytes_in, column_of, counted, extreme, number_of, of_one, of_text, of_two, place_of,
-    subscript, whole_number,
+    byte_count, bytes_in, column_of, counted, extreme, number_of, of_one, of_text, of_two,
+    place_of, subscript, whole_number,
 };
 use crate::named::{Element, Located, NameKind, Subscripts, variable_of};
 use crate::operators::{Level, joined, with_sign};
@@ -42,15 +42,13 @@ use b2_atom::{
     Origin, alpha_name_width, literal_width, number_width, numeric_name_width, relation_width,
 };
 use b2_base::Code;
-use b2_base::codes::{
-    A04_TOO_DEEP, P38_NO_DEFFN, S17_NUMERIC, X72_TOO_LONG, X77_NO_PARTITION,
-};
+use b2_base::codes::{A04_TOO_DEEP, P38_NO_DEFFN, S17_NUMERIC, X72_TOO_LONG, X77_NO_PARTITION};
 use b2_base::lexical::{at, dropped, first, front};
 use b2_dec::{Bytes, Dec};
 use b2_dectext::literal;
 use b2_rows::{
-    AlphaOperand, Chain, Name, Operand, alpha_name, alpha_operand_at, goes_on, hex_byte_at, is_at, is_hex_at,
-    numeric_name, operand_at, relation_at, row_unit, spells_a_line,
+    AlphaOperand, Chain, Name, Operand, alpha_name, alpha_operand_at, goes_on, hex_byte_at, is_at,
+    is_hex_at, numeric_name, operand_at, relation_at, row_unit, spells_a_line,
 };
 use b2_vars::Vars;
 
@@ -131,11 +129,7 @@ fn variables_of<'a>(env: &Env<'a>, name: Name) -> Result<&'a Vars, Code>
 /// What an expression of a level begins with, and the level of what it is.
 #[cycle(values)]
 #[tactic(auto, using(crate::proofs::Climbs::plain_operand, crate::proofs::Climbs::plain_value, crate::proofs::Climbs::plain_lists, crate::proofs::Climbs::plain_rest, crate::proofs::Climbs::signed_power, crate::proofs::Climbs::signed_value, crate::proofs::Climbs::signed_lists, crate::proofs::Climbs::signed_rest, crate::proofs::Climbs::sign_shorter, crate::proofs::Climbs::ends_refused, crate::proofs::Climbs::power_no_longer, b2_rows::proofs::Levels::part_no_longer))]
-fn head<'a>(
-    wanted: Level,
-    s: &Scope<'_>,
-    text: &'a [u8],
-) -> Result<(Dec, Level, &'a [u8]), Code>
+fn head<'a>(wanted: Level, s: &Scope<'_>, text: &'a [u8]) -> Result<(Dec, Level, &'a [u8]), Code>
     requires part { is_part (row_of wanted) text.now ≡ true }
     ensures { MatchResult result (λ p. (value (context s.now) wanted (tree_at (row_of wanted) text.now) ≡ ends (context s.now) (spans wanted p.1) (Ok p.0) p.2.now) × (are_lists (spans wanted p.1) p.2.now ≡ true) × (after_part (row_of wanted) text.now ≡ rests (spans wanted p.1) p.2.now) × (length p.2.now ≤ length text.now)) (λ code. value (context s.now) wanted (tree_at (row_of wanted) text.now) ≡ Err code) }
 {
@@ -415,7 +409,10 @@ fn position_at<'a>(s: &Scope<'_>, text: &'a [u8]) -> Result<(Dec, &'a [u8]), Cod
     match alpha(s, dropped(sign, width), &mut wanted) {
         Ok(rest) => {
             let relation = relation_at(sign);
-            Ok((place_of(relation, value.bytes(), wanted.bytes()), dropped(rest, 1)))
+            Ok((
+                place_of(relation, value.bytes(), wanted.bytes()),
+                dropped(rest, 1),
+            ))
         }
         Err(code) => Err(code),
     }
@@ -556,7 +553,10 @@ fn variable<'a>(s: &Scope<'_>, text: &'a [u8]) -> Result<(Dec, &'a [u8]), Code>
     ensures { Gives (meaning.operand (context s.now) kind_is.Variable (tree_at row.VARIABLE text.now)) (after_part row.VARIABLE text.now) result }
 {
     if let Some(number) = hidden_at(s, text) {
-        return Ok((number, dropped(text, numeric_name_width(Origin::Atoms, text))));
+        return Ok((
+            number,
+            dropped(text, numeric_name_width(Origin::Atoms, text)),
+        ));
     }
     let (located, rest) = match located(s, NameKind::Number, text) {
         Ok(found) => found,
@@ -596,11 +596,7 @@ pub fn alpha<'a>(s: &Scope<'_>, text: &'a [u8], into: &mut Bytes) -> Result<&'a 
 /// Further alpha operands, each after `&`, put after what stands before them.
 #[cycle(values)]
 #[tactic(auto, using(crate::proofs::Texts::on_operand, crate::proofs::Texts::on_list, crate::proofs::Texts::on_value, crate::proofs::Texts::on_rest, crate::proofs::Texts::on_shorter, crate::proofs::Texts::off_value, crate::proofs::Texts::off_rest, crate::proofs::Texts::text_refused, b2_rows::proofs::Levels::part_no_longer))]
-fn further_operands<'a>(
-    s: &Scope<'_>,
-    text: &'a [u8],
-    into: &mut Bytes,
-) -> Result<&'a [u8], Code>
+fn further_operands<'a>(s: &Scope<'_>, text: &'a [u8], into: &mut Bytes) -> Result<&'a [u8], Code>
     requires list { is_list (more_start chain.Alpha) row.JOINED text.now ≡ true }
     ensures { MatchResult result (λ left. (further_text (context s.now) (Ok into.old) (list_at (more_start chain.Alpha) row.JOINED text.now) ≡ Ok into.new) × (left.now ≡ after_list (more_start chain.Alpha) row.JOINED text.now)) (λ code. further_text (context s.now) (Ok into.old) (list_at (more_start chain.Alpha) row.JOINED text.now) ≡ Err code) }
 {

@@ -113,7 +113,11 @@ pub fn of_text(word: u8, bytes: &[u8]) -> Dec
     requires { length bytes.now ≤ 255 }
     ensures { Ok result ≡ of_text word bytes.now }
 {
-    let count = if word == LEN_OPEN { bytes.len() } else { num(bytes) };
+    let count = if word == LEN_OPEN {
+        bytes.len()
+    } else {
+        num(bytes)
+    };
     whole_number(count as u64)
 }
 

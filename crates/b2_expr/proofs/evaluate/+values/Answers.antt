@@ -17,9 +17,11 @@ use Rattle.b2_expr.proofs.Texts.{text_there}
 use Rattle.b2_expr.proofs.evaluate.+values.Goals as goal
 
 pub alpha_variable-returns-in-Ok-join : goal.alpha_variable-returns-in-Ok-join
-alpha_variable-returns-in-Ok-join t c =
-    (text_there (context c.args.s.now) (tree_at row.ALPHA_VARIABLE c.args.text.now) (place_seen c.in-Ok.found.0) c.in-Ok-bytes.bytes.now c.front.result.now c.args.into.now c.value_len.result
-    c.in-Ok.ensures.place.0 c.in-Ok-bytes.ensures.value c.value_len.ensures.value c.front.ensures ∙ c.in-Ok-join.ensures, c.in-Ok.ensures.place.1)
+alpha_variable-returns-in-Ok-join t c = (
+  text_there (context c.args.s.now) (tree_at row.ALPHA_VARIABLE c.args.text.now) (place_seen c.in-Ok.found.0) c.in-Ok-bytes.bytes.now c.front.result.now c.args.into.now c.value_len.result
+      c.in-Ok.ensures.place.0 c.in-Ok-bytes.ensures.value c.value_len.ensures.value c.front.ensures ∙ c.in-Ok-join.ensures,
+  c.in-Ok.ensures.place.1,
+)
 
 pub alpha_variable-returns-in-Err-join : goal.alpha_variable-returns-in-Err-join
 alpha_variable-returns-in-Err-join t c =
@@ -57,26 +59,30 @@ climb-loop-level-preserved t c =
     }
 
 pub located-returns-clause-name : goal.located-returns-clause-name
-located-returns-clause-name t c =
-    (is_legal c.name_at-width.result.0 c.is_at.result c.variable_of.result c.variable_of.ensures c.name_at-width.ensures.legal,
-    is_alpha c.args.kind c.name_at-width.result.0 c.is_at.result c.variable_of.result (leaf_bytes (name_leaf c.args.kind) c.args.text.now) c.variable_of.ensures c.name_at-width.ensures.name)
+located-returns-clause-name t c = (
+  is_legal c.name_at-width.result.0 c.is_at.result c.variable_of.result c.variable_of.ensures c.name_at-width.ensures.legal,
+  is_alpha c.args.kind c.name_at-width.result.0 c.is_at.result c.variable_of.result (leaf_bytes (name_leaf c.args.kind) c.args.text.now) c.variable_of.ensures c.name_at-width.ensures.name,
+)
 
 pub call-climb-requires : goal.call-climb-requires
-call-climb-requires t c =
-    (let few = length_after c.in-Some.unit.now c.dropped-named.result.now c.dropped-body.result.now _ c.dropped-named.ensures c.dropped-body.ensures c.in-Some.ensures.short in omega (arith, few, c.decreases, c.if-s-eq0.false),
-    subst (λ (u : Text). is_part row.SUM u ≡ true) (sym (c.dropped-body.ensures ∙ body_is c.in-Some.unit.now c.dropped-named.result.now c.numeric_name_width.result c.dropped-named.ensures c.numeric_name_width.ensures.count))
-    (body_part c.args.name c.in-Some.unit.now c.in-Some.ensures.part c.requires.named c.in-Some.ensures.found))
+call-climb-requires t c = (
+  let few = length_after c.in-Some.unit.now c.dropped-named.result.now c.dropped-body.result.now _ c.dropped-named.ensures c.dropped-body.ensures c.in-Some.ensures.short in omega (arith, few, c.decreases, c.if-s-eq0.false),
+  subst (λ (u : Text). is_part row.SUM u ≡ true) (sym (c.dropped-body.ensures ∙ body_is c.in-Some.unit.now c.dropped-named.result.now c.numeric_name_width.result c.dropped-named.ensures c.numeric_name_width.ensures.count))
+      (body_part c.args.name c.in-Some.unit.now c.in-Some.ensures.part c.requires.named c.in-Some.ensures.found),
+)
 
 pub further_numbers-returns-then-not-is_at : goal.further_numbers-returns-then-not-is_at
-further_numbers-returns-then-not-is_at t c =
-    (sym c.loop.invariant.value
-    ∙ further.stop_value (context c.args.s.now) c.args.word (Ok c.loop.number) (7 - c.loop.counter) (7 - (c.loop.counter + 1)) c.loop.left.now (let less = c.loop-test.true in omega (arith, less)) (sym c.if-not-is_at.ensures),
-    sym (further.stop_rest (7 - c.loop.counter) (7 - (c.loop.counter + 1)) c.loop.left.now (let less = c.loop-test.true in omega (arith, less)) (sym c.if-not-is_at.ensures)) ∙ c.loop.invariant.rest)
+further_numbers-returns-then-not-is_at t c = (
+  sym c.loop.invariant.value
+      ∙ further.stop_value (context c.args.s.now) c.args.word (Ok c.loop.number) (7 - c.loop.counter) (7 - (c.loop.counter + 1)) c.loop.left.now (let less = c.loop-test.true in omega (arith, less)) (sym c.if-not-is_at.ensures),
+  sym (further.stop_rest (7 - c.loop.counter) (7 - (c.loop.counter + 1)) c.loop.left.now (let less = c.loop-test.true in omega (arith, less)) (sym c.if-not-is_at.ensures)) ∙ c.loop.invariant.rest,
+)
 
 pub further_numbers-climb-requires : goal.further_numbers-climb-requires
-further_numbers-climb-requires t c =
-    (let shorter = further.step_shorter c.loop.left.now c.dropped.result.now (sym c.if-not-is_at.ensures) c.dropped.ensures in let left = c.loop.invariant.shorter in omega (arith, shorter, left, c.decreases),
-    further.step_part (7 - c.loop.counter) (7 - (c.loop.counter + 1)) c.loop.left.now c.dropped.result.now c.loop.invariant.part (let less = c.loop-test.true in omega (arith, less)) (sym c.if-not-is_at.ensures) c.dropped.ensures)
+further_numbers-climb-requires t c = (
+  let shorter = further.step_shorter c.loop.left.now c.dropped.result.now (sym c.if-not-is_at.ensures) c.dropped.ensures in let left = c.loop.invariant.shorter in omega (arith, shorter, left, c.decreases),
+  further.step_part (7 - c.loop.counter) (7 - (c.loop.counter + 1)) c.loop.left.now c.dropped.result.now c.loop.invariant.part (let less = c.loop-test.true in omega (arith, less)) (sym c.if-not-is_at.ensures) c.dropped.ensures,
+)
 
 pub further_numbers-returns-in-Err : goal.further_numbers-returns-in-Err
 further_numbers-returns-in-Err t c =
@@ -97,7 +103,8 @@ further_numbers-loop-preserved t c =
     }
 
 pub further_numbers-returns : goal.further_numbers-returns
-further_numbers-returns t c =
-    (sym c.loop.invariant.value
-    ∙ further.none_value (context c.args.s.now) c.args.word (Ok c.loop.number) (7 - c.loop.counter) c.loop.left.now (let more = c.loop-test.false in omega (arith, more)),
-    sym (further.none_rest (7 - c.loop.counter) c.loop.left.now (let more = c.loop-test.false in omega (arith, more))) ∙ c.loop.invariant.rest)
+further_numbers-returns t c = (
+  sym c.loop.invariant.value
+      ∙ further.none_value (context c.args.s.now) c.args.word (Ok c.loop.number) (7 - c.loop.counter) c.loop.left.now (let more = c.loop-test.false in omega (arith, more)),
+  sym (further.none_rest (7 - c.loop.counter) c.loop.left.now (let more = c.loop-test.false in omega (arith, more))) ∙ c.loop.invariant.rest,
+)
