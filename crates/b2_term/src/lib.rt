@@ -93,11 +93,7 @@ fn type_byte(line: &mut Vec<u8>, transcript: &mut Vec<u8>, b: u8) -> Result<(), 
 }
 
 /// Types bytes that don't end the line.
-fn type_bytes(
-    line: &mut Vec<u8>,
-    transcript: &mut Vec<u8>,
-    bytes: &[u8],
-) -> Result<(), NoMemory>
+fn type_bytes(line: &mut Vec<u8>, transcript: &mut Vec<u8>, bytes: &[u8]) -> Result<(), NoMemory>
     requires { length line.old.items ≤ 256 }
     ensures typed { OnOk result (record { line = line.new.items; transcript = transcript.new.items }
         ≡ type_bytes bytes.now (record { line = line.old.items; transcript = transcript.old.items })) }
