@@ -17,6 +17,8 @@ mod functions;
 mod named;
 mod operators;
 mod scope;
+#[cfg(test)]
+mod tests;
 mod value;
 
 pub use operators::Level;
