@@ -332,7 +332,7 @@ fn chain(alloc: Global) -> Result<Text, Fail> {
     for letter in b'I'..b'Y' {
         let mut source = *b"DEFFN I(X)=FNJ(X)+1";
         source[6] = letter;
-        source[13] = letter + 1;
+        source[13] = letter.saturating_add(1);
         text.put(u16::from(letter), &line_of(alloc, &source)?)?;
     }
     text.put(100, &line_of(alloc, b"DEFFN Y(X)=X")?)?;
