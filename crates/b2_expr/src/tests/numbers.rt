@@ -1,6 +1,6 @@
 // Numeric expressions as they are typed, with what they come to or their first code.
 use super::{
-    Row, env, env_alone, env_cut, found, line_of, make_world, past_word, spelled, stands, statement,
+    Row, World, env, env_alone, env_cut, found, global_variables, line_of, make_world, own_variables, past_word, spelled, stands, statement,
 };
 use crate::{Env, number};
 use b2_atom::Cursor;
@@ -402,12 +402,11 @@ fn functions_are_called(rt: HostRuntime) -> Result<(), Fail> {
 #[test]
 fn sixteen_calls_may_be_open(rt: HostRuntime) -> Result<(), Fail> {
     let alloc = rt.alloc();
-    let world = make_world(alloc)?;
-    let chain = chain(alloc)?;
-    let e = Env {
-        home: &chain,
-        ..env(&world)
+    let world = World {
+        own: own_variables(alloc)?,
+        globals: global_variables(alloc)?,
+        home: chain(alloc)?,
     };
-    assert_eq!(rt; number_wrong(alloc, &e, &DEEP)?, 0);
+    assert_eq!(rt; number_wrong(alloc, &env(&world), &DEEP)?, 0);
     Ok(())
 }
