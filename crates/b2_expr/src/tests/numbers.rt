@@ -1,6 +1,7 @@
 // Numeric expressions as they are typed, with what they come to or their first code.
 use super::{
-    Row, World, env, env_alone, env_cut, found, global_variables, line_of, make_world, own_variables, past_word, spelled, stands, statement,
+    Row, World, env, env_alone, env_cut, found, global_variables, line_of, make_world,
+    own_variables, past_word, spelled, stands, statement,
 };
 use crate::{Env, number};
 use b2_atom::Cursor;
