@@ -26,7 +26,7 @@ pub fn transpose(a: Mat<'_>, into: &mut [Dec])
 fn number_one() -> Dec
     ensures { result ≡ one_number }
 {
-    Dec::at(false, 1_000_000_000_000, 99)
+    Dec::ending_at(false, 1_000_000_000_000, 99)
 }
 
 /// The number in a row and a column of a filled array.

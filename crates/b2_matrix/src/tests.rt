@@ -39,7 +39,7 @@ fn array(rows: u16, cols: u16, cells: &[Dec]) -> Mat<'_>
 fn at_exponent(digit: u8, exponent: i8) -> Dec {
     let coef = u64::from(digit.clamp(1, 9)) * 1_000_000_000_000;
     let place = (i16::from(exponent.clamp(-99, 99)) + 99) as u8;
-    Dec::at(false, coef, place)
+    Dec::ending_at(false, coef, place)
 }
 
 #[test]
