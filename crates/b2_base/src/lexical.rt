@@ -2,6 +2,9 @@
 ghost use Rattle.std.specs.Prelude.{◌≡◌, ◌≤◌, ◌<◌, ◌^◌, length, drop, take, get_or, true};
 ghost use Rattle.b2_base.specs.Lexical as spec;
 
+/// The byte that begins a sequence for the screen as a whole.
+pub const ESCAPE: u8 = 2;
+
 /// Whether a byte is one of `0` to `9`.
 pub fn is_digit(byte: u8) -> bool
     ensures { result ≡ spec.is_digit byte }

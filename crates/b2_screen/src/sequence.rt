@@ -4,9 +4,7 @@ ghost use Rattle.b2_screen.specs.Shown.{fed, sequence_bytes, bytes_read};
 ghost use Rattle.b2_base.specs.Byte.{escape};
 
 use crate::sheet::Sheet;
-
-/// The byte that begins a sequence.
-const ESCAPE: u8 = 2;
+use b2_base::lexical::ESCAPE;
 
 /// What a sequence does.
 #[derive(Clone, Copy)]
