@@ -5,13 +5,14 @@ use Rattle.b2_base.specs.Byte as byte
 use Rattle.b2_base.specs.Lexical.{first}
 use Rattle.b2_atom.specs.Words.{Text}
 use Rattle.b2_atom.specs.Tokens.{listed}
-use Rattle.b2_atom.specs.Tree.{Trees, Outcome, atoms, tokens}
+use Rattle.b2_atom.specs.Tree.{Trees, Outcome, atoms, tokens, uses_in}
 use Rattle.b2_atom.specs.Grammar.{reader, part, statement, statement_row, read_line}
 use Rattle.b2_atom.specs.declared.rows.TheConstants as row
 use Rattle.b2_atom.specs.declared.words.Origin.{Origin}
 use Rattle.b2_atom.specs.declared.words.Origin.TheVariants as origin
 use Rattle.b2_atom.specs.declared.sink.Stop.{Stop}
 use Rattle.b2_atom.specs.declared.sink.Stop.TheVariants.{At, Deep, NoMemory}
+use Rattle.b2_atom.specs.declared.sink.Uses.{Uses}
 use Rattle.b2_atom.specs.declared.forms.Position.{Position}
 use Rattle.b2_atom.specs.declared.spans.Span.{Span}
 use Rattle.b2_atom.specs.declared.forms.Position.TheVariants.{First, Further, Following}
@@ -66,8 +67,8 @@ pub record LineUnit : Type 0 where
   pub place : Position
   pub bytes : Text
 
-abbrev pub unit_at : Position → Text → LineUnit
-unit_at p t = record { place = p; bytes = take (length t - length (after_unit p t)) t }
+abbrev pub leading_unit : Position → Text → LineUnit
+leading_unit p t = record { place = p; bytes = take (length t - length (after_unit p t)) t }
 
 -- the row of a statement that begins somewhere, and the line's own, which is no statement's, where none begins
 abbrev pub chosen_row : Result (ℕ × Text) Stop → ℕ
@@ -77,6 +78,15 @@ chosen_row (Err e) = row.LINE
 -- the row of a unit: the one that the table chooses for its own bytes at its place
 unfoldable pub unit_row : LineUnit → ℕ
 unit_row u = chosen_row (statement_row origin.Atoms u.place u.bytes)
+
+-- what is used in what was read
+abbrev pub uses_of : Outcome → Uses
+uses_of (Ok p) = uses_in p.0
+uses_of (Err e) = record { globals = false; functions = false }
+
+-- what a unit uses: an `@` name, a function
+unfoldable pub unit_uses : LineUnit → Uses
+unit_uses u = uses_of (statement (reader origin.Atoms) 1 u.place u.bytes)
 
 -- bytes that a row reads from the first to the last, with no statement in it
 pub record IsReadBy (number : ℕ) (bytes : Text) : Type 0 where
@@ -97,7 +107,7 @@ units_after more (b ∷ bs) = more (next_place (b ∷ bs)) (next_text (b ∷ bs)
 -- the first units of a text from a place on, at most n
 abbrev pub units_from : ℕ → Position → Text → List LineUnit
 units_from zero p t = []
-units_from (suc n) p t = unit_at p t ∷ units_after (units_from n) (after_unit p t)
+units_from (suc n) p t = leading_unit p t ∷ units_after (units_from n) (after_unit p t)
 
 -- the units of a line, which are no more than its bytes
 unfoldable pub units_of : Text → List LineUnit
@@ -111,11 +121,16 @@ spanned line s = record { place = s.place; bytes = take s.width (drop s.from lin
 abbrev pub KeepsRow : Text → Span → Type 0
 KeepsRow line s = s.row ≡ unit_row (spanned line s)
 
--- the spans of all units of a line, each with its unit's row
+-- and what the unit uses
+abbrev pub KeepsUses : Text → Span → Type 0
+KeepsUses line s = s.uses ≡ unit_uses (spanned line s)
+
+-- the spans of all units of a line, each with its unit's row and with what the unit uses
 pub record KeepsUnits (line : Text) (spans : List Span) : Type 0 where
   pub line_is : is_line line ≡ true
   pub units : map (spanned line) spans ≡ units_of line
   pub rows : All (KeepsRow line) spans
+  pub uses : All (KeepsUses line) spans
 
 -- a text at the end of another
 pub record IsEndOf (line left : Text) : Type 0 where

@@ -6,7 +6,7 @@
 //!
 //! Stands on `b2_base`. `Atoms::of` is None exactly on lists of bytes that spell no line; `Atoms::read` gives the atoms of
 //! a typed line, or the first code and its place; `Atoms::source` gives the canonical source of a line. A line keeps where
-//! its units stand and the row of each, so that `units`, `unit`, `find_unit` and `skip` look them up. Which trees the table allows is said
+//! its units stand, the row of each and what it uses, so that `units`, `unit`, `find_unit` and `skip` look them up. Which trees the table allows is said
 //! without any reading, and the laws in `laws` tie them to their atoms, to their source and to the units of a line.
 //!
 //! The definitions are in `specs/`: the words in `Words`, tokens and their source in `Tokens`, trees in `Tree`, what is
@@ -46,7 +46,7 @@ pub use leaves::{
     numeric_name_width, relation_width, signed_number_width, slot_width, small_width,
 };
 pub use line::{Atoms, Cursor, FoundUnit, read_source, reads_row};
-pub use sink::Stop;
+pub use sink::{Stop, Uses};
 use table::{FORMS, ROWS_0, ROWS_1, ROWS_2, ROWS_3};
 use words::WORDS;
 pub use words::{

@@ -2,10 +2,10 @@
 ghost use Rattle.std.specs.Prelude.{◌≡◌, ◌≢◌, ◌≤◌, ◌<◌, ◌&&◌, nat_lt, length, drop, ◌+◌, ◌==◌, ◌||◌, IfErr, IfOk, IfSome, MatchResult, Some, None, if◌then◌else◌, true, is_ok, slice_get};
 ghost use Rattle.std.specs.Option.{option_map};
 ghost use Rattle.b2_atom.specs.Grammar as spec;
-ghost use Rattle.b2_atom.specs.Lines.{IsKnown, is_line, line_atoms, line_source, short_line, after_unit, next_place, next_text, units_of, further_unit, is_further, IsReadBy, unit_row};
+ghost use Rattle.b2_atom.specs.Lines.{IsKnown, is_line, line_atoms, line_source, short_line, after_unit, next_place, next_text, units_of, further_unit, is_further, IsReadBy, unit_row, unit_uses};
 
 use crate::laws::what_is_read_is_a_line;
-use crate::sink::{Sink, Source, Stop, bytes_of};
+use crate::sink::{Sink, Source, Stop, Uses, bytes_of};
 use crate::spans::{Span, further_unit, span_at, spans_of};
 use crate::walk::{DEPTH, LEVELS, part, read_line};
 use crate::words::Origin;
@@ -45,11 +45,12 @@ impl<'a> Model for Cursor<'a> {
     ghost view = { λ c. c.left.now };
 }
 
-/// A unit of a line: its bytes, the row of its statement, and whether it is the last one.
+/// A unit of a line: its bytes, the row of its statement, what it uses, and whether it is the last one.
 #[derive(Drop)]
 pub struct FoundUnit<'a> {
     pub cursor: Cursor<'a>,
     pub row: u16,
+    pub uses: Uses,
     pub is_last: bool,
 }
 
@@ -192,10 +193,11 @@ impl Atoms {
         }
     }
 
-    /// The k-th unit, with its row and whether it is the last.
+    /// The k-th unit, with its row, what it uses, and whether it is the last.
     pub fn find_unit(&self, k: usize) -> Option<FoundUnit<'_>>
         ensures bytes { option_map (λ u. u.cursor) result ≡ option_map (λ u. u.bytes) (slice_get (units_of self.now) k) }
         ensures row { option_map (λ u. u.row) result ≡ option_map unit_row (slice_get (units_of self.now) k) }
+        ensures uses { option_map (λ u. u.uses) result ≡ option_map unit_uses (slice_get (units_of self.now) k) }
         ensures read { IfSome result (λ u. IsReadBy u.row u.cursor) }
         ensures short { IfSome result (λ u. length u.cursor ≤ 255) }
         ensures last { IfSome result (λ u. u.is_last ≡ (k + 1 == length (units_of self.now))) }
@@ -206,6 +208,7 @@ impl Atoms {
             Some(span) => Some(FoundUnit {
                 cursor: Cursor::over(span.unit_bytes(&self.bytes)),
                 row: span.unit_row(),
+                uses: span.unit_uses(),
                 is_last: k + 1 == count,
             }),
             None => None,

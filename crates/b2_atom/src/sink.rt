@@ -1,14 +1,14 @@
 // Where what is read goes to, and why a reading ends early.
-ghost use Rattle.std.specs.Prelude.{◌≡◌, ◌+◌, ◌++◌, [], IfErr, OnOk, map};
+ghost use Rattle.std.specs.Prelude.{◌≡◌, ◌+◌, ◌++◌, [], IfErr, OnOk, map, false};
 ghost use Rattle.b2_base.specs.Lexical as lexical;
 ghost use Rattle.b2_atom.specs.Words.{kept_byte};
 ghost use Rattle.b2_atom.specs.Tokens as tokens;
 ghost use Rattle.b2_atom.specs.Tokens.{kept_text, maybe_spaced};
 ghost use Rattle.b2_atom.specs.Tokens.Token.{Coded, Plain, Lined};
-ghost use Rattle.b2_atom.specs.Tree.{seen_sink, bytes_of, Puts};
+ghost use Rattle.b2_atom.specs.Tree.{seen_sink, bytes_of, noted, Puts};
 
 use crate::forms::Leaf;
-use crate::words::{LINE_MARK, Origin, REM, kept_byte, word_text};
+use crate::words::{FN, LINE_MARK, Origin, REM, kept_byte, word_text};
 use b2_base::lexical::{at, first, is_letter, without_zeros};
 use std::alloc::{AllocError, AllocFailed, Global};
 
@@ -20,10 +20,33 @@ pub struct Source {
     pub operand: bool,
 }
 
-/// Where what is read goes to: nowhere; as atoms after the bytes that are there; or as the canonical source.
+/// What a unit uses beside variables of its own partition.
+#[derive(Clone, Copy, Debug, PartialEq, Eq)]
+pub struct Uses {
+    /// Whether an `@` name stands in it.
+    pub globals: bool,
+    /// Whether FN stands in it.
+    pub functions: bool,
+}
+
+impl Uses {
+    /// Neither.
+    pub fn nothing() -> Uses
+        ensures { result ≡ record { globals = false; functions = false } }
+    {
+        Uses {
+            globals: false,
+            functions: false,
+        }
+    }
+}
+
+/// Where what is read goes to: nowhere; into a note of what is used; as atoms after the bytes that are there; or as the
+/// canonical source.
 #[derive(Drop)]
 pub enum Sink {
     Silent,
+    Noted(Uses),
     Written(Vec<u8>),
     Listed(Source),
 }
@@ -191,12 +214,26 @@ fn list_line(source: &mut Source, high: u8, low: u8) -> Result<(), Stop>
     Ok(())
 }
 
+/// Whether what is typed by hand is a name that begins with `@`.
+fn is_global_name(origin: Origin, leaf: Leaf, bytes: &[u8]) -> bool
+    ensures { result ≡ tokens.is_global_name (Plain leaf (kept_text origin leaf bytes.now)) }
+{
+    match leaf {
+        Leaf::Name | Leaf::AlphaName | Leaf::LocalName => first_kept(origin, leaf, bytes) == b'@',
+        _ => false,
+    }
+}
+
 /// Puts a word or a sign.
 pub fn put_code(sink: &mut Sink, code: u8) -> Result<(), Stop>
     ensures { Puts (seen_sink sink.old) (Coded code) (seen_sink sink.new) result }
 {
     match sink {
         Sink::Silent => Ok(()),
+        Sink::Noted(uses) => {
+            uses.functions = uses.functions || code == FN;
+            Ok(())
+        }
         Sink::Written(bytes) => {
             bytes.push(code)?;
             Ok(())
@@ -211,6 +248,10 @@ pub fn put_text(sink: &mut Sink, origin: Origin, leaf: Leaf, bytes: &[u8]) -> Re
 {
     match sink {
         Sink::Silent => Ok(()),
+        Sink::Noted(uses) => {
+            uses.globals = uses.globals || is_global_name(origin, leaf, bytes);
+            Ok(())
+        }
         Sink::Written(out) => push_kept(out, origin, leaf, bytes),
         Sink::Listed(source) => list_text(source, origin, leaf, bytes),
     }
@@ -221,7 +262,7 @@ pub fn put_line(sink: &mut Sink, high: u8, low: u8) -> Result<(), Stop>
     ensures { Puts (seen_sink sink.old) (Lined high low) (seen_sink sink.new) result }
 {
     match sink {
-        Sink::Silent => Ok(()),
+        Sink::Silent | Sink::Noted(_) => Ok(()),
         Sink::Written(out) => {
             out.extend_from_slice(&[LINE_MARK, high, low])?;
             Ok(())
@@ -235,8 +276,18 @@ pub fn bytes_of(alloc: Global, sink: Sink) -> Vec<u8>
     ensures { result.items ≡ bytes_of (seen_sink sink) }
 {
     match sink {
-        Sink::Silent => Vec::new(alloc),
+        Sink::Silent | Sink::Noted(_) => Vec::new(alloc),
         Sink::Written(bytes) => bytes,
         Sink::Listed(source) => source.bytes,
+    }
+}
+
+/// What a sink noted.
+pub fn noted(sink: &Sink) -> Uses
+    ensures { result ≡ noted (seen_sink sink.now) }
+{
+    match sink {
+        Sink::Noted(uses) => *uses,
+        Sink::Silent | Sink::Written(_) | Sink::Listed(_) => Uses::nothing(),
     }
 }

@@ -1,11 +1,11 @@
 // The units of a line: found once, when the line is made, and looked up from then on.
 ghost use Rattle.std.specs.Prelude.{◌≡◌, ◌≤◌, ℕ, List, IfOk, length, map, slice_get};
 ghost use Rattle.std.specs.List.{All};
-ghost use Rattle.b2_atom.specs.Lines.{IsEndOf, KeepsRow, after_unit, further_unit, is_further, next_place, next_text, spanned, unit_at, unit_row, units_of};
+ghost use Rattle.b2_atom.specs.Lines.{IsEndOf, KeepsRow, KeepsUses, after_unit, further_unit, is_further, next_place, next_text, spanned, leading_unit, unit_row, unit_uses, units_of};
 
 use crate::forms::Position;
 use crate::rows;
-use crate::sink::Sink;
+use crate::sink::{Sink, Uses, noted};
 use crate::starts::statement_row;
 use crate::walk::statement;
 use crate::words::Origin;
@@ -13,13 +13,14 @@ use b2_base::NoMemory;
 use b2_base::lexical::{dropped, first, front};
 use std::alloc::Global;
 
-/// A unit of a line: where it stands, which of the line's bytes are its own, and the row of its statement.
+/// A unit of a line: where it stands, which of the line's bytes are its own, the row of its statement, and what it uses.
 #[derive(Clone, Copy, Debug)]
 pub struct Span {
     place: Position,
     from: u8,
     width: u8,
     row: u16,
+    uses: Uses,
 }
 
 impl Span {
@@ -38,6 +39,13 @@ impl Span {
         ensures { result ≡ self.now.row }
     {
         self.row
+    }
+
+    /// What the unit uses.
+    pub fn unit_uses(&self) -> Uses
+        ensures { result ≡ self.now.uses }
+    {
+        self.uses
     }
 
     /// Whether the unit stands after a `:`.
@@ -78,6 +86,18 @@ fn unit_row(place: Position, bytes: &[u8]) -> u16
     }
 }
 
+/// What the statement uses that is a unit's bytes.
+#[tactic(auto, using(crate::proofs::reading::Binds::uses_noted, crate::proofs::reading::Binds::none_noted), unfolding(crate::specs::Lines::unit_uses))]
+fn unit_uses(place: Position, bytes: &[u8]) -> Uses
+    ensures { result ≡ unit_uses (record { place = place; bytes = bytes.now }) }
+{
+    let mut sink = Sink::Noted(Uses::nothing());
+    match statement(&mut sink, Origin::Atoms, 1, place, bytes) {
+        Ok(_) => noted(&sink),
+        Err(_) => Uses::nothing(),
+    }
+}
+
 /// Where the unit stands that begins after another.
 fn next_place(rest: &[u8]) -> Position
     ensures { result ≡ next_place rest.now }
@@ -105,8 +125,9 @@ fn span_between(line: &[u8], place: Position, left: &[u8], rest: &[u8]) -> Span
     requires few { length line.now ≤ 255 }
     requires left { IsEndOf line.now left.now }
     requires rest { rest.now ≡ after_unit place left.now }
-    ensures unit { spanned line.now result ≡ unit_at place left.now }
-    ensures row { result.row ≡ unit_row (unit_at place left.now) }
+    ensures unit { spanned line.now result ≡ leading_unit place left.now }
+    ensures row { result.row ≡ unit_row (leading_unit place left.now) }
+    ensures uses { result.uses ≡ unit_uses (leading_unit place left.now) }
 {
     let from = line.len() - left.len();
     let width = left.len() - rest.len();
@@ -115,14 +136,16 @@ fn span_between(line: &[u8], place: Position, left: &[u8], rest: &[u8]) -> Span
         from: from as u8,
         width: width as u8,
         row: unit_row(place, front(left, width)),
+        uses: unit_uses(place, front(left, width)),
     }
 }
 
-/// The units of a line of at most 255 bytes, each with its row.
+/// The units of a line of at most 255 bytes, each with its row and with what it uses.
 pub fn spans_of(alloc: Global, line: &[u8]) -> Result<Vec<Span>, NoMemory>
     requires { length line.now ≤ 255 }
     ensures units { IfOk result (λ spans. map (spanned line.now) spans.items ≡ units_of line.now) }
     ensures rows { IfOk result (λ spans. All (KeepsRow line.now) spans.items) }
+    ensures uses { IfOk result (λ spans. All (KeepsUses line.now) spans.items) }
 {
     let mut spans = Vec::new(alloc);
     let mut place = Position::First;

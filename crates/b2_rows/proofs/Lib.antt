@@ -8,7 +8,6 @@
 -- Units: a unit of a line is a row that is read. Digits and Letters: the values of numbers and names that are typed.
 -- Links, ChainRows and Choices: what the rows of expressions and of lists say, over the table alone; EachChain and EachOperand
 -- have the same one fact at a time, as the tactics of functions want it.
--- GoodTokens and Scanning: the tokens of a row that is read, and whether FN is one of them.
 -- LineTrees and WhatFollows: the units of a line on its tree, and what follows one.
 pub mod Levels
 pub mod Items
@@ -24,7 +23,5 @@ pub mod ChainRows
 pub mod Choices
 pub mod EachChain
 pub mod EachOperand
-pub mod GoodTokens
-pub mod Scanning
 pub mod LineTrees
 pub mod WhatFollows

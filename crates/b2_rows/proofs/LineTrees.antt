@@ -8,11 +8,11 @@ use Rattle.std.specs.List.{All}
 use Rattle.std.proofs.lemmas.List.Elements.{All-head, All-tail}
 use Rattle.b2_base.specs.Lexical.{first}
 use Rattle.b2_atom.specs.Words.{Text}
-use Rattle.b2_atom.specs.Tree.{Trees, Outcome, atoms, under}
+use Rattle.b2_atom.specs.Tree.{Trees, Outcome, atoms, under, names_global, calls_function, uses_in}
 use Rattle.b2_atom.specs.Tree.Trees.{Done, In}
 use Rattle.b2_atom.specs.Table.{forms}
-use Rattle.b2_atom.specs.Grammar.{statement_within, statement_row, chosen, from, row_at, row_items, starts, read_line}
-use Rattle.b2_atom.specs.Lines.{is_line, LineUnit, units_of, further_unit, is_further, left_after, unit_row, chosen_row, IsReadBy}
+use Rattle.b2_atom.specs.Grammar.{reader, statement, statement_within, statement_row, chosen, from, row_at, row_items, starts, read_line}
+use Rattle.b2_atom.specs.Lines.{is_line, LineUnit, units_of, further_unit, is_further, left_after, unit_row, unit_uses, uses_of, chosen_row, IsReadBy}
 use Rattle.b2_atom.specs.Units.{TreeUnit, unit_atoms, units_on}
 use Rattle.b2_atom.specs.Laws.{IsTree, IsReadAlone}
 use Rattle.b2_atom.specs.declared.words.TheConstants as word
@@ -23,7 +23,7 @@ use Rattle.b2_atom.specs.declared.forms.Position.{Position}
 use Rattle.b2_atom.specs.declared.forms.Position.TheVariants as place
 use Rattle.b2_atom.specs.declared.forms.Item.TheVariants.{Word, Part, Either}
 use Rattle.b2_atom.specs.declared.forms.Start.TheVariants as start
-use Rattle.b2_atom.proofs.Booleans.{both, equal, never}
+use Rattle.b2_atom.proofs.Booleans.{both, equal, never, or_false}
 use Rattle.b2_atom.proofs.lines.EachUnit.{tree_is_cut}
 use Rattle.b2_atom.proofs.lines.LineLaws.{spells_tree, atoms_back}
 use Rattle.b2_rows.specs.Rows.{reading_row, tree_of, is_part, tree_at, after_part}
@@ -215,6 +215,25 @@ row_is line k h =
     ap (λ (us : List LineUnit). option_map unit_row (slice_get us k)) c.units
     ∙ ap (option_map unit_row) (slice_get-map unit_atoms (tree_units line) k)
     ∙ rows_by (slice_get (tree_units line) k) (λ v is. all_at IsReadAlone (tree_units line) k v c.alone is)
+
+-- what a unit uses is what stands in its tree
+uses_within : (n : ℕ) (t : Trees) (o : Outcome) → o ≡ Ok (In n t Done, []) → uses_of o ≡ uses_in t
+uses_within n t o is = ap uses_of is ∙ (λ i. record { globals = or_false (names_global t) i; functions = or_false (calls_function t) i })
+
+unit_use_is : (v : TreeUnit) → IsReadAlone v → unit_uses (unit_atoms v) ≡ uses_in v.tree
+unfolding unit_uses
+unit_use_is v h = uses_within v.row v.tree (statement (reader Atoms) 1 v.place (atoms v.tree)) h
+
+uses_by : (o : Option TreeUnit) → ((v : TreeUnit) → o ≡ Some v → IsReadAlone v) → option_map unit_uses (option_map unit_atoms o) ≡ option_map (λ (v : TreeUnit). uses_in v.tree) o
+uses_by None h = refl
+uses_by (Some v) h = ap Some (unit_use_is v (h v refl))
+
+pub uses_are : (line : Text) (k : ℕ) → is_line line ≡ true → option_map unit_uses (slice_get (units_of line) k) ≡ option_map (λ (v : TreeUnit). uses_in v.tree) (slice_get (tree_units line) k)
+uses_are line k h =
+    let c = line_cut line h in
+    ap (λ (us : List LineUnit). option_map unit_uses (slice_get us k)) c.units
+    ∙ ap (option_map unit_uses) (slice_get-map unit_atoms (tree_units line) k)
+    ∙ uses_by (slice_get (tree_units line) k) (λ v is. all_at IsReadAlone (tree_units line) k v c.alone is)
 
 same_some : (a b : ℕ) → Some a ≡ Some b → a ≡ b
 same_some a b e = cc

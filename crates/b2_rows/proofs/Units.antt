@@ -8,7 +8,7 @@ use Rattle.b2_atom.specs.Words.{Text}
 use Rattle.b2_atom.specs.Tree.{Trees, Outcome, under, atoms}
 use Rattle.b2_atom.specs.Tree.Trees.{Done, In}
 use Rattle.b2_atom.specs.Grammar.{reader, statement, statement_within, chosen, from, statement_row, row_at}
-use Rattle.b2_atom.specs.Lines.{left_after, is_line, after_unit, LineUnit, unit_at, next_place, next_text, units_after, units_from, units_of}
+use Rattle.b2_atom.specs.Lines.{left_after, is_line, after_unit, LineUnit, leading_unit, next_place, next_text, units_after, units_from, units_of}
 use Rattle.b2_atom.specs.Units.{TreeUnit, unit_atoms, units_on}
 use Rattle.b2_atom.specs.Laws.{IsStatement, IsReadAlone}
 use Rattle.b2_atom.specs.Table.{forms}
@@ -75,7 +75,7 @@ units_after_short m n ih (b ∷ bs) h = ih (next_place (b ∷ bs)) (next_text (b
 units_short : (m n : ℕ) (p : Position) (t : Text) → length t ≤ m → All (Within m) (units_from n p t)
 units_short m zero p t h = All-nil (Within m)
 units_short m (suc n) p t h =
-    All-cons (Within m) (unit_at p t) _ (taken_short _ m t h) (units_after_short m n (units_short m n) (after_unit p t) (after_short m p t h))
+    All-cons (Within m) (leading_unit p t) _ (taken_short _ m t h) (units_after_short m n (units_short m n) (after_unit p t) (after_short m p t h))
 
 -- each unit of a line
 each_of : (us : List LineUnit) → All IsStatement us → All (Within 255) us → All IsRowUnit us

@@ -6,6 +6,5 @@ pub mod Links
 pub mod Chains
 pub mod Choices
 pub mod Following
-pub mod FunctionCalls
 pub mod Laws
 pub mod Optional

@@ -19,8 +19,8 @@ abbrev pub lettered : Bool → Bool → Text → Name
 lettered alpha global w = record { letter = first w; digit = digit_in (drop 1 w); alpha = alpha; global = global }
 
 -- a name, alpha or not, with `@` before it or not
-abbrev pub name_of : Bool → Text → Name
-name_of alpha w = lettered alpha (first w == byte.at_sign) (if first w == byte.at_sign then drop 1 w else w)
+abbrev pub variable_name : Bool → Text → Name
+variable_name alpha w = lettered alpha (first w == byte.at_sign) (if first w == byte.at_sign then drop 1 w else w)
 
 -- a small number, and the number of a slot after its `#`
 abbrev pub small_of : Text → ℕ

@@ -37,8 +37,8 @@ fn digit_in(bytes: &[u8]) -> Option<u8>
 }
 
 /// The name that bytes spell, of which it is known whether it is alpha.
-fn name_of(alpha: bool, bytes: &[u8]) -> Name
-    ensures { result ≡ spec.name_of alpha bytes.now }
+fn variable_name(alpha: bool, bytes: &[u8]) -> Name
+    ensures { result ≡ spec.variable_name alpha bytes.now }
 {
     let global = first(bytes) == b'@';
     let lettered = if global { dropped(bytes, 1) } else { bytes };
@@ -53,29 +53,29 @@ fn name_of(alpha: bool, bytes: &[u8]) -> Name
 /// The name of a number.
 pub fn numeric_name(text: &[u8]) -> Name
     requires { is_leaf leaf.Name text.now ≡ true }
-    ensures value { result ≡ spec.name_of false (leaf_bytes leaf.Name text.now) }
+    ensures value { result ≡ spec.variable_name false (leaf_bytes leaf.Name text.now) }
     ensures letter { lexical.is_letter result.letter ≡ true }
 {
-    name_of(false, front(text, numeric_name_width(Origin::Atoms, text)))
+    variable_name(false, front(text, numeric_name_width(Origin::Atoms, text)))
 }
 
 /// The name of an alpha variable.
 pub fn alpha_name(text: &[u8]) -> Name
     requires { is_leaf leaf.AlphaName text.now ≡ true }
-    ensures value { result ≡ spec.name_of true (leaf_bytes leaf.AlphaName text.now) }
+    ensures value { result ≡ spec.variable_name true (leaf_bytes leaf.AlphaName text.now) }
     ensures letter { lexical.is_letter result.letter ≡ true }
 {
-    name_of(true, front(text, alpha_name_width(Origin::Atoms, text)))
+    variable_name(true, front(text, alpha_name_width(Origin::Atoms, text)))
 }
 
 /// The name of a number without `@`.
 pub fn local_name(text: &[u8]) -> Name
     requires { is_leaf leaf.LocalName text.now ≡ true }
-    ensures value { result ≡ spec.name_of false (leaf_bytes leaf.LocalName text.now) }
+    ensures value { result ≡ spec.variable_name false (leaf_bytes leaf.LocalName text.now) }
     ensures letter { lexical.is_letter result.letter ≡ true }
     ensures local { result.global ≡ false }
 {
-    name_of(false, front(text, local_name_width(Origin::Atoms, text)))
+    variable_name(false, front(text, local_name_width(Origin::Atoms, text)))
 }
 
 /// The letter or digit that names a function.

@@ -8,18 +8,17 @@
 //!
 //! Stands on `b2_atom` for the table and the units of a line, on `b2_alpha` for relations and on `b2_base`. No call takes
 //! memory. Readers of what is typed by hand want that it stands there, and give its value; `goes_on` and `operand_at` tell by
-//! a byte which way a row goes on; `row_unit` gives a unit with its row, `calls_function` tells whether FN stands in it, and
-//! `next_unit`, `past_colon`, `after_false` and `taken_fault` give what follows it on its line.
+//! a byte which way a row goes on; `row_unit` gives a unit with its row and tells whether an `@` name and whether FN
+//! stands in it, and `next_unit`, `past_colon`, `after_false` and `taken_fault` give what follows it on its line.
 //!
 //! The definitions are in `specs/`: rows in `Rows`, what is typed by hand in `Leaves` and its values in `Values`, which rows
 //! take a byte in `Takes`, items after operators and commas in `Links` and `Chains`, choices in `Choices`, what follows a unit
-//! in `Following`, calls of functions in `FunctionCalls`, and the laws in `Laws`. The crates above cite lemmas of `proofs/`, whose first page lists them.
+//! in `Following`, and the laws in `Laws`. The crates above cite lemmas of `proofs/`, whose first page lists them.
 #![tactic(auto)]
 
 mod begins;
 mod chains;
 mod following;
-mod function_calls;
 pub mod laws;
 mod leaves;
 mod operands;
@@ -30,7 +29,6 @@ mod tests;
 pub use begins::{is_alpha_at, is_array_at, is_at, is_hex_at, is_line_at, is_numeric_at};
 pub use chains::{Chain, goes_on, has_sign};
 pub use following::{Goal, after_false, next_unit, past_colon, taken_fault};
-pub use function_calls::calls_function;
 pub use leaves::{
     Name, address_at, alpha_name, function_name, hex_byte_at, hex_digit_at, image_at, line_at,
     literal_at, local_name, numeric_name, relation_at, slot_at, small_at,

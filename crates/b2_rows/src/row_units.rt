@@ -2,11 +2,12 @@
 ghost use Rattle.std.specs.Prelude.{◌≡◌, ◌≤◌, ◌<◌, ◌+◌, ◌==◌, true, length, slice_get, IfSome};
 ghost use Rattle.std.specs.Option.{option_map};
 ghost use Rattle.b2_atom.specs.Lines.{is_line, units_of};
+ghost use Rattle.b2_atom.specs.Tree.{uses_in};
 ghost use Rattle.b2_rows.specs.Rows.{is_part, tree_at};
 ghost use Rattle.b2_rows.specs.Laws.{IsRow};
 ghost use Rattle.b2_rows.specs.Following.{tree_units};
 
-use b2_atom::{Atoms, reads_row};
+use b2_atom::{Atoms, Uses, reads_row};
 
 /// A unit of a line.
 #[derive(Drop)]
@@ -15,6 +16,8 @@ pub struct RowUnit<'a> {
     pub row: u16,
     /// Its bytes.
     pub bytes: &'a [u8],
+    /// Whether an `@` name and whether FN stands in it.
+    pub uses: Uses,
     /// Whether it is the last one of its line.
     pub is_last: bool,
 }
@@ -35,10 +38,11 @@ pub fn spells_a_line(line: &Atoms)
 }
 
 /// The k-th unit of a line, counted from 0, None where there are at most k units.
-#[tactic(auto, using(crate::proofs::LineTrees::none_found, crate::proofs::LineTrees::unit_is_row, crate::proofs::LineTrees::row_is, crate::proofs::LineTrees::tree_of_unit))]
+#[tactic(auto, using(crate::proofs::LineTrees::none_found, crate::proofs::LineTrees::unit_is_row, crate::proofs::LineTrees::row_is, crate::proofs::LineTrees::uses_are, crate::proofs::LineTrees::tree_of_unit))]
 pub fn row_unit(line: &Atoms, k: usize) -> Option<RowUnit<'_>>
     ensures row { option_map (λ u. u.row) result ≡ option_map (λ v. v.row) (slice_get (tree_units line.now) k) }
     ensures tree { option_map (λ u. tree_at u.row u.bytes.now) result ≡ option_map (λ v. v.tree) (slice_get (tree_units line.now) k) }
+    ensures uses { option_map (λ u. u.uses) result ≡ option_map (λ v. uses_in v.tree) (slice_get (tree_units line.now) k) }
     ensures bytes { option_map (λ u. u.bytes.now) result ≡ option_map (λ u. u.bytes) (slice_get (units_of line.now) k) }
     ensures whole { IfSome result (λ u. IsRow u.row u.bytes.now (tree_at u.row u.bytes.now)) }
     ensures last { IfSome result (λ u. u.is_last ≡ (k + 1 == length (units_of line.now))) }
@@ -50,6 +54,7 @@ pub fn row_unit(line: &Atoms, k: usize) -> Option<RowUnit<'_>>
         Some(unit) => Some(RowUnit {
             row: unit.row,
             bytes: unit.cursor.rest(),
+            uses: unit.uses,
             is_last: unit.is_last,
         }),
         None => None,

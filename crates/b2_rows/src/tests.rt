@@ -1,9 +1,9 @@
 use crate::{
     AlphaOperand, Chain, Goal, Name, Operand, address_at, after_false, alpha_name,
-    alpha_operand_at, calls_function, function_name, goes_on, has_sign, hex_byte_at, hex_digit_at,
-    image_at, is_alpha_at, is_array_at, is_at, is_hex_at, is_line_at, is_numeric_at, is_read,
-    line_at, literal_at, local_name, next_unit, numeric_name, operand_at, past_colon, relation_at,
-    row_unit, slot_at, small_at, taken_fault,
+    alpha_operand_at, function_name, goes_on, has_sign, hex_byte_at, hex_digit_at, image_at,
+    is_alpha_at, is_array_at, is_at, is_hex_at, is_line_at, is_numeric_at, is_read, line_at,
+    literal_at, local_name, next_unit, numeric_name, operand_at, past_colon, relation_at, row_unit,
+    slot_at, small_at, taken_fault,
 };
 use b2_alpha::Rel;
 use b2_atom::words::{
@@ -466,32 +466,41 @@ fn what_follows(rt: HostRuntime) -> Result<(), Fail> {
     Ok(())
 }
 
-// A program line, one of its units, and whether FN stands in that.
-const CALLS: [(&[u8], usize, bool); 9] = [
-    (b"B=FNA(1)", 0, true),
-    (b"B=1+A(FN7(X))", 0, true),
-    (b"DEFFN A(X)=X", 0, false),
-    (b"DEFFN A(X)=FNB(X)", 0, true),
-    (b"PRINT \"FN\"", 0, false),
-    (b"GOTO 9500", 0, false),
-    (b"REM FNA(1)", 0, false),
-    (b"IF FNA(1)=2 THEN 9500:A=1", 0, true),
-    (b"IF FNA(1)=2 THEN 9500:A=1", 1, false),
+// A program line, one of its units, and whether FN and whether an `@` name stands in that.
+const USES: [(&[u8], usize, bool, bool); 17] = [
+    (b"B=FNA(1)", 0, true, false),
+    (b"B=1+A(FN7(X))", 0, true, false),
+    (b"DEFFN A(X)=X", 0, false, false),
+    (b"DEFFN A(X)=FNB(X)", 0, true, false),
+    (b"PRINT \"FN@A\"", 0, false, false),
+    (b"GOTO 9500", 0, false, false),
+    (b"REM FNA(1)+@B", 0, false, false),
+    (b"IF FNA(1)=2 THEN 9500:A=1", 0, true, false),
+    (b"IF FNA(1)=2 THEN 9500:A=1", 1, false, false),
+    (b"@A=1", 0, false, true),
+    (b"A=1:B=@C+FNX(2):C=2", 0, false, false),
+    (b"A=1:B=@C+FNX(2):C=2", 1, true, true),
+    (b"A=1:B=@C+FNX(2):C=2", 2, false, false),
+    (b"PRINT STR(@A$(2),1,3)", 0, false, true),
+    (b"CONVERT X TO A$,(##@A)", 0, false, false),
+    (b"SELECT @PART \"A\"", 0, false, false),
+    (b"IF A=1 THEN @B=2", 0, false, false),
 ];
 
-fn is_calling(line: &Atoms, k: usize, want: bool) -> bool {
+/// Whether a unit of a line uses FN and an `@` name as is wanted.
+fn is_using(line: &Atoms, k: usize, functions: bool, globals: bool) -> bool {
     match row_unit(line, k) {
-        Some(unit) => calls_function(&unit) == want,
+        Some(unit) => unit.uses.functions == functions && unit.uses.globals == globals,
         None => false,
     }
 }
 
 #[test]
-fn calls_are_found(rt: HostRuntime) -> Result<(), Fail> {
-    for (source, k, want) in CALLS {
+fn uses_are_found(rt: HostRuntime) -> Result<(), Fail> {
+    for (source, k, functions, globals) in USES {
         let line = line_of(rt.alloc(), source)?;
         let count = source.len();
-        assert!(rt; is_calling(&line, k, want), "of {count} bytes");
+        assert!(rt; is_using(&line, k, functions, globals), "of {count} bytes");
     }
     Ok(())
 }

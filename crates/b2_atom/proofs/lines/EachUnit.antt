@@ -11,7 +11,7 @@ use Rattle.b2_atom.specs.Tokens.Token.{Coded, Plain, Lined}
 use Rattle.b2_atom.specs.Tree.{Trees, Outcome, atoms, tokens}
 use Rattle.b2_atom.specs.Tree.Trees.{Done, Put, In}
 use Rattle.b2_atom.specs.Grammar.{reader, statement, statement_within, statement_row, row_items, starts}
-use Rattle.b2_atom.specs.Lines.{LineUnit, unit_at, units_from, units_after, after_unit, left_after, units_of}
+use Rattle.b2_atom.specs.Lines.{LineUnit, leading_unit, units_from, units_after, after_unit, left_after, units_of}
 use Rattle.b2_atom.specs.Spelling.{Spells, atoms_of_tokens}
 use Rattle.b2_atom.specs.Fitting.{Fits, is_statement}
 use Rattle.b2_atom.specs.Units.{TreeUnit, own, units_in, units_on, unit_atoms}
@@ -47,7 +47,7 @@ behind_read : (p : Position) (m : ℕ) (t : Trees) (xs more : List Token) → Un
 unfolding after_unit
 behind_read p m t xs more h = ap left_after h.here
 
-unit_bytes : (p : Position) (m : ℕ) (t : Trees) (xs more : List Token) → UnitRead p m t xs more → (unit_at p (atoms_of_tokens (xs ++ more))).bytes ≡ atoms_of_tokens xs
+unit_bytes : (p : Position) (m : ℕ) (t : Trees) (xs more : List Token) → UnitRead p m t xs more → (leading_unit p (atoms_of_tokens (xs ++ more))).bytes ≡ atoms_of_tokens xs
 unit_bytes p m t xs more h =
     ap (λ (rest : Text). take (length (atoms_of_tokens (xs ++ more)) - length rest) (atoms_of_tokens (xs ++ more))) (behind_read p m t xs more h)
     ∙ ap (λ (s : Text). take (length s - length (atoms_of_tokens more)) s) (append_atoms xs more)
@@ -76,7 +76,7 @@ cut_none : Cut [] []
 cut_none = record { units = refl; alone = All-nil IsReadAlone }
 
 cut_one : (p : Position) (m : ℕ) (t : Trees) (xs more : List Token) (us : List LineUnit) (vs : List TreeUnit) → UnitRead p m t xs more → Cut us vs
-    → Cut (unit_at p (atoms_of_tokens (xs ++ more)) ∷ us) (record { place = p; row = m; tree = t } ∷ vs)
+    → Cut (leading_unit p (atoms_of_tokens (xs ++ more)) ∷ us) (record { place = p; row = m; tree = t } ∷ vs)
 cut_one p m t xs more us vs h cut = record {
   units = (λ i. record { place = p; bytes = (unit_bytes p m t xs more h ∙ sym (unit_atoms_are p m t xs more h)) i } ∷ cut.units i);
   alone = All-cons IsReadAlone (record { place = p; row = m; tree = t }) vs (ap (statement (reader Atoms) 1 p) (unit_atoms_are p m t xs more h) ∙ h.alone) cut.alone;
@@ -199,7 +199,7 @@ fewer n xs ys some_ few =
 -- all units from a statement on
 units_from_one : (n : ℕ) (f : Position → Text → List LineUnit) → AllOf n f → (p : Position) (m : ℕ) (t ts : Trees) (all : List Token) → FurtherRows ts → FirstUnit p m t all (tokens ts)
     → Stand all → length (atoms_of_tokens all) ≤ suc n
-    → Cut (unit_at p (atoms_of_tokens all) ∷ units_after f (after_unit p (atoms_of_tokens all))) (units_from_it p m t ts)
+    → Cut (leading_unit p (atoms_of_tokens all) ∷ units_after f (after_unit p (atoms_of_tokens all))) (units_from_it p m t ts)
 units_from_one n f all_of p m t ts all fits one st few =
     let s : Text = atoms_of_tokens (one.front ++ one.behind) in
     let st_ = stand_behind one.front one.behind (subst (λ (l : List Token). Stand l) one.same st) in
@@ -212,7 +212,7 @@ units_from_one n f all_of p m t ts all fits one st few =
           (behind_units n f all_of ts fits (subst (λ (l : List Token). Stand l) g.0 st_) (subst (λ (l : List Token). length (atoms_of_tokens l) ≤ n) g.0 few_)))
       | inr next ↦ next_units n f all_of (units_in (row_items m) t) ts one.behind fits next st_ few_
     ] in
-    subst (λ (l : List Token). Cut (unit_at p (atoms_of_tokens l) ∷ units_after f (after_unit p (atoms_of_tokens l))) (units_from_it p m t ts)) (sym one.same)
+    subst (λ (l : List Token). Cut (leading_unit p (atoms_of_tokens l) ∷ units_after f (after_unit p (atoms_of_tokens l))) (units_from_it p m t ts)) (sym one.same)
     (cut_one p m (own (row_items m) t) one.front one.behind (units_after f (after_unit p s)) vs one.read
     (subst (λ (rest : Text). Cut (units_after f rest) vs) (sym (behind_read p m (own (row_items m) t) one.front one.behind one.read)) behind_))
 

@@ -1,4 +1,4 @@
--- The row of a unit: a unit is read by the row that the table chooses for it, and a span keeps that row.
+-- The row of a unit: a unit is read by the row that the table chooses for it, and a span keeps that row and what the unit uses.
 use Rattle.std.proofs.Common.{◌≡◌, ◌∙◌, ℕ, List, [], ◌∷◌, ◌++◌, Result, Ok, Err, Some, ap, sym, subst}
 use Rattle.std.specs.List.{All}
 use Rattle.std.specs.Prelude.{slice_get}
@@ -9,7 +9,7 @@ use Rattle.b2_atom.specs.Words.{Text}
 use Rattle.b2_atom.specs.Tree.{Trees, Outcome, Parser, under}
 use Rattle.b2_atom.specs.Tree.Trees.{Done, In}
 use Rattle.b2_atom.specs.Grammar.{reader, part, statement, statement_within, statement_row, row_at, from, chosen}
-use Rattle.b2_atom.specs.Lines.{LineUnit, IsReadBy, KeepsRow, KeepsUnits, chosen_row, left_after, spanned, unit_row, units_of}
+use Rattle.b2_atom.specs.Lines.{LineUnit, IsReadBy, KeepsRow, KeepsUses, KeepsUnits, chosen_row, left_after, spanned, unit_row, unit_uses, units_of}
 use Rattle.b2_atom.specs.Laws.{IsStatement, IsReadByItsRow, EachUnitIsReadByItsRow}
 use Rattle.b2_atom.specs.Table.{forms}
 use Rattle.b2_atom.specs.declared.words.Origin.TheVariants.{Atoms}
@@ -65,12 +65,19 @@ each_by_its_row (u ∷ us) h =
 pub each_unit_by_its_row : EachUnitIsReadByItsRow
 each_unit_by_its_row line h = each_by_its_row (units_of line) (each_unit line h)
 
--- one more span that keeps its row
+-- one more span that keeps something
+one_more : (P : Span → Type 0) (spans more : List Span) (s : Span) → more ≡ spans ++ s ∷ [] → P s → All P spans → All P more
+one_more P spans more s added kept all = subst (λ (ss : List Span). All P ss) (sym added) (All-append P spans (s ∷ []) all (All-cons P s [] kept (All-nil P)))
+
+-- its row
 pub one_more_row : (line : Text) (spans more : List Span) (s : Span) (u : LineUnit) → more ≡ spans ++ s ∷ [] → spanned line s ≡ u → s.row ≡ unit_row u
     → All (KeepsRow line) spans → All (KeepsRow line) more
-one_more_row line spans more s u added is kept rows =
-    subst (λ (ss : List Span). All (KeepsRow line) ss) (sym added)
-    (All-append (KeepsRow line) spans (s ∷ []) rows (All-cons (KeepsRow line) s [] (kept ∙ ap unit_row (sym is)) (All-nil (KeepsRow line))))
+one_more_row line spans more s u added is kept rows = one_more (KeepsRow line) spans more s added (kept ∙ ap unit_row (sym is)) rows
+
+-- what its unit uses
+pub one_more_use : (line : Text) (spans more : List Span) (s : Span) (u : LineUnit) → more ≡ spans ++ s ∷ [] → spanned line s ≡ u → s.uses ≡ unit_uses u
+    → All (KeepsUses line) spans → All (KeepsUses line) more
+one_more_use line spans more s u added is kept uses = one_more (KeepsUses line) spans more s added (kept ∙ ap unit_uses (sym is)) uses
 
 -- what holds of each element holds of the one that is looked up
 of_each : {X : Type 0} (P : X → Type 0) (xs : List X) (k : ℕ) (x : X) → slice_get xs k ≡ Some x → All P xs → P x

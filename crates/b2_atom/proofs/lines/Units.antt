@@ -8,7 +8,7 @@ use Rattle.std.specs.Option.{option_map}
 use Rattle.b2_atom.specs.Words.{Text}
 use Rattle.b2_atom.specs.Tree.{Outcome, atoms}
 use Rattle.b2_atom.specs.Grammar.{reader, statement}
-use Rattle.b2_atom.specs.Lines.{LineUnit, unit_at, units_from, units_after, after_unit, left_after, next_place, next_text, is_line, units_of, spanned, KeepsUnits, IsEndOf, further_unit, is_further}
+use Rattle.b2_atom.specs.Lines.{LineUnit, leading_unit, units_from, units_after, after_unit, left_after, next_place, next_text, is_line, units_of, spanned, KeepsUnits, IsEndOf, further_unit, is_further}
 use Rattle.b2_atom.specs.declared.words.Origin.TheVariants.{Atoms}
 use Rattle.b2_atom.specs.declared.forms.Position.{Position}
 use Rattle.b2_atom.specs.declared.forms.Position.TheVariants.{First}
@@ -31,18 +31,18 @@ further_none f [] h = refl
 further_none f (b ∷ bs) h = absurd (nonempty (length bs) h)
 
 pub next_units : (n i : ℕ) (p : Position) (t rest : Text) → i < n → rest ≡ after_unit p t → (length rest == 0) ≡ false
-    → units_from (n - i) p t ≡ unit_at p t ∷ units_from (n - (i + 1)) (next_place rest) (next_text rest)
+    → units_from (n - i) p t ≡ leading_unit p t ∷ units_from (n - (i + 1)) (next_place rest) (next_text rest)
 next_units n i p t rest h is some =
     ap (λ (m : ℕ). units_from m p t) (sym (some_left n i h))
-    ∙ ap (λ (r : Text). unit_at p t ∷ units_after (units_from (n - (i + 1))) r) (sym is)
-    ∙ ap (λ (us : List LineUnit). unit_at p t ∷ us) (further_some (units_from (n - (i + 1))) rest some)
+    ∙ ap (λ (r : Text). leading_unit p t ∷ units_after (units_from (n - (i + 1))) r) (sym is)
+    ∙ ap (λ (us : List LineUnit). leading_unit p t ∷ us) (further_some (units_from (n - (i + 1))) rest some)
 
 pub last_unit : (n i : ℕ) (p : Position) (t rest : Text) → i < n → rest ≡ after_unit p t → (length rest == 0) ≡ true
-    → units_from (n - i) p t ≡ unit_at p t ∷ []
+    → units_from (n - i) p t ≡ leading_unit p t ∷ []
 last_unit n i p t rest h is none =
     ap (λ (m : ℕ). units_from m p t) (sym (some_left n i h))
-    ∙ ap (λ (r : Text). unit_at p t ∷ units_after (units_from (n - (i + 1))) r) (sym is)
-    ∙ ap (λ (us : List LineUnit). unit_at p t ∷ us) (further_none (units_from (n - (i + 1))) rest none)
+    ∙ ap (λ (r : Text). leading_unit p t ∷ units_after (units_from (n - (i + 1))) r) (sym is)
+    ∙ ap (λ (us : List LineUnit). leading_unit p t ∷ us) (further_none (units_from (n - (i + 1))) rest none)
 
 -- one more unit among those that are found
 one_more : (line : Text) (spans more : List Span) (s : Span) (u : LineUnit) (us : List LineUnit) → more ≡ spans ++ s ∷ [] → spanned line s ≡ u
@@ -53,21 +53,21 @@ one_more line spans more s u us added is =
     ∙ append_assoc (map (spanned line) spans) (spanned line s ∷ []) us
     ∙ ap (λ (v : LineUnit). map (spanned line) spans ++ v ∷ us) is
 
-pub found_next : (line : Text) (n i : ℕ) (p q : Position) (t rest next : Text) (spans more : List Span) (s : Span) → more ≡ spans ++ s ∷ [] → spanned line s ≡ unit_at p t
+pub found_next : (line : Text) (n i : ℕ) (p q : Position) (t rest next : Text) (spans more : List Span) (s : Span) → more ≡ spans ++ s ∷ [] → spanned line s ≡ leading_unit p t
     → i < n → rest ≡ after_unit p t → (length rest == 0) ≡ false → q ≡ next_place rest → next ≡ next_text rest
     → map (spanned line) spans ++ units_from (n - i) p t ≡ units_of line → map (spanned line) more ++ units_from (n - (i + 1)) q next ≡ units_of line
 found_next line n i p q t rest next spans more s added is h behind_ some placed left found =
     (λ x. map (spanned line) more ++ units_from (n - (i + 1)) (placed x) (left x))
-    ∙ one_more line spans more s (unit_at p t) (units_from (n - (i + 1)) (next_place rest) (next_text rest)) added is
+    ∙ one_more line spans more s (leading_unit p t) (units_from (n - (i + 1)) (next_place rest) (next_text rest)) added is
     ∙ ap (λ (us : List LineUnit). map (spanned line) spans ++ us) (sym (next_units n i p t rest h behind_ some))
     ∙ found
 
-pub found_last : (line : Text) (n i : ℕ) (p : Position) (t rest : Text) (spans more : List Span) (s : Span) → more ≡ spans ++ s ∷ [] → spanned line s ≡ unit_at p t
+pub found_last : (line : Text) (n i : ℕ) (p : Position) (t rest : Text) (spans more : List Span) (s : Span) → more ≡ spans ++ s ∷ [] → spanned line s ≡ leading_unit p t
     → i < n → rest ≡ after_unit p t → (length rest == 0) ≡ true
     → map (spanned line) spans ++ units_from (n - i) p t ≡ units_of line → map (spanned line) more ≡ units_of line
 found_last line n i p t rest spans more s added is h behind_ none found =
     sym (append-nil (map (spanned line) more))
-    ∙ one_more line spans more s (unit_at p t) [] added is
+    ∙ one_more line spans more s (leading_unit p t) [] added is
     ∙ ap (λ (us : List LineUnit). map (spanned line) spans ++ us) (sym (last_unit n i p t rest h behind_ none))
     ∙ found
 

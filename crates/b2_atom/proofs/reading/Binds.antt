@@ -1,12 +1,13 @@
 -- One reading after another, and what a sink holds after it.
-use Rattle.std.proofs.Common.{◌≡◌, ℕ, zero, suc, ◌+◌, ◌-◌, ◌<◌, List, [], ◌∷◌, ◌++◌, length, refl, sym, ap, ◌∙◌, arith, Bor, Result, Ok, Err, true, false, Bool, if◌then◌else◌, ◌≤◌, is_ok, append_assoc, append-nil, ◌&&◌, nat_le}
+use Rattle.std.proofs.Common.{◌≡◌, ℕ, zero, suc, ◌+◌, ◌-◌, ◌<◌, List, [], ◌∷◌, ◌++◌, length, refl, sym, ap, ◌∙◌, arith, Bor, Result, Ok, Err, true, false, Bool, if◌then◌else◌, ◌≤◌, is_ok, append_assoc, append-nil, ◌&&◌, ◌||◌, nat_le}
 use Rattle.b2_atom.specs.Words.{Text}
-use Rattle.b2_atom.specs.Tokens.{Token, token_atoms, listed, ending, ends_wordy, is_operand, is_apart, maybe_spaced, spelled}
-use Rattle.b2_atom.specs.Tree.{Trees, Outcome, Parser, Seen, atoms, also, preceded, and_then, under, emitted, put_one, put_all, bytes_of, is_silent, Takes, tokens}
+use Rattle.b2_atom.specs.Tokens.{Token, token_atoms, listed, ending, ends_wordy, is_operand, is_apart, maybe_spaced, spelled, is_global_name, is_function_word}
+use Rattle.b2_atom.specs.Tree.{Trees, Outcome, Parser, Seen, atoms, also, preceded, and_then, under, emitted, put_one, put_all, bytes_of, holds_bytes, noted, uses_in, names_global, calls_function, Takes, tokens}
 use Rattle.b2_atom.specs.Tree.Trees.{Done, Put, In}
-use Rattle.b2_atom.specs.Tree.Seen.{Silent, Written, Listed}
-use Rattle.b2_atom.specs.Lines.{left_after, atoms_of, source_of, is_line, line_source}
+use Rattle.b2_atom.specs.Tree.Seen.{Silent, Noted, Written, Listed}
+use Rattle.b2_atom.specs.Lines.{left_after, atoms_of, source_of, uses_of, is_line, line_source}
 use Rattle.b2_atom.specs.declared.sink.Stop.{Stop}
+use Rattle.b2_atom.specs.declared.sink.Uses.{Uses}
 use Rattle.b2_atom.specs.declared.sink.Stop.TheVariants.{At}
 use Rattle.b2_atom.specs.declared.words.Origin.{Origin}
 use Rattle.b2_atom.specs.declared.words.Origin.TheVariants as origin
@@ -14,6 +15,7 @@ use Rattle.b2_atom.specs.declared.forms.Start.{Start}
 use Rattle.b2_atom.specs.declared.forms.Position.{Position}
 use Rattle.b2_atom.specs.declared.forms.Item.{Item}
 use Rattle.b2_atom.specs.declared.forms.Item.TheVariants.{Nest}
+use Rattle.b2_atom.proofs.Booleans.{or_false, or_assoc}
 use Rattle.b2_atom.specs.Grammar.{Reader, reader, items, item, item_of_part, deep, level, statement, statement_within, many, row_items, starts, absent, part, read_line, chosen, statement_row}
 
 pub put_all-also : (s : Seen) (a b : Trees) → put_all s (also a b) ≡ put_all (put_all s a) b
@@ -41,20 +43,21 @@ pub bind_err : (old : Seen) (e : Stop) (o : Outcome) (q : Parser Text) → emitt
 bind_err old e (Err f) q is = is
 bind_err old e (Ok p) q is = cc
 
--- a sink that holds nothing holds nothing after a reading, and no other does
-pub put_all-silent : (s : Seen) (t : Trees) → is_silent (put_all s t) ≡ is_silent s
-put_all-silent s Done = refl
-put_all-silent Silent (Put t ts) = put_all-silent Silent ts
-put_all-silent (Written bs) (Put t ts) = put_all-silent (put_one (Written bs) t) ts
-put_all-silent (Listed bs w o) (Put t ts) = put_all-silent (put_one (Listed bs w o) t) ts
-put_all-silent s (In n inner ts) = put_all-silent (put_all s inner) ts ∙ put_all-silent s inner
+-- a sink that holds no bytes holds none after a reading, and every other does
+pub put_all-bytes : (s : Seen) (t : Trees) → holds_bytes (put_all s t) ≡ holds_bytes s
+put_all-bytes s Done = refl
+put_all-bytes Silent (Put t ts) = put_all-bytes Silent ts
+put_all-bytes (Noted u) (Put t ts) = put_all-bytes (put_one (Noted u) t) ts
+put_all-bytes (Written bs) (Put t ts) = put_all-bytes (put_one (Written bs) t) ts
+put_all-bytes (Listed bs w o) (Put t ts) = put_all-bytes (put_one (Listed bs w o) t) ts
+put_all-bytes s (In n inner ts) = put_all-bytes (put_all s inner) ts ∙ put_all-bytes s inner
 
-pub emitted-silent : (old new : Seen) (rest : Text) (o : Outcome) → emitted old o ≡ Ok (new, rest) → is_silent new ≡ is_silent old
-emitted-silent old new rest (Err e) is = cc
-emitted-silent old new rest (Ok p) is =
+pub emitted-bytes : (old new : Seen) (rest : Text) (o : Outcome) → emitted old o ≡ Ok (new, rest) → holds_bytes new ≡ holds_bytes old
+emitted-bytes old new rest (Err e) is = cc
+emitted-bytes old new rest (Ok p) is =
     let pairs : ◌≡◌ {A = Seen × Text} (put_all old p.0, p.1) (new, rest) = cc in
     let front : put_all old p.0 ≡ new = ap (λ (r : Seen × Text). r.0) pairs in
-    ap is_silent (sym front) ∙ put_all-silent old p.0
+    ap holds_bytes (sym front) ∙ put_all-bytes old p.0
 
 -- what a taker answers by a reading, it answers by each that leaves the same
 pub takes_same : (old new : Seen) (o p : Outcome) (r : Result (Bor Text) Stop) → emitted old o ≡ emitted old p → Takes old o new r → Takes old p new r
@@ -228,3 +231,25 @@ no_source (Ok p) b e h k = cc
 pub line_has_source : (t : Text) (e : Stop) → is_line t ≡ true → line_source t ≡ Err e → ⊥
 unfolding is_line line_source
 line_has_source t e h k = no_source (read_line origin.Atoms t) (nat_le (length t) 255) e h k
+
+-- a sink that notes what is used
+put_all-noted : (u : Uses) (t : Trees) → put_all (Noted u) t ≡ Noted (record { globals = u.globals || names_global t; functions = u.functions || calls_function t })
+put_all-noted u Done = λ i. Noted (record { globals = sym (or_false u.globals) i; functions = sym (or_false u.functions) i })
+put_all-noted u (Put t ts) =
+    put_all-noted (record { globals = u.globals || is_global_name t; functions = u.functions || is_function_word t }) ts
+    ∙ (λ i. Noted (record { globals = or_assoc u.globals (is_global_name t) (names_global ts) i; functions = or_assoc u.functions (is_function_word t) (calls_function ts) i }))
+put_all-noted u (In n inner ts) =
+    ap (λ (s : Seen). put_all s ts) (put_all-noted u inner)
+    ∙ put_all-noted (record { globals = u.globals || names_global inner; functions = u.functions || calls_function inner }) ts
+    ∙ (λ i. Noted (record { globals = or_assoc u.globals (names_global inner) (names_global ts) i; functions = or_assoc u.functions (calls_function inner) (calls_function ts) i }))
+
+-- a sink that noted nothing notes what was read
+pub uses_noted : (n : Seen) (rest : Text) (o : Outcome) → emitted (Noted (record { globals = false; functions = false })) o ≡ Ok (n, rest) → noted n ≡ uses_of o
+uses_noted n rest (Err e) is = cc
+uses_noted n rest (Ok p) is =
+    let pairs : ◌≡◌ {A = Seen × Text} (put_all (Noted (record { globals = false; functions = false })) p.0, p.1) (n, rest) = cc in
+    sym (ap (λ (x : Seen × Text). noted x.0) pairs) ∙ ap noted (put_all-noted (record { globals = false; functions = false }) p.0)
+
+pub none_noted : (s : Seen) (o : Outcome) (e : Stop) → emitted s o ≡ Err e → uses_of o ≡ record { globals = false; functions = false }
+none_noted s (Err f) e is = refl
+none_noted s (Ok p) e is = cc

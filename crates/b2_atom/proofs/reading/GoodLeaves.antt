@@ -8,7 +8,7 @@ use Rattle.b2_atom.specs.Tokens.{kept_text}
 use Rattle.b2_atom.specs.Tokens.Token.{Plain, Lined}
 use Rattle.b2_atom.specs.Tree.{Trees, Outcome, one}
 use Rattle.b2_atom.specs.Tree.Trees.{Done, Put}
-use Rattle.b2_atom.specs.Leaves.{number_width, mantissa_of, mantissa_width, sign_width, exponent_of, exponent_width, one_more, signed_number_width, name_width, is_alpha_name, numeric_name_width, leaf_width, until_quote, relation_of, until_parenthesis, missing, refused}
+use Rattle.b2_atom.specs.Leaves.{number_width, mantissa_of, mantissa_width, sign_width, exponent_of, exponent_width, one_more, signed_number_width, name_width, is_alpha_name, numeric_name_width, leaf_width, until_quote, relation_length, until_parenthesis, missing, refused}
 use Rattle.b2_atom.specs.Grammar.{read_leaf, plain_of, line_number_at, typed_line_number, two_digits, line_digit, atoms_line_number, text_to_end}
 use Rattle.b2_atom.specs.Spelling.{is_whole, good_token}
 use Rattle.b2_atom.specs.declared.words.Origin.{Origin}
@@ -193,13 +193,13 @@ image_in t true true n h = let less = inside (λ b. b == 41) t n refl h in omega
 image_in t true false n h = omega arith
 image_in t false b n h = omega arith
 
-relation_some : (a b n : ℕ) → relation_of a b ≡ suc n → (a == 0) ≡ false
+relation_some : (a b n : ℕ) → relation_length a b ≡ suc n → (a == 0) ≡ false
 relation_some a b n h = grind (arith, nat_tests)
 
-relation_two : (a b : ℕ) → relation_of a b ≤ 2
+relation_two : (a b : ℕ) → relation_length a b ≤ 2
 relation_two a b = grind (arith, nat_tests)
 
-relation_none : (a : ℕ) → relation_of a 0 ≤ 1
+relation_none : (a : ℕ) → relation_length a 0 ≤ 1
 relation_none a = grind (arith, nat_tests)
 
 relation_most : (t : Text) → leaf_width Atoms leaf.Relation t ≤ length t

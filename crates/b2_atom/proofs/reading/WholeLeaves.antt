@@ -3,7 +3,7 @@ use Rattle.std.proofs.Common.{◌≡◌, ℕ, zero, suc, ◌+◌, ◌-◌, ◌*�
 use Rattle.std.proofs.lemmas.Bool.Decides.{nat_tests}
 use Rattle.b2_base.specs.Lexical.{capped_value, digits_width, first, is_digit, is_printable}
 use Rattle.b2_atom.specs.Words.{Text, kept_byte}
-use Rattle.b2_atom.specs.Leaves.{number_width, number_width_by, mantissa_of, mantissa_width, sign_width, exponent_of, exponent_width, one_more, signed_number_width, literal_width, until_quote, small_width, slot_width, relation_of, relation_width, ends_image, until_parenthesis, image_width}
+use Rattle.b2_atom.specs.Leaves.{number_width, number_width_by, mantissa_of, mantissa_width, sign_width, exponent_of, exponent_width, one_more, signed_number_width, literal_width, until_quote, small_width, slot_width, relation_length, relation_width, ends_image, until_parenthesis, image_width}
 use Rattle.b2_atom.specs.declared.words.Origin.{Origin}
 use Rattle.b2_atom.specs.declared.words.Origin.TheVariants.{Program, Immediate, Atoms}
 use Rattle.b2_atom.proofs.typed.Widths.{get_front, get_none, drop_front, small_more, slot_more, number_parts, signed_parts, one_more_suc}
@@ -328,7 +328,7 @@ image_back o a w x h =
     ∙ ap (λ (b : Bool). if not (a == 32) && b then until_parenthesis o (u ++ x) + 1 else 0) (get_back 41 u x (until_parenthesis o (u ++ x)) less)
     ∙ h
 
-relation_one : (a n : ℕ) → relation_of a n ≡ 1 → relation_of a 0 ≡ 1
+relation_one : (a n : ℕ) → relation_length a n ≡ 1 → relation_length a 0 ≡ 1
 relation_one a n h = grind (arith, nat_tests)
 
 pub relation_back : (a : ℕ) (w x : Text) → relation_width (a ∷ (w ++ x)) ≡ suc (length w) → relation_width (a ∷ w) ≡ suc (length w)
@@ -336,10 +336,10 @@ relation_back a [] x h = relation_one a (get_or x 0 0) h
 relation_back a (b ∷ []) x h = h
 relation_back a (b ∷ c ∷ w) x h = absurd (relation_most a b (length w) h)
 
-relation_kept : (o : Origin) (a b : ℕ) → relation_of (kept_byte o a) (kept_byte o b) ≡ relation_of a b
+relation_kept : (o : Origin) (a b : ℕ) → relation_length (kept_byte o a) (kept_byte o b) ≡ relation_length a b
 relation_kept o a b = λ i.
     if kept_fixed o a 60 refl i && (kept_fixed o b 61 refl i || kept_fixed o b 62 refl i) || (kept_fixed o a 62 refl i && kept_fixed o b 61 refl i) then 2
     else (if kept_fixed o a 60 refl i || (kept_fixed o a 62 refl i || kept_fixed o a 61 refl i) then 1 else 0)
 
 pub relation_kept_text : (o : Origin) (a : ℕ) (w : Text) → relation_width (map (kept_byte o) (a ∷ w)) ≡ relation_width (a ∷ w)
-relation_kept_text o a w = ap (relation_of (kept_byte o a)) (get_kept o w 0) ∙ relation_kept o a (get_or w 0 0)
+relation_kept_text o a w = ap (relation_length (kept_byte o a)) (get_kept o w 0) ∙ relation_kept o a (get_or w 0 0)

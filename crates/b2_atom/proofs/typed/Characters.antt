@@ -3,7 +3,7 @@ use Rattle.std.proofs.Common.{◌≡◌, ℕ, suc, ◌+◌, ◌<◌, Bool, true,
 use Rattle.std.proofs.lemmas.Bool.Decides.{nat_tests}
 use Rattle.b2_base.specs.Lexical.{first, is_digit, is_hex_digit, is_letter, upper}
 use Rattle.b2_atom.specs.Words.{Text, kept_byte, ahead}
-use Rattle.b2_atom.specs.Leaves.{function_name_width, hex_pair_width, hex_digit_width, address_width, relation_of, relation_width, ends_image, until_parenthesis, image_width}
+use Rattle.b2_atom.specs.Leaves.{function_name_width, hex_pair_width, hex_digit_width, address_width, relation_length, relation_width, ends_image, until_parenthesis, image_width}
 use Rattle.b2_atom.specs.declared.words.Origin.{Origin}
 use Rattle.b2_atom.specs.declared.words.Origin.TheVariants.{Program, Immediate, Atoms}
 use Rattle.b2_atom.proofs.Booleans.{and_left, and_right, false_true}
@@ -85,14 +85,14 @@ function_name_more o a w x h letter =
 abbrev pub ends_relation : ℕ → Bool
 ends_relation n = not (n == 61 || n == 62)
 
-relation_one : (a n : ℕ) → ends_relation n ≡ true → relation_of a 0 ≡ 1 → relation_of a n ≡ 1
+relation_one : (a n : ℕ) → ends_relation n ≡ true → relation_length a 0 ≡ 1 → relation_length a n ≡ 1
 relation_one a n stop h = grind (arith, nat_tests)
 
-pub relation_most : (a b n : ℕ) → relation_of a b ≡ suc (suc (suc n)) → ⊥
+pub relation_most : (a b n : ℕ) → relation_length a b ≡ suc (suc (suc n)) → ⊥
 relation_most a b n h = grind (arith, nat_tests)
 
 pub relation_more : (a : ℕ) (w x : Text) → relation_width (a ∷ w) ≡ suc (length w) → ends_relation (first x) ≡ true → relation_width (a ∷ (w ++ x)) ≡ suc (length w)
-relation_more a [] x h stop = ap (relation_of a) (get_first x) ∙ relation_one a (first x) stop h
+relation_more a [] x h stop = ap (relation_length a) (get_first x) ∙ relation_one a (first x) stop h
 relation_more a (b ∷ []) x h stop = h
 relation_more a (b ∷ c ∷ w) x h stop = absurd (relation_most a b (length w) h)
 

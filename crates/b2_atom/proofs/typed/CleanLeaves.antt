@@ -3,7 +3,7 @@ use Rattle.std.proofs.Common.{◌≡◌, ℕ, zero, suc, ◌+◌, ◌<◌, ◌�
 use Rattle.std.proofs.lemmas.Bool.Decides.{nat_tests}
 use Rattle.b2_base.specs.Lexical.{all_printable, capped_value, digits_width, is_digit, is_hex_digit, is_letter, is_printable, upper}
 use Rattle.b2_atom.specs.Words.{Text}
-use Rattle.b2_atom.specs.Leaves.{number_width, mantissa_of, mantissa_width, sign_width, exponent_of, exponent_width, one_more, leaf_width, until_quote, relation_of, ends_image, until_parenthesis}
+use Rattle.b2_atom.specs.Leaves.{number_width, mantissa_of, mantissa_width, sign_width, exponent_of, exponent_width, one_more, leaf_width, until_quote, relation_length, ends_image, until_parenthesis}
 use Rattle.b2_atom.specs.declared.words.Origin.TheVariants.{Atoms}
 use Rattle.b2_atom.specs.declared.forms.Leaf.{Leaf}
 use Rattle.b2_atom.specs.declared.forms.Leaf.TheVariants as leaf
@@ -223,7 +223,7 @@ small_clean a w h =
 relation_same : (b : ℕ) → (b == 60 || (b == 61 || b == 62)) ≡ true → is_clean b ≡ true
 relation_same b h = grind (arith, nat_tests)
 
-relation_second : (a b : ℕ) → relation_of a b ≡ 2 → (b == 60 || (b == 61 || b == 62)) ≡ true
+relation_second : (a b : ℕ) → relation_length a b ≡ 2 → (b == 60 || (b == 61 || b == 62)) ≡ true
 relation_second a b h = grind (arith, nat_tests)
 
 relation_clean : (a : ℕ) (w : Text) → leaf_width Atoms leaf.Relation (a ∷ w) ≡ suc (length w) → all_clean (a ∷ w) ≡ true

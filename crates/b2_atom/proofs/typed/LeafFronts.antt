@@ -3,7 +3,7 @@ use Rattle.std.proofs.Common.{◌≡◌, ℕ, suc, ◌+◌, Bool, true, false, n
 use Rattle.std.proofs.lemmas.Bool.Decides.{nat_tests}
 use Rattle.b2_base.specs.Lexical.{capped_value, digits_width, first, is_digit, is_hex_digit, is_letter}
 use Rattle.b2_atom.specs.Words.{Text}
-use Rattle.b2_atom.specs.Leaves.{number_width, number_width_by, mantissa_of, mantissa_width, one_more, leaf_width, until_quote, relation_of}
+use Rattle.b2_atom.specs.Leaves.{number_width, number_width_by, mantissa_of, mantissa_width, one_more, leaf_width, until_quote, relation_length}
 use Rattle.b2_atom.specs.declared.words.Origin.TheVariants.{Atoms}
 use Rattle.b2_atom.specs.declared.forms.Leaf.{Leaf}
 use Rattle.b2_atom.specs.declared.forms.Leaf.TheVariants as leaf
@@ -65,7 +65,7 @@ shape_front a (b ∷ c ∷ d ∷ w) h = absurd h
 letter_only : (a : ℕ) → (is_letter a || a == 64) ≡ true → (a == 64) ≡ false → is_letter a ≡ true
 letter_only a h k = grind (arith, nat_tests)
 
-pub relation_front : (a b n : ℕ) → relation_of a b ≡ suc n → (a == 60 || (a == 61 || a == 62)) ≡ true
+pub relation_front : (a b n : ℕ) → relation_length a b ≡ suc n → (a == 60 || (a == 61 || a == 62)) ≡ true
 relation_front a b n h = grind (arith, nat_tests)
 
 pub turned : (b : Bool) → b ≡ false → not b ≡ true

@@ -3,7 +3,7 @@ use Rattle.b2_atom.specs.Tree.{seen_sink, emitted}
 use Rattle.b2_atom.specs.declared.forms.Item.{Item}
 use Rattle.std.proofs.lemmas.Grind.{common_steps}
 use Rattle.b2_atom.specs.Grammar.{starts, item, item_of_part, level, deep, statement_within, read_item}
-use Rattle.b2_atom.proofs.reading.Binds.{emitted-under, next_item, no_item, row_end, row_of_part, once_more, once_failed, many_end, many_out, nest_more, takes_same, emitted-silent, statement_ok, statement_err}
+use Rattle.b2_atom.proofs.reading.Binds.{emitted-under, next_item, no_item, row_end, row_of_part, once_more, once_failed, many_end, many_out, nest_more, takes_same, emitted-bytes, statement_ok, statement_err}
 use Rattle.b2_atom.proofs.walk.+walk.Goals as goal
 
 pub part-returns-then-level-eq0 : goal.part-returns-then-level-eq0
@@ -14,7 +14,7 @@ pub part-loop-wanted-init : goal.part-loop-wanted-init
 part-loop-wanted-init t c = first_of (search (rules, row_of_part), grind (arith, common_steps, row_of_part))
 
 pub part-loop-wanted-preserved : goal.part-loop-wanted-preserved
-part-loop-wanted-preserved t c = first_of (search (rules, next_item, emitted-silent), grind (arith, common_steps, next_item, emitted-silent))
+part-loop-wanted-preserved t c = first_of (search (rules, next_item, emitted-bytes), grind (arith, common_steps, next_item, emitted-bytes))
 
 pub part-returns-in_err-left : goal.part-returns-in_err-left
 part-returns-in_err-left t c = first_of (search (rules, no_item), grind (arith, common_steps, no_item))
@@ -47,7 +47,7 @@ unfolding item
 take_item-returns-else-begins-2 t c = first_of (search (rules, emitted-under), grind (arith, common_steps, emitted-under))
 
 pub many-loop-preserved : goal.many-loop-preserved
-many-loop-preserved t c = first_of (search (rules, once_more, emitted-silent), grind (arith, common_steps, once_more, emitted-silent))
+many-loop-preserved t c = first_of (search (rules, once_more, emitted-bytes), grind (arith, common_steps, once_more, emitted-bytes))
 
 pub many-returns-in_err-left : goal.many-returns-in_err-left
 many-returns-in_err-left t c = first_of (search (rules, once_failed), grind (arith, common_steps, once_failed))
