@@ -10,7 +10,7 @@ use Rattle.b2_pack.specs.Rows.{row_bytes, row_fits, row_length}
 use Rattle.b2_pack.specs.declared.specification.Pair.{Pair}
 use Rattle.b2_pack.specs.declared.specification.Pair.TheVariants as pair
 use Rattle.b2_pack.specs.Specification.{field_width}
-use Rattle.b2_pack.specs.FieldValues.{value_code, value_bytes}
+use Rattle.b2_pack.specs.FieldValues.{value_code, bytes_in_field}
 use Rattle.b2_pack.specs.Packing.{Placed, placed_from, lacks_room, written_at, or_code, values_code, with_values, numbers_code, numbers_bytes, with_front}
 
 -- a buffer with numbers in rows, one after another from a place on
@@ -52,7 +52,7 @@ with-done [] buffer = refl
 with-done (p ∷ ps) buffer = refl
 
 pub with-here : (ps qs : List Placed) (p : Placed) (v : Value) (vs : List Value) (buffer : List ℕ) → ps ≡ p ∷ qs
-    → with_values ps (v ∷ vs) buffer ≡ with_values qs vs (written_at p.start (value_bytes p.field v) buffer)
+    → with_values ps (v ∷ vs) buffer ≡ with_values qs vs (written_at p.start (bytes_in_field p.field v) buffer)
 with-here ps qs p v vs buffer e = ap (λ rs. with_values rs (v ∷ vs) buffer) e
 
 pub numbers-short : (row : Row) (at : ℕ) (x : Number) (xs : List Number) (room : ℕ) → room < at + row_length row → numbers_code row at (x ∷ xs) room ≡ Some 70

@@ -13,7 +13,8 @@ use Rattle.b2_pack.specs.declared.specification.Field.{Field}
 use Rattle.b2_pack.specs.declared.specification.Field.TheVariants as field
 use Rattle.b2_pack.specs.Rows.{row_bytes, row_fits, row_number, row_length}
 use Rattle.b2_pack.specs.Specification.{digits_row, field_width}
-use Rattle.b2_pack.specs.FieldValues.{right_aligned, text_number, number_or, as_value, value_code, value_bytes, value_in}
+use Rattle.b2_dectext.specs.FieldParts.{right_aligned}
+use Rattle.b2_pack.specs.FieldValues.{text_number, number_or, as_value, value_code, bytes_in_field, value_in}
 use Rattle.b2_pack.specs.Packing.{Placed, values_code, numbers_bytes}
 use Rattle.b2_pack.specs.Unpacking.{before_items, values_in, numbers_in}
 use Rattle.b2_pack.specs.Laws.{Holds, IsExact, AreExact, kept, all_kept, value_kind, AreSpelled, ReadsAs}
@@ -69,7 +70,7 @@ text-back width x h =
     ∙ ap (λ b. if b then number_or 73 (number_read text) else Err 73) (eq-eqb (number_len text) (length text) h.whole)
     ∙ ap (number_or 73) h.number
 
-pub value-back : (f : Field) (v : Value) → value_code f v ≡ None → IsExact f v → value_in f (value_kind v) (value_bytes f v) ≡ Ok (kept f v)
+pub value-back : (f : Field) (v : Value) → value_code f v ≡ None → IsExact f v → value_in f (value_kind v) (bytes_in_field f v) ≡ Ok (kept f v)
 value-back (field.Text w) (value.Number x) none exact = ap as_value (text-back w x exact)
 value-back (field.Text w) (value.Alpha a) none exact = absurd (never 74 none)
 value-back (field.Digits d w) (value.Number x) none exact = ap as_value (row-back (digits_row d w) x (fits-if (row_fits (digits_row d w) x) 71 none) exact)

@@ -17,7 +17,7 @@ use Rattle.b2_pack.specs.declared.rows.SignNibble.{SignNibble}
 use Rattle.b2_pack.specs.declared.rows.SignNibble.TheVariants.{Absent, Before, After}
 use Rattle.b2_pack.specs.declared.rows.Row.{Row}
 use Rattle.b2_pack.specs.Nibbles.{nibbles, paired, last_digits, decimal_after, is_decimal_nibble}
-use Rattle.b2_pack.specs.Rows.{cut_size, row_fits, sign_before, sign_after, row_nibbles, row_bytes, digits_in, are_digits, has_sign, is_below_zero, within_range, nibbles_number, row_number}
+use Rattle.b2_pack.specs.Rows.{cut_size, row_fits, sign_before, sign_after, row_nibbles, row_bytes, digits_in, are_digits, ends_in_sign, is_below_zero, within_range, nibbles_number, row_number}
 use Rattle.b2_pack.specs.Laws.{has_its_sign, IsSpelled}
 use Rattle.b2_pack.proofs.NibbleLemmas.{last_digits-length}
 
@@ -111,7 +111,7 @@ sign-there zero (d ∷ ds) rest s e = absurd (omega arith)
 sign-there (suc n) [] rest s e = absurd (omega arith)
 sign-there (suc n) (d ∷ ds) rest s e = sign-there n ds rest s (omega arith)
 
-sign-passes : (s : SignNibble) (n : ℕ) (neg : Bool) (ds rest : List ℕ) → length ds ≡ n → has_sign s n (sign_before s neg ++ (ds ++ sign_after s neg) ++ rest) ≡ true
+sign-passes : (s : SignNibble) (n : ℕ) (neg : Bool) (ds rest : List ℕ) → length ds ≡ n → ends_in_sign s n (sign_before s neg ++ (ds ++ sign_after s neg) ++ rest) ≡ true
 sign-passes Absent n neg ds rest e = refl
 sign-passes Before n neg ds rest e = refl
 sign-passes After n true ds rest e = rw (sign-there n ds rest 13 e) refl

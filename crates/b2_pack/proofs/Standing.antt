@@ -15,7 +15,7 @@ use Rattle.b2_pack.specs.declared.specification.Field.TheVariants as field
 use Rattle.b2_pack.specs.declared.specification.Pair.{Pair}
 use Rattle.b2_pack.specs.declared.specification.Pair.TheVariants as pair
 use Rattle.b2_pack.specs.Specification.{pair_of, ends_pairs, before_pairs, pairs_of, field_width, digits_row}
-use Rattle.b2_pack.specs.FieldValues.{value_code, value_bytes}
+use Rattle.b2_pack.specs.FieldValues.{value_code, bytes_in_field}
 use Rattle.b2_pack.specs.Packing.{Placed, placed_from, placed_fields, written_at, values_code, with_values}
 use Rattle.b2_pack.specs.Laws.{Holds, is_covered, Packs}
 use Rattle.b2_pack.proofs.RowLemmas.{row_bytes-length}
@@ -82,7 +82,7 @@ pairs-length : (k n : ℕ) → length (pairs k n) ≡ k
 pairs-length zero n = refl
 pairs-length (suc k) n = ap suc (pairs-length k n)
 
-value-width : (f : Field) (v : Value) → 1 ≤ field_width f → value_code f v ≡ None → length (value_bytes f v) ≡ field_width f
+value-width : (f : Field) (v : Value) → 1 ≤ field_width f → value_code f v ≡ None → length (bytes_in_field f v) ≡ field_width f
 value-width (field.Text w) (value.Number x) least none =
     let fits : length (without_spaces x) ≤ w = leb-true (length (without_spaces x)) w (fits-if (nat_le (length (without_spaces x)) w) 71 none) in
     omega (arith, length-append (replicate (w - length (without_spaces x)) byte.blank) (without_spaces x), length-replicate (w - length (without_spaces x)) byte.blank)
@@ -173,7 +173,7 @@ stands (pair.Holding f ∷ ps) at (v ∷ vs) old widths none =
     let qs : List Placed = placed_from (at + field_width f) ps in
     let inside : at + field_width f ≤ length old = inside-room p qs v vs (length old) none in
     let both = sym (code-here (p ∷ qs) qs p v vs (length old) refl inside) ∙ none in
-    let bytes : List ℕ = value_bytes f v in
+    let bytes : List ℕ = bytes_in_field f v in
     let wide : length bytes ≡ field_width f = value-width f v widths.0 (code-fits (value_code f v) (values_code qs vs (length old)) both) in
     let room : at + length bytes ≤ length old = omega arith in
     let next : List ℕ = written_at at bytes old in

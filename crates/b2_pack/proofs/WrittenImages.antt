@@ -5,7 +5,8 @@ use Rattle.std.proofs.lemmas.List.{append-nil, drop_at, length-replicate}
 use Rattle.std.specs.List.{prefix_len}
 use Rattle.b2_pack.specs.declared.rows.SignNibble.TheVariants.{Absent, Before}
 use Rattle.b2_pack.specs.declared.rows.Row.{Row}
-use Rattle.b2_pack.specs.Images.{is_hash, begins_signed, after_sign, decimals_in, image_row_of, image_row, sign_mark, marks, decimal_marks}
+use Rattle.b2_dectext.specs.FieldParts.{is_hash, after_sign}
+use Rattle.b2_pack.specs.Images.{begins_signed, decimals_in, image_row_of, image_row, sign_mark, marks, decimal_marks}
 use Rattle.b2_pack.specs.Laws.{IsImage}
 
 prefix-marks : (n : ℕ) (t : List ℕ) → prefix_len is_hash t ≡ 0 → prefix_len is_hash (marks n ++ t) ≡ n

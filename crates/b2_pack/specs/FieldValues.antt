@@ -1,6 +1,5 @@
 -- One value in one field.
-use Rattle.std.specs.Prelude.{ℕ, ◌-◌, ◌==◌, nat_le, if◌then◌else◌, List, [], ◌++◌, length, take, replicate, Option, Some, None, Result, Ok, Err}
-use Rattle.b2_base.specs.Byte as byte
+use Rattle.std.specs.Prelude.{ℕ, ◌==◌, nat_le, if◌then◌else◌, List, [], length, Option, Some, None, Result, Ok, Err}
 use Rattle.b2_base.specs.Lexical.{skip_blanks}
 use Rattle.b2_base.specs.declared.codes.TheConstants.{X71_DOES_NOT_FIT, X73_NOT_A_NUMBER, X74_OTHER_KIND, X76_LOCATOR_OR_FIELD}
 use Rattle.b2_dec.specs.Number.{Number}
@@ -14,16 +13,10 @@ use Rattle.b2_dectext.specs.Printed.{without_spaces}
 use Rattle.b2_pack.specs.declared.specification.Field.{Field}
 use Rattle.b2_pack.specs.declared.specification.Field.TheVariants as field
 use Rattle.b2_pack.specs.Rows.{row_bytes, row_fits, row_number}
+use Rattle.b2_alpha.specs.Values.{padded}
+use Rattle.b2_dectext.specs.FieldParts.{right_aligned}
 use Rattle.b2_pack.specs.Specification.{digits_row}
 use Rattle.b2_pack.specs.PackedNumbers.{unpacked}
-
--- a text at the right end of a width
-abbrev pub right_aligned : ℕ → List ℕ → List ℕ
-right_aligned width text = replicate (width - length text) byte.blank ++ text
-
--- a text at the left end of a width, cut there
-abbrev pub left_aligned : ℕ → List ℕ → List ℕ
-left_aligned width text = take width text ++ replicate (width - length text) byte.blank
 
 -- The code where a value isn't packed into a field: X74 for one of another kind, X71 for a number that doesn't fit.
 abbrev pub value_code : Field → Value → Option ℕ
@@ -37,15 +30,15 @@ value_code (field.Alpha width) (value.Number x) = Some X74_OTHER_KIND
 value_code (field.Alpha width) (value.Alpha a) = None
 
 -- The bytes of a value in a field, where it is of the field's kind.
-abbrev pub value_bytes : Field → Value → List ℕ
-value_bytes (field.Text width) (value.Number x) = right_aligned width (without_spaces x)
-value_bytes (field.Text width) (value.Alpha a) = []
-value_bytes (field.Digits decimals width) (value.Number x) = row_bytes (digits_row decimals width) x
-value_bytes (field.Digits decimals width) (value.Alpha a) = []
-value_bytes field.Packed (value.Number x) = packed x
-value_bytes field.Packed (value.Alpha a) = []
-value_bytes (field.Alpha width) (value.Number x) = []
-value_bytes (field.Alpha width) (value.Alpha a) = left_aligned width a
+abbrev pub bytes_in_field : Field → Value → List ℕ
+bytes_in_field (field.Text width) (value.Number x) = right_aligned width (without_spaces x)
+bytes_in_field (field.Text width) (value.Alpha a) = []
+bytes_in_field (field.Digits decimals width) (value.Number x) = row_bytes (digits_row decimals width) x
+bytes_in_field (field.Digits decimals width) (value.Alpha a) = []
+bytes_in_field field.Packed (value.Number x) = packed x
+bytes_in_field field.Packed (value.Alpha a) = []
+bytes_in_field (field.Alpha width) (value.Number x) = []
+bytes_in_field (field.Alpha width) (value.Alpha a) = padded width a
 
 -- the number, or a code where there is none
 abbrev pub number_or : ℕ → Option Number → Result Number ℕ

@@ -3,18 +3,13 @@ use Rattle.std.specs.Prelude.{ℕ, zero, suc, ◌+◌, ◌==◌, ◌&&◌, ◌||
 use Rattle.std.specs.List.{prefix_len}
 use Rattle.b2_base.specs.Byte as byte
 use Rattle.b2_base.specs.Lexical.{first}
+use Rattle.b2_dectext.specs.FieldParts.{is_hash, after_sign}
 use Rattle.b2_pack.specs.declared.rows.SignNibble.TheVariants.{Absent, Before}
 use Rattle.b2_pack.specs.declared.rows.Row.{Row}
-
-abbrev pub is_hash : ℕ → Bool
-is_hash b = b == byte.number_sign
 
 -- whether a text begins with a sign
 abbrev pub begins_signed : List ℕ → Bool
 begins_signed text = first text == byte.plus || first text == byte.minus
-
-abbrev pub after_sign : List ℕ → List ℕ
-after_sign text = if begins_signed text then drop 1 text else text
 
 -- how many `#` follow a point, where a text is nothing else; none where it is empty
 abbrev pub decimals_in : List ℕ → Option ℕ

@@ -17,7 +17,8 @@ use Rattle.b2_pack.specs.Rows.{row_fits, row_bytes, row_number}
 use Rattle.b2_pack.specs.declared.specification.Pair.{Pair}
 use Rattle.b2_pack.specs.Images.{sign_mark, marks, decimal_marks, image_row}
 use Rattle.b2_pack.specs.Specification.{digits_row, field_width, pair_bytes, pair_width, pair_decimals, is_ending, is_specification, pairs_of}
-use Rattle.b2_pack.specs.FieldValues.{value_code, value_bytes, value_in, left_aligned}
+use Rattle.b2_pack.specs.FieldValues.{value_code, bytes_in_field, value_in}
+use Rattle.b2_alpha.specs.Values.{padded}
 use Rattle.b2_pack.specs.Packing.{Placed, values_code, numbers_bytes}
 use Rattle.b2_pack.specs.Unpacking.{values_in, numbers_in}
 
@@ -25,7 +26,7 @@ use Rattle.b2_pack.specs.Unpacking.{values_in, numbers_in}
 abbrev pub Holds : List Placed → List Value → List ℕ → Type 0
 Holds ps [] buffer = Unit {0}
 Holds [] (v ∷ vs) buffer = ⊥
-Holds (p ∷ ps) (v ∷ vs) buffer = (take (field_width p.field) (drop p.start buffer) ≡ value_bytes p.field v) × Holds ps vs buffer
+Holds (p ∷ ps) (v ∷ vs) buffer = (take (field_width p.field) (drop p.start buffer) ≡ bytes_in_field p.field v) × Holds ps vs buffer
 
 -- whether the field of a value covers a place
 abbrev pub is_covered : List Placed → List Value → ℕ → Bool
@@ -85,7 +86,7 @@ IsExact f (value.Alpha a) = Unit {0}
 -- what comes back of a value: a number as it is, bytes padded or cut to the width
 abbrev pub kept : Field → Value → Value
 kept f (value.Number x) = value.Number x
-kept f (value.Alpha a) = value.Alpha (left_aligned (field_width f) a)
+kept f (value.Alpha a) = value.Alpha (padded (field_width f) a)
 
 abbrev pub value_kind : Value → Kind
 value_kind (value.Number x) = kind.Number
@@ -93,7 +94,7 @@ value_kind (value.Alpha a) = kind.Alpha
 
 -- Such a value comes back out of its field.
 abbrev pub FieldsKeepValues : Type 0
-FieldsKeepValues = (f : Field) (v : Value) → value_code f v ≡ None → IsExact f v → value_in f (value_kind v) (value_bytes f v) ≡ Ok (kept f v)
+FieldsKeepValues = (f : Field) (v : Value) → value_code f v ≡ None → IsExact f v → value_in f (value_kind v) (bytes_in_field f v) ≡ Ok (kept f v)
 
 abbrev pub AreExact : List Placed → List Value → Type 0
 AreExact ps [] = Unit {0}

@@ -10,7 +10,7 @@ use Rattle.b2_pack.specs.declared.specification.Pair.{Pair}
 use Rattle.b2_pack.specs.declared.specification.Pair.TheVariants as pair
 use Rattle.b2_pack.specs.Rows.{row_bytes, row_fits, row_length}
 use Rattle.b2_pack.specs.Specification.{pairs_of, is_specification, field_width, IsField}
-use Rattle.b2_pack.specs.FieldValues.{value_code, value_bytes}
+use Rattle.b2_pack.specs.FieldValues.{value_code, bytes_in_field}
 
 -- a field and where it begins in the buffer
 pub record Placed : Type 0 where
@@ -46,7 +46,7 @@ written_at start bytes buffer = take start buffer ++ (bytes ++ drop (start + len
 abbrev pub with_values : List Placed → List Value → List ℕ → List ℕ
 with_values ps [] buffer = buffer
 with_values [] (v ∷ vs) buffer = buffer
-with_values (p ∷ ps) (v ∷ vs) buffer = with_values ps vs (written_at p.start (value_bytes p.field v) buffer)
+with_values (p ∷ ps) (v ∷ vs) buffer = with_values ps vs (written_at p.start (bytes_in_field p.field v) buffer)
 
 -- the first code of several
 abbrev pub or_code : Option ℕ → Option ℕ → Option ℕ

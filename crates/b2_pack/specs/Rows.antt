@@ -64,10 +64,10 @@ are_digits Before digits ns = nat_le (first ns) 1 && list_all is_decimal_nibble 
 are_digits After digits ns = list_all is_decimal_nibble (take digits ns)
 
 -- whether the sign after the digits is C or D
-abbrev pub has_sign : SignNibble → ℕ → List ℕ → Bool
-has_sign Absent digits ns = true
-has_sign Before digits ns = true
-has_sign After digits ns = (get_or ns digits 0 == PLUS_NIBBLE) || (get_or ns digits 0 == MINUS_NIBBLE)
+abbrev pub ends_in_sign : SignNibble → ℕ → List ℕ → Bool
+ends_in_sign Absent digits ns = true
+ends_in_sign Before digits ns = true
+ends_in_sign After digits ns = (get_or ns digits 0 == PLUS_NIBBLE) || (get_or ns digits 0 == MINUS_NIBBLE)
 
 -- whether the sign is that of a number below zero
 abbrev pub is_below_zero : SignNibble → ℕ → List ℕ → Bool
@@ -84,7 +84,7 @@ within_range (Err code) = Err X76_LOCATOR_OR_FIELD
 abbrev pub nibbles_number : Row → List ℕ → Result Number ℕ
 nibbles_number row ns =
     if not (are_digits row.sign row.digits ns) then Err X75_NOT_DECIMAL
-    else (if not (has_sign row.sign row.digits ns) then Err X76_LOCATOR_OR_FIELD
+    else (if not (ends_in_sign row.sign row.digits ns) then Err X76_LOCATOR_OR_FIELD
     else within_range (rnd Round (is_below_zero row.sign row.digits ns) (decimal_after 0 (digits_in row.sign row.digits ns)) (10 ^ row.decimals)))
 
 abbrev pub row_number : Row → List ℕ → Result Number ℕ

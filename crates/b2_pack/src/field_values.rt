@@ -3,12 +3,14 @@ ghost use Rattle.std.specs.Prelude.{◌≡◌, ◌≤◌, None, Some, length, if
 ghost use Rattle.std.specs.Result.{result_err};
 ghost use Rattle.b2_dec.specs.Number.{Number};
 ghost use Rattle.b2_dectext.specs.Printed.{printed, without_spaces};
+ghost use Rattle.b2_dectext.specs.FieldParts.{right_aligned};
 ghost use Rattle.b2_pack.specs.Specification as specification;
 ghost use Rattle.b2_pack.specs.PackedNumbers as packed;
 ghost use Rattle.b2_pack.specs.FieldValues as spec;
 
 use crate::rows::{put_row, row_fits, row_number};
 use crate::specification::{Field, digits_row};
+use b2_alpha::assign;
 use b2_base::Code;
 use b2_base::codes::{X71_DOES_NOT_FIT, X73_NOT_A_NUMBER, X74_OTHER_KIND, X76_LOCATOR_OR_FIELD};
 use b2_base::lexical::{dropped, front, skip_blanks};
@@ -67,20 +69,11 @@ pub(crate) fn check_value(field: Field, value: &Value) -> Result<(), Code>
 /// Writes bytes at the right end, with blanks before them.
 fn put_right(bytes: &[u8], to: &mut [u8])
     requires { length bytes.now ≤ length to.old }
-    ensures { to.new ≡ spec.right_aligned (length to.old) bytes.now }
+    ensures { to.new ≡ right_aligned (length to.old) bytes.now }
 {
     let front = to.len() - bytes.len();
     to[..front].fill(b' ');
     to[front..].copy_from_slice(bytes);
-}
-
-/// Writes bytes at the left end, cut or with blanks after them.
-fn put_left(bytes: &[u8], to: &mut [u8])
-    ensures { to.new ≡ spec.left_aligned (length to.old) bytes.now }
-{
-    let count = bytes.len().min(to.len());
-    to[..count].copy_from_slice(&bytes[..count]);
-    to[count..].fill(b' ');
 }
 
 /// Writes a value into the bytes of a field that it fits.
@@ -88,11 +81,11 @@ pub(crate) fn put_value(field: Field, value: &Value, to: &mut [u8])
     requires legal { specification.IsField field }
     requires fits { spec.value_code field value.now ≡ None }
     requires width { length to.old ≡ specification.field_width field }
-    ensures { to.new ≡ spec.value_bytes field value.now }
+    ensures { to.new ≡ spec.bytes_in_field field value.now }
 {
     match value {
         Value::Number(x) => put_number_in(field, *x, to),
-        Value::Alpha(bytes) => put_left(bytes.bytes(), to),
+        Value::Alpha(bytes) => assign(to, bytes.bytes()),
     }
 }
 
@@ -101,7 +94,7 @@ fn put_number_in(field: Field, x: Dec, to: &mut [u8])
     requires legal { specification.IsField field }
     requires fits { spec.value_code field (Value.Number x) ≡ None }
     requires width { length to.old ≡ specification.field_width field }
-    ensures { to.new ≡ spec.value_bytes field (Value.Number x) }
+    ensures { to.new ≡ spec.bytes_in_field field (Value.Number x) }
 {
     match field {
         Field::Text(_) => put_right(number_text(x).bytes(), to),

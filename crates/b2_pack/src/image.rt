@@ -1,29 +1,9 @@
 // The image of PACK.
 ghost use Rattle.std.specs.Prelude.{◌≡◌, ◌<◌, ◌≤◌, IfSome, length};
-ghost use Rattle.std.specs.List.{prefix_len};
 ghost use Rattle.b2_pack.specs.Images as spec;
 
 use crate::rows::{Row, SignNibble};
-
-/// Whether a text begins with a sign, and what follows it.
-fn split_sign(text: &[u8]) -> (bool, &[u8])
-    ensures signed { result.0 ≡ spec.begins_signed text.now }
-    ensures rest { result.1.now ≡ spec.after_sign text.now }
-{
-    match text {
-        [b'+', rest @ ..] => (true, rest),
-        [b'-', rest @ ..] => (true, rest),
-        _ => (false, text),
-    }
-}
-
-/// How many `#` a text begins with.
-fn marks_len(text: &[u8]) -> usize
-    ensures count { result ≡ prefix_len spec.is_hash text.now }
-    ensures within { result ≤ length text.now }
-{
-    text.iter().take_while(|b| **b == b'#').count()
-}
+use b2_dectext::{Sign, marks_len, split_sign};
 
 /// How many `#` follow a point, where a text is nothing else; none where it is empty.
 fn decimals_in(text: &[u8]) -> Option<usize>
@@ -48,17 +28,17 @@ pub(crate) fn image_row(text: &[u8]) -> Option<Row>
     ensures digits { IfSome result (λ row. row.digits ≤ 13) }
     ensures decimals { IfSome result (λ row. row.decimals < row.digits) }
 {
-    let (signed, marks) = split_sign(text);
+    let (sign, marks) = split_sign(text);
     let whole = marks_len(marks);
     let decimals = decimals_in(&marks[whole..])?;
     if whole < 1 || whole > 13 || decimals > 13 - whole {
         return None;
     }
     Some(Row {
-        sign: if signed {
-            SignNibble::Before
-        } else {
+        sign: if sign == Sign::Unsigned {
             SignNibble::Absent
+        } else {
+            SignNibble::Before
         },
         digits: (whole + decimals) as u16,
         decimals: decimals as u8,

@@ -7,7 +7,7 @@
 //! of all this: what is packed comes back.
 //!
 //! Packing tests everything before it writes, and takes no memory; unpacking takes memory for what it gives alone.
-//! Stands on `b2_dec` and `b2_dectext`.
+//! Stands on `b2_dec`, on `b2_dectext` for what a field is made of and for rounding, and on `b2_alpha` for padding.
 #![tactic(auto)]
 
 mod field_values;

@@ -7,10 +7,8 @@ ghost use Rattle.b2_dectext.specs.Digits.{IsLeading};
 ghost use Rattle.b2_pack.specs.Nibbles as spec;
 
 use b2_base::Code;
-use b2_dec::{Dec, Mode, round_exact, round_whole_part};
-
-/// The number above the largest thirteen digits.
-const ABOVE: u64 = 10_000_000_000_000;
+use b2_dec::Dec;
+use b2_dectext::{Leading, rounded, with_digit};
 
 /// The nibble at a place, counted from 0; the high half of a byte comes first.
 pub(crate) fn nibble_at(bytes: &[u8], place: usize) -> u8
@@ -35,33 +33,6 @@ pub(crate) fn begins_decimal(bytes: &[u8], count: usize) -> bool
     true
 }
 
-/// The leading digits of a whole number, at most fourteen, and how many follow them.
-#[derive(Clone, Copy)]
-pub(crate) struct Leading {
-    digits: u64,
-    more: u16,
-}
-
-/// The leading digits where one more digit follows.
-fn with_digit(leading: Leading, digit: u8) -> Leading
-    requires decimal { digit < 10 }
-    requires fits { leading.more + 1 < 2 ^ 16 }
-    ensures value { (n : ℕ) → IsLeading n leading.digits leading.more → IsLeading (10 * n + digit) result.digits result.more }
-    ensures bound { result.more ≤ leading.more + 1 }
-{
-    if leading.digits < ABOVE {
-        Leading {
-            digits: leading.digits * 10 + digit as u64,
-            more: leading.more,
-        }
-    } else {
-        Leading {
-            digits: leading.digits,
-            more: leading.more + 1,
-        }
-    }
-}
-
 /// The leading digits of the number that the nibbles from a place on spell.
 fn leading_digits(bytes: &[u8], start: usize, count: u16) -> Leading
     requires within { start + count ≤ 2 * length bytes.now }
@@ -74,25 +45,6 @@ fn leading_digits(bytes: &[u8], start: usize, count: u16) -> Leading
         leading = with_digit(leading, nibble_at(bytes, start + done as usize));
     }
     leading
-}
-
-/// The number of a sign and the leading digits of a whole number, with `decimals` of all its digits after the point. It is
-/// rounded to thirteen digits, a half going away from zero. A code comes where it is too large.
-fn rounded(neg: bool, leading: Leading, decimals: u8) -> Result<Dec, Code>
-    requires few { leading.digits < 10 ^ 14 }
-    requires short { leading.more < 600 }
-    requires decimals { decimals ≤ 13 }
-    ensures { (n : ℕ) → IsLeading n leading.digits leading.more → result ≡ rnd Round neg n (10 ^ decimals) }
-{
-    if leading.digits == 0 {
-        return Ok(Dec::zero());
-    }
-    let place = 222 + leading.more as u32 - decimals as u32;
-    if leading.digits < ABOVE {
-        round_exact(neg, leading.digits as u128, place, Mode::Round)
-    } else {
-        round_whole_part(neg, leading.digits as u128, place, Mode::Round)
-    }
 }
 
 /// The number of a sign and `count` digits from a place on, with `decimals` of them after the point. It is rounded to
@@ -110,5 +62,11 @@ pub(crate) fn digits_number(
     requires decimals { decimals ≤ 13 }
     ensures { result ≡ rnd Round neg (spec.decimal_after 0 (take count (drop start (spec.nibbles bytes.now)))) (10 ^ decimals) }
 {
-    rounded(neg, leading_digits(bytes, start, count), decimals)
+    let leading = leading_digits(bytes, start, count);
+    rounded(
+        neg,
+        leading.digits,
+        222 + leading.more as u128,
+        decimals as u128,
+    )
 }

@@ -146,9 +146,9 @@ fn are_digits(row: Row, bytes: &[u8]) -> bool
 }
 
 /// Whether the sign after the digits of a row is C or D.
-fn has_sign(row: Row, bytes: &[u8]) -> bool
+fn ends_in_sign(row: Row, bytes: &[u8]) -> bool
     requires { length bytes.now ≡ spec.row_length row }
-    ensures { result ≡ spec.has_sign row.sign row.digits (nibbles bytes.now) }
+    ensures { result ≡ spec.ends_in_sign row.sign row.digits (nibbles bytes.now) }
 {
     if row.sign != SignNibble::After {
         return true;
@@ -180,7 +180,7 @@ pub(crate) fn row_number(row: Row, bytes: &[u8]) -> Result<Dec, Code>
     if !are_digits(row, bytes) {
         return Err(Code::known(X75_NOT_DECIMAL));
     }
-    if !has_sign(row, bytes) {
+    if !ends_in_sign(row, bytes) {
         return Err(Code::known(X76_LOCATOR_OR_FIELD));
     }
     let neg = is_below_zero(row, bytes);

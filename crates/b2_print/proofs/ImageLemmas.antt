@@ -5,9 +5,10 @@ use Rattle.std.specs.Option.{IfSome}
 use Rattle.std.proofs.lemmas.List.Sums.{prefix_len-le-length}
 use Rattle.b2_base.specs.Byte as byte
 use Rattle.b2_base.specs.Lexical.{first}
-use Rattle.b2_print.specs.declared.image.Sign.{Sign}
-use Rattle.b2_print.specs.declared.image.Sign.TheVariants.{Unsigned, Always, Negative}
-use Rattle.b2_print.specs.Images.{Field, sign_bytes, dollar_bytes, point_width, width_of, is_hash, is_place, leading_sign, after_sign, after_dollar, decimals_of, with_places, field_at, literal, field, piece_of, width_after_first, further_pieces, pieces_of}
+use Rattle.b2_dectext.specs.declared.field_parts.Sign.{Sign}
+use Rattle.b2_dectext.specs.declared.field_parts.Sign.TheVariants.{Unsigned, Always, Negative}
+use Rattle.b2_dectext.specs.FieldParts.{sign_bytes, is_hash, leading_sign, after_sign}
+use Rattle.b2_print.specs.Images.{Field, dollar_bytes, point_width, field_width, is_place, after_dollar, decimals_of, with_places, field_at, literal, field, piece_of, width_after_first, further_pieces, pieces_of}
 
 point-within_if : (test : Bool) (ds : List ℕ) (n : ℕ) → (test ≡ true → suc (length ds) ≡ n) → point_width (if test then prefix_len is_hash ds else 0) ≤ n
 point-within_if false ds n h = omega arith
@@ -40,13 +41,13 @@ dollar-within (b ∷ bs) = by_test (b == 36)
 
 places-within : (sign : Sign) (dollar : Bool) (text : List ℕ) (test : Bool) →
     IfSome (if test then Some (record { sign = sign; dollar = dollar; whole = take_while is_place text; decimals = decimals_of (drop (prefix_len is_place text) text) }) else None)
-    (λ f. width_of f ≤ length (sign_bytes sign) + length (dollar_bytes dollar) + length text)
+    (λ f. field_width f ≤ length (sign_bytes sign) + length (dollar_bytes dollar) + length text)
 places-within sign dollar text false = tt
 places-within sign dollar text true =
     let n = prefix_len is_place text in
     omega (arith, point-within (drop n text), length-drop n text, length-take n text, prefix_len-le-length is_place text)
 
-pub field-within : (text : List ℕ) → IfSome (field_at text) (λ f. width_of f ≤ length text)
+pub field-within : (text : List ℕ) → IfSome (field_at text) (λ f. field_width f ≤ length text)
 unfolding field_at
 field-within text =
     let body = after_dollar (after_sign text) in
@@ -56,18 +57,18 @@ field-within text =
 
 places-some : (sign : Sign) (dollar : Bool) (c : ℕ) (cs : List ℕ) (test : Bool) → (c == 35) ≡ test →
     IfSome (if test then Some (record { sign = sign; dollar = dollar; whole = take_while is_place (c ∷ cs); decimals = decimals_of (drop (prefix_len is_place (c ∷ cs)) (c ∷ cs)) }) else None)
-    (λ f. 0 < width_of f)
+    (λ f. 0 < field_width f)
 places-some sign dollar c cs false e = tt
 places-some sign dollar c cs true e =
     let first : is_place c ≡ true = ap (λ t. t || (c == 44)) e in
     let more : prefix_len is_place (c ∷ cs) ≡ 1 + prefix_len is_place cs = ap (λ t. cond t (1 + prefix_len is_place cs) 0) first in
     omega (arith, more, length-take (prefix_len is_place (c ∷ cs)) (c ∷ cs))
 
-with_places-some : (sign : Sign) (dollar : Bool) (text : List ℕ) → IfSome (with_places sign dollar text) (λ f. 0 < width_of f)
+with_places-some : (sign : Sign) (dollar : Bool) (text : List ℕ) → IfSome (with_places sign dollar text) (λ f. 0 < field_width f)
 with_places-some sign dollar [] = tt
 with_places-some sign dollar (c ∷ cs) = places-some sign dollar c cs (c == 35) refl
 
-pub field-some : (text : List ℕ) → IfSome (field_at text) (λ f. 0 < width_of f)
+pub field-some : (text : List ℕ) → IfSome (field_at text) (λ f. 0 < field_width f)
 unfolding field_at
 field-some text = with_places-some (leading_sign text) (first (after_sign text) == byte.dollar) (after_dollar (after_sign text))
 
@@ -97,8 +98,8 @@ drop-first (suc n) b bs h =
     ap (λ k. drop k bs) (sym less)
 
 -- a field, and the pieces of what follows it
-pub pieces_of-field : (b : ℕ) (bs : List ℕ) (f : Field) → field_at (b ∷ bs) ≡ Some f → pieces_of (b ∷ bs) ≡ field f ∷ pieces_of (drop (width_of f) (b ∷ bs))
+pub pieces_of-field : (b : ℕ) (bs : List ℕ) (f : Field) → field_at (b ∷ bs) ≡ Some f → pieces_of (b ∷ bs) ≡ field f ∷ pieces_of (drop (field_width f) (b ∷ bs))
 pieces_of-field b bs f e =
-    let some : 0 < width_of f = rw e at (field-some (b ∷ bs)) in
+    let some : 0 < field_width f = rw e at (field-some (b ∷ bs)) in
     pieces_of-cons b bs ∙ ap (λ o. piece_of b o ∷ further_pieces (width_after_first o) bs) e
-    ∙ ap (λ ps. field f ∷ ps) (further_pieces-drop (width_of f - 1) bs ∙ ap pieces_of (sym (drop-first (width_of f) b bs some)))
+    ∙ ap (λ ps. field f ∷ ps) (further_pieces-drop (field_width f - 1) bs ∙ ap pieces_of (sym (drop-first (field_width f) b bs some)))

@@ -5,7 +5,7 @@ use Rattle.b2_base.specs.declared.codes.TheConstants.{P42_IMAGE, X71_DOES_NOT_FI
 use Rattle.b2_dec.specs.Number.{Number}
 use Rattle.b2_dec.specs.declared.values.Value.TheVariants as value
 use Rattle.b2_dec.specs.declared.values.Value.{Value}
-use Rattle.b2_print.specs.Images.{Field, width_of, field_at, Piece, literal, field, pieces_of, fields, literals, IsFirstField}
+use Rattle.b2_print.specs.Images.{Field, field_width, field_at, Piece, literal, field, pieces_of, fields, literals, IsFirstField}
 use Rattle.b2_print.specs.Filling.{filled, fits, number_filled}
 use Rattle.b2_print.specs.Imaged.{line, further_lines, lacks_field, converted, converted_in}
 use Rattle.b2_print.proofs.ImageLemmas.{pieces_of-nil, pieces_of-literal, pieces_of-field, field-some}
@@ -15,11 +15,11 @@ pieces_of-drop_literal image at h e =
     let cons = drop_more image at 0 h in
     ap pieces_of cons ∙ pieces_of-literal (get_or image at 0) (drop (at + 1) image) (ap field_at (sym cons) ∙ e)
 
-pub pieces_of-drop_field : (image : List ℕ) (at : ℕ) (f : Field) → at < length image → field_at (drop at image) ≡ Some f → pieces_of (drop at image) ≡ field f ∷ pieces_of (drop (at + width_of f) image)
+pub pieces_of-drop_field : (image : List ℕ) (at : ℕ) (f : Field) → at < length image → field_at (drop at image) ≡ Some f → pieces_of (drop at image) ≡ field f ∷ pieces_of (drop (at + field_width f) image)
 pieces_of-drop_field image at f h e =
     let cons = drop_more image at 0 h in
     let here = pieces_of-field (get_or image at 0) (drop (at + 1) image) f (ap field_at (sym cons) ∙ e) in
-    ap pieces_of cons ∙ here ∙ ap (λ xs. field f ∷ pieces_of (drop (width_of f) xs)) (sym cons) ∙ ap (λ xs. field f ∷ pieces_of xs) (drop-drop (width_of f) at image)
+    ap pieces_of cons ∙ here ∙ ap (λ xs. field f ∷ pieces_of (drop (field_width f) xs)) (sym cons) ∙ ap (λ xs. field f ∷ pieces_of xs) (drop-drop (field_width f) at image)
 
 pub pieces_of-drop_all : (image : List ℕ) (at : ℕ) → length image ≤ at → pieces_of (drop at image) ≡ []
 pieces_of-drop_all image at h = ap pieces_of (drop_all at image h) ∙ pieces_of-nil
@@ -63,22 +63,22 @@ line-all_literals (x ∷ xs) values = ap (λ t. x ∷ t) (line-all_literals xs v
 
 first-inside : (image : List ℕ) (at : ℕ) (f : Field) → IsFirstField image at f → at < length image
 first-inside image at f h =
-    let some : 0 < width_of f = rw h.here at (field-some (drop at image)) in
+    let some : 0 < field_width f = rw h.here at (field-some (drop at image)) in
     omega (arith, some, h.inside)
 
-first-pieces : (image : List ℕ) (at : ℕ) (f : Field) → IsFirstField image at f → pieces_of image ≡ literals (take at image) ++ field f ∷ pieces_of (drop (at + width_of f) image)
+first-pieces : (image : List ℕ) (at : ℕ) (f : Field) → IsFirstField image at f → pieces_of image ≡ literals (take at image) ++ field f ∷ pieces_of (drop (at + field_width f) image)
 first-pieces image at f h = h.before ∙ ap (λ ps. literals (take at image) ++ ps) (pieces_of-drop_field image at f (first-inside image at f h) h.here)
 
-pub first-fields : (image : List ℕ) (at : ℕ) (f : Field) → IsFirstField image at f → fields (pieces_of image) ≡ f ∷ fields (pieces_of (drop (at + width_of f) image))
-first-fields image at f h = ap fields (first-pieces image at f h) ∙ fields-literals (take at image) (field f ∷ pieces_of (drop (at + width_of f) image))
+pub first-fields : (image : List ℕ) (at : ℕ) (f : Field) → IsFirstField image at f → fields (pieces_of image) ≡ f ∷ fields (pieces_of (drop (at + field_width f) image))
+first-fields image at f h = ap fields (first-pieces image at f h) ∙ fields-literals (take at image) (field f ∷ pieces_of (drop (at + field_width f) image))
 
 pub first-line : (image : List ℕ) (at : ℕ) (f : Field) → IsFirstField image at f → (v : Value) →
-    line (pieces_of image) (v ∷ []) ≡ take at image ++ (filled f v ++ line (pieces_of (drop (at + width_of f) image)) [])
-first-line image at f h v = ap (λ ps. line ps (v ∷ [])) (first-pieces image at f h) ∙ line-literals (take at image) (field f ∷ pieces_of (drop (at + width_of f) image)) (v ∷ [])
+    line (pieces_of image) (v ∷ []) ≡ take at image ++ (filled f v ++ line (pieces_of (drop (at + field_width f) image)) [])
+first-line image at f h v = ap (λ ps. line ps (v ∷ [])) (first-pieces image at f h) ∙ line-literals (take at image) (field f ∷ pieces_of (drop (at + field_width f) image)) (v ∷ [])
 
 pub first-line_empty : (image : List ℕ) (at : ℕ) (f : Field) → IsFirstField image at f → line (pieces_of image) [] ≡ take at image
 first-line_empty image at f h =
-    ap (λ ps. line ps []) (first-pieces image at f h) ∙ line-literals (take at image) (field f ∷ pieces_of (drop (at + width_of f) image)) [] ∙ append-nil (take at image)
+    ap (λ ps. line ps []) (first-pieces image at f h) ∙ line-literals (take at image) (field f ∷ pieces_of (drop (at + field_width f) image)) [] ∙ append-nil (take at image)
 
 -- what CONVERT makes
 pub converted-no_field : (image : List ℕ) (x : Number) → pieces_of image ≡ literals image → converted image x ≡ Err P42_IMAGE
@@ -89,7 +89,7 @@ converted-too_large image at f x h large =
     ap (λ fs. converted_in (pieces_of image) fs x) (first-fields image at f h) ∙ ap (λ t. cond t (Ok (line (pieces_of image) (value.Number x ∷ []))) (Err X71_DOES_NOT_FIT)) large
 
 pub converted-fits : (image : List ℕ) (at : ℕ) (f : Field) (x : Number) → IsFirstField image at f → fits f x ≡ true →
-    converted image x ≡ Ok (take at image ++ (number_filled f x ++ line (pieces_of (drop (at + width_of f) image)) []))
+    converted image x ≡ Ok (take at image ++ (number_filled f x ++ line (pieces_of (drop (at + field_width f) image)) []))
 converted-fits image at f x h small =
     ap (λ fs. converted_in (pieces_of image) fs x) (first-fields image at f h) ∙ ap (λ t. cond t (Ok (line (pieces_of image) (value.Number x ∷ []))) (Err X71_DOES_NOT_FIT)) small
     ∙ ap (λ t. Ok t) (first-line image at f h (value.Number x))

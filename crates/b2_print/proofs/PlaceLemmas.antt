@@ -5,10 +5,12 @@ use Rattle.std.proofs.lemmas.List.Sums.{sum_by-cons}
 use Rattle.b2_dec.specs.Number.{Number}
 use Rattle.b2_dec.specs.declared.values.Value.{Value}
 use Rattle.b2_dec.specs.declared.values.Value.TheVariants as value
-use Rattle.b2_print.specs.declared.image.Sign.{Sign}
-use Rattle.b2_print.specs.declared.image.Sign.TheVariants.{Unsigned, Always, Negative}
-use Rattle.b2_print.specs.Images.{Field, width_of, is_hash, point_width, sign_bytes, dollar_bytes}
-use Rattle.b2_print.specs.Filling.{has_digit, place_byte, hash_count, whole_text, digits_from, point_filled, sign_filled, number_text, right_aligned, fits, filled}
+use Rattle.b2_dectext.specs.declared.field_parts.Sign.{Sign}
+use Rattle.b2_dectext.specs.declared.field_parts.Sign.TheVariants.{Unsigned, Always, Negative}
+use Rattle.b2_dectext.specs.FieldParts.{is_hash, sign_bytes}
+use Rattle.b2_print.specs.Images.{Field, field_width, point_width, dollar_bytes}
+use Rattle.b2_dectext.specs.FieldParts.{right_aligned}
+use Rattle.b2_print.specs.Filling.{has_digit, place_byte, hash_count, whole_text, digits_from, point_filled, sign_filled, number_text, fits, filled}
 
 pub point_width-some : (n : ℕ) → (n ≡ 0 → ⊥) → point_width n ≡ n + 1
 point_width-some zero h = absurd (h refl)
@@ -68,7 +70,7 @@ pub length-whole_text : (x : Number) (places : List ℕ) → length (whole_text 
 length-whole_text x [] = omega arith
 length-whole_text x (c ∷ cs) = length-shown_if (has_digit x (hash_count cs)) (place_byte x (hash_count cs) c) (whole_text x cs) (length cs) (length-whole_text x cs)
 
-pub length-number_text : (f : Field) (x : Number) → length (number_text f x) ≤ width_of f
+pub length-number_text : (f : Field) (x : Number) → length (number_text f x) ≤ field_width f
 length-number_text f x =
     let s = sign_filled f.sign x.neg in
     let d = dollar_bytes f.dollar in
@@ -80,7 +82,7 @@ length-number_if : (b : Bool) (width : ℕ) (text : List ℕ) → length text �
 length-number_if true width text h = omega (arith, length-append (replicate (width - length text) 32) text, length-replicate {A = ℕ} (width - length text) 32)
 length-number_if false width text h = length-replicate {A = ℕ} width 35
 
-pub length-filled : (f : Field) (v : Value) → length (filled f v) ≡ width_of f
-length-filled f (value.Number x) = length-number_if (fits f x) (width_of f) (number_text f x) (length-number_text f x)
+pub length-filled : (f : Field) (v : Value) → length (filled f v) ≡ field_width f
+length-filled f (value.Number x) = length-number_if (fits f x) (field_width f) (number_text f x) (length-number_text f x)
 length-filled f (value.Alpha a) =
-    omega (arith, length-append (take (width_of f) a) (replicate (width_of f - length a) 32), length-take (width_of f) a, length-replicate {A = ℕ} (width_of f - length a) 32)
+    omega (arith, length-append (take (field_width f) a) (replicate (field_width f - length a) 32), length-take (field_width f) a, length-replicate {A = ℕ} (field_width f - length a) 32)

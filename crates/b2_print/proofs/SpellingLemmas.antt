@@ -5,9 +5,10 @@ use Rattle.std.specs.Option.{IfSome}
 use Rattle.std.proofs.lemmas.List.{take-append-drop, drop_at, length-replicate}
 use Rattle.b2_base.specs.Byte as byte
 use Rattle.b2_base.specs.Lexical.{first}
-use Rattle.b2_print.specs.declared.image.Sign.{Sign}
-use Rattle.b2_print.specs.declared.image.Sign.TheVariants.{Unsigned, Always, Negative}
-use Rattle.b2_print.specs.Images.{Field, sign_bytes, dollar_bytes, point_bytes, point_width, field_bytes, width_of, is_hash, is_place, leading_sign, after_sign, after_dollar, decimals_of, field_at, piece_of, width_after_first, further_pieces, pieces_of, spelled}
+use Rattle.b2_dectext.specs.declared.field_parts.Sign.{Sign}
+use Rattle.b2_dectext.specs.declared.field_parts.Sign.TheVariants.{Unsigned, Always, Negative}
+use Rattle.b2_dectext.specs.FieldParts.{sign_bytes, is_hash, leading_sign, after_sign}
+use Rattle.b2_print.specs.Images.{Field, dollar_bytes, point_bytes, point_width, field_bytes, field_width, is_place, after_dollar, decimals_of, field_at, piece_of, width_after_first, further_pieces, pieces_of, spelled}
 use Rattle.b2_print.proofs.ImageLemmas.{field-some, drop-first}
 
 -- a number of `#` and what follows them
@@ -59,7 +60,7 @@ length-point_bytes : (n : ℕ) → length (point_bytes n) ≡ point_width n
 length-point_bytes zero = refl
 length-point_bytes (suc n) = ap (λ (t : ℕ). suc t) (length-replicate (suc n) 35) ∙ omega arith
 
-pub length-field_bytes : (f : Field) → length (field_bytes f) ≡ width_of f
+pub length-field_bytes : (f : Field) → length (field_bytes f) ≡ field_width f
 length-field_bytes f =
     let s = sign_bytes f.sign in
     let d = dollar_bytes f.dollar in
@@ -67,9 +68,9 @@ length-field_bytes f =
     omega (arith, length-append (s ++ d ++ f.whole) p, length-append (s ++ d) f.whole, length-append s d, length-point_bytes f.decimals)
 
 -- a text that begins with a field's bytes
-begins-with : (f : Field) (text rest : List ℕ) → field_bytes f ++ rest ≡ text → field_bytes f ++ drop (width_of f) text ≡ text
+begins-with : (f : Field) (text rest : List ℕ) → field_bytes f ++ rest ≡ text → field_bytes f ++ drop (field_width f) text ≡ text
 begins-with f text rest e =
-    let left : drop (width_of f) text ≡ rest = ap (drop (width_of f)) (sym e) ∙ drop_at (field_bytes f) rest (width_of f) (length-field_bytes f) in
+    let left : drop (field_width f) text ≡ rest = ap (drop (field_width f)) (sym e) ∙ drop_at (field_bytes f) rest (field_width f) (length-field_bytes f) in
     ap (λ t. field_bytes f ++ t) left ∙ e
 
 joined : (s d w p r : List ℕ) → (((s ++ d) ++ w) ++ p) ++ r ≡ s ++ (d ++ (w ++ (p ++ r)))
@@ -77,7 +78,7 @@ joined s d w p r = simp append_assoc
 
 places-spelled : (text t1 t2 : List ℕ) (sign : Sign) (dollar : Bool) (test : Bool) → sign_bytes sign ++ t1 ≡ text → dollar_bytes dollar ++ t2 ≡ t1 →
     IfSome (if test then Some (record { sign = sign; dollar = dollar; whole = take_while is_place t2; decimals = decimals_of (drop (prefix_len is_place t2) t2) }) else None)
-    (λ f. field_bytes f ++ drop (width_of f) text ≡ text)
+    (λ f. field_bytes f ++ drop (field_width f) text ≡ text)
 places-spelled text t1 t2 sign dollar false e1 e2 = tt
 places-spelled text t1 t2 sign dollar true e1 e2 =
     let n = prefix_len is_place t2 in
@@ -90,7 +91,7 @@ places-spelled text t1 t2 sign dollar true e1 e2 =
     ∙ ap (λ t. sign_bytes sign ++ (dollar_bytes dollar ++ t)) (take-append-drop n t2)
     ∙ ap (λ t. sign_bytes sign ++ t) e2 ∙ e1)
 
-pub field-spelled : (text : List ℕ) → IfSome (field_at text) (λ f. field_bytes f ++ drop (width_of f) text ≡ text)
+pub field-spelled : (text : List ℕ) → IfSome (field_at text) (λ f. field_bytes f ++ drop (field_width f) text ≡ text)
 unfolding field_at
 field-spelled text =
     let t1 = after_sign text in
@@ -99,9 +100,9 @@ field-spelled text =
 piece-spelled : (b : ℕ) (bs : List ℕ) (o : Option Field) → field_at (b ∷ bs) ≡ o → spelled (piece_of b o) ++ drop (width_after_first o) bs ≡ b ∷ bs
 piece-spelled b bs None e = refl
 piece-spelled b bs (Some f) e =
-    let some : 0 < width_of f = rw e at (field-some (b ∷ bs)) in
-    let whole : field_bytes f ++ drop (width_of f) (b ∷ bs) ≡ b ∷ bs = rw e at (field-spelled (b ∷ bs)) in
-    ap (λ t. field_bytes f ++ t) (sym (drop-first (width_of f) b bs some)) ∙ whole
+    let some : 0 < field_width f = rw e at (field-some (b ∷ bs)) in
+    let whole : field_bytes f ++ drop (field_width f) (b ∷ bs) ≡ b ∷ bs = rw e at (field-spelled (b ∷ bs)) in
+    ap (λ t. field_bytes f ++ t) (sym (drop-first (field_width f) b bs some)) ∙ whole
 
 further_pieces-spelled : (text : List ℕ) (n : ℕ) → flat_map spelled (further_pieces n text) ≡ drop n text
 unfolding further_pieces

@@ -1,12 +1,14 @@
 -- What a value becomes in a field.
-use Rattle.std.specs.Prelude.{ℕ, zero, suc, ◌+◌, ◌-◌, ◌*◌, ◌/◌, ◌%◌, ◌^◌, ◌==◌, ◌||◌, nat_le, Bool, not, if◌then◌else◌, List, [], ◌∷◌, ◌++◌, length, take, replicate, count_by}
+use Rattle.std.specs.Prelude.{ℕ, zero, suc, ◌+◌, ◌*◌, ◌/◌, ◌%◌, ◌^◌, ◌==◌, ◌||◌, nat_le, Bool, not, if◌then◌else◌, List, [], ◌∷◌, ◌++◌, replicate, count_by}
 use Rattle.b2_base.specs.Byte as byte
 use Rattle.b2_dec.specs.Number.{Number, size}
 use Rattle.b2_dec.specs.declared.values.Value.{Value}
 use Rattle.b2_dec.specs.declared.values.Value.TheVariants as value
-use Rattle.b2_print.specs.declared.image.Sign.{Sign}
-use Rattle.b2_print.specs.declared.image.Sign.TheVariants.{Unsigned, Always, Negative}
-use Rattle.b2_print.specs.Images.{Field, width_of, dollar_bytes, is_hash}
+use Rattle.b2_dectext.specs.declared.field_parts.Sign.{Sign}
+use Rattle.b2_dectext.specs.declared.field_parts.Sign.TheVariants.{Unsigned, Always, Negative}
+use Rattle.b2_alpha.specs.Values.{padded}
+use Rattle.b2_dectext.specs.FieldParts.{is_hash, right_aligned}
+use Rattle.b2_print.specs.Images.{Field, field_width, dollar_bytes}
 
 -- Sizes are counted in units of 10^-111. The digit that counts 10^k, as a byte:
 abbrev pub whole_digit : Number → ℕ → ℕ
@@ -60,22 +62,14 @@ sign_filled Negative neg = (if neg then byte.minus else byte.blank) ∷ []
 abbrev pub number_text : Field → Number → List ℕ
 number_text f x = sign_filled f.sign x.neg ++ dollar_bytes f.dollar ++ whole_text x f.whole ++ point_filled x f.decimals
 
--- a text at the right end of a width
-abbrev pub right_aligned : ℕ → List ℕ → List ℕ
-right_aligned width text = replicate (width - length text) byte.blank ++ text
-
--- a text at the left end of a width, cut there
-abbrev pub left_aligned : ℕ → List ℕ → List ℕ
-left_aligned width text = take width text ++ replicate (width - length text) byte.blank
-
 -- whether a field has a `#` for each digit before the point
 abbrev pub fits : Field → Number → Bool
 fits f x = not (reaches x (hash_count f.whole))
 
 -- a number in a field, which it fills with `#` where it doesn't fit
 abbrev pub number_filled : Field → Number → List ℕ
-number_filled f x = if fits f x then right_aligned (width_of f) (number_text f x) else replicate (width_of f) byte.number_sign
+number_filled f x = if fits f x then right_aligned (field_width f) (number_text f x) else replicate (field_width f) byte.number_sign
 
 abbrev pub filled : Field → Value → List ℕ
 filled f (value.Number x) = number_filled f x
-filled f (value.Alpha a) = left_aligned (width_of f) a
+filled f (value.Alpha a) = padded (field_width f) a

@@ -3,8 +3,8 @@ use Rattle.std.specs.Prelude.{◌≡◌, ◌≤◌, ℕ, zero, suc, ◌+◌, ◌
 use Rattle.std.specs.List.{prefix_len, take_while}
 use Rattle.b2_base.specs.Byte as byte
 use Rattle.b2_base.specs.Lexical.{first}
-use Rattle.b2_print.specs.declared.image.Sign.{Sign}
-use Rattle.b2_print.specs.declared.image.Sign.TheVariants.{Unsigned, Always, Negative}
+use Rattle.b2_dectext.specs.FieldParts.{sign_bytes, leading_sign, after_sign, is_hash}
+use Rattle.b2_dectext.specs.declared.field_parts.Sign.{Sign}
 
 -- A field: its sign, whether it has a `$`, the `#` and `,` before its point, and the number of `#` after the point.
 pub record Field : Type 0 where
@@ -14,11 +14,6 @@ pub record Field : Type 0 where
   pub decimals : ℕ
 
 -- the bytes that write the parts of a field
-abbrev pub sign_bytes : Sign → List ℕ
-sign_bytes Unsigned = []
-sign_bytes Always = byte.plus ∷ []
-sign_bytes Negative = byte.minus ∷ []
-
 abbrev pub dollar_bytes : Bool → List ℕ
 dollar_bytes true = byte.dollar ∷ []
 dollar_bytes false = []
@@ -29,23 +24,13 @@ point_width zero = 0
 point_width (suc n) = n + 2
 
 -- how many bytes of an image a field is, and how many bytes fill it
-abbrev pub width_of : Field → ℕ
-width_of f = length (sign_bytes f.sign) + length (dollar_bytes f.dollar) + length f.whole + point_width f.decimals
-
-abbrev pub is_hash : ℕ → Bool
-is_hash b = b == byte.number_sign
+abbrev pub field_width : Field → ℕ
+field_width f = length (sign_bytes f.sign) + length (dollar_bytes f.dollar) + length f.whole + point_width f.decimals
 
 abbrev pub is_place : ℕ → Bool
 is_place b = b == byte.number_sign || b == byte.comma
 
--- the sign that a text begins with
-abbrev pub leading_sign : List ℕ → Sign
-leading_sign text = if first text == byte.plus then Always else (if first text == byte.minus then Negative else Unsigned)
-
--- what follows it, and what follows a `$` there
-abbrev pub after_sign : List ℕ → List ℕ
-after_sign text = drop (length (sign_bytes (leading_sign text))) text
-
+-- what follows a `$` that a text begins with
 abbrev pub after_dollar : List ℕ → List ℕ
 after_dollar text = drop (length (dollar_bytes (first text == byte.dollar))) text
 
@@ -77,7 +62,7 @@ piece_of b (Some f) = field f
 -- how many bytes a piece has after its first
 abbrev pub width_after_first : Option Field → ℕ
 width_after_first None = 0
-width_after_first (Some f) = width_of f - 1
+width_after_first (Some f) = field_width f - 1
 
 -- the pieces of what stands after the first n bytes, which belong to a piece that has begun
 unfoldable pub further_pieces : ℕ → List ℕ → List Piece
@@ -113,6 +98,6 @@ literals text = map literal text
 
 -- A field stands at this byte of an image, and only bytes of their own before it.
 pub record IsFirstField (image : List ℕ) (at : ℕ) (f : Field) : Type 0 where
-  pub inside : at + width_of f ≤ length image
+  pub inside : at + field_width f ≤ length image
   pub here : field_at (drop at image) ≡ Some f
   pub before : pieces_of image ≡ literals (take at image) ++ pieces_of (drop at image)

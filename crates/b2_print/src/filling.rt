@@ -2,11 +2,14 @@
 ghost use Rattle.std.specs.Prelude.{◌≡◌, ℕ, ◌+◌, ◌-ℤ◌, ◌*◌, ◌/◌, ◌%◌, ◌^◌, ◌<◌, ◌≤◌, ◌++◌, pos, length, drop, not};
 ghost use Rattle.b2_base.specs.Byte as byte;
 ghost use Rattle.b2_dec.specs.Number.{IsNumber};
-ghost use Rattle.b2_print.specs.Images.{point_width, width_of, sign_bytes, dollar_bytes, is_hash};
+ghost use Rattle.b2_dectext.specs.FieldParts.{sign_bytes, is_hash};
+ghost use Rattle.b2_print.specs.Images.{point_width, field_width, dollar_bytes};
 ghost use Rattle.b2_print.specs.Filling as spec;
 
-use crate::image::{Field, Sign};
+use crate::image::Field;
+use b2_alpha::assign;
 use b2_dec::{Dec, Value};
+use b2_dectext::Sign;
 
 /// The digit of `coef · 10^up / 10^down` that counts one, as a byte.
 fn shifted_digit(coef: u64, up: usize, down: usize) -> u8
@@ -145,7 +148,7 @@ fn fill_signs(field: &Field<'_>, neg: bool, end: usize, into: &mut [u8]) -> usiz
 
 /// Fills a field with a number; false where it doesn't fit, and `#` then fill the field.
 pub(crate) fn fill_number(field: &Field<'_>, x: Dec, into: &mut [u8]) -> bool
-    requires { length into.old ≡ width_of field.now }
+    requires { length into.old ≡ field_width field.now }
     ensures fits { result ≡ spec.fits field.now x }
     ensures text { into.new ≡ spec.number_filled field.now x }
 {
@@ -160,24 +163,15 @@ pub(crate) fn fill_number(field: &Field<'_>, x: Dec, into: &mut [u8]) -> bool
     true
 }
 
-/// Fills a field with bytes from the left.
-fn fill_alpha(bytes: &[u8], into: &mut [u8])
-    ensures { into.new ≡ spec.left_aligned (length into.old) bytes.now }
-{
-    let count = bytes.len().min(into.len());
-    into[..count].copy_from_slice(&bytes[..count]);
-    into[count..].fill(b' ');
-}
-
 /// Fills a field with a value.
 pub(crate) fn fill(field: &Field<'_>, value: &Value, into: &mut [u8])
-    requires { length into.old ≡ width_of field.now }
+    requires { length into.old ≡ field_width field.now }
     ensures { into.new ≡ spec.filled field.now value.now }
 {
     match value {
         Value::Number(x) => {
             fill_number(field, *x, into);
         }
-        Value::Alpha(bytes) => fill_alpha(bytes.bytes(), into),
+        Value::Alpha(bytes) => assign(into, bytes.bytes()),
     }
 }

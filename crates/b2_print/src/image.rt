@@ -5,18 +5,8 @@ ghost use Rattle.b2_base.specs.Byte as byte;
 ghost use Rattle.b2_base.specs.Lexical.{first};
 ghost use Rattle.b2_print.specs.Images as spec;
 
+use b2_dectext::{Sign, marks_len, split_sign};
 use std::marker::Model;
-
-/// Which sign a field shows.
-#[derive(Clone, Copy, Debug, PartialEq, Eq)]
-pub(crate) enum Sign {
-    /// None.
-    Unsigned,
-    /// `+` or `-`.
-    Always,
-    /// `-`, or a blank.
-    Negative,
-}
 
 /// A field. Contracts see its parts.
 #[derive(Drop)]
@@ -66,8 +56,8 @@ impl Field<'_> {
 
     /// How many bytes of the image it is.
     pub(crate) fn width(&self) -> usize
-        requires { spec.width_of self.now < 2 ^ 64 }
-        ensures { result ≡ spec.width_of self.now }
+        requires { spec.field_width self.now < 2 ^ 64 }
+        ensures { result ≡ spec.field_width self.now }
     {
         let sign = if self.sign == Sign::Unsigned { 0 } else { 1 };
         let dollar = if self.dollar { 1 } else { 0 };
@@ -77,18 +67,6 @@ impl Field<'_> {
             self.decimals + 1
         };
         sign + dollar + self.whole.len() + point
-    }
-}
-
-/// The sign that a text begins with, and what follows it.
-fn split_sign(text: &[u8]) -> (Sign, &[u8])
-    ensures sign { result.0 ≡ spec.leading_sign text.now }
-    ensures rest { result.1.now ≡ spec.after_sign text.now }
-{
-    match text {
-        [b'+', rest @ ..] => (Sign::Always, rest),
-        [b'-', rest @ ..] => (Sign::Negative, rest),
-        _ => (Sign::Unsigned, text),
     }
 }
 
@@ -111,13 +89,6 @@ fn places_len(text: &[u8]) -> usize
     text.iter()
         .take_while(|b| **b == b'#' || **b == b',')
         .count()
-}
-
-/// How many `#` a text begins with.
-fn marks_len(text: &[u8]) -> usize
-    ensures { result ≡ prefix_len spec.is_hash text.now }
-{
-    text.iter().take_while(|b| **b == b'#').count()
 }
 
 /// How many `#` stand after a point that a text begins with.
@@ -149,7 +120,7 @@ fn with_places(sign: Sign, dollar: bool, text: &[u8]) -> Option<Field<'_>>
 /// The longest field that a text begins with, if there is one.
 pub(crate) fn field_at(text: &[u8]) -> Option<Field<'_>>
     ensures field { result ≡ spec.field_at text.now }
-    ensures within { IfSome result (λ f. spec.width_of f ≤ length text.now) }
+    ensures within { IfSome result (λ f. spec.field_width f ≤ length text.now) }
 {
     let (sign, rest) = split_sign(text);
     let (dollar, rest) = split_dollar(rest);

@@ -1,7 +1,7 @@
 // Values in an image.
 ghost use Rattle.std.specs.Prelude.{◌≡◌, false, Ok, Err, Some, None, MatchOption, if◌then◌else◌, ◌++◌, ◌-◌, ◌≤◌, ◌<◌, ◌^◌, [], ◌∷◌, length, drop, min, OnOk, OnErr, IfOk, IfErr, IfSome, MatchResult};
 ghost use Rattle.b2_base.specs.Byte as byte;
-ghost use Rattle.b2_print.specs.Images.{width_of, pieces_of, fields, literals, IsFirstField};
+ghost use Rattle.b2_print.specs.Images.{field_width, pieces_of, fields, literals, IsFirstField};
 ghost use Rattle.b2_print.specs.Filling.{filled, fits, number_filled};
 ghost use Rattle.b2_print.specs.Imaged as spec;
 
@@ -14,7 +14,7 @@ use std::alloc::Global;
 
 /// Appends a value in a field.
 fn put(alloc: Global, field: &Field<'_>, value: &Value, text: &mut Vec<u8>) -> Result<(), NoMemory>
-    requires { width_of field.now < 2 ^ 63 }
+    requires { field_width field.now < 2 ^ 63 }
     ensures { OnOk result (text.new.items ≡ text.old.items ++ filled field.now value.now) }
 {
     let mut filled = vec![in alloc; b' '; field.width()]?;
@@ -153,9 +153,9 @@ pub fn convert(image: &[u8], x: Dec, into: &mut Bytes) -> Result<(), Code>
 
 /// A number in a field, None where it doesn't fit.
 fn filled_number(field: &Field<'_>, x: Dec) -> Option<Bytes>
-    requires { width_of field.now ≤ 255 }
+    requires { field_width field.now ≤ 255 }
     ensures text { result ≡ (if fits field.now x then Some (number_filled field.now x) else None) }
-    ensures width { IfSome result (λ text. length text ≡ width_of field.now) }
+    ensures width { IfSome result (λ text. length text ≡ field_width field.now) }
 {
     let mut buffer = [0; 255];
     let text = &mut buffer[..field.width()];

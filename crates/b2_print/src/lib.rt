@@ -13,7 +13,8 @@
 //! become in an image. `specs/Reading.antt` says which column a screen is at that reads bytes, and `specs/Laws.antt` what
 //! holds of all of them.
 //!
-//! Stands on `b2_dectext` for the printed form of a number, on `b2_dec` for numbers and values, and on `b2_base`.
+//! Stands on `b2_dectext` for the printed form of a number and for what a field is made of, on `b2_dec` for numbers and
+//! values, on `b2_alpha` for padding, and on `b2_base`.
 #![tactic(auto)]
 
 mod columns;

@@ -2,8 +2,7 @@
 ghost use Rattle.std.specs.Prelude.{◌≡◌, ◌≤◌, ◌<◌};
 ghost use Rattle.b2_print.specs.Screen as spec;
 
-/// The byte that begins a sequence.
-const ESCAPE: u8 = 2;
+use b2_base::lexical::ESCAPE;
 
 /// How many rows a screen has.
 pub(crate) const SCREEN_ROWS: u8 = 24;

@@ -1,6 +1,6 @@
 use Rattle.std.proofs.Common.{◌≡◌, ℕ, ◌+◌, List, [], take, drop, false, sym, ap, ◌∙◌, append_assoc, Ok}
 use Rattle.std.proofs.lemmas.List.{take_rest}
-use Rattle.b2_print.specs.Images.{Field, width_of, pieces_of}
+use Rattle.b2_print.specs.Images.{Field, field_width, pieces_of}
 use Rattle.b2_print.specs.Filling.{fits, number_filled}
 use Rattle.b2_print.specs.Imaged as spec
 use Rattle.b2_print.proofs.LineLemmas.{converted-no_field, converted-too_large, converted-fits, none_if, some_if}
@@ -18,7 +18,7 @@ pub returns-clause-ok : goal.returns-clause-ok
 returns-clause-ok c =
     let image = c.args.image.now in
     let f : Field = c.in-Some.field in
-    let after : ℕ = c.in-Some.start + width_of f in
+    let after : ℕ = c.in-Some.start + field_width f in
     let found = some_if (fits f c.args.x) (number_filled f c.args.x) c.in-Some-filled_number.number c.in-Some-filled_number.ensures.text in
     let tail : List ℕ = spec.line (pieces_of (drop after image)) [] in
     let rest : c.before_field.result.now ≡ tail =

@@ -1,7 +1,7 @@
 use Rattle.std.proofs.Common.{◌≡◌, suc, ◌+◌, ◌-◌, ◌<◌, List, [], ◌∷◌, ◌++◌, length, drop, get_or, min, sym, ap, ◌∙◌, append_assoc, append-nil, arith, Some, None}
 use Rattle.std.proofs.lemmas.List.{take_rest}
 use Rattle.b2_dec.specs.declared.values.Value.{Value}
-use Rattle.b2_print.specs.Images.{Field, Piece, width_of, field_at, pieces_of, fields}
+use Rattle.b2_print.specs.Images.{Field, Piece, field_width, field_at, pieces_of, fields}
 use Rattle.b2_print.specs.Filling.{filled}
 use Rattle.b2_print.specs.Imaged as spec
 use Rattle.b2_print.proofs.ImageLemmas.{field-some}
@@ -32,14 +32,14 @@ returns-then-used-values-clause-line c =
     let piece = pieces_of-drop_field image c.loop-at.at c.in-Some.field c.loop-at-test.true here in
     let none : spec.line (pieces_of (drop c.loop-at.at image)) (drop c.loop-at.used c.args.values.now) ≡ [] =
     ap (λ ps. spec.line ps (drop c.loop-at.used c.args.values.now)) piece
-    ∙ line-no_value c.in-Some.field (pieces_of (drop (c.loop-at.at + width_of c.in-Some.field) image)) c.args.values.now c.loop-at.used (omega arith) in
+    ∙ line-no_value c.in-Some.field (pieces_of (drop (c.loop-at.at + field_width c.in-Some.field) image)) c.args.values.now c.loop-at.used (omega arith) in
     sym (append-nil c.loop-at.text.items) ∙ ap (λ t. c.loop-at.text.items ++ t) (sym none) ∙ c.loop-at.invariant.text
 
 pub loop-at-smaller : goal.loop-at-smaller
 loop-at-smaller c =
     let image = c.args.image.now in
     let here : field_at (drop c.loop-at.at image) ≡ Some c.in-Some.field = ap field_at (sym (take_rest image c.loop-at.at)) ∙ sym c.in-Some.ensures.field in
-    let some : 0 < width_of c.in-Some.field = rw here at (field-some (drop c.loop-at.at image)) in
+    let some : 0 < field_width c.in-Some.field = rw here at (field-some (drop c.loop-at.at image)) in
     omega (arith, some, c.width-at.ensures)
 
 pub loop-at-preserved : goal.loop-at-preserved
@@ -50,7 +50,7 @@ loop-at-preserved c =
     let next : List Value = drop (c.loop-at.used + 1) c.args.values.now in
     let here : field_at (drop c.loop-at.at image) ≡ Some f = ap field_at (sym (take_rest image c.loop-at.at)) ∙ sym c.in-Some.ensures.field in
     let piece = pieces_of-drop_field image c.loop-at.at f c.loop-at-test.true here in
-    let rest : List Piece = pieces_of (drop (c.loop-at.at + width_of f) image) in
+    let rest : List Piece = pieces_of (drop (c.loop-at.at + field_width f) image) in
     let value = line-field f rest c.args.values.now c.loop-at.used c.index-values-used.result (omega arith) c.index-values-used.is in
     let fields_here : length (fields (pieces_of (drop c.loop-at.at image))) ≡ suc (length (fields rest)) = ap (λ ps. length (fields ps)) piece in
     rw c.width-at.ensures

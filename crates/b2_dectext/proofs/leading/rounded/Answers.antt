@@ -1,7 +1,7 @@
 use Rattle.std.proofs.Common.{◌≡◌, ◌+◌, ◌-◌, ◌*◌, ◌^◌, sym, ap, ◌∙◌, Ok, Err, arith}
 use Rattle.b2_dec.proofs.TenLemmas.{ten_pos}
 use Rattle.b2_dectext.proofs.Scales.{written-none, written-some, written-part, written-exact, too_low, too_high, rnd-small, rnd-large}
-use Rattle.b2_dectext.proofs.reading.rounded.Goals as goal
+use Rattle.b2_dectext.proofs.leading.rounded.Goals as goal
 
 pub returns-then-digits-eq0 : goal.returns-then-digits-eq0
 returns-then-digits-eq0 c n more tens h e =

@@ -1,5 +1,5 @@
 use Rattle.b2_dectext.proofs.Scales.{leading-kept, leading-left}
-use Rattle.b2_dectext.proofs.reading.with_digit.Goals as goal
+use Rattle.b2_dectext.proofs.leading.with_digit.Goals as goal
 
 pub returns-then-leading-lt-ABOVE-clause-value : goal.returns-then-leading-lt-ABOVE-clause-value
 returns-then-leading-lt-ABOVE-clause-value c n h = leading-kept n _ _ c.args.digit c.requires.decimal c.if-leading-lt-ABOVE.true h
