@@ -11,7 +11,7 @@ use Rattle.b2_platter.specs.Slot.{is_free, is_gone, is_live, is_entry, is_progra
 use Rattle.b2_platter.specs.Image.{row, sector, index_of, total_of, catalogue_end, next_free, slots_of}
 use Rattle.b2_platter.specs.Checks.{has_head, Good}
 use Rattle.b2_platter.specs.Edits.{head_bytes}
-use Rattle.b2_platter.specs.Volume.{slot_bytes, slot_of, image, volume}
+use Rattle.b2_platter.specs.Volume.{slot_bytes, slot_in_row, image, volume}
 use Rattle.b2_platter.proofs.Goodness.{Parts-of}
 use Rattle.b2_platter.proofs.Soundness.{Sound-from_Good}
 
@@ -89,16 +89,16 @@ joined_map f g h a (suc n) same =
     ∙ ap (λ (xs : List ℕ). h a ++ xs) (joined_map f g h (a + 1) n (λ k low high. same k (omega arith) (omega arith)))
 
 -- a slot is spelled by what it says
-free_cells : (x : ℕ) (xs : List ℕ) → x ≡ 0 → xs ≡ replicate 15 0 → slot_bytes Narrow (slot_of Narrow (x ∷ xs)) ≡ x ∷ xs
-unfolding slot_of is_free
+free_cells : (x : ℕ) (xs : List ℕ) → x ≡ 0 → xs ≡ replicate 15 0 → slot_bytes Narrow (slot_in_row Narrow (x ∷ xs)) ≡ x ∷ xs
+unfolding slot_in_row is_free
 free_cells x xs e zeros = rw (e, zeros) refl
 
-gone_cells : (x : ℕ) (xs : List ℕ) → x ≡ 18 → xs ≡ replicate 15 0 → slot_bytes Narrow (slot_of Narrow (x ∷ xs)) ≡ x ∷ xs
-unfolding slot_of is_free is_gone
+gone_cells : (x : ℕ) (xs : List ℕ) → x ≡ 18 → xs ≡ replicate 15 0 → slot_bytes Narrow (slot_in_row Narrow (x ∷ xs)) ≡ x ∷ xs
+unfolding slot_in_row is_free is_gone
 gone_cells x xs e zeros = rw (e, zeros) refl
 
-file_cells : (g : ℕ → ℕ) (rest : List ℕ) → ((i : ℕ) → g i < 256) → ((g 0 ≡ 16) ⊎ (g 0 ≡ 17)) → ((g 1 ≡ 80) ⊎ (g 1 ≡ 68)) → g 6 ≡ 0 → g 7 ≡ 0 → slot_bytes Narrow (slot_of Narrow (g 0 ∷ g 1 ∷ g 2 ∷ g 3 ∷ g 4 ∷ g 5 ∷ g 6 ∷ g 7 ∷ rest)) ≡ g 0 ∷ g 1 ∷ g 2 ∷ g 3 ∷ g 4 ∷ g 5 ∷ g 6 ∷ g 7 ∷ rest
-unfolding slot_of is_free is_gone is_live is_program start_of end_of name_of
+file_cells : (g : ℕ → ℕ) (rest : List ℕ) → ((i : ℕ) → g i < 256) → ((g 0 ≡ 16) ⊎ (g 0 ≡ 17)) → ((g 1 ≡ 80) ⊎ (g 1 ≡ 68)) → g 6 ≡ 0 → g 7 ≡ 0 → slot_bytes Narrow (slot_in_row Narrow (g 0 ∷ g 1 ∷ g 2 ∷ g 3 ∷ g 4 ∷ g 5 ∷ g 6 ∷ g 7 ∷ rest)) ≡ g 0 ∷ g 1 ∷ g 2 ∷ g 3 ∷ g 4 ∷ g 5 ∷ g 6 ∷ g 7 ∷ rest
+unfolding slot_in_row is_free is_gone is_live is_program start_of end_of name_of
 file_cells g rest small (inl s) (inl k) six seven =
     rw (s, k, six, seven, high_byte (g 2) (g 3) (small 2) (small 3), low_byte (g 2) (g 3) (small 2) (small 3), high_byte (g 4) (g 5) (small 4) (small 5), low_byte (g 4) (g 5) (small 4) (small 5)) refl
 file_cells g rest small (inl s) (inr k) six seven =
@@ -118,23 +118,23 @@ gap_cells g rest h =
     let last = and_parts (is_zero (g 7)) true parts.1 in
     (eqb-true (g 6) 0 parts.0, eqb-true (g 7) 0 last.0)
 
-file_spelled : (r : List ℕ) → length r ≡ 16 → IsBytes r → is_entry r ≡ true → has_kind r ≡ true → list_all is_zero (drop 6 (take 8 r)) ≡ true → slot_bytes Narrow (slot_of Narrow r) ≡ r
+file_spelled : (r : List ℕ) → length r ≡ 16 → IsBytes r → is_entry r ≡ true → has_kind r ≡ true → list_all is_zero (drop 6 (take 8 r)) ≡ true → slot_bytes Narrow (slot_in_row Narrow r) ≡ r
 unfolding is_entry has_kind
 file_spelled r long small e k gap =
     let cells = eight_cells r long in
     let zeros = gap_cells (λ i. get_or r i 0) (drop 8 r) (subst (λ (xs : List ℕ). list_all is_zero (drop 6 (take 8 xs)) ≡ true) cells gap) in
-    ap (λ (xs : List ℕ). slot_bytes Narrow (slot_of Narrow xs)) cells
+    ap (λ (xs : List ℕ). slot_bytes Narrow (slot_in_row Narrow xs)) cells
     ∙ file_cells (λ i. get_or r i 0) (drop 8 r) small (either_test (get_or r 0 0) 16 17 e) (either_test (get_or r 1 0) 80 68 k) zeros.0 zeros.1
     ∙ sym cells
 
-empty_spelled : (x : ℕ) (xs : List ℕ) → length (x ∷ xs) ≡ 16 → (is_free (x ∷ xs) || is_gone (x ∷ xs)) ≡ true → list_all is_zero xs ≡ true → slot_bytes Narrow (slot_of Narrow (x ∷ xs)) ≡ x ∷ xs
+empty_spelled : (x : ℕ) (xs : List ℕ) → length (x ∷ xs) ≡ 16 → (is_free (x ∷ xs) || is_gone (x ∷ xs)) ≡ true → list_all is_zero xs ≡ true → slot_bytes Narrow (slot_in_row Narrow (x ∷ xs)) ≡ x ∷ xs
 unfolding is_free is_gone
 empty_spelled x xs long either zeros =
     let fifteen : length xs ≡ 15 = omega arith in
     let all : xs ≡ replicate 15 0 = zeros_are xs zeros ∙ ap (λ (n : ℕ). replicate n 0) fifteen in
     elim (either_test x 0 18 either) [ inl e ↦ free_cells x xs e all | inr e ↦ gone_cells x xs e all ]
 
-by_status : (r : List ℕ) → length r ≡ 16 → IsBytes r → (e : Bool) → is_entry r ≡ e → is_spelled Narrow r ≡ true → slot_bytes Narrow (slot_of Narrow r) ≡ r
+by_status : (r : List ℕ) → length r ≡ 16 → IsBytes r → (e : Bool) → is_entry r ≡ e → is_spelled Narrow r ≡ true → slot_bytes Narrow (slot_in_row Narrow r) ≡ r
 unfolding is_spelled
 by_status [] long small e is h = absurd (omega arith)
 by_status (x ∷ xs) long small true is h =
@@ -147,7 +147,7 @@ by_status (x ∷ xs) long small false is h =
     let parts = and_parts _ _ inner in
     empty_spelled x xs long parts.0 parts.1
 
-pub slot_spelled : (r : List ℕ) → length r ≡ 16 → IsBytes r → is_spelled Narrow r ≡ true → slot_bytes Narrow (slot_of Narrow r) ≡ r
+pub slot_spelled : (r : List ℕ) → length r ≡ 16 → IsBytes r → is_spelled Narrow r ≡ true → slot_bytes Narrow (slot_in_row Narrow r) ≡ r
 slot_spelled r long small h = by_status r long small (is_entry r) refl h
 
 length-row : (bytes : List ℕ) (k : ℕ) → 16 * k + 16 ≤ length bytes → length (row bytes k) ≡ 16
@@ -182,8 +182,8 @@ volume_spelled bytes good small =
     let total : index_of bytes + length (map (sector bytes) (range_with_len (index_of bytes) (total_of Narrow bytes - index_of bytes))) ≡ total_of Narrow bytes = omega (arith, length-map-range_with_len (sector bytes) (index_of bytes) (total_of Narrow bytes - index_of bytes)) in
     let front : head_bytes Narrow (index_of bytes) (index_of bytes + length (map (sector bytes) (range_with_len (index_of bytes) (total_of Narrow bytes - index_of bytes)))) (catalogue_end Narrow bytes) (next_free Narrow bytes) ≡ row bytes 0 =
     ap (λ (n : ℕ). head_bytes Narrow (index_of bytes) n (catalogue_end Narrow bytes) (next_free Narrow bytes)) total ∙ head_spelled bytes (length-row bytes 0 (omega arith)) (row_bytes bytes 0 small) s.head in
-    let slots : flat_map (slot_bytes Narrow) (map (λ (k : ℕ). slot_of Narrow (row bytes k)) (slots_of (index_of bytes))) ≡ take (16 * (16 * index_of bytes - 1)) (drop 16 bytes) =
-    joined_map (slot_bytes Narrow) (λ k. slot_of Narrow (row bytes k)) (row bytes) 1 (16 * index_of bytes - 1) (λ k low high. slot_spelled (row bytes k) (length-row bytes k (omega arith)) (row_bytes bytes k small) (s.spelled k low (omega arith))) ∙ rows_joined bytes 1 (16 * index_of bytes - 1) in
+    let slots : flat_map (slot_bytes Narrow) (map (λ (k : ℕ). slot_in_row Narrow (row bytes k)) (slots_of (index_of bytes))) ≡ take (16 * (16 * index_of bytes - 1)) (drop 16 bytes) =
+    joined_map (slot_bytes Narrow) (λ k. slot_in_row Narrow (row bytes k)) (row bytes) 1 (16 * index_of bytes - 1) (λ k low high. slot_spelled (row bytes k) (length-row bytes k (omega arith)) (row_bytes bytes k small) (s.spelled k low (omega arith))) ∙ rows_joined bytes 1 (16 * index_of bytes - 1) in
     let sectors : flat_map (λ (s : List ℕ). s) (map (sector bytes) (range_with_len (index_of bytes) (total_of Narrow bytes - index_of bytes))) ≡ take (256 * (total_of Narrow bytes - index_of bytes)) (drop (256 * index_of bytes) bytes) =
     joined_map (λ (s : List ℕ). s) (sector bytes) (sector bytes) (index_of bytes) (total_of Narrow bytes - index_of bytes) (λ k low high. refl) ∙ sectors_joined bytes (index_of bytes) (total_of Narrow bytes - index_of bytes) in
     whole_joined bytes (index_of bytes) (total_of Narrow bytes) p.some (omega arith) p.whole _ _ _ front slots sectors

@@ -45,8 +45,8 @@ image layout v =
     head_bytes layout v.index (v.index + length v.sectors) v.end v.next ++ (flat_map (slot_bytes layout) v.slots ++ flat_map (λ s. s) v.sectors)
 
 -- what a row says as a slot
-unfoldable pub slot_of : Layout → List ℕ → Slot
-slot_of layout slot =
+unfoldable pub slot_in_row : Layout → List ℕ → Slot
+slot_in_row layout slot =
     if is_free slot then Free
     else (if is_gone slot then Gone
     else Of (record { live = is_live slot; program = is_program slot; start = start_of layout slot; end = end_of layout slot; name = name_of slot }))
@@ -58,6 +58,6 @@ volume layout bytes =
       index = index_of bytes;
       end = catalogue_end layout bytes;
       next = next_free layout bytes;
-      slots = map (λ k. slot_of layout (row bytes k)) (slots_of (index_of bytes));
+      slots = map (λ k. slot_in_row layout (row bytes k)) (slots_of (index_of bytes));
       sectors = map (sector bytes) (range_with_len (index_of bytes) (total_of layout bytes - index_of bytes));
     }
