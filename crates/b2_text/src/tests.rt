@@ -116,6 +116,29 @@ fn lines_are_found_by_number(rt: HostRuntime) -> Result<(), Fail> {
 }
 
 #[test]
+fn a_text_takes_the_lines_of_another(rt: HostRuntime) -> Result<(), Fail> {
+    let alloc = rt.alloc();
+    let full = Code::known(A01_TEXT_AREA);
+    // Two lines of one atom take twelve bytes.
+    let lines: [(u16, &[u8]); 2] = [(20, b"\x80"), (10, b"\x8D")];
+    let mut small = Text::new(alloc, 11)?;
+    small.put(30, &line(alloc, b"\x8D")?)?;
+    assert_eq!(rt; small.take_lines(text(alloc, &lines)?), Err(full));
+    assert_eq!(rt; small.next_after(None), Some(30));
+    assert_eq!(rt; small.size(), 6);
+    let mut large = Text::new(alloc, 12)?;
+    large.put(30, &line(alloc, b"\x8D")?)?;
+    assert_eq!(rt; large.take_lines(text(alloc, &lines)?), Ok(()));
+    assert_eq!(rt; large.size(), 12);
+    assert_eq!(rt; large.next_after(None), Some(10));
+    assert_eq!(rt; large.next_after(Some(20)), None);
+    // The area stays.
+    let again = large.put(21, &line(alloc, b"\x8D")?);
+    assert_eq!(rt; again, Err(Fault::Code(full)));
+    Ok(())
+}
+
+#[test]
 fn marks_functions_and_data_are_found(rt: HostRuntime) -> Result<(), Fail> {
     let text = text(rt.alloc(), &LINES)?;
     assert_eq!(rt; text.marked(5), Some(Spot { line: 0, unit: 0 }));

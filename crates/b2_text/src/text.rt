@@ -1,9 +1,10 @@
 // A program text: its lines by number.
-ghost use Rattle.std.specs.Prelude.{ℕ, List, filter, true, ◌||◌, ◌≡◌, ◌≢◌, ◌<◌, ◌≤◌, [], option_map, Ok, OnOk, OnErr, IfErr, IfSome};
+ghost use Rattle.std.specs.Prelude.{All, ℕ, List, filter, true, ◌||◌, ◌≡◌, ◌≢◌, ◌<◌, ◌≤◌, [], option_map, Ok, OnOk, OnErr, IfErr, IfSome};
 ghost use Rattle.std.specs.List.Sorted.{IsStrictlySortedBy};
 ghost use Rattle.std.specs.Map.{keys_of};
 ghost use Rattle.std.specs.Ordering.{nat_cmp};
 ghost use Rattle.std.specs.Map.Iter.{ShowsInOrder, deref_pair};
+ghost use Rattle.b2_base.specs.declared.codes.TheConstants.{A01_TEXT_AREA};
 ghost use Rattle.b2_base.specs.Lexical.{is_digit, is_letter};
 ghost use Rattle.b2_text.specs.Program.{is_within, size_of, line_at, with_line, without_line, without, number_after, first_number};
 ghost use Rattle.b2_text.specs.Spots.{is_mark, is_function, is_data, unit_at, first_opening, data_from};
@@ -81,6 +82,7 @@ impl Text {
     pub fn next_after(&self, n: Option<u16>) -> Option<u16>
         ensures least { result ≡ number_after n self.now.lines }
         ensures ascending { IsStrictlySortedBy nat_cmp (keys_of self.now.lines) }
+        ensures small { All (λ n. n ≤ 9999) (keys_of self.now.lines) }
     {
         match n {
             Some(n) => first_above(&self.lines, n),
@@ -160,6 +162,22 @@ impl Text {
     {
         self.lines.clear();
         self.size = 0;
+    }
+
+    /// Takes the lines of another text in place of its own. A01 comes exactly where they would pass the area; then the text
+    /// is as before. It takes no memory.
+    pub fn take_lines(&mut self, other: Text) -> Result<(), Code>
+        ensures ok { OnOk result (self.new ≡ record self.old { lines = other.lines }) }
+        ensures fits { OnOk result (size_of other.lines ≤ self.old.area) }
+        ensures full { IfErr result (λ code. (code ≡ A01_TEXT_AREA) × (self.old.area < size_of other.lines)) }
+        ensures err { OnErr result (self.new ≡ self.old) }
+    {
+        if other.size > self.area {
+            return Err(Code::known(A01_TEXT_AREA));
+        }
+        self.size = other.size;
+        self.lines = other.lines;
+        Ok(())
     }
 
     fn first_within(&self, from: u16, to: u16) -> Option<u16>
