@@ -12,7 +12,7 @@ use Rattle.b2_platter.specs.Edits.{put_sector}
 use Rattle.b2_platter.proofs.Rooms.{Parts, LiesIn, LiesIn-from}
 use Rattle.b2_platter.proofs.Goodness.{Parts-of, most_of_good}
 use Rattle.b2_platter.proofs.Soundness.{Sound-from_Good}
-use Rattle.b2_platter.proofs.Puts.{length-put_sector, row_before, sector_before, sector_same}
+use Rattle.b2_platter.proofs.Puts.{length-put_sector, row_before, sector_before, sector_after, sector_same}
 use Rattle.b2_platter.proofs.Fresh.{HeadSays, head_says_row, head_passes, length-head_bytes}
 use Rattle.b2_catalog.specs.Catalogue.{entry_at, catalogue}
 use Rattle.b2_catalog.specs.Ways.{has_name, slot_of, way_of}
@@ -211,6 +211,32 @@ module _ (a : List ℕ) (good : Good Narrow a) (name : List ℕ) (legal : is_nam
   catalogue-entered =
       catalogue-inserted a b k good entered_changes placed.low placed.high name (ap (has_name name) slot_now ∙ has_name-from name slot says.entry says.name) free_no_entry
       ∙ ap (insert (catalogue a) name) entry_entered
+
+  pub entered_head : HeadSays Narrow (entered a k name program sectors) (index_of a) (total_of Narrow a) (catalogue_end Narrow a) (next_free Narrow a + sectors)
+  unfolding entered
+  entered_head = head_now
+
+  -- the sectors after the index and before the new control sector stay
+  pub entered_sectors : (n : ℕ) → index_of a ≤ n → n < next_free Narrow a + sectors - 1 → sector (entered a k name program sectors) n ≡ sector a n
+  unfolding entered
+  entered_sectors n low below = sectors_now n low below
+
+  -- and those after it
+  pub entered_after : (n : ℕ) → next_free Narrow a + sectors ≤ n → sector (entered a k name program sectors) n ≡ sector a n
+  unfolding entered
+  entered_after n above =
+      let p = parts in
+      sector_after two last (control_sector 1) (control_long 1) room_last n (omega arith)
+      ∙ sector_above one k slot says.long room_slot n (omega (arith, placed.high))
+      ∙ sector_above a 0 front long_front room_front n (omega arith)
+
+  pub entered_others : (j : ℕ) → 1 ≤ j → j < 16 * index_of a → j ≢ k → row (entered a k name program sectors) j ≡ row a j
+  unfolding entered
+  entered_others j low high other = others_now j low high other
+
+  pub entered_slot : is_entry (row (entered a k name program sectors) k) ≡ true
+  unfolding entered
+  entered_slot = ap is_entry slot_now ∙ says.entry
 
 -- three sectors put in place make that image
 pub entered_made : (a first own control front slot name : List ℕ) (k start sectors : ℕ) (program : Bool) → start ≡ next_free Narrow a → front ≡ head_with_next a (start + sectors) → first ≡ sector (put_row a 0 front) 0 → slot ≡ file_slot program start (start + sectors - 1) name → own ≡ put_row (sector (put_row a 0 front) (k / 16)) (k % 16) slot → control ≡ control_sector 1 → length front ≡ 16 → 256 * (k / 16) + 256 ≤ length a → put_sector (put_sector (put_sector a 0 first) (k / 16) own) (start + sectors - 1) control ≡ entered a k name program sectors

@@ -13,3 +13,4 @@ pub mod Entering
 pub mod Refusals
 pub mod Reusing
 pub mod Formats
+pub mod DataSectors

@@ -138,6 +138,17 @@ module _ (a : List ℕ) (good : Good Narrow a) (old : List ℕ) (k : ℕ) (at : 
   unfolding reused
   reused_good = changed_good gone after to gone_good again
 
+  pub reused_index : index_of (reused a k to name program) ≡ index_of a
+  unfolding reused
+  reused_index = after_index ∙ gone_index
+
+  -- the sectors after the index stay
+  pub reused_sectors : (n : ℕ) → index_of a ≤ n → sector (reused a k to name program) n ≡ sector a n
+  unfolding reused
+  reused_sectors n h =
+      put_sectors_above gone gone_good to low high' slot says.long n (omega (arith, gone_index, h))
+      ∙ put_sectors_above a good k at.low at.high gone_slot gone_long n h
+
   entry_now : entry_at after to ≡ record (entry_at a k) { name = name; live = true; program = program }
   unfolding entry_at
   entry_now = rw (slot_now, says.name, says.live, says.program, says.start, says.end, own_sector) refl

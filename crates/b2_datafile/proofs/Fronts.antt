@@ -14,7 +14,7 @@ use Rattle.b2_record.specs.Items.{group_bytes}
 use Rattle.b2_record.specs.Records.{fits_in_sector, goes_over, go_on, is_record, is_none, sector_of, sector_kind, sectors_from, sectors_at, Spells}
 use Rattle.b2_record.proofs.Groups.{and-left, and-right}
 use Rattle.b2_datafile.specs.Files.{Fills, put_from}
-use Rattle.b2_datafile.proofs.DataSectors.{data-kept, good-kept, catalogue-kept, sector-kept, sector-put}
+use Rattle.b2_catalog.proofs.DataSectors.{data-kept, good-kept, catalogue-kept, sector-kept, sector-put}
 
 -- ---- the same sectors have the same records
 

@@ -1,4 +1,3 @@
-pub mod DataSectors
 pub mod Writing
 pub mod Fronts
 pub mod Passing

@@ -8,7 +8,7 @@ use Rattle.b2_record.specs.Records.{Spells, sectors_at}
 use Rattle.b2_record.specs.Writing.{record_of}
 use Rattle.b2_datafile.specs.Files.{Fills, IsFront, IsWhole, put_from}
 use Rattle.b2_datafile.specs.Laws.{SavesAt, EndsAt, with_end}
-use Rattle.b2_datafile.proofs.DataSectors.{InImage, in-image, sector-put, sector-kept}
+use Rattle.b2_catalog.proofs.DataSectors.{InImage, in-image, sector-put, sector-kept}
 use Rattle.b2_datafile.specs.Files.{end_mark}
 use Rattle.b2_platter.specs.Checks.{Good}
 use Rattle.b2_platter.specs.Image.{sector}

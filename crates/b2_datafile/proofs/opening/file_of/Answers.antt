@@ -1,5 +1,5 @@
 use Rattle.std.proofs.Common.{sym}
-use Rattle.b2_datafile.proofs.DataSectors.{in-image}
+use Rattle.b2_catalog.proofs.DataSectors.{in-image}
 use Rattle.b2_datafile.proofs.opening.file_of.Goals as goal
 
 pub returns-then-e-s-clause-order : goal.returns-then-e-s-clause-order

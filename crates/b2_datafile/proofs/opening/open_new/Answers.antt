@@ -6,7 +6,7 @@ use Rattle.b2_platter.specs.Edits.{put_sector}
 use Rattle.b2_platter.specs.Image.{sector}
 use Rattle.b2_catalog.specs.Changes.{control_sector}
 use Rattle.b2_datafile.specs.Files.{end_mark}
-use Rattle.b2_datafile.proofs.DataSectors.{in-image, catalogue-kept, get-put}
+use Rattle.b2_catalog.proofs.DataSectors.{in-image, catalogue-kept, get-put}
 use Rattle.b2_datafile.proofs.Saved.{made-mark}
 use Rattle.b2_datafile.proofs.opening.open_new.Goals as goal
 

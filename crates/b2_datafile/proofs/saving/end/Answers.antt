@@ -1,7 +1,7 @@
 use Rattle.std.proofs.Common.{◌∙◌, ◌+◌, ◌-◌, length, sym, ap, arith}
 use Rattle.std.specs.FinMap.{get, insert}
 use Rattle.b2_catalog.specs.Catalogue.{Catalogue, catalogue}
-use Rattle.b2_datafile.proofs.DataSectors.{in-image, catalogue-kept}
+use Rattle.b2_catalog.proofs.DataSectors.{in-image, catalogue-kept}
 use Rattle.b2_datafile.proofs.saving.end.Goals as goal
 
 pub put_file-requires : goal.put_file-requires

@@ -1,5 +1,5 @@
 use Rattle.std.proofs.Common.{arith}
-use Rattle.b2_datafile.proofs.DataSectors.{in-image}
+use Rattle.b2_catalog.proofs.DataSectors.{in-image}
 use Rattle.b2_datafile.proofs.saving.save.Goals as goal
 
 pub put_record-requires-clause-sectors : goal.put_record-requires-clause-sectors

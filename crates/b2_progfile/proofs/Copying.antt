@@ -1,0 +1,273 @@
+-- An image with a copy of a file of another: it is good, its catalogue has the file besides, and its other sectors stay.
+use Rattle.std.proofs.Common.{◌≡◌, ◌≢◌, ℕ, zero, suc, ◌+◌, ◌-◌, ◌*◌, ◌/◌, ◌<◌, ◌≤◌, Bool, true, false, not, cond, List, [], ◌∷◌, length, drop, Option, Some, None, IfSome, refl, sym, ap, ap₂, subst, ◌∙◌, arith, length-drop}
+use Rattle.std.specs.Prelude.{is_some, is_none, nat_lt}
+use Rattle.std.specs.Str.{bytes_eq}
+use Rattle.std.specs.Cmp.Lexicographic.{nat_list_cmp_total}
+use Rattle.std.specs.FinMap.{get, insert, get-insert, same_map, slice_cmp-IsAntisymmetric, nat_cmp-IsAntisymmetric}
+use Rattle.std.proofs.lemmas.Bool.{and_parts, ltb-false}
+use Rattle.b2_base.specs.Names.{is_name8}
+use Rattle.b2_base.specs.declared.codes.TheConstants.{D83_NAME_PRESENT, D85_INDEX_FULL, D86_NO_ROOM}
+use Rattle.b2_platter.specs.declared.layout.Layout.TheVariants.{Narrow}
+use Rattle.b2_platter.specs.Layout.{number_at, second_place}
+use Rattle.b2_platter.specs.Slot.{is_free, is_entry, is_spelled, end_of, name_of}
+use Rattle.b2_platter.specs.Image.{row, sector, index_of, total_of, catalogue_end, next_free}
+use Rattle.b2_platter.specs.Checks.{Good}
+use Rattle.b2_platter.specs.Edits.{put_sector}
+use Rattle.b2_platter.proofs.Goodness.{Parts-of, sectors_of_good}
+use Rattle.b2_platter.proofs.Soundness.{Sound-from_Good}
+use Rattle.b2_platter.proofs.Puts.{row_before, sector_after, sector_before}
+use Rattle.b2_platter.proofs.Kept.{index-same, next-same}
+use Rattle.b2_platter.proofs.Fresh.{HeadSays}
+use Rattle.b2_catalog.specs.declared.entry.Entry.{Entry}
+use Rattle.b2_catalog.specs.Catalogue.{Catalogue, catalogue}
+use Rattle.b2_catalog.specs.Ways.{place, slot_of, way_of}
+use Rattle.b2_catalog.specs.Changes.{control_sector, entered}
+use Rattle.b2_catalog.specs.Calls.{enter_refusal, new_entry}
+use Rattle.b2_catalog.proofs.DataSectors.{InImage, get-put, in-image}
+use Rattle.b2_catalog.proofs.Changed.{changed_good}
+use Rattle.b2_catalog.proofs.Entering.{catalogue-entered, entered_after, entered_good, entered_head, entered_others, entered_sectors, entered_slot}
+use Rattle.b2_catalog.proofs.Looking.{Holds, Holds-from}
+use Rattle.b2_catalog.proofs.Mapping.{tie-eq}
+use Rattle.b2_catalog.proofs.Placing.{Placed, Placed-from}
+use Rattle.b2_catalog.proofs.Refusals.{present, slot_none}
+use Rattle.b2_catalog.proofs.RowPuts.{length-row, row_room}
+use Rattle.b2_catalog.proofs.Scratching.{catalogue-used, entry_end, entry_start, stands, used_changes}
+use Rattle.b2_catalog.proofs.Spelled.{control_long}
+use Rattle.b2_progfile.specs.Programs.{sectors_at}
+use Rattle.b2_progfile.specs.Saving.{filled_with, put_all}
+use Rattle.b2_progfile.specs.Moving.{IsLiveFile, all_sectors, entry_from, own_sectors, put_copy, with_copy}
+use Rattle.b2_progfile.proofs.Copies.{sectors-length, sectors-long}
+use Rattle.b2_progfile.proofs.Filling.{all-put, control-room, filled-with-there, still-there}
+use Rattle.b2_progfile.proofs.Puts.{AllLong, PutAll}
+
+-- ---- a file is entered
+
+pub refused-by : (b c : Bool) (o : Option ℕ) (x : ℕ) → cond b (Some x) o ≡ None → (b ≡ false) × (o ≡ None)
+refused-by true c o x h = cc
+refused-by false c o x h = (refl, h)
+
+pub none-or : (o : Option ℕ) → is_none o ≡ false → (k : ℕ) × (o ≡ Some k)
+none-or None h = cc
+none-or (Some k) h = (k, refl)
+
+-- what it says that a file is entered
+pub record Enters (image name : List ℕ) (sectors : ℕ) : Type 0 where
+  pub absent : slot_of image name ≡ None
+  pub k : ℕ
+  pub place_is : place image name ≡ Some k
+  pub room : next_free Narrow image + sectors ≤ catalogue_end Narrow image
+
+pub enters : (image name : List ℕ) (sectors : ℕ) → enter_refusal image name sectors ≡ None → Enters image name sectors
+enters image name sectors h =
+    let first = refused-by (is_some (get (catalogue image) name)) true _ D83_NAME_PRESENT h in
+    let second = refused-by (is_none (place image name)) true _ D85_INDEX_FULL first.1 in
+    let third = refused-by (nat_lt (catalogue_end Narrow image) (next_free Narrow image + sectors)) true None D86_NO_ROOM second.1 in
+    let k = none-or (place image name) second.0 in
+    record {
+      absent = slot_none image name (sym (present image name) ∙ first.0);
+      k = k.0;
+      place_is = k.1;
+      room = ltb-false (catalogue_end Narrow image) (next_free Narrow image + sectors) third.0;
+    }
+
+-- ---- names of files
+
+chosen : (b x y : Bool) → b ≡ true → cond b x y ≡ true → x ≡ true
+chosen true x y e h = h
+chosen false x y e h = cc
+
+pub legal-of : (slot : List ℕ) → is_entry slot ≡ true → is_spelled Narrow slot ≡ true → is_name8 (name_of slot) ≡ true
+unfolding is_spelled
+legal-of slot e h = (and_parts _ _ (chosen (is_entry slot) _ _ e h)).1
+
+pub eight-of : (slot : List ℕ) → length slot ≡ 16 → length (name_of slot) ≡ 8
+unfolding name_of
+eight-of slot h = (let n = length-drop 8 slot in omega (arith, h, n))
+
+-- ---- maps
+
+put-twice-at : (files : Catalogue) (name : List ℕ) (e f : Entry) (q : List ℕ) (b : Bool) → bytes_eq name q ≡ b
+    → cond b (Some f) (cond b (Some e) (get files q)) ≡ cond b (Some f) (get files q)
+put-twice-at files name e f q true is = refl
+put-twice-at files name e f q false is = refl
+
+pub get-other : (files : Catalogue) (name q : List ℕ) (e : Entry) → get (insert files name e) q ≡ cond (bytes_eq name q) (Some e) (get files q)
+get-other files name q e = get-insert nat_list_cmp_total files name e q ∙ ap (λ (t : Bool). cond t (Some e) (get files q)) (tie-eq q name)
+
+-- what is put at a name twice is as put once
+pub put-twice : (files : Catalogue) (name : List ℕ) (e f : Entry) → insert (insert files name e) name f ≡ insert files name f
+put-twice files name e f =
+    same_map nat_list_cmp_total (slice_cmp-IsAntisymmetric nat_cmp-IsAntisymmetric) (insert (insert files name e) name f) (insert files name f)
+    (λ q. get-other (insert files name e) name q f ∙ (ap (λ (o : Option Entry). cond (bytes_eq name q) (Some f) o) (get-other files name q e)
+    ∙ (put-twice-at files name e f q (bytes_eq name q) refl ∙ sym (get-other files name q f))))
+
+end-same : (a b : List ℕ) → row b 0 ≡ row a 0 → catalogue_end Narrow b ≡ catalogue_end Narrow a
+unfolding catalogue_end
+end-same a b h = ap (number_at Narrow (second_place Narrow)) h
+
+not-free : (slot : List ℕ) → is_entry slot ≡ true → is_free slot ≡ false
+unfolding is_free is_entry
+not-free slot e = grind arith
+
+-- ---- the copy
+
+pub record Copy (from image new : List ℕ) (e : Entry) (k : ℕ) : Type 0 where
+  pub good : Good Narrow new
+  pub index : index_of new ≡ index_of image
+  pub end : catalogue_end Narrow new ≡ catalogue_end Narrow image
+  pub next : next_free Narrow new ≡ next_free Narrow image + all_sectors e
+  pub files : catalogue new ≡ insert (catalogue image) e.name (entry_from (next_free Narrow image) e)
+  pub before : (n : ℕ) → index_of image ≤ n → n < next_free Narrow image → sector new n ≡ sector image n
+  pub after : (n : ℕ) → next_free Narrow image + all_sectors e ≤ n → sector new n ≡ sector image n
+  pub kept : sectors_at new (next_free Narrow image) (e.end - e.start) ≡ own_sectors from e
+  pub low : 1 ≤ k
+  pub high : k < 16 * index_of image
+  pub was : is_free (row image k) ≡ true
+  pub now : is_free (row new k) ≡ false
+  pub others : (j : ℕ) → 1 ≤ j → j < 16 * index_of image → j ≢ k → row new j ≡ row image j
+
+module _ (from image : List ℕ) (e : Entry) (source : Good Narrow from) (good : Good Narrow image) (live : IsLiveFile from e) (n : Enters image e.name (all_sectors e)) where
+  inside : InImage from e
+  inside = in-image from e.name e source live.there
+
+  legal : is_name8 e.name ≡ true
+  legal =
+      let w = stands from e.name e live.there in
+      let h = Holds-from e.name (row from w.0) w.1.at.held in
+      subst (λ (name : List ℕ). is_name8 name ≡ true) h.same (legal-of (row from w.0) h.entry ((Sound-from_Good Narrow from source).spelled w.0 w.1.at.low w.1.at.high))
+
+  eight : length e.name ≡ 8
+  eight =
+      let w = stands from e.name e live.there in
+      let h = Holds-from e.name (row from w.0) w.1.at.held in
+      let parts = Parts-of Narrow from source in
+      let room : 16 * w.0 + 16 ≤ length from = omega (arith, w.1.at.high, parts.whole, parts.files, parts.free, parts.rest) in
+      subst (λ (name : List ℕ). length name ≡ 8) h.same (eight-of (row from w.0) (length-row from w.0 room))
+
+  placed : Placed image (way_of image e.name) n.k
+  placed = Placed-from image good e.name n.k n.place_is
+
+  some : 2 ≤ all_sectors e
+  some = let i = inside in omega (arith, i.order)
+
+  abbrev start : ℕ
+  start = next_free Narrow image
+
+  abbrev new : Entry
+  new = new_entry image e.name e.program (all_sectors e)
+
+  abbrev one : List ℕ
+  one = entered image n.k e.name e.program (all_sectors e)
+
+  abbrev own : List (List ℕ)
+  own = own_sectors from e
+
+  abbrev two : List ℕ
+  two = put_all one start own
+
+  abbrev three : List ℕ
+  three = filled_with one start (start + (e.end - e.start)) own e.used
+
+  good-one : Good Narrow one
+  good-one = entered_good image good e.name legal eight n.k placed n.absent e.program (all_sectors e) some n.room
+
+  head-one : HeadSays Narrow one (index_of image) (total_of Narrow image) (catalogue_end Narrow image) (start + all_sectors e)
+  head-one = entered_head image good e.name legal eight n.k placed n.absent e.program (all_sectors e) some n.room
+
+  files-one : catalogue one ≡ insert (catalogue image) e.name new
+  files-one = catalogue-entered image good e.name legal eight n.k placed n.absent e.program (all_sectors e) some n.room
+
+  file-one : get (catalogue one) e.name ≡ Some new
+  file-one = ap (λ (files : Catalogue). get files e.name) files-one ∙ get-put (catalogue image) e.name new
+
+  last-is : new.end ≡ start + (e.end - e.start)
+  last-is = let i = inside in omega (arith, i.order)
+
+  count : length own ≡ e.end - e.start
+  count = sectors-length from e.start (e.end - e.start)
+
+  long : AllLong own
+  long = let i = inside in sectors-long from e.start (e.end - e.start) source (omega (arith, i.order, i.within))
+
+  room : new.start + length own ≤ new.end
+  room = let l = last-is in let c = count in omega (arith, l, c)
+
+  put : PutAll one two start own
+  put = all-put one new own good-one file-one long room
+
+  file-two : get (catalogue two) e.name ≡ Some new
+  file-two = still-there one new own good-one file-one long room
+
+  last-room : 256 * new.end + 256 ≤ length two
+  last-room = control-room one new own good-one file-one long room
+
+  three-is : three ≡ put_sector two new.end (control_sector e.used)
+  three-is = ap (λ (m : ℕ). put_sector two m (control_sector e.used)) (sym last-is)
+
+  used : Good Narrow three × (catalogue three ≡ insert (catalogue two) e.name (record new { used = e.used }))
+  used =
+      let i = inside in
+      let w = stands two e.name new file-two in
+      let end : new.end ≡ end_of Narrow (row two w.0) = ap (λ (e : Entry). e.end) w.1.is ∙ entry_end two w.0 in
+      let first : new.start ≡ _ = ap (λ (e : Entry). e.start) w.1.is ∙ entry_start two w.0 in
+      let few : e.used ≤ end_of Narrow (row two w.0) - _ = omega (arith, i.few, last-is, end, first) in
+      let same : three ≡ put_sector two (end_of Narrow (row two w.0)) (control_sector e.used) = three-is ∙ ap (λ (m : ℕ). put_sector two m (control_sector e.used)) end in (
+        subst (Good Narrow) (sym same) (changed_good two _ w.0 put.good (used_changes two put.good e.name w.0 w.1.at e.used i.used few)),
+        ap catalogue same ∙ (catalogue-used two put.good e.name w.0 w.1.at e.used i.used few ∙ ap (λ (f : Entry). insert (catalogue two) e.name (record f { used = e.used })) (sym w.1.is)),
+      )
+
+  index-one : index_of one ≡ index_of image
+  index-one = head-one.index
+
+  ordered : index_of image ≤ start
+  ordered = (Parts-of Narrow image good).files
+
+  rows : (j : ℕ) → j < 16 * index_of image → row three j ≡ row one j
+  rows j h =
+      let i = index-one in
+      let o = ordered in
+      let l = last-is in
+      ap (λ (q : List ℕ). row q j) three-is
+      ∙ (row_before two new.end (control_sector e.used) (control_long e.used) last-room j (omega (arith, h, o, l))
+      ∙ put.rows j (omega (arith, h, i)))
+
+  first-row : row three 0 ≡ row one 0
+  first-row = let p = placed in rows 0 (omega (arith, p.low, p.high))
+
+  entry-is : record new { used = e.used } ≡ entry_from start e
+  entry-is = ap₂ (λ (l : Bool) (m : ℕ). record e { live = l; start = start; end = m }) (sym live.live) last-is
+
+  pub copy-made : Copy from image three e n.k
+  copy-made =
+      let p = placed in
+      let o = ordered in
+      let l = last-is in
+      let i = index-one in record {
+        good = used.0;
+        index = index-same Narrow one three first-row ∙ i;
+        end = end-same one three first-row ∙ head-one.end;
+        next = next-same Narrow one three first-row ∙ head-one.next;
+        files = used.1
+            ∙ (ap (λ (files : Catalogue). insert files e.name (record new { used = e.used })) (put.files ∙ files-one)
+            ∙ (put-twice (catalogue image) e.name new (record new { used = e.used }) ∙ ap (insert (catalogue image) e.name) entry-is));
+        before = λ m low high. ap (λ (q : List ℕ). sector q m) three-is
+            ∙ (sector_before two new.end (control_sector e.used) (control_long e.used) last-room m (omega (arith, high, l))
+            ∙ (put.before m high
+            ∙ entered_sectors image good e.name legal eight n.k placed n.absent e.program (all_sectors e) some n.room m low (omega (arith, high))));
+        after = λ m low. ap (λ (q : List ℕ). sector q m) three-is
+            ∙ (sector_after two new.end (control_sector e.used) (control_long e.used) last-room m (omega (arith, low, l))
+            ∙ (put.after m (omega (arith, low, count))
+            ∙ entered_after image good e.name legal eight n.k placed n.absent e.program (all_sectors e) some n.room m low));
+        kept = ap (λ (m : ℕ). sectors_at three start m) (sym count) ∙ (ap (λ (q : List ℕ). sectors_at q start (length own)) three-is ∙ filled-with-there one new own good-one file-one long room e.used);
+        low = p.low;
+        high = p.high;
+        was = p.free;
+        now = not-free (row three n.k) (ap is_entry (rows n.k p.high) ∙ entered_slot image good e.name legal eight n.k placed n.absent e.program (all_sectors e) some n.room);
+        others = λ j low high other. rows j high ∙ entered_others image good e.name legal eight n.k placed n.absent e.program (all_sectors e) some n.room j low high other;
+      }
+
+  pub with-copy-is : with_copy from image e ≡ three
+  with-copy-is = ap (put_copy from image e) n.place_is
+
+  pub copied : Copy from image (with_copy from image e) e n.k
+  copied = subst (λ (q : List ℕ). Copy from image q e n.k) (sym with-copy-is) copy-made

@@ -1,0 +1,14 @@
+pub mod Numbers
+pub mod Puts
+pub mod Pieces
+pub mod Making
+pub mod Filling
+pub mod Copies
+pub mod Parsing
+pub mod Merging
+pub mod Copying
+pub mod Files
+pub mod Refilling
+pub mod Told
+pub mod MovedFiles
+pub mod Others

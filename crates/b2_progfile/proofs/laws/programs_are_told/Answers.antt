@@ -1,0 +1,5 @@
+use Rattle.b2_progfile.proofs.Told.{programs-told}
+use Rattle.b2_progfile.proofs.laws.programs_are_told.Goals as goal
+
+pub returns : goal.returns
+returns c = programs-told

@@ -1,0 +1,6 @@
+use Rattle.std.proofs.Common.{◌∙◌, ◌*◌, length, drop, take, min, ap, arith}
+use Rattle.std.proofs.lemmas.List.{length-take}
+use Rattle.b2_progfile.proofs.spelling.part_bytes.Goals as goal
+
+pub returns-clause-short : goal.returns-clause-short
+returns-clause-short c = let n = length-take 255 (drop (255 * c.args.k) c.args.bytes.now) in rw (c.front.ensures, c.dropped.ensures) (omega (arith, n))

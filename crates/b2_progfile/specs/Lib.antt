@@ -1,0 +1,6 @@
+pub mod Programs
+pub mod Saving
+pub mod Moving
+pub mod MovingAll
+pub mod Loading
+pub mod Laws

@@ -1,0 +1,101 @@
+-- Which lines are saved, the sectors that are written, why a program isn't saved, and the image that saving leaves.
+use Rattle.std.specs.Prelude.{◌≡◌, IfSome, ℕ, ◌+◌, ◌-◌, ◌*◌, ◌/◌, ◌<◌, ◌≤◌, ◌⊎◌, Bool, true, min, nat_lt, List, [], ◌∷◌, ◌++◌, length, take, drop, filter, map, replicate, Option, Some, None, if◌then◌else◌}
+use Rattle.std.specs.List.{range_with_len}
+use Rattle.std.specs.FinMap.{get, remove}
+use Rattle.b2_base.specs.declared.codes.Fault.{Fault}
+use Rattle.b2_base.specs.declared.codes.Fault.TheVariants as fault
+use Rattle.b2_base.specs.declared.codes.TheConstants.{D86_NO_ROOM}
+use Rattle.b2_platter.specs.Image.{index_of, sector}
+use Rattle.b2_platter.specs.Edits.{put_sector}
+use Rattle.b2_catalog.specs.declared.entry.Entry.{Entry}
+use Rattle.b2_catalog.specs.Catalogue.{Catalogue, catalogue}
+use Rattle.b2_catalog.specs.Ways.{place, slot_of}
+use Rattle.b2_catalog.specs.Changes.{control_sector, entered, reused}
+use Rattle.b2_catalog.specs.Calls.{enter_refusal, reuse_refusal, new_entry, reused_place}
+use Rattle.b2_text.specs.Program.{Lines, is_within}
+use Rattle.b2_progfile.specs.declared.spelling.TheConstants.{PIECE, PIECE_BYTES}
+use Rattle.b2_progfile.specs.Programs.{program_bytes}
+
+-- the lines from a number to another
+abbrev pub lines_between : ℕ → ℕ → Lines → Lines
+lines_between from to lines = filter (λ l. is_within from to l.0) lines
+
+-- the lines from a number to another that are saved; no line has a number above 9999
+abbrev pub lines_within : ℕ → ℕ → Lines → Lines
+lines_within from to lines = lines_between from (min to 9999) lines
+
+-- a sector with some bytes of a program, and 00 to the end
+abbrev pub piece_of : List ℕ → List ℕ
+piece_of bytes = PIECE ∷ (bytes ++ replicate (PIECE_BYTES - length bytes) 0)
+
+-- how many sectors hold some bytes
+abbrev pub pieces_count : List ℕ → ℕ
+pieces_count bytes = (length bytes + (PIECE_BYTES - 1)) / PIECE_BYTES
+
+-- the k-th sector that holds some of the bytes
+abbrev pub piece_at : List ℕ → ℕ → List ℕ
+piece_at bytes k = piece_of (take PIECE_BYTES (drop (PIECE_BYTES * k) bytes))
+
+-- all of them
+abbrev pub pieces_of : List ℕ → List (List ℕ)
+pieces_of bytes = map (piece_at bytes) (range_with_len 0 (pieces_count bytes))
+
+-- the sectors of a program
+abbrev pub program_sectors : Lines → List (List ℕ)
+program_sectors lines = pieces_of (program_bytes lines)
+
+-- an old file is too small for some sectors and its control sector
+abbrev pub size_refusal : Option Entry → ℕ → Option ℕ
+size_refusal None count = None
+size_refusal (Some e) count = if nat_lt (e.end - e.start) count then Some D86_NO_ROOM else None
+
+abbrev pub or_then : Option ℕ → Option ℕ → Option ℕ
+or_then (Some code) other = Some code
+or_then None other = other
+
+-- why no file is made for some sectors: as a new file, or as a scratched file that is taken again
+abbrev pub save_refusal : List ℕ → Option (List ℕ) → List ℕ → ℕ → Option ℕ
+save_refusal image None name count = enter_refusal image name (count + 1)
+save_refusal image (Some old) name count = or_then (reuse_refusal image old name) (size_refusal (get (catalogue image) old) count)
+
+-- sectors from one on are these
+abbrev pub put_all : List ℕ → ℕ → List (List ℕ) → List ℕ
+put_all image at [] = image
+put_all image at (s ∷ sectors) = put_all (put_sector image at s) (at + 1) sectors
+
+-- a file's sectors are these, and its control sector says that some of them are used
+abbrev pub filled_with : List ℕ → ℕ → ℕ → List (List ℕ) → ℕ → List ℕ
+filled_with image start end sectors used = put_sector (put_all image start sectors) end (control_sector used)
+
+-- the same where all of them are
+abbrev pub filled : List ℕ → ℕ → ℕ → List (List ℕ) → List ℕ
+filled image start end sectors = filled_with image start end sectors (length sectors)
+
+-- a file is made for some sectors: a new one with a control sector more, or a scratched one that is taken again
+abbrev pub Made : List ℕ → Option (List ℕ) → List ℕ → ℕ → List ℕ → Entry → Type 0
+Made image None name count new e =
+    (e ≡ new_entry image name true (count + 1)) × IfSome (place image name) (λ k. new ≡ entered image k name true (count + 1))
+Made image (Some old) name count new e =
+    IfSome (get (catalogue image) old) (λ was. e ≡ record was { name = name; live = true; program = true })
+    × IfSome (slot_of image old) (λ k. IfSome (reused_place image old name) (λ to. new ≡ reused image k to name true))
+
+-- a program is saved: a file is made for its sectors, and filled with them
+pub record Saved (image : List ℕ) (old : Option (List ℕ)) (name : List ℕ) (lines : Lines) (new : List ℕ) : Type 0 where
+  pub e : Entry
+  pub between : List ℕ
+  pub made : Made image old name (length (program_sectors lines)) between e
+  pub same : new ≡ filled between e.start e.end (program_sectors lines)
+
+-- the catalogue without the old file
+abbrev pub files_without : List ℕ → Option (List ℕ) → Catalogue
+files_without image None = catalogue image
+files_without image (Some old) = remove (catalogue image) old
+
+-- the sectors after the index that aren't those of a file are as before
+abbrev pub KeepsOthers : List ℕ → List ℕ → Entry → Type 0
+KeepsOthers image new e = (n : ℕ) → index_of image ≤ n → ((n < e.start) ⊎ (e.end < n)) → sector new n ≡ sector image n
+
+-- why a program isn't saved: no file is made for its sectors; or memory failed
+abbrev pub SaveFails : List ℕ → Option (List ℕ) → List ℕ → Lines → Fault → Type 0
+SaveFails image old name lines (fault.Code code) = save_refusal image old name (length (program_sectors lines)) ≡ Some code
+SaveFails image old name lines fault.NoMemory = Unit {0}

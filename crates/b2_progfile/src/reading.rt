@@ -1,0 +1,143 @@
+// A program is read from sectors.
+ghost use Rattle.std.specs.Prelude.{◌≡◌, ◌+◌, ◌-◌, ◌<◌, ◌≤◌, ◌++◌, ℕ, List, true, false, OnOk, IfOk, IfErr, length, drop};
+ghost use Rattle.b2_base.specs.declared.codes.Fault.TheVariants as fault;
+ghost use Rattle.b2_base.specs.declared.codes.TheConstants.{D88_FORMAT};
+ghost use Rattle.b2_base.specs.Lexical.{first};
+ghost use Rattle.b2_platter.specs.declared.layout.Layout.TheVariants.{Narrow};
+ghost use Rattle.b2_platter.specs.Image.{total_of};
+ghost use Rattle.b2_text.specs.Program.{Lines, with_line};
+ghost use Rattle.b2_progfile.specs.Programs.{AllPieces, IsProgramText, SpellsProgram, piece_bytes, sectors_at};
+ghost use Rattle.b2_progfile.specs.Loading.{IsEnd, IsLineAt, Unread};
+
+use crate::spelling::{MOST_NUMBER, PIECE, PROGRAM_END};
+use b2_atom::Atoms;
+use b2_base::codes::D88_FORMAT;
+use b2_base::{Code, Fault, NoMemory, lexical};
+use b2_platter::{Platter, slot};
+use b2_text::Text;
+use std::alloc::Global;
+
+/// The area of a text that is made for a program that is read: it holds any.
+pub(crate) const WIDE_AREA: usize = 16_777_216;
+
+/// What is answered where no program is spelled.
+fn no_program() -> Fault
+    ensures { result ≡ fault.Code D88_FORMAT }
+{
+    Fault::Code(Code::known(D88_FORMAT))
+}
+
+/// Adds bytes at the end.
+fn add(bytes: &mut Vec<u8>, more: &[u8]) -> Result<(), NoMemory>
+    ensures { OnOk result (bytes.new.items ≡ bytes.old.items ++ more.now) }
+{
+    bytes.extend_from_slice(more)?;
+    Ok(())
+}
+
+/// What some sectors hold. D88 exactly where one of them isn't a piece of a program.
+fn held_bytes(alloc: Global, p: &Platter, at: u32, count: u32) -> Result<Vec<u8>, Fault>
+    requires { at + count ≤ total_of Narrow p.now }
+    ensures pieces { OnOk result (AllPieces (sectors_at p.now at count)) }
+    ensures bytes { IfOk result (λ bytes. bytes.items ≡ piece_bytes (sectors_at p.now at count)) }
+    ensures err { IfErr result (Unread (¬ AllPieces (sectors_at p.now at count))) }
+{
+    let _image = p.image();
+    let mut bytes = Vec::new(alloc);
+    for k in 0..count {
+        let sector = p.sector(at + k);
+        if lexical::first(sector) != PIECE {
+            return Err(no_program());
+        }
+        add(&mut bytes, lexical::dropped(sector, 1))?;
+    }
+    Ok(bytes)
+}
+
+/// The line at the front of some bytes, whose number is at least some number. D88 exactly where no line is spelled there.
+fn next_line(alloc: Global, bytes: &[u8], least: u16) -> Result<(u16, Atoms), Fault>
+    ensures ok { IfOk result (λ line. IsLineAt least line bytes.now (drop (length line.1) (drop 3 bytes.now))) }
+    ensures err { IfErr result (Unread ((line : ℕ × List ℕ) (after : List ℕ) → ¬ IsLineAt least line bytes.now after)) }
+{
+    let [high, low, count, after @ ..] = bytes else {
+        return Err(no_program());
+    };
+    let number = u16::from(*high) * 256 + u16::from(*low);
+    let count = usize::from(*count);
+    if number < least {
+        return Err(no_program());
+    }
+    if number > MOST_NUMBER {
+        return Err(no_program());
+    }
+    if after.len() < count {
+        return Err(no_program());
+    }
+    let found = Atoms::of(alloc, lexical::front(after, count))?;
+    let Some(atoms) = found else {
+        return Err(no_program());
+    };
+    Ok((number, atoms))
+}
+
+/// Puts a line into a text that holds any; the one fault is that memory failed.
+pub(crate) fn put_wide(t: &mut Text, number: u16, atoms: &Atoms) -> Result<(), NoMemory>
+    requires { number ≤ 9999 }
+    ensures { OnOk result (t.new ≡ record t.old { lines = with_line number atoms.now t.old.lines }) }
+{
+    match t.put(number, atoms) {
+        Ok(()) => Ok(()),
+        Err(_) => Err(NoMemory),
+    }
+}
+
+/// Whether bytes of which the first ends a program are its end: the same byte again, and fewer than 255 bytes 00.
+fn is_end(bytes: &[u8]) -> bool
+    requires { first bytes.now ≡ 255 }
+    ensures yes { result ≡ true → IsEnd bytes.now }
+    ensures no { result ≡ false → ¬ IsEnd bytes.now }
+{
+    if lexical::at(bytes, 1) != PROGRAM_END {
+        return false;
+    }
+    if bytes.len() >= 257 {
+        return false;
+    }
+    slot::all_zero(lexical::dropped(bytes, 2))
+}
+
+/// The lines of a program that some bytes spell. D88 exactly where they spell none.
+fn lines_of(alloc: Global, bytes: &[u8]) -> Result<Text, Fault>
+    ensures ok { IfOk result (λ t. IsProgramText t.lines bytes.now) }
+    ensures err { IfErr result (Unread ((lines : Lines) → ¬ IsProgramText lines bytes.now)) }
+{
+    let mut t = Text::new(alloc, WIDE_AREA)?;
+    let mut rest = bytes;
+    let mut least = 0;
+    while lexical::first(rest) != PROGRAM_END {
+        let (number, atoms) = match next_line(alloc, rest, least) {
+            Ok(line) => line,
+            Err(fault) => return Err(fault),
+        };
+        put_wide(&mut t, number, &atoms)?;
+        rest = lexical::dropped(lexical::dropped(rest, 3), atoms.bytes().len());
+        least = number + 1;
+    }
+    if !is_end(rest) {
+        return Err(no_program());
+    }
+    Ok(t)
+}
+
+/// The program that some sectors spell. D88 exactly where they spell none.
+pub(crate) fn read_program(alloc: Global, p: &Platter, at: u32, count: u32) -> Result<Text, Fault>
+    requires { at + count ≤ total_of Narrow p.now }
+    ensures ok { IfOk result (λ t. SpellsProgram t.lines (sectors_at p.now at count)) }
+    ensures err { IfErr result (Unread ((lines : Lines) → ¬ SpellsProgram lines (sectors_at p.now at count))) }
+{
+    let bytes = match held_bytes(alloc, p, at, count) {
+        Ok(bytes) => bytes,
+        Err(fault) => return Err(fault),
+    };
+    lines_of(alloc, &bytes)
+}
