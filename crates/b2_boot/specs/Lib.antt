@@ -1,0 +1,4 @@
+pub mod Rows
+pub mod Boots
+pub mod LogLines
+pub mod Logs

@@ -1,0 +1,114 @@
+-- What a boot file says before its checks: the rows of its tables, in the file's order.
+use Rattle.std.specs.Prelude.{ℕ, ℤ, pos, negsuc, List, [], ◌∷◌, codes, Bool, true, ◌&&◌, ◌||◌, min, nat_le, Option, Some, None, option_and_then, option_map, if◌then◌else◌}
+use Rattle.std.specs.Str.{is_utf8}
+use Rattle.toml.specs.Data.{Data, Items, no_items, item, Members, no_members, member, get_member, as_integer, as_array, as_table}
+use Rattle.toml.specs.Parse.{parse_document}
+use Rattle.std.specs.Cmp.Lexicographic.{pointwise}
+use Rattle.std.specs.Prelude.{nat_eq}
+use Rattle.b2_boot.specs.declared.rows.Section.{Section}
+use Rattle.b2_boot.specs.declared.rows.Section.TheVariants as section
+use Rattle.b2_boot.specs.declared.rows.TerminalRow.{TerminalRow}
+use Rattle.b2_boot.specs.declared.rows.PartitionRow.{PartitionRow}
+
+-- what a file says: its quota, and a row for each terminal and each partition
+pub record RowsState : Type 0 where
+  pub quota : ℕ
+  pub terminals : List TerminalRow
+  pub partitions : List PartitionRow
+
+-- the document that bytes spell
+abbrev pub document_of : List ℕ → Option Members
+document_of bytes = if is_utf8 bytes then parse_document bytes else None
+
+abbrev pub is_between : ℕ → ℕ → ℕ → Bool
+is_between least most n = nat_le least n && nat_le n most
+
+-- a whole number as it is, and 65,535 in place of one that is below 0 or above it: out of each range
+abbrev pub small : ℤ → ℕ
+small (pos n) = min n 65535
+small (negsuc n) = 65535
+
+abbrev pub spells : List ℕ → List ℕ → Bool
+spells word key = pointwise nat_eq key word
+
+-- the keys that the file and the rows of its tables may have
+abbrev pub is_known : Section → List ℕ → Bool
+is_known section.File key = spells (codes "quota") key || (spells (codes "terminal") key || spells (codes "partition") key)
+is_known section.Terminal key = spells (codes "number") key || spells (codes "front") key
+is_known section.Partition key =
+    spells (codes "number") key || (spells (codes "terminal") key
+    || (spells (codes "text") key || (spells (codes "data") key || spells (codes "globals") key)))
+
+abbrev pub all_known : Section → Members → Bool
+all_known s no_members = true
+all_known s (member key d ms) = is_known s key && all_known s ms
+
+-- the number at a key, which has to be there
+abbrev pub number_of_key : List ℕ → Members → Option ℕ
+number_of_key key ms = option_map small (option_and_then as_integer (get_member key ms))
+
+-- the tables at a key: none where the key isn't there
+abbrev pub items_of_key : Option Data → Option Items
+items_of_key None = Some no_items
+items_of_key (Some d) = as_array d
+
+abbrev pub terminal_from : Option ℕ → Option ℕ → Option TerminalRow
+terminal_from (Some number) (Some front) = Some (record { number = number; front = front })
+terminal_from number front = None
+
+-- the row of a terminal
+abbrev pub terminal_row : Members → Option TerminalRow
+terminal_row ms = if all_known section.Terminal ms then terminal_from (number_of_key (codes "number") ms) (number_of_key (codes "front") ms) else None
+
+-- the sizes of a partition: of its text, its variables and its globals
+abbrev pub sizes_from : Option ℕ → Option ℕ → Option ℕ → ℕ → ℕ → Option PartitionRow
+sizes_from (Some text) (Some vars) (Some globals) number terminal =
+    Some (record { number = number; terminal = terminal; text = text; vars = vars; globals = globals })
+sizes_from text vars globals number terminal = None
+
+abbrev pub sizes_of : Members → ℕ → ℕ → Option PartitionRow
+sizes_of ms number terminal = sizes_from (number_of_key (codes "text") ms) (number_of_key (codes "data") ms) (number_of_key (codes "globals") ms) number terminal
+
+abbrev pub partition_from : Option ℕ → Option ℕ → (ℕ → ℕ → Option PartitionRow) → Option PartitionRow
+partition_from (Some number) (Some terminal) sized = sized number terminal
+partition_from number terminal sized = None
+
+-- the row of a partition
+abbrev pub partition_row : Members → Option PartitionRow
+partition_row ms =
+    if all_known section.Partition ms then partition_from (number_of_key (codes "number") ms) (number_of_key (codes "terminal") ms) (sizes_of ms) else None
+
+-- a row before others
+abbrev pub before_rows : {A : Type 0} → Option A → Option (List A) → Option (List A)
+before_rows (Some x) (Some xs) = Some (x ∷ xs)
+before_rows x xs = None
+
+-- each item as a row of its own
+abbrev pub terminal_rows : Items → Option (List TerminalRow)
+terminal_rows no_items = Some []
+terminal_rows (item d ds) = before_rows (option_and_then terminal_row (as_table d)) (terminal_rows ds)
+
+abbrev pub partition_rows : Items → Option (List PartitionRow)
+partition_rows no_items = Some []
+partition_rows (item d ds) = before_rows (option_and_then partition_row (as_table d)) (partition_rows ds)
+
+-- a quota is from 1 to 1000
+abbrev pub quota_of : Option ℕ → Option ℕ
+quota_of None = None
+quota_of (Some quota) = if is_between 1 1000 quota then Some quota else None
+
+-- the rows of all terminals, and of all partitions
+abbrev pub terminals_of : Members → Option (List TerminalRow)
+terminals_of ms = option_and_then terminal_rows (items_of_key (get_member (codes "terminal") ms))
+
+abbrev pub partitions_of : Members → Option (List PartitionRow)
+partitions_of ms = option_and_then partition_rows (items_of_key (get_member (codes "partition") ms))
+
+abbrev pub rows_from : Option ℕ → Option (List TerminalRow) → Option (List PartitionRow) → Option RowsState
+rows_from (Some quota) (Some terminals) (Some partitions) = Some (record { quota = quota; terminals = terminals; partitions = partitions })
+rows_from quota terminals partitions = None
+
+-- what a document says: each key known and there, of its kind, and a quota that is in range
+abbrev pub rows_of : Members → Option RowsState
+rows_of ms =
+    if all_known section.File ms then rows_from (quota_of (number_of_key (codes "quota") ms)) (terminals_of ms) (partitions_of ms) else None

@@ -1,0 +1,36 @@
+// A boot: the quota of a turn, and its terminals and partitions by number.
+use b2_base::{Part, Term};
+use std::marker::Model;
+
+/// A terminal and the partition in front of it.
+#[derive(Clone, Copy, Debug, PartialEq, Eq)]
+pub struct BootTerminal {
+    pub number: Term,
+    pub front: Part,
+}
+
+/// A partition on its terminal. The sizes of its text, its variables and its globals are in KiB.
+#[derive(Clone, Copy, Debug, PartialEq, Eq)]
+pub struct BootPartition {
+    pub number: Part,
+    pub terminal: Term,
+    pub text: u16,
+    pub vars: u16,
+    pub globals: u16,
+}
+
+/// What the machine starts with. Contracts see it as one record of lists.
+#[derive(Drop)]
+pub struct Boot {
+    pub quota: u16,
+    pub terminals: Vec<BootTerminal>,
+    pub partitions: Vec<BootPartition>,
+}
+
+impl Model for Boot {
+    ghost use Rattle.b2_boot.specs.Boots.{BootState};
+
+    ghost Value = { BootState };
+
+    ghost view = { λ b. record { quota = b.quota; terminals = b.terminals.items; partitions = b.partitions.items } };
+}

@@ -1,0 +1,304 @@
+// What a boot file says before its checks: the rows of its tables, in the file's order.
+ghost use Rattle.std.specs.Prelude.{◌≡◌, IfOk, IfSome, true, codes, option_map, option_and_then};
+ghost use Rattle.toml.specs.View.{view, table_view, items_view};
+ghost use Rattle.toml.specs.Data.{get_member, as_table};
+ghost use Rattle.b2_boot.specs.Rows as spec;
+
+use b2_base::NoMemory;
+use std::alloc::Global;
+use std::marker::Model;
+use toml::{Table, Value};
+
+/// Which table of the file a key stands in.
+#[derive(Clone, Copy, Debug, PartialEq, Eq)]
+pub enum Section {
+    File,
+    Terminal,
+    Partition,
+}
+
+/// A terminal as it is written, with 65,535 in place of each number outside 0 to 65,535.
+#[derive(Clone, Copy, Debug, PartialEq, Eq)]
+pub struct TerminalRow {
+    pub number: u16,
+    pub front: u16,
+}
+
+/// A partition as it is written, with 65,535 in place of each number outside 0 to 65,535. Its sizes are in KiB.
+#[derive(Clone, Copy, Debug, PartialEq, Eq)]
+pub struct PartitionRow {
+    pub number: u16,
+    pub terminal: u16,
+    pub text: u16,
+    pub vars: u16,
+    pub globals: u16,
+}
+
+/// All rows of a file. Contracts see it as the record of its lists.
+#[derive(Drop)]
+pub struct BootRows {
+    pub quota: u16,
+    pub terminals: Vec<TerminalRow>,
+    pub partitions: Vec<PartitionRow>,
+}
+
+impl Model for BootRows {
+    ghost use Rattle.b2_boot.specs.Rows.{RowsState};
+
+    ghost Value = { RowsState };
+
+    ghost view = { λ b. record { quota = b.quota; terminals = b.terminals.items; partitions = b.partitions.items } };
+}
+
+/// The document that bytes spell, None where they spell none.
+pub fn document(alloc: Global, bytes: &[u8]) -> Result<Option<Table>, NoMemory>
+    ensures { IfOk result (λ found. option_map table_view found ≡ spec.document_of bytes.now) }
+{
+    match toml::table_from_slice(alloc, bytes) {
+        Ok(table) => Ok(Some(table)),
+        Err(fault) => {
+            if fault.is_memory() {
+                Err(NoMemory)
+            } else {
+                Ok(None)
+            }
+        }
+    }
+}
+
+/// A whole number as it is, or 65,535 where it is outside 0 to 65,535.
+fn small(n: i64) -> u16
+    ensures { result ≡ spec.small n }
+{
+    match u16::try_from(n) {
+        Ok(n) => n,
+        Err(_) => u16::MAX,
+    }
+}
+
+/// The same for a number that is there.
+fn small_if_some(found: Option<i64>) -> Option<u16>
+    ensures { result ≡ option_map spec.small found }
+{
+    match found {
+        Some(n) => Some(small(n)),
+        None => None,
+    }
+}
+
+/// Whether a section may have a key.
+fn is_known(section: Section, key: &[u8]) -> bool
+    ensures { result ≡ spec.is_known section key.now }
+{
+    match section {
+        Section::File => {
+            key == b"quota".as_slice()
+                || key == b"terminal".as_slice()
+                || key == b"partition".as_slice()
+        }
+        Section::Terminal => key == b"number".as_slice() || key == b"front".as_slice(),
+        Section::Partition => {
+            key == b"number".as_slice()
+                || key == b"terminal".as_slice()
+                || key == b"text".as_slice()
+                || key == b"data".as_slice()
+                || key == b"globals".as_slice()
+        }
+    }
+}
+
+/// Whether a section may have all keys of a table.
+fn all_known(section: Section, table: &Table) -> bool
+    ensures { result ≡ spec.all_known section (table_view table.now) }
+{
+    for (key, _value) in table.iter() {
+        if !is_known(section, key.as_bytes()) {
+            return false;
+        }
+    }
+    true
+}
+
+/// The number at a key, None where none is there.
+fn number_of_key(table: &Table, key: &str) -> Option<u16>
+    ensures { result ≡ spec.number_of_key key.now (table_view table.now) }
+{
+    match table.get(key) {
+        Some(value) => small_if_some(value.as_integer()),
+        None => None,
+    }
+}
+
+/// The row of a terminal, None where a key is unknown, missing or of another kind.
+fn terminal_row(table: &Table) -> Option<TerminalRow>
+    ensures { result ≡ spec.terminal_row (table_view table.now) }
+{
+    if !all_known(Section::Terminal, table) {
+        return None;
+    }
+    let Some(number) = number_of_key(table, "number") else {
+        return None;
+    };
+    let Some(front) = number_of_key(table, "front") else {
+        return None;
+    };
+    Some(TerminalRow { number, front })
+}
+
+/// The sizes of a partition, None where one is missing or of another kind.
+fn sizes(table: &Table, number: u16, terminal: u16) -> Option<PartitionRow>
+    ensures { result ≡ spec.sizes_of (table_view table.now) number terminal }
+{
+    let Some(text) = number_of_key(table, "text") else {
+        return None;
+    };
+    let Some(vars) = number_of_key(table, "data") else {
+        return None;
+    };
+    let Some(globals) = number_of_key(table, "globals") else {
+        return None;
+    };
+    Some(PartitionRow {
+        number,
+        terminal,
+        text,
+        vars,
+        globals,
+    })
+}
+
+/// The row of a partition, None where a key is unknown, missing or of another kind.
+fn partition_row(table: &Table) -> Option<PartitionRow>
+    ensures { result ≡ spec.partition_row (table_view table.now) }
+{
+    if !all_known(Section::Partition, table) {
+        return None;
+    }
+    let Some(number) = number_of_key(table, "number") else {
+        return None;
+    };
+    let Some(terminal) = number_of_key(table, "terminal") else {
+        return None;
+    };
+    sizes(table, number, terminal)
+}
+
+/// The row that an item of a table's array is, None where it is none.
+fn terminal_in(item: &Value) -> Option<TerminalRow>
+    ensures { result ≡ option_and_then spec.terminal_row (as_table (view item.now)) }
+{
+    match item.as_table() {
+        Some(table) => terminal_row(table),
+        None => None,
+    }
+}
+
+/// The row that an item of a table's array is, None where it is none.
+fn partition_in(item: &Value) -> Option<PartitionRow>
+    ensures { result ≡ option_and_then spec.partition_row (as_table (view item.now)) }
+{
+    match item.as_table() {
+        Some(table) => partition_row(table),
+        None => None,
+    }
+}
+
+/// All items as rows, None where one is none.
+fn terminal_rows(alloc: Global, items: &[Value]) -> Result<Option<Vec<TerminalRow>>, NoMemory>
+    ensures { IfOk result (λ found. option_map (λ rows. rows.items) found ≡ spec.terminal_rows (items_view items.now)) }
+{
+    let mut rows = Vec::new(alloc);
+    for item in items {
+        match terminal_in(item) {
+            Some(row) => rows.push(row)?,
+            None => return Ok(None),
+        }
+    }
+    Ok(Some(rows))
+}
+
+/// All items as rows, None where one is none.
+fn partition_rows(alloc: Global, items: &[Value]) -> Result<Option<Vec<PartitionRow>>, NoMemory>
+    ensures { IfOk result (λ found. option_map (λ rows. rows.items) found ≡ spec.partition_rows (items_view items.now)) }
+{
+    let mut rows = Vec::new(alloc);
+    for item in items {
+        match partition_in(item) {
+            Some(row) => rows.push(row)?,
+            None => return Ok(None),
+        }
+    }
+    Ok(Some(rows))
+}
+
+/// The items of the array at a key: none where the key isn't there, and None where something else stands there.
+fn items_at<'a>(table: &'a Table, key: &str) -> Option<&'a [Value]>
+    ensures { option_map (λ items. items_view items.now) result ≡ spec.items_of_key (get_member key.now (table_view table.now)) }
+{
+    match table.get(key) {
+        Some(value) => match value.as_array() {
+            Some(array) => Some(array.as_slice()),
+            None => None,
+        },
+        None => Some(&[]),
+    }
+}
+
+/// The quota of a turn, None where it is missing, of another kind or outside 1 to 1000.
+fn quota(table: &Table) -> Option<u16>
+    ensures value { result ≡ spec.quota_of (spec.number_of_key (codes "quota") (table_view table.now)) }
+    ensures in_range { IfSome result (λ quota. spec.is_between 1 1000 quota ≡ true) }
+{
+    let Some(quota) = number_of_key(table, "quota") else {
+        return None;
+    };
+    if quota >= 1 && quota <= 1000 {
+        Some(quota)
+    } else {
+        None
+    }
+}
+
+/// The rows of the terminals, None where a key of one is unknown, missing or of another kind.
+fn terminals(alloc: Global, table: &Table) -> Result<Option<Vec<TerminalRow>>, NoMemory>
+    ensures { IfOk result (λ found. option_map (λ rows. rows.items) found ≡ spec.terminals_of (table_view table.now)) }
+{
+    match items_at(table, "terminal") {
+        Some(items) => terminal_rows(alloc, items),
+        None => Ok(None),
+    }
+}
+
+/// The rows of the partitions, None where a key of one is unknown, missing or of another kind.
+fn partitions(alloc: Global, table: &Table) -> Result<Option<Vec<PartitionRow>>, NoMemory>
+    ensures { IfOk result (λ found. option_map (λ rows. rows.items) found ≡ spec.partitions_of (table_view table.now)) }
+{
+    match items_at(table, "partition") {
+        Some(items) => partition_rows(alloc, items),
+        None => Ok(None),
+    }
+}
+
+/// What a document says, None where a key is unknown, missing or of another kind, or the quota is out of range.
+pub fn boot_rows(alloc: Global, table: &Table) -> Result<Option<BootRows>, NoMemory>
+    ensures value { IfOk result (λ found. found ≡ spec.rows_of (table_view table.now)) }
+    ensures quota { IfOk result (λ found. IfSome found (λ rows. spec.is_between 1 1000 rows.quota ≡ true)) }
+{
+    if !all_known(Section::File, table) {
+        return Ok(None);
+    }
+    let Some(quota) = quota(table) else {
+        return Ok(None);
+    };
+    let Some(terminals) = terminals(alloc, table)? else {
+        return Ok(None);
+    };
+    let Some(partitions) = partitions(alloc, table)? else {
+        return Ok(None);
+    };
+    Ok(Some(BootRows {
+        quota,
+        terminals,
+        partitions,
+    }))
+}
