@@ -1,0 +1,4 @@
+pub mod Partition
+pub mod Lending
+pub mod Devices
+pub mod Places

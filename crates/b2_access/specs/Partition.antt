@@ -1,0 +1,56 @@
+-- What a partition has for itself.
+use Rattle.std.specs.Prelude.{◌≡◌, ℕ, Bool, true, false, not, List, [], ◌∷◌, ◌++◌, Some, None, is_some, codes}
+use Rattle.std.specs.Option.{option_map_or}
+use Rattle.std.specs.FinMap as map
+use Rattle.b2_base.specs.Byte as byte
+use Rattle.b2_dec.specs.declared.number.Mode.TheVariants.{Round}
+use Rattle.b2_flow.specs.declared.frame.Place.{Place}
+use Rattle.b2_vars.specs.Tables.{VarsState}
+use Rattle.b2_access.specs.declared.private.Private.{Private}
+
+-- the address of the terminal
+abbrev pub terminal_address : List ℕ
+terminal_address = codes "005"
+
+-- what is shown where a partition becomes ready
+abbrev pub ready_text : List ℕ
+ready_text = codes "READY" ++ byte.newline ∷ byte.colon ∷ []
+
+-- no variables, in an area
+abbrev pub no_variables : ℕ → VarsState
+no_variables area = record { area = area; table = map.empty }
+
+-- a partition as it starts
+abbrev pub at_start : ℕ → ℕ → ℕ → Private
+at_start p t area = record {
+  part = p;
+  term = t;
+  mode = Round;
+  place = None;
+  kept = None;
+  immediate = None;
+  vars = no_variables area;
+  stack = [];
+  term_column = 0;
+  last = 0;
+  next_data = None;
+  args = None;
+  halt = false;
+  reset = false;
+  pending = Some (terminal_address, ready_text);
+  numbered = None;
+  literal = None;
+  prompted = false;
+}
+
+-- it is ready where it has no place
+abbrev pub is_ready : Private → Bool
+is_ready me = not (is_some me.place)
+
+-- it runs program text where its place is in a numbered line
+abbrev pub runs_program : Private → Bool
+runs_program me = option_map_or (λ (p : Place). is_some p.line) me.place false
+
+-- no place is kept while program text runs
+abbrev pub KeepsNone : Private → Type 0
+KeepsNone me = runs_program me ≡ true → me.kept ≡ None

@@ -1,0 +1,65 @@
+// What a step asks of the store, and what is answered.
+use b2_atom::Atoms;
+use b2_base::{ByteList, Code, Name8, Part, Term};
+
+/// What a step asks of the store, once at most. `homes` marks the partitions whose text the asking one gives back: the bit of
+/// a partition is that of its number less 1.
+#[derive(Drop)]
+pub enum Access {
+    /// The bytes are shown at the terminal.
+    Show {
+        term: Term,
+        bytes: ByteList,
+    },
+    /// A line is read from the terminal.
+    ReadLine {
+        term: Term,
+    },
+    /// The bytes are typed into the line at the terminal.
+    Insert {
+        term: Term,
+        bytes: ByteList,
+    },
+    /// One key is read from the terminal.
+    Key {
+        term: Term,
+    },
+    /// A line of this number goes into the text of the asking partition, or is taken out where there are no atoms.
+    PutLine {
+        line: u16,
+        atoms: Option<Atoms>,
+        homes: u16,
+    },
+    /// The lines from a number to another are taken out of its text.
+    Erase {
+        from: u16,
+        to: u16,
+        homes: u16,
+    },
+    /// All lines are taken out of its text, its `@` variables go, and it gives up the name that it holds.
+    ClearAll {
+        name: Option<Name8>,
+        homes: u16,
+    },
+}
+
+/// What the store answers.
+#[derive(Drop)]
+pub enum Answer {
+    /// It is done.
+    Done,
+    /// A line was read.
+    Line(ByteList),
+    /// A special function key was read, by its number.
+    Special(u8),
+    /// A key was read as a byte.
+    Key(u8),
+    /// No key that ends a line, or no key, is there.
+    NoKeys,
+    /// Another partition is in front of the terminal, or holds the device: nothing was done.
+    Wait(Part),
+    /// Another partition stands inside the text: nothing was done.
+    Locked(Part),
+    /// It was refused with a code: nothing was done.
+    Refused(Code),
+}

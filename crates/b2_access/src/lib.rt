@@ -1,0 +1,30 @@
+//! What a partition has for itself, what it is lent, and what it asks of the store that all partitions share.
+//!
+//! A partition is `Private`: its variables, its frames, where it runs and what waits to be shown. A statement plans over that
+//! and over what is `Lent`: the texts of its home and of its own, and `@` variables. It ends at once or asks for one `Access`
+//! of an `Object`, of which there is an `Answer`. `DeviceTable` says which devices a partition may use. `goal_place` gives the
+//! place to which a goal on a line leads.
+//!
+//! Stands on `b2_text`, `b2_vars` and `b2_flow` for what a partition has, on `b2_rows` for goals on a line, on `b2_dec` for
+//! values, on `b2_atom` for lines and on `b2_base`. The definitions are in `specs/`: a partition in `Partition`, what it is
+//! lent in `Lending`, places in `Places` and the devices in `Devices`.
+#![tactic(auto)]
+
+mod accesses;
+mod devices;
+pub mod laws;
+mod lending;
+mod objects;
+mod places;
+mod planned;
+mod private;
+#[cfg(test)]
+mod tests;
+
+pub use accesses::{Access, Answer};
+pub use devices::{Device, DeviceTable};
+pub use lending::{At, Lent};
+pub use objects::Object;
+pub use places::{goal_place, place_after};
+pub use planned::{Outcome, Planned};
+pub use private::Private;

@@ -1,0 +1,102 @@
+// What a partition has for itself.
+ghost use Rattle.std.specs.Prelude.{◌≡◌, IfOk, true};
+ghost use Rattle.b2_access.specs.Partition.{at_start};
+
+use b2_atom::Atoms;
+use b2_base::{Addr, ByteList, NoMemory, Part, Term};
+use b2_dec::{Mode, ValueList};
+use b2_flow::{Place, Stack};
+use b2_text::Spot;
+use b2_vars::Vars;
+use std::alloc::Global;
+
+/// What is shown where a partition becomes ready.
+const READY: &[u8] = b"READY\n:";
+
+/// What a partition has for itself. It holds no text but the immediate line and a numbered line that was read. It is ready
+/// exactly where it has no place. Contracts see each part as its value.
+#[derive(Drop)]
+pub struct Private {
+    /// Which partition it is.
+    pub part: Part,
+    /// Its terminal.
+    pub term: Term,
+    /// How results become numbers.
+    pub mode: Mode,
+    /// The unit that the next step executes, none where it is ready.
+    pub place: Option<Place>,
+    /// The unit at which CONTINUE goes on.
+    pub kept: Option<Place>,
+    /// The immediate line that runs.
+    pub immediate: Option<Atoms>,
+    /// Its variables.
+    pub vars: Vars,
+    /// Its loops and calls.
+    pub stack: Stack,
+    /// The column at its terminal; it stays at 65,535 once it is there.
+    pub term_column: u16,
+    /// The last code, 0 for none.
+    pub last: u8,
+    /// The unit from which READ looks for DATA, and how many of its literals were read; none for the first of the text.
+    pub next_data: Option<(Spot, u8)>,
+    /// The arguments of a call that its DEFFN' has not taken yet.
+    pub args: Option<ValueList>,
+    /// Whether a halt was asked for.
+    pub halt: bool,
+    /// Whether a reset was asked for.
+    pub reset: bool,
+    /// What waits to be shown, and the device that it is for: 005 for the terminal.
+    pub pending: Option<(Addr, ByteList)>,
+    /// A numbered line that was read: its number, and its atoms where it has any.
+    pub numbered: Option<(u16, Option<Atoms>)>,
+    /// What a special function key types.
+    pub literal: Option<ByteList>,
+    /// Whether the prompt of an INPUT or LINPUT was shown.
+    pub prompted: bool,
+}
+
+impl Private {
+    /// A partition at its terminal, with an area of `area` bytes for its variables. It is ready, and `READY`, a newline and
+    /// `:` wait to be shown.
+    pub fn new(alloc: Global, p: Part, t: Term, area: usize) -> Result<Private, NoMemory>
+        ensures at_start { IfOk result (λ me. me ≡ at_start p t area) }
+    {
+        Ok(Private {
+            part: p,
+            term: t,
+            mode: Mode::Round,
+            place: None,
+            kept: None,
+            immediate: None,
+            vars: Vars::new(alloc, area)?,
+            stack: Stack::new(alloc)?,
+            term_column: 0,
+            last: 0,
+            next_data: None,
+            args: None,
+            halt: false,
+            reset: false,
+            pending: Some((
+                Addr::default(),
+                ByteList::new(Vec::from_slice(alloc, READY)?),
+            )),
+            numbered: None,
+            literal: None,
+            prompted: false,
+        })
+    }
+
+    /// Asks for a halt.
+    pub fn flag_halt(&mut self)
+        ensures halt { self.new ≡ record self.old { halt = true } }
+    {
+        self.halt = true;
+    }
+
+    /// Asks for a reset.
+    pub fn flag_reset(&mut self)
+        ensures reset { self.new ≡ record self.old { reset = true } }
+    {
+        self.reset = true;
+    }
+}
