@@ -1,0 +1,17 @@
+pub mod RowsRead
+pub mod Chains
+pub mod Factors
+pub mod Climbs
+pub mod Extremes
+pub mod Operands
+pub mod OperandKinds
+pub mod Names
+pub mod Pairs
+pub mod Texts
+pub mod Defined
+pub mod Comparisons
+pub mod ReceiverRows
+pub mod OperationRows
+pub mod Portions
+pub mod Reaching
+pub mod Passed

@@ -1,0 +1,89 @@
+-- The levels of operators on the rows of the table, and what may still follow a number.
+use Rattle.std.specs.Prelude.{ℕ, ◌&&◌, Bool, true, false, if◌then◌else◌, List, [], ◌∷◌, Option, Some, None}
+use Rattle.b2_atom.specs.Words.{Text}
+use Rattle.b2_atom.specs.Tree.{Trees}
+use Rattle.b2_atom.specs.declared.rows.TheConstants as row
+use Rattle.b2_rows.specs.Rows.{after_part, is_list, list_at, after_list}
+use Rattle.b2_rows.specs.Chains.{is_operator_of, is_sign, more_row, more_start}
+use Rattle.b2_rows.specs.declared.chains.Chain.{Chain}
+use Rattle.b2_rows.specs.declared.chains.Chain.TheVariants as chain
+use Rattle.b2_expr.specs.Answers.{Answer}
+use Rattle.b2_expr.specs.Scope.{Context}
+use Rattle.b2_expr.specs.Value.{next, further}
+use Rattle.b2_expr.specs.declared.operators.Level.{Level}
+use Rattle.b2_expr.specs.declared.operators.Level.TheVariants as level
+
+-- the row of a level
+abbrev pub row_of : Level → ℕ
+row_of level.Sum = row.SUM
+row_of level.Product = row.PRODUCT
+row_of level.Factor = row.FACTOR
+row_of level.Power = row.POWER
+row_of level.Operand = row.OPERAND
+
+-- the levels that are chains of operators, and their chains
+abbrev pub is_chain : Level → Bool
+is_chain level.Sum = true
+is_chain level.Product = true
+is_chain level.Factor = false
+is_chain level.Power = true
+is_chain level.Operand = false
+
+abbrev pub chain_of : Level → Chain
+chain_of level.Sum = chain.Sum
+chain_of level.Product = chain.Product
+chain_of level.Factor = chain.Power
+chain_of level.Power = chain.Power
+chain_of level.Operand = chain.Power
+
+-- what follows the first item of a chain, and what is left after that
+abbrev pub list_of : Level → Text → Trees
+list_of l t = list_at (more_start (chain_of l)) (more_row (chain_of l)) t
+
+abbrev pub after_of : Level → Text → Text
+after_of l t = after_list (more_start (chain_of l)) (more_row (chain_of l)) t
+
+-- what stands after the first item
+abbrev pub tail_of : Level → Text → Text
+tail_of l t = after_part (row_of (next l)) t
+
+-- whether a byte is an operator of a level
+abbrev pub is_operator : Level → ℕ → Bool
+is_operator l b = is_chain l && is_operator_of (chain_of l) b
+
+-- whether a sign may stand before an item of a level
+abbrev pub has_sign : Level → ℕ → Bool
+has_sign level.Power b = false
+has_sign level.Operand b = false
+has_sign l b = is_sign b
+
+-- the levels whose operators may still follow an item of a level, where a level is wanted
+abbrev pub spans : Level → Level → List Level
+spans level.Sum level.Power = level.Power ∷ level.Product ∷ level.Sum ∷ []
+spans level.Sum level.Product = level.Product ∷ level.Sum ∷ []
+spans level.Sum level.Sum = level.Sum ∷ []
+spans level.Product level.Power = level.Power ∷ level.Product ∷ []
+spans level.Product level.Product = level.Product ∷ []
+spans level.Factor level.Power = level.Power ∷ []
+spans level.Power level.Power = level.Power ∷ []
+spans w l = []
+
+-- the first of some levels that has an operator
+abbrev pub pick : List Level → ℕ → Option Level
+pick [] b = None
+pick (l ∷ ls) b = if is_operator l b then Some l else pick ls b
+
+-- what the items of these levels make of a number, one level after the other
+abbrev pub ends : Context → List Level → Answer → Text → Answer
+ends s [] x t = x
+ends s (l ∷ ls) x t = ends s ls (further s l x (list_of l t)) (after_of l t)
+
+-- what is left after them
+abbrev pub rests : List Level → Text → Text
+rests [] t = t
+rests (l ∷ ls) t = rests ls (after_of l t)
+
+-- whether their items stand there
+abbrev pub are_lists : List Level → Text → Bool
+are_lists [] t = true
+are_lists (l ∷ ls) t = is_list (more_start (chain_of l)) (more_row (chain_of l)) t && are_lists ls (after_of l t)

@@ -1,0 +1,14 @@
+pub mod Answers
+pub mod Operators
+pub mod Functions
+pub mod Scope
+pub mod Named
+pub mod Value
+pub mod Levels
+pub mod Further
+pub mod Reads
+pub mod Condition
+pub mod Receivers
+pub mod RightSide
+pub mod Assigning
+pub mod ReceiverLaws

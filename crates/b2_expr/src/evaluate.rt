@@ -1,0 +1,779 @@
+// The values of numeric and of alpha expressions, along their bytes.
+ghost use Rattle.std.specs.Prelude.{◌≡◌, ◌≤◌, ◌∷◌, ◌||◌, ◌==◌, [], Bool, true, false, None, length, MatchResult, IfOk, IfSome, Ok, Err, option_map};
+ghost use Rattle.b2_base.specs.Byte as byte;
+ghost use Rattle.b2_base.specs.Lexical.{is_digit, is_letter};
+ghost use Rattle.b2_base.specs.Lexical as lexical;
+ghost use Rattle.b2_expr.specs.declared.named.NameKind.TheVariants as name_kind;
+ghost use Rattle.b2_dectext.specs.NumberText.{number_value};
+ghost use Rattle.b2_vars.specs.Names.{is_legal_name};
+ghost use Rattle.b2_text.specs.Spots.{first_opening, is_function, unit_at};
+ghost use Rattle.b2_atom.specs.declared.rows.TheConstants as row;
+ghost use Rattle.b2_atom.specs.declared.forms.Start.TheVariants as start;
+ghost use Rattle.b2_atom.specs.declared.forms.Leaf.TheVariants as leaf;
+ghost use Rattle.b2_rows.specs.Rows.{is_part, tree_at, after_part, is_list, list_at, after_list};
+ghost use Rattle.b2_rows.specs.Chains.{more_start};
+ghost use Rattle.b2_rows.specs.declared.chains.Chain.TheVariants as chain;
+ghost use Rattle.b2_rows.specs.Leaves.{leaf_bytes};
+ghost use Rattle.b2_rows.specs.Values.{variable_name};
+ghost use Rattle.b2_atom.specs.Leaves.{leaf_width};
+ghost use Rattle.b2_atom.specs.declared.words.Origin.TheVariants.{Atoms};
+ghost use Rattle.b2_rows.specs.Optional.{maybe_part, maybe_tree, after_maybe};
+ghost use Rattle.b2_expr.specs.Functions.{joined_number, joined_text};
+ghost use Rattle.b2_expr.specs.Further.{after_further, are_further, further_tree};
+ghost use Rattle.b2_expr.specs.Levels.{are_lists, ends, has_sign, pick, rests, row_of, spans};
+ghost use Rattle.b2_expr.specs.Named.{after_name, is_alpha_kind, name_leaf, name_row, place_seen, variable_of, variables_of};
+ghost use Rattle.b2_expr.specs.Scope.{surroundings};
+ghost use Rattle.b2_expr.specs.Reads.{Appends, Gives};
+ghost use Rattle.b2_expr.specs.Value as meaning;
+ghost use Rattle.b2_expr.specs.Value.{element_number, called, context, extremes, function_tree, further_text, hex_bytes, literal_bytes, literal_number, literal_value, kept_value, pairs_of, located, part_of, second, subscripts, text_row, value};
+ghost use Rattle.b2_expr.specs.declared.operators.Level.TheVariants as level_of;
+ghost use Rattle.b2_rows.specs.declared.operands.Operand.TheVariants as kind_is;
+ghost use Rattle.b2_rows.specs.declared.operands.AlphaOperand.TheVariants as alpha_kind_is;
+
+use crate::functions::{
+    byte_count, bytes_in, column_of, counted, extreme, number_of, of_one, of_text, of_two,
+    place_of, subscript, whole_number,
+};
+use crate::named::{Element, Located, NameKind, Subscripts, variable_of};
+use crate::operators::{Level, joined, with_sign};
+use crate::scope::{Env, Parameter, Scope, hidden_by, kept_number};
+use b2_alpha::value_len;
+use b2_atom::{
+    Origin, alpha_name_width, literal_width, number_width, numeric_name_width, relation_width,
+};
+use b2_base::Code;
+use b2_base::codes::{A04_TOO_DEEP, P38_NO_DEFFN, S17_NUMERIC, X72_TOO_LONG, X77_NO_PARTITION};
+use b2_base::lexical::{at, dropped, first, front};
+use b2_dec::{Bytes, Dec};
+use b2_dectext::literal;
+use b2_rows::{
+    AlphaOperand, Chain, Name, Operand, alpha_name, alpha_operand_at, goes_on, hex_byte_at, is_at,
+    is_hex_at, numeric_name, operand_at, relation_at, row_unit, spells_a_line,
+};
+use b2_vars::Vars;
+
+/// The level of what the operators of a level join.
+fn next(level: Level) -> Level
+    ensures { result ≡ meaning.next level }
+{
+    match level {
+        Level::Sum => Level::Product,
+        Level::Product => Level::Factor,
+        Level::Factor => Level::Power,
+        Level::Power | Level::Operand => Level::Operand,
+    }
+}
+
+/// Whether a sign stands before an item of a level.
+fn is_signed(wanted: Level, byte: u8) -> bool
+    ensures { result ≡ has_sign wanted byte }
+{
+    match wanted {
+        Level::Sum | Level::Product | Level::Factor => byte == b'+' || byte == b'-',
+        Level::Power | Level::Operand => false,
+    }
+}
+
+/// The level of the operator that a byte is, where one of that level may still follow in what is wanted.
+fn operator_at(wanted: Level, top: Level, byte: u8) -> Option<Level>
+    ensures { result ≡ pick (spans wanted top) byte }
+{
+    match (byte, wanted, top) {
+        (b'+' | b'-', Level::Sum, Level::Sum | Level::Product | Level::Power) => Some(Level::Sum),
+        (b'*' | b'/', Level::Sum | Level::Product, Level::Product | Level::Power) => Some(
+            Level::Product,
+        ),
+        (b'^', Level::Sum | Level::Product | Level::Factor | Level::Power, Level::Power) => Some(
+            Level::Power,
+        ),
+        _ => None,
+    }
+}
+
+/// The number that a text spells: C60 or C61 where it is out of range.
+fn literal_value(text: &[u8]) -> Result<Dec, Code>
+    ensures { result ≡ literal_value text.now }
+{
+    match literal(text) {
+        Some((_, number)) => number,
+        None => Err(Code::known(S17_NUMERIC)),
+    }
+}
+
+/// A number that is written out.
+#[tactic(auto, using(crate::proofs::Operands::literal_is, crate::proofs::Operands::literal_rest, crate::proofs::Operands::literal_here))]
+fn literal_at(text: &[u8]) -> Result<(Dec, &[u8]), Code>
+    requires part { is_part row.NUMBER text.now ≡ true }
+    ensures { Gives (literal_number (tree_at row.NUMBER text.now)) (after_part row.NUMBER text.now) result }
+{
+    let width = number_width(Origin::Atoms, text);
+    match literal_value(front(text, width)) {
+        Ok(number) => Ok((number, dropped(text, width))),
+        Err(code) => Err(code),
+    }
+}
+
+/// The variables of which a name speaks: X77 where there are no `@` variables.
+pub fn variables_of<'a>(env: &Env<'a>, name: Name) -> Result<&'a Vars, Code>
+    ensures { MatchResult result (λ vars. variables_of (surroundings env.now) name ≡ Ok vars.now) (λ code. variables_of (surroundings env.now) name ≡ Err code) }
+{
+    if !name.global {
+        return Ok(env.own);
+    }
+    match env.globals {
+        Some(globals) => Ok(globals),
+        None => Err(Code::known(X77_NO_PARTITION)),
+    }
+}
+
+/// What an expression of a level begins with, and the level of what it is.
+#[cycle(values)]
+#[tactic(auto, using(crate::proofs::Climbs::plain_operand, crate::proofs::Climbs::plain_value, crate::proofs::Climbs::plain_lists, crate::proofs::Climbs::plain_rest, crate::proofs::Climbs::signed_power, crate::proofs::Climbs::signed_value, crate::proofs::Climbs::signed_lists, crate::proofs::Climbs::signed_rest, crate::proofs::Climbs::sign_shorter, crate::proofs::Climbs::ends_refused, crate::proofs::Climbs::power_no_longer, b2_rows::proofs::Levels::part_no_longer))]
+fn head<'a>(wanted: Level, s: &Scope<'_>, text: &'a [u8]) -> Result<(Dec, Level, &'a [u8]), Code>
+    requires part { is_part (row_of wanted) text.now ≡ true }
+    ensures { MatchResult result (λ p. (value (context s.now) wanted (tree_at (row_of wanted) text.now) ≡ ends (context s.now) (spans wanted p.1) (Ok p.0) p.2.now) × (are_lists (spans wanted p.1) p.2.now ≡ true) × (after_part (row_of wanted) text.now ≡ rests (spans wanted p.1) p.2.now) × (length p.2.now ≤ length text.now)) (λ code. value (context s.now) wanted (tree_at (row_of wanted) text.now) ≡ Err code) }
+{
+    let sign = first(text);
+    if is_signed(wanted, sign) {
+        let (number, rest) = match climb(Level::Power, s, dropped(text, 1)) {
+            Ok(found) => found,
+            Err(code) => return Err(code),
+        };
+        return match with_sign(s.env.mode, sign, number) {
+            Ok(number) => Ok((number, Level::Product, rest)),
+            Err(code) => Err(code),
+        };
+    }
+    match operand(s, text) {
+        Ok((number, rest)) => Ok((number, Level::Power, rest)),
+        Err(code) => Err(code),
+    }
+}
+
+/// The value of an expression of a level, and what stands after it.
+#[cycle(values)]
+#[tactic(auto, using(crate::proofs::Climbs::on_item, crate::proofs::Climbs::on_lists, crate::proofs::Climbs::on_value, crate::proofs::Climbs::on_rest, crate::proofs::Climbs::on_shorter, crate::proofs::Climbs::off_value, crate::proofs::Climbs::off_rest, crate::proofs::Climbs::ends_refused, b2_rows::proofs::Levels::part_no_longer))]
+pub fn climb<'a>(wanted: Level, s: &Scope<'_>, text: &'a [u8]) -> Result<(Dec, &'a [u8]), Code>
+    requires part { is_part (row_of wanted) text.now ≡ true }
+    ensures { Gives (value (context s.now) wanted (tree_at (row_of wanted) text.now)) (after_part (row_of wanted) text.now) result }
+{
+    let (start, above, after) = match head(wanted, s, text) {
+        Ok(found) => found,
+        Err(code) => return Err(code),
+    };
+    let mut number = start;
+    let mut top = above;
+    let mut left = after;
+    while let Some(level) = operator_at(wanted, top, first(left)) {
+        let operator = first(left);
+        let (other, rest) = match climb(next(level), s, dropped(left, 1)) {
+            Ok(found) => found,
+            Err(code) => return Err(code),
+        };
+        number = match joined(s.env.mode, operator, number, other) {
+            Ok(found) => found,
+            Err(code) => return Err(code),
+        };
+        top = level;
+        left = rest;
+    }
+    Ok((number, left))
+}
+
+/// An operand.
+#[cycle(values)]
+#[tactic(auto, using(b2_rows::proofs::EachOperand::number_here, b2_rows::proofs::EachOperand::parentheses_here, b2_rows::proofs::EachOperand::function_here, b2_rows::proofs::EachOperand::of_one_here, b2_rows::proofs::EachOperand::of_two_here, b2_rows::proofs::EachOperand::of_more_here, b2_rows::proofs::EachOperand::of_alpha_here, b2_rows::proofs::EachOperand::position_here, b2_rows::proofs::EachOperand::value_here, b2_rows::proofs::EachOperand::kept_number_here, b2_rows::proofs::EachOperand::variable_here, b2_rows::proofs::EachOperand::number_left, b2_rows::proofs::EachOperand::parentheses_left, b2_rows::proofs::EachOperand::function_left, b2_rows::proofs::EachOperand::of_one_left, b2_rows::proofs::EachOperand::of_two_left, b2_rows::proofs::EachOperand::of_more_left, b2_rows::proofs::EachOperand::of_alpha_left, b2_rows::proofs::EachOperand::position_left, b2_rows::proofs::EachOperand::value_left, b2_rows::proofs::EachOperand::kept_number_left, b2_rows::proofs::EachOperand::variable_left, crate::proofs::OperandKinds::number_gives, crate::proofs::OperandKinds::parentheses_gives, crate::proofs::OperandKinds::function_gives, crate::proofs::OperandKinds::of_one_gives, crate::proofs::OperandKinds::of_two_gives, crate::proofs::OperandKinds::of_more_gives, crate::proofs::OperandKinds::of_alpha_gives, crate::proofs::OperandKinds::position_gives, crate::proofs::OperandKinds::value_gives, crate::proofs::OperandKinds::kept_number_gives, crate::proofs::OperandKinds::variable_gives))]
+fn operand<'a>(s: &Scope<'_>, text: &'a [u8]) -> Result<(Dec, &'a [u8]), Code>
+    requires part { is_part row.OPERAND text.now ≡ true }
+    ensures { Gives (value (context s.now) level_of.Operand (tree_at row.OPERAND text.now)) (after_part row.OPERAND text.now) result }
+{
+    match operand_at(text) {
+        Operand::Number => literal_at(text),
+        Operand::Parentheses => group(s, text),
+        Operand::Function => function(s, text),
+        Operand::OfOne => of_one_at(s, text),
+        Operand::OfTwo => of_two_at(s, text),
+        Operand::OfMore => of_more_at(s, text),
+        Operand::OfAlpha => of_alpha_at(s, text),
+        Operand::Position => position_at(s, text),
+        Operand::Value => bytes_at(s, text),
+        Operand::KeptNumber => Ok(kept_at(s.env, text)),
+        Operand::Variable => variable(s, text),
+    }
+}
+
+/// ERR, #PART or #TERM.
+#[tactic(auto, using(crate::proofs::Operands::kept_is, crate::proofs::Operands::kept_rest))]
+fn kept_at<'a>(env: &Env<'_>, text: &'a [u8]) -> (Dec, &'a [u8])
+    requires part { is_part row.KEPT_NUMBER text.now ≡ true }
+    ensures value { kept_value (surroundings env.now) (tree_at row.KEPT_NUMBER text.now) ≡ Ok result.0 }
+    ensures rest { result.1.now ≡ after_part row.KEPT_NUMBER text.now }
+{
+    let number = kept_number(env, first(text));
+    (whole_number(u64::from(number)), dropped(text, 1))
+}
+
+/// An expression in parentheses.
+#[cycle(values)]
+#[tactic(auto, using(crate::proofs::Operands::group_sum, crate::proofs::Operands::group_is, crate::proofs::Operands::group_rest, crate::proofs::Operands::group_shorter))]
+fn group<'a>(s: &Scope<'_>, text: &'a [u8]) -> Result<(Dec, &'a [u8]), Code>
+    requires part { is_part row.PARENTHESES text.now ≡ true }
+    ensures { Gives (meaning.operand (context s.now) kind_is.Parentheses (tree_at row.PARENTHESES text.now)) (after_part row.PARENTHESES text.now) result }
+{
+    match climb(Level::Sum, s, dropped(text, 1)) {
+        Ok((number, rest)) => Ok((number, dropped(rest, 1))),
+        Err(code) => Err(code),
+    }
+}
+
+/// A call of a DEFFN.
+#[cycle(values)]
+#[tactic(auto, using(crate::proofs::Operands::call_sum, crate::proofs::Operands::call_name, crate::proofs::Operands::call_is, crate::proofs::Operands::call_rest, crate::proofs::Operands::call_shorter))]
+fn function<'a>(s: &Scope<'_>, text: &'a [u8]) -> Result<(Dec, &'a [u8]), Code>
+    requires part { is_part row.FUNCTION text.now ≡ true }
+    ensures { Gives (meaning.operand (context s.now) kind_is.Function (tree_at row.FUNCTION text.now)) (after_part row.FUNCTION text.now) result }
+{
+    let (argument, rest) = match climb(Level::Sum, s, dropped(text, 3)) {
+        Ok(found) => found,
+        Err(code) => return Err(code),
+    };
+    match call(s, at(text, 1), argument) {
+        Ok(number) => Ok((number, dropped(rest, 1))),
+        Err(code) => Err(code),
+    }
+}
+
+/// What the function of a name gives for an argument: P38 where the home has none, A04 where sixteen calls are open.
+#[cycle(values)]
+#[tactic(auto, using(crate::proofs::Defined::called_nowhere, crate::proofs::Defined::called_too_deep, crate::proofs::Defined::called_body, crate::proofs::Defined::body_part, crate::proofs::Defined::parameter_here))]
+fn call(s: &Scope<'_>, name: u8, argument: Dec) -> Result<Dec, Code>
+    requires named { (is_letter name || is_digit name) ≡ true }
+    ensures { result ≡ called (surroundings s.now.env.now) s.now.room name argument }
+{
+    let Some(unit) = definition_of(s.env, name) else {
+        return Err(Code::known(P38_NO_DEFFN));
+    };
+    if s.room == 0 {
+        return Err(Code::known(A04_TOO_DEEP));
+    }
+    let named = dropped(unit, 3);
+    let inner = Scope {
+        env: s.env,
+        parameter: Some(Parameter {
+            name: numeric_name(named),
+            value: argument,
+        }),
+        room: s.room - 1,
+    };
+    let body = dropped(named, numeric_name_width(Origin::Atoms, named) + 2);
+    match climb(Level::Sum, &inner, body) {
+        Ok((number, _)) => Ok(number),
+        Err(code) => Err(code),
+    }
+}
+
+/// The unit of the DEFFN of a name.
+#[tactic(auto, using(crate::proofs::Defined::is_definition))]
+fn definition_of<'a>(env: &Env<'a>, name: u8) -> Option<&'a [u8]>
+    requires named { (is_letter name || is_digit name) ≡ true }
+    ensures unit { option_map (λ unit. unit.now) result ≡ option_map (λ spot. unit_at spot env.now.home.now.lines) (first_opening (is_function name) env.now.home.now.lines) }
+    ensures part { IfSome result (λ unit. is_part row.DEFFN unit.now ≡ true) }
+    ensures found { IfSome result (λ unit. is_function name unit.now ≡ true) }
+    ensures short { IfSome result (λ unit. length unit.now ≤ 255) }
+{
+    let home = env.home;
+    let Some(spot) = home.function(name) else {
+        return None;
+    };
+    let Some(line) = home.line(spot.line) else {
+        return None;
+    };
+    spells_a_line(line.atoms);
+    match row_unit(line.atoms, usize::from(spot.unit)) {
+        Some(unit) => Some(unit.bytes),
+        None => None,
+    }
+}
+
+/// ABS, INT, FIX, SGN or SQR.
+#[cycle(values)]
+#[tactic(auto, using(crate::proofs::Operands::one_sum, crate::proofs::Operands::one_is, crate::proofs::Operands::one_rest, crate::proofs::Operands::one_shorter))]
+fn of_one_at<'a>(s: &Scope<'_>, text: &'a [u8]) -> Result<(Dec, &'a [u8]), Code>
+    requires part { is_part row.OF_ONE text.now ≡ true }
+    ensures { Gives (meaning.operand (context s.now) kind_is.OfOne (tree_at row.OF_ONE text.now)) (after_part row.OF_ONE text.now) result }
+{
+    let (x, rest) = match climb(Level::Sum, s, dropped(text, 1)) {
+        Ok(found) => found,
+        Err(code) => return Err(code),
+    };
+    match of_one(first(text), x) {
+        Ok(number) => Ok((number, dropped(rest, 1))),
+        Err(code) => Err(code),
+    }
+}
+
+/// ROUND or MOD.
+#[cycle(values)]
+#[tactic(auto, using(crate::proofs::Operands::two_first, crate::proofs::Operands::two_second, crate::proofs::Operands::two_is, crate::proofs::Operands::two_rest, crate::proofs::Operands::two_shorter, crate::proofs::Operands::second_shorter))]
+fn of_two_at<'a>(s: &Scope<'_>, text: &'a [u8]) -> Result<(Dec, &'a [u8]), Code>
+    requires part { is_part row.OF_TWO text.now ≡ true }
+    ensures { Gives (meaning.operand (context s.now) kind_is.OfTwo (tree_at row.OF_TWO text.now)) (after_part row.OF_TWO text.now) result }
+{
+    let (x, after) = match climb(Level::Sum, s, dropped(text, 1)) {
+        Ok(found) => found,
+        Err(code) => return Err(code),
+    };
+    let (y, rest) = match climb(Level::Sum, s, dropped(after, 1)) {
+        Ok(found) => found,
+        Err(code) => return Err(code),
+    };
+    match of_two(s.env.mode, first(text), x, y) {
+        Ok(number) => Ok((number, dropped(rest, 1))),
+        Err(code) => Err(code),
+    }
+}
+
+/// MAX or MIN.
+#[cycle(values)]
+#[tactic(auto, using(crate::proofs::Operands::more_first, crate::proofs::Operands::more_further, crate::proofs::Operands::more_is, crate::proofs::Operands::more_rest, crate::proofs::Operands::more_shorter, crate::proofs::Operands::rest_shorter, crate::proofs::Extremes::refused))]
+fn of_more_at<'a>(s: &Scope<'_>, text: &'a [u8]) -> Result<(Dec, &'a [u8]), Code>
+    requires part { is_part row.OF_MORE text.now ≡ true }
+    ensures { Gives (meaning.operand (context s.now) kind_is.OfMore (tree_at row.OF_MORE text.now)) (after_part row.OF_MORE text.now) result }
+{
+    let word = first(text);
+    let (number, after) = match climb(Level::Sum, s, dropped(text, 1)) {
+        Ok(found) => found,
+        Err(code) => return Err(code),
+    };
+    match further_numbers(word, number, s, after) {
+        Ok((number, rest)) => Ok((number, dropped(rest, 1))),
+        Err(code) => Err(code),
+    }
+}
+
+/// The greatest or the least of a number and of those that follow it, of which there are at most seven.
+#[cycle(values)]
+fn further_numbers<'a>(
+    word: u8,
+    start: Dec,
+    s: &Scope<'_>,
+    text: &'a [u8],
+) -> Result<(Dec, &'a [u8]), Code>
+    requires part { are_further 7 text.now ≡ true }
+    ensures { Gives (extremes (context s.now) word (Ok start) (further_tree 7 text.now)) (after_further 7 text.now) result }
+{
+    let mut number = start;
+    let mut left = text;
+    for _ in 0..7usize {
+        if !is_at(b',', left) {
+            return Ok((number, left));
+        }
+        let (other, rest) = match climb(Level::Sum, s, dropped(left, 1)) {
+            Ok(found) => found,
+            Err(code) => return Err(code),
+        };
+        number = extreme(word, number, other);
+        left = rest;
+    }
+    Ok((number, left))
+}
+
+/// LEN or NUM.
+#[cycle(values)]
+#[tactic(auto, using(crate::proofs::Operands::alpha_text, crate::proofs::Operands::alpha_is, crate::proofs::Operands::alpha_rest, crate::proofs::Operands::alpha_shorter))]
+fn of_alpha_at<'a>(s: &Scope<'_>, text: &'a [u8]) -> Result<(Dec, &'a [u8]), Code>
+    requires part { is_part row.OF_ALPHA text.now ≡ true }
+    ensures { Gives (meaning.operand (context s.now) kind_is.OfAlpha (tree_at row.OF_ALPHA text.now)) (after_part row.OF_ALPHA text.now) result }
+{
+    let mut value = Bytes::new();
+    match alpha(s, dropped(text, 1), &mut value) {
+        Ok(rest) => Ok((of_text(first(text), value.bytes()), dropped(rest, 1))),
+        Err(code) => Err(code),
+    }
+}
+
+/// POS.
+#[cycle(values)]
+#[tactic(auto, using(crate::proofs::Operands::position_first, crate::proofs::Operands::position_sign, crate::proofs::Operands::position_second, crate::proofs::Operands::position_is, crate::proofs::Operands::position_rest, crate::proofs::Operands::position_shorter, crate::proofs::Operands::other_shorter))]
+fn position_at<'a>(s: &Scope<'_>, text: &'a [u8]) -> Result<(Dec, &'a [u8]), Code>
+    requires part { is_part row.POSITION text.now ≡ true }
+    ensures { Gives (meaning.operand (context s.now) kind_is.Position (tree_at row.POSITION text.now)) (after_part row.POSITION text.now) result }
+{
+    let mut value = Bytes::new();
+    let sign = match alpha(s, dropped(text, 1), &mut value) {
+        Ok(rest) => rest,
+        Err(code) => return Err(code),
+    };
+    let width = relation_width(sign);
+    let mut wanted = Bytes::new();
+    match alpha(s, dropped(sign, width), &mut wanted) {
+        Ok(rest) => {
+            let relation = relation_at(sign);
+            Ok((
+                place_of(relation, value.bytes(), wanted.bytes()),
+                dropped(rest, 1),
+            ))
+        }
+        Err(code) => Err(code),
+    }
+}
+
+/// VAL.
+#[cycle(values)]
+#[tactic(auto, using(crate::proofs::Operands::bytes_first, crate::proofs::Operands::bytes_count, crate::proofs::Operands::bytes_is, crate::proofs::Operands::bytes_rest, crate::proofs::Operands::bytes_shorter, crate::proofs::Operands::count_shorter))]
+fn bytes_at<'a>(s: &Scope<'_>, text: &'a [u8]) -> Result<(Dec, &'a [u8]), Code>
+    requires part { is_part row.VALUE text.now ≡ true }
+    ensures { Gives (meaning.operand (context s.now) kind_is.Value (tree_at row.VALUE text.now)) (after_part row.VALUE text.now) result }
+{
+    let mut value = Bytes::new();
+    let after = match alpha(s, dropped(text, 1), &mut value) {
+        Ok(rest) => rest,
+        Err(code) => return Err(code),
+    };
+    let (count, rest) = match second(s, after) {
+        Ok(found) => found,
+        Err(code) => return Err(code),
+    };
+    let count = match byte_count(count) {
+        Ok(count) => count,
+        Err(code) => return Err(code),
+    };
+    match number_of(value.bytes(), count) {
+        Ok(number) => Ok((number, dropped(rest, 1))),
+        Err(code) => Err(code),
+    }
+}
+
+/// A number after a comma, where one is written.
+#[cycle(values)]
+#[tactic(auto, using(crate::proofs::Names::second_part, crate::proofs::Names::second_is, crate::proofs::Names::second_rest, crate::proofs::Names::no_second, crate::proofs::Names::no_second_rest, crate::proofs::Names::second_shorter))]
+pub fn second<'a>(s: &Scope<'_>, text: &'a [u8]) -> Result<(Option<Dec>, &'a [u8]), Code>
+    requires part { maybe_part (start.Code byte.comma) row.COMMA_NUMBER text.now ≡ true }
+    ensures { Gives (second (context s.now) (maybe_tree (start.Code byte.comma) row.COMMA_NUMBER text.now)) (after_maybe (start.Code byte.comma) row.COMMA_NUMBER text.now) result }
+{
+    if !is_at(b',', text) {
+        return Ok((None, text));
+    }
+    match climb(Level::Sum, s, dropped(text, 1)) {
+        Ok((number, rest)) => Ok((Some(number), rest)),
+        Err(code) => Err(code),
+    }
+}
+
+/// The row and the column of subscripts, 0 where there is none.
+#[cycle(values)]
+#[tactic(auto, using(crate::proofs::Names::row_part, crate::proofs::Names::column_part, crate::proofs::Names::subscripts_is, crate::proofs::Names::subscripts_rest, crate::proofs::Names::no_subscripts, crate::proofs::Names::no_subscripts_rest, crate::proofs::Names::row_shorter, crate::proofs::Names::column_shorter))]
+fn subscripts<'a>(s: &Scope<'_>, text: &'a [u8]) -> Result<(Subscripts, &'a [u8]), Code>
+    requires part { maybe_part (start.Code byte.opening) row.SUBSCRIPTS text.now ≡ true }
+    ensures { Gives (subscripts (context s.now) (maybe_tree (start.Code byte.opening) row.SUBSCRIPTS text.now)) (after_maybe (start.Code byte.opening) row.SUBSCRIPTS text.now) result }
+{
+    if !is_at(b'(', text) {
+        return Ok((Subscripts { row: 0, column: 0 }, text));
+    }
+    let (row, after) = match climb(Level::Sum, s, dropped(text, 1)) {
+        Ok(found) => found,
+        Err(code) => return Err(code),
+    };
+    let (column, rest) = match second(s, after) {
+        Ok(found) => found,
+        Err(code) => return Err(code),
+    };
+    let at = Subscripts {
+        row: subscript(row),
+        column: column_of(column),
+    };
+    Ok((at, dropped(rest, 1)))
+}
+
+/// The element that a name and its subscripts stand for. X77 comes at the name, before its subscripts.
+#[cycle(values)]
+#[tactic(auto, using(crate::proofs::Names::located_subscripts, crate::proofs::Names::located_is, crate::proofs::Names::located_rest, crate::proofs::Names::branch_is, crate::proofs::Names::drop_no_longer))]
+pub fn located<'a, 'v>(
+    s: &Scope<'v>,
+    kind: NameKind,
+    text: &'a [u8],
+) -> Result<(Located<'v>, &'a [u8]), Code>
+    requires part { is_part (name_row kind) text.now ≡ true }
+    ensures place { MatchResult result (λ p. (located (context s.now) (is_alpha_kind kind) (tree_at (name_row kind) text.now) ≡ Ok (place_seen p.0)) × (p.1.now ≡ after_part (name_row kind) text.now)) (λ code. located (context s.now) (is_alpha_kind kind) (tree_at (name_row kind) text.now) ≡ Err code) }
+    ensures name { IfOk result (λ p. (is_legal_name p.0.element.var ≡ true) × (p.0.element.var.alpha ≡ is_alpha_kind kind)) }
+{
+    let (name, width) = name_at(kind, text);
+    let vars = match variables_of(s.env, name) {
+        Ok(vars) => vars,
+        Err(code) => return Err(code),
+    };
+    let after = dropped(text, width);
+    let (at, rest) = match subscripts(s, after) {
+        Ok(found) => found,
+        Err(code) => return Err(code),
+    };
+    let element = Element {
+        global: name.global,
+        var: variable_of(name, is_at(b'(', after)),
+        row: at.row,
+        column: at.column,
+    };
+    Ok((Located { vars, element }, rest))
+}
+
+/// A name of a kind, and how many bytes it takes.
+#[tactic(auto, using(crate::proofs::Names::alpha_there, crate::proofs::Names::numeric_there, crate::proofs::Names::alpha_leaf_is, crate::proofs::Names::number_leaf_is, crate::proofs::Names::legal_name))]
+fn name_at(kind: NameKind, text: &[u8]) -> (Name, usize)
+    requires part { is_part (name_row kind) text.now ≡ true }
+    ensures name { result.0 ≡ variable_name (is_alpha_kind kind) (leaf_bytes (name_leaf kind) text.now) }
+    ensures legal { (array : Bool) → is_legal_name (variable_of result.0 array) ≡ true }
+    ensures width { result.1 ≡ leaf_width Atoms (name_leaf kind) text.now }
+{
+    if kind.is_alpha() {
+        (alpha_name(text), alpha_name_width(Origin::Atoms, text))
+    } else {
+        (numeric_name(text), numeric_name_width(Origin::Atoms, text))
+    }
+}
+
+/// The value of the parameter, where a numeric variable has its name.
+#[tactic(auto, using(crate::proofs::Names::variable_hidden, crate::proofs::Names::variable_shown, crate::proofs::Names::variable_array, crate::proofs::Names::number_leaf))]
+fn hidden_at(s: &Scope<'_>, text: &[u8]) -> Option<Dec>
+    requires part { is_part row.VARIABLE text.now ≡ true }
+    ensures some { IfSome result (λ x. meaning.operand (context s.now) kind_is.Variable (tree_at row.VARIABLE text.now) ≡ Ok x) }
+    ensures plain { IfSome result (λ x. (lexical.first (after_name name_kind.Number text.now) == byte.opening) ≡ false) }
+    ensures none { result ≡ None → meaning.operand (context s.now) kind_is.Variable (tree_at row.VARIABLE text.now) ≡ element_number (located (context s.now) false (tree_at row.VARIABLE text.now)) }
+{
+    if is_at(b'(', dropped(text, numeric_name_width(Origin::Atoms, text))) {
+        return None;
+    }
+    hidden_by(s.parameter, numeric_name(text))
+}
+
+/// A numeric variable: the parameter of its name, and else the number that it has.
+#[cycle(values)]
+#[tactic(auto, using(crate::proofs::Names::variable_rest))]
+fn variable<'a>(s: &Scope<'_>, text: &'a [u8]) -> Result<(Dec, &'a [u8]), Code>
+    requires part { is_part row.VARIABLE text.now ≡ true }
+    ensures { Gives (meaning.operand (context s.now) kind_is.Variable (tree_at row.VARIABLE text.now)) (after_part row.VARIABLE text.now) result }
+{
+    if let Some(number) = hidden_at(s, text) {
+        return Ok((
+            number,
+            dropped(text, numeric_name_width(Origin::Atoms, text)),
+        ));
+    }
+    let (located, rest) = match located(s, NameKind::Number, text) {
+        Ok(found) => found,
+        Err(code) => return Err(code),
+    };
+    match located.number() {
+        Ok(number) => Ok((number, rest)),
+        Err(code) => Err(code),
+    }
+}
+
+/// Puts bytes after others, X72 where they are more than 255.
+fn join(bytes: &[u8], into: &mut Bytes) -> Result<(), Code>
+    ensures { MatchResult result (λ done. joined_text into.old bytes.now ≡ Ok into.new) (λ code. joined_text into.old bytes.now ≡ Err code) }
+{
+    if bytes.len() + into.len() > 255 {
+        return Err(Code::known(X72_TOO_LONG));
+    }
+    into.extend(bytes);
+    Ok(())
+}
+
+/// An alpha expression: its bytes, and what stands after it.
+#[cycle(values)]
+#[tactic(auto, using(crate::proofs::Texts::text_first, crate::proofs::Texts::text_list, crate::proofs::Texts::text_value, crate::proofs::Texts::text_rest, crate::proofs::Texts::text_refused, b2_rows::proofs::Levels::part_no_longer))]
+pub fn alpha<'a>(s: &Scope<'_>, text: &'a [u8], into: &mut Bytes) -> Result<&'a [u8], Code>
+    requires part { is_part row.ALPHA text.now ≡ true }
+    requires empty { into.old ≡ [] }
+    ensures { MatchResult result (λ left. (meaning.text (context s.now) (tree_at row.ALPHA text.now) ≡ Ok into.new) × (left.now ≡ after_part row.ALPHA text.now)) (λ code. meaning.text (context s.now) (tree_at row.ALPHA text.now) ≡ Err code) }
+{
+    match alpha_operand(s, text, into) {
+        Ok(rest) => further_operands(s, rest, into),
+        Err(code) => Err(code),
+    }
+}
+
+/// Further alpha operands, each after `&`, put after what stands before them.
+#[cycle(values)]
+#[tactic(auto, using(crate::proofs::Texts::on_operand, crate::proofs::Texts::on_list, crate::proofs::Texts::on_value, crate::proofs::Texts::on_rest, crate::proofs::Texts::on_shorter, crate::proofs::Texts::off_value, crate::proofs::Texts::off_rest, crate::proofs::Texts::text_refused, b2_rows::proofs::Levels::part_no_longer))]
+fn further_operands<'a>(s: &Scope<'_>, text: &'a [u8], into: &mut Bytes) -> Result<&'a [u8], Code>
+    requires list { is_list (more_start chain.Alpha) row.JOINED text.now ≡ true }
+    ensures { MatchResult result (λ left. (further_text (context s.now) (Ok into.old) (list_at (more_start chain.Alpha) row.JOINED text.now) ≡ Ok into.new) × (left.now ≡ after_list (more_start chain.Alpha) row.JOINED text.now)) (λ code. further_text (context s.now) (Ok into.old) (list_at (more_start chain.Alpha) row.JOINED text.now) ≡ Err code) }
+{
+    let mut left = text;
+    while goes_on(Chain::Alpha, left) {
+        left = match alpha_operand(s, dropped(left, 1), into) {
+            Ok(rest) => rest,
+            Err(code) => return Err(code),
+        };
+    }
+    Ok(left)
+}
+
+/// An alpha operand, put after what stands before it.
+#[cycle(values)]
+#[tactic(auto, using(b2_rows::proofs::EachOperand::literal_here, b2_rows::proofs::EachOperand::string_part_here, b2_rows::proofs::EachOperand::hex_here, b2_rows::proofs::EachOperand::binary_here, b2_rows::proofs::EachOperand::alpha_variable_here, b2_rows::proofs::EachOperand::literal_left, b2_rows::proofs::EachOperand::string_part_left, b2_rows::proofs::EachOperand::hex_left, b2_rows::proofs::EachOperand::binary_left, b2_rows::proofs::EachOperand::alpha_variable_left, crate::proofs::OperandKinds::literal_gives, crate::proofs::OperandKinds::string_part_gives, crate::proofs::OperandKinds::hex_gives, crate::proofs::OperandKinds::binary_gives, crate::proofs::OperandKinds::alpha_variable_gives))]
+fn alpha_operand<'a>(s: &Scope<'_>, text: &'a [u8], into: &mut Bytes) -> Result<&'a [u8], Code>
+    requires part { is_part row.ALPHA_OPERAND text.now ≡ true }
+    ensures { Appends (text_row (context s.now) (tree_at row.ALPHA_OPERAND text.now)) (after_part row.ALPHA_OPERAND text.now) into.old into.new result }
+{
+    match alpha_operand_at(text) {
+        AlphaOperand::Literal => quoted_at(text, into),
+        AlphaOperand::StringPart => part_at(s, text, into),
+        AlphaOperand::Hex => hex_at(text, into),
+        AlphaOperand::Binary => binary_at(s, text, into),
+        AlphaOperand::Variable => alpha_variable(s, text, into),
+    }
+}
+
+/// Bytes in quotes.
+#[tactic(auto, using(crate::proofs::Texts::quoted_here, crate::proofs::Texts::quoted_is, crate::proofs::Texts::quoted_rest))]
+fn quoted_at<'a>(text: &'a [u8], into: &mut Bytes) -> Result<&'a [u8], Code>
+    requires part { is_part row.LITERAL text.now ≡ true }
+    ensures { Appends (literal_bytes (tree_at row.LITERAL text.now)) (after_part row.LITERAL text.now) into.old into.new result }
+{
+    match join(b2_rows::literal_at(text), into) {
+        Ok(()) => Ok(dropped(text, literal_width(text))),
+        Err(code) => Err(code),
+    }
+}
+
+/// The bytes of pairs of hexadecimal digits, of which there is one at least, and what stands after them.
+#[tactic(auto, using(crate::proofs::Pairs::pairs_here, crate::proofs::Pairs::pairs_list, crate::proofs::Pairs::pairs_is, crate::proofs::Pairs::pairs_rest, crate::proofs::Pairs::pair_here, crate::proofs::Pairs::pair_list, crate::proofs::Pairs::pair_is, crate::proofs::Pairs::pair_rest, crate::proofs::Pairs::pair_shorter, crate::proofs::Pairs::none_is, crate::proofs::Pairs::none_rest, crate::proofs::Pairs::pairs_room, crate::proofs::Pairs::pair_room, crate::proofs::Pairs::one_more))]
+fn pairs_at<'a>(text: &'a [u8], into: &mut Bytes) -> &'a [u8]
+    requires part { is_part row.HEX_PAIRS text.now ≡ true }
+    requires empty { into.old ≡ [] }
+    ensures bytes { pairs_of (tree_at row.HEX_PAIRS text.now) ≡ Ok into.new }
+    ensures rest { result.now ≡ after_part row.HEX_PAIRS text.now }
+{
+    into.push(hex_byte_at(text));
+    let mut left = dropped(text, 2);
+    while is_hex_at(left) {
+        into.push(hex_byte_at(left));
+        left = dropped(left, 2);
+    }
+    left
+}
+
+/// HEX.
+#[tactic(auto, using(crate::proofs::Texts::hex_pairs, crate::proofs::Texts::hex_is, crate::proofs::Texts::hex_rest))]
+fn hex_at<'a>(text: &'a [u8], into: &mut Bytes) -> Result<&'a [u8], Code>
+    requires part { is_part row.HEX text.now ≡ true }
+    ensures { Appends (hex_bytes (tree_at row.HEX text.now)) (after_part row.HEX text.now) into.old into.new result }
+{
+    let mut bytes = Bytes::new();
+    let rest = pairs_at(dropped(text, 1), &mut bytes);
+    match join(bytes.bytes(), into) {
+        Ok(()) => Ok(dropped(rest, 1)),
+        Err(code) => Err(code),
+    }
+}
+
+/// STR.
+#[cycle(values)]
+#[tactic(auto, using(crate::proofs::Texts::part_variable, crate::proofs::Texts::part_from, crate::proofs::Texts::part_count, crate::proofs::Texts::part_is, crate::proofs::Texts::part_rest, crate::proofs::Texts::part_shorter, crate::proofs::Texts::from_shorter, crate::proofs::Texts::count_shorter))]
+fn part_at<'a>(s: &Scope<'_>, text: &'a [u8], into: &mut Bytes) -> Result<&'a [u8], Code>
+    requires part { is_part row.STRING_PART text.now ≡ true }
+    ensures { Appends (meaning.text_operand (context s.now) alpha_kind_is.StringPart (tree_at row.STRING_PART text.now)) (after_part row.STRING_PART text.now) into.old into.new result }
+{
+    let (located, after) = match located(s, NameKind::AlphaReceiver, dropped(text, 1)) {
+        Ok(found) => found,
+        Err(code) => return Err(code),
+    };
+    let bytes = match located.bytes() {
+        Ok(bytes) => bytes,
+        Err(code) => return Err(code),
+    };
+    let (from, after) = match climb(Level::Sum, s, dropped(after, 1)) {
+        Ok(found) => found,
+        Err(code) => return Err(code),
+    };
+    let (count, rest) = match second(s, after) {
+        Ok(found) => found,
+        Err(code) => return Err(code),
+    };
+    let part = match part_of(bytes, from, count) {
+        Ok(part) => part,
+        Err(code) => return Err(code),
+    };
+    match join(part, into) {
+        Ok(()) => Ok(dropped(rest, 1)),
+        Err(code) => Err(code),
+    }
+}
+
+/// The bytes from one place on, and as many as are counted, or all: P34 where they aren't there.
+pub fn part_of(bytes: &[u8], from: Dec, count: Option<Dec>) -> Result<&[u8], Code>
+    requires short { length bytes.now ≤ 124 }
+    ensures { MatchResult result (λ part. part_of bytes.now from count ≡ Ok part.now) (λ code. part_of bytes.now from count ≡ Err code) }
+{
+    let length = bytes.len() as u8;
+    let from = counted(1, length, from)?;
+    let left = dropped(bytes, usize::from(from) - 1);
+    match count {
+        None => Ok(left),
+        Some(count) => {
+            let count = counted(1, left.len() as u8, count)?;
+            Ok(front(left, usize::from(count)))
+        }
+    }
+}
+
+/// BIN.
+#[cycle(values)]
+#[tactic(auto, using(crate::proofs::Texts::binary_number, crate::proofs::Texts::binary_count, crate::proofs::Texts::binary_is, crate::proofs::Texts::binary_rest, crate::proofs::Texts::binary_shorter, crate::proofs::Texts::binary_count_shorter))]
+fn binary_at<'a>(s: &Scope<'_>, text: &'a [u8], into: &mut Bytes) -> Result<&'a [u8], Code>
+    requires part { is_part row.BINARY text.now ≡ true }
+    ensures { Appends (meaning.text_operand (context s.now) alpha_kind_is.Binary (tree_at row.BINARY text.now)) (after_part row.BINARY text.now) into.old into.new result }
+{
+    let (number, after) = match climb(Level::Sum, s, dropped(text, 1)) {
+        Ok(found) => found,
+        Err(code) => return Err(code),
+    };
+    let (count, rest) = match second(s, after) {
+        Ok(found) => found,
+        Err(code) => return Err(code),
+    };
+    let count = match byte_count(count) {
+        Ok(count) => count,
+        Err(code) => return Err(code),
+    };
+    match join_number(number, count, into) {
+        Ok(()) => Ok(dropped(rest, 1)),
+        Err(code) => Err(code),
+    }
+}
+
+/// Puts a number without its fraction after other bytes, in `count` bytes of its own.
+fn join_number(number: Dec, count: u8, into: &mut Bytes) -> Result<(), Code>
+    requires few { count ≤ 4 }
+    ensures { MatchResult result (λ done. joined_number count number into.old ≡ Ok into.new) (λ code. joined_number count number into.old ≡ Err code) }
+{
+    let mut bytes = [0; 4];
+    let part = &mut bytes[..usize::from(count)];
+    match bytes_in(number, part) {
+        Ok(()) => join(part, into),
+        Err(code) => Err(code),
+    }
+}
+
+/// An alpha variable: its bytes but the blanks at their end.
+#[cycle(values)]
+#[tactic(auto, using(crate::proofs::Texts::variable_text, crate::proofs::Texts::text_there))]
+fn alpha_variable<'a>(s: &Scope<'_>, text: &'a [u8], into: &mut Bytes) -> Result<&'a [u8], Code>
+    requires part { is_part row.ALPHA_VARIABLE text.now ≡ true }
+    ensures { Appends (meaning.text_operand (context s.now) alpha_kind_is.Variable (tree_at row.ALPHA_VARIABLE text.now)) (after_part row.ALPHA_VARIABLE text.now) into.old into.new result }
+{
+    let (located, rest) = match located(s, NameKind::Alpha, text) {
+        Ok(found) => found,
+        Err(code) => return Err(code),
+    };
+    let bytes = match located.bytes() {
+        Ok(bytes) => bytes,
+        Err(code) => return Err(code),
+    };
+    match join(front(bytes, value_len(bytes)), into) {
+        Ok(()) => Ok(rest),
+        Err(code) => Err(code),
+    }
+}

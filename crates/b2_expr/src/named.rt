@@ -1,0 +1,88 @@
+// Variables by their names as they are written.
+ghost use Rattle.std.specs.Prelude.{◌≡◌, ◌≤◌, true, false, length, MatchResult, IfOk, Ok, Err};
+ghost use Rattle.b2_vars.specs.Names.{is_legal_name};
+ghost use Rattle.b2_expr.specs.Named.{bytes_there, is_alpha_kind, number_there, place_seen, variable_of};
+
+use b2_base::Code;
+use b2_dec::Dec;
+use b2_rows::Name;
+use b2_vars::{Var, Vars};
+
+/// A value of a variable: whether its name has `@`, the variable, and the row and the column, 0 where there is none.
+#[derive(Clone, Copy, Debug, PartialEq, Eq)]
+pub struct Element {
+    pub global: bool,
+    pub var: Var,
+    pub row: u16,
+    pub column: u16,
+}
+
+/// A row and a column, each 0 where there is none.
+#[derive(Clone, Copy, Debug, PartialEq, Eq)]
+pub struct Subscripts {
+    pub row: u16,
+    pub column: u16,
+}
+
+/// The kinds of names with subscripts or none: of numbers and of alpha values, as operands and as receivers.
+#[derive(Clone, Copy, Debug, PartialEq, Eq)]
+pub enum NameKind {
+    Number,
+    Alpha,
+    NumberReceiver,
+    AlphaReceiver,
+}
+
+impl NameKind {
+    /// Whether the name has a `$`.
+    pub fn is_alpha(self) -> bool
+        ensures { result ≡ is_alpha_kind self }
+    {
+        match self {
+            NameKind::Alpha | NameKind::AlphaReceiver => true,
+            NameKind::Number | NameKind::NumberReceiver => false,
+        }
+    }
+}
+
+/// An element, and the variables among which it is looked for.
+#[derive(Drop)]
+pub struct Located<'a> {
+    pub vars: &'a Vars,
+    pub element: Element,
+}
+
+/// The variable of a name, where it is known whether subscripts follow.
+pub fn variable_of(name: Name, array: bool) -> Var
+    ensures { result ≡ variable_of name array }
+{
+    Var {
+        letter: name.letter,
+        digit: name.digit,
+        alpha: name.alpha,
+        array,
+    }
+}
+
+impl<'a> Located<'a> {
+    /// The number of a numeric element. P59 and P57 come exactly where the array isn't there or has no such element.
+    pub fn number(&self) -> Result<Dec, Code>
+        requires named { is_legal_name self.now.element.var ≡ true }
+        requires number { self.now.element.var.alpha ≡ false }
+        ensures { result ≡ number_there (place_seen self.now) }
+    {
+        let element = self.element;
+        self.vars.number(element.var, element.row, element.column)
+    }
+
+    /// All bytes of an alpha element. P59 and P57 come as for a number.
+    pub fn bytes(&self) -> Result<&'a [u8], Code>
+        requires named { is_legal_name self.now.element.var ≡ true }
+        requires alpha { self.now.element.var.alpha ≡ true }
+        ensures value { MatchResult result (λ x. bytes_there (place_seen self.now) ≡ Ok x.now) (λ code. bytes_there (place_seen self.now) ≡ Err code) }
+        ensures short { IfOk result (λ x. length x.now ≤ 124) }
+    {
+        let element = self.element;
+        self.vars.alpha(element.var, element.row, element.column)
+    }
+}

@@ -1,0 +1,73 @@
+// What joins two numbers, by levels: sums of products of powers; and what compares.
+ghost use Rattle.std.specs.Prelude.{◌≡◌, Some};
+ghost use Rattle.b2_expr.specs.Operators.{joined, joined_condition, raised, raised_by, with_sign};
+
+use b2_atom::words::{AND, OR};
+use b2_base::Code;
+use b2_base::codes::C65_EXPONENT;
+use b2_dec::{Dec, Mode, add, div, mul, power, sub, whole};
+
+/// The levels of operators, from what binds least to what binds most.
+#[derive(Clone, Copy, Debug, PartialEq, Eq)]
+pub enum Level {
+    Sum,
+    Product,
+    Factor,
+    Power,
+    Operand,
+}
+
+/// A number to the power of a whole one, which must be from 0 to 255.
+fn raised_to(a: Dec, exponent: i64, mode: Mode) -> Result<Dec, Code>
+    ensures { result ≡ raised_by mode a (Some exponent) }
+{
+    if exponent < 0 || exponent > 255 {
+        return Err(Code::known(C65_EXPONENT));
+    }
+    power(a, exponent as u8, mode)
+}
+
+/// A number to the power of another, which must be a whole one from 0 to 255.
+fn raised(a: Dec, b: Dec, mode: Mode) -> Result<Dec, Code>
+    ensures { result ≡ raised mode a b }
+{
+    match whole(b) {
+        Some(exponent) => raised_to(a, exponent, mode),
+        None => Err(Code::known(C65_EXPONENT)),
+    }
+}
+
+/// What two numbers come to by the operator that a byte is.
+pub fn joined(mode: Mode, operator: u8, a: Dec, b: Dec) -> Result<Dec, Code>
+    ensures { result ≡ joined mode operator a b }
+{
+    match operator {
+        b'+' => add(a, b, mode),
+        b'-' => sub(a, b, mode),
+        b'*' => mul(a, b, mode),
+        b'/' => div(a, b, mode),
+        _ => raised(a, b, mode),
+    }
+}
+
+/// A number with `+` or `-` before it.
+pub fn with_sign(mode: Mode, sign: u8, number: Dec) -> Result<Dec, Code>
+    ensures { result ≡ with_sign mode sign number }
+{
+    if sign == b'-' {
+        sub(Dec::zero(), number, mode)
+    } else {
+        Ok(number)
+    }
+}
+
+/// What AND, OR or XOR make of two conditions.
+pub fn joined_condition(word: u8, a: bool, b: bool) -> bool
+    ensures { result ≡ joined_condition word a b }
+{
+    match word {
+        AND => a && b,
+        OR => a || b,
+        _ => a != b,
+    }
+}

@@ -1,0 +1,377 @@
+// What stands after receivers, found without the values of their subscripts and numbers: an assignment takes its expression
+// first, and stands after them.
+ghost use Rattle.std.specs.Prelude.{◌≡◌, true};
+ghost use Rattle.b2_base.specs.Byte as byte;
+ghost use Rattle.b2_atom.specs.declared.rows.TheConstants as row;
+ghost use Rattle.b2_atom.specs.declared.forms.Start.TheVariants as start;
+ghost use Rattle.b2_rows.specs.Rows.{is_part, after_part};
+ghost use Rattle.b2_rows.specs.Optional.{maybe_part, after_maybe};
+ghost use Rattle.b2_expr.specs.Further.{after_further, are_further};
+ghost use Rattle.b2_expr.specs.Named.{name_leaf, name_row};
+ghost use Rattle.b2_atom.specs.Leaves.{leaf_width};
+ghost use Rattle.b2_atom.specs.declared.words.Origin.TheVariants.{Atoms};
+
+use crate::named::NameKind;
+use b2_atom::words::STR_OPEN;
+use b2_atom::{
+    Cursor, Origin, alpha_name_width, literal_width, number_width, numeric_name_width,
+    relation_width,
+};
+use b2_base::lexical::dropped;
+use b2_rows::{
+    AlphaOperand, Chain, Operand, alpha_operand_at, goes_on, has_sign, is_alpha_at, is_at,
+    is_hex_at, operand_at,
+};
+
+/// Past a sum.
+#[cycle(passing)]
+#[tactic(auto, using(b2_rows::proofs::EachChain::sum_item, b2_rows::proofs::EachChain::sum_list, b2_rows::proofs::EachChain::sum_rest, crate::proofs::Passed::sum_on_item, crate::proofs::Passed::sum_on_list, crate::proofs::Passed::sum_on_rest, crate::proofs::Passed::sum_on_shorter, crate::proofs::Passed::sum_off_rest, b2_rows::proofs::Levels::part_no_longer))]
+fn past_sum(text: &[u8]) -> &[u8]
+    requires part { is_part row.SUM text.now ≡ true }
+    ensures { result.now ≡ after_part row.SUM text.now }
+{
+    let mut left = past_product(text);
+    while goes_on(Chain::Sum, left) {
+        left = past_product(dropped(left, 1));
+    }
+    left
+}
+
+/// Past a product.
+#[cycle(passing)]
+#[tactic(auto, using(b2_rows::proofs::EachChain::product_item, b2_rows::proofs::EachChain::product_list, b2_rows::proofs::EachChain::product_rest, crate::proofs::Passed::product_on_item, crate::proofs::Passed::product_on_list, crate::proofs::Passed::product_on_rest, crate::proofs::Passed::product_on_shorter, crate::proofs::Passed::product_off_rest, b2_rows::proofs::Levels::part_no_longer))]
+fn past_product(text: &[u8]) -> &[u8]
+    requires part { is_part row.PRODUCT text.now ≡ true }
+    ensures { result.now ≡ after_part row.PRODUCT text.now }
+{
+    let mut left = past_factor(text);
+    while goes_on(Chain::Product, left) {
+        left = past_factor(dropped(left, 1));
+    }
+    left
+}
+
+/// Past a factor.
+#[cycle(passing)]
+#[tactic(auto, using(b2_rows::proofs::EachChain::signed_part, b2_rows::proofs::EachChain::signed_rest, b2_rows::proofs::EachChain::signed_shorter, b2_rows::proofs::EachChain::plain_part, b2_rows::proofs::EachChain::plain_rest))]
+fn past_factor(text: &[u8]) -> &[u8]
+    requires part { is_part row.FACTOR text.now ≡ true }
+    ensures { result.now ≡ after_part row.FACTOR text.now }
+{
+    if has_sign(text) {
+        past_power(dropped(text, 1))
+    } else {
+        past_power(text)
+    }
+}
+
+/// Past a power.
+#[cycle(passing)]
+#[tactic(auto, using(b2_rows::proofs::EachChain::power_item, b2_rows::proofs::EachChain::power_list, b2_rows::proofs::EachChain::power_rest, crate::proofs::Passed::power_on_item, crate::proofs::Passed::power_on_list, crate::proofs::Passed::power_on_rest, crate::proofs::Passed::power_on_shorter, crate::proofs::Passed::power_off_rest, b2_rows::proofs::Levels::part_no_longer))]
+fn past_power(text: &[u8]) -> &[u8]
+    requires part { is_part row.POWER text.now ≡ true }
+    ensures { result.now ≡ after_part row.POWER text.now }
+{
+    let mut left = past_operand(text);
+    while goes_on(Chain::Power, left) {
+        left = past_operand(dropped(left, 1));
+    }
+    left
+}
+
+/// Past an operand.
+#[cycle(passing)]
+#[tactic(auto, using(b2_rows::proofs::EachOperand::number_here, b2_rows::proofs::EachOperand::parentheses_here, b2_rows::proofs::EachOperand::function_here, b2_rows::proofs::EachOperand::of_one_here, b2_rows::proofs::EachOperand::of_two_here, b2_rows::proofs::EachOperand::of_more_here, b2_rows::proofs::EachOperand::of_alpha_here, b2_rows::proofs::EachOperand::position_here, b2_rows::proofs::EachOperand::value_here, b2_rows::proofs::EachOperand::kept_number_here, b2_rows::proofs::EachOperand::variable_here, b2_rows::proofs::EachOperand::number_left, b2_rows::proofs::EachOperand::parentheses_left, b2_rows::proofs::EachOperand::function_left, b2_rows::proofs::EachOperand::of_one_left, b2_rows::proofs::EachOperand::of_two_left, b2_rows::proofs::EachOperand::of_more_left, b2_rows::proofs::EachOperand::of_alpha_left, b2_rows::proofs::EachOperand::position_left, b2_rows::proofs::EachOperand::value_left, b2_rows::proofs::EachOperand::kept_number_left, b2_rows::proofs::EachOperand::variable_left, crate::proofs::Operands::literal_rest, crate::proofs::Operands::kept_rest))]
+fn past_operand(text: &[u8]) -> &[u8]
+    requires part { is_part row.OPERAND text.now ≡ true }
+    ensures { result.now ≡ after_part row.OPERAND text.now }
+{
+    match operand_at(text) {
+        Operand::Number => dropped(text, number_width(Origin::Atoms, text)),
+        Operand::Parentheses => past_group(text),
+        Operand::Function => past_function(text),
+        Operand::OfOne => past_of_one(text),
+        Operand::OfTwo => past_of_two(text),
+        Operand::OfMore => past_of_more(text),
+        Operand::OfAlpha => past_of_alpha(text),
+        Operand::Position => past_position(text),
+        Operand::Value => past_value(text),
+        Operand::KeptNumber => dropped(text, 1),
+        Operand::Variable => past_name(NameKind::Number, text),
+    }
+}
+
+/// Past an expression in parentheses.
+#[cycle(passing)]
+#[tactic(auto, using(crate::proofs::Operands::group_sum, crate::proofs::Operands::group_rest, crate::proofs::Operands::group_shorter))]
+fn past_group(text: &[u8]) -> &[u8]
+    requires part { is_part row.PARENTHESES text.now ≡ true }
+    ensures { result.now ≡ after_part row.PARENTHESES text.now }
+{
+    dropped(past_sum(dropped(text, 1)), 1)
+}
+
+/// Past a call of a DEFFN.
+#[cycle(passing)]
+#[tactic(auto, using(crate::proofs::Operands::call_sum, crate::proofs::Operands::call_rest, crate::proofs::Operands::call_shorter))]
+fn past_function(text: &[u8]) -> &[u8]
+    requires part { is_part row.FUNCTION text.now ≡ true }
+    ensures { result.now ≡ after_part row.FUNCTION text.now }
+{
+    dropped(past_sum(dropped(text, 3)), 1)
+}
+
+/// Past ABS, INT, FIX, SGN or SQR.
+#[cycle(passing)]
+#[tactic(auto, using(crate::proofs::Operands::one_sum, crate::proofs::Operands::one_rest, crate::proofs::Operands::one_shorter))]
+fn past_of_one(text: &[u8]) -> &[u8]
+    requires part { is_part row.OF_ONE text.now ≡ true }
+    ensures { result.now ≡ after_part row.OF_ONE text.now }
+{
+    dropped(past_sum(dropped(text, 1)), 1)
+}
+
+/// Past ROUND or MOD.
+#[cycle(passing)]
+#[tactic(auto, using(crate::proofs::Operands::two_first, crate::proofs::Operands::two_second, crate::proofs::Operands::two_rest, crate::proofs::Operands::two_shorter, crate::proofs::Operands::second_shorter))]
+fn past_of_two(text: &[u8]) -> &[u8]
+    requires part { is_part row.OF_TWO text.now ≡ true }
+    ensures { result.now ≡ after_part row.OF_TWO text.now }
+{
+    let after = past_sum(dropped(text, 1));
+    dropped(past_sum(dropped(after, 1)), 1)
+}
+
+/// Past MAX or MIN.
+#[cycle(passing)]
+#[tactic(auto, using(crate::proofs::Operands::more_first, crate::proofs::Operands::more_further, crate::proofs::Operands::more_rest, crate::proofs::Operands::more_shorter, crate::proofs::Operands::rest_shorter))]
+fn past_of_more(text: &[u8]) -> &[u8]
+    requires part { is_part row.OF_MORE text.now ≡ true }
+    ensures { result.now ≡ after_part row.OF_MORE text.now }
+{
+    let after = past_sum(dropped(text, 1));
+    dropped(past_further(after), 1)
+}
+
+/// Past the numbers that follow the first of MAX or MIN, of which there are at most seven.
+#[cycle(passing)]
+fn past_further(text: &[u8]) -> &[u8]
+    requires part { are_further 7 text.now ≡ true }
+    ensures { result.now ≡ after_further 7 text.now }
+{
+    let mut left = text;
+    for _ in 0..7usize {
+        if !is_at(b',', left) {
+            return left;
+        }
+        left = past_sum(dropped(left, 1));
+    }
+    left
+}
+
+/// Past LEN or NUM.
+#[cycle(passing)]
+#[tactic(auto, using(crate::proofs::Operands::alpha_text, crate::proofs::Operands::alpha_rest, crate::proofs::Operands::alpha_shorter))]
+fn past_of_alpha(text: &[u8]) -> &[u8]
+    requires part { is_part row.OF_ALPHA text.now ≡ true }
+    ensures { result.now ≡ after_part row.OF_ALPHA text.now }
+{
+    dropped(past_alpha(dropped(text, 1)), 1)
+}
+
+/// Past POS.
+#[cycle(passing)]
+#[tactic(auto, using(crate::proofs::Operands::position_first, crate::proofs::Operands::position_sign, crate::proofs::Operands::position_second, crate::proofs::Operands::position_rest, crate::proofs::Operands::position_shorter, crate::proofs::Operands::other_shorter))]
+fn past_position(text: &[u8]) -> &[u8]
+    requires part { is_part row.POSITION text.now ≡ true }
+    ensures { result.now ≡ after_part row.POSITION text.now }
+{
+    let sign = past_alpha(dropped(text, 1));
+    let width = relation_width(sign);
+    dropped(past_alpha(dropped(sign, width)), 1)
+}
+
+/// Past VAL.
+#[cycle(passing)]
+#[tactic(auto, using(crate::proofs::Operands::bytes_first, crate::proofs::Operands::bytes_count, crate::proofs::Operands::bytes_rest, crate::proofs::Operands::bytes_shorter, crate::proofs::Operands::count_shorter))]
+fn past_value(text: &[u8]) -> &[u8]
+    requires part { is_part row.VALUE text.now ≡ true }
+    ensures { result.now ≡ after_part row.VALUE text.now }
+{
+    let after = past_alpha(dropped(text, 1));
+    dropped(past_second(after), 1)
+}
+
+/// Past a number after a comma, where one is written.
+#[cycle(passing)]
+#[tactic(auto, using(crate::proofs::Names::second_part, crate::proofs::Names::second_rest, crate::proofs::Names::no_second_rest, crate::proofs::Names::second_shorter))]
+fn past_second(text: &[u8]) -> &[u8]
+    requires part { maybe_part (start.Code byte.comma) row.COMMA_NUMBER text.now ≡ true }
+    ensures { result.now ≡ after_maybe (start.Code byte.comma) row.COMMA_NUMBER text.now }
+{
+    if !is_at(b',', text) {
+        return text;
+    }
+    past_sum(dropped(text, 1))
+}
+
+/// Past subscripts, where some are written.
+#[cycle(passing)]
+#[tactic(auto, using(crate::proofs::Names::row_part, crate::proofs::Names::column_part, crate::proofs::Names::subscripts_rest, crate::proofs::Names::no_subscripts_rest, crate::proofs::Names::row_shorter, crate::proofs::Names::column_shorter))]
+fn past_subscripts(text: &[u8]) -> &[u8]
+    requires part { maybe_part (start.Code byte.opening) row.SUBSCRIPTS text.now ≡ true }
+    ensures { result.now ≡ after_maybe (start.Code byte.opening) row.SUBSCRIPTS text.now }
+{
+    if !is_at(b'(', text) {
+        return text;
+    }
+    let after = past_sum(dropped(text, 1));
+    dropped(past_second(after), 1)
+}
+
+/// How many bytes a name of a kind takes.
+#[tactic(auto, using(crate::proofs::Names::alpha_leaf_is, crate::proofs::Names::number_leaf_is))]
+fn name_width(kind: NameKind, text: &[u8]) -> usize
+    ensures { result ≡ leaf_width Atoms (name_leaf kind) text.now }
+{
+    if kind.is_alpha() {
+        alpha_name_width(Origin::Atoms, text)
+    } else {
+        numeric_name_width(Origin::Atoms, text)
+    }
+}
+
+/// Past a name with subscripts or none.
+#[cycle(passing)]
+#[tactic(auto, using(crate::proofs::Names::located_subscripts, crate::proofs::Names::located_rest, crate::proofs::Names::drop_no_longer))]
+fn past_name(kind: NameKind, text: &[u8]) -> &[u8]
+    requires part { is_part (name_row kind) text.now ≡ true }
+    ensures { result.now ≡ after_part (name_row kind) text.now }
+{
+    past_subscripts(dropped(text, name_width(kind, text)))
+}
+
+/// Past an alpha expression.
+#[cycle(passing)]
+#[tactic(auto, using(crate::proofs::Texts::text_first, crate::proofs::Texts::text_list, crate::proofs::Texts::text_rest, crate::proofs::Texts::on_operand, crate::proofs::Texts::on_list, crate::proofs::Texts::on_rest, crate::proofs::Texts::on_shorter, crate::proofs::Texts::off_rest, b2_rows::proofs::Levels::part_no_longer))]
+fn past_alpha(text: &[u8]) -> &[u8]
+    requires part { is_part row.ALPHA text.now ≡ true }
+    ensures { result.now ≡ after_part row.ALPHA text.now }
+{
+    let mut left = past_alpha_operand(text);
+    while goes_on(Chain::Alpha, left) {
+        left = past_alpha_operand(dropped(left, 1));
+    }
+    left
+}
+
+/// Past an alpha operand.
+#[cycle(passing)]
+#[tactic(auto, using(b2_rows::proofs::EachOperand::literal_here, b2_rows::proofs::EachOperand::string_part_here, b2_rows::proofs::EachOperand::hex_here, b2_rows::proofs::EachOperand::binary_here, b2_rows::proofs::EachOperand::alpha_variable_here, b2_rows::proofs::EachOperand::literal_left, b2_rows::proofs::EachOperand::string_part_left, b2_rows::proofs::EachOperand::hex_left, b2_rows::proofs::EachOperand::binary_left, b2_rows::proofs::EachOperand::alpha_variable_left, crate::proofs::Texts::quoted_rest))]
+fn past_alpha_operand(text: &[u8]) -> &[u8]
+    requires part { is_part row.ALPHA_OPERAND text.now ≡ true }
+    ensures { result.now ≡ after_part row.ALPHA_OPERAND text.now }
+{
+    match alpha_operand_at(text) {
+        AlphaOperand::Literal => dropped(text, literal_width(text)),
+        AlphaOperand::StringPart => past_part(text),
+        AlphaOperand::Hex => past_hex(text),
+        AlphaOperand::Binary => past_binary(text),
+        AlphaOperand::Variable => past_name(NameKind::Alpha, text),
+    }
+}
+
+/// Past HEX.
+#[tactic(auto, using(crate::proofs::Texts::hex_pairs, crate::proofs::Texts::hex_rest))]
+fn past_hex(text: &[u8]) -> &[u8]
+    requires part { is_part row.HEX text.now ≡ true }
+    ensures { result.now ≡ after_part row.HEX text.now }
+{
+    dropped(past_pairs(dropped(text, 1)), 1)
+}
+
+/// Past pairs of hexadecimal digits.
+#[tactic(auto, using(crate::proofs::Pairs::pairs_list, crate::proofs::Pairs::pairs_rest, crate::proofs::Pairs::pair_list, crate::proofs::Pairs::pair_rest, crate::proofs::Pairs::pair_shorter, crate::proofs::Pairs::none_rest))]
+fn past_pairs(text: &[u8]) -> &[u8]
+    requires part { is_part row.HEX_PAIRS text.now ≡ true }
+    ensures { result.now ≡ after_part row.HEX_PAIRS text.now }
+{
+    let mut left = dropped(text, 2);
+    while is_hex_at(left) {
+        left = dropped(left, 2);
+    }
+    left
+}
+
+/// Past BIN.
+#[cycle(passing)]
+#[tactic(auto, using(crate::proofs::Texts::binary_number, crate::proofs::Texts::binary_count, crate::proofs::Texts::binary_rest, crate::proofs::Texts::binary_shorter, crate::proofs::Texts::binary_count_shorter))]
+fn past_binary(text: &[u8]) -> &[u8]
+    requires part { is_part row.BINARY text.now ≡ true }
+    ensures { result.now ≡ after_part row.BINARY text.now }
+{
+    let after = past_sum(dropped(text, 1));
+    dropped(past_second(after), 1)
+}
+
+/// Past STR.
+#[cycle(passing)]
+#[tactic(auto, using(crate::proofs::Texts::part_variable, crate::proofs::Texts::part_from, crate::proofs::Texts::part_count, crate::proofs::Texts::part_rest, crate::proofs::Texts::part_shorter, crate::proofs::Texts::from_shorter, crate::proofs::Texts::count_shorter))]
+fn past_part(text: &[u8]) -> &[u8]
+    requires part { is_part row.STRING_PART text.now ≡ true }
+    ensures { result.now ≡ after_part row.STRING_PART text.now }
+{
+    let comma = past_name(NameKind::AlphaReceiver, dropped(text, 1));
+    let after = past_sum(dropped(comma, 1));
+    dropped(past_second(after), 1)
+}
+
+/// Past an alpha receiver.
+#[tactic(auto, using(crate::proofs::ReceiverRows::alpha_part_here, crate::proofs::ReceiverRows::alpha_part_rest, crate::proofs::ReceiverRows::alpha_whole_here, crate::proofs::ReceiverRows::alpha_whole_rest))]
+fn past_alpha_receiver(text: &[u8]) -> &[u8]
+    requires part { is_part row.ALPHA_RECEIVER text.now ≡ true }
+    ensures { result.now ≡ after_part row.ALPHA_RECEIVER text.now }
+{
+    if is_at(STR_OPEN, text) {
+        past_part(text)
+    } else {
+        past_name(NameKind::AlphaReceiver, text)
+    }
+}
+
+/// Past a receiver of either kind.
+#[tactic(auto, using(crate::proofs::ReceiverRows::any_alpha_here, crate::proofs::ReceiverRows::any_alpha_rest, crate::proofs::ReceiverRows::any_number_here, crate::proofs::ReceiverRows::any_number_rest))]
+fn past_any_receiver(text: &[u8]) -> &[u8]
+    requires part { is_part row.RECEIVER text.now ≡ true }
+    ensures { result.now ≡ after_part row.RECEIVER text.now }
+{
+    if is_alpha_at(text) {
+        past_alpha_receiver(text)
+    } else {
+        past_name(NameKind::NumberReceiver, text)
+    }
+}
+
+/// Moves a cursor past the numeric receiver at which it stands.
+pub fn pass_number_receiver(c: &mut Cursor<'_>)
+    requires part { is_part row.NUMERIC_RECEIVER c.old ≡ true }
+    ensures { c.new ≡ after_part row.NUMERIC_RECEIVER c.old }
+{
+    *c = Cursor::over(past_name(NameKind::NumberReceiver, c.rest()));
+}
+
+/// Moves a cursor past the alpha receiver at which it stands.
+pub fn pass_alpha_receiver(c: &mut Cursor<'_>)
+    requires part { is_part row.ALPHA_RECEIVER c.old ≡ true }
+    ensures { c.new ≡ after_part row.ALPHA_RECEIVER c.old }
+{
+    *c = Cursor::over(past_alpha_receiver(c.rest()));
+}
+
+/// Moves a cursor past the receiver of either kind at which it stands.
+pub fn pass_any_receiver(c: &mut Cursor<'_>)
+    requires part { is_part row.RECEIVER c.old ≡ true }
+    ensures { c.new ≡ after_part row.RECEIVER c.old }
+{
+    *c = Cursor::over(past_any_receiver(c.rest()));
+}

@@ -1,0 +1,74 @@
+// The values of the expressions at a cursor.
+ghost use Rattle.std.specs.Prelude.{◌≡◌, true, MatchResult, None, Ok, Err};
+ghost use Rattle.b2_atom.specs.declared.rows.TheConstants as row;
+ghost use Rattle.b2_rows.specs.Rows.{is_part, tree_at, after_part};
+ghost use Rattle.b2_expr.specs.Condition.{truth};
+ghost use Rattle.b2_expr.specs.Value.{context, in_statement, text, value};
+ghost use Rattle.b2_expr.specs.Scope.{surroundings};
+ghost use Rattle.b2_expr.specs.declared.operators.Level.TheVariants as level_of;
+
+use crate::conditions::truth;
+use crate::evaluate::{alpha as alpha_at, climb};
+use crate::operators::Level;
+use crate::scope::{Env, Scope};
+use b2_atom::Cursor;
+use b2_base::Code;
+use b2_dec::{Bytes, Dec};
+
+/// How many calls of functions may be open.
+const CALLS: u8 = 16;
+
+/// Where an expression of a statement stands.
+pub fn in_statement<'a>(env: &'a Env<'a>) -> Scope<'a>
+    ensures { context result ≡ in_statement (surroundings env.now) }
+{
+    Scope {
+        env,
+        parameter: None,
+        room: CALLS,
+    }
+}
+
+/// The value of the numeric expression at a cursor, which then stands after it, or the first code from the left, and then
+/// the cursor is as before.
+pub fn number(c: &mut Cursor<'_>, e: &Env<'_>) -> Result<Dec, Code>
+    requires part { is_part row.SUM c.old ≡ true }
+    ensures { MatchResult result (λ x. (value (in_statement (surroundings e.now)) level_of.Sum (tree_at row.SUM c.old) ≡ Ok x) × (c.new ≡ after_part row.SUM c.old)) (λ code. (value (in_statement (surroundings e.now)) level_of.Sum (tree_at row.SUM c.old) ≡ Err code) × (c.new ≡ c.old)) }
+{
+    let (number, rest) = match climb(Level::Sum, &in_statement(e), c.rest()) {
+        Ok(found) => found,
+        Err(code) => return Err(code),
+    };
+    *c = Cursor::over(rest);
+    Ok(number)
+}
+
+/// Puts the bytes of the alpha expression at a cursor in the place of what was there, and the cursor then stands after it;
+/// or the first code from the left, and then all is as before.
+pub fn alpha(c: &mut Cursor<'_>, e: &Env<'_>, into: &mut Bytes) -> Result<(), Code>
+    requires part { is_part row.ALPHA c.old ≡ true }
+    ensures { MatchResult result (λ done. (text (in_statement (surroundings e.now)) (tree_at row.ALPHA c.old) ≡ Ok into.new) × (c.new ≡ after_part row.ALPHA c.old)) (λ code. (text (in_statement (surroundings e.now)) (tree_at row.ALPHA c.old) ≡ Err code) × (into.new ≡ into.old) × (c.new ≡ c.old)) }
+{
+    let mut value = Bytes::new();
+    let rest = match alpha_at(&in_statement(e), c.rest(), &mut value) {
+        Ok(rest) => rest,
+        Err(code) => return Err(code),
+    };
+    *c = Cursor::over(rest);
+    *into = value;
+    Ok(())
+}
+
+/// Whether the condition at a cursor holds; the cursor then stands after it. Or the first code from the left, and then the
+/// cursor is as before.
+pub fn condition(c: &mut Cursor<'_>, e: &Env<'_>) -> Result<bool, Code>
+    requires part { is_part row.CONDITION c.old ≡ true }
+    ensures { MatchResult result (λ holds. (truth (in_statement (surroundings e.now)) (tree_at row.CONDITION c.old) ≡ Ok holds) × (c.new ≡ after_part row.CONDITION c.old)) (λ code. (truth (in_statement (surroundings e.now)) (tree_at row.CONDITION c.old) ≡ Err code) × (c.new ≡ c.old)) }
+{
+    let (holds, rest) = match truth(&in_statement(e), c.rest()) {
+        Ok(found) => found,
+        Err(code) => return Err(code),
+    };
+    *c = Cursor::over(rest);
+    Ok(holds)
+}
