@@ -1,6 +1,6 @@
 -- Whether all operands and signs of a text are built, along its bytes and by its tree: a walk over the rows of the table
 -- that PRINT and assignments reach, as computed.
-use Rattle.std.proofs.Common.{◌≡◌, ℕ, zero, suc, ◌+◌, ◌≤◌, Bool, true, false, not, if◌then◌else◌, ◌==◌, ◌&&◌, ◌||◌, nat_lt, nat_le, List, [], ◌∷◌, length, take, drop, map, get_or, length-drop, Option, Some, None, refl, sym, ap, subst, ◌∙◌, arith, Ok, Err}
+use Rattle.std.proofs.Common.{◌≡◌, ℕ, zero, suc, ◌+◌, ◌-◌, ◌<◌, ◌≤◌, Bool, true, false, not, if◌then◌else◌, ◌==◌, ◌&&◌, ◌||◌, nat_lt, nat_le, List, [], ◌∷◌, length, take, drop, map, get_or, length-drop, Option, Some, None, refl, sym, ap, subst, ◌∙◌, arith, Ok, Err, is_ok}
 use Rattle.std.proofs.lemmas.Bool.Decides.{nat_tests}
 use Rattle.b2_base.specs.Lexical.{digits_width, first, is_digit, is_letter}
 use Rattle.b2_atom.specs.Words.{Text, kept_byte}
@@ -19,10 +19,23 @@ use Rattle.b2_atom.specs.declared.forms.Leaf.TheVariants as leaf
 use Rattle.b2_atom.specs.declared.forms.Item.{Item}
 use Rattle.b2_atom.specs.declared.forms.Item.TheVariants.{Word, Sign, Among, ProgramWord, Ignored, Comma, LeftOut, End, Typed, Part, Maybe, Either, Many, Nest, Statement}
 use Rattle.b2_atom.specs.declared.rows.TheConstants as row
-use Rattle.b2_letters.specs.Value.{branch}
-use Rattle.b2_machine.specs.Plan.{is_sign, goes_on_name, built_width, is_built_behind, is_built}
-use Rattle.b2_machine.specs.AskedByTree.{is_letter_alone, is_built_tree}
+use Rattle.b2_atom.specs.declared.words.TheConstants as word
+use Rattle.b2_atom.specs.Lines.{left_after}
+use Rattle.b2_rows.specs.Rows.{reading_row, tree_of, is_part, tree_at, after_part}
+use Rattle.b2_rows.proofs.Levels.{no_statement, in_parentheses, at_level}
+use Rattle.b2_expr.specs.Value.{branch_of}
+use Rattle.b2_expr.proofs.RowsRead.{stands_of}
+use Rattle.b2_machine.specs.Built.{is_built_sign, goes_on_name, built_width, is_letter_alone, is_built_tree, is_built_statement, operands_at}
 use Rattle.b2_machine.proofs.Booleans.{equal, and_left, and_right, or_cases, not_true, begins, and_true, never}
+
+-- whether all operands and signs of a text are built, of which there are at most n
+abbrev pub is_built_behind : Option ℕ → (ℕ → Bool) → Bool
+is_built_behind None more = false
+is_built_behind (Some width) more = more width
+
+unfoldable pub is_built : ℕ → Text → Bool
+is_built zero t = true
+is_built (suc n) t = is_built_behind (built_width t) (λ width. is_built n (drop width t))
 
 -- all of a text
 abbrev pub whole : Text → Bool
@@ -192,19 +205,19 @@ stopped_then k t (Ok p) q h = joined_stop k t p.0 (q p.1) h.0 h.1
 stopped_then k t (Err e) q h = tt
 
 -- the width of what stands first
-width_of : (x y z : Bool) (b : ℕ) (bs : Text) → (is_digit b || b == 46) ≡ x → is_letter b ≡ y → is_sign b ≡ z
+width_of : (x y z : Bool) (b : ℕ) (bs : Text) → (is_digit b || b == 46) ≡ x → is_letter b ≡ y → is_built_sign b ≡ z
     → built_width (b ∷ bs) ≡ (if x then Some (number_width Atoms (b ∷ bs)) else (if y then (if goes_on_name (first bs) then None else Some 1) else (if z then Some 1 else None)))
 width_of x y z b bs hx hy hz =
-    ap (λ (v : Bool). if v then Some (number_width Atoms (b ∷ bs)) else (if is_letter b then (if goes_on_name (first bs) then None else Some 1) else (if is_sign b then Some 1 else None))) hx
-    ∙ ap (λ (v : Bool). if x then Some (number_width Atoms (b ∷ bs)) else (if v then (if goes_on_name (first bs) then None else Some 1) else (if is_sign b then Some 1 else None))) hy
+    ap (λ (v : Bool). if v then Some (number_width Atoms (b ∷ bs)) else (if is_letter b then (if goes_on_name (first bs) then None else Some 1) else (if is_built_sign b then Some 1 else None))) hx
+    ∙ ap (λ (v : Bool). if x then Some (number_width Atoms (b ∷ bs)) else (if v then (if goes_on_name (first bs) then None else Some 1) else (if is_built_sign b then Some 1 else None))) hy
     ∙ ap (λ (v : Bool). if x then Some (number_width Atoms (b ∷ bs)) else (if y then (if goes_on_name (first bs) then None else Some 1) else (if v then Some 1 else None))) hz
 
 -- signs that are built, and codes that are no operand and no such sign
 abbrev sign_holds : ℕ → Bool
-sign_holds c = nat_lt 0 c && (not (is_digit c || c == 46) && (not (is_letter c) && is_sign c))
+sign_holds c = nat_lt 0 c && (not (is_digit c || c == 46) && (not (is_letter c) && is_built_sign c))
 
 abbrev code_stops : ℕ → Bool
-code_stops c = nat_lt 0 c && (not (is_digit c || c == 46) && (not (is_letter c) && not (is_sign c)))
+code_stops c = nat_lt 0 c && (not (is_digit c || c == 46) && (not (is_letter c) && not (is_built_sign c)))
 
 sign_width : (c : ℕ) (u : Text) → sign_holds c ≡ true → built_width (c ∷ u) ≡ Some 1
 sign_width c u h =
@@ -220,13 +233,13 @@ code_width c u h =
 
 sign_says : (c : ℕ) (u : Text) → sign_holds c ≡ true → Says 1 (c ∷ u) (Put (Coded c) Done) u
 sign_says c u h =
-    let sign : is_sign c ≡ true = and_right (not (is_letter c)) _ (and_right (not (is_digit c || c == 46)) _ (and_right (nat_lt 0 c) _ h)) in (
+    let sign : is_built_sign c ≡ true = and_right (not (is_letter c)) _ (and_right (not (is_digit c || c == 46)) _ (and_right (nat_lt 0 c) _ h)) in (
       width_whole 0 c u (sign_width c u h) ∙ ap (λ (x : Bool). (x && true) && whole u) (sym sign),
       λ built. (omega arith, λ none. absurd (let no : ◌≡◌ {A = Option ℕ} (Some 1) None = sym (sign_width c u h) ∙ none in cc)),
     )
 
 code_alone : (c : ℕ) → Alone (Put (Coded c) Done)
-code_alone c b = ap (λ (x : Bool). x && is_built_tree b) (sym (and_true (is_sign c)))
+code_alone c b = ap (λ (x : Bool). x && is_built_tree b) (sym (and_true (is_built_sign c)))
 
 sign_by : (c : ℕ) (t : Text) (e : Stop) (b : Bool) → (first t == c) ≡ b → sign_holds c ≡ true → OneItem 1 t (if b then one (Coded c) (drop 1 t) else Err e)
 sign_by c t e false is h = tt
@@ -247,7 +260,7 @@ above_digit low n high h k = grind (arith, nat_tests)
 above_letter : (low n high : ℕ) → nat_lt 94 low ≡ true → (nat_le low n && nat_le n high) ≡ true → is_letter n ≡ false
 above_letter low n high h k = grind (arith, nat_tests)
 
-above_sign : (low n high : ℕ) → nat_lt 94 low ≡ true → (nat_le low n && nat_le n high) ≡ true → is_sign n ≡ false
+above_sign : (low n high : ℕ) → nat_lt 94 low ≡ true → (nat_le low n && nat_le n high) ≡ true → is_built_sign n ≡ false
 above_sign low n high h k = grind (arith, nat_tests)
 
 pub among_none : (low high : ℕ) (t : Text) → nat_lt 94 low ≡ true → (nat_le low (first t) && nat_le (first t) high) ≡ true → built_width t ≡ None
@@ -277,7 +290,7 @@ is_number b bs w false false hx hy is = absurd (let no : zero ≡ suc w = sym (n
 number_front : (w : ℕ) (t : Text) → number_width Atoms t ≡ suc w → built_width t ≡ Some (suc w)
 number_front w [] is = cc
 number_front w (b ∷ bs) is =
-    width_of true (is_letter b) (is_sign b) b bs (is_number b bs w (is_digit b) (b == 46) refl refl is) refl refl ∙ ap Some is
+    width_of true (is_letter b) (is_built_sign b) b bs (is_number b bs w (is_digit b) (b == 46) refl refl is) refl refl ∙ ap Some is
 
 number_says : (w : ℕ) (t text : Text) → built_width t ≡ Some (suc w) → Says 1 t (Put (Plain leaf.Number text) Done) (drop (suc w) t)
 number_says w [] text is = cc
@@ -298,7 +311,7 @@ letter_digit b h = grind (arith, nat_tests)
 
 letter_width : (b : ℕ) (bs : Text) (x : Bool) → is_letter b ≡ true → goes_on_name (first bs) ≡ x → built_width (b ∷ bs) ≡ (if x then None else Some 1)
 letter_width b bs x h is =
-    width_of false true (is_sign b) b bs (letter_digit b h) h refl ∙ ap (λ (v : Bool). if v then None else Some 1) is
+    width_of false true (is_built_sign b) b bs (letter_digit b h) h refl ∙ ap (λ (v : Bool). if v then None else Some 1) is
 
 second_is : (b : ℕ) (bs : Text) → get_or (b ∷ bs) 1 0 ≡ first bs
 second_is b [] = refl
@@ -374,7 +387,7 @@ and_false true = refl
 and_false false = refl
 
 name_stops : (k : ℕ) (t text : Text) (o : Outcome) → built_width t ≡ None → is_letter_alone text ≡ false → Row k t (preceded (Put (Plain leaf.Name text) Done) o)
-name_stops k t text o none other = joined_stop k t (Put (Plain leaf.Name text) Done) o (some_text t none) (λ b. ap (λ (x : Bool). (x && branch b == 0) && is_built_tree b) other)
+name_stops k t text o none other = joined_stop k t (Put (Plain leaf.Name text) Done) o (some_text t none) (λ b. ap (λ (x : Bool). (x && branch_of b == 0) && is_built_tree b) other)
 
 subscripted : (k : ℕ) (t text : Text) (a : Trees) (o : Outcome) → built_width t ≡ None → Row k t (preceded (Put (Plain leaf.Name text) Done) (preceded (In 1 a Done) o))
 subscripted k t text a (Err e) none = tt
@@ -628,7 +641,96 @@ unfolding deep
 reached_deep st zero n h t = tt
 reached_deep st (suc m) n h t = reached_level st (deep (reader Atoms) st m) (reached_deep st m) 40 n h t
 
--- items of which each is such a part, or a sign
-pub reached_row : (st : Position → Parser Text) (room l : ℕ) (is : List Item) → items_hold is ≡ true → (t : Text)
-    → Row (least is) t (items st (deep (reader Atoms) st room) (level (reader Atoms) st (deep (reader Atoms) st room) l) (reader Atoms) is t)
-reached_row st room l is h t = items_row st (deep (reader Atoms) st room) (level (reader Atoms) st (deep (reader Atoms) st room) l) (reached_deep st room) (reached_level st (deep (reader Atoms) st room) (reached_deep st room) l) is h t
+-- items of which each is such a part
+reached_row : (l : ℕ) (is : List Item) → items_hold is ≡ true → (t : Text) → Row (least is) t (items no_statement in_parentheses (at_level l) (reader Atoms) is t)
+reached_row l is h t = items_row no_statement in_parentheses (at_level l) (reached_deep no_statement 32) (reached_level no_statement in_parentheses (reached_deep no_statement 32) l) is h t
+
+-- an assignment that is read to its end, and PRINT past its word
+whole_by : (k : ℕ) (t : Text) (o : Outcome) → Row k t o → is_ok o ≡ true → left_after o ≡ [] → whole t ≡ is_built_tree (tree_of o)
+whole_by k t (Err e) h ok none = cc
+whole_by k t (Ok p) h ok none = h.0 ∙ ap (λ (u : Text). is_built_tree p.0 && whole u) none ∙ ap (λ (x : Bool). is_built_tree p.0 && x) none_whole ∙ and_true (is_built_tree p.0)
+
+assignment_built : (t : Text) → is_part row.ASSIGNMENT t ≡ true → after_part row.ASSIGNMENT t ≡ [] → whole t ≡ is_built_tree (tree_at row.ASSIGNMENT t)
+unfolding is_part tree_at after_part reading_row
+assignment_built t ok none =
+    whole_by 1 t (reading_row row.ASSIGNMENT t) (reached_level no_statement in_parentheses (reached_deep no_statement 32) 40 row.ASSIGNMENT refl t) (and_right _ _ ok) none
+
+abbrev pub print_items : List Item
+print_items = Maybe start.PrintItem row.PRINT_ITEM ∷ Many (start.Two 44 59) row.FURTHER_ITEM ∷ []
+
+pub print_row : row_items row.PRINT ≡ Word word.PRINT ∷ print_items
+unfolding row_items
+print_row = refl
+
+past_word : (c : ℕ) (t : Text) (o : Outcome) → Row 0 t o → is_ok (preceded (Put (Coded c) Done) o) ≡ true → left_after (preceded (Put (Coded c) Done) o) ≡ []
+    → whole t ≡ is_built_statement (tree_of (preceded (Put (Coded c) Done) o))
+past_word c t (Err e) h ok none = cc
+past_word c t (Ok p) h ok none = whole_by 0 t (Ok p) h refl none
+
+print_by : (b : Bool) (c : ℕ) (t : Text) (e : Stop) (q : Parser Text) → ((u : Text) → Row 0 u (q u)) → is_ok (and_then (if b then one (Coded c) (drop 1 t) else Err e) q) ≡ true
+    → left_after (and_then (if b then one (Coded c) (drop 1 t) else Err e) q) ≡ [] → whole (drop 1 t) ≡ is_built_statement (tree_of (and_then (if b then one (Coded c) (drop 1 t) else Err e) q))
+print_by true c t e q h ok none = past_word c (drop 1 t) (q (drop 1 t)) (h (drop 1 t)) ok none
+print_by false c t e q h ok none = cc
+
+print_read : (is : List Item) (t : Text) → row_items row.PRINT ≡ Word word.PRINT ∷ is
+    → reading_row row.PRINT t ≡ and_then (if first t == word.PRINT then one (Coded word.PRINT) (drop 1 t) else Err (refused Atoms 22 t)) (items no_statement in_parentheses (at_level 39) (reader Atoms) is)
+unfolding reading_row level items item mark
+print_read is t same = ap (λ (xs : List Item). items no_statement in_parentheses (at_level 39) (reader Atoms) xs t) same
+
+print_built : (t : Text) → is_part row.PRINT t ≡ true → after_part row.PRINT t ≡ [] → whole (drop 1 t) ≡ is_built_statement (tree_at row.PRINT t)
+unfolding is_part tree_at after_part
+print_built t ok none =
+    let same = print_read print_items t print_row in
+    print_by (first t == word.PRINT) word.PRINT t (refused Atoms 22 t) (items no_statement in_parentheses (at_level 39) (reader Atoms) print_items) (reached_row 39 print_items refl)
+    (ap is_ok (sym same) ∙ and_right _ _ ok) (ap left_after (sym same) ∙ none)
+    ∙ ap (λ (o : Outcome). is_built_statement (tree_of o)) (sym same)
+
+assignment_row : row_items row.ASSIGNMENT ≡ Either start.Alpha row.ALPHA_ASSIGNMENT row.NUMERIC_ASSIGNMENT ∷ []
+unfolding row_items
+assignment_row = refl
+
+no_word : (b : Bool) (x y : Trees) → is_built_tree (if b then In 1 x Done else In 0 y Done) ≡ is_built_statement (if b then In 1 x Done else In 0 y Done)
+no_word true x y = refl
+no_word false x y = refl
+
+pub same_statement : (t : Text) → is_part row.ASSIGNMENT t ≡ true → is_built_tree (tree_at row.ASSIGNMENT t) ≡ is_built_statement (tree_at row.ASSIGNMENT t)
+same_statement t ok =
+    let tree = (stands_of row.ASSIGNMENT (Either start.Alpha row.ALPHA_ASSIGNMENT row.NUMERIC_ASSIGNMENT ∷ []) t assignment_row ok).1 in
+    ap is_built_tree tree ∙ no_word (starts Atoms start.Alpha t) _ _ ∙ sym (ap is_built_statement tree)
+
+by_row : (b : Bool) (n : ℕ) (t : Text) → (n == row.PRINT) ≡ b → (n == row.PRINT || n == row.ASSIGNMENT) ≡ true → is_part n t ≡ true → after_part n t ≡ [] → whole (operands_at n t) ≡ is_built_statement (tree_at n t)
+by_row true n t is some ok none =
+    let same : n ≡ row.PRINT = equal n row.PRINT is in
+    subst (λ (m : ℕ). is_part m t ≡ true → after_part m t ≡ [] → whole (operands_at m t) ≡ is_built_statement (tree_at m t)) (sym same) (print_built t) ok none
+by_row false n t is some ok none =
+    let same : n ≡ row.ASSIGNMENT = equal n row.ASSIGNMENT (sym (ap (λ (x : Bool). x || n == row.ASSIGNMENT) is) ∙ some) in
+    subst (λ (m : ℕ). is_part m t ≡ true → after_part m t ≡ [] → whole (operands_at m t) ≡ is_built_statement (tree_at m t)) (sym same)
+    (λ part end. assignment_built t part end ∙ same_statement t part) ok none
+
+pub statement_built : (n : ℕ) (t : Text) → (n == row.PRINT || n == row.ASSIGNMENT) ≡ true → is_part n t ≡ true → after_part n t ≡ [] → whole (operands_at n t) ≡ is_built_statement (tree_at n t)
+statement_built n t some ok none = by_row (n == row.PRINT) n t refl some ok none
+
+-- the loop over the bytes of a text, with more steps than bytes
+operands_short : (b : Bool) (t : Text) → length (if b then drop 1 t else t) ≤ length t
+operands_short true t = omega (arith, length-drop 1 t)
+operands_short false t = omega arith
+
+none_less : (k : ℕ) → k - 0 ≡ k
+none_less k = omega arith
+
+pub all_steps : (n : ℕ) (t : Text) → is_built (length t - 0) (operands_at n t) ≡ whole (operands_at n t)
+all_steps n t = ap (λ (k : ℕ). is_built k (operands_at n t)) (none_less (length t)) ∙ enough (length t) (length (operands_at n t)) (operands_at n t) (operands_short (n == row.PRINT) t) (omega arith)
+
+one_fewer : (fuel i : ℕ) → i < fuel → fuel - i ≡ suc (fuel - (i + 1))
+one_fewer fuel i h = omega arith
+
+pub built_next : (fuel i : ℕ) (t : Text) (o : Option ℕ) → i < fuel → built_width t ≡ o → is_built_behind o (λ width. is_built (fuel - (i + 1)) (drop width t)) ≡ is_built (fuel - i) t
+built_next fuel i t o h is =
+    sym (ap (λ (n : ℕ). is_built n t) (one_fewer fuel i h) ∙ built_suc (fuel - (i + 1)) t
+    ∙ ap (λ (w : Option ℕ). is_built_behind w (λ width. is_built (fuel - (i + 1)) (drop width t))) is)
+
+none_left : (fuel i : ℕ) → fuel ≤ i → fuel - i ≡ zero
+none_left fuel i h = omega arith
+
+pub built_end : (fuel i : ℕ) (t : Text) → fuel ≤ i → is_built (fuel - i) t ≡ true
+built_end fuel i t h = ap (λ (n : ℕ). is_built n t) (none_left fuel i h) ∙ built_zero t

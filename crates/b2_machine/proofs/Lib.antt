@@ -1,10 +1,10 @@
 pub mod Turns
 pub mod Listings
-pub mod Planning
 pub mod Booleans
-pub mod OtherRows
 pub mod BuiltTrees
-pub mod PlainTrees
-pub mod AssignedTrees
-pub mod PrintedTrees
-pub mod UnitTrees
+pub mod Unbuilt
+pub mod PlainRows
+pub mod LineRanges
+pub mod Printed
+pub mod Receivers
+pub mod Performed

@@ -1,4 +1,5 @@
 pub mod Refusals
-pub mod Plan
-pub mod AskedByTree
+pub mod Built
+pub mod Asked
+pub mod Assigned
 pub mod Machine

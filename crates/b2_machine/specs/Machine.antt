@@ -1,5 +1,6 @@
 -- The machine of one partition at one terminal: its state, a step and a turn.
-use Rattle.std.specs.Prelude.{ℕ, suc, zero, ◌+◌, ◌/◌, ◌%◌, ◌==◌, nat_lt, Bool, List, [], ◌∷◌, ◌++◌, length, set, replicate, codes, filter, flat_map, Option, Some, None, Result, Ok, Err, option_map, if◌then◌else◌, slice_get}
+use Rattle.std.specs.Prelude.{ℕ, suc, zero, ◌+◌, ◌/◌, ◌%◌, ◌==◌, nat_lt, Bool, List, [], ◌∷◌, ◌++◌, length, codes, filter, flat_map, Option, Some, None, Result, Ok, Err, if◌then◌else◌, slice_get}
+use Rattle.std.specs.FinMap as map
 use Rattle.std.specs.Fmt.{decimal}
 use Rattle.b2_base.specs.Byte as byte
 use Rattle.b2_base.specs.Codes.{class_of}
@@ -7,7 +8,9 @@ use Rattle.b2_base.specs.declared.codes.Fault.{Fault}
 use Rattle.b2_base.specs.declared.codes.Fault.TheVariants as fault
 use Rattle.b2_base.specs.declared.codes.TheConstants.{A01_TEXT_AREA, P36_NO_LINE}
 use Rattle.b2_atom.specs.Lines.{units_of}
-use Rattle.b2_dec.specs.Number.{Number, zero_number}
+use Rattle.b2_atom.specs.Tree.{Trees}
+use Rattle.b2_atom.specs.Units.{TreeUnit}
+use Rattle.b2_atom.specs.declared.rows.TheConstants as row
 use Rattle.b2_dec.specs.declared.number.Mode.{Mode}
 use Rattle.b2_dec.specs.declared.number.Mode.TheVariants.{Round}
 use Rattle.b2_lister.specs.Listing.{listing}
@@ -22,7 +25,12 @@ use Rattle.b2_term.specs.declared.KeyItem.TheVariants.{Byte}
 use Rattle.b2_term.specs.declared.Read.{Read}
 use Rattle.b2_term.specs.declared.Read.TheVariants as read
 use Rattle.b2_text.specs.Program.{TextState, Lines, line_at, with_line, without, is_within, size_of, number_after}
-use Rattle.b2_machine.specs.Plan.{plan}
+use Rattle.b2_vars.specs.Tables.{VarsState}
+use Rattle.b2_rows.specs.Following.{tree_units}
+use Rattle.b2_expr.specs.Scope.{Context, Surroundings}
+use Rattle.b2_expr.specs.Value.{in_statement}
+use Rattle.b2_machine.specs.Asked.{request_of}
+use Rattle.b2_machine.specs.Assigned.{Assigned, assigns}
 use Rattle.b2_machine.specs.declared.request.Request.{Request}
 use Rattle.b2_machine.specs.declared.request.Request.TheVariants as request
 use Rattle.b2_machine.specs.declared.solo.Place.{Place}
@@ -32,13 +40,13 @@ use Rattle.b2_machine.specs.declared.solo.Doing.TheVariants.{Ready, Entering, Ru
 use Rattle.b2_machine.specs.declared.solo.StepEnd.{StepEnd}
 use Rattle.b2_machine.specs.declared.solo.StepEnd.TheVariants as ends
 
--- The terminal with the column that its next byte goes to, how results are rounded, the values of A to Z, the text of the
--- program, the atoms of the immediate line, output that is to be shown, and what is done next.
+-- The terminal with the column that its next byte goes to, how results are rounded, the variables, the text of the program,
+-- the atoms of the immediate line, output that is to be shown, and what is done next.
 pub record SoloState : Type 0 where
   pub terminal : TerminalState
   pub column : ℕ
   pub mode : Mode
-  pub variables : List Number
+  pub variables : VarsState
   pub text : TextState
   pub immediate : Option (List ℕ)
   pub pending : Option (List ℕ)
@@ -105,13 +113,8 @@ abbrev pub jumps : Option (List ℕ) → ℕ → Place → SoloState → Stepped
 jumps None n place s = fails P36_NO_LINE place s
 jumps (Some line) n place s = goes_to (Program n 0) s
 
-abbrev pub no_values : List Number
-no_values = replicate 26 zero_number
-
--- a value is assigned to letters, one after another
-abbrev pub assigned : List ℕ → Number → List Number → List Number
-assigned [] x values = values
-assigned (l ∷ ls) x values = assigned ls x (set values l x)
+abbrev pub without_variables : SoloState → SoloState
+without_variables s = record s { variables = record s.variables { table = map.empty } }
 
 -- lines as they are listed, each ended by a newline
 abbrev pub each_listed : Lines → List ℕ
@@ -128,14 +131,13 @@ with_lines lines s = record s { text = record s.text { lines = lines } }
 -- stand in.
 abbrev pub does : Request → Place → Bool → SoloState → Stepped
 does (request.Show text) place last s = goes_on place last (shows text s)
-does (request.Assign letters x) place last s = goes_on place last (record s { variables = assigned letters x s.variables })
 does (request.Jump n) place last s = jumps (line_at n s.text.lines) n place s
 does (request.Select chosen) place last s = goes_on place last (record s { mode = chosen })
 does request.Nothing place last s = goes_on place last s
 does request.End place last s = becomes_ready [] s
-does request.Run place last s = to_line (number_after None s.text.lines) (record s { variables = no_values })
+does request.Run place last s = to_line (number_after None s.text.lines) (without_variables s)
 does (request.List from to) place last s = goes_on place last (shows (lines_listed from to s.text.lines) s)
-does request.Clear place last s = becomes_ready (codes "READY" ++ byte.newline ∷ []) (record (with_lines [] s) { variables = no_values })
+does request.Clear place last s = becomes_ready (codes "READY" ++ byte.newline ∷ []) (without_variables (with_lines [] s))
 does (request.ClearProgram from to) place last s = becomes_ready [] (with_lines (without from to s.text.lines) s)
 does (request.Fail code) place last s = fails code place s
 
@@ -151,14 +153,31 @@ line_in immediate lines (Program line unit) = line_at line lines
 abbrev pub current_line : Place → SoloState → Option (List ℕ)
 current_line place s = line_in s.immediate s.text.lines place
 
+-- what expressions look at: no code was kept, and partition 1 has terminal 1
+abbrev pub looks_at : VarsState → TextState → Mode → Surroundings
+looks_at variables text mode = record { own = variables; globals = None; home = text; mode = mode; err = 0; part = 1; term = 1 }
+
+abbrev pub around : SoloState → Context
+around s = in_statement (looks_at s.variables s.text s.mode)
+
+-- an assignment is done, and then what is left of it
+abbrev pub does_rest : Assigned → Place → Bool → SoloState → Stepped
+does_rest a place last s = does a.request place last (record s { variables = a.variables })
+
+-- a statement by its row and its tree
+abbrev pub executes : ℕ → Trees → Place → Bool → SoloState → Stepped
+executes r tree place last s =
+    if r == row.ASSIGNMENT then does_rest (assigns (around s) tree s.variables) place last s
+    else does (request_of (around s) s.column r tree) place last s
+
 -- a unit that isn't there ends the program or the immediate line
-abbrev pub performs_unit : Option (List ℕ) → Place → Bool → SoloState → Stepped
+abbrev pub performs_unit : Option TreeUnit → Place → Bool → SoloState → Stepped
 performs_unit None place last s = becomes_ready [] s
-performs_unit (Some unit) place last s = does (plan s.variables s.mode s.column unit) place last s
+performs_unit (Some unit) place last s = executes unit.row unit.tree place last s
 
 abbrev pub performs_in : Option (List ℕ) → Place → SoloState → Stepped
 performs_in None place s = becomes_ready [] s
-performs_in (Some line) place s = performs_unit (option_map (λ u. u.bytes) (slice_get (units_of line) (unit_number place))) place (unit_number place + 1 == length (units_of line)) s
+performs_in (Some line) place s = performs_unit (slice_get (tree_units line) (unit_number place)) place (unit_number place + 1 == length (units_of line)) s
 
 -- what a typed line says is taken; a number alone deletes the line of that number
 abbrev pub enters : Entered → SoloState → SoloState
@@ -236,7 +255,7 @@ started = record {
   terminal = record { queue = []; front = 1; line = []; transcript = [] };
   column = 0;
   mode = Round;
-  variables = no_values;
+  variables = record { area = 8192; table = map.empty };
   text = record { area = 8192; lines = [] };
   immediate = None;
   pending = Some (codes "READY" ++ byte.newline ∷ byte.colon ∷ []);

@@ -1,14 +1,12 @@
 //! What a unit asks the machine to do.
 use b2_base::{ByteList, Code};
-use b2_dec::{Dec, Mode};
+use b2_dec::Mode;
 
-/// What a unit asks the machine to do.
+/// What a unit asks the machine to do. What an assignment leaves to be done is nothing, or an error.
 #[derive(Drop)]
 pub enum Request {
     /// PRINT: these bytes are shown.
     Show(ByteList),
-    /// An assignment to letters, from 0 for A, in the order written.
-    Assign(ByteList, Dec),
     /// GOTO.
     Jump(u16),
     /// SELECT ROUND, SELECT NO ROUND.

@@ -1,28 +1,35 @@
 // The machine of one partition at one terminal.
-ghost use Rattle.std.specs.Prelude.{◌≡◌, ◌≢◌, Some, Err, ◌<◌, ◌≤◌, ◌++◌, ◌+◌, ◌∷◌, [], length, IfOk, OnOk, nat_lt, set, true};
+ghost use Rattle.std.specs.Prelude.{◌≡◌, ◌≢◌, Some, Err, ◌<◌, ◌≤◌, ◌++◌, ◌+◌, ◌∷◌, [], length, IfOk, OnOk, nat_lt, true};
 ghost use Rattle.std.specs.Option.{option_copied};
 ghost use Rattle.b2_syntax.specs.Reading as syntax;
 ghost use Rattle.b2_term.specs.Terminal.{line_read, after_read};
-ghost use Rattle.b2_machine.specs.Machine.{started, byte_keyed, shows, becomes_ready, goes_to, fails, to_line, goes_on, does, assigned, no_values, unit_number, line_in, current_line, performs_in, enters, takes, refuses, refuses_by, reads_line, acts, puts, step, turn_of};
+ghost use Rattle.b2_machine.specs.Machine.{started, byte_keyed, shows, becomes_ready, goes_to, fails, to_line, goes_on, does, unit_number, line_in, current_line, performs_in, enters, takes, refuses, refuses_by, reads_line, acts, puts, step, turn_of};
 
+use crate::assignment::assign;
 use crate::request::Request;
-use crate::statement::ask;
+use crate::statement::{ask, looks_at};
 use crate::texts::{add_error, add_refusal, lines_listed};
 use crate::typed::NumberedLine;
 use b2_atom::Atoms;
+use b2_atom::rows::ASSIGNMENT;
 use b2_base::codes::P36_NO_LINE;
 use b2_base::{ByteList, Code, Fault, NoMemory, Part};
-use b2_dec::{Dec, Mode};
+use b2_dec::Mode;
 use b2_print::column_after;
+use b2_rows::row_unit;
 use b2_syntax::{Entered, LineErr, read};
 use b2_term::{KeyItem, Read, Terminal};
 use b2_text::Text;
+use b2_vars::Vars;
 use std::alloc::Global;
 use std::marker::Model;
 use std::mem;
 
 /// The bytes that the lines of the program may take.
 const TEXT_AREA: usize = 8192;
+
+/// The bytes that variables may take.
+const DATA_AREA: usize = 8192;
 
 /// A place: a unit of the immediate line, or of a program line, counted from 0.
 #[derive(Clone, Copy, Drop)]
@@ -60,7 +67,7 @@ pub struct Solo {
     terminal: Terminal,
     column: u16,
     mode: Mode,
-    variables: [Dec; 26],
+    variables: Vars,
     text: Text,
     immediate: Option<Atoms>,
     pending: Option<ByteList>,
@@ -68,9 +75,13 @@ pub struct Solo {
 }
 
 impl Model for Solo {
+    ghost use Rattle.std.specs.Coded.{codes};
+    ghost use Rattle.b2_vars.specs.Tables.{coded_vars};
     ghost use Rattle.b2_machine.specs.Machine.{SoloState};
 
     ghost Value = { SoloState };
+
+    ghost coded = { Prim.hlevel (codes, coded_vars) };
 
     ghost view = { λ s. record { terminal = s.terminal; column = s.column; mode = s.mode; variables = s.variables; text = s.text; immediate = s.immediate; pending = s.pending; doing = s.doing } };
 }
@@ -97,23 +108,6 @@ fn unit_number(place: Place) -> usize
     }
 }
 
-/// Assigns to letters, from 0 for A, one after another.
-fn assign_letters(variables: &mut [Dec], letters: &[u8], n: Dec)
-    ensures { variables.new ≡ assigned letters.now n variables.old }
-{
-    for letter in letters {
-        assign_one(variables, *letter, n);
-    }
-}
-
-fn assign_one(variables: &mut [Dec], letter: u8, n: Dec)
-    ensures { variables.new ≡ set variables.old letter n }
-{
-    if usize::from(letter) < variables.len() {
-        variables[usize::from(letter)] = n;
-    }
-}
-
 impl Solo {
     /// The machine as it starts: ready, with `READY` to be shown.
     pub fn new(alloc: Global) -> Result<Solo, NoMemory>
@@ -124,7 +118,7 @@ impl Solo {
             terminal: Terminal::new(alloc, Part::known(1))?,
             column: 0,
             mode: Mode::Round,
-            variables: [Dec::zero(); 26],
+            variables: Vars::new(alloc, DATA_AREA)?,
             text: Text::new(alloc, TEXT_AREA)?,
             immediate: None,
             pending: Some(ByteList::from_slice(alloc, b"READY\n:")?),
@@ -215,14 +209,6 @@ impl Solo {
         }
     }
 
-    /// All variables are zero again.
-    fn forget(&mut self)
-        ensures { self.new ≡ record self.old { variables = no_values } }
-    {
-        let no_values = [Dec::zero(); 26];
-        self.variables = no_values;
-    }
-
     /// To a line that a unit at a place names.
     fn jump(&mut self, n: u16, place: Place) -> Result<StepEnd, NoMemory>
         ensures { IfOk result (λ how. record { after = self.new; end = how } ≡ does (Request.Jump n) place true self.old) }
@@ -248,10 +234,6 @@ impl Solo {
                 self.show(text.bytes())?;
                 self.go_on(place, is_last)
             }
-            Request::Assign(letters, n) => {
-                assign_letters(&mut self.variables, letters.bytes(), n);
-                self.go_on(place, is_last)
-            }
             Request::Jump(n) => self.jump(n, place),
             Request::Select(mode) => {
                 self.mode = mode;
@@ -260,7 +242,7 @@ impl Solo {
             Request::Nothing => self.go_on(place, is_last),
             Request::End => self.stop(b""),
             Request::Run => {
-                self.forget();
+                self.variables.clear();
                 let line = self.text.next_after(None);
                 self.go_to_line(line)
             }
@@ -271,7 +253,7 @@ impl Solo {
             }
             Request::Clear => {
                 self.text.clear();
-                self.forget();
+                self.variables.clear();
                 self.stop(b"READY\n")
             }
             Request::ClearProgram(from, to) => {
@@ -283,23 +265,23 @@ impl Solo {
     }
 
     /// Executes the unit at a place.
+    #[tactic(auto, using(crate::proofs::Performed::no_unit, crate::proofs::Performed::unit_there, crate::proofs::Performed::assigned, crate::proofs::Performed::asked_there))]
     fn perform(&mut self, place: Place) -> Result<StepEnd, NoMemory>
         ensures { IfOk result (λ how. record { after = self.new; end = how } ≡ performs_in (current_line place self.old) place self.old) }
     {
         let Some(line) = line_in(&self.immediate, &self.text, place) else {
             return self.stop(b"");
         };
-        let Some(unit) = line.find_unit(unit_number(place)) else {
+        let Some(unit) = row_unit(line, unit_number(place)) else {
             return self.stop(b"");
         };
         let is_last = unit.is_last;
-        let request = ask(
-            self.alloc,
-            &self.variables,
-            self.mode,
-            self.column,
-            unit.cursor,
-        )?;
+        if unit.row == ASSIGNMENT {
+            let request = assign(&mut self.variables, &self.text, self.mode, unit.bytes)?;
+            return self.carry_out(request, place, is_last);
+        }
+        let e = looks_at(&self.variables, &self.text, self.mode);
+        let request = ask(self.alloc, &e, self.column, &unit)?;
         self.carry_out(request, place, is_last)
     }
 
@@ -414,6 +396,7 @@ impl Solo {
     }
 
     /// What it does where nothing is to be shown.
+    #[tactic(auto, using(crate::proofs::Performed::performed_anyway))]
     fn act(&mut self) -> Result<StepEnd, NoMemory>
         ensures { IfOk result (λ how. record { after = self.new; end = how } ≡ acts self.old.doing self.old) }
     {

@@ -1,4 +1,0 @@
-pub mod Laws
-pub mod Operators
-pub mod Value
-pub mod Walk
