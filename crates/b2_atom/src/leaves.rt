@@ -1,10 +1,11 @@
 // What is typed by hand: how far it goes at a text, and what is there where it is missing.
-ghost use Rattle.std.specs.Prelude.{◌≡◌, ◌≢◌, ◌≤◌, ◌<◌, ◌+◌, length};
+ghost use Rattle.std.specs.Prelude.{◌≡◌, ◌≢◌, ◌≤◌, ◌<◌, ◌+◌, ◌&&◌, ◌==◌, nat_lt, get_or, length};
+ghost use Rattle.b2_base.specs.Byte as byte;
 ghost use Rattle.b2_atom.specs.Leaves as spec;
 
 use crate::forms::Leaf;
 use crate::sink::Stop;
-use crate::words::{LEFT_OUT, Origin, ahead, kept_byte};
+use crate::words::{LEFT_OUT, Origin, class_at, kept_byte};
 use b2_base::codes;
 use b2_base::lexical::{
     at, capped_value, digits_width, dropped, first, is_digit, is_hex_digit, is_letter,
@@ -119,7 +120,7 @@ fn name_width(origin: Origin, text: &[u8]) -> usize
     ensures count { result ≡ spec.name_width origin text.now }
     ensures short { result ≤ 3 }
 {
-    let class = ahead(origin, text).0;
+    let class = class_at(origin, text);
     if is_letter(class) {
         if is_digit(at(text, 1)) { 2 } else { 1 }
     } else if class == b'@' && is_letter(kept_byte(origin, at(text, 1))) {
@@ -129,12 +130,18 @@ fn name_width(origin: Origin, text: &[u8]) -> usize
     }
 }
 
+/// Whether a `$` stands after a name that takes so many bytes of a text, 0 for none.
+fn has_dollar(text: &[u8], width: usize) -> bool
+    ensures { result ≡ (nat_lt 0 width && get_or text.now width 0 == byte.dollar) }
+{
+    width > 0 && at(text, width) == b'$'
+}
+
 /// Whether an alpha name stands there.
 pub fn is_alpha_name(origin: Origin, text: &[u8]) -> bool
     ensures { result ≡ spec.is_alpha_name origin text.now }
 {
-    let width = name_width(origin, text);
-    width > 0 && at(text, width) == b'$'
+    has_dollar(text, name_width(origin, text))
 }
 
 /// How many bytes spell the name of a number, or 0.
@@ -142,11 +149,8 @@ pub fn numeric_name_width(origin: Origin, text: &[u8]) -> usize
     ensures count { result ≡ spec.numeric_name_width origin text.now }
     ensures short { result ≤ 3 }
 {
-    if is_alpha_name(origin, text) {
-        0
-    } else {
-        name_width(origin, text)
-    }
+    let width = name_width(origin, text);
+    if has_dollar(text, width) { 0 } else { width }
 }
 
 /// How many bytes spell the name of an alpha variable with its `$`, or 0.
@@ -154,8 +158,9 @@ pub fn alpha_name_width(origin: Origin, text: &[u8]) -> usize
     ensures count { result ≡ spec.alpha_name_width origin text.now }
     ensures short { result ≤ 4 }
 {
-    if is_alpha_name(origin, text) {
-        name_width(origin, text) + 1
+    let width = name_width(origin, text);
+    if has_dollar(text, width) {
+        width + 1
     } else {
         0
     }
@@ -177,10 +182,11 @@ pub fn any_name_width(origin: Origin, text: &[u8]) -> usize
     ensures count { result ≡ spec.any_name_width origin text.now }
     ensures short { result ≤ 4 }
 {
-    if is_alpha_name(origin, text) {
-        alpha_name_width(origin, text)
+    let width = name_width(origin, text);
+    if has_dollar(text, width) {
+        width + 1
     } else {
-        name_width(origin, text)
+        width
     }
 }
 
@@ -188,7 +194,7 @@ pub fn any_name_width(origin: Origin, text: &[u8]) -> usize
 pub fn function_name_width(origin: Origin, text: &[u8]) -> usize
     ensures { result ≡ spec.function_name_width origin text.now }
 {
-    let class = ahead(origin, text).0;
+    let class = class_at(origin, text);
     if is_letter(class) || is_digit(class) {
         1
     } else {
@@ -319,7 +325,7 @@ pub fn refused(origin: Origin, code: u8, text: &[u8]) -> Stop
     ensures code { result ≡ spec.refused origin code text.now }
     ensures known { result ≢ Stop.NoMemory }
 {
-    if ahead(origin, text).0 == LEFT_OUT {
+    if class_at(origin, text) == LEFT_OUT {
         Stop::At(codes::S27_LEFT_OUT, text.len())
     } else {
         Stop::At(code, text.len())

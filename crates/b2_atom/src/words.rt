@@ -499,3 +499,13 @@ pub fn ahead(origin: Origin, text: &[u8]) -> (u8, &[u8])
         Origin::Atoms => (first(text), dropped(text, 1)),
     }
 }
+
+/// What stands at a text, without what follows it.
+pub fn class_at(origin: Origin, text: &[u8]) -> u8
+    ensures { result ≡ (spec.ahead origin text.now).0 }
+{
+    match origin {
+        Origin::Program | Origin::Immediate => typed_ahead(text).0,
+        Origin::Atoms => first(text),
+    }
+}

@@ -2,7 +2,7 @@
 use Rattle.std.proofs.Common.{◌≡◌, ℕ, zero, suc, ◌+◌, ◌-◌, ◌<◌, List, [], ◌∷◌, ◌++◌, length, refl, sym, ap, ◌∙◌, arith, Bor, Result, Ok, Err, true, false, Bool, if◌then◌else◌, ◌≤◌, is_ok, append_assoc, append-nil, ◌&&◌, ◌||◌, nat_le}
 use Rattle.b2_atom.specs.Words.{Text}
 use Rattle.b2_atom.specs.Tokens.{Token, token_atoms, listed, ending, ends_wordy, is_operand, is_apart, maybe_spaced, spelled, is_global_name, is_function_word}
-use Rattle.b2_atom.specs.Tree.{Trees, Outcome, Parser, Seen, atoms, also, preceded, and_then, under, emitted, put_one, put_all, bytes_of, holds_bytes, noted, uses_in, names_global, calls_function, Takes, tokens}
+use Rattle.b2_atom.specs.Tree.{Trees, Outcome, Parser, Seen, atoms, also, preceded, and_then, under, emitted, put_one, put_all, bytes_of, holds_bytes, noted, names_global, calls_function, Takes, tokens}
 use Rattle.b2_atom.specs.Tree.Trees.{Done, Put, In}
 use Rattle.b2_atom.specs.Tree.Seen.{Silent, Noted, Written, Listed}
 use Rattle.b2_atom.specs.Lines.{left_after, atoms_of, source_of, uses_of, is_line, line_source}
