@@ -6,11 +6,8 @@ ghost use Rattle.b2_dectext.specs.NumberText as grammar;
 ghost use Rattle.b2_dectext.specs.NumberText.{Parts, parts_value, number_value, number_read, spaced_number_len};
 
 use crate::leading::{Leading, rounded, with_digit};
-use crate::scanning::{
-    exponent_digits, fraction_part, mantissa_len, number_len, spaces_len, unsigned, whole_part,
-};
+use crate::scanning::{Parsed, spaces_len, spelling};
 use b2_base::Code;
-use b2_base::lexical::{dropped, first};
 use b2_dec::Dec;
 
 /// The leading digits where more digits follow.
@@ -41,50 +38,26 @@ fn exponent_value(digits: &[u8]) -> usize
     }
 }
 
-/// The number of given parts; C60 and C61 where it is too small or too large.
-fn value(
-    neg: bool,
-    whole: &[u8],
-    fraction: &[u8],
-    exponent_neg: bool,
-    exponent: &[u8],
-) -> Result<Dec, Code>
-    requires whole { AreDigits whole.now }
-    requires fraction { AreDigits fraction.now }
-    requires fits { length whole.now + length fraction.now < 2 ^ 64 }
-    requires exponent { AreDigits exponent.now }
-    requires few { length exponent.now ≤ 2 }
-    ensures { let parts : Parts = record { neg = neg; whole = whole.now; fraction = fraction.now; exponent_neg = exponent_neg; exponent = exponent.now } in
+/// The number of a spelling; C60 and C61 where it is too small or too large.
+fn value(s: &Parsed<'_>) -> Result<Dec, Code>
+    requires whole { AreDigits s.now.whole.now }
+    requires fraction { AreDigits s.now.fraction.now }
+    requires fits { length s.now.whole.now + length s.now.fraction.now < 2 ^ 64 }
+    requires exponent { AreDigits s.now.exponent.now }
+    requires few { length s.now.exponent.now ≤ 2 }
+    ensures { let parts : Parts = record { neg = s.now.neg; whole = s.now.whole.now; fraction = s.now.fraction.now; exponent_neg = s.now.exponent_neg; exponent = s.now.exponent.now } in
         result ≡ parts_value parts }
 {
     let none = Leading { digits: 0, more: 0 };
-    let leading = with_digits(with_digits(none, whole), fraction);
-    let tens = exponent_value(exponent) as u128;
+    let leading = with_digits(with_digits(none, s.whole), s.fraction);
+    let tens = exponent_value(s.exponent) as u128;
     let high = 222 + leading.more as u128;
-    let low = fraction.len() as u128;
-    if exponent_neg {
-        rounded(neg, leading.digits, high, low + tens)
+    let low = s.fraction.len() as u128;
+    if s.exponent_neg {
+        rounded(s.neg, leading.digits, high, low + tens)
     } else {
-        rounded(neg, leading.digits, high + tens, low)
+        rounded(s.neg, leading.digits, high + tens, low)
     }
-}
-
-/// The number at the front of a text; C60 and C61 where it is too small or too large.
-#[tactic(auto, unfolding(crate::specs::NumberText::parts_of))]
-fn number_at_front(text: &[u8]) -> Result<Dec, Code>
-    ensures { result ≡ number_value text.now }
-{
-    let body = unsigned(text);
-    let whole = whole_part(body);
-    let fraction = fraction_part(&body[whole.len()..]);
-    let rest = &body[mantissa_len(body)..];
-    value(
-        first(text) == b'-',
-        whole,
-        fraction,
-        first(dropped(rest, 1)) == b'-',
-        exponent_digits(rest),
-    )
 }
 
 /// The length of the longest number at the front of a text, 0 where there is none, and the number, where there is one
@@ -98,11 +71,11 @@ pub fn read(text: &[u8]) -> (usize, Option<Dec>)
     // given is that number.
     ensures longest { IsLongest text.now result.0 (number_value text.now) }
 {
-    let len = number_len(text);
-    if len == 0 {
+    let number = spelling(text);
+    if number.len == 0 {
         return (0, None);
     }
-    (len, number_at_front(text).ok())
+    (number.len, value(&number).ok())
 }
 
 /// The length of the longest number at the front of a text, None where there is none, and the number; C60 and C61 where
@@ -111,11 +84,11 @@ pub fn literal(text: &[u8]) -> Option<(usize, Result<Dec, Code>)>
     ensures value { result ≡ (if grammar.number_len text.now == 0 then None else Some (grammar.number_len text.now, number_value text.now)) }
     ensures within { IfSome result (λ r. r.0 ≤ length text.now) }
 {
-    let len = number_len(text);
-    if len == 0 {
+    let number = spelling(text);
+    if number.len == 0 {
         return None;
     }
-    Some((len, number_at_front(text)))
+    Some((number.len, value(&number)))
 }
 
 /// The length of the spaces, the number and the spaces at the front of a text, 0 where there is no number.
@@ -126,7 +99,7 @@ pub fn num(text: &[u8]) -> usize
     ensures longest { IsLongestSpaced text.now result }
 {
     let front = spaces_len(text);
-    let number = number_len(&text[front..]);
+    let number = spelling(&text[front..]).len;
     if number == 0 {
         return 0;
     }

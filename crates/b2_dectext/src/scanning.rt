@@ -1,9 +1,10 @@
 // How many bytes of a text are a number.
-ghost use Rattle.std.specs.Prelude.{◌≡◌, ℕ, ◌+◌, ◌<◌, ◌≤◌, ◌==◌, length, drop, if◌then◌else◌};
+ghost use Rattle.std.specs.Prelude.{◌≡◌, ℕ, ◌+◌, ◌^◌, ◌<◌, ◌≤◌, ◌==◌, length, drop, if◌then◌else◌};
 ghost use Rattle.b2_base.specs.Byte as byte;
 ghost use Rattle.b2_base.specs.Lexical.{first, digits_width};
 ghost use Rattle.b2_dectext.specs.Digits.{AreDigits};
 ghost use Rattle.b2_dectext.specs.NumberText as grammar;
+ghost use Rattle.b2_dectext.specs.NumberText.{parts_of};
 
 use b2_base::lexical::{digits_width, dropped, first};
 
@@ -60,15 +61,15 @@ pub(crate) fn fraction_part(text: &[u8]) -> &[u8]
     }
 }
 
-/// How many bytes of a text are digits with a point or without one.
-#[tactic(auto, unfolding(crate::specs::NumberText::mantissa_len))]
-pub(crate) fn mantissa_len(text: &[u8]) -> usize
-    ensures value { result ≡ grammar.mantissa_len text.now }
-    ensures bound { result ≤ length text.now }
+/// How many bytes digits take with a point or without one: those before it, and after them a point with digits or without,
+/// which alone is none.
+fn mantissa_len(whole: usize, after: &[u8], fraction: usize) -> usize
+    requires digits { fraction ≡ length (grammar.fraction_part after.now) }
+    requires within { fraction + (if first after.now == byte.point then 1 else 0) ≤ length after.now }
+    requires fits { whole + length after.now < 2 ^ 64 }
+    ensures value { result ≡ (if whole + fraction == 0 then 0 else whole + grammar.point_len after.now) }
+    ensures bound { result ≤ whole + length after.now }
 {
-    let whole = digits_width(text);
-    let after = &text[whole..];
-    let fraction = fraction_part(after).len();
     if whole + fraction == 0 {
         return 0;
     }
@@ -95,29 +96,67 @@ pub(crate) fn exponent_digits(text: &[u8]) -> &[u8]
     }
 }
 
-/// How many bytes of a text are an exponent.
+/// How many bytes of a text are an exponent with these digits.
 #[tactic(auto, unfolding(crate::specs::NumberText::exponent_len))]
-fn exponent_len(text: &[u8]) -> usize
+fn exponent_len(text: &[u8], digits: &[u8]) -> usize
+    requires digits { digits.now ≡ grammar.exponent_digits text.now }
+    requires fits { 0 < length digits.now → 1 + grammar.sign_len (drop 1 text.now) + length digits.now ≤ length text.now }
     ensures value { result ≡ grammar.exponent_len text.now }
     ensures bound { result ≤ length text.now }
 {
-    let digits = exponent_digits(text).len();
-    if digits == 0 {
+    if digits.len() == 0 {
         return 0;
     }
-    1 + sign_len(dropped(text, 1)) + digits
+    1 + sign_len(dropped(text, 1)) + digits.len()
 }
 
-/// The length of the longest number at the front of a text, 0 where there is none.
-#[tactic(auto, unfolding(crate::specs::NumberText::number_len))]
-pub(crate) fn number_len(text: &[u8]) -> usize
-    ensures value { result ≡ grammar.number_len text.now }
-    ensures bound { result ≤ length text.now }
+/// The number at the front of a text: its parts and its length, 0 where there is none.
+#[derive(Drop)]
+pub(crate) struct Parsed<'a> {
+    /// Whether `-` stands first.
+    pub neg: bool,
+    /// The digits before the point.
+    pub whole: &'a [u8],
+    /// The digits after the point.
+    pub fraction: &'a [u8],
+    /// Whether `-` stands in the exponent.
+    pub exponent_neg: bool,
+    /// The digits of the exponent.
+    pub exponent: &'a [u8],
+    /// The length of the number.
+    pub len: usize,
+}
+
+/// The longest number at the front of a text. The digits are looked for once.
+#[tactic(auto, unfolding(crate::specs::NumberText::number_len, crate::specs::NumberText::mantissa_len, crate::specs::NumberText::parts_of))]
+pub(crate) fn spelling(text: &[u8]) -> Parsed<'_>
+    ensures len { result.len ≡ grammar.number_len text.now }
+    ensures bound { result.len ≤ length text.now }
+    ensures parts { parts_of text.now ≡ record { neg = result.neg; whole = result.whole.now; fraction = result.fraction.now; exponent_neg = result.exponent_neg; exponent = result.exponent.now } }
+    ensures whole { AreDigits result.whole.now }
+    ensures fraction { AreDigits result.fraction.now }
+    ensures fits { length result.whole.now + length result.fraction.now ≤ length text.now }
+    ensures exponent { AreDigits result.exponent.now }
+    ensures few { length result.exponent.now ≤ 2 }
 {
     let body = unsigned(text);
-    let mantissa = mantissa_len(body);
-    if mantissa == 0 {
-        return 0;
+    let whole = whole_part(body);
+    let after = &body[whole.len()..];
+    let fraction = fraction_part(after);
+    let mantissa = mantissa_len(whole.len(), after, fraction.len());
+    let rest = &body[mantissa..];
+    let exponent = exponent_digits(rest);
+    let len = if mantissa == 0 {
+        0
+    } else {
+        text.len() - rest.len() + exponent_len(rest, exponent)
+    };
+    Parsed {
+        neg: first(text) == b'-',
+        whole,
+        fraction,
+        exponent_neg: first(dropped(rest, 1)) == b'-',
+        exponent,
+        len,
     }
-    sign_len(text) + mantissa + exponent_len(&body[mantissa..])
 }

@@ -37,7 +37,7 @@ fn digit_in(bytes: &[u8]) -> Option<u8>
 }
 
 /// The name that bytes spell, of which it is known whether it is alpha.
-fn variable_name(alpha: bool, bytes: &[u8]) -> Name
+pub fn variable_name(alpha: bool, bytes: &[u8]) -> Name
     ensures { result ≡ spec.variable_name alpha bytes.now }
 {
     let global = first(bytes) == b'@';

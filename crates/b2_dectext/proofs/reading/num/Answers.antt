@@ -9,13 +9,13 @@ returns-then-number-eq0-clause-longest c =
     let text = c.args.text.now in
     let front = c.spaces_len-front.result in
     spaced-none text front _ c.spaces_len-front.ensures.value
-    (c.number_len-number.ensures.value ∙ ap number_len (between_to_end text front (length text) (le_refl (length text)))) c.if-number-eq0.true
+    (c.spelling-number.ensures.len ∙ ap number_len (between_to_end text front (length text) (le_refl (length text)))) c.if-number-eq0.true
 
 pub returns-clause-longest : goal.returns-clause-longest
 returns-clause-longest c =
     let text = c.args.text.now in
     let front = c.spaces_len-front.result in
-    let after = front + c.number_len-number.result in
+    let after = front + c.spelling-number.result.len in
     spaced-is text front _ _ c.spaces_len-front.ensures.value
-    (c.number_len-number.ensures.value ∙ ap number_len (between_to_end text front (length text) (le_refl (length text))))
+    (c.spelling-number.ensures.len ∙ ap number_len (between_to_end text front (length text) (le_refl (length text))))
     (c.spaces_len.ensures.value ∙ ap spaces_len (between_to_end text after (length text) (le_refl (length text)))) c.if-number-eq0.false
