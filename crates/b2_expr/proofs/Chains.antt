@@ -1,5 +1,5 @@
 -- What chains of operators come to.
-use Rattle.std.proofs.Common.{◌≡◌, ◌<◌, ℕ, length, Bool, true, false, List, [], ◌∷◌, drop, refl, sym, ap, ◌∙◌, Err}
+use Rattle.std.proofs.Common.{◌≡◌, ◌<◌, ℕ, length, true, false, drop, refl, ap, ◌∙◌, Err}
 use Rattle.b2_base.specs.Lexical.{first}
 use Rattle.b2_atom.specs.Words.{Text}
 use Rattle.b2_atom.specs.Tree.{Trees}

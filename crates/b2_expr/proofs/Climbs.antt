@@ -6,7 +6,7 @@ use Rattle.b2_dec.specs.Number.{Number, zero_number}
 use Rattle.b2_dec.specs.declared.number.Mode.TheVariants as mode
 use Rattle.b2_atom.specs.Words.{Text}
 use Rattle.b2_atom.specs.declared.rows.TheConstants as row
-use Rattle.b2_rows.specs.Rows.{is_part, tree_at, after_part, is_list, after_list}
+use Rattle.b2_rows.specs.Rows.{is_part, tree_at, after_part, is_list}
 use Rattle.b2_rows.specs.Chains.{is_sign, more_row, more_start}
 use Rattle.b2_rows.proofs.Levels.{part_no_longer}
 use Rattle.b2_rows.proofs.EachChain as each

@@ -6,8 +6,6 @@ use Rattle.b2_base.specs.declared.codes.TheConstants.{S21_COMPARISON, S22_WORD}
 use Rattle.b2_dec.specs.Number.{value as size_of_number}
 use Rattle.b2_alpha.specs.Relations.{holds, order_of}
 use Rattle.b2_atom.specs.Words.{Text}
-use Rattle.b2_atom.specs.Leaves.{leaf_width}
-use Rattle.b2_atom.specs.Tokens.Token.{Coded}
 use Rattle.b2_atom.specs.Tree.{Trees}
 use Rattle.b2_atom.specs.Tree.Trees.{Done, Put, In}
 use Rattle.b2_atom.specs.Grammar.{row_items, starts}
@@ -25,7 +23,6 @@ use Rattle.b2_rows.specs.Chains.{is_operator_of, more_start}
 use Rattle.b2_rows.specs.Choices.{ReadAs, first_branch, second_branch}
 use Rattle.b2_rows.specs.declared.chains.Chain.TheVariants as chain
 use Rattle.b2_rows.proofs.Choices.{either_first, either_second}
-use Rattle.b2_rows.proofs.Levels.{part_no_longer}
 use Rattle.b2_rows.proofs.Lists.{goes}
 use Rattle.b2_rows.proofs.EachChain as each
 use Rattle.b2_expr.specs.Answers.{◌>>=◌}

@@ -1,5 +1,5 @@
 -- The unit of a function in a text, and what a call of it comes to.
-use Rattle.std.proofs.Common.{◌≡◌, ◌≤◌, ◌<◌, ◌||◌, ◌&&◌, ◌==◌, ◌+◌, ◌-◌, nat_lt, ℕ, zero, suc, Bool, true, false, not, if◌then◌else◌, List, [], ◌∷◌, drop, take, get_or, length, refl, sym, ap, ◌∙◌, subst, arith, Ok, Err, Some, None, slice_get, length-drop, drop-drop}
+use Rattle.std.proofs.Common.{◌≡◌, ◌≤◌, ◌||◌, ◌&&◌, ◌==◌, ◌+◌, nat_lt, ℕ, zero, suc, Bool, true, false, if◌then◌else◌, List, [], ◌∷◌, drop, length, refl, sym, ap, ◌∙◌, subst, arith, Ok, Err, Some, None, slice_get, length-drop, drop-drop}
 use Rattle.std.proofs.lemmas.Bool.Decides.{nat_tests}
 use Rattle.std.specs.Option.{option_map, option_map_or}
 use Rattle.std.specs.declared.option.Option.{Option}
@@ -32,8 +32,7 @@ use Rattle.b2_rows.specs.Laws.{IsRow, IsRowUnit}
 use Rattle.b2_rows.specs.Leaves.{is_leaf, leaf_bytes}
 use Rattle.b2_rows.specs.Values.{variable_name}
 use Rattle.b2_rows.proofs.Units.{each_unit_is_a_row}
-use Rattle.b2_rows.proofs.Choices.{either_second}
-use Rattle.b2_expr.specs.Answers.{Answer, ◌>>=◌, or_code}
+use Rattle.b2_expr.specs.Answers.{◌>>=◌, or_code}
 use Rattle.b2_expr.specs.Scope.{Surroundings, Context}
 use Rattle.b2_expr.specs.Value.{value, called, applied, function_tree}
 use Rattle.b2_expr.specs.declared.scope.Parameter.{Parameter}

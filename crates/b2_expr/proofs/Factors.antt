@@ -2,10 +2,8 @@
 use Rattle.std.proofs.Common.{◌≡◌, true, false, drop, refl, ap, ◌∙◌, Ok, Err}
 use Rattle.b2_base.specs.Lexical.{first}
 use Rattle.b2_atom.specs.Words.{Text}
-use Rattle.b2_atom.specs.Tree.{Trees}
-use Rattle.b2_atom.specs.Tree.Trees.{Done, In}
 use Rattle.b2_atom.specs.declared.rows.TheConstants as row
-use Rattle.b2_rows.specs.Rows.{is_part, tree_at, after_part}
+use Rattle.b2_rows.specs.Rows.{is_part, tree_at}
 use Rattle.b2_rows.specs.Chains.{is_sign}
 use Rattle.b2_rows.proofs.EachChain as each
 use Rattle.b2_expr.specs.Answers.{Answer, ◌>>=◌}

@@ -1,5 +1,5 @@
 -- Names with subscripts or none, and a number after a comma, by their rows.
-use Rattle.std.proofs.Common.{◌≡◌, ◌<◌, ◌≤◌, ◌+◌, ℕ, suc, length, arith, sym, Bool, true, false, ◌==◌, ◌||◌, ◌&&◌, nat_lt, if◌then◌else◌, List, [], ◌∷◌, drop, take, get_or, refl, ap, ◌∙◌, subst, Ok, Err, Some, None, IfSome, length-drop}
+use Rattle.std.proofs.Common.{◌≡◌, ◌<◌, ◌≤◌, ℕ, suc, length, arith, sym, Bool, true, false, ◌==◌, if◌then◌else◌, List, [], ◌∷◌, drop, refl, ap, ◌∙◌, Ok, Some, None, IfSome, length-drop}
 use Rattle.std.proofs.lemmas.Bool.Decides.{nat_tests}
 use Rattle.std.specs.declared.option.Option.{Option}
 use Rattle.std.specs.Option.{option_map_or}
@@ -10,7 +10,6 @@ use Rattle.b2_dec.specs.Number.{Number}
 use Rattle.b2_vars.specs.Names.{is_legal_name}
 use Rattle.b2_vars.specs.declared.name.Var.{Var}
 use Rattle.b2_atom.specs.Words.{Text}
-use Rattle.b2_atom.specs.Leaves.{leaf_width}
 use Rattle.b2_atom.specs.Tokens.Token.{Coded, Plain}
 use Rattle.b2_atom.specs.Tree.{Trees}
 use Rattle.b2_atom.specs.Tree.Trees.{Done, Put, In}
@@ -23,22 +22,21 @@ use Rattle.b2_atom.specs.declared.forms.Item.{Item}
 use Rattle.b2_atom.specs.declared.forms.Item.TheVariants.{Sign, Typed, Part, Maybe, Nest}
 use Rattle.b2_rows.specs.Rows.{is_part, tree_at, after_part}
 use Rattle.b2_rows.specs.Leaves.{is_leaf, leaf_bytes}
-use Rattle.b2_rows.specs.Values.{variable_name, digit_in, lettered}
+use Rattle.b2_rows.specs.Values.{variable_name, lettered}
 use Rattle.b2_rows.specs.Optional.{maybe_part, maybe_tree, after_maybe}
 use Rattle.b2_rows.specs.declared.leaves.Name.{Name}
 use Rattle.b2_rows.proofs.Optional.{maybe_stands, begun_part, begun_tree, begun_rest, left_out_tree, left_out_rest}
 use Rattle.b2_rows.proofs.Levels.{part_no_longer}
-use Rattle.b2_expr.specs.Answers.{Answer, ◌>>=◌}
+use Rattle.b2_expr.specs.Answers.{◌>>=◌}
 use Rattle.b2_expr.specs.Functions.{subscript, column_of}
-use Rattle.b2_expr.specs.Named.{Place, after_name, name_row, name_leaf, is_alpha_kind, variable_of}
+use Rattle.b2_expr.specs.Named.{after_name, name_row, name_leaf, is_alpha_kind, variable_of}
 use Rattle.b2_expr.specs.Scope.{Context, hidden_by}
 use Rattle.b2_expr.specs.Value.{value, operand, second, subscripts, located, element, branch_of, or_else, element_number}
 use Rattle.b2_rows.specs.declared.operands.Operand.TheVariants as kind
 use Rattle.b2_expr.specs.declared.named.NameKind.{NameKind}
 use Rattle.b2_expr.specs.declared.named.NameKind.TheVariants as name_kind
-use Rattle.b2_expr.specs.declared.named.Subscripts.{Subscripts}
 use Rattle.b2_expr.specs.declared.operators.Level.TheVariants as level
-use Rattle.b2_expr.proofs.RowsRead.{stands_of, shorter_at}
+use Rattle.b2_expr.proofs.RowsRead.{stands_of}
 
 -- whether a sign stands where a part begins
 begins : (c : ℕ) (t : Text) (b : Bool) → (first t == c) ≡ b → starts Atoms (start.Code c) t ≡ b
@@ -287,6 +285,16 @@ variable_shown e t ok is h = variable_is e t ok false is ∙ ap (λ (o : Option 
 pub variable_array : (e : Context) (t : Text) → is_part row.VARIABLE t ≡ true → (first (after_name name_kind.Number t) == byte.opening) ≡ true
     → operand e kind.Variable (tree_at row.VARIABLE t) ≡ element_number (located e false (tree_at row.VARIABLE t))
 variable_array e t ok is = variable_is e t ok true is
+
+-- outside a function no variable is hidden
+plain_by : (e : Context) (t : Text) (b : Bool) → is_part row.VARIABLE t ≡ true → (first (after_name name_kind.Number t) == byte.opening) ≡ b → e.parameter ≡ None
+    → operand e kind.Variable (tree_at row.VARIABLE t) ≡ element_number (located e false (tree_at row.VARIABLE t))
+plain_by e t true ok is none = variable_array e t ok is
+plain_by e t false ok is none = variable_shown e t ok is (ap (λ p. hidden_by p (variable_name false (leaf_bytes leaf.Name t))) none)
+
+pub variable_plain : (e : Context) (t : Text) → is_part row.VARIABLE t ≡ true → e.parameter ≡ None
+    → operand e kind.Variable (tree_at row.VARIABLE t) ≡ element_number (located e false (tree_at row.VARIABLE t))
+variable_plain e t ok none = plain_by e t (first (after_name name_kind.Number t) == byte.opening) ok refl none
 
 pub variable_rest : (t : Text) → is_part row.VARIABLE t ≡ true → (first (after_name name_kind.Number t) == byte.opening) ≡ false → after_part row.VARIABLE t ≡ after_name name_kind.Number t
 variable_rest t ok is = located_rest name_kind.Number t ok ∙ no_subscripts_rest (after_name name_kind.Number t) is

@@ -1,31 +1,31 @@
 -- Numeric operands, by their rows: where the parts of each stand, what the tree comes to, and what is left.
-use Rattle.std.proofs.Common.{◌≡◌, ◌<◌, ◌≤◌, ◌+◌, ℕ, zero, suc, length, arith, sym, Bool, true, false, ◌==◌, ◌||◌, ◌&&◌, nat_lt, if◌then◌else◌, List, [], ◌∷◌, drop, take, get_or, refl, ap, ◌∙◌, subst, Ok, Err, length-drop}
+use Rattle.std.proofs.Common.{◌≡◌, ◌<◌, ℕ, length, arith, Bool, true, false, ◌||◌, nat_lt, if◌then◌else◌, List, [], ◌∷◌, drop, take, get_or, refl, ap, ◌∙◌, subst, length-drop}
 use Rattle.b2_base.specs.Byte as byte
 use Rattle.b2_base.specs.Lexical.{first, is_digit, is_letter}
-use Rattle.b2_base.specs.declared.codes.TheConstants.{S10_OPEN, S11_CLOSE, S13_SEPARATOR, S17_NUMERIC, S18_ALPHA, S21_COMPARISON, S22_WORD}
+use Rattle.b2_base.specs.declared.codes.TheConstants.{S10_OPEN, S11_CLOSE, S13_SEPARATOR, S17_NUMERIC, S21_COMPARISON, S22_WORD}
 use Rattle.b2_atom.specs.Words.{Text}
 use Rattle.b2_atom.specs.Leaves.{leaf_width}
 use Rattle.b2_atom.specs.Tokens.Token.{Coded}
 use Rattle.b2_atom.specs.Tree.{Trees}
 use Rattle.b2_atom.specs.Tree.Trees.{Done, Put, In}
-use Rattle.b2_atom.specs.Grammar.{row_items, starts, is_among}
+use Rattle.b2_atom.specs.Grammar.{row_items}
 use Rattle.b2_atom.specs.declared.words.Origin.TheVariants.{Atoms}
 use Rattle.b2_atom.specs.declared.words.TheConstants as word
 use Rattle.b2_atom.specs.declared.rows.TheConstants as row
 use Rattle.b2_atom.specs.declared.forms.Start.TheVariants as start
 use Rattle.b2_atom.specs.declared.forms.Leaf.TheVariants as leaf
 use Rattle.b2_atom.specs.declared.forms.Item.{Item}
-use Rattle.b2_atom.specs.declared.forms.Item.TheVariants.{Word, Among, Sign, Typed, Part, Maybe, Either, Nest}
+use Rattle.b2_atom.specs.declared.forms.Item.TheVariants.{Word, Among, Sign, Typed, Part, Maybe, Nest}
 use Rattle.b2_rows.specs.Rows.{is_part, tree_at, after_part}
 use Rattle.b2_rows.specs.Leaves.{is_leaf}
 use Rattle.b2_rows.specs.Values.{relation_of}
 use Rattle.b2_rows.specs.Optional.{maybe_part, maybe_tree, after_maybe}
 use Rattle.b2_rows.proofs.Optional.{maybe_stands}
 use Rattle.b2_rows.proofs.Levels.{part_no_longer}
-use Rattle.b2_expr.specs.Answers.{Answer, ◌>>=◌}
+use Rattle.b2_expr.specs.Answers.{◌>>=◌}
 use Rattle.b2_expr.specs.Functions.{of_one, of_two, of_text, place_of, count_or, number_of, whole_number}
 use Rattle.b2_expr.specs.Scope.{Context, Surroundings, kept_number}
-use Rattle.b2_expr.specs.Value.{value, operand, text, second, subscripts, extremes, literal_number, literal_value, kept_value}
+use Rattle.b2_expr.specs.Value.{value, operand, text, second, extremes, literal_number, literal_value, kept_value}
 use Rattle.b2_expr.specs.declared.operators.Level.TheVariants as level
 use Rattle.b2_rows.specs.declared.operands.Operand.TheVariants as kind
 use Rattle.b2_expr.specs.Further.{are_further, further_tree, after_further}

@@ -1,10 +1,9 @@
 -- The right side of an alpha assignment by its rows: which row is read, what it gives, and what is left after it.
-use Rattle.std.proofs.Common.{◌≡◌, ◌<◌, ◌≤◌, ℕ, ◌==◌, Bool, true, false, if◌then◌else◌, nat_lt, List, [], ◌∷◌, length, drop, length-drop, arith, refl, sym, ap, subst, ◌∙◌, Ok, Err, Result, Some, None}
+use Rattle.std.proofs.Common.{◌≡◌, ◌<◌, ℕ, ◌==◌, Bool, true, false, if◌then◌else◌, nat_lt, List, [], ◌∷◌, length, drop, length-drop, arith, refl, sym, ap, subst, ◌∙◌, Ok, Err, Result, Some, None}
 use Rattle.b2_base.specs.Lexical.{first, hex_value}
 use Rattle.b2_base.specs.declared.codes.TheConstants.{S18_ALPHA, S19_HEX_OR_QUOTE}
 use Rattle.b2_atom.specs.Words.{Text}
 use Rattle.b2_atom.specs.Leaves.{leaf_width}
-use Rattle.b2_atom.specs.Tokens.Token.{Coded, Plain}
 use Rattle.b2_atom.specs.Tree.{Trees}
 use Rattle.b2_atom.specs.Tree.Trees.{Done, Put, In}
 use Rattle.b2_atom.specs.Grammar.{row_items, starts}
@@ -22,12 +21,12 @@ use Rattle.b2_rows.proofs.Choices.{either_first, either_second}
 use Rattle.b2_rows.proofs.Levels.{part_no_longer}
 use Rattle.b2_rows.proofs.Lists.{goes, ended}
 use Rattle.b2_expr.specs.Answers.{◌>>=◌}
-use Rattle.b2_expr.specs.RightSide.{Side, operator_of, with_operand, digit_operation, word_operation, operation, then_operation, further_operations, side_of, first_and_operations, operations_alone, right_side, operation_start, is_right_side, right_side_tree, after_right_side}
+use Rattle.b2_expr.specs.RightSide.{operator_of, with_operand, digit_operation, word_operation, operation, then_operation, further_operations, side_of, first_and_operations, operations_alone, right_side, operation_start, is_right_side, right_side_tree, after_right_side}
 use Rattle.b2_expr.specs.Scope.{Context}
 use Rattle.b2_expr.specs.Value.{text}
 use Rattle.b2_expr.specs.declared.operations.AlphaOperator.TheVariants as op
 use Rattle.b2_expr.specs.declared.operations.Operation.{Operation}
-use Rattle.b2_expr.proofs.RowsRead.{stands_of, shorter_at, shorter_among}
+use Rattle.b2_expr.proofs.RowsRead.{stands_of, shorter_among}
 use Rattle.b2_expr.proofs.Pairs.{also_done}
 
 twice : (t : Text) → drop 1 (drop 1 t) ≡ drop 2 t

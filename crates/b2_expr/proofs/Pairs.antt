@@ -1,12 +1,10 @@
 -- Pairs of hexadecimal digits, by their rows.
-use Rattle.std.proofs.Common.{◌≡◌, ◌<◌, ◌≤◌, ℕ, length, arith, sym, Bool, true, false, if◌then◌else◌, List, [], ◌∷◌, drop, take, refl, ap, ◌∙◌, subst, Ok, nat_lt, ◌&&◌, ◌++◌, ◌+◌, nat_le, Err, length-append}
-use Rattle.std.proofs.lemmas.Bool.Decides.{nat_tests}
-use Rattle.b2_base.specs.declared.codes.TheConstants.{S19_HEX_OR_QUOTE, X72_TOO_LONG}
+use Rattle.std.proofs.Common.{◌≡◌, ◌<◌, ◌≤◌, ℕ, length, arith, sym, Bool, true, false, if◌then◌else◌, List, [], ◌∷◌, drop, refl, ap, ◌∙◌, subst, Ok, nat_lt, ◌&&◌, ◌++◌, ◌+◌}
+use Rattle.b2_base.specs.declared.codes.TheConstants.{S19_HEX_OR_QUOTE}
 use Rattle.b2_atom.specs.Words.{Text}
 use Rattle.b2_atom.specs.Leaves.{leaf_width}
 use Rattle.b2_atom.specs.Tree.{Trees, also}
 use Rattle.b2_atom.specs.Tree.Trees.{Done, Put, In}
-use Rattle.b2_atom.specs.Tokens.Token.{Plain}
 use Rattle.b2_atom.specs.Grammar.{row_items, starts}
 use Rattle.b2_atom.specs.declared.words.Origin.TheVariants.{Atoms}
 use Rattle.b2_atom.specs.declared.rows.TheConstants as row
@@ -18,8 +16,7 @@ use Rattle.b2_rows.specs.Rows.{is_part, tree_at, after_part, is_list, list_at, a
 use Rattle.b2_rows.specs.Leaves.{is_leaf, leaf_bytes}
 use Rattle.b2_rows.specs.Values.{hex_byte_of}
 use Rattle.b2_rows.proofs.Lists.{goes, ended}
-use Rattle.b2_expr.specs.Answers.{TextAnswer, ◌>>=◌}
-use Rattle.b2_expr.specs.Functions.{joined_text}
+use Rattle.b2_expr.specs.Answers.{TextAnswer}
 use Rattle.b2_expr.specs.Value.{pairs_of, pair_bytes}
 use Rattle.b2_expr.proofs.RowsRead.{stands_of, part_short}
 

@@ -1,15 +1,10 @@
 -- The bytes that a receiver names among those of its variable.
-use Rattle.std.proofs.Common.{◌≡◌, ◌≤◌, ℕ, ◌+◌, ◌-◌, ◌*◌, Bool, true, false, not, ◌&&◌, cond, List, [], ◌∷◌, ◌++◌, length, take, drop, replicate, slice_range, arith, refl, sym, ap, subst, ◌∙◌, Ok, Err, Result, Option, Some, None, IsSome, IfSome, is_some, OnOk, OnErr, true≢false}
-use Rattle.std.proofs.lemmas.List.{append-nil, length-take-le, length-take, take-take, drop-drop, drop-take}
+use Rattle.std.proofs.Common.{◌≡◌, ◌≤◌, ℕ, ◌+◌, ◌-◌, ◌*◌, List, length, take, drop, slice_range, arith, refl, sym, ap, subst, ◌∙◌, Option, Some, None, IsSome, IfSome, true≢false}
+use Rattle.std.proofs.lemmas.List.{length-take, take-take, drop-drop, drop-take}
 use Rattle.std.proofs.Common.{length-drop}
 use Rattle.std.specs.FinMap as map
-use Rattle.b2_base.specs.Byte as byte
-use Rattle.b2_base.specs.declared.codes.Fault.{Fault}
-use Rattle.b2_base.specs.declared.codes.Fault.TheVariants as fault
-use Rattle.b2_alpha.specs.Values.{padded}
 use Rattle.b2_vars.specs.declared.name.Var.{Var}
-use Rattle.b2_vars.specs.Answers.{AnswersOrFails, Fails}
-use Rattle.b2_vars.specs.Calls.{get_code, no_array, no_cell, part_place, IsPart}
+use Rattle.b2_vars.specs.Calls.{part_place}
 use Rattle.b2_vars.specs.Shapes.{cell_at}
 use Rattle.b2_vars.specs.Tables.{Table, VarsState, IsVariable, shape_at, variable_at}
 use Rattle.b2_vars.specs.Variables.{VariableState, alpha_at, bytes_from}

@@ -1,6 +1,5 @@
 -- The laws of receivers: what STR names, and when a receiver is reached.
-use Rattle.std.proofs.Common.{◌≡◌, ◌≢◌, ℕ, ◌-◌, ◌==◌, ◌&&◌, not, nat_lt, Bool, true, false, cond, if◌then◌else◌, List, [], ◌∷◌, length, take, drop, length-drop, refl, sym, ap, subst, ◌∙◌, Ok, Err, Result, Option, Some, None, IfSome, is_some, true≢false}
-use Rattle.b2_base.specs.declared.codes.Fault.{Fault}
+use Rattle.std.proofs.Common.{◌≡◌, ℕ, ◌-◌, ◌==◌, Bool, true, false, if◌then◌else◌, List, [], ◌∷◌, length, take, drop, length-drop, refl, sym, ap, ◌∙◌, Ok, Err, Result, Option, Some, None, true≢false}
 use Rattle.b2_base.specs.declared.codes.Fault.TheVariants as fault
 use Rattle.b2_base.specs.declared.codes.TheConstants.{A02_DATA_AREA, P34_RANGE, P57_SUBSCRIPT, P59_NO_ARRAY, X75_NOT_DECIMAL}
 use Rattle.b2_dec.specs.Number.{Number}
@@ -8,16 +7,15 @@ use Rattle.b2_vars.specs.Answers.{code_if, first_of}
 use Rattle.b2_vars.specs.Tables.{VarsState}
 use Rattle.b2_alpha.specs.Sums.{are_decimal, decimal_difference, decimal_sum}
 use Rattle.b2_expr.specs.Answers.{TextAnswer, ◌>>=◌}
-use Rattle.b2_expr.specs.Assigning.{Assigned, Ends, unless_refused, assigned_side, is_reached, is_refusal, receiver_code, with_made, reached_by, portion_in}
+use Rattle.b2_expr.specs.Assigning.{Assigned, unless_refused, receiver_code, with_made, reached_by, portion_in}
 use Rattle.b2_expr.specs.Functions.{counted}
 use Rattle.b2_expr.specs.Receivers.{portion_count}
 use Rattle.b2_expr.specs.ReceiverLaws.{EachPartIsAPortion, SameWhereNotReached, NoCodeWhereReached}
-use Rattle.b2_expr.specs.RightSide.{Made, Side, made, made_by, made_then, operated}
+use Rattle.b2_expr.specs.RightSide.{Made, made, made_by, made_then, operated}
 use Rattle.b2_expr.specs.Value.{counted_bytes}
 use Rattle.b2_expr.specs.declared.operations.AlphaOperator.{AlphaOperator}
 use Rattle.b2_expr.specs.declared.operations.AlphaOperator.TheVariants as op
 use Rattle.b2_expr.specs.declared.operations.Operation.{Operation}
-use Rattle.b2_expr.specs.declared.receiver.AlphaReceiver.{AlphaReceiver}
 use Rattle.b2_expr.specs.declared.receiver.Portion.{Portion}
 
 -- STR names the bytes that it gives

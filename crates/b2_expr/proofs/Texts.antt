@@ -1,12 +1,12 @@
 -- Alpha expressions and their operands, by their rows.
-use Rattle.std.proofs.Common.{◌≡◌, ◌<◌, ◌≤◌, ◌+◌, ℕ, zero, suc, length, arith, sym, Bool, true, false, ◌==◌, if◌then◌else◌, List, [], ◌∷◌, drop, take, get_or, refl, ap, ◌∙◌, subst, Ok, Err, length-drop}
+use Rattle.std.proofs.Common.{◌≡◌, ◌<◌, ℕ, zero, suc, length, arith, sym, true, false, List, [], ◌∷◌, drop, take, refl, ap, ◌∙◌, Ok, Err, length-drop}
 use Rattle.b2_base.specs.Byte as byte
 use Rattle.b2_base.specs.Lexical.{first}
-use Rattle.b2_base.specs.declared.codes.TheConstants.{S10_OPEN, S11_CLOSE, S13_SEPARATOR, S18_ALPHA, S22_WORD}
+use Rattle.b2_base.specs.declared.codes.TheConstants.{S11_CLOSE, S13_SEPARATOR, S18_ALPHA, S22_WORD}
 use Rattle.b2_alpha.specs.Values.{value_of}
 use Rattle.b2_atom.specs.Words.{Text}
 use Rattle.b2_atom.specs.Leaves.{leaf_width}
-use Rattle.b2_atom.specs.Tokens.Token.{Coded, Plain}
+use Rattle.b2_atom.specs.Tokens.Token.{Coded}
 use Rattle.b2_atom.specs.Tree.{Trees}
 use Rattle.b2_atom.specs.Tree.Trees.{Done, Put, In}
 use Rattle.b2_atom.specs.Grammar.{row_items, starts}
@@ -16,10 +16,10 @@ use Rattle.b2_atom.specs.declared.rows.TheConstants as row
 use Rattle.b2_atom.specs.declared.forms.Start.TheVariants as start
 use Rattle.b2_atom.specs.declared.forms.Leaf.TheVariants as leaf
 use Rattle.b2_atom.specs.declared.forms.Item.{Item}
-use Rattle.b2_atom.specs.declared.forms.Item.TheVariants.{Word, Sign, Typed, Part, Maybe, Many, Nest}
+use Rattle.b2_atom.specs.declared.forms.Item.TheVariants.{Word, Sign, Typed, Part, Maybe, Nest}
 use Rattle.b2_rows.specs.Rows.{is_part, tree_at, after_part, is_list, list_at, after_list, Goes}
 use Rattle.b2_rows.specs.Leaves.{is_leaf, leaf_bytes}
-use Rattle.b2_rows.specs.Values.{variable_name, literal_of}
+use Rattle.b2_rows.specs.Values.{literal_of}
 use Rattle.b2_rows.specs.Optional.{maybe_part, maybe_tree, after_maybe}
 use Rattle.b2_rows.specs.Chains.{is_operator_of, more_start}
 use Rattle.b2_rows.specs.declared.chains.Chain.TheVariants as chain
@@ -29,11 +29,10 @@ use Rattle.b2_rows.proofs.Lists.{goes}
 use Rattle.b2_rows.proofs.EachChain as each
 use Rattle.b2_expr.specs.Answers.{TextAnswer, ◌>>=◌}
 use Rattle.b2_expr.specs.Functions.{joined_text, count_or, bytes_in, fixed}
-use Rattle.b2_expr.specs.Named.{Place, name_row, is_alpha_kind, bytes_there}
+use Rattle.b2_expr.specs.Named.{Place, bytes_there}
 use Rattle.b2_expr.specs.Scope.{Context}
 use Rattle.b2_expr.specs.Value.{value, text, further_text, text_row, text_operand, second, located, part_of, text_of_place, literal_bytes, hex_bytes, pairs_of}
 use Rattle.b2_rows.specs.declared.operands.AlphaOperand.TheVariants as alpha_kind
-use Rattle.b2_expr.specs.declared.named.NameKind.TheVariants as name_kind
 use Rattle.b2_expr.specs.declared.operators.Level.TheVariants as level
 use Rattle.b2_expr.proofs.RowsRead.{stands_of, shorter_at}
 use Rattle.b2_expr.proofs.Names.{one_first, one_second, one_tree, one_rest}

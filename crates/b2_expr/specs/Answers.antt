@@ -1,5 +1,5 @@
 -- What evaluating gives: a number, or the first code from the left.
-use Rattle.std.specs.Prelude.{ℕ, List, Option, Some, None, Result, Ok, Err, if◌then◌else◌}
+use Rattle.std.specs.Prelude.{ℕ, List, Option, Some, None, Result, Ok, Err}
 use Rattle.b2_dec.specs.Number.{Number}
 
 -- a number, or a code

@@ -1,6 +1,6 @@
 -- What assigning to a receiver makes of the variables among which it is.
 use Rattle.std.specs.Borrow.{Bor}
-use Rattle.std.specs.Prelude.{◌≡◌, ℕ, ◌==◌, Bool, true, false, List, length, take, drop, Option, Some, None, Result, Ok, Err, if◌then◌else◌}
+use Rattle.std.specs.Prelude.{◌≡◌, ℕ, ◌==◌, Bool, true, false, List, length, take, drop, Option, Some, None, Result, Ok, Err}
 use Rattle.b2_base.specs.declared.codes.Fault.{Fault}
 use Rattle.b2_base.specs.declared.codes.Fault.TheVariants as fault
 use Rattle.b2_base.specs.declared.codes.TheConstants.{X75_NOT_DECIMAL}

@@ -1,12 +1,12 @@
 -- The truth of conditions, by their trees.
-use Rattle.std.specs.Prelude.{ℕ, ◌==◌, Bool, true, false, List, [], ◌∷◌, Result, Ok, Err, if◌then◌else◌}
+use Rattle.std.specs.Prelude.{ℕ, ◌==◌, Bool, Result, Ok, Err, if◌then◌else◌}
 use Rattle.std.specs.Ordering.{int_cmp}
 use Rattle.b2_base.specs.declared.codes.TheConstants.{S21_COMPARISON}
 use Rattle.b2_dec.specs.Number.{value as size_of_number}
 use Rattle.b2_alpha.specs.Relations.{holds, order_of}
-use Rattle.b2_atom.specs.Tokens.Token.{Coded, Plain, Lined}
+use Rattle.b2_atom.specs.Tokens.Token.{Plain}
 use Rattle.b2_atom.specs.Tree.{Trees}
-use Rattle.b2_atom.specs.Tree.Trees.{Done, Put, In}
+use Rattle.b2_atom.specs.Tree.Trees.{Put, In}
 use Rattle.b2_rows.specs.Links.{token_code}
 use Rattle.b2_rows.specs.Values.{relation_of}
 use Rattle.b2_expr.specs.Answers.{◌>>=◌}

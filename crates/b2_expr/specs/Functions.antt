@@ -1,6 +1,6 @@
 -- The functions of the language on values, and the numbers that they and subscripts want.
-use Rattle.std.specs.Prelude.{ℕ, ◌+◌, ◌-◌, ◌^◌, ◌==◌, ◌&&◌, nat_le, nat_lt, int_le, min, max, ℤ, pos, negsuc, Bool, false, List, [], ◌∷◌, ◌++◌, length, take, drop, map, replicate, Option, Some, None, Result, Ok, Err, if◌then◌else◌}
-use Rattle.b2_base.specs.declared.codes.TheConstants.{P34_RANGE, X72_TOO_LONG, S27_LEFT_OUT}
+use Rattle.std.specs.Prelude.{ℕ, ◌+◌, ◌^◌, ◌==◌, ◌&&◌, nat_le, nat_lt, int_le, min, ℤ, pos, Bool, false, List, ◌++◌, length, take, Option, Some, None, Result, Ok, Err, if◌then◌else◌}
+use Rattle.b2_base.specs.declared.codes.TheConstants.{P34_RANGE, X72_TOO_LONG}
 use Rattle.b2_dec.specs.Number.{Number, value}
 use Rattle.b2_dec.specs.Rounding.{rnd}
 use Rattle.b2_dec.specs.Arithmetic.{int_of, fix_of, whole_of, sign_of, modulo_of, multiple_of, root_of}

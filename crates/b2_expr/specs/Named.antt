@@ -1,5 +1,5 @@
 -- Variables by their names as they are written.
-use Rattle.std.specs.Prelude.{ℕ, ◌==◌, ◌&&◌, Bool, true, false, drop, Option, Some, None, Result, Ok, if◌then◌else◌}
+use Rattle.std.specs.Prelude.{ℕ, Bool, true, false, drop, Option, Result, Ok, if◌then◌else◌}
 use Rattle.std.specs.FinMap as map
 use Rattle.b2_base.specs.declared.codes.TheConstants.{X77_NO_PARTITION}
 use Rattle.b2_vars.specs.declared.name.Var.{Var}

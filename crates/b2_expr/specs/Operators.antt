@@ -1,5 +1,5 @@
 -- The operators of expressions: what joins numbers, by levels, and what compares.
-use Rattle.std.specs.Prelude.{ℕ, ◌==◌, nat_le, Bool, true, false, Option, Some, None, Result, Ok, Err, ℤ, pos, negsuc, if◌then◌else◌}
+use Rattle.std.specs.Prelude.{ℕ, ◌==◌, nat_le, Bool, true, false, Option, Some, None, Ok, Err, ℤ, pos, negsuc, if◌then◌else◌}
 use Rattle.b2_base.specs.Byte as byte
 use Rattle.b2_base.specs.declared.codes.TheConstants.{C65_EXPONENT}
 use Rattle.b2_dec.specs.Number.{Number, zero_number}

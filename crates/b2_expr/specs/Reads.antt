@@ -1,9 +1,8 @@
 -- What comes of evaluating along a text.
-use Rattle.std.specs.Prelude.{◌≡◌, ◌≤◌, ℕ, Bool, true, false, List, length, Result, Ok, Err}
+use Rattle.std.specs.Prelude.{◌≡◌, ℕ, List, Result, Ok, Err}
 use Rattle.std.specs.Borrow.{Bor}
-use Rattle.b2_dec.specs.Number.{Number}
 use Rattle.b2_atom.specs.Words.{Text}
-use Rattle.b2_expr.specs.Answers.{Answer, TextAnswer, ◌>>=◌}
+use Rattle.b2_expr.specs.Answers.{TextAnswer, ◌>>=◌}
 use Rattle.b2_expr.specs.Functions.{joined_text}
 
 -- a value and what is left of the text, or its code

@@ -1,5 +1,5 @@
 -- What holds of receivers and of assigning to them.
-use Rattle.std.specs.Prelude.{◌≡◌, ℕ, Bool, true, false, List, length, take, drop, Option, None, Result, Ok, Err}
+use Rattle.std.specs.Prelude.{◌≡◌, ℕ, true, false, List, length, take, drop, Option, None, Result, Ok}
 use Rattle.b2_base.specs.declared.codes.Fault.{Fault}
 use Rattle.b2_dec.specs.Number.{Number}
 use Rattle.b2_vars.specs.Tables.{VarsState}

@@ -1,5 +1,5 @@
 -- Receivers by their trees: what each names, or its first code.
-use Rattle.std.specs.Prelude.{◌≡◌, ℕ, ◌-◌, ◌==◌, Bool, true, false, length, drop, take, Option, Some, None, Result, Ok, Err, if◌then◌else◌}
+use Rattle.std.specs.Prelude.{◌≡◌, ℕ, ◌-◌, ◌==◌, Bool, true, false, length, Option, Some, None, Result, Ok, Err, if◌then◌else◌}
 use Rattle.b2_base.specs.declared.codes.TheConstants.{S20_VARIABLE}
 use Rattle.b2_dec.specs.Number.{Number}
 use Rattle.b2_dec.specs.declared.values.Kind.{Kind}
@@ -9,7 +9,7 @@ use Rattle.b2_vars.specs.Names.{is_legal_name}
 use Rattle.b2_vars.specs.Calls.{missing_code}
 use Rattle.b2_atom.specs.Words.{Text}
 use Rattle.b2_atom.specs.Tree.{Trees}
-use Rattle.b2_atom.specs.Tree.Trees.{Done, Put, In}
+use Rattle.b2_atom.specs.Tree.Trees.{Put, In}
 use Rattle.b2_atom.specs.declared.rows.TheConstants as row
 use Rattle.b2_atom.specs.declared.forms.Leaf.{Leaf}
 use Rattle.b2_atom.specs.declared.forms.Leaf.TheVariants as leaf
@@ -17,7 +17,7 @@ use Rattle.b2_rows.specs.Values.{variable_name}
 use Rattle.b2_rows.specs.declared.leaves.Name.{Name}
 use Rattle.b2_expr.specs.Answers.{◌>>=◌, unless}
 use Rattle.b2_expr.specs.Functions.{counted}
-use Rattle.b2_expr.specs.Named.{Place, variable_of, variables_of, number_there, bytes_there}
+use Rattle.b2_expr.specs.Named.{variable_of, variables_of, number_there, bytes_there}
 use Rattle.b2_expr.specs.Scope.{Surroundings, Context}
 use Rattle.b2_expr.specs.Value.{value, second, located, token_text}
 use Rattle.b2_expr.specs.declared.operators.Level.TheVariants as level

@@ -1,8 +1,7 @@
 -- The values of numeric and of alpha expressions, by their trees.
-use Rattle.std.specs.Prelude.{ℕ, zero, suc, ◌+◌, ◌-◌, ◌*◌, ◌==◌, nat_le, Bool, true, false, List, [], ◌∷◌, ◌++◌, length, take, drop, get_or, Option, Some, None, Result, Ok, Err, option_map, if◌then◌else◌}
-use Rattle.std.specs.Option.{option_map_or}
-use Rattle.b2_base.specs.Lexical.{first, hex_value}
-use Rattle.b2_base.specs.declared.codes.TheConstants.{A04_TOO_DEEP, P34_RANGE, P38_NO_DEFFN, S17_NUMERIC, S18_ALPHA}
+use Rattle.std.specs.Prelude.{ℕ, zero, suc, ◌-◌, ◌==◌, Bool, true, false, List, [], ◌∷◌, length, take, drop, Option, Some, None, Result, Ok, Err, option_map, if◌then◌else◌}
+use Rattle.b2_base.specs.Lexical.{first}
+use Rattle.b2_base.specs.declared.codes.TheConstants.{A04_TOO_DEEP, P38_NO_DEFFN, S17_NUMERIC, S18_ALPHA}
 use Rattle.b2_dec.specs.Number.{Number}
 use Rattle.b2_dec.specs.declared.number.Mode.{Mode}
 use Rattle.b2_dectext.specs.NumberText.{number_len, number_value}
@@ -12,7 +11,6 @@ use Rattle.b2_atom.specs.Tokens.{Token}
 use Rattle.b2_atom.specs.Tokens.Token.{Coded, Plain, Lined}
 use Rattle.b2_atom.specs.Tree.{Trees}
 use Rattle.b2_atom.specs.Tree.Trees.{Done, Put, In}
-use Rattle.b2_atom.specs.declared.words.TheConstants as word
 use Rattle.b2_atom.specs.declared.rows.TheConstants as row
 use Rattle.b2_rows.specs.Rows.{tree_at}
 use Rattle.b2_rows.specs.Links.{token_code, first_code}

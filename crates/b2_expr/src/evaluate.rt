@@ -38,9 +38,7 @@ use crate::named::{Element, Located, NameKind, Subscripts, variable_of};
 use crate::operators::{Level, joined, with_sign};
 use crate::scope::{Env, Parameter, Scope, hidden_by, kept_number};
 use b2_alpha::value_len;
-use b2_atom::{
-    Origin, alpha_name_width, literal_width, number_width, numeric_name_width, relation_width,
-};
+use b2_atom::{Origin, literal_width, number_width, numeric_name_width, relation_width};
 use b2_base::Code;
 use b2_base::codes::{A04_TOO_DEEP, P38_NO_DEFFN, S17_NUMERIC, X72_TOO_LONG, X77_NO_PARTITION};
 use b2_base::lexical::{at, dropped, first, front};
@@ -257,15 +255,16 @@ fn call(s: &Scope<'_>, name: u8, argument: Dec) -> Result<Dec, Code>
         return Err(Code::known(A04_TOO_DEEP));
     }
     let named = dropped(unit, 3);
+    let (name, width) = numeric_name(named);
     let inner = Scope {
         env: s.env,
         parameter: Some(Parameter {
-            name: numeric_name(named),
+            name,
             value: argument,
         }),
         room: s.room - 1,
     };
-    let body = dropped(named, numeric_name_width(Origin::Atoms, named) + 2);
+    let body = dropped(named, width + 2);
     match climb(Level::Sum, &inner, body) {
         Ok((number, _)) => Ok(number),
         Err(code) => Err(code),
@@ -525,24 +524,28 @@ fn name_at(kind: NameKind, text: &[u8]) -> (Name, usize)
     ensures width { result.1 ≡ leaf_width Atoms (name_leaf kind) text.now }
 {
     if kind.is_alpha() {
-        (alpha_name(text), alpha_name_width(Origin::Atoms, text))
+        alpha_name(text)
     } else {
-        (numeric_name(text), numeric_name_width(Origin::Atoms, text))
+        numeric_name(text)
     }
 }
 
 /// The value of the parameter, where a numeric variable has its name.
-#[tactic(auto, using(crate::proofs::Names::variable_hidden, crate::proofs::Names::variable_shown, crate::proofs::Names::variable_array, crate::proofs::Names::number_leaf))]
+#[tactic(auto, using(crate::proofs::Names::variable_hidden, crate::proofs::Names::variable_shown, crate::proofs::Names::variable_array, crate::proofs::Names::variable_plain, crate::proofs::Names::number_leaf))]
 fn hidden_at(s: &Scope<'_>, text: &[u8]) -> Option<Dec>
     requires part { is_part row.VARIABLE text.now ≡ true }
     ensures some { IfSome result (λ x. meaning.operand (context s.now) kind_is.Variable (tree_at row.VARIABLE text.now) ≡ Ok x) }
     ensures plain { IfSome result (λ x. (lexical.first (after_name name_kind.Number text.now) == byte.opening) ≡ false) }
     ensures none { result ≡ None → meaning.operand (context s.now) kind_is.Variable (tree_at row.VARIABLE text.now) ≡ element_number (located (context s.now) false (tree_at row.VARIABLE text.now)) }
 {
-    if is_at(b'(', dropped(text, numeric_name_width(Origin::Atoms, text))) {
+    let Some(_) = s.parameter else {
+        return None;
+    };
+    let (name, width) = numeric_name(text);
+    if is_at(b'(', dropped(text, width)) {
         return None;
     }
-    hidden_by(s.parameter, numeric_name(text))
+    hidden_by(s.parameter, name)
 }
 
 /// A numeric variable: the parameter of its name, and else the number that it has.

@@ -21,7 +21,6 @@ use crate::operators::Level;
 use crate::receiver::{AlphaReceiver, Array, Buffer, Portion, Receiver};
 use crate::scope::{Env, Scope};
 use b2_atom::words::STR_OPEN;
-use b2_atom::{Origin, alpha_name_width, numeric_name_width};
 use b2_base::Code;
 use b2_base::lexical::dropped;
 use b2_dec::{Dec, Kind};
@@ -195,8 +194,8 @@ fn array_name_at(kind: Kind, text: &[u8]) -> (Name, usize)
     ensures width { result.1 ≡ leaf_width Atoms (array_leaf kind) text.now }
 {
     match kind {
-        Kind::Number => (numeric_name(text), numeric_name_width(Origin::Atoms, text)),
-        Kind::Alpha => (alpha_name(text), alpha_name_width(Origin::Atoms, text)),
+        Kind::Number => numeric_name(text),
+        Kind::Alpha => alpha_name(text),
     }
 }
 

@@ -30,7 +30,7 @@ fn receiver_at(text: &[u8]) -> Var
     ensures named { is_legal_name result ≡ true }
     ensures number { result.alpha ≡ false }
 {
-    let name = numeric_name(text);
+    let (name, _) = numeric_name(text);
     Var {
         letter: name.letter,
         digit: name.digit,

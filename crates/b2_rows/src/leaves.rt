@@ -2,6 +2,8 @@
 ghost use Rattle.std.specs.Prelude.{◌≡◌, ◌≤◌, ◌<◌, ◌++◌, [], ◌∷◌, true, false, get_or};
 ghost use Rattle.b2_base.specs.Byte as byte;
 ghost use Rattle.b2_base.specs.Lexical as lexical;
+ghost use Rattle.b2_atom.specs.Leaves.{leaf_width};
+ghost use Rattle.b2_atom.specs.declared.words.Origin.TheVariants.{Atoms};
 ghost use Rattle.b2_atom.specs.declared.forms.Leaf.TheVariants as leaf;
 ghost use Rattle.b2_rows.specs.Leaves.{is_leaf, leaf_bytes};
 ghost use Rattle.b2_rows.specs.Values as spec;
@@ -37,7 +39,7 @@ fn digit_in(bytes: &[u8]) -> Option<u8>
 }
 
 /// The name that bytes spell, of which it is known whether it is alpha.
-pub fn variable_name(alpha: bool, bytes: &[u8]) -> Name
+fn variable_name(alpha: bool, bytes: &[u8]) -> Name
     ensures { result ≡ spec.variable_name alpha bytes.now }
 {
     let global = first(bytes) == b'@';
@@ -50,32 +52,38 @@ pub fn variable_name(alpha: bool, bytes: &[u8]) -> Name
     }
 }
 
-/// The name of a number.
-pub fn numeric_name(text: &[u8]) -> Name
+/// The name of a number, and how many bytes it takes.
+pub fn numeric_name(text: &[u8]) -> (Name, usize)
     requires { is_leaf leaf.Name text.now ≡ true }
-    ensures value { result ≡ spec.variable_name false (leaf_bytes leaf.Name text.now) }
-    ensures letter { lexical.is_letter result.letter ≡ true }
+    ensures value { result.0 ≡ spec.variable_name false (leaf_bytes leaf.Name text.now) }
+    ensures letter { lexical.is_letter result.0.letter ≡ true }
+    ensures width { result.1 ≡ leaf_width Atoms leaf.Name text.now }
 {
-    variable_name(false, front(text, numeric_name_width(Origin::Atoms, text)))
+    let width = numeric_name_width(Origin::Atoms, text);
+    (variable_name(false, front(text, width)), width)
 }
 
-/// The name of an alpha variable.
-pub fn alpha_name(text: &[u8]) -> Name
+/// The name of an alpha variable, and how many bytes it takes.
+pub fn alpha_name(text: &[u8]) -> (Name, usize)
     requires { is_leaf leaf.AlphaName text.now ≡ true }
-    ensures value { result ≡ spec.variable_name true (leaf_bytes leaf.AlphaName text.now) }
-    ensures letter { lexical.is_letter result.letter ≡ true }
+    ensures value { result.0 ≡ spec.variable_name true (leaf_bytes leaf.AlphaName text.now) }
+    ensures letter { lexical.is_letter result.0.letter ≡ true }
+    ensures width { result.1 ≡ leaf_width Atoms leaf.AlphaName text.now }
 {
-    variable_name(true, front(text, alpha_name_width(Origin::Atoms, text)))
+    let width = alpha_name_width(Origin::Atoms, text);
+    (variable_name(true, front(text, width)), width)
 }
 
-/// The name of a number without `@`.
-pub fn local_name(text: &[u8]) -> Name
+/// The name of a number without `@`, and how many bytes it takes.
+pub fn local_name(text: &[u8]) -> (Name, usize)
     requires { is_leaf leaf.LocalName text.now ≡ true }
-    ensures value { result ≡ spec.variable_name false (leaf_bytes leaf.LocalName text.now) }
-    ensures letter { lexical.is_letter result.letter ≡ true }
-    ensures local { result.global ≡ false }
+    ensures value { result.0 ≡ spec.variable_name false (leaf_bytes leaf.LocalName text.now) }
+    ensures letter { lexical.is_letter result.0.letter ≡ true }
+    ensures local { result.0.global ≡ false }
+    ensures width { result.1 ≡ leaf_width Atoms leaf.LocalName text.now }
 {
-    variable_name(false, front(text, local_name_width(Origin::Atoms, text)))
+    let width = local_name_width(Origin::Atoms, text);
+    (variable_name(false, front(text, width)), width)
 }
 
 /// The letter or digit that names a function.

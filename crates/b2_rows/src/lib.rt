@@ -31,7 +31,7 @@ pub use chains::{Chain, goes_on, has_sign};
 pub use following::{Goal, after_false, next_unit, past_colon, taken_fault};
 pub use leaves::{
     Name, address_at, alpha_name, function_name, hex_byte_at, hex_digit_at, image_at, line_at,
-    literal_at, local_name, numeric_name, relation_at, slot_at, small_at, variable_name,
+    literal_at, local_name, numeric_name, relation_at, slot_at, small_at,
 };
 pub use operands::{AlphaOperand, Operand, alpha_operand_at, operand_at};
 pub use row_units::{RowUnit, is_read, row_unit, spells_a_line};

@@ -115,9 +115,9 @@ const NAMES: [(Kind, &[u8], u8, u8, bool); 10] = [
 
 fn name_read(kind: Kind, text: &[u8]) -> Option<Name> {
     match kind {
-        Kind::Numeric if numeric_name_width(Origin::Atoms, text) > 0 => Some(numeric_name(text)),
-        Kind::Alpha if alpha_name_width(Origin::Atoms, text) > 0 => Some(alpha_name(text)),
-        Kind::Local if local_name_width(Origin::Atoms, text) > 0 => Some(local_name(text)),
+        Kind::Numeric if numeric_name_width(Origin::Atoms, text) > 0 => Some(numeric_name(text).0),
+        Kind::Alpha if alpha_name_width(Origin::Atoms, text) > 0 => Some(alpha_name(text).0),
+        Kind::Local if local_name_width(Origin::Atoms, text) > 0 => Some(local_name(text).0),
         _ => None,
     }
 }

@@ -1,5 +1,4 @@
-use Rattle.std.proofs.Common.{◌≡◌, ℕ, List, length, take, drop, ap, ◌∙◌}
-use Rattle.b2_expr.specs.Assigning.{portion_in}
+use Rattle.std.proofs.Common.{ℕ, length, take, drop, ap, ◌∙◌}
 use Rattle.b2_expr.proofs.Portions.{portion_found, portion_length}
 use Rattle.b2_expr.proofs.assign.portion.Goals as goal
 

@@ -67,7 +67,7 @@ located-returns-clause-name t c = (
 pub call-climb-requires : goal.call-climb-requires
 call-climb-requires t c = (
   let few = length_after c.in-Some.unit.now c.dropped-named.result.now c.dropped-body.result.now _ c.dropped-named.ensures c.dropped-body.ensures c.in-Some.ensures.short in omega (arith, few, c.decreases, c.if-s-eq0.false),
-  subst (λ (u : Text). is_part row.SUM u ≡ true) (sym (c.dropped-body.ensures ∙ body_is c.in-Some.unit.now c.dropped-named.result.now c.numeric_name_width.result c.dropped-named.ensures c.numeric_name_width.ensures.count))
+  subst (λ (u : Text). is_part row.SUM u ≡ true) (sym (c.dropped-body.ensures ∙ body_is c.in-Some.unit.now c.dropped-named.result.now c.numeric_name-width.result.1 c.dropped-named.ensures c.numeric_name-width.ensures.width))
       (body_part c.args.name c.in-Some.unit.now c.in-Some.ensures.part c.requires.named c.in-Some.ensures.found),
 )
 

@@ -1,7 +1,5 @@
 use Rattle.std.proofs.Common.{◌≡◌, ◌≤◌, ◌+◌, ◌-◌, ◌*◌, true, Ok, length}
 use Rattle.b2_atom.specs.declared.rows.TheConstants as row
-use Rattle.b2_atom.specs.declared.forms.Start.TheVariants as start
-use Rattle.b2_base.specs.Byte as byte
 use Rattle.b2_rows.specs.Rows.{tree_at, after_part, is_list, list_at, after_list}
 use Rattle.b2_rows.specs.Chains.{more_start}
 use Rattle.b2_rows.specs.declared.chains.Chain.TheVariants as chain

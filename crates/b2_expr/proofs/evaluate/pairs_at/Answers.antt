@@ -1,9 +1,8 @@
-use Rattle.std.proofs.Common.{◌≡◌, ◌≤◌, ◌++◌, ◌+◌, ◌∷◌, [], ℕ, List, true, Ok, length, length-append, sym, ap, ◌∙◌, subst, arith}
+use Rattle.std.proofs.Common.{◌≡◌, ◌++◌, ◌∷◌, [], ℕ, List, true, Ok, length, length-append, sym, ap, ◌∙◌, subst, arith}
 use Rattle.b2_atom.specs.Words.{Text}
 use Rattle.b2_atom.specs.declared.rows.TheConstants as row
 use Rattle.b2_atom.specs.declared.forms.Start.TheVariants as start
-use Rattle.b2_rows.specs.Rows.{is_list, list_at, after_list}
-use Rattle.b2_expr.specs.Value.{pair_bytes}
+use Rattle.b2_rows.specs.Rows.{is_list, after_list}
 use Rattle.b2_expr.proofs.Pairs as pairs
 use Rattle.b2_expr.proofs.evaluate.pairs_at.Goals as goal
 

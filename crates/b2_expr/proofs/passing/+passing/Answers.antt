@@ -1,4 +1,4 @@
-use Rattle.std.proofs.Common.{◌≡◌, sym, ◌∙◌, arith, ◌-◌, ◌+◌}
+use Rattle.std.proofs.Common.{sym, ◌∙◌, arith, ◌-◌, ◌+◌}
 use Rattle.b2_expr.proofs.Extremes as further
 use Rattle.b2_expr.proofs.passing.+passing.Goals as goal
 
