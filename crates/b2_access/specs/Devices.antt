@@ -14,11 +14,11 @@ abbrev pub may_use : ℕ → Option ℕ → Bool
 may_use who only = option_map_or (λ (part : ℕ). part == who) only true
 
 -- a device is of a kind and an address, and the partition may use it
-abbrev pub serves : Bool → ℕ → List ℕ → Device → Bool
-serves printer who a d = bytes_eq d.addr a && (same_kind d.printer printer && may_use who d.only)
+abbrev pub meets : Bool → ℕ → List ℕ → Device → Bool
+meets printer who a d = bytes_eq d.addr a && (same_kind d.printer printer && may_use who d.only)
 
 abbrev pub has_device : Bool → ℕ → List ℕ → List Device → Bool
-has_device printer who a devices = list_any (serves printer who a) devices
+has_device printer who a devices = list_any (meets printer who a) devices
 
 abbrev pub is_platter_for : ℕ → List ℕ → List Device → Bool
 is_platter_for who a devices = has_device false who a devices

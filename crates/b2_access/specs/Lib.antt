@@ -2,3 +2,15 @@ pub mod Partition
 pub mod Lending
 pub mod Devices
 pub mod Places
+pub mod Rows
+pub mod Store
+pub mod Touching
+pub mod Sharing
+pub mod Loans
+pub mod Task
+pub mod Serving
+pub mod Causes
+pub mod Objects
+pub mod Contents
+pub mod TaskLocality
+pub mod Locality

@@ -29,8 +29,8 @@ impl Model for DeviceTable {
 }
 
 /// Whether a device is of a kind and an address, and the partition may use it.
-fn serves(device: &Device, printer: bool, who: Part, a: Addr) -> bool
-    ensures { result ≡ spec.serves printer who a device.now }
+fn meets(device: &Device, printer: bool, who: Part, a: Addr) -> bool
+    ensures { result ≡ spec.meets printer who a device.now }
 {
     device.addr == a
         && device.printer == printer
@@ -45,7 +45,7 @@ fn has_device(devices: &[Device], printer: bool, who: Part, a: Addr) -> bool
     ensures { result ≡ spec.has_device printer who a devices.now }
 {
     for device in devices {
-        if serves(device, printer, who, a) {
+        if meets(device, printer, who, a) {
             return true;
         }
     }

@@ -1,0 +1,49 @@
+-- The store that partitions share: a map from objects to contents, kept as a list of rows for each kind of object.
+use Rattle.std.specs.Prelude.{◌≡◌, ℕ, List, [], ◌∷◌, Option, None, ◌⊎◌}
+use Rattle.b2_text.specs.Program.{TextState}
+use Rattle.b2_vars.specs.Tables.{VarsState}
+use Rattle.b2_term.specs.Terminal.{TerminalState}
+use Rattle.b2_access.specs.declared.objects.Object.{Object}
+use Rattle.b2_access.specs.declared.objects.Object.TheVariants as object
+use Rattle.b2_access.specs.Rows.{row_of, with_row}
+
+-- Texts, who stands inside each, in order of entering, `@` variables and terminals. No names, printers, platters and holders of
+-- devices are kept yet.
+pub record StoreState : Type 0 where
+  pub texts : List (ℕ × TextState)
+  pub borrows : List (ℕ × List ℕ)
+  pub globals : List (ℕ × VarsState)
+  pub terminals : List (ℕ × TerminalState)
+
+-- what an object of each kind has
+abbrev pub ContentOf : Object → Type 0
+ContentOf (object.Text p) = TextState
+ContentOf (object.Borrow p) = List ℕ
+ContentOf (object.Globals p) = VarsState
+ContentOf (object.Terminal t) = TerminalState
+ContentOf o = Unit {0}
+
+-- what an object has, None where it isn't listed
+abbrev pub content : StoreState → (o : Object) → Option (ContentOf o)
+content s (object.Text p) = row_of p s.texts
+content s (object.Borrow p) = row_of p s.borrows
+content s (object.Globals p) = row_of p s.globals
+content s (object.Terminal t) = row_of t s.terminals
+content s o = None
+
+-- an object that is listed has another content
+abbrev pub put : (o : Object) → ContentOf o → StoreState → StoreState
+put (object.Text p) c s = record s { texts = with_row p s.texts c }
+put (object.Borrow p) c s = record s { borrows = with_row p s.borrows c }
+put (object.Globals p) c s = record s { globals = with_row p s.globals c }
+put (object.Terminal t) c s = record s { terminals = with_row t s.terminals c }
+put o c s = s
+
+-- an object is one of a list
+abbrev pub IsIn : Object → List Object → Type 0
+IsIn o [] = ⊥
+IsIn o (x ∷ xs) = (o ≡ x) ⊎ IsIn o xs
+
+-- two stores have the same in each object of a list
+abbrev pub AgreeOn : List Object → StoreState → StoreState → Type 0
+AgreeOn os s t = (o : Object) → IsIn o os → content s o ≡ content t o

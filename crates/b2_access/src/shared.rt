@@ -1,0 +1,73 @@
+// The store that all partitions share, of any kind.
+ghost use Rattle.std.specs.Prelude.{◌≡◌, ℕ, Some, IfOk, IsSome};
+ghost use Rattle.std.specs.Borrow.{sem};
+ghost use Rattle.b2_vars.specs.Tables.{VarsState};
+ghost use Rattle.b2_access.specs.declared.lending.At.{At as AtSpec};
+ghost use Rattle.b2_access.specs.Lending.{globals_lent};
+ghost use Rattle.b2_access.specs.Loans.{Loan, LendsFrom, LoansGlobals, globals_at};
+ghost use Rattle.b2_access.specs.Sharing.{ServingOf, IsLocal, KeepsListed};
+ghost use Rattle.b2_access.specs.Store.{StoreState, content};
+ghost use Rattle.b2_access.specs.Touching.{IsLegal};
+
+use crate::accesses::{Access, Answer};
+use crate::lending::{At, Lent};
+use crate::objects::Object;
+use b2_base::{NoMemory, Part};
+
+/// A store that partitions share. It means what its implementation says, which has a store in it, and it has its own way of
+/// serving: what that answers and writes depends on what the access touches alone.
+pub trait Shared {
+    /// The type of what it means.
+    ghost Meaning: { Type 0 };
+
+    /// What it means.
+    ghost meaning: { Self → Meaning };
+
+    /// The store in what it means.
+    ghost store: { Meaning → StoreState };
+
+    /// Its way of serving.
+    ghost serving: { ServingOf Meaning };
+
+    /// What it means after a loan.
+    ghost lending: { Loan Meaning };
+
+    /// What it is after a loan.
+    ghost after_loan: { ℕ → ℕ → AtSpec → Self → VarsState → Self };
+
+    /// The type of what it holds on to.
+    ghost Holds: { Type 0 };
+
+    /// The references that it holds on to: by them whoever made it of references learns what these refer to in the end.
+    ghost holds: { Self → Holds };
+
+    /// Lends a partition its own text and that of its home, to be read, and `@` variables, to be read and written.
+    fn lend(&mut self, who: Part, home: Part, at: &At) -> Lent<'_>
+        requires own { IsSome (content (store (meaning self.old)) (Object.Text who)) }
+        requires home { IsSome (content (store (meaning self.old)) (Object.Text home)) }
+        ensures* writes_back { sem 𝓛 (LendsFrom Self.row (after_loan who home at.now) self.entry result) }
+        ensures own { Some result.own.now ≡ content (store (meaning self.old)) (Object.Text who) }
+        ensures home { Some result.home.now ≡ content (store (meaning self.old)) (Object.Text home) }
+        ensures globals { globals_lent result ≡ globals_at home at.now (store (meaning self.old)) };
+
+    /// Serves an access of a partition.
+    fn serve(&mut self, who: Part, access: &Access) -> Result<Answer, NoMemory>
+        requires legal { IsLegal access.now }
+        ensures same { holds self.new ≡ holds self.old }
+        ensures served { IfOk result (λ a. record { after = meaning self.new; answer = a } ≡ serving (meaning self.old) who access.now) };
+
+    /// What an access is answered and writes depends on what it touches alone, and all else stays.
+    ghost local: { IsLocal store serving };
+
+    /// What is listed stays so.
+    ghost keeps_listed: { KeepsListed store serving };
+
+    /// What it means after a loan is by its way of lending.
+    ghost loans: { (who home : ℕ) (at : AtSpec) (s : Self) (w : VarsState) → meaning (after_loan who home at s w) ≡ lending who home at (meaning s) w };
+
+    /// A loan leaves what it holds on to.
+    ghost loan_holds: { (who home : ℕ) (at : AtSpec) (s : Self) (w : VarsState) → holds (after_loan who home at s w) ≡ holds s };
+
+    /// A loan changes the `@` variables that were asked for, and nothing else.
+    ghost lends_globals: { LoansGlobals store lending };
+}

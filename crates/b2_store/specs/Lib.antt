@@ -1,0 +1,5 @@
+pub mod RowLending
+pub mod Meaning
+pub mod Start
+pub mod Changes
+pub mod Refusals

@@ -1,0 +1,33 @@
+-- A store as it starts: empty texts, nobody inside, no `@` variables, and idle terminals.
+use Rattle.std.specs.Prelude.{ℕ, List, [], map}
+use Rattle.b2_text.specs.Program.{TextState}
+use Rattle.b2_vars.specs.Tables.{VarsState}
+use Rattle.b2_term.specs.Terminal.{TerminalState}
+use Rattle.b2_access.specs.Partition.{no_variables}
+use Rattle.b2_access.specs.Store.{StoreState}
+use Rattle.b2_store.specs.declared.boot.StoreBoot.{StoreBoot}
+
+-- a partition, the area of its text, and that of its `@` variables
+abbrev pub Areas : Type 0
+Areas = ℕ × ℕ × ℕ
+
+abbrev pub text_row : Areas → ℕ × TextState
+text_row p = (p.0, record { area = p.1; lines = [] })
+
+abbrev pub borrow_row : Areas → ℕ × List ℕ
+borrow_row p = (p.0, [])
+
+abbrev pub globals_row : Areas → ℕ × VarsState
+globals_row p = (p.0, no_variables p.2)
+
+-- a terminal, and the partition in front of it
+abbrev pub terminal_row : ℕ × ℕ → ℕ × TerminalState
+terminal_row t = (t.0, record { queue = []; front = t.1; line = []; transcript = [] })
+
+abbrev pub store_at_start : StoreBoot → StoreState
+store_at_start b = record {
+  texts = map text_row b.partitions.items;
+  borrows = map borrow_row b.partitions.items;
+  globals = map globals_row b.partitions.items;
+  terminals = map terminal_row b.terminals.items;
+}

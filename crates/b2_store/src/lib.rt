@@ -1,0 +1,19 @@
+//! The store that all partitions share: program texts, `@` variables and terminals.
+//!
+//! `Stores` is a store as definitions see it, kept as rows by the numbers of partitions and terminals, and serves the accesses
+//! of partitions as `b2_access` defines it. It lends texts by reference. Until names of global texts come no `@` variables are
+//! found, and nobody stands inside the text of another.
+//!
+//! Stands on `b2_access` for what a store, its serving and its loans are, on `b2_text`, `b2_vars` and `b2_term` for what
+//! objects have, on `b2_atom` for lines and on `b2_base`. The definitions are in `specs/`: the store that `Stores` means in
+//! `Meaning`, how it starts in `Start`, and what keys and fronts change in `Changes`.
+#![tactic(auto)]
+
+mod boot;
+mod part_list;
+mod rows;
+mod start;
+mod stores;
+
+pub use boot::StoreBoot;
+pub use stores::Stores;
