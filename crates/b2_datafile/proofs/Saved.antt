@@ -1,29 +1,39 @@
 -- A record is saved at its place.
-use Rattle.std.proofs.Common.{◌≡◌, ℕ, ◌+◌, ◌*◌, ◌≤◌, refl, List, [], ◌∷◌, ◌++◌, length, sym, subst, ap, ap₂, ◌∙◌, ◌-◌, arith, inl, inr}
+use Rattle.std.proofs.Common.{◌≡◌, ℕ, ◌+◌, ◌*◌, ◌≤◌, refl, List, [], ◌∷◌, ◌++◌, length, sym, subst, ap, ap₂, ◌∙◌, ◌-◌, Some, arith, inl, inr}
 use Rattle.b2_dec.specs.declared.values.Value.{Value}
 use Rattle.b2_platter.specs.declared.layout.Layout.TheVariants.{Narrow}
-use Rattle.b2_platter.specs.Edits.{put_sector}
+use Rattle.b2_platter.specs.Edits.{put_sector, put_from}
 use Rattle.b2_catalog.specs.declared.entry.Entry.{Entry}
-use Rattle.b2_record.specs.Records.{Spells, sectors_at}
+use Rattle.b2_record.specs.Records.{Spells}
 use Rattle.b2_record.specs.Writing.{record_of}
-use Rattle.b2_datafile.specs.Files.{Fills, IsFront, IsWhole, put_from}
-use Rattle.b2_datafile.specs.Laws.{SavesAt, EndsAt, with_end}
-use Rattle.b2_catalog.proofs.DataSectors.{InImage, in-image, sector-put, sector-kept}
+use Rattle.b2_datafile.specs.Files.{Fills, IsFront, IsWhole, with_end}
+use Rattle.b2_datafile.specs.Laws.{SavesAt, EndsAt}
+use Rattle.b2_platter.proofs.DataSectors.{good-kept, sector-kept, sector-put}
+use Rattle.b2_catalog.proofs.DataSectors.{InImage, catalogue-from, catalogue-kept, in-image}
+use Rattle.b2_catalog.proofs.Using.{used-good, used-files}
 use Rattle.b2_datafile.specs.Files.{end_mark}
 use Rattle.b2_platter.specs.Checks.{Good}
-use Rattle.b2_platter.specs.Image.{sector}
+use Rattle.b2_platter.specs.Image.{sector, sectors_at}
 use Rattle.b2_platter.proofs.Goodness.{sectors_of_good}
 use Rattle.b2_platter.proofs.Puts.{sector_before, sector_after, length-put_sector}
+use Rattle.b2_catalog.specs.Catalogue.{Catalogue, catalogue}
 use Rattle.b2_catalog.specs.Changes.{control_sector}
+use Rattle.std.specs.FinMap.{get, insert}
 use Rattle.b2_catalog.proofs.Spelled.{control_long}
-use Rattle.b2_datafile.proofs.Fronts.{PutFrom, put-all, long-record, fills-same, fills-more, fills-le}
+use Rattle.b2_platter.proofs.SectorRuns.{PutFrom, put-from}
+use Rattle.b2_datafile.proofs.Fronts.{long-record, fills-same, fills-more, fills-le}
 use Rattle.b2_datafile.proofs.Passing.{some-groups}
 use Rattle.b2_record.proofs.Unique.{record-length, length-unique, values-unique}
 use Rattle.std.proofs.lemmas.Bool.{cases_order}
 
 pub saved : (image : List ℕ) (e : Entry) (pos : ℕ) (values : List Value) → SavesAt image e pos values → PutFrom image (put_from image pos (record_of values)) pos (record_of values)
 saved image e pos values s =
-    put-all image pos (record_of values) s.good (long-record values (record_of values) s.record_is)
+    put-from image pos (record_of values) s.good (long-record values (record_of values) s.record_is)
+    (λ n low high. (in-image image e.name e s.good s.file).own n (omega (arith, low, s.low)) (omega (arith, high, s.high)))
+
+pub saved-files : (image : List ℕ) (e : Entry) (pos : ℕ) (values : List Value) → SavesAt image e pos values → catalogue (put_from image pos (record_of values)) ≡ catalogue image
+saved-files image e pos values s =
+    catalogue-from image pos (record_of values) s.good (long-record values (record_of values) s.record_is)
     (λ n low high. (in-image image e.name e s.good s.file).own n (omega (arith, low, s.low)) (omega (arith, high, s.high)))
 
 pub saved-front : (image : List ℕ) (e : Entry) (pos : ℕ) (values : List Value) (records : List (List Value)) → SavesAt image e pos values → IsFront image e pos records
@@ -85,6 +95,25 @@ with_end-whole image e pos records s f =
       front = subst (λ (p : ℕ). Fills (with_end image e pos) e.start p records) (sym place) same;
       mark = ap (sector (with_end image e pos)) place ∙ with_end-mark image e pos s;
     }
+
+-- the end mark alone: the image is good, and the file is there still
+marked-good : (image : List ℕ) (e : Entry) (pos : ℕ) → EndsAt image e pos → Good Narrow (put_sector image pos end_mark)
+marked-good image e pos s = good-kept image s.good pos ((inside-of image e pos s).own pos s.low s.high) end_mark refl
+
+marked-files : (image : List ℕ) (e : Entry) (pos : ℕ) → EndsAt image e pos → catalogue (put_sector image pos end_mark) ≡ catalogue image
+marked-files image e pos s = catalogue-kept image s.good pos ((inside-of image e pos s).own pos s.low s.high) end_mark refl
+
+marked-there : (image : List ℕ) (e : Entry) (pos : ℕ) → EndsAt image e pos → get (catalogue (put_sector image pos end_mark)) e.name ≡ Some e
+marked-there image e pos s = ap (λ (files : Catalogue). get files e.name) (marked-files image e pos s) ∙ s.file
+
+pub with_end-good : (image : List ℕ) (e : Entry) (pos : ℕ) → EndsAt image e pos → Good Narrow (with_end image e pos)
+with_end-good image e pos s =
+    used-good (put_sector image pos end_mark) e (marked-good image e pos s) (marked-there image e pos s) (pos - e.start + 1) (omega arith) (omega (arith, s.low, s.high))
+
+pub with_end-files : (image : List ℕ) (e : Entry) (pos : ℕ) → EndsAt image e pos → catalogue (with_end image e pos) ≡ insert (catalogue image) e.name (record e { used = pos - e.start + 1 })
+with_end-files image e pos s =
+    used-files (put_sector image pos end_mark) e (marked-good image e pos s) (marked-there image e pos s) (pos - e.start + 1) (omega arith) (omega (arith, s.low, s.high))
+    ∙ ap (λ (files : Catalogue). insert files e.name (record e { used = pos - e.start + 1 })) (marked-files image e pos s)
 
 -- ---- one list of records
 

@@ -68,7 +68,12 @@ pub(crate) fn file_of(p: &Platter, s: &Slot) -> Option<Entry>
 }
 
 /// Makes a new file of some sectors, or takes a scratched file's sectors again.
-fn make(p: &mut Platter, old: Option<Name8>, sectors: u32, name: Name8) -> Result<Entry, Code>
+fn make_data_file(
+    p: &mut Platter,
+    old: Option<Name8>,
+    sectors: u32,
+    name: Name8,
+) -> Result<Entry, Code>
     requires { old ≡ None → 2 ≤ sectors }
     ensures err { IfErr result (λ code. (new_refusal p.old old sectors name ≡ Some code) × (p.new ≡ p.old)) }
     ensures ok { OnOk result (new_refusal p.old old sectors name ≡ None) }
@@ -98,7 +103,7 @@ pub fn open_new(
     ensures file { IfOk result (λ slot. IfSome (get (catalogue p.new) name) (λ e. slot ≡ opened addr e)) }
     ensures whole { OnOk result (IfSome (get (catalogue p.new) name) (λ e. IsWhole p.new e [])) }
 {
-    let e = match make(p, old, sectors, name) {
+    let e = match make_data_file(p, old, sectors, name) {
         Ok(e) => e,
         Err(code) => return Err(code),
     };

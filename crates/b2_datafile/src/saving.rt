@@ -3,12 +3,11 @@ ghost use Rattle.std.specs.Prelude.{◌≡◌, ◌+◌, ◌-◌, ◌^◌, ◌<�
 ghost use Rattle.std.specs.FinMap.{insert};
 ghost use Rattle.std.specs.List.{list_all};
 ghost use Rattle.b2_platter.specs.declared.layout.Layout.TheVariants.{Narrow};
-ghost use Rattle.b2_platter.specs.Edits.{put_sector, is_data_sector};
+ghost use Rattle.b2_platter.specs.Edits.{is_data_sector, put_from};
 ghost use Rattle.b2_catalog.specs.Catalogue.{catalogue};
-ghost use Rattle.b2_catalog.specs.Changes.{control_sector};
 ghost use Rattle.b2_record.specs.Items.{is_short};
 ghost use Rattle.b2_record.specs.Writing.{record_of};
-ghost use Rattle.b2_datafile.specs.Files.{end_mark, put_from};
+ghost use Rattle.b2_datafile.specs.Files.{with_end};
 ghost use Rattle.b2_datafile.specs.Slots.{file_of, write_refusal};
 
 use crate::marks;
@@ -64,8 +63,8 @@ pub fn save(p: &mut Platter, s: &Slot, values: &[Value]) -> Result<u32, Code>
 pub fn end(p: &mut Platter, s: &Slot) -> Result<u32, Code>
     requires { s.now.start ≤ s.now.pos }
     ensures ok { IfOk result (λ pos. (write_refusal (file_of p.old s.now) s.now.pos 1 ≡ None) × (pos ≡ s.now.pos)) }
-    ensures image { OnOk result (IfSome (file_of p.old s.now) (λ e. p.new ≡ put_sector (put_sector p.old s.now.pos end_mark) e.end (control_sector (s.now.pos - s.now.start + 1)))) }
-    ensures files { OnOk result (IfSome (file_of p.old s.now) (λ e. catalogue p.new ≡ insert (catalogue p.old) e.name (record e { used = s.now.pos - s.now.start + 1 }))) }
+    ensures image { OnOk result (IfSome (file_of p.old s.now) (λ e. p.new ≡ with_end p.old e s.now.pos)) }
+    ensures files { OnOk result (IfSome (file_of p.old s.now) (λ e. catalogue p.new ≡ insert (catalogue p.old) e.name (record e { used = s.now.pos - e.start + 1 }))) }
     ensures err { IfErr result (λ code. (write_refusal (file_of p.old s.now) s.now.pos 1 ≡ Some code) × (p.new ≡ p.old)) }
 {
     let Some(e) = file_of(p, s) else {
@@ -75,6 +74,6 @@ pub fn end(p: &mut Platter, s: &Slot) -> Result<u32, Code>
         return Err(Code::known(D81_FILE_FULL));
     }
     p.put_file(s.pos, &marks::end_mark());
-    set_used(p, e, s.pos - s.start + 1);
+    set_used(p, e, s.pos - e.start + 1);
     Ok(s.pos)
 }

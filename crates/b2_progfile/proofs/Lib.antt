@@ -1,5 +1,4 @@
 pub mod Numbers
-pub mod Puts
 pub mod Pieces
 pub mod Making
 pub mod Filling

@@ -1,5 +1,5 @@
 -- What stays where a file is made: the index's length, and the sectors of other files.
-use Rattle.std.proofs.Common.{◌≡◌, ℕ, ◌+◌, ◌-◌, ◌<◌, ◌≤◌, ◌⊎◌, ◌&&◌, Bool, true, false, not, cond, List, length, Option, Some, None, Result, Ok, Err, IfOk, IfSome, OnOk, refl, sym, ap, subst, ◌∙◌, inl, inr, arith}
+use Rattle.std.proofs.Common.{◌≡◌, ℕ, ◌+◌, ◌-◌, ◌≤◌, ◌&&◌, Bool, true, false, not, cond, List, length, Option, Some, None, Result, Ok, Err, IfOk, IfSome, OnOk, refl, sym, ap, subst, ◌∙◌, inl, inr, arith}
 use Rattle.std.specs.Prelude.{is_some, is_none}
 use Rattle.std.specs.Str.{bytes_eq}
 use Rattle.std.specs.FinMap.{get}
@@ -15,12 +15,11 @@ use Rattle.b2_catalog.specs.Changes.{entered, reused}
 use Rattle.b2_catalog.specs.Calls.{enter_refusal, new_entry, old_refusal, reuse_refusal, reused_place}
 use Rattle.b2_catalog.proofs.Entering.{entered_after, entered_head, entered_sectors}
 use Rattle.b2_catalog.proofs.Looking.{IsSlotOf-from}
-use Rattle.b2_catalog.proofs.Mapping.{get-catalogue}
 use Rattle.b2_catalog.proofs.Placing.{Placed-from}
 use Rattle.b2_catalog.proofs.Refusals.{present}
 use Rattle.b2_catalog.proofs.Reusing.{Ready-from, reused_index, reused_sectors}
 use Rattle.b2_progfile.specs.Saving.{KeepsOthers}
-use Rattle.b2_progfile.proofs.Copying.{Enters, enters, none-or, refused-by}
+use Rattle.b2_progfile.proofs.Copying.{enters, none-or, refused-by}
 
 -- the index is as long as it was, and the sectors of other files are as before
 pub record Stays (image new : List ℕ) (e : Entry) : Type 0 where

@@ -4,14 +4,14 @@ ghost use Rattle.std.specs.Str.{bytes_eq};
 ghost use Rattle.std.specs.FinMap.{get, insert, remove};
 ghost use Rattle.b2_base.specs.declared.codes.TheConstants.{D86_NO_ROOM};
 ghost use Rattle.b2_platter.specs.declared.layout.Layout.TheVariants.{Narrow};
-ghost use Rattle.b2_platter.specs.Image.{index_of};
+ghost use Rattle.b2_platter.specs.Image.{index_of, sectors_at};
 ghost use Rattle.b2_platter.specs.Checks.{Good};
-ghost use Rattle.b2_platter.specs.Edits.{is_data_sector};
+ghost use Rattle.b2_platter.specs.Edits.{is_data_sector, put_from};
 ghost use Rattle.b2_catalog.specs.Catalogue.{catalogue};
 ghost use Rattle.b2_catalog.specs.Calls.{reuse_refusal};
 ghost use Rattle.b2_catalog.specs.Ways.{place};
-ghost use Rattle.b2_progfile.specs.Programs.{IsProgramFile, sectors_at};
-ghost use Rattle.b2_progfile.specs.Saving.{KeepsOthers, Made, SaveFails, Saved, files_without, filled, lines_within, or_then, pieces_count, pieces_of, program_sectors, put_all, save_refusal, size_refusal};
+ghost use Rattle.b2_progfile.specs.Programs.{IsProgramFile};
+ghost use Rattle.b2_progfile.specs.Saving.{KeepsOthers, Made, SaveFails, Saved, files_without, file_filled, lines_within, or_then, pieces_count, pieces_of, program_sectors, save_refusal, size_refusal};
 
 use crate::spelling::{piece_at, pieces_count, program_of};
 use b2_base::codes::{
@@ -134,7 +134,12 @@ fn enter_new(p: &mut Platter, name: Name8, count: u32) -> Result<Entry, Code>
 }
 
 /// Makes a file for some sectors: a new one, or a scratched one that is taken again.
-fn make(p: &mut Platter, old: Option<Name8>, name: Name8, count: u32) -> Result<Entry, Code>
+fn make_program_file(
+    p: &mut Platter,
+    old: Option<Name8>,
+    name: Name8,
+    count: u32,
+) -> Result<Entry, Code>
     requires some { 1 ≤ count }
     requires few { count ≤ 16777216 }
     ensures err { IfErr result (λ code. (save_refusal p.old old name count ≡ Some code) × (p.new ≡ p.old)) }
@@ -161,7 +166,7 @@ fn put_pieces(p: &mut Platter, at: u32, bytes: &[u8], count: u32)
     requires ends { at + count < 2 ^ 32 }
     requires good { Good Narrow p.old }
     requires sectors { (n : ℕ) → at ≤ n → n < at + count → is_data_sector Narrow p.old n ≡ true }
-    ensures { p.new ≡ put_all p.old at (pieces_of bytes.now) }
+    ensures { p.new ≡ put_from p.old at (pieces_of bytes.now) }
 {
     for k in 0..count {
         p.put_file(at + k, &piece_at(bytes, k as usize));
@@ -169,13 +174,13 @@ fn put_pieces(p: &mut Platter, at: u32, bytes: &[u8], count: u32)
 }
 
 /// Fills a file with the sectors that hold some bytes, and says how many they are.
-fn fill(p: &mut Platter, e: Entry, bytes: &[u8], count: u32)
+fn fill_program_file(p: &mut Platter, e: Entry, bytes: &[u8], count: u32)
     requires file { get (catalogue p.old) e.name ≡ Some e }
     requires live { e.live ≡ true }
     requires count { count ≡ pieces_count bytes.now }
     requires some { 1 ≤ count }
     requires room { e.start + count ≤ e.end }
-    ensures image { p.new ≡ filled p.old e.start e.end (pieces_of bytes.now) }
+    ensures image { p.new ≡ file_filled p.old e.start e.end (pieces_of bytes.now) }
     ensures files { catalogue p.new ≡ insert (catalogue p.old) e.name (record e { used = count }) }
     ensures there { sectors_at p.new e.start count ≡ pieces_of bytes.now }
     ensures others { KeepsOthers p.old p.new e }
@@ -211,9 +216,9 @@ pub fn save(
         return Err(Fault::NoMemory);
     }
     let count = pieces_count(&bytes);
-    match make(p, old, name, count) {
+    match make_program_file(p, old, name, count) {
         Ok(e) => {
-            fill(p, e, &bytes, count);
+            fill_program_file(p, e, &bytes, count);
             Ok(())
         }
         Err(code) => Err(Fault::Code(code)),

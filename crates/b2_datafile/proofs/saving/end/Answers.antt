@@ -16,4 +16,4 @@ pub returns-clause-files : goal.returns-clause-files
 returns-clause-files c =
     let own = (in-image c.args.p.now c.in-Some.e.name c.in-Some.e c.file_of.ensures.good c.in-Some.ensures.named).own c.args.s.now.pos (omega (arith, c.in-Some.ensures.start, c.requires)) (omega (arith, c.if-s-e.false)) in
     let kept = ap catalogue c.put_file.ensures ∙ catalogue-kept c.args.p.now c.file_of.ensures.good c.args.s.now.pos own c.end_mark.result (ap length c.end_mark.ensures) in
-    rw (sym c.in-Some.ensures.entry) (c.set_used.ensures.catalogue ∙ ap (λ (files : Catalogue). insert files c.in-Some.e.name (record c.in-Some.e { used = c.args.s.now.pos - c.args.s.now.start + 1 })) kept)
+    rw (sym c.in-Some.ensures.entry) (c.set_used.ensures.catalogue ∙ ap (λ (files : Catalogue). insert files c.in-Some.e.name (record c.in-Some.e { used = c.args.s.now.pos - c.in-Some.e.start + 1 })) kept)

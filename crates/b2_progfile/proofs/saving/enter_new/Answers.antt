@@ -1,4 +1,4 @@
-use Rattle.std.proofs.Common.{rules, ◌≡◌, ◌+◌, ◌≤◌, true, length, sym, ap, ◌∙◌, arith}
+use Rattle.std.proofs.Common.{rules, ◌≡◌, ◌+◌, ◌≤◌, length, sym, ap, ◌∙◌, arith}
 use Rattle.b2_base.specs.Names.{is_name8}
 use Rattle.b2_catalog.specs.Catalogue.{catalogue}
 use Rattle.b2_progfile.proofs.Making.{file-there}

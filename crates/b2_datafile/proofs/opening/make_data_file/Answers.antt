@@ -3,7 +3,7 @@ use Rattle.std.specs.FinMap.{get, insert, remove}
 use Rattle.b2_catalog.specs.declared.entry.Entry.{Entry}
 use Rattle.b2_catalog.specs.Catalogue.{Catalogue, catalogue}
 use Rattle.b2_catalog.proofs.DataSectors.{get-put}
-use Rattle.b2_datafile.proofs.opening.make.Goals as goal
+use Rattle.b2_datafile.proofs.opening.make_data_file.Goals as goal
 
 there : (files new : Catalogue) (name : List ℕ) (r : Result Entry ℕ) → IfOk r (λ e. new ≡ insert files name e) → IfOk r (λ e. e.name ≡ name) → IfOk r (λ e. get new e.name ≡ Some e)
 there files new name (Ok e) made named = ap (get new) named ∙ (ap (λ m. get m name) made ∙ get-put files name e)
