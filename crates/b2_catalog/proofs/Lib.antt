@@ -15,3 +15,4 @@ pub mod Reusing
 pub mod Formats
 pub mod DataSectors
 pub mod Using
+pub mod MadeFiles

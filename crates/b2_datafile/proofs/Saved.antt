@@ -1,5 +1,5 @@
 -- A record is saved at its place.
-use Rattle.std.proofs.Common.{◌≡◌, ℕ, ◌+◌, ◌*◌, ◌≤◌, refl, List, [], ◌∷◌, ◌++◌, length, sym, subst, ap, ap₂, ◌∙◌, ◌-◌, Some, arith, inl, inr}
+use Rattle.std.proofs.Common.{◌≡◌, ℕ, ◌+◌, ◌*◌, ◌<◌, ◌≤◌, ◌⊎◌, refl, List, [], ◌∷◌, ◌++◌, length, sym, subst, ap, ap₂, ◌∙◌, ◌-◌, Some, arith, inl, inr}
 use Rattle.b2_dec.specs.declared.values.Value.{Value}
 use Rattle.b2_platter.specs.declared.layout.Layout.TheVariants.{Narrow}
 use Rattle.b2_platter.specs.Edits.{put_sector, put_from}
@@ -9,7 +9,7 @@ use Rattle.b2_record.specs.Writing.{record_of}
 use Rattle.b2_datafile.specs.Files.{Fills, IsFront, IsWhole, with_end}
 use Rattle.b2_datafile.specs.Laws.{SavesAt, EndsAt}
 use Rattle.b2_platter.proofs.DataSectors.{good-kept, sector-kept, sector-put}
-use Rattle.b2_catalog.proofs.DataSectors.{InImage, catalogue-from, catalogue-kept, in-image}
+use Rattle.b2_catalog.proofs.DataSectors.{InImage, catalogue-from, catalogue-kept, get-put, in-image}
 use Rattle.b2_catalog.proofs.Using.{used-good, used-files}
 use Rattle.b2_datafile.specs.Files.{end_mark}
 use Rattle.b2_platter.specs.Checks.{Good}
@@ -43,16 +43,6 @@ saved-front image e pos values records s f =
     fills-more (put_from image pos (record_of values)) e.start pos (length (record_of values)) records values
     (fills-same image (put_from image pos (record_of values)) e.start pos records (λ k low high. p.before k high) f)
     (subst (Spells values) (sym p.there) s.record_is)
-
--- a file that was made has the end mark in its first sector
-pub made-mark : (image : List ℕ) (e : Entry) → Good Narrow image → InImage image e → sector (put_sector (put_sector image e.start end_mark) e.end (control_sector 1)) e.start ≡ end_mark
-made-mark image e good inside =
-    let whole = sectors_of_good Narrow image good in
-    let room : 256 * e.start + 256 ≤ length image = omega (arith, inside.within, inside.order, whole) in
-    let own = inside.own e.start (omega arith) inside.order in
-    let same = length-put_sector image e.start end_mark refl room in
-    sector_before (put_sector image e.start end_mark) e.end (control_sector 1) (control_long 1) (omega (arith, same, whole, inside.within)) e.start inside.order
-    ∙ sector-put image good e.start own end_mark refl
 
 -- ---- the end
 
@@ -114,6 +104,35 @@ pub with_end-files : (image : List ℕ) (e : Entry) (pos : ℕ) → EndsAt image
 with_end-files image e pos s =
     used-files (put_sector image pos end_mark) e (marked-good image e pos s) (marked-there image e pos s) (pos - e.start + 1) (omega arith) (omega (arith, s.low, s.high))
     ∙ ap (λ (files : Catalogue). insert files e.name (record e { used = pos - e.start + 1 })) (marked-files image e pos s)
+
+-- ---- a file with no records: its end mark is in its first sector
+
+new-ends : (image : List ℕ) (e : Entry) → Good Narrow image → get (catalogue image) e.name ≡ Some e → EndsAt image e e.start
+new-ends image e good file = record { good = good; file = file; low = omega arith; high = (in-image image e.name e good file).order }
+
+one-used : (start : ℕ) → start - start + 1 ≡ 1
+one-used start = omega arith
+
+pub new-whole : (image : List ℕ) (e : Entry) → Good Narrow image → get (catalogue image) e.name ≡ Some e → IsWhole (with_end image e e.start) (record e { used = 1 }) []
+new-whole image e good file =
+    subst (λ (n : ℕ). IsWhole (with_end image e e.start) (record e { used = n }) []) (one-used e.start) (with_end-whole image e e.start [] (new-ends image e good file) refl)
+
+pub new-files : (image : List ℕ) (e : Entry) → Good Narrow image → get (catalogue image) e.name ≡ Some e → catalogue (with_end image e e.start) ≡ insert (catalogue image) e.name (record e { used = 1 })
+new-files image e good file =
+    with_end-files image e e.start (new-ends image e good file) ∙ ap (λ (n : ℕ). insert (catalogue image) e.name (record e { used = n })) (one-used e.start)
+
+pub new-there : (image name : List ℕ) (e : Entry) → Good Narrow image → get (catalogue image) e.name ≡ Some e → e.name ≡ name → get (catalogue (with_end image e e.start)) name ≡ Some (record e { used = 1 })
+new-there image name e good file named =
+    ap (λ (m : Catalogue). get m name) (new-files image e good file)
+    ∙ (ap (get (insert (catalogue image) e.name (record e { used = 1 }))) (sym named) ∙ get-put (catalogue image) e.name (record e { used = 1 }))
+
+pub new-others : (image : List ℕ) (e : Entry) → Good Narrow image → get (catalogue image) e.name ≡ Some e → (n : ℕ) → (n < e.start) ⊎ (e.end < n) → sector (with_end image e e.start) n ≡ sector image n
+new-others image e good file n out =
+    let order = (in-image image e.name e good file).order in
+    elim out as (λ _. sector (with_end image e e.start) n ≡ sector image n) [
+      | inl before ↦ with_end-other image e e.start n (new-ends image e good file) (λ same. omega (arith, before, same)) (λ same. omega (arith, before, same, order))
+      | inr after ↦ with_end-other image e e.start n (new-ends image e good file) (λ same. omega (arith, after, same, order)) (λ same. omega (arith, after, same))
+    ]
 
 -- ---- one list of records
 

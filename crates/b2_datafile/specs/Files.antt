@@ -1,11 +1,12 @@
 -- A data file: records one after the other, and an end mark.
-use Rattle.std.specs.Prelude.{◌≡◌, ℕ, ◌+◌, ◌-◌, true, ◌==◌, ◌||◌, nat_le, List, [], ◌∷◌, replicate}
+use Rattle.std.specs.Prelude.{◌≡◌, ℕ, ◌+◌, ◌-◌, true, ◌==◌, ◌||◌, nat_le, false, List, [], ◌∷◌, replicate, Option}
 use Rattle.b2_base.specs.Lexical.{first}
 use Rattle.b2_dec.specs.declared.values.Value.{Value}
 use Rattle.b2_platter.specs.Image.{sector, sectors_at}
 use Rattle.b2_platter.specs.Edits.{put_sector}
 use Rattle.b2_catalog.specs.declared.entry.Entry.{Entry}
 use Rattle.b2_catalog.specs.Changes.{control_sector}
+use Rattle.b2_catalog.specs.Making.{Made}
 use Rattle.b2_record.specs.Records.{Spells}
 use Rattle.b2_datafile.specs.declared.marks.TheConstants.{END_MARK}
 
@@ -34,3 +35,10 @@ IsEndOfRecords image e pos = (nat_le e.end pos || (first (sector image pos) == E
 -- the end mark at a place, and the control sector that says so
 abbrev pub with_end : List ℕ → Entry → ℕ → List ℕ
 with_end image e pos = put_sector (put_sector image pos end_mark) e.end (control_sector (pos - e.start + 1))
+
+-- a data file that is made, with the end mark in its first sector
+pub record MadeEmpty (image : List ℕ) (old : Option (List ℕ)) (name : List ℕ) (sectors : ℕ) (new : List ℕ) : Type 0 where
+  pub e : Entry
+  pub between : List ℕ
+  pub made : Made image old name false sectors between e
+  pub same : new ≡ with_end between e e.start

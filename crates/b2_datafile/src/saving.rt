@@ -1,6 +1,6 @@
 // Records and end marks are written.
 ghost use Rattle.std.specs.Prelude.{◌≡◌, ◌+◌, ◌-◌, ◌^◌, ◌<◌, ◌≤◌, ℕ, [], ◌∷◌, true, Some, None, IfSome, IfOk, IfErr, OnOk, length};
-ghost use Rattle.std.specs.FinMap.{insert};
+ghost use Rattle.std.specs.FinMap.{get, insert};
 ghost use Rattle.std.specs.List.{list_all};
 ghost use Rattle.b2_platter.specs.declared.layout.Layout.TheVariants.{Narrow};
 ghost use Rattle.b2_platter.specs.Edits.{is_data_sector, put_from};
@@ -14,7 +14,7 @@ use crate::marks;
 use crate::opening::file_of;
 use b2_base::codes::{D80_NOT_OPEN, D81_FILE_FULL};
 use b2_base::{Code, Slot};
-use b2_catalog::set_used;
+use b2_catalog::{Entry, set_used};
 use b2_dec::Value;
 use b2_platter::Platter;
 use b2_record::{put, sectors_of};
@@ -58,6 +58,20 @@ pub fn save(p: &mut Platter, s: &Slot, values: &[Value]) -> Result<u32, Code>
     Ok(s.pos + count)
 }
 
+/// Writes the end mark at a place of a file and says that the sectors up to it are used.
+pub(crate) fn put_end(p: &mut Platter, e: Entry, pos: u32)
+    requires file { get (catalogue p.old) e.name ≡ Some e }
+    requires live { e.live ≡ true }
+    requires low { e.start ≤ pos }
+    requires high { pos < e.end }
+    ensures image { p.new ≡ with_end p.old e pos }
+    ensures files { catalogue p.new ≡ insert (catalogue p.old) e.name (record e { used = pos - e.start + 1 }) }
+{
+    let _image = p.image();
+    p.put_file(pos, &marks::end_mark());
+    set_used(p, e, pos - e.start + 1);
+}
+
 /// Writes the end mark at a slot's place and says that the sectors up to it are used; the answer is the place. D80 where
 /// the slot's file isn't there, else D81 where the place isn't before the file's control sector.
 pub fn end(p: &mut Platter, s: &Slot) -> Result<u32, Code>
@@ -73,7 +87,6 @@ pub fn end(p: &mut Platter, s: &Slot) -> Result<u32, Code>
     if s.pos >= e.end {
         return Err(Code::known(D81_FILE_FULL));
     }
-    p.put_file(s.pos, &marks::end_mark());
-    set_used(p, e, s.pos - e.start + 1);
+    put_end(p, e, s.pos);
     Ok(s.pos)
 }

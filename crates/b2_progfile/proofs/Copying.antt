@@ -1,12 +1,8 @@
 -- An image with a copy of a file of another: it is good, its catalogue has the file besides, and its other sectors stay.
-use Rattle.std.proofs.Common.{◌≡◌, ◌≢◌, ℕ, ◌+◌, ◌-◌, ◌*◌, ◌<◌, ◌≤◌, Bool, true, false, cond, List, length, Option, Some, None, refl, sym, ap, ap₂, subst, ◌∙◌, arith, length-drop}
-use Rattle.std.specs.Prelude.{is_some, is_none, nat_lt}
-use Rattle.std.specs.Str.{bytes_eq}
-use Rattle.std.specs.Cmp.Lexicographic.{nat_list_cmp_total}
-use Rattle.std.specs.FinMap.{get, insert, get-insert, same_map, slice_cmp-IsAntisymmetric, nat_cmp-IsAntisymmetric}
-use Rattle.std.proofs.lemmas.Bool.{and_parts, ltb-false}
+use Rattle.std.proofs.Common.{◌≡◌, ◌≢◌, ℕ, ◌+◌, ◌-◌, ◌*◌, ◌<◌, ◌≤◌, Bool, true, false, cond, List, length, Some, sym, ap, ap₂, subst, ◌∙◌, arith, length-drop}
+use Rattle.std.specs.FinMap.{get, insert}
+use Rattle.std.proofs.lemmas.Bool.{and_parts}
 use Rattle.b2_base.specs.Names.{is_name8}
-use Rattle.b2_base.specs.declared.codes.TheConstants.{D83_NAME_PRESENT, D85_INDEX_FULL, D86_NO_ROOM}
 use Rattle.b2_platter.specs.declared.layout.Layout.TheVariants.{Narrow}
 use Rattle.b2_platter.specs.Layout.{number_at, second_place}
 use Rattle.b2_platter.specs.Slot.{is_free, is_entry, is_spelled, name_of}
@@ -20,15 +16,14 @@ use Rattle.b2_platter.proofs.Kept.{index-same, next-same}
 use Rattle.b2_platter.proofs.Fresh.{HeadSays}
 use Rattle.b2_catalog.specs.declared.entry.Entry.{Entry}
 use Rattle.b2_catalog.specs.Catalogue.{Catalogue, catalogue}
-use Rattle.b2_catalog.specs.Ways.{place, slot_of, way_of}
+use Rattle.b2_catalog.specs.Ways.{way_of}
 use Rattle.b2_catalog.specs.Changes.{control_sector, entered}
-use Rattle.b2_catalog.specs.Calls.{enter_refusal, new_entry}
+use Rattle.b2_catalog.specs.Calls.{new_entry}
 use Rattle.b2_catalog.proofs.DataSectors.{InImage, get-put, in-image}
 use Rattle.b2_catalog.proofs.Entering.{catalogue-entered, entered_after, entered_good, entered_head, entered_others, entered_sectors, entered_slot}
 use Rattle.b2_catalog.proofs.Looking.{Holds-from}
-use Rattle.b2_catalog.proofs.Mapping.{tie-eq}
+use Rattle.b2_catalog.proofs.MadeFiles.{Enters, put-twice}
 use Rattle.b2_catalog.proofs.Placing.{Placed, Placed-from}
-use Rattle.b2_catalog.proofs.Refusals.{present, slot_none}
 use Rattle.b2_catalog.proofs.RowPuts.{length-row}
 use Rattle.b2_catalog.proofs.Scratching.{stands}
 use Rattle.b2_catalog.proofs.Using.{used-good, used-files}
@@ -38,36 +33,6 @@ use Rattle.b2_progfile.specs.Moving.{IsLiveFile, all_sectors, entry_from, own_se
 use Rattle.b2_progfile.proofs.Copies.{sectors-length, sectors-long}
 use Rattle.b2_progfile.proofs.Filling.{all-put, control-room, files-stay, filled-with-there, still-there}
 use Rattle.b2_platter.proofs.SectorRuns.{AllLong, PutFrom}
-
--- ---- a file is entered
-
-pub refused-by : (b c : Bool) (o : Option ℕ) (x : ℕ) → cond b (Some x) o ≡ None → (b ≡ false) × (o ≡ None)
-refused-by true c o x h = cc
-refused-by false c o x h = (refl, h)
-
-pub none-or : (o : Option ℕ) → is_none o ≡ false → (k : ℕ) × (o ≡ Some k)
-none-or None h = cc
-none-or (Some k) h = (k, refl)
-
--- what it says that a file is entered
-pub record Enters (image name : List ℕ) (sectors : ℕ) : Type 0 where
-  pub absent : slot_of image name ≡ None
-  pub k : ℕ
-  pub place_is : place image name ≡ Some k
-  pub room : next_free Narrow image + sectors ≤ catalogue_end Narrow image
-
-pub enters : (image name : List ℕ) (sectors : ℕ) → enter_refusal image name sectors ≡ None → Enters image name sectors
-enters image name sectors h =
-    let first = refused-by (is_some (get (catalogue image) name)) true _ D83_NAME_PRESENT h in
-    let second = refused-by (is_none (place image name)) true _ D85_INDEX_FULL first.1 in
-    let third = refused-by (nat_lt (catalogue_end Narrow image) (next_free Narrow image + sectors)) true None D86_NO_ROOM second.1 in
-    let k = none-or (place image name) second.0 in
-    record {
-      absent = slot_none image name (sym (present image name) ∙ first.0);
-      k = k.0;
-      place_is = k.1;
-      room = ltb-false (catalogue_end Narrow image) (next_free Narrow image + sectors) third.0;
-    }
 
 -- ---- names of files
 
@@ -84,21 +49,6 @@ unfolding name_of
 eight-of slot h = (let n = length-drop 8 slot in omega (arith, h, n))
 
 -- ---- maps
-
-put-twice-at : (files : Catalogue) (name : List ℕ) (e f : Entry) (q : List ℕ) (b : Bool) → bytes_eq name q ≡ b
-    → cond b (Some f) (cond b (Some e) (get files q)) ≡ cond b (Some f) (get files q)
-put-twice-at files name e f q true is = refl
-put-twice-at files name e f q false is = refl
-
-pub get-other : (files : Catalogue) (name q : List ℕ) (e : Entry) → get (insert files name e) q ≡ cond (bytes_eq name q) (Some e) (get files q)
-get-other files name q e = get-insert nat_list_cmp_total files name e q ∙ ap (λ (t : Bool). cond t (Some e) (get files q)) (tie-eq q name)
-
--- what is put at a name twice is as put once
-pub put-twice : (files : Catalogue) (name : List ℕ) (e f : Entry) → insert (insert files name e) name f ≡ insert files name f
-put-twice files name e f =
-    same_map nat_list_cmp_total (slice_cmp-IsAntisymmetric nat_cmp-IsAntisymmetric) (insert (insert files name e) name f) (insert files name f)
-    (λ q. get-other (insert files name e) name q f ∙ (ap (λ (o : Option Entry). cond (bytes_eq name q) (Some f) o) (get-other files name q e)
-    ∙ (put-twice-at files name e f q (bytes_eq name q) refl ∙ sym (get-other files name q f))))
 
 end-same : (a b : List ℕ) → row b 0 ≡ row a 0 → catalogue_end Narrow b ≡ catalogue_end Narrow a
 unfolding catalogue_end

@@ -10,4 +10,3 @@ pub mod Files
 pub mod Refilling
 pub mod Told
 pub mod MovedFiles
-pub mod Others

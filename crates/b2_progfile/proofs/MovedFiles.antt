@@ -15,7 +15,7 @@ use Rattle.b2_progfile.specs.Programs.{SpellsProgram}
 use Rattle.b2_progfile.specs.Moving.{IsLiveFile, all_sectors, entry_from, own_sectors}
 use Rattle.b2_progfile.specs.MovingAll.{AllLive, HasSectors, InOrder, IsAmong, MovedAll, with_files}
 use Rattle.b2_progfile.specs.Laws.{FilesAreMoved, FilesKeepTheirOrder, NothingElseIsMoved, ProgramsAreMoved}
-use Rattle.b2_progfile.proofs.Copying.{get-other}
+use Rattle.b2_catalog.proofs.MadeFiles.{get-other}
 use Rattle.b2_progfile.proofs.Files.{AllOther, inside-of, other-kept, other-names}
 
 -- ---- each is there

@@ -25,7 +25,8 @@ use Rattle.b2_catalog.proofs.Refusals.{enter_taken, present}
 use Rattle.b2_catalog.proofs.Scratching.{stands}
 use Rattle.b2_progfile.specs.Moving.{all_sectors, entry_from, with_copy}
 use Rattle.b2_progfile.specs.MovingAll.{AllLive, AreLiveFiles, HasSectors, InOrder, MovedAll, all_refusal, emptied, total_sectors, with_copies, with_files}
-use Rattle.b2_progfile.proofs.Copying.{Copy, copied, enters, refused-by}
+use Rattle.b2_catalog.proofs.MadeFiles.{refused-by, enters}
+use Rattle.b2_progfile.proofs.Copying.{Copy, copied}
 use Rattle.b2_progfile.proofs.Files.{AllOther, inside-of, other-kept, other-names}
 use Rattle.b2_platter.proofs.SectorRuns.{same-sectors}
 

@@ -9,7 +9,8 @@ use Rattle.b2_catalog.specs.Catalogue.{catalogue}
 use Rattle.b2_catalog.specs.Ways.{place}
 use Rattle.b2_catalog.specs.Changes.{entered}
 use Rattle.b2_catalog.specs.Calls.{enter_refusal}
-use Rattle.b2_progfile.specs.Saving.{KeepsOthers, file_filled_with}
+use Rattle.b2_catalog.specs.Making.{KeepsOthers}
+use Rattle.b2_progfile.specs.Saving.{file_filled_with}
 
 -- the sectors of a file before its control sector
 abbrev pub own_sectors : List ℕ → Entry → List (List ℕ)

@@ -6,7 +6,8 @@ use Rattle.b2_catalog.specs.Calls.{enter_refusal, new_entry}
 use Rattle.b2_catalog.specs.Changes.{entered}
 use Rattle.b2_progfile.specs.Saving.{file_filled_with}
 use Rattle.b2_progfile.specs.Moving.{all_sectors, own_sectors, with_copy}
-use Rattle.b2_progfile.proofs.Copying.{copied, enters, with-copy-is}
+use Rattle.b2_catalog.proofs.MadeFiles.{enters}
+use Rattle.b2_progfile.proofs.Copying.{copied, with-copy-is}
 use Rattle.b2_progfile.proofs.moving.copy_file.Goals as goal
 
 pub returns-in-Ok-clause-copied : goal.returns-in-Ok-clause-copied
