@@ -1,21 +1,21 @@
--- A data sector of a file is put in place: the index, the catalogue and all other sectors stay.
-use Rattle.std.proofs.Common.{◌≡◌, ℕ, zero, suc, ◌+◌, ◌-◌, ◌*◌, ◌<◌, ◌≤◌, Bool, true, false, not, ◌||◌, List, length, Option, Some, None, refl, sym, ap, ◌∙◌, inl, inr, arith, cond}
+-- Data sectors of a file are put in place, and the catalogue stays; and what a file of the catalogue is in its image.
+use Rattle.std.proofs.Common.{◌≡◌, ℕ, zero, suc, ◌+◌, ◌-◌, ◌*◌, ◌<◌, ◌≤◌, Bool, true, false, not, ◌||◌, List, [], ◌∷◌, length, Option, Some, None, refl, ap, ◌∙◌, arith, cond}
 use Rattle.std.specs.List.{range_with_len, filter_map}
 use Rattle.std.specs.FinMap.{get, insert, from_entries, get-insert}
 use Rattle.std.specs.Cmp.Lexicographic.{nat_list_cmp_total}
 use Rattle.std.proofs.lemmas.Slice.Eq.{bytes_eq-Decides}
 use Rattle.b2_catalog.proofs.Mapping.{tie-eq}
-use Rattle.std.proofs.lemmas.Bool.{and_parts, and_from, leb-true, le-leb, lt-ltb, cases_order}
+use Rattle.std.proofs.lemmas.Bool.{and_parts, and_from, leb-true, le-leb, lt-ltb}
 use Rattle.b2_platter.specs.declared.layout.Layout.TheVariants.{Narrow}
 use Rattle.b2_platter.specs.Slot.{is_entry, start_of, end_of, name_of}
-use Rattle.b2_platter.specs.Image.{row, sector, index_of, total_of, next_free}
+use Rattle.b2_platter.specs.Image.{row, sector, index_of, total_of}
 use Rattle.b2_platter.specs.Checks.{Good, is_control, is_controlled, used_of}
-use Rattle.b2_platter.specs.Edits.{put_sector, holds_data, is_data_sector}
-use Rattle.b2_platter.proofs.Ranges.{list_any-same, list_any-found, list_any-at}
-use Rattle.b2_platter.proofs.Rooms.{LiesIn-from}
+use Rattle.b2_platter.specs.Edits.{put_sector, put_from, holds_data, is_data_sector}
+use Rattle.b2_platter.proofs.Ranges.{list_any-at}
 use Rattle.b2_platter.proofs.Soundness.{Sound-from_Good}
-use Rattle.b2_platter.proofs.Kept.{HoldsData-from, shared, data_low, data_room, put_file_good, index-same}
-use Rattle.b2_platter.proofs.Puts.{row_before, sector_before, sector_after, sector_same}
+use Rattle.b2_platter.proofs.Kept.{no_end}
+use Rattle.b2_platter.proofs.DataSectors.{rows-kept, index-kept, data-kept, sector-kept, good-kept}
+use Rattle.b2_platter.proofs.SectorRuns.{AllLong}
 use Rattle.b2_catalog.specs.declared.entry.Entry.{Entry}
 use Rattle.b2_catalog.specs.Catalogue.{Catalogue, entry_at, named_entry, catalogue}
 use Rattle.b2_catalog.proofs.Looking.{FileSlot-from, Holds-from}
@@ -27,76 +27,29 @@ filter_map-same f g a (suc n) h =
     rw (h a (omega arith) (omega arith), filter_map-same f g (a + 1) n (λ k low high. h k (omega (arith, low)) (omega (arith, high)))) refl
 
 module _ (image : List ℕ) (good : Good Narrow image) (n : ℕ) (within : is_data_sector Narrow image n ≡ true) (bytes : List ℕ) (long : length bytes ≡ 256) where
-  room : 256 * n + 256 ≤ length image
-  room = data_room Narrow image good n within
-
-  low : index_of image ≤ n
-  low = data_low Narrow image good n within
-
-  pub rows-kept : (k : ℕ) → k < 16 * index_of image → row (put_sector image n bytes) k ≡ row image k
-  rows-kept k h = row_before image n bytes long room k (let l = low in omega arith)
-
-  place : (k : ℕ) × (1 ≤ k) × (k < 1 + (16 * index_of image - 1)) × (holds_data Narrow (row image k) n ≡ true)
-  unfolding is_data_sector
-  place = list_any-found _ 1 (16 * index_of image - 1) within
-
-  some : 0 < 16 * index_of image
-  some = let p = place in omega (arith, p.1, p.2)
-
-  pub index-kept : index_of (put_sector image n bytes) ≡ index_of image
-  index-kept = index-same Narrow image (put_sector image n bytes) (rows-kept 0 some)
-
-  pub data-kept : (m : ℕ) → is_data_sector Narrow (put_sector image n bytes) m ≡ is_data_sector Narrow image m
-  unfolding is_data_sector
-  data-kept m =
-      rw index-kept (list_any-same _ _ 1 (16 * index_of image - 1) (λ k l h. ap (λ (r : List ℕ). holds_data Narrow r m) (rows-kept k (omega (arith, l, h)))))
-
-  -- no file ends at a data sector of a file
-  no_end : (k : ℕ) → 1 ≤ k → k < 16 * index_of image → is_entry (row image k) ≡ true → n ≡ end_of Narrow (row image k) → ⊥
-  no_end k l h e is =
-      let s = Sound-from_Good Narrow image good in
-      let m = place.0 in
-      let d = HoldsData-from Narrow (row image m) n place.3 in
-      let m_high : m < 16 * index_of image = omega (arith, place.1, place.2) in
-      let lies = LiesIn-from Narrow (index_of image) (next_free Narrow image) (row image k) (s.lies k l h) e in
-      elim (cases_order m k) [
-        | inl at ↦ (let same : n ≡ end_of Narrow (row image m) = is ∙ ap (λ (q : ℕ). end_of Narrow (row image q)) (sym at) in omega (arith, d.high, same))
-        | inr unequal ↦ elim unequal [
-          | inl less ↦ shared Narrow (row image m) (row image k) (s.apart m k place.1 less h) d.entry e (omega (arith, d.low, is)) (omega (arith, lies.order, d.high, is))
-          | inr more ↦ shared Narrow (row image k) (row image m) (s.apart k m l more m_high) e d.entry (omega (arith, lies.order, d.high, is)) (omega (arith, d.low, is))
-        ]
-      ]
-
-  pub sector-kept : (m : ℕ) → (n ≡ m → ⊥) → sector (put_sector image n bytes) m ≡ sector image m
-  sector-kept m other =
-      elim (cases_order m n) as (λ _. sector (put_sector image n bytes) m ≡ sector image m) [
-        | inl at ↦ absurd (other (sym at))
-        | inr unequal ↦ elim unequal as (λ _. sector (put_sector image n bytes) m ≡ sector image m) [
-          | inl less ↦ sector_before image n bytes long room m less
-          | inr more ↦ sector_after image n bytes long room m more
-        ]
-      ]
-
-  pub sector-put : sector (put_sector image n bytes) n ≡ bytes
-  sector-put = sector_same image n bytes long room
-
-  pub good-kept : Good Narrow (put_sector image n bytes)
-  good-kept = put_file_good Narrow image good n within bytes long
-
   named_chosen : (k : ℕ) → 1 ≤ k → k < 16 * index_of image → (t : Bool) → is_entry (row image k) ≡ t
       → cond {A = Option (List ℕ × Entry)} t (Some (name_of (row image k), entry_at (put_sector image n bytes) k)) None ≡ cond {A = Option (List ℕ × Entry)} t (Some (name_of (row image k), entry_at image k)) None
   unfolding entry_at
-  named_chosen k l h true e = rw (rows-kept k h, sector-kept (end_of Narrow (row image k)) (no_end k l h e)) refl
+  named_chosen k l h true e = rw (rows-kept image good n within bytes long k h, sector-kept image good n within bytes long (end_of Narrow (row image k)) (no_end Narrow image good n within k l h e)) refl
   named_chosen k l h false e = refl
 
   named-kept : (k : ℕ) → 1 ≤ k → k < 16 * index_of image → named_entry (put_sector image n bytes) k ≡ named_entry image k
   unfolding named_entry
-  named-kept k l h = rw (rows-kept k h) (named_chosen k l h (is_entry (row image k)) refl)
+  named-kept k l h = rw (rows-kept image good n within bytes long k h) (named_chosen k l h (is_entry (row image k)) refl)
 
   pub catalogue-kept : catalogue (put_sector image n bytes) ≡ catalogue image
   unfolding catalogue
   catalogue-kept =
-      rw index-kept (ap from_entries (filter_map-same (named_entry (put_sector image n bytes)) (named_entry image) 1 (16 * index_of image - 1) (λ k l h. named-kept k l (omega (arith, l, h)))))
+      rw (index-kept image good n within bytes long) (ap from_entries (filter_map-same (named_entry (put_sector image n bytes)) (named_entry image) 1 (16 * index_of image - 1) (λ k l h. named-kept k l (omega (arith, l, h)))))
+
+-- some of them, one after the other
+pub catalogue-from : (image : List ℕ) (at : ℕ) (sectors : List (List ℕ)) → Good Narrow image → AllLong sectors → ((n : ℕ) → at ≤ n → n < at + length sectors → is_data_sector Narrow image n ≡ true)
+    → catalogue (put_from image at sectors) ≡ catalogue image
+catalogue-from image at [] good long own = refl
+catalogue-from image at (s ∷ sectors) good long own =
+    let first = own at (omega arith) (omega arith) in
+    catalogue-from (put_sector image at s) (at + 1) sectors (good-kept image good at first s long.0) long.1 (λ n low high. data-kept image good at first s long.0 n ∙ own n (omega (arith, low)) (omega (arith, high)))
+    ∙ catalogue-kept image good at first s long.0
 
 -- ---- a file of the catalogue
 

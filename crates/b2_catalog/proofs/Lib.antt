@@ -14,3 +14,5 @@ pub mod Refusals
 pub mod Reusing
 pub mod Formats
 pub mod DataSectors
+pub mod Using
+pub mod MadeFiles

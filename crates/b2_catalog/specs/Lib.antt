@@ -3,3 +3,4 @@ pub mod Ways
 pub mod Changes
 pub mod Calls
 pub mod Listing
+pub mod Making

@@ -10,7 +10,8 @@
 //!
 //! Stands on `b2_base` and `b2_platter`, and on `itoa` for the numbers of a listing. The definitions are in `specs/`:
 //! `Catalogue` for the map, `Ways` for the look-up and the place of a new name, `Changes` for images with rows and sectors
-//! in place, `Calls` for what the calls refuse and do, `Listing` for the lines of a listing.
+//! in place, `Calls` for what the calls refuse and do, `Making` for a file that is new or taken again, `Listing` for the
+//! lines of a listing.
 #![tactic(auto)]
 
 mod additions;
@@ -18,6 +19,7 @@ mod changes;
 mod entry;
 mod lines;
 mod lookup;
+mod making;
 mod place;
 mod plain;
 mod renames;
@@ -30,5 +32,6 @@ pub use changes::{scratch, set_used};
 pub use entry::Entry;
 pub use lines::listing;
 pub use lookup::{find, look};
+pub use making::make_file;
 pub use plain::{format, limits};
 pub use renames::reuse;

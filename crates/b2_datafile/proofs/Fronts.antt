@@ -1,27 +1,18 @@
 -- Records that fill sectors, when sectors after them are put in place.
-use Rattle.std.proofs.Common.{◌≡◌, ℕ, zero, suc, ◌+◌, ◌-◌, ◌<◌, ◌≤◌, ◌&&◌, ◌==◌, true, List, [], ◌∷◌, ◌++◌, length, replicate, refl, sym, ap, ap₂, ◌∙◌, subst, arith, length-append}
+use Rattle.std.proofs.Common.{◌≡◌, ℕ, ◌+◌, ◌-◌, ◌<◌, ◌≤◌, ◌&&◌, ◌==◌, true, List, [], ◌∷◌, ◌++◌, length, replicate, sym, ap, subst, arith, length-append}
 use Rattle.std.proofs.lemmas.List.{length-replicate}
 use Rattle.std.proofs.lemmas.Bool.{leb-true}
 use Rattle.b2_dec.specs.declared.values.Value.{Value}
-use Rattle.b2_platter.specs.declared.layout.Layout.TheVariants.{Narrow}
-use Rattle.b2_platter.specs.Image.{sector}
-use Rattle.b2_platter.specs.Checks.{Good}
-use Rattle.b2_platter.specs.Edits.{put_sector, is_data_sector}
-use Rattle.b2_catalog.specs.Catalogue.{catalogue}
+use Rattle.b2_platter.specs.Image.{sector, sectors_at}
 use Rattle.b2_record.specs.declared.items.TheConstants.{END_OF_VALUES}
 use Rattle.b2_record.specs.declared.sectors.TheConstants.{ROOM}
 use Rattle.b2_record.specs.Items.{group_bytes}
-use Rattle.b2_record.specs.Records.{fits_in_sector, goes_over, go_on, is_record, is_none, sector_of, sector_kind, sectors_from, sectors_at, Spells}
+use Rattle.b2_record.specs.Records.{fits_in_sector, goes_over, go_on, is_record, is_none, sector_of, sector_kind, sectors_from, Spells}
 use Rattle.b2_record.proofs.Groups.{and-left, and-right}
-use Rattle.b2_datafile.specs.Files.{Fills, put_from}
-use Rattle.b2_catalog.proofs.DataSectors.{data-kept, good-kept, catalogue-kept, sector-kept, sector-put}
+use Rattle.b2_datafile.specs.Files.{Fills}
+use Rattle.b2_platter.proofs.SectorRuns.{AllLong, same-sectors}
 
 -- ---- the same sectors have the same records
-
-pub same-sectors : (image other : List ℕ) (at n : ℕ) → ((k : ℕ) → at ≤ k → k < at + n → sector other k ≡ sector image k) → sectors_at other at n ≡ sectors_at image at n
-same-sectors image other at zero h = refl
-same-sectors image other at (suc n) h =
-    ap₂ (λ s ss. s ∷ ss) (h at (omega arith) (omega arith)) (same-sectors image other (at + 1) n (λ k low high. h k (omega (arith, low)) (omega (arith, high))))
 
 pub fills-le : (image : List ℕ) (at pos : ℕ) (records : List (List Value)) → Fills image at pos records → at ≤ pos
 fills-le image at pos [] e = omega (arith, e)
@@ -41,10 +32,6 @@ fills-more image at pos n [] v e s = (n, subst (λ (p : ℕ). Spells v (sectors_
 fills-more image at pos n (w ∷ records) v f s = (f.0, f.1, fills-more image (at + f.0) pos n records v f.2 s)
 
 -- ---- whole sectors
-
-abbrev pub AllLong : List (List ℕ) → Type 0
-AllLong [] = Unit {0}
-AllLong (s ∷ sectors) = (length s ≡ 256) × AllLong sectors
 
 long-sector : (kind number : ℕ) (group : List Value) → fits_in_sector group ≡ true → length (sector_of kind number group) ≡ 256
 long-sector kind number group h =
@@ -70,26 +57,3 @@ long-groups (group ∷ groups) h = (
 
 pub long-record : (values : List Value) (sectors : List (List ℕ)) → Spells values sectors → AllLong sectors
 long-record values sectors p = subst AllLong p.same (long-groups p.groups p.split)
-
--- ---- sectors put in place one after the other
-
-pub record PutFrom (image new : List ℕ) (at : ℕ) (sectors : List (List ℕ)) : Type 0 where
-  pub good : Good Narrow new
-  pub files : catalogue new ≡ catalogue image
-  pub before : (k : ℕ) → k < at → sector new k ≡ sector image k
-  pub after : (k : ℕ) → at + length sectors ≤ k → sector new k ≡ sector image k
-  pub there : sectors_at new at (length sectors) ≡ sectors
-
-pub put-all : (image : List ℕ) (at : ℕ) (sectors : List (List ℕ)) → Good Narrow image → AllLong sectors → ((n : ℕ) → at ≤ n → n < at + length sectors → is_data_sector Narrow image n ≡ true)
-    → PutFrom image (put_from image at sectors) at sectors
-put-all image at [] good long own = record { good = good; files = refl; before = λ k h. refl; after = λ k h. refl; there = refl }
-put-all image at (s ∷ sectors) good long own =
-    let first = own at (omega arith) (omega arith) in
-    let rest = put-all (put_sector image at s) (at + 1) sectors (good-kept image good at first s long.0) long.1 (λ n low high. data-kept image good at first s long.0 n ∙ own n (omega (arith, low)) (omega (arith, high))) in
-    record {
-      good = rest.good;
-      files = rest.files ∙ catalogue-kept image good at first s long.0;
-      before = λ k h. rest.before k (omega (arith, h)) ∙ sector-kept image good at first s long.0 k (λ e. omega (arith, h, e));
-      after = λ k h. rest.after k (omega (arith, h)) ∙ sector-kept image good at first s long.0 k (λ e. omega (arith, h, e));
-      there = ap₂ (λ t ts. t ∷ ts) (rest.before at (omega arith) ∙ sector-put image good at first s long.0) rest.there;
-    }

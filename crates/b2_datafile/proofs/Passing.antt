@@ -3,28 +3,26 @@ use Rattle.std.proofs.Common.{◌≡◌, ℕ, zero, suc, ◌+◌, ◌-◌, ◌<�
 use Rattle.std.specs.List.{range_with_len}
 use Rattle.b2_catalog.specs.declared.entry.Entry.{Entry}
 use Rattle.b2_dec.specs.declared.values.Value.{Value}
-use Rattle.b2_platter.specs.Image.{sector}
-use Rattle.b2_record.specs.Records.{is_record, sectors_from, sectors_at, Spells, IsNoRecord, Unspelled}
+use Rattle.b2_platter.specs.Image.{sector, sectors_at}
+use Rattle.b2_record.specs.Records.{is_record, sectors_from, Spells, IsNoRecord}
 use Rattle.b2_record.proofs.Unique.{record-length, length-unique}
-use Rattle.b2_datafile.specs.Files.{IsEnd}
+use Rattle.b2_datafile.specs.Files.{IsEndOfRecords}
 use Rattle.b2_datafile.specs.Loading.{IsRecordAt}
-use Rattle.b2_datafile.specs.Moving.{Ahead, NoneAhead, Behind, NoneBehind, IsRecordBefore, NoRecordBefore, AheadFails, BehindFails}
-use Rattle.b2_base.specs.declared.codes.Fault.{Fault}
-use Rattle.b2_base.specs.declared.codes.Fault.TheVariants as fault
+use Rattle.b2_datafile.specs.Moving.{Ahead, NoneAhead, Behind, NoneBehind, IsRecordBefore, IsNoRecordBefore}
 
 -- ---- ahead
 
-pub ahead-stop : (image : List ℕ) (e : Entry) (k pos : ℕ) → IsEnd image e pos → Ahead image e k pos pos
+pub ahead-stop : (image : List ℕ) (e : Entry) (k pos : ℕ) → IsEndOfRecords image e pos → Ahead image e k pos pos
 ahead-stop image e zero pos h = refl
 ahead-stop image e (suc k) pos h = inl (h, refl)
 
-pub ahead-step : (image : List ℕ) (e : Entry) (m k pos n to : ℕ) (values : List Value) → m ≡ suc k → (IsEnd image e pos → ⊥) → IsRecordAt image e pos values n → Ahead image e k (pos + n) to → Ahead image e m pos to
+pub ahead-step : (image : List ℕ) (e : Entry) (m k pos n to : ℕ) (values : List Value) → m ≡ suc k → (IsEndOfRecords image e pos → ⊥) → IsRecordAt image e pos values n → Ahead image e k (pos + n) to → Ahead image e m pos to
 ahead-step image e m k pos n to values same h r a = subst (λ (m : ℕ). Ahead image e m pos to) (sym same) (inr (values, n, h, r, a))
 
-pub none-step : (image : List ℕ) (e : Entry) (m k pos n : ℕ) (values : List Value) → m ≡ suc k → (IsEnd image e pos → ⊥) → IsRecordAt image e pos values n → NoneAhead image e k (pos + n) → NoneAhead image e m pos
+pub none-step : (image : List ℕ) (e : Entry) (m k pos n : ℕ) (values : List Value) → m ≡ suc k → (IsEndOfRecords image e pos → ⊥) → IsRecordAt image e pos values n → NoneAhead image e k (pos + n) → NoneAhead image e m pos
 none-step image e m k pos n values same h r a = subst (λ (m : ℕ). NoneAhead image e m pos) (sym same) (h, inr (values, n, r, a))
 
-pub none-here : (image : List ℕ) (e : Entry) (m k pos : ℕ) → m ≡ suc k → (IsEnd image e pos → ⊥) → IsNoRecord image pos (e.end - 1) → NoneAhead image e m pos
+pub none-here : (image : List ℕ) (e : Entry) (m k pos : ℕ) → m ≡ suc k → (IsEndOfRecords image e pos → ⊥) → IsNoRecord image pos (e.end - 1) → NoneAhead image e m pos
 none-here image e m k pos same h r = subst (λ (m : ℕ). NoneAhead image e m pos) (sym same) (h, inl r)
 
 -- ---- behind
@@ -39,7 +37,7 @@ behind-step image e m k pos n to values same h r a = subst (λ (m : ℕ). Behind
 pub none-behind-step : (image : List ℕ) (e : Entry) (m k pos n : ℕ) (values : List Value) → m ≡ suc k → e.start < pos → IsRecordBefore image e pos values n → NoneBehind image e k (pos - n) → NoneBehind image e m pos
 none-behind-step image e m k pos n values same h r a = subst (λ (m : ℕ). NoneBehind image e m pos) (sym same) (h, inr (values, n, r, a))
 
-pub none-behind-here : (image : List ℕ) (e : Entry) (m k pos : ℕ) → m ≡ suc k → e.start < pos → ((values : List Value) (n : ℕ) → IsRecordBefore image e pos values n → ⊥) → NoneBehind image e m pos
+pub none-behind-here : (image : List ℕ) (e : Entry) (m k pos : ℕ) → m ≡ suc k → e.start < pos → IsNoRecordBefore image e pos → NoneBehind image e m pos
 none-behind-here image e m k pos same h r = subst (λ (m : ℕ). NoneBehind image e m pos) (sym same) (h, inl r)
 
 -- ---- the number in the last sector of a record is how many it has
@@ -76,26 +74,14 @@ before-number image e pos n values r =
 
 -- ---- why there is none
 
-pub no-before : (image : List ℕ) (e : Entry) (pos count : ℕ) (fault : Fault) → 1 ≤ pos → get_or (sector image (pos - 1)) 1 0 ≡ count → Unspelled (IsNoRecord image (pos - count) (pos - 1)) fault → NoRecordBefore image e pos fault
-no-before image e pos count (fault.Code code) some number h = (
-  h.0,
-  λ values n r.
-      let same : n ≡ count = sym (before-number image e pos n values r) ∙ number in
-      h.1 values n (omega (arith, r.within, same, some)) (subst (λ (at : ℕ). Spells values (sectors_at image at n)) (ap (λ (k : ℕ). pos - k) same) r.spelled),
-)
-no-before image e pos count fault.NoMemory some number h = tt
+pub no-before : (image : List ℕ) (e : Entry) (pos count : ℕ) → 1 ≤ pos → get_or (sector image (pos - 1)) 1 0 ≡ count → IsNoRecord image (pos - count) (pos - 1) → IsNoRecordBefore image e pos
+no-before image e pos count some number none values n r =
+    let same : n ≡ count = sym (before-number image e pos n values r) ∙ number in
+    none values n (omega (arith, r.within, same, some)) (subst (λ (at : ℕ). Spells values (sectors_at image at n)) (ap (λ (k : ℕ). pos - k) same) r.spelled)
 
 pub no-such : (image : List ℕ) (e : Entry) (pos count found : ℕ) (taken : List Value) → get_or (sector image (pos - 1)) 1 0 ≡ count → Spells taken (sectors_at image (pos - count) found) → (found ≡ count → ⊥)
-    → (values : List Value) (n : ℕ) → IsRecordBefore image e pos values n → ⊥
+    → IsNoRecordBefore image e pos
 no-such image e pos count found taken number there other values n r =
     let same : n ≡ count = sym (before-number image e pos n values r) ∙ number in
     let here = subst (λ (at : ℕ). Spells values (sectors_at image at n)) (ap (λ (k : ℕ). pos - k) same) r.spelled in
     other (length-unique image (pos - count) found n taken values there here ∙ same)
-
-pub ahead-fails : (image : List ℕ) (e : Entry) (count from : ℕ) (nothing : Type 0) (fault : Fault) → (nothing → NoneAhead image e count from) → Unspelled nothing fault → AheadFails image e count from fault
-ahead-fails image e count from nothing (fault.Code code) f h = (h.0, f h.1)
-ahead-fails image e count from nothing fault.NoMemory f h = tt
-
-pub behind-fails : (image : List ℕ) (e : Entry) (count from pos : ℕ) (fault : Fault) → (((values : List Value) (n : ℕ) → IsRecordBefore image e pos values n → ⊥) → NoneBehind image e count from) → NoRecordBefore image e pos fault → BehindFails image e count from fault
-behind-fails image e count from pos (fault.Code code) f h = (h.0, f h.1)
-behind-fails image e count from pos fault.NoMemory f h = tt

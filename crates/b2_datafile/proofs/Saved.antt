@@ -1,29 +1,39 @@
 -- A record is saved at its place.
-use Rattle.std.proofs.Common.{◌≡◌, ℕ, ◌+◌, ◌*◌, ◌≤◌, refl, List, [], ◌∷◌, ◌++◌, length, sym, subst, ap, ap₂, ◌∙◌, ◌-◌, arith, inl, inr}
+use Rattle.std.proofs.Common.{◌≡◌, ℕ, ◌+◌, ◌*◌, ◌<◌, ◌≤◌, ◌⊎◌, refl, List, [], ◌∷◌, ◌++◌, length, sym, subst, ap, ap₂, ◌∙◌, ◌-◌, Some, arith, inl, inr}
 use Rattle.b2_dec.specs.declared.values.Value.{Value}
 use Rattle.b2_platter.specs.declared.layout.Layout.TheVariants.{Narrow}
-use Rattle.b2_platter.specs.Edits.{put_sector}
+use Rattle.b2_platter.specs.Edits.{put_sector, put_from}
 use Rattle.b2_catalog.specs.declared.entry.Entry.{Entry}
-use Rattle.b2_record.specs.Records.{Spells, sectors_at}
+use Rattle.b2_record.specs.Records.{Spells}
 use Rattle.b2_record.specs.Writing.{record_of}
-use Rattle.b2_datafile.specs.Files.{Fills, IsFront, IsWhole, put_from}
-use Rattle.b2_datafile.specs.Laws.{SavesAt, EndsAt, with_end}
-use Rattle.b2_catalog.proofs.DataSectors.{InImage, in-image, sector-put, sector-kept}
+use Rattle.b2_datafile.specs.Files.{Fills, IsFront, IsWhole, with_end}
+use Rattle.b2_datafile.specs.Laws.{SavesAt, EndsAt}
+use Rattle.b2_platter.proofs.DataSectors.{good-kept, sector-kept, sector-put}
+use Rattle.b2_catalog.proofs.DataSectors.{InImage, catalogue-from, catalogue-kept, get-put, in-image}
+use Rattle.b2_catalog.proofs.Using.{used-good, used-files}
 use Rattle.b2_datafile.specs.Files.{end_mark}
 use Rattle.b2_platter.specs.Checks.{Good}
-use Rattle.b2_platter.specs.Image.{sector}
+use Rattle.b2_platter.specs.Image.{sector, sectors_at}
 use Rattle.b2_platter.proofs.Goodness.{sectors_of_good}
 use Rattle.b2_platter.proofs.Puts.{sector_before, sector_after, length-put_sector}
+use Rattle.b2_catalog.specs.Catalogue.{Catalogue, catalogue}
 use Rattle.b2_catalog.specs.Changes.{control_sector}
+use Rattle.std.specs.FinMap.{get, insert}
 use Rattle.b2_catalog.proofs.Spelled.{control_long}
-use Rattle.b2_datafile.proofs.Fronts.{PutFrom, put-all, long-record, fills-same, fills-more, fills-le}
+use Rattle.b2_platter.proofs.SectorRuns.{PutFrom, put-from}
+use Rattle.b2_datafile.proofs.Fronts.{long-record, fills-same, fills-more, fills-le}
 use Rattle.b2_datafile.proofs.Passing.{some-groups}
 use Rattle.b2_record.proofs.Unique.{record-length, length-unique, values-unique}
 use Rattle.std.proofs.lemmas.Bool.{cases_order}
 
 pub saved : (image : List ℕ) (e : Entry) (pos : ℕ) (values : List Value) → SavesAt image e pos values → PutFrom image (put_from image pos (record_of values)) pos (record_of values)
 saved image e pos values s =
-    put-all image pos (record_of values) s.good (long-record values (record_of values) s.record_is)
+    put-from image pos (record_of values) s.good (long-record values (record_of values) s.record_is)
+    (λ n low high. (in-image image e.name e s.good s.file).own n (omega (arith, low, s.low)) (omega (arith, high, s.high)))
+
+pub saved-files : (image : List ℕ) (e : Entry) (pos : ℕ) (values : List Value) → SavesAt image e pos values → catalogue (put_from image pos (record_of values)) ≡ catalogue image
+saved-files image e pos values s =
+    catalogue-from image pos (record_of values) s.good (long-record values (record_of values) s.record_is)
     (λ n low high. (in-image image e.name e s.good s.file).own n (omega (arith, low, s.low)) (omega (arith, high, s.high)))
 
 pub saved-front : (image : List ℕ) (e : Entry) (pos : ℕ) (values : List Value) (records : List (List Value)) → SavesAt image e pos values → IsFront image e pos records
@@ -33,16 +43,6 @@ saved-front image e pos values records s f =
     fills-more (put_from image pos (record_of values)) e.start pos (length (record_of values)) records values
     (fills-same image (put_from image pos (record_of values)) e.start pos records (λ k low high. p.before k high) f)
     (subst (Spells values) (sym p.there) s.record_is)
-
--- a file that was made has the end mark in its first sector
-pub made-mark : (image : List ℕ) (e : Entry) → Good Narrow image → InImage image e → sector (put_sector (put_sector image e.start end_mark) e.end (control_sector 1)) e.start ≡ end_mark
-made-mark image e good inside =
-    let whole = sectors_of_good Narrow image good in
-    let room : 256 * e.start + 256 ≤ length image = omega (arith, inside.within, inside.order, whole) in
-    let own = inside.own e.start (omega arith) inside.order in
-    let same = length-put_sector image e.start end_mark refl room in
-    sector_before (put_sector image e.start end_mark) e.end (control_sector 1) (control_long 1) (omega (arith, same, whole, inside.within)) e.start inside.order
-    ∙ sector-put image good e.start own end_mark refl
 
 -- ---- the end
 
@@ -85,6 +85,54 @@ with_end-whole image e pos records s f =
       front = subst (λ (p : ℕ). Fills (with_end image e pos) e.start p records) (sym place) same;
       mark = ap (sector (with_end image e pos)) place ∙ with_end-mark image e pos s;
     }
+
+-- the end mark alone: the image is good, and the file is there still
+marked-good : (image : List ℕ) (e : Entry) (pos : ℕ) → EndsAt image e pos → Good Narrow (put_sector image pos end_mark)
+marked-good image e pos s = good-kept image s.good pos ((inside-of image e pos s).own pos s.low s.high) end_mark refl
+
+marked-files : (image : List ℕ) (e : Entry) (pos : ℕ) → EndsAt image e pos → catalogue (put_sector image pos end_mark) ≡ catalogue image
+marked-files image e pos s = catalogue-kept image s.good pos ((inside-of image e pos s).own pos s.low s.high) end_mark refl
+
+marked-there : (image : List ℕ) (e : Entry) (pos : ℕ) → EndsAt image e pos → get (catalogue (put_sector image pos end_mark)) e.name ≡ Some e
+marked-there image e pos s = ap (λ (files : Catalogue). get files e.name) (marked-files image e pos s) ∙ s.file
+
+pub with_end-good : (image : List ℕ) (e : Entry) (pos : ℕ) → EndsAt image e pos → Good Narrow (with_end image e pos)
+with_end-good image e pos s =
+    used-good (put_sector image pos end_mark) e (marked-good image e pos s) (marked-there image e pos s) (pos - e.start + 1) (omega arith) (omega (arith, s.low, s.high))
+
+pub with_end-files : (image : List ℕ) (e : Entry) (pos : ℕ) → EndsAt image e pos → catalogue (with_end image e pos) ≡ insert (catalogue image) e.name (record e { used = pos - e.start + 1 })
+with_end-files image e pos s =
+    used-files (put_sector image pos end_mark) e (marked-good image e pos s) (marked-there image e pos s) (pos - e.start + 1) (omega arith) (omega (arith, s.low, s.high))
+    ∙ ap (λ (files : Catalogue). insert files e.name (record e { used = pos - e.start + 1 })) (marked-files image e pos s)
+
+-- ---- a file with no records: its end mark is in its first sector
+
+new-ends : (image : List ℕ) (e : Entry) → Good Narrow image → get (catalogue image) e.name ≡ Some e → EndsAt image e e.start
+new-ends image e good file = record { good = good; file = file; low = omega arith; high = (in-image image e.name e good file).order }
+
+one-used : (start : ℕ) → start - start + 1 ≡ 1
+one-used start = omega arith
+
+pub new-whole : (image : List ℕ) (e : Entry) → Good Narrow image → get (catalogue image) e.name ≡ Some e → IsWhole (with_end image e e.start) (record e { used = 1 }) []
+new-whole image e good file =
+    subst (λ (n : ℕ). IsWhole (with_end image e e.start) (record e { used = n }) []) (one-used e.start) (with_end-whole image e e.start [] (new-ends image e good file) refl)
+
+pub new-files : (image : List ℕ) (e : Entry) → Good Narrow image → get (catalogue image) e.name ≡ Some e → catalogue (with_end image e e.start) ≡ insert (catalogue image) e.name (record e { used = 1 })
+new-files image e good file =
+    with_end-files image e e.start (new-ends image e good file) ∙ ap (λ (n : ℕ). insert (catalogue image) e.name (record e { used = n })) (one-used e.start)
+
+pub new-there : (image name : List ℕ) (e : Entry) → Good Narrow image → get (catalogue image) e.name ≡ Some e → e.name ≡ name → get (catalogue (with_end image e e.start)) name ≡ Some (record e { used = 1 })
+new-there image name e good file named =
+    ap (λ (m : Catalogue). get m name) (new-files image e good file)
+    ∙ (ap (get (insert (catalogue image) e.name (record e { used = 1 }))) (sym named) ∙ get-put (catalogue image) e.name (record e { used = 1 }))
+
+pub new-others : (image : List ℕ) (e : Entry) → Good Narrow image → get (catalogue image) e.name ≡ Some e → (n : ℕ) → (n < e.start) ⊎ (e.end < n) → sector (with_end image e e.start) n ≡ sector image n
+new-others image e good file n out =
+    let order = (in-image image e.name e good file).order in
+    elim out as (λ _. sector (with_end image e e.start) n ≡ sector image n) [
+      | inl before ↦ with_end-other image e e.start n (new-ends image e good file) (λ same. omega (arith, before, same)) (λ same. omega (arith, before, same, order))
+      | inr after ↦ with_end-other image e e.start n (new-ends image e good file) (λ same. omega (arith, after, same, order)) (λ same. omega (arith, after, same))
+    ]
 
 -- ---- one list of records
 

@@ -1,8 +1,7 @@
 -- Sectors that are put in place one after the other.
 use Rattle.std.proofs.Common.{◌≡◌, ℕ, zero, suc, ◌+◌, ◌-◌, ◌≤◌, List, [], ◌∷◌, length, drop, Some, refl, sym, ap, ap₂, ◌∙◌, arith, add-one}
 use Rattle.std.specs.List.{slice_get}
-use Rattle.b2_platter.specs.Edits.{put_sector}
-use Rattle.b2_datafile.specs.Files.{put_from}
+use Rattle.b2_platter.specs.Edits.{put_sector, put_from}
 
 drop-get : (sectors : List (List ℕ)) (k : ℕ) (s : List ℕ) → slice_get sectors k ≡ Some s → drop k sectors ≡ s ∷ drop (suc k) sectors
 drop-get [] zero s e = cc

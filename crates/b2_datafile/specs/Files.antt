@@ -1,11 +1,13 @@
 -- A data file: records one after the other, and an end mark.
-use Rattle.std.specs.Prelude.{◌≡◌, ℕ, ◌+◌, ◌-◌, true, ◌==◌, ◌||◌, nat_le, List, [], ◌∷◌, replicate}
+use Rattle.std.specs.Prelude.{◌≡◌, ℕ, ◌+◌, ◌-◌, true, ◌==◌, ◌||◌, nat_le, false, List, [], ◌∷◌, replicate, Option}
 use Rattle.b2_base.specs.Lexical.{first}
 use Rattle.b2_dec.specs.declared.values.Value.{Value}
-use Rattle.b2_platter.specs.Image.{sector}
+use Rattle.b2_platter.specs.Image.{sector, sectors_at}
 use Rattle.b2_platter.specs.Edits.{put_sector}
 use Rattle.b2_catalog.specs.declared.entry.Entry.{Entry}
-use Rattle.b2_record.specs.Records.{sectors_at, Spells}
+use Rattle.b2_catalog.specs.Changes.{control_sector}
+use Rattle.b2_catalog.specs.Making.{Made}
+use Rattle.b2_record.specs.Records.{Spells}
 use Rattle.b2_datafile.specs.declared.marks.TheConstants.{END_MARK}
 
 -- the sector that ends a file's records
@@ -26,11 +28,17 @@ pub record IsWhole (image : List ℕ) (e : Entry) (records : List (List Value)) 
   pub front : IsFront image e (e.start + e.used - 1) records
   pub mark : sector image (e.start + e.used - 1) ≡ end_mark
 
--- sectors from one on are these
-abbrev pub put_from : List ℕ → ℕ → List (List ℕ) → List ℕ
-put_from image at [] = image
-put_from image at (s ∷ sectors) = put_from (put_sector image at s) (at + 1) sectors
-
 -- a place where the records end: that of the control sector, one after it, or one with the end mark
-abbrev pub IsEnd : List ℕ → Entry → ℕ → Type 0
-IsEnd image e pos = (nat_le e.end pos || (first (sector image pos) == END_MARK)) ≡ true
+abbrev pub IsEndOfRecords : List ℕ → Entry → ℕ → Type 0
+IsEndOfRecords image e pos = (nat_le e.end pos || (first (sector image pos) == END_MARK)) ≡ true
+
+-- the end mark at a place, and the control sector that says so
+abbrev pub with_end : List ℕ → Entry → ℕ → List ℕ
+with_end image e pos = put_sector (put_sector image pos end_mark) e.end (control_sector (pos - e.start + 1))
+
+-- a data file that is made, with the end mark in its first sector
+pub record MadeEmpty (image : List ℕ) (old : Option (List ℕ)) (name : List ℕ) (sectors : ℕ) (new : List ℕ) : Type 0 where
+  pub e : Entry
+  pub between : List ℕ
+  pub made : Made image old name false sectors between e
+  pub same : new ≡ with_end between e e.start

@@ -1,14 +1,11 @@
 -- Where a record is saved, and where a file is ended.
-use Rattle.std.specs.Prelude.{◌≡◌, ℕ, ◌+◌, ◌-◌, ◌<◌, ◌≤◌, List, length, Some}
+use Rattle.std.specs.Prelude.{◌≡◌, ℕ, ◌+◌, ◌<◌, ◌≤◌, List, length, Some}
 use Rattle.std.specs.FinMap.{get}
 use Rattle.b2_dec.specs.declared.values.Value.{Value}
 use Rattle.b2_platter.specs.declared.layout.Layout.TheVariants.{Narrow}
 use Rattle.b2_platter.specs.Checks.{Good}
-use Rattle.b2_platter.specs.Edits.{put_sector}
 use Rattle.b2_catalog.specs.declared.entry.Entry.{Entry}
 use Rattle.b2_catalog.specs.Catalogue.{catalogue}
-use Rattle.b2_catalog.specs.Changes.{control_sector}
-use Rattle.b2_datafile.specs.Files.{end_mark}
 use Rattle.b2_record.specs.Records.{Spells}
 use Rattle.b2_record.specs.Writing.{record_of}
 
@@ -26,7 +23,3 @@ pub record EndsAt (image : List ℕ) (e : Entry) (pos : ℕ) : Type 0 where
   pub file : get (catalogue image) e.name ≡ Some e
   pub low : e.start ≤ pos
   pub high : pos < e.end
-
--- the end mark at a place, and the control sector that says so
-abbrev pub with_end : List ℕ → Entry → ℕ → List ℕ
-with_end image e pos = put_sector (put_sector image pos end_mark) e.end (control_sector (pos - e.start + 1))

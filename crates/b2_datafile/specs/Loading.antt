@@ -10,8 +10,9 @@ use Rattle.b2_dec.specs.declared.values.Value.{Value}
 use Rattle.b2_dec.specs.declared.values.Value.TheVariants as value
 use Rattle.b2_dec.specs.declared.values.Kind.{Kind}
 use Rattle.b2_dec.specs.declared.values.Kind.TheVariants as kind
-use Rattle.b2_record.specs.Records.{sectors_at, Spells, IsNoRecord}
-use Rattle.b2_datafile.specs.Files.{IsEnd}
+use Rattle.b2_platter.specs.Image.{sectors_at}
+use Rattle.b2_record.specs.Records.{Spells, IsNoRecord}
+use Rattle.b2_datafile.specs.Files.{IsEndOfRecords}
 use Rattle.b2_datafile.specs.Slots.{file_of}
 
 abbrev pub is_of : Kind → Value → Bool
@@ -50,12 +51,12 @@ RecordFails image e pos kinds code =
 
 -- what a load gives: nothing where the records end, and else of the record there
 abbrev pub Loads : List ℕ → Slot → List Kind → Option (GlobalVec Value × ℕ) → Type 0
-Loads image slot kinds None = (e : Entry) × (file_of image slot ≡ Some e) × IsEnd image e slot.pos
-Loads image slot kinds (Some found) = (e : Entry) × (file_of image slot ≡ Some e) × ¬ IsEnd image e slot.pos × LoadsRecord image e slot.pos kinds found.0.items found.1
+Loads image slot kinds None = (e : Entry) × (file_of image slot ≡ Some e) × IsEndOfRecords image e slot.pos
+Loads image slot kinds (Some found) = (e : Entry) × (file_of image slot ≡ Some e) × ¬ IsEndOfRecords image e slot.pos × LoadsRecord image e slot.pos kinds found.0.items found.1
 
 -- why a load gives nothing: the slot's file isn't there, or no record is loaded; or memory failed
 abbrev pub LoadFails : List ℕ → Slot → List Kind → Fault → Type 0
 LoadFails image slot kinds (fault.Code code) =
     ((code ≡ D80_NOT_OPEN) × (file_of image slot ≡ None))
-    ⊎ ((e : Entry) × (file_of image slot ≡ Some e) × ¬ IsEnd image e slot.pos × RecordFails image e slot.pos kinds code)
+    ⊎ ((e : Entry) × (file_of image slot ≡ Some e) × ¬ IsEndOfRecords image e slot.pos × RecordFails image e slot.pos kinds code)
 LoadFails image slot kinds fault.NoMemory = Unit {0}

@@ -8,8 +8,9 @@ use Rattle.b2_base.specs.declared.files.By.{By}
 use Rattle.b2_base.specs.declared.files.By.TheVariants as by
 use Rattle.b2_catalog.specs.declared.entry.Entry.{Entry}
 use Rattle.b2_dec.specs.declared.values.Value.{Value}
-use Rattle.b2_record.specs.Records.{sectors_at, Spells, IsNoRecord}
-use Rattle.b2_datafile.specs.Files.{IsEnd}
+use Rattle.b2_platter.specs.Image.{sectors_at}
+use Rattle.b2_record.specs.Records.{Spells, IsNoRecord}
+use Rattle.b2_datafile.specs.Files.{IsEndOfRecords}
 use Rattle.b2_datafile.specs.Loading.{IsRecordAt}
 use Rattle.b2_datafile.specs.Slots.{file_of}
 
@@ -17,20 +18,24 @@ use Rattle.b2_datafile.specs.Slots.{file_of}
 abbrev pub Ahead : List ℕ → Entry → ℕ → ℕ → ℕ → Type 0
 Ahead image e zero from to = from ≡ to
 Ahead image e (suc count) from to =
-    (IsEnd image e from × (from ≡ to))
-    ⊎ ((values : List Value) × (n : ℕ) × ¬ IsEnd image e from × IsRecordAt image e from values n × Ahead image e count (from + n) to)
+    (IsEndOfRecords image e from × (from ≡ to))
+    ⊎ ((values : List Value) × (n : ℕ) × ¬ IsEndOfRecords image e from × IsRecordAt image e from values n × Ahead image e count (from + n) to)
 
 -- it can't where, after some records, neither their end nor a record follows
 abbrev pub NoneAhead : List ℕ → Entry → ℕ → ℕ → Type 0
 NoneAhead image e zero from = ⊥
 NoneAhead image e (suc count) from =
-    ¬ IsEnd image e from
+    ¬ IsEndOfRecords image e from
     × (IsNoRecord image from (e.end - 1) ⊎ ((values : List Value) × (n : ℕ) × IsRecordAt image e from values n × NoneAhead image e count (from + n)))
 
 -- a record ends directly before a place of a file
 pub record IsRecordBefore (image : List ℕ) (e : Entry) (pos : ℕ) (values : List Value) (n : ℕ) : Type 0 where
   pub within : e.start + n ≤ pos
   pub spelled : Spells values (sectors_at image (pos - n) n)
+
+-- no record ends directly before a place
+abbrev pub IsNoRecordBefore : List ℕ → Entry → ℕ → Type 0
+IsNoRecordBefore image e pos = (values : List Value) (n : ℕ) → ¬ IsRecordBefore image e pos values n
 
 -- over records towards the beginning: it stays at the first sector, and else goes to where the record begins that ends
 -- directly before it
@@ -45,25 +50,12 @@ abbrev pub NoneBehind : List ℕ → Entry → ℕ → ℕ → Type 0
 NoneBehind image e zero from = ⊥
 NoneBehind image e (suc count) from =
     (e.start < from)
-    × (((values : List Value) (n : ℕ) → ¬ IsRecordBefore image e from values n)
+    × (IsNoRecordBefore image e from
     ⊎ ((values : List Value) × (n : ℕ) × IsRecordBefore image e from values n × NoneBehind image e count (from - n)))
 
 -- the record that ends directly before a place begins at a sector
 abbrev pub IsRecordFrom : List ℕ → Entry → ℕ → ℕ → Type 0
 IsRecordFrom image e pos to = (values : List Value) × (n : ℕ) × IsRecordBefore image e pos values n × (to ≡ pos - n)
-
--- why there is no such record; or memory failed
-abbrev pub NoRecordBefore : List ℕ → Entry → ℕ → Fault → Type 0
-NoRecordBefore image e pos (fault.Code code) = (code ≡ D88_FORMAT) × ((values : List Value) (n : ℕ) → ¬ IsRecordBefore image e pos values n)
-NoRecordBefore image e pos fault.NoMemory = Unit {0}
-
-abbrev pub AheadFails : List ℕ → Entry → ℕ → ℕ → Fault → Type 0
-AheadFails image e count from (fault.Code code) = (code ≡ D88_FORMAT) × NoneAhead image e count from
-AheadFails image e count from fault.NoMemory = Unit {0}
-
-abbrev pub BehindFails : List ℕ → Entry → ℕ → ℕ → Fault → Type 0
-BehindFails image e count from (fault.Code code) = (code ≡ D88_FORMAT) × NoneBehind image e count from
-BehindFails image e count from fault.NoMemory = Unit {0}
 
 -- where a slot's place goes; a place after the control sector counts as the control sector's
 abbrev pub Moves : List ℕ → Entry → ℕ → By → ℕ → Type 0

@@ -4,7 +4,6 @@ use Rattle.std.specs.FinMap.{get}
 use Rattle.b2_base.specs.declared.codes.TheConstants.{D80_NOT_OPEN, D81_FILE_FULL, D82_NO_FILE, D89_OTHER_KIND}
 use Rattle.b2_base.specs.declared.files.Slot.{Slot}
 use Rattle.b2_catalog.specs.declared.entry.Entry.{Entry}
-use Rattle.b2_catalog.specs.Calls.{enter_refusal, reuse_refusal}
 use Rattle.b2_catalog.specs.Catalogue.{catalogue}
 
 -- why the file of a name isn't opened: it isn't there or isn't live, or it is a program
@@ -30,8 +29,3 @@ file_of image slot = open_file (get (catalogue image) slot.name) slot.start
 abbrev pub write_refusal : Option Entry → ℕ → ℕ → Option ℕ
 write_refusal None pos sectors = Some D80_NOT_OPEN
 write_refusal (Some e) pos sectors = if nat_le (pos + sectors) e.end && nat_le sectors 255 then None else Some D81_FILE_FULL
-
--- why no file is made: as a new file of some sectors, or as a scratched file that is taken again
-abbrev pub new_refusal : List ℕ → Option (List ℕ) → ℕ → List ℕ → Option ℕ
-new_refusal image None sectors name = enter_refusal image name sectors
-new_refusal image (Some old) sectors name = reuse_refusal image old name

@@ -1,18 +1,18 @@
 //! What saving and ending do to the records of a file. Each call does nothing: its contract is the law.
 ghost use Rattle.std.specs.Prelude.{◌≡◌, ◌+◌, ◌-◌, ◌<◌, ◌≤◌, [], ◌∷◌, ◌++◌, ℕ, List, Some, length};
-ghost use Rattle.std.specs.FinMap.{get};
+ghost use Rattle.std.specs.FinMap.{insert};
 ghost use Rattle.b2_dec.specs.declared.values.Value.{Value as AnyValue};
 ghost use Rattle.b2_platter.specs.declared.layout.Layout.TheVariants.{Narrow};
 ghost use Rattle.b2_platter.specs.Image.{sector};
 ghost use Rattle.b2_platter.specs.Checks.{Good};
-ghost use Rattle.b2_platter.specs.Edits.{put_sector};
+ghost use Rattle.b2_platter.specs.Edits.{put_sector, put_from};
 ghost use Rattle.b2_catalog.specs.declared.entry.Entry.{Entry as File};
 ghost use Rattle.b2_catalog.specs.Catalogue.{catalogue};
 ghost use Rattle.b2_catalog.specs.Changes.{control_sector};
 ghost use Rattle.b2_record.specs.Records.{Spells};
 ghost use Rattle.b2_record.specs.Writing.{record_of};
-ghost use Rattle.b2_datafile.specs.Files.{end_mark, IsFront, IsWhole, put_from};
-ghost use Rattle.b2_datafile.specs.Laws.{SavesAt, EndsAt, with_end};
+ghost use Rattle.b2_datafile.specs.Files.{end_mark, IsFront, IsWhole, with_end};
+ghost use Rattle.b2_datafile.specs.Laws.{SavesAt, EndsAt};
 
 /// A record that is saved at a place follows the records up to that place.
 pub fn saving_adds_the_record()
@@ -32,9 +32,12 @@ pub fn ending_makes_the_file_whole()
     ensures { (image : List ℕ) (e : File) (pos : ℕ) (records : List (List AnyValue)) → EndsAt image e pos → IsFront image e pos records → IsWhole (with_end image e pos) (record e { used = pos - e.start + 1 }) records }
 {}
 
-/// Ending leaves all sectors but that of the place and the file's control sector.
-pub fn ending_leaves_other_sectors()
-    ensures { (image : List ℕ) (e : File) (pos k : ℕ) → EndsAt image e pos → (k ≡ pos → ⊥) → (k ≡ e.end → ⊥) → sector (with_end image e pos) k ≡ sector image k }
+/// Ending leaves the image good, the catalogue but for how many of the file's sectors are used, and all sectors but that of
+/// the place and the file's control sector.
+pub fn ending_leaves_the_rest()
+    ensures good { (image : List ℕ) (e : File) (pos : ℕ) → EndsAt image e pos → Good Narrow (with_end image e pos) }
+    ensures files { (image : List ℕ) (e : File) (pos : ℕ) → EndsAt image e pos → catalogue (with_end image e pos) ≡ insert (catalogue image) e.name (record e { used = pos - e.start + 1 }) }
+    ensures others { (image : List ℕ) (e : File) (pos k : ℕ) → EndsAt image e pos → (k ≡ pos → ⊥) → (k ≡ e.end → ⊥) → sector (with_end image e pos) k ≡ sector image k }
 {}
 
 /// The records up to a place are told by the sectors.

@@ -17,7 +17,7 @@ use b2_record::take;
 use std::alloc::Global;
 
 /// Whether the records of a file end at a place: that of its control sector, one after it, or one with the end mark.
-pub(crate) fn is_end(p: &Platter, e: &Entry, pos: u32) -> bool
+pub(crate) fn is_end_of_records(p: &Platter, e: &Entry, pos: u32) -> bool
     requires { e.now.end < total_of Narrow p.now }
     ensures { result ≡ (nat_le e.now.end pos || (first (sector p.now pos) == END_MARK)) }
 {
@@ -67,7 +67,7 @@ pub fn load(
     let Some(e) = file_of(p, s) else {
         return Err(Fault::Code(Code::known(D80_NOT_OPEN)));
     };
-    if is_end(p, &e, s.pos) {
+    if is_end_of_records(p, &e, s.pos) {
         return Ok(None);
     }
     let pos = s.pos;

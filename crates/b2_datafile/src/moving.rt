@@ -2,11 +2,12 @@
 ghost use Rattle.std.specs.Prelude.{◌≡◌, ◌+◌, ◌-◌, ◌<◌, ◌≤◌, Some, IfOk, IfErr};
 ghost use Rattle.b2_platter.specs.declared.layout.Layout.TheVariants.{Narrow};
 ghost use Rattle.b2_platter.specs.Image.{total_of};
+ghost use Rattle.b2_platter.specs.Reading.{Unspelled};
 ghost use Rattle.b2_catalog.specs.declared.entry.Entry.{Entry as File};
 ghost use Rattle.b2_datafile.specs.Slots.{file_of};
-ghost use Rattle.b2_datafile.specs.Moving.{Ahead, AheadFails, Behind, BehindFails, IsRecordFrom, NoRecordBefore, Moves, SkipFails};
+ghost use Rattle.b2_datafile.specs.Moving.{Ahead, NoneAhead, Behind, NoneBehind, IsNoRecordBefore, IsRecordFrom, Moves, SkipFails};
 
-use crate::loading::is_end;
+use crate::loading::is_end_of_records;
 use crate::opening::file_of;
 use b2_base::codes::{D80_NOT_OPEN, D88_FORMAT};
 use b2_base::{By, Code, Fault, Slot};
@@ -39,12 +40,12 @@ fn forward(alloc: Global, p: &Platter, e: &Entry, from: u32, count: u32) -> Resu
     requires order { e.now.start < e.now.end }
     requires within { e.now.end < total_of Narrow p.now }
     ensures ok { IfOk result (Ahead p.now e.now count from) }
-    ensures err { IfErr result (AheadFails p.now e.now count from) }
+    ensures err { IfErr result (Unspelled (NoneAhead p.now e.now count from)) }
 {
     let last = e.end - 1;
     let mut pos = from;
     for _passed in 0..count {
-        if is_end(p, e, pos) {
+        if is_end_of_records(p, e, pos) {
             return Ok(pos);
         }
         match take(alloc, p, pos, last) {
@@ -59,7 +60,7 @@ fn forward(alloc: Global, p: &Platter, e: &Entry, from: u32, count: u32) -> Resu
 fn back(alloc: Global, p: &Platter, e: &Entry, from: u32, count: u32) -> Result<u32, Fault>
     requires within { from ≤ total_of Narrow p.now }
     ensures ok { IfOk result (Behind p.now e.now count from) }
-    ensures err { IfErr result (BehindFails p.now e.now count from) }
+    ensures err { IfErr result (Unspelled (NoneBehind p.now e.now count from)) }
 {
     let mut pos = from;
     for _passed in 0..count {
@@ -80,7 +81,7 @@ fn before(alloc: Global, p: &Platter, e: &Entry, pos: u32) -> Result<u32, Fault>
     requires low { e.now.start < pos }
     requires high { pos ≤ total_of Narrow p.now }
     ensures ok { IfOk result (IsRecordFrom p.now e.now pos) }
-    ensures err { IfErr result (NoRecordBefore p.now e.now pos) }
+    ensures err { IfErr result (Unspelled (IsNoRecordBefore p.now e.now pos)) }
 {
     let last = pos - 1;
     let count = u32::from(p.sector(last)[1]);

@@ -1,18 +1,19 @@
 // A file is opened, and found again by its slot.
-ghost use Rattle.std.specs.Prelude.{◌≡◌, ◌+◌, ◌-◌, ◌<◌, ◌≤◌, ℕ, [], true, false, Some, None, IfSome, IfOk, IfErr, OnOk};
-ghost use Rattle.std.specs.FinMap.{get};
+ghost use Rattle.std.specs.Prelude.{◌≡◌, ◌+◌, ◌-◌, ◌<◌, ◌≤◌, ℕ, [], true, false, Some, None, is_some, IfSome, IfOk, IfErr, OnOk};
+ghost use Rattle.std.specs.FinMap.{get, insert};
 ghost use Rattle.b2_platter.specs.declared.layout.Layout.TheVariants.{Narrow};
 ghost use Rattle.b2_platter.specs.Image.{total_of};
 ghost use Rattle.b2_platter.specs.Checks.{Good};
 ghost use Rattle.b2_platter.specs.Edits.{is_data_sector};
 ghost use Rattle.b2_catalog.specs.Catalogue.{catalogue};
-ghost use Rattle.b2_datafile.specs.Slots.{open_refusal, opened, file_of, new_refusal};
-ghost use Rattle.b2_datafile.specs.Files.{IsWhole};
+ghost use Rattle.b2_catalog.specs.Making.{KeepsOthers, files_without, make_refusal};
+ghost use Rattle.b2_datafile.specs.Slots.{open_refusal, opened, file_of};
+ghost use Rattle.b2_datafile.specs.Files.{IsWhole, MadeEmpty};
 
-use crate::marks;
+use crate::saving::put_end;
 use b2_base::codes::{D82_NO_FILE, D89_OTHER_KIND};
 use b2_base::{Addr, Code, Name8, Slot};
-use b2_catalog::{Entry, enter, look, reuse, set_used};
+use b2_catalog::{Entry, look, make_file};
 use b2_platter::Platter;
 
 /// Opens the live data file of a name at its first record. D82 where there is no live file of the name, else D89 where it
@@ -67,22 +68,6 @@ pub(crate) fn file_of(p: &Platter, s: &Slot) -> Option<Entry>
     None
 }
 
-/// Makes a new file of some sectors, or takes a scratched file's sectors again.
-fn make(p: &mut Platter, old: Option<Name8>, sectors: u32, name: Name8) -> Result<Entry, Code>
-    requires { old ≡ None → 2 ≤ sectors }
-    ensures err { IfErr result (λ code. (new_refusal p.old old sectors name ≡ Some code) × (p.new ≡ p.old)) }
-    ensures ok { OnOk result (new_refusal p.old old sectors name ≡ None) }
-    ensures file { IfOk result (λ e. get (catalogue p.new) e.name ≡ Some e) }
-    ensures named { IfOk result (λ e. e.name ≡ name) }
-    ensures live { IfOk result (λ e. e.live ≡ true) }
-    ensures kind { IfOk result (λ e. e.program ≡ false) }
-{
-    match old {
-        None => enter(p, name, false, sectors),
-        Some(old) => reuse(p, old, name, false),
-    }
-}
-
 /// Makes a data file with no records and opens it: a new file of some sectors, or a scratched file's sectors again where an
 /// old name is given. The codes are those of `enter` and of `reuse`.
 pub fn open_new(
@@ -93,18 +78,21 @@ pub fn open_new(
     name: Name8,
 ) -> Result<Slot, Code>
     requires { old ≡ None → 2 ≤ sectors }
-    ensures err { IfErr result (λ code. (new_refusal p.old old sectors name ≡ Some code) × (p.new ≡ p.old)) }
-    ensures ok { OnOk result (new_refusal p.old old sectors name ≡ None) }
+    ensures err { IfErr result (λ code. (make_refusal p.old old name sectors ≡ Some code) × (p.new ≡ p.old)) }
+    ensures ok { OnOk result (make_refusal p.old old name sectors ≡ None) }
+    ensures image { OnOk result (MadeEmpty p.old old name sectors p.new) }
+    ensures there { OnOk result (is_some (get (catalogue p.new) name) ≡ true) }
     ensures file { IfOk result (λ slot. IfSome (get (catalogue p.new) name) (λ e. slot ≡ opened addr e)) }
     ensures whole { OnOk result (IfSome (get (catalogue p.new) name) (λ e. IsWhole p.new e [])) }
+    ensures files { OnOk result (IfSome (get (catalogue p.new) name) (λ e. catalogue p.new ≡ insert (files_without p.old old) name e)) }
+    ensures others { OnOk result (IfSome (get (catalogue p.new) name) (KeepsOthers p.old p.new)) }
 {
-    let e = match make(p, old, sectors, name) {
+    let e = match make_file(p, old, name, false, sectors) {
         Ok(e) => e,
         Err(code) => return Err(code),
     };
     let _image = p.image();
     let slot = slot_of(addr, name, &e);
-    p.put_file(slot.start, &marks::end_mark());
-    set_used(p, e, 1);
+    put_end(p, e, e.start);
     Ok(slot)
 }

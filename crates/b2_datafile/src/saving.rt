@@ -1,21 +1,20 @@
 // Records and end marks are written.
 ghost use Rattle.std.specs.Prelude.{◌≡◌, ◌+◌, ◌-◌, ◌^◌, ◌<◌, ◌≤◌, ℕ, [], ◌∷◌, true, Some, None, IfSome, IfOk, IfErr, OnOk, length};
-ghost use Rattle.std.specs.FinMap.{insert};
+ghost use Rattle.std.specs.FinMap.{get, insert};
 ghost use Rattle.std.specs.List.{list_all};
 ghost use Rattle.b2_platter.specs.declared.layout.Layout.TheVariants.{Narrow};
-ghost use Rattle.b2_platter.specs.Edits.{put_sector, is_data_sector};
+ghost use Rattle.b2_platter.specs.Edits.{is_data_sector, put_from};
 ghost use Rattle.b2_catalog.specs.Catalogue.{catalogue};
-ghost use Rattle.b2_catalog.specs.Changes.{control_sector};
 ghost use Rattle.b2_record.specs.Items.{is_short};
 ghost use Rattle.b2_record.specs.Writing.{record_of};
-ghost use Rattle.b2_datafile.specs.Files.{end_mark, put_from};
+ghost use Rattle.b2_datafile.specs.Files.{with_end};
 ghost use Rattle.b2_datafile.specs.Slots.{file_of, write_refusal};
 
 use crate::marks;
 use crate::opening::file_of;
 use b2_base::codes::{D80_NOT_OPEN, D81_FILE_FULL};
 use b2_base::{Code, Slot};
-use b2_catalog::set_used;
+use b2_catalog::{Entry, set_used};
 use b2_dec::Value;
 use b2_platter::Platter;
 use b2_record::{put, sectors_of};
@@ -59,13 +58,27 @@ pub fn save(p: &mut Platter, s: &Slot, values: &[Value]) -> Result<u32, Code>
     Ok(s.pos + count)
 }
 
+/// Writes the end mark at a place of a file and says that the sectors up to it are used.
+pub(crate) fn put_end(p: &mut Platter, e: Entry, pos: u32)
+    requires file { get (catalogue p.old) e.name ≡ Some e }
+    requires live { e.live ≡ true }
+    requires low { e.start ≤ pos }
+    requires high { pos < e.end }
+    ensures image { p.new ≡ with_end p.old e pos }
+    ensures files { catalogue p.new ≡ insert (catalogue p.old) e.name (record e { used = pos - e.start + 1 }) }
+{
+    let _image = p.image();
+    p.put_file(pos, &marks::end_mark());
+    set_used(p, e, pos - e.start + 1);
+}
+
 /// Writes the end mark at a slot's place and says that the sectors up to it are used; the answer is the place. D80 where
 /// the slot's file isn't there, else D81 where the place isn't before the file's control sector.
 pub fn end(p: &mut Platter, s: &Slot) -> Result<u32, Code>
     requires { s.now.start ≤ s.now.pos }
     ensures ok { IfOk result (λ pos. (write_refusal (file_of p.old s.now) s.now.pos 1 ≡ None) × (pos ≡ s.now.pos)) }
-    ensures image { OnOk result (IfSome (file_of p.old s.now) (λ e. p.new ≡ put_sector (put_sector p.old s.now.pos end_mark) e.end (control_sector (s.now.pos - s.now.start + 1)))) }
-    ensures files { OnOk result (IfSome (file_of p.old s.now) (λ e. catalogue p.new ≡ insert (catalogue p.old) e.name (record e { used = s.now.pos - s.now.start + 1 }))) }
+    ensures image { OnOk result (IfSome (file_of p.old s.now) (λ e. p.new ≡ with_end p.old e s.now.pos)) }
+    ensures files { OnOk result (IfSome (file_of p.old s.now) (λ e. catalogue p.new ≡ insert (catalogue p.old) e.name (record e { used = s.now.pos - e.start + 1 }))) }
     ensures err { IfErr result (λ code. (write_refusal (file_of p.old s.now) s.now.pos 1 ≡ Some code) × (p.new ≡ p.old)) }
 {
     let Some(e) = file_of(p, s) else {
@@ -74,7 +87,6 @@ pub fn end(p: &mut Platter, s: &Slot) -> Result<u32, Code>
     if s.pos >= e.end {
         return Err(Code::known(D81_FILE_FULL));
     }
-    p.put_file(s.pos, &marks::end_mark());
-    set_used(p, e, s.pos - s.start + 1);
+    put_end(p, e, s.pos);
     Ok(s.pos)
 }

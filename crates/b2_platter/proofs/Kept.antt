@@ -133,7 +133,7 @@ module _ (layout : Layout) (image : List ℕ) (good : Good layout image) (n : �
   place = list_any-found _ 1 (16 * index_of image - 1) within
 
   -- no file ends at a data sector of a file
-  no_end : (k : ℕ) → 1 ≤ k → k < 16 * index_of image → is_entry (row image k) ≡ true → n ≡ end_of layout (row image k) → ⊥
+  pub no_end : (k : ℕ) → 1 ≤ k → k < 16 * index_of image → is_entry (row image k) ≡ true → n ≡ end_of layout (row image k) → ⊥
   no_end k low high e is =
       let s = Sound-from_Good layout image good in
       let m = place.0 in

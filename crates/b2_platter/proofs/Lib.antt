@@ -9,3 +9,7 @@ pub mod Soundness
 pub mod Puts
 pub mod Kept
 pub mod Volumes
+pub mod DataSectors
+pub mod SectorRuns
+pub mod Zeros
+pub mod Reading

@@ -41,6 +41,11 @@ abbrev pub put_sectors : List ℕ → List (ℕ × List ℕ) → List ℕ
 put_sectors image [] = image
 put_sectors image (edit ∷ edits) = put_sectors (put_sector image edit.0 edit.1) edits
 
+-- the sectors from one on are these
+abbrev pub put_from : List ℕ → ℕ → List (List ℕ) → List ℕ
+put_from image at [] = image
+put_from image at (s ∷ sectors) = put_from (put_sector image at s) (at + 1) sectors
+
 -- a sector is one of the slot's file, and not its last, which is its control sector
 unfoldable pub holds_data : Layout → List ℕ → ℕ → Bool
 holds_data layout slot n = is_entry slot && nat_le (start_of layout slot) n && nat_lt n (end_of layout slot)

@@ -14,6 +14,10 @@ row image k = take 16 (drop (16 * k) image)
 unfoldable pub sector : List ℕ → ℕ → List ℕ
 sector image n = take 256 (drop (256 * n) image)
 
+-- some sectors, one after the other
+abbrev pub sectors_at : List ℕ → ℕ → ℕ → List (List ℕ)
+sectors_at image at n = map (sector image) (range_with_len at n)
+
 abbrev pub head : List ℕ → List ℕ
 head image = row image 0
 

@@ -3,4 +3,5 @@ pub mod Slot
 pub mod Image
 pub mod Checks
 pub mod Edits
+pub mod Reading
 pub mod Volume

@@ -1,11 +1,11 @@
 -- What an image says, as whole values: a platter's counts, its slots and its sectors. Its spelling is its image.
 use Rattle.std.specs.Prelude.{ℕ, ◌+◌, ◌-◌, Bool, List, ◌∷◌, ◌++◌, map, length, replicate, if◌then◌else◌}
-use Rattle.std.specs.List.{flat_map, range_with_len}
+use Rattle.std.specs.List.{flat_map}
 use Rattle.b2_platter.specs.declared.slot.TheConstants.{LIVE, SCRATCHED, GONE, PROGRAM, DATA}
 use Rattle.b2_platter.specs.declared.layout.Layout.{Layout}
 use Rattle.b2_platter.specs.Layout.{third_place}
 use Rattle.b2_platter.specs.Slot.{is_free, is_gone, is_live, is_program, start_of, end_of, name_of}
-use Rattle.b2_platter.specs.Image.{row, sector, index_of, total_of, catalogue_end, next_free, slots_of}
+use Rattle.b2_platter.specs.Image.{row, sectors_at, index_of, total_of, catalogue_end, next_free, slots_of}
 use Rattle.b2_platter.specs.Edits.{spelled, head_bytes}
 
 -- a file as its slot has it
@@ -59,5 +59,5 @@ volume layout bytes =
       end = catalogue_end layout bytes;
       next = next_free layout bytes;
       slots = map (λ k. slot_in_row layout (row bytes k)) (slots_of (index_of bytes));
-      sectors = map (sector bytes) (range_with_len (index_of bytes) (total_of layout bytes - index_of bytes));
+      sectors = sectors_at bytes (index_of bytes) (total_of layout bytes - index_of bytes);
     }

@@ -10,7 +10,8 @@
 //!
 //! Stands on `b2_base`, and on `byteorder` for numbers of several bytes. The definitions are in `specs/`: `Layout` and
 //! `Slot` for the spelling, `Image` for rows and sectors, `Checks` for the nine checks, `Edits` for images that are made
-//! and changed, and `Volume` for what an image says as whole values, which spells it again byte for byte.
+//! and changed, `Volume` for what an image says as whole values, which spells it again byte for byte, and `Reading` for why
+//! nothing is read.
 #![tactic(auto)]
 
 pub mod checks;

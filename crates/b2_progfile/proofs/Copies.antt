@@ -1,13 +1,12 @@
 -- Sectors of an image, as they are copied to another.
-use Rattle.std.proofs.Common.{◌≡◌, ℕ, zero, suc, ◌+◌, ◌-◌, ◌*◌, ◌<◌, ◌≤◌, List, ◌∷◌, length, take, drop, min, ap, ◌∙◌, arith, length-drop}
+use Rattle.std.proofs.Common.{◌≡◌, ℕ, zero, suc, ◌+◌, ◌-◌, ◌*◌, ◌<◌, ◌≤◌, List, ◌∷◌, length, drop, ap, arith, length-drop}
 use Rattle.std.proofs.lemmas.List.{length-take}
 use Rattle.std.proofs.lemmas.List.FromFn.{length-map-range_with_len}
 use Rattle.b2_platter.specs.declared.layout.Layout.TheVariants.{Narrow}
-use Rattle.b2_platter.specs.Image.{sector, total_of}
+use Rattle.b2_platter.specs.Image.{sector, total_of, sectors_at}
 use Rattle.b2_platter.specs.Checks.{Good}
 use Rattle.b2_platter.proofs.Goodness.{sectors_of_good}
-use Rattle.b2_progfile.specs.Programs.{sectors_at}
-use Rattle.b2_progfile.proofs.Puts.{AllLong}
+use Rattle.b2_platter.proofs.SectorRuns.{AllLong}
 
 pub sectors-next : (image : List ℕ) (at k count : ℕ) → k < count → sectors_at image at (count - k) ≡ sector image at ∷ sectors_at image (at + 1) (count - (k + 1))
 sectors-next image at k count h = let n : count - k ≡ suc (count - (k + 1)) = omega (arith, h) in ap (sectors_at image at) n

@@ -1,74 +1,38 @@
 -- An image with a copy of a file of another: it is good, its catalogue has the file besides, and its other sectors stay.
-use Rattle.std.proofs.Common.{◌≡◌, ◌≢◌, ℕ, zero, suc, ◌+◌, ◌-◌, ◌*◌, ◌/◌, ◌<◌, ◌≤◌, Bool, true, false, not, cond, List, [], ◌∷◌, length, drop, Option, Some, None, IfSome, refl, sym, ap, ap₂, subst, ◌∙◌, arith, length-drop}
-use Rattle.std.specs.Prelude.{is_some, is_none, nat_lt}
-use Rattle.std.specs.Str.{bytes_eq}
-use Rattle.std.specs.Cmp.Lexicographic.{nat_list_cmp_total}
-use Rattle.std.specs.FinMap.{get, insert, get-insert, same_map, slice_cmp-IsAntisymmetric, nat_cmp-IsAntisymmetric}
-use Rattle.std.proofs.lemmas.Bool.{and_parts, ltb-false}
+use Rattle.std.proofs.Common.{◌≡◌, ◌≢◌, ℕ, ◌+◌, ◌-◌, ◌*◌, ◌<◌, ◌≤◌, Bool, true, false, cond, List, length, Some, sym, ap, ap₂, subst, ◌∙◌, arith, length-drop}
+use Rattle.std.specs.FinMap.{get, insert}
+use Rattle.std.proofs.lemmas.Bool.{and_parts}
 use Rattle.b2_base.specs.Names.{is_name8}
-use Rattle.b2_base.specs.declared.codes.TheConstants.{D83_NAME_PRESENT, D85_INDEX_FULL, D86_NO_ROOM}
 use Rattle.b2_platter.specs.declared.layout.Layout.TheVariants.{Narrow}
 use Rattle.b2_platter.specs.Layout.{number_at, second_place}
-use Rattle.b2_platter.specs.Slot.{is_free, is_entry, is_spelled, end_of, name_of}
-use Rattle.b2_platter.specs.Image.{row, sector, index_of, total_of, catalogue_end, next_free}
+use Rattle.b2_platter.specs.Slot.{is_free, is_entry, is_spelled, name_of}
+use Rattle.b2_platter.specs.Image.{row, sector, index_of, total_of, catalogue_end, next_free, sectors_at}
 use Rattle.b2_platter.specs.Checks.{Good}
-use Rattle.b2_platter.specs.Edits.{put_sector}
-use Rattle.b2_platter.proofs.Goodness.{Parts-of, sectors_of_good}
+use Rattle.b2_platter.specs.Edits.{put_sector, put_from}
+use Rattle.b2_platter.proofs.Goodness.{Parts-of}
 use Rattle.b2_platter.proofs.Soundness.{Sound-from_Good}
 use Rattle.b2_platter.proofs.Puts.{row_before, sector_after, sector_before}
 use Rattle.b2_platter.proofs.Kept.{index-same, next-same}
 use Rattle.b2_platter.proofs.Fresh.{HeadSays}
 use Rattle.b2_catalog.specs.declared.entry.Entry.{Entry}
 use Rattle.b2_catalog.specs.Catalogue.{Catalogue, catalogue}
-use Rattle.b2_catalog.specs.Ways.{place, slot_of, way_of}
+use Rattle.b2_catalog.specs.Ways.{way_of}
 use Rattle.b2_catalog.specs.Changes.{control_sector, entered}
-use Rattle.b2_catalog.specs.Calls.{enter_refusal, new_entry}
+use Rattle.b2_catalog.specs.Calls.{new_entry}
 use Rattle.b2_catalog.proofs.DataSectors.{InImage, get-put, in-image}
-use Rattle.b2_catalog.proofs.Changed.{changed_good}
 use Rattle.b2_catalog.proofs.Entering.{catalogue-entered, entered_after, entered_good, entered_head, entered_others, entered_sectors, entered_slot}
-use Rattle.b2_catalog.proofs.Looking.{Holds, Holds-from}
-use Rattle.b2_catalog.proofs.Mapping.{tie-eq}
+use Rattle.b2_catalog.proofs.Looking.{Holds-from}
+use Rattle.b2_catalog.proofs.MadeFiles.{Enters, put-twice}
 use Rattle.b2_catalog.proofs.Placing.{Placed, Placed-from}
-use Rattle.b2_catalog.proofs.Refusals.{present, slot_none}
-use Rattle.b2_catalog.proofs.RowPuts.{length-row, row_room}
-use Rattle.b2_catalog.proofs.Scratching.{catalogue-used, entry_end, entry_start, stands, used_changes}
+use Rattle.b2_catalog.proofs.RowPuts.{length-row}
+use Rattle.b2_catalog.proofs.Scratching.{stands}
+use Rattle.b2_catalog.proofs.Using.{used-good, used-files}
 use Rattle.b2_catalog.proofs.Spelled.{control_long}
-use Rattle.b2_progfile.specs.Programs.{sectors_at}
-use Rattle.b2_progfile.specs.Saving.{filled_with, put_all}
+use Rattle.b2_progfile.specs.Saving.{file_filled_with}
 use Rattle.b2_progfile.specs.Moving.{IsLiveFile, all_sectors, entry_from, own_sectors, put_copy, with_copy}
 use Rattle.b2_progfile.proofs.Copies.{sectors-length, sectors-long}
-use Rattle.b2_progfile.proofs.Filling.{all-put, control-room, filled-with-there, still-there}
-use Rattle.b2_progfile.proofs.Puts.{AllLong, PutAll}
-
--- ---- a file is entered
-
-pub refused-by : (b c : Bool) (o : Option ℕ) (x : ℕ) → cond b (Some x) o ≡ None → (b ≡ false) × (o ≡ None)
-refused-by true c o x h = cc
-refused-by false c o x h = (refl, h)
-
-pub none-or : (o : Option ℕ) → is_none o ≡ false → (k : ℕ) × (o ≡ Some k)
-none-or None h = cc
-none-or (Some k) h = (k, refl)
-
--- what it says that a file is entered
-pub record Enters (image name : List ℕ) (sectors : ℕ) : Type 0 where
-  pub absent : slot_of image name ≡ None
-  pub k : ℕ
-  pub place_is : place image name ≡ Some k
-  pub room : next_free Narrow image + sectors ≤ catalogue_end Narrow image
-
-pub enters : (image name : List ℕ) (sectors : ℕ) → enter_refusal image name sectors ≡ None → Enters image name sectors
-enters image name sectors h =
-    let first = refused-by (is_some (get (catalogue image) name)) true _ D83_NAME_PRESENT h in
-    let second = refused-by (is_none (place image name)) true _ D85_INDEX_FULL first.1 in
-    let third = refused-by (nat_lt (catalogue_end Narrow image) (next_free Narrow image + sectors)) true None D86_NO_ROOM second.1 in
-    let k = none-or (place image name) second.0 in
-    record {
-      absent = slot_none image name (sym (present image name) ∙ first.0);
-      k = k.0;
-      place_is = k.1;
-      room = ltb-false (catalogue_end Narrow image) (next_free Narrow image + sectors) third.0;
-    }
+use Rattle.b2_progfile.proofs.Filling.{all-put, control-room, files-stay, filled-with-there, still-there}
+use Rattle.b2_platter.proofs.SectorRuns.{AllLong, PutFrom}
 
 -- ---- names of files
 
@@ -85,21 +49,6 @@ unfolding name_of
 eight-of slot h = (let n = length-drop 8 slot in omega (arith, h, n))
 
 -- ---- maps
-
-put-twice-at : (files : Catalogue) (name : List ℕ) (e f : Entry) (q : List ℕ) (b : Bool) → bytes_eq name q ≡ b
-    → cond b (Some f) (cond b (Some e) (get files q)) ≡ cond b (Some f) (get files q)
-put-twice-at files name e f q true is = refl
-put-twice-at files name e f q false is = refl
-
-pub get-other : (files : Catalogue) (name q : List ℕ) (e : Entry) → get (insert files name e) q ≡ cond (bytes_eq name q) (Some e) (get files q)
-get-other files name q e = get-insert nat_list_cmp_total files name e q ∙ ap (λ (t : Bool). cond t (Some e) (get files q)) (tie-eq q name)
-
--- what is put at a name twice is as put once
-pub put-twice : (files : Catalogue) (name : List ℕ) (e f : Entry) → insert (insert files name e) name f ≡ insert files name f
-put-twice files name e f =
-    same_map nat_list_cmp_total (slice_cmp-IsAntisymmetric nat_cmp-IsAntisymmetric) (insert (insert files name e) name f) (insert files name f)
-    (λ q. get-other (insert files name e) name q f ∙ (ap (λ (o : Option Entry). cond (bytes_eq name q) (Some f) o) (get-other files name q e)
-    ∙ (put-twice-at files name e f q (bytes_eq name q) refl ∙ sym (get-other files name q f))))
 
 end-same : (a b : List ℕ) → row b 0 ≡ row a 0 → catalogue_end Narrow b ≡ catalogue_end Narrow a
 unfolding catalogue_end
@@ -163,10 +112,10 @@ module _ (from image : List ℕ) (e : Entry) (source : Good Narrow from) (good :
   own = own_sectors from e
 
   abbrev two : List ℕ
-  two = put_all one start own
+  two = put_from one start own
 
   abbrev three : List ℕ
-  three = filled_with one start (start + (e.end - e.start)) own e.used
+  three = file_filled_with one start (start + (e.end - e.start)) own e.used
 
   good-one : Good Narrow one
   good-one = entered_good image good e.name legal eight n.k placed n.absent e.program (all_sectors e) some n.room
@@ -192,8 +141,11 @@ module _ (from image : List ℕ) (e : Entry) (source : Good Narrow from) (good :
   room : new.start + length own ≤ new.end
   room = let l = last-is in let c = count in omega (arith, l, c)
 
-  put : PutAll one two start own
+  put : PutFrom one two start own
   put = all-put one new own good-one file-one long room
+
+  files-two : catalogue two ≡ catalogue one
+  files-two = files-stay one new own good-one file-one long room
 
   file-two : get (catalogue two) e.name ≡ Some new
   file-two = still-there one new own good-one file-one long room
@@ -207,13 +159,9 @@ module _ (from image : List ℕ) (e : Entry) (source : Good Narrow from) (good :
   used : Good Narrow three × (catalogue three ≡ insert (catalogue two) e.name (record new { used = e.used }))
   used =
       let i = inside in
-      let w = stands two e.name new file-two in
-      let end : new.end ≡ end_of Narrow (row two w.0) = ap (λ (e : Entry). e.end) w.1.is ∙ entry_end two w.0 in
-      let first : new.start ≡ _ = ap (λ (e : Entry). e.start) w.1.is ∙ entry_start two w.0 in
-      let few : e.used ≤ end_of Narrow (row two w.0) - _ = omega (arith, i.few, last-is, end, first) in
-      let same : three ≡ put_sector two (end_of Narrow (row two w.0)) (control_sector e.used) = three-is ∙ ap (λ (m : ℕ). put_sector two m (control_sector e.used)) end in (
-        subst (Good Narrow) (sym same) (changed_good two _ w.0 put.good (used_changes two put.good e.name w.0 w.1.at e.used i.used few)),
-        ap catalogue same ∙ (catalogue-used two put.good e.name w.0 w.1.at e.used i.used few ∙ ap (λ (f : Entry). insert (catalogue two) e.name (record f { used = e.used })) (sym w.1.is)),
+      let few : e.used ≤ new.end - new.start = omega (arith, i.few, last-is) in (
+        subst (Good Narrow) (sym three-is) (used-good two new put.good file-two e.used i.used few),
+        ap catalogue three-is ∙ used-files two new put.good file-two e.used i.used few,
       )
 
   index-one : index_of one ≡ index_of image
@@ -248,7 +196,7 @@ module _ (from image : List ℕ) (e : Entry) (source : Good Narrow from) (good :
         end = end-same one three first-row ∙ head-one.end;
         next = next-same Narrow one three first-row ∙ head-one.next;
         files = used.1
-            ∙ (ap (λ (files : Catalogue). insert files e.name (record new { used = e.used })) (put.files ∙ files-one)
+            ∙ (ap (λ (files : Catalogue). insert files e.name (record new { used = e.used })) (files-two ∙ files-one)
             ∙ (put-twice (catalogue image) e.name new (record new { used = e.used }) ∙ ap (insert (catalogue image) e.name) entry-is));
         before = λ m low high. ap (λ (q : List ℕ). sector q m) three-is
             ∙ (sector_before two new.end (control_sector e.used) (control_long e.used) last-room m (omega (arith, high, l))

@@ -1,47 +1,49 @@
 -- A file is filled with sectors, and its control sector says how many they are.
-use Rattle.std.proofs.Common.{◌≡◌, ℕ, ◌+◌, ◌*◌, ◌<◌, ◌≤◌, ◌⊎◌, List, length, Some, refl, sym, ap, ◌∙◌, inl, inr, arith}
+use Rattle.std.proofs.Common.{◌≡◌, ℕ, ◌+◌, ◌*◌, ◌<◌, ◌≤◌, ◌⊎◌, List, length, Some, ap, ◌∙◌, inl, inr, arith}
 use Rattle.std.specs.FinMap.{get}
 use Rattle.b2_platter.specs.declared.layout.Layout.TheVariants.{Narrow}
-use Rattle.b2_platter.specs.Image.{sector}
+use Rattle.b2_platter.specs.Image.{sector, sectors_at}
 use Rattle.b2_platter.specs.Checks.{Good}
-use Rattle.b2_platter.specs.Edits.{put_sector}
+use Rattle.b2_platter.specs.Edits.{put_from}
 use Rattle.b2_platter.proofs.Goodness.{sectors_of_good}
 use Rattle.b2_platter.proofs.Puts.{sector_after, sector_before}
 use Rattle.b2_catalog.specs.declared.entry.Entry.{Entry}
 use Rattle.b2_catalog.specs.Catalogue.{catalogue}
 use Rattle.b2_catalog.specs.Changes.{control_sector}
 use Rattle.b2_catalog.proofs.Spelled.{control_long}
-use Rattle.b2_progfile.specs.Programs.{sectors_at}
-use Rattle.b2_progfile.specs.Saving.{filled, filled_with, put_all}
-use Rattle.b2_catalog.proofs.DataSectors.{in-image}
-use Rattle.b2_progfile.proofs.Puts.{AllLong, PutAll, put-all, same-sectors}
+use Rattle.b2_progfile.specs.Saving.{file_filled, file_filled_with}
+use Rattle.b2_catalog.proofs.DataSectors.{catalogue-from, in-image}
+use Rattle.b2_platter.proofs.SectorRuns.{same-sectors, AllLong, PutFrom, put-from}
 
 module _ (image : List ℕ) (e : Entry) (sectors : List (List ℕ)) (good : Good Narrow image) (file : get (catalogue image) e.name ≡ Some e) (long : AllLong sectors) (room : e.start + length sectors ≤ e.end) where
-  pub all-put : PutAll image (put_all image e.start sectors) e.start sectors
-  all-put = put-all image e.start sectors good long (λ n low high. (in-image image e.name e good file).own n low (omega (arith, high, room)))
+  pub all-put : PutFrom image (put_from image e.start sectors) e.start sectors
+  all-put = put-from image e.start sectors good long (λ n low high. (in-image image e.name e good file).own n low (omega (arith, high, room)))
 
-  pub still-there : get (catalogue (put_all image e.start sectors)) e.name ≡ Some e
-  still-there = ap (λ files. get files e.name) all-put.files ∙ file
+  pub files-stay : catalogue (put_from image e.start sectors) ≡ catalogue image
+  files-stay = catalogue-from image e.start sectors good long (λ n low high. (in-image image e.name e good file).own n low (omega (arith, high, room)))
 
-  pub control-room : 256 * e.end + 256 ≤ length (put_all image e.start sectors)
+  pub still-there : get (catalogue (put_from image e.start sectors)) e.name ≡ Some e
+  still-there = ap (λ files. get files e.name) files-stay ∙ file
+
+  pub control-room : 256 * e.end + 256 ≤ length (put_from image e.start sectors)
   control-room =
-      let inside = in-image (put_all image e.start sectors) e.name e all-put.good still-there in
-      let whole = sectors_of_good Narrow (put_all image e.start sectors) all-put.good in
+      let inside = in-image (put_from image e.start sectors) e.name e all-put.good still-there in
+      let whole = sectors_of_good Narrow (put_from image e.start sectors) all-put.good in
       omega (arith, inside.within, whole)
 
-  pub filled-with-there : (used : ℕ) → sectors_at (filled_with image e.start e.end sectors used) e.start (length sectors) ≡ sectors
+  pub filled-with-there : (used : ℕ) → sectors_at (file_filled_with image e.start e.end sectors used) e.start (length sectors) ≡ sectors
   filled-with-there used =
-      same-sectors (put_all image e.start sectors) (filled_with image e.start e.end sectors used) e.start (length sectors)
-      (λ k low high. sector_before (put_all image e.start sectors) e.end (control_sector used) (control_long used) control-room k (omega (arith, high, room)))
+      same-sectors (put_from image e.start sectors) (file_filled_with image e.start e.end sectors used) e.start (length sectors)
+      (λ k low high. sector_before (put_from image e.start sectors) e.end (control_sector used) (control_long used) control-room k (omega (arith, high, room)))
       ∙ all-put.there
 
-  pub filled-there : sectors_at (filled image e.start e.end sectors) e.start (length sectors) ≡ sectors
+  pub filled-there : sectors_at (file_filled image e.start e.end sectors) e.start (length sectors) ≡ sectors
   filled-there = filled-with-there (length sectors)
 
   -- all sectors but those of the file stay
-  pub filled-others : (used n : ℕ) → (n < e.start) ⊎ (e.end < n) → sector (filled_with image e.start e.end sectors used) n ≡ sector image n
+  pub filled-others : (used n : ℕ) → (n < e.start) ⊎ (e.end < n) → sector (file_filled_with image e.start e.end sectors used) n ≡ sector image n
   filled-others used n out =
-      elim out as (λ _. sector (filled_with image e.start e.end sectors used) n ≡ sector image n) [
-        | inl before ↦ sector_before (put_all image e.start sectors) e.end (control_sector used) (control_long used) control-room n (omega (arith, before, room)) ∙ all-put.before n before
-        | inr after ↦ sector_after (put_all image e.start sectors) e.end (control_sector used) (control_long used) control-room n after ∙ all-put.after n (omega (arith, after, room))
+      elim out as (λ _. sector (file_filled_with image e.start e.end sectors used) n ≡ sector image n) [
+        | inl before ↦ sector_before (put_from image e.start sectors) e.end (control_sector used) (control_long used) control-room n (omega (arith, before, room)) ∙ all-put.before n before
+        | inr after ↦ sector_after (put_from image e.start sectors) e.end (control_sector used) (control_long used) control-room n after ∙ all-put.after n (omega (arith, after, room))
       ]

@@ -1,5 +1,4 @@
 pub mod Numbers
-pub mod Puts
 pub mod Pieces
 pub mod Making
 pub mod Filling
@@ -11,4 +10,3 @@ pub mod Files
 pub mod Refilling
 pub mod Told
 pub mod MovedFiles
-pub mod Others

@@ -1,19 +1,18 @@
 -- A file is made for some sectors.
-use Rattle.std.proofs.Common.{◌≡◌, ℕ, suc, ◌+◌, ◌-◌, ◌%◌, ◌*◌, ◌<◌, ◌≤◌, ◌&&◌, Bool, true, false, not, cond, List, [], ◌∷◌, map, Option, Some, None, Result, Ok, Err, IfOk, IfErr, IfSome, OnOk, refl, sym, ap, subst, ◌∙◌, arith}
+use Rattle.std.proofs.Common.{◌≡◌, ℕ, ◌+◌, ◌-◌, ◌≤◌, ◌&&◌, Bool, true, false, not, cond, List, [], ◌∷◌, Option, Some, None, IfSome, refl, ap, subst, arith}
 use Rattle.std.specs.Prelude.{is_some, is_none, nat_lt}
 use Rattle.std.specs.Str.{bytes_eq}
-use Rattle.std.specs.List.{range_with_len, find, list_any}
-use Rattle.std.specs.FinMap.{get, insert}
+use Rattle.std.specs.List.{find, list_any}
+use Rattle.std.specs.FinMap.{get}
 use Rattle.std.proofs.lemmas.Bool.{ltb-false}
 use Rattle.b2_base.specs.declared.codes.TheConstants.{D82_NO_FILE, D83_NAME_PRESENT, D86_NO_ROOM}
 use Rattle.b2_platter.specs.Image.{row, slots_in, has_free}
 use Rattle.b2_platter.specs.Slot.{is_free}
 use Rattle.b2_catalog.specs.declared.entry.Entry.{Entry}
-use Rattle.b2_catalog.specs.Catalogue.{Catalogue, catalogue}
+use Rattle.b2_catalog.specs.Catalogue.{catalogue}
 use Rattle.b2_catalog.specs.Calls.{old_refusal, reuse_refusal}
 use Rattle.b2_catalog.specs.Ways.{lowest_free, place}
 use Rattle.b2_progfile.specs.Saving.{size_refusal, or_then}
-use Rattle.b2_catalog.proofs.DataSectors.{get-put}
 
 found-here : (p : ℕ → Bool) (x : ℕ) (xs : List ℕ) (b : Bool) → p x ≡ b → is_some (find p xs) ≡ list_any p xs → is_some (find p (x ∷ xs)) ≡ list_any p (x ∷ xs)
 found-here p x xs true e h = rw e refl
@@ -47,26 +46,6 @@ none-is (Some x) h = cc
 
 pub size-large : (o : Option Entry) (count : ℕ) → is_some (size_refusal o count) ≡ false → size_refusal o count ≡ None
 size-large o count h = none-is (size_refusal o count) h
-
-pub file-there : (files new : Catalogue) (name : List ℕ) (r : Result Entry ℕ) → IfOk r (λ e. new ≡ insert files name e) → IfOk r (λ e. get new name ≡ Some e)
-file-there files new name (Ok e) made = ap (λ m. get m name) made ∙ get-put files name e
-file-there files new name (Err code) made = tt
-
-pub both : (r : Result Entry ℕ) (A B : Type 0) (P : Entry → Type 0) → IfOk r (λ e. A × P e) → OnOk r B → IfOk r (λ e. P e × B)
-both (Ok e) A B P a b = (a.1, b)
-both (Err code) A B P a b = tt
-
-pub each : (r : Result Entry ℕ) (P Q : Entry → Type 0) → ((e : Entry) → P e → Q e) → IfOk r P → IfOk r Q
-each (Ok e) P Q f a = f e a
-each (Err code) P Q f a = tt
-
-pub refused : (r : Result Entry ℕ) (P Q : ℕ → Type 0) → ((e : ℕ) → P e → Q e) → IfErr r P → IfErr r Q
-refused (Ok e) P Q f a = tt
-refused (Err code) P Q f a = f code a
-
-pub passed : (r : Result Entry ℕ) (Q : Type 0) (P : Entry → Type 0) → ((e : Entry) → P e → Q) → IfOk r P → OnOk r Q
-passed (Ok e) Q P f a = f e a
-passed (Err code) Q P f a = tt
 
 room-by : (b : Bool) (start end count : ℕ) → nat_lt (end - start) count ≡ b → cond b (Some D86_NO_ROOM) None ≡ None → 1 ≤ count → start + count ≤ end
 room-by true start end count is h some = cc

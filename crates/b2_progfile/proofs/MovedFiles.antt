@@ -1,23 +1,21 @@
 -- Files that are all moved: each is there, in its order, and no other.
-use Rattle.std.proofs.Common.{◌≡◌, ℕ, zero, suc, ◌+◌, ◌-◌, ◌<◌, ◌≤◌, ◌⊎◌, Bool, true, false, cond, List, [], ◌∷◌, drop, get_or, Option, Some, None, IfSome, refl, sym, ap, ap₂, subst, ◌∙◌, inl, inr, arith}
+use Rattle.std.proofs.Common.{◌≡◌, ℕ, zero, suc, ◌+◌, ◌-◌, ◌<◌, ◌≤◌, ◌⊎◌, Bool, true, false, cond, List, [], ◌∷◌, drop, get_or, Some, None, refl, sym, ap, ap₂, subst, ◌∙◌, inl, inr, arith}
 use Rattle.std.specs.Str.{bytes_eq}
 use Rattle.std.specs.Cmp.Lexicographic.{slice_cmp}
 use Rattle.std.specs.Ordering.{nat_cmp}
 use Rattle.std.specs.FinMap.{empty, get, get-empty, insert}
-use Rattle.std.specs.List.{range_with_len}
 use Rattle.std.proofs.lemmas.Slice.Eq.{bytes_eq-Decides}
 use Rattle.b2_platter.specs.declared.layout.Layout.TheVariants.{Narrow}
-use Rattle.b2_platter.specs.Image.{index_of, sector}
+use Rattle.b2_platter.specs.Image.{index_of, sector, sectors_at}
 use Rattle.b2_platter.specs.Checks.{Good}
 use Rattle.b2_catalog.specs.declared.entry.Entry.{Entry}
 use Rattle.b2_catalog.specs.Catalogue.{Catalogue, catalogue}
 use Rattle.b2_catalog.proofs.DataSectors.{get-put}
-use Rattle.b2_text.specs.Program.{Lines}
-use Rattle.b2_progfile.specs.Programs.{IsProgramFile, SpellsProgram, sectors_at}
+use Rattle.b2_progfile.specs.Programs.{SpellsProgram}
 use Rattle.b2_progfile.specs.Moving.{IsLiveFile, all_sectors, entry_from, own_sectors}
-use Rattle.b2_progfile.specs.MovingAll.{AllLive, AreLiveFiles, HasSectors, InOrder, IsAmong, MovedAll, with_files}
+use Rattle.b2_progfile.specs.MovingAll.{AllLive, HasSectors, InOrder, IsAmong, MovedAll, with_files}
 use Rattle.b2_progfile.specs.Laws.{FilesAreMoved, FilesKeepTheirOrder, NothingElseIsMoved, ProgramsAreMoved}
-use Rattle.b2_progfile.proofs.Copying.{get-other}
+use Rattle.b2_catalog.proofs.MadeFiles.{get-other}
 use Rattle.b2_progfile.proofs.Files.{AllOther, inside-of, other-kept, other-names}
 
 -- ---- each is there

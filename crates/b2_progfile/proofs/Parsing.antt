@@ -1,21 +1,17 @@
 -- The lines of a program as they are read.
-use Rattle.std.proofs.Common.{◌≡◌, ℕ, zero, suc, ◌+◌, ◌-◌, ◌*◌, ◌/◌, ◌%◌, ◌<◌, ◌≤◌, Bool, true, false, cond, List, [], ◌∷◌, ◌++◌, length, drop, take, replicate, get_or, is_eq, nat_cmp, Ordering, Less, Equal, Greater, Result, Ok, Err, IfErr, refl, sym, ap, ap₂, subst, ◌∙◌, arith, append_assoc, append-nil, length-append}
-use Rattle.std.specs.List.{AllByRecursion, list_all}
+use Rattle.std.proofs.Common.{◌≡◌, ℕ, ◌+◌, ◌*◌, ◌/◌, ◌%◌, ◌<◌, ◌≤◌, true, List, [], ◌∷◌, ◌++◌, length, drop, take, replicate, get_or, nat_cmp, Ordering, Less, Equal, Greater, refl, sym, ap, ap₂, subst, ◌∙◌, arith, append_assoc, append-nil, length-append}
+use Rattle.std.specs.List.{list_all}
 use Rattle.std.specs.Ordering.{match_ordering}
-use Rattle.std.specs.Map.{keys_of}
-use Rattle.std.proofs.lemmas.Bool.{and_parts, eqb-true}
 use Rattle.std.proofs.lemmas.Bool.Decides.{nat_tests}
 use Rattle.std.proofs.lemmas.List.{length-replicate, length-take-le, take-append-drop}
 use Rattle.std.proofs.Math.Seq.{take-append_seam}
-use Rattle.b2_base.specs.declared.codes.Fault.{Fault}
-use Rattle.b2_base.specs.declared.codes.Fault.TheVariants as fault
 use Rattle.b2_base.specs.Lexical.{first}
 use Rattle.b2_atom.specs.Lines.{is_line}
 use Rattle.b2_platter.specs.Layout.{is_zero}
-use Rattle.b2_text.specs.Program.{Lines, is_within, with_line}
+use Rattle.b2_platter.proofs.Zeros.{zeros-all, zeros-none}
+use Rattle.b2_text.specs.Program.{Lines, with_line}
 use Rattle.b2_progfile.specs.Programs.{Ascending, IsProgramText, all_line_bytes, line_bytes, program_bytes}
-use Rattle.b2_progfile.specs.Saving.{lines_between}
-use Rattle.b2_progfile.specs.Loading.{IsEnd, IsLineAt, Unread}
+use Rattle.b2_progfile.specs.Loading.{IsProgramEnd, IsLineAt}
 
 -- the least number that a further line may have
 abbrev pub next_least : ℕ → Lines → ℕ
@@ -119,7 +115,7 @@ first-get [] = refl
 first-get (b ∷ bytes) = refl
 
 -- nothing is spelled where the end stands, and something else than 00 after it
-pub no-end : (bytes rest : List ℕ) (lines program : Lines) → bytes ≡ all_line_bytes lines ++ rest → Ascending 0 lines → get_or rest 0 0 ≡ 255 → (IsEnd rest → ⊥) → IsProgramText program bytes → ⊥
+pub no-end : (bytes rest : List ℕ) (lines program : Lines) → bytes ≡ all_line_bytes lines ++ rest → Ascending 0 lines → get_or rest 0 0 ≡ 255 → (IsProgramEnd rest → ⊥) → IsProgramText program bytes → ⊥
 no-end bytes rest lines program e h starts none is =
     let left = left-over 0 lines program rest (replicate is.zeros 0) h is.ascending (sym e ∙ (is.same ∙ program-parts program (replicate is.zeros 0))) in
     no-more left.more left.ascending left.same
@@ -130,7 +126,7 @@ no-end bytes rest lines program e h starts none is =
         let bad : m.0 / 256 ≡ 255 = sym (ap (λ (xs : List ℕ). get_or xs 0 0) same) ∙ starts in
         absurd (omega (arith, bad, k.1))
 
-pub whole-program : (bytes rest : List ℕ) (lines : Lines) → bytes ≡ all_line_bytes lines ++ rest → Ascending 0 lines → IsEnd rest → IsProgramText lines bytes
+pub whole-program : (bytes rest : List ℕ) (lines : Lines) → bytes ≡ all_line_bytes lines ++ rest → Ascending 0 lines → IsProgramEnd rest → IsProgramText lines bytes
 whole-program bytes rest lines e h is = record {
   ascending = h;
   zeros = is.zeros;
@@ -138,18 +134,7 @@ whole-program bytes rest lines e h is = record {
   same = e ∙ (ap (λ (t : List ℕ). all_line_bytes lines ++ t) is.same ∙ sym (program-parts lines (replicate is.zeros 0)));
 }
 
-zeros-all : (bytes : List ℕ) → list_all is_zero bytes ≡ true → bytes ≡ replicate (length bytes) 0
-zeros-all [] h = refl
-zeros-all (b ∷ bytes) h =
-    let parts = and_parts (is_zero b) (list_all is_zero bytes) h in
-    let none : b ≡ 0 = eqb-true b 0 parts.0 in
-    ap₂ (λ (u : ℕ) (us : List ℕ). u ∷ us) none (zeros-all bytes parts.1)
-
-zeros-none : (n : ℕ) → list_all is_zero (replicate n 0) ≡ true
-zeros-none zero = refl
-zeros-none (suc n) = zeros-none n
-
-pub end-is : (bytes : List ℕ) → get_or bytes 0 0 ≡ 255 → get_or bytes 1 0 ≡ 255 → length bytes < 257 → list_all is_zero (drop 2 bytes) ≡ true → IsEnd bytes
+pub end-is : (bytes : List ℕ) → get_or bytes 0 0 ≡ 255 → get_or bytes 1 0 ≡ 255 → length bytes < 257 → list_all is_zero (drop 2 bytes) ≡ true → IsProgramEnd bytes
 end-is [] a b n z = cc
 end-is (x ∷ []) a b n z = cc
 end-is (x ∷ y ∷ bytes) a b n z = record {
@@ -158,13 +143,13 @@ end-is (x ∷ y ∷ bytes) a b n z = record {
   same = ap₂ (λ (u v : ℕ). u ∷ v ∷ bytes) a b ∙ ap (λ (t : List ℕ). 255 ∷ 255 ∷ t) (zeros-all bytes z);
 }
 
-pub end-second : (bytes : List ℕ) → IsEnd bytes → get_or bytes 1 0 ≡ 255
+pub end-second : (bytes : List ℕ) → IsProgramEnd bytes → get_or bytes 1 0 ≡ 255
 end-second bytes is = ap (λ (xs : List ℕ). get_or xs 1 0) is.same
 
-pub end-short : (bytes : List ℕ) → IsEnd bytes → length bytes < 257
+pub end-short : (bytes : List ℕ) → IsProgramEnd bytes → length bytes < 257
 end-short bytes is = let n = ap length is.same in let z = length-replicate {A = ℕ} is.zeros 0 in omega (arith, n, z, is.few)
 
-pub end-zeros : (bytes : List ℕ) → IsEnd bytes → list_all is_zero (drop 2 bytes) ≡ true
+pub end-zeros : (bytes : List ℕ) → IsProgramEnd bytes → list_all is_zero (drop 2 bytes) ≡ true
 end-zeros bytes is = ap (λ (xs : List ℕ). list_all is_zero (drop 2 xs)) is.same ∙ zeros-none is.zeros
 
 -- ---- one line
@@ -209,13 +194,3 @@ parts-of least h l n after rest line is =
 
 pub line-long : (least : ℕ) (bytes rest : List ℕ) (line : ℕ × List ℕ) → IsLineAt least line bytes rest → 3 ≤ length bytes
 line-long least bytes rest line is = let n = ap length is.same ∙ length-append (line_bytes line) rest in omega (arith, n)
-
--- ---- faults
-
-pub unread-more : {A B : Type 0} (f : Fault) → (A → B) → Unread A f → Unread B f
-unread-more (fault.Code code) more h = (h.0, more h.1)
-unread-more fault.NoMemory more h = tt
-
-pub unread-mapped : {X A B : Type 0} (r : Result X Fault) → (A → B) → IfErr r (Unread A) → IfErr r (Unread B)
-unread-mapped (Ok x) more h = tt
-unread-mapped (Err f) more h = unread-more f more h

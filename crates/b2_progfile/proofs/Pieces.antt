@@ -1,12 +1,12 @@
 -- Bytes in sectors.
-use Rattle.std.proofs.Common.{◌≡◌, ℕ, zero, suc, ◌+◌, ◌-◌, ◌*◌, ◌/◌, ◌<◌, ◌≤◌, List, [], ◌∷◌, ◌++◌, length, take, drop, map, min, replicate, refl, sym, ap, ap₂, ◌∙◌, arith, append_assoc, append-nil, length-append, length-drop}
+use Rattle.std.proofs.Common.{◌≡◌, ℕ, zero, suc, ◌+◌, ◌-◌, ◌*◌, ◌<◌, ◌≤◌, List, [], ◌∷◌, ◌++◌, length, take, drop, map, replicate, refl, sym, ap, ap₂, ◌∙◌, arith, append_assoc, append-nil, length-append, length-drop}
 use Rattle.std.specs.List.{range_with_len}
 use Rattle.std.proofs.lemmas.List.{length-take, length-take-le, length-replicate, take_all, take-append-drop}
 use Rattle.std.proofs.lemmas.List.FromFn.{length-map-range_with_len}
 use Rattle.b2_text.specs.Program.{Lines}
 use Rattle.b2_progfile.specs.Programs.{Ascending, AllPieces, SpellsProgram, all_line_bytes, piece_bytes, program_bytes}
-use Rattle.b2_progfile.specs.Saving.{piece_at, piece_of, pieces_count, pieces_of, program_sectors}
-use Rattle.b2_progfile.proofs.Puts.{AllLong}
+use Rattle.b2_progfile.specs.Saving.{piece_at, pieces_count, pieces_of, program_sectors}
+use Rattle.b2_platter.proofs.SectorRuns.{AllLong}
 
 pub pieces-next : (bytes : List ℕ) (k count : ℕ) → k < count
     → map (piece_at bytes) (range_with_len k (count - k)) ≡ piece_at bytes k ∷ map (piece_at bytes) (range_with_len (k + 1) (count - (k + 1)))

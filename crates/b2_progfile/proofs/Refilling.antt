@@ -1,36 +1,34 @@
 -- An emptied image to which files are copied, one after the other: each finds a slot and room.
 use Rattle.std.proofs.Common.{◌≡◌, ◌≢◌, ℕ, zero, suc, ◌+◌, ◌-◌, ◌*◌, ◌/◌, ◌%◌, ◌<◌, ◌≤◌, Bool, true, false, cond, List, [], ◌∷◌, length, drop, get_or, map, replicate, Option, Some, None, refl, sym, ap, ap₂, subst, ◌∙◌, inl, inr, arith, add-one}
-use Rattle.std.specs.Prelude.{is_some, is_none, nat_lt}
+use Rattle.std.specs.Prelude.{is_some, nat_lt}
 use Rattle.std.specs.List.{range_with_len}
-use Rattle.std.specs.Str.{bytes_eq}
 use Rattle.std.specs.Cmp.Lexicographic.{nat_list_cmp_total, slice_cmp}
 use Rattle.std.specs.Ordering.{nat_cmp}
 use Rattle.std.specs.FinMap.{empty, get, insert, get-empty, same_map, slice_cmp-IsAntisymmetric, nat_cmp-IsAntisymmetric}
-use Rattle.std.proofs.lemmas.Bool.{cases_eq, false≢true, false_from_ne_true, ltb-false, ltb-true}
+use Rattle.std.proofs.lemmas.Bool.{cases_eq, ltb-false, ltb-true}
 use Rattle.std.proofs.Math.Seq.{drop-cons}
-use Rattle.std.proofs.lemmas.Slice.Eq.{bytes_eq-Decides}
 use Rattle.b2_base.specs.declared.codes.TheConstants.{D85_INDEX_FULL, D86_NO_ROOM}
 use Rattle.b2_platter.specs.declared.layout.Layout.TheVariants.{Narrow}
 use Rattle.b2_platter.specs.Slot.{is_free}
-use Rattle.b2_platter.specs.Image.{row, sector, index_of, catalogue_end, next_free, first_slot, has_free, hash}
+use Rattle.b2_platter.specs.Image.{row, sector, index_of, catalogue_end, next_free, first_slot, hash}
 use Rattle.b2_platter.specs.Checks.{Good}
 use Rattle.b2_platter.specs.Edits.{CanFormat, formatted}
 use Rattle.b2_platter.proofs.Goodness.{Parts-of}
 use Rattle.b2_platter.proofs.Fresh.{formatted_good}
 use Rattle.b2_catalog.specs.declared.entry.Entry.{Entry}
 use Rattle.b2_catalog.specs.Catalogue.{Catalogue, catalogue}
-use Rattle.b2_catalog.specs.Ways.{lowest_free, place, place_along, way_of}
+use Rattle.b2_catalog.specs.Ways.{lowest_free, place, place_along}
 use Rattle.b2_catalog.specs.Calls.{enter_refusal}
 use Rattle.b2_catalog.proofs.Formats.{catalogue-formatted, formatted_head, formatted_row}
 use Rattle.b2_catalog.proofs.Looking.{FileSlot-from, find-missed, first_slot-le, met}
 use Rattle.b2_catalog.proofs.Refusals.{enter_taken, present}
 use Rattle.b2_catalog.proofs.Scratching.{stands}
-use Rattle.b2_progfile.specs.Programs.{sectors_at}
-use Rattle.b2_progfile.specs.Moving.{IsLiveFile, all_sectors, entry_from, own_sectors, with_copy}
+use Rattle.b2_progfile.specs.Moving.{all_sectors, entry_from, with_copy}
 use Rattle.b2_progfile.specs.MovingAll.{AllLive, AreLiveFiles, HasSectors, InOrder, MovedAll, all_refusal, emptied, total_sectors, with_copies, with_files}
-use Rattle.b2_progfile.proofs.Copying.{Copy, Enters, copied, enters, refused-by}
+use Rattle.b2_catalog.proofs.MadeFiles.{refused-by, enters}
+use Rattle.b2_progfile.proofs.Copying.{Copy, copied}
 use Rattle.b2_progfile.proofs.Files.{AllOther, inside-of, other-kept, other-names}
-use Rattle.b2_progfile.proofs.Puts.{same-sectors}
+use Rattle.b2_platter.proofs.SectorRuns.{same-sectors}
 
 -- ---- how many slots are free
 

@@ -1,13 +1,11 @@
 -- A program is told by its sectors, so that what is loaded is what was saved.
-use Rattle.std.proofs.Common.{◌≡◌, ℕ, ◌+◌, ◌/◌, ◌<◌, ◌≤◌, Bool, true, false, cond, List, [], ◌∷◌, ◌++◌, get_or, Option, Some, None, refl, sym, ap, ap₂, subst, ◌∙◌, inl, inr, arith, append_assoc}
+use Rattle.std.proofs.Common.{◌≡◌, ℕ, ◌+◌, ◌/◌, ◌<◌, Bool, true, false, cond, List, [], ◌∷◌, ◌++◌, get_or, Some, None, refl, sym, ap, ap₂, subst, ◌∙◌, inl, inr, arith, append_assoc}
 use Rattle.std.specs.Prelude.{not}
-use Rattle.std.specs.FinMap.{get}
 use Rattle.b2_base.specs.declared.codes.TheConstants.{A01_TEXT_AREA, D82_NO_FILE, D89_OTHER_KIND}
 use Rattle.b2_catalog.specs.declared.entry.Entry.{Entry}
-use Rattle.b2_catalog.specs.Catalogue.{catalogue}
 use Rattle.b2_text.specs.Program.{Lines, TextState, size_of}
-use Rattle.b2_progfile.specs.Programs.{Ascending, IsProgramFile, SpellsProgram, all_line_bytes, line_bytes}
-use Rattle.b2_progfile.specs.Loading.{FileFails, FileSpells, LoadFails, Loads, load_refusal, loaded, merged}
+use Rattle.b2_progfile.specs.Programs.{Ascending, all_line_bytes, line_bytes}
+use Rattle.b2_progfile.specs.Loading.{FileSpells, load_refusal, loaded, merged}
 use Rattle.b2_progfile.specs.Laws.{FilesAreLoaded, FilesAreRefusedBySize, ProgramsAreTold}
 use Rattle.b2_progfile.proofs.Merging.{merged-program}
 use Rattle.b2_progfile.proofs.Parsing.{program-parts, same-line}

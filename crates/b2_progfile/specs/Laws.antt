@@ -8,7 +8,8 @@ use Rattle.b2_platter.specs.Checks.{Good}
 use Rattle.b2_catalog.specs.declared.entry.Entry.{Entry}
 use Rattle.b2_catalog.specs.Catalogue.{catalogue}
 use Rattle.b2_text.specs.Program.{Lines, TextState, size_of}
-use Rattle.b2_progfile.specs.Programs.{IsProgramFile, SpellsProgram, sectors_at}
+use Rattle.b2_platter.specs.Image.{sectors_at}
+use Rattle.b2_progfile.specs.Programs.{IsProgramFile, SpellsProgram}
 use Rattle.b2_progfile.specs.Loading.{LoadFails, Loads}
 use Rattle.b2_progfile.specs.Moving.{IsLiveFile, entry_from, own_sectors}
 use Rattle.b2_progfile.specs.MovingAll.{MovedAll}

@@ -9,7 +9,8 @@ use Rattle.b2_catalog.specs.declared.entry.Entry.{Entry}
 use Rattle.b2_catalog.specs.Catalogue.{catalogue}
 use Rattle.b2_text.specs.Program.{Lines, TextState, size_of, with_line}
 use Rattle.b2_progfile.specs.declared.spelling.TheConstants.{PROGRAM_END}
-use Rattle.b2_progfile.specs.Programs.{SpellsProgram, line_bytes, sectors_at}
+use Rattle.b2_platter.specs.Image.{sectors_at}
+use Rattle.b2_progfile.specs.Programs.{SpellsProgram, line_bytes}
 
 -- why the file of a name isn't loaded: it isn't there or isn't live, or it is data
 abbrev pub load_refusal : Option Entry → Option ℕ
@@ -52,11 +53,6 @@ LoadFails image name replace text (fault.Code code) =
     ⊎ ((e : Entry) × (get (catalogue image) name ≡ Some e) × (load_refusal (Some e) ≡ None) × FileFails image e replace text code)
 LoadFails image name replace text fault.NoMemory = Unit {0}
 
--- why nothing is read: D88 where nothing is there, or memory failed
-abbrev pub Unread : Type 0 → Fault → Type 0
-Unread nothing (fault.Code code) = (code ≡ D88_FORMAT) × nothing
-Unread nothing fault.NoMemory = Unit {0}
-
 -- a number of a line and its atoms, at the front of some bytes
 pub record IsLineAt (least : ℕ) (line : ℕ × List ℕ) (bytes after : List ℕ) : Type 0 where
   pub low : least ≤ line.0
@@ -65,7 +61,7 @@ pub record IsLineAt (least : ℕ) (line : ℕ × List ℕ) (bytes after : List �
   pub same : bytes ≡ line_bytes line ++ after
 
 -- what ends a program, and fewer than 255 bytes 00 after it
-pub record IsEnd (bytes : List ℕ) : Type 0 where
+pub record IsProgramEnd (bytes : List ℕ) : Type 0 where
   pub zeros : ℕ
   pub few : zeros < 255
   pub same : bytes ≡ PROGRAM_END ∷ PROGRAM_END ∷ replicate zeros 0

@@ -3,14 +3,14 @@ use Rattle.std.specs.Prelude.{◌≡◌, ℕ, ◌+◌, ◌-◌, not, true, List,
 use Rattle.std.specs.FinMap.{get, insert}
 use Rattle.b2_base.specs.declared.codes.TheConstants.{D82_NO_FILE}
 use Rattle.b2_platter.specs.declared.layout.Layout.TheVariants.{Narrow}
-use Rattle.b2_platter.specs.Image.{next_free}
+use Rattle.b2_platter.specs.Image.{next_free, sectors_at}
 use Rattle.b2_catalog.specs.declared.entry.Entry.{Entry}
 use Rattle.b2_catalog.specs.Catalogue.{catalogue}
 use Rattle.b2_catalog.specs.Ways.{place}
 use Rattle.b2_catalog.specs.Changes.{entered}
 use Rattle.b2_catalog.specs.Calls.{enter_refusal}
-use Rattle.b2_progfile.specs.Programs.{sectors_at}
-use Rattle.b2_progfile.specs.Saving.{KeepsOthers, filled_with}
+use Rattle.b2_catalog.specs.Making.{KeepsOthers}
+use Rattle.b2_progfile.specs.Saving.{file_filled_with}
 
 -- the sectors of a file before its control sector
 abbrev pub own_sectors : List ℕ → Entry → List (List ℕ)
@@ -33,7 +33,7 @@ entry_from start e = record e { start = start; end = start + (e.end - e.start) }
 abbrev pub put_copy : List ℕ → List ℕ → Entry → Option ℕ → List ℕ
 put_copy from image e None = image
 put_copy from image e (Some k) =
-    filled_with (entered image k e.name e.program (all_sectors e)) (next_free Narrow image) (next_free Narrow image + (e.end - e.start)) (own_sectors from e) e.used
+    file_filled_with (entered image k e.name e.program (all_sectors e)) (next_free Narrow image) (next_free Narrow image + (e.end - e.start)) (own_sectors from e) e.used
 
 -- an image with a copy of a file of another, in the slot of its name
 abbrev pub with_copy : List ℕ → List ℕ → Entry → List ℕ

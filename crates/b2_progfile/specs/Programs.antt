@@ -1,9 +1,8 @@
 -- A program as it is saved: its lines, what ends them, and the sectors that hold these bytes.
-use Rattle.std.specs.Prelude.{◌≡◌, ℕ, ◌+◌, ◌/◌, ◌%◌, ◌<◌, ◌≤◌, true, List, [], ◌∷◌, ◌++◌, length, drop, map, replicate}
-use Rattle.std.specs.List.{range_with_len}
+use Rattle.std.specs.Prelude.{◌≡◌, ℕ, ◌+◌, ◌/◌, ◌%◌, ◌<◌, ◌≤◌, true, List, [], ◌∷◌, ◌++◌, length, drop, replicate}
 use Rattle.b2_base.specs.Lexical.{first}
 use Rattle.b2_atom.specs.Lines.{is_line}
-use Rattle.b2_platter.specs.Image.{sector}
+use Rattle.b2_platter.specs.Image.{sectors_at}
 use Rattle.b2_catalog.specs.declared.entry.Entry.{Entry}
 use Rattle.b2_text.specs.Program.{Lines}
 use Rattle.b2_progfile.specs.declared.spelling.TheConstants.{PIECE, PROGRAM_END}
@@ -47,10 +46,6 @@ piece_bytes (s ∷ sectors) = drop 1 s ++ piece_bytes sectors
 pub record SpellsProgram (lines : Lines) (sectors : List (List ℕ)) : Type 0 where
   pub pieces : AllPieces sectors
   pub text : IsProgramText lines (piece_bytes sectors)
-
--- some sectors of an image
-abbrev pub sectors_at : List ℕ → ℕ → ℕ → List (List ℕ)
-sectors_at image at n = map (sector image) (range_with_len at n)
 
 -- a live program file with these lines
 pub record IsProgramFile (image : List ℕ) (e : Entry) (lines : Lines) : Type 0 where

@@ -1,17 +1,16 @@
 -- Which lines are saved, the sectors that are written, why a program isn't saved, and the image that saving leaves.
-use Rattle.std.specs.Prelude.{◌≡◌, IfSome, ℕ, ◌+◌, ◌-◌, ◌*◌, ◌/◌, ◌<◌, ◌≤◌, ◌⊎◌, Bool, true, min, nat_lt, List, [], ◌∷◌, ◌++◌, length, take, drop, filter, map, replicate, Option, Some, None, if◌then◌else◌}
+use Rattle.std.specs.Prelude.{◌≡◌, ℕ, ◌+◌, ◌-◌, ◌*◌, ◌/◌, true, min, nat_lt, List, ◌∷◌, ◌++◌, length, take, drop, filter, map, replicate, Option, Some, None, if◌then◌else◌}
 use Rattle.std.specs.List.{range_with_len}
-use Rattle.std.specs.FinMap.{get, remove}
+use Rattle.std.specs.FinMap.{get}
 use Rattle.b2_base.specs.declared.codes.Fault.{Fault}
 use Rattle.b2_base.specs.declared.codes.Fault.TheVariants as fault
 use Rattle.b2_base.specs.declared.codes.TheConstants.{D86_NO_ROOM}
-use Rattle.b2_platter.specs.Image.{index_of, sector}
-use Rattle.b2_platter.specs.Edits.{put_sector}
+use Rattle.b2_platter.specs.Edits.{put_sector, put_from}
 use Rattle.b2_catalog.specs.declared.entry.Entry.{Entry}
-use Rattle.b2_catalog.specs.Catalogue.{Catalogue, catalogue}
-use Rattle.b2_catalog.specs.Ways.{place, slot_of}
-use Rattle.b2_catalog.specs.Changes.{control_sector, entered, reused}
-use Rattle.b2_catalog.specs.Calls.{enter_refusal, reuse_refusal, new_entry, reused_place}
+use Rattle.b2_catalog.specs.Catalogue.{catalogue}
+use Rattle.b2_catalog.specs.Changes.{control_sector}
+use Rattle.b2_catalog.specs.Calls.{enter_refusal, reuse_refusal}
+use Rattle.b2_catalog.specs.Making.{Made}
 use Rattle.b2_text.specs.Program.{Lines, is_within}
 use Rattle.b2_progfile.specs.declared.spelling.TheConstants.{PIECE, PIECE_BYTES}
 use Rattle.b2_progfile.specs.Programs.{program_bytes}
@@ -58,42 +57,20 @@ abbrev pub save_refusal : List ℕ → Option (List ℕ) → List ℕ → ℕ �
 save_refusal image None name count = enter_refusal image name (count + 1)
 save_refusal image (Some old) name count = or_then (reuse_refusal image old name) (size_refusal (get (catalogue image) old) count)
 
--- sectors from one on are these
-abbrev pub put_all : List ℕ → ℕ → List (List ℕ) → List ℕ
-put_all image at [] = image
-put_all image at (s ∷ sectors) = put_all (put_sector image at s) (at + 1) sectors
-
 -- a file's sectors are these, and its control sector says that some of them are used
-abbrev pub filled_with : List ℕ → ℕ → ℕ → List (List ℕ) → ℕ → List ℕ
-filled_with image start end sectors used = put_sector (put_all image start sectors) end (control_sector used)
+abbrev pub file_filled_with : List ℕ → ℕ → ℕ → List (List ℕ) → ℕ → List ℕ
+file_filled_with image start end sectors used = put_sector (put_from image start sectors) end (control_sector used)
 
 -- the same where all of them are
-abbrev pub filled : List ℕ → ℕ → ℕ → List (List ℕ) → List ℕ
-filled image start end sectors = filled_with image start end sectors (length sectors)
-
--- a file is made for some sectors: a new one with a control sector more, or a scratched one that is taken again
-abbrev pub Made : List ℕ → Option (List ℕ) → List ℕ → ℕ → List ℕ → Entry → Type 0
-Made image None name count new e =
-    (e ≡ new_entry image name true (count + 1)) × IfSome (place image name) (λ k. new ≡ entered image k name true (count + 1))
-Made image (Some old) name count new e =
-    IfSome (get (catalogue image) old) (λ was. e ≡ record was { name = name; live = true; program = true })
-    × IfSome (slot_of image old) (λ k. IfSome (reused_place image old name) (λ to. new ≡ reused image k to name true))
+abbrev pub file_filled : List ℕ → ℕ → ℕ → List (List ℕ) → List ℕ
+file_filled image start end sectors = file_filled_with image start end sectors (length sectors)
 
 -- a program is saved: a file is made for its sectors, and filled with them
 pub record Saved (image : List ℕ) (old : Option (List ℕ)) (name : List ℕ) (lines : Lines) (new : List ℕ) : Type 0 where
   pub e : Entry
   pub between : List ℕ
-  pub made : Made image old name (length (program_sectors lines)) between e
-  pub same : new ≡ filled between e.start e.end (program_sectors lines)
-
--- the catalogue without the old file
-abbrev pub files_without : List ℕ → Option (List ℕ) → Catalogue
-files_without image None = catalogue image
-files_without image (Some old) = remove (catalogue image) old
-
--- the sectors after the index that aren't those of a file are as before
-abbrev pub KeepsOthers : List ℕ → List ℕ → Entry → Type 0
-KeepsOthers image new e = (n : ℕ) → index_of image ≤ n → ((n < e.start) ⊎ (e.end < n)) → sector new n ≡ sector image n
+  pub made : Made image old name true (length (program_sectors lines) + 1) between e
+  pub same : new ≡ file_filled between e.start e.end (program_sectors lines)
 
 -- why a program isn't saved: no file is made for its sectors; or memory failed
 abbrev pub SaveFails : List ℕ → Option (List ℕ) → List ℕ → Lines → Fault → Type 0

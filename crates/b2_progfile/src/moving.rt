@@ -2,15 +2,14 @@
 ghost use Rattle.std.specs.Prelude.{◌≡◌, ◌+◌, ◌-◌, ◌^◌, ◌<◌, ◌≤◌, ℕ, true, Some, None, IfSome, IfOk, IfErr, OnOk};
 ghost use Rattle.std.specs.FinMap.{get, insert};
 ghost use Rattle.b2_platter.specs.declared.layout.Layout.TheVariants.{Narrow};
-ghost use Rattle.b2_platter.specs.Image.{next_free, total_of};
+ghost use Rattle.b2_platter.specs.Image.{next_free, total_of, sectors_at};
 ghost use Rattle.b2_platter.specs.Checks.{Good};
-ghost use Rattle.b2_platter.specs.Edits.{is_data_sector};
+ghost use Rattle.b2_platter.specs.Edits.{is_data_sector, put_from};
 ghost use Rattle.b2_catalog.specs.Catalogue.{catalogue};
 ghost use Rattle.b2_catalog.specs.Calls.{enter_refusal, new_entry};
 ghost use Rattle.b2_catalog.specs.Changes.{entered};
 ghost use Rattle.b2_catalog.specs.Ways.{place};
-ghost use Rattle.b2_progfile.specs.Programs.{sectors_at};
-ghost use Rattle.b2_progfile.specs.Saving.{filled_with, put_all};
+ghost use Rattle.b2_progfile.specs.Saving.{file_filled_with};
 ghost use Rattle.b2_progfile.specs.Moving.{Copied, IsLiveFile, Moved, all_sectors, move_refusal, own_sectors};
 
 use b2_base::codes::D82_NO_FILE;
@@ -24,7 +23,7 @@ fn put_copies(p: &mut Platter, at: u32, from: &Platter, start: u32, count: u32)
     requires within { start + count ≤ total_of Narrow from.now }
     requires good { Good Narrow p.old }
     requires sectors { (n : ℕ) → at ≤ n → n < at + count → is_data_sector Narrow p.old n ≡ true }
-    ensures { p.new ≡ put_all p.old at (sectors_at from.now start count) }
+    ensures { p.new ≡ put_from p.old at (sectors_at from.now start count) }
 {
     let _source = from.image();
     for k in 0..count {
@@ -38,7 +37,7 @@ fn copy_sectors(to: &mut Platter, new: Entry, from: &Platter, e: &Entry)
     requires live { new.live ≡ true }
     requires source { get (catalogue from.now) e.now.name ≡ Some e.now }
     requires same { new.end ≡ new.start + (e.now.end - e.now.start) }
-    ensures image { to.new ≡ filled_with to.old new.start new.end (own_sectors from.now e.now) e.now.used }
+    ensures image { to.new ≡ file_filled_with to.old new.start new.end (own_sectors from.now e.now) e.now.used }
     ensures files { catalogue to.new ≡ insert (catalogue to.old) new.name (record new { used = e.now.used }) }
     ensures kept { sectors_at to.new new.start (e.now.end - e.now.start) ≡ own_sectors from.now e.now }
 {

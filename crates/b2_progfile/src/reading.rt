@@ -4,10 +4,11 @@ ghost use Rattle.b2_base.specs.declared.codes.Fault.TheVariants as fault;
 ghost use Rattle.b2_base.specs.declared.codes.TheConstants.{D88_FORMAT};
 ghost use Rattle.b2_base.specs.Lexical.{first};
 ghost use Rattle.b2_platter.specs.declared.layout.Layout.TheVariants.{Narrow};
-ghost use Rattle.b2_platter.specs.Image.{total_of};
+ghost use Rattle.b2_platter.specs.Image.{total_of, sectors_at};
 ghost use Rattle.b2_text.specs.Program.{Lines, with_line};
-ghost use Rattle.b2_progfile.specs.Programs.{AllPieces, IsProgramText, SpellsProgram, piece_bytes, sectors_at};
-ghost use Rattle.b2_progfile.specs.Loading.{IsEnd, IsLineAt, Unread};
+ghost use Rattle.b2_progfile.specs.Programs.{AllPieces, IsProgramText, SpellsProgram, piece_bytes};
+ghost use Rattle.b2_platter.specs.Reading.{Unspelled};
+ghost use Rattle.b2_progfile.specs.Loading.{IsProgramEnd, IsLineAt};
 
 use crate::spelling::{MOST_NUMBER, PIECE, PROGRAM_END};
 use b2_atom::Atoms;
@@ -40,7 +41,7 @@ fn held_bytes(alloc: Global, p: &Platter, at: u32, count: u32) -> Result<Vec<u8>
     requires { at + count ≤ total_of Narrow p.now }
     ensures pieces { OnOk result (AllPieces (sectors_at p.now at count)) }
     ensures bytes { IfOk result (λ bytes. bytes.items ≡ piece_bytes (sectors_at p.now at count)) }
-    ensures err { IfErr result (Unread (¬ AllPieces (sectors_at p.now at count))) }
+    ensures err { IfErr result (Unspelled (¬ AllPieces (sectors_at p.now at count))) }
 {
     let _image = p.image();
     let mut bytes = Vec::new(alloc);
@@ -57,7 +58,7 @@ fn held_bytes(alloc: Global, p: &Platter, at: u32, count: u32) -> Result<Vec<u8>
 /// The line at the front of some bytes, whose number is at least some number. D88 exactly where no line is spelled there.
 fn next_line(alloc: Global, bytes: &[u8], least: u16) -> Result<(u16, Atoms), Fault>
     ensures ok { IfOk result (λ line. IsLineAt least line bytes.now (drop (length line.1) (drop 3 bytes.now))) }
-    ensures err { IfErr result (Unread ((line : ℕ × List ℕ) (after : List ℕ) → ¬ IsLineAt least line bytes.now after)) }
+    ensures err { IfErr result (Unspelled ((line : ℕ × List ℕ) (after : List ℕ) → ¬ IsLineAt least line bytes.now after)) }
 {
     let [high, low, count, after @ ..] = bytes else {
         return Err(no_program());
@@ -92,10 +93,10 @@ pub(crate) fn put_wide(t: &mut Text, number: u16, atoms: &Atoms) -> Result<(), N
 }
 
 /// Whether bytes of which the first ends a program are its end: the same byte again, and fewer than 255 bytes 00.
-fn is_end(bytes: &[u8]) -> bool
+fn is_program_end(bytes: &[u8]) -> bool
     requires { first bytes.now ≡ 255 }
-    ensures yes { result ≡ true → IsEnd bytes.now }
-    ensures no { result ≡ false → ¬ IsEnd bytes.now }
+    ensures yes { result ≡ true → IsProgramEnd bytes.now }
+    ensures no { result ≡ false → ¬ IsProgramEnd bytes.now }
 {
     if lexical::at(bytes, 1) != PROGRAM_END {
         return false;
@@ -109,7 +110,7 @@ fn is_end(bytes: &[u8]) -> bool
 /// The lines of a program that some bytes spell. D88 exactly where they spell none.
 fn lines_of(alloc: Global, bytes: &[u8]) -> Result<Text, Fault>
     ensures ok { IfOk result (λ t. IsProgramText t.lines bytes.now) }
-    ensures err { IfErr result (Unread ((lines : Lines) → ¬ IsProgramText lines bytes.now)) }
+    ensures err { IfErr result (Unspelled ((lines : Lines) → ¬ IsProgramText lines bytes.now)) }
 {
     let mut t = Text::new(alloc, WIDE_AREA)?;
     let mut rest = bytes;
@@ -123,7 +124,7 @@ fn lines_of(alloc: Global, bytes: &[u8]) -> Result<Text, Fault>
         rest = lexical::dropped(lexical::dropped(rest, 3), atoms.bytes().len());
         least = number + 1;
     }
-    if !is_end(rest) {
+    if !is_program_end(rest) {
         return Err(no_program());
     }
     Ok(t)
@@ -133,7 +134,7 @@ fn lines_of(alloc: Global, bytes: &[u8]) -> Result<Text, Fault>
 pub(crate) fn read_program(alloc: Global, p: &Platter, at: u32, count: u32) -> Result<Text, Fault>
     requires { at + count ≤ total_of Narrow p.now }
     ensures ok { IfOk result (λ t. SpellsProgram t.lines (sectors_at p.now at count)) }
-    ensures err { IfErr result (Unread ((lines : Lines) → ¬ SpellsProgram lines (sectors_at p.now at count))) }
+    ensures err { IfErr result (Unspelled ((lines : Lines) → ¬ SpellsProgram lines (sectors_at p.now at count))) }
 {
     let bytes = match held_bytes(alloc, p, at, count) {
         Ok(bytes) => bytes,

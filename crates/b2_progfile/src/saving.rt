@@ -4,21 +4,22 @@ ghost use Rattle.std.specs.Str.{bytes_eq};
 ghost use Rattle.std.specs.FinMap.{get, insert, remove};
 ghost use Rattle.b2_base.specs.declared.codes.TheConstants.{D86_NO_ROOM};
 ghost use Rattle.b2_platter.specs.declared.layout.Layout.TheVariants.{Narrow};
-ghost use Rattle.b2_platter.specs.Image.{index_of};
+ghost use Rattle.b2_platter.specs.Image.{index_of, sectors_at};
 ghost use Rattle.b2_platter.specs.Checks.{Good};
-ghost use Rattle.b2_platter.specs.Edits.{is_data_sector};
+ghost use Rattle.b2_platter.specs.Edits.{is_data_sector, put_from};
 ghost use Rattle.b2_catalog.specs.Catalogue.{catalogue};
 ghost use Rattle.b2_catalog.specs.Calls.{reuse_refusal};
 ghost use Rattle.b2_catalog.specs.Ways.{place};
-ghost use Rattle.b2_progfile.specs.Programs.{IsProgramFile, sectors_at};
-ghost use Rattle.b2_progfile.specs.Saving.{KeepsOthers, Made, SaveFails, Saved, files_without, filled, lines_within, or_then, pieces_count, pieces_of, program_sectors, put_all, save_refusal, size_refusal};
+ghost use Rattle.b2_progfile.specs.Programs.{IsProgramFile};
+ghost use Rattle.b2_catalog.specs.Making.{KeepsOthers, Made, files_without};
+ghost use Rattle.b2_progfile.specs.Saving.{SaveFails, Saved, file_filled, lines_within, or_then, pieces_count, pieces_of, program_sectors, save_refusal, size_refusal};
 
 use crate::spelling::{piece_at, pieces_count, program_of};
 use b2_base::codes::{
     D82_NO_FILE, D83_NAME_PRESENT, D84_NOT_SCRATCHED, D85_INDEX_FULL, D86_NO_ROOM,
 };
 use b2_base::{Code, Fault, Name8};
-use b2_catalog::{Entry, enter, look, reuse, set_used};
+use b2_catalog::{Entry, look, make_file, set_used};
 use b2_platter::{Platter, checks, image};
 use b2_text::Text;
 use std::alloc::Global;
@@ -89,58 +90,19 @@ fn small_code(p: &Platter, old: Name8, name: Name8) -> Code
     Code::known(D86_NO_ROOM)
 }
 
-/// Takes a scratched file again that has room for some sectors.
-fn take_again(p: &mut Platter, old: Name8, name: Name8, count: u32) -> Result<Entry, Code>
-    requires { 1 ≤ count }
-    ensures err { IfErr result (λ code. (save_refusal p.old (Some old) name count ≡ Some code) × (p.new ≡ p.old)) }
-    ensures ok { OnOk result (save_refusal p.old (Some old) name count ≡ None) }
-    ensures made { IfOk result (Made p.old (Some old) name count p.new) }
-    ensures file { IfOk result (λ e. get (catalogue p.new) name ≡ Some e) }
-    ensures named { IfOk result (λ e. e.name ≡ name) }
-    ensures live { IfOk result (λ e. e.live ≡ true) }
-    ensures kind { IfOk result (λ e. e.program ≡ true) }
-    ensures room { IfOk result (λ e. e.start + count ≤ e.end) }
-    ensures files { IfOk result (λ e. catalogue p.new ≡ insert (remove (catalogue p.old) old) name e) }
-    ensures index { OnOk result (index_of p.new ≡ index_of p.old) }
-    ensures others { IfOk result (λ e. KeepsOthers p.old p.new e) }
-{
-    let _image = p.image();
-    let _name = name.bytes();
-    if is_small(p, old, count) {
-        return Err(small_code(p, old, name));
-    }
-    reuse(p, old, name, true)
-}
-
-/// Enters a file for some sectors and its control sector.
-fn enter_new(p: &mut Platter, name: Name8, count: u32) -> Result<Entry, Code>
-    requires some { 1 ≤ count }
-    requires few { count ≤ 16777216 }
-    ensures err { IfErr result (λ code. (save_refusal p.old None name count ≡ Some code) × (p.new ≡ p.old)) }
-    ensures ok { OnOk result (save_refusal p.old None name count ≡ None) }
-    ensures made { IfOk result (Made p.old None name count p.new) }
-    ensures file { IfOk result (λ e. get (catalogue p.new) name ≡ Some e) }
-    ensures named { IfOk result (λ e. e.name ≡ name) }
-    ensures live { IfOk result (λ e. e.live ≡ true) }
-    ensures kind { IfOk result (λ e. e.program ≡ true) }
-    ensures room { IfOk result (λ e. e.start + count ≤ e.end) }
-    ensures files { IfOk result (λ e. catalogue p.new ≡ insert (catalogue p.old) name e) }
-    ensures index { OnOk result (index_of p.new ≡ index_of p.old) }
-    ensures others { IfOk result (λ e. KeepsOthers p.old p.new e) }
-{
-    let _image = p.image();
-    let _name = name.bytes();
-    enter(p, name, true, count + 1)
-}
-
 /// Makes a file for some sectors: a new one, or a scratched one that is taken again.
-fn make(p: &mut Platter, old: Option<Name8>, name: Name8, count: u32) -> Result<Entry, Code>
+fn make_program_file(
+    p: &mut Platter,
+    old: Option<Name8>,
+    name: Name8,
+    count: u32,
+) -> Result<Entry, Code>
     requires some { 1 ≤ count }
     requires few { count ≤ 16777216 }
     ensures err { IfErr result (λ code. (save_refusal p.old old name count ≡ Some code) × (p.new ≡ p.old)) }
     ensures ok { OnOk result (save_refusal p.old old name count ≡ None) }
-    ensures made { IfOk result (Made p.old old name count p.new) }
-    ensures file { IfOk result (λ e. get (catalogue p.new) name ≡ Some e) }
+    ensures made { IfOk result (Made p.old old name true (count + 1) p.new) }
+    ensures file { IfOk result (λ e. get (catalogue p.new) e.name ≡ Some e) }
     ensures named { IfOk result (λ e. e.name ≡ name) }
     ensures live { IfOk result (λ e. e.live ≡ true) }
     ensures kind { IfOk result (λ e. e.program ≡ true) }
@@ -150,8 +112,13 @@ fn make(p: &mut Platter, old: Option<Name8>, name: Name8, count: u32) -> Result<
     ensures others { IfOk result (λ e. KeepsOthers p.old p.new e) }
 {
     match old {
-        None => enter_new(p, name, count),
-        Some(old) => take_again(p, old, name, count),
+        None => make_file(p, None, name, true, count + 1),
+        Some(old) => {
+            if is_small(p, old, count) {
+                return Err(small_code(p, old, name));
+            }
+            make_file(p, Some(old), name, true, count + 1)
+        }
     }
 }
 
@@ -161,7 +128,7 @@ fn put_pieces(p: &mut Platter, at: u32, bytes: &[u8], count: u32)
     requires ends { at + count < 2 ^ 32 }
     requires good { Good Narrow p.old }
     requires sectors { (n : ℕ) → at ≤ n → n < at + count → is_data_sector Narrow p.old n ≡ true }
-    ensures { p.new ≡ put_all p.old at (pieces_of bytes.now) }
+    ensures { p.new ≡ put_from p.old at (pieces_of bytes.now) }
 {
     for k in 0..count {
         p.put_file(at + k, &piece_at(bytes, k as usize));
@@ -169,13 +136,13 @@ fn put_pieces(p: &mut Platter, at: u32, bytes: &[u8], count: u32)
 }
 
 /// Fills a file with the sectors that hold some bytes, and says how many they are.
-fn fill(p: &mut Platter, e: Entry, bytes: &[u8], count: u32)
+fn fill_program_file(p: &mut Platter, e: Entry, bytes: &[u8], count: u32)
     requires file { get (catalogue p.old) e.name ≡ Some e }
     requires live { e.live ≡ true }
     requires count { count ≡ pieces_count bytes.now }
     requires some { 1 ≤ count }
     requires room { e.start + count ≤ e.end }
-    ensures image { p.new ≡ filled p.old e.start e.end (pieces_of bytes.now) }
+    ensures image { p.new ≡ file_filled p.old e.start e.end (pieces_of bytes.now) }
     ensures files { catalogue p.new ≡ insert (catalogue p.old) e.name (record e { used = count }) }
     ensures there { sectors_at p.new e.start count ≡ pieces_of bytes.now }
     ensures others { KeepsOthers p.old p.new e }
@@ -211,9 +178,9 @@ pub fn save(
         return Err(Fault::NoMemory);
     }
     let count = pieces_count(&bytes);
-    match make(p, old, name, count) {
+    match make_program_file(p, old, name, count) {
         Ok(e) => {
-            fill(p, e, &bytes, count);
+            fill_program_file(p, e, &bytes, count);
             Ok(())
         }
         Err(code) => Err(Fault::Code(code)),

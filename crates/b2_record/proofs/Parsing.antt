@@ -1,18 +1,16 @@
 -- Reading the values of a sector: what was read, what follows, and when nothing is spelled.
-use Rattle.std.proofs.Common.{◌≡◌, ℕ, zero, suc, ◌-◌, ◌≤◌, ◌==◌, Bool, true, false, List, [], ◌∷◌, ◌++◌, length, drop, replicate, get_or, sym, refl, ap, ap₂, ◌∙◌, arith, append_assoc, append-nil, length-append, length-drop}
+use Rattle.std.proofs.Common.{◌≡◌, ℕ, ◌-◌, ◌≤◌, Bool, true, false, List, [], ◌∷◌, ◌++◌, length, drop, replicate, get_or, sym, refl, ap, ap₂, ◌∙◌, arith, append_assoc, append-nil, length-append, length-drop}
 use Rattle.std.specs.List.{list_all}
 use Rattle.std.proofs.lemmas.List.{length-replicate}
 use Rattle.b2_base.specs.Lexical.{first}
-use Rattle.b2_base.specs.declared.codes.Fault.{Fault}
-use Rattle.b2_base.specs.declared.codes.Fault.TheVariants as fault
 use Rattle.b2_dec.specs.declared.values.Value.{Value}
 use Rattle.b2_platter.specs.Layout.{is_zero}
+use Rattle.b2_platter.proofs.Zeros.{zeros-all, zeros-none}
 use Rattle.b2_record.specs.declared.items.TheConstants.{END_OF_VALUES}
 use Rattle.b2_record.specs.declared.sectors.TheConstants.{ROOM, ONLY, FIRST, MIDDLE, LAST}
 use Rattle.b2_record.specs.Items.{value_bytes, group_bytes, IsStorable, AllStorable}
-use Rattle.b2_record.specs.Records.{IsGroup, sector_of, sector_kind, Unspelled}
+use Rattle.b2_record.specs.Records.{IsGroup, sector_of, sector_kind}
 use Rattle.b2_record.proofs.Values.{rest_of_values, value-not_end, bytes_joined, group_unique}
-use Rattle.b2_record.proofs.Groups.{and-left}
 
 pub storable-joined : (a b : List Value) → AllStorable a → AllStorable b → AllStorable (a ++ b)
 storable-joined [] b h k = k
@@ -36,15 +34,6 @@ read-more bytes rest after values v e k =
 first-cons : (rest : List ℕ) → first rest ≡ END_OF_VALUES → rest ≡ END_OF_VALUES ∷ drop 1 rest
 first-cons [] h = cc
 first-cons (b ∷ rest) h = ap (λ t. t ∷ rest) h
-
-zeros-all : (bytes : List ℕ) → list_all is_zero bytes ≡ true → bytes ≡ replicate (length bytes) 0
-zeros-all [] h = refl
-zeros-all (zero ∷ bytes) h = ap (λ t. 0 ∷ t) (zeros-all bytes h)
-zeros-all (suc b ∷ bytes) h = let bad : (suc b == 0) ≡ true = and-left (suc b == 0) (list_all is_zero bytes) h in absurd (grind arith)
-
-zeros-none : (n : ℕ) → list_all is_zero (replicate n 0) ≡ true
-zeros-none zero = refl
-zeros-none (suc n) = zeros-none n
 
 -- nothing is spelled where neither a value nor the end follows
 pub no-group : (bytes rest : List ℕ) (values group : List Value) → bytes ≡ group_bytes values ++ rest → AllStorable values → (first rest ≡ END_OF_VALUES → ⊥)
@@ -106,12 +95,6 @@ sector-unique number first a b g h s t e =
     let rest = ap (drop 2) e in
     let same = group_unique g h (replicate (ROOM - length (group_bytes g)) 0) (replicate (ROOM - length (group_bytes h)) 0) s t rest in
     (kind-unique first a b kind, same.0)
-
--- ---- refusals
-
-pub Unspelled-from : (P Q : Type 0) (fault : Fault) → (P → Q) → Unspelled P fault → Unspelled Q fault
-Unspelled-from P Q (fault.Code code) f h = (h.0, f h.1)
-Unspelled-from P Q fault.NoMemory f h = h
 
 pub whole-sector : (bytes : List ℕ) (kind number : ℕ) (values : List Value) → length bytes ≡ 256 → get_or bytes 0 0 ≡ kind → get_or bytes 1 0 ≡ number → IsGroup values (drop 2 bytes)
     → bytes ≡ sector_of kind number values

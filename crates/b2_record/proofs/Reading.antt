@@ -2,9 +2,9 @@
 use Rattle.std.proofs.Common.{◌≡◌, ℕ, zero, suc, ◌+◌, ◌-◌, ◌<◌, ◌≤◌, ◌==◌, Bool, true, false, ◌&&◌, List, [], ◌∷◌, ◌++◌, length, map, sym, refl, ap, ap₂, ◌∙◌, subst, arith, append_assoc, append-nil, length-append, ◌||◌, ne_eqb, min}
 use Rattle.std.specs.List.{range_with_len}
 use Rattle.b2_dec.specs.declared.values.Value.{Value}
-use Rattle.b2_platter.specs.Image.{sector}
+use Rattle.b2_platter.specs.Image.{sector, sectors_at}
 use Rattle.b2_record.specs.Items.{group_bytes, AllStorable}
-use Rattle.b2_record.specs.Records.{fits_in_sector, goes_over, go_on, is_record, is_none, all_values, sector_of, sector_kind, sectors_from, sectors_at, Spells, IsNoRecord}
+use Rattle.b2_record.specs.Records.{fits_in_sector, goes_over, go_on, is_record, is_none, all_values, sector_of, sector_kind, sectors_from, Spells, IsNoRecord}
 use Rattle.b2_record.proofs.Groups.{and-left}
 use Rattle.b2_record.proofs.Parsing.{storable-joined, storable-left, storable-right, sector-unique}
 

@@ -3,9 +3,9 @@ use Rattle.std.proofs.Common.{◌≡◌, ℕ, zero, suc, ◌+◌, ◌-◌, ◌�
 use Rattle.std.specs.List.{range_with_len}
 use Rattle.std.proofs.lemmas.Bool.{cases_lt}
 use Rattle.b2_dec.specs.declared.values.Value.{Value}
-use Rattle.b2_platter.specs.Image.{sector}
+use Rattle.b2_platter.specs.Image.{sector, sectors_at}
 use Rattle.b2_record.specs.Items.{AllStorable}
-use Rattle.b2_record.specs.Records.{is_record, is_none, all_values, sector_of, sector_kind, sectors_from, sectors_at, Spells}
+use Rattle.b2_record.specs.Records.{is_record, is_none, all_values, sector_of, sector_kind, sectors_from, Spells}
 use Rattle.b2_record.specs.Writing.{groups_of, record_of}
 use Rattle.b2_record.proofs.Groups.{groups_of-only, length-sectors}
 use Rattle.b2_record.proofs.Parsing.{storable-left, storable-right, sector-unique}

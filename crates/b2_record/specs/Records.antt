@@ -1,11 +1,7 @@
 -- The grammar of a record: which sectors spell which values.
-use Rattle.std.specs.Prelude.{◌≡◌, ℕ, ◌+◌, ◌-◌, ◌≤◌, Bool, true, false, not, ◌&&◌, ◌==◌, nat_le, List, [], ◌∷◌, ◌++◌, length, map, replicate}
-use Rattle.std.specs.List.{range_with_len}
-use Rattle.b2_base.specs.declared.codes.Fault.{Fault}
-use Rattle.b2_base.specs.declared.codes.Fault.TheVariants as fault
-use Rattle.b2_base.specs.declared.codes.TheConstants.{D88_FORMAT}
+use Rattle.std.specs.Prelude.{◌≡◌, ℕ, ◌+◌, ◌-◌, ◌≤◌, Bool, true, false, not, ◌&&◌, ◌==◌, nat_le, List, [], ◌∷◌, ◌++◌, length, replicate}
 use Rattle.b2_dec.specs.declared.values.Value.{Value}
-use Rattle.b2_platter.specs.Image.{sector}
+use Rattle.b2_platter.specs.Image.{sectors_at}
 use Rattle.b2_record.specs.declared.items.TheConstants.{END_OF_VALUES}
 use Rattle.b2_record.specs.declared.sectors.TheConstants.{ROOM, ONLY, FIRST, MIDDLE, LAST}
 use Rattle.b2_record.specs.Items.{value_bytes, group_bytes, AllStorable}
@@ -73,15 +69,6 @@ pub record Spells (values : List Value) (sectors : List (List ℕ)) : Type 0 whe
   pub few : length groups ≤ 255
   pub same : sectors_from 1 groups ≡ sectors
 
--- some sectors of an image
-abbrev pub sectors_at : List ℕ → ℕ → ℕ → List (List ℕ)
-sectors_at image at n = map (sector image) (range_with_len at n)
-
 -- no record is spelled from a sector on, up to a last one
 abbrev pub IsNoRecord : List ℕ → ℕ → ℕ → Type 0
 IsNoRecord image at last = (values : List Value) (n : ℕ) → at + n ≤ last + 1 → ¬ Spells values (sectors_at image at n)
-
--- why reading gives nothing: D88 where nothing is spelled, or memory failed
-abbrev pub Unspelled : Type 0 → Fault → Type 0
-Unspelled nothing (fault.Code code) = (code ≡ D88_FORMAT) × nothing
-Unspelled nothing fault.NoMemory = Unit {0}

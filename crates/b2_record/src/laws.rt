@@ -1,7 +1,8 @@
 //! Laws of records. Each call does nothing: its contract is the law.
 ghost use Rattle.std.specs.Prelude.{◌≡◌, ℕ, List};
 ghost use Rattle.b2_dec.specs.declared.values.Value.{Value as AnyValue};
-ghost use Rattle.b2_record.specs.Records.{Spells, sectors_at};
+ghost use Rattle.b2_platter.specs.Image.{sectors_at};
+ghost use Rattle.b2_record.specs.Records.{Spells};
 ghost use Rattle.b2_record.specs.Writing.{record_of};
 
 /// A list of values has one record.

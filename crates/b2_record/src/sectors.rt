@@ -3,7 +3,8 @@ ghost use Rattle.std.specs.Prelude.{◌≡◌, ℕ, ◌==◌, ◌+◌, ◌-◌, 
 ghost use Rattle.b2_dec.specs.declared.values.Value.{Value as AnyValue};
 ghost use Rattle.b2_record.specs.Items.{value_bytes, group_bytes, is_short, AllStorable};
 ghost use Rattle.std.specs.List.{list_all};
-ghost use Rattle.b2_record.specs.Records.{sector_kind, sector_of, fits_in_sector, IsGroup, Unspelled};
+ghost use Rattle.b2_platter.specs.Reading.{Unspelled};
+ghost use Rattle.b2_record.specs.Records.{sector_kind, sector_of, fits_in_sector, IsGroup};
 
 use crate::items::{ALPHA, END_OF_VALUES, NUMBER, value_at, value_len};
 use arrayvec::ArrayVec;

@@ -1,6 +1,7 @@
 use Rattle.std.proofs.Common.{◌≡◌, ◌+◌, ◌-◌, ℕ, suc, subst, arith}
 use Rattle.b2_datafile.specs.Moving.{Behind, NoneBehind}
-use Rattle.b2_datafile.proofs.Passing.{behind-stop, behind-step, none-behind-step, none-behind-here, behind-fails}
+use Rattle.b2_datafile.proofs.Passing.{behind-stop, behind-step, none-behind-step, none-behind-here}
+use Rattle.b2_platter.proofs.Reading.{unspelled-more}
 use Rattle.b2_datafile.proofs.moving.back.Goals as goal
 
 pub returns-then-pos-e-clause-ok : goal.returns-then-pos-e-clause-ok
@@ -9,7 +10,7 @@ returns-then-pos-e-clause-ok c = c.loop-passed.invariant.behind c.loop-passed.po
 pub returns-in-Err-clause-err : goal.returns-in-Err-clause-err
 returns-in-Err-clause-err c =
     let step : c.args.count - c.loop-passed._passed ≡ suc (c.args.count - (c.loop-passed._passed + 1)) = omega (arith, c.loop-passed-test.true) in
-    behind-fails c.args.p.now c.args.e.now c.args.count c.args.from c.loop-passed.pos c.in-Err.fault
+    unspelled-more c.in-Err.fault
     (λ none. c.loop-passed.invariant.none (none-behind-here c.args.p.now c.args.e.now _ _ c.loop-passed.pos step c.if-pos-e.false none)) c.in-Err.ensures.err
 
 pub loop-passed-preserved : goal.loop-passed-preserved

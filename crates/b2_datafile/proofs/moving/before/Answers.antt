@@ -1,5 +1,6 @@
 use Rattle.std.proofs.Common.{◌∙◌, get_or, sym, ap, arith}
 use Rattle.b2_datafile.proofs.Passing.{before-some, before-number, no-before, no-such}
+use Rattle.b2_platter.proofs.Reading.{unspelled-more}
 use Rattle.b2_datafile.proofs.moving.before.Goals as goal
 
 pub returns-then-count-eq0-clause-err : goal.returns-then-count-eq0-clause-err
@@ -19,7 +20,7 @@ returns-then-count-pos-clause-err c = (
 pub returns-in-Err-clause-err : goal.returns-in-Err-clause-err
 returns-in-Err-clause-err c =
     let number = ap (λ s. get_or s 1 0) (sym c.sector.ensures.value) ∙ sym c.from-count.ensures in
-    no-before c.args.p.now c.args.e.now c.args.pos c.from-count.result c.in-Err.fault (omega (arith, c.requires.low)) number c.in-Err.ensures.err
+    unspelled-more c.in-Err.fault (no-before c.args.p.now c.args.e.now c.args.pos c.from-count.result (omega (arith, c.requires.low)) number) c.in-Err.ensures.err
 
 pub returns-then-found-count-clause-err : goal.returns-then-found-count-clause-err
 returns-then-found-count-clause-err c =

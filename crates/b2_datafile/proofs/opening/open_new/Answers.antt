@@ -1,48 +1,45 @@
-use Rattle.std.proofs.Common.{◌≡◌, ◌∙◌, ◌+◌, ◌-◌, length, ℕ, List, sym, ap, arith}
-use Rattle.std.specs.FinMap.{get}
-use Rattle.b2_base.specs.declared.files.Slot.{Slot}
-use Rattle.b2_catalog.specs.Catalogue.{catalogue}
-use Rattle.b2_platter.specs.Edits.{put_sector}
-use Rattle.b2_platter.specs.Image.{sector}
-use Rattle.b2_catalog.specs.Changes.{control_sector}
-use Rattle.b2_datafile.specs.Files.{end_mark}
-use Rattle.b2_catalog.proofs.DataSectors.{in-image, catalogue-kept, get-put}
-use Rattle.b2_datafile.proofs.Saved.{made-mark}
+use Rattle.std.proofs.Common.{◌∙◌, List, ℕ, ap}
+use Rattle.std.specs.Prelude.{is_some}
+use Rattle.std.specs.FinMap.{get, insert}
+use Rattle.b2_catalog.specs.declared.entry.Entry.{Entry}
+use Rattle.b2_catalog.specs.Catalogue.{Catalogue, catalogue}
+use Rattle.b2_catalog.specs.Making.{files_without}
+use Rattle.b2_catalog.proofs.DataSectors.{in-image}
+use Rattle.b2_catalog.proofs.MadeFiles.{put-twice}
+use Rattle.b2_datafile.proofs.Saved.{new-whole, new-files, new-there, new-others}
 use Rattle.b2_datafile.proofs.opening.open_new.Goals as goal
 
-pub put_file-requires : goal.put_file-requires
-put_file-requires c =
-    let inside = in-image c.make.new.p c.in-Ok.e.name c.in-Ok.e c.image-image.ensures.good c.in-Ok.ensures.file in
-    let start : c.slot_of-slot.result.start ≡ c.in-Ok.e.start = ap (λ (s : Slot). s.start) c.slot_of-slot.ensures in
-    rw start (inside.own c.in-Ok.e.start (omega arith) inside.order)
+pub put_end-requires-clause-high : goal.put_end-requires-clause-high
+put_end-requires-clause-high c = (in-image c.make_file.new.p c.in-Ok.e.name c.in-Ok.e c.image-image.ensures.good c.in-Ok.ensures.file).order
 
-pub set_used-requires-clause-there : goal.set_used-requires-clause-there
-set_used-requires-clause-there c =
-    let inside = in-image c.make.new.p c.in-Ok.e.name c.in-Ok.e c.image-image.ensures.good c.in-Ok.ensures.file in
-    let start : c.slot_of-slot.result.start ≡ c.in-Ok.e.start = ap (λ (s : Slot). s.start) c.slot_of-slot.ensures in
-    let own = inside.own c.in-Ok.e.start (omega arith) inside.order in
-    let put = c.put_file.ensures ∙ ap (λ n. put_sector c.make.new.p n c.end_mark.result) start in
-    ap (λ files. get files c.in-Ok.e.name) (ap catalogue put ∙ catalogue-kept c.make.new.p c.image-image.ensures.good c.in-Ok.e.start own c.end_mark.result (ap length c.end_mark.ensures)) ∙ c.in-Ok.ensures.file
+pub returns-clause-image : goal.returns-clause-image
+returns-clause-image c = record { e = c.in-Ok.e; between = c.make_file.new.p; made = c.in-Ok.ensures.made; same = c.put_end.ensures.image }
 
-pub set_used-requires-clause-few : goal.set_used-requires-clause-few
-set_used-requires-clause-few c =
-    let inside = in-image c.make.new.p c.in-Ok.e.name c.in-Ok.e c.image-image.ensures.good c.in-Ok.ensures.file in
-    omega (arith, inside.order)
+pub returns-clause-there : goal.returns-clause-there
+returns-clause-there c =
+    let there = new-there c.make_file.new.p c.args.name c.in-Ok.e c.image-image.ensures.good c.in-Ok.ensures.file c.in-Ok.ensures.named in
+    ap (λ (p : List ℕ). is_some (get (catalogue p) c.args.name)) c.put_end.ensures.image ∙ ap is_some there
 
 pub returns-clause-file : goal.returns-clause-file
 returns-clause-file c =
-    let there = ap (λ files. get files c.args.name) c.set_used.ensures.catalogue ∙ (ap (get _) (sym c.in-Ok.ensures.named) ∙ get-put (catalogue c.put_file.new.self) c.in-Ok.e.name (record c.in-Ok.e { used = 1 })) in
-    rw there c.slot_of-slot.ensures
+    let there = new-there c.make_file.new.p c.args.name c.in-Ok.e c.image-image.ensures.good c.in-Ok.ensures.file c.in-Ok.ensures.named in
+    rw (c.put_end.ensures.image, there) c.slot_of-slot.ensures
 
 pub returns-clause-whole : goal.returns-clause-whole
 returns-clause-whole c =
-    let inside = in-image c.make.new.p c.in-Ok.e.name c.in-Ok.e c.image-image.ensures.good c.in-Ok.ensures.file in
-    let start : c.slot_of-slot.result.start ≡ c.in-Ok.e.start = ap (λ (s : Slot). s.start) c.slot_of-slot.ensures in
-    let there = ap (λ files. get files c.args.name) c.set_used.ensures.catalogue ∙ (ap (get _) (sym c.in-Ok.ensures.named) ∙ get-put (catalogue c.put_file.new.self) c.in-Ok.e.name (record c.in-Ok.e { used = 1 })) in
-    let put : c.put_file.new.self ≡ put_sector c.make.new.p c.in-Ok.e.start end_mark = c.put_file.ensures ∙ (ap (λ n. put_sector c.make.new.p n c.end_mark.result) start ∙ ap (put_sector c.make.new.p c.in-Ok.e.start) c.end_mark.ensures) in
-    let image : c.set_used.new.p ≡ put_sector (put_sector c.make.new.p c.in-Ok.e.start end_mark) c.in-Ok.e.end (control_sector 1) = c.set_used.ensures.image ∙ ap (λ (p : List ℕ). put_sector p c.in-Ok.e.end (control_sector 1)) put in
-    let place : c.in-Ok.e.start + 1 - 1 ≡ c.in-Ok.e.start = omega arith in
-    rw there (record {
-      front = sym place;
-      mark = ap (sector c.set_used.new.p) place ∙ (ap (λ (p : List ℕ). sector p c.in-Ok.e.start) image ∙ made-mark c.make.new.p c.in-Ok.e c.image-image.ensures.good inside);
-    })
+    let there = new-there c.make_file.new.p c.args.name c.in-Ok.e c.image-image.ensures.good c.in-Ok.ensures.file c.in-Ok.ensures.named in
+    rw (c.put_end.ensures.image, there) (new-whole c.make_file.new.p c.in-Ok.e c.image-image.ensures.good c.in-Ok.ensures.file)
+
+pub returns-clause-files : goal.returns-clause-files
+returns-clause-files c =
+    let one : Entry = record c.in-Ok.e { used = 1 } in
+    let there = new-there c.make_file.new.p c.args.name c.in-Ok.e c.image-image.ensures.good c.in-Ok.ensures.file c.in-Ok.ensures.named in
+    rw (c.put_end.ensures.image, there)
+    (new-files c.make_file.new.p c.in-Ok.e c.image-image.ensures.good c.in-Ok.ensures.file
+    ∙ (ap (λ name. insert (catalogue c.make_file.new.p) name one) c.in-Ok.ensures.named
+    ∙ (ap (λ (m : Catalogue). insert m c.args.name one) c.in-Ok.ensures.files ∙ put-twice (files_without c.args.p.now c.args.old) c.args.name c.in-Ok.e one)))
+
+pub returns-clause-others : goal.returns-clause-others
+returns-clause-others c =
+    let there = new-there c.make_file.new.p c.args.name c.in-Ok.e c.image-image.ensures.good c.in-Ok.ensures.file c.in-Ok.ensures.named in
+    rw (c.put_end.ensures.image, there) (λ n low out. new-others c.make_file.new.p c.in-Ok.e c.image-image.ensures.good c.in-Ok.ensures.file n out ∙ c.in-Ok.ensures.others n low out)

@@ -1,8 +1,8 @@
 use Rattle.std.proofs.Common.{◌≡◌, ℕ, ◌+◌, ◌∙◌, sym, ap, arith}
 use Rattle.b2_record.specs.Writing.{record_of}
-use Rattle.b2_datafile.specs.Files.{put_from}
+use Rattle.b2_platter.specs.Edits.{put_from}
 use Rattle.b2_datafile.proofs.Writing.{put-next, drop-all}
-use Rattle.b2_catalog.proofs.DataSectors.{good-kept, data-kept}
+use Rattle.b2_platter.proofs.DataSectors.{data-kept, good-kept}
 use Rattle.b2_datafile.proofs.saving.put_record.Goals as goal
 
 pub loop-k-init : goal.loop-k-init

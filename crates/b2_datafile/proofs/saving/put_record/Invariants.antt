@@ -1,9 +1,8 @@
 use Rattle.std.proofs.Common.{◌≡◌, ℕ, ◌+◌, ◌<◌, ◌≤◌, true, drop}
 use Rattle.b2_platter.specs.declared.layout.Layout.TheVariants.{Narrow}
 use Rattle.b2_platter.specs.Checks.{Good}
-use Rattle.b2_platter.specs.Edits.{is_data_sector}
+use Rattle.b2_platter.specs.Edits.{is_data_sector, put_from}
 use Rattle.b2_record.specs.Writing.{record_of}
-use Rattle.b2_datafile.specs.Files.{put_from}
 use Rattle.b2_datafile.proofs.saving.put_record.Given as goal
 
 -- the sectors that are left make the image that is wanted

@@ -1,4 +1,4 @@
-use Rattle.std.proofs.Common.{◌≡◌, ◌∙◌, ap}
+use Rattle.std.proofs.Common.{◌∙◌, ap}
 use Rattle.b2_text.specs.Program.{TextState}
 use Rattle.b2_progfile.specs.Loading.{merged}
 use Rattle.b2_progfile.proofs.Merging.{merged-alone}

@@ -1,4 +1,4 @@
-use Rattle.std.proofs.Common.{◌≡◌, ◌∙◌, refl, sym, ap, subst}
+use Rattle.std.proofs.Common.{◌≡◌, refl, sym, ap, subst}
 use Rattle.b2_text.specs.Program.{Lines}
 use Rattle.b2_progfile.specs.Loading.{merged}
 use Rattle.b2_progfile.proofs.Merging.{AllSmall, between-all, small-lines}

@@ -1,12 +1,13 @@
-use Rattle.std.proofs.Common.{◌≡◌, ◌∙◌, ◌+◌, ◌-◌, ℕ, List, Option, Some, None, IfSome, refl, sym, ap, ap₂, subst, inl, inr, arith}
+use Rattle.std.proofs.Common.{◌≡◌, ◌∙◌, ◌+◌, ◌-◌, ℕ, List, Option, None, IfSome, refl, sym, ap, ap₂, subst, inl, inr, arith}
 use Rattle.b2_platter.specs.declared.layout.Layout.TheVariants.{Narrow}
 use Rattle.b2_platter.specs.Image.{next_free, sector}
 use Rattle.b2_catalog.specs.declared.entry.Entry.{Entry}
 use Rattle.b2_catalog.specs.Calls.{enter_refusal, new_entry}
 use Rattle.b2_catalog.specs.Changes.{entered}
-use Rattle.b2_progfile.specs.Saving.{filled_with}
+use Rattle.b2_progfile.specs.Saving.{file_filled_with}
 use Rattle.b2_progfile.specs.Moving.{all_sectors, own_sectors, with_copy}
-use Rattle.b2_progfile.proofs.Copying.{copied, enters, with-copy-is}
+use Rattle.b2_catalog.proofs.MadeFiles.{enters}
+use Rattle.b2_progfile.proofs.Copying.{copied, with-copy-is}
 use Rattle.b2_progfile.proofs.moving.copy_file.Goals as goal
 
 pub returns-in-Ok-clause-copied : goal.returns-in-Ok-clause-copied
@@ -23,8 +24,8 @@ returns-in-Ok-clause-copied c =
     ∙ ap (entered image n.k e.name e.program) c.all_sectors-sectors.ensures.value in
     let same : c.copy_sectors.new.to ≡ with_copy c.args.from.now image e =
     c.copy_sectors.ensures.image
-    ∙ (ap (λ (q : List ℕ). filled_with q c.in-Ok.new.start c.in-Ok.new.end (own_sectors c.args.from.now e) e.used) between
-    ∙ (ap₂ (λ (s m : ℕ). filled_with (entered image n.k e.name e.program (all_sectors e)) s m (own_sectors c.args.from.now e) e.used) start end
+    ∙ (ap (λ (q : List ℕ). file_filled_with q c.in-Ok.new.start c.in-Ok.new.end (own_sectors c.args.from.now e) e.used) between
+    ∙ (ap₂ (λ (s m : ℕ). file_filled_with (entered image n.k e.name e.program (all_sectors e)) s m (own_sectors c.args.from.now e) e.used) start end
     ∙ sym (with-copy-is c.args.from.now image e c.image-source.ensures.good c.image-target.ensures.good c.requires n))) in
     let all = copied c.args.from.now image e c.image-source.ensures.good c.image-target.ensures.good c.requires n in
     rw same (record {

@@ -1,13 +1,13 @@
-use Rattle.std.proofs.Common.{◌≡◌, ◌∙◌, ◌+◌, ◌-◌, ◌≤◌, ℕ, List, length, sym, ap, ap₂, arith}
+use Rattle.std.proofs.Common.{◌∙◌, ◌-◌, ℕ, List, sym, ap, ap₂, arith}
 use Rattle.std.specs.FinMap.{insert}
 use Rattle.b2_platter.specs.Edits.{put_sector}
 use Rattle.b2_catalog.specs.Catalogue.{Catalogue, catalogue}
 use Rattle.b2_catalog.specs.Changes.{control_sector}
-use Rattle.b2_progfile.specs.Programs.{sectors_at}
+use Rattle.b2_platter.specs.Image.{sectors_at}
 use Rattle.b2_progfile.specs.Moving.{own_sectors}
 use Rattle.b2_catalog.proofs.DataSectors.{in-image}
 use Rattle.b2_progfile.proofs.Copies.{sectors-length, sectors-long}
-use Rattle.b2_progfile.proofs.Filling.{all-put, still-there, filled-with-there}
+use Rattle.b2_progfile.proofs.Filling.{files-stay, still-there, filled-with-there}
 use Rattle.b2_progfile.proofs.moving.copy_sectors.Goals as goal
 
 pub overflow_sub-count : goal.overflow_sub-count
@@ -41,8 +41,8 @@ returns-clause-files c =
     let source = in-image c.args.from.now c.args.e.now.name c.args.e.now c.image-source.ensures.good c.requires.source in
     let n = sectors-length c.args.from.now c.args.e.now.start (c.args.e.now.end - c.args.e.now.start) in
     let long = sectors-long c.args.from.now c.args.e.now.start (c.args.e.now.end - c.args.e.now.start) c.image-source.ensures.good (omega (arith, source.order, source.within)) in
-    let put = all-put c.args.to.now c.args.new (own_sectors c.args.from.now c.args.e.now) c.image-target.ensures.good c.requires.file long (omega (arith, n, c.requires.same)) in
-    c.set_used.ensures.catalogue ∙ ap (λ (files : Catalogue). insert files c.args.new.name (record c.args.new { used = c.args.e.now.used })) (ap catalogue c.put_copies.ensures ∙ put.files)
+    let stay = files-stay c.args.to.now c.args.new (own_sectors c.args.from.now c.args.e.now) c.image-target.ensures.good c.requires.file long (omega (arith, n, c.requires.same)) in
+    c.set_used.ensures.catalogue ∙ ap (λ (files : Catalogue). insert files c.args.new.name (record c.args.new { used = c.args.e.now.used })) (ap catalogue c.put_copies.ensures ∙ stay)
 
 pub returns-clause-kept : goal.returns-clause-kept
 returns-clause-kept c =

@@ -1,5 +1,5 @@
 use Rattle.b2_catalog.specs.Catalogue.{catalogue}
-use Rattle.b2_progfile.proofs.Making.{file-there}
+use Rattle.b2_catalog.proofs.MadeFiles.{file-there}
 use Rattle.b2_progfile.proofs.moving.enter_copy.Goals as goal
 
 pub returns-clause-file : goal.returns-clause-file

@@ -1,10 +1,9 @@
-use Rattle.std.proofs.Common.{◌≡◌, ℕ, List, ◌+◌, ◌-◌, ◌*◌, ◌<◌, ◌≤◌, ◌∷◌, ◌∙◌, length, refl, sym, ap, ap₂, arith}
+use Rattle.std.proofs.Common.{◌≡◌, ℕ, ◌+◌, ◌-◌, ◌<◌, ◌∙◌, length, sym, ap, ap₂, arith}
 use Rattle.b2_platter.specs.declared.layout.Layout.TheVariants.{Narrow}
-use Rattle.b2_platter.specs.Image.{sector}
+use Rattle.b2_platter.specs.Image.{sectors_at}
 use Rattle.b2_platter.proofs.Goodness.{most_of_good}
-use Rattle.b2_progfile.specs.Programs.{sectors_at}
-use Rattle.b2_progfile.specs.Saving.{put_all}
-use Rattle.b2_catalog.proofs.DataSectors.{good-kept, data-kept}
+use Rattle.b2_platter.specs.Edits.{put_from}
+use Rattle.b2_platter.proofs.DataSectors.{data-kept, good-kept}
 use Rattle.b2_progfile.proofs.Copies.{sectors-next, sector-long}
 use Rattle.b2_progfile.proofs.moving.put_copies.Goals as goal
 
@@ -14,7 +13,7 @@ loop-k-init c =
     let first : c.args.start + 0 ≡ c.args.start = omega arith in
     let all : c.args.count - 0 ≡ c.args.count = omega arith in
     record {
-      rest = ap₂ (put_all c.args.p.now) place (ap₂ (sectors_at c.args.from.now) first all);
+      rest = ap₂ (put_from c.args.p.now) place (ap₂ (sectors_at c.args.from.now) first all);
       good = c.requires.good;
       own = c.requires.sectors;
     }
@@ -36,7 +35,7 @@ loop-k-preserved c =
     let long = ap length c.sector.ensures.value ∙ sector-long c.args.from.now (c.args.start + c.loop-k.k) c.image-source.ensures.good (omega (arith, h, c.requires.within)) in
     record {
       rest = rw (c.put_file.ensures, c.sector.ensures.value, place, there)
-          (sym (ap (put_all c.loop-k.p (c.args.at + c.loop-k.k)) (sectors-next c.args.from.now (c.args.start + c.loop-k.k) c.loop-k.k c.args.count h)) ∙ c.loop-k.invariant.rest);
+          (sym (ap (put_from c.loop-k.p (c.args.at + c.loop-k.k)) (sectors-next c.args.from.now (c.args.start + c.loop-k.k) c.loop-k.k c.args.count h)) ∙ c.loop-k.invariant.rest);
       good = rw c.put_file.ensures (good-kept c.loop-k.p c.loop-k.invariant.good (c.args.at + c.loop-k.k) first c.sector.result.now long);
       own = λ n low high. rw c.put_file.ensures (data-kept c.loop-k.p c.loop-k.invariant.good (c.args.at + c.loop-k.k) first c.sector.result.now long n ∙ c.loop-k.invariant.own n low high);
     }
@@ -44,4 +43,4 @@ loop-k-preserved c =
 pub returns : goal.returns
 returns c =
     let none : c.args.count - c.loop-k.k ≡ 0 = omega (arith, c.loop-k-test.false) in
-    sym (ap (λ (m : ℕ). put_all c.loop-k.p (c.args.at + c.loop-k.k) (sectors_at c.args.from.now (c.args.start + c.loop-k.k) m)) none) ∙ c.loop-k.invariant.rest
+    sym (ap (λ (m : ℕ). put_from c.loop-k.p (c.args.at + c.loop-k.k) (sectors_at c.args.from.now (c.args.start + c.loop-k.k) m)) none) ∙ c.loop-k.invariant.rest

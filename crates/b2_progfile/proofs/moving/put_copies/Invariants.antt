@@ -1,15 +1,14 @@
 use Rattle.std.proofs.Common.{◌≡◌, ℕ, ◌+◌, ◌-◌, ◌<◌, ◌≤◌, true}
 use Rattle.b2_platter.specs.declared.layout.Layout.TheVariants.{Narrow}
 use Rattle.b2_platter.specs.Checks.{Good}
-use Rattle.b2_platter.specs.Edits.{is_data_sector}
-use Rattle.b2_progfile.specs.Programs.{sectors_at}
-use Rattle.b2_progfile.specs.Saving.{put_all}
+use Rattle.b2_platter.specs.Edits.{is_data_sector, put_from}
+use Rattle.b2_platter.specs.Image.{sectors_at}
 use Rattle.b2_progfile.proofs.moving.put_copies.Given as goal
 
 -- the sectors that are left make the image that is wanted
 abbrev pub invariant-loop-k : goal.invariant-loop-k
 invariant-loop-k l = record {
-  rest : put_all l.p (l.at + l.k) (sectors_at l.from (l.start + l.k) (l.count - l.k)) ≡ put_all l.fn.p l.at (sectors_at l.from l.start l.count);
+  rest : put_from l.p (l.at + l.k) (sectors_at l.from (l.start + l.k) (l.count - l.k)) ≡ put_from l.fn.p l.at (sectors_at l.from l.start l.count);
   good : Good Narrow l.p;
   own : (n : ℕ) → l.at ≤ n → n < l.at + l.count → is_data_sector Narrow l.p n ≡ true;
 }

@@ -1,9 +1,9 @@
 use Rattle.std.proofs.Common.{◌≡◌, ◌∙◌, ◌+◌, ◌-◌, ◌<◌, ◌++◌, ℕ, List, drop, refl, sym, ap, ap₂, subst, append_assoc, arith}
 use Rattle.b2_base.specs.Lexical.{first}
 use Rattle.b2_platter.specs.declared.layout.Layout.TheVariants.{Narrow}
-use Rattle.b2_platter.specs.Image.{sector}
+use Rattle.b2_platter.specs.Image.{sector, sectors_at}
 use Rattle.b2_platter.proofs.Goodness.{most_of_good}
-use Rattle.b2_progfile.specs.Programs.{AllPieces, piece_bytes, sectors_at}
+use Rattle.b2_progfile.specs.Programs.{AllPieces, piece_bytes}
 use Rattle.b2_progfile.proofs.Copies.{sectors-next}
 use Rattle.b2_progfile.proofs.reading.held_bytes.Goals as goal
 

@@ -1,5 +1,6 @@
 use Rattle.std.proofs.Common.{◌≡◌, ◌+◌, ◌-◌, ◌++◌}
-use Rattle.b2_progfile.specs.Programs.{AllPieces, piece_bytes, sectors_at}
+use Rattle.b2_platter.specs.Image.{sectors_at}
+use Rattle.b2_progfile.specs.Programs.{AllPieces, piece_bytes}
 use Rattle.b2_progfile.proofs.reading.held_bytes.Given as goal
 
 -- what the sectors that are left hold follows what was taken, and all are pieces where those that are left are

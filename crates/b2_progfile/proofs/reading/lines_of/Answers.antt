@@ -1,13 +1,14 @@
-use Rattle.std.proofs.Common.{◌≡◌, ◌∙◌, ◌+◌, ◌≤◌, ◌∷◌, ◌++◌, [], ℕ, List, false, get_or, length, drop, refl, sym, ap, ap₂, subst, arith}
+use Rattle.std.proofs.Common.{◌≡◌, ◌∙◌, ◌≤◌, ◌∷◌, ◌++◌, [], ℕ, List, false, get_or, length, drop, refl, sym, ap, ap₂, subst, arith}
 use Rattle.b2_text.specs.Program.{TextState}
 use Rattle.b2_progfile.specs.Programs.{Ascending, all_line_bytes}
 use Rattle.b2_progfile.specs.Loading.{IsLineAt}
-use Rattle.b2_progfile.proofs.Parsing.{ascending-more, first-get, next-more, next_least, no-end, no-line, read-more, unread-more, with-last}
+use Rattle.b2_platter.proofs.Reading.{unspelled-more}
+use Rattle.b2_progfile.proofs.Parsing.{ascending-more, first-get, next-more, next_least, no-end, no-line, read-more, with-last}
 use Rattle.b2_progfile.proofs.reading.lines_of.Goals as goal
 
 pub returns-in-Err-clause-err : goal.returns-in-Err-clause-err
 returns-in-Err-clause-err c =
-    unread-more c.in-Err.fault
+    unspelled-more c.in-Err.fault
     (λ none lines is. no-line c.args.bytes.now c.loop-alloc.rest.now c.loop-alloc.t.lines lines c.loop-alloc.invariant.read c.loop-alloc.invariant.ascending
     (λ e. c.loop-alloc-test.true (c.first.ensures ∙ (first-get c.loop-alloc.rest.now ∙ e)))
     (λ line after at. none line after (subst (λ (n : ℕ). IsLineAt n line c.loop-alloc.rest.now after) (sym c.loop-alloc.invariant.least) at)) is)
@@ -28,9 +29,9 @@ loop-alloc-preserved c =
       least = sym (ap (next_least 0) now ∙ next-more 0 l.0 l.1 was);
     }
 
-pub returns-then-not-is_end-clause-err : goal.returns-then-not-is_end-clause-err
-returns-then-not-is_end-clause-err c =
+pub returns-then-not-is_program_end-clause-err : goal.returns-then-not-is_program_end-clause-err
+returns-then-not-is_program_end-clause-err c =
     let begins : get_or c.loop-alloc.rest.now 0 0 ≡ 255 = sym (first-get c.loop-alloc.rest.now) ∙ (sym c.first.ensures ∙ c.loop-alloc-test.false) in
-    let none : c.is_end.result ≡ false = cc in
+    let none : c.is_program_end.result ≡ false = cc in
     rw c.no_program.ensures
-    (refl, λ lines is. no-end c.args.bytes.now c.loop-alloc.rest.now c.loop-alloc.t.lines lines c.loop-alloc.invariant.read c.loop-alloc.invariant.ascending begins (c.is_end.ensures.no none) is)
+    (refl, λ lines is. no-end c.args.bytes.now c.loop-alloc.rest.now c.loop-alloc.t.lines lines c.loop-alloc.invariant.read c.loop-alloc.invariant.ascending begins (c.is_program_end.ensures.no none) is)

@@ -1,6 +1,6 @@
-use Rattle.std.proofs.Common.{rules, ◌≡◌, ◌∙◌, ◌++◌, sym, ap, append-nil}
+use Rattle.std.proofs.Common.{rules, ◌∙◌, ◌++◌, sym, ap, append-nil}
 use Rattle.b2_text.specs.Program.{Lines}
-use Rattle.b2_progfile.specs.Programs.{Ascending, all_line_bytes}
+use Rattle.b2_progfile.specs.Programs.{all_line_bytes}
 use Rattle.b2_progfile.proofs.Numbers.{AllLines, between-nothing, ascending-between}
 use Rattle.b2_progfile.proofs.spelling.add_lines.Goals as goal
 

@@ -1,4 +1,4 @@
-use Rattle.std.proofs.Common.{◌∙◌, ◌*◌, length, drop, take, min, ap, arith}
+use Rattle.std.proofs.Common.{◌*◌, drop, arith}
 use Rattle.std.proofs.lemmas.List.{length-take}
 use Rattle.b2_progfile.proofs.spelling.part_bytes.Goals as goal
 

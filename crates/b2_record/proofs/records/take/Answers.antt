@@ -2,7 +2,7 @@ use Rattle.std.proofs.Common.{◌≡◌, ◌+◌, ◌==◌, ◌||◌, length, �
 use Rattle.b2_platter.specs.Image.{sector}
 use Rattle.b2_record.specs.Items.{group_bytes}
 use Rattle.b2_record.specs.Records.{goes_over, sector_of, sector_kind}
-use Rattle.b2_record.proofs.Parsing.{Unspelled-from}
+use Rattle.b2_platter.proofs.Reading.{unspelled-more}
 use Rattle.b2_record.proofs.Reading.{reading-none, reading-more, reading-end, stops-unspelled, stops-short, stops-most, follows-from, short-from}
 use Rattle.b2_record.proofs.records.take.Goals as goal
 
@@ -12,7 +12,7 @@ loop-count-init c = record { reading = rw c.new-values.ensures.items (reading-no
 pub returns-in-Err-clause-err : goal.returns-in-Err-clause-err
 returns-in-Err-clause-err c =
     let none = rw c.sector.ensures.value at c.in-Err.ensures.err in
-    Unspelled-from _ _ c.in-Err.fault (stops-unspelled c.args.p.now c.args.at c.loop-count.used c.loop-count.count c.args.last c.loop-count.values.items c.loop-count.invariant.reading) none
+    unspelled-more c.in-Err.fault (stops-unspelled c.args.p.now c.args.at c.loop-count.used c.loop-count.count c.args.last c.loop-count.values.items c.loop-count.invariant.reading) none
 
 pub returns-then-not-follows-clause-err : goal.returns-then-not-follows-clause-err
 returns-then-not-follows-clause-err c =

@@ -1,4 +1,5 @@
-use Rattle.b2_record.proofs.Parsing.{Unspelled-from, whole-sector, group-room, sector-group}
+use Rattle.b2_platter.proofs.Reading.{unspelled-more}
+use Rattle.b2_record.proofs.Parsing.{whole-sector, group-room, sector-group}
 use Rattle.b2_record.proofs.sectors.group_at.Goals as goal
 
 pub returns-in-Ok-clause-ok : goal.returns-in-Ok-clause-ok
@@ -14,4 +15,4 @@ returns-in-Ok-clause-room c =
 pub returns-in-Err-clause-err : goal.returns-in-Err-clause-err
 returns-in-Err-clause-err c =
     let none = rw c.dropped.ensures at c.in-Err.ensures.err in
-    Unspelled-from _ _ c.in-Err.fault (λ none is_last group storable same. none group (sector-group _ _ c.args.bytes.now group storable same)) none
+    unspelled-more c.in-Err.fault (λ none is_last group storable same. none group (sector-group _ _ c.args.bytes.now group storable same)) none

@@ -1,15 +1,14 @@
-use Rattle.std.proofs.Common.{◌≡◌, ◌∙◌, ◌+◌, ◌≤◌, ℕ, List, length, sym, ap, ap₂, arith}
-use Rattle.std.specs.FinMap.{get, insert}
-use Rattle.b2_platter.specs.Image.{sector}
+use Rattle.std.proofs.Common.{◌∙◌, ◌+◌, ◌≤◌, ℕ, List, length, sym, ap, ap₂, arith}
+use Rattle.std.specs.FinMap.{insert}
+use Rattle.b2_platter.specs.Image.{sector, sectors_at}
 use Rattle.b2_platter.specs.Edits.{put_sector}
 use Rattle.b2_catalog.specs.Catalogue.{Catalogue, catalogue}
 use Rattle.b2_catalog.specs.Changes.{control_sector}
-use Rattle.b2_progfile.specs.Programs.{sectors_at}
-use Rattle.b2_progfile.specs.Saving.{pieces_of, filled}
+use Rattle.b2_progfile.specs.Saving.{pieces_of}
 use Rattle.b2_catalog.proofs.DataSectors.{in-image}
 use Rattle.b2_progfile.proofs.Pieces.{pieces-length, pieces-long}
-use Rattle.b2_progfile.proofs.Filling.{all-put, still-there, filled-others, filled-there}
-use Rattle.b2_progfile.proofs.saving.fill.Goals as goal
+use Rattle.b2_progfile.proofs.Filling.{files-stay, still-there, filled-others, filled-there}
+use Rattle.b2_progfile.proofs.saving.fill_program_file.Goals as goal
 
 pub put_pieces-requires-clause-sectors : goal.put_pieces-requires-clause-sectors
 put_pieces-requires-clause-sectors c = λ n low high.
@@ -30,8 +29,8 @@ pub returns-clause-files : goal.returns-clause-files
 returns-clause-files c =
     let n = c.requires.count ∙ sym (pieces-length c.args.bytes.now) in
     let room : c.args.e.start + length (pieces_of c.args.bytes.now) ≤ c.args.e.end = omega (arith, c.requires.room, n) in
-    let put = all-put c.args.p.now c.args.e (pieces_of c.args.bytes.now) c.image-image.ensures.good c.requires.file (pieces-long c.args.bytes.now) room in
-    c.set_used.ensures.catalogue ∙ ap (λ (files : Catalogue). insert files c.args.e.name (record c.args.e { used = c.args.count })) (ap catalogue c.put_pieces.ensures ∙ put.files)
+    let stay = files-stay c.args.p.now c.args.e (pieces_of c.args.bytes.now) c.image-image.ensures.good c.requires.file (pieces-long c.args.bytes.now) room in
+    c.set_used.ensures.catalogue ∙ ap (λ (files : Catalogue). insert files c.args.e.name (record c.args.e { used = c.args.count })) (ap catalogue c.put_pieces.ensures ∙ stay)
 
 pub returns-clause-there : goal.returns-clause-there
 returns-clause-there c =

@@ -1,9 +1,9 @@
-use Rattle.std.proofs.Common.{◌≡◌, ◌∙◌, ◌<◌, true, false, drop, length, get_or, sym, ap, arith}
+use Rattle.std.proofs.Common.{◌≡◌, ◌∙◌, ◌<◌, true, false, drop, length, get_or, sym, arith}
 use Rattle.std.specs.List.{list_all}
 use Rattle.std.proofs.lemmas.Bool.{false≢true}
 use Rattle.b2_platter.specs.Layout.{is_zero}
 use Rattle.b2_progfile.proofs.Parsing.{end-is, end-zeros, first-get}
-use Rattle.b2_progfile.proofs.reading.is_end.Goals as goal
+use Rattle.b2_progfile.proofs.reading.is_program_end.Goals as goal
 
 pub returns-clause-yes : goal.returns-clause-yes
 returns-clause-yes c = λ e.
