@@ -1,0 +1,60 @@
+-- Assignments to one receiver and to several, and the two kinds of them.
+use Rattle.std.proofs.Common.{◌≡◌, ℕ, true, false, List, ◌∷◌, Result, Ok, Err, Option, Some, None, refl, sym, ap, ◌∙◌}
+use Rattle.b2_base.specs.declared.codes.Fault.{Fault}
+use Rattle.b2_base.specs.declared.codes.Fault.TheVariants as fault
+use Rattle.b2_atom.specs.Words.{Text}
+use Rattle.b2_atom.specs.Tree.{Trees}
+use Rattle.b2_atom.specs.Grammar.{row_items, starts}
+use Rattle.b2_atom.specs.declared.words.Origin.TheVariants.{Atoms}
+use Rattle.b2_atom.specs.declared.rows.TheConstants as row
+use Rattle.b2_atom.specs.declared.forms.Start.TheVariants as start
+use Rattle.b2_rows.specs.Rows.{is_part, tree_at}
+use Rattle.b2_rows.specs.Choices.{ReadAs, first_branch, second_branch}
+use Rattle.b2_rows.proofs.Choices.{either_first, either_second}
+use Rattle.b2_text.specs.Program.{TextState}
+use Rattle.b2_vars.specs.Tables.{VarsState}
+use Rattle.b2_expr.specs.Assigning.{Assigned, Ends}
+use Rattle.b2_stmt.specs.Assignments.{EndsWith, and_then, assign_each, assign_numbers, assign_sides, assigns, unless_coded}
+use Rattle.b2_stmt.specs.declared.around.Setting.{Setting}
+
+-- what an assignment left and how it ended
+pub ended_so : (a : Assigned) (old new : VarsState) (r : Result (Unit {0}) Fault) (code : Option ℕ) → Ends a old new r → EndsWith r code → record { vars = new; code = code } ≡ a
+ended_so a old new (Ok done) code is ends = ap (λ (v : VarsState). record { vars = v; code = code }) is.1 ∙ ap (λ (o : Option ℕ). record { vars = a.vars; code = o }) (ends ∙ sym is.0)
+ended_so a old new (Err (fault.Code c)) code is ends = ap (λ (v : VarsState). record { vars = v; code = code }) is.1 ∙ ap (λ (o : Option ℕ). record { vars = a.vars; code = o }) (ends ∙ sym is.0)
+ended_so a old new (Err fault.NoMemory) code is ends = absurd ends
+
+-- the first receiver, and the others
+pub one_more : (one : Trees → VarsState → Assigned) (t : Trees) (ts : List Trees) (old new : VarsState) (code : Option ℕ) → record { vars = new; code = code } ≡ one t old → code ≡ None
+    → assign_each one ts new ≡ assign_each one (t ∷ ts) old
+one_more one t ts old new code is none =
+    sym (ap (λ (c : Option ℕ). unless_coded c new (assign_each one ts)) none) ∙ ap (λ (a : Assigned). and_then a (assign_each one ts)) is
+
+pub one_coded : (one : Trees → VarsState → Assigned) (t : Trees) (ts : List Trees) (old new : VarsState) (code : Option ℕ) (c : ℕ) → record { vars = new; code = code } ≡ one t old → code ≡ Some c
+    → assign_each one (t ∷ ts) old ≡ record { vars = new; code = code }
+one_coded one t ts old new code c is some =
+    sym (ap (λ (a : Assigned). and_then a (assign_each one ts)) is)
+    ∙ ap (λ (o : Option ℕ). unless_coded o new (assign_each one ts)) some
+    ∙ ap (λ (o : Option ℕ). record { vars = new; code = o }) (sym some)
+
+-- the two kinds
+alpha_read : (t : Text) → is_part row.ASSIGNMENT t ≡ true → starts Atoms start.Alpha t ≡ true → ReadAs row.ASSIGNMENT row.ALPHA_ASSIGNMENT first_branch t
+unfolding row_items
+alpha_read t ok is = either_first row.ASSIGNMENT row.ALPHA_ASSIGNMENT row.NUMERIC_ASSIGNMENT start.Alpha t refl ok is
+
+number_read : (t : Text) → is_part row.ASSIGNMENT t ≡ true → starts Atoms start.Alpha t ≡ false → ReadAs row.ASSIGNMENT row.NUMERIC_ASSIGNMENT second_branch t
+unfolding row_items
+number_read t ok is = either_second row.ASSIGNMENT row.ALPHA_ASSIGNMENT row.NUMERIC_ASSIGNMENT start.Alpha t refl ok is
+
+pub alpha_here : (t : Text) → is_part row.ASSIGNMENT t ≡ true → starts Atoms start.Alpha t ≡ true → is_part row.ALPHA_ASSIGNMENT t ≡ true
+alpha_here t ok is = ReadAs.part (alpha_read t ok is)
+
+pub alpha_is : (a : Setting) (home : TextState) (vars : VarsState) (t : Text) → is_part row.ASSIGNMENT t ≡ true → starts Atoms start.Alpha t ≡ true
+    → assigns a home (tree_at row.ASSIGNMENT t) vars ≡ assign_sides a home (tree_at row.ALPHA_ASSIGNMENT t) vars
+alpha_is a home vars t ok is = ap (λ (u : Trees). assigns a home u vars) (ReadAs.tree (alpha_read t ok is))
+
+pub number_here : (t : Text) → is_part row.ASSIGNMENT t ≡ true → starts Atoms start.Alpha t ≡ false → is_part row.NUMERIC_ASSIGNMENT t ≡ true
+number_here t ok is = ReadAs.part (number_read t ok is)
+
+pub number_is : (a : Setting) (home : TextState) (vars : VarsState) (t : Text) → is_part row.ASSIGNMENT t ≡ true → starts Atoms start.Alpha t ≡ false
+    → assigns a home (tree_at row.ASSIGNMENT t) vars ≡ assign_numbers a home (tree_at row.NUMERIC_ASSIGNMENT t) vars
+number_is a home vars t ok is = ap (λ (u : Trees). assigns a home u vars) (ReadAs.tree (number_read t ok is))

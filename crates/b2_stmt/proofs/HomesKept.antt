@@ -1,0 +1,376 @@
+-- A statement names no partition as a home but its own and those that were named before.
+use Rattle.std.proofs.Common.{◌≡◌, ℕ, ◌==◌, ◌&&◌, nat_lt, Bool, true, false, if◌then◌else◌, List, [], ◌∷◌, length, Option, Some, None, is_some, Result, Ok, Err}
+use Rattle.std.specs.Prelude.{slice_get, unwrap_or, ◌+◌}
+use Rattle.std.specs.Option.{option_map, option_and_then}
+use Rattle.b2_atom.specs.Tree.{Trees}
+use Rattle.b2_atom.specs.Tree.Trees.{Done, Put, In}
+use Rattle.b2_atom.specs.Units.{TreeUnit}
+use Rattle.b2_atom.specs.declared.rows.TheConstants as row
+use Rattle.b2_rows.specs.Following.{past_colon, tree_units, unit_or_next}
+use Rattle.b2_rows.specs.declared.following.Goal.{Goal}
+use Rattle.b2_rows.specs.declared.following.Goal.TheVariants as goal
+use Rattle.b2_text.specs.Program.{Lines, line_at, number_after}
+use Rattle.b2_dec.specs.Number.{Number}
+use Rattle.b2_flow.specs.Frames.{is_call, is_loop, is_loop_of}
+use Rattle.b2_flow.specs.Stacks.{from_call, from_first, from_loop, has_call, has_loop, most_frames, top_loop, without_top_loop}
+use Rattle.b2_flow.specs.declared.frame.Frame.{Frame}
+use Rattle.b2_flow.specs.declared.frame.Frame.TheVariants.{For, Call}
+use Rattle.b2_flow.specs.declared.frame.Place.{Place}
+use Rattle.b2_flow.specs.declared.frame.Var2.{Var2}
+use Rattle.b2_expr.specs.Assigning.{assigned_number}
+use Rattle.b2_expr.specs.Answers.{Answer as NumberAnswer}
+use Rattle.b2_expr.specs.Named.{number_there}
+use Rattle.b2_expr.specs.Scope.{Context}
+use Rattle.b2_access.specs.Lending.{SeenLent}
+use Rattle.b2_access.specs.Places.{goal_place, line_after, line_start}
+use Rattle.b2_access.specs.declared.accesses.Access.{Access}
+use Rattle.b2_access.specs.declared.accesses.Access.TheVariants as access
+use Rattle.b2_access.specs.declared.accesses.Answer.{Answer}
+use Rattle.b2_access.specs.declared.accesses.Answer.TheVariants as answer
+use Rattle.b2_access.specs.declared.planned.Outcome.{Outcome}
+use Rattle.b2_access.specs.declared.planned.Outcome.TheVariants as outcome
+use Rattle.b2_access.specs.declared.private.Private.{Private}
+use Rattle.b2_stmt.specs.Around.{around, setting_of}
+use Rattle.b2_stmt.specs.Asked.{Here, asked_of, asks_choice, asks_loop, body_place, carried, chosen, place_after, still}
+use Rattle.b2_stmt.specs.Assignments.{assigns}
+use Rattle.b2_stmt.specs.Branches.{goto_goal, if_goal, passed_function}
+use Rattle.b2_stmt.specs.Calls.{back_from, called_where, forgets, leaves_call}
+use Rattle.b2_stmt.specs.Choices.{choice_in}
+use Rattle.b2_stmt.specs.Clearing.{access_of, cleared, edited, finishes}
+use Rattle.b2_stmt.specs.Course.{continues, restores, restores_where, runs, runs_from, runs_where}
+use Rattle.b2_stmt.specs.Frames.{with_frame}
+use Rattle.b2_stmt.specs.Going.{to_found, to_goal, to_place, where_there}
+use Rattle.b2_stmt.specs.Homes.{FinishesWithin, FrameIn, FramesIn, IsWithin, OutcomeIn, PlaceIn, PlannedIn, PlansWithin}
+use Rattle.b2_stmt.specs.Loops.{begins, counted, counts, goes_round, is_over, loop_in, made_loop, next_value, nexts, tested, without_loop}
+use Rattle.b2_stmt.specs.Plan.{allowed, by_access, course, course_at, course_in, ended_of, is_refused, line_named}
+use Rattle.b2_stmt.specs.Planning.{Ended, Planning, done, next_or}
+use Rattle.b2_stmt.specs.declared.asked.Asked.{Asked}
+use Rattle.b2_stmt.specs.declared.asked.Asked.TheVariants as asked
+use Rattle.b2_stmt.specs.declared.loops.Loop.{Loop}
+
+-- one thing or another
+either : {A : Type 0} (F : A → Type 0) (b : Bool) (x y : A) → F x → F y → F (if b then x else y)
+either F true x y h k = h
+either F false x y h k = k
+
+module _ (among : ℕ → Bool) where
+  -- what a statement leaves names only these
+  EndedIn : Ended → Type 0
+  EndedIn e = IsWithin among e.me × OutcomeIn among e.outcome
+
+  abbrev Within : Private → Type 0
+  Within me = IsWithin among me
+
+  -- the same partition with other frames
+  with_frames : (me : Private) (fs : List Frame) → Within me → FramesIn among fs → Within (record me { stack = fs })
+  with_frames me fs w h = record { part = w.part; place = w.place; kept = w.kept; frames = h }
+
+  -- frames from one on
+  from : (passes : Frame → Bool) (fs : List Frame) → FramesIn among fs → FramesIn among (from_first passes fs)
+  from passes [] h = tt
+  from passes (f ∷ fs) h = either (FramesIn among) (passes f) (f ∷ fs) (from_first passes fs) h (from passes fs h.1)
+
+  without_top : (fs : List Frame) → FramesIn among fs → FramesIn among (without_top_loop fs)
+  without_top [] h = tt
+  without_top (f ∷ fs) h = either (FramesIn among) (is_loop f) fs (f ∷ fs) h.1 h
+
+  no_old_loop : (v : Var2) (fs : List Frame) → FramesIn among fs → FramesIn among (without_loop v fs)
+  no_old_loop v fs h = either (FramesIn among) (has_loop v fs) (without_top_loop (from_loop v fs)) fs (without_top (from_loop v fs) (from (is_loop_of v) fs h)) h
+
+  framed : (f : Frame) (o : Outcome) (me : Private) → Within me → FrameIn among f → OutcomeIn among o → EndedIn (with_frame f o me)
+  unfolding EndedIn
+  framed f o me w h k =
+      either EndedIn (nat_lt (length me.stack) most_frames) (record { me = record me { stack = f ∷ me.stack }; outcome = o }) _ (with_frames me (f ∷ me.stack) w (h, w.frames), k) (w, tt)
+
+  -- where a goal leads
+  placed : (p : Option Place) → PlaceIn among p → OutcomeIn among (to_place p)
+  placed None h = tt
+  placed (Some p) h = h
+
+  lined : (line : Option (List ℕ)) (p : Place) → among p.home ≡ true → OutcomeIn among (where_there line p)
+  lined None p h = tt
+  lined (Some line) p h = h
+
+  after_by : (n : Option ℕ) (p : Place) → among p.home ≡ true → PlaceIn among (option_map (line_start p) n)
+  after_by None p h = tt
+  after_by (Some n) p h = h
+
+  after_line : (lines : Lines) (p : Place) → among p.home ≡ true → PlaceIn among (line_after lines p)
+  after_line lines p h = by_line p.line
+    where
+      by_line : (l : Option ℕ) → PlaceIn among (option_and_then (λ (n : ℕ). option_map (line_start p) (number_after (Some n) lines)) l)
+      by_line None = tt
+      by_line (Some n) = after_by (number_after (Some n) lines) p h
+
+  goal_in : (lines : Lines) (p : Place) (g : Goal) → among p.home ≡ true → PlaceIn among (goal_place lines p g)
+  goal_in lines p (goal.Unit k) h = h
+  goal_in lines p (goal.Line n) h = h
+  goal_in lines p goal.NextLine h = after_line lines p h
+
+  goes_in : (lines : Lines) (p : Place) (g : Goal) → among p.home ≡ true → OutcomeIn among (to_goal lines p g)
+  goes_in lines p (goal.Unit k) h = h
+  goes_in lines p (goal.Line n) h = lined (line_at n lines) (line_start p n) h
+  goes_in lines p goal.NextLine h = placed (line_after lines p) (after_line lines p h)
+
+  found_in : (lines : Lines) (p : Place) (r : Result Goal ℕ) → among p.home ≡ true → OutcomeIn among (to_found lines p r)
+  found_in lines p (Ok g) h = goes_in lines p g h
+  found_in lines p (Err code) h = tt
+
+  passed_in : (t : Trees) → OutcomeIn among (passed_function t)
+  passed_in Done = tt
+  passed_in (In n a t) = tt
+  passed_in (Put w Done) = tt
+  passed_in (Put w (Put v t)) = tt
+  passed_in (Put w (In n a t)) = either (OutcomeIn among) (n == 1) _ _ tt tt
+
+  -- what is asked for
+  AskedIn : Asked → Type 0
+  AskedIn (asked.Nothing o) = OutcomeIn among o
+  AskedIn (asked.Begin l body) = among body.home ≡ true
+  AskedIn (asked.Call n back) = PlaceIn among back
+  AskedIn (asked.Stop shown after) = PlaceIn among after
+  AskedIn a = Unit {0}
+
+  still_in : (r : ℕ) (t : Trees) (h : Here) (s : Context) (lines : Lines) → among h.place.home ≡ true → OutcomeIn among (still r t h s lines)
+  still_in r t h s lines k =
+      either (OutcomeIn among) (r == row.IF) _ _ (found_in lines h.place (if_goal s h.place.unit h.units t) k)
+      (either (OutcomeIn among) (r == row.GOTO) _ _ (found_in lines h.place (goto_goal t) k)
+      (either (OutcomeIn among) (r == row.ELSE) _ _ (goes_in lines h.place (past_colon h.place.unit h.units) k)
+      (either (OutcomeIn among) (r == row.ERROR) _ _ (goes_in lines h.place goal.NextLine k)
+      (either (OutcomeIn among) (r == row.END) _ _ tt
+      (either (OutcomeIn among) (r == row.REMARK) _ _ tt
+      (either (OutcomeIn among) (r == row.IMAGE_LINE) _ _ tt
+      (either (OutcomeIn among) (r == row.DATA) _ _ tt
+      (either (OutcomeIn among) (r == row.DEFFN) _ _ (passed_in t)
+      (either (OutcomeIn among) (r == row.BREAK) _ _ tt tt)))))))))
+
+  loop_asked : (l : Result Loop ℕ) (body : Place) → among body.home ≡ true → AskedIn (asks_loop l body)
+  unfolding AskedIn
+  loop_asked (Ok l) body h = h
+  loop_asked (Err code) body h = tt
+
+  chosen_in : (goto : Bool) (n : Option ℕ) (h : Here) (lines : Lines) → among h.place.home ≡ true → PlaceIn among (place_after h lines) → AskedIn (chosen goto n h lines)
+  unfolding AskedIn
+  chosen_in true None h lines k after = tt
+  chosen_in true (Some n) h lines k after = lined (line_at n lines) (line_start h.place n) k
+  chosen_in false None h lines k after = tt
+  chosen_in false (Some n) h lines k after = either AskedIn (is_some h.place.line) _ _ after tt
+
+  choice_asked : (r : Result (Bool × Option ℕ) ℕ) (h : Here) (lines : Lines) → among h.place.home ≡ true → PlaceIn among (place_after h lines) → AskedIn (asks_choice r h lines)
+  unfolding AskedIn
+  choice_asked (Ok p) h lines k after = chosen_in p.0 p.1 h lines k after
+  choice_asked (Err code) h lines k after = tt
+
+  body_by : (o : Option Place) (p : Place) → PlaceIn among o → among p.home ≡ true → among (unwrap_or o p).home ≡ true
+  body_by None p h k = k
+  body_by (Some q) p h k = h
+
+  asked_in : (r : ℕ) (t : Trees) (h : Here) (s : Context) (lines : Lines) → among h.place.home ≡ true → AskedIn (asked_of r t h s lines)
+  unfolding AskedIn
+  asked_in r t h s lines k =
+      let after : PlaceIn among (place_after h lines) = goal_in lines h.place (unit_or_next (h.place.unit + 1) h.units) k in
+      either AskedIn (r == row.FOR) _ _ (loop_asked (loop_in s t) (body_place h lines) (body_by (place_after h lines) _ after k))
+      (either AskedIn (r == row.NEXT) _ _ tt
+      (either AskedIn (r == row.GOSUB) _ _ after
+      (either AskedIn (r == row.RETURN) _ _ tt
+      (either AskedIn (r == row.RETURN_CLEAR) _ _ tt
+      (either AskedIn (r == row.STOP) _ _ after
+      (either AskedIn (r == row.SELECT) _ _ tt
+      (either AskedIn (r == row.SELECT_NO_ROUND) _ _ tt
+      (either AskedIn (r == row.RUN) _ _ tt
+      (either AskedIn (r == row.CONTINUE) _ _ tt
+      (either AskedIn (r == row.RESTORE) _ _ tt
+      (either AskedIn (r == row.CLEAR_V) _ _ tt
+      (either AskedIn (r == row.CLEAR_N) _ _ tt
+      (either AskedIn (r == row.ON) _ _ (choice_asked (choice_in s t) h lines k after)
+      (either AskedIn (r == row.DEFFN_MARKED) _ _ tt (still_in r t h s lines k)))))))))))))))
+
+  -- loops
+  made_in : (o : Option ℕ) (l : Loop) (body : Place) (me : Private) → Within me → among body.home ≡ true → EndedIn (made_loop o l body me)
+  unfolding EndedIn
+  made_in (Some code) l body me w h = (w, tt)
+  made_in None l body me w h = framed (For l.var l.limit l.step body) outcome.Next (record me { stack = without_loop l.var me.stack }) (with_frames me (without_loop l.var me.stack) w (no_old_loop l.var me.stack w.frames)) h tt
+
+  begins_in : (l : Loop) (body : Place) (me : Private) → Within me → among body.home ≡ true → EndedIn (begins l body me)
+  begins_in l body me w h =
+      made_in (assigned_number (counted l.var) l.from me.vars).code l body (record me { vars = (assigned_number (counted l.var) l.from me.vars).vars })
+      (record { part = w.part; place = w.place; kept = w.kept; frames = w.frames }) h
+
+  tested_in : (o : Option ℕ) (over : Bool) (body : Place) (me : Private) → Within me → among body.home ≡ true → EndedIn (tested o over body me)
+  unfolding EndedIn
+  tested_in (Some code) over body me w h = (w, tt)
+  tested_in None true body me w h = (with_frames me (without_top_loop me.stack) w (without_top me.stack w.frames), tt)
+  tested_in None false body me w h = (w, h)
+
+  counts_in : (x : NumberAnswer) (v : Var2) (limit step : Number) (body : Place) (me : Private) → Within me → among body.home ≡ true → EndedIn (counts x v limit step body me)
+  unfolding EndedIn
+  counts_in (Err code) v limit step body me w h = (w, tt)
+  counts_in (Ok x) v limit step body me w h =
+      tested_in (assigned_number (counted v) x me.vars).code (is_over x limit step) body (record me { vars = (assigned_number (counted v) x me.vars).vars })
+      (record { part = w.part; place = w.place; kept = w.kept; frames = w.frames }) h
+
+  LoopIn : Option (Number × Number × Place) → Type 0
+  LoopIn None = Unit {0}
+  LoopIn (Some p) = among p.2.home ≡ true
+
+  top_in : (fs : List Frame) → FramesIn among fs → LoopIn (top_loop fs)
+  unfolding LoopIn
+  top_in [] h = tt
+  top_in (For v limit step body ∷ fs) h = h.0
+  top_in (Call back entered ∷ fs) h = tt
+
+  round_in : (o : Option (Number × Number × Place)) (v : Var2) (me : Private) → Within me → LoopIn o → EndedIn (goes_round o v me)
+  unfolding EndedIn LoopIn
+  round_in None v me w h = (w, tt)
+  round_in (Some p) v me w h = counts_in (next_value me.mode (number_there (record { vars = me.vars; element = counted v })) p.1) v p.0 p.1 p.2 me w h
+
+  nexts_in : (v : Var2) (me : Private) → Within me → EndedIn (nexts v me)
+  unfolding EndedIn
+  nexts_in v me w =
+      let frames : FramesIn among (from_loop v me.stack) = from (is_loop_of v) me.stack w.frames in
+      either EndedIn (has_loop v me.stack) _ _ (round_in (top_loop (from_loop v me.stack)) v (record me { stack = from_loop v me.stack }) (with_frames me (from_loop v me.stack) w frames) (top_in (from_loop v me.stack) frames)) (w, tt)
+
+  -- calls
+  called_in : (line : Option (List ℕ)) (q : Place) (back : Option Place) (me : Private) → Within me → among q.home ≡ true → PlaceIn among back → EndedIn (called_where line q back me)
+  unfolding EndedIn
+  called_in None q back me w h k = (w, tt)
+  called_in (Some line) q back me w h k = framed (Call back None) (outcome.Jump q) me w (k, tt) h
+
+  back_in : (how : Option Place → Outcome) (fs : List Frame) (me : Private) → ((b : Option Place) → PlaceIn among b → OutcomeIn among (how b)) → Within me → FramesIn among fs → EndedIn (back_from how fs me)
+  unfolding EndedIn
+  back_in how [] me leads w h = (w, tt)
+  back_in how (For v limit step body ∷ fs) me leads w h = (w, tt)
+  back_in how (Call back entered ∷ fs) me leads w h = (with_frames me fs w h.1, leads back h.0.0)
+
+  leaves_in : (how : Option Place → Outcome) (me : Private) → ((b : Option Place) → PlaceIn among b → OutcomeIn among (how b)) → Within me → EndedIn (leaves_call how me)
+  unfolding EndedIn
+  leaves_in how me leads w = either EndedIn (has_call me.stack) _ _ (back_in how (from_call me.stack) me leads w (from is_call me.stack w.frames)) (w, tt)
+
+  forgets_in : (all : Bool) (p : Place) (me : Private) → Within me → EndedIn (forgets all p me)
+  unfolding EndedIn
+  forgets_in false p me w = leaves_in (λ back. outcome.Next) me (λ b h. tt) w
+  forgets_in true p me w = either EndedIn (has_call me.stack && (p.home == me.part)) _ _ (record { part = w.part; place = w.place; kept = tt; frames = tt }, tt) (w, tt)
+
+  -- the course of the program
+  kept_in : (b : Bool) (after kept : Option Place) → PlaceIn among after → PlaceIn among kept → PlaceIn among (if b then after else kept)
+  kept_in b after kept h k = either (PlaceIn among) b after kept h k
+
+  runs_in : (n : Option ℕ) (me : Private) → Within me → EndedIn (runs_from n me)
+  unfolding EndedIn
+  runs_in None me w = (record { part = w.part; place = w.place; kept = tt; frames = tt }, tt)
+  runs_in (Some n) me w = (record { part = w.part; place = w.place; kept = tt; frames = tt }, w.part)
+
+  runs_where_in : (line : Option (List ℕ)) (n : ℕ) (me : Private) → Within me → EndedIn (runs_where line n me)
+  unfolding EndedIn
+  runs_where_in None n me w = (w, tt)
+  runs_where_in (Some line) n me w = runs_in (Some n) me w
+
+  run_in : (n : Option ℕ) (own : Lines) (me : Private) → Within me → EndedIn (runs n own me)
+  run_in None own me w = runs_in (number_after None own) me w
+  run_in (Some n) own me w = runs_where_in (line_at n own) n me w
+
+  continues_in : (o : Option Place) (me : Private) → Within me → PlaceIn among o → EndedIn (continues o me)
+  unfolding EndedIn
+  continues_in None me w h = (w, tt)
+  continues_in (Some p) me w h = (w, h)
+
+  restores_where_in : (line : Option (List ℕ)) (n : ℕ) (me : Private) → Within me → EndedIn (restores_where line n me)
+  unfolding EndedIn
+  restores_where_in None n me w = (w, tt)
+  restores_where_in (Some line) n me w = (record { part = w.part; place = w.place; kept = w.kept; frames = w.frames }, tt)
+
+  restores_in : (n : Option ℕ) (own : Lines) (me : Private) → Within me → EndedIn (restores n own me)
+  unfolding EndedIn
+  restores_in None own me w = (record { part = w.part; place = w.place; kept = w.kept; frames = w.frames }, tt)
+  restores_in (Some n) own me w = restores_where_in (line_at n own) n me w
+
+  carried_in : (a : Asked) (p : Place) (me : Private) (own home : Lines) → among p.home ≡ true → Within me → AskedIn a → EndedIn (carried a p me own home)
+  unfolding EndedIn AskedIn
+  carried_in (asked.Nothing o) p me own home h w k = (w, k)
+  carried_in (asked.Begin l body) p me own home h w k = begins_in l body me w k
+  carried_in (asked.Next v) p me own home h w k = nexts_in v me w
+  carried_in (asked.Call n back) p me own home h w k = called_in (line_at n home) (line_start p n) back me w h k
+  carried_in asked.Return p me own home h w k = leaves_in to_place me placed w
+  carried_in (asked.Forget all) p me own home h w k = forgets_in all p me w
+  carried_in (asked.Stop shown after) p me own home h w k =
+      (record { part = w.part; place = w.place; kept = kept_in (is_some p.line) after me.kept k w.kept; frames = w.frames }, tt)
+  carried_in (asked.Select mode) p me own home h w k = (record { part = w.part; place = w.place; kept = w.kept; frames = w.frames }, tt)
+  carried_in (asked.Run n) p me own home h w k = run_in n own me w
+  carried_in asked.Continue p me own home h w k = continues_in me.kept me w w.kept
+  carried_in (asked.Restore n) p me own home h w k = restores_in n own me w
+  carried_in (asked.Clear common) p me own home h w k = (record { part = w.part; place = w.place; kept = w.kept; frames = w.frames }, tt)
+  carried_in asked.Mark p me own home h w k = (w, either (OutcomeIn among) (is_some me.args) _ _ tt tt)
+
+  -- a statement
+  next_in : (o : Option ℕ) → OutcomeIn among (next_or o)
+  next_in None = tt
+  next_in (Some code) = tt
+
+  ended_in : (r : ℕ) (t : Trees) (h : Here) (me : Private) (s : SeenLent) → among h.place.home ≡ true → Within me → EndedIn (ended_of r t h me s)
+  unfolding EndedIn
+  ended_in r t h me s k w =
+      either EndedIn (r == row.ASSIGNMENT) _ _
+      (record { part = w.part; place = w.place; kept = w.kept; frames = w.frames }, next_in (assigns (setting_of me) s.home t me.vars).code)
+      (carried_in (asked_of r t h (around me s.home) s.home.lines) h.place me s.own.lines s.home.lines k w (asked_in r t h (around me s.home) s.home.lines k))
+
+  PlanningIn : Planning → Type 0
+  PlanningIn p = IsWithin among p.me × PlannedIn among p.planned
+
+  done_in : (s : SeenLent) (e : Ended) → EndedIn e → PlanningIn (done s e)
+  unfolding EndedIn PlanningIn
+  done_in s e h = h
+
+  access_in : (o : Option Access) (s : SeenLent) (me : Private) (e : Ended) → Within me → EndedIn e → PlanningIn (by_access o s me e)
+  unfolding PlanningIn
+  access_in None s me e w h = done_in s e h
+  access_in (Some a) s me e w h = (w, tt)
+
+  allowed_in : (r : ℕ) (t : Trees) (h : Here) (me : Private) (s : SeenLent) → among h.place.home ≡ true → Within me → PlanningIn (allowed r t h me s)
+  unfolding EndedIn PlanningIn
+  allowed_in r t h me s k w =
+      either PlanningIn (is_refused r (is_some h.place.line)) _ _ (w, tt) (access_in (access_of r t) s me (ended_of r t h me s) w (ended_in r t h me s k w))
+
+  unit_in : (o : Option TreeUnit) (h : Here) (me : Private) (s : SeenLent) → among h.place.home ≡ true → Within me → PlanningIn (course_at o h me s)
+  unfolding PlanningIn
+  unit_in None h me s k w = (w, tt)
+  unit_in (Some u) h me s k w = allowed_in u.row u.tree h me s k w
+
+  line_in : (o : Option (List ℕ)) (p : Place) (me : Private) (s : SeenLent) → among p.home ≡ true → Within me → PlanningIn (course_in o p me s)
+  unfolding PlanningIn
+  line_in None p me s k w = (w, tt)
+  line_in (Some line) p me s k w = unit_in (slice_get (tree_units line) p.unit) (record { place = p; units = tree_units line }) me s k w
+
+  planned_in : (o : Option Place) (me : Private) (s : SeenLent) → PlaceIn among o → Within me → PlanningIn (course o me s)
+  unfolding PlanningIn
+  planned_in None me s k w = (w, tt)
+  planned_in (Some p) me s k w = line_in (line_named me.immediate s.home.lines p.line) p me s k w
+
+  -- how it finishes
+  edited_in : (a : Answer) (after me : Private) → Within after → Within me → EndedIn (edited a after me)
+  unfolding EndedIn
+  edited_in answer.Done after me v w = (v, tt)
+  edited_in (answer.Line bytes) after me v w = (w, tt)
+  edited_in (answer.Special n) after me v w = (w, tt)
+  edited_in (answer.Key b) after me v w = (w, tt)
+  edited_in answer.NoKeys after me v w = (w, tt)
+  edited_in (answer.Wait q) after me v w = (w, tt)
+  edited_in (answer.Locked q) after me v w = (w, tt)
+  edited_in (answer.Refused code) after me v w = (w, tt)
+
+  finishes_in : (x : Access) (a : Answer) (me : Private) → Within me → EndedIn (finishes x a me)
+  unfolding EndedIn
+  finishes_in (access.ClearAll name homes) a me w = edited_in a (cleared me) me (record { part = w.part; place = w.place; kept = tt; frames = tt }) w
+  finishes_in (access.Erase from to homes) a me w = edited_in a _ me (record { part = w.part; place = w.place; kept = tt; frames = tt }) w
+  finishes_in (access.Show term bytes) a me w = (w, tt)
+  finishes_in (access.ReadLine term) a me w = (w, tt)
+  finishes_in (access.Insert term bytes) a me w = (w, tt)
+  finishes_in (access.Key term) a me w = (w, tt)
+  finishes_in (access.PutLine line atoms homes) a me w = (w, tt)
+
+pub plans_within : PlansWithin
+unfolding PlanningIn
+plans_within among me s w = planned_in among me.place me s w.place w
+
+pub finishes_within : FinishesWithin
+unfolding EndedIn
+finishes_within among x a me s w = finishes_in among x a me w

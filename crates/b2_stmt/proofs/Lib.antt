@@ -1,0 +1,20 @@
+-- The proofs of statements, by what they are about.
+--
+-- GoalUnits: the units that goals name. Framed: frames that are put.
+-- Commas: lists with commas. BranchRows, LoopRows, CallRows, CourseRows, ChoiceRows, ClearRows, NumberRows and
+-- SideRows have what the rows of statements say at their bytes, one fact at a time. Assigned: receivers one after the other.
+-- Executed: a unit by its row and its tree. HomesKept: which partitions a statement names as homes.
+pub mod GoalUnits
+pub mod Framed
+pub mod Commas
+pub mod BranchRows
+pub mod LoopRows
+pub mod CallRows
+pub mod CourseRows
+pub mod ChoiceRows
+pub mod ClearRows
+pub mod NumberRows
+pub mod SideRows
+pub mod Assigned
+pub mod Executed
+pub mod HomesKept

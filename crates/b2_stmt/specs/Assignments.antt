@@ -1,0 +1,104 @@
+-- Assignments, and lists of receivers.
+use Rattle.std.specs.Prelude.{◌≡◌, ℕ, ◌==◌, List, [], ◌∷◌, Option, None, Some, Result, Ok, Err, if◌then◌else◌}
+use Rattle.b2_base.specs.declared.codes.TheConstants.{S20_VARIABLE}
+use Rattle.b2_base.specs.declared.codes.Fault.{Fault}
+use Rattle.b2_base.specs.declared.codes.Fault.TheVariants as fault
+use Rattle.b2_dec.specs.Number.{Number}
+use Rattle.b2_atom.specs.Tree.{Trees}
+use Rattle.b2_atom.specs.Tree.Trees.{Done, Put, In}
+use Rattle.b2_text.specs.Program.{TextState}
+use Rattle.b2_vars.specs.Tables.{VarsState}
+use Rattle.b2_expr.specs.Answers.{Answer}
+use Rattle.b2_expr.specs.Assigning.{Assigned, assigned_number, assigned_side}
+use Rattle.b2_expr.specs.Receivers.{alpha_receiver, number_receiver}
+use Rattle.b2_expr.specs.RightSide.{Side, right_side}
+use Rattle.b2_expr.specs.Value.{in_statement, value}
+use Rattle.b2_expr.specs.declared.named.Element.{Element}
+use Rattle.b2_expr.specs.declared.operators.Level.TheVariants as level
+use Rattle.b2_expr.specs.declared.receiver.AlphaReceiver.{AlphaReceiver}
+use Rattle.b2_stmt.specs.Around.{surroundings_of}
+use Rattle.b2_stmt.specs.declared.around.Setting.{Setting}
+
+-- what comes after an assignment, where it had no code
+abbrev pub unless_coded : Option ℕ → VarsState → (VarsState → Assigned) → Assigned
+unless_coded None vars next = next vars
+unless_coded (Some code) vars next = record { vars = vars; code = Some code }
+
+abbrev pub and_then : Assigned → (VarsState → Assigned) → Assigned
+and_then a next = unless_coded a.code a.vars next
+
+-- receivers are assigned from left to right, each among the variables as they then are, up to one with a code
+abbrev pub assign_each : (Trees → VarsState → Assigned) → List Trees → VarsState → Assigned
+assign_each one [] vars = record { vars = vars; code = None }
+assign_each one (t ∷ ts) vars = and_then (one t vars) (assign_each one ts)
+
+-- the items after the first of a list with commas
+abbrev pub items_after : Trees → List Trees
+items_after (In n (Put comma (In m item end)) more) = item ∷ items_after more
+items_after t = []
+
+-- what stands after them
+abbrev pub end_of : Trees → Trees
+end_of (In n (Put comma item) more) = end_of more
+end_of (In n Done more) = more
+end_of t = Done
+
+abbrev pub items_of : Trees → List Trees
+items_of (In n item more) = item ∷ items_after more
+items_of t = []
+
+abbrev pub after_items : Trees → Trees
+after_items (In n item more) = end_of more
+after_items t = Done
+
+-- the expression of an assignment of a number, and the right side of one of bytes
+abbrev pub sum_of_assignment : Trees → Trees
+sum_of_assignment (Put equals (In n sum end)) = sum
+sum_of_assignment t = Done
+
+abbrev pub side_of_assignment : Trees → Trees
+side_of_assignment (Put equals side) = side
+side_of_assignment t = Done
+
+-- a receiver that was located, and a number or the right side of an assignment of bytes
+abbrev pub number_to : Result Element ℕ → Number → VarsState → Assigned
+number_to (Ok to) x vars = assigned_number to x vars
+number_to (Err code) x vars = record { vars = vars; code = Some code }
+
+abbrev pub side_to : Result AlphaReceiver ℕ → Side → VarsState → Assigned
+side_to (Ok to) side vars = assigned_side to side vars
+side_to (Err code) side vars = record { vars = vars; code = Some code }
+
+abbrev pub assign_number : Setting → TextState → Number → Trees → VarsState → Assigned
+assign_number a home x t vars = number_to (number_receiver (in_statement (surroundings_of a vars home)) t) x vars
+
+abbrev pub assign_side : Setting → TextState → Side → Trees → VarsState → Assigned
+assign_side a home side t vars = side_to (alpha_receiver (in_statement (surroundings_of a vars home)) t) side vars
+
+-- the expression first, then each receiver
+abbrev pub numbers_by : Setting → TextState → Answer → List Trees → VarsState → Assigned
+numbers_by a home (Ok x) ts vars = assign_each (assign_number a home x) ts vars
+numbers_by a home (Err code) ts vars = record { vars = vars; code = Some code }
+
+abbrev pub sides_by : Setting → TextState → Result Side ℕ → List Trees → VarsState → Assigned
+sides_by a home (Ok side) ts vars = assign_each (assign_side a home side) ts vars
+sides_by a home (Err code) ts vars = record { vars = vars; code = Some code }
+
+abbrev pub assign_numbers : Setting → TextState → Trees → VarsState → Assigned
+assign_numbers a home t vars = numbers_by a home (value (in_statement (surroundings_of a vars home)) level.Sum (sum_of_assignment (after_items t))) (items_of t) vars
+
+abbrev pub assign_sides : Setting → TextState → Trees → VarsState → Assigned
+assign_sides a home t vars = sides_by a home (right_side (in_statement (surroundings_of a vars home)) (side_of_assignment (after_items t))) (items_of t) vars
+
+abbrev pub assigns : Setting → TextState → Trees → VarsState → Assigned
+assigns a home (In n t end) vars = if n == 1 then assign_sides a home t vars else assign_numbers a home t vars
+assigns a home t vars = record { vars = vars; code = Some S20_VARIABLE }
+
+-- how an assignment ended: without a code, or with one; where memory failed it did not
+abbrev pub HasCode : Fault → Option ℕ → Type 0
+HasCode (fault.Code c) code = code ≡ Some c
+HasCode fault.NoMemory code = ⊥
+
+abbrev pub EndsWith : Result (Unit {0}) Fault → Option ℕ → Type 0
+EndsWith (Ok done) code = code ≡ None
+EndsWith (Err f) code = HasCode f code

@@ -1,0 +1,59 @@
+-- GOSUB, RETURN and RETURN CLEAR.
+use Rattle.std.specs.Prelude.{ℕ, ◌==◌, ◌&&◌, Bool, false, List, [], ◌∷◌, Option, None, Some, if◌then◌else◌, is_some}
+use Rattle.b2_base.specs.declared.codes.TheConstants.{P36_NO_LINE, P41_NO_CALL, S27_LEFT_OUT}
+use Rattle.b2_atom.specs.Tree.{Trees}
+use Rattle.b2_atom.specs.Tree.Trees.{Put, In}
+use Rattle.b2_flow.specs.Stacks.{from_call, has_call}
+use Rattle.b2_flow.specs.declared.frame.Frame.{Frame}
+use Rattle.b2_flow.specs.declared.frame.Frame.TheVariants.{For, Call}
+use Rattle.b2_flow.specs.declared.frame.Place.{Place}
+use Rattle.b2_access.specs.declared.planned.Outcome.{Outcome}
+use Rattle.b2_access.specs.declared.planned.Outcome.TheVariants as outcome
+use Rattle.b2_access.specs.declared.private.Private.{Private}
+use Rattle.b2_stmt.specs.Frames.{with_frame}
+use Rattle.b2_stmt.specs.Going.{line_in, to_place}
+use Rattle.b2_stmt.specs.Planning.{Ended, stays}
+
+-- a call of a place in a line, which leads back to another; P36 where the line isn't there
+abbrev pub called_where : Option (List ℕ) → Place → Option Place → Private → Ended
+called_where None q back me = stays me (outcome.Failed P36_NO_LINE)
+called_where (Some line) q back me = with_frame (Call back None) (outcome.Jump q) me
+
+abbrev pub line_called : Trees → ℕ
+line_called (Put word line) = line_in line
+line_called t = 0
+
+-- what stands on the stack from the nearest call on: the call is taken away, and by the place that it leads back to goes on
+abbrev pub back_from : (Option Place → Outcome) → List Frame → Private → Ended
+back_from how [] me = stays me (outcome.Failed P41_NO_CALL)
+back_from how (For v limit step body ∷ below) me = stays me (outcome.Failed P41_NO_CALL)
+back_from how (Call back entered ∷ below) me = record { me = record me { stack = below }; outcome = how back }
+
+abbrev pub leaves_call : (Option Place → Outcome) → Private → Ended
+leaves_call how me = if has_call me.stack then back_from how (from_call me.stack) me else stays me (outcome.Failed P41_NO_CALL)
+
+-- RETURN leads back; RETURN CLEAR goes on
+abbrev pub goes_back : Private → Ended
+goes_back me = leaves_call to_place me
+
+abbrev pub forgets_call : Private → Ended
+forgets_call me = leaves_call (λ back. outcome.Next) me
+
+-- RETURN CLEAR ALL: no loop and no call is left, and nothing is kept; P41 without a call, and where a borrowed text runs
+abbrev pub without_frames : Private → Private
+without_frames me = record me { stack = []; kept = None; args = None }
+
+abbrev pub forgets_all : Place → Private → Ended
+forgets_all p me =
+    if has_call me.stack && (p.home == me.part) then record { me = without_frames me; outcome = outcome.Next } else stays me (outcome.Failed P41_NO_CALL)
+
+abbrev pub has_all : Trees → Bool
+has_all (Put word (Put clear (In n all end))) = n == 1
+has_all t = false
+
+abbrev pub forgets : Bool → Place → Private → Ended
+forgets all p me = if all then forgets_all p me else forgets_call me
+
+-- DEFFN' that is reached in order does nothing; where a call's arguments wait for it, it is left out so far
+abbrev pub passes_mark : Private → Ended
+passes_mark me = stays me (if is_some me.args then outcome.Failed S27_LEFT_OUT else outcome.Next)

@@ -1,0 +1,61 @@
+-- CLEAR and CLEAR P: what they ask of the store, and how they finish.
+use Rattle.std.specs.Prelude.{ℕ, ◌==◌, [], ◌∷◌, ◌++◌, codes, Option, None, Some, if◌then◌else◌}
+use Rattle.std.specs.FinMap as map
+use Rattle.b2_base.specs.Byte as byte
+use Rattle.b2_base.specs.declared.codes.TheConstants.{A08_TEXT_BORROWED}
+use Rattle.b2_atom.specs.Tokens.Token.{Lined}
+use Rattle.b2_atom.specs.Tree.{Trees}
+use Rattle.b2_atom.specs.Tree.Trees.{Put, In}
+use Rattle.b2_atom.specs.declared.rows.TheConstants as row
+use Rattle.b2_access.specs.Partition.{terminal_address}
+use Rattle.b2_access.specs.declared.accesses.Access.{Access}
+use Rattle.b2_access.specs.declared.accesses.Access.TheVariants as access
+use Rattle.b2_access.specs.declared.accesses.Answer.{Answer}
+use Rattle.b2_access.specs.declared.accesses.Answer.TheVariants as answer
+use Rattle.b2_access.specs.declared.planned.Outcome.TheVariants as outcome
+use Rattle.b2_access.specs.declared.private.Private.{Private}
+use Rattle.b2_stmt.specs.Calls.{without_frames}
+use Rattle.b2_stmt.specs.Going.{line_in}
+use Rattle.b2_stmt.specs.Planning.{Ended, stays}
+
+-- the line after a comma
+abbrev pub second_line : Trees → ℕ
+second_line (Put comma line) = line_in line
+second_line t = 0
+
+-- the lines from one on, up to a second one where it is named
+abbrev pub erases_from : ℕ → Trees → Access
+erases_from from (In n second end) = access.Erase from (if n == 1 then second_line second else 9999) 0
+erases_from from t = access.Erase from 9999 0
+
+abbrev pub erases_lines : Trees → Access
+erases_lines (Put (Lined high low) more) = erases_from (line_in (Put (Lined high low) more)) more
+erases_lines t = access.Erase 0 9999 0
+
+-- or all of them, where none is named
+abbrev pub erases_range : Trees → Access
+erases_range (In n lines end) = if n == 1 then erases_lines lines else access.Erase 0 9999 0
+erases_range t = access.Erase 0 9999 0
+
+abbrev pub erases : Trees → Access
+erases (Put word (Put letter range)) = erases_range range
+erases t = access.Erase 0 9999 0
+
+-- the access that a statement asks for, where it asks for one
+abbrev pub access_of : ℕ → Trees → Option Access
+access_of r t = if r == row.CLEAR then Some (access.ClearAll None 0) else (if r == row.CLEAR_P then Some (erases t) else None)
+
+-- all is cleared: the text and the `@` variables by the access, and then the variables and the frames; it is shown to be ready
+abbrev pub cleared : Private → Private
+cleared me = record (without_frames me) { vars = record me.vars { table = map.empty }; pending = Some (terminal_address, codes "READY" ++ byte.newline ∷ []) }
+
+-- what a partition is after a text of its own was changed; A08 where another stands inside it, and else the step is repeated
+abbrev pub edited : Answer → Private → Private → Ended
+edited answer.Done after me = record { me = after; outcome = outcome.Ready }
+edited (answer.Locked q) after me = stays me (outcome.Failed A08_TEXT_BORROWED)
+edited a after me = stays me outcome.Repeat
+
+abbrev pub finishes : Access → Answer → Private → Ended
+finishes (access.ClearAll name homes) a me = edited a (cleared me) me
+finishes (access.Erase from to homes) a me = edited a (without_frames me) me
+finishes x a me = stays me outcome.Repeat

@@ -1,0 +1,92 @@
+-- STOP, RUN, CONTINUE, SELECT and RESTORE.
+use Rattle.std.specs.Prelude.{ℕ, ◌==◌, Bool, List, [], ◌∷◌, ◌++◌, codes, Option, None, Some, is_some, if◌then◌else◌}
+use Rattle.std.specs.FinMap as map
+use Rattle.b2_base.specs.Byte as byte
+use Rattle.b2_base.specs.declared.codes.TheConstants.{P36_NO_LINE, P46_NOTHING_KEPT}
+use Rattle.b2_dec.specs.declared.number.Mode.{Mode}
+use Rattle.b2_atom.specs.Tokens.Token.{Plain}
+use Rattle.b2_atom.specs.Tree.{Trees}
+use Rattle.b2_atom.specs.Tree.Trees.{Put, In}
+use Rattle.b2_rows.specs.Values.{literal_of}
+use Rattle.b2_flow.specs.declared.frame.Place.{Place}
+use Rattle.b2_text.specs.Program.{Lines, line_at, number_after}
+use Rattle.b2_vars.specs.Calls.{common_only}
+use Rattle.b2_access.specs.Partition.{terminal_address}
+use Rattle.b2_access.specs.declared.planned.Outcome.TheVariants as outcome
+use Rattle.b2_access.specs.declared.private.Private.{Private}
+use Rattle.b2_stmt.specs.Going.{line_in}
+use Rattle.b2_stmt.specs.Planning.{Ended, stays}
+
+-- a line that is named, or none
+abbrev pub line_or_none : Trees → Option ℕ
+line_or_none (In n line end) = if n == 1 then Some (line_in line) else None
+line_or_none t = None
+
+-- SELECT ROUND and SELECT NO ROUND
+abbrev pub selects : Mode → Private → Ended
+selects mode me = record { me = record me { mode = mode }; outcome = outcome.Next }
+
+-- STOP is shown, and a blank and a text where one is written
+abbrev pub stop_text : Option (List ℕ) → List ℕ
+stop_text None = codes "STOP" ++ byte.newline ∷ []
+stop_text (Some text) = codes "STOP" ++ byte.blank ∷ (text ++ byte.newline ∷ [])
+
+abbrev pub text_in : Trees → Option (List ℕ)
+text_in (Put word (In n (Put (Plain k text) end) more)) = Some (literal_of text)
+text_in t = None
+
+-- in a program the place after it is kept; in an immediate line what was kept stays
+abbrev pub kept_after : Place → Option Place → Option Place → Option Place
+kept_after p after kept = if is_some p.line then after else kept
+
+abbrev pub stops : List ℕ → Place → Option Place → Private → Ended
+stops shown p after me = record {
+  me = record me { pending = Some (terminal_address, shown); kept = kept_after p after me.kept };
+  outcome = outcome.Ready;
+}
+
+-- the program begins anew: the variables that aren't common, the frames, the last code, the place of READ and what was kept go
+abbrev pub fresh : Private → Private
+fresh me = record me { vars = record me.vars { table = common_only me.vars.table }; stack = []; kept = None; args = None; last = 0; next_data = None }
+
+abbrev pub own_line : ℕ → Private → Place
+own_line n me = record { home = me.part; line = Some n; unit = 0 }
+
+abbrev pub runs_from : Option ℕ → Private → Ended
+runs_from None me = record { me = fresh me; outcome = outcome.Ready }
+runs_from (Some n) me = record { me = fresh me; outcome = outcome.Jump (own_line n me) }
+
+-- RUN with a line: P36 comes before anything else
+abbrev pub runs_where : Option (List ℕ) → ℕ → Private → Ended
+runs_where None n me = stays me (outcome.Failed P36_NO_LINE)
+runs_where (Some line) n me = runs_from (Some n) me
+
+abbrev pub runs : Option ℕ → Lines → Private → Ended
+runs None own me = runs_from (number_after None own) me
+runs (Some n) own me = runs_where (line_at n own) n me
+
+abbrev pub line_to_run : Trees → Option ℕ
+line_to_run (Put word line) = line_or_none line
+line_to_run t = None
+
+-- CONTINUE
+abbrev pub continues : Option Place → Private → Ended
+continues None me = stays me (outcome.Failed P46_NOTHING_KEPT)
+continues (Some p) me = stays me (outcome.Jump p)
+
+-- RESTORE: READ goes on at the first DATA, or at a line of the own text
+abbrev pub restores_where : Option (List ℕ) → ℕ → Private → Ended
+restores_where None n me = stays me (outcome.Failed P36_NO_LINE)
+restores_where (Some line) n me = record { me = record me { next_data = Some (record { line = n; unit = 0 }, 0) }; outcome = outcome.Next }
+
+abbrev pub restores : Option ℕ → Lines → Private → Ended
+restores None own me = record { me = record me { next_data = None }; outcome = outcome.Next }
+restores (Some n) own me = restores_where (line_at n own) n me
+
+abbrev pub line_to_restore : Trees → Option ℕ
+line_to_restore (Put word (In n (Put line_word line) end)) = if n == 1 then Some (line_in line) else None
+line_to_restore t = None
+
+-- CLEAR V, which takes the common variables too, and CLEAR N
+abbrev pub clears : Bool → Private → Ended
+clears common me = record { me = record me { vars = record me.vars { table = if common then map.empty else common_only me.vars.table } }; outcome = outcome.Next }

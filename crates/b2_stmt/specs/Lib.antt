@@ -1,0 +1,16 @@
+pub mod Planning
+pub mod Endings
+pub mod Going
+pub mod Around
+pub mod Branches
+pub mod Frames
+pub mod Loops
+pub mod Calls
+pub mod Course
+pub mod Choices
+pub mod Lines
+pub mod Asked
+pub mod Assignments
+pub mod Clearing
+pub mod Plan
+pub mod Homes

@@ -1,0 +1,277 @@
+// What statements ask of the private state, and what becomes of it.
+ghost use Rattle.std.specs.Prelude.{◌≡◌, ◌<◌, ◌==◌, true, IfOk};
+ghost use Rattle.b2_atom.specs.declared.rows.TheConstants as row;
+ghost use Rattle.b2_rows.specs.Following.{tree_units};
+ghost use Rattle.b2_rows.specs.Laws.{IsRow};
+ghost use Rattle.b2_rows.specs.Rows.{is_part, tree_at};
+ghost use Rattle.b2_expr.specs.Value.{in_statement};
+ghost use Rattle.b2_stmt.specs.Around.{surroundings_of as about};
+ghost use Rattle.b2_stmt.specs.Branches.{if_goal as if_goal_of};
+ghost use Rattle.b2_stmt.specs.Choices.{choice_in};
+ghost use Rattle.b2_stmt.specs.Going.{to_found};
+ghost use Rattle.b2_stmt.specs.Loops.{loop_in};
+ghost use Rattle.b2_stmt.specs.Course.{stop_text as shown_by_stop, text_in};
+ghost use Rattle.b2_stmt.specs.Asked as spec;
+ghost use Rattle.b2_stmt.specs.Asked.{IsNamed};
+
+use crate::around::{Setting, surroundings_of};
+use crate::branches::{goto_goal, if_goal, passed_function, passed_goal};
+use crate::calls::{call_line, forget, go_back, has_all, line_called, pass_mark};
+use crate::choices::choice_at;
+use crate::course::{
+    clear, line_to_restore, line_to_run, restore, resume, run, select, stop, stop_text,
+    text_of_stop,
+};
+use crate::going::{failed, to_found, to_goal, to_line};
+use crate::loops::{Loop, begin, counter_at, loop_at, next};
+use b2_access::{Outcome, Private, place_after};
+use b2_atom::{Atoms, rows};
+use b2_base::codes::{S26_PROGRAM_ONLY, S27_LEFT_OUT};
+use b2_base::{ByteList, NoMemory};
+use b2_dec::Mode;
+use b2_expr::Env;
+use b2_flow::{Place, Var2};
+use b2_rows::{Goal, RowUnit};
+use b2_text::Text;
+use b2_vars::Vars;
+use std::alloc::Global;
+
+/// What a statement asks of the private state, once its bytes were looked at.
+#[derive(Drop)]
+pub enum Asked {
+    /// Nothing: it has ended.
+    Nothing(Outcome),
+    /// A loop whose body stands at a place.
+    Begin(Loop, Place),
+    /// The next round of the loop of a variable.
+    Next(Var2),
+    /// A call of a line, which leads back to a place.
+    Call(u16, Option<Place>),
+    /// The place that the nearest call leads back to.
+    Return,
+    /// That the nearest call is forgotten, or all of them.
+    Forget(bool),
+    /// That the program stops: what it shows, and the place after it.
+    Stop(ByteList, Option<Place>),
+    /// How results become numbers.
+    Select(Mode),
+    /// That the program begins anew, at its first line or at another.
+    Run(Option<u16>),
+    /// The place that is kept.
+    Continue,
+    /// That READ goes on at the first DATA, or at a line.
+    Restore(Option<u16>),
+    /// That variables go, the common ones too or not.
+    Clear(bool),
+    /// That a DEFFN' is passed, where no call waits for it.
+    Mark,
+}
+
+/// The place of a loop's body, which stands after the FOR also where no unit follows.
+fn body_place(home: &Text, line: &Atoms, place: Place) -> Place
+    requires { place.unit < 255 }
+    ensures { result ≡ spec.body_place (record { place = place; units = tree_units line.now }) home.now.lines }
+{
+    let (part, number, unit) = (place.home, place.line, place.unit + 1);
+    match place_after(home, line, place) {
+        Some(body) => body,
+        None => Place {
+            home: part,
+            line: number,
+            unit,
+        },
+    }
+}
+
+/// What FOR asks for.
+fn ask_loop<'a>(vars: &'a Vars, a: &Setting, home: &'a Text, unit: &[u8], body: Place) -> Asked
+    requires part { is_part row.FOR unit.now ≡ true }
+    ensures asked { result ≡ spec.asks_loop (loop_in (in_statement (about a.now vars.now home.now)) (tree_at row.FOR unit.now)) body }
+    ensures named { IsNamed result }
+{
+    let e = Env {
+        globals: None,
+        ..surroundings_of(a, vars, home)
+    };
+    match loop_at(&e, unit) {
+        Ok(l) => Asked::Begin(l, body),
+        Err(code) => Asked::Nothing(Outcome::Failed(code)),
+    }
+}
+
+/// What ON asks for, by the line that was chosen.
+fn chosen(goto: bool, line: Option<u16>, home: &Text, atoms: &Atoms, place: Place) -> Asked
+    requires few { place.unit < 255 }
+    ensures asked { result ≡ spec.chosen goto line (record { place = place; units = tree_units atoms.now }) home.now.lines }
+    ensures named { IsNamed result }
+{
+    match (goto, line) {
+        (_, None) => Asked::Nothing(Outcome::Next),
+        (true, Some(n)) => Asked::Nothing(to_line(home, place, n)),
+        (false, Some(n)) => {
+            if place.line.is_some() {
+                Asked::Call(n, place_after(home, atoms, place))
+            } else {
+                Asked::Nothing(failed(S26_PROGRAM_ONLY))
+            }
+        }
+    }
+}
+
+/// What ON asks for.
+fn ask_choice<'a>(
+    vars: &'a Vars,
+    a: &Setting,
+    home: &'a Text,
+    line: &Atoms,
+    place: Place,
+    unit: &[u8],
+) -> Asked
+    requires part { is_part row.ON unit.now ≡ true }
+    requires few { place.unit < 255 }
+    ensures asked { result ≡ spec.asks_choice (choice_in (in_statement (about a.now vars.now home.now)) (tree_at row.ON unit.now)) (record { place = place; units = tree_units line.now }) home.now.lines }
+    ensures named { IsNamed result }
+{
+    let e = Env {
+        globals: None,
+        ..surroundings_of(a, vars, home)
+    };
+    match choice_at(&e, unit) {
+        Ok((goto, n)) => chosen(goto, n, home, line, place),
+        Err(code) => Asked::Nothing(Outcome::Failed(code)),
+    }
+}
+
+/// How IF ends.
+fn if_outcome<'a>(
+    vars: &'a Vars,
+    a: &Setting,
+    home: &'a Text,
+    line: &Atoms,
+    place: Place,
+    unit: &[u8],
+) -> Outcome
+    requires part { is_part row.IF unit.now ≡ true }
+    requires few { place.unit < 255 }
+    ensures { result ≡ to_found home.now.lines place (if_goal_of (in_statement (about a.now vars.now home.now)) place.unit (tree_units line.now) (tree_at row.IF unit.now)) }
+{
+    let e = Env {
+        globals: None,
+        ..surroundings_of(a, vars, home)
+    };
+    let found = if_goal(&e, line, usize::from(place.unit), unit);
+    to_found(home, place, found)
+}
+
+/// How a statement ends that changes nothing.
+fn still(
+    vars: &Vars,
+    a: &Setting,
+    home: &Text,
+    line: &Atoms,
+    place: Place,
+    row: u16,
+    unit: &[u8],
+) -> Outcome
+    requires part { is_part row unit.now ≡ true }
+    requires few { place.unit < 255 }
+    ensures { result ≡ spec.still row (tree_at row unit.now) (record { place = place; units = tree_units line.now }) (in_statement (about a.now vars.now home.now)) home.now.lines }
+{
+    let k = usize::from(place.unit);
+    match row {
+        rows::IF => if_outcome(vars, a, home, line, place, unit),
+        rows::GOTO => to_goal(home, place, goto_goal(unit)),
+        rows::ELSE => to_goal(home, place, passed_goal(line, k)),
+        rows::ERROR => to_goal(home, place, Goal::NextLine),
+        rows::END => Outcome::Ready,
+        rows::REMARK | rows::IMAGE_LINE | rows::DATA => Outcome::Next,
+        rows::DEFFN => passed_function(unit),
+        rows::BREAK => Outcome::Break,
+        _ => failed(S27_LEFT_OUT),
+    }
+}
+
+/// What STOP asks for.
+fn ask_stop(alloc: Global, unit: &[u8], after: Option<Place>) -> Result<Asked, NoMemory>
+    requires part { is_part row.STOP unit.now ≡ true }
+    ensures { IfOk result (λ asked. asked ≡ Asked.Stop (shown_by_stop (text_in (tree_at row.STOP unit.now))) after) }
+{
+    let shown = stop_text(alloc, text_of_stop(unit))?;
+    Ok(Asked::Stop(shown, after))
+}
+
+/// The same place.
+fn copy_of(place: &Place) -> Place
+    ensures { result ≡ place.now }
+{
+    Place {
+        home: place.home,
+        line: place.line,
+        unit: place.unit,
+    }
+}
+
+/// What the statement of a row asks for.
+pub fn ask(
+    alloc: Global,
+    vars: &Vars,
+    a: &Setting,
+    home: &Text,
+    line: &Atoms,
+    place: &Place,
+    unit: &RowUnit<'_>,
+) -> Result<Asked, NoMemory>
+    requires read { IsRow unit.now.row unit.now.bytes.now (tree_at unit.now.row unit.now.bytes.now) }
+    requires few { place.now.unit < 255 }
+    ensures asked { IfOk result (λ asked. asked ≡ spec.asked_of unit.now.row (tree_at unit.now.row unit.now.bytes.now) (record { place = place.now; units = tree_units line.now }) (in_statement (about a.now vars.now home.now)) home.now.lines) }
+    ensures named { IfOk result IsNamed }
+{
+    let bytes = unit.bytes;
+    let place = copy_of(place);
+    match unit.row {
+        rows::FOR => Ok(ask_loop(vars, a, home, bytes, body_place(home, line, place))),
+        rows::NEXT => Ok(Asked::Next(counter_at(bytes))),
+        rows::GOSUB => Ok(Asked::Call(line_called(bytes), place_after(home, line, place))),
+        rows::RETURN => Ok(Asked::Return),
+        rows::RETURN_CLEAR => Ok(Asked::Forget(has_all(bytes))),
+        rows::STOP => ask_stop(alloc, bytes, place_after(home, line, place)),
+        rows::SELECT => Ok(Asked::Select(Mode::Round)),
+        rows::SELECT_NO_ROUND => Ok(Asked::Select(Mode::Cut)),
+        rows::RUN => Ok(Asked::Run(line_to_run(bytes))),
+        rows::CONTINUE => Ok(Asked::Continue),
+        rows::RESTORE => Ok(Asked::Restore(line_to_restore(bytes))),
+        rows::CLEAR_V => Ok(Asked::Clear(true)),
+        rows::CLEAR_N => Ok(Asked::Clear(false)),
+        rows::DEFFN_MARKED => Ok(Asked::Mark),
+        rows::ON => Ok(ask_choice(vars, a, home, line, place, bytes)),
+        row => Ok(Asked::Nothing(still(vars, a, home, line, place, row, bytes))),
+    }
+}
+
+/// Does what was asked for.
+pub fn carry_out(
+    me: &mut Private,
+    own: &Text,
+    home: &Text,
+    place: Place,
+    asked: Asked,
+) -> Result<Outcome, NoMemory>
+    requires named { IsNamed asked }
+    ensures { IfOk result (λ o. record { me = me.new; outcome = o } ≡ spec.carried asked place me.old own.now.lines home.now.lines) }
+{
+    match asked {
+        Asked::Nothing(outcome) => Ok(outcome),
+        Asked::Begin(l, body) => begin(me, l, body),
+        Asked::Next(v) => next(me, v),
+        Asked::Call(n, back) => Ok(call_line(me, home, place, n, back)),
+        Asked::Return => Ok(go_back(me)),
+        Asked::Forget(all) => Ok(forget(me, place, all)),
+        Asked::Stop(shown, after) => Ok(stop(me, shown, place, after)),
+        Asked::Select(mode) => Ok(select(me, mode)),
+        Asked::Run(n) => Ok(run(me, own, n)),
+        Asked::Continue => Ok(resume(me)),
+        Asked::Restore(n) => Ok(restore(me, own, n)),
+        Asked::Clear(common) => Ok(clear(me, common)),
+        Asked::Mark => Ok(pass_mark(me)),
+    }
+}

@@ -1,0 +1,120 @@
+// GOSUB, RETURN and RETURN CLEAR.
+ghost use Rattle.std.specs.Prelude.{◌≡◌, true};
+ghost use Rattle.b2_atom.specs.declared.rows.TheConstants as row;
+ghost use Rattle.b2_rows.specs.Rows.{is_part, tree_at};
+ghost use Rattle.b2_access.specs.Places.{line_start};
+ghost use Rattle.b2_text.specs.Program.{line_at};
+ghost use Rattle.b2_stmt.specs.Calls as spec;
+
+use crate::ending::put_frame;
+use crate::going::{failed, to_place};
+use b2_access::{Outcome, Private};
+use b2_atom::words::ALL;
+use b2_base::codes::{P36_NO_LINE, P41_NO_CALL, S27_LEFT_OUT};
+use b2_base::lexical::dropped;
+use b2_flow::{Frame, Place};
+use b2_rows::{is_at, line_at};
+use b2_text::Text;
+
+/// The line that GOSUB calls.
+#[tactic(auto, using(crate::proofs::CallRows::gosub_line, crate::proofs::CallRows::gosub_is))]
+pub fn line_called(unit: &[u8]) -> u16
+    requires part { is_part row.GOSUB unit.now ≡ true }
+    ensures { result ≡ spec.line_called (tree_at row.GOSUB unit.now) }
+{
+    line_at(dropped(unit, 1))
+}
+
+/// Calls a line, which leads back to a place. P36 comes before A04.
+pub fn call_line(
+    me: &mut Private,
+    home: &Text,
+    place: Place,
+    n: u16,
+    back: Option<Place>,
+) -> Outcome
+    ensures { record { me = me.new; outcome = result } ≡ spec.called_where (line_at n home.now.lines) (line_start place n) back me.old }
+{
+    if home.line(n).is_none() {
+        return failed(P36_NO_LINE);
+    }
+    let line = Place {
+        home: place.home,
+        line: Some(n),
+        unit: 0,
+    };
+    let frame = Frame::Call {
+        back,
+        entered: None,
+    };
+    put_frame(me, frame, Outcome::Jump(line))
+}
+
+/// RETURN.
+pub fn go_back(me: &mut Private) -> Outcome
+    ensures { record { me = me.new; outcome = result } ≡ spec.goes_back me.old }
+{
+    match me.stack.pop_call() {
+        Ok((back, _)) => to_place(back),
+        Err(code) => Outcome::Failed(code),
+    }
+}
+
+/// RETURN CLEAR.
+fn forget_call(me: &mut Private) -> Outcome
+    ensures { record { me = me.new; outcome = result } ≡ spec.forgets_call me.old }
+{
+    match me.stack.pop_call() {
+        Ok(_) => Outcome::Next,
+        Err(code) => Outcome::Failed(code),
+    }
+}
+
+/// RETURN CLEAR ALL.
+fn forget_all(me: &mut Private, place: Place) -> Outcome
+    ensures { record { me = me.new; outcome = result } ≡ spec.forgets_all place me.old }
+{
+    if place.home != me.part {
+        return failed(P41_NO_CALL);
+    }
+    match me.stack.pop_call() {
+        Ok(_) => {
+            me.stack.clear();
+            me.kept = None;
+            me.args = None;
+            Outcome::Next
+        }
+        Err(code) => Outcome::Failed(code),
+    }
+}
+
+/// Whether RETURN CLEAR has ALL.
+#[tactic(auto, using(crate::proofs::CallRows::all_is))]
+pub fn has_all(unit: &[u8]) -> bool
+    requires part { is_part row.RETURN_CLEAR unit.now ≡ true }
+    ensures { result ≡ spec.has_all (tree_at row.RETURN_CLEAR unit.now) }
+{
+    is_at(ALL, dropped(dropped(unit, 1), 1))
+}
+
+/// RETURN CLEAR with ALL or without.
+pub fn forget(me: &mut Private, place: Place, all: bool) -> Outcome
+    ensures { record { me = me.new; outcome = result } ≡ spec.forgets all place me.old }
+{
+    if all {
+        forget_all(me, place)
+    } else {
+        forget_call(me)
+    }
+}
+
+/// DEFFN' that is reached in order.
+pub fn pass_mark(me: &Private) -> Outcome
+    ensures { record { me = me.now; outcome = result } ≡ spec.passes_mark me.now }
+{
+    if me.args.is_some() {
+        failed(S27_LEFT_OUT)
+    } else {
+        Outcome::Next
+    }
+}

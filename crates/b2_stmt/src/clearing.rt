@@ -1,0 +1,141 @@
+// CLEAR and CLEAR P: what they ask of the store, and how they finish.
+ghost use Rattle.std.specs.Prelude.{◌≡◌, ◌≢◌, true, IfOk};
+ghost use Rattle.b2_atom.specs.declared.rows.TheConstants as row;
+ghost use Rattle.b2_rows.specs.Rows.{is_part, tree_at};
+ghost use Rattle.b2_access.specs.Lending.{globals_lent, seen};
+ghost use Rattle.b2_atom.specs.declared.forms.Start.TheVariants as start;
+ghost use Rattle.b2_rows.specs.Optional.{maybe_part, maybe_tree};
+ghost use Rattle.b2_access.specs.declared.private.Private.{Private};
+ghost use Rattle.b2_stmt.specs.Calls.{without_frames};
+ghost use Rattle.b2_stmt.specs.Clearing as spec;
+ghost use Rattle.b2_stmt.specs.Plan.{finish};
+
+use crate::going::failed;
+use b2_access::{Access, Answer, Lent, Outcome, Private};
+use b2_atom::rows;
+use b2_base::codes::A08_TEXT_BORROWED;
+use b2_base::lexical::dropped;
+use b2_base::{Addr, ByteList, NoMemory};
+use b2_rows::{is_at, is_line_at, line_at};
+use std::alloc::Global;
+
+/// The lines of the own text from one to another are erased.
+fn erase(from: u16, to: u16) -> Access
+    ensures { result ≡ Access.Erase from to 0 }
+{
+    Access::Erase { from, to, homes: 0 }
+}
+
+/// The lines that are named at a text are erased: from one to another, from one on, or all of them.
+#[tactic(auto, using(crate::proofs::ClearRows::first_here, crate::proofs::ClearRows::second_here, crate::proofs::ClearRows::two_lines, crate::proofs::ClearRows::one_line, crate::proofs::ClearRows::all_lines))]
+fn erases_range(text: &[u8]) -> Access
+    requires part { maybe_part start.Line row.LINE_NUMBERS text.now ≡ true }
+    ensures { result ≡ spec.erases_range (maybe_tree start.Line row.LINE_NUMBERS text.now) }
+{
+    if !is_line_at(text) {
+        return erase(0, 9999);
+    }
+    let first = line_at(text);
+    let after = dropped(text, 3);
+    if is_at(b',', after) {
+        erase(first, line_at(dropped(after, 1)))
+    } else {
+        erase(first, 9999)
+    }
+}
+
+/// What CLEAR P asks for.
+#[tactic(auto, using(crate::proofs::ClearRows::clear_lines, crate::proofs::ClearRows::clear_is))]
+fn erases(unit: &[u8]) -> Access
+    requires part { is_part row.CLEAR_P unit.now ≡ true }
+    ensures { result ≡ spec.erases (tree_at row.CLEAR_P unit.now) }
+{
+    erases_range(dropped(dropped(unit, 1), 1))
+}
+
+/// The access that a statement asks for, where it asks for one.
+pub fn access_of(row: u16, unit: &[u8]) -> Option<Access>
+    requires part { is_part row unit.now ≡ true }
+    ensures { result ≡ spec.access_of row (tree_at row unit.now) }
+{
+    match row {
+        rows::CLEAR => Some(Access::ClearAll {
+            name: None,
+            homes: 0,
+        }),
+        rows::CLEAR_P => Some(erases(unit)),
+        _ => None,
+    }
+}
+
+/// Drops all frames, and what is kept.
+fn drop_frames(me: &mut Private)
+    ensures { me.new ≡ without_frames me.old }
+{
+    me.stack.clear();
+    me.kept = None;
+    me.args = None;
+}
+
+/// After all was cleared.
+fn clear_all(alloc: Global, me: &mut Private) -> Result<Outcome, NoMemory>
+    ensures { IfOk result (λ o. record { me = me.new; outcome = o } ≡ spec.edited Answer.Done (spec.cleared me.old) me.old) }
+{
+    let ready = ByteList::from_slice(alloc, b"READY\n")?;
+    me.vars.clear();
+    drop_frames(me);
+    me.pending = Some((Addr::default(), ready));
+    Ok(Outcome::Ready)
+}
+
+/// After lines were erased.
+fn erase_lines(me: &mut Private) -> Outcome
+    ensures { record { me = me.new; outcome = result } ≡ spec.edited Answer.Done (without_frames me.old) me.old }
+{
+    drop_frames(me);
+    Outcome::Ready
+}
+
+/// Where a text was not changed: A08 where another partition stands inside it, and else the step is repeated.
+fn not_edited(answer: &Answer) -> Outcome
+    requires undone { answer.now ≢ Answer.Done }
+    ensures { (me after : Private) → record { me = me; outcome = result } ≡ spec.edited answer.now after me }
+{
+    match answer {
+        Answer::Locked(_) => failed(A08_TEXT_BORROWED),
+        _ => Outcome::Repeat,
+    }
+}
+
+/// How a statement finishes by the answer to the access that it asked for.
+fn finish_with(
+    alloc: Global,
+    me: &mut Private,
+    access: &Access,
+    answer: &Answer,
+) -> Result<Outcome, NoMemory>
+    ensures { IfOk result (λ o. record { me = me.new; outcome = o } ≡ spec.finishes access.now answer.now me.old) }
+{
+    match (access, answer) {
+        (Access::ClearAll { .. }, Answer::Done) => clear_all(alloc, me),
+        (Access::Erase { .. }, Answer::Done) => Ok(erase_lines(me)),
+        (Access::ClearAll { .. } | Access::Erase { .. }, answer) => Ok(not_edited(answer)),
+        _ => Ok(Outcome::Repeat),
+    }
+}
+
+/// How a statement finishes, by the access that it asked for and its answer. Where the answer is none of that access, nothing
+/// changes and the step is repeated.
+pub fn finish(
+    alloc: Global,
+    me: &mut Private,
+    lent: &mut Lent<'_>,
+    access: &Access,
+    answer: &Answer,
+) -> Result<Outcome, NoMemory>
+    ensures finished { IfOk result (λ o. record { me = me.new; globals = globals_lent lent.new; outcome = o } ≡ finish access.now answer.now me.old (seen lent.old)) }
+    ensures same_globals { lent.new.globals.now ≡ lent.old.globals.now }
+    ensures same_reference { lent.new.globals.ghost_name ≡ lent.old.globals.ghost_name }
+{
+    finish_with(alloc, me, access, answer)
+}
