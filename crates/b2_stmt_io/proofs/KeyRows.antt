@@ -1,0 +1,112 @@
+-- KEYIN by its row: its receiver, and the lines that may be named.
+use Rattle.std.proofs.Common.{◌≡◌, ℕ, ◌==◌, Bool, true, false, if◌then◌else◌, List, [], ◌∷◌, drop, get_or, Ok, refl, ap, ◌∙◌}
+use Rattle.b2_base.specs.Byte as byte
+use Rattle.b2_base.specs.Lexical.{first}
+use Rattle.b2_base.specs.declared.codes.TheConstants.{S13_SEPARATOR, S15_LINE_NUMBER}
+use Rattle.b2_atom.specs.Words.{Text}
+use Rattle.b2_atom.specs.Tokens.Token.{Coded}
+use Rattle.b2_atom.specs.Tree.{Trees}
+use Rattle.b2_atom.specs.Tree.Trees.{Done, Put, In}
+use Rattle.b2_atom.specs.Grammar.{row_items, starts}
+use Rattle.b2_atom.specs.declared.words.Origin.TheVariants.{Atoms}
+use Rattle.b2_atom.specs.declared.words.TheConstants as word
+use Rattle.b2_atom.specs.declared.rows.TheConstants as row
+use Rattle.b2_atom.specs.declared.forms.Start.TheVariants as start
+use Rattle.b2_atom.specs.declared.forms.Leaf.TheVariants as leaf
+use Rattle.b2_atom.specs.declared.forms.Item.{Item}
+use Rattle.b2_atom.specs.declared.forms.Item.TheVariants.{Word, Sign, Typed, Part, Maybe}
+use Rattle.b2_rows.specs.Leaves.{is_leaf}
+use Rattle.b2_rows.specs.Rows.{is_part, tree_at, after_part}
+use Rattle.b2_rows.specs.Optional.{maybe_part, maybe_tree}
+use Rattle.b2_rows.specs.Values.{line_of}
+use Rattle.b2_rows.proofs.Optional.{maybe_stands, begun_part, begun_tree, left_out_tree}
+use Rattle.b2_expr.proofs.RowsRead.{stands_of}
+use Rattle.b2_flow.specs.declared.frame.Place.{Place}
+use Rattle.b2_text.specs.Program.{Lines, TextState}
+use Rattle.b2_access.specs.declared.planned.Outcome.TheVariants as outcome
+use Rattle.b2_access.specs.declared.private.Private.{Private}
+use Rattle.b2_stmt_io.specs.Around.{setting_of}
+use Rattle.b2_stmt_io.specs.Going.{to_line}
+use Rattle.b2_stmt_io.specs.Keys.{goes_on, takes_key, waits, without_key}
+use Rattle.b2_stmt_io.specs.Planning.{with_assigned}
+use Rattle.b2_stmt_io.specs.Receiving.{assign_bytes}
+
+abbrev lines_items : List Item
+lines_items = Sign byte.comma S13_SEPARATOR ∷ Typed leaf.LineNumber S15_LINE_NUMBER ∷ Sign byte.comma S13_SEPARATOR ∷ Typed leaf.LineNumber S15_LINE_NUMBER ∷ []
+
+lines_row : row_items row.COMMA_TWO_LINES ≡ lines_items
+unfolding row_items
+lines_row = refl
+
+abbrev Named : Text → Type 0
+Named t = maybe_part (start.Code byte.comma) row.COMMA_TWO_LINES t ≡ true
+
+begins : (t : Text) (b : Bool) → (first t == byte.comma) ≡ b → starts Atoms (start.Code byte.comma) t ≡ b
+unfolding starts
+begins t b is = is
+
+here : (t : Text) → Named t → (first t == byte.comma) ≡ true → is_part row.COMMA_TWO_LINES t ≡ true
+here t ok is = begun_part (start.Code byte.comma) row.COMMA_TWO_LINES t ok (begins t true is)
+
+pub first_here : (t : Text) → Named t → (first t == byte.comma) ≡ true → is_leaf leaf.LineNumber (drop 1 t) ≡ true
+first_here t ok is = (stands_of row.COMMA_TWO_LINES lines_items t lines_row (here t ok is)).0.1.0
+
+pub second_here : (t : Text) → Named t → (first t == byte.comma) ≡ true → is_leaf leaf.LineNumber (drop 1 (drop 3 (drop 1 t))) ≡ true
+second_here t ok is = (stands_of row.COMMA_TWO_LINES lines_items t lines_row (here t ok is)).0.1.1.1.0
+
+abbrev pub line_at : Text → ℕ
+line_at t = line_of (get_or t 1 0) (get_or t 2 0)
+
+named : (special : Bool) (lines : Lines) (p : Place) (t : Text) → Named t → (first t == byte.comma) ≡ true
+    → goes_on special lines p (maybe_tree (start.Code byte.comma) row.COMMA_TWO_LINES t) ≡ to_line lines p (if special then line_at (drop 1 (drop 3 (drop 1 t))) else line_at (drop 1 t))
+named special lines p t ok is =
+    ap (goes_on special lines p) (begun_tree (start.Code byte.comma) row.COMMA_TWO_LINES t (begins t true is))
+    ∙ ap (λ (a : Trees). goes_on special lines p (In 1 a Done)) (stands_of row.COMMA_TWO_LINES lines_items t lines_row (here t ok is)).1
+
+pub to_first : (special : Bool) (lines : Lines) (p : Place) (t : Text) → Named t → (first t == byte.comma) ≡ true → special ≡ false
+    → goes_on special lines p (maybe_tree (start.Code byte.comma) row.COMMA_TWO_LINES t) ≡ to_line lines p (line_at (drop 1 t))
+to_first special lines p t ok is which =
+    named special lines p t ok is ∙ ap (λ (b : Bool). to_line lines p (if b then line_at (drop 1 (drop 3 (drop 1 t))) else line_at (drop 1 t))) which
+
+pub to_second : (special : Bool) (lines : Lines) (p : Place) (t : Text) → Named t → (first t == byte.comma) ≡ true → special ≡ true
+    → goes_on special lines p (maybe_tree (start.Code byte.comma) row.COMMA_TWO_LINES t) ≡ to_line lines p (line_at (drop 1 (drop 3 (drop 1 t))))
+to_second special lines p t ok is which =
+    named special lines p t ok is ∙ ap (λ (b : Bool). to_line lines p (if b then line_at (drop 1 (drop 3 (drop 1 t))) else line_at (drop 1 t))) which
+
+pub to_next : (special : Bool) (lines : Lines) (p : Place) (t : Text) → (first t == byte.comma) ≡ false → goes_on special lines p (maybe_tree (start.Code byte.comma) row.COMMA_TWO_LINES t) ≡ outcome.Next
+to_next special lines p t is = ap (goes_on special lines p) (left_out_tree (start.Code byte.comma) row.COMMA_TWO_LINES t (begins t false is))
+
+-- KEYIN
+abbrev key_items : List Item
+key_items = Word word.KEYIN ∷ Part row.ALPHA_RECEIVER ∷ Maybe (start.Code byte.comma) row.COMMA_TWO_LINES ∷ []
+
+key_row : row_items row.KEYIN ≡ key_items
+unfolding row_items
+key_row = refl
+
+abbrev after_receiver : Text → Text
+after_receiver t = after_part row.ALPHA_RECEIVER (drop 1 t)
+
+pub key_receiver : (t : Text) → is_part row.KEYIN t ≡ true → is_part row.ALPHA_RECEIVER (drop 1 t) ≡ true
+key_receiver t ok = (stands_of row.KEYIN key_items t key_row ok).0.1.0
+
+pub key_lines : (t : Text) → is_part row.KEYIN t ≡ true → maybe_part (start.Code byte.comma) row.COMMA_TWO_LINES (after_receiver t) ≡ true
+key_lines t ok = maybe_stands _ _ _ (stands_of row.KEYIN key_items t key_row ok).0.1.1
+
+key_tree : (t : Text) → is_part row.KEYIN t ≡ true
+    → tree_at row.KEYIN t ≡ Put (Coded word.KEYIN) (In 2 (tree_at row.ALPHA_RECEIVER (drop 1 t)) (maybe_tree (start.Code byte.comma) row.COMMA_TWO_LINES (after_receiver t)))
+unfolding maybe_tree
+key_tree t ok = (stands_of row.KEYIN key_items t key_row ok).1
+
+pub takes_key_is : (key : ℕ) (special : Bool) (home : TextState) (p : Place) (t : Text) (me : Private) → is_part row.KEYIN t ≡ true
+    → takes_key key special home p (tree_at row.KEYIN t) me
+    ≡ with_assigned (assign_bytes (setting_of me) home (Ok (key ∷ [])) (tree_at row.ALPHA_RECEIVER (drop 1 t)) me.vars)
+    (goes_on special home.lines p (maybe_tree (start.Code byte.comma) row.COMMA_TWO_LINES (after_receiver t))) me
+takes_key_is key special home p t me ok = ap (λ (a : Trees). takes_key key special home p a me) (key_tree t ok)
+
+waits_by : (t : Text) (b : Bool) → (first t == byte.comma) ≡ b → waits (maybe_tree (start.Code byte.comma) row.COMMA_TWO_LINES t) ≡ (if b then outcome.Next else outcome.Repeat)
+waits_by t true is = ap waits (begun_tree (start.Code byte.comma) row.COMMA_TWO_LINES t (begins t true is))
+waits_by t false is = ap waits (left_out_tree (start.Code byte.comma) row.COMMA_TWO_LINES t (begins t false is))
+
+pub without_key_is : (t : Text) → is_part row.KEYIN t ≡ true → without_key (tree_at row.KEYIN t) ≡ (if first (after_receiver t) == byte.comma then outcome.Next else outcome.Repeat)
+without_key_is t ok = ap without_key (key_tree t ok) ∙ waits_by (after_receiver t) (first (after_receiver t) == byte.comma) refl

@@ -1,0 +1,16 @@
+pub mod Statements
+pub mod Refusals
+pub mod LeftOut
+pub mod Received
+pub mod Finished
+pub mod Commas
+pub mod KeyRows
+pub mod MarkRows
+pub mod PromptRows
+pub mod ConvertRows
+pub mod InputRows
+pub mod Parted
+pub mod Valued
+pub mod Printed
+pub mod PrintRows
+pub mod UsingRows

@@ -1,0 +1,99 @@
+-- The parts of a line one after another, each for its receiver.
+use Rattle.std.proofs.Common.{◌≡◌, ℕ, ◌+◌, ◌==◌, not, Bool, true, false, if◌then◌else◌, List, [], ◌∷◌, zero, suc, length, take, drop, Option, Some, None, refl, sym, ap, ◌∙◌, arith}
+use Rattle.std.proofs.lemmas.Bool.Decides.{nat_tests}
+use Rattle.std.specs.List.{prefix_len}
+use Rattle.std.specs.Prelude.{is_some}
+use Rattle.b2_base.specs.Byte as byte
+use Rattle.b2_base.specs.Lexical.{first}
+use Rattle.b2_alpha.specs.Values.{value_of}
+use Rattle.b2_atom.specs.Words.{Text}
+use Rattle.b2_atom.specs.Tree.{Trees}
+use Rattle.b2_vars.specs.Tables.{VarsState}
+use Rattle.b2_expr.specs.Assigning.{Assigned}
+use Rattle.b2_stmt_io.specs.Inputs.{and_then, take_parts, unchanged, unless_coded}
+use Rattle.b2_stmt_io.specs.Receivers.{are_others, others_at, receivers_at}
+use Rattle.b2_stmt_io.specs.TypedText.{is_within_part, onto_first, parts_of}
+use Rattle.b2_stmt_io.proofs.InputRows.{no_items, other_items}
+
+-- the front of bytes that is as long as another front of them
+front_again : (n : ℕ) (xs : List ℕ) → take (length (take n xs)) xs ≡ take n xs
+front_again zero xs = refl
+front_again (suc n) [] = refl
+front_again (suc n) (x ∷ xs) = ap (λ (l : List ℕ). x ∷ l) (front_again n xs)
+
+pub value_front : (xs : List ℕ) → take (length (value_of xs)) xs ≡ value_of xs
+value_front xs = front_again _ xs
+
+-- the parts after the first, by what stands after it
+abbrev pub further_parts : List ℕ → List (List ℕ)
+further_parts [] = []
+further_parts (comma ∷ line) = parts_of line
+
+abbrev pub width_of : List ℕ → ℕ
+width_of line = prefix_len is_within_part line
+
+parts_by : (b : ℕ) (bs : List ℕ) (c : Bool) → parts_of bs ≡ take (width_of bs) bs ∷ further_parts (drop (width_of bs) bs)
+    → (if c then [] ∷ parts_of bs else onto_first b (parts_of bs)) ≡ take (if not c then suc (width_of bs) else 0) (b ∷ bs) ∷ further_parts (drop (if not c then suc (width_of bs) else 0) (b ∷ bs))
+parts_by b bs true is = refl
+parts_by b bs false is = ap (onto_first b) is
+
+one_more : (n : ℕ) → suc n ≡ 1 + n
+one_more n = omega arith
+
+parts_are : (line : List ℕ) → parts_of line ≡ take (width_of line) line ∷ further_parts (drop (width_of line) line)
+parts_are [] = refl
+parts_are (b ∷ bs) =
+    parts_by b bs (b == byte.comma) (parts_are bs)
+    ∙ ap (λ (n : ℕ). take (if not (b == byte.comma) then n else 0) (b ∷ bs) ∷ further_parts (drop (if not (b == byte.comma) then n else 0) (b ∷ bs))) (one_more (width_of bs))
+
+-- a receiver that took its part, and the others
+abbrev One : Type 0
+One = Trees → List ℕ → VarsState → Assigned
+
+taken : (one : One) (t : Trees) (ts : List Trees) (line : List ℕ) (old : VarsState)
+    → take_parts one (t ∷ ts) (parts_of line) old ≡ and_then (one t (take (width_of line) line) old) (take_parts one ts (further_parts (drop (width_of line) line)))
+taken one t ts line old = ap (λ (ps : List (List ℕ)). take_parts one (t ∷ ts) ps old) (parts_are line)
+
+pub part_more : (one : One) (t : Trees) (ts : List Trees) (line : List ℕ) (old new : VarsState) (code : Option ℕ)
+    → record { vars = new; code = code } ≡ one t (take (width_of line) line) old → code ≡ None
+    → take_parts one ts (further_parts (drop (width_of line) line)) new ≡ take_parts one (t ∷ ts) (parts_of line) old
+part_more one t ts line old new code is none =
+    let next = take_parts one ts (further_parts (drop (width_of line) line)) in
+    sym (ap (λ (c : Option ℕ). unless_coded c new next) none) ∙ ap (λ (a : Assigned). and_then a next) is ∙ sym (taken one t ts line old)
+
+coded_by : (one : One) (t : Trees) (ts : List Trees) (line : List ℕ) (old new : VarsState) (code : Option ℕ) (c : ℕ)
+    → record { vars = new; code = code } ≡ one t (take (width_of line) line) old → code ≡ Some c
+    → take_parts one (t ∷ ts) (parts_of line) old ≡ record { vars = new; code = code }
+coded_by one t ts line old new code c is some =
+    let next = take_parts one ts (further_parts (drop (width_of line) line)) in
+    taken one t ts line old ∙ sym (ap (λ (a : Assigned). and_then a next) is) ∙ ap (λ (o : Option ℕ). unless_coded o new next) some ∙ ap (λ (o : Option ℕ). record { vars = new; code = o }) (sym some)
+
+pub part_coded : (one : One) (t : Trees) (ts : List Trees) (line : List ℕ) (old new : VarsState) (code : Option ℕ)
+    → record { vars = new; code = code } ≡ one t (take (width_of line) line) old → is_some code ≡ true
+    → record { vars = new; code = code } ≡ take_parts one (t ∷ ts) (parts_of line) old
+part_coded one t ts line old new None is some = cc
+part_coded one t ts line old new (Some c) is some = sym (coded_by one t ts line old new (Some c) c is refl)
+
+pub none_of : (code : Option ℕ) → is_some code ≡ false → code ≡ None
+none_of None is = refl
+none_of (Some c) is = cc
+
+-- no further receiver, no further part, or both
+pub no_more : (one : One) (t : Text) (ps : List (List ℕ)) (vars : VarsState) → (first t == byte.comma) ≡ false → take_parts one (others_at t) ps vars ≡ unchanged vars
+no_more one t ps vars is = ap (λ (ts : List Trees). take_parts one ts ps vars) (no_items t is)
+
+without_parts : (one : One) (ts : List Trees) (vars : VarsState) → take_parts one ts [] vars ≡ unchanged vars
+without_parts one [] vars = refl
+without_parts one (t ∷ ts) vars = refl
+
+not_none : (b : ℕ) (bs : List ℕ) → (length (b ∷ bs) == 0) ≡ true → ⊥
+not_none b bs is = grind (arith, nat_tests)
+
+pub none_left : (one : One) (ts : List Trees) (after : List ℕ) (vars : VarsState) → (length after == 0) ≡ true → take_parts one ts (further_parts after) vars ≡ unchanged vars
+none_left one ts [] vars is = without_parts one ts vars
+none_left one ts (b ∷ bs) vars is = absurd (not_none b bs is)
+
+pub goes_on : (one : One) (t : Text) (after : List ℕ) (vars : VarsState) → are_others t ≡ true → (first t == byte.comma) ≡ true → (length after == 0) ≡ false
+    → take_parts one (receivers_at (drop 1 t)) (parts_of (drop 1 after)) vars ≡ take_parts one (others_at t) (further_parts after) vars
+goes_on one t [] vars ok is some = cc
+goes_on one t (b ∷ bs) vars ok is some = ap (λ (ts : List Trees). take_parts one ts (parts_of bs) vars) (sym (other_items t ok is))

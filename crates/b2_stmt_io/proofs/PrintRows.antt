@@ -1,0 +1,142 @@
+-- The items of PRINT by their rows: TAB, HEXOF, and values of either kind.
+use Rattle.std.proofs.Common.{◌≡◌, ℕ, ◌==◌, true, false, List, [], ◌∷◌, drop, refl, ap, ◌∙◌, Ok}
+use Rattle.b2_base.specs.Byte as byte
+use Rattle.b2_base.specs.Lexical.{first}
+use Rattle.b2_base.specs.declared.codes.TheConstants.{S11_CLOSE}
+use Rattle.b2_atom.specs.Words.{Text}
+use Rattle.b2_atom.specs.Tree.{Trees}
+use Rattle.b2_atom.specs.Grammar.{row_items, starts}
+use Rattle.b2_atom.specs.declared.words.Origin.TheVariants.{Atoms}
+use Rattle.b2_atom.specs.declared.words.TheConstants as word
+use Rattle.b2_atom.specs.declared.rows.TheConstants as row
+use Rattle.b2_atom.specs.declared.forms.Start.TheVariants as start
+use Rattle.b2_atom.specs.declared.forms.Item.{Item}
+use Rattle.b2_atom.specs.declared.forms.Item.TheVariants.{Word, Sign, Nest}
+use Rattle.b2_rows.specs.Rows.{is_part, tree_at, after_part}
+use Rattle.b2_rows.specs.Choices.{ReadAs, first_branch, second_branch}
+use Rattle.b2_rows.proofs.Choices.{either_first, either_second}
+use Rattle.b2_expr.specs.Answers.{◌>>=◌}
+use Rattle.b2_expr.specs.Functions.{counted}
+use Rattle.b2_expr.specs.Scope.{Context}
+use Rattle.b2_expr.specs.Value.{text, value}
+use Rattle.b2_expr.specs.declared.operators.Level.TheVariants as level
+use Rattle.b2_expr.proofs.RowsRead.{stands_of}
+use Rattle.b2_stmt_io.specs.Printing.{alpha_in, blanks_to, digits_of, hex_in, item_of, number_in, tab_in}
+
+-- TAB
+abbrev tab_items : List Item
+tab_items = Word word.TAB_OPEN ∷ Nest row.SUM ∷ Sign byte.closing S11_CLOSE ∷ []
+
+tab_row : row_items row.TAB ≡ tab_items
+unfolding row_items
+tab_row = refl
+
+pub tab_sum : (t : Text) → is_part row.TAB t ≡ true → is_part row.SUM (drop 1 t) ≡ true
+tab_sum t ok = (stands_of row.TAB tab_items t tab_row ok).0.1.0
+
+pub tab_is : (s : Context) (t : Text) → is_part row.TAB t ≡ true
+    → tab_in s (tree_at row.TAB t) ≡ (value s level.Sum (tree_at row.SUM (drop 1 t)) >>= (λ x. counted 0 255 x >>= (λ to. Ok (blanks_to to))))
+tab_is s t ok = ap (tab_in s) (stands_of row.TAB tab_items t tab_row ok).1
+
+pub tab_rest : (t : Text) → is_part row.TAB t ≡ true → after_part row.TAB t ≡ drop 1 (after_part row.SUM (drop 1 t))
+tab_rest t ok = (stands_of row.TAB tab_items t tab_row ok).2
+
+-- HEXOF
+abbrev hex_items : List Item
+hex_items = Word word.HEXOF_OPEN ∷ Nest row.ALPHA ∷ Sign byte.closing S11_CLOSE ∷ []
+
+hex_row : row_items row.HEXOF ≡ hex_items
+unfolding row_items
+hex_row = refl
+
+pub hex_alpha : (t : Text) → is_part row.HEXOF t ≡ true → is_part row.ALPHA (drop 1 t) ≡ true
+hex_alpha t ok = (stands_of row.HEXOF hex_items t hex_row ok).0.1.0
+
+pub hex_is : (s : Context) (t : Text) → is_part row.HEXOF t ≡ true → hex_in s (tree_at row.HEXOF t) ≡ (text s (tree_at row.ALPHA (drop 1 t)) >>= (λ bytes. Ok (digits_of bytes)))
+hex_is s t ok = ap (hex_in s) (stands_of row.HEXOF hex_items t hex_row ok).1
+
+pub hex_rest : (t : Text) → is_part row.HEXOF t ≡ true → after_part row.HEXOF t ≡ drop 1 (after_part row.ALPHA (drop 1 t))
+hex_rest t ok = (stands_of row.HEXOF hex_items t hex_row ok).2
+
+-- an item is TAB, or else HEXOF, or else an alpha expression, or else a number
+is_tab : (t : Text) → is_part row.PRINT_ITEM t ≡ true → (first t == word.TAB_OPEN) ≡ true → ReadAs row.PRINT_ITEM row.TAB first_branch t
+unfolding row_items starts
+is_tab t ok is = either_first row.PRINT_ITEM row.TAB row.PRINT_BUT_TAB (start.Code word.TAB_OPEN) t refl ok is
+
+no_tab : (t : Text) → is_part row.PRINT_ITEM t ≡ true → (first t == word.TAB_OPEN) ≡ false → ReadAs row.PRINT_ITEM row.PRINT_BUT_TAB second_branch t
+unfolding row_items starts
+no_tab t ok is = either_second row.PRINT_ITEM row.TAB row.PRINT_BUT_TAB (start.Code word.TAB_OPEN) t refl ok is
+
+is_hex : (t : Text) → is_part row.PRINT_BUT_TAB t ≡ true → (first t == word.HEXOF_OPEN) ≡ true → ReadAs row.PRINT_BUT_TAB row.HEXOF first_branch t
+unfolding row_items starts
+is_hex t ok is = either_first row.PRINT_BUT_TAB row.HEXOF row.OPERAND_OF_ANY_KIND (start.Code word.HEXOF_OPEN) t refl ok is
+
+no_hex : (t : Text) → is_part row.PRINT_BUT_TAB t ≡ true → (first t == word.HEXOF_OPEN) ≡ false → ReadAs row.PRINT_BUT_TAB row.OPERAND_OF_ANY_KIND second_branch t
+unfolding row_items starts
+no_hex t ok is = either_second row.PRINT_BUT_TAB row.HEXOF row.OPERAND_OF_ANY_KIND (start.Code word.HEXOF_OPEN) t refl ok is
+
+pub is_bytes : (t : Text) → is_part row.OPERAND_OF_ANY_KIND t ≡ true → starts Atoms start.Alpha t ≡ true → ReadAs row.OPERAND_OF_ANY_KIND row.ALPHA first_branch t
+unfolding row_items
+is_bytes t ok is = either_first row.OPERAND_OF_ANY_KIND row.ALPHA row.SUM start.Alpha t refl ok is
+
+pub is_number : (t : Text) → is_part row.OPERAND_OF_ANY_KIND t ≡ true → starts Atoms start.Alpha t ≡ false → ReadAs row.OPERAND_OF_ANY_KIND row.SUM second_branch t
+unfolding row_items
+is_number t ok is = either_second row.OPERAND_OF_ANY_KIND row.ALPHA row.SUM start.Alpha t refl ok is
+
+-- a choice in a choice
+in_both : (n m k : ℕ) (f g : Trees → Trees) (t : Text) → ReadAs n m f t → ReadAs m k g t → ReadAs n k (λ a. f (g a)) t
+in_both n m k f g t a b = record { part = b.part; tree = a.tree ∙ ap f b.tree; rest = a.rest ∙ b.rest }
+
+as_hex : (t : Text) → is_part row.PRINT_ITEM t ≡ true → (first t == word.TAB_OPEN) ≡ false → (first t == word.HEXOF_OPEN) ≡ true → ReadAs row.PRINT_ITEM row.HEXOF (λ a. second_branch (first_branch a)) t
+as_hex t ok tab hex = let a = no_tab t ok tab in in_both row.PRINT_ITEM row.PRINT_BUT_TAB row.HEXOF second_branch first_branch t a (is_hex t a.part hex)
+
+as_value : (t : Text) → is_part row.PRINT_ITEM t ≡ true → (first t == word.TAB_OPEN) ≡ false → (first t == word.HEXOF_OPEN) ≡ false → ReadAs row.PRINT_ITEM row.OPERAND_OF_ANY_KIND (λ a. second_branch (second_branch a)) t
+as_value t ok tab hex = let a = no_tab t ok tab in in_both row.PRINT_ITEM row.PRINT_BUT_TAB row.OPERAND_OF_ANY_KIND second_branch second_branch t a (no_hex t a.part hex)
+
+as_bytes : (t : Text) → is_part row.PRINT_ITEM t ≡ true → (first t == word.TAB_OPEN) ≡ false → (first t == word.HEXOF_OPEN) ≡ false → starts Atoms start.Alpha t ≡ true
+    → ReadAs row.PRINT_ITEM row.ALPHA (λ a. second_branch (second_branch (first_branch a))) t
+as_bytes t ok tab hex is =
+    let a = as_value t ok tab hex in in_both row.PRINT_ITEM row.OPERAND_OF_ANY_KIND row.ALPHA (λ b. second_branch (second_branch b)) first_branch t a (is_bytes t a.part is)
+
+as_number : (t : Text) → is_part row.PRINT_ITEM t ≡ true → (first t == word.TAB_OPEN) ≡ false → (first t == word.HEXOF_OPEN) ≡ false → starts Atoms start.Alpha t ≡ false
+    → ReadAs row.PRINT_ITEM row.SUM (λ a. second_branch (second_branch (second_branch a))) t
+as_number t ok tab hex is =
+    let a = as_value t ok tab hex in in_both row.PRINT_ITEM row.OPERAND_OF_ANY_KIND row.SUM (λ b. second_branch (second_branch b)) second_branch t a (is_number t a.part is)
+
+pub item_tab : (t : Text) → is_part row.PRINT_ITEM t ≡ true → (first t == word.TAB_OPEN) ≡ true → is_part row.TAB t ≡ true
+item_tab t ok is = ReadAs.part (is_tab t ok is)
+
+pub item_tab_is : (s : Context) (t : Text) → is_part row.PRINT_ITEM t ≡ true → (first t == word.TAB_OPEN) ≡ true → item_of s (tree_at row.PRINT_ITEM t) ≡ tab_in s (tree_at row.TAB t)
+item_tab_is s t ok is = ap (item_of s) (ReadAs.tree (is_tab t ok is))
+
+pub item_tab_rest : (t : Text) → is_part row.PRINT_ITEM t ≡ true → (first t == word.TAB_OPEN) ≡ true → after_part row.PRINT_ITEM t ≡ after_part row.TAB t
+item_tab_rest t ok is = ReadAs.rest (is_tab t ok is)
+
+pub item_hex : (t : Text) → is_part row.PRINT_ITEM t ≡ true → (first t == word.TAB_OPEN) ≡ false → (first t == word.HEXOF_OPEN) ≡ true → is_part row.HEXOF t ≡ true
+item_hex t ok tab is = ReadAs.part (as_hex t ok tab is)
+
+pub item_hex_is : (s : Context) (t : Text) → is_part row.PRINT_ITEM t ≡ true → (first t == word.TAB_OPEN) ≡ false → (first t == word.HEXOF_OPEN) ≡ true → item_of s (tree_at row.PRINT_ITEM t) ≡ hex_in s (tree_at row.HEXOF t)
+item_hex_is s t ok tab is = ap (item_of s) (ReadAs.tree (as_hex t ok tab is))
+
+pub item_hex_rest : (t : Text) → is_part row.PRINT_ITEM t ≡ true → (first t == word.TAB_OPEN) ≡ false → (first t == word.HEXOF_OPEN) ≡ true → after_part row.PRINT_ITEM t ≡ after_part row.HEXOF t
+item_hex_rest t ok tab is = ReadAs.rest (as_hex t ok tab is)
+
+pub item_alpha : (t : Text) → is_part row.PRINT_ITEM t ≡ true → (first t == word.TAB_OPEN) ≡ false → (first t == word.HEXOF_OPEN) ≡ false → starts Atoms start.Alpha t ≡ true → is_part row.ALPHA t ≡ true
+item_alpha t ok tab hex is = ReadAs.part (as_bytes t ok tab hex is)
+
+pub item_alpha_is : (s : Context) (t : Text) → is_part row.PRINT_ITEM t ≡ true → (first t == word.TAB_OPEN) ≡ false → (first t == word.HEXOF_OPEN) ≡ false → starts Atoms start.Alpha t ≡ true
+    → item_of s (tree_at row.PRINT_ITEM t) ≡ alpha_in s (tree_at row.ALPHA t)
+item_alpha_is s t ok tab hex is = ap (item_of s) (ReadAs.tree (as_bytes t ok tab hex is))
+
+pub item_alpha_rest : (t : Text) → is_part row.PRINT_ITEM t ≡ true → (first t == word.TAB_OPEN) ≡ false → (first t == word.HEXOF_OPEN) ≡ false → starts Atoms start.Alpha t ≡ true → after_part row.PRINT_ITEM t ≡ after_part row.ALPHA t
+item_alpha_rest t ok tab hex is = ReadAs.rest (as_bytes t ok tab hex is)
+
+pub item_number : (t : Text) → is_part row.PRINT_ITEM t ≡ true → (first t == word.TAB_OPEN) ≡ false → (first t == word.HEXOF_OPEN) ≡ false → starts Atoms start.Alpha t ≡ false → is_part row.SUM t ≡ true
+item_number t ok tab hex is = ReadAs.part (as_number t ok tab hex is)
+
+pub item_number_is : (s : Context) (t : Text) → is_part row.PRINT_ITEM t ≡ true → (first t == word.TAB_OPEN) ≡ false → (first t == word.HEXOF_OPEN) ≡ false → starts Atoms start.Alpha t ≡ false
+    → item_of s (tree_at row.PRINT_ITEM t) ≡ number_in s (tree_at row.SUM t)
+item_number_is s t ok tab hex is = ap (item_of s) (ReadAs.tree (as_number t ok tab hex is))
+
+pub item_number_rest : (t : Text) → is_part row.PRINT_ITEM t ≡ true → (first t == word.TAB_OPEN) ≡ false → (first t == word.HEXOF_OPEN) ≡ false → starts Atoms start.Alpha t ≡ false → after_part row.PRINT_ITEM t ≡ after_part row.SUM t
+item_number_rest t ok tab hex is = ReadAs.rest (as_number t ok tab hex is)

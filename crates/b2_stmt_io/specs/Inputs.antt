@@ -1,0 +1,47 @@
+-- INPUT: the parts of a line for its receivers.
+use Rattle.std.specs.Prelude.{ℕ, ◌==◌, List, [], ◌∷◌, length, Option, Some, None, Ok, if◌then◌else◌}
+use Rattle.b2_base.specs.Lexical.{skip_blanks}
+use Rattle.b2_base.specs.declared.codes.TheConstants.{S20_VARIABLE}
+use Rattle.b2_alpha.specs.Values.{value_of}
+use Rattle.b2_atom.specs.Tree.{Trees}
+use Rattle.b2_atom.specs.Tree.Trees.{In}
+use Rattle.b2_text.specs.Program.{TextState}
+use Rattle.b2_vars.specs.Tables.{VarsState}
+use Rattle.b2_expr.specs.Assigning.{Assigned}
+use Rattle.b2_stmt_io.specs.LineReading.{after_prompt}
+use Rattle.b2_stmt_io.specs.Lists.{items_of}
+use Rattle.b2_stmt_io.specs.Receiving.{assign_bytes, assign_number, refused}
+use Rattle.b2_stmt_io.specs.TypedText.{parts_of, typed_number}
+use Rattle.b2_stmt_io.specs.declared.around.Setting.{Setting}
+
+-- nothing is assigned, without a code
+abbrev pub unchanged : VarsState → Assigned
+unchanged vars = record { vars = vars; code = None }
+
+-- what comes after an assignment, where it had no code
+abbrev pub unless_coded : Option ℕ → VarsState → (VarsState → Assigned) → Assigned
+unless_coded None vars next = next vars
+unless_coded (Some code) vars next = record { vars = vars; code = Some code }
+
+abbrev pub and_then : Assigned → (VarsState → Assigned) → Assigned
+and_then a next = unless_coded a.code a.vars next
+
+-- a receiver of either kind takes a part without the blanks round it
+abbrev pub takes_some : Setting → TextState → List ℕ → Trees → VarsState → Assigned
+takes_some a home part (In n receiver end) vars =
+    if n == 1 then assign_bytes a home (Ok (value_of (skip_blanks part))) receiver vars else assign_number a home (typed_number part) receiver vars
+takes_some a home part t vars = refused S20_VARIABLE vars
+
+-- and is left without a look at it where the part is empty
+abbrev pub takes_part : Setting → TextState → Trees → List ℕ → VarsState → Assigned
+takes_part a home t part vars = if length (skip_blanks part) == 0 then unchanged vars else takes_some a home part t vars
+
+-- the receivers from left to right, each among the variables as they then are, up to one with a code; those past the parts are
+-- left
+abbrev pub take_parts : (Trees → List ℕ → VarsState → Assigned) → List Trees → List (List ℕ) → VarsState → Assigned
+take_parts one [] parts vars = unchanged vars
+take_parts one (t ∷ ts) [] vars = unchanged vars
+take_parts one (t ∷ ts) (part ∷ parts) vars = and_then (one t part vars) (take_parts one ts parts)
+
+abbrev pub takes_parts : Setting → TextState → List ℕ → Trees → VarsState → Assigned
+takes_parts a home line t vars = take_parts (takes_part a home) (items_of (after_prompt t)) (parts_of line) vars

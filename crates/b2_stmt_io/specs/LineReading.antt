@@ -1,0 +1,67 @@
+-- INPUT and LINPUT: a prompt, and then a line.
+use Rattle.std.specs.Prelude.{ℕ, Bool, true, List, [], ◌++◌, codes, Option, Some, None, Ok, if◌then◌else◌}
+use Rattle.b2_atom.specs.Tokens.Token.{Plain}
+use Rattle.b2_atom.specs.Tree.{Trees}
+use Rattle.b2_atom.specs.Tree.Trees.{Done, Put, In}
+use Rattle.b2_rows.specs.Values.{literal_of}
+use Rattle.b2_text.specs.Program.{Lines, TextState}
+use Rattle.b2_vars.specs.Tables.{VarsState}
+use Rattle.b2_expr.specs.Assigning.{Assigned}
+use Rattle.b2_access.specs.declared.accesses.Access.{Access}
+use Rattle.b2_access.specs.declared.accesses.Access.TheVariants as access
+use Rattle.b2_access.specs.declared.accesses.Answer.{Answer}
+use Rattle.b2_access.specs.declared.accesses.Answer.TheVariants as answer
+use Rattle.b2_access.specs.declared.planned.Outcome.TheVariants as outcome
+use Rattle.b2_access.specs.declared.private.Private.{Private}
+use Rattle.b2_stmt_io.specs.Marks.{typed_by}
+use Rattle.b2_stmt_io.specs.Planning.{Ended, stays, with_assigned}
+use Rattle.b2_stmt_io.specs.Receiving.{assign_bytes}
+use Rattle.b2_stmt_io.specs.Showing.{with_column}
+use Rattle.b2_stmt_io.specs.declared.around.Setting.{Setting}
+
+-- the text of a prompt, no bytes where none is written
+abbrev pub prompt_bytes : Trees → List ℕ
+prompt_bytes (In n (Put (Plain k text) end) comma) = literal_of text
+prompt_bytes t = []
+
+abbrev pub prompt_there : Trees → List ℕ
+prompt_there (In n prompt more) = prompt_bytes prompt
+prompt_there t = []
+
+abbrev pub prompt_of : Trees → List ℕ
+prompt_of (Put word more) = prompt_there more
+prompt_of t = []
+
+-- what stands after the prompt
+abbrev pub after_prompt : Trees → Trees
+after_prompt (Put word (In n prompt more)) = more
+after_prompt t = Done
+
+-- the prompt is shown with `? ` after it, and once it was shown a line is read
+abbrev pub asks_line : Bool → ℕ → List ℕ → Access
+asks_line prompted term prompt = if prompted then access.ReadLine term else access.Show term (prompt ++ codes "? ")
+
+-- the receiver of LINPUT, which takes all bytes of a line
+abbrev pub receiver_of : Trees → Trees
+receiver_of (In n receiver end) = receiver
+receiver_of t = Done
+
+abbrev pub takes_line : Setting → TextState → List ℕ → Trees → VarsState → Assigned
+takes_line a home line t vars = assign_bytes a home (Ok line) (receiver_of (after_prompt t)) vars
+
+-- the prompt was shown
+abbrev pub prompted : List ℕ → Private → Ended
+prompted bytes me = record { me = record (with_column bytes me) { prompted = true }; outcome = outcome.Repeat }
+
+-- a special function key has its literal typed in the next step, where it has one
+abbrev pub types : Option (List ℕ) → Private → Ended
+types None me = stays me outcome.Repeat
+types (Some text) me = record { me = record me { literal = Some text }; outcome = outcome.Repeat }
+
+-- how they finish: the prompt was shown, a line was read and is taken, or a special function key was; with any other answer the
+-- step is repeated
+abbrev pub line_read : (List ℕ → VarsState → Assigned) → Access → Answer → Lines → Private → Ended
+line_read takes (access.Show term bytes) answer.Done own me = prompted bytes me
+line_read takes x (answer.Line line) own me = with_assigned (takes line me.vars) outcome.Next (record me { term_column = 0 })
+line_read takes x (answer.Special n) own me = types (typed_by n own) me
+line_read takes x a own me = stays me outcome.Repeat

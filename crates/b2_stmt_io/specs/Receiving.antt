@@ -1,0 +1,46 @@
+-- Receivers that take bytes or a number, and how that ends.
+use Rattle.std.specs.Prelude.{◌≡◌, ℕ, Option, None, Some, Result, Ok, Err}
+use Rattle.b2_base.specs.declared.codes.Fault.{Fault}
+use Rattle.b2_base.specs.declared.codes.Fault.TheVariants as fault
+use Rattle.b2_atom.specs.Tree.{Trees}
+use Rattle.b2_text.specs.Program.{TextState}
+use Rattle.b2_vars.specs.Tables.{VarsState}
+use Rattle.b2_expr.specs.Answers.{Answer, TextAnswer}
+use Rattle.b2_expr.specs.Assigning.{Assigned, assigned_bytes, assigned_number}
+use Rattle.b2_expr.specs.Receivers.{alpha_receiver, number_receiver}
+use Rattle.b2_expr.specs.Value.{in_statement}
+use Rattle.b2_expr.specs.declared.named.Element.{Element}
+use Rattle.b2_expr.specs.declared.receiver.AlphaReceiver.{AlphaReceiver}
+use Rattle.b2_stmt_io.specs.Around.{surroundings_of}
+use Rattle.b2_stmt_io.specs.declared.around.Setting.{Setting}
+
+-- nothing is assigned, for a code
+abbrev pub refused : ℕ → VarsState → Assigned
+refused code vars = record { vars = vars; code = Some code }
+
+-- a receiver that was located, and the bytes or the number that it takes: its own code comes before theirs
+abbrev pub bytes_to : Result AlphaReceiver ℕ → TextAnswer → VarsState → Assigned
+bytes_to (Ok to) (Ok bytes) vars = assigned_bytes to bytes vars
+bytes_to (Ok to) (Err code) vars = refused code vars
+bytes_to (Err code) bytes vars = refused code vars
+
+abbrev pub number_to : Result Element ℕ → Answer → VarsState → Assigned
+number_to (Ok to) (Ok x) vars = assigned_number to x vars
+number_to (Ok to) (Err code) vars = refused code vars
+number_to (Err code) x vars = refused code vars
+
+-- a receiver is located among the variables as they are
+abbrev pub assign_bytes : Setting → TextState → TextAnswer → Trees → VarsState → Assigned
+assign_bytes a home bytes t vars = bytes_to (alpha_receiver (in_statement (surroundings_of a vars home)) t) bytes vars
+
+abbrev pub assign_number : Setting → TextState → Answer → Trees → VarsState → Assigned
+assign_number a home x t vars = number_to (number_receiver (in_statement (surroundings_of a vars home)) t) x vars
+
+-- how an assignment ended: without a code, or with one; where memory failed it did not
+abbrev pub HasCode : Fault → Option ℕ → Type 0
+HasCode (fault.Code c) code = code ≡ Some c
+HasCode fault.NoMemory code = ⊥
+
+abbrev pub EndsWith : Result (Unit {0}) Fault → Option ℕ → Type 0
+EndsWith (Ok done) code = code ≡ None
+EndsWith (Err f) code = HasCode f code

@@ -1,0 +1,27 @@
+// How statements end.
+ghost use Rattle.std.specs.Prelude.{◌≡◌, IfOk};
+ghost use Rattle.b2_stmt_io.specs.Endings.{FailsWith};
+ghost use Rattle.b2_stmt_io.specs.Planning.{goes_or};
+
+use b2_access::Outcome;
+use b2_base::{Code, Fault, NoMemory};
+
+/// A fault with its code, where memory didn't fail.
+pub fn failing(fault: Fault) -> Result<Outcome, NoMemory>
+    ensures { IfOk result (λ o. FailsWith fault o) }
+{
+    match fault {
+        Fault::Code(code) => Ok(Outcome::Failed(code)),
+        Fault::NoMemory => Err(NoMemory),
+    }
+}
+
+/// Where a statement goes on, or a fault.
+pub fn goes_or(goes: Outcome, code: Option<Code>) -> Outcome
+    ensures { result ≡ goes_or goes code }
+{
+    match code {
+        Some(code) => Outcome::Failed(code),
+        None => goes,
+    }
+}

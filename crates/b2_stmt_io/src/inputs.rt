@@ -1,0 +1,153 @@
+// INPUT: the parts of a line for its receivers.
+ghost use Rattle.std.specs.Prelude.{◌≡◌, ◌≢◌, ◌==◌, true, false, length, IfOk, Some};
+ghost use Rattle.b2_base.specs.Lexical.{skip_blanks as blanks_skipped};
+ghost use Rattle.b2_alpha.specs.Values.{value_of};
+ghost use Rattle.b2_atom.specs.declared.rows.TheConstants as row;
+ghost use Rattle.b2_rows.specs.Rows.{is_part, tree_at};
+ghost use Rattle.b2_stmt_io.specs.Around.{setting_of};
+ghost use Rattle.b2_stmt_io.specs.Inputs as spec;
+ghost use Rattle.b2_stmt_io.specs.LineReading.{asks_line, line_read, prompt_of};
+ghost use Rattle.b2_stmt_io.specs.Receivers.{are_others, past_first, receivers_at};
+ghost use Rattle.b2_stmt_io.specs.TypedText.{parts_of};
+
+use crate::around::{Setting, setting_of};
+use crate::ending::goes_or;
+use crate::line_reading::{ask_line, past_prompt, prompt_shown, type_literal};
+use crate::receiving::{bytes_to, number_to, past_receiver};
+use crate::typed_text::part_width;
+use b2_access::{Access, Answer, Outcome, Private};
+use b2_alpha::value_len;
+use b2_base::lexical::{dropped, front, skip_blanks};
+use b2_base::{Code, NoMemory, Term};
+use b2_rows::{is_alpha_at, is_at};
+use b2_text::Text;
+use b2_vars::Vars;
+use std::alloc::Global;
+
+/// Bytes without the blanks after them, but for the first.
+#[tactic(auto, using(crate::proofs::Parted::value_front))]
+fn value_in(bytes: &[u8]) -> &[u8]
+    ensures { result.now ≡ value_of bytes.now }
+{
+    front(bytes, value_len(bytes))
+}
+
+/// Assigns a part that isn't empty to the receiver at a text.
+#[tactic(auto, using(crate::proofs::InputRows::alpha_here, crate::proofs::InputRows::alpha_is, crate::proofs::InputRows::number_here, crate::proofs::InputRows::number_is))]
+fn some_to(
+    vars: &mut Vars,
+    a: &Setting,
+    home: &Text,
+    part: &[u8],
+    text: &[u8],
+) -> Result<Option<Code>, NoMemory>
+    requires part { is_part row.RECEIVER text.now ≡ true }
+    ensures { IfOk result (λ code. record { vars = vars.new; code = code } ≡ spec.takes_some a.now home.now part.now (tree_at row.RECEIVER text.now) vars.old) }
+{
+    if is_alpha_at(text) {
+        bytes_to(vars, a, home, value_in(skip_blanks(part)), text)
+    } else {
+        number_to(vars, a, home, part, text)
+    }
+}
+
+/// Assigns a part to the receiver at a text, unless it is empty.
+fn part_to(
+    vars: &mut Vars,
+    a: &Setting,
+    home: &Text,
+    part: &[u8],
+    text: &[u8],
+) -> Result<Option<Code>, NoMemory>
+    requires part { is_part row.RECEIVER text.now ≡ true }
+    ensures { IfOk result (λ code. record { vars = vars.new; code = code } ≡ spec.takes_part a.now home.now (tree_at row.RECEIVER text.now) part.now vars.old) }
+{
+    if skip_blanks(part).is_empty() {
+        return Ok(None);
+    }
+    some_to(vars, a, home, part, text)
+}
+
+/// Assigns the parts of a line to the receivers that stand at a text, from left to right.
+#[tactic(auto, using(crate::proofs::Parted::part_more, crate::proofs::Parted::goes_on, crate::proofs::InputRows::other_part, crate::proofs::InputRows::other_list, crate::proofs::InputRows::receiver_shorter))]
+fn parts_to(
+    vars: &mut Vars,
+    a: &Setting,
+    home: &Text,
+    line: &[u8],
+    text: &[u8],
+) -> Result<Option<Code>, NoMemory>
+    requires part { is_part row.RECEIVER text.now ≡ true }
+    requires list { are_others (past_first text.now) ≡ true }
+    ensures { IfOk result (λ code. record { vars = vars.new; code = code } ≡ spec.take_parts (spec.takes_part a.now home.now) (receivers_at text.now) (parts_of line.now) vars.old) }
+{
+    let mut left = text;
+    let mut typed = line;
+    loop {
+        let width = part_width(typed);
+        let code = part_to(vars, a, home, front(typed, width), left)?;
+        if code.is_some() {
+            return Ok(code);
+        }
+        left = past_receiver(left);
+        if !is_at(b',', left) {
+            return Ok(None);
+        }
+        typed = dropped(typed, width);
+        if typed.is_empty() {
+            return Ok(None);
+        }
+        left = dropped(left, 1);
+        typed = dropped(typed, 1);
+    }
+}
+
+/// Assigns a line to the receivers of INPUT.
+#[tactic(auto, using(crate::proofs::InputRows::input_prompt, crate::proofs::InputRows::input_receiver, crate::proofs::InputRows::input_list, crate::proofs::InputRows::input_is))]
+fn take_parts(
+    vars: &mut Vars,
+    a: &Setting,
+    home: &Text,
+    line: &[u8],
+    unit: &[u8],
+) -> Result<Option<Code>, NoMemory>
+    requires part { is_part row.INPUT unit.now ≡ true }
+    ensures { IfOk result (λ code. record { vars = vars.new; code = code } ≡ spec.takes_parts a.now home.now line.now (tree_at row.INPUT unit.now) vars.old) }
+{
+    parts_to(vars, a, home, line, past_prompt(dropped(unit, 1)))
+}
+
+/// What INPUT asks for.
+#[tactic(auto, using(crate::proofs::InputRows::input_prompt, crate::proofs::InputRows::input_shows))]
+pub fn ask_input(alloc: Global, prompted: bool, term: Term, unit: &[u8]) -> Result<Access, NoMemory>
+    requires part { is_part row.INPUT unit.now ≡ true }
+    ensures { IfOk result (λ a. a ≡ asks_line prompted term (prompt_of (tree_at row.INPUT unit.now))) }
+{
+    ask_line(alloc, prompted, term, dropped(unit, 1))
+}
+
+/// How INPUT finishes.
+pub fn after_input(
+    alloc: Global,
+    me: &mut Private,
+    own: &Text,
+    home: &Text,
+    access: &Access,
+    answer: &Answer,
+    unit: &[u8],
+) -> Result<Outcome, NoMemory>
+    requires part { is_part row.INPUT unit.now ≡ true }
+    ensures { IfOk result (λ o. record { me = me.new; outcome = o } ≡ line_read (λ line vars. spec.takes_parts (setting_of me.old) home.now line (tree_at row.INPUT unit.now) vars) access.now answer.now own.now.lines me.old) }
+{
+    match (access, answer) {
+        (Access::Show { bytes, .. }, Answer::Done) => Ok(prompt_shown(me, bytes.bytes())),
+        (_, Answer::Line(line)) => {
+            let setting = setting_of(me);
+            let code = take_parts(&mut me.vars, &setting, home, line.bytes(), unit)?;
+            me.term_column = 0;
+            Ok(goes_or(Outcome::Next, code))
+        }
+        (_, Answer::Special(n)) => type_literal(alloc, me, own, *n),
+        _ => Ok(Outcome::Repeat),
+    }
+}

@@ -1,0 +1,93 @@
+// KEYIN: one key, and where it leads.
+ghost use Rattle.std.specs.Prelude.{◌≡◌, true, IfOk, drop};
+ghost use Rattle.b2_base.specs.Byte as byte;
+ghost use Rattle.b2_atom.specs.declared.rows.TheConstants as row;
+ghost use Rattle.b2_atom.specs.declared.forms.Start.TheVariants as start;
+ghost use Rattle.b2_rows.specs.Rows.{is_part, tree_at};
+ghost use Rattle.b2_rows.specs.Optional.{maybe_part, maybe_tree};
+ghost use Rattle.b2_stmt_io.specs.Keys as spec;
+
+use crate::around::setting_of;
+use crate::ending::goes_or;
+use crate::going::to_line;
+use crate::receiving::{bytes_to, past_alpha};
+use b2_access::{Answer, Outcome, Private};
+use b2_base::NoMemory;
+use b2_base::lexical::dropped;
+use b2_flow::Place;
+use b2_rows::{is_at, line_at};
+use b2_text::Text;
+
+/// The second of two lines with commas before them.
+fn second_line(text: &[u8]) -> &[u8]
+    ensures { result.now ≡ drop 1 (drop 3 (drop 1 text.now)) }
+{
+    dropped(dropped(dropped(text, 1), 3), 1)
+}
+
+/// Where KEYIN goes on after a key, by the lines that are named at a text.
+#[tactic(auto, using(crate::proofs::KeyRows::first_here, crate::proofs::KeyRows::to_next))]
+fn goes_on(special: bool, home: &Text, place: Place, text: &[u8]) -> Outcome
+    requires part { maybe_part (start.Code byte.comma) row.COMMA_TWO_LINES text.now ≡ true }
+    ensures { result ≡ spec.goes_on special home.now.lines place (maybe_tree (start.Code byte.comma) row.COMMA_TWO_LINES text.now) }
+{
+    if !is_at(b',', text) {
+        return Outcome::Next;
+    }
+    if special {
+        to_line(home, place, line_at(second_line(text)))
+    } else {
+        to_line(home, place, line_at(dropped(text, 1)))
+    }
+}
+
+/// Assigns a key, and goes on.
+#[tactic(auto, using(crate::proofs::KeyRows::key_receiver, crate::proofs::KeyRows::key_lines, crate::proofs::KeyRows::takes_key_is))]
+fn take_key(
+    me: &mut Private,
+    key: u8,
+    special: bool,
+    home: &Text,
+    place: Place,
+    unit: &[u8],
+) -> Result<Outcome, NoMemory>
+    requires part { is_part row.KEYIN unit.now ≡ true }
+    ensures { IfOk result (λ o. record { me = me.new; outcome = o } ≡ spec.takes_key key special home.now place (tree_at row.KEYIN unit.now) me.old) }
+{
+    let setting = setting_of(me);
+    let receiver = dropped(unit, 1);
+    let code = bytes_to(&mut me.vars, &setting, home, &[key], receiver)?;
+    Ok(goes_or(goes_on(special, home, place, past_alpha(receiver)), code))
+}
+
+/// Where KEYIN goes on without a key.
+#[tactic(auto, using(crate::proofs::KeyRows::key_receiver, crate::proofs::KeyRows::without_key_is))]
+fn without_key(unit: &[u8]) -> Outcome
+    requires part { is_part row.KEYIN unit.now ≡ true }
+    ensures { result ≡ spec.without_key (tree_at row.KEYIN unit.now) }
+{
+    if is_at(b',', past_alpha(dropped(unit, 1))) {
+        Outcome::Next
+    } else {
+        Outcome::Repeat
+    }
+}
+
+/// How KEYIN finishes.
+pub fn after_key(
+    me: &mut Private,
+    home: &Text,
+    place: Place,
+    answer: &Answer,
+    unit: &[u8],
+) -> Result<Outcome, NoMemory>
+    requires part { is_part row.KEYIN unit.now ≡ true }
+    ensures { IfOk result (λ o. record { me = me.new; outcome = o } ≡ spec.keyed answer.now home.now place (tree_at row.KEYIN unit.now) me.old) }
+{
+    match answer {
+        Answer::Key(key) => take_key(me, *key, false, home, place, unit),
+        Answer::Special(n) => take_key(me, *n, true, home, place, unit),
+        Answer::NoKeys => Ok(without_key(unit)),
+        _ => Ok(Outcome::Repeat),
+    }
+}

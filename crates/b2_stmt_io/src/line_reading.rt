@@ -1,0 +1,140 @@
+// INPUT and LINPUT: a prompt, and then a line.
+ghost use Rattle.std.specs.Prelude.{◌≡◌, true, IfOk};
+ghost use Rattle.b2_base.specs.Byte as byte;
+ghost use Rattle.b2_atom.specs.declared.rows.TheConstants as row;
+ghost use Rattle.b2_atom.specs.declared.forms.Start.TheVariants as start;
+ghost use Rattle.b2_rows.specs.Rows.{is_part, tree_at};
+ghost use Rattle.b2_rows.specs.Optional.{maybe_part, maybe_tree, after_maybe};
+ghost use Rattle.b2_stmt_io.specs.Around.{setting_of};
+ghost use Rattle.b2_stmt_io.specs.LineReading as spec;
+ghost use Rattle.b2_stmt_io.specs.Marks.{typed_by};
+
+use crate::around::{Setting, setting_of};
+use crate::ending::goes_or;
+use crate::marks::typed_by;
+use crate::receiving::bytes_to;
+use b2_access::{Access, Answer, Outcome, Private};
+use b2_atom::literal_width;
+use b2_base::lexical::dropped;
+use b2_base::{ByteList, Code, NoMemory, Term};
+use b2_print::column_after;
+use b2_rows::{is_at, literal_at};
+use b2_text::Text;
+use b2_vars::Vars;
+use std::alloc::Global;
+
+/// The text of the prompt at a text, no bytes where none stands there.
+#[tactic(auto, using(crate::proofs::PromptRows::prompt_here, crate::proofs::PromptRows::prompt_with, crate::proofs::PromptRows::prompt_without))]
+fn prompt_at(text: &[u8]) -> &[u8]
+    requires part { maybe_part (start.Code byte.quote) row.PROMPT text.now ≡ true }
+    ensures { result.now ≡ spec.prompt_there (maybe_tree (start.Code byte.quote) row.PROMPT text.now) }
+{
+    if is_at(b'"', text) {
+        literal_at(text)
+    } else {
+        &[]
+    }
+}
+
+/// What stands after the prompt at a text, or after none.
+#[tactic(auto, using(crate::proofs::PromptRows::rest_with, crate::proofs::PromptRows::rest_without))]
+pub fn past_prompt(text: &[u8]) -> &[u8]
+    requires part { maybe_part (start.Code byte.quote) row.PROMPT text.now ≡ true }
+    ensures { result.now ≡ after_maybe (start.Code byte.quote) row.PROMPT text.now }
+{
+    if is_at(b'"', text) {
+        dropped(dropped(text, literal_width(text)), 1)
+    } else {
+        text
+    }
+}
+
+/// The prompt at a text is shown, or a line is read where it was.
+pub fn ask_line(alloc: Global, prompted: bool, term: Term, text: &[u8]) -> Result<Access, NoMemory>
+    requires part { maybe_part (start.Code byte.quote) row.PROMPT text.now ≡ true }
+    ensures { IfOk result (λ a. a ≡ spec.asks_line prompted term (spec.prompt_there (maybe_tree (start.Code byte.quote) row.PROMPT text.now))) }
+{
+    if prompted {
+        return Ok(Access::ReadLine { term });
+    }
+    let mut shown = Vec::from_slice(alloc, prompt_at(text))?;
+    shown.extend_from_slice(b"? ")?;
+    Ok(Access::Show {
+        term,
+        bytes: ByteList::new(shown),
+    })
+}
+
+/// What LINPUT asks for.
+#[tactic(auto, using(crate::proofs::PromptRows::linput_prompt, crate::proofs::PromptRows::linput_shows))]
+pub fn ask_linput(
+    alloc: Global,
+    prompted: bool,
+    term: Term,
+    unit: &[u8],
+) -> Result<Access, NoMemory>
+    requires part { is_part row.LINPUT unit.now ≡ true }
+    ensures { IfOk result (λ a. a ≡ spec.asks_line prompted term (spec.prompt_of (tree_at row.LINPUT unit.now))) }
+{
+    ask_line(alloc, prompted, term, dropped(unit, 1))
+}
+
+/// Assigns a line to the receiver of LINPUT.
+#[tactic(auto, using(crate::proofs::PromptRows::linput_prompt, crate::proofs::PromptRows::linput_receiver, crate::proofs::PromptRows::linput_is))]
+fn take_line(
+    vars: &mut Vars,
+    a: &Setting,
+    home: &Text,
+    line: &[u8],
+    unit: &[u8],
+) -> Result<Option<Code>, NoMemory>
+    requires part { is_part row.LINPUT unit.now ≡ true }
+    ensures { IfOk result (λ code. record { vars = vars.new; code = code } ≡ spec.takes_line a.now home.now line.now (tree_at row.LINPUT unit.now) vars.old) }
+{
+    bytes_to(vars, a, home, line, past_prompt(dropped(unit, 1)))
+}
+
+/// After the prompt was shown.
+pub fn prompt_shown(me: &mut Private, bytes: &[u8]) -> Outcome
+    ensures { record { me = me.new; outcome = result } ≡ spec.prompted bytes.now me.old }
+{
+    me.term_column = column_after(me.term_column, bytes);
+    me.prompted = true;
+    Outcome::Repeat
+}
+
+/// Has a special function key type its literal, where it has one.
+pub fn type_literal(alloc: Global, me: &mut Private, own: &Text, n: u8) -> Result<Outcome, NoMemory>
+    ensures { IfOk result (λ o. record { me = me.new; outcome = o } ≡ spec.types (typed_by n own.now.lines) me.old) }
+{
+    if let Some(text) = typed_by(own, n) {
+        me.literal = Some(ByteList::from_slice(alloc, text)?);
+    }
+    Ok(Outcome::Repeat)
+}
+
+/// How LINPUT finishes.
+pub fn after_linput(
+    alloc: Global,
+    me: &mut Private,
+    own: &Text,
+    home: &Text,
+    access: &Access,
+    answer: &Answer,
+    unit: &[u8],
+) -> Result<Outcome, NoMemory>
+    requires part { is_part row.LINPUT unit.now ≡ true }
+    ensures { IfOk result (λ o. record { me = me.new; outcome = o } ≡ spec.line_read (λ line vars. spec.takes_line (setting_of me.old) home.now line (tree_at row.LINPUT unit.now) vars) access.now answer.now own.now.lines me.old) }
+{
+    match (access, answer) {
+        (Access::Show { bytes, .. }, Answer::Done) => Ok(prompt_shown(me, bytes.bytes())),
+        (_, Answer::Line(line)) => {
+            let setting = setting_of(me);
+            let code = take_line(&mut me.vars, &setting, home, line.bytes(), unit)?;
+            me.term_column = 0;
+            Ok(goes_or(Outcome::Next, code))
+        }
+        (_, Answer::Special(n)) => type_literal(alloc, me, own, *n),
+        _ => Ok(Outcome::Repeat),
+    }
+}

@@ -1,0 +1,50 @@
+// The statement at a place.
+ghost use Rattle.std.specs.Prelude.{◌≡◌, IfSome, option_map, Some};
+ghost use Rattle.b2_rows.specs.Laws.{IsRow};
+ghost use Rattle.b2_rows.specs.Rows.{tree_at};
+ghost use Rattle.b2_stmt_io.specs.Placed as spec;
+
+use b2_atom::Atoms;
+use b2_flow::Place;
+use b2_rows::{RowUnit, row_unit};
+use b2_text::Text;
+
+/// The line of a place: one of the text at home, or the immediate line.
+fn line_named<'a>(immediate: &'a Option<Atoms>, home: &'a Text, n: Option<u16>) -> Option<&'a Atoms>
+    ensures { option_map (λ l. l.now) result ≡ spec.line_named immediate.now home.now.lines n }
+{
+    match n {
+        Some(n) => match home.line(n) {
+            Some(line) => Some(line.atoms),
+            None => None,
+        },
+        None => match immediate {
+            Some(line) => Some(line),
+            None => None,
+        },
+    }
+}
+
+/// The k-th statement of a line.
+#[tactic(auto, using(crate::proofs::Statements::statement_is))]
+pub fn statement_on(line: &Atoms, k: usize) -> Option<RowUnit<'_>>
+    ensures statement { option_map (λ u. record { row = u.row; tree = tree_at u.row u.bytes.now }) result ≡ spec.statement_on (Some line.now) k }
+    ensures whole { IfSome result (λ u. IsRow u.row u.bytes.now (tree_at u.row u.bytes.now)) }
+{
+    row_unit(line, k)
+}
+
+/// The statement at a place.
+pub fn statement_at<'a>(
+    place: Place,
+    immediate: &'a Option<Atoms>,
+    home: &'a Text,
+) -> Option<RowUnit<'a>>
+    ensures statement { option_map (λ u. record { row = u.row; tree = tree_at u.row u.bytes.now }) result ≡ spec.statement_at place immediate.now home.now.lines }
+    ensures whole { IfSome result (λ u. IsRow u.row u.bytes.now (tree_at u.row u.bytes.now)) }
+{
+    match line_named(immediate, home, place.line) {
+        Some(line) => statement_on(line, usize::from(place.unit)),
+        None => None,
+    }
+}

@@ -1,0 +1,300 @@
+// What PRINT shows.
+ghost use Rattle.std.specs.Prelude.{◌≡◌, ◌==◌, ◌++◌, true, MatchResult, OnOk, IfOk, Ok};
+ghost use Rattle.b2_base.specs.Byte as byte;
+ghost use Rattle.b2_dectext.specs.Printed.{printed};
+ghost use Rattle.b2_atom.specs.Grammar.{starts};
+ghost use Rattle.b2_atom.specs.declared.words.Origin.TheVariants.{Atoms};
+ghost use Rattle.b2_atom.specs.declared.rows.TheConstants as row;
+ghost use Rattle.b2_atom.specs.declared.forms.Start.TheVariants as start;
+ghost use Rattle.b2_rows.specs.Rows.{is_part, tree_at, after_part};
+ghost use Rattle.b2_rows.specs.Optional.{maybe_part, maybe_tree, after_maybe};
+ghost use Rattle.b2_expr.specs.Functions.{counted, fixed};
+ghost use Rattle.b2_expr.specs.Scope.{surroundings};
+ghost use Rattle.b2_expr.specs.Value.{in_statement};
+ghost use Rattle.b2_stmt_io.specs.Printing as spec;
+ghost use Rattle.b2_stmt_io.specs.Printing.{Refused, ShowsItem, ShowsMaybe, placed, column_past, bytes_of, blanks_to, digits_of, laid, laid_after, column_after_items, newline_where, zone_where};
+
+use b2_atom::Cursor;
+use b2_atom::words::{HEXOF_OPEN, TAB_OPEN};
+use b2_base::codes::P34_RANGE;
+use b2_base::lexical::{dropped, first};
+use b2_base::{ByteList, Code, Fault, NoMemory};
+use b2_dec::{Bytes, Dec, fix, whole};
+use b2_expr::{Env, alpha, number};
+use b2_print::{Item, lay};
+use b2_rows::{is_alpha_at, is_at, is_numeric_at};
+use std::alloc::Global;
+
+/// The width of the terminal.
+const WIDTH: u16 = 80;
+
+/// Shows bytes at a column after a text, and gives the column after them.
+fn show_bytes(alloc: Global, bytes: &[u8], column: u16, out: &mut Vec<u8>) -> Result<u16, NoMemory>
+    ensures text { OnOk result (out.new.items ≡ out.old.items ++ placed column (bytes_of bytes.now)) }
+    ensures column { IfOk result (λ after. after ≡ column_past column (bytes_of bytes.now)) }
+{
+    lay(alloc, &[Item::Alpha(bytes)], column, WIDTH, out)
+}
+
+/// The same of a number in its printed form.
+fn show_number(alloc: Global, x: Dec, column: u16, out: &mut Vec<u8>) -> Result<u16, NoMemory>
+    ensures text { OnOk result (out.new.items ≡ out.old.items ++ placed column (bytes_of (printed x))) }
+    ensures column { IfOk result (λ after. after ≡ column_past column (bytes_of (printed x))) }
+{
+    lay(alloc, &[Item::Number(x)], column, WIDTH, out)
+}
+
+/// The same of each byte as two hexadecimal digits.
+fn show_digits(alloc: Global, bytes: &[u8], column: u16, out: &mut Vec<u8>) -> Result<u16, NoMemory>
+    ensures text { OnOk result (out.new.items ≡ out.old.items ++ placed column (digits_of bytes.now)) }
+    ensures column { IfOk result (λ after. after ≡ column_past column (digits_of bytes.now)) }
+{
+    lay(alloc, &[Item::Hex(bytes)], column, WIDTH, out)
+}
+
+/// The same of blanks up to a column.
+fn show_blanks(alloc: Global, to: u8, column: u16, out: &mut Vec<u8>) -> Result<u16, NoMemory>
+    ensures text { OnOk result (out.new.items ≡ out.old.items ++ placed column (blanks_to to)) }
+    ensures column { IfOk result (λ after. after ≡ column_past column (blanks_to to)) }
+{
+    lay(alloc, &[Item::Tab(to)], column, WIDTH, out)
+}
+
+/// Shows what a separator does after a text, and gives the column after it.
+fn show_separator(alloc: Global, mark: u8, column: u16, out: &mut Vec<u8>) -> Result<u16, NoMemory>
+    ensures text { OnOk result (out.new.items ≡ out.old.items ++ laid column (zone_where (mark == byte.comma))) }
+    ensures column { IfOk result (λ after. after ≡ column_after_items column (zone_where (mark == byte.comma))) }
+{
+    if mark == b',' {
+        lay(alloc, &[Item::Zone], column, WIDTH, out)
+    } else {
+        lay(alloc, &[], column, WIDTH, out)
+    }
+}
+
+/// Shows the newline at the end, where one belongs there.
+fn show_end(alloc: Global, line: bool, column: u16, out: &mut Vec<u8>) -> Result<(), NoMemory>
+    ensures { OnOk result (out.new.items ≡ out.old.items ++ laid column (newline_where line)) }
+{
+    if line {
+        lay(alloc, &[Item::Line], column, WIDTH, out)?;
+    }
+    Ok(())
+}
+
+/// A number without its fraction, None where that isn't a whole number of 64 bits.
+fn fixed(x: Dec) -> Option<i64>
+    ensures { result ≡ fixed x }
+{
+    whole(fix(x))
+}
+
+/// A number without its fraction, which must be from one number to another, else P34.
+fn counted(least: u8, most: u8, x: Dec) -> Result<u8, Code>
+    ensures { result ≡ counted least most x }
+{
+    match fixed(x) {
+        Some(n) if n >= i64::from(least) && n <= i64::from(most) => Ok(n as u8),
+        _ => Err(Code::known(P34_RANGE)),
+    }
+}
+
+/// Shows the blanks of TAB.
+#[tactic(auto, using(crate::proofs::PrintRows::tab_sum, crate::proofs::PrintRows::tab_is, crate::proofs::PrintRows::tab_rest))]
+fn tab_shown<'a>(
+    alloc: Global,
+    e: &Env<'_>,
+    column: u16,
+    text: &'a [u8],
+    out: &mut Vec<u8>,
+) -> Result<(u16, &'a [u8]), Fault>
+    requires part { is_part row.TAB text.now ≡ true }
+    ensures { ShowsItem (spec.tab_in (in_statement (surroundings e.now)) (tree_at row.TAB text.now)) (after_part row.TAB text.now) column out.old.items out.new.items result }
+{
+    let mut c = Cursor::over(dropped(text, 1));
+    let x = match number(&mut c, e) {
+        Ok(x) => x,
+        Err(code) => return Err(Fault::Code(code)),
+    };
+    let to = match counted(0, 255, x) {
+        Ok(to) => to,
+        Err(code) => return Err(Fault::Code(code)),
+    };
+    let after = show_blanks(alloc, to, column, out)?;
+    Ok((after, dropped(c.rest(), 1)))
+}
+
+/// Shows the digits of HEXOF.
+#[tactic(auto, using(crate::proofs::PrintRows::hex_alpha, crate::proofs::PrintRows::hex_is, crate::proofs::PrintRows::hex_rest))]
+fn hex_shown<'a>(
+    alloc: Global,
+    e: &Env<'_>,
+    column: u16,
+    text: &'a [u8],
+    out: &mut Vec<u8>,
+) -> Result<(u16, &'a [u8]), Fault>
+    requires part { is_part row.HEXOF text.now ≡ true }
+    ensures { ShowsItem (spec.hex_in (in_statement (surroundings e.now)) (tree_at row.HEXOF text.now)) (after_part row.HEXOF text.now) column out.old.items out.new.items result }
+{
+    let mut c = Cursor::over(dropped(text, 1));
+    let mut bytes = Bytes::new();
+    match alpha(&mut c, e, &mut bytes) {
+        Ok(()) => {}
+        Err(code) => return Err(Fault::Code(code)),
+    }
+    let after = show_digits(alloc, bytes.bytes(), column, out)?;
+    Ok((after, dropped(c.rest(), 1)))
+}
+
+/// Shows the bytes of an alpha expression.
+fn alpha_shown<'a>(
+    alloc: Global,
+    e: &Env<'_>,
+    column: u16,
+    text: &'a [u8],
+    out: &mut Vec<u8>,
+) -> Result<(u16, &'a [u8]), Fault>
+    requires part { is_part row.ALPHA text.now ≡ true }
+    ensures { ShowsItem (spec.alpha_in (in_statement (surroundings e.now)) (tree_at row.ALPHA text.now)) (after_part row.ALPHA text.now) column out.old.items out.new.items result }
+{
+    let mut c = Cursor::over(text);
+    let mut bytes = Bytes::new();
+    match alpha(&mut c, e, &mut bytes) {
+        Ok(()) => {}
+        Err(code) => return Err(Fault::Code(code)),
+    }
+    let after = show_bytes(alloc, bytes.bytes(), column, out)?;
+    Ok((after, c.rest()))
+}
+
+/// Shows a numeric expression.
+fn number_shown<'a>(
+    alloc: Global,
+    e: &Env<'_>,
+    column: u16,
+    text: &'a [u8],
+    out: &mut Vec<u8>,
+) -> Result<(u16, &'a [u8]), Fault>
+    requires part { is_part row.SUM text.now ≡ true }
+    ensures { ShowsItem (spec.number_in (in_statement (surroundings e.now)) (tree_at row.SUM text.now)) (after_part row.SUM text.now) column out.old.items out.new.items result }
+{
+    let mut c = Cursor::over(text);
+    let x = match number(&mut c, e) {
+        Ok(x) => x,
+        Err(code) => return Err(Fault::Code(code)),
+    };
+    let after = show_number(alloc, x, column, out)?;
+    Ok((after, c.rest()))
+}
+
+/// Shows an item of PRINT.
+#[tactic(auto, using(crate::proofs::PrintRows::item_tab, crate::proofs::PrintRows::item_tab_is, crate::proofs::PrintRows::item_tab_rest, crate::proofs::PrintRows::item_hex, crate::proofs::PrintRows::item_hex_is, crate::proofs::PrintRows::item_hex_rest, crate::proofs::PrintRows::item_alpha, crate::proofs::PrintRows::item_alpha_is, crate::proofs::PrintRows::item_alpha_rest, crate::proofs::PrintRows::item_number, crate::proofs::PrintRows::item_number_is, crate::proofs::PrintRows::item_number_rest))]
+fn item_shown<'a>(
+    alloc: Global,
+    e: &Env<'_>,
+    column: u16,
+    text: &'a [u8],
+    out: &mut Vec<u8>,
+) -> Result<(u16, &'a [u8]), Fault>
+    requires part { is_part row.PRINT_ITEM text.now ≡ true }
+    ensures { ShowsItem (spec.item_of (in_statement (surroundings e.now)) (tree_at row.PRINT_ITEM text.now)) (after_part row.PRINT_ITEM text.now) column out.old.items out.new.items result }
+{
+    if is_at(TAB_OPEN, text) {
+        return tab_shown(alloc, e, column, text, out);
+    }
+    if is_at(HEXOF_OPEN, text) {
+        return hex_shown(alloc, e, column, text, out);
+    }
+    if is_alpha_at(text) {
+        alpha_shown(alloc, e, column, text, out)
+    } else {
+        number_shown(alloc, e, column, text, out)
+    }
+}
+
+/// Whether an item of PRINT begins at a text.
+#[tactic(auto, unfolding(b2_atom::specs::Grammar::starts))]
+fn is_item_at(text: &[u8]) -> bool
+    ensures { result ≡ starts Atoms start.PrintItem text.now }
+{
+    let byte = first(text);
+    byte >= TAB_OPEN && byte <= HEXOF_OPEN || is_numeric_at(text) || is_alpha_at(text)
+}
+
+/// Whether a separator stands at a text.
+#[tactic(auto, unfolding(b2_atom::specs::Grammar::starts))]
+fn is_separator_at(text: &[u8]) -> bool
+    ensures { result ≡ starts Atoms (start.Two byte.comma byte.semicolon) text.now }
+{
+    is_at(b',', text) || is_at(b';', text)
+}
+
+/// Shows the item of PRINT that stands at a text, or nothing: gives the column after it, whether one stands there, and what
+/// stands after it.
+#[tactic(auto, using(crate::proofs::Printed::one_part, crate::proofs::Printed::one_shown, crate::proofs::Printed::one_past, crate::proofs::Printed::one_some, crate::proofs::Printed::one_refused, crate::proofs::Printed::one_rest, crate::proofs::Printed::none_shown, crate::proofs::Printed::none_past, crate::proofs::Printed::none_some, crate::proofs::Printed::none_rest))]
+fn item_or_none<'a>(
+    alloc: Global,
+    e: &Env<'_>,
+    column: u16,
+    text: &'a [u8],
+    out: &mut Vec<u8>,
+) -> Result<(u16, bool, &'a [u8]), Fault>
+    requires part { maybe_part start.PrintItem row.PRINT_ITEM text.now ≡ true }
+    ensures { ShowsMaybe (spec.item_at (in_statement (surroundings e.now)) (maybe_tree start.PrintItem row.PRINT_ITEM text.now)) (after_maybe start.PrintItem row.PRINT_ITEM text.now) column out.old.items out.new.items result }
+{
+    if !is_item_at(text) {
+        return Ok((column, false, text));
+    }
+    match item_shown(alloc, e, column, text, out) {
+        Ok((after, left)) => Ok((after, true, left)),
+        Err(fault) => Err(fault),
+    }
+}
+
+/// Shows the items of PRINT from a column on after a text, and a newline where no separator stands last.
+#[tactic(auto, using(crate::proofs::Printed::print_item, crate::proofs::Printed::print_list, crate::proofs::Printed::first_shown, crate::proofs::Printed::first_refused, crate::proofs::Printed::next_item, crate::proofs::Printed::next_list, crate::proofs::Printed::next_shorter, crate::proofs::Printed::next_shown, crate::proofs::Printed::next_refused, crate::proofs::Printed::all_shown))]
+fn show_items(
+    alloc: Global,
+    e: &Env<'_>,
+    column: u16,
+    unit: &[u8],
+    out: &mut Vec<u8>,
+) -> Result<(), Fault>
+    requires part { is_part row.PRINT unit.now ≡ true }
+    ensures { MatchResult result (λ done. laid_after out.old.items column (spec.items_in (in_statement (surroundings e.now)) (tree_at row.PRINT unit.now)) ≡ Ok out.new.items) (λ f. Refused (spec.items_in (in_statement (surroundings e.now)) (tree_at row.PRINT unit.now)) f) }
+{
+    let (mut at, _, mut left) = match item_or_none(alloc, e, column, dropped(unit, 1), out) {
+        Ok(shown) => shown,
+        Err(fault) => return Err(fault),
+    };
+    let mut line = true;
+    while is_separator_at(left) {
+        let zone = show_separator(alloc, first(left), at, out)?;
+        let (after, is_item, rest) = match item_or_none(alloc, e, zone, dropped(left, 1), out) {
+            Ok(shown) => shown,
+            Err(fault) => return Err(fault),
+        };
+        at = after;
+        line = is_item;
+        left = rest;
+    }
+    show_end(alloc, line, at, out)?;
+    Ok(())
+}
+
+/// What PRINT shows from a column on; or its first code.
+pub fn shown_by_print(
+    alloc: Global,
+    e: &Env<'_>,
+    column: u16,
+    unit: &[u8],
+) -> Result<ByteList, Fault>
+    requires part { is_part row.PRINT unit.now ≡ true }
+    ensures { MatchResult result (λ bytes. spec.prints (in_statement (surroundings e.now)) column (tree_at row.PRINT unit.now) ≡ Ok bytes) (λ f. Refused (spec.prints (in_statement (surroundings e.now)) column (tree_at row.PRINT unit.now)) f) }
+{
+    let mut out = Vec::new(alloc);
+    match show_items(alloc, e, column, unit, &mut out) {
+        Ok(()) => Ok(ByteList::new(out)),
+        Err(fault) => Err(fault),
+    }
+}

@@ -1,0 +1,44 @@
+// What is shown at a terminal, and what becomes of its column.
+ghost use Rattle.std.specs.Prelude.{◌≡◌, true, IfOk};
+ghost use Rattle.b2_atom.specs.declared.rows.TheConstants as row;
+ghost use Rattle.b2_rows.specs.Rows.{is_part, tree_at};
+ghost use Rattle.b2_expr.specs.Scope.{surroundings};
+ghost use Rattle.b2_expr.specs.Value.{in_statement};
+ghost use Rattle.b2_stmt_io.specs.Printing.{prints};
+ghost use Rattle.b2_stmt_io.specs.Showing as spec;
+
+use crate::ending::failing;
+use crate::printing::shown_by_print;
+use b2_access::{Access, Answer, Outcome, Planned, Private};
+use b2_base::NoMemory;
+use b2_expr::Env;
+use b2_print::column_after;
+use std::alloc::Global;
+
+/// What PRINT asks for: its items are evaluated, and then they are shown.
+#[tactic(auto, using(crate::proofs::Refusals::refused_so))]
+pub fn ask_print(alloc: Global, e: &Env<'_>, column: u16, unit: &[u8]) -> Result<Planned, NoMemory>
+    requires part { is_part row.PRINT unit.now ≡ true }
+    ensures { IfOk result (λ p. p ≡ spec.shows e.now.term (prints (in_statement (surroundings e.now)) column (tree_at row.PRINT unit.now))) }
+{
+    match shown_by_print(alloc, e, column, unit) {
+        Ok(bytes) => Ok(Planned::Ask(Access::Show {
+            term: e.term,
+            bytes,
+        })),
+        Err(fault) => Ok(Planned::Done(failing(fault)?)),
+    }
+}
+
+/// How PRINT and PRINTUSING finish.
+pub fn after_show(me: &mut Private, access: &Access, answer: &Answer) -> Outcome
+    ensures { record { me = me.new; outcome = result } ≡ spec.shown access.now answer.now me.old }
+{
+    match (access, answer) {
+        (Access::Show { bytes, .. }, Answer::Done) => {
+            me.term_column = column_after(me.term_column, bytes.bytes());
+            Outcome::Next
+        }
+        _ => Outcome::Repeat,
+    }
+}
