@@ -10,4 +10,3 @@ pub mod Asked
 pub mod Assignments
 pub mod Clearing
 pub mod Plan
-pub mod Homes
