@@ -1,5 +1,5 @@
 -- The world of a boot.
-use Rattle.std.specs.Prelude.{ℕ, ◌*◌, List, map}
+use Rattle.std.specs.Prelude.{ℕ, ◌*◌, map}
 use Rattle.b2_access.specs.declared.private.Private.{Private}
 use Rattle.b2_access.specs.Partition.{at_start}
 use Rattle.b2_access.specs.Store.{StoreState}

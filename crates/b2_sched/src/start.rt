@@ -42,10 +42,7 @@ pub fn areas_of(
 }
 
 /// Each terminal, with the partition in front of it.
-pub fn fronts_of(
-    alloc: Global,
-    terminals: &[BootTerminal],
-) -> Result<Vec<(Term, Part)>, NoMemory>
+pub fn fronts_of(alloc: Global, terminals: &[BootTerminal]) -> Result<Vec<(Term, Part)>, NoMemory>
     ensures { IfOk result (λ fronts. fronts.items ≡ map front_of terminals.now) }
 {
     let mut fronts = Vec::new(alloc);
