@@ -1,7 +1,6 @@
 -- That each partition that is present is the one of its number and has a text, in the world of a boot and after what happens.
 use Rattle.std.specs.Prelude.{◌≡◌, ◌≢◌, ℕ, ◌==◌, Bool, true, false, cond, List, [], ◌∷◌, map, Option, Some, None, is_some, option_map, IsSome, refl}
-use Rattle.std.proofs.Common.{sym, ap, subst, ◌∙◌, arith}
-use Rattle.std.proofs.lemmas.Bool.Decides.{nat_tests}
+use Rattle.std.proofs.Common.{sym, ap, subst, ◌∙◌}
 use Rattle.b2_access.specs.Contents.{row_same, row_other}
 use Rattle.b2_access.specs.Rows.{row_of, with_row}
 use Rattle.b2_access.specs.Store.{StoreState, content}
@@ -9,14 +8,9 @@ use Rattle.b2_access.specs.declared.objects.Object.TheVariants as object
 use Rattle.b2_access.specs.declared.private.Private.{Private}
 use Rattle.b2_boot.specs.declared.boot.BootPartition.{BootPartition}
 use Rattle.b2_store.specs.Start.{text_row}
+use Rattle.b2_sched.proofs.Numbers.{same_number, other_number}
 use Rattle.b2_sched.specs.Start.{private_row, areas_of}
 use Rattle.b2_sched.specs.World.{ArePresent}
-
-same_number : (p q : ℕ) → (p == q) ≡ true → p ≡ q
-same_number p q is = grind (arith, nat_tests)
-
-other_number : (p q : ℕ) → (p == q) ≡ false → p ≢ q
-other_number p q is = λ same. grind (arith, nat_tests)
 
 is_it : {A : Type 0} (a b : A) → Some a ≡ Some b → a ≡ b
 is_it a b e = cc

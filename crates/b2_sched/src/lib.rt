@@ -9,6 +9,7 @@
 //! of a boot in `Start`.
 #![tactic(auto)]
 
+pub mod laws;
 mod mock;
 mod start;
 mod world;
