@@ -1,0 +1,66 @@
+-- What the notes say of a list of steps.
+use Rattle.std.specs.Prelude.{◌≡◌, ◌≤◌, ◌==◌, ◌↔◌, ℕ, Bool, true, List, [], ◌∷◌, ◌++◌, if◌then◌else◌}
+use Rattle.b2_access.specs.declared.objects.Object.{Object}
+use Rattle.b2_access.specs.declared.objects.Object.TheVariants as object
+use Rattle.b2_access.specs.Store.{IsIn}
+use Rattle.b2_audit.specs.Marks.{Marks, noted, touch_all, write_all, at_start, is_clean}
+
+-- a step of a partition, with the objects that it touched and those that it wrote
+pub record Step : Type 0 where
+  pub who : ℕ
+  pub touched : List Object
+  pub written : List Object
+
+-- the notes with those of some steps
+abbrev pub marks_after : List Step → Marks → Marks
+marks_after [] m = m
+marks_after (x ∷ xs) m = marks_after xs (noted x.who x.touched x.written m)
+
+-- the members of a group of partitions
+abbrev pub Group : Type 0
+Group = ℕ → Bool
+
+-- what a step of another wrote, and what all steps of others wrote
+abbrev pub by_other : Group → Step → List Object
+by_other inside x = if inside x.who then [] else x.written
+
+abbrev pub foul : Group → List Step → List Object
+foul inside [] = []
+foul inside (x ∷ xs) = by_other inside x ++ foul inside xs
+
+-- A group is clean: none of its steps touches an object that a step of another wrote before.
+abbrev pub IsClean : Group → List Step → Type 0
+IsClean inside steps = (before after : List Step) (x : Step) → steps ≡ before ++ x ∷ after → inside x.who ≡ true
+    → (o : Object) → IsIn o x.touched → IsIn o (foul inside before) → ⊥
+
+-- the group of one partition
+abbrev pub just : ℕ → Group
+just p q = q == p
+
+abbrev pub IsPart : ℕ → Type 0
+IsPart p = (1 ≤ p) × (p ≤ 16)
+
+-- an object whose writers are noted
+abbrev pub IsNoted : Object → Type 0
+IsNoted (object.Text p) = IsPart p
+IsNoted (object.Borrow p) = IsPart p
+IsNoted (object.Globals p) = IsPart p
+IsNoted (object.Terminal t) = (1 ≤ t) × (t ≤ 12)
+IsNoted o = ⊥
+
+abbrev pub AreNoted : List Object → Type 0
+AreNoted os = (o : Object) → IsIn o os → IsNoted o
+
+-- steps of partitions, that touch and write such objects alone
+abbrev pub AreSteps : List Step → Type 0
+AreSteps [] = Unit {0}
+AreSteps (x ∷ xs) = IsPart x.who × AreNoted x.touched × AreNoted x.written × AreSteps xs
+
+-- the notes of steps say which partitions are clean
+abbrev pub NotesSayClean : Type 0
+NotesSayClean = (steps : List Step) (p : ℕ) → AreSteps steps → IsPart p → (is_clean p (marks_after steps at_start) ≡ true) ↔ IsClean (just p) steps
+
+-- what a partition touches after it wrote is judged by what was written before
+abbrev pub OwnWritesAreIdle : Type 0
+OwnWritesAreIdle = (who : ℕ) (touched written : List Object) (m : Marks) → IsPart who → AreNoted touched → AreNoted written
+    → touch_all who touched (write_all who written m) ≡ write_all who written (touch_all who touched m)
