@@ -9,3 +9,4 @@ pub mod Keys
 pub mod Step
 pub mod Turn
 pub mod Stays
+pub mod Touched

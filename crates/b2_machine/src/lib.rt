@@ -16,6 +16,7 @@
 
 mod ends;
 mod keys;
+pub mod laws;
 mod listed;
 mod messages;
 mod moving;

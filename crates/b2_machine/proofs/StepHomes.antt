@@ -1,0 +1,273 @@
+-- A step names no partition as a home but its own and those that were named before.
+use Rattle.std.proofs.Common.{◌≡◌, ℕ, ◌==◌, ◌∙◌, refl, sym, ap, nat_lt, Bool, true, false, not, if◌then◌else◌, List, [], ◌∷◌, length, Option, Some, None, is_some, Result, Ok, Err}
+use Rattle.std.specs.Prelude.{◌&&◌, ◌+◌, ◌-◌, ◌%◌, ◌^◌}
+use Rattle.std.proofs.Math.Nat.{zero-div}
+use Rattle.std.specs.Option.{option_map, option_and_then}
+use Rattle.b2_atom.specs.Tree.{Trees}
+use Rattle.b2_flow.specs.Frames.{is_immediate_loop}
+use Rattle.b2_flow.specs.Stacks.{most_frames}
+use Rattle.b2_flow.specs.declared.frame.Frame.{Frame}
+use Rattle.b2_flow.specs.declared.frame.Place.{Place}
+use Rattle.b2_rows.specs.Following.{taken_fault, unit_or_next}
+use Rattle.b2_rows.specs.declared.following.Goal.{Goal}
+use Rattle.b2_rows.specs.declared.following.Goal.TheVariants as goal
+use Rattle.b2_text.specs.Program.{Lines, number_after}
+use Rattle.b2_text.specs.Spots.{first_opening, is_mark}
+use Rattle.b2_text.specs.declared.spots.Spot.{Spot}
+use Rattle.b2_syntax.specs.Reading.{reads}
+use Rattle.b2_syntax.specs.declared.Entered.{Entered}
+use Rattle.b2_syntax.specs.declared.Entered.TheVariants as entered
+use Rattle.b2_syntax.specs.declared.LineErr.{LineErr}
+use Rattle.b2_syntax.specs.declared.LineErr.TheVariants as refusal
+use Rattle.b2_access.specs.Homes.{FinishesWithin, FrameIn, FramesIn, HomesIn, IsWithin, OutcomeIn, PlaceIn, PlannedIn, PlansWithin, is_marked}
+use Rattle.b2_access.specs.Lending.{SeenLent}
+use Rattle.b2_access.specs.Loans.{Loan}
+use Rattle.b2_access.specs.Partition.{is_ready, runs_program}
+use Rattle.b2_access.specs.Placed.{Statement, statement_at}
+use Rattle.b2_access.specs.Places.{goal_place, line_after, line_start}
+use Rattle.b2_access.specs.Planning.{Finishing, Planning}
+use Rattle.b2_access.specs.Sharing.{ServingOf}
+use Rattle.b2_access.specs.Store.{StoreState}
+use Rattle.b2_access.specs.declared.accesses.Access.{Access}
+use Rattle.b2_access.specs.declared.accesses.Access.TheVariants as access
+use Rattle.b2_access.specs.declared.accesses.Answer.{Answer}
+use Rattle.b2_access.specs.declared.accesses.Answer.TheVariants as answer
+use Rattle.b2_access.specs.declared.planned.Outcome.{Outcome}
+use Rattle.b2_access.specs.declared.planned.Outcome.TheVariants as outcome
+use Rattle.b2_access.specs.declared.planned.Planned.{Planned}
+use Rattle.b2_access.specs.declared.planned.Planned.TheVariants as planned
+use Rattle.b2_access.specs.declared.private.Private.{Private}
+use Rattle.b2_stmt.specs.Plan as stmt
+use Rattle.b2_stmt.proofs.HomesKept as stmt_homes
+use Rattle.b2_stmt_io.specs.Marks.{typed_by}
+use Rattle.b2_stmt_io.specs.Plan as stmt_io
+use Rattle.b2_stmt_io.proofs.HomesKept as stmt_io_homes
+use Rattle.b2_machine.specs.Endings.{Ending, counts, repeats}
+use Rattle.b2_machine.specs.Keys.{called_at, calls_where, pressed, pressed_by}
+use Rattle.b2_machine.specs.Listed.{lines_listed, lists, named_range}
+use Rattle.b2_machine.specs.Moving.{ends_by, enters_program, error_place, faults, goes_to, is_continue, is_taken, jumps, moves_to, next_place, units_at}
+use Rattle.b2_machine.specs.Readiness.{halted, readies, resets, without_immediate_loops}
+use Rattle.b2_machine.specs.Statements.{begins, begins_where, begun_by, builder_of, finish_by, finishes, plan_by, tree_where}
+use Rattle.b2_machine.specs.Step.{StepEnd, acts, carries_out, enters_or_goes_on, executes, halts_or_acts, lent, line_read, reads_line, runs_or_reads, seen_by, shows_or_goes_on, step, text_in, types_or_goes_on}
+use Rattle.b2_machine.specs.Touched.{Asking, StepsStayWithin, asking, asks_as_it_acts, asks_at, asks_nothing, asks_to_enter, asks_to_show, asks_to_type, asks_unless_halted}
+use Rattle.b2_machine.specs.Typing.{line_taken, on_own_line, put_by, shown_by, takes, takes_or_refuses, typed_by_key}
+use Rattle.b2_machine.specs.declared.ends.Stepped.{Stepped}
+use Rattle.b2_machine.specs.declared.statements.Builder.{Builder}
+use Rattle.b2_machine.specs.declared.statements.Builder.TheVariants as builder
+use Rattle.b2_machine.specs.declared.statements.Course.{Course}
+use Rattle.b2_machine.specs.declared.statements.Course.TheVariants as course
+use Rattle.b2_stmt_io.specs.Showing.{shown}
+
+either : {A : Type 0} (F : A → Type 0) (b : Bool) (x y : A) → F x → F y → F (if b then x else y)
+either F true x y h k = h
+either F false x y h k = k
+
+true_is_false : true ≡ false → ⊥
+true_is_false h = cc
+
+module _ (among : ℕ → Bool) where
+  abbrev Within : Private → Type 0
+  Within me = IsWithin among me
+
+  abbrev EndIn : Ending → Type 0
+  EndIn e = IsWithin among e.me
+
+  -- becoming ready
+  without_loops : (fs : List Frame) → FramesIn among fs → FramesIn among (without_immediate_loops fs)
+  without_loops [] h = tt
+  without_loops (f ∷ fs) h = either (FramesIn among) (not (is_immediate_loop f)) (f ∷ without_immediate_loops fs) (without_immediate_loops fs) (h.0, without_loops fs h.1) (without_loops fs h.1)
+
+  readied : (text : List ℕ) (me : Private) → Within me → Within (readies text me)
+  readied text me w = record { part = w.part; place = tt; kept = w.kept; frames = without_loops me.stack w.frames }
+
+  reset_in : (me : Private) → Within me → EndIn (resets me)
+  reset_in me w = record { part = w.part; place = tt; kept = tt; frames = tt }
+
+  halted_in : (me : Private) → Within me → EndIn (halted me)
+  halted_in me w = record { part = w.part; place = tt; kept = either (PlaceIn among) (runs_program me) me.place me.kept w.place w.kept; frames = without_loops me.stack w.frames }
+
+  -- what is shown, typed and entered
+  shown_in : (x : Access) (a : Answer) (me : Private) → Within me → EndIn (shown_by x a me)
+  shown_in (access.Show term bytes) answer.Done me w = record { part = w.part; place = w.place; kept = w.kept; frames = w.frames }
+  shown_in x a me w = w
+
+  typed_in : (a : Answer) (me : Private) → Within me → EndIn (typed_by_key a me)
+  typed_in answer.Done me w = record { part = w.part; place = w.place; kept = w.kept; frames = w.frames }
+  typed_in a me w = w
+
+  put_in : (a : Answer) (me : Private) → Within me → EndIn (put_by a me)
+  put_in answer.Done me w = record { part = w.part; place = w.place; kept = tt; frames = tt }
+  put_in (answer.Locked q) me w = record { part = w.part; place = w.place; kept = w.kept; frames = w.frames }
+  put_in (answer.Refused code) me w = record { part = w.part; place = w.place; kept = w.kept; frames = w.frames }
+  put_in a me w = w
+
+  takes_in : (e : Entered) (me : Private) → Within me → Within (takes e me)
+  takes_in entered.Empty me w = record { part = w.part; place = w.place; kept = w.kept; frames = w.frames }
+  takes_in (entered.Delete n) me w = record { part = w.part; place = w.place; kept = w.kept; frames = w.frames }
+  takes_in (entered.Numbered n atoms) me w = record { part = w.part; place = w.place; kept = w.kept; frames = w.frames }
+  takes_in (entered.Immediate atoms) me w = record { part = w.part; place = w.part; kept = w.kept; frames = w.frames }
+
+  taken_in : (r : Result Entered LineErr) (me : Private) → Within me → Within (takes_or_refuses r me)
+  taken_in (Ok e) me w = takes_in e me w
+  taken_in (Err (refusal.At code column)) me w = record { part = w.part; place = w.place; kept = w.kept; frames = w.frames }
+  taken_in (Err refusal.NoMemory) me w = w
+
+  line_in : (bytes : List ℕ) (me : Private) → Within me → Within (line_taken bytes me)
+  line_in bytes me w = taken_in (reads bytes) (record me { term_column = 0 }) (record { part = w.part; place = w.place; kept = w.kept; frames = w.frames })
+
+  -- special function keys
+  called_in : (o : Option Spot) (me : Private) → Within me → Within (calls_where o me)
+  called_in None me w = w
+  called_in (Some spot) me w =
+      either Within (nat_lt (length me.stack) most_frames) (called_at spot me) _
+      (record { part = w.part; place = w.part; kept = tt; frames = ((tt, tt), w.frames) })
+      (record { part = w.part; place = w.place; kept = w.kept; frames = w.frames })
+
+  pressed_in : (text : Option (List ℕ)) (o : Option Spot) (me : Private) → Within me → Within (pressed_by text o me)
+  pressed_in (Some text) o me w = record { part = w.part; place = w.place; kept = w.kept; frames = w.frames }
+  pressed_in None o me w = called_in o me w
+
+  -- where it goes on
+  after_by : (n : Option ℕ) (p : Place) → among p.home ≡ true → PlaceIn among (option_map (line_start p) n)
+  after_by None p h = tt
+  after_by (Some n) p h = h
+
+  after_line : (lines : Lines) (p : Place) → among p.home ≡ true → PlaceIn among (line_after lines p)
+  after_line lines p h = by p.line
+    where
+      by : (l : Option ℕ) → PlaceIn among (option_and_then (λ (n : ℕ). option_map (line_start p) (number_after (Some n) lines)) l)
+      by None = tt
+      by (Some n) = after_by (number_after (Some n) lines) p h
+
+  goal_in : (lines : Lines) (p : Place) (g : Goal) → among p.home ≡ true → PlaceIn among (goal_place lines p g)
+  goal_in lines p (goal.Unit k) h = h
+  goal_in lines p (goal.Line n) h = h
+  goal_in lines p goal.NextLine h = after_line lines p h
+
+  next_in : (p : Place) (me : Private) (home : Lines) → among p.home ≡ true → PlaceIn among (next_place p me home)
+  next_in p me home h = goal_in home p (unit_or_next (p.unit + 1) (units_at p me home)) h
+
+  goes_in : (o : Option Place) (me : Private) → PlaceIn among o → Within me → EndIn (goes_to o me)
+  goes_in None me h w = readied _ me w
+  goes_in (Some q) me h w = record { part = w.part; place = h; kept = w.kept; frames = w.frames }
+
+  jumped_in : (p q : Place) (me : Private) (home : Lines) → among q.home ≡ true → Within me → Within (jumps p q me home)
+  jumped_in p q me home h w =
+      either Within (not (is_some p.line) && is_some q.line) (enters_program (is_continue (statement_at p me.immediate home)) q me) (moves_to q me)
+      (record { part = w.part; place = h; kept = tt; frames = without_loops me.stack w.frames })
+      (record { part = w.part; place = h; kept = w.kept; frames = w.frames })
+
+  faulted_in : (code : ℕ) (o : Option Place) (p : Place) (me : Private) → PlaceIn among o → Within me → EndIn (faults code o p me)
+  faulted_in code None p me h w = record { part = w.part; place = tt; kept = w.kept; frames = without_loops me.stack w.frames }
+  faulted_in code (Some q) p me h w = record { part = w.part; place = h; kept = w.kept; frames = w.frames }
+
+  unit_in : (o : Option ℕ) (p : Place) → among p.home ≡ true → PlaceIn among (option_map (λ k. record p { unit = k }) o)
+  unit_in None p h = tt
+  unit_in (Some k) p h = h
+
+  error_in : (code : ℕ) (p : Place) (me : Private) (home : Lines) → among p.home ≡ true → PlaceIn among (error_place code p me home)
+  error_in code p me home h = either (PlaceIn among) (is_taken code) _ None (unit_in (taken_fault p.unit (units_at p me home)) p h) tt
+
+  ends_in : (same : Stepped) (o : Outcome) (p : Place) (me : Private) (home : Lines) → among p.home ≡ true → OutcomeIn among o → Within me → EndIn (ends_by same o p me home)
+  ends_in same outcome.Next p me home h k w = goes_in (next_place p me home) me (next_in p me home h) w
+  ends_in same (outcome.Jump q) p me home h k w = jumped_in p q me home k w
+  ends_in same (outcome.Failed code) p me home h k w = faulted_in code (error_place code p me home) p me (error_in code p me home h) w
+  ends_in same outcome.Repeat p me home h k w = w
+  ends_in same outcome.Break p me home h k w = goes_in (next_place p me home) me (next_in p me home h) w
+  ends_in same outcome.Ready p me home h k w = readied _ me w
+
+  -- statements
+  abbrev PlanningIn : Planning → Type 0
+  PlanningIn x = IsWithin among x.me × PlannedIn among x.planned
+
+  show_marks_none : (term : ℕ) (bytes : List ℕ) → HomesIn among (access.Show term bytes)
+  show_marks_none term bytes h is = absurd (true_is_false (sym is ∙ ap (λ (n : ℕ). n % 2 == 1) (zero-div (2 ^ (h - 1)))))
+
+  listed_in : (b : Bool) (t : Trees) (me : Private) (s : SeenLent) → Within me → PlanningIn (lists b t me s)
+  listed_in true t me s w = (w, tt)
+  listed_in false t me s w = (w, show_marks_none me.term (lines_listed (named_range t) s.own.lines))
+
+  planned_in : (b : Builder) (p : Place) (me : Private) (s : SeenLent) → Within me → PlanningIn (plan_by b p me s)
+  planned_in builder.Listing p me s w = listed_in (is_some p.line) (tree_where (statement_at p me.immediate s.home.lines)) me s w
+  planned_in builder.Control p me s w = stmt_homes.plans_within among me s w
+  planned_in builder.Terminal p me s w = stmt_io_homes.plans_within among me s w
+  planned_in builder.Nobody p me s w = (w, tt)
+
+  begun_in : (x : Planned) (b : Builder) (p : Place) (me : Private) (home : Lines) → among p.home ≡ true → PlannedIn among x → Within me → Within (begun_by x b p me home).me
+  begun_in (planned.Done o) b p me home h k w = ends_in counts o p me home h k w
+  begun_in (planned.Ask a) b p me home h k w = w
+
+  begins_in : (u : Option Statement) (p : Place) (me : Private) (s : SeenLent) → among p.home ≡ true → Within me → Within (begins_where u p me s).me
+  begins_in None p me s h w = readied _ me w
+  begins_in (Some u) p me s h w =
+      let x = planned_in (builder_of u) p me s w in
+      begun_in (plan_by (builder_of u) p me s).planned (builder_of u) p (plan_by (builder_of u) p me s).me s.home.lines h x.1 x.0
+
+  abbrev FinishingIn : Finishing → Type 0
+  FinishingIn x = IsWithin among x.me × OutcomeIn among x.outcome
+
+  show_ended : (x : Access) (a : Answer) (me : Private) → Within me → IsWithin among (shown x a me).me × OutcomeIn among (shown x a me).outcome
+  show_ended (access.Show term bytes) answer.Done me w = (record { part = w.part; place = w.place; kept = w.kept; frames = w.frames }, tt)
+  show_ended x a me w = (w, tt)
+
+  finish_in : (b : Builder) (x : Access) (a : Answer) (me : Private) (s : SeenLent) → Within me → FinishingIn (finish_by b x a me s)
+  finish_in builder.Listing x a me s w = show_ended x a me w
+  finish_in builder.Control x a me s w = stmt_homes.finishes_within among x a me s w
+  finish_in builder.Terminal x a me s w = stmt_io_homes.finishes_within among x a me s w
+  finish_in builder.Nobody x a me s w = (w, tt)
+
+  finished_in : (b : Builder) (x : Access) (a : Answer) (p : Place) (me : Private) (s : SeenLent) → among p.home ≡ true → Within me → EndIn (finishes b x a p me s)
+  finished_in b x a p me s h w =
+      let y = finish_in b x a me s w in
+      ends_in (repeats a) (finish_by b x a me s).outcome p (finish_by b x a me s).me s.home.lines h y.1 y.0
+
+  module _ {M : Type 0} (store : M → StoreState) (serving : ServingOf M) (lending : Loan M) where
+    -- after a step, and whoever asked
+    abbrev StepIn : StepEnd M → Asking → Type 0
+    StepIn e asks = IsWithin among e.me × (among asks.who ≡ true)
+
+    by_test : (b : Bool) (e f : StepEnd M) (x y : Asking) → StepIn e x → StepIn f y → StepIn (if b then e else f) (if b then x else y)
+    by_test true e f x y h k = h
+    by_test false e f x y h k = k
+
+    read_in : (x : Answer) (me : Private) (m : M) → Within me → Within (line_read store serving lending x me m).me
+    read_in (answer.Line bytes) me m w = line_in bytes me w
+    read_in (answer.Special n) me m w = pressed_in (typed_by n (text_in (store m) me.part).lines) (first_opening (is_mark n) (text_in (store m) me.part).lines) me w
+    read_in x me m w = w
+
+    carried_in : (c : Course) (p : Place) (me : Private) (m : M) → among p.home ≡ true → Within me → Within (carries_out store serving lending c p me m).me
+    carried_in (course.Ended e) p me m h w = w
+    carried_in (course.Asks a b) p me m h w = finished_in b a (serving m me.part a).answer p me (seen_by me (store (serving m me.part a).after)) h w
+
+    at_place : (x : Option Place) (me : Private) (m : M) → PlaceIn among x → Within me → StepIn (runs_or_reads store serving lending x me m) (asks_at x me (store m))
+    at_place None me m h w = (read_in (serving m me.part (access.ReadLine me.term)).answer me (serving m me.part (access.ReadLine me.term)).after w, w.part)
+    at_place (Some p) me m h w =
+        let b = begins p me (seen_by me (store m)) in
+        let x = begins_in (statement_at p me.immediate (seen_by me (store m)).home.lines) p me (seen_by me (store m)) h w in
+        (carried_in b.course p b.me (lent store serving lending me m) h x, x.part)
+
+    at_number : (x : Option (ℕ × Option (List ℕ))) (me : Private) (m : M) → Within me → StepIn (enters_or_goes_on store serving lending x me m) (asks_to_enter x me (store m))
+    at_number (Some line) me m w = (put_in _ (record me { numbered = None }) (record { part = w.part; place = w.place; kept = w.kept; frames = w.frames }), w.part)
+    at_number None me m w = at_place me.place me m w.place w
+
+    at_literal : (x : Option (List ℕ)) (me : Private) (m : M) → Within me → StepIn (types_or_goes_on store serving lending x me m) (asks_to_type x me (store m))
+    at_literal (Some text) me m w = (typed_in _ me w, w.part)
+    at_literal None me m w = at_number me.numbered me m w
+
+    at_output : (x : Option (List ℕ × List ℕ)) (me : Private) (m : M) → Within me → StepIn (shows_or_goes_on store serving lending x me m) (asks_to_show x me (store m))
+    at_output (Some text) me m w = (shown_in (access.Show me.term (on_own_line me.term_column text.1)) _ me w, w.part)
+    at_output None me m w = at_literal me.literal me m w
+
+    at_halt : (me : Private) (m : M) → Within me → StepIn (halts_or_acts store serving lending me m) (asks_unless_halted me (store m))
+    at_halt me m w =
+        by_test (is_ready me) _ _ _ _
+        (at_output me.pending (record me { halt = false }) m (record { part = w.part; place = w.place; kept = w.kept; frames = w.frames }))
+        (halted_in me w, w.part)
+
+    step_in : (me : Private) (m : M) → Within me → StepIn (step store serving lending me m) (asking me (store m))
+    step_in me m w =
+        by_test me.reset _ _ _ _ (reset_in me w, w.part)
+        (by_test me.halt _ _ _ _ (at_halt me m w) (at_output me.pending me m w))
+
+pub steps_stay_within : {M : Type 0} (store : M → StoreState) (serving : ServingOf M) (lending : Loan M) → StepsStayWithin store serving lending
+steps_stay_within store serving lending among me m w = step_in among store serving lending me m w

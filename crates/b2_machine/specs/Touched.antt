@@ -1,0 +1,121 @@
+-- What a step touches and writes: the own text, and what its access touches and writes.
+use Rattle.std.specs.Prelude.{◌≡◌, ℕ, Bool, true, false, List, [], ◌∷◌, Option, Some, None, if◌then◌else◌}
+use Rattle.b2_flow.specs.declared.frame.Place.{Place}
+use Rattle.b2_access.specs.Homes.{IsWithin}
+use Rattle.b2_access.specs.Loans.{Loan}
+use Rattle.b2_access.specs.Partition.{is_ready}
+use Rattle.b2_access.specs.Sharing.{ServingOf, writes}
+use Rattle.b2_access.specs.Store.{StoreState, AgreeOn, IsIn, content}
+use Rattle.b2_access.specs.Touching.{touched}
+use Rattle.b2_access.specs.declared.accesses.Access.{Access}
+use Rattle.b2_access.specs.declared.accesses.Access.TheVariants as access
+use Rattle.b2_access.specs.declared.objects.Object.{Object}
+use Rattle.b2_access.specs.declared.objects.Object.TheVariants as object
+use Rattle.b2_access.specs.declared.private.Private.{Private}
+use Rattle.b2_machine.specs.Statements.{Begun, begins}
+use Rattle.b2_machine.specs.Step.{StepEnd, seen_by, step}
+use Rattle.b2_machine.specs.Typing.{on_own_line, puts_numbered}
+use Rattle.b2_machine.specs.declared.statements.Course.{Course}
+use Rattle.b2_machine.specs.declared.statements.Course.TheVariants as course
+
+-- who asks, and the access that is asked for: None where a step asks for none
+pub record Asking : Type 0 where
+  pub who : ℕ
+  pub access : Option Access
+
+abbrev pub asks_nothing : Private → Asking
+asks_nothing me = record { who = me.part; access = None }
+
+abbrev pub asks_one : Access → Private → Asking
+asks_one a me = record { who = me.part; access = Some a }
+
+-- a statement has ended, or it asks
+abbrev pub access_of : Course → Option Access
+access_of (course.Ended e) = None
+access_of (course.Asks a b) = Some a
+
+abbrev pub begun_asks : Begun → Asking
+begun_asks b = record { who = b.me.part; access = access_of b.course }
+
+-- the sixth rule and the fourth: the statement at the place asks, or a line is read
+abbrev pub asks_at : Option Place → Private → StoreState → Asking
+asks_at None me s = asks_one (access.ReadLine me.term) me
+asks_at (Some p) me s = begun_asks (begins p me (seen_by me s))
+
+-- the fifth: a numbered line is put
+abbrev pub asks_to_enter : Option (ℕ × Option (List ℕ)) → Private → StoreState → Asking
+asks_to_enter (Some line) me s = asks_one (puts_numbered line) me
+asks_to_enter None me s = asks_at me.place me s
+
+-- the fourth: a literal is typed
+abbrev pub asks_to_type : Option (List ℕ) → Private → StoreState → Asking
+asks_to_type (Some text) me s = asks_one (access.Insert me.term text) me
+asks_to_type None me s = asks_to_enter me.numbered me s
+
+-- the third: pending output is shown
+abbrev pub asks_to_show : Option (List ℕ × List ℕ) → Private → StoreState → Asking
+asks_to_show (Some shown) me s = asks_one (access.Show me.term (on_own_line me.term_column shown.1)) me
+asks_to_show None me s = asks_to_type me.literal me s
+
+abbrev pub asks_as_it_acts : Private → StoreState → Asking
+asks_as_it_acts me s = asks_to_show me.pending me s
+
+-- the second and the first: a halt and a reset ask for nothing
+abbrev pub asks_unless_halted : Private → StoreState → Asking
+asks_unless_halted me s = if is_ready me then asks_as_it_acts (record me { halt = false }) s else asks_nothing me
+
+-- WHAT A STEP ASKS FOR
+abbrev pub asking : Private → StoreState → Asking
+asking me s =
+    if me.reset then asks_nothing me
+    else (if me.halt then asks_unless_halted me s
+    else asks_as_it_acts me s)
+
+abbrev pub touched_where : Option Access → ℕ → StoreState → List Object
+touched_where None who s = []
+touched_where (Some a) who s = touched s who a
+
+-- Each step touches the own text, which is lent to statements; so long as no names of global texts come, it is that of the home.
+-- It is lent again to whoever asked.
+abbrev pub touched_by : ℕ → Asking → StoreState → List Object
+touched_by part x s = object.Text part ∷ object.Text x.who ∷ touched_where x.access x.who s
+
+-- THE OBJECTS THAT A STEP TOUCHES
+abbrev pub step_touched : Private → StoreState → List Object
+step_touched me s = touched_by me.part (asking me s) s
+
+module _ {M : Type 0} (store : M → StoreState) (serving : ServingOf M) where
+  abbrev pub written_where : Option Access → ℕ → M → List Object
+  written_where None who m = []
+  written_where (Some a) who m = writes store serving m who a
+
+  abbrev pub written_for : Asking → M → List Object
+  written_for x m = written_where x.access x.who m
+
+  -- THOSE THAT IT WRITES, by the answer to its access
+  abbrev pub step_written : Private → M → List Object
+  step_written me m = written_for (asking me (store m)) m
+
+  -- A step of a partition by what it asks for, from two meanings: the lists, the private state, the end, and the contents of what
+  -- it writes are the same.
+  pub record GoesAlike (part : ℕ) (asks : StoreState → Asking) (goes : M → StepEnd M) (m n : M) : Type 0 where
+    pub touches : touched_by part (asks (store m)) (store m) ≡ touched_by part (asks (store n)) (store n)
+    pub wrote : written_for (asks (store m)) m ≡ written_for (asks (store n)) n
+    pub own : (goes m).me ≡ (goes n).me
+    pub end : (goes m).end ≡ (goes n).end
+    pub contents : AgreeOn (written_for (asks (store m)) m) (store (goes m).after) (store (goes n).after)
+
+  -- From two meanings that agree on what it touches a step goes alike; all that it doesn't write stays; and what it writes it
+  -- touches.
+  pub record GoesLocally (part : ℕ) (asks : StoreState → Asking) (goes : M → StepEnd M) : Type 0 where
+    pub alike : (m n : M) → AgreeOn (touched_by part (asks (store m)) (store m)) (store m) (store n) → GoesAlike part asks goes m n
+    pub others : (m : M) (o : Object) → (IsIn o (written_for (asks (store m)) m) → ⊥) → content (store (goes m).after) o ≡ content (store m) o
+    pub within : (m : M) (o : Object) → IsIn o (written_for (asks (store m)) m) → IsIn o (touched_by part (asks (store m)) (store m))
+
+  -- A STEP IS LOCAL
+  abbrev pub StepsAreLocal : Loan M → Type 0
+  StepsAreLocal lending = (me : Private) → GoesLocally me.part (asking me) (step store serving lending me)
+
+  -- A step names no partition as a home, and asks as none, but its own and those that were named before.
+  abbrev pub StepsStayWithin : Loan M → Type 0
+  StepsStayWithin lending = (among : ℕ → Bool) (me : Private) (m : M) → IsWithin among me → IsWithin among (step store serving lending me m).me × (among (asking me (store m)).who ≡ true)

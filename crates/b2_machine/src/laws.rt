@@ -1,0 +1,16 @@
+//! What holds of steps over any store: each law is the contract of a function without a body.
+ghost use Rattle.b2_machine.specs.Touched.{StepsAreLocal, StepsStayWithin};
+
+use b2_access::Shared;
+
+/// A step is local: from two meanings that agree on what it touches the partition, the end of the step and what it writes are
+/// the same; what it doesn't write stays; and what it writes it touches.
+pub fn law_a_step_is_local<S: Shared>()
+    ensures { StepsAreLocal S.store S.serving S.lending }
+{}
+
+/// A step names no partition as a home, in a place or in a frame, and asks as none, but its own and those that were named
+/// before.
+pub fn law_a_step_stays_within<S: Shared>()
+    ensures { StepsStayWithin S.store S.serving S.lending }
+{}
