@@ -12,6 +12,8 @@
 pub mod laws;
 mod mock;
 mod start;
+#[cfg(test)]
+mod tests;
 mod world;
 
 pub use world::World;
