@@ -10,7 +10,6 @@
 #![tactic(auto)]
 
 pub mod laws;
-mod mock;
 mod start;
 #[cfg(test)]
 mod tests;
