@@ -37,7 +37,7 @@ const STEPS: &[u8] = b"quota=1|terminal=[{number=1,front=1},{number=2,front=2}]|
 
 const SHARED: &[u8] = b"quota=20|terminal=[{number=1,front=1}]|partition=[{number=1,terminal=1,text=8,data=8,globals=2},{number=2,terminal=1,text=8,data=8,globals=2}]";
 
-const ROWS: [Row; 16] = [
+const ROWS: [Row; 17] = [
     Row {
         setting: Setting::One,
         log: b"",
@@ -121,6 +121,16 @@ const ROWS: [Row; 16] = [
         log: b"type 2 PRINT 2|turn 2 2|turn 1 9|turn 2 1|",
         shown: [b"READY|:", b"READY|:PRINT 2| 2 |"],
         counts: [3, 4, 0],
+    },
+    // Two clerks: each is asked for a number, and the second answers first.
+    Row {
+        setting: Setting::Steps,
+        log: b"type 1 10 INPUT A:PRINT A*2|type 2 10 INPUT A:PRINT A*3|type 1 RUN|type 2 RUN|rounds 20|type 2 5|rounds 2|type 1 4|rounds 9|",
+        shown: [
+            b"READY|:10 INPUT A:PRINT A*2|:RUN|? 4| 8 |:",
+            b"READY|:10 INPUT A:PRINT A*3|:RUN|? 5| 15 |:",
+        ],
+        counts: [62, 20, 0],
     },
     // A halt of one leaves the other.
     Row {

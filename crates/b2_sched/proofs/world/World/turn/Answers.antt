@@ -1,4 +1,4 @@
-use Rattle.std.proofs.Common.{◌≡◌, sym, ◌∙◌}
+use Rattle.std.proofs.Common.{sym, ◌∙◌}
 use Rattle.b2_access.specs.declared.objects.Object.TheVariants as object
 use Rattle.b2_store.specs.Meaning.{store_of}
 use Rattle.b2_sched.proofs.Present.{still_present}
