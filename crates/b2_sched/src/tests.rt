@@ -29,13 +29,17 @@ struct Row {
     counts: [u64; 3],
 }
 
-const ONE: &[u8] = b"quota=20|terminal=[{number=1,front=1}]|partition=[{number=1,terminal=1,text=8,data=8,globals=2}]";
+const ONE: &[u8] =
+    b"quota=20|terminal=[{number=1,front=1}]|partition=[{number=1,terminal=1,text=8,data=8,globals=2}]";
 
-const TWO: &[u8] = b"quota=20|terminal=[{number=2,front=2},{number=1,front=1}]|partition=[{number=2,terminal=2,text=8,data=8,globals=2},{number=1,terminal=1,text=8,data=8,globals=2}]";
+const TWO: &[u8] =
+    b"quota=20|terminal=[{number=2,front=2},{number=1,front=1}]|partition=[{number=2,terminal=2,text=8,data=8,globals=2},{number=1,terminal=1,text=8,data=8,globals=2}]";
 
-const STEPS: &[u8] = b"quota=1|terminal=[{number=1,front=1},{number=2,front=2}]|partition=[{number=1,terminal=1,text=8,data=8,globals=2},{number=2,terminal=2,text=8,data=8,globals=2}]";
+const STEPS: &[u8] =
+    b"quota=1|terminal=[{number=1,front=1},{number=2,front=2}]|partition=[{number=1,terminal=1,text=8,data=8,globals=2},{number=2,terminal=2,text=8,data=8,globals=2}]";
 
-const SHARED: &[u8] = b"quota=20|terminal=[{number=1,front=1}]|partition=[{number=1,terminal=1,text=8,data=8,globals=2},{number=2,terminal=1,text=8,data=8,globals=2}]";
+const SHARED: &[u8] =
+    b"quota=20|terminal=[{number=1,front=1}]|partition=[{number=1,terminal=1,text=8,data=8,globals=2},{number=2,terminal=1,text=8,data=8,globals=2}]";
 
 const ROWS: [Row; 17] = [
     Row {
