@@ -1,14 +1,13 @@
 -- The laws of a world.
-use Rattle.std.specs.Prelude.{◌≡◌, ◌≢◌, ℕ, zero, suc, ◌+◌, ◌-◌, ◌*◌, ◌^◌, ◌<◌, ◌==◌, min, Bool, true, false, List, [], ◌∷◌, ◌++◌, Option, Some, None, is_some, option_map, refl, if◌then◌else◌}
+use Rattle.std.specs.Prelude.{◌≡◌, ◌≢◌, ℕ, zero, suc, ◌+◌, ◌*◌, ◌^◌, ◌<◌, ◌==◌, Bool, true, false, List, [], ◌∷◌, Option, Some, None, is_some, option_map, refl, if◌then◌else◌}
 use Rattle.std.proofs.Common.{sym, ap, subst, ◌∙◌, arith}
 use Rattle.b2_access.specs.Contents.{row_same, row_other}
 use Rattle.b2_access.specs.Rows.{row_of, with_row}
 use Rattle.b2_access.specs.declared.private.Private.{Private}
-use Rattle.b2_boot.specs.declared.log.Event.{Event}
 use Rattle.b2_sched.proofs.Folds.{does_append, all_keep_quota}
 use Rattle.b2_sched.proofs.Numbers.{same_number, other_number}
 use Rattle.b2_sched.specs.Laws.{all_actions, RunsByActions, LeavesOthers, KeepsPresent, present_from, present, CountsTurns}
-use Rattle.b2_sched.specs.World.{WorldState, Action, Key, Front, Halt, Reset, Turn, private_of, counted, row_changed, changed, halted, reset, turn_of, after_turn, turned, actions, does, does_all, turns_from, rounds, happens, ran}
+use Rattle.b2_sched.specs.World.{WorldState, Action, Key, Front, Halt, Reset, Turn, private_of, counted, row_changed, halted, reset, turn_of, turned, actions, does, does_all, turns_from, rounds, happens}
 
 -- a run is its actions
 pub by_actions : RunsByActions
