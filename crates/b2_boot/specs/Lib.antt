@@ -2,3 +2,4 @@ pub mod Rows
 pub mod Boots
 pub mod LogLines
 pub mod Logs
+pub mod Alone

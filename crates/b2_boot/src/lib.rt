@@ -14,6 +14,7 @@
 //! event of a log is.
 #![tactic(auto)]
 
+mod alone;
 mod boot;
 mod boot_file;
 mod log;

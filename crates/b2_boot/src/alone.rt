@@ -1,0 +1,53 @@
+// A boot with a group of partitions alone.
+ghost use Rattle.std.specs.Prelude.{◌≡◌, IfOk, filter};
+ghost use Rattle.b2_boot.specs.Alone.{alone, is_listed};
+
+use crate::boot::{Boot, BootPartition, BootTerminal};
+use b2_base::{NoMemory, Part};
+use std::alloc::Global;
+
+impl Boot {
+    /// The boot with a group of partitions alone: those that it doesn't list are dropped, and all else stays, fronts included.
+    pub fn alone(&self, alloc: Global, group: &[Part]) -> Result<Boot, NoMemory>
+        ensures alone { IfOk result (λ b. b ≡ alone (is_listed group.now) self.now) }
+    {
+        Ok(Boot {
+            quota: self.quota,
+            terminals: copied(alloc, &self.terminals)?,
+            partitions: members(alloc, &self.partitions, group)?,
+        })
+    }
+}
+
+/// Whether a group lists a partition.
+fn is_listed(group: &[Part], part: Part) -> bool
+    ensures { result ≡ is_listed group.now part }
+{
+    group.iter().any(|p| *p == part)
+}
+
+/// All terminals.
+fn copied(alloc: Global, terminals: &[BootTerminal]) -> Result<Vec<BootTerminal>, NoMemory>
+    ensures { IfOk result (λ copies. copies.items ≡ terminals.now) }
+{
+    let mut copies = Vec::new(alloc);
+    copies.extend_from_slice(terminals)?;
+    Ok(copies)
+}
+
+/// The partitions that a group lists.
+fn members(
+    alloc: Global,
+    partitions: &[BootPartition],
+    group: &[Part],
+) -> Result<Vec<BootPartition>, NoMemory>
+    ensures { IfOk result (λ members. members.items ≡ filter (λ p. is_listed group.now p.number) partitions.now) }
+{
+    let mut members = Vec::new(alloc);
+    for p in partitions {
+        if is_listed(group, p.number) {
+            members.push(*p)?;
+        }
+    }
+    Ok(members)
+}
