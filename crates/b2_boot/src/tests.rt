@@ -1,8 +1,9 @@
-// What no clause says: that the checks are those which the formats want, by files and logs with their answers.
+// What no clause says: that the checks are those which the formats want, by files and logs with their answers; and which partitions a group leaves in a boot.
 use b2_base::{NoMemory, cut};
 use std::alloc::Global;
 use std::test::Fail;
 
+mod alone;
 mod boot_files;
 mod logs;
 
@@ -11,6 +12,7 @@ mod logs;
 enum Kind {
     BootFile,
     Log,
+    Group,
 }
 
 // In the text of a row `;` stands for a newline, and `T` and `P` in a boot file for a terminal and a partition that pass.
@@ -37,6 +39,7 @@ fn answer(alloc: Global, kind: Kind, text: &[u8]) -> Result<Vec<u8>, Fail> {
     match kind {
         Kind::BootFile => boot_files::check_of(alloc, text),
         Kind::Log => logs::line_and_check_of(alloc, text),
+        Kind::Group => alone::left_of(alloc, text),
     }
 }
 
