@@ -2,3 +2,9 @@ pub mod Present
 pub mod Folds
 pub mod Numbers
 pub mod Lasting
+pub mod Foul
+pub mod GroupTurns
+pub mod GroupRows
+pub mod GroupRuns
+pub mod AloneBoots
+pub mod OwnObjects

@@ -1,3 +1,4 @@
 pub mod World
 pub mod Start
 pub mod Laws
+pub mod Groups

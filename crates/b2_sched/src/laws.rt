@@ -1,4 +1,5 @@
 //! What holds of every world: each law is the contract of a function without a body.
+ghost use Rattle.b2_sched.specs.Groups.{CleanGroupsAreAsAlone, GroupsRelyOnTheirOwn, TurnsChangeTheirOwn};
 ghost use Rattle.b2_sched.specs.Laws.{RunsByActions, LeavesOthers, KeepsPresent, CountsTurns};
 
 /// A run is one list of actions, of which each is a key, a front, a halt, a reset or a turn.
@@ -19,4 +20,21 @@ pub fn law_the_same_are_present()
 /// In each round every partition that is present has one turn, and no other has one.
 pub fn law_a_round_has_a_turn_of_each()
     ensures { CountsTurns }
+{}
+
+/// A group of partitions is clean where none of its steps touches what a step of another wrote before. Whatever a world and that
+/// of a clean group alone have in common, they have so after any log, but for what others wrote.
+pub fn law_a_clean_group_relies_on_its_own()
+    ensures { GroupsRelyOnTheirOwn }
+{}
+
+/// What a clean group can rely on: after any log each member has the own state, and each object that no other wrote has the
+/// contents, that they have in the world booted with the group alone under the same log. What belongs to others isn't compared.
+pub fn law_a_clean_group_is_as_alone()
+    ensures { CleanGroupsAreAsAlone }
+{}
+
+/// No turn of a partition changes what belongs to another: its text, who stands inside, and its `@` variables.
+pub fn law_a_turn_changes_its_own()
+    ensures { TurnsChangeTheirOwn }
 {}

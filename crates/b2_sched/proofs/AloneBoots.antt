@@ -1,0 +1,98 @@
+-- The world of a boot and that of the boot with a group alone.
+use Rattle.std.specs.Prelude.{◌≡◌, ℕ, ◌==◌, Bool, true, false, cond, List, [], ◌∷◌, filter, map, Option, Some, None, is_some, refl}
+use Rattle.std.proofs.Common.{sym, ap, subst, ◌∙◌}
+use Rattle.b2_access.specs.Homes.{IsWithin}
+use Rattle.b2_access.specs.Rows.{row_of}
+use Rattle.b2_access.specs.Store.{content, IsIn}
+use Rattle.b2_access.specs.declared.objects.Object.{Object}
+use Rattle.b2_access.specs.declared.objects.Object.TheVariants as object
+use Rattle.b2_access.specs.declared.private.Private.{Private}
+use Rattle.b2_audit.specs.Steps.{Group}
+use Rattle.b2_boot.specs.Alone.{alone}
+use Rattle.b2_boot.specs.Boots.{BootState}
+use Rattle.b2_boot.specs.declared.boot.BootPartition.{BootPartition}
+use Rattle.b2_store.specs.Start.{Areas, borrow_row, globals_row, text_row}
+use Rattle.b2_sched.proofs.GroupRuns.{group_relies}
+use Rattle.b2_sched.proofs.Numbers.{same_number}
+use Rattle.b2_sched.specs.Groups.{CleanGroupsAreAsAlone, IsOutside, WorldsAlike}
+use Rattle.b2_sched.specs.Start.{areas_of, booted, private_row, store_booted}
+
+both_maps : {A B C : Type 0} (k : B → C) (f : A → B) (xs : List A) → map k (map f xs) ≡ map (λ x. k (f x)) xs
+both_maps k f [] = refl
+both_maps {C = C} k f (x ∷ xs) = ap (λ (ys : List C). k (f x) ∷ ys) (both_maps k f xs)
+
+module _ (g : Group) (p : ℕ) where
+  abbrev members : List BootPartition → List BootPartition
+  members ps = filter (λ x. g x.number) ps
+
+  module _ {X : Type 0} (h : BootPartition → X) where
+    abbrev rows : List BootPartition → List (ℕ × X)
+    rows ps = map (λ x. (x.number, h x)) ps
+
+    nobody : (b : Bool) → ◌≡◌ {A = Option X} None (cond b None None)
+    nobody true = refl
+    nobody false = refl
+
+    -- the row of a number among the members' is that among all, for a member, and there is none for another
+    kept : (ps : List BootPartition) → row_of p (rows (members ps)) ≡ cond (g p) (row_of p (rows ps)) None
+    kept [] = nobody (g p)
+    kept (x ∷ xs) = by (x.number == p) refl
+      where
+        here : (x.number == p) ≡ true → (b : Bool) → g p ≡ b → row_of p (rows (cond b (x ∷ members xs) (members xs))) ≡ cond b (row_of p (rows (x ∷ xs))) None
+        here e true is = ap (λ t. cond t (Some (h x)) (row_of p (rows (members xs)))) e ∙ sym (ap (λ t. cond t (Some (h x)) (row_of p (rows xs))) e)
+        here e false is = kept xs ∙ ap (λ t. cond t (row_of p (rows xs)) None) is
+        there : (x.number == p) ≡ false → (b : Bool) → row_of p (rows (cond b (x ∷ members xs) (members xs))) ≡ row_of p (rows (members xs))
+        there e true = ap (λ t. cond t (Some (h x)) (row_of p (rows (members xs)))) e
+        there e false = refl
+        by : (b : Bool) → (x.number == p) ≡ b → row_of p (rows (members (x ∷ xs))) ≡ cond (g p) (row_of p (rows (x ∷ xs))) None
+        by true e = ap (λ t. row_of p (rows (cond t (x ∷ members xs) (members xs)))) (ap g (same_number x.number p e)) ∙ here e (g p) refl
+        by false e = there e (g x.number) ∙ kept xs ∙ ap (λ t. cond (g p) (cond t (Some (h x)) (row_of p (rows xs))) None) (sym e)
+
+    of_member : (ps : List BootPartition) → g p ≡ true → row_of p (rows ps) ≡ row_of p (rows (members ps))
+    of_member ps is = sym (kept ps ∙ ap (λ t. cond t (row_of p (rows ps)) None) is)
+
+    of_another : (ps : List BootPartition) → g p ≡ false → row_of p (rows (members ps)) ≡ None
+    of_another ps is = kept ps ∙ ap (λ t. cond t (row_of p (rows ps)) None) is
+
+  -- rows made of the areas of partitions
+  areas_kept : {X : Type 0} (h : Areas → X) (ps : List BootPartition) → g p ≡ true → row_of p (map (λ a. (a.0, h a)) (map areas_of ps)) ≡ row_of p (map (λ a. (a.0, h a)) (map areas_of (members ps)))
+  areas_kept h ps is =
+      ap (row_of p) (both_maps (λ a. (a.0, h a)) areas_of ps) ∙ of_member (λ x. h (areas_of x)) ps is ∙ sym (ap (row_of p) (both_maps (λ a. (a.0, h a)) areas_of (members ps)))
+
+  -- a member at the start names itself alone
+  pub starts_within : (ps : List BootPartition) (me : Private) → g p ≡ true → row_of p (map private_row ps) ≡ Some me → IsWithin g me
+  starts_within [] me member is = let clash : false ≡ true = ap (λ (o : Option Private). is_some o) is in cc
+  starts_within (x ∷ xs) me member is = by (x.number == p) refl is
+    where
+      it : (you : Private) → Some you ≡ Some me → you ≡ me
+      it you e = cc
+      by : (b : Bool) → (x.number == p) ≡ b → cond b (Some (private_row x).1) (row_of p (map private_row xs)) ≡ Some me → IsWithin g me
+      by true e found = subst (λ (you : Private). IsWithin g you) (it (private_row x).1 found) (record { part = ap g (same_number x.number p e) ∙ member; place = tt; kept = tt; frames = tt })
+      by false e found = starts_within xs me member found
+
+in_group : (b : Bool) → (b ≡ false → ⊥) → b ≡ true
+in_group true out = refl
+in_group false out = absurd (out refl)
+
+objects : (g : Group) (b : BootState) (o : Object) → (IsOutside g o → ⊥) → content (store_booted b) o ≡ content (store_booted (alone g b)) o
+objects g b (object.Text p) inside = areas_kept g p (λ a. (text_row a).1) b.partitions (in_group (g p) inside)
+objects g b (object.Borrow p) inside = areas_kept g p (λ a. (borrow_row a).1) b.partitions (in_group (g p) inside)
+objects g b (object.Globals p) inside = areas_kept g p (λ a. (globals_row a).1) b.partitions (in_group (g p) inside)
+objects g b (object.Terminal t) inside = refl
+objects g b o inside = refl
+
+pub starts_alike : (g : Group) (b : BootState) → WorldsAlike (IsOutside g) g [] (booted b) (booted (alone g b))
+starts_alike g b = record {
+  quota = refl;
+  privates = record {
+    members = λ p member. of_member g p (λ x. (private_row x).1) b.partitions member;
+    absent = λ p out. of_another g p (λ x. (private_row x).1) b.partitions out;
+    homes = λ p me member is. starts_within g p b.partitions me member is;
+  };
+  stores = λ o clear inside. objects g b o inside;
+}
+
+pub as_alone : CleanGroupsAreAsAlone
+as_alone g b log clean =
+    let after = group_relies g log (booted b) (booted (alone g b)) (starts_alike g b) clean in
+    (after.privates.members, λ o inside clear. after.stores o clear inside)

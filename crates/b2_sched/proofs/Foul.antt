@@ -1,0 +1,81 @@
+-- What is foul after some steps, and whether a group is clean, step by step along the list.
+use Rattle.std.specs.Prelude.{◌≡◌, ◌⊎◌, ℕ, Bool, true, false, List, [], ◌∷◌, ◌++◌, refl, if◌then◌else◌}
+use Rattle.std.proofs.Common.{sym, ap, subst, ◌∙◌, inl, inr}
+use Rattle.b2_access.specs.declared.objects.Object.{Object}
+use Rattle.b2_access.specs.Store.{IsIn}
+use Rattle.b2_audit.specs.Steps.{Step, Group, by_other, foul, IsClean}
+
+-- two lists have no object in common
+abbrev pub AreApart : List Object → List Object → Type 0
+AreApart xs os = (o : Object) → IsIn o xs → IsIn o os → ⊥
+
+-- with what a step of another wrote, and with what those of others wrote
+abbrev pub fouled : Group → Step → List Object → List Object
+fouled g x os = by_other g x ++ os
+
+abbrev pub foul_after : Group → List Step → List Object → List Object
+foul_after g [] os = os
+foul_after g (x ∷ xs) os = foul_after g xs (fouled g x os)
+
+-- no member touches what is foul so far
+abbrev pub CleanFrom : Group → List Object → List Step → Type 0
+CleanFrom g os [] = Unit {0}
+CleanFrom g os (x ∷ xs) = (g x.who ≡ true → AreApart x.touched os) × CleanFrom g (fouled g x os) xs
+
+pub in_left : (o : Object) (xs ys : List Object) → IsIn o xs → IsIn o (xs ++ ys)
+in_left o [] ys h = absurd h
+in_left o (x ∷ xs) ys (inl e) = inl e
+in_left o (x ∷ xs) ys (inr h) = inr (in_left o xs ys h)
+
+pub in_right : (o : Object) (xs ys : List Object) → IsIn o ys → IsIn o (xs ++ ys)
+in_right o [] ys h = h
+in_right o (x ∷ xs) ys h = inr (in_right o xs ys h)
+
+in_either : (o : Object) (xs ys : List Object) → IsIn o (xs ++ ys) → IsIn o xs ⊎ IsIn o ys
+in_either o [] ys h = inr h
+in_either o (x ∷ xs) ys (inl e) = inl (inl e)
+in_either o (x ∷ xs) ys (inr h) = elim (in_either o xs ys h) [ inl i ↦ inl (inr i) | inr i ↦ inr i ]
+
+-- a step of a member makes nothing foul, and that of another what it wrote
+pub own_fouls_nothing : (g : Group) (x : Step) (os : List Object) → g x.who ≡ true → fouled g x os ≡ os
+own_fouls_nothing g x os member = ap (λ (b : Bool). (if b then [] else x.written) ++ os) member
+
+pub other_fouls : (g : Group) (x : Step) (os : List Object) (o : Object) → g x.who ≡ false → IsIn o x.written → IsIn o (fouled g x os)
+other_fouls g x os o other i = in_left o (by_other g x) os (subst (λ (ws : List Object). IsIn o ws) (ap (λ (b : Bool). if b then [] else x.written) (sym other)) i)
+
+-- what is foul stays so
+pub stays_foul : (g : Group) (xs : List Step) (os : List Object) (o : Object) → IsIn o os → IsIn o (foul_after g xs os)
+stays_foul g [] os o h = h
+stays_foul g (x ∷ xs) os o h = stays_foul g xs (fouled g x os) o (in_right o (by_other g x) os h)
+
+-- it is what was foul before, or what others wrote in these steps
+pub foul_so_far : (g : Group) (xs : List Step) (os : List Object) (o : Object) → IsIn o (foul_after g xs os) → IsIn o (foul g xs) ⊎ IsIn o os
+foul_so_far g [] os o h = inr h
+foul_so_far g (x ∷ xs) os o h = elim (foul_so_far g xs (fouled g x os) o h) [
+  | inl i ↦ inl (in_right o (by_other g x) (foul g xs) i)
+  | inr i ↦ elim (in_either o (by_other g x) os i) [ inl j ↦ inl (in_left o (by_other g x) (foul g xs) j) | inr j ↦ inr j ]
+]
+
+-- along two lists of steps
+pub foul_append : (g : Group) (xs ys : List Step) (os : List Object) → foul_after g (xs ++ ys) os ≡ foul_after g ys (foul_after g xs os)
+foul_append g [] ys os = refl
+foul_append g (x ∷ xs) ys os = foul_append g xs ys (fouled g x os)
+
+pub clean_first : (g : Group) (xs ys : List Step) (os : List Object) → CleanFrom g os (xs ++ ys) → CleanFrom g os xs
+clean_first g [] ys os h = tt
+clean_first g (x ∷ xs) ys os h = (h.0, clean_first g xs ys (fouled g x os) h.1)
+
+pub clean_rest : (g : Group) (xs ys : List Step) (os : List Object) → CleanFrom g os (xs ++ ys) → CleanFrom g (foul_after g xs os) ys
+clean_rest g [] ys os h = h
+clean_rest g (x ∷ xs) ys os h = clean_rest g xs ys (fouled g x os) h.1
+
+-- a clean group is so step by step
+clean_if : (g : Group) (steps : List Step) (os : List Object)
+    → ((before after : List Step) (x : Step) → steps ≡ before ++ x ∷ after → g x.who ≡ true → AreApart x.touched (foul_after g before os)) → CleanFrom g os steps
+clean_if g [] os h = tt
+clean_if g (x ∷ xs) os h =
+    (λ member. h [] xs x refl member, clean_if g xs (fouled g x os) (λ before after y is member. h (x ∷ before) after y (ap (λ (ys : List Step). x ∷ ys) is) member))
+
+pub clean_from : (g : Group) (steps : List Step) → IsClean g steps → CleanFrom g [] steps
+clean_from g steps h = clean_if g steps [] (λ before after x is member o touched dirty.
+    h before after x is member o touched (elim (foul_so_far g before [] o dirty) [ inl i ↦ i | inr i ↦ absurd i ]))

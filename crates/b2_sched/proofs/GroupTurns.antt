@@ -1,0 +1,159 @@
+-- A turn in two stores that have in common what isn't foul and isn't left out, of a member and of another.
+use Rattle.std.specs.Prelude.{◌≡◌, ℕ, zero, suc, Bool, true, false, List, [], ◌∷◌, ◌++◌, Option, Some, None, refl, if◌then◌else◌}
+use Rattle.std.proofs.Common.{sym, ap, subst, ◌∙◌, inl, inr}
+use Rattle.b2_access.specs.Homes.{IsWithin}
+use Rattle.b2_access.specs.Locality.{serves_is_local}
+use Rattle.b2_access.specs.Objects.{Decided}
+use Rattle.b2_access.specs.Serving.{serves, itself}
+use Rattle.b2_access.specs.Store.{StoreState, AgreeOn, IsIn, content}
+use Rattle.b2_access.specs.Touching.{touched}
+use Rattle.b2_access.specs.declared.accesses.Access.{Access}
+use Rattle.b2_access.specs.declared.accesses.Access.TheVariants as access
+use Rattle.b2_access.specs.declared.objects.Object.{Object}
+use Rattle.b2_access.specs.declared.objects.Object.TheVariants as object
+use Rattle.b2_access.specs.declared.private.Private.{Private}
+use Rattle.b2_audit.specs.Steps.{Step, Group}
+use Rattle.b2_machine.proofs.LocalSteps.{is_in, steps_are_local}
+use Rattle.b2_machine.proofs.StepHomes.{steps_stay_within}
+use Rattle.b2_machine.specs.Step.{StepEnd, step}
+use Rattle.b2_machine.specs.Touched.{GoesAlike, GoesLocally, asking, step_touched, step_written, touched_by, touched_where}
+use Rattle.b2_machine.specs.Turn.{TurnEnd, counted_on, ended, turn_from, unless_ended}
+use Rattle.b2_machine.specs.declared.ends.Stepped.{Stepped}
+use Rattle.b2_machine.specs.declared.ends.Why.{Why}
+use Rattle.b2_sched.proofs.Foul.{AreApart, CleanFrom, foul_after, fouled, other_fouls, own_fouls_nothing, stays_foul}
+use Rattle.b2_sched.specs.Groups.{StoresAlike, step_of, steps_in_turn, told}
+use Rattle.b2_sched.specs.World.{after_loan}
+
+-- Which objects may be left out: none that a member can come to. A partition comes to what is its own, and to terminals.
+pub record IsOut (g : Group) (out : Object → Type 0) : Type 0 where
+  pub texts : (p : ℕ) → g p ≡ true → out (object.Text p) → ⊥
+  pub borrowers : (p : ℕ) → g p ≡ true → out (object.Borrow p) → ⊥
+  pub variables : (p : ℕ) → g p ≡ true → out (object.Globals p) → ⊥
+  pub terminals : (t : ℕ) → out (object.Terminal t) → ⊥
+
+abbrev turn_on : ℕ → Private → StoreState → ℕ → TurnEnd StoreState
+turn_on n me s steps = turn_from itself serves after_loan n me s steps
+
+local : (me : Private) → GoesLocally itself serves me.part (asking me) (step itself serves after_loan me)
+local me = steps_are_local itself serves after_loan serves_is_local (λ who home at m left. refl) me
+
+-- how a step ends is how its turn goes on
+abbrev goes_on : ℕ → Stepped → ℕ → Private → StoreState → TurnEnd StoreState
+goes_on n end steps me s = unless_ended end.why (λ w. ended (counted_on steps end) w me s) (turn_on n me s (counted_on steps end))
+
+-- homes after a turn
+pub turn_stays_within : (among : ℕ → Bool) (n : ℕ) (me : Private) (s : StoreState) (steps : ℕ) → IsWithin among me → IsWithin among (turn_on n me s steps).me
+unfolding turn_from
+turn_stays_within among zero me s steps w = w
+turn_stays_within among (suc n) me s steps w = by (step_of me s).end.why
+  where
+    next : IsWithin among (step_of me s).me
+    next = (steps_stay_within itself serves after_loan among me s w).0
+    by : (why : Option Why) → IsWithin among (unless_ended why (λ w. ended (counted_on steps (step_of me s).end) w (step_of me s).me (step_of me s).after) (turn_on n (step_of me s).me (step_of me s).after (counted_on steps (step_of me s).end))).me
+    by None = turn_stays_within among n (step_of me s).me (step_of me s).after (counted_on steps (step_of me s).end) next
+    by (Some why) = next
+
+module _ (g : Group) where
+  -- what an outsider's turn leaves unfouled is as before
+  pub others_turn : (who n : ℕ) (me : Private) (s : StoreState) (steps : ℕ) (os : List Object) → g who ≡ false
+      → (o : Object) → (IsIn o (foul_after g (steps_in_turn who n me s) os) → ⊥) → content (turn_on n me s steps).after o ≡ content s o
+  unfolding turn_from steps_in_turn
+  others_turn who zero me s steps os out o clear = refl
+  others_turn who (suc n) me s steps os out o clear = by (step_of me s).end.why clear
+    where
+      kept : (xs : List Step) → (IsIn o (foul_after g xs (fouled g (told who me s) os)) → ⊥) → content (step_of me s).after o ≡ content s o
+      kept xs c = (local me).others s o (λ i. c (stays_foul g xs (fouled g (told who me s) os) o (other_fouls g (told who me s) os o out i)))
+      by : (why : Option Why) → (IsIn o (foul_after g (unless_ended why (λ w. []) (steps_in_turn who n (step_of me s).me (step_of me s).after)) (fouled g (told who me s) os)) → ⊥)
+          → content (unless_ended why (λ w. ended (counted_on steps (step_of me s).end) w (step_of me s).me (step_of me s).after) (turn_on n (step_of me s).me (step_of me s).after (counted_on steps (step_of me s).end))).after o ≡ content s o
+      by None c = others_turn who n (step_of me s).me (step_of me s).after (counted_on steps (step_of me s).end) (fouled g (told who me s) os) out o c ∙ kept (steps_in_turn who n (step_of me s).me (step_of me s).after) c
+      by (Some why) c = kept [] c
+
+  -- a member's turn makes nothing foul
+  pub members_foul : (who n : ℕ) (me : Private) (s : StoreState) (os : List Object) → g who ≡ true → foul_after g (steps_in_turn who n me s) os ≡ os
+  unfolding steps_in_turn
+  members_foul who zero me s os member = refl
+  members_foul who (suc n) me s os member = ap (λ (xs : List Object). foul_after g (unless_ended (step_of me s).end.why (λ w. []) (steps_in_turn who n (step_of me s).me (step_of me s).after)) xs) (own_fouls_nothing g (told who me s) os member) ∙ by (step_of me s).end.why
+    where
+      by : (why : Option Why) → foul_after g (unless_ended why (λ w. []) (steps_in_turn who n (step_of me s).me (step_of me s).after)) os ≡ os
+      by None = members_foul who n (step_of me s).me (step_of me s).after os member
+      by (Some why) = refl
+
+  module _ (out : Object → Type 0) (is_out : IsOut g out) where
+    -- none of what a member touches is left out
+    abbrev NoneOut : List Object → Type 0
+    NoneOut [] = Unit {0}
+    NoneOut (x ∷ xs) = (out x → ⊥) × NoneOut xs
+
+    none_out : (xs : List Object) (o : Object) → NoneOut xs → IsIn o xs → out o → ⊥
+    none_out [] o h i bad = i
+    none_out (x ∷ xs) o h i bad = elim i [ inl e ↦ h.0 (subst out e bad) | inr j ↦ none_out xs o h.1 j bad ]
+
+    accessed : (who : ℕ) (a : Access) (s : StoreState) → g who ≡ true → NoneOut (touched s who a)
+    accessed who (access.Show term bytes) s member = (is_out.terminals term, tt)
+    accessed who (access.ReadLine term) s member = (is_out.terminals term, tt)
+    accessed who (access.Insert term bytes) s member = (is_out.terminals term, tt)
+    accessed who (access.Key term) s member = (is_out.terminals term, tt)
+    accessed who (access.PutLine line atoms homes) s member = (is_out.borrowers who member, (is_out.texts who member, tt))
+    accessed who (access.Erase from to homes) s member = (is_out.borrowers who member, (is_out.texts who member, tt))
+    accessed who (access.ClearAll name homes) s member = (is_out.borrowers who member, (is_out.texts who member, (is_out.variables who member, tt)))
+
+    accessed_where : (a : Option Access) (who : ℕ) (s : StoreState) → g who ≡ true → NoneOut (touched_where a who s)
+    accessed_where None who s member = tt
+    accessed_where (Some a) who s member = accessed who a s member
+
+    stepped : (me : Private) (s : StoreState) → IsWithin g me → NoneOut (step_touched me s)
+    stepped me s w =
+        let asks = (steps_stay_within itself serves after_loan g me s w).1 in
+        (is_out.texts me.part w.part, (is_out.texts (asking me s).who asks, accessed_where (asking me s).access (asking me s).who s asks))
+
+    -- a member's turn leaves what it can't come to as it is
+    pub leaves_out : (n : ℕ) (me : Private) (s : StoreState) (steps : ℕ) → IsWithin g me → (o : Object) → out o → content (turn_on n me s steps).after o ≡ content s o
+    unfolding turn_from
+    leaves_out zero me s steps w o is = refl
+    leaves_out (suc n) me s steps w o is = by (step_of me s).end.why
+      where
+        next : IsWithin g (step_of me s).me
+        next = (steps_stay_within itself serves after_loan g me s w).0
+        kept : content (step_of me s).after o ≡ content s o
+        kept = (local me).others s o (λ i. none_out (step_touched me s) o (stepped me s w) ((local me).within s o i) is)
+        by : (why : Option Why) → content (unless_ended why (λ w. ended (counted_on steps (step_of me s).end) w (step_of me s).me (step_of me s).after) (turn_on n (step_of me s).me (step_of me s).after (counted_on steps (step_of me s).end))).after o ≡ content s o
+        by None = leaves_out n (step_of me s).me (step_of me s).after (counted_on steps (step_of me s).end) next o is ∙ kept
+        by (Some why) = kept
+
+    -- A member's turn ends alike in both stores, where it touches nothing foul.
+    pub record TurnsAlike (os : List Object) (x y : TurnEnd StoreState) : Type 0 where
+      pub own : x.me ≡ y.me
+      pub objects : StoresAlike out os x.after y.after
+
+    step_alike : (me : Private) (s t : StoreState) (os : List Object) → IsWithin g me → StoresAlike out os s t → AreApart (step_touched me s) os → GoesAlike itself serves me.part (asking me) (step itself serves after_loan me) s t
+    step_alike me s t os w agree apart = (local me).alike s t (λ o i. agree o (λ f. apart o i f) (λ bad. none_out (step_touched me s) o (stepped me s w) i bad))
+
+    next_agree : (me : Private) (s t : StoreState) (os : List Object) → StoresAlike out os s t → GoesAlike itself serves me.part (asking me) (step itself serves after_loan me) s t → StoresAlike out os (step_of me s).after (step_of me t).after
+    next_agree me s t os agree alike o clear inside = by (is_in o (step_written itself serves me s))
+      where
+        by : Decided (IsIn o (step_written itself serves me s)) → content (step_of me s).after o ≡ content (step_of me t).after o
+        by (inl i) = alike.contents o i
+        by (inr not) =
+            (local me).others s o not ∙ agree o clear inside ∙ sym ((local me).others t o (λ i. not (subst (λ (xs : List Object). IsIn o xs) (sym alike.wrote) i)))
+
+    pub members_turn : (who n : ℕ) (me : Private) (s t : StoreState) (steps : ℕ) (os : List Object) → g who ≡ true → IsWithin g me → StoresAlike out os s t
+        → CleanFrom g os (steps_in_turn who n me s) → TurnsAlike os (turn_on n me s steps) (turn_on n me t steps)
+    unfolding turn_from steps_in_turn
+    members_turn who zero me s t steps os member w agree clean = record { own = refl; objects = agree }
+    members_turn who (suc n) me s t steps os member w agree clean = subst (λ (e : Stepped). TurnsAlike os (goes_on n (step_of me s).end steps (step_of me s).me (step_of me s).after) (goes_on n e steps (step_of me t).me (step_of me t).after)) alike.end by_me
+      where
+        alike : GoesAlike itself serves me.part (asking me) (step itself serves after_loan me) s t
+        alike = step_alike me s t os w agree (clean.0 member)
+        next : IsWithin g (step_of me s).me
+        next = (steps_stay_within itself serves after_loan g me s w).0
+        agree_next : StoresAlike out os (step_of me s).after (step_of me t).after
+        agree_next = next_agree me s t os agree alike
+        rest : CleanFrom g os (unless_ended (step_of me s).end.why (λ w. []) (steps_in_turn who n (step_of me s).me (step_of me s).after))
+        rest = subst (λ (xs : List Object). CleanFrom g xs (unless_ended (step_of me s).end.why (λ w. []) (steps_in_turn who n (step_of me s).me (step_of me s).after))) (own_fouls_nothing g (told who me s) os member) clean.1
+        by : (why : Option Why) → CleanFrom g os (unless_ended why (λ w. []) (steps_in_turn who n (step_of me s).me (step_of me s).after))
+            → TurnsAlike os (unless_ended why (λ w. ended (counted_on steps (step_of me s).end) w (step_of me s).me (step_of me s).after) (turn_on n (step_of me s).me (step_of me s).after (counted_on steps (step_of me s).end)))
+            (unless_ended why (λ w. ended (counted_on steps (step_of me s).end) w (step_of me s).me (step_of me t).after) (turn_on n (step_of me s).me (step_of me t).after (counted_on steps (step_of me s).end)))
+        by None c = members_turn who n (step_of me s).me (step_of me s).after (step_of me t).after (counted_on steps (step_of me s).end) os member next agree_next c
+        by (Some why) c = record { own = refl; objects = agree_next }
+        by_me : TurnsAlike os (goes_on n (step_of me s).end steps (step_of me s).me (step_of me s).after) (goes_on n (step_of me s).end steps (step_of me t).me (step_of me t).after)
+        by_me = subst (λ (z : Private). TurnsAlike os (goes_on n (step_of me s).end steps (step_of me s).me (step_of me s).after) (goes_on n (step_of me s).end steps z (step_of me t).after)) alike.own (by (step_of me s).end.why rest)

@@ -1,0 +1,95 @@
+-- What a group of partitions can rely on.
+use Rattle.std.specs.Prelude.{◌≡◌, ◌≢◌, ℕ, zero, suc, ◌==◌, Bool, true, false, List, [], ◌∷◌, ◌++◌, Option, Some, None}
+use Rattle.b2_access.specs.declared.objects.Object.{Object}
+use Rattle.b2_access.specs.declared.objects.Object.TheVariants as object
+use Rattle.b2_access.specs.declared.private.Private.{Private}
+use Rattle.b2_access.specs.Homes.{IsWithin}
+use Rattle.b2_access.specs.Rows.{row_of}
+use Rattle.b2_access.specs.Serving.{serves, itself}
+use Rattle.b2_access.specs.Store.{StoreState, IsIn, content}
+use Rattle.b2_audit.specs.Steps.{Step, Group, foul, IsClean, just}
+use Rattle.b2_boot.specs.Alone.{alone}
+use Rattle.b2_boot.specs.Boots.{BootState}
+use Rattle.b2_boot.specs.declared.log.Event.{Event}
+use Rattle.b2_machine.specs.Step.{StepEnd, step}
+use Rattle.b2_machine.specs.Touched.{step_touched, step_written}
+use Rattle.b2_machine.specs.Turn.{unless_ended}
+use Rattle.b2_sched.specs.Laws.{all_actions}
+use Rattle.b2_sched.specs.Start.{booted}
+use Rattle.b2_sched.specs.World.{WorldState, Action, Key, Front, Halt, Reset, Turn, after_loan, does, private_of, ran}
+
+-- a step of a partition, and how it is told: who took it, what it touched and what it wrote
+abbrev pub step_of : Private → StoreState → StepEnd StoreState
+step_of me s = step itself serves after_loan me s
+
+abbrev pub told : ℕ → Private → StoreState → Step
+told who me s = record { who = who; touched = step_touched me s; written = step_written itself serves me s }
+
+-- the steps of a turn
+unfoldable pub steps_in_turn : ℕ → ℕ → Private → StoreState → List Step
+steps_in_turn who zero me s = []
+steps_in_turn who (suc n) me s =
+    let x = step_of me s in
+    told who me s ∷ unless_ended x.end.why (λ w. []) (steps_in_turn who n x.me x.after)
+
+-- a partition that is absent takes none
+abbrev pub told_by : ℕ → ℕ → Option Private → StoreState → List Step
+told_by who n None s = []
+told_by who n (Some me) s = steps_in_turn who n me s
+
+abbrev pub steps_at : Action → WorldState → List Step
+steps_at (Key t k) w = []
+steps_at (Front t p) w = []
+steps_at (Halt p) w = []
+steps_at (Reset p) w = []
+steps_at (Turn p n) w = told_by p n (private_of p w) w.store
+
+abbrev pub steps_along : List Action → WorldState → List Step
+steps_along [] w = []
+steps_along (a ∷ rest) w = steps_at a w ++ steps_along rest (does a w)
+
+-- ALL STEPS OF A LOG, in order
+abbrev pub steps_of : List Event → WorldState → List Step
+steps_of log w = steps_along (all_actions w.quota log) w
+
+-- the objects of partitions outside a group, which two worlds need not have in common
+abbrev pub IsOutside : Group → Object → Type 0
+IsOutside g (object.Text p) = g p ≡ false
+IsOutside g (object.Borrow p) = g p ≡ false
+IsOutside g (object.Globals p) = g p ≡ false
+IsOutside g o = ⊥
+
+-- The own states of two worlds, of which the second has a group alone: members have the same in both, and name members alone as
+-- homes.
+pub record MembersAlike (g : Group) (ws vs : List (ℕ × Private)) : Type 0 where
+  pub members : (p : ℕ) → g p ≡ true → row_of p ws ≡ row_of p vs
+  pub absent : (p : ℕ) → g p ≡ false → row_of p vs ≡ None
+  pub homes : (p : ℕ) (me : Private) → g p ≡ true → row_of p ws ≡ Some me → IsWithin g me
+
+-- two stores have each object in common that isn't foul, and isn't of a family that is left out
+abbrev pub StoresAlike : (Object → Type 0) → List Object → StoreState → StoreState → Type 0
+StoresAlike out dirty s t = (o : Object) → (IsIn o dirty → ⊥) → (out o → ⊥) → content s o ≡ content t o
+
+-- THE INVARIANT of a world and that of a group alone, where some objects are foul
+pub record WorldsAlike (out : Object → Type 0) (g : Group) (dirty : List Object) (w v : WorldState) : Type 0 where
+  pub quota : w.quota ≡ v.quota
+  pub privates : MembersAlike g w.privates v.privates
+  pub stores : StoresAlike out dirty w.store v.store
+
+-- A group of partitions is clean where none of its steps touches what a step of another wrote before. Whatever a clean group has in
+-- common with the group alone, it has so after any log, but for what others wrote.
+abbrev pub GroupsRelyOnTheirOwn : Type 0
+GroupsRelyOnTheirOwn = (g : Group) (log : List Event) (w v : WorldState) → WorldsAlike (IsOutside g) g [] w v → IsClean g (steps_of log w)
+    → WorldsAlike (IsOutside g) g (foul g (steps_of log w)) (ran log w) (ran log v)
+
+-- THE GROUP THEOREM: after any log each member of a clean group has the own state, and each object that no other wrote has the
+-- contents, that they have in the world booted with the group alone under the same log. What belongs to others isn't compared.
+abbrev pub CleanGroupsAreAsAlone : Type 0
+CleanGroupsAreAsAlone = (g : Group) (b : BootState) (log : List Event) → IsClean g (steps_of log (booted b))
+    → ((p : ℕ) → g p ≡ true → private_of p (ran log (booted b)) ≡ private_of p (ran log (booted (alone g b))))
+    × ((o : Object) → (IsOutside g o → ⊥) → (IsIn o (foul g (steps_of log (booted b))) → ⊥) → content (ran log (booted b)).store o ≡ content (ran log (booted (alone g b))).store o)
+
+-- No turn of a partition changes what belongs to another: its text, who stands inside, and its `@` variables.
+abbrev pub TurnsChangeTheirOwn : Type 0
+TurnsChangeTheirOwn = (b : BootState) (log : List Event) (p n : ℕ) (o : Object) → IsOutside (just p) o
+    → content (does (Turn p n) (ran log (booted b))).store o ≡ content (ran log (booted b)).store o
