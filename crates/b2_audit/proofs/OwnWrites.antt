@@ -1,11 +1,11 @@
 -- What a partition wrote itself isn't foul to it, so it may touch before or after.
-use Rattle.std.specs.Prelude.{◌≡◌, ℕ, zero, suc, Bool, true, false, List, [], ◌∷◌, get_or, set, refl, if◌then◌else◌}
+use Rattle.std.specs.Prelude.{◌≡◌, ℕ, zero, suc, Bool, true, false, List, [], ◌∷◌, ◌++◌, get_or, set, refl, if◌then◌else◌}
 use Rattle.std.proofs.Common.{sym, ap, subst, ◌∙◌, inl, inr}
 use Rattle.b2_access.specs.declared.objects.Object.{Object}
 use Rattle.b2_access.specs.Objects.{same_object}
 use Rattle.b2_audit.specs.PartSets.{with_part, without_part, has_other}
-use Rattle.b2_audit.specs.Marks.{Marks, touch, write, touch_all, write_all}
-use Rattle.b2_audit.specs.Steps.{IsPart, IsNoted, AreNoted, OwnWritesAreIdle}
+use Rattle.b2_audit.specs.Marks.{Marks, touch, write, touch_all, write_all, noted}
+use Rattle.b2_audit.specs.Steps.{IsPart, IsNoted, AreNoted, NotedInParts}
 use Rattle.b2_audit.proofs.PartBits.{other_with_same}
 use Rattle.b2_audit.proofs.Places.{index, at_index, written_at, writes_elsewhere}
 use Rattle.b2_audit.proofs.Fouling.{is_foul}
@@ -39,7 +39,17 @@ all_touched who [] w m is are is_w = refl
 all_touched who (o ∷ os) w m is are is_w =
     ap (touch_all who os) (one_each who o w m is (are o (inl refl)) is_w) ∙ all_touched who os w (touch who o m) is (λ x i. are x (inr i)) is_w
 
-pub own_writes_are_idle : OwnWritesAreIdle
+own_writes_are_idle : (who : ℕ) (os ws : List Object) (m : Marks) → IsPart who → AreNoted os → AreNoted ws → touch_all who os (write_all who ws m) ≡ write_all who ws (touch_all who os m)
 own_writes_are_idle who os [] m is are_os are_ws = refl
 own_writes_are_idle who os (w ∷ ws) m is are_os are_ws =
     own_writes_are_idle who os ws (write who w m) is are_os (λ x i. are_ws x (inr i)) ∙ ap (write_all who ws) (all_touched who os w m is are_os (are_ws w (inl refl)))
+
+touched_in_turn : (who : ℕ) (os ps : List Object) (m : Marks) → touch_all who (os ++ ps) m ≡ touch_all who ps (touch_all who os m)
+touched_in_turn who [] ps m = refl
+touched_in_turn who (o ∷ os) ps m = touched_in_turn who os ps (touch who o m)
+
+pub noted_in_parts : NotedInParts
+noted_in_parts who first touched later written m is are_later are_written =
+    let start = touch_all who first m in
+    own_writes_are_idle who later written (touch_all who touched start) is are_later are_written
+    ∙ ap (write_all who written) (sym (touched_in_turn who (first ++ touched) later m ∙ ap (touch_all who later) (touched_in_turn who first touched m)))

@@ -1,9 +1,13 @@
 -- What the notes say of a list of steps.
-use Rattle.std.specs.Prelude.{◌≡◌, ◌≤◌, ◌==◌, ◌↔◌, ℕ, Bool, true, List, [], ◌∷◌, ◌++◌, if◌then◌else◌}
+use Rattle.std.specs.Prelude.{◌≡◌, ◌≤◌, ◌==◌, ◌↔◌, ℕ, Bool, true, List, [], ◌∷◌, ◌++◌, Option, Some, if◌then◌else◌}
 use Rattle.b2_access.specs.declared.objects.Object.{Object}
 use Rattle.b2_access.specs.declared.objects.Object.TheVariants as object
-use Rattle.b2_access.specs.Store.{IsIn}
-use Rattle.b2_audit.specs.Marks.{Marks, noted, touch_all, write_all, at_start, is_clean}
+use Rattle.b2_access.specs.declared.accesses.Access.{Access}
+use Rattle.b2_access.specs.declared.accesses.Answer.{Answer}
+use Rattle.b2_access.specs.Causes.{terminal_of}
+use Rattle.b2_access.specs.Store.{StoreState, IsIn}
+use Rattle.b2_access.specs.Touching.{touched, written_by}
+use Rattle.b2_audit.specs.Marks.{Marks, noted, touch_all, at_start, is_clean}
 
 -- a step of a partition, with the objects that it touched and those that it wrote
 pub record Step : Type 0 where
@@ -40,12 +44,15 @@ just p q = q == p
 abbrev pub IsPart : ℕ → Type 0
 IsPart p = (1 ≤ p) × (p ≤ 16)
 
+abbrev pub IsTerm : ℕ → Type 0
+IsTerm t = (1 ≤ t) × (t ≤ 12)
+
 -- an object whose writers are noted
 abbrev pub IsNoted : Object → Type 0
 IsNoted (object.Text p) = IsPart p
 IsNoted (object.Borrow p) = IsPart p
 IsNoted (object.Globals p) = IsPart p
-IsNoted (object.Terminal t) = (1 ≤ t) × (t ≤ 12)
+IsNoted (object.Terminal t) = IsTerm t
 IsNoted o = ⊥
 
 abbrev pub AreNoted : List Object → Type 0
@@ -60,7 +67,13 @@ AreSteps (x ∷ xs) = IsPart x.who × AreNoted x.touched × AreNoted x.written �
 abbrev pub NotesSayClean : Type 0
 NotesSayClean = (steps : List Step) (p : ℕ) → AreSteps steps → IsPart p → (is_clean p (marks_after steps at_start) ≡ true) ↔ IsClean (just p) steps
 
--- what a partition touches after it wrote is judged by what was written before
-abbrev pub OwnWritesAreIdle : Type 0
-OwnWritesAreIdle = (who : ℕ) (touched written : List Object) (m : Marks) → IsPart who → AreNoted touched → AreNoted written
-    → touch_all who touched (write_all who written m) ≡ write_all who written (touch_all who touched m)
+-- A step is noted in parts: what it touches first, then what it touches and writes by its access, then what it touches after
+-- that. All that it touches is judged by what was written before the step.
+abbrev pub NotedInParts : Type 0
+NotedInParts = (who : ℕ) (first touched later written : List Object) (m : Marks) → IsPart who → AreNoted later → AreNoted written
+    → touch_all who later (noted who touched written (touch_all who first m)) ≡ noted who (first ++ touched ++ later) written m
+
+-- what an access touches and writes is noted, at a terminal that may be
+abbrev pub AccessesAreNoted : Type 0
+AccessesAreNoted = (s : StoreState) (who : ℕ) (a : Access) → IsPart who → ((t : ℕ) → terminal_of a ≡ Some t → IsTerm t)
+    → AreNoted (touched s who a) × ((x : Answer) → AreNoted (written_by x who a))

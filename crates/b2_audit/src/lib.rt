@@ -13,6 +13,8 @@ pub mod laws;
 mod noting;
 mod part_set;
 mod seen;
+#[cfg(test)]
+mod tests;
 mod watched;
 
 pub use seen::Seen;
