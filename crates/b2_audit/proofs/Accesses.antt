@@ -1,4 +1,4 @@
--- What accesses touch and write is noted.
+-- What accesses touch and write is marked.
 use Rattle.std.specs.Prelude.{◌≡◌, ℕ, List, [], ◌∷◌, Some, refl}
 use Rattle.std.proofs.Common.{sym, subst, inl, inr}
 use Rattle.b2_access.specs.declared.objects.Object.{Object}
@@ -10,18 +10,18 @@ use Rattle.b2_access.specs.declared.accesses.Answer.TheVariants as answer
 use Rattle.b2_access.specs.Causes.{terminal_of}
 use Rattle.b2_access.specs.Store.{StoreState, IsIn}
 use Rattle.b2_access.specs.Touching.{touched, may_write, written_by}
-use Rattle.b2_audit.specs.Steps.{IsPart, IsTerm, IsNoted, AreNoted, AccessesAreNoted}
+use Rattle.b2_audit.specs.Steps.{IsPartition, IsTerminal, IsMarked, AreMarked, AccessesAreMarked}
 
-nothing : AreNoted []
+nothing : AreMarked []
 nothing o i = absurd i
 
-add : (x : Object) (xs : List Object) → IsNoted x → AreNoted xs → AreNoted (x ∷ xs)
-add x xs is are o i = elim i [ inl e ↦ subst (λ (y : Object). IsNoted y) (sym e) is | inr j ↦ are o j ]
+add : (x : Object) (xs : List Object) → IsMarked x → AreMarked xs → AreMarked (x ∷ xs)
+add x xs is are o i = elim i [ inl e ↦ subst (λ (y : Object). IsMarked y) (sym e) is | inr j ↦ are o j ]
 
-own_text : (who : ℕ) → IsPart who → AreNoted (object.Text who ∷ [])
+own_text : (who : ℕ) → IsPartition who → AreMarked (object.Text who ∷ [])
 own_text who is = add (object.Text who) [] is nothing
 
-touched_are : (s : StoreState) (who : ℕ) (a : Access) → IsPart who → ((t : ℕ) → terminal_of a ≡ Some t → IsTerm t) → AreNoted (touched s who a)
+touched_are : (s : StoreState) (who : ℕ) (a : Access) → IsPartition who → ((t : ℕ) → terminal_of a ≡ Some t → IsTerminal t) → AreMarked (touched s who a)
 touched_are s who (access.Show term bytes) is at = add (object.Terminal term) [] (at term refl) nothing
 touched_are s who (access.ReadLine term) is at = add (object.Terminal term) [] (at term refl) nothing
 touched_are s who (access.Insert term bytes) is at = add (object.Terminal term) [] (at term refl) nothing
@@ -31,7 +31,7 @@ touched_are s who (access.Erase from to homes) is at = add (object.Borrow who) (
 touched_are s who (access.ClearAll name homes) is at =
     add (object.Borrow who) (object.Text who ∷ object.Globals who ∷ []) is (add (object.Text who) (object.Globals who ∷ []) is (add (object.Globals who) [] is nothing))
 
-may_write_are : (who : ℕ) (a : Access) → IsPart who → ((t : ℕ) → terminal_of a ≡ Some t → IsTerm t) → AreNoted (may_write who a)
+may_write_are : (who : ℕ) (a : Access) → IsPartition who → ((t : ℕ) → terminal_of a ≡ Some t → IsTerminal t) → AreMarked (may_write who a)
 may_write_are who (access.Show term bytes) is at = add (object.Terminal term) [] (at term refl) nothing
 may_write_are who (access.ReadLine term) is at = add (object.Terminal term) [] (at term refl) nothing
 may_write_are who (access.Insert term bytes) is at = add (object.Terminal term) [] (at term refl) nothing
@@ -40,7 +40,7 @@ may_write_are who (access.PutLine line atoms homes) is at = own_text who is
 may_write_are who (access.Erase from to homes) is at = own_text who is
 may_write_are who (access.ClearAll name homes) is at = add (object.Text who) (object.Globals who ∷ []) is (add (object.Globals who) [] is nothing)
 
-by_answer : (x : Answer) (who : ℕ) (a : Access) → AreNoted (may_write who a) → AreNoted (written_by x who a)
+by_answer : (x : Answer) (who : ℕ) (a : Access) → AreMarked (may_write who a) → AreMarked (written_by x who a)
 by_answer (answer.Wait q) who a are = nothing
 by_answer (answer.Locked q) who a are = nothing
 by_answer (answer.Refused c) who a are = nothing
@@ -50,5 +50,5 @@ by_answer (answer.Line bytes) who a are = are
 by_answer (answer.Special n) who a are = are
 by_answer (answer.Key b) who a are = are
 
-pub accesses_are_noted : AccessesAreNoted
-accesses_are_noted s who a is at = (touched_are s who a is at, λ x. by_answer x who a (may_write_are who a is at))
+pub accesses_are_marked : AccessesAreMarked
+accesses_are_marked s who a is at = (touched_are s who a is at, λ x. by_answer x who a (may_write_are who a is at))

@@ -315,8 +315,8 @@ fn a_loan_touches_both_texts(rt: HostRuntime) -> Result<(), Fail> {
 
 #[test]
 fn laws_are_there(_rt: HostRuntime) -> Result<(), Fail> {
-    laws::law_notes_say_who_is_clean();
-    laws::law_a_step_is_noted_in_parts();
-    laws::law_accesses_are_noted();
+    laws::law_marks_say_who_is_clean();
+    laws::law_a_step_is_marked_in_parts();
+    laws::law_accesses_are_marked();
     Ok(())
 }

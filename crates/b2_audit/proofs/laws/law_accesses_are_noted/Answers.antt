@@ -1,5 +1,0 @@
-use Rattle.b2_audit.proofs.Accesses.{accesses_are_noted}
-use Rattle.b2_audit.proofs.laws.law_accesses_are_noted.Goals as goal
-
-pub returns : goal.returns
-returns c = accesses_are_noted
