@@ -6,3 +6,4 @@ pub mod OwnWrites
 pub mod Cleaning
 pub mod CleanSteps
 pub mod Said
+pub mod Accesses

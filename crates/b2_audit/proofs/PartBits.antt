@@ -8,37 +8,37 @@ use Rattle.std.proofs.Math.Pow.{pow_mono}
 use Rattle.std.proofs.lemmas.Bool.{cases_eq, false_from_ne_true, not_from_false}
 use Rattle.std.proofs.lemmas.Nat.Bits.{bit_at_and, bit_at_or, bit_at-zero, bit_at_ones, bit_at-pow_same, bit_at-pow_other, bit_at_clear_same, bit_at_clear_other, same_from_bits}
 use Rattle.b2_audit.specs.PartSets.{bit_of, has, with_part, without_part, has_other}
-use Rattle.b2_audit.specs.Steps.{IsPart}
+use Rattle.b2_audit.specs.Steps.{IsPartition}
 
 in_range : (p : ℕ) → p ≤ 16 → 2 ^ (p - 1) < 65536
 in_range p high = omega (arith, pow_mono {i = p - 1} {j = 15} (omega (arith, high)))
 
 -- the bit of a partition as the code shifts it
-shifted : (p : ℕ) → IsPart p → 1 * 2 ^ (p - 1) % 65536 ≡ bit_of p
+shifted : (p : ℕ) → IsPartition p → 1 * 2 ^ (p - 1) % 65536 ≡ bit_of p
 shifted p is = mod-eq_of_lt {n = 1 * 2 ^ (p - 1)} {m = 65536} (omega (arith, in_range p is.1)) ∙ omega arith
 
 -- another partition has another bit
-apart : (p q : ℕ) → IsPart p → IsPart q → q ≢ p → q - 1 ≢ p - 1
+apart : (p q : ℕ) → IsPartition p → IsPartition q → q ≢ p → q - 1 ≢ p - 1
 apart p q is_p is_q other e = let a = is_p.0 in let b = is_q.0 in other (omega (arith, e, a, b))
 
-place_fits : (p : ℕ) → IsPart p → p - 1 < 16
+place_fits : (p : ℕ) → IsPartition p → p - 1 < 16
 place_fits p is = let a = is.0 in let b = is.1 in omega (arith, a, b)
 
-cleared_same : (s p : ℕ) → IsPart p → bit_at (without_part s p) (p - 1) ≡ 0
+cleared_same : (s p : ℕ) → IsPartition p → bit_at (without_part s p) (p - 1) ≡ 0
 cleared_same s p is = subst (λ (b : ℕ). bit_at (bit_and s (bit_not w16 b)) (p - 1) ≡ 0) (shifted p is) (bit_at_clear_same w16 s (p - 1) (place_fits p is))
 
-cleared_other : (s p i : ℕ) → IsPart p → i < 16 → i ≢ p - 1 → bit_at (without_part s p) i ≡ bit_at s i
+cleared_other : (s p i : ℕ) → IsPartition p → i < 16 → i ≢ p - 1 → bit_at (without_part s p) i ≡ bit_at s i
 cleared_other s p i is fits other = subst (λ (b : ℕ). bit_at (bit_and s (bit_not w16 b)) i ≡ bit_at s i) (shifted p is) (bit_at_clear_other w16 s (p - 1) (place_fits p is) i fits other)
 
 -- without a partition
-pub without_same : (s p : ℕ) → IsPart p → has (without_part s p) p ≡ false
+pub without_same : (s p : ℕ) → IsPartition p → has (without_part s p) p ≡ false
 without_same s p is = ap (λ (n : ℕ). n == 1) (cleared_same s p is)
 
-pub without_other : (s p q : ℕ) → IsPart p → IsPart q → q ≢ p → has (without_part s p) q ≡ has s q
+pub without_other : (s p q : ℕ) → IsPartition p → IsPartition q → q ≢ p → has (without_part s p) q ≡ has s q
 without_other s p q is_p is_q other = ap (λ (n : ℕ). n == 1) (cleared_other s p (q - 1) is_p (place_fits q is_q) (apart p q is_p is_q other))
 
 -- a partition isn't another
-pub other_with_same : (s p : ℕ) → IsPart p → has_other (with_part s p) p ≡ has_other s p
+pub other_with_same : (s p : ℕ) → IsPartition p → has_other (with_part s p) p ≡ has_other s p
 other_with_same s p is = ap (λ (n : ℕ). not (n == 0)) (same_from_bits _ _ each)
   where
     mask : ℕ
@@ -60,7 +60,7 @@ not_empty : (n i : ℕ) → bit_at n i ≡ 1 → not (n == 0) ≡ true
 not_empty n i is = not_from_false (n == 0) (false_from_ne_true (n == 0) (λ zero_is. cc (sym is ∙ ap (λ (m : ℕ). bit_at m i) ((unsigned_Decides n 0).0 zero_is) ∙ bit_at-zero i)))
 
 -- another one that was added is another
-pub other_with_other : (s p q : ℕ) → IsPart p → IsPart q → q ≢ p → has_other (with_part s q) p ≡ true
+pub other_with_other : (s p q : ℕ) → IsPartition p → IsPartition q → q ≢ p → has_other (with_part s q) p ≡ true
 other_with_other s p q is_p is_q other =
     not_empty (without_part (with_part s q) p) (q - 1)
     (cleared_other (with_part s q) p (q - 1) is_p (place_fits q is_q) (apart p q is_p is_q other)
@@ -73,5 +73,5 @@ other_with_other s p q is_p is_q other =
 pub none_other : (p : ℕ) → has_other 0 p ≡ false
 none_other p = refl
 
-pub all_have : (p : ℕ) → IsPart p → has 65535 p ≡ true
+pub all_have : (p : ℕ) → IsPartition p → has 65535 p ≡ true
 all_have p is = ap (λ (n : ℕ). n == 1) (bit_at_ones 16 (p - 1) (place_fits p is))

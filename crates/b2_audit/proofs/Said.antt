@@ -1,4 +1,4 @@
--- The notes of a list of steps say which partitions are clean.
+-- The marks of a list of steps say which partitions are clean.
 use Rattle.std.specs.Prelude.{◌≡◌, ◌≢◌, ◌↔◌, ◌⊎◌, ◌==◌, ℕ, Bool, true, false, List, [], ◌∷◌, ◌++◌, length, get_or, replicate, refl, if◌then◌else◌}
 use Rattle.std.specs.Cmp.{unsigned_Decides}
 use Rattle.std.proofs.Common.{sym, ap, subst, ◌∙◌, inl, inr}
@@ -7,25 +7,25 @@ use Rattle.std.proofs.lemmas.List.{get_or-replicate, length-replicate}
 use Rattle.b2_access.specs.declared.objects.Object.{Object}
 use Rattle.b2_access.specs.Store.{IsIn}
 use Rattle.b2_audit.specs.PartSets.{has_other}
-use Rattle.b2_audit.specs.Marks.{Marks, is_clean, noted, touch_all, write_all, at_start}
-use Rattle.b2_audit.specs.Steps.{Step, marks_after, just, by_other, IsPart, IsNoted, AreNoted, AreSteps, IsClean, NotesSayClean}
+use Rattle.b2_audit.specs.Marks.{Marks, is_clean, marked, touch_all, write_all, unmarked}
+use Rattle.b2_audit.specs.Steps.{Step, marks_after, just, by_other, IsPartition, IsMarked, AreMarked, AreSteps, IsClean, MarksSayClean}
 use Rattle.b2_audit.proofs.PartBits.{none_other, all_have}
 use Rattle.b2_audit.proofs.Places.{index, placed, at_index}
 use Rattle.b2_audit.proofs.Fouling.{is_foul, touching_keeps, foul_by_writers, still_whole, all_written}
 use Rattle.b2_audit.proofs.Cleaning.{writing_leaves, touches_of_other, own_touches}
 use Rattle.b2_audit.proofs.CleanSteps.{AreApart, CleanFrom, in_both, clean_steps}
 
--- the notes have these objects as foul to a partition
+-- the marks have these objects as foul to a partition
 record Stands (p : ℕ) (m : Marks) (os : List Object) : Type 0 where
   whole : length m.writers ≡ 60
-  dirty : (o : Object) → IsNoted o → (is_foul p o m ≡ true) ↔ IsIn o os
+  dirty : (o : Object) → IsMarked o → (is_foul p o m ≡ true) ↔ IsIn o os
 
 -- at the start there are none
-from_start : (p : ℕ) → Stands p at_start []
+from_start : (p : ℕ) → Stands p unmarked []
 from_start p = record {
   whole = length-replicate {A = ℕ} 60 0;
   dirty = λ o is.
-      let none = ap (λ (n : ℕ). has_other n p) (at_index o at_start is ∙ get_or-replicate {A = ℕ} 60 (index o) 0 0 (placed o is).1) ∙ none_other p in
+      let none = ap (λ (n : ℕ). has_other n p) (at_index o unmarked is ∙ get_or-replicate {A = ℕ} 60 (index o) 0 0 (placed o is).1) ∙ none_other p in
       (λ h. absurd (false≢true (sym none ∙ h)), λ i. absurd i);
 }
 
@@ -44,10 +44,10 @@ of_other p x o = by (x.who == p) refl
     by false e = (λ i. (i, not_one p x.who e), λ h. h.0)
 
 abbrev after_step : Step → Marks → Marks
-after_step x m = noted x.who x.touched x.written m
+after_step x m = marked x.who x.touched x.written m
 
 -- a step adds what it wrote
-step_stands : (p : ℕ) (x : Step) (m : Marks) (os : List Object) → IsPart p → IsPart x.who → AreNoted x.written → Stands p m os → Stands p (after_step x m) (by_other (just p) x ++ os)
+step_stands : (p : ℕ) (x : Step) (m : Marks) (os : List Object) → IsPartition p → IsPartition x.who → AreMarked x.written → Stands p m os → Stands p (after_step x m) (by_other (just p) x ++ os)
 step_stands p x m os is_p is_who are h =
     let keeps = touching_keeps x.who x.touched m in
     let touched = touch_all x.who x.touched m in
@@ -65,7 +65,7 @@ step_stands p x m os is_p is_who are h =
     }
 
 -- a partition stays clean over a step that touches nothing foul, or is another's
-step_clean : (p : ℕ) (x : Step) (m : Marks) (os : List Object) → IsPart p → IsPart x.who → AreNoted x.touched → Stands p m os
+step_clean : (p : ℕ) (x : Step) (m : Marks) (os : List Object) → IsPartition p → IsPartition x.who → AreMarked x.touched → Stands p m os
     → (is_clean p (after_step x m) ≡ true) ↔ ((is_clean p m ≡ true) × (just p x.who ≡ true → AreApart x.touched os))
 step_clean p x m os is_p is_who are h = by (x.who == p) refl
   where
@@ -92,7 +92,7 @@ step_clean p x m os is_p is_who are h = by (x.who == p) refl
         let same = wrote ∙ touches_of_other p x.who x.touched m is_p is_who (λ s. not_one p x.who e (sym s)) in
         (λ c. (sym same ∙ c, λ member. absurd (false≢true (sym e ∙ member))), λ c. same ∙ c.0)
 
-steps_clean : (p : ℕ) (xs : List Step) (m : Marks) (os : List Object) → IsPart p → AreSteps xs → Stands p m os
+steps_clean : (p : ℕ) (xs : List Step) (m : Marks) (os : List Object) → IsPartition p → AreSteps xs → Stands p m os
     → (is_clean p (marks_after xs m) ≡ true) ↔ ((is_clean p m ≡ true) × CleanFrom (just p) os xs)
 steps_clean p [] m os is_p are h = (λ c. (c, tt), λ c. c.0)
 steps_clean p (x ∷ xs) m os is_p are h =
@@ -100,8 +100,8 @@ steps_clean p (x ∷ xs) m os is_p are h =
     let rest = steps_clean p xs (after_step x m) (by_other (just p) x ++ os) is_p are.3 (step_stands p x m os is_p are.0 are.2 h) in
     (λ c. let all = rest.0 c in let here = one.0 all.0 in (here.0, (here.1, all.1)), λ c. rest.1 (one.1 (c.0, c.1.0), c.1.1))
 
-pub notes_say_clean : NotesSayClean
-notes_say_clean steps p are is_p =
-    let all = steps_clean p steps at_start [] is_p are (from_start p) in
+pub marks_say_clean : MarksSayClean
+marks_say_clean steps p are is_p =
+    let all = steps_clean p steps unmarked [] is_p are (from_start p) in
     let forms = clean_steps (just p) steps in
     (λ c. forms.0 (all.0 c).1, λ c. all.1 (all_have p is_p, forms.1 c))

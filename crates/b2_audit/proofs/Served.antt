@@ -1,4 +1,4 @@
--- What a watched store gives is what the store inside gives, with the notes before and after it.
+-- What a watched store gives is what the store inside gives, with the marks made before and after it.
 use Rattle.std.specs.Prelude.{◌≡◌, ℕ, List}
 use Rattle.std.proofs.Common.{ap, ◌∙◌}
 use Rattle.b2_access.specs.declared.objects.Object.{Object}

@@ -1,9 +1,13 @@
--- What the notes say of a list of steps.
-use Rattle.std.specs.Prelude.{◌≡◌, ◌≤◌, ◌==◌, ◌↔◌, ℕ, Bool, true, List, [], ◌∷◌, ◌++◌, if◌then◌else◌}
+-- What the marks say of a list of steps.
+use Rattle.std.specs.Prelude.{◌≡◌, ◌≤◌, ◌==◌, ◌↔◌, ℕ, Bool, true, List, [], ◌∷◌, ◌++◌, Option, Some, if◌then◌else◌}
 use Rattle.b2_access.specs.declared.objects.Object.{Object}
 use Rattle.b2_access.specs.declared.objects.Object.TheVariants as object
-use Rattle.b2_access.specs.Store.{IsIn}
-use Rattle.b2_audit.specs.Marks.{Marks, noted, touch_all, write_all, at_start, is_clean}
+use Rattle.b2_access.specs.declared.accesses.Access.{Access}
+use Rattle.b2_access.specs.declared.accesses.Answer.{Answer}
+use Rattle.b2_access.specs.Causes.{terminal_of}
+use Rattle.b2_access.specs.Store.{StoreState, IsIn}
+use Rattle.b2_access.specs.Touching.{touched, written_by}
+use Rattle.b2_audit.specs.Marks.{Marks, marked, touch_all, unmarked, is_clean}
 
 -- a step of a partition, with the objects that it touched and those that it wrote
 pub record Step : Type 0 where
@@ -11,10 +15,10 @@ pub record Step : Type 0 where
   pub touched : List Object
   pub written : List Object
 
--- the notes with those of some steps
+-- the marks with those of some steps
 abbrev pub marks_after : List Step → Marks → Marks
 marks_after [] m = m
-marks_after (x ∷ xs) m = marks_after xs (noted x.who x.touched x.written m)
+marks_after (x ∷ xs) m = marks_after xs (marked x.who x.touched x.written m)
 
 -- the members of a group of partitions
 abbrev pub Group : Type 0
@@ -37,30 +41,39 @@ IsClean inside steps = (before after : List Step) (x : Step) → steps ≡ befor
 abbrev pub just : ℕ → Group
 just p q = q == p
 
-abbrev pub IsPart : ℕ → Type 0
-IsPart p = (1 ≤ p) × (p ≤ 16)
+abbrev pub IsPartition : ℕ → Type 0
+IsPartition p = (1 ≤ p) × (p ≤ 16)
 
--- an object whose writers are noted
-abbrev pub IsNoted : Object → Type 0
-IsNoted (object.Text p) = IsPart p
-IsNoted (object.Borrow p) = IsPart p
-IsNoted (object.Globals p) = IsPart p
-IsNoted (object.Terminal t) = (1 ≤ t) × (t ≤ 12)
-IsNoted o = ⊥
+abbrev pub IsTerminal : ℕ → Type 0
+IsTerminal t = (1 ≤ t) × (t ≤ 12)
 
-abbrev pub AreNoted : List Object → Type 0
-AreNoted os = (o : Object) → IsIn o os → IsNoted o
+-- an object whose writers are marked
+abbrev pub IsMarked : Object → Type 0
+IsMarked (object.Text p) = IsPartition p
+IsMarked (object.Borrow p) = IsPartition p
+IsMarked (object.Globals p) = IsPartition p
+IsMarked (object.Terminal t) = IsTerminal t
+IsMarked o = ⊥
+
+abbrev pub AreMarked : List Object → Type 0
+AreMarked os = (o : Object) → IsIn o os → IsMarked o
 
 -- steps of partitions, that touch and write such objects alone
 abbrev pub AreSteps : List Step → Type 0
 AreSteps [] = Unit {0}
-AreSteps (x ∷ xs) = IsPart x.who × AreNoted x.touched × AreNoted x.written × AreSteps xs
+AreSteps (x ∷ xs) = IsPartition x.who × AreMarked x.touched × AreMarked x.written × AreSteps xs
 
--- the notes of steps say which partitions are clean
-abbrev pub NotesSayClean : Type 0
-NotesSayClean = (steps : List Step) (p : ℕ) → AreSteps steps → IsPart p → (is_clean p (marks_after steps at_start) ≡ true) ↔ IsClean (just p) steps
+-- the marks of steps say which partitions are clean
+abbrev pub MarksSayClean : Type 0
+MarksSayClean = (steps : List Step) (p : ℕ) → AreSteps steps → IsPartition p → (is_clean p (marks_after steps unmarked) ≡ true) ↔ IsClean (just p) steps
 
--- what a partition touches after it wrote is judged by what was written before
-abbrev pub OwnWritesAreIdle : Type 0
-OwnWritesAreIdle = (who : ℕ) (touched written : List Object) (m : Marks) → IsPart who → AreNoted touched → AreNoted written
-    → touch_all who touched (write_all who written m) ≡ write_all who written (touch_all who touched m)
+-- A step is marked in parts: what it touches first, then what it touches and writes by its access, then what it touches after
+-- that. All that it touches is judged by what was written before the step.
+abbrev pub MarkedInParts : Type 0
+MarkedInParts = (who : ℕ) (first touched later written : List Object) (m : Marks) → IsPartition who → AreMarked later → AreMarked written
+    → touch_all who later (marked who touched written (touch_all who first m)) ≡ marked who (first ++ touched ++ later) written m
+
+-- what an access touches and writes is marked, at a terminal that may be
+abbrev pub AccessesAreMarked : Type 0
+AccessesAreMarked = (s : StoreState) (who : ℕ) (a : Access) → IsPartition who → ((t : ℕ) → terminal_of a ≡ Some t → IsTerminal t)
+    → AreMarked (touched s who a) × ((x : Answer) → AreMarked (written_by x who a))

@@ -1,4 +1,4 @@
--- A store that is watched: it serves and lends as the store inside, and notes what partitions touch and write by that.
+-- A store that is watched: it serves and lends as the store inside, and marks what partitions touch and write by that.
 use Rattle.std.specs.Prelude.{◌≡◌, ℕ, List, [], ◌∷◌, Option, IsSome, refl}
 use Rattle.b2_access.specs.declared.objects.Object.{Object}
 use Rattle.b2_access.specs.declared.objects.Object.TheVariants as object
@@ -8,12 +8,12 @@ use Rattle.b2_access.specs.Loans.{Loan, LoansGlobals}
 use Rattle.b2_access.specs.Sharing.{Gives, ServingOf, IsLocal, ServesAlike, KeepsListed, writes}
 use Rattle.b2_access.specs.Store.{StoreState}
 use Rattle.b2_access.specs.Touching.{touched}
-use Rattle.b2_audit.specs.Marks.{Marks, noted, touch_all}
+use Rattle.b2_audit.specs.Marks.{Marks, marked, touch_all}
 
--- serving, with a note of what each access touches, whatever it is answered, and writes
+-- serving, which marks what each access touches, whatever it is answered, and what it writes
 abbrev pub watching : {M : Type 0} → (M → StoreState) → ServingOf M → ServingOf (M × Marks)
 watching store serving m who a = record {
-  after = ((serving m.0 who a).after, noted who (touched (store m.0) who a) (writes store serving m.0 who a) m.1);
+  after = ((serving m.0 who a).after, marked who (touched (store m.0) who a) (writes store serving m.0 who a) m.1);
   answer = (serving m.0 who a).answer;
 }
 
@@ -21,7 +21,7 @@ watching store serving m who a = record {
 abbrev pub lent_to : ℕ → ℕ → List Object
 lent_to who home = object.Text who ∷ object.Text home ∷ []
 
--- lending, with a note of that
+-- lending, which marks them
 abbrev pub watched_loan : {M : Type 0} → Loan M → Loan (M × Marks)
 watched_loan lending who home at m left = (lending who home at m.0 left, touch_all who (lent_to who home) m.1)
 

@@ -1,6 +1,6 @@
-// What is noted of what partitions touch and write.
+// The marks that partitions leave.
 ghost use Rattle.std.specs.Prelude.{◌≡◌};
-ghost use Rattle.b2_audit.specs.Marks.{at_start, is_clean, place_of, writers_of, touch, write};
+ghost use Rattle.b2_audit.specs.Marks.{unmarked, is_clean, object_place, writers_of, touch, write};
 
 use crate::part_set::PartSet;
 use b2_access::Object;
@@ -10,7 +10,7 @@ use std::marker::Model;
 /// Texts, who stands inside each and `@` variables of sixteen partitions, and twelve terminals.
 const PLACES: usize = 60;
 
-/// What is noted of what partitions touch and write: who wrote each object, and which partitions are clean. A partition is
+/// The marks that partitions leave where they touch and write: who wrote each object, and which partitions are clean. A partition is
 /// clean until it touches an object that another one wrote before.
 #[derive(Drop)]
 pub struct Seen {
@@ -28,8 +28,8 @@ impl Model for Seen {
 }
 
 /// The place of an object, None for one of a kind that the store has not yet.
-fn place_of(object: Object) -> Option<usize>
-    ensures { result ≡ place_of object }
+fn object_place(object: Object) -> Option<usize>
+    ensures { result ≡ object_place object }
 {
     match object {
         Object::Text(p) => Some(usize::from(p.number() - 1)),
@@ -43,7 +43,7 @@ fn place_of(object: Object) -> Option<usize>
 impl Seen {
     /// Nobody wrote anything, and each partition is clean.
     pub fn new() -> Seen
-        ensures { result ≡ at_start }
+        ensures { result ≡ unmarked }
     {
         Seen {
             writers: [PartSet::none(); PLACES],
@@ -62,13 +62,13 @@ impl Seen {
     fn writers_of(&self, object: Object) -> PartSet
         ensures { result ≡ writers_of object self.now }
     {
-        match place_of(object) {
+        match object_place(object) {
             Some(place) => self.writers[place],
             None => PartSet::none(),
         }
     }
 
-    /// Notes that a partition touches an object.
+    /// Marks that a partition touches an object.
     pub(crate) fn touch(&mut self, who: Part, object: Object)
         ensures { self.new ≡ touch who object self.old }
     {
@@ -77,11 +77,11 @@ impl Seen {
         }
     }
 
-    /// Notes that a partition writes an object.
+    /// Marks that a partition writes an object.
     pub(crate) fn write(&mut self, who: Part, object: Object)
         ensures { self.new ≡ write who object self.old }
     {
-        if let Some(place) = place_of(object) {
+        if let Some(place) = object_place(object) {
             self.writers[place] = self.writers[place].with(who);
         }
     }

@@ -1,12 +1,12 @@
 // A store that is watched.
 ghost use Rattle.std.specs.Prelude.{◌≡◌};
 
-use crate::noting::{note_touched, note_written};
+use crate::marking::{mark_touched, mark_written};
 use crate::seen::Seen;
 use b2_access::{Access, Answer, At, Lent, Object, Shared};
 use b2_base::{NoMemory, Part};
 
-/// A store that is watched: it serves and lends as the one inside, and notes what partitions touch and write by that.
+/// A store that is watched: it serves and lends as the one inside, and marks what partitions touch and write by that.
 #[derive(Drop)]
 pub struct Watched<'a, S: Shared> {
     inner: &'a mut S,
@@ -14,7 +14,7 @@ pub struct Watched<'a, S: Shared> {
 }
 
 impl<'a, S: Shared> Watched<'a, S> {
-    /// Watches a store. Notes are added to those that are there.
+    /// Watches a store. Marks are added to those that are there.
     pub fn new(inner: &'a mut S, seen: &'a mut Seen) -> Watched<'a, S>
         ensures inner_held { result.inner.ghost_name ≡ inner.entry.ghost_name }
         ensures seen_held { result.seen.ghost_name ≡ seen.entry.ghost_name }
@@ -54,9 +54,9 @@ impl<S: Shared> Shared for Watched<'_, S> {
     }
 
     fn serve(&mut self, who: Part, access: &Access) -> Result<Answer, NoMemory> {
-        note_touched(self.seen, who, access);
+        mark_touched(self.seen, who, access);
         let answer = self.inner.serve(who, access)?;
-        note_written(self.seen, who, access, &answer);
+        mark_written(self.seen, who, access, &answer);
         Ok(answer)
     }
 

@@ -3,7 +3,6 @@ use Rattle.std.proofs.Common.{◌≡◌, ℕ, ◌==◌, ◌∙◌, refl, sym, ap
 use Rattle.std.specs.Prelude.{◌&&◌, ◌+◌, ◌-◌, ◌%◌, ◌^◌}
 use Rattle.std.proofs.Math.Nat.{zero-div}
 use Rattle.std.specs.Option.{option_map, option_and_then}
-use Rattle.b2_atom.specs.Tree.{Trees}
 use Rattle.b2_flow.specs.Frames.{is_immediate_loop}
 use Rattle.b2_flow.specs.Stacks.{most_frames}
 use Rattle.b2_flow.specs.declared.frame.Frame.{Frame}
@@ -44,10 +43,10 @@ use Rattle.b2_stmt_io.specs.Plan as stmt_io
 use Rattle.b2_stmt_io.proofs.HomesKept as stmt_io_homes
 use Rattle.b2_machine.specs.Endings.{Ending, counts, repeats}
 use Rattle.b2_machine.specs.Keys.{called_at, calls_where, pressed, pressed_by}
-use Rattle.b2_machine.specs.Listed.{lines_listed, lists, named_range}
+use Rattle.b2_machine.specs.Listed.{lines_listed, lists}
 use Rattle.b2_machine.specs.Moving.{ends_by, enters_program, error_place, faults, goes_to, is_continue, is_taken, jumps, moves_to, next_place, units_at}
 use Rattle.b2_machine.specs.Readiness.{halted, readies, resets, without_immediate_loops}
-use Rattle.b2_machine.specs.Statements.{begins, begins_where, begun_by, builder_of, finish_by, finishes, plan_by, tree_where}
+use Rattle.b2_machine.specs.Statements.{begins, begins_where, begun_by, builder_of, finish_by, finishes, plan_by}
 use Rattle.b2_machine.specs.Step.{StepEnd, acts, carries_out, enters_or_goes_on, executes, halts_or_acts, lent, line_read, reads_line, runs_or_reads, seen_by, shows_or_goes_on, step, text_in, types_or_goes_on}
 use Rattle.b2_machine.specs.Touched.{Asking, StepsStayWithin, asking, asks_as_it_acts, asks_at, asks_nothing, asks_to_enter, asks_to_show, asks_to_type, asks_unless_halted}
 use Rattle.b2_machine.specs.Typing.{line_taken, on_own_line, put_by, shown_by, takes, takes_or_refuses, typed_by_key}
@@ -183,12 +182,12 @@ module _ (among : ℕ → Bool) where
   show_marks_none : (term : ℕ) (bytes : List ℕ) → HomesIn among (access.Show term bytes)
   show_marks_none term bytes h is = absurd (true_is_false (sym is ∙ ap (λ (n : ℕ). n % 2 == 1) (zero-div (2 ^ (h - 1)))))
 
-  listed_in : (b : Bool) (t : Trees) (me : Private) (s : SeenLent) → Within me → PlanningIn (lists b t me s)
-  listed_in true t me s w = (w, tt)
-  listed_in false t me s w = (w, show_marks_none me.term (lines_listed (named_range t) s.own.lines))
+  listed_in : (b : Bool) (range : ℕ × ℕ) (me : Private) (s : SeenLent) → Within me → PlanningIn (lists b range me s)
+  listed_in true range me s w = (w, tt)
+  listed_in false range me s w = (w, show_marks_none me.term (lines_listed range s.own.lines))
 
   planned_in : (b : Builder) (p : Place) (me : Private) (s : SeenLent) → Within me → PlanningIn (plan_by b p me s)
-  planned_in builder.Listing p me s w = listed_in (is_some p.line) (tree_where (statement_at p me.immediate s.home.lines)) me s w
+  planned_in (builder.Listing from to) p me s w = listed_in (is_some p.line) (from, to) me s w
   planned_in builder.Control p me s w = stmt_homes.plans_within among me s w
   planned_in builder.Terminal p me s w = stmt_io_homes.plans_within among me s w
   planned_in builder.Nobody p me s w = (w, tt)
@@ -211,7 +210,7 @@ module _ (among : ℕ → Bool) where
   show_ended x a me w = (w, tt)
 
   finish_in : (b : Builder) (x : Access) (a : Answer) (me : Private) (s : SeenLent) → Within me → FinishingIn (finish_by b x a me s)
-  finish_in builder.Listing x a me s w = show_ended x a me w
+  finish_in (builder.Listing from to) x a me s w = show_ended x a me w
   finish_in builder.Control x a me s w = stmt_homes.finishes_within among x a me s w
   finish_in builder.Terminal x a me s w = stmt_io_homes.finishes_within among x a me s w
   finish_in builder.Nobody x a me s w = (w, tt)
