@@ -36,17 +36,17 @@ module _ (g : Group) (p : ℕ) where
     -- the row of a number among the members' is that among all, for a member, and there is none for another
     kept : (ps : List BootPartition) → row_of p (rows (members ps)) ≡ cond (g p) (row_of p (rows ps)) None
     kept [] = nobody (g p)
-    kept (x ∷ xs) = by (x.number == p) refl
+    kept (x ∷ xs) = by (x.number == p) refl (kept xs)
       where
-        here : (x.number == p) ≡ true → (b : Bool) → g p ≡ b → row_of p (rows (cond b (x ∷ members xs) (members xs))) ≡ cond b (row_of p (rows (x ∷ xs))) None
-        here e true is = ap (λ t. cond t (Some (h x)) (row_of p (rows (members xs)))) e ∙ sym (ap (λ t. cond t (Some (h x)) (row_of p (rows xs))) e)
-        here e false is = kept xs ∙ ap (λ t. cond t (row_of p (rows xs)) None) is
+        here : row_of p (rows (members xs)) ≡ cond (g p) (row_of p (rows xs)) None → (x.number == p) ≡ true → (b : Bool) → g p ≡ b → row_of p (rows (cond b (x ∷ members xs) (members xs))) ≡ cond b (row_of p (rows (x ∷ xs))) None
+        here later e true is = ap (λ t. cond t (Some (h x)) (row_of p (rows (members xs)))) e ∙ sym (ap (λ t. cond t (Some (h x)) (row_of p (rows xs))) e)
+        here later e false is = later ∙ ap (λ t. cond t (row_of p (rows xs)) None) is
         there : (x.number == p) ≡ false → (b : Bool) → row_of p (rows (cond b (x ∷ members xs) (members xs))) ≡ row_of p (rows (members xs))
         there e true = ap (λ t. cond t (Some (h x)) (row_of p (rows (members xs)))) e
         there e false = refl
-        by : (b : Bool) → (x.number == p) ≡ b → row_of p (rows (members (x ∷ xs))) ≡ cond (g p) (row_of p (rows (x ∷ xs))) None
-        by true e = ap (λ t. row_of p (rows (cond t (x ∷ members xs) (members xs)))) (ap g (same_number x.number p e)) ∙ here e (g p) refl
-        by false e = there e (g x.number) ∙ kept xs ∙ ap (λ t. cond (g p) (cond t (Some (h x)) (row_of p (rows xs))) None) (sym e)
+        by : (b : Bool) → (x.number == p) ≡ b → row_of p (rows (members xs)) ≡ cond (g p) (row_of p (rows xs)) None → row_of p (rows (members (x ∷ xs))) ≡ cond (g p) (row_of p (rows (x ∷ xs))) None
+        by true e later = ap (λ t. row_of p (rows (cond t (x ∷ members xs) (members xs)))) (ap g (same_number x.number p e)) ∙ here later e (g p) refl
+        by false e later = there e (g x.number) ∙ later ∙ ap (λ t. cond (g p) (cond t (Some (h x)) (row_of p (rows xs))) None) (sym e)
 
     of_member : (ps : List BootPartition) → g p ≡ true → row_of p (rows ps) ≡ row_of p (rows (members ps))
     of_member ps is = sym (kept ps ∙ ap (λ t. cond t (row_of p (rows ps)) None) is)
@@ -62,13 +62,13 @@ module _ (g : Group) (p : ℕ) where
   -- a member at the start names itself alone
   pub starts_within : (ps : List BootPartition) (me : Private) → g p ≡ true → row_of p (map private_row ps) ≡ Some me → IsWithin g me
   starts_within [] me member is = let clash : false ≡ true = ap (λ (o : Option Private). is_some o) is in cc
-  starts_within (x ∷ xs) me member is = by (x.number == p) refl is
+  starts_within (x ∷ xs) me member is = by (x.number == p) refl (λ found. starts_within xs me member found) is
     where
       it : (you : Private) → Some you ≡ Some me → you ≡ me
       it you e = cc
-      by : (b : Bool) → (x.number == p) ≡ b → cond b (Some (private_row x).1) (row_of p (map private_row xs)) ≡ Some me → IsWithin g me
-      by true e found = subst (λ (you : Private). IsWithin g you) (it (private_row x).1 found) (record { part = ap g (same_number x.number p e) ∙ member; place = tt; kept = tt; frames = tt })
-      by false e found = starts_within xs me member found
+      by : (b : Bool) → (x.number == p) ≡ b → (row_of p (map private_row xs) ≡ Some me → IsWithin g me) → cond b (Some (private_row x).1) (row_of p (map private_row xs)) ≡ Some me → IsWithin g me
+      by true e later found = subst (λ (you : Private). IsWithin g you) (it (private_row x).1 found) (record { part = ap g (same_number x.number p e) ∙ member; place = tt; kept = tt; frames = tt })
+      by false e later found = later found
 
 in_group : (b : Bool) → (b ≡ false → ⊥) → b ≡ true
 in_group true out = refl

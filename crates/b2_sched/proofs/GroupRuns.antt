@@ -115,7 +115,7 @@ outside_is_out g = record {
 }
   where
     clash : (b : Bool) → b ≡ true → b ≡ false → ⊥
-    clash b yes no = let both : true ≡ false = sym yes ∙ no in cc
+    clash b is isnt = let both : true ≡ false = sym is ∙ isnt in cc
 
 pub group_relies : GroupsRelyOnTheirOwn
 group_relies g log w v alike clean =

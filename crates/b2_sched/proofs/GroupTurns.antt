@@ -45,13 +45,14 @@ goes_on n end steps me s = unless_ended end.why (λ w. ended (counted_on steps e
 pub turn_stays_within : (among : ℕ → Bool) (n : ℕ) (me : Private) (s : StoreState) (steps : ℕ) → IsWithin among me → IsWithin among (turn_on n me s steps).me
 unfolding turn_from
 turn_stays_within among zero me s steps w = w
-turn_stays_within among (suc n) me s steps w = by (step_of me s).end.why
+turn_stays_within among (suc n) me s steps w = by (step_of me s).end.why (turn_stays_within among n (step_of me s).me (step_of me s).after (counted_on steps (step_of me s).end) next)
   where
     next : IsWithin among (step_of me s).me
     next = (steps_stay_within itself serves after_loan among me s w).0
-    by : (why : Option Why) → IsWithin among (unless_ended why (λ w. ended (counted_on steps (step_of me s).end) w (step_of me s).me (step_of me s).after) (turn_on n (step_of me s).me (step_of me s).after (counted_on steps (step_of me s).end))).me
-    by None = turn_stays_within among n (step_of me s).me (step_of me s).after (counted_on steps (step_of me s).end) next
-    by (Some why) = next
+    by : (why : Option Why) → IsWithin among (turn_on n (step_of me s).me (step_of me s).after (counted_on steps (step_of me s).end)).me
+        → IsWithin among (unless_ended why (λ w. ended (counted_on steps (step_of me s).end) w (step_of me s).me (step_of me s).after) (turn_on n (step_of me s).me (step_of me s).after (counted_on steps (step_of me s).end))).me
+    by None later = later
+    by (Some why) later = next
 
 module _ (g : Group) where
   -- what an outsider's turn leaves unfouled is as before
@@ -59,24 +60,27 @@ module _ (g : Group) where
       → (o : Object) → (IsIn o (foul_after g (steps_in_turn who n me s) os) → ⊥) → content (turn_on n me s steps).after o ≡ content s o
   unfolding turn_from steps_in_turn
   others_turn who zero me s steps os out o clear = refl
-  others_turn who (suc n) me s steps os out o clear = by (step_of me s).end.why clear
+  others_turn who (suc n) me s steps os out o clear =
+      by (step_of me s).end.why (others_turn who n (step_of me s).me (step_of me s).after (counted_on steps (step_of me s).end) (fouled g (told who me s) os) out o) clear
     where
       kept : (xs : List Step) → (IsIn o (foul_after g xs (fouled g (told who me s) os)) → ⊥) → content (step_of me s).after o ≡ content s o
       kept xs c = (local me).others s o (λ i. c (stays_foul g xs (fouled g (told who me s) os) o (other_fouls g (told who me s) os o out i)))
-      by : (why : Option Why) → (IsIn o (foul_after g (unless_ended why (λ w. []) (steps_in_turn who n (step_of me s).me (step_of me s).after)) (fouled g (told who me s) os)) → ⊥)
+      by : (why : Option Why)
+          → ((IsIn o (foul_after g (steps_in_turn who n (step_of me s).me (step_of me s).after) (fouled g (told who me s) os)) → ⊥) → content (turn_on n (step_of me s).me (step_of me s).after (counted_on steps (step_of me s).end)).after o ≡ content (step_of me s).after o)
+          → (IsIn o (foul_after g (unless_ended why (λ w. []) (steps_in_turn who n (step_of me s).me (step_of me s).after)) (fouled g (told who me s) os)) → ⊥)
           → content (unless_ended why (λ w. ended (counted_on steps (step_of me s).end) w (step_of me s).me (step_of me s).after) (turn_on n (step_of me s).me (step_of me s).after (counted_on steps (step_of me s).end))).after o ≡ content s o
-      by None c = others_turn who n (step_of me s).me (step_of me s).after (counted_on steps (step_of me s).end) (fouled g (told who me s) os) out o c ∙ kept (steps_in_turn who n (step_of me s).me (step_of me s).after) c
-      by (Some why) c = kept [] c
+      by None later c = later c ∙ kept (steps_in_turn who n (step_of me s).me (step_of me s).after) c
+      by (Some why) later c = kept [] c
 
   -- a member's turn makes nothing foul
   pub members_foul : (who n : ℕ) (me : Private) (s : StoreState) (os : List Object) → g who ≡ true → foul_after g (steps_in_turn who n me s) os ≡ os
   unfolding steps_in_turn
   members_foul who zero me s os member = refl
-  members_foul who (suc n) me s os member = ap (λ (xs : List Object). foul_after g (unless_ended (step_of me s).end.why (λ w. []) (steps_in_turn who n (step_of me s).me (step_of me s).after)) xs) (own_fouls_nothing g (told who me s) os member) ∙ by (step_of me s).end.why
+  members_foul who (suc n) me s os member = ap (λ (xs : List Object). foul_after g (unless_ended (step_of me s).end.why (λ w. []) (steps_in_turn who n (step_of me s).me (step_of me s).after)) xs) (own_fouls_nothing g (told who me s) os member) ∙ by (step_of me s).end.why (members_foul who n (step_of me s).me (step_of me s).after os member)
     where
-      by : (why : Option Why) → foul_after g (unless_ended why (λ w. []) (steps_in_turn who n (step_of me s).me (step_of me s).after)) os ≡ os
-      by None = members_foul who n (step_of me s).me (step_of me s).after os member
-      by (Some why) = refl
+      by : (why : Option Why) → foul_after g (steps_in_turn who n (step_of me s).me (step_of me s).after) os ≡ os → foul_after g (unless_ended why (λ w. []) (steps_in_turn who n (step_of me s).me (step_of me s).after)) os ≡ os
+      by None later = later
+      by (Some why) later = refl
 
   module _ (out : Object → Type 0) (is_out : IsOut g out) where
     -- none of what a member touches is left out
@@ -110,15 +114,16 @@ module _ (g : Group) where
     pub leaves_out : (n : ℕ) (me : Private) (s : StoreState) (steps : ℕ) → IsWithin g me → (o : Object) → out o → content (turn_on n me s steps).after o ≡ content s o
     unfolding turn_from
     leaves_out zero me s steps w o is = refl
-    leaves_out (suc n) me s steps w o is = by (step_of me s).end.why
+    leaves_out (suc n) me s steps w o is = by (step_of me s).end.why (leaves_out n (step_of me s).me (step_of me s).after (counted_on steps (step_of me s).end) next o is)
       where
         next : IsWithin g (step_of me s).me
         next = (steps_stay_within itself serves after_loan g me s w).0
         kept : content (step_of me s).after o ≡ content s o
         kept = (local me).others s o (λ i. none_out (step_touched me s) o (stepped me s w) ((local me).within s o i) is)
-        by : (why : Option Why) → content (unless_ended why (λ w. ended (counted_on steps (step_of me s).end) w (step_of me s).me (step_of me s).after) (turn_on n (step_of me s).me (step_of me s).after (counted_on steps (step_of me s).end))).after o ≡ content s o
-        by None = leaves_out n (step_of me s).me (step_of me s).after (counted_on steps (step_of me s).end) next o is ∙ kept
-        by (Some why) = kept
+        by : (why : Option Why) → content (turn_on n (step_of me s).me (step_of me s).after (counted_on steps (step_of me s).end)).after o ≡ content (step_of me s).after o
+            → content (unless_ended why (λ w. ended (counted_on steps (step_of me s).end) w (step_of me s).me (step_of me s).after) (turn_on n (step_of me s).me (step_of me s).after (counted_on steps (step_of me s).end))).after o ≡ content s o
+        by None later = later ∙ kept
+        by (Some why) later = kept
 
     -- A member's turn ends alike in both stores, where it touches nothing foul.
     pub record TurnsAlike (os : List Object) (x y : TurnEnd StoreState) : Type 0 where
@@ -140,7 +145,10 @@ module _ (g : Group) where
         → CleanFrom g os (steps_in_turn who n me s) → TurnsAlike os (turn_on n me s steps) (turn_on n me t steps)
     unfolding turn_from steps_in_turn
     members_turn who zero me s t steps os member w agree clean = record { own = refl; objects = agree }
-    members_turn who (suc n) me s t steps os member w agree clean = subst (λ (e : Stepped). TurnsAlike os (goes_on n (step_of me s).end steps (step_of me s).me (step_of me s).after) (goes_on n e steps (step_of me t).me (step_of me t).after)) alike.end by_me
+    members_turn who (suc n) me s t steps os member w agree clean =
+        let later = members_turn who n (step_of me s).me (step_of me s).after (step_of me t).after (counted_on steps (step_of me s).end) os member next agree_next in
+        let by_me = subst (λ (z : Private). TurnsAlike os (goes_on n (step_of me s).end steps (step_of me s).me (step_of me s).after) (goes_on n (step_of me s).end steps z (step_of me t).after)) alike.own (by (step_of me s).end.why later rest) in
+        subst (λ (e : Stepped). TurnsAlike os (goes_on n (step_of me s).end steps (step_of me s).me (step_of me s).after) (goes_on n e steps (step_of me t).me (step_of me t).after)) alike.end by_me
       where
         alike : GoesAlike itself serves me.part (asking me) (step itself serves after_loan me) s t
         alike = step_alike me s t os w agree (clean.0 member)
@@ -150,10 +158,10 @@ module _ (g : Group) where
         agree_next = next_agree me s t os agree alike
         rest : CleanFrom g os (unless_ended (step_of me s).end.why (λ w. []) (steps_in_turn who n (step_of me s).me (step_of me s).after))
         rest = subst (λ (xs : List Object). CleanFrom g xs (unless_ended (step_of me s).end.why (λ w. []) (steps_in_turn who n (step_of me s).me (step_of me s).after))) (own_fouls_nothing g (told who me s) os member) clean.1
-        by : (why : Option Why) → CleanFrom g os (unless_ended why (λ w. []) (steps_in_turn who n (step_of me s).me (step_of me s).after))
+        by : (why : Option Why)
+            → (CleanFrom g os (steps_in_turn who n (step_of me s).me (step_of me s).after) → TurnsAlike os (turn_on n (step_of me s).me (step_of me s).after (counted_on steps (step_of me s).end)) (turn_on n (step_of me s).me (step_of me t).after (counted_on steps (step_of me s).end)))
+            → CleanFrom g os (unless_ended why (λ w. []) (steps_in_turn who n (step_of me s).me (step_of me s).after))
             → TurnsAlike os (unless_ended why (λ w. ended (counted_on steps (step_of me s).end) w (step_of me s).me (step_of me s).after) (turn_on n (step_of me s).me (step_of me s).after (counted_on steps (step_of me s).end)))
             (unless_ended why (λ w. ended (counted_on steps (step_of me s).end) w (step_of me s).me (step_of me t).after) (turn_on n (step_of me s).me (step_of me t).after (counted_on steps (step_of me s).end)))
-        by None c = members_turn who n (step_of me s).me (step_of me s).after (step_of me t).after (counted_on steps (step_of me s).end) os member next agree_next c
-        by (Some why) c = record { own = refl; objects = agree_next }
-        by_me : TurnsAlike os (goes_on n (step_of me s).end steps (step_of me s).me (step_of me s).after) (goes_on n (step_of me s).end steps (step_of me t).me (step_of me t).after)
-        by_me = subst (λ (z : Private). TurnsAlike os (goes_on n (step_of me s).end steps (step_of me s).me (step_of me s).after) (goes_on n (step_of me s).end steps z (step_of me t).after)) alike.own (by (step_of me s).end.why rest)
+        by None later c = later c
+        by (Some why) later c = record { own = refl; objects = agree_next }
