@@ -8,3 +8,4 @@ pub mod GroupRows
 pub mod GroupRuns
 pub mod AloneBoots
 pub mod OwnObjects
+pub mod MarkedTurns

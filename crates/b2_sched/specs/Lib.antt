@@ -2,3 +2,4 @@ pub mod World
 pub mod Start
 pub mod Laws
 pub mod Groups
+pub mod Marking

@@ -1,5 +1,6 @@
 //! What holds of every world: each law is the contract of a function without a body.
 ghost use Rattle.b2_sched.specs.Groups.{CleanGroupsAreAsAlone, GroupsRelyOnTheirOwn, TurnsChangeTheirOwn};
+ghost use Rattle.b2_sched.specs.Marking.{TurnsMarkTheirSteps};
 ghost use Rattle.b2_sched.specs.Laws.{RunsByActions, LeavesOthers, KeepsPresent, CountsTurns};
 
 /// A run is one list of actions, of which each is a key, a front, a halt, a reset or a turn.
@@ -37,4 +38,10 @@ pub fn law_a_clean_group_is_as_alone()
 /// No turn of a partition changes what belongs to another: its text, who stands inside, and its `@` variables.
 pub fn law_a_turn_changes_its_own()
     ensures { TurnsChangeTheirOwn }
+{}
+
+/// A turn of a partition whose text nobody else wrote is over a watched store what it is over the store itself, and it leaves the
+/// marks of its steps.
+pub fn law_a_watched_turn_marks_its_steps()
+    ensures { TurnsMarkTheirSteps }
 {}
