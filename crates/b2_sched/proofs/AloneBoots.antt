@@ -3,7 +3,7 @@ use Rattle.std.specs.Prelude.{◌≡◌, ℕ, ◌==◌, Bool, true, false, cond,
 use Rattle.std.proofs.Common.{sym, ap, subst, ◌∙◌}
 use Rattle.b2_access.specs.Homes.{IsWithin}
 use Rattle.b2_access.specs.Rows.{row_of}
-use Rattle.b2_access.specs.Store.{content, IsIn}
+use Rattle.b2_access.specs.Store.{content}
 use Rattle.b2_access.specs.declared.objects.Object.{Object}
 use Rattle.b2_access.specs.declared.objects.Object.TheVariants as object
 use Rattle.b2_access.specs.declared.private.Private.{Private}

@@ -1,13 +1,10 @@
--- What is foul after some steps, and whether a group is clean, step by step along the list.
-use Rattle.std.specs.Prelude.{◌≡◌, ◌⊎◌, ℕ, Bool, true, false, List, [], ◌∷◌, ◌++◌, refl, if◌then◌else◌}
-use Rattle.std.proofs.Common.{sym, ap, subst, ◌∙◌, inl, inr}
+-- What is foul after some steps, and clean groups along two lists of steps.
+use Rattle.std.specs.Prelude.{◌≡◌, ◌⊎◌, Bool, true, false, List, [], ◌∷◌, ◌++◌, refl, if◌then◌else◌}
+use Rattle.std.proofs.Common.{sym, ap, subst, inl, inr}
 use Rattle.b2_access.specs.declared.objects.Object.{Object}
 use Rattle.b2_access.specs.Store.{IsIn}
-use Rattle.b2_audit.specs.Steps.{Step, Group, by_other, foul, IsClean}
-
--- two lists have no object in common
-abbrev pub AreApart : List Object → List Object → Type 0
-AreApart xs os = (o : Object) → IsIn o xs → IsIn o os → ⊥
+use Rattle.b2_audit.specs.Steps.{Step, Group, by_other, foul}
+use Rattle.b2_audit.proofs.CleanSteps.{CleanFrom, in_both}
 
 -- with what a step of another wrote, and with what those of others wrote
 abbrev pub fouled : Group → Step → List Object → List Object
@@ -17,11 +14,6 @@ abbrev pub foul_after : Group → List Step → List Object → List Object
 foul_after g [] os = os
 foul_after g (x ∷ xs) os = foul_after g xs (fouled g x os)
 
--- no member touches what is foul so far
-abbrev pub CleanFrom : Group → List Object → List Step → Type 0
-CleanFrom g os [] = Unit {0}
-CleanFrom g os (x ∷ xs) = (g x.who ≡ true → AreApart x.touched os) × CleanFrom g (fouled g x os) xs
-
 pub in_left : (o : Object) (xs ys : List Object) → IsIn o xs → IsIn o (xs ++ ys)
 in_left o [] ys h = absurd h
 in_left o (x ∷ xs) ys (inl e) = inl e
@@ -30,11 +22,6 @@ in_left o (x ∷ xs) ys (inr h) = inr (in_left o xs ys h)
 pub in_right : (o : Object) (xs ys : List Object) → IsIn o ys → IsIn o (xs ++ ys)
 in_right o [] ys h = h
 in_right o (x ∷ xs) ys h = inr (in_right o xs ys h)
-
-in_either : (o : Object) (xs ys : List Object) → IsIn o (xs ++ ys) → IsIn o xs ⊎ IsIn o ys
-in_either o [] ys h = inr h
-in_either o (x ∷ xs) ys (inl e) = inl (inl e)
-in_either o (x ∷ xs) ys (inr h) = elim (in_either o xs ys h) [ inl i ↦ inl (inr i) | inr i ↦ inr i ]
 
 -- a step of a member makes nothing foul, and that of another what it wrote
 pub own_fouls_nothing : (g : Group) (x : Step) (os : List Object) → g x.who ≡ true → fouled g x os ≡ os
@@ -53,7 +40,7 @@ pub foul_so_far : (g : Group) (xs : List Step) (os : List Object) (o : Object) �
 foul_so_far g [] os o h = inr h
 foul_so_far g (x ∷ xs) os o h = elim (foul_so_far g xs (fouled g x os) o h) [
   | inl i ↦ inl (in_right o (by_other g x) (foul g xs) i)
-  | inr i ↦ elim (in_either o (by_other g x) os i) [ inl j ↦ inl (in_left o (by_other g x) (foul g xs) j) | inr j ↦ inr j ]
+  | inr i ↦ elim ((in_both o (by_other g x) os).0 i) [ inl j ↦ inl (in_left o (by_other g x) (foul g xs) j) | inr j ↦ inr j ]
 ]
 
 -- along two lists of steps
@@ -68,14 +55,3 @@ clean_first g (x ∷ xs) ys os h = (h.0, clean_first g xs ys (fouled g x os) h.1
 pub clean_rest : (g : Group) (xs ys : List Step) (os : List Object) → CleanFrom g os (xs ++ ys) → CleanFrom g (foul_after g xs os) ys
 clean_rest g [] ys os h = h
 clean_rest g (x ∷ xs) ys os h = clean_rest g xs ys (fouled g x os) h.1
-
--- a clean group is so step by step
-clean_if : (g : Group) (steps : List Step) (os : List Object)
-    → ((before after : List Step) (x : Step) → steps ≡ before ++ x ∷ after → g x.who ≡ true → AreApart x.touched (foul_after g before os)) → CleanFrom g os steps
-clean_if g [] os h = tt
-clean_if g (x ∷ xs) os h =
-    (λ member. h [] xs x refl member, clean_if g xs (fouled g x os) (λ before after y is member. h (x ∷ before) after y (ap (λ (ys : List Step). x ∷ ys) is) member))
-
-pub clean_from : (g : Group) (steps : List Step) → IsClean g steps → CleanFrom g [] steps
-clean_from g steps h = clean_if g steps [] (λ before after x is member o touched dirty.
-    h before after x is member o touched (elim (foul_so_far g before [] o dirty) [ inl i ↦ i | inr i ↦ absurd i ]))

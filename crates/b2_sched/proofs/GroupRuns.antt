@@ -1,21 +1,21 @@
 -- THE GROUP THEOREM: along any log a clean group goes as it goes alone.
-use Rattle.std.specs.Prelude.{◌≡◌, ◌≢◌, ℕ, Bool, true, false, List, [], ◌∷◌, ◌++◌, Option, Some, None, option_map, refl}
+use Rattle.std.specs.Prelude.{◌≡◌, ◌≢◌, ℕ, Bool, true, false, List, [], ◌∷◌, Option, Some, None, option_map, refl}
 use Rattle.std.proofs.Common.{sym, ap, subst, ◌∙◌, inl, inr}
 use Rattle.b2_access.specs.Contents.{content_other, content_same}
-use Rattle.b2_access.specs.Homes.{IsWithin}
 use Rattle.b2_access.specs.Objects.{Decided, same_object}
 use Rattle.b2_access.specs.Rows.{with_row}
-use Rattle.b2_access.specs.Store.{StoreState, IsIn, content}
+use Rattle.b2_access.specs.Store.{StoreState, content}
 use Rattle.b2_access.specs.declared.objects.Object.{Object}
 use Rattle.b2_access.specs.declared.objects.Object.TheVariants as object
 use Rattle.b2_access.specs.declared.private.Private.{Private}
-use Rattle.b2_audit.specs.Steps.{Step, Group, foul}
+use Rattle.b2_audit.specs.Steps.{Group, foul}
 use Rattle.b2_machine.specs.Turn.{TurnEnd}
-use Rattle.b2_sched.proofs.Foul.{CleanFrom, clean_first, clean_from, clean_rest, foul_after, foul_append, foul_so_far, stays_foul}
+use Rattle.b2_audit.proofs.CleanSteps.{CleanFrom, clean_steps}
+use Rattle.b2_sched.proofs.Foul.{clean_first, clean_rest, foul_after, foul_append, foul_so_far, stays_foul}
 use Rattle.b2_sched.proofs.GroupRows.{both_rows, first_rows, rows_changed}
 use Rattle.b2_sched.proofs.GroupTurns.{IsOut, members_foul, members_turn, others_turn, turn_stays_within}
 use Rattle.b2_sched.proofs.Lasting.{by_actions}
-use Rattle.b2_sched.specs.Groups.{GroupsRelyOnTheirOwn, IsOutside, MembersAlike, StoresAlike, WorldsAlike, steps_along, steps_at, steps_of, told_by}
+use Rattle.b2_sched.specs.Groups.{GroupsRelyOnTheirOwn, IsOutside, MembersAlike, WorldsAlike, steps_along, steps_at, steps_of, told_by}
 use Rattle.b2_sched.specs.Laws.{all_actions}
 use Rattle.b2_sched.specs.World.{WorldState, Action, Key, Front, Halt, Reset, Turn, asked_to_halt, asked_to_reset, does, does_all, private_of, ran, turn_of, with_turn}
 use Rattle.b2_store.specs.Changes.{with_terminal}
@@ -121,7 +121,7 @@ pub group_relies : GroupsRelyOnTheirOwn
 group_relies g log w v alike clean =
     let acts = all_actions w.quota log in
     let steps = steps_of log w in
-    let all = all_alike g (IsOutside g) (outside_is_out g) acts w v [] alike (clean_from g steps clean) in
+    let all = all_alike g (IsOutside g) (outside_is_out g) acts w v [] alike ((clean_steps g steps).1 clean) in
     let less : WorldsAlike (IsOutside g) g (foul g steps) (does_all acts w) (does_all acts v) = record {
       quota = all.quota;
       privates = all.privates;

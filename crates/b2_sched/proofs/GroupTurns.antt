@@ -1,11 +1,11 @@
 -- A turn in two stores that have in common what isn't foul and isn't left out, of a member and of another.
-use Rattle.std.specs.Prelude.{◌≡◌, ℕ, zero, suc, Bool, true, false, List, [], ◌∷◌, ◌++◌, Option, Some, None, refl, if◌then◌else◌}
+use Rattle.std.specs.Prelude.{◌≡◌, ℕ, zero, suc, Bool, true, false, List, [], ◌∷◌, Option, Some, None, refl}
 use Rattle.std.proofs.Common.{sym, ap, subst, ◌∙◌, inl, inr}
 use Rattle.b2_access.specs.Homes.{IsWithin}
 use Rattle.b2_access.specs.Locality.{serves_is_local}
 use Rattle.b2_access.specs.Objects.{Decided}
 use Rattle.b2_access.specs.Serving.{serves, itself}
-use Rattle.b2_access.specs.Store.{StoreState, AgreeOn, IsIn, content}
+use Rattle.b2_access.specs.Store.{StoreState, IsIn, content}
 use Rattle.b2_access.specs.Touching.{touched}
 use Rattle.b2_access.specs.declared.accesses.Access.{Access}
 use Rattle.b2_access.specs.declared.accesses.Access.TheVariants as access
@@ -15,12 +15,13 @@ use Rattle.b2_access.specs.declared.private.Private.{Private}
 use Rattle.b2_audit.specs.Steps.{Step, Group}
 use Rattle.b2_machine.proofs.LocalSteps.{is_in, steps_are_local}
 use Rattle.b2_machine.proofs.StepHomes.{steps_stay_within}
-use Rattle.b2_machine.specs.Step.{StepEnd, step}
-use Rattle.b2_machine.specs.Touched.{GoesAlike, GoesLocally, asking, step_touched, step_written, touched_by, touched_where}
+use Rattle.b2_machine.specs.Step.{step}
+use Rattle.b2_machine.specs.Touched.{GoesAlike, GoesLocally, asking, step_touched, step_written, touched_where}
 use Rattle.b2_machine.specs.Turn.{TurnEnd, counted_on, ended, turn_from, unless_ended}
 use Rattle.b2_machine.specs.declared.ends.Stepped.{Stepped}
 use Rattle.b2_machine.specs.declared.ends.Why.{Why}
-use Rattle.b2_sched.proofs.Foul.{AreApart, CleanFrom, foul_after, fouled, other_fouls, own_fouls_nothing, stays_foul}
+use Rattle.b2_audit.proofs.CleanSteps.{AreApart, CleanFrom}
+use Rattle.b2_sched.proofs.Foul.{foul_after, fouled, other_fouls, own_fouls_nothing, stays_foul}
 use Rattle.b2_sched.specs.Groups.{StoresAlike, step_of, steps_in_turn, told}
 use Rattle.b2_sched.specs.World.{after_loan}
 

@@ -1,8 +1,8 @@
 -- A turn over a watched store: that over the plain one, with the marks of its steps. A partition marks its own text where it is
 -- lent; a step by a rule that lends none touches it all the same, which marks nothing, since nobody else writes it.
-use Rattle.std.specs.Prelude.{◌≡◌, ◌≢◌, ℕ, zero, suc, ◌==◌, Bool, true, false, List, [], ◌∷◌, length, replicate, Option, Some, None, refl, if◌then◌else◌}
+use Rattle.std.specs.Prelude.{◌≡◌, ◌≢◌, ℕ, zero, suc, Bool, true, false, List, [], ◌∷◌, length, Option, Some, None, refl, if◌then◌else◌}
 use Rattle.std.proofs.Common.{sym, ap, subst, ◌∙◌, inl, inr}
-use Rattle.std.proofs.lemmas.Bool.{true≢false, cases_Bool}
+use Rattle.std.proofs.lemmas.Bool.{true≢false}
 use Rattle.b2_access.specs.Homes.{IsWithin}
 use Rattle.b2_access.specs.Partition.{is_ready}
 use Rattle.b2_access.specs.Serving.{serves, itself}
@@ -17,24 +17,23 @@ use Rattle.b2_access.specs.declared.objects.Object.TheVariants as object
 use Rattle.b2_access.specs.declared.private.Private.{Private}
 use Rattle.b2_audit.specs.Marks.{Marks, marked, touch, touch_all, write_all}
 use Rattle.b2_audit.specs.PartSets.{without_part}
-use Rattle.b2_audit.specs.Steps.{AreMarked, AreSteps, IsPartition, Step, just, marks_after}
+use Rattle.b2_audit.specs.Steps.{AreMarked, AreSteps, IsPartition, just, marks_after}
 use Rattle.b2_audit.specs.Watching.{watched_loan, watching}
 use Rattle.b2_audit.proofs.Fouling.{all_written, foul_by_writers, is_foul, still_whole, touching_keeps}
 use Rattle.b2_flow.specs.declared.frame.Place.{Place}
 use Rattle.b2_machine.specs.Endings.{Ending}
 use Rattle.b2_machine.specs.Readiness.{halted, resets}
 use Rattle.b2_machine.specs.Statements.{begins}
-use Rattle.b2_machine.specs.Step.{StepEnd, acts, carries_out, enters_or_goes_on, executes, halts_or_acts, lent, line_read, reads_line, runs_or_reads, seen_by, shows_or_goes_on, step, types_or_goes_on}
-use Rattle.b2_machine.specs.Touched.{Asking, access_of, asking, asks_as_it_acts, asks_at, asks_nothing, asks_one, asks_to_enter, asks_to_show, asks_to_type, asks_unless_halted, begun_asks, step_touched, step_written, touched_by, touched_where, written_for, written_where}
+use Rattle.b2_machine.specs.Step.{StepEnd, acts, carries_out, enters_or_goes_on, executes, halts_or_acts, line_read, reads_line, runs_or_reads, seen_by, shows_or_goes_on, step, types_or_goes_on}
+use Rattle.b2_machine.specs.Touched.{Asking, access_of, asking, asks_at, asks_nothing, asks_one, asks_to_enter, asks_to_show, asks_to_type, asks_unless_halted, step_touched, step_written, touched_by, written_for, written_where}
 use Rattle.b2_machine.specs.Turn.{TurnEnd, counted_on, ended, turn_from, unless_ended}
 use Rattle.b2_machine.specs.Typing.{on_own_line, put_by, puts_numbered, shown_by, typed_by_key}
-use Rattle.b2_machine.specs.declared.ends.Stepped.{Stepped}
 use Rattle.b2_machine.specs.declared.ends.Why.{Why}
 use Rattle.b2_machine.specs.declared.statements.Course.{Course}
 use Rattle.b2_machine.specs.declared.statements.Course.TheVariants as course
 use Rattle.b2_machine.proofs.StepHomes.{steps_stay_within}
 use Rattle.b2_sched.proofs.Numbers.{same_number}
-use Rattle.b2_sched.specs.Groups.{IsOutside, step_of, steps_in_turn, told}
+use Rattle.b2_sched.specs.Groups.{step_of, steps_in_turn}
 use Rattle.b2_sched.specs.Marking.{IsOwnText, TurnsMarkTheirSteps, Watched, store_in}
 use Rattle.b2_sched.specs.World.{after_loan}
 

@@ -1,5 +1,5 @@
 -- A turn over a watched store.
-use Rattle.std.specs.Prelude.{◌≡◌, ℕ, false, List, length}
+use Rattle.std.specs.Prelude.{◌≡◌, ℕ, false, length}
 use Rattle.b2_access.specs.Homes.{IsWithin}
 use Rattle.b2_access.specs.Serving.{serves, itself}
 use Rattle.b2_access.specs.Store.{StoreState}
