@@ -15,4 +15,3 @@ pub mod Reading
 pub mod Marked
 pub mod Clearing
 pub mod Plan
-pub mod Homes
