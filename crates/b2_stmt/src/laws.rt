@@ -1,6 +1,6 @@
 //! What holds of statements, whatever they are: each law is the contract of a function without a body.
 ghost use Rattle.b2_access.specs.Homes.{FinishesWithin, PlansWithin};
-ghost use Rattle.b2_access.specs.Keeping.{FinishesKeepNone, PlansKeepNone};
+ghost use Rattle.b2_access.specs.Keeping.{FinishesInPlace, FinishesKeepNone, PlansInPlace, PlansKeepNone};
 ghost use Rattle.b2_stmt.specs.Plan.{finish, plan};
 ghost use Rattle.b2_stmt.specs.ReadingOrder.{ReadsInOrder};
 
@@ -19,6 +19,16 @@ pub fn finishes_stay_within()
 /// until none is left.
 pub fn literals_are_read_in_order()
     ensures { ReadsInOrder }
+{}
+
+/// A statement that is planned leaves the place of the partition, which moves by its outcome.
+pub fn plans_stay_in_place()
+    ensures { PlansInPlace plan }
+{}
+
+/// And so does one that finishes.
+pub fn finishes_stay_in_place()
+    ensures { FinishesInPlace finish }
 {}
 
 /// Where no place is kept for CONTINUE, a statement that is planned keeps none, or the partition is then ready.
