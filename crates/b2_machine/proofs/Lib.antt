@@ -1,10 +1,8 @@
+pub mod Results
+pub mod UnitCounts
+pub mod TextsKept
 pub mod Turns
+pub mod Kept
+pub mod LegalPlans
+pub mod ListRows
 pub mod Listings
-pub mod Booleans
-pub mod BuiltTrees
-pub mod Unbuilt
-pub mod PlainRows
-pub mod LineRanges
-pub mod Printed
-pub mod Receivers
-pub mod Performed

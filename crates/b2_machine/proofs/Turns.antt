@@ -1,28 +1,55 @@
 -- A turn by its next step.
-use Rattle.std.proofs.Common.{◌≡◌, ℕ, suc, zero, ◌+◌, ◌-◌, ◌<◌, ◌≤◌, refl, sym, ap, ◌∙◌, arith}
-use Rattle.b2_machine.specs.Machine.{SoloState, Stepped, Turned, step, turn_of, by_end}
-use Rattle.b2_machine.specs.declared.solo.StepEnd.{StepEnd}
+use Rattle.std.proofs.Common.{◌≡◌, ℕ, suc, zero, ◌+◌, ◌-◌, ◌<◌, ◌≤◌, refl, sym, ap, ◌∙◌, arith, Bool, true, false, if◌then◌else◌, Option, Some, None}
+use Rattle.b2_access.specs.Loans.{Loan}
+use Rattle.b2_access.specs.Sharing.{ServingOf}
+use Rattle.b2_access.specs.Store.{StoreState}
+use Rattle.b2_access.specs.declared.private.Private.{Private}
+use Rattle.b2_machine.specs.Step.{StepEnd, step}
+use Rattle.b2_machine.specs.Turn.{TurnEnd, counted_on, ended, turn_from, unless_ended}
+use Rattle.b2_machine.specs.declared.ends.Stepped.{Stepped}
+use Rattle.b2_machine.specs.declared.ends.Why.{Why}
+use Rattle.b2_machine.specs.declared.ends.Why.TheVariants as reason
 
-by_step : (n : ℕ) (s t : SoloState) (how : StepEnd) (steps : ℕ) → record { after = t; end = how } ≡ step s
-    → by_end how (turn_of n t (steps + 1)) (record { after = t; steps = steps + 1 }) (record { after = t; steps = steps }) ≡ turn_of (suc n) s steps
-unfolding turn_of
-by_step n s t how steps is =
-    ap (λ (p : Stepped). by_end {A = Turned} p.end (turn_of n p.after (steps + 1)) (record { after = p.after; steps = steps + 1 }) (record { after = p.after; steps = steps })) is
+pub few_on : (b : Bool) (n k i : ℕ) → k ≡ (if b then n + 1 else n) → n ≤ i → k ≤ i + 1
+few_on true n k i is few = omega arith
+few_on false n k i is few = omega arith
 
-some_left : (quota i : ℕ) → i < quota → suc (quota - (i + 1)) ≡ quota - i
-some_left quota i h = omega arith
+module _ {M : Type 0} (store : M → StoreState) (serving : ServingOf M) (lending : Loan M) where
+  abbrev pub after_step : ℕ → ℕ → StepEnd M → TurnEnd M
+  after_step n steps s = unless_ended s.end.why (λ w. ended (counted_on steps s.end) w s.me s.after) (turn_from store serving lending n s.me s.after (counted_on steps s.end))
 
-pub one_step : (quota i : ℕ) (s t : SoloState) (how : StepEnd) (steps : ℕ) → i < quota → record { after = t; end = how } ≡ step s
-    → by_end how (turn_of (quota - (i + 1)) t (steps + 1)) (record { after = t; steps = steps + 1 }) (record { after = t; steps = steps }) ≡ turn_of (quota - i) s steps
-one_step quota i s t how steps h is =
-    by_step (quota - (i + 1)) s t how steps is ∙ ap (λ (n : ℕ). turn_of n s steps) (some_left quota i h)
+  by_step : (n : ℕ) (me : Private) (m : M) (steps : ℕ) → after_step n steps (step store serving lending me m) ≡ turn_from store serving lending (suc n) me m steps
+  unfolding turn_from
+  by_step n me m steps = refl
 
-none_left : (quota i : ℕ) → quota ≤ i → quota - i ≡ zero
-none_left quota i h = omega arith
+  some_left : (quota i : ℕ) → i < quota → suc (quota - (i + 1)) ≡ quota - i
+  some_left quota i h = omega arith
 
-at_zero : (s : SoloState) (steps : ℕ) → record { after = s; steps = steps } ≡ turn_of zero s steps
-unfolding turn_of
-at_zero s steps = refl
+  one_step : (quota i : ℕ) (me you : Private) (m after : M) (e : Stepped) (steps : ℕ) → i < quota → ◌≡◌ {A = StepEnd M} (record { me = you; after = after; end = e }) (step store serving lending me m)
+      → after_step (quota - (i + 1)) steps (record { me = you; after = after; end = e }) ≡ turn_from store serving lending (quota - i) me m steps
+  one_step quota i me you m after e steps h is =
+      ap (after_step (quota - (i + 1)) steps) is ∙ by_step (quota - (i + 1)) me m steps ∙ ap (λ (n : ℕ). turn_from store serving lending n me m steps) (some_left quota i h)
 
-pub at_end : (quota i : ℕ) (s : SoloState) (steps : ℕ) → quota ≤ i → record { after = s; steps = steps } ≡ turn_of (quota - i) s steps
-at_end quota i s steps h = at_zero s steps ∙ ap (λ (n : ℕ). turn_of n s steps) (sym (none_left quota i h))
+  -- a step that ends the turn
+  pub ended_by : (quota i : ℕ) (me you : Private) (m after : M) (e : Stepped) (w : Why) (steps : ℕ) → i < quota → ◌≡◌ {A = StepEnd M} (record { me = you; after = after; end = e }) (step store serving lending me m) → e.why ≡ Some w
+      → ended (counted_on steps e) w you after ≡ turn_from store serving lending (quota - i) me m steps
+  ended_by quota i me you m after e w steps h is why =
+      ap (λ (x : Option Why). unless_ended {A = TurnEnd M} x (λ w. ended (counted_on steps e) w you after) (turn_from store serving lending (quota - (i + 1)) you after (counted_on steps e))) (sym why)
+      ∙ one_step quota i me you m after e steps h is
+
+  -- a step after which it goes on
+  pub goes_on : (quota i : ℕ) (me you : Private) (m after : M) (e : Stepped) (steps : ℕ) → i < quota → ◌≡◌ {A = StepEnd M} (record { me = you; after = after; end = e }) (step store serving lending me m) → e.why ≡ None
+      → turn_from store serving lending (quota - (i + 1)) you after (counted_on steps e) ≡ turn_from store serving lending (quota - i) me m steps
+  goes_on quota i me you m after e steps h is why =
+      ap (λ (x : Option Why). unless_ended {A = TurnEnd M} x (λ w. ended (counted_on steps e) w you after) (turn_from store serving lending (quota - (i + 1)) you after (counted_on steps e))) (sym why)
+      ∙ one_step quota i me you m after e steps h is
+
+  none_left : (quota i : ℕ) → quota ≤ i → quota - i ≡ zero
+  none_left quota i h = omega arith
+
+  at_zero : (me : Private) (m : M) (steps : ℕ) → ended steps reason.Quota me m ≡ turn_from store serving lending zero me m steps
+  unfolding turn_from
+  at_zero me m steps = refl
+
+  pub at_end : (quota i : ℕ) (me : Private) (m : M) (steps : ℕ) → quota ≤ i → ended steps reason.Quota me m ≡ turn_from store serving lending (quota - i) me m steps
+  at_end quota i me m steps h = at_zero me m steps ∙ ap (λ (n : ℕ). turn_from store serving lending n me m steps) (sym (none_left quota i h))
