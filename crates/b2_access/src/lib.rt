@@ -15,21 +15,29 @@
 
 mod accesses;
 mod devices;
+mod ending;
+mod going;
 pub mod laws;
 mod lending;
 mod objects;
+mod placed;
 mod places;
 mod planned;
 mod private;
+mod setting;
 mod shared;
 #[cfg(test)]
 mod tests;
 
 pub use accesses::{Access, Answer};
 pub use devices::{Device, DeviceTable};
+pub use ending::{failing, goes_or};
+pub use going::{failed, named_at, to_found, to_goal, to_line, to_place};
 pub use lending::{At, Lent};
 pub use objects::Object;
+pub use placed::{statement_at, statement_on};
 pub use places::{goal_place, place_after};
 pub use planned::{Outcome, Planned};
 pub use private::Private;
+pub use setting::{Setting, setting_of};
 pub use shared::Shared;

@@ -30,7 +30,8 @@ use Rattle.b2_access.specs.declared.accesses.Answer.TheVariants as answer
 use Rattle.b2_access.specs.declared.planned.Outcome.{Outcome}
 use Rattle.b2_access.specs.declared.planned.Outcome.TheVariants as outcome
 use Rattle.b2_access.specs.declared.private.Private.{Private}
-use Rattle.b2_stmt.specs.Around.{around, setting_of}
+use Rattle.b2_stmt.specs.Around.{around}
+use Rattle.b2_access.specs.Partition.{setting_of}
 use Rattle.b2_stmt.specs.Asked.{Here, asked_of, asks_choice, asks_loop, body_place, carried, chosen, place_after, still}
 use Rattle.b2_stmt.specs.Assignments.{assigns}
 use Rattle.b2_stmt.specs.Branches.{goto_goal, if_goal, passed_function}
@@ -39,11 +40,11 @@ use Rattle.b2_stmt.specs.Choices.{choice_in}
 use Rattle.b2_stmt.specs.Clearing.{access_of, cleared, edited, finishes}
 use Rattle.b2_stmt.specs.Course.{continues, restores, restores_where, runs, runs_from, runs_where}
 use Rattle.b2_stmt.specs.Frames.{with_frame}
-use Rattle.b2_stmt.specs.Going.{to_found, to_goal, to_place, where_there}
+use Rattle.b2_access.specs.Going.{to_found, to_goal, to_place, where_there}
 use Rattle.b2_stmt.specs.Homes.{FinishesWithin, FrameIn, FramesIn, IsWithin, OutcomeIn, PlaceIn, PlannedIn, PlansWithin}
 use Rattle.b2_stmt.specs.Loops.{begins, counted, counts, goes_round, is_over, loop_in, made_loop, next_value, nexts, tested, without_loop}
 use Rattle.b2_stmt.specs.Plan.{allowed, by_access, course, course_at, course_in, ended_of, is_refused, line_named}
-use Rattle.b2_stmt.specs.Planning.{Ended, Planning, done, next_or}
+use Rattle.b2_access.specs.Planning.{Ended, Planning, done, goes_or}
 use Rattle.b2_stmt.specs.declared.asked.Asked.{Asked}
 use Rattle.b2_stmt.specs.declared.asked.Asked.TheVariants as asked
 use Rattle.b2_stmt.specs.declared.loops.Loop.{Loop}
@@ -302,7 +303,7 @@ module _ (among : ℕ → Bool) where
   carried_in asked.Mark p me own home h w k = (w, either (OutcomeIn among) (is_some me.args) _ _ tt tt)
 
   -- a statement
-  next_in : (o : Option ℕ) → OutcomeIn among (next_or o)
+  next_in : (o : Option ℕ) → OutcomeIn among (goes_or outcome.Next o)
   next_in None = tt
   next_in (Some code) = tt
 

@@ -1,6 +1,3 @@
-pub mod Planning
-pub mod Endings
-pub mod Going
 pub mod Around
 pub mod Branches
 pub mod Frames

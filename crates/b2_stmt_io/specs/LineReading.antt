@@ -14,10 +14,11 @@ use Rattle.b2_access.specs.declared.accesses.Answer.TheVariants as answer
 use Rattle.b2_access.specs.declared.planned.Outcome.TheVariants as outcome
 use Rattle.b2_access.specs.declared.private.Private.{Private}
 use Rattle.b2_stmt_io.specs.Marks.{typed_by}
-use Rattle.b2_stmt_io.specs.Planning.{Ended, stays, with_assigned}
+use Rattle.b2_stmt_io.specs.Changed.{with_assigned}
+use Rattle.b2_access.specs.Planning.{Ended, stays}
 use Rattle.b2_stmt_io.specs.Receiving.{assign_bytes}
 use Rattle.b2_stmt_io.specs.Showing.{with_column}
-use Rattle.b2_stmt_io.specs.declared.around.Setting.{Setting}
+use Rattle.b2_access.specs.declared.setting.Setting.{Setting}
 
 -- the text of a prompt, no bytes where none is written
 abbrev pub prompt_bytes : Trees → List ℕ

@@ -11,14 +11,11 @@
 
 mod around;
 mod converting;
-mod ending;
-mod going;
 mod imaging;
 mod inputs;
 mod keys;
 mod line_reading;
 mod marks;
-mod placed;
 mod planning;
 mod printing;
 mod receiving;

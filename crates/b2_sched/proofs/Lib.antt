@@ -1,0 +1,4 @@
+pub mod Present
+pub mod Folds
+pub mod Numbers
+pub mod Lasting

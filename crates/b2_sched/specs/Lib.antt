@@ -1,0 +1,4 @@
+pub mod Mock
+pub mod World
+pub mod Start
+pub mod Laws
