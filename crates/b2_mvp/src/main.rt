@@ -13,6 +13,8 @@
 mod inputs;
 mod outputs;
 mod status;
+#[cfg(test)]
+mod tests;
 mod top;
 
 use b2_base::{FileShelf, OutSink};
