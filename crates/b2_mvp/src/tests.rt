@@ -1,10 +1,8 @@
 // What no clause says: that the machine, the boot and the log are those which the manuals and our rules want, by whole runs
 // with all that they write; and that each refusal has its status.
-use crate::top::mvp;
-use b2_base::{MemShelf, MemSink};
+use b2_base::MemShelf;
 use std::alloc::{AllocError, Global};
 use std::collections::BTreeMap;
-use std::test::Fail;
 
 mod long_lines;
 mod refusals;
@@ -56,23 +54,4 @@ fn shelf(
         files.insert(b"log".to_vec(alloc)?, Vec::from_slice(alloc, log)?)?;
     }
     Ok(MemShelf::new(alloc, files, Vec::from_slice(alloc, failing)?))
-}
-
-// Whether a run of partition 1 on terminal 1 ends well with this transcript and this summary.
-fn is_run(
-    alloc: Global,
-    boot: &[u8],
-    log: &[u8],
-    transcript: &[u8],
-    summary: Option<&[u8]>,
-) -> Result<bool, Fail> {
-    let mut shelf = shelf(alloc, Some(boot), Some(log), &[])?;
-    let mut sink = MemSink::new(alloc, Vec::new(alloc));
-    let status = mvp(alloc, &run_words(alloc)?, &mut shelf, &mut sink);
-    let is_kept = shelf.file(b"out.t01").unwrap_or(b"none") == transcript;
-    let is_put = match summary {
-        Some(line) => sink.written() == line,
-        None => true,
-    };
-    Ok(status.number() == 0 && status.line().bytes().is_empty() && is_kept && is_put)
 }

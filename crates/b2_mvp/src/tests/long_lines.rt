@@ -1,5 +1,7 @@
 // Lines of up to 255 atom bytes, one that is longer, and an area that is filled to the byte.
-use super::{BOOT_1, is_run};
+use super::{BOOT_1, run_words, shelf};
+use crate::top::mvp;
+use b2_base::MemSink;
 use std::alloc::{AllocError, Global};
 use std::test::Fail;
 
@@ -139,7 +141,16 @@ fn long_lines_are_read_to_the_limit(rt: HostRuntime) -> Result<(), Fail> {
     for long in &LONG_LINES {
         add_long(alloc, &mut log, &mut transcript, long)?;
     }
-    assert!(rt; is_run(alloc, BOOT_1, &log, &transcript, None)?);
+    let mut shelf = shelf(alloc, Some(BOOT_1), Some(&log), &[])?;
+    let mut sink = MemSink::new(alloc, Vec::new(alloc));
+    assert_eq!(rt;
+        mvp(alloc, &run_words(alloc)?, &mut shelf, &mut sink).number(),
+        0
+    );
+    assert_eq!(rt;
+        shelf.file(b"out.t01").unwrap_or(b"none"),
+        transcript.as_slice()
+    );
     Ok(())
 }
 
@@ -154,6 +165,15 @@ fn the_area_is_filled_to_the_byte(rt: HostRuntime) -> Result<(), Fail> {
     for long in &LAST_LINES {
         add_long(alloc, &mut log, &mut transcript, long)?;
     }
-    assert!(rt; is_run(alloc, SMALL_BOOT, &log, &transcript, None)?);
+    let mut shelf = shelf(alloc, Some(SMALL_BOOT), Some(&log), &[])?;
+    let mut sink = MemSink::new(alloc, Vec::new(alloc));
+    assert_eq!(rt;
+        mvp(alloc, &run_words(alloc)?, &mut shelf, &mut sink).number(),
+        0
+    );
+    assert_eq!(rt;
+        shelf.file(b"out.t01").unwrap_or(b"none"),
+        transcript.as_slice()
+    );
     Ok(())
 }
