@@ -1,5 +1,6 @@
 // The statement at a place.
 ghost use Rattle.std.specs.Prelude.{◌≡◌, IfSome, option_map, Some};
+ghost use Rattle.b2_atom.specs.Tree.{uses_in};
 ghost use Rattle.b2_rows.specs.Laws.{IsRow};
 ghost use Rattle.b2_rows.specs.Rows.{tree_at};
 ghost use Rattle.b2_access.specs.Placed as spec;
@@ -10,7 +11,7 @@ use b2_rows::{RowUnit, row_unit};
 use b2_text::Text;
 
 /// The line of a place: one of the text at home, or the immediate line.
-fn line_named<'a>(immediate: &'a Option<Atoms>, home: &'a Text, n: Option<u16>) -> Option<&'a Atoms>
+pub fn line_named<'a>(immediate: &'a Option<Atoms>, home: &'a Text, n: Option<u16>) -> Option<&'a Atoms>
     ensures { option_map (λ l. l.now) result ≡ spec.line_named immediate.now home.now.lines n }
 {
     match n {
@@ -30,6 +31,7 @@ fn line_named<'a>(immediate: &'a Option<Atoms>, home: &'a Text, n: Option<u16>) 
 pub fn statement_on(line: &Atoms, k: usize) -> Option<RowUnit<'_>>
     ensures statement { option_map (λ u. record { row = u.row; tree = tree_at u.row u.bytes.now }) result ≡ spec.statement_on (Some line.now) k }
     ensures whole { IfSome result (λ u. IsRow u.row u.bytes.now (tree_at u.row u.bytes.now)) }
+    ensures uses { IfSome result (λ u. u.uses ≡ uses_in (tree_at u.row u.bytes.now)) }
 {
     row_unit(line, k)
 }
@@ -42,6 +44,7 @@ pub fn statement_at<'a>(
 ) -> Option<RowUnit<'a>>
     ensures statement { option_map (λ u. record { row = u.row; tree = tree_at u.row u.bytes.now }) result ≡ spec.statement_at place immediate.now home.now.lines }
     ensures whole { IfSome result (λ u. IsRow u.row u.bytes.now (tree_at u.row u.bytes.now)) }
+    ensures uses { IfSome result (λ u. u.uses ≡ uses_in (tree_at u.row u.bytes.now)) }
 {
     match line_named(immediate, home, place.line) {
         Some(line) => statement_on(line, usize::from(place.unit)),

@@ -1,10 +1,3 @@
-pub mod Turns
+pub mod UnitCounts
+pub mod ListRows
 pub mod Listings
-pub mod Booleans
-pub mod BuiltTrees
-pub mod Unbuilt
-pub mod PlainRows
-pub mod LineRanges
-pub mod Printed
-pub mod Receivers
-pub mod Performed

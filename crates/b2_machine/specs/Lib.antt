@@ -1,5 +1,11 @@
-pub mod Refusals
-pub mod Built
-pub mod Asked
-pub mod Assigned
-pub mod Machine
+pub mod Endings
+pub mod Messages
+pub mod Readiness
+pub mod Moving
+pub mod Listed
+pub mod Statements
+pub mod Typing
+pub mod Keys
+pub mod Step
+pub mod Turn
+pub mod Stays

@@ -1,29 +1,30 @@
-//! The machine of one partition at one terminal.
+//! Steps and turns of a partition over any store that partitions share.
 //!
-//! It reads typed lines, keeps numbered ones as its program, and executes units, one a step. A turn is a number of steps.
-//! Stands on `b2_term` for the terminal, on `b2_syntax`, `b2_text` and `b2_lister` for lines, on `b2_rows` for units, on
-//! `b2_expr` and `b2_vars` for values, and on `b2_print` for what PRINT shows.
+//! A step is the first of six rules that applies: a reset, a halt, output that is pending, a literal or a line that is read, a
+//! numbered line, and else the statement at the partition's place. It makes at most one access of the store. A turn is a
+//! number of steps, and ends before its quota where one ends it. `step` and `turn` are proved to be the functions of `specs/`
+//! over the meaning, the serving and the lending of whatever store they are given.
 //!
-//! The definitions are in `specs/`: `Asked` says what a unit asks for and `Assigned` what an assignment does, both by the
-//! tree of the unit on its line, `Built` which operands are executed so far, and `Machine` what a step and a turn do. `Solo`
-//! is seen in contracts as the record `SoloState`, and each of its calls is proved to be the function of these files, for
-//! every state.
+//! Stands on `b2_stmt` and `b2_stmt_io` for what statements do, on `b2_access` for the private state, accesses and the store,
+//! on `b2_syntax` and `b2_lister` for lines, on `b2_print` for columns, on `b2_rows`, `b2_text` and `b2_flow` for places, on
+//! `b2_atom` and `b2_base`.
+//!
+//! The definitions are in `specs/`: how a step ends in `Endings`, what is shown in `Messages`, becoming ready in `Readiness`,
+//! where a partition goes on in `Moving`, LIST in `Listed`, the choice among statements in `Statements`, typed lines in
+//! `Typing`, special function keys in `Keys`, the six rules in `Step` and turns in `Turn`.
 #![tactic(auto)]
 
-mod assignment;
-mod built;
-mod printing;
-mod request;
-mod solo;
-mod statement;
-#[cfg(test)]
-mod statement_tests;
-#[cfg(test)]
-mod tests;
-mod texts;
-mod typed;
+mod ends;
+mod keys;
+mod listed;
+mod messages;
+mod moving;
+mod readiness;
+mod statements;
+mod stepping;
+mod turning;
+mod typing;
 
-pub use request::Request;
-pub use solo::{Doing, Place, Solo, StepEnd};
-pub use statement::{ask, looks_at};
-pub use typed::NumberedLine;
+pub use ends::{Stepped, Turned, Why};
+pub use stepping::step;
+pub use turning::turn;

@@ -1,4 +1,3 @@
-pub mod Mock
 pub mod World
 pub mod Start
 pub mod Laws

@@ -9,7 +9,7 @@ use Rattle.b2_access.specs.Store.{StoreState, content}
 use Rattle.b2_store.specs.Changes.{keyed_at, front_at, room_at}
 use Rattle.b2_boot.specs.declared.log.Event.{Event}
 use Rattle.b2_boot.specs.declared.log.Event.TheVariants as event
-use Rattle.b2_sched.specs.Mock.{Turns, turn}
+use Rattle.b2_machine.specs.Turn.{TurnEnd, turn}
 
 -- the quota of a turn in a round, the own state of each partition by its number, the store, and how many turns and counting steps
 -- there were and how many keys were dropped
@@ -66,11 +66,11 @@ abbrev pub reset : Private → Private
 reset me = record me { reset = true }
 
 -- a turn of a partition over the store
-abbrev pub turn_of : ℕ → Private → StoreState → Turns StoreState
+abbrev pub turn_of : ℕ → Private → StoreState → TurnEnd StoreState
 turn_of quota me s = turn itself serves (λ who home at m w. m) quota me s
 
 -- after a turn of a partition that is present
-abbrev pub after_turn : ℕ → Turns StoreState → WorldState → WorldState
+abbrev pub after_turn : ℕ → TurnEnd StoreState → WorldState → WorldState
 after_turn p t w = record w {
   privates = with_row p w.privates t.me;
   store = t.after;

@@ -10,8 +10,9 @@
 #![tactic(auto)]
 
 pub mod laws;
-mod mock;
 mod start;
+#[cfg(test)]
+mod tests;
 mod world;
 
 pub use world::World;

@@ -4,11 +4,11 @@ ghost use Rattle.b2_store.specs.Meaning.{store_of};
 ghost use Rattle.b2_sched.specs.Start.{booted};
 ghost use Rattle.b2_sched.specs.World.{does, does_all, turns_from, rounds, happens, ran, Key, Front, Halt, Reset, Turn};
 
-use crate::mock::turn;
 use crate::start::{areas_of, fronts_of, privates_of};
 use b2_access::{DeviceTable, Private};
 use b2_base::{NoMemory, Part, Term};
 use b2_boot::{Boot, Event};
+use b2_machine::turn;
 use b2_store::{Rows, StoreBoot, Stores};
 use b2_term::KeyItem;
 use std::alloc::Global;

@@ -22,6 +22,7 @@ mod receiving;
 mod showing;
 mod typed_text;
 
+pub use marks::typed_by;
 pub use planning::{finish, is_built, plan};
 
 #[cfg(test)]

@@ -1,0 +1,86 @@
+-- What a statement plans and how it finishes, by the crate that builds it.
+use Rattle.std.specs.Prelude.{ℕ, ◌==◌, Option, Some, None, is_some, if◌then◌else◌}
+use Rattle.b2_base.specs.declared.codes.TheConstants.{S27_LEFT_OUT}
+use Rattle.b2_atom.specs.Tree.{Trees, names_global}
+use Rattle.b2_atom.specs.Tree.Trees.{Done}
+use Rattle.b2_atom.specs.declared.rows.TheConstants as row
+use Rattle.b2_flow.specs.declared.frame.Place.{Place}
+use Rattle.b2_text.specs.Program.{Lines}
+use Rattle.b2_access.specs.Lending.{SeenLent}
+use Rattle.b2_access.specs.Placed.{Statement, statement_at}
+use Rattle.b2_access.specs.Planning.{Finishing, Planning, done, finished, stays}
+use Rattle.b2_access.specs.declared.accesses.Access.{Access}
+use Rattle.b2_access.specs.declared.accesses.Answer.{Answer}
+use Rattle.b2_access.specs.declared.planned.Outcome.TheVariants as outcome
+use Rattle.b2_access.specs.declared.planned.Planned.{Planned}
+use Rattle.b2_access.specs.declared.planned.Planned.TheVariants as planned
+use Rattle.b2_access.specs.declared.private.Private.{Private}
+use Rattle.b2_stmt.specs.Plan as stmt
+use Rattle.b2_stmt_io.specs.Plan as stmt_io
+use Rattle.b2_stmt_io.specs.Showing.{shown}
+use Rattle.b2_machine.specs.Endings.{Ending, counts, repeats}
+use Rattle.b2_machine.specs.Listed.{lists}
+use Rattle.b2_machine.specs.Moving.{ends_by}
+use Rattle.b2_machine.specs.Readiness.{rests}
+use Rattle.b2_machine.specs.declared.statements.Builder.{Builder}
+use Rattle.b2_machine.specs.declared.statements.Builder.TheVariants as builder
+use Rattle.b2_machine.specs.declared.statements.Course.{Course}
+use Rattle.b2_machine.specs.declared.statements.Course.TheVariants as course
+
+-- who executes a statement; nobody does yet where its row isn't built or an `@` name stands in it
+abbrev pub builder_of : Statement → Builder
+builder_of u =
+    if names_global u.tree then builder.Nobody
+    else (if u.row == row.LIST then builder.Listing
+    else (if stmt.is_built u.row then builder.Control
+    else (if stmt_io.is_built u.row then builder.Terminal
+    else builder.Nobody)))
+
+abbrev pub tree_where : Option Statement → Trees
+tree_where None = Done
+tree_where (Some u) = u.tree
+
+-- what the statement at a place plans
+abbrev pub plan_by : Builder → Place → Private → SeenLent → Planning
+plan_by builder.Listing p me s = lists (is_some p.line) (tree_where (statement_at p me.immediate s.home.lines)) me s
+plan_by builder.Control p me s = stmt.plan me s
+plan_by builder.Terminal p me s = stmt_io.plan me s
+plan_by builder.Nobody p me s = done s (stays me (outcome.Failed S27_LEFT_OUT))
+
+-- how it finishes, by the answer to its access
+abbrev pub finish_by : Builder → Access → Answer → Private → SeenLent → Finishing
+finish_by builder.Listing x a me s = finished s (shown x a me)
+finish_by builder.Control x a me s = stmt.finish x a me s
+finish_by builder.Terminal x a me s = stmt_io.finish x a me s
+finish_by builder.Nobody x a me s = finished s (stays me outcome.Repeat)
+
+-- what became of a statement that began: the step has ended, or an access is asked for
+pub record Begun : Type 0 where
+  pub me : Private
+  pub course : Course
+
+abbrev pub has_ended : Ending → Begun
+has_ended e = record { me = e.me; course = course.Ended e.end }
+
+abbrev pub begun_by : Planned → Builder → Place → Private → Lines → Begun
+begun_by (planned.Done o) b p me home = has_ended (ends_by counts o p me home)
+begun_by (planned.Ask a) b p me home = record { me = me; course = course.Asks a b }
+
+abbrev pub begun : Planning → Builder → Place → Lines → Begun
+begun x b p home = begun_by x.planned b p x.me home
+
+-- a statement that isn't there ends the text or the immediate line
+abbrev pub begins_where : Option Statement → Place → Private → SeenLent → Begun
+begins_where None p me s = has_ended (rests me)
+begins_where (Some u) p me s = begun (plan_by (builder_of u) p me s) (builder_of u) p s.home.lines
+
+-- the statement at a place begins
+abbrev pub begins : Place → Private → SeenLent → Begun
+begins p me s = begins_where (statement_at p me.immediate s.home.lines) p me s
+
+-- and ends by the answer to its access
+abbrev pub ends_with : Finishing → Answer → Place → Lines → Ending
+ends_with f a p home = ends_by (repeats a) f.outcome p f.me home
+
+abbrev pub finishes : Builder → Access → Answer → Place → Private → SeenLent → Ending
+finishes b x a p me s = ends_with (finish_by b x a me s) a p s.home.lines

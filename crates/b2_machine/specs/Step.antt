@@ -1,0 +1,133 @@
+-- A step of a partition over a shared store: the first of six rules that applies. It makes at most one access.
+use Rattle.std.specs.Prelude.{true, false, ℕ, Bool, List, [], Option, Some, None, unwrap_or, if◌then◌else◌}
+use Rattle.b2_flow.specs.declared.frame.Place.{Place}
+use Rattle.b2_text.specs.Program.{TextState}
+use Rattle.b2_access.specs.Lending.{SeenLent}
+use Rattle.b2_access.specs.Loans.{Loan}
+use Rattle.b2_access.specs.Partition.{is_ready}
+use Rattle.b2_access.specs.Sharing.{Gives, ServingOf}
+use Rattle.b2_access.specs.Store.{StoreState, content}
+use Rattle.b2_access.specs.declared.accesses.Access.{Access}
+use Rattle.b2_access.specs.declared.accesses.Access.TheVariants as access
+use Rattle.b2_access.specs.declared.accesses.Answer.{Answer}
+use Rattle.b2_access.specs.declared.accesses.Answer.TheVariants as answer
+use Rattle.b2_access.specs.declared.lending.At.TheVariants as at
+use Rattle.b2_access.specs.declared.objects.Object.TheVariants as object
+use Rattle.b2_access.specs.declared.private.Private.{Private}
+use Rattle.b2_machine.specs.Endings.{Ending, again, goes_on}
+use Rattle.b2_machine.specs.Keys.{pressed}
+use Rattle.b2_machine.specs.Readiness.{halted, resets}
+use Rattle.b2_machine.specs.Statements.{Begun, begins, finishes}
+use Rattle.b2_machine.specs.declared.statements.Builder.{Builder}
+use Rattle.b2_machine.specs.declared.statements.Course.{Course}
+use Rattle.b2_machine.specs.declared.statements.Course.TheVariants as course
+use Rattle.b2_machine.specs.Typing.{line_taken, on_own_line, put_by, puts_numbered, shown_by, typed_by_key}
+use Rattle.b2_machine.specs.declared.ends.Stepped.{Stepped}
+
+-- a step, the private state after it, and what the store then means
+pub record StepEnd (M : Type 0) : Type 0 where
+  pub me : Private
+  pub after : M
+  pub end : Stepped
+
+-- the text of a partition; every one that runs has one
+abbrev pub no_text : TextState
+no_text = record { area = 0; lines = [] }
+
+abbrev pub text_in : StoreState → ℕ → TextState
+text_in s p = unwrap_or (content s (object.Text p)) no_text
+
+-- what its statements see: until names of global texts come the home is the partition itself, and there are no `@` variables
+abbrev pub seen_by : Private → StoreState → SeenLent
+seen_by me s = record { own = text_in s me.part; home = text_in s me.part; globals = None }
+
+module _ {M : Type 0} (store : M → StoreState) (serving : ServingOf M) (lending : Loan M) where
+  -- the own text is lent, and no `@` variables
+  abbrev pub lent : Private → M → M
+  lent me m = lending me.part me.part at.None m None
+
+  -- nothing is asked of the store
+  abbrev pub by_itself : Ending → M → StepEnd M
+  by_itself e m = record { me = e.me; after = m; end = e.end }
+
+  -- an access is made, and the step ends by its answer
+  abbrev pub served : Gives M → (Answer → Ending) → StepEnd M
+  served g finishes = by_itself (finishes g.answer) g.after
+
+  abbrev pub asks_for : Access → (Answer → Ending) → Private → M → StepEnd M
+  asks_for a finishes me m = served (serving m me.part a) finishes
+
+  -- the third rule: output that is pending is shown, on a line of its own
+  abbrev pub shows : Access → Private → M → StepEnd M
+  shows x me m = asks_for x (λ a. shown_by x a me) me m
+
+  abbrev pub shows_pending : List ℕ → Private → M → StepEnd M
+  shows_pending text me m = shows (access.Show me.term (on_own_line me.term_column text)) me m
+
+  -- the fourth: a literal is typed
+  abbrev pub types_literal : List ℕ → Private → M → StepEnd M
+  types_literal text me m = asks_for (access.Insert me.term text) (λ a. typed_by_key a me) me m
+
+  -- or a line is read, and where it is a special function key that ends the reading, the own text says what that does
+  abbrev pub line_read : Answer → Private → M → StepEnd M
+  line_read (answer.Line bytes) me m = by_itself (goes_on (line_taken bytes me)) m
+  line_read (answer.Special n) me m = by_itself (goes_on (pressed n (text_in (store m) me.part).lines me)) (lent me m)
+  line_read a me m = by_itself (again a me) m
+
+  abbrev pub read_by : Gives M → Private → StepEnd M
+  read_by g me = line_read g.answer me g.after
+
+  abbrev pub reads_line : Private → M → StepEnd M
+  reads_line me m = read_by (serving m me.part (access.ReadLine me.term)) me
+
+  -- the fifth: a numbered line that was read is put into the own text
+  abbrev pub enters_line : ℕ × Option (List ℕ) → Private → M → StepEnd M
+  enters_line line me m = asks_for (puts_numbered line) (λ a. put_by a (record me { numbered = None })) me m
+
+  -- the sixth: the statement at its place is executed. It ends at once over what is lent, or over what is lent again after
+  -- the access that it planned.
+  abbrev pub finishes_by : Builder → Access → Place → Private → Gives M → StepEnd M
+  finishes_by b a p me g = by_itself (finishes b a g.answer p me (seen_by me (store g.after))) (lent me g.after)
+
+  abbrev pub carries_out : Course → Place → Private → M → StepEnd M
+  carries_out (course.Ended e) p me m = record { me = me; after = m; end = e }
+  carries_out (course.Asks a b) p me m = finishes_by b a p me (serving m me.part a)
+
+  abbrev pub goes_through : Begun → Place → M → StepEnd M
+  goes_through b p m = carries_out b.course p b.me m
+
+  abbrev pub executes : Place → Private → M → StepEnd M
+  executes p me m = goes_through (begins p me (seen_by me (store m))) p (lent me m)
+
+  -- the rules from the third on
+  abbrev pub runs_or_reads : Option Place → Private → M → StepEnd M
+  runs_or_reads None me m = reads_line me m
+  runs_or_reads (Some p) me m = executes p me m
+
+  abbrev pub enters_or_goes_on : Option (ℕ × Option (List ℕ)) → Private → M → StepEnd M
+  enters_or_goes_on (Some line) me m = enters_line line me m
+  enters_or_goes_on None me m = runs_or_reads me.place me m
+
+  abbrev pub types_or_goes_on : Option (List ℕ) → Private → M → StepEnd M
+  types_or_goes_on (Some text) me m = types_literal text me m
+  types_or_goes_on None me m = enters_or_goes_on me.numbered me m
+
+  abbrev pub shows_or_goes_on : Option (List ℕ × List ℕ) → Private → M → StepEnd M
+  shows_or_goes_on (Some shown) me m = shows_pending shown.1 me m
+  shows_or_goes_on None me m = types_or_goes_on me.literal me m
+
+  abbrev pub acts : Private → M → StepEnd M
+  acts me m = shows_or_goes_on me.pending me m
+
+  -- the second: a partition that runs is halted, and another goes on as if nothing had been asked for
+  abbrev pub halts_or_acts : Private → M → StepEnd M
+  halts_or_acts me m =
+      if is_ready me then acts (record me { halt = false }) m
+      else by_itself (halted me) m
+
+  -- the first: a reset
+  abbrev pub step : Private → M → StepEnd M
+  step me m =
+      if me.reset then by_itself (resets me) m
+      else (if me.halt then halts_or_acts me m
+      else acts me m)

@@ -1,0 +1,42 @@
+-- A turn: steps up to the first that ends it, or to as many as its quota.
+use Rattle.std.specs.Prelude.{ℕ, suc, zero, ◌+◌, Bool, Option, Some, None, if◌then◌else◌}
+use Rattle.b2_access.specs.Loans.{Loan}
+use Rattle.b2_access.specs.Sharing.{ServingOf}
+use Rattle.b2_access.specs.Store.{StoreState}
+use Rattle.b2_access.specs.declared.private.Private.{Private}
+use Rattle.b2_machine.specs.Step.{StepEnd, step}
+use Rattle.b2_machine.specs.declared.ends.Stepped.{Stepped}
+use Rattle.b2_machine.specs.declared.ends.Turned.{Turned}
+use Rattle.b2_machine.specs.declared.ends.Why.{Why}
+use Rattle.b2_machine.specs.declared.ends.Why.TheVariants as reason
+
+-- a turn, the private state after it, and what the store then means
+pub record TurnEnd (M : Type 0) : Type 0 where
+  pub me : Private
+  pub after : M
+  pub turned : Turned
+
+-- how many steps have counted after one more
+abbrev pub counted_on : ℕ → Stepped → ℕ
+counted_on steps e = if e.counted then steps + 1 else steps
+
+abbrev pub ended : {M : Type 0} → ℕ → Why → Private → M → TurnEnd M
+ended steps w me m = record { me = me; after = m; turned = record { steps = steps; why = w } }
+
+-- the turn ends for a reason, or it goes on
+abbrev pub unless_ended : {A : Type 0} → Option Why → (Why → A) → A → A
+unless_ended None ends goes_on = goes_on
+unless_ended (Some w) ends goes_on = ends w
+
+module _ {M : Type 0} (store : M → StoreState) (serving : ServingOf M) (lending : Loan M) where
+  -- at most so many more steps, after some that counted
+  unfoldable pub turn_from : ℕ → Private → M → ℕ → TurnEnd M
+  turn_from zero me m steps = ended steps reason.Quota me m
+  turn_from (suc n) me m steps =
+      let s = step store serving lending me m in
+      unless_ended s.end.why
+        (λ w. ended (counted_on steps s.end) w s.me s.after)
+        (turn_from n s.me s.after (counted_on steps s.end))
+
+  abbrev pub turn : ℕ → Private → M → TurnEnd M
+  turn quota me m = turn_from quota me m 0

@@ -1,0 +1,66 @@
+-- Lines that are typed: what is read, and numbered ones that go into the text.
+use Rattle.std.specs.Prelude.{ℕ, ◌==◌, min, List, [], ◌∷◌, Option, Some, None, Result, Ok, Err, if◌then◌else◌}
+use Rattle.b2_base.specs.Byte as byte
+use Rattle.b2_base.specs.declared.codes.TheConstants.{A08_TEXT_BORROWED}
+use Rattle.b2_print.specs.Columns.{column_after}
+use Rattle.b2_syntax.specs.Reading.{reads}
+use Rattle.b2_syntax.specs.declared.Entered.{Entered}
+use Rattle.b2_syntax.specs.declared.Entered.TheVariants as entered
+use Rattle.b2_syntax.specs.declared.LineErr.{LineErr}
+use Rattle.b2_syntax.specs.declared.LineErr.TheVariants as refusal
+use Rattle.b2_access.specs.declared.accesses.Access.{Access}
+use Rattle.b2_access.specs.declared.accesses.Access.TheVariants as access
+use Rattle.b2_access.specs.declared.accesses.Answer.{Answer}
+use Rattle.b2_access.specs.declared.accesses.Answer.TheVariants as answer
+use Rattle.b2_access.specs.declared.private.Private.{Private}
+use Rattle.b2_stmt.specs.Calls.{without_frames}
+use Rattle.b2_machine.specs.Endings.{Ending, again, goes_on}
+use Rattle.b2_machine.specs.Messages.{column_text}
+use Rattle.b2_machine.specs.Readiness.{prompts, refuses}
+
+-- pending output goes on a line of its own
+abbrev pub on_own_line : ℕ → List ℕ → List ℕ
+on_own_line column text = if column == 0 then text else byte.newline ∷ text
+
+-- it was shown at the terminal, the only device so far; with any other answer it waits on
+abbrev pub shown_by : Access → Answer → Private → Ending
+shown_by (access.Show term shown) answer.Done me = goes_on (record me { pending = None; term_column = column_after me.term_column shown })
+shown_by x a me = again a me
+
+-- the literal of a special function key was typed; with any other answer it waits on
+abbrev pub typed_by_key : Answer → Private → Ending
+typed_by_key answer.Done me = goes_on (record me { literal = None })
+typed_by_key a me = again a me
+
+-- the immediate line runs from its first unit on
+abbrev pub runs_line : List ℕ → Private → Private
+runs_line atoms me = record me { immediate = Some atoms; place = Some (record { home = me.part; line = None; unit = 0 }) }
+
+-- what a typed line says is taken; a number alone takes out the line of that number
+abbrev pub takes : Entered → Private → Private
+takes entered.Empty me = prompts [] me
+takes (entered.Delete n) me = record me { numbered = Some (n, None) }
+takes (entered.Numbered n atoms) me = record me { numbered = Some (n, Some atoms) }
+takes (entered.Immediate atoms) me = runs_line atoms me
+
+-- or it isn't taken
+abbrev pub takes_or_refuses : Result Entered LineErr → Private → Private
+takes_or_refuses (Ok e) me = takes e me
+takes_or_refuses (Err (refusal.At code column)) me = refuses code (column_text code column) me
+takes_or_refuses (Err refusal.NoMemory) me = me
+
+-- a line that was read sets the column of the terminal to 0
+abbrev pub line_taken : List ℕ → Private → Private
+line_taken bytes me = takes_or_refuses (reads bytes) (record me { term_column = 0 })
+
+-- a numbered line goes into the own text; lines have numbers up to 9999
+abbrev pub puts_numbered : ℕ × Option (List ℕ) → Access
+puts_numbered line = access.PutLine (min line.0 9999) line.1 0
+
+-- It was put, and as after any edit there are no frames and nothing is kept; or it is refused, since another partition stands
+-- in the text or there is no room for it.
+abbrev pub put_by : Answer → Private → Ending
+put_by answer.Done me = goes_on (prompts [] (without_frames me))
+put_by (answer.Locked q) me = goes_on (refuses A08_TEXT_BORROWED [] me)
+put_by (answer.Refused code) me = goes_on (refuses code [] me)
+put_by a me = again a me

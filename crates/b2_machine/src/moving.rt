@@ -1,0 +1,204 @@
+// Where a partition goes on after a statement, by its outcome.
+ghost use Rattle.std.specs.Prelude.{◌≡◌, ◌+◌, IfOk, option_map};
+ghost use Rattle.b2_access.specs.Placed.{statement_at as named_at};
+ghost use Rattle.b2_access.specs.Places.{goal_place as place_of_goal};
+ghost use Rattle.b2_rows.specs.Following.{taken_fault as fault_taken, tree_units, unit_or_next};
+ghost use Rattle.b2_machine.specs.Moving as spec;
+
+use crate::ends::{Stepped, Why, counts, ends_turn};
+use crate::messages::error_at;
+use crate::readiness::{become_ready, end_line, note_error, rest};
+use b2_access::{Outcome, Private, goal_place, line_named, place_after, statement_at};
+use b2_atom::{Atoms, rows};
+use b2_base::{Code, NoMemory};
+use b2_flow::Place;
+use b2_rows::{Goal, spells_a_line, taken_fault};
+use b2_text::Text;
+use std::alloc::Global;
+
+/// The place after a unit of a line.
+#[tactic(auto, using(crate::proofs::UnitCounts::none_after))]
+fn place_on(home: &Text, line: &Atoms, place: Place) -> Option<Place>
+    ensures { result ≡ place_of_goal home.now.lines place (unit_or_next (place.unit + 1) (tree_units line.now)) }
+{
+    spells_a_line(line);
+    line.units();
+    if place.unit == u8::MAX {
+        return goal_place(home, place, Goal::NextLine);
+    }
+    place_after(home, line, place)
+}
+
+/// The place after a place of a partition, where nothing else is said.
+fn next_place(me: &Private, home: &Text, place: Place) -> Option<Place>
+    ensures { result ≡ spec.next_place place me.now home.now.lines }
+{
+    match line_named(&me.immediate, home, place.line) {
+        Some(line) => place_on(home, line, place),
+        None => goal_place(home, place, Goal::NextLine),
+    }
+}
+
+/// It stands at another place.
+fn move_to(me: &mut Private, place: Place)
+    ensures changed { me.new ≡ spec.moves_to place me.old }
+    ensures part { me.new.part ≡ me.old.part }
+{
+    me.place = Some(place);
+    me.prompted = false;
+}
+
+/// From an immediate line into the program.
+fn enter_program(me: &mut Private, continues: bool, place: Place)
+    ensures changed { me.new ≡ spec.enters_program continues place me.old }
+    ensures part { me.new.part ≡ me.old.part }
+{
+    move_to(me, place);
+    end_line(me);
+    me.kept = None;
+    if !continues {
+        me.args = None;
+    }
+}
+
+/// Whether CONTINUE stands at a place.
+fn is_continue(me: &Private, home: &Text, place: Place) -> bool
+    ensures { result ≡ spec.is_continue (named_at place me.now.immediate home.now.lines) }
+{
+    match statement_at(place, &me.immediate, home) {
+        Some(unit) => unit.row == rows::CONTINUE,
+        None => false,
+    }
+}
+
+/// From a place to one that a statement names.
+fn jump(me: &mut Private, home: &Text, place: Place, to: Place)
+    ensures changed { me.new ≡ spec.jumps place to me.old home.now.lines }
+    ensures part { me.new.part ≡ me.old.part }
+{
+    if place.line.is_none() && to.line.is_some() {
+        let continues = is_continue(me, home, place);
+        enter_program(me, continues, to);
+    } else {
+        move_to(me, to);
+    }
+}
+
+/// On to a place; where there is none, the text or the immediate line ends.
+fn go_to(alloc: Global, me: &mut Private, place: Option<Place>) -> Result<Stepped, NoMemory>
+    ensures ended { IfOk result (λ e. record { me = me.new; end = e } ≡ spec.goes_to place me.old) }
+    ensures part { me.new.part ≡ me.old.part }
+{
+    match place {
+        Some(place) => {
+            move_to(me, place);
+            Ok(counts())
+        }
+        None => rest(alloc, me),
+    }
+}
+
+/// Whether an ERROR takes a fault.
+fn is_taken(code: Code) -> bool
+    ensures { result ≡ spec.is_taken code }
+{
+    let class = code.class();
+    class == b'C' || class == b'X' || class == b'D'
+}
+
+/// Where an ERROR of a line takes a fault of the unit at a place.
+#[tactic(auto, using(crate::proofs::UnitCounts::few_taken))]
+fn error_on(line: &Atoms, place: Place) -> Option<Place>
+    ensures { result ≡ option_map (λ k. record place { unit = k }) (fault_taken place.unit (tree_units line.now)) }
+{
+    spells_a_line(line);
+    line.units();
+    match taken_fault(line, usize::from(place.unit)) {
+        Some(k) => Some(Place {
+            unit: k as u8,
+            ..place
+        }),
+        None => None,
+    }
+}
+
+/// Where an ERROR takes a fault at a place.
+fn error_place(me: &Private, home: &Text, place: &Place, code: Code) -> Option<Place>
+    ensures { result ≡ spec.error_place code place.now me.now home.now.lines }
+{
+    if !is_taken(code) {
+        return None;
+    }
+    match line_named(&me.immediate, home, place.line) {
+        Some(line) => error_on(line, *place),
+        None => None,
+    }
+}
+
+/// A fault at a place.
+fn fault(
+    alloc: Global,
+    me: &mut Private,
+    home: &Text,
+    place: Place,
+    code: Code,
+) -> Result<Stepped, NoMemory>
+    ensures ended { IfOk result (λ e. record { me = me.new; end = e } ≡ spec.faults code (spec.error_place code place me.old home.now.lines) place me.old) }
+    ensures part { me.new.part ≡ me.old.part }
+{
+    match error_place(me, home, &place, code) {
+        Some(to) => {
+            note_error(me, code);
+            move_to(me, to);
+            Ok(counts())
+        }
+        None => {
+            let text = error_at(alloc, code, me.part, place)?;
+            note_error(me, code);
+            become_ready(me, text)
+        }
+    }
+}
+
+/// On to the next place, where the turn ends.
+fn break_after(
+    alloc: Global,
+    me: &mut Private,
+    home: &Text,
+    place: Place,
+) -> Result<Stepped, NoMemory>
+    ensures ended { IfOk result (λ e. record { me = me.new; end = e } ≡ spec.breaks (spec.goes_to (spec.next_place place me.old home.now.lines) me.old)) }
+    ensures part { me.new.part ≡ me.old.part }
+{
+    let next = next_place(me, home, place);
+    go_to(alloc, me, next)?;
+    Ok(ends_turn(Why::Break))
+}
+
+/// What comes of the outcome of a statement at a place, where `same` says how a step ends that is repeated.
+pub fn settle(
+    alloc: Global,
+    me: &mut Private,
+    home: &Text,
+    place: Place,
+    outcome: Outcome,
+    same: Stepped,
+) -> Result<Stepped, NoMemory>
+    ensures ended { IfOk result (λ e. record { me = me.new; end = e } ≡ spec.ends_by same outcome place me.old home.now.lines) }
+    ensures part { me.new.part ≡ me.old.part }
+{
+    match outcome {
+        Outcome::Next => {
+            let next = next_place(me, home, place);
+            go_to(alloc, me, next)
+        }
+        Outcome::Jump(to) => {
+            jump(me, home, place, to);
+            Ok(counts())
+        }
+        Outcome::Failed(code) => fault(alloc, me, home, place, code),
+        Outcome::Repeat => Ok(same),
+        Outcome::Break => break_after(alloc, me, home, place),
+        Outcome::Ready => rest(alloc, me),
+    }
+}

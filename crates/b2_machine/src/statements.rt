@@ -1,0 +1,225 @@
+// What a statement plans and how it finishes, over what is lent.
+ghost use Rattle.std.specs.Prelude.{◌≡◌, IfOk, IfSome, Option, Some, None, option_map};
+ghost use Rattle.b2_atom.specs.Tree.{uses_in};
+ghost use Rattle.b2_rows.specs.Rows.{tree_at};
+ghost use Rattle.b2_access.specs.Lending.{globals_lent, seen};
+ghost use Rattle.b2_access.specs.Placed.{statement_at as named_at};
+ghost use Rattle.b2_machine.specs.Listed.{named_range as range_named};
+ghost use Rattle.b2_machine.specs.Statements as spec;
+
+use crate::ends::{Stepped, counts, repeats};
+use crate::listed::{after_list, lines_listed, named_range};
+use crate::moving::settle;
+use crate::readiness::rest;
+use b2_access::{
+    Access, Answer, DeviceTable, Lent, Outcome, Planned, Private, failed, statement_at,
+};
+use b2_atom::rows;
+use b2_base::NoMemory;
+use b2_base::codes::{S26_PROGRAM_ONLY, S27_LEFT_OUT};
+use b2_flow::Place;
+use b2_rows::RowUnit;
+use b2_text::Text;
+use std::alloc::Global;
+
+/// Who executes a statement.
+#[derive(Clone, Copy, Debug, PartialEq, Eq)]
+pub enum Builder {
+    /// This crate: LIST.
+    Listing,
+    /// The crate of control and assignment.
+    Control,
+    /// The crate of statements at the terminal.
+    Terminal,
+    /// Nobody yet.
+    Nobody,
+}
+
+/// What became of a statement that began.
+#[derive(Drop)]
+pub enum Course {
+    /// The step has ended.
+    Ended(Stepped),
+    /// It asks for an access; who executes it finishes by the answer.
+    Asks(Access, Builder),
+}
+
+/// Who executes the statement of a unit.
+fn builder_of(unit: &RowUnit<'_>) -> Builder
+    requires uses { unit.now.uses ≡ uses_in (tree_at unit.now.row unit.now.bytes.now) }
+    ensures { result ≡ spec.builder_of (record { row = unit.now.row; tree = tree_at unit.now.row unit.now.bytes.now }) }
+{
+    if unit.uses.globals {
+        Builder::Nobody
+    } else if unit.row == rows::LIST {
+        Builder::Listing
+    } else if b2_stmt::is_built(unit.row) {
+        Builder::Control
+    } else if b2_stmt_io::is_built(unit.row) {
+        Builder::Terminal
+    } else {
+        Builder::Nobody
+    }
+}
+
+/// Who executes the statement at a place, where one is there.
+fn builder_at(me: &Private, home: &Text, place: Place) -> Option<Builder>
+    ensures { result ≡ option_map spec.builder_of (named_at place me.now.immediate home.now.lines) }
+{
+    match statement_at(place, &me.immediate, home) {
+        Some(unit) => Some(builder_of(&unit)),
+        None => None,
+    }
+}
+
+/// The range of lines that LIST names at a place.
+fn range_where(me: &Private, home: &Text, place: Place) -> (u16, u16)
+    ensures { result ≡ range_named (spec.tree_where (named_at place me.now.immediate home.now.lines)) }
+{
+    match statement_at(place, &me.immediate, home) {
+        Some(unit) => named_range(unit.bytes),
+        None => (0, 9999),
+    }
+}
+
+/// What LIST plans.
+fn plan_list(
+    alloc: Global,
+    me: &Private,
+    own: &Text,
+    home: &Text,
+    place: Place,
+) -> Result<Planned, NoMemory>
+    ensures { IfOk result (λ p. p ≡ (spec.plan_by Builder.Listing place me.now (record { own = own.now; home = home.now; globals = None })).planned) }
+{
+    if place.line.is_some() {
+        return Ok(Planned::Done(failed(S26_PROGRAM_ONLY)));
+    }
+    let (from, to) = range_where(me, home, place);
+    Ok(Planned::Ask(Access::Show {
+        term: me.term,
+        bytes: lines_listed(alloc, own, from, to)?,
+    }))
+}
+
+/// What the statement at a place plans.
+fn plan_by(
+    alloc: Global,
+    me: &mut Private,
+    lent: &mut Lent<'_>,
+    devices: &DeviceTable,
+    place: Place,
+    builder: Builder,
+) -> Result<Planned, NoMemory>
+    ensures planned { IfOk result (λ p. record { me = me.new; globals = globals_lent lent.new; planned = p } ≡ spec.plan_by builder place me.old (seen lent.old)) }
+    ensures same_reference { lent.new.globals.ghost_name ≡ lent.old.globals.ghost_name }
+    ensures part { me.new.part ≡ me.old.part }
+{
+    match builder {
+        Builder::Listing => plan_list(alloc, me, lent.own, lent.home, place),
+        Builder::Control => b2_stmt::plan(alloc, me, lent, devices),
+        Builder::Terminal => b2_stmt_io::plan(alloc, me, lent, devices),
+        Builder::Nobody => Ok(Planned::Done(failed(S27_LEFT_OUT))),
+    }
+}
+
+/// How it finishes, by the answer to its access.
+fn finish_by(
+    alloc: Global,
+    me: &mut Private,
+    lent: &mut Lent<'_>,
+    builder: Builder,
+    access: &Access,
+    answer: &Answer,
+) -> Result<Outcome, NoMemory>
+    ensures finished { IfOk result (λ o. record { me = me.new; globals = globals_lent lent.new; outcome = o } ≡ spec.finish_by builder access.now answer.now me.old (seen lent.old)) }
+    ensures same_reference { lent.new.globals.ghost_name ≡ lent.old.globals.ghost_name }
+    ensures part { me.new.part ≡ me.old.part }
+{
+    match builder {
+        Builder::Listing => Ok(after_list(me, access, answer)),
+        Builder::Control => b2_stmt::finish(alloc, me, lent, access, answer),
+        Builder::Terminal => b2_stmt_io::finish(alloc, me, lent, access, answer),
+        Builder::Nobody => Ok(Outcome::Repeat),
+    }
+}
+
+/// What becomes of a plan.
+fn begun(
+    alloc: Global,
+    me: &mut Private,
+    home: &Text,
+    place: Place,
+    planned: Planned,
+    builder: Builder,
+) -> Result<Course, NoMemory>
+    ensures begun { IfOk result (λ c. record { me = me.new; course = c } ≡ spec.begun_by planned builder place me.old home.now.lines) }
+    ensures part { me.new.part ≡ me.old.part }
+{
+    match planned {
+        Planned::Done(outcome) => {
+            let end = settle(alloc, me, home, place, outcome, counts())?;
+            Ok(Course::Ended(end))
+        }
+        Planned::Ask(access) => Ok(Course::Asks(access, builder)),
+    }
+}
+
+/// The statement at a place begins, over what is lent.
+pub fn begin_over(
+    alloc: Global,
+    me: &mut Private,
+    lent: Lent<'_>,
+    devices: &DeviceTable,
+    place: &Place,
+) -> Result<Course, NoMemory>
+    ensures begun { IfOk result (λ c. record { me = me.new; course = c } ≡ spec.begins place.now me.old (seen lent.entry)) }
+    ensures part { me.new.part ≡ me.old.part }
+{
+    let Lent {
+        own,
+        home,
+        globals,
+        found,
+    } = lent;
+    let Some(builder) = builder_at(me, home, *place) else {
+        return Ok(Course::Ended(rest(alloc, me)?));
+    };
+    let mut lent = Lent {
+        own,
+        home,
+        globals,
+        found,
+    };
+    let planned = plan_by(alloc, me, &mut lent, devices, *place, builder)?;
+    begun(alloc, me, home, *place, planned, builder)
+}
+
+/// It ends by the answer to its access, over what is lent again.
+pub fn finish_over(
+    alloc: Global,
+    me: &mut Private,
+    lent: Lent<'_>,
+    place: Place,
+    builder: Builder,
+    access: &Access,
+    answer: &Answer,
+) -> Result<Stepped, NoMemory>
+    ensures ended { IfOk result (λ e. record { me = me.new; end = e } ≡ spec.finishes builder access.now answer.now place me.old (seen lent.entry)) }
+    ensures part { me.new.part ≡ me.old.part }
+{
+    let Lent {
+        own,
+        home,
+        globals,
+        found,
+    } = lent;
+    let mut lent = Lent {
+        own,
+        home,
+        globals,
+        found,
+    };
+    let outcome = finish_by(alloc, me, &mut lent, builder, access, answer)?;
+    settle(alloc, me, home, place, outcome, repeats(answer))
+}

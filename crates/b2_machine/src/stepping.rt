@@ -1,0 +1,268 @@
+// A step: the first of six rules that applies.
+ghost use Rattle.std.specs.Prelude.{◌≡◌, IfOk, OnOk, IsSome};
+ghost use Rattle.b2_access.specs.Store.{content};
+ghost use Rattle.b2_machine.specs.Statements.{begins};
+ghost use Rattle.b2_machine.specs.Stays.{KeepsAll, IsLegalCourse};
+ghost use Rattle.b2_machine.specs.Step as spec;
+
+use crate::ends::{Stepped, counts, repeats};
+use crate::keys::press_over;
+use crate::readiness::{halt, reset};
+use crate::statements::{Builder, Course, begin_over, finish_over};
+use crate::typing::{
+    after_literal, after_pending, after_put, on_own_line, put_numbered, take_line,
+};
+use b2_access::{Access, Answer, At, DeviceTable, Object, Private, Shared};
+use b2_base::{ByteList, NoMemory};
+use b2_flow::Place;
+use std::alloc::Global;
+
+/// Pending output is shown.
+fn show<S: Shared>(me: &mut Private, s: &mut S, shown: ByteList) -> Result<Stepped, NoMemory>
+    ensures ended { IfOk result (λ e. record { me = me.new; after = S.meaning s.new; end = e } ≡ spec.shows S.store S.serving S.lending (Access.Show me.old.term shown) me.old (S.meaning s.old)) }
+    ensures same { S.holds s.new ≡ S.holds s.old }
+    ensures part { me.new.part ≡ me.old.part }
+    ensures listed { OnOk result (KeepsAll (S.store (S.meaning s.old)) (S.store (S.meaning s.new))) }
+{
+    let access = Access::Show {
+        term: me.term,
+        bytes: shown,
+    };
+    let answer = s.serve(me.part, &access)?;
+    Ok(after_pending(me, &access, &answer))
+}
+
+/// A literal is typed.
+fn type_literal<S: Shared>(me: &mut Private, s: &mut S, text: ByteList) -> Result<Stepped, NoMemory>
+    ensures ended { IfOk result (λ e. record { me = me.new; after = S.meaning s.new; end = e } ≡ spec.types_literal S.store S.serving S.lending text me.old (S.meaning s.old)) }
+    ensures same { S.holds s.new ≡ S.holds s.old }
+    ensures part { me.new.part ≡ me.old.part }
+    ensures listed { OnOk result (KeepsAll (S.store (S.meaning s.old)) (S.store (S.meaning s.new))) }
+{
+    let access = Access::Insert {
+        term: me.term,
+        bytes: text,
+    };
+    let answer = s.serve(me.part, &access)?;
+    Ok(after_literal(me, &answer))
+}
+
+/// A special function key was read.
+fn press<S: Shared>(alloc: Global, me: &mut Private, s: &mut S, n: u8) -> Result<Stepped, NoMemory>
+    requires own { IsSome (content (S.store (S.meaning s.old)) (Object.Text me.old.part)) }
+    ensures ended { IfOk result (λ e. record { me = me.new; after = S.meaning s.new; end = e } ≡ spec.line_read S.store S.serving S.lending (Answer.Special n) me.old (S.meaning s.old)) }
+    ensures same { S.holds s.new ≡ S.holds s.old }
+    ensures part { me.new.part ≡ me.old.part }
+    ensures listed { OnOk result (KeepsAll (S.store (S.meaning s.old)) (S.store (S.meaning s.new))) }
+{
+    let part = me.part;
+    press_over(alloc, me, s.lend(part, part, &At::None), n)?;
+    Ok(counts())
+}
+
+/// A line is read.
+fn read_line<S: Shared>(alloc: Global, me: &mut Private, s: &mut S) -> Result<Stepped, NoMemory>
+    requires own { IsSome (content (S.store (S.meaning s.old)) (Object.Text me.old.part)) }
+    ensures ended { IfOk result (λ e. record { me = me.new; after = S.meaning s.new; end = e } ≡ spec.reads_line S.store S.serving S.lending me.old (S.meaning s.old)) }
+    ensures same { S.holds s.new ≡ S.holds s.old }
+    ensures part { me.new.part ≡ me.old.part }
+    ensures listed { OnOk result (KeepsAll (S.store (S.meaning s.old)) (S.store (S.meaning s.new))) }
+{
+    let access = Access::ReadLine { term: me.term };
+    let answer = s.serve(me.part, &access)?;
+    match answer {
+        Answer::Line(line) => {
+            take_line(alloc, me, line.bytes())?;
+            Ok(counts())
+        }
+        Answer::Special(n) => press(alloc, me, s, n),
+        answer => Ok(repeats(&answer)),
+    }
+}
+
+/// A numbered line is put into the own text.
+fn enter_line<S: Shared>(alloc: Global, me: &mut Private, s: &mut S) -> Result<Stepped, NoMemory>
+    requires read { IsSome me.old.numbered }
+    ensures ended { IfOk result (λ e. record { me = me.new; after = S.meaning s.new; end = e } ≡ spec.enters_or_goes_on S.store S.serving S.lending me.old.numbered me.old (S.meaning s.old)) }
+    ensures same { S.holds s.new ≡ S.holds s.old }
+    ensures part { me.new.part ≡ me.old.part }
+    ensures listed { OnOk result (KeepsAll (S.store (S.meaning s.old)) (S.store (S.meaning s.new))) }
+{
+    let Some((line, atoms)) = me.numbered.take() else {
+        unreachable!();
+    };
+    let access = put_numbered(line, atoms);
+    let answer = s.serve(me.part, &access)?;
+    after_put(alloc, me, &answer)
+}
+
+/// The statement at a place begins.
+fn begin<S: Shared>(
+    alloc: Global,
+    me: &mut Private,
+    s: &mut S,
+    d: &DeviceTable,
+    place: &Place,
+) -> Result<Course, NoMemory>
+    requires own { IsSome (content (S.store (S.meaning s.old)) (Object.Text me.old.part)) }
+    ensures begun { IfOk result (λ c. record { me = me.new; course = c } ≡ begins place.now me.old (spec.seen_by me.old (S.store (S.meaning s.old)))) }
+    ensures lent { S.meaning s.new ≡ spec.lent S.store S.serving S.lending me.old (S.meaning s.old) }
+    ensures same { S.holds s.new ≡ S.holds s.old }
+    ensures part { me.new.part ≡ me.old.part }
+    ensures listed { OnOk result (KeepsAll (S.store (S.meaning s.old)) (S.store (S.meaning s.new))) }
+{
+    let part = me.part;
+    begin_over(alloc, me, s.lend(part, part, &At::None), d, place)
+}
+
+/// It finishes, after its access was answered.
+fn finish<S: Shared>(
+    alloc: Global,
+    me: &mut Private,
+    s: &mut S,
+    place: Place,
+    builder: Builder,
+    access: &Access,
+    answer: Answer,
+) -> Result<Stepped, NoMemory>
+    requires own { IsSome (content (S.store (S.meaning s.old)) (Object.Text me.old.part)) }
+    ensures ended { IfOk result (λ e. record { me = me.new; after = S.meaning s.new; end = e } ≡ spec.finishes_by S.store S.serving S.lending builder access.now place me.old (record { after = S.meaning s.old; answer = answer })) }
+    ensures same { S.holds s.new ≡ S.holds s.old }
+    ensures part { me.new.part ≡ me.old.part }
+    ensures listed { OnOk result (KeepsAll (S.store (S.meaning s.old)) (S.store (S.meaning s.new))) }
+{
+    let part = me.part;
+    let lent = s.lend(part, part, &At::None);
+    finish_over(alloc, me, lent, place, builder, access, &answer)
+}
+
+/// What a statement that began asked for is done.
+fn carry_out<S: Shared>(
+    alloc: Global,
+    me: &mut Private,
+    s: &mut S,
+    place: Place,
+    course: Course,
+) -> Result<Stepped, NoMemory>
+    requires own { IsSome (content (S.store (S.meaning s.old)) (Object.Text me.old.part)) }
+    requires legal { IsLegalCourse course }
+    ensures ended { IfOk result (λ e. record { me = me.new; after = S.meaning s.new; end = e } ≡ spec.carries_out S.store S.serving S.lending course place me.old (S.meaning s.old)) }
+    ensures same { S.holds s.new ≡ S.holds s.old }
+    ensures part { me.new.part ≡ me.old.part }
+    ensures listed { OnOk result (KeepsAll (S.store (S.meaning s.old)) (S.store (S.meaning s.new))) }
+{
+    match course {
+        Course::Ended(end) => Ok(end),
+        Course::Asks(access, builder) => {
+            let answer = s.serve(me.part, &access)?;
+            finish(alloc, me, s, place, builder, &access, answer)
+        }
+    }
+}
+
+/// The statement at a place is executed.
+fn execute<S: Shared>(
+    alloc: Global,
+    me: &mut Private,
+    s: &mut S,
+    d: &DeviceTable,
+    place: Place,
+) -> Result<Stepped, NoMemory>
+    requires own { IsSome (content (S.store (S.meaning s.old)) (Object.Text me.old.part)) }
+    ensures ended { IfOk result (λ e. record { me = me.new; after = S.meaning s.new; end = e } ≡ spec.executes S.store S.serving S.lending place me.old (S.meaning s.old)) }
+    ensures same { S.holds s.new ≡ S.holds s.old }
+    ensures part { me.new.part ≡ me.old.part }
+    ensures listed { OnOk result (KeepsAll (S.store (S.meaning s.old)) (S.store (S.meaning s.new))) }
+{
+    let course = begin(alloc, me, s, d, &place)?;
+    carry_out(alloc, me, s, place, course)
+}
+
+/// A numbered line is put, or the statement at the place is executed, or a line is read.
+fn enter_or_go_on<S: Shared>(
+    alloc: Global,
+    me: &mut Private,
+    s: &mut S,
+    d: &DeviceTable,
+) -> Result<Stepped, NoMemory>
+    requires own { IsSome (content (S.store (S.meaning s.old)) (Object.Text me.old.part)) }
+    ensures ended { IfOk result (λ e. record { me = me.new; after = S.meaning s.new; end = e } ≡ spec.enters_or_goes_on S.store S.serving S.lending me.old.numbered me.old (S.meaning s.old)) }
+    ensures same { S.holds s.new ≡ S.holds s.old }
+    ensures part { me.new.part ≡ me.old.part }
+    ensures listed { OnOk result (KeepsAll (S.store (S.meaning s.old)) (S.store (S.meaning s.new))) }
+{
+    if me.numbered.is_some() {
+        return enter_line(alloc, me, s);
+    }
+    match me.place {
+        Some(place) => execute(alloc, me, s, d, place),
+        None => read_line(alloc, me, s),
+    }
+}
+
+/// The rules from the third on.
+fn act<S: Shared>(
+    alloc: Global,
+    me: &mut Private,
+    s: &mut S,
+    d: &DeviceTable,
+) -> Result<Stepped, NoMemory>
+    requires own { IsSome (content (S.store (S.meaning s.old)) (Object.Text me.old.part)) }
+    ensures ended { IfOk result (λ e. record { me = me.new; after = S.meaning s.new; end = e } ≡ spec.acts S.store S.serving S.lending me.old (S.meaning s.old)) }
+    ensures same { S.holds s.new ≡ S.holds s.old }
+    ensures part { me.new.part ≡ me.old.part }
+    ensures listed { OnOk result (KeepsAll (S.store (S.meaning s.old)) (S.store (S.meaning s.new))) }
+{
+    if let Some((_, text)) = &me.pending {
+        let shown = on_own_line(alloc, me.term_column, text.bytes())?;
+        return show(me, s, shown);
+    }
+    if let Some(text) = &me.literal {
+        let typed = ByteList::from_slice(alloc, text.bytes())?;
+        return type_literal(me, s, typed);
+    }
+    enter_or_go_on(alloc, me, s, d)
+}
+
+/// A partition that runs is halted, and another goes on.
+fn halt_or_act<S: Shared>(
+    alloc: Global,
+    me: &mut Private,
+    s: &mut S,
+    d: &DeviceTable,
+) -> Result<Stepped, NoMemory>
+    requires own { IsSome (content (S.store (S.meaning s.old)) (Object.Text me.old.part)) }
+    ensures ended { IfOk result (λ e. record { me = me.new; after = S.meaning s.new; end = e } ≡ spec.halts_or_acts S.store S.serving S.lending me.old (S.meaning s.old)) }
+    ensures same { S.holds s.new ≡ S.holds s.old }
+    ensures part { me.new.part ≡ me.old.part }
+    ensures listed { OnOk result (KeepsAll (S.store (S.meaning s.old)) (S.store (S.meaning s.new))) }
+{
+    if me.place.is_some() {
+        return halt(alloc, me);
+    }
+    me.halt = false;
+    act(alloc, me, s, d)
+}
+
+/// One step of a partition whose own text is in the store: the first of the six rules that applies. After want of memory
+/// nothing is said of the partition and of what the store means.
+pub fn step<S: Shared>(
+    alloc: Global,
+    me: &mut Private,
+    s: &mut S,
+    d: &DeviceTable,
+) -> Result<Stepped, NoMemory>
+    requires own { IsSome (content (S.store (S.meaning s.old)) (Object.Text me.old.part)) }
+    ensures stepped { IfOk result (λ e. record { me = me.new; after = S.meaning s.new; end = e } ≡ spec.step S.store S.serving S.lending me.old (S.meaning s.old)) }
+    ensures same { S.holds s.new ≡ S.holds s.old }
+    ensures part { me.new.part ≡ me.old.part }
+    ensures listed { OnOk result (KeepsAll (S.store (S.meaning s.old)) (S.store (S.meaning s.new))) }
+{
+    if me.reset {
+        return reset(alloc, me);
+    }
+    if me.halt {
+        return halt_or_act(alloc, me, s, d);
+    }
+    act(alloc, me, s, d)
+}

@@ -1,0 +1,44 @@
+// A turn: steps up to the first that ends it, or to as many as its quota.
+ghost use Rattle.std.specs.Prelude.{◌≡◌, ◌≤◌, IfOk, OnOk, IsSome};
+ghost use Rattle.b2_access.specs.Store.{content};
+ghost use Rattle.b2_machine.specs.Stays.{KeepsAll};
+ghost use Rattle.b2_machine.specs.Turn as spec;
+
+use crate::ends::{Turned, Why};
+use crate::stepping::step;
+use b2_access::{DeviceTable, Object, Private, Shared};
+use b2_base::NoMemory;
+use std::alloc::Global;
+
+/// One turn of a partition whose own text is in the store: at most `quota` steps that count. Where the last of them also
+/// ends the turn by itself, that is why it ended. After want of memory nothing is said of the partition and of what the
+/// store means.
+pub fn turn<S: Shared>(
+    alloc: Global,
+    me: &mut Private,
+    s: &mut S,
+    d: &DeviceTable,
+    quota: u16,
+) -> Result<Turned, NoMemory>
+    requires own { IsSome (content (S.store (S.meaning s.old)) (Object.Text me.old.part)) }
+    ensures turned { IfOk result (λ t. record { me = me.new; after = S.meaning s.new; turned = t } ≡ spec.turn S.store S.serving S.lending quota me.old (S.meaning s.old)) }
+    ensures few { IfOk result (λ t. t.steps ≤ quota) }
+    ensures same { S.holds s.new ≡ S.holds s.old }
+    ensures part { me.new.part ≡ me.old.part }
+    ensures listed { OnOk result (KeepsAll (S.store (S.meaning s.old)) (S.store (S.meaning s.new))) }
+{
+    let mut steps = 0;
+    for _ in 0..quota {
+        let end = step(alloc, me, s, d)?;
+        if end.counted {
+            steps += 1;
+        }
+        if let Some(why) = end.why {
+            return Ok(Turned { steps, why });
+        }
+    }
+    Ok(Turned {
+        steps,
+        why: Why::Quota,
+    })
+}

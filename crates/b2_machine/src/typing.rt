@@ -1,0 +1,145 @@
+// Lines that are typed: what is read, and numbered ones that go into the text.
+ghost use Rattle.std.specs.Prelude.{◌≡◌, ◌≢◌, Err, IfOk, OnOk, MatchResult};
+ghost use Rattle.b2_syntax.specs.Reading.{reads};
+ghost use Rattle.b2_machine.specs.Typing as spec;
+
+use crate::ends::{Stepped, counts, repeats};
+use crate::messages::error_in_line;
+use crate::readiness::{drop_frames, note_error, prompt, refuse};
+use b2_access::{Access, Answer, Private};
+use b2_atom::Atoms;
+use b2_base::codes::A08_TEXT_BORROWED;
+use b2_base::{ByteList, Code, NoMemory};
+use b2_flow::Place;
+use b2_print::column_after;
+use b2_syntax::{Entered, LineErr, read};
+use std::alloc::Global;
+
+/// Output on a line of its own.
+pub fn on_own_line(alloc: Global, column: u16, text: &[u8]) -> Result<ByteList, NoMemory>
+    ensures { IfOk result (λ shown. shown ≡ spec.on_own_line column text.now) }
+{
+    if column == 0 {
+        return ByteList::from_slice(alloc, text);
+    }
+    let mut shown = Vec::from_slice(alloc, b"\n")?;
+    shown.extend_from_slice(text)?;
+    Ok(ByteList::new(shown))
+}
+
+/// Pending output was shown, or waits on.
+pub fn after_pending(me: &mut Private, access: &Access, answer: &Answer) -> Stepped
+    ensures ended { record { me = me.new; end = result } ≡ spec.shown_by access.now answer.now me.old }
+    ensures part { me.new.part ≡ me.old.part }
+{
+    match (access, answer) {
+        (Access::Show { bytes, .. }, Answer::Done) => {
+            me.pending = None;
+            me.term_column = column_after(me.term_column, bytes.bytes());
+            counts()
+        }
+        _ => repeats(answer),
+    }
+}
+
+/// A literal was typed, or waits on.
+pub fn after_literal(me: &mut Private, answer: &Answer) -> Stepped
+    ensures ended { record { me = me.new; end = result } ≡ spec.typed_by_key answer.now me.old }
+    ensures part { me.new.part ≡ me.old.part }
+{
+    match answer {
+        Answer::Done => {
+            me.literal = None;
+            counts()
+        }
+        _ => repeats(answer),
+    }
+}
+
+/// The immediate line runs from its first unit on.
+fn run_line(me: &mut Private, atoms: Atoms)
+    ensures changed { me.new ≡ spec.runs_line atoms me.old }
+    ensures part { me.new.part ≡ me.old.part }
+{
+    me.place = Some(Place {
+        home: me.part,
+        line: None,
+        unit: 0,
+    });
+    me.immediate = Some(atoms);
+}
+
+/// What a typed line says is taken.
+fn enter(alloc: Global, me: &mut Private, entered: Entered) -> Result<(), NoMemory>
+    ensures changed { OnOk result (me.new ≡ spec.takes entered me.old) }
+    ensures part { me.new.part ≡ me.old.part }
+{
+    match entered {
+        Entered::Empty => prompt(me, Vec::new(alloc))?,
+        Entered::Delete(n) => me.numbered = Some((n, None)),
+        Entered::Numbered(n, atoms) => me.numbered = Some((n, Some(atoms))),
+        Entered::Immediate(atoms) => run_line(me, atoms),
+    }
+    Ok(())
+}
+
+/// A typed line isn't taken, where memory didn't fail.
+fn refuse_line(alloc: Global, me: &mut Private, error: LineErr) -> Result<(), NoMemory>
+    ensures changed { OnOk result ((error ≢ LineErr.NoMemory) × (me.new ≡ spec.takes_or_refuses (Err error) me.old)) }
+    ensures part { me.new.part ≡ me.old.part }
+{
+    match error {
+        LineErr::At(code, column) => {
+            let text = error_in_line(alloc, code, column)?;
+            note_error(me, code);
+            prompt(me, text)
+        }
+        LineErr::NoMemory => Err(NoMemory),
+    }
+}
+
+/// A line that was read is taken.
+pub fn take_line(alloc: Global, me: &mut Private, line: &[u8]) -> Result<(), NoMemory>
+    ensures changed { OnOk result (me.new ≡ spec.line_taken line.now me.old) }
+    ensures part { me.new.part ≡ me.old.part }
+{
+    me.term_column = 0;
+    match read(alloc, line) {
+        Ok(entered) => enter(alloc, me, entered),
+        Err(error) => refuse_line(alloc, me, error),
+    }
+}
+
+/// What puts a numbered line into the own text.
+pub fn put_numbered(line: u16, atoms: Option<Atoms>) -> Access
+    ensures { result ≡ spec.puts_numbered (line, atoms) }
+{
+    Access::PutLine {
+        line: line.min(9999),
+        atoms,
+        homes: 0,
+    }
+}
+
+/// A numbered line was put, or it is refused.
+pub fn after_put(alloc: Global, me: &mut Private, answer: &Answer) -> Result<Stepped, NoMemory>
+    ensures ended { IfOk result (λ e. record { me = me.new; end = e } ≡ spec.put_by answer.now me.old) }
+    ensures part { me.new.part ≡ me.old.part }
+{
+    match answer {
+        Answer::Done => {
+            drop_frames(me);
+            prompt(me, Vec::new(alloc))?;
+            Ok(counts())
+        }
+        Answer::Locked(_) => {
+            refuse(alloc, me, Code::known(A08_TEXT_BORROWED))?;
+            Ok(counts())
+        }
+        Answer::Refused(code) => {
+            refuse(alloc, me, *code)?;
+            Ok(counts())
+        }
+        _ => Ok(repeats(answer)),
+    }
+}
