@@ -18,3 +18,4 @@ pub mod Planning
 pub mod Endings
 pub mod Going
 pub mod Placed
+pub mod Homes

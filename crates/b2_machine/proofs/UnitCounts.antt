@@ -9,7 +9,7 @@ use Rattle.b2_atom.specs.declared.rows.TheConstants as row
 use Rattle.b2_rows.specs.Following.{tree_units, unit_or_next, taken_fault, error_goal, further_on}
 use Rattle.b2_rows.specs.declared.following.Goal.{Goal}
 use Rattle.b2_rows.specs.declared.following.Goal.TheVariants as goal
-use Rattle.b2_rows.proofs.WhatFollows.{beyond_line, count_is}
+use Rattle.b2_rows.proofs.WhatFollows.{beyond_line}
 use Rattle.b2_text.specs.Program.{Lines}
 use Rattle.b2_flow.specs.declared.frame.Place.{Place}
 use Rattle.b2_access.specs.Places.{goal_place}
@@ -38,8 +38,17 @@ within us j k (Some u) is h =
     ] in
     by (u.row == row.ERROR) h
 
+few_units : (line : Text) → is_line line ≡ true → length (units_of line) ≤ 255 → length (tree_units line) ≤ 255
+few_units line h few =
+    let beyond = beyond_line line 255 h (grind (arith, nat_tests)) in
+    let by : (b : Bool) → nat_lt 255 (length (tree_units line)) ≡ b → ◌≡◌ {A = Goal} (if b then goal.Unit 255 else goal.NextLine) goal.NextLine → length (tree_units line) ≤ 255 = elim [
+      | true ↦ λ is e. cc
+      | false ↦ λ is e. grind (arith, nat_tests)
+    ] in
+    by (nat_lt 255 (length (tree_units line))) refl beyond
+
 pub few_taken : (line : Text) (n k : ℕ) → is_line line ≡ true → length (units_of line) ≤ 255 → Some k ≡ taken_fault n (tree_units line) → k ≤ 255
 few_taken line n k h few is =
     let most = within (tree_units line) (further_on n 0 (tree_units line)) k (slice_get (tree_units line) (further_on n 0 (tree_units line))) refl (sym is) in
-    let count = count_is line h in
+    let all = few_units line h few in
     omega arith

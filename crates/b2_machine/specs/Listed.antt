@@ -42,6 +42,6 @@ named_range (Put word range) = range_in range
 named_range t = (0, 9999)
 
 -- they are shown at the terminal; in a program LIST may not stand
-abbrev pub lists : Bool → Trees → Private → SeenLent → Planning
-lists true t me s = done s (stays me (outcome.Failed S26_PROGRAM_ONLY))
-lists false t me s = asks s me (access.Show me.term (lines_listed (named_range t) s.own.lines))
+abbrev pub lists : Bool → ℕ × ℕ → Private → SeenLent → Planning
+lists true range me s = done s (stays me (outcome.Failed S26_PROGRAM_ONLY))
+lists false range me s = asks s me (access.Show me.term (lines_listed range s.own.lines))

@@ -1,8 +1,7 @@
 -- What a statement plans and how it finishes, by the crate that builds it.
 use Rattle.std.specs.Prelude.{ℕ, ◌==◌, Option, Some, None, is_some, if◌then◌else◌}
 use Rattle.b2_base.specs.declared.codes.TheConstants.{S27_LEFT_OUT}
-use Rattle.b2_atom.specs.Tree.{Trees, names_global}
-use Rattle.b2_atom.specs.Tree.Trees.{Done}
+use Rattle.b2_atom.specs.Tree.{names_global}
 use Rattle.b2_atom.specs.declared.rows.TheConstants as row
 use Rattle.b2_flow.specs.declared.frame.Place.{Place}
 use Rattle.b2_text.specs.Program.{Lines}
@@ -19,7 +18,7 @@ use Rattle.b2_stmt.specs.Plan as stmt
 use Rattle.b2_stmt_io.specs.Plan as stmt_io
 use Rattle.b2_stmt_io.specs.Showing.{shown}
 use Rattle.b2_machine.specs.Endings.{Ending, counts, repeats}
-use Rattle.b2_machine.specs.Listed.{lists}
+use Rattle.b2_machine.specs.Listed.{lists, named_range}
 use Rattle.b2_machine.specs.Moving.{ends_by}
 use Rattle.b2_machine.specs.Readiness.{rests}
 use Rattle.b2_machine.specs.declared.statements.Builder.{Builder}
@@ -31,25 +30,21 @@ use Rattle.b2_machine.specs.declared.statements.Course.TheVariants as course
 abbrev pub builder_of : Statement → Builder
 builder_of u =
     if names_global u.tree then builder.Nobody
-    else (if u.row == row.LIST then builder.Listing
+    else (if u.row == row.LIST then builder.Listing (named_range u.tree).0 (named_range u.tree).1
     else (if stmt.is_built u.row then builder.Control
     else (if stmt_io.is_built u.row then builder.Terminal
     else builder.Nobody)))
 
-abbrev pub tree_where : Option Statement → Trees
-tree_where None = Done
-tree_where (Some u) = u.tree
-
 -- what the statement at a place plans
 abbrev pub plan_by : Builder → Place → Private → SeenLent → Planning
-plan_by builder.Listing p me s = lists (is_some p.line) (tree_where (statement_at p me.immediate s.home.lines)) me s
+plan_by (builder.Listing from to) p me s = lists (is_some p.line) (from, to) me s
 plan_by builder.Control p me s = stmt.plan me s
 plan_by builder.Terminal p me s = stmt_io.plan me s
 plan_by builder.Nobody p me s = done s (stays me (outcome.Failed S27_LEFT_OUT))
 
 -- how it finishes, by the answer to its access
 abbrev pub finish_by : Builder → Access → Answer → Private → SeenLent → Finishing
-finish_by builder.Listing x a me s = finished s (shown x a me)
+finish_by (builder.Listing from to) x a me s = finished s (shown x a me)
 finish_by builder.Control x a me s = stmt.finish x a me s
 finish_by builder.Terminal x a me s = stmt_io.finish x a me s
 finish_by builder.Nobody x a me s = finished s (stays me outcome.Repeat)

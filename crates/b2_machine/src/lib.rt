@@ -22,6 +22,8 @@ mod moving;
 mod readiness;
 mod statements;
 mod stepping;
+#[cfg(test)]
+mod tests;
 mod turning;
 mod typing;
 

@@ -1,11 +1,12 @@
 // What a statement plans and how it finishes, over what is lent.
 ghost use Rattle.std.specs.Prelude.{◌≡◌, IfOk, IfSome, Option, Some, None, option_map};
 ghost use Rattle.b2_atom.specs.Tree.{uses_in};
+ghost use Rattle.b2_rows.specs.Laws.{IsRow};
 ghost use Rattle.b2_rows.specs.Rows.{tree_at};
-ghost use Rattle.b2_access.specs.Lending.{globals_lent, seen};
+ghost use Rattle.b2_access.specs.Lending.{globals_lent, seen, SeenLent};
 ghost use Rattle.b2_access.specs.Placed.{statement_at as named_at};
-ghost use Rattle.b2_machine.specs.Listed.{named_range as range_named};
 ghost use Rattle.b2_machine.specs.Statements as spec;
+ghost use Rattle.b2_machine.specs.Stays.{IsLegalCourse};
 
 use crate::ends::{Stepped, counts, repeats};
 use crate::listed::{after_list, lines_listed, named_range};
@@ -25,8 +26,8 @@ use std::alloc::Global;
 /// Who executes a statement.
 #[derive(Clone, Copy, Debug, PartialEq, Eq)]
 pub enum Builder {
-    /// This crate: LIST.
-    Listing,
+    /// This crate: LIST from a line to a line.
+    Listing(u16, u16),
     /// The crate of control and assignment.
     Control,
     /// The crate of statements at the terminal.
@@ -46,13 +47,15 @@ pub enum Course {
 
 /// Who executes the statement of a unit.
 fn builder_of(unit: &RowUnit<'_>) -> Builder
+    requires read { IsRow unit.now.row unit.now.bytes.now (tree_at unit.now.row unit.now.bytes.now) }
     requires uses { unit.now.uses ≡ uses_in (tree_at unit.now.row unit.now.bytes.now) }
     ensures { result ≡ spec.builder_of (record { row = unit.now.row; tree = tree_at unit.now.row unit.now.bytes.now }) }
 {
     if unit.uses.globals {
         Builder::Nobody
     } else if unit.row == rows::LIST {
-        Builder::Listing
+        let (from, to) = named_range(unit.bytes);
+        Builder::Listing(from, to)
     } else if b2_stmt::is_built(unit.row) {
         Builder::Control
     } else if b2_stmt_io::is_built(unit.row) {
@@ -72,30 +75,20 @@ fn builder_at(me: &Private, home: &Text, place: Place) -> Option<Builder>
     }
 }
 
-/// The range of lines that LIST names at a place.
-fn range_where(me: &Private, home: &Text, place: Place) -> (u16, u16)
-    ensures { result ≡ range_named (spec.tree_where (named_at place me.now.immediate home.now.lines)) }
-{
-    match statement_at(place, &me.immediate, home) {
-        Some(unit) => named_range(unit.bytes),
-        None => (0, 9999),
-    }
-}
-
 /// What LIST plans.
 fn plan_list(
     alloc: Global,
     me: &Private,
     own: &Text,
-    home: &Text,
     place: Place,
+    from: u16,
+    to: u16,
 ) -> Result<Planned, NoMemory>
-    ensures { IfOk result (λ p. p ≡ (spec.plan_by Builder.Listing place me.now (record { own = own.now; home = home.now; globals = None })).planned) }
+    ensures { (s : SeenLent) → s.own ≡ own.now → IfOk result (λ p. record { me = me.now; globals = s.globals; planned = p } ≡ spec.plan_by (Builder.Listing from to) place me.now s) }
 {
     if place.line.is_some() {
         return Ok(Planned::Done(failed(S26_PROGRAM_ONLY)));
     }
-    let (from, to) = range_where(me, home, place);
     Ok(Planned::Ask(Access::Show {
         term: me.term,
         bytes: lines_listed(alloc, own, from, to)?,
@@ -116,7 +109,7 @@ fn plan_by(
     ensures part { me.new.part ≡ me.old.part }
 {
     match builder {
-        Builder::Listing => plan_list(alloc, me, lent.own, lent.home, place),
+        Builder::Listing(from, to) => plan_list(alloc, me, lent.own, place, from, to),
         Builder::Control => b2_stmt::plan(alloc, me, lent, devices),
         Builder::Terminal => b2_stmt_io::plan(alloc, me, lent, devices),
         Builder::Nobody => Ok(Planned::Done(failed(S27_LEFT_OUT))),
@@ -137,7 +130,7 @@ fn finish_by(
     ensures part { me.new.part ≡ me.old.part }
 {
     match builder {
-        Builder::Listing => Ok(after_list(me, access, answer)),
+        Builder::Listing(_, _) => Ok(after_list(me, access, answer)),
         Builder::Control => b2_stmt::finish(alloc, me, lent, access, answer),
         Builder::Terminal => b2_stmt_io::finish(alloc, me, lent, access, answer),
         Builder::Nobody => Ok(Outcome::Repeat),
@@ -166,6 +159,7 @@ fn begun(
 }
 
 /// The statement at a place begins, over what is lent.
+#[tactic(auto, using(crate::proofs::LegalPlans::legal_course))]
 pub fn begin_over(
     alloc: Global,
     me: &mut Private,
@@ -173,6 +167,7 @@ pub fn begin_over(
     devices: &DeviceTable,
     place: &Place,
 ) -> Result<Course, NoMemory>
+    ensures legal { IfOk result IsLegalCourse }
     ensures begun { IfOk result (λ c. record { me = me.new; course = c } ≡ spec.begins place.now me.old (seen lent.entry)) }
     ensures part { me.new.part ≡ me.old.part }
 {

@@ -1,6 +1,7 @@
 // A step: the first of six rules that applies.
 ghost use Rattle.std.specs.Prelude.{◌≡◌, IfOk, OnOk, IsSome};
 ghost use Rattle.b2_access.specs.Store.{content};
+ghost use Rattle.b2_access.specs.Touching.{IsLegal};
 ghost use Rattle.b2_machine.specs.Statements.{begins};
 ghost use Rattle.b2_machine.specs.Stays.{KeepsAll, IsLegalCourse};
 ghost use Rattle.b2_machine.specs.Step as spec;
@@ -13,9 +14,19 @@ use crate::typing::{
     after_literal, after_pending, after_put, on_own_line, put_numbered, take_line,
 };
 use b2_access::{Access, Answer, At, DeviceTable, Object, Private, Shared};
-use b2_base::{ByteList, NoMemory};
+use b2_base::{ByteList, NoMemory, Part};
 use b2_flow::Place;
 use std::alloc::Global;
+
+/// An access of a partition is served.
+fn ask<S: Shared>(s: &mut S, who: Part, access: &Access) -> Result<Answer, NoMemory>
+    requires legal { IsLegal access.now }
+    ensures served { IfOk result (λ a. record { after = S.meaning s.new; answer = a } ≡ S.serving (S.meaning s.old) who access.now) }
+    ensures same { S.holds s.new ≡ S.holds s.old }
+    ensures listed { OnOk result (KeepsAll (S.store (S.meaning s.old)) (S.store (S.meaning s.new))) }
+{
+    s.serve(who, access)
+}
 
 /// Pending output is shown.
 fn show<S: Shared>(me: &mut Private, s: &mut S, shown: ByteList) -> Result<Stepped, NoMemory>
@@ -28,7 +39,7 @@ fn show<S: Shared>(me: &mut Private, s: &mut S, shown: ByteList) -> Result<Stepp
         term: me.term,
         bytes: shown,
     };
-    let answer = s.serve(me.part, &access)?;
+    let answer = ask(s, me.part, &access)?;
     Ok(after_pending(me, &access, &answer))
 }
 
@@ -43,7 +54,7 @@ fn type_literal<S: Shared>(me: &mut Private, s: &mut S, text: ByteList) -> Resul
         term: me.term,
         bytes: text,
     };
-    let answer = s.serve(me.part, &access)?;
+    let answer = ask(s, me.part, &access)?;
     Ok(after_literal(me, &answer))
 }
 
@@ -61,6 +72,7 @@ fn press<S: Shared>(alloc: Global, me: &mut Private, s: &mut S, n: u8) -> Result
 }
 
 /// A line is read.
+#[tactic(auto, using(crate::proofs::Kept::both_kept))]
 fn read_line<S: Shared>(alloc: Global, me: &mut Private, s: &mut S) -> Result<Stepped, NoMemory>
     requires own { IsSome (content (S.store (S.meaning s.old)) (Object.Text me.old.part)) }
     ensures ended { IfOk result (λ e. record { me = me.new; after = S.meaning s.new; end = e } ≡ spec.reads_line S.store S.serving S.lending me.old (S.meaning s.old)) }
@@ -69,7 +81,7 @@ fn read_line<S: Shared>(alloc: Global, me: &mut Private, s: &mut S) -> Result<St
     ensures listed { OnOk result (KeepsAll (S.store (S.meaning s.old)) (S.store (S.meaning s.new))) }
 {
     let access = Access::ReadLine { term: me.term };
-    let answer = s.serve(me.part, &access)?;
+    let answer = ask(s, me.part, &access)?;
     match answer {
         Answer::Line(line) => {
             take_line(alloc, me, line.bytes())?;
@@ -92,7 +104,7 @@ fn enter_line<S: Shared>(alloc: Global, me: &mut Private, s: &mut S) -> Result<S
         unreachable!();
     };
     let access = put_numbered(line, atoms);
-    let answer = s.serve(me.part, &access)?;
+    let answer = ask(s, me.part, &access)?;
     after_put(alloc, me, &answer)
 }
 
@@ -105,6 +117,7 @@ fn begin<S: Shared>(
     place: &Place,
 ) -> Result<Course, NoMemory>
     requires own { IsSome (content (S.store (S.meaning s.old)) (Object.Text me.old.part)) }
+    ensures legal { IfOk result IsLegalCourse }
     ensures begun { IfOk result (λ c. record { me = me.new; course = c } ≡ begins place.now me.old (spec.seen_by me.old (S.store (S.meaning s.old)))) }
     ensures lent { S.meaning s.new ≡ spec.lent S.store S.serving S.lending me.old (S.meaning s.old) }
     ensures same { S.holds s.new ≡ S.holds s.old }
@@ -137,6 +150,7 @@ fn finish<S: Shared>(
 }
 
 /// What a statement that began asked for is done.
+#[tactic(auto, using(crate::proofs::Kept::both_kept))]
 fn carry_out<S: Shared>(
     alloc: Global,
     me: &mut Private,
@@ -154,13 +168,14 @@ fn carry_out<S: Shared>(
     match course {
         Course::Ended(end) => Ok(end),
         Course::Asks(access, builder) => {
-            let answer = s.serve(me.part, &access)?;
+            let answer = ask(s, me.part, &access)?;
             finish(alloc, me, s, place, builder, &access, answer)
         }
     }
 }
 
 /// The statement at a place is executed.
+#[tactic(auto, using(crate::proofs::Kept::both_kept))]
 fn execute<S: Shared>(
     alloc: Global,
     me: &mut Private,
@@ -178,7 +193,26 @@ fn execute<S: Shared>(
     carry_out(alloc, me, s, place, course)
 }
 
-/// A numbered line is put, or the statement at the place is executed, or a line is read.
+/// The statement at the place is executed, or a line is read.
+fn run_or_read<S: Shared>(
+    alloc: Global,
+    me: &mut Private,
+    s: &mut S,
+    d: &DeviceTable,
+) -> Result<Stepped, NoMemory>
+    requires own { IsSome (content (S.store (S.meaning s.old)) (Object.Text me.old.part)) }
+    ensures ended { IfOk result (λ e. record { me = me.new; after = S.meaning s.new; end = e } ≡ spec.runs_or_reads S.store S.serving S.lending me.old.place me.old (S.meaning s.old)) }
+    ensures same { S.holds s.new ≡ S.holds s.old }
+    ensures part { me.new.part ≡ me.old.part }
+    ensures listed { OnOk result (KeepsAll (S.store (S.meaning s.old)) (S.store (S.meaning s.new))) }
+{
+    match me.place {
+        Some(place) => execute(alloc, me, s, d, place),
+        None => read_line(alloc, me, s),
+    }
+}
+
+/// A numbered line is put, or it goes on.
 fn enter_or_go_on<S: Shared>(
     alloc: Global,
     me: &mut Private,
@@ -191,16 +225,35 @@ fn enter_or_go_on<S: Shared>(
     ensures part { me.new.part ≡ me.old.part }
     ensures listed { OnOk result (KeepsAll (S.store (S.meaning s.old)) (S.store (S.meaning s.new))) }
 {
-    if me.numbered.is_some() {
-        return enter_line(alloc, me, s);
-    }
-    match me.place {
-        Some(place) => execute(alloc, me, s, d, place),
-        None => read_line(alloc, me, s),
+    match &me.numbered {
+        Some(_) => enter_line(alloc, me, s),
+        None => run_or_read(alloc, me, s, d),
     }
 }
 
-/// The rules from the third on.
+/// A literal is typed, or it goes on.
+fn type_or_go_on<S: Shared>(
+    alloc: Global,
+    me: &mut Private,
+    s: &mut S,
+    d: &DeviceTable,
+) -> Result<Stepped, NoMemory>
+    requires own { IsSome (content (S.store (S.meaning s.old)) (Object.Text me.old.part)) }
+    ensures ended { IfOk result (λ e. record { me = me.new; after = S.meaning s.new; end = e } ≡ spec.types_or_goes_on S.store S.serving S.lending me.old.literal me.old (S.meaning s.old)) }
+    ensures same { S.holds s.new ≡ S.holds s.old }
+    ensures part { me.new.part ≡ me.old.part }
+    ensures listed { OnOk result (KeepsAll (S.store (S.meaning s.old)) (S.store (S.meaning s.new))) }
+{
+    match &me.literal {
+        Some(text) => {
+            let typed = ByteList::from_slice(alloc, text.bytes())?;
+            type_literal(me, s, typed)
+        }
+        None => enter_or_go_on(alloc, me, s, d),
+    }
+}
+
+/// Pending output is shown, or it goes on.
 fn act<S: Shared>(
     alloc: Global,
     me: &mut Private,
@@ -208,20 +261,18 @@ fn act<S: Shared>(
     d: &DeviceTable,
 ) -> Result<Stepped, NoMemory>
     requires own { IsSome (content (S.store (S.meaning s.old)) (Object.Text me.old.part)) }
-    ensures ended { IfOk result (λ e. record { me = me.new; after = S.meaning s.new; end = e } ≡ spec.acts S.store S.serving S.lending me.old (S.meaning s.old)) }
+    ensures ended { IfOk result (λ e. record { me = me.new; after = S.meaning s.new; end = e } ≡ spec.shows_or_goes_on S.store S.serving S.lending me.old.pending me.old (S.meaning s.old)) }
     ensures same { S.holds s.new ≡ S.holds s.old }
     ensures part { me.new.part ≡ me.old.part }
     ensures listed { OnOk result (KeepsAll (S.store (S.meaning s.old)) (S.store (S.meaning s.new))) }
 {
-    if let Some((_, text)) = &me.pending {
-        let shown = on_own_line(alloc, me.term_column, text.bytes())?;
-        return show(me, s, shown);
+    match &me.pending {
+        Some((_, text)) => {
+            let shown = on_own_line(alloc, me.term_column, text.bytes())?;
+            show(me, s, shown)
+        }
+        None => type_or_go_on(alloc, me, s, d),
     }
-    if let Some(text) = &me.literal {
-        let typed = ByteList::from_slice(alloc, text.bytes())?;
-        return type_literal(me, s, typed);
-    }
-    enter_or_go_on(alloc, me, s, d)
 }
 
 /// A partition that runs is halted, and another goes on.

@@ -1,5 +1,5 @@
 // A turn: steps up to the first that ends it, or to as many as its quota.
-ghost use Rattle.std.specs.Prelude.{◌≡◌, ◌≤◌, IfOk, OnOk, IsSome};
+ghost use Rattle.std.specs.Prelude.{◌≡◌, ◌≤◌, ◌<◌, ◌+◌, IfOk, OnOk, IsSome, if◌then◌else◌};
 ghost use Rattle.b2_access.specs.Store.{content};
 ghost use Rattle.b2_machine.specs.Stays.{KeepsAll};
 ghost use Rattle.b2_machine.specs.Turn as spec;
@@ -9,6 +9,14 @@ use crate::stepping::step;
 use b2_access::{DeviceTable, Object, Private, Shared};
 use b2_base::NoMemory;
 use std::alloc::Global;
+
+/// How many steps have counted after one more.
+fn counted_on(steps: u16, counted: bool) -> u16
+    requires { steps < 65535 }
+    ensures { result ≡ (if counted then steps + 1 else steps) }
+{
+    if counted { steps + 1 } else { steps }
+}
 
 /// One turn of a partition whose own text is in the store: at most `quota` steps that count. Where the last of them also
 /// ends the turn by itself, that is why it ended. After want of memory nothing is said of the partition and of what the
@@ -30,11 +38,10 @@ pub fn turn<S: Shared>(
     let mut steps = 0;
     for _ in 0..quota {
         let end = step(alloc, me, s, d)?;
-        if end.counted {
-            steps += 1;
-        }
-        if let Some(why) = end.why {
-            return Ok(Turned { steps, why });
+        steps = counted_on(steps, end.counted);
+        match end.why {
+            Some(why) => return Ok(Turned { steps, why }),
+            None => {}
         }
     }
     Ok(Turned {

@@ -1,8 +1,8 @@
 -- The proofs of statements, by what they are about.
 --
 -- GoalUnits: the units that goals name. Framed: frames that are put.
--- Commas: lists with commas. BranchRows, LoopRows, CallRows, CourseRows, ChoiceRows, ClearRows, NumberRows and
--- SideRows have what the rows of statements say at their bytes, one fact at a time. Assigned: receivers one after the other.
+-- Commas: lists with commas. BranchRows, LoopRows, CallRows, CourseRows, ChoiceRows, ClearRows, NumberRows,
+-- SideRows, DataRows, ReadRows, ArgumentRows and MarkRows have what the rows of statements say at their bytes, one fact at a time. Assigned: receivers one after the other.
 -- Executed: a unit by its row and its tree. HomesKept: which partitions a statement names as homes.
 pub mod GoalUnits
 pub mod Framed
@@ -16,5 +16,9 @@ pub mod ClearRows
 pub mod NumberRows
 pub mod SideRows
 pub mod Assigned
+pub mod DataRows
+pub mod ReadRows
+pub mod ArgumentRows
+pub mod MarkRows
 pub mod Executed
 pub mod HomesKept

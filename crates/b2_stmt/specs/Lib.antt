@@ -6,8 +6,12 @@ pub mod Calls
 pub mod Course
 pub mod Choices
 pub mod Lines
-pub mod Asked
 pub mod Assignments
+pub mod Arguments
+pub mod Asked
+pub mod ReceiverLists
+pub mod Data
+pub mod Reading
+pub mod Marked
 pub mod Clearing
 pub mod Plan
-pub mod Homes

@@ -9,6 +9,7 @@
 //! what follows them, on `b2_flow` for frames, on `b2_text`, `b2_vars`, `b2_atom`, `b2_dec` and `b2_base`.
 #![tactic(auto)]
 
+mod arguments;
 mod around;
 mod asked;
 mod assignments;
@@ -17,10 +18,13 @@ mod calls;
 mod choices;
 mod clearing;
 mod course;
+mod data;
 mod framing;
 pub mod laws;
 mod loops;
+mod marked;
 mod planning;
+mod reading;
 
 pub use clearing::finish;
 pub use planning::{is_built, plan};

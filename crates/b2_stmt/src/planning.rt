@@ -8,10 +8,12 @@ ghost use Rattle.b2_stmt.specs.Plan as spec;
 use crate::asked::{ask, carry_out};
 use crate::assignments::assign;
 use crate::clearing::access_of;
+use crate::marked::take_args;
+use crate::reading::read;
 use b2_access::{DeviceTable, Lent, Outcome, Planned, Private, failed, goes_or, setting_of};
 use b2_atom::rows;
-use b2_base::codes::S26_PROGRAM_ONLY;
 use b2_base::NoMemory;
+use b2_base::codes::S26_PROGRAM_ONLY;
 use b2_flow::Place;
 use b2_rows::row_unit;
 use b2_text::Text;
@@ -51,6 +53,8 @@ pub fn is_built(row: u16) -> bool
             | rows::CLEAR_P
             | rows::ON
             | rows::DEFFN_MARKED
+            | rows::READ
+            | rows::GOSUB_MARKED
     )
 }
 
@@ -59,6 +63,7 @@ fn is_for_programs(row: u16) -> bool
     ensures { result ≡ spec.is_for_programs row }
 {
     row == rows::GOSUB
+        || row == rows::GOSUB_MARKED
         || row == rows::RETURN
         || row == rows::RETURN_CLEAR
         || row == rows::DATA
@@ -104,6 +109,20 @@ fn execute_program(
         let code = assign(alloc, &mut me.vars, &setting, home, unit.bytes)?;
         return Ok(Planned::Done(goes_or(Outcome::Next, code)));
     }
+    if unit.row == rows::READ {
+        let code = read(
+            &mut me.vars,
+            &mut me.next_data,
+            &setting,
+            home,
+            own,
+            unit.bytes,
+        )?;
+        return Ok(Planned::Done(goes_or(Outcome::Next, code)));
+    }
+    if unit.row == rows::DEFFN_MARKED {
+        return Ok(Planned::Done(take_args(me, home, unit.bytes)?));
+    }
     if let Some(access) = access_of(unit.row, unit.bytes) {
         return Ok(Planned::Ask(access));
     }
@@ -136,6 +155,17 @@ fn execute_immediate(
     }
     if unit.row == rows::ASSIGNMENT {
         let code = assign(alloc, &mut me.vars, &setting, home, unit.bytes)?;
+        return Ok(Planned::Done(goes_or(Outcome::Next, code)));
+    }
+    if unit.row == rows::READ {
+        let code = read(
+            &mut me.vars,
+            &mut me.next_data,
+            &setting,
+            home,
+            own,
+            unit.bytes,
+        )?;
         return Ok(Planned::Done(goes_or(Outcome::Next, code)));
     }
     if let Some(access) = access_of(unit.row, unit.bytes) {

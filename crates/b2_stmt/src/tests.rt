@@ -3,6 +3,8 @@
 ghost use Rattle.std.specs.Prelude.{◌≤◌};
 
 mod clearing;
+mod marked;
+mod reading;
 mod rows;
 
 use crate::plan;

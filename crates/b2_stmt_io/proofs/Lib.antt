@@ -13,3 +13,4 @@ pub mod Valued
 pub mod Printed
 pub mod PrintRows
 pub mod UsingRows
+pub mod HomesKept
