@@ -11,7 +11,7 @@ struct Row {
     summary: &'static [u8],
 }
 
-const ROWS: [Row; 30] = [
+const ROWS: [Row; 32] = [
     Row {
         log: b"",
         transcript: b"",
@@ -136,6 +136,12 @@ const ROWS: [Row; 30] = [
         transcript: b"READY\n:NEXT I\nERR P40\n:10 RETURN\n:RUN\nERR P41 AT 10\n:CONTINUE\nERR P46\n:STOP\nSTOP\n:CONTINUE\nERR P46\n:",
         summary: b"turns 6 steps 20 dropped 0\n",
     },
+    // DATA of the wrong kind; the receiver before it has its value.
+    Row {
+        log: b"type 1 10 DATA 1,\"A\"\ntype 1 20 READ A,B\ntype 1 RUN\ntype 1 PRINT A\nrounds 3",
+        transcript: b"READY\n:10 DATA 1,\"A\"\n:20 READ A,B\n:RUN\nERR X74 AT 20\n:PRINT A\n 1 \n:",
+        summary: b"turns 3 steps 15 dropped 0\n",
+    },
     // INPUT, typed ahead and typed when it is asked for.
     Row {
         log: b"type 1 10 INPUT \"N\",A,B\ntype 1 20 PRINT A+B\ntype 1 RUN\ntype 1 3, 4\nrounds 2",
@@ -152,6 +158,12 @@ const ROWS: [Row; 30] = [
         log: b"type 1 10 DEFFN'1\"PRINT 5\"\nsf 1 1\nkey 1 0D\nrounds 9",
         transcript: b"READY\n:10 DEFFN'1\"PRINT 5\"\n:PRINT 5\n 5 \n:",
         summary: b"turns 9 steps 9 dropped 0\n",
+    },
+    // One without a literal calls the lines after it.
+    Row {
+        log: b"type 1 10 DEFFN'2\ntype 1 20 PRINT \"A\":RETURN\nsf 1 2\nrounds 3",
+        transcript: b"READY\n:10 DEFFN'2\n:20 PRINT \"A\":RETURN\n:A\n:",
+        summary: b"turns 3 steps 12 dropped 0\n",
     },
     // Halts and resets.
     Row {
