@@ -2,7 +2,7 @@
 use Rattle.std.specs.Prelude.{◌≡◌, ℕ, zero, suc, ◌+◌, ◌-◌, ◌<◌, ◌≤◌, List, [], ◌∷◌, ◌++◌, drop, length, get_or, refl}
 use Rattle.std.proofs.Common.{sym, ap, ◌∙◌, arith, add-one, drop-cons}
 use Rattle.b2_boot.specs.declared.log.Event.{Event}
-use Rattle.b2_sched.specs.World.{WorldState, Action, Turn, Key, Front, Halt, Reset, does, does_all, turned, private_of, turns_from, rounds, happens, ran}
+use Rattle.b2_sched.specs.World.{WorldState, Action, Turn, Key, Front, Halt, Reset, does, does_all, with_turn, private_of, turns_from, rounds, happens, ran}
 use Rattle.b2_access.specs.declared.private.Private.{Private}
 use Rattle.std.specs.Prelude.{Option, Some, None}
 
@@ -11,7 +11,7 @@ does_append [] ys w = refl
 does_append (x ∷ xs) ys w = does_append xs ys (does x w)
 
 -- the quota of a round stays
-turned_quota : (p n : ℕ) (m : Option Private) (w : WorldState) → (turned p m n w).quota ≡ w.quota
+turned_quota : (p n : ℕ) (m : Option Private) (w : WorldState) → (with_turn p m n w).quota ≡ w.quota
 turned_quota p n None w = refl
 turned_quota p n (Some me) w = refl
 

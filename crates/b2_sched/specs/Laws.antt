@@ -2,7 +2,7 @@
 use Rattle.std.specs.Prelude.{◌≡◌, ◌≢◌, ℕ, zero, suc, ◌+◌, ◌*◌, ◌^◌, ◌<◌, List, [], ◌∷◌, ◌++◌, is_some, if◌then◌else◌}
 use Rattle.b2_boot.specs.declared.log.Event.{Event}
 use Rattle.b2_boot.specs.declared.log.Event.TheVariants as event
-use Rattle.b2_sched.specs.World.{WorldState, Action, Turn, private_of, counted, actions, does, does_all, happens, ran}
+use Rattle.b2_sched.specs.World.{WorldState, Action, Turn, private_of, tallied, actions, does, does_all, happens, ran}
 
 -- the actions of all events, in order
 abbrev pub all_actions : ℕ → List Event → List Action
@@ -31,4 +31,4 @@ present w = present_from 1 16 w
 
 -- in each round every partition that is present has one turn
 abbrev pub CountsTurns : Type 0
-CountsTurns = (n : ℕ) (w : WorldState) → w.turns < 2 ^ 64 → (happens (event.Rounds n) w).turns ≡ counted w.turns (n * present w)
+CountsTurns = (n : ℕ) (w : WorldState) → w.turns < 2 ^ 64 → (happens (event.Rounds n) w).turns ≡ tallied w.turns (n * present w)

@@ -10,20 +10,20 @@ use Rattle.b2_boot.specs.declared.boot.BootTerminal.{BootTerminal}
 use Rattle.b2_sched.specs.World.{WorldState}
 
 -- sizes of a boot are in KiB
-abbrev pub bytes_of : ℕ → ℕ
-bytes_of size = size * 1024
+abbrev pub in_bytes : ℕ → ℕ
+in_bytes size = size * 1024
 
 -- a partition as it starts
 abbrev pub private_row : BootPartition → ℕ × Private
-private_row p = (p.number, at_start p.number p.terminal (bytes_of p.vars))
+private_row p = (p.number, at_start p.number p.terminal (in_bytes p.vars))
 
 -- a partition, the area of its text, and that of its `@` variables
 abbrev pub areas_of : BootPartition → Areas
-areas_of p = (p.number, bytes_of p.text, bytes_of p.globals)
+areas_of p = (p.number, in_bytes p.text, in_bytes p.globals)
 
 -- a terminal, and the partition in front of it
-abbrev pub front_of : BootTerminal → ℕ × ℕ
-front_of t = (t.number, t.front)
+abbrev pub front_row : BootTerminal → ℕ × ℕ
+front_row t = (t.number, t.front)
 
 -- empty texts, nobody inside, no `@` variables, and idle terminals
 abbrev pub store_booted : BootState → StoreState
@@ -31,10 +31,10 @@ store_booted b = record {
   texts = map text_row (map areas_of b.partitions);
   borrows = map borrow_row (map areas_of b.partitions);
   globals = map globals_row (map areas_of b.partitions);
-  terminals = map terminal_row (map front_of b.terminals);
+  terminals = map terminal_row (map front_row b.terminals);
 }
 
--- THE WORLD OF A BOOT: each partition as it starts, and nothing counted
+-- THE WORLD OF A BOOT: each partition as it starts, and nothing tallied
 abbrev pub booted : BootState → WorldState
 booted b = record {
   quota = b.quota;

@@ -3,6 +3,7 @@ use Rattle.std.specs.Prelude.{◌≡◌, ℕ, zero, suc, ◌+◌, ◌-◌, ◌^�
 use Rattle.b2_term.specs.declared.KeyItem.{KeyItem}
 use Rattle.b2_access.specs.declared.objects.Object.TheVariants as object
 use Rattle.b2_access.specs.declared.private.Private.{Private}
+use Rattle.b2_access.specs.Loans.{Loan}
 use Rattle.b2_access.specs.Rows.{row_of, with_row}
 use Rattle.b2_access.specs.Serving.{serves, itself}
 use Rattle.b2_access.specs.Store.{StoreState, content}
@@ -26,8 +27,8 @@ abbrev pub private_of : ℕ → WorldState → Option Private
 private_of p w = row_of p w.privates
 
 -- a count stays at 2^64 - 1 once it is there
-abbrev pub counted : ℕ → ℕ → ℕ
-counted n more = min (n + more) (2 ^ 64 - 1)
+abbrev pub tallied : ℕ → ℕ → ℕ
+tallied n more = min (n + more) (2 ^ 64 - 1)
 
 -- what happens at once
 pub data Action : Type 0 where
@@ -44,12 +45,12 @@ dropped_by (Some true) = 0
 dropped_by (Some false) = 1
 
 -- a key is queued at a terminal, or dropped and counted
-abbrev pub keyed : ℕ → KeyItem → WorldState → WorldState
-keyed t k w = record w { store = keyed_at t k w.store; dropped = counted w.dropped (dropped_by (room_at (content w.store (object.Terminal t)))) }
+abbrev pub with_key : ℕ → KeyItem → WorldState → WorldState
+with_key t k w = record w { store = keyed_at t k w.store; dropped = tallied w.dropped (dropped_by (room_at (content w.store (object.Terminal t)))) }
 
 -- a partition is put in front of a terminal, be it present or not
-abbrev pub fronted : ℕ → ℕ → WorldState → WorldState
-fronted t p w = record w { store = front_at t p w.store }
+abbrev pub with_front : ℕ → ℕ → WorldState → WorldState
+with_front t p w = record w { store = front_at t p w.store }
 
 -- the own state of a partition changes, where it is present
 abbrev pub row_changed : ℕ → Option Private → (Private → Private) → List (ℕ × Private) → List (ℕ × Private)
@@ -59,36 +60,40 @@ row_changed p (Some me) f rows = with_row p rows (f me)
 abbrev pub changed : ℕ → (Private → Private) → List (ℕ × Private) → List (ℕ × Private)
 changed p f rows = row_changed p (row_of p rows) f rows
 
-abbrev pub halted : Private → Private
-halted me = record me { halt = true }
+abbrev pub asked_to_halt : Private → Private
+asked_to_halt me = record me { halt = true }
 
-abbrev pub reset : Private → Private
-reset me = record me { reset = true }
+abbrev pub asked_to_reset : Private → Private
+asked_to_reset me = record me { reset = true }
+
+-- a loan leaves the store as it is: no `@` variables are found yet
+abbrev pub after_loan : Loan StoreState
+after_loan who home at s left = s
 
 -- a turn of a partition over the store
 abbrev pub turn_of : ℕ → Private → StoreState → TurnEnd StoreState
-turn_of quota me s = turn itself serves (λ who home at m w. m) quota me s
+turn_of quota me s = turn itself serves after_loan quota me s
 
 -- after a turn of a partition that is present
 abbrev pub after_turn : ℕ → TurnEnd StoreState → WorldState → WorldState
 after_turn p t w = record w {
   privates = with_row p w.privates t.me;
   store = t.after;
-  turns = counted w.turns 1;
-  steps = counted w.steps t.turned.steps;
+  turns = tallied w.turns 1;
+  steps = tallied w.steps t.turned.steps;
 }
 
 -- one that is absent does nothing
-abbrev pub turned : ℕ → Option Private → ℕ → WorldState → WorldState
-turned p None quota w = w
-turned p (Some me) quota w = after_turn p (turn_of quota me w.store) w
+abbrev pub with_turn : ℕ → Option Private → ℕ → WorldState → WorldState
+with_turn p None quota w = w
+with_turn p (Some me) quota w = after_turn p (turn_of quota me w.store) w
 
 abbrev pub does : Action → WorldState → WorldState
-does (Key t k) w = keyed t k w
-does (Front t p) w = fronted t p w
-does (Halt p) w = record w { privates = changed p halted w.privates }
-does (Reset p) w = record w { privates = changed p reset w.privates }
-does (Turn p quota) w = turned p (private_of p w) quota w
+does (Key t k) w = with_key t k w
+does (Front t p) w = with_front t p w
+does (Halt p) w = record w { privates = changed p asked_to_halt w.privates }
+does (Reset p) w = record w { privates = changed p asked_to_reset w.privates }
+does (Turn p quota) w = with_turn p (private_of p w) quota w
 
 abbrev pub does_all : List Action → WorldState → WorldState
 does_all [] w = w

@@ -1,6 +1,6 @@
 // What a world starts with.
 ghost use Rattle.std.specs.Prelude.{◌≡◌, IfOk, map};
-ghost use Rattle.b2_sched.specs.Start.{bytes_of, private_row, areas_of, front_of};
+ghost use Rattle.b2_sched.specs.Start.{in_bytes, private_row, areas_of, front_row};
 
 use b2_access::Private;
 use b2_base::{NoMemory, Part, Term};
@@ -9,8 +9,8 @@ use b2_store::Rows;
 use std::alloc::Global;
 
 /// How many bytes a size in KiB is.
-fn bytes_of(size: u16) -> usize
-    ensures { result ≡ bytes_of size }
+fn in_bytes(size: u16) -> usize
+    ensures { result ≡ in_bytes size }
 {
     usize::from(size) * 1024
 }
@@ -21,7 +21,7 @@ pub fn privates_of(alloc: Global, partitions: &[BootPartition]) -> Result<Rows<P
 {
     let mut rows = Rows::new(alloc);
     for p in partitions {
-        let me = Private::new(alloc, p.number, p.terminal, bytes_of(p.vars))?;
+        let me = Private::new(alloc, p.number, p.terminal, in_bytes(p.vars))?;
         rows.add(p.number, me)?;
     }
     Ok(rows)
@@ -36,14 +36,14 @@ pub fn areas_of(
 {
     let mut areas = Vec::new(alloc);
     for p in partitions {
-        areas.push((p.number, bytes_of(p.text), bytes_of(p.globals)))?;
+        areas.push((p.number, in_bytes(p.text), in_bytes(p.globals)))?;
     }
     Ok(areas)
 }
 
 /// Each terminal, with the partition in front of it.
 pub fn fronts_of(alloc: Global, terminals: &[BootTerminal]) -> Result<Vec<(Term, Part)>, NoMemory>
-    ensures { IfOk result (λ fronts. fronts.items ≡ map front_of terminals.now) }
+    ensures { IfOk result (λ fronts. fronts.items ≡ map front_row terminals.now) }
 {
     let mut fronts = Vec::new(alloc);
     for t in terminals {

@@ -1,6 +1,4 @@
 // Worlds made of boot files, and runs of logs over them. In a text `|` stands for a newline.
-ghost use Rattle.std.specs.Prelude.{◌≡◌, ◌≤◌, IfOk, length};
-
 use crate::World;
 use b2_base::{NoMemory, Part, Term};
 use b2_boot::{Boot, BootPartition, BootTerminal, Event, boot_of, log_of};
@@ -29,15 +27,19 @@ struct Row {
     counts: [u64; 3],
 }
 
-const ONE: &[u8] = b"quota=20|terminal=[{number=1,front=1}]|partition=[{number=1,terminal=1,text=8,data=8,globals=2}]";
+const ONE: &[u8] =
+    b"quota=20|terminal=[{number=1,front=1}]|partition=[{number=1,terminal=1,text=8,data=8,globals=2}]";
 
-const TWO: &[u8] = b"quota=20|terminal=[{number=2,front=2},{number=1,front=1}]|partition=[{number=2,terminal=2,text=8,data=8,globals=2},{number=1,terminal=1,text=8,data=8,globals=2}]";
+const TWO: &[u8] =
+    b"quota=20|terminal=[{number=2,front=2},{number=1,front=1}]|partition=[{number=2,terminal=2,text=8,data=8,globals=2},{number=1,terminal=1,text=8,data=8,globals=2}]";
 
-const STEPS: &[u8] = b"quota=1|terminal=[{number=1,front=1},{number=2,front=2}]|partition=[{number=1,terminal=1,text=8,data=8,globals=2},{number=2,terminal=2,text=8,data=8,globals=2}]";
+const STEPS: &[u8] =
+    b"quota=1|terminal=[{number=1,front=1},{number=2,front=2}]|partition=[{number=1,terminal=1,text=8,data=8,globals=2},{number=2,terminal=2,text=8,data=8,globals=2}]";
 
-const SHARED: &[u8] = b"quota=20|terminal=[{number=1,front=1}]|partition=[{number=1,terminal=1,text=8,data=8,globals=2},{number=2,terminal=1,text=8,data=8,globals=2}]";
+const SHARED: &[u8] =
+    b"quota=20|terminal=[{number=1,front=1}]|partition=[{number=1,terminal=1,text=8,data=8,globals=2},{number=2,terminal=1,text=8,data=8,globals=2}]";
 
-const ROWS: [Row; 16] = [
+const ROWS: [Row; 17] = [
     Row {
         setting: Setting::One,
         log: b"",
@@ -122,6 +124,16 @@ const ROWS: [Row; 16] = [
         shown: [b"READY|:", b"READY|:PRINT 2| 2 |"],
         counts: [3, 4, 0],
     },
+    // Two clerks: each is asked for a number, and the second answers first.
+    Row {
+        setting: Setting::Steps,
+        log: b"type 1 10 INPUT A:PRINT A*2|type 2 10 INPUT A:PRINT A*3|type 1 RUN|type 2 RUN|rounds 20|type 2 5|rounds 2|type 1 4|rounds 9|",
+        shown: [
+            b"READY|:10 INPUT A:PRINT A*2|:RUN|? 4| 8 |:",
+            b"READY|:10 INPUT A:PRINT A*3|:RUN|? 5| 15 |:",
+        ],
+        counts: [62, 20, 0],
+    },
     // A halt of one leaves the other.
     Row {
         setting: Setting::Two,
@@ -183,7 +195,7 @@ fn after(alloc: Global, setting: Setting, log: &[u8]) -> Result<World, Fail> {
 }
 
 // Whether this was shown at a terminal; nothing is where it isn't listed.
-fn has_shown(alloc: Global, world: &World, term: Term, shown: &[u8]) -> Result<bool, Fail> {
+fn has_shown(alloc: Global, world: &World, term: Term, shown: &[u8]) -> Result<bool, NoMemory> {
     let wanted = text_of(alloc, shown)?;
     Ok(match world.stores().terminal(term) {
         Some(terminal) => terminal.transcript() == wanted.as_slice(),
@@ -191,37 +203,64 @@ fn has_shown(alloc: Global, world: &World, term: Term, shown: &[u8]) -> Result<b
     })
 }
 
+// The counts of turns, steps and dropped keys.
+fn counts(world: &World) -> [u64; 3] {
+    [world.turns(), world.steps(), world.dropped()]
+}
+
+// Whether a log leaves what its row says.
+fn comes_out(alloc: Global, row: &Row) -> Result<bool, Fail> {
+    let world = after(alloc, row.setting, row.log)?;
+    let one = has_shown(alloc, &world, Term::known(1), row.shown[0])?;
+    let two = has_shown(alloc, &world, Term::known(2), row.shown[1])?;
+    Ok(one && two && counts(&world) == row.counts)
+}
+
 #[test]
 fn runs(rt: HostRuntime) -> Result<(), Fail> {
-    let alloc: Global = rt.alloc();
     for row in &ROWS {
-        let world = after(alloc, row.setting, row.log)?;
-        assert!(rt; has_shown(alloc, &world, Term::known(1), row.shown[0])?);
-        assert!(rt; has_shown(alloc, &world, Term::known(2), row.shown[1])?);
-        assert_eq!(rt; [world.turns(), world.steps(), world.dropped()], row.counts);
+        assert!(rt; comes_out(rt.alloc(), row)?);
     }
     Ok(())
 }
 
+// So many keys at terminal 2.
+fn keys(alloc: Global, count: usize) -> Result<Vec<Event>, NoMemory> {
+    let mut events = Vec::new(alloc);
+    for _ in 0..count {
+        events.push(Event::Key(Term::known(2), KeyItem::Byte(b'A')))?;
+    }
+    Ok(events)
+}
+
+// The world of a boot after events.
+fn world_after(alloc: Global, boot: &Boot, events: &[Event]) -> Result<World, NoMemory> {
+    let mut world = World::boot(alloc, boot)?;
+    for e in events {
+        world.event(e)?;
+    }
+    Ok(world)
+}
+
 #[test]
 fn an_absent_front_holds_a_terminal(rt: HostRuntime) -> Result<(), Fail> {
-    let mut world = World::boot(rt.alloc(), &boot(rt.alloc(), Setting::One)?)?;
-    world.event(&Event::Front(Term::known(1), Part::known(5)))?;
-    world.event(&Event::Turn(Part::known(1), 3))?;
+    let events = [
+        Event::Front(Term::known(1), Part::known(5)),
+        Event::Turn(Part::known(1), 3),
+    ];
+    let world = world_after(rt.alloc(), &boot(rt.alloc(), Setting::One)?, &events)?;
     assert!(rt; has_shown(rt.alloc(), &world, Term::known(1), b"")?);
-    assert_eq!(rt; [world.turns(), world.steps()], [1, 0]);
+    assert_eq!(rt; counts(&world), [1, 0, 0]);
     Ok(())
 }
 
 #[test]
 fn a_terminal_that_is_not_listed_is_nothing(rt: HostRuntime) -> Result<(), Fail> {
-    let mut world = World::boot(rt.alloc(), &boot(rt.alloc(), Setting::One)?)?;
-    for _ in 0..130 {
-        world.event(&Event::Key(Term::known(2), KeyItem::Byte(b'A')))?;
-    }
-    world.event(&Event::Front(Term::known(2), Part::known(1)))?;
+    let mut events = keys(rt.alloc(), 130)?;
+    events.push(Event::Front(Term::known(2), Part::known(1)))?;
+    let world = world_after(rt.alloc(), &boot(rt.alloc(), Setting::One)?, &events)?;
     assert!(rt; world.stores().terminal(Term::known(2)).is_none());
-    assert_eq!(rt; world.dropped(), 0);
+    assert_eq!(rt; counts(&world), [0, 0, 0]);
     Ok(())
 }
 
@@ -253,13 +292,15 @@ fn boot_with_an_idle_terminal(alloc: Global) -> Result<Boot, NoMemory> {
 
 #[test]
 fn keys_wait_at_a_terminal_without_a_partition(rt: HostRuntime) -> Result<(), Fail> {
-    let mut world = World::boot(rt.alloc(), &boot_with_an_idle_terminal(rt.alloc())?)?;
-    for _ in 0..130 {
-        world.event(&Event::Key(Term::known(2), KeyItem::Byte(b'A')))?;
-    }
-    world.event(&Event::Rounds(1))?;
+    let mut events = keys(rt.alloc(), 130)?;
+    events.push(Event::Rounds(1))?;
+    let world = world_after(
+        rt.alloc(),
+        &boot_with_an_idle_terminal(rt.alloc())?,
+        &events,
+    )?;
     assert!(rt; has_shown(rt.alloc(), &world, Term::known(1), b"READY|:")?);
     assert!(rt; has_shown(rt.alloc(), &world, Term::known(2), b"")?);
-    assert_eq!(rt; [world.turns(), world.steps(), world.dropped()], [1, 1, 2]);
+    assert_eq!(rt; counts(&world), [1, 1, 2]);
     Ok(())
 }

@@ -1,4 +1,4 @@
-use Rattle.std.proofs.Common.{◌≡◌, sym, ◌∙◌}
+use Rattle.std.proofs.Common.{sym, ◌∙◌}
 use Rattle.b2_access.specs.declared.objects.Object.TheVariants as object
 use Rattle.b2_store.specs.Meaning.{store_of}
 use Rattle.b2_sched.proofs.Present.{still_present}
@@ -10,4 +10,4 @@ invariant_of-self c =
     let keeps = c.in-Ok.ensures.listed in
     let text = keeps (object.Text c.args.part) was.1 in
     still_present c.args.part c.turn.new.me c.self.inside.privates (store_of c.self.inside.stores) (store_of c.turn.new.s) (c.in-Ok.ensures.part ∙ was.0)
-      text (λ p. keeps (object.Text p)) c.self.invariant
+    text (λ p. keeps (object.Text p)) c.self.invariant
