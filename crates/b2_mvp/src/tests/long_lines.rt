@@ -133,6 +133,16 @@ fn add_line(
     Ok(())
 }
 
+// What a run of partition 1 on terminal 1 shows.
+fn transcript_of(alloc: Global, boot: &[u8], log: &[u8]) -> Result<Vec<u8>, Fail> {
+    let mut shelf = shelf(alloc, Some(boot), Some(log), &[])?;
+    let mut sink = MemSink::new(alloc, Vec::new(alloc));
+    if mvp(alloc, &run_words(alloc)?, &mut shelf, &mut sink).number() != 0 {
+        return Err(Fail::new("the run is refused"));
+    }
+    Ok(Vec::from_slice(alloc, shelf.file(b"out.t01").unwrap_or(b""))?)
+}
+
 #[test]
 fn long_lines_are_read_to_the_limit(rt: HostRuntime) -> Result<(), Fail> {
     let alloc = rt.alloc();
@@ -141,16 +151,7 @@ fn long_lines_are_read_to_the_limit(rt: HostRuntime) -> Result<(), Fail> {
     for long in &LONG_LINES {
         add_long(alloc, &mut log, &mut transcript, long)?;
     }
-    let mut shelf = shelf(alloc, Some(BOOT_1), Some(&log), &[])?;
-    let mut sink = MemSink::new(alloc, Vec::new(alloc));
-    assert_eq!(rt;
-        mvp(alloc, &run_words(alloc)?, &mut shelf, &mut sink).number(),
-        0
-    );
-    assert_eq!(rt;
-        shelf.file(b"out.t01").unwrap_or(b"none"),
-        transcript.as_slice()
-    );
+    assert_eq!(rt; transcript_of(alloc, BOOT_1, &log)?, transcript);
     Ok(())
 }
 
@@ -165,15 +166,6 @@ fn the_area_is_filled_to_the_byte(rt: HostRuntime) -> Result<(), Fail> {
     for long in &LAST_LINES {
         add_long(alloc, &mut log, &mut transcript, long)?;
     }
-    let mut shelf = shelf(alloc, Some(SMALL_BOOT), Some(&log), &[])?;
-    let mut sink = MemSink::new(alloc, Vec::new(alloc));
-    assert_eq!(rt;
-        mvp(alloc, &run_words(alloc)?, &mut shelf, &mut sink).number(),
-        0
-    );
-    assert_eq!(rt;
-        shelf.file(b"out.t01").unwrap_or(b"none"),
-        transcript.as_slice()
-    );
+    assert_eq!(rt; transcript_of(alloc, SMALL_BOOT, &log)?, transcript);
     Ok(())
 }
