@@ -558,36 +558,20 @@ fn after_script(alloc: Global, script: &[u8]) -> Result<Private, Fail> {
 // A DEFFN' without a literal is typed, then comes a turn to the end of its key's step.
 const CALLED: &[u8] = b"10 DEFFN'5\r\x85\xA5";
 
-/// How many frames a partition has.
-fn frames_of(me: &Private) -> usize {
-    me.stack.len()
+/// Whether a partition stands at the DEFFN' of line 10, called without arguments.
+fn is_called(me: &Private) -> bool {
+    let there = match me.place {
+        Some(place) => place.line == Some(10) && place.unit == 0,
+        None => false,
+    };
+    there && me.stack.len() == 1 && me.args.is_some() && me.kept.is_none()
 }
 
 #[test]
 fn a_special_function_key_calls(rt: HostRuntime) -> Result<(), Fail> {
     let me = after_script(rt.alloc(), CALLED)?;
-    match me.place {
-        Some(place) => assert!(rt; place.line == Some(10) && place.unit == 0),
-        None => return Err(Fail::new("it is ready")),
-    }
-    assert!(rt; frames_of(&me) == 1);
-    assert!(rt; me.args.is_some() && me.kept.is_none() && me.pending.is_none());
+    assert!(rt; is_called(&me));
     Ok(())
-}
-
-/// Puts calls on a stack up to its limit.
-fn fill_stack(me: &mut Private)
-    ensures part { me.new.part ≡ me.old.part }
-{
-    for _ in 0..200 {
-        let call = Frame::Call {
-            back: None,
-            entered: None,
-        };
-        if me.stack.push(call).is_err() {
-            return;
-        }
-    }
 }
 
 /// The transcript of a key's script with a stack of 200 calls, and the partition after it.
