@@ -35,8 +35,8 @@ module _ {M : Type 0} (store : M → StoreState) (serving : ServingOf M) (lendin
   turn_from (suc n) me m steps =
       let s = step store serving lending me m in
       unless_ended s.end.why
-        (λ w. ended (counted_on steps s.end) w s.me s.after)
-        (turn_from n s.me s.after (counted_on steps s.end))
+      (λ w. ended (counted_on steps s.end) w s.me s.after)
+      (turn_from n s.me s.after (counted_on steps s.end))
 
   abbrev pub turn : ℕ → Private → M → TurnEnd M
   turn quota me m = turn_from quota me m 0
