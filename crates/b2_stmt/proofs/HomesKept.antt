@@ -32,7 +32,7 @@ use Rattle.b2_access.specs.declared.planned.Outcome.TheVariants as outcome
 use Rattle.b2_access.specs.declared.private.Private.{Private}
 use Rattle.b2_stmt.specs.Around.{around, setting_of}
 use Rattle.b2_stmt.specs.Asked.{Here, asked_of, asks_choice, asks_loop, body_place, carried, chosen, place_after, still}
-use Rattle.b2_stmt.specs.Assignments.{assigns}
+use Rattle.b2_stmt.specs.OnVariables.{is_on_variables, on_variables}
 use Rattle.b2_stmt.specs.Branches.{goto_goal, if_goal, passed_function}
 use Rattle.b2_stmt.specs.Calls.{back_from, called_where, forgets, leaves_call}
 use Rattle.b2_stmt.specs.Choices.{choice_in}
@@ -309,8 +309,8 @@ module _ (among : ℕ → Bool) where
   ended_in : (r : ℕ) (t : Trees) (h : Here) (me : Private) (s : SeenLent) → among h.place.home ≡ true → Within me → EndedIn (ended_of r t h me s)
   unfolding EndedIn
   ended_in r t h me s k w =
-      either EndedIn (r == row.ASSIGNMENT) _ _
-      (record { part = w.part; place = w.place; kept = w.kept; frames = w.frames }, next_in (assigns (setting_of me) s.home t me.vars).code)
+      either EndedIn (is_on_variables r) _ _
+      (record { part = w.part; place = w.place; kept = w.kept; frames = w.frames }, next_in (on_variables r (setting_of me) s.home t me.vars).code)
       (carried_in (asked_of r t h (around me s.home) s.home.lines) h.place me s.own.lines s.home.lines k w (asked_in r t h (around me s.home) s.home.lines k))
 
   PlanningIn : Planning → Type 0

@@ -16,5 +16,8 @@ pub mod ClearRows
 pub mod NumberRows
 pub mod SideRows
 pub mod Assigned
+pub mod Changed
+pub mod BufferRows
+pub mod TurnRows
 pub mod Executed
 pub mod HomesKept

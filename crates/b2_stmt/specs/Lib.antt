@@ -11,6 +11,8 @@ pub mod Choices
 pub mod Lines
 pub mod Asked
 pub mod Assignments
+pub mod Buffers
+pub mod OnVariables
 pub mod Clearing
 pub mod Plan
 pub mod Homes

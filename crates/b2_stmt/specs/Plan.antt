@@ -15,8 +15,8 @@ use Rattle.b2_access.specs.declared.private.Private.{Private}
 use Rattle.b2_access.specs.Lending.{SeenLent}
 use Rattle.b2_stmt.specs.Around.{around, setting_of}
 use Rattle.b2_stmt.specs.Asked.{Here, asked_of, carried}
-use Rattle.b2_stmt.specs.Assignments.{assigns}
 use Rattle.b2_stmt.specs.Clearing.{access_of, finishes}
+use Rattle.b2_stmt.specs.OnVariables.{is_on_variables, on_variables}
 use Rattle.b2_stmt.specs.Planning.{Ended, Finishing, Planning, asks, done, finished, next_or, stays}
 
 -- statements for programs alone, and those for immediate lines alone
@@ -38,7 +38,7 @@ with_assigned a me = record { me = record me { vars = a.vars }; outcome = next_o
 -- a statement that asks for no access, by its row and its tree
 abbrev pub ended_of : ℕ → Trees → Here → Private → SeenLent → Ended
 ended_of r t h me s =
-    if r == row.ASSIGNMENT then with_assigned (assigns (setting_of me) s.home t me.vars) me
+    if is_on_variables r then with_assigned (on_variables r (setting_of me) s.home t me.vars) me
     else carried (asked_of r t h (around me s.home) s.home.lines) h.place me s.own.lines s.home.lines
 
 -- or the access that it asks for, where nothing changes yet
@@ -85,3 +85,4 @@ is_built r =
     || r == row.SELECT || r == row.SELECT_NO_ROUND || r == row.RUN || r == row.CONTINUE || r == row.RESTORE || r == row.CLEAR_V || r == row.CLEAR_N
     || r == row.IF || r == row.GOTO || r == row.ELSE || r == row.ERROR || r == row.END || r == row.REMARK || r == row.IMAGE_LINE || r == row.DATA
     || r == row.DEFFN || r == row.BREAK || r == row.CLEAR || r == row.CLEAR_P || r == row.ON || r == row.DEFFN_MARKED
+    || r == row.INIT || r == row.ROTATE

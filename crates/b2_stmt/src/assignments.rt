@@ -34,7 +34,7 @@ fn code_of_fault(fault: Fault) -> Result<Option<Code>, NoMemory>
 }
 
 /// The code with which an assignment ended, where memory didn't fail.
-fn code_of(ended: Result<(), Fault>) -> Result<Option<Code>, NoMemory>
+pub fn code_of(ended: Result<(), Fault>) -> Result<Option<Code>, NoMemory>
     ensures { IfOk result (λ code. EndsWith ended code) }
 {
     match ended {

@@ -13,6 +13,7 @@ mod around;
 mod asked;
 mod assignments;
 mod branches;
+mod buffers;
 mod calls;
 mod choices;
 mod clearing;
@@ -21,6 +22,7 @@ mod ending;
 mod going;
 pub mod laws;
 mod loops;
+mod on_variables;
 mod planning;
 
 pub use clearing::finish;

@@ -8,9 +8,9 @@ ghost use Rattle.b2_stmt.specs.Planning.{next_or};
 
 use crate::around::setting_of;
 use crate::asked::{ask, carry_out};
-use crate::assignments::assign;
 use crate::clearing::access_of;
 use crate::going::failed;
+use crate::on_variables::{change_variables, is_on_variables};
 use b2_access::{DeviceTable, Lent, Outcome, Planned, Private};
 use b2_atom::rows;
 use b2_base::codes::S26_PROGRAM_ONLY;
@@ -54,6 +54,8 @@ pub fn is_built(row: u16) -> bool
             | rows::CLEAR_P
             | rows::ON
             | rows::DEFFN_MARKED
+            | rows::INIT
+            | rows::ROTATE
     )
 }
 
@@ -112,8 +114,8 @@ fn execute_program(
     if is_refused(unit.row, true) {
         return Ok(Planned::Done(failed(S26_PROGRAM_ONLY)));
     }
-    if unit.row == rows::ASSIGNMENT {
-        let code = assign(alloc, &mut me.vars, &setting, home, unit.bytes)?;
+    if is_on_variables(unit.row) {
+        let code = change_variables(alloc, &mut me.vars, &setting, home, unit.row, unit.bytes)?;
         return Ok(Planned::Done(next_or(code)));
     }
     if let Some(access) = access_of(unit.row, unit.bytes) {
@@ -145,8 +147,8 @@ fn execute_immediate(
     if is_refused(unit.row, false) {
         return Ok(Planned::Done(failed(S26_PROGRAM_ONLY)));
     }
-    if unit.row == rows::ASSIGNMENT {
-        let code = assign(alloc, &mut me.vars, &setting, home, unit.bytes)?;
+    if is_on_variables(unit.row) {
+        let code = change_variables(alloc, &mut me.vars, &setting, home, unit.row, unit.bytes)?;
         return Ok(Planned::Done(next_or(code)));
     }
     if let Some(access) = access_of(unit.row, unit.bytes) {

@@ -2,6 +2,7 @@
 // the language's rules say, worked out by hand.
 ghost use Rattle.std.specs.Prelude.{◌≤◌};
 
+mod buffers;
 mod clearing;
 mod rows;
 
@@ -18,6 +19,7 @@ use b2_flow::Place;
 use b2_rows::{is_read, row_unit};
 use b2_text::Text;
 use b2_vars::Vars;
+use buffers::{FILLED, TURNED};
 use rows::{BRANCHES, CALLS, CHOICES, KEPT, LOOPS, ORDER, RECEIVERS};
 use std::alloc::Global;
 use std::test::Fail;
@@ -185,6 +187,18 @@ fn checked(alloc: Global, rows: &[Row]) -> Result<usize, Fail> {
 #[test]
 fn receivers_are_assigned(rt: HostRuntime) -> Result<(), Fail> {
     assert_eq!(rt; checked(rt.alloc(), &RECEIVERS)?, RECEIVERS.len());
+    Ok(())
+}
+
+#[test]
+fn buffers_are_filled(rt: HostRuntime) -> Result<(), Fail> {
+    assert_eq!(rt; checked(rt.alloc(), &FILLED)?, FILLED.len());
+    Ok(())
+}
+
+#[test]
+fn bits_turn(rt: HostRuntime) -> Result<(), Fail> {
+    assert_eq!(rt; checked(rt.alloc(), &TURNED)?, TURNED.len());
     Ok(())
 }
 

@@ -1,6 +1,4 @@
-use Rattle.std.proofs.Common.{rules, arith, ◌≡◌, ◌==◌, Some, None, ap, sym, ◌∙◌, true, false, is_some}
-use Rattle.std.proofs.lemmas.Bool.Decides.{nat_tests}
-use Rattle.b2_atom.specs.declared.rows.TheConstants as row
+use Rattle.std.proofs.Common.{rules, ◌≡◌, Some, None, ap, sym, ◌∙◌, true, false, is_some}
 use Rattle.b2_rows.specs.Following.{tree_units}
 use Rattle.b2_rows.specs.Rows.{tree_at}
 use Rattle.b2_text.specs.Program.{line_at}
@@ -9,6 +7,7 @@ use Rattle.b2_expr.specs.Value.{in_statement}
 use Rattle.b2_access.specs.Lending.{SeenLent}
 use Rattle.b2_stmt.specs.Around.{around, surroundings_of}
 use Rattle.b2_stmt.specs.Asked.{asked_of}
+use Rattle.b2_stmt.specs.OnVariables.{is_on_variables}
 use Rattle.b2_stmt.specs.Plan.{is_refused}
 use Rattle.b2_stmt.specs.Clearing.{access_of}
 use Rattle.b2_stmt.specs.Planning.{done}
@@ -24,7 +23,7 @@ returns c globals =
     let s : SeenLent = record { own = c.args.own.now; home = c.args.home.now; globals = globals } in
     let line : line_at c.args.n c.args.home.now.lines ≡ Some c.in-Some.line.atoms.now = search rules in
     let allowed : is_refused u.row true ≡ false = search rules in
-    let other : (u.row == row.ASSIGNMENT) ≡ false = first_of (search (rules, c.if-unit-eq-ASSIGNMENT.false), grind (arith, nat_tests, c.if-unit-eq-ASSIGNMENT.false)) in
+    let other : is_on_variables u.row ≡ false = search rules in
     let e : Context = in_statement (surroundings_of c.setting_of-setting.result me.vars c.args.home.now) in
     let around_is : e ≡ around me s.home = ap (λ (a : Setting). in_statement (surroundings_of a me.vars c.args.home.now)) c.setting_of-setting.ensures in
     let asked : c.in_ok-asked.asked ≡ asked_of u.row (tree_at u.row u.bytes.now) (record { place = p; units = tree_units c.in-Some.line.atoms.now }) e s.home.lines = search rules in
