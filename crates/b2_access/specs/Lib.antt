@@ -14,3 +14,8 @@ pub mod Objects
 pub mod Contents
 pub mod TaskLocality
 pub mod Locality
+pub mod Planning
+pub mod Endings
+pub mod Going
+pub mod Placed
+pub mod Homes

@@ -7,6 +7,7 @@ use Rattle.b2_dec.specs.declared.number.Mode.TheVariants.{Round}
 use Rattle.b2_flow.specs.declared.frame.Place.{Place}
 use Rattle.b2_vars.specs.Tables.{VarsState}
 use Rattle.b2_access.specs.declared.private.Private.{Private}
+use Rattle.b2_access.specs.declared.setting.Setting.{Setting}
 
 -- the address of the terminal
 abbrev pub terminal_address : List ℕ
@@ -54,3 +55,7 @@ runs_program me = option_map_or (λ (p : Place). is_some p.line) me.place false
 -- no place is kept while program text runs
 abbrev pub KeepsNone : Private → Type 0
 KeepsNone me = runs_program me ≡ true → me.kept ≡ None
+
+-- what its expressions look at beside its variables and a text
+abbrev pub setting_of : Private → Setting
+setting_of me = record { mode = me.mode; last = me.last; part = me.part; term = me.term }

@@ -3,11 +3,13 @@
 //! A partition is `Private`: its variables, its frames, where it runs and what waits to be shown. A statement plans over that
 //! and over what is `Lent`: the texts of its home and of its own, and `@` variables. It ends at once or asks for one `Access`
 //! of an `Object`, of which there is an `Answer`. `Shared` is a store of any kind that serves accesses and lends. `DeviceTable`
-//! says which devices a partition may use. `goal_place` gives the place to which a goal on a line leads.
+//! says which devices a partition may use. `statement_at` gives the statement at a place, `goal_place` the place to which a goal
+//! on a line leads, and `to_line` and its like say so as the end of a statement.
 //!
 //! Stands on `b2_text`, `b2_vars` and `b2_flow` for what a partition has, on `b2_term` for terminals, on `b2_rows` for goals
 //! on a line, on `b2_dec` for values, on `b2_atom` for lines and on `b2_base`. The definitions are in `specs/`: a partition in
-//! `Partition`, what it is lent in `Lending`, places in `Places` and the devices in `Devices`; the store in `Store`, what an
+//! `Partition`, what it is lent in `Lending`, what a statement plans and how it finishes in `Planning`, places in `Places`,
+//! `Placed` and `Going`, and the devices in `Devices`; the store in `Store`, what an
 //! access touches and writes in `Touching`, how each is served in `Serving`, when one is stopped in `Causes`, what a shared
 //! store is in `Sharing`, and what a loan leaves in `Loans`. `Locality` proves that serving is local, by its tasks (`Task`,
 //! `TaskLocality`). What holds of serving stands in `laws`.
@@ -15,21 +17,29 @@
 
 mod accesses;
 mod devices;
+mod ending;
+mod going;
 pub mod laws;
 mod lending;
 mod objects;
+mod placed;
 mod places;
 mod planned;
 mod private;
+mod setting;
 mod shared;
 #[cfg(test)]
 mod tests;
 
 pub use accesses::{Access, Answer};
 pub use devices::{Device, DeviceTable};
+pub use ending::{failing, goes_or};
+pub use going::{failed, named_at, to_found, to_goal, to_line, to_place};
 pub use lending::{At, Lent};
 pub use objects::Object;
+pub use placed::{statement_at, statement_on};
 pub use places::{goal_place, place_after};
 pub use planned::{Outcome, Planned};
 pub use private::Private;
+pub use setting::{Setting, setting_of};
 pub use shared::Shared;

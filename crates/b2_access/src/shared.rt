@@ -4,7 +4,7 @@ ghost use Rattle.std.specs.Borrow.{sem};
 ghost use Rattle.b2_vars.specs.Tables.{VarsState};
 ghost use Rattle.b2_access.specs.declared.lending.At.{At as AtSpec};
 ghost use Rattle.b2_access.specs.Lending.{globals_lent};
-ghost use Rattle.b2_access.specs.Loans.{Loan, LendsFrom, LoansGlobals, globals_at};
+ghost use Rattle.b2_access.specs.Loans.{Loan, LendsFrom, LoansGlobals, globals_at, left_at};
 ghost use Rattle.b2_access.specs.Sharing.{ServingOf, IsLocal, KeepsListed};
 ghost use Rattle.b2_access.specs.Store.{StoreState, content};
 ghost use Rattle.b2_access.specs.Touching.{IsLegal};
@@ -63,7 +63,7 @@ pub trait Shared {
     ghost keeps_listed: { KeepsListed store serving };
 
     /// What it means after a loan is by its way of lending.
-    ghost loans: { (who home : ℕ) (at : AtSpec) (s : Self) (w : VarsState) → meaning (after_loan who home at s w) ≡ lending who home at (meaning s) w };
+    ghost loans: { (who home : ℕ) (at : AtSpec) (s : Self) (w : VarsState) → meaning (after_loan who home at s w) ≡ lending who home at (meaning s) (left_at home at (store (meaning s)) w) };
 
     /// A loan leaves what it holds on to.
     ghost loan_holds: { (who home : ℕ) (at : AtSpec) (s : Self) (w : VarsState) → holds (after_loan who home at s w) ≡ holds s };

@@ -15,7 +15,7 @@ use Rattle.b2_text.specs.Program.{TextState}
 use Rattle.b2_vars.specs.Tables.{VarsState}
 use Rattle.b2_expr.specs.Assigning.{Assigned, Ends}
 use Rattle.b2_stmt.specs.Assignments.{EndsWith, and_then, assign_each, assign_numbers, assign_sides, assigns, unless_coded}
-use Rattle.b2_stmt.specs.declared.around.Setting.{Setting}
+use Rattle.b2_access.specs.declared.setting.Setting.{Setting}
 
 -- what an assignment left and how it ended
 pub ended_so : (a : Assigned) (old new : VarsState) (r : Result (Unit {0}) Fault) (code : Option ℕ) → Ends a old new r → EndsWith r code → record { vars = new; code = code } ≡ a

@@ -11,13 +11,14 @@ use Rattle.b2_access.specs.Lending.{SeenLent}
 use Rattle.b2_access.specs.declared.private.Private.{Private}
 use Rattle.b2_base.specs.declared.codes.TheConstants.{S26_PROGRAM_ONLY}
 use Rattle.b2_access.specs.declared.planned.Outcome.TheVariants as outcome
-use Rattle.b2_stmt.specs.Around.{around, setting_of}
+use Rattle.b2_stmt.specs.Around.{around}
+use Rattle.b2_access.specs.Partition.{setting_of}
 use Rattle.b2_stmt.specs.Asked.{Here, asked_of, carried}
 use Rattle.b2_stmt.specs.OnVariables.{is_on_variables, on_variables}
 use Rattle.b2_access.specs.declared.accesses.Access.{Access}
 use Rattle.b2_stmt.specs.Clearing.{access_of}
 use Rattle.b2_stmt.specs.Plan.{allowed, by_access, course, course_at, course_in, course_of, ended_of, is_refused, line_named, plan, with_assigned}
-use Rattle.b2_stmt.specs.Planning.{done, stays}
+use Rattle.b2_access.specs.Planning.{done, stays}
 use Rattle.b2_stmt.specs.declared.asked.Asked.{Asked}
 
 some_is : {A : Type 0} (x y : A) → Some x ≡ Some y → y ≡ x

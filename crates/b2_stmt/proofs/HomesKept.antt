@@ -1,7 +1,9 @@
 -- A statement names no partition as a home but its own and those that were named before.
-use Rattle.std.proofs.Common.{◌≡◌, ℕ, ◌==◌, ◌&&◌, nat_lt, Bool, true, false, if◌then◌else◌, List, [], ◌∷◌, length, Option, Some, None, is_some, Result, Ok, Err}
-use Rattle.std.specs.Prelude.{slice_get, unwrap_or, ◌+◌}
+use Rattle.std.proofs.Common.{◌≡◌, ℕ, ◌==◌, ◌&&◌, ◌∙◌, refl, sym, ap, nat_lt, Bool, true, false, if◌then◌else◌, List, [], ◌∷◌, length, Option, Some, None, is_some, Result, Ok, Err}
+use Rattle.std.specs.Prelude.{slice_get, unwrap_or, ◌+◌, ◌-◌, ◌%◌, ◌^◌}
+use Rattle.std.proofs.Math.Nat.{zero-div}
 use Rattle.std.specs.Option.{option_map, option_and_then}
+use Rattle.b2_atom.specs.Tokens.Token.{Coded, Plain, Lined}
 use Rattle.b2_atom.specs.Tree.{Trees}
 use Rattle.b2_atom.specs.Tree.Trees.{Done, Put, In}
 use Rattle.b2_atom.specs.Units.{TreeUnit}
@@ -30,20 +32,21 @@ use Rattle.b2_access.specs.declared.accesses.Answer.TheVariants as answer
 use Rattle.b2_access.specs.declared.planned.Outcome.{Outcome}
 use Rattle.b2_access.specs.declared.planned.Outcome.TheVariants as outcome
 use Rattle.b2_access.specs.declared.private.Private.{Private}
-use Rattle.b2_stmt.specs.Around.{around, setting_of}
+use Rattle.b2_stmt.specs.Around.{around}
+use Rattle.b2_access.specs.Partition.{setting_of}
 use Rattle.b2_stmt.specs.Asked.{Here, asked_of, asks_choice, asks_loop, body_place, carried, chosen, place_after, still}
 use Rattle.b2_stmt.specs.OnVariables.{is_on_variables, on_variables}
 use Rattle.b2_stmt.specs.Branches.{goto_goal, if_goal, passed_function}
 use Rattle.b2_stmt.specs.Calls.{back_from, called_where, forgets, leaves_call}
 use Rattle.b2_stmt.specs.Choices.{choice_in}
-use Rattle.b2_stmt.specs.Clearing.{access_of, cleared, edited, finishes}
+use Rattle.b2_stmt.specs.Clearing.{access_of, cleared, edited, erases, erases_from, erases_lines, erases_range, finishes}
 use Rattle.b2_stmt.specs.Course.{continues, restores, restores_where, runs, runs_from, runs_where}
 use Rattle.b2_stmt.specs.Frames.{with_frame}
-use Rattle.b2_stmt.specs.Going.{to_found, to_goal, to_place, where_there}
-use Rattle.b2_stmt.specs.Homes.{FinishesWithin, FrameIn, FramesIn, IsWithin, OutcomeIn, PlaceIn, PlannedIn, PlansWithin}
+use Rattle.b2_access.specs.Going.{to_found, to_goal, to_place, where_there}
+use Rattle.b2_access.specs.Homes.{FinishesWithin, FrameIn, FramesIn, HomesIn, IsWithin, OutcomeIn, PlaceIn, PlannedIn, PlansWithin, homes_of, is_marked}
 use Rattle.b2_stmt.specs.Loops.{begins, counted, counts, goes_round, is_over, loop_in, made_loop, next_value, nexts, tested, without_loop}
-use Rattle.b2_stmt.specs.Plan.{allowed, by_access, course, course_at, course_in, ended_of, is_refused, line_named}
-use Rattle.b2_stmt.specs.Planning.{Ended, Planning, done, next_or}
+use Rattle.b2_stmt.specs.Plan.{allowed, by_access, course, course_at, course_in, ended_of, finish, is_refused, line_named, plan}
+use Rattle.b2_access.specs.Planning.{Ended, Planning, done, goes_or}
 use Rattle.b2_stmt.specs.declared.asked.Asked.{Asked}
 use Rattle.b2_stmt.specs.declared.asked.Asked.TheVariants as asked
 use Rattle.b2_stmt.specs.declared.loops.Loop.{Loop}
@@ -52,6 +55,34 @@ use Rattle.b2_stmt.specs.declared.loops.Loop.{Loop}
 either : {A : Type 0} (F : A → Type 0) (b : Bool) (x y : A) → F x → F y → F (if b then x else y)
 either F true x y h k = h
 either F false x y h k = k
+
+true_is_false : true ≡ false → ⊥
+true_is_false h = cc
+
+-- CLEAR P marks no home
+from_none : (from : ℕ) (t : Trees) → homes_of (erases_from from t) ≡ 0
+from_none from Done = refl
+from_none from (Put w t) = refl
+from_none from (In n second end) = refl
+
+lines_none : (t : Trees) → homes_of (erases_lines t) ≡ 0
+lines_none Done = refl
+lines_none (In n a t) = refl
+lines_none (Put (Coded c) t) = refl
+lines_none (Put (Plain k text) t) = refl
+lines_none (Put (Lined high low) more) = from_none _ more
+
+range_none : (t : Trees) → homes_of (erases_range t) ≡ 0
+range_none Done = refl
+range_none (Put w t) = refl
+range_none (In n lines end) = either (λ (a : Access). homes_of a ≡ 0) (n == 1) (erases_lines lines) _ (lines_none lines) refl
+
+erases_none : (t : Trees) → homes_of (erases t) ≡ 0
+erases_none Done = refl
+erases_none (In n a t) = refl
+erases_none (Put w Done) = refl
+erases_none (Put w (In n a t)) = refl
+erases_none (Put w (Put letter range)) = range_none range
 
 module _ (among : ℕ → Bool) where
   -- what a statement leaves names only these
@@ -302,7 +333,7 @@ module _ (among : ℕ → Bool) where
   carried_in asked.Mark p me own home h w k = (w, either (OutcomeIn among) (is_some me.args) _ _ tt tt)
 
   -- a statement
-  next_in : (o : Option ℕ) → OutcomeIn among (next_or o)
+  next_in : (o : Option ℕ) → OutcomeIn among (goes_or outcome.Next o)
   next_in None = tt
   next_in (Some code) = tt
 
@@ -320,15 +351,28 @@ module _ (among : ℕ → Bool) where
   unfolding EndedIn PlanningIn
   done_in s e h = h
 
-  access_in : (o : Option Access) (s : SeenLent) (me : Private) (e : Ended) → Within me → EndedIn e → PlanningIn (by_access o s me e)
-  unfolding PlanningIn
-  access_in None s me e w h = done_in s e h
-  access_in (Some a) s me e w h = (w, tt)
+  -- an access that marks no home
+  no_mark : (a : Access) → homes_of a ≡ 0 → HomesIn among a
+  no_mark a none h is = absurd (true_is_false (sym is ∙ ap (λ (n : ℕ). is_marked h n) none ∙ ap (λ (n : ℕ). n % 2 == 1) (zero-div (2 ^ (h - 1)))))
+
+  AccessIn : Option Access → Type 0
+  AccessIn None = Unit {0}
+  AccessIn (Some a) = HomesIn among a
+
+  asked_of_in : (r : ℕ) (t : Trees) → AccessIn (access_of r t)
+  unfolding AccessIn
+  asked_of_in r t =
+      either AccessIn (r == row.CLEAR) _ _ (no_mark (access.ClearAll None 0) refl) (either AccessIn (r == row.CLEAR_P) _ _ (no_mark (erases t) (erases_none t)) tt)
+
+  access_in : (o : Option Access) (s : SeenLent) (me : Private) (e : Ended) → Within me → EndedIn e → AccessIn o → PlanningIn (by_access o s me e)
+  unfolding PlanningIn AccessIn
+  access_in None s me e w h k = done_in s e h
+  access_in (Some a) s me e w h k = (w, k)
 
   allowed_in : (r : ℕ) (t : Trees) (h : Here) (me : Private) (s : SeenLent) → among h.place.home ≡ true → Within me → PlanningIn (allowed r t h me s)
   unfolding EndedIn PlanningIn
   allowed_in r t h me s k w =
-      either PlanningIn (is_refused r (is_some h.place.line)) _ _ (w, tt) (access_in (access_of r t) s me (ended_of r t h me s) w (ended_in r t h me s k w))
+      either PlanningIn (is_refused r (is_some h.place.line)) _ _ (w, tt) (access_in (access_of r t) s me (ended_of r t h me s) w (ended_in r t h me s k w) (asked_of_in r t))
 
   unit_in : (o : Option TreeUnit) (h : Here) (me : Private) (s : SeenLent) → among h.place.home ≡ true → Within me → PlanningIn (course_at o h me s)
   unfolding PlanningIn
@@ -367,10 +411,10 @@ module _ (among : ℕ → Bool) where
   finishes_in (access.Key term) a me w = (w, tt)
   finishes_in (access.PutLine line atoms homes) a me w = (w, tt)
 
-pub plans_within : PlansWithin
+pub plans_within : PlansWithin plan
 unfolding PlanningIn
 plans_within among me s w = planned_in among me.place me s w.place w
 
-pub finishes_within : FinishesWithin
+pub finishes_within : FinishesWithin finish
 unfolding EndedIn
 finishes_within among x a me s w = finishes_in among x a me w

@@ -19,9 +19,9 @@ use Rattle.b2_stmt.specs.Branches.{goto_goal, if_goal, passed_function}
 use Rattle.b2_stmt.specs.Calls.{called_where, forgets, goes_back, has_all, line_called, passes_mark}
 use Rattle.b2_stmt.specs.Choices.{choice_in}
 use Rattle.b2_stmt.specs.Course.{clears, continues, line_to_restore, line_to_run, restores, runs, selects, stop_text, stops, text_in}
-use Rattle.b2_stmt.specs.Going.{to_found, to_goal, to_line}
+use Rattle.b2_access.specs.Going.{to_found, to_goal, to_line}
 use Rattle.b2_stmt.specs.Loops.{begins, counter_in, loop_in, nexts, scalar_of}
-use Rattle.b2_stmt.specs.Planning.{Ended, stays}
+use Rattle.b2_access.specs.Planning.{Ended, stays}
 use Rattle.b2_stmt.specs.declared.asked.Asked.{Asked}
 use Rattle.b2_stmt.specs.declared.asked.Asked.TheVariants as asked
 use Rattle.b2_stmt.specs.declared.loops.Loop.{Loop}

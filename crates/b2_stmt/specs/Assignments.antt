@@ -17,7 +17,7 @@ use Rattle.b2_expr.specs.declared.named.Element.{Element}
 use Rattle.b2_expr.specs.declared.operators.Level.TheVariants as level
 use Rattle.b2_expr.specs.declared.receiver.AlphaReceiver.{AlphaReceiver}
 use Rattle.b2_stmt.specs.Around.{surroundings_of}
-use Rattle.b2_stmt.specs.declared.around.Setting.{Setting}
+use Rattle.b2_access.specs.declared.setting.Setting.{Setting}
 
 -- what comes after an assignment, where it had no code
 abbrev pub unless_coded : Option ℕ → VarsState → (VarsState → Assigned) → Assigned

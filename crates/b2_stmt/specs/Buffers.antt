@@ -22,7 +22,7 @@ use Rattle.b2_expr.specs.declared.receiver.Buffer.{Buffer}
 use Rattle.b2_expr.specs.declared.receiver.Buffer.TheVariants as buffer_kind
 use Rattle.b2_stmt.specs.Around.{surroundings_of}
 use Rattle.b2_stmt.specs.Assignments.{assign_each, items_of}
-use Rattle.b2_stmt.specs.declared.around.Setting.{Setting}
+use Rattle.b2_access.specs.declared.setting.Setting.{Setting}
 use Rattle.b2_stmt.specs.declared.buffers.Turn.{Turn}
 
 -- the bytes that a buffer names are changed; a scalar that isn't there is made first

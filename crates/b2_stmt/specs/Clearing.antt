@@ -15,8 +15,8 @@ use Rattle.b2_access.specs.declared.accesses.Answer.TheVariants as answer
 use Rattle.b2_access.specs.declared.planned.Outcome.TheVariants as outcome
 use Rattle.b2_access.specs.declared.private.Private.{Private}
 use Rattle.b2_stmt.specs.Calls.{without_frames}
-use Rattle.b2_stmt.specs.Going.{line_in}
-use Rattle.b2_stmt.specs.Planning.{Ended, stays}
+use Rattle.b2_access.specs.Going.{line_in}
+use Rattle.b2_access.specs.Planning.{Ended, stays}
 
 -- the line after a comma
 abbrev pub second_line : Trees → ℕ

@@ -6,7 +6,7 @@ use Rattle.b2_flow.specs.declared.frame.Frame.{Frame}
 use Rattle.b2_access.specs.declared.planned.Outcome.{Outcome}
 use Rattle.b2_access.specs.declared.planned.Outcome.TheVariants as outcome
 use Rattle.b2_access.specs.declared.private.Private.{Private}
-use Rattle.b2_stmt.specs.Planning.{Ended}
+use Rattle.b2_access.specs.Planning.{Ended}
 
 -- a frame on top; A04 where there is no room for it
 abbrev pub with_frame : Frame → Outcome → Private → Ended

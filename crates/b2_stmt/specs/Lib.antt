@@ -1,6 +1,3 @@
-pub mod Planning
-pub mod Endings
-pub mod Going
 pub mod Around
 pub mod Branches
 pub mod Frames
@@ -15,4 +12,3 @@ pub mod Buffers
 pub mod OnVariables
 pub mod Clearing
 pub mod Plan
-pub mod Homes

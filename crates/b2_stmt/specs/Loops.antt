@@ -26,7 +26,7 @@ use Rattle.b2_expr.specs.declared.operators.Level.TheVariants as level
 use Rattle.b2_access.specs.declared.planned.Outcome.TheVariants as outcome
 use Rattle.b2_access.specs.declared.private.Private.{Private}
 use Rattle.b2_stmt.specs.Frames.{with_frame}
-use Rattle.b2_stmt.specs.Planning.{Ended, stays}
+use Rattle.b2_access.specs.Planning.{Ended, stays}
 use Rattle.b2_stmt.specs.declared.loops.Loop.{Loop}
 
 -- the scalar of a name, as a loop counts it, and its place among the variables

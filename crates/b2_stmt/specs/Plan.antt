@@ -13,11 +13,12 @@ use Rattle.b2_access.specs.declared.accesses.Answer.{Answer}
 use Rattle.b2_access.specs.declared.planned.Outcome.TheVariants as outcome
 use Rattle.b2_access.specs.declared.private.Private.{Private}
 use Rattle.b2_access.specs.Lending.{SeenLent}
-use Rattle.b2_stmt.specs.Around.{around, setting_of}
+use Rattle.b2_stmt.specs.Around.{around}
+use Rattle.b2_access.specs.Partition.{setting_of}
 use Rattle.b2_stmt.specs.Asked.{Here, asked_of, carried}
 use Rattle.b2_stmt.specs.Clearing.{access_of, finishes}
 use Rattle.b2_stmt.specs.OnVariables.{is_on_variables, on_variables}
-use Rattle.b2_stmt.specs.Planning.{Ended, Finishing, Planning, asks, done, finished, next_or, stays}
+use Rattle.b2_access.specs.Planning.{Ended, Finishing, Planning, asks, done, finished, goes_or, stays}
 
 -- statements for programs alone, and those for immediate lines alone
 abbrev pub is_for_programs : ℕ → Bool
@@ -33,7 +34,7 @@ is_refused r program = if program then is_for_immediate_lines r else is_for_prog
 
 -- variables that were changed, and the next unit or a fault
 abbrev pub with_assigned : Assigned → Private → Ended
-with_assigned a me = record { me = record me { vars = a.vars }; outcome = next_or a.code }
+with_assigned a me = record { me = record me { vars = a.vars }; outcome = goes_or outcome.Next a.code }
 
 -- a statement that asks for no access, by its row and its tree
 abbrev pub ended_of : ℕ → Trees → Here → Private → SeenLent → Ended

@@ -8,13 +8,13 @@ ghost use Rattle.b2_expr.specs.Value.{in_statement};
 ghost use Rattle.b2_stmt.specs.Around.{surroundings_of as about};
 ghost use Rattle.b2_stmt.specs.Branches.{if_goal as if_goal_of};
 ghost use Rattle.b2_stmt.specs.Choices.{choice_in};
-ghost use Rattle.b2_stmt.specs.Going.{to_found};
+ghost use Rattle.b2_access.specs.Going.{to_found};
 ghost use Rattle.b2_stmt.specs.Loops.{loop_in};
 ghost use Rattle.b2_stmt.specs.Course.{stop_text as shown_by_stop, text_in};
 ghost use Rattle.b2_stmt.specs.Asked as spec;
 ghost use Rattle.b2_stmt.specs.Asked.{IsNamed};
 
-use crate::around::{Setting, surroundings_of};
+use crate::around::surroundings_of;
 use crate::branches::{goto_goal, if_goal, passed_function, passed_goal};
 use crate::calls::{call_line, forget, go_back, has_all, line_called, pass_mark};
 use crate::choices::choice_at;
@@ -22,9 +22,8 @@ use crate::course::{
     clear, line_to_restore, line_to_run, restore, resume, run, select, stop, stop_text,
     text_of_stop,
 };
-use crate::going::{failed, to_found, to_goal, to_line};
 use crate::loops::{Loop, begin, counter_at, loop_at, next};
-use b2_access::{Outcome, Private, place_after};
+use b2_access::{Outcome, Private, Setting, failed, place_after, to_found, to_goal, to_line};
 use b2_atom::{Atoms, rows};
 use b2_base::codes::{S26_PROGRAM_ONLY, S27_LEFT_OUT};
 use b2_base::{ByteList, NoMemory};
@@ -257,7 +256,8 @@ pub fn carry_out(
     asked: Asked,
 ) -> Result<Outcome, NoMemory>
     requires named { IsNamed asked }
-    ensures { IfOk result (λ o. record { me = me.new; outcome = o } ≡ spec.carried asked place me.old own.now.lines home.now.lines) }
+    ensures ended { IfOk result (λ o. record { me = me.new; outcome = o } ≡ spec.carried asked place me.old own.now.lines home.now.lines) }
+    ensures part { me.new.part ≡ me.old.part }
 {
     match asked {
         Asked::Nothing(outcome) => Ok(outcome),

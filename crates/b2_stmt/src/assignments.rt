@@ -9,7 +9,8 @@ ghost use Rattle.b2_stmt.specs.Around.{surroundings_of as about};
 ghost use Rattle.b2_stmt.specs.Assignments as spec;
 ghost use Rattle.b2_stmt.specs.Assignments.{EndsWith, HasCode, after_items, items_of, side_of_assignment, sum_of_assignment};
 
-use crate::around::{Setting, surroundings_of};
+use crate::around::surroundings_of;
+use b2_access::Setting;
 use b2_atom::Cursor;
 use b2_base::lexical::dropped;
 use b2_base::{Code, Fault, NoMemory};

@@ -8,8 +8,7 @@ ghost use Rattle.b2_expr.specs.Scope.{surroundings};
 ghost use Rattle.b2_expr.specs.Value.{in_statement};
 ghost use Rattle.b2_stmt.specs.Branches as spec;
 
-use crate::going::{failed, named_at};
-use b2_access::Outcome;
+use b2_access::{Outcome, failed, named_at};
 use b2_atom::words::GLOBAL_PART;
 use b2_atom::{Atoms, Cursor};
 use b2_base::Code;

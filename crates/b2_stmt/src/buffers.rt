@@ -10,8 +10,9 @@ ghost use Rattle.b2_expr.specs.Value.{in_statement};
 ghost use Rattle.b2_stmt.specs.Assignments.{assign_each};
 ghost use Rattle.b2_stmt.specs.Buffers as spec;
 
-use crate::around::{Setting, surroundings_of};
+use crate::around::surroundings_of;
 use crate::assignments::code_of;
+use b2_access::Setting;
 use b2_alpha::rotate;
 use b2_atom::Cursor;
 use b2_atom::words::ROTATEC_OPEN;

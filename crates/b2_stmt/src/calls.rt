@@ -6,9 +6,8 @@ ghost use Rattle.b2_access.specs.Places.{line_start};
 ghost use Rattle.b2_text.specs.Program.{line_at};
 ghost use Rattle.b2_stmt.specs.Calls as spec;
 
-use crate::ending::put_frame;
-use crate::going::{failed, to_place};
-use b2_access::{Outcome, Private};
+use crate::framing::put_frame;
+use b2_access::{Outcome, Private, failed, to_place};
 use b2_atom::words::ALL;
 use b2_base::codes::{P36_NO_LINE, P41_NO_CALL, S27_LEFT_OUT};
 use b2_base::lexical::dropped;
@@ -33,7 +32,8 @@ pub fn call_line(
     n: u16,
     back: Option<Place>,
 ) -> Outcome
-    ensures { record { me = me.new; outcome = result } ≡ spec.called_where (line_at n home.now.lines) (line_start place n) back me.old }
+    ensures ended { record { me = me.new; outcome = result } ≡ spec.called_where (line_at n home.now.lines) (line_start place n) back me.old }
+    ensures part { me.new.part ≡ me.old.part }
 {
     if home.line(n).is_none() {
         return failed(P36_NO_LINE);
@@ -52,7 +52,8 @@ pub fn call_line(
 
 /// RETURN.
 pub fn go_back(me: &mut Private) -> Outcome
-    ensures { record { me = me.new; outcome = result } ≡ spec.goes_back me.old }
+    ensures ended { record { me = me.new; outcome = result } ≡ spec.goes_back me.old }
+    ensures part { me.new.part ≡ me.old.part }
 {
     match me.stack.pop_call() {
         Ok((back, _)) => to_place(back),
@@ -62,7 +63,8 @@ pub fn go_back(me: &mut Private) -> Outcome
 
 /// RETURN CLEAR.
 fn forget_call(me: &mut Private) -> Outcome
-    ensures { record { me = me.new; outcome = result } ≡ spec.forgets_call me.old }
+    ensures ended { record { me = me.new; outcome = result } ≡ spec.forgets_call me.old }
+    ensures part { me.new.part ≡ me.old.part }
 {
     match me.stack.pop_call() {
         Ok(_) => Outcome::Next,
@@ -72,7 +74,8 @@ fn forget_call(me: &mut Private) -> Outcome
 
 /// RETURN CLEAR ALL.
 fn forget_all(me: &mut Private, place: Place) -> Outcome
-    ensures { record { me = me.new; outcome = result } ≡ spec.forgets_all place me.old }
+    ensures ended { record { me = me.new; outcome = result } ≡ spec.forgets_all place me.old }
+    ensures part { me.new.part ≡ me.old.part }
 {
     if place.home != me.part {
         return failed(P41_NO_CALL);
@@ -99,7 +102,8 @@ pub fn has_all(unit: &[u8]) -> bool
 
 /// RETURN CLEAR with ALL or without.
 pub fn forget(me: &mut Private, place: Place, all: bool) -> Outcome
-    ensures { record { me = me.new; outcome = result } ≡ spec.forgets all place me.old }
+    ensures ended { record { me = me.new; outcome = result } ≡ spec.forgets all place me.old }
+    ensures part { me.new.part ≡ me.old.part }
 {
     if all {
         forget_all(me, place)

@@ -10,8 +10,7 @@ ghost use Rattle.b2_stmt.specs.Calls.{without_frames};
 ghost use Rattle.b2_stmt.specs.Clearing as spec;
 ghost use Rattle.b2_stmt.specs.Plan.{finish};
 
-use crate::going::failed;
-use b2_access::{Access, Answer, Lent, Outcome, Private};
+use b2_access::{Access, Answer, Lent, Outcome, Private, failed};
 use b2_atom::rows;
 use b2_base::codes::A08_TEXT_BORROWED;
 use b2_base::lexical::dropped;
@@ -70,7 +69,8 @@ pub fn access_of(row: u16, unit: &[u8]) -> Option<Access>
 
 /// Drops all frames, and what is kept.
 fn drop_frames(me: &mut Private)
-    ensures { me.new ≡ without_frames me.old }
+    ensures dropped { me.new ≡ without_frames me.old }
+    ensures part { me.new.part ≡ me.old.part }
 {
     me.stack.clear();
     me.kept = None;
@@ -79,7 +79,8 @@ fn drop_frames(me: &mut Private)
 
 /// After all was cleared.
 fn clear_all(alloc: Global, me: &mut Private) -> Result<Outcome, NoMemory>
-    ensures { IfOk result (λ o. record { me = me.new; outcome = o } ≡ spec.edited Answer.Done (spec.cleared me.old) me.old) }
+    ensures ended { IfOk result (λ o. record { me = me.new; outcome = o } ≡ spec.edited Answer.Done (spec.cleared me.old) me.old) }
+    ensures part { me.new.part ≡ me.old.part }
 {
     let ready = ByteList::from_slice(alloc, b"READY\n")?;
     me.vars.clear();
@@ -90,7 +91,8 @@ fn clear_all(alloc: Global, me: &mut Private) -> Result<Outcome, NoMemory>
 
 /// After lines were erased.
 fn erase_lines(me: &mut Private) -> Outcome
-    ensures { record { me = me.new; outcome = result } ≡ spec.edited Answer.Done (without_frames me.old) me.old }
+    ensures ended { record { me = me.new; outcome = result } ≡ spec.edited Answer.Done (without_frames me.old) me.old }
+    ensures part { me.new.part ≡ me.old.part }
 {
     drop_frames(me);
     Outcome::Ready
@@ -114,7 +116,8 @@ fn finish_with(
     access: &Access,
     answer: &Answer,
 ) -> Result<Outcome, NoMemory>
-    ensures { IfOk result (λ o. record { me = me.new; outcome = o } ≡ spec.finishes access.now answer.now me.old) }
+    ensures ended { IfOk result (λ o. record { me = me.new; outcome = o } ≡ spec.finishes access.now answer.now me.old) }
+    ensures part { me.new.part ≡ me.old.part }
 {
     match (access, answer) {
         (Access::ClearAll { .. }, Answer::Done) => clear_all(alloc, me),
@@ -136,6 +139,7 @@ pub fn finish(
     ensures finished { IfOk result (λ o. record { me = me.new; globals = globals_lent lent.new; outcome = o } ≡ finish access.now answer.now me.old (seen lent.old)) }
     ensures same_globals { lent.new.globals.now ≡ lent.old.globals.now }
     ensures same_reference { lent.new.globals.ghost_name ≡ lent.old.globals.ghost_name }
+    ensures part { me.new.part ≡ me.old.part }
 {
     finish_with(alloc, me, access, answer)
 }

@@ -4,8 +4,7 @@ ghost use Rattle.b2_atom.specs.declared.rows.TheConstants as row;
 ghost use Rattle.b2_rows.specs.Rows.{is_part, tree_at};
 ghost use Rattle.b2_stmt.specs.Course as spec;
 
-use crate::going::failed;
-use b2_access::{Outcome, Private};
+use b2_access::{Outcome, Private, failed};
 use b2_atom::words::LINE;
 use b2_base::codes::{P36_NO_LINE, P46_NOTHING_KEPT};
 use b2_base::lexical::dropped;
@@ -18,7 +17,8 @@ use std::alloc::Global;
 
 /// SELECT ROUND and SELECT NO ROUND.
 pub fn select(me: &mut Private, mode: Mode) -> Outcome
-    ensures { record { me = me.new; outcome = result } ≡ spec.selects mode me.old }
+    ensures ended { record { me = me.new; outcome = result } ≡ spec.selects mode me.old }
+    ensures part { me.new.part ≡ me.old.part }
 {
     me.mode = mode;
     Outcome::Next
@@ -53,7 +53,8 @@ pub fn stop_text(alloc: Global, text: Option<&[u8]>) -> Result<ByteList, NoMemor
 
 /// STOP at a place, where what it shows and the place after it are known.
 pub fn stop(me: &mut Private, shown: ByteList, place: Place, after: Option<Place>) -> Outcome
-    ensures { record { me = me.new; outcome = result } ≡ spec.stops shown place after me.old }
+    ensures ended { record { me = me.new; outcome = result } ≡ spec.stops shown place after me.old }
+    ensures part { me.new.part ≡ me.old.part }
 {
     me.pending = Some((Addr::default(), shown));
     if place.line.is_some() {
@@ -64,7 +65,8 @@ pub fn stop(me: &mut Private, shown: ByteList, place: Place, after: Option<Place
 
 /// The program begins anew, at a line of its own text or with none.
 fn run_from(me: &mut Private, n: Option<u16>) -> Outcome
-    ensures { record { me = me.new; outcome = result } ≡ spec.runs_from n me.old }
+    ensures ended { record { me = me.new; outcome = result } ≡ spec.runs_from n me.old }
+    ensures part { me.new.part ≡ me.old.part }
 {
     me.vars.clear_non_common();
     me.stack.clear();
@@ -84,7 +86,8 @@ fn run_from(me: &mut Private, n: Option<u16>) -> Outcome
 
 /// RUN.
 pub fn run(me: &mut Private, own: &Text, n: Option<u16>) -> Outcome
-    ensures { record { me = me.new; outcome = result } ≡ spec.runs n own.now.lines me.old }
+    ensures ended { record { me = me.new; outcome = result } ≡ spec.runs n own.now.lines me.old }
+    ensures part { me.new.part ≡ me.old.part }
 {
     let Some(n) = n else {
         let first = own.next_after(None);
@@ -122,7 +125,8 @@ pub fn resume(me: &Private) -> Outcome
 
 /// RESTORE.
 pub fn restore(me: &mut Private, own: &Text, n: Option<u16>) -> Outcome
-    ensures { record { me = me.new; outcome = result } ≡ spec.restores n own.now.lines me.old }
+    ensures ended { record { me = me.new; outcome = result } ≡ spec.restores n own.now.lines me.old }
+    ensures part { me.new.part ≡ me.old.part }
 {
     let Some(n) = n else {
         me.next_data = None;
@@ -151,7 +155,8 @@ pub fn line_to_restore(unit: &[u8]) -> Option<u16>
 
 /// CLEAR V, which takes the common variables too, and CLEAR N.
 pub fn clear(me: &mut Private, common: bool) -> Outcome
-    ensures { record { me = me.new; outcome = result } ≡ spec.clears common me.old }
+    ensures ended { record { me = me.new; outcome = result } ≡ spec.clears common me.old }
+    ensures part { me.new.part ≡ me.old.part }
 {
     if common {
         me.vars.clear();

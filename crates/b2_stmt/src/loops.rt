@@ -11,8 +11,8 @@ ghost use Rattle.b2_expr.specs.Value.{in_statement};
 ghost use Rattle.b2_stmt.specs.Loops as spec;
 ghost use Rattle.b2_stmt.specs.Loops.{scalar_of};
 
-use crate::ending::{failing, put_frame};
-use b2_access::{Outcome, Private};
+use crate::framing::put_frame;
+use b2_access::{Outcome, Private, failing};
 use b2_atom::Cursor;
 use b2_atom::words::STEP;
 use b2_base::lexical::dropped;
@@ -130,7 +130,8 @@ fn drop_loop(stack: &mut Stack, v: Var2)
 /// Begins a loop whose body stands at a place.
 pub fn begin(me: &mut Private, l: Loop, body: Place) -> Result<Outcome, NoMemory>
     requires named { is_legal_name (scalar_of l.var) ≡ true }
-    ensures { IfOk result (λ o. record { me = me.new; outcome = o } ≡ spec.begins l body me.old) }
+    ensures ended { IfOk result (λ o. record { me = me.new; outcome = o } ≡ spec.begins l body me.old) }
+    ensures part { me.new.part ≡ me.old.part }
 {
     match assign_number(&mut me.vars, counted(l.var), l.from) {
         Ok(()) => {}
@@ -178,7 +179,8 @@ fn go_round(
     body: Place,
 ) -> Result<Outcome, NoMemory>
     requires named { is_legal_name (scalar_of v) ≡ true }
-    ensures { IfOk result (λ o. record { me = me.new; outcome = o } ≡ spec.goes_round (Some (limit, step, body)) v me.old) }
+    ensures ended { IfOk result (λ o. record { me = me.new; outcome = o } ≡ spec.goes_round (Some (limit, step, body)) v me.old) }
+    ensures part { me.new.part ≡ me.old.part }
 {
     let x = match next_value(&me.vars, me.mode, v, step) {
         Ok(x) => x,
@@ -198,7 +200,8 @@ fn go_round(
 /// NEXT of a variable.
 pub fn next(me: &mut Private, v: Var2) -> Result<Outcome, NoMemory>
     requires named { is_legal_name (scalar_of v) ≡ true }
-    ensures { IfOk result (λ o. record { me = me.new; outcome = o } ≡ spec.nexts v me.old) }
+    ensures ended { IfOk result (λ o. record { me = me.new; outcome = o } ≡ spec.nexts v me.old) }
+    ensures part { me.new.part ≡ me.old.part }
 {
     match me.stack.loop_of(v) {
         Ok((limit, step, body)) => go_round(me, v, limit, step, body),

@@ -3,9 +3,9 @@ ghost use Rattle.std.specs.Prelude.{◌≡◌, true, IfOk};
 ghost use Rattle.b2_rows.specs.Rows.{is_part, tree_at};
 ghost use Rattle.b2_stmt.specs.OnVariables as spec;
 
-use crate::around::Setting;
 use crate::assignments::assign;
 use crate::buffers::{init, rotate_bits};
+use b2_access::Setting;
 use b2_atom::rows;
 use b2_base::{Code, NoMemory};
 use b2_text::Text;

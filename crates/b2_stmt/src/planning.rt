@@ -4,17 +4,14 @@ ghost use Rattle.b2_text.specs.Program.{line_at};
 ghost use Rattle.b2_vars.specs.Tables.{VarsState};
 ghost use Rattle.b2_access.specs.Lending.{globals_lent, seen};
 ghost use Rattle.b2_stmt.specs.Plan as spec;
-ghost use Rattle.b2_stmt.specs.Planning.{next_or};
 
-use crate::around::setting_of;
 use crate::asked::{ask, carry_out};
 use crate::clearing::access_of;
-use crate::going::failed;
 use crate::on_variables::{change_variables, is_on_variables};
-use b2_access::{DeviceTable, Lent, Outcome, Planned, Private};
+use b2_access::{DeviceTable, Lent, Outcome, Planned, Private, failed, goes_or, setting_of};
 use b2_atom::rows;
+use b2_base::NoMemory;
 use b2_base::codes::S26_PROGRAM_ONLY;
-use b2_base::{Code, NoMemory};
 use b2_flow::Place;
 use b2_rows::row_unit;
 use b2_text::Text;
@@ -82,16 +79,6 @@ fn is_refused(row: u16, program: bool) -> bool
     }
 }
 
-/// The next unit, or a fault.
-fn next_or(code: Option<Code>) -> Outcome
-    ensures { result ≡ next_or code }
-{
-    match code {
-        Some(code) => Outcome::Failed(code),
-        None => Outcome::Next,
-    }
-}
-
 /// Executes the unit at a place in a line of the program.
 fn execute_program(
     alloc: Global,
@@ -102,7 +89,8 @@ fn execute_program(
     place: Place,
 ) -> Result<Planned, NoMemory>
     requires line { place.line ≡ Some n }
-    ensures { (globals : Option VarsState) → IfOk result (λ p. record { me = me.new; globals = globals; planned = p } ≡ spec.course_in (line_at n home.now.lines) place me.old (record { own = own.now; home = home.now; globals = globals })) }
+    ensures planned { (globals : Option VarsState) → IfOk result (λ p. record { me = me.new; globals = globals; planned = p } ≡ spec.course_in (line_at n home.now.lines) place me.old (record { own = own.now; home = home.now; globals = globals })) }
+    ensures part { me.new.part ≡ me.old.part }
 {
     let setting = setting_of(me);
     let Some(line) = home.line(n) else {
@@ -116,7 +104,7 @@ fn execute_program(
     }
     if is_on_variables(unit.row) {
         let code = change_variables(alloc, &mut me.vars, &setting, home, unit.row, unit.bytes)?;
-        return Ok(Planned::Done(next_or(code)));
+        return Ok(Planned::Done(goes_or(Outcome::Next, code)));
     }
     if let Some(access) = access_of(unit.row, unit.bytes) {
         return Ok(Planned::Ask(access));
@@ -135,7 +123,8 @@ fn execute_immediate(
     place: Place,
 ) -> Result<Planned, NoMemory>
     requires line { place.line ≡ None }
-    ensures { (globals : Option VarsState) → IfOk result (λ p. record { me = me.new; globals = globals; planned = p } ≡ spec.course_in me.old.immediate place me.old (record { own = own.now; home = home.now; globals = globals })) }
+    ensures planned { (globals : Option VarsState) → IfOk result (λ p. record { me = me.new; globals = globals; planned = p } ≡ spec.course_in me.old.immediate place me.old (record { own = own.now; home = home.now; globals = globals })) }
+    ensures part { me.new.part ≡ me.old.part }
 {
     let setting = setting_of(me);
     let Some(line) = &me.immediate else {
@@ -149,7 +138,7 @@ fn execute_immediate(
     }
     if is_on_variables(unit.row) {
         let code = change_variables(alloc, &mut me.vars, &setting, home, unit.row, unit.bytes)?;
-        return Ok(Planned::Done(next_or(code)));
+        return Ok(Planned::Done(goes_or(Outcome::Next, code)));
     }
     if let Some(access) = access_of(unit.row, unit.bytes) {
         return Ok(Planned::Ask(access));
@@ -169,6 +158,7 @@ pub fn plan(
     ensures planned { IfOk result (λ p. record { me = me.new; globals = globals_lent lent.new; planned = p } ≡ spec.plan me.old (seen lent.old)) }
     ensures same_globals { lent.new.globals.now ≡ lent.old.globals.now }
     ensures same_reference { lent.new.globals.ghost_name ≡ lent.old.globals.ghost_name }
+    ensures part { me.new.part ≡ me.old.part }
 {
     let Some(place) = me.place else {
         return Ok(Planned::Done(Outcome::Ready));

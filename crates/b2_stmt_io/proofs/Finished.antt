@@ -7,9 +7,9 @@ use Rattle.b2_access.specs.declared.accesses.Access.{Access}
 use Rattle.b2_access.specs.declared.accesses.Answer.{Answer}
 use Rattle.b2_access.specs.declared.planned.Outcome.{Outcome}
 use Rattle.b2_access.specs.declared.private.Private.{Private}
-use Rattle.b2_stmt_io.specs.Placed.{line_named, statement_on}
+use Rattle.b2_access.specs.Placed.{line_named, statement_on}
 use Rattle.b2_stmt_io.specs.Plan.{ended, ended_at, finish}
-use Rattle.b2_stmt_io.specs.Planning.{Ended, Finishing, finished}
+use Rattle.b2_access.specs.Planning.{Ended, Finishing, finished}
 
 named : (me : Private) (s : SeenLent) (p : Place) (n : ℕ) (x : Access) (a : Answer) → me.place ≡ Some p → p.line ≡ Some n
     → ended_at (statement_on (line_at n s.home.lines) p.unit) p x a me s ≡ ended me.place x a me s

@@ -28,7 +28,7 @@ use Rattle.b2_stmt_io.specs.Lists.{items_of}
 use Rattle.b2_stmt_io.specs.Receivers.{are_others, others_at, past_first, receivers_at}
 use Rattle.b2_stmt_io.specs.Receiving.{assign_bytes, assign_number}
 use Rattle.b2_stmt_io.specs.TypedText.{parts_of, typed_number}
-use Rattle.b2_stmt_io.specs.declared.around.Setting.{Setting}
+use Rattle.b2_access.specs.declared.setting.Setting.{Setting}
 use Rattle.b2_stmt_io.proofs.Commas.{IsComma, Other, commas, other, no_items_left, items_of_other, item_shorter}
 use Rattle.b2_stmt_io.proofs.LeftOut.{maybe_put, maybe_then}
 use Rattle.b2_stmt_io.proofs.PromptRows.{after_is, prompt_is, quoted, rest_at}

@@ -25,10 +25,10 @@ use Rattle.b2_flow.specs.declared.frame.Place.{Place}
 use Rattle.b2_text.specs.Program.{Lines, TextState}
 use Rattle.b2_access.specs.declared.planned.Outcome.TheVariants as outcome
 use Rattle.b2_access.specs.declared.private.Private.{Private}
-use Rattle.b2_stmt_io.specs.Around.{setting_of}
-use Rattle.b2_stmt_io.specs.Going.{to_line}
+use Rattle.b2_access.specs.Partition.{setting_of}
+use Rattle.b2_access.specs.Going.{to_line}
 use Rattle.b2_stmt_io.specs.Keys.{goes_on, takes_key, waits, without_key}
-use Rattle.b2_stmt_io.specs.Planning.{with_assigned}
+use Rattle.b2_stmt_io.specs.Changed.{with_assigned}
 use Rattle.b2_stmt_io.specs.Receiving.{assign_bytes}
 
 abbrev lines_items : List Item

@@ -1,4 +1,3 @@
-pub mod Statements
 pub mod Refusals
 pub mod LeftOut
 pub mod Received
@@ -14,3 +13,4 @@ pub mod Valued
 pub mod Printed
 pub mod PrintRows
 pub mod UsingRows
+pub mod HomesKept

@@ -27,7 +27,7 @@ use Rattle.b2_text.specs.Program.{TextState}
 use Rattle.b2_vars.specs.Tables.{VarsState}
 use Rattle.b2_stmt_io.specs.LineReading.{after_prompt, prompt_bytes, prompt_of, prompt_there, receiver_of, takes_line}
 use Rattle.b2_stmt_io.specs.Receiving.{assign_bytes}
-use Rattle.b2_stmt_io.specs.declared.around.Setting.{Setting}
+use Rattle.b2_access.specs.declared.setting.Setting.{Setting}
 use Rattle.b2_stmt_io.proofs.LeftOut.{maybe_put, maybe_then}
 use Rattle.b2_stmt_io.proofs.MarkRows.{after_literal, literal_here, literal_tree}
 

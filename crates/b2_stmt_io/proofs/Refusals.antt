@@ -4,7 +4,7 @@ use Rattle.b2_base.specs.declared.codes.Fault.{Fault}
 use Rattle.b2_base.specs.declared.codes.Fault.TheVariants as fault
 use Rattle.b2_access.specs.declared.planned.Outcome.{Outcome}
 use Rattle.b2_access.specs.declared.planned.Planned.TheVariants as planned
-use Rattle.b2_stmt_io.specs.Endings.{FailsWith}
+use Rattle.b2_access.specs.Endings.{FailsWith}
 use Rattle.b2_stmt_io.specs.Printing.{Refused}
 use Rattle.b2_stmt_io.specs.Showing.{shows}
 

@@ -15,7 +15,7 @@ use Rattle.b2_print.specs.Imaged.{converted}
 use Rattle.b2_stmt_io.specs.Around.{surroundings_of}
 use Rattle.b2_stmt_io.specs.Receiving.{assign_bytes, assign_number, refused}
 use Rattle.b2_stmt_io.specs.TypedText.{typed_number}
-use Rattle.b2_stmt_io.specs.declared.around.Setting.{Setting}
+use Rattle.b2_access.specs.declared.setting.Setting.{Setting}
 
 -- bytes for a numeric receiver
 abbrev pub number_from : Setting → TextState → TextAnswer → Trees → VarsState → Assigned

@@ -12,7 +12,7 @@ use Rattle.b2_stmt_io.specs.LineReading.{after_prompt}
 use Rattle.b2_stmt_io.specs.Lists.{items_of}
 use Rattle.b2_stmt_io.specs.Receiving.{assign_bytes, assign_number, refused}
 use Rattle.b2_stmt_io.specs.TypedText.{parts_of, typed_number}
-use Rattle.b2_stmt_io.specs.declared.around.Setting.{Setting}
+use Rattle.b2_access.specs.declared.setting.Setting.{Setting}
 
 -- nothing is assigned, without a code
 abbrev pub unchanged : VarsState → Assigned

@@ -10,9 +10,10 @@ use Rattle.b2_access.specs.declared.accesses.Answer.TheVariants as answer
 use Rattle.b2_access.specs.declared.planned.Outcome.{Outcome}
 use Rattle.b2_access.specs.declared.planned.Outcome.TheVariants as outcome
 use Rattle.b2_access.specs.declared.private.Private.{Private}
-use Rattle.b2_stmt_io.specs.Around.{setting_of}
-use Rattle.b2_stmt_io.specs.Going.{line_in, to_line}
-use Rattle.b2_stmt_io.specs.Planning.{Ended, stays, with_assigned}
+use Rattle.b2_access.specs.Partition.{setting_of}
+use Rattle.b2_access.specs.Going.{line_in, to_line}
+use Rattle.b2_stmt_io.specs.Changed.{with_assigned}
+use Rattle.b2_access.specs.Planning.{Ended, stays}
 use Rattle.b2_stmt_io.specs.Receiving.{assign_bytes}
 
 -- the two lines that may be named

@@ -1,7 +1,4 @@
-pub mod Planning
-pub mod Endings
-pub mod Going
-pub mod Placed
+pub mod Changed
 pub mod Around
 pub mod TypedText
 pub mod Receiving

@@ -14,10 +14,11 @@ use Rattle.b2_access.specs.declared.accesses.Answer.TheVariants as answer
 use Rattle.b2_access.specs.declared.planned.Outcome.TheVariants as outcome
 use Rattle.b2_access.specs.declared.private.Private.{Private}
 use Rattle.b2_stmt_io.specs.Marks.{typed_by}
-use Rattle.b2_stmt_io.specs.Planning.{Ended, stays, with_assigned}
+use Rattle.b2_stmt_io.specs.Changed.{with_assigned}
+use Rattle.b2_access.specs.Planning.{Ended, stays}
 use Rattle.b2_stmt_io.specs.Receiving.{assign_bytes}
 use Rattle.b2_stmt_io.specs.Showing.{with_column}
-use Rattle.b2_stmt_io.specs.declared.around.Setting.{Setting}
+use Rattle.b2_access.specs.declared.setting.Setting.{Setting}
 
 -- the text of a prompt, no bytes where none is written
 abbrev pub prompt_bytes : Trees → List ℕ
@@ -53,6 +54,11 @@ takes_line a home line t vars = assign_bytes a home (Ok line) (receiver_of (afte
 abbrev pub prompted : List ℕ → Private → Ended
 prompted bytes me = record { me = record (with_column bytes me) { prompted = true }; outcome = outcome.Repeat }
 
+-- what was shown is the prompt
+abbrev pub after_showing : Access → Private → Ended
+after_showing (access.Show term bytes) me = prompted bytes me
+after_showing x me = stays me outcome.Repeat
+
 -- a special function key has its literal typed in the next step, where it has one
 abbrev pub types : Option (List ℕ) → Private → Ended
 types None me = stays me outcome.Repeat
@@ -61,7 +67,7 @@ types (Some text) me = record { me = record me { literal = Some text }; outcome 
 -- how they finish: the prompt was shown, a line was read and is taken, or a special function key was; with any other answer the
 -- step is repeated
 abbrev pub line_read : (List ℕ → VarsState → Assigned) → Access → Answer → Lines → Private → Ended
-line_read takes (access.Show term bytes) answer.Done own me = prompted bytes me
+line_read takes x answer.Done own me = after_showing x me
 line_read takes x (answer.Line line) own me = with_assigned (takes line me.vars) outcome.Next (record me { term_column = 0 })
 line_read takes x (answer.Special n) own me = types (typed_by n own) me
 line_read takes x a own me = stays me outcome.Repeat

@@ -9,7 +9,7 @@ use Rattle.b2_rows.specs.Values.{literal_of}
 use Rattle.b2_text.specs.Program.{Lines, line_at}
 use Rattle.b2_text.specs.Spots.{first_opening, is_mark}
 use Rattle.b2_text.specs.declared.spots.Spot.{Spot}
-use Rattle.b2_stmt_io.specs.Placed.{Statement, statement_on}
+use Rattle.b2_access.specs.Placed.{Statement, statement_on}
 
 -- the bytes of a literal
 abbrev pub bytes_in : Trees → Option (List ℕ)

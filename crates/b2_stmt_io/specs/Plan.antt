@@ -13,14 +13,16 @@ use Rattle.b2_access.specs.declared.planned.Planned.{Planned}
 use Rattle.b2_access.specs.declared.planned.Planned.TheVariants as planned
 use Rattle.b2_access.specs.declared.private.Private.{Private}
 use Rattle.b2_access.specs.Lending.{SeenLent}
-use Rattle.b2_stmt_io.specs.Around.{around, setting_of}
+use Rattle.b2_stmt_io.specs.Around.{around}
+use Rattle.b2_access.specs.Partition.{setting_of}
 use Rattle.b2_stmt_io.specs.Converting.{converts}
 use Rattle.b2_stmt_io.specs.Imaging.{prints_using}
 use Rattle.b2_stmt_io.specs.Inputs.{takes_parts}
 use Rattle.b2_stmt_io.specs.Keys.{keyed}
 use Rattle.b2_stmt_io.specs.LineReading.{asks_line, line_read, prompt_of, takes_line}
-use Rattle.b2_stmt_io.specs.Placed.{Statement, statement_at}
-use Rattle.b2_stmt_io.specs.Planning.{Ended, Finishing, Planning, done, finished, stays, with_assigned}
+use Rattle.b2_access.specs.Placed.{Statement, statement_at}
+use Rattle.b2_stmt_io.specs.Changed.{with_assigned}
+use Rattle.b2_access.specs.Planning.{Ended, Finishing, Planning, done, finished, stays}
 use Rattle.b2_stmt_io.specs.Printing.{prints}
 use Rattle.b2_stmt_io.specs.Showing.{shown, shows}
 

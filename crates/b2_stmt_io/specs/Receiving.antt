@@ -12,7 +12,7 @@ use Rattle.b2_expr.specs.Value.{in_statement}
 use Rattle.b2_expr.specs.declared.named.Element.{Element}
 use Rattle.b2_expr.specs.declared.receiver.AlphaReceiver.{AlphaReceiver}
 use Rattle.b2_stmt_io.specs.Around.{surroundings_of}
-use Rattle.b2_stmt_io.specs.declared.around.Setting.{Setting}
+use Rattle.b2_access.specs.declared.setting.Setting.{Setting}
 
 -- nothing is assigned, for a code
 abbrev pub refused : ℕ → VarsState → Assigned

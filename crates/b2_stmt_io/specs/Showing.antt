@@ -9,7 +9,7 @@ use Rattle.b2_access.specs.declared.planned.Outcome.TheVariants as outcome
 use Rattle.b2_access.specs.declared.planned.Planned.{Planned}
 use Rattle.b2_access.specs.declared.planned.Planned.TheVariants as planned
 use Rattle.b2_access.specs.declared.private.Private.{Private}
-use Rattle.b2_stmt_io.specs.Planning.{Ended, stays}
+use Rattle.b2_access.specs.Planning.{Ended, stays}
 
 -- bytes are shown at a terminal by one access, also where there are none; a code asks for nothing
 abbrev pub shows : ℕ → Result (List ℕ) ℕ → Planned

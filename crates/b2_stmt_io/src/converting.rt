@@ -9,8 +9,9 @@ ghost use Rattle.b2_rows.specs.Values.{image_of};
 ghost use Rattle.b2_stmt_io.specs.Converting as spec;
 ghost use Rattle.b2_stmt_io.specs.Receiving.{assign_bytes as assigns_bytes};
 
-use crate::around::{Setting, surroundings_of};
+use crate::around::surroundings_of;
 use crate::receiving::{code_of, number_to, past_alpha};
+use b2_access::Setting;
 use b2_atom::Cursor;
 use b2_base::lexical::dropped;
 use b2_base::{Code, NoMemory};

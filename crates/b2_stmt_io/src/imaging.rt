@@ -15,8 +15,7 @@ ghost use Rattle.b2_stmt_io.specs.Operands.{are_further, items_text, operands_at
 ghost use Rattle.b2_stmt_io.specs.Printing.{Refused};
 ghost use Rattle.b2_stmt_io.specs.Showing.{shows};
 
-use crate::ending::failing;
-use b2_access::{Access, Planned};
+use b2_access::{Access, Planned, failing};
 use b2_atom::{Cursor, literal_width};
 use b2_base::codes::{P36_NO_LINE, P42_IMAGE};
 use b2_base::lexical::dropped;

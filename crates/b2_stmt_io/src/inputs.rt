@@ -4,18 +4,16 @@ ghost use Rattle.b2_base.specs.Lexical.{skip_blanks as blanks_skipped};
 ghost use Rattle.b2_alpha.specs.Values.{value_of};
 ghost use Rattle.b2_atom.specs.declared.rows.TheConstants as row;
 ghost use Rattle.b2_rows.specs.Rows.{is_part, tree_at};
-ghost use Rattle.b2_stmt_io.specs.Around.{setting_of};
+ghost use Rattle.b2_access.specs.Partition.{setting_of};
 ghost use Rattle.b2_stmt_io.specs.Inputs as spec;
 ghost use Rattle.b2_stmt_io.specs.LineReading.{asks_line, line_read, prompt_of};
 ghost use Rattle.b2_stmt_io.specs.Receivers.{are_others, past_first, receivers_at};
 ghost use Rattle.b2_stmt_io.specs.TypedText.{parts_of};
 
-use crate::around::{Setting, setting_of};
-use crate::ending::goes_or;
 use crate::line_reading::{ask_line, past_prompt, prompt_shown, type_literal};
 use crate::receiving::{bytes_to, number_to, past_receiver};
 use crate::typed_text::part_width;
-use b2_access::{Access, Answer, Outcome, Private};
+use b2_access::{Access, Answer, Outcome, Private, Setting, goes_or, setting_of};
 use b2_alpha::value_len;
 use b2_base::lexical::{dropped, front, skip_blanks};
 use b2_base::{Code, NoMemory, Term};
@@ -137,7 +135,8 @@ pub fn after_input(
     unit: &[u8],
 ) -> Result<Outcome, NoMemory>
     requires part { is_part row.INPUT unit.now ≡ true }
-    ensures { IfOk result (λ o. record { me = me.new; outcome = o } ≡ line_read (λ line vars. spec.takes_parts (setting_of me.old) home.now line (tree_at row.INPUT unit.now) vars) access.now answer.now own.now.lines me.old) }
+    ensures ended { IfOk result (λ o. record { me = me.new; outcome = o } ≡ line_read (λ line vars. spec.takes_parts (setting_of me.old) home.now line (tree_at row.INPUT unit.now) vars) access.now answer.now own.now.lines me.old) }
+    ensures part { me.new.part ≡ me.old.part }
 {
     match (access, answer) {
         (Access::Show { bytes, .. }, Answer::Done) => Ok(prompt_shown(me, bytes.bytes())),

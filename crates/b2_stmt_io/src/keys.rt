@@ -7,11 +7,8 @@ ghost use Rattle.b2_rows.specs.Rows.{is_part, tree_at};
 ghost use Rattle.b2_rows.specs.Optional.{maybe_part, maybe_tree};
 ghost use Rattle.b2_stmt_io.specs.Keys as spec;
 
-use crate::around::setting_of;
-use crate::ending::goes_or;
-use crate::going::to_line;
 use crate::receiving::{bytes_to, past_alpha};
-use b2_access::{Answer, Outcome, Private};
+use b2_access::{Answer, Outcome, Private, goes_or, setting_of, to_line};
 use b2_base::NoMemory;
 use b2_base::lexical::dropped;
 use b2_flow::Place;
@@ -52,7 +49,8 @@ fn take_key(
     unit: &[u8],
 ) -> Result<Outcome, NoMemory>
     requires part { is_part row.KEYIN unit.now ≡ true }
-    ensures { IfOk result (λ o. record { me = me.new; outcome = o } ≡ spec.takes_key key special home.now place (tree_at row.KEYIN unit.now) me.old) }
+    ensures ended { IfOk result (λ o. record { me = me.new; outcome = o } ≡ spec.takes_key key special home.now place (tree_at row.KEYIN unit.now) me.old) }
+    ensures part { me.new.part ≡ me.old.part }
 {
     let setting = setting_of(me);
     let receiver = dropped(unit, 1);
@@ -82,7 +80,8 @@ pub fn after_key(
     unit: &[u8],
 ) -> Result<Outcome, NoMemory>
     requires part { is_part row.KEYIN unit.now ≡ true }
-    ensures { IfOk result (λ o. record { me = me.new; outcome = o } ≡ spec.keyed answer.now home.now place (tree_at row.KEYIN unit.now) me.old) }
+    ensures ended { IfOk result (λ o. record { me = me.new; outcome = o } ≡ spec.keyed answer.now home.now place (tree_at row.KEYIN unit.now) me.old) }
+    ensures part { me.new.part ≡ me.old.part }
 {
     match answer {
         Answer::Key(key) => take_key(me, *key, false, home, place, unit),

@@ -5,15 +5,13 @@ ghost use Rattle.b2_atom.specs.declared.rows.TheConstants as row;
 ghost use Rattle.b2_atom.specs.declared.forms.Start.TheVariants as start;
 ghost use Rattle.b2_rows.specs.Rows.{is_part, tree_at};
 ghost use Rattle.b2_rows.specs.Optional.{maybe_part, maybe_tree, after_maybe};
-ghost use Rattle.b2_stmt_io.specs.Around.{setting_of};
+ghost use Rattle.b2_access.specs.Partition.{setting_of};
 ghost use Rattle.b2_stmt_io.specs.LineReading as spec;
 ghost use Rattle.b2_stmt_io.specs.Marks.{typed_by};
 
-use crate::around::{Setting, setting_of};
-use crate::ending::goes_or;
 use crate::marks::typed_by;
 use crate::receiving::bytes_to;
-use b2_access::{Access, Answer, Outcome, Private};
+use b2_access::{Access, Answer, Outcome, Private, Setting, goes_or, setting_of};
 use b2_atom::literal_width;
 use b2_base::lexical::dropped;
 use b2_base::{ByteList, Code, NoMemory, Term};
@@ -96,7 +94,8 @@ fn take_line(
 
 /// After the prompt was shown.
 pub fn prompt_shown(me: &mut Private, bytes: &[u8]) -> Outcome
-    ensures { record { me = me.new; outcome = result } ≡ spec.prompted bytes.now me.old }
+    ensures ended { record { me = me.new; outcome = result } ≡ spec.prompted bytes.now me.old }
+    ensures part { me.new.part ≡ me.old.part }
 {
     me.term_column = column_after(me.term_column, bytes);
     me.prompted = true;
@@ -105,7 +104,8 @@ pub fn prompt_shown(me: &mut Private, bytes: &[u8]) -> Outcome
 
 /// Has a special function key type its literal, where it has one.
 pub fn type_literal(alloc: Global, me: &mut Private, own: &Text, n: u8) -> Result<Outcome, NoMemory>
-    ensures { IfOk result (λ o. record { me = me.new; outcome = o } ≡ spec.types (typed_by n own.now.lines) me.old) }
+    ensures ended { IfOk result (λ o. record { me = me.new; outcome = o } ≡ spec.types (typed_by n own.now.lines) me.old) }
+    ensures part { me.new.part ≡ me.old.part }
 {
     if let Some(text) = typed_by(own, n) {
         me.literal = Some(ByteList::from_slice(alloc, text)?);
@@ -124,7 +124,8 @@ pub fn after_linput(
     unit: &[u8],
 ) -> Result<Outcome, NoMemory>
     requires part { is_part row.LINPUT unit.now ≡ true }
-    ensures { IfOk result (λ o. record { me = me.new; outcome = o } ≡ spec.line_read (λ line vars. spec.takes_line (setting_of me.old) home.now line (tree_at row.LINPUT unit.now) vars) access.now answer.now own.now.lines me.old) }
+    ensures ended { IfOk result (λ o. record { me = me.new; outcome = o } ≡ spec.line_read (λ line vars. spec.takes_line (setting_of me.old) home.now line (tree_at row.LINPUT unit.now) vars) access.now answer.now own.now.lines me.old) }
+    ensures part { me.new.part ≡ me.old.part }
 {
     match (access, answer) {
         (Access::Show { bytes, .. }, Answer::Done) => Ok(prompt_shown(me, bytes.bytes())),

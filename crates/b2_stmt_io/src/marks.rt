@@ -5,7 +5,7 @@ ghost use Rattle.b2_rows.specs.Laws.{IsRow};
 ghost use Rattle.b2_rows.specs.Rows.{is_part, tree_at};
 ghost use Rattle.b2_stmt_io.specs.Marks as spec;
 
-use crate::placed::statement_on;
+use b2_access::statement_on;
 use b2_atom::rows;
 use b2_base::lexical::{digits_width, dropped};
 use b2_rows::{RowUnit, is_at, literal_at};

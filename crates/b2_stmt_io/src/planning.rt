@@ -7,20 +7,17 @@ ghost use Rattle.b2_vars.specs.Tables.{VarsState};
 ghost use Rattle.b2_text.specs.Program.{line_at};
 ghost use Rattle.b2_expr.specs.Scope.{surroundings};
 ghost use Rattle.b2_expr.specs.Value.{in_statement};
-ghost use Rattle.b2_stmt_io.specs.Placed.{statement_on as named_on};
+ghost use Rattle.b2_access.specs.Placed.{statement_on as named_on};
 ghost use Rattle.b2_stmt_io.specs.Plan as spec;
 
-use crate::around::{setting_of, surroundings_of};
+use crate::around::surroundings_of;
 use crate::converting::convert_unit;
-use crate::ending::goes_or;
-use crate::going::failed;
 use crate::imaging::ask_using;
 use crate::inputs::{after_input, ask_input};
 use crate::keys::after_key;
 use crate::line_reading::{after_linput, ask_linput};
-use crate::placed::{statement_at, statement_on};
 use crate::showing::{after_show, ask_print};
-use b2_access::{Access, Answer, DeviceTable, Lent, Outcome, Planned, Private};
+use b2_access::{Access, Answer, DeviceTable, Lent, Outcome, Planned, Private, failed, goes_or, setting_of, statement_at, statement_on};
 use b2_atom::{Atoms, rows};
 use b2_base::NoMemory;
 use b2_base::codes::{S26_PROGRAM_ONLY, S27_LEFT_OUT};
@@ -79,6 +76,7 @@ pub fn plan(
     ensures planned { IfOk result (λ p. record { me = me.new; globals = globals_lent lent.new; planned = p } ≡ spec.plan me.old (seen lent.old)) }
     ensures same_globals { lent.new.globals.now ≡ lent.old.globals.now }
     ensures same_reference { lent.new.globals.ghost_name ≡ lent.old.globals.ghost_name }
+    ensures part { me.new.part ≡ me.old.part }
 {
     let setting = setting_of(me);
     let home = lent.home;
@@ -111,7 +109,8 @@ fn finish_program(
     answer: &Answer,
 ) -> Result<Outcome, NoMemory>
     requires line { place.line ≡ Some n }
-    ensures { (globals : Option VarsState) → IfOk result (λ o. record { me = me.new; outcome = o } ≡ spec.ended_at (named_on (line_at n home.now.lines) place.unit) place access.now answer.now me.old (record { own = own.now; home = home.now; globals = globals })) }
+    ensures ended { (globals : Option VarsState) → IfOk result (λ o. record { me = me.new; outcome = o } ≡ spec.ended_at (named_on (line_at n home.now.lines) place.unit) place access.now answer.now me.old (record { own = own.now; home = home.now; globals = globals })) }
+    ensures part { me.new.part ≡ me.old.part }
 {
     let Some(line) = home.line(n) else {
         return Ok(Outcome::Repeat);
@@ -145,7 +144,8 @@ fn row_at_once(immediate: &Option<Atoms>, k: u8) -> Option<u16>
 /// How the statement at a place in the immediate line finishes.
 fn finish_immediate(me: &mut Private, place: Place, access: &Access, answer: &Answer) -> Outcome
     requires line { place.line ≡ None }
-    ensures { (s : SeenLent) → record { me = me.new; outcome = result } ≡ spec.ended_at (named_on me.old.immediate place.unit) place access.now answer.now me.old s }
+    ensures ended { (s : SeenLent) → record { me = me.new; outcome = result } ≡ spec.ended_at (named_on me.old.immediate place.unit) place access.now answer.now me.old s }
+    ensures part { me.new.part ≡ me.old.part }
 {
     match row_at_once(&me.immediate, place.unit) {
         Some(rows::PRINT | rows::PRINTUSING) => after_show(me, access, answer),
@@ -165,6 +165,7 @@ pub fn finish(
     ensures finished { IfOk result (λ o. record { me = me.new; globals = globals_lent lent.new; outcome = o } ≡ spec.finish access.now answer.now me.old (seen lent.old)) }
     ensures same_globals { lent.new.globals.now ≡ lent.old.globals.now }
     ensures same_reference { lent.new.globals.ghost_name ≡ lent.old.globals.ghost_name }
+    ensures part { me.new.part ≡ me.old.part }
 {
     let Some(place) = me.place else {
         return Ok(Outcome::Repeat);

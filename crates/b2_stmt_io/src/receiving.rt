@@ -6,8 +6,9 @@ ghost use Rattle.b2_stmt_io.specs.Receiving as spec;
 ghost use Rattle.b2_stmt_io.specs.Receiving.{EndsWith, HasCode};
 ghost use Rattle.b2_stmt_io.specs.TypedText.{typed_number as number_in};
 
-use crate::around::{Setting, surroundings_of};
+use crate::around::surroundings_of;
 use crate::typed_text::typed_number;
+use b2_access::Setting;
 use b2_atom::Cursor;
 use b2_base::{Code, Fault, NoMemory};
 use b2_expr::{

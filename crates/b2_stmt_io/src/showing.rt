@@ -7,9 +7,8 @@ ghost use Rattle.b2_expr.specs.Value.{in_statement};
 ghost use Rattle.b2_stmt_io.specs.Printing.{prints};
 ghost use Rattle.b2_stmt_io.specs.Showing as spec;
 
-use crate::ending::failing;
 use crate::printing::shown_by_print;
-use b2_access::{Access, Answer, Outcome, Planned, Private};
+use b2_access::{Access, Answer, Outcome, Planned, Private, failing};
 use b2_base::NoMemory;
 use b2_expr::Env;
 use b2_print::column_after;
@@ -32,7 +31,8 @@ pub fn ask_print(alloc: Global, e: &Env<'_>, column: u16, unit: &[u8]) -> Result
 
 /// How PRINT and PRINTUSING finish.
 pub fn after_show(me: &mut Private, access: &Access, answer: &Answer) -> Outcome
-    ensures { record { me = me.new; outcome = result } ≡ spec.shown access.now answer.now me.old }
+    ensures ended { record { me = me.new; outcome = result } ≡ spec.shown access.now answer.now me.old }
+    ensures part { me.new.part ≡ me.old.part }
 {
     match (access, answer) {
         (Access::Show { bytes, .. }, Answer::Done) => {

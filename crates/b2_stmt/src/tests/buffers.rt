@@ -13,7 +13,7 @@ pub const FILLED: [Row; 12] = [
     (&[], b"INIT(2A)A$,@B$,C$", 77, 0, b"IF STR(A$,1,1)=\"*\" AND C$=\" \" THEN 1"),
     (&[], b"INIT(31)A$,STR(B$,VAL(A$)-48)", 0, 0, b"IF STR(A$,1,1)=\"1\" AND STR(B$,1,1)=\"1\" THEN 1"),
     (&[b"10 IF 1=2 THEN B=1:ELSE INIT(2A)A$:C=1"], b"GOTO 10", 0, 0, b"IF STR(A$,16,1)=\"*\" AND B=0 AND C=1 THEN 1"),
-    (&[b"10 INIT(2A)A$:ERROR B=1"], b"GOTO 10", 0, 0, b"IF STR(A$,16,1)=\"*\" AND B=0 THEN 1"),
+    (&[b"10 INIT(2A)A$:ERROR B=1"], b"GOTO 10", 0, 10, b"IF STR(A$,16,1)=\"*\" AND B=0 THEN 1"),
     (&[b"10 INIT(2A)A$,STR(B$,1/0):ERROR B=1"], b"GOTO 10", 62, 10, b"IF STR(A$,16,1)=\"*\" AND B=0 THEN 1"),
 ];
 
@@ -41,6 +41,6 @@ pub const TURNED: [Row; 24] = [
     (&[], b"ROTATE(STR(A$,17),1/0)", 34, 0, b"IF A$=\" \" THEN 1"),
     (&[], b"ROTATE(@A$,1/0)", 77, 0, b"IF A$=\" \" THEN 1"),
     (&[b"10 IF 1=2 THEN B=1:ELSE ROTATE(A$,1):C=1"], b"GOTO 10", 0, 0, b"IF STR(A$,1,1)=\"@\" AND B=0 AND C=1 THEN 1"),
-    (&[b"10 ROTATE(A$,1):ERROR B=1"], b"GOTO 10", 0, 0, b"IF STR(A$,1,1)=\"@\" AND B=0 THEN 1"),
+    (&[b"10 ROTATE(A$,1):ERROR B=1"], b"GOTO 10", 0, 10, b"IF STR(A$,1,1)=\"@\" AND B=0 THEN 1"),
     (&[b"10 ROTATE(A$,1/0):ERROR B=1"], b"GOTO 10", 62, 10, b"IF A$=\" \" AND B=0 THEN 1"),
 ];

@@ -10,13 +10,13 @@ use Rattle.b2_stmt.specs.Asked.{asked_of}
 use Rattle.b2_stmt.specs.OnVariables.{is_on_variables}
 use Rattle.b2_stmt.specs.Plan.{is_refused}
 use Rattle.b2_stmt.specs.Clearing.{access_of}
-use Rattle.b2_stmt.specs.Planning.{done}
-use Rattle.b2_stmt.specs.declared.around.Setting.{Setting}
+use Rattle.b2_access.specs.Planning.{done}
+use Rattle.b2_access.specs.declared.setting.Setting.{Setting}
 use Rattle.b2_stmt.proofs.Executed.{carried_there}
 use Rattle.b2_stmt.proofs.planning.execute_program.Goals as goal
 
-pub returns : goal.returns
-returns c globals =
+pub returns-clause-planned : goal.returns-clause-planned
+returns-clause-planned c globals =
     let u = c.in-Some-row_unit.unit in
     let me = c.args.me.now in
     let p = c.args.place in
@@ -28,6 +28,6 @@ returns c globals =
     let around_is : e ≡ around me s.home = ap (λ (a : Setting). in_statement (surroundings_of a me.vars c.args.home.now)) c.setting_of-setting.ensures in
     let asked : c.in_ok-asked.asked ≡ asked_of u.row (tree_at u.row u.bytes.now) (record { place = p; units = tree_units c.in-Some.line.atoms.now }) e s.home.lines = search rules in
     let none : access_of u.row (tree_at u.row u.bytes.now) ≡ None = search rules in
-    ap (done s) c.in_ok-outcome.ensures
+    ap (done s) c.in_ok-outcome.ensures.ended
     ∙ sym (carried_there (line_at c.args.n c.args.home.now.lines) c.in-Some.line.atoms.now c.from.result u.row (tree_at u.row u.bytes.now) p me s true e c.in_ok-asked.asked
     line c.from.ensures c.in-Some-row_unit.ensures.row c.in-Some-row_unit.ensures.tree (ap is_some c.requires.line) allowed other none around_is asked)

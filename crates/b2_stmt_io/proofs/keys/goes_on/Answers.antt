@@ -1,7 +1,7 @@
 use Rattle.std.proofs.Common.{◌∙◌, sym, ap, List, ℕ}
 use Rattle.b2_atom.specs.declared.forms.Leaf.TheVariants as leaf
 use Rattle.b2_rows.specs.Leaves.{is_leaf}
-use Rattle.b2_stmt_io.specs.Going.{to_line}
+use Rattle.b2_access.specs.Going.{to_line}
 use Rattle.b2_stmt_io.proofs.KeyRows.{line_at, second_here, to_first, to_second}
 use Rattle.b2_stmt_io.proofs.keys.goes_on.Goals as goal
 

@@ -5,4 +5,4 @@ use Rattle.b2_stmt_io.proofs.planning.finish.Goals as goal
 pub returns-in-Some-line-clause-finished : goal.returns-in-Some-line-clause-finished
 returns-in-Some-line-clause-finished c =
     in_program c.finish_program.new.me c.args.me.now (seen c.args.lent.now) c.in-Some.place c.in-Some-line.n c.args.access.now c.args.answer.now c.finish_program.result
-    c.in-Some.is c.in-Some-line.is (c.finish_program.ensures (globals_lent c.args.lent.now))
+    c.in-Some.is c.in-Some-line.is (c.finish_program.ensures.ended (globals_lent c.args.lent.now))

@@ -2,7 +2,7 @@
 use Rattle.std.proofs.Common.{◌≡◌, ◌∙◌, ℕ, ap, refl, Option, Some, None, option_map}
 use Rattle.b2_atom.specs.Tree.{Trees}
 use Rattle.b2_atom.specs.Units.{TreeUnit}
-use Rattle.b2_stmt_io.specs.Placed.{Statement, statement_of}
+use Rattle.b2_access.specs.Placed.{Statement, statement_of}
 
 some_is : {A : Type 0} (x y : A) → Some x ≡ Some y → x ≡ y
 some_is x y h = cc

@@ -1,9 +1,9 @@
 // How statements end.
 ghost use Rattle.std.specs.Prelude.{◌≡◌, IfOk};
-ghost use Rattle.b2_stmt_io.specs.Endings.{FailsWith};
-ghost use Rattle.b2_stmt_io.specs.Planning.{goes_or};
+ghost use Rattle.b2_access.specs.Endings.{FailsWith};
+ghost use Rattle.b2_access.specs.Planning.{goes_or};
 
-use b2_access::Outcome;
+use crate::planned::Outcome;
 use b2_base::{Code, Fault, NoMemory};
 
 /// A fault with its code, where memory didn't fail.

@@ -7,9 +7,10 @@ ghost use Rattle.b2_atom.specs.declared.words.Origin.TheVariants.{Atoms};
 ghost use Rattle.b2_rows.specs.Leaves.{is_leaf};
 ghost use Rattle.b2_rows.specs.Values.{line_of};
 ghost use Rattle.b2_access.specs.Places.{IsUnit};
-ghost use Rattle.b2_stmt.specs.Going as spec;
+ghost use Rattle.b2_access.specs.Going as spec;
 
-use b2_access::{Outcome, goal_place};
+use crate::places::goal_place;
+use crate::planned::Outcome;
 use b2_base::Code;
 use b2_base::codes::P36_NO_LINE;
 use b2_flow::Place;

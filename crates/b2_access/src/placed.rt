@@ -2,7 +2,7 @@
 ghost use Rattle.std.specs.Prelude.{◌≡◌, IfSome, option_map, Some};
 ghost use Rattle.b2_rows.specs.Laws.{IsRow};
 ghost use Rattle.b2_rows.specs.Rows.{tree_at};
-ghost use Rattle.b2_stmt_io.specs.Placed as spec;
+ghost use Rattle.b2_access.specs.Placed as spec;
 
 use b2_atom::Atoms;
 use b2_flow::Place;

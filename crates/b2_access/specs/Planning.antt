@@ -39,7 +39,7 @@ asks s me a = record { me = me; globals = s.globals; planned = planned.Ask a }
 abbrev pub stays : Private → Outcome → Ended
 stays me o = record { me = me; outcome = o }
 
--- the next unit, or a fault
-abbrev pub next_or : Option ℕ → Outcome
-next_or None = outcome.Next
-next_or (Some code) = outcome.Failed code
+-- where a statement goes on, or a fault
+abbrev pub goes_or : Outcome → Option ℕ → Outcome
+goes_or goes None = goes
+goes_or goes (Some code) = outcome.Failed code

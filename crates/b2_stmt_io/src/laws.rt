@@ -1,0 +1,14 @@
+//! What holds of statements at the terminal, whatever they are: each law is the contract of a function without a body.
+ghost use Rattle.b2_access.specs.Homes.{FinishesWithin, PlansWithin};
+ghost use Rattle.b2_stmt_io.specs.Plan.{finish, plan};
+
+/// A statement that is planned names no partition as a home, in a place, in a frame, where it leads or in what it asks for, but
+/// its own and those that were named before.
+pub fn plans_stay_within()
+    ensures { PlansWithin plan }
+{}
+
+/// And so does one that finishes.
+pub fn finishes_stay_within()
+    ensures { FinishesWithin finish }
+{}
