@@ -50,3 +50,16 @@ changed_so f gives to old new (Err (fault.Code c)) code ok coded err ends is =
     ∙ ap (λ (o : Option ℕ). record { vars = old; code = o }) ends
     ∙ sym (ap (λ (o : Option ℕ). unless_refused o old (record { vars = with_changed f to old; code = None })) coded)
 changed_so f gives to old new (Err fault.NoMemory) code ok coded err ends is = absurd ends
+
+-- a call that leaves something else, or refuses
+pub kept_so : (o : Option ℕ) (old after new : VarsState) (r : Result (Unit {0}) Fault) (code : Option ℕ) → OnOk r (new ≡ after) → AnswersOrFails o r → OnErr r (new ≡ old) → EndsWith r code
+    → record { vars = new; code = code } ≡ unless_refused o old (record { vars = after; code = None })
+kept_so o old after new (Ok done) code ok coded err ends =
+    ap (λ (v : VarsState). record { vars = v; code = code }) ok
+    ∙ ap (λ (c : Option ℕ). record { vars = after; code = c }) ends
+    ∙ sym (ap (λ (c : Option ℕ). unless_refused c old (record { vars = after; code = None })) coded)
+kept_so o old after new (Err (fault.Code c)) code ok coded err ends =
+    ap (λ (v : VarsState). record { vars = v; code = code }) err
+    ∙ ap (λ (c : Option ℕ). record { vars = old; code = c }) ends
+    ∙ sym (ap (λ (c : Option ℕ). unless_refused c old (record { vars = after; code = None })) coded)
+kept_so o old after new (Err fault.NoMemory) code ok coded err ends = absurd ends

@@ -19,5 +19,8 @@ pub mod Assigned
 pub mod Changed
 pub mod BufferRows
 pub mod TurnRows
+pub mod LengthRows
+pub mod DimensionRows
+pub mod EntryRows
 pub mod Executed
 pub mod HomesKept

@@ -9,6 +9,8 @@ pub mod Lines
 pub mod Asked
 pub mod Assignments
 pub mod Buffers
+pub mod Lengths
+pub mod Dimensions
 pub mod OnVariables
 pub mod Clearing
 pub mod Plan

@@ -86,4 +86,4 @@ is_built r =
     || r == row.SELECT || r == row.SELECT_NO_ROUND || r == row.RUN || r == row.CONTINUE || r == row.RESTORE || r == row.CLEAR_V || r == row.CLEAR_N
     || r == row.IF || r == row.GOTO || r == row.ELSE || r == row.ERROR || r == row.END || r == row.REMARK || r == row.IMAGE_LINE || r == row.DATA
     || r == row.DEFFN || r == row.BREAK || r == row.CLEAR || r == row.CLEAR_P || r == row.ON || r == row.DEFFN_MARKED
-    || r == row.INIT || r == row.ROTATE
+    || r == row.DIM || r == row.INIT || r == row.ROTATE

@@ -18,6 +18,7 @@ mod calls;
 mod choices;
 mod clearing;
 mod course;
+mod dimensions;
 mod framing;
 pub mod laws;
 mod loops;

@@ -5,6 +5,7 @@ ghost use Rattle.b2_stmt.specs.OnVariables as spec;
 
 use crate::assignments::assign;
 use crate::buffers::{init, rotate_bits};
+use crate::dimensions::dim;
 use b2_access::Setting;
 use b2_atom::rows;
 use b2_base::{Code, NoMemory};
@@ -16,7 +17,7 @@ use std::alloc::Global;
 pub fn is_on_variables(row: u16) -> bool
     ensures { result ≡ spec.is_on_variables row }
 {
-    row == rows::ASSIGNMENT || row == rows::INIT || row == rows::ROTATE
+    row == rows::ASSIGNMENT || row == rows::DIM || row == rows::INIT || row == rows::ROTATE
 }
 
 /// Executes such a statement. The code with which that ended, or none.
@@ -33,6 +34,7 @@ pub fn change_variables(
     ensures { IfOk result (λ code. record { vars = vars.new; code = code } ≡ spec.on_variables row a.now home.now (tree_at row unit.now) vars.old) }
 {
     match row {
+        rows::DIM => dim(vars, a, home, unit),
         rows::INIT => init(vars, a, home, unit),
         rows::ROTATE => rotate_bits(vars, a, home, unit),
         rows::ASSIGNMENT => assign(alloc, vars, a, home, unit),

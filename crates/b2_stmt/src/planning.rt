@@ -51,6 +51,7 @@ pub fn is_built(row: u16) -> bool
             | rows::CLEAR_P
             | rows::ON
             | rows::DEFFN_MARKED
+            | rows::DIM
             | rows::INIT
             | rows::ROTATE
     )
