@@ -1,5 +1,5 @@
 -- The dimensions and the length of an entry of DIM and COM, by their rows.
-use Rattle.std.proofs.Common.{◌≡◌, ℕ, ◌==◌, Bool, true, false, if◌then◌else◌, List, [], ◌∷◌, drop, Ok, Err, refl, sym, ap, ◌∙◌}
+use Rattle.std.proofs.Common.{◌≡◌, ℕ, ◌==◌, Bool, true, false, if◌then◌else◌, List, [], ◌∷◌, drop, Ok, refl, sym, ap, ◌∙◌}
 use Rattle.b2_base.specs.Byte as byte
 use Rattle.b2_base.specs.Lexical.{first}
 use Rattle.b2_base.specs.declared.codes.TheConstants.{S10_OPEN, S11_CLOSE, S13_SEPARATOR}
@@ -24,7 +24,6 @@ use Rattle.b2_expr.specs.declared.operators.Level.TheVariants as level
 use Rattle.b2_expr.proofs.Names.{one_first, one_second, one_tree, one_rest}
 use Rattle.b2_expr.proofs.RowsRead.{stands_of}
 use Rattle.b2_stmt.specs.Dimensions.{array_shape, columns_in, dimension, dimensions_in, length_after, length_alone, lone_shape, most_rows, tested_length, usual_length}
-use Rattle.b2_stmt.specs.Lengths.{as_sum}
 use Rattle.b2_stmt.proofs.LengthRows.{length_read}
 
 begins : (c : ℕ) (t : Text) (b : Bool) → (first t == c) ≡ b → starts Atoms (start.Code c) t ≡ b

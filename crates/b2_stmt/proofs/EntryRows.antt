@@ -1,5 +1,5 @@
 -- The entries of DIM and COM, by their rows.
-use Rattle.std.proofs.Common.{◌≡◌, ◌<◌, ℕ, ◌==◌, Bool, true, false, if◌then◌else◌, List, [], ◌∷◌, length, drop, Option, Some, None, Result, Ok, Err, refl, sym, ap, subst, ◌∙◌}
+use Rattle.std.proofs.Common.{◌≡◌, ◌<◌, ℕ, ◌==◌, Bool, true, false, if◌then◌else◌, List, [], ◌∷◌, length, drop, Option, Some, None, Result, Ok, Err, refl, sym, ap, ◌∙◌}
 use Rattle.b2_base.specs.Byte as byte
 use Rattle.b2_base.specs.Lexical.{first}
 use Rattle.b2_base.specs.declared.codes.TheConstants.{S13_SEPARATOR, S20_VARIABLE, S22_WORD, X77_NO_PARTITION}
@@ -15,7 +15,7 @@ use Rattle.b2_atom.specs.declared.rows.TheConstants as row
 use Rattle.b2_atom.specs.declared.forms.Leaf.TheVariants as leaf
 use Rattle.b2_atom.specs.declared.forms.Start.TheVariants as start
 use Rattle.b2_atom.specs.declared.forms.Item.{Item}
-use Rattle.b2_atom.specs.declared.forms.Item.TheVariants.{Among, Sign, Typed, Part, Maybe, Either, Many}
+use Rattle.b2_atom.specs.declared.forms.Item.TheVariants.{Among, Typed, Part, Maybe, Either, Many}
 use Rattle.b2_rows.specs.Choices.{ReadAs, first_branch, second_branch}
 use Rattle.b2_rows.specs.Leaves.{is_leaf, leaf_bytes}
 use Rattle.b2_rows.specs.Optional.{maybe_part, maybe_tree, after_maybe}

@@ -1,12 +1,12 @@
 -- The length after a name without dimensions is read as a sum is: its rows in place of those of a sum, one level after the other.
-use Rattle.std.proofs.Common.{◌≡◌, ℕ, zero, suc, ◌==◌, ◌&&◌, Bool, true, false, if◌then◌else◌, List, [], ◌∷◌, refl, sym, ap, subst, ◌∙◌, Ok, Err, is_ok}
+use Rattle.std.proofs.Common.{◌≡◌, ℕ, suc, ◌==◌, ◌&&◌, Bool, true, false, if◌then◌else◌, List, [], ◌∷◌, refl, sym, ap, subst, ◌∙◌, Ok, Err, is_ok}
 use Rattle.b2_base.specs.Byte as byte
 use Rattle.b2_base.specs.Lexical.{first}
 use Rattle.b2_base.specs.declared.codes.TheConstants.{S10_OPEN, S11_CLOSE, S17_NUMERIC, S22_WORD}
 use Rattle.b2_atom.specs.Words.{Text}
 use Rattle.b2_atom.specs.Tree.{Trees, Outcome, Parser, and_then, preceded, under}
-use Rattle.b2_atom.specs.Tree.Trees.{Done, Put, In}
-use Rattle.b2_atom.specs.Grammar.{reader, item, items, level, row_items, starts, absent, part}
+use Rattle.b2_atom.specs.Tree.Trees.{Done, In}
+use Rattle.b2_atom.specs.Grammar.{reader, item, items, level, row_items, starts, absent}
 use Rattle.b2_atom.specs.Lines.{left_after}
 use Rattle.b2_atom.specs.declared.words.Origin.TheVariants.{Atoms}
 use Rattle.b2_atom.specs.declared.words.TheConstants as word
@@ -19,7 +19,7 @@ use Rattle.b2_atom.specs.declared.forms.Item.TheVariants.{Word, Sign, Among, Pro
 use Rattle.b2_rows.specs.Rows.{reading_row, tree_of, fits_unit, is_part, tree_at, after_part}
 use Rattle.b2_rows.proofs.Levels.{no_statement, in_parentheses, at_level, up_level, Up}
 use Rattle.b2_expr.proofs.Pairs.{also_done}
-use Rattle.b2_stmt.specs.Lengths.{as_factor, as_operand, as_signed, as_sum, in_first}
+use Rattle.b2_stmt.specs.Lengths.{as_factor, as_operand, as_sum, in_first}
 
 abbrev Rows : Type 0
 Rows = ℕ → Parser Text

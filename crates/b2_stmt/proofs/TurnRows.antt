@@ -1,5 +1,5 @@
 -- ROTATE and ROTATEC, by their row.
-use Rattle.std.proofs.Common.{◌≡◌, ◌==◌, true, List, [], ◌∷◌, drop, ℕ, ℤ, Ok, Err, refl, sym, ap, ◌∙◌}
+use Rattle.std.proofs.Common.{◌≡◌, ◌==◌, Bool, true, List, [], ◌∷◌, drop, ℤ, Ok, refl, sym, ap, ◌∙◌}
 use Rattle.b2_base.specs.Byte as byte
 use Rattle.b2_base.specs.Lexical.{first}
 use Rattle.b2_base.specs.declared.codes.TheConstants.{S11_CLOSE, S13_SEPARATOR, S22_WORD}
@@ -53,23 +53,12 @@ turn_sum t ok = (stands_of row.ROTATION inner_items (drop 1 t) inner_row (inner 
 
 pub turn_is : (s : Context) (t : Text) → is_part row.ROTATE t ≡ true → turn_in s (tree_at row.ROTATE t)
     ≡ (alpha_receiver s (tree_at row.ALPHA_RECEIVER (drop 1 t)) >>= (λ to. value s level.Sum (tree_at row.SUM (bits_text t)) >>= (λ x. bits_in (fixed x) >>= (λ bits. Ok (record { to = to; whole = first t == word.ROTATEC_OPEN; bits = bits })))))
+unfolding turn_in
 turn_is s t ok =
     ap (turn_in s) (stands_of row.ROTATE items t row_is ok).1
     ∙ ap (λ (a : Trees). turn_in s (Put (Coded (first t)) (In 2 a (Put (Coded byte.closing) Done)))) (stands_of row.ROTATION inner_items (drop 1 t) inner_row (inner t ok)).1
 
--- where a code comes
-pub receiver_refused : (s : Context) (t : Text) (code : ℕ) → is_part row.ROTATE t ≡ true → alpha_receiver s (tree_at row.ALPHA_RECEIVER (drop 1 t)) ≡ Err code → Err code ≡ turn_in s (tree_at row.ROTATE t)
-receiver_refused s t code ok is = sym (turn_is s t ok ∙ rw is)
-
-pub sum_refused : (s : Context) (t : Text) (to : AlphaReceiver) (code : ℕ) → is_part row.ROTATE t ≡ true → alpha_receiver s (tree_at row.ALPHA_RECEIVER (drop 1 t)) ≡ Ok to
-    → value s level.Sum (tree_at row.SUM (bits_text t)) ≡ Err code → Err code ≡ turn_in s (tree_at row.ROTATE t)
-sum_refused s t to code ok is refuses = sym (turn_is s t ok ∙ rw (is, refuses))
-
-pub bits_refused : (s : Context) (t : Text) (to : AlphaReceiver) (x : Number) (code : ℕ) → is_part row.ROTATE t ≡ true → alpha_receiver s (tree_at row.ALPHA_RECEIVER (drop 1 t)) ≡ Ok to
-    → value s level.Sum (tree_at row.SUM (bits_text t)) ≡ Ok x → bits_in (fixed x) ≡ Err code → Err code ≡ turn_in s (tree_at row.ROTATE t)
-bits_refused s t to x code ok is has refuses = sym (turn_is s t ok ∙ rw (is, has, refuses))
-
--- where none comes
-pub turned_so : (s : Context) (t : Text) (to : AlphaReceiver) (x : Number) (bits : ℤ) → is_part row.ROTATE t ≡ true → alpha_receiver s (tree_at row.ALPHA_RECEIVER (drop 1 t)) ≡ Ok to
-    → value s level.Sum (tree_at row.SUM (bits_text t)) ≡ Ok x → bits_in (fixed x) ≡ Ok bits → Ok (record { to = to; whole = first t == word.ROTATEC_OPEN; bits = bits }) ≡ turn_in s (tree_at row.ROTATE t)
-turned_so s t to x bits ok is has turns = sym (turn_is s t ok ∙ rw (is, has, turns))
+-- where no code comes
+pub turned_so : (s : Context) (t : Text) (to : AlphaReceiver) (x : Number) (whole : Bool) (bits : ℤ) → is_part row.ROTATE t ≡ true → alpha_receiver s (tree_at row.ALPHA_RECEIVER (drop 1 t)) ≡ Ok to
+    → value s level.Sum (tree_at row.SUM (bits_text t)) ≡ Ok x → bits_in (fixed x) ≡ Ok bits → whole ≡ (first t == word.ROTATEC_OPEN) → Ok (record { to = to; whole = whole; bits = bits }) ≡ turn_in s (tree_at row.ROTATE t)
+turned_so s t to x whole bits ok is has turns at = sym (turn_is s t ok ∙ rw (is, has, turns, at))

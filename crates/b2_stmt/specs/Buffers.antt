@@ -64,7 +64,7 @@ bits_in None = Err P34_RANGE
 bits_in (Some n) = if int_le (negsuc 7) n && int_le n (pos 8) then Ok n else Err P34_RANGE
 
 -- ROTATE turns each byte, ROTATEC all of them as one: the receiver first, and then by how many bits
-abbrev pub turn_in : Context → Trees → Result Turn ℕ
+unfoldable pub turn_in : Context → Trees → Result Turn ℕ
 turn_in s (Put rotate (In n (In m receiver (Put comma (In k sum end))) close)) =
     alpha_receiver s receiver >>= (λ to. value s level.Sum sum >>= (λ x. bits_in (fixed x) >>= (λ bits. Ok (record { to = to; whole = token_code rotate == word.ROTATEC_OPEN; bits = bits }))))
 turn_in s t = Err S20_VARIABLE

@@ -1,6 +1,6 @@
 -- The length after a name without dimensions: a sum whose first operand begins with no parenthesis. It has rows of its own, and
 -- its value is that of the same sum.
-use Rattle.std.specs.Prelude.{ℕ, ◌==◌, if◌then◌else◌}
+use Rattle.std.specs.Prelude.{◌==◌, if◌then◌else◌}
 use Rattle.b2_atom.specs.Tree.{Trees}
 use Rattle.b2_atom.specs.Tree.Trees.{Done, In}
 use Rattle.b2_expr.specs.Answers.{Answer}

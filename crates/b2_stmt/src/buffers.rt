@@ -99,15 +99,8 @@ fn bits_of(n: Option<i64>) -> Result<i8, Code>
     }
 }
 
-/// What is asked for.
-fn asked_turn(to: AlphaReceiver, whole: bool, bits: i8) -> Turn
-    ensures { result ≡ record { to = to; whole = whole; bits = bits } }
-{
-    Turn { to, whole, bits }
-}
-
 /// What ROTATE and ROTATEC ask for: the receiver, and then by how many bits; or the first code from the left.
-#[tactic(auto, using(crate::proofs::TurnRows::turn_receiver, crate::proofs::TurnRows::turn_sum, crate::proofs::TurnRows::turn_is, crate::proofs::TurnRows::turned_so, crate::proofs::TurnRows::receiver_refused, crate::proofs::TurnRows::sum_refused, crate::proofs::TurnRows::bits_refused))]
+#[tactic(auto, using(crate::proofs::TurnRows::turn_receiver, crate::proofs::TurnRows::turn_sum, crate::proofs::TurnRows::turn_is))]
 fn turn_at(e: &Env<'_>, unit: &[u8]) -> Result<Turn, Code>
     requires part { is_part row.ROTATE unit.now ≡ true }
     ensures turn { result ≡ spec.turn_in (in_statement (surroundings e.now)) (tree_at row.ROTATE unit.now) }
@@ -126,7 +119,10 @@ fn turn_at(e: &Env<'_>, unit: &[u8]) -> Result<Turn, Code>
         Err(code) => return Err(code),
     };
     match bits_of(whole(fix(x))) {
-        Ok(bits) => Ok(asked_turn(to, is_at(ROTATEC_OPEN, unit), bits)),
+        Ok(bits) => {
+            let whole = is_at(ROTATEC_OPEN, unit);
+            Ok(Turn { to, whole, bits })
+        }
         Err(code) => Err(code),
     }
 }
