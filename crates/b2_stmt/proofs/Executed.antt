@@ -1,8 +1,9 @@
 -- A unit by its row and its tree on its line, and what it does.
-use Rattle.std.proofs.Common.{◌≡◌, ℕ, Bool, false, if◌then◌else◌, List, sym, ap, ◌∙◌, Option, Some, None, is_some, option_map}
+use Rattle.std.proofs.Common.{◌≡◌, ℕ, ◌==◌, ◌||◌, Bool, true, false, if◌then◌else◌, List, sym, ap, ◌∙◌, Option, Some, None, is_some, option_map}
 use Rattle.std.specs.Prelude.{slice_get}
 use Rattle.b2_atom.specs.Tree.{Trees}
 use Rattle.b2_atom.specs.Units.{TreeUnit}
+use Rattle.b2_atom.specs.declared.rows.TheConstants as row
 use Rattle.b2_rows.specs.Following.{tree_units}
 use Rattle.b2_flow.specs.declared.frame.Place.{Place}
 use Rattle.b2_text.specs.Program.{line_at}
@@ -12,12 +13,11 @@ use Rattle.b2_access.specs.declared.private.Private.{Private}
 use Rattle.b2_base.specs.declared.codes.TheConstants.{S26_PROGRAM_ONLY}
 use Rattle.b2_access.specs.declared.planned.Outcome.TheVariants as outcome
 use Rattle.b2_stmt.specs.Around.{around}
-use Rattle.b2_access.specs.Partition.{setting_of}
 use Rattle.b2_stmt.specs.Asked.{Here, asked_of, carried}
-use Rattle.b2_stmt.specs.OnVariables.{is_on_variables, on_variables}
+use Rattle.b2_stmt.specs.OnVariables.{is_on_variables}
 use Rattle.b2_access.specs.declared.accesses.Access.{Access}
 use Rattle.b2_stmt.specs.Clearing.{access_of}
-use Rattle.b2_stmt.specs.Plan.{allowed, by_access, course, course_at, course_in, course_of, ended_of, is_refused, line_named, plan, with_assigned}
+use Rattle.b2_stmt.specs.Plan.{allowed, by_access, course, course_at, course_in, course_of, ended_of, is_refused, line_named, plan}
 use Rattle.b2_access.specs.Planning.{done, stays}
 use Rattle.b2_stmt.specs.declared.asked.Asked.{Asked}
 
@@ -38,15 +38,29 @@ allowed_there r t h me s program is_line is =
 no_access : (r : ℕ) (t : Trees) (h : Here) (me : Private) (s : SeenLent) → access_of r t ≡ None → course_of r t h me s ≡ done s (ended_of r t h me s)
 no_access r t h me s none = ap (λ (o : Option Access). by_access o s me (ended_of r t h me s)) none
 
--- what is asked of it, where it changes more than variables
-asked_there : (r : ℕ) (t : Trees) (h : Here) (me : Private) (s : SeenLent) → is_on_variables r ≡ false
+-- what is asked of it, where it doesn't change the private state while it is read
+otherwise : {A : Type 0} (b : Bool) (x y : A) → b ≡ false → (if b then x else y) ≡ y
+otherwise b x y is = ap (λ (c : Bool). if c then x else y) is
+
+-- rows that change the private state while they are read
+abbrev pub IsAsked : ℕ → Type 0
+IsAsked r = (is_on_variables r ≡ false) × ((r == row.READ) ≡ false) × ((r == row.DEFFN_MARKED) ≡ false)
+
+asked_there : (r : ℕ) (t : Trees) (h : Here) (me : Private) (s : SeenLent) → IsAsked r
     → ended_of r t h me s ≡ carried (asked_of r t h (around me s.home) s.home.lines) h.place me s.own.lines s.home.lines
-asked_there r t h me s other =
-    ap (λ (b : Bool). if b then with_assigned (on_variables r (setting_of me) s.home t me.vars) me else carried (asked_of r t h (around me s.home) s.home.lines) h.place me s.own.lines s.home.lines) other
+asked_there r t h me s other = otherwise (is_on_variables r) _ _ other.0 ∙ otherwise (r == row.READ) _ _ other.1 ∙ otherwise (r == row.DEFFN_MARKED) _ _ other.2
+
+-- a DEFFN' is no statement of an immediate line
+second_of : (a b : Bool) → (a || b) ≡ false → b ≡ false
+second_of true b is = cc
+second_of false b is = is
+
+pub no_mark : (r : ℕ) → is_refused r false ≡ false → (r == row.DEFFN_MARKED) ≡ false
+no_mark r allowed_is = second_of _ (r == row.DEFFN_MARKED) allowed_is
 
 pub carried_there : (o : Option (List ℕ)) (line : List ℕ) (k r : ℕ) (t : Trees) (p : Place) (me : Private) (s : SeenLent) (program : Bool) (e : Context) (q : Asked)
     → o ≡ Some line → k ≡ p.unit → Some r ≡ option_map (λ v. v.row) (slice_get (tree_units line) k) → Some t ≡ option_map (λ v. v.tree) (slice_get (tree_units line) k)
-    → is_some p.line ≡ program → is_refused r program ≡ false → is_on_variables r ≡ false → access_of r t ≡ None → e ≡ around me s.home → q ≡ asked_of r t (record { place = p; units = tree_units line }) e s.home.lines
+    → is_some p.line ≡ program → is_refused r program ≡ false → IsAsked r → access_of r t ≡ None → e ≡ around me s.home → q ≡ asked_of r t (record { place = p; units = tree_units line }) e s.home.lines
     → course_in o p me s ≡ done s (carried q p me s.own.lines s.home.lines)
 carried_there o line k r t p me s program e q is_o is_k is_r is_t is_program allowed_is other none is_e is_q =
     let h : Here = record { place = p; units = tree_units line } in

@@ -11,8 +11,11 @@ use Rattle.b2_atom.specs.declared.rows.TheConstants as row
 use Rattle.b2_rows.specs.Following.{past_colon, tree_units, unit_or_next}
 use Rattle.b2_rows.specs.declared.following.Goal.{Goal}
 use Rattle.b2_rows.specs.declared.following.Goal.TheVariants as goal
-use Rattle.b2_text.specs.Program.{Lines, line_at, number_after}
+use Rattle.b2_text.specs.Program.{Lines, TextState, line_at, number_after}
+use Rattle.b2_text.specs.Spots.{first_opening, is_mark, or_else}
+use Rattle.b2_text.specs.declared.spots.Spot.{Spot}
 use Rattle.b2_dec.specs.Number.{Number}
+use Rattle.b2_dec.specs.declared.values.Value.{Value}
 use Rattle.b2_flow.specs.Frames.{is_call, is_loop, is_loop_of}
 use Rattle.b2_flow.specs.Stacks.{from_call, from_first, from_loop, has_call, has_loop, most_frames, top_loop, without_top_loop}
 use Rattle.b2_flow.specs.declared.frame.Frame.{Frame}
@@ -34,8 +37,11 @@ use Rattle.b2_access.specs.declared.planned.Outcome.TheVariants as outcome
 use Rattle.b2_access.specs.declared.private.Private.{Private}
 use Rattle.b2_stmt.specs.Around.{around}
 use Rattle.b2_access.specs.Partition.{setting_of}
-use Rattle.b2_stmt.specs.Asked.{Here, asked_of, asks_choice, asks_loop, body_place, carried, chosen, place_after, still}
+use Rattle.b2_stmt.specs.Asked.{Here, asked_of, asks_choice, asks_loop, asks_mark, body_place, carried, chosen, place_after, still}
+use Rattle.b2_stmt.specs.Arguments.{arguments, operands_of}
 use Rattle.b2_stmt.specs.OnVariables.{is_on_variables, on_variables}
+use Rattle.b2_stmt.specs.Marked.{calls_mark, mark_in, mark_place, number_called, parameters_of, place_in, takes, takes_args}
+use Rattle.b2_stmt.specs.Reading.{reads}
 use Rattle.b2_stmt.specs.Branches.{goto_goal, if_goal, passed_function}
 use Rattle.b2_stmt.specs.Calls.{back_from, called_where, forgets, leaves_call}
 use Rattle.b2_stmt.specs.Choices.{choice_in}
@@ -113,6 +119,11 @@ module _ (among : ℕ → Bool) where
   framed f o me w h k =
       either EndedIn (nat_lt (length me.stack) most_frames) (record { me = record me { stack = f ∷ me.stack }; outcome = o }) _ (with_frames me (f ∷ me.stack) w (h, w.frames), k) (w, tt)
 
+  -- the next unit, or a fault
+  next_in : (o : Option ℕ) → OutcomeIn among (goes_or outcome.Next o)
+  next_in None = tt
+  next_in (Some code) = tt
+
   -- where a goal leads
   placed : (p : Option Place) → PlaceIn among p → OutcomeIn among (to_place p)
   placed None h = tt
@@ -159,6 +170,7 @@ module _ (among : ℕ → Bool) where
   AskedIn (asked.Nothing o) = OutcomeIn among o
   AskedIn (asked.Begin l body) = among body.home ≡ true
   AskedIn (asked.Call n back) = PlaceIn among back
+  AskedIn (asked.CallMark n args back) = PlaceIn among back
   AskedIn (asked.Stop shown after) = PlaceIn among after
   AskedIn a = Unit {0}
 
@@ -192,6 +204,11 @@ module _ (among : ℕ → Bool) where
   choice_asked (Ok p) h lines k after = chosen_in p.0 p.1 h lines k after
   choice_asked (Err code) h lines k after = tt
 
+  mark_asked : (n : ℕ) (args : Result (List Value) ℕ) (back : Option Place) → PlaceIn among back → AskedIn (asks_mark n args back)
+  unfolding AskedIn
+  mark_asked n (Ok args) back k = k
+  mark_asked n (Err code) back k = tt
+
   body_by : (o : Option Place) (p : Place) → PlaceIn among o → among p.home ≡ true → among (unwrap_or o p).home ≡ true
   body_by None p h k = k
   body_by (Some q) p h k = h
@@ -214,7 +231,7 @@ module _ (among : ℕ → Bool) where
       (either AskedIn (r == row.CLEAR_V) _ _ tt
       (either AskedIn (r == row.CLEAR_N) _ _ tt
       (either AskedIn (r == row.ON) _ _ (choice_asked (choice_in s t) h lines k after)
-      (either AskedIn (r == row.DEFFN_MARKED) _ _ tt (still_in r t h s lines k)))))))))))))))
+      (either AskedIn (r == row.GOSUB_MARKED) _ _ (mark_asked (number_called t) (arguments s (operands_of t)) (place_after h lines) after) (still_in r t h s lines k)))))))))))))))
 
   -- loops
   made_in : (o : Option ℕ) (l : Loop) (body : Place) (me : Private) → Within me → among body.home ≡ true → EndedIn (made_loop o l body me)
@@ -266,6 +283,27 @@ module _ (among : ℕ → Bool) where
   unfolding EndedIn
   called_in None q back me w h k = (w, tt)
   called_in (Some line) q back me w h k = framed (Call back None) (outcome.Jump q) me w (k, tt) h
+
+  spot_in : (part : ℕ) (o : Option Spot) → among part ≡ true → PlaceIn among (option_map (place_in part) o)
+  spot_in part None h = tt
+  spot_in part (Some spot) h = h
+
+  either_in : (o q : Option Place) → PlaceIn among o → PlaceIn among q → PlaceIn among (or_else o q)
+  either_in None q h k = k
+  either_in (Some p) q h k = h
+
+  mark_called : (to : Option Place) (args : List Value) (back : Option Place) (me : Private) → Within me → PlaceIn among to → PlaceIn among back → EndedIn (calls_mark to args back me)
+  unfolding EndedIn
+  mark_called None args back me w h k = (w, tt)
+  mark_called (Some q) args back me w h k =
+      either EndedIn (nat_lt (length me.stack) most_frames) (record { me = record me { stack = Call back None ∷ me.stack; args = Some args }; outcome = outcome.Jump q }) _
+      (record { part = w.part; place = w.place; kept = w.kept; frames = ((k, tt), w.frames) }, h) (w, tt)
+
+  args_in : (o : Option (List Value)) (home : TextState) (t : Trees) (me : Private) → Within me → EndedIn (takes_args o home t me)
+  unfolding EndedIn
+  args_in None home t me w = (w, tt)
+  args_in (Some xs) home t me w =
+      (record { part = w.part; place = w.place; kept = w.kept; frames = w.frames }, next_in (takes (setting_of me) home (parameters_of t) xs me.vars).code)
 
   back_in : (how : Option Place → Outcome) (fs : List Frame) (me : Private) → ((b : Option Place) → PlaceIn among b → OutcomeIn among (how b)) → Within me → FramesIn among fs → EndedIn (back_from how fs me)
   unfolding EndedIn
@@ -330,19 +368,20 @@ module _ (among : ℕ → Bool) where
   carried_in asked.Continue p me own home h w k = continues_in me.kept me w w.kept
   carried_in (asked.Restore n) p me own home h w k = restores_in n own me w
   carried_in (asked.Clear common) p me own home h w k = (record { part = w.part; place = w.place; kept = w.kept; frames = w.frames }, tt)
-  carried_in asked.Mark p me own home h w k = (w, either (OutcomeIn among) (is_some me.args) _ _ tt tt)
+  carried_in (asked.CallMark n args back) p me own home h w k =
+      mark_called (mark_place n p me.part own home) args back me w
+      (either_in (mark_in p.home n home) (mark_in me.part n own) (spot_in p.home (first_opening (is_mark n) home) h) (spot_in me.part (first_opening (is_mark n) own) w.part)) k
 
   -- a statement
-  next_in : (o : Option ℕ) → OutcomeIn among (goes_or outcome.Next o)
-  next_in None = tt
-  next_in (Some code) = tt
-
   ended_in : (r : ℕ) (t : Trees) (h : Here) (me : Private) (s : SeenLent) → among h.place.home ≡ true → Within me → EndedIn (ended_of r t h me s)
   unfolding EndedIn
   ended_in r t h me s k w =
       either EndedIn (is_on_variables r) _ _
       (record { part = w.part; place = w.place; kept = w.kept; frames = w.frames }, next_in (on_variables r (setting_of me) s.home t me.vars).code)
-      (carried_in (asked_of r t h (around me s.home) s.home.lines) h.place me s.own.lines s.home.lines k w (asked_in r t h (around me s.home) s.home.lines k))
+      (either EndedIn (r == row.READ) _ _
+      (record { part = w.part; place = w.place; kept = w.kept; frames = w.frames }, next_in (reads (setting_of me) s.home s.own.lines t me.vars me.next_data).code)
+      (either EndedIn (r == row.DEFFN_MARKED) _ _ (args_in me.args s.home t me w)
+      (carried_in (asked_of r t h (around me s.home) s.home.lines) h.place me s.own.lines s.home.lines k w (asked_in r t h (around me s.home) s.home.lines k))))
 
   PlanningIn : Planning → Type 0
   PlanningIn p = IsWithin among p.me × PlannedIn among p.planned

@@ -2,6 +2,7 @@
 use Rattle.std.specs.Prelude.{◌≡◌, ℕ, ◌+◌, ◌==◌, Bool, true, false, List, Option, None, Some, is_some, unwrap_or, Result, Ok, Err, if◌then◌else◌}
 use Rattle.b2_base.specs.declared.codes.TheConstants.{S26_PROGRAM_ONLY, S27_LEFT_OUT}
 use Rattle.b2_dec.specs.declared.number.Mode.TheVariants.{Round, Cut}
+use Rattle.b2_dec.specs.declared.values.Value.{Value}
 use Rattle.b2_atom.specs.Tree.{Trees}
 use Rattle.b2_atom.specs.Units.{TreeUnit}
 use Rattle.b2_atom.specs.declared.rows.TheConstants as row
@@ -16,11 +17,13 @@ use Rattle.b2_access.specs.declared.planned.Outcome.{Outcome}
 use Rattle.b2_access.specs.declared.planned.Outcome.TheVariants as outcome
 use Rattle.b2_access.specs.declared.private.Private.{Private}
 use Rattle.b2_stmt.specs.Branches.{goto_goal, if_goal, passed_function}
-use Rattle.b2_stmt.specs.Calls.{called_where, forgets, goes_back, has_all, line_called, passes_mark}
+use Rattle.b2_stmt.specs.Calls.{called_where, forgets, goes_back, has_all, line_called}
 use Rattle.b2_stmt.specs.Choices.{choice_in}
 use Rattle.b2_stmt.specs.Course.{clears, continues, line_to_restore, line_to_run, restores, runs, selects, stop_text, stops, text_in}
 use Rattle.b2_access.specs.Going.{to_found, to_goal, to_line}
 use Rattle.b2_stmt.specs.Loops.{begins, counter_in, loop_in, nexts, scalar_of}
+use Rattle.b2_stmt.specs.Arguments.{arguments, operands_of}
+use Rattle.b2_stmt.specs.Marked.{calls_mark, mark_place, number_called}
 use Rattle.b2_access.specs.Planning.{Ended, stays}
 use Rattle.b2_stmt.specs.declared.asked.Asked.{Asked}
 use Rattle.b2_stmt.specs.declared.asked.Asked.TheVariants as asked
@@ -52,6 +55,11 @@ chosen false (Some n) h lines = if is_some h.place.line then asked.Call n (place
 abbrev pub asks_choice : Result (Bool × Option ℕ) ℕ → Here → Lines → Asked
 asks_choice (Ok p) h lines = chosen p.0 p.1 h lines
 asks_choice (Err code) h lines = asked.Nothing (outcome.Failed code)
+
+-- GOSUB': a call of the DEFFN' of a number, which passes values
+abbrev pub asks_mark : ℕ → Result (List Value) ℕ → Option Place → Asked
+asks_mark n (Ok args) back = asked.CallMark n args back
+asks_mark n (Err code) back = asked.Nothing (outcome.Failed code)
 
 -- statements that change nothing
 abbrev pub still : ℕ → Trees → Here → Context → Lines → Outcome
@@ -85,7 +93,7 @@ asked_of r t h s lines =
     else (if r == row.CLEAR_V then asked.Clear true
     else (if r == row.CLEAR_N then asked.Clear false
     else (if r == row.ON then asks_choice (choice_in s t) h lines
-    else (if r == row.DEFFN_MARKED then asked.Mark
+    else (if r == row.GOSUB_MARKED then asks_mark (number_called t) (arguments s (operands_of t)) (place_after h lines)
     else asked.Nothing (still r t h s lines)))))))))))))))
 
 -- what becomes of the private state
@@ -102,7 +110,7 @@ carried (asked.Run n) p me own home = runs n own me
 carried asked.Continue p me own home = continues me.kept me
 carried (asked.Restore n) p me own home = restores n own me
 carried (asked.Clear common) p me own home = clears common me
-carried asked.Mark p me own home = passes_mark me
+carried (asked.CallMark n args back) p me own home = calls_mark (mark_place n p me.part own home) args back me
 
 -- what is known of the names in it
 abbrev pub IsNamed : Asked → Type 0

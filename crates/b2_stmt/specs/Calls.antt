@@ -1,6 +1,6 @@
 -- GOSUB, RETURN and RETURN CLEAR.
-use Rattle.std.specs.Prelude.{ℕ, ◌==◌, ◌&&◌, Bool, false, List, [], ◌∷◌, Option, None, Some, if◌then◌else◌, is_some}
-use Rattle.b2_base.specs.declared.codes.TheConstants.{P36_NO_LINE, P41_NO_CALL, S27_LEFT_OUT}
+use Rattle.std.specs.Prelude.{ℕ, ◌==◌, ◌&&◌, Bool, false, List, [], ◌∷◌, Option, None, Some, if◌then◌else◌}
+use Rattle.b2_base.specs.declared.codes.TheConstants.{P36_NO_LINE, P41_NO_CALL}
 use Rattle.b2_atom.specs.Tree.{Trees}
 use Rattle.b2_atom.specs.Tree.Trees.{Put, In}
 use Rattle.b2_flow.specs.Stacks.{from_call, has_call}
@@ -53,7 +53,3 @@ has_all t = false
 
 abbrev pub forgets : Bool → Place → Private → Ended
 forgets all p me = if all then forgets_all p me else forgets_call me
-
--- DEFFN' that is reached in order does nothing; where a call's arguments wait for it, it is left out so far
-abbrev pub passes_mark : Private → Ended
-passes_mark me = stays me (if is_some me.args then outcome.Failed S27_LEFT_OUT else outcome.Next)

@@ -6,8 +6,14 @@ pub mod Calls
 pub mod Course
 pub mod Choices
 pub mod Lines
-pub mod Asked
 pub mod Assignments
+pub mod Arguments
+pub mod Asked
+pub mod ReceiverLists
+pub mod Data
+pub mod Reading
+pub mod ReadingOrder
+pub mod Marked
 pub mod Buffers
 pub mod Lengths
 pub mod Dimensions

@@ -18,12 +18,14 @@ use Rattle.b2_access.specs.Partition.{setting_of}
 use Rattle.b2_stmt.specs.Asked.{Here, asked_of, carried}
 use Rattle.b2_stmt.specs.Clearing.{access_of, finishes}
 use Rattle.b2_stmt.specs.OnVariables.{is_on_variables, on_variables}
+use Rattle.b2_stmt.specs.Marked.{takes_args}
+use Rattle.b2_stmt.specs.Reading.{reads, with_read}
 use Rattle.b2_access.specs.Planning.{Ended, Finishing, Planning, asks, done, finished, goes_or, stays}
 
 -- statements for programs alone, and those for immediate lines alone
 abbrev pub is_for_programs : ℕ → Bool
 is_for_programs r =
-    r == row.GOSUB || r == row.RETURN || r == row.RETURN_CLEAR || r == row.DATA || r == row.DEFFN || r == row.DEFFN_MARKED
+    r == row.GOSUB || r == row.GOSUB_MARKED || r == row.RETURN || r == row.RETURN_CLEAR || r == row.DATA || r == row.DEFFN || r == row.DEFFN_MARKED
 
 abbrev pub is_for_immediate_lines : ℕ → Bool
 is_for_immediate_lines r = r == row.RUN || r == row.CONTINUE
@@ -40,7 +42,9 @@ with_assigned a me = record { me = record me { vars = a.vars }; outcome = goes_o
 abbrev pub ended_of : ℕ → Trees → Here → Private → SeenLent → Ended
 ended_of r t h me s =
     if is_on_variables r then with_assigned (on_variables r (setting_of me) s.home t me.vars) me
-    else carried (asked_of r t h (around me s.home) s.home.lines) h.place me s.own.lines s.home.lines
+    else (if r == row.READ then with_read (reads (setting_of me) s.home s.own.lines t me.vars me.next_data) me
+    else (if r == row.DEFFN_MARKED then takes_args me.args s.home t me
+    else carried (asked_of r t h (around me s.home) s.home.lines) h.place me s.own.lines s.home.lines))
 
 -- or the access that it asks for, where nothing changes yet
 abbrev pub by_access : Option Access → SeenLent → Private → Ended → Planning
@@ -85,5 +89,5 @@ is_built r =
     r == row.ASSIGNMENT || r == row.FOR || r == row.NEXT || r == row.GOSUB || r == row.RETURN || r == row.RETURN_CLEAR || r == row.STOP
     || r == row.SELECT || r == row.SELECT_NO_ROUND || r == row.RUN || r == row.CONTINUE || r == row.RESTORE || r == row.CLEAR_V || r == row.CLEAR_N
     || r == row.IF || r == row.GOTO || r == row.ELSE || r == row.ERROR || r == row.END || r == row.REMARK || r == row.IMAGE_LINE || r == row.DATA
-    || r == row.DEFFN || r == row.BREAK || r == row.CLEAR || r == row.CLEAR_P || r == row.ON || r == row.DEFFN_MARKED
+    || r == row.DEFFN || r == row.BREAK || r == row.CLEAR || r == row.CLEAR_P || r == row.ON || r == row.DEFFN_MARKED || r == row.READ || r == row.GOSUB_MARKED
     || r == row.DIM || r == row.INIT || r == row.ROTATE

@@ -5,6 +5,8 @@ ghost use Rattle.b2_rows.specs.Following.{tree_units};
 ghost use Rattle.b2_rows.specs.Laws.{IsRow};
 ghost use Rattle.b2_rows.specs.Rows.{is_part, tree_at};
 ghost use Rattle.b2_expr.specs.Value.{in_statement};
+ghost use Rattle.b2_stmt.specs.Arguments.{arguments, operands_of};
+ghost use Rattle.b2_stmt.specs.Marked.{number_called as called_number};
 ghost use Rattle.b2_stmt.specs.Around.{surroundings_of as about};
 ghost use Rattle.b2_stmt.specs.Branches.{if_goal as if_goal_of};
 ghost use Rattle.b2_stmt.specs.Choices.{choice_in};
@@ -14,20 +16,24 @@ ghost use Rattle.b2_stmt.specs.Course.{stop_text as shown_by_stop, text_in};
 ghost use Rattle.b2_stmt.specs.Asked as spec;
 ghost use Rattle.b2_stmt.specs.Asked.{IsNamed};
 
+use crate::arguments::arguments_of;
 use crate::around::surroundings_of;
 use crate::branches::{goto_goal, if_goal, passed_function, passed_goal};
-use crate::calls::{call_line, forget, go_back, has_all, line_called, pass_mark};
+use crate::calls::{call_line, forget, go_back, has_all, line_called};
 use crate::choices::choice_at;
 use crate::course::{
     clear, line_to_restore, line_to_run, restore, resume, run, select, stop, stop_text,
     text_of_stop,
 };
 use crate::loops::{Loop, begin, counter_at, loop_at, next};
-use b2_access::{Outcome, Private, Setting, failed, place_after, to_found, to_goal, to_line};
+use crate::marked::{call_mark, number_called};
+use b2_access::{
+    Outcome, Private, Setting, failed, failing, place_after, to_found, to_goal, to_line,
+};
 use b2_atom::{Atoms, rows};
 use b2_base::codes::{S26_PROGRAM_ONLY, S27_LEFT_OUT};
 use b2_base::{ByteList, NoMemory};
-use b2_dec::Mode;
+use b2_dec::{Mode, ValueList};
 use b2_expr::Env;
 use b2_flow::{Place, Var2};
 use b2_rows::{Goal, RowUnit};
@@ -62,8 +68,8 @@ pub enum Asked {
     Restore(Option<u16>),
     /// That variables go, the common ones too or not.
     Clear(bool),
-    /// That a DEFFN' is passed, where no call waits for it.
-    Mark,
+    /// A call of the DEFFN' of a number, which passes values and leads back to a place.
+    CallMark(u8, ValueList, Option<Place>),
 }
 
 /// The place of a loop's body, which stands after the FOR also where no unit follows.
@@ -199,6 +205,32 @@ fn ask_stop(alloc: Global, unit: &[u8], after: Option<Place>) -> Result<Asked, N
     Ok(Asked::Stop(shown, after))
 }
 
+/// What GOSUB' asks for.
+fn ask_mark<'a>(
+    alloc: Global,
+    vars: &'a Vars,
+    a: &Setting,
+    home: &'a Text,
+    unit: &[u8],
+    back: Option<Place>,
+) -> Result<Asked, NoMemory>
+    requires part { is_part row.GOSUB_MARKED unit.now ≡ true }
+    ensures asked { IfOk result (λ asked. asked ≡ spec.asks_mark (called_number (tree_at row.GOSUB_MARKED unit.now)) (arguments (in_statement (about a.now vars.now home.now)) (operands_of (tree_at row.GOSUB_MARKED unit.now))) back) }
+    ensures named { IfOk result IsNamed }
+{
+    let e = Env {
+        globals: None,
+        ..surroundings_of(a, vars, home)
+    };
+    match arguments_of(alloc, &e, unit) {
+        Ok(args) => Ok(Asked::CallMark(number_called(unit), args, back)),
+        Err(fault) => {
+            let outcome = failing(fault)?;
+            Ok(Asked::Nothing(outcome))
+        }
+    }
+}
+
 /// The same place.
 fn copy_of(place: &Place) -> Place
     ensures { result ≡ place.now }
@@ -241,7 +273,7 @@ pub fn ask(
         rows::RESTORE => Ok(Asked::Restore(line_to_restore(bytes))),
         rows::CLEAR_V => Ok(Asked::Clear(true)),
         rows::CLEAR_N => Ok(Asked::Clear(false)),
-        rows::DEFFN_MARKED => Ok(Asked::Mark),
+        rows::GOSUB_MARKED => ask_mark(alloc, vars, a, home, bytes, place_after(home, line, place)),
         rows::ON => Ok(ask_choice(vars, a, home, line, place, bytes)),
         row => Ok(Asked::Nothing(still(vars, a, home, line, place, row, bytes))),
     }
@@ -272,6 +304,6 @@ pub fn carry_out(
         Asked::Continue => Ok(resume(me)),
         Asked::Restore(n) => Ok(restore(me, own, n)),
         Asked::Clear(common) => Ok(clear(me, common)),
-        Asked::Mark => Ok(pass_mark(me)),
+        Asked::CallMark(n, args, back) => Ok(call_mark(me, own, home, place, n, args, back)),
     }
 }

@@ -9,7 +9,7 @@ ghost use Rattle.b2_stmt.specs.Calls as spec;
 use crate::framing::put_frame;
 use b2_access::{Outcome, Private, failed, to_place};
 use b2_atom::words::ALL;
-use b2_base::codes::{P36_NO_LINE, P41_NO_CALL, S27_LEFT_OUT};
+use b2_base::codes::{P36_NO_LINE, P41_NO_CALL};
 use b2_base::lexical::dropped;
 use b2_flow::{Frame, Place};
 use b2_rows::{is_at, line_at};
@@ -109,16 +109,5 @@ pub fn forget(me: &mut Private, place: Place, all: bool) -> Outcome
         forget_all(me, place)
     } else {
         forget_call(me)
-    }
-}
-
-/// DEFFN' that is reached in order.
-pub fn pass_mark(me: &Private) -> Outcome
-    ensures { record { me = me.now; outcome = result } ≡ spec.passes_mark me.now }
-{
-    if me.args.is_some() {
-        failed(S27_LEFT_OUT)
-    } else {
-        Outcome::Next
     }
 }

@@ -7,7 +7,9 @@ ghost use Rattle.b2_stmt.specs.Plan as spec;
 
 use crate::asked::{ask, carry_out};
 use crate::clearing::access_of;
+use crate::marked::take_args;
 use crate::on_variables::{change_variables, is_on_variables};
+use crate::reading::read;
 use b2_access::{DeviceTable, Lent, Outcome, Planned, Private, failed, goes_or, setting_of};
 use b2_atom::rows;
 use b2_base::NoMemory;
@@ -54,6 +56,8 @@ pub fn is_built(row: u16) -> bool
             | rows::DIM
             | rows::INIT
             | rows::ROTATE
+            | rows::READ
+            | rows::GOSUB_MARKED
     )
 }
 
@@ -62,6 +66,7 @@ fn is_for_programs(row: u16) -> bool
     ensures { result ≡ spec.is_for_programs row }
 {
     row == rows::GOSUB
+        || row == rows::GOSUB_MARKED
         || row == rows::RETURN
         || row == rows::RETURN_CLEAR
         || row == rows::DATA
@@ -107,6 +112,20 @@ fn execute_program(
         let code = change_variables(alloc, &mut me.vars, &setting, home, unit.row, unit.bytes)?;
         return Ok(Planned::Done(goes_or(Outcome::Next, code)));
     }
+    if unit.row == rows::READ {
+        let code = read(
+            &mut me.vars,
+            &mut me.next_data,
+            &setting,
+            home,
+            own,
+            unit.bytes,
+        )?;
+        return Ok(Planned::Done(goes_or(Outcome::Next, code)));
+    }
+    if unit.row == rows::DEFFN_MARKED {
+        return Ok(Planned::Done(take_args(me, home, unit.bytes)?));
+    }
     if let Some(access) = access_of(unit.row, unit.bytes) {
         return Ok(Planned::Ask(access));
     }
@@ -139,6 +158,17 @@ fn execute_immediate(
     }
     if is_on_variables(unit.row) {
         let code = change_variables(alloc, &mut me.vars, &setting, home, unit.row, unit.bytes)?;
+        return Ok(Planned::Done(goes_or(Outcome::Next, code)));
+    }
+    if unit.row == rows::READ {
+        let code = read(
+            &mut me.vars,
+            &mut me.next_data,
+            &setting,
+            home,
+            own,
+            unit.bytes,
+        )?;
         return Ok(Planned::Done(goes_or(Outcome::Next, code)));
     }
     if let Some(access) = access_of(unit.row, unit.bytes) {

@@ -5,6 +5,8 @@ ghost use Rattle.std.specs.Prelude.{◌≤◌};
 mod buffers;
 mod clearing;
 mod dimensions;
+mod marked;
+mod reading;
 mod rows;
 
 use crate::plan;
@@ -79,13 +81,13 @@ fn moved(me: &Private, text: &Text, place: Place) -> Option<Place> {
     }
 }
 
-/// What the statement at the place of a partition plans, whose own text is that of its home.
-fn planned(alloc: Global, me: &mut Private, text: &Text) -> Result<Outcome, Fail> {
+/// What the statement at the place of a partition plans, by its own text and that of its home.
+fn planned_of(alloc: Global, me: &mut Private, own: &Text, home: &Text) -> Result<Outcome, Fail> {
     let devices = DeviceTable::new(Vec::new(alloc));
     let mut spare = Vars::new(alloc, 64)?;
     let mut lent = Lent {
-        own: text,
-        home: text,
+        own,
+        home,
         globals: &mut spare,
         found: false,
     };
@@ -97,7 +99,7 @@ fn planned(alloc: Global, me: &mut Private, text: &Text) -> Result<Outcome, Fail
 
 /// One step: none where it goes on, and else the code with which it ends, or 0.
 fn step(alloc: Global, me: &mut Private, text: &Text, place: Place) -> Result<Option<u8>, Fail> {
-    match planned(alloc, me, text)? {
+    match planned_of(alloc, me, text, text)? {
         Outcome::Next | Outcome::Break => {
             me.place = moved(me, text, place);
             Ok(None)

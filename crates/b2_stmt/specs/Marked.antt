@@ -1,0 +1,101 @@
+-- GOSUB', which calls the DEFFN' of a number, and DEFFN', which takes what the call passes.
+use Rattle.std.specs.Prelude.{ℕ, ◌==◌, ◌&&◌, nat_lt, Bool, true, false, List, [], ◌∷◌, length, Option, None, Some, Result, Ok, Err, if◌then◌else◌}
+use Rattle.std.specs.Option.{option_map}
+use Rattle.b2_base.specs.declared.codes.TheConstants.{A04_TOO_DEEP, P35_ARGUMENTS, P38_NO_DEFFN}
+use Rattle.b2_dec.specs.declared.values.Value.{Value}
+use Rattle.b2_atom.specs.Tokens.Token.{Plain}
+use Rattle.b2_atom.specs.Tree.{Trees}
+use Rattle.b2_atom.specs.Tree.Trees.{Put, In}
+use Rattle.b2_rows.specs.Values.{small_of}
+use Rattle.b2_flow.specs.Stacks.{most_frames}
+use Rattle.b2_flow.specs.declared.frame.Frame.TheVariants.{Call}
+use Rattle.b2_flow.specs.declared.frame.Place.{Place}
+use Rattle.b2_text.specs.Program.{Lines, TextState}
+use Rattle.b2_text.specs.Spots.{first_opening, is_mark, or_else}
+use Rattle.b2_text.specs.declared.spots.Spot.{Spot}
+use Rattle.b2_vars.specs.Tables.{VarsState}
+use Rattle.b2_expr.specs.Assigning.{Assigned, assigned_value}
+use Rattle.b2_expr.specs.Receivers.{any_receiver}
+use Rattle.b2_expr.specs.Value.{in_statement}
+use Rattle.b2_expr.specs.declared.receiver.Receiver.{Receiver}
+use Rattle.b2_access.specs.Partition.{setting_of}
+use Rattle.b2_access.specs.declared.planned.Outcome.TheVariants as outcome
+use Rattle.b2_access.specs.declared.private.Private.{Private}
+use Rattle.b2_stmt.specs.Around.{surroundings_of}
+use Rattle.b2_stmt.specs.Assignments.{and_then, items_of}
+use Rattle.b2_stmt.specs.Reading.{suits}
+use Rattle.b2_access.specs.Planning.{Ended, goes_or, stays}
+use Rattle.b2_access.specs.declared.setting.Setting.{Setting}
+
+-- the number that is called
+abbrev pub number_called : Trees → ℕ
+number_called (Put word (Put (Plain k digits) more)) = small_of digits
+number_called t = 0
+
+-- where its DEFFN' stands: in the text at home, and else in the own text
+abbrev pub place_in : ℕ → Spot → Place
+place_in part spot = record { home = part; line = Some spot.line; unit = spot.unit }
+
+abbrev pub mark_in : ℕ → ℕ → Lines → Option Place
+mark_in part n lines = option_map (place_in part) (first_opening (is_mark n) lines)
+
+abbrev pub mark_place : ℕ → Place → ℕ → Lines → Lines → Option Place
+mark_place n p part own home = or_else (mark_in p.home n home) (mark_in part n own)
+
+-- a call of it, which leads back to another place and passes values; P38 where it stands nowhere, and else A04 where there is
+-- no room for a frame
+abbrev pub calls_mark : Option Place → List Value → Option Place → Private → Ended
+calls_mark None args back me = stays me (outcome.Failed P38_NO_DEFFN)
+calls_mark (Some q) args back me =
+    if nat_lt (length me.stack) most_frames then record { me = record me { stack = Call back None ∷ me.stack; args = Some args }; outcome = outcome.Jump q }
+    else stays me (outcome.Failed A04_TOO_DEEP)
+
+-- the receivers of DEFFN'; none where it has no parentheses
+abbrev pub receivers_in : Trees → List Trees
+receivers_in (Put opening (In n receivers end)) = items_of receivers
+receivers_in t = []
+
+abbrev pub tail_receivers : Trees → List Trees
+tail_receivers (In n (In m tail end) more) = if m == 1 then [] else receivers_in tail
+tail_receivers t = []
+
+abbrev pub parameters_of : Trees → List Trees
+parameters_of (Put word (Put number tail)) = tail_receivers tail
+parameters_of t = []
+
+-- whether there are as many values as receivers, each of its receiver's kind
+abbrev pub takes_bytes : Trees → Bool
+takes_bytes (In n receiver end) = n == 1
+takes_bytes t = false
+
+abbrev pub fits : List Trees → List Value → Bool
+fits [] [] = true
+fits (t ∷ ts) (x ∷ xs) = suits (takes_bytes t) x && fits ts xs
+fits ts xs = false
+
+-- a receiver takes a value; it is located among the variables as they then are
+abbrev pub value_to : Result Receiver ℕ → Value → VarsState → Assigned
+value_to (Ok to) x vars = assigned_value to x vars
+value_to (Err code) x vars = record { vars = vars; code = Some code }
+
+abbrev pub takes_value : Setting → TextState → Trees → Value → VarsState → Assigned
+takes_value a home t x vars = value_to (any_receiver (in_statement (surroundings_of a vars home)) t) x vars
+
+-- receivers from left to right, up to one with a code
+abbrev pub take_each : (Trees → Value → VarsState → Assigned) → List Trees → List Value → VarsState → Assigned
+take_each one [] xs vars = record { vars = vars; code = None }
+take_each one (t ∷ ts) [] vars = record { vars = vars; code = None }
+take_each one (t ∷ ts) (x ∷ xs) vars = and_then (one t x vars) (take_each one ts xs)
+
+-- number and kinds are compared as a whole before any receiver takes its value
+abbrev pub takes : Setting → TextState → List Trees → List Value → VarsState → Assigned
+takes a home ts xs vars = if fits ts xs then take_each (takes_value a home) ts xs vars else record { vars = vars; code = Some P35_ARGUMENTS }
+
+-- the values are used up, also where a receiver has a code
+abbrev pub used_up : Assigned → Private → Ended
+used_up a me = record { me = record me { vars = a.vars; args = None }; outcome = goes_or outcome.Next a.code }
+
+-- DEFFN': where no call waits for it, nothing
+abbrev pub takes_args : Option (List Value) → TextState → Trees → Private → Ended
+takes_args None home t me = stays me outcome.Next
+takes_args (Some xs) home t me = used_up (takes (setting_of me) home (parameters_of t) xs me.vars) me

@@ -1,0 +1,112 @@
+// The arguments of GOSUB'.
+ghost use Rattle.std.specs.Prelude.{◌≡◌, true, MatchResult, Ok, Err};
+ghost use Rattle.b2_atom.specs.declared.rows.TheConstants as row;
+ghost use Rattle.b2_rows.specs.Rows.{after_part, is_list, is_part, tree_at};
+ghost use Rattle.b2_expr.specs.Scope.{surroundings};
+ghost use Rattle.b2_expr.specs.Value.{in_statement};
+ghost use Rattle.b2_stmt.specs.Arguments as spec;
+ghost use Rattle.b2_stmt.specs.Arguments.{GivesValues, PutsArgument, operands_at, past_operand};
+ghost use Rattle.b2_stmt.specs.Lines.{commas};
+
+use b2_atom::Cursor;
+use b2_base::lexical::{digits_width, dropped};
+use b2_base::{Code, Fault};
+use b2_dec::{Bytes, Value, ValueList};
+use b2_expr::{Env, alpha, number};
+use b2_rows::{is_alpha_at, is_at};
+use std::alloc::Global;
+
+/// The bytes of the argument at a text, and what stands after it.
+fn bytes_at<'a>(e: &Env<'_>, text: &'a [u8]) -> Result<(Value, &'a [u8]), Code>
+    requires part { is_part row.ALPHA text.now ≡ true }
+    ensures { MatchResult result (λ p. (spec.alpha_argument (in_statement (surroundings e.now)) (tree_at row.ALPHA text.now) ≡ Ok p.0) × (p.1.now ≡ after_part row.ALPHA text.now)) (λ code. spec.alpha_argument (in_statement (surroundings e.now)) (tree_at row.ALPHA text.now) ≡ Err code) }
+{
+    let mut c = Cursor::over(text);
+    let mut bytes = Bytes::new();
+    match alpha(&mut c, e, &mut bytes) {
+        Ok(()) => Ok((Value::Alpha(bytes), c.rest())),
+        Err(code) => Err(code),
+    }
+}
+
+/// The number of the argument at a text, and what stands after it.
+fn number_at<'a>(e: &Env<'_>, text: &'a [u8]) -> Result<(Value, &'a [u8]), Code>
+    requires part { is_part row.SUM text.now ≡ true }
+    ensures { MatchResult result (λ p. (spec.number_argument (in_statement (surroundings e.now)) (tree_at row.SUM text.now) ≡ Ok p.0) × (p.1.now ≡ after_part row.SUM text.now)) (λ code. spec.number_argument (in_statement (surroundings e.now)) (tree_at row.SUM text.now) ≡ Err code) }
+{
+    let mut c = Cursor::over(text);
+    match number(&mut c, e) {
+        Ok(x) => Ok((Value::Number(x), c.rest())),
+        Err(code) => Err(code),
+    }
+}
+
+/// The value of the argument at a text, and what stands after it.
+#[tactic(auto, using(crate::proofs::ArgumentRows::alpha_here, crate::proofs::ArgumentRows::alpha_is, crate::proofs::ArgumentRows::alpha_rest, crate::proofs::ArgumentRows::number_here, crate::proofs::ArgumentRows::number_is, crate::proofs::ArgumentRows::number_rest))]
+fn argument<'a>(e: &Env<'_>, text: &'a [u8]) -> Result<(Value, &'a [u8]), Code>
+    requires part { is_part row.OPERAND_OF_ANY_KIND text.now ≡ true }
+    ensures { MatchResult result (λ p. (spec.argument (in_statement (surroundings e.now)) (tree_at row.OPERAND_OF_ANY_KIND text.now) ≡ Ok p.0) × (p.1.now ≡ past_operand text.now)) (λ code. spec.argument (in_statement (surroundings e.now)) (tree_at row.OPERAND_OF_ANY_KIND text.now) ≡ Err code) }
+{
+    if is_alpha_at(text) {
+        bytes_at(e, text)
+    } else {
+        number_at(e, text)
+    }
+}
+
+/// Puts the value of the argument at a text after others, and gives what stands after it.
+fn put_argument<'a>(e: &Env<'_>, text: &'a [u8], into: &mut Vec<Value>) -> Result<&'a [u8], Fault>
+    requires part { is_part row.OPERAND_OF_ANY_KIND text.now ≡ true }
+    ensures { PutsArgument (spec.argument (in_statement (surroundings e.now)) (tree_at row.OPERAND_OF_ANY_KIND text.now)) (past_operand text.now) into.old.items into.new.items result }
+{
+    match argument(e, text) {
+        Ok((value, rest)) => match into.push(value) {
+            Ok(()) => Ok(rest),
+            Err(_) => Err(Fault::NoMemory),
+        },
+        Err(code) => Err(Fault::Code(code)),
+    }
+}
+
+/// The values of the arguments at a text, from left to right, or the first code.
+#[tactic(auto, using(crate::proofs::ArgumentRows::other_part, crate::proofs::ArgumentRows::other_list, crate::proofs::ArgumentRows::operand_shorter, crate::proofs::ArgumentRows::one_put, crate::proofs::ArgumentRows::last_put, crate::proofs::ArgumentRows::refused))]
+fn arguments(alloc: Global, e: &Env<'_>, text: &[u8]) -> Result<ValueList, Fault>
+    requires part { is_part row.OPERAND_OF_ANY_KIND text.now ≡ true }
+    requires list { is_list commas row.COMMA_OPERAND (past_operand text.now) ≡ true }
+    ensures { GivesValues (spec.arguments (in_statement (surroundings e.now)) (operands_at text.now)) result }
+{
+    let mut values = Vec::new(alloc);
+    let mut left = text;
+    loop {
+        let rest = match put_argument(e, left, &mut values) {
+            Ok(rest) => rest,
+            Err(fault) => return Err(fault),
+        };
+        if !is_at(b',', rest) {
+            return Ok(ValueList::new(values));
+        }
+        left = dropped(rest, 1);
+    }
+}
+
+/// What stands after the number of a GOSUB'.
+fn past_number(unit: &[u8]) -> &[u8]
+    ensures { result.now ≡ spec.past_number unit.now }
+{
+    let number = dropped(unit, 1);
+    dropped(number, digits_width(number))
+}
+
+/// The values of the arguments of GOSUB', of which there may be none.
+#[tactic(auto, using(crate::proofs::ArgumentRows::call_first, crate::proofs::ArgumentRows::call_list, crate::proofs::ArgumentRows::call_is, crate::proofs::ArgumentRows::call_without))]
+pub fn arguments_of(alloc: Global, e: &Env<'_>, unit: &[u8]) -> Result<ValueList, Fault>
+    requires part { is_part row.GOSUB_MARKED unit.now ≡ true }
+    ensures { GivesValues (spec.arguments (in_statement (surroundings e.now)) (spec.operands_of (tree_at row.GOSUB_MARKED unit.now))) result }
+{
+    let text = past_number(unit);
+    if is_at(b'(', text) {
+        arguments(alloc, e, dropped(text, 1))
+    } else {
+        Ok(ValueList::new(Vec::new(alloc)))
+    }
+}

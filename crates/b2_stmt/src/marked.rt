@@ -1,0 +1,245 @@
+// GOSUB', which calls the DEFFN' of a number, and DEFFN', which takes what the call passes.
+ghost use Rattle.std.specs.Prelude.{◌≡◌, ◌==◌, true, IfOk, Some, [], option_map};
+ghost use Rattle.b2_atom.specs.declared.rows.TheConstants as row;
+ghost use Rattle.b2_rows.specs.Rows.{is_part, tree_at};
+ghost use Rattle.b2_text.specs.Spots.{first_opening, is_mark};
+ghost use Rattle.b2_expr.specs.Assigning.{assigned_value};
+ghost use Rattle.b2_expr.specs.Receivers.{IsNamed};
+ghost use Rattle.b2_stmt.specs.Marked as spec;
+ghost use Rattle.b2_stmt.specs.ReceiverLists.{are_others, past_first, receivers_at};
+
+use crate::around::surroundings_of;
+use crate::assignments::code_of;
+use crate::reading::{past_receiver, suits};
+use b2_access::{Outcome, Private, Setting, failed, goes_or, setting_of};
+use b2_atom::Cursor;
+use b2_base::codes::{P35_ARGUMENTS, P38_NO_DEFFN};
+use b2_base::lexical::{digits_width, dropped};
+use b2_base::{Code, NoMemory, Part};
+use b2_dec::{Value, ValueList};
+use b2_expr::{Receiver, any_receiver, assign_value};
+use b2_flow::{Frame, Place};
+use b2_rows::{is_alpha_at, is_at, small_at};
+use b2_text::{Spot, Text};
+use b2_vars::Vars;
+
+/// The number that GOSUB' calls.
+#[tactic(auto, using(crate::proofs::MarkRows::called_number, crate::proofs::MarkRows::called_is))]
+pub fn number_called(unit: &[u8]) -> u8
+    requires part { is_part row.GOSUB_MARKED unit.now ≡ true }
+    ensures { result ≡ spec.number_called (tree_at row.GOSUB_MARKED unit.now) }
+{
+    small_at(dropped(unit, 1))
+}
+
+/// The place of a spot in the text of a partition.
+fn place_in(part: Part, spot: Spot) -> Place
+    ensures { result ≡ spec.place_in part spot }
+{
+    Place {
+        home: part,
+        line: Some(spot.line),
+        unit: spot.unit,
+    }
+}
+
+/// Where the DEFFN' of a number stands: in the text at home, and else in the own text.
+fn mark_place(n: u8, place: Place, part: Part, own: &Text, home: &Text) -> Option<Place>
+    ensures { result ≡ spec.mark_place n place part own.now.lines home.now.lines }
+{
+    if let Some(spot) = home.marked(n) {
+        return Some(place_in(place.home, spot));
+    }
+    match own.marked(n) {
+        Some(spot) => Some(place_in(part, spot)),
+        None => None,
+    }
+}
+
+/// Calls the statement at a place, which leads back to another and passes values. A04 where there is no room for it.
+#[tactic(auto, using(crate::proofs::MarkRows::call_put, crate::proofs::MarkRows::no_room))]
+fn call_place(me: &mut Private, to: Place, args: ValueList, back: Option<Place>) -> Outcome
+    ensures { record { me = me.new; outcome = result } ≡ spec.calls_mark (Some to) args back me.old }
+{
+    let frame = Frame::Call {
+        back,
+        entered: None,
+    };
+    match me.stack.push(frame) {
+        Ok(()) => {
+            me.args = Some(args);
+            Outcome::Jump(to)
+        }
+        Err(code) => Outcome::Failed(code),
+    }
+}
+
+/// Calls the DEFFN' of a number, which leads back to a place and passes values. P38 comes before A04.
+pub fn call_mark(
+    me: &mut Private,
+    own: &Text,
+    home: &Text,
+    place: Place,
+    n: u8,
+    args: ValueList,
+    back: Option<Place>,
+) -> Outcome
+    ensures { record { me = me.new; outcome = result } ≡ spec.calls_mark (spec.mark_place n place me.old.part own.now.lines home.now.lines) args back me.old }
+{
+    match mark_place(n, place, me.part, own, home) {
+        Some(to) => call_place(me, to, args, back),
+        None => failed(P38_NO_DEFFN),
+    }
+}
+
+/// Whether there are as many values as receivers at a text, each of its receiver's kind.
+#[tactic(auto, using(crate::proofs::ReadRows::other_part, crate::proofs::ReadRows::other_list, crate::proofs::ReadRows::receiver_shorter, crate::proofs::MarkRows::kind_is))]
+fn fits(text: &[u8], args: &[Value]) -> bool
+    requires part { is_part row.RECEIVER text.now ≡ true }
+    requires list { are_others (past_first text.now) ≡ true }
+    ensures { result ≡ spec.fits (receivers_at text.now) args.now }
+{
+    let mut left = text;
+    let mut values = args;
+    loop {
+        let Some((value, others)) = values.split_first() else {
+            return false;
+        };
+        if !suits(is_alpha_at(left), value) {
+            return false;
+        }
+        left = past_receiver(left);
+        values = others;
+        if !is_at(b',', left) {
+            return values.is_empty();
+        }
+        left = dropped(left, 1);
+    }
+}
+
+/// Assigns a value to a receiver, where they are of one kind.
+#[tactic(auto, using(crate::proofs::Assigned::ended_so, crate::proofs::ReadRows::one_kind, crate::proofs::MarkRows::other_kind))]
+fn assign_to(vars: &mut Vars, to: &Receiver, value: &Value) -> Result<Option<Code>, NoMemory>
+    requires named { IsNamed to.now }
+    ensures { IfOk result (λ code. record { vars = vars.new; code = code } ≡ assigned_value to.now value.now vars.old) }
+{
+    if !suits(to.is_alpha(), value) {
+        return Ok(None);
+    }
+    code_of(assign_value(vars, to, value))
+}
+
+/// Assigns a value to the receiver at a text.
+fn take_value(
+    vars: &mut Vars,
+    a: &Setting,
+    home: &Text,
+    value: &Value,
+    text: &[u8],
+) -> Result<Option<Code>, NoMemory>
+    requires part { is_part row.RECEIVER text.now ≡ true }
+    ensures { IfOk result (λ code. record { vars = vars.new; code = code } ≡ spec.takes_value a.now home.now (tree_at row.RECEIVER text.now) value.now vars.old) }
+{
+    match any_receiver(&mut Cursor::over(text), &surroundings_of(a, vars, home)) {
+        Ok(to) => assign_to(vars, &to, value),
+        Err(code) => Ok(Some(code)),
+    }
+}
+
+/// Assigns values to the receivers at a text, from left to right.
+#[tactic(auto, using(crate::proofs::ReadRows::other_part, crate::proofs::ReadRows::other_list, crate::proofs::ReadRows::receiver_shorter))]
+fn take_each(
+    vars: &mut Vars,
+    a: &Setting,
+    home: &Text,
+    args: &[Value],
+    text: &[u8],
+) -> Result<Option<Code>, NoMemory>
+    requires part { is_part row.RECEIVER text.now ≡ true }
+    requires list { are_others (past_first text.now) ≡ true }
+    ensures { IfOk result (λ code. record { vars = vars.new; code = code } ≡ spec.take_each (spec.takes_value a.now home.now) (receivers_at text.now) args.now vars.old) }
+{
+    let mut left = text;
+    let mut values = args;
+    loop {
+        let Some((value, others)) = values.split_first() else {
+            return Ok(None);
+        };
+        let code = take_value(vars, a, home, value, left)?;
+        if code.is_some() {
+            return Ok(code);
+        }
+        left = past_receiver(left);
+        if !is_at(b',', left) {
+            return Ok(None);
+        }
+        left = dropped(left, 1);
+        values = others;
+    }
+}
+
+/// Assigns values to the receivers at a text. P35 comes before any of them takes its value.
+fn take_at(
+    vars: &mut Vars,
+    a: &Setting,
+    home: &Text,
+    args: &[Value],
+    text: &[u8],
+) -> Result<Option<Code>, NoMemory>
+    requires part { is_part row.RECEIVER text.now ≡ true }
+    requires list { are_others (past_first text.now) ≡ true }
+    ensures { IfOk result (λ code. record { vars = vars.new; code = code } ≡ spec.takes a.now home.now (receivers_at text.now) args.now vars.old) }
+{
+    if fits(text, args) {
+        take_each(vars, a, home, args, text)
+    } else {
+        Ok(Some(Code::known(P35_ARGUMENTS)))
+    }
+}
+
+/// Where there are no receivers: P35 where values are passed.
+#[tactic(auto, using(crate::proofs::MarkRows::no_receivers, crate::proofs::MarkRows::no_values))]
+fn take_none(vars: &Vars, a: &Setting, home: &Text, args: &[Value]) -> Option<Code>
+    ensures { record { vars = vars.now; code = result } ≡ spec.takes a.now home.now [] args.now vars.now }
+{
+    if args.is_empty() {
+        None
+    } else {
+        Some(Code::known(P35_ARGUMENTS))
+    }
+}
+
+/// Assigns values to the receivers of DEFFN'.
+#[tactic(auto, using(crate::proofs::MarkRows::parameters_first, crate::proofs::MarkRows::parameters_list, crate::proofs::MarkRows::parameters_are, crate::proofs::MarkRows::no_parameters))]
+fn take(
+    vars: &mut Vars,
+    a: &Setting,
+    home: &Text,
+    args: &[Value],
+    unit: &[u8],
+) -> Result<Option<Code>, NoMemory>
+    requires part { is_part row.DEFFN_MARKED unit.now ≡ true }
+    ensures { IfOk result (λ code. record { vars = vars.new; code = code } ≡ spec.takes a.now home.now (spec.parameters_of (tree_at row.DEFFN_MARKED unit.now)) args.now vars.old) }
+{
+    let number = dropped(unit, 1);
+    let text = dropped(number, digits_width(number));
+    if is_at(b'(', text) {
+        take_at(vars, a, home, args, dropped(text, 1))
+    } else {
+        Ok(take_none(vars, a, home, args))
+    }
+}
+
+/// DEFFN': it takes what a call passes; where no call waits for it, it does nothing.
+pub fn take_args(me: &mut Private, home: &Text, unit: &[u8]) -> Result<Outcome, NoMemory>
+    requires part { is_part row.DEFFN_MARKED unit.now ≡ true }
+    ensures ended { IfOk result (λ o. record { me = me.new; outcome = o } ≡ spec.takes_args me.old.args home.now (tree_at row.DEFFN_MARKED unit.now) me.old) }
+    ensures part { me.new.part ≡ me.old.part }
+{
+    let setting = setting_of(me);
+    let Some(args) = me.args.take() else {
+        return Ok(Outcome::Next);
+    };
+    let code = take(&mut me.vars, &setting, home, args.values(), unit)?;
+    Ok(goes_or(Outcome::Next, code))
+}
