@@ -19,7 +19,9 @@ use Rattle.b2_atom.specs.declared.forms.Item.TheVariants.{Word, Sign, Among, Pro
 use Rattle.b2_rows.specs.Rows.{reading_row, tree_of, fits_unit, is_part, tree_at, after_part}
 use Rattle.b2_rows.proofs.Levels.{no_statement, in_parentheses, at_level, up_level, Up}
 use Rattle.b2_expr.proofs.Pairs.{also_done}
-use Rattle.b2_stmt.specs.Lengths.{as_factor, as_operand, as_sum, in_first}
+use Rattle.b2_expr.specs.Value.{value}
+use Rattle.b2_expr.specs.declared.operators.Level.TheVariants as level
+use Rattle.b2_stmt.specs.Lengths.{LengthsAreSums, as_factor, as_operand, as_sum, in_first}
 
 abbrev Rows : Type 0
 Rows = ℕ → Parser Text
@@ -267,3 +269,6 @@ pub length_read : (t : Text) → (first t == byte.opening) ≡ false → is_part
     → (is_part row.SUM t ≡ true) × (tree_at row.SUM t ≡ as_sum (tree_at row.LENGTH t)) × (after_part row.SUM t ≡ after_part row.LENGTH t)
 unfolding is_part tree_at after_part reading_row
 length_read t alone ok = read_by as_sum (fits_unit t) (reading_row row.LENGTH t) (reading_row row.SUM t) (sum_as t alone) ok
+
+pub lengths_are_sums : LengthsAreSums
+lengths_are_sums s t alone ok = let r = length_read t alone ok in (r.0, sym (ap (value s level.Sum) r.1), sym r.2)

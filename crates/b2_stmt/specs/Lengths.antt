@@ -1,8 +1,13 @@
 -- The length after a name without dimensions: a sum whose first operand begins with no parenthesis. It has rows of its own, and
 -- its value is that of the same sum.
-use Rattle.std.specs.Prelude.{◌==◌, if◌then◌else◌}
+use Rattle.std.specs.Prelude.{◌≡◌, ◌==◌, true, false, if◌then◌else◌}
+use Rattle.b2_base.specs.Byte as byte
+use Rattle.b2_base.specs.Lexical.{first}
+use Rattle.b2_atom.specs.Words.{Text}
 use Rattle.b2_atom.specs.Tree.{Trees}
 use Rattle.b2_atom.specs.Tree.Trees.{Done, In}
+use Rattle.b2_atom.specs.declared.rows.TheConstants as row
+use Rattle.b2_rows.specs.Rows.{after_part, is_part, tree_at}
 use Rattle.b2_expr.specs.Answers.{Answer}
 use Rattle.b2_expr.specs.Scope.{Context}
 use Rattle.b2_expr.specs.Value.{value}
@@ -33,3 +38,9 @@ as_sum t = in_first (in_first as_factor) t
 
 abbrev pub length_value : Context → Trees → Answer
 length_value s t = value s level.Sum (as_sum t)
+
+-- where no parenthesis stands first, a length is read where a sum is, has its value and leaves the same rest
+abbrev pub LengthsAreSums : Type 0
+LengthsAreSums =
+    (s : Context) (t : Text) → (first t == byte.opening) ≡ false → is_part row.LENGTH t ≡ true
+    → (is_part row.SUM t ≡ true) × (length_value s (tree_at row.LENGTH t) ≡ value s level.Sum (tree_at row.SUM t)) × (after_part row.LENGTH t ≡ after_part row.SUM t)
