@@ -38,6 +38,7 @@ use Rattle.b2_stmt.specs.Course.{continues, restores, restores_where, runs, runs
 use Rattle.b2_stmt.specs.Frames.{with_frame}
 use Rattle.b2_stmt.specs.Loops.{begins, counted, counts, goes_round, is_over, made_loop, next_value, nexts, tested, without_loop}
 use Rattle.b2_stmt.specs.Marked.{calls_mark, mark_place, takes_args}
+use Rattle.b2_stmt.specs.OnVariables.{is_on_variables}
 use Rattle.b2_stmt.specs.Plan.{allowed, by_access, course, course_at, course_in, ended_of, finish, is_refused, plan}
 use Rattle.b2_stmt.specs.declared.asked.Asked.{Asked}
 use Rattle.b2_stmt.specs.declared.asked.Asked.TheVariants as asked
@@ -177,7 +178,7 @@ module _ (here : Option Place) (matters : Bool) where
   ended : (r : ℕ) (t : Trees) (h : Here) (me : Private) (s : SeenLent) → KeepsNoPlace me → KeepsNothing (ended_of r t h me s)
   unfolding KeepsNothing
   ended r t h me s k =
-      either KeepsNothing (r == row.ASSIGNMENT) _ _ (k.0, λ r. inl (k.1 r))
+      either KeepsNothing (is_on_variables r) _ _ (k.0, λ r. inl (k.1 r))
       (either KeepsNothing (r == row.READ) _ _ (k.0, λ r. inl (k.1 r))
       (either KeepsNothing (r == row.DEFFN_MARKED) _ _ (taken me.args s.home t me k)
       (does (asked_of r t h (around me s.home) s.home.lines) h.place me s.own.lines s.home.lines k)))

@@ -14,5 +14,9 @@ pub mod Data
 pub mod Reading
 pub mod ReadingOrder
 pub mod Marked
+pub mod Buffers
+pub mod Lengths
+pub mod Dimensions
+pub mod OnVariables
 pub mod Clearing
 pub mod Plan

@@ -1,6 +1,7 @@
 //! What holds of statements, whatever they are: each law is the contract of a function without a body.
 ghost use Rattle.b2_access.specs.Homes.{FinishesWithin, PlansWithin};
 ghost use Rattle.b2_access.specs.Keeping.{FinishesInPlace, FinishesKeepNone, PlansInPlace, PlansKeepNone};
+ghost use Rattle.b2_stmt.specs.Lengths.{LengthsAreSums};
 ghost use Rattle.b2_stmt.specs.Plan.{finish, plan};
 ghost use Rattle.b2_stmt.specs.ReadingOrder.{ReadsInOrder};
 
@@ -19,6 +20,11 @@ pub fn finishes_stay_within()
 /// until none is left.
 pub fn literals_are_read_in_order()
     ensures { ReadsInOrder }
+{}
+
+/// A length after a name without dimensions, as DIM and COM have it, is worth what the sum at the same bytes is worth.
+pub fn lengths_are_sums()
+    ensures { LengthsAreSums }
 {}
 
 /// A statement that is planned leaves the place of the partition, which moves by its outcome.

@@ -2,7 +2,9 @@
 // the language's rules say, worked out by hand.
 ghost use Rattle.std.specs.Prelude.{◌≤◌};
 
+mod buffers;
 mod clearing;
+mod dimensions;
 mod marked;
 mod reading;
 mod rows;
@@ -20,6 +22,8 @@ use b2_flow::Place;
 use b2_rows::{is_read, row_unit};
 use b2_text::Text;
 use b2_vars::Vars;
+use buffers::{FILLED, TURNED};
+use dimensions::{ARRAYS, COMMON, MADE, REFUSED};
 use rows::{BRANCHES, CALLS, CHOICES, KEPT, LOOPS, ORDER, RECEIVERS};
 use std::alloc::Global;
 use std::test::Fail;
@@ -187,6 +191,42 @@ fn checked(alloc: Global, rows: &[Row]) -> Result<usize, Fail> {
 #[test]
 fn receivers_are_assigned(rt: HostRuntime) -> Result<(), Fail> {
     assert_eq!(rt; checked(rt.alloc(), &RECEIVERS)?, RECEIVERS.len());
+    Ok(())
+}
+
+#[test]
+fn buffers_are_filled(rt: HostRuntime) -> Result<(), Fail> {
+    assert_eq!(rt; checked(rt.alloc(), &FILLED)?, FILLED.len());
+    Ok(())
+}
+
+#[test]
+fn buffers_in_arrays_are_changed(rt: HostRuntime) -> Result<(), Fail> {
+    assert_eq!(rt; checked(rt.alloc(), &ARRAYS)?, ARRAYS.len());
+    Ok(())
+}
+
+#[test]
+fn variables_are_made(rt: HostRuntime) -> Result<(), Fail> {
+    assert_eq!(rt; checked(rt.alloc(), &MADE)?, MADE.len());
+    Ok(())
+}
+
+#[test]
+fn variables_are_refused(rt: HostRuntime) -> Result<(), Fail> {
+    assert_eq!(rt; checked(rt.alloc(), &REFUSED)?, REFUSED.len());
+    Ok(())
+}
+
+#[test]
+fn common_variables_are_made(rt: HostRuntime) -> Result<(), Fail> {
+    assert_eq!(rt; checked(rt.alloc(), &COMMON)?, COMMON.len());
+    Ok(())
+}
+
+#[test]
+fn bits_turn(rt: HostRuntime) -> Result<(), Fail> {
+    assert_eq!(rt; checked(rt.alloc(), &TURNED)?, TURNED.len());
     Ok(())
 }
 
