@@ -1,9 +1,10 @@
 -- The proofs of statements, by what they are about.
 --
 -- GoalUnits: the units that goals name. Framed: frames that are put.
--- Commas: lists with commas. BranchRows, LoopRows, CallRows, CourseRows, ChoiceRows, ClearRows, NumberRows,
--- SideRows, DataRows, ReadRows, ArgumentRows and MarkRows have what the rows of statements say at their bytes, one fact at a time. Assigned: receivers one after the other.
--- Executed: a unit by its row and its tree. HomesKept: which partitions a statement names as homes.
+-- Commas: lists with commas. BranchRows, LoopRows, CallRows, CourseRows, ChoiceRows, ClearRows, NumberRows, SideRows, DataRows,
+-- ReadRows, ArgumentRows and MarkRows have what the rows of statements say at their bytes, one fact at a time. Assigned:
+-- receivers one after the other. Executed: a unit by its row and its tree. HomesKept: which partitions a statement names as
+-- homes. ReadingOrder: READ takes the literals of DATA in their order.
 pub mod GoalUnits
 pub mod Framed
 pub mod Commas
@@ -21,4 +22,5 @@ pub mod ReadRows
 pub mod ArgumentRows
 pub mod MarkRows
 pub mod Executed
+pub mod ReadingOrder
 pub mod HomesKept

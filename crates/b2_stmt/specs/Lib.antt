@@ -12,6 +12,7 @@ pub mod Asked
 pub mod ReceiverLists
 pub mod Data
 pub mod Reading
+pub mod ReadingOrder
 pub mod Marked
 pub mod Clearing
 pub mod Plan
