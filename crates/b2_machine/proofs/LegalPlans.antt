@@ -8,6 +8,7 @@ use Rattle.b2_atom.specs.Tokens.Token.{Coded, Plain, Lined}
 use Rattle.b2_atom.specs.Units.{TreeUnit}
 use Rattle.b2_atom.specs.declared.rows.TheConstants as row
 use Rattle.b2_rows.specs.Following.{tree_units}
+use Rattle.b2_text.specs.Program.{Lines}
 use Rattle.b2_flow.specs.declared.frame.Place.{Place}
 use Rattle.b2_access.specs.Lending.{SeenLent}
 use Rattle.b2_access.specs.Placed.{Statement, statement_at}
@@ -27,7 +28,7 @@ use Rattle.b2_stmt_io.specs.Showing.{shows}
 use Rattle.b2_expr.specs.Scope.{Context}
 use Rattle.b2_machine.specs.Listed.{lists}
 use Rattle.b2_machine.specs.Stays.{IsLegalCourse}
-use Rattle.b2_machine.specs.Statements.{Begun, begun_by, begins, begins_where, builder_of, plan_by}
+use Rattle.b2_machine.specs.Statements.{Begun, begun_by, plan_by}
 use Rattle.b2_machine.specs.declared.statements.Builder.{Builder}
 use Rattle.b2_machine.specs.declared.statements.Builder.TheVariants as builder
 use Rattle.b2_machine.specs.declared.statements.Course.{Course}
@@ -129,13 +130,12 @@ planned_by builder.Control p me s = control_where me.place me s
 planned_by builder.Terminal p me s = terminal_where me.place me s
 planned_by builder.Nobody p me s = tt
 
-courses : (x : Planned) (b : Builder) (p : Place) (me : Private) (home : _) → IsLegalPlan x → IsLegalCourse (begun_by x b p me home).course
+courses : (x : Planned) (b : Builder) (p : Place) (me : Private) (home : Lines) → IsLegalPlan x → IsLegalCourse (begun_by x b p me home).course
 courses (planned.Done o) b p me home h = tt
 courses (planned.Ask a) b p me home h = h
 
-begun_at : (u : Option Statement) (p : Place) (me : Private) (s : SeenLent) → IsLegalCourse (begins_where u p me s).course
-begun_at None p me s = tt
-begun_at (Some u) p me s = courses _ _ p _ _ (planned_by (builder_of u) p me s)
+pub legal_planned : (x : Planning) (b : Builder) (p : Place) (me : Private) (s : SeenLent) → x ≡ plan_by b p me s → IsLegalPlan x.planned
+legal_planned x b p me s is = subst (λ (y : Planning). IsLegalPlan y.planned) (sym is) (planned_by b p me s)
 
-pub legal_course : (c : Course) (me after : Private) (p : Place) (s : SeenLent) → ◌≡◌ {A = Begun} (record { me = after; course = c }) (begins p me s) → IsLegalCourse c
-legal_course c me after p s is = subst (λ (b : Begun). IsLegalCourse b.course) (sym is) (begun_at (statement_at p me.immediate s.home.lines) p me s)
+pub legal_begun : (x : Planned) (b : Builder) (p : Place) (me after : Private) (home : Lines) (c : Course) → IsLegalPlan x → ◌≡◌ {A = Begun} (record { me = after; course = c }) (begun_by x b p me home) → IsLegalCourse c
+legal_begun x b p me after home c h is = subst (λ (y : Begun). IsLegalCourse y.course) (sym is) (courses x b p me home h)

@@ -1,4 +1,6 @@
+pub mod Results
 pub mod UnitCounts
+pub mod TextsKept
 pub mod Turns
 pub mod Kept
 pub mod LegalPlans

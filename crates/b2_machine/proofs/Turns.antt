@@ -1,5 +1,5 @@
 -- A turn by its next step.
-use Rattle.std.proofs.Common.{◌≡◌, ℕ, suc, zero, ◌+◌, ◌-◌, ◌<◌, ◌≤◌, refl, sym, ap, ◌∙◌, arith, Option, Some, None}
+use Rattle.std.proofs.Common.{◌≡◌, ℕ, suc, zero, ◌+◌, ◌-◌, ◌<◌, ◌≤◌, refl, sym, ap, ◌∙◌, arith, Bool, true, false, if◌then◌else◌, Option, Some, None}
 use Rattle.b2_access.specs.Loans.{Loan}
 use Rattle.b2_access.specs.Sharing.{ServingOf}
 use Rattle.b2_access.specs.Store.{StoreState}
@@ -9,6 +9,10 @@ use Rattle.b2_machine.specs.Turn.{TurnEnd, counted_on, ended, turn_from, unless_
 use Rattle.b2_machine.specs.declared.ends.Stepped.{Stepped}
 use Rattle.b2_machine.specs.declared.ends.Why.{Why}
 use Rattle.b2_machine.specs.declared.ends.Why.TheVariants as reason
+
+pub few_on : (b : Bool) (n k i : ℕ) → k ≡ (if b then n + 1 else n) → n ≤ i → k ≤ i + 1
+few_on true n k i is few = omega arith
+few_on false n k i is few = omega arith
 
 module _ {M : Type 0} (store : M → StoreState) (serving : ServingOf M) (lending : Loan M) where
   abbrev pub after_step : ℕ → ℕ → StepEnd M → TurnEnd M

@@ -159,7 +159,6 @@ fn begun(
 }
 
 /// The statement at a place begins, over what is lent.
-#[tactic(auto, using(crate::proofs::LegalPlans::legal_course))]
 pub fn begin_over(
     alloc: Global,
     me: &mut Private,

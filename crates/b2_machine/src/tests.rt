@@ -3,7 +3,7 @@ ghost use Rattle.std.specs.Prelude.{◌≡◌, IfOk, OnOk, IsSome};
 ghost use Rattle.b2_access.specs.Store.{content};
 ghost use Rattle.b2_store.specs.Meaning.{store_of};
 
-use crate::{Turned, Why, turn};
+use crate::{Turned, Why, step, turn};
 use b2_access::{DeviceTable, Object, Private};
 use b2_base::{NoMemory, Part, Term};
 use b2_flow::Frame;
@@ -191,7 +191,7 @@ const COURSES: [Row; 25] = [
 ];
 
 // Statements at the terminal that wait, and special function keys.
-const KEYS: [Row; 10] = [
+const KEYS: [Row; 12] = [
     (
         b"10 INPUT A\r20 PRINT A\rRUN\r\xBE",
         b"READY\n:10 INPUT A\n:20 PRINT A\n:RUN\n? ",
@@ -227,6 +227,18 @@ const KEYS: [Row; 10] = [
         b'R',
     ),
     (
+        b"100 DEFFN'7\r110 PRINT 5\r120 RETURN\r\x87\xBE",
+        b"READY\n:100 DEFFN'7\n:110 PRINT 5\n:120 RETURN\n: 5 \n",
+        14,
+        b'R',
+    ),
+    (
+        b"100 DEFFN'7(A)\r\x87\xBE\xBE",
+        b"READY\n:100 DEFFN'7(A)\n:\nERR P35 AT 100\n:",
+        1,
+        b'N',
+    ),
+    (
         b"10 DEFFN'5\"PRINT 7\"\r\x85\xA5\xC1\r\xBE",
         b"READY\n:10 DEFFN'5\"PRINT 7\"\n:\nREADY\n:\n:",
         4,
@@ -250,6 +262,7 @@ fn store_with(alloc: Global, area: usize) -> Result<Stores, NoMemory>
 }
 
 /// A key at the terminal.
+#[tactic(auto, using(crate::proofs::TextsKept::text_kept))]
 fn strike(store: &mut Stores, key: KeyItem)
     requires own { IsSome (content (store_of store.old) (Object.Text 1)) }
     ensures own { IsSome (content (store_of store.new) (Object.Text 1)) }
@@ -258,6 +271,7 @@ fn strike(store: &mut Stores, key: KeyItem)
 }
 
 /// A partition in front of the terminal.
+#[tactic(auto, using(crate::proofs::TextsKept::text_kept))]
 fn front(store: &mut Stores, part: Part)
     requires own { IsSome (content (store_of store.old) (Object.Text 1)) }
     ensures own { IsSome (content (store_of store.new) (Object.Text 1)) }
@@ -305,6 +319,7 @@ fn letter(why: Why) -> u8 {
 }
 
 /// What a script leaves: the transcript, and how its last turn ended.
+#[derive(Drop)]
 struct Played {
     transcript: Vec<u8>,
     steps: u16,
@@ -464,5 +479,18 @@ fn a_key_without_room_for_its_call(rt: HostRuntime) -> Result<(), Fail> {
     let (me, transcript) = key_on_full_stack(rt.alloc())?;
     assert!(rt; me.place.is_none() && me.last == 4 && me.stack.len() == 200);
     assert_eq!(rt; transcript.as_slice(), b"READY\n:10 DEFFN'5\n:\nERR A04\n:".as_slice());
+    Ok(())
+}
+
+#[test]
+fn a_step_at_a_time(rt: HostRuntime) -> Result<(), Fail> {
+    let alloc = rt.alloc();
+    let mut store = store_with(alloc, 8192)?;
+    let mut me = Private::new(alloc, Part::known(1), Term::known(1), 8192)?;
+    let devices = DeviceTable::new(Vec::new(alloc));
+    let first = step(alloc, &mut me, &mut store, &devices)?;
+    assert!(rt; first.counted && first.why.is_none());
+    let second = step(alloc, &mut me, &mut store, &devices)?;
+    assert!(rt; !second.counted && second.why == Some(Why::NoKeys));
     Ok(())
 }

@@ -39,7 +39,8 @@ pub fn turn<S: Shared>(
     for _ in 0..quota {
         let end = step(alloc, me, s, d)?;
         steps = counted_on(steps, end.counted);
-        match end.why {
+        let why = end.why;
+        match why {
             Some(why) => return Ok(Turned { steps, why }),
             None => {}
         }

@@ -1,7 +1,8 @@
 use Rattle.b2_machine.proofs.Kept.{served_kept}
+use Rattle.b2_machine.proofs.Results.{on_ok}
 use Rattle.b2_machine.proofs.stepping.ask.Goals as goal
 
 pub returns-clause-listed : goal.returns-clause-listed
 returns-clause-listed g c =
     let shared = g.S.Shared in
-    served_kept shared.store shared.serving g.met.S.Shared.keeps_listed c.args.who c.args.access.now (shared.meaning c.args.s) (shared.meaning c.serve.new.s) c.in_ok-serve.result c.in_ok-serve.ensures.served
+    on_ok c.serve.result _ _ (λ x is. served_kept shared.store shared.serving g.met.S.Shared.keeps_listed c.args.who c.args.access.now (shared.meaning c.args.s.now) (shared.meaning c.serve.new.self) x is) c.serve.ensures.served
