@@ -90,7 +90,7 @@ pub record FailsFetch (c : Command) (old new : ShelfSeen) (s : Status) : Type 0 
   pub reached : IsReached c old.files input
   pub fails : FetchFails (name_of c input) (limit_of input) old new s
 
--- when a command ends before its run
+-- when a command ends before its run: by a check, for want of memory, or by the fetch of an input
 abbrev pub Refuses : Command → ShelfSeen → ShelfSeen → Status → Type 0
 Refuses c old new (status.BadBoot check) = FailsBoot c.boot old.files check
 Refuses c old new (status.BadLog line check) = (boot : BootState) × HasBoot c.boot old.files boot × FailsLog c.log old.files boot line check
