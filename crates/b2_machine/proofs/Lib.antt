@@ -8,3 +8,4 @@ pub mod ListRows
 pub mod Listings
 pub mod LocalSteps
 pub mod StepHomes
+pub mod KeptPlace

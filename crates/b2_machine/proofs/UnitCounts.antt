@@ -1,5 +1,5 @@
 -- Lines have at most 255 units, so units are counted by bytes.
-use Rattle.std.proofs.Common.{◌≡◌, ℕ, suc, ◌+◌, ◌<◌, ◌≤◌, ◌==◌, nat_lt, Bool, true, false, List, [], ◌∷◌, length, refl, sym, ap, ◌∙◌, arith, Option, Some, None, if◌then◌else◌}
+use Rattle.std.proofs.Common.{◌≡◌, ℕ, suc, ◌+◌, ◌<◌, ◌≤◌, ◌==◌, nat_lt, Bool, true, false, List, [], ◌∷◌, length, refl, sym, ap, arith, Option, Some, None, if◌then◌else◌}
 use Rattle.std.specs.Prelude.{slice_get}
 use Rattle.std.proofs.lemmas.Bool.Decides.{nat_tests}
 use Rattle.b2_atom.specs.Words.{Text}
@@ -17,7 +17,7 @@ use Rattle.b2_access.specs.Places.{goal_place}
 -- after the last unit that a byte counts there is none
 pub none_after : (home : Lines) (line : Text) (p : Place) → is_line line ≡ true → length (units_of line) ≤ 255 → p.unit ≡ 255
     → goal_place home p (unit_or_next (p.unit + 1) (tree_units line)) ≡ goal_place home p goal.NextLine
-none_after home line p h few is = 
+none_after home line p h few is =
     ap (goal_place home p) (beyond_line line (p.unit + 1) h (grind (arith, nat_tests)))
 
 some_is : {A : Type 0} (x y : A) → Some x ≡ Some y → x ≡ y

@@ -1,5 +1,5 @@
 -- How a step ends: whether it counts, and why the turn ends with it.
-use Rattle.std.specs.Prelude.{Bool, true, false, Option, Some, None}
+use Rattle.std.specs.Prelude.{true, false, Some, None}
 use Rattle.b2_access.specs.declared.accesses.Answer.{Answer}
 use Rattle.b2_access.specs.declared.accesses.Answer.TheVariants as answer
 use Rattle.b2_access.specs.declared.private.Private.{Private}
@@ -21,16 +21,16 @@ abbrev pub ends_turn : Why → Stepped
 ends_turn w = record { counted = true; why = Some w }
 
 -- it doesn't count, and the turn ends
-abbrev pub is_in_vain : Why → Stepped
-is_in_vain w = record { counted = false; why = Some w }
+abbrev pub is_uncounted : Why → Stepped
+is_uncounted w = record { counted = false; why = Some w }
 
 abbrev pub goes_on : Private → Ending
 goes_on me = record { me = me; end = counts }
 
 -- A step that is repeated: where a partition has to be waited for or there are no keys, it doesn't count, and the turn ends.
 abbrev pub repeats : Answer → Stepped
-repeats (answer.Wait q) = is_in_vain (reason.Wait q)
-repeats answer.NoKeys = is_in_vain reason.NoKeys
+repeats (answer.Wait q) = is_uncounted (reason.Wait q)
+repeats answer.NoKeys = is_uncounted reason.NoKeys
 repeats a = counts
 
 abbrev pub again : Answer → Private → Ending

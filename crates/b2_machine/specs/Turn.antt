@@ -1,10 +1,10 @@
 -- A turn: steps up to the first that ends it, or to as many as its quota.
-use Rattle.std.specs.Prelude.{ℕ, suc, zero, ◌+◌, Bool, Option, Some, None, if◌then◌else◌}
+use Rattle.std.specs.Prelude.{ℕ, suc, zero, ◌+◌, Option, Some, None, if◌then◌else◌}
 use Rattle.b2_access.specs.Loans.{Loan}
 use Rattle.b2_access.specs.Sharing.{ServingOf}
 use Rattle.b2_access.specs.Store.{StoreState}
 use Rattle.b2_access.specs.declared.private.Private.{Private}
-use Rattle.b2_machine.specs.Step.{StepEnd, step}
+use Rattle.b2_machine.specs.Step.{step}
 use Rattle.b2_machine.specs.declared.ends.Stepped.{Stepped}
 use Rattle.b2_machine.specs.declared.ends.Turned.{Turned}
 use Rattle.b2_machine.specs.declared.ends.Why.{Why}
@@ -35,8 +35,8 @@ module _ {M : Type 0} (store : M → StoreState) (serving : ServingOf M) (lendin
   turn_from (suc n) me m steps =
       let s = step store serving lending me m in
       unless_ended s.end.why
-        (λ w. ended (counted_on steps s.end) w s.me s.after)
-        (turn_from n s.me s.after (counted_on steps s.end))
+      (λ w. ended (counted_on steps s.end) w s.me s.after)
+      (turn_from n s.me s.after (counted_on steps s.end))
 
   abbrev pub turn : ℕ → Private → M → TurnEnd M
   turn quota me m = turn_from quota me m 0

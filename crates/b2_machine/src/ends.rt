@@ -59,8 +59,8 @@ pub fn ends_turn(why: Why) -> Stepped
 }
 
 /// It doesn't count, and the turn ends.
-fn is_in_vain(why: Why) -> Stepped
-    ensures { result ≡ spec.is_in_vain why }
+fn is_uncounted(why: Why) -> Stepped
+    ensures { result ≡ spec.is_uncounted why }
 {
     Stepped {
         counted: false,
@@ -73,8 +73,8 @@ pub fn repeats(answer: &Answer) -> Stepped
     ensures { result ≡ spec.repeats answer.now }
 {
     match answer {
-        Answer::Wait(q) => is_in_vain(Why::Wait(*q)),
-        Answer::NoKeys => is_in_vain(Why::NoKeys),
+        Answer::Wait(q) => is_uncounted(Why::Wait(*q)),
+        Answer::NoKeys => is_uncounted(Why::NoKeys),
         _ => counts(),
     }
 }

@@ -52,12 +52,7 @@ fn press(alloc: Global, me: &mut Private, own: &Text, n: u8) -> Result<(), NoMem
 }
 
 /// The same over what is lent.
-pub fn press_over(
-    alloc: Global,
-    me: &mut Private,
-    lent: Lent<'_>,
-    n: u8,
-) -> Result<(), NoMemory>
+pub fn press_over(alloc: Global, me: &mut Private, lent: Lent<'_>, n: u8) -> Result<(), NoMemory>
     ensures changed { OnOk result (me.new ≡ spec.pressed n (seen lent.entry).own.lines me.old) }
     ensures part { me.new.part ≡ me.old.part }
 {

@@ -3,7 +3,7 @@ ghost use Rattle.std.specs.Prelude.{◌≡◌, IfOk, OnOk, IsSome};
 ghost use Rattle.b2_access.specs.Store.{content};
 ghost use Rattle.b2_store.specs.Meaning.{store_of};
 
-use crate::{Turned, Why, step, turn};
+use crate::{Why, step, turn};
 use b2_access::{DeviceTable, Object, Private};
 use b2_base::{NoMemory, Part, Term};
 use b2_flow::Frame;
@@ -14,10 +14,15 @@ use std::test::Fail;
 
 // In a script a byte below 80 is a key, and others do what stands here.
 const SPECIAL: u8 = 0x80; // a special function key: its number is added, up to 31
+
 const TURN: u8 = 0xA0; // a turn: its quota is added, up to 31
+
 const HALT: u8 = 0xC0;
+
 const RESET: u8 = 0xC1;
+
 const AWAY: u8 = 0xC2; // partition 2 becomes the front
+
 const BACK: u8 = 0xC3; // partition 1 becomes the front
 
 // A script, what stands on the terminal then, how many steps of the last turn counted, and the first letter of why it ended.
@@ -35,17 +40,42 @@ const RULES: [Row; 26] = [
     (b"\xA1\xC2\r\xBE", b"READY\n:", 0, b'W'),
     (b"\r\xBE", b"READY\n:\n:", 3, b'N'),
     (b"PRINT 2+2\r\xBE", b"READY\n:PRINT 2+2\n 4 \n", 3, b'R'),
-    (b"PRINT 2+2\r\xBE\xBE", b"READY\n:PRINT 2+2\n 4 \n:", 1, b'N'),
+    (
+        b"PRINT 2+2\r\xBE\xBE",
+        b"READY\n:PRINT 2+2\n 4 \n:",
+        1,
+        b'N',
+    ),
     (b"PRINT 2+2\r\xA2", b"READY\n:PRINT 2+2\n", 2, b'Q'),
     (b"PRINT 5;\r\xBE\xBE", b"READY\n:PRINT 5;\n 5 \n:", 1, b'N'),
     (b"PRI\xBENT 5\r\xBE", b"READY\n:PRINT 5\n 5 \n", 2, b'R'),
-    (b"10 PRINT 7\rRUN\r\xBE", b"READY\n:10 PRINT 7\n:RUN\n 7 \n", 7, b'R'),
-    (b"10 END\r10\rLIST\r\xBE\xBE", b"READY\n:10 END\n:10\n:LIST\n:", 1, b'N'),
+    (
+        b"10 PRINT 7\rRUN\r\xBE",
+        b"READY\n:10 PRINT 7\n:RUN\n 7 \n",
+        7,
+        b'R',
+    ),
+    (
+        b"10 END\r10\rLIST\r\xBE\xBE",
+        b"READY\n:10 END\n:10\n:LIST\n:",
+        1,
+        b'N',
+    ),
     // a halt: of a ready partition, in the program, in an immediate line, with output on the line
     (b"\xC0\xBE", b"READY\n:", 1, b'N'),
     (b"\xBE\xC0\xBE", b"READY\n:", 0, b'N'),
-    (b"10 GOTO 10\rRUN\r\xBE", b"READY\n:10 GOTO 10\n:RUN\n", 30, b'Q'),
-    (b"10 GOTO 10\rRUN\r\xBE\xC0\xBE", b"READY\n:10 GOTO 10\n:RUN\n", 1, b'R'),
+    (
+        b"10 GOTO 10\rRUN\r\xBE",
+        b"READY\n:10 GOTO 10\n:RUN\n",
+        30,
+        b'Q',
+    ),
+    (
+        b"10 GOTO 10\rRUN\r\xBE\xC0\xBE",
+        b"READY\n:10 GOTO 10\n:RUN\n",
+        1,
+        b'R',
+    ),
     (
         b"10 PRINT 3;:GOTO 10\rRUN\r\xA8\xC0\xBE\xBE",
         b"READY\n:10 PRINT 3;:GOTO 10\n:RUN\n 3 \nHALT\n:",
@@ -65,7 +95,12 @@ const RULES: [Row; 26] = [
         b'R',
     ),
     // a reset: of a running partition, of a ready one, with a halt, before a numbered line is put, in the middle of a line
-    (b"10 GOTO 10\rRUN\r\xBE\xC1\xBE", b"READY\n:10 GOTO 10\n:RUN\n", 1, b'R'),
+    (
+        b"10 GOTO 10\rRUN\r\xBE\xC1\xBE",
+        b"READY\n:10 GOTO 10\n:RUN\n",
+        1,
+        b'R',
+    ),
     (b"\xC0\xC1\xBE", b"READY\n:", 2, b'N'),
     (
         b"10 END\r\xA2\xC1LIST\r\xBE\xBE",
@@ -82,11 +117,31 @@ const RULES: [Row; 26] = [
 ];
 
 // Errors, and where statements lead.
-const COURSES: [Row; 25] = [
-    (b"PRINT SIN(1)\r\xBE", b"READY\n:PRINT SIN(1)\nERR S27 COL 7\n:", 3, b'N'),
-    (b"10000 END\r\xBE", b"READY\n:10000 END\nERR A07\n:", 3, b'N'),
-    (b"PRINT 1/0\r\xBE\xBE", b"READY\n:PRINT 1/0\nERR C62\n:", 1, b'N'),
-    (b"PRINT 1/0:PRINT 2\r\xBE\xBE", b"READY\n:PRINT 1/0:PRINT 2\nERR C62\n:", 1, b'N'),
+const COURSES: [Row; 28] = [
+    (
+        b"PRINT SIN(1)\r\xBE",
+        b"READY\n:PRINT SIN(1)\nERR S27 COL 7\n:",
+        3,
+        b'N',
+    ),
+    (
+        b"10000 END\r\xBE",
+        b"READY\n:10000 END\nERR A07\n:",
+        3,
+        b'N',
+    ),
+    (
+        b"PRINT 1/0\r\xBE\xBE",
+        b"READY\n:PRINT 1/0\nERR C62\n:",
+        1,
+        b'N',
+    ),
+    (
+        b"PRINT 1/0:PRINT 2\r\xBE\xBE",
+        b"READY\n:PRINT 1/0:PRINT 2\nERR C62\n:",
+        1,
+        b'N',
+    ),
     (
         b"PRINT SIN(1)\rPRINT ERR\r\xBE",
         b"READY\n:PRINT SIN(1)\nERR S27 COL 7\n:PRINT ERR\n 27 \n",
@@ -117,7 +172,12 @@ const COURSES: [Row; 25] = [
         1,
         b'N',
     ),
-    (b"PRINT @A\r\xBE\xBE", b"READY\n:PRINT @A\nERR S27\n:", 1, b'N'),
+    (
+        b"PRINT @A\r\xBE\xBE",
+        b"READY\n:PRINT @A\nERR S27\n:",
+        1,
+        b'N',
+    ),
     (b"RUN\r\xBE\xBE", b"READY\n:RUN\n:", 1, b'N'),
     (
         b"20 print1\r10goto  20\rLIST\r\xBE",
@@ -131,7 +191,12 @@ const COURSES: [Row; 25] = [
         1,
         b'N',
     ),
-    (b"10 LIST\r\xBE", b"READY\n:10 LIST\nERR S26 COL 4\n:", 3, b'N'),
+    (
+        b"10 LIST\r\xBE",
+        b"READY\n:10 LIST\nERR S26 COL 4\n:",
+        3,
+        b'N',
+    ),
     (
         b"10 END\rPRINT 7;:LIST:PRINT 8\r\xBE",
         b"READY\n:10 END\n:PRINT 7;:LIST:PRINT 8\n 7 10 END\n 8 \n",
@@ -143,6 +208,24 @@ const COURSES: [Row; 25] = [
         b"READY\n:A=5\n:10 END\n:CLEAR\nREADY\n:LIST:PRINT A\n 0 \n",
         4,
         b'R',
+    ),
+    (
+        b"A=5\rCLEAR V:PRINT A\r\xBE\xBE",
+        b"READY\n:A=5\n:CLEAR V:PRINT A\n 0 \n",
+        4,
+        b'R',
+    ),
+    (
+        b"A=5\rCLEAR N:PRINT A\r\xBE\xBE",
+        b"READY\n:A=5\n:CLEAR N:PRINT A\n 0 \n",
+        4,
+        b'R',
+    ),
+    (
+        b"10 GOTO 10\rCLEAR P:LIST\r\xBE\xBE",
+        b"READY\n:10 GOTO 10\n:CLEAR P:LIST\n:",
+        1,
+        b'N',
     ),
     (
         b"10 CLEAR P 10:PRINT 1\rRUN\r\xBELIST\r\xBE\xBE",
@@ -180,14 +263,24 @@ const COURSES: [Row; 25] = [
         1,
         b'N',
     ),
-    (b"10 $BREAK:PRINT 1\rRUN\r\xBE", b"READY\n:10 $BREAK:PRINT 1\n:RUN\n", 7, b'B'),
+    (
+        b"10 $BREAK:PRINT 1\rRUN\r\xBE",
+        b"READY\n:10 $BREAK:PRINT 1\n:RUN\n",
+        7,
+        b'B',
+    ),
     (
         b"10 $BREAK:PRINT 1\rRUN\r\xBE\xBE",
         b"READY\n:10 $BREAK:PRINT 1\n:RUN\n 1 \n",
         1,
         b'R',
     ),
-    (b"10 $BREAK\rRUN\r\xBE\xBE", b"READY\n:10 $BREAK\n:RUN\n:", 1, b'N'),
+    (
+        b"10 $BREAK\rRUN\r\xBE\xBE",
+        b"READY\n:10 $BREAK\n:RUN\n:",
+        1,
+        b'N',
+    ),
 ];
 
 // Statements at the terminal that wait, and special function keys.
@@ -204,15 +297,30 @@ const KEYS: [Row; 12] = [
         2,
         b'R',
     ),
-    (b"10 INPUT A\rRUN\r\xBE\xC2\xBE", b"READY\n:10 INPUT A\n:RUN\n? ", 0, b'W'),
+    (
+        b"10 INPUT A\rRUN\r\xBE\xC2\xBE",
+        b"READY\n:10 INPUT A\n:RUN\n? ",
+        0,
+        b'W',
+    ),
     (
         b"10 INPUT A\rRUN\r\xBE\xC0\xBECONTINUE\r\xBE",
         b"READY\n:10 INPUT A\n:RUN\n? \nHALT\n:CONTINUE\n? ",
         4,
         b'N',
     ),
-    (b"10 KEYIN A$\rRUN\r\xBE", b"READY\n:10 KEYIN A$\n:RUN\n", 6, b'N'),
-    (b"10 KEYIN A$\rRUN\r\xBEZ\xBE", b"READY\n:10 KEYIN A$\n:RUN\n", 1, b'R'),
+    (
+        b"10 KEYIN A$\rRUN\r\xBE",
+        b"READY\n:10 KEYIN A$\n:RUN\n",
+        6,
+        b'N',
+    ),
+    (
+        b"10 KEYIN A$\rRUN\r\xBEZ\xBE",
+        b"READY\n:10 KEYIN A$\n:RUN\n",
+        1,
+        b'R',
+    ),
     (
         b"10 KEYIN A$,20,20:PRINT 1\r20 END\rRUN\r\xBE",
         b"READY\n:10 KEYIN A$,20,20:PRINT 1\n:20 END\n:RUN\n 1 \n",
@@ -279,6 +387,34 @@ fn front(store: &mut Stores, part: Part)
     store.set_front(Term::known(1), part);
 }
 
+/// The first letter of why a turn ended.
+fn letter(why: Why) -> u8 {
+    match why {
+        Why::Quota => b'Q',
+        Why::Wait(_) => b'W',
+        Why::NoKeys => b'N',
+        Why::Break => b'B',
+        Why::Ready => b'R',
+    }
+}
+
+/// A turn: how many of its steps counted, and the first letter of why it ended.
+fn take_turn(
+    alloc: Global,
+    me: &mut Private,
+    store: &mut Stores,
+    devices: &DeviceTable,
+    quota: u8,
+) -> Result<(u16, u8), NoMemory>
+    requires part { me.old.part ≡ 1 }
+    requires own { IsSome (content (store_of store.old) (Object.Text 1)) }
+    ensures part { me.new.part ≡ 1 }
+    ensures own { OnOk result (IsSome (content (store_of store.new) (Object.Text 1))) }
+{
+    let turned = turn(alloc, me, store, devices, u16::from(quota))?;
+    Ok((turned.steps, letter(turned.why)))
+}
+
 /// Does what a byte of a script says, and gives how a turn ended.
 fn obey(
     alloc: Global,
@@ -286,7 +422,7 @@ fn obey(
     store: &mut Stores,
     devices: &DeviceTable,
     command: u8,
-) -> Result<Option<Turned>, NoMemory>
+) -> Result<Option<(u16, u8)>, NoMemory>
     requires part { me.old.part ≡ 1 }
     requires own { IsSome (content (store_of store.old) (Object.Text 1)) }
     ensures part { me.new.part ≡ 1 }
@@ -298,24 +434,13 @@ fn obey(
         AWAY => front(store, Part::known(2)),
         BACK => front(store, Part::known(1)),
         TURN..=0xBF => {
-            let turned = turn(alloc, me, store, devices, u16::from(command - TURN))?;
-            return Ok(Some(turned));
+            let ended = take_turn(alloc, me, store, devices, command - TURN)?;
+            return Ok(Some(ended));
         }
         SPECIAL..=0x9F => strike(store, KeyItem::Special(command - SPECIAL)),
         _ => strike(store, KeyItem::Byte(command)),
     }
     Ok(None)
-}
-
-/// The first letter of why a turn ended.
-fn letter(why: Why) -> u8 {
-    match why {
-        Why::Quota => b'Q',
-        Why::Wait(_) => b'W',
-        Why::NoKeys => b'N',
-        Why::Break => b'B',
-        Why::Ready => b'R',
-    }
 }
 
 /// What a script leaves: the transcript, and how its last turn ended.
@@ -333,16 +458,16 @@ fn obey_all(
     store: &mut Stores,
     devices: &DeviceTable,
     script: &[u8],
-) -> Result<Option<Turned>, NoMemory>
+) -> Result<(u16, u8), NoMemory>
     requires part { me.old.part ≡ 1 }
     requires own { IsSome (content (store_of store.old) (Object.Text 1)) }
     ensures part { me.new.part ≡ 1 }
     ensures own { OnOk result (IsSome (content (store_of store.new) (Object.Text 1))) }
 {
-    let mut last = None;
+    let mut last = (0, b'-');
     for command in script {
         match obey(alloc, me, store, devices, *command)? {
-            Some(turned) => last = Some(turned),
+            Some(ended) => last = ended,
             None => {}
         }
     }
@@ -362,10 +487,7 @@ fn play(alloc: Global, area: usize, script: &[u8]) -> Result<Played, Fail> {
     let mut store = store_with(alloc, area)?;
     let mut me = Private::new(alloc, Part::known(1), Term::known(1), 8192)?;
     let devices = DeviceTable::new(Vec::new(alloc));
-    let (steps, why) = match obey_all(alloc, &mut me, &mut store, &devices, script)? {
-        Some(turned) => (turned.steps, letter(turned.why)),
-        None => return Err(Fail::new("no turn")),
-    };
+    let (steps, why) = obey_all(alloc, &mut me, &mut store, &devices, script)?;
     let transcript = shown(alloc, &store)?;
     Ok(Played {
         transcript,
@@ -436,31 +558,20 @@ fn after_script(alloc: Global, script: &[u8]) -> Result<Private, Fail> {
 // A DEFFN' without a literal is typed, then comes a turn to the end of its key's step.
 const CALLED: &[u8] = b"10 DEFFN'5\r\x85\xA5";
 
+/// Whether a partition stands at the DEFFN' of line 10, called without arguments.
+fn is_called(me: &Private) -> bool {
+    let there = match me.place {
+        Some(place) => place.line == Some(10) && place.unit == 0,
+        None => false,
+    };
+    there && me.stack.len() == 1 && me.args.is_some() && me.kept.is_none()
+}
+
 #[test]
 fn a_special_function_key_calls(rt: HostRuntime) -> Result<(), Fail> {
     let me = after_script(rt.alloc(), CALLED)?;
-    match me.place {
-        Some(place) => assert!(rt; place.line == Some(10) && place.unit == 0),
-        None => return Err(Fail::new("it is ready")),
-    }
-    assert_eq!(rt; me.stack.len(), 1);
-    assert!(rt; me.args.is_some() && me.kept.is_none() && me.pending.is_none());
+    assert!(rt; is_called(&me));
     Ok(())
-}
-
-/// Puts calls on a stack up to its limit.
-fn fill_stack(me: &mut Private)
-    ensures part { me.new.part ≡ me.old.part }
-{
-    for _ in 0..200 {
-        let call = Frame::Call {
-            back: None,
-            entered: None,
-        };
-        if me.stack.push(call).is_err() {
-            return;
-        }
-    }
 }
 
 /// The transcript of a key's script with a stack of 200 calls, and the partition after it.
@@ -478,7 +589,10 @@ fn key_on_full_stack(alloc: Global) -> Result<(Private, Vec<u8>), Fail> {
 fn a_key_without_room_for_its_call(rt: HostRuntime) -> Result<(), Fail> {
     let (me, transcript) = key_on_full_stack(rt.alloc())?;
     assert!(rt; me.place.is_none() && me.last == 4 && me.stack.len() == 200);
-    assert_eq!(rt; transcript.as_slice(), b"READY\n:10 DEFFN'5\n:\nERR A04\n:".as_slice());
+    assert_eq!(rt;
+        transcript.as_slice(),
+        b"READY\n:10 DEFFN'5\n:\nERR A04\n:".as_slice()
+    );
     Ok(())
 }
 

@@ -9,3 +9,4 @@ pub mod GroupRuns
 pub mod AloneBoots
 pub mod OwnObjects
 pub mod MarkedTurns
+pub mod KeptPlaces

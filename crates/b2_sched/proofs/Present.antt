@@ -12,11 +12,11 @@ use Rattle.b2_sched.proofs.Numbers.{same_number, other_number}
 use Rattle.b2_sched.specs.Start.{private_row, areas_of}
 use Rattle.b2_sched.specs.World.{ArePresent}
 
-is_it : {A : Type 0} (a b : A) → Some a ≡ Some b → a ≡ b
+pub is_it : {A : Type 0} (a b : A) → Some a ≡ Some b → a ≡ b
 is_it a b e = cc
 
 -- the content of a row that got another one
-put_there : (x me : Private) (o : Option Private) → option_map (λ _. x) o ≡ Some me → x ≡ me
+pub put_there : (x me : Private) (o : Option Private) → option_map (λ _. x) o ≡ Some me → x ≡ me
 put_there x me None e = let clash : false ≡ true = ap (λ (o : Option Private). is_some o) e in cc
 put_there x me (Some y) e = is_it x me e
 

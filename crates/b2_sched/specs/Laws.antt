@@ -1,7 +1,11 @@
 -- What holds of every world, in words of its own.
-use Rattle.std.specs.Prelude.{◌≡◌, ◌≢◌, ℕ, zero, suc, ◌+◌, ◌*◌, ◌^◌, ◌<◌, List, [], ◌∷◌, ◌++◌, is_some, if◌then◌else◌}
+use Rattle.std.specs.Prelude.{◌≡◌, ◌≢◌, ℕ, zero, suc, ◌+◌, ◌*◌, ◌^◌, ◌<◌, List, [], ◌∷◌, ◌++◌, Some, is_some, if◌then◌else◌}
+use Rattle.b2_boot.specs.Boots.{BootState}
 use Rattle.b2_boot.specs.declared.log.Event.{Event}
 use Rattle.b2_boot.specs.declared.log.Event.TheVariants as event
+use Rattle.b2_access.specs.Partition.{KeepsNone}
+use Rattle.b2_access.specs.declared.private.Private.{Private}
+use Rattle.b2_sched.specs.Start.{booted}
 use Rattle.b2_sched.specs.World.{WorldState, Action, Turn, private_of, tallied, actions, does, does_all, happens, ran}
 
 -- the actions of all events, in order
@@ -32,3 +36,7 @@ present w = present_from 1 16 w
 -- in each round every partition that is present has one turn
 abbrev pub CountsTurns : Type 0
 CountsTurns = (n : ℕ) (w : WorldState) → w.turns < 2 ^ 64 → (happens (event.Rounds n) w).turns ≡ tallied w.turns (n * present w)
+
+-- Whatever was run, no partition keeps a place for CONTINUE while its program runs.
+abbrev pub NoPlaceIsKept : Type 0
+NoPlaceIsKept = (b : BootState) (log : List Event) (p : ℕ) (me : Private) → private_of p (ran log (booted b)) ≡ Some me → KeepsNone me

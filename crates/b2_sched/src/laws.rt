@@ -1,7 +1,7 @@
 //! What holds of every world: each law is the contract of a function without a body.
 ghost use Rattle.b2_sched.specs.Groups.{CleanGroupsAreAsAlone, GroupsRelyOnTheirOwn, TurnsChangeTheirOwn};
+ghost use Rattle.b2_sched.specs.Laws.{RunsByActions, LeavesOthers, KeepsPresent, CountsTurns, NoPlaceIsKept};
 ghost use Rattle.b2_sched.specs.Marking.{TurnsMarkTheirSteps};
-ghost use Rattle.b2_sched.specs.Laws.{RunsByActions, LeavesOthers, KeepsPresent, CountsTurns};
 
 /// A run is one list of actions, of which each is a key, a front, a halt, a reset or a turn.
 pub fn law_a_run_is_its_actions()
@@ -21,6 +21,11 @@ pub fn law_the_same_are_present()
 /// In each round every partition that is present has one turn, and no other has one.
 pub fn law_a_round_has_a_turn_of_each()
     ensures { CountsTurns }
+{}
+
+/// Whatever was run, no partition keeps a place for CONTINUE while its program runs.
+pub fn law_no_place_is_kept_while_a_program_runs()
+    ensures { NoPlaceIsKept }
 {}
 
 /// A group of partitions is clean where none of its steps touches what a step of another wrote before. Whatever a world and that
