@@ -1,13 +1,12 @@
 -- What is listed stays so: over an access, over a loan of texts, and over several of them.
 use Rattle.std.proofs.Common.{◌≡◌, ℕ, sym, subst}
-use Rattle.std.specs.Prelude.{IsSome, Option, None}
+use Rattle.std.specs.Prelude.{None}
 use Rattle.b2_access.specs.Loans.{Loan, LoansGlobals}
 use Rattle.b2_access.specs.Sharing.{Gives, KeepsListed, ServingOf}
-use Rattle.b2_access.specs.Store.{StoreState, content}
+use Rattle.b2_access.specs.Store.{StoreState}
 use Rattle.b2_access.specs.declared.accesses.Access.{Access}
 use Rattle.b2_access.specs.declared.accesses.Answer.{Answer}
 use Rattle.b2_access.specs.declared.lending.At.TheVariants as at
-use Rattle.b2_access.specs.declared.objects.Object.{Object}
 use Rattle.b2_machine.specs.Stays.{KeepsAll}
 
 pub same_kept : (s : StoreState) → KeepsAll s s

@@ -6,3 +6,4 @@ pub mod Kept
 pub mod LegalPlans
 pub mod ListRows
 pub mod Listings
+pub mod KeptPlace

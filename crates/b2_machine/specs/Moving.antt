@@ -1,5 +1,5 @@
 -- Where a partition goes on after a statement, by its outcome.
-use Rattle.std.specs.Prelude.{ℕ, ◌+◌, ◌==◌, ◌&&◌, ◌||◌, Bool, true, false, not, List, [], Option, Some, None, is_some, option_map, if◌then◌else◌}
+use Rattle.std.specs.Prelude.{ℕ, ◌+◌, ◌==◌, ◌&&◌, ◌||◌, Bool, false, not, List, [], Option, Some, None, is_some, option_map, if◌then◌else◌}
 use Rattle.b2_base.specs.Codes.{class_of}
 use Rattle.b2_atom.specs.Units.{TreeUnit}
 use Rattle.b2_atom.specs.declared.rows.TheConstants as row

@@ -1,5 +1,5 @@
 -- How a partition becomes ready, and what it then shows.
-use Rattle.std.specs.Prelude.{ℕ, Bool, true, false, not, List, [], ◌∷◌, ◌++◌, filter, Option, Some, None, is_some, if◌then◌else◌}
+use Rattle.std.specs.Prelude.{ℕ, false, not, List, [], ◌∷◌, ◌++◌, filter, Option, Some, None, if◌then◌else◌}
 use Rattle.b2_base.specs.Byte as byte
 use Rattle.b2_flow.specs.Frames.{is_immediate_loop}
 use Rattle.b2_flow.specs.declared.frame.Frame.{Frame}

@@ -1,5 +1,5 @@
 -- What a statement plans and how it finishes, by the crate that builds it.
-use Rattle.std.specs.Prelude.{ℕ, ◌==◌, Option, Some, None, is_some, if◌then◌else◌}
+use Rattle.std.specs.Prelude.{◌==◌, Option, Some, None, is_some, if◌then◌else◌}
 use Rattle.b2_base.specs.declared.codes.TheConstants.{S27_LEFT_OUT}
 use Rattle.b2_atom.specs.Tree.{names_global}
 use Rattle.b2_atom.specs.declared.rows.TheConstants as row

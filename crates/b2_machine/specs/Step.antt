@@ -1,5 +1,5 @@
 -- A step of a partition over a shared store: the first of six rules that applies. It makes at most one access.
-use Rattle.std.specs.Prelude.{true, false, ℕ, Bool, List, [], Option, Some, None, unwrap_or, if◌then◌else◌}
+use Rattle.std.specs.Prelude.{false, ℕ, List, [], Option, Some, None, unwrap_or, if◌then◌else◌}
 use Rattle.b2_flow.specs.declared.frame.Place.{Place}
 use Rattle.b2_text.specs.Program.{TextState}
 use Rattle.b2_access.specs.Lending.{SeenLent}

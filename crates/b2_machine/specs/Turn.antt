@@ -1,10 +1,10 @@
 -- A turn: steps up to the first that ends it, or to as many as its quota.
-use Rattle.std.specs.Prelude.{ℕ, suc, zero, ◌+◌, Bool, Option, Some, None, if◌then◌else◌}
+use Rattle.std.specs.Prelude.{ℕ, suc, zero, ◌+◌, Option, Some, None, if◌then◌else◌}
 use Rattle.b2_access.specs.Loans.{Loan}
 use Rattle.b2_access.specs.Sharing.{ServingOf}
 use Rattle.b2_access.specs.Store.{StoreState}
 use Rattle.b2_access.specs.declared.private.Private.{Private}
-use Rattle.b2_machine.specs.Step.{StepEnd, step}
+use Rattle.b2_machine.specs.Step.{step}
 use Rattle.b2_machine.specs.declared.ends.Stepped.{Stepped}
 use Rattle.b2_machine.specs.declared.ends.Turned.{Turned}
 use Rattle.b2_machine.specs.declared.ends.Why.{Why}

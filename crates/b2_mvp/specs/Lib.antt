@@ -1,4 +1,5 @@
-pub mod Log
-pub mod Run
 pub mod Status
+pub mod Inputs
+pub mod Outputs
 pub mod Top
+pub mod Complete

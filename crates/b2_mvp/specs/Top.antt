@@ -1,197 +1,142 @@
 -- The words of the command line, and when each status comes.
-use Rattle.std.specs.Prelude.{◌≤◌, ◌≡◌, ◌⊎◌, ℕ, ◌<◌, ◌&&◌, nat_eq, nat_le, List, [], ◌∷◌, ◌++◌, length, map, codes, Option, Some, None, IfSome, IsSomeAnd, option_map, if◌then◌else◌}
+use Rattle.std.specs.Prelude.{◌≡◌, ◌⊎◌, ℕ, ◌&&◌, nat_eq, List, [], ◌∷◌, ◌++◌, map, codes, Option, Some, None, option_map, if◌then◌else◌}
 use Rattle.std.specs.Global.{Vec}
-use Rattle.std.specs.FinMap.{get}
 use Rattle.std.specs.Cmp.Lexicographic.{pointwise}
 use Rattle.b2_base.specs.Counts.{Rose}
-use Rattle.b2_base.specs.Files.{Files, IsAbsent, with_file, without_file}
+use Rattle.b2_base.specs.Files.{Files}
 use Rattle.b2_base.specs.Names.{is_file_name}
 use Rattle.b2_base.specs.Outside.{IsPartWritten}
 use Rattle.b2_base.specs.Seen.{ShelfSeen, SinkSeen}
-use Rattle.b2_mvp.specs.declared.log.Event.{Event}
-use Rattle.b2_mvp.specs.declared.log.LogRead.{LogRead}
-use Rattle.b2_mvp.specs.declared.log.LogRead.TheVariants.{Events, Fails}
-use Rattle.b2_mvp.specs.declared.run.World.{World}
+use Rattle.b2_boot.specs.Boots.{BootState}
+use Rattle.b2_boot.specs.declared.log.Event.{Event}
+use Rattle.b2_sched.specs.Start.{booted}
+use Rattle.b2_sched.specs.World.{WorldState, ran}
 use Rattle.b2_mvp.specs.declared.status.Status.{Status}
 use Rattle.b2_mvp.specs.declared.status.Status.TheVariants as status
 use Rattle.b2_mvp.specs.declared.top.Command.{Command}
-use Rattle.b2_mvp.specs.declared.top.Ready.{Ready}
-use Rattle.b2_mvp.specs.Log.{log_of}
-use Rattle.b2_mvp.specs.Run.{run, summary, started_world}
+use Rattle.b2_mvp.specs.Inputs.{boot_limit, log_limit, HasBoot, HasLog, FailsBoot, FailsLog, FetchFails}
+use Rattle.b2_mvp.specs.Outputs.{Output, outputs, with_files, summary, FailsKeep}
 
 -- the bytes of each word
 abbrev pub texts : List (Vec ℕ) → List (List ℕ)
 texts words = map (λ w. w.items) words
 
--- `run LOG OUT`
+-- `run BOOT LOG OUT`
 abbrev pub command_of : List (List ℕ) → Option Command
 command_of [] = None
 command_of (word ∷ []) = None
-command_of (word ∷ log ∷ []) = None
-command_of (word ∷ log ∷ out ∷ []) =
-    if pointwise nat_eq word (codes "run") && is_file_name log && is_file_name out then Some (record { log = log; out = out }) else None
-command_of (word ∷ log ∷ out ∷ more ∷ rest) = None
+command_of (word ∷ boot ∷ []) = None
+command_of (word ∷ boot ∷ log ∷ []) = None
+command_of (word ∷ boot ∷ log ∷ out ∷ []) =
+    if pointwise nat_eq word (codes "run") && is_file_name boot && is_file_name log && is_file_name out
+    then Some (record { boot = boot; log = log; out = out }) else None
+command_of (word ∷ boot ∷ log ∷ out ∷ more ∷ rest) = None
 
--- the name of the terminal's transcript
-abbrev pub transcript_name : Command → List ℕ
-transcript_name c = c.out ++ codes ".t01"
+-- the world after the events, from the one that the boot starts
+abbrev pub world_after : BootState → List Event → WorldState
+world_after boot events = ran events (booted boot)
 
-abbrev pub log_limit : ℕ
-log_limit = 4194304
+-- the words run a boot and a log that pass their checks
+pub record Runs (words : List (List ℕ)) (files : Option Files) : Type 0 where
+  pub command : Command
+  pub boot : BootState
+  pub events : List Event
+  pub is_command : command_of words ≡ Some command
+  pub has_boot : HasBoot command.boot files boot
+  pub has_log : HasLog command.log files boot events
 
--- the world that the events of a log lead to
-abbrev pub ran : List Event → World
-ran events = run events started_world
+-- the world at the end of the run, what is kept of it, and the line that is put
+abbrev pub last_world : {words : List (List ℕ)} {files : Option Files} → Runs words files → WorldState
+last_world r = world_after r.boot r.events
 
--- a told log is these bytes
-abbrev pub IsTold : Option Files → List ℕ → List ℕ → Type 0
-IsTold files name bytes = IfSome files (λ m. get m name ≡ Some bytes)
+abbrev pub kept_of : {words : List (List ℕ)} {files : Option Files} → Runs words files → List Output
+kept_of r = outputs r.command.out (last_world r).store
+
+abbrev pub line_of : {words : List (List ℕ)} {files : Option Files} → Runs words files → List ℕ
+line_of r = summary (last_world r)
 
 -- nothing was kept or put
 pub record IsUntouched (old new : ShelfSeen) (before after : SinkSeen) : Type 0 where
   pub files : new.files ≡ old.files
   pub sink : after ≡ before
 
--- the headline: what was written is what the machine writes under the log
+-- the headline: what was written is what the machine writes, from this boot and under this log
 pub record IsRun (words : List (List ℕ)) (old new : ShelfSeen) (before after : SinkSeen) : Type 0 where
-  pub command : Command
-  pub log : List ℕ
-  pub events : List Event
-  pub is_command : command_of words ≡ Some command
-  pub within : length log ≤ log_limit
-  pub told : IsTold old.files command.log log
-  pub read : log_of log ≡ Events events
-  pub files : new.files ≡ with_file (transcript_name command) (ran events).solo.terminal.transcript old.files
-  pub written : after.written ≡ option_map (λ w. w ++ summary (ran events)) before.written
+  pub run : Runs words old.files
+  pub files : new.files ≡ with_files (kept_of run) old.files
+  pub written : after.written ≡ option_map (λ w. w ++ line_of run) before.written
 
--- an input of the command failed, so nothing was kept or put
-pub record FailsAt (words : List (List ℕ)) (name : List ℕ) (old new : ShelfSeen) (before after : SinkSeen) (cause : Type 0) : Type 0 where
+-- the inputs of a command, in the order in which they are fetched
+pub data Input : Type 0 where
+  TheBoot : Input
+  TheLog : Input
+
+abbrev pub name_of : Command → Input → List ℕ
+name_of c TheBoot = c.boot
+name_of c TheLog = c.log
+
+abbrev pub limit_of : Input → ℕ
+limit_of TheBoot = boot_limit
+limit_of TheLog = log_limit
+
+-- the log is fetched after the boot has passed its checks
+abbrev pub IsReached : Command → Option Files → Input → Type 0
+IsReached c files TheBoot = Unit {0}
+IsReached c files TheLog = (boot : BootState) × HasBoot c.boot files boot
+
+-- the fetch of an input that is reached ends the call
+pub record FailsFetch (c : Command) (old new : ShelfSeen) (s : Status) : Type 0 where
+  pub input : Input
+  pub reached : IsReached c old.files input
+  pub fails : FetchFails (name_of c input) (limit_of input) old new s
+
+-- when a command ends before its run: by a check, for want of memory, or by the fetch of an input
+abbrev pub Refuses : Command → ShelfSeen → ShelfSeen → Status → Type 0
+Refuses c old new (status.BadBoot check) = FailsBoot c.boot old.files check
+Refuses c old new (status.BadLog line check) = (boot : BootState) × HasBoot c.boot old.files boot × FailsLog c.log old.files boot line check
+Refuses c old new status.NoMemory = Unit {0}
+Refuses c old new s = FailsFetch c old new s
+
+-- a command ended before its run, so nothing was kept or put
+pub record Stops (words : List (List ℕ)) (old new : ShelfSeen) (before after : SinkSeen) (s : Status) : Type 0 where
   pub command : Command
   pub is_command : command_of words ≡ Some command
-  pub input : name ≡ command.log
-  pub cause_is : cause
+  pub refuses : Refuses command old new s
   pub untouched : IsUntouched old new before after
 
-pub record IsUntouchedCommand (words : List (List ℕ)) (old new : ShelfSeen) (before after : SinkSeen) : Type 0 where
-  pub command : Command
-  pub is_command : command_of words ≡ Some command
-  pub untouched : IsUntouched old new before after
-
--- the log was read and fails a check
-pub record IsBadLog (words : List (List ℕ)) (line check : ℕ) (old new : ShelfSeen) (before after : SinkSeen) : Type 0 where
-  pub command : Command
-  pub log : List ℕ
-  pub is_command : command_of words ≡ Some command
-  pub within : length log ≤ log_limit
-  pub told : IsTold old.files command.log log
-  pub read : log_of log ≡ Fails line check
-  pub untouched : IsUntouched old new before after
-
--- the transcript failed, and nothing was put; or the line did, and the transcript was kept
-abbrev pub FailsOutput : List ℕ → List ℕ → List ℕ → ShelfSeen → ShelfSeen → SinkSeen → SinkSeen → List ℕ → Type 0 → Type 0 → Type 0
-FailsOutput name text line old new before after at shelf_cause sink_cause =
-    ((at ≡ name) × shelf_cause × (without_file name new.files ≡ without_file name old.files) × (after ≡ before))
-    ⊎ ((at ≡ []) × sink_cause × (new.files ≡ with_file name text old.files) × IsPartWritten before.written after.written line)
+-- a keep failed, and nothing was put; or the line did, which has the empty name, and all was kept
+abbrev pub FailsOutput : List Output → List ℕ → ShelfSeen → ShelfSeen → SinkSeen → SinkSeen → List ℕ → Type 0 → Type 0 → Type 0
+FailsOutput all line old new before after at shelf_cause sink_cause =
+    (FailsKeep all at old.files new.files × shelf_cause × (after ≡ before))
+    ⊎ ((at ≡ []) × sink_cause × (new.files ≡ with_files all old.files) × IsPartWritten before.written after.written line)
 
 -- a keep or the put of a run failed
-pub record FailsKeep (words : List (List ℕ)) (name : List ℕ) (old new : ShelfSeen) (before after : SinkSeen) (shelf_cause sink_cause : Type 0) : Type 0 where
-  pub command : Command
-  pub log : List ℕ
-  pub events : List Event
-  pub is_command : command_of words ≡ Some command
-  pub within : length log ≤ log_limit
-  pub told : IsTold old.files command.log log
-  pub read : log_of log ≡ Events events
-  pub left : FailsOutput (transcript_name command) (ran events).solo.terminal.transcript (summary (ran events)) old new before after name shelf_cause sink_cause
+pub record IsCutOff (words : List (List ℕ)) (at : List ℕ) (old new : ShelfSeen) (before after : SinkSeen) (shelf_cause sink_cause : Type 0) : Type 0 where
+  pub run : Runs words old.files
+  pub left : FailsOutput (kept_of run) (line_of run) old new before after at shelf_cause sink_cause
 
 -- when each status comes, over the words, the shelf and the sink before and after
 abbrev pub Comes : List (List ℕ) → ShelfSeen → ShelfSeen → SinkSeen → SinkSeen → Status → Type 0
 Comes words old new before after status.Ok = IsRun words old new before after
 Comes words old new before after status.Usage = (command_of words ≡ None) × (new ≡ old) × (after ≡ before)
-Comes words old new before after (status.Missing name) = FailsAt words name old new before after (Rose old.misses new.misses × IsAbsent old.files name)
-Comes words old new before after (status.ReadFault name) = FailsAt words name old new before after (Rose old.faults new.faults)
-Comes words old new before after (status.TooLong name limit) = FailsAt words name old new before after
-    ((limit ≡ log_limit) × Rose old.longs new.longs × IfSome old.files (λ m. IsSomeAnd (get m name) (λ file. limit < length file)))
-Comes words old new before after (status.BadLog line check) = IsBadLog words line check old new before after
-Comes words old new before after (status.WriteFault name) = FailsKeep words name old new before after (Rose old.faults new.faults) (Rose before.faults after.faults)
-Comes words old new before after status.NoMemory = IsUntouchedCommand words old new before after
-Comes words old new before after (status.KeepNoMemory name) = FailsKeep words name old new before after (Unit {0}) (Unit {0})
-
--- when the fetch of an input ends the call
-abbrev pub FetchFails : List ℕ → ShelfSeen → ShelfSeen → Status → Type 0
-FetchFails input old new status.Ok = ⊥
-FetchFails input old new status.Usage = ⊥
-FetchFails input old new (status.Missing name) = (name ≡ input) × (Rose old.misses new.misses × IsAbsent old.files name)
-FetchFails input old new (status.ReadFault name) = (name ≡ input) × Rose old.faults new.faults
-FetchFails input old new (status.TooLong name limit) = (name ≡ input) ×
-    ((limit ≡ log_limit) × Rose old.longs new.longs × IfSome old.files (λ m. IsSomeAnd (get m name) (λ file. limit < length file)))
-FetchFails input old new (status.BadLog line check) = ⊥
-FetchFails input old new (status.WriteFault name) = ⊥
-FetchFails input old new status.NoMemory = Unit {0}
-FetchFails input old new (status.KeepNoMemory name) = ⊥
-
--- the run of a log, and its line
-pub record IsRead (log : List ℕ) (ready : Ready) : Type 0 where
-  pub events : List Event
-  pub read : log_of log ≡ Events events
-  pub world : ready.world ≡ ran events
-  pub line : ready.line.items ≡ summary (ran events)
-
-abbrev pub CannotRun : List ℕ → Status → Type 0
-CannotRun log status.Ok = ⊥
-CannotRun log status.Usage = ⊥
-CannotRun log (status.Missing name) = ⊥
-CannotRun log (status.ReadFault name) = ⊥
-CannotRun log (status.TooLong name limit) = ⊥
-CannotRun log (status.BadLog line check) = log_of log ≡ Fails line check
-CannotRun log (status.WriteFault name) = ⊥
-CannotRun log status.NoMemory = Unit {0}
-CannotRun log (status.KeepNoMemory name) = ⊥
+Comes words old new before after (status.Missing name) = Stops words old new before after (status.Missing name)
+Comes words old new before after (status.ReadFault name) = Stops words old new before after (status.ReadFault name)
+Comes words old new before after (status.TooLong name limit) = Stops words old new before after (status.TooLong name limit)
+Comes words old new before after (status.BadBoot check) = Stops words old new before after (status.BadBoot check)
+Comes words old new before after (status.BadLog line check) = Stops words old new before after (status.BadLog line check)
+Comes words old new before after (status.WriteFault name) = IsCutOff words name old new before after (Rose old.faults new.faults) (Rose before.faults after.faults)
+Comes words old new before after status.NoMemory = Stops words old new before after status.NoMemory
+Comes words old new before after (status.KeepNoMemory name) = IsCutOff words name old new before after (Unit {0}) (Unit {0})
 
 -- how the outputs went
-abbrev pub Delivers : List ℕ → List ℕ → List ℕ → ShelfSeen → ShelfSeen → SinkSeen → SinkSeen → Status → Type 0
-Delivers name text line old new before after status.Ok = (new.files ≡ with_file name text old.files) × (after.written ≡ option_map (λ w. w ++ line) before.written)
-Delivers name text line old new before after status.Usage = ⊥
-Delivers name text line old new before after (status.Missing at) = ⊥
-Delivers name text line old new before after (status.ReadFault at) = ⊥
-Delivers name text line old new before after (status.TooLong at limit) = ⊥
-Delivers name text line old new before after (status.BadLog at check) = ⊥
-Delivers name text line old new before after (status.WriteFault at) = FailsOutput name text line old new before after at (Rose old.faults new.faults) (Rose before.faults after.faults)
-Delivers name text line old new before after status.NoMemory = ⊥
-Delivers name text line old new before after (status.KeepNoMemory at) = FailsOutput name text line old new before after at (Unit {0}) (Unit {0})
-
--- what is to be answered where the shelf tells these files
-pub data Expected : Type 0 where
-  NoCommand : Expected
-  IsMissing : List ℕ → Expected
-  IsLong : List ℕ → Expected
-  FailsCheck : ℕ → ℕ → Expected
-  Ends : Command → World → Expected
-
-abbrev pub by_log : Command → LogRead → Expected
-by_log c (Events events) = Ends c (ran events)
-by_log c (Fails line check) = FailsCheck line check
-
-abbrev pub by_file : Command → Option (List ℕ) → Expected
-by_file c None = IsMissing c.log
-by_file c (Some log) = if nat_le (length log) log_limit then by_log c (log_of log) else IsLong c.log
-
-abbrev pub by_command : Files → Option Command → Expected
-by_command files None = NoCommand
-by_command files (Some c) = by_file c (get files c.log)
-
-abbrev pub expected : List (List ℕ) → Files → Expected
-expected words files = by_command files (command_of words)
-
--- a status that answers it, unless memory fails
-abbrev pub Answers : Expected → Status → Type 0
-Answers NoCommand s = s ≡ status.Usage
-Answers (IsMissing name) s = (s ≡ status.Missing name) ⊎ (s ≡ status.NoMemory)
-Answers (IsLong name) s = (s ≡ status.TooLong name log_limit) ⊎ (s ≡ status.NoMemory)
-Answers (FailsCheck line check) s = (s ≡ status.BadLog line check) ⊎ (s ≡ status.NoMemory)
-Answers (Ends c world) s = (s ≡ status.Ok) ⊎ (s ≡ status.NoMemory) ⊎ ((name : List ℕ) × (s ≡ status.KeepNoMemory name))
-
--- where the files are told and nothing failed, the answer is the expected one
-abbrev pub IsComplete : List (List ℕ) → ShelfSeen → ShelfSeen → SinkSeen → SinkSeen → Status → Type 0
-IsComplete words old new before after s =
-    IfSome old.files (λ m. (Rose old.faults new.faults → ⊥) → (Rose before.faults after.faults → ⊥) → Answers (expected words m) s)
+abbrev pub Delivers : List Output → List ℕ → ShelfSeen → ShelfSeen → SinkSeen → SinkSeen → Status → Type 0
+Delivers all line old new before after status.Ok = (new.files ≡ with_files all old.files) × (after.written ≡ option_map (λ w. w ++ line) before.written)
+Delivers all line old new before after status.Usage = ⊥
+Delivers all line old new before after (status.Missing at) = ⊥
+Delivers all line old new before after (status.ReadFault at) = ⊥
+Delivers all line old new before after (status.TooLong at limit) = ⊥
+Delivers all line old new before after (status.BadBoot check) = ⊥
+Delivers all line old new before after (status.BadLog at check) = ⊥
+Delivers all line old new before after (status.WriteFault at) = FailsOutput all line old new before after at (Rose old.faults new.faults) (Rose before.faults after.faults)
+Delivers all line old new before after status.NoMemory = ⊥
+Delivers all line old new before after (status.KeepNoMemory at) = FailsOutput all line old new before after at (Unit {0}) (Unit {0})

@@ -1,16 +1,17 @@
-//! The machine as a program: `b2_mvp run LOG OUT`.
+//! The machine as a program: `b2_mvp run BOOT LOG OUT`.
 //!
-//! It reads a log of keystrokes and turns, runs one built-in partition at one terminal, writes the terminal's transcript
-//! to `OUT.t01` and a summary line to standard output. Stands on `b2_base` for the outside and on `b2_machine` for the
-//! machine.
+//! It reads a boot file and a log of keystrokes, halts and turns, runs the machine that the boot starts under that log,
+//! writes the transcript of each terminal to a file and a summary line to standard output. Stands on `b2_base` for the
+//! outside, on `b2_boot` for what the two inputs say, and on `b2_sched` for the machine.
 //!
-//! The main promise is the contract of `top::mvp`: whatever the words, the log and the outside, each status comes by its
-//! cause, and where the status is `Ok`, what was written is what the machine defined in `specs/` writes under this log.
-//! The definitions: `Log` what a log says, `Run` what its events do, `Status` the statuses, `Top` when each comes.
+//! The main promise is the contract of `top::mvp`: whatever the words, the boot, the log and the outside, each status comes
+//! by its cause, and where the status is `Ok`, what was written is what the machine defined in `b2_sched` writes from this
+//! boot and under this log. The definitions: `Inputs` what the inputs say and how their fetches end, `Outputs` what is
+//! written, `Status` the statuses, `Top` when each comes, `Complete` what is to be answered where nothing fails.
 #![tactic(auto)]
 
-mod log;
-mod run;
+mod inputs;
+mod outputs;
 mod status;
 #[cfg(test)]
 mod tests;

@@ -19,6 +19,8 @@ pub enum Status {
     ReadFault(FileName),
     /// An input has more bytes than its limit.
     TooLong(FileName, u32),
+    /// The first check that the boot file fails.
+    BadBoot(u8),
     /// The first line of the log that fails a check, from 1, and its first check.
     BadLog(u32, u8),
     /// Writing an output failed; the name is empty for the summary.
@@ -40,6 +42,7 @@ impl Status {
             Status::Missing(_) => 2,
             Status::ReadFault(_) => 3,
             Status::TooLong(_, _) => 9,
+            Status::BadBoot(_) => 4,
             Status::BadLog(_, _) => 5,
             Status::WriteFault(_) => 7,
             Status::NoMemory => 8,
@@ -60,6 +63,11 @@ impl Status {
                 let mut line = named(b"too long ", name);
                 line.add(b" ");
                 add_number(&mut line, *limit);
+                line
+            }
+            Status::BadBoot(check) => {
+                let mut line = text(b"bad boot ");
+                add_number(&mut line, u32::from(*check));
                 line
             }
             Status::BadLog(number, check) => {

@@ -96,7 +96,7 @@ pub number_rest : (t : Text) → is_part row.DATUM t ≡ true → (first t == by
 number_rest t ok is = let n = numbered t ok is in ReadAs.rest n ∙ (stands_of row.NUMBER_DATUM number_items t number_row (ReadAs.part n)).2
 
 -- further literals
-comma_row : IsComma row.COMMA_DATUM row.DATUM S13_SEPARATOR
+pub comma_row : IsComma row.COMMA_DATUM row.DATUM S13_SEPARATOR
 unfolding row_items
 comma_row = refl
 

@@ -14,6 +14,7 @@ use Rattle.b2_base.specs.declared.codes.TheConstants.{S26_PROGRAM_ONLY}
 use Rattle.b2_access.specs.declared.planned.Outcome.TheVariants as outcome
 use Rattle.b2_stmt.specs.Around.{around}
 use Rattle.b2_stmt.specs.Asked.{Here, asked_of, carried}
+use Rattle.b2_stmt.specs.OnVariables.{is_on_variables}
 use Rattle.b2_access.specs.declared.accesses.Access.{Access}
 use Rattle.b2_stmt.specs.Clearing.{access_of}
 use Rattle.b2_stmt.specs.Plan.{allowed, by_access, course, course_at, course_in, course_of, ended_of, is_refused, line_named, plan}
@@ -43,11 +44,11 @@ otherwise b x y is = ap (λ (c : Bool). if c then x else y) is
 
 -- rows that change the private state while they are read
 abbrev pub IsAsked : ℕ → Type 0
-IsAsked r = ((r == row.ASSIGNMENT) ≡ false) × ((r == row.READ) ≡ false) × ((r == row.DEFFN_MARKED) ≡ false)
+IsAsked r = (is_on_variables r ≡ false) × ((r == row.READ) ≡ false) × ((r == row.DEFFN_MARKED) ≡ false)
 
 asked_there : (r : ℕ) (t : Trees) (h : Here) (me : Private) (s : SeenLent) → IsAsked r
     → ended_of r t h me s ≡ carried (asked_of r t h (around me s.home) s.home.lines) h.place me s.own.lines s.home.lines
-asked_there r t h me s other = otherwise (r == row.ASSIGNMENT) _ _ other.0 ∙ otherwise (r == row.READ) _ _ other.1 ∙ otherwise (r == row.DEFFN_MARKED) _ _ other.2
+asked_there r t h me s other = otherwise (is_on_variables r) _ _ other.0 ∙ otherwise (r == row.READ) _ _ other.1 ∙ otherwise (r == row.DEFFN_MARKED) _ _ other.2
 
 -- a DEFFN' is no statement of an immediate line
 second_of : (a b : Bool) → (a || b) ≡ false → b ≡ false

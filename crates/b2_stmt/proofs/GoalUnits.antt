@@ -16,7 +16,7 @@ use Rattle.b2_rows.specs.declared.following.Goal.TheVariants as goal
 use Rattle.b2_rows.proofs.LineTrees.{count_is}
 use Rattle.b2_access.specs.Places.{IsUnit}
 
-few : (line : Text) → is_line line ≡ true → length (tree_units line) ≤ 255
+pub few : (line : Text) → is_line line ≡ true → length (tree_units line) ≤ 255
 few line h = let e = count_is line h in let f = few_units line h in omega (arith, e, f)
 
 unit_by : (b : Bool) (k n : ℕ) → nat_lt k n ≡ b → n ≤ 255 → IsUnit (if b then goal.Unit k else goal.NextLine)

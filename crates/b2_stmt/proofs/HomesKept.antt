@@ -39,7 +39,7 @@ use Rattle.b2_stmt.specs.Around.{around}
 use Rattle.b2_access.specs.Partition.{setting_of}
 use Rattle.b2_stmt.specs.Asked.{Here, asked_of, asks_choice, asks_loop, asks_mark, body_place, carried, chosen, place_after, still}
 use Rattle.b2_stmt.specs.Arguments.{arguments, operands_of}
-use Rattle.b2_stmt.specs.Assignments.{assigns}
+use Rattle.b2_stmt.specs.OnVariables.{is_on_variables, on_variables}
 use Rattle.b2_stmt.specs.Marked.{calls_mark, mark_in, mark_place, number_called, parameters_of, place_in, takes, takes_args}
 use Rattle.b2_stmt.specs.Reading.{reads}
 use Rattle.b2_stmt.specs.Branches.{goto_goal, if_goal, passed_function}
@@ -376,8 +376,8 @@ module _ (among : ℕ → Bool) where
   ended_in : (r : ℕ) (t : Trees) (h : Here) (me : Private) (s : SeenLent) → among h.place.home ≡ true → Within me → EndedIn (ended_of r t h me s)
   unfolding EndedIn
   ended_in r t h me s k w =
-      either EndedIn (r == row.ASSIGNMENT) _ _
-      (record { part = w.part; place = w.place; kept = w.kept; frames = w.frames }, next_in (assigns (setting_of me) s.home t me.vars).code)
+      either EndedIn (is_on_variables r) _ _
+      (record { part = w.part; place = w.place; kept = w.kept; frames = w.frames }, next_in (on_variables r (setting_of me) s.home t me.vars).code)
       (either EndedIn (r == row.READ) _ _
       (record { part = w.part; place = w.place; kept = w.kept; frames = w.frames }, next_in (reads (setting_of me) s.home s.own.lines t me.vars me.next_data).code)
       (either EndedIn (r == row.DEFFN_MARKED) _ _ (args_in me.args s.home t me w)

@@ -12,6 +12,11 @@ pub mod Asked
 pub mod ReceiverLists
 pub mod Data
 pub mod Reading
+pub mod ReadingOrder
 pub mod Marked
+pub mod Buffers
+pub mod Lengths
+pub mod Dimensions
+pub mod OnVariables
 pub mod Clearing
 pub mod Plan

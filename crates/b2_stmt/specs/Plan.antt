@@ -16,8 +16,8 @@ use Rattle.b2_access.specs.Lending.{SeenLent}
 use Rattle.b2_stmt.specs.Around.{around}
 use Rattle.b2_access.specs.Partition.{setting_of}
 use Rattle.b2_stmt.specs.Asked.{Here, asked_of, carried}
-use Rattle.b2_stmt.specs.Assignments.{assigns}
 use Rattle.b2_stmt.specs.Clearing.{access_of, finishes}
+use Rattle.b2_stmt.specs.OnVariables.{is_on_variables, on_variables}
 use Rattle.b2_stmt.specs.Marked.{takes_args}
 use Rattle.b2_stmt.specs.Reading.{reads, with_read}
 use Rattle.b2_access.specs.Planning.{Ended, Finishing, Planning, asks, done, finished, goes_or, stays}
@@ -41,7 +41,7 @@ with_assigned a me = record { me = record me { vars = a.vars }; outcome = goes_o
 -- a statement that asks for no access, by its row and its tree
 abbrev pub ended_of : ℕ → Trees → Here → Private → SeenLent → Ended
 ended_of r t h me s =
-    if r == row.ASSIGNMENT then with_assigned (assigns (setting_of me) s.home t me.vars) me
+    if is_on_variables r then with_assigned (on_variables r (setting_of me) s.home t me.vars) me
     else (if r == row.READ then with_read (reads (setting_of me) s.home s.own.lines t me.vars me.next_data) me
     else (if r == row.DEFFN_MARKED then takes_args me.args s.home t me
     else carried (asked_of r t h (around me s.home) s.home.lines) h.place me s.own.lines s.home.lines))
@@ -90,3 +90,4 @@ is_built r =
     || r == row.SELECT || r == row.SELECT_NO_ROUND || r == row.RUN || r == row.CONTINUE || r == row.RESTORE || r == row.CLEAR_V || r == row.CLEAR_N
     || r == row.IF || r == row.GOTO || r == row.ELSE || r == row.ERROR || r == row.END || r == row.REMARK || r == row.IMAGE_LINE || r == row.DATA
     || r == row.DEFFN || r == row.BREAK || r == row.CLEAR || r == row.CLEAR_P || r == row.ON || r == row.DEFFN_MARKED || r == row.READ || r == row.GOSUB_MARKED
+    || r == row.DIM || r == row.INIT || r == row.ROTATE

@@ -6,9 +6,9 @@ ghost use Rattle.b2_access.specs.Lending.{globals_lent, seen};
 ghost use Rattle.b2_stmt.specs.Plan as spec;
 
 use crate::asked::{ask, carry_out};
-use crate::assignments::assign;
 use crate::clearing::access_of;
 use crate::marked::take_args;
+use crate::on_variables::{change_variables, is_on_variables};
 use crate::reading::read;
 use b2_access::{DeviceTable, Lent, Outcome, Planned, Private, failed, goes_or, setting_of};
 use b2_atom::rows;
@@ -53,6 +53,9 @@ pub fn is_built(row: u16) -> bool
             | rows::CLEAR_P
             | rows::ON
             | rows::DEFFN_MARKED
+            | rows::DIM
+            | rows::INIT
+            | rows::ROTATE
             | rows::READ
             | rows::GOSUB_MARKED
     )
@@ -105,8 +108,8 @@ fn execute_program(
     if is_refused(unit.row, true) {
         return Ok(Planned::Done(failed(S26_PROGRAM_ONLY)));
     }
-    if unit.row == rows::ASSIGNMENT {
-        let code = assign(alloc, &mut me.vars, &setting, home, unit.bytes)?;
+    if is_on_variables(unit.row) {
+        let code = change_variables(alloc, &mut me.vars, &setting, home, unit.row, unit.bytes)?;
         return Ok(Planned::Done(goes_or(Outcome::Next, code)));
     }
     if unit.row == rows::READ {
@@ -153,8 +156,8 @@ fn execute_immediate(
     if is_refused(unit.row, false) {
         return Ok(Planned::Done(failed(S26_PROGRAM_ONLY)));
     }
-    if unit.row == rows::ASSIGNMENT {
-        let code = assign(alloc, &mut me.vars, &setting, home, unit.bytes)?;
+    if is_on_variables(unit.row) {
+        let code = change_variables(alloc, &mut me.vars, &setting, home, unit.row, unit.bytes)?;
         return Ok(Planned::Done(goes_or(Outcome::Next, code)));
     }
     if unit.row == rows::READ {

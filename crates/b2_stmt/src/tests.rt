@@ -2,7 +2,9 @@
 // the language's rules say, worked out by hand.
 ghost use Rattle.std.specs.Prelude.{◌≤◌};
 
+mod buffers;
 mod clearing;
+mod dimensions;
 mod marked;
 mod reading;
 mod rows;
@@ -20,6 +22,8 @@ use b2_flow::Place;
 use b2_rows::{is_read, row_unit};
 use b2_text::Text;
 use b2_vars::Vars;
+use buffers::{FILLED, TURNED};
+use dimensions::{ARRAYS, COMMON, MADE, REFUSED};
 use rows::{BRANCHES, CALLS, CHOICES, KEPT, LOOPS, ORDER, RECEIVERS};
 use std::alloc::Global;
 use std::test::Fail;
@@ -77,13 +81,13 @@ fn moved(me: &Private, text: &Text, place: Place) -> Option<Place> {
     }
 }
 
-/// What the statement at the place of a partition plans, whose own text is that of its home.
-fn planned(alloc: Global, me: &mut Private, text: &Text) -> Result<Outcome, Fail> {
+/// What the statement at the place of a partition plans, by its own text and that of its home.
+fn planned_of(alloc: Global, me: &mut Private, own: &Text, home: &Text) -> Result<Outcome, Fail> {
     let devices = DeviceTable::new(Vec::new(alloc));
     let mut spare = Vars::new(alloc, 64)?;
     let mut lent = Lent {
-        own: text,
-        home: text,
+        own,
+        home,
         globals: &mut spare,
         found: false,
     };
@@ -95,7 +99,7 @@ fn planned(alloc: Global, me: &mut Private, text: &Text) -> Result<Outcome, Fail
 
 /// One step: none where it goes on, and else the code with which it ends, or 0.
 fn step(alloc: Global, me: &mut Private, text: &Text, place: Place) -> Result<Option<u8>, Fail> {
-    match planned(alloc, me, text)? {
+    match planned_of(alloc, me, text, text)? {
         Outcome::Next | Outcome::Break => {
             me.place = moved(me, text, place);
             Ok(None)
@@ -187,6 +191,42 @@ fn checked(alloc: Global, rows: &[Row]) -> Result<usize, Fail> {
 #[test]
 fn receivers_are_assigned(rt: HostRuntime) -> Result<(), Fail> {
     assert_eq!(rt; checked(rt.alloc(), &RECEIVERS)?, RECEIVERS.len());
+    Ok(())
+}
+
+#[test]
+fn buffers_are_filled(rt: HostRuntime) -> Result<(), Fail> {
+    assert_eq!(rt; checked(rt.alloc(), &FILLED)?, FILLED.len());
+    Ok(())
+}
+
+#[test]
+fn buffers_in_arrays_are_changed(rt: HostRuntime) -> Result<(), Fail> {
+    assert_eq!(rt; checked(rt.alloc(), &ARRAYS)?, ARRAYS.len());
+    Ok(())
+}
+
+#[test]
+fn variables_are_made(rt: HostRuntime) -> Result<(), Fail> {
+    assert_eq!(rt; checked(rt.alloc(), &MADE)?, MADE.len());
+    Ok(())
+}
+
+#[test]
+fn variables_are_refused(rt: HostRuntime) -> Result<(), Fail> {
+    assert_eq!(rt; checked(rt.alloc(), &REFUSED)?, REFUSED.len());
+    Ok(())
+}
+
+#[test]
+fn common_variables_are_made(rt: HostRuntime) -> Result<(), Fail> {
+    assert_eq!(rt; checked(rt.alloc(), &COMMON)?, COMMON.len());
+    Ok(())
+}
+
+#[test]
+fn bits_turn(rt: HostRuntime) -> Result<(), Fail> {
+    assert_eq!(rt; checked(rt.alloc(), &TURNED)?, TURNED.len());
     Ok(())
 }
 

@@ -16,4 +16,5 @@ mod start;
 mod stores;
 
 pub use boot::StoreBoot;
+pub use rows::{Numbered, Rows};
 pub use stores::Stores;

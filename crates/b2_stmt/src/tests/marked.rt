@@ -1,12 +1,9 @@
 // GOSUB' and DEFFN'.
-use super::{Row, begun, checked, program_of};
-use crate::plan;
-use b2_access::{DeviceTable, Lent, Outcome, Planned, Private};
+use super::{Row, begun, checked, planned_of, program_of};
+use b2_access::{Outcome, Private};
 use b2_base::{Code, Part};
 use b2_dec::{Bytes, Dec, Value, ValueList};
 use b2_flow::Place;
-use b2_text::Text;
-use b2_vars::Vars;
 use std::alloc::Global;
 use std::test::Fail;
 
@@ -52,39 +49,20 @@ fn marked_subroutines_are_called(rt: HostRuntime) -> Result<(), Fail> {
     Ok(())
 }
 
-/// What the statement at the place of a partition plans.
-fn planned(alloc: Global, me: &mut Private, own: &Text, home: &Text) -> Result<Outcome, Fail> {
-    let devices = DeviceTable::new(Vec::new(alloc));
-    let mut spare = Vars::new(alloc, 64)?;
-    let mut lent = Lent {
-        own,
-        home,
-        globals: &mut spare,
-        found: false,
-    };
-    match plan(alloc, me, &mut lent, &devices)? {
-        Planned::Done(outcome) => Ok(outcome),
-        Planned::Ask(_) => Err("an access".into()),
+/// The first unit of a line of a partition.
+fn line_start(part: Part, line: u16) -> Place {
+    Place {
+        home: part,
+        line: Some(line),
+        unit: 0,
     }
 }
 
-/// The first unit of a line of a partition.
-fn line_start(part: u8, line: u16) -> Option<Place> {
-    Some(Place {
-        home: Part::known(part),
-        line: Some(line),
-        unit: 0,
-    })
-}
-
 /// A partition at a line, for whose DEFFN' a call's values wait.
-fn called(alloc: Global, line: u16, values: Option<Vec<Value>>) -> Result<Private, Fail> {
+fn called(alloc: Global, line: u16, args: Option<ValueList>) -> Result<Private, Fail> {
     let mut me = begun(alloc, b"STOP")?;
-    me.place = line_start(1, line);
-    me.args = match values {
-        Some(values) => Some(ValueList::new(values)),
-        None => None,
-    };
+    me.place = Some(line_start(Part::known(1), line));
+    me.args = args;
     Ok(me)
 }
 
@@ -103,15 +81,8 @@ fn a_call_passes_values_in_order(rt: HostRuntime) -> Result<(), Fail> {
         &[b"10 GOSUB'7(2+3,\"AB\")", b"20 DEFFN'7(A,B$)"],
     )?;
     let mut me = called(rt.alloc(), 10, None)?;
-    let outcome = planned(rt.alloc(), &mut me, &text, &text)?;
-    assert!(rt;
-        outcome
-            == Outcome::Jump(Place {
-                home: Part::known(1),
-                line: Some(20),
-                unit: 0
-            })
-    );
+    let outcome = planned_of(rt.alloc(), &mut me, &text, &text)?;
+    assert!(rt; outcome == Outcome::Jump(line_start(Part::known(1), 20)));
     match &me.args {
         Some(args) => match args.values() {
             [Value::Number(x), Value::Alpha(bytes)] => {
@@ -154,8 +125,8 @@ fn values_are_used_up(rt: HostRuntime) -> Result<(), Fail> {
         } else {
             Vec::new(rt.alloc())
         };
-        let mut me = called(rt.alloc(), line, Some(values))?;
-        let outcome = planned(rt.alloc(), &mut me, &text, &text)?;
+        let mut me = called(rt.alloc(), line, Some(ValueList::new(values)))?;
+        let outcome = planned_of(rt.alloc(), &mut me, &text, &text)?;
         assert!(rt; outcome == ended(code));
         assert!(rt; me.args.is_none());
     }
@@ -171,9 +142,6 @@ fn ended(code: u8) -> Outcome {
     }
 }
 
-// The line of the calls in the text at home, the partition and the line to which each leads, or a code.
-const SOUGHT: [(u16, u8, u16, u8); 3] = [(10, 2, 40, 0), (20, 1, 60, 0), (30, 0, 0, 38)];
-
 #[test]
 fn the_text_at_home_comes_before_the_own_text(rt: HostRuntime) -> Result<(), Fail> {
     let own = program_of(rt.alloc(), &[b"50 DEFFN'1", b"60 DEFFN'2"])?;
@@ -181,14 +149,14 @@ fn the_text_at_home_comes_before_the_own_text(rt: HostRuntime) -> Result<(), Fai
         rt.alloc(),
         &[b"10 GOSUB'1", b"20 GOSUB'2", b"30 GOSUB'3", b"40 DEFFN'1"],
     )?;
-    for (line, part, to, code) in SOUGHT {
+    for (line, wanted) in [
+        (10, Outcome::Jump(line_start(Part::known(2), 40))),
+        (20, Outcome::Jump(line_start(Part::known(1), 60))),
+        (30, ended(38)),
+    ] {
         let mut me = begun(rt.alloc(), b"STOP")?;
-        me.place = line_start(2, line);
-        let outcome = planned(rt.alloc(), &mut me, &own, &home)?;
-        match line_start(part.max(1), to) {
-            Some(place) if code == 0 => assert!(rt; outcome == Outcome::Jump(place)),
-            _ => assert!(rt; outcome == ended(code) && me.args.is_none()),
-        }
+        me.place = Some(line_start(Part::known(2), line));
+        assert!(rt; planned_of(rt.alloc(), &mut me, &own, &home)? == wanted);
     }
     Ok(())
 }

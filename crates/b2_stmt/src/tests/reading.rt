@@ -1,11 +1,9 @@
 // READ, with DATA and RESTORE.
-use super::{Row, begun, checked, program_of, run};
-use crate::plan;
-use b2_access::{DeviceTable, Lent, Outcome, Planned, Private};
-use b2_base::Part;
+use super::{Row, begun, checked, planned_of, program_of, run};
+use b2_access::{Outcome, Private};
+use b2_base::{Code, Part};
 use b2_flow::Place;
-use b2_text::{Spot, Text};
-use b2_vars::Vars;
+use b2_text::Spot;
 use std::alloc::Global;
 use std::test::Fail;
 
@@ -96,22 +94,6 @@ fn literals_count_once_their_receivers_are_assigned(rt: HostRuntime) -> Result<(
     Ok(())
 }
 
-/// What the statement at the place of a partition plans, whose own text is another than that of its home.
-fn planned(alloc: Global, me: &mut Private, own: &Text, home: &Text) -> Result<Outcome, Fail> {
-    let devices = DeviceTable::new(Vec::new(alloc));
-    let mut spare = Vars::new(alloc, 64)?;
-    let mut lent = Lent {
-        own,
-        home,
-        globals: &mut spare,
-        found: false,
-    };
-    match plan(alloc, me, &mut lent, &devices)? {
-        Planned::Done(outcome) => Ok(outcome),
-        Planned::Ask(_) => Err("an access".into()),
-    }
-}
-
 #[test]
 fn literals_are_those_of_the_own_text(rt: HostRuntime) -> Result<(), Fail> {
     let own = program_of(rt.alloc(), &[b"10 DATA 1"])?;
@@ -122,10 +104,13 @@ fn literals_are_those_of_the_own_text(rt: HostRuntime) -> Result<(), Fail> {
         line: Some(10),
         unit: 0,
     });
-    assert_eq!(rt; planned(rt.alloc(), &mut me, &own, &home)?, Outcome::Next);
     assert_eq!(rt;
-        planned(rt.alloc(), &mut me, &own, &home)?,
-        Outcome::Failed(b2_base::Code::known(70))
+        planned_of(rt.alloc(), &mut me, &own, &home)?,
+        Outcome::Next
+    );
+    assert_eq!(rt;
+        planned_of(rt.alloc(), &mut me, &own, &home)?,
+        Outcome::Failed(Code::known(70))
     );
     Ok(())
 }
@@ -146,7 +131,10 @@ fn a_place_without_data_is_passed(rt: HostRuntime) -> Result<(), Fail> {
     for (line, unit, count, next, next_unit, next_count) in PASSED {
         let mut me = begun(rt.alloc(), b"READ B")?;
         me.next_data = Some((Spot { line, unit }, count));
-        assert_eq!(rt; planned(rt.alloc(), &mut me, &text, &text)?, Outcome::Next);
+        assert_eq!(rt;
+            planned_of(rt.alloc(), &mut me, &text, &text)?,
+            Outcome::Next
+        );
         assert!(rt; goes_on(&me, next, next_unit, next_count));
     }
     Ok(())

@@ -1,4 +1,4 @@
-use Rattle.std.proofs.Common.{◌≡◌, ◌∙◌, ◌+◌, ◌-◌, ap, sym, subst}
+use Rattle.std.proofs.Common.{◌∙◌, ◌+◌, ◌-◌, ap, sym, subst}
 use Rattle.std.specs.Prelude.{IsSome}
 use Rattle.b2_access.specs.Store.{content}
 use Rattle.b2_access.specs.declared.objects.Object.TheVariants as object

@@ -8,6 +8,7 @@ use Rattle.b2_expr.specs.Value.{in_statement}
 use Rattle.b2_access.specs.Lending.{SeenLent}
 use Rattle.b2_stmt.specs.Around.{around, surroundings_of}
 use Rattle.b2_stmt.specs.Asked.{asked_of}
+use Rattle.b2_stmt.specs.OnVariables.{is_on_variables}
 use Rattle.b2_stmt.specs.Plan.{is_refused}
 use Rattle.b2_stmt.specs.Clearing.{access_of}
 use Rattle.b2_access.specs.Planning.{done}
@@ -23,7 +24,7 @@ returns-clause-planned c globals =
     let s : SeenLent = record { own = c.args.own.now; home = c.args.home.now; globals = globals } in
     let line : me.immediate ≡ Some c.in-Some.line = search rules in
     let allowed : is_refused u.row false ≡ false = search rules in
-    let assigns : (u.row == row.ASSIGNMENT) ≡ false = first_of (search (rules, c.if-unit-eq-ASSIGNMENT.false), grind (arith, nat_tests, c.if-unit-eq-ASSIGNMENT.false)) in
+    let changes : is_on_variables u.row ≡ false = search rules in
     let reads : (u.row == row.READ) ≡ false = first_of (search (rules, c.if-unit-eq-READ.false), grind (arith, nat_tests, c.if-unit-eq-READ.false)) in
     let marks : (u.row == row.DEFFN_MARKED) ≡ false = no_mark u.row allowed in
     let e : Context = in_statement (surroundings_of c.setting_of-setting.result me.vars c.args.home.now) in
@@ -32,4 +33,4 @@ returns-clause-planned c globals =
     let none : access_of u.row (tree_at u.row u.bytes.now) ≡ None = search rules in
     ap (done s) c.in_ok-outcome.ensures.ended
     ∙ sym (carried_there (me.immediate) c.in-Some.line c.from.result u.row (tree_at u.row u.bytes.now) p me s false e c.in_ok-asked.asked
-    line c.from.ensures c.in-Some-row_unit.ensures.row c.in-Some-row_unit.ensures.tree (ap is_some c.requires.line) allowed (assigns, reads, marks) none around_is asked)
+    line c.from.ensures c.in-Some-row_unit.ensures.row c.in-Some-row_unit.ensures.tree (ap is_some c.requires.line) allowed (changes, reads, marks) none around_is asked)

@@ -1,0 +1,4 @@
+pub mod PartSets
+pub mod Marks
+pub mod Watching
+pub mod Steps

@@ -1,0 +1,61 @@
+-- What is to be answered where the shelf tells its files and nothing fails.
+use Rattle.std.specs.Prelude.{◌≡◌, ◌⊎◌, ℕ, nat_le, List, length, Option, Some, None, IfSome, Result, Ok, Err, if◌then◌else◌}
+use Rattle.std.specs.FinMap.{get}
+use Rattle.b2_base.specs.Counts.{Rose}
+use Rattle.b2_base.specs.Files.{Files}
+use Rattle.b2_base.specs.Seen.{ShelfSeen, SinkSeen}
+use Rattle.b2_boot.specs.Boots.{BootState, boot_of}
+use Rattle.b2_boot.specs.Logs.{LogRead, log_of}
+use Rattle.b2_boot.specs.Logs.LogRead.{Events, Refused}
+use Rattle.b2_sched.specs.World.{WorldState}
+use Rattle.b2_mvp.specs.declared.status.Status.{Status}
+use Rattle.b2_mvp.specs.declared.status.Status.TheVariants as status
+use Rattle.b2_mvp.specs.declared.top.Command.{Command}
+use Rattle.b2_mvp.specs.Inputs.{boot_limit, log_limit}
+use Rattle.b2_mvp.specs.Top.{command_of, world_after}
+
+-- what is to be answered where the shelf tells its files
+pub data Expected : Type 0 where
+  NoCommand : Expected
+  IsMissing : List ℕ → Expected
+  IsLong : List ℕ → ℕ → Expected
+  FailsBootCheck : ℕ → Expected
+  FailsLogCheck : ℕ → ℕ → Expected
+  Ends : Command → WorldState → Expected
+
+abbrev pub by_log : Command → BootState → LogRead → Expected
+by_log c boot (Events events) = Ends c (world_after boot events)
+by_log c boot (Refused line check) = FailsLogCheck line check
+
+abbrev pub by_log_file : Command → BootState → Option (List ℕ) → Expected
+by_log_file c boot None = IsMissing c.log
+by_log_file c boot (Some bytes) = if nat_le (length bytes) log_limit then by_log c boot (log_of boot bytes) else IsLong c.log log_limit
+
+abbrev pub by_boot : Files → Command → Result BootState ℕ → Expected
+by_boot files c (Err check) = FailsBootCheck check
+by_boot files c (Ok boot) = by_log_file c boot (get files c.log)
+
+abbrev pub by_boot_file : Files → Command → Option (List ℕ) → Expected
+by_boot_file files c None = IsMissing c.boot
+by_boot_file files c (Some bytes) = if nat_le (length bytes) boot_limit then by_boot files c (boot_of bytes) else IsLong c.boot boot_limit
+
+abbrev pub by_command : Files → Option Command → Expected
+by_command files None = NoCommand
+by_command files (Some c) = by_boot_file files c (get files c.boot)
+
+abbrev pub expected : List (List ℕ) → Files → Expected
+expected words files = by_command files (command_of words)
+
+-- a status that answers it, unless memory fails
+abbrev pub Answers : Expected → Status → Type 0
+Answers NoCommand s = s ≡ status.Usage
+Answers (IsMissing name) s = (s ≡ status.Missing name) ⊎ (s ≡ status.NoMemory)
+Answers (IsLong name limit) s = (s ≡ status.TooLong name limit) ⊎ (s ≡ status.NoMemory)
+Answers (FailsBootCheck check) s = (s ≡ status.BadBoot check) ⊎ (s ≡ status.NoMemory)
+Answers (FailsLogCheck line check) s = (s ≡ status.BadLog line check) ⊎ (s ≡ status.NoMemory)
+Answers (Ends c world) s = (s ≡ status.Ok) ⊎ (s ≡ status.NoMemory) ⊎ ((name : List ℕ) × (s ≡ status.KeepNoMemory name))
+
+-- where the files are told and nothing failed, the answer is the expected one
+abbrev pub IsComplete : List (List ℕ) → ShelfSeen → ShelfSeen → SinkSeen → SinkSeen → Status → Type 0
+IsComplete words old new before after s =
+    IfSome old.files (λ m. (Rose old.faults new.faults → ⊥) → (Rose before.faults after.faults → ⊥) → Answers (expected words m) s)

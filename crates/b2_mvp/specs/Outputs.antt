@@ -1,0 +1,66 @@
+-- What a run writes: a file for each terminal's transcript, and a last line.
+use Rattle.std.specs.Prelude.{◌≡◌, ℕ, zero, suc, ◌+◌, ◌/◌, ◌%◌, List, [], ◌∷◌, ◌++◌, codes, Option, Some, None}
+use Rattle.std.specs.Fmt.{decimal}
+use Rattle.b2_base.specs.Byte as byte
+use Rattle.b2_base.specs.Counts.{Rose}
+use Rattle.b2_base.specs.Files.{Files, with_file, without_file}
+use Rattle.b2_base.specs.Seen.{ShelfSeen}
+use Rattle.b2_term.specs.Terminal.{TerminalState}
+use Rattle.b2_access.specs.declared.objects.Object.TheVariants as object
+use Rattle.b2_access.specs.Store.{StoreState, content}
+use Rattle.b2_sched.specs.World.{WorldState}
+use Rattle.b2_mvp.specs.declared.status.Status.{Status}
+use Rattle.b2_mvp.specs.declared.status.Status.TheVariants as status
+
+-- a file that is kept
+pub record Output : Type 0 where
+  pub name : List ℕ
+  pub bytes : List ℕ
+
+-- the name of a terminal's transcript ends in its number, of two digits
+abbrev pub transcript_name : List ℕ → ℕ → List ℕ
+transcript_name out t = out ++ codes ".t" ++ (byte.digit_0 + t / 10) ∷ (byte.digit_0 + t % 10) ∷ []
+
+-- a terminal that is listed has a transcript
+abbrev pub transcript : List ℕ → ℕ → Option TerminalState → List Output
+transcript out t None = []
+transcript out t (Some terminal) = record { name = transcript_name out t; bytes = terminal.transcript } ∷ []
+
+-- the transcripts of the terminals from 1 to a last one, in that order
+abbrev pub transcripts_to : List ℕ → StoreState → ℕ → List Output
+transcripts_to out s zero = []
+transcripts_to out s (suc t) = transcripts_to out s t ++ transcript out (suc t) (content s (object.Terminal (suc t)))
+
+-- all that is kept, in the order in which it is kept
+abbrev pub outputs : List ℕ → StoreState → List Output
+outputs out s = transcripts_to out s 12
+
+-- the told files after such keeps
+abbrev pub with_files : List Output → Option Files → Option Files
+with_files [] files = files
+with_files (o ∷ os) files = with_files os (with_file o.name o.bytes files)
+
+-- the line that a run ends with
+abbrev pub summary : WorldState → List ℕ
+summary w = codes "turns " ++ decimal w.turns ++ codes " steps " ++ decimal w.steps ++ codes " dropped " ++ decimal w.dropped ++ byte.newline ∷ []
+
+-- a keep failed: those before it were done, and of its own file alone nothing is known
+pub record FailsKeep (all : List Output) (at : List ℕ) (old new : Option Files) : Type 0 where
+  pub done : List Output
+  pub bytes : List ℕ
+  pub left : List Output
+  pub in_order : all ≡ done ++ record { name = at; bytes = bytes } ∷ left
+  pub files : without_file at new ≡ without_file at (with_files done old)
+
+-- how some keeps ended, where not all were done
+abbrev pub CannotKeep : List Output → ShelfSeen → ShelfSeen → Status → Type 0
+CannotKeep all old new status.Ok = ⊥
+CannotKeep all old new status.Usage = ⊥
+CannotKeep all old new (status.Missing at) = ⊥
+CannotKeep all old new (status.ReadFault at) = ⊥
+CannotKeep all old new (status.TooLong at limit) = ⊥
+CannotKeep all old new (status.BadBoot check) = ⊥
+CannotKeep all old new (status.BadLog line check) = ⊥
+CannotKeep all old new (status.WriteFault at) = FailsKeep all at old.files new.files × Rose old.faults new.faults
+CannotKeep all old new status.NoMemory = ⊥
+CannotKeep all old new (status.KeepNoMemory at) = FailsKeep all at old.files new.files

@@ -1,0 +1,88 @@
+// The outputs of a run: a file for each terminal's transcript, and the last line. None of them takes memory once it is
+// kept: transcripts are kept as they stand in the store.
+ghost use Rattle.std.specs.Prelude.{◌≡◌, ◌≤◌, ◌∷◌, [], OnOk, IfOk, IfErr, length};
+ghost use Rattle.b2_base.specs.Seen.{shelf_seen};
+ghost use Rattle.b2_access.specs.declared.objects.Object.{Object};
+ghost use Rattle.b2_access.specs.Store.{content};
+ghost use Rattle.b2_store.specs.Meaning.{store_of};
+ghost use Rattle.b2_mvp.specs.Outputs as spec;
+
+use crate::status::Status;
+use b2_base::{FileName, Keep, NoMemory, Shelf, Term};
+use b2_sched::World;
+use b2_store::Stores;
+use std::alloc::Global;
+
+/// The line that a run ends with.
+pub fn summarize(alloc: Global, world: &World) -> Result<Vec<u8>, NoMemory>
+    ensures { IfOk result (λ line. line.items ≡ spec.summary world.now) }
+{
+    let turns = world.turns();
+    let steps = world.steps();
+    let dropped = world.dropped();
+    let line = format!(in alloc; "turns {turns} steps {steps} dropped {dropped}\n")?;
+    Ok(line.into_bytes())
+}
+
+/// The name of a terminal's transcript: the front of the outputs' names, `.t` and its number of two digits.
+fn transcript_name(out: &FileName, t: Term) -> FileName
+    requires { length out.now ≤ 190 }
+    ensures { result ≡ spec.transcript_name out.now t }
+{
+    let number = t.number();
+    let ending = [b'.', b't', b'0' + number / 10, b'0' + number % 10];
+    FileName::empty().with(out.bytes()).with(&ending)
+}
+
+/// Keeps a file.
+fn keep_file<F: Shelf>(name: FileName, bytes: &[u8], shelf: &mut F) -> Result<(), Status>
+    ensures faults { F.faults shelf.old ≤ F.faults shelf.new }
+    ensures ok { OnOk result (F.files shelf.new ≡ spec.with_files (record { name = name; bytes = bytes.now } ∷ []) (F.files shelf.old)) }
+    ensures err { IfErr result (λ status. spec.CannotKeep (record { name = name; bytes = bytes.now } ∷ []) (shelf_seen F.files F.faults F.misses F.longs shelf.old) (shelf_seen F.files F.faults F.misses F.longs shelf.new) status) }
+{
+    match shelf.keep(name.bytes(), bytes) {
+        Keep::Done => Ok(()),
+        Keep::Failed => Err(Status::WriteFault(name)),
+        Keep::NoMemory => Err(Status::KeepNoMemory(name)),
+    }
+}
+
+/// Keeps the transcript of a terminal, where it is listed.
+fn keep_transcript<F: Shelf>(
+    out: &FileName,
+    t: Term,
+    stores: &Stores,
+    shelf: &mut F,
+) -> Result<(), Status>
+    requires { length out.now ≤ 190 }
+    ensures faults { F.faults shelf.old ≤ F.faults shelf.new }
+    ensures ok { OnOk result (F.files shelf.new ≡ spec.with_files (spec.transcript out.now t (content (store_of stores.now) (Object.Terminal t))) (F.files shelf.old)) }
+    ensures err { IfErr result (λ status. spec.CannotKeep (spec.transcript out.now t (content (store_of stores.now) (Object.Terminal t)))
+        (shelf_seen F.files F.faults F.misses F.longs shelf.old) (shelf_seen F.files F.faults F.misses F.longs shelf.new) status) }
+{
+    let Some(terminal) = stores.terminal(t) else {
+        return Ok(());
+    };
+    keep_file(transcript_name(out, t), terminal.transcript(), shelf)
+}
+
+/// Keeps the transcript of each terminal, by number.
+pub fn keep_transcripts<F: Shelf>(
+    out: &FileName,
+    stores: &Stores,
+    shelf: &mut F,
+) -> Result<(), Status>
+    requires { length out.now ≤ 190 }
+    ensures faults { F.faults shelf.old ≤ F.faults shelf.new }
+    ensures ok { OnOk result (F.files shelf.new ≡ spec.with_files (spec.outputs out.now (store_of stores.now)) (F.files shelf.old)) }
+    ensures err { IfErr result (λ status. spec.CannotKeep (spec.outputs out.now (store_of stores.now))
+        (shelf_seen F.files F.faults F.misses F.longs shelf.old) (shelf_seen F.files F.faults F.misses F.longs shelf.new) status) }
+{
+    for before in 0..12u8 {
+        match keep_transcript(out, Term::known(before + 1), stores, shelf) {
+            Ok(()) => {}
+            Err(status) => return Err(status),
+        }
+    }
+    Ok(())
+}

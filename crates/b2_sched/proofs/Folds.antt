@@ -1,0 +1,49 @@
+-- Actions one after the other, along the numbers of a round, along rounds, and along the events of a log.
+use Rattle.std.specs.Prelude.{◌≡◌, ℕ, zero, suc, ◌+◌, ◌-◌, ◌<◌, ◌≤◌, List, [], ◌∷◌, ◌++◌, drop, length, get_or, refl}
+use Rattle.std.proofs.Common.{sym, ap, ◌∙◌, arith, add-one, drop-cons}
+use Rattle.b2_boot.specs.declared.log.Event.{Event}
+use Rattle.b2_sched.specs.World.{WorldState, Action, Turn, Key, Front, Halt, Reset, does, does_all, with_turn, private_of, turns_from, rounds, happens, ran}
+use Rattle.b2_access.specs.declared.private.Private.{Private}
+use Rattle.std.specs.Prelude.{Option, Some, None}
+
+pub does_append : (xs ys : List Action) (w : WorldState) → does_all (xs ++ ys) w ≡ does_all ys (does_all xs w)
+does_append [] ys w = refl
+does_append (x ∷ xs) ys w = does_append xs ys (does x w)
+
+-- the quota of a round stays
+turned_quota : (p n : ℕ) (m : Option Private) (w : WorldState) → (with_turn p m n w).quota ≡ w.quota
+turned_quota p n None w = refl
+turned_quota p n (Some me) w = refl
+
+pub keeps_quota : (a : Action) (w : WorldState) → (does a w).quota ≡ w.quota
+keeps_quota (Key t k) w = refl
+keeps_quota (Front t p) w = refl
+keeps_quota (Halt p) w = refl
+keeps_quota (Reset p) w = refl
+keeps_quota (Turn p n) w = turned_quota p n (private_of p w) w
+
+pub all_keep_quota : (xs : List Action) (w : WorldState) → (does_all xs w).quota ≡ w.quota
+all_keep_quota [] w = refl
+all_keep_quota (x ∷ xs) w = all_keep_quota xs (does x w) ∙ keeps_quota x w
+
+-- along a round
+pub turn_first : (quota p : ℕ) (w : WorldState) → p < 17 → does_all (turns_from quota (p + 1) (17 - (p + 1))) (does (Turn p quota) w) ≡ does_all (turns_from quota p (17 - p)) w
+turn_first quota p w below = let left : suc (17 - (p + 1)) ≡ 17 - p = omega arith in ap (λ n. does_all (turns_from quota p n) w) left
+
+pub no_turns : (quota p : ℕ) (w : WorldState) → 17 ≤ p → w ≡ does_all (turns_from quota p (17 - p)) w
+no_turns quota p w past = let left : zero ≡ 17 - p = omega arith in ap (λ n. does_all (turns_from quota p n) w) left
+
+-- along rounds
+pub round_first : (quota n i : ℕ) (w : WorldState) → i < n → does_all (rounds quota (n - (i + 1))) (does_all (turns_from quota 1 16) w) ≡ does_all (rounds quota (n - i)) w
+round_first quota n i w below =
+    let left : suc (n - (i + 1)) ≡ n - i = omega arith in
+    sym (does_append (turns_from quota 1 16) (rounds quota (n - (i + 1))) w) ∙ ap (λ k. does_all (rounds quota k) w) left
+
+pub no_rounds : (quota n i : ℕ) (w : WorldState) → n ≤ i → w ≡ does_all (rounds quota (n - i)) w
+no_rounds quota n i w past = let left : zero ≡ n - i = omega arith in ap (λ k. does_all (rounds quota k) w) left
+
+-- along events
+pub event_first : (i : ℕ) (events : List Event) (d : Event) (w : WorldState) → i < length events → ran (drop (i + 1) events) (happens (get_or events i d) w) ≡ ran (drop i events) w
+event_first i events d w below =
+    let split : drop i events ≡ get_or events i d ∷ drop (i + 1) events = rw (add-one, drop-cons events i d) in
+    ap (λ es. ran es w) (sym split)

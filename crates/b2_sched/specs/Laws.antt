@@ -1,0 +1,42 @@
+-- What holds of every world, in words of its own.
+use Rattle.std.specs.Prelude.{◌≡◌, ◌≢◌, ℕ, zero, suc, ◌+◌, ◌*◌, ◌^◌, ◌<◌, List, [], ◌∷◌, ◌++◌, Some, is_some, if◌then◌else◌}
+use Rattle.b2_boot.specs.Boots.{BootState}
+use Rattle.b2_boot.specs.declared.log.Event.{Event}
+use Rattle.b2_boot.specs.declared.log.Event.TheVariants as event
+use Rattle.b2_access.specs.Partition.{KeepsNone}
+use Rattle.b2_access.specs.declared.private.Private.{Private}
+use Rattle.b2_sched.specs.Start.{booted}
+use Rattle.b2_sched.specs.World.{WorldState, Action, Turn, private_of, tallied, actions, does, does_all, happens, ran}
+
+-- the actions of all events, in order
+abbrev pub all_actions : ℕ → List Event → List Action
+all_actions quota [] = []
+all_actions quota (e ∷ es) = actions quota e ++ all_actions quota es
+
+-- a run is one list of actions
+abbrev pub RunsByActions : Type 0
+RunsByActions = (log : List Event) (w : WorldState) → ran log w ≡ does_all (all_actions w.quota log) w
+
+-- a turn of a partition leaves the own states of all others
+abbrev pub LeavesOthers : Type 0
+LeavesOthers = (p q n : ℕ) (w : WorldState) → q ≢ p → private_of q (does (Turn p n) w) ≡ private_of q w
+
+-- whatever happens, the same partitions are present
+abbrev pub KeepsPresent : Type 0
+KeepsPresent = (e : Event) (w : WorldState) (p : ℕ) → is_some (private_of p (happens e w)) ≡ is_some (private_of p w)
+
+-- how many partitions are present among some numbers from one on
+abbrev pub present_from : ℕ → ℕ → WorldState → ℕ
+present_from p zero w = 0
+present_from p (suc n) w = (if is_some (private_of p w) then 1 else 0) + present_from (p + 1) n w
+
+abbrev pub present : WorldState → ℕ
+present w = present_from 1 16 w
+
+-- in each round every partition that is present has one turn
+abbrev pub CountsTurns : Type 0
+CountsTurns = (n : ℕ) (w : WorldState) → w.turns < 2 ^ 64 → (happens (event.Rounds n) w).turns ≡ tallied w.turns (n * present w)
+
+-- Whatever was run, no partition keeps a place for CONTINUE while its program runs.
+abbrev pub NoPlaceIsKept : Type 0
+NoPlaceIsKept = (b : BootState) (log : List Event) (p : ℕ) (me : Private) → private_of p (ran log (booted b)) ≡ Some me → KeepsNone me

@@ -1,0 +1,46 @@
+-- The world of a boot.
+use Rattle.std.specs.Prelude.{ℕ, ◌*◌, map}
+use Rattle.b2_access.specs.declared.private.Private.{Private}
+use Rattle.b2_access.specs.Partition.{at_start}
+use Rattle.b2_access.specs.Store.{StoreState}
+use Rattle.b2_store.specs.Start.{Areas, text_row, borrow_row, globals_row, terminal_row}
+use Rattle.b2_boot.specs.Boots.{BootState}
+use Rattle.b2_boot.specs.declared.boot.BootPartition.{BootPartition}
+use Rattle.b2_boot.specs.declared.boot.BootTerminal.{BootTerminal}
+use Rattle.b2_sched.specs.World.{WorldState}
+
+-- sizes of a boot are in KiB
+abbrev pub in_bytes : ℕ → ℕ
+in_bytes size = size * 1024
+
+-- a partition as it starts
+abbrev pub private_row : BootPartition → ℕ × Private
+private_row p = (p.number, at_start p.number p.terminal (in_bytes p.vars))
+
+-- a partition, the area of its text, and that of its `@` variables
+abbrev pub areas_of : BootPartition → Areas
+areas_of p = (p.number, in_bytes p.text, in_bytes p.globals)
+
+-- a terminal, and the partition in front of it
+abbrev pub front_row : BootTerminal → ℕ × ℕ
+front_row t = (t.number, t.front)
+
+-- empty texts, nobody inside, no `@` variables, and idle terminals
+abbrev pub store_booted : BootState → StoreState
+store_booted b = record {
+  texts = map text_row (map areas_of b.partitions);
+  borrows = map borrow_row (map areas_of b.partitions);
+  globals = map globals_row (map areas_of b.partitions);
+  terminals = map terminal_row (map front_row b.terminals);
+}
+
+-- THE WORLD OF A BOOT: each partition as it starts, and nothing tallied
+abbrev pub booted : BootState → WorldState
+booted b = record {
+  quota = b.quota;
+  privates = map private_row b.partitions;
+  store = store_booted b;
+  turns = 0;
+  steps = 0;
+  dropped = 0;
+}

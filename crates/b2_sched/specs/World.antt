@@ -1,0 +1,132 @@
+-- A world: the own states of the partitions that are present, the store that they share, and three counts; and what events do.
+use Rattle.std.specs.Prelude.{◌≡◌, ℕ, zero, suc, ◌+◌, ◌-◌, ◌^◌, min, Bool, true, false, List, [], ◌∷◌, ◌++◌, Option, Some, None, IsSome}
+use Rattle.b2_term.specs.declared.KeyItem.{KeyItem}
+use Rattle.b2_access.specs.declared.objects.Object.TheVariants as object
+use Rattle.b2_access.specs.declared.private.Private.{Private}
+use Rattle.b2_access.specs.Loans.{Loan}
+use Rattle.b2_access.specs.Rows.{row_of, with_row}
+use Rattle.b2_access.specs.Serving.{serves, itself}
+use Rattle.b2_access.specs.Store.{StoreState, content}
+use Rattle.b2_store.specs.Changes.{keyed_at, front_at, room_at}
+use Rattle.b2_boot.specs.declared.log.Event.{Event}
+use Rattle.b2_boot.specs.declared.log.Event.TheVariants as event
+use Rattle.b2_machine.specs.Turn.{TurnEnd, turn}
+
+-- the quota of a turn in a round, the own state of each partition by its number, the store, and how many turns and counting steps
+-- there were and how many keys were dropped
+pub record WorldState : Type 0 where
+  pub quota : ℕ
+  pub privates : List (ℕ × Private)
+  pub store : StoreState
+  pub turns : ℕ
+  pub steps : ℕ
+  pub dropped : ℕ
+
+-- the own state of a partition, None where it is absent
+abbrev pub private_of : ℕ → WorldState → Option Private
+private_of p w = row_of p w.privates
+
+-- a count stays at 2^64 - 1 once it is there
+abbrev pub tallied : ℕ → ℕ → ℕ
+tallied n more = min (n + more) (2 ^ 64 - 1)
+
+-- what happens at once
+pub data Action : Type 0 where
+  Key : ℕ → KeyItem → Action
+  Front : ℕ → ℕ → Action
+  Halt : ℕ → Action
+  Reset : ℕ → Action
+  Turn : ℕ → ℕ → Action
+
+-- a key is dropped where its terminal is listed and has no room
+abbrev pub dropped_by : Option Bool → ℕ
+dropped_by None = 0
+dropped_by (Some true) = 0
+dropped_by (Some false) = 1
+
+-- a key is queued at a terminal, or dropped and counted
+abbrev pub with_key : ℕ → KeyItem → WorldState → WorldState
+with_key t k w = record w { store = keyed_at t k w.store; dropped = tallied w.dropped (dropped_by (room_at (content w.store (object.Terminal t)))) }
+
+-- a partition is put in front of a terminal, be it present or not
+abbrev pub with_front : ℕ → ℕ → WorldState → WorldState
+with_front t p w = record w { store = front_at t p w.store }
+
+-- the own state of a partition changes, where it is present
+abbrev pub row_changed : ℕ → Option Private → (Private → Private) → List (ℕ × Private) → List (ℕ × Private)
+row_changed p None f rows = rows
+row_changed p (Some me) f rows = with_row p rows (f me)
+
+abbrev pub changed : ℕ → (Private → Private) → List (ℕ × Private) → List (ℕ × Private)
+changed p f rows = row_changed p (row_of p rows) f rows
+
+abbrev pub asked_to_halt : Private → Private
+asked_to_halt me = record me { halt = true }
+
+abbrev pub asked_to_reset : Private → Private
+asked_to_reset me = record me { reset = true }
+
+-- a loan leaves the store as it is: no `@` variables are found yet
+abbrev pub after_loan : Loan StoreState
+after_loan who home at s left = s
+
+-- a turn of a partition over the store
+abbrev pub turn_of : ℕ → Private → StoreState → TurnEnd StoreState
+turn_of quota me s = turn itself serves after_loan quota me s
+
+-- after a turn of a partition that is present
+abbrev pub after_turn : ℕ → TurnEnd StoreState → WorldState → WorldState
+after_turn p t w = record w {
+  privates = with_row p w.privates t.me;
+  store = t.after;
+  turns = tallied w.turns 1;
+  steps = tallied w.steps t.turned.steps;
+}
+
+-- one that is absent does nothing
+abbrev pub with_turn : ℕ → Option Private → ℕ → WorldState → WorldState
+with_turn p None quota w = w
+with_turn p (Some me) quota w = after_turn p (turn_of quota me w.store) w
+
+abbrev pub does : Action → WorldState → WorldState
+does (Key t k) w = with_key t k w
+does (Front t p) w = with_front t p w
+does (Halt p) w = record w { privates = changed p asked_to_halt w.privates }
+does (Reset p) w = record w { privates = changed p asked_to_reset w.privates }
+does (Turn p quota) w = with_turn p (private_of p w) quota w
+
+abbrev pub does_all : List Action → WorldState → WorldState
+does_all [] w = w
+does_all (a ∷ rest) w = does_all rest (does a w)
+
+-- a turn of each of some partitions, from a number on
+abbrev pub turns_from : ℕ → ℕ → ℕ → List Action
+turns_from quota p zero = []
+turns_from quota p (suc n) = Turn p quota ∷ turns_from quota (p + 1) n
+
+-- in each round a turn of all sixteen numbers in order
+abbrev pub rounds : ℕ → ℕ → List Action
+rounds quota zero = []
+rounds quota (suc n) = turns_from quota 1 16 ++ rounds quota n
+
+-- what an event is, with the quota of a turn in a round
+abbrev pub actions : ℕ → Event → List Action
+actions quota (event.Key t k) = Key t k ∷ []
+actions quota (event.Front t p) = Front t p ∷ []
+actions quota (event.Halt p) = Halt p ∷ []
+actions quota (event.Reset p) = Reset p ∷ []
+actions quota (event.Turn p n) = Turn p n ∷ []
+actions quota (event.Rounds n) = rounds quota n
+
+-- AN EVENT
+abbrev pub happens : Event → WorldState → WorldState
+happens e w = does_all (actions w.quota e) w
+
+-- A RUN: the events in order
+abbrev pub ran : List Event → WorldState → WorldState
+ran [] w = w
+ran (e ∷ es) w = ran es (happens e w)
+
+-- each partition that is present is the one of its number, and has a text in the store
+abbrev pub ArePresent : List (ℕ × Private) → StoreState → Type 0
+ArePresent rows s = (p : ℕ) (me : Private) → row_of p rows ≡ Some me → (me.part ≡ p) × IsSome (content s (object.Text p))

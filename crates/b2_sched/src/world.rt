@@ -1,0 +1,202 @@
+// The world: events and runs.
+ghost use Rattle.std.specs.Prelude.{◌≡◌, [], IfOk, IfErr, OnOk};
+ghost use Rattle.b2_store.specs.Meaning.{store_of};
+ghost use Rattle.b2_sched.specs.Start.{booted};
+ghost use Rattle.b2_sched.specs.World.{does, does_all, turns_from, rounds, happens, ran, Key, Front, Halt, Reset, Turn};
+
+use crate::start::{areas_of, fronts_of, privates_of};
+use b2_access::{DeviceTable, Private};
+use b2_base::{NoMemory, Part, Term};
+use b2_boot::{Boot, Event};
+use b2_machine::turn;
+use b2_store::{Rows, StoreBoot, Stores};
+use b2_term::KeyItem;
+use std::alloc::Global;
+use std::marker::Model;
+
+/// Partitions, the store that they share, and counts of turns, counting steps and dropped keys. Contracts see it as one record.
+#[derive(Drop)]
+pub struct World {
+    alloc: Global,
+    quota: u16,
+    devices: DeviceTable,
+    privates: Rows<Private>,
+    stores: Stores,
+    turns: u64,
+    steps: u64,
+    dropped: u64,
+}
+
+impl Model for World {
+    ghost use Rattle.std.specs.Coded.{codes};
+    ghost use Rattle.b2_vars.specs.Tables.{coded_vars};
+    ghost use Rattle.b2_store.specs.Meaning.{store_of};
+    ghost use Rattle.b2_sched.specs.World.{WorldState, ArePresent};
+
+    ghost Value = { WorldState };
+
+    ghost coded = { Prim.hlevel (codes, coded_vars) };
+
+    ghost view = { λ w. record { quota = w.quota; privates = w.privates; store = store_of w.stores; turns = w.turns; steps = w.steps; dropped = w.dropped } };
+
+    ghost invariant = { λ w. ArePresent w.privates (store_of w.stores) };
+}
+
+impl World {
+    /// The world of a boot: each partition as it starts, empty texts, idle terminals, and nothing counted.
+    pub fn boot(alloc: Global, b: &Boot) -> Result<World, NoMemory>
+        ensures started { IfOk result (λ w. w ≡ booted b.now) }
+    {
+        let privates = privates_of(alloc, &b.partitions)?;
+        let start = StoreBoot {
+            partitions: areas_of(alloc, &b.partitions)?,
+            terminals: fronts_of(alloc, &b.terminals)?,
+        };
+        let stores = Stores::new(alloc, &start)?;
+        Ok(World {
+            alloc,
+            quota: b.quota,
+            devices: DeviceTable::new(Vec::new(alloc)),
+            privates,
+            stores,
+            turns: 0,
+            steps: 0,
+            dropped: 0,
+        })
+    }
+
+    /// What happens. Where memory fails, no partition is present afterwards, so that none runs on.
+    pub fn event(&mut self, e: &Event) -> Result<(), NoMemory>
+        ensures happened { OnOk result (self.new ≡ happens e.now self.old) }
+        ensures ended { IfErr result (λ _. self.new.privates ≡ []) }
+    {
+        match *e {
+            Event::Key(t, k) => self.key(t, k),
+            Event::Front(t, p) => self.front(t, p),
+            Event::Halt(p) => self.halt(p),
+            Event::Reset(p) => self.reset(p),
+            Event::Turn(p, quota) => return self.turn(p, quota),
+            Event::Rounds(n) => return self.rounds(n),
+        }
+        Ok(())
+    }
+
+    /// All events of a log, in order. Where memory fails it ends, and no partition is present afterwards.
+    pub fn run(&mut self, log: &[Event]) -> Result<(), NoMemory>
+        ensures ran { OnOk result (self.new ≡ ran log.now self.old) }
+        ensures ended { IfErr result (λ _. self.new.privates ≡ []) }
+    {
+        for e in log {
+            self.event(e)?;
+        }
+        Ok(())
+    }
+
+    /// How many turns there were.
+    pub fn turns(&self) -> u64
+        ensures value { result ≡ self.now.turns }
+    {
+        self.turns
+    }
+
+    /// How many counting steps there were.
+    pub fn steps(&self) -> u64
+        ensures value { result ≡ self.now.steps }
+    {
+        self.steps
+    }
+
+    /// How many keys were dropped.
+    pub fn dropped(&self) -> u64
+        ensures value { result ≡ self.now.dropped }
+    {
+        self.dropped
+    }
+
+    /// The store that the partitions share.
+    pub fn stores(&self) -> &Stores
+        ensures value { store_of result.now ≡ self.now.store }
+    {
+        &self.stores
+    }
+
+    /// Queues a key at a terminal. It is counted where it is dropped.
+    fn key(&mut self, t: Term, k: KeyItem)
+        ensures { self.new ≡ does (Key t k) self.old }
+    {
+        if let Some(false) = self.stores.key(t, k) {
+            self.dropped = self.dropped.saturating_add(1);
+        }
+    }
+
+    /// Puts a partition in front of a terminal.
+    fn front(&mut self, t: Term, p: Part)
+        ensures { self.new ≡ does (Front t p) self.old }
+    {
+        self.stores.set_front(t, p);
+    }
+
+    /// Asks a partition for a halt.
+    fn halt(&mut self, p: Part)
+        ensures { self.new ≡ does (Halt p) self.old }
+    {
+        let Some(_me) = self.privates.get(p) else {
+            return;
+        };
+        self.privates.at(p).flag_halt();
+    }
+
+    /// Asks a partition for a reset.
+    fn reset(&mut self, p: Part)
+        ensures { self.new ≡ does (Reset p) self.old }
+    {
+        let Some(_me) = self.privates.get(p) else {
+            return;
+        };
+        self.privates.at(p).flag_reset();
+    }
+
+    /// A turn of a partition; an absent one has none.
+    fn turn(&mut self, part: Part, quota: u16) -> Result<(), NoMemory>
+        ensures turned { OnOk result (self.new ≡ does (Turn part quota) self.old) }
+        ensures ended { IfErr result (λ _. self.new.privates ≡ []) }
+    {
+        let Some(_me) = self.privates.get(part) else {
+            return Ok(());
+        };
+        let me = self.privates.at(part);
+        match turn(self.alloc, me, &mut self.stores, &self.devices, quota) {
+            Ok(turned) => {
+                self.turns = self.turns.saturating_add(1);
+                self.steps = self.steps.saturating_add(u64::from(turned.steps));
+                Ok(())
+            }
+            Err(no_memory) => {
+                self.privates = Rows::new(self.alloc);
+                Err(no_memory)
+            }
+        }
+    }
+
+    /// A turn of each partition, by number.
+    fn round(&mut self) -> Result<(), NoMemory>
+        ensures turned { OnOk result (self.new ≡ does_all (turns_from self.old.quota 1 16) self.old) }
+        ensures ended { IfErr result (λ _. self.new.privates ≡ []) }
+    {
+        for n in 1..17u8 {
+            self.turn(Part::known(n), self.quota)?;
+        }
+        Ok(())
+    }
+
+    /// Some rounds.
+    fn rounds(&mut self, n: u32) -> Result<(), NoMemory>
+        ensures turned { OnOk result (self.new ≡ does_all (rounds self.old.quota n) self.old) }
+        ensures ended { IfErr result (λ _. self.new.privates ≡ []) }
+    {
+        for _ in 0..n {
+            self.round()?;
+        }
+        Ok(())
+    }
+}

@@ -1,0 +1,96 @@
+// The rows of the tests of DIM and COM, and of INIT and ROTATE over arrays.
+use super::Row;
+
+#[rattlefmt::skip]
+pub const MADE: [Row; 21] = [
+    (&[], b"DIM A(3),B(2,3),A$(2)5,N$20,M$,X", 0, 0, b"IF A(3)=0 AND B(2,3)=0 AND STR(A$(2),5,1)=\" \" AND STR(N$,20,1)=\" \" AND STR(M$,16,1)=\" \" AND X=0 THEN 1"),
+    (&[], b"DIM A(3.9):A(3)=1:A(4)=2", 57, 0, b"IF A(3)=1 THEN 1"),
+    (&[], b"DIM A(2,3):A(2,4)=1", 57, 0, b"IF A(2,3)=0 THEN 1"),
+    (&[], b"DIM A(3):A(3,1)=1", 57, 0, b"IF A(3)=0 THEN 1"),
+    (&[], b"DIM A$(2):A$(2)=\"ABCDEFGHIJKLMNOPQRS\"", 0, 0, b"IF A$(1)=\" \" AND A$(2)=\"ABCDEFGHIJKLMNOP\" THEN 1"),
+    (&[], b"N=2:DIM A$(N+1)N*2,N$N+1:A$(3),N$=\"ABCDE\"", 0, 0, b"IF A$(3)=\"ABCD\" AND N$=\"ABC\" THEN 1"),
+    (&[], b"DIM A(2),B(A(1)+1):B(1)=3", 0, 0, b"IF A(2)=0 AND B(1)=3 THEN 1"),
+    (&[], b"DIM N$2^3:N$=\"ABCDEFGHIJ\"", 0, 0, b"IF N$=\"ABCDEFGH\" THEN 1"),
+    (&[], b"DIM N$2*(3+1)-1:N$=\"ABCDEFGHIJ\"", 0, 0, b"IF N$=\"ABCDEFG\" THEN 1"),
+    (&[], b"DIM N$+(3):N$=\"ABCDEFGHIJ\"", 0, 0, b"IF N$=\"ABC\" THEN 1"),
+    (&[], b"DIM N$8/2+SQR(9):N$=\"ABCDEFGHIJ\"", 0, 0, b"IF N$=\"ABCDEFG\" THEN 1"),
+    (&[], b"DIM N$SQR(9):N$=\"ABCDEFGHIJ\"", 0, 0, b"IF N$=\"ABC\" THEN 1"),
+    (&[], b"DIM F(2):F(1)=4:DIM N$F(1):N$=\"ABCDEFGHIJ\"", 0, 0, b"IF N$=\"ABCD\" THEN 1"),
+    (&[b"10 DEFFN A(X)=X+1"], b"DIM N$FNA(4):N$=\"ABCDEFGHIJ\"", 0, 0, b"IF N$=\"ABCDE\" THEN 1"),
+    (&[], b"DIM N$LEN(\"ABC\")*2:N$=\"ABCDEFGHIJ\"", 0, 0, b"IF N$=\"ABCDEF\" THEN 1"),
+    (&[], b"DIM N$3.9:N$=\"ABCDEFGHIJ\"", 0, 0, b"IF N$=\"ABC\" THEN 1"),
+    (&[], b"DIM A(3):A(2)=7:DIM A(3)", 0, 0, b"IF A(2)=7 THEN 1"),
+    (&[], b"N$=\"A\":DIM N$16:DIM N$", 0, 0, b"IF N$=\"A\" THEN 1"),
+    (&[b"10 DIM A(3)", b"20 A(3)=5"], b"GOTO 10", 0, 0, b"IF A(3)=5 THEN 1"),
+    (&[b"10 IF 1=2 THEN B=1:ELSE DIM A(3):C=1"], b"GOTO 10", 0, 0, b"IF A(3)=0 AND B=0 AND C=1 THEN 1"),
+    (&[b"10 DIM A(3):ERROR B=1"], b"GOTO 10", 0, 10, b"IF A(3)=0 AND B=0 THEN 1"),
+];
+
+#[rattlefmt::skip]
+pub const REFUSED: [Row; 32] = [
+    (&[], b"DIM A(3):A(2)=7:DIM A(4):B=1", 55, 0, b"IF A(2)=7 AND B=0 THEN 1"),
+    (&[], b"DIM A(3):A(2)=7:DIM A(3,1):B=1", 55, 0, b"IF A(2)=7 AND B=0 THEN 1"),
+    (&[], b"DIM A$(3)5:DIM A$(3)6:B=1", 55, 0, b"IF STR(A$(3),5,1)=\" \" AND B=0 THEN 1"),
+    (&[], b"N$=\"A\":DIM N$20:B=1", 55, 0, b"IF N$=\"A\" AND B=0 THEN 1"),
+    (&[], b"DIM A(3),B(0),N$20:B=1", 50, 0, b"IF A(3)=0 AND STR(N$,16,1)=\" \" AND B=0 THEN 1"),
+    (&[], b"DIM A(4001)", 50, 0, b"IF A=0 THEN 1"),
+    (&[], b"DIM A(-1)", 50, 0, b"IF A=0 THEN 1"),
+    (&[], b"DIM A(.9)", 50, 0, b"IF A=0 THEN 1"),
+    (&[], b"DIM A(1E50)", 50, 0, b"IF A=0 THEN 1"),
+    (&[], b"DIM A(256,1)", 50, 0, b"IF A=0 THEN 1"),
+    (&[], b"DIM A(1,256)", 50, 0, b"IF A=0 THEN 1"),
+    (&[], b"DIM A(1,0)", 50, 0, b"IF A=0 THEN 1"),
+    (&[], b"DIM A(256,1/0)", 50, 0, b"IF A=0 THEN 1"),
+    (&[], b"DIM A(255,1/0)", 62, 0, b"IF A=0 THEN 1"),
+    (&[], b"DIM A(1/0)", 62, 0, b"IF A=0 THEN 1"),
+    (&[], b"DIM A$(0)1/0", 50, 0, b"IF A=0 THEN 1"),
+    (&[], b"DIM A$(3)1/0", 62, 0, b"IF A=0 THEN 1"),
+    (&[], b"DIM A$(3)0", 53, 0, b"IF A=0 THEN 1"),
+    (&[], b"DIM A$(1)124,B$(1)125", 53, 0, b"IF STR(A$(1),124,1)=\" \" THEN 1"),
+    (&[], b"DIM N$0", 53, 0, b"IF STR(N$,16,1)=\" \" THEN 1"),
+    (&[], b"DIM N$125", 53, 0, b"IF STR(N$,16,1)=\" \" THEN 1"),
+    (&[], b"DIM N$-3", 53, 0, b"IF STR(N$,16,1)=\" \" THEN 1"),
+    (&[], b"DIM N$1/0", 62, 0, b"IF STR(N$,16,1)=\" \" THEN 1"),
+    (&[], b"DIM A(3)5", 53, 0, b"IF A=0 THEN 1"),
+    (&[], b"DIM A(3)0", 53, 0, b"IF A=0 THEN 1"),
+    (&[], b"DIM A(3)1/0", 62, 0, b"IF A=0 THEN 1"),
+    (&[], b"DIM A(63):B=1", 2, 0, b"IF A(63)=0 AND B=0 THEN 1"),
+    (&[], b"DIM A(64):B=1", 2, 0, b"IF B=0 THEN 1"),
+    (&[], b"DIM A(60),B$(1)30,C(2):D=1", 2, 0, b"IF A(60)=0 AND D=0 THEN 1"),
+    (&[], b"DIM A(2),@A(1/0):B=1", 77, 0, b"IF A(2)=0 AND B=0 THEN 1"),
+    (&[], b"DIM A(2),@N$1/0:B=1", 77, 0, b"IF A(2)=0 AND B=0 THEN 1"),
+    (&[b"10 DIM A(2),B(1/0):ERROR B=1"], b"GOTO 10", 62, 10, b"IF A(2)=0 AND B=0 THEN 1"),
+];
+
+#[rattlefmt::skip]
+pub const COMMON: [Row; 16] = [
+    (&[], b"COM A(3),N$20:B=5:A(1)=4:CLEAR N", 0, 0, b"IF A(1)=4 AND STR(N$,20,1)=\" \" AND B=0 THEN 1"),
+    (&[], b"DIM A:A=2:CLEAR N", 0, 0, b"IF A=0 THEN 1"),
+    (&[], b"COM A:A=2:DIM A:CLEAR N", 0, 0, b"IF A=2 THEN 1"),
+    (&[], b"COM A(3):A(2)=6:COM A(3)", 0, 0, b"IF A(2)=6 THEN 1"),
+    (&[], b"A=1:COM A:B=1", 56, 0, b"IF A=1 AND B=0 THEN 1"),
+    (&[], b"DIM A(3):COM A(3)", 56, 0, b"IF A(3)=0 THEN 1"),
+    (&[], b"DIM A(3):COM A(4)", 56, 0, b"IF A(3)=0 THEN 1"),
+    (&[], b"COM A(3):COM A(4)", 55, 0, b"IF A(3)=0 THEN 1"),
+    (&[], b"COM A(3):DIM A(4)", 55, 0, b"IF A(3)=0 THEN 1"),
+    (&[], b"B=1:COM A(3),B,N$20", 56, 0, b"IF A(3)=0 AND B=1 AND STR(N$,16,1)=\" \" THEN 1"),
+    (&[], b"A=1:COM A(0)", 50, 0, b"IF A=1 THEN 1"),
+    (&[], b"COM A(3),N$0", 53, 0, b"IF A(3)=0 THEN 1"),
+    (&[], b"COM A(2),@A$:B=1", 77, 0, b"IF A(2)=0 AND B=0 THEN 1"),
+    (&[], b"COM A(64)", 2, 0, b"IF A=0 THEN 1"),
+    (&[b"10 IF 1=2 THEN B=1:ELSE COM A(3):C=1", b"20 CLEAR N"], b"GOTO 10", 0, 0, b"IF A(3)=0 AND C=0 THEN 1"),
+    (&[b"10 COM A(2):ERROR B=1"], b"GOTO 10", 0, 10, b"IF A(2)=0 AND B=0 THEN 1"),
+];
+
+#[rattlefmt::skip]
+pub const ARRAYS: [Row; 9] = [
+    (&[], b"DIM A$(2)3:INIT(2A)A$()", 0, 0, b"IF A$(1)=\"***\" AND A$(2)=\"***\" THEN 1"),
+    (&[], b"DIM A$(2,2)1:INIT(2A)A$()", 0, 0, b"IF A$(1,1)=\"*\" AND A$(1,2)=\"*\" AND A$(2,1)=\"*\" AND A$(2,2)=\"*\" THEN 1"),
+    (&[], b"DIM A$(2)3:INIT(2A)A$(2)", 0, 0, b"IF A$(1)=\" \" AND A$(2)=\"***\" THEN 1"),
+    (&[], b"DIM A$(2)3:INIT(2A)STR(A$(2),2),A$(3):B=1", 57, 0, b"IF A$(1)=\" \" AND A$(2)=\" **\" AND B=0 THEN 1"),
+    (&[], b"DIM A$(2)3:INIT(2A)A$(),B$(),C$", 59, 0, b"IF A$(1)=\"***\" AND A$(2)=\"***\" AND C$=\" \" THEN 1"),
+    (&[], b"DIM A(63):INIT(2A)A$:B=1", 2, 0, b"IF A$=\" \" THEN 1"),
+    (&[], b"DIM A$(2)2:A$(1)=HEX(8001):ROTATEC(A$(1),1)", 0, 0, b"IF A$(1)=HEX(0003) AND A$(2)=\" \" THEN 1"),
+    (&[], b"DIM A$(3):ROTATE(A$(9),1/0)", 57, 0, b"IF A$(3)=\" \" THEN 1"),
+    (&[], b"DIM A(63):ROTATE(A$,1):B=1", 2, 0, b"IF A$=\" \" THEN 1"),
+];
