@@ -1,4 +1,5 @@
 pub mod Results
+pub mod KeptNone
 pub mod UnitCounts
 pub mod TextsKept
 pub mod Turns

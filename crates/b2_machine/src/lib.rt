@@ -11,11 +11,12 @@
 //!
 //! The definitions are in `specs/`: how a step ends in `Endings`, what is shown in `Messages`, becoming ready in `Readiness`,
 //! where a partition goes on in `Moving`, LIST in `Listed`, the choice among statements in `Statements`, typed lines in
-//! `Typing`, special function keys in `Keys`, the six rules in `Step` and turns in `Turn`.
+//! `Typing`, special function keys in `Keys`, the six rules in `Step` and turns in `Turn`. What holds of steps stands in `laws`.
 #![tactic(auto)]
 
 mod ends;
 mod keys;
+pub mod laws;
 mod listed;
 mod messages;
 mod moving;
