@@ -1,4 +1,7 @@
 //! What holds of steps over any store: each law is the contract of a function without a body.
+ghost use Rattle.b2_access.specs.Partition.{KeepsNone};
+ghost use Rattle.b2_access.specs.declared.private.Private.{Private};
+ghost use Rattle.b2_machine.specs.Step.{step};
 ghost use Rattle.b2_machine.specs.Touched.{StepsAreLocal, StepsStayWithin};
 
 use b2_access::Shared;
@@ -13,4 +16,9 @@ pub fn law_a_step_is_local<S: Shared>()
 /// before.
 pub fn law_a_step_stays_within<S: Shared>()
     ensures { StepsStayWithin S.store S.serving S.lending }
+{}
+
+/// Where no place is kept for CONTINUE while program text runs, a step leaves it so.
+pub fn law_a_step_keeps_no_place<S: Shared>()
+    ensures { (me : Private) (m : S.Meaning) → KeepsNone me → KeepsNone (step S.store S.serving S.lending me m).me }
 {}

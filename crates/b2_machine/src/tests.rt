@@ -574,6 +574,21 @@ fn a_special_function_key_calls(rt: HostRuntime) -> Result<(), Fail> {
     Ok(())
 }
 
+/// Puts calls on a stack up to its limit.
+fn fill_stack(me: &mut Private)
+    ensures part { me.new.part ≡ me.old.part }
+{
+    for _ in 0..200 {
+        let call = Frame::Call {
+            back: None,
+            entered: None,
+        };
+        if me.stack.push(call).is_err() {
+            return;
+        }
+    }
+}
+
 /// The transcript of a key's script with a stack of 200 calls, and the partition after it.
 fn key_on_full_stack(alloc: Global) -> Result<(Private, Vec<u8>), Fail> {
     let mut store = store_with(alloc, 8192)?;
