@@ -11,7 +11,7 @@ struct Row {
     summary: &'static [u8],
 }
 
-const ROWS: [Row; 32] = [
+const ROWS: [Row; 36] = [
     Row {
         log: b"",
         transcript: b"",
@@ -65,6 +65,26 @@ const ROWS: [Row; 32] = [
         log: b"type 1 X=5:PRINT X^2;-X^2\ntype 1 PRINT Q(1)\nrounds 3",
         transcript: b"READY\n:X=5:PRINT X^2;-X^2\n 25 -25 \n:PRINT Q(1)\nERR P59\n:",
         summary: b"turns 3 steps 8 dropped 0\n",
+    },
+    Row {
+        log: b"type 1 DIM A(1000)\ntype 1 DIM B(22)\ntype 1 X=1\ntype 1 PRINT X\nrounds 5",
+        transcript: b"READY\n:DIM A(1000)\n:DIM B(22)\n:X=1\nERR A02\n:PRINT X\n 0 \n:",
+        summary: b"turns 5 steps 13 dropped 0\n",
+    },
+    Row {
+        log: b"type 1 DIM A(3):PRINT A(4)\nrounds 2",
+        transcript: b"READY\n:DIM A(3):PRINT A(4)\nERR P57\n:",
+        summary: b"turns 2 steps 5 dropped 0\n",
+    },
+    Row {
+        log: b"type 1 DIM A$5:PRINT LEN(A$);POS(\"ABC\"=\"C\");VAL(\"A\")\nrounds 2",
+        transcript: b"READY\n:DIM A$5:PRINT LEN(A$);POS(\"ABC\"=\"C\");VAL(\"A\")\n 1  3  65 \n:",
+        summary: b"turns 2 steps 5 dropped 0\n",
+    },
+    Row {
+        log: b"type 1 INIT(2A)A$:PRINT A$:ROTATE(A$,1):PRINT HEXOF(STR(A$,1,2))\nrounds 2",
+        transcript: b"READY\n:INIT(2A)A$:PRINT A$:ROTATE(A$,1):PRINT HEXOF(STR(A$,1,2))\n****************\n5454\n:",
+        summary: b"turns 2 steps 7 dropped 0\n",
     },
     // A full queue drops keys.
     Row {
