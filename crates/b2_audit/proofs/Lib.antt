@@ -7,3 +7,4 @@ pub mod Cleaning
 pub mod CleanSteps
 pub mod Said
 pub mod Accesses
+pub mod OwnTexts

@@ -16,12 +16,12 @@ use Rattle.b2_audit.proofs.Cleaning.{writing_leaves, touches_of_other, own_touch
 use Rattle.b2_audit.proofs.CleanSteps.{AreApart, CleanFrom, in_both, clean_steps}
 
 -- the marks have these objects as foul to a partition
-record Stands (p : ℕ) (m : Marks) (os : List Object) : Type 0 where
-  whole : length m.writers ≡ 60
-  dirty : (o : Object) → IsMarked o → (is_foul p o m ≡ true) ↔ IsIn o os
+pub record Stands (p : ℕ) (m : Marks) (os : List Object) : Type 0 where
+  pub whole : length m.writers ≡ 60
+  pub dirty : (o : Object) → IsMarked o → (is_foul p o m ≡ true) ↔ IsIn o os
 
 -- at the start there are none
-from_start : (p : ℕ) → Stands p unmarked []
+pub from_start : (p : ℕ) → Stands p unmarked []
 from_start p = record {
   whole = length-replicate {A = ℕ} 60 0;
   dirty = λ o is.
@@ -36,18 +36,18 @@ not_one : (p who : ℕ) → (who == p) ≡ false → who ≢ p
 not_one p who isnt e = false≢true (sym isnt ∙ (unsigned_Decides who p).1 e)
 
 -- what a step of another wrote
-of_other : (p : ℕ) (x : Step) (o : Object) → IsIn o (by_other (just p) x) ↔ (IsIn o x.written × (x.who ≢ p))
+pub of_other : (p : ℕ) (x : Step) (o : Object) → IsIn o (by_other (just p) x) ↔ (IsIn o x.written × (x.who ≢ p))
 of_other p x o = by (x.who == p) refl
   where
     by : (b : Bool) → (x.who == p) ≡ b → IsIn o (if b then [] else x.written) ↔ (IsIn o x.written × (x.who ≢ p))
     by true e = (λ i. absurd i, λ h. absurd (h.1 (same_one p x.who e)))
     by false e = (λ i. (i, not_one p x.who e), λ h. h.0)
 
-abbrev after_step : Step → Marks → Marks
+abbrev pub after_step : Step → Marks → Marks
 after_step x m = marked x.who x.touched x.written m
 
 -- a step adds what it wrote
-step_stands : (p : ℕ) (x : Step) (m : Marks) (os : List Object) → IsPartition p → IsPartition x.who → AreMarked x.written → Stands p m os → Stands p (after_step x m) (by_other (just p) x ++ os)
+pub step_stands : (p : ℕ) (x : Step) (m : Marks) (os : List Object) → IsPartition p → IsPartition x.who → AreMarked x.written → Stands p m os → Stands p (after_step x m) (by_other (just p) x ++ os)
 step_stands p x m os is_p is_who are h =
     let keeps = touching_keeps x.who x.touched m in
     let touched = touch_all x.who x.touched m in

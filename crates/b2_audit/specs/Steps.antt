@@ -7,7 +7,7 @@ use Rattle.b2_access.specs.declared.accesses.Answer.{Answer}
 use Rattle.b2_access.specs.Causes.{terminal_of}
 use Rattle.b2_access.specs.Store.{StoreState, IsIn}
 use Rattle.b2_access.specs.Touching.{touched, written_by}
-use Rattle.b2_audit.specs.Marks.{Marks, marked, touch_all, unmarked, is_clean}
+use Rattle.b2_audit.specs.Marks.{Marks, marked, touch, touch_all, unmarked, is_clean}
 
 -- a step of a partition, with the objects that it touched and those that it wrote
 pub record Step : Type 0 where
@@ -77,3 +77,17 @@ MarkedInParts = (who : ℕ) (first touched later written : List Object) (m : Mar
 abbrev pub AccessesAreMarked : Type 0
 AccessesAreMarked = (s : StoreState) (who : ℕ) (a : Access) → IsPartition who → ((t : ℕ) → terminal_of a ≡ Some t → IsTerminal t)
     → AreMarked (touched s who a) × ((x : Answer) → AreMarked (written_by x who a))
+
+-- no step writes the text of another
+abbrev pub WriteOwnTexts : List Step → Type 0
+WriteOwnTexts [] = Unit {0}
+WriteOwnTexts (x ∷ xs) = ((q : ℕ) → IsIn (object.Text q) x.written → q ≡ x.who) × WriteOwnTexts xs
+
+-- where that is so, a partition that touches its own text leaves the marks as they are
+abbrev pub OwnTextsAreIdle : Type 0
+OwnTextsAreIdle = (steps : List Step) (p : ℕ) → AreSteps steps → WriteOwnTexts steps → IsPartition p
+    → touch p (object.Text p) (marks_after steps unmarked) ≡ marks_after steps unmarked
+
+-- an access writes no text but the own
+abbrev pub AccessesWriteOwnTexts : Type 0
+AccessesWriteOwnTexts = (who q : ℕ) (a : Access) (x : Answer) → IsIn (object.Text q) (written_by x who a) → q ≡ who

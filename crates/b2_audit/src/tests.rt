@@ -318,5 +318,7 @@ fn laws_are_there(_rt: HostRuntime) -> Result<(), Fail> {
     laws::law_marks_say_who_is_clean();
     laws::law_a_step_is_marked_in_parts();
     laws::law_accesses_are_marked();
+    laws::law_accesses_write_own_texts();
+    laws::law_own_texts_are_idle();
     Ok(())
 }
