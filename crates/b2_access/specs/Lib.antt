@@ -19,3 +19,4 @@ pub mod Endings
 pub mod Going
 pub mod Placed
 pub mod Homes
+pub mod Keeping

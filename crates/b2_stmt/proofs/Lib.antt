@@ -24,3 +24,4 @@ pub mod MarkRows
 pub mod Executed
 pub mod ReadingOrder
 pub mod HomesKept
+pub mod KeptPlaces

@@ -1,5 +1,6 @@
 //! What holds of statements, whatever they are: each law is the contract of a function without a body.
 ghost use Rattle.b2_access.specs.Homes.{FinishesWithin, PlansWithin};
+ghost use Rattle.b2_access.specs.Keeping.{FinishesKeepNone, PlansKeepNone};
 ghost use Rattle.b2_stmt.specs.Plan.{finish, plan};
 ghost use Rattle.b2_stmt.specs.ReadingOrder.{ReadsInOrder};
 
@@ -18,4 +19,14 @@ pub fn finishes_stay_within()
 /// until none is left.
 pub fn literals_are_read_in_order()
     ensures { ReadsInOrder }
+{}
+
+/// Where no place is kept for CONTINUE, a statement that is planned keeps none, or the partition is then ready.
+pub fn plans_keep_no_place()
+    ensures { PlansKeepNone plan }
+{}
+
+/// And so does one that finishes.
+pub fn finishes_keep_no_place()
+    ensures { FinishesKeepNone finish }
 {}

@@ -14,3 +14,4 @@ pub mod Printed
 pub mod PrintRows
 pub mod UsingRows
 pub mod HomesKept
+pub mod KeptPlaces

@@ -1,5 +1,6 @@
 //! What holds of statements at the terminal, whatever they are: each law is the contract of a function without a body.
 ghost use Rattle.b2_access.specs.Homes.{FinishesWithin, PlansWithin};
+ghost use Rattle.b2_access.specs.Keeping.{FinishesKeepNone, PlansKeepNone};
 ghost use Rattle.b2_stmt_io.specs.Plan.{finish, plan};
 
 /// A statement that is planned names no partition as a home, in a place, in a frame, where it leads or in what it asks for, but
@@ -11,4 +12,14 @@ pub fn plans_stay_within()
 /// And so does one that finishes.
 pub fn finishes_stay_within()
     ensures { FinishesWithin finish }
+{}
+
+/// Where no place is kept for CONTINUE, a statement that is planned keeps none, or the partition is then ready.
+pub fn plans_keep_no_place()
+    ensures { PlansKeepNone plan }
+{}
+
+/// And so does one that finishes.
+pub fn finishes_keep_no_place()
+    ensures { FinishesKeepNone finish }
 {}

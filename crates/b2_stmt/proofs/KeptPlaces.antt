@@ -1,0 +1,240 @@
+-- Where no place is kept, a statement keeps one only where the partition is then ready.
+use Rattle.std.proofs.Common.{◌≡◌, ℕ, ◌==◌, ◌&&◌, nat_lt, Bool, true, false, if◌then◌else◌, List, [], ◌∷◌, length, refl, ap, inl, inr, Option, Some, None, is_some, Ok, Err}
+use Rattle.std.specs.Prelude.{slice_get, ◌⊎◌}
+use Rattle.b2_atom.specs.Tree.{Trees}
+use Rattle.b2_atom.specs.Units.{TreeUnit}
+use Rattle.b2_atom.specs.declared.rows.TheConstants as row
+use Rattle.b2_rows.specs.Following.{tree_units}
+use Rattle.b2_text.specs.Program.{Lines, TextState, line_at, number_after}
+use Rattle.b2_dec.specs.Number.{Number}
+use Rattle.b2_dec.specs.declared.values.Value.{Value}
+use Rattle.b2_flow.specs.Stacks.{from_call, from_loop, has_call, has_loop, most_frames, top_loop}
+use Rattle.b2_flow.specs.declared.frame.Frame.{Frame}
+use Rattle.b2_flow.specs.declared.frame.Frame.TheVariants.{For, Call}
+use Rattle.b2_flow.specs.declared.frame.Place.{Place}
+use Rattle.b2_flow.specs.declared.frame.Var2.{Var2}
+use Rattle.b2_expr.specs.Assigning.{assigned_number}
+use Rattle.b2_expr.specs.Answers.{Answer as NumberAnswer}
+use Rattle.b2_expr.specs.Named.{number_there}
+use Rattle.b2_access.specs.Keeping.{FinishesKeepNone, PlansKeepNone}
+use Rattle.b2_access.specs.Lending.{SeenLent}
+use Rattle.b2_access.specs.Places.{line_start}
+use Rattle.b2_access.specs.Going.{to_place}
+use Rattle.b2_access.specs.Placed.{line_named}
+use Rattle.b2_access.specs.Planning.{Ended, Planning, done}
+use Rattle.b2_access.specs.declared.accesses.Access.{Access}
+use Rattle.b2_access.specs.declared.accesses.Access.TheVariants as access
+use Rattle.b2_access.specs.declared.accesses.Answer.{Answer}
+use Rattle.b2_access.specs.declared.accesses.Answer.TheVariants as answer
+use Rattle.b2_access.specs.declared.planned.Outcome.{Outcome}
+use Rattle.b2_access.specs.declared.planned.Outcome.TheVariants as outcome
+use Rattle.b2_access.specs.declared.planned.Planned.TheVariants as planned
+use Rattle.b2_access.specs.declared.private.Private.{Private}
+use Rattle.b2_stmt.specs.Around.{around}
+use Rattle.b2_stmt.specs.Asked.{Here, asked_of, carried}
+use Rattle.b2_stmt.specs.Calls.{back_from, called_where, forgets, leaves_call}
+use Rattle.b2_stmt.specs.Clearing.{access_of, cleared, edited, finishes}
+use Rattle.b2_stmt.specs.Course.{continues, restores, restores_where, runs, runs_from, runs_where}
+use Rattle.b2_stmt.specs.Frames.{with_frame}
+use Rattle.b2_stmt.specs.Loops.{begins, counted, counts, goes_round, is_over, made_loop, next_value, nexts, tested, without_loop}
+use Rattle.b2_stmt.specs.Marked.{calls_mark, mark_place, takes_args}
+use Rattle.b2_stmt.specs.Plan.{allowed, by_access, course, course_at, course_in, ended_of, finish, is_refused, plan}
+use Rattle.b2_stmt.specs.declared.asked.Asked.{Asked}
+use Rattle.b2_stmt.specs.declared.asked.Asked.TheVariants as asked
+use Rattle.b2_stmt.specs.declared.loops.Loop.{Loop}
+
+-- one thing or another
+either : {A : Type 0} (F : A → Type 0) (b : Bool) (x y : A) → F x → F y → F (if b then x else y)
+either F true x y h k = h
+either F false x y h k = k
+
+-- a statement has ended, and keeps nothing or leads to the ready state
+KeepsNothing : Ended → Type 0
+KeepsNothing e = (e.me.kept ≡ None) ⊎ (e.outcome ≡ outcome.Ready)
+
+abbrev KeepsNoPlace : Private → Type 0
+KeepsNoPlace me = me.kept ≡ None
+
+framed : (f : Frame) (o : Outcome) (me : Private) → KeepsNoPlace me → KeepsNothing (with_frame f o me)
+unfolding KeepsNothing
+framed f o me h = either KeepsNothing (nat_lt (length me.stack) most_frames) (record { me = record me { stack = f ∷ me.stack }; outcome = o }) _ (inl h) (inl h)
+
+-- loops
+made : (o : Option ℕ) (l : Loop) (body : Place) (me : Private) → KeepsNoPlace me → KeepsNothing (made_loop o l body me)
+unfolding KeepsNothing
+made (Some code) l body me h = inl h
+made None l body me h = framed (For l.var l.limit l.step body) outcome.Next (record me { stack = without_loop l.var me.stack }) h
+
+begun : (l : Loop) (body : Place) (me : Private) → KeepsNoPlace me → KeepsNothing (begins l body me)
+begun l body me h = made (assigned_number (counted l.var) l.from me.vars).code l body (record me { vars = (assigned_number (counted l.var) l.from me.vars).vars }) h
+
+tests : (o : Option ℕ) (over : Bool) (body : Place) (me : Private) → KeepsNoPlace me → KeepsNothing (tested o over body me)
+unfolding KeepsNothing
+tests (Some code) over body me h = inl h
+tests None true body me h = inl h
+tests None false body me h = inl h
+
+goes_on : (x : NumberAnswer) (v : Var2) (limit step : Number) (body : Place) (me : Private) → KeepsNoPlace me → KeepsNothing (counts x v limit step body me)
+unfolding KeepsNothing
+goes_on (Err code) v limit step body me h = inl h
+goes_on (Ok x) v limit step body me h =
+    tests (assigned_number (counted v) x me.vars).code (is_over x limit step) body (record me { vars = (assigned_number (counted v) x me.vars).vars }) h
+
+round : (o : Option (Number × Number × Place)) (v : Var2) (me : Private) → KeepsNoPlace me → KeepsNothing (goes_round o v me)
+unfolding KeepsNothing
+round None v me h = inl h
+round (Some p) v me h = goes_on (next_value me.mode (number_there (record { vars = me.vars; element = counted v })) p.1) v p.0 p.1 p.2 me h
+
+next : (v : Var2) (me : Private) → KeepsNoPlace me → KeepsNothing (nexts v me)
+unfolding KeepsNothing
+next v me h = either KeepsNothing (has_loop v me.stack) _ _ (round (top_loop (from_loop v me.stack)) v (record me { stack = from_loop v me.stack }) h) (inl h)
+
+-- calls
+called : (line : Option (List ℕ)) (q : Place) (back : Option Place) (me : Private) → KeepsNoPlace me → KeepsNothing (called_where line q back me)
+unfolding KeepsNothing
+called None q back me h = inl h
+called (Some line) q back me h = framed (Call back None) (outcome.Jump q) me h
+
+mark_called : (to : Option Place) (args : List Value) (back : Option Place) (me : Private) → KeepsNoPlace me → KeepsNothing (calls_mark to args back me)
+unfolding KeepsNothing
+mark_called None args back me h = inl h
+mark_called (Some q) args back me h =
+    either KeepsNothing (nat_lt (length me.stack) most_frames) (record { me = record me { stack = Call back None ∷ me.stack; args = Some args }; outcome = outcome.Jump q }) _ (inl h) (inl h)
+
+taken : (o : Option (List Value)) (home : TextState) (t : Trees) (me : Private) → KeepsNoPlace me → KeepsNothing (takes_args o home t me)
+unfolding KeepsNothing
+taken None home t me h = inl h
+taken (Some xs) home t me h = inl h
+
+back : (how : Option Place → Outcome) (fs : List Frame) (me : Private) → KeepsNoPlace me → KeepsNothing (back_from how fs me)
+unfolding KeepsNothing
+back how [] me h = inl h
+back how (For v limit step body ∷ fs) me h = inl h
+back how (Call place entered ∷ fs) me h = inl h
+
+left : (how : Option Place → Outcome) (me : Private) → KeepsNoPlace me → KeepsNothing (leaves_call how me)
+unfolding KeepsNothing
+left how me h = either KeepsNothing (has_call me.stack) _ _ (back how (from_call me.stack) me h) (inl h)
+
+forgotten : (all : Bool) (p : Place) (me : Private) → KeepsNoPlace me → KeepsNothing (forgets all p me)
+unfolding KeepsNothing
+forgotten false p me h = left (λ b. outcome.Next) me h
+forgotten true p me h = either KeepsNothing (has_call me.stack && (p.home == me.part)) _ _ (inl refl) (inl h)
+
+-- the course of the program
+runs_on : (n : Option ℕ) (me : Private) → KeepsNothing (runs_from n me)
+unfolding KeepsNothing
+runs_on None me = inl refl
+runs_on (Some n) me = inl refl
+
+runs_there : (line : Option (List ℕ)) (n : ℕ) (me : Private) → KeepsNoPlace me → KeepsNothing (runs_where line n me)
+unfolding KeepsNothing
+runs_there None n me h = inl h
+runs_there (Some line) n me h = runs_on (Some n) me
+
+run : (n : Option ℕ) (own : Lines) (me : Private) → KeepsNoPlace me → KeepsNothing (runs n own me)
+run None own me h = runs_on (number_after None own) me
+run (Some n) own me h = runs_there (line_at n own) n me h
+
+continued : (o : Option Place) (me : Private) → KeepsNoPlace me → KeepsNothing (continues o me)
+unfolding KeepsNothing
+continued None me h = inl h
+continued (Some p) me h = inl h
+
+restored_there : (line : Option (List ℕ)) (n : ℕ) (me : Private) → KeepsNoPlace me → KeepsNothing (restores_where line n me)
+unfolding KeepsNothing
+restored_there None n me h = inl h
+restored_there (Some line) n me h = inl h
+
+restored : (n : Option ℕ) (own : Lines) (me : Private) → KeepsNoPlace me → KeepsNothing (restores n own me)
+unfolding KeepsNothing
+restored None own me h = inl h
+restored (Some n) own me h = restored_there (line_at n own) n me h
+
+-- what was asked of the private state
+does : (a : Asked) (p : Place) (me : Private) (own home : Lines) → KeepsNoPlace me → KeepsNothing (carried a p me own home)
+unfolding KeepsNothing
+does (asked.Nothing o) p me own home h = inl h
+does (asked.Begin l body) p me own home h = begun l body me h
+does (asked.Next v) p me own home h = next v me h
+does (asked.Call n to) p me own home h = called (line_at n home) (line_start p n) to me h
+does asked.Return p me own home h = left to_place me h
+does (asked.Forget all) p me own home h = forgotten all p me h
+does (asked.Stop shown after) p me own home h = inr refl
+does (asked.Select mode) p me own home h = inl h
+does (asked.Run n) p me own home h = run n own me h
+does asked.Continue p me own home h = continued me.kept me h
+does (asked.Restore n) p me own home h = restored n own me h
+does (asked.Clear common) p me own home h = inl h
+does (asked.CallMark n args to) p me own home h = mark_called (mark_place n p me.part own home) args to me h
+
+-- a statement
+ended : (r : ℕ) (t : Trees) (h : Here) (me : Private) (s : SeenLent) → KeepsNoPlace me → KeepsNothing (ended_of r t h me s)
+unfolding KeepsNothing
+ended r t h me s k =
+    either KeepsNothing (r == row.ASSIGNMENT) _ _ (inl k)
+    (either KeepsNothing (r == row.READ) _ _ (inl k)
+    (either KeepsNothing (r == row.DEFFN_MARKED) _ _ (taken me.args s.home t me k)
+    (does (asked_of r t h (around me s.home) s.home.lines) h.place me s.own.lines s.home.lines k)))
+
+PlansNothing : Planning → Type 0
+PlansNothing p = (p.me.kept ≡ None) ⊎ (p.planned ≡ planned.Done outcome.Ready)
+
+is_done : (s : SeenLent) (e : Ended) → KeepsNothing e → PlansNothing (done s e)
+unfolding KeepsNothing PlansNothing
+is_done s e (inl h) = inl h
+is_done s e (inr h) = inr (ap planned.Done h)
+
+asking : (o : Option Access) (s : SeenLent) (me : Private) (e : Ended) → KeepsNoPlace me → KeepsNothing e → PlansNothing (by_access o s me e)
+unfolding PlansNothing
+asking None s me e k h = is_done s e h
+asking (Some a) s me e k h = inl k
+
+where_allowed : (r : ℕ) (t : Trees) (h : Here) (me : Private) (s : SeenLent) → KeepsNoPlace me → PlansNothing (allowed r t h me s)
+unfolding PlansNothing
+where_allowed r t h me s k = either PlansNothing (is_refused r (is_some h.place.line)) _ _ (inl k) (asking (access_of r t) s me (ended_of r t h me s) k (ended r t h me s k))
+
+unit : (o : Option TreeUnit) (h : Here) (me : Private) (s : SeenLent) → KeepsNoPlace me → PlansNothing (course_at o h me s)
+unfolding PlansNothing
+unit None h me s k = inl k
+unit (Some u) h me s k = where_allowed u.row u.tree h me s k
+
+line : (o : Option (List ℕ)) (p : Place) (me : Private) (s : SeenLent) → KeepsNoPlace me → PlansNothing (course_in o p me s)
+unfolding PlansNothing
+line None p me s k = inl k
+line (Some l) p me s k = unit (slice_get (tree_units l) p.unit) (record { place = p; units = tree_units l }) me s k
+
+at_place : (o : Option Place) (me : Private) (s : SeenLent) → KeepsNoPlace me → PlansNothing (course o me s)
+unfolding PlansNothing
+at_place None me s k = inl k
+at_place (Some p) me s k = line (line_named me.immediate s.home.lines p.line) p me s k
+
+-- how it finishes
+edits : (a : Answer) (after me : Private) → KeepsNoPlace after → KeepsNoPlace me → KeepsNothing (edited a after me)
+unfolding KeepsNothing
+edits answer.Done after me h k = inl h
+edits (answer.Line bytes) after me h k = inl k
+edits (answer.Special n) after me h k = inl k
+edits (answer.Key b) after me h k = inl k
+edits answer.NoKeys after me h k = inl k
+edits (answer.Wait q) after me h k = inl k
+edits (answer.Locked q) after me h k = inl k
+edits (answer.Refused code) after me h k = inl k
+
+finishing : (x : Access) (a : Answer) (me : Private) → KeepsNoPlace me → KeepsNothing (finishes x a me)
+unfolding KeepsNothing
+finishing (access.ClearAll name homes) a me k = edits a (cleared me) me refl k
+finishing (access.Erase from to homes) a me k = edits a _ me refl k
+finishing (access.Show term bytes) a me k = inl k
+finishing (access.ReadLine term) a me k = inl k
+finishing (access.Insert term bytes) a me k = inl k
+finishing (access.Key term) a me k = inl k
+finishing (access.PutLine line atoms homes) a me k = inl k
+
+pub plans_keep_none : PlansKeepNone plan
+unfolding PlansNothing
+plans_keep_none me s k = at_place me.place me s k
+
+pub finishes_keep_none : FinishesKeepNone finish
+unfolding KeepsNothing
+finishes_keep_none x a me s k = finishing x a me k

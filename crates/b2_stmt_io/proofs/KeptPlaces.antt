@@ -1,0 +1,141 @@
+-- Where no place is kept, a statement at the terminal keeps none.
+use Rattle.std.proofs.Common.{◌≡◌, ℕ, ◌==◌, ◌||◌, Bool, true, false, if◌then◌else◌, List, inl, Option, Some, None, is_some}
+use Rattle.b2_atom.specs.Tree.{Trees}
+use Rattle.b2_atom.specs.Tree.Trees.{Done, Put, In}
+use Rattle.b2_atom.specs.declared.rows.TheConstants as row
+use Rattle.b2_flow.specs.declared.frame.Place.{Place}
+use Rattle.b2_text.specs.Program.{Lines, TextState}
+use Rattle.b2_vars.specs.Tables.{VarsState}
+use Rattle.b2_expr.specs.Assigning.{Assigned}
+use Rattle.b2_access.specs.Keeping.{FinishesKeepNone, PlansKeepNone}
+use Rattle.b2_access.specs.Lending.{SeenLent}
+use Rattle.b2_access.specs.Partition.{setting_of}
+use Rattle.b2_access.specs.Placed.{Statement, statement_at}
+use Rattle.b2_access.specs.Planning.{Ended, Planning}
+use Rattle.b2_access.specs.declared.accesses.Access.{Access}
+use Rattle.b2_access.specs.declared.accesses.Access.TheVariants as access
+use Rattle.b2_access.specs.declared.accesses.Answer.{Answer}
+use Rattle.b2_access.specs.declared.accesses.Answer.TheVariants as answer
+use Rattle.b2_access.specs.declared.private.Private.{Private}
+use Rattle.b2_stmt_io.specs.Inputs.{takes_parts}
+use Rattle.b2_stmt_io.specs.Keys.{keyed, takes_key}
+use Rattle.b2_stmt_io.specs.LineReading.{after_showing, line_read, takes_line, types}
+use Rattle.b2_stmt_io.specs.Marks.{typed_by}
+use Rattle.b2_stmt_io.specs.Plan.{course, course_at, course_of, ended, ended_at, ended_of, finish, is_refused, plan}
+use Rattle.b2_stmt_io.specs.Showing.{shown}
+
+-- one thing or another
+either : {A : Type 0} (F : A → Type 0) (b : Bool) (x y : A) → F x → F y → F (if b then x else y)
+either F true x y h k = h
+either F false x y h k = k
+
+KeepsNoPlace : Private → Type 0
+KeepsNoPlace me = me.kept ≡ None
+
+-- what is planned
+planned_of : (u : Statement) (me : Private) (s : SeenLent) → KeepsNoPlace me → KeepsNoPlace (course_of u me s).me
+unfolding KeepsNoPlace
+planned_of u me s h = either (λ (p : Planning). p.me.kept ≡ None) (u.row == row.CONVERT) _ _ h h
+
+planned_unit : (o : Option Statement) (p : Place) (me : Private) (s : SeenLent) → KeepsNoPlace me → KeepsNoPlace (course_at o p me s).me
+unfolding KeepsNoPlace
+planned_unit None p me s h = h
+planned_unit (Some u) p me s h = either (λ (q : Planning). q.me.kept ≡ None) (is_refused u.row (is_some p.line)) _ _ h (planned_of u me s h)
+
+planned_at : (o : Option Place) (me : Private) (s : SeenLent) → KeepsNoPlace me → KeepsNoPlace (course o me s).me
+unfolding KeepsNoPlace
+planned_at None me s h = h
+planned_at (Some p) me s h = planned_unit (statement_at p me.immediate s.home.lines) p me s h
+
+-- how PRINT and PRINTUSING finish
+after_shown : (x : Access) (a : Answer) (me : Private) → KeepsNoPlace me → KeepsNoPlace (shown x a me).me
+unfolding KeepsNoPlace
+after_shown (access.Show term bytes) answer.Done me h = h
+after_shown (access.Show term bytes) (answer.Line line) me h = h
+after_shown (access.Show term bytes) (answer.Special n) me h = h
+after_shown (access.Show term bytes) (answer.Key b) me h = h
+after_shown (access.Show term bytes) answer.NoKeys me h = h
+after_shown (access.Show term bytes) (answer.Wait q) me h = h
+after_shown (access.Show term bytes) (answer.Locked q) me h = h
+after_shown (access.Show term bytes) (answer.Refused code) me h = h
+after_shown (access.ReadLine term) a me h = h
+after_shown (access.Insert term bytes) a me h = h
+after_shown (access.Key term) a me h = h
+after_shown (access.PutLine line atoms homes) a me h = h
+after_shown (access.Erase from to homes) a me h = h
+after_shown (access.ClearAll name homes) a me h = h
+
+-- KEYIN
+after_taken : (key : ℕ) (special : Bool) (home : TextState) (p : Place) (t : Trees) (me : Private) → KeepsNoPlace me → KeepsNoPlace (takes_key key special home p t me).me
+unfolding KeepsNoPlace
+after_taken key special home p Done me h = h
+after_taken key special home p (In n a t) me h = h
+after_taken key special home p (Put word Done) me h = h
+after_taken key special home p (Put word (Put v t)) me h = h
+after_taken key special home p (Put word (In n receiver lines)) me h = h
+
+after_key : (a : Answer) (home : TextState) (p : Place) (t : Trees) (me : Private) → KeepsNoPlace me → KeepsNoPlace (keyed a home p t me).me
+unfolding KeepsNoPlace
+after_key answer.Done home p t me h = h
+after_key (answer.Line bytes) home p t me h = h
+after_key (answer.Special n) home p t me h = after_taken n true home p t me h
+after_key (answer.Key key) home p t me h = after_taken key false home p t me h
+after_key answer.NoKeys home p t me h = h
+after_key (answer.Wait q) home p t me h = h
+after_key (answer.Locked q) home p t me h = h
+after_key (answer.Refused code) home p t me h = h
+
+-- INPUT and LINPUT
+after_prompt : (x : Access) (me : Private) → KeepsNoPlace me → KeepsNoPlace (after_showing x me).me
+unfolding KeepsNoPlace
+after_prompt (access.Show term bytes) me h = h
+after_prompt (access.ReadLine term) me h = h
+after_prompt (access.Insert term bytes) me h = h
+after_prompt (access.Key term) me h = h
+after_prompt (access.PutLine line atoms homes) me h = h
+after_prompt (access.Erase from to homes) me h = h
+after_prompt (access.ClearAll name homes) me h = h
+
+after_special : (o : Option (List ℕ)) (me : Private) → KeepsNoPlace me → KeepsNoPlace (types o me).me
+unfolding KeepsNoPlace
+after_special None me h = h
+after_special (Some text) me h = h
+
+after_line : (takes : List ℕ → VarsState → Assigned) (x : Access) (a : Answer) (own : Lines) (me : Private) → KeepsNoPlace me → KeepsNoPlace (line_read takes x a own me).me
+unfolding KeepsNoPlace
+after_line takes x answer.Done own me h = after_prompt x me h
+after_line takes x (answer.Line line) own me h = h
+after_line takes x (answer.Special n) own me h = after_special (typed_by n own) me h
+after_line takes x (answer.Key b) own me h = h
+after_line takes x answer.NoKeys own me h = h
+after_line takes x (answer.Wait q) own me h = h
+after_line takes x (answer.Locked q) own me h = h
+after_line takes x (answer.Refused code) own me h = h
+
+-- how a statement finishes
+ended_by : (u : Statement) (p : Place) (x : Access) (a : Answer) (me : Private) (s : SeenLent) → KeepsNoPlace me → KeepsNoPlace (ended_of u p x a me s).me
+unfolding KeepsNoPlace
+ended_by u p x a me s h =
+    let F : Ended → Type 0 = λ e. e.me.kept ≡ None in
+    either F (u.row == row.PRINT || u.row == row.PRINTUSING) _ _ (after_shown x a me h)
+    (either F (u.row == row.KEYIN) _ _ (after_key a s.home p u.tree me h)
+    (either F (u.row == row.LINPUT) _ _ (after_line (λ line vars. takes_line (setting_of me) s.home line u.tree vars) x a s.own.lines me h)
+    (either F (u.row == row.INPUT) _ _ (after_line (λ line vars. takes_parts (setting_of me) s.home line u.tree vars) x a s.own.lines me h) h)))
+
+ended_unit : (o : Option Statement) (p : Place) (x : Access) (a : Answer) (me : Private) (s : SeenLent) → KeepsNoPlace me → KeepsNoPlace (ended_at o p x a me s).me
+unfolding KeepsNoPlace
+ended_unit None p x a me s h = h
+ended_unit (Some u) p x a me s h = either (λ (e : Ended). e.me.kept ≡ None) (is_refused u.row (is_some p.line)) _ _ h (ended_by u p x a me s h)
+
+ended_place : (o : Option Place) (x : Access) (a : Answer) (me : Private) (s : SeenLent) → KeepsNoPlace me → KeepsNoPlace (ended o x a me s).me
+unfolding KeepsNoPlace
+ended_place None x a me s h = h
+ended_place (Some p) x a me s h = ended_unit (statement_at p me.immediate s.home.lines) p x a me s h
+
+pub plans_keep_none : PlansKeepNone plan
+unfolding KeepsNoPlace
+plans_keep_none me s h = inl (planned_at me.place me s h)
+
+pub finishes_keep_none : FinishesKeepNone finish
+unfolding KeepsNoPlace
+finishes_keep_none x a me s h = inl (ended_place me.place x a me s h)
