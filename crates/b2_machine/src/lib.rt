@@ -11,7 +11,8 @@
 //!
 //! The definitions are in `specs/`: how a step ends in `Endings`, what is shown in `Messages`, becoming ready in `Readiness`,
 //! where a partition goes on in `Moving`, LIST in `Listed`, the choice among statements in `Statements`, typed lines in
-//! `Typing`, special function keys in `Keys`, the six rules in `Step` and turns in `Turn`.
+//! `Typing`, special function keys in `Keys`, the six rules in `Step`, turns in `Turn`, and what a step touches and writes in
+//! `Touched`.
 #![tactic(auto)]
 
 mod ends;

@@ -5,8 +5,9 @@
 //! dropped keys are counted.
 //!
 //! Stands on `b2_machine` for a turn, on `b2_store` for the store, on `b2_access` for what a partition has for itself, on
-//! `b2_boot` for boots and events, and on `b2_base`. The definitions are in `specs/`: what events do in `World`, and the world
-//! of a boot in `Start`.
+//! `b2_boot` for boots and events, on `b2_base`, and for its laws on `b2_audit` and `b2_flow`. The definitions are in `specs/`:
+//! what events do in `World`, the world of a boot in `Start`, what a group of partitions can rely on in `Groups`, and a turn over
+//! a watched store in `Marking`.
 #![tactic(auto)]
 
 pub mod laws;
