@@ -11,7 +11,11 @@ use b2_rows::{RowUnit, row_unit};
 use b2_text::Text;
 
 /// The line of a place: one of the text at home, or the immediate line.
-pub fn line_named<'a>(immediate: &'a Option<Atoms>, home: &'a Text, n: Option<u16>) -> Option<&'a Atoms>
+pub fn line_named<'a>(
+    immediate: &'a Option<Atoms>,
+    home: &'a Text,
+    n: Option<u16>,
+) -> Option<&'a Atoms>
     ensures { option_map (λ l. l.now) result ≡ spec.line_named immediate.now home.now.lines n }
 {
     match n {

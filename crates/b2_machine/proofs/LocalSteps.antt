@@ -53,6 +53,7 @@ module _ {M : Type 0} (store : M → StoreState) (serving : ServingOf M) (lendin
     where
       both : ServesAlike store serving who a m n
       both = local.alike who a m n agree
+
       by : Decided (IsIn o (writes store serving m who a)) → content (store (serving m who a).after) o ≡ content (store (serving n who a).after) o
       by (inl i) = both.contents o i
       by (inr out) = local.others who a m o out ∙ same ∙ sym (local.others who a n o (λ i. out (subst (λ (os : List Object). IsIn o os) (sym both.wrote) i)))

@@ -41,9 +41,11 @@ module _ (g : Group) (p : ℕ) where
         here : row_of p (rows (members xs)) ≡ cond (g p) (row_of p (rows xs)) None → (x.number == p) ≡ true → (b : Bool) → g p ≡ b → row_of p (rows (cond b (x ∷ members xs) (members xs))) ≡ cond b (row_of p (rows (x ∷ xs))) None
         here later e true is = ap (λ t. cond t (Some (h x)) (row_of p (rows (members xs)))) e ∙ sym (ap (λ t. cond t (Some (h x)) (row_of p (rows xs))) e)
         here later e false is = later ∙ ap (λ t. cond t (row_of p (rows xs)) None) is
+
         there : (x.number == p) ≡ false → (b : Bool) → row_of p (rows (cond b (x ∷ members xs) (members xs))) ≡ row_of p (rows (members xs))
         there e true = ap (λ t. cond t (Some (h x)) (row_of p (rows (members xs)))) e
         there e false = refl
+
         by : (b : Bool) → (x.number == p) ≡ b → row_of p (rows (members xs)) ≡ cond (g p) (row_of p (rows xs)) None → row_of p (rows (members (x ∷ xs))) ≡ cond (g p) (row_of p (rows (x ∷ xs))) None
         by true e later = ap (λ t. row_of p (rows (cond t (x ∷ members xs) (members xs)))) (ap g (same_number x.number p e)) ∙ here later e (g p) refl
         by false e later = there e (g x.number) ∙ later ∙ ap (λ t. cond (g p) (cond t (Some (h x)) (row_of p (rows xs))) None) (sym e)
@@ -66,6 +68,7 @@ module _ (g : Group) (p : ℕ) where
     where
       it : (you : Private) → Some you ≡ Some me → you ≡ me
       it you e = cc
+
       by : (b : Bool) → (x.number == p) ≡ b → (row_of p (map private_row xs) ≡ Some me → IsWithin g me) → cond b (Some (private_row x).1) (row_of p (map private_row xs)) ≡ Some me → IsWithin g me
       by true e later found = subst (λ (you : Private). IsWithin g you) (it (private_row x).1 found) (record { part = ap g (same_number x.number p e) ∙ member; place = tt; kept = tt; frames = tt })
       by false e later found = later found

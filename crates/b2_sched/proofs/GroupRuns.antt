@@ -37,6 +37,7 @@ terminal_alike t f s u o same = by (same_object o (object.Terminal t))
     here : content s (object.Terminal t) ≡ content u (object.Terminal t)
         → content (with_terminal (content s (object.Terminal t)) t f s) (object.Terminal t) ≡ content (with_terminal (content u (object.Terminal t)) t f u) (object.Terminal t)
     here h = terminal_same (content s (object.Terminal t)) t f s refl ∙ ap (option_map f) h ∙ sym (terminal_same (content u (object.Terminal t)) t f u refl)
+
     by : Decided (o ≡ object.Terminal t) → content (with_terminal (content s (object.Terminal t)) t f s) o ≡ content (with_terminal (content u (object.Terminal t)) t f u) o
     by (inl is) =
         subst (λ (x : Object). content s x ≡ content u x → content (with_terminal (content s (object.Terminal t)) t f s) x ≡ content (with_terminal (content u (object.Terminal t)) t f u) x) (sym is) here same

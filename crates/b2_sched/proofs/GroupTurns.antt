@@ -50,6 +50,7 @@ turn_stays_within among (suc n) me s steps w = by (step_of me s).end.why (turn_s
   where
     next : IsWithin among (step_of me s).me
     next = (steps_stay_within itself serves after_loan among me s w).0
+
     by : (why : Option Why) → IsWithin among (turn_on n (step_of me s).me (step_of me s).after (counted_on steps (step_of me s).end)).me
         → IsWithin among (unless_ended why (λ w. ended (counted_on steps (step_of me s).end) w (step_of me s).me (step_of me s).after) (turn_on n (step_of me s).me (step_of me s).after (counted_on steps (step_of me s).end))).me
     by None later = later
@@ -66,6 +67,7 @@ module _ (g : Group) where
     where
       kept : (xs : List Step) → (IsIn o (foul_after g xs (fouled g (told who me s) os)) → ⊥) → content (step_of me s).after o ≡ content s o
       kept xs c = (local me).others s o (λ i. c (stays_foul g xs (fouled g (told who me s) os) o (other_fouls g (told who me s) os o out i)))
+
       by : (why : Option Why)
           → ((IsIn o (foul_after g (steps_in_turn who n (step_of me s).me (step_of me s).after) (fouled g (told who me s) os)) → ⊥) → content (turn_on n (step_of me s).me (step_of me s).after (counted_on steps (step_of me s).end)).after o ≡ content (step_of me s).after o)
           → (IsIn o (foul_after g (unless_ended why (λ w. []) (steps_in_turn who n (step_of me s).me (step_of me s).after)) (fouled g (told who me s) os)) → ⊥)
@@ -119,8 +121,10 @@ module _ (g : Group) where
       where
         next : IsWithin g (step_of me s).me
         next = (steps_stay_within itself serves after_loan g me s w).0
+
         kept : content (step_of me s).after o ≡ content s o
         kept = (local me).others s o (λ i. none_out (step_touched me s) o (stepped me s w) ((local me).within s o i) is)
+
         by : (why : Option Why) → content (turn_on n (step_of me s).me (step_of me s).after (counted_on steps (step_of me s).end)).after o ≡ content (step_of me s).after o
             → content (unless_ended why (λ w. ended (counted_on steps (step_of me s).end) w (step_of me s).me (step_of me s).after) (turn_on n (step_of me s).me (step_of me s).after (counted_on steps (step_of me s).end))).after o ≡ content s o
         by None later = later ∙ kept
@@ -153,12 +157,16 @@ module _ (g : Group) where
       where
         alike : GoesAlike itself serves me.part (asking me) (step itself serves after_loan me) s t
         alike = step_alike me s t os w agree (clean.0 member)
+
         next : IsWithin g (step_of me s).me
         next = (steps_stay_within itself serves after_loan g me s w).0
+
         agree_next : StoresAlike out os (step_of me s).after (step_of me t).after
         agree_next = next_agree me s t os agree alike
+
         rest : CleanFrom g os (unless_ended (step_of me s).end.why (λ w. []) (steps_in_turn who n (step_of me s).me (step_of me s).after))
         rest = subst (λ (xs : List Object). CleanFrom g xs (unless_ended (step_of me s).end.why (λ w. []) (steps_in_turn who n (step_of me s).me (step_of me s).after))) (own_fouls_nothing g (told who me s) os member) clean.1
+
         by : (why : Option Why)
             → (CleanFrom g os (steps_in_turn who n (step_of me s).me (step_of me s).after) → TurnsAlike os (turn_on n (step_of me s).me (step_of me s).after (counted_on steps (step_of me s).end)) (turn_on n (step_of me s).me (step_of me t).after (counted_on steps (step_of me s).end)))
             → CleanFrom g os (unless_ended why (λ w. []) (steps_in_turn who n (step_of me s).me (step_of me s).after))

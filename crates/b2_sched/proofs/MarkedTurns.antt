@@ -50,6 +50,7 @@ still_own p who ts ws m is_p is_who are whole never own = by (is_foul p (object.
   where
     keeps : (touch_all who ts m).writers ≡ m.writers
     keeps = touching_keeps who ts m
+
     by : (b : Bool) → is_foul p (object.Text p) (marked who ts ws m) ≡ b → b ≡ false
     by false e = refl
     by true e = elim ((all_written p who ws (object.Text p) (touch_all who ts m) is_p is_who are is_p (ap (λ (sets : List ℕ). length sets) keeps ∙ whole)).0 e) [
@@ -119,7 +120,7 @@ carried : (p : ℕ) (c : Course) (place : Place) (me : Private) (s : StoreState)
     → carries_out store_in (watching itself serves) (watched_loan after_loan) c place me (s, m) ≡ with_marks (carries_out itself serves after_loan c place me s) (step_marks p (record { who = me.part; access = access_of c }) s m)
 carried p c place me s m same =
     subst (λ (q : ℕ). IsOwnText q m → IsOwnText q (step_marks q (record { who = me.part; access = access_of c }) s m)
-        → carries_out store_in (watching itself serves) (watched_loan after_loan) c place me (s, m) ≡ with_marks (carries_out itself serves after_loan c place me s) (step_marks q (record { who = me.part; access = access_of c }) s m))
+    → carries_out store_in (watching itself serves) (watched_loan after_loan) c place me (s, m) ≡ with_marks (carries_out itself serves after_loan c place me s) (step_marks q (record { who = me.part; access = access_of c }) s m))
     same (carried_own c place me s m)
 
 by_statement : (place : Place) (me : Private) → IsMarkedBy me.part (λ s. asks_at (Some place) me s) (λ s. executes itself serves after_loan place me s) (λ m. executes store_in (watching itself serves) (watched_loan after_loan) place me m)
@@ -169,7 +170,7 @@ one_step p me s m is_p w are whole own =
     let asks : (asking me s).who ≡ p = same_number (asking me s).who p (steps_stay_within itself serves after_loan (just p) me s w).1 in
     let after = still_own p p (step_touched me s) (step_written itself serves me s) m is_p is_p are whole (λ i apart. apart refl) own in
     subst (λ (q : ℕ). (asking me s).who ≡ q → IsOwnText q m → IsOwnText q (marked q (step_touched me s) (step_written itself serves me s) m)
-        → step store_in (watching itself serves) (watched_loan after_loan) me (s, m) ≡ with_marks (step_of me s) (marked q (step_touched me s) (step_written itself serves me s) m))
+    → step store_in (watching itself serves) (watched_loan after_loan) me (s, m) ≡ with_marks (step_of me s) (marked q (step_touched me s) (step_written itself serves me s) m))
     same (step_is_marked me s m) asks own after
 
 pub turn_is_marked : (p n : ℕ) (me : Private) (s : StoreState) (m : Marks) (steps : ℕ) → IsPartition p → IsWithin (just p) me → AreSteps (steps_in_turn p n me s) → length m.writers ≡ 60 → IsOwnText p m
@@ -183,10 +184,13 @@ turn_is_marked p (suc n) me s m steps is_p w are whole own =
   where
     next : IsWithin (just p) (step_of me s).me
     next = (steps_stay_within itself serves after_loan (just p) me s w).0
+
     still : IsOwnText p (marked p (step_touched me s) (step_written itself serves me s) m)
     still = still_own p p (step_touched me s) (step_written itself serves me s) m is_p is_p are.2 whole (λ i apart. apart refl) own
+
     as_long : length (marked p (step_touched me s) (step_written itself serves me s) m).writers ≡ 60
     as_long = still_whole p (step_written itself serves me s) (touch_all p (step_touched me s) m) are.2 ∙ ap (λ (sets : List ℕ). length sets) (touching_keeps p (step_touched me s) m) ∙ whole
+
     by : (why : Option Why)
         → (AreSteps (steps_in_turn p n (step_of me s).me (step_of me s).after)
         → turn_from store_in (watching itself serves) (watched_loan after_loan) n (step_of me s).me ((step_of me s).after, marked p (step_touched me s) (step_written itself serves me s) m) (counted_on steps (step_of me s).end)

@@ -17,7 +17,10 @@ use crate::inputs::{after_input, ask_input};
 use crate::keys::after_key;
 use crate::line_reading::{after_linput, ask_linput};
 use crate::showing::{after_show, ask_print};
-use b2_access::{Access, Answer, DeviceTable, Lent, Outcome, Planned, Private, failed, goes_or, setting_of, statement_at, statement_on};
+use b2_access::{
+    Access, Answer, DeviceTable, Lent, Outcome, Planned, Private, failed, goes_or, setting_of,
+    statement_at, statement_on,
+};
 use b2_atom::{Atoms, rows};
 use b2_base::NoMemory;
 use b2_base::codes::{S26_PROGRAM_ONLY, S27_LEFT_OUT};

@@ -40,7 +40,11 @@ fn digits_of(alloc: Global, boot: &Boot) -> Result<Vec<u8>, Fail> {
     }
     digits.push(b'/')?;
     for p in &boot.partitions {
-        digits.extend_from_slice(&[digit(p.number.number()), digit(p.terminal.number()), b'0' + (p.text % 10) as u8])?;
+        digits.extend_from_slice(&[
+            digit(p.number.number()),
+            digit(p.terminal.number()),
+            b'0' + (p.text % 10) as u8,
+        ])?;
     }
     Ok(digits)
 }
