@@ -6,9 +6,9 @@ use Rattle.std.proofs.lemmas.Bool.{and_parts, and_from, cases_eq, ltb-true, lt-l
 use Rattle.std.proofs.lemmas.Slice.Eq.{bytes_eq-Decides}
 use Rattle.std.proofs.lemmas.Bool.Decides.{same_from_decides}
 use Rattle.b2_platter.specs.declared.layout.Layout.TheVariants.{Narrow}
-use Rattle.b2_platter.specs.Slot.{is_free, is_entry, is_spelled, start_of, end_of, name_of}
-use Rattle.b2_platter.specs.Image.{row, sector, index_of, next_free, first_slot, has_free, hash, around, is_clear_to}
-use Rattle.b2_platter.specs.Checks.{has_head, is_ordered, lies_in, differ_in_name, is_reached, lie_apart, is_controlled, Good}
+use Rattle.b2_platter.specs.Slot.{is_free, is_entry, is_spelled, slot_start, slot_end, slot_name}
+use Rattle.b2_platter.specs.Image.{row, sector, index_of, next_free, first_slot, has_free, hash, cyclic_from, is_clear_to}
+use Rattle.b2_platter.specs.Checks.{has_head, is_ordered, lies_in, differ_in_name, is_reachable, lie_apart, is_controlled, Good}
 use Rattle.b2_platter.proofs.Ranges.{list_any-found, list_any-at}
 use Rattle.b2_platter.proofs.Goodness.{Parts-of}
 use Rattle.b2_platter.proofs.Soundness.{Sound-from_Good, Good-from_Sound}
@@ -37,18 +37,18 @@ turned_four false false c d = refl
 pub differ_turned : (slot other : List ℕ) → differ_in_name slot other ≡ differ_in_name other slot
 unfolding differ_in_name
 differ_turned slot other =
-    ap (λ (b : Bool). not (is_entry slot && is_entry other && b)) (same_bytes (name_of slot) (name_of other)) ∙ ap not (turned_two (is_entry slot) (is_entry other) (bytes_eq (name_of other) (name_of slot)))
+    ap (λ (b : Bool). not (is_entry slot && is_entry other && b)) (same_bytes (slot_name slot) (slot_name other)) ∙ ap not (turned_two (is_entry slot) (is_entry other) (bytes_eq (slot_name other) (slot_name slot)))
 
 pub apart_turned : (slot other : List ℕ) → lie_apart Narrow slot other ≡ lie_apart Narrow other slot
 unfolding lie_apart
 apart_turned slot other =
-    ap not (turned_four (is_entry slot) (is_entry other) (nat_le (start_of Narrow slot) (end_of Narrow other)) (nat_le (start_of Narrow other) (end_of Narrow slot)))
+    ap not (turned_four (is_entry slot) (is_entry other) (nat_le (slot_start Narrow slot) (slot_end Narrow other)) (nat_le (slot_start Narrow other) (slot_end Narrow slot)))
 
 -- more free sectors
 pub lies_more : (index next next' : ℕ) (slot : List ℕ) → next ≤ next' → lies_in Narrow index next slot ≡ true → lies_in Narrow index next' slot ≡ true
 unfolding lies_in
 lies_more index next next' slot more h =
-    guard_step (is_entry slot) _ _ (λ inner. let parts = and_parts _ _ inner in let high : end_of Narrow slot < next = ltb-true _ _ parts.1 in and_from _ _ parts.0 (lt-ltb _ _ (omega arith))) h
+    guard_step (is_entry slot) _ _ (λ inner. let parts = and_parts _ _ inner in let high : slot_end Narrow slot < next = ltb-true _ _ parts.1 in and_from _ _ parts.0 (lt-ltb _ _ (omega arith))) h
 
 -- what changed
 pub record Changes (a b : List ℕ) (k : ℕ) : Type 0 where
@@ -63,9 +63,9 @@ pub record Changes (a b : List ℕ) (k : ℕ) : Type 0 where
   pub names : (j : ℕ) → 1 ≤ j → j < 16 * index_of a → j ≢ k → differ_in_name (row b k) (row a j) ≡ true
   pub apart : (j : ℕ) → 1 ≤ j → j < 16 * index_of a → j ≢ k → lie_apart Narrow (row b k) (row a j) ≡ true
   pub free : is_free (row b k) ≡ true → is_free (row a k) ≡ true
-  pub reached : is_reached b k ≡ true
+  pub reached : is_reachable b k ≡ true
   pub controlled : is_controlled Narrow b (row b k) ≡ true
-  pub ends : (j : ℕ) → 1 ≤ j → j < 16 * index_of a → j ≢ k → is_entry (row a j) ≡ true → sector b (end_of Narrow (row a j)) ≡ sector a (end_of Narrow (row a j))
+  pub ends : (j : ℕ) → 1 ≤ j → j < 16 * index_of a → j ≢ k → is_entry (row a j) ≡ true → sector b (slot_end Narrow (row a j)) ≡ sector a (slot_end Narrow (row a j))
 
 -- no sector gets a free slot where the changed slot doesn't become free
 module _ (a b : List ℕ) (k : ℕ) (good : Good Narrow a) (index : index_of b ≡ index_of a) (rows : (j : ℕ) → 1 ≤ j → j < 16 * index_of a → j ≢ k → row b j ≡ row a j) (free : is_free (row b k) ≡ true → is_free (row a k) ≡ true) where
@@ -83,15 +83,15 @@ module _ (a b : List ℕ) (k : ℕ) (good : Good Narrow a) (index : index_of b �
         | inr other ↦ subst (λ (r : List ℕ). is_free r ≡ true) (rows w.0 at.0 at.1 other) w.3
       ])
 
-  pub clear_still : (own first : ℕ) → is_clear_to (has_free a) own (around (index_of a) first) ≡ true → is_clear_to (has_free b) own (around (index_of a) first) ≡ true
+  pub clear_still : (own first : ℕ) → is_clear_to (has_free a) own (cyclic_from (index_of a) first) ≡ true → is_clear_to (has_free b) own (cyclic_from (index_of a) first) ≡ true
   clear_still own first h = clear_fewer (has_free b) (has_free a) own first (index_of a) 0 (index_of a) some fewer_free h
 
   -- a file whose name and slot stay is reached still
-  pub reached_still : (j : ℕ) → is_entry (row b j) ≡ is_entry (row a j) → name_of (row b j) ≡ name_of (row a j) → is_reached a j ≡ true → is_reached b j ≡ true
-  unfolding is_reached
+  pub reached_still : (j : ℕ) → is_entry (row b j) ≡ is_entry (row a j) → slot_name (row b j) ≡ slot_name (row a j) → is_reachable a j ≡ true → is_reachable b j ≡ true
+  unfolding is_reachable
   reached_still j entry name was =
       rw (entry, name, index)
-      (guard_step (is_entry (row a j)) _ _ (clear_still (j / 16) (hash (index_of a) (name_of (row a j)))) was)
+      (guard_step (is_entry (row a j)) _ _ (clear_still (j / 16) (hash (index_of a) (slot_name (row a j)))) was)
 
 module _ (a b : List ℕ) (k : ℕ) (good : Good Narrow a) (changes : Changes a b k) where
   pub changed_good : Good Narrow b
@@ -118,8 +118,8 @@ module _ (a b : List ℕ) (k : ℕ) (good : Good Narrow a) (changes : Changes a 
           ]
         ]);
         reached = λ j low high. elim (cases_eq j k) [
-          | inl same ↦ subst (λ (j : ℕ). is_reached b j ≡ true) (sym same) changes.reached
-          | inr other ↦ (let high' : j < 16 * index_of a = omega (arith, i) in (let same = changes.rows j low high' other in reached_still a b k good changes.index changes.rows changes.free j (ap is_entry same) (ap name_of same) (s.reached j low high')))
+          | inl same ↦ subst (λ (j : ℕ). is_reachable b j ≡ true) (sym same) changes.reached
+          | inr other ↦ (let high' : j < 16 * index_of a = omega (arith, i) in (let same = changes.rows j low high' other in reached_still a b k good changes.index changes.rows changes.free j (ap is_entry same) (ap slot_name same) (s.reached j low high')))
         ];
         apart = λ j m low order high. (let high' : m < 16 * index_of a = omega (arith, i) in elim (cases_eq j k) [
           | inl same ↦ (let other : m ≢ k = λ e. omega (arith, same, e) in subst (λ (q : ℕ). lie_apart Narrow (row b q) (row b m) ≡ true) (sym same) (rw (changes.rows m (omega arith) high' other) (changes.apart m (omega arith) high' other)))

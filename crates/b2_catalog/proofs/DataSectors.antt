@@ -7,7 +7,7 @@ use Rattle.std.proofs.lemmas.Slice.Eq.{bytes_eq-Decides}
 use Rattle.b2_catalog.proofs.Mapping.{tie-eq}
 use Rattle.std.proofs.lemmas.Bool.{and_parts, and_from, leb-true, le-leb, lt-ltb}
 use Rattle.b2_platter.specs.declared.layout.Layout.TheVariants.{Narrow}
-use Rattle.b2_platter.specs.Slot.{is_entry, start_of, end_of, name_of}
+use Rattle.b2_platter.specs.Slot.{is_entry, slot_start, slot_end, slot_name}
 use Rattle.b2_platter.specs.Image.{row, sector, index_of, total_of}
 use Rattle.b2_platter.specs.Checks.{Good, is_control, is_controlled, used_of}
 use Rattle.b2_platter.specs.Edits.{put_sector, put_from, holds_data, is_data_sector}
@@ -28,9 +28,9 @@ filter_map-same f g a (suc n) h =
 
 module _ (image : List ℕ) (good : Good Narrow image) (n : ℕ) (within : is_data_sector Narrow image n ≡ true) (bytes : List ℕ) (long : length bytes ≡ 256) where
   named_chosen : (k : ℕ) → 1 ≤ k → k < 16 * index_of image → (t : Bool) → is_entry (row image k) ≡ t
-      → cond {A = Option (List ℕ × Entry)} t (Some (name_of (row image k), entry_at (put_sector image n bytes) k)) None ≡ cond {A = Option (List ℕ × Entry)} t (Some (name_of (row image k), entry_at image k)) None
+      → cond {A = Option (List ℕ × Entry)} t (Some (slot_name (row image k), entry_at (put_sector image n bytes) k)) None ≡ cond {A = Option (List ℕ × Entry)} t (Some (slot_name (row image k), entry_at image k)) None
   unfolding entry_at
-  named_chosen k l h true e = rw (rows-kept image good n within bytes long k h, sector-kept image good n within bytes long (end_of Narrow (row image k)) (no_end Narrow image good n within k l h e)) refl
+  named_chosen k l h true e = rw (rows-kept image good n within bytes long k h, sector-kept image good n within bytes long (slot_end Narrow (row image k)) (no_end Narrow image good n within k l h e)) refl
   named_chosen k l h false e = refl
 
   named-kept : (k : ℕ) → 1 ≤ k → k < 16 * index_of image → named_entry (put_sector image n bytes) k ≡ named_entry image k
@@ -60,7 +60,7 @@ pub record InImage (image : List ℕ) (e : Entry) : Type 0 where
   pub few : e.used ≤ e.end - e.start
   pub own : (n : ℕ) → e.start ≤ n → n < e.end → is_data_sector Narrow image n ≡ true
 
-holds-from : (slot : List ℕ) (n : ℕ) → is_entry slot ≡ true → start_of Narrow slot ≤ n → n < end_of Narrow slot → holds_data Narrow slot n ≡ true
+holds-from : (slot : List ℕ) (n : ℕ) → is_entry slot ≡ true → slot_start Narrow slot ≤ n → n < slot_end Narrow slot → holds_data Narrow slot n ≡ true
 unfolding holds_data
 holds-from slot n e low high = and_from _ _ (and_from _ _ e (le-leb _ _ low)) (lt-ltb _ _ high)
 
@@ -68,7 +68,7 @@ data-from : (image : List ℕ) (k n : ℕ) → 1 ≤ k → k < 16 * index_of ima
 unfolding is_data_sector
 data-from image k n low high h = list_any-at (λ k. holds_data Narrow (row image k) n) 1 (16 * index_of image - 1) k low (omega (arith, high, low)) h
 
-entry_used : (a : List ℕ) (k : ℕ) → (entry_at a k).used ≡ used_of Narrow (sector a (end_of Narrow (row a k)))
+entry_used : (a : List ℕ) (k : ℕ) → (entry_at a k).used ≡ used_of Narrow (sector a (slot_end Narrow (row a k)))
 unfolding entry_at
 entry_used a k = refl
 
@@ -77,7 +77,7 @@ passed-or true u h e = h
 passed-or false u h e = cc
 
 used-from : (image slot : List ℕ) → is_controlled Narrow image slot ≡ true → is_entry slot ≡ true
-    → (1 ≤ used_of Narrow (sector image (end_of Narrow slot))) × (used_of Narrow (sector image (end_of Narrow slot)) ≤ end_of Narrow slot - start_of Narrow slot)
+    → (1 ≤ used_of Narrow (sector image (slot_end Narrow slot))) × (used_of Narrow (sector image (slot_end Narrow slot)) ≤ slot_end Narrow slot - slot_start Narrow slot)
 unfolding is_controlled is_control
 used-from image slot h e =
     let all = and_parts _ _ (passed-or (is_entry slot) _ h e) in
@@ -89,10 +89,10 @@ pub in-image : (image name : List ℕ) (e : Entry) → Good Narrow image → get
 in-image image name e good there =
     let w = stands image name e there in
     let f = FileSlot-from image name w.0 good w.1.at in
-    let start : e.start ≡ start_of Narrow (row image w.0) = ap (λ (e : Entry). e.start) w.1.is ∙ entry_start image w.0 in
-    let end : e.end ≡ end_of Narrow (row image w.0) = ap (λ (e : Entry). e.end) w.1.is ∙ entry_end image w.0 in
+    let start : e.start ≡ slot_start Narrow (row image w.0) = ap (λ (e : Entry). e.start) w.1.is ∙ entry_start image w.0 in
+    let end : e.end ≡ slot_end Narrow (row image w.0) = ap (λ (e : Entry). e.end) w.1.is ∙ entry_end image w.0 in
     let held = (Holds-from name (row image w.0) w.1.at.held).entry in
-    let used : e.used ≡ used_of Narrow (sector image (end_of Narrow (row image w.0))) = ap (λ (e : Entry). e.used) w.1.is ∙ entry_used image w.0 in
+    let used : e.used ≡ used_of Narrow (sector image (slot_end Narrow (row image w.0))) = ap (λ (e : Entry). e.used) w.1.is ∙ entry_used image w.0 in
     let some = used-from image (row image w.0) ((Sound-from_Good Narrow image good).controls w.0 w.1.at.low w.1.at.high) held in
     record {
       used = omega (arith, used, some.0);

@@ -5,9 +5,9 @@ use Rattle.std.proofs.lemmas.Bool.{and_from, le-leb, lt-ltb, false≢true, false
 use Rattle.std.proofs.lemmas.Slice.Eq.{bytes_eq-Decides}
 use Rattle.b2_base.specs.Names.{is_name8}
 use Rattle.b2_platter.specs.declared.layout.Layout.TheVariants.{Narrow}
-use Rattle.b2_platter.specs.Slot.{is_free, is_entry, is_spelled, start_of, end_of, name_of}
-use Rattle.b2_platter.specs.Image.{row, sector, index_of, total_of, catalogue_end, next_free, has_free, hash, around, is_clear_to}
-use Rattle.b2_platter.specs.Checks.{has_head, is_ordered, lies_in, differ_in_name, is_reached, lie_apart, is_controlled, is_control, Good}
+use Rattle.b2_platter.specs.Slot.{is_free, is_entry, is_spelled, slot_start, slot_end, slot_name}
+use Rattle.b2_platter.specs.Image.{row, sector, index_of, total_of, catalogue_end, next_free, has_free, hash, cyclic_from, is_clear_to}
+use Rattle.b2_platter.specs.Checks.{has_head, is_ordered, lies_in, differ_in_name, is_reachable, lie_apart, is_controlled, is_control, Good}
 use Rattle.b2_platter.specs.Edits.{put_sector}
 use Rattle.b2_platter.proofs.Rooms.{Parts, LiesIn, LiesIn-from}
 use Rattle.b2_platter.proofs.Goodness.{Parts-of, most_of_good}
@@ -15,7 +15,7 @@ use Rattle.b2_platter.proofs.Soundness.{Sound-from_Good}
 use Rattle.b2_platter.proofs.Puts.{length-put_sector, row_before, sector_before, sector_after, sector_same}
 use Rattle.b2_platter.proofs.Fresh.{HeadSays, head_says_row, head_passes, length-head_bytes}
 use Rattle.b2_catalog.specs.Catalogue.{entry_at, catalogue}
-use Rattle.b2_catalog.specs.Ways.{has_name, slot_of, way_of}
+use Rattle.b2_catalog.specs.Ways.{has_name, slot_found, way_of}
 use Rattle.b2_catalog.specs.Changes.{put_row, file_slot, control_sector, head_with_next, entered}
 use Rattle.b2_catalog.specs.Calls.{new_entry}
 use Rattle.b2_catalog.proofs.Looking.{has_name-from, find-missed}
@@ -27,30 +27,30 @@ use Rattle.b2_catalog.proofs.Maps.{catalogue-inserted}
 use Rattle.b2_catalog.proofs.Placing.{Placed}
 
 -- a name that no slot has
-pub slot_missed : (a name : List ℕ) → slot_of a name ≡ None → (j : ℕ) → 1 ≤ j → j < 16 * index_of a → has_name name (row a j) ≡ false
-unfolding slot_of
+pub slot_missed : (a name : List ℕ) → slot_found a name ≡ None → (j : ℕ) → 1 ≤ j → j < 16 * index_of a → has_name name (row a j) ≡ false
+unfolding slot_found
 slot_missed a name none j low high = find-missed (λ (k : ℕ). has_name name (row a k)) 1 (16 * index_of a - 1) none j low (omega arith)
 
 -- tests of a slot against another file
-pub differ_from_missed : (slot other name : List ℕ) → name_of slot ≡ name → has_name name other ≡ false → differ_in_name slot other ≡ true
+pub differ_from_missed : (slot other name : List ℕ) → slot_name slot ≡ name → has_name name other ≡ false → differ_in_name slot other ≡ true
 unfolding differ_in_name
 differ_from_missed slot other name is miss =
-    not_from_false _ (false_from_ne_true _ (λ h. let parts = and_parts _ _ h in let entries = and_parts _ _ parts.0 in false≢true (sym miss ∙ has_name-from name other entries.1 (sym ((bytes_eq-Decides (name_of slot) (name_of other)).0 parts.1) ∙ is))))
+    not_from_false _ (false_from_ne_true _ (λ h. let parts = and_parts _ _ h in let entries = and_parts _ _ parts.0 in false≢true (sym miss ∙ has_name-from name other entries.1 (sym ((bytes_eq-Decides (slot_name slot) (slot_name other)).0 parts.1) ∙ is))))
 
-pub apart_from_after : (slot other : List ℕ) → (is_entry other ≡ true → end_of Narrow other < start_of Narrow slot) → lie_apart Narrow slot other ≡ true
+pub apart_from_after : (slot other : List ℕ) → (is_entry other ≡ true → slot_end Narrow other < slot_start Narrow slot) → lie_apart Narrow slot other ≡ true
 unfolding lie_apart
 apart_from_after slot other after =
-    not_from_false _ (false_from_ne_true _ (λ h. (let outer = and_parts _ _ h in let inner = and_parts _ _ outer.0 in let entries = and_parts _ _ inner.0 in let meets : start_of Narrow slot ≤ end_of Narrow other = leb-true _ _ inner.1 in omega (arith, meets, after entries.1))))
+    not_from_false _ (false_from_ne_true _ (λ h. (let outer = and_parts _ _ h in let inner = and_parts _ _ outer.0 in let entries = and_parts _ _ inner.0 in let meets : slot_start Narrow slot ≤ slot_end Narrow other = leb-true _ _ inner.1 in omega (arith, meets, after entries.1))))
 
-pub lies_from : (index next : ℕ) (slot : List ℕ) → index ≤ start_of Narrow slot → start_of Narrow slot < end_of Narrow slot → end_of Narrow slot < next → lies_in Narrow index next slot ≡ true
+pub lies_from : (index next : ℕ) (slot : List ℕ) → index ≤ slot_start Narrow slot → slot_start Narrow slot < slot_end Narrow slot → slot_end Narrow slot < next → lies_in Narrow index next slot ≡ true
 unfolding lies_in
 lies_from index next slot low order high = or_right (not (is_entry slot)) _ (and_from _ _ (and_from _ _ (le-leb _ _ low) (lt-ltb _ _ order)) (lt-ltb _ _ high))
 
-pub reached_from : (image : List ℕ) (k : ℕ) → is_clear_to (has_free image) (k / 16) (around (index_of image) (hash (index_of image) (name_of (row image k)))) ≡ true → is_reached image k ≡ true
-unfolding is_reached
+pub reached_from : (image : List ℕ) (k : ℕ) → is_clear_to (has_free image) (k / 16) (cyclic_from (index_of image) (hash (index_of image) (slot_name (row image k)))) ≡ true → is_reachable image k ≡ true
+unfolding is_reachable
 reached_from image k h = or_right (not (is_entry (row image k))) _ h
 
-pub controlled_from : (image slot : List ℕ) → is_control Narrow (end_of Narrow slot - start_of Narrow slot) (sector image (end_of Narrow slot)) ≡ true → is_controlled Narrow image slot ≡ true
+pub controlled_from : (image slot : List ℕ) → is_control Narrow (slot_end Narrow slot - slot_start Narrow slot) (sector image (slot_end Narrow slot)) ≡ true → is_controlled Narrow image slot ≡ true
 unfolding is_controlled
 controlled_from image slot h = or_right (not (is_entry slot)) _ h
 
@@ -59,7 +59,7 @@ pub free_is_none : (slot : List ℕ) → is_free slot ≡ true → is_entry slot
 unfolding is_free is_entry
 free_is_none slot e = (let zero_is = eqb-true _ _ e in rw zero_is refl)
 
-module _ (a : List ℕ) (good : Good Narrow a) (name : List ℕ) (legal : is_name8 name ≡ true) (eight : length name ≡ 8) (k : ℕ) (placed : Placed a (way_of a name) k) (none : slot_of a name ≡ None) (program : Bool) (sectors : ℕ) (some : 2 ≤ sectors) (room : next_free Narrow a + sectors ≤ catalogue_end Narrow a) where
+module _ (a : List ℕ) (good : Good Narrow a) (name : List ℕ) (legal : is_name8 name ≡ true) (eight : length name ≡ 8) (k : ℕ) (placed : Placed a (way_of a name) k) (none : slot_found a name ≡ None) (program : Bool) (sectors : ℕ) (some : 2 ≤ sectors) (room : next_free Narrow a + sectors ≤ catalogue_end Narrow a) where
   abbrev start : ℕ
   start = next_free Narrow a
 
@@ -160,15 +160,15 @@ module _ (a : List ℕ) (good : Good Narrow a) (name : List ℕ) (legal : is_nam
   taken : is_free (row b k) ≡ true → is_free (row a k) ≡ true
   taken e = placed.free
 
-  reached_now : is_reached b k ≡ true
+  reached_now : is_reachable b k ≡ true
   reached_now =
-      let same : name_of (row b k) ≡ name = ap name_of slot_now ∙ says.name in
+      let same : slot_name (row b k) ≡ name = ap slot_name slot_now ∙ says.name in
       reached_from b k (rw (head_now.index, same) (clear_still a b k good head_now.index others_now taken (k / 16) (hash (index_of a) name) placed.clear))
 
   controlled_now : is_controlled Narrow b (row b k) ≡ true
   controlled_now =
-      let end : end_of Narrow (row b k) ≡ last = ap (end_of Narrow) slot_now ∙ says.end in
-      let begin : start_of Narrow (row b k) ≡ start = ap (start_of Narrow) slot_now ∙ says.start in
+      let end : slot_end Narrow (row b k) ≡ last = ap (slot_end Narrow) slot_now ∙ says.end in
+      let begin : slot_start Narrow (row b k) ≡ start = ap (slot_start Narrow) slot_now ∙ says.start in
       controlled_from b (row b k) (rw (end, begin, last_now) (control_spelled 1 (last - start) (lit< tt) (omega arith) (omega arith)))
 
   entered_changes : Changes a b k
@@ -192,14 +192,14 @@ module _ (a : List ℕ) (good : Good Narrow a) (name : List ℕ) (legal : is_nam
         free = taken;
         reached = reached_now;
         controlled = controlled_now;
-        ends = λ j low high other e. (let l = lies_of j low high e in sectors_now (end_of Narrow (row a j)) (omega (arith, l.low, l.order)) (omega (arith, l.high)));
+        ends = λ j low high other e. (let l = lies_of j low high e in sectors_now (slot_end Narrow (row a j)) (omega (arith, l.low, l.order)) (omega (arith, l.high)));
       }
 
   entry_entered : entry_at b k ≡ new_entry a name program sectors
   unfolding entry_at
   entry_entered = rw (slot_now, says.name, says.live, says.program, says.start, says.end, last_now, control_used 1 (lit< tt)) refl
 
-  free_no_entry : is_entry (row a k) ≡ true → name_of (row a k) ≡ name
+  free_no_entry : is_entry (row a k) ≡ true → slot_name (row a k) ≡ name
   free_no_entry e = absurd (false≢true (sym (free_is_none (row a k) placed.free) ∙ e))
 
   pub entered_good : Good Narrow (entered a k name program sectors)

@@ -3,7 +3,7 @@ use Rattle.std.proofs.Common.{◌≡◌, ℕ, zero, suc, ◌+◌, ◌-◌, ◌*�
 use Rattle.std.specs.List.{range_with_len, filter_map, cons_option}
 use Rattle.std.specs.FinMap.{from_entries, empty}
 use Rattle.b2_platter.specs.declared.layout.Layout.TheVariants.{Narrow}
-use Rattle.b2_platter.specs.Slot.{is_entry, name_of}
+use Rattle.b2_platter.specs.Slot.{is_entry, slot_name}
 use Rattle.b2_platter.specs.Image.{row, index_of, total_of}
 use Rattle.b2_platter.specs.Checks.{Good}
 use Rattle.b2_platter.specs.Edits.{head_bytes, formatted, CanFormat}
@@ -18,7 +18,7 @@ no_entry = refl
 
 unnamed : (image : List ℕ) (k : ℕ) → row image k ≡ replicate 16 0 → named_entry image k ≡ None
 unfolding named_entry
-unnamed image k is = ap (λ (b : Bool). cond b (Some (name_of (row image k), entry_at image k)) None) (ap is_entry is ∙ no_entry)
+unnamed image k is = ap (λ (b : Bool). cond b (Some (slot_name (row image k), entry_at image k)) None) (ap is_entry is ∙ no_entry)
 
 filter_map-none : (f : ℕ → Option (List ℕ × Entry)) (a n : ℕ) → ((k : ℕ) → a ≤ k → k < a + n → f k ≡ None) → filter_map f (range_with_len a n) ≡ []
 filter_map-none f a zero h = refl

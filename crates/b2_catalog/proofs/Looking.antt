@@ -6,15 +6,15 @@ use Rattle.std.proofs.lemmas.Bool.{and_parts, and_from, cases_order, cases_eq, n
 use Rattle.std.proofs.Math.Nat.{add-mod_right, mod-eq_of_lt}
 use Rattle.std.proofs.lemmas.Slice.Eq.{bytes_eq-Decides}
 use Rattle.b2_platter.specs.declared.layout.Layout.TheVariants.{Narrow}
-use Rattle.b2_platter.specs.Slot.{is_entry, start_of, end_of, name_of}
+use Rattle.b2_platter.specs.Slot.{is_entry, slot_start, slot_end, slot_name}
 use Rattle.b2_platter.specs.Image.{row, index_of, total_of, next_free, first_slot, has_free, hash, is_clear_to}
-use Rattle.b2_platter.specs.Checks.{differ_in_name, is_reached, Good}
+use Rattle.b2_platter.specs.Checks.{differ_in_name, is_reachable, Good}
 use Rattle.b2_platter.proofs.Ranges.{here}
 use Rattle.b2_platter.proofs.Rooms.{LiesIn-from}
 use Rattle.b2_platter.proofs.Goodness.{Parts-of}
 use Rattle.b2_platter.proofs.Soundness.{Sound-from_Good}
 use Rattle.b2_platter.proofs.Kept.{first_slot-low}
-use Rattle.b2_catalog.specs.Ways.{has_name, slot_in, way_of, found_along, slot_of, IsSlotOf}
+use Rattle.b2_catalog.specs.Ways.{has_name, slot_in, way_of, found_along, slot_found, IsSlotOf}
 
 -- what a search in a range finds
 pub find-none : (p : ℕ → Bool) (a n : ℕ) → ((k : ℕ) → a ≤ k → k < a + n → p k ≡ false) → find p (range_with_len a n) ≡ None
@@ -64,21 +64,21 @@ first_slot-some s = cond_both (s == 0) 1 (16 * s) (λ v. 1 ≤ v) (λ e. omega a
 -- what holding a name says
 pub record Holds (name slot : List ℕ) : Type 0 where
   pub entry : is_entry slot ≡ true
-  pub same : name_of slot ≡ name
+  pub same : slot_name slot ≡ name
 
 pub Holds-from : (name slot : List ℕ) → has_name name slot ≡ true → Holds name slot
 unfolding has_name
-Holds-from name slot h = let parts = and_parts _ _ h in record { entry = parts.0; same = (bytes_eq-Decides (name_of slot) name).0 parts.1 }
+Holds-from name slot h = let parts = and_parts _ _ h in record { entry = parts.0; same = (bytes_eq-Decides (slot_name slot) name).0 parts.1 }
 
-pub has_name-from : (name slot : List ℕ) → is_entry slot ≡ true → name_of slot ≡ name → has_name name slot ≡ true
+pub has_name-from : (name slot : List ℕ) → is_entry slot ≡ true → slot_name slot ≡ name → has_name name slot ≡ true
 unfolding has_name
-has_name-from name slot e same = and_from _ _ e ((bytes_eq-Decides (name_of slot) name).1 same)
+has_name-from name slot e same = and_from _ _ e ((bytes_eq-Decides (slot_name slot) name).1 same)
 
 -- two slots that differ in name
-names_apart : (slot other : List ℕ) → differ_in_name slot other ≡ true → is_entry slot ≡ true → is_entry other ≡ true → name_of slot ≡ name_of other → ⊥
+names_apart : (slot other : List ℕ) → differ_in_name slot other ≡ true → is_entry slot ≡ true → is_entry other ≡ true → slot_name slot ≡ slot_name other → ⊥
 unfolding differ_in_name
 names_apart slot other h e f same =
-    false≢true (sym (not-true _ h) ∙ and_from _ _ (and_from _ _ e f) ((bytes_eq-Decides (name_of slot) (name_of other)).1 same))
+    false≢true (sym (not-true _ h) ∙ and_from _ _ (and_from _ _ e f) ((bytes_eq-Decides (slot_name slot) (slot_name other)).1 same))
 
 -- what is found along sectors of which none has the name, and along some of which one has
 sector_misses : (slot : ℕ → Option ℕ) (free : ℕ → Bool) (s : ℕ) (rest : List ℕ) → slot s ≡ None → free s ≡ false → found_along slot free (s ∷ rest) ≡ found_along slot free rest
@@ -154,14 +154,14 @@ module _ (image : List ℕ) (good : Good Narrow image) (name : List ℕ) where
       let most = first_slot-low s in
       (omega arith, omega arith, omega arith, omega arith)
 
-  pub absent : slot_of image name ≡ None → (s : ℕ) → s < index_of image → slot_in image name s ≡ None
-  unfolding slot_of slot_in
+  pub absent : slot_found image name ≡ None → (s : ℕ) → s < index_of image → slot_in image name s ≡ None
+  unfolding slot_found slot_in
   absent none s below =
       find-none _ (first_slot s) (16 * s + 16 - first_slot s) (λ j low high. let at = in_slots s j below low high in find-missed _ 1 (16 * index_of image - 1) none j at.0 (omega (arith, at.1)))
 
-  module _ (k : ℕ) (is : slot_of image name ≡ Some k) where
+  module _ (k : ℕ) (is : slot_found image name ≡ Some k) where
     found : Found (λ (k : ℕ). has_name name (row image k)) 1 (16 * index_of image - 1) k
-    unfolding slot_of
+    unfolding slot_found
     found = find-some _ 1 (16 * index_of image - 1) k is
 
     k_high : k < 16 * index_of image
@@ -183,43 +183,43 @@ module _ (image : List ℕ) (good : Good Narrow image) (name : List ℕ) where
         (λ j low high. let at = in_slots s j below low high in false_from_ne_true _ (λ h. let same : j ≡ k = one_slot j k at.0 at.1 f.low k_high h f.passes in other (omega (arith, at.2, at.3))))
 
     present : found_along (slot_in image name) (has_free image) (way_of image name) ≡ Some k
-    unfolding is_reached
+    unfolding is_reachable
     present =
         let f = found in
         let h = Holds-from name (row image k) f.passes in
         let s = Sound-from_Good Narrow image good in
-        let was : is_reached image k ≡ true = s.reached k f.low k_high in
+        let was : is_reachable image k ≡ true = s.reached k f.low k_high in
         let clear = clear_of (is_entry (row image k)) _ was h.entry in
         let clear' : is_clear_to (has_free image) (k / 16) (way_of image name) ≡ true = subst (λ (n : List ℕ). is_clear_to (has_free image) (k / 16) (way_of image n) ≡ true) h.same clear in
         let m = met (hash (index_of image) name) (index_of image) (k / 16) (omega (arith, some)) (omega (arith, k_high)) in
         found-there (slot_in image name) (has_free image) (k / 16) k (hash (index_of image) name) (index_of image) 0 (index_of image) m.0 some own_hits others_miss clear' (omega arith) (omega (arith, m.1)) m.2
 
-  by_slot : (o : Option ℕ) → slot_of image name ≡ o → found_along (slot_in image name) (has_free image) (way_of image name) ≡ o
+  by_slot : (o : Option ℕ) → slot_found image name ≡ o → found_along (slot_in image name) (has_free image) (way_of image name) ≡ o
   by_slot None e = found-nowhere (slot_in image name) (has_free image) (hash (index_of image) name) (index_of image) 0 (index_of image) some (absent e)
   by_slot (Some k) e = present k e
 
-  pub found_is_slot : found_along (slot_in image name) (has_free image) (way_of image name) ≡ slot_of image name
-  found_is_slot = by_slot (slot_of image name) refl
+  pub found_is_slot : found_along (slot_in image name) (has_free image) (way_of image name) ≡ slot_found image name
+  found_is_slot = by_slot (slot_found image name) refl
 
 -- the slot that is found is one of the index, and has the name
-pub IsSlotOf-from : (image name : List ℕ) (k : ℕ) → slot_of image name ≡ Some k → IsSlotOf image name k
-unfolding slot_of
+pub IsSlotOf-from : (image name : List ℕ) (k : ℕ) → slot_found image name ≡ Some k → IsSlotOf image name k
+unfolding slot_found
 IsSlotOf-from image name k is =
     let f = find-some (λ (k : ℕ). has_name name (row image k)) 1 (16 * index_of image - 1) k is in
     record { low = f.low; high = omega (arith, f.low, f.high); held = f.passes }
 
-pub held-from_found : (image name : List ℕ) (o : Option ℕ) → o ≡ slot_of image name → IfSome o (IsSlotOf image name)
+pub held-from_found : (image name : List ℕ) (o : Option ℕ) → o ≡ slot_found image name → IfSome o (IsSlotOf image name)
 held-from_found image name None e = tt
 held-from_found image name (Some k) e = IsSlotOf-from image name k (sym e)
 
 -- what a good image says of the slot of a file
 pub record FileSlot (image : List ℕ) (k : ℕ) : Type 0 where
   pub room : 16 * k + 16 ≤ length image
-  pub low : index_of image ≤ start_of Narrow (row image k)
-  pub order : start_of Narrow (row image k) < end_of Narrow (row image k)
-  pub high : end_of Narrow (row image k) < next_free Narrow image
-  pub within : end_of Narrow (row image k) < total_of Narrow image
-  pub inside : 256 * end_of Narrow (row image k) + 256 ≤ length image
+  pub low : index_of image ≤ slot_start Narrow (row image k)
+  pub order : slot_start Narrow (row image k) < slot_end Narrow (row image k)
+  pub high : slot_end Narrow (row image k) < next_free Narrow image
+  pub within : slot_end Narrow (row image k) < total_of Narrow image
+  pub inside : 256 * slot_end Narrow (row image k) + 256 ≤ length image
 
 pub FileSlot-from : (image name : List ℕ) (k : ℕ) → Good Narrow image → IsSlotOf image name k → FileSlot image k
 FileSlot-from image name k good at =

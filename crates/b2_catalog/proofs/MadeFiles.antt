@@ -12,7 +12,7 @@ use Rattle.b2_platter.specs.Image.{index_of, catalogue_end, next_free, sector}
 use Rattle.b2_platter.specs.Checks.{Good}
 use Rattle.b2_catalog.specs.declared.entry.Entry.{Entry}
 use Rattle.b2_catalog.specs.Catalogue.{Catalogue, catalogue}
-use Rattle.b2_catalog.specs.Ways.{place, slot_of}
+use Rattle.b2_catalog.specs.Ways.{place, slot_found}
 use Rattle.b2_catalog.specs.Changes.{entered, reused}
 use Rattle.b2_catalog.specs.Calls.{enter_refusal, new_entry, old_refusal, reuse_refusal, reused_place}
 use Rattle.b2_catalog.specs.Making.{KeepsOthers}
@@ -36,7 +36,7 @@ none-or (Some k) h = (k, refl)
 
 -- what it says that a file is entered
 pub record Enters (image name : List ℕ) (sectors : ℕ) : Type 0 where
-  pub absent : slot_of image name ≡ None
+  pub absent : slot_found image name ≡ None
   pub k : ℕ
   pub place_is : place image name ≡ Some k
   pub room : next_free Narrow image + sectors ≤ catalogue_end Narrow image
@@ -113,8 +113,8 @@ old-parts (Some e) full h =
     let second = refused-by full true None D85_INDEX_FULL first.1 in
     (refl, second.0)
 
-slot-by : (image old : List ℕ) (o : Option ℕ) → slot_of image old ≡ o → is_some (get (catalogue image) old) ≡ true → (k : ℕ) × (slot_of image old ≡ Some k)
-slot-by image old None is h = (let none : is_some (slot_of image old) ≡ true = sym (present image old) ∙ h in let bad : false ≡ true = sym (ap is_some is) ∙ none in cc)
+slot-by : (image old : List ℕ) (o : Option ℕ) → slot_found image old ≡ o → is_some (get (catalogue image) old) ≡ true → (k : ℕ) × (slot_found image old ≡ Some k)
+slot-by image old None is h = (let none : is_some (slot_found image old) ≡ true = sym (present image old) ∙ h in let bad : false ≡ true = sym (ap is_some is) ∙ none in cc)
 slot-by image old (Some k) is h = (k, is)
 
 goes-by : (same : Bool) (o p : Option ℕ) (k : ℕ) → o ≡ Some k → (not same && is_none p) ≡ false → (to : ℕ) × (cond same o p ≡ Some to)
@@ -122,13 +122,13 @@ goes-by true o p k is h = (k, is)
 goes-by false o p k is h = none-or p h
 
 module _ (image : List ℕ) (good : Good Narrow image) (old name : List ℕ) (legal : is_name8 name ≡ true) (eight : length name ≡ 8) (program : Bool) (new : List ℕ) where
-  reused-by : (e : Entry) → reuse_refusal image old name ≡ None → IfSome (slot_of image old) (λ k. IfSome (reused_place image old name) (λ to. new ≡ reused image k to name program)) → Stays image new e
+  reused-by : (e : Entry) → reuse_refusal image old name ≡ None → IfSome (slot_found image old) (λ k. IfSome (reused_place image old name) (λ to. new ≡ reused image k to name program)) → Stays image new e
   reused-by e allowed is =
       let first = refused-by (not (bytes_eq old name) && is_some (get (catalogue image) name)) true (old_refusal (get (catalogue image) old) (not (bytes_eq old name) && is_none (place image name))) D83_NAME_PRESENT allowed in
       let parts = old-parts (get (catalogue image) old) (not (bytes_eq old name) && is_none (place image name)) first.1 in
-      let k = slot-by image old (slot_of image old) refl parts.0 in
-      let to = goes-by (bytes_eq old name) (slot_of image old) (place image name) k.0 k.1 parts.1 in
-      let taken : (not (bytes_eq old name) && is_some (slot_of image name)) ≡ false = ap (λ (b : Bool). not (bytes_eq old name) && b) (sym (present image name)) ∙ first.0 in
+      let k = slot-by image old (slot_found image old) refl parts.0 in
+      let to = goes-by (bytes_eq old name) (slot_found image old) (place image name) k.0 k.1 parts.1 in
+      let taken : (not (bytes_eq old name) && is_some (slot_found image name)) ≡ false = ap (λ (b : Bool). not (bytes_eq old name) && b) (sym (present image name)) ∙ first.0 in
       let ready = Ready-from image good old name k.0 to.0 k.1 taken to.1 in
       let at = IsSlotOf-from image old k.0 k.1 in
       let one = subst (λ (o : Option ℕ). IfSome o (λ k. IfSome (reused_place image old name) (λ to. new ≡ reused image k to name program))) k.1 is in
@@ -139,7 +139,7 @@ module _ (image : List ℕ) (good : Good Narrow image) (old name : List ℕ) (le
       }
 
   pub reused-stays : (r : Result Entry ℕ) (P : Entry → Type 0) → IfOk r (λ e. (reuse_refusal image old name ≡ None) × P e)
-      → OnOk r (IfSome (slot_of image old) (λ k. IfSome (reused_place image old name) (λ to. new ≡ reused image k to name program))) → IfOk r (λ e. Stays image new e)
+      → OnOk r (IfSome (slot_found image old) (λ k. IfSome (reused_place image old name) (λ to. new ≡ reused image k to name program))) → IfOk r (λ e. Stays image new e)
   reused-stays (Ok e) P ok is = reused-by e ok.0 is
   reused-stays (Err code) P ok is = tt
 

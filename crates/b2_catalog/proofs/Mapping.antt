@@ -11,11 +11,11 @@ use Rattle.std.specs.FinMap.{get, get-from_entries, slice_cmp-IsAntisymmetric, n
 use Rattle.std.specs.FinMap as map
 use Rattle.std.proofs.lemmas.Slice.Eq.{bytes_eq-Decides}
 use Rattle.std.proofs.lemmas.Bool.Decides.{same_from_decides}
-use Rattle.b2_platter.specs.Slot.{is_entry, name_of}
+use Rattle.b2_platter.specs.Slot.{is_entry, slot_name}
 use Rattle.b2_platter.specs.Image.{row, index_of, slots_of}
 use Rattle.b2_catalog.specs.declared.entry.Entry.{Entry}
 use Rattle.b2_catalog.specs.Catalogue.{entry_at, named_entry, catalogue}
-use Rattle.b2_catalog.specs.Ways.{has_name, slot_of}
+use Rattle.b2_catalog.specs.Ways.{has_name, slot_found}
 
 is_equal : (o : Ordering) → is_eq o ≡ true → o ≡ Equal
 is_equal Less e = cc
@@ -35,13 +35,13 @@ at_slot q name entry k image false rest rest' e h = h
 
 step : (q : List ℕ) (image : List ℕ) (k : ℕ) (ks : List ℕ) (e : Bool) → is_entry (row image k) ≡ e → map.find (slice_cmp nat_cmp) q (filter_map (named_entry image) ks) ≡ option_map (entry_at image) (find (λ (k : ℕ). has_name q (row image k)) ks) → map.find (slice_cmp nat_cmp) q (filter_map (named_entry image) (k ∷ ks)) ≡ option_map (entry_at image) (find (λ (k : ℕ). has_name q (row image k)) (k ∷ ks))
 unfolding named_entry has_name
-step q image k ks true e h = rw e (rw (tie-eq q (name_of (row image k))) (at_slot q (name_of (row image k)) (entry_at image k) k image (bytes_eq (name_of (row image k)) q) _ _ refl h))
+step q image k ks true e h = rw e (rw (tie-eq q (slot_name (row image k))) (at_slot q (slot_name (row image k)) (entry_at image k) k image (bytes_eq (slot_name (row image k)) q) _ _ refl h))
 step q image k ks false e h = rw e h
 
 mapped : (q : List ℕ) (image : List ℕ) (ks : List ℕ) → map.find (slice_cmp nat_cmp) q (filter_map (named_entry image) ks) ≡ option_map (entry_at image) (find (λ (k : ℕ). has_name q (row image k)) ks)
 mapped q image [] = refl
 mapped q image (k ∷ ks) = step q image k ks (is_entry (row image k)) refl (mapped q image ks)
 
-pub get-catalogue : (image name : List ℕ) → get (catalogue image) name ≡ option_map (entry_at image) (slot_of image name)
-unfolding catalogue slot_of
+pub get-catalogue : (image name : List ℕ) → get (catalogue image) name ≡ option_map (entry_at image) (slot_found image name)
+unfolding catalogue slot_found
 get-catalogue image name = get-from_entries nat_list_cmp_total (filter_map (named_entry image) (slots_of (index_of image))) name ∙ mapped name image (slots_of (index_of image))

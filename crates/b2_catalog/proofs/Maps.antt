@@ -8,11 +8,11 @@ use Rattle.std.specs.FinMap.{get, insert, remove, get-insert, get-remove, same_m
 use Rattle.std.proofs.lemmas.Bool.{cases_eq, cases_Bool, false≢true, false_from_ne_true}
 use Rattle.std.proofs.lemmas.Slice.Eq.{bytes_eq-Decides}
 use Rattle.b2_platter.specs.declared.layout.Layout.TheVariants.{Narrow}
-use Rattle.b2_platter.specs.Slot.{is_entry, name_of}
+use Rattle.b2_platter.specs.Slot.{is_entry, slot_name}
 use Rattle.b2_platter.specs.Image.{row, index_of}
 use Rattle.b2_platter.specs.Checks.{Good}
 use Rattle.b2_catalog.specs.Catalogue.{entry_at, catalogue}
-use Rattle.b2_catalog.specs.Ways.{has_name, slot_of, IsSlotOf}
+use Rattle.b2_catalog.specs.Ways.{has_name, slot_found, IsSlotOf}
 use Rattle.b2_catalog.proofs.Looking.{find-none, find-only, Holds-from, one_slot, IsSlotOf-from}
 use Rattle.b2_catalog.proofs.Mapping.{tie-eq, get-catalogue}
 use Rattle.b2_catalog.proofs.Changed.{Changes, changed_good}
@@ -24,16 +24,16 @@ find-same p q a (suc n) h =
     ∙ ap (λ (o : Option ℕ). cond (q a) (Some a) o) (find-same p q (a + 1) n (λ k low high. h k (omega arith) (omega arith)))
 
 -- the only slot with a name is found
-pub slot_of-only : (image : List ℕ) (good : Good Narrow image) (name : List ℕ) (k : ℕ) → IsSlotOf image name k → slot_of image name ≡ Some k
-unfolding slot_of
-slot_of-only image good name k at =
+pub slot_found-only : (image : List ℕ) (good : Good Narrow image) (name : List ℕ) (k : ℕ) → IsSlotOf image name k → slot_found image name ≡ Some k
+unfolding slot_found
+slot_found-only image good name k at =
     find-only (λ (k : ℕ). has_name name (row image k)) 1 (16 * index_of image - 1) k at.low (omega (arith, at.low, at.high)) at.held
     (λ j low high h. one_slot image good name j k low (omega arith) at.low at.high h at.held)
 
 pub get-at : (image : List ℕ) (good : Good Narrow image) (name : List ℕ) (k : ℕ) → IsSlotOf image name k → get (catalogue image) name ≡ Some (entry_at image k)
-get-at image good name k at = get-catalogue image name ∙ ap (option_map (entry_at image)) (slot_of-only image good name k at)
+get-at image good name k at = get-catalogue image name ∙ ap (option_map (entry_at image)) (slot_found-only image good name k at)
 
-other_name : (name other slot : List ℕ) → name_of slot ≡ other → bytes_eq other name ≡ false → has_name name slot ≡ false
+other_name : (name other slot : List ℕ) → slot_name slot ≡ other → bytes_eq other name ≡ false → has_name name slot ≡ false
 other_name name other slot same differ =
     false_from_ne_true _ (λ h. false≢true (sym differ ∙ (bytes_eq-Decides other name).1 (sym same ∙ (Holds-from name slot h).same)))
 
@@ -48,8 +48,8 @@ module _ (a b : List ℕ) (k : ℕ) (good : Good Narrow a) (changes : Changes a 
   unfolding entry_at
   entry-same j j_low j_high other e = rw (changes.rows j j_low j_high other, changes.ends j j_low j_high other e) refl
 
-  slots-same : (q : List ℕ) → has_name q (row b k) ≡ false → has_name q (row a k) ≡ false → slot_of b q ≡ slot_of a q
-  unfolding slot_of
+  slots-same : (q : List ℕ) → has_name q (row b k) ≡ false → has_name q (row a k) ≡ false → slot_found b q ≡ slot_found a q
+  unfolding slot_found
   slots-same q miss' miss =
       rw changes.index
       (find-same (λ (j : ℕ). has_name q (row b j)) (λ (j : ℕ). has_name q (row a j)) 1 (16 * index_of a - 1)
@@ -58,7 +58,7 @@ module _ (a b : List ℕ) (k : ℕ) (good : Good Narrow a) (changes : Changes a 
         | inr other ↦ ap (has_name q) (changes.rows j j_low (omega arith) other)
       ]))
 
-  found-same : (q : List ℕ) (o : Option ℕ) → has_name q (row a k) ≡ false → slot_of a q ≡ o → option_map (entry_at b) o ≡ option_map (entry_at a) o
+  found-same : (q : List ℕ) (o : Option ℕ) → has_name q (row a k) ≡ false → slot_found a q ≡ o → option_map (entry_at b) o ≡ option_map (entry_at a) o
   found-same q None miss is = refl
   found-same q (Some j) miss is =
       let at = IsSlotOf-from a q j is in
@@ -66,9 +66,9 @@ module _ (a b : List ℕ) (k : ℕ) (good : Good Narrow a) (changes : Changes a 
 
   elsewhere : (q : List ℕ) → has_name q (row b k) ≡ false → has_name q (row a k) ≡ false → get (catalogue b) q ≡ get (catalogue a) q
   elsewhere q miss' miss =
-      get-catalogue b q ∙ ap (option_map (entry_at b)) (slots-same q miss' miss) ∙ found-same q (slot_of a q) miss refl ∙ sym (get-catalogue a q)
+      get-catalogue b q ∙ ap (option_map (entry_at b)) (slots-same q miss' miss) ∙ found-same q (slot_found a q) miss refl ∙ sym (get-catalogue a q)
 
-  module _ (name : List ℕ) (held : has_name name (row b k) ≡ true) (was : is_entry (row a k) ≡ true → name_of (row a k) ≡ name) where
+  module _ (name : List ℕ) (held : has_name name (row b k) ≡ true) (was : is_entry (row a k) ≡ true → slot_name (row a k) ≡ name) where
     inserted_at : (q : List ℕ) (t : Bool) → bytes_eq name q ≡ t → get (catalogue b) q ≡ cond t (Some (entry_at b k)) (get (catalogue a) q)
     inserted_at q true e =
         let same = (bytes_eq-Decides name q).0 e in
@@ -87,8 +87,8 @@ module _ (a b : List ℕ) (k : ℕ) (good : Good Narrow a) (changes : Changes a 
         (λ q. inserted_at q (bytes_eq name q) refl ∙ sym (get-insert nat_list_cmp_total (catalogue a) name (entry_at b k) q ∙ ap (λ (t : Bool). cond t (Some (entry_at b k)) (get (catalogue a) q)) (tie-eq q name)))
 
   module _ (name : List ℕ) (gone : is_entry (row b k) ≡ false) (was : has_name name (row a k) ≡ true) where
-    nowhere : slot_of b name ≡ None
-    unfolding slot_of
+    nowhere : slot_found b name ≡ None
+    unfolding slot_found
     nowhere =
         find-none (λ (j : ℕ). has_name name (row b j)) 1 (16 * index_of b - 1)
         (λ j j_low j_high. (let j_high' : j < 16 * index_of a = omega (arith, changes.index) in elim (cases_eq j k) [

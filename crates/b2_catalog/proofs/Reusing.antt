@@ -7,14 +7,14 @@ use Rattle.std.proofs.lemmas.Slice.Eq.{bytes_eq-Decides}
 use Rattle.std.proofs.lemmas.Bool.{cases_eq, cases_order, false≢true, false_from_ne_true}
 use Rattle.b2_base.specs.Names.{is_name8}
 use Rattle.b2_platter.specs.declared.layout.Layout.TheVariants.{Narrow}
-use Rattle.b2_platter.specs.Slot.{is_free, is_entry, start_of, end_of, name_of}
-use Rattle.b2_platter.specs.Image.{row, sector, index_of, next_free, has_free, hash, around, is_clear_to}
-use Rattle.b2_platter.specs.Checks.{differ_in_name, is_reached, lie_apart, is_controlled, is_control, Good}
+use Rattle.b2_platter.specs.Slot.{is_free, is_entry, slot_start, slot_end, slot_name}
+use Rattle.b2_platter.specs.Image.{row, sector, index_of, next_free, has_free, hash, cyclic_from, is_clear_to}
+use Rattle.b2_platter.specs.Checks.{differ_in_name, is_reachable, lie_apart, is_controlled, is_control, Good}
 use Rattle.b2_platter.proofs.Goodness.{most_of_good}
 use Rattle.b2_platter.proofs.Soundness.{Sound-from_Good}
 use Rattle.b2_platter.proofs.Kept.{next-same}
 use Rattle.b2_catalog.specs.Catalogue.{entry_at, catalogue}
-use Rattle.b2_catalog.specs.Ways.{has_name, way_of, slot_of, place, IsSlotOf}
+use Rattle.b2_catalog.specs.Ways.{has_name, way_of, slot_found, place, IsSlotOf}
 use Rattle.b2_catalog.specs.Calls.{reused_place}
 use Rattle.b2_catalog.specs.Changes.{put_row, file_slot, gone_slot, reused}
 use Rattle.b2_catalog.proofs.Looking.{Holds, Holds-from, has_name-from, FileSlot, FileSlot-from, IsSlotOf-from, one_slot, clear_of}
@@ -27,16 +27,16 @@ use Rattle.b2_catalog.proofs.RowPuts.{gone_changes, row_changes, row_room, put_h
 use Rattle.b2_catalog.proofs.Maps.{catalogue-inserted, catalogue-removed}
 use Rattle.b2_catalog.proofs.Entering.{free_is_none, slot_missed, differ_from_missed, lies_from, reached_from, controlled_from}
 
-control_of : (image slot : List ℕ) → is_controlled Narrow image slot ≡ true → is_entry slot ≡ true → is_control Narrow (end_of Narrow slot - start_of Narrow slot) (sector image (end_of Narrow slot)) ≡ true
+control_of : (image slot : List ℕ) → is_controlled Narrow image slot ≡ true → is_entry slot ≡ true → is_control Narrow (slot_end Narrow slot - slot_start Narrow slot) (sector image (slot_end Narrow slot)) ≡ true
 unfolding is_controlled
-control_of image slot h e = subst (λ (b : Bool). (not b || is_control Narrow (end_of Narrow slot - start_of Narrow slot) (sector image (end_of Narrow slot))) ≡ true) e h
+control_of image slot h e = subst (λ (b : Bool). (not b || is_control Narrow (slot_end Narrow slot - slot_start Narrow slot) (sector image (slot_end Narrow slot))) ≡ true) e h
 
 module _ (a : List ℕ) (good : Good Narrow a) (old : List ℕ) (k : ℕ) (at : IsSlotOf a old k) (name : List ℕ) (legal : is_name8 name ≡ true) (eight : length name ≡ 8) (alone : (j : ℕ) → 1 ≤ j → j < 16 * index_of a → j ≢ k → has_name name (row a j) ≡ false) (to : ℕ) (low : 1 ≤ to) (high : to < 16 * index_of a) (vacant : to ≢ k → is_entry (row a to) ≡ false) (clear : is_clear_to (has_free a) (to / 16) (way_of a name) ≡ true) (program : Bool) where
   abbrev gone : List ℕ
   gone = put_row a k gone_slot
 
   abbrev slot : List ℕ
-  slot = file_slot program (start_of Narrow (row a k)) (end_of Narrow (row a k)) name
+  slot = file_slot program (slot_start Narrow (row a k)) (slot_end Narrow (row a k)) name
 
   held : Holds old (row a k)
   held = Holds-from old (row a k) at.held
@@ -62,7 +62,7 @@ module _ (a : List ℕ) (good : Good Narrow a) (old : List ℕ) (k : ℕ) (at : 
   high' : to < 16 * index_of gone
   high' = omega (arith, gone_index)
 
-  says : SaysFile slot program (start_of Narrow (row a k)) (end_of Narrow (row a k)) name
+  says : SaysFile slot program (slot_start Narrow (row a k)) (slot_end Narrow (row a k)) name
   says = let f = file in let most = most_of_good Narrow a good in says_file program _ _ name (omega arith) (omega arith) eight legal
 
   abbrev after : List ℕ
@@ -89,18 +89,18 @@ module _ (a : List ℕ) (good : Good Narrow a) (old : List ℕ) (k : ℕ) (at : 
   after_rows : (j : ℕ) → j ≢ to → row after j ≡ row gone j
   after_rows j other = put_rows gone gone_good to low high' slot says.long j other
 
-  reached_now : is_reached after to ≡ true
+  reached_now : is_reachable after to ≡ true
   reached_now =
-      let same : name_of (row after to) ≡ name = ap name_of slot_now ∙ says.name in
+      let same : slot_name (row after to) ≡ name = ap slot_name slot_now ∙ says.name in
       let gone_clear = clear_still a gone k good gone_index (λ j j_low j_high other. gone_rows j other) free_never (to / 16) (hash (index_of a) name) clear in
-      let now_clear : is_clear_to (has_free gone) (to / 16) (around (index_of gone) (hash (index_of gone) name)) ≡ true = rw gone_index gone_clear in
+      let now_clear : is_clear_to (has_free gone) (to / 16) (cyclic_from (index_of gone) (hash (index_of gone) name)) ≡ true = rw gone_index gone_clear in
       reached_from after to (rw (after_index, same) (clear_still gone after to gone_good after_index (λ j j_low j_high other. after_rows j other) taken (to / 16) (hash (index_of gone) name) now_clear))
 
-  own_sector : sector after (end_of Narrow (row a k)) ≡ sector a (end_of Narrow (row a k))
+  own_sector : sector after (slot_end Narrow (row a k)) ≡ sector a (slot_end Narrow (row a k))
   own_sector =
       let f = file in
-      put_sectors_above gone gone_good to low high' slot says.long (end_of Narrow (row a k)) (omega (arith, gone_index, f.low, f.order))
-      ∙ put_sectors_above a good k at.low at.high gone_slot gone_long (end_of Narrow (row a k)) (omega (arith, f.low, f.order))
+      put_sectors_above gone gone_good to low high' slot says.long (slot_end Narrow (row a k)) (omega (arith, gone_index, f.low, f.order))
+      ∙ put_sectors_above a good k at.low at.high gone_slot gone_long (slot_end Narrow (row a k)) (omega (arith, f.low, f.order))
 
   controlled_now : is_controlled Narrow after slot ≡ true
   controlled_now =
@@ -169,11 +169,11 @@ pub record Ready (a name : List ℕ) (k to : ℕ) : Type 0 where
   pub clear : is_clear_to (has_free a) (to / 16) (way_of a name) ≡ true
 
 clear_way : (a : List ℕ) (good : Good Narrow a) (name : List ℕ) (k : ℕ) → IsSlotOf a name k → is_clear_to (has_free a) (k / 16) (way_of a name) ≡ true
-unfolding is_reached
+unfolding is_reachable
 clear_way a good name k at =
     let s = Sound-from_Good Narrow a good in
     let h = Holds-from name (row a k) at.held in
-    let was : is_reached a k ≡ true = s.reached k at.low at.high in
+    let was : is_reachable a k ≡ true = s.reached k at.low at.high in
     subst (λ (n : List ℕ). is_clear_to (has_free a) (k / 16) (way_of a n) ≡ true) h.same (clear_of (is_entry (row a k)) _ was h.entry)
 
 ready_same : (a : List ℕ) (good : Good Narrow a) (name : List ℕ) (k to : ℕ) → IsSlotOf a name k → to ≡ k → Ready a name k to
@@ -186,7 +186,7 @@ ready_same a good name k to at same =
       clear = subst (λ (j : ℕ). is_clear_to (has_free a) (j / 16) (way_of a name) ≡ true) (sym same) (clear_way a good name k at);
     }
 
-ready_other : (a : List ℕ) (good : Good Narrow a) (name : List ℕ) (k to : ℕ) → slot_of a name ≡ None → place a name ≡ Some to → Ready a name k to
+ready_other : (a : List ℕ) (good : Good Narrow a) (name : List ℕ) (k to : ℕ) → slot_found a name ≡ None → place a name ≡ Some to → Ready a name k to
 ready_other a good name k to none free =
     let w = Placed-from a good name to free in
     record {
@@ -197,18 +197,18 @@ ready_other a good name k to none free =
       clear = w.clear;
     }
 
-by_name : (a : List ℕ) (good : Good Narrow a) (old name : List ℕ) (k to : ℕ) (same : Bool) → bytes_eq old name ≡ same → slot_of a old ≡ Some k → (not same && is_some (slot_of a name)) ≡ false → cond same (slot_of a old) (place a name) ≡ Some to → Ready a name k to
+by_name : (a : List ℕ) (good : Good Narrow a) (old name : List ℕ) (k to : ℕ) (same : Bool) → bytes_eq old name ≡ same → slot_found a old ≡ Some k → (not same && is_some (slot_found a name)) ≡ false → cond same (slot_found a old) (place a name) ≡ Some to → Ready a name k to
 by_name a good old name k to true e is taken goes =
     let one : old ≡ name = (bytes_eq-Decides old name).0 e in
     let kept : to ≡ k = (let w : Some to ≡ Some k = sym goes ∙ is in cc) in
     ready_same a good name k to (subst (λ (n : List ℕ). IsSlotOf a n k) one (IsSlotOf-from a old k is)) kept
 by_name a good old name k to false e is taken goes = ready_other a good name k to (slot_none a name taken) goes
 
-pub Ready-from : (a : List ℕ) (good : Good Narrow a) (old name : List ℕ) (k to : ℕ) → slot_of a old ≡ Some k → (not (bytes_eq old name) && is_some (slot_of a name)) ≡ false → reused_place a old name ≡ Some to → Ready a name k to
+pub Ready-from : (a : List ℕ) (good : Good Narrow a) (old name : List ℕ) (k to : ℕ) → slot_found a old ≡ Some k → (not (bytes_eq old name) && is_some (slot_found a name)) ≡ false → reused_place a old name ≡ Some to → Ready a name k to
 Ready-from a good old name k to is taken goes = by_name a good old name k to (bytes_eq old name) refl is taken goes
 
 -- the two rows put in place make that image
-pub reused_made : (a gone slot name : List ℕ) (k to start end : ℕ) (program : Bool) → gone ≡ gone_slot → slot ≡ file_slot program start end name → start ≡ start_of Narrow (row a k) → end ≡ end_of Narrow (row a k) → put_row (put_row a k gone) to slot ≡ reused a k to name program
+pub reused_made : (a gone slot name : List ℕ) (k to start end : ℕ) (program : Bool) → gone ≡ gone_slot → slot ≡ file_slot program start end name → start ≡ slot_start Narrow (row a k) → end ≡ slot_end Narrow (row a k) → put_row (put_row a k gone) to slot ≡ reused a k to name program
 unfolding reused
 reused_made a gone slot name k to start end program gone_is slot_is start_is end_is = rw (slot_is, gone_is, start_is, end_is) refl
 

@@ -2,13 +2,13 @@
 use Rattle.std.proofs.Common.{◌≡◌, ◌≢◌, ℕ, ◌+◌, ◌*◌, ◌<◌, ◌≤◌, true, false, List, length, drop, refl, sym, ap, ◌∙◌, subst, inl, inr, arith, length-take, length-drop}
 use Rattle.std.proofs.lemmas.Bool.{cases_order, false≢true}
 use Rattle.b2_platter.specs.declared.layout.Layout.TheVariants.{Narrow}
-use Rattle.b2_platter.specs.Slot.{is_free, is_entry, is_spelled, start_of, end_of, name_of}
+use Rattle.b2_platter.specs.Slot.{is_free, is_entry, is_spelled, slot_start, slot_end, slot_name}
 use Rattle.b2_platter.specs.Image.{row, sector, index_of, next_free}
-use Rattle.b2_platter.specs.Checks.{lies_in, differ_in_name, is_reached, lie_apart, is_controlled, Good}
+use Rattle.b2_platter.specs.Checks.{lies_in, differ_in_name, is_reachable, lie_apart, is_controlled, Good}
 use Rattle.b2_platter.proofs.Rooms.{Parts, LiesIn-from}
 use Rattle.b2_platter.proofs.Goodness.{Parts-of}
 use Rattle.b2_platter.proofs.Soundness.{Sound-from_Good}
-use Rattle.b2_platter.proofs.Kept.{index-same, next-same, head-same, ordered-same}
+use Rattle.b2_platter.proofs.Kept.{index-same, next-same, image_head-same, ordered-same}
 use Rattle.b2_catalog.specs.Changes.{put_row}
 use Rattle.b2_catalog.proofs.Rows.{length-put_row, row_same, row_below, row_above, sector_above}
 use Rattle.b2_catalog.proofs.Changed.{Changes, reached_still, differ_turned, apart_turned}
@@ -18,19 +18,19 @@ unfolding row
 length-row image k room = omega (arith, length-take 16 (drop (16 * k) image), length-drop (16 * k) image)
 
 -- tests that look at the status, the name and the sectors alone
-differ_like : (slot was other : List ℕ) → is_entry slot ≡ is_entry was → name_of slot ≡ name_of was → differ_in_name slot other ≡ differ_in_name was other
+differ_like : (slot was other : List ℕ) → is_entry slot ≡ is_entry was → slot_name slot ≡ slot_name was → differ_in_name slot other ≡ differ_in_name was other
 unfolding differ_in_name
 differ_like slot was other entry name = rw (entry, name) refl
 
-pub apart_like : (slot was other : List ℕ) → is_entry slot ≡ is_entry was → start_of Narrow slot ≡ start_of Narrow was → end_of Narrow slot ≡ end_of Narrow was → lie_apart Narrow slot other ≡ lie_apart Narrow was other
+pub apart_like : (slot was other : List ℕ) → is_entry slot ≡ is_entry was → slot_start Narrow slot ≡ slot_start Narrow was → slot_end Narrow slot ≡ slot_end Narrow was → lie_apart Narrow slot other ≡ lie_apart Narrow was other
 unfolding lie_apart
 apart_like slot was other entry start end = rw (entry, start, end) refl
 
-lies_like : (index next : ℕ) (slot was : List ℕ) → is_entry slot ≡ is_entry was → start_of Narrow slot ≡ start_of Narrow was → end_of Narrow slot ≡ end_of Narrow was → lies_in Narrow index next slot ≡ lies_in Narrow index next was
+lies_like : (index next : ℕ) (slot was : List ℕ) → is_entry slot ≡ is_entry was → slot_start Narrow slot ≡ slot_start Narrow was → slot_end Narrow slot ≡ slot_end Narrow was → lies_in Narrow index next slot ≡ lies_in Narrow index next was
 unfolding lies_in
 lies_like index next slot was entry start end = rw (entry, start, end) refl
 
-controlled_like : (image image' slot was : List ℕ) → is_entry slot ≡ is_entry was → start_of Narrow slot ≡ start_of Narrow was → end_of Narrow slot ≡ end_of Narrow was → sector image (end_of Narrow was) ≡ sector image' (end_of Narrow was) → is_controlled Narrow image slot ≡ is_controlled Narrow image' was
+controlled_like : (image image' slot was : List ℕ) → is_entry slot ≡ is_entry was → slot_start Narrow slot ≡ slot_start Narrow was → slot_end Narrow slot ≡ slot_end Narrow was → sector image (slot_end Narrow was) ≡ sector image' (slot_end Narrow was) → is_controlled Narrow image slot ≡ is_controlled Narrow image' was
 unfolding is_controlled
 controlled_like image image' slot was entry start end same = rw (entry, start, end, same) refl
 
@@ -51,8 +51,8 @@ pub controlled_free : (image slot : List ℕ) → is_entry slot ≡ false → is
 unfolding is_controlled
 controlled_free image slot e = rw e refl
 
-pub reached_free : (image : List ℕ) (k : ℕ) → is_entry (row image k) ≡ false → is_reached image k ≡ true
-unfolding is_reached
+pub reached_free : (image : List ℕ) (k : ℕ) → is_entry (row image k) ≡ false → is_reachable image k ≡ true
+unfolding is_reachable
 reached_free image k e = rw e refl
 
 module _ (a : List ℕ) (good : Good Narrow a) (k : ℕ) (low : 1 ≤ k) (high : k < 16 * index_of a) (r : List ℕ) (long : length r ≡ 16) where
@@ -78,20 +78,20 @@ module _ (a : List ℕ) (good : Good Narrow a) (k : ℕ) (low : 1 ≤ k) (high :
   pub put_index_same : index_of (put_row a k r) ≡ index_of a
   put_index_same = index-same Narrow a (put_row a k r) put_head
 
-  ends_above : (j : ℕ) → 1 ≤ j → j < 16 * index_of a → is_entry (row a j) ≡ true → index_of a ≤ end_of Narrow (row a j)
+  ends_above : (j : ℕ) → 1 ≤ j → j < 16 * index_of a → is_entry (row a j) ≡ true → index_of a ≤ slot_end Narrow (row a j)
   ends_above j j_low j_high e =
       let s = Sound-from_Good Narrow a good in
       let lies = LiesIn-from Narrow (index_of a) (next_free Narrow a) (row a j) (s.lies j j_low j_high) e in
       omega (arith, lies.low, lies.order)
 
   -- what is left to show of the new row
-  pub row_changes : (b : List ℕ) → b ≡ put_row a k r → is_spelled Narrow r ≡ true → lies_in Narrow (index_of a) (next_free Narrow a) r ≡ true → ((j : ℕ) → 1 ≤ j → j < 16 * index_of a → j ≢ k → differ_in_name r (row a j) ≡ true) → ((j : ℕ) → 1 ≤ j → j < 16 * index_of a → j ≢ k → lie_apart Narrow r (row a j) ≡ true) → (is_free r ≡ true → is_free (row a k) ≡ true) → is_reached (put_row a k r) k ≡ true → is_controlled Narrow (put_row a k r) r ≡ true → Changes a (put_row a k r) k
+  pub row_changes : (b : List ℕ) → b ≡ put_row a k r → is_spelled Narrow r ≡ true → lies_in Narrow (index_of a) (next_free Narrow a) r ≡ true → ((j : ℕ) → 1 ≤ j → j < 16 * index_of a → j ≢ k → differ_in_name r (row a j) ≡ true) → ((j : ℕ) → 1 ≤ j → j < 16 * index_of a → j ≢ k → lie_apart Narrow r (row a j) ≡ true) → (is_free r ≡ true → is_free (row a k) ≡ true) → is_reachable (put_row a k r) k ≡ true → is_controlled Narrow (put_row a k r) r ≡ true → Changes a (put_row a k r) k
   row_changes b is spelled lies names apart free reached controlled =
       let s = Sound-from_Good Narrow a good in
       let same = row_same a k r long row_room in
       record {
         long = length-put_row a k r long row_room;
-        head = head-same Narrow a (put_row a k r) (length-put_row a k r long row_room) put_head s.head;
+        head = image_head-same Narrow a (put_row a k r) (length-put_row a k r long row_room) put_head s.head;
         ordered = ordered-same Narrow a (put_row a k r) put_head s.ordered;
         index = put_index_same;
         next = omega (arith, next-same Narrow a (put_row a k r) put_head);
@@ -103,11 +103,11 @@ module _ (a : List ℕ) (good : Good Narrow a) (k : ℕ) (low : 1 ≤ k) (high :
         free = λ e. free (subst (λ (x : List ℕ). is_free x ≡ true) same e);
         reached = reached;
         controlled = rw same controlled;
-        ends = λ j j_low j_high other e. put_sectors_above (end_of Narrow (row a j)) (ends_above j j_low j_high e);
+        ends = λ j j_low j_high other e. put_sectors_above (slot_end Narrow (row a j)) (ends_above j j_low j_high e);
       }
 
   -- a row of the same file: its status may change from live to scratched
-  pub like_changes : is_entry r ≡ true → is_entry (row a k) ≡ true → name_of r ≡ name_of (row a k) → start_of Narrow r ≡ start_of Narrow (row a k) → end_of Narrow r ≡ end_of Narrow (row a k) → is_spelled Narrow r ≡ true → is_free r ≡ false → Changes a (put_row a k r) k
+  pub like_changes : is_entry r ≡ true → is_entry (row a k) ≡ true → slot_name r ≡ slot_name (row a k) → slot_start Narrow r ≡ slot_start Narrow (row a k) → slot_end Narrow r ≡ slot_end Narrow (row a k) → is_spelled Narrow r ≡ true → is_free r ≡ false → Changes a (put_row a k r) k
   like_changes entry was name start end spelled taken =
       let s = Sound-from_Good Narrow a good in
       let same = row_same a k r long row_room in
@@ -124,8 +124,8 @@ module _ (a : List ℕ) (good : Good Narrow a) (k : ℕ) (low : 1 ≤ k) (high :
         | inr unequal ↦ elim unequal [ inl less ↦ s.apart k j low less j_high | inr more ↦ apart_turned (row a k) (row a j) ∙ s.apart j k j_low more high ]
       ])
       free
-      (reached_still a (put_row a k r) k good put_index_same (λ j j_low j_high other. put_rows j other) (λ e. free (subst (λ (x : List ℕ). is_free x ≡ true) same e)) k (ap is_entry same ∙ both) (ap name_of same ∙ name) (s.reached k low high))
-      (controlled_like (put_row a k r) a r (row a k) both start end (put_sectors_above (end_of Narrow (row a k)) (ends_above k low high was)) ∙ s.controls k low high)
+      (reached_still a (put_row a k r) k good put_index_same (λ j j_low j_high other. put_rows j other) (λ e. free (subst (λ (x : List ℕ). is_free x ≡ true) same e)) k (ap is_entry same ∙ both) (ap slot_name same ∙ name) (s.reached k low high))
+      (controlled_like (put_row a k r) a r (row a k) both start end (put_sectors_above (slot_end Narrow (row a k)) (ends_above k low high was)) ∙ s.controls k low high)
 
   -- a row of no file
   pub gone_changes : is_entry r ≡ false → is_spelled Narrow r ≡ true → is_free r ≡ false → Changes a (put_row a k r) k

@@ -4,7 +4,7 @@ use Rattle.std.specs.Option.{option_map}
 use Rattle.std.specs.FinMap.{get, insert}
 use Rattle.std.proofs.lemmas.Bool.{cases_order}
 use Rattle.b2_platter.specs.declared.layout.Layout.TheVariants.{Narrow}
-use Rattle.b2_platter.specs.Slot.{is_free, is_entry, start_of, end_of, name_of}
+use Rattle.b2_platter.specs.Slot.{is_free, is_entry, slot_start, slot_end, slot_name}
 use Rattle.b2_platter.specs.Image.{row, sector, index_of, next_free}
 use Rattle.b2_platter.specs.Checks.{is_controlled, Good}
 use Rattle.b2_platter.specs.Edits.{put_sector}
@@ -12,11 +12,11 @@ use Rattle.b2_platter.proofs.Rooms.{LiesIn-from}
 use Rattle.b2_platter.proofs.Goodness.{most_of_good}
 use Rattle.b2_platter.proofs.Soundness.{Sound-from_Good}
 use Rattle.b2_platter.proofs.Puts.{length-put_sector, row_before, sector_before, sector_after, sector_same}
-use Rattle.b2_platter.proofs.Kept.{index-same, next-same, head-same, ordered-same, shared}
+use Rattle.b2_platter.proofs.Kept.{index-same, next-same, image_head-same, ordered-same, shared}
 use Rattle.b2_catalog.proofs.Mapping.{get-catalogue}
 use Rattle.b2_catalog.specs.declared.entry.Entry.{Entry}
 use Rattle.b2_catalog.specs.Catalogue.{entry_at, catalogue}
-use Rattle.b2_catalog.specs.Ways.{has_name, slot_of, IsSlotOf}
+use Rattle.b2_catalog.specs.Ways.{has_name, slot_found, IsSlotOf}
 use Rattle.b2_catalog.specs.Changes.{put_row, scratched_slot, control_sector}
 use Rattle.b2_catalog.specs.Calls.{with_scratched, catalogue_scratched}
 use Rattle.b2_catalog.proofs.Looking.{IsSlotOf-from, Holds, Holds-from, has_name-from, FileSlot, FileSlot-from}
@@ -58,7 +58,7 @@ module _ (a : List ℕ) (good : Good Narrow a) (name : List ℕ) (k : ℕ) (at :
   unfolding entry_at
   entry_scratched =
       let f = FileSlot-from a name k good at in
-      let same = put_sectors_above a good k at.low at.high (scratched_slot (row a k)) says.long (end_of Narrow (row a k)) (omega (arith, f.low, f.order)) in
+      let same = put_sectors_above a good k at.low at.high (scratched_slot (row a k)) says.long (slot_end Narrow (row a k)) (omega (arith, f.low, f.order)) in
       rw (now_row, says.name, says.dead, says.program, says.start, says.end, same) refl
 
   pub catalogue-scratched : catalogue (put_row a k (scratched_slot (row a k))) ≡ catalogue_scratched (catalogue a) name
@@ -72,22 +72,22 @@ pub record StandsAt (a name : List ℕ) (e : Entry) (k : ℕ) : Type 0 where
   pub at : IsSlotOf a name k
   pub is : e ≡ entry_at a k
 
-stands_by : (a name : List ℕ) (e : Entry) (o : Option ℕ) → slot_of a name ≡ o → option_map (entry_at a) o ≡ Some e → (k : ℕ) × StandsAt a name e k
+stands_by : (a name : List ℕ) (e : Entry) (o : Option ℕ) → slot_found a name ≡ o → option_map (entry_at a) o ≡ Some e → (k : ℕ) × StandsAt a name e k
 stands_by a name e None is h = cc
 stands_by a name e (Some k) is h = (k, record { at = IsSlotOf-from a name k is; is = (let same : entry_at a k ≡ e = cc in sym same) })
 
 pub stands : (a name : List ℕ) (e : Entry) → get (catalogue a) name ≡ Some e → (k : ℕ) × StandsAt a name e k
-stands a name e h = stands_by a name e (slot_of a name) refl (sym (get-catalogue a name) ∙ h)
+stands a name e h = stands_by a name e (slot_found a name) refl (sym (get-catalogue a name) ∙ h)
 
-pub entry_end : (a : List ℕ) (k : ℕ) → (entry_at a k).end ≡ end_of Narrow (row a k)
+pub entry_end : (a : List ℕ) (k : ℕ) → (entry_at a k).end ≡ slot_end Narrow (row a k)
 unfolding entry_at
 entry_end a k = refl
 
-pub entry_start : (a : List ℕ) (k : ℕ) → (entry_at a k).start ≡ start_of Narrow (row a k)
+pub entry_start : (a : List ℕ) (k : ℕ) → (entry_at a k).start ≡ slot_start Narrow (row a k)
 unfolding entry_at
 entry_start a k = refl
 
-module _ (a : List ℕ) (good : Good Narrow a) (name : List ℕ) (k : ℕ) (at : IsSlotOf a name k) (used : ℕ) (some : 1 ≤ used) (few : used ≤ end_of Narrow (row a k) - start_of Narrow (row a k)) where
+module _ (a : List ℕ) (good : Good Narrow a) (name : List ℕ) (k : ℕ) (at : IsSlotOf a name k) (used : ℕ) (some : 1 ≤ used) (few : used ≤ slot_end Narrow (row a k) - slot_start Narrow (row a k)) where
   file : FileSlot a k
   file = FileSlot-from a name k good at
 
@@ -97,11 +97,11 @@ module _ (a : List ℕ) (good : Good Narrow a) (name : List ℕ) (k : ℕ) (at :
   small : used < 65536
   small = let f = file in let most = most_of_good Narrow a good in omega arith
 
-  rows_stay : (j : ℕ) → j < 16 * index_of a → row (put_sector a (end_of Narrow (row a k)) (control_sector used)) j ≡ row a j
-  rows_stay j h = let f = file in row_before a (end_of Narrow (row a k)) (control_sector used) (control_long used) f.inside j (omega arith)
+  rows_stay : (j : ℕ) → j < 16 * index_of a → row (put_sector a (slot_end Narrow (row a k)) (control_sector used)) j ≡ row a j
+  rows_stay j h = let f = file in row_before a (slot_end Narrow (row a k)) (control_sector used) (control_long used) f.inside j (omega arith)
 
   -- no other file ends there
-  apart_end : (j : ℕ) → 1 ≤ j → j < 16 * index_of a → j ≢ k → is_entry (row a j) ≡ true → end_of Narrow (row a j) ≡ end_of Narrow (row a k) → ⊥
+  apart_end : (j : ℕ) → 1 ≤ j → j < 16 * index_of a → j ≢ k → is_entry (row a j) ≡ true → slot_end Narrow (row a j) ≡ slot_end Narrow (row a k) → ⊥
   apart_end j low high other e same =
       let s = Sound-from_Good Narrow a good in
       let f = file in
@@ -114,37 +114,37 @@ module _ (a : List ℕ) (good : Good Narrow a) (name : List ℕ) (k : ℕ) (at :
         ]
       ]
 
-  other_ends : (j : ℕ) → 1 ≤ j → j < 16 * index_of a → j ≢ k → is_entry (row a j) ≡ true → sector (put_sector a (end_of Narrow (row a k)) (control_sector used)) (end_of Narrow (row a j)) ≡ sector a (end_of Narrow (row a j))
+  other_ends : (j : ℕ) → 1 ≤ j → j < 16 * index_of a → j ≢ k → is_entry (row a j) ≡ true → sector (put_sector a (slot_end Narrow (row a k)) (control_sector used)) (slot_end Narrow (row a j)) ≡ sector a (slot_end Narrow (row a j))
   other_ends j low high other e =
       let f = file in
-      elim (cases_order (end_of Narrow (row a j)) (end_of Narrow (row a k))) [
+      elim (cases_order (slot_end Narrow (row a j)) (slot_end Narrow (row a k))) [
         | inl same ↦ absurd (apart_end j low high other e same)
         | inr unequal ↦ elim unequal [
-          | inl less ↦ sector_before a (end_of Narrow (row a k)) (control_sector used) (control_long used) f.inside (end_of Narrow (row a j)) less
-          | inr more ↦ sector_after a (end_of Narrow (row a k)) (control_sector used) (control_long used) f.inside (end_of Narrow (row a j)) more
+          | inl less ↦ sector_before a (slot_end Narrow (row a k)) (control_sector used) (control_long used) f.inside (slot_end Narrow (row a j)) less
+          | inr more ↦ sector_after a (slot_end Narrow (row a k)) (control_sector used) (control_long used) f.inside (slot_end Narrow (row a j)) more
         ]
       ]
 
-  own_end : sector (put_sector a (end_of Narrow (row a k)) (control_sector used)) (end_of Narrow (row a k)) ≡ control_sector used
-  own_end = let f = file in sector_same a (end_of Narrow (row a k)) (control_sector used) (control_long used) f.inside
+  own_end : sector (put_sector a (slot_end Narrow (row a k)) (control_sector used)) (slot_end Narrow (row a k)) ≡ control_sector used
+  own_end = let f = file in sector_same a (slot_end Narrow (row a k)) (control_sector used) (control_long used) f.inside
 
-  controlled_now : is_controlled Narrow (put_sector a (end_of Narrow (row a k)) (control_sector used)) (row a k) ≡ true
+  controlled_now : is_controlled Narrow (put_sector a (slot_end Narrow (row a k)) (control_sector used)) (row a k) ≡ true
   unfolding is_controlled
-  controlled_now = rw (holds_at.entry, own_end) (control_spelled used (end_of Narrow (row a k) - start_of Narrow (row a k)) small some few)
+  controlled_now = rw (holds_at.entry, own_end) (control_spelled used (slot_end Narrow (row a k) - slot_start Narrow (row a k)) small some few)
 
-  pub used_changes : Changes a (put_sector a (end_of Narrow (row a k)) (control_sector used)) k
+  pub used_changes : Changes a (put_sector a (slot_end Narrow (row a k)) (control_sector used)) k
   used_changes =
       let s = Sound-from_Good Narrow a good in
       let f = file in
-      let b = put_sector a (end_of Narrow (row a k)) (control_sector used) in
-      let long = length-put_sector a (end_of Narrow (row a k)) (control_sector used) (control_long used) f.inside in
+      let b = put_sector a (slot_end Narrow (row a k)) (control_sector used) in
+      let long = length-put_sector a (slot_end Narrow (row a k)) (control_sector used) (control_long used) f.inside in
       let front = rows_stay 0 (omega (arith, at.low, at.high)) in
       let i = index-same Narrow a b front in
       let n = next-same Narrow a b front in
       let own = rows_stay k at.high in
       record {
         long = long;
-        head = head-same Narrow a b long front s.head;
+        head = image_head-same Narrow a b long front s.head;
         ordered = ordered-same Narrow a b front s.ordered;
         index = i;
         next = omega (arith, n);
@@ -160,16 +160,16 @@ module _ (a : List ℕ) (good : Good Narrow a) (name : List ℕ) (k : ℕ) (at :
           | inr unequal ↦ elim unequal [ inl less ↦ s.apart k j at.low less high | inr more ↦ apart_turned (row a k) (row a j) ∙ s.apart j k low more at.high ]
         ]);
         free = λ e. subst (λ (r : List ℕ). is_free r ≡ true) own e;
-        reached = reached_still a b k good i (λ j low high other. rows_stay j high) (λ e. subst (λ (r : List ℕ). is_free r ≡ true) own e) k (ap is_entry own) (ap name_of own) (s.reached k at.low at.high);
+        reached = reached_still a b k good i (λ j low high other. rows_stay j high) (λ e. subst (λ (r : List ℕ). is_free r ≡ true) own e) k (ap is_entry own) (ap slot_name own) (s.reached k at.low at.high);
         controlled = rw own controlled_now;
         ends = other_ends;
       }
 
-  entry_used : entry_at (put_sector a (end_of Narrow (row a k)) (control_sector used)) k ≡ record (entry_at a k) { used = used }
+  entry_used : entry_at (put_sector a (slot_end Narrow (row a k)) (control_sector used)) k ≡ record (entry_at a k) { used = used }
   unfolding entry_at
   entry_used = rw (rows_stay k at.high, own_end, control_used used small) refl
 
-  pub catalogue-used : catalogue (put_sector a (end_of Narrow (row a k)) (control_sector used)) ≡ insert (catalogue a) name (record (entry_at a k) { used = used })
+  pub catalogue-used : catalogue (put_sector a (slot_end Narrow (row a k)) (control_sector used)) ≡ insert (catalogue a) name (record (entry_at a k) { used = used })
   catalogue-used =
       catalogue-inserted a _ k good used_changes at.low at.high name (ap (has_name name) (rows_stay k at.high) ∙ at.held) (λ e. holds_at.same)
       ∙ ap (insert (catalogue a) name) entry_used

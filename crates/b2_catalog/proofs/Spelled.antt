@@ -1,21 +1,21 @@
 -- Slots and control sectors as they are written, and what is read from them.
 use Rattle.std.proofs.Common.{◌≡◌, ℕ, ◌+◌, ◌*◌, ◌/◌, ◌%◌, ◌<◌, ◌≤◌, Bool, true, false, ◌||◌, ◌==◌, List, [], ◌∷◌, ◌++◌, length, take, drop, replicate, refl, arith, append-nil}
 use Rattle.b2_platter.specs.declared.layout.Layout.TheVariants.{Narrow}
-use Rattle.b2_platter.specs.Edits.{spelled}
+use Rattle.b2_platter.specs.Edits.{sector_number_bytes}
 use Rattle.std.proofs.lemmas.Bool.{and_from, le-leb}
 use Rattle.b2_base.specs.Names.{is_name8}
 use Rattle.std.specs.Prelude.{nat_le, slice_index}
 use Rattle.std.specs.List.{list_all}
 use Rattle.b2_platter.specs.Layout.{width_of, is_zero}
-use Rattle.b2_platter.specs.Slot.{is_free, is_gone, is_live, is_entry, is_program, has_kind, start_of, end_of, name_of, is_spelled}
+use Rattle.b2_platter.specs.Slot.{is_free, is_gone, is_live, is_entry, is_program, has_kind, slot_start, slot_end, slot_name, is_spelled}
 use Rattle.b2_platter.specs.Checks.{used_of, is_control}
 use Rattle.b2_catalog.specs.Changes.{kind_of, file_slot, scratched_slot, gone_slot, control_sector}
 
-pub slot_made : (program : Bool) (kind start end : ℕ) (name x y z : List ℕ) → kind ≡ kind_of program → x ≡ take 2 (16 ∷ kind ∷ replicate 14 0) ++ (spelled Narrow start ++ drop 4 (16 ∷ kind ∷ replicate 14 0)) → y ≡ take 4 x ++ (spelled Narrow end ++ drop 6 x) → z ≡ name → take 8 y ++ (z ++ drop 8 (drop 8 y)) ≡ file_slot program start end name
+pub slot_made : (program : Bool) (kind start end : ℕ) (name x y z : List ℕ) → kind ≡ kind_of program → x ≡ take 2 (16 ∷ kind ∷ replicate 14 0) ++ (sector_number_bytes Narrow start ++ drop 4 (16 ∷ kind ∷ replicate 14 0)) → y ≡ take 4 x ++ (sector_number_bytes Narrow end ++ drop 6 x) → z ≡ name → take 8 y ++ (z ++ drop 8 (drop 8 y)) ≡ file_slot program start end name
 unfolding file_slot
 slot_made program kind start end name x y z ek ex ey ez = rw (ez, ey, ex, ek, append-nil name) refl
 
-pub control_made : (used : ℕ) (x : List ℕ) → x ≡ take 1 (161 ∷ replicate 255 0) ++ (spelled Narrow used ++ drop 3 (161 ∷ replicate 255 0)) → x ≡ control_sector used
+pub control_made : (used : ℕ) (x : List ℕ) → x ≡ take 1 (161 ∷ replicate 255 0) ++ (sector_number_bytes Narrow used ++ drop 3 (161 ∷ replicate 255 0)) → x ≡ control_sector used
 unfolding control_sector
 control_made used x ex = ex
 
@@ -29,9 +29,9 @@ pub record SaysFile (slot : List ℕ) (p : Bool) (s e : ℕ) (n : List ℕ) : Ty
   pub taken : is_free slot ≡ false
   pub live : is_live slot ≡ true
   pub program : is_program slot ≡ p
-  pub start : start_of Narrow slot ≡ s
-  pub end : end_of Narrow slot ≡ e
-  pub name : name_of slot ≡ n
+  pub start : slot_start Narrow slot ≡ s
+  pub end : slot_end Narrow slot ≡ e
+  pub name : slot_name slot ≡ n
   pub spelled : is_spelled Narrow slot ≡ true
 
 kind_is_program : (p : Bool) → (kind_of p == 80) ≡ p
@@ -43,7 +43,7 @@ kind_is_one true = refl
 kind_is_one false = refl
 
 pub says_file : (p : Bool) (s e : ℕ) (n : List ℕ) → s < 65536 → e < 65536 → length n ≡ 8 → is_name8 n ≡ true → SaysFile (file_slot p s e n) p s e n
-unfolding file_slot is_entry is_free is_live is_program start_of end_of name_of is_spelled has_kind is_gone
+unfolding file_slot is_entry is_free is_live is_program slot_start slot_end slot_name is_spelled has_kind is_gone
 says_file p s e n hs he long legal =
     record {
       long = let short : length n ≡ 8 = long in omega arith;
@@ -64,13 +64,13 @@ pub record SaysScratched (slot was : List ℕ) : Type 0 where
   pub taken : is_free slot ≡ false
   pub dead : is_live slot ≡ false
   pub program : is_program slot ≡ is_program was
-  pub start : start_of Narrow slot ≡ start_of Narrow was
-  pub end : end_of Narrow slot ≡ end_of Narrow was
-  pub name : name_of slot ≡ name_of was
+  pub start : slot_start Narrow slot ≡ slot_start Narrow was
+  pub end : slot_end Narrow slot ≡ slot_end Narrow was
+  pub name : slot_name slot ≡ slot_name was
   pub spelled : is_entry was ≡ true → is_spelled Narrow was ≡ true → is_spelled Narrow slot ≡ true
 
 pub says_scratched : (was : List ℕ) → length was ≡ 16 → SaysScratched (scratched_slot was) was
-unfolding scratched_slot is_entry is_free is_live is_program start_of end_of name_of is_spelled has_kind is_gone
+unfolding scratched_slot is_entry is_free is_live is_program slot_start slot_end slot_name is_spelled has_kind is_gone
 says_scratched [] long = absurd (omega arith)
 says_scratched (x ∷ xs) long =
     record {

@@ -2,7 +2,7 @@
 use Rattle.std.proofs.Common.{◌≡◌, ℕ, ◌-◌, ◌≤◌, List, Some, sym, ap, ◌∙◌, arith}
 use Rattle.std.specs.FinMap.{get, insert}
 use Rattle.b2_platter.specs.declared.layout.Layout.TheVariants.{Narrow}
-use Rattle.b2_platter.specs.Slot.{start_of, end_of}
+use Rattle.b2_platter.specs.Slot.{slot_start, slot_end}
 use Rattle.b2_platter.specs.Image.{row}
 use Rattle.b2_platter.specs.Checks.{Good}
 use Rattle.b2_platter.specs.Edits.{put_sector}
@@ -16,12 +16,12 @@ module _ (image : List ℕ) (e : Entry) (good : Good Narrow image) (there : get 
   place : (k : ℕ) × StandsAt image e.name e k
   place = stands image e.name e there
 
-  end : e.end ≡ end_of Narrow (row image place.0)
+  end : e.end ≡ slot_end Narrow (row image place.0)
   end = ap (λ (e : Entry). e.end) place.1.is ∙ entry_end image place.0
 
-  within : used ≤ end_of Narrow (row image place.0) - start_of Narrow (row image place.0)
+  within : used ≤ slot_end Narrow (row image place.0) - slot_start Narrow (row image place.0)
   within =
-      let start : e.start ≡ start_of Narrow (row image place.0) = ap (λ (e : Entry). e.start) place.1.is ∙ entry_start image place.0 in
+      let start : e.start ≡ slot_start Narrow (row image place.0) = ap (λ (e : Entry). e.start) place.1.is ∙ entry_start image place.0 in
       omega (arith, end, start, few)
 
   pub used-good : Good Narrow (put_sector image e.end (control_sector used))

@@ -7,7 +7,7 @@ use Rattle.b2_platter.specs.declared.layout.Layout.TheVariants.{Narrow}
 use Rattle.b2_platter.specs.Image.{catalogue_end, next_free}
 use Rattle.b2_catalog.specs.declared.entry.Entry.{Entry}
 use Rattle.b2_catalog.specs.Catalogue.{Catalogue, catalogue}
-use Rattle.b2_catalog.specs.Ways.{place, slot_of}
+use Rattle.b2_catalog.specs.Ways.{place, slot_found}
 
 -- with the file at a name, where there is one, no longer live
 abbrev pub with_scratched : Catalogue → List ℕ → Option Entry → Catalogue
@@ -42,4 +42,4 @@ reuse_refusal image old name =
 
 -- the slot of a reused file: its own, or the place of its new name
 abbrev pub reused_place : List ℕ → List ℕ → List ℕ → Option ℕ
-reused_place image old name = if bytes_eq old name then slot_of image old else place image name
+reused_place image old name = if bytes_eq old name then slot_found image old else place image name

@@ -5,7 +5,7 @@ use Rattle.std.specs.Ordering.{nat_cmp}
 use Rattle.std.specs.Cmp.Lexicographic.{slice_cmp}
 use Rattle.std.specs.FinMap.{FinMap, from_entries}
 use Rattle.b2_platter.specs.declared.layout.Layout.TheVariants.{Narrow}
-use Rattle.b2_platter.specs.Slot.{is_entry, is_live, is_program, start_of, end_of, name_of}
+use Rattle.b2_platter.specs.Slot.{is_entry, is_live, is_program, slot_start, slot_end, slot_name}
 use Rattle.b2_platter.specs.Image.{row, sector, index_of, slots_of}
 use Rattle.b2_platter.specs.Checks.{used_of}
 use Rattle.b2_catalog.specs.declared.entry.Entry.{Entry}
@@ -14,17 +14,17 @@ use Rattle.b2_catalog.specs.declared.entry.Entry.{Entry}
 unfoldable pub entry_at : List ℕ → ℕ → Entry
 entry_at image k =
     record {
-      name = name_of (row image k);
+      name = slot_name (row image k);
       live = is_live (row image k);
       program = is_program (row image k);
-      start = start_of Narrow (row image k);
-      end = end_of Narrow (row image k);
-      used = used_of Narrow (sector image (end_of Narrow (row image k)));
+      start = slot_start Narrow (row image k);
+      end = slot_end Narrow (row image k);
+      used = used_of Narrow (sector image (slot_end Narrow (row image k)));
     }
 
 -- a slot with its name, where it is that of a file
 unfoldable pub named_entry : List ℕ → ℕ → Option (List ℕ × Entry)
-named_entry image k = if is_entry (row image k) then Some (name_of (row image k), entry_at image k) else None
+named_entry image k = if is_entry (row image k) then Some (slot_name (row image k), entry_at image k) else None
 
 abbrev pub Catalogue : Type 0
 Catalogue = FinMap (slice_cmp nat_cmp) Entry

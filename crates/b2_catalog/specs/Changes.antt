@@ -4,9 +4,9 @@ use Rattle.b2_platter.specs.declared.checks.TheConstants.{CONTROL}
 use Rattle.b2_platter.specs.declared.slot.TheConstants.{LIVE, SCRATCHED, GONE, PROGRAM, DATA}
 use Rattle.b2_platter.specs.declared.layout.Layout.TheVariants.{Narrow}
 use Rattle.b2_platter.specs.Layout.{width_of, third_place}
-use Rattle.b2_platter.specs.Slot.{start_of, end_of}
+use Rattle.b2_platter.specs.Slot.{slot_start, slot_end}
 use Rattle.b2_platter.specs.Image.{row, index_of, total_of, catalogue_end, next_free}
-use Rattle.b2_platter.specs.Edits.{spelled, head_bytes, put_sector}
+use Rattle.b2_platter.specs.Edits.{sector_number_bytes, head_bytes, put_sector}
 
 -- row k is these bytes
 unfoldable pub put_row : List ℕ → ℕ → List ℕ → List ℕ
@@ -19,7 +19,7 @@ kind_of program = if program then PROGRAM else DATA
 -- the slot of a live file
 unfoldable pub file_slot : Bool → ℕ → ℕ → List ℕ → List ℕ
 file_slot program start end name =
-    LIVE ∷ kind_of program ∷ (spelled Narrow start ++ spelled Narrow end ++ replicate (8 - third_place Narrow) 0 ++ name)
+    LIVE ∷ kind_of program ∷ (sector_number_bytes Narrow start ++ sector_number_bytes Narrow end ++ replicate (8 - third_place Narrow) 0 ++ name)
 
 -- the slot of a file that was scratched: its other bytes stay
 unfoldable pub scratched_slot : List ℕ → List ℕ
@@ -31,7 +31,7 @@ gone_slot = GONE ∷ replicate 15 0
 
 -- a control sector: its first byte, how many sectors are used, and 00
 unfoldable pub control_sector : ℕ → List ℕ
-control_sector used = CONTROL ∷ (spelled Narrow used ++ replicate (255 - width_of Narrow) 0)
+control_sector used = CONTROL ∷ (sector_number_bytes Narrow used ++ replicate (255 - width_of Narrow) 0)
 
 -- the head, with another next free sector
 unfoldable pub head_with_next : List ℕ → ℕ → List ℕ
@@ -47,4 +47,4 @@ entered image k name program sectors =
 -- a file under another name, or under its own again: its slot is gone, and a slot is that of the live file
 unfoldable pub reused : List ℕ → ℕ → ℕ → List ℕ → Bool → List ℕ
 reused image k to name program =
-    put_row (put_row image k gone_slot) to (file_slot program (start_of Narrow (row image k)) (end_of Narrow (row image k)) name)
+    put_row (put_row image k gone_slot) to (file_slot program (slot_start Narrow (row image k)) (slot_end Narrow (row image k)) name)

@@ -2,7 +2,7 @@
 use Rattle.std.specs.Prelude.{ℕ, Bool, List, [], ◌++◌, codes, decimal, if◌then◌else◌}
 use Rattle.std.specs.List.{flat_map}
 use Rattle.b2_platter.specs.declared.layout.Layout.TheVariants.{Narrow}
-use Rattle.b2_platter.specs.Slot.{is_entry, is_live, is_program, start_of, end_of, name_of}
+use Rattle.b2_platter.specs.Slot.{is_entry, is_live, is_program, slot_start, slot_end, slot_name}
 use Rattle.b2_platter.specs.Image.{row, sector, index_of, catalogue_end, next_free, slots_of}
 use Rattle.b2_platter.specs.Checks.{used_of}
 
@@ -22,8 +22,8 @@ spaced n = codes " " ++ decimal n
 -- the name in eight bytes, the marks, and the first, the last and the used sectors
 unfoldable pub file_line : List ℕ → ℕ → List ℕ
 file_line image k =
-    name_of (row image k) ++ marks_of (is_program (row image k)) (is_live (row image k)) ++ spaced (start_of Narrow (row image k)) ++ spaced (end_of Narrow (row image k))
-    ++ spaced (used_of Narrow (sector image (end_of Narrow (row image k)))) ++ codes "\n"
+    slot_name (row image k) ++ marks_of (is_program (row image k)) (is_live (row image k)) ++ spaced (slot_start Narrow (row image k)) ++ spaced (slot_end Narrow (row image k))
+    ++ spaced (used_of Narrow (sector image (slot_end Narrow (row image k)))) ++ codes "\n"
 
 -- the line of a slot, where it is a file's
 abbrev pub slot_line : List ℕ → ℕ → List ℕ

@@ -4,7 +4,7 @@ use Rattle.std.specs.FinMap.{get, remove}
 use Rattle.b2_platter.specs.Image.{index_of, sector}
 use Rattle.b2_catalog.specs.declared.entry.Entry.{Entry}
 use Rattle.b2_catalog.specs.Catalogue.{Catalogue, catalogue}
-use Rattle.b2_catalog.specs.Ways.{place, slot_of}
+use Rattle.b2_catalog.specs.Ways.{place, slot_found}
 use Rattle.b2_catalog.specs.Changes.{entered, reused}
 use Rattle.b2_catalog.specs.Calls.{enter_refusal, reuse_refusal, new_entry, reused_place}
 
@@ -19,7 +19,7 @@ Made image None name program sectors new e =
     (e ≡ new_entry image name program sectors) × IfSome (place image name) (λ k. new ≡ entered image k name program sectors)
 Made image (Some old) name program sectors new e =
     IfSome (get (catalogue image) old) (λ was. e ≡ record was { name = name; live = true; program = program })
-    × IfSome (slot_of image old) (λ k. IfSome (reused_place image old name) (λ to. new ≡ reused image k to name program))
+    × IfSome (slot_found image old) (λ k. IfSome (reused_place image old name) (λ to. new ≡ reused image k to name program))
 
 -- the catalogue without the old file
 abbrev pub files_without : List ℕ → Option (List ℕ) → Catalogue

@@ -7,7 +7,7 @@ ghost use Rattle.b2_platter.specs.Image.{row, index_of};
 ghost use Rattle.b2_platter.specs.Checks.{Good};
 ghost use Rattle.b2_platter.specs.Edits.{put_sector};
 ghost use Rattle.b2_catalog.specs.Catalogue.{catalogue};
-ghost use Rattle.b2_catalog.specs.Ways.{slot_of};
+ghost use Rattle.b2_catalog.specs.Ways.{slot_found};
 ghost use Rattle.b2_catalog.specs.Changes.{put_row, scratched_slot, control_sector};
 ghost use Rattle.b2_catalog.specs.Calls.{catalogue_scratched};
 
@@ -31,7 +31,7 @@ pub fn scratch(p: &mut Platter, name: Name8) -> Result<(), Code>
     ensures err { IfErr result (λ code. (code ≡ D82_NO_FILE) × (get (catalogue p.old) name ≡ None) × (p.new ≡ p.old)) }
     ensures there { OnOk result (IsSome (get (catalogue p.old) name)) }
     ensures ok { OnOk result (catalogue p.new ≡ catalogue_scratched (catalogue p.old) name) }
-    ensures image { OnOk result (IfSome (slot_of p.old name) (λ k. p.new ≡ put_row p.old k (scratched_slot (row p.old k)))) }
+    ensures image { OnOk result (IfSome (slot_found p.old name) (λ k. p.new ≡ put_row p.old k (scratched_slot (row p.old k)))) }
 {
     let Some(k) = lookup::look_slot(p, name) else {
         return Err(Code::known(D82_NO_FILE));

@@ -5,7 +5,7 @@ ghost use Rattle.b2_platter.specs.declared.layout.Layout.TheVariants.{Narrow};
 ghost use Rattle.b2_platter.specs.Image.{row, index_of, has_free};
 ghost use Rattle.b2_platter.specs.Checks.{Good};
 ghost use Rattle.b2_catalog.specs.Catalogue.{catalogue, entry_at};
-ghost use Rattle.b2_catalog.specs.Ways.{has_name, slot_in, way_of, way, found_along, slot_of, IsSlotOf};
+ghost use Rattle.b2_catalog.specs.Ways.{has_name, slot_in, way_of, way, found_along, slot_found, IsSlotOf};
 
 use crate::Entry;
 use b2_base::{Name8, Steps};
@@ -35,7 +35,7 @@ fn slot_in(bytes: &[u8], name: &[u8], s: usize) -> Option<usize>
 }
 
 /// The slot that a look-up finds, with a tick for each index sector that it reads.
-fn slot_of<L: Ledger>(bytes: &[u8], name: &[u8], steps: &mut Steps<L>) -> Option<usize>
+fn slot_found<L: Ledger>(bytes: &[u8], name: &[u8], steps: &mut Steps<L>) -> Option<usize>
     requires some { 1 ≤ index_of bytes.now }
     requires room { 256 * index_of bytes.now ≤ length bytes.now }
     requires len { length name.now ≡ 8 }
@@ -79,11 +79,11 @@ pub fn entry_at(p: &Platter, k: usize, name: Name8) -> Entry
 
 /// The slot of the file with the name, with a tick for each index sector that is read.
 pub fn find_slot<L: Ledger>(p: &Platter, name: Name8, steps: &mut Steps<L>) -> Option<usize>
-    ensures slot { result ≡ slot_of p.now name }
+    ensures slot { result ≡ slot_found p.now name }
     ensures held { IfSome result (IsSlotOf p.now name) }
     ensures ticks { steps.new ≡ steps.old + way p.now name }
 {
-    slot_of(p.image(), &name.bytes(), steps)
+    slot_found(p.image(), &name.bytes(), steps)
 }
 
 /// The file with the name, None where the catalogue hasn't it. One step is counted for each index sector that is read.
@@ -101,7 +101,7 @@ fn uncounted<L: Ledger>(p: &Platter, name: Name8, blank: Blank) -> Option<usize>
     requires name { blank.name ≡ L.name }
     requires parts { blank.parts ≡ L.parts }
     requires some { 0 < L.parts }
-    ensures slot { result ≡ slot_of p.now name }
+    ensures slot { result ≡ slot_found p.now name }
     ensures held { IfSome result (IsSlotOf p.now name) }
 {
     find_slot(p, name, &mut Steps::<L>::new(blank))
@@ -109,7 +109,7 @@ fn uncounted<L: Ledger>(p: &Platter, name: Name8, blank: Blank) -> Option<usize>
 
 /// The slot of the file with the name.
 pub fn look_slot(p: &Platter, name: Name8) -> Option<usize>
-    ensures slot { result ≡ slot_of p.now name }
+    ensures slot { result ≡ slot_found p.now name }
     ensures held { IfSome result (IsSlotOf p.now name) }
 {
     uncounted::<Brand>(p, name, Blank::new(1))

@@ -5,7 +5,7 @@ ghost use Rattle.std.specs.FinMap.{get, insert, remove};
 ghost use Rattle.b2_platter.specs.declared.layout.Layout.TheVariants.{Narrow};
 ghost use Rattle.b2_platter.specs.Checks.{Good};
 ghost use Rattle.b2_catalog.specs.Catalogue.{catalogue, entry_at};
-ghost use Rattle.b2_catalog.specs.Ways.{slot_of, IsSlotOf};
+ghost use Rattle.b2_catalog.specs.Ways.{slot_found, IsSlotOf};
 ghost use Rattle.b2_catalog.specs.Changes.{reused};
 ghost use Rattle.b2_catalog.specs.Calls.{reuse_refusal, reused_place};
 
@@ -23,8 +23,8 @@ fn is_same(old: Name8, name: Name8) -> bool
 }
 
 /// Whether another name is in the catalogue already.
-fn is_taken(p: &Platter, old: Name8, name: Name8) -> bool
-    ensures value { result ≡ (not (bytes_eq old name) && is_some (slot_of p.now name)) }
+fn is_name_taken(p: &Platter, old: Name8, name: Name8) -> bool
+    ensures value { result ≡ (not (bytes_eq old name) && is_some (slot_found p.now name)) }
     ensures good { Good Narrow p.now }
 {
     let _image = p.image();
@@ -33,7 +33,7 @@ fn is_taken(p: &Platter, old: Name8, name: Name8) -> bool
 
 /// The slot for the file in slot k: its own where the name stays, else the place of the new name.
 fn new_place(p: &Platter, k: usize, old: Name8, name: Name8) -> Option<usize>
-    requires { slot_of p.now old ≡ Some k }
+    requires { slot_found p.now old ≡ Some k }
     ensures { result ≡ reused_place p.now old name }
 {
     if is_same(old, name) {
@@ -49,9 +49,9 @@ pub fn reuse(p: &mut Platter, old: Name8, name: Name8, program: bool) -> Result<
     ensures err { IfErr result (λ code. (reuse_refusal p.old old name ≡ Some code) × (p.new ≡ p.old)) }
     ensures ok { IfOk result (λ e. (reuse_refusal p.old old name ≡ None) × IfSome (get (catalogue p.old) old) (λ was. e ≡ record was { name = name; live = true; program = program })) }
     ensures catalogue { IfOk result (λ e. catalogue p.new ≡ insert (remove (catalogue p.old) old) name e) }
-    ensures image { OnOk result (IfSome (slot_of p.old old) (λ k. IfSome (reused_place p.old old name) (λ to. p.new ≡ reused p.old k to name program))) }
+    ensures image { OnOk result (IfSome (slot_found p.old old) (λ k. IfSome (reused_place p.old old name) (λ to. p.new ≡ reused p.old k to name program))) }
 {
-    if is_taken(p, old, name) {
+    if is_name_taken(p, old, name) {
         return Err(Code::known(D83_NAME_PRESENT));
     }
     let Some(k) = lookup::look_slot(p, old) else {

@@ -4,7 +4,7 @@ use Rattle.std.specs.List.{flat_map, range_with_len}
 use Rattle.std.proofs.lemmas.List.{get_or-take, get_or-drop, get_or_append_left, get_or-append_right, length-append, length-map, length-take-le, length-drop, get_or-map}
 use Rattle.std.proofs.lemmas.List.FromFn.{length-map-range_with_len, get_or-map-range_with_len}
 use Rattle.b2_dec.specs.Number.{Number, zero_number}
-use Rattle.b2_matrix.specs.Arrays.{cut_into_rows, array_row, array_column, entry, along_rows}
+use Rattle.b2_matrix.specs.Arrays.{cut_into_rows, matrix_row, array_column, entry, along_rows}
 
 -- the element of a row and a column stands after the rows before and the elements before it
 pub entry_at : (count w : ℕ) (cells : List Number) (i j : ℕ) → i < count → j < w → entry (cut_into_rows count w cells) i j ≡ get_or cells (i * w + j) zero_number
@@ -17,7 +17,7 @@ pub length-cut_into_rows : (count w : ℕ) (cells : List Number) → length (cut
 length-cut_into_rows zero w cells = refl
 length-cut_into_rows (suc count) w cells = ap suc (length-cut_into_rows count w (drop w cells))
 
-pub length-row : (count w : ℕ) (cells : List Number) (i : ℕ) → i < count → length cells ≡ count * w → length (array_row (cut_into_rows count w cells) i) ≡ w
+pub length-row : (count w : ℕ) (cells : List Number) (i : ℕ) → i < count → length cells ≡ count * w → length (matrix_row (cut_into_rows count w cells) i) ≡ w
 length-row zero w cells i low whole = absurd (omega arith)
 length-row (suc count) w cells zero low whole = length-take-le w cells (omega arith)
 length-row (suc count) w cells (suc i) low whole = length-row count w (drop w cells) i (omega arith) (length-drop w cells ∙ omega arith)

@@ -9,7 +9,7 @@ use Rattle.b2_dec.proofs.Exact.{sum-zero_left, sum-zero_right, rnd-digits, in_ra
 use Rattle.b2_dec.proofs.Factors.{product-none, product-sizes}
 use Rattle.b2_matrix.specs.declared.array.Fill.TheVariants as filled_with
 use Rattle.b2_matrix.specs.declared.combining.MatOp.TheVariants as op
-use Rattle.b2_matrix.specs.Arrays.{cut_into_rows, array_row, array_column, entry, along_rows, element, filling, sum_of_products}
+use Rattle.b2_matrix.specs.Arrays.{cut_into_rows, matrix_row, array_column, entry, along_rows, combined_element, filling, sum_of_products}
 use Rattle.b2_matrix.proofs.RowPlaces.{entry_at, entry_of_place, made_from, row_of_place, column_of_place, length-row, length-column, column_at, length-along_rows}
 use Rattle.b2_matrix.proofs.Making.{all_taken}
 
@@ -75,20 +75,20 @@ off_diagonal : (i k : ℕ) → k ≢ i → filling filled_with.Idn i k ≡ zero_
 off_diagonal i k other = ap (λ (t : Bool). if t then one_number else zero_number) (ne_eqb i k (λ e. other (sym e)))
 
 pub unit_times : (mode : Mode) (count width : ℕ) (cells : List Number) → length cells ≡ count * width → All IsNumber cells
-    → along_rows count width (element op.Mul mode (cut_into_rows count count (along_rows count count (filling filled_with.Idn))) (cut_into_rows count width cells)) ≡ map (λ x. Ok x) cells
+    → along_rows count width (combined_element op.Mul mode (cut_into_rows count count (along_rows count count (filling filled_with.Idn))) (cut_into_rows count width cells)) ≡ map (λ x. Ok x) cells
 unit_times mode count width cells whole each =
     let unit : List (List Number) = cut_into_rows count count (along_rows count count (filling filled_with.Idn)) in
     let xss : List (List Number) = cut_into_rows count width cells in
-    sym (all_taken (element op.Mul mode unit xss) count width cells whole
+    sym (all_taken (combined_element op.Mul mode unit xss) count width cells whole
     (λ p inside.
     let within : p < count * width = omega (arith, whole) in
     let low : p / width < count = row_of_place p count width within in
     let right : p % width < width = column_of_place p count width within in
-    let long : length (array_row unit (p / width)) ≡ count = length-row count count (along_rows count count (filling filled_with.Idn)) (p / width) low (length-along_rows (filling filled_with.Idn) count count) in
+    let long : length (matrix_row unit (p / width)) ≡ count = length-row count count (along_rows count count (filling filled_with.Idn)) (p / width) low (length-along_rows (filling filled_with.Idn) count count) in
     let high : length (array_column xss (p % width)) ≡ count = length-column count width cells (p % width) in
     let here : get_or (array_column xss (p % width)) (p / width) zero_number ≡ get_or cells p zero_number =
     column_at count width cells (p / width) (p % width) low ∙ entry_of_place count width cells p within in
-    single_one mode (p / width) (array_row unit (p / width)) (array_column xss (p % width)) (omega arith) (omega arith)
+    single_one mode (p / width) (matrix_row unit (p / width)) (array_column xss (p % width)) (omega arith) (omega arith)
     (unit_entry count (p / width) (p / width) low low ∙ on_diagonal (p / width) (p / width) refl)
     (λ k inner other. unit_entry count (p / width) k low (omega arith) ∙ off_diagonal (p / width) k other)
     (subst IsNumber (sym here) (each p zero_number inside))

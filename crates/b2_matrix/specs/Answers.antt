@@ -23,15 +23,15 @@ shape_of op.Sub a b = (a.rows, a.cols)
 shape_of op.Mul a b = (a.rows, column_count b)
 
 -- the first code of what was made in order, or the answer where there is none
-abbrev pub unless_refused : {A : Type 0} → List (Result Number ℕ) → A → Result A ℕ
-unless_refused [] answer = Ok answer
-unless_refused (Ok made ∷ rest) answer = unless_refused rest answer
-unless_refused (Err code ∷ rest) answer = Err code
+abbrev pub unless_one_refused : {A : Type 0} → List (Result Number ℕ) → A → Result A ℕ
+unless_one_refused [] answer = Ok answer
+unless_one_refused (Ok made ∷ rest) answer = unless_one_refused rest answer
+unless_one_refused (Err code ∷ rest) answer = Err code
 
 -- the shape of a sum, a difference or a product
 abbrev pub combined : MatOp → Mode → Mat → Mat → Result (ℕ × ℕ) ℕ
 combined operation mode a b =
-    if suit operation a b then unless_refused (elements operation mode a b) (shape_of operation a b) else Err P43_SHAPES
+    if suit operation a b then unless_one_refused (elements operation mode a b) (shape_of operation a b) else Err P43_SHAPES
 
 -- Only the unit matrix has to be square.
 abbrev pub may_fill : Fill → ℕ → ℕ → Bool

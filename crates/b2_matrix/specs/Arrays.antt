@@ -31,14 +31,14 @@ abbrev pub array_rows : Mat → List (List Number)
 array_rows a = cut_into_rows a.rows (column_count a) a.cells.now
 
 -- a row, a column and an element of a list of rows, all counted from 0
-abbrev pub array_row : List (List Number) → ℕ → List Number
-array_row xss i = get_or xss i []
+abbrev pub matrix_row : List (List Number) → ℕ → List Number
+matrix_row xss i = get_or xss i []
 
 abbrev pub array_column : List (List Number) → ℕ → List Number
 array_column xss j = map (λ xs. get_or xs j zero_number) xss
 
 abbrev pub entry : List (List Number) → ℕ → ℕ → Number
-entry xss i j = get_or (array_row xss i) j zero_number
+entry xss i j = get_or (matrix_row xss i) j zero_number
 
 -- what is made for each row and each column, along rows
 abbrev pub along_rows : {X : Type 0} → ℕ → ℕ → (ℕ → ℕ → X) → List X
@@ -52,14 +52,14 @@ sum_of_products mode sum (x ∷ xs) (y ∷ ys) =
     onwards (product_of mode x y) (λ product. onwards (sum_of mode sum product) (λ next. sum_of_products mode next xs ys))
 
 -- an element of a sum, a difference and a product
-abbrev pub element : MatOp → Mode → List (List Number) → List (List Number) → ℕ → ℕ → Result Number ℕ
-element op.Add mode xss yss i j = sum_of mode (entry xss i j) (entry yss i j)
-element op.Sub mode xss yss i j = difference_of mode (entry xss i j) (entry yss i j)
-element op.Mul mode xss yss i j = sum_of_products mode zero_number (array_row xss i) (array_column yss j)
+abbrev pub combined_element : MatOp → Mode → List (List Number) → List (List Number) → ℕ → ℕ → Result Number ℕ
+combined_element op.Add mode xss yss i j = sum_of mode (entry xss i j) (entry yss i j)
+combined_element op.Sub mode xss yss i j = difference_of mode (entry xss i j) (entry yss i j)
+combined_element op.Mul mode xss yss i j = sum_of_products mode zero_number (matrix_row xss i) (array_column yss j)
 
 -- the elements along rows
 abbrev pub elements : MatOp → Mode → Mat → Mat → List (Result Number ℕ)
-elements operation mode a b = along_rows a.rows (column_count b) (element operation mode (array_rows a) (array_rows b))
+elements operation mode a b = along_rows a.rows (column_count b) (combined_element operation mode (array_rows a) (array_rows b))
 
 -- the elements of a multiple
 abbrev pub multiples : Mode → Number → Mat → List (Result Number ℕ)

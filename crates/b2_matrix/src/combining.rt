@@ -1,8 +1,8 @@
 // Sums, differences, products and multiples.
 ghost use Rattle.std.specs.Prelude.{◌≡◌, ◌<◌, ◌*◌, true, false, length, map, Ok, OnOk};
 ghost use Rattle.b2_dec.specs.Number.{zero_number};
-ghost use Rattle.b2_matrix.specs.Arrays.{column_count, array_rows, array_row, array_column, element, elements, multiples, sum_of_products, IsWhole};
-ghost use Rattle.b2_matrix.specs.Answers.{suit, shape_of, combined, unless_refused};
+ghost use Rattle.b2_matrix.specs.Arrays.{column_count, array_rows, matrix_row, array_column, combined_element, elements, multiples, sum_of_products, IsWhole};
+ghost use Rattle.b2_matrix.specs.Answers.{suit, shape_of, combined, unless_one_refused};
 
 use crate::array::Mat;
 use b2_base::Code;
@@ -48,7 +48,7 @@ fn row_by_column(a: &Mat<'_>, b: &Mat<'_>, m: Mode, i: usize, j: usize) -> Resul
     requires suit { column_count a.now ≡ b.now.rows }
     requires row { i < a.now.rows }
     requires column { j < column_count b.now }
-    ensures { result ≡ sum_of_products m zero_number (array_row (array_rows a.now) i) (array_column (array_rows b.now) j) }
+    ensures { result ≡ sum_of_products m zero_number (matrix_row (array_rows a.now) i) (array_column (array_rows b.now) j) }
 {
     let mut sum = Dec::zero();
     for k in 0..a.column_count() {
@@ -59,13 +59,20 @@ fn row_by_column(a: &Mat<'_>, b: &Mat<'_>, m: Mode, i: usize, j: usize) -> Resul
 }
 
 /// The element of the result in a row and a column.
-fn element(op: MatOp, a: &Mat<'_>, b: &Mat<'_>, m: Mode, i: usize, j: usize) -> Result<Dec, Code>
+fn combined_element(
+    op: MatOp,
+    a: &Mat<'_>,
+    b: &Mat<'_>,
+    m: Mode,
+    i: usize,
+    j: usize,
+) -> Result<Dec, Code>
     requires first { IsWhole a.now }
     requires second { IsWhole b.now }
     requires suit { suit op a.now b.now ≡ true }
     requires row { i < a.now.rows }
     requires column { j < column_count b.now }
-    ensures { result ≡ element op m (array_rows a.now) (array_rows b.now) i j }
+    ensures { result ≡ combined_element op m (array_rows a.now) (array_rows b.now) i j }
 {
     match op {
         MatOp::Add => add(a.entry(i, j), b.entry(i, j), m),
@@ -100,7 +107,7 @@ pub fn combine(
     }
     let width = b.column_count();
     for (place, cell) in into.iter_mut().enumerate() {
-        *cell = element(op, &a, &b, m, place / width, place % width)?;
+        *cell = combined_element(op, &a, &b, m, place / width, place % width)?;
     }
     Ok(shape_of(op, &a, &b))
 }
@@ -110,7 +117,7 @@ pub fn combine(
 pub fn scale(k: Dec, a: Mat<'_>, m: Mode, into: &mut [Dec]) -> Result<(), Code>
     requires whole { IsWhole a }
     requires count { length into.old ≡ a.rows * column_count a }
-    ensures answer { result ≡ unless_refused (multiples m k a.entry) tt }
+    ensures answer { result ≡ unless_one_refused (multiples m k a.entry) tt }
     ensures elements { OnOk result (map Ok into.new ≡ multiples m k a.entry) }
 {
     for (place, cell) in into.iter_mut().enumerate() {

@@ -4,7 +4,7 @@ ghost use Rattle.std.specs.List.{All};
 ghost use Rattle.b2_dec.specs.Number.{Number, IsNumber, zero_number};
 ghost use Rattle.b2_dec.specs.Arithmetic.{sum_of};
 ghost use Rattle.b2_dec.specs.declared.number.Mode.{Mode};
-ghost use Rattle.b2_matrix.specs.Arrays.{cut_into_rows, transposed, element, filling, along_rows};
+ghost use Rattle.b2_matrix.specs.Arrays.{cut_into_rows, transposed, combined_element, filling, along_rows};
 ghost use Rattle.b2_matrix.specs.declared.array.Fill.TheVariants as filled_with;
 ghost use Rattle.b2_matrix.specs.declared.combining.MatOp.TheVariants as op;
 
@@ -17,7 +17,7 @@ pub fn transposing_is_undone()
 
 /// The sum of two arrays doesn't depend on their order.
 pub fn sums_commute()
-    ensures { (mode : Mode) (xss yss : List (List Number)) (i j : ℕ) → element op.Add mode xss yss i j ≡ element op.Add mode yss xss i j }
+    ensures { (mode : Mode) (xss yss : List (List Number)) (i j : ℕ) → combined_element op.Add mode xss yss i j ≡ combined_element op.Add mode yss xss i j }
 {
     law_sums_commute();
 }
@@ -28,5 +28,5 @@ pub fn first_product_stands()
 {}
 /// The unit matrix times an array is that array, by either mode.
 pub fn unit_matrix_is_neutral()
-    ensures { (mode : Mode) (count width : ℕ) (cells : List Number) → length cells ≡ count * width → All IsNumber cells → along_rows count width (element op.Mul mode (cut_into_rows count count (along_rows count count (filling filled_with.Idn))) (cut_into_rows count width cells)) ≡ map Ok cells }
+    ensures { (mode : Mode) (count width : ℕ) (cells : List Number) → length cells ≡ count * width → All IsNumber cells → along_rows count width (combined_element op.Mul mode (cut_into_rows count count (along_rows count count (filling filled_with.Idn))) (cut_into_rows count width cells)) ≡ map Ok cells }
 {}

@@ -9,9 +9,9 @@ use Rattle.b2_pack.specs.declared.rows.Row.{Row}
 use Rattle.b2_pack.specs.Rows.{row_bytes, row_fits, row_length}
 use Rattle.b2_pack.specs.declared.specification.Pair.{Pair}
 use Rattle.b2_pack.specs.declared.specification.Pair.TheVariants as pair
-use Rattle.b2_pack.specs.Specification.{field_width}
+use Rattle.b2_pack.specs.Specification.{field_length}
 use Rattle.b2_pack.specs.FieldValues.{value_code, bytes_in_field}
-use Rattle.b2_pack.specs.Packing.{Placed, placed_from, lacks_room, written_at, or_code, values_code, with_values, numbers_code, numbers_bytes, with_front}
+use Rattle.b2_pack.specs.Packing.{Placed, placed_from, lacks_room, written_at, earlier_code, values_code, with_values, numbers_code, numbers_bytes, with_front_bytes}
 
 -- a buffer with numbers in rows, one after another from a place on
 abbrev pub with_numbers : Row → ℕ → List Number → List ℕ → List ℕ
@@ -35,15 +35,15 @@ pub code-lacks : (ps : List Placed) (v : Value) (vs : List Value) (room : ℕ) �
 code-lacks [] v vs room e = refl
 code-lacks (p ∷ ps) v vs room e = rw e refl
 
-pub code-here : (ps qs : List Placed) (p : Placed) (v : Value) (vs : List Value) (room : ℕ) → ps ≡ p ∷ qs → p.start + field_width p.field ≤ room
-    → values_code ps (v ∷ vs) room ≡ or_code (value_code p.field v) (values_code qs vs room)
-code-here ps qs p v vs room e inside = ap (λ rs. values_code rs (v ∷ vs) room) e ∙ rw (le-ltb room (p.start + field_width p.field) inside) refl
+pub code-here : (ps qs : List Placed) (p : Placed) (v : Value) (vs : List Value) (room : ℕ) → ps ≡ p ∷ qs → p.start + field_length p.field ≤ room
+    → values_code ps (v ∷ vs) room ≡ earlier_code (value_code p.field v) (values_code qs vs room)
+code-here ps qs p v vs room e inside = ap (λ rs. values_code rs (v ∷ vs) room) e ∙ rw (le-ltb room (p.start + field_length p.field) inside) refl
 
-pub code-fits : (first next : Option ℕ) → or_code first next ≡ None → first ≡ None
+pub code-fits : (first next : Option ℕ) → earlier_code first next ≡ None → first ≡ None
 code-fits None next e = refl
 code-fits (Some code) next e = e
 
-pub code-after : (first next : Option ℕ) → or_code first next ≡ None → next ≡ None
+pub code-after : (first next : Option ℕ) → earlier_code first next ≡ None → next ≡ None
 code-after None next e = e
 code-after (Some code) next e = absurd (cc)
 
@@ -74,7 +74,7 @@ code-lacks_any ps (v ∷ vs) room e some = code-lacks ps v vs room e
 pub lacks_room-past : (pairs : List Pair) (at room : ℕ) → room < at → lacks_room (placed_from at pairs) room ≡ true
 lacks_room-past [] at room far = refl
 lacks_room-past (pair.Skip width ∷ pairs) at room far = lacks_room-past pairs (at + width) room (omega arith)
-lacks_room-past (pair.Holding f ∷ pairs) at room far = lt-ltb room (at + field_width f) (omega arith)
+lacks_room-past (pair.Holding f ∷ pairs) at room far = lt-ltb room (at + field_length f) (omega arith)
 
 numbers-inside : (row : Row) (at : ℕ) (x : Number) (xs : List Number) (room : ℕ) → numbers_code row at (x ∷ xs) room ≡ None → at + row_length row ≤ room
 numbers-inside row at x xs room none =
@@ -123,5 +123,5 @@ numbers-over row at (x ∷ xs) buffer none =
     ∙ append_assoc (take at buffer) bytes (more ++ drop (at + length (bytes ++ more)) buffer)
     ∙ ap (λ t. take at buffer ++ t) (sym (append_assoc bytes more (drop (at + length (bytes ++ more)) buffer)))
 
-pub numbers-front : (row : Row) (xs : List Number) (buffer : List ℕ) → numbers_code row 0 xs (length buffer) ≡ None → with_numbers row 0 xs buffer ≡ with_front (numbers_bytes row xs) buffer
+pub numbers-front : (row : Row) (xs : List Number) (buffer : List ℕ) → numbers_code row 0 xs (length buffer) ≡ None → with_numbers row 0 xs buffer ≡ with_front_bytes (numbers_bytes row xs) buffer
 numbers-front row xs buffer none = numbers-over row 0 xs buffer none ∙ ap (λ k. numbers_bytes row xs ++ drop k buffer) (let e : 0 + length (numbers_bytes row xs) ≡ length (numbers_bytes row xs) = omega arith in e)

@@ -5,9 +5,9 @@ use Rattle.b2_dec.specs.Number.{Number}
 use Rattle.b2_dec.specs.declared.values.Value.{Value}
 use Rattle.b2_dec.specs.declared.values.Kind.{Kind}
 use Rattle.b2_pack.specs.declared.rows.Row.{Row}
-use Rattle.b2_pack.specs.Rows.{row_number, row_length}
-use Rattle.b2_pack.specs.Specification.{field_width}
-use Rattle.b2_pack.specs.FieldValues.{value_in}
+use Rattle.b2_pack.specs.Rows.{number_of_row, row_length}
+use Rattle.b2_pack.specs.Specification.{field_length}
+use Rattle.b2_pack.specs.FieldValues.{field_value}
 use Rattle.b2_pack.specs.Packing.{Placed, lacks_room}
 use Rattle.b2_pack.specs.Unpacking.{before_items, values_in, numbers_in}
 
@@ -29,32 +29,32 @@ values-lacks_any ps [] bytes e some = absurd (omega arith)
 values-lacks_any [] (k ∷ ks) bytes e some = refl
 values-lacks_any (p ∷ ps) (k ∷ ks) bytes e some = rw e refl
 
-pub values-here : (ps qs : List Placed) (p : Placed) (k : Kind) (ks : List Kind) (bytes : List ℕ) → ps ≡ p ∷ qs → p.start + field_width p.field ≤ length bytes
-    → values_in ps (k ∷ ks) bytes ≡ before_items (value_in p.field k (take (field_width p.field) (drop p.start bytes))) (values_in qs ks bytes)
-values-here ps qs p k ks bytes e inside = ap (λ rs. values_in rs (k ∷ ks) bytes) e ∙ rw (le-ltb (length bytes) (p.start + field_width p.field) inside) refl
+pub values-here : (ps qs : List Placed) (p : Placed) (k : Kind) (ks : List Kind) (bytes : List ℕ) → ps ≡ p ∷ qs → p.start + field_length p.field ≤ length bytes
+    → values_in ps (k ∷ ks) bytes ≡ before_items (field_value p.field k (take (field_length p.field) (drop p.start bytes))) (values_in qs ks bytes)
+values-here ps qs p k ks bytes e inside = ap (λ rs. values_in rs (k ∷ ks) bytes) e ∙ rw (le-ltb (length bytes) (p.start + field_length p.field) inside) refl
 
 pub numbers-short : (row : Row) (at n : ℕ) (bytes : List ℕ) → 0 < n → length bytes < at + row_length row → numbers_in row at n bytes ≡ Err 70
 numbers-short row at zero bytes some short = absurd (omega arith)
 numbers-short row at (suc n) bytes some short = rw (lt-ltb (length bytes) (at + row_length row) short) refl
 
 pub numbers-here : (row : Row) (at n m : ℕ) (bytes : List ℕ) → n ≡ suc m → at + row_length row ≤ length bytes
-    → numbers_in row at n bytes ≡ before_items (row_number row (take (row_length row) (drop at bytes))) (numbers_in row (at + row_length row) m bytes)
+    → numbers_in row at n bytes ≡ before_items (number_of_row row (take (row_length row) (drop at bytes))) (numbers_in row (at + row_length row) m bytes)
 numbers-here row at n m bytes e inside = ap (λ k. numbers_in row at k bytes) e ∙ rw (le-ltb (length bytes) (at + row_length row) inside) refl
 
 -- one value read, where its field lies in the buffer
 values-drop : (ps qs : List Placed) (p : Placed) (ks : List Kind) (i end : ℕ) (d : Kind) (bytes : List ℕ) (r : Result Value ℕ)
-    → ps ≡ p ∷ qs → p.start + field_width p.field ≤ length bytes → i < length ks → end ≡ p.start + field_width p.field
-    → r ≡ value_in p.field (get_or ks i d) (take (end - p.start) (drop p.start bytes))
+    → ps ≡ p ∷ qs → p.start + field_length p.field ≤ length bytes → i < length ks → end ≡ p.start + field_length p.field
+    → r ≡ field_value p.field (get_or ks i d) (take (end - p.start) (drop p.start bytes))
     → values_in ps (drop i ks) bytes ≡ before_items r (values_in qs (drop (i + 1) ks) bytes)
 values-drop ps qs p ks i end d bytes r first inside below e h =
-    let long : end - p.start ≡ field_width p.field = omega arith in
-    let here : r ≡ value_in p.field (get_or ks i d) (take (field_width p.field) (drop p.start bytes)) = h ∙ ap (λ n. value_in p.field (get_or ks i d) (take n (drop p.start bytes))) long in
+    let long : end - p.start ≡ field_length p.field = omega arith in
+    let here : r ≡ field_value p.field (get_or ks i d) (take (field_length p.field) (drop p.start bytes)) = h ∙ ap (λ n. field_value p.field (get_or ks i d) (take n (drop p.start bytes))) long in
     ap (λ left. values_in ps left bytes) (drop_more ks i d below) ∙ values-here ps qs p (get_or ks i d) (drop (i + 1) ks) bytes first inside
     ∙ ap (λ t. before_items t (values_in qs (drop (i + 1) ks) bytes)) (sym here)
 
 pub values-ok : (ps qs : List Placed) (p : Placed) (ks : List Kind) (i end : ℕ) (d : Kind) (bytes : List ℕ) (r : Result Value ℕ) (done more : List Value) (v : Value) (outcome : Result (List Value) ℕ)
-    → ps ≡ p ∷ qs → p.start + field_width p.field ≤ length bytes → i < length ks → end ≡ p.start + field_width p.field
-    → r ≡ value_in p.field (get_or ks i d) (take (end - p.start) (drop p.start bytes)) → r ≡ Ok v → more ≡ done ++ v ∷ []
+    → ps ≡ p ∷ qs → p.start + field_length p.field ≤ length bytes → i < length ks → end ≡ p.start + field_length p.field
+    → r ≡ field_value p.field (get_or ks i d) (take (end - p.start) (drop p.start bytes)) → r ≡ Ok v → more ≡ done ++ v ∷ []
     → after_items done (values_in ps (drop i ks) bytes) ≡ outcome → after_items more (values_in qs (drop (i + 1) ks) bytes) ≡ outcome
 values-ok ps qs p ks i end d bytes r done more v outcome first inside below e h ok added before =
     ap (λ xs. after_items xs (values_in qs (drop (i + 1) ks) bytes)) added ∙ after_items-more done v (values_in qs (drop (i + 1) ks) bytes)
@@ -62,8 +62,8 @@ values-ok ps qs p ks i end d bytes r done more v outcome first inside below e h 
     ∙ ap (after_items done) (sym (values-drop ps qs p ks i end d bytes r first inside below e h)) ∙ before
 
 pub values-err : (ps qs : List Placed) (p : Placed) (ks : List Kind) (i end : ℕ) (d : Kind) (bytes : List ℕ) (r : Result Value ℕ) (done : List Value) (code : ℕ) (outcome : Result (List Value) ℕ)
-    → ps ≡ p ∷ qs → p.start + field_width p.field ≤ length bytes → i < length ks → end ≡ p.start + field_width p.field
-    → r ≡ value_in p.field (get_or ks i d) (take (end - p.start) (drop p.start bytes)) → r ≡ Err code
+    → ps ≡ p ∷ qs → p.start + field_length p.field ≤ length bytes → i < length ks → end ≡ p.start + field_length p.field
+    → r ≡ field_value p.field (get_or ks i d) (take (end - p.start) (drop p.start bytes)) → r ≡ Err code
     → after_items done (values_in ps (drop i ks) bytes) ≡ outcome → outcome ≡ Err code
 values-err ps qs p ks i end d bytes r done code outcome first inside below e h bad before =
     sym before ∙ ap (after_items done) (values-drop ps qs p ks i end d bytes r first inside below e h)
@@ -71,7 +71,7 @@ values-err ps qs p ks i end d bytes r done code outcome first inside below e h b
 
 -- one number read, where its row lies in the buffer
 numbers-drop : (row : Row) (at n counter width : ℕ) (bytes : List ℕ) (r : Result Number ℕ)
-    → counter < n → width ≡ row_length row → at + width ≤ length bytes → r ≡ row_number row (take (at + width - at) (drop at bytes))
+    → counter < n → width ≡ row_length row → at + width ≤ length bytes → r ≡ number_of_row row (take (at + width - at) (drop at bytes))
     → numbers_in row at (n - counter) bytes ≡ before_items r (numbers_in row (at + width) (n - (counter + 1)) bytes)
 numbers-drop row at n counter width bytes r below wide inside h =
     let next : n - counter ≡ suc (n - (counter + 1)) = omega arith in
@@ -79,11 +79,11 @@ numbers-drop row at n counter width bytes r below wide inside h =
     let long : at + width - at ≡ row_length row = omega arith in
     let same : at + row_length row ≡ at + width = omega arith in
     numbers-here row at (n - counter) (n - (counter + 1)) bytes next there
-    ∙ ap (λ k. before_items (row_number row (take (row_length row) (drop at bytes))) (numbers_in row k (n - (counter + 1)) bytes)) same
-    ∙ ap (λ t. before_items t (numbers_in row (at + width) (n - (counter + 1)) bytes)) (ap (λ k. row_number row (take k (drop at bytes))) (sym long) ∙ sym h)
+    ∙ ap (λ k. before_items (number_of_row row (take (row_length row) (drop at bytes))) (numbers_in row k (n - (counter + 1)) bytes)) same
+    ∙ ap (λ t. before_items t (numbers_in row (at + width) (n - (counter + 1)) bytes)) (ap (λ k. number_of_row row (take k (drop at bytes))) (sym long) ∙ sym h)
 
 pub numbers-ok : (row : Row) (at n counter width : ℕ) (bytes : List ℕ) (r : Result Number ℕ) (done more : List Number) (x : Number) (outcome : Result (List Number) ℕ)
-    → counter < n → width ≡ row_length row → at + width ≤ length bytes → r ≡ row_number row (take (at + width - at) (drop at bytes))
+    → counter < n → width ≡ row_length row → at + width ≤ length bytes → r ≡ number_of_row row (take (at + width - at) (drop at bytes))
     → r ≡ Ok x → more ≡ done ++ x ∷ [] → after_items done (numbers_in row at (n - counter) bytes) ≡ outcome
     → after_items more (numbers_in row (at + width) (n - (counter + 1)) bytes) ≡ outcome
 numbers-ok row at n counter width bytes r done more x outcome below wide inside h ok added before =
@@ -92,7 +92,7 @@ numbers-ok row at n counter width bytes r done more x outcome below wide inside 
     ∙ ap (after_items done) (sym (numbers-drop row at n counter width bytes r below wide inside h)) ∙ before
 
 pub numbers-err : (row : Row) (at n counter width : ℕ) (bytes : List ℕ) (r : Result Number ℕ) (done : List Number) (code : ℕ) (outcome : Result (List Number) ℕ)
-    → counter < n → width ≡ row_length row → at + width ≤ length bytes → r ≡ row_number row (take (at + width - at) (drop at bytes))
+    → counter < n → width ≡ row_length row → at + width ≤ length bytes → r ≡ number_of_row row (take (at + width - at) (drop at bytes))
     → r ≡ Err code → after_items done (numbers_in row at (n - counter) bytes) ≡ outcome → outcome ≡ Err code
 numbers-err row at n counter width bytes r done code outcome below wide inside h bad before =
     sym before ∙ ap (after_items done) (numbers-drop row at n counter width bytes r below wide inside h)

@@ -11,10 +11,10 @@ use Rattle.b2_dectext.specs.Printed.{without_spaces}
 use Rattle.b2_pack.specs.declared.rows.Row.{Row}
 use Rattle.b2_pack.specs.declared.specification.Field.{Field}
 use Rattle.b2_pack.specs.declared.specification.Field.TheVariants as field
-use Rattle.b2_pack.specs.Rows.{row_bytes, row_fits, row_number, row_length}
-use Rattle.b2_pack.specs.Specification.{digits_row, field_width}
+use Rattle.b2_pack.specs.Rows.{row_bytes, row_fits, number_of_row, row_length}
+use Rattle.b2_pack.specs.Specification.{digits_row, field_length}
 use Rattle.b2_dectext.specs.FieldParts.{right_aligned}
-use Rattle.b2_pack.specs.FieldValues.{text_number, number_or, as_value, value_code, bytes_in_field, value_in}
+use Rattle.b2_pack.specs.FieldValues.{text_number, number_or, as_value, value_code, bytes_in_field, field_value}
 use Rattle.b2_pack.specs.Packing.{Placed, values_code, numbers_bytes}
 use Rattle.b2_pack.specs.Unpacking.{before_items, values_in, numbers_in}
 use Rattle.b2_pack.specs.Laws.{Holds, IsExact, AreExact, kept, all_kept, value_kind, AreSpelled, ReadsAs}
@@ -70,7 +70,7 @@ text-back width x h =
     ∙ ap (λ b. if b then number_or 73 (number_read text) else Err 73) (eq-eqb (number_len text) (length text) h.whole)
     ∙ ap (number_or 73) h.number
 
-pub value-back : (f : Field) (v : Value) → value_code f v ≡ None → IsExact f v → value_in f (value_kind v) (bytes_in_field f v) ≡ Ok (kept f v)
+pub value-back : (f : Field) (v : Value) → value_code f v ≡ None → IsExact f v → field_value f (value_kind v) (bytes_in_field f v) ≡ Ok (kept f v)
 value-back (field.Text w) (value.Number x) none exact = ap as_value (text-back w x exact)
 value-back (field.Text w) (value.Alpha a) none exact = absurd (never 74 none)
 value-back (field.Digits d w) (value.Number x) none exact = ap as_value (row-back (digits_row d w) x (fits-if (row_fits (digits_row d w) x) 71 none) exact)
@@ -86,12 +86,12 @@ values-back [] [] room new none long each exact = refl
 values-back (p ∷ ps) [] room new none long each exact = refl
 values-back [] (v ∷ vs) room new none long each exact = absurd each
 values-back (p ∷ ps) (v ∷ vs) room new none long each exact =
-    let inside : p.start + field_width p.field ≤ room = inside-room p ps v vs room none in
+    let inside : p.start + field_length p.field ≤ room = inside-room p ps v vs room none in
     let both = sym (code-here (p ∷ ps) ps p v vs room refl inside) ∙ none in
-    let here : p.start + field_width p.field ≤ length new = omega arith in
+    let here : p.start + field_length p.field ≤ length new = omega arith in
     values-here (p ∷ ps) ps p (value_kind v) (map value_kind vs) new refl here
     ∙ ap₂ before_items
-    (ap (value_in p.field (value_kind v)) each.0 ∙ value-back p.field v (code-fits (value_code p.field v) (values_code ps vs room) both) exact.0)
+    (ap (field_value p.field (value_kind v)) each.0 ∙ value-back p.field v (code-fits (value_code p.field v) (values_code ps vs room) both) exact.0)
     (values-back ps vs room new (code-after (value_code p.field v) (values_code ps vs room) both) long each.1 exact.1)
 
 numbers-after : (row : Row) (at : ℕ) (xs : List Number) (bytes rest : List ℕ) → at ≤ length bytes → drop at bytes ≡ numbers_bytes row xs ++ rest → AreSpelled row xs → numbers_in row at (length xs) bytes ≡ Ok xs
@@ -105,7 +105,7 @@ numbers-after row at (x ∷ xs) bytes rest begun e h =
     let taken : take (row_length row) (drop at bytes) ≡ here = ap (take (row_length row)) split ∙ take_at here (more ++ rest) (row_length row) wide in
     let left : drop (at + row_length row) bytes ≡ more ++ rest = sym (drop-drop (row_length row) at bytes) ∙ ap (drop (row_length row)) split ∙ drop_at here (more ++ rest) (row_length row) wide in
     numbers-here row at (suc (length xs)) (length xs) bytes refl inside
-    ∙ ap₂ before_items (ap (row_number row) taken ∙ row-back row x h.0.0 h.0.1) (numbers-after row (at + row_length row) xs bytes rest inside left h.1)
+    ∙ ap₂ before_items (ap (number_of_row row) taken ∙ row-back row x h.0.0 h.0.1) (numbers-after row (at + row_length row) xs bytes rest inside left h.1)
 
 pub numbers-back : (row : Row) (xs : List Number) (rest : List ℕ) → AreSpelled row xs → numbers_in row 0 (length xs) (numbers_bytes row xs ++ rest) ≡ Ok xs
 numbers-back row xs rest h = numbers-after row 0 xs (numbers_bytes row xs ++ rest) rest (omega arith) refl h

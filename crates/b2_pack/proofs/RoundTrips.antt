@@ -17,7 +17,7 @@ use Rattle.b2_pack.specs.declared.rows.SignNibble.{SignNibble}
 use Rattle.b2_pack.specs.declared.rows.SignNibble.TheVariants.{Absent, Before, After}
 use Rattle.b2_pack.specs.declared.rows.Row.{Row}
 use Rattle.b2_pack.specs.Nibbles.{nibbles, paired, last_digits, decimal_after, is_decimal_nibble}
-use Rattle.b2_pack.specs.Rows.{cut_size, row_fits, sign_before, sign_after, row_nibbles, row_bytes, digits_in, are_digits, ends_in_sign, is_below_zero, within_range, nibbles_number, row_number}
+use Rattle.b2_pack.specs.Rows.{cut_size, row_fits, sign_before, sign_after, row_nibbles, row_bytes, digits_in, are_digits, ends_in_sign, is_below_zero, within_range, nibbles_number, number_of_row}
 use Rattle.b2_pack.specs.Laws.{has_its_sign, IsSpelled}
 use Rattle.b2_pack.proofs.NibbleLemmas.{last_digits-length}
 
@@ -157,7 +157,7 @@ nibbles-read row x rest fits h pass =
     rw (digits-pass row.sign n x.neg ds rest long (digits-decimal n m) pass, sign-passes row.sign n x.neg ds rest long)
     (ap within_range (ap₂ (λ neg t. rnd Round neg t (10 ^ row.decimals)) (sign-back row.sign n x.neg ds rest long h.sign) number ∙ cut-exact x row.decimals h.number h.decimals))
 
-pub row-back : (row : Row) (x : Number) → row_fits row x ≡ true → IsSpelled row x → row_number row (row_bytes row x) ≡ Ok x
+pub row-back : (row : Row) (x : Number) → row_fits row x ≡ true → IsSpelled row x → number_of_row row (row_bytes row x) ≡ Ok x
 row-back row x fits h =
     let ds : List ℕ = last_digits row.digits (cut_size row.decimals x) in
     let small : AreNibbles (row_nibbles row x) =

@@ -14,7 +14,7 @@ use Rattle.b2_pack.specs.declared.specification.Field.{Field}
 use Rattle.b2_pack.specs.declared.specification.Field.TheVariants as field
 use Rattle.b2_pack.specs.declared.specification.Pair.{Pair}
 use Rattle.b2_pack.specs.declared.specification.Pair.TheVariants as pair
-use Rattle.b2_pack.specs.Specification.{pair_of, ends_pairs, before_pairs, pairs_of, field_width, digits_row}
+use Rattle.b2_pack.specs.Specification.{pair_meant, ends_pairs, before_pairs, specified_pairs, field_length, digits_row}
 use Rattle.b2_pack.specs.FieldValues.{value_code, bytes_in_field}
 use Rattle.b2_pack.specs.Packing.{Placed, placed_from, placed_fields, written_at, values_code, with_values}
 use Rattle.b2_pack.specs.Laws.{Holds, is_covered, Packs}
@@ -24,7 +24,7 @@ use Rattle.b2_pack.proofs.PackingLemmas.{code-here, code-fits, code-after}
 -- each field has at least one byte
 abbrev HasWidth : Pair → Type 0
 HasWidth (pair.Skip width) = Unit {0}
-HasWidth (pair.Holding f) = 1 ≤ field_width f
+HasWidth (pair.Holding f) = 1 ≤ field_length f
 
 abbrev HasWidths : List Pair → Type 0
 HasWidths [] = Unit {0}
@@ -48,7 +48,7 @@ some_width w e =
     wrong : (w == 0) ≡ true → ⊥
     wrong same = cc
 
-pair_width : (k w : ℕ) → MayHaveWidth (pair_of k w)
+pair_width : (k w : ℕ) → MayHaveWidth (pair_meant k w)
 pair_width k w =
     elim (cases_Bool (w == 0)) [
       | inl none ↦ rw none tt
@@ -66,10 +66,10 @@ widths-if : (b : Bool) (ps : List Pair) → HasWidths ps → HasWidths (if b the
 widths-if true ps h = tt
 widths-if false ps h = h
 
-pairs_widths : (text : List ℕ) → HasWidths (pairs_of text)
+pairs_widths : (text : List ℕ) → HasWidths (specified_pairs text)
 pairs_widths [] = tt
 pairs_widths (b ∷ []) = tt
-pairs_widths (k ∷ w ∷ rest) = widths-if (ends_pairs k w) (before_pairs (pair_of k w) (pairs_of rest)) (widths-before (pair_of k w) (pairs_of rest) (pair_width k w) (pairs_widths rest))
+pairs_widths (k ∷ w ∷ rest) = widths-if (ends_pairs k w) (before_pairs (pair_meant k w) (specified_pairs rest)) (widths-before (pair_meant k w) (specified_pairs rest) (pair_width k w) (pairs_widths rest))
 
 pub never : (n : ℕ) → Some n ≡ None → ⊥
 never n e = cc
@@ -82,7 +82,7 @@ pairs-length : (k n : ℕ) → length (pairs k n) ≡ k
 pairs-length zero n = refl
 pairs-length (suc k) n = ap suc (pairs-length k n)
 
-value-width : (f : Field) (v : Value) → 1 ≤ field_width f → value_code f v ≡ None → length (bytes_in_field f v) ≡ field_width f
+value-width : (f : Field) (v : Value) → 1 ≤ field_length f → value_code f v ≡ None → length (bytes_in_field f v) ≡ field_length f
 value-width (field.Text w) (value.Number x) least none =
     let fits : length (without_spaces x) ≤ w = leb-true (length (without_spaces x)) w (fits-if (nat_le (length (without_spaces x)) w) 71 none) in
     omega (arith, length-append (replicate (w - length (without_spaces x)) byte.blank) (without_spaces x), length-replicate (w - length (without_spaces x)) byte.blank)
@@ -136,10 +136,10 @@ record Stands (ps : List Pair) (at : ℕ) (vs : List Value) (old new : List ℕ)
   each : Holds (placed_from at ps) vs new
   others : (k : ℕ) → is_covered (placed_from at ps) vs k ≡ false → get_or new k 0 ≡ get_or old k 0
 
-pub inside-room : (p : Placed) (ps : List Placed) (v : Value) (vs : List Value) (room : ℕ) → values_code (p ∷ ps) (v ∷ vs) room ≡ None → p.start + field_width p.field ≤ room
+pub inside-room : (p : Placed) (ps : List Placed) (v : Value) (vs : List Value) (room : ℕ) → values_code (p ∷ ps) (v ∷ vs) room ≡ None → p.start + field_length p.field ≤ room
 inside-room p ps v vs room none =
-    elim (cases_lt room (p.start + field_width p.field)) [
-      | inl short ↦ absurd (never 70 (sym (rw (lt-ltb room (p.start + field_width p.field) short) refl) ∙ none))
+    elim (cases_lt room (p.start + field_length p.field)) [
+      | inl short ↦ absurd (never 70 (sym (rw (lt-ltb room (p.start + field_length p.field) short) refl) ∙ none))
       | inr inside ↦ inside
     ]
 
@@ -170,29 +170,29 @@ stands (pair.Skip w ∷ ps) at vs old widths none =
 stands (pair.Holding f ∷ ps) at [] old widths none = record { long = refl; before = λ k below. refl; each = tt; others = λ k free. refl }
 stands (pair.Holding f ∷ ps) at (v ∷ vs) old widths none =
     let p : Placed = record { start = at; field = f } in
-    let qs : List Placed = placed_from (at + field_width f) ps in
-    let inside : at + field_width f ≤ length old = inside-room p qs v vs (length old) none in
+    let qs : List Placed = placed_from (at + field_length f) ps in
+    let inside : at + field_length f ≤ length old = inside-room p qs v vs (length old) none in
     let both = sym (code-here (p ∷ qs) qs p v vs (length old) refl inside) ∙ none in
     let bytes : List ℕ = bytes_in_field f v in
-    let wide : length bytes ≡ field_width f = value-width f v widths.0 (code-fits (value_code f v) (values_code qs vs (length old)) both) in
+    let wide : length bytes ≡ field_length f = value-width f v widths.0 (code-fits (value_code f v) (values_code qs vs (length old)) both) in
     let room : at + length bytes ≤ length old = omega arith in
     let next : List ℕ = written_at at bytes old in
     let long : length next ≡ length old = written-length at bytes old room in
     let further : values_code qs vs (length next) ≡ None = ap (values_code qs vs) long ∙ code-after (value_code f v) (values_code qs vs (length old)) both in
-    let h = stands ps (at + field_width f) vs next widths.1 further in
-    let fits : at + field_width f ≤ length (with_values qs vs next) = omega (arith, h.long) in
+    let h = stands ps (at + field_length f) vs next widths.1 further in
+    let fits : at + field_length f ≤ length (with_values qs vs next) = omega (arith, h.long) in
     record {
       long = h.long ∙ long;
       before = λ k below. h.before k (omega arith) ∙ written-other at bytes old k room (inl below);
-      each = (part-same at (field_width f) (with_values qs vs next) next h.long fits h.before ∙ ap (λ n. take n (drop at next)) (sym wide) ∙ written-here at bytes old room, h.each);
+      each = (part-same at (field_length f) (with_values qs vs next) next h.long fits h.before ∙ ap (λ n. take n (drop at next)) (sym wide) ∙ written-here at bytes old room, h.each);
       others = λ k free.
-          let parts = apart at (field_width f) k (is_covered qs vs k) free in
+          let parts = apart at (field_length f) k (is_covered qs vs k) free in
           h.others k parts.1 ∙ written-other at bytes old k room (subst (λ n. (k < at) ⊎ (at + n ≤ k)) (sym wide) parts.0);
     }
 
 pub packs : (text : List ℕ) (vs : List Value) (old : List ℕ) → values_code (placed_fields text) vs (length old) ≡ None → Packs (placed_fields text) vs old (with_values (placed_fields text) vs old)
 packs text vs old none =
-    let h = stands (pairs_of text) 0 vs old (pairs_widths text) none in
+    let h = stands (specified_pairs text) 0 vs old (pairs_widths text) none in
     record { each = h.each; others = h.others; long = h.long }
 
 part-at : (start w : ℕ) (xs : List ℕ) (k : ℕ) → start ≤ k → k < start + w → get_or xs k 0 ≡ get_or (take w (drop start xs)) (k - start) 0
@@ -208,12 +208,12 @@ covered-same [] [] a b k ha hb e = absurd (cc)
 covered-same (p ∷ ps) [] a b k ha hb e = absurd (cc)
 covered-same [] (v ∷ vs) a b k ha hb e = absurd ha
 covered-same (p ∷ ps) (v ∷ vs) a b k ha hb e =
-    elim (cases_Bool (nat_le p.start k && nat_lt k (p.start + field_width p.field))) [
+    elim (cases_Bool (nat_le p.start k && nat_lt k (p.start + field_length p.field))) [
       | inl here ↦
-          let range = both-true (nat_le p.start k) (nat_lt k (p.start + field_width p.field)) here in
+          let range = both-true (nat_le p.start k) (nat_lt k (p.start + field_length p.field)) here in
           let low : p.start ≤ k = leb-true p.start k range.0 in
-          let high : k < p.start + field_width p.field = ltb-true k (p.start + field_width p.field) range.1 in
-          part-at p.start (field_width p.field) a k low high ∙ ap (λ xs. get_or xs (k - p.start) 0) (ha.0 ∙ sym hb.0) ∙ sym (part-at p.start (field_width p.field) b k low high)
+          let high : k < p.start + field_length p.field = ltb-true k (p.start + field_length p.field) range.1 in
+          part-at p.start (field_length p.field) a k low high ∙ ap (λ xs. get_or xs (k - p.start) 0) (ha.0 ∙ sym hb.0) ∙ sym (part-at p.start (field_length p.field) b k low high)
       | inr other ↦ covered-same ps vs a b k ha.1 hb.1 (sym (ap (λ t. t || is_covered ps vs k) other) ∙ e)
     ]
 

@@ -5,13 +5,13 @@ use Rattle.b2_pack.specs.declared.specification.TheConstants.{SKIP, TEXT, DIGITS
 use Rattle.b2_pack.specs.declared.specification.Field.TheVariants as field
 use Rattle.b2_pack.specs.declared.specification.Pair.{Pair}
 use Rattle.b2_pack.specs.declared.specification.Pair.TheVariants as pair
-use Rattle.b2_pack.specs.Specification.{pair_of, ends_pairs, before_pairs, pairs_of, is_specification, pair_bytes, pair_width, pair_decimals, is_ending}
+use Rattle.b2_pack.specs.Specification.{pair_meant, ends_pairs, before_pairs, specified_pairs, is_specification, pair_written, pair_width, pair_decimals, is_ending}
 use Rattle.b2_pack.proofs.Standing.{some_width}
 use Rattle.b2_pack.specs.Laws.{ArePairs, pairs_bytes, IsWritten}
 
 -- a pair is what its two bytes mean
 pair-read : (p : Pair) (rest : List ℕ) → 1 ≤ pair_width p → pair_decimals p ≤ 9
-    → (is_specification (pair_bytes p ++ rest) ≡ is_specification rest) × (pairs_of (pair_bytes p ++ rest) ≡ p ∷ pairs_of rest)
+    → (is_specification (pair_written p ++ rest) ≡ is_specification rest) × (specified_pairs (pair_written p ++ rest) ≡ p ∷ specified_pairs rest)
 pair-read (pair.Skip w) rest width few = let some : (w == 0) ≡ false = ne_eqb w 0 (λ e. absurd (omega arith)) in (rw some refl, rw some refl)
 pair-read (pair.Holding (field.Text w)) rest width few = let some : (w == 0) ≡ false = ne_eqb w 0 (λ e. absurd (omega arith)) in (rw some refl, rw some refl)
 pair-read (pair.Holding (field.Digits d w)) rest width few =
@@ -26,30 +26,30 @@ pair-read (pair.Holding (field.Digits d w)) rest width few =
 pair-read (pair.Holding field.Packed) rest width few = (refl, refl)
 pair-read (pair.Holding (field.Alpha w)) rest width few = let some : (w == 0) ≡ false = ne_eqb w 0 (λ e. absurd (omega arith)) in (rw some refl, rw some refl)
 
-ending-read : (ending : List ℕ) → is_ending ending ≡ true → (is_specification ending ≡ true) × (pairs_of ending ≡ [])
+ending-read : (ending : List ℕ) → is_ending ending ≡ true → (is_specification ending ≡ true) × (specified_pairs ending ≡ [])
 ending-read [] e = (refl, refl)
 ending-read (b ∷ []) e = (e, refl)
 ending-read (k ∷ w ∷ rest) e = (rw e refl, rw e refl)
 
 pairs-read : (ps : List Pair) (ending : List ℕ) → ArePairs ps → is_ending ending ≡ true
-    → (is_specification (pairs_bytes ps ++ ending) ≡ true) × (pairs_of (pairs_bytes ps ++ ending) ≡ ps)
+    → (is_specification (pairs_bytes ps ++ ending) ≡ true) × (specified_pairs (pairs_bytes ps ++ ending) ≡ ps)
 pairs-read [] ending h e = ending-read ending e
 pairs-read (p ∷ ps) ending h e =
     let rest : List ℕ = pairs_bytes ps ++ ending in
-    let paired : pairs_bytes (p ∷ ps) ++ ending ≡ pair_bytes p ++ rest = append_assoc (pair_bytes p) (pairs_bytes ps) ending in
+    let paired : pairs_bytes (p ∷ ps) ++ ending ≡ pair_written p ++ rest = append_assoc (pair_written p) (pairs_bytes ps) ending in
     let here = pair-read p rest h.0.0 h.0.1 in
     let more = pairs-read ps ending h.1 e in
-    (ap is_specification paired ∙ here.0 ∙ more.0, ap pairs_of paired ∙ here.1 ∙ ap (λ qs. p ∷ qs) more.1)
+    (ap is_specification paired ∙ here.0 ∙ more.0, ap specified_pairs paired ∙ here.1 ∙ ap (λ qs. p ∷ qs) more.1)
 
-pub written-read : (text : List ℕ) (ps : List Pair) → IsWritten text ps → (is_specification text ≡ true) × (pairs_of text ≡ ps)
+pub written-read : (text : List ℕ) (ps : List Pair) → IsWritten text ps → (is_specification text ≡ true) × (specified_pairs text ≡ ps)
 written-read text ps h =
     let parts = pairs-read ps h.ending h.pairs h.ends in
-    (ap is_specification (sym h.text_is) ∙ parts.0, ap pairs_of (sym h.text_is) ∙ parts.1)
+    (ap is_specification (sym h.text_is) ∙ parts.0, ap specified_pairs (sym h.text_is) ∙ parts.1)
 
 -- what the two bytes of a pair say
 abbrev Says : ℕ → ℕ → Option Pair → Type 0
 Says k w None = Unit {0}
-Says k w (Some p) = ((1 ≤ pair_width p) × (pair_decimals p ≤ 9)) × (pair_bytes p ≡ k ∷ w ∷ [])
+Says k w (Some p) = ((1 ≤ pair_width p) × (pair_decimals p ≤ 9)) × (pair_written p ≡ k ∷ w ∷ [])
 
 says-if : (k w : ℕ) (b : Bool) (x y : Option Pair) → (b ≡ true → Says k w x) → (b ≡ false → Says k w y) → Says k w (if b then x else y)
 says-if k w true x y f g = f refl
@@ -59,7 +59,7 @@ first_of : (a b : Bool) → (a && b) ≡ true → (a ≡ true) × (b ≡ true)
 first_of true b e = (refl, e)
 first_of false b e = absurd (cc)
 
-pair-says : (k w : ℕ) → Says k w (pair_of k w)
+pair-says : (k w : ℕ) → Says k w (pair_meant k w)
 pair-says k w =
     says-if k w (w == 0) None _ (λ t. tt) (λ some.
     let width : 1 ≤ w = some_width w some in
@@ -76,8 +76,8 @@ pair-says k w =
     ((omega arith, omega arith), ap₂ (λ c d. c ∷ d ∷ []) (sym (eqb-true k 96 both.0)) (sym (eqb-true w 8 both.1)))) (λ f4.
     says-if k w (k == ALPHA) _ None (λ t. ((width, omega arith), ap (λ c. c ∷ w ∷ []) (sym (eqb-true k 160 t)))) (λ f5. tt))))))
 
-written-more : (k w : ℕ) (rest : List ℕ) (o : Option Pair) → Says k w o → (is_some o && is_specification rest) ≡ true → (is_specification rest ≡ true → IsWritten rest (pairs_of rest))
-    → IsWritten (k ∷ w ∷ rest) (before_pairs o (pairs_of rest))
+written-more : (k w : ℕ) (rest : List ℕ) (o : Option Pair) → Says k w o → (is_some o && is_specification rest) ≡ true → (is_specification rest ≡ true → IsWritten rest (specified_pairs rest))
+    → IsWritten (k ∷ w ∷ rest) (before_pairs o (specified_pairs rest))
 written-more k w rest None says e further = absurd (cc)
 written-more k w rest (Some p) says e further =
     let h = further e in
@@ -85,14 +85,14 @@ written-more k w rest (Some p) says e further =
       ending = h.ending;
       pairs = (says.0, h.pairs);
       ends = h.ends;
-      text_is = append_assoc (pair_bytes p) (pairs_bytes (pairs_of rest)) h.ending ∙ ap₂ (λ a b. a ++ b) says.1 h.text_is;
+      text_is = append_assoc (pair_written p) (pairs_bytes (specified_pairs rest)) h.ending ∙ ap₂ (λ a b. a ++ b) says.1 h.text_is;
     }
 
-pub only-written : (text : List ℕ) → is_specification text ≡ true → IsWritten text (pairs_of text)
+pub only-written : (text : List ℕ) → is_specification text ≡ true → IsWritten text (specified_pairs text)
 only-written [] e = record { ending = []; pairs = tt; ends = refl; text_is = refl }
 only-written (b ∷ []) e = record { ending = b ∷ []; pairs = tt; ends = e; text_is = refl }
 only-written (k ∷ w ∷ rest) e =
     elim (cases_Bool (ends_pairs k w)) [
       | inl end ↦ rw end (record { ending = k ∷ w ∷ rest; pairs = tt; ends = end; text_is = refl })
-      | inr more ↦ rw more (written-more k w rest (pair_of k w) (pair-says k w) (rw more at e) (λ h. only-written rest h))
+      | inr more ↦ rw more (written-more k w rest (pair_meant k w) (pair-says k w) (rw more at e) (λ h. only-written rest h))
     ]

@@ -12,7 +12,7 @@ use Rattle.b2_dectext.specs.NumberText.{number_len, number_read}
 use Rattle.b2_dectext.specs.Printed.{without_spaces}
 use Rattle.b2_pack.specs.declared.specification.Field.{Field}
 use Rattle.b2_pack.specs.declared.specification.Field.TheVariants as field
-use Rattle.b2_pack.specs.Rows.{row_bytes, row_fits, row_number}
+use Rattle.b2_pack.specs.Rows.{row_bytes, row_fits, number_of_row}
 use Rattle.b2_alpha.specs.Values.{padded}
 use Rattle.b2_dectext.specs.FieldParts.{right_aligned}
 use Rattle.b2_pack.specs.Specification.{digits_row}
@@ -59,12 +59,12 @@ as_value (Ok x) = Ok (value.Number x)
 as_value (Err code) = Err code
 
 -- the value of a kind that the bytes of a field hold, or the code where they hold none
-abbrev pub value_in : Field → Kind → List ℕ → Result Value ℕ
-value_in (field.Text width) kind.Number bytes = as_value (text_number bytes)
-value_in (field.Text width) kind.Alpha bytes = Err X74_OTHER_KIND
-value_in (field.Digits decimals width) kind.Number bytes = as_value (row_number (digits_row decimals width) bytes)
-value_in (field.Digits decimals width) kind.Alpha bytes = Err X74_OTHER_KIND
-value_in field.Packed kind.Number bytes = as_value (packed_number bytes)
-value_in field.Packed kind.Alpha bytes = Err X74_OTHER_KIND
-value_in (field.Alpha width) kind.Number bytes = Err X74_OTHER_KIND
-value_in (field.Alpha width) kind.Alpha bytes = Ok (value.Alpha bytes)
+abbrev pub field_value : Field → Kind → List ℕ → Result Value ℕ
+field_value (field.Text width) kind.Number bytes = as_value (text_number bytes)
+field_value (field.Text width) kind.Alpha bytes = Err X74_OTHER_KIND
+field_value (field.Digits decimals width) kind.Number bytes = as_value (number_of_row (digits_row decimals width) bytes)
+field_value (field.Digits decimals width) kind.Alpha bytes = Err X74_OTHER_KIND
+field_value field.Packed kind.Number bytes = as_value (packed_number bytes)
+field_value field.Packed kind.Alpha bytes = Err X74_OTHER_KIND
+field_value (field.Alpha width) kind.Number bytes = Err X74_OTHER_KIND
+field_value (field.Alpha width) kind.Alpha bytes = Ok (value.Alpha bytes)

@@ -13,11 +13,11 @@ use Rattle.b2_pack.specs.declared.rows.SignNibble.TheVariants.{Absent, Before, A
 use Rattle.b2_pack.specs.declared.rows.Row.{Row}
 use Rattle.b2_pack.specs.declared.specification.Field.{Field}
 use Rattle.b2_pack.specs.declared.specification.Field.TheVariants as field
-use Rattle.b2_pack.specs.Rows.{row_fits, row_bytes, row_number}
+use Rattle.b2_pack.specs.Rows.{row_fits, row_bytes, number_of_row}
 use Rattle.b2_pack.specs.declared.specification.Pair.{Pair}
 use Rattle.b2_pack.specs.Images.{sign_mark, marks, decimal_marks, image_row}
-use Rattle.b2_pack.specs.Specification.{digits_row, field_width, pair_bytes, pair_width, pair_decimals, is_ending, is_specification, pairs_of}
-use Rattle.b2_pack.specs.FieldValues.{value_code, bytes_in_field, value_in}
+use Rattle.b2_pack.specs.Specification.{digits_row, field_length, pair_written, pair_width, pair_decimals, is_ending, is_specification, specified_pairs}
+use Rattle.b2_pack.specs.FieldValues.{value_code, bytes_in_field, field_value}
 use Rattle.b2_alpha.specs.Values.{padded}
 use Rattle.b2_pack.specs.Packing.{Placed, values_code, numbers_bytes}
 use Rattle.b2_pack.specs.Unpacking.{values_in, numbers_in}
@@ -26,13 +26,13 @@ use Rattle.b2_pack.specs.Unpacking.{values_in, numbers_in}
 abbrev pub Holds : List Placed → List Value → List ℕ → Type 0
 Holds ps [] buffer = Unit {0}
 Holds [] (v ∷ vs) buffer = ⊥
-Holds (p ∷ ps) (v ∷ vs) buffer = (take (field_width p.field) (drop p.start buffer) ≡ bytes_in_field p.field v) × Holds ps vs buffer
+Holds (p ∷ ps) (v ∷ vs) buffer = (take (field_length p.field) (drop p.start buffer) ≡ bytes_in_field p.field v) × Holds ps vs buffer
 
 -- whether the field of a value covers a place
 abbrev pub is_covered : List Placed → List Value → ℕ → Bool
 is_covered ps [] k = false
 is_covered [] (v ∷ vs) k = false
-is_covered (p ∷ ps) (v ∷ vs) k = (nat_le p.start k && nat_lt k (p.start + field_width p.field)) || is_covered ps vs k
+is_covered (p ∷ ps) (v ∷ vs) k = (nat_le p.start k && nat_lt k (p.start + field_length p.field)) || is_covered ps vs k
 
 -- A buffer after packing: each value stands in its field, and every other byte is as it was.
 pub record Packs (ps : List Placed) (vs : List Value) (old new : List ℕ) : Type 0 where
@@ -57,7 +57,7 @@ pub record IsSpelled (row : Row) (x : Number) : Type 0 where
 
 -- Such a number comes back out of its row.
 abbrev pub RowsKeepNumbers : Type 0
-RowsKeepNumbers = (row : Row) (x : Number) → row_fits row x ≡ true → IsSpelled row x → row_number row (row_bytes row x) ≡ Ok x
+RowsKeepNumbers = (row : Row) (x : Number) → row_fits row x ≡ true → IsSpelled row x → number_of_row row (row_bytes row x) ≡ Ok x
 
 -- numbers that a row spells and has room for
 abbrev pub AreSpelled : Row → List Number → Type 0
@@ -86,7 +86,7 @@ IsExact f (value.Alpha a) = Unit {0}
 -- what comes back of a value: a number as it is, bytes padded or cut to the width
 abbrev pub kept : Field → Value → Value
 kept f (value.Number x) = value.Number x
-kept f (value.Alpha a) = value.Alpha (padded (field_width f) a)
+kept f (value.Alpha a) = value.Alpha (padded (field_length f) a)
 
 abbrev pub value_kind : Value → Kind
 value_kind (value.Number x) = kind.Number
@@ -94,7 +94,7 @@ value_kind (value.Alpha a) = kind.Alpha
 
 -- Such a value comes back out of its field.
 abbrev pub FieldsKeepValues : Type 0
-FieldsKeepValues = (f : Field) (v : Value) → value_code f v ≡ None → IsExact f v → value_in f (value_kind v) (bytes_in_field f v) ≡ Ok (kept f v)
+FieldsKeepValues = (f : Field) (v : Value) → value_code f v ≡ None → IsExact f v → field_value f (value_kind v) (bytes_in_field f v) ≡ Ok (kept f v)
 
 abbrev pub AreExact : List Placed → List Value → Type 0
 AreExact ps [] = Unit {0}
@@ -119,7 +119,7 @@ ArePairs (p ∷ ps) = ((1 ≤ pair_width p) × (pair_decimals p ≤ 9)) × ArePa
 
 -- the bytes that write pairs
 abbrev pub pairs_bytes : List Pair → List ℕ
-pairs_bytes ps = flat_map pair_bytes ps
+pairs_bytes ps = flat_map pair_written ps
 
 -- Pairs and an ending, and nothing else.
 pub record IsWritten (text : List ℕ) (ps : List Pair) : Type 0 where
@@ -130,10 +130,10 @@ pub record IsWritten (text : List ℕ) (ps : List Pair) : Type 0 where
 
 -- Bytes that write pairs are a specification of these pairs, and other bytes are none.
 abbrev pub WrittenPairsAreRead : Type 0
-WrittenPairsAreRead = (text : List ℕ) (ps : List Pair) → IsWritten text ps → (is_specification text ≡ true) × (pairs_of text ≡ ps)
+WrittenPairsAreRead = (text : List ℕ) (ps : List Pair) → IsWritten text ps → (is_specification text ≡ true) × (specified_pairs text ≡ ps)
 
 abbrev pub OnlyWrittenPairsAreRead : Type 0
-OnlyWrittenPairsAreRead = (text : List ℕ) → is_specification text ≡ true → IsWritten text (pairs_of text)
+OnlyWrittenPairsAreRead = (text : List ℕ) → is_specification text ≡ true → IsWritten text (specified_pairs text)
 
 -- A text writes an image: perhaps a sign, one `#` or more, and perhaps a point and one `#` or more; thirteen at most.
 pub record IsImage (text : List ℕ) (row : Row) : Type 0 where

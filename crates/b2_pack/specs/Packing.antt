@@ -9,7 +9,7 @@ use Rattle.b2_pack.specs.declared.specification.Field.{Field}
 use Rattle.b2_pack.specs.declared.specification.Pair.{Pair}
 use Rattle.b2_pack.specs.declared.specification.Pair.TheVariants as pair
 use Rattle.b2_pack.specs.Rows.{row_bytes, row_fits, row_length}
-use Rattle.b2_pack.specs.Specification.{pairs_of, is_specification, field_width, IsField}
+use Rattle.b2_pack.specs.Specification.{specified_pairs, is_specification, field_length, IsField}
 use Rattle.b2_pack.specs.FieldValues.{value_code, bytes_in_field}
 
 -- a field and where it begins in the buffer
@@ -21,21 +21,21 @@ pub record Placed : Type 0 where
 abbrev pub placed_from : ℕ → List Pair → List Placed
 placed_from at [] = []
 placed_from at (pair.Skip width ∷ ps) = placed_from (at + width) ps
-placed_from at (pair.Holding f ∷ ps) = record { start = at; field = f } ∷ placed_from (at + field_width f) ps
+placed_from at (pair.Holding f ∷ ps) = record { start = at; field = f } ∷ placed_from (at + field_length f) ps
 
 -- the fields of a specification
 abbrev pub placed_fields : List ℕ → List Placed
-placed_fields specification = placed_from 0 (pairs_of specification)
+placed_fields specification = placed_from 0 (specified_pairs specification)
 
 -- whether the first field passes the end of a buffer, or there is none
 abbrev pub lacks_room : List Placed → ℕ → Bool
 lacks_room [] room = true
-lacks_room (p ∷ ps) room = nat_lt room (p.start + field_width p.field)
+lacks_room (p ∷ ps) room = nat_lt room (p.start + field_length p.field)
 
 -- The next field of a specification from a place on begins here, lies in the buffer, and these pairs follow it.
 pub record IsNextField (text : List ℕ) (at room : ℕ) (field : Field) (start : ℕ) (rest : List ℕ) : Type 0 where
-  pub first : placed_from at (pairs_of text) ≡ record { start = start; field = field } ∷ placed_from (start + field_width field) (pairs_of rest)
-  pub inside : start + field_width field ≤ room
+  pub first : placed_from at (specified_pairs text) ≡ record { start = start; field = field } ∷ placed_from (start + field_length field) (specified_pairs rest)
+  pub inside : start + field_length field ≤ room
   pub legal : IsField field
 
 -- a buffer with bytes written over it from a place on
@@ -49,9 +49,9 @@ with_values [] (v ∷ vs) buffer = buffer
 with_values (p ∷ ps) (v ∷ vs) buffer = with_values ps vs (written_at p.start (bytes_in_field p.field v) buffer)
 
 -- the first code of several
-abbrev pub or_code : Option ℕ → Option ℕ → Option ℕ
-or_code None next = next
-or_code (Some code) next = Some code
+abbrev pub earlier_code : Option ℕ → Option ℕ → Option ℕ
+earlier_code None next = next
+earlier_code (Some code) next = Some code
 
 -- The first code of values from the left: X70 where a value has no field or its field passes the end of the buffer, and
 -- then the value's own.
@@ -59,8 +59,8 @@ abbrev pub values_code : List Placed → List Value → ℕ → Option ℕ
 values_code ps [] room = None
 values_code [] (v ∷ vs) room = Some X70_TOO_LITTLE
 values_code (p ∷ ps) (v ∷ vs) room =
-    if nat_lt room (p.start + field_width p.field) then Some X70_TOO_LITTLE
-    else or_code (value_code p.field v) (values_code ps vs room)
+    if nat_lt room (p.start + field_length p.field) then Some X70_TOO_LITTLE
+    else earlier_code (value_code p.field v) (values_code ps vs room)
 
 -- P58 comes before all other codes.
 abbrev pub fields_code : List ℕ → List Value → ℕ → Option ℕ
@@ -72,8 +72,8 @@ abbrev pub numbers_bytes : Row → List Number → List ℕ
 numbers_bytes row xs = flat_map (row_bytes row) xs
 
 -- a buffer with bytes at its front
-abbrev pub with_front : List ℕ → List ℕ → List ℕ
-with_front bytes buffer = bytes ++ drop (length bytes) buffer
+abbrev pub with_front_bytes : List ℕ → List ℕ → List ℕ
+with_front_bytes bytes buffer = bytes ++ drop (length bytes) buffer
 
 -- the first code of numbers from the left: X70 where the buffer ends, X71 where a number doesn't fit
 abbrev pub numbers_code : Row → ℕ → List Number → ℕ → Option ℕ
@@ -86,7 +86,7 @@ numbers_code row at (x ∷ xs) room =
 -- a buffer with numbers at its front, by an image; there is no row where there is no image
 abbrev pub with_image : Option Row → List Number → List ℕ → List ℕ
 with_image None xs buffer = buffer
-with_image (Some row) xs buffer = with_front (numbers_bytes row xs) buffer
+with_image (Some row) xs buffer = with_front_bytes (numbers_bytes row xs) buffer
 
 abbrev pub image_code : Option Row → List Number → ℕ → Option ℕ
 image_code None xs room = Some P58_SPECIFICATION

@@ -87,5 +87,5 @@ nibbles_number row ns =
     else (if not (ends_in_sign row.sign row.digits ns) then Err X76_LOCATOR_OR_FIELD
     else within_range (rnd Round (is_below_zero row.sign row.digits ns) (decimal_after 0 (digits_in row.sign row.digits ns)) (10 ^ row.decimals)))
 
-abbrev pub row_number : Row → List ℕ → Result Number ℕ
-row_number row bytes = nibbles_number row (nibbles bytes)
+abbrev pub number_of_row : Row → List ℕ → Result Number ℕ
+number_of_row row bytes = nibbles_number row (nibbles bytes)

@@ -7,9 +7,9 @@ use Rattle.b2_dec.specs.Number.{Number}
 use Rattle.b2_dec.specs.declared.values.Value.{Value}
 use Rattle.b2_dec.specs.declared.values.Kind.{Kind}
 use Rattle.b2_pack.specs.declared.rows.Row.{Row}
-use Rattle.b2_pack.specs.Rows.{row_number, row_length}
-use Rattle.b2_pack.specs.Specification.{is_specification, field_width}
-use Rattle.b2_pack.specs.FieldValues.{value_in}
+use Rattle.b2_pack.specs.Rows.{number_of_row, row_length}
+use Rattle.b2_pack.specs.Specification.{is_specification, field_length}
+use Rattle.b2_pack.specs.FieldValues.{field_value}
 use Rattle.b2_pack.specs.Packing.{Placed, placed_fields}
 
 -- an item before others; the first code from the left is that of all
@@ -24,8 +24,8 @@ abbrev pub values_in : List Placed → List Kind → List ℕ → Result (List V
 values_in ps [] bytes = Ok []
 values_in [] (k ∷ ks) bytes = Err X70_TOO_LITTLE
 values_in (p ∷ ps) (k ∷ ks) bytes =
-    if nat_lt (length bytes) (p.start + field_width p.field) then Err X70_TOO_LITTLE
-    else before_items (value_in p.field k (take (field_width p.field) (drop p.start bytes))) (values_in ps ks bytes)
+    if nat_lt (length bytes) (p.start + field_length p.field) then Err X70_TOO_LITTLE
+    else before_items (field_value p.field k (take (field_length p.field) (drop p.start bytes))) (values_in ps ks bytes)
 
 -- P58 comes before all other codes.
 abbrev pub fields_in : List ℕ → List Kind → List ℕ → Result (List Value) ℕ
@@ -37,11 +37,11 @@ abbrev pub numbers_in : Row → ℕ → ℕ → List ℕ → Result (List Number
 numbers_in row at zero bytes = Ok []
 numbers_in row at (suc n) bytes =
     if nat_lt (length bytes) (at + row_length row) then Err X70_TOO_LITTLE
-    else before_items (row_number row (take (row_length row) (drop at bytes))) (numbers_in row (at + row_length row) n bytes)
+    else before_items (number_of_row row (take (row_length row) (drop at bytes))) (numbers_in row (at + row_length row) n bytes)
 
-abbrev pub image_in : Option Row → ℕ → List ℕ → Result (List Number) ℕ
-image_in None n bytes = Err P58_SPECIFICATION
-image_in (Some row) n bytes = numbers_in row 0 n bytes
+abbrev pub numbers_by_rows : Option Row → ℕ → List ℕ → Result (List Number) ℕ
+numbers_by_rows None n bytes = Err P58_SPECIFICATION
+numbers_by_rows (Some row) n bytes = numbers_in row 0 n bytes
 
 -- a refusal has its code; memory may fail at any time
 abbrev pub IsRefused : {A : Type 0} → Result (List A) ℕ → Fault → Type 0

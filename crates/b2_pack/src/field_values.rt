@@ -8,7 +8,7 @@ ghost use Rattle.b2_pack.specs.Specification as specification;
 ghost use Rattle.b2_pack.specs.PackedNumbers as packed;
 ghost use Rattle.b2_pack.specs.FieldValues as spec;
 
-use crate::rows::{put_row, row_fits, row_number};
+use crate::rows::{number_of_row, row_fits, write_row};
 use crate::specification::{Field, digits_row};
 use b2_alpha::assign;
 use b2_base::Code;
@@ -80,7 +80,7 @@ fn put_right(bytes: &[u8], to: &mut [u8])
 pub(crate) fn put_value(field: Field, value: &Value, to: &mut [u8])
     requires legal { specification.IsField field }
     requires fits { spec.value_code field value.now ≡ None }
-    requires width { length to.old ≡ specification.field_width field }
+    requires width { length to.old ≡ specification.field_length field }
     ensures { to.new ≡ spec.bytes_in_field field value.now }
 {
     match value {
@@ -93,12 +93,12 @@ pub(crate) fn put_value(field: Field, value: &Value, to: &mut [u8])
 fn put_number_in(field: Field, x: Dec, to: &mut [u8])
     requires legal { specification.IsField field }
     requires fits { spec.value_code field (Value.Number x) ≡ None }
-    requires width { length to.old ≡ specification.field_width field }
+    requires width { length to.old ≡ specification.field_length field }
     ensures { to.new ≡ spec.bytes_in_field field (Value.Number x) }
 {
     match field {
         Field::Text(_) => put_right(number_text(x).bytes(), to),
-        Field::Digits { decimals, width } => put_row(digits_row(decimals, width), x, to),
+        Field::Digits { decimals, width } => write_row(digits_row(decimals, width), x, to),
         Field::Packed => to.copy_from_slice(&b2_dec::pack(x)),
         Field::Alpha(_) => {}
     }
@@ -156,12 +156,12 @@ fn packed_number(bytes: &[u8]) -> Result<Dec, Code>
 /// The number in the bytes of a field, or the first code of the field.
 fn number_in(field: Field, bytes: &[u8]) -> Result<Dec, Code>
     requires legal { specification.IsField field }
-    requires width { length bytes.now ≡ specification.field_width field }
-    ensures { spec.as_value result ≡ spec.value_in field Kind.Number bytes.now }
+    requires width { length bytes.now ≡ specification.field_length field }
+    ensures { spec.as_value result ≡ spec.field_value field Kind.Number bytes.now }
 {
     match field {
         Field::Text(_) => text_number(bytes),
-        Field::Digits { decimals, width } => row_number(digits_row(decimals, width), bytes),
+        Field::Digits { decimals, width } => number_of_row(digits_row(decimals, width), bytes),
         Field::Packed => packed_number(bytes),
         Field::Alpha(_) => Err(Code::known(X74_OTHER_KIND)),
     }
@@ -179,10 +179,10 @@ fn alpha_of(bytes: &[u8]) -> Bytes
 
 /// The value of a kind in the bytes of a field: X74 where the field is of the other kind, and then X75, X76 or X73 where
 /// the bytes hold no number.
-pub(crate) fn value_in(field: Field, kind: Kind, bytes: &[u8]) -> Result<Value, Code>
+pub(crate) fn field_value(field: Field, kind: Kind, bytes: &[u8]) -> Result<Value, Code>
     requires legal { specification.IsField field }
-    requires width { length bytes.now ≡ specification.field_width field }
-    ensures { result ≡ spec.value_in field kind bytes.now }
+    requires width { length bytes.now ≡ specification.field_length field }
+    ensures { result ≡ spec.field_value field kind bytes.now }
 {
     match kind {
         Kind::Number => match number_in(field, bytes) {

@@ -3,14 +3,14 @@ ghost use Rattle.std.specs.Prelude.{◌≡◌, ◌+◌, ◌≤◌, ◌<◌, ◌�
 ghost use Rattle.std.specs.Result.{result_err};
 ghost use Rattle.b2_pack.specs.Images.{image_row};
 ghost use Rattle.b2_pack.specs.Rows.{row_length};
-ghost use Rattle.b2_pack.specs.Specification.{pairs_of, field_width, IsField};
+ghost use Rattle.b2_pack.specs.Specification.{specified_pairs, field_length, IsField};
 ghost use Rattle.b2_pack.specs.Packing as packing;
 ghost use Rattle.b2_pack.specs.Laws.{Packs};
 
 use crate::field_values::{check_value, put_value};
 use crate::image::image_row;
-use crate::rows::{Row, put_row, row_fits, row_length};
-use crate::specification::{Field, Pair, field_width, is_specification, split_pair};
+use crate::rows::{Row, row_fits, row_length, write_row};
+use crate::specification::{Field, Pair, field_length, is_specification, split_pair};
 use b2_base::Code;
 use b2_base::codes::{P58_SPECIFICATION, X70_TOO_LITTLE, X71_DOES_NOT_FIT};
 use b2_dec::{Dec, Value};
@@ -27,7 +27,7 @@ pub(crate) struct NextField<'a> {
 pub(crate) fn next_field(text: &[u8], at: usize, room: usize) -> Option<NextField<'_>>
     requires { at ≤ room }
     ensures { MatchOption result
-        (packing.lacks_room (packing.placed_from at (pairs_of text.now)) room ≡ true)
+        (packing.lacks_room (packing.placed_from at (specified_pairs text.now)) room ≡ true)
         (λ next. packing.IsNextField text.now at room next.field next.start next.rest.now) }
 {
     let mut start = at;
@@ -41,7 +41,7 @@ pub(crate) fn next_field(text: &[u8], at: usize, room: usize) -> Option<NextFiel
                 start += width as usize;
             }
             Pair::Holding(field) => {
-                if field_width(field) > room - start {
+                if field_length(field) > room - start {
                     return None;
                 }
                 return Some(NextField {
@@ -68,7 +68,7 @@ fn check_values(text: &[u8], values: &[Value], room: usize) -> Result<(), Code>
             return Err(Code::known(X70_TOO_LITTLE));
         };
         check_value(next.field, &values[i])?;
-        at = next.start + field_width(next.field);
+        at = next.start + field_length(next.field);
         rest = next.rest;
     }
     Ok(())
@@ -85,7 +85,7 @@ fn put_values(text: &[u8], values: &[Value], to: &mut [u8])
         let Some(next) = next_field(rest, at, to.len()) else {
             return;
         };
-        let end = next.start + field_width(next.field);
+        let end = next.start + field_length(next.field);
         put_value(next.field, &values[i], &mut to[next.start..end]);
         at = end;
         rest = next.rest;
@@ -132,12 +132,12 @@ fn check_numbers(row: Row, xs: &[Dec], room: usize) -> Result<(), Code>
 /// Writes numbers into rows side by side, which they fit.
 fn put_numbers(row: Row, xs: &[Dec], to: &mut [u8])
     requires { packing.numbers_code row 0 xs.now (length to.old) ≡ None }
-    ensures { to.new ≡ packing.with_front (packing.numbers_bytes row xs.now) to.old }
+    ensures { to.new ≡ packing.with_front_bytes (packing.numbers_bytes row xs.now) to.old }
 {
     let width = row_length(row);
     let mut at = 0;
     for x in xs {
-        put_row(row, *x, &mut to[at..at + width]);
+        write_row(row, *x, &mut to[at..at + width]);
         at += width;
     }
 }

@@ -112,7 +112,7 @@ fn row_nibble(row: Row, x: Dec, place: usize) -> u8
 }
 
 /// Writes a number into the bytes of a row.
-pub(crate) fn put_row(row: Row, x: Dec, to: &mut [u8])
+pub(crate) fn write_row(row: Row, x: Dec, to: &mut [u8])
     requires { length to.old ≡ spec.row_length row }
     ensures { to.new ≡ spec.row_bytes row x }
 {
@@ -171,11 +171,11 @@ fn is_below_zero(row: Row, bytes: &[u8]) -> bool
 
 /// The number in the bytes of a row: X75 where a nibble isn't a digit or a sign before them isn't 0 or 1, then X76 where
 /// a sign after them isn't C or D, and where the number is too large.
-pub(crate) fn row_number(row: Row, bytes: &[u8]) -> Result<Dec, Code>
+pub(crate) fn number_of_row(row: Row, bytes: &[u8]) -> Result<Dec, Code>
     requires width { length bytes.now ≡ spec.row_length row }
     requires digits { row.digits < 600 }
     requires decimals { row.decimals ≤ 13 }
-    ensures { result ≡ spec.row_number row bytes.now }
+    ensures { result ≡ spec.number_of_row row bytes.now }
 {
     if !are_digits(row, bytes) {
         return Err(Code::known(X75_NOT_DECIMAL));

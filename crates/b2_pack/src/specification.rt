@@ -38,8 +38,8 @@ pub(crate) enum Pair {
 }
 
 /// How many bytes a field has.
-pub(crate) fn field_width(field: Field) -> usize
-    ensures width { result ≡ spec.field_width field }
+pub(crate) fn field_length(field: Field) -> usize
+    ensures width { result ≡ spec.field_length field }
     ensures bound { result ≤ 255 }
 {
     match field {
@@ -63,8 +63,8 @@ pub(crate) fn digits_row(decimals: u8, width: u8) -> Row
 }
 
 /// What a pair of a kind and a width means; None where there is no such pair.
-fn pair_of(kind: u8, width: u8) -> Option<Pair>
-    ensures { result ≡ spec.pair_of kind width }
+fn pair_meant(kind: u8, width: u8) -> Option<Pair>
+    ensures { result ≡ spec.pair_meant kind width }
 {
     if width == 0 {
         return None;
@@ -99,7 +99,7 @@ fn ends_pairs(kind: u8, width: u8) -> bool
 
 /// The first pair of a specification, and what follows it; None where it ends before one.
 pub(crate) fn split_pair(text: &[u8]) -> Option<(Pair, &[u8])>
-    ensures pairs { MatchOption result (spec.pairs_of text.now ≡ []) (λ r. spec.pairs_of text.now ≡ r.0 ∷ spec.pairs_of r.1.now) }
+    ensures pairs { MatchOption result (spec.specified_pairs text.now ≡ []) (λ r. spec.specified_pairs text.now ≡ r.0 ∷ spec.specified_pairs r.1.now) }
     ensures shorter { IfSome result (λ r. length r.1.now < length text.now) }
     ensures legal { IfSome result (λ r. spec.IsPair r.0) }
 {
@@ -108,7 +108,7 @@ pub(crate) fn split_pair(text: &[u8]) -> Option<(Pair, &[u8])>
             if ends_pairs(*kind, *width) {
                 return None;
             }
-            match pair_of(*kind, *width) {
+            match pair_meant(*kind, *width) {
                 Some(pair) => Some((pair, rest)),
                 None => None,
             }
@@ -126,7 +126,7 @@ pub(crate) fn is_specification(text: &[u8]) -> bool
         if ends_pairs(*kind, *width) {
             return true;
         }
-        if pair_of(*kind, *width).is_none() {
+        if pair_meant(*kind, *width).is_none() {
             return false;
         }
         rest = after;

@@ -4,11 +4,11 @@ ghost use Rattle.b2_pack.specs.Images.{image_row};
 ghost use Rattle.b2_pack.specs.Packing.{placed_fields};
 ghost use Rattle.b2_pack.specs.Unpacking as unpacking;
 
-use crate::field_values::value_in;
+use crate::field_values::field_value;
 use crate::image::image_row;
 use crate::packing::next_field;
-use crate::rows::{Row, row_length, row_number};
-use crate::specification::{field_width, is_specification};
+use crate::rows::{Row, number_of_row, row_length};
+use crate::specification::{field_length, is_specification};
 use b2_base::codes::{P58_SPECIFICATION, X70_TOO_LITTLE};
 use b2_base::{Code, Fault, NoMemory};
 use b2_dec::{Dec, Kind, Value};
@@ -34,8 +34,8 @@ fn values_in(alloc: Global, text: &[u8], kinds: &[Kind], from: &[u8]) -> Result<
         let Some(next) = next_field(rest, at, from.len()) else {
             return Err(Fault::Code(Code::known(X70_TOO_LITTLE)));
         };
-        let end = next.start + field_width(next.field);
-        match value_in(next.field, *kind, &from[next.start..end]) {
+        let end = next.start + field_length(next.field);
+        match field_value(next.field, *kind, &from[next.start..end]) {
             Ok(value) => add(&mut values, value)?,
             Err(code) => return Err(Fault::Code(code)),
         }
@@ -80,7 +80,7 @@ fn numbers_in(alloc: Global, row: Row, n: usize, from: &[u8]) -> Result<Vec<Dec>
         if width > from.len() - at {
             return Err(Fault::Code(Code::known(X70_TOO_LITTLE)));
         }
-        match row_number(row, &from[at..at + width]) {
+        match number_of_row(row, &from[at..at + width]) {
             Ok(x) => add(&mut xs, x)?,
             Err(code) => return Err(Fault::Code(code)),
         }
@@ -94,8 +94,8 @@ fn numbers_in(alloc: Global, row: Row, n: usize, from: &[u8]) -> Result<Vec<Dec>
 /// P58 where the bytes are no image. Then, for each number from the left, X70 where the buffer ends and X75 where a nibble
 /// isn't a digit or a sign isn't 0 or 1.
 pub fn unpack(alloc: Global, image: &[u8], n: usize, from: &[u8]) -> Result<Vec<Dec>, Fault>
-    ensures ok { IfOk result (λ xs. unpacking.image_in (image_row image.now) n from.now ≡ Ok xs.items) }
-    ensures code { IfErr result (unpacking.IsRefused (unpacking.image_in (image_row image.now) n from.now)) }
+    ensures ok { IfOk result (λ xs. unpacking.numbers_by_rows (image_row image.now) n from.now ≡ Ok xs.items) }
+    ensures code { IfErr result (unpacking.IsRefused (unpacking.numbers_by_rows (image_row image.now) n from.now)) }
 {
     let Some(row) = image_row(image) else {
         return Err(Fault::Code(Code::known(P58_SPECIFICATION)));

@@ -5,22 +5,22 @@ use Rattle.std.proofs.lemmas.Bool.{and_from, le-leb, eq-eqb}
 use Rattle.std.proofs.lemmas.List.{take_at, drop_at, drop-drop, length-replicate, drop-append-le, drop-replicate, take-append-le, take-replicate, drop_all}
 use Rattle.b2_platter.specs.declared.layout.Layout.{Layout}
 use Rattle.b2_platter.specs.declared.layout.Layout.TheVariants.{Narrow}
-use Rattle.b2_platter.specs.Layout.{version_of, width_of, fourth_place, most_sectors, is_zero, number_at, first_place, second_place, third_place}
+use Rattle.b2_platter.specs.Layout.{version_of, width_of, fourth_place, most_sectors, is_zero, sector_number_at, first_place, second_place, third_place}
 use Rattle.b2_platter.specs.Slot.{is_entry, is_free, is_spelled}
-use Rattle.b2_platter.specs.Image.{row, head, index_of, total_of, catalogue_end, next_free}
-use Rattle.b2_platter.specs.Checks.{is_sized, has_head, is_ordered, lies_in, each_two, differ_in_name, is_reached, lie_apart, is_controlled, Good}
+use Rattle.b2_platter.specs.Image.{row, image_head, index_of, total_of, catalogue_end, next_free}
+use Rattle.b2_platter.specs.Checks.{is_sized, has_head, is_ordered, lies_in, each_two, differ_in_name, is_reachable, lie_apart, is_controlled, Good}
 use Rattle.b2_platter.specs.Edits.{head_bytes, blank_image, formatted, CanFormat}
 use Rattle.b2_platter.proofs.Ranges.{list_all-from}
 use Rattle.b2_platter.proofs.Goodness.{Good-from_Checked, Parts-of, most_of_good}
 
 -- what is read from a head
 pub record HeadSays (layout : Layout) (image : List ℕ) (i t e n : ℕ) : Type 0 where
-  pub version : slice_index (head image) 0 ≡ version_of layout
+  pub version : slice_index (image_head image) 0 ≡ version_of layout
   pub index : index_of image ≡ i
   pub total : total_of layout image ≡ t
   pub end : catalogue_end layout image ≡ e
   pub next : next_free layout image ≡ n
-  pub rest : list_all is_zero (drop (fourth_place layout) (head image)) ≡ true
+  pub rest : list_all is_zero (drop (fourth_place layout) (image_head image)) ≡ true
 
 two_bytes : (n : ℕ) → n < 65536 → n / 256 % 256 * 256 + (n % 256 * 1 + 0) ≡ n
 two_bytes n h = omega arith
@@ -59,8 +59,8 @@ differ_free : (slot other : List ℕ) → is_entry slot ≡ false → differ_in_
 unfolding differ_in_name
 differ_free slot other e = rw e refl
 
-reached_free : (image : List ℕ) (k : ℕ) → is_entry (row image k) ≡ false → is_reached image k ≡ true
-unfolding is_reached
+reached_free : (image : List ℕ) (k : ℕ) → is_entry (row image k) ≡ false → is_reachable image k ≡ true
+unfolding is_reachable
 reached_free image k e = rw e refl
 
 apart_free : (layout : Layout) (slot other : List ℕ) → is_entry slot ≡ false → lie_apart layout slot other ≡ true
@@ -81,10 +81,10 @@ module _ (layout : Layout) (image : List ℕ) (empty : (k : ℕ) → 1 ≤ k →
   free_row k low high = ap is_entry (empty k low high) ∙ no_entry
 
   pub empty_good : is_sized layout image ≡ true → has_head layout image ≡ true → is_ordered layout image ≡ true → Good layout image
-  empty_good sized head ordered =
+  empty_good sized image_head ordered =
       Good-from_Checked layout image (record {
         sized = sized;
-        head = head;
+        head = image_head;
         ordered = ordered;
         files = list_all-from _ 1 _ (λ k low high. lies_free layout _ _ _ (free_row k low high));
         spelled = list_all-from _ 1 _ (λ k low high. ap (is_spelled layout) (empty k low high) ∙ spelled_zeros layout);
@@ -160,22 +160,22 @@ pub length-formatted : (layout : Layout) (image : List ℕ) (index end : ℕ) �
 length-formatted layout image index end some room =
     omega (arith, length-append (head_bytes layout index (total_of layout image) (end + 1) index ++ replicate {A = ℕ} (256 * index - 16) 0) (drop (256 * index) image), length-append (head_bytes layout index (total_of layout image) (end + 1) index) (replicate {A = ℕ} (256 * index - 16) 0), length-replicate {A = ℕ} (256 * index - 16) 0, length-head_bytes layout index (total_of layout image) (end + 1) index, length-drop (256 * index) image)
 
-row-front : (layout : Layout) (index total end next : ℕ) → head (head_bytes layout index total end next ++ []) ≡ head_bytes layout index total end next
+row-front : (layout : Layout) (index total end next : ℕ) → image_head (head_bytes layout index total end next ++ []) ≡ head_bytes layout index total end next
 unfolding row
 row-front layout index total end next = take_at (head_bytes layout index total end next) [] 16 (length-head_bytes layout index total end next)
 
 -- the same of a row 0 that is known to be a head
-pub head_says_row : (layout : Layout) (image : List ℕ) (index total end next : ℕ) → total < 256 ^ width_of layout → end < 256 ^ width_of layout → next < 256 ^ width_of layout → head image ≡ head_bytes layout index total end next → HeadSays layout image index total end next
+pub head_says_row : (layout : Layout) (image : List ℕ) (index total end next : ℕ) → total < 256 ^ width_of layout → end < 256 ^ width_of layout → next < 256 ^ width_of layout → image_head image ≡ head_bytes layout index total end next → HeadSays layout image index total end next
 unfolding index_of total_of catalogue_end next_free
 head_says_row layout image index total end next ht he hn is =
     let s = head_says layout index total end next [] ht he hn in
-    let front : head (head_bytes layout index total end next ++ []) ≡ head image = row-front layout index total end next ∙ sym is in
+    let front : image_head (head_bytes layout index total end next ++ []) ≡ image_head image = row-front layout index total end next ∙ sym is in
     record {
       version = ap (λ (h : List ℕ). slice_index h 0) (sym front) ∙ s.version;
       index = ap (λ (h : List ℕ). slice_index h 1) (sym front) ∙ s.index;
-      total = ap (number_at layout first_place) (sym front) ∙ s.total;
-      end = ap (number_at layout (second_place layout)) (sym front) ∙ s.end;
-      next = ap (number_at layout (third_place layout)) (sym front) ∙ s.next;
+      total = ap (sector_number_at layout first_place) (sym front) ∙ s.total;
+      end = ap (sector_number_at layout (second_place layout)) (sym front) ∙ s.end;
+      next = ap (sector_number_at layout (third_place layout)) (sym front) ∙ s.next;
       rest = ap (λ (h : List ℕ). list_all is_zero (drop (fourth_place layout) h)) (sym front) ∙ s.rest;
     }
 
@@ -184,7 +184,7 @@ pub head_passes : (layout : Layout) (image : List ℕ) (i t e n : ℕ) → HeadS
 unfolding has_head is_ordered
 head_passes layout image i t e n says whole some files free last =
     let many : length image / 256 ≡ t = omega arith in
-    let a : (slice_index (head image) 0 == version_of layout) ≡ true = eq-eqb _ _ says.version in
+    let a : (slice_index (image_head image) 0 == version_of layout) ≡ true = eq-eqb _ _ says.version in
     let b : nat_le 1 (index_of image) ≡ true = le-leb _ _ (omega (arith, says.index)) in
     let c : (total_of layout image == length image / 256) ≡ true = eq-eqb _ _ (omega (arith, says.total)) in
     let first : nat_le (index_of image) (next_free layout image) ≡ true = le-leb _ _ (omega (arith, says.index, says.next)) in

@@ -2,16 +2,16 @@
 use Rattle.std.proofs.Common.{◌≡◌, ℕ, ◌*◌, ◌/◌, ◌%◌, ◌<◌, ◌≤◌, Bool, true, false, ◌||◌, not, List, length, arith}
 use Rattle.std.proofs.lemmas.Bool.{and_parts, ltb-true, leb-true, eqb-true}
 use Rattle.b2_platter.specs.declared.layout.Layout.{Layout}
-use Rattle.b2_platter.specs.Slot.{is_entry, start_of, end_of}
+use Rattle.b2_platter.specs.Slot.{is_entry, slot_start, slot_end}
 use Rattle.b2_platter.specs.Image.{row, index_of, total_of, catalogue_end, next_free}
 use Rattle.b2_platter.specs.Checks.{is_sized, has_head, is_ordered, lies_in, all_lie_in}
 use Rattle.b2_platter.proofs.Ranges.{list_all-at}
 
 -- what the fourth check says of a file
 pub record LiesIn (layout : Layout) (index next : ℕ) (slot : List ℕ) : Type 0 where
-  pub low : index ≤ start_of layout slot
-  pub order : start_of layout slot < end_of layout slot
-  pub high : end_of layout slot < next
+  pub low : index ≤ slot_start layout slot
+  pub order : slot_start layout slot < slot_end layout slot
+  pub high : slot_end layout slot < next
 
 guarded : (e rest : Bool) → (not e || rest) ≡ true → e ≡ true → rest ≡ true
 guarded true rest h e = h
@@ -30,10 +30,10 @@ module _ (layout : Layout) (image : List ℕ) (all : all_lie_in layout image ≡
   entry_lies e =
       LiesIn-from layout _ _ _ (list_all-at (λ (k : ℕ). lies_in layout (index_of image) (next_free layout image) (row image k)) 1 _ all k low (omega arith)) e
 
-  pub entry_order : is_entry (row image k) ≡ true → start_of layout (row image k) < end_of layout (row image k)
+  pub entry_order : is_entry (row image k) ≡ true → slot_start layout (row image k) < slot_end layout (row image k)
   entry_order e = (entry_lies e).order
 
-  pub entry_end : is_entry (row image k) ≡ true → end_of layout (row image k) < next_free layout image
+  pub entry_end : is_entry (row image k) ≡ true → slot_end layout (row image k) < next_free layout image
   entry_end e = (entry_lies e).high
 
 -- what the first three checks say of the image's parts
@@ -47,10 +47,10 @@ pub record Parts (layout : Layout) (image : List ℕ) : Type 0 where
 
 pub Parts-from : (layout : Layout) (image : List ℕ) → is_sized layout image ≡ true → has_head layout image ≡ true → is_ordered layout image ≡ true → Parts layout image
 unfolding is_sized has_head is_ordered
-Parts-from layout image sized head ordered =
+Parts-from layout image sized image_head ordered =
     let s = and_parts _ _ sized in
     let s' = and_parts _ _ s.0 in
-    let h = and_parts _ _ head in
+    let h = and_parts _ _ image_head in
     let h' = and_parts _ _ h.0 in
     let h'' = and_parts _ _ h'.0 in
     let o = and_parts _ _ ordered in
@@ -77,16 +77,16 @@ least_length layout image sized =
 
 pub some_index : (layout : Layout) (image : List ℕ) → has_head layout image ≡ true → 1 ≤ index_of image
 unfolding has_head
-some_index layout image head =
-    let h = and_parts _ _ head in
+some_index layout image image_head =
+    let h = and_parts _ _ image_head in
     let h' = and_parts _ _ h.0 in
     let h'' = and_parts _ _ h'.0 in
     leb-true _ _ h''.1
 
 pub room_for_index : (layout : Layout) (image : List ℕ) → is_sized layout image ≡ true → has_head layout image ≡ true → is_ordered layout image ≡ true → 256 * index_of image ≤ length image
-room_for_index layout image sized head ordered = let p = Parts-from layout image sized head ordered in omega arith
+room_for_index layout image sized image_head ordered = let p = Parts-from layout image sized image_head ordered in omega arith
 
 pub room_for_files : (layout : Layout) (image : List ℕ) → is_sized layout image ≡ true → has_head layout image ≡ true → is_ordered layout image ≡ true → 256 * next_free layout image ≤ length image
-room_for_files layout image sized head ordered = let p = Parts-from layout image sized head ordered in omega arith
+room_for_files layout image sized image_head ordered = let p = Parts-from layout image sized image_head ordered in omega arith
 
 pub ruleset rooms = (least_length, some_index, room_for_index, room_for_files)

@@ -5,7 +5,7 @@ use Rattle.std.proofs.lemmas.Bool.{and_parts, and_from}
 use Rattle.b2_platter.specs.declared.layout.Layout.{Layout}
 use Rattle.b2_platter.specs.Slot.{is_spelled}
 use Rattle.b2_platter.specs.Image.{row, index_of, next_free}
-use Rattle.b2_platter.specs.Checks.{is_sized, has_head, is_ordered, lies_in, each_two, differ_in_name, is_reached, lie_apart, is_controlled, Good}
+use Rattle.b2_platter.specs.Checks.{is_sized, has_head, is_ordered, lies_in, each_two, differ_in_name, is_reachable, lie_apart, is_controlled, Good}
 use Rattle.b2_platter.proofs.Ranges.{list_all-at, list_all-from, here}
 use Rattle.b2_platter.proofs.Goodness.{Checked-from_Good, Good-from_Checked}
 
@@ -16,7 +16,7 @@ pub record Sound (layout : Layout) (image : List ℕ) : Type 0 where
   pub lies : (k : ℕ) → 1 ≤ k → k < 16 * index_of image → lies_in layout (index_of image) (next_free layout image) (row image k) ≡ true
   pub spelled : (k : ℕ) → 1 ≤ k → k < 16 * index_of image → is_spelled layout (row image k) ≡ true
   pub names : (j k : ℕ) → 1 ≤ j → j < k → k < 16 * index_of image → differ_in_name (row image j) (row image k) ≡ true
-  pub reached : (k : ℕ) → 1 ≤ k → k < 16 * index_of image → is_reached image k ≡ true
+  pub reached : (k : ℕ) → 1 ≤ k → k < 16 * index_of image → is_reachable image k ≡ true
   pub apart : (j k : ℕ) → 1 ≤ j → j < k → k < 16 * index_of image → lie_apart layout (row image j) (row image k) ≡ true
   pub controls : (k : ℕ) → 1 ≤ k → k < 16 * index_of image → is_controlled layout image (row image k) ≡ true
 

@@ -6,8 +6,8 @@ use Rattle.std.proofs.lemmas.List.{take-append-drop, drop-drop, take_all, get_or
 use Rattle.std.proofs.lemmas.List.FromFn.{fill_by_all, length-map-range_with_len}
 use Rattle.std.proofs.Math.Seq.{take-add}
 use Rattle.b2_platter.specs.declared.layout.Layout.TheVariants.{Narrow}
-use Rattle.b2_platter.specs.Layout.{number_at, is_zero}
-use Rattle.b2_platter.specs.Slot.{is_free, is_gone, is_live, is_entry, is_program, has_kind, start_of, end_of, name_of, is_spelled}
+use Rattle.b2_platter.specs.Layout.{sector_number_at, is_zero}
+use Rattle.b2_platter.specs.Slot.{is_free, is_gone, is_live, is_entry, is_program, has_kind, slot_start, slot_end, slot_name, is_spelled}
 use Rattle.b2_platter.specs.Image.{row, sector, index_of, total_of, catalogue_end, next_free, slots_of}
 use Rattle.b2_platter.specs.Checks.{has_head, Good}
 use Rattle.b2_platter.specs.Edits.{head_bytes}
@@ -44,8 +44,8 @@ head_cells g rest small first zeros =
     rw (first, zeros, high_byte (g 2) (g 3) (small 2) (small 3), low_byte (g 2) (g 3) (small 2) (small 3), high_byte (g 4) (g 5) (small 4) (small 5), low_byte (g 4) (g 5) (small 4) (small 5), high_byte (g 6) (g 7) (small 6) (small 7), low_byte (g 6) (g 7) (small 6) (small 7)) refl
 
 -- what is read of a head whose cells are known
-read_number : (r : List ℕ) (g : ℕ → ℕ) (rest : List ℕ) → r ≡ g 0 ∷ g 1 ∷ g 2 ∷ g 3 ∷ g 4 ∷ g 5 ∷ g 6 ∷ g 7 ∷ rest → (number_at Narrow 2 r ≡ g 2 * 256 + (g 3 * 1 + 0)) × (number_at Narrow 4 r ≡ g 4 * 256 + (g 5 * 1 + 0)) × (number_at Narrow 6 r ≡ g 6 * 256 + (g 7 * 1 + 0))
-read_number r g rest is = (ap (number_at Narrow 2) is, ap (number_at Narrow 4) is, ap (number_at Narrow 6) is)
+read_number : (r : List ℕ) (g : ℕ → ℕ) (rest : List ℕ) → r ≡ g 0 ∷ g 1 ∷ g 2 ∷ g 3 ∷ g 4 ∷ g 5 ∷ g 6 ∷ g 7 ∷ rest → (sector_number_at Narrow 2 r ≡ g 2 * 256 + (g 3 * 1 + 0)) × (sector_number_at Narrow 4 r ≡ g 4 * 256 + (g 5 * 1 + 0)) × (sector_number_at Narrow 6 r ≡ g 6 * 256 + (g 7 * 1 + 0))
+read_number r g rest is = (ap (sector_number_at Narrow 2) is, ap (sector_number_at Narrow 4) is, ap (sector_number_at Narrow 6) is)
 
 same_head : (i a a' b b' c c' : ℕ) → a ≡ a' → b ≡ b' → c ≡ c' → head_bytes Narrow i a b c ≡ head_bytes Narrow i a' b' c'
 same_head i a a' b b' c c' ea eb ec = rw (ea, eb, ec) refl
@@ -98,7 +98,7 @@ unfolding slot_in_row is_free is_gone
 gone_cells x xs e zeros = rw (e, zeros) refl
 
 file_cells : (g : ℕ → ℕ) (rest : List ℕ) → ((i : ℕ) → g i < 256) → ((g 0 ≡ 16) ⊎ (g 0 ≡ 17)) → ((g 1 ≡ 80) ⊎ (g 1 ≡ 68)) → g 6 ≡ 0 → g 7 ≡ 0 → slot_bytes Narrow (slot_in_row Narrow (g 0 ∷ g 1 ∷ g 2 ∷ g 3 ∷ g 4 ∷ g 5 ∷ g 6 ∷ g 7 ∷ rest)) ≡ g 0 ∷ g 1 ∷ g 2 ∷ g 3 ∷ g 4 ∷ g 5 ∷ g 6 ∷ g 7 ∷ rest
-unfolding slot_in_row is_free is_gone is_live is_program start_of end_of name_of
+unfolding slot_in_row is_free is_gone is_live is_program slot_start slot_end slot_name
 file_cells g rest small (inl s) (inl k) six seven =
     rw (s, k, six, seven, high_byte (g 2) (g 3) (small 2) (small 3), low_byte (g 2) (g 3) (small 2) (small 3), high_byte (g 4) (g 5) (small 4) (small 5), low_byte (g 4) (g 5) (small 4) (small 5)) refl
 file_cells g rest small (inl s) (inr k) six seven =

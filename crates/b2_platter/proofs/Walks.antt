@@ -17,11 +17,11 @@ two_over r j n whole h was fails =
     ap (λ (b : Bool). b && each_two r (range_with_len (j + 1) (n - (j + 1)))) (sym fails) ∙ sym (each_two_step r j n h) ∙ was
 
 -- the sectors that are left, after j of them
-pub around-step : (first index j : ℕ) → j < index → map (λ (j : ℕ). (first + j) % index) (range_with_len j (index - j)) ≡ (first + j) % index ∷ map (λ (j : ℕ). (first + j) % index) (range_with_len (j + 1) (index - (j + 1)))
-around-step first index j h = ap (map (λ (j : ℕ). (first + j) % index)) (range-step j index h)
+pub cyclic_from-step : (first index j : ℕ) → j < index → map (λ (j : ℕ). (first + j) % index) (range_with_len j (index - j)) ≡ (first + j) % index ∷ map (λ (j : ℕ). (first + j) % index) (range_with_len (j + 1) (index - (j + 1)))
+cyclic_from-step first index j h = ap (map (λ (j : ℕ). (first + j) % index)) (range-step j index h)
 
-pub around-end : (first index j : ℕ) → index ≤ j → map (λ (j : ℕ). (first + j) % index) (range_with_len j (index - j)) ≡ []
-around-end first index j h = ap (map (λ (j : ℕ). (first + j) % index)) (range-end j index h)
+pub cyclic_from-end : (first index j : ℕ) → index ≤ j → map (λ (j : ℕ). (first + j) % index) (range_with_len j (index - j)) ≡ []
+cyclic_from-end first index j h = ap (map (λ (j : ℕ). (first + j) % index)) (range-end j index h)
 
 clear_own : (free : ℕ → Bool) (own s : ℕ) (rest : List ℕ) → (s == own) ≡ true → is_clear_to free own (s ∷ rest) ≡ true
 clear_own free own s rest e = ap (λ (b : Bool). b || (not (free s) && is_clear_to free own rest)) e
@@ -36,13 +36,13 @@ clear_free free own s rest e f =
 
 module _ (free : ℕ → Bool) (own first index j : ℕ) (whole : Bool) (h : j < index) (was : is_clear_to free own (map (λ (j : ℕ). (first + j) % index) (range_with_len j (index - j))) ≡ whole) where
   pub clear_found : ((first + j) % index == own) ≡ true → true ≡ whole
-  clear_found e = sym (ap (is_clear_to free own) (around-step first index j h) ∙ clear_own free own _ _ e) ∙ was
+  clear_found e = sym (ap (is_clear_to free own) (cyclic_from-step first index j h) ∙ clear_own free own _ _ e) ∙ was
 
   pub clear_stopped : ((first + j) % index == own) ≡ false → free ((first + j) % index) ≡ true → false ≡ whole
-  clear_stopped e f = sym (ap (is_clear_to free own) (around-step first index j h) ∙ clear_free free own _ _ e f) ∙ was
+  clear_stopped e f = sym (ap (is_clear_to free own) (cyclic_from-step first index j h) ∙ clear_free free own _ _ e f) ∙ was
 
   pub clear_more : ((first + j) % index == own) ≡ false → free ((first + j) % index) ≡ false → is_clear_to free own (map (λ (j : ℕ). (first + j) % index) (range_with_len (j + 1) (index - (j + 1)))) ≡ whole
-  clear_more e f = sym (ap (is_clear_to free own) (around-step first index j h) ∙ clear_full free own _ _ e f) ∙ was
+  clear_more e f = sym (ap (is_clear_to free own) (cyclic_from-step first index j h) ∙ clear_full free own _ _ e f) ∙ was
 
 pub clear_over : (free : ℕ → Bool) (own first index j : ℕ) (whole : Bool) → index ≤ j → is_clear_to free own (map (λ (j : ℕ). (first + j) % index) (range_with_len j (index - j))) ≡ whole → true ≡ whole
-clear_over free own first index j whole h was = sym (ap (is_clear_to free own) (around-end first index j h)) ∙ was
+clear_over free own first index j whole h was = sym (ap (is_clear_to free own) (cyclic_from-end first index j h)) ∙ was

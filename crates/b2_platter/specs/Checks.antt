@@ -4,9 +4,9 @@ use Rattle.std.specs.List.{list_all}
 use Rattle.std.specs.Str.{bytes_eq}
 use Rattle.b2_platter.specs.declared.checks.TheConstants.{CONTROL}
 use Rattle.b2_platter.specs.declared.layout.Layout.{Layout}
-use Rattle.b2_platter.specs.Layout.{version_of, width_of, most_sectors, number_at, fourth_place, is_zero}
-use Rattle.b2_platter.specs.Slot.{is_entry, is_spelled, start_of, end_of, name_of}
-use Rattle.b2_platter.specs.Image.{row, head, sector, index_of, total_of, catalogue_end, next_free, slots_of, has_free, hash, around, is_clear_to}
+use Rattle.b2_platter.specs.Layout.{version_of, width_of, most_sectors, sector_number_at, fourth_place, is_zero}
+use Rattle.b2_platter.specs.Slot.{is_entry, is_spelled, slot_start, slot_end, slot_name}
+use Rattle.b2_platter.specs.Image.{row, image_head, sector, index_of, total_of, catalogue_end, next_free, slots_of, has_free, hash, cyclic_from, is_clear_to}
 
 -- 1: whole sectors, 16 of them up to the most that the layout allows
 unfoldable pub is_sized : Layout → List ℕ → Bool
@@ -16,8 +16,8 @@ is_sized layout image =
 -- 2: the version, an index, the number of sectors, and 00 after the head's numbers
 unfoldable pub has_head : Layout → List ℕ → Bool
 has_head layout image =
-    (slice_index (head image) 0 == version_of layout) && nat_le 1 (index_of image) && (total_of layout image == length image / 256)
-    && list_all is_zero (drop (fourth_place layout) (head image))
+    (slice_index (image_head image) 0 == version_of layout) && nat_le 1 (index_of image) && (total_of layout image == length image / 256)
+    && list_all is_zero (drop (fourth_place layout) (image_head image))
 
 -- 3: the index, the files, the catalogue's end and the image's end stand in this order
 unfoldable pub is_ordered : Layout → List ℕ → Bool
@@ -29,7 +29,7 @@ is_ordered layout image =
 unfoldable pub lies_in : Layout → ℕ → ℕ → List ℕ → Bool
 lies_in layout index next slot =
     not (is_entry slot)
-    || (nat_le index (start_of layout slot) && nat_lt (start_of layout slot) (end_of layout slot) && nat_lt (end_of layout slot) next)
+    || (nat_le index (slot_start layout slot) && nat_lt (slot_start layout slot) (slot_end layout slot) && nat_lt (slot_end layout slot) next)
 
 abbrev pub all_lie_in : Layout → List ℕ → Bool
 all_lie_in layout image =
@@ -46,31 +46,31 @@ each_two related (j ∷ ks) = list_all (related j) ks && each_two related ks
 
 -- 6: no two files have one name
 unfoldable pub differ_in_name : List ℕ → List ℕ → Bool
-differ_in_name slot other = not (is_entry slot && is_entry other && bytes_eq (name_of slot) (name_of other))
+differ_in_name slot other = not (is_entry slot && is_entry other && bytes_eq (slot_name slot) (slot_name other))
 
 abbrev pub all_differ : List ℕ → Bool
 all_differ image = each_two (λ j k. differ_in_name (row image j) (row image k)) (slots_of (index_of image))
 
 -- 7: on the way from a file's hash to its slot, no sector before has a free slot
-unfoldable pub is_reached : List ℕ → ℕ → Bool
-is_reached image k =
+unfoldable pub is_reachable : List ℕ → ℕ → Bool
+is_reachable image k =
     not (is_entry (row image k))
-    || is_clear_to (has_free image) (k / 16) (around (index_of image) (hash (index_of image) (name_of (row image k))))
+    || is_clear_to (has_free image) (k / 16) (cyclic_from (index_of image) (hash (index_of image) (slot_name (row image k))))
 
 abbrev pub all_reached : List ℕ → Bool
-all_reached image = list_all (is_reached image) (slots_of (index_of image))
+all_reached image = list_all (is_reachable image) (slots_of (index_of image))
 
 -- 8: no two files share a sector
 unfoldable pub lie_apart : Layout → List ℕ → List ℕ → Bool
 lie_apart layout slot other =
-    not (is_entry slot && is_entry other && nat_le (start_of layout slot) (end_of layout other) && nat_le (start_of layout other) (end_of layout slot))
+    not (is_entry slot && is_entry other && nat_le (slot_start layout slot) (slot_end layout other) && nat_le (slot_start layout other) (slot_end layout slot))
 
 abbrev pub all_apart : Layout → List ℕ → Bool
 all_apart layout image = each_two (λ j k. lie_apart layout (row image j) (row image k)) (slots_of (index_of image))
 
 -- how many sectors a control sector says are used
 unfoldable pub used_of : Layout → List ℕ → ℕ
-used_of layout control = number_at layout 1 control
+used_of layout control = sector_number_at layout 1 control
 
 -- a control sector that says at least one and at most `most` sectors are used: its first byte, the number, and 00
 unfoldable pub is_control : Layout → ℕ → List ℕ → Bool
@@ -81,7 +81,7 @@ is_control layout most control =
 -- 9: the last sector of a file is its control sector
 unfoldable pub is_controlled : Layout → List ℕ → List ℕ → Bool
 is_controlled layout image slot =
-    not (is_entry slot) || is_control layout (end_of layout slot - start_of layout slot) (sector image (end_of layout slot))
+    not (is_entry slot) || is_control layout (slot_end layout slot - slot_start layout slot) (sector image (slot_end layout slot))
 
 abbrev pub all_controlled : Layout → List ℕ → Bool
 all_controlled layout image = list_all (λ k. is_controlled layout image (row image k)) (slots_of (index_of image))

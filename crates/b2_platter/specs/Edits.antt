@@ -4,17 +4,17 @@ use Rattle.std.specs.List.{list_any}
 use Rattle.byteorder.specs.Endian.{big_bytes}
 use Rattle.b2_platter.specs.declared.layout.Layout.{Layout}
 use Rattle.b2_platter.specs.Layout.{version_of, width_of, fourth_place}
-use Rattle.b2_platter.specs.Slot.{is_entry, start_of, end_of}
+use Rattle.b2_platter.specs.Slot.{is_entry, slot_start, slot_end}
 use Rattle.b2_platter.specs.Image.{row, index_of, total_of, slots_of}
 
 -- a sector number as it is spelled, its highest byte first
-abbrev pub spelled : Layout → ℕ → List ℕ
-spelled layout n = big_bytes (width_of layout) n
+abbrev pub sector_number_bytes : Layout → ℕ → List ℕ
+sector_number_bytes layout n = big_bytes (width_of layout) n
 
 -- the head: version, index sectors, all sectors, the catalogue's end, the next free sector, and 00
 unfoldable pub head_bytes : Layout → ℕ → ℕ → ℕ → ℕ → List ℕ
 head_bytes layout index total end next =
-    version_of layout ∷ index ∷ (spelled layout total ++ spelled layout end ++ spelled layout next ++ replicate (16 - fourth_place layout) 0)
+    version_of layout ∷ index ∷ (sector_number_bytes layout total ++ sector_number_bytes layout end ++ sector_number_bytes layout next ++ replicate (16 - fourth_place layout) 0)
 
 -- a blank image has an index of two sectors, and its catalogue takes all the rest
 abbrev pub blank_image : Layout → ℕ → List ℕ
@@ -48,7 +48,7 @@ put_from image at (s ∷ sectors) = put_from (put_sector image at s) (at + 1) se
 
 -- a sector is one of the slot's file, and not its last, which is its control sector
 unfoldable pub holds_data : Layout → List ℕ → ℕ → Bool
-holds_data layout slot n = is_entry slot && nat_le (start_of layout slot) n && nat_lt n (end_of layout slot)
+holds_data layout slot n = is_entry slot && nat_le (slot_start layout slot) n && nat_lt n (slot_end layout slot)
 
 -- and so of some slot's file
 unfoldable pub is_data_sector : Layout → List ℕ → ℕ → Bool

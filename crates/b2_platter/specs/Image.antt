@@ -3,7 +3,7 @@
 use Rattle.std.specs.Prelude.{ℕ, ◌+◌, ◌-◌, ◌*◌, ◌%◌, Bool, true, ◌&&◌, ◌||◌, ◌==◌, not, List, [], ◌∷◌, map, sum, take, drop, slice_index, if◌then◌else◌}
 use Rattle.std.specs.List.{list_any, range_with_len}
 use Rattle.b2_platter.specs.declared.layout.Layout.{Layout}
-use Rattle.b2_platter.specs.Layout.{number_at, first_place, second_place, third_place}
+use Rattle.b2_platter.specs.Layout.{sector_number_at, first_place, second_place, third_place}
 use Rattle.b2_platter.specs.Slot.{is_free}
 
 -- the sixteen bytes of a row
@@ -18,24 +18,24 @@ sector image n = take 256 (drop (256 * n) image)
 abbrev pub sectors_at : List ℕ → ℕ → ℕ → List (List ℕ)
 sectors_at image at n = map (sector image) (range_with_len at n)
 
-abbrev pub head : List ℕ → List ℕ
-head image = row image 0
+abbrev pub image_head : List ℕ → List ℕ
+image_head image = row image 0
 
 -- how many sectors the index takes
 unfoldable pub index_of : List ℕ → ℕ
-index_of image = slice_index (head image) 1
+index_of image = slice_index (image_head image) 1
 
 -- how many sectors the head says there are
 unfoldable pub total_of : Layout → List ℕ → ℕ
-total_of layout image = number_at layout first_place (head image)
+total_of layout image = sector_number_at layout first_place (image_head image)
 
 -- the first sector after the catalogue
 unfoldable pub catalogue_end : Layout → List ℕ → ℕ
-catalogue_end layout image = number_at layout (second_place layout) (head image)
+catalogue_end layout image = sector_number_at layout (second_place layout) (image_head image)
 
 -- the first sector that no file has
 unfoldable pub next_free : Layout → List ℕ → ℕ
-next_free layout image = number_at layout (third_place layout) (head image)
+next_free layout image = sector_number_at layout (third_place layout) (image_head image)
 
 -- the rows that are slots, in an index of some sectors
 abbrev pub slots_of : ℕ → List ℕ
@@ -58,8 +58,8 @@ abbrev pub hash : ℕ → List ℕ → ℕ
 hash index name = sum name % index
 
 -- all index sectors, cyclically from one on
-abbrev pub around : ℕ → ℕ → List ℕ
-around index first = map (λ j. (first + j) % index) (range_with_len 0 index)
+abbrev pub cyclic_from : ℕ → ℕ → List ℕ
+cyclic_from index first = map (λ j. (first + j) % index) (range_with_len 0 index)
 
 -- no sector before this one has a free slot
 abbrev pub is_clear_to : (ℕ → Bool) → ℕ → List ℕ → Bool

@@ -17,8 +17,8 @@ abbrev pub most_sectors : Layout → ℕ
 most_sectors Narrow = 32512
 
 -- the sector number that stands at a place, its highest byte first
-abbrev pub number_at : Layout → ℕ → List ℕ → ℕ
-number_at layout place bytes = big_number (width_of layout) (drop place bytes)
+abbrev pub sector_number_at : Layout → ℕ → List ℕ → ℕ
+sector_number_at layout place bytes = big_number (width_of layout) (drop place bytes)
 
 -- where the first, the second and the third sector number of a head or of a slot stand: after two bytes
 abbrev pub first_place : ℕ

@@ -4,9 +4,9 @@ use Rattle.std.specs.List.{flat_map}
 use Rattle.b2_platter.specs.declared.slot.TheConstants.{LIVE, SCRATCHED, GONE, PROGRAM, DATA}
 use Rattle.b2_platter.specs.declared.layout.Layout.{Layout}
 use Rattle.b2_platter.specs.Layout.{third_place}
-use Rattle.b2_platter.specs.Slot.{is_free, is_gone, is_live, is_program, start_of, end_of, name_of}
+use Rattle.b2_platter.specs.Slot.{is_free, is_gone, is_live, is_program, slot_start, slot_end, slot_name}
 use Rattle.b2_platter.specs.Image.{row, sectors_at, index_of, total_of, catalogue_end, next_free, slots_of}
-use Rattle.b2_platter.specs.Edits.{spelled, head_bytes}
+use Rattle.b2_platter.specs.Edits.{sector_number_bytes, head_bytes}
 
 -- a file as its slot has it
 pub record File : Type 0 where
@@ -37,7 +37,7 @@ slot_bytes layout Free = replicate 16 0
 slot_bytes layout Gone = GONE ∷ replicate 15 0
 slot_bytes layout (Of f) =
     (if f.live then LIVE else SCRATCHED) ∷ (if f.program then PROGRAM else DATA)
-    ∷ (spelled layout f.start ++ spelled layout f.end ++ replicate (8 - third_place layout) 0 ++ f.name)
+    ∷ (sector_number_bytes layout f.start ++ sector_number_bytes layout f.end ++ replicate (8 - third_place layout) 0 ++ f.name)
 
 -- the bytes of a platter: its head, its slots and its sectors, one after the other
 abbrev pub image : Layout → Volume → List ℕ
@@ -49,7 +49,7 @@ unfoldable pub slot_in_row : Layout → List ℕ → Slot
 slot_in_row layout slot =
     if is_free slot then Free
     else (if is_gone slot then Gone
-    else Of (record { live = is_live slot; program = is_program slot; start = start_of layout slot; end = end_of layout slot; name = name_of slot }))
+    else Of (record { live = is_live slot; program = is_program slot; start = slot_start layout slot; end = slot_end layout slot; name = slot_name slot }))
 
 -- what an image says
 abbrev pub volume : Layout → List ℕ → Volume

@@ -1,9 +1,9 @@
 // The nine checks that make an image good.
 ghost use Rattle.std.specs.Prelude.{◌≡◌, ◌+◌, ◌-◌, ◌*◌, ◌/◌, ◌^◌, ◌<◌, ◌≤◌, true, length};
 ghost use Rattle.std.specs.List.{list_all, range_with_len};
-ghost use Rattle.b2_platter.specs.Slot.{is_entry, start_of, end_of};
-ghost use Rattle.b2_platter.specs.Image.{row, index_of, next_free, hash, has_free, around, is_clear_to, first_slot};
-ghost use Rattle.b2_platter.specs.Checks.{is_sized, has_head, is_ordered, lies_in, all_lie_in, all_spelled, differ_in_name, all_differ, is_reached, all_reached, lie_apart, all_apart, is_control, is_controlled, all_controlled, used_of, first_check};
+ghost use Rattle.b2_platter.specs.Slot.{is_entry, slot_start, slot_end};
+ghost use Rattle.b2_platter.specs.Image.{row, index_of, next_free, hash, has_free, cyclic_from, is_clear_to, first_slot};
+ghost use Rattle.b2_platter.specs.Checks.{is_sized, has_head, is_ordered, lies_in, all_lie_in, all_spelled, differ_in_name, all_differ, is_reachable, all_reached, lie_apart, all_apart, is_control, is_controlled, all_controlled, used_of, first_check};
 
 use crate::image::{self, SECTOR_BYTES};
 use crate::{Layout, slot};
@@ -26,11 +26,11 @@ fn has_head(layout: Layout, bytes: &[u8]) -> bool
     requires { 16 ≤ length bytes.now }
     ensures { result ≡ has_head layout bytes.now }
 {
-    let head = image::row(bytes, 0);
-    head[0] == layout.version()
+    let image_head = image::row(bytes, 0);
+    image_head[0] == layout.version()
         && 1 <= image::index(bytes)
         && image::total(layout, bytes) as usize == bytes.len() / SECTOR_BYTES
-        && slot::all_zero(&head[2 + 3 * layout.width()..])
+        && slot::all_zero(&image_head[2 + 3 * layout.width()..])
 }
 
 /// 3: index, files, catalogue and image end in this order.
@@ -132,7 +132,7 @@ pub fn has_free(bytes: &[u8], s: usize) -> bool
 fn is_clear_to(bytes: &[u8], own: usize, first: usize) -> bool
     requires within { first < index_of bytes.now }
     requires room { 256 * index_of bytes.now ≤ length bytes.now }
-    ensures { result ≡ is_clear_to (has_free bytes.now) own (around (index_of bytes.now) first) }
+    ensures { result ≡ is_clear_to (has_free bytes.now) own (cyclic_from (index_of bytes.now) first) }
 {
     let index = image::index(bytes);
     for j in 0..index {
@@ -162,12 +162,12 @@ pub fn hash(index: usize, name: &[u8]) -> usize
 }
 
 /// The file of a slot is found from its hash on.
-#[tactic(auto, unfolding(crate::specs::Checks::is_reached))]
-fn is_reached(bytes: &[u8], k: usize) -> bool
+#[tactic(auto, unfolding(crate::specs::Checks::is_reachable))]
+fn is_reachable(bytes: &[u8], k: usize) -> bool
     requires some { 1 ≤ index_of bytes.now }
     requires room { 256 * index_of bytes.now ≤ length bytes.now }
     requires in_index { k < 16 * index_of bytes.now }
-    ensures { result ≡ is_reached bytes.now k }
+    ensures { result ≡ is_reachable bytes.now k }
 {
     let slot = image::row(bytes, k);
     !slot::is_entry(slot) || is_clear_to(bytes, k / 16, hash(image::index(bytes), slot::name(slot)))
@@ -179,7 +179,7 @@ fn all_reached(bytes: &[u8]) -> bool
     requires room { 256 * index_of bytes.now ≤ length bytes.now }
     ensures { result ≡ all_reached bytes.now }
 {
-    (1..16 * image::index(bytes)).all(|k| is_reached(bytes, k))
+    (1..16 * image::index(bytes)).all(|k| is_reachable(bytes, k))
 }
 
 /// Two slots are not of two files that share a sector.
@@ -241,8 +241,8 @@ fn is_control(layout: Layout, most: u32, control: &[u8; 256]) -> bool
 /// The last sector of the slot's file is its control sector.
 #[tactic(auto, unfolding(crate::specs::Checks::is_controlled))]
 fn is_controlled(layout: Layout, bytes: &[u8], slot: &[u8; 16]) -> bool
-    requires order { is_entry slot.now ≡ true → start_of layout slot.now < end_of layout slot.now }
-    requires room { is_entry slot.now ≡ true → 256 * end_of layout slot.now + 256 ≤ length bytes.now }
+    requires order { is_entry slot.now ≡ true → slot_start layout slot.now < slot_end layout slot.now }
+    requires room { is_entry slot.now ≡ true → 256 * slot_end layout slot.now + 256 ≤ length bytes.now }
     ensures { result ≡ is_controlled layout bytes.now slot.now }
 {
     if !slot::is_entry(slot) {

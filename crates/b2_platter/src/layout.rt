@@ -1,6 +1,6 @@
 // How an image spells numbers.
 ghost use Rattle.std.specs.Prelude.{◌≡◌, ◌+◌, ◌≤◌, length};
-ghost use Rattle.b2_platter.specs.Layout.{version_of, width_of, most_sectors, number_at};
+ghost use Rattle.b2_platter.specs.Layout.{version_of, width_of, most_sectors, sector_number_at};
 
 use byteorder::{BigEndian, ByteOrder};
 
@@ -45,7 +45,7 @@ impl Layout {
     /// The sector number that stands at a place.
     pub fn number(self, bytes: &[u8], place: usize) -> u32
         requires { place + width_of self ≤ length bytes.now }
-        ensures { result ≡ number_at self place bytes.now }
+        ensures { result ≡ sector_number_at self place bytes.now }
     {
         BigEndian::read_uint(&bytes[place..], self.width()) as u32
     }

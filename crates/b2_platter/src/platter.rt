@@ -81,7 +81,7 @@ impl Platter {
         let mut bytes = vec![in alloc; 0; SECTOR_BYTES * sectors as usize]?;
         edits::clear(
             &mut bytes,
-            &edits::head(Layout::Narrow, 2, sectors, sectors, 2),
+            &edits::image_head(Layout::Narrow, 2, sectors, sectors, 2),
             sectors as usize,
         );
         Ok(Platter { bytes })
@@ -109,8 +109,14 @@ impl Platter {
         requires { CanFormat Narrow self.old index end }
         ensures { self.new ≡ formatted Narrow self.old index end }
     {
-        let head = edits::head(Layout::Narrow, index as u8, self.sectors(), end + 1, index);
-        edits::clear(&mut self.bytes, &head, index as usize);
+        let image_head = edits::image_head(
+            Layout::Narrow,
+            index as u8,
+            self.sectors(),
+            end + 1,
+            index,
+        );
+        edits::clear(&mut self.bytes, &image_head, index as usize);
     }
 }
 

@@ -2,7 +2,7 @@
 ghost use Rattle.std.specs.Prelude.{◌≡◌, length};
 ghost use Rattle.std.specs.List.{list_all};
 ghost use Rattle.b2_platter.specs.Layout.{is_zero};
-ghost use Rattle.b2_platter.specs.Slot.{is_free, is_gone, is_live, is_entry, is_program, has_kind, start_of, end_of, name_of, is_spelled};
+ghost use Rattle.b2_platter.specs.Slot.{is_free, is_gone, is_live, is_entry, is_program, has_kind, slot_start, slot_end, slot_name, is_spelled};
 
 use crate::Layout;
 use b2_base::Name8;
@@ -70,25 +70,25 @@ fn has_kind(slot: &[u8; 16]) -> bool
 }
 
 /// The first sector of the slot's file.
-#[tactic(auto, unfolding(crate::specs::Slot::start_of))]
+#[tactic(auto, unfolding(crate::specs::Slot::slot_start))]
 pub fn start(layout: Layout, slot: &[u8; 16]) -> u32
-    ensures { result ≡ start_of layout slot.now }
+    ensures { result ≡ slot_start layout slot.now }
 {
     layout.number(slot, 2)
 }
 
 /// The last sector of the slot's file.
-#[tactic(auto, unfolding(crate::specs::Slot::end_of))]
+#[tactic(auto, unfolding(crate::specs::Slot::slot_end))]
 pub fn end(layout: Layout, slot: &[u8; 16]) -> u32
-    ensures { result ≡ end_of layout slot.now }
+    ensures { result ≡ slot_end layout slot.now }
 {
     layout.number(slot, 2 + layout.width())
 }
 
 /// The name of the slot's file.
-#[tactic(auto, unfolding(crate::specs::Slot::name_of))]
+#[tactic(auto, unfolding(crate::specs::Slot::slot_name))]
 pub fn name(slot: &[u8; 16]) -> &[u8]
-    ensures value { result.now ≡ name_of slot.now }
+    ensures value { result.now ≡ slot_name slot.now }
     ensures len { length result.now ≡ 8 }
 {
     &slot[8..]

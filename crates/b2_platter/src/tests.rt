@@ -138,8 +138,8 @@ fn the_blank(rt: HostRuntime) -> Result<(), Fail> {
     assert_eq!(rt; platter.sectors(), 256);
     let image = platter.image();
     assert_eq!(rt; image.len(), 65536);
-    let head = [1, 2, 1, 0, 1, 0, 0, 2, 0, 0, 0, 0, 0, 0, 0, 0];
-    assert_eq!(rt; &image[..16], head.as_slice());
+    let image_head = [1, 2, 1, 0, 1, 0, 0, 2, 0, 0, 0, 0, 0, 0, 0, 0];
+    assert_eq!(rt; &image[..16], image_head.as_slice());
     assert!(rt; image[16..].iter().all(|b| *b == 0));
     let again = Platter::open(Vec::from_slice(rt.alloc(), image)?)
         .ok()

@@ -4,8 +4,8 @@ use Rattle.std.specs.FinMap.{get, insert}
 use Rattle.std.proofs.lemmas.Bool.{and_parts}
 use Rattle.b2_base.specs.Names.{is_name8}
 use Rattle.b2_platter.specs.declared.layout.Layout.TheVariants.{Narrow}
-use Rattle.b2_platter.specs.Layout.{number_at, second_place}
-use Rattle.b2_platter.specs.Slot.{is_free, is_entry, is_spelled, name_of}
+use Rattle.b2_platter.specs.Layout.{sector_number_at, second_place}
+use Rattle.b2_platter.specs.Slot.{is_free, is_entry, is_spelled, slot_name}
 use Rattle.b2_platter.specs.Image.{row, sector, index_of, total_of, catalogue_end, next_free, sectors_at}
 use Rattle.b2_platter.specs.Checks.{Good}
 use Rattle.b2_platter.specs.Edits.{put_sector, put_from}
@@ -40,19 +40,19 @@ chosen : (b x y : Bool) → b ≡ true → cond b x y ≡ true → x ≡ true
 chosen true x y e h = h
 chosen false x y e h = cc
 
-pub legal-of : (slot : List ℕ) → is_entry slot ≡ true → is_spelled Narrow slot ≡ true → is_name8 (name_of slot) ≡ true
+pub legal-of : (slot : List ℕ) → is_entry slot ≡ true → is_spelled Narrow slot ≡ true → is_name8 (slot_name slot) ≡ true
 unfolding is_spelled
 legal-of slot e h = (and_parts _ _ (chosen (is_entry slot) _ _ e h)).1
 
-pub eight-of : (slot : List ℕ) → length slot ≡ 16 → length (name_of slot) ≡ 8
-unfolding name_of
+pub eight-of : (slot : List ℕ) → length slot ≡ 16 → length (slot_name slot) ≡ 8
+unfolding slot_name
 eight-of slot h = (let n = length-drop 8 slot in omega (arith, h, n))
 
 -- ---- maps
 
 end-same : (a b : List ℕ) → row b 0 ≡ row a 0 → catalogue_end Narrow b ≡ catalogue_end Narrow a
 unfolding catalogue_end
-end-same a b h = ap (number_at Narrow (second_place Narrow)) h
+end-same a b h = ap (sector_number_at Narrow (second_place Narrow)) h
 
 not-free : (slot : List ℕ) → is_entry slot ≡ true → is_free slot ≡ false
 unfolding is_free is_entry

@@ -13,14 +13,14 @@ use Rattle.b2_catalog.specs.Catalogue.{Catalogue, catalogue}
 use Rattle.b2_catalog.proofs.DataSectors.{get-put}
 use Rattle.b2_progfile.specs.Programs.{SpellsProgram}
 use Rattle.b2_progfile.specs.Moving.{IsLiveFile, all_sectors, entry_from, own_sectors}
-use Rattle.b2_progfile.specs.MovingAll.{AllLive, HasSectors, InOrder, IsAmong, MovedAll, with_files}
+use Rattle.b2_progfile.specs.MovingAll.{AllLive, HasSectors, InOrder, IsAmong, MovedAll, with_more_files}
 use Rattle.b2_progfile.specs.Laws.{FilesAreMoved, FilesKeepTheirOrder, NothingElseIsMoved, ProgramsAreMoved}
 use Rattle.b2_catalog.proofs.MadeFiles.{get-other}
 use Rattle.b2_progfile.proofs.Files.{AllOther, inside-of, other-kept, other-names}
 
 -- ---- each is there
 
-untouched : (files : List Entry) (next : ℕ) (m : Catalogue) (q : List ℕ) → AllOther q files → get (with_files next files m) q ≡ get m q
+untouched : (files : List Entry) (next : ℕ) (m : Catalogue) (q : List ℕ) → AllOther q files → get (with_more_files next files m) q ≡ get m q
 untouched [] next m q other = refl
 untouched (f ∷ files) next m q other =
     untouched files (next + all_sectors f) (insert m f.name (entry_from next f)) q other.1 ∙ other-kept m f.name q (entry_from next f) (λ h. other.0 (sym h))
@@ -33,14 +33,14 @@ pub record Found (from new : List ℕ) (m : Catalogue) (next : ℕ) (e : Entry) 
 
 module _ (from new : List ℕ) (source : Good Narrow from) where
   pub found : (files : List Entry) (next least : ℕ) (m : Catalogue) (e : Entry) → AllLive from files → InOrder least files → HasSectors from new next files → IsAmong e files
-      → Found from new (with_files next files m) next e
+      → Found from new (with_more_files next files m) next e
   found [] next least m e live ordered has among = absurd among
   found (f ∷ files) next least m e live ordered has among =
-      elim among as (λ _. Found from new (with_files next (f ∷ files) m) next e) [
+      elim among as (λ _. Found from new (with_more_files next (f ∷ files) m) next e) [
         | inl same ↦ (
             let inside = inside-of from source f live.0 in
             let others = other-names from source f (f.end + 1) files live.0 (omega (arith, inside.order)) live.1 ordered.1 in
-            subst (λ (g : Entry). Found from new (with_files next (f ∷ files) m) next g) (sym same)
+            subst (λ (g : Entry). Found from new (with_more_files next (f ∷ files) m) next g) (sym same)
             (record {
               start = next;
               low = omega arith;
@@ -87,7 +87,7 @@ own-or-before : (from : List ℕ) (files : List Entry) (m : Catalogue) (f n : En
 own-or-before from files m f n next q true is live h = inr (f, live, (bytes_eq-Decides f.name q).0 is, started n f next (sym (some-same (entry_from next f) n h)))
 own-or-before from files m f n next q false is live h = inl h
 
-traced : (from : List ℕ) (files : List Entry) (next : ℕ) (m : Catalogue) (q : List ℕ) (n : Entry) → AllLive from files → get (with_files next files m) q ≡ Some n → (get m q ≡ Some n) ⊎ IsOne from files q n
+traced : (from : List ℕ) (files : List Entry) (next : ℕ) (m : Catalogue) (q : List ℕ) (n : Entry) → AllLive from files → get (with_more_files next files m) q ≡ Some n → (get m q ≡ Some n) ⊎ IsOne from files q n
 traced from [] next m q n live h = inl h
 traced from (f ∷ files) next m q n live h =
     elim (traced from files (next + all_sectors f) (insert m f.name (entry_from next f)) q n live.1 h) as (λ _. (get m q ≡ Some n) ⊎ IsOne from (f ∷ files) q n) [
@@ -115,11 +115,11 @@ same-start m e k l a b = ap (λ (f : Entry). f.start) (some-same (entry_from k e
 
 module _ (from new : List ℕ) (source : Good Narrow from) where
   in-order : (files : List Entry) (next least : ℕ) (m : Catalogue) (e f : Entry) → AllLive from files → InOrder least files → HasSectors from new next files → IsAmong e files → IsAmong f files → e.start < f.start
-      → StartsBefore (with_files next files m) e f
+      → StartsBefore (with_more_files next files m) e f
   in-order [] next least m e f live ordered has a b h = absurd a
   in-order (g ∷ files) next least m e f live ordered has a b h =
       let inside = inside-of from source g live.0 in
-      let all = with_files next (g ∷ files) m in
+      let all = with_more_files next (g ∷ files) m in
       let rest = insert m g.name (entry_from next g) in
       elim b as (λ _. StartsBefore all e f) [
         | inl same ↦ elim a as (λ _. StartsBefore all e f) [

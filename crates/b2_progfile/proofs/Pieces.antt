@@ -5,7 +5,7 @@ use Rattle.std.proofs.lemmas.List.{length-take, length-take-le, length-replicate
 use Rattle.std.proofs.lemmas.List.FromFn.{length-map-range_with_len}
 use Rattle.b2_text.specs.Program.{Lines}
 use Rattle.b2_progfile.specs.Programs.{Ascending, AllPieces, SpellsProgram, all_line_bytes, piece_bytes, program_bytes}
-use Rattle.b2_progfile.specs.Saving.{piece_at, pieces_count, pieces_of, program_sectors}
+use Rattle.b2_progfile.specs.Saving.{piece_at, pieces_count, text_sectors, program_sectors}
 use Rattle.b2_platter.proofs.SectorRuns.{AllLong}
 
 pub pieces-next : (bytes : List ℕ) (k count : ℕ) → k < count
@@ -14,7 +14,7 @@ pieces-next bytes k count h =
     let n : count - k ≡ suc (count - (k + 1)) = omega (arith, h) in
     ap (λ (m : ℕ). map (piece_at bytes) (range_with_len k m)) n
 
-pub pieces-length : (bytes : List ℕ) → length (pieces_of bytes) ≡ pieces_count bytes
+pub pieces-length : (bytes : List ℕ) → length (text_sectors bytes) ≡ pieces_count bytes
 pieces-length bytes = length-map-range_with_len (piece_at bytes) 0 (pieces_count bytes)
 
 pub piece-long : (bytes : List ℕ) (k : ℕ) → length (piece_at bytes k) ≡ 256
@@ -29,7 +29,7 @@ long-from : (bytes : List ℕ) (k n : ℕ) → AllLong (map (piece_at bytes) (ra
 long-from bytes k zero = tt
 long-from bytes k (suc n) = (piece-long bytes k, long-from bytes (k + 1) n)
 
-pub pieces-long : (bytes : List ℕ) → AllLong (pieces_of bytes)
+pub pieces-long : (bytes : List ℕ) → AllLong (text_sectors bytes)
 pieces-long bytes = long-from bytes 0 (pieces_count bytes)
 
 marked-from : (bytes : List ℕ) (k n : ℕ) → AllPieces (map (piece_at bytes) (range_with_len k n))
@@ -73,7 +73,7 @@ held bytes k (suc n) low high =
 count-some : (bytes : List ℕ) → 1 ≤ length bytes → pieces_count bytes ≡ suc (pieces_count bytes - 1)
 count-some bytes h = omega (arith, h)
 
-pub pieces-hold : (bytes : List ℕ) → 1 ≤ length bytes → piece_bytes (pieces_of bytes) ≡ bytes ++ replicate (255 * pieces_count bytes - length bytes) 0
+pub pieces-hold : (bytes : List ℕ) → 1 ≤ length bytes → piece_bytes (text_sectors bytes) ≡ bytes ++ replicate (255 * pieces_count bytes - length bytes) 0
 pieces-hold bytes h =
     let n = count-some bytes h in
     let all : 0 + suc (pieces_count bytes - 1) ≡ pieces_count bytes = omega (arith, h) in

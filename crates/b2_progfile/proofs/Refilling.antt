@@ -24,7 +24,7 @@ use Rattle.b2_catalog.proofs.Looking.{FileSlot-from, find-missed, first_slot-le,
 use Rattle.b2_catalog.proofs.Refusals.{enter_taken, present}
 use Rattle.b2_catalog.proofs.Scratching.{stands}
 use Rattle.b2_progfile.specs.Moving.{all_sectors, entry_from, with_copy}
-use Rattle.b2_progfile.specs.MovingAll.{AllLive, AreLiveFiles, HasSectors, InOrder, MovedAll, all_refusal, emptied, total_sectors, with_copies, with_files}
+use Rattle.b2_progfile.specs.MovingAll.{AllLive, AreLiveFiles, HasSectors, InOrder, MovedAll, all_refusal, emptied, total_sectors, with_copies, with_more_files}
 use Rattle.b2_catalog.proofs.MadeFiles.{refused-by, enters}
 use Rattle.b2_progfile.proofs.Copying.{Copy, copied}
 use Rattle.b2_progfile.proofs.Files.{AllOther, inside-of, other-kept, other-names}
@@ -182,7 +182,7 @@ module _ (from : List ℕ) (source : Good Narrow from) where
 
   -- what the copies leave
   pub record Copies (image new : List ℕ) (files : List Entry) : Type 0 where
-    pub catalogued : catalogue new ≡ with_files (next_free Narrow image) files (catalogue image)
+    pub catalogued : catalogue new ≡ with_more_files (next_free Narrow image) files (catalogue image)
     pub before : (n : ℕ) → index_of image ≤ n → n < next_free Narrow image → sector new n ≡ sector image n
     pub kept : HasSectors from new (next_free Narrow image) files
 
@@ -196,7 +196,7 @@ module _ (from : List ℕ) (source : Good Narrow from) where
       let rest = copies next files (ready-next image e files r) in
       let ordered = (Parts-of Narrow image r.good).files in
       record {
-        catalogued = rest.catalogued ∙ ap₂ (λ (n : ℕ) (m : Catalogue). with_files n files m) c.1.next c.1.files;
+        catalogued = rest.catalogued ∙ ap₂ (λ (n : ℕ) (m : Catalogue). with_more_files n files m) c.1.next c.1.files;
         before = λ n low high. rest.before n (omega (arith, low, c.1.index)) (omega (arith, high, c.1.next)) ∙ c.1.before n low high;
         kept = (
           same-sectors next new (next_free Narrow image) (e.end - e.start) (λ n low high. rest.before n (omega (arith, low, ordered, c.1.index)) (omega (arith, high, c.1.next))) ∙ c.1.kept,
@@ -319,6 +319,6 @@ moved-all from to files source good few are allowed =
       are = are;
       allowed = allowed;
       image = refl;
-      catalogued = c.catalogued ∙ ap₂ (λ (n : ℕ) (m : Catalogue). with_files n files m) e.next e.files;
+      catalogued = c.catalogued ∙ ap₂ (λ (n : ℕ) (m : Catalogue). with_more_files n files m) e.next e.files;
       kept = subst (λ (n : ℕ). HasSectors from (with_copies from (emptied to) files) n files) e.next c.kept;
     }

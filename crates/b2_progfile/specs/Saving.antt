@@ -24,8 +24,8 @@ abbrev pub lines_within : ℕ → ℕ → Lines → Lines
 lines_within from to lines = lines_between from (min to 9999) lines
 
 -- a sector with some bytes of a program, and 00 to the end
-abbrev pub piece_of : List ℕ → List ℕ
-piece_of bytes = PIECE ∷ (bytes ++ replicate (PIECE_BYTES - length bytes) 0)
+abbrev pub text_sector : List ℕ → List ℕ
+text_sector bytes = PIECE ∷ (bytes ++ replicate (PIECE_BYTES - length bytes) 0)
 
 -- how many sectors hold some bytes
 abbrev pub pieces_count : List ℕ → ℕ
@@ -33,15 +33,15 @@ pieces_count bytes = (length bytes + (PIECE_BYTES - 1)) / PIECE_BYTES
 
 -- the k-th sector that holds some of the bytes
 abbrev pub piece_at : List ℕ → ℕ → List ℕ
-piece_at bytes k = piece_of (take PIECE_BYTES (drop (PIECE_BYTES * k) bytes))
+piece_at bytes k = text_sector (take PIECE_BYTES (drop (PIECE_BYTES * k) bytes))
 
 -- all of them
-abbrev pub pieces_of : List ℕ → List (List ℕ)
-pieces_of bytes = map (piece_at bytes) (range_with_len 0 (pieces_count bytes))
+abbrev pub text_sectors : List ℕ → List (List ℕ)
+text_sectors bytes = map (piece_at bytes) (range_with_len 0 (pieces_count bytes))
 
 -- the sectors of a program
 abbrev pub program_sectors : Lines → List (List ℕ)
-program_sectors lines = pieces_of (program_bytes lines)
+program_sectors lines = text_sectors (program_bytes lines)
 
 -- an old file is too small for some sectors and its control sector
 abbrev pub size_refusal : Option Entry → ℕ → Option ℕ

@@ -51,7 +51,7 @@ fn wide(alloc: Global) -> Result<Text, NoMemory>
 }
 
 /// A text of its own with the same lines, in an area that holds any.
-fn copied(alloc: Global, t: &Text) -> Result<Text, NoMemory>
+fn text_copied(alloc: Global, t: &Text) -> Result<Text, NoMemory>
     ensures { IfOk result (λ copy. copy.lines ≡ t.now.lines) }
 {
     let _first = t.next_after(None);
@@ -67,7 +67,7 @@ fn base(alloc: Global, t: &Text, replace: bool) -> Result<Text, NoMemory>
     if replace {
         return wide(alloc);
     }
-    copied(alloc, t)
+    text_copied(alloc, t)
 }
 
 /// The lines of a text after a load, in an area that holds any.

@@ -12,7 +12,7 @@ ghost use Rattle.b2_catalog.specs.Calls.{reuse_refusal};
 ghost use Rattle.b2_catalog.specs.Ways.{place};
 ghost use Rattle.b2_progfile.specs.Programs.{IsProgramFile};
 ghost use Rattle.b2_catalog.specs.Making.{KeepsOthers, Made, files_without};
-ghost use Rattle.b2_progfile.specs.Saving.{SaveFails, Saved, file_filled, lines_within, or_then, pieces_count, pieces_of, program_sectors, save_refusal, size_refusal};
+ghost use Rattle.b2_progfile.specs.Saving.{SaveFails, Saved, file_filled, lines_within, or_then, pieces_count, text_sectors, program_sectors, save_refusal, size_refusal};
 
 use crate::spelling::{piece_at, pieces_count, program_of};
 use b2_base::codes::{
@@ -128,7 +128,7 @@ fn put_pieces(p: &mut Platter, at: u32, bytes: &[u8], count: u32)
     requires ends { at + count < 2 ^ 32 }
     requires good { Good Narrow p.old }
     requires sectors { (n : ℕ) → at ≤ n → n < at + count → is_data_sector Narrow p.old n ≡ true }
-    ensures { p.new ≡ put_from p.old at (pieces_of bytes.now) }
+    ensures { p.new ≡ put_from p.old at (text_sectors bytes.now) }
 {
     for k in 0..count {
         p.put_file(at + k, &piece_at(bytes, k as usize));
@@ -142,9 +142,9 @@ fn fill_program_file(p: &mut Platter, e: Entry, bytes: &[u8], count: u32)
     requires count { count ≡ pieces_count bytes.now }
     requires some { 1 ≤ count }
     requires room { e.start + count ≤ e.end }
-    ensures image { p.new ≡ file_filled p.old e.start e.end (pieces_of bytes.now) }
+    ensures image { p.new ≡ file_filled p.old e.start e.end (text_sectors bytes.now) }
     ensures files { catalogue p.new ≡ insert (catalogue p.old) e.name (record e { used = count }) }
-    ensures there { sectors_at p.new e.start count ≡ pieces_of bytes.now }
+    ensures there { sectors_at p.new e.start count ≡ text_sectors bytes.now }
     ensures others { KeepsOthers p.old p.new e }
 {
     let _image = p.image();

@@ -34,7 +34,7 @@ fn line_of(atoms: &Atoms) -> &[u8]
 }
 
 /// Adds a line.
-fn add_line(out: &mut Vec<u8>, number: u16, atoms: &Atoms) -> Result<(), NoMemory>
+fn spell_line(out: &mut Vec<u8>, number: u16, atoms: &Atoms) -> Result<(), NoMemory>
     ensures bytes { OnOk result (out.new.items ≡ out.old.items ++ line_bytes (number, atoms.now)) }
     ensures line { is_line atoms.now ≡ true }
 {
@@ -57,7 +57,7 @@ fn add_lines(out: &mut Vec<u8>, t: &Text, from: u16, to: u16) -> Result<(), NoMe
         return Ok(());
     }
     for (number, atoms) in t.lines(from, to) {
-        add_line(out, *number, atoms)?;
+        spell_line(out, *number, atoms)?;
     }
     Ok(())
 }

@@ -487,7 +487,7 @@ fn all_live_files_are_moved(rt: HostRuntime) -> Result<(), Fail> {
 }
 
 /// A platter with some files of two sectors.
-fn with_files(alloc: Global, count: u8) -> Result<Platter, Fail> {
+fn with_more_files(alloc: Global, count: u8) -> Result<Platter, Fail> {
     let mut p = Platter::blank(alloc, 64)?;
     for k in 0..count.min(20) {
         enter(&mut p, name(b'A' + k)?, false, 2)?;
@@ -507,7 +507,10 @@ fn with_small_index(alloc: Global) -> Result<Platter, Fail> {
 fn files_must_have_slots(rt: HostRuntime) -> Result<(), Fail> {
     let alloc = rt.alloc();
     let mut to = with_small_index(alloc)?;
-    assert_eq!(rt; all_moved(alloc, &with_files(alloc, 16)?, &mut to)?, 85);
+    assert_eq!(rt;
+        all_moved(alloc, &with_more_files(alloc, 16)?, &mut to)?,
+        85
+    );
     assert!(rt; is_at(&to, name(b'Y')?, false, 1, 2));
     Ok(())
 }
@@ -516,7 +519,7 @@ fn files_must_have_slots(rt: HostRuntime) -> Result<(), Fail> {
 fn an_index_of_one_sector_has_fifteen_slots(rt: HostRuntime) -> Result<(), Fail> {
     let alloc = rt.alloc();
     let mut to = with_small_index(alloc)?;
-    assert_eq!(rt; all_moved(alloc, &with_files(alloc, 15)?, &mut to)?, 0);
+    assert_eq!(rt; all_moved(alloc, &with_more_files(alloc, 15)?, &mut to)?, 0);
     assert!(rt; is_at(&to, name(b'A')?, false, 1, 2));
     assert!(rt; is_at(&to, name(b'O')?, false, 29, 30));
     assert!(rt; look(&to, name(b'Y')?).is_none());
@@ -526,7 +529,7 @@ fn an_index_of_one_sector_has_fifteen_slots(rt: HostRuntime) -> Result<(), Fail>
 /// What moving some files of two sectors answers, to a platter of sixteen sectors with an index of two.
 fn moved_to_small(alloc: Global, count: u8) -> Result<u8, Fail> {
     let mut to = Platter::blank(alloc, 16)?;
-    Ok(all_moved(alloc, &with_files(alloc, count)?, &mut to)?)
+    Ok(all_moved(alloc, &with_more_files(alloc, count)?, &mut to)?)
 }
 
 #[test]
@@ -543,7 +546,7 @@ fn moved_to_none(alloc: Global, count: u8) -> Result<u8, Fail> {
     let Ok(mut to) = Platter::open(image) else {
         return Err(Fail::new("no platter"));
     };
-    Ok(all_moved(alloc, &with_files(alloc, count)?, &mut to)?)
+    Ok(all_moved(alloc, &with_more_files(alloc, count)?, &mut to)?)
 }
 
 #[test]

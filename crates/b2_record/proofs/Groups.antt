@@ -7,15 +7,15 @@ use Rattle.std.specs.List.{list_all, slice_get}
 use Rattle.b2_dec.specs.declared.values.Value.{Value}
 use Rattle.b2_dec.specs.declared.values.Value.TheVariants as value
 use Rattle.b2_record.specs.declared.sectors.TheConstants.{ROOM}
-use Rattle.b2_record.specs.Items.{value_bytes, group_bytes, is_short, IsStorable, AllStorable}
+use Rattle.b2_record.specs.Items.{value_spelled, group_bytes, is_short, IsStorable, AllStorable}
 use Rattle.b2_record.specs.Records.{has_room, fits_in_sector, goes_over, go_on, is_record, is_none, all_values, sector_of, sector_kind, sectors_from, Spells}
 use Rattle.b2_record.specs.Writing.{groups_from, groups_of, record_of, first_count}
 use Rattle.b2_record.proofs.Values.{bytes_joined}
 
 -- ---- a group with one more value
 
-pub bytes_more : (group : List Value) (v : Value) → length (group_bytes (group ++ v ∷ [])) ≡ length (group_bytes group) + length (value_bytes v)
-bytes_more group v = ap length (bytes_joined group (v ∷ [])) ∙ (length-append (group_bytes group) (value_bytes v ++ []) ∙ ap (λ t. length (group_bytes group) + t) (ap length (append-nil (value_bytes v))))
+pub bytes_more : (group : List Value) (v : Value) → length (group_bytes (group ++ v ∷ [])) ≡ length (group_bytes group) + length (value_spelled v)
+bytes_more group v = ap length (bytes_joined group (v ∷ [])) ∙ (length-append (group_bytes group) (value_spelled v ++ []) ∙ ap (λ t. length (group_bytes group) + t) (ap length (append-nil (value_spelled v))))
 
 -- the values after the first sector, sector by sector
 abbrev pub later : List Value → List (List Value)
@@ -24,30 +24,30 @@ later (v ∷ values) = groups_from (v ∷ []) values
 
 -- the first sector has as many values as have room
 from_step : (b : Bool) (used : ℕ) (group : List Value) (v : Value) (values : List Value) → has_room used v ≡ b → length (group_bytes group) ≡ used
-    → (length (group_bytes (group ++ v ∷ [])) ≡ used + length (value_bytes v) → groups_from (group ++ v ∷ []) values ≡ ((group ++ v ∷ []) ++ take (first_count (used + length (value_bytes v)) values) values) ∷ later (drop (first_count (used + length (value_bytes v)) values) values))
+    → (length (group_bytes (group ++ v ∷ [])) ≡ used + length (value_spelled v) → groups_from (group ++ v ∷ []) values ≡ ((group ++ v ∷ []) ++ take (first_count (used + length (value_spelled v)) values) values) ∷ later (drop (first_count (used + length (value_spelled v)) values) values))
     → (if b then groups_from (group ++ v ∷ []) values else group ∷ groups_from (v ∷ []) values)
-    ≡ (group ++ take (if b then suc (first_count (used + length (value_bytes v)) values) else 0) (v ∷ values)) ∷ later (drop (if b then suc (first_count (used + length (value_bytes v)) values) else 0) (v ∷ values))
+    ≡ (group ++ take (if b then suc (first_count (used + length (value_spelled v)) values) else 0) (v ∷ values)) ∷ later (drop (if b then suc (first_count (used + length (value_spelled v)) values) else 0) (v ∷ values))
 from_step true used group v values room same more =
-    more (bytes_more group v ∙ ap (λ t. t + length (value_bytes v)) same)
-    ∙ ap (λ g. g ∷ later (drop (first_count (used + length (value_bytes v)) values) values)) (append_assoc group (v ∷ []) (take (first_count (used + length (value_bytes v)) values) values))
+    more (bytes_more group v ∙ ap (λ t. t + length (value_spelled v)) same)
+    ∙ ap (λ g. g ∷ later (drop (first_count (used + length (value_spelled v)) values) values)) (append_assoc group (v ∷ []) (take (first_count (used + length (value_spelled v)) values) values))
 from_step false used group v values room same more = ap (λ g. g ∷ groups_from (v ∷ []) values) (sym (append-nil group))
 
 pub groups_from-first : (used : ℕ) (group values : List Value) → length (group_bytes group) ≡ used
     → groups_from group values ≡ (group ++ take (first_count used values) values) ∷ later (drop (first_count used values) values)
 groups_from-first used group [] same = ap (λ g. g ∷ []) (sym (append-nil group))
 groups_from-first used group (v ∷ values) same =
-    rw (same) (from_step (has_room used v) used group v values refl same (λ e. groups_from-first (used + length (value_bytes v)) (group ++ v ∷ []) values e))
+    rw (same) (from_step (has_room used v) used group v values refl same (λ e. groups_from-first (used + length (value_spelled v)) (group ++ v ∷ []) values e))
 
 pub groups-first : (values : List Value) → groups_of values ≡ take (first_count 0 values) values ∷ later (drop (first_count 0 values) values)
 groups-first values = groups_from-first 0 [] values refl
 
 -- a short value has room in an empty sector
-pub short-few : (v : Value) → is_short v ≡ true → length (value_bytes v) ≤ 125
+pub short-few : (v : Value) → is_short v ≡ true → length (value_spelled v) ≤ 125
 short-few (value.Number x) h = omega arith
 short-few (value.Alpha b) h = grind arith
 
 pub short-room : (v : Value) → is_short v ≡ true → has_room 0 v ≡ true
-short-room v h = le-leb (0 + length (value_bytes v)) ROOM (omega (arith, short-few v h))
+short-room v h = le-leb (0 + length (value_spelled v)) ROOM (omega (arith, short-few v h))
 
 -- so the values after a sector are parted as a record of their own
 pub later-groups : (v : Value) (values : List Value) → is_short v ≡ true → later (v ∷ values) ≡ groups_of (v ∷ values)
@@ -71,18 +71,18 @@ is_none-later (v ∷ values) = some_groups values (v ∷ []) ∙ sym (ne_eqb (le
 
 -- the values of the first sector fit
 fits_chosen : (b : Bool) (used : ℕ) (v : Value) (values : List Value) → used ≤ ROOM → has_room used v ≡ b
-    → (used + length (value_bytes v) ≤ ROOM → used + length (value_bytes v) + length (group_bytes (take (first_count (used + length (value_bytes v)) values) values)) ≤ ROOM)
-    → used + length (group_bytes (take (if b then suc (first_count (used + length (value_bytes v)) values) else 0) (v ∷ values))) ≤ ROOM
+    → (used + length (value_spelled v) ≤ ROOM → used + length (value_spelled v) + length (group_bytes (take (first_count (used + length (value_spelled v)) values) values)) ≤ ROOM)
+    → used + length (group_bytes (take (if b then suc (first_count (used + length (value_spelled v)) values) else 0) (v ∷ values))) ≤ ROOM
 fits_chosen true used v values h room more =
-    let some : used + length (value_bytes v) ≤ ROOM = leb-true (used + length (value_bytes v)) ROOM room in
+    let some : used + length (value_spelled v) ≤ ROOM = leb-true (used + length (value_spelled v)) ROOM room in
     let rest = more some in
-    let all = length-append (value_bytes v) (group_bytes (take (first_count (used + length (value_bytes v)) values) values)) in
+    let all = length-append (value_spelled v) (group_bytes (take (first_count (used + length (value_spelled v)) values) values)) in
     omega (arith, rest, all)
 fits_chosen false used v values h room more = omega (arith, h)
 
 pub first-fits : (used : ℕ) (values : List Value) → used ≤ ROOM → used + length (group_bytes (take (first_count used values) values)) ≤ ROOM
 first-fits used [] h = omega (arith, h)
-first-fits used (v ∷ values) h = fits_chosen (has_room used v) used v values h refl (λ some. first-fits (used + length (value_bytes v)) values some)
+first-fits used (v ∷ values) h = fits_chosen (has_room used v) used v values h refl (λ some. first-fits (used + length (value_spelled v)) values some)
 
 -- ---- a sector among its record's
 
@@ -114,10 +114,10 @@ not-false false h = refl
 room_within : (group : List Value) (v : Value) (rest : List Value) → fits_in_sector (group ++ v ∷ rest) ≡ true → has_room (length (group_bytes group)) v ≡ true
 room_within group v rest h =
     let all = ap length (bytes_joined group (v ∷ rest)) in
-    let parts = length-append (group_bytes group) (value_bytes v ++ group_bytes rest) in
-    let last = length-append (value_bytes v) (group_bytes rest) in
+    let parts = length-append (group_bytes group) (value_spelled v ++ group_bytes rest) in
+    let last = length-append (value_spelled v) (group_bytes rest) in
     let most : length (group_bytes (group ++ v ∷ rest)) ≤ ROOM = leb-true (length (group_bytes (group ++ v ∷ rest))) ROOM h in
-    le-leb (length (group_bytes group) + length (value_bytes v)) ROOM (omega (arith, all, parts, last, most))
+    le-leb (length (group_bytes group) + length (value_spelled v)) ROOM (omega (arith, all, parts, last, most))
 
 -- values that were parted are parted so by the writer
 pub groups_from-only : (group rest : List Value) (groups : List (List Value)) → fits_in_sector (group ++ rest) ≡ true → go_on (length (group_bytes (group ++ rest))) groups ≡ true
@@ -161,14 +161,14 @@ parted_chosen : (b : Bool) (group : List Value) (v : Value) (values : List Value
     → is_record (groups_from (v ∷ []) values) ≡ true
     → is_record (if b then groups_from (group ++ v ∷ []) values else group ∷ groups_from (v ∷ []) values) ≡ true
 parted_chosen true group v values room h e k =
-    let most : length (group_bytes group) + length (value_bytes v) ≤ ROOM = leb-true (length (group_bytes group) + length (value_bytes v)) ROOM room in
+    let most : length (group_bytes group) + length (value_spelled v) ≤ ROOM = leb-true (length (group_bytes group) + length (value_spelled v)) ROOM room in
     e (le-leb (length (group_bytes (group ++ v ∷ []))) ROOM (omega (arith, most, bytes_more group v)))
 parted_chosen false group v values room h e k =
     rw h (go_on-next (length (group_bytes group)) v (take (first_count (length (group_bytes (v ∷ []))) values) values) (later (drop (first_count (length (group_bytes (v ∷ []))) values) values)) (groups_from (v ∷ []) values)
     (groups_from-first (length (group_bytes (v ∷ []))) (v ∷ []) values refl) k room)
 
 alone-fits : (v : Value) → is_short v ≡ true → fits_in_sector (v ∷ []) ≡ true
-alone-fits v h = le-leb (length (group_bytes (v ∷ []))) ROOM (omega (arith, short-few v h, ap length (append-nil (value_bytes v))))
+alone-fits v h = le-leb (length (group_bytes (v ∷ []))) ROOM (omega (arith, short-few v h, ap length (append-nil (value_spelled v))))
 
 pub parted-groups : (group values : List Value) → fits_in_sector group ≡ true → list_all is_short values ≡ true → is_record (groups_from group values) ≡ true
 parted-groups group [] h short = rw h refl
@@ -273,11 +273,11 @@ storable-more zero (w ∷ values) v rest e h k = (subst IsStorable (cc) k, tt)
 storable-more (suc n) [] v rest e h k = tt
 storable-more (suc n) (w ∷ values) v rest e h k = (h.0, storable-more n values v rest e h.1 k)
 
-pub counted-more : (count used len total : ℕ) (v : Value) (rest after : List Value) → count + first_count used rest ≡ total → rest ≡ v ∷ after → len ≡ length (value_bytes v) → used + len ≤ ROOM
+pub counted-more : (count used len total : ℕ) (v : Value) (rest after : List Value) → count + first_count used rest ≡ total → rest ≡ v ∷ after → len ≡ length (value_spelled v) → used + len ≤ ROOM
     → count + 1 + first_count (used + len) after ≡ total
 counted-more count used len total v rest after h e n room =
-    let room_for : has_room used v ≡ true = le-leb (used + length (value_bytes v)) ROOM (omega (arith, n, room)) in
-    let step : first_count used (v ∷ after) ≡ suc (first_count (used + length (value_bytes v)) after) = rw room_for refl in
+    let room_for : has_room used v ≡ true = le-leb (used + length (value_spelled v)) ROOM (omega (arith, n, room)) in
+    let step : first_count used (v ∷ after) ≡ suc (first_count (used + length (value_spelled v)) after) = rw room_for refl in
     let same = ap (first_count used) e in
     let here = ap (λ k. first_count (used + k) after) n in
     omega (arith, h, step, same, here)

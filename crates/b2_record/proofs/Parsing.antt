@@ -8,7 +8,7 @@ use Rattle.b2_platter.specs.Layout.{is_zero}
 use Rattle.b2_platter.proofs.Zeros.{zeros-all, zeros-none}
 use Rattle.b2_record.specs.declared.items.TheConstants.{END_OF_VALUES}
 use Rattle.b2_record.specs.declared.sectors.TheConstants.{ROOM, ONLY, FIRST, MIDDLE, LAST}
-use Rattle.b2_record.specs.Items.{value_bytes, group_bytes, IsStorable, AllStorable}
+use Rattle.b2_record.specs.Items.{value_spelled, group_bytes, IsStorable, AllStorable}
 use Rattle.b2_record.specs.Records.{IsGroup, sector_of, sector_kind}
 use Rattle.b2_record.proofs.Values.{rest_of_values, value-not_end, bytes_joined, group_unique}
 
@@ -24,12 +24,12 @@ pub storable-left : (a b : List Value) → AllStorable (a ++ b) → AllStorable 
 storable-left [] b h = tt
 storable-left (v ∷ a) b h = (h.0, storable-left a b h.1)
 
-pub read-more : (bytes rest after : List ℕ) (values : List Value) (v : Value) → bytes ≡ group_bytes values ++ rest → rest ≡ value_bytes v ++ after
+pub read-more : (bytes rest after : List ℕ) (values : List Value) (v : Value) → bytes ≡ group_bytes values ++ rest → rest ≡ value_spelled v ++ after
     → bytes ≡ group_bytes (values ++ v ∷ []) ++ after
 read-more bytes rest after values v e k =
     e ∙ (ap (λ t. group_bytes values ++ t) k
-    ∙ (sym (append_assoc (group_bytes values) (value_bytes v) after)
-    ∙ ap (λ t. t ++ after) (ap (λ t. group_bytes values ++ t) (sym (append-nil (value_bytes v))) ∙ sym (bytes_joined values (v ∷ [])))))
+    ∙ (sym (append_assoc (group_bytes values) (value_spelled v) after)
+    ∙ ap (λ t. t ++ after) (ap (λ t. group_bytes values ++ t) (sym (append-nil (value_spelled v))) ∙ sym (bytes_joined values (v ∷ [])))))
 
 first-cons : (rest : List ℕ) → first rest ≡ END_OF_VALUES → rest ≡ END_OF_VALUES ∷ drop 1 rest
 first-cons [] h = cc
@@ -37,14 +37,14 @@ first-cons (b ∷ rest) h = ap (λ t. t ∷ rest) h
 
 -- nothing is spelled where neither a value nor the end follows
 pub no-group : (bytes rest : List ℕ) (values group : List Value) → bytes ≡ group_bytes values ++ rest → AllStorable values → (first rest ≡ END_OF_VALUES → ⊥)
-    → ((v : Value) (after : List ℕ) → IsStorable v → rest ≡ value_bytes v ++ after → ⊥) → IsGroup group bytes → ⊥
+    → ((v : Value) (after : List ℕ) → IsStorable v → rest ≡ value_spelled v ++ after → ⊥) → IsGroup group bytes → ⊥
 no-group bytes rest values group e h other none is =
     let found = rest_of_values values rest group (replicate is.zeros 0) h is.storable (sym e ∙ is.same) in
     no-more found.0 found.1 found.3
   where
     no-more : (more : List Value) → AllStorable more → rest ≡ group_bytes more ++ END_OF_VALUES ∷ replicate is.zeros 0 → ⊥
     no-more [] k same = other (ap first same)
-    no-more (w ∷ more) k same = none w (group_bytes more ++ END_OF_VALUES ∷ replicate is.zeros 0) k.0 (same ∙ append_assoc (value_bytes w) (group_bytes more) (END_OF_VALUES ∷ replicate is.zeros 0))
+    no-more (w ∷ more) k same = none w (group_bytes more ++ END_OF_VALUES ∷ replicate is.zeros 0) k.0 (same ∙ append_assoc (value_spelled w) (group_bytes more) (END_OF_VALUES ∷ replicate is.zeros 0))
 
 -- or where something else than 00 follows the end
 pub no-zeros : (bytes rest : List ℕ) (values group : List Value) → bytes ≡ group_bytes values ++ rest → AllStorable values → first rest ≡ END_OF_VALUES
@@ -57,7 +57,7 @@ no-zeros bytes rest values group e h end other is =
     no-more [] k same = let all = ap (λ t. list_all is_zero (drop 1 t)) same ∙ zeros-none is.zeros in cc
     no-more (w ∷ more) k same =
         value-not_end w (group_bytes more ++ END_OF_VALUES ∷ replicate is.zeros 0) (drop 1 rest) k.0
-        (sym (append_assoc (value_bytes w) (group_bytes more) (END_OF_VALUES ∷ replicate is.zeros 0)) ∙ (sym same ∙ first-cons rest end))
+        (sym (append_assoc (value_spelled w) (group_bytes more) (END_OF_VALUES ∷ replicate is.zeros 0)) ∙ (sym same ∙ first-cons rest end))
 
 pub whole-group : (bytes rest : List ℕ) (values : List Value) → bytes ≡ group_bytes values ++ rest → AllStorable values → first rest ≡ END_OF_VALUES
     → list_all is_zero (drop 1 rest) ≡ true → IsGroup values bytes

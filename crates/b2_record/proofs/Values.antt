@@ -6,7 +6,7 @@ use Rattle.b2_dec.proofs.Nibbles.{pairs_value-packed, packed_digits-most, packed
 use Rattle.b2_dec.specs.declared.values.Value.{Value}
 use Rattle.b2_dec.specs.declared.values.Value.TheVariants as value
 use Rattle.b2_record.specs.declared.items.TheConstants.{NUMBER, ALPHA, END_OF_VALUES}
-use Rattle.b2_record.specs.Items.{value_bytes, group_bytes, IsStorable, AllStorable}
+use Rattle.b2_record.specs.Items.{value_spelled, group_bytes, IsStorable, AllStorable}
 
 -- ---- numbers
 
@@ -58,9 +58,9 @@ split_alike (x ∷ a) (y ∷ b) s t n e =
 
 -- ---- values
 
-pub value_unique : (v w : Value) (s t : List ℕ) → IsStorable v → IsStorable w → value_bytes v ++ s ≡ value_bytes w ++ t → (v ≡ w) × (s ≡ t)
+pub value_unique : (v w : Value) (s t : List ℕ) → IsStorable v → IsStorable w → value_spelled v ++ s ≡ value_spelled w ++ t → (v ≡ w) × (s ≡ t)
 value_unique (value.Number x) (value.Number y) s t h k e =
-    let parts = split_alike (value_bytes (value.Number x)) (value_bytes (value.Number y)) s t refl e in
+    let parts = split_alike (value_spelled (value.Number x)) (value_spelled (value.Number y)) s t refl e in
     let same : packed x ≡ packed y = cc in
     (ap value.Number (packed-unique x y h k same), parts.1)
 value_unique (value.Number x) (value.Alpha b) s t h k e = let bad : NUMBER ≡ ALPHA + length b = cc in absurd (omega (arith, bad, k.0))
@@ -73,7 +73,7 @@ value_unique (value.Alpha a) (value.Alpha b) s t h k e =
     (ap value.Alpha parts.0, parts.1)
 
 -- no value begins with the byte that ends values
-pub value-not_end : (v : Value) (s t : List ℕ) → IsStorable v → value_bytes v ++ s ≡ END_OF_VALUES ∷ t → ⊥
+pub value-not_end : (v : Value) (s t : List ℕ) → IsStorable v → value_spelled v ++ s ≡ END_OF_VALUES ∷ t → ⊥
 value-not_end (value.Number x) s t h e = let bad : NUMBER ≡ END_OF_VALUES = cc in cc
 value-not_end (value.Alpha a) s t h e = let bad : ALPHA + length a ≡ END_OF_VALUES = cc in omega (arith, bad, h.1)
 
@@ -81,7 +81,7 @@ value-not_end (value.Alpha a) s t h e = let bad : ALPHA + length a ≡ END_OF_VA
 
 pub bytes_joined : (a b : List Value) → group_bytes (a ++ b) ≡ group_bytes a ++ group_bytes b
 bytes_joined [] b = refl
-bytes_joined (v ∷ a) b = ap (λ t. value_bytes v ++ t) (bytes_joined a b) ∙ sym (append_assoc (value_bytes v) (group_bytes a) (group_bytes b))
+bytes_joined (v ∷ a) b = ap (λ t. value_spelled v ++ t) (bytes_joined a b) ∙ sym (append_assoc (value_spelled v) (group_bytes a) (group_bytes b))
 
 -- what follows some values that were read
 pub rest_of_values : (values : List Value) (rest : List ℕ) (group : List Value) (tail : List ℕ) → AllStorable values → AllStorable group
@@ -89,10 +89,10 @@ pub rest_of_values : (values : List Value) (rest : List ℕ) (group : List Value
     → (more : List Value) × AllStorable more × (group ≡ values ++ more) × (rest ≡ group_bytes more ++ END_OF_VALUES ∷ tail)
 rest_of_values [] rest group tail h k e = (group, k, refl, e)
 rest_of_values (v ∷ values) rest [] tail h k e =
-    absurd (value-not_end v (group_bytes values ++ rest) tail h.0 (sym (append_assoc (value_bytes v) (group_bytes values) rest) ∙ e))
+    absurd (value-not_end v (group_bytes values ++ rest) tail h.0 (sym (append_assoc (value_spelled v) (group_bytes values) rest) ∙ e))
 rest_of_values (v ∷ values) rest (w ∷ group) tail h k e =
-    let here : value_bytes v ++ (group_bytes values ++ rest) ≡ value_bytes w ++ (group_bytes group ++ END_OF_VALUES ∷ tail) =
-    sym (append_assoc (value_bytes v) (group_bytes values) rest) ∙ (e ∙ append_assoc (value_bytes w) (group_bytes group) (END_OF_VALUES ∷ tail)) in
+    let here : value_spelled v ++ (group_bytes values ++ rest) ≡ value_spelled w ++ (group_bytes group ++ END_OF_VALUES ∷ tail) =
+    sym (append_assoc (value_spelled v) (group_bytes values) rest) ∙ (e ∙ append_assoc (value_spelled w) (group_bytes group) (END_OF_VALUES ∷ tail)) in
     let parts = value_unique v w (group_bytes values ++ rest) (group_bytes group ++ END_OF_VALUES ∷ tail) h.0 k.0 here in
     let found = rest_of_values values rest group tail h.1 k.1 parts.1 in
     (found.0, found.1, ap₂ (λ u us. u ∷ us) (sym parts.0) found.2, found.3)
@@ -100,10 +100,10 @@ rest_of_values (v ∷ values) rest (w ∷ group) tail h k e =
 pub group_unique : (a b : List Value) (s t : List ℕ) → AllStorable a → AllStorable b
     → group_bytes a ++ END_OF_VALUES ∷ s ≡ group_bytes b ++ END_OF_VALUES ∷ t → (a ≡ b) × (s ≡ t)
 group_unique [] [] s t h k e = (refl, cc)
-group_unique [] (w ∷ b) s t h k e = absurd (value-not_end w (group_bytes b ++ END_OF_VALUES ∷ t) s k.0 (sym (append_assoc (value_bytes w) (group_bytes b) (END_OF_VALUES ∷ t)) ∙ sym e))
-group_unique (v ∷ a) [] s t h k e = absurd (value-not_end v (group_bytes a ++ END_OF_VALUES ∷ s) t h.0 (sym (append_assoc (value_bytes v) (group_bytes a) (END_OF_VALUES ∷ s)) ∙ e))
+group_unique [] (w ∷ b) s t h k e = absurd (value-not_end w (group_bytes b ++ END_OF_VALUES ∷ t) s k.0 (sym (append_assoc (value_spelled w) (group_bytes b) (END_OF_VALUES ∷ t)) ∙ sym e))
+group_unique (v ∷ a) [] s t h k e = absurd (value-not_end v (group_bytes a ++ END_OF_VALUES ∷ s) t h.0 (sym (append_assoc (value_spelled v) (group_bytes a) (END_OF_VALUES ∷ s)) ∙ e))
 group_unique (v ∷ a) (w ∷ b) s t h k e =
-    let here = sym (append_assoc (value_bytes v) (group_bytes a) (END_OF_VALUES ∷ s)) ∙ (e ∙ append_assoc (value_bytes w) (group_bytes b) (END_OF_VALUES ∷ t)) in
+    let here = sym (append_assoc (value_spelled v) (group_bytes a) (END_OF_VALUES ∷ s)) ∙ (e ∙ append_assoc (value_spelled w) (group_bytes b) (END_OF_VALUES ∷ t)) in
     let parts = value_unique v w (group_bytes a ++ END_OF_VALUES ∷ s) (group_bytes b ++ END_OF_VALUES ∷ t) h.0 k.0 here in
     let rest = group_unique a b s t h.1 k.1 parts.1 in
     (ap₂ (λ u us. u ∷ us) parts.0 rest.0, rest.1)

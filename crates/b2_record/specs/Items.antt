@@ -7,14 +7,14 @@ use Rattle.b2_dec.specs.declared.values.Value.TheVariants as value
 use Rattle.b2_record.specs.declared.items.TheConstants.{NUMBER, ALPHA}
 
 -- a number is its first byte and its eight packed bytes; an alpha value is a byte with its length, and its bytes
-abbrev pub value_bytes : Value → List ℕ
-value_bytes (value.Number x) = NUMBER ∷ packed x
-value_bytes (value.Alpha bytes) = (ALPHA + length bytes) ∷ bytes
+abbrev pub value_spelled : Value → List ℕ
+value_spelled (value.Number x) = NUMBER ∷ packed x
+value_spelled (value.Alpha bytes) = (ALPHA + length bytes) ∷ bytes
 
 -- values one after the other
 abbrev pub group_bytes : List Value → List ℕ
 group_bytes [] = []
-group_bytes (v ∷ values) = value_bytes v ++ group_bytes values
+group_bytes (v ∷ values) = value_spelled v ++ group_bytes values
 
 -- a record holds alpha values of 1 to 124 bytes
 abbrev pub is_short : Value → Bool

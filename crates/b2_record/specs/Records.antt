@@ -4,7 +4,7 @@ use Rattle.b2_dec.specs.declared.values.Value.{Value}
 use Rattle.b2_platter.specs.Image.{sectors_at}
 use Rattle.b2_record.specs.declared.items.TheConstants.{END_OF_VALUES}
 use Rattle.b2_record.specs.declared.sectors.TheConstants.{ROOM, ONLY, FIRST, MIDDLE, LAST}
-use Rattle.b2_record.specs.Items.{value_bytes, group_bytes, AllStorable}
+use Rattle.b2_record.specs.Items.{value_spelled, group_bytes, AllStorable}
 
 -- the kind of a sector, by whether it is the first of its record, and whether it is the last
 abbrev pub sector_kind : Bool → Bool → ℕ
@@ -25,7 +25,7 @@ pub record IsGroup (group : List Value) (bytes : List ℕ) : Type 0 where
 
 -- a value fits after so many bytes of values
 abbrev pub has_room : ℕ → Value → Bool
-has_room used v = nat_le (used + length (value_bytes v)) ROOM
+has_room used v = nat_le (used + length (value_spelled v)) ROOM
 
 -- the values of a sector fit
 abbrev pub fits_in_sector : List Value → Bool

@@ -1,7 +1,7 @@
 -- The one spelling of a list of values.
 use Rattle.std.specs.Prelude.{ℕ, suc, ◌+◌, List, [], ◌∷◌, ◌++◌, length, if◌then◌else◌}
 use Rattle.b2_dec.specs.declared.values.Value.{Value}
-use Rattle.b2_record.specs.Items.{value_bytes, group_bytes}
+use Rattle.b2_record.specs.Items.{value_spelled, group_bytes}
 use Rattle.b2_record.specs.Records.{has_room, sectors_from}
 
 -- the values of a sector that has some already, and of those after it
@@ -21,4 +21,4 @@ record_of values = sectors_from 1 (groups_of values)
 -- how many of the values have room in a sector of which some bytes are used
 abbrev pub first_count : ℕ → List Value → ℕ
 first_count used [] = 0
-first_count used (v ∷ values) = if has_room used v then suc (first_count (used + length (value_bytes v)) values) else 0
+first_count used (v ∷ values) = if has_room used v then suc (first_count (used + length (value_spelled v)) values) else 0

@@ -4,7 +4,7 @@ ghost use Rattle.std.specs.List.{list_all};
 ghost use Rattle.b2_dec.specs.Number.{Number, IsNumber};
 ghost use Rattle.b2_dec.specs.Packing.{packed};
 ghost use Rattle.b2_dec.specs.declared.values.Value.{Value as AnyValue};
-ghost use Rattle.b2_record.specs.Items.{value_bytes, group_bytes, is_short, IsStorable, AllStorable};
+ghost use Rattle.b2_record.specs.Items.{value_spelled, group_bytes, is_short, IsStorable, AllStorable};
 
 use b2_dec::{Bytes, Dec, Value, unpack};
 
@@ -41,9 +41,9 @@ pub fn all_short(values: &[Value]) -> bool
 }
 
 /// How many bytes a value takes in a sector.
-pub(crate) fn value_len(value: &Value) -> usize
+pub(crate) fn value_width(value: &Value) -> usize
     requires { is_short value.now ≡ true }
-    ensures count { result ≡ length (value_bytes value.now) }
+    ensures count { result ≡ length (value_spelled value.now) }
     ensures some { 1 ≤ result }
     ensures few { result ≤ 125 }
     ensures storable { IsStorable value.now }
@@ -71,13 +71,13 @@ pub(crate) fn bytes_len(values: &[Value]) -> usize
 {
     let mut len = 0;
     for value in values {
-        len += value_len(value);
+        len += value_width(value);
     }
     len
 }
 
 /// The number that is packed at the front, None where none is.
-fn number_at(bytes: &[u8]) -> Option<Dec>
+fn packed_number_at(bytes: &[u8]) -> Option<Dec>
     ensures some { IfSome result (λ x. IsNumber x × (bytes.now ≡ packed x ++ drop 8 bytes.now)) }
     ensures none { IfNone result ((x : Number) (rest : List ℕ) → IsNumber x → ¬ (bytes.now ≡ packed x ++ rest)) }
 {
@@ -113,12 +113,12 @@ fn alpha_at(lead: u8, bytes: &[u8]) -> Option<Bytes>
 
 /// The value at the front and how many bytes it takes, None where no value is spelled there.
 pub(crate) fn value_at(bytes: &[u8]) -> Option<(Value, usize)>
-    ensures some { IfSome result (λ found. IsStorable found.0 × (bytes.now ≡ value_bytes found.0 ++ drop found.1 bytes.now) × (found.1 ≡ length (value_bytes found.0))) }
-    ensures none { IfNone result ((v : AnyValue) (rest : List ℕ) → IsStorable v → ¬ (bytes.now ≡ value_bytes v ++ rest)) }
+    ensures some { IfSome result (λ found. IsStorable found.0 × (bytes.now ≡ value_spelled found.0 ++ drop found.1 bytes.now) × (found.1 ≡ length (value_spelled found.0))) }
+    ensures none { IfNone result ((v : AnyValue) (rest : List ℕ) → IsStorable v → ¬ (bytes.now ≡ value_spelled v ++ rest)) }
 {
     let (lead, rest) = bytes.split_first()?;
     if *lead == NUMBER {
-        let number = number_at(rest)?;
+        let number = packed_number_at(rest)?;
         return Some((Value::Number(number), 9));
     }
     let alpha = alpha_at(*lead, rest)?;

@@ -8,7 +8,7 @@ ghost use Rattle.b2_platter.specs.Reading.{Unspelled};
 ghost use Rattle.b2_record.specs.Records.{goes_over, Spells, IsNoRecord};
 ghost use Rattle.b2_record.specs.Writing.{groups_of, record_of, first_count};
 
-use crate::items::{bytes_len, value_len};
+use crate::items::{bytes_len, value_width};
 use crate::sectors::{ROOM, group_at, sector_kind, write_sector};
 use b2_base::codes::D88_FORMAT;
 use b2_base::{Code, Fault, NoMemory};
@@ -29,7 +29,7 @@ fn first_count(values: &[Value]) -> usize
     let mut used = 0;
     let mut count = 0;
     for value in values {
-        used += value_len(value);
+        used += value_width(value);
         if used > ROOM {
             return count;
         }
@@ -102,7 +102,7 @@ fn goes_over(used: usize, values: &[Value]) -> bool
     ensures { result ≡ goes_over used values.now }
 {
     match values.first() {
-        Some(value) => used + value_len(value) > ROOM,
+        Some(value) => used + value_width(value) > ROOM,
         None => false,
     }
 }

@@ -1,12 +1,12 @@
 // One sector of a record, written and read.
 ghost use Rattle.std.specs.Prelude.{◌≡◌, ℕ, ◌==◌, ◌+◌, ◌-◌, ◌≤◌, [], ◌∷◌, ◌++◌, Bool, true, List, IfSome, IfNone, IfOk, IfErr, OnOk, length, replicate};
 ghost use Rattle.b2_dec.specs.declared.values.Value.{Value as AnyValue};
-ghost use Rattle.b2_record.specs.Items.{value_bytes, group_bytes, is_short, AllStorable};
+ghost use Rattle.b2_record.specs.Items.{value_spelled, group_bytes, is_short, AllStorable};
 ghost use Rattle.std.specs.List.{list_all};
 ghost use Rattle.b2_platter.specs.Reading.{Unspelled};
 ghost use Rattle.b2_record.specs.Records.{sector_kind, sector_of, fits_in_sector, IsGroup};
 
-use crate::items::{ALPHA, END_OF_VALUES, NUMBER, value_at, value_len};
+use crate::items::{ALPHA, END_OF_VALUES, NUMBER, value_at, value_width};
 use arrayvec::ArrayVec;
 use b2_base::codes::D88_FORMAT;
 use b2_base::{Code, Fault, NoMemory, lexical};
@@ -67,8 +67,8 @@ fn write(draft: &mut Draft, bytes: &[u8])
 /// Adds a value.
 fn write_value(draft: &mut Draft, value: &Value)
     requires short { is_short value.now ≡ true }
-    requires room { length draft.old.items + length (value_bytes value.now) ≤ 256 }
-    ensures { draft.new.items ≡ draft.old.items ++ value_bytes value.now }
+    requires room { length draft.old.items + length (value_spelled value.now) ≤ 256 }
+    ensures { draft.new.items ≡ draft.old.items ++ value_spelled value.now }
 {
     match value {
         Value::Number(x) => {

@@ -3,7 +3,7 @@ use Rattle.std.specs.Prelude.{is_some}
 use Rattle.b2_base.specs.Names.{is_name8}
 use Rattle.b2_platter.specs.declared.layout.Layout.TheVariants.{Narrow}
 use Rattle.b2_platter.proofs.Goodness.{Parts-of}
-use Rattle.b2_catalog.specs.Ways.{slot_of, place}
+use Rattle.b2_catalog.specs.Ways.{slot_found, place}
 use Rattle.b2_catalog.proofs.Placing.{Placed-from}
 use Rattle.b2_catalog.proofs.Refusals.{enter_present, enter_full, enter_short, enter_taken, slot_none}
 use Rattle.b2_catalog.proofs.Entering.{entered_good, catalogue-entered}
@@ -11,7 +11,7 @@ use Rattle.b2_catalog.proofs.additions.enter.Goals as goal
 
 pub returns-then-is_some-clause-err : goal.returns-then-is_some-clause-err
 returns-then-is_some-clause-err c =
-    let has : is_some (slot_of c.args.p.now c.args.name) ≡ true = cc in
+    let has : is_some (slot_found c.args.p.now c.args.name) ≡ true = cc in
     (enter_present c.args.p.now c.args.name c.args.sectors has ∙ ap Some (sym c.known.ensures), refl)
 
 pub place_for-requires-clause-some : goal.place_for-requires-clause-some
@@ -22,7 +22,7 @@ place_for-requires-clause-room c = let parts = Parts-of Narrow c.args.p.now c.im
 
 pub returns-in_default-clause-err : goal.returns-in_default-clause-err
 returns-in_default-clause-err c =
-    let lacks : is_some (slot_of c.args.p.now c.args.name) ≡ false = cc in
+    let lacks : is_some (slot_found c.args.p.now c.args.name) ≡ false = cc in
     let full : place c.args.p.now c.args.name ≡ None = sym (c.in_default.ensures ∙ rw (c.image.ensures.value, c.bytes.ensures.value) refl) in
     (enter_full c.args.p.now c.args.name c.args.sectors lacks full ∙ ap Some (sym c.known-in_default.ensures), refl)
 
@@ -31,7 +31,7 @@ overflow_sub-end c = let parts = Parts-of Narrow c.args.p.now c.image.ensures.go
 
 pub returns-then-sectors-end-clause-err : goal.returns-then-sectors-end-clause-err
 returns-then-sectors-end-clause-err c =
-    let lacks : is_some (slot_of c.args.p.now c.args.name) ≡ false = cc in
+    let lacks : is_some (slot_found c.args.p.now c.args.name) ≡ false = cc in
     let free : place c.args.p.now c.args.name ≡ Some c.in-Some.k = sym (c.in-Some.ensures ∙ rw (c.image.ensures.value, c.bytes.ensures.value) refl) in
     (enter_short c.args.p.now c.args.name c.args.sectors c.in-Some.k lacks free (omega (arith, c.limits-end.ensures.next, c.limits-end.ensures.end)) ∙ ap Some (sym c.known-then-sectors-end.ensures), refl)
 
@@ -47,7 +47,7 @@ put_new-requires-clause-high c =
 
 pub put_new-requires-clause-good : goal.put_new-requires-clause-good
 put_new-requires-clause-good c =
-    let lacks : is_some (slot_of c.args.p.now c.args.name) ≡ false = cc in
+    let lacks : is_some (slot_found c.args.p.now c.args.name) ≡ false = cc in
     let free : place c.args.p.now c.args.name ≡ Some c.in-Some.k = sym (c.in-Some.ensures ∙ rw (c.image.ensures.value, c.bytes.ensures.value) refl) in
     let long : length c.bytes.result ≡ 8 = search rules in
     let parts = Parts-of Narrow c.args.p.now c.image.ensures.good in
@@ -55,14 +55,14 @@ put_new-requires-clause-good c =
 
 pub returns-clause-ok : goal.returns-clause-ok
 returns-clause-ok c =
-    let lacks : is_some (slot_of c.args.p.now c.args.name) ≡ false = cc in
+    let lacks : is_some (slot_found c.args.p.now c.args.name) ≡ false = cc in
     let free : place c.args.p.now c.args.name ≡ Some c.in-Some.k = sym (c.in-Some.ensures ∙ rw (c.image.ensures.value, c.bytes.ensures.value) refl) in
     let parts = Parts-of Narrow c.args.p.now c.image.ensures.good in
     (enter_taken c.args.p.now c.args.name c.args.sectors c.in-Some.k lacks free (omega (arith, c.limits-end.ensures.next, c.limits-end.ensures.end)), rw c.limits-end.ensures.next refl)
 
 pub returns-clause-catalogue : goal.returns-clause-catalogue
 returns-clause-catalogue c =
-    let lacks : is_some (slot_of c.args.p.now c.args.name) ≡ false = cc in
+    let lacks : is_some (slot_found c.args.p.now c.args.name) ≡ false = cc in
     let free : place c.args.p.now c.args.name ≡ Some c.in-Some.k = sym (c.in-Some.ensures ∙ rw (c.image.ensures.value, c.bytes.ensures.value) refl) in
     let long : length c.bytes.result ≡ 8 = search rules in
     let parts = Parts-of Narrow c.args.p.now c.image.ensures.good in

@@ -4,13 +4,13 @@ use Rattle.std.specs.Option.{option_map}
 use Rattle.std.specs.Str.{bytes_eq}
 use Rattle.std.specs.FinMap.{insert, remove}
 use Rattle.b2_platter.specs.declared.layout.Layout.TheVariants.{Narrow}
-use Rattle.b2_platter.specs.Slot.{start_of, end_of}
+use Rattle.b2_platter.specs.Slot.{slot_start, slot_end}
 use Rattle.b2_platter.specs.Image.{row, index_of}
 use Rattle.b2_platter.specs.Checks.{Good}
 use Rattle.b2_platter.proofs.Goodness.{most_of_good}
 use Rattle.b2_catalog.specs.declared.entry.Entry.{Entry}
 use Rattle.b2_catalog.specs.Catalogue.{entry_at, catalogue}
-use Rattle.b2_catalog.specs.Ways.{slot_of, place}
+use Rattle.b2_catalog.specs.Ways.{slot_found, place}
 use Rattle.b2_catalog.specs.Changes.{put_row}
 use Rattle.b2_catalog.specs.Calls.{old_refusal, reused_place}
 use Rattle.b2_catalog.proofs.Looking.{FileSlot-from}
@@ -21,14 +21,14 @@ use Rattle.b2_catalog.proofs.Refusals.{reuse_present, reuse_later, reuse_full, r
 use Rattle.b2_catalog.proofs.Reusing.{Ready-from, gone_good, reused_good, catalogue-reused, reused_made, gone_index-same}
 use Rattle.b2_catalog.proofs.renames.reuse.Goals as goal
 
-pub returns-then-is_taken-clause-err : goal.returns-then-is_taken-clause-err
-returns-then-is_taken-clause-err c =
-    let taken : (not (bytes_eq c.args.old c.args.name) && is_some (slot_of c.args.p.now c.args.name)) ≡ true = cc in
+pub returns-then-is_name_taken-clause-err : goal.returns-then-is_name_taken-clause-err
+returns-then-is_name_taken-clause-err c =
+    let taken : (not (bytes_eq c.args.old c.args.name) && is_some (slot_found c.args.p.now c.args.name)) ≡ true = cc in
     (reuse_present c.args.p.now c.args.old c.args.name taken ∙ ap Some (sym c.known.ensures), refl)
 
 pub returns-in_default-clause-err : goal.returns-in_default-clause-err
 returns-in_default-clause-err c =
-    let taken : (not (bytes_eq c.args.old c.args.name) && is_some (slot_of c.args.p.now c.args.name)) ≡ false = cc in (
+    let taken : (not (bytes_eq c.args.old c.args.name) && is_some (slot_found c.args.p.now c.args.name)) ≡ false = cc in (
       reuse_later c.args.p.now c.args.old c.args.name taken
           ∙ ap (λ (o : Option Entry). old_refusal o (not (bytes_eq c.args.old c.args.name) && is_none (place c.args.p.now c.args.name))) (get-catalogue c.args.p.now c.args.old ∙ ap (option_map (entry_at c.args.p.now)) (sym c.in_default.ensures.slot))
           ∙ ap Some (sym c.known-in_default.ensures),
@@ -38,10 +38,10 @@ returns-in_default-clause-err c =
 pub returns-then-was-clause-err : goal.returns-then-was-clause-err
 returns-then-was-clause-err c =
     let k = c.in-Some.k in
-    let good = c.is_taken.ensures.good in
+    let good = c.is_name_taken.ensures.good in
     let at = c.in-Some.ensures.held in
-    let slot : slot_of c.args.p.now c.args.old ≡ Some c.in-Some.k = sym c.in-Some.ensures.slot in
-    let taken : (not (bytes_eq c.args.old c.args.name) && is_some (slot_of c.args.p.now c.args.name)) ≡ false = cc in
+    let slot : slot_found c.args.p.now c.args.old ≡ Some c.in-Some.k = sym c.in-Some.ensures.slot in
+    let taken : (not (bytes_eq c.args.old c.args.name) && is_some (slot_found c.args.p.now c.args.name)) ≡ false = cc in
     let live : (entry_at c.args.p.now c.in-Some.k).live ≡ true = sym (ap (λ (e : Entry). e.live) c.entry_at-was.ensures.value) ∙ c.if-was.true in (
       reuse_later c.args.p.now c.args.old c.args.name taken
           ∙ ap (λ (o : Option Entry). old_refusal o (not (bytes_eq c.args.old c.args.name) && is_none (place c.args.p.now c.args.name))) (get-at c.args.p.now good c.args.old c.in-Some.k at)
@@ -52,10 +52,10 @@ returns-then-was-clause-err c =
 pub returns-in_default-new_place-clause-err : goal.returns-in_default-new_place-clause-err
 returns-in_default-new_place-clause-err c =
     let k = c.in-Some.k in
-    let good = c.is_taken.ensures.good in
+    let good = c.is_name_taken.ensures.good in
     let at = c.in-Some.ensures.held in
-    let slot : slot_of c.args.p.now c.args.old ≡ Some c.in-Some.k = sym c.in-Some.ensures.slot in
-    let taken : (not (bytes_eq c.args.old c.args.name) && is_some (slot_of c.args.p.now c.args.name)) ≡ false = cc in
+    let slot : slot_found c.args.p.now c.args.old ≡ Some c.in-Some.k = sym c.in-Some.ensures.slot in
+    let taken : (not (bytes_eq c.args.old c.args.name) && is_some (slot_found c.args.p.now c.args.name)) ≡ false = cc in
     let dead : (entry_at c.args.p.now c.in-Some.k).live ≡ false = sym (ap (λ (e : Entry). e.live) c.entry_at-was.ensures.value) ∙ c.if-was.false in (
       reuse_later c.args.p.now c.args.old c.args.name taken
           ∙ ap (λ (o : Option Entry). old_refusal o (not (bytes_eq c.args.old c.args.name) && is_none (place c.args.p.now c.args.name))) (get-at c.args.p.now good c.args.old c.in-Some.k at)
@@ -66,83 +66,83 @@ returns-in_default-new_place-clause-err c =
 pub file_slot-slot-requires-clause-start_fits : goal.file_slot-slot-requires-clause-start_fits
 file_slot-slot-requires-clause-start_fits c =
     let k = c.in-Some.k in
-    let good = c.is_taken.ensures.good in
+    let good = c.is_name_taken.ensures.good in
     let at = c.in-Some.ensures.held in
-    let slot : slot_of c.args.p.now c.args.old ≡ Some c.in-Some.k = sym c.in-Some.ensures.slot in
-    let taken : (not (bytes_eq c.args.old c.args.name) && is_some (slot_of c.args.p.now c.args.name)) ≡ false = cc in
+    let slot : slot_found c.args.p.now c.args.old ≡ Some c.in-Some.k = sym c.in-Some.ensures.slot in
+    let taken : (not (bytes_eq c.args.old c.args.name) && is_some (slot_found c.args.p.now c.args.name)) ≡ false = cc in
     let goes : reused_place c.args.p.now c.args.old c.args.name ≡ Some c.in-Some-new_place.to = sym c.in-Some-new_place.ensures in
-    let start : c.entry_at-was.result.start ≡ start_of Narrow (row c.args.p.now c.in-Some.k) = ap (λ (e : Entry). e.start) c.entry_at-was.ensures.value ∙ entry_start c.args.p.now c.in-Some.k in
-    let end : c.entry_at-was.result.end ≡ end_of Narrow (row c.args.p.now c.in-Some.k) = ap (λ (e : Entry). e.end) c.entry_at-was.ensures.value ∙ entry_end c.args.p.now c.in-Some.k in
-    let f = FileSlot-from c.args.p.now c.args.old c.in-Some.k c.is_taken.ensures.good c.in-Some.ensures.held in
-    let most = most_of_good Narrow c.args.p.now c.is_taken.ensures.good in
+    let start : c.entry_at-was.result.start ≡ slot_start Narrow (row c.args.p.now c.in-Some.k) = ap (λ (e : Entry). e.start) c.entry_at-was.ensures.value ∙ entry_start c.args.p.now c.in-Some.k in
+    let end : c.entry_at-was.result.end ≡ slot_end Narrow (row c.args.p.now c.in-Some.k) = ap (λ (e : Entry). e.end) c.entry_at-was.ensures.value ∙ entry_end c.args.p.now c.in-Some.k in
+    let f = FileSlot-from c.args.p.now c.args.old c.in-Some.k c.is_name_taken.ensures.good c.in-Some.ensures.held in
+    let most = most_of_good Narrow c.args.p.now c.is_name_taken.ensures.good in
     omega (arith, start, f.order, f.within, most)
 
 pub file_slot-slot-requires-clause-end_fits : goal.file_slot-slot-requires-clause-end_fits
 file_slot-slot-requires-clause-end_fits c =
     let k = c.in-Some.k in
-    let good = c.is_taken.ensures.good in
+    let good = c.is_name_taken.ensures.good in
     let at = c.in-Some.ensures.held in
-    let slot : slot_of c.args.p.now c.args.old ≡ Some c.in-Some.k = sym c.in-Some.ensures.slot in
-    let taken : (not (bytes_eq c.args.old c.args.name) && is_some (slot_of c.args.p.now c.args.name)) ≡ false = cc in
+    let slot : slot_found c.args.p.now c.args.old ≡ Some c.in-Some.k = sym c.in-Some.ensures.slot in
+    let taken : (not (bytes_eq c.args.old c.args.name) && is_some (slot_found c.args.p.now c.args.name)) ≡ false = cc in
     let goes : reused_place c.args.p.now c.args.old c.args.name ≡ Some c.in-Some-new_place.to = sym c.in-Some-new_place.ensures in
-    let start : c.entry_at-was.result.start ≡ start_of Narrow (row c.args.p.now c.in-Some.k) = ap (λ (e : Entry). e.start) c.entry_at-was.ensures.value ∙ entry_start c.args.p.now c.in-Some.k in
-    let end : c.entry_at-was.result.end ≡ end_of Narrow (row c.args.p.now c.in-Some.k) = ap (λ (e : Entry). e.end) c.entry_at-was.ensures.value ∙ entry_end c.args.p.now c.in-Some.k in
-    let f = FileSlot-from c.args.p.now c.args.old c.in-Some.k c.is_taken.ensures.good c.in-Some.ensures.held in
-    let most = most_of_good Narrow c.args.p.now c.is_taken.ensures.good in
+    let start : c.entry_at-was.result.start ≡ slot_start Narrow (row c.args.p.now c.in-Some.k) = ap (λ (e : Entry). e.start) c.entry_at-was.ensures.value ∙ entry_start c.args.p.now c.in-Some.k in
+    let end : c.entry_at-was.result.end ≡ slot_end Narrow (row c.args.p.now c.in-Some.k) = ap (λ (e : Entry). e.end) c.entry_at-was.ensures.value ∙ entry_end c.args.p.now c.in-Some.k in
+    let f = FileSlot-from c.args.p.now c.args.old c.in-Some.k c.is_name_taken.ensures.good c.in-Some.ensures.held in
+    let most = most_of_good Narrow c.args.p.now c.is_name_taken.ensures.good in
     omega (arith, end, f.within, most)
 
 pub put_row-requires-clause-good : goal.put_row-requires-clause-good
 put_row-requires-clause-good c =
     let k = c.in-Some.k in
-    let good = c.is_taken.ensures.good in
+    let good = c.is_name_taken.ensures.good in
     let at = c.in-Some.ensures.held in
-    let slot : slot_of c.args.p.now c.args.old ≡ Some c.in-Some.k = sym c.in-Some.ensures.slot in
-    let taken : (not (bytes_eq c.args.old c.args.name) && is_some (slot_of c.args.p.now c.args.name)) ≡ false = cc in
+    let slot : slot_found c.args.p.now c.args.old ≡ Some c.in-Some.k = sym c.in-Some.ensures.slot in
+    let taken : (not (bytes_eq c.args.old c.args.name) && is_some (slot_found c.args.p.now c.args.name)) ≡ false = cc in
     let goes : reused_place c.args.p.now c.args.old c.args.name ≡ Some c.in-Some-new_place.to = sym c.in-Some-new_place.ensures in
-    let start : c.entry_at-was.result.start ≡ start_of Narrow (row c.args.p.now c.in-Some.k) = ap (λ (e : Entry). e.start) c.entry_at-was.ensures.value ∙ entry_start c.args.p.now c.in-Some.k in
-    let end : c.entry_at-was.result.end ≡ end_of Narrow (row c.args.p.now c.in-Some.k) = ap (λ (e : Entry). e.end) c.entry_at-was.ensures.value ∙ entry_end c.args.p.now c.in-Some.k in
-    let ready = Ready-from c.args.p.now c.is_taken.ensures.good c.args.old c.args.name c.in-Some.k c.in-Some-new_place.to slot taken goes in
-    rw c.gone_slot.ensures (gone_good c.args.p.now c.is_taken.ensures.good c.args.old c.in-Some.k c.in-Some.ensures.held c.args.name c.file_slot-slot.ensures.legal c.file_slot-slot.ensures.len ready.alone c.in-Some-new_place.to ready.low ready.high ready.vacant ready.clear c.args.program)
+    let start : c.entry_at-was.result.start ≡ slot_start Narrow (row c.args.p.now c.in-Some.k) = ap (λ (e : Entry). e.start) c.entry_at-was.ensures.value ∙ entry_start c.args.p.now c.in-Some.k in
+    let end : c.entry_at-was.result.end ≡ slot_end Narrow (row c.args.p.now c.in-Some.k) = ap (λ (e : Entry). e.end) c.entry_at-was.ensures.value ∙ entry_end c.args.p.now c.in-Some.k in
+    let ready = Ready-from c.args.p.now c.is_name_taken.ensures.good c.args.old c.args.name c.in-Some.k c.in-Some-new_place.to slot taken goes in
+    rw c.gone_slot.ensures (gone_good c.args.p.now c.is_name_taken.ensures.good c.args.old c.in-Some.k c.in-Some.ensures.held c.args.name c.file_slot-slot.ensures.legal c.file_slot-slot.ensures.len ready.alone c.in-Some-new_place.to ready.low ready.high ready.vacant ready.clear c.args.program)
 
 pub put_row-requires-2-clause-within : goal.put_row-requires-2-clause-within
 put_row-requires-2-clause-within c =
     let k = c.in-Some.k in
-    let good = c.is_taken.ensures.good in
+    let good = c.is_name_taken.ensures.good in
     let at = c.in-Some.ensures.held in
-    let slot : slot_of c.args.p.now c.args.old ≡ Some c.in-Some.k = sym c.in-Some.ensures.slot in
-    let taken : (not (bytes_eq c.args.old c.args.name) && is_some (slot_of c.args.p.now c.args.name)) ≡ false = cc in
+    let slot : slot_found c.args.p.now c.args.old ≡ Some c.in-Some.k = sym c.in-Some.ensures.slot in
+    let taken : (not (bytes_eq c.args.old c.args.name) && is_some (slot_found c.args.p.now c.args.name)) ≡ false = cc in
     let goes : reused_place c.args.p.now c.args.old c.args.name ≡ Some c.in-Some-new_place.to = sym c.in-Some-new_place.ensures in
-    let start : c.entry_at-was.result.start ≡ start_of Narrow (row c.args.p.now c.in-Some.k) = ap (λ (e : Entry). e.start) c.entry_at-was.ensures.value ∙ entry_start c.args.p.now c.in-Some.k in
-    let end : c.entry_at-was.result.end ≡ end_of Narrow (row c.args.p.now c.in-Some.k) = ap (λ (e : Entry). e.end) c.entry_at-was.ensures.value ∙ entry_end c.args.p.now c.in-Some.k in
-    let ready = Ready-from c.args.p.now c.is_taken.ensures.good c.args.old c.args.name c.in-Some.k c.in-Some-new_place.to slot taken goes in
-    let same : index_of c.put_row.new.p ≡ index_of c.args.p.now = ap index_of (c.put_row.ensures ∙ ap (put_row c.args.p.now c.in-Some.k) c.gone_slot.ensures) ∙ gone_index-same c.args.p.now c.is_taken.ensures.good c.args.old c.in-Some.k c.in-Some.ensures.held in
+    let start : c.entry_at-was.result.start ≡ slot_start Narrow (row c.args.p.now c.in-Some.k) = ap (λ (e : Entry). e.start) c.entry_at-was.ensures.value ∙ entry_start c.args.p.now c.in-Some.k in
+    let end : c.entry_at-was.result.end ≡ slot_end Narrow (row c.args.p.now c.in-Some.k) = ap (λ (e : Entry). e.end) c.entry_at-was.ensures.value ∙ entry_end c.args.p.now c.in-Some.k in
+    let ready = Ready-from c.args.p.now c.is_name_taken.ensures.good c.args.old c.args.name c.in-Some.k c.in-Some-new_place.to slot taken goes in
+    let same : index_of c.put_row.new.p ≡ index_of c.args.p.now = ap index_of (c.put_row.ensures ∙ ap (put_row c.args.p.now c.in-Some.k) c.gone_slot.ensures) ∙ gone_index-same c.args.p.now c.is_name_taken.ensures.good c.args.old c.in-Some.k c.in-Some.ensures.held in
     omega (arith, same, ready.high)
 
 pub put_row-requires-2-clause-good : goal.put_row-requires-2-clause-good
 put_row-requires-2-clause-good c =
     let k = c.in-Some.k in
-    let good = c.is_taken.ensures.good in
+    let good = c.is_name_taken.ensures.good in
     let at = c.in-Some.ensures.held in
-    let slot : slot_of c.args.p.now c.args.old ≡ Some c.in-Some.k = sym c.in-Some.ensures.slot in
-    let taken : (not (bytes_eq c.args.old c.args.name) && is_some (slot_of c.args.p.now c.args.name)) ≡ false = cc in
+    let slot : slot_found c.args.p.now c.args.old ≡ Some c.in-Some.k = sym c.in-Some.ensures.slot in
+    let taken : (not (bytes_eq c.args.old c.args.name) && is_some (slot_found c.args.p.now c.args.name)) ≡ false = cc in
     let goes : reused_place c.args.p.now c.args.old c.args.name ≡ Some c.in-Some-new_place.to = sym c.in-Some-new_place.ensures in
-    let start : c.entry_at-was.result.start ≡ start_of Narrow (row c.args.p.now c.in-Some.k) = ap (λ (e : Entry). e.start) c.entry_at-was.ensures.value ∙ entry_start c.args.p.now c.in-Some.k in
-    let end : c.entry_at-was.result.end ≡ end_of Narrow (row c.args.p.now c.in-Some.k) = ap (λ (e : Entry). e.end) c.entry_at-was.ensures.value ∙ entry_end c.args.p.now c.in-Some.k in
-    let ready = Ready-from c.args.p.now c.is_taken.ensures.good c.args.old c.args.name c.in-Some.k c.in-Some-new_place.to slot taken goes in
-    rw c.put_row.ensures (subst (λ (xs : List ℕ). Good Narrow xs) (sym (reused_made c.args.p.now c.gone_slot.result c.file_slot-slot.result c.args.name c.in-Some.k c.in-Some-new_place.to c.entry_at-was.result.start c.entry_at-was.result.end c.args.program c.gone_slot.ensures c.file_slot-slot.ensures.value start end)) (reused_good c.args.p.now c.is_taken.ensures.good c.args.old c.in-Some.k c.in-Some.ensures.held c.args.name c.file_slot-slot.ensures.legal c.file_slot-slot.ensures.len ready.alone c.in-Some-new_place.to ready.low ready.high ready.vacant ready.clear c.args.program))
+    let start : c.entry_at-was.result.start ≡ slot_start Narrow (row c.args.p.now c.in-Some.k) = ap (λ (e : Entry). e.start) c.entry_at-was.ensures.value ∙ entry_start c.args.p.now c.in-Some.k in
+    let end : c.entry_at-was.result.end ≡ slot_end Narrow (row c.args.p.now c.in-Some.k) = ap (λ (e : Entry). e.end) c.entry_at-was.ensures.value ∙ entry_end c.args.p.now c.in-Some.k in
+    let ready = Ready-from c.args.p.now c.is_name_taken.ensures.good c.args.old c.args.name c.in-Some.k c.in-Some-new_place.to slot taken goes in
+    rw c.put_row.ensures (subst (λ (xs : List ℕ). Good Narrow xs) (sym (reused_made c.args.p.now c.gone_slot.result c.file_slot-slot.result c.args.name c.in-Some.k c.in-Some-new_place.to c.entry_at-was.result.start c.entry_at-was.result.end c.args.program c.gone_slot.ensures c.file_slot-slot.ensures.value start end)) (reused_good c.args.p.now c.is_name_taken.ensures.good c.args.old c.in-Some.k c.in-Some.ensures.held c.args.name c.file_slot-slot.ensures.legal c.file_slot-slot.ensures.len ready.alone c.in-Some-new_place.to ready.low ready.high ready.vacant ready.clear c.args.program))
 
 pub returns-clause-ok : goal.returns-clause-ok
 returns-clause-ok c =
     let k = c.in-Some.k in
-    let good = c.is_taken.ensures.good in
+    let good = c.is_name_taken.ensures.good in
     let at = c.in-Some.ensures.held in
-    let slot : slot_of c.args.p.now c.args.old ≡ Some c.in-Some.k = sym c.in-Some.ensures.slot in
-    let taken : (not (bytes_eq c.args.old c.args.name) && is_some (slot_of c.args.p.now c.args.name)) ≡ false = cc in
+    let slot : slot_found c.args.p.now c.args.old ≡ Some c.in-Some.k = sym c.in-Some.ensures.slot in
+    let taken : (not (bytes_eq c.args.old c.args.name) && is_some (slot_found c.args.p.now c.args.name)) ≡ false = cc in
     let goes : reused_place c.args.p.now c.args.old c.args.name ≡ Some c.in-Some-new_place.to = sym c.in-Some-new_place.ensures in
-    let start : c.entry_at-was.result.start ≡ start_of Narrow (row c.args.p.now c.in-Some.k) = ap (λ (e : Entry). e.start) c.entry_at-was.ensures.value ∙ entry_start c.args.p.now c.in-Some.k in
-    let end : c.entry_at-was.result.end ≡ end_of Narrow (row c.args.p.now c.in-Some.k) = ap (λ (e : Entry). e.end) c.entry_at-was.ensures.value ∙ entry_end c.args.p.now c.in-Some.k in
+    let start : c.entry_at-was.result.start ≡ slot_start Narrow (row c.args.p.now c.in-Some.k) = ap (λ (e : Entry). e.start) c.entry_at-was.ensures.value ∙ entry_start c.args.p.now c.in-Some.k in
+    let end : c.entry_at-was.result.end ≡ slot_end Narrow (row c.args.p.now c.in-Some.k) = ap (λ (e : Entry). e.end) c.entry_at-was.ensures.value ∙ entry_end c.args.p.now c.in-Some.k in
     let dead : (entry_at c.args.p.now c.in-Some.k).live ≡ false = sym (ap (λ (e : Entry). e.live) c.entry_at-was.ensures.value) ∙ c.if-was.false in
-    let there = get-at c.args.p.now c.is_taken.ensures.good c.args.old c.in-Some.k c.in-Some.ensures.held in (
+    let there = get-at c.args.p.now c.is_name_taken.ensures.good c.args.old c.in-Some.k c.in-Some.ensures.held in (
       reuse_later c.args.p.now c.args.old c.args.name taken
           ∙ ap (λ (o : Option Entry). old_refusal o (not (bytes_eq c.args.old c.args.name) && is_none (place c.args.p.now c.args.name))) there
           ∙ old_taken (entry_at c.args.p.now c.in-Some.k) _ dead (reuse_room c.args.p.now c.args.old c.args.name c.in-Some-new_place.to goes),
@@ -152,26 +152,26 @@ returns-clause-ok c =
 pub returns-clause-catalogue : goal.returns-clause-catalogue
 returns-clause-catalogue c =
     let k = c.in-Some.k in
-    let good = c.is_taken.ensures.good in
+    let good = c.is_name_taken.ensures.good in
     let at = c.in-Some.ensures.held in
-    let slot : slot_of c.args.p.now c.args.old ≡ Some c.in-Some.k = sym c.in-Some.ensures.slot in
-    let taken : (not (bytes_eq c.args.old c.args.name) && is_some (slot_of c.args.p.now c.args.name)) ≡ false = cc in
+    let slot : slot_found c.args.p.now c.args.old ≡ Some c.in-Some.k = sym c.in-Some.ensures.slot in
+    let taken : (not (bytes_eq c.args.old c.args.name) && is_some (slot_found c.args.p.now c.args.name)) ≡ false = cc in
     let goes : reused_place c.args.p.now c.args.old c.args.name ≡ Some c.in-Some-new_place.to = sym c.in-Some-new_place.ensures in
-    let start : c.entry_at-was.result.start ≡ start_of Narrow (row c.args.p.now c.in-Some.k) = ap (λ (e : Entry). e.start) c.entry_at-was.ensures.value ∙ entry_start c.args.p.now c.in-Some.k in
-    let end : c.entry_at-was.result.end ≡ end_of Narrow (row c.args.p.now c.in-Some.k) = ap (λ (e : Entry). e.end) c.entry_at-was.ensures.value ∙ entry_end c.args.p.now c.in-Some.k in
-    let ready = Ready-from c.args.p.now c.is_taken.ensures.good c.args.old c.args.name c.in-Some.k c.in-Some-new_place.to slot taken goes in
+    let start : c.entry_at-was.result.start ≡ slot_start Narrow (row c.args.p.now c.in-Some.k) = ap (λ (e : Entry). e.start) c.entry_at-was.ensures.value ∙ entry_start c.args.p.now c.in-Some.k in
+    let end : c.entry_at-was.result.end ≡ slot_end Narrow (row c.args.p.now c.in-Some.k) = ap (λ (e : Entry). e.end) c.entry_at-was.ensures.value ∙ entry_end c.args.p.now c.in-Some.k in
+    let ready = Ready-from c.args.p.now c.is_name_taken.ensures.good c.args.old c.args.name c.in-Some.k c.in-Some-new_place.to slot taken goes in
     ap catalogue (c.put_row-2.ensures ∙ ap (λ (xs : List ℕ). put_row xs c.in-Some-new_place.to c.file_slot-slot.result) c.put_row.ensures ∙ reused_made c.args.p.now c.gone_slot.result c.file_slot-slot.result c.args.name c.in-Some.k c.in-Some-new_place.to c.entry_at-was.result.start c.entry_at-was.result.end c.args.program c.gone_slot.ensures c.file_slot-slot.ensures.value start end)
-    ∙ catalogue-reused c.args.p.now c.is_taken.ensures.good c.args.old c.in-Some.k c.in-Some.ensures.held c.args.name c.file_slot-slot.ensures.legal c.file_slot-slot.ensures.len ready.alone c.in-Some-new_place.to ready.low ready.high ready.vacant ready.clear c.args.program
+    ∙ catalogue-reused c.args.p.now c.is_name_taken.ensures.good c.args.old c.in-Some.k c.in-Some.ensures.held c.args.name c.file_slot-slot.ensures.legal c.file_slot-slot.ensures.len ready.alone c.in-Some-new_place.to ready.low ready.high ready.vacant ready.clear c.args.program
     ∙ ap (λ (x : Entry). insert (remove (catalogue c.args.p.now) c.args.old) c.args.name (record x { name = c.args.name; live = true; program = c.args.program })) (sym c.entry_at-was.ensures.value)
 
 pub returns-clause-image : goal.returns-clause-image
 returns-clause-image c =
     let k = c.in-Some.k in
-    let good = c.is_taken.ensures.good in
+    let good = c.is_name_taken.ensures.good in
     let at = c.in-Some.ensures.held in
-    let slot : slot_of c.args.p.now c.args.old ≡ Some c.in-Some.k = sym c.in-Some.ensures.slot in
-    let taken : (not (bytes_eq c.args.old c.args.name) && is_some (slot_of c.args.p.now c.args.name)) ≡ false = cc in
+    let slot : slot_found c.args.p.now c.args.old ≡ Some c.in-Some.k = sym c.in-Some.ensures.slot in
+    let taken : (not (bytes_eq c.args.old c.args.name) && is_some (slot_found c.args.p.now c.args.name)) ≡ false = cc in
     let goes : reused_place c.args.p.now c.args.old c.args.name ≡ Some c.in-Some-new_place.to = sym c.in-Some-new_place.ensures in
-    let start : c.entry_at-was.result.start ≡ start_of Narrow (row c.args.p.now c.in-Some.k) = ap (λ (e : Entry). e.start) c.entry_at-was.ensures.value ∙ entry_start c.args.p.now c.in-Some.k in
-    let end : c.entry_at-was.result.end ≡ end_of Narrow (row c.args.p.now c.in-Some.k) = ap (λ (e : Entry). e.end) c.entry_at-was.ensures.value ∙ entry_end c.args.p.now c.in-Some.k in
+    let start : c.entry_at-was.result.start ≡ slot_start Narrow (row c.args.p.now c.in-Some.k) = ap (λ (e : Entry). e.start) c.entry_at-was.ensures.value ∙ entry_start c.args.p.now c.in-Some.k in
+    let end : c.entry_at-was.result.end ≡ slot_end Narrow (row c.args.p.now c.in-Some.k) = ap (λ (e : Entry). e.end) c.entry_at-was.ensures.value ∙ entry_end c.args.p.now c.in-Some.k in
     rw (goes, slot) (c.put_row-2.ensures ∙ ap (λ (xs : List ℕ). put_row xs c.in-Some-new_place.to c.file_slot-slot.result) c.put_row.ensures ∙ reused_made c.args.p.now c.gone_slot.result c.file_slot-slot.result c.args.name c.in-Some.k c.in-Some-new_place.to c.entry_at-was.result.start c.entry_at-was.result.end c.args.program c.gone_slot.ensures c.file_slot-slot.ensures.value start end)

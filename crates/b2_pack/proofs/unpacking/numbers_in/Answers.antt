@@ -12,13 +12,13 @@ returns-then-width-from-clause-code c =
 
 pub returns-in-Err-clause-code : goal.returns-in-Err-clause-code
 returns-in-Err-clause-code c =
-    numbers-err c.args.row c.loop.at c.args.n c.loop.counter c.row_length-width.result c.args.from.now c.row_number.result c.loop.xs.items c.in-Err.code _
-    c.loop-test.true c.row_length-width.ensures.width (omega arith) c.row_number.ensures c.in-Err.is c.loop.invariant.read
+    numbers-err c.args.row c.loop.at c.args.n c.loop.counter c.row_length-width.result c.args.from.now c.number_of_row.result c.loop.xs.items c.in-Err.code _
+    c.loop-test.true c.row_length-width.ensures.width (omega arith) c.number_of_row.ensures c.in-Err.is c.loop.invariant.read
 
 pub loop-preserved : goal.loop-preserved
 loop-preserved c = record {
   inside = omega arith;
   read =
-      numbers-ok c.args.row c.loop.at c.args.n c.loop.counter c.row_length-width.result c.args.from.now c.row_number.result c.loop.xs.items _ c.in-Ok.x _
-      c.loop-test.true c.row_length-width.ensures.width (omega arith) c.row_number.ensures c.in-Ok.is c.in_ok-add-in-Ok.ensures c.loop.invariant.read;
+      numbers-ok c.args.row c.loop.at c.args.n c.loop.counter c.row_length-width.result c.args.from.now c.number_of_row.result c.loop.xs.items _ c.in-Ok.x _
+      c.loop-test.true c.row_length-width.ensures.width (omega arith) c.number_of_row.ensures c.in-Ok.is c.in_ok-add-in-Ok.ensures c.loop.invariant.read;
 }

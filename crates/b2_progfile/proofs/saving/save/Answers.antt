@@ -6,7 +6,7 @@ use Rattle.b2_catalog.specs.declared.entry.Entry.{Entry}
 use Rattle.b2_catalog.specs.Catalogue.{Catalogue, catalogue}
 use Rattle.b2_progfile.specs.Programs.{SpellsProgram, program_bytes}
 use Rattle.b2_catalog.specs.Making.{Made, files_without}
-use Rattle.b2_progfile.specs.Saving.{file_filled, lines_within, pieces_count, pieces_of, program_sectors, save_refusal}
+use Rattle.b2_progfile.specs.Saving.{file_filled, lines_within, pieces_count, text_sectors, program_sectors, save_refusal}
 use Rattle.b2_catalog.proofs.DataSectors.{get-put}
 use Rattle.b2_catalog.proofs.MadeFiles.{put-twice}
 use Rattle.b2_progfile.proofs.Pieces.{pieces-length, program-spelled}
@@ -26,7 +26,7 @@ returns-in-Ok-clause-image c =
       e = c.in-Ok.e;
       between = c.make_program_file.new.p;
       made = subst (λ (n : ℕ). Made c.args.p.now c.args.old c.args.name true (n + 1) c.make_program_file.new.p c.in-Ok.e) n c.in-Ok.ensures.made;
-      same = c.fill_program_file.ensures.image ∙ ap (λ (b : List ℕ). file_filled c.make_program_file.new.p c.in-Ok.e.start c.in-Ok.e.end (pieces_of b)) (c.deref-in-Ok.ensures.value ∙ c.in_ok-bytes.ensures.bytes);
+      same = c.fill_program_file.ensures.image ∙ ap (λ (b : List ℕ). file_filled c.make_program_file.new.p c.in-Ok.e.start c.in-Ok.e.end (text_sectors b)) (c.deref-in-Ok.ensures.value ∙ c.in_ok-bytes.ensures.bytes);
     }
 
 pub returns-in-Ok-clause-file : goal.returns-in-Ok-clause-file
@@ -36,7 +36,7 @@ returns-in-Ok-clause-file c =
     rw there (record {
       live = c.in-Ok.ensures.live;
       kind = c.in-Ok.ensures.kind;
-      spelled = subst (SpellsProgram lines) (sym (c.fill_program_file.ensures.there ∙ ap pieces_of (c.deref-in-Ok.ensures.value ∙ c.in_ok-bytes.ensures.bytes))) (program-spelled lines c.in_ok-bytes.ensures.ascending);
+      spelled = subst (SpellsProgram lines) (sym (c.fill_program_file.ensures.there ∙ ap text_sectors (c.deref-in-Ok.ensures.value ∙ c.in_ok-bytes.ensures.bytes))) (program-spelled lines c.in_ok-bytes.ensures.ascending);
     })
 
 pub returns-in-Ok-clause-there : goal.returns-in-Ok-clause-there

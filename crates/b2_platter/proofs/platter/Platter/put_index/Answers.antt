@@ -8,13 +8,13 @@ use Rattle.b2_platter.proofs.Goodness.{most_of_good, sectors_of_good}
 use Rattle.b2_platter.proofs.Fresh.{formatted_good, length-formatted}
 use Rattle.b2_platter.proofs.platter.Platter.put_index.Goals as goal
 
-pub head-head-requires-clause-total_fits : goal.head-head-requires-clause-total_fits
-head-head-requires-clause-total_fits c =
+pub image_head-image_head-requires-clause-total_fits : goal.image_head-image_head-requires-clause-total_fits
+image_head-image_head-requires-clause-total_fits c =
     let most : total_of Narrow c.args.self.now ≤ 32512 = rw (← c.self.view_is) (most_of_good Narrow c.self.inside.bytes.items c.self.invariant) in
     omega (arith, most, c.sectors.ensures.value)
 
-pub head-head-requires-clause-end_fits : goal.head-head-requires-clause-end_fits
-head-head-requires-clause-end_fits c =
+pub image_head-image_head-requires-clause-end_fits : goal.image_head-image_head-requires-clause-end_fits
+image_head-image_head-requires-clause-end_fits c =
     let most : total_of Narrow c.args.self.now ≤ 32512 = rw (← c.self.view_is) (most_of_good Narrow c.self.inside.bytes.items c.self.invariant) in
     omega (arith, most, c.requires.within)
 
@@ -22,7 +22,7 @@ pub invariant_of-self : goal.invariant_of-self
 invariant_of-self c =
     let image = c.self.inside.bytes.items in
     let can : CanFormat Narrow image c.args.index c.args.end = rw c.self.view_is c.requires in
-    let made : c.clear.new.bytes ≡ formatted Narrow image c.args.index c.args.end = c.clear.ensures ∙ rw (c.head-head.ensures, c.deref_mut.ensures.value, c.sectors.ensures.value, ← c.self.view_is) refl in
+    let made : c.clear.new.bytes ≡ formatted Narrow image c.args.index c.args.end = c.clear.ensures ∙ rw (c.image_head-image_head.ensures, c.deref_mut.ensures.value, c.sectors.ensures.value, ← c.self.view_is) refl in
     let whole = sectors_of_good Narrow image c.self.invariant in
     let room : 256 * c.args.index ≤ length image = omega (arith, whole, can.order, can.within) in
     let all : length c.clear.new.bytes ≡ length image = ap length made ∙ length-formatted Narrow image c.args.index c.args.end can.some room in

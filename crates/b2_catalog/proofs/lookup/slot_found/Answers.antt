@@ -3,7 +3,7 @@ use Rattle.std.specs.Prelude.{is_some}
 use Rattle.b2_platter.specs.Image.{has_free}
 use Rattle.b2_catalog.specs.Ways.{slot_in}
 use Rattle.b2_catalog.proofs.Finding.{walk_here, walk_free, walk_more, hit_here, hit_free}
-use Rattle.b2_catalog.proofs.lookup.slot_of.Goals as goal
+use Rattle.b2_catalog.proofs.lookup.slot_found.Goals as goal
 
 pub loop-j-preserved : goal.loop-j-preserved
 loop-j-preserved g c =

@@ -1,5 +1,5 @@
 use Rattle.b2_platter.proofs.Heads.{head_made}
-use Rattle.b2_platter.proofs.edits.head.Goals as goal
+use Rattle.b2_platter.proofs.edits.image_head.Goals as goal
 
 pub returns : goal.returns
 returns c =

@@ -2,7 +2,7 @@ use Rattle.std.proofs.Common.{◌≡◌, true, sym, ◌∙◌}
 use Rattle.b2_pack.specs.Nibbles.{nibbles}
 use Rattle.b2_pack.specs.Rows.{are_digits}
 use Rattle.b2_pack.proofs.RowLemmas.{decimal-digits}
-use Rattle.b2_pack.proofs.rows.row_number.Goals as goal
+use Rattle.b2_pack.proofs.rows.number_of_row.Goals as goal
 
 pub digits_number-requires-clause-decimal : goal.digits_number-requires-clause-decimal
 digits_number-requires-clause-decimal c =

@@ -2,7 +2,7 @@ use Rattle.b2_platter.specs.Image.{has_free}
 use Rattle.std.proofs.Common.{◌+◌}
 use Rattle.b2_catalog.specs.Ways.{slot_in, way, way_of, found_along}
 use Rattle.b2_catalog.proofs.Finding.{Walks}
-use Rattle.b2_catalog.proofs.lookup.slot_of.Given as goal
+use Rattle.b2_catalog.proofs.lookup.slot_found.Given as goal
 
 abbrev pub invariant-loop-j : goal.invariant-loop-j
 invariant-loop-j g l =

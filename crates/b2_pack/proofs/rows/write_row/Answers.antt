@@ -2,7 +2,7 @@ use Rattle.std.proofs.Common.{◌+◌, ◌*◌, ◌<◌, ◌++◌, ◌∷◌, []
 use Rattle.std.proofs.lemmas.List.{take_more_set, take_all, take_more}
 use Rattle.b2_pack.specs.Rows.{row_bytes}
 use Rattle.b2_pack.proofs.RowLemmas.{row_byte, row_bytes-length}
-use Rattle.b2_pack.proofs.rows.put_row.Goals as goal
+use Rattle.b2_pack.proofs.rows.write_row.Goals as goal
 
 pub loop-i-preserved : goal.loop-i-preserved
 loop-i-preserved c =

@@ -2,7 +2,7 @@ use Rattle.std.proofs.Common.{◌∙◌, ap}
 use Rattle.b2_text.specs.Program.{TextState}
 use Rattle.b2_progfile.specs.Loading.{merged}
 use Rattle.b2_progfile.proofs.Merging.{merged-alone}
-use Rattle.b2_progfile.proofs.loading.copied.Goals as goal
+use Rattle.b2_progfile.proofs.loading.text_copied.Goals as goal
 
 pub returns : goal.returns
 returns c =
