@@ -7,7 +7,7 @@ use Rattle.b2_dec.specs.declared.number.Mode.TheVariants.{Round}
 use Rattle.b2_flow.specs.declared.frame.Place.{Place}
 use Rattle.b2_vars.specs.Tables.{VarsState}
 use Rattle.b2_access.specs.declared.private.Private.{Private}
-use Rattle.b2_access.specs.declared.setting.Setting.{Setting}
+use Rattle.b2_vars.specs.declared.setting.Setting.{Setting}
 
 -- the address of the terminal
 abbrev pub terminal_address : List ℕ

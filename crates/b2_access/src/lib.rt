@@ -41,5 +41,5 @@ pub use placed::{line_named, statement_at, statement_on};
 pub use places::{goal_place, place_after};
 pub use planned::{Outcome, Planned};
 pub use private::Private;
-pub use setting::{Setting, setting_of};
+pub use setting::setting_of;
 pub use shared::Shared;

@@ -1,25 +1,11 @@
-// What expressions look at beside variables and texts.
+// What the expressions of a partition look at beside its variables and a text.
 ghost use Rattle.std.specs.Prelude.{◌≡◌};
 ghost use Rattle.b2_access.specs.Partition.{setting_of};
 
 use crate::private::Private;
-use b2_base::{Part, Term};
-use b2_dec::Mode;
+use b2_vars::Setting;
 
-/// What expressions look at beside variables and a text.
-#[derive(Clone, Copy, Debug, PartialEq, Eq)]
-pub struct Setting {
-    /// How results become numbers.
-    pub mode: Mode,
-    /// The last code, 0 for none.
-    pub last: u8,
-    /// The partition.
-    pub part: Part,
-    /// Its terminal.
-    pub term: Term,
-}
-
-/// What a partition's expressions look at beside its variables and the text.
+/// What a partition's expressions look at beside its variables and a text.
 pub fn setting_of(me: &Private) -> Setting
     ensures { result ≡ setting_of me.now }
 {

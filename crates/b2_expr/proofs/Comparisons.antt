@@ -32,7 +32,7 @@ use Rattle.b2_expr.specs.Scope.{Context}
 use Rattle.b2_expr.specs.Value.{value, text}
 use Rattle.b2_expr.specs.declared.operators.Level.TheVariants as level
 use Rattle.b2_expr.proofs.Operands.{sign_at, sign_size, other_at}
-use Rattle.b2_expr.proofs.RowsRead.{stands_of}
+use Rattle.b2_rows.proofs.RowsRead.{stands_of}
 
 -- a chain of comparisons
 pub truth_first : (t : Text) → is_part row.CONDITION t ≡ true → is_part row.COMPARISON t ≡ true

@@ -37,7 +37,7 @@ use Rattle.b2_expr.specs.Scope.{Surroundings, Context}
 use Rattle.b2_expr.specs.Value.{value, called, applied, function_tree}
 use Rattle.b2_expr.specs.declared.scope.Parameter.{Parameter}
 use Rattle.b2_expr.specs.declared.operators.Level.TheVariants as level
-use Rattle.b2_expr.proofs.RowsRead.{stands_of}
+use Rattle.b2_rows.proofs.RowsRead.{stands_of}
 
 -- a unit that begins as a function is read as one
 same_row : (m n : ℕ) (b c : Bool) → b ≡ true → b ≡ ((m == n) && c) → m ≡ n

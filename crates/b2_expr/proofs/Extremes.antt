@@ -26,7 +26,7 @@ use Rattle.b2_expr.specs.Scope.{Context}
 use Rattle.b2_expr.specs.Value.{value, extremes}
 use Rattle.b2_expr.specs.declared.operators.Level.TheVariants as level
 use Rattle.b2_expr.proofs.Names.{second_shorter}
-use Rattle.b2_expr.proofs.RowsRead.{stands_of}
+use Rattle.b2_rows.proofs.RowsRead.{stands_of}
 
 -- the row at which k more numbers may begin
 abbrev further_row : ℕ → ℕ

@@ -1,4 +1,3 @@
-pub mod RowsRead
 pub mod Chains
 pub mod Factors
 pub mod Climbs
@@ -15,3 +14,4 @@ pub mod OperationRows
 pub mod Portions
 pub mod Reaching
 pub mod Passed
+pub mod Ended

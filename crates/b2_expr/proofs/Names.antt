@@ -36,7 +36,7 @@ use Rattle.b2_rows.specs.declared.operands.Operand.TheVariants as kind
 use Rattle.b2_expr.specs.declared.named.NameKind.{NameKind}
 use Rattle.b2_expr.specs.declared.named.NameKind.TheVariants as name_kind
 use Rattle.b2_expr.specs.declared.operators.Level.TheVariants as level
-use Rattle.b2_expr.proofs.RowsRead.{stands_of}
+use Rattle.b2_rows.proofs.RowsRead.{stands_of}
 
 -- whether a sign stands where a part begins
 begins : (c : ℕ) (t : Text) (b : Bool) → (first t == c) ≡ b → starts Atoms (start.Code c) t ≡ b

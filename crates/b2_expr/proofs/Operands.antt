@@ -29,7 +29,7 @@ use Rattle.b2_expr.specs.Value.{value, operand, text, second, extremes, literal_
 use Rattle.b2_expr.specs.declared.operators.Level.TheVariants as level
 use Rattle.b2_rows.specs.declared.operands.Operand.TheVariants as kind
 use Rattle.b2_expr.specs.Further.{are_further, further_tree, after_further}
-use Rattle.b2_expr.proofs.RowsRead.{stands_of, shorter_at, shorter_among}
+use Rattle.b2_rows.proofs.RowsRead.{stands_of, shorter_at, shorter_among}
 use Rattle.b2_expr.proofs.Extremes.{numbers_front, numbers_further, numbers_tree, numbers_gives, numbers_rest}
 
 -- an expression in parentheses

@@ -26,8 +26,8 @@ use Rattle.b2_expr.specs.Scope.{Context}
 use Rattle.b2_expr.specs.Value.{text}
 use Rattle.b2_expr.specs.declared.operations.AlphaOperator.TheVariants as op
 use Rattle.b2_expr.specs.declared.operations.Operation.{Operation}
-use Rattle.b2_expr.proofs.RowsRead.{stands_of, shorter_among}
-use Rattle.b2_expr.proofs.Pairs.{also_done}
+use Rattle.b2_rows.proofs.RowsRead.{stands_of, shorter_among}
+use Rattle.b2_rows.proofs.ListEnds.{also_done}
 
 twice : (t : Text) → drop 1 (drop 1 t) ≡ drop 2 t
 twice [] = refl

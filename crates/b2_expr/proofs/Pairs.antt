@@ -18,12 +18,8 @@ use Rattle.b2_rows.specs.Values.{hex_byte_of}
 use Rattle.b2_rows.proofs.Lists.{goes, ended}
 use Rattle.b2_expr.specs.Answers.{TextAnswer}
 use Rattle.b2_expr.specs.Value.{pairs_of, pair_bytes}
-use Rattle.b2_expr.proofs.RowsRead.{stands_of, part_short}
-
-pub also_done : (a : Trees) → also a Done ≡ a
-also_done Done = refl
-also_done (Put t a) = ap (Put t) (also_done a)
-also_done (In n i a) = ap (In n i) (also_done a)
+use Rattle.b2_rows.proofs.RowsRead.{stands_of, part_short}
+use Rattle.b2_rows.proofs.ListEnds.{also_done}
 
 two_wide : (b : Bool) → nat_lt 0 (if b then 2 else 0) ≡ true → ◌≡◌ {A = ℕ} (if b then 2 else 0) 2
 two_wide true h = refl

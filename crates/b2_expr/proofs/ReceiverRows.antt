@@ -32,7 +32,7 @@ use Rattle.b2_expr.specs.Value.{value, second, located}
 use Rattle.b2_expr.specs.declared.operators.Level.TheVariants as level
 use Rattle.b2_expr.specs.declared.receiver.Receiver.TheVariants as receiver_kind
 use Rattle.b2_expr.specs.declared.receiver.Buffer.TheVariants as buffer_kind
-use Rattle.b2_expr.proofs.RowsRead.{stands_of}
+use Rattle.b2_rows.proofs.RowsRead.{stands_of}
 use Rattle.b2_expr.proofs.Texts.{part_items, part_row, argument_tree, from_at}
 
 -- numbers, and all bytes of a value

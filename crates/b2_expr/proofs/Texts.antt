@@ -34,7 +34,7 @@ use Rattle.b2_expr.specs.Scope.{Context}
 use Rattle.b2_expr.specs.Value.{value, text, further_text, text_row, text_operand, second, located, part_of, text_of_place, literal_bytes, hex_bytes, pairs_of}
 use Rattle.b2_rows.specs.declared.operands.AlphaOperand.TheVariants as alpha_kind
 use Rattle.b2_expr.specs.declared.operators.Level.TheVariants as level
-use Rattle.b2_expr.proofs.RowsRead.{stands_of, shorter_at}
+use Rattle.b2_rows.proofs.RowsRead.{stands_of, shorter_at}
 use Rattle.b2_expr.proofs.Names.{one_first, one_second, one_tree, one_rest}
 
 -- a chain of operands

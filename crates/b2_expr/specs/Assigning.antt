@@ -125,3 +125,12 @@ abbrev pub ChangesBuffer : (List ℕ → List ℕ → Type 0) → Buffer → Var
 ChangesBuffer gives (buffer_kind.Value to) old new =
     ChangesPart gives to.element.var (part_place to.element.var to.element.row to.element.column to.portion.from (reached_by to old).table) to.portion.count (reached_by to old) new
 ChangesBuffer gives (buffer_kind.Array a) old new = ChangesPart gives a.var 0 (length (variable_at a.var old.table).bytes) old new
+
+-- how an assignment ended: without a code, or with one; where memory failed it did not
+abbrev pub HasCode : Fault → Option ℕ → Type 0
+HasCode (fault.Code c) code = code ≡ Some c
+HasCode fault.NoMemory code = ⊥
+
+abbrev pub EndsWith : Result (Unit {0}) Fault → Option ℕ → Type 0
+EndsWith (Ok done) code = code ≡ None
+EndsWith (Err f) code = HasCode f code

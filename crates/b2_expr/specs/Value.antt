@@ -17,12 +17,14 @@ use Rattle.b2_rows.specs.Links.{token_code, first_code}
 use Rattle.b2_rows.specs.Values.{variable_name, literal_of, hex_byte_of, relation_of}
 use Rattle.b2_rows.specs.declared.leaves.Name.{Name}
 use Rattle.b2_text.specs.Program.{TextState}
+use Rattle.b2_vars.specs.Tables.{VarsState}
+use Rattle.b2_vars.specs.declared.setting.Setting.{Setting}
 use Rattle.b2_text.specs.Spots.{unit_at, is_function, first_opening}
 use Rattle.b2_expr.specs.Answers.{Answer, TextAnswer, ◌>>=◌, or_code}
 use Rattle.b2_expr.specs.Functions.{whole_number, subscript, column_of, counted, of_one, of_two, extreme, of_text, place_of, count_or, number_of, bytes_in, joined_text, fixed}
 use Rattle.b2_expr.specs.Named.{Place, variable_of, variables_of, number_there, bytes_there}
 use Rattle.b2_expr.specs.Operators.{joined, with_sign}
-use Rattle.b2_expr.specs.Scope.{Surroundings, Context, surroundings, hidden_by, kept_number}
+use Rattle.b2_expr.specs.Scope.{Surroundings, Context, surroundings, surroundings_of, hidden_by, kept_number}
 use Rattle.b2_expr.specs.declared.scope.Parameter.{Parameter}
 use Rattle.b2_expr.specs.declared.scope.Scope.{Scope}
 use Rattle.b2_expr.specs.declared.named.Subscripts.{Subscripts}
@@ -242,3 +244,7 @@ context s = record { around = surroundings s.env.now; parameter = s.parameter; c
 -- and one of a statement, in which at most 16 calls may be open
 abbrev pub in_statement : Surroundings → Context
 in_statement e = record { around = e; parameter = None; call = called e 16 }
+
+-- what the expressions of a statement look at, by a setting, variables and the text of the home
+abbrev pub context_of : Setting → VarsState → TextState → Context
+context_of a vars home = in_statement (surroundings_of a vars home)

@@ -1,11 +1,11 @@
 // Assigning to receivers, among the variables in which they were located.
-ghost use Rattle.std.specs.Prelude.{◌≡◌, true, length, OnOk, OnErr};
+ghost use Rattle.std.specs.Prelude.{◌≡◌, true, length, IfOk, OnOk, OnErr};
 ghost use Rattle.std.specs.Fn.{FnOnceReturnsAtMut};
 ghost use Rattle.b2_vars.specs.Answers.{Answers, AnswersOrFails};
 ghost use Rattle.b2_vars.specs.Calls.{IsPart};
 ghost use Rattle.b2_vars.specs.Variables.{is_alpha};
 ghost use Rattle.b2_expr.specs.Assigning as spec;
-ghost use Rattle.b2_expr.specs.Assigning.{ChangesBuffer, Ends, IsThere, assigned_bytes, assigned_number, assigned_side, assigned_value, buffer_code, is_alpha_receiver, is_reached, portion_in, reached_by, receiver_code, with_portion};
+ghost use Rattle.b2_expr.specs.Assigning.{ChangesBuffer, Ends, EndsWith, HasCode, IsThere, assigned_bytes, assigned_number, assigned_side, assigned_value, buffer_code, is_alpha_receiver, is_reached, portion_in, reached_by, receiver_code, with_portion};
 ghost use Rattle.b2_expr.specs.Receivers.{IsAlpha, IsBuffer, IsNamed, IsNumeric};
 ghost use Rattle.b2_expr.specs.RightSide.{side_seen};
 
@@ -15,7 +15,7 @@ use crate::receiver::{AlphaReceiver, Buffer, Receiver};
 use b2_alpha::assign;
 use b2_base::codes::X75_NOT_DECIMAL;
 use b2_base::lexical::{dropped, front};
-use b2_base::{Code, Fault};
+use b2_base::{Code, Fault, NoMemory};
 use b2_dec::{Dec, Value};
 use b2_vars::Vars;
 
@@ -134,6 +134,26 @@ pub fn is_reached(outcome: &Result<(), Fault>) -> bool
     match outcome {
         Ok(()) => true,
         Err(fault) => is_refusal(fault),
+    }
+}
+
+/// The code of a fault, where memory didn't fail.
+pub fn code_of_fault(fault: Fault) -> Result<Option<Code>, NoMemory>
+    ensures { IfOk result (λ code. HasCode fault code) }
+{
+    match fault {
+        Fault::Code(code) => Ok(Some(code)),
+        Fault::NoMemory => Err(NoMemory),
+    }
+}
+
+/// The code with which an assignment ended, None where it ended well, where memory didn't fail.
+pub fn code_of(ended: Result<(), Fault>) -> Result<Option<Code>, NoMemory>
+    ensures { IfOk result (λ code. EndsWith ended code) }
+{
+    match ended {
+        Ok(()) => Ok(None),
+        Err(fault) => code_of_fault(fault),
     }
 }
 

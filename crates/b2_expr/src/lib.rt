@@ -34,15 +34,17 @@ mod tests;
 mod value;
 
 pub use assign::{
-    assign_bytes, assign_number, assign_side, assign_value, buffer_bytes, change_buffer, is_reached,
+    assign_bytes, assign_number, assign_side, assign_value, buffer_bytes, change_buffer, code_of,
+    code_of_fault, is_reached,
 };
+pub use functions::{counted, fixed};
 pub use named::Element;
 pub use operations::{AlphaOperator, Operation, RightSide, is_right_side_read};
 pub use operators::Level;
-pub use passing::{pass_alpha_receiver, pass_any_receiver, pass_number_receiver};
+pub use passing::{past_alpha_receiver, past_any_receiver, past_number_receiver};
 pub use receiver::{AlphaReceiver, Array, Buffer, Portion, Receiver};
 pub use receivers::{
     alpha_receiver, any_receiver, array_named, buffer, number_receiver, right_side, whole_array,
 };
-pub use scope::Env;
+pub use scope::{Env, surroundings_of};
 pub use value::{alpha, condition, number};

@@ -14,8 +14,7 @@ ghost use Rattle.b2_atom.specs.declared.words.Origin.TheVariants.{Atoms};
 use crate::named::NameKind;
 use b2_atom::words::STR_OPEN;
 use b2_atom::{
-    Cursor, Origin, alpha_name_width, literal_width, number_width, numeric_name_width,
-    relation_width,
+    Origin, alpha_name_width, literal_width, number_width, numeric_name_width, relation_width,
 };
 use b2_base::lexical::dropped;
 use b2_rows::{
@@ -326,9 +325,9 @@ fn past_part(text: &[u8]) -> &[u8]
     dropped(past_second(after), 1)
 }
 
-/// Past an alpha receiver.
+/// What stands after an alpha receiver.
 #[tactic(auto, using(crate::proofs::ReceiverRows::alpha_part_here, crate::proofs::ReceiverRows::alpha_part_rest, crate::proofs::ReceiverRows::alpha_whole_here, crate::proofs::ReceiverRows::alpha_whole_rest))]
-fn past_alpha_receiver(text: &[u8]) -> &[u8]
+pub fn past_alpha_receiver(text: &[u8]) -> &[u8]
     requires part { is_part row.ALPHA_RECEIVER text.now ≡ true }
     ensures { result.now ≡ after_part row.ALPHA_RECEIVER text.now }
 {
@@ -339,9 +338,9 @@ fn past_alpha_receiver(text: &[u8]) -> &[u8]
     }
 }
 
-/// Past a receiver of either kind.
+/// What stands after a receiver of either kind.
 #[tactic(auto, using(crate::proofs::ReceiverRows::any_alpha_here, crate::proofs::ReceiverRows::any_alpha_rest, crate::proofs::ReceiverRows::any_number_here, crate::proofs::ReceiverRows::any_number_rest))]
-fn past_any_receiver(text: &[u8]) -> &[u8]
+pub fn past_any_receiver(text: &[u8]) -> &[u8]
     requires part { is_part row.RECEIVER text.now ≡ true }
     ensures { result.now ≡ after_part row.RECEIVER text.now }
 {
@@ -352,26 +351,10 @@ fn past_any_receiver(text: &[u8]) -> &[u8]
     }
 }
 
-/// Moves a cursor past the numeric receiver at which it stands.
-pub fn pass_number_receiver(c: &mut Cursor<'_>)
-    requires part { is_part row.NUMERIC_RECEIVER c.old ≡ true }
-    ensures { c.new ≡ after_part row.NUMERIC_RECEIVER c.old }
+/// What stands after a numeric receiver.
+pub fn past_number_receiver(text: &[u8]) -> &[u8]
+    requires part { is_part row.NUMERIC_RECEIVER text.now ≡ true }
+    ensures { result.now ≡ after_part row.NUMERIC_RECEIVER text.now }
 {
-    *c = Cursor::over(past_name(NameKind::NumberReceiver, c.rest()));
-}
-
-/// Moves a cursor past the alpha receiver at which it stands.
-pub fn pass_alpha_receiver(c: &mut Cursor<'_>)
-    requires part { is_part row.ALPHA_RECEIVER c.old ≡ true }
-    ensures { c.new ≡ after_part row.ALPHA_RECEIVER c.old }
-{
-    *c = Cursor::over(past_alpha_receiver(c.rest()));
-}
-
-/// Moves a cursor past the receiver of either kind at which it stands.
-pub fn pass_any_receiver(c: &mut Cursor<'_>)
-    requires part { is_part row.RECEIVER c.old ≡ true }
-    ensures { c.new ≡ after_part row.RECEIVER c.old }
-{
-    *c = Cursor::over(past_any_receiver(c.rest()));
+    past_name(NameKind::NumberReceiver, text)
 }

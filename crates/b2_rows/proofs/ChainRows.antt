@@ -19,11 +19,7 @@ use Rattle.b2_rows.specs.declared.chains.Chain.TheVariants as chain
 use Rattle.b2_rows.proofs.Standing.{row_stands}
 use Rattle.b2_rows.proofs.Lists.{ended}
 use Rattle.b2_rows.proofs.Links.{OneSign, one_sign, either_sign, sign_linked, among_linked, row_linked, either_linked, further}
-
-also_done : (a : Trees) → also a Done ≡ a
-also_done Done = refl
-also_done (Put t a) = ap (Put t) (also_done a)
-also_done (In n i a) = ap (In n i) (also_done a)
+use Rattle.b2_rows.proofs.ListEnds.{also_done}
 
 chain_is : (c : Chain) → row_items (chain_row c) ≡ Part (front_row c) ∷ Many (more_start c) (more_row c) ∷ []
 unfolding row_items

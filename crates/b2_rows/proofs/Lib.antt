@@ -14,6 +14,9 @@ pub mod Items
 pub mod Standing
 pub mod Lists
 pub mod Lengths
+pub mod RowsRead
+pub mod ListEnds
+pub mod CommaLists
 pub mod Units
 pub mod Optional
 pub mod Digits

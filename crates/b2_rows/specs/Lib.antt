@@ -4,6 +4,7 @@ pub mod Values
 pub mod Takes
 pub mod Links
 pub mod Chains
+pub mod CommaLists
 pub mod Choices
 pub mod Following
 pub mod Laws

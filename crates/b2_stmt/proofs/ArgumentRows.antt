@@ -26,9 +26,10 @@ use Rattle.b2_rows.proofs.Choices.{either_first, either_second}
 use Rattle.b2_rows.proofs.Optional.{maybe_stands, begun_part, begun_tree, left_out_tree}
 use Rattle.b2_expr.specs.Answers.{◌>>=◌}
 use Rattle.b2_expr.specs.Scope.{Context}
-use Rattle.b2_expr.proofs.RowsRead.{stands_of}
+use Rattle.b2_rows.proofs.RowsRead.{stands_of}
 use Rattle.b2_stmt.specs.Arguments.{alpha_argument, argument, arguments, before, number_argument, operands_at, operands_of, other_operands, past_number, past_operand, put_after}
-use Rattle.b2_stmt.proofs.Commas.{IsComma, Other, commas, other, item_shorter, items_of_other, no_items_left}
+use Rattle.b2_rows.proofs.CommaLists.{IsComma, Other, other, item_shorter, items_of_other, no_items_left}
+use Rattle.b2_rows.specs.CommaLists.{commas}
 
 -- an argument of either kind
 alpha_read : (t : Text) → is_part row.OPERAND_OF_ANY_KIND t ≡ true → starts Atoms start.Alpha t ≡ true → ReadAs row.OPERAND_OF_ANY_KIND row.ALPHA first_branch t

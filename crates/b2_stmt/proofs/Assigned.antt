@@ -1,7 +1,5 @@
 -- Assignments to one receiver and to several, and the two kinds of them.
 use Rattle.std.proofs.Common.{◌≡◌, ℕ, true, false, List, ◌∷◌, Result, Ok, Err, Option, Some, None, refl, sym, ap, ◌∙◌}
-use Rattle.b2_base.specs.declared.codes.Fault.{Fault}
-use Rattle.b2_base.specs.declared.codes.Fault.TheVariants as fault
 use Rattle.b2_atom.specs.Words.{Text}
 use Rattle.b2_atom.specs.Tree.{Trees}
 use Rattle.b2_atom.specs.Grammar.{row_items, starts}
@@ -13,15 +11,9 @@ use Rattle.b2_rows.specs.Choices.{ReadAs, first_branch, second_branch}
 use Rattle.b2_rows.proofs.Choices.{either_first, either_second}
 use Rattle.b2_text.specs.Program.{TextState}
 use Rattle.b2_vars.specs.Tables.{VarsState}
-use Rattle.b2_expr.specs.Assigning.{Assigned, Ends}
-use Rattle.b2_stmt.specs.Assignments.{EndsWith, and_then, assign_each, assign_numbers, assign_sides, assigns, unless_coded}
-use Rattle.b2_access.specs.declared.setting.Setting.{Setting}
-
--- what an assignment left and how it ended
-pub ended_so : (a : Assigned) (old new : VarsState) (r : Result (Unit {0}) Fault) (code : Option ℕ) → Ends a old new r → EndsWith r code → record { vars = new; code = code } ≡ a
-ended_so a old new (Ok done) code is ends = ap (λ (v : VarsState). record { vars = v; code = code }) is.1 ∙ ap (λ (o : Option ℕ). record { vars = a.vars; code = o }) (ends ∙ sym is.0)
-ended_so a old new (Err (fault.Code c)) code is ends = ap (λ (v : VarsState). record { vars = v; code = code }) is.1 ∙ ap (λ (o : Option ℕ). record { vars = a.vars; code = o }) (ends ∙ sym is.0)
-ended_so a old new (Err fault.NoMemory) code is ends = absurd ends
+use Rattle.b2_expr.specs.Assigning.{Assigned}
+use Rattle.b2_stmt.specs.Assignments.{and_then, assign_each, assign_numbers, assign_sides, assigns, unless_coded}
+use Rattle.b2_vars.specs.declared.setting.Setting.{Setting}
 
 -- the first receiver, and the others
 pub one_more : (one : Trees → VarsState → Assigned) (t : Trees) (ts : List Trees) (old new : VarsState) (code : Option ℕ) → record { vars = new; code = code } ≡ one t old → code ≡ None

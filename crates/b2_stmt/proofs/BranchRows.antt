@@ -24,7 +24,7 @@ use Rattle.b2_rows.specs.declared.following.Goal.TheVariants as goal
 use Rattle.b2_expr.specs.Answers.{◌>>=◌}
 use Rattle.b2_expr.specs.Condition.{truth}
 use Rattle.b2_expr.specs.Scope.{Context}
-use Rattle.b2_expr.proofs.RowsRead.{stands_of}
+use Rattle.b2_rows.proofs.RowsRead.{stands_of}
 use Rattle.b2_access.specs.declared.planned.Outcome.TheVariants as outcome
 use Rattle.b2_stmt.specs.Branches.{goto_goal, if_goal, passed_function}
 use Rattle.b2_access.specs.Going.{line_in}

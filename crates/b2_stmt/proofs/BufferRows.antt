@@ -18,10 +18,10 @@ use Rattle.b2_atom.specs.declared.forms.Item.TheVariants.{Word, Sign, Typed, Par
 use Rattle.b2_rows.specs.Leaves.{is_leaf, leaf_bytes}
 use Rattle.b2_rows.specs.Rows.{is_part, tree_at, after_part, is_list}
 use Rattle.b2_rows.specs.Values.{hex_byte_of}
-use Rattle.b2_expr.proofs.RowsRead.{stands_of}
-use Rattle.b2_stmt.specs.Assignments.{items_after}
+use Rattle.b2_rows.proofs.RowsRead.{stands_of}
+use Rattle.b2_rows.specs.CommaLists.{further_listed, commas}
 use Rattle.b2_stmt.specs.Buffers.{buffers_of_init, byte_of_init}
-use Rattle.b2_stmt.proofs.Commas.{IsComma, Other, commas, other, tail_at, items_of_other, no_items_left, item_shorter}
+use Rattle.b2_rows.proofs.CommaLists.{IsComma, Other, other, tail_at, items_of_other, no_items_left, item_shorter}
 
 abbrev items : List Item
 items = Word word.INIT_OPEN ∷ Nest row.HEX_PAIR ∷ Sign byte.closing S11_CLOSE ∷ Part row.BUFFER ∷ Many commas row.COMMA_BUFFER ∷ []
@@ -98,15 +98,15 @@ other_part t ok is = Other.part (other row.COMMA_BUFFER row.BUFFER S13_SEPARATOR
 pub other_list : (t : Text) → are_others t ≡ true → (first t == byte.comma) ≡ true → are_others (past_first (drop 1 t)) ≡ true
 other_list t ok is = Other.list (other row.COMMA_BUFFER row.BUFFER S13_SEPARATOR t comma_row ok is)
 
-pub other_items : (t : Text) → are_others t ≡ true → (first t == byte.comma) ≡ true → items_after (left_at t) ≡ tree_at row.BUFFER (drop 1 t) ∷ items_after (left_at (past_first (drop 1 t)))
+pub other_items : (t : Text) → are_others t ≡ true → (first t == byte.comma) ≡ true → further_listed (left_at t) ≡ tree_at row.BUFFER (drop 1 t) ∷ further_listed (left_at (past_first (drop 1 t)))
 other_items t ok is = items_of_other row.COMMA_BUFFER row.BUFFER S13_SEPARATOR Done t comma_row ok is
 
-pub no_items : (t : Text) → (first t == byte.comma) ≡ false → items_after (left_at t) ≡ []
+pub no_items : (t : Text) → (first t == byte.comma) ≡ false → further_listed (left_at t) ≡ []
 no_items t is = no_items_left row.COMMA_BUFFER Done t is
 
 pub buffer_shorter : (t : Text) → (first (past_first t) == byte.comma) ≡ true → length (drop 1 (past_first t)) < length t
 buffer_shorter t is = item_shorter row.BUFFER t is
 
-pub whole_items : (t : Text) → is_part row.INIT t ≡ true → tree_at row.BUFFER (drop 4 t) ∷ items_after (left_at (past_first (drop 4 t))) ≡ buffers_of_init (tree_at row.INIT t)
+pub whole_items : (t : Text) → is_part row.INIT t ≡ true → tree_at row.BUFFER (drop 4 t) ∷ further_listed (left_at (past_first (drop 4 t))) ≡ buffers_of_init (tree_at row.INIT t)
 whole_items t ok =
-    sym (ap buffers_of_init (stands_of row.INIT items t row_is ok).1 ∙ ap (λ (u : Text). tree_at row.BUFFER u ∷ items_after (left_at (past_first u))) (first_is t ok))
+    sym (ap buffers_of_init (stands_of row.INIT items t row_is ok).1 ∙ ap (λ (u : Text). tree_at row.BUFFER u ∷ further_listed (left_at (past_first u))) (first_is t ok))

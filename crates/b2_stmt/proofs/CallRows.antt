@@ -16,7 +16,7 @@ use Rattle.b2_atom.specs.declared.forms.Item.TheVariants.{Word, Typed, Maybe}
 use Rattle.b2_rows.specs.Leaves.{is_leaf}
 use Rattle.b2_rows.specs.Rows.{is_part, tree_at}
 use Rattle.b2_rows.specs.Values.{line_of}
-use Rattle.b2_expr.proofs.RowsRead.{stands_of}
+use Rattle.b2_rows.proofs.RowsRead.{stands_of}
 use Rattle.b2_stmt.specs.Calls.{line_called, has_all}
 
 abbrev gosub_items : List Item

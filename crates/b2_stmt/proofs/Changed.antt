@@ -9,10 +9,9 @@ use Rattle.b2_vars.specs.declared.name.Var.{Var}
 use Rattle.b2_vars.specs.Calls.{ChangesPart, part_place, with_bytes_of}
 use Rattle.b2_vars.specs.Tables.{Table, VarsState, variable_at}
 use Rattle.b2_vars.specs.Variables.{bytes_from}
-use Rattle.b2_expr.specs.Assigning.{ChangesBuffer, buffer_code, reached_by, unless_refused}
+use Rattle.b2_expr.specs.Assigning.{ChangesBuffer, EndsWith, buffer_code, reached_by, unless_refused}
 use Rattle.b2_expr.specs.declared.receiver.Buffer.{Buffer}
 use Rattle.b2_expr.specs.declared.receiver.Buffer.TheVariants as buffer_kind
-use Rattle.b2_stmt.specs.Assignments.{EndsWith}
 use Rattle.b2_stmt.specs.Buffers.{changed, with_changed}
 
 same_state : (a b : VarsState) → a.area ≡ b.area → a.table ≡ b.table → a ≡ b

@@ -25,9 +25,10 @@ use Rattle.b2_expr.specs.Functions.{fixed}
 use Rattle.b2_expr.specs.Scope.{Context}
 use Rattle.b2_expr.specs.Value.{value}
 use Rattle.b2_expr.specs.declared.operators.Level.TheVariants as level
-use Rattle.b2_expr.proofs.RowsRead.{stands_of}
+use Rattle.b2_rows.proofs.RowsRead.{stands_of}
 use Rattle.b2_stmt.specs.Choices.{choice_in, counted_line, lines_after, lines_of}
-use Rattle.b2_stmt.specs.Lines.{commas, lines_at}
+use Rattle.b2_stmt.specs.Lines.{lines_at}
+use Rattle.b2_rows.specs.CommaLists.{commas}
 
 -- a comma and a line
 abbrev comma_items : List Item

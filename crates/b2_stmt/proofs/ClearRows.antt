@@ -20,7 +20,7 @@ use Rattle.b2_rows.specs.Rows.{is_part, tree_at}
 use Rattle.b2_rows.specs.Optional.{maybe_part, maybe_tree}
 use Rattle.b2_rows.specs.Values.{line_of}
 use Rattle.b2_rows.proofs.Optional.{maybe_stands, begun_part, begun_tree, left_out_tree}
-use Rattle.b2_expr.proofs.RowsRead.{stands_of}
+use Rattle.b2_rows.proofs.RowsRead.{stands_of}
 use Rattle.b2_access.specs.declared.accesses.Access.TheVariants as access
 use Rattle.b2_stmt.specs.Clearing.{erases, erases_lines, erases_range, second_line}
 

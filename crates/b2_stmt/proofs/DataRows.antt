@@ -23,9 +23,10 @@ use Rattle.b2_rows.specs.Rows.{is_part, tree_at, after_part, is_list}
 use Rattle.b2_rows.proofs.Choices.{either_first, either_second}
 use Rattle.b2_expr.specs.Answers.{◌>>=◌}
 use Rattle.b2_expr.specs.Value.{literal_value}
-use Rattle.b2_expr.proofs.RowsRead.{part_short, stands_of}
+use Rattle.b2_rows.proofs.RowsRead.{part_short, stands_of}
 use Rattle.b2_stmt.specs.Data.{bytes_at, data_at, datum_value, listed}
-use Rattle.b2_stmt.proofs.Commas.{IsComma, Other, commas, other, items_of_other, no_items_left}
+use Rattle.b2_rows.proofs.CommaLists.{IsComma, Other, other, items_of_other, no_items_left}
+use Rattle.b2_rows.specs.CommaLists.{commas}
 
 -- whether a quote stands there
 begins : (t : Text) (b : Bool) → (first t == byte.quote) ≡ b → starts Atoms (start.Code byte.quote) t ≡ b

@@ -22,7 +22,7 @@ use Rattle.b2_expr.specs.Scope.{Context}
 use Rattle.b2_expr.specs.Value.{branch_of, value}
 use Rattle.b2_expr.specs.declared.operators.Level.TheVariants as level
 use Rattle.b2_expr.proofs.Names.{one_first, one_second, one_tree, one_rest}
-use Rattle.b2_expr.proofs.RowsRead.{stands_of}
+use Rattle.b2_rows.proofs.RowsRead.{stands_of}
 use Rattle.b2_stmt.specs.Dimensions.{array_shape, columns_in, dimension, dimensions_in, length_after, length_alone, lone_shape, most_rows, tested_length, usual_length}
 use Rattle.b2_stmt.proofs.LengthRows.{length_read}
 

@@ -29,11 +29,11 @@ use Rattle.b2_vars.specs.declared.shape.Shape.{Shape}
 use Rattle.b2_expr.specs.Answers.{◌>>=◌, or_code}
 use Rattle.b2_expr.specs.Named.{variable_of}
 use Rattle.b2_expr.specs.Scope.{Context}
-use Rattle.b2_expr.proofs.RowsRead.{stands_of}
-use Rattle.b2_stmt.specs.Assignments.{items_after}
+use Rattle.b2_rows.proofs.RowsRead.{stands_of}
+use Rattle.b2_rows.specs.CommaLists.{further_listed, commas}
 use Rattle.b2_stmt.specs.Dimensions.{array_shape, entries_of, entry_in, entry_of, is_common, length_alone, lone_shape, named_entry, shape_after}
 use Rattle.b2_stmt.specs.declared.dimensions.Entry.{Entry}
-use Rattle.b2_stmt.proofs.Commas.{IsComma, Other, commas, other, tail_at, items_of_other, no_items_left, item_shorter}
+use Rattle.b2_rows.proofs.CommaLists.{IsComma, Other, other, tail_at, items_of_other, no_items_left, item_shorter}
 
 begins : (c : ℕ) (t : Text) (b : Bool) → (first t == c) ≡ b → starts Atoms (start.Code c) t ≡ b
 unfolding starts
@@ -276,14 +276,14 @@ other_part t ok is = Other.part (other row.COMMA_DIMENSIONED row.DIMENSIONED S13
 pub other_list : (t : Text) → are_others t ≡ true → (first t == byte.comma) ≡ true → are_others (past_first (drop 1 t)) ≡ true
 other_list t ok is = Other.list (other row.COMMA_DIMENSIONED row.DIMENSIONED S13_SEPARATOR t comma_row ok is)
 
-pub other_items : (t : Text) → are_others t ≡ true → (first t == byte.comma) ≡ true → items_after (left_at t) ≡ tree_at row.DIMENSIONED (drop 1 t) ∷ items_after (left_at (past_first (drop 1 t)))
+pub other_items : (t : Text) → are_others t ≡ true → (first t == byte.comma) ≡ true → further_listed (left_at t) ≡ tree_at row.DIMENSIONED (drop 1 t) ∷ further_listed (left_at (past_first (drop 1 t)))
 other_items t ok is = items_of_other row.COMMA_DIMENSIONED row.DIMENSIONED S13_SEPARATOR Done t comma_row ok is
 
-pub no_items : (t : Text) → (first t == byte.comma) ≡ false → items_after (left_at t) ≡ []
+pub no_items : (t : Text) → (first t == byte.comma) ≡ false → further_listed (left_at t) ≡ []
 no_items t is = no_items_left row.COMMA_DIMENSIONED Done t is
 
 pub entry_shorter : (t : Text) → (first (past_first t) == byte.comma) ≡ true → length (drop 1 (past_first t)) < length t
 entry_shorter t is = item_shorter row.DIMENSIONED t is
 
-pub whole_items : (t : Text) → is_part row.DIM t ≡ true → tree_at row.DIMENSIONED (drop 1 t) ∷ items_after (left_at (past_first (drop 1 t))) ≡ entries_of (tree_at row.DIM t)
+pub whole_items : (t : Text) → is_part row.DIM t ≡ true → tree_at row.DIMENSIONED (drop 1 t) ∷ further_listed (left_at (past_first (drop 1 t))) ≡ entries_of (tree_at row.DIM t)
 whole_items t ok = sym (ap entries_of (stands_of row.DIM items t row_is ok).1)

@@ -12,7 +12,7 @@ use Rattle.b2_access.specs.Lending.{SeenLent}
 use Rattle.b2_access.specs.declared.private.Private.{Private}
 use Rattle.b2_base.specs.declared.codes.TheConstants.{S26_PROGRAM_ONLY}
 use Rattle.b2_access.specs.declared.planned.Outcome.TheVariants as outcome
-use Rattle.b2_stmt.specs.Around.{around}
+use Rattle.b2_expr.specs.Value.{context_of}
 use Rattle.b2_stmt.specs.Asked.{Here, asked_of, carried}
 use Rattle.b2_stmt.specs.OnVariables.{is_on_variables}
 use Rattle.b2_access.specs.declared.accesses.Access.{Access}
@@ -47,7 +47,7 @@ abbrev pub IsAsked : ℕ → Type 0
 IsAsked r = (is_on_variables r ≡ false) × ((r == row.READ) ≡ false) × ((r == row.DEFFN_MARKED) ≡ false)
 
 asked_there : (r : ℕ) (t : Trees) (h : Here) (me : Private) (s : SeenLent) → IsAsked r
-    → ended_of r t h me s ≡ carried (asked_of r t h (around me s.home) s.home.lines) h.place me s.own.lines s.home.lines
+    → ended_of r t h me s ≡ carried (asked_of r t h (context_of (setting_of me) me.vars s.home) s.home.lines) h.place me s.own.lines s.home.lines
 asked_there r t h me s other = otherwise (is_on_variables r) _ _ other.0 ∙ otherwise (r == row.READ) _ _ other.1 ∙ otherwise (r == row.DEFFN_MARKED) _ _ other.2
 
 -- a DEFFN' is no statement of an immediate line
@@ -60,7 +60,7 @@ no_mark r allowed_is = second_of _ (r == row.DEFFN_MARKED) allowed_is
 
 pub carried_there : (o : Option (List ℕ)) (line : List ℕ) (k r : ℕ) (t : Trees) (p : Place) (me : Private) (s : SeenLent) (program : Bool) (e : Context) (q : Asked)
     → o ≡ Some line → k ≡ p.unit → Some r ≡ option_map (λ v. v.row) (slice_get (tree_units line) k) → Some t ≡ option_map (λ v. v.tree) (slice_get (tree_units line) k)
-    → is_some p.line ≡ program → is_refused r program ≡ false → IsAsked r → access_of r t ≡ None → e ≡ around me s.home → q ≡ asked_of r t (record { place = p; units = tree_units line }) e s.home.lines
+    → is_some p.line ≡ program → is_refused r program ≡ false → IsAsked r → access_of r t ≡ None → e ≡ context_of (setting_of me) me.vars s.home → q ≡ asked_of r t (record { place = p; units = tree_units line }) e s.home.lines
     → course_in o p me s ≡ done s (carried q p me s.own.lines s.home.lines)
 carried_there o line k r t p me s program e q is_o is_k is_r is_t is_program allowed_is other none is_e is_q =
     let h : Here = record { place = p; units = tree_units line } in

@@ -35,7 +35,7 @@ use Rattle.b2_access.specs.declared.accesses.Answer.TheVariants as answer
 use Rattle.b2_access.specs.declared.planned.Outcome.{Outcome}
 use Rattle.b2_access.specs.declared.planned.Outcome.TheVariants as outcome
 use Rattle.b2_access.specs.declared.private.Private.{Private}
-use Rattle.b2_stmt.specs.Around.{around}
+use Rattle.b2_expr.specs.Value.{context_of}
 use Rattle.b2_access.specs.Partition.{setting_of}
 use Rattle.b2_stmt.specs.Asked.{Here, asked_of, asks_choice, asks_loop, asks_mark, body_place, carried, chosen, place_after, still}
 use Rattle.b2_stmt.specs.Arguments.{arguments, operands_of}
@@ -381,7 +381,7 @@ module _ (among : ℕ → Bool) where
       (either EndedIn (r == row.READ) _ _
       (record { part = w.part; place = w.place; kept = w.kept; frames = w.frames }, next_in (reads (setting_of me) s.home s.own.lines t me.vars me.next_data).code)
       (either EndedIn (r == row.DEFFN_MARKED) _ _ (args_in me.args s.home t me w)
-      (carried_in (asked_of r t h (around me s.home) s.home.lines) h.place me s.own.lines s.home.lines k w (asked_in r t h (around me s.home) s.home.lines k))))
+      (carried_in (asked_of r t h (context_of (setting_of me) me.vars s.home) s.home.lines) h.place me s.own.lines s.home.lines k w (asked_in r t h (context_of (setting_of me) me.vars s.home) s.home.lines k))))
 
   PlanningIn : Planning → Type 0
   PlanningIn p = IsWithin among p.me × PlannedIn among p.planned

@@ -30,7 +30,7 @@ use Rattle.b2_access.specs.declared.planned.Outcome.{Outcome}
 use Rattle.b2_access.specs.declared.planned.Outcome.TheVariants as outcome
 use Rattle.b2_access.specs.declared.planned.Planned.TheVariants as planned
 use Rattle.b2_access.specs.declared.private.Private.{Private}
-use Rattle.b2_stmt.specs.Around.{around}
+use Rattle.b2_expr.specs.Value.{context_of}
 use Rattle.b2_stmt.specs.Asked.{Here, asked_of, carried}
 use Rattle.b2_stmt.specs.Calls.{back_from, called_where, forgets, leaves_call}
 use Rattle.b2_stmt.specs.Clearing.{access_of, cleared, edited, finishes}
@@ -181,7 +181,7 @@ module _ (here : Option Place) (matters : Bool) where
       either KeepsNothing (is_on_variables r) _ _ (k.0, λ r. inl (k.1 r))
       (either KeepsNothing (r == row.READ) _ _ (k.0, λ r. inl (k.1 r))
       (either KeepsNothing (r == row.DEFFN_MARKED) _ _ (taken me.args s.home t me k)
-      (does (asked_of r t h (around me s.home) s.home.lines) h.place me s.own.lines s.home.lines k)))
+      (does (asked_of r t h (context_of (setting_of me) me.vars s.home) s.home.lines) h.place me s.own.lines s.home.lines k)))
 
   PlansNothing : Planning → Type 0
   PlansNothing p = (p.me.place ≡ here) × (matters ≡ true → (p.me.kept ≡ None) ⊎ (p.planned ≡ planned.Done outcome.Ready))

@@ -18,7 +18,7 @@ use Rattle.b2_atom.specs.declared.forms.Item.{Item}
 use Rattle.b2_atom.specs.declared.forms.Item.TheVariants.{Word, Sign, Among, ProgramWord, Ignored, Comma, LeftOut, End, Typed, Part, Maybe, Either, Many, Nest, Statement}
 use Rattle.b2_rows.specs.Rows.{reading_row, tree_of, fits_unit, is_part, tree_at, after_part}
 use Rattle.b2_rows.proofs.Levels.{no_statement, in_parentheses, at_level, up_level, Up}
-use Rattle.b2_expr.proofs.Pairs.{also_done}
+use Rattle.b2_rows.proofs.ListEnds.{also_done}
 use Rattle.b2_expr.specs.Value.{value}
 use Rattle.b2_expr.specs.declared.operators.Level.TheVariants as level
 use Rattle.b2_stmt.specs.Lengths.{LengthsAreSums, as_factor, as_operand, as_sum, in_first}

@@ -8,7 +8,6 @@
 -- homes. ReadingOrder: READ takes the literals of DATA in their order.
 pub mod GoalUnits
 pub mod Framed
-pub mod Commas
 pub mod BranchRows
 pub mod LoopRows
 pub mod CallRows

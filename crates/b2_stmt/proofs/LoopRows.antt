@@ -26,7 +26,7 @@ use Rattle.b2_expr.specs.Functions.{whole_number}
 use Rattle.b2_expr.specs.Scope.{Context}
 use Rattle.b2_expr.specs.Value.{value}
 use Rattle.b2_expr.specs.declared.operators.Level.TheVariants as level
-use Rattle.b2_expr.proofs.RowsRead.{stands_of}
+use Rattle.b2_rows.proofs.RowsRead.{stands_of}
 use Rattle.b2_expr.proofs.Names.{legal_name}
 use Rattle.b2_stmt.specs.Loops.{counter, counter_in, loop_in, scalar_of, step_in}
 use Rattle.b2_stmt.proofs.BranchRows.{taken_way}

@@ -35,16 +35,15 @@ use Rattle.b2_vars.specs.Tables.{VarsState}
 use Rattle.b2_expr.specs.Assigning.{Assigned, assigned_value, is_alpha_receiver}
 use Rattle.b2_expr.specs.declared.receiver.Receiver.{Receiver}
 use Rattle.b2_expr.specs.declared.receiver.Receiver.TheVariants as receiver_kind
-use Rattle.b2_expr.proofs.RowsRead.{stands_of}
+use Rattle.b2_rows.proofs.RowsRead.{stands_of}
 use Rattle.b2_access.specs.declared.planned.Outcome.TheVariants as outcome
 use Rattle.b2_access.specs.declared.private.Private.{Private}
 use Rattle.b2_stmt.specs.Assignments.{and_then, unless_coded}
 use Rattle.b2_stmt.specs.Marked.{calls_mark, fits, number_called, parameters_of, receivers_in, tail_receivers, take_each, takes, takes_bytes}
 use Rattle.b2_stmt.specs.Reading.{suits}
-use Rattle.b2_stmt.specs.ReceiverLists.{are_others, past_first, receivers_at}
-use Rattle.b2_access.specs.declared.setting.Setting.{Setting}
+use Rattle.b2_rows.specs.CommaLists.{are_others, past_first, receivers_at, commas}
+use Rattle.b2_vars.specs.declared.setting.Setting.{Setting}
 use Rattle.b2_stmt.proofs.ArgumentRows.{call_items, call_row, number_width}
-use Rattle.b2_stmt.proofs.Commas.{commas}
 
 -- the number that GOSUB' calls
 pub called_number : (t : Text) → is_part row.GOSUB_MARKED t ≡ true → is_leaf leaf.Small (drop 1 t) ≡ true

@@ -12,9 +12,10 @@ use Rattle.b2_atom.specs.declared.rows.TheConstants as row
 use Rattle.b2_atom.specs.declared.forms.Item.{Item}
 use Rattle.b2_atom.specs.declared.forms.Item.TheVariants.{Sign, Part, Many}
 use Rattle.b2_rows.specs.Rows.{is_part, tree_at, after_part, is_list, after_list, Ends}
-use Rattle.b2_expr.proofs.RowsRead.{stands_of}
-use Rattle.b2_stmt.specs.Assignments.{after_items, end_of, items_after, items_of, sum_of_assignment}
-use Rattle.b2_stmt.proofs.Commas.{IsComma, Other, commas, other, no_other, tail_at, items_of_other, end_of_other, no_items_left, end_left, other_shorter as shorter, item_shorter}
+use Rattle.b2_rows.proofs.RowsRead.{stands_of}
+use Rattle.b2_stmt.specs.Assignments.{sum_of_assignment}
+use Rattle.b2_rows.specs.CommaLists.{after_all_listed, after_further_listed, all_listed, further_listed, commas}
+use Rattle.b2_rows.proofs.CommaLists.{IsComma, Other, other, no_other, tail_at, items_of_other, end_of_other, no_items_left, end_left, other_shorter as shorter, item_shorter}
 
 abbrev items : List Item
 items = Part row.NUMERIC_RECEIVER ∷ Many commas row.COMMA_NUMERIC_RECEIVER ∷ Sign byte.equals S12_EQUALS ∷ Part row.SUM ∷ []
@@ -59,14 +60,14 @@ other_list t ok is = Other.list (other row.COMMA_NUMERIC_RECEIVER row.NUMERIC_RE
 pub other_rest : (t : Text) → are_others t ≡ true → (first t == byte.comma) ≡ true → after_others (after_part row.NUMERIC_RECEIVER (drop 1 t)) ≡ after_others t
 other_rest t ok is = sym (Other.rest (other row.COMMA_NUMERIC_RECEIVER row.NUMERIC_RECEIVER S13_SEPARATOR t comma_row ok is))
 
-pub other_end : (e : Trees) (t : Text) → are_others t ≡ true → (first t == byte.comma) ≡ true → end_of (left_at e (after_part row.NUMERIC_RECEIVER (drop 1 t))) ≡ end_of (left_at e t)
+pub other_end : (e : Trees) (t : Text) → are_others t ≡ true → (first t == byte.comma) ≡ true → after_further_listed (left_at e (after_part row.NUMERIC_RECEIVER (drop 1 t))) ≡ after_further_listed (left_at e t)
 other_end e t ok is = sym (end_of_other row.COMMA_NUMERIC_RECEIVER row.NUMERIC_RECEIVER S13_SEPARATOR e t comma_row ok is)
 
 pub other_items : (e : Trees) (t : Text) → are_others t ≡ true → (first t == byte.comma) ≡ true
-    → items_after (left_at e t) ≡ tree_at row.NUMERIC_RECEIVER (drop 1 t) ∷ items_after (left_at e (after_part row.NUMERIC_RECEIVER (drop 1 t)))
+    → further_listed (left_at e t) ≡ tree_at row.NUMERIC_RECEIVER (drop 1 t) ∷ further_listed (left_at e (after_part row.NUMERIC_RECEIVER (drop 1 t)))
 other_items e t ok is = items_of_other row.COMMA_NUMERIC_RECEIVER row.NUMERIC_RECEIVER S13_SEPARATOR e t comma_row ok is
 
-pub no_items : (e : Trees) (t : Text) → (first t == byte.comma) ≡ false → items_after (left_at e t) ≡ []
+pub no_items : (e : Trees) (t : Text) → (first t == byte.comma) ≡ false → further_listed (left_at e t) ≡ []
 no_items e t is = no_items_left row.COMMA_NUMERIC_RECEIVER e t is
 
 pub other_shorter : (t : Text) → (first t == byte.comma) ≡ true → length (after_part row.NUMERIC_RECEIVER (drop 1 t)) < length t
@@ -78,11 +79,11 @@ receiver_shorter t is = item_shorter row.NUMERIC_RECEIVER t is
 whole : (t : Text) → is_part row.NUMERIC_ASSIGNMENT t ≡ true → tree_at row.NUMERIC_ASSIGNMENT t ≡ In 2 (tree_at row.NUMERIC_RECEIVER t) (left_at (end_at (past_first t)) (past_first t))
 whole t ok = (stands_of row.NUMERIC_ASSIGNMENT items t row_is ok).1
 
-pub whole_items : (t : Text) → is_part row.NUMERIC_ASSIGNMENT t ≡ true → tree_at row.NUMERIC_RECEIVER t ∷ items_after (left_at (end_at (past_first t)) (past_first t)) ≡ items_of (tree_at row.NUMERIC_ASSIGNMENT t)
-whole_items t ok = sym (ap items_of (whole t ok))
+pub whole_items : (t : Text) → is_part row.NUMERIC_ASSIGNMENT t ≡ true → tree_at row.NUMERIC_RECEIVER t ∷ further_listed (left_at (end_at (past_first t)) (past_first t)) ≡ all_listed (tree_at row.NUMERIC_ASSIGNMENT t)
+whole_items t ok = sym (ap all_listed (whole t ok))
 
-pub whole_end : (t : Text) → is_part row.NUMERIC_ASSIGNMENT t ≡ true → end_of (left_at (end_at (past_first t)) (past_first t)) ≡ after_items (tree_at row.NUMERIC_ASSIGNMENT t)
-whole_end t ok = sym (ap after_items (whole t ok))
+pub whole_end : (t : Text) → is_part row.NUMERIC_ASSIGNMENT t ≡ true → after_further_listed (left_at (end_at (past_first t)) (past_first t)) ≡ after_all_listed (tree_at row.NUMERIC_ASSIGNMENT t)
+whole_end t ok = sym (ap after_all_listed (whole t ok))
 
 last_rest : (t : Text) → (first t == byte.comma) ≡ false → after_others t ≡ t
 last_rest t is = Ends.rest (no_other row.COMMA_NUMERIC_RECEIVER t is)
@@ -93,7 +94,7 @@ end_part t ok = (stands_of row.NUMERIC_ASSIGNMENT items t row_is ok).0.1.1.1.0
 pub found_part : (t left : Text) → is_part row.NUMERIC_ASSIGNMENT t ≡ true → (first left == byte.comma) ≡ false → after_others left ≡ after_others (past_first t) → is_part row.SUM (drop 1 left) ≡ true
 found_part t left ok is same = ap (λ (u : Text). is_part row.SUM (drop 1 u)) (sym (last_rest left is) ∙ same) ∙ end_part t ok
 
-pub found_tree : (t left : Text) → (first left == byte.comma) ≡ false → after_others left ≡ after_others (past_first t) → end_of (left_at (end_at (past_first t)) left) ≡ after_items (tree_at row.NUMERIC_ASSIGNMENT t)
-    → sum_of_assignment (after_items (tree_at row.NUMERIC_ASSIGNMENT t)) ≡ tree_at row.SUM (drop 1 left)
+pub found_tree : (t left : Text) → (first left == byte.comma) ≡ false → after_others left ≡ after_others (past_first t) → after_further_listed (left_at (end_at (past_first t)) left) ≡ after_all_listed (tree_at row.NUMERIC_ASSIGNMENT t)
+    → sum_of_assignment (after_all_listed (tree_at row.NUMERIC_ASSIGNMENT t)) ≡ tree_at row.SUM (drop 1 left)
 found_tree t left is same whole_is =
     ap sum_of_assignment (sym whole_is ∙ end_left row.COMMA_NUMERIC_RECEIVER (end_at (past_first t)) left is) ∙ ap (λ (u : Text). tree_at row.SUM (drop 1 u)) (sym same ∙ last_rest left is)

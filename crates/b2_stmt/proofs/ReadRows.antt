@@ -21,11 +21,11 @@ use Rattle.b2_vars.specs.Variables.{is_alpha}
 use Rattle.b2_expr.specs.Assigning.{is_alpha_receiver}
 use Rattle.b2_expr.specs.declared.receiver.Receiver.{Receiver}
 use Rattle.b2_expr.specs.declared.receiver.Receiver.TheVariants as receiver_kind
-use Rattle.b2_expr.proofs.RowsRead.{stands_of}
-use Rattle.b2_stmt.specs.ReceiverLists.{are_others, others_at, past_first, receivers_at}
+use Rattle.b2_rows.proofs.RowsRead.{stands_of}
+use Rattle.b2_rows.specs.CommaLists.{are_others, others_at, past_first, receivers_at, commas}
 use Rattle.b2_stmt.specs.Reading.{Read, and_reads, read_each, reads, reads_one, suits, unless_ended}
-use Rattle.b2_access.specs.declared.setting.Setting.{Setting}
-use Rattle.b2_stmt.proofs.Commas.{IsComma, Other, commas, other, item_shorter, items_of_other, no_items_left}
+use Rattle.b2_vars.specs.declared.setting.Setting.{Setting}
+use Rattle.b2_rows.proofs.CommaLists.{IsComma, Other, other, item_shorter, items_of_other, no_items_left}
 
 -- further receivers
 comma_row : IsComma row.COMMA_RECEIVER row.RECEIVER S13_SEPARATOR

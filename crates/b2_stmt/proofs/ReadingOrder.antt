@@ -33,29 +33,28 @@ use Rattle.b2_text.specs.declared.spots.Spot.{Spot}
 use Rattle.b2_text.proofs.Ranges.{at_it, itself}
 use Rattle.b2_text.proofs.Statements.{chosen_of, data_is}
 use Rattle.b2_access.specs.Placed.{statement_of, statement_on}
-use Rattle.b2_expr.proofs.RowsRead.{part_short}
-use Rattle.b2_stmt.specs.Assignments.{items_after}
+use Rattle.b2_rows.proofs.RowsRead.{part_short}
+use Rattle.b2_rows.specs.CommaLists.{further_listed, commas}
 use Rattle.b2_stmt.specs.Data.{data_at, datum_value, first_literal, listed, literal_at, literals_at, literals_in, literals_of, next_literal, read_at, unit_after}
-use Rattle.b2_stmt.specs.Lines.{commas}
 use Rattle.b2_stmt.specs.ReadingOrder.{AreLines, ReadsInOrder, text_literals, unit_literals, values_from, values_read}
 use Rattle.b2_stmt.specs.declared.data.Literal.{Literal}
-use Rattle.b2_stmt.proofs.Commas.{items_of_other, no_items_left, other_shorter}
+use Rattle.b2_rows.proofs.CommaLists.{items_of_other, no_items_left, other_shorter}
 use Rattle.b2_stmt.proofs.GoalUnits.{few}
 use Rattle.b2_stmt.proofs.DataRows.{comma_row, data_first, data_is as listed_is, data_list, other_list}
 
 -- a DATA has a literal, and at most 255
-further_few : (n : ℕ) (t : Text) → length t ≤ n → is_list commas row.COMMA_DATUM t ≡ true → length (items_after (also (list_at commas row.COMMA_DATUM t) Done)) ≤ length t
+further_few : (n : ℕ) (t : Text) → length t ≤ n → is_list commas row.COMMA_DATUM t ≡ true → length (further_listed (also (list_at commas row.COMMA_DATUM t) Done)) ≤ length t
 further_few n t bound ok = by_test n t (first t == byte.comma) bound ok refl
   where
-    by_test : (n : ℕ) (t : Text) (b : Bool) → length t ≤ n → is_list commas row.COMMA_DATUM t ≡ true → (first t == byte.comma) ≡ b → length (items_after (also (list_at commas row.COMMA_DATUM t) Done)) ≤ length t
+    by_test : (n : ℕ) (t : Text) (b : Bool) → length t ≤ n → is_list commas row.COMMA_DATUM t ≡ true → (first t == byte.comma) ≡ b → length (further_listed (also (list_at commas row.COMMA_DATUM t) Done)) ≤ length t
     by_test n t false bound ok is =
-        let e : length (items_after (also (list_at commas row.COMMA_DATUM t) Done)) ≡ 0 = ap length (no_items_left row.COMMA_DATUM Done t is) in
+        let e : length (further_listed (also (list_at commas row.COMMA_DATUM t) Done)) ≡ 0 = ap length (no_items_left row.COMMA_DATUM Done t is) in
         omega (arith, e)
     by_test zero t true bound ok is = let e = other_shorter row.DATUM t is in absurd (omega (arith, e, bound))
     by_test (suc n) t true bound ok is =
         let u : Text = after_part row.DATUM (drop 1 t) in
         let shorter = other_shorter row.DATUM t is in
-        let more : length (items_after (also (list_at commas row.COMMA_DATUM t) Done)) ≡ suc (length (items_after (also (list_at commas row.COMMA_DATUM u) Done))) =
+        let more : length (further_listed (also (list_at commas row.COMMA_DATUM t) Done)) ≡ suc (length (further_listed (also (list_at commas row.COMMA_DATUM u) Done))) =
         ap length (items_of_other row.COMMA_DATUM row.DATUM _ Done t comma_row ok is) in
         let rest = by_test n u (first u == byte.comma) (omega (arith, shorter, bound)) (other_list t ok is) refl in
         omega (arith, shorter, more, rest)
@@ -97,7 +96,7 @@ some_of_data bytes t ok is =
     let same : listed t ≡ data_at (drop 1 bytes) = sym (ap listed is) ∙ listed_is bytes ok in
     record {
       head = tree_at row.DATUM (drop 1 bytes);
-      tail = items_after (also (list_at commas row.COMMA_DATUM (after_part row.DATUM (drop 1 bytes))) Done);
+      tail = further_listed (also (list_at commas row.COMMA_DATUM (after_part row.DATUM (drop 1 bytes))) Done);
       is = same;
       few = subst (λ (ts : List Trees). length ts ≤ 255) (sym same) (data_few bytes ok);
     }

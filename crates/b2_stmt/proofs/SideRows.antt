@@ -13,11 +13,12 @@ use Rattle.b2_atom.specs.declared.forms.Start.TheVariants as start
 use Rattle.b2_atom.specs.declared.forms.Item.{Item}
 use Rattle.b2_atom.specs.declared.forms.Item.TheVariants.{Sign, Part, Either, Many}
 use Rattle.b2_rows.specs.Rows.{is_part, tree_at, after_part, is_list, after_list, Ends}
-use Rattle.b2_expr.proofs.RowsRead.{stands_of}
+use Rattle.b2_rows.proofs.RowsRead.{stands_of}
 use Rattle.b2_expr.specs.RightSide.{is_right_side, right_side_tree}
 use Rattle.b2_expr.proofs.OperationRows.{right_side_stands}
-use Rattle.b2_stmt.specs.Assignments.{after_items, end_of, items_after, items_of, side_of_assignment}
-use Rattle.b2_stmt.proofs.Commas.{IsComma, Other, commas, other, no_other, tail_at, items_of_other, end_of_other, no_items_left, end_left, other_shorter as shorter, item_shorter}
+use Rattle.b2_stmt.specs.Assignments.{side_of_assignment}
+use Rattle.b2_rows.specs.CommaLists.{after_all_listed, after_further_listed, all_listed, further_listed, commas}
+use Rattle.b2_rows.proofs.CommaLists.{IsComma, Other, other, no_other, tail_at, items_of_other, end_of_other, no_items_left, end_left, other_shorter as shorter, item_shorter}
 
 abbrev items : List Item
 items = Part row.ALPHA_RECEIVER ∷ Many commas row.COMMA_ALPHA_RECEIVER ∷ Sign byte.equals S12_EQUALS ∷ Either start.Alpha row.FIRST_AND_OPERATIONS row.OPERATIONS ∷ []
@@ -62,14 +63,14 @@ other_list t ok is = Other.list (other row.COMMA_ALPHA_RECEIVER row.ALPHA_RECEIV
 pub other_rest : (t : Text) → are_others t ≡ true → (first t == byte.comma) ≡ true → after_others (after_part row.ALPHA_RECEIVER (drop 1 t)) ≡ after_others t
 other_rest t ok is = sym (Other.rest (other row.COMMA_ALPHA_RECEIVER row.ALPHA_RECEIVER S13_SEPARATOR t comma_row ok is))
 
-pub other_end : (e : Trees) (t : Text) → are_others t ≡ true → (first t == byte.comma) ≡ true → end_of (left_at e (after_part row.ALPHA_RECEIVER (drop 1 t))) ≡ end_of (left_at e t)
+pub other_end : (e : Trees) (t : Text) → are_others t ≡ true → (first t == byte.comma) ≡ true → after_further_listed (left_at e (after_part row.ALPHA_RECEIVER (drop 1 t))) ≡ after_further_listed (left_at e t)
 other_end e t ok is = sym (end_of_other row.COMMA_ALPHA_RECEIVER row.ALPHA_RECEIVER S13_SEPARATOR e t comma_row ok is)
 
 pub other_items : (e : Trees) (t : Text) → are_others t ≡ true → (first t == byte.comma) ≡ true
-    → items_after (left_at e t) ≡ tree_at row.ALPHA_RECEIVER (drop 1 t) ∷ items_after (left_at e (after_part row.ALPHA_RECEIVER (drop 1 t)))
+    → further_listed (left_at e t) ≡ tree_at row.ALPHA_RECEIVER (drop 1 t) ∷ further_listed (left_at e (after_part row.ALPHA_RECEIVER (drop 1 t)))
 other_items e t ok is = items_of_other row.COMMA_ALPHA_RECEIVER row.ALPHA_RECEIVER S13_SEPARATOR e t comma_row ok is
 
-pub no_items : (e : Trees) (t : Text) → (first t == byte.comma) ≡ false → items_after (left_at e t) ≡ []
+pub no_items : (e : Trees) (t : Text) → (first t == byte.comma) ≡ false → further_listed (left_at e t) ≡ []
 no_items e t is = no_items_left row.COMMA_ALPHA_RECEIVER e t is
 
 pub other_shorter : (t : Text) → (first t == byte.comma) ≡ true → length (after_part row.ALPHA_RECEIVER (drop 1 t)) < length t
@@ -82,11 +83,11 @@ whole : (t : Text) → is_part row.ALPHA_ASSIGNMENT t ≡ true → tree_at row.A
 unfolding right_side_tree
 whole t ok = (stands_of row.ALPHA_ASSIGNMENT items t row_is ok).1
 
-pub whole_items : (t : Text) → is_part row.ALPHA_ASSIGNMENT t ≡ true → tree_at row.ALPHA_RECEIVER t ∷ items_after (left_at (end_at (past_first t)) (past_first t)) ≡ items_of (tree_at row.ALPHA_ASSIGNMENT t)
-whole_items t ok = sym (ap items_of (whole t ok))
+pub whole_items : (t : Text) → is_part row.ALPHA_ASSIGNMENT t ≡ true → tree_at row.ALPHA_RECEIVER t ∷ further_listed (left_at (end_at (past_first t)) (past_first t)) ≡ all_listed (tree_at row.ALPHA_ASSIGNMENT t)
+whole_items t ok = sym (ap all_listed (whole t ok))
 
-pub whole_end : (t : Text) → is_part row.ALPHA_ASSIGNMENT t ≡ true → end_of (left_at (end_at (past_first t)) (past_first t)) ≡ after_items (tree_at row.ALPHA_ASSIGNMENT t)
-whole_end t ok = sym (ap after_items (whole t ok))
+pub whole_end : (t : Text) → is_part row.ALPHA_ASSIGNMENT t ≡ true → after_further_listed (left_at (end_at (past_first t)) (past_first t)) ≡ after_all_listed (tree_at row.ALPHA_ASSIGNMENT t)
+whole_end t ok = sym (ap after_all_listed (whole t ok))
 
 last_rest : (t : Text) → (first t == byte.comma) ≡ false → after_others t ≡ t
 last_rest t is = Ends.rest (no_other row.COMMA_ALPHA_RECEIVER t is)
@@ -97,7 +98,7 @@ end_part t ok = right_side_stands (drop 1 (after_others (past_first t))) (stands
 pub found_part : (t left : Text) → is_part row.ALPHA_ASSIGNMENT t ≡ true → (first left == byte.comma) ≡ false → after_others left ≡ after_others (past_first t) → is_right_side (drop 1 left) ≡ true
 found_part t left ok is same = ap (λ (u : Text). is_right_side (drop 1 u)) (sym (last_rest left is) ∙ same) ∙ end_part t ok
 
-pub found_tree : (t left : Text) → (first left == byte.comma) ≡ false → after_others left ≡ after_others (past_first t) → end_of (left_at (end_at (past_first t)) left) ≡ after_items (tree_at row.ALPHA_ASSIGNMENT t)
-    → side_of_assignment (after_items (tree_at row.ALPHA_ASSIGNMENT t)) ≡ right_side_tree (drop 1 left)
+pub found_tree : (t left : Text) → (first left == byte.comma) ≡ false → after_others left ≡ after_others (past_first t) → after_further_listed (left_at (end_at (past_first t)) left) ≡ after_all_listed (tree_at row.ALPHA_ASSIGNMENT t)
+    → side_of_assignment (after_all_listed (tree_at row.ALPHA_ASSIGNMENT t)) ≡ right_side_tree (drop 1 left)
 found_tree t left is same whole_is =
     ap side_of_assignment (sym whole_is ∙ end_left row.COMMA_ALPHA_RECEIVER (end_at (past_first t)) left is) ∙ ap (λ (u : Text). right_side_tree (drop 1 u)) (sym same ∙ last_rest left is)

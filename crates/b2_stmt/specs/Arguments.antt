@@ -16,8 +16,7 @@ use Rattle.b2_expr.specs.Answers.{◌>>=◌}
 use Rattle.b2_expr.specs.Scope.{Context}
 use Rattle.b2_expr.specs.Value.{text, value}
 use Rattle.b2_expr.specs.declared.operators.Level.TheVariants as level
-use Rattle.b2_stmt.specs.Assignments.{items_after, items_of}
-use Rattle.b2_stmt.specs.Lines.{commas}
+use Rattle.b2_rows.specs.CommaLists.{all_listed, further_listed, commas}
 
 -- the value of one: bytes or a number
 abbrev pub alpha_argument : Context → Trees → Result Value ℕ
@@ -37,7 +36,7 @@ arguments s (t ∷ ts) = argument s t >>= (λ x. arguments s ts >>= (λ xs. Ok (
 
 -- those that are written
 abbrev pub operands_of : Trees → List Trees
-operands_of (Put word (Put number (In n (Put opening (In m operands close)) end))) = items_of operands
+operands_of (Put word (Put number (In n (Put opening (In m operands close)) end))) = all_listed operands
 operands_of t = []
 
 -- those at a text, with commas between them
@@ -45,7 +44,7 @@ abbrev pub past_operand : Text → Text
 past_operand t = after_part row.OPERAND_OF_ANY_KIND t
 
 abbrev pub other_operands : Text → List Trees
-other_operands t = items_after (also (list_at commas row.COMMA_OPERAND t) Done)
+other_operands t = further_listed (also (list_at commas row.COMMA_OPERAND t) Done)
 
 abbrev pub operands_at : Text → List Trees
 operands_at t = tree_at row.OPERAND_OF_ANY_KIND t ∷ other_operands (past_operand t)

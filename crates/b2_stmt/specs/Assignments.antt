@@ -1,11 +1,10 @@
 -- Assignments, and lists of receivers.
 use Rattle.std.specs.Prelude.{◌≡◌, ℕ, ◌==◌, List, [], ◌∷◌, Option, None, Some, Result, Ok, Err, if◌then◌else◌}
 use Rattle.b2_base.specs.declared.codes.TheConstants.{S20_VARIABLE}
-use Rattle.b2_base.specs.declared.codes.Fault.{Fault}
-use Rattle.b2_base.specs.declared.codes.Fault.TheVariants as fault
 use Rattle.b2_dec.specs.Number.{Number}
 use Rattle.b2_atom.specs.Tree.{Trees}
 use Rattle.b2_atom.specs.Tree.Trees.{Done, Put, In}
+use Rattle.b2_rows.specs.CommaLists.{after_all_listed, all_listed}
 use Rattle.b2_text.specs.Program.{TextState}
 use Rattle.b2_vars.specs.Tables.{VarsState}
 use Rattle.b2_expr.specs.Answers.{Answer}
@@ -16,8 +15,8 @@ use Rattle.b2_expr.specs.Value.{in_statement, value}
 use Rattle.b2_expr.specs.declared.named.Element.{Element}
 use Rattle.b2_expr.specs.declared.operators.Level.TheVariants as level
 use Rattle.b2_expr.specs.declared.receiver.AlphaReceiver.{AlphaReceiver}
-use Rattle.b2_stmt.specs.Around.{surroundings_of}
-use Rattle.b2_access.specs.declared.setting.Setting.{Setting}
+use Rattle.b2_expr.specs.Scope.{surroundings_of}
+use Rattle.b2_vars.specs.declared.setting.Setting.{Setting}
 
 -- what comes after an assignment, where it had no code
 abbrev pub unless_coded : Option ℕ → VarsState → (VarsState → Assigned) → Assigned
@@ -31,25 +30,6 @@ and_then a next = unless_coded a.code a.vars next
 abbrev pub assign_each : (Trees → VarsState → Assigned) → List Trees → VarsState → Assigned
 assign_each one [] vars = record { vars = vars; code = None }
 assign_each one (t ∷ ts) vars = and_then (one t vars) (assign_each one ts)
-
--- the items after the first of a list with commas
-abbrev pub items_after : Trees → List Trees
-items_after (In n (Put comma (In m item end)) more) = item ∷ items_after more
-items_after t = []
-
--- what stands after them
-abbrev pub end_of : Trees → Trees
-end_of (In n (Put comma item) more) = end_of more
-end_of (In n Done more) = more
-end_of t = Done
-
-abbrev pub items_of : Trees → List Trees
-items_of (In n item more) = item ∷ items_after more
-items_of t = []
-
-abbrev pub after_items : Trees → Trees
-after_items (In n item more) = end_of more
-after_items t = Done
 
 -- the expression of an assignment of a number, and the right side of one of bytes
 abbrev pub sum_of_assignment : Trees → Trees
@@ -85,20 +65,11 @@ sides_by a home (Ok side) ts vars = assign_each (assign_side a home side) ts var
 sides_by a home (Err code) ts vars = record { vars = vars; code = Some code }
 
 abbrev pub assign_numbers : Setting → TextState → Trees → VarsState → Assigned
-assign_numbers a home t vars = numbers_by a home (value (in_statement (surroundings_of a vars home)) level.Sum (sum_of_assignment (after_items t))) (items_of t) vars
+assign_numbers a home t vars = numbers_by a home (value (in_statement (surroundings_of a vars home)) level.Sum (sum_of_assignment (after_all_listed t))) (all_listed t) vars
 
 abbrev pub assign_sides : Setting → TextState → Trees → VarsState → Assigned
-assign_sides a home t vars = sides_by a home (right_side (in_statement (surroundings_of a vars home)) (side_of_assignment (after_items t))) (items_of t) vars
+assign_sides a home t vars = sides_by a home (right_side (in_statement (surroundings_of a vars home)) (side_of_assignment (after_all_listed t))) (all_listed t) vars
 
 abbrev pub assigns : Setting → TextState → Trees → VarsState → Assigned
 assigns a home (In n t end) vars = if n == 1 then assign_sides a home t vars else assign_numbers a home t vars
 assigns a home t vars = record { vars = vars; code = Some S20_VARIABLE }
-
--- how an assignment ended: without a code, or with one; where memory failed it did not
-abbrev pub HasCode : Fault → Option ℕ → Type 0
-HasCode (fault.Code c) code = code ≡ Some c
-HasCode fault.NoMemory code = ⊥
-
-abbrev pub EndsWith : Result (Unit {0}) Fault → Option ℕ → Type 0
-EndsWith (Ok done) code = code ≡ None
-EndsWith (Err f) code = HasCode f code

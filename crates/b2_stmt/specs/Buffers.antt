@@ -20,9 +20,10 @@ use Rattle.b2_expr.specs.Value.{in_statement, value}
 use Rattle.b2_expr.specs.declared.operators.Level.TheVariants as level
 use Rattle.b2_expr.specs.declared.receiver.Buffer.{Buffer}
 use Rattle.b2_expr.specs.declared.receiver.Buffer.TheVariants as buffer_kind
-use Rattle.b2_stmt.specs.Around.{surroundings_of}
-use Rattle.b2_stmt.specs.Assignments.{assign_each, items_of}
-use Rattle.b2_access.specs.declared.setting.Setting.{Setting}
+use Rattle.b2_expr.specs.Scope.{surroundings_of}
+use Rattle.b2_stmt.specs.Assignments.{assign_each}
+use Rattle.b2_rows.specs.CommaLists.{all_listed}
+use Rattle.b2_vars.specs.declared.setting.Setting.{Setting}
 use Rattle.b2_stmt.specs.declared.buffers.Turn.{Turn}
 
 -- the bytes that a buffer names are changed; a scalar that isn't there is made first
@@ -44,7 +45,7 @@ byte_of_init (Put word (In n (Put (Plain k pair) end) more)) = hex_byte_of pair
 byte_of_init t = 0
 
 abbrev pub buffers_of_init : Trees → List Trees
-buffers_of_init (Put word (In n pair (Put closing buffers))) = items_of buffers
+buffers_of_init (Put word (In n pair (Put closing buffers))) = all_listed buffers
 buffers_of_init t = []
 
 abbrev pub fills : ℕ → Result Buffer ℕ → VarsState → Assigned

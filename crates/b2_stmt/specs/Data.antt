@@ -19,8 +19,7 @@ use Rattle.b2_text.specs.declared.spots.Spot.{Spot}
 use Rattle.b2_expr.specs.Answers.{◌>>=◌}
 use Rattle.b2_expr.specs.Value.{literal_value}
 use Rattle.b2_access.specs.Placed.{Statement, statement_on}
-use Rattle.b2_stmt.specs.Assignments.{items_after, items_of}
-use Rattle.b2_stmt.specs.Lines.{commas}
+use Rattle.b2_rows.specs.CommaLists.{all_listed, further_listed, commas}
 use Rattle.b2_stmt.specs.declared.data.Literal.{Literal}
 
 -- the value of a literal: bytes in quotes, or a number, which may have a sign and is C60 or C61 where it is out of range
@@ -37,11 +36,11 @@ bytes_at t = literal_of (leaf_bytes leaf.Literal t)
 
 -- the literals at a text, with commas between them
 abbrev pub data_at : Text → List Trees
-data_at t = tree_at row.DATUM t ∷ items_after (also (list_at commas row.COMMA_DATUM (after_part row.DATUM t)) Done)
+data_at t = tree_at row.DATUM t ∷ further_listed (also (list_at commas row.COMMA_DATUM (after_part row.DATUM t)) Done)
 
 -- the literals of a unit; none where it is no DATA
 abbrev pub listed : Trees → List Trees
-listed (Put word literals) = items_of literals
+listed (Put word literals) = all_listed literals
 listed t = []
 
 abbrev pub literals_of : ℕ → Trees → List Trees

@@ -19,9 +19,10 @@ use Rattle.b2_expr.specs.Named.{variable_of, variables_of}
 use Rattle.b2_expr.specs.Scope.{Context}
 use Rattle.b2_expr.specs.Value.{branch_of, in_statement, token_text, value}
 use Rattle.b2_expr.specs.declared.operators.Level.TheVariants as level
-use Rattle.b2_access.specs.declared.setting.Setting.{Setting}
-use Rattle.b2_stmt.specs.Around.{surroundings_of}
-use Rattle.b2_stmt.specs.Assignments.{assign_each, items_of}
+use Rattle.b2_vars.specs.declared.setting.Setting.{Setting}
+use Rattle.b2_expr.specs.Scope.{surroundings_of}
+use Rattle.b2_stmt.specs.Assignments.{assign_each}
+use Rattle.b2_rows.specs.CommaLists.{all_listed}
 use Rattle.b2_stmt.specs.Lengths.{length_value}
 use Rattle.b2_stmt.specs.declared.dimensions.Dimensions.{Dimensions}
 use Rattle.b2_stmt.specs.declared.dimensions.Entry.{Entry}
@@ -111,7 +112,7 @@ is_common (Put dim entries) = token_code dim == word.COM
 is_common t = false
 
 abbrev pub entries_of : Trees → List Trees
-entries_of (Put dim entries) = items_of entries
+entries_of (Put dim entries) = all_listed entries
 entries_of t = []
 
 -- they are made from left to right, each among the variables as they then are

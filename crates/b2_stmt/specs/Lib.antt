@@ -1,4 +1,3 @@
-pub mod Around
 pub mod Branches
 pub mod Frames
 pub mod Loops
@@ -9,7 +8,6 @@ pub mod Lines
 pub mod Assignments
 pub mod Arguments
 pub mod Asked
-pub mod ReceiverLists
 pub mod Data
 pub mod Reading
 pub mod ReadingOrder

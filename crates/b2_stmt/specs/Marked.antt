@@ -21,11 +21,12 @@ use Rattle.b2_expr.specs.declared.receiver.Receiver.{Receiver}
 use Rattle.b2_access.specs.Partition.{setting_of}
 use Rattle.b2_access.specs.declared.planned.Outcome.TheVariants as outcome
 use Rattle.b2_access.specs.declared.private.Private.{Private}
-use Rattle.b2_stmt.specs.Around.{surroundings_of}
-use Rattle.b2_stmt.specs.Assignments.{and_then, items_of}
+use Rattle.b2_expr.specs.Scope.{surroundings_of}
+use Rattle.b2_stmt.specs.Assignments.{and_then}
+use Rattle.b2_rows.specs.CommaLists.{all_listed}
 use Rattle.b2_stmt.specs.Reading.{suits}
 use Rattle.b2_access.specs.Planning.{Ended, goes_or, stays}
-use Rattle.b2_access.specs.declared.setting.Setting.{Setting}
+use Rattle.b2_vars.specs.declared.setting.Setting.{Setting}
 
 -- the number that is called
 abbrev pub number_called : Trees → ℕ
@@ -52,7 +53,7 @@ calls_mark (Some q) args back me =
 
 -- the receivers of DEFFN'; none where it has no parentheses
 abbrev pub receivers_in : Trees → List Trees
-receivers_in (Put opening (In n receivers end)) = items_of receivers
+receivers_in (Put opening (In n receivers end)) = all_listed receivers
 receivers_in t = []
 
 abbrev pub tail_receivers : Trees → List Trees

@@ -8,7 +8,7 @@ use Rattle.b2_expr.specs.Assigning.{Assigned}
 use Rattle.b2_stmt.specs.Assignments.{assigns}
 use Rattle.b2_stmt.specs.Buffers.{inits, rotates}
 use Rattle.b2_stmt.specs.Dimensions.{dimensions}
-use Rattle.b2_access.specs.declared.setting.Setting.{Setting}
+use Rattle.b2_vars.specs.declared.setting.Setting.{Setting}
 
 -- whether a statement is one of them
 abbrev pub is_on_variables : ℕ → Bool

@@ -13,7 +13,7 @@ use Rattle.b2_access.specs.declared.accesses.Answer.{Answer}
 use Rattle.b2_access.specs.declared.planned.Outcome.TheVariants as outcome
 use Rattle.b2_access.specs.declared.private.Private.{Private}
 use Rattle.b2_access.specs.Lending.{SeenLent}
-use Rattle.b2_stmt.specs.Around.{around}
+use Rattle.b2_expr.specs.Value.{context_of}
 use Rattle.b2_access.specs.Partition.{setting_of}
 use Rattle.b2_stmt.specs.Asked.{Here, asked_of, carried}
 use Rattle.b2_stmt.specs.Clearing.{access_of, finishes}
@@ -44,7 +44,7 @@ ended_of r t h me s =
     if is_on_variables r then with_assigned (on_variables r (setting_of me) s.home t me.vars) me
     else (if r == row.READ then with_read (reads (setting_of me) s.home s.own.lines t me.vars me.next_data) me
     else (if r == row.DEFFN_MARKED then takes_args me.args s.home t me
-    else carried (asked_of r t h (around me s.home) s.home.lines) h.place me s.own.lines s.home.lines))
+    else carried (asked_of r t h (context_of (setting_of me) me.vars s.home) s.home.lines) h.place me s.own.lines s.home.lines))
 
 -- or the access that it asks for, where nothing changes yet
 abbrev pub by_access : Option Access → SeenLent → Private → Ended → Planning

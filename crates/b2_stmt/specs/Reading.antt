@@ -14,11 +14,11 @@ use Rattle.b2_expr.specs.Value.{in_statement}
 use Rattle.b2_expr.specs.declared.receiver.Receiver.{Receiver}
 use Rattle.b2_access.specs.declared.planned.Outcome.TheVariants as outcome
 use Rattle.b2_access.specs.declared.private.Private.{Private}
-use Rattle.b2_stmt.specs.Around.{surroundings_of}
-use Rattle.b2_stmt.specs.Assignments.{items_of}
+use Rattle.b2_expr.specs.Scope.{surroundings_of}
+use Rattle.b2_rows.specs.CommaLists.{all_listed}
 use Rattle.b2_stmt.specs.Data.{next_literal}
 use Rattle.b2_access.specs.Planning.{Ended, goes_or}
-use Rattle.b2_access.specs.declared.setting.Setting.{Setting}
+use Rattle.b2_vars.specs.declared.setting.Setting.{Setting}
 use Rattle.b2_stmt.specs.declared.data.Literal.{Literal}
 
 -- what READ leaves: the variables, where it goes on, and its code where it ends with one
@@ -83,7 +83,7 @@ read_each one [] vars next = record { vars = vars; next = next; code = None }
 read_each one (t ∷ ts) vars next = and_reads (one t vars next) (read_each one ts)
 
 abbrev pub receivers_of : Trees → List Trees
-receivers_of (Put word receivers) = items_of receivers
+receivers_of (Put word receivers) = all_listed receivers
 receivers_of t = []
 
 abbrev pub reads : Setting → TextState → Lines → Trees → VarsState → Option (Spot × ℕ) → Read

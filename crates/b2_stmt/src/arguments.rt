@@ -6,7 +6,7 @@ ghost use Rattle.b2_expr.specs.Scope.{surroundings};
 ghost use Rattle.b2_expr.specs.Value.{in_statement};
 ghost use Rattle.b2_stmt.specs.Arguments as spec;
 ghost use Rattle.b2_stmt.specs.Arguments.{GivesValues, PutsArgument, operands_at, past_operand};
-ghost use Rattle.b2_stmt.specs.Lines.{commas};
+ghost use Rattle.b2_rows.specs.CommaLists.{commas};
 
 use b2_atom::Cursor;
 use b2_base::lexical::{digits_width, dropped};

@@ -7,7 +7,7 @@ ghost use Rattle.b2_rows.specs.Rows.{is_part, tree_at};
 ghost use Rattle.b2_expr.specs.Value.{in_statement};
 ghost use Rattle.b2_stmt.specs.Arguments.{arguments, operands_of};
 ghost use Rattle.b2_stmt.specs.Marked.{number_called as called_number};
-ghost use Rattle.b2_stmt.specs.Around.{surroundings_of as about};
+ghost use Rattle.b2_expr.specs.Scope.{surroundings_of as about};
 ghost use Rattle.b2_stmt.specs.Branches.{if_goal as if_goal_of};
 ghost use Rattle.b2_stmt.specs.Choices.{choice_in};
 ghost use Rattle.b2_access.specs.Going.{to_found};
@@ -17,7 +17,6 @@ ghost use Rattle.b2_stmt.specs.Asked as spec;
 ghost use Rattle.b2_stmt.specs.Asked.{IsNamed};
 
 use crate::arguments::arguments_of;
-use crate::around::surroundings_of;
 use crate::branches::{goto_goal, if_goal, passed_function, passed_goal};
 use crate::calls::{call_line, forget, go_back, has_all, line_called};
 use crate::choices::choice_at;
@@ -27,18 +26,16 @@ use crate::course::{
 };
 use crate::loops::{Loop, begin, counter_at, loop_at, next};
 use crate::marked::{call_mark, number_called};
-use b2_access::{
-    Outcome, Private, Setting, failed, failing, place_after, to_found, to_goal, to_line,
-};
+use b2_access::{Outcome, Private, failed, failing, place_after, to_found, to_goal, to_line};
 use b2_atom::{Atoms, rows};
 use b2_base::codes::{S26_PROGRAM_ONLY, S27_LEFT_OUT};
 use b2_base::{ByteList, NoMemory};
 use b2_dec::{Mode, ValueList};
-use b2_expr::Env;
+use b2_expr::{Env, surroundings_of};
 use b2_flow::{Place, Var2};
 use b2_rows::{Goal, RowUnit};
 use b2_text::Text;
-use b2_vars::Vars;
+use b2_vars::{Setting, Vars};
 use std::alloc::Global;
 
 /// What a statement asks of the private state, once its bytes were looked at.

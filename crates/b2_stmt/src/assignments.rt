@@ -1,51 +1,30 @@
 // Assignments.
 ghost use Rattle.std.specs.Prelude.{◌≡◌, true, IfOk};
 ghost use Rattle.b2_atom.specs.declared.rows.TheConstants as row;
-ghost use Rattle.b2_rows.specs.Rows.{is_part, tree_at, after_part};
+ghost use Rattle.b2_rows.specs.Rows.{is_part, tree_at};
 ghost use Rattle.b2_expr.specs.RightSide.{is_right_side, right_side_tree, side_seen};
 ghost use Rattle.b2_expr.specs.RightSide.{right_side as side_of};
 ghost use Rattle.b2_expr.specs.Value.{in_statement};
-ghost use Rattle.b2_stmt.specs.Around.{surroundings_of as about};
+ghost use Rattle.b2_expr.specs.Scope.{surroundings_of as about};
 ghost use Rattle.b2_stmt.specs.Assignments as spec;
-ghost use Rattle.b2_stmt.specs.Assignments.{EndsWith, HasCode, after_items, items_of, side_of_assignment, sum_of_assignment};
+ghost use Rattle.b2_stmt.specs.Assignments.{side_of_assignment, sum_of_assignment};
+ghost use Rattle.b2_rows.specs.CommaLists.{after_all_listed, all_listed};
 
-use crate::around::surroundings_of;
-use b2_access::Setting;
 use b2_atom::Cursor;
 use b2_base::lexical::dropped;
-use b2_base::{Code, Fault, NoMemory};
+use b2_base::{Code, NoMemory};
 use b2_dec::Dec;
 use b2_expr::{
-    RightSide, alpha_receiver, assign_number, assign_side, number, number_receiver,
-    pass_alpha_receiver, pass_number_receiver, right_side,
+    RightSide, alpha_receiver, assign_number, assign_side, code_of, code_of_fault, number,
+    number_receiver, past_alpha_receiver, past_number_receiver, right_side, surroundings_of,
 };
 use b2_rows::{is_alpha_at, is_at};
 use b2_text::Text;
-use b2_vars::Vars;
+use b2_vars::{Setting, Vars};
 use std::alloc::Global;
 
-/// The code of a fault, where memory didn't fail.
-fn code_of_fault(fault: Fault) -> Result<Option<Code>, NoMemory>
-    ensures { IfOk result (λ code. HasCode fault code) }
-{
-    match fault {
-        Fault::Code(code) => Ok(Some(code)),
-        Fault::NoMemory => Err(NoMemory),
-    }
-}
-
-/// The code with which an assignment ended, where memory didn't fail.
-pub fn code_of(ended: Result<(), Fault>) -> Result<Option<Code>, NoMemory>
-    ensures { IfOk result (λ code. EndsWith ended code) }
-{
-    match ended {
-        Ok(()) => Ok(None),
-        Err(fault) => code_of_fault(fault),
-    }
-}
-
 /// Assigns a number to the receiver at a text.
-#[tactic(auto, using(crate::proofs::Assigned::ended_so))]
+#[tactic(auto, using(b2_expr::proofs::Ended::ended_so))]
 fn number_to(
     vars: &mut Vars,
     a: &Setting,
@@ -64,7 +43,7 @@ fn number_to(
 }
 
 /// Assigns a right side to the alpha receiver at a text.
-#[tactic(auto, using(crate::proofs::Assigned::ended_so))]
+#[tactic(auto, using(b2_expr::proofs::Ended::ended_so))]
 fn side_to(
     vars: &mut Vars,
     a: &Setting,
@@ -82,36 +61,16 @@ fn side_to(
     code_of(assign_side(vars, &to, side))
 }
 
-/// What stands after a receiver of a number.
-fn past_number(text: &[u8]) -> &[u8]
-    requires part { is_part row.NUMERIC_RECEIVER text.now ≡ true }
-    ensures { result.now ≡ after_part row.NUMERIC_RECEIVER text.now }
-{
-    let mut c = Cursor::over(text);
-    pass_number_receiver(&mut c);
-    c.rest()
-}
-
-/// What stands after an alpha receiver.
-fn past_alpha(text: &[u8]) -> &[u8]
-    requires part { is_part row.ALPHA_RECEIVER text.now ≡ true }
-    ensures { result.now ≡ after_part row.ALPHA_RECEIVER text.now }
-{
-    let mut c = Cursor::over(text);
-    pass_alpha_receiver(&mut c);
-    c.rest()
-}
-
 /// The expression of an assignment of a number.
 #[tactic(auto, using(crate::proofs::NumberRows::first_part, crate::proofs::NumberRows::first_list, crate::proofs::NumberRows::other_part, crate::proofs::NumberRows::other_list, crate::proofs::NumberRows::other_rest, crate::proofs::NumberRows::other_end, crate::proofs::NumberRows::other_shorter, crate::proofs::NumberRows::whole_end, crate::proofs::NumberRows::found_part, crate::proofs::NumberRows::found_tree))]
 fn expression_after(text: &[u8]) -> &[u8]
     requires part { is_part row.NUMERIC_ASSIGNMENT text.now ≡ true }
     ensures part { is_part row.SUM result.now ≡ true }
-    ensures tree { sum_of_assignment (after_items (tree_at row.NUMERIC_ASSIGNMENT text.now)) ≡ tree_at row.SUM result.now }
+    ensures tree { sum_of_assignment (after_all_listed (tree_at row.NUMERIC_ASSIGNMENT text.now)) ≡ tree_at row.SUM result.now }
 {
-    let mut left = past_number(text);
+    let mut left = past_number_receiver(text);
     while is_at(b',', left) {
-        left = past_number(dropped(left, 1));
+        left = past_number_receiver(dropped(left, 1));
     }
     dropped(left, 1)
 }
@@ -126,7 +85,7 @@ fn assign_all(
     text: &[u8],
 ) -> Result<Option<Code>, NoMemory>
     requires part { is_part row.NUMERIC_ASSIGNMENT text.now ≡ true }
-    ensures { IfOk result (λ code. record { vars = vars.new; code = code } ≡ spec.assign_each (spec.assign_number a.now home.now x) (items_of (tree_at row.NUMERIC_ASSIGNMENT text.now)) vars.old) }
+    ensures { IfOk result (λ code. record { vars = vars.new; code = code } ≡ spec.assign_each (spec.assign_number a.now home.now x) (all_listed (tree_at row.NUMERIC_ASSIGNMENT text.now)) vars.old) }
 {
     let mut left = text;
     loop {
@@ -134,7 +93,7 @@ fn assign_all(
         if code.is_some() {
             return Ok(code);
         }
-        left = past_number(left);
+        left = past_number_receiver(left);
         if !is_at(b',', left) {
             return Ok(None);
         }
@@ -164,11 +123,11 @@ fn assign_numbers(
 fn side_after(text: &[u8]) -> &[u8]
     requires part { is_part row.ALPHA_ASSIGNMENT text.now ≡ true }
     ensures part { is_right_side result.now ≡ true }
-    ensures tree { side_of_assignment (after_items (tree_at row.ALPHA_ASSIGNMENT text.now)) ≡ right_side_tree result.now }
+    ensures tree { side_of_assignment (after_all_listed (tree_at row.ALPHA_ASSIGNMENT text.now)) ≡ right_side_tree result.now }
 {
-    let mut left = past_alpha(text);
+    let mut left = past_alpha_receiver(text);
     while is_at(b',', left) {
-        left = past_alpha(dropped(left, 1));
+        left = past_alpha_receiver(dropped(left, 1));
     }
     dropped(left, 1)
 }
@@ -183,7 +142,7 @@ fn assign_side_to_all(
     text: &[u8],
 ) -> Result<Option<Code>, NoMemory>
     requires part { is_part row.ALPHA_ASSIGNMENT text.now ≡ true }
-    ensures { IfOk result (λ code. record { vars = vars.new; code = code } ≡ spec.assign_each (spec.assign_side a.now home.now (side_seen side.now)) (items_of (tree_at row.ALPHA_ASSIGNMENT text.now)) vars.old) }
+    ensures { IfOk result (λ code. record { vars = vars.new; code = code } ≡ spec.assign_each (spec.assign_side a.now home.now (side_seen side.now)) (all_listed (tree_at row.ALPHA_ASSIGNMENT text.now)) vars.old) }
 {
     let mut left = text;
     loop {
@@ -191,7 +150,7 @@ fn assign_side_to_all(
         if code.is_some() {
             return Ok(code);
         }
-        left = past_alpha(left);
+        left = past_alpha_receiver(left);
         if !is_at(b',', left) {
             return Ok(None);
         }
@@ -210,7 +169,7 @@ fn assign_side_at(
 ) -> Result<Option<Code>, NoMemory>
     requires side { is_right_side side.now ≡ true }
     requires part { is_part row.ALPHA_ASSIGNMENT text.now ≡ true }
-    ensures { IfOk result (λ code. record { vars = vars.new; code = code } ≡ spec.sides_by a.now home.now (side_of (in_statement (about a.now vars.old home.now)) (right_side_tree side.now)) (items_of (tree_at row.ALPHA_ASSIGNMENT text.now)) vars.old) }
+    ensures { IfOk result (λ code. record { vars = vars.new; code = code } ≡ spec.sides_by a.now home.now (side_of (in_statement (about a.now vars.old home.now)) (right_side_tree side.now)) (all_listed (tree_at row.ALPHA_ASSIGNMENT text.now)) vars.old) }
 {
     match right_side(
         alloc,

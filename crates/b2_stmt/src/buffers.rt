@@ -10,9 +10,6 @@ ghost use Rattle.b2_expr.specs.Value.{in_statement};
 ghost use Rattle.b2_stmt.specs.Assignments.{assign_each};
 ghost use Rattle.b2_stmt.specs.Buffers as spec;
 
-use crate::around::surroundings_of;
-use crate::assignments::code_of;
-use b2_access::Setting;
 use b2_alpha::rotate;
 use b2_atom::Cursor;
 use b2_atom::words::ROTATEC_OPEN;
@@ -20,10 +17,13 @@ use b2_base::codes::P34_RANGE;
 use b2_base::lexical::dropped;
 use b2_base::{Code, NoMemory};
 use b2_dec::{Dec, fix, whole};
-use b2_expr::{AlphaReceiver, Buffer, Env, alpha_receiver, buffer, change_buffer, number};
+use b2_expr::{
+    AlphaReceiver, Buffer, Env, alpha_receiver, buffer, change_buffer, code_of, number,
+    surroundings_of,
+};
 use b2_rows::{hex_byte_at, is_at};
 use b2_text::Text;
-use b2_vars::Vars;
+use b2_vars::{Setting, Vars};
 
 /// What ROTATE and ROTATEC ask for.
 #[derive(Clone, Copy, Debug, PartialEq, Eq)]

@@ -8,7 +8,8 @@ ghost use Rattle.b2_expr.specs.Functions.{fixed};
 ghost use Rattle.b2_expr.specs.Scope.{surroundings};
 ghost use Rattle.b2_expr.specs.Value.{in_statement};
 ghost use Rattle.b2_stmt.specs.Choices as spec;
-ghost use Rattle.b2_stmt.specs.Lines.{commas, lines_at};
+ghost use Rattle.b2_stmt.specs.Lines.{lines_at};
+ghost use Rattle.b2_rows.specs.CommaLists.{commas};
 
 use b2_atom::Cursor;
 use b2_atom::words::GOTO;

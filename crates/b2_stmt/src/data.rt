@@ -5,7 +5,7 @@ ghost use Rattle.b2_rows.specs.Laws.{IsRow};
 ghost use Rattle.b2_rows.specs.Rows.{after_part, is_list, is_part, tree_at};
 ghost use Rattle.b2_stmt.specs.Data as spec;
 ghost use Rattle.b2_stmt.specs.Data.{data_at};
-ghost use Rattle.b2_stmt.specs.Lines.{commas};
+ghost use Rattle.b2_rows.specs.CommaLists.{commas};
 ghost use Rattle.b2_expr.specs.Value.{literal_value};
 
 use b2_access::statement_on;

@@ -16,19 +16,16 @@ ghost use Rattle.b2_stmt.specs.Assignments.{assign_each};
 ghost use Rattle.b2_stmt.specs.Dimensions as spec;
 ghost use Rattle.b2_stmt.specs.Lengths.{length_value};
 
-use crate::around::surroundings_of;
-use crate::assignments::code_of;
-use b2_access::Setting;
 use b2_atom::Cursor;
 use b2_atom::words::COM;
 use b2_base::codes::{P50_DIMENSION, P53_LENGTH, X77_NO_PARTITION};
 use b2_base::lexical::dropped;
 use b2_base::{Code, NoMemory};
 use b2_dec::{Dec, fix, whole};
-use b2_expr::{Env, number};
+use b2_expr::{Env, code_of, number, surroundings_of};
 use b2_rows::{Name, alpha_name, is_alpha_at, is_at, is_numeric_at, numeric_name};
 use b2_text::Text;
-use b2_vars::{Shape, Var, Vars};
+use b2_vars::{Setting, Shape, Var, Vars};
 
 /// The most rows of an array without columns.
 const LONGEST: u16 = 4000;

@@ -12,7 +12,6 @@
 #![tactic(auto)]
 
 mod arguments;
-mod around;
 mod asked;
 mod assignments;
 mod branches;

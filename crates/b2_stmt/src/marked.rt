@@ -6,22 +6,20 @@ ghost use Rattle.b2_text.specs.Spots.{first_opening, is_mark};
 ghost use Rattle.b2_expr.specs.Assigning.{assigned_value};
 ghost use Rattle.b2_expr.specs.Receivers.{IsNamed};
 ghost use Rattle.b2_stmt.specs.Marked as spec;
-ghost use Rattle.b2_stmt.specs.ReceiverLists.{are_others, past_first, receivers_at};
+ghost use Rattle.b2_rows.specs.CommaLists.{are_others, past_first, receivers_at};
 
-use crate::around::surroundings_of;
-use crate::assignments::code_of;
-use crate::reading::{past_receiver, suits};
-use b2_access::{Outcome, Private, Setting, failed, goes_or, setting_of};
+use crate::reading::suits;
+use b2_access::{Outcome, Private, failed, goes_or, setting_of};
 use b2_atom::Cursor;
 use b2_base::codes::{P35_ARGUMENTS, P38_NO_DEFFN};
 use b2_base::lexical::{digits_width, dropped};
 use b2_base::{Code, NoMemory, Part};
 use b2_dec::{Value, ValueList};
-use b2_expr::{Receiver, any_receiver, assign_value};
+use b2_expr::{Receiver, any_receiver, assign_value, code_of, past_any_receiver, surroundings_of};
 use b2_flow::{Frame, Place};
 use b2_rows::{is_alpha_at, is_at, small_at};
 use b2_text::{Spot, Text};
-use b2_vars::Vars;
+use b2_vars::{Setting, Vars};
 
 /// The number that GOSUB' calls.
 #[tactic(auto, using(crate::proofs::MarkRows::called_number, crate::proofs::MarkRows::called_is))]
@@ -108,7 +106,7 @@ fn fits(text: &[u8], args: &[Value]) -> bool
         if !suits(is_alpha_at(left), value) {
             return false;
         }
-        left = past_receiver(left);
+        left = past_any_receiver(left);
         values = others;
         if !is_at(b',', left) {
             return values.is_empty();
@@ -118,7 +116,7 @@ fn fits(text: &[u8], args: &[Value]) -> bool
 }
 
 /// Assigns a value to a receiver, where they are of one kind.
-#[tactic(auto, using(crate::proofs::Assigned::ended_so, crate::proofs::ReadRows::one_kind, crate::proofs::MarkRows::other_kind))]
+#[tactic(auto, using(b2_expr::proofs::Ended::ended_so, crate::proofs::ReadRows::one_kind, crate::proofs::MarkRows::other_kind))]
 fn assign_to(vars: &mut Vars, to: &Receiver, value: &Value) -> Result<Option<Code>, NoMemory>
     requires named { IsNamed to.now }
     ensures { IfOk result (λ code. record { vars = vars.new; code = code } ≡ assigned_value to.now value.now vars.old) }
@@ -169,7 +167,7 @@ fn take_each(
         if code.is_some() {
             return Ok(code);
         }
-        left = past_receiver(left);
+        left = past_any_receiver(left);
         if !is_at(b',', left) {
             return Ok(None);
         }

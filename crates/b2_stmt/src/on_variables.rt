@@ -6,11 +6,10 @@ ghost use Rattle.b2_stmt.specs.OnVariables as spec;
 use crate::assignments::assign;
 use crate::buffers::{init, rotate_bits};
 use crate::dimensions::dim;
-use b2_access::Setting;
 use b2_atom::rows;
 use b2_base::{Code, NoMemory};
 use b2_text::Text;
-use b2_vars::Vars;
+use b2_vars::{Setting, Vars};
 use std::alloc::Global;
 
 /// Whether a statement changes variables and nothing else.

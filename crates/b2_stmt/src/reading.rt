@@ -6,21 +6,18 @@ ghost use Rattle.b2_vars.specs.Variables.{is_alpha};
 ghost use Rattle.b2_expr.specs.Assigning.{assigned_value, is_alpha_receiver};
 ghost use Rattle.b2_expr.specs.Receivers.{IsNamed};
 ghost use Rattle.b2_stmt.specs.Reading as spec;
-ghost use Rattle.b2_stmt.specs.ReceiverLists.{are_others, past_first, receivers_at};
+ghost use Rattle.b2_rows.specs.CommaLists.{are_others, past_first, receivers_at};
 
-use crate::around::surroundings_of;
-use crate::assignments::code_of;
 use crate::data::{Literal, next_literal};
-use b2_access::Setting;
 use b2_atom::Cursor;
 use b2_base::codes::{X70_TOO_LITTLE, X74_OTHER_KIND};
 use b2_base::lexical::dropped;
 use b2_base::{Code, NoMemory};
 use b2_dec::Value;
-use b2_expr::{Receiver, any_receiver, assign_value, pass_any_receiver};
+use b2_expr::{Receiver, any_receiver, assign_value, code_of, past_any_receiver, surroundings_of};
 use b2_rows::is_at;
 use b2_text::{Spot, Text};
-use b2_vars::Vars;
+use b2_vars::{Setting, Vars};
 
 /// Whether a value is for a receiver that takes bytes, or for one that takes a number.
 pub fn suits(takes_bytes: bool, value: &Value) -> bool
@@ -56,7 +53,7 @@ fn value_for(to: &Receiver, literal: Result<Value, Code>) -> Result<Value, Code>
 }
 
 /// Assigns a value to a receiver of its kind.
-#[tactic(auto, using(crate::proofs::Assigned::ended_so))]
+#[tactic(auto, using(b2_expr::proofs::Ended::ended_so))]
 fn value_to(vars: &mut Vars, to: &Receiver, value: &Value) -> Result<Option<Code>, NoMemory>
     requires named { IsNamed to.now }
     requires kind { is_alpha value.now ≡ is_alpha_receiver to.now }
@@ -108,16 +105,6 @@ fn read_one(
     }
 }
 
-/// What stands after a receiver of either kind.
-pub fn past_receiver(text: &[u8]) -> &[u8]
-    requires part { is_part row.RECEIVER text.now ≡ true }
-    ensures { result.now ≡ after_part row.RECEIVER text.now }
-{
-    let mut c = Cursor::over(text);
-    pass_any_receiver(&mut c);
-    c.rest()
-}
-
 /// Reads literals into the receivers that stand at a text, from left to right.
 #[tactic(auto, using(crate::proofs::ReadRows::other_part, crate::proofs::ReadRows::other_list, crate::proofs::ReadRows::other_items, crate::proofs::ReadRows::no_items, crate::proofs::ReadRows::receiver_shorter, crate::proofs::ReadRows::one_more, crate::proofs::ReadRows::one_coded))]
 fn read_all(
@@ -138,7 +125,7 @@ fn read_all(
         if code.is_some() {
             return Ok(code);
         }
-        left = past_receiver(left);
+        left = past_any_receiver(left);
         if !is_at(b',', left) {
             return Ok(None);
         }

@@ -20,14 +20,14 @@ use Rattle.b2_rows.specs.Leaves.{is_leaf, leaf_bytes}
 use Rattle.b2_rows.specs.Rows.{is_part, tree_at, after_part, When}
 use Rattle.b2_rows.specs.Values.{image_of}
 use Rattle.b2_rows.proofs.Levels.{part_no_longer}
-use Rattle.b2_expr.proofs.RowsRead.{part_short, stands_of}
+use Rattle.b2_rows.proofs.RowsRead.{part_short, stands_of}
 use Rattle.b2_expr.specs.Value.{in_statement, text, value}
 use Rattle.b2_expr.specs.declared.operators.Level.TheVariants as level
 use Rattle.b2_text.specs.Program.{TextState}
 use Rattle.b2_vars.specs.Tables.{VarsState}
-use Rattle.b2_stmt_io.specs.Around.{surroundings_of}
+use Rattle.b2_expr.specs.Scope.{surroundings_of}
 use Rattle.b2_stmt_io.specs.Converting.{converts, converts_bytes, converts_number, image_from, number_from}
-use Rattle.b2_access.specs.declared.setting.Setting.{Setting}
+use Rattle.b2_vars.specs.declared.setting.Setting.{Setting}
 
 -- of bytes
 abbrev bytes_items : List Item

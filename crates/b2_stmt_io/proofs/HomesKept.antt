@@ -25,7 +25,7 @@ use Rattle.b2_access.specs.declared.accesses.Answer.TheVariants as answer
 use Rattle.b2_access.specs.declared.planned.Outcome.{Outcome}
 use Rattle.b2_access.specs.declared.planned.Outcome.TheVariants as outcome
 use Rattle.b2_access.specs.declared.private.Private.{Private}
-use Rattle.b2_stmt_io.specs.Around.{around}
+use Rattle.b2_expr.specs.Value.{context_of}
 use Rattle.b2_stmt_io.specs.Changed.{with_assigned}
 use Rattle.b2_stmt_io.specs.Converting.{converts}
 use Rattle.b2_stmt_io.specs.Imaging.{prints_using}
@@ -92,7 +92,7 @@ module _ (among : ℕ → Bool) where
   unfolding PlanningIn EndedIn
   course_of_in u me s w =
       either PlanningIn (u.row == row.CONVERT) _ _ (assigned_in (converts (setting_of me) s.home u.tree me.vars) outcome.Next me tt w)
-      (w, asked_in u.row u.tree (around me s.home) me.term_column me.prompted)
+      (w, asked_in u.row u.tree (context_of (setting_of me) me.vars s.home) me.term_column me.prompted)
 
   unit_in : (o : Option Statement) (p : Place) (me : Private) (s : SeenLent) → Within me → PlanningIn (course_at o p me s)
   unfolding PlanningIn

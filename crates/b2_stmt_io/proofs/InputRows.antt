@@ -19,17 +19,16 @@ use Rattle.b2_rows.specs.Choices.{ReadAs, first_branch, second_branch}
 use Rattle.b2_rows.specs.Rows.{is_part, tree_at, after_part, list_at}
 use Rattle.b2_rows.specs.Optional.{maybe_part, maybe_tree}
 use Rattle.b2_rows.proofs.Choices.{either_first, either_second}
-use Rattle.b2_expr.proofs.RowsRead.{stands_of}
+use Rattle.b2_rows.proofs.RowsRead.{stands_of}
 use Rattle.b2_text.specs.Program.{TextState}
 use Rattle.b2_vars.specs.Tables.{VarsState}
 use Rattle.b2_stmt_io.specs.Inputs.{take_parts, takes_part, takes_parts, takes_some}
 use Rattle.b2_stmt_io.specs.LineReading.{after_prompt, prompt_of, prompt_there}
-use Rattle.b2_stmt_io.specs.Lists.{items_of}
-use Rattle.b2_stmt_io.specs.Receivers.{are_others, others_at, past_first, receivers_at}
+use Rattle.b2_rows.specs.CommaLists.{all_listed, commas, are_others, others_at, past_first, receivers_at}
 use Rattle.b2_stmt_io.specs.Receiving.{assign_bytes, assign_number}
 use Rattle.b2_stmt_io.specs.TypedText.{parts_of, typed_number}
-use Rattle.b2_access.specs.declared.setting.Setting.{Setting}
-use Rattle.b2_stmt_io.proofs.Commas.{IsComma, Other, commas, other, no_items_left, items_of_other, item_shorter}
+use Rattle.b2_vars.specs.declared.setting.Setting.{Setting}
+use Rattle.b2_rows.proofs.CommaLists.{IsComma, Other, other, no_items_left, items_of_other, item_shorter}
 use Rattle.b2_stmt_io.proofs.LeftOut.{maybe_put, maybe_then}
 use Rattle.b2_stmt_io.proofs.PromptRows.{after_is, prompt_is, quoted, rest_at}
 
@@ -108,8 +107,8 @@ input_tree t ok =
 pub input_shows : (t : Text) → is_part row.INPUT t ≡ true → prompt_of (tree_at row.INPUT t) ≡ prompt_there (maybe_tree quoted row.PROMPT (drop 1 t))
 input_shows t ok = ap prompt_of (input_tree t ok) ∙ prompt_is word.INPUT (drop 1 t) (receivers_tree (rest_at t))
 
-input_to : (t : Text) → is_part row.INPUT t ≡ true → items_of (after_prompt (tree_at row.INPUT t)) ≡ receivers_at (rest_at t)
-input_to t ok = ap (λ (a : Trees). items_of (after_prompt a)) (input_tree t ok) ∙ ap items_of (after_is word.INPUT (drop 1 t) (receivers_tree (rest_at t)))
+input_to : (t : Text) → is_part row.INPUT t ≡ true → all_listed (after_prompt (tree_at row.INPUT t)) ≡ receivers_at (rest_at t)
+input_to t ok = ap (λ (a : Trees). all_listed (after_prompt a)) (input_tree t ok) ∙ ap all_listed (after_is word.INPUT (drop 1 t) (receivers_tree (rest_at t)))
 
 pub input_is : (a : Setting) (home : TextState) (line : List ℕ) (t : Text) (vars : VarsState) → is_part row.INPUT t ≡ true
     → takes_parts a home line (tree_at row.INPUT t) vars ≡ take_parts (takes_part a home) (receivers_at (rest_at t)) (parts_of line) vars

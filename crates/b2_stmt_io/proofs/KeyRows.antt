@@ -20,7 +20,7 @@ use Rattle.b2_rows.specs.Rows.{is_part, tree_at, after_part}
 use Rattle.b2_rows.specs.Optional.{maybe_part, maybe_tree}
 use Rattle.b2_rows.specs.Values.{line_of}
 use Rattle.b2_rows.proofs.Optional.{maybe_stands, begun_part, begun_tree, left_out_tree}
-use Rattle.b2_expr.proofs.RowsRead.{stands_of}
+use Rattle.b2_rows.proofs.RowsRead.{stands_of}
 use Rattle.b2_flow.specs.declared.frame.Place.{Place}
 use Rattle.b2_text.specs.Program.{Lines, TextState}
 use Rattle.b2_access.specs.declared.planned.Outcome.TheVariants as outcome

@@ -1,8 +1,6 @@
 pub mod Refusals
 pub mod LeftOut
-pub mod Received
 pub mod Finished
-pub mod Commas
 pub mod KeyRows
 pub mod MarkRows
 pub mod PromptRows

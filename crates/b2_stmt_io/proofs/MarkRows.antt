@@ -24,7 +24,7 @@ use Rattle.b2_rows.specs.Optional.{maybe_part, maybe_tree}
 use Rattle.b2_rows.specs.Values.{literal_of}
 use Rattle.b2_rows.proofs.Choices.{either_first, either_second}
 use Rattle.b2_rows.proofs.Optional.{maybe_stands, begun_part, begun_tree, left_out_tree}
-use Rattle.b2_expr.proofs.RowsRead.{stands_of}
+use Rattle.b2_rows.proofs.RowsRead.{stands_of}
 use Rattle.b2_stmt_io.specs.Marks.{bytes_in, mark_bytes, tail_bytes}
 
 -- a literal

@@ -11,7 +11,7 @@ use Rattle.b2_atom.specs.Tree.{Trees}
 use Rattle.b2_vars.specs.Tables.{VarsState}
 use Rattle.b2_expr.specs.Assigning.{Assigned}
 use Rattle.b2_stmt_io.specs.Inputs.{and_then, take_parts, unchanged, unless_coded}
-use Rattle.b2_stmt_io.specs.Receivers.{are_others, others_at, receivers_at}
+use Rattle.b2_rows.specs.CommaLists.{are_others, others_at, receivers_at}
 use Rattle.b2_stmt_io.specs.TypedText.{is_within_part, onto_first, parts_of}
 use Rattle.b2_stmt_io.proofs.InputRows.{no_items, other_items}
 

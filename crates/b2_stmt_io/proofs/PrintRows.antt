@@ -20,7 +20,7 @@ use Rattle.b2_expr.specs.Functions.{counted}
 use Rattle.b2_expr.specs.Scope.{Context}
 use Rattle.b2_expr.specs.Value.{text, value}
 use Rattle.b2_expr.specs.declared.operators.Level.TheVariants as level
-use Rattle.b2_expr.proofs.RowsRead.{stands_of}
+use Rattle.b2_rows.proofs.RowsRead.{stands_of}
 use Rattle.b2_stmt_io.specs.Printing.{alpha_in, blanks_to, digits_of, hex_in, item_of, number_in, tab_in}
 
 -- TAB

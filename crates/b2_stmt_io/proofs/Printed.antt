@@ -24,9 +24,10 @@ use Rattle.b2_rows.proofs.Optional.{begun_part, begun_tree, begun_rest, left_out
 use Rattle.b2_rows.proofs.Lists.{goes, ended}
 use Rattle.b2_expr.specs.Answers.{◌>>=◌}
 use Rattle.b2_expr.specs.Scope.{Context}
-use Rattle.b2_expr.proofs.RowsRead.{stands_of}
+use Rattle.b2_rows.proofs.RowsRead.{stands_of}
 use Rattle.b2_stmt_io.proofs.LeftOut.{maybe_then}
 use Rattle.b2_stmt_io.specs.Printing.{Shown, column_after_items, column_past, further_in, item_at, item_in, item_of, items_in, items_of, laid, laid_after, newline_where, placed, separator_in, zone_where}
+use Rattle.b2_rows.proofs.ListEnds.{also_done}
 
 abbrev print_items : List Item
 print_items = Word word.PRINT ∷ Maybe start.PrintItem row.PRINT_ITEM ∷ Many (start.Two byte.comma byte.semicolon) row.FURTHER_ITEM ∷ []
@@ -116,11 +117,6 @@ pub none_some : (s : Context) (t : Text) → starts Atoms start.PrintItem t ≡ 
 none_some s t is = ap (λ (r : Result (Option Shown) ℕ). r >>= (λ o. Ok (is_some o))) (none_there s t is)
 
 -- the first item and the further ones, where PRINT is read
-also_done : (a : Trees) → also a Done ≡ a
-also_done Done = refl
-also_done (Put t a) = ap (Put t) (also_done a)
-also_done (In n i a) = ap (In n i) (also_done a)
-
 print_stands : (t : Text) → is_part row.PRINT t ≡ true → (maybe_part start.PrintItem row.PRINT_ITEM (drop 1 t) ≡ true) × ((is_list separators row.FURTHER_ITEM (after_item (drop 1 t)) ≡ true) × Unit {0})
 print_stands t ok =
     maybe_then start.PrintItem row.PRINT_ITEM (drop 1 t) (λ u. (is_list separators row.FURTHER_ITEM u ≡ true) × Unit {0})

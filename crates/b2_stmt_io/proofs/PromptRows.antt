@@ -22,12 +22,12 @@ use Rattle.b2_rows.specs.Rows.{is_part, tree_at}
 use Rattle.b2_rows.specs.Optional.{maybe_part, maybe_tree, after_maybe}
 use Rattle.b2_rows.specs.Values.{literal_of}
 use Rattle.b2_rows.proofs.Optional.{begun_part, begun_tree, begun_rest, left_out_tree, left_out_rest}
-use Rattle.b2_expr.proofs.RowsRead.{stands_of}
+use Rattle.b2_rows.proofs.RowsRead.{stands_of}
 use Rattle.b2_text.specs.Program.{TextState}
 use Rattle.b2_vars.specs.Tables.{VarsState}
 use Rattle.b2_stmt_io.specs.LineReading.{after_prompt, prompt_bytes, prompt_of, prompt_there, receiver_of, takes_line}
 use Rattle.b2_stmt_io.specs.Receiving.{assign_bytes}
-use Rattle.b2_access.specs.declared.setting.Setting.{Setting}
+use Rattle.b2_vars.specs.declared.setting.Setting.{Setting}
 use Rattle.b2_stmt_io.proofs.LeftOut.{maybe_put, maybe_then}
 use Rattle.b2_stmt_io.proofs.MarkRows.{after_literal, literal_here, literal_tree}
 

@@ -30,15 +30,14 @@ use Rattle.b2_expr.specs.Answers.{TextAnswer, ◌>>=◌}
 use Rattle.b2_expr.specs.Scope.{Context}
 use Rattle.b2_expr.specs.Value.{text, value}
 use Rattle.b2_expr.specs.declared.operators.Level.TheVariants as level
-use Rattle.b2_expr.proofs.RowsRead.{stands_of}
+use Rattle.b2_rows.proofs.RowsRead.{stands_of}
 use Rattle.b2_print.specs.Imaged.{IsRefused, appended, imaged}
 use Rattle.b2_text.specs.Program.{Lines, line_at}
 use Rattle.b2_access.specs.Going.{line_in}
 use Rattle.b2_stmt_io.specs.Imaging.{any_value, image_named, is_joined, items_named, items_using, joined, line_image, prints_using, values_of, written_image}
-use Rattle.b2_stmt_io.specs.Lists.{after_items}
+use Rattle.b2_rows.specs.CommaLists.{after_all_listed, commas}
 use Rattle.b2_stmt_io.specs.Operands.{after_further, after_image, are_further, is_named, items_text, operands_at, operands_tree, past_operand}
 use Rattle.b2_stmt_io.specs.Printing.{Refused}
-use Rattle.b2_stmt_io.proofs.Commas.{commas}
 use Rattle.b2_stmt_io.proofs.PrintRows.{is_bytes, is_number}
 
 -- a line number, and an image that is written
@@ -192,7 +191,7 @@ items_are t ok = ap items_named (using_tree t ok) ∙ named_items (is_named t) (
 
 -- what PRINTUSING shows, by its image, its values and its end
 using_is : (s : Context) (t image : Text) → is_part row.PRINTUSING t ≡ true → image_named s.around.home.lines (tree_at row.PRINTUSING t) ≡ Ok image
-    → prints_using s (tree_at row.PRINTUSING t) ≡ (values_of s (operands_at (items_text t)) >>= (λ xs. imaged image xs (is_joined (after_items (operands_tree (items_text t))))))
+    → prints_using s (tree_at row.PRINTUSING t) ≡ (values_of s (operands_at (items_text t)) >>= (λ xs. imaged image xs (is_joined (after_all_listed (operands_tree (items_text t))))))
 using_is s t image ok is =
     ap (λ (r : TextAnswer). r >>= (λ i. items_using s i (items_named (tree_at row.PRINTUSING t)))) is
     ∙ ap (items_using s image) (items_are t ok)
@@ -207,7 +206,7 @@ values_by r f fault.NoMemory h = h
 pub values_refused : (s : Context) (t image : Text) (e : Fault) → is_part row.PRINTUSING t ≡ true → image_named s.around.home.lines (tree_at row.PRINTUSING t) ≡ Ok image
     → Refused (values_of s (operands_at (items_text t))) e → Refused (prints_using s (tree_at row.PRINTUSING t)) e
 values_refused s t image e ok is h =
-    subst (λ (r : TextAnswer). Refused r e) (sym (using_is s t image ok is)) (values_by (values_of s (operands_at (items_text t))) (λ xs. imaged image xs (is_joined (after_items (operands_tree (items_text t))))) e h)
+    subst (λ (r : TextAnswer). Refused r e) (sym (using_is s t image ok is)) (values_by (values_of s (operands_at (items_text t))) (λ xs. imaged image xs (is_joined (after_all_listed (operands_tree (items_text t))))) e h)
 
 from_none : (r : Result (List Value) ℕ) (xs : List Value) → joined [] r ≡ Ok xs → r ≡ Ok xs
 from_none (Ok ys) xs h = h
@@ -218,14 +217,14 @@ onto_none (Ok bytes) = refl
 onto_none (Err code) = refl
 
 pub using_valued : (s : Context) (t image : Text) (xs : List Value) (more : Bool) → is_part row.PRINTUSING t ≡ true → image_named s.around.home.lines (tree_at row.PRINTUSING t) ≡ Ok image
-    → joined [] (values_of s (operands_at (items_text t))) ≡ Ok xs → is_joined (after_items (operands_tree (items_text t))) ≡ more → prints_using s (tree_at row.PRINTUSING t) ≡ imaged image xs more
+    → joined [] (values_of s (operands_at (items_text t))) ≡ Ok xs → is_joined (after_all_listed (operands_tree (items_text t))) ≡ more → prints_using s (tree_at row.PRINTUSING t) ≡ imaged image xs more
 using_valued s t image xs more ok is h joint =
     using_is s t image ok is
-    ∙ ap (λ (r : Result (List Value) ℕ). r >>= (λ ys. imaged image ys (is_joined (after_items (operands_tree (items_text t)))))) (from_none (values_of s (operands_at (items_text t))) xs h)
+    ∙ ap (λ (r : Result (List Value) ℕ). r >>= (λ ys. imaged image ys (is_joined (after_all_listed (operands_tree (items_text t)))))) (from_none (values_of s (operands_at (items_text t))) xs h)
     ∙ ap (imaged image xs) joint
 
 pub using_shown : (s : Context) (t image new : Text) (xs : List Value) (more : Bool) → is_part row.PRINTUSING t ≡ true → image_named s.around.home.lines (tree_at row.PRINTUSING t) ≡ Ok image
-    → joined [] (values_of s (operands_at (items_text t))) ≡ Ok xs → is_joined (after_items (operands_tree (items_text t))) ≡ more → Ok new ≡ appended [] (imaged image xs more)
+    → joined [] (values_of s (operands_at (items_text t))) ≡ Ok xs → is_joined (after_all_listed (operands_tree (items_text t))) ≡ more → Ok new ≡ appended [] (imaged image xs more)
     → prints_using s (tree_at row.PRINTUSING t) ≡ Ok new
 using_shown s t image new xs more ok is h joint shown = using_valued s t image xs more ok is h joint ∙ sym (shown ∙ onto_none (imaged image xs more))
 
@@ -234,7 +233,7 @@ refused_by r (fault.Code code) h = h
 refused_by r fault.NoMemory h = h
 
 pub using_refused : (s : Context) (t image : Text) (xs : List Value) (more : Bool) (e : Fault) → is_part row.PRINTUSING t ≡ true → image_named s.around.home.lines (tree_at row.PRINTUSING t) ≡ Ok image
-    → joined [] (values_of s (operands_at (items_text t))) ≡ Ok xs → is_joined (after_items (operands_tree (items_text t))) ≡ more → IsRefused (imaged image xs more) e
+    → joined [] (values_of s (operands_at (items_text t))) ≡ Ok xs → is_joined (after_all_listed (operands_tree (items_text t))) ≡ more → IsRefused (imaged image xs more) e
     → Refused (prints_using s (tree_at row.PRINTUSING t)) e
 using_refused s t image xs more e ok is h joint refused =
     subst (λ (r : TextAnswer). Refused r e) (sym (using_valued s t image xs more ok is h joint)) (refused_by (imaged image xs more) e refused)

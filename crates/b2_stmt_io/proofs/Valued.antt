@@ -15,9 +15,9 @@ use Rattle.b2_rows.proofs.Optional.{begun_tree, left_out_tree}
 use Rattle.b2_expr.specs.Answers.{◌>>=◌}
 use Rattle.b2_expr.specs.Scope.{Context}
 use Rattle.b2_stmt_io.specs.Imaging.{any_value, is_joined, joined, values_of}
-use Rattle.b2_stmt_io.specs.Lists.{after_items, end_of}
+use Rattle.b2_rows.specs.CommaLists.{after_all_listed, after_further_listed}
 use Rattle.b2_stmt_io.specs.Operands.{after_further, are_further, end_joint, further_at, joint_at, operands_tree, past_operand}
-use Rattle.b2_stmt_io.proofs.Commas.{IsComma, Other, end_left, end_of_other, items_of_other, no_items_left, no_other, other, other_shorter, tail_at}
+use Rattle.b2_rows.proofs.CommaLists.{IsComma, Other, end_left, end_of_other, items_of_other, no_items_left, no_other, other, other_shorter, tail_at}
 
 -- a value, and those after it
 append_nil : (xs : List Value) → xs ++ [] ≡ xs
@@ -51,7 +51,7 @@ next_list t ok is = Other.list (other row.COMMA_OPERAND row.OPERAND_OF_ANY_KIND 
 pub next_rest : (t : Text) → are_further t ≡ true → (first t == byte.comma) ≡ true → after_further (past_operand (drop 1 t)) ≡ after_further t
 next_rest t ok is = sym (Other.rest (other row.COMMA_OPERAND row.OPERAND_OF_ANY_KIND S13_SEPARATOR t comma_row ok is))
 
-pub next_end : (joint : Trees) (t : Text) → are_further t ≡ true → (first t == byte.comma) ≡ true → end_of (tail_at row.COMMA_OPERAND joint (past_operand (drop 1 t))) ≡ end_of (tail_at row.COMMA_OPERAND joint t)
+pub next_end : (joint : Trees) (t : Text) → are_further t ≡ true → (first t == byte.comma) ≡ true → after_further_listed (tail_at row.COMMA_OPERAND joint (past_operand (drop 1 t))) ≡ after_further_listed (tail_at row.COMMA_OPERAND joint t)
 next_end joint t ok is = sym (end_of_other row.COMMA_OPERAND row.OPERAND_OF_ANY_KIND S13_SEPARATOR joint t comma_row ok is)
 
 pub next_shorter : (t : Text) → (first t == byte.comma) ≡ true → length (past_operand (drop 1 t)) < length t
@@ -91,7 +91,7 @@ joint_by t true is = ap is_joined (begun_tree (start.Code byte.semicolon) row.SE
 joint_by t false is = ap is_joined (left_out_tree (start.Code byte.semicolon) row.SEMICOLON t (semicolon_starts t false is))
 
 pub all_joined : (whole t : Text) → (first t == byte.comma) ≡ false → after_further t ≡ after_further (past_operand whole)
-    → end_of (tail_at row.COMMA_OPERAND (end_joint whole) t) ≡ after_items (operands_tree whole) → is_joined (after_items (operands_tree whole)) ≡ (first t == byte.semicolon)
+    → after_further_listed (tail_at row.COMMA_OPERAND (end_joint whole) t) ≡ after_all_listed (operands_tree whole) → is_joined (after_all_listed (operands_tree whole)) ≡ (first t == byte.semicolon)
 all_joined whole t is rest same =
     ap is_joined (sym same ∙ end_left row.COMMA_OPERAND (end_joint whole) t is)
     ∙ ap (λ (u : Text). is_joined (joint_at u)) (sym rest ∙ Ends.rest (no_other row.COMMA_OPERAND t is))

@@ -12,10 +12,10 @@ use Rattle.b2_expr.specs.Assigning.{Assigned}
 use Rattle.b2_expr.specs.Value.{in_statement, text, value}
 use Rattle.b2_expr.specs.declared.operators.Level.TheVariants as level
 use Rattle.b2_print.specs.Imaged.{converted}
-use Rattle.b2_stmt_io.specs.Around.{surroundings_of}
+use Rattle.b2_expr.specs.Scope.{surroundings_of}
 use Rattle.b2_stmt_io.specs.Receiving.{assign_bytes, assign_number, refused}
 use Rattle.b2_stmt_io.specs.TypedText.{typed_number}
-use Rattle.b2_access.specs.declared.setting.Setting.{Setting}
+use Rattle.b2_vars.specs.declared.setting.Setting.{Setting}
 
 -- bytes for a numeric receiver
 abbrev pub number_from : Setting → TextState → TextAnswer → Trees → VarsState → Assigned

@@ -15,7 +15,7 @@ use Rattle.b2_expr.specs.Value.{text, value}
 use Rattle.b2_expr.specs.declared.operators.Level.TheVariants as level
 use Rattle.b2_print.specs.Imaged.{imaged}
 use Rattle.b2_access.specs.Going.{line_in}
-use Rattle.b2_stmt_io.specs.Lists.{after_items, items_of}
+use Rattle.b2_rows.specs.CommaLists.{after_all_listed, all_listed}
 
 -- the image on a line: what stands after its `%`
 abbrev pub line_image : Option (List ℕ) → TextAnswer
@@ -57,7 +57,7 @@ is_joined t = false
 
 -- the image first, then the values, and then what they become in it
 abbrev pub items_using : Context → List ℕ → Trees → TextAnswer
-items_using s image items = values_of s (items_of items) >>= (λ xs. imaged image xs (is_joined (after_items items)))
+items_using s image items = values_of s (all_listed items) >>= (λ xs. imaged image xs (is_joined (after_all_listed items)))
 
 abbrev pub prints_using : Context → Trees → TextAnswer
 prints_using s t = image_named s.around.home.lines t >>= (λ image. items_using s image (items_named t))

@@ -9,10 +9,10 @@ use Rattle.b2_text.specs.Program.{TextState}
 use Rattle.b2_vars.specs.Tables.{VarsState}
 use Rattle.b2_expr.specs.Assigning.{Assigned}
 use Rattle.b2_stmt_io.specs.LineReading.{after_prompt}
-use Rattle.b2_stmt_io.specs.Lists.{items_of}
+use Rattle.b2_rows.specs.CommaLists.{all_listed}
 use Rattle.b2_stmt_io.specs.Receiving.{assign_bytes, assign_number, refused}
 use Rattle.b2_stmt_io.specs.TypedText.{parts_of, typed_number}
-use Rattle.b2_access.specs.declared.setting.Setting.{Setting}
+use Rattle.b2_vars.specs.declared.setting.Setting.{Setting}
 
 -- nothing is assigned, without a code
 abbrev pub unchanged : VarsState → Assigned
@@ -44,4 +44,4 @@ take_parts one (t ∷ ts) [] vars = unchanged vars
 take_parts one (t ∷ ts) (part ∷ parts) vars = and_then (one t part vars) (take_parts one ts parts)
 
 abbrev pub takes_parts : Setting → TextState → List ℕ → Trees → VarsState → Assigned
-takes_parts a home line t vars = take_parts (takes_part a home) (items_of (after_prompt t)) (parts_of line) vars
+takes_parts a home line t vars = take_parts (takes_part a home) (all_listed (after_prompt t)) (parts_of line) vars

@@ -1,9 +1,6 @@
 pub mod Changed
-pub mod Around
 pub mod TypedText
 pub mod Receiving
-pub mod Lists
-pub mod Receivers
 pub mod Printing
 pub mod Showing
 pub mod Keys

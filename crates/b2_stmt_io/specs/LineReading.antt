@@ -18,7 +18,7 @@ use Rattle.b2_stmt_io.specs.Changed.{with_assigned}
 use Rattle.b2_access.specs.Planning.{Ended, stays}
 use Rattle.b2_stmt_io.specs.Receiving.{assign_bytes}
 use Rattle.b2_stmt_io.specs.Showing.{with_column}
-use Rattle.b2_access.specs.declared.setting.Setting.{Setting}
+use Rattle.b2_vars.specs.declared.setting.Setting.{Setting}
 
 -- the text of a prompt, no bytes where none is written
 abbrev pub prompt_bytes : Trees → List ℕ

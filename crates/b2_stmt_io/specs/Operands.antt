@@ -10,7 +10,7 @@ use Rattle.b2_atom.specs.declared.rows.TheConstants as row
 use Rattle.b2_atom.specs.declared.forms.Start.TheVariants as start
 use Rattle.b2_rows.specs.Rows.{tree_at, after_part, is_list, list_at, after_list}
 use Rattle.b2_rows.specs.Optional.{maybe_tree}
-use Rattle.b2_stmt_io.specs.Lists.{items_after}
+use Rattle.b2_rows.specs.CommaLists.{further_listed}
 
 -- whether further operands stand at a text, and what stands after them
 abbrev pub are_further : Text → Bool
@@ -28,7 +28,7 @@ joint_at t = maybe_tree (start.Code byte.semicolon) row.SEMICOLON t
 
 -- the further operands at a text, before a joint
 abbrev pub further_at : Trees → Text → List Trees
-further_at joint t = items_after (also (list_at (start.Code byte.comma) row.COMMA_OPERAND t) joint)
+further_at joint t = further_listed (also (list_at (start.Code byte.comma) row.COMMA_OPERAND t) joint)
 
 -- the operands at a text, with the joint that ends them
 abbrev pub end_joint : Text → Trees

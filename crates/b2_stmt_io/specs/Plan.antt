@@ -13,7 +13,7 @@ use Rattle.b2_access.specs.declared.planned.Planned.{Planned}
 use Rattle.b2_access.specs.declared.planned.Planned.TheVariants as planned
 use Rattle.b2_access.specs.declared.private.Private.{Private}
 use Rattle.b2_access.specs.Lending.{SeenLent}
-use Rattle.b2_stmt_io.specs.Around.{around}
+use Rattle.b2_expr.specs.Value.{context_of}
 use Rattle.b2_access.specs.Partition.{setting_of}
 use Rattle.b2_stmt_io.specs.Converting.{converts}
 use Rattle.b2_stmt_io.specs.Imaging.{prints_using}
@@ -50,7 +50,7 @@ as_before s me p = record { me = me; globals = s.globals; planned = p }
 abbrev pub course_of : Statement → Private → SeenLent → Planning
 course_of u me s =
     if u.row == row.CONVERT then done s (with_assigned (converts (setting_of me) s.home u.tree me.vars) outcome.Next me)
-    else as_before s me (asked_of u.row u.tree (around me s.home) me.term_column me.prompted)
+    else as_before s me (asked_of u.row u.tree (context_of (setting_of me) me.vars s.home) me.term_column me.prompted)
 
 -- where it may stand there; a unit that isn't there ends the program or the immediate line
 abbrev pub course_at : Option Statement → Place → Private → SeenLent → Planning

@@ -1,7 +1,5 @@
 -- Receivers that take bytes or a number, and how that ends.
-use Rattle.std.specs.Prelude.{◌≡◌, ℕ, Option, None, Some, Result, Ok, Err}
-use Rattle.b2_base.specs.declared.codes.Fault.{Fault}
-use Rattle.b2_base.specs.declared.codes.Fault.TheVariants as fault
+use Rattle.std.specs.Prelude.{ℕ, Some, Result, Ok, Err}
 use Rattle.b2_atom.specs.Tree.{Trees}
 use Rattle.b2_text.specs.Program.{TextState}
 use Rattle.b2_vars.specs.Tables.{VarsState}
@@ -11,8 +9,8 @@ use Rattle.b2_expr.specs.Receivers.{alpha_receiver, number_receiver}
 use Rattle.b2_expr.specs.Value.{in_statement}
 use Rattle.b2_expr.specs.declared.named.Element.{Element}
 use Rattle.b2_expr.specs.declared.receiver.AlphaReceiver.{AlphaReceiver}
-use Rattle.b2_stmt_io.specs.Around.{surroundings_of}
-use Rattle.b2_access.specs.declared.setting.Setting.{Setting}
+use Rattle.b2_expr.specs.Scope.{surroundings_of}
+use Rattle.b2_vars.specs.declared.setting.Setting.{Setting}
 
 -- nothing is assigned, for a code
 abbrev pub refused : ℕ → VarsState → Assigned
@@ -35,12 +33,3 @@ assign_bytes a home bytes t vars = bytes_to (alpha_receiver (in_statement (surro
 
 abbrev pub assign_number : Setting → TextState → Answer → Trees → VarsState → Assigned
 assign_number a home x t vars = number_to (number_receiver (in_statement (surroundings_of a vars home)) t) x vars
-
--- how an assignment ended: without a code, or with one; where memory failed it did not
-abbrev pub HasCode : Fault → Option ℕ → Type 0
-HasCode (fault.Code c) code = code ≡ Some c
-HasCode fault.NoMemory code = ⊥
-
-abbrev pub EndsWith : Result (Unit {0}) Fault → Option ℕ → Type 0
-EndsWith (Ok done) code = code ≡ None
-EndsWith (Err f) code = HasCode f code

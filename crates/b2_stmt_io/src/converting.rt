@@ -9,18 +9,18 @@ ghost use Rattle.b2_rows.specs.Values.{image_of};
 ghost use Rattle.b2_stmt_io.specs.Converting as spec;
 ghost use Rattle.b2_stmt_io.specs.Receiving.{assign_bytes as assigns_bytes};
 
-use crate::around::surroundings_of;
-use crate::receiving::{code_of, number_to, past_alpha};
-use b2_access::Setting;
+use crate::receiving::number_to;
 use b2_atom::Cursor;
 use b2_base::lexical::dropped;
 use b2_base::{Code, NoMemory};
 use b2_dec::{Bytes, Dec};
-use b2_expr::{alpha, alpha_receiver, assign_bytes, number};
+use b2_expr::{
+    alpha, alpha_receiver, assign_bytes, code_of, number, past_alpha_receiver, surroundings_of,
+};
 use b2_print::convert;
 use b2_rows::{image_at, is_alpha_at};
 use b2_text::Text;
-use b2_vars::Vars;
+use b2_vars::{Setting, Vars};
 
 /// The number that bytes are, for a numeric receiver.
 #[tactic(auto, using(crate::proofs::ConvertRows::bytes_here, crate::proofs::ConvertRows::bytes_receiver, crate::proofs::ConvertRows::bytes_are))]
@@ -43,7 +43,7 @@ fn convert_bytes(
 }
 
 /// Assigns a number in an image to the alpha receiver at a text.
-#[tactic(auto, using(crate::proofs::Received::ended_so))]
+#[tactic(auto, using(b2_expr::proofs::Ended::ended_so))]
 fn image_to(
     vars: &mut Vars,
     a: &Setting,
@@ -73,7 +73,7 @@ fn image_after(text: &[u8]) -> &[u8]
     requires image { is_leaf leaf.Image (drop 1 (drop 1 (after_part row.ALPHA_RECEIVER text.now))) ≡ true }
     ensures { result.now ≡ image_of (leaf_bytes leaf.Image (drop 1 (drop 1 (after_part row.ALPHA_RECEIVER text.now)))) }
 {
-    image_at(dropped(dropped(past_alpha(text), 1), 1))
+    image_at(dropped(dropped(past_alpha_receiver(text), 1), 1))
 }
 
 /// A number in an image, for an alpha receiver.

@@ -10,7 +10,7 @@ ghost use Rattle.b2_rows.specs.Rows.{is_part, tree_at};
 ghost use Rattle.b2_text.specs.Program.{line_at as line_of};
 ghost use Rattle.b2_stmt_io.specs.Imaging as spec;
 ghost use Rattle.b2_stmt_io.specs.Imaging.{is_joined};
-ghost use Rattle.b2_stmt_io.specs.Lists.{after_items};
+ghost use Rattle.b2_rows.specs.CommaLists.{after_all_listed};
 ghost use Rattle.b2_stmt_io.specs.Operands.{are_further, items_text, operands_at, operands_tree, past_operand};
 ghost use Rattle.b2_stmt_io.specs.Printing.{Refused};
 ghost use Rattle.b2_stmt_io.specs.Showing.{shows};
@@ -104,7 +104,7 @@ fn add(values: &mut Vec<Value>, x: Value) -> Result<(), NoMemory>
 fn values_at<'a>(e: &Env<'_>, text: &'a [u8], values: &mut Vec<Value>) -> Result<&'a [u8], Fault>
     requires part { is_part row.OPERAND_OF_ANY_KIND text.now ≡ true }
     requires list { are_further (past_operand text.now) ≡ true }
-    ensures { MatchResult result (λ rest. (spec.joined values.old.items (spec.values_of (in_statement (surroundings e.now)) (operands_at text.now)) ≡ Ok values.new.items) × (is_joined (after_items (operands_tree text.now)) ≡ (first rest.now == byte.semicolon))) (λ f. Refused (spec.values_of (in_statement (surroundings e.now)) (operands_at text.now)) f) }
+    ensures { MatchResult result (λ rest. (spec.joined values.old.items (spec.values_of (in_statement (surroundings e.now)) (operands_at text.now)) ≡ Ok values.new.items) × (is_joined (after_all_listed (operands_tree text.now)) ≡ (first rest.now == byte.semicolon))) (λ f. Refused (spec.values_of (in_statement (surroundings e.now)) (operands_at text.now)) f) }
 {
     let (x, mut left) = match any_value(e, text) {
         Ok(found) => found,

@@ -7,19 +7,20 @@ ghost use Rattle.b2_rows.specs.Rows.{is_part, tree_at};
 ghost use Rattle.b2_access.specs.Partition.{setting_of};
 ghost use Rattle.b2_stmt_io.specs.Inputs as spec;
 ghost use Rattle.b2_stmt_io.specs.LineReading.{asks_line, line_read, prompt_of};
-ghost use Rattle.b2_stmt_io.specs.Receivers.{are_others, past_first, receivers_at};
+ghost use Rattle.b2_rows.specs.CommaLists.{are_others, past_first, receivers_at};
 ghost use Rattle.b2_stmt_io.specs.TypedText.{parts_of};
 
 use crate::line_reading::{ask_line, past_prompt, prompt_shown, type_literal};
-use crate::receiving::{bytes_to, number_to, past_receiver};
+use crate::receiving::{bytes_to, number_to};
 use crate::typed_text::part_width;
-use b2_access::{Access, Answer, Outcome, Private, Setting, goes_or, setting_of};
+use b2_access::{Access, Answer, Outcome, Private, goes_or, setting_of};
 use b2_alpha::value_len;
 use b2_base::lexical::{dropped, front, skip_blanks};
 use b2_base::{Code, NoMemory, Term};
+use b2_expr::past_any_receiver;
 use b2_rows::{is_alpha_at, is_at};
 use b2_text::Text;
-use b2_vars::Vars;
+use b2_vars::{Setting, Vars};
 use std::alloc::Global;
 
 /// Bytes without the blanks after them, but for the first.
@@ -87,7 +88,7 @@ fn parts_to(
         if code.is_some() {
             return Ok(code);
         }
-        left = past_receiver(left);
+        left = past_any_receiver(left);
         if !is_at(b',', left) {
             return Ok(None);
         }

@@ -7,10 +7,11 @@ ghost use Rattle.b2_rows.specs.Rows.{is_part, tree_at};
 ghost use Rattle.b2_rows.specs.Optional.{maybe_part, maybe_tree};
 ghost use Rattle.b2_stmt_io.specs.Keys as spec;
 
-use crate::receiving::{bytes_to, past_alpha};
+use crate::receiving::bytes_to;
 use b2_access::{Answer, Outcome, Private, goes_or, setting_of, to_line};
 use b2_base::NoMemory;
 use b2_base::lexical::dropped;
+use b2_expr::past_alpha_receiver;
 use b2_flow::Place;
 use b2_rows::{is_at, line_at};
 use b2_text::Text;
@@ -55,7 +56,10 @@ fn take_key(
     let setting = setting_of(me);
     let receiver = dropped(unit, 1);
     let code = bytes_to(&mut me.vars, &setting, home, &[key], receiver)?;
-    Ok(goes_or(goes_on(special, home, place, past_alpha(receiver)), code))
+    Ok(goes_or(
+        goes_on(special, home, place, past_alpha_receiver(receiver)),
+        code,
+    ))
 }
 
 /// Where KEYIN goes on without a key.
@@ -64,7 +68,7 @@ fn without_key(unit: &[u8]) -> Outcome
     requires part { is_part row.KEYIN unit.now ≡ true }
     ensures { result ≡ spec.without_key (tree_at row.KEYIN unit.now) }
 {
-    if is_at(b',', past_alpha(dropped(unit, 1))) {
+    if is_at(b',', past_alpha_receiver(dropped(unit, 1))) {
         Outcome::Next
     } else {
         Outcome::Repeat

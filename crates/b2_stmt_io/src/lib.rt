@@ -10,7 +10,6 @@
 //! `b2_atom`, `b2_dec` and `b2_base`.
 #![tactic(auto)]
 
-mod around;
 mod converting;
 mod imaging;
 mod inputs;

@@ -11,14 +11,14 @@ ghost use Rattle.b2_stmt_io.specs.Marks.{typed_by};
 
 use crate::marks::typed_by;
 use crate::receiving::bytes_to;
-use b2_access::{Access, Answer, Outcome, Private, Setting, goes_or, setting_of};
+use b2_access::{Access, Answer, Outcome, Private, goes_or, setting_of};
 use b2_atom::literal_width;
 use b2_base::lexical::dropped;
 use b2_base::{ByteList, Code, NoMemory, Term};
 use b2_print::column_after;
 use b2_rows::{is_at, literal_at};
 use b2_text::Text;
-use b2_vars::Vars;
+use b2_vars::{Setting, Vars};
 use std::alloc::Global;
 
 /// The text of the prompt at a text, no bytes where none stands there.

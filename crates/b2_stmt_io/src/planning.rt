@@ -10,7 +10,6 @@ ghost use Rattle.b2_expr.specs.Value.{in_statement};
 ghost use Rattle.b2_access.specs.Placed.{statement_on as named_on};
 ghost use Rattle.b2_stmt_io.specs.Plan as spec;
 
-use crate::around::surroundings_of;
 use crate::converting::convert_unit;
 use crate::imaging::ask_using;
 use crate::inputs::{after_input, ask_input};
@@ -24,7 +23,7 @@ use b2_access::{
 use b2_atom::{Atoms, rows};
 use b2_base::NoMemory;
 use b2_base::codes::{S26_PROGRAM_ONLY, S27_LEFT_OUT};
-use b2_expr::Env;
+use b2_expr::{Env, surroundings_of};
 use b2_flow::Place;
 use b2_rows::RowUnit;
 use b2_text::Text;

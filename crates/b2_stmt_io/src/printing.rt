@@ -20,7 +20,7 @@ use b2_base::codes::P34_RANGE;
 use b2_base::lexical::{dropped, first};
 use b2_base::{ByteList, Code, Fault, NoMemory};
 use b2_dec::{Bytes, Dec, fix, whole};
-use b2_expr::{Env, alpha, number};
+use b2_expr::{Env, alpha, counted, number};
 use b2_print::{Item, lay};
 use b2_rows::{is_alpha_at, is_at, is_numeric_at};
 use std::alloc::Global;
@@ -80,23 +80,6 @@ fn show_end(alloc: Global, line: bool, column: u16, out: &mut Vec<u8>) -> Result
         lay(alloc, &[Item::Line], column, WIDTH, out)?;
     }
     Ok(())
-}
-
-/// A number without its fraction, None where that isn't a whole number of 64 bits.
-fn fixed(x: Dec) -> Option<i64>
-    ensures { result ≡ fixed x }
-{
-    whole(fix(x))
-}
-
-/// A number without its fraction, which must be from one number to another, else P34.
-fn counted(least: u8, most: u8, x: Dec) -> Result<u8, Code>
-    ensures { result ≡ counted least most x }
-{
-    match fixed(x) {
-        Some(n) if n >= i64::from(least) && n <= i64::from(most) => Ok(n as u8),
-        _ => Err(Code::known(P34_RANGE)),
-    }
 }
 
 /// Shows the blanks of TAB.

@@ -1,45 +1,21 @@
 // Receivers that take bytes or a number.
 ghost use Rattle.std.specs.Prelude.{◌≡◌, true, IfOk, Ok};
 ghost use Rattle.b2_atom.specs.declared.rows.TheConstants as row;
-ghost use Rattle.b2_rows.specs.Rows.{is_part, tree_at, after_part};
+ghost use Rattle.b2_rows.specs.Rows.{is_part, tree_at};
 ghost use Rattle.b2_stmt_io.specs.Receiving as spec;
-ghost use Rattle.b2_stmt_io.specs.Receiving.{EndsWith, HasCode};
 ghost use Rattle.b2_stmt_io.specs.TypedText.{typed_number as number_in};
 
-use crate::around::surroundings_of;
 use crate::typed_text::typed_number;
-use b2_access::Setting;
 use b2_atom::Cursor;
-use b2_base::{Code, Fault, NoMemory};
+use b2_base::{Code, NoMemory};
 use b2_expr::{
-    alpha_receiver, assign_bytes, assign_number, number_receiver, pass_alpha_receiver,
-    pass_any_receiver,
+    alpha_receiver, assign_bytes, assign_number, code_of, number_receiver, surroundings_of,
 };
 use b2_text::Text;
-use b2_vars::Vars;
-
-/// The code of a fault, where memory didn't fail.
-fn code_of_fault(fault: Fault) -> Result<Option<Code>, NoMemory>
-    ensures { IfOk result (λ code. HasCode fault code) }
-{
-    match fault {
-        Fault::Code(code) => Ok(Some(code)),
-        Fault::NoMemory => Err(NoMemory),
-    }
-}
-
-/// The code with which an assignment ended, where memory didn't fail.
-pub fn code_of(ended: Result<(), Fault>) -> Result<Option<Code>, NoMemory>
-    ensures { IfOk result (λ code. EndsWith ended code) }
-{
-    match ended {
-        Ok(()) => Ok(None),
-        Err(fault) => code_of_fault(fault),
-    }
-}
+use b2_vars::{Setting, Vars};
 
 /// Assigns bytes to the alpha receiver at a text.
-#[tactic(auto, using(crate::proofs::Received::ended_so))]
+#[tactic(auto, using(b2_expr::proofs::Ended::ended_so))]
 pub fn bytes_to(
     vars: &mut Vars,
     a: &Setting,
@@ -57,18 +33,8 @@ pub fn bytes_to(
     code_of(assign_bytes(vars, &to, bytes))
 }
 
-/// What stands after an alpha receiver.
-pub fn past_alpha(text: &[u8]) -> &[u8]
-    requires part { is_part row.ALPHA_RECEIVER text.now ≡ true }
-    ensures { result.now ≡ after_part row.ALPHA_RECEIVER text.now }
-{
-    let mut c = Cursor::over(text);
-    pass_alpha_receiver(&mut c);
-    c.rest()
-}
-
 /// Assigns the number that a text is to the numeric receiver at another: X73 comes after the receiver's own codes.
-#[tactic(auto, using(crate::proofs::Received::ended_so))]
+#[tactic(auto, using(b2_expr::proofs::Ended::ended_so))]
 pub fn number_to(
     vars: &mut Vars,
     a: &Setting,
@@ -87,14 +53,4 @@ pub fn number_to(
         Ok(x) => code_of(assign_number(vars, to, x)),
         Err(code) => Ok(Some(code)),
     }
-}
-
-/// What stands after a receiver of either kind.
-pub fn past_receiver(text: &[u8]) -> &[u8]
-    requires part { is_part row.RECEIVER text.now ≡ true }
-    ensures { result.now ≡ after_part row.RECEIVER text.now }
-{
-    let mut c = Cursor::over(text);
-    pass_any_receiver(&mut c);
-    c.rest()
 }

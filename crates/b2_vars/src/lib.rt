@@ -13,6 +13,7 @@
 
 pub mod laws;
 mod name;
+mod setting;
 mod shape;
 mod table;
 #[cfg(test)]
@@ -21,5 +22,6 @@ mod variable;
 mod vars;
 
 pub use name::Var;
+pub use setting::Setting;
 pub use shape::Shape;
 pub use vars::Vars;

@@ -6,8 +6,8 @@ use super::{World, env, env_alone, first_row, is_code, make_world, name, spelled
 use crate::{
     AlphaReceiver, Buffer, Element, Env, Receiver, alpha_receiver, any_receiver, array_named,
     assign_bytes, assign_number, assign_side, assign_value, buffer, buffer_bytes, change_buffer,
-    is_reached, is_right_side_read, number_receiver, pass_alpha_receiver, pass_any_receiver,
-    pass_number_receiver, right_side, whole_array,
+    is_reached, is_right_side_read, number_receiver, past_alpha_receiver, past_any_receiver,
+    past_number_receiver, right_side, whole_array,
 };
 use b2_atom::rows::{ALPHA_RECEIVER, BUFFER, NUMERIC_RECEIVER, RECEIVER, VARIABLE, WHOLE_ARRAY};
 use b2_atom::{Atoms, Cursor};
@@ -119,31 +119,27 @@ fn is_either_receiver(e: &Env<'_>, text: &[u8], outcome: &[u8]) -> Result<bool, 
 
 // Whether a receiver is passed, whatever its values are.
 fn is_passed(kind: Kind, text: &[u8]) -> Result<bool, Fail> {
-    let mut c = Cursor::over(text);
     match kind {
         Kind::Number => {
             if !is_read(NUMERIC_RECEIVER, text) {
                 return Err("no numeric receiver".into());
             }
-            pass_number_receiver(&mut c);
+            Ok(past_number_receiver(text) == AFTER)
         }
         Kind::Alpha => {
             if !is_read(ALPHA_RECEIVER, text) {
                 return Err("no alpha receiver".into());
             }
-            pass_alpha_receiver(&mut c);
+            Ok(past_alpha_receiver(text) == AFTER)
         }
     }
-    Ok(c.rest() == AFTER)
 }
 
 fn is_passed_by_either(text: &[u8]) -> Result<bool, Fail> {
     if !is_read(RECEIVER, text) {
         return Err("no receiver".into());
     }
-    let mut c = Cursor::over(text);
-    pass_any_receiver(&mut c);
-    Ok(c.rest() == AFTER)
+    Ok(past_any_receiver(text) == AFTER)
 }
 
 // Whether a receiver comes out as a row says, by its own row and by that of both kinds.

@@ -4,7 +4,7 @@ use Rattle.b2_rows.specs.Rows.{is_list, is_part}
 use Rattle.b2_expr.specs.Scope.{surroundings}
 use Rattle.b2_expr.specs.Value.{in_statement}
 use Rattle.b2_stmt.specs.Arguments.{arguments, before, operands_at, past_operand}
-use Rattle.b2_stmt.specs.Lines.{commas}
+use Rattle.b2_rows.specs.CommaLists.{commas}
 use Rattle.b2_stmt.proofs.arguments.arguments.Given as goal
 
 -- the values so far before those of the arguments that are left are the values of all

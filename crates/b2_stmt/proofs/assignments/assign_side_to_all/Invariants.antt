@@ -2,7 +2,8 @@ use Rattle.std.proofs.Common.{◌≡◌, ◌∷◌, true, length}
 use Rattle.b2_atom.specs.declared.rows.TheConstants as row
 use Rattle.b2_rows.specs.Rows.{is_part, tree_at}
 use Rattle.b2_expr.specs.RightSide.{side_seen}
-use Rattle.b2_stmt.specs.Assignments.{assign_side, assign_each, items_after, items_of}
+use Rattle.b2_stmt.specs.Assignments.{assign_side, assign_each}
+use Rattle.b2_rows.specs.CommaLists.{all_listed, further_listed}
 use Rattle.b2_stmt.proofs.SideRows.{are_others, end_at, left_at, past_first}
 use Rattle.b2_stmt.proofs.assignments.assign_side_to_all.Given as goal
 
@@ -11,8 +12,8 @@ abbrev pub invariant-loop-code : goal.invariant-loop-code
 invariant-loop-code l = record {
   part : is_part row.ALPHA_RECEIVER l.left ≡ true;
   list : are_others (past_first l.left) ≡ true;
-  assigned : assign_each (assign_side l.a l.home (side_seen l.side)) (tree_at row.ALPHA_RECEIVER l.left ∷ items_after (left_at (end_at (past_first l.text)) (past_first l.left))) l.vars
-      ≡ assign_each (assign_side l.a l.home (side_seen l.side)) (items_of (tree_at row.ALPHA_ASSIGNMENT l.text)) l.fn.vars;
+  assigned : assign_each (assign_side l.a l.home (side_seen l.side)) (tree_at row.ALPHA_RECEIVER l.left ∷ further_listed (left_at (end_at (past_first l.text)) (past_first l.left))) l.vars
+      ≡ assign_each (assign_side l.a l.home (side_seen l.side)) (all_listed (tree_at row.ALPHA_ASSIGNMENT l.text)) l.fn.vars;
 }
 
 abbrev pub decreases-loop-code : goal.decreases-loop-code

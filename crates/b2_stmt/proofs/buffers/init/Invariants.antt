@@ -1,7 +1,8 @@
 use Rattle.std.proofs.Common.{◌≡◌, ◌∷◌, true, length}
 use Rattle.b2_atom.specs.declared.rows.TheConstants as row
 use Rattle.b2_rows.specs.Rows.{is_part, tree_at}
-use Rattle.b2_stmt.specs.Assignments.{assign_each, items_after}
+use Rattle.b2_stmt.specs.Assignments.{assign_each}
+use Rattle.b2_rows.specs.CommaLists.{further_listed}
 use Rattle.b2_stmt.specs.Buffers.{buffers_of_init, fills_one}
 use Rattle.b2_stmt.proofs.BufferRows.{are_others, left_at, past_first}
 use Rattle.b2_stmt.proofs.buffers.init.Given as goal
@@ -11,7 +12,7 @@ abbrev pub invariant-loop-to : goal.invariant-loop-to
 invariant-loop-to l = record {
   part : is_part row.BUFFER l.left ≡ true;
   list : are_others (past_first l.left) ≡ true;
-  filled : assign_each (fills_one l.a l.home l.byte) (tree_at row.BUFFER l.left ∷ items_after (left_at (past_first l.left))) l.vars
+  filled : assign_each (fills_one l.a l.home l.byte) (tree_at row.BUFFER l.left ∷ further_listed (left_at (past_first l.left))) l.vars
       ≡ assign_each (fills_one l.a l.home l.byte) (buffers_of_init (tree_at row.INIT l.unit)) l.fn.vars;
 }
 

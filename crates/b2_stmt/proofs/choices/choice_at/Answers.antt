@@ -2,7 +2,7 @@ use Rattle.std.proofs.Common.{rules, ◌≡◌, true, drop, subst}
 use Rattle.b2_atom.specs.Words.{Text}
 use Rattle.b2_atom.specs.declared.rows.TheConstants as row
 use Rattle.b2_rows.specs.Rows.{after_part, is_list}
-use Rattle.b2_stmt.specs.Lines.{commas}
+use Rattle.b2_rows.specs.CommaLists.{commas}
 use Rattle.b2_stmt.proofs.ChoiceRows.{on_list}
 use Rattle.b2_stmt.proofs.choices.choice_at.Goals as goal
 

@@ -3,7 +3,8 @@ use Rattle.b2_atom.specs.declared.forms.Leaf.TheVariants as leaf
 use Rattle.b2_atom.specs.declared.rows.TheConstants as row
 use Rattle.b2_rows.specs.Leaves.{is_leaf}
 use Rattle.b2_rows.specs.Rows.{is_list}
-use Rattle.b2_stmt.specs.Lines.{commas, lines_at}
+use Rattle.b2_stmt.specs.Lines.{lines_at}
+use Rattle.b2_rows.specs.CommaLists.{commas}
 use Rattle.b2_stmt.proofs.choices.nth_line.Given as goal
 
 -- the line that is wanted of the list that is left, by as many fewer as were passed

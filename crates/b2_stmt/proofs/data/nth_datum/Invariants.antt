@@ -3,7 +3,7 @@ use Rattle.std.specs.Prelude.{slice_get}
 use Rattle.b2_atom.specs.declared.rows.TheConstants as row
 use Rattle.b2_rows.specs.Rows.{after_part, is_list, is_part}
 use Rattle.b2_stmt.specs.Data.{data_at}
-use Rattle.b2_stmt.specs.Lines.{commas}
+use Rattle.b2_rows.specs.CommaLists.{commas}
 use Rattle.b2_stmt.proofs.data.nth_datum.Given as goal
 
 -- the literal that is wanted of those that are left, by as many fewer as were passed

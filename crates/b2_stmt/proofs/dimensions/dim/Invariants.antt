@@ -1,7 +1,8 @@
 use Rattle.std.proofs.Common.{◌≡◌, ◌∷◌, true, length}
 use Rattle.b2_atom.specs.declared.rows.TheConstants as row
 use Rattle.b2_rows.specs.Rows.{is_part, tree_at}
-use Rattle.b2_stmt.specs.Assignments.{assign_each, items_after}
+use Rattle.b2_stmt.specs.Assignments.{assign_each}
+use Rattle.b2_rows.specs.CommaLists.{further_listed}
 use Rattle.b2_stmt.specs.Dimensions.{entries_of, makes_one}
 use Rattle.b2_stmt.proofs.EntryRows.{are_others, left_at, past_first}
 use Rattle.b2_stmt.proofs.dimensions.dim.Given as goal
@@ -11,7 +12,7 @@ abbrev pub invariant-loop-found : goal.invariant-loop-found
 invariant-loop-found l = record {
   part : is_part row.DIMENSIONED l.left ≡ true;
   list : are_others (past_first l.left) ≡ true;
-  made : assign_each (makes_one l.a l.home l.common) (tree_at row.DIMENSIONED l.left ∷ items_after (left_at (past_first l.left))) l.vars
+  made : assign_each (makes_one l.a l.home l.common) (tree_at row.DIMENSIONED l.left ∷ further_listed (left_at (past_first l.left))) l.vars
       ≡ assign_each (makes_one l.a l.home l.common) (entries_of (tree_at row.DIM l.unit)) l.fn.vars;
 }
 

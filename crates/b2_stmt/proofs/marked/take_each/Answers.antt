@@ -6,7 +6,7 @@ use Rattle.b2_atom.specs.Tree.{Trees}
 use Rattle.b2_atom.specs.declared.rows.TheConstants as row
 use Rattle.b2_rows.specs.Rows.{is_part, tree_at}
 use Rattle.b2_stmt.specs.Marked.{take_each, takes_value}
-use Rattle.b2_stmt.specs.ReceiverLists.{are_others, others_at, past_first, receivers_at}
+use Rattle.b2_rows.specs.CommaLists.{are_others, others_at, past_first, receivers_at}
 use Rattle.b2_stmt.proofs.MarkRows.{value_more}
 use Rattle.b2_stmt.proofs.ReadRows.{no_items, other_items, other_list, other_part}
 use Rattle.b2_stmt.proofs.marked.take_each.Goals as goal

@@ -2,7 +2,7 @@ use Rattle.std.proofs.Common.{◌≡◌, true, length}
 use Rattle.b2_atom.specs.declared.rows.TheConstants as row
 use Rattle.b2_rows.specs.Rows.{is_part}
 use Rattle.b2_stmt.specs.Marked.{take_each, takes_value}
-use Rattle.b2_stmt.specs.ReceiverLists.{are_others, past_first, receivers_at}
+use Rattle.b2_rows.specs.CommaLists.{are_others, past_first, receivers_at}
 use Rattle.b2_stmt.proofs.marked.take_each.Given as goal
 
 -- the receivers that are left take the values that are left as all of them take all

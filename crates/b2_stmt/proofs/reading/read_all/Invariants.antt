@@ -2,7 +2,7 @@ use Rattle.std.proofs.Common.{◌≡◌, true, length}
 use Rattle.b2_atom.specs.declared.rows.TheConstants as row
 use Rattle.b2_rows.specs.Rows.{is_part}
 use Rattle.b2_stmt.specs.Reading.{read_each, reads_one}
-use Rattle.b2_stmt.specs.ReceiverLists.{are_others, past_first, receivers_at}
+use Rattle.b2_rows.specs.CommaLists.{are_others, past_first, receivers_at}
 use Rattle.b2_stmt.proofs.reading.read_all.Given as goal
 
 -- the receivers that are left read from here on as all of them do from the first on

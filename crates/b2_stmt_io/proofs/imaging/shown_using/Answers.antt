@@ -4,7 +4,7 @@ use Rattle.b2_expr.specs.Scope.{surroundings}
 use Rattle.b2_expr.specs.Value.{in_statement}
 use Rattle.b2_print.specs.Imaged.{appended, imaged}
 use Rattle.b2_stmt_io.specs.Imaging.{is_joined, joined, values_of}
-use Rattle.b2_stmt_io.specs.Lists.{after_items}
+use Rattle.b2_rows.specs.CommaLists.{after_all_listed}
 use Rattle.b2_stmt_io.specs.Operands.{operands_at, operands_tree}
 use Rattle.b2_stmt_io.specs.Printing.{Refused}
 use Rattle.b2_stmt_io.proofs.UsingRows.{using_shown, values_refused}
@@ -26,5 +26,5 @@ returns-in-Ok-using c =
     ∙ ap (λ (l : List Value). joined l (values_of s (operands_at c.items_of.result.now))) (sym c.new-values.ensures.items)
     ∙ c.in-Ok-values_at.ensures.0
     ∙ ap Ok (sym c.deref.ensures.value))
-    (ap (λ (u : List ℕ). is_joined (after_items (operands_tree u))) (sym c.items_of.ensures) ∙ c.in-Ok-values_at.ensures.1 ∙ sym c.is_at.ensures)
+    (ap (λ (u : List ℕ). is_joined (after_all_listed (operands_tree u))) (sym c.items_of.ensures) ∙ c.in-Ok-values_at.ensures.1 ∙ sym c.is_at.ensures)
     (ap Ok c.new.ensures ∙ c.in-Ok-using.ensures.ok ∙ ap (λ (l : List ℕ). appended l (imaged c.in-Ok.image.now xs more)) c.new-out.ensures.items)

@@ -4,7 +4,7 @@ use Rattle.b2_base.specs.Lexical.{first}
 use Rattle.b2_atom.specs.declared.rows.TheConstants as row
 use Rattle.b2_rows.specs.Rows.{tree_at}
 use Rattle.b2_stmt_io.specs.Inputs.{takes_part}
-use Rattle.b2_stmt_io.specs.Receivers.{others_at, past_first}
+use Rattle.b2_rows.specs.CommaLists.{others_at, past_first}
 use Rattle.b2_stmt_io.proofs.Parted.{further_parts, no_more, none_left, none_of, part_coded, part_more, width_of}
 use Rattle.b2_stmt_io.proofs.inputs.parts_to.Goals as goal
 

@@ -2,7 +2,7 @@ use Rattle.std.proofs.Common.{◌≡◌, true, length}
 use Rattle.b2_atom.specs.declared.rows.TheConstants as row
 use Rattle.b2_rows.specs.Rows.{is_part}
 use Rattle.b2_stmt_io.specs.Inputs.{take_parts, takes_part}
-use Rattle.b2_stmt_io.specs.Receivers.{are_others, past_first, receivers_at}
+use Rattle.b2_rows.specs.CommaLists.{are_others, past_first, receivers_at}
 use Rattle.b2_stmt_io.specs.TypedText.{parts_of}
 use Rattle.b2_stmt_io.proofs.inputs.parts_to.Given as goal
 

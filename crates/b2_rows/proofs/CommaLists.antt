@@ -8,17 +8,12 @@ use Rattle.b2_atom.specs.Tree.{Trees, also}
 use Rattle.b2_atom.specs.Tree.Trees.{Done, Put, In}
 use Rattle.b2_atom.specs.Grammar.{row_items, starts}
 use Rattle.b2_atom.specs.declared.words.Origin.TheVariants.{Atoms}
-use Rattle.b2_atom.specs.declared.forms.Start.{Start}
-use Rattle.b2_atom.specs.declared.forms.Start.TheVariants as start
 use Rattle.b2_atom.specs.declared.forms.Item.TheVariants.{Sign, Part}
 use Rattle.b2_rows.specs.Rows.{is_part, tree_at, after_part, is_list, list_at, after_list, Ends}
 use Rattle.b2_rows.proofs.Lists.{goes, ended}
 use Rattle.b2_rows.proofs.Levels.{part_no_longer}
-use Rattle.b2_expr.proofs.RowsRead.{stands_of}
-use Rattle.b2_stmt.specs.Assignments.{items_after, end_of}
-
-abbrev pub commas : Start
-commas = start.Code byte.comma
+use Rattle.b2_rows.proofs.RowsRead.{stands_of}
+use Rattle.b2_rows.specs.CommaLists.{commas, further_listed, after_further_listed}
 
 -- a row that is a comma and an item
 abbrev pub IsComma : ℕ → ℕ → ℕ → Type 0
@@ -53,18 +48,18 @@ abbrev pub tail_at : ℕ → Trees → Text → Trees
 tail_at more e t = also (list_at commas more t) e
 
 pub items_of_other : (more item code : ℕ) (e : Trees) (t : Text) → IsComma more item code → is_list commas more t ≡ true → (first t == byte.comma) ≡ true
-    → items_after (tail_at more e t) ≡ tree_at item (drop 1 t) ∷ items_after (tail_at more e (after_part item (drop 1 t)))
-items_of_other more item code e t is_row ok is = ap (λ (a : Trees). items_after (also a e)) (Other.tree (other more item code t is_row ok is))
+    → further_listed (tail_at more e t) ≡ tree_at item (drop 1 t) ∷ further_listed (tail_at more e (after_part item (drop 1 t)))
+items_of_other more item code e t is_row ok is = ap (λ (a : Trees). further_listed (also a e)) (Other.tree (other more item code t is_row ok is))
 
 pub end_of_other : (more item code : ℕ) (e : Trees) (t : Text) → IsComma more item code → is_list commas more t ≡ true → (first t == byte.comma) ≡ true
-    → end_of (tail_at more e t) ≡ end_of (tail_at more e (after_part item (drop 1 t)))
-end_of_other more item code e t is_row ok is = ap (λ (a : Trees). end_of (also a e)) (Other.tree (other more item code t is_row ok is))
+    → after_further_listed (tail_at more e t) ≡ after_further_listed (tail_at more e (after_part item (drop 1 t)))
+end_of_other more item code e t is_row ok is = ap (λ (a : Trees). after_further_listed (also a e)) (Other.tree (other more item code t is_row ok is))
 
-pub no_items_left : (more : ℕ) (e : Trees) (t : Text) → (first t == byte.comma) ≡ false → items_after (tail_at more e t) ≡ []
-no_items_left more e t is = ap (λ (a : Trees). items_after (also a e)) (Ends.tree (no_other more t is))
+pub no_items_left : (more : ℕ) (e : Trees) (t : Text) → (first t == byte.comma) ≡ false → further_listed (tail_at more e t) ≡ []
+no_items_left more e t is = ap (λ (a : Trees). further_listed (also a e)) (Ends.tree (no_other more t is))
 
-pub end_left : (more : ℕ) (e : Trees) (t : Text) → (first t == byte.comma) ≡ false → end_of (tail_at more e t) ≡ e
-end_left more e t is = ap (λ (a : Trees). end_of (also a e)) (Ends.tree (no_other more t is))
+pub end_left : (more : ℕ) (e : Trees) (t : Text) → (first t == byte.comma) ≡ false → after_further_listed (tail_at more e t) ≡ e
+end_left more e t is = ap (λ (a : Trees). after_further_listed (also a e)) (Ends.tree (no_other more t is))
 
 comma_shorter : (t : Text) → (first t == byte.comma) ≡ true → length (drop 1 t) < length t
 comma_shorter [] is = cc
