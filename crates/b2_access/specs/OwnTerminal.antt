@@ -1,5 +1,5 @@
 -- A statement asks at the terminal of its partition alone, and leaves which one that is.
-use Rattle.std.specs.Prelude.{◌≡◌, ℕ, Some}
+use Rattle.std.specs.Prelude.{◌≡◌, ℕ, Option, None, Some}
 use Rattle.b2_access.specs.Causes.{terminal_of}
 use Rattle.b2_access.specs.Lending.{SeenLent}
 use Rattle.b2_access.specs.Planning.{Finishing, Planning}
@@ -12,6 +12,11 @@ use Rattle.b2_access.specs.declared.private.Private.{Private}
 -- an access names no terminal but this one
 abbrev pub NamesAlone : ℕ → Access → Type 0
 NamesAlone t a = (u : ℕ) → terminal_of a ≡ Some u → u ≡ t
+
+-- and so does what is asked for, where anything is
+abbrev pub AskedAt : ℕ → Option Access → Type 0
+AskedAt t None = Unit {0}
+AskedAt t (Some a) = NamesAlone t a
 
 abbrev pub PlannedAt : ℕ → Planned → Type 0
 PlannedAt t (planned.Done o) = Unit {0}

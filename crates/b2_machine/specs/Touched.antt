@@ -3,7 +3,7 @@ use Rattle.std.specs.Prelude.{◌≡◌, ℕ, Bool, true, false, List, [], ◌�
 use Rattle.b2_flow.specs.declared.frame.Place.{Place}
 use Rattle.b2_access.specs.Homes.{IsWithin}
 use Rattle.b2_access.specs.Loans.{Loan}
-use Rattle.b2_access.specs.OwnTerminal.{NamesAlone}
+use Rattle.b2_access.specs.OwnTerminal.{AskedAt}
 use Rattle.b2_access.specs.Partition.{is_ready}
 use Rattle.b2_access.specs.Sharing.{ServingOf, writes}
 use Rattle.b2_access.specs.Store.{StoreState, AgreeOn, IsIn, content}
@@ -71,11 +71,6 @@ asking me s =
     if me.reset then asks_nothing me
     else (if me.halt then asks_unless_halted me s
     else asks_as_it_acts me s)
-
--- what it asks for names no terminal but this one
-abbrev pub AskedAt : ℕ → Option Access → Type 0
-AskedAt t None = Unit {0}
-AskedAt t (Some a) = NamesAlone t a
 
 abbrev pub touched_where : Option Access → ℕ → StoreState → List Object
 touched_where None who s = []
