@@ -13,5 +13,6 @@ pub mod Valued
 pub mod Printed
 pub mod PrintRows
 pub mod UsingRows
+pub mod Planned
 pub mod HomesKept
 pub mod KeptPlaces
