@@ -1,3 +1,4 @@
 pub mod Stopped
 pub mod Causes
 pub mod Statements
+pub mod OwnTerminal

@@ -20,3 +20,4 @@ pub mod Going
 pub mod Placed
 pub mod Homes
 pub mod Keeping
+pub mod OwnTerminal

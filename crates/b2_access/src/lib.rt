@@ -12,7 +12,8 @@
 //! `Placed` and `Going`, and the devices in `Devices`; the store in `Store`, what an
 //! access touches and writes in `Touching`, how each is served in `Serving`, when one is stopped in `Causes`, what a shared
 //! store is in `Sharing`, and what a loan leaves in `Loans`. `Locality` proves that serving is local, by its tasks (`Task`,
-//! `TaskLocality`). What holds of serving stands in `laws`.
+//! `TaskLocality`). What a statement leaves of a partition is in `Homes`, `Keeping` and `OwnTerminal`. What holds of serving
+//! stands in `laws`.
 #![tactic(auto)]
 
 mod accesses;

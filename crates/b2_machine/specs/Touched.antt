@@ -3,6 +3,7 @@ use Rattle.std.specs.Prelude.{◌≡◌, ℕ, Bool, true, false, List, [], ◌�
 use Rattle.b2_flow.specs.declared.frame.Place.{Place}
 use Rattle.b2_access.specs.Homes.{IsWithin}
 use Rattle.b2_access.specs.Loans.{Loan}
+use Rattle.b2_access.specs.OwnTerminal.{AskedAt}
 use Rattle.b2_access.specs.Partition.{is_ready}
 use Rattle.b2_access.specs.Sharing.{ServingOf, writes}
 use Rattle.b2_access.specs.Store.{StoreState, AgreeOn, IsIn, content}
@@ -119,3 +120,7 @@ module _ {M : Type 0} (store : M → StoreState) (serving : ServingOf M) where
   -- A step names no partition as a home, and asks as none, but its own and those that were named before.
   abbrev pub StepsStayWithin : Loan M → Type 0
   StepsStayWithin lending = (among : ℕ → Bool) (me : Private) (m : M) → IsWithin among me → IsWithin among (step store serving lending me m).me × (among (asking me (store m)).who ≡ true)
+
+  -- A step asks at the terminal of its partition alone, and leaves which one that is.
+  abbrev pub StepsAskAtTerminal : Loan M → Type 0
+  StepsAskAtTerminal lending = (me : Private) (m : M) → ((step store serving lending me m).me.term ≡ me.term) × AskedAt me.term (asking me (store m)).access

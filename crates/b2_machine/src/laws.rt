@@ -2,7 +2,7 @@
 ghost use Rattle.b2_access.specs.Partition.{KeepsNone};
 ghost use Rattle.b2_access.specs.declared.private.Private.{Private};
 ghost use Rattle.b2_machine.specs.Step.{step};
-ghost use Rattle.b2_machine.specs.Touched.{StepsAreLocal, StepsStayWithin};
+ghost use Rattle.b2_machine.specs.Touched.{StepsAreLocal, StepsAskAtTerminal, StepsStayWithin};
 
 use b2_access::Shared;
 
@@ -21,4 +21,9 @@ pub fn law_a_step_stays_within<S: Shared>()
 /// Where no place is kept for CONTINUE while program text runs, a step leaves it so.
 pub fn law_a_step_keeps_no_place<S: Shared>()
     ensures { (me : Private) (m : S.Meaning) → KeepsNone me → KeepsNone (step S.store S.serving S.lending me m).me }
+{}
+
+/// A step asks at the terminal of its partition alone, and leaves which one that is.
+pub fn law_a_step_asks_at_its_terminal<S: Shared>()
+    ensures { StepsAskAtTerminal S.store S.serving S.lending }
 {}

@@ -12,7 +12,7 @@ use Rattle.b2_mvp.specs.declared.status.Status.{Status}
 use Rattle.b2_mvp.specs.declared.status.Status.TheVariants as status
 use Rattle.b2_mvp.specs.declared.top.Command.{Command}
 use Rattle.b2_mvp.specs.Inputs.{boot_limit, log_limit}
-use Rattle.b2_mvp.specs.Top.{command_of, world_after}
+use Rattle.b2_mvp.specs.Top.{command_of, boot_for, world_after}
 
 -- what is to be answered where the shelf tells its files
 pub data Expected : Type 0 where
@@ -24,7 +24,7 @@ pub data Expected : Type 0 where
   Ends : Command → WorldState → Expected
 
 abbrev pub by_log : Command → BootState → LogRead → Expected
-by_log c boot (Events events) = Ends c (world_after boot events)
+by_log c boot (Events events) = Ends c (world_after (boot_for c.group boot) events)
 by_log c boot (Refused line check) = FailsLogCheck line check
 
 abbrev pub by_log_file : Command → BootState → Option (List ℕ) → Expected

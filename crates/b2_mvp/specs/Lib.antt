@@ -1,5 +1,7 @@
 pub mod Status
+pub mod Parts
 pub mod Inputs
 pub mod Outputs
+pub mod Groups
 pub mod Top
 pub mod Complete

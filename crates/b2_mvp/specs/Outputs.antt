@@ -1,5 +1,5 @@
--- What a run writes: a file for each terminal's transcript, and a last line.
-use Rattle.std.specs.Prelude.{◌≡◌, ℕ, zero, suc, ◌+◌, ◌/◌, ◌%◌, List, [], ◌∷◌, ◌++◌, codes, Option, Some, None}
+-- What a run writes: a file for each terminal's transcript, and a last line that also tells who is apart.
+use Rattle.std.specs.Prelude.{◌≡◌, ℕ, zero, suc, ◌+◌, ◌/◌, ◌%◌, List, [], ◌∷◌, ◌++◌, map, filter, codes, Option, Some, None}
 use Rattle.std.specs.Fmt.{decimal}
 use Rattle.b2_base.specs.Byte as byte
 use Rattle.b2_base.specs.Counts.{Rose}
@@ -8,7 +8,10 @@ use Rattle.b2_base.specs.Seen.{ShelfSeen}
 use Rattle.b2_term.specs.Terminal.{TerminalState}
 use Rattle.b2_access.specs.declared.objects.Object.TheVariants as object
 use Rattle.b2_access.specs.Store.{StoreState, content}
+use Rattle.b2_audit.specs.Marks.{is_clean}
+use Rattle.b2_boot.specs.Boots.{BootState}
 use Rattle.b2_sched.specs.World.{WorldState}
+use Rattle.b2_mvp.specs.Parts.{list_or_dash}
 use Rattle.b2_mvp.specs.declared.status.Status.{Status}
 use Rattle.b2_mvp.specs.declared.status.Status.TheVariants as status
 
@@ -40,9 +43,19 @@ abbrev pub with_files : List Output → Option Files → Option Files
 with_files [] files = files
 with_files (o ∷ os) files = with_files os (with_file o.name o.bytes files)
 
--- the line that a run ends with
-abbrev pub summary : WorldState → List ℕ
-summary w = codes "turns " ++ decimal w.turns ++ codes " steps " ++ decimal w.steps ++ codes " dropped " ++ decimal w.dropped ++ byte.newline ∷ []
+-- the partitions of a boot
+abbrev pub numbers : BootState → List ℕ
+numbers b = map (λ p. p.number) b.partitions
+
+-- those that are apart in its world
+abbrev pub apart : BootState → WorldState → List ℕ
+apart b w = filter (λ p. is_clean p w.marks) (numbers b)
+
+-- the line that a run from a boot ends with
+abbrev pub summary : BootState → WorldState → List ℕ
+summary b w =
+    codes "turns " ++ decimal w.turns ++ codes " steps " ++ decimal w.steps ++ codes " dropped " ++ decimal w.dropped
+    ++ codes " apart " ++ list_or_dash (apart b w) ++ byte.newline ∷ []
 
 -- a keep failed: those before it were done, and of its own file alone nothing is known
 pub record FailsKeep (all : List Output) (at : List ℕ) (old new : Option Files) : Type 0 where

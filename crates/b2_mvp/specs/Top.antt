@@ -1,5 +1,5 @@
 -- The words of the command line, and when each status comes.
-use Rattle.std.specs.Prelude.{◌≡◌, ◌⊎◌, ℕ, ◌&&◌, nat_eq, List, [], ◌∷◌, ◌++◌, map, codes, Option, Some, None, option_map, if◌then◌else◌}
+use Rattle.std.specs.Prelude.{◌≡◌, ◌⊎◌, ℕ, ◌&&◌, nat_eq, List, [], ◌∷◌, ◌++◌, map, codes, Option, Some, None, option_map, option_and_then, if◌then◌else◌}
 use Rattle.std.specs.Global.{Vec}
 use Rattle.std.specs.Cmp.Lexicographic.{pointwise}
 use Rattle.b2_base.specs.Counts.{Rose}
@@ -7,6 +7,7 @@ use Rattle.b2_base.specs.Files.{Files}
 use Rattle.b2_base.specs.Names.{is_file_name}
 use Rattle.b2_base.specs.Outside.{IsPartWritten}
 use Rattle.b2_base.specs.Seen.{ShelfSeen, SinkSeen}
+use Rattle.b2_boot.specs.Alone.{alone, is_listed}
 use Rattle.b2_boot.specs.Boots.{BootState}
 use Rattle.b2_boot.specs.declared.log.Event.{Event}
 use Rattle.b2_sched.specs.Start.{booted}
@@ -14,29 +15,37 @@ use Rattle.b2_sched.specs.World.{WorldState, ran}
 use Rattle.b2_mvp.specs.declared.status.Status.{Status}
 use Rattle.b2_mvp.specs.declared.status.Status.TheVariants as status
 use Rattle.b2_mvp.specs.declared.top.Command.{Command}
+use Rattle.b2_mvp.specs.Groups.{GroupsShowAsAlone, ListsTheClean}
 use Rattle.b2_mvp.specs.Inputs.{boot_limit, log_limit, HasBoot, HasLog, FailsBoot, FailsLog, FetchFails}
 use Rattle.b2_mvp.specs.Outputs.{Output, outputs, with_files, summary, FailsKeep}
+use Rattle.b2_mvp.specs.Parts.{parts_of}
 
 -- the bytes of each word
 abbrev pub texts : List (Vec ℕ) → List (List ℕ)
 texts words = map (λ w. w.items) words
 
--- `run BOOT LOG OUT`
-abbrev pub command_of : List (List ℕ) → Option Command
-command_of [] = None
-command_of (word ∷ []) = None
-command_of (word ∷ boot ∷ []) = None
-command_of (word ∷ boot ∷ log ∷ []) = None
-command_of (word ∷ boot ∷ log ∷ out ∷ []) =
-    if pointwise nat_eq word (codes "run") && is_file_name boot && is_file_name log && is_file_name out
-    then Some (record { boot = boot; log = log; out = out }) else None
-command_of (word ∷ boot ∷ log ∷ out ∷ more ∷ rest) = None
+-- the command of three names and a group, where the names are those of files
+abbrev pub command_by : List ℕ → List ℕ → List ℕ → Option (List ℕ) → Option Command
+command_by boot log out group =
+    if is_file_name boot && is_file_name log && is_file_name out then Some (record { boot = boot; log = log; out = out; group = group }) else None
 
--- the world after the events, from the one that the boot starts
+-- `run BOOT LOG OUT` and `alone BOOT LOG OUT PARTS`
+abbrev pub command_of : List (List ℕ) → Option Command
+command_of (word ∷ boot ∷ log ∷ out ∷ []) = if pointwise nat_eq word (codes "run") then command_by boot log out None else None
+command_of (word ∷ boot ∷ log ∷ out ∷ parts ∷ []) =
+    if pointwise nat_eq word (codes "alone") then option_and_then (λ group. command_by boot log out (Some group)) (parts_of parts) else None
+command_of words = None
+
+-- the boot that a command runs: the whole one, or that with its group alone
+abbrev pub boot_for : Option (List ℕ) → BootState → BootState
+boot_for None boot = boot
+boot_for (Some parts) boot = alone (is_listed parts) boot
+
+-- the world after the events, from the one that a boot starts
 abbrev pub world_after : BootState → List Event → WorldState
 world_after boot events = ran events (booted boot)
 
--- the words run a boot and a log that pass their checks
+-- the words run a boot and a log that pass their checks; the log is checked against the whole boot, whoever runs
 pub record Runs (words : List (List ℕ)) (files : Option Files) : Type 0 where
   pub command : Command
   pub boot : BootState
@@ -45,26 +54,32 @@ pub record Runs (words : List (List ℕ)) (files : Option Files) : Type 0 where
   pub has_boot : HasBoot command.boot files boot
   pub has_log : HasLog command.log files boot events
 
--- the world at the end of the run, what is kept of it, and the line that is put
+-- the boot that is run, the world at the end, what is kept of it, and the line that is put
+abbrev pub boot_run : {words : List (List ℕ)} {files : Option Files} → Runs words files → BootState
+boot_run r = boot_for r.command.group r.boot
+
 abbrev pub last_world : {words : List (List ℕ)} {files : Option Files} → Runs words files → WorldState
-last_world r = world_after r.boot r.events
+last_world r = world_after (boot_run r) r.events
 
 abbrev pub kept_of : {words : List (List ℕ)} {files : Option Files} → Runs words files → List Output
 kept_of r = outputs r.command.out (last_world r).store
 
 abbrev pub line_of : {words : List (List ℕ)} {files : Option Files} → Runs words files → List ℕ
-line_of r = summary (last_world r)
+line_of r = summary (boot_run r) (last_world r)
 
 -- nothing was kept or put
 pub record IsUntouched (old new : ShelfSeen) (before after : SinkSeen) : Type 0 where
   pub files : new.files ≡ old.files
   pub sink : after ≡ before
 
--- the headline: what was written is what the machine writes, from this boot and under this log
+-- THE HEADLINE: what was written is what the machine writes, from this boot and under this log; each group of partitions that is
+-- clean there shows what it shows alone; and the line lists exactly the partitions that are clean by themselves.
 pub record IsRun (words : List (List ℕ)) (old new : ShelfSeen) (before after : SinkSeen) : Type 0 where
   pub run : Runs words old.files
   pub files : new.files ≡ with_files (kept_of run) old.files
   pub written : after.written ≡ option_map (λ w. w ++ line_of run) before.written
+  pub groups : GroupsShowAsAlone run.command.out (boot_run run) run.events
+  pub listed : ListsTheClean (boot_run run) run.events
 
 -- the inputs of a command, in the order in which they are fetched
 pub data Input : Type 0 where

@@ -12,6 +12,7 @@
 
 mod inputs;
 mod outputs;
+mod parts;
 mod status;
 #[cfg(test)]
 mod tests;

@@ -7,21 +7,39 @@ ghost use Rattle.b2_access.specs.Store.{content};
 ghost use Rattle.b2_store.specs.Meaning.{store_of};
 ghost use Rattle.b2_mvp.specs.Outputs as spec;
 
+use crate::parts::add_list;
 use crate::status::Status;
-use b2_base::{FileName, Keep, NoMemory, Shelf, Term};
+use b2_base::{FileName, Keep, NoMemory, Part, Shelf, Term};
+use b2_boot::Boot;
 use b2_sched::World;
 use b2_store::Stores;
 use std::alloc::Global;
 
+/// The partitions of a boot that are apart in its world.
+fn apart(alloc: Global, boot: &Boot, world: &World) -> Result<Vec<Part>, NoMemory>
+    ensures { IfOk result (λ parts. parts.items ≡ spec.apart boot.now world.now) }
+{
+    let mut parts = Vec::new(alloc);
+    for p in &boot.partitions {
+        if world.clean(p.number) {
+            parts.push(p.number)?;
+        }
+    }
+    Ok(parts)
+}
+
 /// The line that a run ends with.
-pub fn summarize(alloc: Global, world: &World) -> Result<Vec<u8>, NoMemory>
-    ensures { IfOk result (λ line. line.items ≡ spec.summary world.now) }
+pub fn summarize(alloc: Global, boot: &Boot, world: &World) -> Result<Vec<u8>, NoMemory>
+    ensures { IfOk result (λ line. line.items ≡ spec.summary boot.now world.now) }
 {
     let turns = world.turns();
     let steps = world.steps();
     let dropped = world.dropped();
-    let line = format!(in alloc; "turns {turns} steps {steps} dropped {dropped}\n")?;
-    Ok(line.into_bytes())
+    let counts = format!(in alloc; "turns {turns} steps {steps} dropped {dropped} apart ")?;
+    let mut line = counts.into_bytes();
+    add_list(&mut line, &apart(alloc, boot, world)?)?;
+    line.push(b'\n')?;
+    Ok(line)
 }
 
 /// The name of a terminal's transcript: the front of the outputs' names, `.t` and its number of two digits.

@@ -4,6 +4,7 @@ use b2_base::MemShelf;
 use std::alloc::{AllocError, Global};
 use std::collections::BTreeMap;
 
+mod groups;
 mod long_lines;
 mod refusals;
 mod runs;
@@ -27,6 +28,15 @@ quota=20\n\
 [[partition]]\nnumber=1\nterminal=1\ntext=8\ndata=8\nglobals=2\n\
 ";
 
+// Partitions 1 and 2 share terminal 1.
+#[rattlefmt::skip]
+const ONE_TERMINAL: &[u8] = b"\
+quota=20\n\
+[[terminal]]\nnumber=1\nfront=1\n\
+[[partition]]\nnumber=1\nterminal=1\ntext=8\ndata=8\nglobals=2\n\
+[[partition]]\nnumber=2\nterminal=1\ntext=8\ndata=8\nglobals=2\n\
+";
+
 fn words(alloc: Global, texts: &[&[u8]]) -> Result<Vec<Vec<u8>>, AllocError> {
     let mut words = Vec::new(alloc);
     for text in texts {
@@ -37,6 +47,10 @@ fn words(alloc: Global, texts: &[&[u8]]) -> Result<Vec<Vec<u8>>, AllocError> {
 
 fn run_words(alloc: Global) -> Result<Vec<Vec<u8>>, AllocError> {
     words(alloc, &[b"run", b"boot", b"log", b"out"])
+}
+
+fn alone_words(alloc: Global, parts: &[u8]) -> Result<Vec<Vec<u8>>, AllocError> {
+    words(alloc, &[b"alone", b"boot", b"log", b"out", parts])
 }
 
 // A shelf with a boot file and a log, where they are there, whose listed calls fail.

@@ -7,18 +7,21 @@ ghost use Rattle.b2_mvp.specs.Top.{command_of, texts, world_after, Delivers, Com
 
 use crate::inputs::{read_boot, read_log};
 use crate::outputs::{keep_transcripts, summarize};
+use crate::parts::Parts;
 use crate::status::Status;
 use b2_base::{FileName, Keep, NoMemory, Shelf, Sink};
 use b2_boot::{Boot, Event};
 use b2_sched::World;
 use std::alloc::Global;
 
-/// The words of a run: the names of the boot file and of the log, and the front of the outputs' names.
+/// The words of a command: the names of the boot file and of the log, the front of the outputs' names, and the partitions that are
+/// to be there alone, where they are named.
 #[derive(Drop)]
 pub struct Command {
     pub boot: FileName,
     pub log: FileName,
     pub out: FileName,
+    pub group: Option<Parts>,
 }
 
 /// The world at the end of a run, and the line for it.
@@ -28,32 +31,64 @@ struct Ready {
     line: Vec<u8>,
 }
 
+/// The command of three names and a group, where the names are those of files.
+fn command_by(boot: &[u8], log: &[u8], out: &[u8], group: Option<Parts>) -> Option<Command>
+    ensures value { result ≡ spec.command_by boot.now log.now out.now group }
+    ensures short { IfSome result (λ c. length c.out ≤ 190) }
+{
+    let boot = FileName::of(boot)?;
+    let log = FileName::of(log)?;
+    let out = FileName::of(out)?;
+    Some(Command {
+        boot,
+        log,
+        out,
+        group,
+    })
+}
+
 /// The command that the words are.
 fn read_command(words: &[Vec<u8>]) -> Option<Command>
     ensures value { result ≡ command_of (texts words.now) }
     ensures short { IfSome result (λ c. length c.out ≤ 190) }
 {
-    let [word, boot, log, out] = words else {
-        return None;
-    };
-    if word.as_slice() != b"run".as_slice() {
-        return None;
+    match words {
+        [word, boot, log, out] if word.as_slice() == b"run".as_slice() => {
+            command_by(boot, log, out, None)
+        }
+        [word, boot, log, out, parts] if word.as_slice() == b"alone".as_slice() => {
+            let group = Parts::of(parts)?;
+            command_by(boot, log, out, Some(group))
+        }
+        _ => None,
     }
-    let boot = FileName::of(boot)?;
-    let log = FileName::of(log)?;
-    let out = FileName::of(out)?;
-    Some(Command { boot, log, out })
 }
 
 /// Runs the events from the boot's world.
 fn run_events(alloc: Global, boot: &Boot, events: &[Event]) -> Result<Ready, NoMemory>
-    ensures world { IfOk result (λ ready. ready.world ≡ world_after boot.now events.now) }
-    ensures line { IfOk result (λ ready. ready.line.items ≡ summary (world_after boot.now events.now)) }
+    ensures world { IfOk result (λ ready. ready.world ≡ ran events.now (booted boot.now)) }
+    ensures line { IfOk result (λ ready. ready.line.items ≡ summary boot.now (ran events.now (booted boot.now))) }
 {
     let mut world = World::boot(alloc, boot)?;
     world.run(events)?;
-    let line = summarize(alloc, &world)?;
+    let line = summarize(alloc, boot, &world)?;
     Ok(Ready { world, line })
+}
+
+/// Runs the events from the world of the boot, or of the boot with a group alone.
+fn run_group(
+    alloc: Global,
+    group: &Option<Parts>,
+    boot: &Boot,
+    events: &[Event],
+) -> Result<Ready, NoMemory>
+    ensures world { IfOk result (λ ready. ready.world ≡ ran events.now (booted (boot_for group.now boot.now))) }
+    ensures line { IfOk result (λ ready. ready.line.items ≡ summary (boot_for group.now boot.now) (ran events.now (booted (boot_for group.now boot.now)))) }
+{
+    match group {
+        None => run_events(alloc, boot, events),
+        Some(parts) => run_events(alloc, &boot.alone(alloc, parts.as_slice())?, events),
+    }
 }
 
 /// Keeps the transcripts, and puts the line.
@@ -96,7 +131,7 @@ fn run_words<F: Shelf, O: Sink>(
         Ok(events) => events,
         Err(status) => return status,
     };
-    let Ok(ready) = run_events(alloc, &boot, &events) else {
+    let Ok(ready) = run_group(alloc, &command.group, &boot, &events) else {
         return Status::NoMemory;
     };
     deliver(&command.out, &ready, shelf, sink)

@@ -12,6 +12,7 @@ use Rattle.b2_boot.specs.Alone.{alone}
 use Rattle.b2_boot.specs.Boots.{BootState}
 use Rattle.b2_boot.specs.declared.boot.BootPartition.{BootPartition}
 use Rattle.b2_store.specs.Start.{Areas, borrow_row, globals_row, text_row}
+use Rattle.b2_sched.proofs.GroupRows.{is_it}
 use Rattle.b2_sched.proofs.GroupRuns.{group_relies}
 use Rattle.b2_sched.proofs.Numbers.{same_number}
 use Rattle.b2_sched.specs.Groups.{CleanGroupsAreAsAlone, IsOutside, WorldsAlike}
@@ -66,11 +67,8 @@ module _ (g : Group) (p : ℕ) where
   starts_within [] me member is = let clash : false ≡ true = ap (λ (o : Option Private). is_some o) is in cc
   starts_within (x ∷ xs) me member is = by (x.number == p) refl (λ found. starts_within xs me member found) is
     where
-      it : (you : Private) → Some you ≡ Some me → you ≡ me
-      it you e = cc
-
       by : (b : Bool) → (x.number == p) ≡ b → (row_of p (map private_row xs) ≡ Some me → IsWithin g me) → cond b (Some (private_row x).1) (row_of p (map private_row xs)) ≡ Some me → IsWithin g me
-      by true e later found = subst (λ (you : Private). IsWithin g you) (it (private_row x).1 found) (record { part = ap g (same_number x.number p e) ∙ member; place = tt; kept = tt; frames = tt })
+      by true e later found = subst (λ (you : Private). IsWithin g you) (is_it (private_row x).1 me found) (record { part = ap g (same_number x.number p e) ∙ member; place = tt; kept = tt; frames = tt })
       by false e later found = later found
 
 in_group : (b : Bool) → (b ≡ false → ⊥) → b ≡ true

@@ -21,10 +21,13 @@ row_alike q p x xs ys same = by (q == p) refl
         subst (λ k. row_of k xs ≡ row_of k ys → row_of k (with_row p xs x) ≡ row_of k (with_row p ys x)) (sym (same_number q p e)) at_p same
     by false e = row_other q p x (other_number q p e) xs ∙ same ∙ sym (row_other q p x (other_number q p e) ys)
 
+pub is_it : (x me : Private) → Some x ≡ Some me → x ≡ me
+is_it x me e = cc
+
 -- a row that got another content has that
 put_there : (x me : Private) (o : Option Private) → option_map (λ _. x) o ≡ Some me → x ≡ me
 put_there x me None e = let clash : false ≡ true = ap (λ (o : Option Private). is_some o) e in cc
-put_there x me (Some y) e = cc
+put_there x me (Some y) e = is_it x me e
 
 -- what holds of an own state, and of another one that it got
 pub row_holds : (P : Private → Type 0) (q p : ℕ) (x : Private) (xs : List (ℕ × Private)) → (q ≡ p → P x) → ((me : Private) → row_of q xs ≡ Some me → P me) → (me : Private) → row_of q (with_row p xs x) ≡ Some me → P me

@@ -15,9 +15,10 @@ use Rattle.b2_sched.proofs.Foul.{clean_first, clean_rest, foul_after, foul_appen
 use Rattle.b2_sched.proofs.GroupRows.{both_rows, first_rows, rows_changed}
 use Rattle.b2_sched.proofs.GroupTurns.{IsOut, members_foul, members_turn, others_turn, turn_stays_within}
 use Rattle.b2_sched.proofs.Lasting.{by_actions}
-use Rattle.b2_sched.specs.Groups.{GroupsRelyOnTheirOwn, IsOutside, MembersAlike, WorldsAlike, steps_along, steps_at, steps_of, told_by}
+use Rattle.b2_sched.specs.Groups.{GroupsRelyOnTheirOwn, IsOutside, MembersAlike, WorldsAlike, steps_along, steps_at, steps_of}
 use Rattle.b2_sched.specs.Laws.{all_actions}
-use Rattle.b2_sched.specs.World.{WorldState, Action, Key, Front, Halt, Reset, Turn, asked_to_halt, asked_to_reset, does, does_all, private_of, ran, turn_of, with_turn}
+use Rattle.b2_sched.specs.Turns.{told_by, turn_of}
+use Rattle.b2_sched.specs.World.{WorldState, Action, Key, Front, Halt, Reset, Turn, asked_to_halt, asked_to_reset, does, does_all, private_of, ran, with_turn}
 use Rattle.b2_store.specs.Changes.{with_terminal}
 use Rattle.b2_term.specs.Terminal.{TerminalState, keyed}
 

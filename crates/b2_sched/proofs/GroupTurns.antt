@@ -22,8 +22,8 @@ use Rattle.b2_machine.specs.declared.ends.Stepped.{Stepped}
 use Rattle.b2_machine.specs.declared.ends.Why.{Why}
 use Rattle.b2_audit.proofs.CleanSteps.{AreApart, CleanFrom}
 use Rattle.b2_sched.proofs.Foul.{foul_after, fouled, other_fouls, own_fouls_nothing, stays_foul}
-use Rattle.b2_sched.specs.Groups.{StoresAlike, step_of, steps_in_turn, told}
-use Rattle.b2_sched.specs.World.{after_loan}
+use Rattle.b2_sched.specs.Groups.{StoresAlike}
+use Rattle.b2_sched.specs.Turns.{after_loan, step_of, steps_in_turn, told}
 
 -- Which objects may be left out: none that a member can come to. A partition comes to what is its own, and to terminals.
 pub record IsOut (g : Group) (out : Object → Type 0) : Type 0 where

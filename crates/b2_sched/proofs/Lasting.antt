@@ -7,7 +7,8 @@ use Rattle.b2_access.specs.declared.private.Private.{Private}
 use Rattle.b2_sched.proofs.Folds.{does_append, all_keep_quota}
 use Rattle.b2_sched.proofs.Numbers.{same_number, other_number}
 use Rattle.b2_sched.specs.Laws.{all_actions, RunsByActions, LeavesOthers, KeepsPresent, present_from, present, CountsTurns}
-use Rattle.b2_sched.specs.World.{WorldState, Action, Key, Front, Halt, Reset, Turn, private_of, tallied, row_changed, asked_to_halt, asked_to_reset, turn_of, with_turn, actions, does, does_all, turns_from, rounds, happens}
+use Rattle.b2_sched.specs.Turns.{turn_of}
+use Rattle.b2_sched.specs.World.{WorldState, Action, Key, Front, Halt, Reset, Turn, private_of, tallied, row_changed, asked_to_halt, asked_to_reset, with_turn, actions, does, does_all, turns_from, rounds, happens}
 
 -- a run is its actions
 pub by_actions : RunsByActions

@@ -1,4 +1,3 @@
-pub mod Present
 pub mod Folds
 pub mod Numbers
 pub mod Lasting
@@ -7,6 +6,12 @@ pub mod GroupTurns
 pub mod GroupRows
 pub mod GroupRuns
 pub mod AloneBoots
+pub mod EachRow
 pub mod OwnObjects
+pub mod OwnTexts
 pub mod MarkedTurns
+pub mod Settled
+pub mod Present
+pub mod WatchedTurns
+pub mod WorldMarks
 pub mod KeptPlaces

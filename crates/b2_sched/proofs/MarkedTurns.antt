@@ -19,7 +19,6 @@ use Rattle.b2_audit.specs.Marks.{Marks, marked, touch, touch_all, write_all}
 use Rattle.b2_audit.specs.PartSets.{without_part}
 use Rattle.b2_audit.specs.Steps.{AreMarked, AreSteps, IsPartition, just, marks_after}
 use Rattle.b2_audit.specs.Watching.{watched_loan, watching}
-use Rattle.b2_audit.proofs.Fouling.{all_written, foul_by_writers, is_foul, still_whole, touching_keeps}
 use Rattle.b2_flow.specs.declared.frame.Place.{Place}
 use Rattle.b2_machine.specs.Endings.{Ending}
 use Rattle.b2_machine.specs.Readiness.{halted, resets}
@@ -33,30 +32,15 @@ use Rattle.b2_machine.specs.declared.statements.Course.{Course}
 use Rattle.b2_machine.specs.declared.statements.Course.TheVariants as course
 use Rattle.b2_machine.proofs.StepHomes.{steps_stay_within}
 use Rattle.b2_sched.proofs.Numbers.{same_number}
-use Rattle.b2_sched.specs.Groups.{step_of, steps_in_turn}
+use Rattle.b2_sched.proofs.OwnTexts.{still_own, whole_on}
 use Rattle.b2_sched.specs.Marking.{IsOwnText, TurnsMarkTheirSteps, Watched, store_in}
-use Rattle.b2_sched.specs.World.{after_loan}
+use Rattle.b2_sched.specs.Turns.{after_loan, step_of, steps_in_turn}
 
 touch_idle : (p : ℕ) (m : Marks) → IsOwnText p m → touch p (object.Text p) m ≡ m
 touch_idle p m own = ap (λ (b : Bool). if b then record m { clean = without_part m.clean p } else m) own
 
 twice_idle : (p : ℕ) (m : Marks) → IsOwnText p m → touch p (object.Text p) (touch p (object.Text p) m) ≡ m
 twice_idle p m own = ap (touch p (object.Text p)) (touch_idle p m own) ∙ touch_idle p m own
-
--- it stays so where others than its partition don't write it
-still_own : (p who : ℕ) (ts ws : List Object) (m : Marks) → IsPartition p → IsPartition who → AreMarked ws → length m.writers ≡ 60
-    → (IsIn (object.Text p) ws → who ≢ p → ⊥) → IsOwnText p m → IsOwnText p (marked who ts ws m)
-still_own p who ts ws m is_p is_who are whole never own = by (is_foul p (object.Text p) (marked who ts ws m)) refl
-  where
-    keeps : (touch_all who ts m).writers ≡ m.writers
-    keeps = touching_keeps who ts m
-
-    by : (b : Bool) → is_foul p (object.Text p) (marked who ts ws m) ≡ b → b ≡ false
-    by false e = refl
-    by true e = elim ((all_written p who ws (object.Text p) (touch_all who ts m) is_p is_who are is_p (ap (λ (sets : List ℕ). length sets) keeps ∙ whole)).0 e) [
-      | inl f ↦ absurd (true≢false (sym f ∙ foul_by_writers p (object.Text p) (touch_all who ts m) m keeps ∙ own))
-      | inr h ↦ absurd (never h.0 h.1)
-    ]
 
 abbrev with_marks : StepEnd StoreState → Marks → StepEnd Watched
 with_marks x m = record { me = x.me; after = (x.after, m); end = x.end }
@@ -189,7 +173,7 @@ turn_is_marked p (suc n) me s m steps is_p w are whole own =
     still = still_own p p (step_touched me s) (step_written itself serves me s) m is_p is_p are.2 whole (λ i apart. apart refl) own
 
     as_long : length (marked p (step_touched me s) (step_written itself serves me s) m).writers ≡ 60
-    as_long = still_whole p (step_written itself serves me s) (touch_all p (step_touched me s) m) are.2 ∙ ap (λ (sets : List ℕ). length sets) (touching_keeps p (step_touched me s) m) ∙ whole
+    as_long = whole_on p (step_touched me s) (step_written itself serves me s) m are.2 whole
 
     by : (why : Option Why)
         → (AreSteps (steps_in_turn p n (step_of me s).me (step_of me s).after)

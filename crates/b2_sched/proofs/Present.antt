@@ -1,59 +1,63 @@
--- That each partition that is present is the one of its number and has a text, in the world of a boot and after what happens.
-use Rattle.std.specs.Prelude.{◌≡◌, ◌≢◌, ℕ, ◌==◌, Bool, true, false, cond, List, [], ◌∷◌, map, Option, Some, None, is_some, option_map, IsSome, refl}
-use Rattle.std.proofs.Common.{sym, ap, subst, ◌∙◌}
-use Rattle.b2_access.specs.Contents.{row_same, row_other}
+-- That each partition that is present has its number, its terminal, its home and a text that nobody else wrote, in the world of a
+-- boot and after what happens.
+use Rattle.std.specs.Prelude.{◌≡◌, ℕ, ◌==◌, Bool, true, false, cond, List, [], ◌∷◌, map, Option, Some, None, is_some, IsSome, refl}
+use Rattle.std.proofs.Common.{sym, ap, subst}
 use Rattle.b2_access.specs.Rows.{row_of, with_row}
 use Rattle.b2_access.specs.Store.{StoreState, content}
 use Rattle.b2_access.specs.declared.objects.Object.TheVariants as object
 use Rattle.b2_access.specs.declared.private.Private.{Private}
+use Rattle.b2_audit.specs.Marks.{Marks, unmarked}
+use Rattle.b2_audit.specs.Steps.{marks_after}
 use Rattle.b2_boot.specs.declared.boot.BootPartition.{BootPartition}
+use Rattle.b2_machine.specs.Stays.{KeepsAll}
 use Rattle.b2_store.specs.Start.{text_row}
-use Rattle.b2_sched.proofs.Numbers.{same_number, other_number}
-use Rattle.b2_sched.specs.Start.{private_row, areas_of}
-use Rattle.b2_sched.specs.World.{ArePresent}
+use Rattle.b2_sched.proofs.GroupRows.{row_holds}
+use Rattle.b2_sched.proofs.OwnTexts.{after_steps, starts_own, starts_whole}
+use Rattle.b2_sched.proofs.Settled.{starts_settled, turn_settled, turn_steps}
+use Rattle.b2_sched.specs.Presence.{ArePresent, IsPresent, IsSettled}
+use Rattle.b2_sched.specs.Start.{AreNumbered, areas_of, private_row}
+use Rattle.b2_sched.specs.Turns.{steps_in_turn, turn_of}
 
-pub is_it : {A : Type 0} (a b : A) → Some a ≡ Some b → a ≡ b
-is_it a b e = cc
+-- another own state of a partition, and another store and other marks for all
+pub still_present : (q : ℕ) (x : Private) (rows : List (ℕ × Private)) (s t : StoreState) (m k : Marks) → IsPresent q x t k
+    → ((p : ℕ) (me : Private) → IsPresent p me s m → IsPresent p me t k) → ArePresent rows s m → ArePresent (with_row q rows x) t k
+still_present q x rows s t m k new keeps present p me is =
+    row_holds (λ you. IsPresent p you t k) p q x rows (λ e. subst (λ j. IsPresent j x t k) (sym e) new) (λ you there. keeps p you (present p you there)) me is
 
--- the content of a row that got another one
-pub put_there : (x me : Private) (o : Option Private) → option_map (λ _. x) o ≡ Some me → x ≡ me
-put_there x me None e = let clash : false ≡ true = ap (λ (o : Option Private). is_some o) e in cc
-put_there x me (Some y) e = is_it x me e
+-- a partition with another own state alone
+pub with_own : (p : ℕ) (me x : Private) (s : StoreState) (m : Marks) → IsSettled p x → IsPresent p me s m → IsPresent p x s m
+with_own p me x s m settled is = record { settled = settled; text = is.text; own = is.own; whole = is.whole }
 
-module _ (q : ℕ) (x : Private) (rows : List (ℕ × Private)) (s t : StoreState) (part : x.part ≡ q) (text : IsSome (content t (object.Text q)))
-    (keeps : (p : ℕ) → IsSome (content s (object.Text p)) → IsSome (content t (object.Text p))) (present : ArePresent rows s) where
-  at_it : (me : Private) → row_of q (with_row q rows x) ≡ Some me → (me.part ≡ q) × IsSome (content t (object.Text q))
-  at_it me is =
-      let same : x ≡ me = put_there x me (row_of q rows) (sym (row_same q x rows) ∙ is) in
-      (ap (λ (y : Private). y.part) (sym same) ∙ part, text)
+-- after a turn
+pub turn_present : (q n : ℕ) (you : Private) (rows : List (ℕ × Private)) (s t : StoreState) (m : Marks) → KeepsAll s t → IsPresent q you s m → ArePresent rows s m
+    → ArePresent (with_row q rows (turn_of n you s).me) t (marks_after (steps_in_turn q n you s) m)
+turn_present q n you rows s t m keeps it present = still_present q (turn_of n you s).me rows s t m after (with_own q you (turn_of n you s).me t after (turn_settled q n you s 0 it.settled) (others q you it)) others present
+  where
+    after : Marks
+    after = marks_after (steps_in_turn q n you s) m
 
-  at_another : (p : ℕ) (me : Private) → p ≢ q → row_of p (with_row q rows x) ≡ Some me → (me.part ≡ p) × IsSome (content t (object.Text p))
-  at_another p me apart is =
-      let was = present p me (sym (row_other p q x apart rows) ∙ is) in
-      (was.0, keeps p was.1)
-
-  -- another own state of a partition that is present, where no text went away
-  pub still_present : ArePresent (with_row q rows x) t
-  still_present p me is = by (p == q) refl
-    where
-      by : (b : Bool) → (p == q) ≡ b → (me.part ≡ p) × IsSome (content t (object.Text p))
-      by true e =
-          let same : q ≡ p = sym (same_number p q e) in
-          subst (λ k. row_of k (with_row q rows x) ≡ Some me → (me.part ≡ k) × IsSome (content t (object.Text k))) same (at_it me) is
-      by false e = at_another p me (other_number p q e) is
-
--- rows of the own states and of the texts, each with one more
-rows_present : (x : BootPartition) (xs : List BootPartition) (p : ℕ) (me : Private)
-    → (row_of p (map private_row xs) ≡ Some me → (me.part ≡ p) × IsSome (row_of p (map text_row (map areas_of xs))))
-    → (b : Bool) → (x.number == p) ≡ b
-    → cond b (Some (private_row x).1) (row_of p (map private_row xs)) ≡ Some me
-    → (me.part ≡ p) × IsSome (cond b (Some (text_row (areas_of x)).1) (row_of p (map text_row (map areas_of xs))))
-rows_present x xs p me later true e is =
-    let same : (private_row x).1 ≡ me = is_it (private_row x).1 me is in
-    (ap (λ (y : Private). y.part) (sym same) ∙ same_number x.number p e, refl)
-rows_present x xs p me later false e is = later is
+    others : (p : ℕ) (me : Private) → IsPresent p me s m → IsPresent p me t (marks_after (steps_in_turn q n you s) m)
+    others p me is =
+        let steps = turn_steps q n you s it.settled in
+        let both = after_steps p (steps_in_turn q n you s) m is.settled.number steps.0 steps.1 is.whole is.own in
+        record { settled = is.settled; text = keeps (object.Text p) is.text; own = both.1; whole = both.0 }
 
 -- each partition of a boot has a text
-pub booted_present : (ps : List BootPartition) (p : ℕ) (me : Private) → row_of p (map private_row ps) ≡ Some me → (me.part ≡ p) × IsSome (row_of p (map text_row (map areas_of ps)))
-booted_present [] p me is = let clash : false ≡ true = ap (λ (o : Option Private). is_some o) is in cc
-booted_present (x ∷ xs) p me is = rows_present x xs p me (booted_present xs p me) (x.number == p) refl is
+booted_text : (ps : List BootPartition) (p : ℕ) (me : Private) → row_of p (map private_row ps) ≡ Some me → IsSome (row_of p (map text_row (map areas_of ps)))
+booted_text [] p me is = let clash : false ≡ true = ap (λ (o : Option Private). is_some o) is in cc
+booted_text (x ∷ xs) p me is = by (x.number == p) (booted_text xs p me) is
+  where
+    by : (b : Bool) → (row_of p (map private_row xs) ≡ Some me → IsSome (row_of p (map text_row (map areas_of xs))))
+        → cond b (Some (private_row x).1) (row_of p (map private_row xs)) ≡ Some me → IsSome (cond b (Some (text_row (areas_of x)).1) (row_of p (map text_row (map areas_of xs))))
+    by true later found = refl
+    by false later found = later found
+
+pub booted_present : (ps : List BootPartition) (s : StoreState) → AreNumbered ps → map text_row (map areas_of ps) ≡ s.texts → ArePresent (map private_row ps) s unmarked
+booted_present ps s are texts p me is =
+    let settled = starts_settled ps are p me is in
+    record {
+      settled = settled;
+      text = subst (λ rows. IsSome (row_of p rows)) texts (booted_text ps p me is);
+      own = starts_own p settled.number;
+      whole = starts_whole;
+    }

@@ -1,42 +1,21 @@
 -- What a group of partitions can rely on.
-use Rattle.std.specs.Prelude.{◌≡◌, ℕ, zero, suc, true, false, List, [], ◌∷◌, ◌++◌, Option, Some, None}
+use Rattle.std.specs.Prelude.{◌≡◌, ℕ, true, false, List, [], ◌∷◌, ◌++◌, Some, None}
 use Rattle.b2_access.specs.declared.objects.Object.{Object}
 use Rattle.b2_access.specs.declared.objects.Object.TheVariants as object
 use Rattle.b2_access.specs.declared.private.Private.{Private}
 use Rattle.b2_access.specs.Homes.{IsWithin}
 use Rattle.b2_access.specs.Rows.{row_of}
-use Rattle.b2_access.specs.Serving.{serves, itself}
 use Rattle.b2_access.specs.Store.{StoreState, IsIn, content}
 use Rattle.b2_audit.specs.Steps.{Step, Group, foul, IsClean, just}
 use Rattle.b2_boot.specs.Alone.{alone}
 use Rattle.b2_boot.specs.Boots.{BootState}
 use Rattle.b2_boot.specs.declared.log.Event.{Event}
-use Rattle.b2_machine.specs.Step.{StepEnd, step}
-use Rattle.b2_machine.specs.Touched.{step_touched, step_written}
-use Rattle.b2_machine.specs.Turn.{unless_ended}
 use Rattle.b2_sched.specs.Laws.{all_actions}
 use Rattle.b2_sched.specs.Start.{booted}
-use Rattle.b2_sched.specs.World.{WorldState, Action, Key, Front, Halt, Reset, Turn, after_loan, does, private_of, ran}
+use Rattle.b2_sched.specs.Turns.{told_by}
+use Rattle.b2_sched.specs.World.{WorldState, Action, Key, Front, Halt, Reset, Turn, does, private_of, ran}
 
--- a step of a partition, and how it is told: who took it, what it touched and what it wrote
-abbrev pub step_of : Private → StoreState → StepEnd StoreState
-step_of me s = step itself serves after_loan me s
-
-abbrev pub told : ℕ → Private → StoreState → Step
-told who me s = record { who = who; touched = step_touched me s; written = step_written itself serves me s }
-
--- the steps of a turn
-unfoldable pub steps_in_turn : ℕ → ℕ → Private → StoreState → List Step
-steps_in_turn who zero me s = []
-steps_in_turn who (suc n) me s =
-    let x = step_of me s in
-    told who me s ∷ unless_ended x.end.why (λ w. []) (steps_in_turn who n x.me x.after)
-
--- a partition that is absent takes none
-abbrev pub told_by : ℕ → ℕ → Option Private → StoreState → List Step
-told_by who n None s = []
-told_by who n (Some me) s = steps_in_turn who n me s
-
+-- the steps of an action: those of a turn
 abbrev pub steps_at : Action → WorldState → List Step
 steps_at (Key t k) w = []
 steps_at (Front t p) w = []

@@ -1,17 +1,16 @@
 -- A turn over a watched store.
 use Rattle.std.specs.Prelude.{◌≡◌, ℕ, false, length}
+use Rattle.b2_access.specs.declared.objects.Object.TheVariants as object
+use Rattle.b2_access.specs.declared.private.Private.{Private}
 use Rattle.b2_access.specs.Homes.{IsWithin}
 use Rattle.b2_access.specs.Serving.{serves, itself}
 use Rattle.b2_access.specs.Store.{StoreState}
-use Rattle.b2_access.specs.declared.objects.Object.TheVariants as object
-use Rattle.b2_access.specs.declared.private.Private.{Private}
 use Rattle.b2_audit.specs.Marks.{Marks, writers_of}
 use Rattle.b2_audit.specs.PartSets.{has_other}
 use Rattle.b2_audit.specs.Steps.{AreSteps, IsPartition, just, marks_after}
 use Rattle.b2_audit.specs.Watching.{watched_loan, watching}
 use Rattle.b2_machine.specs.Turn.{TurnEnd, turn}
-use Rattle.b2_sched.specs.Groups.{steps_in_turn}
-use Rattle.b2_sched.specs.World.{after_loan, turn_of}
+use Rattle.b2_sched.specs.Turns.{after_loan, steps_in_turn, turn_of}
 
 -- a store, and the marks around it
 abbrev pub Watched : Type 0

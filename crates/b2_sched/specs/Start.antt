@@ -1,8 +1,10 @@
 -- The world of a boot.
-use Rattle.std.specs.Prelude.{ℕ, ◌*◌, map}
+use Rattle.std.specs.Prelude.{ℕ, ◌*◌, List, [], ◌∷◌, map}
 use Rattle.b2_access.specs.declared.private.Private.{Private}
 use Rattle.b2_access.specs.Partition.{at_start}
 use Rattle.b2_access.specs.Store.{StoreState}
+use Rattle.b2_audit.specs.Marks.{unmarked}
+use Rattle.b2_audit.specs.Steps.{IsPartition, IsTerminal}
 use Rattle.b2_store.specs.Start.{Areas, text_row, borrow_row, globals_row, terminal_row}
 use Rattle.b2_boot.specs.Boots.{BootState}
 use Rattle.b2_boot.specs.declared.boot.BootPartition.{BootPartition}
@@ -34,13 +36,19 @@ store_booted b = record {
   terminals = map terminal_row (map front_row b.terminals);
 }
 
--- THE WORLD OF A BOOT: each partition as it starts, and nothing tallied
+-- THE WORLD OF A BOOT: each partition as it starts, and nothing marked or tallied
 abbrev pub booted : BootState → WorldState
 booted b = record {
   quota = b.quota;
   privates = map private_row b.partitions;
   store = store_booted b;
+  marks = unmarked;
   turns = 0;
   steps = 0;
   dropped = 0;
 }
+
+-- each partition of a boot has a number from 1 to 16, and a terminal from 1 to 12
+abbrev pub AreNumbered : List BootPartition → Type 0
+AreNumbered [] = Unit {0}
+AreNumbered (p ∷ ps) = IsPartition p.number × IsTerminal p.terminal × AreNumbered ps

@@ -1,23 +1,26 @@
--- A world: the own states of the partitions that are present, the store that they share, and three counts; and what events do.
-use Rattle.std.specs.Prelude.{◌≡◌, ℕ, zero, suc, ◌+◌, ◌-◌, ◌^◌, min, Bool, true, false, List, [], ◌∷◌, ◌++◌, Option, Some, None, IsSome}
+-- A world: the own states of the partitions that are present, the store that they share, the marks of their steps, and three
+-- counts; and what events do.
+use Rattle.std.specs.Prelude.{ℕ, zero, suc, ◌+◌, ◌^◌, ◌-◌, min, Bool, true, false, List, [], ◌∷◌, ◌++◌, Option, Some, None}
 use Rattle.b2_term.specs.declared.KeyItem.{KeyItem}
 use Rattle.b2_access.specs.declared.objects.Object.TheVariants as object
 use Rattle.b2_access.specs.declared.private.Private.{Private}
-use Rattle.b2_access.specs.Loans.{Loan}
 use Rattle.b2_access.specs.Rows.{row_of, with_row}
-use Rattle.b2_access.specs.Serving.{serves, itself}
 use Rattle.b2_access.specs.Store.{StoreState, content}
+use Rattle.b2_audit.specs.Marks.{Marks}
+use Rattle.b2_audit.specs.Steps.{marks_after}
 use Rattle.b2_store.specs.Changes.{keyed_at, front_at, room_at}
 use Rattle.b2_boot.specs.declared.log.Event.{Event}
 use Rattle.b2_boot.specs.declared.log.Event.TheVariants as event
-use Rattle.b2_machine.specs.Turn.{TurnEnd, turn}
+use Rattle.b2_machine.specs.Turn.{TurnEnd}
+use Rattle.b2_sched.specs.Turns.{steps_in_turn, turn_of}
 
--- the quota of a turn in a round, the own state of each partition by its number, the store, and how many turns and counting steps
--- there were and how many keys were dropped
+-- the quota of a turn in a round, the own state of each partition by its number, the store, the marks of all steps, and how many
+-- turns and counting steps there were and how many keys were dropped
 pub record WorldState : Type 0 where
   pub quota : ℕ
   pub privates : List (ℕ × Private)
   pub store : StoreState
+  pub marks : Marks
   pub turns : ℕ
   pub steps : ℕ
   pub dropped : ℕ
@@ -66,27 +69,20 @@ asked_to_halt me = record me { halt = true }
 abbrev pub asked_to_reset : Private → Private
 asked_to_reset me = record me { reset = true }
 
--- a loan leaves the store as it is: no `@` variables are found yet
-abbrev pub after_loan : Loan StoreState
-after_loan who home at s left = s
-
--- a turn of a partition over the store
-abbrev pub turn_of : ℕ → Private → StoreState → TurnEnd StoreState
-turn_of quota me s = turn itself serves after_loan quota me s
-
--- after a turn of a partition that is present
-abbrev pub after_turn : ℕ → TurnEnd StoreState → WorldState → WorldState
-after_turn p t w = record w {
+-- after a turn of a partition that is present, which left these marks
+abbrev pub after_turn : ℕ → TurnEnd StoreState → Marks → WorldState → WorldState
+after_turn p t marks w = record w {
   privates = with_row p w.privates t.me;
   store = t.after;
+  marks = marks;
   turns = tallied w.turns 1;
   steps = tallied w.steps t.turned.steps;
 }
 
--- one that is absent does nothing
+-- its steps add their marks; one that is absent does nothing
 abbrev pub with_turn : ℕ → Option Private → ℕ → WorldState → WorldState
 with_turn p None quota w = w
-with_turn p (Some me) quota w = after_turn p (turn_of quota me w.store) w
+with_turn p (Some me) quota w = after_turn p (turn_of quota me w.store) (marks_after (steps_in_turn p quota me w.store) w.marks) w
 
 abbrev pub does : Action → WorldState → WorldState
 does (Key t k) w = with_key t k w
@@ -126,7 +122,3 @@ happens e w = does_all (actions w.quota e) w
 abbrev pub ran : List Event → WorldState → WorldState
 ran [] w = w
 ran (e ∷ es) w = ran es (happens e w)
-
--- each partition that is present is the one of its number, and has a text in the store
-abbrev pub ArePresent : List (ℕ × Private) → StoreState → Type 0
-ArePresent rows s = (p : ℕ) (me : Private) → row_of p rows ≡ Some me → (me.part ≡ p) × IsSome (content s (object.Text p))

@@ -1,4 +1,5 @@
 //! What holds of every world: each law is the contract of a function without a body.
+ghost use Rattle.b2_sched.specs.Clean.{CleanOnesAreAsAlone, MarksSayWhoIsClean, RunsMarkTheirSteps};
 ghost use Rattle.b2_sched.specs.Groups.{CleanGroupsAreAsAlone, GroupsRelyOnTheirOwn, TurnsChangeTheirOwn};
 ghost use Rattle.b2_sched.specs.Laws.{RunsByActions, LeavesOthers, KeepsPresent, CountsTurns, NoPlaceIsKept};
 ghost use Rattle.b2_sched.specs.Marking.{TurnsMarkTheirSteps};
@@ -49,4 +50,21 @@ pub fn law_a_turn_changes_its_own()
 /// marks of its steps.
 pub fn law_a_watched_turn_marks_its_steps()
     ensures { TurnsMarkTheirSteps }
+{}
+
+/// The marks after a run are those before it with those of its steps.
+pub fn law_a_run_marks_its_steps()
+    ensures { RunsMarkTheirSteps }
+{}
+
+/// Who is clean: after any log the marks of a world say so exactly of each partition none of whose steps touched what a step of
+/// another wrote before.
+pub fn law_the_marks_say_who_is_clean()
+    ensures { MarksSayWhoIsClean }
+{}
+
+/// After any log a partition that the marks say is clean has the own state that it has in the world booted with it alone under the
+/// same log.
+pub fn law_who_is_clean_is_as_alone()
+    ensures { CleanOnesAreAsAlone }
 {}

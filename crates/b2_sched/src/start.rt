@@ -1,6 +1,6 @@
 // What a world starts with.
-ghost use Rattle.std.specs.Prelude.{◌≡◌, IfOk, map};
-ghost use Rattle.b2_sched.specs.Start.{in_bytes, private_row, areas_of, front_row};
+ghost use Rattle.std.specs.Prelude.{◌≡◌, IfOk, OnOk, map};
+ghost use Rattle.b2_sched.specs.Start.{AreNumbered, in_bytes, private_row, areas_of, front_row};
 
 use b2_access::Private;
 use b2_base::{NoMemory, Part, Term};
@@ -15,9 +15,10 @@ fn in_bytes(size: u16) -> usize
     usize::from(size) * 1024
 }
 
-/// Each partition as it starts.
+/// Each partition as it starts. Each has a number and a terminal that there are.
 pub fn privates_of(alloc: Global, partitions: &[BootPartition]) -> Result<Rows<Private>, NoMemory>
-    ensures { IfOk result (λ rows. rows ≡ map private_row partitions.now) }
+    ensures started { IfOk result (λ rows. rows ≡ map private_row partitions.now) }
+    ensures numbered { OnOk result (AreNumbered partitions.now) }
 {
     let mut rows = Rows::new(alloc);
     for p in partitions {

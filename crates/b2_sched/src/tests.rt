@@ -1,5 +1,5 @@
 // Worlds made of boot files, and runs of logs over them. In a text `|` stands for a newline.
-use crate::World;
+use crate::{World, laws};
 use b2_base::{NoMemory, Part, Term};
 use b2_boot::{Boot, BootPartition, BootTerminal, Event, boot_of, log_of};
 use b2_term::KeyItem;
@@ -224,6 +224,139 @@ fn runs(rt: HostRuntime) -> Result<(), Fail> {
     Ok(())
 }
 
+// A log, and the partitions that are not clean then.
+struct MarksRow {
+    setting: Setting,
+    log: &'static [u8],
+    not_clean: &'static [u8],
+}
+
+const MARKS_ROWS: [MarksRow; 19] = [
+    MarksRow {
+        setting: Setting::Two,
+        log: b"",
+        not_clean: &[],
+    },
+    // One that is absent touches nothing.
+    MarksRow {
+        setting: Setting::One,
+        log: b"type 1 10 A=1|turn 2 5|rounds 9|",
+        not_clean: &[],
+    },
+    // Two clerks, each with its own text, variables and terminal.
+    MarksRow {
+        setting: Setting::Two,
+        log: b"type 1 10 INPUT A:PRINT A*2|type 2 10 INPUT A:PRINT A*3|type 1 RUN|type 2 RUN|rounds 9|type 2 5|type 1 4|rounds 9|",
+        not_clean: &[],
+    },
+    // Edits of the own text, and all of it cleared.
+    MarksRow {
+        setting: Setting::Steps,
+        log: b"type 1 10 A=1|type 2 10 A=2|type 1 10|type 2 CLEAR|rounds 20|",
+        not_clean: &[],
+    },
+    // The second that shows at a terminal is not clean, and the first stays so until it comes back.
+    MarksRow {
+        setting: Setting::Shared,
+        log: b"turn 1 5|",
+        not_clean: &[],
+    },
+    MarksRow {
+        setting: Setting::Shared,
+        log: b"turn 1 5|front 1 2|turn 2 1|",
+        not_clean: &[2],
+    },
+    MarksRow {
+        setting: Setting::Shared,
+        log: b"turn 1 5|front 1 2|turn 2 5|front 1 1|",
+        not_clean: &[2],
+    },
+    MarksRow {
+        setting: Setting::Shared,
+        log: b"turn 1 5|front 1 2|turn 2 5|front 1 1|turn 1 5|",
+        not_clean: &[1, 2],
+    },
+    // One that waits touches the terminal: nothing where nobody wrote there yet.
+    MarksRow {
+        setting: Setting::Shared,
+        log: b"turn 2 5|turn 1 5|",
+        not_clean: &[],
+    },
+    MarksRow {
+        setting: Setting::Shared,
+        log: b"turn 2 5|turn 1 5|turn 2 5|",
+        not_clean: &[2],
+    },
+    MarksRow {
+        setting: Setting::Shared,
+        log: b"rounds 1|",
+        not_clean: &[2],
+    },
+    // One that only reads at a terminal where another showed.
+    MarksRow {
+        setting: Setting::Shared,
+        log: b"front 1 2|turn 2 5|front 1 1|turn 1 5|",
+        not_clean: &[1],
+    },
+    MarksRow {
+        setting: Setting::Shared,
+        log: b"front 1 2|turn 2 5|front 1 1|turn 1 5|front 1 2|turn 2 1|",
+        not_clean: &[1, 2],
+    },
+    // Keys and fronts from outside are no steps.
+    MarksRow {
+        setting: Setting::Shared,
+        log: b"type 1 A|front 1 2|type 1 B|front 1 1|turn 1 99|",
+        not_clean: &[],
+    },
+    // A halt and a reset ask for nothing, and take no mark away.
+    MarksRow {
+        setting: Setting::Two,
+        log: b"type 1 10 GOTO 10|type 1 RUN|rounds 2|halt 1|reset 2|rounds 2|",
+        not_clean: &[],
+    },
+    MarksRow {
+        setting: Setting::Shared,
+        log: b"turn 1 5|reset 2|turn 2 1|",
+        not_clean: &[],
+    },
+    MarksRow {
+        setting: Setting::Shared,
+        log: b"turn 1 5|reset 2|turn 2 1|turn 2 1|",
+        not_clean: &[2],
+    },
+    MarksRow {
+        setting: Setting::Shared,
+        log: b"rounds 1|halt 2|reset 1|rounds 2|reset 2|rounds 2|",
+        not_clean: &[2],
+    },
+    // A running partition touches its text alone until it shows something.
+    MarksRow {
+        setting: Setting::Shared,
+        log: b"type 1 10 GOTO 10|type 1 RUN|turn 1 9|front 1 2|turn 1 9|turn 2 5|turn 1 9|",
+        not_clean: &[2],
+    },
+];
+
+// Whether exactly these partitions are not clean.
+fn are_not_clean(world: &World, parts: &[u8]) -> bool {
+    for n in 1..17u8 {
+        if world.clean(Part::known(n)) == parts.contains(&n) {
+            return false;
+        }
+    }
+    true
+}
+
+#[test]
+fn marks_tell_who_touched_what_another_wrote(rt: HostRuntime) -> Result<(), Fail> {
+    for row in &MARKS_ROWS {
+        let world = after(rt.alloc(), row.setting, row.log)?;
+        assert!(rt; are_not_clean(&world, row.not_clean));
+    }
+    Ok(())
+}
+
 // So many keys at terminal 2.
 fn keys(alloc: Global, count: usize) -> Result<Vec<Event>, NoMemory> {
     let mut events = Vec::new(alloc);
@@ -302,5 +435,22 @@ fn keys_wait_at_a_terminal_without_a_partition(rt: HostRuntime) -> Result<(), Fa
     assert!(rt; has_shown(rt.alloc(), &world, Term::known(1), b"READY|:")?);
     assert!(rt; has_shown(rt.alloc(), &world, Term::known(2), b"")?);
     assert_eq!(rt; counts(&world), [1, 1, 2]);
+    Ok(())
+}
+
+#[test]
+fn laws_are_there(_rt: HostRuntime) -> Result<(), Fail> {
+    laws::law_a_run_is_its_actions();
+    laws::law_a_turn_leaves_the_others();
+    laws::law_the_same_are_present();
+    laws::law_a_round_has_a_turn_of_each();
+    laws::law_no_place_is_kept_while_a_program_runs();
+    laws::law_a_clean_group_relies_on_its_own();
+    laws::law_a_clean_group_is_as_alone();
+    laws::law_a_turn_changes_its_own();
+    laws::law_a_watched_turn_marks_its_steps();
+    laws::law_a_run_marks_its_steps();
+    laws::law_the_marks_say_who_is_clean();
+    laws::law_who_is_clean_is_as_alone();
     Ok(())
 }

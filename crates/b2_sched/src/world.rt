@@ -1,11 +1,13 @@
 // The world: events and runs.
 ghost use Rattle.std.specs.Prelude.{◌≡◌, [], IfOk, IfErr, OnOk};
+ghost use Rattle.b2_audit.specs.Marks.{is_clean};
 ghost use Rattle.b2_store.specs.Meaning.{store_of};
 ghost use Rattle.b2_sched.specs.Start.{booted};
 ghost use Rattle.b2_sched.specs.World.{does, does_all, turns_from, rounds, happens, ran, Key, Front, Halt, Reset, Turn};
 
 use crate::start::{areas_of, fronts_of, privates_of};
 use b2_access::{DeviceTable, Private};
+use b2_audit::{Seen, Watched};
 use b2_base::{NoMemory, Part, Term};
 use b2_boot::{Boot, Event};
 use b2_machine::turn;
@@ -14,7 +16,8 @@ use b2_term::KeyItem;
 use std::alloc::Global;
 use std::marker::Model;
 
-/// Partitions, the store that they share, and counts of turns, counting steps and dropped keys. Contracts see it as one record.
+/// Partitions, the store that they share, the marks of what they touch and write there, and counts of turns, counting steps and
+/// dropped keys. Contracts see it as one record.
 #[derive(Drop)]
 pub struct World {
     alloc: Global,
@@ -22,6 +25,7 @@ pub struct World {
     devices: DeviceTable,
     privates: Rows<Private>,
     stores: Stores,
+    seen: Seen,
     turns: u64,
     steps: u64,
     dropped: u64,
@@ -31,19 +35,20 @@ impl Model for World {
     ghost use Rattle.std.specs.Coded.{codes};
     ghost use Rattle.b2_vars.specs.Tables.{coded_vars};
     ghost use Rattle.b2_store.specs.Meaning.{store_of};
-    ghost use Rattle.b2_sched.specs.World.{WorldState, ArePresent};
+    ghost use Rattle.b2_sched.specs.Presence.{ArePresent};
+    ghost use Rattle.b2_sched.specs.World.{WorldState};
 
     ghost Value = { WorldState };
 
     ghost coded = { Prim.hlevel (codes, coded_vars) };
 
-    ghost view = { λ w. record { quota = w.quota; privates = w.privates; store = store_of w.stores; turns = w.turns; steps = w.steps; dropped = w.dropped } };
+    ghost view = { λ w. record { quota = w.quota; privates = w.privates; store = store_of w.stores; marks = w.seen; turns = w.turns; steps = w.steps; dropped = w.dropped } };
 
-    ghost invariant = { λ w. ArePresent w.privates (store_of w.stores) };
+    ghost invariant = { λ w. ArePresent w.privates (store_of w.stores) w.seen };
 }
 
 impl World {
-    /// The world of a boot: each partition as it starts, empty texts, idle terminals, and nothing counted.
+    /// The world of a boot: each partition as it starts, empty texts, idle terminals, and nothing marked or counted.
     pub fn boot(alloc: Global, b: &Boot) -> Result<World, NoMemory>
         ensures started { IfOk result (λ w. w ≡ booted b.now) }
     {
@@ -59,6 +64,7 @@ impl World {
             devices: DeviceTable::new(Vec::new(alloc)),
             privates,
             stores,
+            seen: Seen::new(),
             turns: 0,
             steps: 0,
             dropped: 0,
@@ -113,6 +119,13 @@ impl World {
         self.dropped
     }
 
+    /// Whether a partition is clean: in none of its steps it touched what a step of another had written.
+    pub fn clean(&self, p: Part) -> bool
+        ensures value { result ≡ is_clean p self.now.marks }
+    {
+        self.seen.is_clean(p)
+    }
+
     /// The store that the partitions share.
     pub fn stores(&self) -> &Stores
         ensures value { store_of result.now ≡ self.now.store }
@@ -156,7 +169,7 @@ impl World {
         self.privates.at(p).flag_reset();
     }
 
-    /// A turn of a partition; an absent one has none.
+    /// A turn of a partition over the store, which is watched meanwhile; an absent one has none.
     fn turn(&mut self, part: Part, quota: u16) -> Result<(), NoMemory>
         ensures turned { OnOk result (self.new ≡ does (Turn part quota) self.old) }
         ensures ended { IfErr result (λ _. self.new.privates ≡ []) }
@@ -165,7 +178,8 @@ impl World {
             return Ok(());
         };
         let me = self.privates.at(part);
-        match turn(self.alloc, me, &mut self.stores, &self.devices, quota) {
+        let mut watched = Watched::new(&mut self.stores, &mut self.seen);
+        match turn(self.alloc, me, &mut watched, &self.devices, quota) {
             Ok(turned) => {
                 self.turns = self.turns.saturating_add(1);
                 self.steps = self.steps.saturating_add(u64::from(turned.steps));

@@ -3,7 +3,6 @@ use Rattle.std.proofs.Common.{◌≡◌, ℕ, ◌==◌, ◌&&◌, ◌∙◌, ref
 use Rattle.std.specs.Prelude.{slice_get, unwrap_or, ◌+◌, ◌-◌, ◌%◌, ◌^◌}
 use Rattle.std.proofs.Math.Nat.{zero-div}
 use Rattle.std.specs.Option.{option_map, option_and_then}
-use Rattle.b2_atom.specs.Tokens.Token.{Coded, Plain, Lined}
 use Rattle.b2_atom.specs.Tree.{Trees}
 use Rattle.b2_atom.specs.Tree.Trees.{Done, Put, In}
 use Rattle.b2_atom.specs.Units.{TreeUnit}
@@ -45,7 +44,7 @@ use Rattle.b2_stmt.specs.Reading.{reads}
 use Rattle.b2_stmt.specs.Branches.{goto_goal, if_goal, passed_function}
 use Rattle.b2_stmt.specs.Calls.{back_from, called_where, forgets, leaves_call}
 use Rattle.b2_stmt.specs.Choices.{choice_in}
-use Rattle.b2_stmt.specs.Clearing.{access_of, cleared, edited, erases, erases_from, erases_lines, erases_range, finishes}
+use Rattle.b2_stmt.specs.Clearing.{access_of, cleared, edited, finishes}
 use Rattle.b2_stmt.specs.Course.{continues, restores, restores_where, runs, runs_from, runs_where}
 use Rattle.b2_stmt.specs.Frames.{with_frame}
 use Rattle.b2_access.specs.Going.{to_found, to_goal, to_place, where_there}
@@ -53,6 +52,7 @@ use Rattle.b2_access.specs.Homes.{FinishesWithin, FrameIn, FramesIn, HomesIn, Is
 use Rattle.b2_stmt.specs.Loops.{begins, counted, counts, goes_round, is_over, loop_in, made_loop, next_value, nexts, tested, without_loop}
 use Rattle.b2_stmt.specs.Plan.{allowed, by_access, course, course_at, course_in, ended_of, finish, is_refused, line_named, plan}
 use Rattle.b2_access.specs.Planning.{Ended, Planning, done, goes_or}
+use Rattle.b2_stmt.proofs.Erased.{each_erased}
 use Rattle.b2_stmt.specs.declared.asked.Asked.{Asked}
 use Rattle.b2_stmt.specs.declared.asked.Asked.TheVariants as asked
 use Rattle.b2_stmt.specs.declared.loops.Loop.{Loop}
@@ -64,31 +64,6 @@ either F false x y h k = k
 
 true_is_false : true ≡ false → ⊥
 true_is_false h = cc
-
--- CLEAR P marks no home
-from_none : (from : ℕ) (t : Trees) → homes_of (erases_from from t) ≡ 0
-from_none from Done = refl
-from_none from (Put w t) = refl
-from_none from (In n second end) = refl
-
-lines_none : (t : Trees) → homes_of (erases_lines t) ≡ 0
-lines_none Done = refl
-lines_none (In n a t) = refl
-lines_none (Put (Coded c) t) = refl
-lines_none (Put (Plain k text) t) = refl
-lines_none (Put (Lined high low) more) = from_none _ more
-
-range_none : (t : Trees) → homes_of (erases_range t) ≡ 0
-range_none Done = refl
-range_none (Put w t) = refl
-range_none (In n lines end) = either (λ (a : Access). homes_of a ≡ 0) (n == 1) (erases_lines lines) _ (lines_none lines) refl
-
-erases_none : (t : Trees) → homes_of (erases t) ≡ 0
-erases_none Done = refl
-erases_none (In n a t) = refl
-erases_none (Put w Done) = refl
-erases_none (Put w (In n a t)) = refl
-erases_none (Put w (Put letter range)) = range_none range
 
 module _ (among : ℕ → Bool) where
   -- what a statement leaves names only these
@@ -401,7 +376,7 @@ module _ (among : ℕ → Bool) where
   asked_of_in : (r : ℕ) (t : Trees) → AccessIn (access_of r t)
   unfolding AccessIn
   asked_of_in r t =
-      either AccessIn (r == row.CLEAR) _ _ (no_mark (access.ClearAll None 0) refl) (either AccessIn (r == row.CLEAR_P) _ _ (no_mark (erases t) (erases_none t)) tt)
+      either AccessIn (r == row.CLEAR) _ _ (no_mark (access.ClearAll None 0) refl) (either AccessIn (r == row.CLEAR_P) _ _ (each_erased (HomesIn among) (λ from to. no_mark (access.Erase from to 0) refl) t) tt)
 
   access_in : (o : Option Access) (s : SeenLent) (me : Private) (e : Ended) → Within me → EndedIn e → AccessIn o → PlanningIn (by_access o s me e)
   unfolding PlanningIn AccessIn

@@ -1,4 +1,5 @@
--- A statement leaves the place at which it stands; and where no place is kept, it keeps one only where the partition is then ready.
+-- A statement leaves the place and the terminal at which it stands, and asks there alone; and where no place is kept, it keeps one
+-- only where the partition is then ready.
 use Rattle.std.proofs.Common.{◌≡◌, ℕ, ◌==◌, ◌&&◌, nat_lt, Bool, true, false, if◌then◌else◌, List, [], ◌∷◌, length, refl, ap, inl, inr, Option, Some, None, is_some, Ok, Err}
 use Rattle.std.specs.Prelude.{slice_get, ◌⊎◌}
 use Rattle.b2_atom.specs.Tree.{Trees}
@@ -18,6 +19,7 @@ use Rattle.b2_expr.specs.Answers.{Answer as NumberAnswer}
 use Rattle.b2_expr.specs.Named.{number_there}
 use Rattle.b2_access.specs.Keeping.{FinishesInPlace, FinishesKeepNone, PlansInPlace, PlansKeepNone}
 use Rattle.b2_access.specs.Lending.{SeenLent}
+use Rattle.b2_access.specs.OwnTerminal.{AskedAt, FinishesAtTerminal, PlannedAt, PlansAtTerminal}
 use Rattle.b2_access.specs.Places.{line_start}
 use Rattle.b2_access.specs.Going.{to_place}
 use Rattle.b2_access.specs.Placed.{line_named}
@@ -30,6 +32,7 @@ use Rattle.b2_access.specs.declared.planned.Outcome.{Outcome}
 use Rattle.b2_access.specs.declared.planned.Outcome.TheVariants as outcome
 use Rattle.b2_access.specs.declared.planned.Planned.TheVariants as planned
 use Rattle.b2_access.specs.declared.private.Private.{Private}
+use Rattle.b2_access.proofs.OwnTerminal.{names_none}
 use Rattle.b2_expr.specs.Value.{context_of}
 use Rattle.b2_stmt.specs.Asked.{Here, asked_of, carried}
 use Rattle.b2_stmt.specs.Calls.{back_from, called_where, forgets, leaves_call}
@@ -40,6 +43,7 @@ use Rattle.b2_stmt.specs.Loops.{begins, counted, counts, goes_round, is_over, ma
 use Rattle.b2_stmt.specs.Marked.{calls_mark, mark_place, takes_args}
 use Rattle.b2_stmt.specs.OnVariables.{is_on_variables}
 use Rattle.b2_stmt.specs.Plan.{allowed, by_access, course, course_at, course_in, ended_of, finish, is_refused, plan}
+use Rattle.b2_stmt.proofs.Erased.{each_erased}
 use Rattle.b2_stmt.specs.declared.asked.Asked.{Asked}
 use Rattle.b2_stmt.specs.declared.asked.Asked.TheVariants as asked
 use Rattle.b2_stmt.specs.declared.loops.Loop.{Loop}
@@ -52,14 +56,18 @@ either F false x y h k = k
 false_is_true : false ≡ true → ⊥
 false_is_true h = cc
 
-module _ (here : Option Place) (matters : Bool) where
-  -- it stands at a place, and where that matters it keeps none
+-- at which place and at which terminal a partition stands
+abbrev stands : Private → Option Place × ℕ
+stands me = (me.place, me.term)
+
+module _ (here : Option Place × ℕ) (matters : Bool) where
+  -- it stands here, and where that matters it keeps no place
   abbrev KeepsNoPlace : Private → Type 0
-  KeepsNoPlace me = (me.place ≡ here) × (matters ≡ true → me.kept ≡ None)
+  KeepsNoPlace me = (stands me ≡ here) × (matters ≡ true → me.kept ≡ None)
 
   -- a statement has ended there, and where that matters it keeps nothing or leads to the ready state
   KeepsNothing : Ended → Type 0
-  KeepsNothing e = (e.me.place ≡ here) × (matters ≡ true → (e.me.kept ≡ None) ⊎ (e.outcome ≡ outcome.Ready))
+  KeepsNothing e = (stands e.me ≡ here) × (matters ≡ true → (e.me.kept ≡ None) ⊎ (e.outcome ≡ outcome.Ready))
 
   framed : (f : Frame) (o : Outcome) (me : Private) → KeepsNoPlace me → KeepsNothing (with_frame f o me)
   unfolding KeepsNothing
@@ -184,7 +192,7 @@ module _ (here : Option Place) (matters : Bool) where
       (does (asked_of r t h (context_of (setting_of me) me.vars s.home) s.home.lines) h.place me s.own.lines s.home.lines k)))
 
   PlansNothing : Planning → Type 0
-  PlansNothing p = (p.me.place ≡ here) × (matters ≡ true → (p.me.kept ≡ None) ⊎ (p.planned ≡ planned.Done outcome.Ready))
+  PlansNothing p = (stands p.me ≡ here) × (matters ≡ true → (p.me.kept ≡ None) ⊎ (p.planned ≡ planned.Done outcome.Ready)) × PlannedAt here.1 p.planned
 
   done_by : (s : SeenLent) (e : Ended) → (e.me.kept ≡ None) ⊎ (e.outcome ≡ outcome.Ready) → ((done s e).me.kept ≡ None) ⊎ ((done s e).planned ≡ planned.Done outcome.Ready)
   done_by s e (inl h) = inl h
@@ -192,30 +200,36 @@ module _ (here : Option Place) (matters : Bool) where
 
   is_done : (s : SeenLent) (e : Ended) → KeepsNothing e → PlansNothing (done s e)
   unfolding KeepsNothing PlansNothing
-  is_done s e h = (h.0, λ r. done_by s e (h.1 r))
+  is_done s e h = (h.0, λ r. done_by s e (h.1 r), tt)
 
-  asking : (o : Option Access) (s : SeenLent) (me : Private) (e : Ended) → KeepsNoPlace me → KeepsNothing e → PlansNothing (by_access o s me e)
+  asks_here : (r : ℕ) (t : Trees) → AskedAt here.1 (access_of r t)
+  asks_here r t =
+      let F : Option Access → Type 0 = AskedAt here.1 in
+      either F (r == row.CLEAR) _ _ (names_none here.1 (access.ClearAll None 0) refl)
+      (either F (r == row.CLEAR_P) _ _ (each_erased (λ a. AskedAt here.1 (Some a)) (λ from to. names_none here.1 (access.Erase from to 0) refl) t) tt)
+
+  asking : (o : Option Access) (s : SeenLent) (me : Private) (e : Ended) → AskedAt here.1 o → KeepsNoPlace me → KeepsNothing e → PlansNothing (by_access o s me e)
   unfolding PlansNothing
-  asking None s me e k h = is_done s e h
-  asking (Some a) s me e k h = (k.0, λ r. inl (k.1 r))
+  asking None s me e x k h = is_done s e h
+  asking (Some a) s me e x k h = (k.0, λ r. inl (k.1 r), x)
 
   where_allowed : (r : ℕ) (t : Trees) (h : Here) (me : Private) (s : SeenLent) → KeepsNoPlace me → PlansNothing (allowed r t h me s)
   unfolding PlansNothing
-  where_allowed r t h me s k = either PlansNothing (is_refused r (is_some h.place.line)) _ _ (k.0, λ r. inl (k.1 r)) (asking (access_of r t) s me (ended_of r t h me s) k (ended r t h me s k))
+  where_allowed r t h me s k = either PlansNothing (is_refused r (is_some h.place.line)) _ _ (k.0, λ r. inl (k.1 r), tt) (asking (access_of r t) s me (ended_of r t h me s) (asks_here r t) k (ended r t h me s k))
 
   unit : (o : Option TreeUnit) (h : Here) (me : Private) (s : SeenLent) → KeepsNoPlace me → PlansNothing (course_at o h me s)
   unfolding PlansNothing
-  unit None h me s k = (k.0, λ r. inl (k.1 r))
+  unit None h me s k = (k.0, λ r. inl (k.1 r), tt)
   unit (Some u) h me s k = where_allowed u.row u.tree h me s k
 
   on_line : (o : Option (List ℕ)) (p : Place) (me : Private) (s : SeenLent) → KeepsNoPlace me → PlansNothing (course_in o p me s)
   unfolding PlansNothing
-  on_line None p me s k = (k.0, λ r. inl (k.1 r))
+  on_line None p me s k = (k.0, λ r. inl (k.1 r), tt)
   on_line (Some l) p me s k = unit (slice_get (tree_units l) p.unit) (record { place = p; units = tree_units l }) me s k
 
   at_place : (o : Option Place) (me : Private) (s : SeenLent) → KeepsNoPlace me → PlansNothing (course o me s)
   unfolding PlansNothing
-  at_place None me s k = (k.0, λ r. inl (k.1 r))
+  at_place None me s k = (k.0, λ r. inl (k.1 r), tt)
   at_place (Some p) me s k = on_line (line_named me.immediate s.home.lines p.line) p me s k
 
   -- how it finishes
@@ -240,18 +254,39 @@ module _ (here : Option Place) (matters : Bool) where
   finishing (access.Key term) a me k = (k.0, λ r. inl (k.1 r))
   finishing (access.PutLine line atoms homes) a me k = (k.0, λ r. inl (k.1 r))
 
+-- of the place and of the terminal
+same_place : (me after : Private) → stands after ≡ stands me → after.place ≡ me.place
+same_place me after is = ap (λ (p : Option Place × ℕ). p.0) is
+
+same_terminal : (me after : Private) → stands after ≡ stands me → after.term ≡ me.term
+same_terminal me after is = ap (λ (p : Option Place × ℕ). p.1) is
+
+planned_here : (me : Private) (s : SeenLent) → PlansNothing (stands me) false (plan me s)
+planned_here me s = at_place (stands me) false me.place me s (refl, λ r. absurd (false_is_true r))
+
+ended_here : (x : Access) (a : Answer) (me : Private) → KeepsNothing (stands me) false (finishes x a me)
+ended_here x a me = finishing (stands me) false x a me (refl, λ r. absurd (false_is_true r))
+
 pub plans_in_place : PlansInPlace plan
 unfolding PlansNothing
-plans_in_place me s = (at_place me.place false me.place me s (refl, λ r. absurd (false_is_true r))).0
+plans_in_place me s = same_place me (plan me s).me (planned_here me s).0
+
+pub plans_at_terminal : PlansAtTerminal plan
+unfolding PlansNothing
+plans_at_terminal me s = (same_terminal me (plan me s).me (planned_here me s).0, (planned_here me s).2)
 
 pub plans_keep_none : PlansKeepNone plan
 unfolding PlansNothing
-plans_keep_none me s k = (at_place me.place true me.place me s (refl, λ r. k)).1 refl
+plans_keep_none me s k = (at_place (stands me) true me.place me s (refl, λ r. k)).1 refl
 
 pub finishes_in_place : FinishesInPlace finish
 unfolding KeepsNothing
-finishes_in_place x a me s = (finishing me.place false x a me (refl, λ r. absurd (false_is_true r))).0
+finishes_in_place x a me s = same_place me (finishes x a me).me (ended_here x a me).0
+
+pub finishes_at_terminal : FinishesAtTerminal finish
+unfolding KeepsNothing
+finishes_at_terminal x a me s = same_terminal me (finishes x a me).me (ended_here x a me).0
 
 pub finishes_keep_none : FinishesKeepNone finish
 unfolding KeepsNothing
-finishes_keep_none x a me s k = (finishing me.place true x a me (refl, λ r. k)).1 refl
+finishes_keep_none x a me s k = (finishing (stands me) true x a me (refl, λ r. k)).1 refl

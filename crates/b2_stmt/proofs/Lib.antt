@@ -4,8 +4,9 @@
 -- Commas: lists with commas. BranchRows, LoopRows, CallRows, CourseRows, ChoiceRows, ClearRows, NumberRows, SideRows, DataRows,
 -- ReadRows, ArgumentRows and MarkRows have what the rows of statements say at their bytes, one fact at a time. Assigned:
 -- receivers one after the other. Changed: bytes that a call changes, and what is refused. BufferRows, TurnRows, DimensionRows
--- and EntryRows: the rows of INIT, of ROTATE, and of DIM and COM. LengthRows: a length is read as a sum is. Executed: a unit by its row and its tree. HomesKept: which partitions a statement names as
--- homes. ReadingOrder: READ takes the literals of DATA in their order.
+-- and EntryRows: the rows of INIT, of ROTATE, and of DIM and COM. LengthRows: a length is read as a sum is. Executed: a unit by its row and its tree. Erased: what CLEAR P asks for. HomesKept:
+-- which partitions a statement names as homes. KeptPlaces: where it stands, at which terminal, and what it keeps for CONTINUE.
+-- ReadingOrder: READ takes the literals of DATA in their order.
 pub mod GoalUnits
 pub mod Framed
 pub mod BranchRows
@@ -29,5 +30,6 @@ pub mod ArgumentRows
 pub mod MarkRows
 pub mod Executed
 pub mod ReadingOrder
+pub mod Erased
 pub mod HomesKept
 pub mod KeptPlaces

@@ -1,6 +1,7 @@
 //! What holds of statements, whatever they are: each law is the contract of a function without a body.
 ghost use Rattle.b2_access.specs.Homes.{FinishesWithin, PlansWithin};
 ghost use Rattle.b2_access.specs.Keeping.{FinishesInPlace, FinishesKeepNone, PlansInPlace, PlansKeepNone};
+ghost use Rattle.b2_access.specs.OwnTerminal.{FinishesAtTerminal, PlansAtTerminal};
 ghost use Rattle.b2_stmt.specs.Lengths.{LengthsAreSums};
 ghost use Rattle.b2_stmt.specs.Plan.{finish, plan};
 ghost use Rattle.b2_stmt.specs.ReadingOrder.{ReadsInOrder};
@@ -45,4 +46,14 @@ pub fn plans_keep_no_place()
 /// And so does one that finishes.
 pub fn finishes_keep_no_place()
     ensures { FinishesKeepNone finish }
+{}
+
+/// A statement that is planned leaves the terminal of the partition, and asks there alone.
+pub fn plans_stay_at_the_terminal()
+    ensures { PlansAtTerminal plan }
+{}
+
+/// One that finishes leaves it too.
+pub fn finishes_stay_at_the_terminal()
+    ensures { FinishesAtTerminal finish }
 {}

@@ -1,6 +1,5 @@
 -- A statement at the terminal names no partition as a home but its own and those that were named before.
 use Rattle.std.proofs.Common.{◌≡◌, ℕ, ◌==◌, ◌||◌, ◌%◌, ◌∙◌, refl, sym, ap, Bool, true, false, if◌then◌else◌, List, Option, Some, None, is_some, Result, Ok, Err}
-use Rattle.std.specs.Prelude.{◌++◌, codes}
 use Rattle.std.specs.Prelude.{◌-◌, ◌^◌}
 use Rattle.std.proofs.Math.Nat.{zero-div}
 use Rattle.b2_atom.specs.Tree.{Trees}
@@ -28,14 +27,13 @@ use Rattle.b2_access.specs.declared.private.Private.{Private}
 use Rattle.b2_expr.specs.Value.{context_of}
 use Rattle.b2_stmt_io.specs.Changed.{with_assigned}
 use Rattle.b2_stmt_io.specs.Converting.{converts}
-use Rattle.b2_stmt_io.specs.Imaging.{prints_using}
 use Rattle.b2_stmt_io.specs.Inputs.{takes_parts}
 use Rattle.b2_stmt_io.specs.Keys.{first_line, goes_on, keyed, second_line, takes_key, waits, without_key}
-use Rattle.b2_stmt_io.specs.LineReading.{after_showing, asks_line, line_read, prompt_of, takes_line, types}
+use Rattle.b2_stmt_io.specs.LineReading.{after_showing, line_read, takes_line, types}
 use Rattle.b2_stmt_io.specs.Marks.{typed_by}
 use Rattle.b2_stmt_io.specs.Plan.{asked_of, course, course_at, course_of, ended, ended_at, ended_of, finish, is_refused, plan}
-use Rattle.b2_stmt_io.specs.Printing.{prints}
-use Rattle.b2_stmt_io.specs.Showing.{shown, shows}
+use Rattle.b2_stmt_io.specs.Showing.{shown}
+use Rattle.b2_stmt_io.proofs.Planned.{each_asked}
 
 -- one thing or another
 either : {A : Type 0} (F : A → Type 0) (b : Bool) (x y : A) → F x → F y → F (if b then x else y)
@@ -58,21 +56,10 @@ module _ (among : ℕ → Bool) where
   no_mark a none h is = absurd (true_is_false (sym is ∙ ap (λ (n : ℕ). is_marked h n) none ∙ ap (λ (n : ℕ). n % 2 == 1) (zero-div (2 ^ (h - 1)))))
 
   -- what is planned
-  shows_in : (term : ℕ) (r : Result (List ℕ) ℕ) → PlannedIn among (shows term r)
-  shows_in term (Ok bytes) = no_mark (access.Show term bytes) refl
-  shows_in term (Err code) = tt
-
-  asks_in : (shown : Bool) (term : ℕ) (prompt : List ℕ) → HomesIn among (asks_line shown term prompt)
-  asks_in shown term prompt = either (HomesIn among) shown _ _ (no_mark (access.ReadLine term) refl) (no_mark (access.Show term (prompt ++ codes "? ")) refl)
-
   asked_in : (r : ℕ) (t : Trees) (e : Context) (column : ℕ) (prompted : Bool) → PlannedIn among (asked_of r t e column prompted)
   asked_in r t e column prompted =
       let term = e.around.term in
-      either (PlannedIn among) (r == row.PRINT) _ _ (shows_in term (prints e column t))
-      (either (PlannedIn among) (r == row.PRINTUSING) _ _ (shows_in term (prints_using e t))
-      (either (PlannedIn among) (r == row.KEYIN) _ _ (no_mark (access.Key term) refl)
-      (either (PlannedIn among) (r == row.LINPUT) _ _ (asks_in prompted term (prompt_of t))
-      (either (PlannedIn among) (r == row.INPUT) _ _ (asks_in prompted term (prompt_of t)) tt))))
+      each_asked (PlannedIn among) e (λ code. tt) (λ bytes. no_mark (access.Show term bytes) refl) (no_mark (access.ReadLine term) refl) (no_mark (access.Key term) refl) r t column prompted
 
   PlanningIn : Planning → Type 0
   PlanningIn p = IsWithin among p.me × PlannedIn among p.planned

@@ -1,4 +1,4 @@
--- A statement at the terminal leaves the place at which it stands, and the one that is kept.
+-- A statement at the terminal leaves the place at which it stands, the one that is kept, and the terminal; and it asks there alone.
 use Rattle.std.proofs.Common.{◌≡◌, ◌∙◌, refl, ℕ, ◌==◌, ◌||◌, Bool, true, false, if◌then◌else◌, List, inl, Option, Some, None, is_some}
 use Rattle.b2_atom.specs.Tree.{Trees}
 use Rattle.b2_atom.specs.Tree.Trees.{Done, Put, In}
@@ -9,6 +9,7 @@ use Rattle.b2_vars.specs.Tables.{VarsState}
 use Rattle.b2_expr.specs.Assigning.{Assigned}
 use Rattle.b2_access.specs.Keeping.{FinishesInPlace, FinishesKeepNone, PlansInPlace, PlansKeepNone}
 use Rattle.b2_access.specs.Lending.{SeenLent}
+use Rattle.b2_access.specs.OwnTerminal.{FinishesAtTerminal, PlannedAt, PlansAtTerminal}
 use Rattle.b2_access.specs.Partition.{setting_of}
 use Rattle.b2_access.specs.Placed.{Statement, statement_at}
 use Rattle.b2_access.specs.Planning.{Ended, Planning}
@@ -17,22 +18,25 @@ use Rattle.b2_access.specs.declared.accesses.Access.TheVariants as access
 use Rattle.b2_access.specs.declared.accesses.Answer.{Answer}
 use Rattle.b2_access.specs.declared.accesses.Answer.TheVariants as answer
 use Rattle.b2_access.specs.declared.private.Private.{Private}
+use Rattle.b2_access.proofs.OwnTerminal.{names_own}
+use Rattle.b2_stmt_io.specs.Around.{around}
 use Rattle.b2_stmt_io.specs.Inputs.{takes_parts}
 use Rattle.b2_stmt_io.specs.Keys.{keyed, takes_key}
 use Rattle.b2_stmt_io.specs.LineReading.{after_showing, line_read, takes_line, types}
 use Rattle.b2_stmt_io.specs.Marks.{typed_by}
 use Rattle.b2_stmt_io.specs.Plan.{course, course_at, course_of, ended, ended_at, ended_of, finish, is_refused, plan}
 use Rattle.b2_stmt_io.specs.Showing.{shown}
+use Rattle.b2_stmt_io.proofs.Planned.{each_asked}
 
 -- one thing or another
 either : {A : Type 0} (F : A → Type 0) (b : Bool) (x y : A) → F x → F y → F (if b then x else y)
 either F true x y h k = h
 either F false x y h k = k
 
-module _ (here kept : Option Place) where
-  -- it stands at a place, and keeps one or none
+module _ (here kept : Option Place) (term : ℕ) where
+  -- it stands at a place and at a terminal, and keeps a place or none
   KeepsPlaces : Private → Type 0
-  KeepsPlaces me = (me.place ≡ here) × (me.kept ≡ kept)
+  KeepsPlaces me = (me.place ≡ here) × (me.kept ≡ kept) × (me.term ≡ term)
 
   -- what is planned
   planned_of : (u : Statement) (me : Private) (s : SeenLent) → KeepsPlaces me → KeepsPlaces (course_of u me s).me
@@ -134,18 +138,56 @@ module _ (here kept : Option Place) where
   ended_place None x a me s h = h
   ended_place (Some p) x a me s h = ended_unit (statement_at p me.immediate s.home.lines) p x a me s h
 
+-- what is asked for
+PlanningAt : ℕ → Planning → Type 0
+PlanningAt term p = PlannedAt term p.planned
+
+asks_here : (u : Statement) (me : Private) (s : SeenLent) → PlanningAt me.term (course_of u me s)
+unfolding PlanningAt
+asks_here u me s =
+    let term = me.term in
+    either (PlanningAt term) (u.row == row.CONVERT) _ _ tt
+    (each_asked (PlannedAt term) (around me s.home) (λ code. tt) (λ bytes. names_own term (access.Show term bytes) refl) (names_own term (access.ReadLine term) refl) (names_own term (access.Key term) refl) u.row u.tree me.term_column me.prompted)
+
+unit_asks : (o : Option Statement) (p : Place) (me : Private) (s : SeenLent) → PlanningAt me.term (course_at o p me s)
+unfolding PlanningAt
+unit_asks None p me s = tt
+unit_asks (Some u) p me s = either (PlanningAt me.term) (is_refused u.row (is_some p.line)) _ _ tt (asks_here u me s)
+
+place_asks : (o : Option Place) (me : Private) (s : SeenLent) → PlanningAt me.term (course o me s)
+unfolding PlanningAt
+place_asks None me s = tt
+place_asks (Some p) me s = unit_asks (statement_at p me.immediate s.home.lines) p me s
+
+-- a partition keeps the places and the terminal that it has
+planned_kept : (me : Private) (s : SeenLent) → KeepsPlaces me.place me.kept me.term (plan me s).me
+unfolding KeepsPlaces
+planned_kept me s = planned_at me.place me.kept me.term me.place me s (refl, refl, refl)
+
+ended_kept : (x : Access) (a : Answer) (me : Private) (s : SeenLent) → KeepsPlaces me.place me.kept me.term (finish x a me s).me
+unfolding KeepsPlaces
+ended_kept x a me s = ended_place me.place me.kept me.term me.place x a me s (refl, refl, refl)
+
 pub plans_in_place : PlansInPlace plan
 unfolding KeepsPlaces
-plans_in_place me s = (planned_at me.place me.kept me.place me s (refl, refl)).0
+plans_in_place me s = (planned_kept me s).0
 
 pub plans_keep_none : PlansKeepNone plan
 unfolding KeepsPlaces
-plans_keep_none me s h = inl ((planned_at me.place me.kept me.place me s (refl, refl)).1 ∙ h)
+plans_keep_none me s h = inl ((planned_kept me s).1 ∙ h)
+
+pub plans_at_terminal : PlansAtTerminal plan
+unfolding KeepsPlaces PlanningAt
+plans_at_terminal me s = ((planned_kept me s).2, place_asks me.place me s)
 
 pub finishes_in_place : FinishesInPlace finish
 unfolding KeepsPlaces
-finishes_in_place x a me s = (ended_place me.place me.kept me.place x a me s (refl, refl)).0
+finishes_in_place x a me s = (ended_kept x a me s).0
 
 pub finishes_keep_none : FinishesKeepNone finish
 unfolding KeepsPlaces
-finishes_keep_none x a me s h = inl ((ended_place me.place me.kept me.place x a me s (refl, refl)).1 ∙ h)
+finishes_keep_none x a me s h = inl ((ended_kept x a me s).1 ∙ h)
+
+pub finishes_at_terminal : FinishesAtTerminal finish
+unfolding KeepsPlaces
+finishes_at_terminal x a me s = (ended_kept x a me s).2

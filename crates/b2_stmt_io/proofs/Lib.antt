@@ -11,5 +11,6 @@ pub mod Valued
 pub mod Printed
 pub mod PrintRows
 pub mod UsingRows
+pub mod Planned
 pub mod HomesKept
 pub mod KeptPlaces

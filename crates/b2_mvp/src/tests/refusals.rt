@@ -1,5 +1,5 @@
 // Each refusal, and what stands written after it.
-use super::{BOOT_1, BOOT_2, run_words, shelf, words};
+use super::{BOOT_1, BOOT_2, alone_words, run_words, shelf, words};
 use crate::top::mvp;
 use b2_base::MemSink;
 use std::test::Fail;
@@ -102,7 +102,7 @@ const BAD_LOGS: [(&[u8], &[u8]); 37] = [
 ];
 
 // Words that are no command.
-const NEAR_MISSES: [&[&[u8]]; 20] = [
+const NEAR_MISSES: [&[&[u8]]; 26] = [
     &[],
     &[b"run"],
     &[b"run", b"boot"],
@@ -117,12 +117,24 @@ const NEAR_MISSES: [&[&[u8]]; 20] = [
     &[b"run", b"boot", b"l*g", b"out"],
     &[b"run", b"boot", b"log", b"o:t"],
     &[b"--help"],
-    &[b"alone", b"boot", b"log", b"out", b"1"],
+    &[b"run", b"boot", b"log", b"out", b"1"],
+    &[b"alone", b"boot", b"log", b"out"],
+    &[b"alone", b"boot", b"log", b"out", b"1", b"2"],
+    &[b"Alone", b"boot", b"log", b"out", b"1"],
+    &[b"alone", b"", b"log", b"out", b"1"],
+    &[b"alone", b"boot", b"l*g", b"out", b"1"],
+    &[b"alone", b"boot", b"log", b"o:t", b"1"],
     &[b"drill", b"1", b"out"],
     &[b"check", b"image"],
     &[b"screen", b"out.t01"],
     &[b"save", b"boot", b"log", b"out", b"snap"],
     &[b"resume", b"snap", b"log", b"out"],
+];
+
+// Words that list no partitions.
+const NO_PARTS: [&[u8]; 24] = [
+    b"", b",", b"1,", b",1", b"1,,2", b"0", b"0,1", b"2,1", b"16,1", b"1,1", b"2,10,2", b"01", b"1,02", b"001", b"17", b"1,17",
+    b"20", b"100", b"116", b"1 ,2", b"1, 2", b"1-3", b"-", b"1,a",
 ];
 
 #[test]
@@ -165,6 +177,19 @@ fn near_misses_are_usage(rt: HostRuntime) -> Result<(), Fail> {
         let status = mvp(alloc, &words(alloc, texts)?, &mut shelf, &mut sink);
         assert_eq!(rt; status.number(), 1);
         assert_eq!(rt; status.line().bytes(), b"usage".as_slice());
+        assert!(rt; shelf.file(b"out.t01").is_none() && sink.written().is_empty());
+    }
+    Ok(())
+}
+
+#[test]
+fn a_list_of_partitions_is_spelled_in_one_way(rt: HostRuntime) -> Result<(), Fail> {
+    let alloc = rt.alloc();
+    for parts in &NO_PARTS {
+        let mut shelf = shelf(alloc, Some(BOOT_2), Some(b"rounds 1"), &[])?;
+        let mut sink = MemSink::new(alloc, Vec::new(alloc));
+        let status = mvp(alloc, &alone_words(alloc, parts)?, &mut shelf, &mut sink);
+        assert_eq!(rt; status.number(), 1);
         assert!(rt; shelf.file(b"out.t01").is_none() && sink.written().is_empty());
     }
     Ok(())

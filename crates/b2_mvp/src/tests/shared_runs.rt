@@ -1,17 +1,8 @@
 // Runs of several partitions at one terminal or at several.
-use super::{BOOT_2, run_words, shelf};
+use super::{BOOT_2, ONE_TERMINAL, run_words, shelf};
 use crate::top::mvp;
 use b2_base::MemSink;
 use std::test::Fail;
-
-// Partitions 1 and 2 share terminal 1.
-#[rattlefmt::skip]
-const ONE_TERMINAL: &[u8] = b"\
-quota=20\n\
-[[terminal]]\nnumber=1\nfront=1\n\
-[[partition]]\nnumber=1\nterminal=1\ntext=8\ndata=8\nglobals=2\n\
-[[partition]]\nnumber=2\nterminal=1\ntext=8\ndata=8\nglobals=2\n\
-";
 
 // Partition 16 is on terminal 12, and partition 4 on terminal 3; the quota is 2.
 #[rattlefmt::skip]
@@ -36,14 +27,14 @@ const ROWS: [Row; 9] = [
         boot: BOOT_2,
         log: b"",
         kept: &[(b"out.t01", b""), (b"out.t02", b"")],
-        summary: b"turns 0 steps 0 dropped 0\n",
+        summary: b"turns 0 steps 0 dropped 0 apart 1,2\n",
     },
     // A turn of one partition alone.
     Row {
         boot: BOOT_2,
         log: b"turn 2 3\n",
         kept: &[(b"out.t01", b""), (b"out.t02", b"READY\n:")],
-        summary: b"turns 1 steps 1 dropped 0\n",
+        summary: b"turns 1 steps 1 dropped 0 apart 1,2\n",
     },
     // A partition that isn't in front waits, and its steps don't count.
     Row {
@@ -53,7 +44,7 @@ const ROWS: [Row; 9] = [
             b"out.t01",
             b"READY\n:PRINT #PART\n 1 \n:READY\n:PRINT #PART\n 2 \n:",
         )],
-        summary: b"turns 8 steps 8 dropped 0\n",
+        summary: b"turns 8 steps 8 dropped 0 apart -\n",
     },
     // Turns of two partitions, cut off by their quotas.
     Row {
@@ -63,7 +54,7 @@ const ROWS: [Row; 9] = [
             (b"out.t01", b"READY\n:PRINT 1\n 1 \n:"),
             (b"out.t02", b"READY\n:PRINT 2\n 2 \n:"),
         ],
-        summary: b"turns 6 steps 8 dropped 0\n",
+        summary: b"turns 6 steps 8 dropped 0 apart 1,2\n",
     },
     // Each partition has a text, variables and a terminal of its own.
     Row {
@@ -73,7 +64,7 @@ const ROWS: [Row; 9] = [
             (b"out.t01", b"READY\n:10 PRINT X\n:X=6\n:GOTO 10\n 6 \n:"),
             (b"out.t02", b"READY\n:10 PRINT -X\n:X=7\n:GOTO 10\n-7 \n:"),
         ],
-        summary: b"turns 10 steps 22 dropped 0\n",
+        summary: b"turns 10 steps 22 dropped 0 apart 1,2\n",
     },
     // Two clerks, whose lines and turns are interleaved.
     Row {
@@ -89,7 +80,7 @@ const ROWS: [Row; 9] = [
                 b"READY\n:10 LINPUT \"TEXT\",A$:PRINT A$\n:RUN\nTEXT? a, b\na, b\n:",
             ),
         ],
-        summary: b"turns 12 steps 24 dropped 0\n",
+        summary: b"turns 12 steps 24 dropped 0 apart 1,2\n",
     },
     // A halt and a reset reach their own partition alone.
     Row {
@@ -99,7 +90,7 @@ const ROWS: [Row; 9] = [
             (b"out.t01", b"READY\n:10 GOTO 10\n:RUN\nREADY\n:"),
             (b"out.t02", b"READY\n:10 GOTO 10\n:RUN\nHALT\n:"),
         ],
-        summary: b"turns 8 steps 64 dropped 0\n",
+        summary: b"turns 8 steps 64 dropped 0 apart 1,2\n",
     },
     // $BREAK ends a turn.
     Row {
@@ -112,7 +103,7 @@ const ROWS: [Row; 9] = [
             ),
             (b"out.t02", b"READY\n:"),
         ],
-        summary: b"turns 6 steps 15 dropped 0\n",
+        summary: b"turns 6 steps 15 dropped 0 apart 1,2\n",
     },
     // The names of outputs have a number of two digits, and come by number.
     Row {
@@ -122,7 +113,7 @@ const ROWS: [Row; 9] = [
             (b"out.t03", b"READY\n:"),
             (b"out.t12", b"READY\n:PRINT #PART;#TERM\n 16  12 \n:"),
         ],
-        summary: b"turns 6 steps 5 dropped 0\n",
+        summary: b"turns 6 steps 5 dropped 0 apart 4,16\n",
     },
 ];
 

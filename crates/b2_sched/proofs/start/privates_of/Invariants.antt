@@ -1,7 +1,10 @@
 use Rattle.std.proofs.Common.{◌≡◌, ◌++◌, drop, map}
-use Rattle.b2_sched.specs.Start.{private_row}
+use Rattle.b2_sched.specs.Start.{AreNumbered, private_row}
 use Rattle.b2_sched.proofs.start.privates_of.Given as goal
 
 -- what is there so far, and what is left
 abbrev pub invariant-loop-p : goal.invariant-loop-p
-invariant-loop-p l = l.rows ++ map private_row (drop l.p-index l.partitions) ≡ map private_row l.partitions
+invariant-loop-p l = record {
+  rows : l.rows ++ map private_row (drop l.p-index l.partitions) ≡ map private_row l.partitions;
+  numbered : AreNumbered (drop l.p-index l.partitions) → AreNumbered l.partitions;
+}

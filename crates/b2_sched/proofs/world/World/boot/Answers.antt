@@ -1,8 +1,10 @@
-use Rattle.std.proofs.Common.{◌≡◌, List, map, sym, ap, subst, ◌∙◌}
-use Rattle.std.specs.Prelude.{IsSome}
-use Rattle.b2_access.specs.Rows.{row_of}
+use Rattle.std.proofs.Common.{◌≡◌, ℕ, List, map, sym, ap, subst, ◌∙◌}
 use Rattle.b2_access.specs.Store.{StoreState}
+use Rattle.b2_access.specs.declared.private.Private.{Private}
+use Rattle.b2_audit.specs.Marks.{Marks}
+use Rattle.b2_store.specs.Meaning.{store_of}
 use Rattle.b2_store.specs.Start.{Areas, text_row}
+use Rattle.b2_sched.specs.Presence.{ArePresent}
 use Rattle.b2_sched.specs.Start.{areas_of}
 use Rattle.b2_sched.proofs.Present.{booted_present}
 use Rattle.b2_sched.proofs.world.World.boot.Goals as goal
@@ -12,7 +14,8 @@ invariant_of-result c =
     let partitions = c.deref.result.now in
     let areas : map areas_of partitions ≡ c.in_ok-areas_of.field-0.items =
     sym (c.in_ok-areas_of.ensures ∙ ap (map areas_of) (c.deref-2.ensures.value ∙ sym c.deref.ensures.value)) in
-    λ p me is.
-    let here = booted_present partitions p me (ap (row_of p) (sym c.in_ok-privates.ensures) ∙ is) in
-    let text = subst (λ (rows : List Areas). IsSome (row_of p (map text_row rows))) areas here.1 in
-    (here.0, subst (λ (s : StoreState). IsSome (row_of p s.texts)) (sym c.in_ok-stores.ensures.at_start) text)
+    let s = store_of c.in_ok-stores.stores in
+    let texts = ap (λ (areas : List Areas). map text_row areas) areas ∙ sym (ap (λ (s : StoreState). s.texts) c.in_ok-stores.ensures.at_start) in
+    let here = booted_present partitions s c.in_ok-privates.ensures.numbered texts in
+    let marks = subst (λ (m : Marks). ArePresent _ s m) (sym c.new-seen.ensures) here in
+    subst (λ (rows : List (ℕ × Private)). ArePresent rows s _) (sym c.in_ok-privates.ensures.started) marks

@@ -1,12 +1,16 @@
-use Rattle.std.proofs.Common.{sym, ap, ◌∙◌}
+use Rattle.std.proofs.Common.{sym, ap, subst}
 use Rattle.b2_access.specs.declared.private.Private.{Private}
 use Rattle.b2_store.specs.Meaning.{store_of}
-use Rattle.b2_sched.proofs.Present.{still_present}
+use Rattle.b2_sched.specs.Presence.{IsPresent, IsSettled}
+use Rattle.b2_sched.proofs.Present.{still_present, with_own}
+use Rattle.b2_sched.proofs.Settled.{reset_settled}
 use Rattle.b2_sched.proofs.world.World.reset.Goals as goal
 
 pub invariant_of-self : goal.invariant_of-self
 invariant_of-self c =
     let s = store_of c.self.inside.stores in
-    let was = c.self.invariant c.args.p c.at.result.now (sym c.at.ensures.there) in
-    let part = ap (λ (me : Private). me.part) c.flag_reset.ensures.reset ∙ was.0 in
-    still_present c.args.p c.flag_reset.new.self c.self.inside.privates s s part was.1 (λ p text. text) c.self.invariant
+    let m = c.self.inside.seen in
+    let p = c.args.p in
+    let was = c.self.invariant p c.at.result.now (sym c.at.ensures.there) in
+    let settled = subst (λ (me : Private). IsSettled p me) (sym c.flag_reset.ensures.reset) (reset_settled p c.at.result.now was.settled) in
+    still_present p c.flag_reset.new.self c.self.inside.privates s s m m (with_own p c.at.result.now c.flag_reset.new.self s m settled was) (λ q me is. is) c.self.invariant

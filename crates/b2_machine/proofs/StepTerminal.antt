@@ -1,0 +1,207 @@
+-- A step asks at the terminal of its partition alone, and leaves which one that is.
+use Rattle.std.proofs.Common.{◌≡◌, ◌∙◌, refl, ℕ, ◌&&◌, not, nat_lt, Bool, true, false, if◌then◌else◌, List, length, Option, Some, None, is_some, Result, Ok, Err}
+use Rattle.b2_flow.specs.Stacks.{most_frames}
+use Rattle.b2_flow.specs.declared.frame.Place.{Place}
+use Rattle.b2_syntax.specs.Reading.{reads}
+use Rattle.b2_syntax.specs.declared.Entered.{Entered}
+use Rattle.b2_syntax.specs.declared.Entered.TheVariants as entered
+use Rattle.b2_syntax.specs.declared.LineErr.{LineErr}
+use Rattle.b2_syntax.specs.declared.LineErr.TheVariants as refusal
+use Rattle.b2_text.specs.Program.{Lines}
+use Rattle.b2_text.specs.Spots.{first_opening, is_mark}
+use Rattle.b2_text.specs.declared.spots.Spot.{Spot}
+use Rattle.b2_access.specs.Lending.{SeenLent}
+use Rattle.b2_access.specs.Loans.{Loan}
+use Rattle.b2_access.specs.OwnTerminal.{AskedAt, PlannedAt}
+use Rattle.b2_access.specs.Partition.{is_ready}
+use Rattle.b2_access.specs.Placed.{Statement, statement_at}
+use Rattle.b2_access.specs.Planning.{Planning}
+use Rattle.b2_access.specs.Sharing.{ServingOf}
+use Rattle.b2_access.specs.Store.{StoreState}
+use Rattle.b2_access.specs.declared.accesses.Access.{Access}
+use Rattle.b2_access.specs.declared.accesses.Access.TheVariants as access
+use Rattle.b2_access.specs.declared.accesses.Answer.{Answer}
+use Rattle.b2_access.specs.declared.accesses.Answer.TheVariants as answer
+use Rattle.b2_access.specs.declared.planned.Outcome.{Outcome}
+use Rattle.b2_access.specs.declared.planned.Outcome.TheVariants as outcome
+use Rattle.b2_access.specs.declared.planned.Planned.{Planned}
+use Rattle.b2_access.specs.declared.planned.Planned.TheVariants as planned
+use Rattle.b2_access.specs.declared.private.Private.{Private}
+use Rattle.b2_access.proofs.OwnTerminal.{names_none, names_own}
+use Rattle.b2_stmt.proofs.KeptPlaces as stmt
+use Rattle.b2_stmt_io.proofs.KeptPlaces as stmt_io
+use Rattle.b2_stmt_io.specs.Marks.{typed_by}
+use Rattle.b2_stmt_io.specs.Showing.{shown}
+use Rattle.b2_machine.specs.Endings.{counts, repeats}
+use Rattle.b2_machine.specs.Keys.{calls_where, pressed_by}
+use Rattle.b2_machine.specs.Listed.{lines_listed, lists}
+use Rattle.b2_machine.specs.Moving.{ends_by, error_place, faults, goes_to, jumps, next_place}
+use Rattle.b2_machine.specs.Readiness.{halted, resets}
+use Rattle.b2_machine.specs.Statements.{Begun, begins, begins_where, begun_by, builder_of, finish_by, finishes, plan_by}
+use Rattle.b2_machine.specs.Step.{StepEnd, carries_out, enters_or_goes_on, halts_or_acts, lent, line_read, runs_or_reads, seen_by, shows_or_goes_on, step, text_in, types_or_goes_on}
+use Rattle.b2_machine.specs.Touched.{Asking, StepsAskAtTerminal, access_of, asking, asks_at, asks_to_enter, asks_to_show, asks_to_type, asks_unless_halted}
+use Rattle.b2_machine.specs.Typing.{line_taken, on_own_line, put_by, puts_numbered, shown_by, takes, takes_or_refuses, typed_by_key}
+use Rattle.b2_machine.specs.declared.ends.Stepped.{Stepped}
+use Rattle.b2_machine.specs.declared.statements.Builder.{Builder}
+use Rattle.b2_machine.specs.declared.statements.Builder.TheVariants as builder
+use Rattle.b2_machine.specs.declared.statements.Course.{Course}
+use Rattle.b2_machine.specs.declared.statements.Course.TheVariants as course
+
+-- one thing or another
+either : {A : Type 0} (F : A → Type 0) (b : Bool) (x y : A) → F x → F y → F (if b then x else y)
+either F true x y h k = h
+either F false x y h k = k
+
+-- the terminal stays
+abbrev Stays : Private → Private → Type 0
+Stays me after = after.term ≡ me.term
+
+-- what is shown, typed and entered
+shown_stays : (x : Access) (a : Answer) (me : Private) → Stays me (shown_by x a me).me
+shown_stays (access.Show term bytes) answer.Done me = refl
+shown_stays x a me = refl
+
+typed_stays : (a : Answer) (me : Private) → Stays me (typed_by_key a me).me
+typed_stays answer.Done me = refl
+typed_stays a me = refl
+
+put_stays : (a : Answer) (me : Private) → Stays me (put_by a me).me
+put_stays answer.Done me = refl
+put_stays (answer.Locked q) me = refl
+put_stays (answer.Refused code) me = refl
+put_stays a me = refl
+
+takes_stays : (e : Entered) (me : Private) → Stays me (takes e me)
+takes_stays entered.Empty me = refl
+takes_stays (entered.Delete n) me = refl
+takes_stays (entered.Numbered n atoms) me = refl
+takes_stays (entered.Immediate atoms) me = refl
+
+line_stays : (r : Result Entered LineErr) (me : Private) → Stays me (takes_or_refuses r me)
+line_stays (Ok e) me = takes_stays e me
+line_stays (Err (refusal.At code column)) me = refl
+line_stays (Err refusal.NoMemory) me = refl
+
+-- special function keys
+called_stays : (o : Option Spot) (me : Private) → Stays me (calls_where o me)
+called_stays None me = refl
+called_stays (Some spot) me = either (Stays me) (nat_lt (length me.stack) most_frames) _ _ refl refl
+
+pressed_stays : (text : Option (List ℕ)) (o : Option Spot) (me : Private) → Stays me (pressed_by text o me)
+pressed_stays (Some text) o me = refl
+pressed_stays None o me = called_stays o me
+
+-- where it goes on
+goes_stays : (o : Option Place) (me : Private) → Stays me (goes_to o me).me
+goes_stays None me = refl
+goes_stays (Some q) me = refl
+
+jumped_stays : (p q : Place) (me : Private) (home : Lines) → Stays me (jumps p q me home)
+jumped_stays p q me home = either (Stays me) (not (is_some p.line) && is_some q.line) _ _ refl refl
+
+faulted_stays : (code : ℕ) (o : Option Place) (p : Place) (me : Private) → Stays me (faults code o p me).me
+faulted_stays code None p me = refl
+faulted_stays code (Some q) p me = refl
+
+ended_stays : (same : Stepped) (o : Outcome) (p : Place) (me : Private) (home : Lines) → Stays me (ends_by same o p me home).me
+ended_stays same outcome.Next p me home = goes_stays (next_place p me home) me
+ended_stays same (outcome.Jump q) p me home = jumped_stays p q me home
+ended_stays same (outcome.Failed code) p me home = faulted_stays code (error_place code p me home) p me
+ended_stays same outcome.Repeat p me home = refl
+ended_stays same outcome.Break p me home = goes_stays (next_place p me home) me
+ended_stays same outcome.Ready p me home = refl
+
+-- statements
+abbrev PlanningAt : ℕ → Planning → Type 0
+PlanningAt t x = (x.me.term ≡ t) × PlannedAt t x.planned
+
+listed_at : (b : Bool) (range : ℕ × ℕ) (me : Private) (s : SeenLent) → PlanningAt me.term (lists b range me s)
+listed_at true range me s = (refl, tt)
+listed_at false range me s = (refl, names_own me.term (access.Show me.term (lines_listed range s.own.lines)) refl)
+
+planned_at : (b : Builder) (p : Place) (me : Private) (s : SeenLent) → PlanningAt me.term (plan_by b p me s)
+planned_at (builder.Listing from to) p me s = listed_at (is_some p.line) (from, to) me s
+planned_at builder.Control p me s = stmt.plans_at_terminal me s
+planned_at builder.Terminal p me s = stmt_io.plans_at_terminal me s
+planned_at builder.Nobody p me s = (refl, tt)
+
+abbrev BegunAt : ℕ → Begun → Type 0
+BegunAt t b = (b.me.term ≡ t) × AskedAt t (access_of b.course)
+
+begun_at : (t : ℕ) (x : Planned) (b : Builder) (p : Place) (me : Private) (home : Lines) → me.term ≡ t → PlannedAt t x → BegunAt t (begun_by x b p me home)
+begun_at t (planned.Done o) b p me home is h = (ended_stays counts o p me home ∙ is, tt)
+begun_at t (planned.Ask a) b p me home is h = (is, h)
+
+begins_at : (u : Option Statement) (p : Place) (me : Private) (s : SeenLent) → BegunAt me.term (begins_where u p me s)
+begins_at None p me s = (refl, tt)
+begins_at (Some u) p me s =
+    let x = plan_by (builder_of u) p me s in
+    let h = planned_at (builder_of u) p me s in
+    begun_at me.term x.planned (builder_of u) p x.me s.home.lines h.0 h.1
+
+list_stays : (x : Access) (a : Answer) (me : Private) → Stays me (shown x a me).me
+list_stays (access.Show term bytes) answer.Done me = refl
+list_stays x a me = refl
+
+finish_stays : (b : Builder) (x : Access) (a : Answer) (me : Private) (s : SeenLent) → Stays me (finish_by b x a me s).me
+finish_stays (builder.Listing from to) x a me s = list_stays x a me
+finish_stays builder.Control x a me s = stmt.finishes_at_terminal x a me s
+finish_stays builder.Terminal x a me s = stmt_io.finishes_at_terminal x a me s
+finish_stays builder.Nobody x a me s = refl
+
+finished_stays : (b : Builder) (x : Access) (a : Answer) (p : Place) (me : Private) (s : SeenLent) → Stays me (finishes b x a p me s).me
+finished_stays b x a p me s =
+    let y = finish_by b x a me s in
+    ended_stays (repeats a) y.outcome p y.me s.home.lines ∙ finish_stays b x a me s
+
+module _ {M : Type 0} (store : M → StoreState) (serving : ServingOf M) (lending : Loan M) where
+  -- after a step, and what it asked for
+  abbrev StepAt : ℕ → StepEnd M → Asking → Type 0
+  StepAt t e asks = (e.me.term ≡ t) × AskedAt t asks.access
+
+  by_test : (t : ℕ) (b : Bool) (e f : StepEnd M) (x y : Asking) → StepAt t e x → StepAt t f y → StepAt t (if b then e else f) (if b then x else y)
+  by_test t true e f x y h k = h
+  by_test t false e f x y h k = k
+
+  read_stays : (x : Answer) (me : Private) (m : M) → Stays me (line_read store serving lending x me m).me
+  read_stays (answer.Line bytes) me m = line_stays (reads bytes) (record me { term_column = 0 })
+  read_stays (answer.Special n) me m = pressed_stays (typed_by n (text_in (store m) me.part).lines) (first_opening (is_mark n) (text_in (store m) me.part).lines) me
+  read_stays x me m = refl
+
+  carried_stays : (c : Course) (p : Place) (me : Private) (m : M) → Stays me (carries_out store serving lending c p me m).me
+  carried_stays (course.Ended e) p me m = refl
+  carried_stays (course.Asks a b) p me m =
+      let g = serving m me.part a in
+      finished_stays b a g.answer p me (seen_by me (store g.after))
+
+  at_place : (x : Option Place) (me : Private) (m : M) → StepAt me.term (runs_or_reads store serving lending x me m) (asks_at x me (store m))
+  at_place None me m =
+      let g = serving m me.part (access.ReadLine me.term) in
+      (read_stays g.answer me g.after, names_own me.term (access.ReadLine me.term) refl)
+  at_place (Some p) me m =
+      let b = begins p me (seen_by me (store m)) in
+      let h = begins_at (statement_at p me.immediate (seen_by me (store m)).home.lines) p me (seen_by me (store m)) in
+      (carried_stays b.course p b.me (lent store serving lending me m) ∙ h.0, h.1)
+
+  at_number : (x : Option (ℕ × Option (List ℕ))) (me : Private) (m : M) → StepAt me.term (enters_or_goes_on store serving lending x me m) (asks_to_enter x me (store m))
+  at_number (Some line) me m = (put_stays (serving m me.part (puts_numbered line)).answer (record me { numbered = None }), names_none me.term (puts_numbered line) refl)
+  at_number None me m = at_place me.place me m
+
+  at_literal : (x : Option (List ℕ)) (me : Private) (m : M) → StepAt me.term (types_or_goes_on store serving lending x me m) (asks_to_type x me (store m))
+  at_literal (Some text) me m = (typed_stays (serving m me.part (access.Insert me.term text)).answer me, names_own me.term (access.Insert me.term text) refl)
+  at_literal None me m = at_number me.numbered me m
+
+  at_output : (x : Option (List ℕ × List ℕ)) (me : Private) (m : M) → StepAt me.term (shows_or_goes_on store serving lending x me m) (asks_to_show x me (store m))
+  at_output (Some text) me m =
+      let a = access.Show me.term (on_own_line me.term_column text.1) in
+      (shown_stays a (serving m me.part a).answer me, names_own me.term a refl)
+  at_output None me m = at_literal me.literal me m
+
+  at_halt : (me : Private) (m : M) → StepAt me.term (halts_or_acts store serving lending me m) (asks_unless_halted me (store m))
+  at_halt me m = by_test me.term (is_ready me) _ _ _ _ (at_output me.pending (record me { halt = false }) m) (refl, tt)
+
+  step_at : (me : Private) (m : M) → StepAt me.term (step store serving lending me m) (asking me (store m))
+  step_at me m = by_test me.term me.reset _ _ _ _ (refl, tt) (by_test me.term me.halt _ _ _ _ (at_halt me m) (at_output me.pending me m))
+
+pub steps_ask_at_terminal : {M : Type 0} (store : M → StoreState) (serving : ServingOf M) (lending : Loan M) → StepsAskAtTerminal store serving lending
+steps_ask_at_terminal store serving lending me m = step_at store serving lending me m

@@ -1,0 +1,118 @@
+// Lists of partitions: as the command line names a group, and as the summary tells who is apart.
+ghost use Rattle.std.specs.Prelude.{◌≡◌, ◌∷◌, ◌++◌, ◌<◌, ◌≤◌, [], OnOk, length};
+ghost use Rattle.std.specs.Fmt.{decimal};
+ghost use Rattle.b2_mvp.specs.Parts as spec;
+
+use b2_base::lexical::is_digit;
+use b2_base::{NoMemory, Part, cut};
+use itoa::Buffer;
+use std::marker::Model;
+
+/// At most sixteen partitions, in order. Contracts see them as a list.
+#[derive(Drop)]
+pub struct Parts {
+    // The first of these.
+    parts: [Part; 16],
+    count: usize,
+}
+
+impl Model for Parts {
+    ghost use Rattle.std.specs.Prelude.{ℕ, List, ◌≤◌, take};
+
+    ghost Value = { List ℕ };
+
+    ghost view = { λ s. take s.count s.parts };
+
+    ghost invariant = { λ s. s.count ≤ 16 };
+}
+
+impl Parts {
+    fn empty() -> Parts
+        ensures { result ≡ [] }
+    {
+        Parts {
+            parts: [Part::known(1); 16],
+            count: 0,
+        }
+    }
+
+    /// Adds a partition at the end.
+    fn push(&mut self, part: Part)
+        requires { length self.old < 16 }
+        ensures { self.new ≡ self.old ++ part ∷ [] }
+    {
+        self.parts[self.count] = part;
+        self.count += 1;
+    }
+
+    /// The partitions in order.
+    pub fn as_slice(&self) -> &[Part]
+        ensures { result.now ≡ self.now }
+    {
+        &self.parts[..self.count]
+    }
+
+    /// The partitions that a word lists: numbers from 1 to 16 that ascend, each without zeros before, joined by commas. None
+    /// where the word is no such list.
+    pub fn of(word: &[u8]) -> Option<Parts>
+        ensures { result ≡ spec.parts_of word.now }
+    {
+        let mut parts = Parts::empty();
+        let mut last = 0u8;
+        let mut left = Some(word);
+        while let Some(text) = left {
+            let (piece, rest) = cut(text, b',');
+            let part = part_in(piece)?;
+            if part.number() <= last {
+                return None;
+            }
+            last = part.number();
+            parts.push(part);
+            left = rest;
+        }
+        Some(parts)
+    }
+}
+
+/// The partition that a piece spells: a number from 1 to 16 without zeros before.
+fn part_in(piece: &[u8]) -> Option<Part>
+    ensures { result ≡ spec.part_in piece.now }
+{
+    match piece {
+        [d] if is_digit(*d) => Part::of(*d - b'0'),
+        [b'1', d] if is_digit(*d) => Part::of(10 + (*d - b'0')),
+        _ => None,
+    }
+}
+
+/// Adds the number of a partition.
+fn add_number(line: &mut Vec<u8>, part: Part) -> Result<(), NoMemory>
+    ensures { OnOk result (line.new.items ≡ line.old.items ++ decimal part) }
+{
+    let mut buffer = Buffer::new();
+    line.extend_from_slice(buffer.format(part.number()).as_bytes())?;
+    Ok(())
+}
+
+/// Adds partitions, each after a comma.
+fn add_more(line: &mut Vec<u8>, parts: &[Part]) -> Result<(), NoMemory>
+    ensures { OnOk result (line.new.items ≡ line.old.items ++ spec.each_after_comma parts.now) }
+{
+    for part in parts {
+        line.push(b',')?;
+        add_number(line, *part)?;
+    }
+    Ok(())
+}
+
+/// Adds partitions joined by commas, or `-` where there are none.
+pub fn add_list(line: &mut Vec<u8>, parts: &[Part]) -> Result<(), NoMemory>
+    ensures { OnOk result (line.new.items ≡ line.old.items ++ spec.list_or_dash parts.now) }
+{
+    let [first, others @ ..] = parts else {
+        line.push(b'-')?;
+        return Ok(());
+    };
+    add_number(line, *first)?;
+    add_more(line, others)
+}

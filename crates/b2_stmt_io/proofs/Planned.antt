@@ -1,0 +1,39 @@
+-- What statements at the terminal plan that change nothing yet: a refusal, or one of three accesses of their terminal.
+use Rattle.std.specs.Prelude.{ℕ, ◌==◌, ◌++◌, Bool, true, false, List, Result, Ok, Err, codes, if◌then◌else◌}
+use Rattle.b2_base.specs.declared.codes.TheConstants.{S27_LEFT_OUT}
+use Rattle.b2_atom.specs.Tree.{Trees}
+use Rattle.b2_atom.specs.declared.rows.TheConstants as row
+use Rattle.b2_expr.specs.Scope.{Context}
+use Rattle.b2_access.specs.declared.accesses.Access.{Access}
+use Rattle.b2_access.specs.declared.accesses.Access.TheVariants as access
+use Rattle.b2_access.specs.declared.planned.Outcome.TheVariants as outcome
+use Rattle.b2_access.specs.declared.planned.Planned.{Planned}
+use Rattle.b2_access.specs.declared.planned.Planned.TheVariants as planned
+use Rattle.b2_stmt_io.specs.Imaging.{prints_using}
+use Rattle.b2_stmt_io.specs.LineReading.{asks_line, prompt_of}
+use Rattle.b2_stmt_io.specs.Plan.{asked_of}
+use Rattle.b2_stmt_io.specs.Printing.{prints}
+use Rattle.b2_stmt_io.specs.Showing.{shows}
+
+-- one thing or another
+either : {A : Type 0} (F : A → Type 0) (b : Bool) (x y : A) → F x → F y → F (if b then x else y)
+either F true x y h k = h
+either F false x y h k = k
+
+-- what holds of a refusal, and of each of these accesses at the terminal of an expression
+module _ (F : Planned → Type 0) (e : Context) (refused : (code : ℕ) → F (planned.Done (outcome.Failed code))) (output : (bytes : List ℕ) → F (planned.Ask (access.Show e.around.term bytes)))
+    (line : F (planned.Ask (access.ReadLine e.around.term))) (key : F (planned.Ask (access.Key e.around.term))) where
+  each_shown : (r : Result (List ℕ) ℕ) → F (shows e.around.term r)
+  each_shown (Ok bytes) = output bytes
+  each_shown (Err code) = refused code
+
+  each_line : (shown : Bool) (prompt : List ℕ) → F (planned.Ask (asks_line shown e.around.term prompt))
+  each_line shown prompt = either (λ (a : Access). F (planned.Ask a)) shown _ _ line (output (prompt ++ codes "? "))
+
+  pub each_asked : (r : ℕ) (t : Trees) (column : ℕ) (prompted : Bool) → F (asked_of r t e column prompted)
+  each_asked r t column prompted =
+      either F (r == row.PRINT) _ _ (each_shown (prints e column t))
+      (either F (r == row.PRINTUSING) _ _ (each_shown (prints_using e t))
+      (either F (r == row.KEYIN) _ _ key
+      (either F (r == row.LINPUT) _ _ (each_line prompted (prompt_of t))
+      (either F (r == row.INPUT) _ _ (each_line prompted (prompt_of t)) (refused S27_LEFT_OUT)))))
