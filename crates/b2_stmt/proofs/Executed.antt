@@ -8,6 +8,7 @@ use Rattle.b2_rows.specs.Following.{tree_units}
 use Rattle.b2_flow.specs.declared.frame.Place.{Place}
 use Rattle.b2_text.specs.Program.{line_at}
 use Rattle.b2_expr.specs.Scope.{Context}
+use Rattle.b2_access.specs.Partition.{setting_of}
 use Rattle.b2_access.specs.Lending.{SeenLent}
 use Rattle.b2_access.specs.declared.private.Private.{Private}
 use Rattle.b2_base.specs.declared.codes.TheConstants.{S26_PROGRAM_ONLY}

@@ -17,6 +17,7 @@ use Rattle.b2_flow.specs.declared.frame.Var2.{Var2}
 use Rattle.b2_expr.specs.Assigning.{assigned_number}
 use Rattle.b2_expr.specs.Answers.{Answer as NumberAnswer}
 use Rattle.b2_expr.specs.Named.{number_there}
+use Rattle.b2_access.specs.Partition.{setting_of}
 use Rattle.b2_access.specs.Keeping.{FinishesInPlace, FinishesKeepNone, PlansInPlace, PlansKeepNone}
 use Rattle.b2_access.specs.Lending.{SeenLent}
 use Rattle.b2_access.specs.OwnTerminal.{AskedAt, FinishesAtTerminal, PlannedAt, PlansAtTerminal}

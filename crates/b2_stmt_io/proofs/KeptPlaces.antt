@@ -19,7 +19,7 @@ use Rattle.b2_access.specs.declared.accesses.Answer.{Answer}
 use Rattle.b2_access.specs.declared.accesses.Answer.TheVariants as answer
 use Rattle.b2_access.specs.declared.private.Private.{Private}
 use Rattle.b2_access.proofs.OwnTerminal.{names_own}
-use Rattle.b2_stmt_io.specs.Around.{around}
+use Rattle.b2_expr.specs.Value.{context_of}
 use Rattle.b2_stmt_io.specs.Inputs.{takes_parts}
 use Rattle.b2_stmt_io.specs.Keys.{keyed, takes_key}
 use Rattle.b2_stmt_io.specs.LineReading.{after_showing, line_read, takes_line, types}
@@ -147,7 +147,7 @@ unfolding PlanningAt
 asks_here u me s =
     let term = me.term in
     either (PlanningAt term) (u.row == row.CONVERT) _ _ tt
-    (each_asked (PlannedAt term) (around me s.home) (λ code. tt) (λ bytes. names_own term (access.Show term bytes) refl) (names_own term (access.ReadLine term) refl) (names_own term (access.Key term) refl) u.row u.tree me.term_column me.prompted)
+    (each_asked (PlannedAt term) (context_of (setting_of me) me.vars s.home) (λ code. tt) (λ bytes. names_own term (access.Show term bytes) refl) (names_own term (access.ReadLine term) refl) (names_own term (access.Key term) refl) u.row u.tree me.term_column me.prompted)
 
 unit_asks : (o : Option Statement) (p : Place) (me : Private) (s : SeenLent) → PlanningAt me.term (course_at o p me s)
 unfolding PlanningAt

@@ -6,6 +6,7 @@ use Rattle.b2_rows.specs.Rows.{tree_at}
 use Rattle.b2_text.specs.Program.{line_at}
 use Rattle.b2_expr.specs.Scope.{Context}
 use Rattle.b2_expr.specs.Value.{in_statement}
+use Rattle.b2_access.specs.Partition.{setting_of}
 use Rattle.b2_access.specs.Lending.{SeenLent}
 use Rattle.b2_expr.specs.Scope.{surroundings_of}
 use Rattle.b2_expr.specs.Value.{context_of}
