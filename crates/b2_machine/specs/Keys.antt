@@ -6,7 +6,7 @@ use Rattle.b2_flow.specs.declared.frame.Frame.TheVariants.{Call}
 use Rattle.b2_text.specs.Program.{Lines}
 use Rattle.b2_text.specs.Spots.{first_opening, is_mark}
 use Rattle.b2_text.specs.declared.spots.Spot.{Spot}
-use Rattle.b2_stmt_io.specs.Marks.{typed_by}
+use Rattle.b2_stmt_io.specs.Marks.{typed_by_mark}
 use Rattle.b2_access.specs.declared.private.Private.{Private}
 use Rattle.b2_machine.specs.Readiness.{refuses}
 
@@ -37,4 +37,4 @@ pressed_by (Some text) spot me = keeps_literal text me
 pressed_by None spot me = calls_where spot me
 
 abbrev pub pressed : ℕ → Lines → Private → Private
-pressed n own me = pressed_by (typed_by n own) (first_opening (is_mark n) own) me
+pressed n own me = pressed_by (typed_by_mark n own) (first_opening (is_mark n) own) me

@@ -8,12 +8,12 @@ use b2_access::{Lent, Private};
 use b2_base::{ByteList, NoMemory};
 use b2_dec::ValueList;
 use b2_flow::{Frame, Place};
-use b2_stmt_io::typed_by;
+use b2_stmt_io::typed_by_mark;
 use b2_text::{Spot, Text};
 use std::alloc::Global;
 
 /// The DEFFN' at a spot of the own text is called without arguments; A04 where there is no room for the call.
-fn call(alloc: Global, me: &mut Private, spot: Spot) -> Result<(), NoMemory>
+fn call_key(alloc: Global, me: &mut Private, spot: Spot) -> Result<(), NoMemory>
     ensures changed { OnOk result (me.new ≡ spec.calls spot me.old) }
     ensures part { me.new.part ≡ me.old.part }
 {
@@ -41,12 +41,12 @@ fn press(alloc: Global, me: &mut Private, own: &Text, n: u8) -> Result<(), NoMem
     ensures changed { OnOk result (me.new ≡ spec.pressed n own.now.lines me.old) }
     ensures part { me.new.part ≡ me.old.part }
 {
-    if let Some(text) = typed_by(own, n) {
+    if let Some(text) = typed_by_mark(own, n) {
         me.literal = Some(ByteList::from_slice(alloc, text)?);
         return Ok(());
     }
     match own.marked(n) {
-        Some(spot) => call(alloc, me, spot),
+        Some(spot) => call_key(alloc, me, spot),
         None => Ok(()),
     }
 }

@@ -12,7 +12,7 @@ ghost use Rattle.b2_stmt.specs.Branches.{if_goal as if_goal_of};
 ghost use Rattle.b2_stmt.specs.Choices.{choice_in};
 ghost use Rattle.b2_access.specs.Going.{to_found};
 ghost use Rattle.b2_stmt.specs.Loops.{loop_in};
-ghost use Rattle.b2_stmt.specs.Course.{stop_text as shown_by_stop, text_in};
+ghost use Rattle.b2_stmt.specs.Course.{stop_text as shown_by_stop, text_of_stop};
 ghost use Rattle.b2_stmt.specs.Asked as spec;
 ghost use Rattle.b2_stmt.specs.Asked.{IsNamed};
 
@@ -102,9 +102,9 @@ fn ask_loop<'a>(vars: &'a Vars, a: &Setting, home: &'a Text, unit: &[u8], body: 
 }
 
 /// What ON asks for, by the line that was chosen.
-fn chosen(goto: bool, line: Option<u16>, home: &Text, atoms: &Atoms, place: Place) -> Asked
+fn line_chosen(goto: bool, line: Option<u16>, home: &Text, atoms: &Atoms, place: Place) -> Asked
     requires few { place.unit < 255 }
-    ensures asked { result ≡ spec.chosen goto line (record { place = place; units = tree_units atoms.now }) home.now.lines }
+    ensures asked { result ≡ spec.line_chosen goto line (record { place = place; units = tree_units atoms.now }) home.now.lines }
     ensures named { IsNamed result }
 {
     match (goto, line) {
@@ -139,7 +139,7 @@ fn ask_choice<'a>(
         ..surroundings_of(a, vars, home)
     };
     match choice_at(&e, unit) {
-        Ok((goto, n)) => chosen(goto, n, home, line, place),
+        Ok((goto, n)) => line_chosen(goto, n, home, line, place),
         Err(code) => Asked::Nothing(Outcome::Failed(code)),
     }
 }
@@ -196,7 +196,7 @@ fn still(
 /// What STOP asks for.
 fn ask_stop(alloc: Global, unit: &[u8], after: Option<Place>) -> Result<Asked, NoMemory>
     requires part { is_part row.STOP unit.now ≡ true }
-    ensures { IfOk result (λ asked. asked ≡ Asked.Stop (shown_by_stop (text_in (tree_at row.STOP unit.now))) after) }
+    ensures { IfOk result (λ asked. asked ≡ Asked.Stop (shown_by_stop (text_of_stop (tree_at row.STOP unit.now))) after) }
 {
     let shown = stop_text(alloc, text_of_stop(unit))?;
     Ok(Asked::Stop(shown, after))
@@ -277,7 +277,7 @@ pub fn ask(
 }
 
 /// Does what was asked for.
-pub fn carry_out(
+pub fn do_asked(
     me: &mut Private,
     own: &Text,
     home: &Text,

@@ -41,7 +41,7 @@ fn number_of(bytes: &[u8]) -> Result<Dec, Code>
 #[tactic(auto, using(crate::proofs::DataRows::literal_here, crate::proofs::DataRows::literal_short))]
 fn bytes_of(text: &[u8]) -> Bytes
     requires part { is_part row.LITERAL text.now ≡ true }
-    ensures { result ≡ spec.bytes_at text.now }
+    ensures { result ≡ spec.literal_bytes_at text.now }
 {
     match Bytes::of(literal_at(text)) {
         Some(bytes) => bytes,
@@ -100,7 +100,7 @@ fn nth_datum(text: &[u8], k: usize) -> Option<&[u8]>
 #[tactic(auto, using(crate::proofs::DataRows::data_first, crate::proofs::DataRows::data_list, crate::proofs::DataRows::data_is))]
 fn nth_value(unit: &[u8], k: usize) -> Option<Result<Value, Code>>
     requires part { is_part row.DATA unit.now ≡ true }
-    ensures { result ≡ option_map spec.datum_value (slice_get (spec.listed (tree_at row.DATA unit.now)) k) }
+    ensures { result ≡ option_map spec.datum_value (slice_get (spec.literals_listed (tree_at row.DATA unit.now)) k) }
 {
     match nth_datum(dropped(unit, 1), k) {
         Some(text) => Some(datum(text)),

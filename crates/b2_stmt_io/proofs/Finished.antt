@@ -8,13 +8,13 @@ use Rattle.b2_access.specs.declared.accesses.Answer.{Answer}
 use Rattle.b2_access.specs.declared.planned.Outcome.{Outcome}
 use Rattle.b2_access.specs.declared.private.Private.{Private}
 use Rattle.b2_access.specs.Placed.{line_named, statement_on}
-use Rattle.b2_stmt_io.specs.Plan.{ended, ended_at, finish}
+use Rattle.b2_stmt_io.specs.Plan.{finish_ended, ended_at, finish}
 use Rattle.b2_access.specs.Planning.{Ended, Finishing, finished}
 
 named : (me : Private) (s : SeenLent) (p : Place) (n : ℕ) (x : Access) (a : Answer) → me.place ≡ Some p → p.line ≡ Some n
-    → ended_at (statement_on (line_at n s.home.lines) p.unit) p x a me s ≡ ended me.place x a me s
+    → ended_at (statement_on (line_at n s.home.lines) p.unit) p x a me s ≡ finish_ended me.place x a me s
 named me s p n x a is is_line =
-    sym (ap (λ (l : Option ℕ). ended_at (statement_on (line_named me.immediate s.home.lines l) p.unit) p x a me s) is_line) ∙ sym (ap (λ (o : Option Place). ended o x a me s) is)
+    sym (ap (λ (l : Option ℕ). ended_at (statement_on (line_named me.immediate s.home.lines l) p.unit) p x a me s) is_line) ∙ sym (ap (λ (o : Option Place). finish_ended o x a me s) is)
 
 pub in_program : {E : Type 0} (new me : Private) (s : SeenLent) (p : Place) (n : ℕ) (x : Access) (a : Answer) (r : Result Outcome E) → me.place ≡ Some p → p.line ≡ Some n
     → IfOk r (λ o. ◌≡◌ {A = Ended} (record { me = new; outcome = o }) (ended_at (statement_on (line_at n s.home.lines) p.unit) p x a me s))

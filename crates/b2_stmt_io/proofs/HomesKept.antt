@@ -14,7 +14,7 @@ use Rattle.b2_access.specs.Going.{where_there}
 use Rattle.b2_access.specs.Homes.{FinishesWithin, HomesIn, IsWithin, OutcomeIn, PlaceIn, PlannedIn, PlansWithin, homes_of, is_marked}
 use Rattle.b2_access.specs.Lending.{SeenLent}
 use Rattle.b2_access.specs.Partition.{setting_of}
-use Rattle.b2_access.specs.Placed.{Statement, statement_at}
+use Rattle.b2_access.specs.Placed.{Statement, statement_placed}
 use Rattle.b2_access.specs.Places.{line_start}
 use Rattle.b2_access.specs.Planning.{Ended, Planning, goes_or}
 use Rattle.b2_access.specs.declared.accesses.Access.{Access}
@@ -28,10 +28,10 @@ use Rattle.b2_expr.specs.Value.{context_of}
 use Rattle.b2_stmt_io.specs.Changed.{with_assigned}
 use Rattle.b2_stmt_io.specs.Converting.{converts}
 use Rattle.b2_stmt_io.specs.Inputs.{takes_parts}
-use Rattle.b2_stmt_io.specs.Keys.{first_line, goes_on, keyed, second_line, takes_key, waits, without_key}
-use Rattle.b2_stmt_io.specs.LineReading.{after_showing, line_read, takes_line, types}
-use Rattle.b2_stmt_io.specs.Marks.{typed_by}
-use Rattle.b2_stmt_io.specs.Plan.{asked_of, course, course_at, course_of, ended, ended_at, ended_of, finish, is_refused, plan}
+use Rattle.b2_stmt_io.specs.Keys.{first_named, key_leads, key_taken, second_named, key_assigned, waits, without_key}
+use Rattle.b2_stmt_io.specs.LineReading.{after_showing, line_answered, takes_line, types}
+use Rattle.b2_stmt_io.specs.Marks.{typed_by_mark}
+use Rattle.b2_stmt_io.specs.Plan.{asked_of, course, course_at, course_of, finish_ended, ended_at, ended_of, finish, is_refused, plan}
 use Rattle.b2_stmt_io.specs.Showing.{shown}
 use Rattle.b2_stmt_io.proofs.Planned.{each_asked}
 
@@ -89,7 +89,7 @@ module _ (among : ℕ → Bool) where
   planned_in : (o : Option Place) (me : Private) (s : SeenLent) → Within me → PlanningIn (course o me s)
   unfolding PlanningIn
   planned_in None me s w = (w, tt)
-  planned_in (Some p) me s w = unit_in (statement_at p me.immediate s.home.lines) p me s w
+  planned_in (Some p) me s w = unit_in (statement_placed p me.immediate s.home.lines) p me s w
 
   -- how PRINT and PRINTUSING finish
   shown_in : (x : Access) (a : Answer) (me : Private) → Within me → EndedIn (shown x a me)
@@ -114,20 +114,20 @@ module _ (among : ℕ → Bool) where
   there_in None p k = tt
   there_in (Some line) p k = k
 
-  leads_in : (special : Bool) (lines : Lines) (p : Place) (t : Trees) → among p.home ≡ true → OutcomeIn among (goes_on special lines p t)
+  leads_in : (special : Bool) (lines : Lines) (p : Place) (t : Trees) → among p.home ≡ true → OutcomeIn among (key_leads special lines p t)
   leads_in special lines p Done k = tt
   leads_in special lines p (Put w t) k = tt
   leads_in special lines p (In n named end) k =
-      let line = if special then second_line named else first_line named in
+      let line = if special then second_named named else first_named named in
       either (OutcomeIn among) (n == 1) _ _ (there_in (line_at line lines) (line_start p line) k) tt
 
-  key_in : (key : ℕ) (special : Bool) (home : TextState) (p : Place) (t : Trees) (me : Private) → among p.home ≡ true → Within me → EndedIn (takes_key key special home p t me)
+  key_in : (key : ℕ) (special : Bool) (home : TextState) (p : Place) (t : Trees) (me : Private) → among p.home ≡ true → Within me → EndedIn (key_assigned key special home p t me)
   unfolding EndedIn
   key_in key special home p Done me k w = (w, tt)
   key_in key special home p (In n a t) me k w = (w, tt)
   key_in key special home p (Put word Done) me k w = (w, tt)
   key_in key special home p (Put word (Put v t)) me k w = (w, tt)
-  key_in key special home p (Put word (In n receiver lines)) me k w = assigned_in _ (goes_on special home.lines p lines) me (leads_in special home.lines p lines k) w
+  key_in key special home p (Put word (In n receiver lines)) me k w = assigned_in _ (key_leads special home.lines p lines) me (leads_in special home.lines p lines k) w
 
   waits_in : (t : Trees) → OutcomeIn among (waits t)
   waits_in Done = tt
@@ -141,7 +141,7 @@ module _ (among : ℕ → Bool) where
   no_key_in (Put w (Put v t)) = tt
   no_key_in (Put w (In n receiver lines)) = waits_in lines
 
-  keyed_in : (a : Answer) (home : TextState) (p : Place) (t : Trees) (me : Private) → among p.home ≡ true → Within me → EndedIn (keyed a home p t me)
+  keyed_in : (a : Answer) (home : TextState) (p : Place) (t : Trees) (me : Private) → among p.home ≡ true → Within me → EndedIn (key_taken a home p t me)
   unfolding EndedIn
   keyed_in answer.Done home p t me k w = (w, tt)
   keyed_in (answer.Line bytes) home p t me k w = (w, tt)
@@ -171,11 +171,11 @@ module _ (among : ℕ → Bool) where
   at_line_start : (me : Private) → Within me → Within (record me { term_column = 0 })
   at_line_start me w = record { part = w.part; place = w.place; kept = w.kept; frames = w.frames }
 
-  line_in : (takes : List ℕ → VarsState → Assigned) (x : Access) (a : Answer) (own : Lines) (me : Private) → Within me → EndedIn (line_read takes x a own me)
+  line_in : (takes : List ℕ → VarsState → Assigned) (x : Access) (a : Answer) (own : Lines) (me : Private) → Within me → EndedIn (line_answered takes x a own me)
   unfolding EndedIn
   line_in takes x answer.Done own me w = prompt_in x me w
   line_in takes x (answer.Line line) own me w = assigned_in (takes line me.vars) outcome.Next (record me { term_column = 0 }) tt (at_line_start me w)
-  line_in takes x (answer.Special n) own me w = types_in (typed_by n own) me w
+  line_in takes x (answer.Special n) own me w = types_in (typed_by_mark n own) me w
   line_in takes x (answer.Key b) own me w = (w, tt)
   line_in takes x answer.NoKeys own me w = (w, tt)
   line_in takes x (answer.Wait q) own me w = (w, tt)
@@ -196,10 +196,10 @@ module _ (among : ℕ → Bool) where
   ended_at_in None p x a me s k w = (w, tt)
   ended_at_in (Some u) p x a me s k w = either EndedIn (is_refused u.row (is_some p.line)) _ _ (w, tt) (ended_of_in u p x a me s k w)
 
-  ended_in : (o : Option Place) (x : Access) (a : Answer) (me : Private) (s : SeenLent) → PlaceIn among o → Within me → EndedIn (ended o x a me s)
+  ended_in : (o : Option Place) (x : Access) (a : Answer) (me : Private) (s : SeenLent) → PlaceIn among o → Within me → EndedIn (finish_ended o x a me s)
   unfolding EndedIn
   ended_in None x a me s k w = (w, tt)
-  ended_in (Some p) x a me s k w = ended_at_in (statement_at p me.immediate s.home.lines) p x a me s k w
+  ended_in (Some p) x a me s k w = ended_at_in (statement_placed p me.immediate s.home.lines) p x a me s k w
 
 pub plans_within : PlansWithin plan
 unfolding PlanningIn

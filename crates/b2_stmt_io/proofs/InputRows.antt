@@ -26,7 +26,7 @@ use Rattle.b2_stmt_io.specs.Inputs.{take_parts, takes_part, takes_parts, takes_s
 use Rattle.b2_stmt_io.specs.LineReading.{after_prompt, prompt_of, prompt_there}
 use Rattle.b2_rows.specs.CommaLists.{all_listed, commas, are_others, others_at, past_first, receivers_at}
 use Rattle.b2_stmt_io.specs.Receiving.{assign_bytes, assign_number}
-use Rattle.b2_stmt_io.specs.TypedText.{parts_of, typed_number}
+use Rattle.b2_stmt_io.specs.TypedText.{typed_parts, typed_number}
 use Rattle.b2_vars.specs.declared.setting.Setting.{Setting}
 use Rattle.b2_rows.proofs.CommaLists.{IsComma, Other, other, no_items_left, items_of_other, item_shorter}
 use Rattle.b2_stmt_io.proofs.LeftOut.{maybe_put, maybe_then}
@@ -111,5 +111,5 @@ input_to : (t : Text) → is_part row.INPUT t ≡ true → all_listed (after_pro
 input_to t ok = ap (λ (a : Trees). all_listed (after_prompt a)) (input_tree t ok) ∙ ap all_listed (after_is word.INPUT (drop 1 t) (receivers_tree (rest_at t)))
 
 pub input_is : (a : Setting) (home : TextState) (line : List ℕ) (t : Text) (vars : VarsState) → is_part row.INPUT t ≡ true
-    → takes_parts a home line (tree_at row.INPUT t) vars ≡ take_parts (takes_part a home) (receivers_at (rest_at t)) (parts_of line) vars
-input_is a home line t vars ok = ap (λ (ts : List Trees). take_parts (takes_part a home) ts (parts_of line) vars) (input_to t ok)
+    → takes_parts a home line (tree_at row.INPUT t) vars ≡ take_parts (takes_part a home) (receivers_at (rest_at t)) (typed_parts line) vars
+input_is a home line t vars ok = ap (λ (ts : List Trees). take_parts (takes_part a home) ts (typed_parts line) vars) (input_to t ok)

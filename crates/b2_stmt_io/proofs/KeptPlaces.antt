@@ -11,7 +11,7 @@ use Rattle.b2_access.specs.Keeping.{FinishesInPlace, FinishesKeepNone, PlansInPl
 use Rattle.b2_access.specs.Lending.{SeenLent}
 use Rattle.b2_access.specs.OwnTerminal.{FinishesAtTerminal, PlannedAt, PlansAtTerminal}
 use Rattle.b2_access.specs.Partition.{setting_of}
-use Rattle.b2_access.specs.Placed.{Statement, statement_at}
+use Rattle.b2_access.specs.Placed.{Statement, statement_placed}
 use Rattle.b2_access.specs.Planning.{Ended, Planning}
 use Rattle.b2_access.specs.declared.accesses.Access.{Access}
 use Rattle.b2_access.specs.declared.accesses.Access.TheVariants as access
@@ -21,10 +21,10 @@ use Rattle.b2_access.specs.declared.private.Private.{Private}
 use Rattle.b2_access.proofs.OwnTerminal.{names_own}
 use Rattle.b2_expr.specs.Value.{context_of}
 use Rattle.b2_stmt_io.specs.Inputs.{takes_parts}
-use Rattle.b2_stmt_io.specs.Keys.{keyed, takes_key}
-use Rattle.b2_stmt_io.specs.LineReading.{after_showing, line_read, takes_line, types}
-use Rattle.b2_stmt_io.specs.Marks.{typed_by}
-use Rattle.b2_stmt_io.specs.Plan.{course, course_at, course_of, ended, ended_at, ended_of, finish, is_refused, plan}
+use Rattle.b2_stmt_io.specs.Keys.{key_taken, key_assigned}
+use Rattle.b2_stmt_io.specs.LineReading.{after_showing, line_answered, takes_line, types}
+use Rattle.b2_stmt_io.specs.Marks.{typed_by_mark}
+use Rattle.b2_stmt_io.specs.Plan.{course, course_at, course_of, finish_ended, ended_at, ended_of, finish, is_refused, plan}
 use Rattle.b2_stmt_io.specs.Showing.{shown}
 use Rattle.b2_stmt_io.proofs.Planned.{each_asked}
 
@@ -51,7 +51,7 @@ module _ (here kept : Option Place) (term : ℕ) where
   planned_at : (o : Option Place) (me : Private) (s : SeenLent) → KeepsPlaces me → KeepsPlaces (course o me s).me
   unfolding KeepsPlaces
   planned_at None me s h = h
-  planned_at (Some p) me s h = planned_unit (statement_at p me.immediate s.home.lines) p me s h
+  planned_at (Some p) me s h = planned_unit (statement_placed p me.immediate s.home.lines) p me s h
 
   -- how PRINT and PRINTUSING finish
   after_shown : (x : Access) (a : Answer) (me : Private) → KeepsPlaces me → KeepsPlaces (shown x a me).me
@@ -72,7 +72,7 @@ module _ (here kept : Option Place) (term : ℕ) where
   after_shown (access.ClearAll name homes) a me h = h
 
   -- KEYIN
-  after_taken : (key : ℕ) (special : Bool) (home : TextState) (p : Place) (t : Trees) (me : Private) → KeepsPlaces me → KeepsPlaces (takes_key key special home p t me).me
+  after_taken : (key : ℕ) (special : Bool) (home : TextState) (p : Place) (t : Trees) (me : Private) → KeepsPlaces me → KeepsPlaces (key_assigned key special home p t me).me
   unfolding KeepsPlaces
   after_taken key special home p Done me h = h
   after_taken key special home p (In n a t) me h = h
@@ -80,7 +80,7 @@ module _ (here kept : Option Place) (term : ℕ) where
   after_taken key special home p (Put word (Put v t)) me h = h
   after_taken key special home p (Put word (In n receiver lines)) me h = h
 
-  after_key : (a : Answer) (home : TextState) (p : Place) (t : Trees) (me : Private) → KeepsPlaces me → KeepsPlaces (keyed a home p t me).me
+  after_key : (a : Answer) (home : TextState) (p : Place) (t : Trees) (me : Private) → KeepsPlaces me → KeepsPlaces (key_taken a home p t me).me
   unfolding KeepsPlaces
   after_key answer.Done home p t me h = h
   after_key (answer.Line bytes) home p t me h = h
@@ -107,11 +107,11 @@ module _ (here kept : Option Place) (term : ℕ) where
   after_special None me h = h
   after_special (Some text) me h = h
 
-  after_line : (takes : List ℕ → VarsState → Assigned) (x : Access) (a : Answer) (own : Lines) (me : Private) → KeepsPlaces me → KeepsPlaces (line_read takes x a own me).me
+  after_line : (takes : List ℕ → VarsState → Assigned) (x : Access) (a : Answer) (own : Lines) (me : Private) → KeepsPlaces me → KeepsPlaces (line_answered takes x a own me).me
   unfolding KeepsPlaces
   after_line takes x answer.Done own me h = after_prompt x me h
   after_line takes x (answer.Line line) own me h = h
-  after_line takes x (answer.Special n) own me h = after_special (typed_by n own) me h
+  after_line takes x (answer.Special n) own me h = after_special (typed_by_mark n own) me h
   after_line takes x (answer.Key b) own me h = h
   after_line takes x answer.NoKeys own me h = h
   after_line takes x (answer.Wait q) own me h = h
@@ -133,10 +133,10 @@ module _ (here kept : Option Place) (term : ℕ) where
   ended_unit None p x a me s h = h
   ended_unit (Some u) p x a me s h = either (λ (e : Ended). KeepsPlaces e.me) (is_refused u.row (is_some p.line)) _ _ h (ended_by u p x a me s h)
 
-  ended_place : (o : Option Place) (x : Access) (a : Answer) (me : Private) (s : SeenLent) → KeepsPlaces me → KeepsPlaces (ended o x a me s).me
+  ended_place : (o : Option Place) (x : Access) (a : Answer) (me : Private) (s : SeenLent) → KeepsPlaces me → KeepsPlaces (finish_ended o x a me s).me
   unfolding KeepsPlaces
   ended_place None x a me s h = h
-  ended_place (Some p) x a me s h = ended_unit (statement_at p me.immediate s.home.lines) p x a me s h
+  ended_place (Some p) x a me s h = ended_unit (statement_placed p me.immediate s.home.lines) p x a me s h
 
 -- what is asked for
 PlanningAt : ℕ → Planning → Type 0
@@ -157,7 +157,7 @@ unit_asks (Some u) p me s = either (PlanningAt me.term) (is_refused u.row (is_so
 place_asks : (o : Option Place) (me : Private) (s : SeenLent) → PlanningAt me.term (course o me s)
 unfolding PlanningAt
 place_asks None me s = tt
-place_asks (Some p) me s = unit_asks (statement_at p me.immediate s.home.lines) p me s
+place_asks (Some p) me s = unit_asks (statement_placed p me.immediate s.home.lines) p me s
 
 -- a partition keeps the places and the terminal that it has
 planned_kept : (me : Private) (s : SeenLent) → KeepsPlaces me.place me.kept me.term (plan me s).me

@@ -27,7 +27,7 @@ use Rattle.b2_access.specs.declared.planned.Outcome.TheVariants as outcome
 use Rattle.b2_access.specs.declared.private.Private.{Private}
 use Rattle.b2_access.specs.Partition.{setting_of}
 use Rattle.b2_access.specs.Going.{to_line}
-use Rattle.b2_stmt_io.specs.Keys.{goes_on, takes_key, waits, without_key}
+use Rattle.b2_stmt_io.specs.Keys.{key_leads, key_assigned, waits, without_key}
 use Rattle.b2_stmt_io.specs.Changed.{with_assigned}
 use Rattle.b2_stmt_io.specs.Receiving.{assign_bytes}
 
@@ -58,23 +58,23 @@ abbrev pub line_at : Text → ℕ
 line_at t = line_of (get_or t 1 0) (get_or t 2 0)
 
 named : (special : Bool) (lines : Lines) (p : Place) (t : Text) → Named t → (first t == byte.comma) ≡ true
-    → goes_on special lines p (maybe_tree (start.Code byte.comma) row.COMMA_TWO_LINES t) ≡ to_line lines p (if special then line_at (drop 1 (drop 3 (drop 1 t))) else line_at (drop 1 t))
+    → key_leads special lines p (maybe_tree (start.Code byte.comma) row.COMMA_TWO_LINES t) ≡ to_line lines p (if special then line_at (drop 1 (drop 3 (drop 1 t))) else line_at (drop 1 t))
 named special lines p t ok is =
-    ap (goes_on special lines p) (begun_tree (start.Code byte.comma) row.COMMA_TWO_LINES t (begins t true is))
-    ∙ ap (λ (a : Trees). goes_on special lines p (In 1 a Done)) (stands_of row.COMMA_TWO_LINES lines_items t lines_row (here t ok is)).1
+    ap (key_leads special lines p) (begun_tree (start.Code byte.comma) row.COMMA_TWO_LINES t (begins t true is))
+    ∙ ap (λ (a : Trees). key_leads special lines p (In 1 a Done)) (stands_of row.COMMA_TWO_LINES lines_items t lines_row (here t ok is)).1
 
 pub to_first : (special : Bool) (lines : Lines) (p : Place) (t : Text) → Named t → (first t == byte.comma) ≡ true → special ≡ false
-    → goes_on special lines p (maybe_tree (start.Code byte.comma) row.COMMA_TWO_LINES t) ≡ to_line lines p (line_at (drop 1 t))
+    → key_leads special lines p (maybe_tree (start.Code byte.comma) row.COMMA_TWO_LINES t) ≡ to_line lines p (line_at (drop 1 t))
 to_first special lines p t ok is which =
     named special lines p t ok is ∙ ap (λ (b : Bool). to_line lines p (if b then line_at (drop 1 (drop 3 (drop 1 t))) else line_at (drop 1 t))) which
 
 pub to_second : (special : Bool) (lines : Lines) (p : Place) (t : Text) → Named t → (first t == byte.comma) ≡ true → special ≡ true
-    → goes_on special lines p (maybe_tree (start.Code byte.comma) row.COMMA_TWO_LINES t) ≡ to_line lines p (line_at (drop 1 (drop 3 (drop 1 t))))
+    → key_leads special lines p (maybe_tree (start.Code byte.comma) row.COMMA_TWO_LINES t) ≡ to_line lines p (line_at (drop 1 (drop 3 (drop 1 t))))
 to_second special lines p t ok is which =
     named special lines p t ok is ∙ ap (λ (b : Bool). to_line lines p (if b then line_at (drop 1 (drop 3 (drop 1 t))) else line_at (drop 1 t))) which
 
-pub to_next : (special : Bool) (lines : Lines) (p : Place) (t : Text) → (first t == byte.comma) ≡ false → goes_on special lines p (maybe_tree (start.Code byte.comma) row.COMMA_TWO_LINES t) ≡ outcome.Next
-to_next special lines p t is = ap (goes_on special lines p) (left_out_tree (start.Code byte.comma) row.COMMA_TWO_LINES t (begins t false is))
+pub to_next : (special : Bool) (lines : Lines) (p : Place) (t : Text) → (first t == byte.comma) ≡ false → key_leads special lines p (maybe_tree (start.Code byte.comma) row.COMMA_TWO_LINES t) ≡ outcome.Next
+to_next special lines p t is = ap (key_leads special lines p) (left_out_tree (start.Code byte.comma) row.COMMA_TWO_LINES t (begins t false is))
 
 -- KEYIN
 abbrev key_items : List Item
@@ -99,10 +99,10 @@ unfolding maybe_tree
 key_tree t ok = (stands_of row.KEYIN key_items t key_row ok).1
 
 pub takes_key_is : (key : ℕ) (special : Bool) (home : TextState) (p : Place) (t : Text) (me : Private) → is_part row.KEYIN t ≡ true
-    → takes_key key special home p (tree_at row.KEYIN t) me
+    → key_assigned key special home p (tree_at row.KEYIN t) me
     ≡ with_assigned (assign_bytes (setting_of me) home (Ok (key ∷ [])) (tree_at row.ALPHA_RECEIVER (drop 1 t)) me.vars)
-    (goes_on special home.lines p (maybe_tree (start.Code byte.comma) row.COMMA_TWO_LINES (after_receiver t))) me
-takes_key_is key special home p t me ok = ap (λ (a : Trees). takes_key key special home p a me) (key_tree t ok)
+    (key_leads special home.lines p (maybe_tree (start.Code byte.comma) row.COMMA_TWO_LINES (after_receiver t))) me
+takes_key_is key special home p t me ok = ap (λ (a : Trees). key_assigned key special home p a me) (key_tree t ok)
 
 waits_by : (t : Text) (b : Bool) → (first t == byte.comma) ≡ b → waits (maybe_tree (start.Code byte.comma) row.COMMA_TWO_LINES t) ≡ (if b then outcome.Next else outcome.Repeat)
 waits_by t true is = ap waits (begun_tree (start.Code byte.comma) row.COMMA_TWO_LINES t (begins t true is))

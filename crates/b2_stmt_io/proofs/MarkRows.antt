@@ -25,7 +25,7 @@ use Rattle.b2_rows.specs.Values.{literal_of}
 use Rattle.b2_rows.proofs.Choices.{either_first, either_second}
 use Rattle.b2_rows.proofs.Optional.{maybe_stands, begun_part, begun_tree, left_out_tree}
 use Rattle.b2_rows.proofs.RowsRead.{stands_of}
-use Rattle.b2_stmt_io.specs.Marks.{bytes_in, mark_bytes, tail_bytes}
+use Rattle.b2_stmt_io.specs.Marks.{bytes_quoted, mark_bytes, tail_bytes}
 
 -- a literal
 abbrev literal_items : List Item
@@ -105,7 +105,7 @@ mark_with t ok is =
     let r = tail_here (tail t) m.part is in
     m.bytes ∙ ap tail_bytes (begun_tree begun row.MARKED_TAIL (tail t) (begins_tail (tail t) is))
     ∙ ap (λ (a : Trees). tail_bytes (In 1 a Done)) r.tree
-    ∙ ap bytes_in (literal_tree (tail t) r.part)
+    ∙ ap bytes_quoted (literal_tree (tail t) r.part)
 
 no_literal : (t : Text) (b : Bool) → starts Atoms begun t ≡ b → maybe_part begun row.MARKED_TAIL t ≡ true → (first t == byte.quote) ≡ false → tail_bytes (maybe_tree begun row.MARKED_TAIL t) ≡ None
 unfolding row_items

@@ -12,7 +12,7 @@ use Rattle.b2_vars.specs.Tables.{VarsState}
 use Rattle.b2_expr.specs.Assigning.{Assigned}
 use Rattle.b2_stmt_io.specs.Inputs.{and_then, take_parts, unchanged, unless_coded}
 use Rattle.b2_rows.specs.CommaLists.{are_others, others_at, receivers_at}
-use Rattle.b2_stmt_io.specs.TypedText.{is_within_part, onto_first, parts_of}
+use Rattle.b2_stmt_io.specs.TypedText.{is_within_part, onto_first, typed_parts}
 use Rattle.b2_stmt_io.proofs.InputRows.{no_items, other_items}
 
 -- the front of bytes that is as long as another front of them
@@ -27,20 +27,20 @@ value_front xs = front_again _ xs
 -- the parts after the first, by what stands after it
 abbrev pub further_parts : List ℕ → List (List ℕ)
 further_parts [] = []
-further_parts (comma ∷ line) = parts_of line
+further_parts (comma ∷ line) = typed_parts line
 
 abbrev pub width_of : List ℕ → ℕ
 width_of line = prefix_len is_within_part line
 
-parts_by : (b : ℕ) (bs : List ℕ) (c : Bool) → parts_of bs ≡ take (width_of bs) bs ∷ further_parts (drop (width_of bs) bs)
-    → (if c then [] ∷ parts_of bs else onto_first b (parts_of bs)) ≡ take (if not c then suc (width_of bs) else 0) (b ∷ bs) ∷ further_parts (drop (if not c then suc (width_of bs) else 0) (b ∷ bs))
+parts_by : (b : ℕ) (bs : List ℕ) (c : Bool) → typed_parts bs ≡ take (width_of bs) bs ∷ further_parts (drop (width_of bs) bs)
+    → (if c then [] ∷ typed_parts bs else onto_first b (typed_parts bs)) ≡ take (if not c then suc (width_of bs) else 0) (b ∷ bs) ∷ further_parts (drop (if not c then suc (width_of bs) else 0) (b ∷ bs))
 parts_by b bs true is = refl
 parts_by b bs false is = ap (onto_first b) is
 
 one_more : (n : ℕ) → suc n ≡ 1 + n
 one_more n = omega arith
 
-parts_are : (line : List ℕ) → parts_of line ≡ take (width_of line) line ∷ further_parts (drop (width_of line) line)
+parts_are : (line : List ℕ) → typed_parts line ≡ take (width_of line) line ∷ further_parts (drop (width_of line) line)
 parts_are [] = refl
 parts_are (b ∷ bs) =
     parts_by b bs (b == byte.comma) (parts_are bs)
@@ -51,26 +51,26 @@ abbrev One : Type 0
 One = Trees → List ℕ → VarsState → Assigned
 
 taken : (one : One) (t : Trees) (ts : List Trees) (line : List ℕ) (old : VarsState)
-    → take_parts one (t ∷ ts) (parts_of line) old ≡ and_then (one t (take (width_of line) line) old) (take_parts one ts (further_parts (drop (width_of line) line)))
+    → take_parts one (t ∷ ts) (typed_parts line) old ≡ and_then (one t (take (width_of line) line) old) (take_parts one ts (further_parts (drop (width_of line) line)))
 taken one t ts line old = ap (λ (ps : List (List ℕ)). take_parts one (t ∷ ts) ps old) (parts_are line)
 
 pub part_more : (one : One) (t : Trees) (ts : List Trees) (line : List ℕ) (old new : VarsState) (code : Option ℕ)
     → record { vars = new; code = code } ≡ one t (take (width_of line) line) old → code ≡ None
-    → take_parts one ts (further_parts (drop (width_of line) line)) new ≡ take_parts one (t ∷ ts) (parts_of line) old
+    → take_parts one ts (further_parts (drop (width_of line) line)) new ≡ take_parts one (t ∷ ts) (typed_parts line) old
 part_more one t ts line old new code is none =
     let next = take_parts one ts (further_parts (drop (width_of line) line)) in
     sym (ap (λ (c : Option ℕ). unless_coded c new next) none) ∙ ap (λ (a : Assigned). and_then a next) is ∙ sym (taken one t ts line old)
 
 coded_by : (one : One) (t : Trees) (ts : List Trees) (line : List ℕ) (old new : VarsState) (code : Option ℕ) (c : ℕ)
     → record { vars = new; code = code } ≡ one t (take (width_of line) line) old → code ≡ Some c
-    → take_parts one (t ∷ ts) (parts_of line) old ≡ record { vars = new; code = code }
+    → take_parts one (t ∷ ts) (typed_parts line) old ≡ record { vars = new; code = code }
 coded_by one t ts line old new code c is some =
     let next = take_parts one ts (further_parts (drop (width_of line) line)) in
     taken one t ts line old ∙ sym (ap (λ (a : Assigned). and_then a next) is) ∙ ap (λ (o : Option ℕ). unless_coded o new next) some ∙ ap (λ (o : Option ℕ). record { vars = new; code = o }) (sym some)
 
 pub part_coded : (one : One) (t : Trees) (ts : List Trees) (line : List ℕ) (old new : VarsState) (code : Option ℕ)
     → record { vars = new; code = code } ≡ one t (take (width_of line) line) old → is_some code ≡ true
-    → record { vars = new; code = code } ≡ take_parts one (t ∷ ts) (parts_of line) old
+    → record { vars = new; code = code } ≡ take_parts one (t ∷ ts) (typed_parts line) old
 part_coded one t ts line old new None is some = cc
 part_coded one t ts line old new (Some c) is some = sym (coded_by one t ts line old new (Some c) c is refl)
 
@@ -93,7 +93,7 @@ pub none_left : (one : One) (ts : List Trees) (after : List ℕ) (vars : VarsSta
 none_left one ts [] vars is = without_parts one ts vars
 none_left one ts (b ∷ bs) vars is = absurd (not_none b bs is)
 
-pub goes_on : (one : One) (t : Text) (after : List ℕ) (vars : VarsState) → are_others t ≡ true → (first t == byte.comma) ≡ true → (length after == 0) ≡ false
-    → take_parts one (receivers_at (drop 1 t)) (parts_of (drop 1 after)) vars ≡ take_parts one (others_at t) (further_parts after) vars
-goes_on one t [] vars ok is some = cc
-goes_on one t (b ∷ bs) vars ok is some = ap (λ (ts : List Trees). take_parts one ts (parts_of bs) vars) (sym (other_items t ok is))
+pub key_leads : (one : One) (t : Text) (after : List ℕ) (vars : VarsState) → are_others t ≡ true → (first t == byte.comma) ≡ true → (length after == 0) ≡ false
+    → take_parts one (receivers_at (drop 1 t)) (typed_parts (drop 1 after)) vars ≡ take_parts one (others_at t) (further_parts after) vars
+key_leads one t [] vars ok is some = cc
+key_leads one t (b ∷ bs) vars ok is some = ap (λ (ts : List Trees). take_parts one ts (typed_parts bs) vars) (sym (other_items t ok is))

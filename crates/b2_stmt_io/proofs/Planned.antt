@@ -13,7 +13,7 @@ use Rattle.b2_stmt_io.specs.Imaging.{prints_using}
 use Rattle.b2_stmt_io.specs.LineReading.{asks_line, prompt_of}
 use Rattle.b2_stmt_io.specs.Plan.{asked_of}
 use Rattle.b2_stmt_io.specs.Printing.{prints}
-use Rattle.b2_stmt_io.specs.Showing.{shows}
+use Rattle.b2_stmt_io.specs.Showing.{shows_bytes}
 
 -- one thing or another
 either : {A : Type 0} (F : A → Type 0) (b : Bool) (x y : A) → F x → F y → F (if b then x else y)
@@ -21,11 +21,11 @@ either F true x y h k = h
 either F false x y h k = k
 
 -- what holds of a refusal, and of each of these accesses at the terminal of an expression
-module _ (F : Planned → Type 0) (e : Context) (refused : (code : ℕ) → F (planned.Done (outcome.Failed code))) (output : (bytes : List ℕ) → F (planned.Ask (access.Show e.around.term bytes)))
+module _ (F : Planned → Type 0) (e : Context) (unassigned : (code : ℕ) → F (planned.Done (outcome.Failed code))) (output : (bytes : List ℕ) → F (planned.Ask (access.Show e.around.term bytes)))
     (line : F (planned.Ask (access.ReadLine e.around.term))) (key : F (planned.Ask (access.Key e.around.term))) where
-  each_shown : (r : Result (List ℕ) ℕ) → F (shows e.around.term r)
+  each_shown : (r : Result (List ℕ) ℕ) → F (shows_bytes e.around.term r)
   each_shown (Ok bytes) = output bytes
-  each_shown (Err code) = refused code
+  each_shown (Err code) = unassigned code
 
   each_line : (shown : Bool) (prompt : List ℕ) → F (planned.Ask (asks_line shown e.around.term prompt))
   each_line shown prompt = either (λ (a : Access). F (planned.Ask a)) shown _ _ line (output (prompt ++ codes "? "))
@@ -36,4 +36,4 @@ module _ (F : Planned → Type 0) (e : Context) (refused : (code : ℕ) → F (p
       (either F (r == row.PRINTUSING) _ _ (each_shown (prints_using e t))
       (either F (r == row.KEYIN) _ _ key
       (either F (r == row.LINPUT) _ _ (each_line prompted (prompt_of t))
-      (either F (r == row.INPUT) _ _ (each_line prompted (prompt_of t)) (refused S27_LEFT_OUT)))))
+      (either F (r == row.INPUT) _ _ (each_line prompted (prompt_of t)) (unassigned S27_LEFT_OUT)))))

@@ -21,12 +21,12 @@ use Rattle.b2_rows.specs.Rows.{is_part, tree_at, after_part, is_list, list_at, E
 use Rattle.b2_rows.specs.Optional.{maybe_part, maybe_tree, after_maybe}
 use Rattle.b2_rows.proofs.Choices.{either_first, either_second}
 use Rattle.b2_rows.proofs.Optional.{begun_part, begun_tree, begun_rest, left_out_tree, left_out_rest, maybe_no_longer}
-use Rattle.b2_rows.proofs.Lists.{goes, ended}
+use Rattle.b2_rows.proofs.Lists.{goes, finish_ended}
 use Rattle.b2_expr.specs.Answers.{◌>>=◌}
 use Rattle.b2_expr.specs.Scope.{Context}
 use Rattle.b2_rows.proofs.RowsRead.{stands_of}
 use Rattle.b2_stmt_io.proofs.LeftOut.{maybe_then}
-use Rattle.b2_stmt_io.specs.Printing.{Shown, column_after_items, column_past, further_in, item_at, item_in, item_of, items_in, items_of, laid, laid_after, newline_where, placed, separator_in, zone_where}
+use Rattle.b2_stmt_io.specs.Printing.{Shown, column_after_items, column_after_shown, further_in, item_at, item_in, item_of, shown_items, items_of, laid, laid_after, newline_where, placed, separator_in, zone_where}
 use Rattle.b2_rows.proofs.ListEnds.{also_done}
 
 abbrev print_items : List Item
@@ -75,12 +75,12 @@ one_text : (old new : List ℕ) (column : ℕ) (it : Result Shown ℕ) → (it >
 one_text old new column (Ok x) is = ap (λ (l : List ℕ). Ok (old ++ l)) (append_nil (placed column x)) ∙ is
 one_text old new column (Err code) is = is
 
-one_column : (column after : ℕ) (it : Result Shown ℕ) → (it >>= (λ x. Ok (column_past column x))) ≡ Ok after
+one_column : (column after : ℕ) (it : Result Shown ℕ) → (it >>= (λ x. Ok (column_after_shown column x))) ≡ Ok after
     → ((it >>= (λ x. Ok (Some x))) >>= (λ o. Ok (column_after_items column (items_of o)))) ≡ Ok after
 one_column column after (Ok x) is = is
 one_column column after (Err code) is = is
 
-one_is : (column after : ℕ) (it : Result Shown ℕ) → (it >>= (λ x. Ok (column_past column x))) ≡ Ok after → ((it >>= (λ x. Ok (Some x))) >>= (λ o. Ok (is_some o))) ≡ Ok true
+one_is : (column after : ℕ) (it : Result Shown ℕ) → (it >>= (λ x. Ok (column_after_shown column x))) ≡ Ok after → ((it >>= (λ x. Ok (Some x))) >>= (λ o. Ok (is_some o))) ≡ Ok true
 one_is column after (Ok x) is = refl
 one_is column after (Err code) is = cc
 
@@ -94,17 +94,17 @@ pub one_shown : (s : Context) (t : Text) (old new : List ℕ) (column after : �
 one_shown s t old new column after is text = ap (λ (r : Result (Option Shown) ℕ). r >>= (λ o. Ok (old ++ laid column (items_of o)))) (one_there s t is) ∙ one_text old new column (item_of s (tree_at row.PRINT_ITEM t)) text
 
 pub one_past : (s : Context) (t : Text) (column after : ℕ) → starts Atoms start.PrintItem t ≡ true
-    → (item_of s (tree_at row.PRINT_ITEM t) >>= (λ x. Ok (column_past column x))) ≡ Ok after
+    → (item_of s (tree_at row.PRINT_ITEM t) >>= (λ x. Ok (column_after_shown column x))) ≡ Ok after
     → (item_there s t >>= (λ o. Ok (column_after_items column (items_of o)))) ≡ Ok after
 one_past s t column after is at = ap (λ (r : Result (Option Shown) ℕ). r >>= (λ o. Ok (column_after_items column (items_of o)))) (one_there s t is) ∙ one_column column after (item_of s (tree_at row.PRINT_ITEM t)) at
 
 pub one_some : (s : Context) (t : Text) (column after : ℕ) → starts Atoms start.PrintItem t ≡ true
-    → (item_of s (tree_at row.PRINT_ITEM t) >>= (λ x. Ok (column_past column x))) ≡ Ok after
+    → (item_of s (tree_at row.PRINT_ITEM t) >>= (λ x. Ok (column_after_shown column x))) ≡ Ok after
     → (item_there s t >>= (λ o. Ok (is_some o))) ≡ Ok true
 one_some s t column after is at = ap (λ (r : Result (Option Shown) ℕ). r >>= (λ o. Ok (is_some o))) (one_there s t is) ∙ one_is column after (item_of s (tree_at row.PRINT_ITEM t)) at
 
 pub one_refused : (s : Context) (t : Text) (code : ℕ) → starts Atoms start.PrintItem t ≡ true → item_of s (tree_at row.PRINT_ITEM t) ≡ Err code → item_there s t ≡ Err code
-one_refused s t code is refused = one_there s t is ∙ one_code code (item_of s (tree_at row.PRINT_ITEM t)) refused
+one_refused s t code is unassigned = one_there s t is ∙ one_code code (item_of s (tree_at row.PRINT_ITEM t)) unassigned
 
 pub none_shown : (s : Context) (t : Text) (old : List ℕ) (column : ℕ) → starts Atoms start.PrintItem t ≡ false
     → (item_there s t >>= (λ o. Ok (old ++ laid column (items_of o)))) ≡ Ok old
@@ -133,15 +133,15 @@ abbrev then_further : Context → Bool → List Shown → Option Shown → Trees
 then_further s line before x more = further_in s line more >>= (λ its. Ok (before ++ (items_of x ++ its)))
 
 shows_by : (s : Context) (c : ℕ) (b : Bool) (it : Trees) (f : Text → Trees) (u t : Text)
-    → items_in s (Put (Coded c) (if b then In 1 it (also (f u) Done) else In 0 Done (also (f t) Done))) ≡ (item_at s (if b then In 1 it Done else In 0 Done Done) >>= (λ x. then_further s true [] x (f (if b then u else t))))
+    → shown_items s (Put (Coded c) (if b then In 1 it (also (f u) Done) else In 0 Done (also (f t) Done))) ≡ (item_at s (if b then In 1 it Done else In 0 Done Done) >>= (λ x. then_further s true [] x (f (if b then u else t))))
 shows_by s c true it f u t = ap (λ (l : Trees). item_in s 1 it >>= (λ x. then_further s true [] x l)) (also_done (f u))
 shows_by s c false it f u t = ap (λ (l : Trees). then_further s true [] None l) (also_done (f t))
 
 print_is : (s : Context) (t : Text) → is_part row.PRINT t ≡ true
-    → items_in s (tree_at row.PRINT t) ≡ (item_there s (drop 1 t) >>= (λ x. then_further s true [] x (further_at (after_item (drop 1 t)))))
+    → shown_items s (tree_at row.PRINT t) ≡ (item_there s (drop 1 t) >>= (λ x. then_further s true [] x (further_at (after_item (drop 1 t)))))
 unfolding maybe_tree after_maybe
 print_is s t ok =
-    ap (items_in s) (stands_of row.PRINT print_items t print_row ok).1
+    ap (shown_items s) (stands_of row.PRINT print_items t print_row ok).1
     ∙ shows_by s word.PRINT (starts Atoms start.PrintItem (drop 1 t)) (tree_at row.PRINT_ITEM (drop 1 t)) further_at (after_part row.PRINT_ITEM (drop 1 t)) (drop 1 t)
 
 -- separators
@@ -225,8 +225,8 @@ next_shorter t is = let e = separator_shorter t is in let f = maybe_no_longer st
 laid_append : (column : ℕ) (xs ys : List Shown) → laid column (xs ++ ys) ≡ (laid column xs ++ laid (column_after_items column xs) ys)
 laid_append column [] ys = refl
 laid_append column (x ∷ xs) ys =
-    ap (λ (l : List ℕ). placed column x ++ l) (laid_append (column_past column x) xs ys)
-    ∙ sym (append_assoc (placed column x) (laid (column_past column x) xs) (laid (column_after_items (column_past column x) xs) ys))
+    ap (λ (l : List ℕ). placed column x ++ l) (laid_append (column_after_shown column x) xs ys)
+    ∙ sym (append_assoc (placed column x) (laid (column_after_shown column x) xs) (laid (column_after_items (column_after_shown column x) xs) ys))
 
 after_first : (old : List ℕ) (column : ℕ) (xs : List Shown) (r : Result (List Shown) ℕ)
     → laid_after old column (r >>= (λ its. Ok (xs ++ its))) ≡ laid_after (old ++ laid column xs) (column_after_items column xs) r
@@ -273,7 +273,7 @@ first_then s more old new column after (Ok o) text at =
 pub first_shown : (s : Context) (t : Text) (old new : List ℕ) (column after : ℕ) → is_part row.PRINT t ≡ true
     → (item_there s (drop 1 t) >>= (λ o. Ok (old ++ laid column (items_of o)))) ≡ Ok new
     → (item_there s (drop 1 t) >>= (λ o. Ok (column_after_items column (items_of o)))) ≡ Ok after
-    → laid_after new after (further_in s true (further_at (after_item (drop 1 t)))) ≡ laid_after old column (items_in s (tree_at row.PRINT t))
+    → laid_after new after (further_in s true (further_at (after_item (drop 1 t)))) ≡ laid_after old column (shown_items s (tree_at row.PRINT t))
 first_shown s t old new column after ok text at =
     sym (ap (laid_after old column) (print_is s t ok) ∙ first_then s (further_at (after_item (drop 1 t))) old new column after (item_there s (drop 1 t)) text at)
 
@@ -281,7 +281,7 @@ refused_then : (code : ℕ) (r : Result (Option Shown) ℕ) (f : Option Shown �
 refused_then code (Ok o) f is = cc
 refused_then code (Err c) f is = cc
 
-pub first_refused : (s : Context) (t : Text) (code : ℕ) → is_part row.PRINT t ≡ true → item_there s (drop 1 t) ≡ Err code → items_in s (tree_at row.PRINT t) ≡ Err code
+pub first_refused : (s : Context) (t : Text) (code : ℕ) → is_part row.PRINT t ≡ true → item_there s (drop 1 t) ≡ Err code → shown_items s (tree_at row.PRINT t) ≡ Err code
 first_refused s t code ok is = print_is s t ok ∙ refused_then code (item_there s (drop 1 t)) (λ x. then_further s true [] x (further_at (after_item (drop 1 t)))) is
 
 next_then : (s : Context) (line : Bool) (t : Text) (old new : List ℕ) (column after : ℕ) (is : Bool) → is_list separators row.FURTHER_ITEM t ≡ true → starts Atoms separators t ≡ true
@@ -315,4 +315,4 @@ next_refused s line t code old column before whole first_text ok sep found same 
 pub all_shown : (s : Context) (line : Bool) (t : Text) (old new : List ℕ) (column : ℕ) → starts Atoms separators t ≡ false → new ≡ old ++ laid column (newline_where line)
     → laid_after old column (further_in s line (further_at t)) ≡ Ok new
 all_shown s line t old new column is text =
-    ap (λ (a : Trees). laid_after old column (further_in s line a)) (Ends.tree (ended separators row.FURTHER_ITEM t is)) ∙ ap Ok (sym text)
+    ap (λ (a : Trees). laid_after old column (further_in s line a)) (Ends.tree (finish_ended separators row.FURTHER_ITEM t is)) ∙ ap Ok (sym text)

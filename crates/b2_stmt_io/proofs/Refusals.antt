@@ -6,8 +6,8 @@ use Rattle.b2_access.specs.declared.planned.Outcome.{Outcome}
 use Rattle.b2_access.specs.declared.planned.Planned.TheVariants as planned
 use Rattle.b2_access.specs.Endings.{FailsWith}
 use Rattle.b2_stmt_io.specs.Printing.{Refused}
-use Rattle.b2_stmt_io.specs.Showing.{shows}
+use Rattle.b2_stmt_io.specs.Showing.{shows_bytes}
 
-pub refused_so : (term : ℕ) (r : Result (List ℕ) ℕ) (f : Fault) (o : Outcome) → Refused r f → FailsWith f o → planned.Done o ≡ shows term r
-refused_so term r (fault.Code code) o is fails = ap planned.Done fails ∙ sym (ap (shows term) is)
+pub refused_so : (term : ℕ) (r : Result (List ℕ) ℕ) (f : Fault) (o : Outcome) → Refused r f → FailsWith f o → planned.Done o ≡ shows_bytes term r
+refused_so term r (fault.Code code) o is fails = ap planned.Done fails ∙ sym (ap (shows_bytes term) is)
 refused_so term r fault.NoMemory o is fails = absurd fails

@@ -34,9 +34,9 @@ use Rattle.b2_rows.proofs.RowsRead.{stands_of}
 use Rattle.b2_print.specs.Imaged.{IsRefused, appended, imaged}
 use Rattle.b2_text.specs.Program.{Lines, line_at}
 use Rattle.b2_access.specs.Going.{line_in}
-use Rattle.b2_stmt_io.specs.Imaging.{any_value, image_named, is_joined, items_named, items_using, joined, line_image, prints_using, values_of, written_image}
+use Rattle.b2_stmt_io.specs.Imaging.{any_value, image_named, is_joined, items_named, items_using, values_joined, line_image, prints_using, values_of, written_image}
 use Rattle.b2_rows.specs.CommaLists.{after_all_listed, commas}
-use Rattle.b2_stmt_io.specs.Operands.{after_further, after_image, are_further, is_named, items_text, operands_at, operands_tree, past_operand}
+use Rattle.b2_stmt_io.specs.Operands.{after_operands, after_image, are_operands, image_is_named, items_text, operands_at, operands_tree, past_operand}
 use Rattle.b2_stmt_io.specs.Printing.{Refused}
 use Rattle.b2_stmt_io.proofs.PrintRows.{is_bytes, is_number}
 
@@ -73,19 +73,19 @@ image_tree b x y more = if b then In 1 x more else In 0 y more
 
 -- how the items stand after the image
 abbrev Further : Text → Type 0
-Further w = (first w ≡ byte.comma) × ((is_part row.OPERAND_OF_ANY_KIND (drop 1 w) ≡ true) × ((are_further (past_operand (drop 1 w)) ≡ true) × When (starts Atoms (start.Code byte.semicolon) (after_further (past_operand (drop 1 w)))) ((is_part row.SEMICOLON (after_further (past_operand (drop 1 w))) ≡ true) × Unit {0}) (Unit {0})))
+Further w = (first w ≡ byte.comma) × ((is_part row.OPERAND_OF_ANY_KIND (drop 1 w) ≡ true) × ((are_operands (past_operand (drop 1 w)) ≡ true) × When (starts Atoms (start.Code byte.semicolon) (after_operands (past_operand (drop 1 w)))) ((is_part row.SEMICOLON (after_operands (past_operand (drop 1 w))) ≡ true) × Unit {0}) (Unit {0})))
 
 further_by : (b x y : Bool) (u w : Text) → When b ((x ≡ true) × Further u) ((y ≡ true) × Further w) → Further (if b then u else w)
 further_by true x y u w h = h.1
 further_by false x y u w h = h.1
 
 further : (t : Text) → is_part row.PRINTUSING t ≡ true → Further (after_image t)
-further t ok = further_by (is_named t) (is_part row.LINE_NUMBER (drop 1 t)) (is_part row.IMAGE_LITERAL (drop 1 t)) (after_part row.LINE_NUMBER (drop 1 t)) (after_part row.IMAGE_LITERAL (drop 1 t)) (stands_of row.PRINTUSING using_items t using_row ok).0.1
+further t ok = further_by (image_is_named t) (is_part row.LINE_NUMBER (drop 1 t)) (is_part row.IMAGE_LITERAL (drop 1 t)) (after_part row.LINE_NUMBER (drop 1 t)) (after_part row.IMAGE_LITERAL (drop 1 t)) (stands_of row.PRINTUSING using_items t using_row ok).0.1
 
 pub items_part : (t : Text) → is_part row.PRINTUSING t ≡ true → is_part row.OPERAND_OF_ANY_KIND (items_text t) ≡ true
 items_part t ok = (further t ok).1.0
 
-pub items_list : (t : Text) → is_part row.PRINTUSING t ≡ true → are_further (past_operand (items_text t)) ≡ true
+pub items_list : (t : Text) → is_part row.PRINTUSING t ≡ true → are_operands (past_operand (items_text t)) ≡ true
 items_list t ok = (further t ok).1.1.0
 
 tree_of_image : (b : Bool) (x y : Trees) (u w : Text) → (if b then In 1 x (further_tree u) else In 0 y (further_tree w)) ≡ image_tree b x y (further_tree (if b then u else w))
@@ -93,11 +93,11 @@ tree_of_image true x y u w = refl
 tree_of_image false x y u w = refl
 
 using_tree : (t : Text) → is_part row.PRINTUSING t ≡ true
-    → tree_at row.PRINTUSING t ≡ Put (Coded word.PRINTUSING) (image_tree (is_named t) (tree_at row.LINE_NUMBER (drop 1 t)) (tree_at row.IMAGE_LITERAL (drop 1 t)) (further_tree (after_image t)))
+    → tree_at row.PRINTUSING t ≡ Put (Coded word.PRINTUSING) (image_tree (image_is_named t) (tree_at row.LINE_NUMBER (drop 1 t)) (tree_at row.IMAGE_LITERAL (drop 1 t)) (further_tree (after_image t)))
 unfolding maybe_tree
 using_tree t ok =
     (stands_of row.PRINTUSING using_items t using_row ok).1
-    ∙ ap (Put (Coded word.PRINTUSING)) (tree_of_image (is_named t) (tree_at row.LINE_NUMBER (drop 1 t)) (tree_at row.IMAGE_LITERAL (drop 1 t)) (after_part row.LINE_NUMBER (drop 1 t)) (after_part row.IMAGE_LITERAL (drop 1 t)))
+    ∙ ap (Put (Coded word.PRINTUSING)) (tree_of_image (image_is_named t) (tree_at row.LINE_NUMBER (drop 1 t)) (tree_at row.IMAGE_LITERAL (drop 1 t)) (after_part row.LINE_NUMBER (drop 1 t)) (after_part row.IMAGE_LITERAL (drop 1 t)))
 
 -- the image
 line_part : (b : Bool) (x y : Type 0) → b ≡ true → When b x y → x
@@ -108,16 +108,16 @@ other_part : (b : Bool) (x y : Type 0) → b ≡ false → When b x y → y
 other_part true x y is h = cc
 other_part false x y is h = h
 
-line_read : (t : Text) → is_part row.PRINTUSING t ≡ true → is_named t ≡ true → is_part row.LINE_NUMBER (drop 1 t) ≡ true
-line_read t ok is = (line_part (is_named t) _ _ is (stands_of row.PRINTUSING using_items t using_row ok).0.1).0
+line_answered : (t : Text) → is_part row.PRINTUSING t ≡ true → image_is_named t ≡ true → is_part row.LINE_NUMBER (drop 1 t) ≡ true
+line_answered t ok is = (line_part (image_is_named t) _ _ is (stands_of row.PRINTUSING using_items t using_row ok).0.1).0
 
-written_read : (t : Text) → is_part row.PRINTUSING t ≡ true → is_named t ≡ false → is_part row.IMAGE_LITERAL (drop 1 t) ≡ true
-written_read t ok is = (other_part (is_named t) _ _ is (stands_of row.PRINTUSING using_items t using_row ok).0.1).0
+written_read : (t : Text) → is_part row.PRINTUSING t ≡ true → image_is_named t ≡ false → is_part row.IMAGE_LITERAL (drop 1 t) ≡ true
+written_read t ok is = (other_part (image_is_named t) _ _ is (stands_of row.PRINTUSING using_items t using_row ok).0.1).0
 
-pub line_here : (t : Text) → is_part row.PRINTUSING t ≡ true → is_named t ≡ true → is_leaf leaf.LineNumber (drop 1 t) ≡ true
-line_here t ok is = (stands_of row.LINE_NUMBER line_items (drop 1 t) line_row (line_read t ok is)).0.0
+pub line_here : (t : Text) → is_part row.PRINTUSING t ≡ true → image_is_named t ≡ true → is_leaf leaf.LineNumber (drop 1 t) ≡ true
+line_here t ok is = (stands_of row.LINE_NUMBER line_items (drop 1 t) line_row (line_answered t ok is)).0.0
 
-pub written_here : (t : Text) → is_part row.PRINTUSING t ≡ true → is_named t ≡ false → is_leaf leaf.Literal (drop 1 t) ≡ true
+pub written_here : (t : Text) → is_part row.PRINTUSING t ≡ true → image_is_named t ≡ false → is_leaf leaf.Literal (drop 1 t) ≡ true
 written_here t ok is = (stands_of row.IMAGE_LITERAL written_items (drop 1 t) written_row (written_read t ok is)).0.0
 
 named_by : (lines : Lines) (b : Bool) (x y more : Trees) → image_named lines (Put (Coded word.PRINTUSING) (image_tree b x y more)) ≡ (if b then line_image (line_at (line_in x) lines) else Ok (written_image y))
@@ -125,29 +125,29 @@ named_by lines true x y more = refl
 named_by lines false x y more = refl
 
 image_is : (lines : Lines) (t : Text) → is_part row.PRINTUSING t ≡ true
-    → image_named lines (tree_at row.PRINTUSING t) ≡ (if is_named t then line_image (line_at (line_in (tree_at row.LINE_NUMBER (drop 1 t))) lines) else Ok (written_image (tree_at row.IMAGE_LITERAL (drop 1 t))))
-image_is lines t ok = ap (image_named lines) (using_tree t ok) ∙ named_by lines (is_named t) (tree_at row.LINE_NUMBER (drop 1 t)) (tree_at row.IMAGE_LITERAL (drop 1 t)) (further_tree (after_image t))
+    → image_named lines (tree_at row.PRINTUSING t) ≡ (if image_is_named t then line_image (line_at (line_in (tree_at row.LINE_NUMBER (drop 1 t))) lines) else Ok (written_image (tree_at row.IMAGE_LITERAL (drop 1 t))))
+image_is lines t ok = ap (image_named lines) (using_tree t ok) ∙ named_by lines (image_is_named t) (tree_at row.LINE_NUMBER (drop 1 t)) (tree_at row.IMAGE_LITERAL (drop 1 t)) (further_tree (after_image t))
 
-pub line_is : (lines : Lines) (t : Text) → is_part row.PRINTUSING t ≡ true → is_named t ≡ true
+pub line_is : (lines : Lines) (t : Text) → is_part row.PRINTUSING t ≡ true → image_is_named t ≡ true
     → image_named lines (tree_at row.PRINTUSING t) ≡ line_image (line_at (line_of (get_or (drop 1 t) 1 0) (get_or (drop 1 t) 2 0)) lines)
 line_is lines t ok is =
     image_is lines t ok
     ∙ ap (λ (b : Bool). if b then line_image (line_at (line_in (tree_at row.LINE_NUMBER (drop 1 t))) lines) else Ok (written_image (tree_at row.IMAGE_LITERAL (drop 1 t)))) is
-    ∙ ap (λ (a : Trees). line_image (line_at (line_in a) lines)) (stands_of row.LINE_NUMBER line_items (drop 1 t) line_row (line_read t ok is)).1
+    ∙ ap (λ (a : Trees). line_image (line_at (line_in a) lines)) (stands_of row.LINE_NUMBER line_items (drop 1 t) line_row (line_answered t ok is)).1
 
-pub written_is : (lines : Lines) (t : Text) → is_part row.PRINTUSING t ≡ true → is_named t ≡ false
+pub written_is : (lines : Lines) (t : Text) → is_part row.PRINTUSING t ≡ true → image_is_named t ≡ false
     → image_named lines (tree_at row.PRINTUSING t) ≡ Ok (literal_of (leaf_bytes leaf.Literal (drop 1 t)))
 written_is lines t ok is =
     image_is lines t ok
     ∙ ap (λ (b : Bool). if b then line_image (line_at (line_in (tree_at row.LINE_NUMBER (drop 1 t))) lines) else Ok (written_image (tree_at row.IMAGE_LITERAL (drop 1 t)))) is
     ∙ ap (λ (a : Trees). Ok (written_image a)) (stands_of row.IMAGE_LITERAL written_items (drop 1 t) written_row (written_read t ok is)).1
 
-pub after_line : (t : Text) → is_part row.PRINTUSING t ≡ true → is_named t ≡ true → items_text t ≡ drop 1 (drop 3 (drop 1 t))
+pub after_line : (t : Text) → is_part row.PRINTUSING t ≡ true → image_is_named t ≡ true → items_text t ≡ drop 1 (drop 3 (drop 1 t))
 after_line t ok is =
     ap (λ (b : Bool). drop 1 (if b then after_part row.LINE_NUMBER (drop 1 t) else after_part row.IMAGE_LITERAL (drop 1 t))) is
-    ∙ ap (drop 1) (stands_of row.LINE_NUMBER line_items (drop 1 t) line_row (line_read t ok is)).2
+    ∙ ap (drop 1) (stands_of row.LINE_NUMBER line_items (drop 1 t) line_row (line_answered t ok is)).2
 
-pub after_written : (t : Text) → is_part row.PRINTUSING t ≡ true → is_named t ≡ false → items_text t ≡ drop 1 (drop (leaf_width Atoms leaf.Literal (drop 1 t)) (drop 1 t))
+pub after_written : (t : Text) → is_part row.PRINTUSING t ≡ true → image_is_named t ≡ false → items_text t ≡ drop 1 (drop (leaf_width Atoms leaf.Literal (drop 1 t)) (drop 1 t))
 after_written t ok is =
     ap (λ (b : Bool). drop 1 (if b then after_part row.LINE_NUMBER (drop 1 t) else after_part row.IMAGE_LITERAL (drop 1 t))) is
     ∙ ap (drop 1) (stands_of row.IMAGE_LITERAL written_items (drop 1 t) written_row (written_read t ok is)).2
@@ -187,7 +187,7 @@ named_items true x y items = refl
 named_items false x y items = refl
 
 items_are : (t : Text) → is_part row.PRINTUSING t ≡ true → items_named (tree_at row.PRINTUSING t) ≡ operands_tree (items_text t)
-items_are t ok = ap items_named (using_tree t ok) ∙ named_items (is_named t) (tree_at row.LINE_NUMBER (drop 1 t)) (tree_at row.IMAGE_LITERAL (drop 1 t)) (operands_tree (items_text t))
+items_are t ok = ap items_named (using_tree t ok) ∙ named_items (image_is_named t) (tree_at row.LINE_NUMBER (drop 1 t)) (tree_at row.IMAGE_LITERAL (drop 1 t)) (operands_tree (items_text t))
 
 -- what PRINTUSING shows, by its image, its values and its end
 using_is : (s : Context) (t image : Text) → is_part row.PRINTUSING t ≡ true → image_named s.around.home.lines (tree_at row.PRINTUSING t) ≡ Ok image
@@ -208,7 +208,7 @@ pub values_refused : (s : Context) (t image : Text) (e : Fault) → is_part row.
 values_refused s t image e ok is h =
     subst (λ (r : TextAnswer). Refused r e) (sym (using_is s t image ok is)) (values_by (values_of s (operands_at (items_text t))) (λ xs. imaged image xs (is_joined (after_all_listed (operands_tree (items_text t))))) e h)
 
-from_none : (r : Result (List Value) ℕ) (xs : List Value) → joined [] r ≡ Ok xs → r ≡ Ok xs
+from_none : (r : Result (List Value) ℕ) (xs : List Value) → values_joined [] r ≡ Ok xs → r ≡ Ok xs
 from_none (Ok ys) xs h = h
 from_none (Err code) xs h = cc
 
@@ -217,14 +217,14 @@ onto_none (Ok bytes) = refl
 onto_none (Err code) = refl
 
 pub using_valued : (s : Context) (t image : Text) (xs : List Value) (more : Bool) → is_part row.PRINTUSING t ≡ true → image_named s.around.home.lines (tree_at row.PRINTUSING t) ≡ Ok image
-    → joined [] (values_of s (operands_at (items_text t))) ≡ Ok xs → is_joined (after_all_listed (operands_tree (items_text t))) ≡ more → prints_using s (tree_at row.PRINTUSING t) ≡ imaged image xs more
+    → values_joined [] (values_of s (operands_at (items_text t))) ≡ Ok xs → is_joined (after_all_listed (operands_tree (items_text t))) ≡ more → prints_using s (tree_at row.PRINTUSING t) ≡ imaged image xs more
 using_valued s t image xs more ok is h joint =
     using_is s t image ok is
     ∙ ap (λ (r : Result (List Value) ℕ). r >>= (λ ys. imaged image ys (is_joined (after_all_listed (operands_tree (items_text t)))))) (from_none (values_of s (operands_at (items_text t))) xs h)
     ∙ ap (imaged image xs) joint
 
 pub using_shown : (s : Context) (t image new : Text) (xs : List Value) (more : Bool) → is_part row.PRINTUSING t ≡ true → image_named s.around.home.lines (tree_at row.PRINTUSING t) ≡ Ok image
-    → joined [] (values_of s (operands_at (items_text t))) ≡ Ok xs → is_joined (after_all_listed (operands_tree (items_text t))) ≡ more → Ok new ≡ appended [] (imaged image xs more)
+    → values_joined [] (values_of s (operands_at (items_text t))) ≡ Ok xs → is_joined (after_all_listed (operands_tree (items_text t))) ≡ more → Ok new ≡ appended [] (imaged image xs more)
     → prints_using s (tree_at row.PRINTUSING t) ≡ Ok new
 using_shown s t image new xs more ok is h joint shown = using_valued s t image xs more ok is h joint ∙ sym (shown ∙ onto_none (imaged image xs more))
 
@@ -233,7 +233,7 @@ refused_by r (fault.Code code) h = h
 refused_by r fault.NoMemory h = h
 
 pub using_refused : (s : Context) (t image : Text) (xs : List Value) (more : Bool) (e : Fault) → is_part row.PRINTUSING t ≡ true → image_named s.around.home.lines (tree_at row.PRINTUSING t) ≡ Ok image
-    → joined [] (values_of s (operands_at (items_text t))) ≡ Ok xs → is_joined (after_all_listed (operands_tree (items_text t))) ≡ more → IsRefused (imaged image xs more) e
+    → values_joined [] (values_of s (operands_at (items_text t))) ≡ Ok xs → is_joined (after_all_listed (operands_tree (items_text t))) ≡ more → IsRefused (imaged image xs more) e
     → Refused (prints_using s (tree_at row.PRINTUSING t)) e
-using_refused s t image xs more e ok is h joint refused =
-    subst (λ (r : TextAnswer). Refused r e) (sym (using_valued s t image xs more ok is h joint)) (refused_by (imaged image xs more) e refused)
+using_refused s t image xs more e ok is h joint unassigned =
+    subst (λ (r : TextAnswer). Refused r e) (sym (using_valued s t image xs more ok is h joint)) (refused_by (imaged image xs more) e unassigned)

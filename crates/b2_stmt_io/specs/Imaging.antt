@@ -63,6 +63,6 @@ abbrev pub prints_using : Context → Trees → TextAnswer
 prints_using s t = image_named s.around.home.lines t >>= (λ image. items_using s image (items_named t))
 
 -- values after others, or their code
-abbrev pub joined : List Value → Result (List Value) ℕ → Result (List Value) ℕ
-joined before (Ok xs) = Ok (before ++ xs)
-joined before (Err code) = Err code
+abbrev pub values_joined : List Value → Result (List Value) ℕ → Result (List Value) ℕ
+values_joined before (Ok xs) = Ok (before ++ xs)
+values_joined before (Err code) = Err code

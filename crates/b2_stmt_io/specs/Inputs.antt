@@ -10,8 +10,8 @@ use Rattle.b2_vars.specs.Tables.{VarsState}
 use Rattle.b2_expr.specs.Assigning.{Assigned}
 use Rattle.b2_stmt_io.specs.LineReading.{after_prompt}
 use Rattle.b2_rows.specs.CommaLists.{all_listed}
-use Rattle.b2_stmt_io.specs.Receiving.{assign_bytes, assign_number, refused}
-use Rattle.b2_stmt_io.specs.TypedText.{parts_of, typed_number}
+use Rattle.b2_stmt_io.specs.Receiving.{assign_bytes, assign_number, unassigned}
+use Rattle.b2_stmt_io.specs.TypedText.{typed_parts, typed_number}
 use Rattle.b2_vars.specs.declared.setting.Setting.{Setting}
 
 -- nothing is assigned, without a code
@@ -30,7 +30,7 @@ and_then a next = unless_coded a.code a.vars next
 abbrev pub takes_some : Setting → TextState → List ℕ → Trees → VarsState → Assigned
 takes_some a home part (In n receiver end) vars =
     if n == 1 then assign_bytes a home (Ok (value_of (skip_blanks part))) receiver vars else assign_number a home (typed_number part) receiver vars
-takes_some a home part t vars = refused S20_VARIABLE vars
+takes_some a home part t vars = unassigned S20_VARIABLE vars
 
 -- and is left without a look at it where the part is empty
 abbrev pub takes_part : Setting → TextState → Trees → List ℕ → VarsState → Assigned
@@ -44,4 +44,4 @@ take_parts one (t ∷ ts) [] vars = unchanged vars
 take_parts one (t ∷ ts) (part ∷ parts) vars = and_then (one t part vars) (take_parts one ts parts)
 
 abbrev pub takes_parts : Setting → TextState → List ℕ → Trees → VarsState → Assigned
-takes_parts a home line t vars = take_parts (takes_part a home) (all_listed (after_prompt t)) (parts_of line) vars
+takes_parts a home line t vars = take_parts (takes_part a home) (all_listed (after_prompt t)) (typed_parts line) vars

@@ -17,24 +17,24 @@ use Rattle.b2_access.specs.Planning.{Ended, stays}
 use Rattle.b2_stmt_io.specs.Receiving.{assign_bytes}
 
 -- the two lines that may be named
-abbrev pub first_line : Trees → ℕ
-first_line (Put comma line) = line_in line
-first_line t = 0
+abbrev pub first_named : Trees → ℕ
+first_named (Put comma line) = line_in line
+first_named t = 0
 
-abbrev pub second_line : Trees → ℕ
-second_line (Put comma (Put line more)) = first_line more
-second_line t = 0
+abbrev pub second_named : Trees → ℕ
+second_named (Put comma (Put line more)) = first_named more
+second_named t = 0
 
 -- where lines are named a byte leads to the first, and a special function key to the second
-abbrev pub goes_on : Bool → Lines → Place → Trees → Outcome
-goes_on special lines p (In n named end) = if n == 1 then to_line lines p (if special then second_line named else first_line named) else outcome.Next
-goes_on special lines p t = outcome.Next
+abbrev pub key_leads : Bool → Lines → Place → Trees → Outcome
+key_leads special lines p (In n named end) = if n == 1 then to_line lines p (if special then second_named named else first_named named) else outcome.Next
+key_leads special lines p t = outcome.Next
 
 -- the key, or the number of a special function key, is assigned as one byte, and then it goes on
-abbrev pub takes_key : ℕ → Bool → TextState → Place → Trees → Private → Ended
-takes_key key special home p (Put word (In n receiver lines)) me =
-    with_assigned (assign_bytes (setting_of me) home (Ok (key ∷ [])) receiver me.vars) (goes_on special home.lines p lines) me
-takes_key key special home p t me = stays me (outcome.Failed S20_VARIABLE)
+abbrev pub key_assigned : ℕ → Bool → TextState → Place → Trees → Private → Ended
+key_assigned key special home p (Put word (In n receiver lines)) me =
+    with_assigned (assign_bytes (setting_of me) home (Ok (key ∷ [])) receiver me.vars) (key_leads special home.lines p lines) me
+key_assigned key special home p t me = stays me (outcome.Failed S20_VARIABLE)
 
 -- without a key it goes on where lines are named, and else it waits
 abbrev pub waits : Trees → Outcome
@@ -46,8 +46,8 @@ without_key (Put word (In n receiver lines)) = waits lines
 without_key t = outcome.Repeat
 
 -- how KEYIN finishes
-abbrev pub keyed : Answer → TextState → Place → Trees → Private → Ended
-keyed (answer.Key key) home p t me = takes_key key false home p t me
-keyed (answer.Special n) home p t me = takes_key n true home p t me
-keyed answer.NoKeys home p t me = stays me (without_key t)
-keyed a home p t me = stays me outcome.Repeat
+abbrev pub key_taken : Answer → TextState → Place → Trees → Private → Ended
+key_taken (answer.Key key) home p t me = key_assigned key false home p t me
+key_taken (answer.Special n) home p t me = key_assigned n true home p t me
+key_taken answer.NoKeys home p t me = stays me (without_key t)
+key_taken a home p t me = stays me outcome.Repeat

@@ -13,7 +13,7 @@ use Rattle.b2_access.specs.declared.accesses.Answer.{Answer}
 use Rattle.b2_access.specs.declared.accesses.Answer.TheVariants as answer
 use Rattle.b2_access.specs.declared.planned.Outcome.TheVariants as outcome
 use Rattle.b2_access.specs.declared.private.Private.{Private}
-use Rattle.b2_stmt_io.specs.Marks.{typed_by}
+use Rattle.b2_stmt_io.specs.Marks.{typed_by_mark}
 use Rattle.b2_stmt_io.specs.Changed.{with_assigned}
 use Rattle.b2_access.specs.Planning.{Ended, stays}
 use Rattle.b2_stmt_io.specs.Receiving.{assign_bytes}
@@ -66,8 +66,8 @@ types (Some text) me = record { me = record me { literal = Some text }; outcome 
 
 -- how they finish: the prompt was shown, a line was read and is taken, or a special function key was; with any other answer the
 -- step is repeated
-abbrev pub line_read : (List ℕ → VarsState → Assigned) → Access → Answer → Lines → Private → Ended
-line_read takes x answer.Done own me = after_showing x me
-line_read takes x (answer.Line line) own me = with_assigned (takes line me.vars) outcome.Next (record me { term_column = 0 })
-line_read takes x (answer.Special n) own me = types (typed_by n own) me
-line_read takes x a own me = stays me outcome.Repeat
+abbrev pub line_answered : (List ℕ → VarsState → Assigned) → Access → Answer → Lines → Private → Ended
+line_answered takes x answer.Done own me = after_showing x me
+line_answered takes x (answer.Line line) own me = with_assigned (takes line me.vars) outcome.Next (record me { term_column = 0 })
+line_answered takes x (answer.Special n) own me = types (typed_by_mark n own) me
+line_answered takes x a own me = stays me outcome.Repeat

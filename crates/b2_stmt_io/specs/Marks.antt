@@ -12,13 +12,13 @@ use Rattle.b2_text.specs.declared.spots.Spot.{Spot}
 use Rattle.b2_access.specs.Placed.{Statement, statement_on}
 
 -- the bytes of a literal
-abbrev pub bytes_in : Trees → Option (List ℕ)
-bytes_in (Put (Plain k text) end) = Some (literal_of text)
-bytes_in t = None
+abbrev pub bytes_quoted : Trees → Option (List ℕ)
+bytes_quoted (Put (Plain k text) end) = Some (literal_of text)
+bytes_quoted t = None
 
 -- the literal of a DEFFN' that has one
 abbrev pub tail_bytes : Trees → Option (List ℕ)
-tail_bytes (In n (In m literal end) more) = if m == 1 then bytes_in literal else None
+tail_bytes (In n (In m literal end) more) = if m == 1 then bytes_quoted literal else None
 tail_bytes t = None
 
 abbrev pub mark_bytes : Trees → Option (List ℕ)
@@ -29,8 +29,8 @@ abbrev pub bytes_of_mark : Statement → Option (List ℕ)
 bytes_of_mark u = if u.row == row.DEFFN_MARKED then mark_bytes u.tree else None
 
 -- at the spot of a DEFFN' in a text
-abbrev pub bytes_at : Lines → Spot → Option (List ℕ)
-bytes_at lines spot = option_and_then bytes_of_mark (statement_on (line_at spot.line lines) spot.unit)
+abbrev pub literal_at_spot : Lines → Spot → Option (List ℕ)
+literal_at_spot lines spot = option_and_then bytes_of_mark (statement_on (line_at spot.line lines) spot.unit)
 
-abbrev pub typed_by : ℕ → Lines → Option (List ℕ)
-typed_by n lines = option_and_then (bytes_at lines) (first_opening (is_mark n) lines)
+abbrev pub typed_by_mark : ℕ → Lines → Option (List ℕ)
+typed_by_mark n lines = option_and_then (literal_at_spot lines) (first_opening (is_mark n) lines)

@@ -13,11 +13,11 @@ use Rattle.b2_rows.specs.Optional.{maybe_tree}
 use Rattle.b2_rows.specs.CommaLists.{further_listed}
 
 -- whether further operands stand at a text, and what stands after them
-abbrev pub are_further : Text → Bool
-are_further t = is_list (start.Code byte.comma) row.COMMA_OPERAND t
+abbrev pub are_operands : Text → Bool
+are_operands t = is_list (start.Code byte.comma) row.COMMA_OPERAND t
 
-abbrev pub after_further : Text → Text
-after_further t = after_list (start.Code byte.comma) row.COMMA_OPERAND t
+abbrev pub after_operands : Text → Text
+after_operands t = after_list (start.Code byte.comma) row.COMMA_OPERAND t
 
 abbrev pub past_operand : Text → Text
 past_operand t = after_part row.OPERAND_OF_ANY_KIND t
@@ -32,7 +32,7 @@ further_at joint t = further_listed (also (list_at (start.Code byte.comma) row.C
 
 -- the operands at a text, with the joint that ends them
 abbrev pub end_joint : Text → Trees
-end_joint t = joint_at (after_further (past_operand t))
+end_joint t = joint_at (after_operands (past_operand t))
 
 abbrev pub operands_at : Text → List Trees
 operands_at t = tree_at row.OPERAND_OF_ANY_KIND t ∷ further_at (end_joint t) (past_operand t)
@@ -42,11 +42,11 @@ abbrev pub operands_tree : Text → Trees
 operands_tree t = In 2 (tree_at row.OPERAND_OF_ANY_KIND t) (also (list_at (start.Code byte.comma) row.COMMA_OPERAND (past_operand t)) (end_joint t))
 
 -- whether the image of PRINTUSING is named by a line, what stands after it, and the items after its comma
-abbrev pub is_named : Text → Bool
-is_named t = starts Atoms start.Line (drop 1 t)
+abbrev pub image_is_named : Text → Bool
+image_is_named t = starts Atoms start.Line (drop 1 t)
 
 abbrev pub after_image : Text → Text
-after_image t = if is_named t then after_part row.LINE_NUMBER (drop 1 t) else after_part row.IMAGE_LITERAL (drop 1 t)
+after_image t = if image_is_named t then after_part row.LINE_NUMBER (drop 1 t) else after_part row.IMAGE_LITERAL (drop 1 t)
 
 abbrev pub items_text : Text → Text
 items_text t = drop 1 (after_image t)

@@ -18,13 +18,13 @@ use Rattle.b2_access.specs.Partition.{setting_of}
 use Rattle.b2_stmt_io.specs.Converting.{converts}
 use Rattle.b2_stmt_io.specs.Imaging.{prints_using}
 use Rattle.b2_stmt_io.specs.Inputs.{takes_parts}
-use Rattle.b2_stmt_io.specs.Keys.{keyed}
-use Rattle.b2_stmt_io.specs.LineReading.{asks_line, line_read, prompt_of, takes_line}
-use Rattle.b2_access.specs.Placed.{Statement, statement_at}
+use Rattle.b2_stmt_io.specs.Keys.{key_taken}
+use Rattle.b2_stmt_io.specs.LineReading.{asks_line, line_answered, prompt_of, takes_line}
+use Rattle.b2_access.specs.Placed.{Statement, statement_placed}
 use Rattle.b2_stmt_io.specs.Changed.{with_assigned}
 use Rattle.b2_access.specs.Planning.{Ended, Finishing, Planning, done, finished, stays}
 use Rattle.b2_stmt_io.specs.Printing.{prints}
-use Rattle.b2_stmt_io.specs.Showing.{shown, shows}
+use Rattle.b2_stmt_io.specs.Showing.{shown, shows_bytes}
 
 -- statements for programs alone
 abbrev pub is_for_programs : ℕ → Bool
@@ -37,8 +37,8 @@ is_refused r program = is_for_programs r && not program
 -- what a statement asks for that changes nothing yet, at a column and after its prompt was shown or not
 abbrev pub asked_of : ℕ → Trees → Context → ℕ → Bool → Planned
 asked_of r t e column prompted =
-    if r == row.PRINT then shows e.around.term (prints e column t)
-    else (if r == row.PRINTUSING then shows e.around.term (prints_using e t)
+    if r == row.PRINT then shows_bytes e.around.term (prints e column t)
+    else (if r == row.PRINTUSING then shows_bytes e.around.term (prints_using e t)
     else (if r == row.KEYIN then planned.Ask (access.Key e.around.term)
     else (if r == row.LINPUT then planned.Ask (asks_line prompted e.around.term (prompt_of t))
     else (if r == row.INPUT then planned.Ask (asks_line prompted e.around.term (prompt_of t))
@@ -59,7 +59,7 @@ course_at (Some u) p me s = if is_refused u.row (is_some p.line) then done s (st
 
 abbrev pub course : Option Place → Private → SeenLent → Planning
 course None me s = done s (stays me outcome.Ready)
-course (Some p) me s = course_at (statement_at p me.immediate s.home.lines) p me s
+course (Some p) me s = course_at (statement_placed p me.immediate s.home.lines) p me s
 
 -- what the statement at a partition's place plans
 abbrev pub plan : Private → SeenLent → Planning
@@ -69,22 +69,22 @@ plan me s = course me.place me s
 abbrev pub ended_of : Statement → Place → Access → Answer → Private → SeenLent → Ended
 ended_of u p x a me s =
     if u.row == row.PRINT || u.row == row.PRINTUSING then shown x a me
-    else (if u.row == row.KEYIN then keyed a s.home p u.tree me
-    else (if u.row == row.LINPUT then line_read (λ line vars. takes_line (setting_of me) s.home line u.tree vars) x a s.own.lines me
-    else (if u.row == row.INPUT then line_read (λ line vars. takes_parts (setting_of me) s.home line u.tree vars) x a s.own.lines me
+    else (if u.row == row.KEYIN then key_taken a s.home p u.tree me
+    else (if u.row == row.LINPUT then line_answered (λ line vars. takes_line (setting_of me) s.home line u.tree vars) x a s.own.lines me
+    else (if u.row == row.INPUT then line_answered (λ line vars. takes_parts (setting_of me) s.home line u.tree vars) x a s.own.lines me
     else stays me outcome.Repeat)))
 
 abbrev pub ended_at : Option Statement → Place → Access → Answer → Private → SeenLent → Ended
 ended_at None p x a me s = stays me outcome.Repeat
 ended_at (Some u) p x a me s = if is_refused u.row (is_some p.line) then stays me outcome.Repeat else ended_of u p x a me s
 
-abbrev pub ended : Option Place → Access → Answer → Private → SeenLent → Ended
-ended None x a me s = stays me outcome.Repeat
-ended (Some p) x a me s = ended_at (statement_at p me.immediate s.home.lines) p x a me s
+abbrev pub finish_ended : Option Place → Access → Answer → Private → SeenLent → Ended
+finish_ended None x a me s = stays me outcome.Repeat
+finish_ended (Some p) x a me s = ended_at (statement_placed p me.immediate s.home.lines) p x a me s
 
 -- how the statement at a partition's place finishes
 abbrev pub finish : Access → Answer → Private → SeenLent → Finishing
-finish x a me s = finished s (ended me.place x a me s)
+finish x a me s = finished s (finish_ended me.place x a me s)
 
 -- the rows that this crate builds
 abbrev pub is_built : ℕ → Bool

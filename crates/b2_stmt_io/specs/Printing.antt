@@ -14,7 +14,7 @@ use Rattle.b2_atom.specs.Words.{Text}
 use Rattle.b2_atom.specs.Tree.{Trees}
 use Rattle.b2_atom.specs.Tree.Trees.{Put, In}
 use Rattle.b2_expr.specs.Answers.{◌>>=◌}
-use Rattle.b2_expr.specs.Functions.{counted}
+use Rattle.b2_expr.specs.Functions.{whole_between}
 use Rattle.b2_expr.specs.Scope.{Context}
 use Rattle.b2_expr.specs.Value.{branch_of, text, value}
 use Rattle.b2_expr.specs.declared.operators.Level.TheVariants as level
@@ -31,20 +31,20 @@ Shown = ℕ → List ℕ
 abbrev pub placed : ℕ → Shown → List ℕ
 placed column it = if not (column == 0) && passes width column (it column) then byte.newline ∷ it 0 else it column
 
-abbrev pub column_past : ℕ → Shown → ℕ
-column_past column it = column_after column (placed column it)
+abbrev pub column_after_shown : ℕ → Shown → ℕ
+column_after_shown column it = column_after column (placed column it)
 
 -- items one after another
 abbrev pub laid : ℕ → List Shown → List ℕ
 laid column [] = []
-laid column (it ∷ its) = placed column it ++ laid (column_past column it) its
+laid column (it ∷ its) = placed column it ++ laid (column_after_shown column it) its
 
 -- TAB: blanks up to a column from 0 to 255
 abbrev pub blanks_to : ℕ → Shown
 blanks_to to column = replicate (to - column) byte.blank
 
 abbrev pub tab_in : Context → Trees → Result Shown ℕ
-tab_in s (Put word (In n sum close)) = value s level.Sum sum >>= (λ x. counted 0 255 x >>= (λ to. Ok (blanks_to to)))
+tab_in s (Put word (In n sum close)) = value s level.Sum sum >>= (λ x. whole_between 0 255 x >>= (λ to. Ok (blanks_to to)))
 tab_in s t = Err S22_WORD
 
 -- HEXOF: each byte of an alpha value as two hexadecimal digits
@@ -56,21 +56,21 @@ hex_in s (Put word (In n a close)) = text s a >>= (λ bytes. Ok (digits_of bytes
 hex_in s t = Err S22_WORD
 
 -- the bytes of an alpha value, and a number in its printed form
-abbrev pub bytes_of : List ℕ → Shown
-bytes_of bytes column = bytes
+abbrev pub shown_bytes : List ℕ → Shown
+shown_bytes bytes column = bytes
 
 abbrev pub alpha_in : Context → Trees → Result Shown ℕ
-alpha_in s t = text s t >>= (λ bytes. Ok (bytes_of bytes))
+alpha_in s t = text s t >>= (λ bytes. Ok (shown_bytes bytes))
 
 abbrev pub number_in : Context → Trees → Result Shown ℕ
-number_in s t = value s level.Sum t >>= (λ x. Ok (bytes_of (printed x)))
+number_in s t = value s level.Sum t >>= (λ x. Ok (shown_bytes (printed x)))
 
-abbrev pub value_in : Context → Trees → Result Shown ℕ
-value_in s (In n a end) = if n == 1 then alpha_in s a else number_in s a
-value_in s t = Err S17_NUMERIC
+abbrev pub item_value : Context → Trees → Result Shown ℕ
+item_value s (In n a end) = if n == 1 then alpha_in s a else number_in s a
+item_value s t = Err S17_NUMERIC
 
 abbrev pub but_tab_in : Context → Trees → Result Shown ℕ
-but_tab_in s (In n a end) = if n == 1 then hex_in s a else value_in s a
+but_tab_in s (In n a end) = if n == 1 then hex_in s a else item_value s a
 but_tab_in s t = Err S17_NUMERIC
 
 -- an item of PRINT
@@ -102,7 +102,7 @@ abbrev pub separator_in : Trees → List Shown
 separator_in t = zone_where (branch_of t == 1)
 
 abbrev pub newline_where : Bool → List Shown
-newline_where true = bytes_of (byte.newline ∷ []) ∷ []
+newline_where true = shown_bytes (byte.newline ∷ []) ∷ []
 newline_where false = []
 
 -- separators, each with an item after it or none, and then a newline; none where a separator stands last
@@ -112,13 +112,13 @@ further_in s line (In n (In m separator (In k it end)) more) =
 further_in s line t = Ok (newline_where line)
 
 -- the items of PRINT, or the first code
-abbrev pub items_in : Context → Trees → Result (List Shown) ℕ
-items_in s (Put word (In n it more)) = item_in s n it >>= (λ x. further_in s true more >>= (λ its. Ok (items_of x ++ its)))
-items_in s t = Err S22_WORD
+abbrev pub shown_items : Context → Trees → Result (List Shown) ℕ
+shown_items s (Put word (In n it more)) = item_in s n it >>= (λ x. further_in s true more >>= (λ its. Ok (items_of x ++ its)))
+shown_items s t = Err S22_WORD
 
 -- what PRINT shows from a column on
 abbrev pub prints : Context → ℕ → Trees → Result (List ℕ) ℕ
-prints s column t = items_in s t >>= (λ its. Ok (laid column its))
+prints s column t = shown_items s t >>= (λ its. Ok (laid column its))
 
 -- items after a text, or their code
 abbrev pub laid_after : List ℕ → ℕ → Result (List Shown) ℕ → Result (List ℕ) ℕ
@@ -128,11 +128,11 @@ laid_after before column (Err code) = Err code
 -- the column after items
 abbrev pub column_after_items : ℕ → List Shown → ℕ
 column_after_items column [] = column
-column_after_items column (it ∷ its) = column_after_items (column_past column it) its
+column_after_items column (it ∷ its) = column_after_items (column_after_shown column it) its
 
 -- an item that is shown after a text, the column after it and what stands after it; or its code, where memory doesn't fail
 abbrev pub ShowsItem : Result Shown ℕ → Text → ℕ → List ℕ → List ℕ → Result (ℕ × Bor Text) Fault → Type 0
-ShowsItem it rest column old new (Ok p) = ((it >>= (λ x. Ok (old ++ placed column x))) ≡ Ok new) × (((it >>= (λ x. Ok (column_past column x))) ≡ Ok p.0) × (p.1.now ≡ rest))
+ShowsItem it rest column old new (Ok p) = ((it >>= (λ x. Ok (old ++ placed column x))) ≡ Ok new) × (((it >>= (λ x. Ok (column_after_shown column x))) ≡ Ok p.0) × (p.1.now ≡ rest))
 ShowsItem it rest column old new (Err (fault.Code code)) = it ≡ Err code
 ShowsItem it rest column old new (Err fault.NoMemory) = Unit {0}
 

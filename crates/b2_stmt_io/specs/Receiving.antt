@@ -13,19 +13,19 @@ use Rattle.b2_expr.specs.Scope.{surroundings_of}
 use Rattle.b2_vars.specs.declared.setting.Setting.{Setting}
 
 -- nothing is assigned, for a code
-abbrev pub refused : ℕ → VarsState → Assigned
-refused code vars = record { vars = vars; code = Some code }
+abbrev pub unassigned : ℕ → VarsState → Assigned
+unassigned code vars = record { vars = vars; code = Some code }
 
 -- a receiver that was located, and the bytes or the number that it takes: its own code comes before theirs
 abbrev pub bytes_to : Result AlphaReceiver ℕ → TextAnswer → VarsState → Assigned
 bytes_to (Ok to) (Ok bytes) vars = assigned_bytes to bytes vars
-bytes_to (Ok to) (Err code) vars = refused code vars
-bytes_to (Err code) bytes vars = refused code vars
+bytes_to (Ok to) (Err code) vars = unassigned code vars
+bytes_to (Err code) bytes vars = unassigned code vars
 
 abbrev pub number_to : Result Element ℕ → Answer → VarsState → Assigned
 number_to (Ok to) (Ok x) vars = assigned_number to x vars
-number_to (Ok to) (Err code) vars = refused code vars
-number_to (Err code) x vars = refused code vars
+number_to (Ok to) (Err code) vars = unassigned code vars
+number_to (Err code) x vars = unassigned code vars
 
 -- a receiver is located among the variables as they are
 abbrev pub assign_bytes : Setting → TextState → TextAnswer → Trees → VarsState → Assigned

@@ -12,9 +12,9 @@ use Rattle.b2_access.specs.declared.private.Private.{Private}
 use Rattle.b2_access.specs.Planning.{Ended, stays}
 
 -- bytes are shown at a terminal by one access, also where there are none; a code asks for nothing
-abbrev pub shows : ℕ → Result (List ℕ) ℕ → Planned
-shows term (Ok bytes) = planned.Ask (access.Show term bytes)
-shows term (Err code) = planned.Done (outcome.Failed code)
+abbrev pub shows_bytes : ℕ → Result (List ℕ) ℕ → Planned
+shows_bytes term (Ok bytes) = planned.Ask (access.Show term bytes)
+shows_bytes term (Err code) = planned.Done (outcome.Failed code)
 
 -- the column after what was shown
 abbrev pub with_column : List ℕ → Private → Private

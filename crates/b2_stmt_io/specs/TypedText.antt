@@ -25,9 +25,9 @@ abbrev pub onto_first : ℕ → List (List ℕ) → List (List ℕ)
 onto_first b [] = (b ∷ []) ∷ []
 onto_first b (part ∷ parts) = (b ∷ part) ∷ parts
 
-abbrev pub parts_of : List ℕ → List (List ℕ)
-parts_of [] = [] ∷ []
-parts_of (b ∷ bs) = if b == byte.comma then [] ∷ parts_of bs else onto_first b (parts_of bs)
+abbrev pub typed_parts : List ℕ → List (List ℕ)
+typed_parts [] = [] ∷ []
+typed_parts (b ∷ bs) = if b == byte.comma then [] ∷ typed_parts bs else onto_first b (typed_parts bs)
 
 -- whether a byte is within a part
 abbrev pub is_within_part : ℕ → Bool

@@ -11,9 +11,9 @@ ghost use Rattle.b2_text.specs.Program.{line_at as line_of};
 ghost use Rattle.b2_stmt_io.specs.Imaging as spec;
 ghost use Rattle.b2_stmt_io.specs.Imaging.{is_joined};
 ghost use Rattle.b2_rows.specs.CommaLists.{after_all_listed};
-ghost use Rattle.b2_stmt_io.specs.Operands.{are_further, items_text, operands_at, operands_tree, past_operand};
+ghost use Rattle.b2_stmt_io.specs.Operands.{are_operands, items_text, operands_at, operands_tree, past_operand};
 ghost use Rattle.b2_stmt_io.specs.Printing.{Refused};
-ghost use Rattle.b2_stmt_io.specs.Showing.{shows};
+ghost use Rattle.b2_stmt_io.specs.Showing.{shows_bytes};
 
 use b2_access::{Access, Planned, failing};
 use b2_atom::{Cursor, literal_width};
@@ -103,8 +103,8 @@ fn add(values: &mut Vec<Value>, x: Value) -> Result<(), NoMemory>
 #[tactic(auto, using(crate::proofs::Valued::one_then, crate::proofs::Valued::one_refused, crate::proofs::Valued::next_part, crate::proofs::Valued::next_list, crate::proofs::Valued::next_rest, crate::proofs::Valued::next_end, crate::proofs::Valued::next_shorter, crate::proofs::Valued::next_one, crate::proofs::Valued::next_refused, crate::proofs::Valued::all_valued, crate::proofs::Valued::all_joined))]
 fn values_at<'a>(e: &Env<'_>, text: &'a [u8], values: &mut Vec<Value>) -> Result<&'a [u8], Fault>
     requires part { is_part row.OPERAND_OF_ANY_KIND text.now ≡ true }
-    requires list { are_further (past_operand text.now) ≡ true }
-    ensures { MatchResult result (λ rest. (spec.joined values.old.items (spec.values_of (in_statement (surroundings e.now)) (operands_at text.now)) ≡ Ok values.new.items) × (is_joined (after_all_listed (operands_tree text.now)) ≡ (first rest.now == byte.semicolon))) (λ f. Refused (spec.values_of (in_statement (surroundings e.now)) (operands_at text.now)) f) }
+    requires list { are_operands (past_operand text.now) ≡ true }
+    ensures { MatchResult result (λ rest. (spec.values_joined values.old.items (spec.values_of (in_statement (surroundings e.now)) (operands_at text.now)) ≡ Ok values.new.items) × (is_joined (after_all_listed (operands_tree text.now)) ≡ (first rest.now == byte.semicolon))) (λ f. Refused (spec.values_of (in_statement (surroundings e.now)) (operands_at text.now)) f) }
 {
     let (x, mut left) = match any_value(e, text) {
         Ok(found) => found,
@@ -148,7 +148,7 @@ fn shown_using(alloc: Global, e: &Env<'_>, unit: &[u8]) -> Result<ByteList, Faul
 #[tactic(auto, using(crate::proofs::Refusals::refused_so))]
 pub fn ask_using(alloc: Global, e: &Env<'_>, unit: &[u8]) -> Result<Planned, NoMemory>
     requires part { is_part row.PRINTUSING unit.now ≡ true }
-    ensures { IfOk result (λ p. p ≡ shows e.now.term (spec.prints_using (in_statement (surroundings e.now)) (tree_at row.PRINTUSING unit.now))) }
+    ensures { IfOk result (λ p. p ≡ shows_bytes e.now.term (spec.prints_using (in_statement (surroundings e.now)) (tree_at row.PRINTUSING unit.now))) }
 {
     match shown_using(alloc, e, unit) {
         Ok(bytes) => Ok(Planned::Ask(Access::Show {

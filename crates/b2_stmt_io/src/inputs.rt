@@ -6,9 +6,9 @@ ghost use Rattle.b2_atom.specs.declared.rows.TheConstants as row;
 ghost use Rattle.b2_rows.specs.Rows.{is_part, tree_at};
 ghost use Rattle.b2_access.specs.Partition.{setting_of};
 ghost use Rattle.b2_stmt_io.specs.Inputs as spec;
-ghost use Rattle.b2_stmt_io.specs.LineReading.{asks_line, line_read, prompt_of};
+ghost use Rattle.b2_stmt_io.specs.LineReading.{asks_line, line_answered, prompt_of};
 ghost use Rattle.b2_rows.specs.CommaLists.{are_others, past_first, receivers_at};
-ghost use Rattle.b2_stmt_io.specs.TypedText.{parts_of};
+ghost use Rattle.b2_stmt_io.specs.TypedText.{typed_parts};
 
 use crate::line_reading::{ask_line, past_prompt, prompt_shown, type_literal};
 use crate::receiving::{bytes_to, number_to};
@@ -25,7 +25,7 @@ use std::alloc::Global;
 
 /// Bytes without the blanks after them, but for the first.
 #[tactic(auto, using(crate::proofs::Parted::value_front))]
-fn value_in(bytes: &[u8]) -> &[u8]
+fn item_value(bytes: &[u8]) -> &[u8]
     ensures { result.now ≡ value_of bytes.now }
 {
     front(bytes, value_len(bytes))
@@ -44,7 +44,7 @@ fn some_to(
     ensures { IfOk result (λ code. record { vars = vars.new; code = code } ≡ spec.takes_some a.now home.now part.now (tree_at row.RECEIVER text.now) vars.old) }
 {
     if is_alpha_at(text) {
-        bytes_to(vars, a, home, value_in(skip_blanks(part)), text)
+        bytes_to(vars, a, home, item_value(skip_blanks(part)), text)
     } else {
         number_to(vars, a, home, part, text)
     }
@@ -68,7 +68,7 @@ fn part_to(
 }
 
 /// Assigns the parts of a line to the receivers that stand at a text, from left to right.
-#[tactic(auto, using(crate::proofs::Parted::part_more, crate::proofs::Parted::goes_on, crate::proofs::InputRows::other_part, crate::proofs::InputRows::other_list, crate::proofs::InputRows::receiver_shorter))]
+#[tactic(auto, using(crate::proofs::Parted::part_more, crate::proofs::Parted::key_leads, crate::proofs::InputRows::other_part, crate::proofs::InputRows::other_list, crate::proofs::InputRows::receiver_shorter))]
 fn parts_to(
     vars: &mut Vars,
     a: &Setting,
@@ -78,7 +78,7 @@ fn parts_to(
 ) -> Result<Option<Code>, NoMemory>
     requires part { is_part row.RECEIVER text.now ≡ true }
     requires list { are_others (past_first text.now) ≡ true }
-    ensures { IfOk result (λ code. record { vars = vars.new; code = code } ≡ spec.take_parts (spec.takes_part a.now home.now) (receivers_at text.now) (parts_of line.now) vars.old) }
+    ensures { IfOk result (λ code. record { vars = vars.new; code = code } ≡ spec.take_parts (spec.takes_part a.now home.now) (receivers_at text.now) (typed_parts line.now) vars.old) }
 {
     let mut left = text;
     let mut typed = line;
@@ -136,7 +136,7 @@ pub fn after_input(
     unit: &[u8],
 ) -> Result<Outcome, NoMemory>
     requires part { is_part row.INPUT unit.now ≡ true }
-    ensures ended { IfOk result (λ o. record { me = me.new; outcome = o } ≡ line_read (λ line vars. spec.takes_parts (setting_of me.old) home.now line (tree_at row.INPUT unit.now) vars) access.now answer.now own.now.lines me.old) }
+    ensures ended { IfOk result (λ o. record { me = me.new; outcome = o } ≡ line_answered (λ line vars. spec.takes_parts (setting_of me.old) home.now line (tree_at row.INPUT unit.now) vars) access.now answer.now own.now.lines me.old) }
     ensures part { me.new.part ≡ me.old.part }
 {
     match (access, answer) {

@@ -17,7 +17,7 @@ use b2_rows::{is_at, line_at};
 use b2_text::Text;
 
 /// The second of two lines with commas before them.
-fn second_line(text: &[u8]) -> &[u8]
+fn second_named(text: &[u8]) -> &[u8]
     ensures { result.now ≡ drop 1 (drop 3 (drop 1 text.now)) }
 {
     dropped(dropped(dropped(text, 1), 3), 1)
@@ -25,15 +25,15 @@ fn second_line(text: &[u8]) -> &[u8]
 
 /// Where KEYIN goes on after a key, by the lines that are named at a text.
 #[tactic(auto, using(crate::proofs::KeyRows::first_here, crate::proofs::KeyRows::to_next))]
-fn goes_on(special: bool, home: &Text, place: Place, text: &[u8]) -> Outcome
+fn key_leads(special: bool, home: &Text, place: Place, text: &[u8]) -> Outcome
     requires part { maybe_part (start.Code byte.comma) row.COMMA_TWO_LINES text.now ≡ true }
-    ensures { result ≡ spec.goes_on special home.now.lines place (maybe_tree (start.Code byte.comma) row.COMMA_TWO_LINES text.now) }
+    ensures { result ≡ spec.key_leads special home.now.lines place (maybe_tree (start.Code byte.comma) row.COMMA_TWO_LINES text.now) }
 {
     if !is_at(b',', text) {
         return Outcome::Next;
     }
     if special {
-        to_line(home, place, line_at(second_line(text)))
+        to_line(home, place, line_at(second_named(text)))
     } else {
         to_line(home, place, line_at(dropped(text, 1)))
     }
@@ -41,7 +41,7 @@ fn goes_on(special: bool, home: &Text, place: Place, text: &[u8]) -> Outcome
 
 /// Assigns a key, and goes on.
 #[tactic(auto, using(crate::proofs::KeyRows::key_receiver, crate::proofs::KeyRows::key_lines, crate::proofs::KeyRows::takes_key_is))]
-fn take_key(
+fn assign_key(
     me: &mut Private,
     key: u8,
     special: bool,
@@ -50,14 +50,14 @@ fn take_key(
     unit: &[u8],
 ) -> Result<Outcome, NoMemory>
     requires part { is_part row.KEYIN unit.now ≡ true }
-    ensures ended { IfOk result (λ o. record { me = me.new; outcome = o } ≡ spec.takes_key key special home.now place (tree_at row.KEYIN unit.now) me.old) }
+    ensures ended { IfOk result (λ o. record { me = me.new; outcome = o } ≡ spec.key_assigned key special home.now place (tree_at row.KEYIN unit.now) me.old) }
     ensures part { me.new.part ≡ me.old.part }
 {
     let setting = setting_of(me);
     let receiver = dropped(unit, 1);
     let code = bytes_to(&mut me.vars, &setting, home, &[key], receiver)?;
     Ok(goes_or(
-        goes_on(special, home, place, past_alpha_receiver(receiver)),
+        key_leads(special, home, place, past_alpha_receiver(receiver)),
         code,
     ))
 }
@@ -84,12 +84,12 @@ pub fn after_key(
     unit: &[u8],
 ) -> Result<Outcome, NoMemory>
     requires part { is_part row.KEYIN unit.now ≡ true }
-    ensures ended { IfOk result (λ o. record { me = me.new; outcome = o } ≡ spec.keyed answer.now home.now place (tree_at row.KEYIN unit.now) me.old) }
+    ensures ended { IfOk result (λ o. record { me = me.new; outcome = o } ≡ spec.key_taken answer.now home.now place (tree_at row.KEYIN unit.now) me.old) }
     ensures part { me.new.part ≡ me.old.part }
 {
     match answer {
-        Answer::Key(key) => take_key(me, *key, false, home, place, unit),
-        Answer::Special(n) => take_key(me, *n, true, home, place, unit),
+        Answer::Key(key) => assign_key(me, *key, false, home, place, unit),
+        Answer::Special(n) => assign_key(me, *n, true, home, place, unit),
         Answer::NoKeys => Ok(without_key(unit)),
         _ => Ok(Outcome::Repeat),
     }

@@ -23,7 +23,7 @@ mod receiving;
 mod showing;
 mod typed_text;
 
-pub use marks::typed_by;
+pub use marks::typed_by_mark;
 pub use planning::{finish, is_built, plan};
 
 #[cfg(test)]

@@ -7,9 +7,9 @@ ghost use Rattle.b2_rows.specs.Rows.{is_part, tree_at};
 ghost use Rattle.b2_rows.specs.Optional.{maybe_part, maybe_tree, after_maybe};
 ghost use Rattle.b2_access.specs.Partition.{setting_of};
 ghost use Rattle.b2_stmt_io.specs.LineReading as spec;
-ghost use Rattle.b2_stmt_io.specs.Marks.{typed_by};
+ghost use Rattle.b2_stmt_io.specs.Marks.{typed_by_mark};
 
-use crate::marks::typed_by;
+use crate::marks::typed_by_mark;
 use crate::receiving::bytes_to;
 use b2_access::{Access, Answer, Outcome, Private, goes_or, setting_of};
 use b2_atom::literal_width;
@@ -79,7 +79,7 @@ pub fn ask_linput(
 
 /// Assigns a line to the receiver of LINPUT.
 #[tactic(auto, using(crate::proofs::PromptRows::linput_prompt, crate::proofs::PromptRows::linput_receiver, crate::proofs::PromptRows::linput_is))]
-fn take_line(
+fn assign_line(
     vars: &mut Vars,
     a: &Setting,
     home: &Text,
@@ -104,10 +104,10 @@ pub fn prompt_shown(me: &mut Private, bytes: &[u8]) -> Outcome
 
 /// Has a special function key type its literal, where it has one.
 pub fn type_literal(alloc: Global, me: &mut Private, own: &Text, n: u8) -> Result<Outcome, NoMemory>
-    ensures ended { IfOk result (λ o. record { me = me.new; outcome = o } ≡ spec.types (typed_by n own.now.lines) me.old) }
+    ensures ended { IfOk result (λ o. record { me = me.new; outcome = o } ≡ spec.types (typed_by_mark n own.now.lines) me.old) }
     ensures part { me.new.part ≡ me.old.part }
 {
-    if let Some(text) = typed_by(own, n) {
+    if let Some(text) = typed_by_mark(own, n) {
         me.literal = Some(ByteList::from_slice(alloc, text)?);
     }
     Ok(Outcome::Repeat)
@@ -124,14 +124,14 @@ pub fn after_linput(
     unit: &[u8],
 ) -> Result<Outcome, NoMemory>
     requires part { is_part row.LINPUT unit.now ≡ true }
-    ensures ended { IfOk result (λ o. record { me = me.new; outcome = o } ≡ spec.line_read (λ line vars. spec.takes_line (setting_of me.old) home.now line (tree_at row.LINPUT unit.now) vars) access.now answer.now own.now.lines me.old) }
+    ensures ended { IfOk result (λ o. record { me = me.new; outcome = o } ≡ spec.line_answered (λ line vars. spec.takes_line (setting_of me.old) home.now line (tree_at row.LINPUT unit.now) vars) access.now answer.now own.now.lines me.old) }
     ensures part { me.new.part ≡ me.old.part }
 {
     match (access, answer) {
         (Access::Show { bytes, .. }, Answer::Done) => Ok(prompt_shown(me, bytes.bytes())),
         (_, Answer::Line(line)) => {
             let setting = setting_of(me);
-            let code = take_line(&mut me.vars, &setting, home, line.bytes(), unit)?;
+            let code = assign_line(&mut me.vars, &setting, home, line.bytes(), unit)?;
             me.term_column = 0;
             Ok(goes_or(Outcome::Next, code))
         }

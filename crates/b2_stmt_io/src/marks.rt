@@ -38,8 +38,8 @@ fn bytes_of_mark<'a>(unit: &RowUnit<'a>) -> Option<&'a [u8]>
 }
 
 /// What a special function key types, where the DEFFN' of its number in a text has a literal.
-pub fn typed_by(text: &Text, n: u8) -> Option<&[u8]>
-    ensures { option_copied result ≡ spec.typed_by n text.now.lines }
+pub fn typed_by_mark(text: &Text, n: u8) -> Option<&[u8]>
+    ensures { option_copied result ≡ spec.typed_by_mark n text.now.lines }
 {
     let Some(spot) = text.marked(n) else {
         return None;

@@ -8,11 +8,11 @@ ghost use Rattle.b2_atom.specs.declared.rows.TheConstants as row;
 ghost use Rattle.b2_atom.specs.declared.forms.Start.TheVariants as start;
 ghost use Rattle.b2_rows.specs.Rows.{is_part, tree_at, after_part};
 ghost use Rattle.b2_rows.specs.Optional.{maybe_part, maybe_tree, after_maybe};
-ghost use Rattle.b2_expr.specs.Functions.{counted, fixed};
+ghost use Rattle.b2_expr.specs.Functions.{whole_between, fixed};
 ghost use Rattle.b2_expr.specs.Scope.{surroundings};
 ghost use Rattle.b2_expr.specs.Value.{in_statement};
 ghost use Rattle.b2_stmt_io.specs.Printing as spec;
-ghost use Rattle.b2_stmt_io.specs.Printing.{Refused, ShowsItem, ShowsMaybe, placed, column_past, bytes_of, blanks_to, digits_of, laid, laid_after, column_after_items, newline_where, zone_where};
+ghost use Rattle.b2_stmt_io.specs.Printing.{Refused, ShowsItem, ShowsMaybe, placed, column_after_shown, shown_bytes, blanks_to, digits_of, laid, laid_after, column_after_items, newline_where, zone_where};
 
 use b2_atom::Cursor;
 use b2_atom::words::{HEXOF_OPEN, TAB_OPEN};
@@ -20,7 +20,7 @@ use b2_base::codes::P34_RANGE;
 use b2_base::lexical::{dropped, first};
 use b2_base::{ByteList, Code, Fault, NoMemory};
 use b2_dec::{Bytes, Dec, fix, whole};
-use b2_expr::{Env, alpha, counted, number};
+use b2_expr::{Env, alpha, whole_between, number};
 use b2_print::{Item, lay};
 use b2_rows::{is_alpha_at, is_at, is_numeric_at};
 use std::alloc::Global;
@@ -30,16 +30,16 @@ const WIDTH: u16 = 80;
 
 /// Shows bytes at a column after a text, and gives the column after them.
 fn show_bytes(alloc: Global, bytes: &[u8], column: u16, out: &mut Vec<u8>) -> Result<u16, NoMemory>
-    ensures text { OnOk result (out.new.items ≡ out.old.items ++ placed column (bytes_of bytes.now)) }
-    ensures column { IfOk result (λ after. after ≡ column_past column (bytes_of bytes.now)) }
+    ensures text { OnOk result (out.new.items ≡ out.old.items ++ placed column (shown_bytes bytes.now)) }
+    ensures column { IfOk result (λ after. after ≡ column_after_shown column (shown_bytes bytes.now)) }
 {
     lay(alloc, &[Item::Alpha(bytes)], column, WIDTH, out)
 }
 
 /// The same of a number in its printed form.
 fn show_number(alloc: Global, x: Dec, column: u16, out: &mut Vec<u8>) -> Result<u16, NoMemory>
-    ensures text { OnOk result (out.new.items ≡ out.old.items ++ placed column (bytes_of (printed x))) }
-    ensures column { IfOk result (λ after. after ≡ column_past column (bytes_of (printed x))) }
+    ensures text { OnOk result (out.new.items ≡ out.old.items ++ placed column (shown_bytes (printed x))) }
+    ensures column { IfOk result (λ after. after ≡ column_after_shown column (shown_bytes (printed x))) }
 {
     lay(alloc, &[Item::Number(x)], column, WIDTH, out)
 }
@@ -47,7 +47,7 @@ fn show_number(alloc: Global, x: Dec, column: u16, out: &mut Vec<u8>) -> Result<
 /// The same of each byte as two hexadecimal digits.
 fn show_digits(alloc: Global, bytes: &[u8], column: u16, out: &mut Vec<u8>) -> Result<u16, NoMemory>
     ensures text { OnOk result (out.new.items ≡ out.old.items ++ placed column (digits_of bytes.now)) }
-    ensures column { IfOk result (λ after. after ≡ column_past column (digits_of bytes.now)) }
+    ensures column { IfOk result (λ after. after ≡ column_after_shown column (digits_of bytes.now)) }
 {
     lay(alloc, &[Item::Hex(bytes)], column, WIDTH, out)
 }
@@ -55,7 +55,7 @@ fn show_digits(alloc: Global, bytes: &[u8], column: u16, out: &mut Vec<u8>) -> R
 /// The same of blanks up to a column.
 fn show_blanks(alloc: Global, to: u8, column: u16, out: &mut Vec<u8>) -> Result<u16, NoMemory>
     ensures text { OnOk result (out.new.items ≡ out.old.items ++ placed column (blanks_to to)) }
-    ensures column { IfOk result (λ after. after ≡ column_past column (blanks_to to)) }
+    ensures column { IfOk result (λ after. after ≡ column_after_shown column (blanks_to to)) }
 {
     lay(alloc, &[Item::Tab(to)], column, WIDTH, out)
 }
@@ -99,7 +99,7 @@ fn tab_shown<'a>(
         Ok(x) => x,
         Err(code) => return Err(Fault::Code(code)),
     };
-    let to = match counted(0, 255, x) {
+    let to = match whole_between(0, 255, x) {
         Ok(to) => to,
         Err(code) => return Err(Fault::Code(code)),
     };
@@ -244,7 +244,7 @@ fn show_items(
     out: &mut Vec<u8>,
 ) -> Result<(), Fault>
     requires part { is_part row.PRINT unit.now ≡ true }
-    ensures { MatchResult result (λ done. laid_after out.old.items column (spec.items_in (in_statement (surroundings e.now)) (tree_at row.PRINT unit.now)) ≡ Ok out.new.items) (λ f. Refused (spec.items_in (in_statement (surroundings e.now)) (tree_at row.PRINT unit.now)) f) }
+    ensures { MatchResult result (λ done. laid_after out.old.items column (spec.shown_items (in_statement (surroundings e.now)) (tree_at row.PRINT unit.now)) ≡ Ok out.new.items) (λ f. Refused (spec.shown_items (in_statement (surroundings e.now)) (tree_at row.PRINT unit.now)) f) }
 {
     let (mut at, _, mut left) = match item_or_none(alloc, e, column, dropped(unit, 1), out) {
         Ok(shown) => shown,

@@ -18,7 +18,7 @@ use std::alloc::Global;
 #[tactic(auto, using(crate::proofs::Refusals::refused_so))]
 pub fn ask_print(alloc: Global, e: &Env<'_>, column: u16, unit: &[u8]) -> Result<Planned, NoMemory>
     requires part { is_part row.PRINT unit.now ≡ true }
-    ensures { IfOk result (λ p. p ≡ spec.shows e.now.term (prints (in_statement (surroundings e.now)) column (tree_at row.PRINT unit.now))) }
+    ensures { IfOk result (λ p. p ≡ spec.shows_bytes e.now.term (prints (in_statement (surroundings e.now)) column (tree_at row.PRINT unit.now))) }
 {
     match shown_by_print(alloc, e, column, unit) {
         Ok(bytes) => Ok(Planned::Ask(Access::Show {

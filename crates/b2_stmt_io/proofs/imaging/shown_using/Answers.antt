@@ -3,7 +3,7 @@ use Rattle.b2_dec.specs.declared.values.Value.{Value}
 use Rattle.b2_expr.specs.Scope.{surroundings}
 use Rattle.b2_expr.specs.Value.{in_statement}
 use Rattle.b2_print.specs.Imaged.{appended, imaged}
-use Rattle.b2_stmt_io.specs.Imaging.{is_joined, joined, values_of}
+use Rattle.b2_stmt_io.specs.Imaging.{is_joined, values_joined, values_of}
 use Rattle.b2_rows.specs.CommaLists.{after_all_listed}
 use Rattle.b2_stmt_io.specs.Operands.{operands_at, operands_tree}
 use Rattle.b2_stmt_io.specs.Printing.{Refused}
@@ -22,8 +22,8 @@ returns-in-Ok-using c =
     let xs = c.deref.result.now in
     let more = c.is_at.result in
     using_shown s c.args.unit.now c.in-Ok.image.now c.new.result xs more c.requires.part c.in-Ok.ensures
-    (ap (λ (u : List ℕ). joined [] (values_of s (operands_at u))) (sym c.items_of.ensures)
-    ∙ ap (λ (l : List Value). joined l (values_of s (operands_at c.items_of.result.now))) (sym c.new-values.ensures.items)
+    (ap (λ (u : List ℕ). values_joined [] (values_of s (operands_at u))) (sym c.items_of.ensures)
+    ∙ ap (λ (l : List Value). values_joined l (values_of s (operands_at c.items_of.result.now))) (sym c.new-values.ensures.items)
     ∙ c.in-Ok-values_at.ensures.0
     ∙ ap Ok (sym c.deref.ensures.value))
     (ap (λ (u : List ℕ). is_joined (after_all_listed (operands_tree u))) (sym c.items_of.ensures) ∙ c.in-Ok-values_at.ensures.1 ∙ sym c.is_at.ensures)

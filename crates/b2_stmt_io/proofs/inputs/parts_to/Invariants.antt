@@ -3,7 +3,7 @@ use Rattle.b2_atom.specs.declared.rows.TheConstants as row
 use Rattle.b2_rows.specs.Rows.{is_part}
 use Rattle.b2_stmt_io.specs.Inputs.{take_parts, takes_part}
 use Rattle.b2_rows.specs.CommaLists.{are_others, past_first, receivers_at}
-use Rattle.b2_stmt_io.specs.TypedText.{parts_of}
+use Rattle.b2_stmt_io.specs.TypedText.{typed_parts}
 use Rattle.b2_stmt_io.proofs.inputs.parts_to.Given as goal
 
 -- the receivers that are left take the parts that are left as all of them take all
@@ -11,7 +11,7 @@ abbrev pub invariant-loop-code : goal.invariant-loop-code
 invariant-loop-code l = record {
   part : is_part row.RECEIVER l.left ≡ true;
   list : are_others (past_first l.left) ≡ true;
-  taken : take_parts (takes_part l.a l.home) (receivers_at l.left) (parts_of l.typed) l.vars ≡ take_parts (takes_part l.a l.home) (receivers_at l.text) (parts_of l.line) l.fn.vars;
+  taken : take_parts (takes_part l.a l.home) (receivers_at l.left) (typed_parts l.typed) l.vars ≡ take_parts (takes_part l.a l.home) (receivers_at l.text) (typed_parts l.line) l.fn.vars;
 }
 
 abbrev pub decreases-loop-code : goal.decreases-loop-code

@@ -3,7 +3,7 @@ use Rattle.b2_atom.specs.declared.rows.TheConstants as row
 use Rattle.b2_rows.specs.Rows.{tree_at, is_list}
 use Rattle.b2_expr.specs.Scope.{surroundings}
 use Rattle.b2_expr.specs.Value.{in_statement}
-use Rattle.b2_stmt_io.specs.Printing.{further_in, items_in, laid_after}
+use Rattle.b2_stmt_io.specs.Printing.{further_in, shown_items, laid_after}
 use Rattle.b2_stmt_io.proofs.Printed.{separators, further_at}
 use Rattle.b2_stmt_io.proofs.printing.show_items.Given as goal
 
@@ -11,7 +11,7 @@ use Rattle.b2_stmt_io.proofs.printing.show_items.Given as goal
 abbrev pub invariant-loop-left : goal.invariant-loop-left
 invariant-loop-left l = record {
   list : is_list separators row.FURTHER_ITEM l.left ≡ true;
-  shown : laid_after l.out.items l.at (further_in (in_statement (surroundings l.e)) l.line (further_at l.left)) ≡ laid_after l.fn.out.items l.column (items_in (in_statement (surroundings l.e)) (tree_at row.PRINT l.unit));
+  shown : laid_after l.out.items l.at (further_in (in_statement (surroundings l.e)) l.line (further_at l.left)) ≡ laid_after l.fn.out.items l.column (shown_items (in_statement (surroundings l.e)) (tree_at row.PRINT l.unit));
 }
 
 abbrev pub decreases-loop-left : goal.decreases-loop-left
