@@ -31,8 +31,8 @@ ghost use Rattle.b2_rows.specs.declared.operands.Operand.TheVariants as kind_is;
 ghost use Rattle.b2_rows.specs.declared.operands.AlphaOperand.TheVariants as alpha_kind_is;
 
 use crate::functions::{
-    byte_count, binary_bytes, column_written, whole_between, extreme, number_of, of_one, of_text, of_two,
-    position_of, subscript, whole_number,
+    binary_bytes, byte_count, column_written, extreme, number_of, of_one, of_text, of_two,
+    position_of, subscript, whole_between, whole_number,
 };
 use crate::named::{Element, Located, NameKind, Subscripts, variable_of};
 use crate::operators::{Level, joined, under_sign};

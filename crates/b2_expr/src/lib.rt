@@ -37,7 +37,7 @@ pub use assign::{
     assign_bytes, assign_number, assign_side, assign_value, buffer_bytes, change_buffer, code_of,
     code_of_fault, is_reached,
 };
-pub use functions::{whole_between, fixed};
+pub use functions::{fixed, whole_between};
 pub use named::Element;
 pub use operations::{AlphaOperator, Operation, RightSide, is_right_side_read};
 pub use operators::Level;

@@ -9,7 +9,7 @@ ghost use Rattle.b2_machine.specs.Statements as spec;
 ghost use Rattle.b2_machine.specs.Stays.{IsLegalCourse};
 
 use crate::ends::{Stepped, counts, repeats};
-use crate::listed::{after_list, range_listed, named_range};
+use crate::listed::{after_list, named_range, range_listed};
 use crate::moving::settle;
 use crate::readiness::rest;
 use b2_access::{

@@ -44,7 +44,11 @@ fn show<S: Shared>(me: &mut Private, s: &mut S, shown: ByteList) -> Result<Stepp
 }
 
 /// A literal is typed.
-fn insert_literal<S: Shared>(me: &mut Private, s: &mut S, text: ByteList) -> Result<Stepped, NoMemory>
+fn insert_literal<S: Shared>(
+    me: &mut Private,
+    s: &mut S,
+    text: ByteList,
+) -> Result<Stepped, NoMemory>
     ensures ended { IfOk result (λ e. record { me = me.new; after = S.meaning s.new; end = e } ≡ spec.types_literal S.store S.serving S.lending text me.old (S.meaning s.old)) }
     ensures same { S.holds s.new ≡ S.holds s.old }
     ensures part { me.new.part ≡ me.old.part }

@@ -68,7 +68,10 @@ pub fn choice_at(e: &Env<'_>, unit: &[u8]) -> Result<(bool, Option<u16>), Code>
     match number(&mut c, e) {
         Ok(x) => {
             let literals_listed = c.rest();
-            Ok((is_at(GOTO, literals_listed), line_after_word(literals_listed, x)))
+            Ok((
+                is_at(GOTO, literals_listed),
+                line_after_word(literals_listed, x),
+            ))
         }
         Err(code) => Err(code),
     }

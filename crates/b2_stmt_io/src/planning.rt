@@ -18,7 +18,7 @@ use crate::line_reading::{after_linput, ask_linput};
 use crate::showing::{after_show, ask_print};
 use b2_access::{
     Access, Answer, DeviceTable, Lent, Outcome, Planned, Private, failed, goes_or, setting_of,
-    statement_placed, statement_on,
+    statement_on, statement_placed,
 };
 use b2_atom::{Atoms, rows};
 use b2_base::NoMemory;

@@ -20,7 +20,7 @@ use b2_base::codes::P34_RANGE;
 use b2_base::lexical::{dropped, first};
 use b2_base::{ByteList, Code, Fault, NoMemory};
 use b2_dec::{Bytes, Dec, fix, whole};
-use b2_expr::{Env, alpha, whole_between, number};
+use b2_expr::{Env, alpha, number, whole_between};
 use b2_print::{Item, lay};
 use b2_rows::{is_alpha_at, is_at, is_numeric_at};
 use std::alloc::Global;
