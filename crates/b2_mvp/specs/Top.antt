@@ -7,7 +7,7 @@ use Rattle.b2_base.specs.Files.{Files}
 use Rattle.b2_base.specs.Names.{is_file_name}
 use Rattle.b2_base.specs.Outside.{IsPartWritten}
 use Rattle.b2_base.specs.Seen.{ShelfSeen, SinkSeen}
-use Rattle.b2_boot.specs.Alone.{alone, is_listed}
+use Rattle.b2_boot.specs.Alone.{alone, is_in_group}
 use Rattle.b2_boot.specs.Boots.{BootState}
 use Rattle.b2_boot.specs.declared.log.Event.{Event}
 use Rattle.b2_sched.specs.Start.{booted}
@@ -18,7 +18,7 @@ use Rattle.b2_mvp.specs.declared.top.Command.{Command}
 use Rattle.b2_mvp.specs.Groups.{GroupsShowAsAlone, ListsTheClean}
 use Rattle.b2_mvp.specs.Inputs.{boot_limit, log_limit, HasBoot, HasLog, FailsBoot, FailsLog, FetchFails}
 use Rattle.b2_mvp.specs.Outputs.{Output, outputs, with_files, summary, FailsKeep}
-use Rattle.b2_mvp.specs.Parts.{parts_of}
+use Rattle.b2_mvp.specs.Parts.{listed_parts}
 
 -- the bytes of each word
 abbrev pub texts : List (Vec ℕ) → List (List ℕ)
@@ -33,13 +33,13 @@ command_by boot log out group =
 abbrev pub command_of : List (List ℕ) → Option Command
 command_of (word ∷ boot ∷ log ∷ out ∷ []) = if pointwise nat_eq word (codes "run") then command_by boot log out None else None
 command_of (word ∷ boot ∷ log ∷ out ∷ parts ∷ []) =
-    if pointwise nat_eq word (codes "alone") then option_and_then (λ group. command_by boot log out (Some group)) (parts_of parts) else None
+    if pointwise nat_eq word (codes "alone") then option_and_then (λ group. command_by boot log out (Some group)) (listed_parts parts) else None
 command_of words = None
 
 -- the boot that a command runs: the whole one, or that with its group alone
 abbrev pub boot_for : Option (List ℕ) → BootState → BootState
 boot_for None boot = boot
-boot_for (Some parts) boot = alone (is_listed parts) boot
+boot_for (Some parts) boot = alone (is_in_group parts) boot
 
 -- the world after the events, from the one that a boot starts
 abbrev pub world_after : BootState → List Event → WorldState

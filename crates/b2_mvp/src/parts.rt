@@ -55,7 +55,7 @@ impl Parts {
     /// The partitions that a word lists: numbers from 1 to 16 that ascend, each without zeros before, joined by commas. None
     /// where the word is no such list.
     pub fn of(word: &[u8]) -> Option<Parts>
-        ensures { result ≡ spec.parts_of word.now }
+        ensures { result ≡ spec.listed_parts word.now }
     {
         let mut parts = Parts::empty();
         let mut last = 0u8;
