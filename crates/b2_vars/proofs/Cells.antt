@@ -46,12 +46,10 @@ sound-Some area count t v x sound is = subst (λ (o : Option VariableState). IfS
 not_alpha : (v : Var) (s : Shape) → v.alpha ≡ false → number_cells v s ≡ cells s
 not_alpha v s is = ap (λ b. cond b 0 (cells s)) is
 
-pub number-within : (t : Table) (v : Var) (x : VariableState) (r c : ℕ) → IsVariable v x → get t v ≡ Some x → v.alpha ≡ false → has_cell (shape_at v t) r c ≡ true
-    → cell_at (shape_at v t) r c < length x.numbers
-number-within t v x r c sound is number has =
-    let shape : shape_at v t ≡ x.shape = ap (λ (x : VariableState). x.shape) (variable_at-Some t v x is) in
-    let below : cell_at x.shape r c < cells x.shape = cell-lt x.shape r c (subst (λ (s : Shape). has_cell s r c ≡ true) shape has) in
-    omega (arith, ap (λ (s : Shape). cell_at s r c) shape, below, sound.numbers, not_alpha v x.shape number)
+-- a number at a place is among those of the variable
+pub number-room : (t : Table) (v : Var) (r c : ℕ) → IsVariable v (variable_at v t) → v.alpha ≡ false → has_cell (shape_at v t) r c ≡ true
+    → cell_at (shape_at v t) r c < length (variable_at v t).numbers
+number-room t v r c is number has = omega (arith, cell-lt (shape_at v t) r c has, is.numbers, not_alpha v (shape_at v t) number)
 
 pub value-within : (t : Table) (v : Var) (x : VariableState) (r c : ℕ) → IsVariable v x → get t v ≡ Some x → has_cell (shape_at v t) r c ≡ true
     → cell_at (shape_at v t) r c * x.shape.len + x.shape.len ≤ length x.bytes

@@ -11,9 +11,13 @@ one_cell rows cols h =
     let none : (rows ≡ 0) × (cols ≡ 0) = (grind (arith, nat_tests), grind (arith, nat_tests)) in
     (λ i. max 1 (none.0 i) * max 1 (none.1 i))
 
+-- a scalar has no dimensions
+pub no_dimensions : (v : Var) (s : Shape) → v.array ≡ false → has_dimensions v s ≡ true → (s.rows == 0 && s.cols == 0) ≡ true
+no_dimensions v s array has =
+    sym (ap (λ b. cond b (cond (s.cols == 0) (is_up_to 4000 s.rows) (is_up_to 255 s.rows && is_up_to 255 s.cols)) (s.rows == 0 && s.cols == 0)) array) ∙ has
+
 scalar_cell : (v : Var) (s : Shape) → v.array ≡ false → has_dimensions v s ≡ true → cells s ≡ 1
-scalar_cell v s array has =
-    one_cell s.rows s.cols (sym (ap (λ b. cond b (cond (s.cols == 0) (is_up_to 4000 s.rows) (is_up_to 255 s.rows && is_up_to 255 s.cols)) (s.rows == 0 && s.cols == 0)) array) ∙ has)
+scalar_cell v s array has = one_cell s.rows s.cols (no_dimensions v s array has)
 
 kinds : (v : Var) (s : Shape) (alpha array : Bool) → v.alpha ≡ alpha → v.array ≡ array → cost v s ≡ cond alpha (cond array 9 5) (cond array 8 4) + cond alpha (cells s * s.len) (cells s * 8)
 kinds v s alpha array a r = λ i. cond (a i) (cond (r i) 9 5) (cond (r i) 8 4) + cond (a i) (cells s * s.len) (cells s * 8)

@@ -1,16 +1,19 @@
 -- A variable that is made where nothing stands: it is found there, and a scalar has the shape that was seen before.
-use Rattle.std.proofs.Common.{◌≡◌, Bool, true, false, ℕ, ◌+◌, ◌<◌, ◌≤◌, arith, Option, None, Some, IsSome, is_some, refl, ap, sym, subst, ◌∙◌}
+use Rattle.std.proofs.Common.{◌≡◌, Bool, true, false, ℕ, ◌+◌, ◌<◌, ◌≤◌, arith, Option, None, Some, IsSome, IfSome, is_some, not, ◌&&◌, ◌==◌, [], ◌∷◌, refl, ap, sym, subst, ◌∙◌}
 use Rattle.std.proofs.lemmas.Bool.Decides.{nat_tests}
 use Rattle.std.specs.Option.{unwrap_or}
-use Rattle.std.specs.FinMap.{get, insert}
+use Rattle.std.specs.FinMap.{get, insert, contains_key}
+use Rattle.b2_base.specs.declared.codes.TheConstants.{P57_SUBSCRIPT, P59_NO_ARRAY}
 use Rattle.b2_vars.specs.declared.name.Var.{Var}
 use Rattle.b2_vars.specs.declared.shape.Shape.{Shape}
-use Rattle.b2_vars.specs.Shapes.{scalar_shape, has_cell, cell_at, cells}
+use Rattle.b2_vars.specs.Answers.{code_if, first_of}
+use Rattle.b2_vars.specs.Shapes.{scalar_shape, has_cell, is_subscript, cell_at, cells}
 use Rattle.b2_vars.specs.Variables.{VariableState, fresh}
-use Rattle.b2_vars.specs.Tables.{Table, VarsState, shape_at}
-use Rattle.b2_vars.specs.Calls.{made, with_new, with_scalar, no_part, IsCell, IsPart}
+use Rattle.b2_vars.specs.Tables.{Table, VarsState, IsVariable, shape_at}
+use Rattle.b2_vars.specs.Calls.{made, with_new, with_scalar, no_part, get_code, IsCell, IsPart}
 use Rattle.b2_vars.proofs.EntriesAsMap.{get_put}
 use Rattle.b2_vars.proofs.Cells.{variable_at-Some, cell-lt}
+use Rattle.b2_vars.proofs.Costs.{no_dimensions}
 use Rattle.b2_vars.proofs.Soundness.{found-put}
 
 pub found-new : (t : Table) (v : Var) (s : Shape) (common : Bool) → IsSome (get (with_new v s common t) v)
@@ -47,3 +50,18 @@ part-found s v r c from n has part =
       cell = subst (λ (shape : Shape). has_cell shape r c ≡ true) (sym shape) has;
       within = subst (λ (shape : Shape). from + n ≤ shape.len) (sym shape) fits;
     }
+
+no_size : (rows cols : ℕ) → (rows == 0 && cols == 0) ≡ true → is_subscript rows 0 && is_subscript cols 0 ≡ true
+no_size rows cols h =
+    let none : (rows ≡ 0) × (cols ≡ 0) = (grind (arith, nat_tests), grind (arith, nat_tests)) in
+    (λ i. is_subscript (none.0 i) 0 && is_subscript (none.1 i) 0)
+
+-- a scalar has its one value, whether it is there or not
+scalar_has : (v : Var) (o : Option VariableState) → v.array ≡ false → IfSome o (IsVariable v) → has_cell (unwrap_or o (fresh v (scalar_shape v) false)).shape 0 0 ≡ true
+scalar_has v None array is = refl
+scalar_has v (Some x) array is = no_size x.shape.rows x.shape.cols (no_dimensions v x.shape array is.dimensions)
+
+pub scalar-code : (t : Table) (v : Var) (r c : ℕ) → ((q : Var) → IfSome (get t q) (IsVariable q)) → v.array ≡ false → r ≡ 0 → c ≡ 0 → get_code v r c t ≡ None
+scalar-code t v r c each array row column =
+    let has : has_cell (shape_at v t) r c ≡ true = (λ i. has_cell (shape_at v t) (row i) (column i)) ∙ scalar_has v (get t v) array (each v) in
+    (λ i. first_of (code_if (array i && not (contains_key t v)) P59_NO_ARRAY ∷ code_if (not (has i)) P57_SUBSCRIPT ∷ []))

@@ -1,5 +1,5 @@
 -- Variables as contracts see them: a finite map from names, within an area.
-use Rattle.std.specs.Prelude.{◌≡◌, ◌≤◌, ◌<◌, ℕ, ◌+◌, true, false, List, [], ◌∷◌, length, IfSome, slice_get, refl}
+use Rattle.std.specs.Prelude.{◌≡◌, ◌≤◌, ◌<◌, ℕ, ◌+◌, true, false, List, [], ◌∷◌, length, IfSome, IsSome, slice_get, refl}
 use Rattle.std.specs.Map.{values_of}
 use Rattle.indexmap.specs.IndexMap.{set_value_at}
 use Rattle.std.specs.Coded.{Coded, code_by, coded×, coded_ℕ}
@@ -62,3 +62,8 @@ pub record IsPlaceOf (v : Var) (es : List (Var × VariableState)) (i : ℕ) : Ty
   pub within : i < length es
   pub value : slice_get (values_of es) i ≡ map.get (table_of es) v
   pub writes : (x : VariableState) → table_of (set_value_at es i x) ≡ map.insert (table_of es) v x
+
+-- the variable of a name stands at this place of the entries
+pub record IsEntryOf (v : Var) (es : List (Var × VariableState)) (i : ℕ) : Type 0 where
+  pub found : IsSome (map.get (table_of es) v)
+  pub place : IsPlaceOf v es i

@@ -7,8 +7,8 @@ ghost use Rattle.b2_alpha.specs.Values.{padded};
 ghost use Rattle.b2_vars.specs.Answers.{Answers, first_of};
 ghost use Rattle.b2_vars.specs.Calls.{ChangesTable, common_only, missing_code, no_array, no_cell, bad_dimensions, bad_length, not_common, other_shape, too_large, no_part, get_code};
 ghost use Rattle.b2_vars.specs.Shapes.{cell_at, has_cell};
-ghost use Rattle.b2_vars.specs.Tables.{table_of, costs, count_of, shape_at, variable_at, IsPlaceOf};
-ghost use Rattle.b2_vars.specs.Variables.{with_number, with_bytes, reshaped};
+ghost use Rattle.b2_vars.specs.Tables.{table_of, costs, count_of, shape_at, variable_at, IsEntryOf, IsPlaceOf, IsVariable};
+ghost use Rattle.b2_vars.specs.Variables.{number_at, with_number, with_bytes, reshaped};
 
 use crate::name::Var;
 use crate::shape::{
@@ -106,6 +106,32 @@ pub fn cell_of(table: &Table, v: Var, r: u16, c: u16) -> Result<usize, Code>
     require_cell(table, v, r, c)
 }
 
+/// P59 or P57 exactly where a name has no such value.
+pub fn require_value(table: &Table, v: Var, r: u16, c: u16) -> Result<(), Code>
+    requires { (q : Var) → IfSome (map.get (table_of table.now.entries) q) (IsVariable q) }
+    ensures { Answers (get_code v r c (table_of table.now.entries)) result }
+{
+    if !v.array && r == 0 && c == 0 {
+        return Ok(());
+    }
+    cell_of(table, v, r, c)?;
+    Ok(())
+}
+
+/// The place of a value along the rows of the variable at a place of the entries, P57 exactly where it has none.
+pub fn cell_in(table: &Table, v: Var, i: usize, r: u16, c: u16) -> Result<usize, Code>
+    requires { IsEntryOf v table.now.entries i }
+    ensures place { IfOk result (λ cell. cell ≡ cell_at (shape_at v (table_of table.now.entries)) r c) }
+    ensures there { OnOk result (has_cell (shape_at v (table_of table.now.entries)) r c ≡ true) }
+    ensures code { Answers (get_code v r c (table_of table.now.entries)) result }
+{
+    let shape = table[i].shape();
+    if !has_cell(shape, r, c) {
+        return Err(Code::known(P57_SUBSCRIPT));
+    }
+    Ok(cell_at(shape, r, c))
+}
+
 /// P34 exactly where the values of a name have no such part.
 pub fn require_part(table: &Table, v: Var, from: usize, n: usize) -> Result<(), Code>
     ensures { Answers (no_part v from n (table_of table.now.entries)) result }
@@ -198,6 +224,25 @@ pub fn retain_common(table: &mut Table)
             ensures { (result ≡ variable.old.common) × (variable.new ≡ variable.old) }
         { variable.is_common() },
     );
+}
+
+/// The number at a place of the variable at a place of the entries.
+pub fn number_in(table: &Table, v: Var, i: usize, cell: usize) -> Dec
+    requires entry { IsEntryOf v table.now.entries i }
+    requires room { cell < length (variable_at v (table_of table.now.entries)).numbers }
+    ensures { result ≡ number_at cell (map.get (table_of table.now.entries) v) }
+{
+    table[i].number(cell)
+}
+
+/// Puts a number in its place in the variable at a place of the entries.
+pub fn set_number_in(table: &mut Table, v: Var, i: usize, cell: usize, n: Dec)
+    requires entry { IsEntryOf v table.old.entries i }
+    requires room { cell < length (variable_at v (table_of table.old.entries)).numbers }
+    ensures { table_of table.new.entries ≡ map.insert (table_of table.old.entries) v (with_number cell n (variable_at v (table_of table.old.entries))) }
+{
+    let variable = &mut table[i];
+    variable.set_number(cell, n);
 }
 
 /// Puts a number in its place.

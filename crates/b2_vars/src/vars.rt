@@ -102,10 +102,15 @@ impl Vars {
         ensures value { IfOk result (λ x. x ≡ number_at (cell_at (shape_at v self.now.table) r c) (map.get self.now.table v)) }
         ensures code { Answers (get_code v r c self.now.table) result }
     {
-        let cell = table::cell_of(&self.table, v, r, c)?;
-        match table::look(&self.table, v) {
-            Some(variable) => Ok(variable.number(cell)),
-            None => Ok(Dec::zero()),
+        match table::entry_index(&self.table, v) {
+            Some(i) => {
+                let cell = table::cell_in(&self.table, v, i, r, c)?;
+                Ok(table::number_in(&self.table, v, i, cell))
+            }
+            None => {
+                table::cell_of(&self.table, v, r, c)?;
+                Ok(Dec::zero())
+            }
         }
     }
 
@@ -148,9 +153,22 @@ impl Vars {
         ensures code { AnswersOrFails (set_code v r c self.old) result }
         ensures err { OnErr result (self.new ≡ self.old) }
     {
-        let cell = self.reach(v, r, c)?;
-        self.put_number(v, cell, n);
-        Ok(())
+        match table::entry_index(&self.table, v) {
+            Some(i) => {
+                let cell = table::cell_in(&self.table, v, i, r, c)?;
+                table::set_number_in(&mut self.table, v, i, cell, n);
+                Ok(())
+            }
+            None => self.set_new_number(v, r, c, n),
+        }
+    }
+
+    /// Reaches a value, as `get`, and doesn't read it.
+    pub fn reach_value(&self, v: Var, r: u16, c: u16) -> Result<(), Code>
+        requires { is_legal_name v ≡ true }
+        ensures { Answers (get_code v r c self.now.table) result }
+    {
+        table::require_value(&self.table, v, r, c)
     }
 
     /// Assigns bytes to an alpha value, as `set`.
@@ -346,6 +364,19 @@ impl Vars {
     {
         let shape = table::shape_at(&self.table, v);
         cell_at(shape, r, c) * usize::from(shape.len) + from
+    }
+
+    /// Assigns a number to a variable that may not be there.
+    fn set_new_number(&mut self, v: Var, r: u16, c: u16, n: Dec) -> Result<(), Fault>
+        requires named { is_legal_name v ≡ true }
+        requires number { v.alpha ≡ false }
+        ensures ok { OnOk result (self.new ≡ with_change v (with_number (cell_at (shape_at v self.old.table) r c) n) (with_scalar v self.old)) }
+        ensures code { AnswersOrFails (set_code v r c self.old) result }
+        ensures err { OnErr result (self.new ≡ self.old) }
+    {
+        let cell = self.reach(v, r, c)?;
+        self.put_number(v, cell, n);
+        Ok(())
     }
 
     /// Puts a number in its place.
