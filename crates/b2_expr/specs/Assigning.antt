@@ -126,6 +126,14 @@ ChangesBuffer gives (buffer_kind.Value to) old new =
     ChangesPart gives to.element.var (part_place to.element.var to.element.row to.element.column to.portion.from (reached_by to old).table) to.portion.count (reached_by to old) new
 ChangesBuffer gives (buffer_kind.Array a) old new = ChangesPart gives a.var 0 (length (variable_at a.var old.table).bytes) old new
 
+-- what comes after an assignment, where it had no code
+abbrev pub unless_coded : Option ℕ → VarsState → (VarsState → Assigned) → Assigned
+unless_coded None vars next = next vars
+unless_coded (Some code) vars next = record { vars = vars; code = Some code }
+
+abbrev pub then_assigned : Assigned → (VarsState → Assigned) → Assigned
+then_assigned a next = unless_coded a.code a.vars next
+
 -- how an assignment ended: without a code, or with one; where memory failed it did not
 abbrev pub HasCode : Fault → Option ℕ → Type 0
 HasCode (fault.Code c) code = code ≡ Some c

@@ -38,7 +38,7 @@ pub use assign::{
     code_of_fault, is_reached,
 };
 pub use functions::{fixed, whole_between};
-pub use named::Element;
+pub use named::{Element, variable_of};
 pub use operations::{AlphaOperator, Operation, RightSide, is_right_side_read};
 pub use operators::Level;
 pub use passing::{past_alpha_receiver, past_any_receiver, past_number_receiver};

@@ -82,7 +82,10 @@ impl<'a> Located<'a> {
         ensures { result ≡ (number_there (place_seen self.now) >>= (λ x. Ok self.now.element)) }
     {
         let element = self.element;
-        match self.vars.reach_value(element.var, element.row, element.column) {
+        match self
+            .vars
+            .reach_value(element.var, element.row, element.column)
+        {
             Ok(()) => Ok(element),
             Err(code) => Err(code),
         }

@@ -11,20 +11,20 @@ use Rattle.b2_rows.specs.Choices.{ReadAs, first_branch, second_branch}
 use Rattle.b2_rows.proofs.Choices.{either_first, either_second}
 use Rattle.b2_text.specs.Program.{TextState}
 use Rattle.b2_vars.specs.Tables.{VarsState}
-use Rattle.b2_expr.specs.Assigning.{Assigned}
-use Rattle.b2_stmt.specs.Assignments.{and_then, assign_each, assign_numbers, assign_sides, assigns, unless_coded}
+use Rattle.b2_expr.specs.Assigning.{Assigned, then_assigned, unless_coded}
+use Rattle.b2_stmt.specs.Assignments.{assign_each, assign_numbers, assign_sides, assigns}
 use Rattle.b2_vars.specs.declared.setting.Setting.{Setting}
 
 -- the first receiver, and the others
 pub one_more : (one : Trees → VarsState → Assigned) (t : Trees) (ts : List Trees) (old new : VarsState) (code : Option ℕ) → record { vars = new; code = code } ≡ one t old → code ≡ None
     → assign_each one ts new ≡ assign_each one (t ∷ ts) old
 one_more one t ts old new code is none =
-    sym (ap (λ (c : Option ℕ). unless_coded c new (assign_each one ts)) none) ∙ ap (λ (a : Assigned). and_then a (assign_each one ts)) is
+    sym (ap (λ (c : Option ℕ). unless_coded c new (assign_each one ts)) none) ∙ ap (λ (a : Assigned). then_assigned a (assign_each one ts)) is
 
 pub one_coded : (one : Trees → VarsState → Assigned) (t : Trees) (ts : List Trees) (old new : VarsState) (code : Option ℕ) (c : ℕ) → record { vars = new; code = code } ≡ one t old → code ≡ Some c
     → assign_each one (t ∷ ts) old ≡ record { vars = new; code = code }
 one_coded one t ts old new code c is some =
-    sym (ap (λ (a : Assigned). and_then a (assign_each one ts)) is)
+    sym (ap (λ (a : Assigned). then_assigned a (assign_each one ts)) is)
     ∙ ap (λ (o : Option ℕ). unless_coded o new (assign_each one ts)) some
     ∙ ap (λ (o : Option ℕ). record { vars = new; code = o }) (sym some)
 

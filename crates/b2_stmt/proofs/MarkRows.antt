@@ -32,13 +32,12 @@ use Rattle.b2_flow.specs.declared.frame.Frame.TheVariants.{Call}
 use Rattle.b2_flow.specs.declared.frame.Place.{Place}
 use Rattle.b2_text.specs.Program.{TextState}
 use Rattle.b2_vars.specs.Tables.{VarsState}
-use Rattle.b2_expr.specs.Assigning.{Assigned, assigned_value, is_alpha_receiver}
+use Rattle.b2_expr.specs.Assigning.{Assigned, assigned_value, is_alpha_receiver, then_assigned, unless_coded}
 use Rattle.b2_expr.specs.declared.receiver.Receiver.{Receiver}
 use Rattle.b2_expr.specs.declared.receiver.Receiver.TheVariants as receiver_kind
 use Rattle.b2_rows.proofs.RowsRead.{stands_of}
 use Rattle.b2_access.specs.declared.planned.Outcome.TheVariants as outcome
 use Rattle.b2_access.specs.declared.private.Private.{Private}
-use Rattle.b2_stmt.specs.Assignments.{and_then, unless_coded}
 use Rattle.b2_stmt.specs.Marked.{calls_mark, values_fit, number_called, parameters_of, receivers_in, tail_receivers, take_each, takes_values, takes_bytes}
 use Rattle.b2_stmt.specs.Reading.{suits}
 use Rattle.b2_rows.specs.CommaLists.{are_others, past_first, receivers_at, commas}
@@ -226,12 +225,12 @@ without_values one (t ∷ ts) xs vars is = ap (λ (ys : List Value). take_each o
 pub value_more : (one : One) (t : Trees) (ts : List Trees) (x : Value) (xs ys : List Value) (old new : VarsState) (code : Option ℕ) → ys ≡ x ∷ xs → record { vars = new; code = code } ≡ one t x old → code ≡ None
     → take_each one ts xs new ≡ take_each one (t ∷ ts) ys old
 value_more one t ts x xs ys old new code same is none =
-    sym (ap (λ (c : Option ℕ). unless_coded c new (take_each one ts xs)) none) ∙ ap (λ (a : Assigned). and_then a (take_each one ts xs)) is ∙ sym (ap (λ (zs : List Value). take_each one (t ∷ ts) zs old) same)
+    sym (ap (λ (c : Option ℕ). unless_coded c new (take_each one ts xs)) none) ∙ ap (λ (a : Assigned). then_assigned a (take_each one ts xs)) is ∙ sym (ap (λ (zs : List Value). take_each one (t ∷ ts) zs old) same)
 
 coded_by : (one : One) (t : Trees) (ts : List Trees) (x : Value) (xs : List Value) (old new : VarsState) (code : Option ℕ) (c : ℕ) → record { vars = new; code = code } ≡ one t x old → code ≡ Some c
     → take_each one (t ∷ ts) (x ∷ xs) old ≡ record { vars = new; code = code }
 coded_by one t ts x xs old new code c is some =
-    sym (ap (λ (a : Assigned). and_then a (take_each one ts xs)) is) ∙ ap (λ (o : Option ℕ). unless_coded o new (take_each one ts xs)) some ∙ ap (λ (o : Option ℕ). record { vars = new; code = o }) (sym some)
+    sym (ap (λ (a : Assigned). then_assigned a (take_each one ts xs)) is) ∙ ap (λ (o : Option ℕ). unless_coded o new (take_each one ts xs)) some ∙ ap (λ (o : Option ℕ). record { vars = new; code = o }) (sym some)
 
 pub value_coded : (one : One) (t : Trees) (ts : List Trees) (x : Value) (xs ys : List Value) (old new : VarsState) (code : Option ℕ) → ys ≡ x ∷ xs → record { vars = new; code = code } ≡ one t x old → is_some code ≡ true
     → record { vars = new; code = code } ≡ take_each one (t ∷ ts) ys old

@@ -8,7 +8,7 @@ use Rattle.b2_rows.specs.CommaLists.{after_all_listed, all_listed}
 use Rattle.b2_text.specs.Program.{TextState}
 use Rattle.b2_vars.specs.Tables.{VarsState}
 use Rattle.b2_expr.specs.Answers.{Answer}
-use Rattle.b2_expr.specs.Assigning.{Assigned, assigned_number, assigned_side}
+use Rattle.b2_expr.specs.Assigning.{Assigned, assigned_number, assigned_side, then_assigned}
 use Rattle.b2_expr.specs.Receivers.{alpha_receiver, number_receiver}
 use Rattle.b2_expr.specs.RightSide.{Side, right_side}
 use Rattle.b2_expr.specs.Value.{in_statement, value}
@@ -18,18 +18,10 @@ use Rattle.b2_expr.specs.declared.receiver.AlphaReceiver.{AlphaReceiver}
 use Rattle.b2_expr.specs.Scope.{surroundings_of}
 use Rattle.b2_vars.specs.declared.setting.Setting.{Setting}
 
--- what comes after an assignment, where it had no code
-abbrev pub unless_coded : Option ℕ → VarsState → (VarsState → Assigned) → Assigned
-unless_coded None vars next = next vars
-unless_coded (Some code) vars next = record { vars = vars; code = Some code }
-
-abbrev pub and_then : Assigned → (VarsState → Assigned) → Assigned
-and_then a next = unless_coded a.code a.vars next
-
 -- receivers are assigned from left to right, each among the variables as they then are, up to one with a code
 abbrev pub assign_each : (Trees → VarsState → Assigned) → List Trees → VarsState → Assigned
 assign_each one [] vars = record { vars = vars; code = None }
-assign_each one (t ∷ ts) vars = and_then (one t vars) (assign_each one ts)
+assign_each one (t ∷ ts) vars = then_assigned (one t vars) (assign_each one ts)
 
 -- the expression of an assignment of a number, and the right side of one of bytes
 abbrev pub sum_of_assignment : Trees → Trees

@@ -14,7 +14,7 @@ use Rattle.b2_text.specs.Program.{Lines, TextState}
 use Rattle.b2_text.specs.Spots.{first_opening, is_mark, or_else}
 use Rattle.b2_text.specs.declared.spots.Spot.{Spot}
 use Rattle.b2_vars.specs.Tables.{VarsState}
-use Rattle.b2_expr.specs.Assigning.{Assigned, assigned_value}
+use Rattle.b2_expr.specs.Assigning.{Assigned, assigned_value, then_assigned}
 use Rattle.b2_expr.specs.Receivers.{any_receiver}
 use Rattle.b2_expr.specs.Value.{in_statement}
 use Rattle.b2_expr.specs.declared.receiver.Receiver.{Receiver}
@@ -22,7 +22,6 @@ use Rattle.b2_access.specs.Partition.{setting_of}
 use Rattle.b2_access.specs.declared.planned.Outcome.TheVariants as outcome
 use Rattle.b2_access.specs.declared.private.Private.{Private}
 use Rattle.b2_expr.specs.Scope.{surroundings_of}
-use Rattle.b2_stmt.specs.Assignments.{and_then}
 use Rattle.b2_rows.specs.CommaLists.{all_listed}
 use Rattle.b2_stmt.specs.Reading.{suits}
 use Rattle.b2_access.specs.Planning.{Ended, goes_or, stays}
@@ -86,7 +85,7 @@ takes_value a home t x vars = value_to (any_receiver (in_statement (surroundings
 abbrev pub take_each : (Trees → Value → VarsState → Assigned) → List Trees → List Value → VarsState → Assigned
 take_each one [] xs vars = record { vars = vars; code = None }
 take_each one (t ∷ ts) [] vars = record { vars = vars; code = None }
-take_each one (t ∷ ts) (x ∷ xs) vars = and_then (one t x vars) (take_each one ts xs)
+take_each one (t ∷ ts) (x ∷ xs) vars = then_assigned (one t x vars) (take_each one ts xs)
 
 -- number and kinds are compared as a whole before any receiver takes its value
 abbrev pub takes_values : Setting → TextState → List Trees → List Value → VarsState → Assigned

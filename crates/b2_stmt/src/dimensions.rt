@@ -7,7 +7,6 @@ ghost use Rattle.b2_atom.specs.declared.rows.TheConstants as row;
 ghost use Rattle.b2_rows.specs.Optional.{after_maybe, maybe_part, maybe_tree};
 ghost use Rattle.b2_rows.specs.Rows.{after_part, is_part, tree_at};
 ghost use Rattle.b2_vars.specs.Names.{is_legal_name};
-ghost use Rattle.b2_expr.specs.Named.{variable_of as variable_named};
 ghost use Rattle.b2_expr.specs.Reads.{Gives};
 ghost use Rattle.b2_expr.specs.Scope.{surroundings};
 ghost use Rattle.b2_expr.specs.Value.{in_statement, value};
@@ -22,7 +21,7 @@ use b2_base::codes::{P50_DIMENSION, P53_LENGTH, X77_NO_PARTITION};
 use b2_base::lexical::dropped;
 use b2_base::{Code, NoMemory};
 use b2_dec::{Dec, fix, whole};
-use b2_expr::{Env, code_of, number, surroundings_of};
+use b2_expr::{Env, code_of, number, surroundings_of, variable_of};
 use b2_rows::{Name, alpha_name, is_alpha_at, is_at, is_numeric_at, numeric_name};
 use b2_text::Text;
 use b2_vars::{Setting, Shape, Var, Vars};
@@ -204,18 +203,6 @@ fn lone_shape_at<'t>(e: &Env<'_>, text: &'t [u8]) -> Result<(Shape, &'t [u8]), C
     match tested_length(true, whole(fix(x))) {
         Ok(len) => Ok((shape_of_length(len), rest)),
         Err(code) => Err(code),
-    }
-}
-
-/// The variable of a name, where it is known whether dimensions follow.
-fn variable_of(name: Name, array: bool) -> Var
-    ensures { result ≡ variable_named name array }
-{
-    Var {
-        letter: name.letter,
-        digit: name.digit,
-        alpha: name.alpha,
-        array,
     }
 }
 

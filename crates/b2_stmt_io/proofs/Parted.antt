@@ -9,8 +9,8 @@ use Rattle.b2_alpha.specs.Values.{value_of}
 use Rattle.b2_atom.specs.Words.{Text}
 use Rattle.b2_atom.specs.Tree.{Trees}
 use Rattle.b2_vars.specs.Tables.{VarsState}
-use Rattle.b2_expr.specs.Assigning.{Assigned}
-use Rattle.b2_stmt_io.specs.Inputs.{and_then, take_parts, unchanged, unless_coded}
+use Rattle.b2_expr.specs.Assigning.{Assigned, then_assigned, unless_coded}
+use Rattle.b2_stmt_io.specs.Inputs.{take_parts, unchanged}
 use Rattle.b2_rows.specs.CommaLists.{are_others, others_at, receivers_at}
 use Rattle.b2_stmt_io.specs.TypedText.{is_within_part, onto_first, typed_parts}
 use Rattle.b2_stmt_io.proofs.InputRows.{no_items, other_items}
@@ -51,7 +51,7 @@ abbrev One : Type 0
 One = Trees → List ℕ → VarsState → Assigned
 
 taken : (one : One) (t : Trees) (ts : List Trees) (line : List ℕ) (old : VarsState)
-    → take_parts one (t ∷ ts) (typed_parts line) old ≡ and_then (one t (take (width_of line) line) old) (take_parts one ts (further_parts (drop (width_of line) line)))
+    → take_parts one (t ∷ ts) (typed_parts line) old ≡ then_assigned (one t (take (width_of line) line) old) (take_parts one ts (further_parts (drop (width_of line) line)))
 taken one t ts line old = ap (λ (ps : List (List ℕ)). take_parts one (t ∷ ts) ps old) (parts_are line)
 
 pub part_more : (one : One) (t : Trees) (ts : List Trees) (line : List ℕ) (old new : VarsState) (code : Option ℕ)
@@ -59,14 +59,14 @@ pub part_more : (one : One) (t : Trees) (ts : List Trees) (line : List ℕ) (old
     → take_parts one ts (further_parts (drop (width_of line) line)) new ≡ take_parts one (t ∷ ts) (typed_parts line) old
 part_more one t ts line old new code is none =
     let next = take_parts one ts (further_parts (drop (width_of line) line)) in
-    sym (ap (λ (c : Option ℕ). unless_coded c new next) none) ∙ ap (λ (a : Assigned). and_then a next) is ∙ sym (taken one t ts line old)
+    sym (ap (λ (c : Option ℕ). unless_coded c new next) none) ∙ ap (λ (a : Assigned). then_assigned a next) is ∙ sym (taken one t ts line old)
 
 coded_by : (one : One) (t : Trees) (ts : List Trees) (line : List ℕ) (old new : VarsState) (code : Option ℕ) (c : ℕ)
     → record { vars = new; code = code } ≡ one t (take (width_of line) line) old → code ≡ Some c
     → take_parts one (t ∷ ts) (typed_parts line) old ≡ record { vars = new; code = code }
 coded_by one t ts line old new code c is some =
     let next = take_parts one ts (further_parts (drop (width_of line) line)) in
-    taken one t ts line old ∙ sym (ap (λ (a : Assigned). and_then a next) is) ∙ ap (λ (o : Option ℕ). unless_coded o new next) some ∙ ap (λ (o : Option ℕ). record { vars = new; code = o }) (sym some)
+    taken one t ts line old ∙ sym (ap (λ (a : Assigned). then_assigned a next) is) ∙ ap (λ (o : Option ℕ). unless_coded o new next) some ∙ ap (λ (o : Option ℕ). record { vars = new; code = o }) (sym some)
 
 pub part_coded : (one : One) (t : Trees) (ts : List Trees) (line : List ℕ) (old new : VarsState) (code : Option ℕ)
     → record { vars = new; code = code } ≡ one t (take (width_of line) line) old → is_some code ≡ true

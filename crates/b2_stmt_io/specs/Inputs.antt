@@ -7,7 +7,7 @@ use Rattle.b2_atom.specs.Tree.{Trees}
 use Rattle.b2_atom.specs.Tree.Trees.{In}
 use Rattle.b2_text.specs.Program.{TextState}
 use Rattle.b2_vars.specs.Tables.{VarsState}
-use Rattle.b2_expr.specs.Assigning.{Assigned}
+use Rattle.b2_expr.specs.Assigning.{Assigned, then_assigned}
 use Rattle.b2_stmt_io.specs.LineReading.{after_prompt}
 use Rattle.b2_rows.specs.CommaLists.{all_listed}
 use Rattle.b2_stmt_io.specs.Receiving.{assign_bytes, assign_number, unassigned}
@@ -17,14 +17,6 @@ use Rattle.b2_vars.specs.declared.setting.Setting.{Setting}
 -- nothing is assigned, without a code
 abbrev pub unchanged : VarsState → Assigned
 unchanged vars = record { vars = vars; code = None }
-
--- what comes after an assignment, where it had no code
-abbrev pub unless_coded : Option ℕ → VarsState → (VarsState → Assigned) → Assigned
-unless_coded None vars next = next vars
-unless_coded (Some code) vars next = record { vars = vars; code = Some code }
-
-abbrev pub and_then : Assigned → (VarsState → Assigned) → Assigned
-and_then a next = unless_coded a.code a.vars next
 
 -- a receiver of either kind takes a part without the blanks round it
 abbrev pub takes_some : Setting → TextState → List ℕ → Trees → VarsState → Assigned
@@ -41,7 +33,7 @@ takes_part a home t part vars = if length (skip_blanks part) == 0 then unchanged
 abbrev pub take_parts : (Trees → List ℕ → VarsState → Assigned) → List Trees → List (List ℕ) → VarsState → Assigned
 take_parts one [] parts vars = unchanged vars
 take_parts one (t ∷ ts) [] vars = unchanged vars
-take_parts one (t ∷ ts) (part ∷ parts) vars = and_then (one t part vars) (take_parts one ts parts)
+take_parts one (t ∷ ts) (part ∷ parts) vars = then_assigned (one t part vars) (take_parts one ts parts)
 
 abbrev pub takes_parts : Setting → TextState → List ℕ → Trees → VarsState → Assigned
 takes_parts a home line t vars = take_parts (takes_part a home) (all_listed (after_prompt t)) (typed_parts line) vars
