@@ -22,7 +22,7 @@ use b2_base::lexical::dropped;
 use b2_base::{Code, NoMemory};
 use b2_dec::{Dec, fix, whole};
 use b2_expr::{Env, code_of, number, surroundings_of, variable_of};
-use b2_rows::{Name, alpha_name, is_alpha_at, is_at, is_numeric_at, numeric_name};
+use b2_rows::{alpha_name, is_alpha_at, is_at, is_numeric_at, numeric_name};
 use b2_text::Text;
 use b2_vars::{Setting, Shape, Var, Vars};
 
