@@ -3,7 +3,7 @@
 //! A partition is `Private`: its variables, its frames, where it runs and what waits to be shown. A statement plans over that
 //! and over what is `Lent`: the texts of its home and of its own, and `@` variables. It ends at once or asks for one `Access`
 //! of an `Object`, of which there is an `Answer`. `Shared` is a store of any kind that serves accesses and lends. `DeviceTable`
-//! says which devices a partition may use. `statement_at` gives the statement at a place, `goal_place` the place to which a goal
+//! says which devices a partition may use. `statement_placed` gives the statement at a place, `goal_place` the place to which a goal
 //! on a line leads, and `to_line` and its like say so as the end of a statement.
 //!
 //! Stands on `b2_text`, `b2_vars` and `b2_flow` for what a partition has, on `b2_term` for terminals, on `b2_rows` for goals

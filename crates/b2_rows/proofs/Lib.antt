@@ -4,7 +4,8 @@
 -- Levels: what is read with fewer levels, parentheses and repetitions is read with more; what is left is no longer.
 -- Items: one reading after another, item by item. Standing: a row that is read stands item by item (`row_stands`).
 -- Lists: a repetition goes on where its row begins (`goes`) and ends elsewhere (`ended`).
--- Lengths: what is left after a row that takes a byte is shorter (`part_shorter`).
+-- Lengths: what is left after a row that takes a byte is shorter (`part_shorter`). RowsRead: the same of a row with its items;
+-- CommaLists: of lists with commas; ListEnds: trees after which nothing is put.
 -- Units: a unit of a line is a row that is read. Digits and Letters: the values of numbers and names that are typed.
 -- Links, ChainRows and Choices: what the rows of expressions and of lists say, over the table alone; EachChain and EachOperand
 -- have the same one fact at a time, as the tactics of functions want it.

@@ -12,7 +12,7 @@
 //! stands in it, and `next_unit`, `past_colon`, `after_false` and `taken_fault` give what follows it on its line.
 //!
 //! The definitions are in `specs/`: rows in `Rows`, what is typed by hand in `Leaves` and its values in `Values`, which rows
-//! take a byte in `Takes`, items after operators and commas in `Links` and `Chains`, choices in `Choices`, what follows a unit
+//! take a byte in `Takes`, items after operators and commas in `Links` and `Chains`, lists with commas in `CommaLists`, choices in `Choices`, what follows a unit
 //! in `Following`, and the laws in `Laws`. The crates above cite lemmas of `proofs/`, whose first page lists them.
 #![tactic(auto)]
 

@@ -1,7 +1,7 @@
 -- The proofs of statements, by what they are about.
 --
 -- GoalUnits: the units that goals name. Framed: frames that are put.
--- Commas: lists with commas. BranchRows, LoopRows, CallRows, CourseRows, ChoiceRows, ClearRows, NumberRows, SideRows, DataRows,
+-- BranchRows, LoopRows, CallRows, CourseRows, ChoiceRows, ClearRows, NumberRows, SideRows, DataRows,
 -- ReadRows, ArgumentRows and MarkRows have what the rows of statements say at their bytes, one fact at a time. Assigned:
 -- receivers one after the other. Changed: bytes that a call changes, and what is refused. BufferRows, TurnRows, DimensionRows
 -- and EntryRows: the rows of INIT, of ROTATE, and of DIM and COM. LengthRows: a length is read as a sum is. Executed: a unit by its row and its tree. Erased: what CLEAR P asks for. HomesKept:

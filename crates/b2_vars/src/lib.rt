@@ -1,5 +1,7 @@
 //! A partition's variables: one finite map from names to shapes and values, within an area of bytes.
 //!
+//! `Setting` says what the expressions of a partition look at beside its variables and a text.
+//!
 //! Stands on `b2_base` for codes and faults, on `b2_dec` for numbers and values, on `b2_alpha` for the padding of what is
 //! assigned, and on the toolchain's `indexmap`.
 //!
