@@ -41,8 +41,8 @@ sizes_fit p = is_between 2 24 p.text && (is_between 2 24 p.vars && nat_le p.glob
 abbrev pub has_row : ℕ → List TerminalRow → Bool
 has_row t rows = list_any (λ r. r.number == t) rows
 
-abbrev pub all_listed : List TerminalRow → List PartitionRow → Bool
-all_listed terminals partitions = list_all (λ p. has_row p.terminal terminals) partitions
+abbrev pub terminals_listed : List TerminalRow → List PartitionRow → Bool
+terminals_listed terminals partitions = list_all (λ p. has_row p.terminal terminals) partitions
 
 -- 8: each front is a partition of its terminal
 abbrev pub is_partition_at : ℕ → ℕ → List PartitionRow → Bool
@@ -83,7 +83,7 @@ ascending b = record { quota = b.quota; terminals = rows_up_to number_of_termina
 -- the checks of rows in ascending order
 abbrev pub checks_of_sorted : List TerminalRow → List PartitionRow → List (ℕ × Bool)
 checks_of_sorted terminals partitions =
-    (6, list_all sizes_fit partitions) ∷ (7, all_listed terminals partitions) ∷ (8, all_fronts_fit terminals partitions) ∷ []
+    (6, list_all sizes_fit partitions) ∷ (7, terminals_listed terminals partitions) ∷ (8, all_fronts_fit terminals partitions) ∷ []
 
 -- the checks of what a document says; those of sizes and between rows look at the rows in ascending order
 abbrev pub checks : RowsState → RowsState → List (ℕ × Bool)

@@ -24,9 +24,9 @@ abbrev pub text_lines : List ℕ → List (List ℕ)
 text_lines text = without_returns (pieces byte.newline text)
 
 -- the lines of what follows a newline, where there is one
-abbrev pub further_lines : Option (List ℕ) → List (List ℕ)
-further_lines None = []
-further_lines (Some rest) = text_lines rest
+abbrev pub lines_beyond : Option (List ℕ) → List (List ℕ)
+lines_beyond None = []
+lines_beyond (Some rest) = text_lines rest
 
 -- digits alone as their number, or as a million where it is above, which is out of each range
 abbrev pub digits_alone : List ℕ → Option ℕ

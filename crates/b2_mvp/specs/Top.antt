@@ -64,8 +64,8 @@ last_world r = world_after (boot_run r) r.events
 abbrev pub kept_of : {words : List (List ℕ)} {files : Option Files} → Runs words files → List Output
 kept_of r = outputs r.command.out (last_world r).store
 
-abbrev pub line_of : {words : List (List ℕ)} {files : Option Files} → Runs words files → List ℕ
-line_of r = summary (boot_run r) (last_world r)
+abbrev pub line_put : {words : List (List ℕ)} {files : Option Files} → Runs words files → List ℕ
+line_put r = summary (boot_run r) (last_world r)
 
 -- nothing was kept or put
 pub record IsUntouched (old new : ShelfSeen) (before after : SinkSeen) : Type 0 where
@@ -77,7 +77,7 @@ pub record IsUntouched (old new : ShelfSeen) (before after : SinkSeen) : Type 0 
 pub record IsRun (words : List (List ℕ)) (old new : ShelfSeen) (before after : SinkSeen) : Type 0 where
   pub run : Runs words old.files
   pub files : new.files ≡ with_files (kept_of run) old.files
-  pub written : after.written ≡ option_map (λ w. w ++ line_of run) before.written
+  pub written : after.written ≡ option_map (λ w. w ++ line_put run) before.written
   pub groups : GroupsShowAsAlone run.command.out (boot_run run) run.events
   pub listed : ListsTheClean (boot_run run) run.events
 
@@ -128,7 +128,7 @@ FailsOutput all line old new before after at shelf_cause sink_cause =
 -- a keep or the put of a run failed
 pub record IsCutOff (words : List (List ℕ)) (at : List ℕ) (old new : ShelfSeen) (before after : SinkSeen) (shelf_cause sink_cause : Type 0) : Type 0 where
   pub run : Runs words old.files
-  pub left : FailsOutput (kept_of run) (line_of run) old new before after at shelf_cause sink_cause
+  pub left : FailsOutput (kept_of run) (line_put run) old new before after at shelf_cause sink_cause
 
 -- when each status comes, over the words, the shelf and the sink before and after
 abbrev pub Comes : List (List ℕ) → ShelfSeen → ShelfSeen → SinkSeen → SinkSeen → Status → Type 0

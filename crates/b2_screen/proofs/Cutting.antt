@@ -4,7 +4,7 @@ use Rattle.std.proofs.Math.Seq.{drop-cons}
 use Rattle.std.proofs.lemmas.List.{append_assoc}
 use Rattle.b2_screen.specs.Sheet.{SheetState}
 use Rattle.b2_base.specs.Byte as byte
-use Rattle.b2_screen.specs.Shown.{ScreenItem, nothing, BytesRead, ScreenState, is_kind, item_of, item_of_kind, after_item, bytes_read, read_after_escape, read_of_kind, effect, effects, fed, read_onto, shown, blank_screen, sequence_bytes}
+use Rattle.b2_screen.specs.Shown.{ScreenItem, nothing, BytesRead, ScreenState, is_kind, byte_item, item_of_kind, after_item, bytes_read, read_after_escape, read_of_kind, effect, effects, fed, read_onto, screen_after, blank_screen, sequence_bytes}
 use Rattle.b2_screen.proofs.Places.{one_more}
 use Rattle.b2_screen.specs.declared.sequence.SequenceKind.TheVariants as kind
 use Rattle.b2_screen.specs.declared.sequence.Sequence.{Sequence}
@@ -18,11 +18,11 @@ read_on r bytes = record { items = r.items ++ (bytes_read (r.rest ++ bytes)).ite
 by_escape : (test : Bool) (b : ℕ) (xs ys : List ℕ)
     → read_on (read_after_escape xs) ys ≡ read_after_escape (xs ++ ys)
     → read_on (bytes_read xs) ys ≡ bytes_read (xs ++ ys)
-    → read_on (if test then read_after_escape xs else after_item (item_of b) (bytes_read xs)) ys
-    ≡ (if test then read_after_escape (xs ++ ys) else after_item (item_of b) (bytes_read (xs ++ ys)))
+    → read_on (if test then read_after_escape xs else after_item (byte_item b) (bytes_read xs)) ys
+    ≡ (if test then read_after_escape (xs ++ ys) else after_item (byte_item b) (bytes_read (xs ++ ys)))
 unfolding read_on
 by_escape true b xs ys h k = h
-by_escape false b xs ys h k = ap (after_item (item_of b)) k
+by_escape false b xs ys h k = ap (after_item (byte_item b)) k
 
 by_kind : (test : Bool) (k : ℕ) (xs ys : List ℕ) → is_kind k ≡ test
     → (is_kind k ≡ true → read_on (read_of_kind k xs) ys ≡ read_of_kind k (xs ++ ys))
@@ -81,5 +81,5 @@ fed_nothing sheet (sequence.WithFirst kind.Placing a) = refl
 fed_nothing sheet (sequence.WithFirst kind.Outline a) = refl
 
 -- the law of cuts, for the bytes before and those of a call
-pub shown_on : (before bytes : List ℕ) (old new : ScreenState) → new ≡ fed bytes old → old ≡ shown before → new ≡ shown (before ++ bytes)
+pub shown_on : (before bytes : List ℕ) (old new : ScreenState) → new ≡ fed bytes old → old ≡ screen_after before → new ≡ screen_after (before ++ bytes)
 shown_on before bytes old new h k = h ∙ ap (fed bytes) k ∙ fed_cut before bytes blank_screen

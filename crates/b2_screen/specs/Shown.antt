@@ -38,8 +38,8 @@ pub data ScreenItem : Type 0 where
   nothing : ScreenItem
 
 -- the item that a byte is by itself
-abbrev pub item_of : ℕ → ScreenItem
-item_of b =
+abbrev pub byte_item : ℕ → ScreenItem
+byte_item b =
     if is_printable b then glyph b
     else (if b == home then move_home
     else (if b == clear then wipe
@@ -89,7 +89,7 @@ item_of_kind k a b = if k == byte.upper_a then placing a b else outline a b
 unfoldable mutual
   pub bytes_read : List ℕ → BytesRead
   bytes_read [] = unfinished []
-  bytes_read (b ∷ bs) = if b == byte.escape then read_after_escape bs else after_item (item_of b) (bytes_read bs)
+  bytes_read (b ∷ bs) = if b == byte.escape then read_after_escape bs else after_item (byte_item b) (bytes_read bs)
 
   pub read_after_escape : List ℕ → BytesRead
   read_after_escape [] = unfinished (byte.escape ∷ [])
@@ -116,8 +116,8 @@ abbrev pub blank_screen : ScreenState
 blank_screen = record { sheet = blank_sheet; rest = [] }
 
 -- the screen that a list of bytes leaves
-abbrev pub shown : List ℕ → ScreenState
-shown bytes = fed bytes blank_screen
+abbrev pub screen_after : List ℕ → ScreenState
+screen_after bytes = fed bytes blank_screen
 
 -- the bytes of a sequence that is not finished
 abbrev pub kind_byte : SequenceKind → ℕ

@@ -6,7 +6,7 @@
 #![tactic(auto)]
 
 ghost use Rattle.std.specs.Prelude.{◌≡◌, ◌≤◌, ◌<◌, List, ℕ, [], ◌++◌, get_or, length};
-ghost use Rattle.b2_screen.specs.Shown.{fed, shown, blank_screen};
+ghost use Rattle.b2_screen.specs.Shown.{fed, screen_after, blank_screen};
 
 use std::marker::Model;
 
@@ -38,7 +38,7 @@ impl Screen {
     #[tactic(auto, unfolding(crate::specs::Shown::bytes_read, crate::specs::Shown::effects))]
     pub fn new() -> Screen
         ensures blank { result ≡ blank_screen }
-        ensures nothing_shown { result ≡ shown [] }
+        ensures nothing_shown { result ≡ screen_after [] }
     {
         Screen {
             sheet: Sheet::new(),
@@ -49,7 +49,7 @@ impl Screen {
     /// Shows bytes. A sequence may begin in one call and end in another.
     pub fn feed(&mut self, bytes: &[u8])
         ensures after { self.new ≡ fed bytes.now self.old }
-        ensures however_cut { (before : List ℕ) → self.old ≡ shown before → self.new ≡ shown (before ++ bytes.now) }
+        ensures however_cut { (before : List ℕ) → self.old ≡ screen_after before → self.new ≡ screen_after (before ++ bytes.now) }
     {
         feed_bytes(&mut self.sheet, &mut self.sequence, bytes);
     }

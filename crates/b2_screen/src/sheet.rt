@@ -3,7 +3,7 @@ ghost use Rattle.std.specs.Prelude.{◌≡◌, false, ◌≤◌, ◌<◌, ◌∷
 ghost use Rattle.b2_base.specs.Lexical as lexical;
 ghost use Rattle.b2_screen.specs.Sheet as spec;
 ghost use Rattle.b2_screen.specs.Sheet.{blank_sheet, scrolled, glyph_written, on_next_row, cursor_placed, outlined, outlined_row, each_from, IsDrawable};
-ghost use Rattle.b2_screen.specs.Shown.{effect, item_of};
+ghost use Rattle.b2_screen.specs.Shown.{effect, byte_item};
 
 use b2_base::lexical::is_printable;
 use std::marker::Model;
@@ -212,7 +212,7 @@ impl Sheet {
     /// Does what a byte that moves the cursor does.
     fn control(&mut self, byte: u8)
         requires { lexical.is_printable byte ≡ false }
-        ensures { self.new ≡ effect (item_of byte) self.old }
+        ensures { self.new ≡ effect (byte_item byte) self.old }
     {
         match byte {
             HOME => {
@@ -231,7 +231,7 @@ impl Sheet {
 
     /// Shows a byte by itself.
     pub fn show(&mut self, byte: u8)
-        ensures { self.new ≡ effect (item_of byte) self.old }
+        ensures { self.new ≡ effect (byte_item byte) self.old }
     {
         if is_printable(byte) {
             self.write(byte);

@@ -24,7 +24,7 @@ use crate::course::{
     clear, line_to_restore, line_to_run, restore, resume, run, select, stop, stop_text,
     text_of_stop,
 };
-use crate::loops::{Loop, begin, counter_at, loop_at, next};
+use crate::loops::{Loop, begin_loop, counter_at, loop_at, next};
 use crate::marked::{call_mark, number_called};
 use b2_access::{Outcome, Private, failed, failing, place_after, to_found, to_goal, to_line};
 use b2_atom::{Atoms, rows};
@@ -290,7 +290,7 @@ pub fn do_asked(
 {
     match asked {
         Asked::Nothing(outcome) => Ok(outcome),
-        Asked::Begin(l, body) => begin(me, l, body),
+        Asked::Begin(l, body) => begin_loop(me, l, body),
         Asked::Next(v) => next(me, v),
         Asked::Call(n, back) => Ok(call_line(me, home, place, n, back)),
         Asked::Return => Ok(go_back(me)),

@@ -38,7 +38,7 @@ pub struct Turn {
 
 /// Fills a buffer with a byte. The code with which that ended, or none.
 #[tactic(auto, using(crate::proofs::Changed::changed_so))]
-fn fill(vars: &mut Vars, to: &Buffer, byte: u8) -> Result<Option<Code>, NoMemory>
+fn fill_buffer(vars: &mut Vars, to: &Buffer, byte: u8) -> Result<Option<Code>, NoMemory>
     requires named { IsBuffer to.now }
     ensures { IfOk result (λ code. record { vars = vars.new; code = code } ≡ spec.bytes_changed (spec.all_filled byte) to.now vars.old) }
 {
@@ -75,7 +75,7 @@ pub fn init(
             Ok(to) => to,
             Err(code) => return Ok(Some(code)),
         };
-        let code = fill(vars, &to, byte)?;
+        let code = fill_buffer(vars, &to, byte)?;
         if code.is_some() {
             return Ok(code);
         }

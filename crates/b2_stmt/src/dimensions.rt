@@ -281,7 +281,7 @@ fn dimensioned_at<'t>(e: &Env<'_>, text: &'t [u8]) -> Result<(Entry, &'t [u8]), 
 
 /// Makes a variable. The code with which that ended, or none.
 #[tactic(auto, using(crate::proofs::Changed::kept_so))]
-fn make(vars: &mut Vars, common: bool, entry: Entry) -> Result<Option<Code>, NoMemory>
+fn make_entry(vars: &mut Vars, common: bool, entry: Entry) -> Result<Option<Code>, NoMemory>
     requires named { is_legal_name entry.var ≡ true }
     ensures { IfOk result (λ code. record { vars = vars.new; code = code } ≡ spec.makes common entry vars.old) }
 {
@@ -305,7 +305,7 @@ pub fn dim(vars: &mut Vars, a: &Setting, home: &Text, unit: &[u8]) -> Result<Opt
             Ok(found) => found,
             Err(code) => return Ok(Some(code)),
         };
-        let code = make(vars, common, entry)?;
+        let code = make_entry(vars, common, entry)?;
         if code.is_some() {
             return Ok(code);
         }

@@ -128,7 +128,7 @@ fn drop_loop(stack: &mut Stack, v: Var2)
 }
 
 /// Begins a loop whose body stands at a place.
-pub fn begin(me: &mut Private, l: Loop, body: Place) -> Result<Outcome, NoMemory>
+pub fn begin_loop(me: &mut Private, l: Loop, body: Place) -> Result<Outcome, NoMemory>
     requires named { is_legal_name (scalar_of l.var) ≡ true }
     ensures ended { IfOk result (λ o. record { me = me.new; outcome = o } ≡ spec.loop_begins l body me.old) }
     ensures part { me.new.part ≡ me.old.part }

@@ -248,7 +248,8 @@ fn a_group_runs_alone(rt: HostRuntime) -> Result<(), Fail> {
 }
 
 // Two clerks at terminals of their own, and a partition that shares the first one's terminal and never has it.
-const CLERKS: &[u8] = b"type 1 10 INPUT \"NAME\",N$:PRINTUSING 20,N$\ntype 1 20 %<####>\ntype 2 10 LINPUT \"TEXT\",A$:PRINT A$\nrounds 1\ntype 1 RUN\ntype 2 RUN\nrounds 1\ntype 2 a, b\ntype 1  smith\nturn 2 1\nturn 3 1\nturn 1 1\nturn 1 1\nturn 16 3\nturn 2 1\nrounds 2\nreset 3\nrounds 1";
+const CLERKS: &[u8] =
+    b"type 1 10 INPUT \"NAME\",N$:PRINTUSING 20,N$\ntype 1 20 %<####>\ntype 2 10 LINPUT \"TEXT\",A$:PRINT A$\nrounds 1\ntype 1 RUN\ntype 2 RUN\nrounds 1\ntype 2 a, b\ntype 1  smith\nturn 2 1\nturn 3 1\nturn 1 1\nturn 1 1\nturn 16 3\nturn 2 1\nrounds 2\nreset 3\nrounds 1";
 
 // A boot file for it, a list of partitions that is a clean group there, and the terminals at which none but these wrote.
 const CLEAN: [(&[u8], &[u8], &[&[u8]]); 8] = [
@@ -271,10 +272,16 @@ fn a_clean_group_shows_the_same_alone(rt: HostRuntime) -> Result<(), Fail> {
         let mut apart = shelf(alloc, Some(boot), Some(CLERKS), &[])?;
         let mut sink = MemSink::new(alloc, Vec::new(alloc));
         let words = alone_words(alloc, parts)?;
-        assert_eq!(rt; mvp(alloc, &run_words(alloc)?, &mut common, &mut sink).number(), 0);
+        assert_eq!(rt;
+            mvp(alloc, &run_words(alloc)?, &mut common, &mut sink).number(),
+            0
+        );
         assert_eq!(rt; mvp(alloc, &words, &mut apart, &mut sink).number(), 0);
         for name in *names {
-            assert_eq!(rt; apart.file(name).unwrap_or(b"none"), common.file(name).unwrap_or(b""));
+            assert_eq!(rt;
+                apart.file(name).unwrap_or(b"none"),
+                common.file(name).unwrap_or(b"")
+            );
             assert!(rt; common.file(name).unwrap_or(b"").len() > 6);
         }
     }
