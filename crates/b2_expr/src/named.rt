@@ -1,8 +1,7 @@
 // Variables by their names as they are written.
 ghost use Rattle.std.specs.Prelude.{◌≡◌, ◌≤◌, true, false, length, MatchResult, IfOk, Ok, Err};
 ghost use Rattle.b2_vars.specs.Names.{is_legal_name};
-ghost use Rattle.b2_expr.specs.Answers.{◌>>=◌};
-ghost use Rattle.b2_expr.specs.Named.{bytes_there, is_alpha_kind, number_there, place_seen, variable_of};
+ghost use Rattle.b2_expr.specs.Named.{bytes_there, element_there, is_alpha_kind, number_there, place_seen, variable_of};
 
 use b2_base::Code;
 use b2_dec::Dec;
@@ -79,7 +78,7 @@ impl<'a> Located<'a> {
     /// A numeric element that is there, whose number isn't read. P59 and P57 come as for its number.
     pub fn reached(&self) -> Result<Element, Code>
         requires named { is_legal_name self.now.element.var ≡ true }
-        ensures { result ≡ (number_there (place_seen self.now) >>= (λ x. Ok self.now.element)) }
+        ensures { result ≡ element_there (place_seen self.now) }
     {
         let element = self.element;
         match self
