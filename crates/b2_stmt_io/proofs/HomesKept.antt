@@ -1,5 +1,5 @@
 -- A statement at the terminal names no partition as a home but its own and those that were named before.
-use Rattle.std.proofs.Common.{◌≡◌, ℕ, ◌==◌, ◌||◌, ◌%◌, ◌∙◌, refl, sym, ap, Bool, true, false, if◌then◌else◌, List, Option, Some, None, is_some, Result, Ok, Err}
+use Rattle.std.proofs.Common.{◌≡◌, ℕ, ◌==◌, ◌||◌, ◌%◌, ◌∙◌, refl, sym, ap, Bool, true, false, if◌then◌else◌, List, Option, Some, None, is_some}
 use Rattle.std.specs.Prelude.{◌-◌, ◌^◌}
 use Rattle.std.proofs.Math.Nat.{zero-div}
 use Rattle.b2_atom.specs.Tree.{Trees}
