@@ -37,8 +37,8 @@ pub fn number_receiver_at<'a>(s: &Scope<'_>, text: &'a [u8]) -> Result<(Element,
         Ok(found) => found,
         Err(code) => return Err(code),
     };
-    match located.number() {
-        Ok(_) => Ok((located.element, rest)),
+    match located.reached() {
+        Ok(element) => Ok((element, rest)),
         Err(code) => Err(code),
     }
 }
