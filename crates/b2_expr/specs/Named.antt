@@ -14,7 +14,7 @@ use Rattle.b2_atom.specs.declared.words.Origin.TheVariants.{Atoms}
 use Rattle.b2_atom.specs.declared.forms.Leaf.{Leaf}
 use Rattle.b2_atom.specs.declared.forms.Leaf.TheVariants as leaf
 use Rattle.b2_rows.specs.declared.leaves.Name.{Name}
-use Rattle.b2_expr.specs.Answers.{Answer, TextAnswer, ◌>>=◌, unless, or_code}
+use Rattle.b2_expr.specs.Answers.{Answer, TextAnswer, unless, or_code}
 use Rattle.b2_expr.specs.Scope.{Surroundings}
 use Rattle.b2_expr.specs.declared.named.Element.{Element}
 use Rattle.b2_expr.specs.declared.named.Located.{Located}
@@ -47,10 +47,6 @@ number_there l = there number_at l
 -- all bytes of an element
 abbrev pub bytes_there : Place → TextAnswer
 bytes_there l = there alpha_at l
-
--- an element that is there, whatever its number is
-abbrev pub element_there : Place → Result Element ℕ
-element_there l = number_there l >>= (λ x. Ok l.element)
 
 -- the row of a name with subscripts or none, and whether it has a `$`
 abbrev pub name_row : NameKind → ℕ

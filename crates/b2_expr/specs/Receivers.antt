@@ -17,7 +17,7 @@ use Rattle.b2_rows.specs.Values.{variable_name}
 use Rattle.b2_rows.specs.declared.leaves.Name.{Name}
 use Rattle.b2_expr.specs.Answers.{◌>>=◌, unless}
 use Rattle.b2_expr.specs.Functions.{whole_between}
-use Rattle.b2_expr.specs.Named.{variable_of, variables_of, number_there, bytes_there}
+use Rattle.b2_expr.specs.Named.{Place, variable_of, variables_of, number_there, bytes_there}
 use Rattle.b2_expr.specs.Scope.{Surroundings, Context}
 use Rattle.b2_expr.specs.Value.{value, second, located, token_text}
 use Rattle.b2_expr.specs.declared.operators.Level.TheVariants as level
@@ -39,9 +39,13 @@ portion_count left (Some y) = whole_between 1 left y
 abbrev pub portion_of : ℕ → Number → Option Number → Result Portion ℕ
 portion_of n x y = whole_between 1 n x >>= (λ s. portion_count (n - (s - 1)) y >>= (λ k. Ok (record { from = s - 1; count = k })))
 
+-- a numeric element that is there, whose number isn't looked at
+abbrev pub element_there : Place → Result Element ℕ
+element_there l = number_there l >>= (λ x. Ok l.element)
+
 -- a number: P59 and P57 where its value would have them
 unfoldable pub number_receiver : Context → Trees → Result Element ℕ
-number_receiver s t = located s false t >>= (λ p. number_there p >>= (λ x. Ok p.element))
+number_receiver s t = located s false t >>= element_there
 
 -- all bytes of an alpha value
 unfoldable pub whole_value : Context → Trees → Result AlphaReceiver ℕ

@@ -1,7 +1,8 @@
 // Variables by their names as they are written.
 ghost use Rattle.std.specs.Prelude.{◌≡◌, ◌≤◌, true, false, length, MatchResult, IfOk, Ok, Err};
 ghost use Rattle.b2_vars.specs.Names.{is_legal_name};
-ghost use Rattle.b2_expr.specs.Named.{bytes_there, element_there, is_alpha_kind, number_there, place_seen, variable_of};
+ghost use Rattle.b2_expr.specs.Named.{bytes_there, is_alpha_kind, number_there, place_seen, variable_of};
+ghost use Rattle.b2_expr.specs.Receivers.{element_there};
 
 use b2_base::Code;
 use b2_dec::Dec;
@@ -78,7 +79,8 @@ impl<'a> Located<'a> {
     /// A numeric element that is there, whose number isn't read. P59 and P57 come as for its number.
     pub fn reached(&self) -> Result<Element, Code>
         requires named { is_legal_name self.now.element.var ≡ true }
-        ensures { result ≡ element_there (place_seen self.now) }
+        ensures there { result ≡ element_there (place_seen self.now) }
+        ensures same { IfOk result (λ element. element ≡ self.now.element) }
     {
         let element = self.element;
         match self
