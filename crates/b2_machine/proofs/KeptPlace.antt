@@ -42,6 +42,7 @@ use Rattle.b2_machine.specs.Statements.{begins_where, begun_by, builder_of, fini
 use Rattle.b2_stmt_io.specs.Showing.{shown}
 use Rattle.b2_stmt_io.specs.Marks.{typed_by_mark}
 use Rattle.b2_access.specs.declared.lending.At.TheVariants as at
+use Rattle.b2_access.proofs.Choice.{either}
 use Rattle.b2_machine.specs.Step.{acts, by_itself, halts_or_acts, enters_or_goes_on, executes, goes_through, line_read, runs_or_reads, seen_by, shows_or_goes_on, step, text_in, types_or_goes_on}
 use Rattle.b2_machine.specs.Typing.{on_own_line, put_by, shown_by, takes, takes_or_refuses, typed_by_key}
 use Rattle.b2_machine.specs.Turn.{TurnEnd, counted_on, ended_turn as turn_ended, turn, turn_from, unless_ended}
@@ -49,11 +50,6 @@ use Rattle.b2_machine.specs.declared.ends.Stepped.{Stepped}
 use Rattle.b2_machine.specs.declared.ends.Why.{Why}
 use Rattle.b2_machine.specs.declared.statements.Builder.{Builder}
 use Rattle.b2_machine.specs.declared.statements.Builder.TheVariants as builder
-
--- one thing or another
-either : {A : Type 0} (F : A → Type 0) (b : Bool) (x y : A) → F x → F y → F (if b then x else y)
-either F true x y h k = h
-either F false x y h k = k
 
 false_is_true : false ≡ true → ⊥
 false_is_true h = cc

@@ -36,6 +36,7 @@ use Rattle.b2_access.specs.declared.planned.Outcome.TheVariants as outcome
 use Rattle.b2_access.specs.declared.planned.Planned.{Planned}
 use Rattle.b2_access.specs.declared.planned.Planned.TheVariants as planned
 use Rattle.b2_access.specs.declared.private.Private.{Private}
+use Rattle.b2_access.proofs.Choice.{either}
 use Rattle.b2_stmt.proofs.HomesKept as stmt_homes
 use Rattle.b2_stmt_io.specs.Marks.{typed_by_mark}
 use Rattle.b2_stmt_io.proofs.HomesKept as stmt_io_homes
@@ -54,10 +55,6 @@ use Rattle.b2_machine.specs.declared.statements.Builder.TheVariants as builder
 use Rattle.b2_machine.specs.declared.statements.Course.{Course}
 use Rattle.b2_machine.specs.declared.statements.Course.TheVariants as course
 use Rattle.b2_stmt_io.specs.Showing.{shown}
-
-either : {A : Type 0} (F : A → Type 0) (b : Bool) (x y : A) → F x → F y → F (if b then x else y)
-either F true x y h k = h
-either F false x y h k = k
 
 true_is_false : true ≡ false → ⊥
 true_is_false h = cc

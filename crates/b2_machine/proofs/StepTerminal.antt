@@ -27,6 +27,7 @@ use Rattle.b2_access.specs.declared.planned.Outcome.TheVariants as outcome
 use Rattle.b2_access.specs.declared.planned.Planned.{Planned}
 use Rattle.b2_access.specs.declared.planned.Planned.TheVariants as planned
 use Rattle.b2_access.specs.declared.private.Private.{Private}
+use Rattle.b2_access.proofs.Choice.{either}
 use Rattle.b2_access.proofs.OwnTerminal.{names_none, names_own}
 use Rattle.b2_stmt.proofs.KeptPlaces as stmt
 use Rattle.b2_stmt_io.proofs.KeptPlaces as stmt_io
@@ -46,63 +47,58 @@ use Rattle.b2_machine.specs.declared.statements.Builder.TheVariants as builder
 use Rattle.b2_machine.specs.declared.statements.Course.{Course}
 use Rattle.b2_machine.specs.declared.statements.Course.TheVariants as course
 
--- one thing or another
-either : {A : Type 0} (F : A → Type 0) (b : Bool) (x y : A) → F x → F y → F (if b then x else y)
-either F true x y h k = h
-either F false x y h k = k
-
 -- the terminal stays
-abbrev Stays : Private → Private → Type 0
-Stays me after = after.term ≡ me.term
+abbrev SameTerminal : Private → Private → Type 0
+SameTerminal me after = after.term ≡ me.term
 
 -- what is shown, typed and entered
-shown_stays : (x : Access) (a : Answer) (me : Private) → Stays me (shown_by x a me).me
+shown_stays : (x : Access) (a : Answer) (me : Private) → SameTerminal me (shown_by x a me).me
 shown_stays (access.Show term bytes) answer.Done me = refl
 shown_stays x a me = refl
 
-typed_stays : (a : Answer) (me : Private) → Stays me (typed_by_key a me).me
+typed_stays : (a : Answer) (me : Private) → SameTerminal me (typed_by_key a me).me
 typed_stays answer.Done me = refl
 typed_stays a me = refl
 
-put_stays : (a : Answer) (me : Private) → Stays me (put_by a me).me
+put_stays : (a : Answer) (me : Private) → SameTerminal me (put_by a me).me
 put_stays answer.Done me = refl
 put_stays (answer.Locked q) me = refl
 put_stays (answer.Refused code) me = refl
 put_stays a me = refl
 
-takes_stays : (e : Entered) (me : Private) → Stays me (takes e me)
+takes_stays : (e : Entered) (me : Private) → SameTerminal me (takes e me)
 takes_stays entered.Empty me = refl
 takes_stays (entered.Delete n) me = refl
 takes_stays (entered.Numbered n atoms) me = refl
 takes_stays (entered.Immediate atoms) me = refl
 
-line_stays : (r : Result Entered LineErr) (me : Private) → Stays me (takes_or_refuses r me)
+line_stays : (r : Result Entered LineErr) (me : Private) → SameTerminal me (takes_or_refuses r me)
 line_stays (Ok e) me = takes_stays e me
 line_stays (Err (refusal.At code column)) me = refl
 line_stays (Err refusal.NoMemory) me = refl
 
 -- special function keys
-called_stays : (o : Option Spot) (me : Private) → Stays me (calls_where o me)
+called_stays : (o : Option Spot) (me : Private) → SameTerminal me (calls_where o me)
 called_stays None me = refl
-called_stays (Some spot) me = either (Stays me) (nat_lt (length me.stack) most_frames) _ _ refl refl
+called_stays (Some spot) me = either (SameTerminal me) (nat_lt (length me.stack) most_frames) _ _ refl refl
 
-pressed_stays : (text : Option (List ℕ)) (o : Option Spot) (me : Private) → Stays me (pressed_by text o me)
+pressed_stays : (text : Option (List ℕ)) (o : Option Spot) (me : Private) → SameTerminal me (pressed_by text o me)
 pressed_stays (Some text) o me = refl
 pressed_stays None o me = called_stays o me
 
 -- where it goes on
-goes_stays : (o : Option Place) (me : Private) → Stays me (goes_to o me).me
+goes_stays : (o : Option Place) (me : Private) → SameTerminal me (goes_to o me).me
 goes_stays None me = refl
 goes_stays (Some q) me = refl
 
-jumped_stays : (p q : Place) (me : Private) (home : Lines) → Stays me (jumps p q me home)
-jumped_stays p q me home = either (Stays me) (not (is_some p.line) && is_some q.line) _ _ refl refl
+jumped_stays : (p q : Place) (me : Private) (home : Lines) → SameTerminal me (jumps p q me home)
+jumped_stays p q me home = either (SameTerminal me) (not (is_some p.line) && is_some q.line) _ _ refl refl
 
-faulted_stays : (code : ℕ) (o : Option Place) (p : Place) (me : Private) → Stays me (faults code o p me).me
+faulted_stays : (code : ℕ) (o : Option Place) (p : Place) (me : Private) → SameTerminal me (faults code o p me).me
 faulted_stays code None p me = refl
 faulted_stays code (Some q) p me = refl
 
-ended_stays : (same : Stepped) (o : Outcome) (p : Place) (me : Private) (home : Lines) → Stays me (ends_by same o p me home).me
+ended_stays : (same : Stepped) (o : Outcome) (p : Place) (me : Private) (home : Lines) → SameTerminal me (ends_by same o p me home).me
 ended_stays same outcome.Next p me home = goes_stays (following_place p me home) me
 ended_stays same (outcome.Jump q) p me home = jumped_stays p q me home
 ended_stays same (outcome.Failed code) p me home = faulted_stays code (error_place code p me home) p me
@@ -138,17 +134,17 @@ begins_at (Some u) p me s =
     let h = planned_at (builder_of u) p me s in
     begun_at me.term x.planned (builder_of u) p x.me s.home.lines h.0 h.1
 
-list_stays : (x : Access) (a : Answer) (me : Private) → Stays me (shown x a me).me
+list_stays : (x : Access) (a : Answer) (me : Private) → SameTerminal me (shown x a me).me
 list_stays (access.Show term bytes) answer.Done me = refl
 list_stays x a me = refl
 
-finish_stays : (b : Builder) (x : Access) (a : Answer) (me : Private) (s : SeenLent) → Stays me (finish_by b x a me s).me
+finish_stays : (b : Builder) (x : Access) (a : Answer) (me : Private) (s : SeenLent) → SameTerminal me (finish_by b x a me s).me
 finish_stays (builder.Listing from to) x a me s = list_stays x a me
 finish_stays builder.Control x a me s = stmt.finishes_at_terminal x a me s
 finish_stays builder.Terminal x a me s = stmt_io.finishes_at_terminal x a me s
 finish_stays builder.Nobody x a me s = refl
 
-finished_stays : (b : Builder) (x : Access) (a : Answer) (p : Place) (me : Private) (s : SeenLent) → Stays me (finishes b x a p me s).me
+finished_stays : (b : Builder) (x : Access) (a : Answer) (p : Place) (me : Private) (s : SeenLent) → SameTerminal me (finishes b x a p me s).me
 finished_stays b x a p me s =
     let y = finish_by b x a me s in
     ended_stays (repeats a) y.outcome p y.me s.home.lines ∙ finish_stays b x a me s
@@ -162,12 +158,12 @@ module _ {M : Type 0} (store : M → StoreState) (serving : ServingOf M) (lendin
   by_test t true e f x y h k = h
   by_test t false e f x y h k = k
 
-  read_stays : (x : Answer) (me : Private) (m : M) → Stays me (line_read store serving lending x me m).me
+  read_stays : (x : Answer) (me : Private) (m : M) → SameTerminal me (line_read store serving lending x me m).me
   read_stays (answer.Line bytes) me m = line_stays (reads bytes) (record me { term_column = 0 })
   read_stays (answer.Special n) me m = pressed_stays (typed_by_mark n (text_in (store m) me.part).lines) (first_opening (is_mark n) (text_in (store m) me.part).lines) me
   read_stays x me m = refl
 
-  carried_stays : (c : Course) (p : Place) (me : Private) (m : M) → Stays me (carries_out store serving lending c p me m).me
+  carried_stays : (c : Course) (p : Place) (me : Private) (m : M) → SameTerminal me (carries_out store serving lending c p me m).me
   carried_stays (course.Ended e) p me m = refl
   carried_stays (course.Asks a b) p me m =
       let g = serving m me.part a in

@@ -1,16 +1,12 @@
 -- What CLEAR P asks for, whatever its tree names: that lines go, with no home marked.
-use Rattle.std.specs.Prelude.{ℕ, ◌==◌, Bool, true, false, if◌then◌else◌}
+use Rattle.std.specs.Prelude.{ℕ, ◌==◌}
 use Rattle.b2_atom.specs.Tokens.Token.{Coded, Plain, Lined}
 use Rattle.b2_atom.specs.Tree.{Trees}
 use Rattle.b2_atom.specs.Tree.Trees.{Done, Put, In}
 use Rattle.b2_access.specs.declared.accesses.Access.{Access}
 use Rattle.b2_access.specs.declared.accesses.Access.TheVariants as access
+use Rattle.b2_access.proofs.Choice.{either}
 use Rattle.b2_stmt.specs.Clearing.{asks_to_erase, erases_from, erases_lines, erases_range}
-
--- one thing or another
-either : {A : Type 0} (F : A → Type 0) (b : Bool) (x y : A) → F x → F y → F (if b then x else y)
-either F true x y h k = h
-either F false x y h k = k
 
 -- what holds of each access by which lines go
 module _ (F : Access → Type 0) (holds : (from to : ℕ) → F (access.Erase from to 0)) where

@@ -52,15 +52,11 @@ use Rattle.b2_access.specs.Homes.{FinishesWithin, FrameIn, FramesIn, HomesIn, Is
 use Rattle.b2_stmt.specs.Loops.{loop_begins, loop_element, loop_counts, goes_round, is_over, loop_in, made_loop, next_value, nexts, tested, without_loop}
 use Rattle.b2_stmt.specs.Plan.{permitted, by_access, course, course_at, course_in, ended_of, finish, is_refused, line_named, plan}
 use Rattle.b2_access.specs.Planning.{Ended, Planning, done, goes_or}
+use Rattle.b2_access.proofs.Choice.{either}
 use Rattle.b2_stmt.proofs.Erased.{each_erased}
 use Rattle.b2_stmt.specs.declared.asked.Asked.{Asked}
 use Rattle.b2_stmt.specs.declared.asked.Asked.TheVariants as asked
 use Rattle.b2_stmt.specs.declared.loops.Loop.{Loop}
-
--- one thing or another
-either : {A : Type 0} (F : A → Type 0) (b : Bool) (x y : A) → F x → F y → F (if b then x else y)
-either F true x y h k = h
-either F false x y h k = k
 
 true_is_false : true ≡ false → ⊥
 true_is_false h = cc

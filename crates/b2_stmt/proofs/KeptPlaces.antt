@@ -1,6 +1,6 @@
 -- A statement leaves the place and the terminal at which it stands, and asks there alone; and where no place is kept, it keeps one
 -- only where the partition is then ready.
-use Rattle.std.proofs.Common.{◌≡◌, ℕ, ◌==◌, ◌&&◌, nat_lt, Bool, true, false, if◌then◌else◌, List, [], ◌∷◌, length, refl, ap, inl, inr, Option, Some, None, is_some, Ok, Err}
+use Rattle.std.proofs.Common.{◌≡◌, ℕ, ◌==◌, ◌&&◌, nat_lt, Bool, true, false, List, [], ◌∷◌, length, refl, ap, inl, inr, Option, Some, None, is_some, Ok, Err}
 use Rattle.std.specs.Prelude.{slice_get, ◌⊎◌}
 use Rattle.b2_atom.specs.Tree.{Trees}
 use Rattle.b2_atom.specs.Units.{TreeUnit}
@@ -33,6 +33,7 @@ use Rattle.b2_access.specs.declared.planned.Outcome.{Outcome}
 use Rattle.b2_access.specs.declared.planned.Outcome.TheVariants as outcome
 use Rattle.b2_access.specs.declared.planned.Planned.TheVariants as planned
 use Rattle.b2_access.specs.declared.private.Private.{Private}
+use Rattle.b2_access.proofs.Choice.{either}
 use Rattle.b2_access.proofs.OwnTerminal.{names_none}
 use Rattle.b2_expr.specs.Value.{context_of}
 use Rattle.b2_stmt.specs.Asked.{Here, asked_of, carried}
@@ -48,11 +49,6 @@ use Rattle.b2_stmt.proofs.Erased.{each_erased}
 use Rattle.b2_stmt.specs.declared.asked.Asked.{Asked}
 use Rattle.b2_stmt.specs.declared.asked.Asked.TheVariants as asked
 use Rattle.b2_stmt.specs.declared.loops.Loop.{Loop}
-
--- one thing or another
-either : {A : Type 0} (F : A → Type 0) (b : Bool) (x y : A) → F x → F y → F (if b then x else y)
-either F true x y h k = h
-either F false x y h k = k
 
 false_is_true : false ≡ true → ⊥
 false_is_true h = cc

@@ -24,7 +24,8 @@ use Rattle.b2_access.specs.declared.accesses.Answer.TheVariants as answer
 use Rattle.b2_access.specs.declared.planned.Outcome.{Outcome}
 use Rattle.b2_access.specs.declared.planned.Outcome.TheVariants as outcome
 use Rattle.b2_access.specs.declared.private.Private.{Private}
-use Rattle.b2_expr.specs.Value.{context_of}
+use Rattle.b2_access.proofs.Choice.{either}
+use Rattle.b2_stmt_io.specs.Around.{around}
 use Rattle.b2_stmt_io.specs.Changed.{with_assigned}
 use Rattle.b2_stmt_io.specs.Converting.{converts}
 use Rattle.b2_stmt_io.specs.Inputs.{takes_parts}
@@ -34,11 +35,6 @@ use Rattle.b2_stmt_io.specs.Marks.{typed_by_mark}
 use Rattle.b2_stmt_io.specs.Plan.{asked_of, course, course_at, course_of, finish_ended, ended_at, ended_of, finish, is_refused, plan}
 use Rattle.b2_stmt_io.specs.Showing.{shown}
 use Rattle.b2_stmt_io.proofs.Planned.{each_asked}
-
--- one thing or another
-either : {A : Type 0} (F : A → Type 0) (b : Bool) (x y : A) → F x → F y → F (if b then x else y)
-either F true x y h k = h
-either F false x y h k = k
 
 true_is_false : true ≡ false → ⊥
 true_is_false h = cc

@@ -1,5 +1,5 @@
 -- A statement at the terminal leaves the place at which it stands, the one that is kept, and the terminal; and it asks there alone.
-use Rattle.std.proofs.Common.{◌≡◌, ◌∙◌, refl, ℕ, ◌==◌, ◌||◌, Bool, true, false, if◌then◌else◌, List, inl, Option, Some, None, is_some}
+use Rattle.std.proofs.Common.{◌≡◌, ◌∙◌, refl, ℕ, ◌==◌, ◌||◌, Bool, true, false, List, inl, Option, Some, None, is_some}
 use Rattle.b2_atom.specs.Tree.{Trees}
 use Rattle.b2_atom.specs.Tree.Trees.{Done, Put, In}
 use Rattle.b2_atom.specs.declared.rows.TheConstants as row
@@ -18,6 +18,7 @@ use Rattle.b2_access.specs.declared.accesses.Access.TheVariants as access
 use Rattle.b2_access.specs.declared.accesses.Answer.{Answer}
 use Rattle.b2_access.specs.declared.accesses.Answer.TheVariants as answer
 use Rattle.b2_access.specs.declared.private.Private.{Private}
+use Rattle.b2_access.proofs.Choice.{either}
 use Rattle.b2_access.proofs.OwnTerminal.{names_own}
 use Rattle.b2_expr.specs.Value.{context_of}
 use Rattle.b2_stmt_io.specs.Inputs.{takes_parts}
@@ -27,11 +28,6 @@ use Rattle.b2_stmt_io.specs.Marks.{typed_by_mark}
 use Rattle.b2_stmt_io.specs.Plan.{course, course_at, course_of, finish_ended, ended_at, ended_of, finish, is_refused, plan}
 use Rattle.b2_stmt_io.specs.Showing.{shown}
 use Rattle.b2_stmt_io.proofs.Planned.{each_asked}
-
--- one thing or another
-either : {A : Type 0} (F : A → Type 0) (b : Bool) (x y : A) → F x → F y → F (if b then x else y)
-either F true x y h k = h
-either F false x y h k = k
 
 module _ (here kept : Option Place) (term : ℕ) where
   -- it stands at a place and at a terminal, and keeps a place or none
@@ -139,23 +135,23 @@ module _ (here kept : Option Place) (term : ℕ) where
   ended_place (Some p) x a me s h = ended_unit (statement_placed p me.immediate s.home.lines) p x a me s h
 
 -- what is asked for
-PlanningAt : ℕ → Planning → Type 0
-PlanningAt term p = PlannedAt term p.planned
+AsksAt : ℕ → Planning → Type 0
+AsksAt term p = PlannedAt term p.planned
 
-asks_here : (u : Statement) (me : Private) (s : SeenLent) → PlanningAt me.term (course_of u me s)
-unfolding PlanningAt
+asks_here : (u : Statement) (me : Private) (s : SeenLent) → AsksAt me.term (course_of u me s)
+unfolding AsksAt
 asks_here u me s =
     let term = me.term in
-    either (PlanningAt term) (u.row == row.CONVERT) _ _ tt
-    (each_asked (PlannedAt term) (context_of (setting_of me) me.vars s.home) (λ code. tt) (λ bytes. names_own term (access.Show term bytes) refl) (names_own term (access.ReadLine term) refl) (names_own term (access.Key term) refl) u.row u.tree me.term_column me.prompted)
+    either (AsksAt term) (u.row == row.CONVERT) _ _ tt
+    (each_asked (PlannedAt term) (around me s.home) (λ code. tt) (λ bytes. names_own term (access.Show term bytes) refl) (names_own term (access.ReadLine term) refl) (names_own term (access.Key term) refl) u.row u.tree me.term_column me.prompted)
 
-unit_asks : (o : Option Statement) (p : Place) (me : Private) (s : SeenLent) → PlanningAt me.term (course_at o p me s)
-unfolding PlanningAt
+unit_asks : (o : Option Statement) (p : Place) (me : Private) (s : SeenLent) → AsksAt me.term (course_at o p me s)
+unfolding AsksAt
 unit_asks None p me s = tt
-unit_asks (Some u) p me s = either (PlanningAt me.term) (is_refused u.row (is_some p.line)) _ _ tt (asks_here u me s)
+unit_asks (Some u) p me s = either (AsksAt me.term) (is_refused u.row (is_some p.line)) _ _ tt (asks_here u me s)
 
-place_asks : (o : Option Place) (me : Private) (s : SeenLent) → PlanningAt me.term (course o me s)
-unfolding PlanningAt
+place_asks : (o : Option Place) (me : Private) (s : SeenLent) → AsksAt me.term (course o me s)
+unfolding AsksAt
 place_asks None me s = tt
 place_asks (Some p) me s = unit_asks (statement_placed p me.immediate s.home.lines) p me s
 
@@ -177,7 +173,7 @@ unfolding KeepsPlaces
 plans_keep_none me s h = inl ((planned_kept me s).1 ∙ h)
 
 pub plans_at_terminal : PlansAtTerminal plan
-unfolding KeepsPlaces PlanningAt
+unfolding KeepsPlaces AsksAt
 plans_at_terminal me s = ((planned_kept me s).2, place_asks me.place me s)
 
 pub finishes_in_place : FinishesInPlace finish

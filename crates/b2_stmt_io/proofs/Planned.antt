@@ -1,5 +1,5 @@
 -- What statements at the terminal plan that change nothing yet: a refusal, or one of three accesses of their terminal.
-use Rattle.std.specs.Prelude.{ℕ, ◌==◌, ◌++◌, Bool, true, false, List, Result, Ok, Err, codes, if◌then◌else◌}
+use Rattle.std.specs.Prelude.{ℕ, ◌==◌, ◌++◌, Bool, List, Result, Ok, Err, codes}
 use Rattle.b2_base.specs.declared.codes.TheConstants.{S27_LEFT_OUT}
 use Rattle.b2_atom.specs.Tree.{Trees}
 use Rattle.b2_atom.specs.declared.rows.TheConstants as row
@@ -9,16 +9,12 @@ use Rattle.b2_access.specs.declared.accesses.Access.TheVariants as access
 use Rattle.b2_access.specs.declared.planned.Outcome.TheVariants as outcome
 use Rattle.b2_access.specs.declared.planned.Planned.{Planned}
 use Rattle.b2_access.specs.declared.planned.Planned.TheVariants as planned
+use Rattle.b2_access.proofs.Choice.{either}
 use Rattle.b2_stmt_io.specs.Imaging.{prints_using}
 use Rattle.b2_stmt_io.specs.LineReading.{asks_line, prompt_of}
 use Rattle.b2_stmt_io.specs.Plan.{asked_of}
 use Rattle.b2_stmt_io.specs.Printing.{prints}
 use Rattle.b2_stmt_io.specs.Showing.{shows_bytes}
-
--- one thing or another
-either : {A : Type 0} (F : A → Type 0) (b : Bool) (x y : A) → F x → F y → F (if b then x else y)
-either F true x y h k = h
-either F false x y h k = k
 
 -- what holds of a refusal, and of each of these accesses at the terminal of an expression
 module _ (F : Planned → Type 0) (e : Context) (unassigned : (code : ℕ) → F (planned.Done (outcome.Failed code))) (output : (bytes : List ℕ) → F (planned.Ask (access.Show e.around.term bytes)))
