@@ -143,7 +143,7 @@ unfolding AsksAt
 asks_here u me s =
     let term = me.term in
     either (AsksAt term) (u.row == row.CONVERT) _ _ tt
-    (each_asked (PlannedAt term) (around me s.home) (λ code. tt) (λ bytes. names_own term (access.Show term bytes) refl) (names_own term (access.ReadLine term) refl) (names_own term (access.Key term) refl) u.row u.tree me.term_column me.prompted)
+    (each_asked (PlannedAt term) (context_of (setting_of me) me.vars s.home) (λ code. tt) (λ bytes. names_own term (access.Show term bytes) refl) (names_own term (access.ReadLine term) refl) (names_own term (access.Key term) refl) u.row u.tree me.term_column me.prompted)
 
 unit_asks : (o : Option Statement) (p : Place) (me : Private) (s : SeenLent) → AsksAt me.term (course_at o p me s)
 unfolding AsksAt

@@ -21,7 +21,7 @@ use Rattle.b2_rows.specs.Rows.{is_part, tree_at, after_part, is_list, list_at, E
 use Rattle.b2_rows.specs.Optional.{maybe_part, maybe_tree, after_maybe}
 use Rattle.b2_rows.proofs.Choices.{either_first, either_second}
 use Rattle.b2_rows.proofs.Optional.{begun_part, begun_tree, begun_rest, left_out_tree, left_out_rest, maybe_no_longer}
-use Rattle.b2_rows.proofs.Lists.{goes, finish_ended}
+use Rattle.b2_rows.proofs.Lists.{goes, ended}
 use Rattle.b2_expr.specs.Answers.{◌>>=◌}
 use Rattle.b2_expr.specs.Scope.{Context}
 use Rattle.b2_rows.proofs.RowsRead.{stands_of}
@@ -315,4 +315,4 @@ next_refused s line t code old column before whole first_text ok sep found same 
 pub all_shown : (s : Context) (line : Bool) (t : Text) (old new : List ℕ) (column : ℕ) → starts Atoms separators t ≡ false → new ≡ old ++ laid column (newline_where line)
     → laid_after old column (further_in s line (further_at t)) ≡ Ok new
 all_shown s line t old new column is text =
-    ap (λ (a : Trees). laid_after old column (further_in s line a)) (Ends.tree (finish_ended separators row.FURTHER_ITEM t is)) ∙ ap Ok (sym text)
+    ap (λ (a : Trees). laid_after old column (further_in s line a)) (Ends.tree (ended separators row.FURTHER_ITEM t is)) ∙ ap Ok (sym text)

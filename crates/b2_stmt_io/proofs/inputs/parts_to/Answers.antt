@@ -23,7 +23,7 @@ returns-then-not-is_at c =
     let left = c.loop-code.left.now in
     let one = takes_part c.args.a.now c.args.home.now in
     let took = c.in_ok-code.ensures ∙ ap (λ (p : List ℕ). one (tree_at row.RECEIVER left) p c.loop-code.vars) (c.front.ensures ∙ ap (λ (n : ℕ). take n typed) c.part_width-width.ensures.width) in
-    sym (no_more one (past_first left) (further_parts (drop (width_of typed) typed)) c.part_to.new.vars (sym (c.if-not-is_at.ensures ∙ ap (λ (u : List ℕ). first u == byte.comma) c.past_receiver-left.ensures)))
+    sym (no_more one (past_first left) (further_parts (drop (width_of typed) typed)) c.part_to.new.vars (sym (c.if-not-is_at.ensures ∙ ap (λ (u : List ℕ). first u == byte.comma) c.past_any_receiver-left.ensures)))
     ∙ part_more one (tree_at row.RECEIVER left) (others_at (past_first left)) typed c.loop-code.vars c.part_to.new.vars c.in_ok-code.code took (none_of c.in_ok-code.code (sym c.if-is_some.ensures))
     ∙ c.loop-code.invariant.taken
 
