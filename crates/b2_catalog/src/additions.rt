@@ -22,7 +22,7 @@ fn head_with_next(p: &Platter, next: u32) -> [u8; 16]
 {
     let sectors = p.sectors();
     let (index, end, _) = limits(p);
-    edits::head(Layout::Narrow, index as u8, sectors, end, next)
+    edits::image_head(Layout::Narrow, index as u8, sectors, end, next)
 }
 
 /// A sector of the index, with the head in place.

@@ -1,5 +1,5 @@
 -- INPUT: the parts of a line for its receivers.
-use Rattle.std.specs.Prelude.{ℕ, ◌==◌, List, [], ◌∷◌, length, Option, Some, None, Ok, if◌then◌else◌}
+use Rattle.std.specs.Prelude.{ℕ, ◌==◌, List, [], ◌∷◌, length, None, Ok, if◌then◌else◌}
 use Rattle.b2_base.specs.Lexical.{skip_blanks}
 use Rattle.b2_base.specs.declared.codes.TheConstants.{S20_VARIABLE}
 use Rattle.b2_alpha.specs.Values.{value_of}
