@@ -4,6 +4,7 @@ pub mod Climbs
 pub mod Extremes
 pub mod Operands
 pub mod OperandKinds
+pub mod WrittenNumbers
 pub mod Names
 pub mod Pairs
 pub mod Texts

@@ -4,7 +4,6 @@ ghost use Rattle.b2_base.specs.Byte as byte;
 ghost use Rattle.b2_base.specs.Lexical.{is_digit, is_letter};
 ghost use Rattle.b2_base.specs.Lexical as lexical;
 ghost use Rattle.b2_expr.specs.declared.named.NameKind.TheVariants as name_kind;
-ghost use Rattle.b2_dectext.specs.NumberText.{number_value};
 ghost use Rattle.b2_vars.specs.Names.{is_legal_name};
 ghost use Rattle.b2_text.specs.Spots.{first_opening, is_function, unit_at};
 ghost use Rattle.b2_atom.specs.declared.rows.TheConstants as row;
@@ -25,7 +24,7 @@ ghost use Rattle.b2_expr.specs.Named.{after_name, is_alpha_kind, name_leaf, name
 ghost use Rattle.b2_expr.specs.Scope.{surroundings};
 ghost use Rattle.b2_expr.specs.Reads.{Appends, Gives};
 ghost use Rattle.b2_expr.specs.Value as meaning;
-ghost use Rattle.b2_expr.specs.Value.{element_number, called, context, extremes, function_tree, further_text, hex_bytes, literal_bytes, literal_number, literal_value, kept_value, pairs_of, located, bytes_of_part, second, subscripts, text_row, value};
+ghost use Rattle.b2_expr.specs.Value.{element_number, called, context, extremes, function_tree, further_text, hex_bytes, literal_bytes, literal_number, kept_value, pairs_of, located, bytes_of_part, second, subscripts, text_row, value};
 ghost use Rattle.b2_expr.specs.declared.operators.Level.TheVariants as level_of;
 ghost use Rattle.b2_rows.specs.declared.operands.Operand.TheVariants as kind_is;
 ghost use Rattle.b2_rows.specs.declared.operands.AlphaOperand.TheVariants as alpha_kind_is;
@@ -34,16 +33,16 @@ use crate::functions::{
     binary_bytes, byte_count, column_written, extreme, number_of, of_one, of_text, of_two,
     position_of, subscript, whole_between, whole_number,
 };
+use crate::literals::literal_at;
 use crate::named::{Element, Located, NameKind, Subscripts, variable_of};
 use crate::operators::{Level, joined, under_sign};
 use crate::scope::{Env, Parameter, Scope, hidden_by, kept_number};
 use b2_alpha::value_len;
-use b2_atom::{Origin, literal_width, number_width, numeric_name_width, relation_width};
+use b2_atom::{Origin, literal_width, numeric_name_width, relation_width};
 use b2_base::Code;
-use b2_base::codes::{A04_TOO_DEEP, P38_NO_DEFFN, S17_NUMERIC, X72_TOO_LONG, X77_NO_PARTITION};
+use b2_base::codes::{A04_TOO_DEEP, P38_NO_DEFFN, X72_TOO_LONG, X77_NO_PARTITION};
 use b2_base::lexical::{at, dropped, first, front};
 use b2_dec::{Bytes, Dec};
-use b2_dectext::literal;
 use b2_rows::{
     AlphaOperand, Chain, Name, Operand, alpha_name, alpha_operand_at, goes_on, hex_byte_at, is_at,
     is_hex_at, numeric_name, operand_at, relation_at, row_unit, spells_a_line,
@@ -85,29 +84,6 @@ fn operator_at(wanted: Level, top: Level, byte: u8) -> Option<Level>
             Level::Power,
         ),
         _ => None,
-    }
-}
-
-/// The number that a text spells: C60 or C61 where it is out of range.
-fn literal_value(text: &[u8]) -> Result<Dec, Code>
-    ensures { result ≡ literal_value text.now }
-{
-    match literal(text) {
-        Some((_, number)) => number,
-        None => Err(Code::known(S17_NUMERIC)),
-    }
-}
-
-/// A number that is written out.
-#[tactic(auto, using(crate::proofs::Operands::literal_is, crate::proofs::Operands::literal_rest, crate::proofs::Operands::literal_here))]
-fn literal_at(text: &[u8]) -> Result<(Dec, &[u8]), Code>
-    requires part { is_part row.NUMBER text.now ≡ true }
-    ensures { Gives (literal_number (tree_at row.NUMBER text.now)) (after_part row.NUMBER text.now) result }
-{
-    let width = number_width(Origin::Atoms, text);
-    match literal_value(front(text, width)) {
-        Ok(number) => Ok((number, dropped(text, width))),
-        Err(code) => Err(code),
     }
 }
 

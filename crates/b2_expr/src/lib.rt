@@ -21,6 +21,7 @@ mod conditions;
 mod evaluate;
 mod functions;
 pub mod laws;
+mod literals;
 mod locate;
 mod named;
 mod operations;
