@@ -1,22 +1,21 @@
 -- A number that is written with digits and a point or none: how far it goes, and what it comes to.
-use Rattle.std.proofs.Common.{◌≡◌, ◌<◌, ◌≤◌, ℕ, zero, suc, ◌+◌, ◌-◌, ◌*◌, ◌^◌, ◌==◌, ◌&&◌, nat_lt, ◌||◌, Bool, true, false, if◌then◌else◌, List, [], ◌∷◌, ◌++◌, Option, Some, None, Result, Ok, length, drop, take, get_or, refl, sym, ap, ap₂, ◌∙◌, subst, arith, add-zero, mul-one, eqb-true, ne_eqb, lt-ltb, inl, inr, length-drop}
+use Rattle.std.proofs.Common.{◌≡◌, ◌<◌, ◌≤◌, ℕ, zero, suc, ◌+◌, ◌-◌, ◌^◌, ◌==◌, ◌&&◌, nat_lt, true, false, List, [], ◌∷◌, ◌++◌, Option, Some, None, length, drop, take, get_or, refl, sym, ap, ap₂, ◌∙◌, subst, arith, add-zero, mul-one, eqb-true, ne_eqb, lt-ltb, inl, inr, length-drop}
 use Rattle.std.proofs.Math.Seq.{take-add}
 use Rattle.std.proofs.lemmas.Bool.{cases_Bool}
-use Rattle.std.proofs.lemmas.List.{append-nil, drop-drop, length-take-le, get_or-drop}
+use Rattle.std.proofs.lemmas.List.{append-nil, drop-drop, length-take-le}
 use Rattle.b2_base.specs.Byte as byte
 use Rattle.b2_base.specs.Lexical.{first, is_digit, digits_width}
 use Rattle.b2_dec.specs.declared.number.Mode.TheVariants.{Round}
 use Rattle.b2_dec.specs.Rounding.{rnd}
 use Rattle.b2_atom.specs.Words.{Text}
-use Rattle.b2_atom.specs.Leaves.{leaf_width, number_width, number_width_by, mantissa_width, mantissa_of}
+use Rattle.b2_atom.specs.Leaves.{number_width, number_width_by, mantissa_width, mantissa_of}
 use Rattle.b2_atom.specs.declared.words.Origin.TheVariants.{Atoms}
 use Rattle.b2_atom.specs.declared.rows.TheConstants as row
-use Rattle.b2_atom.specs.declared.forms.Leaf.TheVariants as leaf
 use Rattle.b2_rows.specs.Rows.{is_part, tree_at, after_part}
 use Rattle.b2_expr.specs.Value.{literal_number, literal_value}
 use Rattle.b2_expr.proofs.Operands.{literal_is, literal_rest, literal_here}
-use Rattle.b2_dectext.specs.Digits.{AreDigits, value_after, digits_value}
-use Rattle.b2_dectext.specs.NumberText.{Parts, parts_value, number_len, number_value}
+use Rattle.b2_dectext.specs.Digits.{AreDigits, value_after}
+use Rattle.b2_dectext.specs.NumberText.{Parts, parts_value, number_len}
 use Rattle.b2_dectext.specs.Grammar.{Sign, Spelling, spelled, parts, fraction_digits}
 use Rattle.b2_dectext.specs.Grammar as grammar
 use Rattle.b2_dectext.proofs.Lengths.{digits_at_front, digits_width-le-length}
