@@ -169,7 +169,7 @@ fn if_outcome<'a>(
 }
 
 /// How a statement ends that changes nothing.
-fn still(
+pub fn still(
     vars: &Vars,
     a: &Setting,
     home: &Text,
