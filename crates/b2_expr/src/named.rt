@@ -83,7 +83,10 @@ impl<'a> Located<'a> {
         ensures same { IfOk result (λ element. element ≡ self.now.element) }
     {
         let element = self.element;
-        match self.vars.reach_value(element.var, element.row, element.column) {
+        match self
+            .vars
+            .reach_value(element.var, element.row, element.column)
+        {
             Ok(()) => Ok(element),
             Err(code) => Err(code),
         }

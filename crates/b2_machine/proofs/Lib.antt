@@ -9,3 +9,4 @@ pub mod Listings
 pub mod LocalSteps
 pub mod StepHomes
 pub mod KeptPlace
+pub mod AtOnce

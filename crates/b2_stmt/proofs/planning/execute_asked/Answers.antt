@@ -20,5 +20,5 @@ returns-clause-ended c =
     let h : Here = record { place = c.args.place; units = tree_units c.args.line.now } in
     let e : in_statement (surroundings_of c.setting_of-setting.result me.vars home) ≡ around me home = ap (λ (a : Setting). in_statement (surroundings_of a me.vars home)) c.setting_of-setting.ensures in
     let asked : c.in_ok-asked.asked ≡ asked_of u.row (tree_at u.row u.bytes.now) h (around me home) home.lines =
-        c.in_ok-asked.ensures.asked ∙ ap (λ (x : Context). asked_of u.row (tree_at u.row u.bytes.now) h x home.lines) e in
+    c.in_ok-asked.ensures.asked ∙ ap (λ (x : Context). asked_of u.row (tree_at u.row u.bytes.now) h x home.lines) e in
     ok_to {X = Ended} c.carry_out.result (λ o. record { me = c.carry_out.new.me; outcome = o }) _ _ (ap (λ (q : Asked). carried q c.args.place me own home.lines) asked) c.carry_out.ensures.ended
