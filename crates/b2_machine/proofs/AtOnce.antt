@@ -9,7 +9,7 @@ use Rattle.b2_rows.specs.Following.{tree_units}
 use Rattle.b2_flow.specs.declared.frame.Place.{Place}
 use Rattle.b2_text.specs.Program.{Lines}
 use Rattle.b2_access.specs.Lending.{SeenLent}
-use Rattle.b2_access.specs.Placed.{Statement, line_named, statement_at, statement_of, statement_on}
+use Rattle.b2_access.specs.Placed.{Statement, line_named, statement_placed, statement_of, statement_on}
 use Rattle.b2_access.specs.Planning.{Ended, Planning, done}
 use Rattle.b2_access.specs.declared.private.Private.{Private}
 use Rattle.b2_stmt.specs.Asked.{Here}
@@ -69,7 +69,7 @@ pub ended_at_once : (p : Place) (me : Private) (s : SeenLent) (line : List ℕ) 
     → done s x ≡ stmt.allowed u.row u.tree (record { place = p; units = tree_units line }) me s → e ≡ ends_by counts x.outcome p x.me s.home.lines
     → has_ended e ≡ begins p me s
 ended_at_once p me s line u x e is is_line is_unit quiet is_x is_e =
-    let there : statement_at p me.immediate s.home.lines ≡ Some u = ap (λ (l : Option (List ℕ)). statement_on l p.unit) is_line ∙ sym is_unit in
+    let there : statement_placed p me.immediate s.home.lines ≡ Some u = ap (λ (l : Option (List ℕ)). statement_on l p.unit) is_line ∙ sym is_unit in
     let plans : plan_by (builder_of u) p me s ≡ done s x = ap (λ (b : Builder). plan_by b p me s) (control u quiet) ∙ planned p me s line u is is_line is_unit ∙ sym is_x in
     ap has_ended is_e
     ∙ sym (ap (λ (y : Planning). begun y (builder_of u) p s.home.lines) plans)

@@ -14,30 +14,30 @@ use Rattle.b2_access.specs.declared.private.Private.{Private}
 use Rattle.b2_base.specs.declared.codes.TheConstants.{S26_PROGRAM_ONLY}
 use Rattle.b2_access.specs.declared.planned.Outcome.{Outcome}
 use Rattle.b2_access.specs.declared.planned.Outcome.TheVariants as outcome
-use Rattle.b2_stmt.specs.Around.{around}
+use Rattle.b2_expr.specs.Value.{context_of}
 use Rattle.b2_stmt.specs.Asked.{Here, asked_of, carried, is_still, still}
 use Rattle.b2_stmt.specs.OnVariables.{is_on_variables}
 use Rattle.b2_access.specs.declared.accesses.Access.{Access}
-use Rattle.b2_stmt.specs.Clearing.{access_of, asks_access}
-use Rattle.b2_stmt.specs.Plan.{allowed, by_access, course, course_at, course_in, course_of, ended_of, is_refused, line_named, plan}
+use Rattle.b2_stmt.specs.Clearing.{asked_access, asks_access}
+use Rattle.b2_stmt.specs.Plan.{permitted, by_access, course, course_at, course_in, course_of, ended_of, is_refused, line_named, plan}
 use Rattle.b2_access.specs.Planning.{Ended, Planning, asks, done, stays}
 use Rattle.b2_stmt.specs.declared.asked.Asked.{Asked}
 
 some_is : {A : Type 0} (x y : A) → Some x ≡ Some y → y ≡ x
 some_is x y h = cc
 
-unit_there : (o : Option TreeUnit) (r : ℕ) (t : Trees) (h : Here) (me : Private) (s : SeenLent) → Some r ≡ option_map (λ v. v.row) o → Some t ≡ option_map (λ v. v.tree) o → course_at o h me s ≡ allowed r t h me s
+unit_there : (o : Option TreeUnit) (r : ℕ) (t : Trees) (h : Here) (me : Private) (s : SeenLent) → Some r ≡ option_map (λ v. v.row) o → Some t ≡ option_map (λ v. v.tree) o → course_at o h me s ≡ permitted r t h me s
 unit_there None r t h me s is_r is_t = cc
-unit_there (Some v) r t h me s is_r is_t = ap (λ (x : ℕ). allowed x v.tree h me s) (some_is r v.row is_r) ∙ ap (λ (x : Trees). allowed r x h me s) (some_is t v.tree is_t)
+unit_there (Some v) r t h me s is_r is_t = ap (λ (x : ℕ). permitted x v.tree h me s) (some_is r v.row is_r) ∙ ap (λ (x : Trees). permitted r x h me s) (some_is t v.tree is_t)
 
 -- where it may stand there
-allowed_there : (r : ℕ) (t : Trees) (h : Here) (me : Private) (s : SeenLent) (program : Bool) → is_some h.place.line ≡ program → is_refused r program ≡ false → allowed r t h me s ≡ course_of r t h me s
+allowed_there : (r : ℕ) (t : Trees) (h : Here) (me : Private) (s : SeenLent) (program : Bool) → is_some h.place.line ≡ program → is_refused r program ≡ false → permitted r t h me s ≡ course_of r t h me s
 allowed_there r t h me s program is_line is =
     let refused : is_refused r (is_some h.place.line) ≡ false = ap (is_refused r) is_line ∙ is in
     ap (λ (b : Bool). if b then done s (stays me (outcome.Failed S26_PROGRAM_ONLY)) else course_of r t h me s) refused
 
 -- where it asks for no access
-no_access : (r : ℕ) (t : Trees) (h : Here) (me : Private) (s : SeenLent) → access_of r t ≡ None → course_of r t h me s ≡ done s (ended_of r t h me s)
+no_access : (r : ℕ) (t : Trees) (h : Here) (me : Private) (s : SeenLent) → asked_access r t ≡ None → course_of r t h me s ≡ done s (ended_of r t h me s)
 no_access r t h me s none = ap (λ (o : Option Access). by_access o s me (ended_of r t h me s)) none
 
 -- what is asked of it, where it doesn't change the private state while it is read
@@ -49,7 +49,7 @@ abbrev pub IsAsked : ℕ → Type 0
 IsAsked r = (is_on_variables r ≡ false) × ((r == row.READ) ≡ false) × ((r == row.DEFFN_MARKED) ≡ false)
 
 pub asked_there : (r : ℕ) (t : Trees) (h : Here) (me : Private) (s : SeenLent) → IsAsked r
-    → ended_of r t h me s ≡ carried (asked_of r t h (around me s.home) s.home.lines) h.place me s.own.lines s.home.lines
+    → ended_of r t h me s ≡ carried (asked_of r t h (context_of (setting_of me) me.vars s.home) s.home.lines) h.place me s.own.lines s.home.lines
 asked_there r t h me s other = otherwise (is_on_variables r) _ _ other.0 ∙ otherwise (r == row.READ) _ _ other.1 ∙ otherwise (r == row.DEFFN_MARKED) _ _ other.2
 
 -- a DEFFN' is no statement of an immediate line
@@ -62,7 +62,7 @@ no_mark r allowed_is = second_of _ (r == row.DEFFN_MARKED) allowed_is
 
 pub unit_planned : (o : Option (List ℕ)) (line : List ℕ) (k r : ℕ) (t : Trees) (p : Place) (me : Private) (s : SeenLent)
     → o ≡ Some line → k ≡ p.unit → Some r ≡ option_map (λ v. v.row) (slice_get (tree_units line) k) → Some t ≡ option_map (λ v. v.tree) (slice_get (tree_units line) k)
-    → course_in o p me s ≡ allowed r t (record { place = p; units = tree_units line }) me s
+    → course_in o p me s ≡ permitted r t (record { place = p; units = tree_units line }) me s
 unit_planned o line k r t p me s is_o is_k is_r is_t =
     let h : Here = record { place = p; units = tree_units line } in
     ap (λ (x : Option (List ℕ)). course_in x p me s) is_o
@@ -71,7 +71,7 @@ unit_planned o line k r t p me s is_o is_k is_r is_t =
 
 pub carried_there : (o : Option (List ℕ)) (line : List ℕ) (k r : ℕ) (t : Trees) (p : Place) (me : Private) (s : SeenLent) (program : Bool) (e : Context) (q : Asked)
     → o ≡ Some line → k ≡ p.unit → Some r ≡ option_map (λ v. v.row) (slice_get (tree_units line) k) → Some t ≡ option_map (λ v. v.tree) (slice_get (tree_units line) k)
-    → is_some p.line ≡ program → is_refused r program ≡ false → IsAsked r → access_of r t ≡ None → e ≡ around me s.home → q ≡ asked_of r t (record { place = p; units = tree_units line }) e s.home.lines
+    → is_some p.line ≡ program → is_refused r program ≡ false → IsAsked r → asked_access r t ≡ None → e ≡ context_of (setting_of me) me.vars s.home → q ≡ asked_of r t (record { place = p; units = tree_units line }) e s.home.lines
     → course_in o p me s ≡ done s (carried q p me s.own.lines s.home.lines)
 carried_there o line k r t p me s program e q is_o is_k is_r is_t is_program allowed_is other none is_e is_q =
     let h : Here = record { place = p; units = tree_units line } in
@@ -96,7 +96,7 @@ first_no : (a b : Bool) → (a || b) ≡ false → a ≡ false
 first_no true b is = cc
 first_no false b is = refl
 
-asks_nothing : (r : ℕ) (t : Trees) → asks_access r ≡ false → access_of r t ≡ None
+asks_nothing : (r : ℕ) (t : Trees) → asks_access r ≡ false → asked_access r t ≡ None
 asks_nothing r t is = otherwise (r == row.CLEAR) _ _ (first_no _ (r == row.CLEAR_P) is) ∙ otherwise (r == row.CLEAR_P) _ _ (second_of _ (r == row.CLEAR_P) is)
 
 none_asked : (b c : Bool) (x y : Access) → (if b then Some x else (if c then Some y else None)) ≡ None → (b || c) ≡ false
@@ -104,7 +104,7 @@ none_asked true c x y is = cc
 none_asked false true x y is = cc
 none_asked false false x y is = refl
 
-pub asks_none : (r : ℕ) (t : Trees) → access_of r t ≡ None → asks_access r ≡ false
+pub asks_none : (r : ℕ) (t : Trees) → asked_access r t ≡ None → asks_access r ≡ false
 asks_none r t is = none_asked (r == row.CLEAR) (r == row.CLEAR_P) _ _ is
 
 some_asked : (b c : Bool) (x y a : Access) (P : Type 0) → (b ≡ true → P) → (c ≡ true → P) → (if b then Some x else (if c then Some y else None)) ≡ Some a → P
@@ -116,15 +116,15 @@ some_asked false false x y a P one other is = cc
 may_stand : (r k : ℕ) → is_refused k true ≡ false → (r == k) ≡ true → is_refused r true ≡ false
 may_stand r k is same = let e : k ≡ r = grind (arith, nat_tests) in subst (λ (n : ℕ). is_refused n true ≡ false) e is
 
-pub access_planned : (r : ℕ) (t : Trees) (h : Here) (me : Private) (s : SeenLent) (a : Access) → is_some h.place.line ≡ true → access_of r t ≡ Some a → allowed r t h me s ≡ asks s me a
+pub access_planned : (r : ℕ) (t : Trees) (h : Here) (me : Private) (s : SeenLent) (a : Access) → is_some h.place.line ≡ true → asked_access r t ≡ Some a → permitted r t h me s ≡ asks s me a
 access_planned r t h me s a line is =
     let allowed_is : is_refused r true ≡ false = some_asked (r == row.CLEAR) (r == row.CLEAR_P) _ _ a _ (may_stand r row.CLEAR refl) (may_stand r row.CLEAR_P refl) is in
     allowed_there r t h me s true line allowed_is ∙ ap (λ (o : Option Access). by_access o s me (ended_of r t h me s)) is
 
-pub quiet_there : (r : ℕ) (t : Trees) (h : Here) (me : Private) (s : SeenLent) → is_some h.place.line ≡ true → is_refused r true ≡ false → asks_access r ≡ false → allowed r t h me s ≡ done s (ended_of r t h me s)
+pub quiet_there : (r : ℕ) (t : Trees) (h : Here) (me : Private) (s : SeenLent) → is_some h.place.line ≡ true → is_refused r true ≡ false → asks_access r ≡ false → permitted r t h me s ≡ done s (ended_of r t h me s)
 quiet_there r t h me s line allowed_is quiet = allowed_there r t h me s true line allowed_is ∙ no_access r t h me s (asks_nothing r t quiet)
 
-pub refused_there : (r : ℕ) (t : Trees) (h : Here) (me : Private) (s : SeenLent) → is_some h.place.line ≡ true → is_refused r true ≡ true → allowed r t h me s ≡ done s (stays me (outcome.Failed S26_PROGRAM_ONLY))
+pub refused_there : (r : ℕ) (t : Trees) (h : Here) (me : Private) (s : SeenLent) → is_some h.place.line ≡ true → is_refused r true ≡ true → permitted r t h me s ≡ done s (stays me (outcome.Failed S26_PROGRAM_ONLY))
 refused_there r t h me s line is =
     let refused : is_refused r (is_some h.place.line) ≡ true = ap (is_refused r) line ∙ is in
     ap (λ (b : Bool). if b then done s (stays me (outcome.Failed S26_PROGRAM_ONLY)) else course_of r t h me s) refused
@@ -136,12 +136,12 @@ by_rows false b P one other is = other is
 
 module _ (t : Trees) (h : Here) (me : Private) (s : SeenLent) where
   abbrev IsStill : ℕ → Type 0
-  IsStill r = ended_of r t h me s ≡ stays me (still r t h (around me s.home) s.home.lines)
+  IsStill r = ended_of r t h me s ≡ stays me (still r t h (context_of (setting_of me) me.vars s.home) s.home.lines)
 
   of_row : (r k : ℕ) → IsStill k → (r == k) ≡ true → IsStill r
   of_row r k is same = let e : k ≡ r = grind (arith, nat_tests) in subst IsStill e is
 
-  pub still_there : (r : ℕ) → is_still r ≡ true → ended_of r t h me s ≡ stays me (still r t h (around me s.home) s.home.lines)
+  pub still_there : (r : ℕ) → is_still r ≡ true → ended_of r t h me s ≡ stays me (still r t h (context_of (setting_of me) me.vars s.home) s.home.lines)
   still_there r is =
       by_rows _ (r == row.BREAK) (IsStill r) (
       by_rows _ (r == row.DEFFN) (IsStill r) (

@@ -30,16 +30,16 @@ use Rattle.b2_access.specs.declared.planned.Outcome.{Outcome}
 use Rattle.b2_access.specs.declared.planned.Outcome.TheVariants as outcome
 use Rattle.b2_access.specs.declared.planned.Planned.TheVariants as planned
 use Rattle.b2_access.specs.declared.private.Private.{Private}
-use Rattle.b2_stmt.specs.Around.{around}
+use Rattle.b2_expr.specs.Value.{context_of}
 use Rattle.b2_stmt.specs.Asked.{Here, asked_of, carried}
 use Rattle.b2_stmt.specs.Calls.{back_from, called_where, forgets, leaves_call}
-use Rattle.b2_stmt.specs.Clearing.{access_of, cleared, edited, finishes}
+use Rattle.b2_stmt.specs.Clearing.{asked_access, cleared, edited, edit_finishes}
 use Rattle.b2_stmt.specs.Course.{continues, restores, restores_where, runs, runs_from, runs_where}
 use Rattle.b2_stmt.specs.Frames.{with_frame}
-use Rattle.b2_stmt.specs.Loops.{begins, counted, counts, goes_round, is_over, made_loop, next_value, nexts, tested, without_loop}
+use Rattle.b2_stmt.specs.Loops.{loop_begins, loop_element, loop_counts, goes_round, is_over, made_loop, next_value, nexts, tested, without_loop}
 use Rattle.b2_stmt.specs.Marked.{calls_mark, mark_place, takes_args}
 use Rattle.b2_stmt.specs.OnVariables.{is_on_variables}
-use Rattle.b2_stmt.specs.Plan.{allowed, by_access, course, course_at, course_in, ended_of, finish, is_refused, plan}
+use Rattle.b2_stmt.specs.Plan.{permitted, by_access, course, course_at, course_in, ended_of, finish, is_refused, plan}
 use Rattle.b2_stmt.specs.declared.asked.Asked.{Asked}
 use Rattle.b2_stmt.specs.declared.asked.Asked.TheVariants as asked
 use Rattle.b2_stmt.specs.declared.loops.Loop.{Loop}
@@ -71,8 +71,8 @@ module _ (here : Option Place) (matters : Bool) where
   made (Some code) l body me h = (h.0, λ r. inl (h.1 r))
   made None l body me h = framed (For l.var l.limit l.step body) outcome.Next (record me { stack = without_loop l.var me.stack }) h
 
-  begun : (l : Loop) (body : Place) (me : Private) → KeepsNoPlace me → KeepsNothing (begins l body me)
-  begun l body me h = made (assigned_number (counted l.var) l.from me.vars).code l body (record me { vars = (assigned_number (counted l.var) l.from me.vars).vars }) h
+  begun : (l : Loop) (body : Place) (me : Private) → KeepsNoPlace me → KeepsNothing (loop_begins l body me)
+  begun l body me h = made (assigned_number (loop_element l.var) l.from me.vars).code l body (record me { vars = (assigned_number (loop_element l.var) l.from me.vars).vars }) h
 
   tests : (o : Option ℕ) (over : Bool) (body : Place) (me : Private) → KeepsNoPlace me → KeepsNothing (tested o over body me)
   unfolding KeepsNothing
@@ -80,16 +80,16 @@ module _ (here : Option Place) (matters : Bool) where
   tests None true body me h = (h.0, λ r. inl (h.1 r))
   tests None false body me h = (h.0, λ r. inl (h.1 r))
 
-  goes_on : (x : NumberAnswer) (v : Var2) (limit step : Number) (body : Place) (me : Private) → KeepsNoPlace me → KeepsNothing (counts x v limit step body me)
+  goes_on : (x : NumberAnswer) (v : Var2) (limit step : Number) (body : Place) (me : Private) → KeepsNoPlace me → KeepsNothing (loop_counts x v limit step body me)
   unfolding KeepsNothing
   goes_on (Err code) v limit step body me h = (h.0, λ r. inl (h.1 r))
   goes_on (Ok x) v limit step body me h =
-      tests (assigned_number (counted v) x me.vars).code (is_over x limit step) body (record me { vars = (assigned_number (counted v) x me.vars).vars }) h
+      tests (assigned_number (loop_element v) x me.vars).code (is_over x limit step) body (record me { vars = (assigned_number (loop_element v) x me.vars).vars }) h
 
   round : (o : Option (Number × Number × Place)) (v : Var2) (me : Private) → KeepsNoPlace me → KeepsNothing (goes_round o v me)
   unfolding KeepsNothing
   round None v me h = (h.0, λ r. inl (h.1 r))
-  round (Some p) v me h = goes_on (next_value me.mode (number_there (record { vars = me.vars; element = counted v })) p.1) v p.0 p.1 p.2 me h
+  round (Some p) v me h = goes_on (next_value me.mode (number_there (record { vars = me.vars; element = loop_element v })) p.1) v p.0 p.1 p.2 me h
 
   next : (v : Var2) (me : Private) → KeepsNoPlace me → KeepsNothing (nexts v me)
   unfolding KeepsNothing
@@ -181,7 +181,7 @@ module _ (here : Option Place) (matters : Bool) where
       either KeepsNothing (is_on_variables r) _ _ (k.0, λ r. inl (k.1 r))
       (either KeepsNothing (r == row.READ) _ _ (k.0, λ r. inl (k.1 r))
       (either KeepsNothing (r == row.DEFFN_MARKED) _ _ (taken me.args s.home t me k)
-      (does (asked_of r t h (around me s.home) s.home.lines) h.place me s.own.lines s.home.lines k)))
+      (does (asked_of r t h (context_of (setting_of me) me.vars s.home) s.home.lines) h.place me s.own.lines s.home.lines k)))
 
   PlansNothing : Planning → Type 0
   PlansNothing p = (p.me.place ≡ here) × (matters ≡ true → (p.me.kept ≡ None) ⊎ (p.planned ≡ planned.Done outcome.Ready))
@@ -199,9 +199,9 @@ module _ (here : Option Place) (matters : Bool) where
   asking None s me e k h = is_done s e h
   asking (Some a) s me e k h = (k.0, λ r. inl (k.1 r))
 
-  where_allowed : (r : ℕ) (t : Trees) (h : Here) (me : Private) (s : SeenLent) → KeepsNoPlace me → PlansNothing (allowed r t h me s)
+  where_allowed : (r : ℕ) (t : Trees) (h : Here) (me : Private) (s : SeenLent) → KeepsNoPlace me → PlansNothing (permitted r t h me s)
   unfolding PlansNothing
-  where_allowed r t h me s k = either PlansNothing (is_refused r (is_some h.place.line)) _ _ (k.0, λ r. inl (k.1 r)) (asking (access_of r t) s me (ended_of r t h me s) k (ended r t h me s k))
+  where_allowed r t h me s k = either PlansNothing (is_refused r (is_some h.place.line)) _ _ (k.0, λ r. inl (k.1 r)) (asking (asked_access r t) s me (ended_of r t h me s) k (ended r t h me s k))
 
   unit : (o : Option TreeUnit) (h : Here) (me : Private) (s : SeenLent) → KeepsNoPlace me → PlansNothing (course_at o h me s)
   unfolding PlansNothing
@@ -230,7 +230,7 @@ module _ (here : Option Place) (matters : Bool) where
   edits (answer.Locked q) after me h k = (k.0, λ r. inl (k.1 r))
   edits (answer.Refused code) after me h k = (k.0, λ r. inl (k.1 r))
 
-  finishing : (x : Access) (a : Answer) (me : Private) → KeepsNoPlace me → KeepsNothing (finishes x a me)
+  finishing : (x : Access) (a : Answer) (me : Private) → KeepsNoPlace me → KeepsNothing (edit_finishes x a me)
   unfolding KeepsNothing
   finishing (access.ClearAll name homes) a me k = edits a (cleared me) me (k.0, λ r. refl) k
   finishing (access.Erase from to homes) a me k = edits a _ me (k.0, λ r. refl) k

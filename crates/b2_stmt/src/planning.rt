@@ -7,13 +7,13 @@ ghost use Rattle.b2_text.specs.Program.{line_at};
 ghost use Rattle.b2_vars.specs.Tables.{VarsState};
 ghost use Rattle.b2_access.specs.Lending.{globals_lent, seen};
 ghost use Rattle.b2_access.specs.Planning.{done};
-ghost use Rattle.b2_stmt.specs.Around.{around};
+ghost use Rattle.b2_expr.specs.Value.{context_of};
 ghost use Rattle.b2_stmt.specs.Asked.{asked_of, carried, is_still};
 ghost use Rattle.b2_stmt.specs.Clearing.{asks_access};
 ghost use Rattle.b2_stmt.specs.Plan as spec;
 
-use crate::asked::{ask, carry_out, still};
-use crate::clearing::access_of;
+use crate::asked::{ask, do_asked, still};
+use crate::clearing::asked_access;
 use crate::marked::take_args;
 use crate::on_variables::{change_variables, is_on_variables};
 use crate::reading::read;
@@ -123,12 +123,12 @@ fn execute_asked(
 ) -> Result<Outcome, NoMemory>
     requires read { IsRow unit.now.row unit.now.bytes.now (tree_at unit.now.row unit.now.bytes.now) }
     requires few { place.unit < 255 }
-    ensures ended { IfOk result (λ o. record { me = me.new; outcome = o } ≡ carried (asked_of unit.now.row (tree_at unit.now.row unit.now.bytes.now) (record { place = place; units = tree_units line.now }) (around me.old home.now) home.now.lines) place me.old own.now.lines home.now.lines) }
+    ensures ended { IfOk result (λ o. record { me = me.new; outcome = o } ≡ carried (asked_of unit.now.row (tree_at unit.now.row unit.now.bytes.now) (record { place = place; units = tree_units line.now }) (context_of (setting_of me.old) me.old.vars home.now) home.now.lines) place me.old own.now.lines home.now.lines) }
     ensures part { me.new.part ≡ me.old.part }
 {
     let setting = setting_of(me);
     let asked = ask(alloc, &me.vars, &setting, home, line, &place, unit)?;
-    carry_out(me, own, home, place, asked)
+    do_asked(me, own, home, place, asked)
 }
 
 /// Executes a unit at a place, where its statement may stand there and asks for no access.
@@ -182,7 +182,7 @@ pub fn execute(
     requires quiet { asks_access unit.now.row ≡ false }
     requires read { IsRow unit.now.row unit.now.bytes.now (tree_at unit.now.row unit.now.bytes.now) }
     requires few { place.unit < 255 }
-    ensures ended { (globals : Option VarsState) → IfOk result (λ o. done (record { own = own.now; home = home.now; globals = globals }) (record { me = me.new; outcome = o }) ≡ spec.allowed unit.now.row (tree_at unit.now.row unit.now.bytes.now) (record { place = place; units = tree_units line.now }) me.old (record { own = own.now; home = home.now; globals = globals })) }
+    ensures ended { (globals : Option VarsState) → IfOk result (λ o. done (record { own = own.now; home = home.now; globals = globals }) (record { me = me.new; outcome = o }) ≡ spec.permitted unit.now.row (tree_at unit.now.row unit.now.bytes.now) (record { place = place; units = tree_units line.now }) me.old (record { own = own.now; home = home.now; globals = globals })) }
     ensures part { me.new.part ≡ me.old.part }
 {
     if is_refused(unit.row, true) {
@@ -211,7 +211,7 @@ fn execute_program(
     let Some(unit) = row_unit(line.atoms, usize::from(place.unit)) else {
         return Ok(Planned::Done(Outcome::Ready));
     };
-    if let Some(access) = access_of(unit.row, unit.bytes) {
+    if let Some(access) = asked_access(unit.row, unit.bytes) {
         return Ok(Planned::Ask(access));
     }
     let outcome = execute(alloc, me, own, home, line.atoms, &unit, place)?;
@@ -255,11 +255,11 @@ fn execute_immediate(
         )?;
         return Ok(Planned::Done(goes_or(Outcome::Next, code)));
     }
-    if let Some(access) = access_of(unit.row, unit.bytes) {
+    if let Some(access) = asked_access(unit.row, unit.bytes) {
         return Ok(Planned::Ask(access));
     }
     let asked = ask(alloc, &me.vars, &setting, home, line, &place, &unit)?;
-    let outcome = carry_out(me, own, home, place, asked)?;
+    let outcome = do_asked(me, own, home, place, asked)?;
     Ok(Planned::Done(outcome))
 }
 

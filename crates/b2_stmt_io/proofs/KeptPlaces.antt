@@ -10,7 +10,7 @@ use Rattle.b2_expr.specs.Assigning.{Assigned}
 use Rattle.b2_access.specs.Keeping.{FinishesInPlace, FinishesKeepNone, PlansInPlace, PlansKeepNone}
 use Rattle.b2_access.specs.Lending.{SeenLent}
 use Rattle.b2_access.specs.Partition.{setting_of}
-use Rattle.b2_access.specs.Placed.{Statement, statement_at}
+use Rattle.b2_access.specs.Placed.{Statement, statement_placed}
 use Rattle.b2_access.specs.Planning.{Ended, Planning}
 use Rattle.b2_access.specs.declared.accesses.Access.{Access}
 use Rattle.b2_access.specs.declared.accesses.Access.TheVariants as access
@@ -47,7 +47,7 @@ module _ (here kept : Option Place) where
   planned_at : (o : Option Place) (me : Private) (s : SeenLent) → KeepsPlaces me → KeepsPlaces (course o me s).me
   unfolding KeepsPlaces
   planned_at None me s h = h
-  planned_at (Some p) me s h = planned_unit (statement_at p me.immediate s.home.lines) p me s h
+  planned_at (Some p) me s h = planned_unit (statement_placed p me.immediate s.home.lines) p me s h
 
   -- how PRINT and PRINTUSING finish
   after_shown : (x : Access) (a : Answer) (me : Private) → KeepsPlaces me → KeepsPlaces (shown x a me).me
@@ -132,7 +132,7 @@ module _ (here kept : Option Place) where
   ended_place : (o : Option Place) (x : Access) (a : Answer) (me : Private) (s : SeenLent) → KeepsPlaces me → KeepsPlaces (ended o x a me s).me
   unfolding KeepsPlaces
   ended_place None x a me s h = h
-  ended_place (Some p) x a me s h = ended_unit (statement_at p me.immediate s.home.lines) p x a me s h
+  ended_place (Some p) x a me s h = ended_unit (statement_placed p me.immediate s.home.lines) p x a me s h
 
 pub plans_in_place : PlansInPlace plan
 unfolding KeepsPlaces

@@ -11,7 +11,7 @@ returns-clause-begun c s own home =
     let u = c.args.unit.now in
     let seen : SeenLent = record { own = c.args.own.now; home = c.args.home.now; globals = s.globals } in
     let same : seen ≡ s = (λ i. record { own = sym own i; home = sym home i; globals = s.globals }) in
-    let ended = record { me = c.execute.new.me; outcome = c.in_ok-outcome.outcome } in
+    let ended_turn = record { me = c.execute.new.me; outcome = c.in_ok-outcome.outcome } in
     subst (λ (x : SeenLent). IfOk c.settle_on.result (λ e. ◌≡◌ {A = Begun} (has_ended (record { me = c.settle_on.new.me; end = e })) (begins c.args.place c.args.me.now x))) same
-    (ok_map c.settle_on.result _ _ (λ e is. ended_at_once c.args.place c.args.me.now seen c.args.line.now (record { row = u.row; tree = tree_at u.row u.bytes.now }) ended
+    (ok_map c.settle_on.result _ _ (λ e is. ended_at_once c.args.place c.args.me.now seen c.args.line.now (record { row = u.row; tree = tree_at u.row u.bytes.now }) ended_turn
     (record { me = c.settle_on.new.me; end = e }) c.requires.stands c.requires.line c.requires.statement c.requires.quiet (c.in_ok-outcome.ensures.ended s.globals) is) c.settle_on.ensures.ended)

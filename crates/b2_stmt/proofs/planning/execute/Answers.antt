@@ -12,5 +12,5 @@ returns-clause-ended c globals =
     let u = c.args.unit.now in
     let s : SeenLent = record { own = c.args.own.now; home = c.args.home.now; globals = globals } in
     let h : Here = record { place = c.args.place; units = tree_units c.args.line.now } in
-    let allowed : is_refused u.row true ≡ false = search rules in
-    ok_done c.execute_allowed.result c.execute_allowed.new.me s _ _ (sym (quiet_there u.row (tree_at u.row u.bytes.now) h c.args.me.now s c.requires.program allowed c.requires.quiet)) (c.execute_allowed.ensures.ended globals)
+    let permitted : is_refused u.row true ≡ false = search rules in
+    ok_done c.execute_allowed.result c.execute_allowed.new.me s _ _ (sym (quiet_there u.row (tree_at u.row u.bytes.now) h c.args.me.now s c.requires.program permitted c.requires.quiet)) (c.execute_allowed.ensures.ended globals)

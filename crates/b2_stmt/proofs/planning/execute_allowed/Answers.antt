@@ -8,7 +8,8 @@ use Rattle.b2_access.specs.Planning.{Ended}
 use Rattle.b2_access.specs.declared.planned.Outcome.{Outcome}
 use Rattle.b2_access.specs.declared.private.Private.{Private}
 use Rattle.b2_access.specs.declared.setting.Setting.{Setting}
-use Rattle.b2_stmt.specs.Around.{around, surroundings_of}
+use Rattle.b2_expr.specs.Scope.{surroundings_of}
+use Rattle.b2_expr.specs.Value.{context_of}
 use Rattle.b2_stmt.specs.Asked.{Here, is_still, still}
 use Rattle.b2_stmt.proofs.Executed.{still_there}
 use Rattle.b2_stmt.proofs.planning.execute_allowed.Goals as goal
