@@ -1,5 +1,5 @@
 // The statement at a place.
-ghost use Rattle.std.specs.Prelude.{◌≡◌, IfSome, option_map, Some};
+ghost use Rattle.std.specs.Prelude.{◌≡◌, ◌<◌, IfSome, option_map, Some};
 ghost use Rattle.b2_atom.specs.Tree.{uses_in};
 ghost use Rattle.b2_rows.specs.Laws.{IsRow};
 ghost use Rattle.b2_rows.specs.Rows.{tree_at};
@@ -36,6 +36,7 @@ pub fn statement_on(line: &Atoms, k: usize) -> Option<RowUnit<'_>>
     ensures statement { option_map (λ u. record { row = u.row; tree = tree_at u.row u.bytes.now }) result ≡ spec.statement_on (Some line.now) k }
     ensures whole { IfSome result (λ u. IsRow u.row u.bytes.now (tree_at u.row u.bytes.now)) }
     ensures uses { IfSome result (λ u. u.uses ≡ uses_in (tree_at u.row u.bytes.now)) }
+    ensures few { IfSome result (λ u. k < 255) }
 {
     row_unit(line, k)
 }

@@ -10,3 +10,4 @@ pub mod LocalSteps
 pub mod StepHomes
 pub mod KeptPlace
 pub mod StepTerminal
+pub mod AtOnce

@@ -1,5 +1,5 @@
 -- What a statement plans and how it finishes, by the crate that builds it.
-use Rattle.std.specs.Prelude.{◌==◌, Option, Some, None, is_some, if◌then◌else◌}
+use Rattle.std.specs.Prelude.{◌==◌, ◌&&◌, not, Bool, Option, Some, None, is_some, if◌then◌else◌}
 use Rattle.b2_base.specs.declared.codes.TheConstants.{S27_LEFT_OUT}
 use Rattle.b2_atom.specs.Tree.{names_global}
 use Rattle.b2_atom.specs.declared.rows.TheConstants as row
@@ -14,6 +14,7 @@ use Rattle.b2_access.specs.declared.planned.Outcome.TheVariants as outcome
 use Rattle.b2_access.specs.declared.planned.Planned.{Planned}
 use Rattle.b2_access.specs.declared.planned.Planned.TheVariants as planned
 use Rattle.b2_access.specs.declared.private.Private.{Private}
+use Rattle.b2_stmt.specs.Clearing.{asks_access}
 use Rattle.b2_stmt.specs.Plan as stmt
 use Rattle.b2_stmt_io.specs.Plan as stmt_io
 use Rattle.b2_stmt_io.specs.Showing.{shown}
@@ -34,6 +35,10 @@ builder_of u =
     else (if stmt.is_built u.row then builder.Control
     else (if stmt_io.is_built u.row then builder.Terminal
     else builder.Nobody)))
+
+-- whether a statement ends without an access, and the crate of control executes it
+abbrev pub ends_at_once : Statement → Bool
+ends_at_once u = not (names_global u.tree) && stmt.is_built u.row && not (asks_access u.row)
 
 -- what the statement at a place plans
 abbrev pub plan_by : Builder → Place → Private → SeenLent → Planning

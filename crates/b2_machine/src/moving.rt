@@ -1,8 +1,9 @@
 // Where a partition goes on after a statement, by its outcome.
-ghost use Rattle.std.specs.Prelude.{◌≡◌, ◌+◌, IfOk, option_map};
-ghost use Rattle.b2_access.specs.Placed.{statement_placed as named_at};
+ghost use Rattle.std.specs.Prelude.{◌≡◌, ◌+◌, Some, IfOk, option_map};
+ghost use Rattle.b2_access.specs.Placed.{line_named as line_of_place, statement_placed as named_at};
 ghost use Rattle.b2_access.specs.Places.{goal_place as place_of_goal};
 ghost use Rattle.b2_rows.specs.Following.{taken_fault as fault_taken, tree_units, unit_or_next};
+ghost use Rattle.b2_machine.specs.Endings as ending;
 ghost use Rattle.b2_machine.specs.Moving as spec;
 
 use crate::ends::{Stepped, Why, counts, ends_turn};
@@ -200,5 +201,28 @@ pub fn settle(
         Outcome::Repeat => Ok(same),
         Outcome::Break => break_after(alloc, me, home, place),
         Outcome::Ready => rest(alloc, me),
+    }
+}
+
+/// What comes of the outcome of a statement at a place in a line of the program.
+pub fn settle_on(
+    alloc: Global,
+    me: &mut Private,
+    home: &Text,
+    line: &Atoms,
+    place: Place,
+    outcome: Outcome,
+) -> Result<Stepped, NoMemory>
+    requires line { line_of_place me.old.immediate home.now.lines place.line ≡ Some line.now }
+    ensures ended { IfOk result (λ e. record { me = me.new; end = e } ≡ spec.ends_by ending.counts outcome place me.old home.now.lines) }
+    ensures part { me.new.part ≡ me.old.part }
+{
+    match outcome {
+        Outcome::Next => go_to(alloc, me, place_on(home, line, place)),
+        Outcome::Jump(to) => {
+            jump(me, home, place, to);
+            Ok(counts())
+        }
+        outcome => settle(alloc, me, home, place, outcome, counts()),
     }
 }

@@ -1,21 +1,22 @@
 // What a statement plans and how it finishes, over what is lent.
-ghost use Rattle.std.specs.Prelude.{◌≡◌, IfOk, IfSome, Option, Some, None, option_map};
+ghost use Rattle.std.specs.Prelude.{◌≡◌, ◌<◌, true, IfOk, IfSome, Option, Some, None, is_some, option_map};
 ghost use Rattle.b2_atom.specs.Tree.{uses_in};
 ghost use Rattle.b2_rows.specs.Laws.{IsRow};
 ghost use Rattle.b2_rows.specs.Rows.{tree_at};
 ghost use Rattle.b2_access.specs.Lending.{globals_lent, seen, SeenLent};
-ghost use Rattle.b2_access.specs.Placed.{statement_placed as named_at};
+ghost use Rattle.b2_access.specs.Placed.{line_named as line_of_place, statement_placed as named_at, statement_on as named_on};
 ghost use Rattle.b2_machine.specs.Statements as spec;
 ghost use Rattle.b2_machine.specs.Stays.{IsLegalCourse};
 
 use crate::ends::{Stepped, counts, repeats};
 use crate::listed::{after_list, named_range, range_listed};
-use crate::moving::settle;
+use crate::moving::{settle, settle_on};
 use crate::readiness::rest;
 use b2_access::{
-    Access, Answer, DeviceTable, Lent, Outcome, Planned, Private, failed, statement_placed,
+    Access, Answer, DeviceTable, Lent, Outcome, Planned, Private, failed, statement_on,
+    statement_placed,
 };
-use b2_atom::rows;
+use b2_atom::{Atoms, rows};
 use b2_base::NoMemory;
 use b2_base::codes::{S26_PROGRAM_ONLY, S27_LEFT_OUT};
 use b2_flow::Place;
@@ -158,8 +159,69 @@ fn begun(
     }
 }
 
-/// The statement at a place begins, over what is lent.
-pub fn begin_over(
+/// Whether a statement ends without an access, and the crate of control executes it.
+fn ends_at_once(unit: &RowUnit<'_>) -> bool
+    requires { unit.now.uses ≡ uses_in (tree_at unit.now.row unit.now.bytes.now) }
+    ensures { result ≡ spec.ends_at_once (record { row = unit.now.row; tree = tree_at unit.now.row unit.now.bytes.now }) }
+{
+    !unit.uses.globals && b2_stmt::is_built(unit.row) && !b2_stmt::asks_access(unit.row)
+}
+
+/// Executes the statement of a unit at a place in a line of the program, where it ends at once.
+fn end_at_once(
+    alloc: Global,
+    me: &mut Private,
+    own: &Text,
+    home: &Text,
+    line: &Atoms,
+    unit: &RowUnit<'_>,
+    place: Place,
+) -> Result<Stepped, NoMemory>
+    requires stands { me.old.place ≡ Some place }
+    requires program { is_some place.line ≡ true }
+    requires line { line_of_place me.old.immediate home.now.lines place.line ≡ Some line.now }
+    requires statement { Some (record { row = unit.now.row; tree = tree_at unit.now.row unit.now.bytes.now }) ≡ named_on (Some line.now) place.unit }
+    requires quiet { spec.ends_at_once (record { row = unit.now.row; tree = tree_at unit.now.row unit.now.bytes.now }) ≡ true }
+    requires read { IsRow unit.now.row unit.now.bytes.now (tree_at unit.now.row unit.now.bytes.now) }
+    requires few { place.unit < 255 }
+    ensures begun { (s : SeenLent) → s.own ≡ own.now → s.home ≡ home.now → IfOk result (λ e. spec.has_ended (record { me = me.new; end = e }) ≡ spec.begins place me.old s) }
+    ensures part { me.new.part ≡ me.old.part }
+{
+    let outcome = b2_stmt::execute(alloc, me, own, home, line, unit, place)?;
+    settle_on(alloc, me, home, line, place, outcome)
+}
+
+/// Executes the statement at a place, where it ends at once and stands in a line of the program.
+fn begin_at_once(
+    alloc: Global,
+    me: &mut Private,
+    own: &Text,
+    home: &Text,
+    place: Place,
+) -> Result<Option<Stepped>, NoMemory>
+    requires stands { me.old.place ≡ Some place }
+    ensures begun { (s : SeenLent) → s.own ≡ own.now → s.home ≡ home.now → IfOk result (λ e. IfSome e (λ e. spec.has_ended (record { me = me.new; end = e }) ≡ spec.begins place me.old s)) }
+    ensures same { IfOk result (λ e. e ≡ None → me.new ≡ me.old) }
+    ensures part { me.new.part ≡ me.old.part }
+{
+    let Some(n) = place.line else {
+        return Ok(None);
+    };
+    let Some(line) = home.line(n) else {
+        return Ok(None);
+    };
+    let Some(unit) = statement_on(line.atoms, usize::from(place.unit)) else {
+        return Ok(None);
+    };
+    if !ends_at_once(&unit) {
+        return Ok(None);
+    }
+    let end = end_at_once(alloc, me, own, home, line.atoms, &unit, place)?;
+    Ok(Some(end))
+}
+
+/// The statement at a place begins, over what is lent, by who executes it.
+fn begin_by(
     alloc: Global,
     me: &mut Private,
     lent: Lent<'_>,
@@ -187,6 +249,39 @@ pub fn begin_over(
     };
     let planned = plan_by(alloc, me, &mut lent, devices, *place, builder)?;
     begun(alloc, me, home, *place, planned, builder)
+}
+
+/// The statement at a place of a partition begins, over what is lent. One that ends at once is found by one look-up.
+pub fn begin_over(
+    alloc: Global,
+    me: &mut Private,
+    lent: Lent<'_>,
+    devices: &DeviceTable,
+    place: &Place,
+) -> Result<Course, NoMemory>
+    requires stands { me.old.place ≡ Some place.now }
+    ensures legal { IfOk result IsLegalCourse }
+    ensures begun { IfOk result (λ c. record { me = me.new; course = c } ≡ spec.begins place.now me.old (seen lent.entry)) }
+    ensures part { me.new.part ≡ me.old.part }
+{
+    let Lent {
+        own,
+        home,
+        globals,
+        found,
+    } = lent;
+    match begin_at_once(alloc, me, own, home, *place)? {
+        Some(end) => Ok(Course::Ended(end)),
+        None => {
+            let lent = Lent {
+                own,
+                home,
+                globals,
+                found,
+            };
+            begin_by(alloc, me, lent, devices, place)
+        }
+    }
 }
 
 /// It ends by the answer to its access, over what is lent again.

@@ -1,5 +1,5 @@
 // A step: the first of six rules that applies.
-ghost use Rattle.std.specs.Prelude.{◌≡◌, IfOk, OnOk, IsSome};
+ghost use Rattle.std.specs.Prelude.{◌≡◌, Some, IfOk, OnOk, IsSome};
 ghost use Rattle.b2_access.specs.Store.{content};
 ghost use Rattle.b2_access.specs.Touching.{IsLegal};
 ghost use Rattle.b2_machine.specs.Statements.{begins};
@@ -120,6 +120,7 @@ fn begin<S: Shared>(
     d: &DeviceTable,
     place: &Place,
 ) -> Result<Course, NoMemory>
+    requires stands { me.old.place ≡ Some place.now }
     requires own { IsSome (content (S.store (S.meaning s.old)) (Object.Text me.old.part)) }
     ensures legal { IfOk result IsLegalCourse }
     ensures begun { IfOk result (λ c. record { me = me.new; course = c } ≡ begins place.now me.old (spec.seen_by me.old (S.store (S.meaning s.old)))) }
@@ -187,6 +188,7 @@ fn execute<S: Shared>(
     d: &DeviceTable,
     place: Place,
 ) -> Result<Stepped, NoMemory>
+    requires stands { me.old.place ≡ Some place }
     requires own { IsSome (content (S.store (S.meaning s.old)) (Object.Text me.old.part)) }
     ensures ended { IfOk result (λ e. record { me = me.new; after = S.meaning s.new; end = e } ≡ spec.executes S.store S.serving S.lending place me.old (S.meaning s.old)) }
     ensures same { S.holds s.new ≡ S.holds s.old }

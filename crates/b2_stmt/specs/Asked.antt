@@ -1,5 +1,5 @@
 -- What a statement asks of the private state, by its row and its tree.
-use Rattle.std.specs.Prelude.{◌≡◌, ℕ, ◌+◌, ◌==◌, Bool, true, false, List, Option, None, Some, is_some, unwrap_or, Result, Ok, Err, if◌then◌else◌}
+use Rattle.std.specs.Prelude.{◌≡◌, ℕ, ◌+◌, ◌==◌, ◌||◌, Bool, true, false, List, Option, None, Some, is_some, unwrap_or, Result, Ok, Err, if◌then◌else◌}
 use Rattle.b2_base.specs.declared.codes.TheConstants.{S26_PROGRAM_ONLY, S27_LEFT_OUT}
 use Rattle.b2_dec.specs.declared.number.Mode.TheVariants.{Round, Cut}
 use Rattle.b2_dec.specs.declared.values.Value.{Value}
@@ -75,6 +75,12 @@ still r t h s lines =
     else (if r == row.DEFFN then passed_function t
     else (if r == row.BREAK then outcome.Break
     else outcome.Failed S27_LEFT_OUT)))))))))
+
+-- whether the statement of a row is one of them
+abbrev pub is_still : ℕ → Bool
+is_still r =
+    r == row.IF || r == row.GOTO || r == row.ELSE || r == row.ERROR || r == row.END || r == row.REMARK || r == row.IMAGE_LINE || r == row.DATA || r == row.DEFFN
+    || r == row.BREAK
 
 -- what the statement of a row asks for; what isn't built is left out
 abbrev pub asked_of : ℕ → Trees → Here → Context → Lines → Asked

@@ -1,5 +1,5 @@
 -- CLEAR and CLEAR P: what they ask of the store, and how they finish.
-use Rattle.std.specs.Prelude.{ℕ, ◌==◌, [], ◌∷◌, ◌++◌, codes, Option, None, Some, if◌then◌else◌}
+use Rattle.std.specs.Prelude.{ℕ, ◌==◌, ◌||◌, Bool, [], ◌∷◌, ◌++◌, codes, Option, None, Some, if◌then◌else◌}
 use Rattle.std.specs.FinMap as map
 use Rattle.b2_base.specs.Byte as byte
 use Rattle.b2_base.specs.declared.codes.TheConstants.{A08_TEXT_BORROWED}
@@ -41,7 +41,10 @@ abbrev pub asks_to_erase : Trees → Access
 asks_to_erase (Put word (Put letter range)) = erases_range range
 asks_to_erase t = access.Erase 0 9999 0
 
--- the access that a statement asks for, where it asks for one
+-- whether a statement asks for an access, and the access that it asks for
+abbrev pub asks_access : ℕ → Bool
+asks_access r = r == row.CLEAR || r == row.CLEAR_P
+
 abbrev pub asked_access : ℕ → Trees → Option Access
 asked_access r t = if r == row.CLEAR then Some (access.ClearAll None 0) else (if r == row.CLEAR_P then Some (asks_to_erase t) else None)
 

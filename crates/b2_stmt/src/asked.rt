@@ -166,7 +166,7 @@ fn if_outcome<'a>(
 }
 
 /// How a statement ends that changes nothing.
-fn still(
+pub fn still(
     vars: &Vars,
     a: &Setting,
     home: &Text,

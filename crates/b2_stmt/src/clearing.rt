@@ -52,6 +52,13 @@ fn asks_to_erase(unit: &[u8]) -> Access
     erases_range(dropped(dropped(unit, 1), 1))
 }
 
+/// Whether a statement asks for an access.
+pub fn asks_access(row: u16) -> bool
+    ensures { result ≡ spec.asks_access row }
+{
+    row == rows::CLEAR || row == rows::CLEAR_P
+}
+
 /// The access that a statement asks for, where it asks for one.
 pub fn asked_access(row: u16, unit: &[u8]) -> Option<Access>
     requires part { is_part row unit.now ≡ true }

@@ -30,8 +30,8 @@ mod on_variables;
 mod planning;
 mod reading;
 
-pub use clearing::finish;
-pub use planning::{is_built, plan};
+pub use clearing::{asks_access, finish};
+pub use planning::{execute, is_built, plan};
 
 #[cfg(test)]
 mod tests;

@@ -1,7 +1,7 @@
 use Rattle.b2_access.specs.Lending.{seen}
 use Rattle.b2_machine.proofs.LegalPlans.{legal_begun, legal_planned}
 use Rattle.b2_machine.proofs.Results.{ok_map}
-use Rattle.b2_machine.proofs.statements.begin_over.Goals as goal
+use Rattle.b2_machine.proofs.statements.begin_by.Goals as goal
 
 pub returns-clause-legal : goal.returns-clause-legal
 returns-clause-legal c =
