@@ -6,6 +6,7 @@ ghost use Rattle.b2_rows.specs.Rows.{tree_at};
 ghost use Rattle.b2_text.specs.Program.{line_at};
 ghost use Rattle.b2_vars.specs.Tables.{VarsState};
 ghost use Rattle.b2_access.specs.Lending.{globals_lent, seen};
+ghost use Rattle.b2_access.specs.Partition.{setting_of};
 ghost use Rattle.b2_access.specs.Planning.{done};
 ghost use Rattle.b2_expr.specs.Value.{context_of};
 ghost use Rattle.b2_stmt.specs.Asked.{asked_of, carried, is_still};
