@@ -115,13 +115,13 @@ module _ (p : Place) where
   faulted code (Some q) me from k = λ r. k (from r)
 
   -- after the outcome of a statement at this place
-  ended_turn : (same : Stepped) (o : Outcome) (me : Private) (home : Lines) → me.place ≡ Some p → (is_some p.line ≡ true → (me.kept ≡ None) ⊎ (o ≡ outcome.Ready)) → KeepsNone (ends_by same o p me home).me
-  ended_turn same outcome.Next me home is k = gone (following_place p me home) me (next_here home (p.unit + 1) (units_at p me home)) (λ r. not_ready me.kept outcome.Next (λ e. cc) (k r))
-  ended_turn same (outcome.Jump q) me home is k = jumped (is_some p.line) (is_some q.line) q me home refl refl (λ r. not_ready me.kept (outcome.Jump q) (λ e. cc) (k r))
-  ended_turn same (outcome.Failed code) me home is k = faulted code (error_place code p me home) me (fault_here code me home) (λ r. not_ready me.kept (outcome.Failed code) (λ e. cc) (k r))
-  ended_turn same outcome.Repeat me home is k = λ r. not_ready me.kept outcome.Repeat (λ e. cc) (k (sym (ap Runs is) ∙ r))
-  ended_turn same outcome.Break me home is k = gone (following_place p me home) me (next_here home (p.unit + 1) (units_at p me home)) (λ r. not_ready me.kept outcome.Break (λ e. cc) (k r))
-  ended_turn same outcome.Ready me home is k = λ r. absurd (false_is_true r)
+  ended : (same : Stepped) (o : Outcome) (me : Private) (home : Lines) → me.place ≡ Some p → (is_some p.line ≡ true → (me.kept ≡ None) ⊎ (o ≡ outcome.Ready)) → KeepsNone (ends_by same o p me home).me
+  ended same outcome.Next me home is k = gone (following_place p me home) me (next_here home (p.unit + 1) (units_at p me home)) (λ r. not_ready me.kept outcome.Next (λ e. cc) (k r))
+  ended same (outcome.Jump q) me home is k = jumped (is_some p.line) (is_some q.line) q me home refl refl (λ r. not_ready me.kept (outcome.Jump q) (λ e. cc) (k r))
+  ended same (outcome.Failed code) me home is k = faulted code (error_place code p me home) me (fault_here code me home) (λ r. not_ready me.kept (outcome.Failed code) (λ e. cc) (k r))
+  ended same outcome.Repeat me home is k = λ r. not_ready me.kept outcome.Repeat (λ e. cc) (k (sym (ap Runs is) ∙ r))
+  ended same outcome.Break me home is k = gone (following_place p me home) me (next_here home (p.unit + 1) (units_at p me home)) (λ r. not_ready me.kept outcome.Break (λ e. cc) (k r))
+  ended same outcome.Ready me home is k = λ r. absurd (false_is_true r)
 
   -- what a statement plans at this place, and how it finishes
   abbrev Here : Private → Type 0
@@ -166,7 +166,7 @@ module _ (p : Place) where
   finished builder.Nobody x a me s h = (h.0, λ r. inl (h.1 r))
 
   finish_keeps : (b : Builder) (x : Access) (a : Answer) (me : Private) (s : SeenLent) → Here me → KeepsNone (finishes b x a p me s).me
-  finish_keeps b x a me s h = let f = finished b x a me s h in ended_turn _ (finish_by b x a me s).outcome (finish_by b x a me s).me s.home.lines f.0 f.1
+  finish_keeps b x a me s h = let f = finished b x a me s h in ended _ (finish_by b x a me s).outcome (finish_by b x a me s).me s.home.lines f.0 f.1
 
   outcome_of : Planned → Outcome
   outcome_of (planned.Done o) = o
@@ -186,7 +186,7 @@ module _ (p : Place) where
 
   module _ {M : Type 0} (store : M → StoreState) (serving : ServingOf M) (lending : Loan M) where
     begun_keeps : (x : Planned) (b : Builder) (me : Private) (home : Lines) (m : M) → PlannedHere me x → KeepsNone (goes_through store serving lending (begun_by x b p me home) p m).me
-    begun_keeps (planned.Done o) b me home m h = ended_turn _ o me home h.0 (λ r. done_kept o me.kept (h.1 r))
+    begun_keeps (planned.Done o) b me home m h = ended _ o me home h.0 (λ r. done_kept o me.kept (h.1 r))
     begun_keeps (planned.Ask a) b me home m h =
         let g = serving m me.part a in
         finish_keeps b a g.answer me (seen_by me (store g.after)) (h.0, λ r. asked_kept a me.kept (h.1 r))

@@ -165,16 +165,16 @@ module _ {M : Type 0} (store : M → StoreState) (serving : ServingOf M) (lendin
       within = λ m o i. inr (inr (local.within me.part a m o i));
     }
 
-    ended_turn : (e : Stepped) (me : Private) → Goes part (λ s. asks_over (course.Ended e) me) (over (course.Ended e) me)
+    ended : (e : Stepped) (me : Private) → Goes part (λ s. asks_over (course.Ended e) me) (over (course.Ended e) me)
     unfolding over asks_over
-    ended_turn e me = record {
+    ended e me = record {
       alike = λ m n agree. record { touches = refl; wrote = refl; own = refl; end = refl; contents = λ o i. absurd i };
       others = λ m o out. lent_same first m o;
       within = λ m o i. absurd i;
     }
 
     began : (c : Course) (me : Private) → Goes part (λ s. asks_over c me) (over c me)
-    began (course.Ended e) me = ended_turn e me
+    began (course.Ended e) me = ended e me
     began (course.Asks a b) me = asked b a me
 
   -- the statement at a place
