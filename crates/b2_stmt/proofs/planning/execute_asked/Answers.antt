@@ -3,7 +3,7 @@ use Rattle.b2_rows.specs.Following.{tree_units}
 use Rattle.b2_rows.specs.Rows.{tree_at}
 use Rattle.b2_expr.specs.Scope.{Context}
 use Rattle.b2_expr.specs.Value.{in_statement}
-use Rattle.b2_access.specs.declared.setting.Setting.{Setting}
+use Rattle.b2_vars.specs.declared.setting.Setting.{Setting}
 use Rattle.b2_access.specs.Planning.{Ended}
 use Rattle.b2_expr.specs.Scope.{surroundings_of}
 use Rattle.b2_expr.specs.Value.{context_of}
