@@ -23,5 +23,5 @@ abbrev pub line_named : Option (List ℕ) → Lines → Option ℕ → Option (L
 line_named immediate home None = immediate
 line_named immediate home (Some n) = line_at n home
 
-abbrev pub statement_at : Place → Option (List ℕ) → Lines → Option Statement
-statement_at p immediate home = statement_on (line_named immediate home p.line) p.unit
+abbrev pub statement_placed : Place → Option (List ℕ) → Lines → Option Statement
+statement_placed p immediate home = statement_on (line_named immediate home p.line) p.unit

@@ -14,14 +14,14 @@ pub data Task : Type 0 where
   Look : (o : Object) → (Option (ContentOf o) → Task) → Task
   Tell : List Put → Answer → Task
 
-abbrev pub put_all : List Put → StoreState → StoreState
-put_all [] s = s
-put_all (p ∷ ps) s = put_all ps (put p.place p.value s)
+abbrev pub put_each : List Put → StoreState → StoreState
+put_each [] s = s
+put_each (p ∷ ps) s = put_each ps (put p.place p.value s)
 
 -- what is answered, and the store after it
 abbrev pub performs : Task → StoreState → Gives StoreState
 performs (Look o next) s = performs (next (content s o)) s
-performs (Tell puts answer) s = record { after = put_all puts s; answer = answer }
+performs (Tell puts answer) s = record { after = put_each puts s; answer = answer }
 
 -- the objects that it looks at
 abbrev pub looked_at : Task → StoreState → List Object

@@ -4,13 +4,13 @@ use Rattle.std.proofs.Common.{ap, subst, ◌∙◌, inl, inr}
 use Rattle.b2_access.specs.declared.objects.Object.{Object}
 use Rattle.b2_access.specs.Store.{StoreState, ContentOf, content, IsIn, AgreeOn}
 use Rattle.b2_access.specs.Contents.{content_other, put_alike, put_listed}
-use Rattle.b2_access.specs.Task.{Put, Task, Look, Tell, put_all, performs, looked_at, told}
+use Rattle.b2_access.specs.Task.{Put, Task, Look, Tell, put_each, performs, looked_at, told}
 
-put_all_alike : (ps : List Put) (o : Object) (s t : StoreState) → content s o ≡ content t o → content (put_all ps s) o ≡ content (put_all ps t) o
+put_all_alike : (ps : List Put) (o : Object) (s t : StoreState) → content s o ≡ content t o → content (put_each ps s) o ≡ content (put_each ps t) o
 put_all_alike [] o s t same = same
 put_all_alike (p ∷ ps) o s t same = put_all_alike ps o _ _ (put_alike p.place o p.value s t same)
 
-put_all_other : (ps : List Put) (o : Object) (s : StoreState) → (IsIn o (map (λ p. p.place) ps) → ⊥) → content (put_all ps s) o ≡ content s o
+put_all_other : (ps : List Put) (o : Object) (s : StoreState) → (IsIn o (map (λ p. p.place) ps) → ⊥) → content (put_each ps s) o ≡ content s o
 put_all_other [] o s out = refl
 put_all_other (p ∷ ps) o s out =
     put_all_other ps o _ (λ h. out (inr h)) ∙ content_other p.place o p.value s (λ e. out (inl e))
@@ -35,7 +35,7 @@ pub others : (task : Task) (s : StoreState) (o : Object) → (IsIn o (told task 
 others (Look x f) s o out = others (f (content s x)) s o out
 others (Tell ps answer) s o out = put_all_other ps o s out
 
-put_all_listed : (ps : List Put) (o : Object) (s : StoreState) → IsSome (content s o) → IsSome (content (put_all ps s) o)
+put_all_listed : (ps : List Put) (o : Object) (s : StoreState) → IsSome (content s o) → IsSome (content (put_each ps s) o)
 put_all_listed [] o s listed = listed
 put_all_listed (p ∷ ps) o s listed = put_all_listed ps o _ (put_listed p.place o p.value s listed)
 

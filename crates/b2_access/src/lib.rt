@@ -38,7 +38,7 @@ pub use ending::{failing, goes_or};
 pub use going::{failed, named_at, to_found, to_goal, to_line, to_place};
 pub use lending::{At, Lent};
 pub use objects::Object;
-pub use placed::{line_named, statement_at, statement_on};
+pub use placed::{line_named, statement_placed, statement_on};
 pub use places::{goal_place, place_after};
 pub use planned::{Outcome, Planned};
 pub use private::Private;

@@ -41,12 +41,12 @@ pub fn statement_on(line: &Atoms, k: usize) -> Option<RowUnit<'_>>
 }
 
 /// The statement at a place.
-pub fn statement_at<'a>(
+pub fn statement_placed<'a>(
     place: Place,
     immediate: &'a Option<Atoms>,
     home: &'a Text,
 ) -> Option<RowUnit<'a>>
-    ensures statement { option_map (λ u. record { row = u.row; tree = tree_at u.row u.bytes.now }) result ≡ spec.statement_at place immediate.now home.now.lines }
+    ensures statement { option_map (λ u. record { row = u.row; tree = tree_at u.row u.bytes.now }) result ≡ spec.statement_placed place immediate.now home.now.lines }
     ensures whole { IfSome result (λ u. IsRow u.row u.bytes.now (tree_at u.row u.bytes.now)) }
     ensures uses { IfSome result (λ u. u.uses ≡ uses_in (tree_at u.row u.bytes.now)) }
 {

@@ -1,7 +1,7 @@
 -- The lines of a text, one after the other.
 use Rattle.std.proofs.Common.{◌≡◌, ℕ, ◌+◌, ◌<◌, ◌≤◌, List, [], ◌∷◌, ◌==◌, Bool, true, false, length, refl, ap, ◌∙◌, arith, if◌then◌else◌}
 use Rattle.b2_base.specs.Pieces.{pieces, onto}
-use Rattle.b2_boot.specs.LogLines.{lines_of, without_return, without_returns}
+use Rattle.b2_boot.specs.LogLines.{text_lines, without_return, without_returns}
 
 length-onto : (b : ℕ) (ps : List (List ℕ)) (n : ℕ) → length ps ≤ n + 1 → length (onto (b ∷ []) ps) ≤ n + 2
 length-onto b [] n h = omega arith
@@ -22,7 +22,7 @@ length-without_returns (l ∷ []) = refl
 length-without_returns (l ∷ m ∷ ls) = let h = length-without_returns (m ∷ ls) in omega arith
 
 -- no more lines than bytes, and one
-pub length-lines_of : (text : List ℕ) → length (lines_of text) ≤ length text + 1
+pub length-lines_of : (text : List ℕ) → length (text_lines text) ≤ length text + 1
 length-lines_of text = let h = length-pieces 10 text in let k = length-without_returns (pieces 10 text) in omega arith
 
 some_onto : (b : ℕ) (ps : List (List ℕ)) → 0 < length (onto (b ∷ []) ps)
@@ -43,9 +43,9 @@ before_more l [] h = absurd (omega arith)
 before_more l (p ∷ ps) h = refl
 
 -- a line that a newline ends
-pub line_ended : (text line rest : List ℕ) → pieces 10 text ≡ line ∷ pieces 10 rest → lines_of text ≡ without_return line ∷ lines_of rest
+pub line_ended : (text line rest : List ℕ) → pieces 10 text ≡ line ∷ pieces 10 rest → text_lines text ≡ without_return line ∷ text_lines rest
 line_ended text line rest is = ap without_returns is ∙ before_more line (pieces 10 rest) (some_piece 10 rest)
 
 -- the last line, which no newline ends
-pub last_line : (text line : List ℕ) → pieces 10 text ≡ line ∷ [] → lines_of text ≡ line ∷ []
+pub last_line : (text line : List ℕ) → pieces 10 text ≡ line ∷ [] → text_lines text ≡ line ∷ []
 last_line text line is = ap without_returns is

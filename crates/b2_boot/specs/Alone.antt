@@ -4,8 +4,8 @@ use Rattle.std.specs.List.{list_any}
 use Rattle.b2_boot.specs.Boots.{BootState}
 
 -- a group that is listed
-abbrev pub is_listed : List ℕ → ℕ → Bool
-is_listed parts p = list_any (λ q. q == p) parts
+abbrev pub is_in_group : List ℕ → ℕ → Bool
+is_in_group parts p = list_any (λ q. q == p) parts
 
 -- the partitions outside it go; their numbers, the quota, the terminals and the fronts stay
 abbrev pub alone : (ℕ → Bool) → BootState → BootState

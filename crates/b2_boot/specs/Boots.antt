@@ -9,7 +9,7 @@ use Rattle.b2_boot.specs.declared.boot.BootPartition.{BootPartition}
 use Rattle.b2_boot.specs.declared.boot_file.BootErr.{BootErr}
 use Rattle.b2_boot.specs.declared.boot_file.BootErr.TheVariants as refused
 use Rattle.toml.specs.Data.{Members}
-use Rattle.b2_boot.specs.Rows.{RowsState, document_of, rows_of, is_between}
+use Rattle.b2_boot.specs.Rows.{RowsState, document_of, document_rows, is_between}
 
 -- a boot: the quota of a turn, and its terminals and partitions by number
 pub record BootState : Type 0 where
@@ -41,8 +41,8 @@ sizes_fit p = is_between 2 24 p.text && (is_between 2 24 p.vars && nat_le p.glob
 abbrev pub has_row : ℕ → List TerminalRow → Bool
 has_row t rows = list_any (λ r. r.number == t) rows
 
-abbrev pub all_listed : List TerminalRow → List PartitionRow → Bool
-all_listed terminals partitions = list_all (λ p. has_row p.terminal terminals) partitions
+abbrev pub terminals_listed : List TerminalRow → List PartitionRow → Bool
+terminals_listed terminals partitions = list_all (λ p. has_row p.terminal terminals) partitions
 
 -- 8: each front is a partition of its terminal
 abbrev pub is_partition_at : ℕ → ℕ → List PartitionRow → Bool
@@ -66,9 +66,9 @@ one_or_none None = []
 one_or_none (Some x) = x ∷ []
 
 -- the rows of the numbers from 1 to a last one, in that order
-abbrev pub up_to : {A : Type 0} → (A → ℕ) → ℕ → List A → List A
-up_to number zero rows = []
-up_to number (suc n) rows = up_to number n rows ++ rows_numbered number (suc n) rows
+abbrev pub rows_up_to : {A : Type 0} → (A → ℕ) → ℕ → List A → List A
+rows_up_to number zero rows = []
+rows_up_to number (suc n) rows = rows_up_to number n rows ++ rows_numbered number (suc n) rows
 
 abbrev pub number_of_terminal : TerminalRow → ℕ
 number_of_terminal r = r.number
@@ -78,12 +78,12 @@ number_of_partition r = r.number
 
 -- the rows in ascending order
 abbrev pub ascending : RowsState → RowsState
-ascending b = record { quota = b.quota; terminals = up_to number_of_terminal 12 b.terminals; partitions = up_to number_of_partition 16 b.partitions }
+ascending b = record { quota = b.quota; terminals = rows_up_to number_of_terminal 12 b.terminals; partitions = rows_up_to number_of_partition 16 b.partitions }
 
 -- the checks of rows in ascending order
 abbrev pub checks_of_sorted : List TerminalRow → List PartitionRow → List (ℕ × Bool)
 checks_of_sorted terminals partitions =
-    (6, list_all sizes_fit partitions) ∷ (7, all_listed terminals partitions) ∷ (8, all_fronts_fit terminals partitions) ∷ []
+    (6, list_all sizes_fit partitions) ∷ (7, terminals_listed terminals partitions) ∷ (8, all_fronts_fit terminals partitions) ∷ []
 
 -- the checks of what a document says; those of sizes and between rows look at the rows in ascending order
 abbrev pub checks : RowsState → RowsState → List (ℕ × Bool)
@@ -101,15 +101,15 @@ has_places t = is_between 1 12 t.number && is_between 1 16 t.front
 abbrev pub has_its_places : PartitionRow → Bool
 has_its_places p = is_between 1 16 p.number && is_between 1 12 p.terminal
 
-abbrev pub terminal_of : TerminalRow → BootTerminal
-terminal_of r = record { number = r.number; front = r.front }
+abbrev pub boot_terminal : TerminalRow → BootTerminal
+boot_terminal r = record { number = r.number; front = r.front }
 
 abbrev pub partition_of : PartitionRow → BootPartition
 partition_of r = record { number = r.number; terminal = r.terminal; text = r.text; vars = r.vars; globals = r.globals }
 
 -- the boot of rows in ascending order
 abbrev pub boot_from : RowsState → BootState
-boot_from b = record { quota = b.quota; terminals = map terminal_of b.terminals; partitions = map partition_of b.partitions }
+boot_from b = record { quota = b.quota; terminals = map boot_terminal b.terminals; partitions = map partition_of b.partitions }
 
 -- the boot of rows, or the check that they fail
 abbrev pub unless_failed : Option ℕ → BootState → Result BootState ℕ
@@ -122,7 +122,7 @@ boot_by_rows (Some b) = unless_failed (check_of_rows b) (boot_from (ascending b)
 
 abbrev pub boot_by_document : Option Members → Result BootState ℕ
 boot_by_document None = Err 1
-boot_by_document (Some document) = boot_by_rows (rows_of document)
+boot_by_document (Some document) = boot_by_rows (document_rows document)
 
 -- the boot that a file says, or the first check that it fails
 abbrev pub boot_of : List ℕ → Result BootState ℕ
@@ -159,7 +159,7 @@ pub record IsGood (b : BootState) : Type 0 where
 -- a boot has the quota and the rows of a file, in another order
 pub record Keeps (rows : RowsState) (b : BootState) : Type 0 where
   pub quota : b.quota ≡ rows.quota
-  pub terminals : IsPermutation (map terminal_of rows.terminals) b.terminals
+  pub terminals : IsPermutation (map boot_terminal rows.terminals) b.terminals
   pub partitions : IsPermutation (map partition_of rows.partitions) b.partitions
 
 -- there are rows, and a boot keeps them

@@ -20,13 +20,13 @@ without_returns (l ∷ []) = l ∷ []
 without_returns (l ∷ m ∷ ls) = without_return l ∷ without_returns (m ∷ ls)
 
 -- the lines of a text; after the last newline there is one more, which may be empty
-abbrev pub lines_of : List ℕ → List (List ℕ)
-lines_of text = without_returns (pieces byte.newline text)
+abbrev pub text_lines : List ℕ → List (List ℕ)
+text_lines text = without_returns (pieces byte.newline text)
 
 -- the lines of what follows a newline, where there is one
-abbrev pub lines_after : Option (List ℕ) → List (List ℕ)
-lines_after None = []
-lines_after (Some rest) = lines_of rest
+abbrev pub lines_beyond : Option (List ℕ) → List (List ℕ)
+lines_beyond None = []
+lines_beyond (Some rest) = text_lines rest
 
 -- digits alone as their number, or as a million where it is above, which is out of each range
 abbrev pub digits_alone : List ℕ → Option ℕ
@@ -41,12 +41,12 @@ abbrev pub only_number : Option (List ℕ) → Option ℕ
 only_number args = option_and_then plain_number args
 
 -- two numbers, parted by a blank
-abbrev pub pair_of : Option ℕ → Option ℕ → Option (ℕ × ℕ)
-pair_of (Some m) (Some n) = Some (m, n)
-pair_of m n = None
+abbrev pub number_pair : Option ℕ → Option ℕ → Option (ℕ × ℕ)
+number_pair (Some m) (Some n) = Some (m, n)
+number_pair m n = None
 
 abbrev pub pair_by : List ℕ → Option (ℕ × ℕ)
-pair_by args = pair_of (plain_number (before byte.blank args)) (only_number (after byte.blank args))
+pair_by args = number_pair (plain_number (before byte.blank args)) (only_number (after byte.blank args))
 
 abbrev pub pair_in : Option (List ℕ) → Option (ℕ × ℕ)
 pair_in args = option_and_then pair_by args

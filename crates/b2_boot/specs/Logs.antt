@@ -4,7 +4,7 @@ use Rattle.std.specs.Global.{Vec}
 use Rattle.b2_term.specs.declared.KeyItem.TheVariants as key
 use Rattle.b2_boot.specs.Rows.{is_between}
 use Rattle.b2_boot.specs.Boots.{BootState, first_failed, has_terminal, has_partition}
-use Rattle.b2_boot.specs.LogLines.{asked_by_line, lines_of}
+use Rattle.b2_boot.specs.LogLines.{asked_by_line, text_lines}
 use Rattle.b2_boot.specs.declared.log.Event.{Event}
 use Rattle.b2_boot.specs.declared.log.Event.TheVariants as event
 use Rattle.b2_boot.specs.declared.log.LogErr.{LogErr}
@@ -91,7 +91,7 @@ log_from b line granted (l ∷ ls) = by_line (log_line b granted l)
 
 -- what a log says
 abbrev pub log_of : BootState → List ℕ → LogRead
-log_of b bytes = log_from b 1 0 (lines_of bytes)
+log_of b bytes = log_from b 1 0 (text_lines bytes)
 
 -- an answer to a log: its events, or its first line that fails and the first check of that; memory may fail at any time
 abbrev pub Answers : LogRead → Result (Vec Event) LogErr → Type 0
@@ -106,7 +106,7 @@ AreEvents (Refused line check) = ⊥
 
 -- a line that is told is one of the log's, and those before it pass
 abbrev pub IsFirst : BootState → List ℕ → LogErr → Type 0
-IsFirst b bytes (refused.Line line check) = (1 ≤ line) × (line ≤ length (lines_of bytes)) × AreEvents (log_from b 1 0 (take (line - 1) (lines_of bytes)))
+IsFirst b bytes (refused.Line line check) = (1 ≤ line) × (line ≤ length (text_lines bytes)) × AreEvents (log_from b 1 0 (take (line - 1) (text_lines bytes)))
 IsFirst b bytes refused.NoMemory = Unit {0}
 
 -- the steps that an event grants, and those of events

@@ -57,8 +57,8 @@ terminal_from (Some number) (Some front) = Some (record { number = number; front
 terminal_from number front = None
 
 -- the row of a terminal
-abbrev pub terminal_row : Members → Option TerminalRow
-terminal_row ms = if all_known section.Terminal ms then terminal_from (number_of_key (codes "number") ms) (number_of_key (codes "front") ms) else None
+abbrev pub terminal_said : Members → Option TerminalRow
+terminal_said ms = if all_known section.Terminal ms then terminal_from (number_of_key (codes "number") ms) (number_of_key (codes "front") ms) else None
 
 -- the sizes of a partition: of its text, its variables and its globals
 abbrev pub sizes_from : Option ℕ → Option ℕ → Option ℕ → ℕ → ℕ → Option PartitionRow
@@ -86,7 +86,7 @@ before_rows x xs = None
 -- each item as a row of its own
 abbrev pub terminal_rows : Items → Option (List TerminalRow)
 terminal_rows no_items = Some []
-terminal_rows (item d ds) = before_rows (option_and_then terminal_row (as_table d)) (terminal_rows ds)
+terminal_rows (item d ds) = before_rows (option_and_then terminal_said (as_table d)) (terminal_rows ds)
 
 abbrev pub partition_rows : Items → Option (List PartitionRow)
 partition_rows no_items = Some []
@@ -98,8 +98,8 @@ quota_of None = None
 quota_of (Some quota) = if is_between 1 1000 quota then Some quota else None
 
 -- the rows of all terminals, and of all partitions
-abbrev pub terminals_of : Members → Option (List TerminalRow)
-terminals_of ms = option_and_then terminal_rows (items_of_key (get_member (codes "terminal") ms))
+abbrev pub valid_terminals : Members → Option (List TerminalRow)
+valid_terminals ms = option_and_then terminal_rows (items_of_key (get_member (codes "terminal") ms))
 
 abbrev pub partitions_of : Members → Option (List PartitionRow)
 partitions_of ms = option_and_then partition_rows (items_of_key (get_member (codes "partition") ms))
@@ -109,6 +109,6 @@ rows_from (Some quota) (Some terminals) (Some partitions) = Some (record { quota
 rows_from quota terminals partitions = None
 
 -- what a document says: each key known and there, of its kind, and a quota that is in range
-abbrev pub rows_of : Members → Option RowsState
-rows_of ms =
-    if all_known section.File ms then rows_from (quota_of (number_of_key (codes "quota") ms)) (terminals_of ms) (partitions_of ms) else None
+abbrev pub document_rows : Members → Option RowsState
+document_rows ms =
+    if all_known section.File ms then rows_from (quota_of (number_of_key (codes "quota") ms)) (valid_terminals ms) (partitions_of ms) else None

@@ -1,6 +1,6 @@
 // A boot with a group of partitions alone.
 ghost use Rattle.std.specs.Prelude.{◌≡◌, IfOk, filter};
-ghost use Rattle.b2_boot.specs.Alone.{alone, is_listed};
+ghost use Rattle.b2_boot.specs.Alone.{alone, is_in_group};
 
 use crate::boot::{Boot, BootPartition, BootTerminal};
 use b2_base::{NoMemory, Part};
@@ -9,25 +9,25 @@ use std::alloc::Global;
 impl Boot {
     /// The boot with a group of partitions alone: those that it doesn't list are dropped, and all else stays, fronts included.
     pub fn alone(&self, alloc: Global, group: &[Part]) -> Result<Boot, NoMemory>
-        ensures alone { IfOk result (λ b. b ≡ alone (is_listed group.now) self.now) }
+        ensures alone { IfOk result (λ b. b ≡ alone (is_in_group group.now) self.now) }
     {
         Ok(Boot {
             quota: self.quota,
-            terminals: copied(alloc, &self.terminals)?,
+            terminals: terminals_copied(alloc, &self.terminals)?,
             partitions: members(alloc, &self.partitions, group)?,
         })
     }
 }
 
 /// Whether a group lists a partition.
-fn is_listed(group: &[Part], part: Part) -> bool
-    ensures { result ≡ is_listed group.now part }
+fn is_in_group(group: &[Part], part: Part) -> bool
+    ensures { result ≡ is_in_group group.now part }
 {
     group.iter().any(|p| *p == part)
 }
 
 /// All terminals.
-fn copied(alloc: Global, terminals: &[BootTerminal]) -> Result<Vec<BootTerminal>, NoMemory>
+fn terminals_copied(alloc: Global, terminals: &[BootTerminal]) -> Result<Vec<BootTerminal>, NoMemory>
     ensures { IfOk result (λ copies. copies.items ≡ terminals.now) }
 {
     let mut copies = Vec::new(alloc);
@@ -41,11 +41,11 @@ fn members(
     partitions: &[BootPartition],
     group: &[Part],
 ) -> Result<Vec<BootPartition>, NoMemory>
-    ensures { IfOk result (λ members. members.items ≡ filter (λ p. is_listed group.now p.number) partitions.now) }
+    ensures { IfOk result (λ members. members.items ≡ filter (λ p. is_in_group group.now p.number) partitions.now) }
 {
     let mut members = Vec::new(alloc);
     for p in partitions {
-        if is_listed(group, p.number) {
+        if is_in_group(group, p.number) {
             members.push(*p)?;
         }
     }

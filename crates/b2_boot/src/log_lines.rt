@@ -43,7 +43,7 @@ fn without_return(line: &[u8]) -> &[u8]
 
 /// The first line of a text, and what follows its newline, if there is one.
 pub fn first_line(text: &[u8]) -> (&[u8], Option<&[u8]>)
-    ensures lines { spec.lines_of text.now ≡ result.0.now ∷ spec.lines_after (option_copied result.1) }
+    ensures lines { spec.text_lines text.now ≡ result.0.now ∷ spec.lines_beyond (option_copied result.1) }
     ensures shorter { IfSome result.1 (λ rest. length rest.now < length text.now) }
 {
     let (line, rest) = cut(text, b'\n');

@@ -130,8 +130,8 @@ fn number_of_key(table: &Table, key: &str) -> Option<u16>
 }
 
 /// The row of a terminal, None where a key is unknown, missing or of another kind.
-fn terminal_row(table: &Table) -> Option<TerminalRow>
-    ensures { result ≡ spec.terminal_row (table_view table.now) }
+fn terminal_said(table: &Table) -> Option<TerminalRow>
+    ensures { result ≡ spec.terminal_said (table_view table.now) }
 {
     if !all_known(Section::Terminal, table) {
         return None;
@@ -185,10 +185,10 @@ fn partition_row(table: &Table) -> Option<PartitionRow>
 
 /// The row that an item of a table's array is, None where it is none.
 fn terminal_in(item: &Value) -> Option<TerminalRow>
-    ensures { result ≡ option_and_then spec.terminal_row (as_table (view item.now)) }
+    ensures { result ≡ option_and_then spec.terminal_said (as_table (view item.now)) }
 {
     match item.as_table() {
-        Some(table) => terminal_row(table),
+        Some(table) => terminal_said(table),
         None => None,
     }
 }
@@ -261,7 +261,7 @@ fn quota(table: &Table) -> Option<u16>
 
 /// The rows of the terminals, None where a key of one is unknown, missing or of another kind.
 fn terminals(alloc: Global, table: &Table) -> Result<Option<Vec<TerminalRow>>, NoMemory>
-    ensures { IfOk result (λ found. option_map (λ rows. rows.items) found ≡ spec.terminals_of (table_view table.now)) }
+    ensures { IfOk result (λ found. option_map (λ rows. rows.items) found ≡ spec.valid_terminals (table_view table.now)) }
 {
     match items_at(table, "terminal") {
         Some(items) => terminal_rows(alloc, items),
@@ -281,7 +281,7 @@ fn partitions(alloc: Global, table: &Table) -> Result<Option<Vec<PartitionRow>>,
 
 /// What a document says, None where a key is unknown, missing or of another kind, or the quota is out of range.
 pub fn boot_rows(alloc: Global, table: &Table) -> Result<Option<BootRows>, NoMemory>
-    ensures value { IfOk result (λ found. found ≡ spec.rows_of (table_view table.now)) }
+    ensures value { IfOk result (λ found. found ≡ spec.document_rows (table_view table.now)) }
     ensures quota { IfOk result (λ found. IfSome found (λ rows. spec.is_between 1 1000 rows.quota ≡ true)) }
 {
     if !all_known(Section::File, table) {

@@ -11,10 +11,10 @@ use Rattle.b2_rows.specs.Chains.{is_sign, more_row, more_start}
 use Rattle.b2_rows.proofs.Levels.{part_no_longer}
 use Rattle.b2_rows.proofs.EachChain as each
 use Rattle.b2_expr.specs.Answers.{Answer, ◌>>=◌}
-use Rattle.b2_expr.specs.Operators.{joined, with_sign}
+use Rattle.b2_expr.specs.Operators.{joined, under_sign}
 use Rattle.b2_expr.specs.Scope.{Context}
 use Rattle.b2_expr.specs.Value.{next, value, further}
-use Rattle.b2_expr.specs.Levels.{chain_of, is_chain, row_of, list_of, after_of, tail_of, is_operator, has_sign, spans, pick, ends, rests, are_lists}
+use Rattle.b2_expr.specs.Levels.{chain_of, is_chain, row_of_level, list_of, after_of, tail_of, is_operator, has_sign, spans, pick, ends, left_after_levels, are_lists}
 use Rattle.b2_expr.specs.declared.operators.Level.{Level}
 use Rattle.b2_expr.specs.declared.operators.Level.TheVariants as level
 use Rattle.b2_expr.proofs.Chains.{chain_item, chain_list, chain_value, chain_rest, more_item, more_list, more_value, more_rest, no_more, no_rest, refused, more_shorter}
@@ -43,24 +43,24 @@ both : (a b : Bool) → a ≡ true → b ≡ true → (a && b) ≡ true
 both a b h k = rw h k
 
 -- a level more behind those that were read
-ends_more : (e : Context) (ls : List Level) (l : Level) (x : Answer) (t : Text) → ends e (ls ++ (l ∷ [])) x t ≡ further e l (ends e ls x t) (list_of l (rests ls t))
+ends_more : (e : Context) (ls : List Level) (l : Level) (x : Answer) (t : Text) → ends e (ls ++ (l ∷ [])) x t ≡ further e l (ends e ls x t) (list_of l (left_after_levels ls t))
 ends_more e [] l x t = refl
 ends_more e (k ∷ ks) l x t = ends_more e ks l (further e k x (list_of k t)) (after_of k t)
 
-rests_more : (ls : List Level) (l : Level) (t : Text) → rests (ls ++ (l ∷ [])) t ≡ after_of l (rests ls t)
+rests_more : (ls : List Level) (l : Level) (t : Text) → left_after_levels (ls ++ (l ∷ [])) t ≡ after_of l (left_after_levels ls t)
 rests_more [] l t = refl
 rests_more (k ∷ ks) l t = rests_more ks l (after_of k t)
 
-lists_more : (ls : List Level) (l : Level) (t : Text) → are_lists ls t ≡ true → is_list (more_start (chain_of l)) (more_row (chain_of l)) (rests ls t) ≡ true → are_lists (ls ++ (l ∷ [])) t ≡ true
+lists_more : (ls : List Level) (l : Level) (t : Text) → are_lists ls t ≡ true → is_list (more_start (chain_of l)) (more_row (chain_of l)) (left_after_levels ls t) ≡ true → are_lists (ls ++ (l ∷ [])) t ≡ true
 lists_more [] l t h k = both _ true k refl
 lists_more (m ∷ ms) l t h k = both _ _ (and_left _ _ h) (lists_more ms l (after_of m t) (and_right _ _ h) k)
 
 record Opens (e : Context) (l : Level) (ls : List Level) (t : Text) (x : Answer) (u : Text) : Type 0 where
-  pub value : value e l (tree_at (row_of l) t) ≡ ends e ls x u
+  pub value : value e l (tree_at (row_of_level l) t) ≡ ends e ls x u
   pub lists : are_lists ls u ≡ true
-  pub rest : after_part (row_of l) t ≡ rests ls u
+  pub rest : after_part (row_of_level l) t ≡ left_after_levels ls u
 
-wider : (e : Context) (l : Level) (ls : List Level) (t : Text) (x : Answer) (u : Text) → is_chain l ≡ true → is_part (row_of l) t ≡ true → Opens e (next l) ls t x u → Opens e l (ls ++ (l ∷ [])) t x u
+wider : (e : Context) (l : Level) (ls : List Level) (t : Text) (x : Answer) (u : Text) → is_chain l ≡ true → is_part (row_of_level l) t ≡ true → Opens e (next l) ls t x u → Opens e l (ls ++ (l ∷ [])) t x u
 wider e l ls t x u h ok o = record {
   value = chain_value e l t h ok
       ∙ ap (λ (y : Answer). further e l y (list_of l (tail_of l t))) (Opens.value o)
@@ -100,29 +100,29 @@ plain_at_sum e t ok none =
     let p = plain_at_product e t (chain_item level.Sum t refl ok) none in
     (p.0, wider e level.Sum (level.Power ∷ level.Product ∷ []) t (plain_from e t) (after_part row.OPERAND t) refl ok p.1)
 
-plain : (e : Context) (l : Level) (t : Text) → is_part (row_of l) t ≡ true → has_sign l (first t) ≡ false → Plain e l t
+plain : (e : Context) (l : Level) (t : Text) → is_part (row_of_level l) t ≡ true → has_sign l (first t) ≡ false → Plain e l t
 plain e level.Sum t ok none = plain_at_sum e t ok none
 plain e level.Product t ok none = plain_at_product e t ok none
 plain e level.Factor t ok none = plain_at_factor e t ok none
 plain e level.Power t ok none = plain_at_power e t ok
 plain e level.Operand t ok none = plain_at_operand e t ok
 
-pub plain_operand : (l : Level) (t : Text) → is_part (row_of l) t ≡ true → has_sign l (first t) ≡ false → is_part row.OPERAND t ≡ true
+pub plain_operand : (l : Level) (t : Text) → is_part (row_of_level l) t ≡ true → has_sign l (first t) ≡ false → is_part row.OPERAND t ≡ true
 plain_operand l t ok none = (plain anywhere l t ok none).0
 
-pub plain_value : (e : Context) (l : Level) (t : Text) → is_part (row_of l) t ≡ true → has_sign l (first t) ≡ false
-    → value e l (tree_at (row_of l) t) ≡ ends e (spans l level.Power) (value e level.Operand (tree_at row.OPERAND t)) (after_part row.OPERAND t)
+pub plain_value : (e : Context) (l : Level) (t : Text) → is_part (row_of_level l) t ≡ true → has_sign l (first t) ≡ false
+    → value e l (tree_at (row_of_level l) t) ≡ ends e (spans l level.Power) (value e level.Operand (tree_at row.OPERAND t)) (after_part row.OPERAND t)
 plain_value e l t ok none = Opens.value (plain e l t ok none).1
 
-pub plain_lists : (l : Level) (t : Text) → is_part (row_of l) t ≡ true → has_sign l (first t) ≡ false → are_lists (spans l level.Power) (after_part row.OPERAND t) ≡ true
+pub plain_lists : (l : Level) (t : Text) → is_part (row_of_level l) t ≡ true → has_sign l (first t) ≡ false → are_lists (spans l level.Power) (after_part row.OPERAND t) ≡ true
 plain_lists l t ok none = Opens.lists (plain anywhere l t ok none).1
 
-pub plain_rest : (l : Level) (t : Text) → is_part (row_of l) t ≡ true → has_sign l (first t) ≡ false → after_part (row_of l) t ≡ rests (spans l level.Power) (after_part row.OPERAND t)
+pub plain_rest : (l : Level) (t : Text) → is_part (row_of_level l) t ≡ true → has_sign l (first t) ≡ false → after_part (row_of_level l) t ≡ left_after_levels (spans l level.Power) (after_part row.OPERAND t)
 plain_rest l t ok none = Opens.rest (plain anywhere l t ok none).1
 
 -- one that begins with a sign
 abbrev pub signed_from : Context → Text → Answer
-signed_from e t = value e level.Power (tree_at row.POWER (drop 1 t)) >>= with_sign e.around.mode (first t)
+signed_from e t = value e level.Power (tree_at row.POWER (drop 1 t)) >>= under_sign e.around.mode (first t)
 
 abbrev Signed : Context → Level → Text → Type 0
 Signed e l t = (is_part row.POWER (drop 1 t) ≡ true) × Opens e l (spans l level.Product) t (signed_from e t) (after_part row.POWER (drop 1 t))
@@ -141,24 +141,24 @@ signed_at_sum e t ok is =
     let p = signed_at_product e t (chain_item level.Sum t refl ok) is in
     (p.0, wider e level.Sum (level.Product ∷ []) t (signed_from e t) (after_part row.POWER (drop 1 t)) refl ok p.1)
 
-with_its_sign : (e : Context) (l : Level) (t : Text) → is_part (row_of l) t ≡ true → has_sign l (first t) ≡ true → Signed e l t
+with_its_sign : (e : Context) (l : Level) (t : Text) → is_part (row_of_level l) t ≡ true → has_sign l (first t) ≡ true → Signed e l t
 with_its_sign e level.Sum t ok is = signed_at_sum e t ok is
 with_its_sign e level.Product t ok is = signed_at_product e t ok is
 with_its_sign e level.Factor t ok is = signed_at_factor e t ok is
 with_its_sign e level.Power t ok is = cc
 with_its_sign e level.Operand t ok is = cc
 
-pub signed_power : (l : Level) (t : Text) → is_part (row_of l) t ≡ true → has_sign l (first t) ≡ true → is_part row.POWER (drop 1 t) ≡ true
+pub signed_power : (l : Level) (t : Text) → is_part (row_of_level l) t ≡ true → has_sign l (first t) ≡ true → is_part row.POWER (drop 1 t) ≡ true
 signed_power l t ok is = (with_its_sign anywhere l t ok is).0
 
-pub signed_value : (e : Context) (l : Level) (t : Text) → is_part (row_of l) t ≡ true → has_sign l (first t) ≡ true
-    → value e l (tree_at (row_of l) t) ≡ ends e (spans l level.Product) (value e level.Power (tree_at row.POWER (drop 1 t)) >>= with_sign e.around.mode (first t)) (after_part row.POWER (drop 1 t))
+pub signed_value : (e : Context) (l : Level) (t : Text) → is_part (row_of_level l) t ≡ true → has_sign l (first t) ≡ true
+    → value e l (tree_at (row_of_level l) t) ≡ ends e (spans l level.Product) (value e level.Power (tree_at row.POWER (drop 1 t)) >>= under_sign e.around.mode (first t)) (after_part row.POWER (drop 1 t))
 signed_value e l t ok is = Opens.value (with_its_sign e l t ok is).1
 
-pub signed_lists : (l : Level) (t : Text) → is_part (row_of l) t ≡ true → has_sign l (first t) ≡ true → are_lists (spans l level.Product) (after_part row.POWER (drop 1 t)) ≡ true
+pub signed_lists : (l : Level) (t : Text) → is_part (row_of_level l) t ≡ true → has_sign l (first t) ≡ true → are_lists (spans l level.Product) (after_part row.POWER (drop 1 t)) ≡ true
 signed_lists l t ok is = Opens.lists (with_its_sign anywhere l t ok is).1
 
-pub signed_rest : (l : Level) (t : Text) → is_part (row_of l) t ≡ true → has_sign l (first t) ≡ true → after_part (row_of l) t ≡ rests (spans l level.Product) (after_part row.POWER (drop 1 t))
+pub signed_rest : (l : Level) (t : Text) → is_part (row_of_level l) t ≡ true → has_sign l (first t) ≡ true → after_part (row_of_level l) t ≡ left_after_levels (spans l level.Product) (after_part row.POWER (drop 1 t))
 signed_rest l t ok is = Opens.rest (with_its_sign anywhere l t ok is).1
 
 pub sign_shorter : (l : Level) (t : Text) → has_sign l (first t) ≡ true → length (drop 1 t) < length t
@@ -395,7 +395,7 @@ record On (e : Context) (l : Level) (ls : List Level) (x : Answer) (t : Text) : 
   pub shape : from l ls ≡ l ∷ others
   pub lists : are_lists (l ∷ others) t ≡ true
   pub value : ends e ls x t ≡ ends e (l ∷ others) x t
-  pub rest : rests ls t ≡ rests (l ∷ others) t
+  pub rest : left_after_levels ls t ≡ left_after_levels (l ∷ others) t
 
 the_first : (e : Context) (l k : Level) (ks : List Level) (x : Answer) (t : Text) → is_chain k ≡ true → are_lists (k ∷ ks) t ≡ true → is_operator k (first t) ≡ true → k ≡ l → On e l (k ∷ ks) x t
 the_first e l k ks x t chain lists op is = subst (λ (m : Level). On e m (k ∷ ks) x t) is (record {
@@ -420,7 +420,7 @@ a_further e l k ks x t chain none o =
       shape = ap (λ (b : Bool). if b then k ∷ ks else from l ks) d ∙ On.shape o;
       lists = On.lists o;
       value = ap (λ (y : Answer). ends e ks y (after_of k t)) (no_more e k x t chain none) ∙ ap (ends e ks x) (no_rest k t chain none) ∙ On.value o;
-      rest = ap (rests ks) (no_rest k t chain none) ∙ On.rest o;
+      rest = ap (left_after_levels ks) (no_rest k t chain none) ∙ On.rest o;
     }
 
 some_is : (a b : Level) → Some a ≡ Some b → a ≡ b
@@ -448,7 +448,7 @@ span_is e w top l x t o = sym (from_top w top l (On.found o)) ∙ On.shape o
 list_here : (e : Context) (w top l : Level) (x : Answer) (t : Text) (o : Going e w top l x t) → is_list (more_start (chain_of l)) (more_row (chain_of l)) t ≡ true
 list_here e w top l x t o = and_left _ _ (On.lists o)
 
-pub on_item : (w top l : Level) (t : Text) → are_lists (spans w top) t ≡ true → pick (spans w top) (first t) ≡ Some l → is_part (row_of (next l)) (drop 1 t) ≡ true
+pub on_item : (w top l : Level) (t : Text) → are_lists (spans w top) t ≡ true → pick (spans w top) (first t) ≡ Some l → is_part (row_of_level (next l)) (drop 1 t) ≡ true
 on_item w top l t a h =
     let o = going anywhere w top l (Ok zero_number) t a h in
     more_item l t (On.chain o) (list_here anywhere w top l (Ok zero_number) t o) (On.operator o)
@@ -463,11 +463,11 @@ on_lists w top l t a h =
 
 pub on_value : (e : Context) (w top l : Level) (x : Answer) (t : Text) → are_lists (spans w top) t ≡ true → pick (spans w top) (first t) ≡ Some l
     → ends e (spans w top) x t
-    ≡ ends e (spans w l) (x >>= (λ v. value e (next l) (tree_at (row_of (next l)) (drop 1 t)) >>= joined e.around.mode (first t) v)) (tail_of l (drop 1 t))
+    ≡ ends e (spans w l) (x >>= (λ v. value e (next l) (tree_at (row_of_level (next l)) (drop 1 t)) >>= joined e.around.mode (first t) v)) (tail_of l (drop 1 t))
 on_value e w top l x t a h =
     let o = going e w top l x t a h in
     let k = list_here e w top l x t o in
-    let y : Answer = x >>= (λ v. value e (next l) (tree_at (row_of (next l)) (drop 1 t)) >>= joined e.around.mode (first t) v) in
+    let y : Answer = x >>= (λ v. value e (next l) (tree_at (row_of_level (next l)) (drop 1 t)) >>= joined e.around.mode (first t) v) in
     On.value o
     ∙ ap (λ (z : Answer). ends e (On.others o) z (after_of l t)) (more_value e l x t (On.chain o) k (On.operator o))
     ∙ ap (ends e (On.others o) (further e l y (list_of l (tail_of l (drop 1 t))))) (more_rest l t (On.chain o) k (On.operator o))
@@ -475,57 +475,57 @@ on_value e w top l x t a h =
 
 -- a step, by what was read
 pub on_step : (e : Context) (w top l m : Level) (x : Number) (c : ℕ) (t u : Text) (r : Answer) → are_lists (spans w top) t ≡ true → Some l ≡ pick (spans w top) (first t)
-    → m ≡ next l → u ≡ drop 1 t → c ≡ first t → value e m (tree_at (row_of m) u) ≡ r
-    → ends e (spans w top) (Ok x) t ≡ ends e (spans w l) (r >>= joined e.around.mode c x) (after_part (row_of m) u)
+    → m ≡ next l → u ≡ drop 1 t → c ≡ first t → value e m (tree_at (row_of_level m) u) ≡ r
+    → ends e (spans w top) (Ok x) t ≡ ends e (spans w l) (r >>= joined e.around.mode c x) (after_part (row_of_level m) u)
 on_step e w top l m x c t u r a h is_m is_u is_c gives =
     on_value e w top l (Ok x) t a (sym h)
-    ∙ sym (ap (λ (n : Level). ends e (spans w l) (value e n (tree_at (row_of n) (drop 1 t)) >>= joined e.around.mode (first t) x) (after_part (row_of n) (drop 1 t))) is_m)
-    ∙ sym (ap (λ (v : Text). ends e (spans w l) (value e m (tree_at (row_of m) v) >>= joined e.around.mode (first t) x) (after_part (row_of m) v)) is_u)
-    ∙ ap (λ (z : Answer). ends e (spans w l) (z >>= joined e.around.mode (first t) x) (after_part (row_of m) u)) gives
-    ∙ sym (ap (λ (d : ℕ). ends e (spans w l) (r >>= joined e.around.mode d x) (after_part (row_of m) u)) is_c)
+    ∙ sym (ap (λ (n : Level). ends e (spans w l) (value e n (tree_at (row_of_level n) (drop 1 t)) >>= joined e.around.mode (first t) x) (after_part (row_of_level n) (drop 1 t))) is_m)
+    ∙ sym (ap (λ (v : Text). ends e (spans w l) (value e m (tree_at (row_of_level m) v) >>= joined e.around.mode (first t) x) (after_part (row_of_level m) v)) is_u)
+    ∙ ap (λ (z : Answer). ends e (spans w l) (z >>= joined e.around.mode (first t) x) (after_part (row_of_level m) u)) gives
+    ∙ sym (ap (λ (d : ℕ). ends e (spans w l) (r >>= joined e.around.mode d x) (after_part (row_of_level m) u)) is_c)
 
-pub on_rest : (w top l : Level) (t : Text) → are_lists (spans w top) t ≡ true → pick (spans w top) (first t) ≡ Some l → rests (spans w top) t ≡ rests (spans w l) (tail_of l (drop 1 t))
+pub on_rest : (w top l : Level) (t : Text) → are_lists (spans w top) t ≡ true → pick (spans w top) (first t) ≡ Some l → left_after_levels (spans w top) t ≡ left_after_levels (spans w l) (tail_of l (drop 1 t))
 on_rest w top l t a h =
     let o = going anywhere w top l (Ok zero_number) t a h in
     let k = list_here anywhere w top l (Ok zero_number) t o in
-    On.rest o ∙ ap (rests (On.others o)) (more_rest l t (On.chain o) k (On.operator o))
-    ∙ sym (ap (λ (ls : List Level). rests ls (tail_of l (drop 1 t))) (span_is anywhere w top l (Ok zero_number) t o))
+    On.rest o ∙ ap (left_after_levels (On.others o)) (more_rest l t (On.chain o) k (On.operator o))
+    ∙ sym (ap (λ (ls : List Level). left_after_levels ls (tail_of l (drop 1 t))) (span_is anywhere w top l (Ok zero_number) t o))
 
 pub on_shorter : (w top l : Level) (t : Text) → are_lists (spans w top) t ≡ true → pick (spans w top) (first t) ≡ Some l → length (drop 1 t) < length t
 on_shorter w top l t a h = more_shorter l t (On.operator (going anywhere w top l (Ok zero_number) t a h))
 
-pub step_lists : (w top l m : Level) (t u v : Text) → are_lists (spans w top) t ≡ true → Some l ≡ pick (spans w top) (first t) → m ≡ next l → u ≡ drop 1 t → v ≡ after_part (row_of m) u
+pub step_lists : (w top l m : Level) (t u v : Text) → are_lists (spans w top) t ≡ true → Some l ≡ pick (spans w top) (first t) → m ≡ next l → u ≡ drop 1 t → v ≡ after_part (row_of_level m) u
     → are_lists (spans w l) v ≡ true
 step_lists w top l m t u v a h is_m is_u is_v =
-    subst (λ (z : Text). are_lists (spans w l) z ≡ true) (sym (is_v ∙ ap (after_part (row_of m)) is_u ∙ ap (λ (n : Level). after_part (row_of n) (drop 1 t)) is_m)) (on_lists w top l t a (sym h))
+    subst (λ (z : Text). are_lists (spans w l) z ≡ true) (sym (is_v ∙ ap (after_part (row_of_level m)) is_u ∙ ap (λ (n : Level). after_part (row_of_level n) (drop 1 t)) is_m)) (on_lists w top l t a (sym h))
 
-pub step_rest : (w top l m : Level) (t u v : Text) → are_lists (spans w top) t ≡ true → Some l ≡ pick (spans w top) (first t) → m ≡ next l → u ≡ drop 1 t → v ≡ after_part (row_of m) u
-    → rests (spans w l) v ≡ rests (spans w top) t
+pub step_rest : (w top l m : Level) (t u v : Text) → are_lists (spans w top) t ≡ true → Some l ≡ pick (spans w top) (first t) → m ≡ next l → u ≡ drop 1 t → v ≡ after_part (row_of_level m) u
+    → left_after_levels (spans w l) v ≡ left_after_levels (spans w top) t
 step_rest w top l m t u v a h is_m is_u is_v =
-    ap (rests (spans w l)) (is_v ∙ ap (after_part (row_of m)) is_u ∙ ap (λ (n : Level). after_part (row_of n) (drop 1 t)) is_m) ∙ sym (on_rest w top l t a (sym h))
+    ap (left_after_levels (spans w l)) (is_v ∙ ap (after_part (row_of_level m)) is_u ∙ ap (λ (n : Level). after_part (row_of_level n) (drop 1 t)) is_m) ∙ sym (on_rest w top l t a (sym h))
 
 no_longer : (t : Text) → length (drop 1 t) ≤ length t
 no_longer [] = omega arith
 no_longer (b ∷ t) = omega arith
 
-pub step_shorter : (m : Level) (t u v : Text) → u ≡ drop 1 t → v ≡ after_part (row_of m) u → length v ≤ length t
+pub step_shorter : (m : Level) (t u v : Text) → u ≡ drop 1 t → v ≡ after_part (row_of_level m) u → length v ≤ length t
 step_shorter m t u v is_u is_v =
-    let a : length v ≡ length (after_part (row_of m) u) = ap length is_v in
+    let a : length v ≡ length (after_part (row_of_level m) u) = ap length is_v in
     let b : length u ≡ length (drop 1 t) = ap length is_u in
-    let c = part_no_longer (row_of m) u in
+    let c = part_no_longer (row_of_level m) u in
     let d = no_longer t in
     omega (arith, a, b, c, d)
 
 -- no operator of these levels stands there
 abbrev Left : Context → List Level → Answer → Text → Type 0
-Left e ls x t = (ends e ls x t ≡ x) × (rests ls t ≡ t)
+Left e ls x t = (ends e ls x t ≡ x) × (left_after_levels ls t ≡ t)
 
 none_head : (e : Context) (k : Level) (ks : List Level) (x : Answer) (t : Text) (b : Bool) → is_operator k (first t) ≡ b → is_chain k ≡ true
     → (if b then Some k else pick ks (first t)) ≡ None → (pick ks (first t) ≡ None → Left e ks x t) → Left e (k ∷ ks) x t
 none_head e k ks x t true is c h more = cc
 none_head e k ks x t false is c h more =
     let n = more h in
-    (ap (λ (y : Answer). ends e ks y (after_of k t)) (no_more e k x t c is) ∙ ap (ends e ks x) (no_rest k t c is) ∙ n.0, ap (rests ks) (no_rest k t c is) ∙ n.1)
+    (ap (λ (y : Answer). ends e ks y (after_of k t)) (no_more e k x t c is) ∙ ap (ends e ks x) (no_rest k t c is) ∙ n.0, ap (left_after_levels ks) (no_rest k t c is) ∙ n.1)
 
 none_left : (e : Context) (ls : List Level) (x : Answer) (t : Text) → chains ls ≡ true → pick ls (first t) ≡ None → Left e ls x t
 none_left e [] x t c h = (refl, refl)
@@ -534,5 +534,5 @@ none_left e (k ∷ ks) x t c h = none_head e k ks x t (is_operator k (first t)) 
 pub off_value : (e : Context) (w top : Level) (x : Answer) (t : Text) → pick (spans w top) (first t) ≡ None → ends e (spans w top) x t ≡ x
 off_value e w top x t h = (none_left e (spans w top) x t (spans_chains w top) h).0
 
-pub off_rest : (w top : Level) (t : Text) → pick (spans w top) (first t) ≡ None → rests (spans w top) t ≡ t
+pub off_rest : (w top : Level) (t : Text) → pick (spans w top) (first t) ≡ None → left_after_levels (spans w top) t ≡ t
 off_rest w top t h = (none_left anywhere (spans w top) (Ok zero_number) t (spans_chains w top) h).1

@@ -28,10 +28,10 @@ use Rattle.b2_rows.specs.declared.leaves.Name.{Name}
 use Rattle.b2_rows.proofs.Optional.{maybe_stands, begun_part, begun_tree, begun_rest, left_out_tree, left_out_rest}
 use Rattle.b2_rows.proofs.Levels.{part_no_longer}
 use Rattle.b2_expr.specs.Answers.{◌>>=◌}
-use Rattle.b2_expr.specs.Functions.{subscript, column_of}
+use Rattle.b2_expr.specs.Functions.{subscript, column_written}
 use Rattle.b2_expr.specs.Named.{after_name, name_row, name_leaf, is_alpha_kind, variable_of}
 use Rattle.b2_expr.specs.Scope.{Context, hidden_by}
-use Rattle.b2_expr.specs.Value.{value, operand, second, subscripts, located, element, branch_of, or_else, element_number}
+use Rattle.b2_expr.specs.Value.{value, operand, second, subscripts, located, element, branch_of, hidden_or, element_number}
 use Rattle.b2_rows.specs.declared.operands.Operand.TheVariants as kind
 use Rattle.b2_expr.specs.declared.named.NameKind.{NameKind}
 use Rattle.b2_expr.specs.declared.named.NameKind.TheVariants as name_kind
@@ -134,7 +134,7 @@ column_part t ok is = one_second (drop 1 t) (numbers_of t ok is)
 
 pub subscripts_is : (e : Context) (t : Text) → maybe_part (start.Code byte.opening) row.SUBSCRIPTS t ≡ true → (first t == byte.opening) ≡ true
     → subscripts e (maybe_tree (start.Code byte.opening) row.SUBSCRIPTS t)
-    ≡ (value e level.Sum (tree_at row.SUM (drop 1 t)) >>= (λ r. second e (maybe_tree (start.Code byte.comma) row.COMMA_NUMBER (after_part row.SUM (drop 1 t))) >>= (λ c. Ok (record { row = subscript r; column = column_of c }))))
+    ≡ (value e level.Sum (tree_at row.SUM (drop 1 t)) >>= (λ r. second e (maybe_tree (start.Code byte.comma) row.COMMA_NUMBER (after_part row.SUM (drop 1 t))) >>= (λ c. Ok (record { row = subscript r; column = column_written c }))))
 unfolding subscripts
 subscripts_is e t ok is =
     ap (subscripts e) (begun_tree (start.Code byte.opening) row.SUBSCRIPTS t (begins byte.opening t true is))
@@ -266,21 +266,21 @@ legal_name alpha array w h = lettered_legal alpha (first w == byte.at_sign) arra
 -- a numeric variable, where the parameter hides it, and where it doesn't
 variable_is : (e : Context) (t : Text) → is_part row.VARIABLE t ≡ true → (b : Bool) → (first (after_name name_kind.Number t) == byte.opening) ≡ b
     → operand e kind.Variable (tree_at row.VARIABLE t)
-    ≡ or_else (if b then None else hidden_by e.parameter (variable_name false (leaf_bytes leaf.Name t))) (element_number (located e false (tree_at row.VARIABLE t)))
+    ≡ hidden_or (if b then None else hidden_by e.parameter (variable_name false (leaf_bytes leaf.Name t))) (element_number (located e false (tree_at row.VARIABLE t)))
 unfolding operand
 variable_is e t ok b is =
     ap (operand e kind.Variable) (name_tree name_kind.Number t ok)
-    ∙ ap (λ (n : Bool). or_else (if n then None else hidden_by e.parameter (variable_name false (leaf_bytes leaf.Name t)))
+    ∙ ap (λ (n : Bool). hidden_or (if n then None else hidden_by e.parameter (variable_name false (leaf_bytes leaf.Name t)))
     (element_number (element e.around (variable_name false (leaf_bytes leaf.Name t)) (branch_of (subscripts_tree name_kind.Number t)) (subscripts e (subscripts_tree name_kind.Number t))))) (branch_by (after_name name_kind.Number t) b is)
-    ∙ ap (λ x. or_else (if b then None else hidden_by e.parameter (variable_name false (leaf_bytes leaf.Name t))) (element_number x)) (sym (located_is e name_kind.Number t ok))
+    ∙ ap (λ x. hidden_or (if b then None else hidden_by e.parameter (variable_name false (leaf_bytes leaf.Name t))) (element_number x)) (sym (located_is e name_kind.Number t ok))
 
 pub variable_hidden : (e : Context) (t : Text) (x : Number) → is_part row.VARIABLE t ≡ true → (first (after_name name_kind.Number t) == byte.opening) ≡ false
     → hidden_by e.parameter (variable_name false (leaf_bytes leaf.Name t)) ≡ Some x → operand e kind.Variable (tree_at row.VARIABLE t) ≡ Ok x
-variable_hidden e t x ok is h = variable_is e t ok false is ∙ ap (λ (o : Option Number). or_else o (element_number (located e false (tree_at row.VARIABLE t)))) h
+variable_hidden e t x ok is h = variable_is e t ok false is ∙ ap (λ (o : Option Number). hidden_or o (element_number (located e false (tree_at row.VARIABLE t)))) h
 
 pub variable_shown : (e : Context) (t : Text) → is_part row.VARIABLE t ≡ true → (first (after_name name_kind.Number t) == byte.opening) ≡ false
     → hidden_by e.parameter (variable_name false (leaf_bytes leaf.Name t)) ≡ None → operand e kind.Variable (tree_at row.VARIABLE t) ≡ element_number (located e false (tree_at row.VARIABLE t))
-variable_shown e t ok is h = variable_is e t ok false is ∙ ap (λ (o : Option Number). or_else o (element_number (located e false (tree_at row.VARIABLE t)))) h
+variable_shown e t ok is h = variable_is e t ok false is ∙ ap (λ (o : Option Number). hidden_or o (element_number (located e false (tree_at row.VARIABLE t)))) h
 
 pub variable_array : (e : Context) (t : Text) → is_part row.VARIABLE t ≡ true → (first (after_name name_kind.Number t) == byte.opening) ≡ true
     → operand e kind.Variable (tree_at row.VARIABLE t) ≡ element_number (located e false (tree_at row.VARIABLE t))

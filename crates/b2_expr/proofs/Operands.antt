@@ -23,7 +23,7 @@ use Rattle.b2_rows.specs.Optional.{maybe_part, maybe_tree, after_maybe}
 use Rattle.b2_rows.proofs.Optional.{maybe_stands}
 use Rattle.b2_rows.proofs.Levels.{part_no_longer}
 use Rattle.b2_expr.specs.Answers.{◌>>=◌}
-use Rattle.b2_expr.specs.Functions.{of_one, of_two, of_text, place_of, count_or, number_of, whole_number}
+use Rattle.b2_expr.specs.Functions.{of_one, of_two, of_text, position_of, count_or, number_of, whole_number}
 use Rattle.b2_expr.specs.Scope.{Context, Surroundings, kept_number}
 use Rattle.b2_expr.specs.Value.{value, operand, text, second, extremes, literal_number, literal_value, kept_value}
 use Rattle.b2_expr.specs.declared.operators.Level.TheVariants as level
@@ -278,7 +278,7 @@ position_second t ok = (stands_of row.POSITION_ARGUMENTS compared_items (drop 1 
 
 pub position_is : (e : Context) (t : Text) → is_part row.POSITION t ≡ true → operand e kind.Position (tree_at row.POSITION t)
     ≡ (text e (tree_at row.ALPHA (drop 1 t)) >>= (λ x. text e (tree_at row.ALPHA (other_at row.ALPHA (drop 1 t)))
-    >>= place_of (relation_of (take (sign_size row.ALPHA (drop 1 t)) (sign_at row.ALPHA (drop 1 t)))) x))
+    >>= position_of (relation_of (take (sign_size row.ALPHA (drop 1 t)) (sign_at row.ALPHA (drop 1 t)))) x))
 unfolding operand
 position_is e t ok =
     ap (operand e kind.Position) (stands_of row.POSITION position_items t position_row ok).1

@@ -8,10 +8,10 @@ use Rattle.b2_vars.specs.Tables.{VarsState}
 use Rattle.b2_alpha.specs.Sums.{are_decimal, decimal_difference, decimal_sum}
 use Rattle.b2_expr.specs.Answers.{TextAnswer, ◌>>=◌}
 use Rattle.b2_expr.specs.Assigning.{Assigned, unless_refused, receiver_code, with_made, reached_by, portion_in}
-use Rattle.b2_expr.specs.Functions.{counted}
+use Rattle.b2_expr.specs.Functions.{whole_between}
 use Rattle.b2_expr.specs.Receivers.{portion_count}
 use Rattle.b2_expr.specs.ReceiverLaws.{EachPartIsAPortion, SameWhereNotReached, NoCodeWhereReached}
-use Rattle.b2_expr.specs.RightSide.{Made, made, made_by, made_then, operated}
+use Rattle.b2_expr.specs.RightSide.{Made, side_made, made_by, made_then, operated}
 use Rattle.b2_expr.specs.Value.{counted_bytes}
 use Rattle.b2_expr.specs.declared.operations.AlphaOperator.{AlphaOperator}
 use Rattle.b2_expr.specs.declared.operations.AlphaOperator.TheVariants as op
@@ -33,11 +33,11 @@ part_by : (bytes : List ℕ) (y : Option Number) (r : Result ℕ ℕ)
 part_by bytes y (Err code) = refl
 part_by bytes None (Ok s) = ap Ok (sym (ap (λ (n : ℕ). take n (drop (s - 1) bytes)) (sym (length-drop (s - 1) bytes)) ∙ all_taken (drop (s - 1) bytes)))
 part_by bytes (Some y) (Ok s) =
-    ap (λ (n : ℕ). counted 1 n y >>= (λ k. Ok (take k (drop (s - 1) bytes)))) (length-drop (s - 1) bytes)
-    ∙ counted_by bytes (s - 1) (counted 1 (length bytes - (s - 1)) y)
+    ap (λ (n : ℕ). whole_between 1 n y >>= (λ k. Ok (take k (drop (s - 1) bytes)))) (length-drop (s - 1) bytes)
+    ∙ counted_by bytes (s - 1) (whole_between 1 (length bytes - (s - 1)) y)
 
 pub each_part_is_a_portion : EachPartIsAPortion
-each_part_is_a_portion bytes x y = part_by bytes y (counted 1 (length bytes) x)
+each_part_is_a_portion bytes x y = part_by bytes y (whole_between 1 (length bytes) x)
 
 -- an operation refuses with X75 alone
 decimal_code : (b : Bool) (bytes : List ℕ) (c : ℕ) → ◌≡◌ {A = TextAnswer} (if b then Ok bytes else Err X75_NOT_DECIMAL) (Err c) → c ≡ X75_NOT_DECIMAL
@@ -79,7 +79,7 @@ pub same_where_not_reached : SameWhereNotReached
 same_where_not_reached to side old new (Ok done) ends missed = absurd (true≢false missed)
 same_where_not_reached to side old new (Err fault.NoMemory) ends missed = ends
 same_where_not_reached to side old new (Err (fault.Code c)) ends missed =
-    same_by (receiver_code to old) old new (with_made to (reached_by to old) (made side (portion_in to (reached_by to old)))) c
+    same_by (receiver_code to old) old new (with_made to (reached_by to old) (side_made side (portion_in to (reached_by to old)))) c
     (λ d is. made_code side.operations _ d is) ends.0 ends.1 missed
 
 -- a code of a receiver isn't X75
@@ -106,5 +106,5 @@ pub no_code_where_reached : NoCodeWhereReached
 no_code_where_reached to side old new (Ok done) ends reached = well_by (receiver_code to old) old _ ends.0
 no_code_where_reached to side old new (Err fault.NoMemory) ends reached = absurd (true≢false (sym reached))
 no_code_where_reached to side old new (Err (fault.Code c)) ends reached =
-    reached_by_code (receiver_code to old) old (with_made to (reached_by to old) (made side (portion_in to (reached_by to old)))) c
+    reached_by_code (receiver_code to old) old (with_made to (reached_by to old) (side_made side (portion_in to (reached_by to old)))) c
     (λ n is. none_by _ _ _ _ n is) ends.0 reached

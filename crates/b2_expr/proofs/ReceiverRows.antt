@@ -26,7 +26,7 @@ use Rattle.b2_rows.specs.Optional.{maybe_tree}
 use Rattle.b2_rows.proofs.Choices.{either_first, either_second}
 use Rattle.b2_expr.specs.Answers.{◌>>=◌}
 use Rattle.b2_expr.specs.Named.{number_there, bytes_there}
-use Rattle.b2_expr.specs.Receivers.{portion_of, number_receiver, whole_value, part_receiver, alpha_receiver, any_receiver, array_of, array_row, array_leaf, array_receiver, whole_array, buffer_variable, buffer}
+use Rattle.b2_expr.specs.Receivers.{portion_of, number_receiver, whole_value, part_receiver, alpha_receiver, any_receiver, array_there, array_row, array_leaf, array_receiver, whole_array, buffer_variable, buffer}
 use Rattle.b2_expr.specs.Scope.{Surroundings, Context}
 use Rattle.b2_expr.specs.Value.{value, second, located}
 use Rattle.b2_expr.specs.declared.operators.Level.TheVariants as level
@@ -138,7 +138,7 @@ pub array_here : (k : Kind) (t : Text) → is_part (array_row k) t ≡ true → 
 array_here k t ok = (stands_of (array_row k) (array_items k) t (array_row_items k) ok).0.0
 
 pub array_is : (e : Surroundings) (alpha : Bool) (k : Kind) (t : Text) → is_part (array_row k) t ≡ true
-    → array_receiver e alpha (tree_at (array_row k) t) ≡ array_of e (variable_name alpha (leaf_bytes (array_leaf k) t))
+    → array_receiver e alpha (tree_at (array_row k) t) ≡ array_there e (variable_name alpha (leaf_bytes (array_leaf k) t))
 unfolding array_receiver
 array_is e alpha kind.Number t ok = ap (array_receiver e alpha) (stands_of row.NUMERIC_ARRAY (array_items kind.Number) t (array_row_items kind.Number) ok).1
 array_is e alpha kind.Alpha t ok = ap (array_receiver e alpha) (stands_of row.ALPHA_ARRAY (array_items kind.Alpha) t (array_row_items kind.Alpha) ok).1

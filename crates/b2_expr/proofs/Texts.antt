@@ -28,10 +28,10 @@ use Rattle.b2_rows.proofs.Levels.{part_no_longer}
 use Rattle.b2_rows.proofs.Lists.{goes}
 use Rattle.b2_rows.proofs.EachChain as each
 use Rattle.b2_expr.specs.Answers.{TextAnswer, ◌>>=◌}
-use Rattle.b2_expr.specs.Functions.{joined_text, count_or, bytes_in, fixed}
+use Rattle.b2_expr.specs.Functions.{joined_text, count_or, binary_bytes, fixed}
 use Rattle.b2_expr.specs.Named.{Place, bytes_there}
 use Rattle.b2_expr.specs.Scope.{Context}
-use Rattle.b2_expr.specs.Value.{value, text, further_text, text_row, text_operand, second, located, part_of, text_of_place, literal_bytes, hex_bytes, pairs_of}
+use Rattle.b2_expr.specs.Value.{value, text, further_text, text_row, text_operand, second, located, bytes_of_part, text_of_place, literal_bytes, hex_bytes, pairs_of}
 use Rattle.b2_rows.specs.declared.operands.AlphaOperand.TheVariants as alpha_kind
 use Rattle.b2_expr.specs.declared.operators.Level.TheVariants as level
 use Rattle.b2_expr.proofs.RowsRead.{stands_of, shorter_at}
@@ -159,7 +159,7 @@ pub binary_count : (t : Text) → is_part row.BINARY t ≡ true → maybe_part (
 binary_count t ok = one_second (drop 1 t) (numbers_of t ok)
 
 pub binary_is : (e : Context) (t : Text) → is_part row.BINARY t ≡ true → text_operand e alpha_kind.Binary (tree_at row.BINARY t)
-    ≡ (value e level.Sum (tree_at row.SUM (drop 1 t)) >>= (λ x. second e (maybe_tree (start.Code byte.comma) row.COMMA_NUMBER (after_part row.SUM (drop 1 t))) >>= count_or 1 1 4 >>= (λ n. bytes_in n (fixed x))))
+    ≡ (value e level.Sum (tree_at row.SUM (drop 1 t)) >>= (λ x. second e (maybe_tree (start.Code byte.comma) row.COMMA_NUMBER (after_part row.SUM (drop 1 t))) >>= count_or 1 1 4 >>= (λ n. binary_bytes n (fixed x))))
 unfolding text_operand
 binary_is e t ok =
     ap (text_operand e alpha_kind.Binary) (stands_of row.BINARY binary_items t binary_row ok).1
@@ -212,7 +212,7 @@ unfolding maybe_tree
 argument_tree t ok = (stands_of row.STRING_PART_ARGUMENTS argument_items (drop 1 t) argument_row (arguments_of t ok)).1
 
 part_by : (e : Context) (v a count : Trees) → text_operand e alpha_kind.StringPart (Put (Coded word.STR_OPEN) (In 2 (In 2 v (Put (Coded byte.comma) (In 2 a count))) (Put (Coded byte.closing) Done)))
-    ≡ (located e true v >>= bytes_there >>= (λ bytes. value e level.Sum a >>= (λ from. second e count >>= part_of bytes from)))
+    ≡ (located e true v >>= bytes_there >>= (λ bytes. value e level.Sum a >>= (λ from. second e count >>= bytes_of_part bytes from)))
 unfolding text_operand
 part_by e Done a count = refl
 part_by e (Put token more) a count = refl
@@ -220,7 +220,7 @@ part_by e (In n b more) a count = refl
 
 pub part_is : (e : Context) (t : Text) → is_part row.STRING_PART t ≡ true → text_operand e alpha_kind.StringPart (tree_at row.STRING_PART t)
     ≡ (located e true (tree_at row.ALPHA_RECEIVER_VARIABLE (drop 1 t)) >>= bytes_there >>= (λ bytes. value e level.Sum (tree_at row.SUM (from_at t))
-    >>= (λ from. second e (maybe_tree (start.Code byte.comma) row.COMMA_NUMBER (after_part row.SUM (from_at t))) >>= part_of bytes from)))
+    >>= (λ from. second e (maybe_tree (start.Code byte.comma) row.COMMA_NUMBER (after_part row.SUM (from_at t))) >>= bytes_of_part bytes from)))
 unfolding text_operand
 part_is e t ok =
     ap (text_operand e alpha_kind.StringPart) (stands_of row.STRING_PART part_items t part_row ok).1

@@ -20,7 +20,7 @@ use Rattle.b2_expr.specs.declared.receiver.Receiver.{Receiver}
 use Rattle.b2_expr.specs.declared.receiver.Receiver.TheVariants as receiver_kind
 use Rattle.b2_expr.specs.declared.receiver.Buffer.{Buffer}
 use Rattle.b2_expr.specs.declared.receiver.Buffer.TheVariants as buffer_kind
-use Rattle.b2_expr.specs.RightSide.{Side, Made, made}
+use Rattle.b2_expr.specs.RightSide.{Side, Made, side_made}
 
 -- whether a receiver takes bytes, and whether it is among the `@` variables
 abbrev pub is_alpha_receiver : Receiver → Bool
@@ -86,7 +86,7 @@ abbrev pub with_made : AlphaReceiver → VarsState → Made → Assigned
 with_made to s m = record { vars = with_portion to s m.bytes; code = m.code }
 
 abbrev pub assigned_side : AlphaReceiver → Side → VarsState → Assigned
-assigned_side to side old = unless_refused (receiver_code to old) old (with_made to (reached_by to old) (made side (portion_in to (reached_by to old))))
+assigned_side to side old = unless_refused (receiver_code to old) old (with_made to (reached_by to old) (side_made side (portion_in to (reached_by to old))))
 
 -- how an assignment ends; where memory fails nothing changes
 abbrev pub Ends : Assigned → VarsState → VarsState → Result (Unit {0}) Fault → Type 0

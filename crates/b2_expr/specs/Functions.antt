@@ -31,8 +31,8 @@ abbrev pub within : ℕ → ℕ → Option ℤ → Result ℕ ℕ
 within least most (Some (pos n)) = if nat_le least n && nat_le n most then Ok n else Err P34_RANGE
 within least most z = Err P34_RANGE
 
-abbrev pub counted : ℕ → ℕ → Number → Result ℕ ℕ
-counted least most x = within least most (fixed x)
+abbrev pub whole_between : ℕ → ℕ → Number → Result ℕ ℕ
+whole_between least most x = within least most (fixed x)
 
 -- a subscript without its fraction. No array has the subscript 65,535, for which all stand that no array has.
 abbrev pub subscript_in : Option ℤ → ℕ
@@ -43,9 +43,9 @@ abbrev pub subscript : Number → ℕ
 subscript x = subscript_in (fixed x)
 
 -- the column that is written, or 0
-abbrev pub column_of : Option Number → ℕ
-column_of None = 0
-column_of (Some x) = subscript x
+abbrev pub column_written : Option Number → ℕ
+column_written None = 0
+column_written (Some x) = subscript x
 
 -- a function of one number, by its word
 abbrev pub of_one : ℕ → Number → Answer
@@ -77,22 +77,22 @@ abbrev pub of_text : ℕ → List ℕ → Answer
 of_text c bytes = whole_number (if c == word.LEN_OPEN then length bytes else spaced_number_len bytes)
 
 -- the place of the first byte of a that stands in the relation to the first byte of b
-abbrev pub place_of : Rel → List ℕ → List ℕ → Answer
-place_of rel a b = whole_number (found_place a rel (first b))
+abbrev pub position_of : Rel → List ℕ → List ℕ → Answer
+position_of rel a b = whole_number (found_place a rel (first b))
 
 -- a count, where one is written, and else what stands for it
 abbrev pub count_or : ℕ → ℕ → ℕ → Option Number → Result ℕ ℕ
 count_or otherwise least most None = Ok otherwise
-count_or otherwise least most (Some x) = counted least most x
+count_or otherwise least most (Some x) = whole_between least most x
 
 -- the number of the first n bytes
 abbrev pub number_of : List ℕ → ℕ → Answer
 number_of bytes n = if nat_le n (length bytes) then whole_number (number_in_base 256 (take n bytes)) else Err P34_RANGE
 
 -- a number without its fraction in n bytes
-abbrev pub bytes_in : ℕ → Option ℤ → TextAnswer
-bytes_in n (Some (pos k)) = if nat_lt k (256 ^ n) then Ok (digits_in_base 256 n k) else Err P34_RANGE
-bytes_in n z = Err P34_RANGE
+abbrev pub binary_bytes : ℕ → Option ℤ → TextAnswer
+binary_bytes n (Some (pos k)) = if nat_lt k (256 ^ n) then Ok (digits_in_base 256 n k) else Err P34_RANGE
+binary_bytes n z = Err P34_RANGE
 
 -- bytes joined to others, X72 where they are more than 255
 abbrev pub joined_text : List ℕ → List ℕ → TextAnswer
@@ -100,4 +100,4 @@ joined_text a b = if nat_le (length a + length b) 255 then Ok (a ++ b) else Err 
 
 -- a number without its fraction, in n bytes after others
 abbrev pub joined_number : ℕ → Number → List ℕ → TextAnswer
-joined_number n x old = bytes_in n (fixed x) >>= joined_text old
+joined_number n x old = binary_bytes n (fixed x) >>= joined_text old

@@ -14,12 +14,12 @@ use Rattle.b2_expr.specs.declared.operators.Level.{Level}
 use Rattle.b2_expr.specs.declared.operators.Level.TheVariants as level
 
 -- the row of a level
-abbrev pub row_of : Level → ℕ
-row_of level.Sum = row.SUM
-row_of level.Product = row.PRODUCT
-row_of level.Factor = row.FACTOR
-row_of level.Power = row.POWER
-row_of level.Operand = row.OPERAND
+abbrev pub row_of_level : Level → ℕ
+row_of_level level.Sum = row.SUM
+row_of_level level.Product = row.PRODUCT
+row_of_level level.Factor = row.FACTOR
+row_of_level level.Power = row.POWER
+row_of_level level.Operand = row.OPERAND
 
 -- the levels that are chains of operators, and their chains
 abbrev pub is_chain : Level → Bool
@@ -45,7 +45,7 @@ after_of l t = after_list (more_start (chain_of l)) (more_row (chain_of l)) t
 
 -- what stands after the first item
 abbrev pub tail_of : Level → Text → Text
-tail_of l t = after_part (row_of (next l)) t
+tail_of l t = after_part (row_of_level (next l)) t
 
 -- whether a byte is an operator of a level
 abbrev pub is_operator : Level → ℕ → Bool
@@ -79,9 +79,9 @@ ends s [] x t = x
 ends s (l ∷ ls) x t = ends s ls (further s l x (list_of l t)) (after_of l t)
 
 -- what is left after them
-abbrev pub rests : List Level → Text → Text
-rests [] t = t
-rests (l ∷ ls) t = rests ls (after_of l t)
+abbrev pub left_after_levels : List Level → Text → Text
+left_after_levels [] t = t
+left_after_levels (l ∷ ls) t = left_after_levels ls (after_of l t)
 
 -- whether their items stand there
 abbrev pub are_lists : List Level → Text → Bool

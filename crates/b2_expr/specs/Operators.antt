@@ -27,8 +27,8 @@ joined mode c a b =
     else raised mode a b)))
 
 -- a number with `+` or `-` before it
-abbrev pub with_sign : Mode → ℕ → Number → Answer
-with_sign mode c x = if c == byte.minus then difference_of mode zero_number x else Ok x
+abbrev pub under_sign : Mode → ℕ → Number → Answer
+under_sign mode c x = if c == byte.minus then difference_of mode zero_number x else Ok x
 
 -- what AND, OR or XOR make of two conditions
 abbrev pub joined_condition : ℕ → Bool → Bool → Bool

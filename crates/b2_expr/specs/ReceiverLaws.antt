@@ -7,13 +7,13 @@ use Rattle.b2_expr.specs.Answers.{◌>>=◌}
 use Rattle.b2_expr.specs.Assigning.{Ends, assigned_side, is_reached, receiver_code}
 use Rattle.b2_expr.specs.Receivers.{portion_of}
 use Rattle.b2_expr.specs.RightSide.{Side}
-use Rattle.b2_expr.specs.Value.{part_of}
+use Rattle.b2_expr.specs.Value.{bytes_of_part}
 use Rattle.b2_expr.specs.declared.receiver.AlphaReceiver.{AlphaReceiver}
 
 -- STR names the bytes that it gives
 abbrev pub EachPartIsAPortion : Type 0
 EachPartIsAPortion =
-    (bytes : List ℕ) (x : Number) (y : Option Number) → part_of bytes x y ≡ (portion_of (length bytes) x y >>= (λ p. Ok (take p.count (drop p.from bytes))))
+    (bytes : List ℕ) (x : Number) (y : Option Number) → bytes_of_part bytes x y ≡ (portion_of (length bytes) x y >>= (λ p. Ok (take p.count (drop p.from bytes))))
 
 -- an alpha assignment changes nothing where its receiver isn't reached
 abbrev pub SameWhereNotReached : Type 0

@@ -16,7 +16,7 @@ use Rattle.b2_atom.specs.declared.forms.Leaf.TheVariants as leaf
 use Rattle.b2_rows.specs.Values.{variable_name}
 use Rattle.b2_rows.specs.declared.leaves.Name.{Name}
 use Rattle.b2_expr.specs.Answers.{◌>>=◌, unless}
-use Rattle.b2_expr.specs.Functions.{counted}
+use Rattle.b2_expr.specs.Functions.{whole_between}
 use Rattle.b2_expr.specs.Named.{variable_of, variables_of, number_there, bytes_there}
 use Rattle.b2_expr.specs.Scope.{Surroundings, Context}
 use Rattle.b2_expr.specs.Value.{value, second, located, token_text}
@@ -33,11 +33,11 @@ use Rattle.b2_expr.specs.declared.receiver.Buffer.TheVariants as buffer_kind
 -- how many bytes are named of those that are left: as many as are written, or all
 abbrev pub portion_count : ℕ → Option Number → Result ℕ ℕ
 portion_count left None = Ok left
-portion_count left (Some y) = counted 1 left y
+portion_count left (Some y) = whole_between 1 left y
 
 -- of n bytes those from the x-th on, and y of them, or all where no count is written: P34 where they aren't all there
 abbrev pub portion_of : ℕ → Number → Option Number → Result Portion ℕ
-portion_of n x y = counted 1 n x >>= (λ s. portion_count (n - (s - 1)) y >>= (λ k. Ok (record { from = s - 1; count = k })))
+portion_of n x y = whole_between 1 n x >>= (λ s. portion_count (n - (s - 1)) y >>= (λ k. Ok (record { from = s - 1; count = k })))
 
 -- a number: P59 and P57 where its value would have them
 unfoldable pub number_receiver : Context → Trees → Result Element ℕ
@@ -64,8 +64,8 @@ any_receiver s (In n a end) =
 any_receiver s t = Err S20_VARIABLE
 
 -- the array of a name: P59 where it isn't there
-abbrev pub array_of : Surroundings → Name → Result Array ℕ
-array_of e name = variables_of e name >>= (λ vars. unless (missing_code (variable_of name true) vars.table) (record { global = name.global; var = variable_of name true }))
+abbrev pub array_there : Surroundings → Name → Result Array ℕ
+array_there e name = variables_of e name >>= (λ vars. unless (missing_code (variable_of name true) vars.table) (record { global = name.global; var = variable_of name true }))
 
 -- the row of a whole array, with empty parentheses after its name, and whether it has a `$`
 abbrev pub array_row : Kind → ℕ
@@ -81,7 +81,7 @@ array_leaf kind.Number = leaf.Name
 array_leaf kind.Alpha = leaf.AlphaName
 
 unfoldable pub array_receiver : Surroundings → Bool → Trees → Result Array ℕ
-array_receiver e alpha (Put token more) = array_of e (variable_name alpha (token_text token))
+array_receiver e alpha (Put token more) = array_there e (variable_name alpha (token_text token))
 array_receiver e alpha t = Err S20_VARIABLE
 
 -- an array of either kind

@@ -136,8 +136,8 @@ abbrev pub started : Option (List ℕ) → List ℕ → List ℕ
 started None to = to
 started (Some bytes) to = padded (length to) bytes
 
-abbrev pub made : Side → List ℕ → Made
-made side to = made_by side.operations (started side.first to)
+abbrev pub side_made : Side → List ℕ → Made
+side_made side to = made_by side.operations (started side.first to)
 
 -- a code in the place of a value; memory may fail wherever some is taken
 abbrev pub Refuses : {A : Type 0} → Result A ℕ → Fault → Type 0

@@ -19,9 +19,9 @@ use Rattle.b2_rows.specs.declared.leaves.Name.{Name}
 use Rattle.b2_text.specs.Program.{TextState}
 use Rattle.b2_text.specs.Spots.{unit_at, is_function, first_opening}
 use Rattle.b2_expr.specs.Answers.{Answer, TextAnswer, ◌>>=◌, or_code}
-use Rattle.b2_expr.specs.Functions.{whole_number, subscript, column_of, counted, of_one, of_two, extreme, of_text, place_of, count_or, number_of, bytes_in, joined_text, fixed}
+use Rattle.b2_expr.specs.Functions.{whole_number, subscript, column_written, whole_between, of_one, of_two, extreme, of_text, position_of, count_or, number_of, binary_bytes, joined_text, fixed}
 use Rattle.b2_expr.specs.Named.{Place, variable_of, variables_of, number_there, bytes_there}
-use Rattle.b2_expr.specs.Operators.{joined, with_sign}
+use Rattle.b2_expr.specs.Operators.{joined, under_sign}
 use Rattle.b2_expr.specs.Scope.{Surroundings, Context, surroundings, hidden_by, kept_number}
 use Rattle.b2_expr.specs.declared.scope.Parameter.{Parameter}
 use Rattle.b2_expr.specs.declared.scope.Scope.{Scope}
@@ -56,14 +56,14 @@ pair_bytes t = []
 -- the bytes of a value from the x-th on, and y of them, or all where no count is written
 abbrev pub counted_bytes : List ℕ → Option Number → TextAnswer
 counted_bytes bytes None = Ok bytes
-counted_bytes bytes (Some y) = counted 1 (length bytes) y >>= (λ n. Ok (take n bytes))
+counted_bytes bytes (Some y) = whole_between 1 (length bytes) y >>= (λ n. Ok (take n bytes))
 
-abbrev pub part_of : List ℕ → Number → Option Number → TextAnswer
-part_of bytes x y = counted 1 (length bytes) x >>= (λ s. counted_bytes (drop (s - 1) bytes) y)
+abbrev pub bytes_of_part : List ℕ → Number → Option Number → TextAnswer
+bytes_of_part bytes x y = whole_between 1 (length bytes) x >>= (λ s. counted_bytes (drop (s - 1) bytes) y)
 
 -- a sign before a number, where one is written
 abbrev pub signed_by : Mode → ℕ → ℕ → Number → Answer
-signed_by mode n c x = if n == 1 then with_sign mode c x else Ok x
+signed_by mode n c x = if n == 1 then under_sign mode c x else Ok x
 
 -- a number that is written out
 abbrev pub literal_value : Text → Answer
@@ -112,15 +112,15 @@ element e name n subscripts =
     })))
 
 -- a number that a name stands for: the parameter of the name, and else what the variable has
-abbrev pub or_else : Option Number → Answer → Answer
-or_else (Some x) answer = Ok x
-or_else None answer = answer
+abbrev pub hidden_or : Option Number → Answer → Answer
+hidden_or (Some x) answer = Ok x
+hidden_or None answer = answer
 
 abbrev pub element_number : Result Place ℕ → Answer
 element_number place = place >>= number_there
 
 abbrev pub named_number : Context → Name → ℕ → Result Subscripts ℕ → Answer
-named_number s name n subscripts = or_else (if n == 1 then None else hidden_by s.parameter name) (element_number (element s.around name n subscripts))
+named_number s name n subscripts = hidden_or (if n == 1 then None else hidden_by s.parameter name) (element_number (element s.around name n subscripts))
 
 -- the value of an alpha variable: its bytes but the blanks at their end
 abbrev pub text_of_place : Result Place ℕ → TextAnswer
@@ -161,7 +161,7 @@ unfoldable mutual
   operand s kind.OfMore (Put word (In n (In m a more) close)) = extremes s (token_code word) (value s level.Sum a) more
   operand s kind.OfAlpha (Put word (In n a end)) = text s a >>= of_text (token_code word)
   operand s kind.Position (Put word (In n (In m a (Put (Plain k sign) (In l b end))) close)) =
-      text s a >>= (λ x. text s b >>= place_of (relation_of sign) x)
+      text s a >>= (λ x. text s b >>= position_of (relation_of sign) x)
   operand s kind.Value (Put word (In n (In m a count) close)) =
       text s a >>= (λ x. second s count >>= count_or 1 1 4 >>= number_of x)
   operand s kind.KeptNumber t = kept_value s.around t
@@ -182,7 +182,7 @@ unfoldable mutual
   -- the row and the column of subscripts, 0 where there is none
   pub subscripts : Context → Trees → Result Subscripts ℕ
   subscripts s (In n (Put opening (In m (In k a column) close)) end) =
-      value s level.Sum a >>= (λ r. second s column >>= (λ c. Ok (record { row = subscript r; column = column_of c })))
+      value s level.Sum a >>= (λ r. second s column >>= (λ c. Ok (record { row = subscript r; column = column_written c })))
   subscripts s t = Ok (record { row = 0; column = 0 })
 
   -- an alpha expression
@@ -208,10 +208,10 @@ unfoldable mutual
   pub text_operand : Context → AlphaOperand → Trees → TextAnswer
   text_operand s alpha_kind.Literal t = literal_bytes t
   text_operand s alpha_kind.StringPart (Put word (In n (In m (Put token more) (Put comma (In l a count))) close)) =
-      element s.around (variable_name true (token_text token)) (branch_of more) (subscripts s more) >>= bytes_there >>= (λ bytes. value s level.Sum a >>= (λ from. second s count >>= part_of bytes from))
+      element s.around (variable_name true (token_text token)) (branch_of more) (subscripts s more) >>= bytes_there >>= (λ bytes. value s level.Sum a >>= (λ from. second s count >>= bytes_of_part bytes from))
   text_operand s alpha_kind.Hex t = hex_bytes t
   text_operand s alpha_kind.Binary (Put word (In n (In m a count) close)) =
-      value s level.Sum a >>= (λ x. second s count >>= count_or 1 1 4 >>= (λ n. bytes_in n (fixed x)))
+      value s level.Sum a >>= (λ x. second s count >>= count_or 1 1 4 >>= (λ n. binary_bytes n (fixed x)))
   text_operand s alpha_kind.Variable (Put token more) = named_text s (variable_name true (token_text token)) (branch_of more) (subscripts s more)
   text_operand s k t = Err S18_ALPHA
 

@@ -10,7 +10,7 @@ ghost use Rattle.b2_expr.specs.Receivers.{IsAlpha, IsBuffer, IsNamed, IsNumeric}
 ghost use Rattle.b2_expr.specs.RightSide.{side_seen};
 
 use crate::named::Element;
-use crate::operations::{RightSide, make};
+use crate::operations::{RightSide, make_side};
 use crate::receiver::{AlphaReceiver, Buffer, Receiver};
 use b2_alpha::assign;
 use b2_base::codes::X75_NOT_DECIMAL;
@@ -118,7 +118,7 @@ pub fn assign_side(vars: &mut Vars, to: &AlphaReceiver, side: &RightSide) -> Res
     let mut room = [b' '; ROOM];
     let part = &mut room[..usize::from(to.portion.count)];
     assign(part, portion(vars, to));
-    let outcome = make(side, part);
+    let outcome = make_side(side, part);
     put(vars, to, part);
     match outcome {
         Ok(()) => Ok(()),

@@ -20,22 +20,22 @@ ghost use Rattle.b2_atom.specs.declared.words.Origin.TheVariants.{Atoms};
 ghost use Rattle.b2_rows.specs.Optional.{maybe_part, maybe_tree, after_maybe};
 ghost use Rattle.b2_expr.specs.Functions.{joined_number, joined_text};
 ghost use Rattle.b2_expr.specs.Further.{after_further, are_further, further_tree};
-ghost use Rattle.b2_expr.specs.Levels.{are_lists, ends, has_sign, pick, rests, row_of, spans};
+ghost use Rattle.b2_expr.specs.Levels.{are_lists, ends, has_sign, pick, left_after_levels, row_of_level, spans};
 ghost use Rattle.b2_expr.specs.Named.{after_name, is_alpha_kind, name_leaf, name_row, place_seen, variable_of, variables_of};
 ghost use Rattle.b2_expr.specs.Scope.{surroundings};
 ghost use Rattle.b2_expr.specs.Reads.{Appends, Gives};
 ghost use Rattle.b2_expr.specs.Value as meaning;
-ghost use Rattle.b2_expr.specs.Value.{element_number, called, context, extremes, function_tree, further_text, hex_bytes, literal_bytes, literal_number, literal_value, kept_value, pairs_of, located, part_of, second, subscripts, text_row, value};
+ghost use Rattle.b2_expr.specs.Value.{element_number, called, context, extremes, function_tree, further_text, hex_bytes, literal_bytes, literal_number, literal_value, kept_value, pairs_of, located, bytes_of_part, second, subscripts, text_row, value};
 ghost use Rattle.b2_expr.specs.declared.operators.Level.TheVariants as level_of;
 ghost use Rattle.b2_rows.specs.declared.operands.Operand.TheVariants as kind_is;
 ghost use Rattle.b2_rows.specs.declared.operands.AlphaOperand.TheVariants as alpha_kind_is;
 
 use crate::functions::{
-    byte_count, bytes_in, column_of, counted, extreme, number_of, of_one, of_text, of_two,
-    place_of, subscript, whole_number,
+    byte_count, binary_bytes, column_written, whole_between, extreme, number_of, of_one, of_text, of_two,
+    position_of, subscript, whole_number,
 };
 use crate::named::{Element, Located, NameKind, Subscripts, variable_of};
-use crate::operators::{Level, joined, with_sign};
+use crate::operators::{Level, joined, under_sign};
 use crate::scope::{Env, Parameter, Scope, hidden_by, kept_number};
 use b2_alpha::value_len;
 use b2_atom::{Origin, literal_width, number_width, numeric_name_width, relation_width};
@@ -128,8 +128,8 @@ pub fn variables_of<'a>(env: &Env<'a>, name: Name) -> Result<&'a Vars, Code>
 #[cycle(values)]
 #[tactic(auto, using(crate::proofs::Climbs::plain_operand, crate::proofs::Climbs::plain_value, crate::proofs::Climbs::plain_lists, crate::proofs::Climbs::plain_rest, crate::proofs::Climbs::signed_power, crate::proofs::Climbs::signed_value, crate::proofs::Climbs::signed_lists, crate::proofs::Climbs::signed_rest, crate::proofs::Climbs::sign_shorter, crate::proofs::Climbs::ends_refused, crate::proofs::Climbs::power_no_longer, b2_rows::proofs::Levels::part_no_longer))]
 fn head<'a>(wanted: Level, s: &Scope<'_>, text: &'a [u8]) -> Result<(Dec, Level, &'a [u8]), Code>
-    requires part { is_part (row_of wanted) text.now ≡ true }
-    ensures { MatchResult result (λ p. (value (context s.now) wanted (tree_at (row_of wanted) text.now) ≡ ends (context s.now) (spans wanted p.1) (Ok p.0) p.2.now) × (are_lists (spans wanted p.1) p.2.now ≡ true) × (after_part (row_of wanted) text.now ≡ rests (spans wanted p.1) p.2.now) × (length p.2.now ≤ length text.now)) (λ code. value (context s.now) wanted (tree_at (row_of wanted) text.now) ≡ Err code) }
+    requires part { is_part (row_of_level wanted) text.now ≡ true }
+    ensures { MatchResult result (λ p. (value (context s.now) wanted (tree_at (row_of_level wanted) text.now) ≡ ends (context s.now) (spans wanted p.1) (Ok p.0) p.2.now) × (are_lists (spans wanted p.1) p.2.now ≡ true) × (after_part (row_of_level wanted) text.now ≡ left_after_levels (spans wanted p.1) p.2.now) × (length p.2.now ≤ length text.now)) (λ code. value (context s.now) wanted (tree_at (row_of_level wanted) text.now) ≡ Err code) }
 {
     let sign = first(text);
     if is_signed(wanted, sign) {
@@ -137,7 +137,7 @@ fn head<'a>(wanted: Level, s: &Scope<'_>, text: &'a [u8]) -> Result<(Dec, Level,
             Ok(found) => found,
             Err(code) => return Err(code),
         };
-        return match with_sign(s.env.mode, sign, number) {
+        return match under_sign(s.env.mode, sign, number) {
             Ok(number) => Ok((number, Level::Product, rest)),
             Err(code) => Err(code),
         };
@@ -152,8 +152,8 @@ fn head<'a>(wanted: Level, s: &Scope<'_>, text: &'a [u8]) -> Result<(Dec, Level,
 #[cycle(values)]
 #[tactic(auto, using(crate::proofs::Climbs::on_item, crate::proofs::Climbs::on_lists, crate::proofs::Climbs::on_value, crate::proofs::Climbs::on_rest, crate::proofs::Climbs::on_shorter, crate::proofs::Climbs::off_value, crate::proofs::Climbs::off_rest, crate::proofs::Climbs::ends_refused, b2_rows::proofs::Levels::part_no_longer))]
 pub fn climb<'a>(wanted: Level, s: &Scope<'_>, text: &'a [u8]) -> Result<(Dec, &'a [u8]), Code>
-    requires part { is_part (row_of wanted) text.now ≡ true }
-    ensures { Gives (value (context s.now) wanted (tree_at (row_of wanted) text.now)) (after_part (row_of wanted) text.now) result }
+    requires part { is_part (row_of_level wanted) text.now ≡ true }
+    ensures { Gives (value (context s.now) wanted (tree_at (row_of_level wanted) text.now)) (after_part (row_of_level wanted) text.now) result }
 {
     let (start, above, after) = match head(wanted, s, text) {
         Ok(found) => found,
@@ -409,7 +409,7 @@ fn position_at<'a>(s: &Scope<'_>, text: &'a [u8]) -> Result<(Dec, &'a [u8]), Cod
         Ok(rest) => {
             let relation = relation_at(sign);
             Ok((
-                place_of(relation, value.bytes(), wanted.bytes()),
+                position_of(relation, value.bytes(), wanted.bytes()),
                 dropped(rest, 1),
             ))
         }
@@ -479,7 +479,7 @@ fn subscripts<'a>(s: &Scope<'_>, text: &'a [u8]) -> Result<(Subscripts, &'a [u8]
     };
     let at = Subscripts {
         row: subscript(row),
-        column: column_of(column),
+        column: column_written(column),
     };
     Ok((at, dropped(rest, 1)))
 }
@@ -695,7 +695,7 @@ fn part_at<'a>(s: &Scope<'_>, text: &'a [u8], into: &mut Bytes) -> Result<&'a [u
         Ok(found) => found,
         Err(code) => return Err(code),
     };
-    let part = match part_of(bytes, from, count) {
+    let part = match bytes_of_part(bytes, from, count) {
         Ok(part) => part,
         Err(code) => return Err(code),
     };
@@ -706,17 +706,17 @@ fn part_at<'a>(s: &Scope<'_>, text: &'a [u8], into: &mut Bytes) -> Result<&'a [u
 }
 
 /// The bytes from one place on, and as many as are counted, or all: P34 where they aren't there.
-pub fn part_of(bytes: &[u8], from: Dec, count: Option<Dec>) -> Result<&[u8], Code>
+pub fn bytes_of_part(bytes: &[u8], from: Dec, count: Option<Dec>) -> Result<&[u8], Code>
     requires short { length bytes.now ≤ 124 }
-    ensures { MatchResult result (λ part. part_of bytes.now from count ≡ Ok part.now) (λ code. part_of bytes.now from count ≡ Err code) }
+    ensures { MatchResult result (λ part. bytes_of_part bytes.now from count ≡ Ok part.now) (λ code. bytes_of_part bytes.now from count ≡ Err code) }
 {
     let length = bytes.len() as u8;
-    let from = counted(1, length, from)?;
+    let from = whole_between(1, length, from)?;
     let left = dropped(bytes, usize::from(from) - 1);
     match count {
         None => Ok(left),
         Some(count) => {
-            let count = counted(1, left.len() as u8, count)?;
+            let count = whole_between(1, left.len() as u8, count)?;
             Ok(front(left, usize::from(count)))
         }
     }
@@ -754,7 +754,7 @@ fn join_number(number: Dec, count: u8, into: &mut Bytes) -> Result<(), Code>
 {
     let mut bytes = [0; 4];
     let part = &mut bytes[..usize::from(count)];
-    match bytes_in(number, part) {
+    match binary_bytes(number, part) {
         Ok(()) => join(part, into),
         Err(code) => Err(code),
     }

@@ -1,6 +1,6 @@
 // The functions of the language on values, and the numbers that they and subscripts want.
 ghost use Rattle.std.specs.Prelude.{◌≡◌, ◌≤◌, ◌<◌, ◌+◌, ◌++◌, MatchResult, Ok, Err, OnErr, length};
-ghost use Rattle.b2_expr.specs.Functions.{bytes_in, column_of, count_or, counted, extreme, fixed, number_of, of_one, of_text, of_two, place_of, rounded_to, subscript, whole_number};
+ghost use Rattle.b2_expr.specs.Functions.{binary_bytes, column_written, count_or, whole_between, extreme, fixed, number_of, of_one, of_text, of_two, position_of, rounded_to, subscript, whole_number};
 
 use b2_alpha::{Rel, bin, pos, val};
 use b2_atom::words::{ABS_OPEN, FIX_OPEN, INT_OPEN, LEN_OPEN, MAX_OPEN, ROUND_OPEN, SGN_OPEN};
@@ -19,8 +19,8 @@ pub fn fixed(x: Dec) -> Option<i64>
 }
 
 /// A number without its fraction, which must be from one number to another, else P34.
-pub fn counted(least: u8, most: u8, x: Dec) -> Result<u8, Code>
-    ensures { result ≡ counted least most x }
+pub fn whole_between(least: u8, most: u8, x: Dec) -> Result<u8, Code>
+    ensures { result ≡ whole_between least most x }
 {
     match fixed(x) {
         Some(n) if n >= i64::from(least) && n <= i64::from(most) => Ok(n as u8),
@@ -33,7 +33,7 @@ pub fn byte_count(count: Option<Dec>) -> Result<u8, Code>
     ensures { result ≡ count_or 1 1 4 count }
 {
     match count {
-        Some(x) => counted(1, 4, x),
+        Some(x) => whole_between(1, 4, x),
         None => Ok(1),
     }
 }
@@ -49,8 +49,8 @@ pub fn subscript(x: Dec) -> u16
 }
 
 /// The column that is written, or 0.
-pub fn column_of(column: Option<Dec>) -> u16
-    ensures { result ≡ column_of column }
+pub fn column_written(column: Option<Dec>) -> u16
+    ensures { result ≡ column_written column }
 {
     match column {
         Some(x) => subscript(x),
@@ -122,9 +122,9 @@ pub fn of_text(word: u8, bytes: &[u8]) -> Dec
 }
 
 /// POS: the place of the first byte of `a` that stands in the relation to the first byte of `b`.
-pub fn place_of(rel: Rel, a: &[u8], b: &[u8]) -> Dec
+pub fn position_of(rel: Rel, a: &[u8], b: &[u8]) -> Dec
     requires { length a.now ≤ 255 }
-    ensures { Ok result ≡ place_of rel a.now b.now }
+    ensures { Ok result ≡ position_of rel a.now b.now }
 {
     whole_number(pos(a, rel, first(b)) as u64)
 }
@@ -143,8 +143,8 @@ pub fn number_of(bytes: &[u8], n: u8) -> Result<Dec, Code>
 }
 
 /// BIN: a number without its fraction in the `n` bytes that are lent, P34 where it isn't a whole number that fits.
-pub fn bytes_in(x: Dec, to: &mut [u8]) -> Result<(), Code>
-    ensures { MatchResult result (λ done. bytes_in (length to.old) (fixed x) ≡ Ok to.new) (λ code. bytes_in (length to.old) (fixed x) ≡ Err code) }
+pub fn binary_bytes(x: Dec, to: &mut [u8]) -> Result<(), Code>
+    ensures { MatchResult result (λ done. binary_bytes (length to.old) (fixed x) ≡ Ok to.new) (λ code. binary_bytes (length to.old) (fixed x) ≡ Err code) }
 {
     match fixed(x) {
         Some(n) if n >= 0 => bin(n as u64, to),

@@ -15,7 +15,7 @@ ghost use Rattle.b2_expr.specs.Scope.{surroundings};
 ghost use Rattle.b2_expr.specs.Value.{context};
 
 use crate::evaluate::{climb, located, second, variables_of};
-use crate::functions::counted;
+use crate::functions::whole_between;
 use crate::named::{Element, NameKind, variable_of};
 use crate::operators::Level;
 use crate::receiver::{AlphaReceiver, Array, Buffer, Portion, Receiver};
@@ -73,7 +73,7 @@ fn whole_value_at<'a>(s: &Scope<'_>, text: &'a [u8]) -> Result<(AlphaReceiver, &
 fn portion_of(length: u8, from: Dec, count: Option<Dec>) -> Result<Portion, Code>
     ensures { result ≡ spec.portion_of length from count }
 {
-    let first = match counted(1, length, from) {
+    let first = match whole_between(1, length, from) {
         Ok(first) => first,
         Err(code) => return Err(code),
     };
@@ -93,7 +93,7 @@ fn portion_count(left: u8, count: Option<Dec>) -> Result<u8, Code>
 {
     match count {
         None => Ok(left),
-        Some(count) => counted(1, left, count),
+        Some(count) => whole_between(1, left, count),
     }
 }
 
@@ -166,9 +166,9 @@ pub fn any_receiver_at<'a>(s: &Scope<'_>, text: &'a [u8]) -> Result<(Receiver, &
 }
 
 /// The array of a name: X77 where there are no `@` variables, and P59 where it isn't there.
-fn array_of(env: &Env<'_>, name: Name) -> Result<Array, Code>
+fn array_there(env: &Env<'_>, name: Name) -> Result<Array, Code>
     requires { is_legal_name (spec_variable_of name true) ≡ true }
-    ensures place { result ≡ spec.array_of (surroundings env.now) name }
+    ensures place { result ≡ spec.array_there (surroundings env.now) name }
     ensures var { IfOk result (λ array. array.var ≡ spec_variable_of name true) }
 {
     let vars = match variables_of(env, name) {
@@ -206,11 +206,11 @@ pub fn array_named_at<'a>(
     text: &'a [u8],
 ) -> Result<(Array, &'a [u8]), Code>
     requires named { is_leaf (array_leaf kind) text.now ≡ true }
-    ensures place { Gives (spec.array_of (surroundings env.now) (variable_name (is_alpha_array kind) (leaf_bytes (array_leaf kind) text.now))) (drop (leaf_width Atoms (array_leaf kind) text.now) text.now) result }
+    ensures place { Gives (spec.array_there (surroundings env.now) (variable_name (is_alpha_array kind) (leaf_bytes (array_leaf kind) text.now))) (drop (leaf_width Atoms (array_leaf kind) text.now) text.now) result }
     ensures name { IfOk result (λ p. IsArray p.0.var × (p.0.var.alpha ≡ is_alpha_array kind)) }
 {
     let (name, width) = array_name_at(kind, text);
-    match array_of(env, name) {
+    match array_there(env, name) {
         Ok(array) => Ok((array, dropped(text, width))),
         Err(code) => Err(code),
     }

@@ -7,7 +7,7 @@ ghost use Rattle.b2_rows.specs.Rows.{is_part, tree_at, after_part, is_list, list
 ghost use Rattle.b2_vars.specs.Answers.{Answers};
 ghost use Rattle.b2_expr.specs.Reads.{Gives};
 ghost use Rattle.b2_expr.specs.RightSide as spec;
-ghost use Rattle.b2_expr.specs.RightSide.{Refuses, after_right_side, is_right_side, made, made_by, operated, operation_start, operator_of, right_side_tree, side_seen};
+ghost use Rattle.b2_expr.specs.RightSide.{Refuses, after_right_side, is_right_side, side_made, made_by, operated, operation_start, operator_of, right_side_tree, side_seen};
 ghost use Rattle.b2_expr.specs.Value as meaning;
 ghost use Rattle.b2_expr.specs.Value.{context};
 
@@ -272,9 +272,9 @@ fn operate_all(operations: &[Operation], to: &mut [u8]) -> Result<(), Code>
 
 /// Makes of the bytes of a receiver what a right side makes of them: first its first operand, padded with blanks or cut,
 /// where there is one, and then each operation on all of them.
-pub fn make(side: &RightSide, to: &mut [u8]) -> Result<(), Code>
-    ensures bytes { to.new ≡ (made (side_seen side.now) to.old).bytes }
-    ensures code { Answers (made (side_seen side.now) to.old).code result }
+pub fn make_side(side: &RightSide, to: &mut [u8]) -> Result<(), Code>
+    ensures bytes { to.new ≡ (side_made (side_seen side.now) to.old).bytes }
+    ensures code { Answers (side_made (side_seen side.now) to.old).code result }
 {
     match &side.first {
         Some(bytes) => assign(to, bytes.bytes()),

@@ -1,6 +1,6 @@
 // What joins two numbers, by levels: sums of products of powers; and what compares.
 ghost use Rattle.std.specs.Prelude.{◌≡◌, Some};
-ghost use Rattle.b2_expr.specs.Operators.{joined, joined_condition, raised, raised_by, with_sign};
+ghost use Rattle.b2_expr.specs.Operators.{joined, joined_condition, raised, raised_by, under_sign};
 
 use b2_atom::words::{AND, OR};
 use b2_base::Code;
@@ -51,8 +51,8 @@ pub fn joined(mode: Mode, operator: u8, a: Dec, b: Dec) -> Result<Dec, Code>
 }
 
 /// A number with `+` or `-` before it.
-pub fn with_sign(mode: Mode, sign: u8, number: Dec) -> Result<Dec, Code>
-    ensures { result ≡ with_sign mode sign number }
+pub fn under_sign(mode: Mode, sign: u8, number: Dec) -> Result<Dec, Code>
+    ensures { result ≡ under_sign mode sign number }
 {
     if sign == b'-' {
         sub(Dec::zero(), number, mode)

@@ -231,7 +231,7 @@ fn past_subscripts(text: &[u8]) -> &[u8]
 
 /// How many bytes a name of a kind takes.
 #[tactic(auto, using(crate::proofs::Names::alpha_leaf_is, crate::proofs::Names::number_leaf_is))]
-fn name_width(kind: NameKind, text: &[u8]) -> usize
+fn width_of_name(kind: NameKind, text: &[u8]) -> usize
     ensures { result ≡ leaf_width Atoms (name_leaf kind) text.now }
 {
     if kind.is_alpha() {
@@ -248,7 +248,7 @@ fn past_name(kind: NameKind, text: &[u8]) -> &[u8]
     requires part { is_part (name_row kind) text.now ≡ true }
     ensures { result.now ≡ after_part (name_row kind) text.now }
 {
-    past_subscripts(dropped(text, name_width(kind, text)))
+    past_subscripts(dropped(text, width_of_name(kind, text)))
 }
 
 /// Past an alpha expression.

@@ -104,7 +104,7 @@ pub fn whole_array(c: &mut Cursor<'_>, e: &Env<'_>) -> Result<Array, Code>
 /// The array of the name at a cursor, which then stands after the name. Codes come as for `whole_array`.
 pub fn array_named(c: &mut Cursor<'_>, kind: Kind, e: &Env<'_>) -> Result<Array, Code>
     requires named { is_leaf (array_leaf kind) c.old ≡ true }
-    ensures place { GivesAt (spec.array_of (surroundings e.now) (variable_name (is_alpha_array kind) (leaf_bytes (array_leaf kind) c.old))) (drop (leaf_width Atoms (array_leaf kind) c.old) c.old) c.old c.new result }
+    ensures place { GivesAt (spec.array_there (surroundings e.now) (variable_name (is_alpha_array kind) (leaf_bytes (array_leaf kind) c.old))) (drop (leaf_width Atoms (array_leaf kind) c.old) c.old) c.old c.new result }
     ensures name { IfOk result (λ array. IsArray array.var × (array.var.alpha ≡ is_alpha_array kind)) }
 {
     let (array, rest) = match array_named_at(e, kind, c.rest()) {

@@ -19,7 +19,7 @@ use Rattle.b2_text.specs.declared.spots.Spot.{Spot}
 use Rattle.b2_access.specs.Lending.{SeenLent}
 use Rattle.b2_access.specs.Loans.{Loan}
 use Rattle.b2_access.specs.Partition.{KeepsNone, is_ready}
-use Rattle.b2_access.specs.Placed.{Statement, statement_at}
+use Rattle.b2_access.specs.Placed.{Statement, statement_placed}
 use Rattle.b2_access.specs.Places.{goal_place, line_start}
 use Rattle.b2_access.specs.Sharing.{ServingOf}
 use Rattle.b2_access.specs.Store.{StoreState}
@@ -36,7 +36,7 @@ use Rattle.b2_stmt.proofs.KeptPlaces as stmt
 use Rattle.b2_stmt_io.proofs.KeptPlaces as stmt_io
 use Rattle.b2_machine.specs.Keys.{calls, calls_where, pressed_by}
 use Rattle.b2_machine.specs.Listed.{lists}
-use Rattle.b2_machine.specs.Moving.{ends_by, enters_program, error_place, faults, goes_to, is_continue, is_taken, moves_to, next_place, units_at}
+use Rattle.b2_machine.specs.Moving.{ends_by, enters_program, error_place, faults, goes_to, is_continue, is_taken, moves_to, following_place, units_at}
 use Rattle.b2_machine.specs.Readiness.{halted, resets}
 use Rattle.b2_machine.specs.Statements.{begins_where, begun_by, builder_of, finish_by, finishes, plan_by}
 use Rattle.b2_stmt_io.specs.Showing.{shown}
@@ -44,7 +44,7 @@ use Rattle.b2_stmt_io.specs.Marks.{typed_by}
 use Rattle.b2_access.specs.declared.lending.At.TheVariants as at
 use Rattle.b2_machine.specs.Step.{acts, by_itself, halts_or_acts, enters_or_goes_on, executes, goes_through, line_read, runs_or_reads, seen_by, shows_or_goes_on, step, text_in, types_or_goes_on}
 use Rattle.b2_machine.specs.Typing.{on_own_line, put_by, shown_by, takes, takes_or_refuses, typed_by_key}
-use Rattle.b2_machine.specs.Turn.{TurnEnd, counted_on, ended as turn_ended, turn, turn_from, unless_ended}
+use Rattle.b2_machine.specs.Turn.{TurnEnd, counted_on, ended_turn as turn_ended, turn, turn_from, unless_ended}
 use Rattle.b2_machine.specs.declared.ends.Stepped.{Stepped}
 use Rattle.b2_machine.specs.declared.ends.Why.{Why}
 use Rattle.b2_machine.specs.declared.statements.Builder.{Builder}
@@ -108,7 +108,7 @@ module _ (p : Place) where
   gone (Some q) me from k = λ r. k (from r)
 
   jumped : (a b : Bool) (q : Place) (me : Private) (home : Lines) → is_some p.line ≡ a → is_some q.line ≡ b → (is_some p.line ≡ true → me.kept ≡ None)
-      → KeepsNone (if not a && b then enters_program (is_continue (statement_at p me.immediate home)) q me else moves_to q me)
+      → KeepsNone (if not a && b then enters_program (is_continue (statement_placed p me.immediate home)) q me else moves_to q me)
   jumped true b q me home is_a is_b k = λ r. k is_a
   jumped false true q me home is_a is_b k = λ r. refl
   jumped false false q me home is_a is_b k = λ r. absurd (false_is_true (sym is_b ∙ r))
@@ -119,13 +119,13 @@ module _ (p : Place) where
   faulted code (Some q) me from k = λ r. k (from r)
 
   -- after the outcome of a statement at this place
-  ended : (same : Stepped) (o : Outcome) (me : Private) (home : Lines) → me.place ≡ Some p → (is_some p.line ≡ true → (me.kept ≡ None) ⊎ (o ≡ outcome.Ready)) → KeepsNone (ends_by same o p me home).me
-  ended same outcome.Next me home is k = gone (next_place p me home) me (next_here home (p.unit + 1) (units_at p me home)) (λ r. not_ready me.kept outcome.Next (λ e. cc) (k r))
-  ended same (outcome.Jump q) me home is k = jumped (is_some p.line) (is_some q.line) q me home refl refl (λ r. not_ready me.kept (outcome.Jump q) (λ e. cc) (k r))
-  ended same (outcome.Failed code) me home is k = faulted code (error_place code p me home) me (fault_here code me home) (λ r. not_ready me.kept (outcome.Failed code) (λ e. cc) (k r))
-  ended same outcome.Repeat me home is k = λ r. not_ready me.kept outcome.Repeat (λ e. cc) (k (sym (ap Runs is) ∙ r))
-  ended same outcome.Break me home is k = gone (next_place p me home) me (next_here home (p.unit + 1) (units_at p me home)) (λ r. not_ready me.kept outcome.Break (λ e. cc) (k r))
-  ended same outcome.Ready me home is k = λ r. absurd (false_is_true r)
+  ended_turn : (same : Stepped) (o : Outcome) (me : Private) (home : Lines) → me.place ≡ Some p → (is_some p.line ≡ true → (me.kept ≡ None) ⊎ (o ≡ outcome.Ready)) → KeepsNone (ends_by same o p me home).me
+  ended_turn same outcome.Next me home is k = gone (following_place p me home) me (next_here home (p.unit + 1) (units_at p me home)) (λ r. not_ready me.kept outcome.Next (λ e. cc) (k r))
+  ended_turn same (outcome.Jump q) me home is k = jumped (is_some p.line) (is_some q.line) q me home refl refl (λ r. not_ready me.kept (outcome.Jump q) (λ e. cc) (k r))
+  ended_turn same (outcome.Failed code) me home is k = faulted code (error_place code p me home) me (fault_here code me home) (λ r. not_ready me.kept (outcome.Failed code) (λ e. cc) (k r))
+  ended_turn same outcome.Repeat me home is k = λ r. not_ready me.kept outcome.Repeat (λ e. cc) (k (sym (ap Runs is) ∙ r))
+  ended_turn same outcome.Break me home is k = gone (following_place p me home) me (next_here home (p.unit + 1) (units_at p me home)) (λ r. not_ready me.kept outcome.Break (λ e. cc) (k r))
+  ended_turn same outcome.Ready me home is k = λ r. absurd (false_is_true r)
 
   -- what a statement plans at this place, and how it finishes
   abbrev Here : Private → Type 0
@@ -170,7 +170,7 @@ module _ (p : Place) where
   finished builder.Nobody x a me s h = (h.0, λ r. inl (h.1 r))
 
   finish_keeps : (b : Builder) (x : Access) (a : Answer) (me : Private) (s : SeenLent) → Here me → KeepsNone (finishes b x a p me s).me
-  finish_keeps b x a me s h = let f = finished b x a me s h in ended _ (finish_by b x a me s).outcome (finish_by b x a me s).me s.home.lines f.0 f.1
+  finish_keeps b x a me s h = let f = finished b x a me s h in ended_turn _ (finish_by b x a me s).outcome (finish_by b x a me s).me s.home.lines f.0 f.1
 
   outcome_of : Planned → Outcome
   outcome_of (planned.Done o) = o
@@ -190,7 +190,7 @@ module _ (p : Place) where
 
   module _ {M : Type 0} (store : M → StoreState) (serving : ServingOf M) (lending : Loan M) where
     begun_keeps : (x : Planned) (b : Builder) (me : Private) (home : Lines) (m : M) → PlannedHere me x → KeepsNone (goes_through store serving lending (begun_by x b p me home) p m).me
-    begun_keeps (planned.Done o) b me home m h = ended _ o me home h.0 (λ r. done_kept o me.kept (h.1 r))
+    begun_keeps (planned.Done o) b me home m h = ended_turn _ o me home h.0 (λ r. done_kept o me.kept (h.1 r))
     begun_keeps (planned.Ask a) b me home m h =
         let g = serving m me.part a in
         finish_keeps b a g.answer me (seen_by me (store g.after)) (h.0, λ r. asked_kept a me.kept (h.1 r))
@@ -202,7 +202,7 @@ module _ (p : Place) where
         begun_keeps x.planned (builder_of u) x.me s.home.lines m (plans (builder_of u) me s h)
 
     pub executed : (me : Private) (m : M) → Here me → KeepsNone (executes store serving lending p me m).me
-    executed me m h = unit_keeps (statement_at p me.immediate (text_in (store m) me.part).lines) me (seen_by me (store m)) (lending me.part me.part at.None m None) h
+    executed me m h = unit_keeps (statement_placed p me.immediate (text_in (store m) me.part).lines) me (seen_by me (store m)) (lending me.part me.part at.None m None) h
 
 -- output and literals, as they wait
 module _ where

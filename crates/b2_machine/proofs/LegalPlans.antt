@@ -10,7 +10,7 @@ use Rattle.b2_rows.specs.Following.{tree_units}
 use Rattle.b2_text.specs.Program.{Lines}
 use Rattle.b2_flow.specs.declared.frame.Place.{Place}
 use Rattle.b2_access.specs.Lending.{SeenLent}
-use Rattle.b2_access.specs.Placed.{Statement, statement_at}
+use Rattle.b2_access.specs.Placed.{Statement, statement_placed}
 use Rattle.b2_access.specs.Planning.{Planning}
 use Rattle.b2_access.specs.Touching.{IsLegal}
 use Rattle.b2_access.specs.declared.accesses.Access.{Access}
@@ -19,7 +19,7 @@ use Rattle.b2_access.specs.declared.planned.Planned.{Planned}
 use Rattle.b2_access.specs.declared.planned.Planned.TheVariants as planned
 use Rattle.b2_access.specs.declared.private.Private.{Private}
 use Rattle.b2_stmt.specs.Asked.{Here}
-use Rattle.b2_stmt.specs.Clearing.{access_of, erases, erases_range, erases_lines, erases_from}
+use Rattle.b2_stmt.specs.Clearing.{asked_access, asks_to_erase, erases_range, erases_lines, erases_from}
 use Rattle.b2_stmt.specs.Plan as stmt
 use Rattle.b2_stmt_io.specs.LineReading.{asks_line}
 use Rattle.b2_stmt_io.specs.Plan as stmt_io
@@ -65,15 +65,15 @@ range_is Done = tt
 range_is (Put w t) = tt
 range_is (In n lines t) = by_if IsLegal (n == 1) (erases_lines lines) (access.Erase 0 9999 0) (lines_are lines) tt
 
-erased : (t : Trees) → IsLegal (erases t)
+erased : (t : Trees) → IsLegal (asks_to_erase t)
 erased Done = tt
 erased (Put w Done) = tt
 erased (Put w (Put l t)) = range_is t
 erased (Put w (In m i t)) = tt
 erased (In m i t) = tt
 
-accessed : (r : ℕ) (t : Trees) → IsLegalIfAny (access_of r t)
-accessed r t = by_if IsLegalIfAny (r == row.CLEAR) _ _ tt (by_if IsLegalIfAny (r == row.CLEAR_P) (Some (erases t)) None (erased t) tt)
+accessed : (r : ℕ) (t : Trees) → IsLegalIfAny (asked_access r t)
+accessed r t = by_if IsLegalIfAny (r == row.CLEAR) _ _ tt (by_if IsLegalIfAny (r == row.CLEAR_P) (Some (asks_to_erase t)) None (erased t) tt)
 
 -- statements of control
 by_any : (a : Option Access) (s : SeenLent) (me : Private) (e : _) → IsLegalIfAny a → Fine (stmt.by_access a s me e)
@@ -82,7 +82,7 @@ by_any (Some a) s me e h = h
 
 control_at : (u : Option TreeUnit) (h : Here) (me : Private) (s : SeenLent) → Fine (stmt.course_at u h me s)
 control_at None h me s = tt
-control_at (Some u) h me s = by_if Fine (stmt.is_refused u.row (is_some h.place.line)) _ _ tt (by_any (access_of u.row u.tree) s me _ (accessed u.row u.tree))
+control_at (Some u) h me s = by_if Fine (stmt.is_refused u.row (is_some h.place.line)) _ _ tt (by_any (asked_access u.row u.tree) s me _ (accessed u.row u.tree))
 
 control_in : (line : Option (List ℕ)) (p : Place) (me : Private) (s : SeenLent) → Fine (stmt.course_in line p me s)
 control_in None p me s = tt
@@ -116,7 +116,7 @@ terminal_at (Some u) p me s =
 
 terminal_where : (p : Option Place) (me : Private) (s : SeenLent) → Fine (stmt_io.course p me s)
 terminal_where None me s = tt
-terminal_where (Some p) me s = terminal_at (statement_at p me.immediate s.home.lines) p me s
+terminal_where (Some p) me s = terminal_at (statement_placed p me.immediate s.home.lines) p me s
 
 -- LIST
 listed : (b : Bool) (range : ℕ × ℕ) (me : Private) (s : SeenLent) → Fine (lists b range me s)

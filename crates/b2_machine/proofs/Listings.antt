@@ -2,7 +2,7 @@
 use Rattle.std.proofs.Common.{◌≡◌, ℕ, ◌<◌, Bool, false, cond, [], ◌∷◌, refl, sym, ap, ◌∙◌, arith, filter}
 use Rattle.std.proofs.lemmas.Bool.Decides.{nat_tests}
 use Rattle.b2_text.specs.Program.{Lines, is_within}
-use Rattle.b2_machine.specs.Listed.{lines_listed, each_listed}
+use Rattle.b2_machine.specs.Listed.{range_listed, each_listed}
 
 nothing_within : (from to n : ℕ) → to < from → is_within from to n ≡ false
 nothing_within from to n h = grind (arith, nat_tests)
@@ -14,5 +14,5 @@ none_kept from to (e ∷ es) h =
     ∙ none_kept from to es h
 
 -- where the last number is below the first, nothing is listed
-pub nothing_listed : (from to : ℕ) (es : Lines) → to < from → [] ≡ lines_listed (from, to) es
+pub nothing_listed : (from to : ℕ) (es : Lines) → to < from → [] ≡ range_listed (from, to) es
 nothing_listed from to es h = sym (ap each_listed (none_kept from to es h))

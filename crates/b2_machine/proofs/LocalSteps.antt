@@ -23,7 +23,7 @@ use Rattle.b2_machine.specs.Keys.{pressed}
 use Rattle.b2_machine.specs.Readiness.{halted, resets}
 use Rattle.b2_machine.specs.Statements.{Begun, begins, finishes}
 use Rattle.b2_machine.specs.Step.{StepEnd, acts, carries_out, enters_or_goes_on, executes, halts_or_acts, lent, line_read, no_text, reads_line, runs_or_reads, seen_by, shows_or_goes_on, step, text_in, types_or_goes_on}
-use Rattle.b2_machine.specs.Touched.{Asking, GoesLocally, StepsAreLocal, access_of, asks_as_it_acts, asks_at, asks_one, asks_to_enter, asks_to_show, asks_to_type, asks_unless_halted, begun_asks, touched_by, written_for}
+use Rattle.b2_machine.specs.Touched.{Asking, GoesLocally, StepsAreLocal, access_asked, asks_as_it_acts, asks_at, asks_one, asks_to_enter, asks_to_show, asks_to_type, asks_unless_halted, begun_asks, touched_by, written_for}
 use Rattle.b2_machine.specs.Typing.{on_own_line, put_by, puts_numbered, shown_by, typed_by_key}
 use Rattle.b2_machine.specs.declared.ends.Stepped.{Stepped}
 use Rattle.b2_machine.specs.declared.statements.Builder.{Builder}
@@ -132,7 +132,7 @@ module _ {M : Type 0} (store : M → StoreState) (serving : ServingOf M) (lendin
     over c me m = carries_out store serving lending c p me (lent store serving lending first m)
 
     asks_over : Course → Private → Asking
-    asks_over c me = record { who = me.part; access = access_of c }
+    asks_over c me = record { who = me.part; access = access_asked c }
 
     asked : (b : Builder) (a : Access) (me : Private) → Goes part (λ s. asks_over (course.Asks a b) me) (over (course.Asks a b) me)
     unfolding over asks_over
@@ -165,16 +165,16 @@ module _ {M : Type 0} (store : M → StoreState) (serving : ServingOf M) (lendin
       within = λ m o i. inr (inr (local.within me.part a m o i));
     }
 
-    ended : (e : Stepped) (me : Private) → Goes part (λ s. asks_over (course.Ended e) me) (over (course.Ended e) me)
+    ended_turn : (e : Stepped) (me : Private) → Goes part (λ s. asks_over (course.Ended e) me) (over (course.Ended e) me)
     unfolding over asks_over
-    ended e me = record {
+    ended_turn e me = record {
       alike = λ m n agree. record { touches = refl; wrote = refl; own = refl; end = refl; contents = λ o i. absurd i };
       others = λ m o out. lent_same first m o;
       within = λ m o i. absurd i;
     }
 
     began : (c : Course) (me : Private) → Goes part (λ s. asks_over c me) (over c me)
-    began (course.Ended e) me = ended e me
+    began (course.Ended e) me = ended_turn e me
     began (course.Asks a b) me = asked b a me
 
   -- the statement at a place

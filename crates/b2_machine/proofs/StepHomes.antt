@@ -22,7 +22,7 @@ use Rattle.b2_access.specs.Homes.{FramesIn, HomesIn, IsWithin, OutcomeIn, PlaceI
 use Rattle.b2_access.specs.Lending.{SeenLent}
 use Rattle.b2_access.specs.Loans.{Loan}
 use Rattle.b2_access.specs.Partition.{is_ready, runs_program}
-use Rattle.b2_access.specs.Placed.{Statement, statement_at}
+use Rattle.b2_access.specs.Placed.{Statement, statement_placed}
 use Rattle.b2_access.specs.Places.{goal_place, line_after, line_start}
 use Rattle.b2_access.specs.Planning.{Finishing, Planning}
 use Rattle.b2_access.specs.Sharing.{ServingOf}
@@ -41,8 +41,8 @@ use Rattle.b2_stmt_io.specs.Marks.{typed_by}
 use Rattle.b2_stmt_io.proofs.HomesKept as stmt_io_homes
 use Rattle.b2_machine.specs.Endings.{Ending, counts, repeats}
 use Rattle.b2_machine.specs.Keys.{called_at, calls_where, pressed_by}
-use Rattle.b2_machine.specs.Listed.{lines_listed, lists}
-use Rattle.b2_machine.specs.Moving.{ends_by, enters_program, error_place, faults, goes_to, is_continue, is_taken, jumps, moves_to, next_place, units_at}
+use Rattle.b2_machine.specs.Listed.{range_listed, lists}
+use Rattle.b2_machine.specs.Moving.{ends_by, enters_program, error_place, faults, goes_to, is_continue, is_taken, jumps, moves_to, following_place, units_at}
 use Rattle.b2_machine.specs.Readiness.{halted, readies, resets, without_immediate_loops}
 use Rattle.b2_machine.specs.Statements.{begins, begins_where, begun_by, builder_of, finish_by, finishes, plan_by}
 use Rattle.b2_machine.specs.Step.{StepEnd, carries_out, enters_or_goes_on, halts_or_acts, lent, line_read, runs_or_reads, seen_by, shows_or_goes_on, step, text_in, types_or_goes_on}
@@ -141,7 +141,7 @@ module _ (among : ℕ → Bool) where
   goal_in lines p (goal.Line n) h = h
   goal_in lines p goal.NextLine h = after_line lines p h
 
-  next_in : (p : Place) (me : Private) (home : Lines) → among p.home ≡ true → PlaceIn among (next_place p me home)
+  next_in : (p : Place) (me : Private) (home : Lines) → among p.home ≡ true → PlaceIn among (following_place p me home)
   next_in p me home h = goal_in home p (unit_or_next (p.unit + 1) (units_at p me home)) h
 
   goes_in : (o : Option Place) (me : Private) → PlaceIn among o → Within me → EndIn (goes_to o me)
@@ -150,7 +150,7 @@ module _ (among : ℕ → Bool) where
 
   jumped_in : (p q : Place) (me : Private) (home : Lines) → among q.home ≡ true → Within me → Within (jumps p q me home)
   jumped_in p q me home h w =
-      either Within (not (is_some p.line) && is_some q.line) (enters_program (is_continue (statement_at p me.immediate home)) q me) (moves_to q me)
+      either Within (not (is_some p.line) && is_some q.line) (enters_program (is_continue (statement_placed p me.immediate home)) q me) (moves_to q me)
       (record { part = w.part; place = h; kept = tt; frames = without_loops me.stack w.frames })
       (record { part = w.part; place = h; kept = w.kept; frames = w.frames })
 
@@ -166,11 +166,11 @@ module _ (among : ℕ → Bool) where
   error_in code p me home h = either (PlaceIn among) (is_taken code) _ None (unit_in (taken_fault p.unit (units_at p me home)) p h) tt
 
   ends_in : (same : Stepped) (o : Outcome) (p : Place) (me : Private) (home : Lines) → among p.home ≡ true → OutcomeIn among o → Within me → EndIn (ends_by same o p me home)
-  ends_in same outcome.Next p me home h k w = goes_in (next_place p me home) me (next_in p me home h) w
+  ends_in same outcome.Next p me home h k w = goes_in (following_place p me home) me (next_in p me home h) w
   ends_in same (outcome.Jump q) p me home h k w = jumped_in p q me home k w
   ends_in same (outcome.Failed code) p me home h k w = faulted_in code (error_place code p me home) p me (error_in code p me home h) w
   ends_in same outcome.Repeat p me home h k w = w
-  ends_in same outcome.Break p me home h k w = goes_in (next_place p me home) me (next_in p me home h) w
+  ends_in same outcome.Break p me home h k w = goes_in (following_place p me home) me (next_in p me home h) w
   ends_in same outcome.Ready p me home h k w = readied _ me w
 
   -- statements
@@ -182,7 +182,7 @@ module _ (among : ℕ → Bool) where
 
   listed_in : (b : Bool) (range : ℕ × ℕ) (me : Private) (s : SeenLent) → Within me → PlanningIn (lists b range me s)
   listed_in true range me s w = (w, tt)
-  listed_in false range me s w = (w, show_marks_none me.term (lines_listed range s.own.lines))
+  listed_in false range me s w = (w, show_marks_none me.term (range_listed range s.own.lines))
 
   planned_in : (b : Builder) (p : Place) (me : Private) (s : SeenLent) → Within me → PlanningIn (plan_by b p me s)
   planned_in (builder.Listing from to) p me s w = listed_in (is_some p.line) (from, to) me s w
@@ -240,7 +240,7 @@ module _ (among : ℕ → Bool) where
     at_place None me m h w = (read_in (serving m me.part (access.ReadLine me.term)).answer me (serving m me.part (access.ReadLine me.term)).after w, w.part)
     at_place (Some p) me m h w =
         let b = begins p me (seen_by me (store m)) in
-        let x = begins_in (statement_at p me.immediate (seen_by me (store m)).home.lines) p me (seen_by me (store m)) h w in
+        let x = begins_in (statement_placed p me.immediate (seen_by me (store m)).home.lines) p me (seen_by me (store m)) h w in
         (carried_in b.course p b.me (lent store serving lending me m) h x, x.part)
 
     at_number : (x : Option (ℕ × Option (List ℕ))) (me : Private) (m : M) → Within me → StepIn (enters_or_goes_on store serving lending x me m) (asks_to_enter x me (store m))

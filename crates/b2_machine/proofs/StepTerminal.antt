@@ -14,7 +14,7 @@ use Rattle.b2_access.specs.Lending.{SeenLent}
 use Rattle.b2_access.specs.Loans.{Loan}
 use Rattle.b2_access.specs.OwnTerminal.{AskedAt, PlannedAt}
 use Rattle.b2_access.specs.Partition.{is_ready}
-use Rattle.b2_access.specs.Placed.{Statement, statement_at}
+use Rattle.b2_access.specs.Placed.{Statement, statement_placed}
 use Rattle.b2_access.specs.Planning.{Planning}
 use Rattle.b2_access.specs.Sharing.{ServingOf}
 use Rattle.b2_access.specs.Store.{StoreState}
@@ -34,12 +34,12 @@ use Rattle.b2_stmt_io.specs.Marks.{typed_by}
 use Rattle.b2_stmt_io.specs.Showing.{shown}
 use Rattle.b2_machine.specs.Endings.{counts, repeats}
 use Rattle.b2_machine.specs.Keys.{calls_where, pressed_by}
-use Rattle.b2_machine.specs.Listed.{lines_listed, lists}
-use Rattle.b2_machine.specs.Moving.{ends_by, error_place, faults, goes_to, jumps, next_place}
+use Rattle.b2_machine.specs.Listed.{range_listed, lists}
+use Rattle.b2_machine.specs.Moving.{ends_by, error_place, faults, goes_to, jumps, following_place}
 use Rattle.b2_machine.specs.Readiness.{halted, resets}
 use Rattle.b2_machine.specs.Statements.{Begun, begins, begins_where, begun_by, builder_of, finish_by, finishes, plan_by}
 use Rattle.b2_machine.specs.Step.{StepEnd, carries_out, enters_or_goes_on, halts_or_acts, lent, line_read, runs_or_reads, seen_by, shows_or_goes_on, step, text_in, types_or_goes_on}
-use Rattle.b2_machine.specs.Touched.{Asking, StepsAskAtTerminal, access_of, asking, asks_at, asks_to_enter, asks_to_show, asks_to_type, asks_unless_halted}
+use Rattle.b2_machine.specs.Touched.{Asking, StepsAskAtTerminal, access_asked, asking, asks_at, asks_to_enter, asks_to_show, asks_to_type, asks_unless_halted}
 use Rattle.b2_machine.specs.Typing.{line_taken, on_own_line, put_by, puts_numbered, shown_by, takes, takes_or_refuses, typed_by_key}
 use Rattle.b2_machine.specs.declared.ends.Stepped.{Stepped}
 use Rattle.b2_machine.specs.declared.statements.Builder.{Builder}
@@ -104,11 +104,11 @@ faulted_stays code None p me = refl
 faulted_stays code (Some q) p me = refl
 
 ended_stays : (same : Stepped) (o : Outcome) (p : Place) (me : Private) (home : Lines) → Stays me (ends_by same o p me home).me
-ended_stays same outcome.Next p me home = goes_stays (next_place p me home) me
+ended_stays same outcome.Next p me home = goes_stays (following_place p me home) me
 ended_stays same (outcome.Jump q) p me home = jumped_stays p q me home
 ended_stays same (outcome.Failed code) p me home = faulted_stays code (error_place code p me home) p me
 ended_stays same outcome.Repeat p me home = refl
-ended_stays same outcome.Break p me home = goes_stays (next_place p me home) me
+ended_stays same outcome.Break p me home = goes_stays (following_place p me home) me
 ended_stays same outcome.Ready p me home = refl
 
 -- statements
@@ -117,7 +117,7 @@ PlanningAt t x = (x.me.term ≡ t) × PlannedAt t x.planned
 
 listed_at : (b : Bool) (range : ℕ × ℕ) (me : Private) (s : SeenLent) → PlanningAt me.term (lists b range me s)
 listed_at true range me s = (refl, tt)
-listed_at false range me s = (refl, names_own me.term (access.Show me.term (lines_listed range s.own.lines)) refl)
+listed_at false range me s = (refl, names_own me.term (access.Show me.term (range_listed range s.own.lines)) refl)
 
 planned_at : (b : Builder) (p : Place) (me : Private) (s : SeenLent) → PlanningAt me.term (plan_by b p me s)
 planned_at (builder.Listing from to) p me s = listed_at (is_some p.line) (from, to) me s
@@ -126,7 +126,7 @@ planned_at builder.Terminal p me s = stmt_io.plans_at_terminal me s
 planned_at builder.Nobody p me s = (refl, tt)
 
 abbrev BegunAt : ℕ → Begun → Type 0
-BegunAt t b = (b.me.term ≡ t) × AskedAt t (access_of b.course)
+BegunAt t b = (b.me.term ≡ t) × AskedAt t (access_asked b.course)
 
 begun_at : (t : ℕ) (x : Planned) (b : Builder) (p : Place) (me : Private) (home : Lines) → me.term ≡ t → PlannedAt t x → BegunAt t (begun_by x b p me home)
 begun_at t (planned.Done o) b p me home is h = (ended_stays counts o p me home ∙ is, tt)
@@ -180,7 +180,7 @@ module _ {M : Type 0} (store : M → StoreState) (serving : ServingOf M) (lendin
       (read_stays g.answer me g.after, names_own me.term (access.ReadLine me.term) refl)
   at_place (Some p) me m =
       let b = begins p me (seen_by me (store m)) in
-      let h = begins_at (statement_at p me.immediate (seen_by me (store m)).home.lines) p me (seen_by me (store m)) in
+      let h = begins_at (statement_placed p me.immediate (seen_by me (store m)).home.lines) p me (seen_by me (store m)) in
       (carried_stays b.course p b.me (lent store serving lending me m) ∙ h.0, h.1)
 
   at_number : (x : Option (ℕ × Option (List ℕ))) (me : Private) (m : M) → StepAt me.term (enters_or_goes_on store serving lending x me m) (asks_to_enter x me (store m))

@@ -24,8 +24,8 @@ ends_turn w = record { counted = true; why = Some w }
 abbrev pub is_uncounted : Why → Stepped
 is_uncounted w = record { counted = false; why = Some w }
 
-abbrev pub goes_on : Private → Ending
-goes_on me = record { me = me; end = counts }
+abbrev pub carries_on : Private → Ending
+carries_on me = record { me = me; end = counts }
 
 -- A step that is repeated: where a partition has to be waited for or there are no keys, it doesn't count, and the turn ends.
 abbrev pub repeats : Answer → Stepped

@@ -20,8 +20,8 @@ abbrev pub each_listed : Lines → List ℕ
 each_listed lines = flat_map (λ l. listing l.0 l.1 ++ byte.newline ∷ []) lines
 
 -- the lines from a number to another as they are listed
-abbrev pub lines_listed : ℕ × ℕ → Lines → List ℕ
-lines_listed range lines = each_listed (filter (λ l. is_within range.0 range.1 l.0) lines)
+abbrev pub range_listed : ℕ × ℕ → Lines → List ℕ
+range_listed range lines = each_listed (filter (λ l. is_within range.0 range.1 l.0) lines)
 
 -- from the line that is named to a second one, or that line alone
 abbrev pub range_from : ℕ → Trees → ℕ × ℕ
@@ -44,4 +44,4 @@ named_range t = (0, 9999)
 -- they are shown at the terminal; in a program LIST may not stand
 abbrev pub lists : Bool → ℕ × ℕ → Private → SeenLent → Planning
 lists true range me s = done s (stays me (outcome.Failed S26_PROGRAM_ONLY))
-lists false range me s = asks s me (access.Show me.term (lines_listed range s.own.lines))
+lists false range me s = asks s me (access.Show me.term (range_listed range s.own.lines))

@@ -21,8 +21,8 @@ line_text (Some n) = codes " AT " ++ decimal n
 abbrev pub home_text : ℕ → ℕ → List ℕ
 home_text part home = if home == part then [] else codes " IN " ++ decimal home
 
-abbrev pub place_text : ℕ → Place → List ℕ
-place_text part p = line_text p.line ++ home_text part p.home
+abbrev pub where_text : ℕ → Place → List ℕ
+where_text part p = line_text p.line ++ home_text part p.home
 
 -- the letter of the codes that have a column, and ` COL c` for one
 abbrev pub class_s : ℕ

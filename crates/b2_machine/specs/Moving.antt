@@ -6,28 +6,28 @@ use Rattle.b2_atom.specs.declared.rows.TheConstants as row
 use Rattle.b2_flow.specs.declared.frame.Place.{Place}
 use Rattle.b2_rows.specs.Following.{taken_fault, tree_units, unit_or_next}
 use Rattle.b2_text.specs.Program.{Lines}
-use Rattle.b2_access.specs.Placed.{Statement, line_named, statement_at}
+use Rattle.b2_access.specs.Placed.{Statement, line_named, statement_placed}
 use Rattle.b2_access.specs.Places.{goal_place}
 use Rattle.b2_access.specs.declared.planned.Outcome.{Outcome}
 use Rattle.b2_access.specs.declared.planned.Outcome.TheVariants as outcome
 use Rattle.b2_access.specs.declared.private.Private.{Private}
-use Rattle.b2_machine.specs.Endings.{Ending, ends_turn, goes_on}
-use Rattle.b2_machine.specs.Messages.{error_text, place_text}
-use Rattle.b2_machine.specs.Readiness.{becomes_ready, ends_line, rests, with_error}
+use Rattle.b2_machine.specs.Endings.{Ending, ends_turn, carries_on}
+use Rattle.b2_machine.specs.Messages.{error_text, where_text}
+use Rattle.b2_machine.specs.Readiness.{becomes_ready, drops_line, rests, with_error}
 use Rattle.b2_machine.specs.declared.ends.Stepped.{Stepped}
 use Rattle.b2_machine.specs.declared.ends.Why.TheVariants as reason
 
 -- the units of the line of a place, none where the line isn't there
-abbrev pub units_in : Option (List ℕ) → List TreeUnit
-units_in None = []
-units_in (Some line) = tree_units line
+abbrev pub units_of_line : Option (List ℕ) → List TreeUnit
+units_of_line None = []
+units_of_line (Some line) = tree_units line
 
 abbrev pub units_at : Place → Private → Lines → List TreeUnit
-units_at p me home = units_in (line_named me.immediate home p.line)
+units_at p me home = units_of_line (line_named me.immediate home p.line)
 
 -- the place after it, where nothing else is said
-abbrev pub next_place : Place → Private → Lines → Option Place
-next_place p me home = goal_place home p (unit_or_next (p.unit + 1) (units_at p me home))
+abbrev pub following_place : Place → Private → Lines → Option Place
+following_place p me home = goal_place home p (unit_or_next (p.unit + 1) (units_at p me home))
 
 -- it stands at another place, where no prompt was shown yet
 abbrev pub moves_to : Place → Private → Private
@@ -36,7 +36,7 @@ moves_to q me = record me { place = Some q; prompted = false }
 -- From an immediate line into the program: the line with its loops goes, and the kept place; the arguments that wait for a
 -- DEFFN' go too, unless it is CONTINUE.
 abbrev pub enters_program : Bool → Place → Private → Private
-enters_program continues q me = record (ends_line (moves_to q me)) { kept = None; args = if continues then me.args else None }
+enters_program continues q me = record (drops_line (moves_to q me)) { kept = None; args = if continues then me.args else None }
 
 abbrev pub is_continue : Option Statement → Bool
 is_continue None = false
@@ -44,13 +44,13 @@ is_continue (Some u) = u.row == row.CONTINUE
 
 abbrev pub jumps : Place → Place → Private → Lines → Private
 jumps p q me home =
-    if not (is_some p.line) && is_some q.line then enters_program (is_continue (statement_at p me.immediate home)) q me
+    if not (is_some p.line) && is_some q.line then enters_program (is_continue (statement_placed p me.immediate home)) q me
     else moves_to q me
 
 -- on to a place; where there is none, the text or the immediate line ends
 abbrev pub goes_to : Option Place → Private → Ending
 goes_to None me = rests me
-goes_to (Some q) me = goes_on (moves_to q me)
+goes_to (Some q) me = carries_on (moves_to q me)
 
 -- the classes of the faults that an ERROR takes: C, X and D
 abbrev pub is_taken : ℕ → Bool
@@ -62,8 +62,8 @@ error_place code p me home = if is_taken code then option_map (λ k. record p { 
 
 -- a fault goes on at the ERROR that takes it; else it is an error, and the partition is ready
 abbrev pub faults : ℕ → Option Place → Place → Private → Ending
-faults code None p me = becomes_ready (error_text code (place_text me.part p)) (with_error code me)
-faults code (Some q) p me = goes_on (moves_to q (with_error code me))
+faults code None p me = becomes_ready (error_text code (where_text me.part p)) (with_error code me)
+faults code (Some q) p me = carries_on (moves_to q (with_error code me))
 
 -- the turn ends, wherever it goes on
 abbrev pub breaks : Ending → Ending
@@ -71,9 +71,9 @@ breaks e = record e { end = ends_turn reason.Break }
 
 -- what comes of the outcome of a statement at a place, by the lines of its home; `same` says how a step ends that is repeated
 abbrev pub ends_by : Stepped → Outcome → Place → Private → Lines → Ending
-ends_by same outcome.Next p me home = goes_to (next_place p me home) me
-ends_by same (outcome.Jump q) p me home = goes_on (jumps p q me home)
+ends_by same outcome.Next p me home = goes_to (following_place p me home) me
+ends_by same (outcome.Jump q) p me home = carries_on (jumps p q me home)
 ends_by same (outcome.Failed code) p me home = faults code (error_place code p me home) p me
 ends_by same outcome.Repeat p me home = record { me = me; end = same }
-ends_by same outcome.Break p me home = breaks (goes_to (next_place p me home) me)
+ends_by same outcome.Break p me home = breaks (goes_to (following_place p me home) me)
 ends_by same outcome.Ready p me home = rests me

@@ -23,12 +23,12 @@ abbrev pub without_immediate_loops : List Frame → List Frame
 without_immediate_loops frames = filter (λ frame. not (is_immediate_loop frame)) frames
 
 -- the immediate line ends: it goes, and its loops with it
-abbrev pub ends_line : Private → Private
-ends_line me = record me { immediate = None; stack = without_immediate_loops me.stack }
+abbrev pub drops_line : Private → Private
+drops_line me = record me { immediate = None; stack = without_immediate_loops me.stack }
 
 -- it becomes ready, and shows a text and `:`
 abbrev pub readies : List ℕ → Private → Private
-readies text me = prompts text (record (ends_line me) { place = None; prompted = false })
+readies text me = prompts text (record (drops_line me) { place = None; prompted = false })
 
 -- which ends the turn where it was running
 abbrev pub becomes_ready : List ℕ → Private → Ending

@@ -6,7 +6,7 @@ use Rattle.b2_atom.specs.declared.rows.TheConstants as row
 use Rattle.b2_flow.specs.declared.frame.Place.{Place}
 use Rattle.b2_text.specs.Program.{Lines}
 use Rattle.b2_access.specs.Lending.{SeenLent}
-use Rattle.b2_access.specs.Placed.{Statement, statement_at}
+use Rattle.b2_access.specs.Placed.{Statement, statement_placed}
 use Rattle.b2_access.specs.Planning.{Finishing, Planning, done, finished, stays}
 use Rattle.b2_access.specs.declared.accesses.Access.{Access}
 use Rattle.b2_access.specs.declared.accesses.Answer.{Answer}
@@ -71,7 +71,7 @@ begins_where (Some u) p me s = begun (plan_by (builder_of u) p me s) (builder_of
 
 -- the statement at a place begins
 abbrev pub begins : Place → Private → SeenLent → Begun
-begins p me s = begins_where (statement_at p me.immediate s.home.lines) p me s
+begins p me s = begins_where (statement_placed p me.immediate s.home.lines) p me s
 
 -- and ends by the answer to its access
 abbrev pub ends_with : Finishing → Answer → Place → Lines → Ending

@@ -14,7 +14,7 @@ use Rattle.b2_access.specs.declared.accesses.Answer.TheVariants as answer
 use Rattle.b2_access.specs.declared.lending.At.TheVariants as at
 use Rattle.b2_access.specs.declared.objects.Object.TheVariants as object
 use Rattle.b2_access.specs.declared.private.Private.{Private}
-use Rattle.b2_machine.specs.Endings.{Ending, again, goes_on}
+use Rattle.b2_machine.specs.Endings.{Ending, again, carries_on}
 use Rattle.b2_machine.specs.Keys.{pressed}
 use Rattle.b2_machine.specs.Readiness.{halted, resets}
 use Rattle.b2_machine.specs.Statements.{Begun, begins, finishes}
@@ -70,8 +70,8 @@ module _ {M : Type 0} (store : M → StoreState) (serving : ServingOf M) (lendin
 
   -- or a line is read, and where it is a special function key that ends the reading, the own text says what that does
   abbrev pub line_read : Answer → Private → M → StepEnd M
-  line_read (answer.Line bytes) me m = by_itself (goes_on (line_taken bytes me)) m
-  line_read (answer.Special n) me m = by_itself (goes_on (pressed n (text_in (store m) me.part).lines me)) (lent me m)
+  line_read (answer.Line bytes) me m = by_itself (carries_on (line_taken bytes me)) m
+  line_read (answer.Special n) me m = by_itself (carries_on (pressed n (text_in (store m) me.part).lines me)) (lent me m)
   line_read a me m = by_itself (again a me) m
 
   abbrev pub read_by : Gives M → Private → StepEnd M

@@ -31,12 +31,12 @@ abbrev pub asks_one : Access → Private → Asking
 asks_one a me = record { who = me.part; access = Some a }
 
 -- a statement has ended, or it asks
-abbrev pub access_of : Course → Option Access
-access_of (course.Ended e) = None
-access_of (course.Asks a b) = Some a
+abbrev pub access_asked : Course → Option Access
+access_asked (course.Ended e) = None
+access_asked (course.Asks a b) = Some a
 
 abbrev pub begun_asks : Begun → Asking
-begun_asks b = record { who = b.me.part; access = access_of b.course }
+begun_asks b = record { who = b.me.part; access = access_asked b.course }
 
 -- the sixth rule and the fourth: the statement at the place asks, or a line is read
 abbrev pub asks_at : Option Place → Private → StoreState → Asking

@@ -20,22 +20,22 @@ pub record TurnEnd (M : Type 0) : Type 0 where
 abbrev pub counted_on : ℕ → Stepped → ℕ
 counted_on steps e = if e.counted then steps + 1 else steps
 
-abbrev pub ended : {M : Type 0} → ℕ → Why → Private → M → TurnEnd M
-ended steps w me m = record { me = me; after = m; turned = record { steps = steps; why = w } }
+abbrev pub ended_turn : {M : Type 0} → ℕ → Why → Private → M → TurnEnd M
+ended_turn steps w me m = record { me = me; after = m; turned = record { steps = steps; why = w } }
 
 -- the turn ends for a reason, or it goes on
 abbrev pub unless_ended : {A : Type 0} → Option Why → (Why → A) → A → A
-unless_ended None ends goes_on = goes_on
-unless_ended (Some w) ends goes_on = ends w
+unless_ended None ends carries_on = carries_on
+unless_ended (Some w) ends carries_on = ends w
 
 module _ {M : Type 0} (store : M → StoreState) (serving : ServingOf M) (lending : Loan M) where
   -- at most so many more steps, after some that counted
   unfoldable pub turn_from : ℕ → Private → M → ℕ → TurnEnd M
-  turn_from zero me m steps = ended steps reason.Quota me m
+  turn_from zero me m steps = ended_turn steps reason.Quota me m
   turn_from (suc n) me m steps =
       let s = step store serving lending me m in
       unless_ended s.end.why
-      (λ w. ended (counted_on steps s.end) w s.me s.after)
+      (λ w. ended_turn (counted_on steps s.end) w s.me s.after)
       (turn_from n s.me s.after (counted_on steps s.end))
 
   abbrev pub turn : ℕ → Private → M → TurnEnd M

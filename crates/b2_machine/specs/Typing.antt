@@ -14,7 +14,7 @@ use Rattle.b2_access.specs.declared.accesses.Answer.{Answer}
 use Rattle.b2_access.specs.declared.accesses.Answer.TheVariants as answer
 use Rattle.b2_access.specs.declared.private.Private.{Private}
 use Rattle.b2_stmt.specs.Calls.{without_frames}
-use Rattle.b2_machine.specs.Endings.{Ending, again, goes_on}
+use Rattle.b2_machine.specs.Endings.{Ending, again, carries_on}
 use Rattle.b2_machine.specs.Messages.{column_text}
 use Rattle.b2_machine.specs.Readiness.{prompts, refuses}
 
@@ -24,12 +24,12 @@ on_own_line column text = if column == 0 then text else byte.newline ∷ text
 
 -- it was shown at the terminal, the only device so far; with any other answer it waits on
 abbrev pub shown_by : Access → Answer → Private → Ending
-shown_by (access.Show term shown) answer.Done me = goes_on (record me { pending = None; term_column = column_after me.term_column shown })
+shown_by (access.Show term shown) answer.Done me = carries_on (record me { pending = None; term_column = column_after me.term_column shown })
 shown_by x a me = again a me
 
 -- the literal of a special function key was typed; with any other answer it waits on
 abbrev pub typed_by_key : Answer → Private → Ending
-typed_by_key answer.Done me = goes_on (record me { literal = None })
+typed_by_key answer.Done me = carries_on (record me { literal = None })
 typed_by_key a me = again a me
 
 -- the immediate line runs from its first unit on
@@ -60,7 +60,7 @@ puts_numbered line = access.PutLine (min line.0 9999) line.1 0
 -- It was put, and as after any edit there are no frames and nothing is kept; or it is refused, since another partition stands
 -- in the text or there is no room for it.
 abbrev pub put_by : Answer → Private → Ending
-put_by answer.Done me = goes_on (prompts [] (without_frames me))
-put_by (answer.Locked q) me = goes_on (refuses A08_TEXT_BORROWED [] me)
-put_by (answer.Refused code) me = goes_on (refuses code [] me)
+put_by answer.Done me = carries_on (prompts [] (without_frames me))
+put_by (answer.Locked q) me = carries_on (refuses A08_TEXT_BORROWED [] me)
+put_by (answer.Refused code) me = carries_on (refuses code [] me)
 put_by a me = again a me

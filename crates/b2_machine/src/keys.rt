@@ -13,7 +13,7 @@ use b2_text::{Spot, Text};
 use std::alloc::Global;
 
 /// The DEFFN' at a spot of the own text is called without arguments; A04 where there is no room for the call.
-fn call(alloc: Global, me: &mut Private, spot: Spot) -> Result<(), NoMemory>
+fn call_key(alloc: Global, me: &mut Private, spot: Spot) -> Result<(), NoMemory>
     ensures changed { OnOk result (me.new ≡ spec.calls spot me.old) }
     ensures part { me.new.part ≡ me.old.part }
 {
@@ -46,7 +46,7 @@ fn press(alloc: Global, me: &mut Private, own: &Text, n: u8) -> Result<(), NoMem
         return Ok(());
     }
     match own.marked(n) {
-        Some(spot) => call(alloc, me, spot),
+        Some(spot) => call_key(alloc, me, spot),
         None => Ok(()),
     }
 }

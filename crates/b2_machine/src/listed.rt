@@ -56,8 +56,8 @@ fn add_line(alloc: Global, n: u16, atoms: &Atoms, out: &mut Vec<u8>) -> Result<(
 
 /// The lines of a text from a number to another as they are listed, each ended by a newline.
 #[tactic(auto, using(crate::proofs::Listings::nothing_listed))]
-pub fn lines_listed(alloc: Global, text: &Text, from: u16, to: u16) -> Result<ByteList, NoMemory>
-    ensures { IfOk result (λ lines. lines ≡ spec.lines_listed (from, to) text.now.lines) }
+pub fn range_listed(alloc: Global, text: &Text, from: u16, to: u16) -> Result<ByteList, NoMemory>
+    ensures { IfOk result (λ lines. lines ≡ spec.range_listed (from, to) text.now.lines) }
 {
     let mut out = Vec::new(alloc);
     if from > to {

@@ -54,7 +54,7 @@ fn add_home(part: Part, home: Part, out: &mut Vec<u8>) -> Result<(), NoMemory>
 
 /// An error at a place of a partition.
 pub fn error_at(alloc: Global, code: Code, part: Part, place: Place) -> Result<Vec<u8>, NoMemory>
-    ensures { IfOk result (λ text. text.items ≡ spec.error_text code (spec.place_text part place)) }
+    ensures { IfOk result (λ text. text.items ≡ spec.error_text code (spec.where_text part place)) }
 {
     let mut out = code_text(alloc, code)?;
     add_line(place.line, &mut out)?;

@@ -1,6 +1,6 @@
 // Where a partition goes on after a statement, by its outcome.
 ghost use Rattle.std.specs.Prelude.{◌≡◌, ◌+◌, IfOk, option_map};
-ghost use Rattle.b2_access.specs.Placed.{statement_at as named_at};
+ghost use Rattle.b2_access.specs.Placed.{statement_placed as named_at};
 ghost use Rattle.b2_access.specs.Places.{goal_place as place_of_goal};
 ghost use Rattle.b2_rows.specs.Following.{taken_fault as fault_taken, tree_units, unit_or_next};
 ghost use Rattle.b2_machine.specs.Moving as spec;
@@ -8,7 +8,7 @@ ghost use Rattle.b2_machine.specs.Moving as spec;
 use crate::ends::{Stepped, Why, counts, ends_turn};
 use crate::messages::error_at;
 use crate::readiness::{become_ready, end_line, note_error, rest};
-use b2_access::{Outcome, Private, goal_place, line_named, place_after, statement_at};
+use b2_access::{Outcome, Private, goal_place, line_named, place_after, statement_placed};
 use b2_atom::{Atoms, rows};
 use b2_base::{Code, NoMemory};
 use b2_flow::Place;
@@ -30,8 +30,8 @@ fn place_on(home: &Text, line: &Atoms, place: Place) -> Option<Place>
 }
 
 /// The place after a place of a partition, where nothing else is said.
-fn next_place(me: &Private, home: &Text, place: Place) -> Option<Place>
-    ensures { result ≡ spec.next_place place me.now home.now.lines }
+fn following_place(me: &Private, home: &Text, place: Place) -> Option<Place>
+    ensures { result ≡ spec.following_place place me.now home.now.lines }
 {
     match line_named(&me.immediate, home, place.line) {
         Some(line) => place_on(home, line, place),
@@ -65,7 +65,7 @@ fn enter_program(me: &mut Private, continues: bool, place: Place)
 fn is_continue(me: &Private, home: &Text, place: Place) -> bool
     ensures { result ≡ spec.is_continue (named_at place me.now.immediate home.now.lines) }
 {
-    match statement_at(place, &me.immediate, home) {
+    match statement_placed(place, &me.immediate, home) {
         Some(unit) => unit.row == rows::CONTINUE,
         None => false,
     }
@@ -167,10 +167,10 @@ fn break_after(
     home: &Text,
     place: Place,
 ) -> Result<Stepped, NoMemory>
-    ensures ended { IfOk result (λ e. record { me = me.new; end = e } ≡ spec.breaks (spec.goes_to (spec.next_place place me.old home.now.lines) me.old)) }
+    ensures ended { IfOk result (λ e. record { me = me.new; end = e } ≡ spec.breaks (spec.goes_to (spec.following_place place me.old home.now.lines) me.old)) }
     ensures part { me.new.part ≡ me.old.part }
 {
-    let next = next_place(me, home, place);
+    let next = following_place(me, home, place);
     go_to(alloc, me, next)?;
     Ok(ends_turn(Why::Break))
 }
@@ -189,7 +189,7 @@ pub fn settle(
 {
     match outcome {
         Outcome::Next => {
-            let next = next_place(me, home, place);
+            let next = following_place(me, home, place);
             go_to(alloc, me, next)
         }
         Outcome::Jump(to) => {

@@ -22,7 +22,7 @@ pub fn prompt(me: &mut Private, text: Vec<u8>) -> Result<(), NoMemory>
 
 /// The immediate line ends, and its loops with it.
 pub fn end_line(me: &mut Private)
-    ensures changed { me.new ≡ spec.ends_line me.old }
+    ensures changed { me.new ≡ spec.drops_line me.old }
     ensures part { me.new.part ≡ me.old.part }
 {
     me.immediate = None;

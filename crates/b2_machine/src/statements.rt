@@ -4,16 +4,16 @@ ghost use Rattle.b2_atom.specs.Tree.{uses_in};
 ghost use Rattle.b2_rows.specs.Laws.{IsRow};
 ghost use Rattle.b2_rows.specs.Rows.{tree_at};
 ghost use Rattle.b2_access.specs.Lending.{globals_lent, seen, SeenLent};
-ghost use Rattle.b2_access.specs.Placed.{statement_at as named_at};
+ghost use Rattle.b2_access.specs.Placed.{statement_placed as named_at};
 ghost use Rattle.b2_machine.specs.Statements as spec;
 ghost use Rattle.b2_machine.specs.Stays.{IsLegalCourse};
 
 use crate::ends::{Stepped, counts, repeats};
-use crate::listed::{after_list, lines_listed, named_range};
+use crate::listed::{after_list, range_listed, named_range};
 use crate::moving::settle;
 use crate::readiness::rest;
 use b2_access::{
-    Access, Answer, DeviceTable, Lent, Outcome, Planned, Private, failed, statement_at,
+    Access, Answer, DeviceTable, Lent, Outcome, Planned, Private, failed, statement_placed,
 };
 use b2_atom::rows;
 use b2_base::NoMemory;
@@ -69,7 +69,7 @@ fn builder_of(unit: &RowUnit<'_>) -> Builder
 fn builder_at(me: &Private, home: &Text, place: Place) -> Option<Builder>
     ensures { result ≡ option_map spec.builder_of (named_at place me.now.immediate home.now.lines) }
 {
-    match statement_at(place, &me.immediate, home) {
+    match statement_placed(place, &me.immediate, home) {
         Some(unit) => Some(builder_of(&unit)),
         None => None,
     }
@@ -91,7 +91,7 @@ fn plan_list(
     }
     Ok(Planned::Ask(Access::Show {
         term: me.term,
-        bytes: lines_listed(alloc, own, from, to)?,
+        bytes: range_listed(alloc, own, from, to)?,
     }))
 }
 

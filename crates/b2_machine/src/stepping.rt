@@ -19,7 +19,7 @@ use b2_flow::Place;
 use std::alloc::Global;
 
 /// An access of a partition is served.
-fn ask<S: Shared>(s: &mut S, who: Part, access: &Access) -> Result<Answer, NoMemory>
+fn ask_store<S: Shared>(s: &mut S, who: Part, access: &Access) -> Result<Answer, NoMemory>
     requires legal { IsLegal access.now }
     ensures served { IfOk result (λ a. record { after = S.meaning s.new; answer = a } ≡ S.serving (S.meaning s.old) who access.now) }
     ensures same { S.holds s.new ≡ S.holds s.old }
@@ -39,12 +39,12 @@ fn show<S: Shared>(me: &mut Private, s: &mut S, shown: ByteList) -> Result<Stepp
         term: me.term,
         bytes: shown,
     };
-    let answer = ask(s, me.part, &access)?;
+    let answer = ask_store(s, me.part, &access)?;
     Ok(after_pending(me, &access, &answer))
 }
 
 /// A literal is typed.
-fn type_literal<S: Shared>(me: &mut Private, s: &mut S, text: ByteList) -> Result<Stepped, NoMemory>
+fn insert_literal<S: Shared>(me: &mut Private, s: &mut S, text: ByteList) -> Result<Stepped, NoMemory>
     ensures ended { IfOk result (λ e. record { me = me.new; after = S.meaning s.new; end = e } ≡ spec.types_literal S.store S.serving S.lending text me.old (S.meaning s.old)) }
     ensures same { S.holds s.new ≡ S.holds s.old }
     ensures part { me.new.part ≡ me.old.part }
@@ -54,7 +54,7 @@ fn type_literal<S: Shared>(me: &mut Private, s: &mut S, text: ByteList) -> Resul
         term: me.term,
         bytes: text,
     };
-    let answer = ask(s, me.part, &access)?;
+    let answer = ask_store(s, me.part, &access)?;
     Ok(after_literal(me, &answer))
 }
 
@@ -81,7 +81,7 @@ fn read_line<S: Shared>(alloc: Global, me: &mut Private, s: &mut S) -> Result<St
     ensures listed { OnOk result (KeepsAll (S.store (S.meaning s.old)) (S.store (S.meaning s.new))) }
 {
     let access = Access::ReadLine { term: me.term };
-    let answer = ask(s, me.part, &access)?;
+    let answer = ask_store(s, me.part, &access)?;
     match answer {
         Answer::Line(line) => {
             take_line(alloc, me, line.bytes())?;
@@ -104,7 +104,7 @@ fn enter_line<S: Shared>(alloc: Global, me: &mut Private, s: &mut S) -> Result<S
         unreachable!();
     };
     let access = put_numbered(line, atoms);
-    let answer = ask(s, me.part, &access)?;
+    let answer = ask_store(s, me.part, &access)?;
     after_put(alloc, me, &answer)
 }
 
@@ -168,7 +168,7 @@ fn carry_out<S: Shared>(
     match course {
         Course::Ended(end) => Ok(end),
         Course::Asks(access, builder) => {
-            let answer = ask(s, me.part, &access)?;
+            let answer = ask_store(s, me.part, &access)?;
             finish(alloc, me, s, place, builder, &access, answer)
         }
     }
@@ -247,7 +247,7 @@ fn type_or_go_on<S: Shared>(
     match &me.literal {
         Some(text) => {
             let typed = ByteList::from_slice(alloc, text.bytes())?;
-            type_literal(me, s, typed)
+            insert_literal(me, s, typed)
         }
         None => enter_or_go_on(alloc, me, s, d),
     }

@@ -434,8 +434,8 @@ fn obey(
         AWAY => front(store, Part::known(2)),
         BACK => front(store, Part::known(1)),
         TURN..=0xBF => {
-            let ended = take_turn(alloc, me, store, devices, command - TURN)?;
-            return Ok(Some(ended));
+            let ended_turn = take_turn(alloc, me, store, devices, command - TURN)?;
+            return Ok(Some(ended_turn));
         }
         SPECIAL..=0x9F => strike(store, KeyItem::Special(command - SPECIAL)),
         _ => strike(store, KeyItem::Byte(command)),
@@ -467,7 +467,7 @@ fn obey_all(
     let mut last = (0, b'-');
     for command in script {
         match obey(alloc, me, store, devices, *command)? {
-            Some(ended) => last = ended,
+            Some(ended_turn) => last = ended_turn,
             None => {}
         }
     }
@@ -579,11 +579,11 @@ fn fill_stack(me: &mut Private)
     ensures part { me.new.part ≡ me.old.part }
 {
     for _ in 0..200 {
-        let call = Frame::Call {
+        let call_key = Frame::Call {
             back: None,
             entered: None,
         };
-        if me.stack.push(call).is_err() {
+        if me.stack.push(call_key).is_err() {
             return;
         }
     }

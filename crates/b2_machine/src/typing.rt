@@ -70,7 +70,7 @@ fn run_line(me: &mut Private, atoms: Atoms)
 }
 
 /// What a typed line says is taken.
-fn enter(alloc: Global, me: &mut Private, entered: Entered) -> Result<(), NoMemory>
+fn take_entered(alloc: Global, me: &mut Private, entered: Entered) -> Result<(), NoMemory>
     ensures changed { OnOk result (me.new ≡ spec.takes entered me.old) }
     ensures part { me.new.part ≡ me.old.part }
 {
@@ -105,7 +105,7 @@ pub fn take_line(alloc: Global, me: &mut Private, line: &[u8]) -> Result<(), NoM
 {
     me.term_column = 0;
     match read(alloc, line) {
-        Ok(entered) => enter(alloc, me, entered),
+        Ok(entered) => take_entered(alloc, me, entered),
         Err(error) => refuse_line(alloc, me, error),
     }
 }

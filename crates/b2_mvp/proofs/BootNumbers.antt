@@ -4,9 +4,9 @@ use Rattle.std.specs.Prelude.{filter}
 use Rattle.std.specs.List.{list_all}
 use Rattle.std.proofs.lemmas.Bool.{and_parts, leb-true}
 use Rattle.toml.specs.Data.{Members}
-use Rattle.b2_boot.specs.Alone.{alone, is_listed}
+use Rattle.b2_boot.specs.Alone.{alone, is_in_group}
 use Rattle.b2_boot.specs.Boots.{BootState, boot_of, boot_by_document, boot_by_rows, boot_from, ascending, check_of_rows, unless_failed, has_its_places, partition_of}
-use Rattle.b2_boot.specs.Rows.{RowsState, document_of, rows_of, is_between}
+use Rattle.b2_boot.specs.Rows.{RowsState, document_of, document_rows, is_between}
 use Rattle.b2_boot.specs.declared.boot.BootPartition.{BootPartition}
 use Rattle.b2_boot.specs.declared.rows.PartitionRow.{PartitionRow}
 use Rattle.b2_boot.proofs.Passed.{passed, partitions_have_places}
@@ -35,7 +35,7 @@ by_rows (Some rows) b e = by_check rows b (check_of_rows rows) refl e
 
 by_document : (document : Option Members) (b : BootState) → boot_by_document document ≡ Ok b → AreNumbered b.partitions
 by_document None b e = absurd cc
-by_document (Some document) b e = by_rows (rows_of document) b e
+by_document (Some document) b e = by_rows (document_rows document) b e
 
 -- so have those that are left of them
 first_left : (p : BootPartition) (ps : List BootPartition) (b : Bool) → AreNumbered (p ∷ ps) → AreNumbered (cond b (p ∷ ps) ps)
@@ -48,7 +48,7 @@ left_numbered test (p ∷ ps) h = first_left p (filter test ps) (test p) (h.0, h
 
 for_group : (group : Option (List ℕ)) (b : BootState) → AreNumbered b.partitions → AreNumbered (boot_for group b).partitions
 for_group None b h = h
-for_group (Some parts) b h = left_numbered (λ p. is_listed parts p.number) b.partitions h
+for_group (Some parts) b h = left_numbered (λ p. is_in_group parts p.number) b.partitions h
 
 pub numbered_for : (bytes : List ℕ) (b : BootState) (group : Option (List ℕ)) → boot_of bytes ≡ Ok b → AreNumbered (boot_for group b).partitions
 numbered_for bytes b group e = for_group group b (by_document (document_of bytes) b e)

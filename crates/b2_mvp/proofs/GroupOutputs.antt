@@ -6,7 +6,7 @@ use Rattle.std.proofs.lemmas.Bool.Decides.{nat_tests}
 use Rattle.b2_access.specs.declared.objects.Object.TheVariants as object
 use Rattle.b2_audit.specs.Marks.{is_clean}
 use Rattle.b2_audit.specs.Steps.{IsPartition}
-use Rattle.b2_boot.specs.Alone.{is_listed}
+use Rattle.b2_boot.specs.Alone.{is_in_group}
 use Rattle.b2_boot.specs.Boots.{BootState}
 use Rattle.b2_boot.specs.declared.boot.BootPartition.{BootPartition}
 use Rattle.b2_boot.specs.declared.log.Event.{Event}
@@ -34,26 +34,26 @@ dropped_first : (same there passes here : Bool) → (same ≡ true → false ≡
 dropped_first true there passes here h k = k ∙ ap (λ (b : Bool). there && b) (sym (h refl)) ∙ fails_all there ∙ h refl
 dropped_first false there passes here h k = k
 
-filtered_first : (test : ℕ → Bool) (n p : ℕ) (ns : List ℕ) (b : Bool) → test n ≡ b → is_listed (filter test ns) p ≡ (is_listed ns p && test p)
-    → is_listed (filter test (n ∷ ns)) p ≡ (((n == p) || is_listed ns p) && test p)
+filtered_first : (test : ℕ → Bool) (n p : ℕ) (ns : List ℕ) (b : Bool) → test n ≡ b → is_in_group (filter test ns) p ≡ (is_in_group ns p && test p)
+    → is_in_group (filter test (n ∷ ns)) p ≡ (((n == p) || is_in_group ns p) && test p)
 filtered_first test n p ns true is rest =
     let same : (n == p) ≡ true → true ≡ test p = λ e. (let eq : n ≡ p = grind (arith, nat_tests) in sym is ∙ ap test eq) in
-    rw is (kept_first (n == p) (is_listed ns p) (test p) (is_listed (filter test ns) p) same rest)
+    rw is (kept_first (n == p) (is_in_group ns p) (test p) (is_in_group (filter test ns) p) same rest)
 filtered_first test n p ns false is rest =
     let same : (n == p) ≡ true → false ≡ test p = λ e. (let eq : n ≡ p = grind (arith, nat_tests) in sym is ∙ ap test eq) in
-    rw is (dropped_first (n == p) (is_listed ns p) (test p) (is_listed (filter test ns) p) same rest)
+    rw is (dropped_first (n == p) (is_in_group ns p) (test p) (is_in_group (filter test ns) p) same rest)
 
-listed-filter : (test : ℕ → Bool) (ns : List ℕ) (p : ℕ) → is_listed (filter test ns) p ≡ (is_listed ns p && test p)
+listed-filter : (test : ℕ → Bool) (ns : List ℕ) (p : ℕ) → is_in_group (filter test ns) p ≡ (is_in_group ns p && test p)
 listed-filter test [] p = refl
 listed-filter test (n ∷ ns) p = filtered_first test n p ns (test n) refl (listed-filter test ns p)
 
 -- the partitions of a boot have numbers from 1 to 16
 first_numbered : (q : BootPartition) (ps : List BootPartition) (p : ℕ) (same : Bool) → (q.number == p) ≡ same → IsPartition q.number
-    → (is_listed (map (λ r. r.number) ps) p ≡ true → IsPartition p) → (same || is_listed (map (λ r. r.number) ps) p) ≡ true → IsPartition p
+    → (is_in_group (map (λ r. r.number) ps) p ≡ true → IsPartition p) → (same || is_in_group (map (λ r. r.number) ps) p) ≡ true → IsPartition p
 first_numbered q ps p true is here others e = let eq : q.number ≡ p = grind (arith, nat_tests) in subst IsPartition eq here
 first_numbered q ps p false is here others e = others e
 
-numbered : (ps : List BootPartition) (p : ℕ) → AreNumbered ps → is_listed (map (λ r. r.number) ps) p ≡ true → IsPartition p
+numbered : (ps : List BootPartition) (p : ℕ) → AreNumbered ps → is_in_group (map (λ r. r.number) ps) p ≡ true → IsPartition p
 numbered [] p are e = absurd cc
 numbered (q ∷ ps) p are e = first_numbered q ps p (q.number == p) refl are.0 (numbered ps p are.2) e
 
@@ -63,7 +63,7 @@ lists_clean b log are p =
     let both = listed-filter test (numbers b.partitions) p in
     (
         (λ e.
-            let h = and_parts (is_listed (numbers b.partitions) p) (test p) (sym both ∙ e) in
+            let h = and_parts (is_in_group (numbers b.partitions) p) (test p) (sym both ∙ e) in
             (h.0, (who_is_clean b log p are (numbered b.partitions p are h.0)).0 h.1)),
-        (λ h. both ∙ and_from (is_listed (numbers b.partitions) p) (test p) h.0 ((who_is_clean b log p are (numbered b.partitions p are h.0)).1 h.1))
+        (λ h. both ∙ and_from (is_in_group (numbers b.partitions) p) (test p) h.0 ((who_is_clean b log p are (numbered b.partitions p are h.0)).1 h.1))
     )

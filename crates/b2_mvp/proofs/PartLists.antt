@@ -10,7 +10,7 @@ use Rattle.std.proofs.lemmas.List.Folds.{list_all-append}
 use Rattle.b2_base.specs.Byte as byte
 use Rattle.b2_base.specs.Pieces.{pieces, onto}
 use Rattle.b2_boot.specs.Boots.{Ascends}
-use Rattle.b2_mvp.specs.Parts.{each_after_comma, joined, part_in, parts_above, parts_of, Lists}
+use Rattle.b2_mvp.specs.Parts.{each_after_comma, by_commas, part_in, parts_above, listed_parts, Lists}
 
 -- bytes without a comma, and numbers up to 16
 abbrev plain : List ℕ → Bool
@@ -47,11 +47,11 @@ only_piece (d ∷ ds) h =
     piece_goes_on d (d == byte.comma) ds (not-true (d == byte.comma) both.0) ∙ ap (onto (d ∷ [])) (only_piece ds both.1)
 
 -- the pieces of a list are its numbers
-pieces_of_list : (p : ℕ) (ps : List ℕ) → nat_le p 16 ≡ true → within ps ≡ true → pieces byte.comma (joined (p ∷ ps)) ≡ map decimal (p ∷ ps)
+pieces_of_list : (p : ℕ) (ps : List ℕ) → nat_le p 16 ≡ true → within ps ≡ true → pieces byte.comma (by_commas (p ∷ ps)) ≡ map decimal (p ∷ ps)
 pieces_of_list p [] small h = ap (pieces byte.comma) (append-nil (decimal p)) ∙ only_piece (decimal p) (plain_decimal p small)
 pieces_of_list p (q ∷ qs) small h =
     let both = and_parts (nat_le q 16) (within qs) h in
-    first_piece (decimal p) (joined (q ∷ qs)) (plain_decimal p small) ∙ ap (λ ws. decimal p ∷ ws) (pieces_of_list q qs both.0 both.1)
+    first_piece (decimal p) (by_commas (q ∷ qs)) (plain_decimal p small) ∙ ap (λ ws. decimal p ∷ ws) (pieces_of_list q qs both.0 both.1)
 
 -- the digits of a number, of one and of two
 one_digit : (p : ℕ) → 0 < p → p < 10 → part_in ((48 + p) ∷ []) ≡ Some p
@@ -88,11 +88,11 @@ read_each last (p ∷ ps) up h =
     ∙ ap (λ (b : Bool). if b then option_map (λ qs. p ∷ qs) (parts_above p (map decimal ps)) else None) above
     ∙ ap (option_map (λ qs. p ∷ qs)) (read_each p ps up.1 both.1)
 
-list_read : (word parts : List ℕ) → Lists word parts → parts_of word ≡ Some parts
+list_read : (word parts : List ℕ) → Lists word parts → listed_parts word ≡ Some parts
 list_read word [] h = absurd (h.some refl)
 list_read word (p ∷ ps) h =
     let both = and_parts (nat_le p 16) (within ps) h.within in
-    ap parts_of h.spelled ∙ ap (parts_above 0) (pieces_of_list p ps both.0 both.1) ∙ read_each 0 (p ∷ ps) h.ascending h.within
+    ap listed_parts h.spelled ∙ ap (parts_above 0) (pieces_of_list p ps both.0 both.1) ∙ read_each 0 (p ∷ ps) h.ascending h.within
 
 -- a piece that is read is the number's
 number_spelled : (w : List ℕ) (p : ℕ) → part_in w ≡ Some p → (w ≡ decimal p) × (nat_le p 16 ≡ true)
@@ -180,11 +180,11 @@ joined_numbers : (ps : List ℕ) → after_commas (map decimal ps) ≡ each_afte
 joined_numbers [] = refl
 joined_numbers (p ∷ ps) = ap (λ (xs : List ℕ). byte.comma ∷ decimal p ++ xs) (joined_numbers ps)
 
-list_joined : (ps : List ℕ) → with_commas (map decimal ps) ≡ joined ps
+list_joined : (ps : List ℕ) → with_commas (map decimal ps) ≡ by_commas ps
 list_joined [] = refl
 list_joined (p ∷ ps) = ap (λ (xs : List ℕ). decimal p ++ xs) (joined_numbers ps)
 
-list_spelled : (word parts : List ℕ) → parts_of word ≡ Some parts → Lists word parts
+list_spelled : (word parts : List ℕ) → listed_parts word ≡ Some parts → Lists word parts
 list_spelled word parts e =
     let h = each_spelled 0 (pieces byte.comma word) parts e in
     record {
@@ -195,5 +195,5 @@ list_spelled word parts e =
     }
 
 -- a word is read as the partitions that it lists, and as no other
-pub listed_alone : (word parts : List ℕ) (read : Option (List ℕ)) → read ≡ parts_of word → (read ≡ Some parts) ↔ Lists word parts
+pub listed_alone : (word parts : List ℕ) (read : Option (List ℕ)) → read ≡ listed_parts word → (read ≡ Some parts) ↔ Lists word parts
 listed_alone word parts read is = ((λ e. list_spelled word parts (sym is ∙ e)), λ h. is ∙ list_read word parts h)

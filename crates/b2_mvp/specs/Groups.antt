@@ -3,7 +3,7 @@ use Rattle.std.specs.Prelude.{◌≡◌, ◌↔◌, ℕ, true, List}
 use Rattle.b2_access.specs.declared.objects.Object.TheVariants as object
 use Rattle.b2_access.specs.Store.{IsIn, content}
 use Rattle.b2_audit.specs.Steps.{Step, Group, IsClean, foul, just}
-use Rattle.b2_boot.specs.Alone.{alone, is_listed}
+use Rattle.b2_boot.specs.Alone.{alone, is_in_group}
 use Rattle.b2_boot.specs.Boots.{BootState}
 use Rattle.b2_boot.specs.declared.log.Event.{Event}
 use Rattle.b2_sched.specs.Groups.{steps_of}
@@ -28,4 +28,4 @@ GroupsShowAsAlone out b log = (g : Group) → IsClean g (steps_from b log) → (
 -- THE LIST: a partition stands in it exactly where it is present and by itself is such a group.
 abbrev pub ListsTheClean : BootState → List Event → Type 0
 ListsTheClean b log =
-    (p : ℕ) → (is_listed (apart b (ran log (booted b))) p ≡ true) ↔ ((is_listed (numbers b.partitions) p ≡ true) × IsClean (just p) (steps_from b log))
+    (p : ℕ) → (is_in_group (apart b (ran log (booted b))) p ≡ true) ↔ ((is_in_group (numbers b.partitions) p ≡ true) × IsClean (just p) (steps_from b log))

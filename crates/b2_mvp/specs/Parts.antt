@@ -14,14 +14,14 @@ abbrev pub each_after_comma : List ℕ → List ℕ
 each_after_comma [] = []
 each_after_comma (n ∷ ns) = byte.comma ∷ decimal n ++ each_after_comma ns
 
-abbrev pub joined : List ℕ → List ℕ
-joined [] = []
-joined (n ∷ ns) = decimal n ++ each_after_comma ns
+abbrev pub by_commas : List ℕ → List ℕ
+by_commas [] = []
+by_commas (n ∷ ns) = decimal n ++ each_after_comma ns
 
 -- a list that is told: `-` where it is empty
 abbrev pub list_or_dash : List ℕ → List ℕ
 list_or_dash [] = codes "-"
-list_or_dash (n ∷ ns) = joined (n ∷ ns)
+list_or_dash (n ∷ ns) = by_commas (n ∷ ns)
 
 -- the partition that a piece spells: a number from 1 to 16 without zeros before
 abbrev pub part_in : List ℕ → Option ℕ
@@ -35,12 +35,12 @@ parts_above last [] = Some []
 parts_above last (w ∷ ws) = option_and_then (λ p. if nat_lt last p then option_map (λ ps. p ∷ ps) (parts_above p ws) else None) (part_in w)
 
 -- THE PARTITIONS THAT A WORD LISTS
-abbrev pub parts_of : List ℕ → Option (List ℕ)
-parts_of word = parts_above 0 (pieces byte.comma word)
+abbrev pub listed_parts : List ℕ → Option (List ℕ)
+listed_parts word = parts_above 0 (pieces byte.comma word)
 
 -- A WORD LISTS PARTITIONS: at least one, each from 1 to 16 and above the one before, joined by commas.
 pub record Lists (word parts : List ℕ) : Type 0 where
-  pub spelled : word ≡ joined parts
+  pub spelled : word ≡ by_commas parts
   pub some : parts ≢ []
   pub ascending : Ascends 0 parts
   pub within : list_all (λ p. nat_le p 16) parts ≡ true

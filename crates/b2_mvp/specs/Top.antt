@@ -7,7 +7,7 @@ use Rattle.b2_base.specs.Files.{Files}
 use Rattle.b2_base.specs.Names.{is_file_name}
 use Rattle.b2_base.specs.Outside.{IsPartWritten}
 use Rattle.b2_base.specs.Seen.{ShelfSeen, SinkSeen}
-use Rattle.b2_boot.specs.Alone.{alone, is_listed}
+use Rattle.b2_boot.specs.Alone.{alone, is_in_group}
 use Rattle.b2_boot.specs.Boots.{BootState}
 use Rattle.b2_boot.specs.declared.log.Event.{Event}
 use Rattle.b2_sched.specs.Start.{booted}
@@ -18,7 +18,7 @@ use Rattle.b2_mvp.specs.declared.top.Command.{Command}
 use Rattle.b2_mvp.specs.Groups.{GroupsShowAsAlone, ListsTheClean}
 use Rattle.b2_mvp.specs.Inputs.{boot_limit, log_limit, HasBoot, HasLog, FailsBoot, FailsLog, FetchFails}
 use Rattle.b2_mvp.specs.Outputs.{Output, outputs, with_files, summary, FailsKeep}
-use Rattle.b2_mvp.specs.Parts.{parts_of}
+use Rattle.b2_mvp.specs.Parts.{listed_parts}
 
 -- the bytes of each word
 abbrev pub texts : List (Vec ℕ) → List (List ℕ)
@@ -33,13 +33,13 @@ command_by boot log out group =
 abbrev pub command_of : List (List ℕ) → Option Command
 command_of (word ∷ boot ∷ log ∷ out ∷ []) = if pointwise nat_eq word (codes "run") then command_by boot log out None else None
 command_of (word ∷ boot ∷ log ∷ out ∷ parts ∷ []) =
-    if pointwise nat_eq word (codes "alone") then option_and_then (λ group. command_by boot log out (Some group)) (parts_of parts) else None
+    if pointwise nat_eq word (codes "alone") then option_and_then (λ group. command_by boot log out (Some group)) (listed_parts parts) else None
 command_of words = None
 
 -- the boot that a command runs: the whole one, or that with its group alone
 abbrev pub boot_for : Option (List ℕ) → BootState → BootState
 boot_for None boot = boot
-boot_for (Some parts) boot = alone (is_listed parts) boot
+boot_for (Some parts) boot = alone (is_in_group parts) boot
 
 -- the world after the events, from the one that a boot starts
 abbrev pub world_after : BootState → List Event → WorldState
@@ -64,8 +64,8 @@ last_world r = world_after (boot_run r) r.events
 abbrev pub kept_of : {words : List (List ℕ)} {files : Option Files} → Runs words files → List Output
 kept_of r = outputs r.command.out (last_world r).store
 
-abbrev pub line_of : {words : List (List ℕ)} {files : Option Files} → Runs words files → List ℕ
-line_of r = summary (boot_run r) (last_world r)
+abbrev pub line_put : {words : List (List ℕ)} {files : Option Files} → Runs words files → List ℕ
+line_put r = summary (boot_run r) (last_world r)
 
 -- nothing was kept or put
 pub record IsUntouched (old new : ShelfSeen) (before after : SinkSeen) : Type 0 where
@@ -77,7 +77,7 @@ pub record IsUntouched (old new : ShelfSeen) (before after : SinkSeen) : Type 0 
 pub record IsRun (words : List (List ℕ)) (old new : ShelfSeen) (before after : SinkSeen) : Type 0 where
   pub run : Runs words old.files
   pub files : new.files ≡ with_files (kept_of run) old.files
-  pub written : after.written ≡ option_map (λ w. w ++ line_of run) before.written
+  pub written : after.written ≡ option_map (λ w. w ++ line_put run) before.written
   pub groups : GroupsShowAsAlone run.command.out (boot_run run) run.events
   pub listed : ListsTheClean (boot_run run) run.events
 
@@ -128,7 +128,7 @@ FailsOutput all line old new before after at shelf_cause sink_cause =
 -- a keep or the put of a run failed
 pub record IsCutOff (words : List (List ℕ)) (at : List ℕ) (old new : ShelfSeen) (before after : SinkSeen) (shelf_cause sink_cause : Type 0) : Type 0 where
   pub run : Runs words old.files
-  pub left : FailsOutput (kept_of run) (line_of run) old new before after at shelf_cause sink_cause
+  pub left : FailsOutput (kept_of run) (line_put run) old new before after at shelf_cause sink_cause
 
 -- when each status comes, over the words, the shelf and the sink before and after
 abbrev pub Comes : List (List ℕ) → ShelfSeen → ShelfSeen → SinkSeen → SinkSeen → Status → Type 0

@@ -55,7 +55,7 @@ impl Parts {
     /// The partitions that a word lists: numbers from 1 to 16 that ascend, each without zeros before, joined by commas. None
     /// where the word is no such list.
     pub fn of(word: &[u8]) -> Option<Parts>
-        ensures value { result ≡ spec.parts_of word.now }
+        ensures value { result ≡ spec.listed_parts word.now }
         ensures lists { (parts : List ℕ) → (result ≡ Some parts) ↔ spec.Lists word.now parts }
     {
         read_parts(word)
@@ -75,7 +75,7 @@ fn part_in(piece: &[u8]) -> Option<Part>
 
 /// The partitions that a word lists, read from left to right.
 fn read_parts(word: &[u8]) -> Option<Parts>
-    ensures { result ≡ spec.parts_of word.now }
+    ensures { result ≡ spec.listed_parts word.now }
 {
     let mut parts = Parts::empty();
     let mut last = 0u8;

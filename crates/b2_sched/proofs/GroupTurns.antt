@@ -17,13 +17,13 @@ use Rattle.b2_machine.proofs.LocalSteps.{is_in, steps_are_local}
 use Rattle.b2_machine.proofs.StepHomes.{steps_stay_within}
 use Rattle.b2_machine.specs.Step.{step}
 use Rattle.b2_machine.specs.Touched.{GoesAlike, GoesLocally, asking, step_touched, step_written, touched_where}
-use Rattle.b2_machine.specs.Turn.{TurnEnd, counted_on, ended, turn_from, unless_ended}
+use Rattle.b2_machine.specs.Turn.{TurnEnd, counted_on, ended_turn, turn_from, unless_ended}
 use Rattle.b2_machine.specs.declared.ends.Stepped.{Stepped}
 use Rattle.b2_machine.specs.declared.ends.Why.{Why}
 use Rattle.b2_audit.proofs.CleanSteps.{AreApart, CleanFrom}
 use Rattle.b2_sched.proofs.Foul.{foul_after, fouled, other_fouls, own_fouls_nothing, stays_foul}
 use Rattle.b2_sched.specs.Groups.{StoresAlike}
-use Rattle.b2_sched.specs.Turns.{after_loan, step_of, steps_in_turn, told}
+use Rattle.b2_sched.specs.Turns.{after_loan, step_of, steps_in_turn, step_told}
 
 -- Which objects may be left out: none that a member can come to. A partition comes to what is its own, and to terminals.
 pub record IsOut (g : Group) (out : Object → Type 0) : Type 0 where
@@ -40,7 +40,7 @@ local me = steps_are_local itself serves after_loan serves_is_local (λ who home
 
 -- how a step ends is how its turn goes on
 abbrev goes_on : ℕ → Stepped → ℕ → Private → StoreState → TurnEnd StoreState
-goes_on n end steps me s = unless_ended end.why (λ w. ended (counted_on steps end) w me s) (turn_on n me s (counted_on steps end))
+goes_on n end steps me s = unless_ended end.why (λ w. ended_turn (counted_on steps end) w me s) (turn_on n me s (counted_on steps end))
 
 -- homes after a turn
 pub turn_stays_within : (among : ℕ → Bool) (n : ℕ) (me : Private) (s : StoreState) (steps : ℕ) → IsWithin among me → IsWithin among (turn_on n me s steps).me
@@ -52,7 +52,7 @@ turn_stays_within among (suc n) me s steps w = by (step_of me s).end.why (turn_s
     next = (steps_stay_within itself serves after_loan among me s w).0
 
     by : (why : Option Why) → IsWithin among (turn_on n (step_of me s).me (step_of me s).after (counted_on steps (step_of me s).end)).me
-        → IsWithin among (unless_ended why (λ w. ended (counted_on steps (step_of me s).end) w (step_of me s).me (step_of me s).after) (turn_on n (step_of me s).me (step_of me s).after (counted_on steps (step_of me s).end))).me
+        → IsWithin among (unless_ended why (λ w. ended_turn (counted_on steps (step_of me s).end) w (step_of me s).me (step_of me s).after) (turn_on n (step_of me s).me (step_of me s).after (counted_on steps (step_of me s).end))).me
     by None later = later
     by (Some why) later = next
 
@@ -63,15 +63,15 @@ module _ (g : Group) where
   unfolding turn_from steps_in_turn
   others_turn who zero me s steps os out o clear = refl
   others_turn who (suc n) me s steps os out o clear =
-      by (step_of me s).end.why (others_turn who n (step_of me s).me (step_of me s).after (counted_on steps (step_of me s).end) (fouled g (told who me s) os) out o) clear
+      by (step_of me s).end.why (others_turn who n (step_of me s).me (step_of me s).after (counted_on steps (step_of me s).end) (fouled g (step_told who me s) os) out o) clear
     where
-      kept : (xs : List Step) → (IsIn o (foul_after g xs (fouled g (told who me s) os)) → ⊥) → content (step_of me s).after o ≡ content s o
-      kept xs c = (local me).others s o (λ i. c (stays_foul g xs (fouled g (told who me s) os) o (other_fouls g (told who me s) os o out i)))
+      kept : (xs : List Step) → (IsIn o (foul_after g xs (fouled g (step_told who me s) os)) → ⊥) → content (step_of me s).after o ≡ content s o
+      kept xs c = (local me).others s o (λ i. c (stays_foul g xs (fouled g (step_told who me s) os) o (other_fouls g (step_told who me s) os o out i)))
 
       by : (why : Option Why)
-          → ((IsIn o (foul_after g (steps_in_turn who n (step_of me s).me (step_of me s).after) (fouled g (told who me s) os)) → ⊥) → content (turn_on n (step_of me s).me (step_of me s).after (counted_on steps (step_of me s).end)).after o ≡ content (step_of me s).after o)
-          → (IsIn o (foul_after g (unless_ended why (λ w. []) (steps_in_turn who n (step_of me s).me (step_of me s).after)) (fouled g (told who me s) os)) → ⊥)
-          → content (unless_ended why (λ w. ended (counted_on steps (step_of me s).end) w (step_of me s).me (step_of me s).after) (turn_on n (step_of me s).me (step_of me s).after (counted_on steps (step_of me s).end))).after o ≡ content s o
+          → ((IsIn o (foul_after g (steps_in_turn who n (step_of me s).me (step_of me s).after) (fouled g (step_told who me s) os)) → ⊥) → content (turn_on n (step_of me s).me (step_of me s).after (counted_on steps (step_of me s).end)).after o ≡ content (step_of me s).after o)
+          → (IsIn o (foul_after g (unless_ended why (λ w. []) (steps_in_turn who n (step_of me s).me (step_of me s).after)) (fouled g (step_told who me s) os)) → ⊥)
+          → content (unless_ended why (λ w. ended_turn (counted_on steps (step_of me s).end) w (step_of me s).me (step_of me s).after) (turn_on n (step_of me s).me (step_of me s).after (counted_on steps (step_of me s).end))).after o ≡ content s o
       by None later c = later c ∙ kept (steps_in_turn who n (step_of me s).me (step_of me s).after) c
       by (Some why) later c = kept [] c
 
@@ -79,7 +79,7 @@ module _ (g : Group) where
   pub members_foul : (who n : ℕ) (me : Private) (s : StoreState) (os : List Object) → g who ≡ true → foul_after g (steps_in_turn who n me s) os ≡ os
   unfolding steps_in_turn
   members_foul who zero me s os member = refl
-  members_foul who (suc n) me s os member = ap (λ (xs : List Object). foul_after g (unless_ended (step_of me s).end.why (λ w. []) (steps_in_turn who n (step_of me s).me (step_of me s).after)) xs) (own_fouls_nothing g (told who me s) os member) ∙ by (step_of me s).end.why (members_foul who n (step_of me s).me (step_of me s).after os member)
+  members_foul who (suc n) me s os member = ap (λ (xs : List Object). foul_after g (unless_ended (step_of me s).end.why (λ w. []) (steps_in_turn who n (step_of me s).me (step_of me s).after)) xs) (own_fouls_nothing g (step_told who me s) os member) ∙ by (step_of me s).end.why (members_foul who n (step_of me s).me (step_of me s).after os member)
     where
       by : (why : Option Why) → foul_after g (steps_in_turn who n (step_of me s).me (step_of me s).after) os ≡ os → foul_after g (unless_ended why (λ w. []) (steps_in_turn who n (step_of me s).me (step_of me s).after)) os ≡ os
       by None later = later
@@ -126,7 +126,7 @@ module _ (g : Group) where
         kept = (local me).others s o (λ i. none_out (step_touched me s) o (stepped me s w) ((local me).within s o i) is)
 
         by : (why : Option Why) → content (turn_on n (step_of me s).me (step_of me s).after (counted_on steps (step_of me s).end)).after o ≡ content (step_of me s).after o
-            → content (unless_ended why (λ w. ended (counted_on steps (step_of me s).end) w (step_of me s).me (step_of me s).after) (turn_on n (step_of me s).me (step_of me s).after (counted_on steps (step_of me s).end))).after o ≡ content s o
+            → content (unless_ended why (λ w. ended_turn (counted_on steps (step_of me s).end) w (step_of me s).me (step_of me s).after) (turn_on n (step_of me s).me (step_of me s).after (counted_on steps (step_of me s).end))).after o ≡ content s o
         by None later = later ∙ kept
         by (Some why) later = kept
 
@@ -165,12 +165,12 @@ module _ (g : Group) where
         agree_next = next_agree me s t os agree alike
 
         rest : CleanFrom g os (unless_ended (step_of me s).end.why (λ w. []) (steps_in_turn who n (step_of me s).me (step_of me s).after))
-        rest = subst (λ (xs : List Object). CleanFrom g xs (unless_ended (step_of me s).end.why (λ w. []) (steps_in_turn who n (step_of me s).me (step_of me s).after))) (own_fouls_nothing g (told who me s) os member) clean.1
+        rest = subst (λ (xs : List Object). CleanFrom g xs (unless_ended (step_of me s).end.why (λ w. []) (steps_in_turn who n (step_of me s).me (step_of me s).after))) (own_fouls_nothing g (step_told who me s) os member) clean.1
 
         by : (why : Option Why)
             → (CleanFrom g os (steps_in_turn who n (step_of me s).me (step_of me s).after) → TurnsAlike os (turn_on n (step_of me s).me (step_of me s).after (counted_on steps (step_of me s).end)) (turn_on n (step_of me s).me (step_of me t).after (counted_on steps (step_of me s).end)))
             → CleanFrom g os (unless_ended why (λ w. []) (steps_in_turn who n (step_of me s).me (step_of me s).after))
-            → TurnsAlike os (unless_ended why (λ w. ended (counted_on steps (step_of me s).end) w (step_of me s).me (step_of me s).after) (turn_on n (step_of me s).me (step_of me s).after (counted_on steps (step_of me s).end)))
-            (unless_ended why (λ w. ended (counted_on steps (step_of me s).end) w (step_of me s).me (step_of me t).after) (turn_on n (step_of me s).me (step_of me t).after (counted_on steps (step_of me s).end)))
+            → TurnsAlike os (unless_ended why (λ w. ended_turn (counted_on steps (step_of me s).end) w (step_of me s).me (step_of me s).after) (turn_on n (step_of me s).me (step_of me s).after (counted_on steps (step_of me s).end)))
+            (unless_ended why (λ w. ended_turn (counted_on steps (step_of me s).end) w (step_of me s).me (step_of me t).after) (turn_on n (step_of me s).me (step_of me t).after (counted_on steps (step_of me s).end)))
         by None later c = later c
         by (Some why) later c = record { own = refl; objects = agree_next }

@@ -24,8 +24,8 @@ use Rattle.b2_machine.specs.Endings.{Ending}
 use Rattle.b2_machine.specs.Readiness.{halted, resets}
 use Rattle.b2_machine.specs.Statements.{begins}
 use Rattle.b2_machine.specs.Step.{StepEnd, acts, carries_out, enters_or_goes_on, executes, halts_or_acts, line_read, reads_line, runs_or_reads, seen_by, shows_or_goes_on, step, types_or_goes_on}
-use Rattle.b2_machine.specs.Touched.{Asking, access_of, asking, asks_at, asks_nothing, asks_one, asks_to_enter, asks_to_show, asks_to_type, asks_unless_halted, step_touched, step_written, touched_by, written_for, written_where}
-use Rattle.b2_machine.specs.Turn.{TurnEnd, counted_on, ended, turn_from, unless_ended}
+use Rattle.b2_machine.specs.Touched.{Asking, access_asked, asking, asks_at, asks_nothing, asks_one, asks_to_enter, asks_to_show, asks_to_type, asks_unless_halted, step_touched, step_written, touched_by, written_for, written_where}
+use Rattle.b2_machine.specs.Turn.{TurnEnd, counted_on, ended_turn, turn_from, unless_ended}
 use Rattle.b2_machine.specs.Typing.{on_own_line, put_by, puts_numbered, shown_by, typed_by_key}
 use Rattle.b2_machine.specs.declared.ends.Why.{Why}
 use Rattle.b2_machine.specs.declared.statements.Course.{Course}
@@ -91,8 +91,8 @@ by_line me s m who own after =
     ∙ ap (λ (k : Marks). with_marks (line_read itself serves after_loan g.answer me g.after) k) (sym fewer)
 
 -- a statement that began
-carried_own : (c : Course) (place : Place) (me : Private) (s : StoreState) (m : Marks) → IsOwnText me.part m → IsOwnText me.part (step_marks me.part (record { who = me.part; access = access_of c }) s m)
-    → carries_out store_in (watching itself serves) (watched_loan after_loan) c place me (s, m) ≡ with_marks (carries_out itself serves after_loan c place me s) (step_marks me.part (record { who = me.part; access = access_of c }) s m)
+carried_own : (c : Course) (place : Place) (me : Private) (s : StoreState) (m : Marks) → IsOwnText me.part m → IsOwnText me.part (step_marks me.part (record { who = me.part; access = access_asked c }) s m)
+    → carries_out store_in (watching itself serves) (watched_loan after_loan) c place me (s, m) ≡ with_marks (carries_out itself serves after_loan c place me s) (step_marks me.part (record { who = me.part; access = access_asked c }) s m)
 carried_own (course.Ended e) place me s m own after = ap (λ (k : Marks). with_marks (record { me = me; after = s; end = e }) k) (sym (twice_idle me.part m own))
 carried_own (course.Asks a b) place me s m own after =
     let ts = touched s me.part a in
@@ -100,11 +100,11 @@ carried_own (course.Asks a b) place me s m own after =
     let fewer = shorter me.part ts ws m own in
     ap (λ (k : Marks). with_marks (carries_out itself serves after_loan (course.Asks a b) place me s) k) (twice_idle me.part (marked me.part ts ws m) (subst (IsOwnText me.part) fewer after) ∙ sym fewer)
 
-carried : (p : ℕ) (c : Course) (place : Place) (me : Private) (s : StoreState) (m : Marks) → me.part ≡ p → IsOwnText p m → IsOwnText p (step_marks p (record { who = me.part; access = access_of c }) s m)
-    → carries_out store_in (watching itself serves) (watched_loan after_loan) c place me (s, m) ≡ with_marks (carries_out itself serves after_loan c place me s) (step_marks p (record { who = me.part; access = access_of c }) s m)
+carried : (p : ℕ) (c : Course) (place : Place) (me : Private) (s : StoreState) (m : Marks) → me.part ≡ p → IsOwnText p m → IsOwnText p (step_marks p (record { who = me.part; access = access_asked c }) s m)
+    → carries_out store_in (watching itself serves) (watched_loan after_loan) c place me (s, m) ≡ with_marks (carries_out itself serves after_loan c place me s) (step_marks p (record { who = me.part; access = access_asked c }) s m)
 carried p c place me s m same =
-    subst (λ (q : ℕ). IsOwnText q m → IsOwnText q (step_marks q (record { who = me.part; access = access_of c }) s m)
-    → carries_out store_in (watching itself serves) (watched_loan after_loan) c place me (s, m) ≡ with_marks (carries_out itself serves after_loan c place me s) (step_marks q (record { who = me.part; access = access_of c }) s m))
+    subst (λ (q : ℕ). IsOwnText q m → IsOwnText q (step_marks q (record { who = me.part; access = access_asked c }) s m)
+    → carries_out store_in (watching itself serves) (watched_loan after_loan) c place me (s, m) ≡ with_marks (carries_out itself serves after_loan c place me s) (step_marks q (record { who = me.part; access = access_asked c }) s m))
     same (carried_own c place me s m)
 
 by_statement : (place : Place) (me : Private) → IsMarkedBy me.part (λ s. asks_at (Some place) me s) (λ s. executes itself serves after_loan place me s) (λ m. executes store_in (watching itself serves) (watched_loan after_loan) place me m)
@@ -162,7 +162,7 @@ pub turn_is_marked : (p n : ℕ) (me : Private) (s : StoreState) (m : Marks) (st
 unfolding turn_from steps_in_turn
 turn_is_marked p zero me s m steps is_p w are whole own = refl
 turn_is_marked p (suc n) me s m steps is_p w are whole own =
-    ap (λ (y : StepEnd Watched). unless_ended y.end.why (λ why. ended (counted_on steps y.end) why y.me y.after) (turn_from store_in (watching itself serves) (watched_loan after_loan) n y.me y.after (counted_on steps y.end)))
+    ap (λ (y : StepEnd Watched). unless_ended y.end.why (λ why. ended_turn (counted_on steps y.end) why y.me y.after) (turn_from store_in (watching itself serves) (watched_loan after_loan) n y.me y.after (counted_on steps y.end)))
     (one_step p me s m is_p w are.2 whole own)
     ∙ by (step_of me s).end.why (λ rest. turn_is_marked p n (step_of me s).me (step_of me s).after (marked p (step_touched me s) (step_written itself serves me s) m) (counted_on steps (step_of me s).end) is_p next rest as_long still) are.3
   where
@@ -180,9 +180,9 @@ turn_is_marked p (suc n) me s m steps is_p w are whole own =
         → turn_from store_in (watching itself serves) (watched_loan after_loan) n (step_of me s).me ((step_of me s).after, marked p (step_touched me s) (step_written itself serves me s) m) (counted_on steps (step_of me s).end)
         ≡ turn_with (turn_from itself serves after_loan n (step_of me s).me (step_of me s).after (counted_on steps (step_of me s).end)) (marks_after (steps_in_turn p n (step_of me s).me (step_of me s).after) (marked p (step_touched me s) (step_written itself serves me s) m)))
         → AreSteps (unless_ended why (λ w. []) (steps_in_turn p n (step_of me s).me (step_of me s).after))
-        → unless_ended why (λ w. ended (counted_on steps (step_of me s).end) w (step_of me s).me ((step_of me s).after, marked p (step_touched me s) (step_written itself serves me s) m))
+        → unless_ended why (λ w. ended_turn (counted_on steps (step_of me s).end) w (step_of me s).me ((step_of me s).after, marked p (step_touched me s) (step_written itself serves me s) m))
         (turn_from store_in (watching itself serves) (watched_loan after_loan) n (step_of me s).me ((step_of me s).after, marked p (step_touched me s) (step_written itself serves me s) m) (counted_on steps (step_of me s).end))
-        ≡ turn_with (unless_ended why (λ w. ended (counted_on steps (step_of me s).end) w (step_of me s).me (step_of me s).after) (turn_from itself serves after_loan n (step_of me s).me (step_of me s).after (counted_on steps (step_of me s).end)))
+        ≡ turn_with (unless_ended why (λ w. ended_turn (counted_on steps (step_of me s).end) w (step_of me s).me (step_of me s).after) (turn_from itself serves after_loan n (step_of me s).me (step_of me s).after (counted_on steps (step_of me s).end)))
         (marks_after (unless_ended why (λ w. []) (steps_in_turn p n (step_of me s).me (step_of me s).after)) (marked p (step_touched me s) (step_written itself serves me s) m))
     by None later rest = later rest
     by (Some why) later rest = refl

@@ -15,7 +15,7 @@ use Rattle.b2_boot.specs.declared.boot.BootPartition.{BootPartition}
 use Rattle.b2_machine.proofs.StepHomes.{steps_stay_within}
 use Rattle.b2_machine.proofs.StepTerminal.{steps_ask_at_terminal}
 use Rattle.b2_machine.specs.Touched.{AskedAt, asking, step_touched, step_written, touched_where, written_where}
-use Rattle.b2_machine.specs.Turn.{TurnEnd, counted_on, ended, turn_from, unless_ended}
+use Rattle.b2_machine.specs.Turn.{TurnEnd, counted_on, ended_turn, turn_from, unless_ended}
 use Rattle.b2_machine.specs.declared.ends.Why.{Why}
 use Rattle.b2_sched.proofs.EachRow.{EachIs, IsKept}
 use Rattle.b2_sched.proofs.GroupRows.{is_it}
@@ -72,7 +72,7 @@ turn_settled p zero me s steps is = is
 turn_settled p (suc n) me s steps is = by (step_of me s).end.why (turn_settled p n (step_of me s).me (step_of me s).after (counted_on steps (step_of me s).end) (next_settled p me s is))
   where
     by : (why : Option Why) → IsSettled p (turn_on n (step_of me s).me (step_of me s).after (counted_on steps (step_of me s).end)).me
-        → IsSettled p (unless_ended why (λ w. ended (counted_on steps (step_of me s).end) w (step_of me s).me (step_of me s).after) (turn_on n (step_of me s).me (step_of me s).after (counted_on steps (step_of me s).end))).me
+        → IsSettled p (unless_ended why (λ w. ended_turn (counted_on steps (step_of me s).end) w (step_of me s).me (step_of me s).after) (turn_on n (step_of me s).me (step_of me s).after (counted_on steps (step_of me s).end))).me
     by None later = later
     by (Some why) later = next_settled p me s is
 

@@ -17,9 +17,9 @@ use Rattle.b2_sched.specs.Presence.{ArePresent, IsPresent}
 use Rattle.b2_sched.specs.Turns.{steps_in_turn, turn_of}
 use Rattle.b2_sched.specs.World.{WorldState, Turn, after_turn, does, private_of, tallied, with_turn}
 
-module _ (p n : ℕ) (me x : Private) (s t : StoreState) (m k : Marks) (r : Turned) (told : ◌≡◌ {A = TurnEnd Watched} (record { me = x; after = (t, k); turned = r }) (watched_turn n me (s, m))) (is : IsPresent p me s m) where
+module _ (p n : ℕ) (me x : Private) (s t : StoreState) (m k : Marks) (r : Turned) (step_told : ◌≡◌ {A = TurnEnd Watched} (record { me = x; after = (t, k); turned = r }) (watched_turn n me (s, m))) (is : IsPresent p me s m) where
   plainly : ◌≡◌ {A = TurnEnd Watched} (record { me = x; after = (t, k); turned = r }) (with_marks (turn_of n me s) (marks_after (steps_in_turn p n me s) m))
-  plainly = told ∙ turns_mark p n me s m is.settled.number is.settled.home (turn_steps p n me s is.settled).0 is.whole is.own
+  plainly = step_told ∙ turns_mark p n me s m is.settled.number is.settled.home (turn_steps p n me s is.settled).0 is.whole is.own
 
   -- the partitions that are present
   pub turned_present : (rows : List (ℕ × Private)) → KeepsAll s t → ArePresent rows s m → ArePresent (with_row p rows x) t k

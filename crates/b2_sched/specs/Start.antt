@@ -24,8 +24,8 @@ abbrev pub areas_of : BootPartition → Areas
 areas_of p = (p.number, in_bytes p.text, in_bytes p.globals)
 
 -- a terminal, and the partition in front of it
-abbrev pub front_row : BootTerminal → ℕ × ℕ
-front_row t = (t.number, t.front)
+abbrev pub front_of_boot : BootTerminal → ℕ × ℕ
+front_of_boot t = (t.number, t.front)
 
 -- empty texts, nobody inside, no `@` variables, and idle terminals
 abbrev pub store_booted : BootState → StoreState
@@ -33,7 +33,7 @@ store_booted b = record {
   texts = map text_row (map areas_of b.partitions);
   borrows = map borrow_row (map areas_of b.partitions);
   globals = map globals_row (map areas_of b.partitions);
-  terminals = map terminal_row (map front_row b.terminals);
+  terminals = map terminal_row (map front_of_boot b.terminals);
 }
 
 -- THE WORLD OF A BOOT: each partition as it starts, and nothing marked or tallied

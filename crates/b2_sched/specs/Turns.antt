@@ -21,15 +21,15 @@ turn_of quota me s = turn itself serves after_loan quota me s
 abbrev pub step_of : Private → StoreState → StepEnd StoreState
 step_of me s = step itself serves after_loan me s
 
-abbrev pub told : ℕ → Private → StoreState → Step
-told who me s = record { who = who; touched = step_touched me s; written = step_written itself serves me s }
+abbrev pub step_told : ℕ → Private → StoreState → Step
+step_told who me s = record { who = who; touched = step_touched me s; written = step_written itself serves me s }
 
 -- the steps of a turn
 unfoldable pub steps_in_turn : ℕ → ℕ → Private → StoreState → List Step
 steps_in_turn who zero me s = []
 steps_in_turn who (suc n) me s =
     let x = step_of me s in
-    told who me s ∷ unless_ended x.end.why (λ w. []) (steps_in_turn who n x.me x.after)
+    step_told who me s ∷ unless_ended x.end.why (λ w. []) (steps_in_turn who n x.me x.after)
 
 -- a partition that is absent takes none
 abbrev pub told_by : ℕ → ℕ → Option Private → StoreState → List Step

@@ -1,6 +1,6 @@
 // What a world starts with.
 ghost use Rattle.std.specs.Prelude.{◌≡◌, IfOk, OnOk, map};
-ghost use Rattle.b2_sched.specs.Start.{AreNumbered, in_bytes, private_row, areas_of, front_row};
+ghost use Rattle.b2_sched.specs.Start.{AreNumbered, in_bytes, private_row, areas_of, front_of_boot};
 
 use b2_access::Private;
 use b2_base::{NoMemory, Part, Term};
@@ -44,7 +44,7 @@ pub fn areas_of(
 
 /// Each terminal, with the partition in front of it.
 pub fn fronts_of(alloc: Global, terminals: &[BootTerminal]) -> Result<Vec<(Term, Part)>, NoMemory>
-    ensures { IfOk result (λ fronts. fronts.items ≡ map front_row terminals.now) }
+    ensures { IfOk result (λ fronts. fronts.items ≡ map front_of_boot terminals.now) }
 {
     let mut fronts = Vec::new(alloc);
     for t in terminals {

@@ -27,7 +27,7 @@ use Rattle.b2_rows.proofs.Optional.{maybe_stands, begun_part, begun_tree, left_o
 use Rattle.b2_expr.specs.Answers.{◌>>=◌}
 use Rattle.b2_expr.specs.Scope.{Context}
 use Rattle.b2_expr.proofs.RowsRead.{stands_of}
-use Rattle.b2_stmt.specs.Arguments.{alpha_argument, argument, arguments, before, number_argument, operands_at, operands_of, other_operands, past_number, past_operand, put_after}
+use Rattle.b2_stmt.specs.Arguments.{alpha_argument, argument, arguments, values_before, number_argument, operands_at, operands_of, other_operands, past_number, past_operand, put_after}
 use Rattle.b2_stmt.proofs.Commas.{IsComma, Other, commas, other, item_shorter, items_of_other, no_items_left}
 
 -- an argument of either kind
@@ -88,29 +88,29 @@ put_value : (x : Value) (old new ys : List Value) → old ++ x ∷ [] ≡ new �
 put_value x old new ys is = sym (ap (λ (l : List Value). l ++ ys) is) ∙ append_assoc old (x ∷ []) ys
 
 put_by : (answer : Result Value ℕ) (rest : Result (List Value) ℕ) (old new : List Value) → put_after old answer ≡ Ok new
-    → before new rest ≡ before old (answer >>= (λ x. rest >>= (λ xs. Ok (x ∷ xs))))
+    → values_before new rest ≡ values_before old (answer >>= (λ x. rest >>= (λ xs. Ok (x ∷ xs))))
 put_by (Err c) rest old new is = cc
 put_by (Ok x) (Err c) old new is = refl
 put_by (Ok x) (Ok ys) old new is = ap Ok (put_value x old new ys (ok_is (old ++ x ∷ []) new is))
 
 pub one_put : (s : Context) (t : Text) (old new : List Value) → Others (past_operand t) → (first (past_operand t) == byte.comma) ≡ true → put_after old (argument s (tree_at row.OPERAND_OF_ANY_KIND t)) ≡ Ok new
-    → before new (arguments s (operands_at (drop 1 (past_operand t)))) ≡ before old (arguments s (operands_at t))
+    → values_before new (arguments s (operands_at (drop 1 (past_operand t)))) ≡ values_before old (arguments s (operands_at t))
 one_put s t old new ok is put =
-    sym (ap (λ (ts : List Trees). before new (arguments s ts)) (other_items (past_operand t) ok is))
+    sym (ap (λ (ts : List Trees). values_before new (arguments s ts)) (other_items (past_operand t) ok is))
     ∙ put_by (argument s (tree_at row.OPERAND_OF_ANY_KIND t)) (arguments s (other_operands (past_operand t))) old new put
 
 pub last_put : (s : Context) (t : Text) (old new : List Value) → (first (past_operand t) == byte.comma) ≡ false → put_after old (argument s (tree_at row.OPERAND_OF_ANY_KIND t)) ≡ Ok new
-    → before old (arguments s (operands_at t)) ≡ Ok new
+    → values_before old (arguments s (operands_at t)) ≡ Ok new
 last_put s t old new is put =
     sym (put_by (argument s (tree_at row.OPERAND_OF_ANY_KIND t)) (arguments s (other_operands (past_operand t))) old new put)
-    ∙ ap (λ (ts : List Trees). before new (arguments s ts)) (no_items (past_operand t) is)
+    ∙ ap (λ (ts : List Trees). values_before new (arguments s ts)) (no_items (past_operand t) is)
     ∙ ap Ok (append-nil new)
 
-refused_by : (answer : Result Value ℕ) (rest : Result (List Value) ℕ) (old : List Value) (c : ℕ) → answer ≡ Err c → before old (answer >>= (λ x. rest >>= (λ xs. Ok (x ∷ xs)))) ≡ Err c
+refused_by : (answer : Result Value ℕ) (rest : Result (List Value) ℕ) (old : List Value) (c : ℕ) → answer ≡ Err c → values_before old (answer >>= (λ x. rest >>= (λ xs. Ok (x ∷ xs)))) ≡ Err c
 refused_by (Ok x) rest old c is = cc
 refused_by (Err d) rest old c is = cc
 
-pub refused : (s : Context) (t : Text) (old : List Value) (c : ℕ) → argument s (tree_at row.OPERAND_OF_ANY_KIND t) ≡ Err c → before old (arguments s (operands_at t)) ≡ Err c
+pub refused : (s : Context) (t : Text) (old : List Value) (c : ℕ) → argument s (tree_at row.OPERAND_OF_ANY_KIND t) ≡ Err c → values_before old (arguments s (operands_at t)) ≡ Err c
 refused s t old c is = refused_by (argument s (tree_at row.OPERAND_OF_ANY_KIND t)) (arguments s (other_operands (past_operand t))) old c is
 
 -- GOSUB'
@@ -157,32 +157,32 @@ called t ok =
       operands = ap operands_of r.1 ∙ ap (λ (n : ℕ). operands_of (Put (Coded word.GOSUB_PRIME) (Put (Coded 0) (maybe_tree (start.Code byte.opening) row.ARGUMENTS (drop n (drop 1 t)))))) width;
     }
 
-begins : (t : Text) (b : Bool) → (first t == byte.opening) ≡ b → starts Atoms (start.Code byte.opening) t ≡ b
+loop_begins : (t : Text) (b : Bool) → (first t == byte.opening) ≡ b → starts Atoms (start.Code byte.opening) t ≡ b
 unfolding starts
-begins t b is = is
+loop_begins t b is = is
 
 -- with parentheses
 inner : (t : Text) → is_part row.GOSUB_MARKED t ≡ true → (first (past_number t) == byte.opening) ≡ true → is_part row.ARGUMENTS (past_number t) ≡ true
-inner t ok is = begun_part (start.Code byte.opening) row.ARGUMENTS (past_number t) (Called.part (called t ok)) (begins (past_number t) true is)
+inner t ok is = begun_part (start.Code byte.opening) row.ARGUMENTS (past_number t) (Called.part (called t ok)) (loop_begins (past_number t) true is)
 
-listed : (t : Text) → is_part row.ARGUMENTS t ≡ true → is_part row.OPERANDS (drop 1 t) ≡ true
-listed t ok = (stands_of row.ARGUMENTS argument_items t argument_row ok).0.1.0
+literals_listed : (t : Text) → is_part row.ARGUMENTS t ≡ true → is_part row.OPERANDS (drop 1 t) ≡ true
+literals_listed t ok = (stands_of row.ARGUMENTS argument_items t argument_row ok).0.1.0
 
 pub call_first : (t : Text) → is_part row.GOSUB_MARKED t ≡ true → (first (past_number t) == byte.opening) ≡ true → is_part row.OPERAND_OF_ANY_KIND (drop 1 (past_number t)) ≡ true
-call_first t ok is = (stands_of row.OPERANDS operand_items (drop 1 (past_number t)) operand_row (listed (past_number t) (inner t ok is))).0.0
+call_first t ok is = (stands_of row.OPERANDS operand_items (drop 1 (past_number t)) operand_row (literals_listed (past_number t) (inner t ok is))).0.0
 
 pub call_list : (t : Text) → is_part row.GOSUB_MARKED t ≡ true → (first (past_number t) == byte.opening) ≡ true → Others (past_operand (drop 1 (past_number t)))
-call_list t ok is = (stands_of row.OPERANDS operand_items (drop 1 (past_number t)) operand_row (listed (past_number t) (inner t ok is))).0.1.0
+call_list t ok is = (stands_of row.OPERANDS operand_items (drop 1 (past_number t)) operand_row (literals_listed (past_number t) (inner t ok is))).0.1.0
 
 pub call_is : (t : Text) → is_part row.GOSUB_MARKED t ≡ true → (first (past_number t) == byte.opening) ≡ true → operands_of (tree_at row.GOSUB_MARKED t) ≡ operands_at (drop 1 (past_number t))
 call_is t ok is =
     Called.operands (called t ok)
-    ∙ ap (λ (a : Trees). operands_of (Put (Coded word.GOSUB_PRIME) (Put (Coded 0) a))) (begun_tree (start.Code byte.opening) row.ARGUMENTS (past_number t) (begins (past_number t) true is))
+    ∙ ap (λ (a : Trees). operands_of (Put (Coded word.GOSUB_PRIME) (Put (Coded 0) a))) (begun_tree (start.Code byte.opening) row.ARGUMENTS (past_number t) (loop_begins (past_number t) true is))
     ∙ ap (λ (a : Trees). operands_of (Put (Coded word.GOSUB_PRIME) (Put (Coded 0) (In 1 a Done)))) (stands_of row.ARGUMENTS argument_items (past_number t) argument_row (inner t ok is)).1
     ∙ ap (λ (a : Trees). operands_of (Put (Coded word.GOSUB_PRIME) (Put (Coded 0) (In 1 (Put (Coded byte.opening) (In 2 a (Put (Coded byte.closing) Done))) Done))))
-    (stands_of row.OPERANDS operand_items (drop 1 (past_number t)) operand_row (listed (past_number t) (inner t ok is))).1
+    (stands_of row.OPERANDS operand_items (drop 1 (past_number t)) operand_row (literals_listed (past_number t) (inner t ok is))).1
 
 -- without
 pub call_without : (t : Text) → is_part row.GOSUB_MARKED t ≡ true → (first (past_number t) == byte.opening) ≡ false → operands_of (tree_at row.GOSUB_MARKED t) ≡ []
 call_without t ok is =
-    Called.operands (called t ok) ∙ ap (λ (a : Trees). operands_of (Put (Coded word.GOSUB_PRIME) (Put (Coded 0) a))) (left_out_tree (start.Code byte.opening) row.ARGUMENTS (past_number t) (begins (past_number t) false is))
+    Called.operands (called t ok) ∙ ap (λ (a : Trees). operands_of (Put (Coded word.GOSUB_PRIME) (Put (Coded 0) a))) (left_out_tree (start.Code byte.opening) row.ARGUMENTS (past_number t) (loop_begins (past_number t) false is))

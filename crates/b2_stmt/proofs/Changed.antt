@@ -13,7 +13,7 @@ use Rattle.b2_expr.specs.Assigning.{ChangesBuffer, buffer_code, reached_by, unle
 use Rattle.b2_expr.specs.declared.receiver.Buffer.{Buffer}
 use Rattle.b2_expr.specs.declared.receiver.Buffer.TheVariants as buffer_kind
 use Rattle.b2_stmt.specs.Assignments.{EndsWith}
-use Rattle.b2_stmt.specs.Buffers.{changed, with_changed}
+use Rattle.b2_stmt.specs.Buffers.{bytes_changed, with_changed}
 
 same_state : (a b : VarsState) → a.area ≡ b.area → a.table ≡ b.table → a ≡ b
 same_state a b p q = ap (λ (n : ℕ). record { area = n; table = a.table }) p ∙ ap (λ (t : Table). record { area = b.area; table = t }) q
@@ -40,7 +40,7 @@ buffer_changed f gives (buffer_kind.Array a) old new is h =
 -- with the code with which it ended
 pub changed_so : (f : List ℕ → List ℕ) (gives : List ℕ → List ℕ → Type 0) (to : Buffer) (old new : VarsState) (r : Result (Unit {0}) Fault) (code : Option ℕ)
     → OnOk r (ChangesBuffer gives to old new) → AnswersOrFails (buffer_code to old) r → OnErr r (new ≡ old) → EndsWith r code → ((x y : List ℕ) → gives x y → y ≡ f x)
-    → record { vars = new; code = code } ≡ changed f to old
+    → record { vars = new; code = code } ≡ bytes_changed f to old
 changed_so f gives to old new (Ok done) code ok coded err ends is =
     ap (λ (v : VarsState). record { vars = v; code = code }) (buffer_changed f gives to old new is ok)
     ∙ ap (λ (o : Option ℕ). record { vars = with_changed f to old; code = o }) ends

@@ -128,15 +128,15 @@ listed_by u false h =
     let r = stands_of row.ON_GOSUB gosub_items u gosub_row h.0 in
     record { line = r.0.1.0; list = r.0.1.1.0; lines = ap lines_of r.1 }
 
-listed : (t : Text) → is_part row.ON t ≡ true → Listed (listed_text t) (first (listed_text t) == word.GOTO)
+literals_listed : (t : Text) → is_part row.ON t ≡ true → Listed (listed_text t) (first (listed_text t) == word.GOTO)
 unfolding starts
-listed t ok = listed_by (listed_text t) (first (listed_text t) == word.GOTO) (stands_of row.ON on_items t on_row ok).0.1.1
+literals_listed t ok = listed_by (listed_text t) (first (listed_text t) == word.GOTO) (stands_of row.ON on_items t on_row ok).0.1.1
 
 pub on_first : (t : Text) → is_part row.ON t ≡ true → is_leaf leaf.LineNumber (drop 1 (listed_text t)) ≡ true
-on_first t ok = Listed.line (listed t ok)
+on_first t ok = Listed.line (literals_listed t ok)
 
 pub on_list : (t : Text) → is_part row.ON t ≡ true → is_list commas row.COMMA_LINE (drop 3 (drop 1 (listed_text t))) ≡ true
-on_list t ok = Listed.list (listed t ok)
+on_list t ok = Listed.list (literals_listed t ok)
 
 on_by : (s : Context) (b : Bool) (sum x y : Trees) → choice_in s (Put (Coded word.ON) (In 2 sum (if b then In 1 x Done else In 0 y Done)))
     ≡ (value s level.Sum sum >>= (λ n. Ok (b, counted_line (fixed n) (lines_of (if b then x else y)))))
@@ -149,4 +149,4 @@ unfolding starts
 on_is s t ok =
     ap (choice_in s) (stands_of row.ON on_items t on_row ok).1
     ∙ on_by s (first (listed_text t) == word.GOTO) (tree_at row.SUM (drop 1 t)) (tree_at row.ON_GOTO (listed_text t)) (tree_at row.ON_GOSUB (listed_text t))
-    ∙ ap (λ (ls : List ℕ). value s level.Sum (tree_at row.SUM (drop 1 t)) >>= (λ n. Ok (first (listed_text t) == word.GOTO, counted_line (fixed n) ls))) (Listed.lines (listed t ok))
+    ∙ ap (λ (ls : List ℕ). value s level.Sum (tree_at row.SUM (drop 1 t)) >>= (λ n. Ok (first (listed_text t) == word.GOTO, counted_line (fixed n) ls))) (Listed.lines (literals_listed t ok))

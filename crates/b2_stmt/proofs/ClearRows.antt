@@ -22,7 +22,7 @@ use Rattle.b2_rows.specs.Values.{line_of}
 use Rattle.b2_rows.proofs.Optional.{maybe_stands, begun_part, begun_tree, left_out_tree}
 use Rattle.b2_expr.proofs.RowsRead.{stands_of}
 use Rattle.b2_access.specs.declared.accesses.Access.TheVariants as access
-use Rattle.b2_stmt.specs.Clearing.{erases, erases_lines, erases_range, second_line}
+use Rattle.b2_stmt.specs.Clearing.{asks_to_erase, erases_lines, erases_range, second_line}
 
 abbrev lines_items : List Item
 lines_items = Typed leaf.LineNumber S15_LINE_NUMBER ∷ Maybe (start.Code byte.comma) row.COMMA_LINE ∷ []
@@ -47,13 +47,13 @@ here t ok is = begun_part start.Line row.LINE_NUMBERS t ok is
 pub first_here : (t : Text) → Named t → starts Atoms start.Line t ≡ true → is_leaf leaf.LineNumber t ≡ true
 first_here t ok is = (stands_of row.LINE_NUMBERS lines_items t lines_row (here t ok is)).0.0
 
-begins : (c : ℕ) (t : Text) (b : Bool) → (first t == c) ≡ b → starts Atoms (start.Code c) t ≡ b
+loop_begins : (c : ℕ) (t : Text) (b : Bool) → (first t == c) ≡ b → starts Atoms (start.Code c) t ≡ b
 unfolding starts
-begins c t b is = is
+loop_begins c t b is = is
 
 second : (t : Text) → Named t → starts Atoms start.Line t ≡ true → (first (drop 3 t) == byte.comma) ≡ true → is_part row.COMMA_LINE (drop 3 t) ≡ true
 second t ok is comma =
-    begun_part (start.Code byte.comma) row.COMMA_LINE (drop 3 t) (maybe_stands _ _ _ (stands_of row.LINE_NUMBERS lines_items t lines_row (here t ok is)).0.1) (begins byte.comma (drop 3 t) true comma)
+    begun_part (start.Code byte.comma) row.COMMA_LINE (drop 3 t) (maybe_stands _ _ _ (stands_of row.LINE_NUMBERS lines_items t lines_row (here t ok is)).0.1) (loop_begins byte.comma (drop 3 t) true comma)
 
 pub second_here : (t : Text) → Named t → starts Atoms start.Line t ≡ true → (first (drop 3 t) == byte.comma) ≡ true → is_leaf leaf.LineNumber (drop 1 (drop 3 t)) ≡ true
 second_here t ok is comma = (stands_of row.COMMA_LINE comma_items (drop 3 t) comma_row (second t ok is comma)).0.1.0
@@ -70,14 +70,14 @@ pub two_lines : (t : Text) → Named t → starts Atoms start.Line t ≡ true �
     → erases_range (maybe_tree start.Line row.LINE_NUMBERS t) ≡ access.Erase (line_at t) (line_at (drop 1 (drop 3 t))) 0
 two_lines t ok is comma =
     ap erases_range (tree t ok is)
-    ∙ ap (λ (a : Trees). erases_lines (Put (Lined (get_or t 1 0) (get_or t 2 0)) a)) (begun_tree (start.Code byte.comma) row.COMMA_LINE (drop 3 t) (begins byte.comma (drop 3 t) true comma))
+    ∙ ap (λ (a : Trees). erases_lines (Put (Lined (get_or t 1 0) (get_or t 2 0)) a)) (begun_tree (start.Code byte.comma) row.COMMA_LINE (drop 3 t) (loop_begins byte.comma (drop 3 t) true comma))
     ∙ ap (λ (a : Trees). access.Erase (line_at t) (second_line a) 0) (stands_of row.COMMA_LINE comma_items (drop 3 t) comma_row (second t ok is comma)).1
 
 pub one_line : (t : Text) → Named t → starts Atoms start.Line t ≡ true → (first (drop 3 t) == byte.comma) ≡ false
     → erases_range (maybe_tree start.Line row.LINE_NUMBERS t) ≡ access.Erase (line_at t) 9999 0
 one_line t ok is comma =
     ap erases_range (tree t ok is)
-    ∙ ap (λ (a : Trees). erases_lines (Put (Lined (get_or t 1 0) (get_or t 2 0)) a)) (left_out_tree (start.Code byte.comma) row.COMMA_LINE (drop 3 t) (begins byte.comma (drop 3 t) false comma))
+    ∙ ap (λ (a : Trees). erases_lines (Put (Lined (get_or t 1 0) (get_or t 2 0)) a)) (left_out_tree (start.Code byte.comma) row.COMMA_LINE (drop 3 t) (loop_begins byte.comma (drop 3 t) false comma))
 
 pub all_lines : (t : Text) → starts Atoms start.Line t ≡ false → erases_range (maybe_tree start.Line row.LINE_NUMBERS t) ≡ access.Erase 0 9999 0
 all_lines t is = ap erases_range (left_out_tree start.Line row.LINE_NUMBERS t is)
@@ -92,6 +92,6 @@ clear_row = refl
 pub clear_lines : (t : Text) → is_part row.CLEAR_P t ≡ true → maybe_part start.Line row.LINE_NUMBERS (drop 1 (drop 1 t)) ≡ true
 clear_lines t ok = maybe_stands _ _ _ (stands_of row.CLEAR_P clear_items t clear_row ok).0.1.1
 
-pub clear_is : (t : Text) → is_part row.CLEAR_P t ≡ true → erases (tree_at row.CLEAR_P t) ≡ erases_range (maybe_tree start.Line row.LINE_NUMBERS (drop 1 (drop 1 t)))
+pub clear_is : (t : Text) → is_part row.CLEAR_P t ≡ true → asks_to_erase (tree_at row.CLEAR_P t) ≡ erases_range (maybe_tree start.Line row.LINE_NUMBERS (drop 1 (drop 1 t)))
 unfolding maybe_tree
-clear_is t ok = ap erases (stands_of row.CLEAR_P clear_items t clear_row ok).1
+clear_is t ok = ap asks_to_erase (stands_of row.CLEAR_P clear_items t clear_row ok).1

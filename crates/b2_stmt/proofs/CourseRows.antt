@@ -20,7 +20,7 @@ use Rattle.b2_rows.specs.Rows.{is_part, tree_at}
 use Rattle.b2_rows.specs.Values.{line_of, literal_of}
 use Rattle.b2_expr.proofs.RowsRead.{stands_of}
 use Rattle.b2_access.specs.Going.{line_in}
-use Rattle.b2_stmt.specs.Course.{text_in, line_to_run, line_to_restore}
+use Rattle.b2_stmt.specs.Course.{text_of_stop, line_to_run, line_to_restore}
 use Rattle.b2_stmt.proofs.BranchRows.{line_here, line_number, taken_way}
 
 -- STOP
@@ -48,22 +48,22 @@ pub stop_literal : (t : Text) → is_part row.STOP t ≡ true → (first (drop 1
 unfolding starts
 stop_literal t ok is = literal_here (drop 1 t) (taken_way (first (drop 1 t) == byte.quote) _ _ is (stands_of row.STOP stop_items t stop_row ok).0.1).0
 
-stop_by : (b c : Bool) (a : Trees) → b ≡ c → text_in (Put (Coded word.STOP) (if b then In 1 a Done else In 0 Done Done)) ≡ (if c then text_in (Put (Coded word.STOP) (In 1 a Done)) else None)
+stop_by : (b c : Bool) (a : Trees) → b ≡ c → text_of_stop (Put (Coded word.STOP) (if b then In 1 a Done else In 0 Done Done)) ≡ (if c then text_of_stop (Put (Coded word.STOP) (In 1 a Done)) else None)
 stop_by true true a is = refl
 stop_by false false a is = refl
 stop_by true false a is = cc
 stop_by false true a is = cc
 
-pub stop_with : (t : Text) → is_part row.STOP t ≡ true → (first (drop 1 t) == byte.quote) ≡ true → text_in (tree_at row.STOP t) ≡ Some (literal_of (leaf_bytes leaf.Literal (drop 1 t)))
+pub stop_with : (t : Text) → is_part row.STOP t ≡ true → (first (drop 1 t) == byte.quote) ≡ true → text_of_stop (tree_at row.STOP t) ≡ Some (literal_of (leaf_bytes leaf.Literal (drop 1 t)))
 unfolding starts
 stop_with t ok is =
     let r = stands_of row.STOP stop_items t stop_row ok in
-    ap text_in r.1 ∙ stop_by (first (drop 1 t) == byte.quote) true (tree_at row.LITERAL (drop 1 t)) is
-    ∙ ap (λ (a : Trees). text_in (Put (Coded word.STOP) (In 1 a Done))) (literal_tree (drop 1 t) (taken_way (first (drop 1 t) == byte.quote) _ _ is r.0.1).0)
+    ap text_of_stop r.1 ∙ stop_by (first (drop 1 t) == byte.quote) true (tree_at row.LITERAL (drop 1 t)) is
+    ∙ ap (λ (a : Trees). text_of_stop (Put (Coded word.STOP) (In 1 a Done))) (literal_tree (drop 1 t) (taken_way (first (drop 1 t) == byte.quote) _ _ is r.0.1).0)
 
-pub stop_without : (t : Text) → is_part row.STOP t ≡ true → (first (drop 1 t) == byte.quote) ≡ false → text_in (tree_at row.STOP t) ≡ None
+pub stop_without : (t : Text) → is_part row.STOP t ≡ true → (first (drop 1 t) == byte.quote) ≡ false → text_of_stop (tree_at row.STOP t) ≡ None
 unfolding starts
-stop_without t ok is = ap text_in (stands_of row.STOP stop_items t stop_row ok).1 ∙ stop_by (first (drop 1 t) == byte.quote) false (tree_at row.LITERAL (drop 1 t)) is
+stop_without t ok is = ap text_of_stop (stands_of row.STOP stop_items t stop_row ok).1 ∙ stop_by (first (drop 1 t) == byte.quote) false (tree_at row.LITERAL (drop 1 t)) is
 
 -- RUN
 abbrev run_items : List Item

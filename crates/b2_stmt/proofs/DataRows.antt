@@ -24,21 +24,21 @@ use Rattle.b2_rows.proofs.Choices.{either_first, either_second}
 use Rattle.b2_expr.specs.Answers.{◌>>=◌}
 use Rattle.b2_expr.specs.Value.{literal_value}
 use Rattle.b2_expr.proofs.RowsRead.{part_short, stands_of}
-use Rattle.b2_stmt.specs.Data.{bytes_at, data_at, datum_value, listed}
+use Rattle.b2_stmt.specs.Data.{literal_bytes_at, data_at, datum_value, literals_listed}
 use Rattle.b2_stmt.proofs.Commas.{IsComma, Other, commas, other, items_of_other, no_items_left}
 
 -- whether a quote stands there
-begins : (t : Text) (b : Bool) → (first t == byte.quote) ≡ b → starts Atoms (start.Code byte.quote) t ≡ b
+loop_begins : (t : Text) (b : Bool) → (first t == byte.quote) ≡ b → starts Atoms (start.Code byte.quote) t ≡ b
 unfolding starts
-begins t b is = is
+loop_begins t b is = is
 
 quoted : (t : Text) → is_part row.DATUM t ≡ true → (first t == byte.quote) ≡ true → ReadAs row.DATUM row.LITERAL first_branch t
 unfolding row_items
-quoted t ok is = either_first row.DATUM row.LITERAL row.NUMBER_DATUM (start.Code byte.quote) t refl ok (begins t true is)
+quoted t ok is = either_first row.DATUM row.LITERAL row.NUMBER_DATUM (start.Code byte.quote) t refl ok (loop_begins t true is)
 
 numbered : (t : Text) → is_part row.DATUM t ≡ true → (first t == byte.quote) ≡ false → ReadAs row.DATUM row.NUMBER_DATUM second_branch t
 unfolding row_items
-numbered t ok is = either_second row.DATUM row.LITERAL row.NUMBER_DATUM (start.Code byte.quote) t refl ok (begins t false is)
+numbered t ok is = either_second row.DATUM row.LITERAL row.NUMBER_DATUM (start.Code byte.quote) t refl ok (loop_begins t false is)
 
 -- bytes in quotes
 abbrev literal_items : List Item
@@ -64,13 +64,13 @@ after_first (suc m) (b ∷ t) short = let e = taken m t in omega (arith, e, shor
 within : (n m : ℕ) (t : Text) → length t ≤ 256 → length (take n (drop 1 (take m t))) ≤ 255
 within n m t short = let e = taken n (drop 1 (take m t)) in let f = after_first m t short in omega (arith, e, f)
 
-pub literal_short : (t : Text) → is_part row.LITERAL t ≡ true → length (bytes_at t) ≤ 255
+pub literal_short : (t : Text) → is_part row.LITERAL t ≡ true → length (literal_bytes_at t) ≤ 255
 literal_short t ok = within _ _ t (part_short row.LITERAL t ok)
 
 pub quoted_here : (t : Text) → is_part row.DATUM t ≡ true → (first t == byte.quote) ≡ true → is_part row.LITERAL t ≡ true
 quoted_here t ok is = ReadAs.part (quoted t ok is)
 
-pub quoted_is : (t : Text) → is_part row.DATUM t ≡ true → (first t == byte.quote) ≡ true → datum_value (tree_at row.DATUM t) ≡ Ok (value.Alpha (bytes_at t))
+pub quoted_is : (t : Text) → is_part row.DATUM t ≡ true → (first t == byte.quote) ≡ true → datum_value (tree_at row.DATUM t) ≡ Ok (value.Alpha (literal_bytes_at t))
 quoted_is t ok is =
     let q = quoted t ok is in
     ap datum_value (ReadAs.tree q) ∙ ap (λ (a : Trees). datum_value (In 1 a Done)) (stands_of row.LITERAL literal_items t literal_row (ReadAs.part q)).1
@@ -148,5 +148,5 @@ data_first t ok = (stands_of row.DATA data_items t data_row ok).0.1.0
 pub data_list : (t : Text) → is_part row.DATA t ≡ true → Others (past (drop 1 t))
 data_list t ok = (stands_of row.DATA data_items t data_row ok).0.1.1.0
 
-pub data_is : (t : Text) → is_part row.DATA t ≡ true → listed (tree_at row.DATA t) ≡ data_at (drop 1 t)
-data_is t ok = ap listed (stands_of row.DATA data_items t data_row ok).1
+pub data_is : (t : Text) → is_part row.DATA t ≡ true → literals_listed (tree_at row.DATA t) ≡ data_at (drop 1 t)
+data_is t ok = ap literals_listed (stands_of row.DATA data_items t data_row ok).1

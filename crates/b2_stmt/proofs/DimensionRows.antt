@@ -26,9 +26,9 @@ use Rattle.b2_expr.proofs.RowsRead.{stands_of}
 use Rattle.b2_stmt.specs.Dimensions.{array_shape, columns_in, dimension, dimensions_in, length_after, length_alone, lone_shape, most_rows, tested_length, usual_length}
 use Rattle.b2_stmt.proofs.LengthRows.{length_read}
 
-begins : (c : ℕ) (t : Text) (b : Bool) → (first t == c) ≡ b → starts Atoms (start.Code c) t ≡ b
+loop_begins : (c : ℕ) (t : Text) (b : Bool) → (first t == c) ≡ b → starts Atoms (start.Code c) t ≡ b
 unfolding starts
-begins c t b is = is
+loop_begins c t b is = is
 
 -- the second dimension
 abbrev comma_items : List Item
@@ -48,7 +48,7 @@ abbrev after_second : Text → Text
 after_second t = after_maybe (start.Code byte.comma) row.COMMA_NUMBER t
 
 here : (t : Text) → IsSecond t → (first t == byte.comma) ≡ true → is_part row.COMMA_NUMBER t ≡ true
-here t ok is = begun_part (start.Code byte.comma) row.COMMA_NUMBER t ok (begins byte.comma t true is)
+here t ok is = begun_part (start.Code byte.comma) row.COMMA_NUMBER t ok (loop_begins byte.comma t true is)
 
 pub columns_part : (t : Text) → IsSecond t → (first t == byte.comma) ≡ true → is_part row.SUM (drop 1 t) ≡ true
 columns_part t ok is = (stands_of row.COMMA_NUMBER comma_items t comma_row (here t ok is)).0.1.0
@@ -56,18 +56,18 @@ columns_part t ok is = (stands_of row.COMMA_NUMBER comma_items t comma_row (here
 pub columns_is : (s : Context) (t : Text) → IsSecond t → (first t == byte.comma) ≡ true → columns_in s (second_tree t) ≡ (value s level.Sum (tree_at row.SUM (drop 1 t)) >>= (λ x. dimension 255 (fixed x)))
 unfolding columns_in
 columns_is s t ok is =
-    ap (columns_in s) (begun_tree (start.Code byte.comma) row.COMMA_NUMBER t (begins byte.comma t true is))
+    ap (columns_in s) (begun_tree (start.Code byte.comma) row.COMMA_NUMBER t (loop_begins byte.comma t true is))
     ∙ ap (λ (a : Trees). columns_in s (In 1 a Done)) (stands_of row.COMMA_NUMBER comma_items t comma_row (here t ok is)).1
 
 pub columns_rest : (t : Text) → IsSecond t → (first t == byte.comma) ≡ true → after_second t ≡ after_part row.SUM (drop 1 t)
-columns_rest t ok is = begun_rest (start.Code byte.comma) row.COMMA_NUMBER t (begins byte.comma t true is) ∙ (stands_of row.COMMA_NUMBER comma_items t comma_row (here t ok is)).2
+columns_rest t ok is = begun_rest (start.Code byte.comma) row.COMMA_NUMBER t (loop_begins byte.comma t true is) ∙ (stands_of row.COMMA_NUMBER comma_items t comma_row (here t ok is)).2
 
 pub no_columns : (s : Context) (t : Text) → (first t == byte.comma) ≡ false → columns_in s (second_tree t) ≡ Ok 0
 unfolding columns_in
-no_columns s t is = ap (columns_in s) (left_out_tree (start.Code byte.comma) row.COMMA_NUMBER t (begins byte.comma t false is))
+no_columns s t is = ap (columns_in s) (left_out_tree (start.Code byte.comma) row.COMMA_NUMBER t (loop_begins byte.comma t false is))
 
 pub no_columns_rest : (t : Text) → (first t == byte.comma) ≡ false → after_second t ≡ t
-no_columns_rest t is = left_out_rest (start.Code byte.comma) row.COMMA_NUMBER t (begins byte.comma t false is)
+no_columns_rest t is = left_out_rest (start.Code byte.comma) row.COMMA_NUMBER t (loop_begins byte.comma t false is)
 
 -- whether it is there
 branch_by : (b : Bool) (a : Trees) → (branch_of (if b then In 1 a Done else In 0 Done Done) == 1) ≡ b

@@ -31,13 +31,13 @@ use Rattle.b2_expr.specs.Named.{variable_of}
 use Rattle.b2_expr.specs.Scope.{Context}
 use Rattle.b2_expr.proofs.RowsRead.{stands_of}
 use Rattle.b2_stmt.specs.Assignments.{items_after}
-use Rattle.b2_stmt.specs.Dimensions.{array_shape, entries_of, entry_in, entry_of, is_common, length_alone, lone_shape, named_entry, shape_after}
+use Rattle.b2_stmt.specs.Dimensions.{array_shape, entries_of, entry_in, entry_of, is_com, length_alone, lone_shape, entry_named, shape_after}
 use Rattle.b2_stmt.specs.declared.dimensions.Entry.{Entry}
 use Rattle.b2_stmt.proofs.Commas.{IsComma, Other, commas, other, tail_at, items_of_other, no_items_left, item_shorter}
 
-begins : (c : ℕ) (t : Text) (b : Bool) → (first t == c) ≡ b → starts Atoms (start.Code c) t ≡ b
+loop_begins : (c : ℕ) (t : Text) (b : Bool) → (first t == c) ≡ b → starts Atoms (start.Code c) t ≡ b
 unfolding starts
-begins c t b is = is
+loop_begins c t b is = is
 
 -- an entry by its name and the shape after it, where there are no `@` variables
 abbrev entry_with : Name → Bool → Result Shape ℕ → Result Entry ℕ
@@ -92,10 +92,10 @@ lone_by false x y is h = h.0
 lone_by true x y is h = cc
 
 pub alpha_shape : (t : Text) → is_part row.DIMENSIONED_ALPHA t ≡ true → (first (after_alpha t) == byte.opening) ≡ true → is_part row.SUBSCRIPTS_AND_LENGTH (after_alpha t) ≡ true
-alpha_shape t ok is = array_by _ _ _ (begins byte.opening (after_alpha t) true is) (stands_of row.DIMENSIONED_ALPHA alpha_items t alpha_row ok).0.1
+alpha_shape t ok is = array_by _ _ _ (loop_begins byte.opening (after_alpha t) true is) (stands_of row.DIMENSIONED_ALPHA alpha_items t alpha_row ok).0.1
 
 lone_part : (t : Text) → is_part row.DIMENSIONED_ALPHA t ≡ true → (first (after_alpha t) == byte.opening) ≡ false → is_part row.MAYBE_LENGTH (after_alpha t) ≡ true
-lone_part t ok is = lone_by _ _ _ (begins byte.opening (after_alpha t) false is) (stands_of row.DIMENSIONED_ALPHA alpha_items t alpha_row ok).0.1
+lone_part t ok is = lone_by _ _ _ (loop_begins byte.opening (after_alpha t) false is) (stands_of row.DIMENSIONED_ALPHA alpha_items t alpha_row ok).0.1
 
 pub alpha_length : (t : Text) → is_part row.DIMENSIONED_ALPHA t ≡ true → (first (after_alpha t) == byte.opening) ≡ false → maybe_part start.Numeric row.LENGTH (after_alpha t) ≡ true
 alpha_length t ok is = maybe_stands _ _ _ (stands_of row.MAYBE_LENGTH lone_items (after_alpha t) lone_row (lone_part t ok is)).0
@@ -113,35 +113,35 @@ abbrev alpha_tree : Text → Bool → Trees
 alpha_tree t b = Put (Plain leaf.AlphaName (leaf_bytes leaf.AlphaName t)) (if b then In 1 (tree_at row.SUBSCRIPTS_AND_LENGTH (after_alpha t)) Done else In 0 (tree_at row.MAYBE_LENGTH (after_alpha t)) Done)
 
 alpha_tree_is : (t : Text) (b : Bool) → is_part row.DIMENSIONED_ALPHA t ≡ true → (first (after_alpha t) == byte.opening) ≡ b → tree_at row.DIMENSIONED_ALPHA t ≡ alpha_tree t b
-alpha_tree_is t b ok is = (stands_of row.DIMENSIONED_ALPHA alpha_items t alpha_row ok).1 ∙ ap (alpha_tree t) (begins byte.opening (after_alpha t) b is)
+alpha_tree_is t b ok is = (stands_of row.DIMENSIONED_ALPHA alpha_items t alpha_row ok).1 ∙ ap (alpha_tree t) (loop_begins byte.opening (after_alpha t) b is)
 
 abbrev alpha_rest : Text → Bool → Text
 alpha_rest t b = if b then after_part row.SUBSCRIPTS_AND_LENGTH (after_alpha t) else after_part row.MAYBE_LENGTH (after_alpha t)
 
 alpha_rest_is : (t : Text) (b : Bool) → is_part row.DIMENSIONED_ALPHA t ≡ true → (first (after_alpha t) == byte.opening) ≡ b → after_part row.DIMENSIONED_ALPHA t ≡ alpha_rest t b
-alpha_rest_is t b ok is = (stands_of row.DIMENSIONED_ALPHA alpha_items t alpha_row ok).2 ∙ ap (alpha_rest t) (begins byte.opening (after_alpha t) b is)
+alpha_rest_is t b ok is = (stands_of row.DIMENSIONED_ALPHA alpha_items t alpha_row ok).2 ∙ ap (alpha_rest t) (loop_begins byte.opening (after_alpha t) b is)
 
-global_by : (s : Context) (t : Text) (b : Bool) → s.around.globals ≡ None → (alpha_named t).global ≡ true → named_entry s true (alpha_tree t b) ≡ Err X77_NO_PARTITION
-unfolding named_entry
+global_by : (s : Context) (t : Text) (b : Bool) → s.around.globals ≡ None → (alpha_named t).global ≡ true → entry_named s true (alpha_tree t b) ≡ Err X77_NO_PARTITION
+unfolding entry_named
 global_by s t true none is = refused s (alpha_named t) 1 _ none is
 global_by s t false none is = refused s (alpha_named t) 0 _ none is
 
-pub alpha_global : (s : Context) (t : Text) → is_part row.DIMENSIONED_ALPHA t ≡ true → s.around.globals ≡ None → (alpha_named t).global ≡ true → named_entry s true (tree_at row.DIMENSIONED_ALPHA t) ≡ Err X77_NO_PARTITION
-alpha_global s t ok none is = ap (named_entry s true) (alpha_tree_is t (first (after_alpha t) == byte.opening) ok refl) ∙ global_by s t (first (after_alpha t) == byte.opening) none is
+pub alpha_global : (s : Context) (t : Text) → is_part row.DIMENSIONED_ALPHA t ≡ true → s.around.globals ≡ None → (alpha_named t).global ≡ true → entry_named s true (tree_at row.DIMENSIONED_ALPHA t) ≡ Err X77_NO_PARTITION
+alpha_global s t ok none is = ap (entry_named s true) (alpha_tree_is t (first (after_alpha t) == byte.opening) ok refl) ∙ global_by s t (first (after_alpha t) == byte.opening) none is
 
 pub alpha_array_is : (s : Context) (t : Text) → is_part row.DIMENSIONED_ALPHA t ≡ true → (alpha_named t).global ≡ false → (first (after_alpha t) == byte.opening) ≡ true
-    → named_entry s true (tree_at row.DIMENSIONED_ALPHA t) ≡ (array_shape s true (tree_at row.SUBSCRIPTS_AND_LENGTH (after_alpha t)) >>= (λ shape. Ok (record { var = variable_of (alpha_named t) true; shape = shape })))
-unfolding named_entry
-alpha_array_is s t ok mine is = ap (named_entry s true) (alpha_tree_is t true ok is) ∙ own s (alpha_named t) 1 (tree_at row.SUBSCRIPTS_AND_LENGTH (after_alpha t)) mine
+    → entry_named s true (tree_at row.DIMENSIONED_ALPHA t) ≡ (array_shape s true (tree_at row.SUBSCRIPTS_AND_LENGTH (after_alpha t)) >>= (λ shape. Ok (record { var = variable_of (alpha_named t) true; shape = shape })))
+unfolding entry_named
+alpha_array_is s t ok mine is = ap (entry_named s true) (alpha_tree_is t true ok is) ∙ own s (alpha_named t) 1 (tree_at row.SUBSCRIPTS_AND_LENGTH (after_alpha t)) mine
 
 pub alpha_array_rest : (t : Text) → is_part row.DIMENSIONED_ALPHA t ≡ true → (first (after_alpha t) == byte.opening) ≡ true → after_part row.DIMENSIONED_ALPHA t ≡ after_part row.SUBSCRIPTS_AND_LENGTH (after_alpha t)
 alpha_array_rest t ok is = alpha_rest_is t true ok is
 
 pub alpha_lone_is : (s : Context) (t : Text) → is_part row.DIMENSIONED_ALPHA t ≡ true → (alpha_named t).global ≡ false → (first (after_alpha t) == byte.opening) ≡ false
-    → named_entry s true (tree_at row.DIMENSIONED_ALPHA t) ≡ (lone_shape s true (maybe_tree start.Numeric row.LENGTH (after_alpha t)) >>= (λ shape. Ok (record { var = variable_of (alpha_named t) false; shape = shape })))
-unfolding named_entry
+    → entry_named s true (tree_at row.DIMENSIONED_ALPHA t) ≡ (lone_shape s true (maybe_tree start.Numeric row.LENGTH (after_alpha t)) >>= (λ shape. Ok (record { var = variable_of (alpha_named t) false; shape = shape })))
+unfolding entry_named
 alpha_lone_is s t ok mine is =
-    ap (named_entry s true) (alpha_tree_is t false ok is)
+    ap (entry_named s true) (alpha_tree_is t false ok is)
     ∙ own s (alpha_named t) 0 (tree_at row.MAYBE_LENGTH (after_alpha t)) mine
     ∙ ap (λ (a : Trees). entry_with (alpha_named t) false (lone_shape s true a)) (lone_tree (after_alpha t) (lone_part t ok is))
 
@@ -170,40 +170,40 @@ there_by true x is h = h.0
 there_by false x is h = cc
 
 pub number_shape : (t : Text) → is_part row.DIMENSIONED_NUMERIC t ≡ true → (first (after_number t) == byte.opening) ≡ true → is_part row.SUBSCRIPTS_AND_LENGTH (after_number t) ≡ true
-number_shape t ok is = there_by _ _ (begins byte.opening (after_number t) true is) (stands_of row.DIMENSIONED_NUMERIC number_items t number_row ok).0.1
+number_shape t ok is = there_by _ _ (loop_begins byte.opening (after_number t) true is) (stands_of row.DIMENSIONED_NUMERIC number_items t number_row ok).0.1
 
 abbrev number_tree : Text → Bool → Trees
 number_tree t b = Put (Plain leaf.Name (leaf_bytes leaf.Name t)) (if b then In 1 (tree_at row.SUBSCRIPTS_AND_LENGTH (after_number t)) Done else In 0 Done Done)
 
 number_tree_is : (t : Text) (b : Bool) → is_part row.DIMENSIONED_NUMERIC t ≡ true → (first (after_number t) == byte.opening) ≡ b → tree_at row.DIMENSIONED_NUMERIC t ≡ number_tree t b
-number_tree_is t b ok is = (stands_of row.DIMENSIONED_NUMERIC number_items t number_row ok).1 ∙ ap (number_tree t) (begins byte.opening (after_number t) b is)
+number_tree_is t b ok is = (stands_of row.DIMENSIONED_NUMERIC number_items t number_row ok).1 ∙ ap (number_tree t) (loop_begins byte.opening (after_number t) b is)
 
 abbrev number_rest : Text → Bool → Text
 number_rest t b = if b then after_part row.SUBSCRIPTS_AND_LENGTH (after_number t) else after_number t
 
 number_rest_is : (t : Text) (b : Bool) → is_part row.DIMENSIONED_NUMERIC t ≡ true → (first (after_number t) == byte.opening) ≡ b → after_part row.DIMENSIONED_NUMERIC t ≡ number_rest t b
-number_rest_is t b ok is = (stands_of row.DIMENSIONED_NUMERIC number_items t number_row ok).2 ∙ ap (number_rest t) (begins byte.opening (after_number t) b is)
+number_rest_is t b ok is = (stands_of row.DIMENSIONED_NUMERIC number_items t number_row ok).2 ∙ ap (number_rest t) (loop_begins byte.opening (after_number t) b is)
 
-number_global_by : (s : Context) (t : Text) (b : Bool) → s.around.globals ≡ None → (number_named t).global ≡ true → named_entry s false (number_tree t b) ≡ Err X77_NO_PARTITION
-unfolding named_entry
+number_global_by : (s : Context) (t : Text) (b : Bool) → s.around.globals ≡ None → (number_named t).global ≡ true → entry_named s false (number_tree t b) ≡ Err X77_NO_PARTITION
+unfolding entry_named
 number_global_by s t true none is = refused s (number_named t) 1 _ none is
 number_global_by s t false none is = refused s (number_named t) 0 _ none is
 
-pub number_global : (s : Context) (t : Text) → is_part row.DIMENSIONED_NUMERIC t ≡ true → s.around.globals ≡ None → (number_named t).global ≡ true → named_entry s false (tree_at row.DIMENSIONED_NUMERIC t) ≡ Err X77_NO_PARTITION
-number_global s t ok none is = ap (named_entry s false) (number_tree_is t (first (after_number t) == byte.opening) ok refl) ∙ number_global_by s t (first (after_number t) == byte.opening) none is
+pub number_global : (s : Context) (t : Text) → is_part row.DIMENSIONED_NUMERIC t ≡ true → s.around.globals ≡ None → (number_named t).global ≡ true → entry_named s false (tree_at row.DIMENSIONED_NUMERIC t) ≡ Err X77_NO_PARTITION
+number_global s t ok none is = ap (entry_named s false) (number_tree_is t (first (after_number t) == byte.opening) ok refl) ∙ number_global_by s t (first (after_number t) == byte.opening) none is
 
 pub number_array_is : (s : Context) (t : Text) → is_part row.DIMENSIONED_NUMERIC t ≡ true → (number_named t).global ≡ false → (first (after_number t) == byte.opening) ≡ true
-    → named_entry s false (tree_at row.DIMENSIONED_NUMERIC t) ≡ (array_shape s false (tree_at row.SUBSCRIPTS_AND_LENGTH (after_number t)) >>= (λ shape. Ok (record { var = variable_of (number_named t) true; shape = shape })))
-unfolding named_entry
-number_array_is s t ok mine is = ap (named_entry s false) (number_tree_is t true ok is) ∙ own s (number_named t) 1 (tree_at row.SUBSCRIPTS_AND_LENGTH (after_number t)) mine
+    → entry_named s false (tree_at row.DIMENSIONED_NUMERIC t) ≡ (array_shape s false (tree_at row.SUBSCRIPTS_AND_LENGTH (after_number t)) >>= (λ shape. Ok (record { var = variable_of (number_named t) true; shape = shape })))
+unfolding entry_named
+number_array_is s t ok mine is = ap (entry_named s false) (number_tree_is t true ok is) ∙ own s (number_named t) 1 (tree_at row.SUBSCRIPTS_AND_LENGTH (after_number t)) mine
 
 pub number_array_rest : (t : Text) → is_part row.DIMENSIONED_NUMERIC t ≡ true → (first (after_number t) == byte.opening) ≡ true → after_part row.DIMENSIONED_NUMERIC t ≡ after_part row.SUBSCRIPTS_AND_LENGTH (after_number t)
 number_array_rest t ok is = number_rest_is t true ok is
 
 pub number_lone_is : (s : Context) (t : Text) → is_part row.DIMENSIONED_NUMERIC t ≡ true → (number_named t).global ≡ false → (first (after_number t) == byte.opening) ≡ false
-    → named_entry s false (tree_at row.DIMENSIONED_NUMERIC t) ≡ Ok (record { var = variable_of (number_named t) false; shape = record { rows = 0; cols = 0; len = 0 } })
-unfolding named_entry lone_shape length_alone
-number_lone_is s t ok mine is = ap (named_entry s false) (number_tree_is t false ok is) ∙ own s (number_named t) 0 Done mine
+    → entry_named s false (tree_at row.DIMENSIONED_NUMERIC t) ≡ Ok (record { var = variable_of (number_named t) false; shape = record { rows = 0; cols = 0; len = 0 } })
+unfolding entry_named lone_shape length_alone
+number_lone_is s t ok mine is = ap (entry_named s false) (number_tree_is t false ok is) ∙ own s (number_named t) 0 Done mine
 
 pub number_lone_rest : (t : Text) → is_part row.DIMENSIONED_NUMERIC t ≡ true → (first (after_number t) == byte.opening) ≡ false → after_part row.DIMENSIONED_NUMERIC t ≡ after_number t
 number_lone_rest t ok is = number_rest_is t false ok is
@@ -222,7 +222,7 @@ number_entry t ok is = either_second _ _ _ _ t either_row ok is
 pub by_alpha : (t : Text) → is_part row.DIMENSIONED t ≡ true → starts Atoms start.Alpha t ≡ true → is_part row.DIMENSIONED_ALPHA t ≡ true
 by_alpha t ok is = (alpha_entry t ok is).part
 
-pub by_alpha_is : (s : Context) (t : Text) → is_part row.DIMENSIONED t ≡ true → starts Atoms start.Alpha t ≡ true → entry_in s (tree_at row.DIMENSIONED t) ≡ named_entry s true (tree_at row.DIMENSIONED_ALPHA t)
+pub by_alpha_is : (s : Context) (t : Text) → is_part row.DIMENSIONED t ≡ true → starts Atoms start.Alpha t ≡ true → entry_in s (tree_at row.DIMENSIONED t) ≡ entry_named s true (tree_at row.DIMENSIONED_ALPHA t)
 unfolding entry_in
 by_alpha_is s t ok is = ap (entry_in s) (alpha_entry t ok is).tree
 
@@ -232,7 +232,7 @@ by_alpha_rest t ok is = (alpha_entry t ok is).rest
 pub by_number : (t : Text) → is_part row.DIMENSIONED t ≡ true → starts Atoms start.Alpha t ≡ false → is_part row.DIMENSIONED_NUMERIC t ≡ true
 by_number t ok is = (number_entry t ok is).part
 
-pub by_number_is : (s : Context) (t : Text) → is_part row.DIMENSIONED t ≡ true → starts Atoms start.Alpha t ≡ false → entry_in s (tree_at row.DIMENSIONED t) ≡ named_entry s false (tree_at row.DIMENSIONED_NUMERIC t)
+pub by_number_is : (s : Context) (t : Text) → is_part row.DIMENSIONED t ≡ true → starts Atoms start.Alpha t ≡ false → entry_in s (tree_at row.DIMENSIONED t) ≡ entry_named s false (tree_at row.DIMENSIONED_NUMERIC t)
 unfolding entry_in
 by_number_is s t ok is = ap (entry_in s) (number_entry t ok is).tree
 
@@ -261,8 +261,8 @@ are_others t = is_list commas row.COMMA_DIMENSIONED t
 abbrev pub left_at : Text → Trees
 left_at t = tail_at row.COMMA_DIMENSIONED Done t
 
-pub common_is : (t : Text) → is_part row.DIM t ≡ true → is_common (tree_at row.DIM t) ≡ (first t == word.COM)
-common_is t ok = ap is_common (stands_of row.DIM items t row_is ok).1
+pub common_is : (t : Text) → is_part row.DIM t ≡ true → is_com (tree_at row.DIM t) ≡ (first t == word.COM)
+common_is t ok = ap is_com (stands_of row.DIM items t row_is ok).1
 
 pub first_part : (t : Text) → is_part row.DIM t ≡ true → is_part row.DIMENSIONED (drop 1 t) ≡ true
 first_part t ok = (stands_of row.DIM items t row_is ok).0.1.0

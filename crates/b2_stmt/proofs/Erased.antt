@@ -5,7 +5,7 @@ use Rattle.b2_atom.specs.Tree.{Trees}
 use Rattle.b2_atom.specs.Tree.Trees.{Done, Put, In}
 use Rattle.b2_access.specs.declared.accesses.Access.{Access}
 use Rattle.b2_access.specs.declared.accesses.Access.TheVariants as access
-use Rattle.b2_stmt.specs.Clearing.{erases, erases_from, erases_lines, erases_range}
+use Rattle.b2_stmt.specs.Clearing.{asks_to_erase, erases_from, erases_lines, erases_range}
 
 -- one thing or another
 either : {A : Type 0} (F : A → Type 0) (b : Bool) (x y : A) → F x → F y → F (if b then x else y)
@@ -31,7 +31,7 @@ module _ (F : Access → Type 0) (holds : (from to : ℕ) → F (access.Erase fr
   range (Put w t) = holds 0 9999
   range (In n named end) = either F (n == 1) (erases_lines named) _ (lines named) (holds 0 9999)
 
-  pub each_erased : (t : Trees) → F (erases t)
+  pub each_erased : (t : Trees) → F (asks_to_erase t)
   each_erased Done = holds 0 9999
   each_erased (In n a t) = holds 0 9999
   each_erased (Put w Done) = holds 0 9999

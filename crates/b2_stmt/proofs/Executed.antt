@@ -16,26 +16,26 @@ use Rattle.b2_stmt.specs.Around.{around}
 use Rattle.b2_stmt.specs.Asked.{Here, asked_of, carried}
 use Rattle.b2_stmt.specs.OnVariables.{is_on_variables}
 use Rattle.b2_access.specs.declared.accesses.Access.{Access}
-use Rattle.b2_stmt.specs.Clearing.{access_of}
-use Rattle.b2_stmt.specs.Plan.{allowed, by_access, course, course_at, course_in, course_of, ended_of, is_refused, line_named, plan}
+use Rattle.b2_stmt.specs.Clearing.{asked_access}
+use Rattle.b2_stmt.specs.Plan.{permitted, by_access, course, course_at, course_in, course_of, ended_of, is_refused, line_named, plan}
 use Rattle.b2_access.specs.Planning.{done, stays}
 use Rattle.b2_stmt.specs.declared.asked.Asked.{Asked}
 
 some_is : {A : Type 0} (x y : A) → Some x ≡ Some y → y ≡ x
 some_is x y h = cc
 
-unit_there : (o : Option TreeUnit) (r : ℕ) (t : Trees) (h : Here) (me : Private) (s : SeenLent) → Some r ≡ option_map (λ v. v.row) o → Some t ≡ option_map (λ v. v.tree) o → course_at o h me s ≡ allowed r t h me s
+unit_there : (o : Option TreeUnit) (r : ℕ) (t : Trees) (h : Here) (me : Private) (s : SeenLent) → Some r ≡ option_map (λ v. v.row) o → Some t ≡ option_map (λ v. v.tree) o → course_at o h me s ≡ permitted r t h me s
 unit_there None r t h me s is_r is_t = cc
-unit_there (Some v) r t h me s is_r is_t = ap (λ (x : ℕ). allowed x v.tree h me s) (some_is r v.row is_r) ∙ ap (λ (x : Trees). allowed r x h me s) (some_is t v.tree is_t)
+unit_there (Some v) r t h me s is_r is_t = ap (λ (x : ℕ). permitted x v.tree h me s) (some_is r v.row is_r) ∙ ap (λ (x : Trees). permitted r x h me s) (some_is t v.tree is_t)
 
 -- where it may stand there
-allowed_there : (r : ℕ) (t : Trees) (h : Here) (me : Private) (s : SeenLent) (program : Bool) → is_some h.place.line ≡ program → is_refused r program ≡ false → allowed r t h me s ≡ course_of r t h me s
+allowed_there : (r : ℕ) (t : Trees) (h : Here) (me : Private) (s : SeenLent) (program : Bool) → is_some h.place.line ≡ program → is_refused r program ≡ false → permitted r t h me s ≡ course_of r t h me s
 allowed_there r t h me s program is_line is =
     let refused : is_refused r (is_some h.place.line) ≡ false = ap (is_refused r) is_line ∙ is in
     ap (λ (b : Bool). if b then done s (stays me (outcome.Failed S26_PROGRAM_ONLY)) else course_of r t h me s) refused
 
 -- where it asks for no access
-no_access : (r : ℕ) (t : Trees) (h : Here) (me : Private) (s : SeenLent) → access_of r t ≡ None → course_of r t h me s ≡ done s (ended_of r t h me s)
+no_access : (r : ℕ) (t : Trees) (h : Here) (me : Private) (s : SeenLent) → asked_access r t ≡ None → course_of r t h me s ≡ done s (ended_of r t h me s)
 no_access r t h me s none = ap (λ (o : Option Access). by_access o s me (ended_of r t h me s)) none
 
 -- what is asked of it, where it doesn't change the private state while it is read
@@ -60,7 +60,7 @@ no_mark r allowed_is = second_of _ (r == row.DEFFN_MARKED) allowed_is
 
 pub carried_there : (o : Option (List ℕ)) (line : List ℕ) (k r : ℕ) (t : Trees) (p : Place) (me : Private) (s : SeenLent) (program : Bool) (e : Context) (q : Asked)
     → o ≡ Some line → k ≡ p.unit → Some r ≡ option_map (λ v. v.row) (slice_get (tree_units line) k) → Some t ≡ option_map (λ v. v.tree) (slice_get (tree_units line) k)
-    → is_some p.line ≡ program → is_refused r program ≡ false → IsAsked r → access_of r t ≡ None → e ≡ around me s.home → q ≡ asked_of r t (record { place = p; units = tree_units line }) e s.home.lines
+    → is_some p.line ≡ program → is_refused r program ≡ false → IsAsked r → asked_access r t ≡ None → e ≡ around me s.home → q ≡ asked_of r t (record { place = p; units = tree_units line }) e s.home.lines
     → course_in o p me s ≡ done s (carried q p me s.own.lines s.home.lines)
 carried_there o line k r t p me s program e q is_o is_k is_r is_t is_program allowed_is other none is_e is_q =
     let h : Here = record { place = p; units = tree_units line } in

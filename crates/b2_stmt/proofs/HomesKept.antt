@@ -36,21 +36,21 @@ use Rattle.b2_access.specs.declared.planned.Outcome.TheVariants as outcome
 use Rattle.b2_access.specs.declared.private.Private.{Private}
 use Rattle.b2_stmt.specs.Around.{around}
 use Rattle.b2_access.specs.Partition.{setting_of}
-use Rattle.b2_stmt.specs.Asked.{Here, asked_of, asks_choice, asks_loop, asks_mark, body_place, carried, chosen, place_after, still}
+use Rattle.b2_stmt.specs.Asked.{Here, asked_of, asks_choice, asks_loop, asks_mark, body_place, carried, line_chosen, place_after, still}
 use Rattle.b2_stmt.specs.Arguments.{arguments, operands_of}
 use Rattle.b2_stmt.specs.OnVariables.{is_on_variables, on_variables}
-use Rattle.b2_stmt.specs.Marked.{calls_mark, mark_in, mark_place, number_called, parameters_of, place_in, takes, takes_args}
-use Rattle.b2_stmt.specs.Reading.{reads}
+use Rattle.b2_stmt.specs.Marked.{calls_mark, mark_in, mark_place, number_called, parameters_of, place_in, takes_values, takes_args}
+use Rattle.b2_stmt.specs.Reading.{reads_data}
 use Rattle.b2_stmt.specs.Branches.{goto_goal, if_goal, passed_function}
 use Rattle.b2_stmt.specs.Calls.{back_from, called_where, forgets, leaves_call}
 use Rattle.b2_stmt.specs.Choices.{choice_in}
-use Rattle.b2_stmt.specs.Clearing.{access_of, cleared, edited, finishes}
+use Rattle.b2_stmt.specs.Clearing.{asked_access, cleared, edited, edit_finishes}
 use Rattle.b2_stmt.specs.Course.{continues, restores, restores_where, runs, runs_from, runs_where}
 use Rattle.b2_stmt.specs.Frames.{with_frame}
 use Rattle.b2_access.specs.Going.{to_found, to_goal, to_place, where_there}
 use Rattle.b2_access.specs.Homes.{FinishesWithin, FrameIn, FramesIn, HomesIn, IsWithin, OutcomeIn, PlaceIn, PlannedIn, PlansWithin, homes_of, is_marked}
-use Rattle.b2_stmt.specs.Loops.{begins, counted, counts, goes_round, is_over, loop_in, made_loop, next_value, nexts, tested, without_loop}
-use Rattle.b2_stmt.specs.Plan.{allowed, by_access, course, course_at, course_in, ended_of, finish, is_refused, line_named, plan}
+use Rattle.b2_stmt.specs.Loops.{loop_begins, loop_element, loop_counts, goes_round, is_over, loop_in, made_loop, next_value, nexts, tested, without_loop}
+use Rattle.b2_stmt.specs.Plan.{permitted, by_access, course, course_at, course_in, ended_of, finish, is_refused, line_named, plan}
 use Rattle.b2_access.specs.Planning.{Ended, Planning, done, goes_or}
 use Rattle.b2_stmt.proofs.Erased.{each_erased}
 use Rattle.b2_stmt.specs.declared.asked.Asked.{Asked}
@@ -167,7 +167,7 @@ module _ (among : ℕ → Bool) where
   loop_asked (Ok l) body h = h
   loop_asked (Err code) body h = tt
 
-  chosen_in : (goto : Bool) (n : Option ℕ) (h : Here) (lines : Lines) → among h.place.home ≡ true → PlaceIn among (place_after h lines) → AskedIn (chosen goto n h lines)
+  chosen_in : (goto : Bool) (n : Option ℕ) (h : Here) (lines : Lines) → among h.place.home ≡ true → PlaceIn among (place_after h lines) → AskedIn (line_chosen goto n h lines)
   unfolding AskedIn
   chosen_in true None h lines k after = tt
   chosen_in true (Some n) h lines k after = lined (line_at n lines) (line_start h.place n) k
@@ -214,9 +214,9 @@ module _ (among : ℕ → Bool) where
   made_in (Some code) l body me w h = (w, tt)
   made_in None l body me w h = framed (For l.var l.limit l.step body) outcome.Next (record me { stack = without_loop l.var me.stack }) (with_frames me (without_loop l.var me.stack) w (no_old_loop l.var me.stack w.frames)) h tt
 
-  begins_in : (l : Loop) (body : Place) (me : Private) → Within me → among body.home ≡ true → EndedIn (begins l body me)
+  begins_in : (l : Loop) (body : Place) (me : Private) → Within me → among body.home ≡ true → EndedIn (loop_begins l body me)
   begins_in l body me w h =
-      made_in (assigned_number (counted l.var) l.from me.vars).code l body (record me { vars = (assigned_number (counted l.var) l.from me.vars).vars })
+      made_in (assigned_number (loop_element l.var) l.from me.vars).code l body (record me { vars = (assigned_number (loop_element l.var) l.from me.vars).vars })
       (record { part = w.part; place = w.place; kept = w.kept; frames = w.frames }) h
 
   tested_in : (o : Option ℕ) (over : Bool) (body : Place) (me : Private) → Within me → among body.home ≡ true → EndedIn (tested o over body me)
@@ -225,11 +225,11 @@ module _ (among : ℕ → Bool) where
   tested_in None true body me w h = (with_frames me (without_top_loop me.stack) w (without_top me.stack w.frames), tt)
   tested_in None false body me w h = (w, h)
 
-  counts_in : (x : NumberAnswer) (v : Var2) (limit step : Number) (body : Place) (me : Private) → Within me → among body.home ≡ true → EndedIn (counts x v limit step body me)
+  counts_in : (x : NumberAnswer) (v : Var2) (limit step : Number) (body : Place) (me : Private) → Within me → among body.home ≡ true → EndedIn (loop_counts x v limit step body me)
   unfolding EndedIn
   counts_in (Err code) v limit step body me w h = (w, tt)
   counts_in (Ok x) v limit step body me w h =
-      tested_in (assigned_number (counted v) x me.vars).code (is_over x limit step) body (record me { vars = (assigned_number (counted v) x me.vars).vars })
+      tested_in (assigned_number (loop_element v) x me.vars).code (is_over x limit step) body (record me { vars = (assigned_number (loop_element v) x me.vars).vars })
       (record { part = w.part; place = w.place; kept = w.kept; frames = w.frames }) h
 
   LoopIn : Option (Number × Number × Place) → Type 0
@@ -245,7 +245,7 @@ module _ (among : ℕ → Bool) where
   round_in : (o : Option (Number × Number × Place)) (v : Var2) (me : Private) → Within me → LoopIn o → EndedIn (goes_round o v me)
   unfolding EndedIn LoopIn
   round_in None v me w h = (w, tt)
-  round_in (Some p) v me w h = counts_in (next_value me.mode (number_there (record { vars = me.vars; element = counted v })) p.1) v p.0 p.1 p.2 me w h
+  round_in (Some p) v me w h = counts_in (next_value me.mode (number_there (record { vars = me.vars; element = loop_element v })) p.1) v p.0 p.1 p.2 me w h
 
   nexts_in : (v : Var2) (me : Private) → Within me → EndedIn (nexts v me)
   unfolding EndedIn
@@ -278,7 +278,7 @@ module _ (among : ℕ → Bool) where
   unfolding EndedIn
   args_in None home t me w = (w, tt)
   args_in (Some xs) home t me w =
-      (record { part = w.part; place = w.place; kept = w.kept; frames = w.frames }, next_in (takes (setting_of me) home (parameters_of t) xs me.vars).code)
+      (record { part = w.part; place = w.place; kept = w.kept; frames = w.frames }, next_in (takes_values (setting_of me) home (parameters_of t) xs me.vars).code)
 
   back_in : (how : Option Place → Outcome) (fs : List Frame) (me : Private) → ((b : Option Place) → PlaceIn among b → OutcomeIn among (how b)) → Within me → FramesIn among fs → EndedIn (back_from how fs me)
   unfolding EndedIn
@@ -354,7 +354,7 @@ module _ (among : ℕ → Bool) where
       either EndedIn (is_on_variables r) _ _
       (record { part = w.part; place = w.place; kept = w.kept; frames = w.frames }, next_in (on_variables r (setting_of me) s.home t me.vars).code)
       (either EndedIn (r == row.READ) _ _
-      (record { part = w.part; place = w.place; kept = w.kept; frames = w.frames }, next_in (reads (setting_of me) s.home s.own.lines t me.vars me.next_data).code)
+      (record { part = w.part; place = w.place; kept = w.kept; frames = w.frames }, next_in (reads_data (setting_of me) s.home s.own.lines t me.vars me.next_data).code)
       (either EndedIn (r == row.DEFFN_MARKED) _ _ (args_in me.args s.home t me w)
       (carried_in (asked_of r t h (around me s.home) s.home.lines) h.place me s.own.lines s.home.lines k w (asked_in r t h (around me s.home) s.home.lines k))))
 
@@ -373,7 +373,7 @@ module _ (among : ℕ → Bool) where
   AccessIn None = Unit {0}
   AccessIn (Some a) = HomesIn among a
 
-  asked_of_in : (r : ℕ) (t : Trees) → AccessIn (access_of r t)
+  asked_of_in : (r : ℕ) (t : Trees) → AccessIn (asked_access r t)
   unfolding AccessIn
   asked_of_in r t =
       either AccessIn (r == row.CLEAR) _ _ (no_mark (access.ClearAll None 0) refl) (either AccessIn (r == row.CLEAR_P) _ _ (each_erased (HomesIn among) (λ from to. no_mark (access.Erase from to 0) refl) t) tt)
@@ -383,10 +383,10 @@ module _ (among : ℕ → Bool) where
   access_in None s me e w h k = done_in s e h
   access_in (Some a) s me e w h k = (w, k)
 
-  allowed_in : (r : ℕ) (t : Trees) (h : Here) (me : Private) (s : SeenLent) → among h.place.home ≡ true → Within me → PlanningIn (allowed r t h me s)
+  allowed_in : (r : ℕ) (t : Trees) (h : Here) (me : Private) (s : SeenLent) → among h.place.home ≡ true → Within me → PlanningIn (permitted r t h me s)
   unfolding EndedIn PlanningIn
   allowed_in r t h me s k w =
-      either PlanningIn (is_refused r (is_some h.place.line)) _ _ (w, tt) (access_in (access_of r t) s me (ended_of r t h me s) w (ended_in r t h me s k w) (asked_of_in r t))
+      either PlanningIn (is_refused r (is_some h.place.line)) _ _ (w, tt) (access_in (asked_access r t) s me (ended_of r t h me s) w (ended_in r t h me s k w) (asked_of_in r t))
 
   unit_in : (o : Option TreeUnit) (h : Here) (me : Private) (s : SeenLent) → among h.place.home ≡ true → Within me → PlanningIn (course_at o h me s)
   unfolding PlanningIn
@@ -415,7 +415,7 @@ module _ (among : ℕ → Bool) where
   edited_in (answer.Locked q) after me v w = (w, tt)
   edited_in (answer.Refused code) after me v w = (w, tt)
 
-  finishes_in : (x : Access) (a : Answer) (me : Private) → Within me → EndedIn (finishes x a me)
+  finishes_in : (x : Access) (a : Answer) (me : Private) → Within me → EndedIn (edit_finishes x a me)
   unfolding EndedIn
   finishes_in (access.ClearAll name homes) a me w = edited_in a (cleared me) me (record { part = w.part; place = w.place; kept = tt; frames = tt }) w
   finishes_in (access.Erase from to homes) a me w = edited_in a _ me (record { part = w.part; place = w.place; kept = tt; frames = tt }) w

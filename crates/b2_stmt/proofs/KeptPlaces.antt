@@ -36,13 +36,13 @@ use Rattle.b2_access.proofs.OwnTerminal.{names_none}
 use Rattle.b2_stmt.specs.Around.{around}
 use Rattle.b2_stmt.specs.Asked.{Here, asked_of, carried}
 use Rattle.b2_stmt.specs.Calls.{back_from, called_where, forgets, leaves_call}
-use Rattle.b2_stmt.specs.Clearing.{access_of, cleared, edited, finishes}
+use Rattle.b2_stmt.specs.Clearing.{asked_access, cleared, edited, edit_finishes}
 use Rattle.b2_stmt.specs.Course.{continues, restores, restores_where, runs, runs_from, runs_where}
 use Rattle.b2_stmt.specs.Frames.{with_frame}
-use Rattle.b2_stmt.specs.Loops.{begins, counted, counts, goes_round, is_over, made_loop, next_value, nexts, tested, without_loop}
+use Rattle.b2_stmt.specs.Loops.{loop_begins, loop_element, loop_counts, goes_round, is_over, made_loop, next_value, nexts, tested, without_loop}
 use Rattle.b2_stmt.specs.Marked.{calls_mark, mark_place, takes_args}
 use Rattle.b2_stmt.specs.OnVariables.{is_on_variables}
-use Rattle.b2_stmt.specs.Plan.{allowed, by_access, course, course_at, course_in, ended_of, finish, is_refused, plan}
+use Rattle.b2_stmt.specs.Plan.{permitted, by_access, course, course_at, course_in, ended_of, finish, is_refused, plan}
 use Rattle.b2_stmt.proofs.Erased.{each_erased}
 use Rattle.b2_stmt.specs.declared.asked.Asked.{Asked}
 use Rattle.b2_stmt.specs.declared.asked.Asked.TheVariants as asked
@@ -79,8 +79,8 @@ module _ (here : Option Place × ℕ) (matters : Bool) where
   made (Some code) l body me h = (h.0, λ r. inl (h.1 r))
   made None l body me h = framed (For l.var l.limit l.step body) outcome.Next (record me { stack = without_loop l.var me.stack }) h
 
-  begun : (l : Loop) (body : Place) (me : Private) → KeepsNoPlace me → KeepsNothing (begins l body me)
-  begun l body me h = made (assigned_number (counted l.var) l.from me.vars).code l body (record me { vars = (assigned_number (counted l.var) l.from me.vars).vars }) h
+  begun : (l : Loop) (body : Place) (me : Private) → KeepsNoPlace me → KeepsNothing (loop_begins l body me)
+  begun l body me h = made (assigned_number (loop_element l.var) l.from me.vars).code l body (record me { vars = (assigned_number (loop_element l.var) l.from me.vars).vars }) h
 
   tests : (o : Option ℕ) (over : Bool) (body : Place) (me : Private) → KeepsNoPlace me → KeepsNothing (tested o over body me)
   unfolding KeepsNothing
@@ -88,16 +88,16 @@ module _ (here : Option Place × ℕ) (matters : Bool) where
   tests None true body me h = (h.0, λ r. inl (h.1 r))
   tests None false body me h = (h.0, λ r. inl (h.1 r))
 
-  goes_on : (x : NumberAnswer) (v : Var2) (limit step : Number) (body : Place) (me : Private) → KeepsNoPlace me → KeepsNothing (counts x v limit step body me)
+  goes_on : (x : NumberAnswer) (v : Var2) (limit step : Number) (body : Place) (me : Private) → KeepsNoPlace me → KeepsNothing (loop_counts x v limit step body me)
   unfolding KeepsNothing
   goes_on (Err code) v limit step body me h = (h.0, λ r. inl (h.1 r))
   goes_on (Ok x) v limit step body me h =
-      tests (assigned_number (counted v) x me.vars).code (is_over x limit step) body (record me { vars = (assigned_number (counted v) x me.vars).vars }) h
+      tests (assigned_number (loop_element v) x me.vars).code (is_over x limit step) body (record me { vars = (assigned_number (loop_element v) x me.vars).vars }) h
 
   round : (o : Option (Number × Number × Place)) (v : Var2) (me : Private) → KeepsNoPlace me → KeepsNothing (goes_round o v me)
   unfolding KeepsNothing
   round None v me h = (h.0, λ r. inl (h.1 r))
-  round (Some p) v me h = goes_on (next_value me.mode (number_there (record { vars = me.vars; element = counted v })) p.1) v p.0 p.1 p.2 me h
+  round (Some p) v me h = goes_on (next_value me.mode (number_there (record { vars = me.vars; element = loop_element v })) p.1) v p.0 p.1 p.2 me h
 
   next : (v : Var2) (me : Private) → KeepsNoPlace me → KeepsNothing (nexts v me)
   unfolding KeepsNothing
@@ -202,7 +202,7 @@ module _ (here : Option Place × ℕ) (matters : Bool) where
   unfolding KeepsNothing PlansNothing
   is_done s e h = (h.0, λ r. done_by s e (h.1 r), tt)
 
-  asks_here : (r : ℕ) (t : Trees) → AskedAt here.1 (access_of r t)
+  asks_here : (r : ℕ) (t : Trees) → AskedAt here.1 (asked_access r t)
   asks_here r t =
       let F : Option Access → Type 0 = AskedAt here.1 in
       either F (r == row.CLEAR) _ _ (names_none here.1 (access.ClearAll None 0) refl)
@@ -213,9 +213,9 @@ module _ (here : Option Place × ℕ) (matters : Bool) where
   asking None s me e x k h = is_done s e h
   asking (Some a) s me e x k h = (k.0, λ r. inl (k.1 r), x)
 
-  where_allowed : (r : ℕ) (t : Trees) (h : Here) (me : Private) (s : SeenLent) → KeepsNoPlace me → PlansNothing (allowed r t h me s)
+  where_allowed : (r : ℕ) (t : Trees) (h : Here) (me : Private) (s : SeenLent) → KeepsNoPlace me → PlansNothing (permitted r t h me s)
   unfolding PlansNothing
-  where_allowed r t h me s k = either PlansNothing (is_refused r (is_some h.place.line)) _ _ (k.0, λ r. inl (k.1 r), tt) (asking (access_of r t) s me (ended_of r t h me s) (asks_here r t) k (ended r t h me s k))
+  where_allowed r t h me s k = either PlansNothing (is_refused r (is_some h.place.line)) _ _ (k.0, λ r. inl (k.1 r), tt) (asking (asked_access r t) s me (ended_of r t h me s) (asks_here r t) k (ended r t h me s k))
 
   unit : (o : Option TreeUnit) (h : Here) (me : Private) (s : SeenLent) → KeepsNoPlace me → PlansNothing (course_at o h me s)
   unfolding PlansNothing
@@ -244,7 +244,7 @@ module _ (here : Option Place × ℕ) (matters : Bool) where
   edits (answer.Locked q) after me h k = (k.0, λ r. inl (k.1 r))
   edits (answer.Refused code) after me h k = (k.0, λ r. inl (k.1 r))
 
-  finishing : (x : Access) (a : Answer) (me : Private) → KeepsNoPlace me → KeepsNothing (finishes x a me)
+  finishing : (x : Access) (a : Answer) (me : Private) → KeepsNoPlace me → KeepsNothing (edit_finishes x a me)
   unfolding KeepsNothing
   finishing (access.ClearAll name homes) a me k = edits a (cleared me) me (k.0, λ r. refl) k
   finishing (access.Erase from to homes) a me k = edits a _ me (k.0, λ r. refl) k
@@ -264,7 +264,7 @@ same_terminal me after is = ap (λ (p : Option Place × ℕ). p.1) is
 planned_here : (me : Private) (s : SeenLent) → PlansNothing (stands me) false (plan me s)
 planned_here me s = at_place (stands me) false me.place me s (refl, λ r. absurd (false_is_true r))
 
-ended_here : (x : Access) (a : Answer) (me : Private) → KeepsNothing (stands me) false (finishes x a me)
+ended_here : (x : Access) (a : Answer) (me : Private) → KeepsNothing (stands me) false (edit_finishes x a me)
 ended_here x a me = finishing (stands me) false x a me (refl, λ r. absurd (false_is_true r))
 
 pub plans_in_place : PlansInPlace plan
@@ -281,11 +281,11 @@ plans_keep_none me s k = (at_place (stands me) true me.place me s (refl, λ r. k
 
 pub finishes_in_place : FinishesInPlace finish
 unfolding KeepsNothing
-finishes_in_place x a me s = same_place me (finishes x a me).me (ended_here x a me).0
+finishes_in_place x a me s = same_place me (edit_finishes x a me).me (ended_here x a me).0
 
 pub finishes_at_terminal : FinishesAtTerminal finish
 unfolding KeepsNothing
-finishes_at_terminal x a me s = same_terminal me (finishes x a me).me (ended_here x a me).0
+finishes_at_terminal x a me s = same_terminal me (edit_finishes x a me).me (ended_here x a me).0
 
 pub finishes_keep_none : FinishesKeepNone finish
 unfolding KeepsNothing

@@ -39,7 +39,7 @@ use Rattle.b2_expr.proofs.RowsRead.{stands_of}
 use Rattle.b2_access.specs.declared.planned.Outcome.TheVariants as outcome
 use Rattle.b2_access.specs.declared.private.Private.{Private}
 use Rattle.b2_stmt.specs.Assignments.{and_then, unless_coded}
-use Rattle.b2_stmt.specs.Marked.{calls_mark, fits, number_called, parameters_of, receivers_in, tail_receivers, take_each, takes, takes_bytes}
+use Rattle.b2_stmt.specs.Marked.{calls_mark, values_fit, number_called, parameters_of, receivers_in, tail_receivers, take_each, takes_values, takes_bytes}
 use Rattle.b2_stmt.specs.Reading.{suits}
 use Rattle.b2_stmt.specs.ReceiverLists.{are_others, past_first, receivers_at}
 use Rattle.b2_access.specs.declared.setting.Setting.{Setting}
@@ -85,19 +85,19 @@ pub kind_is : (t : Text) → is_part row.RECEIVER t ≡ true → takes_bytes (tr
 kind_is t ok = kind_by t (starts Atoms start.Alpha t) ok refl
 
 -- whether values fit receivers, one after another
-pub none_fit : (t : Trees) (ts : List Trees) (xs : List Value) → xs ≡ [] → fits (t ∷ ts) xs ≡ false
-none_fit t ts xs is = ap (fits (t ∷ ts)) is
+pub none_fit : (t : Trees) (ts : List Trees) (xs : List Value) → xs ≡ [] → values_fit (t ∷ ts) xs ≡ false
+none_fit t ts xs is = ap (values_fit (t ∷ ts)) is
 
-pub other_fits : (t : Trees) (ts : List Trees) (x : Value) (xs ys : List Value) → ys ≡ x ∷ xs → suits (takes_bytes t) x ≡ false → fits (t ∷ ts) ys ≡ false
-other_fits t ts x xs ys is other = ap (fits (t ∷ ts)) is ∙ ap (λ (b : Bool). b && fits ts xs) other
+pub other_fits : (t : Trees) (ts : List Trees) (x : Value) (xs ys : List Value) → ys ≡ x ∷ xs → suits (takes_bytes t) x ≡ false → values_fit (t ∷ ts) ys ≡ false
+other_fits t ts x xs ys is other = ap (values_fit (t ∷ ts)) is ∙ ap (λ (b : Bool). b && values_fit ts xs) other
 
-pub same_fits : (t : Trees) (ts : List Trees) (x : Value) (xs ys : List Value) → ys ≡ x ∷ xs → suits (takes_bytes t) x ≡ true → fits (t ∷ ts) ys ≡ fits ts xs
-same_fits t ts x xs ys is same = ap (fits (t ∷ ts)) is ∙ ap (λ (b : Bool). b && fits ts xs) same
+pub same_fits : (t : Trees) (ts : List Trees) (x : Value) (xs ys : List Value) → ys ≡ x ∷ xs → suits (takes_bytes t) x ≡ true → values_fit (t ∷ ts) ys ≡ values_fit ts xs
+same_fits t ts x xs ys is same = ap (values_fit (t ∷ ts)) is ∙ ap (λ (b : Bool). b && values_fit ts xs) same
 
 not_empty : (x : Value) (xs : List Value) → (length (x ∷ xs) == 0) ≡ false
 not_empty x xs = grind (arith, nat_tests)
 
-pub last_fits : (xs : List Value) → fits [] xs ≡ (length xs == 0)
+pub last_fits : (xs : List Value) → values_fit [] xs ≡ (length xs == 0)
 last_fits [] = refl
 last_fits (x ∷ xs) = sym (not_empty x xs)
 
@@ -109,11 +109,11 @@ other_kind (receiver_kind.Alpha to) (value.Number x) vars is = refl
 other_kind (receiver_kind.Alpha to) (value.Alpha bytes) vars is = cc
 
 -- no receivers
-pub no_receivers : (a : Setting) (home : TextState) (xs : List Value) (vars : VarsState) → (length xs == 0) ≡ true → takes a home [] xs vars ≡ record { vars = vars; code = None }
+pub no_receivers : (a : Setting) (home : TextState) (xs : List Value) (vars : VarsState) → (length xs == 0) ≡ true → takes_values a home [] xs vars ≡ record { vars = vars; code = None }
 no_receivers a home [] vars is = refl
 no_receivers a home (x ∷ xs) vars is = absurd (grind (arith, nat_tests))
 
-pub no_values : (a : Setting) (home : TextState) (xs : List Value) (vars : VarsState) → (length xs == 0) ≡ false → takes a home [] xs vars ≡ record { vars = vars; code = Some P35_ARGUMENTS }
+pub no_values : (a : Setting) (home : TextState) (xs : List Value) (vars : VarsState) → (length xs == 0) ≡ false → takes_values a home [] xs vars ≡ record { vars = vars; code = Some P35_ARGUMENTS }
 no_values a home [] vars is = cc
 no_values a home (x ∷ xs) vars is = refl
 
@@ -159,9 +159,9 @@ marked t ok =
       receivers = ap parameters_of r.1 ∙ ap (λ (n : ℕ). tail_receivers (maybe_tree begun row.MARKED_TAIL (drop n (drop 1 t)))) width;
     }
 
-begins : (c : ℕ) (t : Text) (b : Bool) → (first t == c) ≡ b → starts Atoms (start.Code c) t ≡ b
+loop_begins : (c : ℕ) (t : Text) (b : Bool) → (first t == c) ≡ b → starts Atoms (start.Code c) t ≡ b
 unfolding starts
-begins c t b is = is
+loop_begins c t b is = is
 
 -- receivers in parentheses
 opening_begins : (c : ℕ) → (c == byte.opening) ≡ true → (c == byte.quote || c == byte.opening) ≡ true
@@ -177,7 +177,7 @@ no_quote c is = grind (arith, nat_tests)
 tail_here : (t : Text) → maybe_part begun row.MARKED_TAIL t ≡ true → (first t == byte.opening) ≡ true → ReadAs row.MARKED_TAIL row.PARAMETERS second_branch t
 unfolding row_items
 tail_here t ok is =
-    either_second row.MARKED_TAIL row.LITERAL row.PARAMETERS (start.Code byte.quote) t refl (begun_part begun row.MARKED_TAIL t ok (begins_tail t is)) (begins byte.quote t false (no_quote (first t) is))
+    either_second row.MARKED_TAIL row.LITERAL row.PARAMETERS (start.Code byte.quote) t refl (begun_part begun row.MARKED_TAIL t ok (begins_tail t is)) (loop_begins byte.quote t false (no_quote (first t) is))
 
 inner : (t : Text) → is_part row.DEFFN_MARKED t ≡ true → (first (tail t) == byte.opening) ≡ true → is_part row.RECEIVERS (drop 1 (tail t)) ≡ true
 inner t ok is = (stands_of row.PARAMETERS parameter_items (tail t) parameter_row (ReadAs.part (tail_here (tail t) (Marked.part (marked t ok)) is))).0.1.0
@@ -210,7 +210,7 @@ unfolding row_items
 none_by t true it ok is =
     ap tail_receivers (begun_tree begun row.MARKED_TAIL t it)
     ∙ ap (λ (a : Trees). tail_receivers (In 1 a Done))
-    (ReadAs.tree (either_first row.MARKED_TAIL row.LITERAL row.PARAMETERS (start.Code byte.quote) t refl (begun_part begun row.MARKED_TAIL t ok it) (begins byte.quote t true (quote_begins t it is))))
+    (ReadAs.tree (either_first row.MARKED_TAIL row.LITERAL row.PARAMETERS (start.Code byte.quote) t refl (begun_part begun row.MARKED_TAIL t ok it) (loop_begins byte.quote t true (quote_begins t it is))))
 none_by t false it ok is = ap tail_receivers (left_out_tree begun row.MARKED_TAIL t it)
 
 pub no_parameters : (t : Text) → is_part row.DEFFN_MARKED t ≡ true → (first (tail t) == byte.opening) ≡ false → parameters_of (tree_at row.DEFFN_MARKED t) ≡ []

@@ -23,7 +23,7 @@ use Rattle.b2_expr.specs.declared.receiver.Receiver.{Receiver}
 use Rattle.b2_expr.specs.declared.receiver.Receiver.TheVariants as receiver_kind
 use Rattle.b2_expr.proofs.RowsRead.{stands_of}
 use Rattle.b2_stmt.specs.ReceiverLists.{are_others, others_at, past_first, receivers_at}
-use Rattle.b2_stmt.specs.Reading.{Read, and_reads, read_each, reads, reads_one, suits, unless_ended}
+use Rattle.b2_stmt.specs.Reading.{Read, and_reads, read_each, reads_data, reads_one, suits, unless_read_ended}
 use Rattle.b2_access.specs.declared.setting.Setting.{Setting}
 use Rattle.b2_stmt.proofs.Commas.{IsComma, Other, commas, other, item_shorter, items_of_other, no_items_left}
 
@@ -69,8 +69,8 @@ pub read_list : (t : Text) → is_part row.READ t ≡ true → are_others (past_
 read_list t ok = (stands_of row.READ read_items t read_row ok).0.1.1.0
 
 pub read_is : (a : Setting) (home : TextState) (own : Lines) (t : Text) (vars : VarsState) (next : Option (Spot × ℕ)) → is_part row.READ t ≡ true
-    → reads a home own (tree_at row.READ t) vars next ≡ read_each (reads_one a home own) (receivers_at (drop 1 t)) vars next
-read_is a home own t vars next ok = ap (λ (u : Trees). reads a home own u vars next) (stands_of row.READ read_items t read_row ok).1
+    → reads_data a home own (tree_at row.READ t) vars next ≡ read_each (reads_one a home own) (receivers_at (drop 1 t)) vars next
+read_is a home own t vars next ok = ap (λ (u : Trees). reads_data a home own u vars next) (stands_of row.READ read_items t read_row ok).1
 
 -- the first receiver, and the others
 abbrev One : Type 0
@@ -79,9 +79,9 @@ One = Trees → VarsState → Option (Spot × ℕ) → Read
 pub one_more : (one : One) (t : Trees) (ts : List Trees) (old new : VarsState) (from to : Option (Spot × ℕ)) (code : Option ℕ) → record { vars = new; next = to; code = code } ≡ one t old from → code ≡ None
     → read_each one ts new to ≡ read_each one (t ∷ ts) old from
 one_more one t ts old new from to code is none =
-    sym (ap (λ (c : Option ℕ). unless_ended c (record { vars = new; next = to; code = code }) (read_each one ts)) none) ∙ ap (λ (r : Read). and_reads r (read_each one ts)) is
+    sym (ap (λ (c : Option ℕ). unless_read_ended c (record { vars = new; next = to; code = code }) (read_each one ts)) none) ∙ ap (λ (r : Read). and_reads r (read_each one ts)) is
 
 pub one_coded : (one : One) (t : Trees) (ts : List Trees) (old new : VarsState) (from to : Option (Spot × ℕ)) (code : Option ℕ) (c : ℕ) → record { vars = new; next = to; code = code } ≡ one t old from → code ≡ Some c
     → read_each one (t ∷ ts) old from ≡ record { vars = new; next = to; code = code }
 one_coded one t ts old new from to code c is some =
-    sym (ap (λ (r : Read). and_reads r (read_each one ts)) is) ∙ ap (λ (o : Option ℕ). unless_ended o (record { vars = new; next = to; code = code }) (read_each one ts)) some
+    sym (ap (λ (r : Read). and_reads r (read_each one ts)) is) ∙ ap (λ (o : Option ℕ). unless_read_ended o (record { vars = new; next = to; code = code }) (read_each one ts)) some

@@ -35,7 +35,7 @@ use Rattle.b2_text.proofs.Statements.{chosen_of, data_is}
 use Rattle.b2_access.specs.Placed.{statement_of, statement_on}
 use Rattle.b2_expr.proofs.RowsRead.{part_short}
 use Rattle.b2_stmt.specs.Assignments.{items_after}
-use Rattle.b2_stmt.specs.Data.{data_at, datum_value, first_literal, listed, literal_at, literals_at, literals_in, literals_of, next_literal, read_at, unit_after}
+use Rattle.b2_stmt.specs.Data.{data_at, datum_value, first_literal, literals_listed, literal_at, literals_at, literals_in, literals_of, next_literal, read_at, unit_after}
 use Rattle.b2_stmt.specs.Lines.{commas}
 use Rattle.b2_stmt.specs.ReadingOrder.{AreLines, ReadsInOrder, text_literals, unit_literals, values_from, values_read}
 use Rattle.b2_stmt.specs.declared.data.Literal.{Literal}
@@ -92,9 +92,9 @@ data_few t ok =
 equal : (a b : ℕ) → (a == b) ≡ true → a ≡ b
 equal a b h = grind (arith, nat_tests)
 
-some_of_data : (bytes : Text) (t : Trees) → is_part row.DATA bytes ≡ true → tree_at row.DATA bytes ≡ t → IsSome (listed t)
+some_of_data : (bytes : Text) (t : Trees) → is_part row.DATA bytes ≡ true → tree_at row.DATA bytes ≡ t → IsSome (literals_listed t)
 some_of_data bytes t ok is =
-    let same : listed t ≡ data_at (drop 1 bytes) = sym (ap listed is) ∙ listed_is bytes ok in
+    let same : literals_listed t ≡ data_at (drop 1 bytes) = sym (ap literals_listed is) ∙ listed_is bytes ok in
     record {
       head = tree_at row.DATUM (drop 1 bytes);
       tail = items_after (also (list_at commas row.COMMA_DATUM (after_part row.DATUM (drop 1 bytes))) Done);
@@ -106,7 +106,7 @@ unit_some : (u : TreeUnit) → IsRowOnTree u → (u.row == row.DATA) ≡ true �
 unit_some u h is =
     let same = equal u.row row.DATA is in
     let some = some_of_data (atoms u.tree) u.tree (subst (λ (n : ℕ). is_part n (atoms u.tree) ≡ true) same (IsRow.part h)) (sym (ap (λ (n : ℕ). tree_at n (atoms u.tree)) same) ∙ IsRow.tree h) in
-    subst IsSome (sym (ap (λ (b : Bool). if b then listed u.tree else []) is)) some
+    subst IsSome (sym (ap (λ (b : Bool). if b then literals_listed u.tree else []) is)) some
 
 -- the DATA among the units of a line
 abbrev is_data_row : TreeUnit → Bool
@@ -153,7 +153,7 @@ FoundBy us left None = left ≡ []
 FoundBy us left (Some k) = Found us left k
 
 no_literals : (u : TreeUnit) → is_data_row u ≡ false → literals_of u.row u.tree ≡ []
-no_literals u is = ap (λ (b : Bool). if b then listed u.tree else []) is
+no_literals u is = ap (λ (b : Bool). if b then literals_listed u.tree else []) is
 
 found : (us : List TreeUnit) (i : ℕ) (vs : List TreeUnit) → All IsRowOnTree vs → drop i us ≡ vs → FoundBy us (unit_literals vs) (position_from is_data_row i vs)
 unfolding FoundBy

@@ -55,8 +55,8 @@ abbrev pub past_number : Text → Text
 past_number t = drop (digits_width (drop 1 t)) (drop 1 t)
 
 -- values before others, or the code in the place of those
-abbrev pub before : List Value → Result (List Value) ℕ → Result (List Value) ℕ
-before xs answer = answer >>= (λ ys. Ok (xs ++ ys))
+abbrev pub values_before : List Value → Result (List Value) ℕ → Result (List Value) ℕ
+values_before xs answer = answer >>= (λ ys. Ok (xs ++ ys))
 
 -- a code in the place of values; memory may fail
 abbrev pub Refuses : {A : Type 0} → Result A ℕ → Fault → Type 0

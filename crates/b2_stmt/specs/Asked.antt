@@ -19,9 +19,9 @@ use Rattle.b2_access.specs.declared.private.Private.{Private}
 use Rattle.b2_stmt.specs.Branches.{goto_goal, if_goal, passed_function}
 use Rattle.b2_stmt.specs.Calls.{called_where, forgets, goes_back, has_all, line_called}
 use Rattle.b2_stmt.specs.Choices.{choice_in}
-use Rattle.b2_stmt.specs.Course.{clears, continues, line_to_restore, line_to_run, restores, runs, selects, stop_text, stops, text_in}
+use Rattle.b2_stmt.specs.Course.{clears_variables, continues, line_to_restore, line_to_run, restores, runs, selects, stop_text, stops_program, text_of_stop}
 use Rattle.b2_access.specs.Going.{to_found, to_goal, to_line}
-use Rattle.b2_stmt.specs.Loops.{begins, counter_in, loop_in, nexts, scalar_of}
+use Rattle.b2_stmt.specs.Loops.{loop_begins, counter_in, loop_in, nexts, scalar_of}
 use Rattle.b2_stmt.specs.Arguments.{arguments, operands_of}
 use Rattle.b2_stmt.specs.Marked.{calls_mark, mark_place, number_called}
 use Rattle.b2_access.specs.Planning.{Ended, stays}
@@ -46,14 +46,14 @@ asks_loop (Ok l) body = asked.Begin l body
 asks_loop (Err code) body = asked.Nothing (outcome.Failed code)
 
 -- ON: to the line that is chosen, or a call of it in a program; out of range it goes on
-abbrev pub chosen : Bool → Option ℕ → Here → Lines → Asked
-chosen true None h lines = asked.Nothing outcome.Next
-chosen true (Some n) h lines = asked.Nothing (to_line lines h.place n)
-chosen false None h lines = asked.Nothing outcome.Next
-chosen false (Some n) h lines = if is_some h.place.line then asked.Call n (place_after h lines) else asked.Nothing (outcome.Failed S26_PROGRAM_ONLY)
+abbrev pub line_chosen : Bool → Option ℕ → Here → Lines → Asked
+line_chosen true None h lines = asked.Nothing outcome.Next
+line_chosen true (Some n) h lines = asked.Nothing (to_line lines h.place n)
+line_chosen false None h lines = asked.Nothing outcome.Next
+line_chosen false (Some n) h lines = if is_some h.place.line then asked.Call n (place_after h lines) else asked.Nothing (outcome.Failed S26_PROGRAM_ONLY)
 
 abbrev pub asks_choice : Result (Bool × Option ℕ) ℕ → Here → Lines → Asked
-asks_choice (Ok p) h lines = chosen p.0 p.1 h lines
+asks_choice (Ok p) h lines = line_chosen p.0 p.1 h lines
 asks_choice (Err code) h lines = asked.Nothing (outcome.Failed code)
 
 -- GOSUB': a call of the DEFFN' of a number, which passes values
@@ -84,7 +84,7 @@ asked_of r t h s lines =
     else (if r == row.GOSUB then asked.Call (line_called t) (place_after h lines)
     else (if r == row.RETURN then asked.Return
     else (if r == row.RETURN_CLEAR then asked.Forget (has_all t)
-    else (if r == row.STOP then asked.Stop (stop_text (text_in t)) (place_after h lines)
+    else (if r == row.STOP then asked.Stop (stop_text (text_of_stop t)) (place_after h lines)
     else (if r == row.SELECT then asked.Select Round
     else (if r == row.SELECT_NO_ROUND then asked.Select Cut
     else (if r == row.RUN then asked.Run (line_to_run t)
@@ -99,17 +99,17 @@ asked_of r t h s lines =
 -- what becomes of the private state
 abbrev pub carried : Asked → Place → Private → Lines → Lines → Ended
 carried (asked.Nothing o) p me own home = stays me o
-carried (asked.Begin l body) p me own home = begins l body me
+carried (asked.Begin l body) p me own home = loop_begins l body me
 carried (asked.Next v) p me own home = nexts v me
 carried (asked.Call n back) p me own home = called_where (line_at n home) (line_start p n) back me
 carried asked.Return p me own home = goes_back me
 carried (asked.Forget all) p me own home = forgets all p me
-carried (asked.Stop shown after) p me own home = stops shown p after me
+carried (asked.Stop shown after) p me own home = stops_program shown p after me
 carried (asked.Select mode) p me own home = selects mode me
 carried (asked.Run n) p me own home = runs n own me
 carried asked.Continue p me own home = continues me.kept me
 carried (asked.Restore n) p me own home = restores n own me
-carried (asked.Clear common) p me own home = clears common me
+carried (asked.Clear common) p me own home = clears_variables common me
 carried (asked.CallMark n args back) p me own home = calls_mark (mark_place n p me.part own home) args back me
 
 -- what is known of the names in it

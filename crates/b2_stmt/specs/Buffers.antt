@@ -31,12 +31,12 @@ with_changed change (buffer_kind.Value to) old = with_portion to (reached_by to 
 with_changed change (buffer_kind.Array a) old = with_bytes_of a.var 0 old (change (variable_at a.var old.table).bytes)
 
 -- or nothing is, where it has a code
-abbrev pub changed : (List ℕ → List ℕ) → Buffer → VarsState → Assigned
-changed change to old = unless_refused (buffer_code to old) old (record { vars = with_changed change to old; code = None })
+abbrev pub bytes_changed : (List ℕ → List ℕ) → Buffer → VarsState → Assigned
+bytes_changed change to old = unless_refused (buffer_code to old) old (record { vars = with_changed change to old; code = None })
 
 -- each byte becomes the same
-abbrev pub filled : ℕ → List ℕ → List ℕ
-filled b bytes = replicate (length bytes) b
+abbrev pub all_filled : ℕ → List ℕ → List ℕ
+all_filled b bytes = replicate (length bytes) b
 
 -- INIT: the byte between the parentheses, and the buffers that are filled with it
 abbrev pub byte_of_init : Trees → ℕ
@@ -48,7 +48,7 @@ buffers_of_init (Put word (In n pair (Put closing buffers))) = items_of buffers
 buffers_of_init t = []
 
 abbrev pub fills : ℕ → Result Buffer ℕ → VarsState → Assigned
-fills b (Ok to) vars = changed (filled b) to vars
+fills b (Ok to) vars = bytes_changed (all_filled b) to vars
 fills b (Err code) vars = record { vars = vars; code = Some code }
 
 abbrev pub fills_one : Setting → TextState → ℕ → Trees → VarsState → Assigned
@@ -70,7 +70,7 @@ turn_in s (Put rotate (In n (In m receiver (Put comma (In k sum end))) close)) =
 turn_in s t = Err S20_VARIABLE
 
 abbrev pub turns : Result Turn ℕ → VarsState → Assigned
-turns (Ok turn) vars = changed (rotated turn.whole turn.bits) (buffer_kind.Value turn.to) vars
+turns (Ok turn) vars = bytes_changed (rotated turn.whole turn.bits) (buffer_kind.Value turn.to) vars
 turns (Err code) vars = record { vars = vars; code = Some code }
 
 abbrev pub rotates : Setting → TextState → Trees → VarsState → Assigned

@@ -15,9 +15,9 @@ abbrev pub lines_after : Trees → List ℕ
 lines_after (In n (Put comma line) more) = line_in line ∷ lines_after more
 lines_after t = []
 
-abbrev pub lines_listed : Trees → List ℕ
-lines_listed (Put line more) = line_in (Put line more) ∷ lines_after more
-lines_listed t = []
+abbrev pub lines_in_list : Trees → List ℕ
+lines_in_list (Put line more) = line_in (Put line more) ∷ lines_after more
+lines_in_list t = []
 
 -- the one that a number without its fraction counts, from 1 on
 abbrev pub counted_line : Option ℤ → List ℕ → Option ℕ
@@ -25,10 +25,10 @@ counted_line (Some (pos n)) lines = if n == 0 then None else slice_get lines (n 
 counted_line z lines = None
 
 abbrev pub lines_of : Trees → List ℕ
-lines_of (Put word lines) = lines_listed lines
+lines_of (Put word lines) = lines_in_list lines
 lines_of t = []
 
 -- whether ON goes there or calls, and the line that is chosen
 abbrev pub choice_in : Context → Trees → Result (Bool × Option ℕ) ℕ
-choice_in s (Put word (In m sum (In n listed end))) = value s level.Sum sum >>= (λ x. Ok (n == 1, counted_line (fixed x) (lines_of listed)))
+choice_in s (Put word (In m sum (In n literals_listed end))) = value s level.Sum sum >>= (λ x. Ok (n == 1, counted_line (fixed x) (lines_of literals_listed)))
 choice_in s t = Err S17_NUMERIC

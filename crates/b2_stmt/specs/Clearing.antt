@@ -37,13 +37,13 @@ abbrev pub erases_range : Trees → Access
 erases_range (In n lines end) = if n == 1 then erases_lines lines else access.Erase 0 9999 0
 erases_range t = access.Erase 0 9999 0
 
-abbrev pub erases : Trees → Access
-erases (Put word (Put letter range)) = erases_range range
-erases t = access.Erase 0 9999 0
+abbrev pub asks_to_erase : Trees → Access
+asks_to_erase (Put word (Put letter range)) = erases_range range
+asks_to_erase t = access.Erase 0 9999 0
 
 -- the access that a statement asks for, where it asks for one
-abbrev pub access_of : ℕ → Trees → Option Access
-access_of r t = if r == row.CLEAR then Some (access.ClearAll None 0) else (if r == row.CLEAR_P then Some (erases t) else None)
+abbrev pub asked_access : ℕ → Trees → Option Access
+asked_access r t = if r == row.CLEAR then Some (access.ClearAll None 0) else (if r == row.CLEAR_P then Some (asks_to_erase t) else None)
 
 -- all is cleared: the text and the `@` variables by the access, and then the variables and the frames; it is shown to be ready
 abbrev pub cleared : Private → Private
@@ -55,7 +55,7 @@ edited answer.Done after me = record { me = after; outcome = outcome.Ready }
 edited (answer.Locked q) after me = stays me (outcome.Failed A08_TEXT_BORROWED)
 edited a after me = stays me outcome.Repeat
 
-abbrev pub finishes : Access → Answer → Private → Ended
-finishes (access.ClearAll name homes) a me = edited a (cleared me) me
-finishes (access.Erase from to homes) a me = edited a (without_frames me) me
-finishes x a me = stays me outcome.Repeat
+abbrev pub edit_finishes : Access → Answer → Private → Ended
+edit_finishes (access.ClearAll name homes) a me = edited a (cleared me) me
+edit_finishes (access.Erase from to homes) a me = edited a (without_frames me) me
+edit_finishes x a me = stays me outcome.Repeat

@@ -31,30 +31,30 @@ abbrev pub stop_text : Option (List ℕ) → List ℕ
 stop_text None = codes "STOP" ++ byte.newline ∷ []
 stop_text (Some text) = codes "STOP" ++ byte.blank ∷ (text ++ byte.newline ∷ [])
 
-abbrev pub text_in : Trees → Option (List ℕ)
-text_in (Put word (In n (Put (Plain k text) end) more)) = Some (literal_of text)
-text_in t = None
+abbrev pub text_of_stop : Trees → Option (List ℕ)
+text_of_stop (Put word (In n (Put (Plain k text) end) more)) = Some (literal_of text)
+text_of_stop t = None
 
 -- in a program the place after it is kept; in an immediate line what was kept stays
 abbrev pub kept_after : Place → Option Place → Option Place → Option Place
 kept_after p after kept = if is_some p.line then after else kept
 
-abbrev pub stops : List ℕ → Place → Option Place → Private → Ended
-stops shown p after me = record {
+abbrev pub stops_program : List ℕ → Place → Option Place → Private → Ended
+stops_program shown p after me = record {
   me = record me { pending = Some (terminal_address, shown); kept = kept_after p after me.kept };
   outcome = outcome.Ready;
 }
 
 -- the program begins anew: the variables that aren't common, the frames, the last code, the place of READ and what was kept go
-abbrev pub fresh : Private → Private
-fresh me = record me { vars = record me.vars { table = common_only me.vars.table }; stack = []; kept = None; args = None; last = 0; next_data = None }
+abbrev pub begun_anew : Private → Private
+begun_anew me = record me { vars = record me.vars { table = common_only me.vars.table }; stack = []; kept = None; args = None; last = 0; next_data = None }
 
 abbrev pub own_line : ℕ → Private → Place
 own_line n me = record { home = me.part; line = Some n; unit = 0 }
 
 abbrev pub runs_from : Option ℕ → Private → Ended
-runs_from None me = record { me = fresh me; outcome = outcome.Ready }
-runs_from (Some n) me = record { me = fresh me; outcome = outcome.Jump (own_line n me) }
+runs_from None me = record { me = begun_anew me; outcome = outcome.Ready }
+runs_from (Some n) me = record { me = begun_anew me; outcome = outcome.Jump (own_line n me) }
 
 -- RUN with a line: P36 comes before anything else
 abbrev pub runs_where : Option (List ℕ) → ℕ → Private → Ended
@@ -88,5 +88,5 @@ line_to_restore (Put word (In n (Put line_word line) end)) = if n == 1 then Some
 line_to_restore t = None
 
 -- CLEAR V, which takes the common variables too, and CLEAR N
-abbrev pub clears : Bool → Private → Ended
-clears common me = record { me = record me { vars = record me.vars { table = if common then map.empty else common_only me.vars.table } }; outcome = outcome.Next }
+abbrev pub clears_variables : Bool → Private → Ended
+clears_variables common me = record { me = record me { vars = record me.vars { table = if common then map.empty else common_only me.vars.table } }; outcome = outcome.Next }

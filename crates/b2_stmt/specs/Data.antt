@@ -32,20 +32,20 @@ datum_value (In n (Put (Plain k w) end) more) = spelled_value n w
 datum_value t = Err S16_NUMBER_LITERAL
 
 -- the bytes of a literal in quotes at a text
-abbrev pub bytes_at : Text → List ℕ
-bytes_at t = literal_of (leaf_bytes leaf.Literal t)
+abbrev pub literal_bytes_at : Text → List ℕ
+literal_bytes_at t = literal_of (leaf_bytes leaf.Literal t)
 
 -- the literals at a text, with commas between them
 abbrev pub data_at : Text → List Trees
 data_at t = tree_at row.DATUM t ∷ items_after (also (list_at commas row.COMMA_DATUM (after_part row.DATUM t)) Done)
 
 -- the literals of a unit; none where it is no DATA
-abbrev pub listed : Trees → List Trees
-listed (Put word literals) = items_of literals
-listed t = []
+abbrev pub literals_listed : Trees → List Trees
+literals_listed (Put word literals) = items_of literals
+literals_listed t = []
 
 abbrev pub literals_of : ℕ → Trees → List Trees
-literals_of r t = if r == row.DATA then listed t else []
+literals_of r t = if r == row.DATA then literals_listed t else []
 
 abbrev pub literals_in : Option Statement → List Trees
 literals_in None = []

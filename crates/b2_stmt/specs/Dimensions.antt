@@ -83,12 +83,12 @@ shape_after s alpha n t = if n == 1 then array_shape s alpha t else lone_shape s
 abbrev pub entry_of : Context → Name → ℕ → Trees → Result Entry ℕ
 entry_of s name n t = variables_of s.around name >>= (λ vars. shape_after s name.alpha n t >>= (λ shape. Ok (record { var = variable_of name (n == 1); shape = shape })))
 
-unfoldable pub named_entry : Context → Bool → Trees → Result Entry ℕ
-named_entry s alpha (Put token (In n t end)) = entry_of s (variable_name alpha (token_text token)) n t
-named_entry s alpha t = Err S20_VARIABLE
+unfoldable pub entry_named : Context → Bool → Trees → Result Entry ℕ
+entry_named s alpha (Put token (In n t end)) = entry_of s (variable_name alpha (token_text token)) n t
+entry_named s alpha t = Err S20_VARIABLE
 
 unfoldable pub entry_in : Context → Trees → Result Entry ℕ
-entry_in s (In n a end) = named_entry s (n == 1) a
+entry_in s (In n a end) = entry_named s (n == 1) a
 entry_in s t = Err S20_VARIABLE
 
 -- what makes it, with COM as a common variable
@@ -106,9 +106,9 @@ makes_found common (Err code) vars = record { vars = vars; code = Some code }
 abbrev pub makes_one : Setting → TextState → Bool → Trees → VarsState → Assigned
 makes_one a home common t vars = makes_found common (entry_in (in_statement (surroundings_of a vars home)) t) vars
 
-abbrev pub is_common : Trees → Bool
-is_common (Put dim entries) = token_code dim == word.COM
-is_common t = false
+abbrev pub is_com : Trees → Bool
+is_com (Put dim entries) = token_code dim == word.COM
+is_com t = false
 
 abbrev pub entries_of : Trees → List Trees
 entries_of (Put dim entries) = items_of entries
@@ -116,4 +116,4 @@ entries_of t = []
 
 -- they are made from left to right, each among the variables as they then are
 abbrev pub dimensions : Setting → TextState → Trees → VarsState → Assigned
-dimensions a home t vars = assign_each (makes_one a home (is_common t)) (entries_of t) vars
+dimensions a home t vars = assign_each (makes_one a home (is_com t)) (entries_of t) vars

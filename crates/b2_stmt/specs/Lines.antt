@@ -9,7 +9,7 @@ use Rattle.b2_atom.specs.declared.rows.TheConstants as row
 use Rattle.b2_atom.specs.declared.forms.Start.{Start}
 use Rattle.b2_atom.specs.declared.forms.Start.TheVariants as start
 use Rattle.b2_rows.specs.Rows.{list_at}
-use Rattle.b2_stmt.specs.Choices.{lines_listed}
+use Rattle.b2_stmt.specs.Choices.{lines_in_list}
 
 abbrev pub commas : Start
 commas = start.Code byte.comma
@@ -19,4 +19,4 @@ abbrev pub list_tree : Text → Trees
 list_tree t = Put (Lined (get_or t 1 0) (get_or t 2 0)) (also (list_at commas row.COMMA_LINE (drop 3 t)) Done)
 
 abbrev pub lines_at : Text → List ℕ
-lines_at t = lines_listed (list_tree t)
+lines_at t = lines_in_list (list_tree t)

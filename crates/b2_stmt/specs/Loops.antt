@@ -36,8 +36,8 @@ counter name = record { letter = name.letter; digit = name.digit }
 abbrev pub scalar_of : Var2 → Var
 scalar_of v = record { letter = v.letter; digit = v.digit; alpha = false; array = false }
 
-abbrev pub counted : Var2 → Element
-counted v = record { global = false; var = scalar_of v; row = 0; column = 0 }
+abbrev pub loop_element : Var2 → Element
+loop_element v = record { global = false; var = scalar_of v; row = 0; column = 0 }
 
 -- the step that is written, or 1
 abbrev pub step_in : Context → ℕ → Trees → Answer
@@ -62,11 +62,11 @@ made_loop None l body me = with_frame (For l.var l.limit l.step body) outcome.Ne
 abbrev pub begins_by : Assigned → Loop → Place → Private → Ended
 begins_by a l body me = made_loop a.code l body (record me { vars = a.vars })
 
-abbrev pub begins : Loop → Place → Private → Ended
-begins l body me = begins_by (assigned_number (counted l.var) l.from me.vars) l body me
+abbrev pub loop_begins : Loop → Place → Private → Ended
+loop_begins l body me = begins_by (assigned_number (loop_element l.var) l.from me.vars) l body me
 
 abbrev pub begins_or : Result Loop ℕ → Place → Private → Ended
-begins_or (Ok l) body me = begins l body me
+begins_or (Ok l) body me = loop_begins l body me
 begins_or (Err code) body me = stays me (outcome.Failed code)
 
 -- whether a loop is over: its variable is past the limit in the direction of its step
@@ -81,9 +81,9 @@ tested None over body me = if over then record { me = record me { stack = withou
 abbrev pub tested_by : Assigned → Bool → Place → Private → Ended
 tested_by a over body me = tested a.code over body (record me { vars = a.vars })
 
-abbrev pub counts : Answer → Var2 → Number → Number → Place → Private → Ended
-counts (Ok x) v limit step body me = tested_by (assigned_number (counted v) x me.vars) (is_over x limit step) body me
-counts (Err code) v limit step body me = stays me (outcome.Failed code)
+abbrev pub loop_counts : Answer → Var2 → Number → Number → Place → Private → Ended
+loop_counts (Ok x) v limit step body me = tested_by (assigned_number (loop_element v) x me.vars) (is_over x limit step) body me
+loop_counts (Err code) v limit step body me = stays me (outcome.Failed code)
 
 -- the value that the variable has, and the step
 abbrev pub next_value : Mode → Answer → Number → Answer
@@ -91,7 +91,7 @@ next_value mode x step = x >>= (λ n. sum_of mode n step)
 
 abbrev pub goes_round : Option (Number × Number × Place) → Var2 → Private → Ended
 goes_round None v me = stays me (outcome.Failed P40_NO_FOR)
-goes_round (Some p) v me = counts (next_value me.mode (number_there (record { vars = me.vars; element = counted v })) p.1) v p.0 p.1 p.2 me
+goes_round (Some p) v me = loop_counts (next_value me.mode (number_there (record { vars = me.vars; element = loop_element v })) p.1) v p.0 p.1 p.2 me
 
 -- NEXT: the loops above the one of its variable are dropped before anything else
 abbrev pub nexts : Var2 → Private → Ended

@@ -68,10 +68,10 @@ abbrev pub takes_bytes : Trees → Bool
 takes_bytes (In n receiver end) = n == 1
 takes_bytes t = false
 
-abbrev pub fits : List Trees → List Value → Bool
-fits [] [] = true
-fits (t ∷ ts) (x ∷ xs) = suits (takes_bytes t) x && fits ts xs
-fits ts xs = false
+abbrev pub values_fit : List Trees → List Value → Bool
+values_fit [] [] = true
+values_fit (t ∷ ts) (x ∷ xs) = suits (takes_bytes t) x && values_fit ts xs
+values_fit ts xs = false
 
 -- a receiver takes a value; it is located among the variables as they then are
 abbrev pub value_to : Result Receiver ℕ → Value → VarsState → Assigned
@@ -88,8 +88,8 @@ take_each one (t ∷ ts) [] vars = record { vars = vars; code = None }
 take_each one (t ∷ ts) (x ∷ xs) vars = and_then (one t x vars) (take_each one ts xs)
 
 -- number and kinds are compared as a whole before any receiver takes its value
-abbrev pub takes : Setting → TextState → List Trees → List Value → VarsState → Assigned
-takes a home ts xs vars = if fits ts xs then take_each (takes_value a home) ts xs vars else record { vars = vars; code = Some P35_ARGUMENTS }
+abbrev pub takes_values : Setting → TextState → List Trees → List Value → VarsState → Assigned
+takes_values a home ts xs vars = if values_fit ts xs then take_each (takes_value a home) ts xs vars else record { vars = vars; code = Some P35_ARGUMENTS }
 
 -- the values are used up, also where a receiver has a code
 abbrev pub used_up : Assigned → Private → Ended
@@ -98,4 +98,4 @@ used_up a me = record { me = record me { vars = a.vars; args = None }; outcome =
 -- DEFFN': where no call waits for it, nothing
 abbrev pub takes_args : Option (List Value) → TextState → Trees → Private → Ended
 takes_args None home t me = stays me outcome.Next
-takes_args (Some xs) home t me = used_up (takes (setting_of me) home (parameters_of t) xs me.vars) me
+takes_args (Some xs) home t me = used_up (takes_values (setting_of me) home (parameters_of t) xs me.vars) me

@@ -16,10 +16,10 @@ use Rattle.b2_access.specs.Lending.{SeenLent}
 use Rattle.b2_stmt.specs.Around.{around}
 use Rattle.b2_access.specs.Partition.{setting_of}
 use Rattle.b2_stmt.specs.Asked.{Here, asked_of, carried}
-use Rattle.b2_stmt.specs.Clearing.{access_of, finishes}
+use Rattle.b2_stmt.specs.Clearing.{asked_access, edit_finishes}
 use Rattle.b2_stmt.specs.OnVariables.{is_on_variables, on_variables}
 use Rattle.b2_stmt.specs.Marked.{takes_args}
-use Rattle.b2_stmt.specs.Reading.{reads, with_read}
+use Rattle.b2_stmt.specs.Reading.{reads_data, with_read}
 use Rattle.b2_access.specs.Planning.{Ended, Finishing, Planning, asks, done, finished, goes_or, stays}
 
 -- statements for programs alone, and those for immediate lines alone
@@ -42,7 +42,7 @@ with_assigned a me = record { me = record me { vars = a.vars }; outcome = goes_o
 abbrev pub ended_of : ℕ → Trees → Here → Private → SeenLent → Ended
 ended_of r t h me s =
     if is_on_variables r then with_assigned (on_variables r (setting_of me) s.home t me.vars) me
-    else (if r == row.READ then with_read (reads (setting_of me) s.home s.own.lines t me.vars me.next_data) me
+    else (if r == row.READ then with_read (reads_data (setting_of me) s.home s.own.lines t me.vars me.next_data) me
     else (if r == row.DEFFN_MARKED then takes_args me.args s.home t me
     else carried (asked_of r t h (around me s.home) s.home.lines) h.place me s.own.lines s.home.lines))
 
@@ -52,15 +52,15 @@ by_access None s me e = done s e
 by_access (Some a) s me e = asks s me a
 
 abbrev pub course_of : ℕ → Trees → Here → Private → SeenLent → Planning
-course_of r t h me s = by_access (access_of r t) s me (ended_of r t h me s)
+course_of r t h me s = by_access (asked_access r t) s me (ended_of r t h me s)
 
-abbrev pub allowed : ℕ → Trees → Here → Private → SeenLent → Planning
-allowed r t h me s = if is_refused r (is_some h.place.line) then done s (stays me (outcome.Failed S26_PROGRAM_ONLY)) else course_of r t h me s
+abbrev pub permitted : ℕ → Trees → Here → Private → SeenLent → Planning
+permitted r t h me s = if is_refused r (is_some h.place.line) then done s (stays me (outcome.Failed S26_PROGRAM_ONLY)) else course_of r t h me s
 
 -- a unit that isn't there ends the program or the immediate line
 abbrev pub course_at : Option TreeUnit → Here → Private → SeenLent → Planning
 course_at None h me s = done s (stays me outcome.Ready)
-course_at (Some u) h me s = allowed u.row u.tree h me s
+course_at (Some u) h me s = permitted u.row u.tree h me s
 
 abbrev pub course_in : Option (List ℕ) → Place → Private → SeenLent → Planning
 course_in None p me s = done s (stays me outcome.Ready)
@@ -81,7 +81,7 @@ plan me s = course me.place me s
 
 -- how it finishes, by the access that it asked for and its answer
 abbrev pub finish : Access → Answer → Private → SeenLent → Finishing
-finish x a me s = finished s (finishes x a me)
+finish x a me s = finished s (edit_finishes x a me)
 
 -- the rows that this crate builds
 abbrev pub is_built : ℕ → Bool

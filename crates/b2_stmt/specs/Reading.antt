@@ -71,12 +71,12 @@ abbrev pub reads_one : Setting → TextState → Lines → Trees → VarsState �
 reads_one a home own t vars next = reads_to (any_receiver (in_statement (surroundings_of a vars home)) t) own vars next
 
 -- receivers from left to right, up to one with a code
-abbrev pub unless_ended : Option ℕ → Read → (VarsState → Option (Spot × ℕ) → Read) → Read
-unless_ended None r rest = rest r.vars r.next
-unless_ended (Some code) r rest = r
+abbrev pub unless_read_ended : Option ℕ → Read → (VarsState → Option (Spot × ℕ) → Read) → Read
+unless_read_ended None r rest = rest r.vars r.next
+unless_read_ended (Some code) r rest = r
 
 abbrev pub and_reads : Read → (VarsState → Option (Spot × ℕ) → Read) → Read
-and_reads r rest = unless_ended r.code r rest
+and_reads r rest = unless_read_ended r.code r rest
 
 abbrev pub read_each : (Trees → VarsState → Option (Spot × ℕ) → Read) → List Trees → VarsState → Option (Spot × ℕ) → Read
 read_each one [] vars next = record { vars = vars; next = next; code = None }
@@ -86,8 +86,8 @@ abbrev pub receivers_of : Trees → List Trees
 receivers_of (Put word receivers) = items_of receivers
 receivers_of t = []
 
-abbrev pub reads : Setting → TextState → Lines → Trees → VarsState → Option (Spot × ℕ) → Read
-reads a home own t vars next = read_each (reads_one a home own) (receivers_of t) vars next
+abbrev pub reads_data : Setting → TextState → Lines → Trees → VarsState → Option (Spot × ℕ) → Read
+reads_data a home own t vars next = read_each (reads_one a home own) (receivers_of t) vars next
 
 -- what becomes of the private state
 abbrev pub with_read : Read → Private → Ended

@@ -17,7 +17,7 @@ use b2_rows::{is_alpha_at, is_at};
 use std::alloc::Global;
 
 /// The bytes of the argument at a text, and what stands after it.
-fn bytes_at<'a>(e: &Env<'_>, text: &'a [u8]) -> Result<(Value, &'a [u8]), Code>
+fn literal_bytes_at<'a>(e: &Env<'_>, text: &'a [u8]) -> Result<(Value, &'a [u8]), Code>
     requires part { is_part row.ALPHA text.now ≡ true }
     ensures { MatchResult result (λ p. (spec.alpha_argument (in_statement (surroundings e.now)) (tree_at row.ALPHA text.now) ≡ Ok p.0) × (p.1.now ≡ after_part row.ALPHA text.now)) (λ code. spec.alpha_argument (in_statement (surroundings e.now)) (tree_at row.ALPHA text.now) ≡ Err code) }
 {
@@ -48,7 +48,7 @@ fn argument<'a>(e: &Env<'_>, text: &'a [u8]) -> Result<(Value, &'a [u8]), Code>
     ensures { MatchResult result (λ p. (spec.argument (in_statement (surroundings e.now)) (tree_at row.OPERAND_OF_ANY_KIND text.now) ≡ Ok p.0) × (p.1.now ≡ past_operand text.now)) (λ code. spec.argument (in_statement (surroundings e.now)) (tree_at row.OPERAND_OF_ANY_KIND text.now) ≡ Err code) }
 {
     if is_alpha_at(text) {
-        bytes_at(e, text)
+        literal_bytes_at(e, text)
     } else {
         number_at(e, text)
     }

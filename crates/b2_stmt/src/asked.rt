@@ -12,7 +12,7 @@ ghost use Rattle.b2_stmt.specs.Branches.{if_goal as if_goal_of};
 ghost use Rattle.b2_stmt.specs.Choices.{choice_in};
 ghost use Rattle.b2_access.specs.Going.{to_found};
 ghost use Rattle.b2_stmt.specs.Loops.{loop_in};
-ghost use Rattle.b2_stmt.specs.Course.{stop_text as shown_by_stop, text_in};
+ghost use Rattle.b2_stmt.specs.Course.{stop_text as shown_by_stop, text_of_stop};
 ghost use Rattle.b2_stmt.specs.Asked as spec;
 ghost use Rattle.b2_stmt.specs.Asked.{IsNamed};
 
@@ -25,7 +25,7 @@ use crate::course::{
     clear, line_to_restore, line_to_run, restore, resume, run, select, stop, stop_text,
     text_of_stop,
 };
-use crate::loops::{Loop, begin, counter_at, loop_at, next};
+use crate::loops::{Loop, begin_loop, counter_at, loop_at, next};
 use crate::marked::{call_mark, number_called};
 use b2_access::{
     Outcome, Private, Setting, failed, failing, place_after, to_found, to_goal, to_line,
@@ -105,9 +105,9 @@ fn ask_loop<'a>(vars: &'a Vars, a: &Setting, home: &'a Text, unit: &[u8], body: 
 }
 
 /// What ON asks for, by the line that was chosen.
-fn chosen(goto: bool, line: Option<u16>, home: &Text, atoms: &Atoms, place: Place) -> Asked
+fn line_chosen(goto: bool, line: Option<u16>, home: &Text, atoms: &Atoms, place: Place) -> Asked
     requires few { place.unit < 255 }
-    ensures asked { result ≡ spec.chosen goto line (record { place = place; units = tree_units atoms.now }) home.now.lines }
+    ensures asked { result ≡ spec.line_chosen goto line (record { place = place; units = tree_units atoms.now }) home.now.lines }
     ensures named { IsNamed result }
 {
     match (goto, line) {
@@ -142,7 +142,7 @@ fn ask_choice<'a>(
         ..surroundings_of(a, vars, home)
     };
     match choice_at(&e, unit) {
-        Ok((goto, n)) => chosen(goto, n, home, line, place),
+        Ok((goto, n)) => line_chosen(goto, n, home, line, place),
         Err(code) => Asked::Nothing(Outcome::Failed(code)),
     }
 }
@@ -199,7 +199,7 @@ fn still(
 /// What STOP asks for.
 fn ask_stop(alloc: Global, unit: &[u8], after: Option<Place>) -> Result<Asked, NoMemory>
     requires part { is_part row.STOP unit.now ≡ true }
-    ensures { IfOk result (λ asked. asked ≡ Asked.Stop (shown_by_stop (text_in (tree_at row.STOP unit.now))) after) }
+    ensures { IfOk result (λ asked. asked ≡ Asked.Stop (shown_by_stop (text_of_stop (tree_at row.STOP unit.now))) after) }
 {
     let shown = stop_text(alloc, text_of_stop(unit))?;
     Ok(Asked::Stop(shown, after))
@@ -280,7 +280,7 @@ pub fn ask(
 }
 
 /// Does what was asked for.
-pub fn carry_out(
+pub fn do_asked(
     me: &mut Private,
     own: &Text,
     home: &Text,
@@ -293,7 +293,7 @@ pub fn carry_out(
 {
     match asked {
         Asked::Nothing(outcome) => Ok(outcome),
-        Asked::Begin(l, body) => begin(me, l, body),
+        Asked::Begin(l, body) => begin_loop(me, l, body),
         Asked::Next(v) => next(me, v),
         Asked::Call(n, back) => Ok(call_line(me, home, place, n, back)),
         Asked::Return => Ok(go_back(me)),

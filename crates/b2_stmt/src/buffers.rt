@@ -40,7 +40,7 @@ pub struct Turn {
 #[tactic(auto, using(crate::proofs::Changed::changed_so))]
 fn fill(vars: &mut Vars, to: &Buffer, byte: u8) -> Result<Option<Code>, NoMemory>
     requires named { IsBuffer to.now }
-    ensures { IfOk result (λ code. record { vars = vars.new; code = code } ≡ spec.changed (spec.filled byte) to.now vars.old) }
+    ensures { IfOk result (λ code. record { vars = vars.new; code = code } ≡ spec.bytes_changed (spec.all_filled byte) to.now vars.old) }
 {
     code_of(change_buffer(vars, to, |bytes| {
         bytes.fill(byte);

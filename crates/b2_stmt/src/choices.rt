@@ -49,12 +49,12 @@ fn counted_line(text: &[u8], n: Option<i64>) -> Option<u16>
 }
 
 /// The line that a number counts of those after a word.
-fn line_after_word(listed: &[u8], x: Dec) -> Option<u16>
-    requires first { is_leaf leaf.LineNumber (drop 1 listed.now) ≡ true }
-    requires list { is_list commas row.COMMA_LINE (drop 3 (drop 1 listed.now)) ≡ true }
-    ensures { result ≡ spec.counted_line (fixed x) (lines_at (drop 1 listed.now)) }
+fn line_after_word(literals_listed: &[u8], x: Dec) -> Option<u16>
+    requires first { is_leaf leaf.LineNumber (drop 1 literals_listed.now) ≡ true }
+    requires list { is_list commas row.COMMA_LINE (drop 3 (drop 1 literals_listed.now)) ≡ true }
+    ensures { result ≡ spec.counted_line (fixed x) (lines_at (drop 1 literals_listed.now)) }
 {
-    counted_line(dropped(listed, 1), whole(fix(x)))
+    counted_line(dropped(literals_listed, 1), whole(fix(x)))
 }
 
 /// Whether ON goes there or calls, and the line that is chosen; or the code of its number.
@@ -66,8 +66,8 @@ pub fn choice_at(e: &Env<'_>, unit: &[u8]) -> Result<(bool, Option<u16>), Code>
     let mut c = Cursor::over(dropped(unit, 1));
     match number(&mut c, e) {
         Ok(x) => {
-            let listed = c.rest();
-            Ok((is_at(GOTO, listed), line_after_word(listed, x)))
+            let literals_listed = c.rest();
+            Ok((is_at(GOTO, literals_listed), line_after_word(literals_listed, x)))
         }
         Err(code) => Err(code),
     }

@@ -45,24 +45,24 @@ fn erases_range(text: &[u8]) -> Access
 
 /// What CLEAR P asks for.
 #[tactic(auto, using(crate::proofs::ClearRows::clear_lines, crate::proofs::ClearRows::clear_is))]
-fn erases(unit: &[u8]) -> Access
+fn asks_to_erase(unit: &[u8]) -> Access
     requires part { is_part row.CLEAR_P unit.now ≡ true }
-    ensures { result ≡ spec.erases (tree_at row.CLEAR_P unit.now) }
+    ensures { result ≡ spec.asks_to_erase (tree_at row.CLEAR_P unit.now) }
 {
     erases_range(dropped(dropped(unit, 1), 1))
 }
 
 /// The access that a statement asks for, where it asks for one.
-pub fn access_of(row: u16, unit: &[u8]) -> Option<Access>
+pub fn asked_access(row: u16, unit: &[u8]) -> Option<Access>
     requires part { is_part row unit.now ≡ true }
-    ensures { result ≡ spec.access_of row (tree_at row unit.now) }
+    ensures { result ≡ spec.asked_access row (tree_at row unit.now) }
 {
     match row {
         rows::CLEAR => Some(Access::ClearAll {
             name: None,
             homes: 0,
         }),
-        rows::CLEAR_P => Some(erases(unit)),
+        rows::CLEAR_P => Some(asks_to_erase(unit)),
         _ => None,
     }
 }
@@ -116,7 +116,7 @@ fn finish_with(
     access: &Access,
     answer: &Answer,
 ) -> Result<Outcome, NoMemory>
-    ensures ended { IfOk result (λ o. record { me = me.new; outcome = o } ≡ spec.finishes access.now answer.now me.old) }
+    ensures ended { IfOk result (λ o. record { me = me.new; outcome = o } ≡ spec.edit_finishes access.now answer.now me.old) }
     ensures part { me.new.part ≡ me.old.part }
 {
     match (access, answer) {

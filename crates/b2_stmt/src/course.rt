@@ -28,7 +28,7 @@ pub fn select(me: &mut Private, mode: Mode) -> Outcome
 #[tactic(auto, using(crate::proofs::CourseRows::stop_literal, crate::proofs::CourseRows::stop_with, crate::proofs::CourseRows::stop_without))]
 pub fn text_of_stop(unit: &[u8]) -> Option<&[u8]>
     requires part { is_part row.STOP unit.now ≡ true }
-    ensures { option_copied result ≡ spec.text_in (tree_at row.STOP unit.now) }
+    ensures { option_copied result ≡ spec.text_of_stop (tree_at row.STOP unit.now) }
 {
     let text = dropped(unit, 1);
     if is_at(b'"', text) {
@@ -53,7 +53,7 @@ pub fn stop_text(alloc: Global, text: Option<&[u8]>) -> Result<ByteList, NoMemor
 
 /// STOP at a place, where what it shows and the place after it are known.
 pub fn stop(me: &mut Private, shown: ByteList, place: Place, after: Option<Place>) -> Outcome
-    ensures ended { record { me = me.new; outcome = result } ≡ spec.stops shown place after me.old }
+    ensures ended { record { me = me.new; outcome = result } ≡ spec.stops_program shown place after me.old }
     ensures part { me.new.part ≡ me.old.part }
 {
     me.pending = Some((Addr::default(), shown));
@@ -155,7 +155,7 @@ pub fn line_to_restore(unit: &[u8]) -> Option<u16>
 
 /// CLEAR V, which takes the common variables too, and CLEAR N.
 pub fn clear(me: &mut Private, common: bool) -> Outcome
-    ensures ended { record { me = me.new; outcome = result } ≡ spec.clears common me.old }
+    ensures ended { record { me = me.new; outcome = result } ≡ spec.clears_variables common me.old }
     ensures part { me.new.part ≡ me.old.part }
 {
     if common {

@@ -28,7 +28,7 @@ pub struct Literal {
 }
 
 /// The number that bytes spell: C60 or C61 where it is out of range.
-fn number_of(bytes: &[u8]) -> Result<Dec, Code>
+fn number_spelled(bytes: &[u8]) -> Result<Dec, Code>
     ensures { result ≡ literal_value bytes.now }
 {
     match literal(bytes) {
@@ -39,9 +39,9 @@ fn number_of(bytes: &[u8]) -> Result<Dec, Code>
 
 /// The bytes of the literal at a text.
 #[tactic(auto, using(crate::proofs::DataRows::literal_here, crate::proofs::DataRows::literal_short))]
-fn bytes_of(text: &[u8]) -> Bytes
+fn quoted_bytes(text: &[u8]) -> Bytes
     requires part { is_part row.LITERAL text.now ≡ true }
-    ensures { result ≡ spec.bytes_at text.now }
+    ensures { result ≡ spec.literal_bytes_at text.now }
 {
     match Bytes::of(literal_at(text)) {
         Some(bytes) => bytes,
@@ -56,9 +56,9 @@ fn datum(text: &[u8]) -> Result<Value, Code>
     ensures { result ≡ spec.datum_value (tree_at row.DATUM text.now) }
 {
     if is_at(b'"', text) {
-        return Ok(Value::Alpha(bytes_of(text)));
+        return Ok(Value::Alpha(quoted_bytes(text)));
     }
-    match number_of(front(text, signed_number_width(Origin::Atoms, text))) {
+    match number_spelled(front(text, signed_number_width(Origin::Atoms, text))) {
         Ok(number) => Ok(Value::Number(number)),
         Err(code) => Err(code),
     }
@@ -100,7 +100,7 @@ fn nth_datum(text: &[u8], k: usize) -> Option<&[u8]>
 #[tactic(auto, using(crate::proofs::DataRows::data_first, crate::proofs::DataRows::data_list, crate::proofs::DataRows::data_is))]
 fn nth_value(unit: &[u8], k: usize) -> Option<Result<Value, Code>>
     requires part { is_part row.DATA unit.now ≡ true }
-    ensures { result ≡ option_map spec.datum_value (slice_get (spec.listed (tree_at row.DATA unit.now)) k) }
+    ensures { result ≡ option_map spec.datum_value (slice_get (spec.literals_listed (tree_at row.DATA unit.now)) k) }
 {
     match nth_datum(dropped(unit, 1), k) {
         Some(text) => Some(datum(text)),

@@ -227,7 +227,7 @@ fn variable_of(name: Name, array: bool) -> Var
 fn alpha_entry_at<'t>(e: &Env<'_>, text: &'t [u8]) -> Result<(Entry, &'t [u8]), Code>
     requires part { is_part row.DIMENSIONED_ALPHA text.now ≡ true }
     requires alone { (surroundings e.now).globals ≡ None }
-    ensures entry { Gives (spec.named_entry (in_statement (surroundings e.now)) true (tree_at row.DIMENSIONED_ALPHA text.now)) (after_part row.DIMENSIONED_ALPHA text.now) result }
+    ensures entry { Gives (spec.entry_named (in_statement (surroundings e.now)) true (tree_at row.DIMENSIONED_ALPHA text.now)) (after_part row.DIMENSIONED_ALPHA text.now) result }
     ensures named { IfOk result (λ p. is_legal_name p.0.var ≡ true) }
 {
     let (name, width) = alpha_name(text);
@@ -258,7 +258,7 @@ fn alpha_entry_at<'t>(e: &Env<'_>, text: &'t [u8]) -> Result<(Entry, &'t [u8]), 
 fn number_entry_at<'t>(e: &Env<'_>, text: &'t [u8]) -> Result<(Entry, &'t [u8]), Code>
     requires part { is_part row.DIMENSIONED_NUMERIC text.now ≡ true }
     requires alone { (surroundings e.now).globals ≡ None }
-    ensures entry { Gives (spec.named_entry (in_statement (surroundings e.now)) false (tree_at row.DIMENSIONED_NUMERIC text.now)) (after_part row.DIMENSIONED_NUMERIC text.now) result }
+    ensures entry { Gives (spec.entry_named (in_statement (surroundings e.now)) false (tree_at row.DIMENSIONED_NUMERIC text.now)) (after_part row.DIMENSIONED_NUMERIC text.now) result }
     ensures named { IfOk result (λ p. is_legal_name p.0.var ≡ true) }
 {
     let (name, width) = numeric_name(text);
@@ -282,7 +282,7 @@ fn number_entry_at<'t>(e: &Env<'_>, text: &'t [u8]) -> Result<(Entry, &'t [u8]),
 
 /// The entry at a text, and what stands after it.
 #[tactic(auto, using(crate::proofs::EntryRows::by_alpha, crate::proofs::EntryRows::by_alpha_is, crate::proofs::EntryRows::by_alpha_rest, crate::proofs::EntryRows::by_number, crate::proofs::EntryRows::by_number_is, crate::proofs::EntryRows::by_number_rest))]
-fn entry_at<'t>(e: &Env<'_>, text: &'t [u8]) -> Result<(Entry, &'t [u8]), Code>
+fn dimensioned_at<'t>(e: &Env<'_>, text: &'t [u8]) -> Result<(Entry, &'t [u8]), Code>
     requires part { is_part row.DIMENSIONED text.now ≡ true }
     requires alone { (surroundings e.now).globals ≡ None }
     ensures entry { Gives (spec.entry_in (in_statement (surroundings e.now)) (tree_at row.DIMENSIONED text.now)) (after_part row.DIMENSIONED text.now) result }
@@ -297,7 +297,7 @@ fn entry_at<'t>(e: &Env<'_>, text: &'t [u8]) -> Result<(Entry, &'t [u8]), Code>
 
 /// Makes a variable. The code with which that ended, or none.
 #[tactic(auto, using(crate::proofs::Changed::kept_so))]
-fn make(vars: &mut Vars, common: bool, entry: Entry) -> Result<Option<Code>, NoMemory>
+fn make_entry(vars: &mut Vars, common: bool, entry: Entry) -> Result<Option<Code>, NoMemory>
     requires named { is_legal_name entry.var ≡ true }
     ensures { IfOk result (λ code. record { vars = vars.new; code = code } ≡ spec.makes common entry vars.old) }
 {
@@ -317,11 +317,11 @@ pub fn dim(vars: &mut Vars, a: &Setting, home: &Text, unit: &[u8]) -> Result<Opt
     let common = is_at(COM, unit);
     let mut left = dropped(unit, 1);
     loop {
-        let (entry, after) = match entry_at(&surroundings_of(a, vars, home), left) {
+        let (entry, after) = match dimensioned_at(&surroundings_of(a, vars, home), left) {
             Ok(found) => found,
             Err(code) => return Ok(Some(code)),
         };
-        let code = make(vars, common, entry)?;
+        let code = make_entry(vars, common, entry)?;
         if code.is_some() {
             return Ok(code);
         }

@@ -56,8 +56,8 @@ fn scalar_of(v: Var2) -> Var
 }
 
 /// The same, as a receiver.
-fn counted(v: Var2) -> Element
-    ensures { result ≡ spec.counted v }
+fn loop_element(v: Var2) -> Element
+    ensures { result ≡ spec.loop_element v }
 {
     Element {
         global: false,
@@ -128,12 +128,12 @@ fn drop_loop(stack: &mut Stack, v: Var2)
 }
 
 /// Begins a loop whose body stands at a place.
-pub fn begin(me: &mut Private, l: Loop, body: Place) -> Result<Outcome, NoMemory>
+pub fn begin_loop(me: &mut Private, l: Loop, body: Place) -> Result<Outcome, NoMemory>
     requires named { is_legal_name (scalar_of l.var) ≡ true }
-    ensures ended { IfOk result (λ o. record { me = me.new; outcome = o } ≡ spec.begins l body me.old) }
+    ensures ended { IfOk result (λ o. record { me = me.new; outcome = o } ≡ spec.loop_begins l body me.old) }
     ensures part { me.new.part ≡ me.old.part }
 {
-    match assign_number(&mut me.vars, counted(l.var), l.from) {
+    match assign_number(&mut me.vars, loop_element(l.var), l.from) {
         Ok(()) => {}
         Err(fault) => return failing(fault),
     }
@@ -162,7 +162,7 @@ fn is_over(x: Dec, limit: Dec, step: Dec) -> bool
 /// The value that a variable has, and a step.
 fn next_value(vars: &Vars, mode: Mode, v: Var2, step: Dec) -> Result<Dec, Code>
     requires named { is_legal_name (scalar_of v) ≡ true }
-    ensures { result ≡ spec.next_value mode (number_there (record { vars = vars.now; element = spec.counted v })) step }
+    ensures { result ≡ spec.next_value mode (number_there (record { vars = vars.now; element = spec.loop_element v })) step }
 {
     match vars.number(scalar_of(v), 0, 0) {
         Ok(x) => add(x, step, mode),
@@ -186,7 +186,7 @@ fn go_round(
         Ok(x) => x,
         Err(code) => return Ok(Outcome::Failed(code)),
     };
-    match assign_number(&mut me.vars, counted(v), x) {
+    match assign_number(&mut me.vars, loop_element(v), x) {
         Ok(()) => {}
         Err(fault) => return failing(fault),
     }

@@ -94,10 +94,10 @@ pub fn call_mark(
 
 /// Whether there are as many values as receivers at a text, each of its receiver's kind.
 #[tactic(auto, using(crate::proofs::ReadRows::other_part, crate::proofs::ReadRows::other_list, crate::proofs::ReadRows::receiver_shorter, crate::proofs::MarkRows::kind_is))]
-fn fits(text: &[u8], args: &[Value]) -> bool
+fn values_fit(text: &[u8], args: &[Value]) -> bool
     requires part { is_part row.RECEIVER text.now ≡ true }
     requires list { are_others (past_first text.now) ≡ true }
-    ensures { result ≡ spec.fits (receivers_at text.now) args.now }
+    ensures { result ≡ spec.values_fit (receivers_at text.now) args.now }
 {
     let mut left = text;
     let mut values = args;
@@ -188,9 +188,9 @@ fn take_at(
 ) -> Result<Option<Code>, NoMemory>
     requires part { is_part row.RECEIVER text.now ≡ true }
     requires list { are_others (past_first text.now) ≡ true }
-    ensures { IfOk result (λ code. record { vars = vars.new; code = code } ≡ spec.takes a.now home.now (receivers_at text.now) args.now vars.old) }
+    ensures { IfOk result (λ code. record { vars = vars.new; code = code } ≡ spec.takes_values a.now home.now (receivers_at text.now) args.now vars.old) }
 {
-    if fits(text, args) {
+    if values_fit(text, args) {
         take_each(vars, a, home, args, text)
     } else {
         Ok(Some(Code::known(P35_ARGUMENTS)))
@@ -200,7 +200,7 @@ fn take_at(
 /// Where there are no receivers: P35 where values are passed.
 #[tactic(auto, using(crate::proofs::MarkRows::no_receivers, crate::proofs::MarkRows::no_values))]
 fn take_none(vars: &Vars, a: &Setting, home: &Text, args: &[Value]) -> Option<Code>
-    ensures { record { vars = vars.now; code = result } ≡ spec.takes a.now home.now [] args.now vars.now }
+    ensures { record { vars = vars.now; code = result } ≡ spec.takes_values a.now home.now [] args.now vars.now }
 {
     if args.is_empty() {
         None
@@ -219,7 +219,7 @@ fn take(
     unit: &[u8],
 ) -> Result<Option<Code>, NoMemory>
     requires part { is_part row.DEFFN_MARKED unit.now ≡ true }
-    ensures { IfOk result (λ code. record { vars = vars.new; code = code } ≡ spec.takes a.now home.now (spec.parameters_of (tree_at row.DEFFN_MARKED unit.now)) args.now vars.old) }
+    ensures { IfOk result (λ code. record { vars = vars.new; code = code } ≡ spec.takes_values a.now home.now (spec.parameters_of (tree_at row.DEFFN_MARKED unit.now)) args.now vars.old) }
 {
     let number = dropped(unit, 1);
     let text = dropped(number, digits_width(number));

@@ -5,8 +5,8 @@ ghost use Rattle.b2_vars.specs.Tables.{VarsState};
 ghost use Rattle.b2_access.specs.Lending.{globals_lent, seen};
 ghost use Rattle.b2_stmt.specs.Plan as spec;
 
-use crate::asked::{ask, carry_out};
-use crate::clearing::access_of;
+use crate::asked::{ask, do_asked};
+use crate::clearing::asked_access;
 use crate::marked::take_args;
 use crate::on_variables::{change_variables, is_on_variables};
 use crate::reading::read;
@@ -126,11 +126,11 @@ fn execute_program(
     if unit.row == rows::DEFFN_MARKED {
         return Ok(Planned::Done(take_args(me, home, unit.bytes)?));
     }
-    if let Some(access) = access_of(unit.row, unit.bytes) {
+    if let Some(access) = asked_access(unit.row, unit.bytes) {
         return Ok(Planned::Ask(access));
     }
     let asked = ask(alloc, &me.vars, &setting, home, line.atoms, &place, &unit)?;
-    let outcome = carry_out(me, own, home, place, asked)?;
+    let outcome = do_asked(me, own, home, place, asked)?;
     Ok(Planned::Done(outcome))
 }
 
@@ -171,11 +171,11 @@ fn execute_immediate(
         )?;
         return Ok(Planned::Done(goes_or(Outcome::Next, code)));
     }
-    if let Some(access) = access_of(unit.row, unit.bytes) {
+    if let Some(access) = asked_access(unit.row, unit.bytes) {
         return Ok(Planned::Ask(access));
     }
     let asked = ask(alloc, &me.vars, &setting, home, line, &place, &unit)?;
-    let outcome = carry_out(me, own, home, place, asked)?;
+    let outcome = do_asked(me, own, home, place, asked)?;
     Ok(Planned::Done(outcome))
 }
 

@@ -157,7 +157,7 @@ pub fn read(
     unit: &[u8],
 ) -> Result<Option<Code>, NoMemory>
     requires part { is_part row.READ unit.now ≡ true }
-    ensures { IfOk result (λ code. record { vars = vars.new; next = next.new; code = code } ≡ spec.reads a.now home.now own.now.lines (tree_at row.READ unit.now) vars.old next.old) }
+    ensures { IfOk result (λ code. record { vars = vars.new; next = next.new; code = code } ≡ spec.reads_data a.now home.now own.now.lines (tree_at row.READ unit.now) vars.old next.old) }
 {
     read_all(vars, next, a, home, own, dropped(unit, 1))
 }

@@ -47,7 +47,7 @@ fn line_of(alloc: Global, origin: Origin, source: &[u8]) -> Result<Atoms, Fail> 
 }
 
 /// The number of a typed line, at most 9999.
-fn number_of(line: &[u8]) -> u16
+fn number_spelled(line: &[u8]) -> u16
     ensures { result ≤ 9999 }
 {
     capped_value(line, 9999).min(9999) as u16
@@ -59,7 +59,7 @@ fn program_of(alloc: Global, lines: &[&[u8]]) -> Result<Text, Fail> {
     for line in lines {
         let source = dropped(line, digits_width(line));
         let atoms = line_of(alloc, Origin::Program, source)?;
-        text.put(number_of(line), &atoms)?;
+        text.put(number_spelled(line), &atoms)?;
     }
     Ok(text)
 }

@@ -14,7 +14,7 @@ use Rattle.b2_access.specs.Going.{where_there}
 use Rattle.b2_access.specs.Homes.{FinishesWithin, HomesIn, IsWithin, OutcomeIn, PlaceIn, PlannedIn, PlansWithin, homes_of, is_marked}
 use Rattle.b2_access.specs.Lending.{SeenLent}
 use Rattle.b2_access.specs.Partition.{setting_of}
-use Rattle.b2_access.specs.Placed.{Statement, statement_at}
+use Rattle.b2_access.specs.Placed.{Statement, statement_placed}
 use Rattle.b2_access.specs.Places.{line_start}
 use Rattle.b2_access.specs.Planning.{Ended, Planning, goes_or}
 use Rattle.b2_access.specs.declared.accesses.Access.{Access}
@@ -89,7 +89,7 @@ module _ (among : ℕ → Bool) where
   planned_in : (o : Option Place) (me : Private) (s : SeenLent) → Within me → PlanningIn (course o me s)
   unfolding PlanningIn
   planned_in None me s w = (w, tt)
-  planned_in (Some p) me s w = unit_in (statement_at p me.immediate s.home.lines) p me s w
+  planned_in (Some p) me s w = unit_in (statement_placed p me.immediate s.home.lines) p me s w
 
   -- how PRINT and PRINTUSING finish
   shown_in : (x : Access) (a : Answer) (me : Private) → Within me → EndedIn (shown x a me)
@@ -199,7 +199,7 @@ module _ (among : ℕ → Bool) where
   ended_in : (o : Option Place) (x : Access) (a : Answer) (me : Private) (s : SeenLent) → PlaceIn among o → Within me → EndedIn (ended o x a me s)
   unfolding EndedIn
   ended_in None x a me s k w = (w, tt)
-  ended_in (Some p) x a me s k w = ended_at_in (statement_at p me.immediate s.home.lines) p x a me s k w
+  ended_in (Some p) x a me s k w = ended_at_in (statement_placed p me.immediate s.home.lines) p x a me s k w
 
 pub plans_within : PlansWithin plan
 unfolding PlanningIn

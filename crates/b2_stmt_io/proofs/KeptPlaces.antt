@@ -11,7 +11,7 @@ use Rattle.b2_access.specs.Keeping.{FinishesInPlace, FinishesKeepNone, PlansInPl
 use Rattle.b2_access.specs.Lending.{SeenLent}
 use Rattle.b2_access.specs.OwnTerminal.{FinishesAtTerminal, PlannedAt, PlansAtTerminal}
 use Rattle.b2_access.specs.Partition.{setting_of}
-use Rattle.b2_access.specs.Placed.{Statement, statement_at}
+use Rattle.b2_access.specs.Placed.{Statement, statement_placed}
 use Rattle.b2_access.specs.Planning.{Ended, Planning}
 use Rattle.b2_access.specs.declared.accesses.Access.{Access}
 use Rattle.b2_access.specs.declared.accesses.Access.TheVariants as access
@@ -51,7 +51,7 @@ module _ (here kept : Option Place) (term : ℕ) where
   planned_at : (o : Option Place) (me : Private) (s : SeenLent) → KeepsPlaces me → KeepsPlaces (course o me s).me
   unfolding KeepsPlaces
   planned_at None me s h = h
-  planned_at (Some p) me s h = planned_unit (statement_at p me.immediate s.home.lines) p me s h
+  planned_at (Some p) me s h = planned_unit (statement_placed p me.immediate s.home.lines) p me s h
 
   -- how PRINT and PRINTUSING finish
   after_shown : (x : Access) (a : Answer) (me : Private) → KeepsPlaces me → KeepsPlaces (shown x a me).me
@@ -136,7 +136,7 @@ module _ (here kept : Option Place) (term : ℕ) where
   ended_place : (o : Option Place) (x : Access) (a : Answer) (me : Private) (s : SeenLent) → KeepsPlaces me → KeepsPlaces (ended o x a me s).me
   unfolding KeepsPlaces
   ended_place None x a me s h = h
-  ended_place (Some p) x a me s h = ended_unit (statement_at p me.immediate s.home.lines) p x a me s h
+  ended_place (Some p) x a me s h = ended_unit (statement_placed p me.immediate s.home.lines) p x a me s h
 
 -- what is asked for
 PlanningAt : ℕ → Planning → Type 0
@@ -157,7 +157,7 @@ unit_asks (Some u) p me s = either (PlanningAt me.term) (is_refused u.row (is_so
 place_asks : (o : Option Place) (me : Private) (s : SeenLent) → PlanningAt me.term (course o me s)
 unfolding PlanningAt
 place_asks None me s = tt
-place_asks (Some p) me s = unit_asks (statement_at p me.immediate s.home.lines) p me s
+place_asks (Some p) me s = unit_asks (statement_placed p me.immediate s.home.lines) p me s
 
 -- a partition keeps the places and the terminal that it has
 planned_kept : (me : Private) (s : SeenLent) → KeepsPlaces me.place me.kept me.term (plan me s).me

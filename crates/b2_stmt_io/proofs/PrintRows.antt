@@ -16,7 +16,7 @@ use Rattle.b2_rows.specs.Rows.{is_part, tree_at, after_part}
 use Rattle.b2_rows.specs.Choices.{ReadAs, first_branch, second_branch}
 use Rattle.b2_rows.proofs.Choices.{either_first, either_second}
 use Rattle.b2_expr.specs.Answers.{◌>>=◌}
-use Rattle.b2_expr.specs.Functions.{counted}
+use Rattle.b2_expr.specs.Functions.{whole_between}
 use Rattle.b2_expr.specs.Scope.{Context}
 use Rattle.b2_expr.specs.Value.{text, value}
 use Rattle.b2_expr.specs.declared.operators.Level.TheVariants as level
@@ -35,7 +35,7 @@ pub tab_sum : (t : Text) → is_part row.TAB t ≡ true → is_part row.SUM (dro
 tab_sum t ok = (stands_of row.TAB tab_items t tab_row ok).0.1.0
 
 pub tab_is : (s : Context) (t : Text) → is_part row.TAB t ≡ true
-    → tab_in s (tree_at row.TAB t) ≡ (value s level.Sum (tree_at row.SUM (drop 1 t)) >>= (λ x. counted 0 255 x >>= (λ to. Ok (blanks_to to))))
+    → tab_in s (tree_at row.TAB t) ≡ (value s level.Sum (tree_at row.SUM (drop 1 t)) >>= (λ x. whole_between 0 255 x >>= (λ to. Ok (blanks_to to))))
 tab_is s t ok = ap (tab_in s) (stands_of row.TAB tab_items t tab_row ok).1
 
 pub tab_rest : (t : Text) → is_part row.TAB t ≡ true → after_part row.TAB t ≡ drop 1 (after_part row.SUM (drop 1 t))

@@ -20,7 +20,7 @@ use Rattle.b2_stmt_io.specs.Imaging.{prints_using}
 use Rattle.b2_stmt_io.specs.Inputs.{takes_parts}
 use Rattle.b2_stmt_io.specs.Keys.{keyed}
 use Rattle.b2_stmt_io.specs.LineReading.{asks_line, line_read, prompt_of, takes_line}
-use Rattle.b2_access.specs.Placed.{Statement, statement_at}
+use Rattle.b2_access.specs.Placed.{Statement, statement_placed}
 use Rattle.b2_stmt_io.specs.Changed.{with_assigned}
 use Rattle.b2_access.specs.Planning.{Ended, Finishing, Planning, done, finished, stays}
 use Rattle.b2_stmt_io.specs.Printing.{prints}
@@ -59,7 +59,7 @@ course_at (Some u) p me s = if is_refused u.row (is_some p.line) then done s (st
 
 abbrev pub course : Option Place → Private → SeenLent → Planning
 course None me s = done s (stays me outcome.Ready)
-course (Some p) me s = course_at (statement_at p me.immediate s.home.lines) p me s
+course (Some p) me s = course_at (statement_placed p me.immediate s.home.lines) p me s
 
 -- what the statement at a partition's place plans
 abbrev pub plan : Private → SeenLent → Planning
@@ -80,7 +80,7 @@ ended_at (Some u) p x a me s = if is_refused u.row (is_some p.line) then stays m
 
 abbrev pub ended : Option Place → Access → Answer → Private → SeenLent → Ended
 ended None x a me s = stays me outcome.Repeat
-ended (Some p) x a me s = ended_at (statement_at p me.immediate s.home.lines) p x a me s
+ended (Some p) x a me s = ended_at (statement_placed p me.immediate s.home.lines) p x a me s
 
 -- how the statement at a partition's place finishes
 abbrev pub finish : Access → Answer → Private → SeenLent → Finishing

@@ -14,7 +14,7 @@ use Rattle.b2_atom.specs.Words.{Text}
 use Rattle.b2_atom.specs.Tree.{Trees}
 use Rattle.b2_atom.specs.Tree.Trees.{Put, In}
 use Rattle.b2_expr.specs.Answers.{◌>>=◌}
-use Rattle.b2_expr.specs.Functions.{counted}
+use Rattle.b2_expr.specs.Functions.{whole_between}
 use Rattle.b2_expr.specs.Scope.{Context}
 use Rattle.b2_expr.specs.Value.{branch_of, text, value}
 use Rattle.b2_expr.specs.declared.operators.Level.TheVariants as level
@@ -44,7 +44,7 @@ abbrev pub blanks_to : ℕ → Shown
 blanks_to to column = replicate (to - column) byte.blank
 
 abbrev pub tab_in : Context → Trees → Result Shown ℕ
-tab_in s (Put word (In n sum close)) = value s level.Sum sum >>= (λ x. counted 0 255 x >>= (λ to. Ok (blanks_to to)))
+tab_in s (Put word (In n sum close)) = value s level.Sum sum >>= (λ x. whole_between 0 255 x >>= (λ to. Ok (blanks_to to)))
 tab_in s t = Err S22_WORD
 
 -- HEXOF: each byte of an alpha value as two hexadecimal digits

@@ -19,7 +19,7 @@ use crate::line_reading::{after_linput, ask_linput};
 use crate::showing::{after_show, ask_print};
 use b2_access::{
     Access, Answer, DeviceTable, Lent, Outcome, Planned, Private, failed, goes_or, setting_of,
-    statement_at, statement_on,
+    statement_placed, statement_on,
 };
 use b2_atom::{Atoms, rows};
 use b2_base::NoMemory;
@@ -86,7 +86,7 @@ pub fn plan(
     let Some(place) = me.place else {
         return Ok(Planned::Done(Outcome::Ready));
     };
-    let Some(unit) = statement_at(place, &me.immediate, home) else {
+    let Some(unit) = statement_placed(place, &me.immediate, home) else {
         return Ok(Planned::Done(Outcome::Ready));
     };
     if is_refused(unit.row, place.line.is_some()) {

@@ -8,7 +8,7 @@ ghost use Rattle.b2_atom.specs.declared.rows.TheConstants as row;
 ghost use Rattle.b2_atom.specs.declared.forms.Start.TheVariants as start;
 ghost use Rattle.b2_rows.specs.Rows.{is_part, tree_at, after_part};
 ghost use Rattle.b2_rows.specs.Optional.{maybe_part, maybe_tree, after_maybe};
-ghost use Rattle.b2_expr.specs.Functions.{counted, fixed};
+ghost use Rattle.b2_expr.specs.Functions.{whole_between, fixed};
 ghost use Rattle.b2_expr.specs.Scope.{surroundings};
 ghost use Rattle.b2_expr.specs.Value.{in_statement};
 ghost use Rattle.b2_stmt_io.specs.Printing as spec;
@@ -90,8 +90,8 @@ fn fixed(x: Dec) -> Option<i64>
 }
 
 /// A number without its fraction, which must be from one number to another, else P34.
-fn counted(least: u8, most: u8, x: Dec) -> Result<u8, Code>
-    ensures { result ≡ counted least most x }
+fn whole_between(least: u8, most: u8, x: Dec) -> Result<u8, Code>
+    ensures { result ≡ whole_between least most x }
 {
     match fixed(x) {
         Some(n) if n >= i64::from(least) && n <= i64::from(most) => Ok(n as u8),
@@ -116,7 +116,7 @@ fn tab_shown<'a>(
         Ok(x) => x,
         Err(code) => return Err(Fault::Code(code)),
     };
-    let to = match counted(0, 255, x) {
+    let to = match whole_between(0, 255, x) {
         Ok(to) => to,
         Err(code) => return Err(Fault::Code(code)),
     };

@@ -1,7 +1,7 @@
 use Rattle.std.proofs.Common.{ℕ, List, length, sym, ap, subst, ◌∙◌, arith}
 use Rattle.std.specs.Option.{option_copied}
 use Rattle.std.proofs.lemmas.Grind.{common_steps}
-use Rattle.b2_boot.specs.LogLines.{lines_of, lines_after}
+use Rattle.b2_boot.specs.LogLines.{text_lines, lines_beyond}
 use Rattle.b2_boot.specs.Logs.{Passes}
 use Rattle.b2_boot.proofs.Lines.{length-lines_of}
 use Rattle.b2_boot.proofs.LogSteps.{kept, after_failure}
@@ -15,7 +15,7 @@ loop-left-init c =
 
 pub loop-left-preserved : goal.loop-left-preserved
 loop-left-preserved c =
-    let cut_is = ap (λ o. lines_after (option_copied o)) c.in-Some.is ∙ c.first_line.ensures.lines in
+    let cut_is = ap (λ o. lines_beyond (option_copied o)) c.in-Some.is ∙ c.first_line.ensures.lines in
     let says = sym c.in-Asks.is ∙ c.in_ok-read_log_line.ensures.value in
     let passes = subst (Passes c.args.boot.now c.loop-left.granted) c.in-Asks.is c.in_ok-read_log_line.ensures.passes in
     let shorter = ap (λ (ps : List (List ℕ)). length ps) cut_is in
@@ -26,7 +26,7 @@ loop-left-preserved c =
 
 pub loop-left-preserved-in_ok-push_events-in-Asks : goal.loop-left-preserved-in_ok-push_events-in-Asks
 loop-left-preserved-in_ok-push_events-in-Asks c =
-    let cut_is = ap (λ o. lines_after (option_copied o)) c.in-Some.is ∙ c.first_line.ensures.lines in
+    let cut_is = ap (λ o. lines_beyond (option_copied o)) c.in-Some.is ∙ c.first_line.ensures.lines in
     let says = sym c.in-Asks.is ∙ c.in_ok-read_log_line.ensures.value in
     let passes = subst (Passes c.args.boot.now c.loop-left.granted) c.in-Asks.is c.in_ok-read_log_line.ensures.passes in
     let shorter = ap (λ (ps : List (List ℕ)). length ps) cut_is in
@@ -37,7 +37,7 @@ loop-left-preserved-in_ok-push_events-in-Asks c =
 
 pub returns-in-Fails-clause-first : goal.returns-in-Fails-clause-first
 returns-in-Fails-clause-first c =
-    let cut_is = ap (λ o. lines_after (option_copied o)) c.in-Some.is ∙ c.first_line.ensures.lines in
+    let cut_is = ap (λ o. lines_beyond (option_copied o)) c.in-Some.is ∙ c.first_line.ensures.lines in
     let says = sym c.in-Fails.is ∙ c.in_ok-read_log_line.ensures.value in
-    first_told c.args.boot.now (lines_of c.args.bytes.now) c.loop-left.number c.in-Fails.check
+    first_told c.args.boot.now (text_lines c.args.bytes.now) c.loop-left.number c.in-Fails.check
     (after_failure c.args.boot.now c.loop-left.number c.loop-left.granted c.loop-left.events.items c.in-Fails.check _ _ _ _ cut_is says c.loop-left.invariant.told)

@@ -6,7 +6,7 @@ use Rattle.b2_rows.specs.Rows.{is_part, tree_at, after_part}
 use Rattle.b2_rows.specs.Leaves.{leaf_bytes}
 use Rattle.b2_expr.specs.Answers.{Answer}
 use Rattle.b2_expr.specs.Further.{further_tree}
-use Rattle.b2_expr.specs.Levels.{ends, pick, row_of, spans}
+use Rattle.b2_expr.specs.Levels.{ends, pick, row_of_level, spans}
 use Rattle.b2_expr.specs.Named.{name_leaf, place_seen}
 use Rattle.b2_expr.specs.Value.{context, extremes}
 use Rattle.b2_expr.proofs.Climbs.{on_step, step_lists, step_rest, step_shorter, ends_refused}
@@ -33,15 +33,15 @@ climb-returns-in-Err-climb t c =
     sym c.loop-level.invariant.value
     ∙ on_step (context c.args.s.now) c.args.wanted c.loop-level.top c.in-Some.level c.next.result c.loop-level.number c.first-operator.result c.loop-level.left.now c.dropped.result.now (Err c.in-Err-climb.code)
     c.loop-level.invariant.lists (c.in-Some.ensures ∙ ap (pick (spans c.args.wanted c.loop-level.top)) c.first.ensures) c.next.ensures c.dropped.ensures c.first-operator.ensures c.in-Err-climb.ensures
-    ∙ ends_refused (context c.args.s.now) (spans c.args.wanted c.in-Some.level) c.in-Err-climb.code (after_part (row_of c.next.result) c.dropped.result.now)
+    ∙ ends_refused (context c.args.s.now) (spans c.args.wanted c.in-Some.level) c.in-Err-climb.code (after_part (row_of_level c.next.result) c.dropped.result.now)
 
 pub climb-returns-in-Err-joined : goal.climb-returns-in-Err-joined
 climb-returns-in-Err-joined t c =
     sym c.loop-level.invariant.value
     ∙ on_step (context c.args.s.now) c.args.wanted c.loop-level.top c.in-Some.level c.next.result c.loop-level.number c.first-operator.result c.loop-level.left.now c.dropped.result.now (Ok c.in-Ok-climb.found.0)
     c.loop-level.invariant.lists (c.in-Some.ensures ∙ ap (pick (spans c.args.wanted c.loop-level.top)) c.first.ensures) c.next.ensures c.dropped.ensures c.first-operator.ensures c.in-Ok-climb.ensures.0
-    ∙ ap (λ (y : Answer). ends (context c.args.s.now) (spans c.args.wanted c.in-Some.level) y (after_part (row_of c.next.result) c.dropped.result.now)) (sym c.in-Err-joined.ensures)
-    ∙ ends_refused (context c.args.s.now) (spans c.args.wanted c.in-Some.level) c.in-Err-joined.code (after_part (row_of c.next.result) c.dropped.result.now)
+    ∙ ap (λ (y : Answer). ends (context c.args.s.now) (spans c.args.wanted c.in-Some.level) y (after_part (row_of_level c.next.result) c.dropped.result.now)) (sym c.in-Err-joined.ensures)
+    ∙ ends_refused (context c.args.s.now) (spans c.args.wanted c.in-Some.level) c.in-Err-joined.code (after_part (row_of_level c.next.result) c.dropped.result.now)
 
 pub climb-loop-level-preserved : goal.climb-loop-level-preserved
 climb-loop-level-preserved t c =
@@ -49,7 +49,7 @@ climb-loop-level-preserved t c =
       lists = step_lists c.args.wanted c.loop-level.top c.in-Some.level c.next.result c.loop-level.left.now c.dropped.result.now c.in-Ok-climb.found.1.now
           c.loop-level.invariant.lists (c.in-Some.ensures ∙ ap (pick (spans c.args.wanted c.loop-level.top)) c.first.ensures) c.next.ensures c.dropped.ensures c.in-Ok-climb.ensures.1;
       value = ap (ends (context c.args.s.now) (spans c.args.wanted c.in-Some.level) (Ok c.in-Ok-joined.found)) c.in-Ok-climb.ensures.1
-          ∙ ap (λ (y : Answer). ends (context c.args.s.now) (spans c.args.wanted c.in-Some.level) y (after_part (row_of c.next.result) c.dropped.result.now)) c.in-Ok-joined.ensures
+          ∙ ap (λ (y : Answer). ends (context c.args.s.now) (spans c.args.wanted c.in-Some.level) y (after_part (row_of_level c.next.result) c.dropped.result.now)) c.in-Ok-joined.ensures
           ∙ sym (on_step (context c.args.s.now) c.args.wanted c.loop-level.top c.in-Some.level c.next.result c.loop-level.number c.first-operator.result c.loop-level.left.now c.dropped.result.now (Ok c.in-Ok-climb.found.0)
           c.loop-level.invariant.lists (c.in-Some.ensures ∙ ap (pick (spans c.args.wanted c.loop-level.top)) c.first.ensures) c.next.ensures c.dropped.ensures c.first-operator.ensures c.in-Ok-climb.ensures.0)
           ∙ c.loop-level.invariant.value;

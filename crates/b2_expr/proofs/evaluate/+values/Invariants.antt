@@ -4,7 +4,7 @@ use Rattle.b2_rows.specs.Rows.{tree_at, after_part, is_list, list_at, after_list
 use Rattle.b2_rows.specs.Chains.{more_start}
 use Rattle.b2_rows.specs.declared.chains.Chain.TheVariants as chain
 use Rattle.b2_expr.specs.Further.{are_further, further_tree, after_further}
-use Rattle.b2_expr.specs.Levels.{row_of, spans, ends, rests, are_lists}
+use Rattle.b2_expr.specs.Levels.{row_of_level, spans, ends, left_after_levels, are_lists}
 use Rattle.b2_expr.specs.Value.{context, value, extremes, further_text}
 use Rattle.b2_expr.proofs.evaluate.+values.Given as goal
 
@@ -81,8 +81,8 @@ decreases-further_operands l = 6000 * l.s.now.room + (20 * length l.text.now + 9
 abbrev pub invariant-climb-loop-level : goal.invariant-climb-loop-level
 invariant-climb-loop-level l = record {
   lists : are_lists (spans l.wanted l.top) l.left ≡ true;
-  value : ends (context l.s) (spans l.wanted l.top) (Ok l.number) l.left ≡ value (context l.s) l.wanted (tree_at (row_of l.wanted) l.text);
-  rest : rests (spans l.wanted l.top) l.left ≡ after_part (row_of l.wanted) l.text;
+  value : ends (context l.s) (spans l.wanted l.top) (Ok l.number) l.left ≡ value (context l.s) l.wanted (tree_at (row_of_level l.wanted) l.text);
+  rest : left_after_levels (spans l.wanted l.top) l.left ≡ after_part (row_of_level l.wanted) l.text;
   shorter : length l.left ≤ length l.text;
 }
 

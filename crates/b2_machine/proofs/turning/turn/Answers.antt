@@ -2,9 +2,9 @@ use Rattle.std.proofs.Common.{◌∙◌, ◌+◌, ◌-◌, ap, sym, subst}
 use Rattle.std.specs.Prelude.{IsSome}
 use Rattle.b2_access.specs.Store.{content}
 use Rattle.b2_access.specs.declared.objects.Object.TheVariants as object
-use Rattle.b2_machine.specs.Turn.{ended, turn_from}
+use Rattle.b2_machine.specs.Turn.{ended_turn, turn_from}
 use Rattle.b2_machine.proofs.Kept.{both_kept}
-use Rattle.b2_machine.proofs.Turns.{at_end, ended_by, few_on, goes_on}
+use Rattle.b2_machine.proofs.Turns.{at_end, ended_by, few_on, carries_on}
 use Rattle.b2_machine.proofs.turning.turn.Goals as goal
 
 pub step-requires : goal.step-requires
@@ -15,7 +15,7 @@ step-requires g c =
 pub returns-in-Some-clause-turned : goal.returns-in-Some-clause-turned
 returns-in-Some-clause-turned g c =
     let shared = g.S.Shared in
-    ap (λ n. ended n c.in-Some.why c.step.new.me (shared.meaning c.step.new.s)) c.counted_on-steps.ensures
+    ap (λ n. ended_turn n c.in-Some.why c.step.new.me (shared.meaning c.step.new.s)) c.counted_on-steps.ensures
     ∙ ended_by shared.store shared.serving shared.lending c.args.quota c.loop.counter c.loop.me c.step.new.me (shared.meaning c.loop.s) (shared.meaning c.step.new.s) c.in_ok-end.end c.in-Some.why c.loop.steps c.loop-test.true c.in_ok-end.ensures.stepped c.in-Some.is
     ∙ c.loop.invariant.told
 
@@ -24,7 +24,7 @@ loop-preserved g c =
     let shared = g.S.Shared in
     record {
       told = ap (λ n. turn_from shared.store shared.serving shared.lending (c.args.quota - (c.loop.counter + 1)) c.step.new.me (shared.meaning c.step.new.s) n) c.counted_on-steps.ensures
-          ∙ goes_on shared.store shared.serving shared.lending c.args.quota c.loop.counter c.loop.me c.step.new.me (shared.meaning c.loop.s) (shared.meaning c.step.new.s) c.in_ok-end.end c.loop.steps c.loop-test.true c.in_ok-end.ensures.stepped c.in-None.is
+          ∙ carries_on shared.store shared.serving shared.lending c.args.quota c.loop.counter c.loop.me c.step.new.me (shared.meaning c.loop.s) (shared.meaning c.step.new.s) c.in_ok-end.end c.loop.steps c.loop-test.true c.in_ok-end.ensures.stepped c.in-None.is
           ∙ c.loop.invariant.told;
       few = few_on c.in_ok-end.end.counted c.loop.steps c.counted_on-steps.result c.loop.counter c.counted_on-steps.ensures c.loop.invariant.few;
       same = c.in_ok-end.ensures.same ∙ c.loop.invariant.same;

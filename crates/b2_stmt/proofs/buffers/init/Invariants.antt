@@ -11,7 +11,7 @@ abbrev pub invariant-loop-to : goal.invariant-loop-to
 invariant-loop-to l = record {
   part : is_part row.BUFFER l.left ≡ true;
   list : are_others (past_first l.left) ≡ true;
-  filled : assign_each (fills_one l.a l.home l.byte) (tree_at row.BUFFER l.left ∷ items_after (left_at (past_first l.left))) l.vars
+  all_filled : assign_each (fills_one l.a l.home l.byte) (tree_at row.BUFFER l.left ∷ items_after (left_at (past_first l.left))) l.vars
       ≡ assign_each (fills_one l.a l.home l.byte) (buffers_of_init (tree_at row.INIT l.unit)) l.fn.vars;
 }
 

@@ -11,7 +11,7 @@ use Rattle.b2_stmt.specs.Around.{around, surroundings_of}
 use Rattle.b2_stmt.specs.Asked.{asked_of}
 use Rattle.b2_stmt.specs.OnVariables.{is_on_variables}
 use Rattle.b2_stmt.specs.Plan.{is_refused}
-use Rattle.b2_stmt.specs.Clearing.{access_of}
+use Rattle.b2_stmt.specs.Clearing.{asked_access}
 use Rattle.b2_access.specs.Planning.{done}
 use Rattle.b2_access.specs.declared.setting.Setting.{Setting}
 use Rattle.b2_stmt.proofs.Executed.{carried_there}
@@ -24,14 +24,14 @@ returns-clause-planned c globals =
     let p = c.args.place in
     let s : SeenLent = record { own = c.args.own.now; home = c.args.home.now; globals = globals } in
     let line : line_at c.args.n c.args.home.now.lines ≡ Some c.in-Some.line.atoms.now = search rules in
-    let allowed : is_refused u.row true ≡ false = search rules in
+    let permitted : is_refused u.row true ≡ false = search rules in
     let changes : is_on_variables u.row ≡ false = search rules in
-    let reads : (u.row == row.READ) ≡ false = first_of (search (rules, c.if-unit-eq-READ.false), grind (arith, nat_tests, c.if-unit-eq-READ.false)) in
+    let reads_data : (u.row == row.READ) ≡ false = first_of (search (rules, c.if-unit-eq-READ.false), grind (arith, nat_tests, c.if-unit-eq-READ.false)) in
     let marks : (u.row == row.DEFFN_MARKED) ≡ false = first_of (search (rules, c.if-unit-eq-DEFFN_MARKED.false), grind (arith, nat_tests, c.if-unit-eq-DEFFN_MARKED.false)) in
     let e : Context = in_statement (surroundings_of c.setting_of-setting.result me.vars c.args.home.now) in
     let around_is : e ≡ around me s.home = ap (λ (a : Setting). in_statement (surroundings_of a me.vars c.args.home.now)) c.setting_of-setting.ensures in
     let asked : c.in_ok-asked.asked ≡ asked_of u.row (tree_at u.row u.bytes.now) (record { place = p; units = tree_units c.in-Some.line.atoms.now }) e s.home.lines = search rules in
-    let none : access_of u.row (tree_at u.row u.bytes.now) ≡ None = search rules in
+    let none : asked_access u.row (tree_at u.row u.bytes.now) ≡ None = search rules in
     ap (done s) c.in_ok-outcome.ensures.ended
     ∙ sym (carried_there (line_at c.args.n c.args.home.now.lines) c.in-Some.line.atoms.now c.from.result u.row (tree_at u.row u.bytes.now) p me s true e c.in_ok-asked.asked
-    line c.from.ensures c.in-Some-row_unit.ensures.row c.in-Some-row_unit.ensures.tree (ap is_some c.requires.line) allowed (changes, reads, marks) none around_is asked)
+    line c.from.ensures c.in-Some-row_unit.ensures.row c.in-Some-row_unit.ensures.tree (ap is_some c.requires.line) permitted (changes, reads_data, marks) none around_is asked)

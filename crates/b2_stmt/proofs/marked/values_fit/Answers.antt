@@ -5,12 +5,12 @@ use Rattle.b2_atom.specs.Words.{Text}
 use Rattle.b2_atom.specs.Tree.{Trees}
 use Rattle.b2_atom.specs.declared.rows.TheConstants as row
 use Rattle.b2_rows.specs.Rows.{is_part, tree_at}
-use Rattle.b2_stmt.specs.Marked.{fits, takes_bytes}
+use Rattle.b2_stmt.specs.Marked.{values_fit, takes_bytes}
 use Rattle.b2_stmt.specs.Reading.{suits}
 use Rattle.b2_stmt.specs.ReceiverLists.{are_others, others_at, past_first, receivers_at}
 use Rattle.b2_stmt.proofs.MarkRows.{kind_is, last_fits, same_fits}
 use Rattle.b2_stmt.proofs.ReadRows.{no_items, other_items, other_list, other_part}
-use Rattle.b2_stmt.proofs.marked.fits.Goals as goal
+use Rattle.b2_stmt.proofs.marked.values_fit.Goals as goal
 
 pub returns-then-not-is_at : goal.returns-then-not-is_at
 returns-then-not-is_at c =
@@ -23,7 +23,7 @@ returns-then-not-is_at c =
     let suit : suits (takes_bytes (tree_at row.RECEIVER left)) x ≡ true = ap (λ (b : Bool). suits b x) (kind_is left i.part ∙ sym c.is_alpha_at.ensures) ∙ suited in
     let last : (first (past_first left) == byte.comma) ≡ false = search rules in
     let empty : c.is_empty.result ≡ (length xs == 0) = search rules in
-    empty ∙ sym (last_fits xs) ∙ sym (ap (λ (ts : List Trees). fits ts xs) (no_items (past_first left) last))
+    empty ∙ sym (last_fits xs) ∙ sym (ap (λ (ts : List Trees). values_fit ts xs) (no_items (past_first left) last))
     ∙ sym (same_fits (tree_at row.RECEIVER left) (others_at (past_first left)) x xs c.loop-value.values.now same suit)
     ∙ i.fit
 
@@ -41,8 +41,8 @@ loop-value-preserved c =
     record {
       part = subst (λ (u : Text). is_part row.RECEIVER u ≡ true) next (other_part (past_first left) i.list comma);
       list = subst (λ (u : Text). are_others (past_first u) ≡ true) next (other_list (past_first left) i.list comma);
-      fit = sym (ap (λ (u : Text). fits (receivers_at u) xs) next)
-          ∙ sym (ap (λ (ts : List Trees). fits ts xs) (other_items (past_first left) i.list comma))
+      fit = sym (ap (λ (u : Text). values_fit (receivers_at u) xs) next)
+          ∙ sym (ap (λ (ts : List Trees). values_fit ts xs) (other_items (past_first left) i.list comma))
           ∙ sym (same_fits (tree_at row.RECEIVER left) (others_at (past_first left)) x xs c.loop-value.values.now same suit)
           ∙ i.fit;
     }

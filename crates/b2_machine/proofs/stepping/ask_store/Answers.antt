@@ -1,6 +1,6 @@
 use Rattle.b2_machine.proofs.Kept.{served_kept}
 use Rattle.b2_machine.proofs.Results.{on_ok}
-use Rattle.b2_machine.proofs.stepping.ask.Goals as goal
+use Rattle.b2_machine.proofs.stepping.ask_store.Goals as goal
 
 pub returns-clause-listed : goal.returns-clause-listed
 returns-clause-listed g c =
