@@ -8,11 +8,13 @@ use Rattle.b2_boot.specs.Boots.{BootState}
 use Rattle.b2_boot.specs.declared.log.Event.{Event}
 use Rattle.b2_mvp.specs.Inputs.{log_limit, HasBoot, HasLog, FailsLog, FetchFails, IsLonger, CannotBoot, CannotLog}
 use Rattle.b2_mvp.specs.Outputs.{Output, outputs, with_files, summary, FailsKeep}
-use Rattle.b2_mvp.specs.Top.{command_of, world_after, Refuses, Stops, Delivers, FailsOutput, Comes}
+use Rattle.b2_mvp.specs.Top.{command_of, boot_for, world_after, Refuses, Stops, Delivers, FailsOutput, Comes}
 use Rattle.b2_mvp.specs.Top.Input.{TheBoot, TheLog}
 use Rattle.b2_mvp.specs.declared.status.Status.{Status}
 use Rattle.b2_mvp.specs.declared.status.Status.TheVariants as status
 use Rattle.b2_mvp.specs.declared.top.Command.{Command}
+use Rattle.b2_mvp.proofs.BootNumbers.{numbered_for}
+use Rattle.b2_mvp.proofs.GroupOutputs.{groups_show, lists_clean}
 use Rattle.b2_mvp.proofs.Keeps.{rose_later}
 
 -- a fetch that comes after another
@@ -97,13 +99,16 @@ output xs ys line text old mid new before after at cause later_cause sink_cause 
 pub delivered : (words : List (List ℕ)) (c : Command) (boot : BootState) (events : List Event) (all : List Output) (line : List ℕ)
     (old mid new : ShelfSeen) (before after : SinkSeen) (s : Status)
     → command_of words ≡ Some c → HasBoot c.boot old.files boot → HasLog c.log old.files boot events
-    → all ≡ outputs c.out (world_after boot events).store → line ≡ summary (world_after boot events) → Later old mid → mid.files ≡ old.files
+    → all ≡ outputs c.out (world_after (boot_for c.group boot) events).store → line ≡ summary (boot_for c.group boot) (world_after (boot_for c.group boot) events)
+    → Later old mid → mid.files ≡ old.files
     → Delivers all line mid new before after s → Comes words old new before after s
 delivered words c boot events all line old mid new before after status.Ok is has_boot has_log all_is line_is later same h =
     record {
       run = record { command = c; boot = boot; events = events; is_command = is; has_boot = has_boot; has_log = has_log };
       files = h.0 ∙ (λ i. with_files (all_is i) (same i));
       written = h.1 ∙ ap (λ (l : List ℕ). option_map (λ w. w ++ l) before.written) line_is;
+      groups = groups_show c.out (boot_for c.group boot) events;
+      listed = lists_clean (boot_for c.group boot) events (numbered_for has_boot.bytes boot c.group has_boot.passes);
     }
 delivered words c boot events all line old mid new before after status.Usage is has_boot has_log all_is line_is later same h = absurd h
 delivered words c boot events all line old mid new before after (status.Missing at) is has_boot has_log all_is line_is later same h = absurd h

@@ -28,4 +28,4 @@ GroupsShowAsAlone out b log = (g : Group) → IsClean g (steps_from b log) → (
 -- THE LIST: a partition stands in it exactly where it is present and by itself is such a group.
 abbrev pub ListsTheClean : BootState → List Event → Type 0
 ListsTheClean b log =
-    (p : ℕ) → (is_in_group (apart b (ran log (booted b))) p ≡ true) ↔ ((is_in_group (numbers b) p ≡ true) × IsClean (just p) (steps_from b log))
+    (p : ℕ) → (is_in_group (apart b (ran log (booted b))) p ≡ true) ↔ ((is_in_group (numbers b.partitions) p ≡ true) × IsClean (just p) (steps_from b log))

@@ -8,8 +8,9 @@ use Rattle.b2_base.specs.Seen.{ShelfSeen}
 use Rattle.b2_term.specs.Terminal.{TerminalState}
 use Rattle.b2_access.specs.declared.objects.Object.TheVariants as object
 use Rattle.b2_access.specs.Store.{StoreState, content}
-use Rattle.b2_audit.specs.Marks.{is_clean}
+use Rattle.b2_audit.specs.Marks.{Marks, is_clean}
 use Rattle.b2_boot.specs.Boots.{BootState}
+use Rattle.b2_boot.specs.declared.boot.BootPartition.{BootPartition}
 use Rattle.b2_sched.specs.World.{WorldState}
 use Rattle.b2_mvp.specs.Parts.{list_or_dash}
 use Rattle.b2_mvp.specs.declared.status.Status.{Status}
@@ -43,13 +44,16 @@ abbrev pub with_files : List Output → Option Files → Option Files
 with_files [] files = files
 with_files (o ∷ os) files = with_files os (with_file o.name o.bytes files)
 
--- the partitions of a boot
-abbrev pub numbers : BootState → List ℕ
-numbers b = map (λ p. p.number) b.partitions
+-- the numbers of partitions, and of those that marks say are clean
+abbrev pub numbers : List BootPartition → List ℕ
+numbers ps = map (λ p. p.number) ps
 
--- those that are apart in its world
+abbrev pub apart_in : Marks → List BootPartition → List ℕ
+apart_in marks ps = filter (λ p. is_clean p marks) (numbers ps)
+
+-- the partitions of a boot that are apart in its world
 abbrev pub apart : BootState → WorldState → List ℕ
-apart b w = filter (λ p. is_clean p w.marks) (numbers b)
+apart b w = apart_in w.marks b.partitions
 
 -- the line that a run from a boot ends with
 abbrev pub summary : BootState → WorldState → List ℕ

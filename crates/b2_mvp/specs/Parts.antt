@@ -1,11 +1,13 @@
 -- Lists of partitions, as the command line names a group and as the summary tells who is apart: numbers from 1 to 16 that ascend,
 -- joined by commas.
-use Rattle.std.specs.Prelude.{ℕ, ◌+◌, ◌-◌, ◌&&◌, ◌==◌, nat_lt, List, [], ◌∷◌, ◌++◌, codes, Option, Some, None, option_map, option_and_then, if◌then◌else◌}
+use Rattle.std.specs.Prelude.{◌≡◌, ◌≢◌, ℕ, ◌+◌, ◌-◌, ◌&&◌, ◌==◌, nat_le, nat_lt, true, List, [], ◌∷◌, ◌++◌, codes, Option, Some, None, option_map, option_and_then, if◌then◌else◌}
 use Rattle.std.specs.Fmt.{decimal}
+use Rattle.std.specs.List.{list_all}
 use Rattle.b2_base.specs.Byte as byte
 use Rattle.b2_base.specs.Lexical.{is_digit}
 use Rattle.b2_base.specs.Pieces.{pieces}
 use Rattle.b2_base.specs.Places.{part_of}
+use Rattle.b2_boot.specs.Boots.{Ascends}
 
 -- numbers joined by commas
 abbrev pub each_after_comma : List ℕ → List ℕ
@@ -35,3 +37,10 @@ parts_above last (w ∷ ws) = option_and_then (λ p. if nat_lt last p then optio
 -- THE PARTITIONS THAT A WORD LISTS
 abbrev pub listed_parts : List ℕ → Option (List ℕ)
 listed_parts word = parts_above 0 (pieces byte.comma word)
+
+-- A WORD LISTS PARTITIONS: at least one, each from 1 to 16 and above the one before, joined by commas.
+pub record Lists (word parts : List ℕ) : Type 0 where
+  pub spelled : word ≡ by_commas parts
+  pub some : parts ≢ []
+  pub ascending : Ascends 0 parts
+  pub within : list_all (λ p. nat_le p 16) parts ≡ true

@@ -10,17 +10,17 @@ ghost use Rattle.b2_mvp.specs.Outputs as spec;
 use crate::parts::add_list;
 use crate::status::Status;
 use b2_base::{FileName, Keep, NoMemory, Part, Shelf, Term};
-use b2_boot::Boot;
+use b2_boot::{Boot, BootPartition};
 use b2_sched::World;
 use b2_store::Stores;
 use std::alloc::Global;
 
-/// The partitions of a boot that are apart in its world.
-fn apart(alloc: Global, boot: &Boot, world: &World) -> Result<Vec<Part>, NoMemory>
-    ensures { IfOk result (λ parts. parts.items ≡ spec.apart boot.now world.now) }
+/// The partitions that are apart in a world.
+fn apart(alloc: Global, partitions: &[BootPartition], world: &World) -> Result<Vec<Part>, NoMemory>
+    ensures { IfOk result (λ parts. parts.items ≡ spec.apart_in world.now.marks partitions.now) }
 {
     let mut parts = Vec::new(alloc);
-    for p in &boot.partitions {
+    for p in partitions {
         if world.clean(p.number) {
             parts.push(p.number)?;
         }
@@ -37,7 +37,8 @@ pub fn summarize(alloc: Global, boot: &Boot, world: &World) -> Result<Vec<u8>, N
     let dropped = world.dropped();
     let counts = format!(in alloc; "turns {turns} steps {steps} dropped {dropped} apart ")?;
     let mut line = counts.into_bytes();
-    add_list(&mut line, &apart(alloc, boot, world)?)?;
+    let parts = apart(alloc, &boot.partitions, world)?;
+    add_list(&mut line, &parts)?;
     line.push(b'\n')?;
     Ok(line)
 }

@@ -1,5 +1,5 @@
 // Lists of partitions: as the command line names a group, and as the summary tells who is apart.
-ghost use Rattle.std.specs.Prelude.{◌≡◌, ◌∷◌, ◌++◌, ◌<◌, ◌≤◌, [], OnOk, length};
+ghost use Rattle.std.specs.Prelude.{◌≡◌, ◌↔◌, ◌∷◌, ◌++◌, ◌<◌, ℕ, List, [], Some, OnOk, length};
 ghost use Rattle.std.specs.Fmt.{decimal};
 ghost use Rattle.b2_mvp.specs.Parts as spec;
 
@@ -55,22 +55,10 @@ impl Parts {
     /// The partitions that a word lists: numbers from 1 to 16 that ascend, each without zeros before, joined by commas. None
     /// where the word is no such list.
     pub fn of(word: &[u8]) -> Option<Parts>
-        ensures { result ≡ spec.listed_parts word.now }
+        ensures value { result ≡ spec.listed_parts word.now }
+        ensures lists { (parts : List ℕ) → (result ≡ Some parts) ↔ spec.Lists word.now parts }
     {
-        let mut parts = Parts::empty();
-        let mut last = 0u8;
-        let mut left = Some(word);
-        while let Some(text) = left {
-            let (piece, rest) = cut(text, b',');
-            let part = part_in(piece)?;
-            if part.number() <= last {
-                return None;
-            }
-            last = part.number();
-            parts.push(part);
-            left = rest;
-        }
-        Some(parts)
+        read_parts(word)
     }
 }
 
@@ -83,6 +71,26 @@ fn part_in(piece: &[u8]) -> Option<Part>
         [b'1', d] if is_digit(*d) => Part::of(10 + (*d - b'0')),
         _ => None,
     }
+}
+
+/// The partitions that a word lists, read from left to right.
+fn read_parts(word: &[u8]) -> Option<Parts>
+    ensures { result ≡ spec.listed_parts word.now }
+{
+    let mut parts = Parts::empty();
+    let mut last = 0u8;
+    let mut left = Some(word);
+    while let Some(text) = left {
+        let (piece, rest) = cut(text, b',');
+        let part = part_in(piece)?;
+        if part.number() <= last {
+            return None;
+        }
+        last = part.number();
+        parts.push(part);
+        left = rest;
+    }
+    Some(parts)
 }
 
 /// Adds the number of a partition.

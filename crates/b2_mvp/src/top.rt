@@ -3,7 +3,7 @@ ghost use Rattle.std.specs.Prelude.{◌≡◌, ◌≤◌, IfSome, IfOk, None, le
 ghost use Rattle.b2_base.specs.Seen.{shelf_seen, sink_seen};
 ghost use Rattle.b2_mvp.specs.Complete.{IsComplete};
 ghost use Rattle.b2_mvp.specs.Outputs.{outputs, summary};
-ghost use Rattle.b2_mvp.specs.Top.{command_of, texts, world_after, Delivers, Comes};
+ghost use Rattle.b2_mvp.specs.Top.{command_by, command_of, boot_for, texts, world_after, Delivers, Comes};
 
 use crate::inputs::{read_boot, read_log};
 use crate::outputs::{keep_transcripts, summarize};
@@ -33,7 +33,7 @@ struct Ready {
 
 /// The command of three names and a group, where the names are those of files.
 fn command_by(boot: &[u8], log: &[u8], out: &[u8], group: Option<Parts>) -> Option<Command>
-    ensures value { result ≡ spec.command_by boot.now log.now out.now group }
+    ensures value { result ≡ command_by boot.now log.now out.now group }
     ensures short { IfSome result (λ c. length c.out ≤ 190) }
 {
     let boot = FileName::of(boot)?;
@@ -66,8 +66,8 @@ fn read_command(words: &[Vec<u8>]) -> Option<Command>
 
 /// Runs the events from the boot's world.
 fn run_events(alloc: Global, boot: &Boot, events: &[Event]) -> Result<Ready, NoMemory>
-    ensures world { IfOk result (λ ready. ready.world ≡ ran events.now (booted boot.now)) }
-    ensures line { IfOk result (λ ready. ready.line.items ≡ summary boot.now (ran events.now (booted boot.now))) }
+    ensures world { IfOk result (λ ready. ready.world ≡ world_after boot.now events.now) }
+    ensures line { IfOk result (λ ready. ready.line.items ≡ summary boot.now (world_after boot.now events.now)) }
 {
     let mut world = World::boot(alloc, boot)?;
     world.run(events)?;
@@ -82,12 +82,15 @@ fn run_group(
     boot: &Boot,
     events: &[Event],
 ) -> Result<Ready, NoMemory>
-    ensures world { IfOk result (λ ready. ready.world ≡ ran events.now (booted (boot_for group.now boot.now))) }
-    ensures line { IfOk result (λ ready. ready.line.items ≡ summary (boot_for group.now boot.now) (ran events.now (booted (boot_for group.now boot.now)))) }
+    ensures world { IfOk result (λ ready. ready.world ≡ world_after (boot_for group.now boot.now) events.now) }
+    ensures line { IfOk result (λ ready. ready.line.items ≡ summary (boot_for group.now boot.now) (world_after (boot_for group.now boot.now) events.now)) }
 {
     match group {
         None => run_events(alloc, boot, events),
-        Some(parts) => run_events(alloc, &boot.alone(alloc, parts.as_slice())?, events),
+        Some(parts) => {
+            let members = boot.alone(alloc, parts.as_slice())?;
+            run_events(alloc, &members, events)
+        }
     }
 }
 
@@ -139,7 +142,9 @@ fn run_words<F: Shelf, O: Sink>(
 
 /// Does all that the program does with the words after its name, over a shelf of files and a sink for the summary:
 /// `run BOOT LOG OUT` fetches the boot file and the log, runs the log from the boot, keeps the transcript of each
-/// terminal as `OUT.t` and its number of two digits, and puts the summary line.
+/// terminal as `OUT.t` and its number of two digits, and puts the summary line, which also lists the partitions that are
+/// apart. `alone BOOT LOG OUT PARTS` does the same with the listed partitions alone; the log is checked against the whole boot
+/// all the same.
 ///
 /// The first refusal on this way is the answer. Until the log has run to its end, no file changes; nothing is put before
 /// the last transcript is kept. Where the words are no command, the answer is `Usage`, whatever the memory.

@@ -1,0 +1,54 @@
+-- The partitions of a boot file have numbers from 1 to 16 and terminals from 1 to 12.
+use Rattle.std.proofs.Common.{◌≡◌, ℕ, ◌≤◌, nat_le, Bool, true, false, ◌&&◌, List, [], ◌∷◌, map, cond, Option, Some, None, Result, Ok, Err, refl, sym, subst, arith}
+use Rattle.std.specs.Prelude.{filter}
+use Rattle.std.specs.List.{list_all}
+use Rattle.std.proofs.lemmas.Bool.{and_parts, leb-true}
+use Rattle.toml.specs.Data.{Members}
+use Rattle.b2_boot.specs.Alone.{alone, is_in_group}
+use Rattle.b2_boot.specs.Boots.{BootState, boot_of, boot_by_document, boot_by_rows, boot_from, ascending, check_of_rows, unless_failed, has_its_places, partition_of}
+use Rattle.b2_boot.specs.Rows.{RowsState, document_of, document_rows, is_between}
+use Rattle.b2_boot.specs.declared.boot.BootPartition.{BootPartition}
+use Rattle.b2_boot.specs.declared.rows.PartitionRow.{PartitionRow}
+use Rattle.b2_boot.proofs.Passed.{passed, partitions_have_places}
+use Rattle.b2_sched.specs.Start.{AreNumbered}
+use Rattle.b2_mvp.specs.Top.{boot_for}
+
+within : (most n : ℕ) → is_between 1 most n ≡ true → (1 ≤ n) × (n ≤ most)
+within most n h = let both = and_parts (nat_le 1 n) (nat_le n most) h in (leb-true 1 n both.0, leb-true n most both.1)
+
+rows_numbered : (ps : List PartitionRow) → list_all has_its_places ps ≡ true → AreNumbered (map partition_of ps)
+rows_numbered [] h = tt
+rows_numbered (p ∷ ps) h =
+    let both = and_parts (has_its_places p) (list_all has_its_places ps) h in
+    let here = and_parts (is_between 1 16 p.number) (is_between 1 12 p.terminal) both.0 in
+    (within 16 p.number here.0, within 12 p.terminal here.1, rows_numbered ps both.1)
+
+by_check : (rows : RowsState) (b : BootState) (check : Option ℕ) → check_of_rows rows ≡ check → unless_failed check (boot_from (ascending rows)) ≡ Ok b → AreNumbered b.partitions
+by_check rows b None is e =
+    let same : boot_from (ascending rows) ≡ b = cc in
+    subst (λ (x : BootState). AreNumbered x.partitions) same (rows_numbered (ascending rows).partitions (partitions_have_places rows (passed rows (ascending rows) (sym is))))
+by_check rows b (Some n) is e = absurd cc
+
+by_rows : (rows : Option RowsState) (b : BootState) → boot_by_rows rows ≡ Ok b → AreNumbered b.partitions
+by_rows None b e = absurd cc
+by_rows (Some rows) b e = by_check rows b (check_of_rows rows) refl e
+
+by_document : (document : Option Members) (b : BootState) → boot_by_document document ≡ Ok b → AreNumbered b.partitions
+by_document None b e = absurd cc
+by_document (Some document) b e = by_rows (document_rows document) b e
+
+-- so have those that are left of them
+first_left : (p : BootPartition) (ps : List BootPartition) (b : Bool) → AreNumbered (p ∷ ps) → AreNumbered (cond b (p ∷ ps) ps)
+first_left p ps true h = h
+first_left p ps false h = h.2
+
+left_numbered : (test : BootPartition → Bool) (ps : List BootPartition) → AreNumbered ps → AreNumbered (filter test ps)
+left_numbered test [] h = tt
+left_numbered test (p ∷ ps) h = first_left p (filter test ps) (test p) (h.0, h.1, left_numbered test ps h.2)
+
+for_group : (group : Option (List ℕ)) (b : BootState) → AreNumbered b.partitions → AreNumbered (boot_for group b).partitions
+for_group None b h = h
+for_group (Some parts) b h = left_numbered (λ p. is_in_group parts p.number) b.partitions h
+
+pub numbered_for : (bytes : List ℕ) (b : BootState) (group : Option (List ℕ)) → boot_of bytes ≡ Ok b → AreNumbered (boot_for group b).partitions
+numbered_for bytes b group e = for_group group b (by_document (document_of bytes) b e)
