@@ -1,5 +1,5 @@
 -- A statement that ends at once: what its step begins with is what it does.
-use Rattle.std.proofs.Common.{◌≡◌, ℕ, ◌==◌, ◌&&◌, not, Bool, true, false, true≢false, if◌then◌else◌, List, refl, sym, ap, ◌∙◌, arith, Option, Some, None, option_map}
+use Rattle.std.proofs.Common.{◌≡◌, ℕ, ◌==◌, ◌&&◌, not, Bool, true, false, true≢false, if◌then◌else◌, List, refl, sym, ap, ◌∙◌, arith, Option, Some, None, is_some, option_map}
 use Rattle.std.specs.Prelude.{slice_get}
 use Rattle.std.proofs.lemmas.Bool.Decides.{nat_tests}
 use Rattle.b2_atom.specs.Tree.{names_global}
@@ -74,3 +74,8 @@ ended_at_once p me s line u x e is is_line is_unit quiet is_x is_e =
     ap has_ended is_e
     ∙ sym (ap (λ (y : Planning). begun y (builder_of u) p s.home.lines) plans)
     ∙ sym (ap (λ (o : Option Statement). begins_where o p me s) there)
+
+-- a line of the program is the same, whatever the immediate line is
+pub line_kept : (immediate other : Option (List ℕ)) (home : Lines) (n : Option ℕ) (line : List ℕ) → is_some n ≡ true → line_named immediate home n ≡ Some line → line_named other home n ≡ Some line
+line_kept immediate other home None line is h = absurd (true≢false (sym is))
+line_kept immediate other home (Some n) line is h = h

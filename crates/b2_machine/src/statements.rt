@@ -175,20 +175,20 @@ fn end_at_once(
     home: &Text,
     line: &Atoms,
     unit: &RowUnit<'_>,
-    place: Place,
+    place: &Place,
 ) -> Result<Stepped, NoMemory>
-    requires stands { me.old.place ≡ Some place }
-    requires program { is_some place.line ≡ true }
-    requires line { line_of_place me.old.immediate home.now.lines place.line ≡ Some line.now }
-    requires statement { Some (record { row = unit.now.row; tree = tree_at unit.now.row unit.now.bytes.now }) ≡ named_on (Some line.now) place.unit }
+    requires stands { me.old.place ≡ Some place.now }
+    requires program { is_some place.now.line ≡ true }
+    requires line { line_of_place me.old.immediate home.now.lines place.now.line ≡ Some line.now }
+    requires statement { Some (record { row = unit.now.row; tree = tree_at unit.now.row unit.now.bytes.now }) ≡ named_on (Some line.now) place.now.unit }
     requires quiet { spec.ends_at_once (record { row = unit.now.row; tree = tree_at unit.now.row unit.now.bytes.now }) ≡ true }
     requires read { IsRow unit.now.row unit.now.bytes.now (tree_at unit.now.row unit.now.bytes.now) }
-    requires few { place.unit < 255 }
-    ensures begun { (s : SeenLent) → s.own ≡ own.now → s.home ≡ home.now → IfOk result (λ e. spec.has_ended (record { me = me.new; end = e }) ≡ spec.begins place me.old s) }
+    requires few { place.now.unit < 255 }
+    ensures begun { (s : SeenLent) → s.own ≡ own.now → s.home ≡ home.now → IfOk result (λ e. spec.has_ended (record { me = me.new; end = e }) ≡ spec.begins place.now me.old s) }
     ensures part { me.new.part ≡ me.old.part }
 {
-    let outcome = b2_stmt::execute(alloc, me, own, home, line, unit, place)?;
-    settle_on(alloc, me, home, line, place, outcome)
+    let outcome = b2_stmt::execute(alloc, me, own, home, line, unit, *place)?;
+    settle_on(alloc, me, home, line, *place, outcome)
 }
 
 /// Executes the statement at a place, where it ends at once and stands in a line of the program.
@@ -197,10 +197,10 @@ fn begin_at_once(
     me: &mut Private,
     own: &Text,
     home: &Text,
-    place: Place,
+    place: &Place,
 ) -> Result<Option<Stepped>, NoMemory>
-    requires stands { me.old.place ≡ Some place }
-    ensures begun { (s : SeenLent) → s.own ≡ own.now → s.home ≡ home.now → IfOk result (λ e. IfSome e (λ e. spec.has_ended (record { me = me.new; end = e }) ≡ spec.begins place me.old s)) }
+    requires stands { me.old.place ≡ Some place.now }
+    ensures begun { (s : SeenLent) → s.own ≡ own.now → s.home ≡ home.now → IfOk result (λ e. IfSome e (λ e. spec.has_ended (record { me = me.new; end = e }) ≡ spec.begins place.now me.old s)) }
     ensures same { IfOk result (λ e. e ≡ None → me.new ≡ me.old) }
     ensures part { me.new.part ≡ me.old.part }
 {
@@ -270,7 +270,8 @@ pub fn begin_over(
         globals,
         found,
     } = lent;
-    match begin_at_once(alloc, me, own, home, *place)? {
+    let ended = begin_at_once(alloc, me, own, home, place)?;
+    match ended {
         Some(end) => Ok(Course::Ended(end)),
         None => {
             let lent = Lent {

@@ -1,4 +1,5 @@
 use Rattle.std.proofs.Common.{rules, ◌≡◌, true, ap, sym, ◌∙◌}
+use Rattle.b2_access.specs.Partition.{setting_of}
 use Rattle.b2_rows.specs.Following.{tree_units}
 use Rattle.b2_rows.specs.Rows.{tree_at}
 use Rattle.b2_expr.specs.Scope.{Context}
@@ -24,7 +25,7 @@ returns-then-is_still-clause-ended c globals =
     let home = c.args.home.now in
     let s : SeenLent = record { own = c.args.own.now; home = home; globals = globals } in
     let h : Here = record { place = c.args.place; units = tree_units c.args.line.now } in
-    let e : in_statement (surroundings_of c.setting_of-setting.result me.vars home) ≡ around me home = ap (λ (a : Setting). in_statement (surroundings_of a me.vars home)) c.setting_of-setting.ensures in
+    let e : in_statement (surroundings_of c.setting_of-setting.result me.vars home) ≡ context_of (setting_of me) me.vars home = ap (λ (a : Setting). in_statement (surroundings_of a me.vars home)) c.setting_of-setting.ensures in
     let here : is_still u.row ≡ true = search rules in
-    let ended : c.still.result ≡ still u.row (tree_at u.row u.bytes.now) h (around me home) home.lines = c.still.ensures ∙ ap (λ (x : Context). still u.row (tree_at u.row u.bytes.now) h x home.lines) e in
+    let ended : c.still.result ≡ still u.row (tree_at u.row u.bytes.now) h (context_of (setting_of me) me.vars home) home.lines = c.still.ensures ∙ ap (λ (x : Context). still u.row (tree_at u.row u.bytes.now) h x home.lines) e in
     ap (ends_so me) ended ∙ sym (still_there (tree_at u.row u.bytes.now) h me s u.row here)
