@@ -1,5 +1,5 @@
 -- No partition of a world keeps a place for CONTINUE while its program runs.
-use Rattle.std.specs.Prelude.{◌≡◌, ℕ, ◌==◌, Bool, true, false, cond, List, [], ◌∷◌, map, Option, Some, None, is_some, refl}
+use Rattle.std.specs.Prelude.{◌≡◌, ℕ, ◌==◌, Bool, true, false, cond, List, [], ◌∷◌, map, Option, Some, is_some, refl}
 use Rattle.std.proofs.Common.{ap, subst}
 use Rattle.b2_access.specs.Partition.{KeepsNone}
 use Rattle.b2_access.specs.Rows.{row_of}

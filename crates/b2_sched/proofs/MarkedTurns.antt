@@ -1,12 +1,11 @@
 -- A turn over a watched store: that over the plain one, with the marks of its steps. A partition marks its own text where it is
 -- lent; a step by a rule that lends none touches it all the same, which marks nothing, since nobody else writes it.
-use Rattle.std.specs.Prelude.{◌≡◌, ◌≢◌, ℕ, zero, suc, Bool, true, false, List, [], ◌∷◌, length, Option, Some, None, refl, if◌then◌else◌}
-use Rattle.std.proofs.Common.{sym, ap, subst, ◌∙◌, inl, inr}
-use Rattle.std.proofs.lemmas.Bool.{true≢false}
+use Rattle.std.specs.Prelude.{◌≡◌, ℕ, zero, suc, Bool, true, false, List, [], ◌∷◌, length, Option, Some, None, refl, if◌then◌else◌}
+use Rattle.std.proofs.Common.{sym, ap, subst, ◌∙◌}
 use Rattle.b2_access.specs.Homes.{IsWithin}
 use Rattle.b2_access.specs.Partition.{is_ready}
 use Rattle.b2_access.specs.Serving.{serves, itself}
-use Rattle.b2_access.specs.Store.{StoreState, IsIn}
+use Rattle.b2_access.specs.Store.{StoreState}
 use Rattle.b2_access.specs.Touching.{touched}
 use Rattle.b2_access.specs.declared.accesses.Access.{Access}
 use Rattle.b2_access.specs.declared.accesses.Access.TheVariants as access

@@ -3,14 +3,16 @@
 use Rattle.std.specs.Prelude.{◌≡◌, ℕ, ◌==◌, Bool, true, false, cond, List, [], ◌∷◌, map, Option, Some, None, is_some, IsSome, refl}
 use Rattle.std.proofs.Common.{sym, ap, subst}
 use Rattle.b2_access.specs.Rows.{row_of, with_row}
-use Rattle.b2_access.specs.Store.{StoreState, content}
+use Rattle.b2_access.specs.Store.{StoreState}
 use Rattle.b2_access.specs.declared.objects.Object.TheVariants as object
 use Rattle.b2_access.specs.declared.private.Private.{Private}
 use Rattle.b2_audit.specs.Marks.{Marks, unmarked}
 use Rattle.b2_audit.specs.Steps.{marks_after}
 use Rattle.b2_boot.specs.declared.boot.BootPartition.{BootPartition}
 use Rattle.b2_machine.specs.Stays.{KeepsAll}
+use Rattle.b2_store.specs.Changes.{with_terminal}
 use Rattle.b2_store.specs.Start.{text_row}
+use Rattle.b2_term.specs.Terminal.{TerminalState}
 use Rattle.b2_sched.proofs.GroupRows.{row_holds}
 use Rattle.b2_sched.proofs.OwnTexts.{after_steps, starts_own, starts_whole}
 use Rattle.b2_sched.proofs.Settled.{starts_settled, turn_settled, turn_steps}
@@ -27,6 +29,11 @@ still_present q x rows s t m k new keeps present p me is =
 -- a partition with another own state alone
 pub with_own : (p : ℕ) (me x : Private) (s : StoreState) (m : Marks) → IsSettled p x → IsPresent p me s m → IsPresent p x s m
 with_own p me x s m settled is = record { settled = settled; text = is.text; own = is.own; whole = is.whole }
+
+-- and where a terminal changes
+pub present_at : (rows : List (ℕ × Private)) (s : StoreState) (m : Marks) (o : Option TerminalState) (t : ℕ) (f : TerminalState → TerminalState) → ArePresent rows s m → ArePresent rows (with_terminal o t f s) m
+present_at rows s m None t f present p me is = present p me is
+present_at rows s m (Some x) t f present p me is = let was = present p me is in record { settled = was.settled; text = was.text; own = was.own; whole = was.whole }
 
 -- after a turn
 pub turn_present : (q n : ℕ) (you : Private) (rows : List (ℕ × Private)) (s t : StoreState) (m : Marks) → KeepsAll s t → IsPresent q you s m → ArePresent rows s m

@@ -1,7 +1,8 @@
 -- Each partition has its number, its terminal and itself as its only home, after whatever happened; so its steps touch and write
 -- only what is marked, and no text but its own.
-use Rattle.std.specs.Prelude.{◌≡◌, ℕ, zero, suc, ◌==◌, Bool, true, false, cond, List, [], ◌∷◌, ◌++◌, map, Option, Some, None, is_some, refl}
+use Rattle.std.specs.Prelude.{◌≡◌, ℕ, zero, suc, ◌==◌, Bool, true, false, cond, List, [], ◌∷◌, map, Option, Some, None, is_some, refl}
 use Rattle.std.proofs.Common.{sym, ap, subst, ◌∙◌, inl, inr}
+use Rattle.b2_access.specs.OwnTerminal.{AskedAt}
 use Rattle.b2_access.specs.Rows.{row_of}
 use Rattle.b2_access.specs.Serving.{serves, itself}
 use Rattle.b2_access.specs.Store.{StoreState, IsIn}
@@ -10,11 +11,11 @@ use Rattle.b2_access.specs.declared.objects.Object.{Object}
 use Rattle.b2_access.specs.declared.objects.Object.TheVariants as object
 use Rattle.b2_access.specs.declared.private.Private.{Private}
 use Rattle.b2_audit.proofs.Accesses.{accesses_are_marked, accesses_write_own_texts}
-use Rattle.b2_audit.specs.Steps.{AreMarked, AreSteps, IsMarked, IsPartition, IsTerminal, Step, WriteOwnTexts, just}
+use Rattle.b2_audit.specs.Steps.{AreMarked, AreSteps, IsMarked, IsPartition, IsTerminal, WriteOwnTexts, just}
 use Rattle.b2_boot.specs.declared.boot.BootPartition.{BootPartition}
 use Rattle.b2_machine.proofs.StepHomes.{steps_stay_within}
 use Rattle.b2_machine.proofs.StepTerminal.{steps_ask_at_terminal}
-use Rattle.b2_machine.specs.Touched.{AskedAt, asking, step_touched, step_written, touched_where, written_where}
+use Rattle.b2_machine.specs.Touched.{asking, step_touched, step_written, touched_where, written_where}
 use Rattle.b2_machine.specs.Turn.{TurnEnd, counted_on, ended_turn, turn_from, unless_ended}
 use Rattle.b2_machine.specs.declared.ends.Why.{Why}
 use Rattle.b2_sched.proofs.EachRow.{EachIs, IsKept}

@@ -5,8 +5,6 @@ use Rattle.b2_access.specs.declared.private.Private.{Private}
 use Rattle.b2_audit.proofs.Said.{marks_say_clean}
 use Rattle.b2_audit.specs.Marks.{Marks, is_clean, marked}
 use Rattle.b2_audit.specs.Steps.{AreSteps, IsClean, Step, just, marks_after}
-use Rattle.b2_boot.specs.Boots.{BootState}
-use Rattle.b2_boot.specs.declared.log.Event.{Event}
 use Rattle.b2_sched.proofs.AloneBoots.{as_alone}
 use Rattle.b2_sched.proofs.EachRow.{EachIs, each_action}
 use Rattle.b2_sched.proofs.Lasting.{by_actions}
@@ -16,9 +14,9 @@ use Rattle.b2_sched.specs.Clean.{CleanOnesAreAsAlone, MarksSayWhoIsClean, RunsMa
 use Rattle.b2_sched.specs.Groups.{steps_along, steps_at, steps_of}
 use Rattle.b2_sched.specs.Laws.{all_actions}
 use Rattle.b2_sched.specs.Presence.{IsSettled}
-use Rattle.b2_sched.specs.Start.{AreNumbered, booted}
+use Rattle.b2_sched.specs.Start.{booted}
 use Rattle.b2_sched.specs.Turns.{told_by}
-use Rattle.b2_sched.specs.World.{WorldState, Action, Key, Front, Halt, Reset, Turn, does, does_all, private_of, ran, with_turn}
+use Rattle.b2_sched.specs.World.{WorldState, Action, Key, Front, Halt, Reset, Turn, does, does_all, private_of, with_turn}
 
 -- along the actions of a run
 marks_append : (xs ys : List Step) (m : Marks) → marks_after (xs ++ ys) m ≡ marks_after ys (marks_after xs m)

@@ -5,7 +5,7 @@ use Rattle.b2_audit.specs.Marks.{Marks}
 use Rattle.b2_store.specs.Meaning.{store_of}
 use Rattle.b2_store.specs.Start.{Areas, text_row}
 use Rattle.b2_sched.specs.Presence.{ArePresent}
-use Rattle.b2_sched.specs.Start.{areas_of}
+use Rattle.b2_sched.specs.Start.{areas_of, private_row}
 use Rattle.b2_sched.proofs.Present.{booted_present}
 use Rattle.b2_sched.proofs.world.World.boot.Goals as goal
 
@@ -17,5 +17,5 @@ invariant_of-result c =
     let s = store_of c.in_ok-stores.stores in
     let texts = ap (λ (areas : List Areas). map text_row areas) areas ∙ sym (ap (λ (s : StoreState). s.texts) c.in_ok-stores.ensures.at_start) in
     let here = booted_present partitions s c.in_ok-privates.ensures.numbered texts in
-    let marks = subst (λ (m : Marks). ArePresent _ s m) (sym c.new-seen.ensures) here in
-    subst (λ (rows : List (ℕ × Private)). ArePresent rows s _) (sym c.in_ok-privates.ensures.started) marks
+    let marks = subst (λ (m : Marks). ArePresent (map private_row partitions) s m) (sym c.new-4.ensures) here in
+    subst (λ (rows : List (ℕ × Private)). ArePresent rows s c.new-4.result) (sym c.in_ok-privates.ensures.started) marks

@@ -1,7 +1,7 @@
-use Rattle.std.proofs.Common.{sym, ap, subst}
+use Rattle.std.proofs.Common.{sym, subst}
 use Rattle.b2_access.specs.declared.private.Private.{Private}
 use Rattle.b2_store.specs.Meaning.{store_of}
-use Rattle.b2_sched.specs.Presence.{IsPresent, IsSettled}
+use Rattle.b2_sched.specs.Presence.{IsSettled}
 use Rattle.b2_sched.proofs.Present.{still_present, with_own}
 use Rattle.b2_sched.proofs.Settled.{reset_settled}
 use Rattle.b2_sched.proofs.world.World.reset.Goals as goal
