@@ -53,12 +53,12 @@ same_line : (immediate : Option (List ℕ)) (home : Lines) (n : Option ℕ) → 
 same_line immediate home None = refl
 same_line immediate home (Some n) = refl
 
-course_here : (o : Option TreeUnit) (u : Statement) (h : Here) (me : Private) (s : SeenLent) → Some u ≡ option_map statement_of o → stmt.course_at o h me s ≡ stmt.allowed u.row u.tree h me s
+course_here : (o : Option TreeUnit) (u : Statement) (h : Here) (me : Private) (s : SeenLent) → Some u ≡ option_map statement_of o → stmt.course_at o h me s ≡ stmt.permitted u.row u.tree h me s
 course_here None u h me s is = cc
-course_here (Some v) u h me s is = ap (λ (x : Statement). stmt.allowed x.row x.tree h me s) (some_is (statement_of v) u (sym is))
+course_here (Some v) u h me s is = ap (λ (x : Statement). stmt.permitted x.row x.tree h me s) (some_is (statement_of v) u (sym is))
 
 planned : (p : Place) (me : Private) (s : SeenLent) (line : List ℕ) (u : Statement) → me.place ≡ Some p → line_named me.immediate s.home.lines p.line ≡ Some line → Some u ≡ statement_on (Some line) p.unit
-    → stmt.plan me s ≡ stmt.allowed u.row u.tree (record { place = p; units = tree_units line }) me s
+    → stmt.plan me s ≡ stmt.permitted u.row u.tree (record { place = p; units = tree_units line }) me s
 planned p me s line u is is_line is_unit =
     ap (λ (o : Option Place). stmt.course o me s) is
     ∙ ap (λ (l : Option (List ℕ)). stmt.course_in l p me s) (same_line me.immediate s.home.lines p.line ∙ is_line)
@@ -66,7 +66,7 @@ planned p me s line u is is_line is_unit =
 
 pub ended_at_once : (p : Place) (me : Private) (s : SeenLent) (line : List ℕ) (u : Statement) (x : Ended) (e : Ending)
     → me.place ≡ Some p → line_named me.immediate s.home.lines p.line ≡ Some line → Some u ≡ statement_on (Some line) p.unit → ends_at_once u ≡ true
-    → done s x ≡ stmt.allowed u.row u.tree (record { place = p; units = tree_units line }) me s → e ≡ ends_by counts x.outcome p x.me s.home.lines
+    → done s x ≡ stmt.permitted u.row u.tree (record { place = p; units = tree_units line }) me s → e ≡ ends_by counts x.outcome p x.me s.home.lines
     → has_ended e ≡ begins p me s
 ended_at_once p me s line u x e is is_line is_unit quiet is_x is_e =
     let there : statement_placed p me.immediate s.home.lines ≡ Some u = ap (λ (l : Option (List ℕ)). statement_on l p.unit) is_line ∙ sym is_unit in

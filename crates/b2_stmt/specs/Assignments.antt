@@ -1,5 +1,5 @@
 -- Assignments, and lists of receivers.
-use Rattle.std.specs.Prelude.{◌≡◌, ℕ, ◌==◌, List, [], ◌∷◌, Option, None, Some, Result, Ok, Err, if◌then◌else◌}
+use Rattle.std.specs.Prelude.{ℕ, ◌==◌, List, [], ◌∷◌, None, Some, Result, Ok, Err, if◌then◌else◌}
 use Rattle.b2_base.specs.declared.codes.TheConstants.{S20_VARIABLE}
 use Rattle.b2_dec.specs.Number.{Number}
 use Rattle.b2_atom.specs.Tree.{Trees}

@@ -1,9 +1,8 @@
-use Rattle.std.proofs.Common.{rules, ◌≡◌, Some, ap, sym, ◌∙◌, is_some}
+use Rattle.std.proofs.Common.{rules, ◌≡◌, Some, sym, ◌∙◌}
 use Rattle.b2_rows.specs.Rows.{tree_at}
 use Rattle.b2_text.specs.Program.{line_at}
 use Rattle.b2_access.specs.Lending.{SeenLent}
-use Rattle.b2_stmt.specs.Clearing.{asked_access}
-use Rattle.b2_stmt.proofs.Executed.{access_planned, unit_planned}
+use Rattle.b2_stmt.proofs.Executed.{unit_planned}
 use Rattle.b2_stmt.proofs.planning.execute_program.Goals as goal
 
 pub returns-clause-planned : goal.returns-clause-planned
