@@ -1,10 +1,9 @@
 -- The partitions of a boot file have numbers from 1 to 16 and terminals from 1 to 12.
-use Rattle.std.proofs.Common.{◌≡◌, ℕ, ◌≤◌, nat_le, Bool, true, false, ◌&&◌, List, [], ◌∷◌, map, cond, Option, Some, None, Result, Ok, Err, refl, sym, subst, arith}
+use Rattle.std.proofs.Common.{◌≡◌, ℕ, ◌≤◌, nat_le, Bool, true, false, List, [], ◌∷◌, map, cond, Option, Some, None, Ok, refl, sym, subst}
 use Rattle.std.specs.Prelude.{filter}
 use Rattle.std.specs.List.{list_all}
 use Rattle.std.proofs.lemmas.Bool.{and_parts, leb-true}
-use Rattle.toml.specs.Data.{Members}
-use Rattle.b2_boot.specs.Alone.{alone, is_in_group}
+use Rattle.b2_boot.specs.Alone.{is_in_group}
 use Rattle.b2_boot.specs.Boots.{BootState, boot_of, boot_by_document, boot_by_rows, boot_from, ascending, check_of_rows, unless_failed, has_its_places, partition_of}
 use Rattle.b2_boot.specs.Rows.{RowsState, document_of, document_rows, is_between}
 use Rattle.b2_boot.specs.declared.boot.BootPartition.{BootPartition}
@@ -33,9 +32,12 @@ by_rows : (rows : Option RowsState) (b : BootState) → boot_by_rows rows ≡ Ok
 by_rows None b e = absurd cc
 by_rows (Some rows) b e = by_check rows b (check_of_rows rows) refl e
 
-by_document : (document : Option Members) (b : BootState) → boot_by_document document ≡ Ok b → AreNumbered b.partitions
-by_document None b e = absurd cc
-by_document (Some document) b e = by_rows (document_rows document) b e
+by_file : (bytes : List ℕ) (b : BootState) → boot_of bytes ≡ Ok b → AreNumbered b.partitions
+by_file bytes b =
+    elim (document_of bytes) as (λ document. boot_by_document document ≡ Ok b → AreNumbered b.partitions) [
+      | None ↦ λ e. absurd cc
+      | Some document ↦ λ e. by_rows (document_rows document) b e
+    ]
 
 -- so have those that are left of them
 first_left : (p : BootPartition) (ps : List BootPartition) (b : Bool) → AreNumbered (p ∷ ps) → AreNumbered (cond b (p ∷ ps) ps)
@@ -51,4 +53,4 @@ for_group None b h = h
 for_group (Some parts) b h = left_numbered (λ p. is_in_group parts p.number) b.partitions h
 
 pub numbered_for : (bytes : List ℕ) (b : BootState) (group : Option (List ℕ)) → boot_of bytes ≡ Ok b → AreNumbered (boot_for group b).partitions
-numbered_for bytes b group e = for_group group b (by_document (document_of bytes) b e)
+numbered_for bytes b group e = for_group group b (by_file bytes b e)

@@ -77,7 +77,7 @@ const APART: [Apart; 17] = [
     Apart {
         boot: ONE_TERMINAL,
         log: b"turn 1 5\nfront 1 2\nturn 1 5\nfront 1 1\ntype 1 PRINT 1\nturn 1 5",
-        summary: b"turns 3 steps 4 dropped 0 apart 1,2\n",
+        summary: b"turns 3 steps 3 dropped 0 apart 1,2\n",
     },
     // A program that shows nothing while another has the terminal is apart until it has to wait.
     Apart {
