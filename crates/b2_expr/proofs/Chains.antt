@@ -14,13 +14,13 @@ use Rattle.b2_rows.proofs.EachChain as each
 use Rattle.b2_expr.specs.Answers.{Answer, ◌>>=◌}
 use Rattle.b2_expr.specs.Operators.{joined}
 use Rattle.b2_expr.specs.Scope.{Context}
-use Rattle.b2_expr.specs.Value.{next, value, further}
+use Rattle.b2_expr.specs.Value.{item_level, value, further}
 use Rattle.b2_expr.specs.Levels.{chain_of, is_chain, row_of_level, list_of, tail_of, is_operator}
 use Rattle.b2_expr.specs.declared.operators.Level.{Level}
 use Rattle.b2_expr.specs.declared.operators.Level.TheVariants as level
 
 -- a row of a chain: its first item, and the list of what follows
-pub chain_item : (l : Level) (t : Text) → is_chain l ≡ true → is_part (row_of_level l) t ≡ true → is_part (row_of_level (next l)) t ≡ true
+pub chain_item : (l : Level) (t : Text) → is_chain l ≡ true → is_part (row_of_level l) t ≡ true → is_part (row_of_level (item_level l)) t ≡ true
 chain_item level.Sum t h ok = each.chain_item chain.Sum t ok
 chain_item level.Product t h ok = each.chain_item chain.Product t ok
 chain_item level.Factor t h ok = cc
@@ -35,7 +35,7 @@ chain_list level.Power t h ok = each.chain_list chain.Power t ok
 chain_list level.Operand t h ok = cc
 
 pub chain_value : (e : Context) (l : Level) (t : Text) → is_chain l ≡ true → is_part (row_of_level l) t ≡ true
-    → value e l (tree_at (row_of_level l) t) ≡ further e l (value e (next l) (tree_at (row_of_level (next l)) t)) (list_of l (tail_of l t))
+    → value e l (tree_at (row_of_level l) t) ≡ further e l (value e (item_level l) (tree_at (row_of_level (item_level l)) t)) (list_of l (tail_of l t))
 unfolding value
 chain_value e level.Sum t h ok = ap (value e level.Sum) (each.chain_tree chain.Sum t ok)
 chain_value e level.Product t h ok = ap (value e level.Product) (each.chain_tree chain.Product t ok)
@@ -51,7 +51,7 @@ chain_rest level.Power t h ok = each.chain_rest chain.Power t ok
 chain_rest level.Operand t h ok = cc
 
 -- a further item, where an operator of the level stands
-pub more_item : (l : Level) (t : Text) → is_chain l ≡ true → is_list (more_start (chain_of l)) (more_row (chain_of l)) t ≡ true → is_operator l (first t) ≡ true → is_part (row_of_level (next l)) (drop 1 t) ≡ true
+pub more_item : (l : Level) (t : Text) → is_chain l ≡ true → is_list (more_start (chain_of l)) (more_row (chain_of l)) t ≡ true → is_operator l (first t) ≡ true → is_part (row_of_level (item_level l)) (drop 1 t) ≡ true
 more_item level.Sum t h ok b = each.more_item chain.Sum t ok b
 more_item level.Product t h ok b = each.more_item chain.Product t ok b
 more_item level.Factor t h ok b = cc
@@ -68,7 +68,7 @@ more_list level.Operand t h ok b = cc
 
 -- what a further item makes of a number
 abbrev pub joins : Context → Level → Answer → Trees → ℕ → Trees → Answer
-joins e l x more c a = further e l (x >>= (λ v. value e (next l) a >>= joined e.around.mode c v)) more
+joins e l x more c a = further e l (x >>= (λ v. value e (item_level l) a >>= joined e.around.mode c v)) more
 
 link_value : (e : Context) (l : Level) (x : Answer) (more : Trees) (c : ℕ) (a u : Trees) → IsLink c a u → further e l x (In 1 u more) ≡ joins e l x more c a
 unfolding further
@@ -81,7 +81,7 @@ more_by e l c x t ok b = ap (further e l x) (each.more_tree c t ok b) ∙ link_v
 
 pub more_value : (e : Context) (l : Level) (x : Answer) (t : Text) → is_chain l ≡ true → is_list (more_start (chain_of l)) (more_row (chain_of l)) t ≡ true → is_operator l (first t) ≡ true
     → further e l x (list_of l t)
-    ≡ further e l (x >>= (λ v. value e (next l) (tree_at (row_of_level (next l)) (drop 1 t)) >>= joined e.around.mode (first t) v)) (list_of l (tail_of l (drop 1 t)))
+    ≡ further e l (x >>= (λ v. value e (item_level l) (tree_at (row_of_level (item_level l)) (drop 1 t)) >>= joined e.around.mode (first t) v)) (list_of l (tail_of l (drop 1 t)))
 more_value e level.Sum x t h ok b = more_by e level.Sum chain.Sum x t ok b
 more_value e level.Product x t h ok b = more_by e level.Product chain.Product x t ok b
 more_value e level.Factor x t h ok b = cc

@@ -13,7 +13,7 @@ use Rattle.b2_rows.proofs.EachChain as each
 use Rattle.b2_expr.specs.Answers.{Answer, ◌>>=◌}
 use Rattle.b2_expr.specs.Operators.{joined, under_sign}
 use Rattle.b2_expr.specs.Scope.{Context}
-use Rattle.b2_expr.specs.Value.{next, value, further}
+use Rattle.b2_expr.specs.Value.{item_level, value, further}
 use Rattle.b2_expr.specs.Levels.{chain_of, is_chain, row_of_level, list_of, after_of, tail_of, is_operator, has_sign, spans, pick, ends, left_after_levels, are_lists}
 use Rattle.b2_expr.specs.declared.operators.Level.{Level}
 use Rattle.b2_expr.specs.declared.operators.Level.TheVariants as level
@@ -21,25 +21,25 @@ use Rattle.b2_expr.proofs.Chains.{chain_item, chain_list, chain_value, chain_res
 use Rattle.b2_expr.proofs.Factors as factors
 
 -- some context, for what doesn't depend on one
-abbrev anywhere : Context
+abbrev pub anywhere : Context
 anywhere = record {
   around = record { own = record { area = 0; table = map.empty }; globals = None; home = record { area = 0; lines = [] }; mode = mode.Round; err = 0; part = 0; term = 0 };
   parameter = None;
   call = λ name x. Err 0;
 }
 
-and_left : (a b : Bool) → (a && b) ≡ true → a ≡ true
+pub and_left : (a b : Bool) → (a && b) ≡ true → a ≡ true
 and_left true b h = refl
 and_left false b h = cc
 
-and_right : (a b : Bool) → (a && b) ≡ true → b ≡ true
+pub and_right : (a b : Bool) → (a && b) ≡ true → b ≡ true
 and_right true b h = h
 and_right false b h = cc
 
 true_false : true ≡ false → ⊥
 true_false h = cc
 
-both : (a b : Bool) → a ≡ true → b ≡ true → (a && b) ≡ true
+pub both : (a b : Bool) → a ≡ true → b ≡ true → (a && b) ≡ true
 both a b h k = rw h k
 
 -- a level more behind those that were read
@@ -60,7 +60,7 @@ record Opens (e : Context) (l : Level) (ls : List Level) (t : Text) (x : Answer)
   pub lists : are_lists ls u ≡ true
   pub rest : after_part (row_of_level l) t ≡ left_after_levels ls u
 
-wider : (e : Context) (l : Level) (ls : List Level) (t : Text) (x : Answer) (u : Text) → is_chain l ≡ true → is_part (row_of_level l) t ≡ true → Opens e (next l) ls t x u → Opens e l (ls ++ (l ∷ [])) t x u
+wider : (e : Context) (l : Level) (ls : List Level) (t : Text) (x : Answer) (u : Text) → is_chain l ≡ true → is_part (row_of_level l) t ≡ true → Opens e (item_level l) ls t x u → Opens e l (ls ++ (l ∷ [])) t x u
 wider e l ls t x u h ok o = record {
   value = chain_value e l t h ok
       ∙ ap (λ (y : Answer). further e l y (list_of l (tail_of l t))) (Opens.value o)
@@ -448,7 +448,7 @@ span_is e w top l x t o = sym (from_top w top l (On.found o)) ∙ On.shape o
 list_here : (e : Context) (w top l : Level) (x : Answer) (t : Text) (o : Going e w top l x t) → is_list (more_start (chain_of l)) (more_row (chain_of l)) t ≡ true
 list_here e w top l x t o = and_left _ _ (On.lists o)
 
-pub on_item : (w top l : Level) (t : Text) → are_lists (spans w top) t ≡ true → pick (spans w top) (first t) ≡ Some l → is_part (row_of_level (next l)) (drop 1 t) ≡ true
+pub on_item : (w top l : Level) (t : Text) → are_lists (spans w top) t ≡ true → pick (spans w top) (first t) ≡ Some l → is_part (row_of_level (item_level l)) (drop 1 t) ≡ true
 on_item w top l t a h =
     let o = going anywhere w top l (Ok zero_number) t a h in
     more_item l t (On.chain o) (list_here anywhere w top l (Ok zero_number) t o) (On.operator o)
@@ -463,11 +463,11 @@ on_lists w top l t a h =
 
 pub on_value : (e : Context) (w top l : Level) (x : Answer) (t : Text) → are_lists (spans w top) t ≡ true → pick (spans w top) (first t) ≡ Some l
     → ends e (spans w top) x t
-    ≡ ends e (spans w l) (x >>= (λ v. value e (next l) (tree_at (row_of_level (next l)) (drop 1 t)) >>= joined e.around.mode (first t) v)) (tail_of l (drop 1 t))
+    ≡ ends e (spans w l) (x >>= (λ v. value e (item_level l) (tree_at (row_of_level (item_level l)) (drop 1 t)) >>= joined e.around.mode (first t) v)) (tail_of l (drop 1 t))
 on_value e w top l x t a h =
     let o = going e w top l x t a h in
     let k = list_here e w top l x t o in
-    let y : Answer = x >>= (λ v. value e (next l) (tree_at (row_of_level (next l)) (drop 1 t)) >>= joined e.around.mode (first t) v) in
+    let y : Answer = x >>= (λ v. value e (item_level l) (tree_at (row_of_level (item_level l)) (drop 1 t)) >>= joined e.around.mode (first t) v) in
     On.value o
     ∙ ap (λ (z : Answer). ends e (On.others o) z (after_of l t)) (more_value e l x t (On.chain o) k (On.operator o))
     ∙ ap (ends e (On.others o) (further e l y (list_of l (tail_of l (drop 1 t))))) (more_rest l t (On.chain o) k (On.operator o))
@@ -475,7 +475,7 @@ on_value e w top l x t a h =
 
 -- a step, by what was read
 pub on_step : (e : Context) (w top l m : Level) (x : Number) (c : ℕ) (t u : Text) (r : Answer) → are_lists (spans w top) t ≡ true → Some l ≡ pick (spans w top) (first t)
-    → m ≡ next l → u ≡ drop 1 t → c ≡ first t → value e m (tree_at (row_of_level m) u) ≡ r
+    → m ≡ item_level l → u ≡ drop 1 t → c ≡ first t → value e m (tree_at (row_of_level m) u) ≡ r
     → ends e (spans w top) (Ok x) t ≡ ends e (spans w l) (r >>= joined e.around.mode c x) (after_part (row_of_level m) u)
 on_step e w top l m x c t u r a h is_m is_u is_c gives =
     on_value e w top l (Ok x) t a (sym h)
@@ -494,12 +494,12 @@ on_rest w top l t a h =
 pub on_shorter : (w top l : Level) (t : Text) → are_lists (spans w top) t ≡ true → pick (spans w top) (first t) ≡ Some l → length (drop 1 t) < length t
 on_shorter w top l t a h = more_shorter l t (On.operator (going anywhere w top l (Ok zero_number) t a h))
 
-pub step_lists : (w top l m : Level) (t u v : Text) → are_lists (spans w top) t ≡ true → Some l ≡ pick (spans w top) (first t) → m ≡ next l → u ≡ drop 1 t → v ≡ after_part (row_of_level m) u
+pub step_lists : (w top l m : Level) (t u v : Text) → are_lists (spans w top) t ≡ true → Some l ≡ pick (spans w top) (first t) → m ≡ item_level l → u ≡ drop 1 t → v ≡ after_part (row_of_level m) u
     → are_lists (spans w l) v ≡ true
 step_lists w top l m t u v a h is_m is_u is_v =
     subst (λ (z : Text). are_lists (spans w l) z ≡ true) (sym (is_v ∙ ap (after_part (row_of_level m)) is_u ∙ ap (λ (n : Level). after_part (row_of_level n) (drop 1 t)) is_m)) (on_lists w top l t a (sym h))
 
-pub step_rest : (w top l m : Level) (t u v : Text) → are_lists (spans w top) t ≡ true → Some l ≡ pick (spans w top) (first t) → m ≡ next l → u ≡ drop 1 t → v ≡ after_part (row_of_level m) u
+pub step_rest : (w top l m : Level) (t u v : Text) → are_lists (spans w top) t ≡ true → Some l ≡ pick (spans w top) (first t) → m ≡ item_level l → u ≡ drop 1 t → v ≡ after_part (row_of_level m) u
     → left_after_levels (spans w l) v ≡ left_after_levels (spans w top) t
 step_rest w top l m t u v a h is_m is_u is_v =
     ap (left_after_levels (spans w l)) (is_v ∙ ap (after_part (row_of_level m)) is_u ∙ ap (λ (n : Level). after_part (row_of_level n) (drop 1 t)) is_m) ∙ sym (on_rest w top l t a (sym h))

@@ -1,6 +1,7 @@
 pub mod Chains
 pub mod Factors
 pub mod Climbs
+pub mod Waits
 pub mod Extremes
 pub mod Operands
 pub mod OperandKinds

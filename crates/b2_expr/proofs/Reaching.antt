@@ -11,7 +11,7 @@ use Rattle.b2_expr.specs.Assigning.{Assigned, unless_refused, receiver_code, wit
 use Rattle.b2_expr.specs.Functions.{whole_between}
 use Rattle.b2_expr.specs.Receivers.{portion_count}
 use Rattle.b2_expr.specs.ReceiverLaws.{EachPartIsAPortion, SameWhereNotReached, NoCodeWhereReached}
-use Rattle.b2_expr.specs.RightSide.{Made, side_made, made_by, made_then, operated}
+use Rattle.b2_expr.specs.RightSide.{SideResult, side_made, made_by, made_then, operated}
 use Rattle.b2_expr.specs.Value.{counted_bytes}
 use Rattle.b2_expr.specs.declared.operations.AlphaOperator.{AlphaOperator}
 use Rattle.b2_expr.specs.declared.operations.AlphaOperator.TheVariants as op
@@ -53,7 +53,7 @@ operation_code op.Subc to operand c h = cc
 operation_code op.Dac to operand c h = decimal_code (are_decimal to operand) (decimal_sum to operand) c h
 operation_code op.Dsc to operand c h = decimal_code (are_decimal to operand) (decimal_difference to operand) c h
 
-made_code_by : (x : TextAnswer) (to : List ℕ) (next : List ℕ → Made) (c : ℕ) → ((d : ℕ) → x ≡ Err d → d ≡ X75_NOT_DECIMAL) → ((new : List ℕ) → (next new).code ≡ Some c → c ≡ X75_NOT_DECIMAL)
+made_code_by : (x : TextAnswer) (to : List ℕ) (next : List ℕ → SideResult) (c : ℕ) → ((d : ℕ) → x ≡ Err d → d ≡ X75_NOT_DECIMAL) → ((new : List ℕ) → (next new).code ≡ Some c → c ≡ X75_NOT_DECIMAL)
     → (made_then to x next).code ≡ Some c → c ≡ X75_NOT_DECIMAL
 made_code_by (Ok new) to next c here later h = later new h
 made_code_by (Err d) to next c here later h = same d c h ∙ here d refl

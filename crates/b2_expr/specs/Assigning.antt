@@ -20,7 +20,7 @@ use Rattle.b2_expr.specs.declared.receiver.Receiver.{Receiver}
 use Rattle.b2_expr.specs.declared.receiver.Receiver.TheVariants as receiver_kind
 use Rattle.b2_expr.specs.declared.receiver.Buffer.{Buffer}
 use Rattle.b2_expr.specs.declared.receiver.Buffer.TheVariants as buffer_kind
-use Rattle.b2_expr.specs.RightSide.{Side, Made, side_made}
+use Rattle.b2_expr.specs.RightSide.{Side, SideResult, side_made}
 
 -- whether a receiver takes bytes, and whether it is among the `@` variables
 abbrev pub is_alpha_receiver : Receiver → Bool
@@ -82,7 +82,7 @@ assigned_value (receiver_kind.Alpha to) (value.Alpha bytes) old = assigned_bytes
 assigned_value to x old = record { vars = old; code = None }
 
 -- the right side of an alpha assignment: what was made before an operation refuses is kept
-abbrev pub with_made : AlphaReceiver → VarsState → Made → Assigned
+abbrev pub with_made : AlphaReceiver → VarsState → SideResult → Assigned
 with_made to s m = record { vars = with_portion to s m.bytes; code = m.code }
 
 abbrev pub assigned_side : AlphaReceiver → Side → VarsState → Assigned
@@ -107,9 +107,9 @@ is_reached (Err f) = is_refusal f
 abbrev pub value_bytes : AlphaReceiver → VarsState → TextAnswer
 value_bytes to s = bytes_there (record { vars = s; element = to.element }) >>= (λ bytes. Ok (take to.portion.count (drop to.portion.from bytes)))
 
-abbrev pub bytes_of : Buffer → VarsState → TextAnswer
-bytes_of (buffer_kind.Value to) s = value_bytes to s
-bytes_of (buffer_kind.Array a) s = unless (missing_code a.var s.table) (variable_at a.var s.table).bytes
+abbrev pub buffer_bytes : Buffer → VarsState → TextAnswer
+buffer_bytes (buffer_kind.Value to) s = value_bytes to s
+buffer_bytes (buffer_kind.Array a) s = unless (missing_code a.var s.table) (variable_at a.var s.table).bytes
 
 -- bytes that are lent, or a code
 abbrev pub LendsOr : TextAnswer → Result (Bor (List ℕ)) ℕ → Type 0

@@ -9,7 +9,7 @@ use Rattle.b2_rows.specs.declared.chains.Chain.{Chain}
 use Rattle.b2_rows.specs.declared.chains.Chain.TheVariants as chain
 use Rattle.b2_expr.specs.Answers.{Answer}
 use Rattle.b2_expr.specs.Scope.{Context}
-use Rattle.b2_expr.specs.Value.{next, further}
+use Rattle.b2_expr.specs.Value.{item_level, further}
 use Rattle.b2_expr.specs.declared.operators.Level.{Level}
 use Rattle.b2_expr.specs.declared.operators.Level.TheVariants as level
 
@@ -45,7 +45,7 @@ after_of l t = after_list (more_start (chain_of l)) (more_row (chain_of l)) t
 
 -- what stands after the first item
 abbrev pub tail_of : Level → Text → Text
-tail_of l t = after_part (row_of_level (next l)) t
+tail_of l t = after_part (row_of_level (item_level l)) t
 
 -- whether a byte is an operator of a level
 abbrev pub is_operator : Level → ℕ → Bool

@@ -5,6 +5,7 @@ pub mod Scope
 pub mod Named
 pub mod Value
 pub mod Levels
+pub mod Unfinished
 pub mod Further
 pub mod Reads
 pub mod Condition

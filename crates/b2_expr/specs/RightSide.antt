@@ -118,16 +118,16 @@ operated op.Dac to operand = if are_decimal to operand then Ok (decimal_sum to o
 operated op.Dsc to operand = if are_decimal to operand then Ok (decimal_difference to operand) else Err X75_NOT_DECIMAL
 
 -- the bytes that are made, and the code where an operation refuses
-pub record Made : Type 0 where
+pub record SideResult : Type 0 where
   pub bytes : List ℕ
   pub code : Option ℕ
 
 -- where an operation refuses, what was made before it stays
-abbrev pub made_then : List ℕ → TextAnswer → (List ℕ → Made) → Made
+abbrev pub made_then : List ℕ → TextAnswer → (List ℕ → SideResult) → SideResult
 made_then to (Ok bytes) next = next bytes
 made_then to (Err code) next = record { bytes = to; code = Some code }
 
-abbrev pub made_by : List Operation → List ℕ → Made
+abbrev pub made_by : List Operation → List ℕ → SideResult
 made_by [] to = record { bytes = to; code = None }
 made_by (o ∷ os) to = made_then to (operated o.operator to o.operand) (made_by os)
 
@@ -136,7 +136,7 @@ abbrev pub started : Option (List ℕ) → List ℕ → List ℕ
 started None to = to
 started (Some bytes) to = padded (length to) bytes
 
-abbrev pub side_made : Side → List ℕ → Made
+abbrev pub side_made : Side → List ℕ → SideResult
 side_made side to = made_by side.operations (started side.first to)
 
 -- a code in the place of a value; memory may fail wherever some is taken
@@ -145,9 +145,9 @@ Refuses answer (fault.Code code) = answer ≡ Err code
 Refuses answer fault.NoMemory = Unit {0}
 
 -- operations that are put after others and what is left of the text, or a code
-abbrev pub Puts : Result (List Operation) ℕ → Text → List Operation → Result (Bor Text) Fault → Type 0
-Puts answer rest new (Ok left) = (answer ≡ Ok new) × (left.now ≡ rest)
-Puts answer rest new (Err f) = Refuses answer f
+abbrev pub PutsOperations : Result (List Operation) ℕ → Text → List Operation → Result (Bor Text) Fault → Type 0
+PutsOperations answer rest new (Ok left) = (answer ≡ Ok new) × (left.now ≡ rest)
+PutsOperations answer rest new (Err f) = Refuses answer f
 
 -- a right side and what is left of the text, or a code
 abbrev pub GivesSide : Result Side ℕ → Text → Result (RightSide × Bor Text) Fault → Type 0

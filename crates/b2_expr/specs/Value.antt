@@ -36,12 +36,12 @@ use Rattle.b2_rows.specs.declared.operands.AlphaOperand.{AlphaOperand}
 use Rattle.b2_rows.specs.declared.operands.AlphaOperand.TheVariants as alpha_kind
 
 -- the level of what the operators of a level join
-abbrev pub next : Level → Level
-next level.Sum = level.Product
-next level.Product = level.Factor
-next level.Factor = level.Power
-next level.Power = level.Operand
-next level.Operand = level.Operand
+abbrev pub item_level : Level → Level
+item_level level.Sum = level.Product
+item_level level.Product = level.Factor
+item_level level.Factor = level.Power
+item_level level.Power = level.Operand
+item_level level.Operand = level.Operand
 
 -- the kinds of operands after a number that is written out, in the order of the table; what is none of them is a variable
 abbrev pub other_kinds : List Operand
@@ -143,8 +143,8 @@ unfoldable mutual
 
   -- a number, joined to further items from the left
   pub further : Context → Level → Answer → Trees → Answer
-  further s l x (In n (In k operator (In m a end)) more) = further s l (x >>= (λ v. value s (next l) a >>= joined s.around.mode (first_code operator) v)) more
-  further s l x (In n (Put token (In m a end)) more) = further s l (x >>= (λ v. value s (next l) a >>= joined s.around.mode (token_code token) v)) more
+  further s l x (In n (In k operator (In m a end)) more) = further s l (x >>= (λ v. value s (item_level l) a >>= joined s.around.mode (first_code operator) v)) more
+  further s l x (In n (Put token (In m a end)) more) = further s l (x >>= (λ v. value s (item_level l) a >>= joined s.around.mode (token_code token) v)) more
   further s l x t = x
 
   -- an operand of one of these kinds, or a variable

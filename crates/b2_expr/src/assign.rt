@@ -170,7 +170,7 @@ fn is_refusal(fault: &Fault) -> bool
 /// The bytes of a buffer. P59 and P57 come as for a value.
 pub fn buffer_bytes<'a>(vars: &'a Vars, of: &Buffer) -> Result<&'a [u8], Code>
     requires named { IsBuffer of.now }
-    ensures { spec.LendsOr (spec.bytes_of of.now vars.now) result }
+    ensures { spec.LendsOr (spec.buffer_bytes of.now vars.now) result }
 {
     match of {
         Buffer::Value(of) => value_bytes(vars, of),

@@ -1,5 +1,5 @@
 // The values of numeric and of alpha expressions, along their bytes.
-ghost use Rattle.std.specs.Prelude.{◌≡◌, ◌≤◌, ◌∷◌, ◌||◌, ◌==◌, [], Bool, true, false, None, length, MatchResult, IfOk, IfSome, Ok, Err, option_map};
+ghost use Rattle.std.specs.Prelude.{◌≡◌, ◌≤◌, ◌∷◌, ◌++◌, ◌||◌, ◌==◌, [], Bool, true, false, None, length, MatchResult, IfOk, IfSome, Ok, Err, option_map};
 ghost use Rattle.b2_base.specs.Byte as byte;
 ghost use Rattle.b2_base.specs.Lexical.{is_digit, is_letter};
 ghost use Rattle.b2_base.specs.Lexical as lexical;
@@ -20,6 +20,7 @@ ghost use Rattle.b2_rows.specs.Optional.{maybe_part, maybe_tree, after_maybe};
 ghost use Rattle.b2_expr.specs.Functions.{joined_number, joined_text};
 ghost use Rattle.b2_expr.specs.Further.{after_further, are_further, further_tree};
 ghost use Rattle.b2_expr.specs.Levels.{are_lists, ends, has_sign, pick, left_after_levels, row_of_level, spans};
+ghost use Rattle.b2_expr.specs.Unfinished.{after_sign, finished, fit, left_by, level_after, sign_before, stand};
 ghost use Rattle.b2_expr.specs.Named.{after_name, is_alpha_kind, name_leaf, name_row, place_seen, variable_of, variables_of};
 ghost use Rattle.b2_expr.specs.Scope.{surroundings};
 ghost use Rattle.b2_expr.specs.Reads.{Appends, Gives};
@@ -30,13 +31,14 @@ ghost use Rattle.b2_rows.specs.declared.operands.Operand.TheVariants as kind_is;
 ghost use Rattle.b2_rows.specs.declared.operands.AlphaOperand.TheVariants as alpha_kind_is;
 
 use crate::functions::{
-    binary_bytes, byte_count, column_written, extreme, number_of, of_one, of_text, of_two,
+    binary_bytes, column_written, count_written, extreme, number_of, of_one, of_text, of_two,
     position_of, subscript, whole_between, whole_number,
 };
 use crate::literals::literal_at;
 use crate::named::{Element, Located, NameKind, Subscripts, variable_of};
-use crate::operators::{Level, joined, under_sign};
+use crate::operators::{Level, Pending, completed};
 use crate::scope::{Env, Parameter, Scope, hidden_by, kept_number};
+use arrayvec::ArrayVec;
 use b2_alpha::value_len;
 use b2_atom::{Origin, literal_width, numeric_name_width, relation_width};
 use b2_base::Code;
@@ -49,9 +51,9 @@ use b2_rows::{
 };
 use b2_vars::Vars;
 
-/// The level of what the operators of a level join.
-fn next(level: Level) -> Level
-    ensures { result ≡ meaning.next level }
+/// The level of the items that the operators of a level join.
+fn item_level(level: Level) -> Level
+    ensures { result ≡ meaning.item_level level }
 {
     match level {
         Level::Sum => Level::Product,
@@ -100,58 +102,105 @@ pub fn variables_of<'a>(env: &Env<'a>, name: Name) -> Result<&'a Vars, Code>
     }
 }
 
-/// What an expression of a level begins with, and the level of what it is.
-#[cycle(values)]
-#[tactic(auto, using(crate::proofs::Climbs::plain_operand, crate::proofs::Climbs::plain_value, crate::proofs::Climbs::plain_lists, crate::proofs::Climbs::plain_rest, crate::proofs::Climbs::signed_power, crate::proofs::Climbs::signed_value, crate::proofs::Climbs::signed_lists, crate::proofs::Climbs::signed_rest, crate::proofs::Climbs::sign_shorter, crate::proofs::Climbs::ends_refused, crate::proofs::Climbs::power_no_longer, b2_rows::proofs::Levels::part_no_longer))]
-fn head<'a>(wanted: Level, s: &Scope<'_>, text: &'a [u8]) -> Result<(Dec, Level, &'a [u8]), Code>
-    requires part { is_part (row_of_level wanted) text.now ≡ true }
-    ensures { MatchResult result (λ p. (value (context s.now) wanted (tree_at (row_of_level wanted) text.now) ≡ ends (context s.now) (spans wanted p.1) (Ok p.0) p.2.now) × (are_lists (spans wanted p.1) p.2.now ≡ true) × (after_part (row_of_level wanted) text.now ≡ left_after_levels (spans wanted p.1) p.2.now) × (length p.2.now ≤ length text.now)) (λ code. value (context s.now) wanted (tree_at (row_of_level wanted) text.now) ≡ Err code) }
+/// Lets a sign before what is read at a level wait; the level of what is read then, and where that stands.
+#[tactic(auto, using(crate::proofs::Waits::few_wait))]
+fn past_sign<'a>(
+    wanted: Level,
+    text: &'a [u8],
+    pending: &mut ArrayVec<Pending, 4>,
+) -> (Level, &'a [u8])
+    requires fit { fit 0 pending.old.items wanted ≡ true }
+    ensures items { pending.new.items ≡ pending.old.items ++ sign_before wanted text.now }
+    ensures level { result.0 ≡ level_after wanted text.now }
+    ensures rest { result.1.now ≡ after_sign wanted text.now }
 {
     let sign = first(text);
-    if is_signed(wanted, sign) {
-        let (number, rest) = match climb(Level::Power, s, dropped(text, 1)) {
-            Ok(found) => found,
-            Err(code) => return Err(code),
-        };
-        return match under_sign(s.env.mode, sign, number) {
-            Ok(number) => Ok((number, Level::Product, rest)),
-            Err(code) => Err(code),
-        };
+    if !is_signed(wanted, sign) {
+        return (wanted, text);
     }
-    match operand(s, text) {
-        Ok((number, rest)) => Ok((number, Level::Power, rest)),
-        Err(code) => Err(code),
-    }
+    pending.push(Pending {
+        before: None,
+        operator: sign,
+        wanted,
+        made: Level::Product,
+    });
+    (Level::Power, dropped(text, 1))
 }
 
-/// The value of an expression of a level, and what stands after it.
+/// The first operand of what is read at a level, the level at which its operators go on, and what stands after it; a sign before it waits.
 #[cycle(values)]
-#[tactic(auto, using(crate::proofs::Climbs::on_item, crate::proofs::Climbs::on_lists, crate::proofs::Climbs::on_value, crate::proofs::Climbs::on_rest, crate::proofs::Climbs::on_shorter, crate::proofs::Climbs::off_value, crate::proofs::Climbs::off_rest, crate::proofs::Climbs::ends_refused, b2_rows::proofs::Levels::part_no_longer))]
+fn first_operand<'a>(
+    wanted: Level,
+    s: &Scope<'_>,
+    text: &'a [u8],
+    pending: &mut ArrayVec<Pending, 4>,
+) -> Result<(Dec, Level, &'a [u8]), Code>
+    requires part { is_part (row_of_level wanted) text.now ≡ true }
+    requires fit { fit 0 pending.old.items wanted ≡ true }
+    ensures items { pending.new.items ≡ pending.old.items ++ sign_before wanted text.now }
+    ensures level { IfOk result (λ p. p.1 ≡ level_after wanted text.now) }
+    ensures value { MatchResult result (λ p. value (context s.now) wanted (tree_at (row_of_level wanted) text.now) ≡ finished (context s.now) (sign_before wanted text.now) (ends (context s.now) (spans p.1 level_of.Power) (Ok p.0) p.2.now) (left_after_levels (spans p.1 level_of.Power) p.2.now)) (λ code. value (context s.now) wanted (tree_at (row_of_level wanted) text.now) ≡ Err code) }
+    ensures lists { IfOk result (λ p. are_lists (spans p.1 level_of.Power) p.2.now ≡ true) }
+    ensures stand { IfOk result (λ p. stand (sign_before wanted text.now) (left_after_levels (spans p.1 level_of.Power) p.2.now) ≡ true) }
+    ensures rest { IfOk result (λ p. after_part (row_of_level wanted) text.now ≡ left_by (sign_before wanted text.now) (left_after_levels (spans p.1 level_of.Power) p.2.now)) }
+    ensures shorter { IfOk result (λ p. length p.2.now ≤ length text.now) }
+{
+    let (level, item) = past_sign(wanted, text, pending);
+    let (number, rest) = match operand(s, item) {
+        Ok(found) => found,
+        Err(code) => return Err(code),
+    };
+    Ok((number, level, rest))
+}
+
+/// The value of an expression of a level, and what stands after it. Operators that bind less wait while one that binds more has its number.
+#[cycle(values)]
 pub fn climb<'a>(wanted: Level, s: &Scope<'_>, text: &'a [u8]) -> Result<(Dec, &'a [u8]), Code>
     requires part { is_part (row_of_level wanted) text.now ≡ true }
     ensures { Gives (value (context s.now) wanted (tree_at (row_of_level wanted) text.now)) (after_part (row_of_level wanted) text.now) result }
 {
-    let (start, above, after) = match head(wanted, s, text) {
+    let mut pending = ArrayVec::new();
+    let (start, below, after) = match first_operand(wanted, s, text, &mut pending) {
         Ok(found) => found,
         Err(code) => return Err(code),
     };
     let mut number = start;
-    let mut top = above;
+    let mut reading = below;
+    let mut top = Level::Power;
     let mut left = after;
-    while let Some(level) = operator_at(wanted, top, first(left)) {
+    loop {
         let operator = first(left);
-        let (other, rest) = match climb(next(level), s, dropped(left, 1)) {
-            Ok(found) => found,
-            Err(code) => return Err(code),
-        };
-        number = match joined(s.env.mode, operator, number, other) {
-            Ok(found) => found,
-            Err(code) => return Err(code),
-        };
-        top = level;
-        left = rest;
+        if let Some(level) = operator_at(reading, top, operator) {
+            pending.push(Pending {
+                before: Some(number),
+                operator,
+                wanted: reading,
+                made: level,
+            });
+            let (other, below, rest) = match first_operand(
+                item_level(level),
+                s,
+                dropped(left, 1),
+                &mut pending,
+            ) {
+                Ok(found) => found,
+                Err(code) => return Err(code),
+            };
+            number = other;
+            reading = below;
+            top = Level::Power;
+            left = rest;
+        } else if let Some(waiting) = pending.pop() {
+            number = match completed(s.env.mode, &waiting, number) {
+                Ok(found) => found,
+                Err(code) => return Err(code),
+            };
+            reading = waiting.wanted;
+            top = waiting.made;
+        } else {
+            return Ok((number, left));
+        }
     }
-    Ok((number, left))
 }
 
 /// An operand.
@@ -164,7 +213,7 @@ fn operand<'a>(s: &Scope<'_>, text: &'a [u8]) -> Result<(Dec, &'a [u8]), Code>
     match operand_at(text) {
         Operand::Number => literal_at(text),
         Operand::Parentheses => group(s, text),
-        Operand::Function => function(s, text),
+        Operand::Function => call_at(s, text),
         Operand::OfOne => of_one_at(s, text),
         Operand::OfTwo => of_two_at(s, text),
         Operand::OfMore => of_more_at(s, text),
@@ -203,7 +252,7 @@ fn group<'a>(s: &Scope<'_>, text: &'a [u8]) -> Result<(Dec, &'a [u8]), Code>
 /// A call of a DEFFN.
 #[cycle(values)]
 #[tactic(auto, using(crate::proofs::Operands::call_sum, crate::proofs::Operands::call_name, crate::proofs::Operands::call_is, crate::proofs::Operands::call_rest, crate::proofs::Operands::call_shorter))]
-fn function<'a>(s: &Scope<'_>, text: &'a [u8]) -> Result<(Dec, &'a [u8]), Code>
+fn call_at<'a>(s: &Scope<'_>, text: &'a [u8]) -> Result<(Dec, &'a [u8]), Code>
     requires part { is_part row.FUNCTION text.now ≡ true }
     ensures { Gives (meaning.operand (context s.now) kind_is.Function (tree_at row.FUNCTION text.now)) (after_part row.FUNCTION text.now) result }
 {
@@ -409,7 +458,7 @@ fn bytes_at<'a>(s: &Scope<'_>, text: &'a [u8]) -> Result<(Dec, &'a [u8]), Code>
         Ok(found) => found,
         Err(code) => return Err(code),
     };
-    let count = match byte_count(count) {
+    let count = match count_written(count) {
         Ok(count) => count,
         Err(code) => return Err(code),
     };
@@ -548,7 +597,7 @@ fn variable<'a>(s: &Scope<'_>, text: &'a [u8]) -> Result<(Dec, &'a [u8]), Code>
 }
 
 /// Puts bytes after others, X72 where they are more than 255.
-fn join(bytes: &[u8], into: &mut Bytes) -> Result<(), Code>
+fn join_text(bytes: &[u8], into: &mut Bytes) -> Result<(), Code>
     ensures { MatchResult result (λ done. joined_text into.old bytes.now ≡ Ok into.new) (λ code. joined_text into.old bytes.now ≡ Err code) }
 {
     if bytes.len() + into.len() > 255 {
@@ -611,7 +660,7 @@ fn quoted_at<'a>(text: &'a [u8], into: &mut Bytes) -> Result<&'a [u8], Code>
     requires part { is_part row.LITERAL text.now ≡ true }
     ensures { Appends (literal_bytes (tree_at row.LITERAL text.now)) (after_part row.LITERAL text.now) into.old into.new result }
 {
-    match join(b2_rows::literal_at(text), into) {
+    match join_text(b2_rows::literal_at(text), into) {
         Ok(()) => Ok(dropped(text, literal_width(text))),
         Err(code) => Err(code),
     }
@@ -642,7 +691,7 @@ fn hex_at<'a>(text: &'a [u8], into: &mut Bytes) -> Result<&'a [u8], Code>
 {
     let mut bytes = Bytes::new();
     let rest = pairs_at(dropped(text, 1), &mut bytes);
-    match join(bytes.bytes(), into) {
+    match join_text(bytes.bytes(), into) {
         Ok(()) => Ok(dropped(rest, 1)),
         Err(code) => Err(code),
     }
@@ -675,7 +724,7 @@ fn part_at<'a>(s: &Scope<'_>, text: &'a [u8], into: &mut Bytes) -> Result<&'a [u
         Ok(part) => part,
         Err(code) => return Err(code),
     };
-    match join(part, into) {
+    match join_text(part, into) {
         Ok(()) => Ok(dropped(rest, 1)),
         Err(code) => Err(code),
     }
@@ -713,7 +762,7 @@ fn binary_at<'a>(s: &Scope<'_>, text: &'a [u8], into: &mut Bytes) -> Result<&'a 
         Ok(found) => found,
         Err(code) => return Err(code),
     };
-    let count = match byte_count(count) {
+    let count = match count_written(count) {
         Ok(count) => count,
         Err(code) => return Err(code),
     };
@@ -731,7 +780,7 @@ fn join_number(number: Dec, count: u8, into: &mut Bytes) -> Result<(), Code>
     let mut bytes = [0; 4];
     let part = &mut bytes[..usize::from(count)];
     match binary_bytes(number, part) {
-        Ok(()) => join(part, into),
+        Ok(()) => join_text(part, into),
         Err(code) => Err(code),
     }
 }
@@ -751,7 +800,7 @@ fn alpha_variable<'a>(s: &Scope<'_>, text: &'a [u8], into: &mut Bytes) -> Result
         Ok(bytes) => bytes,
         Err(code) => return Err(code),
     };
-    match join(front(bytes, value_len(bytes)), into) {
+    match join_text(front(bytes, value_len(bytes)), into) {
         Ok(()) => Ok(rest),
         Err(code) => Err(code),
     }

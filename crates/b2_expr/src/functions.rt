@@ -29,7 +29,7 @@ pub fn whole_between(least: u8, most: u8, x: Dec) -> Result<u8, Code>
 }
 
 /// A count where one is written, which must be from 1 to 4, and else 1.
-pub fn byte_count(count: Option<Dec>) -> Result<u8, Code>
+pub fn count_written(count: Option<Dec>) -> Result<u8, Code>
     ensures { result ≡ count_or 1 1 4 count }
 {
     match count {

@@ -142,7 +142,7 @@ fn put_operation<'a>(
     into: &mut Vec<Operation>,
 ) -> Result<&'a [u8], Fault>
     requires part { is_part row.OPERATION text.now ≡ true }
-    ensures { spec.Puts (spec.then_operation (context s.now) (Ok into.old.items) (tree_at row.OPERATION text.now)) (after_part row.OPERATION text.now) into.new.items result }
+    ensures { spec.PutsOperations (spec.then_operation (context s.now) (Ok into.old.items) (tree_at row.OPERATION text.now)) (after_part row.OPERATION text.now) into.new.items result }
 {
     match operation_at(s, text) {
         Ok((operation, rest)) => match into.push(operation) {
@@ -161,7 +161,7 @@ fn further_operations<'a>(
     into: &mut Vec<Operation>,
 ) -> Result<&'a [u8], Fault>
     requires list { is_list operation_start row.OPERATION text.now ≡ true }
-    ensures { spec.Puts (spec.further_operations (context s.now) (Ok into.old.items) (list_at operation_start row.OPERATION text.now)) (after_list operation_start row.OPERATION text.now) into.new.items result }
+    ensures { spec.PutsOperations (spec.further_operations (context s.now) (Ok into.old.items) (list_at operation_start row.OPERATION text.now)) (after_list operation_start row.OPERATION text.now) into.new.items result }
 {
     let mut left = text;
     while is_operation_at(left) {

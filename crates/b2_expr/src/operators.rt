@@ -1,6 +1,6 @@
 // What joins two numbers, by levels: sums of products of powers; and what compares.
 ghost use Rattle.std.specs.Prelude.{◌≡◌, Some};
-ghost use Rattle.b2_expr.specs.Operators.{joined, joined_condition, raised, raised_by, under_sign};
+ghost use Rattle.b2_expr.specs.Operators.{completed, joined, joined_condition, raised, raised_by, under_sign};
 
 use b2_atom::words::{AND, OR};
 use b2_base::Code;
@@ -8,13 +8,27 @@ use b2_base::codes::C65_EXPONENT;
 use b2_dec::{Dec, Mode, add, div, mul, power, sub, whole};
 
 /// The levels of operators, from what binds least to what binds most.
-#[derive(Clone, Copy, Debug, PartialEq, Eq)]
+#[derive(Clone, Copy, Debug, Default, PartialEq, Eq)]
 pub enum Level {
+    #[default]
     Sum,
     Product,
     Factor,
     Power,
     Operand,
+}
+
+/// An operator with the number before it, or a sign, that waits for the number after it.
+#[derive(Clone, Copy, Default)]
+pub struct Pending {
+    /// The number before the operator, None before a sign.
+    pub before: Option<Dec>,
+    /// The byte of the operator, or of the sign.
+    pub operator: u8,
+    /// The level of the expression that was being read when it came.
+    pub wanted: Level,
+    /// The level of what it makes of the number after it.
+    pub made: Level,
 }
 
 /// A number to the power of a whole one, which must be from 0 to 255.
@@ -58,6 +72,16 @@ pub fn under_sign(mode: Mode, sign: u8, number: Dec) -> Result<Dec, Code>
         sub(Dec::zero(), number, mode)
     } else {
         Ok(number)
+    }
+}
+
+/// What an operator or a sign that waited makes of the number after it.
+pub fn completed(mode: Mode, pending: &Pending, number: Dec) -> Result<Dec, Code>
+    ensures { result ≡ completed mode pending.now number }
+{
+    match pending.before {
+        Some(before) => joined(mode, pending.operator, before, number),
+        None => under_sign(mode, pending.operator, number),
     }
 }
 

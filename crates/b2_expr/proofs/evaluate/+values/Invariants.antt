@@ -5,6 +5,7 @@ use Rattle.b2_rows.specs.Chains.{more_start}
 use Rattle.b2_rows.specs.declared.chains.Chain.TheVariants as chain
 use Rattle.b2_expr.specs.Further.{are_further, further_tree, after_further}
 use Rattle.b2_expr.specs.Levels.{row_of_level, spans, ends, left_after_levels, are_lists}
+use Rattle.b2_expr.specs.Unfinished.{finished, fit, left_by, stand}
 use Rattle.b2_expr.specs.Value.{context, value, extremes, further_text}
 use Rattle.b2_expr.proofs.evaluate.+values.Given as goal
 
@@ -12,8 +13,8 @@ use Rattle.b2_expr.proofs.evaluate.+values.Given as goal
 abbrev pub decreases-climb : goal.decreases-climb
 decreases-climb l = 6000 * l.s.now.room + (20 * length l.text.now + 14)
 
-abbrev pub decreases-head : goal.decreases-head
-decreases-head l = 6000 * l.s.now.room + (20 * length l.text.now + 13)
+abbrev pub decreases-first_operand : goal.decreases-first_operand
+decreases-first_operand l = 6000 * l.s.now.room + (20 * length l.text.now + 13)
 
 abbrev pub decreases-operand : goal.decreases-operand
 decreases-operand l = 6000 * l.s.now.room + (20 * length l.text.now + 12)
@@ -21,8 +22,8 @@ decreases-operand l = 6000 * l.s.now.room + (20 * length l.text.now + 12)
 abbrev pub decreases-group : goal.decreases-group
 decreases-group l = 6000 * l.s.now.room + (20 * length l.text.now + 11)
 
-abbrev pub decreases-function : goal.decreases-function
-decreases-function l = 6000 * l.s.now.room + (20 * length l.text.now + 11)
+abbrev pub decreases-call_at : goal.decreases-call_at
+decreases-call_at l = 6000 * l.s.now.room + (20 * length l.text.now + 11)
 
 abbrev pub decreases-of_one_at : goal.decreases-of_one_at
 decreases-of_one_at l = 6000 * l.s.now.room + (20 * length l.text.now + 11)
@@ -78,16 +79,19 @@ decreases-further_numbers l = 6000 * l.s.now.room + (20 * length l.text.now + 3)
 abbrev pub decreases-further_operands : goal.decreases-further_operands
 decreases-further_operands l = 6000 * l.s.now.room + (20 * length l.text.now + 9)
 
+-- what waits makes of the number what the whole expression is worth
 abbrev pub invariant-climb-loop-level : goal.invariant-climb-loop-level
 invariant-climb-loop-level l = record {
-  lists : are_lists (spans l.wanted l.top) l.left ≡ true;
-  value : ends (context l.s) (spans l.wanted l.top) (Ok l.number) l.left ≡ value (context l.s) l.wanted (tree_at (row_of_level l.wanted) l.text);
-  rest : left_after_levels (spans l.wanted l.top) l.left ≡ after_part (row_of_level l.wanted) l.text;
+  lists : are_lists (spans l.reading l.top) l.left ≡ true;
+  stand : stand l.pending.items (left_after_levels (spans l.reading l.top) l.left) ≡ true;
+  fit : fit 0 l.pending.items l.reading ≡ true;
+  value : finished (context l.s) l.pending.items (ends (context l.s) (spans l.reading l.top) (Ok l.number) l.left) (left_after_levels (spans l.reading l.top) l.left) ≡ value (context l.s) l.fn.wanted (tree_at (row_of_level l.fn.wanted) l.text);
+  rest : left_by l.pending.items (left_after_levels (spans l.reading l.top) l.left) ≡ after_part (row_of_level l.fn.wanted) l.text;
   shorter : length l.left ≤ length l.text;
 }
 
 abbrev pub decreases-climb-loop-level : goal.decreases-climb-loop-level
-decreases-climb-loop-level l = length l.left
+decreases-climb-loop-level l = 3 * length l.left + length l.pending.items
 
 -- the numbers that are left give what all of them do
 abbrev pub invariant-further_numbers-loop : goal.invariant-further_numbers-loop
