@@ -13,5 +13,5 @@ pub record SeenLent : Type 0 where
   pub home : TextState
   pub globals : Option VarsState
 
-abbrev pub seen : Lent → SeenLent
-seen lent = record { own = lent.own.now; home = lent.home.now; globals = globals_lent lent }
+abbrev pub seen_lent : Lent → SeenLent
+seen_lent lent = record { own = lent.own.now; home = lent.home.now; globals = globals_lent lent }

@@ -12,15 +12,15 @@ abbrev pub Decided : Type 0 → Type 0
 Decided P = P ⊎ (P → ⊥)
 
 -- an object as numbers: its kind, and which one of the kind it is
-abbrev spelled : Object → List ℕ
-spelled (object.Text p) = 0 ∷ p ∷ []
-spelled (object.Borrow p) = 1 ∷ p ∷ []
-spelled (object.Name n) = 2 ∷ n
-spelled (object.Globals p) = 3 ∷ p ∷ []
-spelled (object.Terminal t) = 4 ∷ t ∷ []
-spelled (object.Printer a) = 5 ∷ a
-spelled (object.Platter a) = 6 ∷ a
-spelled (object.Hog a) = 7 ∷ a
+abbrev object_numbers : Object → List ℕ
+object_numbers (object.Text p) = 0 ∷ p ∷ []
+object_numbers (object.Borrow p) = 1 ∷ p ∷ []
+object_numbers (object.Name n) = 2 ∷ n
+object_numbers (object.Globals p) = 3 ∷ p ∷ []
+object_numbers (object.Terminal t) = 4 ∷ t ∷ []
+object_numbers (object.Printer a) = 5 ∷ a
+object_numbers (object.Platter a) = 6 ∷ a
+object_numbers (object.Hog a) = 7 ∷ a
 
 abbrev of_kind : ℕ → List ℕ → Object
 of_kind k which =
@@ -33,20 +33,20 @@ of_kind k which =
     else (if k == 6 then object.Platter which
     else object.Hog which))))))
 
--- the object that is spelled so
+-- the object that has these numbers
 abbrev read_back : List ℕ → Object
 read_back [] = object.Text 0
 read_back (k ∷ which) = of_kind k which
 
-read_spelled : (o : Object) → read_back (spelled o) ≡ o
-read_spelled (object.Text p) = refl
-read_spelled (object.Borrow p) = refl
-read_spelled (object.Name n) = refl
-read_spelled (object.Globals p) = refl
-read_spelled (object.Terminal t) = refl
-read_spelled (object.Printer a) = refl
-read_spelled (object.Platter a) = refl
-read_spelled (object.Hog a) = refl
+read_numbers : (o : Object) → read_back (object_numbers o) ≡ o
+read_numbers (object.Text p) = refl
+read_numbers (object.Borrow p) = refl
+read_numbers (object.Name n) = refl
+read_numbers (object.Globals p) = refl
+read_numbers (object.Terminal t) = refl
+read_numbers (object.Printer a) = refl
+read_numbers (object.Platter a) = refl
+read_numbers (object.Hog a) = refl
 
 same_numbers : (xs ys : List ℕ) → Decided (xs ≡ ys)
 same_numbers xs ys = by (bytes_eq xs ys) refl
@@ -56,8 +56,8 @@ same_numbers xs ys = by (bytes_eq xs ys) refl
     by false e = inr (λ same. true≢false (sym ((bytes_eq-Decides xs ys).1 same) ∙ e))
 
 pub same_object : (x o : Object) → Decided (x ≡ o)
-same_object x o = by (same_numbers (spelled x) (spelled o))
+same_object x o = by (same_numbers (object_numbers x) (object_numbers o))
   where
-    by : Decided (spelled x ≡ spelled o) → Decided (x ≡ o)
-    by (inl e) = inl (sym (read_spelled x) ∙ ap read_back e ∙ read_spelled o)
-    by (inr apart) = inr (λ e. apart (ap spelled e))
+    by : Decided (object_numbers x ≡ object_numbers o) → Decided (x ≡ o)
+    by (inl e) = inl (sym (read_numbers x) ∙ ap read_back e ∙ read_numbers o)
+    by (inr apart) = inr (λ e. apart (ap object_numbers e))

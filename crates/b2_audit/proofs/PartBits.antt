@@ -7,7 +7,8 @@ use Rattle.std.proofs.Math.Nat.{mod-eq_of_lt}
 use Rattle.std.proofs.Math.Pow.{pow_mono}
 use Rattle.std.proofs.lemmas.Bool.{cases_eq, false_from_ne_true, not_from_false}
 use Rattle.std.proofs.lemmas.Nat.Bits.{bit_at_and, bit_at_or, bit_at-zero, bit_at_ones, bit_at-pow_same, bit_at-pow_other, bit_at_clear_same, bit_at_clear_other, same_from_bits}
-use Rattle.b2_audit.specs.PartSets.{bit_of, has, with_part, without_part, has_other}
+use Rattle.b2_base.specs.Places.{bit_of}
+use Rattle.b2_audit.specs.PartSets.{has, with_part, without_part, has_other}
 use Rattle.b2_audit.specs.Steps.{IsPartition}
 
 in_range : (p : ℕ) → p ≤ 16 → 2 ^ (p - 1) < 65536

@@ -1,9 +1,7 @@
 -- Sets of partitions as numbers: the bit of a partition is that of its number less 1.
-use Rattle.std.specs.Prelude.{ℕ, ◌-◌, ◌^◌, ◌==◌, Bool, not, bit_and, bit_or}
+use Rattle.std.specs.Prelude.{ℕ, ◌-◌, ◌==◌, Bool, not, bit_and, bit_or}
 use Rattle.std.specs.Int.{w16, bit_at, bit_not}
-
-abbrev pub bit_of : ℕ → ℕ
-bit_of p = 2 ^ (p - 1)
+use Rattle.b2_base.specs.Places.{bit_of}
 
 -- whether a partition is in a set
 abbrev pub has : ℕ → ℕ → Bool

@@ -1,6 +1,6 @@
 // Sets of partitions.
 ghost use Rattle.std.specs.Prelude.{◌≡◌};
-ghost use Rattle.b2_audit.specs.PartSets.{bit_of, has, with_part, without_part, has_other};
+ghost use Rattle.b2_audit.specs.PartSets.{has, with_part, without_part, has_other};
 
 use b2_base::Part;
 use std::marker::Model;
@@ -19,13 +19,6 @@ impl Model for PartSet {
     ghost view = { λ s. s.bits };
 
     ghost inverse = { λ n. record { bits = n } };
-}
-
-/// The bit of a partition.
-fn bit_of(p: Part) -> u16
-    ensures { result ≡ bit_of p }
-{
-    1 << (p.number() - 1)
 }
 
 impl PartSet {
@@ -55,7 +48,7 @@ impl PartSet {
         ensures { result ≡ with_part self p }
     {
         PartSet {
-            bits: self.bits | bit_of(p),
+            bits: self.bits | p.bit(),
         }
     }
 
@@ -64,7 +57,7 @@ impl PartSet {
         ensures { result ≡ without_part self p }
     {
         PartSet {
-            bits: self.bits & !bit_of(p),
+            bits: self.bits & !p.bit(),
         }
     }
 

@@ -2,3 +2,4 @@ pub mod Cutting
 pub mod DigitsWidth
 pub mod Keyed
 pub mod Padding
+pub mod PartBits

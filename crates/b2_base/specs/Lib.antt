@@ -11,4 +11,5 @@ pub mod Outside
 pub mod Pieces
 pub mod Places
 pub mod Real
+pub mod Refusals
 pub mod Seen

@@ -1,6 +1,7 @@
 // The numbers of partitions and terminals.
-ghost use Rattle.std.specs.Prelude.{◌≡◌, ◌≤◌};
-ghost use Rattle.b2_base.specs.Places.{part_of, term_of};
+ghost use Rattle.std.specs.Prelude.{◌≡◌, ◌≤◌, ◌-◌, ◌==◌, ℕ, if◌then◌else◌};
+ghost use Rattle.std.specs.Int.{bit_at};
+ghost use Rattle.b2_base.specs.Places.{part_of, term_of, bit_of};
 
 use std::marker::Model;
 
@@ -50,6 +51,14 @@ impl Part {
         ensures high { result ≤ 16 }
     {
         self.number
+    }
+
+    /// Its bit in a mask of partitions: that of its number less 1.
+    pub fn bit(self) -> u16
+        ensures value { result ≡ bit_of self }
+        ensures own { (p : ℕ) → 1 ≤ p → bit_at result (p - 1) ≡ (if self == p then 1 else 0) }
+    {
+        1 << (self.number - 1)
     }
 }
 

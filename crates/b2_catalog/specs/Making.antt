@@ -14,10 +14,10 @@ make_refusal image None name sectors = enter_refusal image name sectors
 make_refusal image (Some old) name sectors = reuse_refusal image old name
 
 -- the file, and the image that has it
-abbrev pub Made : List ℕ → Option (List ℕ) → List ℕ → Bool → ℕ → List ℕ → Entry → Type 0
-Made image None name program sectors new e =
+abbrev pub MakesFile : List ℕ → Option (List ℕ) → List ℕ → Bool → ℕ → List ℕ → Entry → Type 0
+MakesFile image None name program sectors new e =
     (e ≡ new_entry image name program sectors) × IfSome (place image name) (λ k. new ≡ entered image k name program sectors)
-Made image (Some old) name program sectors new e =
+MakesFile image (Some old) name program sectors new e =
     IfSome (get (catalogue image) old) (λ was. e ≡ record was { name = name; live = true; program = program })
     × IfSome (slot_found image old) (λ k. IfSome (reused_place image old name) (λ to. new ≡ reused image k to name program))
 

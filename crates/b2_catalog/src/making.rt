@@ -3,7 +3,7 @@ ghost use Rattle.std.specs.Prelude.{◌≡◌, ◌≤◌, true, Some, None, IfOk
 ghost use Rattle.std.specs.FinMap.{get, insert};
 ghost use Rattle.b2_platter.specs.Image.{index_of};
 ghost use Rattle.b2_catalog.specs.Catalogue.{catalogue};
-ghost use Rattle.b2_catalog.specs.Making.{KeepsOthers, Made, files_without, make_refusal};
+ghost use Rattle.b2_catalog.specs.Making.{KeepsOthers, MakesFile, files_without, make_refusal};
 
 use crate::Entry;
 use crate::additions::enter;
@@ -24,7 +24,7 @@ pub fn make_file(
     requires { old ≡ None → 2 ≤ sectors }
     ensures err { IfErr result (λ code. (make_refusal p.old old name sectors ≡ Some code) × (p.new ≡ p.old)) }
     ensures ok { OnOk result (make_refusal p.old old name sectors ≡ None) }
-    ensures made { IfOk result (Made p.old old name program sectors p.new) }
+    ensures made { IfOk result (MakesFile p.old old name program sectors p.new) }
     ensures file { IfOk result (λ e. get (catalogue p.new) e.name ≡ Some e) }
     ensures named { IfOk result (λ e. e.name ≡ name) }
     ensures live { IfOk result (λ e. e.live ≡ true) }

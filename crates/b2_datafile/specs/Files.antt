@@ -6,7 +6,7 @@ use Rattle.b2_platter.specs.Image.{sector, sectors_at}
 use Rattle.b2_platter.specs.Edits.{put_sector}
 use Rattle.b2_catalog.specs.declared.entry.Entry.{Entry}
 use Rattle.b2_catalog.specs.Changes.{control_sector}
-use Rattle.b2_catalog.specs.Making.{Made}
+use Rattle.b2_catalog.specs.Making.{MakesFile}
 use Rattle.b2_record.specs.Records.{Spells}
 use Rattle.b2_datafile.specs.declared.marks.TheConstants.{END_MARK}
 
@@ -40,5 +40,5 @@ with_end image e pos = put_sector (put_sector image pos end_mark) e.end (control
 pub record MadeEmpty (image : List ℕ) (old : Option (List ℕ)) (name : List ℕ) (sectors : ℕ) (new : List ℕ) : Type 0 where
   pub e : Entry
   pub between : List ℕ
-  pub made : Made image old name false sectors between e
+  pub made : MakesFile image old name false sectors between e
   pub same : new ≡ with_end between e e.start

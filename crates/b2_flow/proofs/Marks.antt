@@ -1,25 +1,8 @@
--- Marks of partitions: a bit of its own for each.
-use Rattle.std.proofs.Common.{◌≡◌, ◌≤◌, ◌<◌, ◌-◌, ◌*◌, ◌^◌, ◌%◌, ◌==◌, ◌∙◌, ℕ, Bool, true, false, ◌||◌, bit_or, refl, subst, if◌then◌else◌, arith}
+-- Marks of partitions: those of two tests together.
+use Rattle.std.proofs.Common.{◌≡◌, ◌-◌, ℕ, Bool, true, false, ◌||◌, bit_or, refl, if◌then◌else◌}
 use Rattle.std.specs.Int.{bit_at}
-use Rattle.std.proofs.Math.Nat.{mod-eq_of_lt}
-use Rattle.std.proofs.Math.Pow.{pow_mono}
-use Rattle.std.proofs.lemmas.Bool.Decides.{Decides-eqb}
-use Rattle.std.proofs.lemmas.Nat.Bits.{bit_at_or, bit_at-pow_same, bit_at-pow_other}
+use Rattle.std.proofs.lemmas.Nat.Bits.{bit_at_or}
 
-own_bit : (test : Bool) (p h : ℕ) → (test ≡ true → p ≡ h) → (p ≡ h → test ≡ true) → 1 ≤ p → 1 ≤ h → bit_at (2 ^ (p - 1)) (h - 1) ≡ (if test then 1 else 0)
-own_bit true p h same back low_p low_h = subst (λ (x : ℕ). bit_at (2 ^ (p - 1)) (x - 1) ≡ 1) (same refl) (bit_at-pow_same (p - 1))
-own_bit false p h same back low_p low_h =
-    bit_at-pow_other (p - 1) (h - 1) (λ e. let bad : false ≡ true = back (omega (arith, e, low_p, low_h)) in cc)
-
-in_range : (p : ℕ) → p ≤ 16 → 2 ^ (p - 1) < 65536
-in_range p high = omega (arith, pow_mono {i = p - 1} {j = 15} (omega (arith, high)))
-
-pub mark_bit : (p h : ℕ) → 1 ≤ p → p ≤ 16 → 1 ≤ h → bit_at (1 * 2 ^ (p - 1) % 65536) (h - 1) ≡ (if p == h then 1 else 0)
-mark_bit p h low high low_h =
-    let small : 1 * 2 ^ (p - 1) % 65536 ≡ 2 ^ (p - 1) = mod-eq_of_lt {n = 1 * 2 ^ (p - 1)} {m = 65536} (omega (arith, in_range p high)) ∙ omega arith in
-    rw small (own_bit (p == h) p h (Decides-eqb p h).0 (Decides-eqb p h).1 low low_h)
-
--- the marks of two tests together
 pub either_bit : (a b : Bool) (m n i : ℕ) → bit_at m i ≡ (if a then 1 else 0) → bit_at n i ≡ (if b then 1 else 0) → bit_at (bit_or m n) i ≡ (if a || b then 1 else 0)
 either_bit true true m n i p q = rw (bit_at_or m n i) (rw p (rw q refl))
 either_bit true false m n i p q = rw (bit_at_or m n i) (rw p (rw q refl))

@@ -65,7 +65,7 @@ impl Frame {
         ensures { (h : ℕ) → 1 ≤ h → bit_at result (h - 1) ≡ (if names_home h self then 1 else 0) }
     {
         match self {
-            Frame::For { body, .. } => bit_of(body.home),
+            Frame::For { body, .. } => body.home.bit(),
             Frame::Call { back, entered } => back_mark(back) | entered_mark(entered),
         }
     }
@@ -76,7 +76,7 @@ fn back_mark(back: Option<Place>) -> u16
     ensures { (h : ℕ) → 1 ≤ h → bit_at result (h - 1) ≡ (if is_back_home h back then 1 else 0) }
 {
     match back {
-        Some(place) => bit_of(place.home),
+        Some(place) => place.home.bit(),
         None => 0,
     }
 }
@@ -86,14 +86,7 @@ fn entered_mark(entered: Option<Part>) -> u16
     ensures { (h : ℕ) → 1 ≤ h → bit_at result (h - 1) ≡ (if is_entered h entered then 1 else 0) }
 {
     match entered {
-        Some(part) => bit_of(part),
+        Some(part) => part.bit(),
         None => 0,
     }
-}
-
-/// The bit of a partition: that of its number less 1.
-fn bit_of(part: Part) -> u16
-    ensures { (h : ℕ) → 1 ≤ h → bit_at result (h - 1) ≡ (if part == h then 1 else 0) }
-{
-    1 << (part.number() - 1)
 }

@@ -1,6 +1,6 @@
 // What a special function key does at a ready partition.
 ghost use Rattle.std.specs.Prelude.{◌≡◌, [], OnOk};
-ghost use Rattle.b2_access.specs.Lending.{seen};
+ghost use Rattle.b2_access.specs.Lending.{seen_lent};
 ghost use Rattle.b2_machine.specs.Keys as spec;
 
 use crate::readiness::refuse;
@@ -53,7 +53,7 @@ fn press(alloc: Global, me: &mut Private, own: &Text, n: u8) -> Result<(), NoMem
 
 /// The same over what is lent.
 pub fn press_over(alloc: Global, me: &mut Private, lent: Lent<'_>, n: u8) -> Result<(), NoMemory>
-    ensures changed { OnOk result (me.new ≡ spec.pressed n (seen lent.entry).own.lines me.old) }
+    ensures changed { OnOk result (me.new ≡ spec.pressed n (seen_lent lent.entry).own.lines me.old) }
     ensures part { me.new.part ≡ me.old.part }
 {
     press(alloc, me, lent.own, n)

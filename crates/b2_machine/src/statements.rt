@@ -3,7 +3,7 @@ ghost use Rattle.std.specs.Prelude.{◌≡◌, ◌<◌, true, IfOk, IfSome, Opti
 ghost use Rattle.b2_atom.specs.Tree.{uses_in};
 ghost use Rattle.b2_rows.specs.Laws.{IsRow};
 ghost use Rattle.b2_rows.specs.Rows.{tree_at};
-ghost use Rattle.b2_access.specs.Lending.{globals_lent, seen, SeenLent};
+ghost use Rattle.b2_access.specs.Lending.{globals_lent, seen_lent, SeenLent};
 ghost use Rattle.b2_access.specs.Placed.{line_named as line_of_place, statement_placed as named_at, statement_on as named_on};
 ghost use Rattle.b2_machine.specs.Statements as spec;
 ghost use Rattle.b2_machine.specs.Stays.{IsLegalCourse};
@@ -105,7 +105,7 @@ fn plan_by(
     place: Place,
     builder: Builder,
 ) -> Result<Planned, NoMemory>
-    ensures planned { IfOk result (λ p. record { me = me.new; globals = globals_lent lent.new; planned = p } ≡ spec.plan_by builder place me.old (seen lent.old)) }
+    ensures planned { IfOk result (λ p. record { me = me.new; globals = globals_lent lent.new; planned = p } ≡ spec.plan_by builder place me.old (seen_lent lent.old)) }
     ensures same_reference { lent.new.globals.ghost_name ≡ lent.old.globals.ghost_name }
     ensures part { me.new.part ≡ me.old.part }
 {
@@ -126,7 +126,7 @@ fn finish_by(
     access: &Access,
     answer: &Answer,
 ) -> Result<Outcome, NoMemory>
-    ensures finished { IfOk result (λ o. record { me = me.new; globals = globals_lent lent.new; outcome = o } ≡ spec.finish_by builder access.now answer.now me.old (seen lent.old)) }
+    ensures finished { IfOk result (λ o. record { me = me.new; globals = globals_lent lent.new; outcome = o } ≡ spec.finish_by builder access.now answer.now me.old (seen_lent lent.old)) }
     ensures same_reference { lent.new.globals.ghost_name ≡ lent.old.globals.ghost_name }
     ensures part { me.new.part ≡ me.old.part }
 {
@@ -229,7 +229,7 @@ fn begin_by(
     place: &Place,
 ) -> Result<Course, NoMemory>
     ensures legal { IfOk result IsLegalCourse }
-    ensures begun { IfOk result (λ c. record { me = me.new; course = c } ≡ spec.begins place.now me.old (seen lent.entry)) }
+    ensures begun { IfOk result (λ c. record { me = me.new; course = c } ≡ spec.begins place.now me.old (seen_lent lent.entry)) }
     ensures part { me.new.part ≡ me.old.part }
 {
     let Lent {
@@ -261,7 +261,7 @@ pub fn begin_over(
 ) -> Result<Course, NoMemory>
     requires stands { me.old.place ≡ Some place.now }
     ensures legal { IfOk result IsLegalCourse }
-    ensures begun { IfOk result (λ c. record { me = me.new; course = c } ≡ spec.begins place.now me.old (seen lent.entry)) }
+    ensures begun { IfOk result (λ c. record { me = me.new; course = c } ≡ spec.begins place.now me.old (seen_lent lent.entry)) }
     ensures part { me.new.part ≡ me.old.part }
 {
     let Lent {
@@ -295,7 +295,7 @@ pub fn finish_over(
     access: &Access,
     answer: &Answer,
 ) -> Result<Stepped, NoMemory>
-    ensures ended { IfOk result (λ e. record { me = me.new; end = e } ≡ spec.finishes builder access.now answer.now place me.old (seen lent.entry)) }
+    ensures ended { IfOk result (λ e. record { me = me.new; end = e } ≡ spec.finishes builder access.now answer.now place me.old (seen_lent lent.entry)) }
     ensures part { me.new.part ≡ me.old.part }
 {
     let Lent {

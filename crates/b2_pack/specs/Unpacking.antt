@@ -1,7 +1,5 @@
 -- The values that the fields of a buffer hold.
-use Rattle.std.specs.Prelude.{◌≡◌, ℕ, zero, suc, ◌+◌, nat_lt, if◌then◌else◌, List, [], ◌∷◌, length, take, drop, Option, Some, None, Result, Ok, Err}
-use Rattle.b2_base.specs.declared.codes.Fault.{Fault}
-use Rattle.b2_base.specs.declared.codes.Fault.TheVariants as fault
+use Rattle.std.specs.Prelude.{ℕ, zero, suc, ◌+◌, nat_lt, if◌then◌else◌, List, [], ◌∷◌, length, take, drop, Option, Some, None, Result, Ok, Err}
 use Rattle.b2_base.specs.declared.codes.TheConstants.{P58_SPECIFICATION, X70_TOO_LITTLE}
 use Rattle.b2_dec.specs.Number.{Number}
 use Rattle.b2_dec.specs.declared.values.Value.{Value}
@@ -42,8 +40,3 @@ numbers_in row at (suc n) bytes =
 abbrev pub numbers_by_rows : Option Row → ℕ → List ℕ → Result (List Number) ℕ
 numbers_by_rows None n bytes = Err P58_SPECIFICATION
 numbers_by_rows (Some row) n bytes = numbers_in row 0 n bytes
-
--- a refusal has its code; memory may fail at any time
-abbrev pub IsRefused : {A : Type 0} → Result (List A) ℕ → Fault → Type 0
-IsRefused outcome (fault.Code code) = outcome ≡ Err code
-IsRefused outcome fault.NoMemory = Unit {0}

@@ -1,5 +1,6 @@
 // Values out of a buffer.
 ghost use Rattle.std.specs.Prelude.{◌≡◌, ◌+◌, ◌≤◌, ◌<◌, ◌++◌, ◌∷◌, [], Ok, length, OnOk, IfOk, IfErr};
+ghost use Rattle.b2_base.specs.Refusals.{IsRefused};
 ghost use Rattle.b2_pack.specs.Images.{image_row};
 ghost use Rattle.b2_pack.specs.Packing.{placed_fields};
 ghost use Rattle.b2_pack.specs.Unpacking as unpacking;
@@ -25,7 +26,7 @@ fn add<T: Drop>(list: &mut Vec<T>, item: T) -> Result<(), NoMemory>
 /// The values of given kinds in the fields of a specification.
 fn values_in(alloc: Global, text: &[u8], kinds: &[Kind], from: &[u8]) -> Result<Vec<Value>, Fault>
     ensures ok { IfOk result (λ values. unpacking.values_in (placed_fields text.now) kinds.now from.now ≡ Ok values.items) }
-    ensures code { IfErr result (unpacking.IsRefused (unpacking.values_in (placed_fields text.now) kinds.now from.now)) }
+    ensures code { IfErr result (IsRefused (unpacking.values_in (placed_fields text.now) kinds.now from.now)) }
 {
     let mut values = Vec::new(alloc);
     let mut rest = text;
@@ -58,7 +59,7 @@ pub fn unfields(
     from: &[u8],
 ) -> Result<Vec<Value>, Fault>
     ensures ok { IfOk result (λ values. unpacking.fields_in spec.now kinds.now from.now ≡ Ok values.items) }
-    ensures code { IfErr result (unpacking.IsRefused (unpacking.fields_in spec.now kinds.now from.now)) }
+    ensures code { IfErr result (IsRefused (unpacking.fields_in spec.now kinds.now from.now)) }
 {
     if !is_specification(spec) {
         return Err(Fault::Code(Code::known(P58_SPECIFICATION)));
@@ -71,7 +72,7 @@ fn numbers_in(alloc: Global, row: Row, n: usize, from: &[u8]) -> Result<Vec<Dec>
     requires digits { row.digits < 600 }
     requires decimals { row.decimals ≤ 13 }
     ensures ok { IfOk result (λ xs. unpacking.numbers_in row 0 n from.now ≡ Ok xs.items) }
-    ensures code { IfErr result (unpacking.IsRefused (unpacking.numbers_in row 0 n from.now)) }
+    ensures code { IfErr result (IsRefused (unpacking.numbers_in row 0 n from.now)) }
 {
     let width = row_length(row);
     let mut xs = Vec::new(alloc);
@@ -95,7 +96,7 @@ fn numbers_in(alloc: Global, row: Row, n: usize, from: &[u8]) -> Result<Vec<Dec>
 /// isn't a digit or a sign isn't 0 or 1.
 pub fn unpack(alloc: Global, image: &[u8], n: usize, from: &[u8]) -> Result<Vec<Dec>, Fault>
     ensures ok { IfOk result (λ xs. unpacking.numbers_by_rows (image_row image.now) n from.now ≡ Ok xs.items) }
-    ensures code { IfErr result (unpacking.IsRefused (unpacking.numbers_by_rows (image_row image.now) n from.now)) }
+    ensures code { IfErr result (IsRefused (unpacking.numbers_by_rows (image_row image.now) n from.now)) }
 {
     let Some(row) = image_row(image) else {
         return Err(Fault::Code(Code::known(P58_SPECIFICATION)));

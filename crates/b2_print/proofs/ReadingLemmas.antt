@@ -10,7 +10,7 @@ use Rattle.b2_dectext.specs.Digits.{digit_byte, digit_bytes, without_last_zeros}
 use Rattle.b2_dectext.specs.Printed.{printed, shown_size, with_point, after_point, nine_digits, exponent_shown, sign_shown, is_fixed}
 use Rattle.b2_print.specs.Columns.{next_column, column_after, passes}
 use Rattle.b2_print.specs.Screen.{placing_bytes, outline_bytes}
-use Rattle.b2_print.specs.Reading.{Reading, between, begun, column_of, read_byte, read_on, reads_past, is_other_byte, begins_none}
+use Rattle.b2_print.specs.Reading.{ColumnReading, between, begun, column_of, read_byte, read_on, reads_past, is_other_byte, begins_none}
 use Rattle.b2_print.specs.declared.layout.Item.{Item}
 use Rattle.b2_print.specs.declared.layout.Item.TheVariants as item
 use Rattle.b2_print.specs.Layout.{next_zone, item_text, stands_on_line, placed, item_column, layout, items_column, is_on_screen, are_on_screen, fits_line}
@@ -130,7 +130,7 @@ past-other width column (b ∷ bs) h =
     (none-passes (b == 2) parts.0)
     ∙ ap (λ t. nat_lt width (next_column column b) || t) (past-other width (next_column column b) bs parts.1)
 
-past-append : (width : ℕ) (r : Reading) (xs ys : List ℕ) → reads_past width r (xs ++ ys) ≡ (reads_past width r xs || reads_past width (read_on r xs) ys)
+past-append : (width : ℕ) (r : ColumnReading) (xs ys : List ℕ) → reads_past width r (xs ++ ys) ≡ (reads_past width r xs || reads_past width (read_on r xs) ys)
 past-append width r [] ys = refl
 past-append width r (x ∷ xs) ys =
     ap (λ t. nat_lt width (column_of (read_byte r x)) || t) (past-append width (read_byte r x) xs ys)

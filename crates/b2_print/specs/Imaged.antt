@@ -1,8 +1,6 @@
 -- What values become in an image.
-use Rattle.std.specs.Prelude.{◌≡◌, ℕ, zero, suc, ◌-◌, ◌==◌, ◌&&◌, Bool, not, if◌then◌else◌, List, [], ◌∷◌, ◌++◌, length, Result, Ok, Err}
+use Rattle.std.specs.Prelude.{ℕ, zero, suc, ◌-◌, ◌==◌, ◌&&◌, Bool, not, if◌then◌else◌, List, [], ◌∷◌, ◌++◌, length, Result, Ok, Err}
 use Rattle.b2_base.specs.Byte as byte
-use Rattle.b2_base.specs.declared.codes.Fault.{Fault}
-use Rattle.b2_base.specs.declared.codes.Fault.TheVariants as fault
 use Rattle.b2_base.specs.declared.codes.TheConstants.{P42_IMAGE, X71_DOES_NOT_FIT}
 use Rattle.b2_dec.specs.Number.{Number}
 use Rattle.b2_dec.specs.declared.values.Value.{Value}
@@ -48,8 +46,3 @@ converted image x = converted_in (pieces_of image) (fields (pieces_of image)) x
 abbrev pub appended : List ℕ → Result (List ℕ) ℕ → Result (List ℕ) ℕ
 appended before (Ok text) = Ok (before ++ text)
 appended before (Err code) = Err code
-
--- a refusal has its code; memory may fail at any time
-abbrev pub IsRefused : Result (List ℕ) ℕ → Fault → Type 0
-IsRefused outcome (fault.Code code) = outcome ≡ Err code
-IsRefused outcome fault.NoMemory = Unit {0}

@@ -164,7 +164,7 @@ pub(crate) fn fill_number(field: &Field<'_>, x: Dec, into: &mut [u8]) -> bool
 }
 
 /// Fills a field with a value.
-pub(crate) fn fill(field: &Field<'_>, value: &Value, into: &mut [u8])
+pub(crate) fn fill_field(field: &Field<'_>, value: &Value, into: &mut [u8])
     requires { length into.old ≡ field_width field.now }
     ensures { into.new ≡ spec.filled field.now value.now }
 {

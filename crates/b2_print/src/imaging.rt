@@ -1,11 +1,12 @@
 // Values in an image.
 ghost use Rattle.std.specs.Prelude.{◌≡◌, false, Ok, Err, Some, None, MatchOption, if◌then◌else◌, ◌++◌, ◌-◌, ◌≤◌, ◌<◌, ◌^◌, [], ◌∷◌, length, drop, min, OnOk, OnErr, IfOk, IfErr, IfSome, MatchResult};
 ghost use Rattle.b2_base.specs.Byte as byte;
+ghost use Rattle.b2_base.specs.Refusals.{IsRefused};
 ghost use Rattle.b2_print.specs.Images.{field_width, pieces_of, fields, literals, IsFirstField};
 ghost use Rattle.b2_print.specs.Filling.{filled, fits, number_filled};
 ghost use Rattle.b2_print.specs.Imaged as spec;
 
-use crate::filling::{fill, fill_number};
+use crate::filling::{fill_field, fill_number};
 use crate::image::{Field, field_at};
 use b2_base::codes::{P42_IMAGE, X71_DOES_NOT_FIT};
 use b2_base::{Code, Fault, NoMemory};
@@ -18,7 +19,7 @@ fn put(alloc: Global, field: &Field<'_>, value: &Value, text: &mut Vec<u8>) -> R
     ensures { OnOk result (text.new.items ≡ text.old.items ++ filled field.now value.now) }
 {
     let mut filled = vec![in alloc; b' '; field.width()]?;
-    fill(field, value, &mut filled);
+    fill_field(field, value, &mut filled);
     text.extend_from_slice(&filled)?;
     Ok(())
 }
@@ -117,7 +118,7 @@ pub fn using(
     into: &mut Vec<u8>,
 ) -> Result<(), Fault>
     ensures ok { OnOk result (Ok into.new.items ≡ spec.appended into.old.items (spec.imaged image.now items.now more)) }
-    ensures code { IfErr result (spec.IsRefused (spec.imaged image.now items.now more)) }
+    ensures code { IfErr result (IsRefused (spec.imaged image.now items.now more)) }
     ensures err { OnErr result (into.new.items ≡ into.old.items) }
 {
     if lacks_field(image, items) {

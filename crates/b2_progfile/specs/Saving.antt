@@ -10,7 +10,7 @@ use Rattle.b2_catalog.specs.declared.entry.Entry.{Entry}
 use Rattle.b2_catalog.specs.Catalogue.{catalogue}
 use Rattle.b2_catalog.specs.Changes.{control_sector}
 use Rattle.b2_catalog.specs.Calls.{enter_refusal, reuse_refusal}
-use Rattle.b2_catalog.specs.Making.{Made}
+use Rattle.b2_catalog.specs.Making.{MakesFile}
 use Rattle.b2_text.specs.Program.{Lines, is_within}
 use Rattle.b2_progfile.specs.declared.spelling.TheConstants.{PIECE, PIECE_BYTES}
 use Rattle.b2_progfile.specs.Programs.{program_bytes}
@@ -69,7 +69,7 @@ file_filled image start end sectors = file_filled_with image start end sectors (
 pub record Saved (image : List ℕ) (old : Option (List ℕ)) (name : List ℕ) (lines : Lines) (new : List ℕ) : Type 0 where
   pub e : Entry
   pub between : List ℕ
-  pub made : Made image old name true (length (program_sectors lines) + 1) between e
+  pub made : MakesFile image old name true (length (program_sectors lines) + 1) between e
   pub same : new ≡ file_filled between e.start e.end (program_sectors lines)
 
 -- why a program isn't saved: no file is made for its sectors; or memory failed

@@ -11,7 +11,7 @@ ghost use Rattle.b2_catalog.specs.Catalogue.{catalogue};
 ghost use Rattle.b2_catalog.specs.Calls.{reuse_refusal};
 ghost use Rattle.b2_catalog.specs.Ways.{place};
 ghost use Rattle.b2_progfile.specs.Programs.{IsProgramFile};
-ghost use Rattle.b2_catalog.specs.Making.{KeepsOthers, Made, files_without};
+ghost use Rattle.b2_catalog.specs.Making.{KeepsOthers, MakesFile, files_without};
 ghost use Rattle.b2_progfile.specs.Saving.{SaveFails, Saved, file_filled, lines_within, or_then, pieces_count, text_sectors, program_sectors, save_refusal, size_refusal};
 
 use crate::spelling::{piece_at, pieces_count, program_of};
@@ -101,7 +101,7 @@ fn make_program_file(
     requires few { count ≤ 16777216 }
     ensures err { IfErr result (λ code. (save_refusal p.old old name count ≡ Some code) × (p.new ≡ p.old)) }
     ensures ok { OnOk result (save_refusal p.old old name count ≡ None) }
-    ensures made { IfOk result (Made p.old old name true (count + 1) p.new) }
+    ensures made { IfOk result (MakesFile p.old old name true (count + 1) p.new) }
     ensures file { IfOk result (λ e. get (catalogue p.new) e.name ≡ Some e) }
     ensures named { IfOk result (λ e. e.name ≡ name) }
     ensures live { IfOk result (λ e. e.live ≡ true) }

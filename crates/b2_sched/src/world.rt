@@ -156,7 +156,7 @@ impl World {
         let Some(_me) = self.privates.get(p) else {
             return;
         };
-        self.privates.at(p).flag_halt();
+        self.privates.value_mut(p).flag_halt();
     }
 
     /// Asks a partition for a reset.
@@ -166,7 +166,7 @@ impl World {
         let Some(_me) = self.privates.get(p) else {
             return;
         };
-        self.privates.at(p).flag_reset();
+        self.privates.value_mut(p).flag_reset();
     }
 
     /// A turn of a partition over the store, which is watched meanwhile; an absent one has none.
@@ -177,7 +177,7 @@ impl World {
         let Some(_me) = self.privates.get(part) else {
             return Ok(());
         };
-        let me = self.privates.at(part);
+        let me = self.privates.value_mut(part);
         let mut watched = Watched::new(&mut self.stores, &mut self.seen);
         match turn(self.alloc, me, &mut watched, &self.devices, quota) {
             Ok(turned) => {

@@ -31,7 +31,8 @@ use Rattle.b2_expr.specs.Scope.{Context}
 use Rattle.b2_expr.specs.Value.{text, value}
 use Rattle.b2_expr.specs.declared.operators.Level.TheVariants as level
 use Rattle.b2_rows.proofs.RowsRead.{stands_of}
-use Rattle.b2_print.specs.Imaged.{IsRefused, appended, imaged}
+use Rattle.b2_base.specs.Refusals.{IsRefused}
+use Rattle.b2_print.specs.Imaged.{appended, imaged}
 use Rattle.b2_text.specs.Program.{Lines, line_at}
 use Rattle.b2_access.specs.Going.{line_in}
 use Rattle.b2_stmt_io.specs.Imaging.{any_value, image_named, is_joined, items_named, items_using, values_joined, line_image, prints_using, values_of, written_image}

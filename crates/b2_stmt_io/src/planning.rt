@@ -2,7 +2,7 @@
 ghost use Rattle.std.specs.Prelude.{◌≡◌, IfOk, Option, Some, None, option_map};
 ghost use Rattle.b2_rows.specs.Laws.{IsRow};
 ghost use Rattle.b2_rows.specs.Rows.{tree_at};
-ghost use Rattle.b2_access.specs.Lending.{globals_lent, seen, SeenLent};
+ghost use Rattle.b2_access.specs.Lending.{globals_lent, seen_lent, SeenLent};
 ghost use Rattle.b2_vars.specs.Tables.{VarsState};
 ghost use Rattle.b2_text.specs.Program.{line_at};
 ghost use Rattle.b2_expr.specs.Scope.{surroundings};
@@ -75,7 +75,7 @@ pub fn plan(
     lent: &mut Lent<'_>,
     devices: &DeviceTable,
 ) -> Result<Planned, NoMemory>
-    ensures planned { IfOk result (λ p. record { me = me.new; globals = globals_lent lent.new; planned = p } ≡ spec.plan me.old (seen lent.old)) }
+    ensures planned { IfOk result (λ p. record { me = me.new; globals = globals_lent lent.new; planned = p } ≡ spec.plan me.old (seen_lent lent.old)) }
     ensures same_globals { lent.new.globals.now ≡ lent.old.globals.now }
     ensures same_reference { lent.new.globals.ghost_name ≡ lent.old.globals.ghost_name }
     ensures part { me.new.part ≡ me.old.part }
@@ -164,7 +164,7 @@ pub fn finish(
     access: &Access,
     answer: &Answer,
 ) -> Result<Outcome, NoMemory>
-    ensures finished { IfOk result (λ o. record { me = me.new; globals = globals_lent lent.new; outcome = o } ≡ spec.finish access.now answer.now me.old (seen lent.old)) }
+    ensures finished { IfOk result (λ o. record { me = me.new; globals = globals_lent lent.new; outcome = o } ≡ spec.finish access.now answer.now me.old (seen_lent lent.old)) }
     ensures same_globals { lent.new.globals.now ≡ lent.old.globals.now }
     ensures same_reference { lent.new.globals.ghost_name ≡ lent.old.globals.ghost_name }
     ensures part { me.new.part ≡ me.old.part }

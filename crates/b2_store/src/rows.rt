@@ -99,7 +99,7 @@ impl<X> Rows<X> {
     }
 
     /// The same, to be changed.
-    pub fn at<K: Numbered>(&mut self, key: K) -> &mut X
+    pub fn value_mut<K: Numbered>(&mut self, key: K) -> &mut X
         requires { IsSome (row_of (K.number_of key) self.old) }
         ensures* writes_back { sem 𝓛 (LendsRow X.row self.entry (K.number_of key) result) }
         ensures there { Some result.now ≡ row_of (K.number_of key) self.old }

@@ -100,7 +100,7 @@ impl Stores {
         let Some(_terminal) = self.terminals.get(t) else {
             return None;
         };
-        Some(self.terminals.at(t).key(k))
+        Some(self.terminals.value_mut(t).key(k))
     }
 
     /// Puts a partition in front of a terminal, where it is listed.
@@ -110,7 +110,7 @@ impl Stores {
         let Some(_terminal) = self.terminals.get(t) else {
             return;
         };
-        self.terminals.at(t).set_front(p);
+        self.terminals.value_mut(t).set_front(p);
     }
 
     /// Whom to wait for at a terminal: the partition in front, where it is another.
@@ -143,7 +143,7 @@ impl Stores {
         let Some(_terminal) = self.terminals.get(term) else {
             return Ok(Answer::Done);
         };
-        self.terminals.at(term).show(bytes)?;
+        self.terminals.value_mut(term).show(bytes)?;
         Ok(Answer::Done)
     }
 
@@ -157,7 +157,7 @@ impl Stores {
         let Some(_terminal) = self.terminals.get(term) else {
             return Ok(Answer::NoKeys);
         };
-        let read = self.terminals.at(term).read_line()?;
+        let read = self.terminals.value_mut(term).read_line()?;
         Ok(line_answer(read))
     }
 
@@ -171,7 +171,7 @@ impl Stores {
         let Some(_terminal) = self.terminals.get(term) else {
             return Ok(Answer::Done);
         };
-        self.terminals.at(term).insert(bytes)?;
+        self.terminals.value_mut(term).insert(bytes)?;
         Ok(Answer::Done)
     }
 
@@ -185,7 +185,7 @@ impl Stores {
         let Some(_terminal) = self.terminals.get(term) else {
             return Answer::NoKeys;
         };
-        let key = self.terminals.at(term).one_key();
+        let key = self.terminals.value_mut(term).one_key();
         key_answer(key)
     }
 
@@ -231,7 +231,7 @@ impl Stores {
         let Some(_text) = self.texts.get(who) else {
             return Ok(Answer::Done);
         };
-        match self.texts.at(who).put(line, atoms) {
+        match self.texts.value_mut(who).put(line, atoms) {
             Ok(()) => Ok(Answer::Done),
             Err(fault) => refusal(fault),
         }
@@ -244,7 +244,7 @@ impl Stores {
         let Some(_text) = self.texts.get(who) else {
             return Answer::Done;
         };
-        self.texts.at(who).delete(from, to);
+        self.texts.value_mut(who).delete(from, to);
         Answer::Done
     }
 
@@ -255,11 +255,11 @@ impl Stores {
         let Some(_text) = self.texts.get(who) else {
             return Answer::Done;
         };
-        self.texts.at(who).clear();
+        self.texts.value_mut(who).clear();
         let Some(_globals) = self.globals.get(who) else {
             return Answer::Done;
         };
-        self.globals.at(who).clear();
+        self.globals.value_mut(who).clear();
         Answer::Done
     }
 }

@@ -1,5 +1,5 @@
 use Rattle.std.proofs.Common.{◌≡◌, IfOk, IfSome, Option, refl, subst}
-use Rattle.b2_access.specs.Lending.{SeenLent, seen}
+use Rattle.b2_access.specs.Lending.{SeenLent, seen_lent}
 use Rattle.b2_access.specs.declared.private.Private.{Private}
 use Rattle.b2_machine.specs.Statements.{Begun, begins, has_ended}
 use Rattle.b2_machine.specs.declared.ends.Stepped.{Stepped}
@@ -11,7 +11,7 @@ pub returns-clause-begun : goal.returns-clause-begun
 returns-clause-begun c =
     let before = c.args.me.now in
     let after = c.begin_at_once.new.me in
-    let s : SeenLent = seen c.args.lent in
+    let s : SeenLent = seen_lent c.args.lent in
     elim c.match-ended.branch [
       | in-Some w ↦
           rw (w.result-is, w.me-is)

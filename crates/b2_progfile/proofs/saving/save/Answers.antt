@@ -5,7 +5,7 @@ use Rattle.b2_text.specs.Program.{Lines}
 use Rattle.b2_catalog.specs.declared.entry.Entry.{Entry}
 use Rattle.b2_catalog.specs.Catalogue.{Catalogue, catalogue}
 use Rattle.b2_progfile.specs.Programs.{SpellsProgram, program_bytes}
-use Rattle.b2_catalog.specs.Making.{Made, files_without}
+use Rattle.b2_catalog.specs.Making.{MakesFile, files_without}
 use Rattle.b2_progfile.specs.Saving.{file_filled, lines_within, pieces_count, text_sectors, program_sectors, save_refusal}
 use Rattle.b2_catalog.proofs.DataSectors.{get-put}
 use Rattle.b2_catalog.proofs.MadeFiles.{put-twice}
@@ -25,7 +25,7 @@ returns-in-Ok-clause-image c =
     record {
       e = c.in-Ok.e;
       between = c.make_program_file.new.p;
-      made = subst (λ (n : ℕ). Made c.args.p.now c.args.old c.args.name true (n + 1) c.make_program_file.new.p c.in-Ok.e) n c.in-Ok.ensures.made;
+      made = subst (λ (n : ℕ). MakesFile c.args.p.now c.args.old c.args.name true (n + 1) c.make_program_file.new.p c.in-Ok.e) n c.in-Ok.ensures.made;
       same = c.fill_program_file.ensures.image ∙ ap (λ (b : List ℕ). file_filled c.make_program_file.new.p c.in-Ok.e.start c.in-Ok.e.end (text_sectors b)) (c.deref-in-Ok.ensures.value ∙ c.in_ok-bytes.ensures.bytes);
     }
 

@@ -11,6 +11,6 @@ invariant_of-self c =
     let s = store_of c.self.inside.stores in
     let m = c.self.inside.seen in
     let p = c.args.p in
-    let was = c.self.invariant p c.at.result.now (sym c.at.ensures.there) in
-    let settled = subst (λ (me : Private). IsSettled p me) (sym c.flag_halt.ensures.halt) (halt_settled p c.at.result.now was.settled) in
-    still_present p c.flag_halt.new.self c.self.inside.privates s s m m (with_own p c.at.result.now c.flag_halt.new.self s m settled was) (λ q me is. is) c.self.invariant
+    let was = c.self.invariant p c.value_mut.result.now (sym c.value_mut.ensures.there) in
+    let settled = subst (λ (me : Private). IsSettled p me) (sym c.flag_halt.ensures.halt) (halt_settled p c.value_mut.result.now was.settled) in
+    still_present p c.flag_halt.new.self c.self.inside.privates s s m m (with_own p c.value_mut.result.now c.flag_halt.new.self s m settled was) (λ q me is. is) c.self.invariant

@@ -8,6 +8,6 @@ pub returns-in-Err : goal.returns-in-Err
 returns-in-Err c =
     IfOk-weaker c.refusal.result _ _
     (λ a refused.
-    put_refused (store_of c.args.self.now) c.args.who c.args.line c.args.atoms.now c.at.result.now c.put.new.self a c.at.ensures.there c.in-Err.ensures.err
+    put_refused (store_of c.args.self.now) c.args.who c.args.line c.args.atoms.now c.value_mut.result.now c.put.new.self a c.value_mut.ensures.there c.in-Err.ensures.err
     (is_full c.in-Err.fault a _ refused c.in-Err.ensures.full))
     c.refusal.ensures

@@ -1,7 +1,7 @@
 use Rattle.std.proofs.Common.{◌≡◌, ◌==◌, ℕ, List, Some, IsSome, position, refl, sym, ap, subst, ◌∙◌}
 use Rattle.b2_access.specs.Rows.{row_of, with_row}
 use Rattle.b2_store.proofs.Placed.{row_here, row_set, has_place}
-use Rattle.b2_store.proofs.rows.Rows.at.Goals as goal
+use Rattle.b2_store.proofs.rows.Rows.value_mut.Goals as goal
 
 pub unwrap-place-requires : goal.unwrap-place-requires
 unwrap-place-requires g c =
