@@ -7,7 +7,7 @@ use Rattle.b2_dec.specs.Arithmetic.{sum_of, difference_of, product_of, quotient_
 use Rattle.b2_dec.specs.declared.number.Mode.{Mode}
 use Rattle.b2_atom.specs.declared.words.TheConstants as word
 use Rattle.b2_expr.specs.Answers.{Answer}
-use Rattle.b2_expr.specs.declared.operators.Pending.{Pending}
+use Rattle.b2_expr.specs.declared.operators.Waiting.{Waiting}
 
 -- a number to the power of a whole one of at most 255
 abbrev pub raised_by : Mode → Number → Option ℤ → Answer
@@ -36,7 +36,7 @@ abbrev pub completed_after : Mode → Option Number → ℕ → Number → Answe
 completed_after mode (Some a) c b = joined mode c a b
 completed_after mode None c b = under_sign mode c b
 
-abbrev pub completed : Mode → Pending → Number → Answer
+abbrev pub completed : Mode → Waiting → Number → Answer
 completed mode p x = completed_after mode p.before p.operator x
 
 -- what AND, OR or XOR make of two conditions

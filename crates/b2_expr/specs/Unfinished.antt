@@ -8,42 +8,42 @@ use Rattle.b2_expr.specs.Scope.{Context}
 use Rattle.b2_expr.specs.Levels.{are_lists, ends, has_sign, left_after_levels, spans}
 use Rattle.b2_expr.specs.declared.operators.Level.{Level}
 use Rattle.b2_expr.specs.declared.operators.Level.TheVariants as level
-use Rattle.b2_expr.specs.declared.operators.Pending.{Pending}
+use Rattle.b2_expr.specs.declared.operators.Waiting.{Waiting}
 
 -- what is left of a text once each of them has its number and what follows that at its level
-abbrev pub left_by : List Pending → Text → Text
-left_by [] t = t
-left_by (p ∷ ps) t = left_after_levels (spans p.wanted p.made) (left_by ps t)
+abbrev pub left_after_all : List Waiting → Text → Text
+left_after_all [] t = t
+left_after_all (p ∷ ps) t = left_after_levels (spans p.wanted p.made) (left_after_all ps t)
 
 -- what they make of a number and of what follows it
-abbrev pub finished : Context → List Pending → Answer → Text → Answer
-finished s [] x t = x
-finished s (p ∷ ps) x t = ends s (spans p.wanted p.made) (finished s ps x t >>= completed s.around.mode p) (left_by ps t)
+abbrev pub all_completed : Context → List Waiting → Answer → Text → Answer
+all_completed s [] x t = x
+all_completed s (p ∷ ps) x t = ends s (spans p.wanted p.made) (all_completed s ps x t >>= completed s.around.mode p) (left_after_all ps t)
 
 -- whether what follows each of them stands there
-abbrev pub stand : List Pending → Text → Bool
-stand [] t = true
-stand (p ∷ ps) t = are_lists (spans p.wanted p.made) (left_by ps t) && stand ps t
+abbrev pub lists_stand : List Waiting → Text → Bool
+lists_stand [] t = true
+lists_stand (p ∷ ps) t = are_lists (spans p.wanted p.made) (left_after_all ps t) && lists_stand ps t
 
 -- how many levels bind less than one
-abbrev pub rank : Level → ℕ
-rank level.Sum = 0
-rank level.Product = 1
-rank level.Factor = 2
-rank level.Power = 3
-rank level.Operand = 4
+abbrev pub binding : Level → ℕ
+binding level.Sum = 0
+binding level.Product = 1
+binding level.Factor = 2
+binding level.Power = 3
+binding level.Operand = 4
 
 -- whether each of them, and what is read at a level after them, has no more before it than levels that bind less
-abbrev pub fit : ℕ → List Pending → Level → Bool
-fit n [] l = nat_le n (rank l)
-fit n (p ∷ ps) l = nat_le n (rank p.wanted) && fit (suc n) ps l
+abbrev pub have_room : ℕ → List Waiting → Level → Bool
+have_room n [] l = nat_le n (binding l)
+have_room n (p ∷ ps) l = nat_le n (binding p.wanted) && have_room (suc n) ps l
 
 -- the sign that stands before what is read at a level, and the level of what is read after it
-abbrev pub sign_before : Level → Text → List Pending
-sign_before l t = if has_sign l (first t) then record { before = None; operator = first t; wanted = l; made = level.Product } ∷ [] else []
+abbrev pub waiting_sign : Level → Text → List Waiting
+waiting_sign l t = if has_sign l (first t) then record { before = None; operator = first t; wanted = l; made = level.Product } ∷ [] else []
 
 abbrev pub level_after : Level → Text → Level
 level_after l t = if has_sign l (first t) then level.Power else l
 
-abbrev pub after_sign : Level → Text → Text
-after_sign l t = if has_sign l (first t) then drop 1 t else t
+abbrev pub past_sign : Level → Text → Text
+past_sign l t = if has_sign l (first t) then drop 1 t else t

@@ -20,7 +20,7 @@ ghost use Rattle.b2_rows.specs.Optional.{maybe_part, maybe_tree, after_maybe};
 ghost use Rattle.b2_expr.specs.Functions.{joined_number, joined_text};
 ghost use Rattle.b2_expr.specs.Further.{after_further, are_further, further_tree};
 ghost use Rattle.b2_expr.specs.Levels.{are_lists, ends, has_sign, pick, left_after_levels, row_of_level, spans};
-ghost use Rattle.b2_expr.specs.Unfinished.{after_sign, finished, fit, left_by, level_after, sign_before, stand};
+ghost use Rattle.b2_expr.specs.Unfinished.{all_completed, have_room, left_after_all, level_after, lists_stand, past_sign, waiting_sign};
 ghost use Rattle.b2_expr.specs.Named.{after_name, is_alpha_kind, name_leaf, name_row, place_seen, variable_of, variables_of};
 ghost use Rattle.b2_expr.specs.Scope.{surroundings};
 ghost use Rattle.b2_expr.specs.Reads.{Appends, Gives};
@@ -36,7 +36,7 @@ use crate::functions::{
 };
 use crate::literals::literal_at;
 use crate::named::{Element, Located, NameKind, Subscripts, variable_of};
-use crate::operators::{Level, Pending, completed};
+use crate::operators::{Level, Waiting, completed};
 use crate::scope::{Env, Parameter, Scope, hidden_by, kept_number};
 use arrayvec::ArrayVec;
 use b2_alpha::value_len;
@@ -107,18 +107,18 @@ pub fn variables_of<'a>(env: &Env<'a>, name: Name) -> Result<&'a Vars, Code>
 fn past_sign<'a>(
     wanted: Level,
     text: &'a [u8],
-    pending: &mut ArrayVec<Pending, 4>,
+    waiting: &mut ArrayVec<Waiting, 4>,
 ) -> (Level, &'a [u8])
-    requires fit { fit 0 pending.old.items wanted ≡ true }
-    ensures items { pending.new.items ≡ pending.old.items ++ sign_before wanted text.now }
+    requires room { have_room 0 waiting.old.items wanted ≡ true }
+    ensures items { waiting.new.items ≡ waiting.old.items ++ waiting_sign wanted text.now }
     ensures level { result.0 ≡ level_after wanted text.now }
-    ensures rest { result.1.now ≡ after_sign wanted text.now }
+    ensures rest { result.1.now ≡ past_sign wanted text.now }
 {
     let sign = first(text);
     if !is_signed(wanted, sign) {
         return (wanted, text);
     }
-    pending.push(Pending {
+    waiting.push(Waiting {
         before: None,
         operator: sign,
         wanted,
@@ -133,19 +133,19 @@ fn first_operand<'a>(
     wanted: Level,
     s: &Scope<'_>,
     text: &'a [u8],
-    pending: &mut ArrayVec<Pending, 4>,
+    waiting: &mut ArrayVec<Waiting, 4>,
 ) -> Result<(Dec, Level, &'a [u8]), Code>
     requires part { is_part (row_of_level wanted) text.now ≡ true }
-    requires fit { fit 0 pending.old.items wanted ≡ true }
-    ensures items { pending.new.items ≡ pending.old.items ++ sign_before wanted text.now }
+    requires room { have_room 0 waiting.old.items wanted ≡ true }
+    ensures items { waiting.new.items ≡ waiting.old.items ++ waiting_sign wanted text.now }
     ensures level { IfOk result (λ p. p.1 ≡ level_after wanted text.now) }
-    ensures value { MatchResult result (λ p. value (context s.now) wanted (tree_at (row_of_level wanted) text.now) ≡ finished (context s.now) (sign_before wanted text.now) (ends (context s.now) (spans p.1 level_of.Power) (Ok p.0) p.2.now) (left_after_levels (spans p.1 level_of.Power) p.2.now)) (λ code. value (context s.now) wanted (tree_at (row_of_level wanted) text.now) ≡ Err code) }
+    ensures value { MatchResult result (λ p. value (context s.now) wanted (tree_at (row_of_level wanted) text.now) ≡ all_completed (context s.now) (waiting_sign wanted text.now) (ends (context s.now) (spans p.1 level_of.Power) (Ok p.0) p.2.now) (left_after_levels (spans p.1 level_of.Power) p.2.now)) (λ code. value (context s.now) wanted (tree_at (row_of_level wanted) text.now) ≡ Err code) }
     ensures lists { IfOk result (λ p. are_lists (spans p.1 level_of.Power) p.2.now ≡ true) }
-    ensures stand { IfOk result (λ p. stand (sign_before wanted text.now) (left_after_levels (spans p.1 level_of.Power) p.2.now) ≡ true) }
-    ensures rest { IfOk result (λ p. after_part (row_of_level wanted) text.now ≡ left_by (sign_before wanted text.now) (left_after_levels (spans p.1 level_of.Power) p.2.now)) }
+    ensures stand { IfOk result (λ p. lists_stand (waiting_sign wanted text.now) (left_after_levels (spans p.1 level_of.Power) p.2.now) ≡ true) }
+    ensures rest { IfOk result (λ p. after_part (row_of_level wanted) text.now ≡ left_after_all (waiting_sign wanted text.now) (left_after_levels (spans p.1 level_of.Power) p.2.now)) }
     ensures shorter { IfOk result (λ p. length p.2.now ≤ length text.now) }
 {
-    let (level, item) = past_sign(wanted, text, pending);
+    let (level, item) = past_sign(wanted, text, waiting);
     let (number, rest) = match operand(s, item) {
         Ok(found) => found,
         Err(code) => return Err(code),
@@ -159,8 +159,8 @@ pub fn climb<'a>(wanted: Level, s: &Scope<'_>, text: &'a [u8]) -> Result<(Dec, &
     requires part { is_part (row_of_level wanted) text.now ≡ true }
     ensures { Gives (value (context s.now) wanted (tree_at (row_of_level wanted) text.now)) (after_part (row_of_level wanted) text.now) result }
 {
-    let mut pending = ArrayVec::new();
-    let (start, below, after) = match first_operand(wanted, s, text, &mut pending) {
+    let mut waiting = ArrayVec::new();
+    let (start, below, after) = match first_operand(wanted, s, text, &mut waiting) {
         Ok(found) => found,
         Err(code) => return Err(code),
     };
@@ -171,7 +171,7 @@ pub fn climb<'a>(wanted: Level, s: &Scope<'_>, text: &'a [u8]) -> Result<(Dec, &
     loop {
         let operator = first(left);
         if let Some(level) = operator_at(reading, top, operator) {
-            pending.push(Pending {
+            waiting.push(Waiting {
                 before: Some(number),
                 operator,
                 wanted: reading,
@@ -181,7 +181,7 @@ pub fn climb<'a>(wanted: Level, s: &Scope<'_>, text: &'a [u8]) -> Result<(Dec, &
                 item_level(level),
                 s,
                 dropped(left, 1),
-                &mut pending,
+                &mut waiting,
             ) {
                 Ok(found) => found,
                 Err(code) => return Err(code),
@@ -190,13 +190,13 @@ pub fn climb<'a>(wanted: Level, s: &Scope<'_>, text: &'a [u8]) -> Result<(Dec, &
             reading = below;
             top = Level::Power;
             left = rest;
-        } else if let Some(waiting) = pending.pop() {
-            number = match completed(s.env.mode, &waiting, number) {
+        } else if let Some(last) = waiting.pop() {
+            number = match completed(s.env.mode, &last, number) {
                 Ok(found) => found,
                 Err(code) => return Err(code),
             };
-            reading = waiting.wanted;
-            top = waiting.made;
+            reading = last.wanted;
+            top = last.made;
         } else {
             return Ok((number, left));
         }

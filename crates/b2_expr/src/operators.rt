@@ -20,7 +20,7 @@ pub enum Level {
 
 /// An operator with the number before it, or a sign, that waits for the number after it.
 #[derive(Clone, Copy, Default)]
-pub struct Pending {
+pub struct Waiting {
     /// The number before the operator, None before a sign.
     pub before: Option<Dec>,
     /// The byte of the operator, or of the sign.
@@ -76,12 +76,12 @@ pub fn under_sign(mode: Mode, sign: u8, number: Dec) -> Result<Dec, Code>
 }
 
 /// What an operator or a sign that waited makes of the number after it.
-pub fn completed(mode: Mode, pending: &Pending, number: Dec) -> Result<Dec, Code>
-    ensures { result ≡ completed mode pending.now number }
+pub fn completed(mode: Mode, waiting: &Waiting, number: Dec) -> Result<Dec, Code>
+    ensures { result ≡ completed mode waiting.now number }
 {
-    match pending.before {
-        Some(before) => joined(mode, pending.operator, before, number),
-        None => under_sign(mode, pending.operator, number),
+    match waiting.before {
+        Some(before) => joined(mode, waiting.operator, before, number),
+        None => under_sign(mode, waiting.operator, number),
     }
 }
 

@@ -9,9 +9,9 @@ use Rattle.b2_expr.specs.Answers.{Answer}
 use Rattle.b2_expr.specs.Further.{further_tree}
 use Rattle.b2_rows.proofs.Levels.{part_no_longer}
 use Rattle.b2_expr.specs.Levels.{ends, left_after_levels, pick, spans}
-use Rattle.b2_expr.specs.Unfinished.{finished, fit, left_by, sign_before, stand}
+use Rattle.b2_expr.specs.Unfinished.{all_completed, have_room, left_after_all, lists_stand, waiting_sign}
 use Rattle.b2_expr.specs.declared.operators.Level.TheVariants as level
-use Rattle.b2_expr.specs.declared.operators.Pending.{Pending}
+use Rattle.b2_expr.specs.declared.operators.Waiting.{Waiting}
 use Rattle.b2_expr.specs.Named.{name_leaf, place_seen}
 use Rattle.b2_expr.specs.Value.{context, extremes}
 use Rattle.b2_expr.proofs.Climbs.{off_value, off_rest}
@@ -88,7 +88,7 @@ further_numbers-returns t c = (
 pub climb-push-requires : goal.climb-push-requires
 climb-push-requires t c = (
   omega arith,
-  few_for_operator c.loop-level.pending.items c.loop-level.reading c.loop-level.top c.in-Some.level c.loop-level.left.now c.loop-level.invariant.fit (c.in-Some.ensures ∙ ap (pick (spans c.loop-level.reading c.loop-level.top)) c.first-operator.ensures),
+  few_for_operator c.loop-level.waiting.items c.loop-level.reading c.loop-level.top c.in-Some.level c.loop-level.left.now c.loop-level.invariant.room (c.in-Some.ensures ∙ ap (pick (spans c.loop-level.reading c.loop-level.top)) c.first-operator.ensures),
 )
 
 pub climb-first_operand-requires-in-Some : goal.climb-first_operand-requires-in-Some
@@ -96,42 +96,42 @@ climb-first_operand-requires-in-Some t c = (
   let a = waiting_shorter c.loop-level.reading c.loop-level.top c.in-Some.level c.loop-level.left.now c.dropped.result.now c.loop-level.invariant.lists (c.in-Some.ensures ∙ ap (pick (spans c.loop-level.reading c.loop-level.top)) c.first-operator.ensures) c.dropped.ensures in let d = c.loop-level.invariant.shorter in omega (arith, a, d, c.decreases),
   (
     waiting_part c.loop-level.reading c.loop-level.top c.in-Some.level c.item_level.result c.loop-level.left.now c.dropped.result.now c.loop-level.invariant.lists (c.in-Some.ensures ∙ ap (pick (spans c.loop-level.reading c.loop-level.top)) c.first-operator.ensures) c.item_level.ensures c.dropped.ensures,
-    subst (λ (ps : List Pending). fit 0 ps c.item_level.result ≡ true) (sym c.push.ensures.items)
-        (waiting_fit c.loop-level.pending.items c.loop-level.reading c.loop-level.top c.in-Some.level c.item_level.result c.loop-level.number c.first-operator.result c.loop-level.left.now c.loop-level.invariant.fit (c.in-Some.ensures ∙ ap (pick (spans c.loop-level.reading c.loop-level.top)) c.first-operator.ensures) c.item_level.ensures),
+    subst (λ (ps : List Waiting). have_room 0 ps c.item_level.result ≡ true) (sym c.push.ensures.items)
+        (waiting_fit c.loop-level.waiting.items c.loop-level.reading c.loop-level.top c.in-Some.level c.item_level.result c.loop-level.number c.first-operator.result c.loop-level.left.now c.loop-level.invariant.room (c.in-Some.ensures ∙ ap (pick (spans c.loop-level.reading c.loop-level.top)) c.first-operator.ensures) c.item_level.ensures),
   ),
 )
 
 pub climb-returns-in-Err-first_operand : goal.climb-returns-in-Err-first_operand
 climb-returns-in-Err-first_operand t c =
     sym c.loop-level.invariant.value
-    ∙ waiting_refused (context c.args.s.now) c.loop-level.pending.items c.loop-level.reading c.loop-level.top c.in-Some.level c.item_level.result c.loop-level.number c.first-operator.result c.loop-level.left.now c.dropped.result.now c.in-Err-first_operand.code c.loop-level.invariant.lists (c.in-Some.ensures ∙ ap (pick (spans c.loop-level.reading c.loop-level.top)) c.first-operator.ensures) c.item_level.ensures c.dropped.ensures c.first-operator.ensures c.in-Err-first_operand.ensures.value
+    ∙ waiting_refused (context c.args.s.now) c.loop-level.waiting.items c.loop-level.reading c.loop-level.top c.in-Some.level c.item_level.result c.loop-level.number c.first-operator.result c.loop-level.left.now c.dropped.result.now c.in-Err-first_operand.code c.loop-level.invariant.lists (c.in-Some.ensures ∙ ap (pick (spans c.loop-level.reading c.loop-level.top)) c.first-operator.ensures) c.item_level.ensures c.dropped.ensures c.first-operator.ensures c.in-Err-first_operand.ensures.value
 
 pub climb-loop-level-smaller-in-Some : goal.climb-loop-level-smaller-in-Some
 climb-loop-level-smaller-in-Some t c =
     let a = waiting_shorter c.loop-level.reading c.loop-level.top c.in-Some.level c.loop-level.left.now c.dropped.result.now c.loop-level.invariant.lists (c.in-Some.ensures ∙ ap (pick (spans c.loop-level.reading c.loop-level.top)) c.first-operator.ensures) c.dropped.ensures in
     let b = c.in-Ok-first_operand.ensures.shorter in
-    let d = one_more_sign c.push.new.self.items c.first_operand-in-Some.new.pending.items c.item_level.result c.dropped.result.now c.in-Ok-first_operand.ensures.items in
+    let d = one_more_sign c.push.new.self.items c.first_operand-in-Some.new.waiting.items c.item_level.result c.dropped.result.now c.in-Ok-first_operand.ensures.items in
     let e = c.push.ensures.len in
     omega (arith, a, b, d, e)
 
 pub climb-loop-level-preserved-in-Some : goal.climb-loop-level-preserved-in-Some
 climb-loop-level-preserved-in-Some t c =
-    let items : c.first_operand-in-Some.new.pending.items ≡ (c.loop-level.pending.items ++ waits_for c.loop-level.reading c.in-Some.level c.loop-level.number c.first-operator.result ∷ []) ++ (sign_before c.item_level.result c.dropped.result.now) = c.in-Ok-first_operand.ensures.items ∙ ap (λ (ps : List Pending). ps ++ (sign_before c.item_level.result c.dropped.result.now)) c.push.ensures.items in
+    let items : c.first_operand-in-Some.new.waiting.items ≡ (c.loop-level.waiting.items ++ waits_for c.loop-level.reading c.in-Some.level c.loop-level.number c.first-operator.result ∷ []) ++ (waiting_sign c.item_level.result c.dropped.result.now) = c.in-Ok-first_operand.ensures.items ∙ ap (λ (ps : List Waiting). ps ++ (waiting_sign c.item_level.result c.dropped.result.now)) c.push.ensures.items in
     record {
       lists = c.in-Ok-first_operand.ensures.lists;
-      stand = subst (λ (ps : List Pending). stand ps (left_after_levels (spans c.in-Ok-first_operand.found.1 level.Power) c.in-Ok-first_operand.found.2.now) ≡ true) (sym items)
-          (read_stand (c.loop-level.pending.items ++ waits_for c.loop-level.reading c.in-Some.level c.loop-level.number c.first-operator.result ∷ []) (sign_before c.item_level.result c.dropped.result.now) c.item_level.result c.in-Ok-first_operand.found.1 c.dropped.result.now c.in-Ok-first_operand.found.2.now c.in-Ok-first_operand.ensures.rest c.in-Ok-first_operand.ensures.stand
-          (waiting_stand c.loop-level.pending.items c.loop-level.reading c.loop-level.top c.in-Some.level c.item_level.result c.loop-level.number c.first-operator.result c.loop-level.left.now c.dropped.result.now c.loop-level.invariant.lists (c.in-Some.ensures ∙ ap (pick (spans c.loop-level.reading c.loop-level.top)) c.first-operator.ensures) c.item_level.ensures c.dropped.ensures c.loop-level.invariant.stand));
-      fit = subst (λ (ps : List Pending). fit 0 ps c.in-Ok-first_operand.found.1 ≡ true) (sym items)
-          (read_fit (c.loop-level.pending.items ++ waits_for c.loop-level.reading c.in-Some.level c.loop-level.number c.first-operator.result ∷ []) c.item_level.result c.in-Ok-first_operand.found.1 c.dropped.result.now c.in-Ok-first_operand.ensures.level
-          (waiting_fit c.loop-level.pending.items c.loop-level.reading c.loop-level.top c.in-Some.level c.item_level.result c.loop-level.number c.first-operator.result c.loop-level.left.now c.loop-level.invariant.fit (c.in-Some.ensures ∙ ap (pick (spans c.loop-level.reading c.loop-level.top)) c.first-operator.ensures) c.item_level.ensures));
-      value = ap (λ (ps : List Pending). finished (context c.args.s.now) ps (ends (context c.args.s.now) (spans c.in-Ok-first_operand.found.1 level.Power) (Ok c.in-Ok-first_operand.found.0) c.in-Ok-first_operand.found.2.now) (left_after_levels (spans c.in-Ok-first_operand.found.1 level.Power) c.in-Ok-first_operand.found.2.now)) items
-          ∙ read_value (context c.args.s.now) (c.loop-level.pending.items ++ waits_for c.loop-level.reading c.in-Some.level c.loop-level.number c.first-operator.result ∷ []) (sign_before c.item_level.result c.dropped.result.now) c.item_level.result c.in-Ok-first_operand.found.1 c.in-Ok-first_operand.found.0 c.dropped.result.now c.in-Ok-first_operand.found.2.now c.in-Ok-first_operand.ensures.value c.in-Ok-first_operand.ensures.rest
-          ∙ waiting_value (context c.args.s.now) c.loop-level.pending.items c.loop-level.reading c.loop-level.top c.in-Some.level c.item_level.result c.loop-level.number c.first-operator.result c.loop-level.left.now c.dropped.result.now c.loop-level.invariant.lists (c.in-Some.ensures ∙ ap (pick (spans c.loop-level.reading c.loop-level.top)) c.first-operator.ensures) c.item_level.ensures c.dropped.ensures c.first-operator.ensures
+      stand = subst (λ (ps : List Waiting). lists_stand ps (left_after_levels (spans c.in-Ok-first_operand.found.1 level.Power) c.in-Ok-first_operand.found.2.now) ≡ true) (sym items)
+          (read_stand (c.loop-level.waiting.items ++ waits_for c.loop-level.reading c.in-Some.level c.loop-level.number c.first-operator.result ∷ []) (waiting_sign c.item_level.result c.dropped.result.now) c.item_level.result c.in-Ok-first_operand.found.1 c.dropped.result.now c.in-Ok-first_operand.found.2.now c.in-Ok-first_operand.ensures.rest c.in-Ok-first_operand.ensures.stand
+          (waiting_stand c.loop-level.waiting.items c.loop-level.reading c.loop-level.top c.in-Some.level c.item_level.result c.loop-level.number c.first-operator.result c.loop-level.left.now c.dropped.result.now c.loop-level.invariant.lists (c.in-Some.ensures ∙ ap (pick (spans c.loop-level.reading c.loop-level.top)) c.first-operator.ensures) c.item_level.ensures c.dropped.ensures c.loop-level.invariant.stand));
+      room = subst (λ (ps : List Waiting). have_room 0 ps c.in-Ok-first_operand.found.1 ≡ true) (sym items)
+          (read_fit (c.loop-level.waiting.items ++ waits_for c.loop-level.reading c.in-Some.level c.loop-level.number c.first-operator.result ∷ []) c.item_level.result c.in-Ok-first_operand.found.1 c.dropped.result.now c.in-Ok-first_operand.ensures.level
+          (waiting_fit c.loop-level.waiting.items c.loop-level.reading c.loop-level.top c.in-Some.level c.item_level.result c.loop-level.number c.first-operator.result c.loop-level.left.now c.loop-level.invariant.room (c.in-Some.ensures ∙ ap (pick (spans c.loop-level.reading c.loop-level.top)) c.first-operator.ensures) c.item_level.ensures));
+      value = ap (λ (ps : List Waiting). all_completed (context c.args.s.now) ps (ends (context c.args.s.now) (spans c.in-Ok-first_operand.found.1 level.Power) (Ok c.in-Ok-first_operand.found.0) c.in-Ok-first_operand.found.2.now) (left_after_levels (spans c.in-Ok-first_operand.found.1 level.Power) c.in-Ok-first_operand.found.2.now)) items
+          ∙ read_value (context c.args.s.now) (c.loop-level.waiting.items ++ waits_for c.loop-level.reading c.in-Some.level c.loop-level.number c.first-operator.result ∷ []) (waiting_sign c.item_level.result c.dropped.result.now) c.item_level.result c.in-Ok-first_operand.found.1 c.in-Ok-first_operand.found.0 c.dropped.result.now c.in-Ok-first_operand.found.2.now c.in-Ok-first_operand.ensures.value c.in-Ok-first_operand.ensures.rest
+          ∙ waiting_value (context c.args.s.now) c.loop-level.waiting.items c.loop-level.reading c.loop-level.top c.in-Some.level c.item_level.result c.loop-level.number c.first-operator.result c.loop-level.left.now c.dropped.result.now c.loop-level.invariant.lists (c.in-Some.ensures ∙ ap (pick (spans c.loop-level.reading c.loop-level.top)) c.first-operator.ensures) c.item_level.ensures c.dropped.ensures c.first-operator.ensures
           ∙ c.loop-level.invariant.value;
-      rest = ap (λ (ps : List Pending). left_by ps (left_after_levels (spans c.in-Ok-first_operand.found.1 level.Power) c.in-Ok-first_operand.found.2.now)) items
-          ∙ read_rest (c.loop-level.pending.items ++ waits_for c.loop-level.reading c.in-Some.level c.loop-level.number c.first-operator.result ∷ []) (sign_before c.item_level.result c.dropped.result.now) c.item_level.result c.in-Ok-first_operand.found.1 c.dropped.result.now c.in-Ok-first_operand.found.2.now c.in-Ok-first_operand.ensures.rest
-          ∙ waiting_rest c.loop-level.pending.items c.loop-level.reading c.loop-level.top c.in-Some.level c.item_level.result c.loop-level.number c.first-operator.result c.loop-level.left.now c.dropped.result.now c.loop-level.invariant.lists (c.in-Some.ensures ∙ ap (pick (spans c.loop-level.reading c.loop-level.top)) c.first-operator.ensures) c.item_level.ensures c.dropped.ensures
+      rest = ap (λ (ps : List Waiting). left_after_all ps (left_after_levels (spans c.in-Ok-first_operand.found.1 level.Power) c.in-Ok-first_operand.found.2.now)) items
+          ∙ read_rest (c.loop-level.waiting.items ++ waits_for c.loop-level.reading c.in-Some.level c.loop-level.number c.first-operator.result ∷ []) (waiting_sign c.item_level.result c.dropped.result.now) c.item_level.result c.in-Ok-first_operand.found.1 c.dropped.result.now c.in-Ok-first_operand.found.2.now c.in-Ok-first_operand.ensures.rest
+          ∙ waiting_rest c.loop-level.waiting.items c.loop-level.reading c.loop-level.top c.in-Some.level c.item_level.result c.loop-level.number c.first-operator.result c.loop-level.left.now c.dropped.result.now c.loop-level.invariant.lists (c.in-Some.ensures ∙ ap (pick (spans c.loop-level.reading c.loop-level.top)) c.first-operator.ensures) c.item_level.ensures c.dropped.ensures
           ∙ c.loop-level.invariant.rest;
       shorter = (let a = waiting_shorter c.loop-level.reading c.loop-level.top c.in-Some.level c.loop-level.left.now c.dropped.result.now c.loop-level.invariant.lists (c.in-Some.ensures ∙ ap (pick (spans c.loop-level.reading c.loop-level.top)) c.first-operator.ensures) c.dropped.ensures in let d = c.in-Ok-first_operand.ensures.shorter in let e = c.loop-level.invariant.shorter in omega (arith, a, d, e));
     }
@@ -139,23 +139,23 @@ climb-loop-level-preserved-in-Some t c =
 pub climb-returns-in-Err-completed : goal.climb-returns-in-Err-completed
 climb-returns-in-Err-completed t c =
     sym c.loop-level.invariant.value
-    ∙ ap (λ (ps : List Pending). finished (context c.args.s.now) ps (ends (context c.args.s.now) (spans c.loop-level.reading c.loop-level.top) (Ok c.loop-level.number) c.loop-level.left.now) (left_after_levels (spans c.loop-level.reading c.loop-level.top) c.loop-level.left.now)) c.in-Some-pop.ensures.items
-    ∙ completed_refused (context c.args.s.now) c.pop.new.self.items c.in-Some-pop.waiting c.loop-level.reading c.loop-level.top c.loop-level.number c.in-Err-completed.code c.loop-level.left.now (sym (sym c.in_default.is ∙ c.operator_at.ensures ∙ ap (pick (spans c.loop-level.reading c.loop-level.top)) c.first-operator.ensures)) (sym c.in-Err-completed.ensures)
+    ∙ ap (λ (ps : List Waiting). all_completed (context c.args.s.now) ps (ends (context c.args.s.now) (spans c.loop-level.reading c.loop-level.top) (Ok c.loop-level.number) c.loop-level.left.now) (left_after_levels (spans c.loop-level.reading c.loop-level.top) c.loop-level.left.now)) c.in-Some-pop.ensures.items
+    ∙ completed_refused (context c.args.s.now) c.pop.new.self.items c.in-Some-pop.last c.loop-level.reading c.loop-level.top c.loop-level.number c.in-Err-completed.code c.loop-level.left.now (sym (sym c.in_default.is ∙ c.operator_at.ensures ∙ ap (pick (spans c.loop-level.reading c.loop-level.top)) c.first-operator.ensures)) (sym c.in-Err-completed.ensures)
 
 pub climb-loop-level-preserved : goal.climb-loop-level-preserved
 climb-loop-level-preserved t c =
     let none : pick (spans c.loop-level.reading c.loop-level.top) (first c.loop-level.left.now) ≡ None = (sym (sym c.in_default.is ∙ c.operator_at.ensures ∙ ap (pick (spans c.loop-level.reading c.loop-level.top)) c.first-operator.ensures)) in
     record {
-      lists = completed_lists c.pop.new.self.items c.in-Some-pop.waiting c.loop-level.reading c.loop-level.top c.loop-level.left.now none
-          (subst (λ (ps : List Pending). stand ps (left_after_levels (spans c.loop-level.reading c.loop-level.top) c.loop-level.left.now) ≡ true) c.in-Some-pop.ensures.items c.loop-level.invariant.stand);
-      stand = completed_stand c.pop.new.self.items c.in-Some-pop.waiting c.loop-level.reading c.loop-level.top c.loop-level.left.now none
-          (subst (λ (ps : List Pending). stand ps (left_after_levels (spans c.loop-level.reading c.loop-level.top) c.loop-level.left.now) ≡ true) c.in-Some-pop.ensures.items c.loop-level.invariant.stand);
-      fit = completed_fit c.pop.new.self.items c.in-Some-pop.waiting c.loop-level.reading (subst (λ (ps : List Pending). fit 0 ps c.loop-level.reading ≡ true) c.in-Some-pop.ensures.items c.loop-level.invariant.fit);
-      value = sym (completed_value (context c.args.s.now) c.pop.new.self.items c.in-Some-pop.waiting c.loop-level.reading c.loop-level.top c.loop-level.number (Ok c.in-Ok-completed.found) c.loop-level.left.now none (sym c.in-Ok-completed.ensures))
-          ∙ sym (ap (λ (ps : List Pending). finished (context c.args.s.now) ps (ends (context c.args.s.now) (spans c.loop-level.reading c.loop-level.top) (Ok c.loop-level.number) c.loop-level.left.now) (left_after_levels (spans c.loop-level.reading c.loop-level.top) c.loop-level.left.now)) c.in-Some-pop.ensures.items)
+      lists = completed_lists c.pop.new.self.items c.in-Some-pop.last c.loop-level.reading c.loop-level.top c.loop-level.left.now none
+          (subst (λ (ps : List Waiting). lists_stand ps (left_after_levels (spans c.loop-level.reading c.loop-level.top) c.loop-level.left.now) ≡ true) c.in-Some-pop.ensures.items c.loop-level.invariant.stand);
+      stand = completed_stand c.pop.new.self.items c.in-Some-pop.last c.loop-level.reading c.loop-level.top c.loop-level.left.now none
+          (subst (λ (ps : List Waiting). lists_stand ps (left_after_levels (spans c.loop-level.reading c.loop-level.top) c.loop-level.left.now) ≡ true) c.in-Some-pop.ensures.items c.loop-level.invariant.stand);
+      room = completed_fit c.pop.new.self.items c.in-Some-pop.last c.loop-level.reading (subst (λ (ps : List Waiting). have_room 0 ps c.loop-level.reading ≡ true) c.in-Some-pop.ensures.items c.loop-level.invariant.room);
+      value = sym (completed_value (context c.args.s.now) c.pop.new.self.items c.in-Some-pop.last c.loop-level.reading c.loop-level.top c.loop-level.number (Ok c.in-Ok-completed.found) c.loop-level.left.now none (sym c.in-Ok-completed.ensures))
+          ∙ sym (ap (λ (ps : List Waiting). all_completed (context c.args.s.now) ps (ends (context c.args.s.now) (spans c.loop-level.reading c.loop-level.top) (Ok c.loop-level.number) c.loop-level.left.now) (left_after_levels (spans c.loop-level.reading c.loop-level.top) c.loop-level.left.now)) c.in-Some-pop.ensures.items)
           ∙ c.loop-level.invariant.value;
-      rest = sym (completed_rest c.pop.new.self.items c.in-Some-pop.waiting c.loop-level.reading c.loop-level.top c.loop-level.left.now none)
-          ∙ sym (ap (λ (ps : List Pending). left_by ps (left_after_levels (spans c.loop-level.reading c.loop-level.top) c.loop-level.left.now)) c.in-Some-pop.ensures.items)
+      rest = sym (completed_rest c.pop.new.self.items c.in-Some-pop.last c.loop-level.reading c.loop-level.top c.loop-level.left.now none)
+          ∙ sym (ap (λ (ps : List Waiting). left_after_all ps (left_after_levels (spans c.loop-level.reading c.loop-level.top) c.loop-level.left.now)) c.in-Some-pop.ensures.items)
           ∙ c.loop-level.invariant.rest;
       shorter = c.loop-level.invariant.shorter;
     }
@@ -163,12 +163,12 @@ climb-loop-level-preserved t c =
 pub climb-returns-in_default-pop : goal.climb-returns-in_default-pop
 climb-returns-in_default-pop t c =
     let none : pick (spans c.loop-level.reading c.loop-level.top) (first c.loop-level.left.now) ≡ None = (sym (sym c.in_default.is ∙ c.operator_at.ensures ∙ ap (pick (spans c.loop-level.reading c.loop-level.top)) c.first-operator.ensures)) in
-    let empty : c.loop-level.pending.items ≡ [] = none_wait c.loop-level.pending.items c.in_default-pop.ensures.variant.1 in (
+    let empty : c.loop-level.waiting.items ≡ [] = none_wait c.loop-level.waiting.items c.in_default-pop.ensures.variant.1 in (
       sym c.loop-level.invariant.value
-          ∙ ap (λ (ps : List Pending). finished (context c.args.s.now) ps (ends (context c.args.s.now) (spans c.loop-level.reading c.loop-level.top) (Ok c.loop-level.number) c.loop-level.left.now) (left_after_levels (spans c.loop-level.reading c.loop-level.top) c.loop-level.left.now)) empty
+          ∙ ap (λ (ps : List Waiting). all_completed (context c.args.s.now) ps (ends (context c.args.s.now) (spans c.loop-level.reading c.loop-level.top) (Ok c.loop-level.number) c.loop-level.left.now) (left_after_levels (spans c.loop-level.reading c.loop-level.top) c.loop-level.left.now)) empty
           ∙ off_value (context c.args.s.now) c.loop-level.reading c.loop-level.top (Ok c.loop-level.number) c.loop-level.left.now none,
       sym (off_rest c.loop-level.reading c.loop-level.top c.loop-level.left.now none)
-          ∙ sym (ap (λ (ps : List Pending). left_by ps (left_after_levels (spans c.loop-level.reading c.loop-level.top) c.loop-level.left.now)) empty)
+          ∙ sym (ap (λ (ps : List Waiting). left_after_all ps (left_after_levels (spans c.loop-level.reading c.loop-level.top) c.loop-level.left.now)) empty)
           ∙ c.loop-level.invariant.rest,
     )
 

@@ -5,7 +5,7 @@ use Rattle.b2_rows.specs.Chains.{more_start}
 use Rattle.b2_rows.specs.declared.chains.Chain.TheVariants as chain
 use Rattle.b2_expr.specs.Further.{are_further, further_tree, after_further}
 use Rattle.b2_expr.specs.Levels.{row_of_level, spans, ends, left_after_levels, are_lists}
-use Rattle.b2_expr.specs.Unfinished.{finished, fit, left_by, stand}
+use Rattle.b2_expr.specs.Unfinished.{all_completed, have_room, left_after_all, lists_stand}
 use Rattle.b2_expr.specs.Value.{context, value, extremes, further_text}
 use Rattle.b2_expr.proofs.evaluate.+values.Given as goal
 
@@ -83,15 +83,15 @@ decreases-further_operands l = 6000 * l.s.now.room + (20 * length l.text.now + 9
 abbrev pub invariant-climb-loop-level : goal.invariant-climb-loop-level
 invariant-climb-loop-level l = record {
   lists : are_lists (spans l.reading l.top) l.left ≡ true;
-  stand : stand l.pending.items (left_after_levels (spans l.reading l.top) l.left) ≡ true;
-  fit : fit 0 l.pending.items l.reading ≡ true;
-  value : finished (context l.s) l.pending.items (ends (context l.s) (spans l.reading l.top) (Ok l.number) l.left) (left_after_levels (spans l.reading l.top) l.left) ≡ value (context l.s) l.fn.wanted (tree_at (row_of_level l.fn.wanted) l.text);
-  rest : left_by l.pending.items (left_after_levels (spans l.reading l.top) l.left) ≡ after_part (row_of_level l.fn.wanted) l.text;
+  stand : lists_stand l.waiting.items (left_after_levels (spans l.reading l.top) l.left) ≡ true;
+  room : have_room 0 l.waiting.items l.reading ≡ true;
+  value : all_completed (context l.s) l.waiting.items (ends (context l.s) (spans l.reading l.top) (Ok l.number) l.left) (left_after_levels (spans l.reading l.top) l.left) ≡ value (context l.s) l.fn.wanted (tree_at (row_of_level l.fn.wanted) l.text);
+  rest : left_after_all l.waiting.items (left_after_levels (spans l.reading l.top) l.left) ≡ after_part (row_of_level l.fn.wanted) l.text;
   shorter : length l.left ≤ length l.text;
 }
 
 abbrev pub decreases-climb-loop-level : goal.decreases-climb-loop-level
-decreases-climb-loop-level l = 3 * length l.left + length l.pending.items
+decreases-climb-loop-level l = 3 * length l.left + length l.waiting.items
 
 -- the numbers that are left give what all of them do
 abbrev pub invariant-further_numbers-loop : goal.invariant-further_numbers-loop
