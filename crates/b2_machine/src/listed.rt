@@ -3,15 +3,12 @@ ghost use Rattle.std.specs.Prelude.{◌≡◌, ◌++◌, ◌∷◌, [], true, If
 ghost use Rattle.b2_atom.specs.declared.rows.TheConstants as row;
 ghost use Rattle.b2_rows.specs.Rows.{is_part, tree_at};
 ghost use Rattle.b2_lister.specs.Listing.{listing};
-ghost use Rattle.b2_stmt_io.specs.Showing.{shown};
 ghost use Rattle.b2_machine.specs.Listed as spec;
 
-use b2_access::{Access, Answer, Outcome, Private};
 use b2_atom::Atoms;
 use b2_base::lexical::dropped;
 use b2_base::{ByteList, NoMemory};
 use b2_lister::list;
-use b2_print::column_after;
 use b2_rows::named_lines;
 use b2_text::Text;
 use std::alloc::Global;
@@ -48,18 +45,4 @@ pub fn range_listed(alloc: Global, text: &Text, from: u16, to: u16) -> Result<By
         add_line(alloc, *n, atoms, &mut out)?;
     }
     Ok(ByteList::new(out))
-}
-
-/// How LIST finishes.
-pub fn after_list(me: &mut Private, access: &Access, answer: &Answer) -> Outcome
-    ensures ended { record { me = me.new; outcome = result } ≡ shown access.now answer.now me.old }
-    ensures part { me.new.part ≡ me.old.part }
-{
-    match (access, answer) {
-        (Access::Show { bytes, .. }, Answer::Done) => {
-            me.term_column = column_after(me.term_column, bytes.bytes());
-            Outcome::Next
-        }
-        _ => Outcome::Repeat,
-    }
 }

@@ -11,11 +11,11 @@ ghost use Rattle.b2_stmt_io.specs.Marks.{typed_by_mark};
 
 use crate::marks::typed_by_mark;
 use crate::receiving::bytes_to;
+use crate::showing::move_column;
 use b2_access::{Access, Answer, Outcome, Private, goes_or, setting_of};
 use b2_atom::literal_width;
 use b2_base::lexical::dropped;
 use b2_base::{ByteList, Code, NoMemory, Term};
-use b2_print::column_after;
 use b2_rows::{is_at, literal_at};
 use b2_text::Text;
 use b2_vars::{Setting, Vars};
@@ -97,7 +97,7 @@ pub fn prompt_shown(me: &mut Private, bytes: &[u8]) -> Outcome
     ensures ended { record { me = me.new; outcome = result } ≡ spec.prompted bytes.now me.old }
     ensures part { me.new.part ≡ me.old.part }
 {
-    me.term_column = column_after(me.term_column, bytes);
+    move_column(me, bytes);
     me.prompted = true;
     Outcome::Repeat
 }
