@@ -49,10 +49,6 @@ control u is =
     otherwise (names_global u.tree) _ _ so.0 ∙ otherwise (u.row == row.LIST) _ _ (no_list u.row so.1) ∙ chosen (stmt.is_built u.row) _ _ so.1
 
 -- what it plans, where the line of its place is known
-same_line : (immediate : Option (List ℕ)) (home : Lines) (n : Option ℕ) → stmt.line_named immediate home n ≡ line_named immediate home n
-same_line immediate home None = refl
-same_line immediate home (Some n) = refl
-
 course_here : (o : Option TreeUnit) (u : Statement) (h : Here) (me : Private) (s : SeenLent) → Some u ≡ option_map statement_of o → stmt.course_at o h me s ≡ stmt.permitted u.row u.tree h me s
 course_here None u h me s is = cc
 course_here (Some v) u h me s is = ap (λ (x : Statement). stmt.permitted x.row x.tree h me s) (some_is (statement_of v) u (sym is))
@@ -61,7 +57,7 @@ planned : (p : Place) (me : Private) (s : SeenLent) (line : List ℕ) (u : State
     → stmt.plan me s ≡ stmt.permitted u.row u.tree (record { place = p; units = tree_units line }) me s
 planned p me s line u is is_line is_unit =
     ap (λ (o : Option Place). stmt.course o me s) is
-    ∙ ap (λ (l : Option (List ℕ)). stmt.course_in l p me s) (same_line me.immediate s.home.lines p.line ∙ is_line)
+    ∙ ap (λ (l : Option (List ℕ)). stmt.course_in l p me s) is_line
     ∙ course_here (slice_get (tree_units line) p.unit) u (record { place = p; units = tree_units line }) me s is_unit
 
 pub ended_at_once : (p : Place) (me : Private) (s : SeenLent) (line : List ℕ) (u : Statement) (x : Ended) (e : Ending)

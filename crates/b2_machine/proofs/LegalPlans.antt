@@ -3,7 +3,6 @@ use Rattle.std.proofs.Common.{◌≡◌, ℕ, ◌==◌, Bool, true, false, if◌
 use Rattle.std.specs.Prelude.{slice_get}
 use Rattle.b2_atom.specs.Tree.{Trees}
 use Rattle.b2_atom.specs.Tree.Trees.{Done, Put, In}
-use Rattle.b2_atom.specs.Tokens.Token.{Coded, Plain, Lined}
 use Rattle.b2_atom.specs.Units.{TreeUnit}
 use Rattle.b2_atom.specs.declared.rows.TheConstants as row
 use Rattle.b2_rows.specs.Following.{tree_units}
@@ -14,12 +13,11 @@ use Rattle.b2_access.specs.Placed.{Statement, statement_placed}
 use Rattle.b2_access.specs.Planning.{Planning}
 use Rattle.b2_access.specs.Touching.{IsLegal}
 use Rattle.b2_access.specs.declared.accesses.Access.{Access}
-use Rattle.b2_access.specs.declared.accesses.Access.TheVariants as access
 use Rattle.b2_access.specs.declared.planned.Planned.{Planned}
 use Rattle.b2_access.specs.declared.planned.Planned.TheVariants as planned
 use Rattle.b2_access.specs.declared.private.Private.{Private}
 use Rattle.b2_stmt.specs.Asked.{Here}
-use Rattle.b2_stmt.specs.Clearing.{asked_access, asks_to_erase, erases_range, erases_lines, erases_from}
+use Rattle.b2_stmt.specs.Clearing.{asked_access, asks_to_erase}
 use Rattle.b2_stmt.specs.Plan as stmt
 use Rattle.b2_stmt_io.specs.LineReading.{asks_line}
 use Rattle.b2_stmt_io.specs.Plan as stmt_io
@@ -48,27 +46,10 @@ abbrev Fine : Planning → Type 0
 Fine x = IsLegalPlan x.planned
 
 -- CLEAR P
-from_is : (n : ℕ) (t : Trees) → IsLegal (erases_from n t)
-from_is n Done = tt
-from_is n (Put w t) = tt
-from_is n (In m i t) = tt
-
-lines_are : (t : Trees) → IsLegal (erases_lines t)
-lines_are Done = tt
-lines_are (Put (Coded c) t) = tt
-lines_are (Put (Plain k x) t) = tt
-lines_are (Put (Lined high low) t) = from_is _ t
-lines_are (In m i t) = tt
-
-range_is : (t : Trees) → IsLegal (erases_range t)
-range_is Done = tt
-range_is (Put w t) = tt
-range_is (In n lines t) = by_if IsLegal (n == 1) (erases_lines lines) (access.Erase 0 9999 0) (lines_are lines) tt
-
 erased : (t : Trees) → IsLegal (asks_to_erase t)
 erased Done = tt
 erased (Put w Done) = tt
-erased (Put w (Put l t)) = range_is t
+erased (Put w (Put l t)) = tt
 erased (Put w (In m i t)) = tt
 erased (In m i t) = tt
 

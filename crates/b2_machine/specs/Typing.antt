@@ -2,7 +2,6 @@
 use Rattle.std.specs.Prelude.{ℕ, ◌==◌, min, List, [], ◌∷◌, Option, Some, None, Result, Ok, Err, if◌then◌else◌}
 use Rattle.b2_base.specs.Byte as byte
 use Rattle.b2_base.specs.declared.codes.TheConstants.{A08_TEXT_BORROWED}
-use Rattle.b2_print.specs.Columns.{column_after}
 use Rattle.b2_syntax.specs.Reading.{reads}
 use Rattle.b2_syntax.specs.declared.Entered.{Entered}
 use Rattle.b2_syntax.specs.declared.Entered.TheVariants as entered
@@ -14,6 +13,7 @@ use Rattle.b2_access.specs.declared.accesses.Answer.{Answer}
 use Rattle.b2_access.specs.declared.accesses.Answer.TheVariants as answer
 use Rattle.b2_access.specs.declared.private.Private.{Private}
 use Rattle.b2_stmt.specs.Calls.{without_frames}
+use Rattle.b2_stmt_io.specs.Showing.{with_column}
 use Rattle.b2_machine.specs.Endings.{Ending, again, carries_on}
 use Rattle.b2_machine.specs.Messages.{column_text}
 use Rattle.b2_machine.specs.Readiness.{prompts, refuses}
@@ -24,7 +24,7 @@ on_own_line column text = if column == 0 then text else byte.newline ∷ text
 
 -- it was shown at the terminal, the only device so far; with any other answer it waits on
 abbrev pub shown_by : Access → Answer → Private → Ending
-shown_by (access.Show term shown) answer.Done me = carries_on (record me { pending = None; term_column = column_after me.term_column shown })
+shown_by (access.Show term shown) answer.Done me = carries_on (record (with_column shown me) { pending = None })
 shown_by x a me = again a me
 
 -- the literal of a special function key was typed; with any other answer it waits on

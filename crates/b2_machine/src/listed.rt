@@ -1,48 +1,26 @@
 // LIST.
 ghost use Rattle.std.specs.Prelude.{◌≡◌, ◌++◌, ◌∷◌, [], true, IfOk, OnOk};
-ghost use Rattle.b2_atom.specs.declared.forms.Start.TheVariants as start;
 ghost use Rattle.b2_atom.specs.declared.rows.TheConstants as row;
-ghost use Rattle.b2_rows.specs.Optional.{maybe_part, maybe_tree};
 ghost use Rattle.b2_rows.specs.Rows.{is_part, tree_at};
 ghost use Rattle.b2_lister.specs.Listing.{listing};
-ghost use Rattle.b2_stmt_io.specs.Showing.{shown};
 ghost use Rattle.b2_machine.specs.Listed as spec;
 
-use b2_access::{Access, Answer, Outcome, Private};
 use b2_atom::Atoms;
 use b2_base::lexical::dropped;
 use b2_base::{ByteList, NoMemory};
 use b2_lister::list;
-use b2_print::column_after;
-use b2_rows::{is_at, is_line_at, line_at};
+use b2_rows::named_lines;
 use b2_text::Text;
 use std::alloc::Global;
 
-/// The first and the last of the lines that are named at a text.
-#[tactic(auto, using(crate::proofs::ListRows::first_here, crate::proofs::ListRows::second_here, crate::proofs::ListRows::two_lines, crate::proofs::ListRows::one_line, crate::proofs::ListRows::all_lines))]
-fn range_at(text: &[u8]) -> (u16, u16)
-    requires part { maybe_part start.Line row.LINE_NUMBERS text.now ≡ true }
-    ensures { result ≡ spec.range_in (maybe_tree start.Line row.LINE_NUMBERS text.now) }
-{
-    if !is_line_at(text) {
-        return (0, 9999);
-    }
-    let first = line_at(text);
-    let after = dropped(text, 3);
-    if is_at(b',', after) {
-        (first, line_at(dropped(after, 1)))
-    } else {
-        (first, first)
-    }
-}
-
-/// The first and the last of the lines that LIST names.
+/// The first and the last of the lines that LIST names: all, or one alone, where no second one is named.
 #[tactic(auto, using(crate::proofs::ListRows::list_lines, crate::proofs::ListRows::list_is))]
 pub fn named_range(unit: &[u8]) -> (u16, u16)
     requires part { is_part row.LIST unit.now ≡ true }
     ensures { result ≡ spec.named_range (tree_at row.LIST unit.now) }
 {
-    range_at(dropped(unit, 1))
+    let (from, to) = named_lines(dropped(unit, 1));
+    (from, to.unwrap_or(from))
 }
 
 /// Adds a line as it is listed, and a newline.
@@ -67,18 +45,4 @@ pub fn range_listed(alloc: Global, text: &Text, from: u16, to: u16) -> Result<By
         add_line(alloc, *n, atoms, &mut out)?;
     }
     Ok(ByteList::new(out))
-}
-
-/// How LIST finishes.
-pub fn after_list(me: &mut Private, access: &Access, answer: &Answer) -> Outcome
-    ensures ended { record { me = me.new; outcome = result } ≡ shown access.now answer.now me.old }
-    ensures part { me.new.part ≡ me.old.part }
-{
-    match (access, answer) {
-        (Access::Show { bytes, .. }, Answer::Done) => {
-            me.term_column = column_after(me.term_column, bytes.bytes());
-            Outcome::Next
-        }
-        _ => Outcome::Repeat,
-    }
 }

@@ -1,12 +1,12 @@
 // How a partition becomes ready, and what it then shows.
 ghost use Rattle.std.specs.Prelude.{◌≡◌, [], IfOk, OnOk};
-ghost use Rattle.b2_stmt.specs.Calls.{without_frames};
 ghost use Rattle.b2_machine.specs.Readiness as spec;
 
 use crate::ends::{Stepped, Why, counts, ends_turn};
 use crate::messages::plain_error;
 use b2_access::Private;
 use b2_base::{Addr, ByteList, Code, NoMemory};
+use b2_stmt::drop_frames;
 use std::alloc::Global;
 
 /// A text and `:` wait to be shown.
@@ -70,16 +70,6 @@ pub fn refuse(alloc: Global, me: &mut Private, code: Code) -> Result<(), NoMemor
     note_error(me, code);
     let text = plain_error(alloc, code)?;
     prompt(me, text)
-}
-
-/// No frames, no arguments and no place to continue at are left.
-pub fn drop_frames(me: &mut Private)
-    ensures changed { me.new ≡ without_frames me.old }
-    ensures part { me.new.part ≡ me.old.part }
-{
-    me.stack.clear();
-    me.kept = None;
-    me.args = None;
 }
 
 /// A halt of a partition that runs.

@@ -9,7 +9,7 @@ ghost use Rattle.b2_machine.specs.Statements as spec;
 ghost use Rattle.b2_machine.specs.Stays.{IsLegalCourse};
 
 use crate::ends::{Stepped, counts, repeats};
-use crate::listed::{after_list, named_range, range_listed};
+use crate::listed::{named_range, range_listed};
 use crate::moving::{settle, settle_on};
 use crate::readiness::rest;
 use b2_access::{
@@ -131,7 +131,7 @@ fn finish_by(
     ensures part { me.new.part ≡ me.old.part }
 {
     match builder {
-        Builder::Listing(_, _) => Ok(after_list(me, access, answer)),
+        Builder::Listing(_, _) => Ok(b2_stmt_io::after_show(me, access, answer)),
         Builder::Control => b2_stmt::finish(alloc, me, lent, access, answer),
         Builder::Terminal => b2_stmt_io::finish(alloc, me, lent, access, answer),
         Builder::Nobody => Ok(Outcome::Repeat),

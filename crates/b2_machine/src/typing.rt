@@ -5,13 +5,14 @@ ghost use Rattle.b2_machine.specs.Typing as spec;
 
 use crate::ends::{Stepped, counts, repeats};
 use crate::messages::error_in_line;
-use crate::readiness::{drop_frames, note_error, prompt, refuse};
+use crate::readiness::{note_error, prompt, refuse};
 use b2_access::{Access, Answer, Private};
 use b2_atom::Atoms;
 use b2_base::codes::A08_TEXT_BORROWED;
 use b2_base::{ByteList, Code, NoMemory};
 use b2_flow::Place;
-use b2_print::column_after;
+use b2_stmt::drop_frames;
+use b2_stmt_io::move_column;
 use b2_syntax::{Entered, LineErr, read};
 use std::alloc::Global;
 
@@ -35,7 +36,7 @@ pub fn after_pending(me: &mut Private, access: &Access, answer: &Answer) -> Step
     match (access, answer) {
         (Access::Show { bytes, .. }, Answer::Done) => {
             me.pending = None;
-            me.term_column = column_after(me.term_column, bytes.bytes());
+            move_column(me, bytes.bytes());
             counts()
         }
         _ => repeats(answer),

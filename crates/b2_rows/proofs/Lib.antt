@@ -9,7 +9,8 @@
 -- Units: a unit of a line is a row that is read. Digits and Letters: the values of numbers and names that are typed.
 -- Links, ChainRows and Choices: what the rows of expressions and of lists say, over the table alone; EachChain and EachOperand
 -- have the same one fact at a time, as the tactics of functions want it.
--- LineTrees and WhatFollows: the units of a line on its tree, and what follows one.
+-- LineTrees and WhatFollows: the units of a line on its tree, and what follows one. NamedLines: what
+-- the rows of lines from one to another say.
 pub mod Levels
 pub mod Items
 pub mod Standing
@@ -29,3 +30,4 @@ pub mod EachChain
 pub mod EachOperand
 pub mod LineTrees
 pub mod WhatFollows
+pub mod NamedLines

@@ -1,6 +1,7 @@
 pub mod Leaves
 pub mod Rows
 pub mod Values
+pub mod LineNumbers
 pub mod Takes
 pub mod Links
 pub mod Chains

@@ -11,8 +11,8 @@
 //! a byte which way a row goes on; `row_unit` gives a unit with its row and tells whether an `@` name and whether FN
 //! stands in it, and `next_unit`, `past_colon`, `after_false` and `taken_fault` give what follows it on its line.
 //!
-//! The definitions are in `specs/`: rows in `Rows`, what is typed by hand in `Leaves` and its values in `Values`, which rows
-//! take a byte in `Takes`, items after operators and commas in `Links` and `Chains`, lists with commas in `CommaLists`, choices in `Choices`, what follows a unit
+//! The definitions are in `specs/`: rows in `Rows`, what is typed by hand in `Leaves` and its values in `Values`, the lines that
+//! are named in `LineNumbers`, which rows take a byte in `Takes`, items after operators and commas in `Links` and `Chains`, lists with commas in `CommaLists`, choices in `Choices`, what follows a unit
 //! in `Following`, and the laws in `Laws`. The crates above cite lemmas of `proofs/`, whose first page lists them.
 #![tactic(auto)]
 
@@ -21,6 +21,7 @@ mod chains;
 mod following;
 pub mod laws;
 mod leaves;
+mod line_numbers;
 mod operands;
 mod row_units;
 #[cfg(test)]
@@ -33,5 +34,6 @@ pub use leaves::{
     Name, address_at, alpha_name, function_name, hex_byte_at, hex_digit_at, image_at, line_at,
     literal_at, local_name, numeric_name, relation_at, slot_at, small_at,
 };
+pub use line_numbers::named_lines;
 pub use operands::{AlphaOperand, Operand, alpha_operand_at, operand_at};
 pub use row_units::{RowUnit, is_read, row_unit, spells_a_line};

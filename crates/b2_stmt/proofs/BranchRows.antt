@@ -27,7 +27,7 @@ use Rattle.b2_expr.specs.Scope.{Context}
 use Rattle.b2_rows.proofs.RowsRead.{stands_of}
 use Rattle.b2_access.specs.declared.planned.Outcome.TheVariants as outcome
 use Rattle.b2_stmt.specs.Branches.{goto_goal, if_goal, passed_function}
-use Rattle.b2_access.specs.Going.{line_in}
+use Rattle.b2_rows.specs.LineNumbers.{line_in}
 
 -- GOTO
 abbrev goto_items : List Item

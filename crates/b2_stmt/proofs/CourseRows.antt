@@ -19,7 +19,7 @@ use Rattle.b2_rows.specs.Leaves.{is_leaf, leaf_bytes}
 use Rattle.b2_rows.specs.Rows.{is_part, tree_at}
 use Rattle.b2_rows.specs.Values.{line_of, literal_of}
 use Rattle.b2_rows.proofs.RowsRead.{stands_of}
-use Rattle.b2_access.specs.Going.{line_in}
+use Rattle.b2_rows.specs.LineNumbers.{line_in}
 use Rattle.b2_stmt.specs.Course.{text_of_stop, line_to_run, line_to_restore}
 use Rattle.b2_stmt.proofs.BranchRows.{line_here, line_number, taken_way}
 

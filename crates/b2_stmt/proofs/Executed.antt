@@ -20,7 +20,8 @@ use Rattle.b2_stmt.specs.Asked.{Here, asked_of, carried, is_still, still}
 use Rattle.b2_stmt.specs.OnVariables.{is_on_variables}
 use Rattle.b2_access.specs.declared.accesses.Access.{Access}
 use Rattle.b2_stmt.specs.Clearing.{asked_access, asks_access}
-use Rattle.b2_stmt.specs.Plan.{permitted, by_access, course, course_at, course_in, course_of, ended_of, is_refused, line_named, plan}
+use Rattle.b2_access.specs.Placed.{line_named}
+use Rattle.b2_stmt.specs.Plan.{permitted, by_access, course, course_at, course_in, course_of, ended_of, is_refused, plan}
 use Rattle.b2_access.specs.Planning.{Ended, Planning, asks, done, stays}
 use Rattle.b2_stmt.specs.declared.asked.Asked.{Asked}
 

@@ -50,7 +50,8 @@ use Rattle.b2_stmt.specs.Frames.{with_frame}
 use Rattle.b2_access.specs.Going.{to_found, to_goal, to_place, where_there}
 use Rattle.b2_access.specs.Homes.{FinishesWithin, FrameIn, FramesIn, HomesIn, IsWithin, OutcomeIn, PlaceIn, PlannedIn, PlansWithin, homes_of, is_marked}
 use Rattle.b2_stmt.specs.Loops.{loop_begins, loop_element, loop_counts, goes_round, is_over, loop_in, made_loop, next_value, nexts, tested, without_loop}
-use Rattle.b2_stmt.specs.Plan.{permitted, by_access, course, course_at, course_in, ended_of, finish, is_refused, line_named, plan}
+use Rattle.b2_access.specs.Placed.{line_named}
+use Rattle.b2_stmt.specs.Plan.{permitted, by_access, course, course_at, course_in, ended_of, finish, is_refused, plan}
 use Rattle.b2_access.specs.Planning.{Ended, Planning, done, goes_or}
 use Rattle.b2_access.proofs.Choice.{either}
 use Rattle.b2_stmt.proofs.Erased.{each_erased}

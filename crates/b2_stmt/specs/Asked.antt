@@ -118,8 +118,8 @@ carried (asked.Restore n) p me own home = restores n own me
 carried (asked.Clear common) p me own home = clears_variables common me
 carried (asked.CallMark n args back) p me own home = calls_mark (mark_place n p me.part own home) args back me
 
--- what is known of the names in it
-abbrev pub IsNamed : Asked → Type 0
-IsNamed (asked.Begin l body) = is_legal_name (scalar_of l.var) ≡ true
-IsNamed (asked.Next v) = is_legal_name (scalar_of v) ≡ true
-IsNamed a = Unit {0}
+-- the names in it are legal
+abbrev pub HasLegalNames : Asked → Type 0
+HasLegalNames (asked.Begin l body) = is_legal_name (scalar_of l.var) ≡ true
+HasLegalNames (asked.Next v) = is_legal_name (scalar_of v) ≡ true
+HasLegalNames a = Unit {0}

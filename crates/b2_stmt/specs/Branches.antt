@@ -12,7 +12,7 @@ use Rattle.b2_expr.specs.Condition.{truth}
 use Rattle.b2_expr.specs.Scope.{Context}
 use Rattle.b2_access.specs.declared.planned.Outcome.{Outcome}
 use Rattle.b2_access.specs.declared.planned.Outcome.TheVariants as outcome
-use Rattle.b2_access.specs.Going.{line_in}
+use Rattle.b2_rows.specs.LineNumbers.{line_in}
 
 -- GOTO
 abbrev pub goto_goal : Trees → Result Goal ℕ

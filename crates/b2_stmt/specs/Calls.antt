@@ -11,7 +11,8 @@ use Rattle.b2_access.specs.declared.planned.Outcome.{Outcome}
 use Rattle.b2_access.specs.declared.planned.Outcome.TheVariants as outcome
 use Rattle.b2_access.specs.declared.private.Private.{Private}
 use Rattle.b2_stmt.specs.Frames.{with_frame}
-use Rattle.b2_access.specs.Going.{line_in, to_place}
+use Rattle.b2_rows.specs.LineNumbers.{line_in}
+use Rattle.b2_access.specs.Going.{to_place}
 use Rattle.b2_access.specs.Planning.{Ended, stays}
 
 -- a call of a place in a line, which leads back to another; P36 where the line isn't there

@@ -8,7 +8,7 @@ use Rattle.b2_expr.specs.Functions.{fixed}
 use Rattle.b2_expr.specs.Scope.{Context}
 use Rattle.b2_expr.specs.Value.{value}
 use Rattle.b2_expr.specs.declared.operators.Level.TheVariants as level
-use Rattle.b2_access.specs.Going.{line_in}
+use Rattle.b2_rows.specs.LineNumbers.{line_in}
 
 -- the lines after the first, and all of them
 abbrev pub lines_after : Trees → List ℕ

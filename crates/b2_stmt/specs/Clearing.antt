@@ -1,11 +1,10 @@
 -- CLEAR and CLEAR P: what they ask of the store, and how they finish.
-use Rattle.std.specs.Prelude.{ℕ, ◌==◌, ◌||◌, Bool, [], ◌∷◌, ◌++◌, codes, Option, None, Some, if◌then◌else◌}
+use Rattle.std.specs.Prelude.{ℕ, ◌==◌, ◌||◌, Bool, [], ◌∷◌, ◌++◌, codes, Option, None, Some, unwrap_or, if◌then◌else◌}
 use Rattle.std.specs.FinMap as map
 use Rattle.b2_base.specs.Byte as byte
 use Rattle.b2_base.specs.declared.codes.TheConstants.{A08_TEXT_BORROWED}
-use Rattle.b2_atom.specs.Tokens.Token.{Lined}
 use Rattle.b2_atom.specs.Tree.{Trees}
-use Rattle.b2_atom.specs.Tree.Trees.{Put, In}
+use Rattle.b2_atom.specs.Tree.Trees.{Put}
 use Rattle.b2_atom.specs.declared.rows.TheConstants as row
 use Rattle.b2_access.specs.Partition.{terminal_address}
 use Rattle.b2_access.specs.declared.accesses.Access.{Access}
@@ -15,30 +14,15 @@ use Rattle.b2_access.specs.declared.accesses.Answer.TheVariants as answer
 use Rattle.b2_access.specs.declared.planned.Outcome.TheVariants as outcome
 use Rattle.b2_access.specs.declared.private.Private.{Private}
 use Rattle.b2_stmt.specs.Calls.{without_frames}
-use Rattle.b2_access.specs.Going.{line_in}
+use Rattle.b2_rows.specs.LineNumbers.{named_lines}
 use Rattle.b2_access.specs.Planning.{Ended, stays}
 
--- the line after a comma
-abbrev pub second_line : Trees → ℕ
-second_line (Put comma line) = line_in line
-second_line t = 0
-
--- the lines from one on, up to a second one where it is named
-abbrev pub erases_from : ℕ → Trees → Access
-erases_from from (In n second end) = access.Erase from (if n == 1 then second_line second else 9999) 0
-erases_from from t = access.Erase from 9999 0
-
-abbrev pub erases_lines : Trees → Access
-erases_lines (Put (Lined high low) more) = erases_from (line_in (Put (Lined high low) more)) more
-erases_lines t = access.Erase 0 9999 0
-
--- or all of them, where none is named
-abbrev pub erases_range : Trees → Access
-erases_range (In n lines end) = if n == 1 then erases_lines lines else access.Erase 0 9999 0
-erases_range t = access.Erase 0 9999 0
+-- the lines that are named go: up to the last one of the text, where no second one is named
+abbrev pub erases_lines : ℕ × Option ℕ → Access
+erases_lines lines = access.Erase lines.0 (unwrap_or lines.1 9999) 0
 
 abbrev pub asks_to_erase : Trees → Access
-asks_to_erase (Put word (Put letter range)) = erases_range range
+asks_to_erase (Put word (Put letter lines)) = erases_lines (named_lines lines)
 asks_to_erase t = access.Erase 0 9999 0
 
 -- whether a statement asks for an access, and the access that it asks for

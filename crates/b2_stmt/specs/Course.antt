@@ -14,7 +14,7 @@ use Rattle.b2_vars.specs.Calls.{common_only}
 use Rattle.b2_access.specs.Partition.{terminal_address}
 use Rattle.b2_access.specs.declared.planned.Outcome.TheVariants as outcome
 use Rattle.b2_access.specs.declared.private.Private.{Private}
-use Rattle.b2_access.specs.Going.{line_in}
+use Rattle.b2_rows.specs.LineNumbers.{line_in}
 use Rattle.b2_access.specs.Planning.{Ended, stays}
 
 -- a line that is named, or none

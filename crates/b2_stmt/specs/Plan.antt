@@ -6,7 +6,6 @@ use Rattle.b2_atom.specs.Units.{TreeUnit}
 use Rattle.b2_atom.specs.declared.rows.TheConstants as row
 use Rattle.b2_rows.specs.Following.{tree_units}
 use Rattle.b2_flow.specs.declared.frame.Place.{Place}
-use Rattle.b2_text.specs.Program.{Lines, line_at}
 use Rattle.b2_expr.specs.Assigning.{Assigned}
 use Rattle.b2_access.specs.declared.accesses.Access.{Access}
 use Rattle.b2_access.specs.declared.accesses.Answer.{Answer}
@@ -15,6 +14,7 @@ use Rattle.b2_access.specs.declared.private.Private.{Private}
 use Rattle.b2_access.specs.Lending.{SeenLent}
 use Rattle.b2_expr.specs.Value.{context_of}
 use Rattle.b2_access.specs.Partition.{setting_of}
+use Rattle.b2_access.specs.Placed.{line_named}
 use Rattle.b2_stmt.specs.Asked.{Here, asked_of, carried}
 use Rattle.b2_stmt.specs.Clearing.{asked_access, edit_finishes}
 use Rattle.b2_stmt.specs.OnVariables.{is_on_variables, on_variables}
@@ -65,11 +65,6 @@ course_at (Some u) h me s = permitted u.row u.tree h me s
 abbrev pub course_in : Option (List ℕ) → Place → Private → SeenLent → Planning
 course_in None p me s = done s (stays me outcome.Ready)
 course_in (Some line) p me s = course_at (slice_get (tree_units line) p.unit) (record { place = p; units = tree_units line }) me s
-
--- the line of a place: one of the text at home, or the immediate line
-abbrev pub line_named : Option (List ℕ) → Lines → Option ℕ → Option (List ℕ)
-line_named immediate home None = immediate
-line_named immediate home (Some n) = line_at n home
 
 abbrev pub course : Option Place → Private → SeenLent → Planning
 course None me s = done s (stays me outcome.Ready)

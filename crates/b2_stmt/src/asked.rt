@@ -14,7 +14,7 @@ ghost use Rattle.b2_access.specs.Going.{to_found};
 ghost use Rattle.b2_stmt.specs.Loops.{loop_in};
 ghost use Rattle.b2_stmt.specs.Course.{stop_text as shown_by_stop, text_of_stop};
 ghost use Rattle.b2_stmt.specs.Asked as spec;
-ghost use Rattle.b2_stmt.specs.Asked.{IsNamed};
+ghost use Rattle.b2_stmt.specs.Asked.{HasLegalNames};
 
 use crate::arguments::arguments_of;
 use crate::branches::{goto_goal, if_goal, passed_function, passed_goal};
@@ -24,7 +24,7 @@ use crate::course::{
     clear, line_to_restore, line_to_run, restore, resume, run, select, stop, stop_text,
     text_of_stop,
 };
-use crate::loops::{Loop, begin_loop, counter_at, loop_at, next};
+use crate::loops::{Loop, begin_loop, counter_at, loop_at, next_round};
 use crate::marked::{call_mark, number_called};
 use b2_access::{Outcome, Private, failed, failing, place_after, to_found, to_goal, to_line};
 use b2_atom::{Atoms, rows};
@@ -89,7 +89,7 @@ fn body_place(home: &Text, line: &Atoms, place: Place) -> Place
 fn ask_loop<'a>(vars: &'a Vars, a: &Setting, home: &'a Text, unit: &[u8], body: Place) -> Asked
     requires part { is_part row.FOR unit.now ≡ true }
     ensures asked { result ≡ spec.asks_loop (loop_in (in_statement (about a.now vars.now home.now)) (tree_at row.FOR unit.now)) body }
-    ensures named { IsNamed result }
+    ensures named { HasLegalNames result }
 {
     let e = Env {
         globals: None,
@@ -105,7 +105,7 @@ fn ask_loop<'a>(vars: &'a Vars, a: &Setting, home: &'a Text, unit: &[u8], body: 
 fn line_chosen(goto: bool, line: Option<u16>, home: &Text, atoms: &Atoms, place: Place) -> Asked
     requires few { place.unit < 255 }
     ensures asked { result ≡ spec.line_chosen goto line (record { place = place; units = tree_units atoms.now }) home.now.lines }
-    ensures named { IsNamed result }
+    ensures named { HasLegalNames result }
 {
     match (goto, line) {
         (_, None) => Asked::Nothing(Outcome::Next),
@@ -132,7 +132,7 @@ fn ask_choice<'a>(
     requires part { is_part row.ON unit.now ≡ true }
     requires few { place.unit < 255 }
     ensures asked { result ≡ spec.asks_choice (choice_in (in_statement (about a.now vars.now home.now)) (tree_at row.ON unit.now)) (record { place = place; units = tree_units line.now }) home.now.lines }
-    ensures named { IsNamed result }
+    ensures named { HasLegalNames result }
 {
     let e = Env {
         globals: None,
@@ -213,7 +213,7 @@ fn ask_mark<'a>(
 ) -> Result<Asked, NoMemory>
     requires part { is_part row.GOSUB_MARKED unit.now ≡ true }
     ensures asked { IfOk result (λ asked. asked ≡ spec.asks_mark (called_number (tree_at row.GOSUB_MARKED unit.now)) (arguments (in_statement (about a.now vars.now home.now)) (operands_of (tree_at row.GOSUB_MARKED unit.now))) back) }
-    ensures named { IfOk result IsNamed }
+    ensures named { IfOk result HasLegalNames }
 {
     let e = Env {
         globals: None,
@@ -252,7 +252,7 @@ pub fn ask(
     requires read { IsRow unit.now.row unit.now.bytes.now (tree_at unit.now.row unit.now.bytes.now) }
     requires few { place.now.unit < 255 }
     ensures asked { IfOk result (λ asked. asked ≡ spec.asked_of unit.now.row (tree_at unit.now.row unit.now.bytes.now) (record { place = place.now; units = tree_units line.now }) (in_statement (about a.now vars.now home.now)) home.now.lines) }
-    ensures named { IfOk result IsNamed }
+    ensures named { IfOk result HasLegalNames }
 {
     let bytes = unit.bytes;
     let place = copy_of(place);
@@ -284,14 +284,14 @@ pub fn do_asked(
     place: Place,
     asked: Asked,
 ) -> Result<Outcome, NoMemory>
-    requires named { IsNamed asked }
+    requires named { HasLegalNames asked }
     ensures ended { IfOk result (λ o. record { me = me.new; outcome = o } ≡ spec.carried asked place me.old own.now.lines home.now.lines) }
     ensures part { me.new.part ≡ me.old.part }
 {
     match asked {
         Asked::Nothing(outcome) => Ok(outcome),
         Asked::Begin(l, body) => begin_loop(me, l, body),
-        Asked::Next(v) => next(me, v),
+        Asked::Next(v) => next_round(me, v),
         Asked::Call(n, back) => Ok(call_line(me, home, place, n, back)),
         Asked::Return => Ok(go_back(me)),
         Asked::Forget(all) => Ok(forget(me, place, all)),

@@ -72,6 +72,16 @@ fn forget_call(me: &mut Private) -> Outcome
     }
 }
 
+/// No frames, no arguments and no place to continue at are left.
+pub fn drop_frames(me: &mut Private)
+    ensures dropped { me.new ≡ spec.without_frames me.old }
+    ensures part { me.new.part ≡ me.old.part }
+{
+    me.stack.clear();
+    me.kept = None;
+    me.args = None;
+}
+
 /// RETURN CLEAR ALL.
 fn forget_all(me: &mut Private, place: Place) -> Outcome
     ensures ended { record { me = me.new; outcome = result } ≡ spec.forgets_all place me.old }
@@ -82,9 +92,7 @@ fn forget_all(me: &mut Private, place: Place) -> Outcome
     }
     match me.stack.pop_call() {
         Ok(_) => {
-            me.stack.clear();
-            me.kept = None;
-            me.args = None;
+            drop_frames(me);
             Outcome::Next
         }
         Err(code) => Outcome::Failed(code),

@@ -3,45 +3,19 @@ ghost use Rattle.std.specs.Prelude.{◌≡◌, ◌≢◌, true, IfOk};
 ghost use Rattle.b2_atom.specs.declared.rows.TheConstants as row;
 ghost use Rattle.b2_rows.specs.Rows.{is_part, tree_at};
 ghost use Rattle.b2_access.specs.Lending.{globals_lent, seen_lent};
-ghost use Rattle.b2_atom.specs.declared.forms.Start.TheVariants as start;
-ghost use Rattle.b2_rows.specs.Optional.{maybe_part, maybe_tree};
 ghost use Rattle.b2_access.specs.declared.private.Private.{Private};
 ghost use Rattle.b2_stmt.specs.Calls.{without_frames};
 ghost use Rattle.b2_stmt.specs.Clearing as spec;
 ghost use Rattle.b2_stmt.specs.Plan.{finish};
 
+use crate::calls::drop_frames;
 use b2_access::{Access, Answer, Lent, Outcome, Private, failed};
 use b2_atom::rows;
 use b2_base::codes::A08_TEXT_BORROWED;
 use b2_base::lexical::dropped;
 use b2_base::{Addr, ByteList, NoMemory};
-use b2_rows::{is_at, is_line_at, line_at};
+use b2_rows::named_lines;
 use std::alloc::Global;
-
-/// The lines of the own text from one to another are erased.
-fn erase(from: u16, to: u16) -> Access
-    ensures { result ≡ Access.Erase from to 0 }
-{
-    Access::Erase { from, to, homes: 0 }
-}
-
-/// The lines that are named at a text are erased: from one to another, from one on, or all of them.
-#[tactic(auto, using(crate::proofs::ClearRows::first_here, crate::proofs::ClearRows::second_here, crate::proofs::ClearRows::two_lines, crate::proofs::ClearRows::one_line, crate::proofs::ClearRows::all_lines))]
-fn erases_range(text: &[u8]) -> Access
-    requires part { maybe_part start.Line row.LINE_NUMBERS text.now ≡ true }
-    ensures { result ≡ spec.erases_range (maybe_tree start.Line row.LINE_NUMBERS text.now) }
-{
-    if !is_line_at(text) {
-        return erase(0, 9999);
-    }
-    let first = line_at(text);
-    let after = dropped(text, 3);
-    if is_at(b',', after) {
-        erase(first, line_at(dropped(after, 1)))
-    } else {
-        erase(first, 9999)
-    }
-}
 
 /// What CLEAR P asks for.
 #[tactic(auto, using(crate::proofs::ClearRows::clear_lines, crate::proofs::ClearRows::clear_is))]
@@ -49,7 +23,12 @@ fn asks_to_erase(unit: &[u8]) -> Access
     requires part { is_part row.CLEAR_P unit.now ≡ true }
     ensures { result ≡ spec.asks_to_erase (tree_at row.CLEAR_P unit.now) }
 {
-    erases_range(dropped(dropped(unit, 1), 1))
+    let (from, to) = named_lines(dropped(dropped(unit, 1), 1));
+    Access::Erase {
+        from,
+        to: to.unwrap_or(9999),
+        homes: 0,
+    }
 }
 
 /// Whether a statement asks for an access.
@@ -74,28 +53,6 @@ pub fn asked_access(row: u16, unit: &[u8]) -> Option<Access>
     }
 }
 
-/// Drops all frames, and what is kept.
-fn drop_frames(me: &mut Private)
-    ensures dropped { me.new ≡ without_frames me.old }
-    ensures part { me.new.part ≡ me.old.part }
-{
-    me.stack.clear();
-    me.kept = None;
-    me.args = None;
-}
-
-/// After all was cleared.
-fn clear_all(alloc: Global, me: &mut Private) -> Result<Outcome, NoMemory>
-    ensures ended { IfOk result (λ o. record { me = me.new; outcome = o } ≡ spec.edited Answer.Done (spec.cleared me.old) me.old) }
-    ensures part { me.new.part ≡ me.old.part }
-{
-    let ready = ByteList::from_slice(alloc, b"READY\n")?;
-    me.vars.clear();
-    drop_frames(me);
-    me.pending = Some((Addr::default(), ready));
-    Ok(Outcome::Ready)
-}
-
 /// After lines were erased.
 fn erase_lines(me: &mut Private) -> Outcome
     ensures ended { record { me = me.new; outcome = result } ≡ spec.edited Answer.Done (without_frames me.old) me.old }
@@ -103,6 +60,18 @@ fn erase_lines(me: &mut Private) -> Outcome
 {
     drop_frames(me);
     Outcome::Ready
+}
+
+/// After all was cleared: the variables go too.
+fn clear_all(alloc: Global, me: &mut Private) -> Result<Outcome, NoMemory>
+    ensures ended { IfOk result (λ o. record { me = me.new; outcome = o } ≡ spec.edited Answer.Done (spec.cleared me.old) me.old) }
+    ensures part { me.new.part ≡ me.old.part }
+{
+    let ready = ByteList::from_slice(alloc, b"READY\n")?;
+    let outcome = erase_lines(me);
+    me.vars.clear();
+    me.pending = Some((Addr::default(), ready));
+    Ok(outcome)
 }
 
 /// Where a text was not changed: A08 where another partition stands inside it, and else the step is repeated.

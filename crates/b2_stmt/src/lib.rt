@@ -30,6 +30,7 @@ mod on_variables;
 mod planning;
 mod reading;
 
+pub use calls::drop_frames;
 pub use clearing::{asks_access, finish};
 pub use planning::{execute, is_built, plan};
 

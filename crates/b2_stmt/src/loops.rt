@@ -198,7 +198,7 @@ fn go_round(
 }
 
 /// NEXT of a variable.
-pub fn next(me: &mut Private, v: Var2) -> Result<Outcome, NoMemory>
+pub fn next_round(me: &mut Private, v: Var2) -> Result<Outcome, NoMemory>
     requires named { is_legal_name (scalar_of v) ≡ true }
     ensures ended { IfOk result (λ o. record { me = me.new; outcome = o } ≡ spec.nexts v me.old) }
     ensures part { me.new.part ≡ me.old.part }

@@ -10,7 +10,7 @@ mod reading;
 mod rows;
 
 use crate::plan;
-use b2_access::{DeviceTable, Lent, Outcome, Planned, Private, place_after};
+use b2_access::{DeviceTable, Lent, Outcome, Planned, Private, line_named, place_after};
 use b2_atom::rows::CONDITION;
 use b2_atom::words::Origin;
 use b2_atom::{Atoms, Cursor};
@@ -69,15 +69,9 @@ fn moved(me: &Private, text: &Text, place: Place) -> Option<Place> {
     if place.unit == 255 {
         return None;
     }
-    match place.line {
-        Some(n) => match text.line(n) {
-            Some(line) => place_after(text, line.atoms, place),
-            None => None,
-        },
-        None => match &me.immediate {
-            Some(line) => place_after(text, line, place),
-            None => None,
-        },
+    match line_named(&me.immediate, text, place.line) {
+        Some(line) => place_after(text, line, place),
+        None => None,
     }
 }
 

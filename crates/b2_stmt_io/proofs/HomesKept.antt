@@ -28,9 +28,9 @@ use Rattle.b2_access.proofs.Choice.{either}
 use Rattle.b2_expr.specs.Value.{context_of}
 use Rattle.b2_stmt_io.specs.Changed.{with_assigned}
 use Rattle.b2_stmt_io.specs.Converting.{converts}
-use Rattle.b2_stmt_io.specs.Inputs.{takes_parts}
+use Rattle.b2_stmt_io.specs.Inputs.{takes_typed}
 use Rattle.b2_stmt_io.specs.Keys.{first_named, key_leads, key_taken, second_named, key_assigned, waits, without_key}
-use Rattle.b2_stmt_io.specs.LineReading.{after_showing, line_answered, takes_line, types}
+use Rattle.b2_stmt_io.specs.LineReading.{after_showing, line_answered, types}
 use Rattle.b2_stmt_io.specs.Marks.{typed_by_mark}
 use Rattle.b2_stmt_io.specs.Plan.{asked_of, course, course_at, course_of, finish_ended, ended_at, ended_of, finish, is_refused, plan}
 use Rattle.b2_stmt_io.specs.Showing.{shown}
@@ -184,8 +184,7 @@ module _ (among : ℕ → Bool) where
   ended_of_in u p x a me s k w =
       either EndedIn (u.row == row.PRINT || u.row == row.PRINTUSING) _ _ (shown_in x a me w)
       (either EndedIn (u.row == row.KEYIN) _ _ (keyed_in a s.home p u.tree me k w)
-      (either EndedIn (u.row == row.LINPUT) _ _ (line_in (λ line vars. takes_line (setting_of me) s.home line u.tree vars) x a s.own.lines me w)
-      (either EndedIn (u.row == row.INPUT) _ _ (line_in (λ line vars. takes_parts (setting_of me) s.home line u.tree vars) x a s.own.lines me w) (w, tt))))
+      (either EndedIn (u.row == row.LINPUT || u.row == row.INPUT) _ _ (line_in (λ line vars. takes_typed u.row (setting_of me) s.home line u.tree vars) x a s.own.lines me w) (w, tt)))
 
   ended_at_in : (o : Option Statement) (p : Place) (x : Access) (a : Answer) (me : Private) (s : SeenLent) → among p.home ≡ true → Within me → EndedIn (ended_at o p x a me s)
   unfolding EndedIn

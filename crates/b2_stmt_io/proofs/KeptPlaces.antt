@@ -21,9 +21,9 @@ use Rattle.b2_access.specs.declared.private.Private.{Private}
 use Rattle.b2_access.proofs.Choice.{either}
 use Rattle.b2_access.proofs.OwnTerminal.{names_own}
 use Rattle.b2_expr.specs.Value.{context_of}
-use Rattle.b2_stmt_io.specs.Inputs.{takes_parts}
+use Rattle.b2_stmt_io.specs.Inputs.{takes_typed}
 use Rattle.b2_stmt_io.specs.Keys.{key_taken, key_assigned}
-use Rattle.b2_stmt_io.specs.LineReading.{after_showing, line_answered, takes_line, types}
+use Rattle.b2_stmt_io.specs.LineReading.{after_showing, line_answered, types}
 use Rattle.b2_stmt_io.specs.Marks.{typed_by_mark}
 use Rattle.b2_stmt_io.specs.Plan.{course, course_at, course_of, finish_ended, ended_at, ended_of, finish, is_refused, plan}
 use Rattle.b2_stmt_io.specs.Showing.{shown}
@@ -121,8 +121,7 @@ module _ (here kept : Option Place) (term : ℕ) where
       let F : Ended → Type 0 = λ e. KeepsPlaces e.me in
       either F (u.row == row.PRINT || u.row == row.PRINTUSING) _ _ (after_shown x a me h)
       (either F (u.row == row.KEYIN) _ _ (after_key a s.home p u.tree me h)
-      (either F (u.row == row.LINPUT) _ _ (after_line (λ line vars. takes_line (setting_of me) s.home line u.tree vars) x a s.own.lines me h)
-      (either F (u.row == row.INPUT) _ _ (after_line (λ line vars. takes_parts (setting_of me) s.home line u.tree vars) x a s.own.lines me h) h)))
+      (either F (u.row == row.LINPUT || u.row == row.INPUT) _ _ (after_line (λ line vars. takes_typed u.row (setting_of me) s.home line u.tree vars) x a s.own.lines me h) h))
 
   ended_unit : (o : Option Statement) (p : Place) (x : Access) (a : Answer) (me : Private) (s : SeenLent) → KeepsPlaces me → KeepsPlaces (ended_at o p x a me s).me
   unfolding KeepsPlaces

@@ -34,7 +34,7 @@ use Rattle.b2_rows.proofs.RowsRead.{stands_of}
 use Rattle.b2_base.specs.Refusals.{IsRefused}
 use Rattle.b2_print.specs.Imaged.{appended, imaged}
 use Rattle.b2_text.specs.Program.{Lines, line_at}
-use Rattle.b2_access.specs.Going.{line_in}
+use Rattle.b2_rows.specs.LineNumbers.{line_in}
 use Rattle.b2_stmt_io.specs.Imaging.{any_value, image_named, is_joined, items_named, items_using, values_joined, line_image, prints_using, values_of, written_image}
 use Rattle.b2_rows.specs.CommaLists.{after_all_listed, commas}
 use Rattle.b2_stmt_io.specs.Operands.{after_operands, after_image, are_operands, image_is_named, items_text, operands_at, operands_tree, past_operand}

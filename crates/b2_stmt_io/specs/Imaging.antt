@@ -14,7 +14,7 @@ use Rattle.b2_expr.specs.Scope.{Context}
 use Rattle.b2_expr.specs.Value.{text, value}
 use Rattle.b2_expr.specs.declared.operators.Level.TheVariants as level
 use Rattle.b2_print.specs.Imaged.{imaged}
-use Rattle.b2_access.specs.Going.{line_in}
+use Rattle.b2_rows.specs.LineNumbers.{line_in}
 use Rattle.b2_rows.specs.CommaLists.{after_all_listed, all_listed}
 
 -- the image on a line: what stands after its `%`

@@ -1,14 +1,15 @@
--- INPUT: the parts of a line for its receivers.
+-- INPUT: the parts of a line for its receivers; and what INPUT and LINPUT do with a line.
 use Rattle.std.specs.Prelude.{ℕ, ◌==◌, List, [], ◌∷◌, length, None, Ok, if◌then◌else◌}
 use Rattle.b2_base.specs.Lexical.{skip_blanks}
 use Rattle.b2_base.specs.declared.codes.TheConstants.{S20_VARIABLE}
 use Rattle.b2_alpha.specs.Values.{value_of}
 use Rattle.b2_atom.specs.Tree.{Trees}
 use Rattle.b2_atom.specs.Tree.Trees.{In}
+use Rattle.b2_atom.specs.declared.rows.TheConstants as row
 use Rattle.b2_text.specs.Program.{TextState}
 use Rattle.b2_vars.specs.Tables.{VarsState}
 use Rattle.b2_expr.specs.Assigning.{Assigned, then_assigned}
-use Rattle.b2_stmt_io.specs.LineReading.{after_prompt}
+use Rattle.b2_stmt_io.specs.LineReading.{after_prompt, takes_line}
 use Rattle.b2_rows.specs.CommaLists.{all_listed}
 use Rattle.b2_stmt_io.specs.Receiving.{assign_bytes, assign_number, unassigned}
 use Rattle.b2_stmt_io.specs.TypedText.{typed_parts, typed_number}
@@ -37,3 +38,7 @@ take_parts one (t ∷ ts) (part ∷ parts) vars = then_assigned (one t part vars
 
 abbrev pub takes_parts : Setting → TextState → List ℕ → Trees → VarsState → Assigned
 takes_parts a home line t vars = take_parts (takes_part a home) (all_listed (after_prompt t)) (typed_parts line) vars
+
+-- a line is taken whole by LINPUT, and by its parts by INPUT
+abbrev pub takes_typed : ℕ → Setting → TextState → List ℕ → Trees → VarsState → Assigned
+takes_typed r a home line t vars = if r == row.LINPUT then takes_line a home line t vars else takes_parts a home line t vars

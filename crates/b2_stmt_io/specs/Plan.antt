@@ -17,9 +17,9 @@ use Rattle.b2_expr.specs.Value.{context_of}
 use Rattle.b2_access.specs.Partition.{setting_of}
 use Rattle.b2_stmt_io.specs.Converting.{converts}
 use Rattle.b2_stmt_io.specs.Imaging.{prints_using}
-use Rattle.b2_stmt_io.specs.Inputs.{takes_parts}
+use Rattle.b2_stmt_io.specs.Inputs.{takes_typed}
 use Rattle.b2_stmt_io.specs.Keys.{key_taken}
-use Rattle.b2_stmt_io.specs.LineReading.{asks_line, line_answered, prompt_of, takes_line}
+use Rattle.b2_stmt_io.specs.LineReading.{asks_line, line_answered, prompt_of}
 use Rattle.b2_access.specs.Placed.{Statement, statement_placed}
 use Rattle.b2_stmt_io.specs.Changed.{with_assigned}
 use Rattle.b2_access.specs.Planning.{Ended, Finishing, Planning, done, finished, stays}
@@ -70,9 +70,8 @@ abbrev pub ended_of : Statement → Place → Access → Answer → Private → 
 ended_of u p x a me s =
     if u.row == row.PRINT || u.row == row.PRINTUSING then shown x a me
     else (if u.row == row.KEYIN then key_taken a s.home p u.tree me
-    else (if u.row == row.LINPUT then line_answered (λ line vars. takes_line (setting_of me) s.home line u.tree vars) x a s.own.lines me
-    else (if u.row == row.INPUT then line_answered (λ line vars. takes_parts (setting_of me) s.home line u.tree vars) x a s.own.lines me
-    else stays me outcome.Repeat)))
+    else (if u.row == row.LINPUT || u.row == row.INPUT then line_answered (λ line vars. takes_typed u.row (setting_of me) s.home line u.tree vars) x a s.own.lines me
+    else stays me outcome.Repeat))
 
 abbrev pub ended_at : Option Statement → Place → Access → Answer → Private → SeenLent → Ended
 ended_at None p x a me s = stays me outcome.Repeat

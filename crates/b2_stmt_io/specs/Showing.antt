@@ -20,7 +20,7 @@ shows_bytes term (Err code) = planned.Done (outcome.Failed code)
 abbrev pub with_column : List ℕ → Private → Private
 with_column bytes me = record me { term_column = column_after me.term_column bytes }
 
--- what was shown ends PRINT and PRINTUSING; with any other answer the step is repeated
+-- what was shown ends PRINT, PRINTUSING and LIST; with any other answer the step is repeated
 abbrev pub shown : Access → Answer → Private → Ended
 shown (access.Show term bytes) answer.Done me = record { me = with_column bytes me; outcome = outcome.Next }
 shown x a me = stays me outcome.Repeat

@@ -1,5 +1,5 @@
-// INPUT: the parts of a line for its receivers.
-ghost use Rattle.std.specs.Prelude.{◌≡◌, ◌≢◌, ◌==◌, true, false, length, IfOk, Some};
+// INPUT: the parts of a line for its receivers; and how INPUT and LINPUT finish.
+ghost use Rattle.std.specs.Prelude.{◌≡◌, ◌≢◌, ◌==◌, ◌||◌, true, false, length, IfOk, Some};
 ghost use Rattle.b2_base.specs.Lexical.{skip_blanks as blanks_skipped};
 ghost use Rattle.b2_alpha.specs.Values.{value_of};
 ghost use Rattle.b2_atom.specs.declared.rows.TheConstants as row;
@@ -10,11 +10,12 @@ ghost use Rattle.b2_stmt_io.specs.LineReading.{asks_line, line_answered, prompt_
 ghost use Rattle.b2_rows.specs.CommaLists.{are_others, past_first, receivers_at};
 ghost use Rattle.b2_stmt_io.specs.TypedText.{typed_parts};
 
-use crate::line_reading::{ask_line, past_prompt, prompt_shown, type_literal};
+use crate::line_reading::{ask_line, assign_line, past_prompt, prompt_shown, type_literal};
 use crate::receiving::{bytes_to, number_to};
 use crate::typed_text::part_width;
 use b2_access::{Access, Answer, Outcome, Private, goes_or, setting_of};
 use b2_alpha::value_len;
+use b2_atom::rows;
 use b2_base::lexical::{dropped, front, skip_blanks};
 use b2_base::{Code, NoMemory, Term};
 use b2_expr::past_any_receiver;
@@ -125,25 +126,47 @@ pub fn ask_input(alloc: Global, prompted: bool, term: Term, unit: &[u8]) -> Resu
     ask_line(alloc, prompted, term, dropped(unit, 1))
 }
 
-/// How INPUT finishes.
-pub fn after_input(
+/// Assigns a line to the receivers of a statement that read it, LINPUT or INPUT.
+fn take_typed(
+    vars: &mut Vars,
+    a: &Setting,
+    home: &Text,
+    kind: u16,
+    line: &[u8],
+    unit: &[u8],
+) -> Result<Option<Code>, NoMemory>
+    requires part { is_part kind unit.now ≡ true }
+    requires reads { (kind == row.LINPUT || kind == row.INPUT) ≡ true }
+    ensures { IfOk result (λ code. record { vars = vars.new; code = code } ≡ spec.takes_typed kind a.now home.now line.now (tree_at kind unit.now) vars.old) }
+{
+    if kind == rows::LINPUT {
+        assign_line(vars, a, home, line, unit)
+    } else {
+        take_parts(vars, a, home, line, unit)
+    }
+}
+
+/// How LINPUT and INPUT finish.
+pub fn after_line(
     alloc: Global,
     me: &mut Private,
     own: &Text,
     home: &Text,
     access: &Access,
     answer: &Answer,
+    kind: u16,
     unit: &[u8],
 ) -> Result<Outcome, NoMemory>
-    requires part { is_part row.INPUT unit.now ≡ true }
-    ensures ended { IfOk result (λ o. record { me = me.new; outcome = o } ≡ line_answered (λ line vars. spec.takes_parts (setting_of me.old) home.now line (tree_at row.INPUT unit.now) vars) access.now answer.now own.now.lines me.old) }
+    requires part { is_part kind unit.now ≡ true }
+    requires reads { (kind == row.LINPUT || kind == row.INPUT) ≡ true }
+    ensures ended { IfOk result (λ o. record { me = me.new; outcome = o } ≡ line_answered (λ line vars. spec.takes_typed kind (setting_of me.old) home.now line (tree_at kind unit.now) vars) access.now answer.now own.now.lines me.old) }
     ensures part { me.new.part ≡ me.old.part }
 {
     match (access, answer) {
         (Access::Show { bytes, .. }, Answer::Done) => Ok(prompt_shown(me, bytes.bytes())),
         (_, Answer::Line(line)) => {
             let setting = setting_of(me);
-            let code = take_parts(&mut me.vars, &setting, home, line.bytes(), unit)?;
+            let code = take_typed(&mut me.vars, &setting, home, kind, line.bytes(), unit)?;
             me.term_column = 0;
             Ok(goes_or(Outcome::Next, code))
         }

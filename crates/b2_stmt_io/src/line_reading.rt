@@ -5,17 +5,16 @@ ghost use Rattle.b2_atom.specs.declared.rows.TheConstants as row;
 ghost use Rattle.b2_atom.specs.declared.forms.Start.TheVariants as start;
 ghost use Rattle.b2_rows.specs.Rows.{is_part, tree_at};
 ghost use Rattle.b2_rows.specs.Optional.{maybe_part, maybe_tree, after_maybe};
-ghost use Rattle.b2_access.specs.Partition.{setting_of};
 ghost use Rattle.b2_stmt_io.specs.LineReading as spec;
 ghost use Rattle.b2_stmt_io.specs.Marks.{typed_by_mark};
 
 use crate::marks::typed_by_mark;
 use crate::receiving::bytes_to;
-use b2_access::{Access, Answer, Outcome, Private, goes_or, setting_of};
+use crate::showing::move_column;
+use b2_access::{Access, Outcome, Private};
 use b2_atom::literal_width;
 use b2_base::lexical::dropped;
 use b2_base::{ByteList, Code, NoMemory, Term};
-use b2_print::column_after;
 use b2_rows::{is_at, literal_at};
 use b2_text::Text;
 use b2_vars::{Setting, Vars};
@@ -79,7 +78,7 @@ pub fn ask_linput(
 
 /// Assigns a line to the receiver of LINPUT.
 #[tactic(auto, using(crate::proofs::PromptRows::linput_prompt, crate::proofs::PromptRows::linput_receiver, crate::proofs::PromptRows::linput_is))]
-fn assign_line(
+pub fn assign_line(
     vars: &mut Vars,
     a: &Setting,
     home: &Text,
@@ -97,7 +96,7 @@ pub fn prompt_shown(me: &mut Private, bytes: &[u8]) -> Outcome
     ensures ended { record { me = me.new; outcome = result } ≡ spec.prompted bytes.now me.old }
     ensures part { me.new.part ≡ me.old.part }
 {
-    me.term_column = column_after(me.term_column, bytes);
+    move_column(me, bytes);
     me.prompted = true;
     Outcome::Repeat
 }
@@ -111,31 +110,4 @@ pub fn type_literal(alloc: Global, me: &mut Private, own: &Text, n: u8) -> Resul
         me.literal = Some(ByteList::from_slice(alloc, text)?);
     }
     Ok(Outcome::Repeat)
-}
-
-/// How LINPUT finishes.
-pub fn after_linput(
-    alloc: Global,
-    me: &mut Private,
-    own: &Text,
-    home: &Text,
-    access: &Access,
-    answer: &Answer,
-    unit: &[u8],
-) -> Result<Outcome, NoMemory>
-    requires part { is_part row.LINPUT unit.now ≡ true }
-    ensures ended { IfOk result (λ o. record { me = me.new; outcome = o } ≡ spec.line_answered (λ line vars. spec.takes_line (setting_of me.old) home.now line (tree_at row.LINPUT unit.now) vars) access.now answer.now own.now.lines me.old) }
-    ensures part { me.new.part ≡ me.old.part }
-{
-    match (access, answer) {
-        (Access::Show { bytes, .. }, Answer::Done) => Ok(prompt_shown(me, bytes.bytes())),
-        (_, Answer::Line(line)) => {
-            let setting = setting_of(me);
-            let code = assign_line(&mut me.vars, &setting, home, line.bytes(), unit)?;
-            me.term_column = 0;
-            Ok(goes_or(Outcome::Next, code))
-        }
-        (_, Answer::Special(n)) => type_literal(alloc, me, own, *n),
-        _ => Ok(Outcome::Repeat),
-    }
 }

@@ -12,9 +12,9 @@ ghost use Rattle.b2_stmt_io.specs.Plan as spec;
 
 use crate::converting::convert_unit;
 use crate::imaging::ask_using;
-use crate::inputs::{after_input, ask_input};
+use crate::inputs::{after_line, ask_input};
 use crate::keys::after_key;
-use crate::line_reading::{after_linput, ask_linput};
+use crate::line_reading::ask_linput;
 use crate::showing::{after_show, ask_print};
 use b2_access::{
     Access, Answer, DeviceTable, Lent, Outcome, Planned, Private, failed, goes_or, setting_of,
@@ -124,8 +124,9 @@ fn finish_program(
     match unit.row {
         rows::PRINT | rows::PRINTUSING => Ok(after_show(me, access, answer)),
         rows::KEYIN => after_key(me, home, place, answer, bytes),
-        rows::LINPUT => after_linput(alloc, me, own, home, access, answer, bytes),
-        rows::INPUT => after_input(alloc, me, own, home, access, answer, bytes),
+        rows::LINPUT | rows::INPUT => {
+            after_line(alloc, me, own, home, access, answer, unit.row, bytes)
+        }
         _ => Ok(Outcome::Repeat),
     }
 }

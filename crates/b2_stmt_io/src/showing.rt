@@ -29,14 +29,22 @@ pub fn ask_print(alloc: Global, e: &Env<'_>, column: u16, unit: &[u8]) -> Result
     }
 }
 
-/// How PRINT and PRINTUSING finish.
+/// The column of the terminal moves by bytes that were shown.
+pub fn move_column(me: &mut Private, bytes: &[u8])
+    ensures changed { me.new ≡ spec.with_column bytes.now me.old }
+    ensures part { me.new.part ≡ me.old.part }
+{
+    me.term_column = column_after(me.term_column, bytes);
+}
+
+/// How a statement that shows bytes finishes, as PRINT, PRINTUSING and LIST.
 pub fn after_show(me: &mut Private, access: &Access, answer: &Answer) -> Outcome
     ensures ended { record { me = me.new; outcome = result } ≡ spec.shown access.now answer.now me.old }
     ensures part { me.new.part ≡ me.old.part }
 {
     match (access, answer) {
         (Access::Show { bytes, .. }, Answer::Done) => {
-            me.term_column = column_after(me.term_column, bytes.bytes());
+            move_column(me, bytes.bytes());
             Outcome::Next
         }
         _ => Outcome::Repeat,

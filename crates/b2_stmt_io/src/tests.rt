@@ -5,7 +5,9 @@ ghost use Rattle.std.specs.Prelude.{◌≤◌};
 mod rows;
 
 use crate::{finish, plan};
-use b2_access::{Access, Answer, DeviceTable, Lent, Outcome, Planned, Private, place_after};
+use b2_access::{
+    Access, Answer, DeviceTable, Lent, Outcome, Planned, Private, line_named, place_after,
+};
 use b2_atom::rows::CONDITION;
 use b2_atom::words::Origin;
 use b2_atom::{Atoms, Cursor};
@@ -81,15 +83,9 @@ fn moved(me: &Private, text: &Text, place: Place) -> Option<Place> {
     if place.unit == 255 {
         return None;
     }
-    match place.line {
-        Some(n) => match text.line(n) {
-            Some(line) => place_after(text, line.atoms, place),
-            None => None,
-        },
-        None => match &me.immediate {
-            Some(line) => place_after(text, line, place),
-            None => None,
-        },
+    match line_named(&me.immediate, text, place.line) {
+        Some(line) => place_after(text, line, place),
+        None => None,
     }
 }
 
