@@ -4,4 +4,5 @@ pub mod Scales
 pub mod Spellings
 pub mod Longest
 pub mod ReadBack
+pub mod ShownBack
 pub mod Spaced

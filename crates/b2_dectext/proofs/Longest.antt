@@ -2,7 +2,7 @@
 use Rattle.std.proofs.Common.{Result, Bool, ◌≡◌, ℕ, suc, ◌+◌, ◌<◌, ◌≤◌, ◌==◌, min, true, false, List, [], ◌∷◌, ◌++◌, length, take, drop, Option, Some, None, refl, sym, ap, ap₂, ◌∙◌, subst, arith, ne_eqb, append_assoc, length-append}
 use Rattle.std.proofs.Math.Seq.{drop-append_seam, take-append_seam}
 use Rattle.std.proofs.lemmas.Bool.{eqb-false}
-use Rattle.std.proofs.lemmas.List.{length-take-le, take-append-drop}
+use Rattle.std.proofs.lemmas.List.{append-nil, length-take-le, take-append-drop}
 use Rattle.b2_base.specs.Byte as byte
 use Rattle.b2_base.specs.Lexical.{is_digit, digits_width, first}
 use Rattle.b2_dec.specs.Number.{Number}
@@ -187,9 +187,11 @@ longest-read text = record {
       omega (arith, long, least, same);
 }
 
--- A spelling without an exponent is read whole.
-abbrev pub plain : Sign → List ℕ → Option (List ℕ) → Spelling
-plain g w f = record { sign = g; whole = w; fraction = f; exponent_sign = grammar.unsigned; exponent = [] }
+-- What may follow the digits: nothing, or an exponent that is read whole.
+record IsEnd (r : List ℕ) : Type 0 where
+  digits : digits_width r ≡ 0
+  point : (first r == byte.point) ≡ false
+  len : exponent_len r ≡ length r
 
 pub record IsReadWhole (text : List ℕ) (number : Result Number ℕ) : Type 0 where
   pub len : number_len text ≡ length text
@@ -201,16 +203,16 @@ sign-begins grammar.unsigned t h = h.minus
 sign-begins grammar.plus t h = refl
 sign-begins grammar.minus t h = refl
 
-whole-exact : (w : List ℕ) (f : Option (List ℕ)) → AreDigits w → AreDigits (fraction_digits f) → digits_width (w ++ (point_text f ++ [])) ≡ length w
-whole-exact w None hw hf = omega (arith, digits_width-append w [] hw)
-whole-exact w (Some fs) hw hf = let p = pointed w fs [] hw hf in p.digits
+whole-exact : (w r : List ℕ) (f : Option (List ℕ)) → AreDigits w → AreDigits (fraction_digits f) → digits_width r ≡ 0 → digits_width (w ++ (point_text f ++ r)) ≡ length w
+whole-exact w r None hw hf stop = omega (arith, digits_width-append w r hw)
+whole-exact w r (Some fs) hw hf stop = let p = pointed w fs r hw hf in p.digits
 
-fraction-exact : (f : Option (List ℕ)) → AreDigits (fraction_digits f) → fraction_part (point_text f ++ []) ≡ fraction_digits f
+fraction-exact : (f : Option (List ℕ)) (r : List ℕ) → AreDigits (fraction_digits f) → IsEnd r → fraction_part (point_text f ++ r) ≡ fraction_digits f
 unfolding fraction_part
-fraction-exact None hf = refl
-fraction-exact (Some fs) hf =
-    let n : digits_width (fs ++ []) ≡ length fs = omega (arith, digits_width-append fs [] hf) in
-    ap (λ k. take k (fs ++ [])) n ∙ take-append_seam fs []
+fraction-exact None r hf end = rw end.point refl
+fraction-exact (Some fs) r hf end =
+    let n : digits_width (fs ++ r) ≡ length fs = omega (arith, digits_width-append fs r hf, end.digits) in
+    ap (λ k. take k (fs ++ r)) n ∙ take-append_seam fs r
 
 made : Bool → List ℕ → List ℕ → List ℕ → Parts
 made neg w f rest = record { neg = neg; whole = w; fraction = f; exponent_neg = (first (drop 1 rest) == byte.minus); exponent = exponent_digits rest }
@@ -229,41 +231,95 @@ unfolding parts_of made
 parts-made text body same =
     ap (λ u. made (first text == byte.minus) (whole_part u) (fraction_part (drop (digits_width u) u)) (drop (mantissa_len u) u)) same
 
-made-plain : (g : Sign) (w : List ℕ) (f : Option (List ℕ)) → made (is_minus g) w (fraction_digits f) [] ≡ parts (plain g w f)
-unfolding made
-made-plain g w f = ap (λ e. record { neg = is_minus g; whole = w; fraction = fraction_digits f; exponent_neg = false; exponent = e }) no_exponent
-
 whole_part-is : (w r : List ℕ) → digits_width (w ++ r) ≡ length w → whole_part (w ++ r) ≡ w
 unfolding whole_part
 whole_part-is w r n = ap (λ k. take k (w ++ r)) n ∙ take-append_seam w r
 
-pub plain-read : (g : Sign) (w : List ℕ) (f : Option (List ℕ)) → AreDigits w → AreDigits (fraction_digits f) → 0 < length w + length (fraction_digits f)
-    → IsReadWhole (spelled (plain g w f)) (parts_value (parts (plain g w f)))
+-- Such a text is read whole.
+whole-read : (g : Sign) (w r : List ℕ) (f : Option (List ℕ)) → AreDigits w → AreDigits (fraction_digits f) → 0 < length w + length (fraction_digits f) → IsEnd r
+    → IsReadWhole (sign_text g ++ (w ++ (point_text f ++ r))) (parts_value (made (is_minus g) w (fraction_digits f) r))
 unfolding number_len
-plain-read g w f hw hf some =
-    let rest : List ℕ = point_text f ++ [] in
+whole-read g w r f hw hf some end =
+    let rest : List ℕ = point_text f ++ r in
     let body : List ℕ = w ++ rest in
     let text : List ℕ = sign_text g ++ body in
-    let begun : IsBody body = body-begins w f [] hw some in
+    let begun : IsBody body = body-begins w f r hw some in
     let sign : sign_len text ≡ length (sign_text g) = sign-skipped g body begun in
     let same : unsigned text ≡ body = unsigned-skipped g body begun in
-    let n : digits_width body ≡ length w = whole-exact w f hw hf in
-    let m : mantissa_len body ≡ length w + length (point_text f) = mantissa-exact w [] f hw hf some refl refl in
-    let end : drop (mantissa_len body) body ≡ [] = ap (λ k. drop k body) m ∙ mantissa-skipped w [] f in
+    let n : digits_width body ≡ length w = whole-exact w r f hw hf end.digits in
+    let m : mantissa_len body ≡ length w + length (point_text f) = mantissa-exact w r f hw hf some end.digits end.point in
+    let left : drop (mantissa_len body) body ≡ r = ap (λ k. drop k body) m ∙ mantissa-skipped w r f in
     let here : drop (digits_width body) body ≡ rest = ap (λ k. drop k body) n ∙ drop-append_seam w rest in
     let found : mantissa_len (unsigned text) ≡ mantissa_len body = ap mantissa_len same in
     let there : (mantissa_len (unsigned text) == 0) ≡ false = ne_eqb _ 0 (λ e. absurd (some_text w f some (omega (arith, m, found, e)))) in
-    let none : exponent_len (drop (mantissa_len (unsigned text)) (unsigned text)) ≡ 0 =
-    ap (λ u. exponent_len (drop (mantissa_len u) u)) same ∙ ap exponent_len end ∙ no_exponent_len in
-    let count : length text ≡ length (sign_text g) + (length w + length (point_text f) + 0) = spelled-length (sign_text g) w (point_text f) [] in
+    let last : exponent_len (drop (mantissa_len (unsigned text)) (unsigned text)) ≡ length r =
+    ap (λ u. exponent_len (drop (mantissa_len u) u)) same ∙ ap exponent_len left ∙ end.len in
+    let count : length text ≡ length (sign_text g) + (length w + length (point_text f) + length r) = spelled-length (sign_text g) w (point_text f) r in
     record {
-      len = rw there (omega (arith, sign, m, found, none, count));
+      len = rw there (omega (arith, sign, m, found, last, count));
       some = let first : mantissa_len (unsigned text) ≡ 0 → ⊥ = eqb-false _ 0 there in rw there (omega arith);
       value = ap parts_value (
           parts-made text body same
           ∙ ap (λ b. made b (whole_part body) (fraction_part (drop (digits_width body) body)) (drop (mantissa_len body) body)) (sign-begins g body begun)
           ∙ ap (λ t. made (is_minus g) t (fraction_part (drop (digits_width body) body)) (drop (mantissa_len body) body)) (whole_part-is w rest n)
-          ∙ ap (λ t. made (is_minus g) w t (drop (mantissa_len body) body)) (ap fraction_part here ∙ fraction-exact f hf)
-          ∙ ap (made (is_minus g) w (fraction_digits f)) end
-          ∙ made-plain g w f);
+          ∙ ap (λ t. made (is_minus g) w t (drop (mantissa_len body) body)) (ap fraction_part here ∙ fraction-exact f r hf end)
+          ∙ ap (made (is_minus g) w (fraction_digits f)) left);
     }
+
+-- A spelling without an exponent is read whole.
+abbrev pub plain : Sign → List ℕ → Option (List ℕ) → Spelling
+plain g w f = record { sign = g; whole = w; fraction = f; exponent_sign = grammar.unsigned; exponent = [] }
+
+made-plain : (g : Sign) (w : List ℕ) (f : Option (List ℕ)) → made (is_minus g) w (fraction_digits f) [] ≡ parts (plain g w f)
+unfolding made
+made-plain g w f = ap (λ e. record { neg = is_minus g; whole = w; fraction = fraction_digits f; exponent_neg = false; exponent = e }) no_exponent
+
+no_end : IsEnd []
+no_end = record { digits = refl; point = refl; len = no_exponent_len }
+
+pub plain-read : (g : Sign) (w : List ℕ) (f : Option (List ℕ)) → AreDigits w → AreDigits (fraction_digits f) → 0 < length w + length (fraction_digits f)
+    → IsReadWhole (spelled (plain g w f)) (parts_value (parts (plain g w f)))
+plain-read g w f hw hf some =
+    subst (λ p. IsReadWhole (spelled (plain g w f)) (parts_value p)) (made-plain g w f) (whole-read g w [] f hw hf some no_end)
+
+-- So is one with an exponent of one or two digits.
+abbrev pub with_exponent : Sign → List ℕ → List ℕ → Sign → ℕ → List ℕ → Spelling
+with_exponent g w fs h d ds = record { sign = g; whole = w; fraction = Some fs; exponent_sign = h; exponent = d ∷ ds }
+
+all-taken : (xs : List ℕ) → take (length xs) xs ≡ xs
+all-taken xs = ap (take (length xs)) (sym (append-nil xs)) ∙ take-append_seam xs []
+
+exponent-digits-exact : (h : Sign) (d : ℕ) (ds : List ℕ) → AreDigits (d ∷ ds) → length (d ∷ ds) ≤ 2 → exponent_digits (exponent_text h (d ∷ ds)) ≡ d ∷ ds
+unfolding exponent_digits
+exponent-digits-exact h d ds digits few =
+    let all : List ℕ = d ∷ ds in
+    let rest : unsigned (sign_text h ++ all) ≡ all = unsigned-skipped h all (digit_body d ds (first_digit d ds digits)) in
+    let counted : digits_width (all ++ []) ≡ length all = omega (arith, digits_width-append all [] digits) in
+    let width : digits_width all ≡ length all = ap digits_width (sym (append-nil all)) ∙ counted in
+    let count : min (digits_width all) 2 ≡ length all = omega (arith, width, few) in
+    ap (λ u. take (min (digits_width u) 2) u) rest ∙ ap (λ k. take k all) count ∙ all-taken all
+
+exponent-len-exact : (h : Sign) (d : ℕ) (ds : List ℕ) → AreDigits (d ∷ ds) → length (d ∷ ds) ≤ 2 → exponent_len (exponent_text h (d ∷ ds)) ≡ length (exponent_text h (d ∷ ds))
+unfolding exponent_len
+exponent-len-exact h d ds digits few =
+    let all : List ℕ = d ∷ ds in
+    let found : length (exponent_digits (exponent_text h all)) ≡ length all = ap length (exponent-digits-exact h d ds digits few) in
+    let sign : sign_len (sign_text h ++ all) ≡ length (sign_text h) = sign-skipped h all (digit_body d ds (first_digit d ds digits)) in
+    let some : (length (exponent_digits (exponent_text h all)) == 0) ≡ false = ne_eqb _ 0 (λ e. absurd (omega (arith, e, found))) in
+    rw some (omega (arith, sign, found, length-append (sign_text h) all))
+
+exponent_end : (h : Sign) (d : ℕ) (ds : List ℕ) → AreDigits (d ∷ ds) → length (d ∷ ds) ≤ 2 → IsEnd (exponent_text h (d ∷ ds))
+exponent_end h d ds digits few = record { digits = refl; point = refl; len = exponent-len-exact h d ds digits few }
+
+made-with_exponent : (g : Sign) (w fs : List ℕ) (h : Sign) (d : ℕ) (ds : List ℕ) → AreDigits (d ∷ ds) → length (d ∷ ds) ≤ 2
+    → made (is_minus g) w fs (exponent_text h (d ∷ ds)) ≡ parts (with_exponent g w fs h d ds)
+unfolding made
+made-with_exponent g w fs h d ds digits few =
+    let body : IsBody (d ∷ ds) = digit_body d ds (first_digit d ds digits) in
+    ap₂ (λ s e. record { neg = is_minus g; whole = w; fraction = fs; exponent_neg = s; exponent = e }) (sign-begins h (d ∷ ds) body) (exponent-digits-exact h d ds digits few)
+
+pub with_exponent-read : (g : Sign) (w fs : List ℕ) (h : Sign) (d : ℕ) (ds : List ℕ) → AreDigits w → AreDigits fs → 0 < length w + length fs
+    → AreDigits (d ∷ ds) → length (d ∷ ds) ≤ 2 → IsReadWhole (spelled (with_exponent g w fs h d ds)) (parts_value (parts (with_exponent g w fs h d ds)))
+with_exponent-read g w fs h d ds hw hf some digits few =
+    subst (λ p. IsReadWhole (spelled (with_exponent g w fs h d ds)) (parts_value p)) (made-with_exponent g w fs h d ds digits few)
+    (whole-read g w (exponent_text h (d ∷ ds)) (Some fs) hw hf some (exponent_end h d ds digits few))

@@ -1,5 +1,5 @@
 -- A number that is shown without an exponent is read back.
-use Rattle.std.proofs.Common.{◌≡◌, ℕ, zero, suc, ◌+◌, ◌-◌, ◌*◌, ◌/◌, ◌%◌, ◌^◌, ◌<◌, ◌≤◌, ◌==◌, ◌&&◌, nat_le, Bool, true, false, if◌then◌else◌, List, [], ◌∷◌, ◌++◌, length, take, drop, reverse, get_or, Option, Some, None, Result, Ok, refl, sym, ap, ap₂, ◌∙◌, subst, arith, lit<, one-add, append_assoc, length-append, le-leb, eqb-true, eq-eqb, ne_eqb, pow-add, mod-lt, mod-eq_of_lt, mul_assoc, inl, inr}
+use Rattle.std.proofs.Common.{◌≡◌, ℕ, zero, suc, ◌+◌, ◌-◌, ◌*◌, ◌/◌, ◌%◌, ◌^◌, ◌<◌, ◌≤◌, ◌==◌, ◌&&◌, nat_le, Bool, true, false, if◌then◌else◌, List, [], ◌∷◌, ◌++◌, length, take, drop, reverse, get_or, Option, Some, None, Result, Ok, refl, sym, ap, ap₂, ◌∙◌, subst, arith, lit<, one-add, append_assoc, length-append, le-leb, eqb-true, eq-eqb, pow-add, mod-lt, mod-eq_of_lt, mul_assoc, inl, inr}
 use native.Mathlib.Nat.{pow-succ'}
 use Rattle.std.proofs.Math.Arith.{mod-mul}
 use Rattle.std.proofs.Math.Seq.{take-append_seam}
@@ -15,7 +15,7 @@ use Rattle.b2_dec.specs.Rounding.{rnd}
 use Rattle.b2_dec.proofs.TenLemmas.{ten_pos}
 use Rattle.b2_dec.proofs.Exact.{rnd-digits, in_range-number, rnd-zero}
 use Rattle.b2_dec.proofs.Ranks.{thirteen}
-use Rattle.b2_dectext.specs.NumberText.{number_len, number_read, in_result, parts_value}
+use Rattle.b2_dectext.specs.NumberText.{parts_value}
 use Rattle.b2_dectext.specs.Printed.{after_point, with_point, is_plain, shown_size, without_spaces, printed}
 use Rattle.b2_dectext.specs.Grammar.{Sign, Spelling, sign_text, point_text, spelled, fraction_digits, parts, is_minus}
 use Rattle.b2_dectext.specs.Grammar as grammar
@@ -23,7 +23,7 @@ use Rattle.b2_dectext.proofs.Longest.{plain, plain-read, IsReadWhole}
 use Rattle.b2_dectext.specs.Digits.{digit_byte, digit_bytes, without_last_zeros, AreDigits, value_after, digits_value}
 
 -- The last k digits of n write n, where it has no more.
-digit_bytes-value : (k m n : ℕ) → value_after m (digit_bytes k n) ≡ m * 10 ^ k + n % 10 ^ k
+pub digit_bytes-value : (k m n : ℕ) → value_after m (digit_bytes k n) ≡ m * 10 ^ k + n % 10 ^ k
 unfolding digit_bytes
 digit_bytes-value zero m n = omega arith
 digit_bytes-value (suc k) m n =
@@ -33,7 +33,7 @@ digit_bytes-value (suc k) m n =
     let plain : 48 + d - 48 ≡ d = omega arith in
     rest ∙ ap (λ e. (10 * m + e) * 10 ^ k + n % 10 ^ k) plain ∙ rw (pow-succ' 10 k, parted) (omega arith)
 
-digit_bytes-length : (k n : ℕ) → length (digit_bytes k n) ≡ k
+pub digit_bytes-length : (k n : ℕ) → length (digit_bytes k n) ≡ k
 unfolding digit_bytes
 digit_bytes-length zero n = refl
 digit_bytes-length (suc k) n = ap suc (digit_bytes-length k n)
@@ -101,19 +101,19 @@ without_last_zeros-split ds =
     let front : without_last_zeros ds ≡ kept = ap (take (length ds - n)) all ∙ ap (λ k. take k (kept ++ zeros n)) (sym long) ∙ take-append_seam kept (zeros n) in
     all ∙ ap (λ t. t ++ zeros n) (sym front)
 
-sign_for : Bool → Sign
+pub sign_for : Bool → Sign
 sign_for neg = if neg then grammar.minus else grammar.unsigned
 
 fraction_for : List ℕ → Option (List ℕ)
 fraction_for [] = None
 fraction_for (d ∷ ds) = Some (d ∷ ds)
 
-sign_for-text : (neg : Bool) → sign_text (sign_for neg) ≡ (if neg then 45 ∷ [] else [])
+pub sign_for-text : (neg : Bool) → sign_text (sign_for neg) ≡ (if neg then 45 ∷ [] else [])
 unfolding sign_for
 sign_for-text true = refl
 sign_for-text false = refl
 
-sign_for-minus : (neg : Bool) → is_minus (sign_for neg) ≡ neg
+pub sign_for-minus : (neg : Bool) → is_minus (sign_for neg) ≡ neg
 unfolding sign_for
 sign_for-minus true = refl
 sign_for-minus false = refl
@@ -128,7 +128,7 @@ unfolding fraction_for
 fraction_for-digits [] = refl
 fraction_for-digits (d ∷ ds) = refl
 
-take_digits : (n : ℕ) (ds : List ℕ) → AreDigits ds → AreDigits (take n ds)
+pub take_digits : (n : ℕ) (ds : List ℕ) → AreDigits ds → AreDigits (take n ds)
 take_digits n ds h = record {
   each = λ k below.
       let within : k < n = omega (arith, length-take n ds) in
@@ -136,7 +136,7 @@ take_digits n ds h = record {
       ap is_digit (get_or-take n ds k 0 within) ∙ h.each k there;
 }
 
-drop_digits : (n : ℕ) (ds : List ℕ) → AreDigits ds → AreDigits (drop n ds)
+pub drop_digits : (n : ℕ) (ds : List ℕ) → AreDigits ds → AreDigits (drop n ds)
 drop_digits n ds h = record {
   each = λ k below.
       let there : n + k < length ds = omega (arith, length-drop n ds) in
@@ -184,23 +184,24 @@ shown-some n c few small least =
           absurd (omega arith)
     ]
 
--- thirteen digits, of which the last ones are left out, in units of their place
-shown-number : (x : Number) (m z k : ℕ) → 1000000000000 ≤ x.coef → IsNumber x → m * 10 ^ z ≡ x.coef → k + z + x.place ≡ 111
-    → rnd Round x.neg (m * 10 ^ 0) (10 ^ (k + 0)) ≡ Ok x
-shown-number x m z k least h value place =
-    let up : 10 ^ z * (10 ^ (x.place + 111) * 10 ^ (k + 0)) ≡ 10 ^ 222 =
-    ap (λ t. 10 ^ z * t) (sym (pow-add 10 (x.place + 111) (k + 0))) ∙ sym (pow-add 10 z (x.place + 111 + (k + 0)))
-    ∙ ap (λ t. 10 ^ t) (let sum : z + (x.place + 111 + (k + 0)) ≡ 222 = omega arith in sum) in
-    let exact : x.coef * (10 ^ (x.place + 111) * 10 ^ (k + 0)) ≡ m * 10 ^ 0 * 10 ^ 222 =
-    ap (λ c. c * (10 ^ (x.place + 111) * 10 ^ (k + 0))) (sym value) ∙ mul_assoc m (10 ^ z) (10 ^ (x.place + 111) * 10 ^ (k + 0)) ∙ ap (λ t. m * t) up ∙ omega arith in
-    rnd-digits Round x.neg x.coef (x.place + 111) (m * 10 ^ 0) (10 ^ (k + 0)) least h.digits (omega arith) (ten_pos (k + 0)) exact
+-- Thirteen digits, of which the last ones are left out, in units of their place, times ten as often as an exponent says.
+pub shown-number : (x : Number) (m z up down : ℕ) → 1000000000000 ≤ x.coef → IsNumber x → m * 10 ^ z ≡ x.coef → down + z + x.place ≡ 111 + up
+    → rnd Round x.neg (m * 10 ^ up) (10 ^ down) ≡ Ok x
+shown-number x m z up down least h value place =
+    let tens : 10 ^ z * (10 ^ (x.place + 111) * 10 ^ down) ≡ 10 ^ up * 10 ^ 222 =
+    ap (λ t. 10 ^ z * t) (sym (pow-add 10 (x.place + 111) down)) ∙ sym (pow-add 10 z (x.place + 111 + down))
+    ∙ ap (λ t. 10 ^ t) (let sum : z + (x.place + 111 + down) ≡ up + 222 = omega arith in sum) ∙ pow-add 10 up 222 in
+    let exact : x.coef * (10 ^ (x.place + 111) * 10 ^ down) ≡ m * 10 ^ up * 10 ^ 222 =
+    ap (λ c. c * (10 ^ (x.place + 111) * 10 ^ down)) (sym value) ∙ mul_assoc m (10 ^ z) (10 ^ (x.place + 111) * 10 ^ down) ∙ ap (λ t. m * t) tens
+    ∙ sym (mul_assoc m (10 ^ up) (10 ^ 222)) in
+    rnd-digits Round x.neg x.coef (x.place + 111) (m * 10 ^ up) (10 ^ down) least h.digits (omega arith) (ten_pos down) exact
     ∙ in_range-number x h.highest
 
 both : (a b : Bool) → (a && b) ≡ true → (a ≡ true) × (b ≡ true)
 both true b e = (refl, e)
 both false b e = absurd (cc)
 
-read_as : (text other : List ℕ) (x y : Result Number ℕ) → other ≡ text → x ≡ y → IsReadWhole other x → IsReadWhole text y
+pub read_as : (text other : List ℕ) (x y : Result Number ℕ) → other ≡ text → x ≡ y → IsReadWhole other x → IsReadWhole text y
 read_as text other x y same number h = subst (λ t. IsReadWhole t y) same (subst (IsReadWhole other) number h)
 
 zero-shown : spelled (plain grammar.unsigned (48 ∷ []) None) ≡ without_spaces zero_number
@@ -246,12 +247,12 @@ number-back x h some low high =
     let least : 1000000000000 ≤ x.coef = thirteen x h (λ e. let zero_there : (x.coef == 0) ≡ true = eq-eqb x.coef 0 e in absurd (cc (some, zero_there))) in
     let value : digits_value (w ++ t) * 10 ^ z ≡ x.coef = shown-digits n x.coef few h.digits in
     let count : length t + z ≡ 13 - n = shown-count n x.coef few in
-    let place : length t + z + x.place ≡ 111 = omega arith in
+    let place : length t + 0 + z + x.place ≡ 111 + 0 = omega arith in
     let fraction : fraction_digits (fraction_for t) ≡ t = fraction_for-digits t in
     let rest_digits : AreDigits t = take_digits _ (drop n ds) (drop_digits n ds (are_digits 13 x.coef)) in
     let long : length w ≡ n = length-take-le n ds (omega (arith, digit_bytes-length 13 x.coef)) in
     let any : 0 < length w + length (fraction_digits (fraction_for t)) = rw fraction (omega (arith, long, shown-some n x.coef few h.digits least)) in
-    read_as _ _ _ _ (number-shown x some low high) (number-value x w t (shown-number x (digits_value (w ++ t)) z (length t) least h value place))
+    read_as _ _ _ _ (number-shown x some low high) (number-value x w t (shown-number x (digits_value (w ++ t)) z 0 (length t + 0) least h value place))
     (plain-read (sign_for x.neg) w (fraction_for t) (take_digits n ds (are_digits 13 x.coef)) (subst AreDigits (sym fraction) rest_digits) any)
 
 -- Every number that is shown without an exponent is read back.
@@ -266,16 +267,6 @@ plain-back x h plainly =
           let sides = both (nat_le 98 x.place) (nat_le x.place 111) range in
           number-back x h some (leb-true 98 x.place sides.0) (leb-true x.place 111 sides.1)
     ]
-
-pub plain-len : (x : Number) → IsNumber x → is_plain x ≡ true → number_len (without_spaces x) ≡ length (without_spaces x)
-plain-len x h plainly = let read = plain-back x h plainly in read.len
-
-pub plain-number : (x : Number) → IsNumber x → is_plain x ≡ true → number_read (without_spaces x) ≡ Some x
-unfolding number_read
-plain-number x h plainly =
-    let read = plain-back x h plainly in
-    let other : (number_len (without_spaces x) == 0) ≡ false = ne_eqb _ 0 (λ e. absurd (omega (arith, read.some, e))) in
-    rw other (ap in_result read.value)
 
 pub printed-spaces : (x : Number) → printed x ≡ (if x.neg then [] else 32 ∷ []) ++ without_spaces x ++ (32 ∷ [])
 unfolding printed

@@ -1,5 +1,5 @@
 -- How a number is shown.
-use Rattle.std.specs.Prelude.{◌≡◌, ℕ, ◌+◌, ◌-◌, ◌==◌, ◌&&◌, ◌||◌, nat_le, nat_lt, Bool, if◌then◌else◌, List, [], ◌∷◌, ◌++◌, length, take, drop}
+use Rattle.std.specs.Prelude.{◌≡◌, ℕ, ◌+◌, ◌-◌, ◌*◌, ◌/◌, ◌==◌, ◌&&◌, ◌||◌, nat_le, nat_lt, Bool, if◌then◌else◌, List, [], ◌∷◌, ◌++◌, length, take, drop}
 use Rattle.b2_base.specs.Byte as byte
 use Rattle.b2_dec.specs.Number.{Number}
 use Rattle.b2_dectext.specs.Digits.{digit_bytes, without_last_zeros}
@@ -48,6 +48,10 @@ without_spaces x = (if x.neg then byte.minus ∷ [] else []) ++ shown_size x
 -- whether a number is shown without an exponent
 abbrev pub is_plain : Number → Bool
 is_plain x = (x.coef == 0) || is_fixed x.place
+
+-- The number that is shown: with an exponent the last four of its thirteen digits are left out, and count as 0.
+abbrev pub as_shown : Number → Number
+as_shown x = if is_plain x then x else record x { coef = x.coef / 10000 * 10000 }
 
 -- A text was put into a place of fixed size: after the first `at` bytes, which stay, as do those after its end.
 pub record IsPut (text : List ℕ) (at : ℕ) (before after : List ℕ) (end : ℕ) : Type 0 where

@@ -4,7 +4,7 @@
 //! `num` counts it with the spaces around it, and `write` gives the printed form of a number. `specs/Grammar.antt` has
 //! the grammar of number text, which number a text is and what the longest one is, `specs/NumberText.antt` the same as
 //! functions of a text, and `specs/Printed.antt` the printed form. `printed_is_read` is the law that joins the two: what
-//! is shown without an exponent is read back.
+//! is shown is read back, as the number that it shows.
 //!
 //! For what reads and writes fields of numbers above it, this crate also has the leading digits of a number that is read digit
 //! by digit (`Leading`), and what a field is made of: a sign, marks for digits, and text at its right end

@@ -3,11 +3,12 @@ use Rattle.std.proofs.Common.{◌≡◌, ℕ, zero, suc, ◌+◌, ◌-◌, ◌<�
 use Rattle.std.proofs.lemmas.Bool.{cases_Bool, cases_lt}
 use Rattle.std.proofs.lemmas.List.{take_at, drop_at, drop-drop}
 use Rattle.b2_base.specs.Lexical.{skip_blanks}
-use Rattle.b2_dec.specs.Number.{Number}
+use Rattle.b2_dec.specs.Number.{Number, IsNumber}
 use Rattle.b2_dec.specs.declared.values.Value.{Value}
 use Rattle.b2_dec.specs.declared.values.Value.TheVariants as value
 use Rattle.b2_dectext.specs.NumberText.{number_len, number_read, sign_len, mantissa_len, fraction_part}
-use Rattle.b2_dectext.specs.Printed.{without_spaces}
+use Rattle.b2_dectext.specs.Printed.{as_shown, without_spaces}
+use Rattle.b2_dectext.proofs.ShownBack.{shown-len, shown-read}
 use Rattle.b2_pack.specs.declared.rows.Row.{Row}
 use Rattle.b2_pack.specs.declared.specification.Field.{Field}
 use Rattle.b2_pack.specs.declared.specification.Field.TheVariants as field
@@ -17,7 +18,7 @@ use Rattle.b2_dectext.specs.FieldParts.{right_aligned}
 use Rattle.b2_pack.specs.FieldValues.{text_number, number_or, as_value, value_code, bytes_in_field, field_value}
 use Rattle.b2_pack.specs.Packing.{Placed, values_code, numbers_bytes}
 use Rattle.b2_pack.specs.Unpacking.{before_items, values_in, numbers_in}
-use Rattle.b2_pack.specs.Laws.{Holds, IsExact, AreExact, kept, all_kept, value_kind, AreSpelled, ReadsAs}
+use Rattle.b2_pack.specs.Laws.{Holds, FieldKeeps, EachFieldKeeps, kept, all_kept, value_kind, AreSpelled}
 use Rattle.b2_pack.proofs.RowLemmas.{row_bytes-length}
 use Rattle.b2_pack.proofs.UnpackedLemmas.{unpacked-packed}
 use Rattle.b2_pack.proofs.PackingLemmas.{code-here, code-fits, code-after}
@@ -62,15 +63,16 @@ some-number text x e =
     wrong : (number_len text == 0) ≡ false → (number_len text == 0) ≡ true → ⊥
     wrong f t = cc
 
-text-back : (width : ℕ) (x : Number) → ReadsAs (without_spaces x) x → text_number (right_aligned width (without_spaces x)) ≡ Ok x
+text-back : (width : ℕ) (x : Number) → IsNumber x → text_number (right_aligned width (without_spaces x)) ≡ Ok (as_shown x)
 text-back width x h =
     let text : List ℕ = without_spaces x in
-    let left : skip_blanks (right_aligned width text) ≡ text = skip-blanks (width - length text) text ∙ no-blank text (some-number text x h.number) in
+    let number : number_read text ≡ Some (as_shown x) = shown-read x h in
+    let left : skip_blanks (right_aligned width text) ≡ text = skip-blanks (width - length text) text ∙ no-blank text (some-number text (as_shown x) number) in
     ap (λ t. if number_len t == length t then number_or 73 (number_read t) else Err 73) left
-    ∙ ap (λ b. if b then number_or 73 (number_read text) else Err 73) (eq-eqb (number_len text) (length text) h.whole)
-    ∙ ap (number_or 73) h.number
+    ∙ ap (λ b. if b then number_or 73 (number_read text) else Err 73) (eq-eqb (number_len text) (length text) (shown-len x h))
+    ∙ ap (number_or 73) number
 
-pub value-back : (f : Field) (v : Value) → value_code f v ≡ None → IsExact f v → field_value f (value_kind v) (bytes_in_field f v) ≡ Ok (kept f v)
+pub value-back : (f : Field) (v : Value) → value_code f v ≡ None → FieldKeeps f v → field_value f (value_kind v) (bytes_in_field f v) ≡ Ok (kept f v)
 value-back (field.Text w) (value.Number x) none exact = ap as_value (text-back w x exact)
 value-back (field.Text w) (value.Alpha a) none exact = absurd (never 74 none)
 value-back (field.Digits d w) (value.Number x) none exact = ap as_value (row-back (digits_row d w) x (fits-if (row_fits (digits_row d w) x) 71 none) exact)
@@ -80,7 +82,7 @@ value-back field.Packed (value.Alpha a) none exact = absurd (never 74 none)
 value-back (field.Alpha w) (value.Number x) none exact = absurd (never 74 none)
 value-back (field.Alpha w) (value.Alpha a) none exact = refl
 
-pub values-back : (ps : List Placed) (vs : List Value) (room : ℕ) (new : List ℕ) → values_code ps vs room ≡ None → length new ≡ room → Holds ps vs new → AreExact ps vs
+pub values-back : (ps : List Placed) (vs : List Value) (room : ℕ) (new : List ℕ) → values_code ps vs room ≡ None → length new ≡ room → Holds ps vs new → EachFieldKeeps ps vs
     → values_in ps (map value_kind vs) new ≡ Ok (all_kept ps vs)
 values-back [] [] room new none long each exact = refl
 values-back (p ∷ ps) [] room new none long each exact = refl

@@ -6,8 +6,7 @@ use Rattle.b2_dec.specs.declared.values.Value.{Value}
 use Rattle.b2_dec.specs.declared.values.Value.TheVariants as value
 use Rattle.b2_dec.specs.declared.values.Kind.{Kind}
 use Rattle.b2_dec.specs.declared.values.Kind.TheVariants as kind
-use Rattle.b2_dectext.specs.NumberText.{number_len, number_read}
-use Rattle.b2_dectext.specs.Printed.{without_spaces}
+use Rattle.b2_dectext.specs.Printed.{as_shown}
 use Rattle.b2_pack.specs.declared.rows.SignNibble.{SignNibble}
 use Rattle.b2_pack.specs.declared.rows.SignNibble.TheVariants.{Absent, Before, After}
 use Rattle.b2_pack.specs.declared.rows.Row.{Row}
@@ -69,23 +68,21 @@ abbrev pub RowsSideBySideKeepNumbers : Type 0
 RowsSideBySideKeepNumbers =
     (row : Row) (xs : List Number) (rest : List ℕ) → AreSpelled row xs → numbers_in row 0 (length xs) (numbers_bytes row xs ++ rest) ≡ Ok xs
 
--- A text is one number, and that number is x.
-pub record ReadsAs (text : List ℕ) (x : Number) : Type 0 where
-  pub whole : number_len text ≡ length text
-  pub number : number_read text ≡ Some x
+-- A field keeps a value: any number as number text, a number whose decimals a row keeps all, any packed number, and any
+-- bytes.
+abbrev pub FieldKeeps : Field → Value → Type 0
+FieldKeeps (field.Text width) (value.Number x) = IsNumber x
+FieldKeeps (field.Digits decimals width) (value.Number x) = IsSpelled (digits_row decimals width) x
+FieldKeeps field.Packed (value.Number x) = IsNumber x
+FieldKeeps (field.Alpha width) (value.Number x) = Unit {0}
+FieldKeeps f (value.Alpha a) = Unit {0}
 
--- A field spells a value exactly: number text that reads as the number, decimals that are all kept, any packed number, and
--- any bytes.
-abbrev pub IsExact : Field → Value → Type 0
-IsExact (field.Text width) (value.Number x) = ReadsAs (without_spaces x) x
-IsExact (field.Digits decimals width) (value.Number x) = IsSpelled (digits_row decimals width) x
-IsExact field.Packed (value.Number x) = IsNumber x
-IsExact (field.Alpha width) (value.Number x) = Unit {0}
-IsExact f (value.Alpha a) = Unit {0}
-
--- what comes back of a value: a number as it is, bytes padded or cut to the width
+-- what comes back of a value: a number as its text shows it, or as it is, bytes padded or cut to the width
 abbrev pub kept : Field → Value → Value
-kept f (value.Number x) = value.Number x
+kept (field.Text width) (value.Number x) = value.Number (as_shown x)
+kept (field.Digits decimals width) (value.Number x) = value.Number x
+kept field.Packed (value.Number x) = value.Number x
+kept (field.Alpha width) (value.Number x) = value.Number x
 kept f (value.Alpha a) = value.Alpha (padded (field_length f) a)
 
 abbrev pub value_kind : Value → Kind
@@ -94,12 +91,12 @@ value_kind (value.Alpha a) = kind.Alpha
 
 -- Such a value comes back out of its field.
 abbrev pub FieldsKeepValues : Type 0
-FieldsKeepValues = (f : Field) (v : Value) → value_code f v ≡ None → IsExact f v → field_value f (value_kind v) (bytes_in_field f v) ≡ Ok (kept f v)
+FieldsKeepValues = (f : Field) (v : Value) → value_code f v ≡ None → FieldKeeps f v → field_value f (value_kind v) (bytes_in_field f v) ≡ Ok (kept f v)
 
-abbrev pub AreExact : List Placed → List Value → Type 0
-AreExact ps [] = Unit {0}
-AreExact [] (v ∷ vs) = Unit {0}
-AreExact (p ∷ ps) (v ∷ vs) = IsExact p.field v × AreExact ps vs
+abbrev pub EachFieldKeeps : List Placed → List Value → Type 0
+EachFieldKeeps ps [] = Unit {0}
+EachFieldKeeps [] (v ∷ vs) = Unit {0}
+EachFieldKeeps (p ∷ ps) (v ∷ vs) = FieldKeeps p.field v × EachFieldKeeps ps vs
 
 abbrev pub all_kept : List Placed → List Value → List Value
 all_kept ps [] = []
@@ -109,7 +106,7 @@ all_kept (p ∷ ps) (v ∷ vs) = kept p.field v ∷ all_kept ps vs
 -- What is packed is unpacked again.
 abbrev pub UnpackingGivesWhatWasPacked : Type 0
 UnpackingGivesWhatWasPacked =
-    (ps : List Placed) (vs : List Value) (old new : List ℕ) → values_code ps vs (length old) ≡ None → Packs ps vs old new → AreExact ps vs
+    (ps : List Placed) (vs : List Value) (old new : List ℕ) → values_code ps vs (length old) ≡ None → Packs ps vs old new → EachFieldKeeps ps vs
     → values_in ps (map value_kind vs) new ≡ Ok (all_kept ps vs)
 
 -- pairs of at least one byte and at most nine decimals

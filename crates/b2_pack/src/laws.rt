@@ -16,7 +16,8 @@ pub fn law_rows_side_by_side_keep_numbers()
     ensures { RowsSideBySideKeepNumbers }
 {}
 
-/// A value comes back out of its field where the field spells it exactly; bytes come back padded or cut to the width.
+/// A value comes back out of a field that keeps it: a number as it is, or as its text shows it, bytes padded or cut to the
+/// width.
 pub fn law_fields_keep_values()
     ensures { FieldsKeepValues }
 {}
