@@ -232,21 +232,11 @@ fn begin_by(
     ensures begun { IfOk result (λ c. record { me = me.new; course = c } ≡ spec.begins place.now me.old (seen_lent lent.entry)) }
     ensures part { me.new.part ≡ me.old.part }
 {
-    let Lent {
-        own,
-        home,
-        globals,
-        found,
-    } = lent;
+    let home = lent.home;
     let Some(builder) = builder_at(me, home, *place) else {
         return Ok(Course::Ended(rest(alloc, me)?));
     };
-    let mut lent = Lent {
-        own,
-        home,
-        globals,
-        found,
-    };
+    let mut lent = lent;
     let planned = plan_by(alloc, me, &mut lent, devices, *place, builder)?;
     begun(alloc, me, home, *place, planned, builder)
 }
@@ -264,24 +254,10 @@ pub fn begin_over(
     ensures begun { IfOk result (λ c. record { me = me.new; course = c } ≡ spec.begins place.now me.old (seen_lent lent.entry)) }
     ensures part { me.new.part ≡ me.old.part }
 {
-    let Lent {
-        own,
-        home,
-        globals,
-        found,
-    } = lent;
-    let ended = begin_at_once(alloc, me, own, home, place)?;
+    let ended = begin_at_once(alloc, me, lent.own, lent.home, place)?;
     match ended {
         Some(end) => Ok(Course::Ended(end)),
-        None => {
-            let lent = Lent {
-                own,
-                home,
-                globals,
-                found,
-            };
-            begin_by(alloc, me, lent, devices, place)
-        }
+        None => begin_by(alloc, me, lent, devices, place),
     }
 }
 
@@ -298,18 +274,8 @@ pub fn finish_over(
     ensures ended { IfOk result (λ e. record { me = me.new; end = e } ≡ spec.finishes builder access.now answer.now place me.old (seen_lent lent.entry)) }
     ensures part { me.new.part ≡ me.old.part }
 {
-    let Lent {
-        own,
-        home,
-        globals,
-        found,
-    } = lent;
-    let mut lent = Lent {
-        own,
-        home,
-        globals,
-        found,
-    };
+    let home = lent.home;
+    let mut lent = lent;
     let outcome = finish_by(alloc, me, &mut lent, builder, access, answer)?;
     settle(alloc, me, home, place, outcome, repeats(answer))
 }

@@ -219,7 +219,8 @@ fn execute_program(
     Ok(Planned::Done(outcome))
 }
 
-/// Executes the unit at a place in the immediate line.
+/// Executes the unit at a place in the immediate line. Its bytes lie in the private state, so what it asks is taken from them
+/// before that state changes: a detour that a unit of the program is spared, whose bytes lie elsewhere.
 fn execute_immediate(
     alloc: Global,
     me: &mut Private,
