@@ -27,7 +27,7 @@ use Rattle.b2_rows.proofs.Optional.{maybe_stands, begun_part, begun_tree, left_o
 use Rattle.b2_expr.specs.Answers.{◌>>=◌}
 use Rattle.b2_expr.specs.Scope.{Context}
 use Rattle.b2_rows.proofs.RowsRead.{stands_of}
-use Rattle.b2_stmt.specs.Arguments.{alpha_argument, argument, arguments, values_before, number_argument, operands_at, operands_of, other_operands, past_number, past_operand, put_after}
+use Rattle.b2_stmt.specs.Arguments.{alpha_argument, argument, arguments, values_before, number_argument, arguments_at, operands_of, other_operands, past_number, put_after}
 use Rattle.b2_rows.proofs.CommaLists.{IsComma, Other, other, item_shorter, items_of_other, no_items_left}
 use Rattle.b2_rows.specs.CommaLists.{commas}
 
@@ -46,7 +46,7 @@ alpha_here t ok is = ReadAs.part (alpha_read t ok is)
 pub alpha_is : (s : Context) (t : Text) → is_part row.OPERAND_OF_ANY_KIND t ≡ true → starts Atoms start.Alpha t ≡ true → argument s (tree_at row.OPERAND_OF_ANY_KIND t) ≡ alpha_argument s (tree_at row.ALPHA t)
 alpha_is s t ok is = ap (argument s) (ReadAs.tree (alpha_read t ok is))
 
-pub alpha_rest : (t : Text) → is_part row.OPERAND_OF_ANY_KIND t ≡ true → starts Atoms start.Alpha t ≡ true → past_operand t ≡ after_part row.ALPHA t
+pub alpha_rest : (t : Text) → is_part row.OPERAND_OF_ANY_KIND t ≡ true → starts Atoms start.Alpha t ≡ true → after_part row.OPERAND_OF_ANY_KIND t ≡ after_part row.ALPHA t
 alpha_rest t ok is = ReadAs.rest (alpha_read t ok is)
 
 pub number_here : (t : Text) → is_part row.OPERAND_OF_ANY_KIND t ≡ true → starts Atoms start.Alpha t ≡ false → is_part row.SUM t ≡ true
@@ -55,7 +55,7 @@ number_here t ok is = ReadAs.part (number_read t ok is)
 pub number_is : (s : Context) (t : Text) → is_part row.OPERAND_OF_ANY_KIND t ≡ true → starts Atoms start.Alpha t ≡ false → argument s (tree_at row.OPERAND_OF_ANY_KIND t) ≡ number_argument s (tree_at row.SUM t)
 number_is s t ok is = ap (argument s) (ReadAs.tree (number_read t ok is))
 
-pub number_rest : (t : Text) → is_part row.OPERAND_OF_ANY_KIND t ≡ true → starts Atoms start.Alpha t ≡ false → past_operand t ≡ after_part row.SUM t
+pub number_rest : (t : Text) → is_part row.OPERAND_OF_ANY_KIND t ≡ true → starts Atoms start.Alpha t ≡ false → after_part row.OPERAND_OF_ANY_KIND t ≡ after_part row.SUM t
 number_rest t ok is = ReadAs.rest (number_read t ok is)
 
 -- further arguments
@@ -69,13 +69,13 @@ Others t = is_list commas row.COMMA_OPERAND t ≡ true
 pub other_part : (t : Text) → Others t → (first t == byte.comma) ≡ true → is_part row.OPERAND_OF_ANY_KIND (drop 1 t) ≡ true
 other_part t ok is = Other.part (other row.COMMA_OPERAND row.OPERAND_OF_ANY_KIND S13_SEPARATOR t comma_row ok is)
 
-pub other_list : (t : Text) → Others t → (first t == byte.comma) ≡ true → Others (past_operand (drop 1 t))
+pub other_list : (t : Text) → Others t → (first t == byte.comma) ≡ true → Others (after_part row.OPERAND_OF_ANY_KIND (drop 1 t))
 other_list t ok is = Other.list (other row.COMMA_OPERAND row.OPERAND_OF_ANY_KIND S13_SEPARATOR t comma_row ok is)
 
-pub operand_shorter : (t : Text) → (first (past_operand t) == byte.comma) ≡ true → length (drop 1 (past_operand t)) < length t
+pub operand_shorter : (t : Text) → (first (after_part row.OPERAND_OF_ANY_KIND t) == byte.comma) ≡ true → length (drop 1 (after_part row.OPERAND_OF_ANY_KIND t)) < length t
 operand_shorter t is = item_shorter row.OPERAND_OF_ANY_KIND t is
 
-other_items : (t : Text) → Others t → (first t == byte.comma) ≡ true → other_operands t ≡ operands_at (drop 1 t)
+other_items : (t : Text) → Others t → (first t == byte.comma) ≡ true → other_operands t ≡ arguments_at (drop 1 t)
 other_items t ok is = items_of_other row.COMMA_OPERAND row.OPERAND_OF_ANY_KIND S13_SEPARATOR Done t comma_row ok is
 
 no_items : (t : Text) → (first t == byte.comma) ≡ false → other_operands t ≡ []
@@ -94,25 +94,25 @@ put_by (Err c) rest old new is = cc
 put_by (Ok x) (Err c) old new is = refl
 put_by (Ok x) (Ok ys) old new is = ap Ok (put_value x old new ys (ok_is (old ++ x ∷ []) new is))
 
-pub one_put : (s : Context) (t : Text) (old new : List Value) → Others (past_operand t) → (first (past_operand t) == byte.comma) ≡ true → put_after old (argument s (tree_at row.OPERAND_OF_ANY_KIND t)) ≡ Ok new
-    → values_before new (arguments s (operands_at (drop 1 (past_operand t)))) ≡ values_before old (arguments s (operands_at t))
+pub one_put : (s : Context) (t : Text) (old new : List Value) → Others (after_part row.OPERAND_OF_ANY_KIND t) → (first (after_part row.OPERAND_OF_ANY_KIND t) == byte.comma) ≡ true → put_after old (argument s (tree_at row.OPERAND_OF_ANY_KIND t)) ≡ Ok new
+    → values_before new (arguments s (arguments_at (drop 1 (after_part row.OPERAND_OF_ANY_KIND t)))) ≡ values_before old (arguments s (arguments_at t))
 one_put s t old new ok is put =
-    sym (ap (λ (ts : List Trees). values_before new (arguments s ts)) (other_items (past_operand t) ok is))
-    ∙ put_by (argument s (tree_at row.OPERAND_OF_ANY_KIND t)) (arguments s (other_operands (past_operand t))) old new put
+    sym (ap (λ (ts : List Trees). values_before new (arguments s ts)) (other_items (after_part row.OPERAND_OF_ANY_KIND t) ok is))
+    ∙ put_by (argument s (tree_at row.OPERAND_OF_ANY_KIND t)) (arguments s (other_operands (after_part row.OPERAND_OF_ANY_KIND t))) old new put
 
-pub last_put : (s : Context) (t : Text) (old new : List Value) → (first (past_operand t) == byte.comma) ≡ false → put_after old (argument s (tree_at row.OPERAND_OF_ANY_KIND t)) ≡ Ok new
-    → values_before old (arguments s (operands_at t)) ≡ Ok new
+pub last_put : (s : Context) (t : Text) (old new : List Value) → (first (after_part row.OPERAND_OF_ANY_KIND t) == byte.comma) ≡ false → put_after old (argument s (tree_at row.OPERAND_OF_ANY_KIND t)) ≡ Ok new
+    → values_before old (arguments s (arguments_at t)) ≡ Ok new
 last_put s t old new is put =
-    sym (put_by (argument s (tree_at row.OPERAND_OF_ANY_KIND t)) (arguments s (other_operands (past_operand t))) old new put)
-    ∙ ap (λ (ts : List Trees). values_before new (arguments s ts)) (no_items (past_operand t) is)
+    sym (put_by (argument s (tree_at row.OPERAND_OF_ANY_KIND t)) (arguments s (other_operands (after_part row.OPERAND_OF_ANY_KIND t))) old new put)
+    ∙ ap (λ (ts : List Trees). values_before new (arguments s ts)) (no_items (after_part row.OPERAND_OF_ANY_KIND t) is)
     ∙ ap Ok (append-nil new)
 
 refused_by : (answer : Result Value ℕ) (rest : Result (List Value) ℕ) (old : List Value) (c : ℕ) → answer ≡ Err c → values_before old (answer >>= (λ x. rest >>= (λ xs. Ok (x ∷ xs)))) ≡ Err c
 refused_by (Ok x) rest old c is = cc
 refused_by (Err d) rest old c is = cc
 
-pub refused : (s : Context) (t : Text) (old : List Value) (c : ℕ) → argument s (tree_at row.OPERAND_OF_ANY_KIND t) ≡ Err c → values_before old (arguments s (operands_at t)) ≡ Err c
-refused s t old c is = refused_by (argument s (tree_at row.OPERAND_OF_ANY_KIND t)) (arguments s (other_operands (past_operand t))) old c is
+pub refused : (s : Context) (t : Text) (old : List Value) (c : ℕ) → argument s (tree_at row.OPERAND_OF_ANY_KIND t) ≡ Err c → values_before old (arguments s (arguments_at t)) ≡ Err c
+refused s t old c is = refused_by (argument s (tree_at row.OPERAND_OF_ANY_KIND t)) (arguments s (other_operands (after_part row.OPERAND_OF_ANY_KIND t))) old c is
 
 -- GOSUB'
 abbrev pub call_items : List Item
@@ -172,10 +172,10 @@ literals_listed t ok = (stands_of row.ARGUMENTS argument_items t argument_row ok
 pub call_first : (t : Text) → is_part row.GOSUB_MARKED t ≡ true → (first (past_number t) == byte.opening) ≡ true → is_part row.OPERAND_OF_ANY_KIND (drop 1 (past_number t)) ≡ true
 call_first t ok is = (stands_of row.OPERANDS operand_items (drop 1 (past_number t)) operand_row (literals_listed (past_number t) (inner t ok is))).0.0
 
-pub call_list : (t : Text) → is_part row.GOSUB_MARKED t ≡ true → (first (past_number t) == byte.opening) ≡ true → Others (past_operand (drop 1 (past_number t)))
+pub call_list : (t : Text) → is_part row.GOSUB_MARKED t ≡ true → (first (past_number t) == byte.opening) ≡ true → Others (after_part row.OPERAND_OF_ANY_KIND (drop 1 (past_number t)))
 call_list t ok is = (stands_of row.OPERANDS operand_items (drop 1 (past_number t)) operand_row (literals_listed (past_number t) (inner t ok is))).0.1.0
 
-pub call_is : (t : Text) → is_part row.GOSUB_MARKED t ≡ true → (first (past_number t) == byte.opening) ≡ true → operands_of (tree_at row.GOSUB_MARKED t) ≡ operands_at (drop 1 (past_number t))
+pub call_is : (t : Text) → is_part row.GOSUB_MARKED t ≡ true → (first (past_number t) == byte.opening) ≡ true → operands_of (tree_at row.GOSUB_MARKED t) ≡ arguments_at (drop 1 (past_number t))
 call_is t ok is =
     Called.operands (called t ok)
     ∙ ap (λ (a : Trees). operands_of (Put (Coded word.GOSUB_PRIME) (Put (Coded 0) a))) (begun_tree (start.Code byte.opening) row.ARGUMENTS (past_number t) (loop_begins (past_number t) true is))

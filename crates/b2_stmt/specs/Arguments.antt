@@ -40,14 +40,11 @@ operands_of (Put word (Put number (In n (Put opening (In m operands close)) end)
 operands_of t = []
 
 -- those at a text, with commas between them
-abbrev pub past_operand : Text → Text
-past_operand t = after_part row.OPERAND_OF_ANY_KIND t
-
 abbrev pub other_operands : Text → List Trees
 other_operands t = further_listed (also (list_at commas row.COMMA_OPERAND t) Done)
 
-abbrev pub operands_at : Text → List Trees
-operands_at t = tree_at row.OPERAND_OF_ANY_KIND t ∷ other_operands (past_operand t)
+abbrev pub arguments_at : Text → List Trees
+arguments_at t = tree_at row.OPERAND_OF_ANY_KIND t ∷ other_operands (after_part row.OPERAND_OF_ANY_KIND t)
 
 -- what stands after the number of a GOSUB'
 abbrev pub past_number : Text → Text

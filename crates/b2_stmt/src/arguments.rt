@@ -5,7 +5,7 @@ ghost use Rattle.b2_rows.specs.Rows.{after_part, is_list, is_part, tree_at};
 ghost use Rattle.b2_expr.specs.Scope.{surroundings};
 ghost use Rattle.b2_expr.specs.Value.{in_statement};
 ghost use Rattle.b2_stmt.specs.Arguments as spec;
-ghost use Rattle.b2_stmt.specs.Arguments.{GivesValues, PutsArgument, operands_at, past_operand};
+ghost use Rattle.b2_stmt.specs.Arguments.{GivesValues, PutsArgument, arguments_at};
 ghost use Rattle.b2_rows.specs.CommaLists.{commas};
 
 use b2_atom::Cursor;
@@ -45,7 +45,7 @@ fn number_at<'a>(e: &Env<'_>, text: &'a [u8]) -> Result<(Value, &'a [u8]), Code>
 #[tactic(auto, using(crate::proofs::ArgumentRows::alpha_here, crate::proofs::ArgumentRows::alpha_is, crate::proofs::ArgumentRows::alpha_rest, crate::proofs::ArgumentRows::number_here, crate::proofs::ArgumentRows::number_is, crate::proofs::ArgumentRows::number_rest))]
 fn argument<'a>(e: &Env<'_>, text: &'a [u8]) -> Result<(Value, &'a [u8]), Code>
     requires part { is_part row.OPERAND_OF_ANY_KIND text.now ≡ true }
-    ensures { MatchResult result (λ p. (spec.argument (in_statement (surroundings e.now)) (tree_at row.OPERAND_OF_ANY_KIND text.now) ≡ Ok p.0) × (p.1.now ≡ past_operand text.now)) (λ code. spec.argument (in_statement (surroundings e.now)) (tree_at row.OPERAND_OF_ANY_KIND text.now) ≡ Err code) }
+    ensures { MatchResult result (λ p. (spec.argument (in_statement (surroundings e.now)) (tree_at row.OPERAND_OF_ANY_KIND text.now) ≡ Ok p.0) × (p.1.now ≡ after_part row.OPERAND_OF_ANY_KIND text.now)) (λ code. spec.argument (in_statement (surroundings e.now)) (tree_at row.OPERAND_OF_ANY_KIND text.now) ≡ Err code) }
 {
     if is_alpha_at(text) {
         literal_bytes_at(e, text)
@@ -57,7 +57,7 @@ fn argument<'a>(e: &Env<'_>, text: &'a [u8]) -> Result<(Value, &'a [u8]), Code>
 /// Puts the value of the argument at a text after others, and gives what stands after it.
 fn put_argument<'a>(e: &Env<'_>, text: &'a [u8], into: &mut Vec<Value>) -> Result<&'a [u8], Fault>
     requires part { is_part row.OPERAND_OF_ANY_KIND text.now ≡ true }
-    ensures { PutsArgument (spec.argument (in_statement (surroundings e.now)) (tree_at row.OPERAND_OF_ANY_KIND text.now)) (past_operand text.now) into.old.items into.new.items result }
+    ensures { PutsArgument (spec.argument (in_statement (surroundings e.now)) (tree_at row.OPERAND_OF_ANY_KIND text.now)) (after_part row.OPERAND_OF_ANY_KIND text.now) into.old.items into.new.items result }
 {
     match argument(e, text) {
         Ok((value, rest)) => match into.push(value) {
@@ -72,8 +72,8 @@ fn put_argument<'a>(e: &Env<'_>, text: &'a [u8], into: &mut Vec<Value>) -> Resul
 #[tactic(auto, using(crate::proofs::ArgumentRows::other_part, crate::proofs::ArgumentRows::other_list, crate::proofs::ArgumentRows::operand_shorter, crate::proofs::ArgumentRows::one_put, crate::proofs::ArgumentRows::last_put, crate::proofs::ArgumentRows::refused))]
 fn arguments(alloc: Global, e: &Env<'_>, text: &[u8]) -> Result<ValueList, Fault>
     requires part { is_part row.OPERAND_OF_ANY_KIND text.now ≡ true }
-    requires list { is_list commas row.COMMA_OPERAND (past_operand text.now) ≡ true }
-    ensures { GivesValues (spec.arguments (in_statement (surroundings e.now)) (operands_at text.now)) result }
+    requires list { is_list commas row.COMMA_OPERAND (after_part row.OPERAND_OF_ANY_KIND text.now) ≡ true }
+    ensures { GivesValues (spec.arguments (in_statement (surroundings e.now)) (arguments_at text.now)) result }
 {
     let mut values = Vec::new(alloc);
     let mut left = text;

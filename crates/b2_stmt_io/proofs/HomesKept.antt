@@ -29,7 +29,7 @@ use Rattle.b2_expr.specs.Value.{context_of}
 use Rattle.b2_stmt_io.specs.Changed.{with_assigned}
 use Rattle.b2_stmt_io.specs.Converting.{converts}
 use Rattle.b2_stmt_io.specs.Inputs.{takes_typed}
-use Rattle.b2_stmt_io.specs.Keys.{first_named, key_leads, key_taken, second_named, key_assigned, waits, without_key}
+use Rattle.b2_stmt_io.specs.Keys.{first_named, key_leads, key_taken, other_named, key_assigned, waits, without_key}
 use Rattle.b2_stmt_io.specs.LineReading.{after_showing, line_answered, types}
 use Rattle.b2_stmt_io.specs.Marks.{typed_by_mark}
 use Rattle.b2_stmt_io.specs.Plan.{asked_of, course, course_at, course_of, finish_ended, ended_at, ended_of, finish, is_refused, plan}
@@ -114,7 +114,7 @@ module _ (among : ℕ → Bool) where
   leads_in special lines p Done k = tt
   leads_in special lines p (Put w t) k = tt
   leads_in special lines p (In n named end) k =
-      let line = if special then second_named named else first_named named in
+      let line = if special then other_named named else first_named named in
       either (OutcomeIn among) (n == 1) _ _ (there_in (line_at line lines) (line_start p line) k) tt
 
   key_in : (key : ℕ) (special : Bool) (home : TextState) (p : Place) (t : Trees) (me : Private) → among p.home ≡ true → Within me → EndedIn (key_assigned key special home p t me)

@@ -22,13 +22,13 @@ abbrev pub first_named : Trees → ℕ
 first_named (Put comma line) = line_in line
 first_named t = 0
 
-abbrev pub second_named : Trees → ℕ
-second_named (Put comma (Put line more)) = first_named more
-second_named t = 0
+abbrev pub other_named : Trees → ℕ
+other_named (Put comma (Put line more)) = first_named more
+other_named t = 0
 
 -- where lines are named a byte leads to the first, and a special function key to the second
 abbrev pub key_leads : Bool → Lines → Place → Trees → Outcome
-key_leads special lines p (In n named end) = if n == 1 then to_line lines p (if special then second_named named else first_named named) else outcome.Next
+key_leads special lines p (In n named end) = if n == 1 then to_line lines p (if special then other_named named else first_named named) else outcome.Next
 key_leads special lines p t = outcome.Next
 
 -- the key, or the number of a special function key, is assigned as one byte, and then it goes on

@@ -17,7 +17,7 @@ use b2_rows::{is_at, line_at};
 use b2_text::Text;
 
 /// The second of two lines with commas before them.
-fn second_named(text: &[u8]) -> &[u8]
+fn other_named(text: &[u8]) -> &[u8]
     ensures { result.now ≡ drop 1 (drop 3 (drop 1 text.now)) }
 {
     dropped(dropped(dropped(text, 1), 3), 1)
@@ -33,7 +33,7 @@ fn key_leads(special: bool, home: &Text, place: Place, text: &[u8]) -> Outcome
         return Outcome::Next;
     }
     if special {
-        to_line(home, place, line_at(second_named(text)))
+        to_line(home, place, line_at(other_named(text)))
     } else {
         to_line(home, place, line_at(dropped(text, 1)))
     }

@@ -7,12 +7,12 @@ use Rattle.b2_stmt_io.proofs.keys.key_leads.Goals as goal
 
 pub line_at-requires : goal.line_at-requires
 line_at-requires c =
-    ap (λ (u : List ℕ). is_leaf leaf.LineNumber u) c.second_named.ensures ∙ second_here c.args.text.now c.requires.part (sym c.if-not-is_at.ensures)
+    ap (λ (u : List ℕ). is_leaf leaf.LineNumber u) c.other_named.ensures ∙ second_here c.args.text.now c.requires.part (sym c.if-not-is_at.ensures)
 
 pub returns-then-special : goal.returns-then-special
 returns-then-special c =
     let lines = c.args.home.now.lines in
-    c.to_line.ensures ∙ ap (to_line lines c.args.place) (c.line_at.ensures.value ∙ ap line_at c.second_named.ensures)
+    c.to_line.ensures ∙ ap (to_line lines c.args.place) (c.line_at.ensures.value ∙ ap line_at c.other_named.ensures)
     ∙ sym (to_second c.args.special lines c.args.place c.args.text.now c.requires.part (sym c.if-not-is_at.ensures) c.if-special.true)
 
 pub returns-else-special : goal.returns-else-special
