@@ -3,20 +3,12 @@ use Rattle.std.specs.Prelude.{◌≡◌, ◌≢◌, ◌≤◌, ◌<◌, ◌-◌,
 use Rattle.std.specs.Int.{w16, bit_at, bit_not}
 use Rattle.std.specs.Cmp.{unsigned_Decides}
 use Rattle.std.proofs.Common.{sym, ap, subst, ◌∙◌, inl, inr, arith}
-use Rattle.std.proofs.Math.Nat.{mod-eq_of_lt}
-use Rattle.std.proofs.Math.Pow.{pow_mono}
 use Rattle.std.proofs.lemmas.Bool.{cases_eq, false_from_ne_true, not_from_false}
 use Rattle.std.proofs.lemmas.Nat.Bits.{bit_at_and, bit_at_or, bit_at-zero, bit_at_ones, bit_at-pow_same, bit_at-pow_other, bit_at_clear_same, bit_at_clear_other, same_from_bits}
 use Rattle.b2_base.specs.Places.{bit_of}
+use Rattle.b2_base.proofs.PartBits.{shifted}
 use Rattle.b2_audit.specs.PartSets.{has, with_part, without_part, has_other}
 use Rattle.b2_audit.specs.Steps.{IsPartition}
-
-in_range : (p : ℕ) → p ≤ 16 → 2 ^ (p - 1) < 65536
-in_range p high = omega (arith, pow_mono {i = p - 1} {j = 15} (omega (arith, high)))
-
--- the bit of a partition as the code shifts it
-shifted : (p : ℕ) → IsPartition p → 1 * 2 ^ (p - 1) % 65536 ≡ bit_of p
-shifted p is = mod-eq_of_lt {n = 1 * 2 ^ (p - 1)} {m = 65536} (omega (arith, in_range p is.1)) ∙ omega arith
 
 -- another partition has another bit
 apart : (p q : ℕ) → IsPartition p → IsPartition q → q ≢ p → q - 1 ≢ p - 1
@@ -26,10 +18,10 @@ place_fits : (p : ℕ) → IsPartition p → p - 1 < 16
 place_fits p is = let a = is.0 in let b = is.1 in omega (arith, a, b)
 
 cleared_same : (s p : ℕ) → IsPartition p → bit_at (without_part s p) (p - 1) ≡ 0
-cleared_same s p is = subst (λ (b : ℕ). bit_at (bit_and s (bit_not w16 b)) (p - 1) ≡ 0) (shifted p is) (bit_at_clear_same w16 s (p - 1) (place_fits p is))
+cleared_same s p is = subst (λ (b : ℕ). bit_at (bit_and s (bit_not w16 b)) (p - 1) ≡ 0) (shifted p is.1) (bit_at_clear_same w16 s (p - 1) (place_fits p is))
 
 cleared_other : (s p i : ℕ) → IsPartition p → i < 16 → i ≢ p - 1 → bit_at (without_part s p) i ≡ bit_at s i
-cleared_other s p i is fits other = subst (λ (b : ℕ). bit_at (bit_and s (bit_not w16 b)) i ≡ bit_at s i) (shifted p is) (bit_at_clear_other w16 s (p - 1) (place_fits p is) i fits other)
+cleared_other s p i is fits other = subst (λ (b : ℕ). bit_at (bit_and s (bit_not w16 b)) i ≡ bit_at s i) (shifted p is.1) (bit_at_clear_other w16 s (p - 1) (place_fits p is) i fits other)
 
 -- without a partition
 pub without_same : (s p : ℕ) → IsPartition p → has (without_part s p) p ≡ false

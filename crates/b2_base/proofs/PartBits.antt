@@ -11,10 +11,12 @@ own_bit true p h same back low_p low_h = subst (λ (x : ℕ). bit_at (2 ^ (p - 1
 own_bit false p h same back low_p low_h =
     bit_at-pow_other (p - 1) (h - 1) (λ e. let bad : false ≡ true = back (omega (arith, e, low_p, low_h)) in cc)
 
-in_range : (p : ℕ) → p ≤ 16 → 2 ^ (p - 1) < 65536
-in_range p high = omega (arith, pow_mono {i = p - 1} {j = 15} (omega (arith, high)))
+-- the bit of a partition as the code shifts it
+pub shifted : (p : ℕ) → p ≤ 16 → 1 * 2 ^ (p - 1) % 65536 ≡ 2 ^ (p - 1)
+shifted p high = mod-eq_of_lt {n = 1 * 2 ^ (p - 1)} {m = 65536} (omega (arith, small)) ∙ omega arith
+  where
+    small : 2 ^ (p - 1) < 65536
+    small = omega (arith, pow_mono {i = p - 1} {j = 15} (omega (arith, high)))
 
 pub mark_bit : (p h : ℕ) → 1 ≤ p → p ≤ 16 → 1 ≤ h → bit_at (1 * 2 ^ (p - 1) % 65536) (h - 1) ≡ (if p == h then 1 else 0)
-mark_bit p h low high low_h =
-    let small : 1 * 2 ^ (p - 1) % 65536 ≡ 2 ^ (p - 1) = mod-eq_of_lt {n = 1 * 2 ^ (p - 1)} {m = 65536} (omega (arith, in_range p high)) ∙ omega arith in
-    rw small (own_bit (p == h) p h (Decides-eqb p h).0 (Decides-eqb p h).1 low low_h)
+mark_bit p h low high low_h = rw (shifted p high) (own_bit (p == h) p h (Decides-eqb p h).0 (Decides-eqb p h).1 low low_h)

@@ -3,8 +3,8 @@
 use Rattle.std.specs.Borrow.{Bor}
 use Rattle.std.specs.Prelude.{◌≡◌, ℕ, ◌%◌, ◌==◌, Bool, List, [], ◌∷◌, ◌++◌, length, Option, Some, None, Result, Ok, Err, if◌then◌else◌}
 use Rattle.b2_base.specs.Lexical.{first, hex_value}
+use Rattle.b2_base.specs.Refusals.{IsRefused}
 use Rattle.b2_base.specs.declared.codes.Fault.{Fault}
-use Rattle.b2_base.specs.declared.codes.Fault.TheVariants as fault
 use Rattle.b2_base.specs.declared.codes.TheConstants.{S18_ALPHA, X75_NOT_DECIMAL}
 use Rattle.b2_alpha.specs.Values.{padded}
 use Rattle.b2_alpha.specs.Bits.{joined_by}
@@ -139,22 +139,17 @@ started (Some bytes) to = padded (length to) bytes
 abbrev pub side_made : Side → List ℕ → SideResult
 side_made side to = made_by side.operations (started side.first to)
 
--- a code in the place of a value; memory may fail wherever some is taken
-abbrev pub Refuses : {A : Type 0} → Result A ℕ → Fault → Type 0
-Refuses answer (fault.Code code) = answer ≡ Err code
-Refuses answer fault.NoMemory = Unit {0}
-
 -- operations that are put after others and what is left of the text, or a code
 abbrev pub PutsOperations : Result (List Operation) ℕ → Text → List Operation → Result (Bor Text) Fault → Type 0
 PutsOperations answer rest new (Ok left) = (answer ≡ Ok new) × (left.now ≡ rest)
-PutsOperations answer rest new (Err f) = Refuses answer f
+PutsOperations answer rest new (Err f) = IsRefused answer f
 
 -- a right side and what is left of the text, or a code
 abbrev pub GivesSide : Result Side ℕ → Text → Result (RightSide × Bor Text) Fault → Type 0
 GivesSide answer rest (Ok p) = (answer ≡ Ok (side_seen p.0)) × (p.1.now ≡ rest)
-GivesSide answer rest (Err f) = Refuses answer f
+GivesSide answer rest (Err f) = IsRefused answer f
 
 -- one at a cursor, which then stands after it; or a code, and then the cursor is as before
 abbrev pub GivesSideAt : Result Side ℕ → Text → Text → Text → Result RightSide Fault → Type 0
 GivesSideAt answer rest old new (Ok side) = (answer ≡ Ok (side_seen side)) × (new ≡ rest)
-GivesSideAt answer rest old new (Err f) = Refuses answer f × (new ≡ old)
+GivesSideAt answer rest old new (Err f) = IsRefused answer f × (new ≡ old)

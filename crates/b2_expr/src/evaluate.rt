@@ -19,7 +19,7 @@ ghost use Rattle.b2_atom.specs.declared.words.Origin.TheVariants.{Atoms};
 ghost use Rattle.b2_rows.specs.Optional.{maybe_part, maybe_tree, after_maybe};
 ghost use Rattle.b2_expr.specs.Functions.{joined_number, joined_text};
 ghost use Rattle.b2_expr.specs.Further.{after_further, are_further, further_tree};
-ghost use Rattle.b2_expr.specs.Levels.{are_lists, ends, has_sign, pick, left_after_levels, row_of_level, spans};
+ghost use Rattle.b2_expr.specs.Levels.{are_lists, ends, left_after_levels, row_of_level, spans};
 ghost use Rattle.b2_expr.specs.Unfinished.{all_completed, have_room, left_after_all, level_after, lists_stand, past_sign, waiting_sign};
 ghost use Rattle.b2_expr.specs.Named.{after_name, is_alpha_kind, name_leaf, name_row, place_seen, variable_of, variables_of};
 ghost use Rattle.b2_expr.specs.Scope.{surroundings};
@@ -36,7 +36,7 @@ use crate::functions::{
 };
 use crate::literals::literal_at;
 use crate::named::{Element, Located, NameKind, Subscripts, variable_of};
-use crate::operators::{Level, Waiting, completed};
+use crate::operators::{Level, Waiting, completed, is_signed, item_level, operator_at};
 use crate::scope::{Env, Parameter, Scope, hidden_by, kept_number};
 use arrayvec::ArrayVec;
 use b2_alpha::value_len;
@@ -50,44 +50,6 @@ use b2_rows::{
     is_hex_at, numeric_name, operand_at, relation_at, row_unit, spells_a_line,
 };
 use b2_vars::Vars;
-
-/// The level of the items that the operators of a level join.
-fn item_level(level: Level) -> Level
-    ensures { result ≡ meaning.item_level level }
-{
-    match level {
-        Level::Sum => Level::Product,
-        Level::Product => Level::Factor,
-        Level::Factor => Level::Power,
-        Level::Power | Level::Operand => Level::Operand,
-    }
-}
-
-/// Whether a sign stands before an item of a level.
-fn is_signed(wanted: Level, byte: u8) -> bool
-    ensures { result ≡ has_sign wanted byte }
-{
-    match wanted {
-        Level::Sum | Level::Product | Level::Factor => byte == b'+' || byte == b'-',
-        Level::Power | Level::Operand => false,
-    }
-}
-
-/// The level of the operator that a byte is, where one of that level may still follow in what is wanted.
-fn operator_at(wanted: Level, top: Level, byte: u8) -> Option<Level>
-    ensures { result ≡ pick (spans wanted top) byte }
-{
-    match (byte, wanted, top) {
-        (b'+' | b'-', Level::Sum, Level::Sum | Level::Product | Level::Power) => Some(Level::Sum),
-        (b'*' | b'/', Level::Sum | Level::Product, Level::Product | Level::Power) => Some(
-            Level::Product,
-        ),
-        (b'^', Level::Sum | Level::Product | Level::Factor | Level::Power, Level::Power) => Some(
-            Level::Power,
-        ),
-        _ => None,
-    }
-}
 
 /// The variables of which a name speaks: X77 where there are no `@` variables.
 pub fn variables_of<'a>(env: &Env<'a>, name: Name) -> Result<&'a Vars, Code>

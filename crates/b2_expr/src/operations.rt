@@ -7,7 +7,7 @@ ghost use Rattle.b2_rows.specs.Rows.{is_part, tree_at, after_part, is_list, list
 ghost use Rattle.b2_vars.specs.Answers.{Answers};
 ghost use Rattle.b2_expr.specs.Reads.{Gives};
 ghost use Rattle.b2_expr.specs.RightSide as spec;
-ghost use Rattle.b2_expr.specs.RightSide.{Refuses, after_right_side, is_right_side, side_made, made_by, operated, operation_start, operator_of, right_side_tree, side_seen};
+ghost use Rattle.b2_expr.specs.RightSide.{after_right_side, is_right_side, side_made, made_by, operated, operation_start, operator_of, right_side_tree, side_seen};
 ghost use Rattle.b2_expr.specs.Value as meaning;
 ghost use Rattle.b2_expr.specs.Value.{context};
 

@@ -1,6 +1,8 @@
-// What joins two numbers, by levels: sums of products of powers; and what compares.
+// The levels of operators: sums of products of powers; what joins two numbers, and two conditions.
 ghost use Rattle.std.specs.Prelude.{◌≡◌, Some};
+ghost use Rattle.b2_expr.specs.Levels.{has_sign, pick, spans};
 ghost use Rattle.b2_expr.specs.Operators.{completed, joined, joined_condition, raised, raised_by, under_sign};
+ghost use Rattle.b2_expr.specs.Value.{item_level};
 
 use b2_atom::words::{AND, OR};
 use b2_base::Code;
@@ -29,6 +31,44 @@ pub struct Waiting {
     pub wanted: Level,
     /// The level of what it makes of the number after it.
     pub made: Level,
+}
+
+/// The level of the items that the operators of a level join.
+pub fn item_level(level: Level) -> Level
+    ensures { result ≡ item_level level }
+{
+    match level {
+        Level::Sum => Level::Product,
+        Level::Product => Level::Factor,
+        Level::Factor => Level::Power,
+        Level::Power | Level::Operand => Level::Operand,
+    }
+}
+
+/// Whether a sign stands before an item of a level.
+pub fn is_signed(wanted: Level, byte: u8) -> bool
+    ensures { result ≡ has_sign wanted byte }
+{
+    match wanted {
+        Level::Sum | Level::Product | Level::Factor => byte == b'+' || byte == b'-',
+        Level::Power | Level::Operand => false,
+    }
+}
+
+/// The level of the operator that a byte is, where one of that level may still follow in what is wanted.
+pub fn operator_at(wanted: Level, top: Level, byte: u8) -> Option<Level>
+    ensures { result ≡ pick (spans wanted top) byte }
+{
+    match (byte, wanted, top) {
+        (b'+' | b'-', Level::Sum, Level::Sum | Level::Product | Level::Power) => Some(Level::Sum),
+        (b'*' | b'/', Level::Sum | Level::Product, Level::Product | Level::Power) => Some(
+            Level::Product,
+        ),
+        (b'^', Level::Sum | Level::Product | Level::Factor | Level::Power, Level::Power) => Some(
+            Level::Power,
+        ),
+        _ => None,
+    }
 }
 
 /// A number to the power of a whole one, which must be from 0 to 255.

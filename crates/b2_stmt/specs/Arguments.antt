@@ -2,8 +2,8 @@
 use Rattle.std.specs.Borrow.{Bor}
 use Rattle.std.specs.Prelude.{◌≡◌, ℕ, ◌==◌, List, [], ◌∷◌, ◌++◌, drop, Result, Ok, Err, if◌then◌else◌}
 use Rattle.b2_base.specs.Lexical.{digits_width}
+use Rattle.b2_base.specs.Refusals.{IsRefused}
 use Rattle.b2_base.specs.declared.codes.Fault.{Fault}
-use Rattle.b2_base.specs.declared.codes.Fault.TheVariants as fault
 use Rattle.b2_base.specs.declared.codes.TheConstants.{S17_NUMERIC}
 use Rattle.b2_dec.specs.declared.values.Value.{Value}
 use Rattle.b2_dec.specs.declared.values.Value.TheVariants as value_kind
@@ -54,11 +54,6 @@ past_number t = drop (digits_width (drop 1 t)) (drop 1 t)
 abbrev pub values_before : List Value → Result (List Value) ℕ → Result (List Value) ℕ
 values_before xs answer = answer >>= (λ ys. Ok (xs ++ ys))
 
--- a code in the place of values; memory may fail
-abbrev pub Refuses : {A : Type 0} → Result A ℕ → Fault → Type 0
-Refuses answer (fault.Code code) = answer ≡ Err code
-Refuses answer fault.NoMemory = Unit {0}
-
 -- a value after others
 abbrev pub put_after : List Value → Result Value ℕ → Result (List Value) ℕ
 put_after xs answer = answer >>= (λ x. Ok (xs ++ x ∷ []))
@@ -66,9 +61,9 @@ put_after xs answer = answer >>= (λ x. Ok (xs ++ x ∷ []))
 -- one that is put there and what is left of the text, or a code
 abbrev pub PutsArgument : Result Value ℕ → Text → List Value → List Value → Result (Bor Text) Fault → Type 0
 PutsArgument answer rest old new (Ok left) = (put_after old answer ≡ Ok new) × (left.now ≡ rest)
-PutsArgument answer rest old new (Err f) = Refuses answer f
+PutsArgument answer rest old new (Err f) = IsRefused answer f
 
 -- values, or a code
 abbrev pub GivesValues : Result (List Value) ℕ → Result (List Value) Fault → Type 0
 GivesValues answer (Ok xs) = answer ≡ Ok xs
-GivesValues answer (Err f) = Refuses answer f
+GivesValues answer (Err f) = IsRefused answer f

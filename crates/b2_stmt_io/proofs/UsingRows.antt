@@ -38,7 +38,6 @@ use Rattle.b2_rows.specs.LineNumbers.{line_in}
 use Rattle.b2_stmt_io.specs.Imaging.{any_value, image_named, is_joined, items_named, items_using, values_joined, line_image, prints_using, values_of, written_image}
 use Rattle.b2_rows.specs.CommaLists.{after_all_listed, commas}
 use Rattle.b2_stmt_io.specs.Operands.{after_operands, after_image, are_operands, image_is_named, items_text, operands_at, operands_tree, past_operand}
-use Rattle.b2_stmt_io.specs.Printing.{Refused}
 use Rattle.b2_stmt_io.proofs.PrintRows.{is_bytes, is_number}
 
 -- a line number, and an image that is written
@@ -200,14 +199,14 @@ using_is s t image ok is =
 pub image_refused : (s : Context) (t : Text) (code : ℕ) → image_named s.around.home.lines (tree_at row.PRINTUSING t) ≡ Err code → prints_using s (tree_at row.PRINTUSING t) ≡ Err code
 image_refused s t code is = ap (λ (r : TextAnswer). r >>= (λ i. items_using s i (items_named (tree_at row.PRINTUSING t)))) is
 
-values_by : (r : Result (List Value) ℕ) (f : List Value → TextAnswer) (e : Fault) → Refused r e → Refused (r >>= f) e
+values_by : (r : Result (List Value) ℕ) (f : List Value → TextAnswer) (e : Fault) → IsRefused r e → IsRefused (r >>= f) e
 values_by r f (fault.Code code) h = ap (λ (q : Result (List Value) ℕ). q >>= f) h
 values_by r f fault.NoMemory h = h
 
 pub values_refused : (s : Context) (t image : Text) (e : Fault) → is_part row.PRINTUSING t ≡ true → image_named s.around.home.lines (tree_at row.PRINTUSING t) ≡ Ok image
-    → Refused (values_of s (operands_at (items_text t))) e → Refused (prints_using s (tree_at row.PRINTUSING t)) e
+    → IsRefused (values_of s (operands_at (items_text t))) e → IsRefused (prints_using s (tree_at row.PRINTUSING t)) e
 values_refused s t image e ok is h =
-    subst (λ (r : TextAnswer). Refused r e) (sym (using_is s t image ok is)) (values_by (values_of s (operands_at (items_text t))) (λ xs. imaged image xs (is_joined (after_all_listed (operands_tree (items_text t))))) e h)
+    subst (λ (r : TextAnswer). IsRefused r e) (sym (using_is s t image ok is)) (values_by (values_of s (operands_at (items_text t))) (λ xs. imaged image xs (is_joined (after_all_listed (operands_tree (items_text t))))) e h)
 
 from_none : (r : Result (List Value) ℕ) (xs : List Value) → values_joined [] r ≡ Ok xs → r ≡ Ok xs
 from_none (Ok ys) xs h = h
@@ -229,12 +228,8 @@ pub using_shown : (s : Context) (t image new : Text) (xs : List Value) (more : B
     → prints_using s (tree_at row.PRINTUSING t) ≡ Ok new
 using_shown s t image new xs more ok is h joint shown = using_valued s t image xs more ok is h joint ∙ sym (shown ∙ onto_none (imaged image xs more))
 
-refused_by : (r : TextAnswer) (e : Fault) → IsRefused r e → Refused r e
-refused_by r (fault.Code code) h = h
-refused_by r fault.NoMemory h = h
-
 pub using_refused : (s : Context) (t image : Text) (xs : List Value) (more : Bool) (e : Fault) → is_part row.PRINTUSING t ≡ true → image_named s.around.home.lines (tree_at row.PRINTUSING t) ≡ Ok image
     → values_joined [] (values_of s (operands_at (items_text t))) ≡ Ok xs → is_joined (after_all_listed (operands_tree (items_text t))) ≡ more → IsRefused (imaged image xs more) e
-    → Refused (prints_using s (tree_at row.PRINTUSING t)) e
+    → IsRefused (prints_using s (tree_at row.PRINTUSING t)) e
 using_refused s t image xs more e ok is h joint unassigned =
-    subst (λ (r : TextAnswer). Refused r e) (sym (using_valued s t image xs more ok is h joint)) (refused_by (imaged image xs more) e unassigned)
+    subst (λ (r : TextAnswer). IsRefused r e) (sym (using_valued s t image xs more ok is h joint)) unassigned

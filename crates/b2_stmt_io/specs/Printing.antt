@@ -4,8 +4,8 @@ use Rattle.std.specs.List.{flat_map}
 use Rattle.std.specs.Borrow.{Bor}
 use Rattle.b2_base.specs.Byte as byte
 use Rattle.b2_base.specs.Lexical.{hex_pair}
+use Rattle.b2_base.specs.Refusals.{IsRefused}
 use Rattle.b2_base.specs.declared.codes.Fault.{Fault}
-use Rattle.b2_base.specs.declared.codes.Fault.TheVariants as fault
 use Rattle.b2_base.specs.declared.codes.TheConstants.{S17_NUMERIC, S22_WORD}
 use Rattle.b2_dectext.specs.Printed.{printed}
 use Rattle.b2_print.specs.Columns.{column_after, passes}
@@ -133,18 +133,11 @@ column_after_items column (it ∷ its) = column_after_items (column_after_shown 
 -- an item that is shown after a text, the column after it and what stands after it; or its code, where memory doesn't fail
 abbrev pub ShowsItem : Result Shown ℕ → Text → ℕ → List ℕ → List ℕ → Result (ℕ × Bor Text) Fault → Type 0
 ShowsItem it rest column old new (Ok p) = ((it >>= (λ x. Ok (old ++ placed column x))) ≡ Ok new) × (((it >>= (λ x. Ok (column_after_shown column x))) ≡ Ok p.0) × (p.1.now ≡ rest))
-ShowsItem it rest column old new (Err (fault.Code code)) = it ≡ Err code
-ShowsItem it rest column old new (Err fault.NoMemory) = Unit {0}
+ShowsItem it rest column old new (Err f) = IsRefused it f
 
 -- the same of an item or none
 abbrev pub ShowsMaybe : Result (Option Shown) ℕ → Text → ℕ → List ℕ → List ℕ → Result (ℕ × Bool × Bor Text) Fault → Type 0
 ShowsMaybe it rest column old new (Ok p) =
     ((it >>= (λ x. Ok (old ++ laid column (items_of x)))) ≡ Ok new)
     × (((it >>= (λ x. Ok (column_after_items column (items_of x)))) ≡ Ok p.0) × (((it >>= (λ x. Ok (is_some x))) ≡ Ok p.1) × (p.2.now ≡ rest)))
-ShowsMaybe it rest column old new (Err (fault.Code code)) = it ≡ Err code
-ShowsMaybe it rest column old new (Err fault.NoMemory) = Unit {0}
-
--- the code that a definition gives, where memory doesn't fail
-abbrev pub Refused : {A : Type 0} → Result A ℕ → Fault → Type 0
-Refused r (fault.Code code) = r ≡ Err code
-Refused r fault.NoMemory = Unit {0}
+ShowsMaybe it rest column old new (Err f) = IsRefused it f

@@ -2,6 +2,7 @@
 ghost use Rattle.std.specs.Prelude.{◌≡◌, ◌==◌, ◌++◌, ◌∷◌, [], true, IfOk, OnOk, MatchResult, Ok, Err};
 ghost use Rattle.b2_base.specs.Byte as byte;
 ghost use Rattle.b2_base.specs.Lexical.{first};
+ghost use Rattle.b2_base.specs.Refusals.{IsRefused};
 ghost use Rattle.b2_atom.specs.declared.rows.TheConstants as row;
 ghost use Rattle.b2_expr.specs.Assigning.{LendsOr};
 ghost use Rattle.b2_expr.specs.Scope.{surroundings};
@@ -12,7 +13,6 @@ ghost use Rattle.b2_stmt_io.specs.Imaging as spec;
 ghost use Rattle.b2_stmt_io.specs.Imaging.{is_joined};
 ghost use Rattle.b2_rows.specs.CommaLists.{after_all_listed};
 ghost use Rattle.b2_stmt_io.specs.Operands.{are_operands, items_text, operands_at, operands_tree, past_operand};
-ghost use Rattle.b2_stmt_io.specs.Printing.{Refused};
 ghost use Rattle.b2_stmt_io.specs.Showing.{shows_bytes};
 
 use b2_access::{Access, Planned, failing};
@@ -104,7 +104,7 @@ fn add(values: &mut Vec<Value>, x: Value) -> Result<(), NoMemory>
 fn values_at<'a>(e: &Env<'_>, text: &'a [u8], values: &mut Vec<Value>) -> Result<&'a [u8], Fault>
     requires part { is_part row.OPERAND_OF_ANY_KIND text.now ≡ true }
     requires list { are_operands (past_operand text.now) ≡ true }
-    ensures { MatchResult result (λ rest. (spec.values_joined values.old.items (spec.values_of (in_statement (surroundings e.now)) (operands_at text.now)) ≡ Ok values.new.items) × (is_joined (after_all_listed (operands_tree text.now)) ≡ (first rest.now == byte.semicolon))) (λ f. Refused (spec.values_of (in_statement (surroundings e.now)) (operands_at text.now)) f) }
+    ensures { MatchResult result (λ rest. (spec.values_joined values.old.items (spec.values_of (in_statement (surroundings e.now)) (operands_at text.now)) ≡ Ok values.new.items) × (is_joined (after_all_listed (operands_tree text.now)) ≡ (first rest.now == byte.semicolon))) (λ f. IsRefused (spec.values_of (in_statement (surroundings e.now)) (operands_at text.now)) f) }
 {
     let (x, mut left) = match any_value(e, text) {
         Ok(found) => found,
@@ -126,7 +126,7 @@ fn values_at<'a>(e: &Env<'_>, text: &'a [u8], values: &mut Vec<Value>) -> Result
 #[tactic(auto, using(crate::proofs::UsingRows::items_part, crate::proofs::UsingRows::items_list, crate::proofs::UsingRows::image_refused, crate::proofs::UsingRows::values_refused, crate::proofs::UsingRows::using_refused, crate::proofs::UsingRows::using_shown))]
 fn shown_using(alloc: Global, e: &Env<'_>, unit: &[u8]) -> Result<ByteList, Fault>
     requires part { is_part row.PRINTUSING unit.now ≡ true }
-    ensures { MatchResult result (λ bytes. spec.prints_using (in_statement (surroundings e.now)) (tree_at row.PRINTUSING unit.now) ≡ Ok bytes) (λ f. Refused (spec.prints_using (in_statement (surroundings e.now)) (tree_at row.PRINTUSING unit.now)) f) }
+    ensures { MatchResult result (λ bytes. spec.prints_using (in_statement (surroundings e.now)) (tree_at row.PRINTUSING unit.now) ≡ Ok bytes) (λ f. IsRefused (spec.prints_using (in_statement (surroundings e.now)) (tree_at row.PRINTUSING unit.now)) f) }
 {
     let image = match image_of(e.home, unit) {
         Ok(image) => image,

@@ -1,6 +1,7 @@
 // What PRINT shows.
 ghost use Rattle.std.specs.Prelude.{◌≡◌, ◌==◌, ◌++◌, true, MatchResult, OnOk, IfOk, Ok};
 ghost use Rattle.b2_base.specs.Byte as byte;
+ghost use Rattle.b2_base.specs.Refusals.{IsRefused};
 ghost use Rattle.b2_dectext.specs.Printed.{printed};
 ghost use Rattle.b2_atom.specs.Grammar.{starts};
 ghost use Rattle.b2_atom.specs.declared.words.Origin.TheVariants.{Atoms};
@@ -12,7 +13,7 @@ ghost use Rattle.b2_expr.specs.Functions.{whole_between, fixed};
 ghost use Rattle.b2_expr.specs.Scope.{surroundings};
 ghost use Rattle.b2_expr.specs.Value.{in_statement};
 ghost use Rattle.b2_stmt_io.specs.Printing as spec;
-ghost use Rattle.b2_stmt_io.specs.Printing.{Refused, ShowsItem, ShowsMaybe, placed, column_after_shown, shown_bytes, blanks_to, digits_of, laid, laid_after, column_after_items, newline_where, zone_where};
+ghost use Rattle.b2_stmt_io.specs.Printing.{ShowsItem, ShowsMaybe, placed, column_after_shown, shown_bytes, blanks_to, digits_of, laid, laid_after, column_after_items, newline_where, zone_where};
 
 use b2_atom::Cursor;
 use b2_atom::words::{HEXOF_OPEN, TAB_OPEN};
@@ -244,7 +245,7 @@ fn show_items(
     out: &mut Vec<u8>,
 ) -> Result<(), Fault>
     requires part { is_part row.PRINT unit.now ≡ true }
-    ensures { MatchResult result (λ done. laid_after out.old.items column (spec.shown_items (in_statement (surroundings e.now)) (tree_at row.PRINT unit.now)) ≡ Ok out.new.items) (λ f. Refused (spec.shown_items (in_statement (surroundings e.now)) (tree_at row.PRINT unit.now)) f) }
+    ensures { MatchResult result (λ done. laid_after out.old.items column (spec.shown_items (in_statement (surroundings e.now)) (tree_at row.PRINT unit.now)) ≡ Ok out.new.items) (λ f. IsRefused (spec.shown_items (in_statement (surroundings e.now)) (tree_at row.PRINT unit.now)) f) }
 {
     let (mut at, _, mut left) = match item_or_none(alloc, e, column, dropped(unit, 1), out) {
         Ok(shown) => shown,
@@ -273,7 +274,7 @@ pub fn shown_by_print(
     unit: &[u8],
 ) -> Result<ByteList, Fault>
     requires part { is_part row.PRINT unit.now ≡ true }
-    ensures { MatchResult result (λ bytes. spec.prints (in_statement (surroundings e.now)) column (tree_at row.PRINT unit.now) ≡ Ok bytes) (λ f. Refused (spec.prints (in_statement (surroundings e.now)) column (tree_at row.PRINT unit.now)) f) }
+    ensures { MatchResult result (λ bytes. spec.prints (in_statement (surroundings e.now)) column (tree_at row.PRINT unit.now) ≡ Ok bytes) (λ f. IsRefused (spec.prints (in_statement (surroundings e.now)) column (tree_at row.PRINT unit.now)) f) }
 {
     let mut out = Vec::new(alloc);
     match show_items(alloc, e, column, unit, &mut out) {

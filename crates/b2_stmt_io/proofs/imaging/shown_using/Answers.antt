@@ -1,4 +1,5 @@
 use Rattle.std.proofs.Common.{◌∙◌, ℕ, List, [], Ok, sym, ap, subst}
+use Rattle.b2_base.specs.Refusals.{IsRefused}
 use Rattle.b2_dec.specs.declared.values.Value.{Value}
 use Rattle.b2_expr.specs.Scope.{surroundings}
 use Rattle.b2_expr.specs.Value.{in_statement}
@@ -6,7 +7,6 @@ use Rattle.b2_print.specs.Imaged.{appended, imaged}
 use Rattle.b2_stmt_io.specs.Imaging.{is_joined, values_joined, values_of}
 use Rattle.b2_rows.specs.CommaLists.{after_all_listed}
 use Rattle.b2_stmt_io.specs.Operands.{operands_at, operands_tree}
-use Rattle.b2_stmt_io.specs.Printing.{Refused}
 use Rattle.b2_stmt_io.proofs.UsingRows.{using_shown, values_refused}
 use Rattle.b2_stmt_io.proofs.imaging.shown_using.Goals as goal
 
@@ -14,7 +14,7 @@ pub returns-in-Err-values_at : goal.returns-in-Err-values_at
 returns-in-Err-values_at c =
     let s = in_statement (surroundings c.args.e.now) in
     values_refused s c.args.unit.now c.in-Ok.image.now c.in-Err-values_at.fault c.requires.part c.in-Ok.ensures
-    (subst (λ (u : List ℕ). Refused (values_of s (operands_at u)) c.in-Err-values_at.fault) c.items_of.ensures c.in-Err-values_at.ensures)
+    (subst (λ (u : List ℕ). IsRefused (values_of s (operands_at u)) c.in-Err-values_at.fault) c.items_of.ensures c.in-Err-values_at.ensures)
 
 pub returns-in-Ok-using : goal.returns-in-Ok-using
 returns-in-Ok-using c =
