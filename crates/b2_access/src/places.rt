@@ -1,5 +1,5 @@
 // The place to which a goal on a line leads.
-ghost use Rattle.std.specs.Prelude.{◌≡◌, ◌<◌, ◌≤◌, ◌+◌};
+ghost use Rattle.std.specs.Prelude.{◌≡◌, ◌<◌, ◌+◌};
 ghost use Rattle.b2_rows.specs.Following.{unit_or_next, tree_units};
 ghost use Rattle.b2_access.specs.Places as spec;
 

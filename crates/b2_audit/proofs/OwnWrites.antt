@@ -4,7 +4,7 @@ use Rattle.std.proofs.Common.{sym, ap, subst, ◌∙◌, inl, inr}
 use Rattle.b2_access.specs.declared.objects.Object.{Object}
 use Rattle.b2_access.specs.Objects.{same_object}
 use Rattle.b2_audit.specs.PartSets.{with_part, without_part, has_other}
-use Rattle.b2_audit.specs.Marks.{Marks, touch, write, touch_all, write_all, marked}
+use Rattle.b2_audit.specs.Marks.{Marks, touch, write, touch_all, write_all}
 use Rattle.b2_audit.specs.Steps.{IsPartition, IsMarked, AreMarked, MarkedInParts}
 use Rattle.b2_audit.proofs.PartBits.{other_with_same}
 use Rattle.b2_audit.proofs.Places.{index, at_index, written_at, writes_elsewhere}

@@ -1,5 +1,5 @@
 -- Sets of partitions by their bits.
-use Rattle.std.specs.Prelude.{◌≡◌, ◌≢◌, ◌≤◌, ◌<◌, ◌-◌, ◌*◌, ◌^◌, ◌%◌, ◌==◌, ℕ, Bool, true, false, not, bit_and, bit_or, min, max, refl}
+use Rattle.std.specs.Prelude.{◌≡◌, ◌≢◌, ◌<◌, ◌-◌, ◌==◌, ℕ, true, false, not, bit_and, min, max, refl}
 use Rattle.std.specs.Int.{w16, bit_at, bit_not}
 use Rattle.std.specs.Cmp.{unsigned_Decides}
 use Rattle.std.proofs.Common.{sym, ap, subst, ◌∙◌, inl, inr, arith}

@@ -1,14 +1,14 @@
 -- The marks of a list of steps say which partitions are clean.
-use Rattle.std.specs.Prelude.{◌≡◌, ◌≢◌, ◌↔◌, ◌⊎◌, ◌==◌, ℕ, Bool, true, false, List, [], ◌∷◌, ◌++◌, length, get_or, replicate, refl, if◌then◌else◌}
+use Rattle.std.specs.Prelude.{◌≡◌, ◌≢◌, ◌↔◌, ◌==◌, ℕ, Bool, true, false, List, [], ◌∷◌, ◌++◌, length, refl, if◌then◌else◌}
 use Rattle.std.specs.Cmp.{unsigned_Decides}
 use Rattle.std.proofs.Common.{sym, ap, subst, ◌∙◌, inl, inr}
-use Rattle.std.proofs.lemmas.Bool.{true≢false, false≢true, cases_Bool, false_from_ne_true}
+use Rattle.std.proofs.lemmas.Bool.{false≢true, false_from_ne_true}
 use Rattle.std.proofs.lemmas.List.{get_or-replicate, length-replicate}
 use Rattle.b2_access.specs.declared.objects.Object.{Object}
 use Rattle.b2_access.specs.Store.{IsIn}
 use Rattle.b2_audit.specs.PartSets.{has_other}
-use Rattle.b2_audit.specs.Marks.{Marks, is_clean, marked, touch_all, write_all, unmarked}
-use Rattle.b2_audit.specs.Steps.{Step, marks_after, just, by_other, IsPartition, IsMarked, AreMarked, AreSteps, IsClean, MarksSayClean}
+use Rattle.b2_audit.specs.Marks.{Marks, is_clean, marked, touch_all, unmarked}
+use Rattle.b2_audit.specs.Steps.{Step, marks_after, just, by_other, IsPartition, IsMarked, AreMarked, AreSteps, MarksSayClean}
 use Rattle.b2_audit.proofs.PartBits.{none_other, all_have}
 use Rattle.b2_audit.proofs.Places.{index, placed, at_index}
 use Rattle.b2_audit.proofs.Fouling.{is_foul, touching_keeps, foul_by_writers, still_whole, all_written}

@@ -1,7 +1,6 @@
 -- What a watched store gives is what the store inside gives, with the marks made before and after it.
-use Rattle.std.specs.Prelude.{◌≡◌, ℕ, List}
+use Rattle.std.specs.Prelude.{◌≡◌, ℕ}
 use Rattle.std.proofs.Common.{ap, ◌∙◌}
-use Rattle.b2_access.specs.declared.objects.Object.{Object}
 use Rattle.b2_access.specs.declared.accesses.Access.{Access}
 use Rattle.b2_access.specs.declared.accesses.Answer.{Answer}
 use Rattle.b2_access.specs.Sharing.{Gives, ServingOf}

@@ -1,11 +1,9 @@
 -- A store that is watched: it serves and lends as the store inside, and marks what partitions touch and write by that.
-use Rattle.std.specs.Prelude.{◌≡◌, ℕ, List, [], ◌∷◌, Option, IsSome, refl}
+use Rattle.std.specs.Prelude.{ℕ, List, [], ◌∷◌}
 use Rattle.b2_access.specs.declared.objects.Object.{Object}
 use Rattle.b2_access.specs.declared.objects.Object.TheVariants as object
-use Rattle.b2_access.specs.declared.accesses.Access.{Access}
-use Rattle.b2_access.specs.declared.lending.At.{At}
 use Rattle.b2_access.specs.Loans.{Loan, LoansGlobals}
-use Rattle.b2_access.specs.Sharing.{Gives, ServingOf, IsLocal, ServesAlike, KeepsListed, writes}
+use Rattle.b2_access.specs.Sharing.{ServingOf, IsLocal, KeepsListed, writes}
 use Rattle.b2_access.specs.Store.{StoreState}
 use Rattle.b2_access.specs.Touching.{touched}
 use Rattle.b2_audit.specs.Marks.{Marks, marked, touch_all}

@@ -1,4 +1,4 @@
-ghost use Rattle.std.specs.Prelude.{◌≤◌, IfOk, IsSome};
+ghost use Rattle.std.specs.Prelude.{IfOk, IsSome};
 ghost use Rattle.b2_access.specs.Store.{content};
 ghost use Rattle.b2_access.specs.Touching.{IsLegal};
 ghost use Rattle.b2_store.specs.Meaning.{store_of};

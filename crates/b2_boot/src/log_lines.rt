@@ -1,5 +1,5 @@
 // A line of a log: its words, and what they ask before any number is looked at.
-ghost use Rattle.std.specs.Prelude.{◌≡◌, ◌≤◌, ◌<◌, ◌∷◌, IfOk, IfSome, length};
+ghost use Rattle.std.specs.Prelude.{◌≡◌, ◌<◌, ◌∷◌, IfOk, IfSome, length};
 ghost use Rattle.std.specs.Option.{option_copied};
 ghost use Rattle.b2_boot.specs.LogLines as spec;
 ghost use Rattle.b2_boot.specs.declared.log_lines.Asked.TheVariants as asked;

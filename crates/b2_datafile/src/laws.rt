@@ -1,17 +1,15 @@
 //! What saving and ending do to the records of a file. Each call does nothing: its contract is the law.
-ghost use Rattle.std.specs.Prelude.{◌≡◌, ◌+◌, ◌-◌, ◌<◌, ◌≤◌, [], ◌∷◌, ◌++◌, ℕ, List, Some, length};
+ghost use Rattle.std.specs.Prelude.{◌≡◌, ◌+◌, ◌-◌, ◌<◌, ◌≤◌, [], ◌∷◌, ◌++◌, ℕ, List, length};
 ghost use Rattle.std.specs.FinMap.{insert};
 ghost use Rattle.b2_dec.specs.declared.values.Value.{Value as AnyValue};
 ghost use Rattle.b2_platter.specs.declared.layout.Layout.TheVariants.{Narrow};
 ghost use Rattle.b2_platter.specs.Image.{sector};
 ghost use Rattle.b2_platter.specs.Checks.{Good};
-ghost use Rattle.b2_platter.specs.Edits.{put_sector, put_from};
+ghost use Rattle.b2_platter.specs.Edits.{put_from};
 ghost use Rattle.b2_catalog.specs.declared.entry.Entry.{Entry as File};
 ghost use Rattle.b2_catalog.specs.Catalogue.{catalogue};
-ghost use Rattle.b2_catalog.specs.Changes.{control_sector};
-ghost use Rattle.b2_record.specs.Records.{Spells};
 ghost use Rattle.b2_record.specs.Writing.{record_of};
-ghost use Rattle.b2_datafile.specs.Files.{end_mark, IsFront, IsWhole, with_end};
+ghost use Rattle.b2_datafile.specs.Files.{IsFront, IsWhole, with_end};
 ghost use Rattle.b2_datafile.specs.Laws.{SavesAt, EndsAt};
 
 /// A record that is saved at a place follows the records up to that place.

@@ -1,10 +1,9 @@
 // A file is opened, and found again by its slot.
-ghost use Rattle.std.specs.Prelude.{◌≡◌, ◌+◌, ◌-◌, ◌<◌, ◌≤◌, ℕ, [], true, false, Some, None, is_some, IfSome, IfOk, IfErr, OnOk};
+ghost use Rattle.std.specs.Prelude.{◌≡◌, ◌-◌, ◌<◌, ◌≤◌, [], true, false, Some, None, is_some, IfSome, IfOk, IfErr, OnOk};
 ghost use Rattle.std.specs.FinMap.{get, insert};
 ghost use Rattle.b2_platter.specs.declared.layout.Layout.TheVariants.{Narrow};
 ghost use Rattle.b2_platter.specs.Image.{total_of};
 ghost use Rattle.b2_platter.specs.Checks.{Good};
-ghost use Rattle.b2_platter.specs.Edits.{is_data_sector};
 ghost use Rattle.b2_catalog.specs.Catalogue.{catalogue};
 ghost use Rattle.b2_catalog.specs.Making.{KeepsOthers, files_without, make_refusal};
 ghost use Rattle.b2_datafile.specs.Slots.{open_refusal, opened, file_of};

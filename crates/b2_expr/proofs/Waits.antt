@@ -6,7 +6,6 @@ use Rattle.b2_dec.specs.Number.{Number}
 use Rattle.b2_atom.specs.Words.{Text}
 use Rattle.b2_atom.specs.declared.rows.TheConstants as row
 use Rattle.b2_rows.specs.Rows.{is_part, tree_at, after_part}
-use Rattle.b2_rows.proofs.Levels.{part_no_longer}
 use Rattle.b2_expr.specs.Answers.{Answer, ◌>>=◌}
 use Rattle.b2_expr.specs.Operators.{completed, joined, under_sign}
 use Rattle.b2_expr.specs.Scope.{Context}

@@ -16,7 +16,7 @@ use Rattle.b2_expr.specs.Value.{literal_number, literal_value}
 use Rattle.b2_expr.proofs.Operands.{literal_is, literal_rest, literal_here}
 use Rattle.b2_dectext.specs.Digits.{AreDigits, value_after}
 use Rattle.b2_dectext.specs.NumberText.{Parts, parts_value, number_len}
-use Rattle.b2_dectext.specs.Grammar.{Sign, Spelling, spelled, parts, fraction_digits}
+use Rattle.b2_dectext.specs.Grammar.{spelled, parts, fraction_digits}
 use Rattle.b2_dectext.specs.Grammar as grammar
 use Rattle.b2_dectext.proofs.Lengths.{digits_at_front, digits_width-le-length}
 use Rattle.b2_dectext.proofs.Longest.{plain, plain-read, IsReadWhole}

@@ -40,10 +40,14 @@ pub record Assigned : Type 0 where
   pub vars : VarsState
   pub code : Option ℕ
 
+-- nothing is assigned, for a code
+abbrev pub unassigned : ℕ → VarsState → Assigned
+unassigned code vars = record { vars = vars; code = Some code }
+
 -- with a code of the receiver nothing changes
 abbrev pub unless_refused : Option ℕ → VarsState → Assigned → Assigned
 unless_refused None old assigned = assigned
-unless_refused (Some code) old assigned = record { vars = old; code = Some code }
+unless_refused (Some code) old assigned = unassigned code old
 
 -- a number in its place; a scalar that isn't there is made
 abbrev pub assigned_number : Element → Number → VarsState → Assigned
@@ -129,7 +133,7 @@ ChangesBuffer gives (buffer_kind.Array a) old new = ChangesPart gives a.var 0 (l
 -- what comes after an assignment, where it had no code
 abbrev pub unless_coded : Option ℕ → VarsState → (VarsState → Assigned) → Assigned
 unless_coded None vars next = next vars
-unless_coded (Some code) vars next = record { vars = vars; code = Some code }
+unless_coded (Some code) vars next = unassigned code vars
 
 abbrev pub then_assigned : Assigned → (VarsState → Assigned) → Assigned
 then_assigned a next = unless_coded a.code a.vars next

@@ -12,4 +12,5 @@ pub mod Condition
 pub mod Receivers
 pub mod RightSide
 pub mod Assigning
+pub mod Receiving
 pub mod ReceiverLaws

@@ -1,5 +1,5 @@
 -- Operators and signs that wait for the number after them, outermost first, and what they make of it.
-use Rattle.std.specs.Prelude.{ℕ, suc, ◌&&◌, nat_le, Bool, true, false, if◌then◌else◌, List, [], ◌∷◌, drop, None}
+use Rattle.std.specs.Prelude.{ℕ, suc, ◌&&◌, nat_le, Bool, true, if◌then◌else◌, List, [], ◌∷◌, drop, None}
 use Rattle.b2_base.specs.Lexical.{first}
 use Rattle.b2_atom.specs.Words.{Text}
 use Rattle.b2_expr.specs.Answers.{Answer, ◌>>=◌}

@@ -1,8 +1,7 @@
 // Assigning to receivers, among the variables in which they were located.
 ghost use Rattle.std.specs.Prelude.{◌≡◌, true, length, IfOk, OnOk, OnErr};
 ghost use Rattle.std.specs.Fn.{FnOnceReturnsAtMut};
-ghost use Rattle.b2_vars.specs.Answers.{Answers, AnswersOrFails};
-ghost use Rattle.b2_vars.specs.Calls.{IsPart};
+ghost use Rattle.b2_vars.specs.Answers.{AnswersOrFails};
 ghost use Rattle.b2_vars.specs.Variables.{is_alpha};
 ghost use Rattle.b2_expr.specs.Assigning as spec;
 ghost use Rattle.b2_expr.specs.Assigning.{ChangesBuffer, Ends, EndsWith, HasCode, IsThere, assigned_bytes, assigned_number, assigned_side, assigned_value, buffer_code, is_alpha_receiver, is_reached, portion_in, reached_by, receiver_code, with_portion};

@@ -1,5 +1,5 @@
 // The values of numeric and of alpha expressions, along their bytes.
-ghost use Rattle.std.specs.Prelude.{◌≡◌, ◌≤◌, ◌∷◌, ◌++◌, ◌||◌, ◌==◌, [], Bool, true, false, None, length, MatchResult, IfOk, IfSome, Ok, Err, option_map};
+ghost use Rattle.std.specs.Prelude.{◌≡◌, ◌≤◌, ◌++◌, ◌||◌, ◌==◌, [], Bool, true, false, None, length, MatchResult, IfOk, IfSome, Ok, Err, option_map};
 ghost use Rattle.b2_base.specs.Byte as byte;
 ghost use Rattle.b2_base.specs.Lexical.{is_digit, is_letter};
 ghost use Rattle.b2_base.specs.Lexical as lexical;
@@ -8,7 +8,6 @@ ghost use Rattle.b2_vars.specs.Names.{is_legal_name};
 ghost use Rattle.b2_text.specs.Spots.{first_opening, is_function, unit_at};
 ghost use Rattle.b2_atom.specs.declared.rows.TheConstants as row;
 ghost use Rattle.b2_atom.specs.declared.forms.Start.TheVariants as start;
-ghost use Rattle.b2_atom.specs.declared.forms.Leaf.TheVariants as leaf;
 ghost use Rattle.b2_rows.specs.Rows.{is_part, tree_at, after_part, is_list, list_at, after_list};
 ghost use Rattle.b2_rows.specs.Chains.{more_start};
 ghost use Rattle.b2_rows.specs.declared.chains.Chain.TheVariants as chain;
@@ -25,7 +24,7 @@ ghost use Rattle.b2_expr.specs.Named.{after_name, is_alpha_kind, name_leaf, name
 ghost use Rattle.b2_expr.specs.Scope.{surroundings};
 ghost use Rattle.b2_expr.specs.Reads.{Appends, Gives};
 ghost use Rattle.b2_expr.specs.Value as meaning;
-ghost use Rattle.b2_expr.specs.Value.{element_number, called, context, extremes, function_tree, further_text, hex_bytes, literal_bytes, literal_number, kept_value, pairs_of, located, bytes_of_part, second, subscripts, text_row, value};
+ghost use Rattle.b2_expr.specs.Value.{element_number, called, context, extremes, further_text, hex_bytes, literal_bytes, kept_value, pairs_of, located, bytes_of_part, second, subscripts, text_row, value};
 ghost use Rattle.b2_expr.specs.declared.operators.Level.TheVariants as level_of;
 ghost use Rattle.b2_rows.specs.declared.operands.Operand.TheVariants as kind_is;
 ghost use Rattle.b2_rows.specs.declared.operands.AlphaOperand.TheVariants as alpha_kind_is;

@@ -1,5 +1,5 @@
 // The functions of the language on values, and the numbers that they and subscripts want.
-ghost use Rattle.std.specs.Prelude.{◌≡◌, ◌≤◌, ◌<◌, ◌+◌, ◌++◌, MatchResult, Ok, Err, OnErr, length};
+ghost use Rattle.std.specs.Prelude.{◌≡◌, ◌≤◌, ◌<◌, MatchResult, Ok, Err, length};
 ghost use Rattle.b2_expr.specs.Functions.{binary_bytes, column_written, count_or, whole_between, extreme, fixed, number_of, of_one, of_text, of_two, position_of, rounded_to, subscript, whole_number};
 
 use b2_alpha::{Rel, bin, pos, val};

@@ -13,7 +13,7 @@
 //! Receivers are located by `number_receiver`, `alpha_receiver`, `any_receiver`, `buffer`, `whole_array` and `array_named`, as
 //! `specs/Receivers.antt` says of their trees; `right_side` takes the operands of an alpha assignment (`specs/RightSide.antt`),
 //! and `assign_number`, `assign_bytes`, `assign_value`, `assign_side` and `change_buffer` change variables, as
-//! `specs/Assigning.antt` says. `right_side` alone takes memory, where there are operations.
+//! `specs/Assigning.antt` says; `assign_number_at` and `assign_bytes_at` do both at once (`specs/Receiving.antt`). `right_side` alone takes memory, where there are operations.
 #![tactic(auto)]
 
 mod assign;
@@ -29,6 +29,7 @@ mod operators;
 mod passing;
 mod receiver;
 mod receivers;
+mod receiving;
 mod scope;
 #[cfg(test)]
 mod tests;
@@ -47,5 +48,6 @@ pub use receiver::{AlphaReceiver, Array, Buffer, Portion, Receiver};
 pub use receivers::{
     alpha_receiver, any_receiver, array_named, buffer, number_receiver, right_side, whole_array,
 };
+pub use receiving::{assign_bytes_at, assign_number_at};
 pub use scope::{Env, surroundings_of};
 pub use value::{alpha, condition, number};

@@ -1,5 +1,5 @@
 // The right side of an alpha assignment: what it is at a text, and what it makes of the bytes of a receiver.
-ghost use Rattle.std.specs.Prelude.{◌≡◌, true, Ok, Err, MatchResult, drop};
+ghost use Rattle.std.specs.Prelude.{◌≡◌, true, Ok, Err, MatchResult};
 ghost use Rattle.b2_atom.specs.declared.rows.TheConstants as row;
 ghost use Rattle.b2_atom.specs.declared.words.Origin.TheVariants.{Atoms};
 ghost use Rattle.b2_atom.specs.Grammar.{starts};

@@ -3,6 +3,7 @@
 mod conditions;
 mod numbers;
 mod receivers;
+mod receiving;
 mod texts;
 
 use crate::Env;

@@ -1,5 +1,5 @@
 // What a special function key does at a ready partition.
-ghost use Rattle.std.specs.Prelude.{◌≡◌, [], OnOk};
+ghost use Rattle.std.specs.Prelude.{◌≡◌, OnOk};
 ghost use Rattle.b2_access.specs.Lending.{seen_lent};
 ghost use Rattle.b2_machine.specs.Keys as spec;
 

@@ -1,6 +1,5 @@
 // Lines that are typed: what is read, and numbered ones that go into the text.
-ghost use Rattle.std.specs.Prelude.{◌≡◌, ◌≢◌, Err, IfOk, OnOk, MatchResult};
-ghost use Rattle.b2_syntax.specs.Reading.{reads};
+ghost use Rattle.std.specs.Prelude.{◌≡◌, ◌≢◌, Err, IfOk, OnOk};
 ghost use Rattle.b2_machine.specs.Typing as spec;
 
 use crate::ends::{Stepped, counts, repeats};

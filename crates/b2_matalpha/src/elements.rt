@@ -1,5 +1,5 @@
 // The elements of an array.
-ghost use Rattle.std.specs.Prelude.{◌≡◌, ◌≤◌, length};
+ghost use Rattle.std.specs.Prelude.{◌≡◌};
 ghost use Rattle.b2_matalpha.specs.Elements.{element_at};
 
 /// The element at a place, counted from 1: `len` bytes, and fewer or none past the end of the array.

@@ -1,5 +1,5 @@
 // Locators of two bytes.
-ghost use Rattle.std.specs.Prelude.{◌≡◌, ◌+◌, ◌*◌, ◌<◌, ◌≤◌, ◌^◌, ◌++◌, ◌∷◌, [], length, take, drop, get_or, nat_le, if◌then◌else◌};
+ghost use Rattle.std.specs.Prelude.{◌≡◌, ◌+◌, ◌*◌, ◌<◌, ◌≤◌, ◌++◌, length, take, drop, nat_le, if◌then◌else◌};
 ghost use Rattle.b2_matalpha.specs.Locators.{with_locator};
 
 /// Writes a locator at an index where two bytes are left, and answers the index after what was written. Where fewer are

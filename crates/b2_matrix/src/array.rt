@@ -1,5 +1,5 @@
 // Arrays as they are lent.
-ghost use Rattle.std.specs.Prelude.{◌≡◌, ◌<◌, ◌≤◌, ◌*◌, ◌^◌, length};
+ghost use Rattle.std.specs.Prelude.{◌≡◌, ◌<◌, ◌*◌, ◌^◌};
 ghost use Rattle.b2_matrix.specs.Arrays.{columns_of, column_count, array_rows, entry, IsWhole};
 
 use b2_dec::Dec;

@@ -1,5 +1,5 @@
 // The image of PACK.
-ghost use Rattle.std.specs.Prelude.{◌≡◌, ◌<◌, ◌≤◌, IfSome, length};
+ghost use Rattle.std.specs.Prelude.{◌≡◌, ◌<◌, ◌≤◌, IfSome};
 ghost use Rattle.b2_pack.specs.Images as spec;
 
 use crate::rows::{Row, SignNibble};

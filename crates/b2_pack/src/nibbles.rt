@@ -1,5 +1,5 @@
 // Nibbles and the digits that they are.
-ghost use Rattle.std.specs.Prelude.{◌≡◌, ℕ, ◌+◌, ◌*◌, ◌^◌, ◌<◌, ◌≤◌, length, get_or, take, drop, true};
+ghost use Rattle.std.specs.Prelude.{◌≡◌, ◌+◌, ◌*◌, ◌^◌, ◌<◌, ◌≤◌, length, get_or, take, drop, true};
 ghost use Rattle.std.specs.List.{list_all};
 ghost use Rattle.b2_dec.specs.Rounding.{rnd};
 ghost use Rattle.b2_dec.specs.declared.number.Mode.TheVariants.{Round};

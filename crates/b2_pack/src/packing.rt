@@ -1,9 +1,9 @@
 // Values into a buffer.
-ghost use Rattle.std.specs.Prelude.{◌≡◌, ◌+◌, ◌≤◌, ◌<◌, ◌∷◌, None, Some, length, true, OnOk, OnErr, MatchOption};
+ghost use Rattle.std.specs.Prelude.{◌≡◌, ◌+◌, ◌≤◌, ◌<◌, None, Some, length, true, OnOk, OnErr, MatchOption};
 ghost use Rattle.std.specs.Result.{result_err};
 ghost use Rattle.b2_pack.specs.Images.{image_row};
 ghost use Rattle.b2_pack.specs.Rows.{row_length};
-ghost use Rattle.b2_pack.specs.Specification.{specified_pairs, field_length, IsField};
+ghost use Rattle.b2_pack.specs.Specification.{specified_pairs, field_length};
 ghost use Rattle.b2_pack.specs.Packing as packing;
 ghost use Rattle.b2_pack.specs.Laws.{Packs};
 

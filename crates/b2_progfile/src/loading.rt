@@ -1,5 +1,5 @@
 // A program is loaded.
-ghost use Rattle.std.specs.Prelude.{◌≡◌, ◌<◌, ◌≤◌, [], true, Some, None, OnOk, OnErr, IfOk, IfErr, if◌then◌else◌};
+ghost use Rattle.std.specs.Prelude.{◌≡◌, ◌<◌, ◌≤◌, [], Some, None, OnOk, OnErr, IfOk, IfErr, if◌then◌else◌};
 ghost use Rattle.std.specs.FinMap.{get};
 ghost use Rattle.b2_catalog.specs.Catalogue.{catalogue};
 ghost use Rattle.b2_text.specs.Program.{size_of};

@@ -1,8 +1,5 @@
 // How programs are spelled.
 ghost use Rattle.std.specs.Prelude.{◌≡◌, ◌+◌, ◌-◌, ◌*◌, ◌<◌, ◌≤◌, ◌++◌, true, OnOk, IfOk, length, take, drop, min, replicate};
-ghost use Rattle.std.specs.List.Sorted.{IsStrictlySortedBy};
-ghost use Rattle.std.specs.Map.{keys_of};
-ghost use Rattle.std.specs.Ordering.{nat_cmp};
 ghost use Rattle.b2_atom.specs.Lines.{is_line};
 ghost use Rattle.b2_progfile.specs.Programs.{line_bytes, all_line_bytes, program_bytes, Ascending};
 ghost use Rattle.b2_progfile.specs.Saving.{lines_between, lines_within, piece_at, pieces_count};

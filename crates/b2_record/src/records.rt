@@ -1,9 +1,9 @@
 // Records: a list of values in as many sectors as it needs.
-ghost use Rattle.std.specs.Prelude.{◌≡◌, ◌==◌, ◌||◌, ◌+◌, ◌-◌, ◌^◌, ◌<◌, ◌≤◌, ◌++◌, true, min, Some, None, OnOk, OnSome, IfOk, IfErr, length, nat_le, drop, take, if◌then◌else◌};
+ghost use Rattle.std.specs.Prelude.{◌≡◌, ◌==◌, ◌||◌, ◌+◌, ◌-◌, ◌<◌, ◌≤◌, ◌++◌, true, min, Some, None, OnOk, OnSome, IfOk, IfErr, length, nat_le, drop, take, if◌then◌else◌};
 ghost use Rattle.std.specs.List.{list_all, slice_get};
 ghost use Rattle.b2_platter.specs.declared.layout.Layout.TheVariants.{Narrow};
 ghost use Rattle.b2_platter.specs.Image.{total_of, sectors_at};
-ghost use Rattle.b2_record.specs.Items.{is_short, IsStorable, AllStorable};
+ghost use Rattle.b2_record.specs.Items.{is_short, AllStorable};
 ghost use Rattle.b2_platter.specs.Reading.{Unspelled};
 ghost use Rattle.b2_record.specs.Records.{goes_over, Spells, IsNoRecord};
 ghost use Rattle.b2_record.specs.Writing.{groups_of, record_of, first_count};

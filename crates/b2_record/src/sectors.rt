@@ -1,5 +1,5 @@
 // One sector of a record, written and read.
-ghost use Rattle.std.specs.Prelude.{◌≡◌, ℕ, ◌==◌, ◌+◌, ◌-◌, ◌≤◌, [], ◌∷◌, ◌++◌, Bool, true, List, IfSome, IfNone, IfOk, IfErr, OnOk, length, replicate};
+ghost use Rattle.std.specs.Prelude.{◌≡◌, ◌==◌, ◌+◌, ◌-◌, ◌≤◌, [], ◌∷◌, ◌++◌, Bool, true, List, IfSome, IfNone, IfOk, IfErr, OnOk, length, replicate};
 ghost use Rattle.b2_dec.specs.declared.values.Value.{Value as AnyValue};
 ghost use Rattle.b2_record.specs.Items.{value_spelled, group_bytes, is_short, AllStorable};
 ghost use Rattle.std.specs.List.{list_all};

@@ -1,5 +1,5 @@
 // 24 rows of 80 cells with a cursor, and what changes them.
-ghost use Rattle.std.specs.Prelude.{◌≡◌, false, ◌≤◌, ◌<◌, ◌∷◌, [], get_or, length, set};
+ghost use Rattle.std.specs.Prelude.{◌≡◌, false, ◌≤◌, ◌<◌, [], get_or, length, set};
 ghost use Rattle.b2_base.specs.Lexical as lexical;
 ghost use Rattle.b2_screen.specs.Sheet as spec;
 ghost use Rattle.b2_screen.specs.Sheet.{blank_sheet, scrolled, glyph_written, on_next_row, cursor_placed, outlined, outlined_row, each_from, IsDrawable};

@@ -1,18 +1,17 @@
 -- Assignments, and lists of receivers.
-use Rattle.std.specs.Prelude.{ℕ, ◌==◌, List, [], ◌∷◌, None, Some, Result, Ok, Err, if◌then◌else◌}
+use Rattle.std.specs.Prelude.{ℕ, ◌==◌, List, [], ◌∷◌, None, Result, Ok, Err, if◌then◌else◌}
 use Rattle.b2_base.specs.declared.codes.TheConstants.{S20_VARIABLE}
-use Rattle.b2_dec.specs.Number.{Number}
 use Rattle.b2_atom.specs.Tree.{Trees}
 use Rattle.b2_atom.specs.Tree.Trees.{Done, Put, In}
 use Rattle.b2_rows.specs.CommaLists.{after_all_listed, all_listed}
 use Rattle.b2_text.specs.Program.{TextState}
 use Rattle.b2_vars.specs.Tables.{VarsState}
 use Rattle.b2_expr.specs.Answers.{Answer}
-use Rattle.b2_expr.specs.Assigning.{Assigned, assigned_number, assigned_side, then_assigned}
-use Rattle.b2_expr.specs.Receivers.{alpha_receiver, number_receiver}
+use Rattle.b2_expr.specs.Assigning.{Assigned, assigned_side, then_assigned, unassigned}
+use Rattle.b2_expr.specs.Receiving.{assign_number_at}
+use Rattle.b2_expr.specs.Receivers.{alpha_receiver}
 use Rattle.b2_expr.specs.RightSide.{Side, right_side}
 use Rattle.b2_expr.specs.Value.{in_statement, value}
-use Rattle.b2_expr.specs.declared.named.Element.{Element}
 use Rattle.b2_expr.specs.declared.operators.Level.TheVariants as level
 use Rattle.b2_expr.specs.declared.receiver.AlphaReceiver.{AlphaReceiver}
 use Rattle.b2_expr.specs.Scope.{surroundings_of}
@@ -32,29 +31,22 @@ abbrev pub side_of_assignment : Trees → Trees
 side_of_assignment (Put equals side) = side
 side_of_assignment t = Done
 
--- a receiver that was located, and a number or the right side of an assignment of bytes
-abbrev pub number_to : Result Element ℕ → Number → VarsState → Assigned
-number_to (Ok to) x vars = assigned_number to x vars
-number_to (Err code) x vars = record { vars = vars; code = Some code }
-
+-- a receiver that was located, and the right side of an assignment of bytes
 abbrev pub side_to : Result AlphaReceiver ℕ → Side → VarsState → Assigned
 side_to (Ok to) side vars = assigned_side to side vars
-side_to (Err code) side vars = record { vars = vars; code = Some code }
-
-abbrev pub assign_number : Setting → TextState → Number → Trees → VarsState → Assigned
-assign_number a home x t vars = number_to (number_receiver (in_statement (surroundings_of a vars home)) t) x vars
+side_to (Err code) side vars = unassigned code vars
 
 abbrev pub assign_side : Setting → TextState → Side → Trees → VarsState → Assigned
 assign_side a home side t vars = side_to (alpha_receiver (in_statement (surroundings_of a vars home)) t) side vars
 
 -- the expression first, then each receiver
 abbrev pub numbers_by : Setting → TextState → Answer → List Trees → VarsState → Assigned
-numbers_by a home (Ok x) ts vars = assign_each (assign_number a home x) ts vars
-numbers_by a home (Err code) ts vars = record { vars = vars; code = Some code }
+numbers_by a home (Ok x) ts vars = assign_each (assign_number_at a home (Ok x)) ts vars
+numbers_by a home (Err code) ts vars = unassigned code vars
 
 abbrev pub sides_by : Setting → TextState → Result Side ℕ → List Trees → VarsState → Assigned
 sides_by a home (Ok side) ts vars = assign_each (assign_side a home side) ts vars
-sides_by a home (Err code) ts vars = record { vars = vars; code = Some code }
+sides_by a home (Err code) ts vars = unassigned code vars
 
 abbrev pub assign_numbers : Setting → TextState → Trees → VarsState → Assigned
 assign_numbers a home t vars = numbers_by a home (value (in_statement (surroundings_of a vars home)) level.Sum (sum_of_assignment (after_all_listed t))) (all_listed t) vars
@@ -64,4 +56,4 @@ assign_sides a home t vars = sides_by a home (right_side (in_statement (surround
 
 abbrev pub assigns : Setting → TextState → Trees → VarsState → Assigned
 assigns a home (In n t end) vars = if n == 1 then assign_sides a home t vars else assign_numbers a home t vars
-assigns a home t vars = record { vars = vars; code = Some S20_VARIABLE }
+assigns a home t vars = unassigned S20_VARIABLE vars

@@ -12,7 +12,7 @@ use Rattle.b2_text.specs.Program.{TextState}
 use Rattle.b2_vars.specs.Calls.{with_bytes_of}
 use Rattle.b2_vars.specs.Tables.{VarsState, variable_at}
 use Rattle.b2_expr.specs.Answers.{◌>>=◌}
-use Rattle.b2_expr.specs.Assigning.{Assigned, buffer_code, portion_in, reached_by, unless_refused, with_portion}
+use Rattle.b2_expr.specs.Assigning.{Assigned, buffer_code, portion_in, reached_by, unless_refused, with_portion, unassigned}
 use Rattle.b2_expr.specs.Functions.{fixed}
 use Rattle.b2_expr.specs.Receivers.{alpha_receiver, buffer}
 use Rattle.b2_expr.specs.Scope.{Context}
@@ -50,7 +50,7 @@ buffers_of_init t = []
 
 abbrev pub fills : ℕ → Result Buffer ℕ → VarsState → Assigned
 fills b (Ok to) vars = bytes_changed (all_filled b) to vars
-fills b (Err code) vars = record { vars = vars; code = Some code }
+fills b (Err code) vars = unassigned code vars
 
 abbrev pub fills_one : Setting → TextState → ℕ → Trees → VarsState → Assigned
 fills_one a home b t vars = fills b (buffer (in_statement (surroundings_of a vars home)) t) vars
@@ -72,7 +72,7 @@ turn_in s t = Err S20_VARIABLE
 
 abbrev pub turns : Result Turn ℕ → VarsState → Assigned
 turns (Ok turn) vars = bytes_changed (rotated turn.whole turn.bits) (buffer_kind.Value turn.to) vars
-turns (Err code) vars = record { vars = vars; code = Some code }
+turns (Err code) vars = unassigned code vars
 
 abbrev pub rotates : Setting → TextState → Trees → VarsState → Assigned
 rotates a home t vars = turns (turn_in (in_statement (surroundings_of a vars home)) t) vars

@@ -13,7 +13,7 @@ use Rattle.b2_vars.specs.Shapes.{is_up_to}
 use Rattle.b2_vars.specs.Tables.{VarsState}
 use Rattle.b2_vars.specs.declared.shape.Shape.{Shape}
 use Rattle.b2_expr.specs.Answers.{Answer, ◌>>=◌}
-use Rattle.b2_expr.specs.Assigning.{Assigned, unless_refused}
+use Rattle.b2_expr.specs.Assigning.{Assigned, unless_refused, unassigned}
 use Rattle.b2_expr.specs.Functions.{fixed}
 use Rattle.b2_expr.specs.Named.{variable_of, variables_of}
 use Rattle.b2_expr.specs.Scope.{Context}
@@ -102,7 +102,7 @@ makes common e old = unless_refused (entry_code common e old) old (record { vars
 
 abbrev pub makes_found : Bool → Result Entry ℕ → VarsState → Assigned
 makes_found common (Ok e) vars = makes common e vars
-makes_found common (Err code) vars = record { vars = vars; code = Some code }
+makes_found common (Err code) vars = unassigned code vars
 
 abbrev pub makes_one : Setting → TextState → Bool → Trees → VarsState → Assigned
 makes_one a home common t vars = makes_found common (entry_in (in_statement (surroundings_of a vars home)) t) vars

@@ -14,7 +14,7 @@ use Rattle.b2_text.specs.Program.{Lines, TextState}
 use Rattle.b2_text.specs.Spots.{first_opening, is_mark, or_else}
 use Rattle.b2_text.specs.declared.spots.Spot.{Spot}
 use Rattle.b2_vars.specs.Tables.{VarsState}
-use Rattle.b2_expr.specs.Assigning.{Assigned, assigned_value, then_assigned}
+use Rattle.b2_expr.specs.Assigning.{Assigned, assigned_value, then_assigned, unassigned}
 use Rattle.b2_expr.specs.Receivers.{any_receiver}
 use Rattle.b2_expr.specs.Value.{in_statement}
 use Rattle.b2_expr.specs.declared.receiver.Receiver.{Receiver}
@@ -76,7 +76,7 @@ values_fit ts xs = false
 -- a receiver takes a value; it is located among the variables as they then are
 abbrev pub value_to : Result Receiver ℕ → Value → VarsState → Assigned
 value_to (Ok to) x vars = assigned_value to x vars
-value_to (Err code) x vars = record { vars = vars; code = Some code }
+value_to (Err code) x vars = unassigned code vars
 
 abbrev pub takes_value : Setting → TextState → Trees → Value → VarsState → Assigned
 takes_value a home t x vars = value_to (any_receiver (in_statement (surroundings_of a vars home)) t) x vars

@@ -1,5 +1,5 @@
 // What statements ask of the private state, and what becomes of it.
-ghost use Rattle.std.specs.Prelude.{◌≡◌, ◌<◌, ◌==◌, true, IfOk};
+ghost use Rattle.std.specs.Prelude.{◌≡◌, ◌<◌, true, IfOk};
 ghost use Rattle.b2_atom.specs.declared.rows.TheConstants as row;
 ghost use Rattle.b2_rows.specs.Following.{tree_units};
 ghost use Rattle.b2_rows.specs.Laws.{IsRow};

@@ -1,7 +1,8 @@
 // Assignments.
-ghost use Rattle.std.specs.Prelude.{◌≡◌, true, IfOk};
+ghost use Rattle.std.specs.Prelude.{◌≡◌, true, IfOk, Ok};
 ghost use Rattle.b2_atom.specs.declared.rows.TheConstants as row;
 ghost use Rattle.b2_rows.specs.Rows.{is_part, tree_at};
+ghost use Rattle.b2_expr.specs.Receiving.{assign_number_at};
 ghost use Rattle.b2_expr.specs.RightSide.{is_right_side, right_side_tree, side_seen};
 ghost use Rattle.b2_expr.specs.RightSide.{right_side as side_of};
 ghost use Rattle.b2_expr.specs.Value.{in_statement};
@@ -15,32 +16,13 @@ use b2_base::lexical::dropped;
 use b2_base::{Code, NoMemory};
 use b2_dec::Dec;
 use b2_expr::{
-    RightSide, alpha_receiver, assign_number, assign_side, code_of, code_of_fault, number,
-    number_receiver, past_alpha_receiver, past_number_receiver, right_side, surroundings_of,
+    RightSide, alpha_receiver, assign_number_at, assign_side, code_of, code_of_fault, number,
+    past_alpha_receiver, past_number_receiver, right_side, surroundings_of,
 };
 use b2_rows::{is_alpha_at, is_at};
 use b2_text::Text;
 use b2_vars::{Setting, Vars};
 use std::alloc::Global;
-
-/// Assigns a number to the receiver at a text.
-#[tactic(auto, using(b2_expr::proofs::Ended::ended_so))]
-fn number_to(
-    vars: &mut Vars,
-    a: &Setting,
-    home: &Text,
-    x: Dec,
-    text: &[u8],
-) -> Result<Option<Code>, NoMemory>
-    requires part { is_part row.NUMERIC_RECEIVER text.now ≡ true }
-    ensures { IfOk result (λ code. record { vars = vars.new; code = code } ≡ spec.assign_number a.now home.now x (tree_at row.NUMERIC_RECEIVER text.now) vars.old) }
-{
-    let to = match number_receiver(&mut Cursor::over(text), &surroundings_of(a, vars, home)) {
-        Ok(to) => to,
-        Err(code) => return Ok(Some(code)),
-    };
-    code_of(assign_number(vars, to, x))
-}
 
 /// Assigns a right side to the alpha receiver at a text.
 #[tactic(auto, using(b2_expr::proofs::Ended::ended_so))]
@@ -85,11 +67,11 @@ fn assign_all(
     text: &[u8],
 ) -> Result<Option<Code>, NoMemory>
     requires part { is_part row.NUMERIC_ASSIGNMENT text.now ≡ true }
-    ensures { IfOk result (λ code. record { vars = vars.new; code = code } ≡ spec.assign_each (spec.assign_number a.now home.now x) (all_listed (tree_at row.NUMERIC_ASSIGNMENT text.now)) vars.old) }
+    ensures { IfOk result (λ code. record { vars = vars.new; code = code } ≡ spec.assign_each (assign_number_at a.now home.now (Ok x)) (all_listed (tree_at row.NUMERIC_ASSIGNMENT text.now)) vars.old) }
 {
     let mut left = text;
     loop {
-        let code = number_to(vars, a, home, x, left)?;
+        let code = assign_number_at(vars, a, home, Ok(x), left)?;
         if code.is_some() {
             return Ok(code);
         }

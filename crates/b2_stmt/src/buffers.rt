@@ -3,11 +3,9 @@ ghost use Rattle.std.specs.Prelude.{◌≡◌, ◌≤ℤ◌, pos, negsuc, true, 
 ghost use Rattle.b2_alpha.specs.Bits.{rotated};
 ghost use Rattle.b2_atom.specs.declared.rows.TheConstants as row;
 ghost use Rattle.b2_rows.specs.Rows.{is_part, tree_at};
-ghost use Rattle.b2_expr.specs.Functions.{fixed};
 ghost use Rattle.b2_expr.specs.Receivers.{IsAlpha, IsBuffer};
 ghost use Rattle.b2_expr.specs.Scope.{surroundings};
 ghost use Rattle.b2_expr.specs.Value.{in_statement};
-ghost use Rattle.b2_stmt.specs.Assignments.{assign_each};
 ghost use Rattle.b2_stmt.specs.Buffers as spec;
 
 use b2_alpha::rotate;

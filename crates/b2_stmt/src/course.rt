@@ -1,5 +1,5 @@
 // STOP, RUN, CONTINUE, SELECT and RESTORE.
-ghost use Rattle.std.specs.Prelude.{◌≡◌, ◌≤◌, ◌++◌, true, IfOk, IfSome, Some, option_copied};
+ghost use Rattle.std.specs.Prelude.{◌≡◌, true, IfOk, Some, option_copied};
 ghost use Rattle.b2_atom.specs.declared.rows.TheConstants as row;
 ghost use Rattle.b2_rows.specs.Rows.{is_part, tree_at};
 ghost use Rattle.b2_stmt.specs.Course as spec;

@@ -1,5 +1,5 @@
 // DATA: its literals, and the literals of a text one after another.
-ghost use Rattle.std.specs.Prelude.{◌≡◌, true, false, IfSome, option_map, slice_get};
+ghost use Rattle.std.specs.Prelude.{◌≡◌, true, IfSome, option_map, slice_get};
 ghost use Rattle.b2_atom.specs.declared.rows.TheConstants as row;
 ghost use Rattle.b2_rows.specs.Laws.{IsRow};
 ghost use Rattle.b2_rows.specs.Rows.{after_part, is_list, is_part, tree_at};

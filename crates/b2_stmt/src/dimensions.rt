@@ -11,9 +11,7 @@ ghost use Rattle.b2_expr.specs.Reads.{Gives};
 ghost use Rattle.b2_expr.specs.Scope.{surroundings};
 ghost use Rattle.b2_expr.specs.Value.{in_statement, value};
 ghost use Rattle.b2_expr.specs.declared.operators.Level.TheVariants as level;
-ghost use Rattle.b2_stmt.specs.Assignments.{assign_each};
 ghost use Rattle.b2_stmt.specs.Dimensions as spec;
-ghost use Rattle.b2_stmt.specs.Lengths.{length_value};
 
 use b2_atom::Cursor;
 use b2_atom::words::COM;

@@ -1,10 +1,8 @@
 // FOR and NEXT.
-ghost use Rattle.std.specs.Prelude.{◌≡◌, true, IfOk, Ok, is_some};
+ghost use Rattle.std.specs.Prelude.{◌≡◌, true, IfOk, Ok};
 ghost use Rattle.b2_atom.specs.declared.rows.TheConstants as row;
 ghost use Rattle.b2_rows.specs.Rows.{is_part, tree_at};
 ghost use Rattle.b2_vars.specs.Names.{is_legal_name};
-ghost use Rattle.b2_flow.specs.Stacks.{from_loop, has_loop, top_loop};
-ghost use Rattle.b2_expr.specs.Answers.{Answer};
 ghost use Rattle.b2_expr.specs.Named.{number_there};
 ghost use Rattle.b2_expr.specs.Scope.{surroundings};
 ghost use Rattle.b2_expr.specs.Value.{in_statement};

@@ -1,8 +1,7 @@
 // GOSUB', which calls the DEFFN' of a number, and DEFFN', which takes what the call passes.
-ghost use Rattle.std.specs.Prelude.{◌≡◌, ◌==◌, true, IfOk, Some, [], option_map};
+ghost use Rattle.std.specs.Prelude.{◌≡◌, true, IfOk, Some, []};
 ghost use Rattle.b2_atom.specs.declared.rows.TheConstants as row;
 ghost use Rattle.b2_rows.specs.Rows.{is_part, tree_at};
-ghost use Rattle.b2_text.specs.Spots.{first_opening, is_mark};
 ghost use Rattle.b2_expr.specs.Assigning.{assigned_value};
 ghost use Rattle.b2_expr.specs.Receivers.{IsNamed};
 ghost use Rattle.b2_stmt.specs.Marked as spec;

@@ -1,7 +1,7 @@
 // READ: each receiver takes the next literal of the own text.
 ghost use Rattle.std.specs.Prelude.{◌≡◌, true, IfOk, Some};
 ghost use Rattle.b2_atom.specs.declared.rows.TheConstants as row;
-ghost use Rattle.b2_rows.specs.Rows.{is_part, tree_at, after_part};
+ghost use Rattle.b2_rows.specs.Rows.{is_part, tree_at};
 ghost use Rattle.b2_vars.specs.Variables.{is_alpha};
 ghost use Rattle.b2_expr.specs.Assigning.{assigned_value, is_alpha_receiver};
 ghost use Rattle.b2_expr.specs.Receivers.{IsNamed};

@@ -25,7 +25,7 @@ use Rattle.b2_vars.specs.Tables.{VarsState}
 use Rattle.b2_stmt_io.specs.Inputs.{take_parts, takes_part, takes_parts, takes_some}
 use Rattle.b2_stmt_io.specs.LineReading.{after_prompt, prompt_of, prompt_there}
 use Rattle.b2_rows.specs.CommaLists.{all_listed, commas, are_others, others_at, past_first, receivers_at}
-use Rattle.b2_stmt_io.specs.Receiving.{assign_bytes, assign_number}
+use Rattle.b2_expr.specs.Receiving.{assign_bytes_at, assign_number_at}
 use Rattle.b2_stmt_io.specs.TypedText.{typed_parts, typed_number}
 use Rattle.b2_vars.specs.declared.setting.Setting.{Setting}
 use Rattle.b2_rows.proofs.CommaLists.{IsComma, Other, other, no_items_left, items_of_other, item_shorter}
@@ -45,14 +45,14 @@ pub alpha_here : (t : Text) → is_part row.RECEIVER t ≡ true → starts Atoms
 alpha_here t ok is = ReadAs.part (alpha_read t ok is)
 
 pub alpha_is : (a : Setting) (home : TextState) (part : List ℕ) (t : Text) (vars : VarsState) → is_part row.RECEIVER t ≡ true → starts Atoms start.Alpha t ≡ true
-    → takes_some a home part (tree_at row.RECEIVER t) vars ≡ assign_bytes a home (Ok (value_of (skip_blanks part))) (tree_at row.ALPHA_RECEIVER t) vars
+    → takes_some a home part (tree_at row.RECEIVER t) vars ≡ assign_bytes_at a home (Ok (value_of (skip_blanks part))) (tree_at row.ALPHA_RECEIVER t) vars
 alpha_is a home part t vars ok is = ap (λ (u : Trees). takes_some a home part u vars) (ReadAs.tree (alpha_read t ok is))
 
 pub number_here : (t : Text) → is_part row.RECEIVER t ≡ true → starts Atoms start.Alpha t ≡ false → is_part row.NUMERIC_RECEIVER t ≡ true
 number_here t ok is = ReadAs.part (number_read t ok is)
 
 pub number_is : (a : Setting) (home : TextState) (part : List ℕ) (t : Text) (vars : VarsState) → is_part row.RECEIVER t ≡ true → starts Atoms start.Alpha t ≡ false
-    → takes_some a home part (tree_at row.RECEIVER t) vars ≡ assign_number a home (typed_number part) (tree_at row.NUMERIC_RECEIVER t) vars
+    → takes_some a home part (tree_at row.RECEIVER t) vars ≡ assign_number_at a home (typed_number part) (tree_at row.NUMERIC_RECEIVER t) vars
 number_is a home part t vars ok is = ap (λ (u : Trees). takes_some a home part u vars) (ReadAs.tree (number_read t ok is))
 
 -- further receivers

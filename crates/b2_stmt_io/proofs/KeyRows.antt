@@ -29,7 +29,7 @@ use Rattle.b2_access.specs.Partition.{setting_of}
 use Rattle.b2_access.specs.Going.{to_line}
 use Rattle.b2_stmt_io.specs.Keys.{key_leads, key_assigned, waits, without_key}
 use Rattle.b2_stmt_io.specs.Changed.{with_assigned}
-use Rattle.b2_stmt_io.specs.Receiving.{assign_bytes}
+use Rattle.b2_expr.specs.Receiving.{assign_bytes_at}
 
 abbrev lines_items : List Item
 lines_items = Sign byte.comma S13_SEPARATOR ∷ Typed leaf.LineNumber S15_LINE_NUMBER ∷ Sign byte.comma S13_SEPARATOR ∷ Typed leaf.LineNumber S15_LINE_NUMBER ∷ []
@@ -100,7 +100,7 @@ key_tree t ok = (stands_of row.KEYIN key_items t key_row ok).1
 
 pub takes_key_is : (key : ℕ) (special : Bool) (home : TextState) (p : Place) (t : Text) (me : Private) → is_part row.KEYIN t ≡ true
     → key_assigned key special home p (tree_at row.KEYIN t) me
-    ≡ with_assigned (assign_bytes (setting_of me) home (Ok (key ∷ [])) (tree_at row.ALPHA_RECEIVER (drop 1 t)) me.vars)
+    ≡ with_assigned (assign_bytes_at (setting_of me) home (Ok (key ∷ [])) (tree_at row.ALPHA_RECEIVER (drop 1 t)) me.vars)
     (key_leads special home.lines p (maybe_tree (start.Code byte.comma) row.COMMA_TWO_LINES (after_receiver t))) me
 takes_key_is key special home p t me ok = ap (λ (a : Trees). key_assigned key special home p a me) (key_tree t ok)
 

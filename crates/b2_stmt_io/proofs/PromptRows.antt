@@ -26,7 +26,7 @@ use Rattle.b2_rows.proofs.RowsRead.{stands_of}
 use Rattle.b2_text.specs.Program.{TextState}
 use Rattle.b2_vars.specs.Tables.{VarsState}
 use Rattle.b2_stmt_io.specs.LineReading.{after_prompt, prompt_bytes, prompt_of, prompt_there, receiver_of, takes_line}
-use Rattle.b2_stmt_io.specs.Receiving.{assign_bytes}
+use Rattle.b2_expr.specs.Receiving.{assign_bytes_at}
 use Rattle.b2_vars.specs.declared.setting.Setting.{Setting}
 use Rattle.b2_stmt_io.proofs.LeftOut.{maybe_put, maybe_then}
 use Rattle.b2_stmt_io.proofs.MarkRows.{after_literal, literal_here, literal_tree}
@@ -124,5 +124,5 @@ linput_to : (t : Text) → is_part row.LINPUT t ≡ true → receiver_of (after_
 linput_to t ok = ap (λ (a : Trees). receiver_of (after_prompt a)) (linput_tree t ok) ∙ ap receiver_of (after_is word.LINPUT (drop 1 t) (In 2 (tree_at row.ALPHA_RECEIVER (rest_at t)) Done))
 
 pub linput_is : (a : Setting) (home : TextState) (line : List ℕ) (t : Text) (vars : VarsState) → is_part row.LINPUT t ≡ true
-    → takes_line a home line (tree_at row.LINPUT t) vars ≡ assign_bytes a home (Ok line) (tree_at row.ALPHA_RECEIVER (rest_at t)) vars
-linput_is a home line t vars ok = ap (λ (r : Trees). assign_bytes a home (Ok line) r vars) (linput_to t ok)
+    → takes_line a home line (tree_at row.LINPUT t) vars ≡ assign_bytes_at a home (Ok line) (tree_at row.ALPHA_RECEIVER (rest_at t)) vars
+linput_is a home line t vars ok = ap (λ (r : Trees). assign_bytes_at a home (Ok line) r vars) (linput_to t ok)

@@ -8,23 +8,23 @@ use Rattle.b2_rows.specs.Values.{image_of}
 use Rattle.b2_text.specs.Program.{TextState}
 use Rattle.b2_vars.specs.Tables.{VarsState}
 use Rattle.b2_expr.specs.Answers.{Answer, TextAnswer}
-use Rattle.b2_expr.specs.Assigning.{Assigned}
+use Rattle.b2_expr.specs.Assigning.{Assigned, unassigned}
 use Rattle.b2_expr.specs.Value.{in_statement, text, value}
 use Rattle.b2_expr.specs.declared.operators.Level.TheVariants as level
 use Rattle.b2_print.specs.Imaged.{converted}
 use Rattle.b2_expr.specs.Scope.{surroundings_of}
-use Rattle.b2_stmt_io.specs.Receiving.{assign_bytes, assign_number, unassigned}
+use Rattle.b2_expr.specs.Receiving.{assign_bytes_at, assign_number_at}
 use Rattle.b2_stmt_io.specs.TypedText.{typed_number}
 use Rattle.b2_vars.specs.declared.setting.Setting.{Setting}
 
 -- bytes for a numeric receiver
 abbrev pub number_from : Setting → TextState → TextAnswer → Trees → VarsState → Assigned
-number_from a home (Ok bytes) receiver vars = assign_number a home (typed_number bytes) receiver vars
+number_from a home (Ok bytes) receiver vars = assign_number_at a home (typed_number bytes) receiver vars
 number_from a home (Err code) receiver vars = unassigned code vars
 
 -- a number for an alpha receiver, by an image
 abbrev pub image_from : Setting → TextState → Answer → List ℕ → Trees → VarsState → Assigned
-image_from a home (Ok x) image receiver vars = assign_bytes a home (converted image x) receiver vars
+image_from a home (Ok x) image receiver vars = assign_bytes_at a home (converted image x) receiver vars
 image_from a home (Err code) image receiver vars = unassigned code vars
 
 abbrev pub converts_bytes : Setting → TextState → Trees → VarsState → Assigned

@@ -8,10 +8,10 @@ use Rattle.b2_atom.specs.Tree.Trees.{In}
 use Rattle.b2_atom.specs.declared.rows.TheConstants as row
 use Rattle.b2_text.specs.Program.{TextState}
 use Rattle.b2_vars.specs.Tables.{VarsState}
-use Rattle.b2_expr.specs.Assigning.{Assigned, then_assigned}
+use Rattle.b2_expr.specs.Assigning.{Assigned, then_assigned, unassigned}
 use Rattle.b2_stmt_io.specs.LineReading.{after_prompt, takes_line}
 use Rattle.b2_rows.specs.CommaLists.{all_listed}
-use Rattle.b2_stmt_io.specs.Receiving.{assign_bytes, assign_number, unassigned}
+use Rattle.b2_expr.specs.Receiving.{assign_bytes_at, assign_number_at}
 use Rattle.b2_stmt_io.specs.TypedText.{typed_parts, typed_number}
 use Rattle.b2_vars.specs.declared.setting.Setting.{Setting}
 
@@ -22,7 +22,7 @@ unchanged vars = record { vars = vars; code = None }
 -- a receiver of either kind takes a part without the blanks round it
 abbrev pub takes_some : Setting → TextState → List ℕ → Trees → VarsState → Assigned
 takes_some a home part (In n receiver end) vars =
-    if n == 1 then assign_bytes a home (Ok (value_of (skip_blanks part))) receiver vars else assign_number a home (typed_number part) receiver vars
+    if n == 1 then assign_bytes_at a home (Ok (value_of (skip_blanks part))) receiver vars else assign_number_at a home (typed_number part) receiver vars
 takes_some a home part t vars = unassigned S20_VARIABLE vars
 
 -- and is left without a look at it where the part is empty

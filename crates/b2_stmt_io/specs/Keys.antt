@@ -15,7 +15,7 @@ use Rattle.b2_rows.specs.LineNumbers.{line_in}
 use Rattle.b2_access.specs.Going.{to_line}
 use Rattle.b2_stmt_io.specs.Changed.{with_assigned}
 use Rattle.b2_access.specs.Planning.{Ended, stays}
-use Rattle.b2_stmt_io.specs.Receiving.{assign_bytes}
+use Rattle.b2_expr.specs.Receiving.{assign_bytes_at}
 
 -- the two lines that may be named
 abbrev pub first_named : Trees → ℕ
@@ -34,7 +34,7 @@ key_leads special lines p t = outcome.Next
 -- the key, or the number of a special function key, is assigned as one byte, and then it goes on
 abbrev pub key_assigned : ℕ → Bool → TextState → Place → Trees → Private → Ended
 key_assigned key special home p (Put word (In n receiver lines)) me =
-    with_assigned (assign_bytes (setting_of me) home (Ok (key ∷ [])) receiver me.vars) (key_leads special home.lines p lines) me
+    with_assigned (assign_bytes_at (setting_of me) home (Ok (key ∷ [])) receiver me.vars) (key_leads special home.lines p lines) me
 key_assigned key special home p t me = stays me (outcome.Failed S20_VARIABLE)
 
 -- without a key it goes on where lines are named, and else it waits

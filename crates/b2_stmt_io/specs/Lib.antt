@@ -1,6 +1,5 @@
 pub mod Changed
 pub mod TypedText
-pub mod Receiving
 pub mod Printing
 pub mod Showing
 pub mod Keys

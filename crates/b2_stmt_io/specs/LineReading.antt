@@ -16,7 +16,7 @@ use Rattle.b2_access.specs.declared.private.Private.{Private}
 use Rattle.b2_stmt_io.specs.Marks.{typed_by_mark}
 use Rattle.b2_stmt_io.specs.Changed.{with_assigned}
 use Rattle.b2_access.specs.Planning.{Ended, stays}
-use Rattle.b2_stmt_io.specs.Receiving.{assign_bytes}
+use Rattle.b2_expr.specs.Receiving.{assign_bytes_at}
 use Rattle.b2_stmt_io.specs.Showing.{with_column}
 use Rattle.b2_vars.specs.declared.setting.Setting.{Setting}
 
@@ -48,7 +48,7 @@ receiver_of (In n receiver end) = receiver
 receiver_of t = Done
 
 abbrev pub takes_line : Setting → TextState → List ℕ → Trees → VarsState → Assigned
-takes_line a home line t vars = assign_bytes a home (Ok line) (receiver_of (after_prompt t)) vars
+takes_line a home line t vars = assign_bytes_at a home (Ok line) (receiver_of (after_prompt t)) vars
 
 -- the prompt was shown
 abbrev pub prompted : List ℕ → Private → Ended

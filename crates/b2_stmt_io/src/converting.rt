@@ -7,15 +7,16 @@ ghost use Rattle.b2_rows.specs.Leaves.{is_leaf, leaf_bytes};
 ghost use Rattle.b2_rows.specs.Rows.{is_part, tree_at, after_part};
 ghost use Rattle.b2_rows.specs.Values.{image_of};
 ghost use Rattle.b2_stmt_io.specs.Converting as spec;
-ghost use Rattle.b2_stmt_io.specs.Receiving.{assign_bytes as assigns_bytes};
+ghost use Rattle.b2_expr.specs.Receiving.{assign_bytes_at as assigns_bytes};
 
-use crate::receiving::number_to;
+use crate::typed_text::typed_number;
 use b2_atom::Cursor;
 use b2_base::lexical::dropped;
 use b2_base::{Code, NoMemory};
 use b2_dec::{Bytes, Dec};
 use b2_expr::{
-    alpha, alpha_receiver, assign_bytes, code_of, number, past_alpha_receiver, surroundings_of,
+    alpha, alpha_receiver, assign_bytes, assign_number_at, code_of, number, past_alpha_receiver,
+    surroundings_of,
 };
 use b2_print::convert;
 use b2_rows::{image_at, is_alpha_at};
@@ -39,7 +40,13 @@ fn convert_bytes(
         Ok(()) => {}
         Err(code) => return Ok(Some(code)),
     }
-    number_to(vars, a, home, bytes.bytes(), dropped(c.rest(), 1))
+    assign_number_at(
+        vars,
+        a,
+        home,
+        typed_number(bytes.bytes()),
+        dropped(c.rest(), 1),
+    )
 }
 
 /// Assigns a number in an image to the alpha receiver at a text.

@@ -1,6 +1,5 @@
 // INPUT: the parts of a line for its receivers; and how INPUT and LINPUT finish.
-ghost use Rattle.std.specs.Prelude.{◌≡◌, ◌≢◌, ◌==◌, ◌||◌, true, false, length, IfOk, Some};
-ghost use Rattle.b2_base.specs.Lexical.{skip_blanks as blanks_skipped};
+ghost use Rattle.std.specs.Prelude.{◌≡◌, ◌==◌, ◌||◌, true, IfOk};
 ghost use Rattle.b2_alpha.specs.Values.{value_of};
 ghost use Rattle.b2_atom.specs.declared.rows.TheConstants as row;
 ghost use Rattle.b2_rows.specs.Rows.{is_part, tree_at};
@@ -11,14 +10,13 @@ ghost use Rattle.b2_rows.specs.CommaLists.{are_others, past_first, receivers_at}
 ghost use Rattle.b2_stmt_io.specs.TypedText.{typed_parts};
 
 use crate::line_reading::{ask_line, assign_line, past_prompt, prompt_shown, type_literal};
-use crate::receiving::{bytes_to, number_to};
-use crate::typed_text::part_width;
+use crate::typed_text::{part_width, typed_number};
 use b2_access::{Access, Answer, Outcome, Private, goes_or, setting_of};
 use b2_alpha::value_len;
 use b2_atom::rows;
 use b2_base::lexical::{dropped, front, skip_blanks};
 use b2_base::{Code, NoMemory, Term};
-use b2_expr::past_any_receiver;
+use b2_expr::{assign_bytes_at, assign_number_at, past_any_receiver};
 use b2_rows::{is_alpha_at, is_at};
 use b2_text::Text;
 use b2_vars::{Setting, Vars};
@@ -45,9 +43,9 @@ fn some_to(
     ensures { IfOk result (λ code. record { vars = vars.new; code = code } ≡ spec.takes_some a.now home.now part.now (tree_at row.RECEIVER text.now) vars.old) }
 {
     if is_alpha_at(text) {
-        bytes_to(vars, a, home, item_value(skip_blanks(part)), text)
+        assign_bytes_at(vars, a, home, item_value(skip_blanks(part)), text)
     } else {
-        number_to(vars, a, home, part, text)
+        assign_number_at(vars, a, home, typed_number(part), text)
     }
 }
 

@@ -7,11 +7,10 @@ ghost use Rattle.b2_rows.specs.Rows.{is_part, tree_at};
 ghost use Rattle.b2_rows.specs.Optional.{maybe_part, maybe_tree};
 ghost use Rattle.b2_stmt_io.specs.Keys as spec;
 
-use crate::receiving::bytes_to;
 use b2_access::{Answer, Outcome, Private, goes_or, setting_of, to_line};
 use b2_base::NoMemory;
 use b2_base::lexical::dropped;
-use b2_expr::past_alpha_receiver;
+use b2_expr::{assign_bytes_at, past_alpha_receiver};
 use b2_flow::Place;
 use b2_rows::{is_at, line_at};
 use b2_text::Text;
@@ -55,7 +54,7 @@ fn assign_key(
 {
     let setting = setting_of(me);
     let receiver = dropped(unit, 1);
-    let code = bytes_to(&mut me.vars, &setting, home, &[key], receiver)?;
+    let code = assign_bytes_at(&mut me.vars, &setting, home, &[key], receiver)?;
     Ok(goes_or(
         key_leads(special, home, place, past_alpha_receiver(receiver)),
         code,

@@ -19,7 +19,6 @@ mod line_reading;
 mod marks;
 mod planning;
 mod printing;
-mod receiving;
 mod showing;
 mod typed_text;
 

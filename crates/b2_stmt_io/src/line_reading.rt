@@ -9,12 +9,12 @@ ghost use Rattle.b2_stmt_io.specs.LineReading as spec;
 ghost use Rattle.b2_stmt_io.specs.Marks.{typed_by_mark};
 
 use crate::marks::typed_by_mark;
-use crate::receiving::bytes_to;
 use crate::showing::move_column;
 use b2_access::{Access, Outcome, Private};
 use b2_atom::literal_width;
 use b2_base::lexical::dropped;
 use b2_base::{ByteList, Code, NoMemory, Term};
+use b2_expr::assign_bytes_at;
 use b2_rows::{is_at, literal_at};
 use b2_text::Text;
 use b2_vars::{Setting, Vars};
@@ -88,7 +88,7 @@ pub fn assign_line(
     requires part { is_part row.LINPUT unit.now ≡ true }
     ensures { IfOk result (λ code. record { vars = vars.new; code = code } ≡ spec.takes_line a.now home.now line.now (tree_at row.LINPUT unit.now) vars.old) }
 {
-    bytes_to(vars, a, home, line, past_prompt(dropped(unit, 1)))
+    assign_bytes_at(vars, a, home, line, past_prompt(dropped(unit, 1)))
 }
 
 /// After the prompt was shown.

@@ -1,5 +1,5 @@
 // The store: its rows, and how it serves and lends.
-ghost use Rattle.std.specs.Prelude.{◌≡◌, ◌≤◌, Some, IfOk, IsSome, option_copied};
+ghost use Rattle.std.specs.Prelude.{◌≡◌, ◌≤◌, Some, IfOk, option_copied};
 ghost use Rattle.b2_access.specs.Store.{content};
 ghost use Rattle.b2_access.specs.Serving.{if_other, other_front, first_inside, at_terminal, shows, line_answer, reads_line, inserts, key_answer, takes_key, edits, puts_atoms, erases, puts_line, clears};
 ghost use Rattle.b2_store.specs.Changes.{keyed_at, front_at, room_at};

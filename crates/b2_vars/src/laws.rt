@@ -9,7 +9,7 @@ ghost use Rattle.b2_vars.specs.declared.shape.Shape.{Shape};
 ghost use Rattle.b2_vars.specs.Calls.{common_only, is_common};
 ghost use Rattle.b2_vars.specs.Names.{var_cmp};
 ghost use Rattle.b2_vars.specs.Shapes.{cells, cost, has_cell, cell_at, has_dimensions};
-ghost use Rattle.b2_vars.specs.Tables.{Table, count_of, shape_at, variable_at};
+ghost use Rattle.b2_vars.specs.Tables.{Table, count_of, shape_at};
 ghost use Rattle.b2_vars.specs.Variables.{VariableState, number_at, with_number, with_bytes, bytes_from};
 
 /// The order of names is total, and no two names tie in it.

@@ -1,5 +1,5 @@
 // Variables by their names, in a map by insertion.
-ghost use Rattle.std.specs.Prelude.{◌≡◌, ◌≤◌, ◌<◌, ◌+◌, ◌*◌, ◌^◌, length, Option, None, Some, IfSome, IfOk, IsSome, OnOk, OnErr, is_some, true, List, [], ◌∷◌, ℕ};
+ghost use Rattle.std.specs.Prelude.{◌≡◌, ◌≤◌, ◌<◌, ◌+◌, ◌*◌, ◌^◌, length, Option, None, Some, IfSome, IfOk, IsSome, OnOk, OnErr, is_some, true, [], ◌∷◌};
 ghost use Rattle.std.specs.FinMap as map;
 ghost use Rattle.std.specs.Fn.{FnOnceReturnsAtMut};
 ghost use Rattle.std.specs.Option.{option_copied};

@@ -1,13 +1,13 @@
 // A partition's variables.
-ghost use Rattle.std.specs.Prelude.{◌≡◌, ◌≤◌, ◌<◌, ◌+◌, ◌*◌, ◌^◌, true, false, length, IsSome, IfSome, IfOk, OnOk, OnErr, Some, None, is_some, Ok};
+ghost use Rattle.std.specs.Prelude.{◌≡◌, ◌≤◌, ◌<◌, ◌+◌, ◌*◌, ◌^◌, true, false, length, IsSome, IfSome, IfOk, OnOk, OnErr, Some, None, Ok};
 ghost use Rattle.std.specs.Borrow.{sem};
 ghost use Rattle.std.specs.FinMap as map;
 ghost use Rattle.std.specs.Fn.{FnOnceReturnsAtMut};
 ghost use Rattle.std.specs.Option.{option_map};
-ghost use Rattle.b2_vars.specs.Answers.{Answers, AnswersOrFails, first_of};
+ghost use Rattle.b2_vars.specs.Answers.{Answers, AnswersOrFails};
 ghost use Rattle.b2_vars.specs.Calls.{ChangesPart, IsPart, IsCell, full, no_array, get_code, set_code, part_code, dim_code, com_code, redim_code, missing_code, with_new, with_scalar, with_change, with_bytes_of, part_place, common_only};
 ghost use Rattle.b2_vars.specs.Names.{is_legal_name};
-ghost use Rattle.b2_vars.specs.Shapes.{has_dimensions, has_length, has_cell, cell_at, size_of, alpha_bytes};
+ghost use Rattle.b2_vars.specs.Shapes.{has_dimensions, has_length, cell_at, size_of, alpha_bytes};
 ghost use Rattle.b2_vars.specs.Tables.{count_of, shape_at, variable_at, IsVariable};
 ghost use Rattle.b2_vars.specs.Variables.{VariableState, fresh, value_at, number_at, alpha_at, is_alpha, bytes_from, with_number, with_alpha, with_value, reshaped};
 ghost use Rattle.b2_vars.specs.VarsLending.{LendsPart, LendsAll};

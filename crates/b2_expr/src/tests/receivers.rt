@@ -24,7 +24,7 @@ use std::test::Fail;
 const AFTER: &[u8] = b",Z9";
 
 // The bytes of a line's first unit after as many.
-fn past(line: &Atoms, count: usize) -> &[u8] {
+pub fn past(line: &Atoms, count: usize) -> &[u8] {
     match row_unit(line, 0) {
         Some(unit) => dropped(unit.bytes, count),
         None => &[],
@@ -481,7 +481,7 @@ fn buffer_of(world: &World, text: &[u8]) -> Result<Buffer, Fail>
 }
 
 // All bytes of what is typed.
-fn holds(alloc: Global, world: &World, typed: &[u8], bytes: &[u8]) -> Result<bool, Fail> {
+pub fn holds(alloc: Global, world: &World, typed: &[u8], bytes: &[u8]) -> Result<bool, Fail> {
     let line = statement(alloc, b"INIT(41)", typed, b"")?;
     let of = buffer_of(world, past(&line, 4))?;
     Ok(buffer_bytes(&world.own, &of)? == bytes)

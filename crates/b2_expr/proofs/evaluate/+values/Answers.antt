@@ -5,7 +5,6 @@ use Rattle.b2_atom.specs.Words.{Text}
 use Rattle.b2_atom.specs.declared.rows.TheConstants as row
 use Rattle.b2_rows.specs.Rows.{is_part, tree_at, after_part}
 use Rattle.b2_rows.specs.Leaves.{leaf_bytes}
-use Rattle.b2_expr.specs.Answers.{Answer}
 use Rattle.b2_expr.specs.Further.{further_tree}
 use Rattle.b2_rows.proofs.Levels.{part_no_longer}
 use Rattle.b2_expr.specs.Levels.{ends, left_after_levels, pick, spans}

@@ -1,4 +1,4 @@
-use Rattle.std.proofs.Common.{◌≡◌, ◌≤◌, ◌<◌, ℕ, true, sym, subst, arith}
+use Rattle.std.proofs.Common.{◌≡◌, ℕ, true, sym, subst, arith}
 use Rattle.b2_expr.specs.Levels.{has_sign}
 use Rattle.b2_expr.proofs.Waits.{few_wait}
 use Rattle.b2_expr.proofs.evaluate.past_sign.Goals as goal

@@ -1,7 +1,8 @@
-use Rattle.std.proofs.Common.{◌≡◌, ◌∷◌, true, length}
+use Rattle.std.proofs.Common.{◌≡◌, ◌∷◌, Ok, true, length}
 use Rattle.b2_atom.specs.declared.rows.TheConstants as row
 use Rattle.b2_rows.specs.Rows.{is_part, tree_at}
-use Rattle.b2_stmt.specs.Assignments.{assign_number, assign_each}
+use Rattle.b2_expr.specs.Receiving.{assign_number_at}
+use Rattle.b2_stmt.specs.Assignments.{assign_each}
 use Rattle.b2_rows.specs.CommaLists.{all_listed, further_listed}
 use Rattle.b2_stmt.proofs.NumberRows.{are_others, end_at, left_at, past_first}
 use Rattle.b2_stmt.proofs.assignments.assign_all.Given as goal
@@ -11,8 +12,8 @@ abbrev pub invariant-loop-code : goal.invariant-loop-code
 invariant-loop-code l = record {
   part : is_part row.NUMERIC_RECEIVER l.left ≡ true;
   list : are_others (past_first l.left) ≡ true;
-  assigned : assign_each (assign_number l.a l.home l.x) (tree_at row.NUMERIC_RECEIVER l.left ∷ further_listed (left_at (end_at (past_first l.text)) (past_first l.left))) l.vars
-      ≡ assign_each (assign_number l.a l.home l.x) (all_listed (tree_at row.NUMERIC_ASSIGNMENT l.text)) l.fn.vars;
+  assigned : assign_each (assign_number_at l.a l.home (Ok l.x)) (tree_at row.NUMERIC_RECEIVER l.left ∷ further_listed (left_at (end_at (past_first l.text)) (past_first l.left))) l.vars
+      ≡ assign_each (assign_number_at l.a l.home (Ok l.x)) (all_listed (tree_at row.NUMERIC_ASSIGNMENT l.text)) l.fn.vars;
 }
 
 abbrev pub decreases-loop-code : goal.decreases-loop-code

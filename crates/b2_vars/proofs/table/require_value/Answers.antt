@@ -1,4 +1,4 @@
-use Rattle.std.proofs.Common.{◌≡◌, ℕ, Bool, true, false, not, true≢false, refl, sym, arith}
+use Rattle.std.proofs.Common.{◌≡◌, Bool, true, false, not, true≢false, refl, sym, arith}
 use Rattle.std.proofs.lemmas.Bool.Decides.{nat_tests}
 use Rattle.b2_vars.specs.Tables.{table_of}
 use Rattle.b2_vars.proofs.Scalars.{scalar-code}

@@ -1,20 +1,16 @@
--- Receivers that take bytes or a number, and how that ends.
-use Rattle.std.specs.Prelude.{ℕ, Some, Result, Ok, Err}
+-- Receivers at the place where they are written take bytes or a number, and how that ends.
+use Rattle.std.specs.Prelude.{ℕ, Result, Ok, Err}
 use Rattle.b2_atom.specs.Tree.{Trees}
 use Rattle.b2_text.specs.Program.{TextState}
 use Rattle.b2_vars.specs.Tables.{VarsState}
+use Rattle.b2_vars.specs.declared.setting.Setting.{Setting}
 use Rattle.b2_expr.specs.Answers.{Answer, TextAnswer}
-use Rattle.b2_expr.specs.Assigning.{Assigned, assigned_bytes, assigned_number}
+use Rattle.b2_expr.specs.Assigning.{Assigned, assigned_bytes, assigned_number, unassigned}
 use Rattle.b2_expr.specs.Receivers.{alpha_receiver, number_receiver}
+use Rattle.b2_expr.specs.Scope.{surroundings_of}
 use Rattle.b2_expr.specs.Value.{in_statement}
 use Rattle.b2_expr.specs.declared.named.Element.{Element}
 use Rattle.b2_expr.specs.declared.receiver.AlphaReceiver.{AlphaReceiver}
-use Rattle.b2_expr.specs.Scope.{surroundings_of}
-use Rattle.b2_vars.specs.declared.setting.Setting.{Setting}
-
--- nothing is assigned, for a code
-abbrev pub unassigned : ℕ → VarsState → Assigned
-unassigned code vars = record { vars = vars; code = Some code }
 
 -- a receiver that was located, and the bytes or the number that it takes: its own code comes before theirs
 abbrev pub bytes_to : Result AlphaReceiver ℕ → TextAnswer → VarsState → Assigned
@@ -28,8 +24,8 @@ number_to (Ok to) (Err code) vars = unassigned code vars
 number_to (Err code) x vars = unassigned code vars
 
 -- a receiver is located among the variables as they are
-abbrev pub assign_bytes : Setting → TextState → TextAnswer → Trees → VarsState → Assigned
-assign_bytes a home bytes t vars = bytes_to (alpha_receiver (in_statement (surroundings_of a vars home)) t) bytes vars
+abbrev pub assign_bytes_at : Setting → TextState → TextAnswer → Trees → VarsState → Assigned
+assign_bytes_at a home bytes t vars = bytes_to (alpha_receiver (in_statement (surroundings_of a vars home)) t) bytes vars
 
-abbrev pub assign_number : Setting → TextState → Answer → Trees → VarsState → Assigned
-assign_number a home x t vars = number_to (number_receiver (in_statement (surroundings_of a vars home)) t) x vars
+abbrev pub assign_number_at : Setting → TextState → Answer → Trees → VarsState → Assigned
+assign_number_at a home x t vars = number_to (number_receiver (in_statement (surroundings_of a vars home)) t) x vars
