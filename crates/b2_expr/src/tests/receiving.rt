@@ -46,7 +46,7 @@ fn put_number(
 
 // Assigns bytes to the alpha receiver that is typed; gives the code, 0 for none.
 fn put_bytes(alloc: Global, world: &mut World, typed: &[u8], bytes: &[u8]) -> Result<u8, Fail> {
-    let line = statement(alloc, typed, b"=\"\"", b"")?;
+    let line = statement(alloc, typed, b"=\" \"", b"")?;
     let text = past(&line, 0);
     if !is_read(ALPHA_RECEIVER, text) {
         return Err("no alpha receiver".into());
