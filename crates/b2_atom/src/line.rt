@@ -1,8 +1,8 @@
 // Lines as atoms, their units, and a cursor over the bytes of one.
-ghost use Rattle.std.specs.Prelude.{◌≡◌, ◌≢◌, ◌≤◌, ◌<◌, ◌&&◌, nat_lt, length, drop, ◌+◌, ◌==◌, ◌||◌, IfErr, IfOk, IfSome, MatchResult, Some, None, if◌then◌else◌, true, is_ok, slice_get};
+ghost use Rattle.std.specs.Prelude.{◌≡◌, ◌≢◌, ◌≤◌, ◌<◌, length, drop, ◌+◌, ◌==◌, IfErr, IfOk, IfSome, MatchResult, Some, None, if◌then◌else◌, true, is_ok, slice_get};
 ghost use Rattle.std.specs.Option.{option_map};
 ghost use Rattle.b2_atom.specs.Grammar as spec;
-ghost use Rattle.b2_atom.specs.Lines.{IsKnown, is_line, line_atoms, line_source, short_line, after_unit, next_place, next_text, units_of, further_unit, is_further, IsReadBy, unit_row, unit_uses};
+ghost use Rattle.b2_atom.specs.Lines.{IsKnown, is_line, line_atoms, line_source, short_line, units_of, further_unit, IsReadBy, unit_row, unit_uses};
 
 use crate::laws::what_is_read_is_a_line;
 use crate::sink::{Sink, Source, Stop, Uses, bytes_of};

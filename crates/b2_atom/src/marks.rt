@@ -1,5 +1,5 @@
 // The items that stand for themselves: words, signs, what is typed by hand, the line's end.
-ghost use Rattle.std.specs.Prelude.{◌≡◌, ◌≤◌, ◌<◌, ◌+◌, length, MatchResult, IfErr};
+ghost use Rattle.std.specs.Prelude.{◌≡◌, ◌≤◌, ◌<◌, ◌+◌};
 ghost use Rattle.b2_atom.specs.Tree.{seen_sink, Takes};
 ghost use Rattle.b2_atom.specs.Tree.Trees.{Done};
 ghost use Rattle.b2_atom.specs.Grammar as spec;

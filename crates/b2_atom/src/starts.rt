@@ -1,5 +1,5 @@
 // What begins a part, and which statement begins.
-ghost use Rattle.std.specs.Prelude.{◌≡◌, ◌≢◌, ◌<◌, length, IfErr, MatchResult};
+ghost use Rattle.std.specs.Prelude.{◌≡◌, ◌≢◌, ◌<◌, IfErr, MatchResult};
 ghost use Rattle.b2_atom.specs.Words as words;
 ghost use Rattle.b2_atom.specs.Grammar as spec;
 

@@ -1,7 +1,6 @@
 // One walk over the table of forms, from a source as from atoms.
-ghost use Rattle.std.specs.Prelude.{◌≡◌, ◌≤◌, ◌<◌, ◌+◌, ℕ, [], length, map, get_or, MatchResult, IfErr};
+ghost use Rattle.std.specs.Prelude.{◌≡◌, ◌≤◌, ◌<◌, ◌+◌, [], length, map, get_or};
 ghost use Rattle.b2_atom.specs.Tree.{seen_sink, Takes};
-ghost use Rattle.b2_atom.specs.Table.{rows_0, rows_1, rows_2, rows_3};
 ghost use Rattle.b2_atom.specs.Grammar as spec;
 
 use crate::forms::{Item, Position, Start};

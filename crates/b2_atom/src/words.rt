@@ -1,5 +1,5 @@
 // The words of the language with their codes, and which of them stands at a text.
-ghost use Rattle.std.specs.Prelude.{◌≡◌, ◌≤◌, ◌<◌, [], length, map, drop, take, get_or};
+ghost use Rattle.std.specs.Prelude.{◌≡◌, ◌≤◌, [], length, map, get_or};
 ghost use Rattle.b2_atom.specs.Words as spec;
 
 use b2_base::lexical::{dropped, first, skip_blanks, upper};

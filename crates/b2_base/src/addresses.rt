@@ -1,5 +1,5 @@
 // The addresses of devices.
-ghost use Rattle.std.specs.Prelude.{◌≡◌, ◌≤◌, ◌<◌, ◌++◌, [], ◌∷◌, length, true, IsTrue, ◌↔◌};
+ghost use Rattle.std.specs.Prelude.{◌≡◌, ◌≤◌, ◌<◌, ◌++◌, [], ◌∷◌, length, true};
 ghost use Rattle.b2_base.specs.Names.{is_address, address_of};
 
 use crate::lexical::is_hex_digit;

@@ -1,5 +1,5 @@
 // What kinds of bytes there are, digits and the numbers that they spell, and the fronts of texts.
-ghost use Rattle.std.specs.Prelude.{◌≡◌, ◌≤◌, ◌<◌, ◌^◌, length, drop, take, get_or, true};
+ghost use Rattle.std.specs.Prelude.{◌≡◌, ◌≤◌, ◌<◌, length, drop, take, get_or, true};
 ghost use Rattle.b2_base.specs.Lexical as spec;
 
 /// The byte that begins a sequence for the screen as a whole.

@@ -1,8 +1,8 @@
 // A shelf and a sink in memory, whose calls fail by a list of their numbers.
-ghost use Rattle.std.specs.Prelude.{◌≡◌, ◌≤◌, ◌<◌, ◌^◌, ◌++◌, [], List, ℕ, Some, Option, option_map, option_copied, OnOk, OnErr};
+ghost use Rattle.std.specs.Prelude.{◌≡◌, ◌≤◌, ◌<◌, ◌^◌, ◌++◌, [], Some, Option, option_map, option_copied, OnOk, OnErr};
 ghost use Rattle.std.specs.FinMap as map;
 ghost use Rattle.b2_base.specs.Counts.{Rose};
-ghost use Rattle.b2_base.specs.Files.{Files, IsFetched, IsAbsent, IsCutShort, with_file, without_file};
+ghost use Rattle.b2_base.specs.Files.{IsFetched, IsAbsent, IsCutShort, with_file, without_file};
 ghost use Rattle.b2_base.specs.Keyed.{files_of};
 ghost use Rattle.b2_base.specs.Memory.{is_listed};
 ghost use Rattle.b2_base.specs.Outside.{IsPartWritten};

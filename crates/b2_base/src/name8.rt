@@ -1,6 +1,5 @@
 // The names of files on disks, and of global texts.
 ghost use Rattle.std.specs.Prelude.{◌≡◌, ◌≤◌, length, true};
-ghost use Rattle.std.specs.List.{list_all};
 ghost use Rattle.b2_base.specs.Names.{is_name8, padded8, name8_of};
 
 use crate::lexical::all_printable;
@@ -13,7 +12,7 @@ pub struct Name8 {
 }
 
 impl Model for Name8 {
-    ghost use Rattle.std.specs.Prelude.{ℕ, List, ◌≡◌, true, length};
+    ghost use Rattle.std.specs.Prelude.{ℕ, List, ◌≡◌, true};
     ghost use Rattle.b2_base.specs.Names.{is_name8};
 
     ghost Value = { List ℕ };

@@ -1,7 +1,7 @@
 // The trusted edge: files of the file system, and standard output. They tell no bytes.
-ghost use Rattle.std.specs.Prelude.{◌≡◌, ◌≤◌, ◌<◌, ◌+◌, ◌^◌, ◌++◌, None, Option, option_map, List, [], ℕ, length, take, IfSome, true};
+ghost use Rattle.std.specs.Prelude.{◌≡◌, ◌≤◌, ◌<◌, ◌+◌, ◌^◌, ◌++◌, None, option_map, [], ℕ, length, take, IfSome, true};
 ghost use Rattle.b2_base.specs.Counts.{Rose};
-ghost use Rattle.b2_base.specs.Files.{Files, IsFetched, IsAbsent, IsCutShort, with_file, without_file};
+ghost use Rattle.b2_base.specs.Files.{Files, IsFetched, IsAbsent, IsCutShort};
 ghost use Rattle.b2_base.specs.Outside.{IsPartWritten};
 ghost use Rattle.std.specs.Io.KnownBytes.{Appends};
 ghost use Rattle.b2_base.specs.declared.real.Reading.TheVariants.{Whole, TooLong};

@@ -3,7 +3,6 @@ ghost use Rattle.std.specs.Prelude.{◌≡◌, ◌+◌, ◌*◌, ◌<◌, ◌≤
 ghost use Rattle.std.specs.FinMap.{get};
 ghost use Rattle.b2_platter.specs.declared.layout.Layout.TheVariants.{Narrow};
 ghost use Rattle.b2_platter.specs.Image.{row, index_of, has_free};
-ghost use Rattle.b2_platter.specs.Checks.{Good};
 ghost use Rattle.b2_catalog.specs.Catalogue.{catalogue, entry_at};
 ghost use Rattle.b2_catalog.specs.Ways.{has_name, slot_in, way_of, way, found_along, slot_found, IsSlotOf};
 

@@ -5,7 +5,7 @@ ghost use Rattle.std.specs.FinMap.{get, insert, remove};
 ghost use Rattle.b2_platter.specs.declared.layout.Layout.TheVariants.{Narrow};
 ghost use Rattle.b2_platter.specs.Checks.{Good};
 ghost use Rattle.b2_catalog.specs.Catalogue.{catalogue, entry_at};
-ghost use Rattle.b2_catalog.specs.Ways.{slot_found, IsSlotOf};
+ghost use Rattle.b2_catalog.specs.Ways.{slot_found};
 ghost use Rattle.b2_catalog.specs.Changes.{reused};
 ghost use Rattle.b2_catalog.specs.Calls.{reuse_refusal, reused_place};
 

@@ -1,5 +1,5 @@
 // Slots and control sectors as they are written.
-ghost use Rattle.std.specs.Prelude.{◌≡◌, ◌+◌, ◌*◌, ◌^◌, ◌<◌, ◌≤◌, true, length};
+ghost use Rattle.std.specs.Prelude.{◌≡◌, ◌+◌, ◌*◌, ◌<◌, true, length};
 ghost use Rattle.b2_base.specs.Names.{is_name8};
 ghost use Rattle.b2_catalog.specs.Changes.{put_row, kind_of, file_slot, scratched_slot, gone_slot, control_sector};
 

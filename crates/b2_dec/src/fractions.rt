@@ -1,6 +1,6 @@
 // Numbers without their fractions.
 ghost use Rattle.std.specs.Prelude.{◌≡◌, ◌*◌, ◌/◌, ◌^◌, ◌*ℤ◌, Ok, pos, true};
-ghost use Rattle.b2_dec.specs.Number.{IsNumber, size, value, signed};
+ghost use Rattle.b2_dec.specs.Number.{size, value, signed};
 ghost use Rattle.b2_dec.specs.Arithmetic.{int_of, fix_of, floored, whole_above};
 
 use crate::number::Dec;

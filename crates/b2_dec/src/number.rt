@@ -25,8 +25,7 @@ pub struct Dec {
 }
 
 impl Model for Dec {
-    ghost use Rattle.std.specs.Prelude.{◌-ℤ◌, ◌+ℤ◌, ◌≤ℤ◌, pos, nat_abs, negsuc};
-    ghost use Rattle.b2_dec.specs.Number.{Number, IsNumber};
+    ghost use Rattle.b2_dec.specs.Number.{Number};
 
     ghost Value = { Number };
 

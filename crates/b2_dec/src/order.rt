@@ -1,10 +1,9 @@
 // The order of numbers, their signs and their whole parts.
-ghost use Rattle.std.specs.Prelude.{◌≡◌, ◌<◌, ◌^◌, false, Ok, Some, None, pos, if◌then◌else◌};
+ghost use Rattle.std.specs.Prelude.{◌≡◌, ◌<◌, ◌^◌, false, Some, None, if◌then◌else◌};
 ghost use Rattle.std.specs.Ordering.{nat_cmp, int_cmp};
 ghost use Rattle.b2_dec.specs.declared.number.Mode.{Mode};
 ghost use Rattle.b2_dec.specs.Number.{size, value, signed};
-ghost use Rattle.b2_dec.specs.Rounding.{rounded};
-ghost use Rattle.b2_dec.specs.Arithmetic.{fits_64, whole_of, floored, sign_of};
+ghost use Rattle.b2_dec.specs.Arithmetic.{fits_64, whole_of, sign_of};
 
 use crate::number::{Dec, Mode};
 use crate::rounding::{lowered, ten_to};

@@ -1,5 +1,5 @@
 // Powers and square roots.
-ghost use Rattle.std.specs.Prelude.{◌≡◌, ◌*◌, ◌^◌, ◌≤◌, IfOk, IsOk, false};
+ghost use Rattle.std.specs.Prelude.{◌≡◌, ◌*◌, IfOk, IsOk, false};
 ghost use Rattle.b2_dec.specs.Laws.{IsRoot};
 ghost use Rattle.b2_dec.specs.Arithmetic.{one_number, times, power_of, root_of};
 

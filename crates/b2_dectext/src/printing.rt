@@ -1,5 +1,5 @@
 // The printed form of a number.
-ghost use Rattle.std.specs.Prelude.{◌≡◌, ℕ, ◌+◌, ◌-◌, ◌*◌, ◌/◌, ◌%◌, ◌^◌, ◌<◌, ◌≤◌, ◌++◌, ◌∷◌, length, take, drop};
+ghost use Rattle.std.specs.Prelude.{◌≡◌, ◌+◌, ◌-◌, ◌/◌, ◌%◌, ◌<◌, ◌≤◌, ◌++◌, length, take, drop};
 ghost use Rattle.b2_base.specs.Byte as byte;
 ghost use Rattle.b2_dectext.specs.Digits.{digit_bytes, without_last_zeros};
 ghost use Rattle.b2_dectext.specs.Printed.{with_point, nine_digits, exponent_shown, sign_shown, shown_size, printed, IsPut};

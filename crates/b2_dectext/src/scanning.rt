@@ -1,5 +1,5 @@
 // How many bytes of a text are a number.
-ghost use Rattle.std.specs.Prelude.{◌≡◌, ℕ, ◌+◌, ◌^◌, ◌<◌, ◌≤◌, ◌==◌, length, drop, if◌then◌else◌};
+ghost use Rattle.std.specs.Prelude.{◌≡◌, ◌+◌, ◌^◌, ◌<◌, ◌≤◌, ◌==◌, length, drop, if◌then◌else◌};
 ghost use Rattle.b2_base.specs.Byte as byte;
 ghost use Rattle.b2_base.specs.Lexical.{first, digits_width};
 ghost use Rattle.b2_dectext.specs.Digits.{AreDigits};

@@ -13,7 +13,8 @@
 //! Receivers are located by `number_receiver`, `alpha_receiver`, `any_receiver`, `buffer`, `whole_array` and `array_named`, as
 //! `specs/Receivers.antt` says of their trees; `right_side` takes the operands of an alpha assignment (`specs/RightSide.antt`),
 //! and `assign_number`, `assign_bytes`, `assign_value`, `assign_side` and `change_buffer` change variables, as
-//! `specs/Assigning.antt` says; `assign_number_at` and `assign_bytes_at` do both at once (`specs/Receiving.antt`). `right_side` alone takes memory, where there are operations.
+//! `specs/Assigning.antt` says; `assign_number_at` and `assign_bytes_at` locate and change at once (`specs/Receiving.antt`).
+//! `right_side` alone takes memory, where there are operations.
 #![tactic(auto)]
 
 mod assign;

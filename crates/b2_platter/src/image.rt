@@ -1,6 +1,5 @@
 // The rows, the sectors and the head of an image.
 ghost use Rattle.std.specs.Prelude.{◌≡◌, ◌+◌, ◌*◌, ◌≤◌, length};
-ghost use Rattle.b2_platter.specs.Layout.{third_place, width_of};
 ghost use Rattle.b2_platter.specs.Image.{row, sector, index_of, total_of, catalogue_end, next_free};
 
 use crate::Layout;

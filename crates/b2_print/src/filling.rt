@@ -1,8 +1,7 @@
 // A value in a field.
-ghost use Rattle.std.specs.Prelude.{◌≡◌, ℕ, ◌+◌, ◌-ℤ◌, ◌*◌, ◌/◌, ◌%◌, ◌^◌, ◌<◌, ◌≤◌, ◌++◌, pos, length, drop, not};
+ghost use Rattle.std.specs.Prelude.{◌≡◌, ◌+◌, ◌*◌, ◌/◌, ◌%◌, ◌^◌, ◌<◌, ◌≤◌, ◌++◌, length, drop};
 ghost use Rattle.b2_base.specs.Byte as byte;
-ghost use Rattle.b2_dec.specs.Number.{IsNumber};
-ghost use Rattle.b2_dectext.specs.FieldParts.{sign_bytes, is_hash};
+ghost use Rattle.b2_dectext.specs.FieldParts.{sign_bytes};
 ghost use Rattle.b2_print.specs.Images.{point_width, field_width, dollar_bytes};
 ghost use Rattle.b2_print.specs.Filling as spec;
 

@@ -1,5 +1,5 @@
 // Values in an image.
-ghost use Rattle.std.specs.Prelude.{◌≡◌, false, Ok, Err, Some, None, MatchOption, if◌then◌else◌, ◌++◌, ◌-◌, ◌≤◌, ◌<◌, ◌^◌, [], ◌∷◌, length, drop, min, OnOk, OnErr, IfOk, IfErr, IfSome, MatchResult};
+ghost use Rattle.std.specs.Prelude.{◌≡◌, false, Ok, Err, Some, None, MatchOption, if◌then◌else◌, ◌++◌, ◌-◌, ◌≤◌, ◌<◌, ◌^◌, [], ◌∷◌, length, min, OnOk, OnErr, IfOk, IfErr, IfSome};
 ghost use Rattle.b2_base.specs.Byte as byte;
 ghost use Rattle.b2_base.specs.Refusals.{IsRefused};
 ghost use Rattle.b2_print.specs.Images.{field_width, pieces_of, fields, literals, IsFirstField};

@@ -4,10 +4,10 @@
 //! and each call is proved to be the function of that file, for every queue, line and transcript.
 #![tactic(auto)]
 
-ghost use Rattle.std.specs.Prelude.{◌≡◌, ◌≤◌, ◌<◌, [], ◌∷◌, ◌++◌, length, nat_lt, drop, slice_get, OnOk, IfOk, false, ◌↔◌};
+ghost use Rattle.std.specs.Prelude.{◌≡◌, ◌≤◌, ◌<◌, [], ◌++◌, length, nat_lt, drop, slice_get, OnOk, IfOk, false, ◌↔◌};
 ghost use Rattle.std.specs.List.{list_any};
 ghost use Rattle.std.specs.VecDeque.{deque_capacity};
-ghost use Rattle.b2_term.specs.Terminal.{Typing, reading, line_read, after_read, typed, type_bytes, inserted, echo, keyed, ends_line, IsShortLine};
+ghost use Rattle.b2_term.specs.Terminal.{reading, line_read, after_read, typed, type_bytes, inserted, echo, keyed, ends_line, IsShortLine};
 
 use b2_base::lexical::is_printable;
 use b2_base::{ByteList, NoMemory, Part};
