@@ -1,5 +1,6 @@
 -- What a statement plans, and how it finishes: what becomes of the private state and of the `@` variables.
 use Rattle.std.specs.Prelude.{ℕ, Option, Some, None}
+use Rattle.b2_vars.specs.Assigned.{Assigned}
 use Rattle.b2_vars.specs.Tables.{VarsState}
 use Rattle.b2_access.specs.Lending.{SeenLent}
 use Rattle.b2_access.specs.declared.accesses.Access.{Access}
@@ -43,3 +44,7 @@ stays me o = record { me = me; outcome = o }
 abbrev pub goes_or : Outcome → Option ℕ → Outcome
 goes_or goes None = goes
 goes_or goes (Some code) = outcome.Failed code
+
+-- variables that were changed, and where it goes on or a fault
+abbrev pub with_assigned : Assigned → Outcome → Private → Ended
+with_assigned a goes me = record { me = record me { vars = a.vars }; outcome = goes_or goes a.code }

@@ -10,9 +10,9 @@ use Rattle.b2_atom.specs.Grammar.{reader, part, statement, statement_row, read_l
 use Rattle.b2_atom.specs.declared.rows.TheConstants as row
 use Rattle.b2_atom.specs.declared.words.Origin.{Origin}
 use Rattle.b2_atom.specs.declared.words.Origin.TheVariants as origin
-use Rattle.b2_atom.specs.declared.sink.Stop.{Stop}
-use Rattle.b2_atom.specs.declared.sink.Stop.TheVariants.{At, Deep, NoMemory}
-use Rattle.b2_atom.specs.declared.sink.Uses.{Uses}
+use Rattle.b2_atom.specs.declared.output.Stop.{Stop}
+use Rattle.b2_atom.specs.declared.output.Stop.TheVariants.{At, Deep, NoMemory}
+use Rattle.b2_atom.specs.declared.output.Uses.{Uses}
 use Rattle.b2_atom.specs.declared.forms.Position.{Position}
 use Rattle.b2_atom.specs.declared.spans.Span.{Span}
 use Rattle.b2_atom.specs.declared.forms.Position.TheVariants.{First, Further, Following}

@@ -4,12 +4,12 @@ ghost use Rattle.b2_base.specs.Byte as byte;
 ghost use Rattle.b2_atom.specs.Leaves as spec;
 
 use crate::forms::Leaf;
-use crate::sink::Stop;
+use crate::output::Stop;
 use crate::words::{LEFT_OUT, Origin, class_at, kept_byte};
 use b2_base::codes;
 use b2_base::lexical::{
-    at, capped_value, digits_width, dropped, first, is_digit, is_hex_digit, is_letter,
-    is_printable, upper,
+    at, capped_value, digits_width, first, is_digit, is_hex_digit, is_letter, is_printable,
+    rest_after, upper,
 };
 
 /// How many bytes of a literal stand before its closing quote.
@@ -56,7 +56,7 @@ fn mantissa_width(text: &[u8]) -> usize
     if at(text, whole) != b'.' {
         return whole;
     }
-    let part = digits_width(dropped(text, whole.saturating_add(1)));
+    let part = digits_width(rest_after(text, whole.saturating_add(1)));
     if whole == 0 && part == 0 {
         0
     } else {
@@ -96,7 +96,7 @@ pub fn number_width(origin: Origin, text: &[u8]) -> usize
     if mantissa == 0 {
         0
     } else {
-        mantissa.saturating_add(exponent_width(origin, dropped(text, mantissa)))
+        mantissa.saturating_add(exponent_width(origin, rest_after(text, mantissa)))
     }
 }
 
@@ -107,7 +107,7 @@ pub fn signed_number_width(origin: Origin, text: &[u8]) -> usize
     if first(text) != b'+' && first(text) != b'-' {
         return number_width(origin, text);
     }
-    let number = number_width(origin, dropped(text, 1));
+    let number = number_width(origin, rest_after(text, 1));
     if number == 0 {
         0
     } else {
@@ -206,7 +206,7 @@ pub fn function_name_width(origin: Origin, text: &[u8]) -> usize
 pub fn literal_width(text: &[u8]) -> usize
     ensures { result ≡ spec.literal_width text.now }
 {
-    let count = until_quote(dropped(text, 1));
+    let count = until_quote(rest_after(text, 1));
     if first(text) == b'"' && count > 0 && at(text, count.saturating_add(1)) == b'"' {
         count.saturating_add(2)
     } else {
@@ -265,7 +265,7 @@ pub fn small_width(text: &[u8]) -> usize
 pub fn slot_width(text: &[u8]) -> usize
     ensures { result ≡ spec.slot_width text.now }
 {
-    let number = dropped(text, 1);
+    let number = rest_after(text, 1);
     let count = digits_width(number);
     if first(text) == b'#' && count > 0 && capped_value(number, 999) <= 15 {
         count.saturating_add(1)
@@ -371,7 +371,7 @@ fn missing_literal(origin: Origin, code: u8, text: &[u8]) -> Stop
     if at(text, 1) == b'"' {
         return Stop::At(codes::S18_ALPHA, text.len());
     }
-    let count = until_quote(dropped(text, 1));
+    let count = until_quote(rest_after(text, 1));
     Stop::At(
         codes::S19_HEX_OR_QUOTE,
         text.len().saturating_sub(count.saturating_add(1)),

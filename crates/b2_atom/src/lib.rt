@@ -24,13 +24,11 @@ mod laws;
 mod leaves;
 mod line;
 mod marks;
+mod output;
 pub mod rows;
-mod sink;
 mod spans;
 mod starts;
 mod table;
-#[cfg(test)]
-mod tests;
 mod walk;
 pub mod words;
 
@@ -46,7 +44,7 @@ pub use leaves::{
     numeric_name_width, relation_width, signed_number_width, slot_width, small_width,
 };
 pub use line::{Atoms, Cursor, FoundUnit, read_source, reads_row};
-pub use sink::{Stop, Uses};
+pub use output::{Stop, Uses};
 use table::{FORMS, ROWS_0, ROWS_1, ROWS_2, ROWS_3};
 use words::WORDS;
 pub use words::{

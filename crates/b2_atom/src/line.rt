@@ -5,7 +5,7 @@ ghost use Rattle.b2_atom.specs.Grammar as spec;
 ghost use Rattle.b2_atom.specs.Lines.{IsKnown, is_line, line_atoms, line_source, short_line, units_of, further_unit, IsReadBy, unit_row, unit_uses};
 
 use crate::laws::what_is_read_is_a_line;
-use crate::sink::{Sink, Source, Stop, Uses, bytes_of};
+use crate::output::{Output, Source, Stop, Uses, bytes_of};
 use crate::spans::{Span, further_unit, span_at, spans_of};
 use crate::walk::{DEPTH, LEVELS, part, read_line};
 use crate::words::Origin;
@@ -62,8 +62,8 @@ fn spells_line(bytes: &[u8]) -> bool
     if bytes.len() > 255 {
         return false;
     }
-    let mut sink = Sink::Silent;
-    match read_line(&mut sink, Origin::Atoms, bytes) {
+    let mut output = Output::Silent;
+    match read_line(&mut output, Origin::Atoms, bytes) {
         Ok(_) => true,
         Err(_) => false,
     }
@@ -74,8 +74,8 @@ fn spells_line(bytes: &[u8]) -> bool
 pub fn reads_row(row: u16, text: &[u8]) -> bool
     ensures { result ≡ is_ok (spec.part Origin.Atoms 0 32 40 row text.now) }
 {
-    let mut sink = Sink::Silent;
-    match part(&mut sink, Origin::Atoms, 0, DEPTH, LEVELS, row, text) {
+    let mut output = Output::Silent;
+    match part(&mut output, Origin::Atoms, 0, DEPTH, LEVELS, row, text) {
         Ok(_) => true,
         Err(_) => false,
     }
@@ -87,9 +87,9 @@ pub fn read_source(alloc: Global, origin: Origin, text: &[u8]) -> Result<Vec<u8>
     ensures known { IfErr result IsKnown }
     ensures read { MatchResult result (λ bytes. line_atoms origin text.now ≡ Ok bytes.items) (λ e. e ≢ Stop.NoMemory → line_atoms origin text.now ≡ Err e) }
 {
-    let mut sink = Sink::Written(Vec::new(alloc));
-    match read_line(&mut sink, origin, text) {
-        Ok(_) => Ok(bytes_of(alloc, sink)),
+    let mut output = Output::Written(Vec::new(alloc));
+    match read_line(&mut output, origin, text) {
+        Ok(_) => Ok(bytes_of(alloc, output)),
         Err(stop) => Err(stop),
     }
 }
@@ -99,13 +99,13 @@ pub fn read_source(alloc: Global, origin: Origin, text: &[u8]) -> Result<Vec<u8>
 fn line_source(alloc: Global, line: &[u8]) -> Result<Vec<u8>, Stop>
     ensures { MatchResult result (λ bytes. line_source line.now ≡ Ok bytes.items) (λ e. e ≢ Stop.NoMemory → line_source line.now ≡ Err e) }
 {
-    let mut sink = Sink::Listed(Source {
+    let mut output = Output::Listed(Source {
         bytes: Vec::new(alloc),
         wordy: false,
         operand: false,
     });
-    match read_line(&mut sink, Origin::Atoms, line) {
-        Ok(_) => Ok(bytes_of(alloc, sink)),
+    match read_line(&mut output, Origin::Atoms, line) {
+        Ok(_) => Ok(bytes_of(alloc, output)),
         Err(stop) => Err(stop),
     }
 }
@@ -152,7 +152,7 @@ impl Atoms {
     }
 
     /// A line of its own with the same bytes.
-    pub fn copy(&self, alloc: Global) -> Result<Atoms, NoMemory>
+    pub fn try_clone(&self, alloc: Global) -> Result<Atoms, NoMemory>
         ensures { IfOk result (λ copy. copy ≡ self.now) }
     {
         let bytes = Vec::from_slice(alloc, &self.bytes)?;

@@ -1,26 +1,26 @@
 // The items that stand for themselves: words, signs, what is typed by hand, the line's end.
 ghost use Rattle.std.specs.Prelude.{◌≡◌, ◌≤◌, ◌<◌, ◌+◌};
-ghost use Rattle.b2_atom.specs.Tree.{seen_sink, Takes};
+ghost use Rattle.b2_atom.specs.Tree.{seen_output, Takes};
 ghost use Rattle.b2_atom.specs.Tree.Trees.{Done};
 ghost use Rattle.b2_atom.specs.Grammar as spec;
 
 use crate::forms::{Item, Leaf};
 use crate::leaves::{leaf_width, missing, refused};
-use crate::sink::{Sink, Stop, put_code, put_line, put_text};
+use crate::output::{Output, Stop, put_code, put_line_number, put_text};
 use crate::words::{LINE_MARK, Origin, ahead, is_source, skipped};
 use b2_base::codes;
-use b2_base::lexical::{all_printable, at, digits_width, dropped, front, is_decimal};
+use b2_base::lexical::{all_printable, at, digits_width, first_bytes, is_decimal, rest_after};
 
 /// Reads a word or a sign.
 #[tactic(auto, unfolding(crate::specs::Grammar::mark))]
 fn mark<'a>(
-    out: &mut Sink,
+    out: &mut Output,
     origin: Origin,
     wanted: u8,
     code: u8,
     text: &'a [u8],
 ) -> Result<&'a [u8], Stop>
-    ensures { Takes (seen_sink out.old) (spec.mark origin wanted code text.now) (seen_sink out.new) result }
+    ensures { Takes (seen_output out.old) (spec.mark origin wanted code text.now) (seen_output out.new) result }
 {
     let here = skipped(origin, text);
     let (class, after) = ahead(origin, here);
@@ -34,14 +34,14 @@ fn mark<'a>(
 /// Reads one of the words from the first to the second.
 #[tactic(auto, unfolding(crate::specs::Grammar::among))]
 fn among<'a>(
-    out: &mut Sink,
+    out: &mut Output,
     origin: Origin,
     low: u8,
     high: u8,
     code: u8,
     text: &'a [u8],
 ) -> Result<&'a [u8], Stop>
-    ensures { Takes (seen_sink out.old) (spec.among origin low high code text.now) (seen_sink out.new) result }
+    ensures { Takes (seen_output out.old) (spec.among origin low high code text.now) (seen_output out.new) result }
 {
     let here = skipped(origin, text);
     let (class, after) = ahead(origin, here);
@@ -55,12 +55,12 @@ fn among<'a>(
 /// Reads a word that an immediate line may not have.
 #[tactic(auto, unfolding(crate::specs::Grammar::program_word))]
 fn program_word<'a>(
-    out: &mut Sink,
+    out: &mut Output,
     origin: Origin,
     wanted: u8,
     text: &'a [u8],
 ) -> Result<&'a [u8], Stop>
-    ensures { Takes (seen_sink out.old) (spec.program_word origin wanted text.now) (seen_sink out.new) result }
+    ensures { Takes (seen_output out.old) (spec.program_word origin wanted text.now) (seen_output out.new) result }
 {
     let here = skipped(origin, text);
     let (class, after) = ahead(origin, here);
@@ -76,8 +76,8 @@ fn program_word<'a>(
 
 /// Reads a comma, which a source may leave out.
 #[tactic(auto, unfolding(crate::specs::Grammar::optional_comma))]
-fn optional_comma<'a>(out: &mut Sink, origin: Origin, text: &'a [u8]) -> Result<&'a [u8], Stop>
-    ensures { Takes (seen_sink out.old) (spec.optional_comma origin text.now) (seen_sink out.new) result }
+fn optional_comma<'a>(out: &mut Output, origin: Origin, text: &'a [u8]) -> Result<&'a [u8], Stop>
+    ensures { Takes (seen_output out.old) (spec.optional_comma origin text.now) (seen_output out.new) result }
 {
     let here = skipped(origin, text);
     let (class, after) = ahead(origin, here);
@@ -131,24 +131,24 @@ fn two_digits(text: &[u8], count: usize, place: usize) -> u8
 
 /// Reads a line number that was typed.
 fn typed_line_number<'a>(
-    out: &mut Sink,
+    out: &mut Output,
     origin: Origin,
     code: u8,
     text: &'a [u8],
 ) -> Result<&'a [u8], Stop>
-    ensures { Takes (seen_sink out.old) (spec.typed_line_number origin code text.now) (seen_sink out.new) result }
+    ensures { Takes (seen_output out.old) (spec.typed_line_number origin code text.now) (seen_output out.new) result }
 {
     let count = digits_width(text);
     if count < 1 || count > 4 {
         return Err(refused(origin, code, text));
     }
-    put_line(out, two_digits(text, count, 0), two_digits(text, count, 2))?;
-    Ok(dropped(text, count))
+    put_line_number(out, two_digits(text, count, 0), two_digits(text, count, 2))?;
+    Ok(rest_after(text, count))
 }
 
 /// Reads a line number from atoms.
-fn atoms_line_number<'a>(out: &mut Sink, code: u8, text: &'a [u8]) -> Result<&'a [u8], Stop>
-    ensures { Takes (seen_sink out.old) (spec.atoms_line_number code text.now) (seen_sink out.new) result }
+fn atoms_line_number<'a>(out: &mut Output, code: u8, text: &'a [u8]) -> Result<&'a [u8], Stop>
+    ensures { Takes (seen_output out.old) (spec.atoms_line_number code text.now) (seen_output out.new) result }
 {
     let [LINE_MARK, high, low, rest @ ..] = text else {
         return Err(Stop::At(code, text.len()));
@@ -156,18 +156,18 @@ fn atoms_line_number<'a>(out: &mut Sink, code: u8, text: &'a [u8]) -> Result<&'a
     if !is_decimal(*high) || !is_decimal(*low) {
         return Err(Stop::At(code, text.len()));
     }
-    put_line(out, *high, *low)?;
+    put_line_number(out, *high, *low)?;
     Ok(rest)
 }
 
 /// Reads a line number.
 fn line_number<'a>(
-    out: &mut Sink,
+    out: &mut Output,
     origin: Origin,
     code: u8,
     text: &'a [u8],
 ) -> Result<&'a [u8], Stop>
-    ensures { Takes (seen_sink out.old) (spec.line_number_at origin code text.now) (seen_sink out.new) result }
+    ensures { Takes (seen_output out.old) (spec.line_number_at origin code text.now) (seen_output out.new) result }
 {
     match origin {
         Origin::Program | Origin::Immediate => typed_line_number(out, origin, code, text),
@@ -176,8 +176,8 @@ fn line_number<'a>(
 }
 
 /// Reads everything to the line's end.
-fn text_to_end<'a>(out: &mut Sink, code: u8, text: &'a [u8]) -> Result<&'a [u8], Stop>
-    ensures { Takes (seen_sink out.old) (spec.text_to_end code text.now) (seen_sink out.new) result }
+fn text_to_end<'a>(out: &mut Output, code: u8, text: &'a [u8]) -> Result<&'a [u8], Stop>
+    ensures { Takes (seen_output out.old) (spec.text_to_end code text.now) (seen_output out.new) result }
 {
     if !all_printable(text) {
         return Err(Stop::At(code, text.len()));
@@ -190,32 +190,32 @@ fn text_to_end<'a>(out: &mut Sink, code: u8, text: &'a [u8]) -> Result<&'a [u8],
 
 /// Reads a leaf by its width.
 fn plain<'a>(
-    out: &mut Sink,
+    out: &mut Output,
     origin: Origin,
     leaf: Leaf,
     code: u8,
     text: &'a [u8],
 ) -> Result<&'a [u8], Stop>
-    ensures { Takes (seen_sink out.old) (spec.plain origin leaf code text.now) (seen_sink out.new) result }
+    ensures { Takes (seen_output out.old) (spec.plain origin leaf code text.now) (seen_output out.new) result }
 {
     let width = leaf_width(origin, leaf, text);
     if width == 0 {
         return Err(missing(origin, leaf, code, text));
     }
-    put_text(out, origin, leaf, front(text, width))?;
-    Ok(dropped(text, width))
+    put_text(out, origin, leaf, first_bytes(text, width))?;
+    Ok(rest_after(text, width))
 }
 
 /// Reads what is typed by hand.
 #[tactic(auto, unfolding(crate::specs::Grammar::read_leaf))]
 fn read_leaf<'a>(
-    out: &mut Sink,
+    out: &mut Output,
     origin: Origin,
     leaf: Leaf,
     code: u8,
     text: &'a [u8],
 ) -> Result<&'a [u8], Stop>
-    ensures { Takes (seen_sink out.old) (spec.read_leaf origin leaf code text.now) (seen_sink out.new) result }
+    ensures { Takes (seen_output out.old) (spec.read_leaf origin leaf code text.now) (seen_output out.new) result }
 {
     match leaf {
         Leaf::LineNumber => line_number(out, origin, code, skipped(origin, text)),
@@ -226,8 +226,8 @@ fn read_leaf<'a>(
 
 /// Reads the line's end.
 #[tactic(auto, unfolding(crate::specs::Grammar::end_of_line))]
-fn end_of_line<'a>(out: &mut Sink, origin: Origin, text: &'a [u8]) -> Result<&'a [u8], Stop>
-    ensures { Takes (seen_sink out.old) (spec.end_of_line origin text.now) (seen_sink out.new) result }
+fn end_of_line<'a>(out: &mut Output, origin: Origin, text: &'a [u8]) -> Result<&'a [u8], Stop>
+    ensures { Takes (seen_output out.old) (spec.end_of_line origin text.now) (seen_output out.new) result }
 {
     let here = skipped(origin, text);
     if here.is_empty() {
@@ -239,12 +239,12 @@ fn end_of_line<'a>(out: &mut Sink, origin: Origin, text: &'a [u8]) -> Result<&'a
 
 /// Reads an item that stands for itself.
 pub fn read_item<'a>(
-    out: &mut Sink,
+    out: &mut Output,
     origin: Origin,
     item: Item,
     text: &'a [u8],
 ) -> Result<&'a [u8], Stop>
-    ensures { Takes (seen_sink out.old) (spec.read_item origin item text.now) (seen_sink out.new) result }
+    ensures { Takes (seen_output out.old) (spec.read_item origin item text.now) (seen_output out.new) result }
 {
     match item {
         Item::Word(word) => mark(out, origin, word, codes::S22_WORD, text),

@@ -4,13 +4,13 @@ ghost use Rattle.std.specs.List.{All};
 ghost use Rattle.b2_atom.specs.Lines.{IsEndOf, KeepsRow, KeepsUses, after_unit, further_unit, is_further, next_place, next_text, spanned, leading_unit, unit_row, unit_uses, units_of};
 
 use crate::forms::Position;
+use crate::output::{Output, Uses, noted};
 use crate::rows;
-use crate::sink::{Sink, Uses, noted};
 use crate::starts::statement_row;
 use crate::walk::statement;
 use crate::words::Origin;
 use b2_base::NoMemory;
-use b2_base::lexical::{dropped, first, front};
+use b2_base::lexical::{first, first_bytes, rest_after};
 use std::alloc::Global;
 
 /// A unit of a line: where it stands, which of the line's bytes are its own, the row of its statement, and what it uses.
@@ -28,8 +28,8 @@ impl Span {
     pub fn unit_bytes<'a>(&self, line: &'a [u8]) -> &'a [u8]
         ensures { result.now ≡ (spanned line.now self.now).bytes }
     {
-        front(
-            dropped(line, usize::from(self.from)),
+        first_bytes(
+            rest_after(line, usize::from(self.from)),
             usize::from(self.width),
         )
     }
@@ -68,8 +68,8 @@ pub fn span_at(units: &[Span], k: usize) -> Option<Span>
 fn after_unit(place: Position, text: &[u8]) -> &[u8]
     ensures { result.now ≡ after_unit place text.now }
 {
-    let mut sink = Sink::Silent;
-    match statement(&mut sink, Origin::Atoms, 1, place, text) {
+    let mut output = Output::Silent;
+    match statement(&mut output, Origin::Atoms, 1, place, text) {
         Ok(rest) => rest,
         Err(_) => &[],
     }
@@ -91,9 +91,9 @@ fn unit_row(place: Position, bytes: &[u8]) -> u16
 fn unit_uses(place: Position, bytes: &[u8]) -> Uses
     ensures { result ≡ unit_uses (record { place = place; bytes = bytes.now }) }
 {
-    let mut sink = Sink::Noted(Uses::nothing());
-    match statement(&mut sink, Origin::Atoms, 1, place, bytes) {
-        Ok(_) => noted(&sink),
+    let mut output = Output::Noted(Uses::nothing());
+    match statement(&mut output, Origin::Atoms, 1, place, bytes) {
+        Ok(_) => noted(&output),
         Err(_) => Uses::nothing(),
     }
 }
@@ -114,7 +114,7 @@ fn next_text(rest: &[u8]) -> &[u8]
     ensures { result.now ≡ next_text rest.now }
 {
     if first(rest) == b':' {
-        dropped(rest, 1)
+        rest_after(rest, 1)
     } else {
         rest
     }
@@ -135,8 +135,8 @@ fn span_between(line: &[u8], place: Position, left: &[u8], rest: &[u8]) -> Span
         place,
         from: from as u8,
         width: width as u8,
-        row: unit_row(place, front(left, width)),
-        uses: unit_uses(place, front(left, width)),
+        row: unit_row(place, first_bytes(left, width)),
+        uses: unit_uses(place, first_bytes(left, width)),
     }
 }
 

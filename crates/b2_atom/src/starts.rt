@@ -5,15 +5,15 @@ ghost use Rattle.b2_atom.specs.Grammar as spec;
 
 use crate::forms::{Form, Position, Rule, Start};
 use crate::leaves::{any_name_width, is_alpha_name, numeric_name_width, refused};
+use crate::output::Stop;
 use crate::rows;
-use crate::sink::Stop;
 use crate::table::FORMS;
 use crate::words::{
     ABS_OPEN, BIN_OPEN, FN, HASH_TERM, HEX_OPEN, HEXOF_OPEN, LINE_MARK, Origin, STR_OPEN, TAB_OPEN,
     ahead, begins_with, is_source, kept_byte, skipped,
 };
 use b2_base::codes;
-use b2_base::lexical::{at, dropped, first, is_digit, is_hex_digit, is_letter};
+use b2_base::lexical::{at, first, is_digit, is_hex_digit, is_letter, rest_after};
 
 fn is_among(low: u8, high: u8, class: u8) -> bool
     ensures { result ≡ spec.is_among low high class }
@@ -60,8 +60,8 @@ fn array_begins(origin: Origin, text: &[u8]) -> bool
     ensures { result ≡ spec.starts_at origin Start.Array text.now }
 {
     let width = any_name_width(origin, text);
-    let after = skipped(origin, dropped(text, width));
-    width > 0 && first(after) == b'(' && first(skipped(origin, dropped(after, 1))) == b')'
+    let after = skipped(origin, rest_after(text, width));
+    width > 0 && first(after) == b'(' && first(skipped(origin, rest_after(after, 1))) == b')'
 }
 
 fn variable_begins(origin: Origin, text: &[u8]) -> bool
@@ -199,7 +199,7 @@ pub fn statement_row(origin: Origin, place: Position, text: &[u8]) -> Result<(u1
 {
     let here = skipped(origin, text);
     if is_source(origin) && begins_with(b"LET", here) {
-        return Ok((rows::ASSIGNMENT, dropped(here, 3)));
+        return Ok((rows::ASSIGNMENT, rest_after(here, 3)));
     }
     let row = row_at(&FORMS, origin, place, here)?;
     Ok((row, here))

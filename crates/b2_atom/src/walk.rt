@@ -1,12 +1,12 @@
 // One walk over the table of forms, from a source as from atoms.
 ghost use Rattle.std.specs.Prelude.{◌≡◌, ◌≤◌, ◌<◌, ◌+◌, [], length, map, get_or};
-ghost use Rattle.b2_atom.specs.Tree.{seen_sink, Takes};
+ghost use Rattle.b2_atom.specs.Tree.{seen_output, Takes};
 ghost use Rattle.b2_atom.specs.Grammar as spec;
 
 use crate::forms::{Item, Position, Start};
 use crate::marks::read_item;
+use crate::output::{Output, Stop};
 use crate::rows;
-use crate::sink::{Sink, Stop};
 use crate::starts::{begins, statement_row};
 use crate::table::{ROWS_0, ROWS_1, ROWS_2, ROWS_3};
 use crate::words::Origin;
@@ -49,7 +49,7 @@ fn row_items(number: u16) -> &'static [Item]
 /// Reads an item.
 #[cycle(walk)]
 fn take_item<'a>(
-    out: &mut Sink,
+    out: &mut Output,
     origin: Origin,
     fuel: usize,
     room: u8,
@@ -59,7 +59,7 @@ fn take_item<'a>(
 ) -> Result<&'a [u8], Stop>
     requires room { room ≤ 32 }
     requires level { level ≤ 40 }
-    ensures { Takes (seen_sink out.old) (spec.item_of_part origin fuel room level item text.now) (seen_sink out.new) result }
+    ensures { Takes (seen_output out.old) (spec.item_of_part origin fuel room level item text.now) (seen_output out.new) result }
 {
     match item {
         Item::Part(row) => part(out, origin, fuel, room, level, row, text),
@@ -100,7 +100,7 @@ fn take_item<'a>(
 /// Reads a part as often as it begins.
 #[cycle(walk)]
 fn many<'a>(
-    out: &mut Sink,
+    out: &mut Output,
     origin: Origin,
     fuel: usize,
     room: u8,
@@ -111,7 +111,7 @@ fn many<'a>(
 ) -> Result<&'a [u8], Stop>
     requires room { room ≤ 32 }
     requires level { level ≤ 40 }
-    ensures { Takes (seen_sink out.old) (spec.many (spec.reader origin) start (spec.part origin fuel room level row) (length text.now) text.now) (seen_sink out.new) result }
+    ensures { Takes (seen_output out.old) (spec.many (spec.reader origin) start (spec.part origin fuel room level row) (length text.now) text.now) (seen_output out.new) result }
 {
     let mut left = text;
     for _ in 0..text.len() {
@@ -129,7 +129,7 @@ fn many<'a>(
 /// Reads a part.
 #[cycle(walk)]
 pub fn part<'a>(
-    out: &mut Sink,
+    out: &mut Output,
     origin: Origin,
     fuel: usize,
     room: u8,
@@ -139,7 +139,7 @@ pub fn part<'a>(
 ) -> Result<&'a [u8], Stop>
     requires room { room ≤ 32 }
     requires level { level ≤ 40 }
-    ensures { Takes (seen_sink out.old) (spec.part origin fuel room level row text.now) (seen_sink out.new) result }
+    ensures { Takes (seen_output out.old) (spec.part origin fuel room level row text.now) (seen_output out.new) result }
 {
     if level == 0 {
         return Err(Stop::At(codes::S14_STATEMENT, 0));
@@ -156,13 +156,13 @@ pub fn part<'a>(
 /// Reads a statement, with the statements that follow it after THEN, ELSE or ERROR.
 #[cycle(walk)]
 pub fn statement<'a>(
-    out: &mut Sink,
+    out: &mut Output,
     origin: Origin,
     fuel: usize,
     place: Position,
     text: &'a [u8],
 ) -> Result<&'a [u8], Stop>
-    ensures { Takes (seen_sink out.old) (spec.statement (spec.reader origin) fuel place text.now) (seen_sink out.new) result }
+    ensures { Takes (seen_output out.old) (spec.statement (spec.reader origin) fuel place text.now) (seen_output out.new) result }
 {
     if fuel == 0 {
         return Ok(text);
@@ -174,8 +174,8 @@ pub fn statement<'a>(
 }
 
 /// Reads a whole line.
-pub fn read_line<'a>(out: &mut Sink, origin: Origin, text: &'a [u8]) -> Result<&'a [u8], Stop>
-    ensures { Takes (seen_sink out.old) (spec.read_line origin text.now) (seen_sink out.new) result }
+pub fn read_line<'a>(out: &mut Output, origin: Origin, text: &'a [u8]) -> Result<&'a [u8], Stop>
+    ensures { Takes (seen_output out.old) (spec.read_line origin text.now) (seen_output out.new) result }
 {
     part(out, origin, text.len() + 1, DEPTH, LEVELS, rows::LINE, text)
 }

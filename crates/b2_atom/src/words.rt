@@ -2,7 +2,7 @@
 ghost use Rattle.std.specs.Prelude.{◌≡◌, ◌≤◌, [], length, map, get_or};
 ghost use Rattle.b2_atom.specs.Words as spec;
 
-use b2_base::lexical::{dropped, first, skip_blanks, upper};
+use b2_base::lexical::{first, rest_after, skip_blanks, upper};
 
 /// Where a text is read from: a typed line of a program or an immediate one, or atoms.
 #[derive(Clone, Copy, Debug, PartialEq, Eq)]
@@ -463,13 +463,13 @@ fn longer_word(code: u8, rest: &[u8]) -> (u8, &[u8])
 {
     let next = skip_blanks(rest);
     if code == DATA && begins_with(b"SAVE", next) {
-        return (DATASAVE, dropped(next, 4));
+        return (DATASAVE, rest_after(next, 4));
     }
     if code == DATA && begins_with(b"LOAD", next) {
-        return (DATALOAD, dropped(next, 4));
+        return (DATALOAD, rest_after(next, 4));
     }
     if code == PRINT && begins_with(b"USING", next) {
-        return (PRINTUSING, dropped(next, 5));
+        return (PRINTUSING, rest_after(next, 5));
     }
     (code, rest)
 }
@@ -481,12 +481,12 @@ fn typed_ahead(text: &[u8]) -> (u8, &[u8])
 {
     let (length, place) = word_at(text);
     if length == 0 {
-        return (upper(first(text)), dropped(text, 1));
+        return (upper(first(text)), rest_after(text, 1));
     }
     if place >= CODED {
-        return (LEFT_OUT, dropped(text, length));
+        return (LEFT_OUT, rest_after(text, length));
     }
-    longer_word(place as u8 + REM, dropped(text, length))
+    longer_word(place as u8 + REM, rest_after(text, length))
 }
 
 /// What stands at a text, a word's code or a byte or 0 at the end, and what follows it.
@@ -496,7 +496,7 @@ pub fn ahead(origin: Origin, text: &[u8]) -> (u8, &[u8])
 {
     match origin {
         Origin::Program | Origin::Immediate => typed_ahead(text),
-        Origin::Atoms => (first(text), dropped(text, 1)),
+        Origin::Atoms => (first(text), rest_after(text, 1)),
     }
 }
 

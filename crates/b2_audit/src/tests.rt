@@ -57,37 +57,25 @@ fn four_partitions(alloc: Global) -> Result<Stores, Fail>
     Ok(Stores::new(alloc, &b)?)
 }
 
-/// The terminal of a number.
-fn term(n: u8) -> Result<Term, Fail> {
-    match Term::of(n) {
-        Some(term) => Ok(term),
-        None => Err(Fail::new("no terminal")),
-    }
-}
-
-/// The partition of a number.
-fn part(n: u8) -> Result<Part, Fail> {
-    match Part::of(n) {
-        Some(part) => Ok(part),
-        None => Err(Fail::new("no partition")),
-    }
-}
-
 /// The access that is asked.
 fn access_of(alloc: Global, ask: &Ask) -> Result<Access, Fail>
     ensures { IfOk result IsLegal }
 {
     Ok(match ask {
         Ask::Show(n) => Access::Show {
-            term: term(*n)?,
+            term: Term::of(*n).ok_or("no terminal")?,
             bytes: ByteList::from_slice(alloc, b"A")?,
         },
-        Ask::ReadLine(n) => Access::ReadLine { term: term(*n)? },
+        Ask::ReadLine(n) => Access::ReadLine {
+            term: Term::of(*n).ok_or("no terminal")?,
+        },
         Ask::Insert(n) => Access::Insert {
-            term: term(*n)?,
+            term: Term::of(*n).ok_or("no terminal")?,
             bytes: ByteList::from_slice(alloc, b"A")?,
         },
-        Ask::Key(n) => Access::Key { term: term(*n)? },
+        Ask::Key(n) => Access::Key {
+            term: Term::of(*n).ok_or("no terminal")?,
+        },
         Ask::PutLine => Access::PutLine {
             line: 10,
             atoms: Atoms::of(alloc, b"A=1")?,
@@ -120,14 +108,14 @@ fn has_to_wait(
 ) -> Result<bool, Fail> {
     let access = access_of(alloc, ask)?;
     let mut watched = Watched::new(stores, seen);
-    let answer = watched.serve(part(who)?, &access)?;
+    let answer = watched.serve(Part::of(who).ok_or("no partition")?, &access)?;
     Ok(matches!(&answer, Answer::Wait(_)))
 }
 
 /// Whether exactly these partitions are not clean.
 fn are_not_clean(seen: &Seen, parts: &[u8]) -> Result<bool, Fail> {
     for n in 1..=16 {
-        if seen.is_clean(part(n)?) == parts.contains(&n) {
+        if seen.is_clean(Part::of(n).ok_or("no partition")?) == parts.contains(&n) {
             return Ok(false);
         }
     }
@@ -146,10 +134,15 @@ fn comes_out(
             Ok(has_to_wait(alloc, stores, seen, *who, ask)? == *waits)
         }
         Step::Front(n, p) => {
-            stores.set_front(term(*n)?, part(*p)?);
+            stores.set_front(
+                Term::of(*n).ok_or("no terminal")?,
+                Part::of(*p).ok_or("no partition")?,
+            );
             Ok(true)
         }
-        Step::Press(n, byte) => Ok(stores.key(term(*n)?, KeyItem::Byte(*byte)) == Some(true)),
+        Step::Press(n, byte) => Ok(
+            stores.key(Term::of(*n).ok_or("no terminal")?, KeyItem::Byte(*byte)) == Some(true),
+        ),
         Step::NotClean(parts) => are_not_clean(seen, parts),
     }
 }

@@ -133,7 +133,7 @@ pub fn at(text: &[u8], place: usize) -> u8
 }
 
 /// What follows the first `count` bytes; nothing where there are no more.
-pub fn dropped(text: &[u8], count: usize) -> &[u8]
+pub fn rest_after(text: &[u8], count: usize) -> &[u8]
     ensures { result.now ≡ drop count text.now }
 {
     if count <= text.len() {
@@ -144,7 +144,7 @@ pub fn dropped(text: &[u8], count: usize) -> &[u8]
 }
 
 /// The first `count` bytes; all where there are no more.
-pub fn front(text: &[u8], count: usize) -> &[u8]
+pub fn first_bytes(text: &[u8], count: usize) -> &[u8]
     ensures { result.now ≡ take count text.now }
 {
     if count <= text.len() {

@@ -26,8 +26,6 @@ mod pieces;
 mod places;
 mod real;
 mod steps;
-#[cfg(test)]
-mod tests;
 
 pub use addresses::{Addr, AddrList};
 pub use bytes::{ByteList, NoMemory};

@@ -62,11 +62,11 @@ fn push_file(p: &Platter, k: usize, into: &mut Vec<u8>) -> Result<(), NoMemory>
     ensures { OnOk result (into.new.items ≡ into.old.items ++ file_line p.now k) }
 {
     let slot = image::row(p.image(), k);
-    let end = slot::end(Layout::Narrow, slot);
+    let end = slot::last_sector(Layout::Narrow, slot);
     let used = checks::used(Layout::Narrow, p.sector(end));
     into.extend_from_slice(slot::name(slot))?;
     into.extend_from_slice(marks_of(slot))?;
-    push_spaced(into, slot::start(Layout::Narrow, slot))?;
+    push_spaced(into, slot::first_sector(Layout::Narrow, slot))?;
     push_spaced(into, end)?;
     push_spaced(into, used)?;
     into.extend_from_slice(b"\n")?;

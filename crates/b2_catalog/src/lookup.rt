@@ -65,12 +65,12 @@ pub fn entry_at(p: &Platter, k: usize, name: Name8) -> Entry
     ensures named { result.name ≡ name }
 {
     let slot = image::row(p.image(), k);
-    let end = slot::end(Layout::Narrow, slot);
+    let end = slot::last_sector(Layout::Narrow, slot);
     Entry {
         name,
         live: slot::is_live(slot),
         program: slot::is_program(slot),
-        start: slot::start(Layout::Narrow, slot),
+        start: slot::first_sector(Layout::Narrow, slot),
         end,
         used: checks::used(Layout::Narrow, p.sector(end)),
     }

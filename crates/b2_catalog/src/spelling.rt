@@ -24,8 +24,8 @@ pub fn file_slot(program: bool, start: u32, end: u32, name: Name8) -> [u8; 16]
     let mut bytes = [0; 16];
     bytes[0] = slot::LIVE;
     bytes[1] = kind(program);
-    edits::put_number(Layout::Narrow, &mut bytes, 2, start);
-    edits::put_number(Layout::Narrow, &mut bytes, 4, end);
+    edits::put_sector_number(Layout::Narrow, &mut bytes, 2, start);
+    edits::put_sector_number(Layout::Narrow, &mut bytes, 4, end);
     bytes[8..].copy_from_slice(&name.bytes());
     bytes
 }
@@ -57,7 +57,7 @@ pub fn control_sector(used: u32) -> [u8; 256]
 {
     let mut bytes = [0; 256];
     bytes[0] = checks::CONTROL;
-    edits::put_number(Layout::Narrow, &mut bytes, 1, used);
+    edits::put_sector_number(Layout::Narrow, &mut bytes, 1, used);
     bytes
 }
 

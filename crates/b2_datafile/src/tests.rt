@@ -142,7 +142,7 @@ fn one_record(rt: HostRuntime) -> Result<(), Fail> {
     for (pos, kinds, next) in rows {
         assert_eq!(rt; loaded(rt.alloc(), &p, &at(&s, pos), kinds)?, next);
     }
-    let mark = lexical::front(lexical::dropped(p.image(), 768), 256);
+    let mark = lexical::first_bytes(lexical::rest_after(p.image(), 768), 256);
     assert_eq!(rt; lexical::first(mark), 0xA0);
     assert!(rt; mark.iter().skip(1).all(|b| *b == 0));
     Ok(())

@@ -31,7 +31,7 @@ pub use packing::{pack, unpack};
 pub use powers::{power, sqr};
 pub use products::{div, mul};
 pub use rests::{modulo, round_to};
-pub use rounding::{round_exact, round_whole_part};
+pub use rounding::{COEFFICIENT_LIMIT, round_exact, round_whole_part};
 pub use sums::{add, sub};
 pub use values::{Bytes, Kind, KindList, Value, ValueList};
 

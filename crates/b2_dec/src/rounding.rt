@@ -8,7 +8,7 @@ use b2_base::Code;
 use b2_base::codes::{C60_UNDERFLOW, C61_OVERFLOW};
 
 /// The number above the largest thirteen digits.
-const ABOVE: u64 = 10_000_000_000_000;
+pub const COEFFICIENT_LIMIT: u64 = 10_000_000_000_000;
 
 /// The powers of ten that a `u128` can be.
 const TENS: [u128; 39] = [
@@ -94,7 +94,7 @@ fn after_carry(neg: bool, coef: u64, place: u32) -> Result<Dec, Code>
     requires highest { place < 2 ^ 31 }
     ensures { result ≡ spec.after_carry neg coef place }
 {
-    if coef == ABOVE {
+    if coef == COEFFICIENT_LIMIT {
         in_range(neg, 1_000_000_000_000, place + 1)
     } else {
         in_range(neg, coef, place)
@@ -137,7 +137,7 @@ pub fn round_exact(neg: bool, m: u128, at: u32, mode: Mode) -> Result<Dec, Code>
     if m == 0 {
         return Ok(Dec::zero());
     }
-    if m >= ABOVE as u128 {
+    if m >= COEFFICIENT_LIMIT as u128 {
         return round_whole_part(neg, m, at, mode);
     }
     let missing = 12 - m.ilog10();

@@ -8,7 +8,7 @@ use Rattle.b2_base.specs.Lexical.{is_digit, digits_width, first}
 use Rattle.b2_dec.specs.Number.{Number}
 use Rattle.b2_dectext.specs.Digits.{AreDigits}
 use Rattle.b2_dectext.specs.NumberText.{Parts, sign_len, unsigned, whole_part, fraction_part, point_len, mantissa_len, exponent_digits, exponent_len, number_len, number_value, parts_of, parts_value}
-use Rattle.b2_dectext.specs.Grammar.{Sign, Spelling, sign_text, point_text, exponent_text, spelled, fraction_digits, parts, is_minus, IsSpelling, IsNumberText, IsLongest}
+use Rattle.b2_dectext.specs.Grammar.{Sign, Spelling, sign_text, point_text, exponent_text, spelling_text, fraction_digits, parts, is_minus, IsSpelling, IsNumberText, IsLongest}
 use Rattle.b2_dectext.specs.Grammar as grammar
 use Rattle.b2_dectext.proofs.Lengths.{digits_width-le-length}
 use Rattle.b2_dectext.proofs.Spellings.{read-number}
@@ -158,10 +158,10 @@ pub some_text : (w : List ℕ) (f : Option (List ℕ)) → 0 < length w + length
 some_text w None some none = omega arith
 some_text w (Some fs) some none = omega arith
 
-spelled-least : (s : Spelling) (t : List ℕ) → IsSpelling s → length (spelled s) ≤ number_len (spelled s ++ t)
+spelled-least : (s : Spelling) (t : List ℕ) → IsSpelling s → length (spelling_text s) ≤ number_len (spelling_text s ++ t)
 unfolding number_len
 spelled-least s t h =
-    let text : List ℕ = spelled s ++ t in
+    let text : List ℕ = spelling_text s ++ t in
     let body : List ℕ = s.whole ++ (point_text s.fraction ++ (exponent_text s.exponent_sign s.exponent ++ t)) in
     let begun : IsBody body = body-begins s.whole s.fraction (exponent_text s.exponent_sign s.exponent ++ t) h.whole h.some in
     let split : text ≡ sign_text s.sign ++ body = apart (sign_text s.sign) s.whole (point_text s.fraction) (exponent_text s.exponent_sign s.exponent) t in
@@ -170,7 +170,7 @@ spelled-least s t h =
     let least = mantissa-least s.whole (exponent_text s.exponent_sign s.exponent ++ t) s.fraction h.whole h.fraction h.some in
     let all = body-least s.whole s.fraction s.exponent_sign s.exponent t h.whole h.fraction h.some h.exponent h.few in
     let there : (mantissa_len (unsigned text) == 0) ≡ false = ne_eqb _ 0 (λ e. let none : mantissa_len body ≡ 0 = ap mantissa_len (sym rest) ∙ e in absurd (some_text s.whole s.fraction h.some (omega (arith, least, none)))) in
-    let count : length (spelled s) ≡ length (sign_text s.sign) + (length s.whole + length (point_text s.fraction) + length (exponent_text s.exponent_sign s.exponent)) =
+    let count : length (spelling_text s) ≡ length (sign_text s.sign) + (length s.whole + length (point_text s.fraction) + length (exponent_text s.exponent_sign s.exponent)) =
     spelled-length (sign_text s.sign) s.whole (point_text s.fraction) (exponent_text s.exponent_sign s.exponent) in
     let read : mantissa_len (unsigned text) + exponent_len (drop (mantissa_len (unsigned text)) (unsigned text)) ≡ mantissa_len body + exponent_len (drop (mantissa_len body) body) =
     ap (λ u. mantissa_len u + exponent_len (drop (mantissa_len u) u)) rest in
@@ -180,10 +180,10 @@ pub longest-read : (text : List ℕ) → IsLongest text (number_len text) (numbe
 longest-read text = record {
   found = read-number text;
   longest = λ k other within number.
-      let long : length (spelled number.spelling) ≡ k = ap length number.text_is ∙ length-take-le k text within in
-      let whole : spelled number.spelling ++ drop k text ≡ text = ap (λ u. u ++ drop k text) number.text_is ∙ take-append-drop k text in
+      let long : length (spelling_text number.spelling) ≡ k = ap length number.text_is ∙ length-take-le k text within in
+      let whole : spelling_text number.spelling ++ drop k text ≡ text = ap (λ u. u ++ drop k text) number.text_is ∙ take-append-drop k text in
       let least = spelled-least number.spelling (drop k text) number.fine in
-      let same : number_len (spelled number.spelling ++ drop k text) ≡ number_len text = ap number_len whole in
+      let same : number_len (spelling_text number.spelling ++ drop k text) ≡ number_len text = ap number_len whole in
       omega (arith, long, least, same);
 }
 
@@ -278,9 +278,9 @@ no_end : IsEnd []
 no_end = record { digits = refl; point = refl; len = no_exponent_len }
 
 pub plain-read : (g : Sign) (w : List ℕ) (f : Option (List ℕ)) → AreDigits w → AreDigits (fraction_digits f) → 0 < length w + length (fraction_digits f)
-    → IsReadWhole (spelled (plain g w f)) (parts_value (parts (plain g w f)))
+    → IsReadWhole (spelling_text (plain g w f)) (parts_value (parts (plain g w f)))
 plain-read g w f hw hf some =
-    subst (λ p. IsReadWhole (spelled (plain g w f)) (parts_value p)) (made-plain g w f) (whole-read g w [] f hw hf some no_end)
+    subst (λ p. IsReadWhole (spelling_text (plain g w f)) (parts_value p)) (made-plain g w f) (whole-read g w [] f hw hf some no_end)
 
 -- So is one with an exponent of one or two digits.
 abbrev pub with_exponent : Sign → List ℕ → List ℕ → Sign → ℕ → List ℕ → Spelling
@@ -319,7 +319,7 @@ made-with_exponent g w fs h d ds digits few =
     ap₂ (λ s e. record { neg = is_minus g; whole = w; fraction = fs; exponent_neg = s; exponent = e }) (sign-begins h (d ∷ ds) body) (exponent-digits-exact h d ds digits few)
 
 pub with_exponent-read : (g : Sign) (w fs : List ℕ) (h : Sign) (d : ℕ) (ds : List ℕ) → AreDigits w → AreDigits fs → 0 < length w + length fs
-    → AreDigits (d ∷ ds) → length (d ∷ ds) ≤ 2 → IsReadWhole (spelled (with_exponent g w fs h d ds)) (parts_value (parts (with_exponent g w fs h d ds)))
+    → AreDigits (d ∷ ds) → length (d ∷ ds) ≤ 2 → IsReadWhole (spelling_text (with_exponent g w fs h d ds)) (parts_value (parts (with_exponent g w fs h d ds)))
 with_exponent-read g w fs h d ds hw hf some digits few =
-    subst (λ p. IsReadWhole (spelled (with_exponent g w fs h d ds)) (parts_value p)) (made-with_exponent g w fs h d ds digits few)
+    subst (λ p. IsReadWhole (spelling_text (with_exponent g w fs h d ds)) (parts_value p)) (made-with_exponent g w fs h d ds digits few)
     (whole-read g w (exponent_text h (d ∷ ds)) (Some fs) hw hf some (exponent_end h d ds digits few))

@@ -17,7 +17,7 @@ use Rattle.b2_dec.proofs.Exact.{rnd-digits, in_range-number, rnd-zero}
 use Rattle.b2_dec.proofs.Ranks.{thirteen}
 use Rattle.b2_dectext.specs.NumberText.{parts_value}
 use Rattle.b2_dectext.specs.Printed.{after_point, with_point, is_plain, shown_size, without_spaces, printed}
-use Rattle.b2_dectext.specs.Grammar.{Sign, Spelling, sign_text, point_text, spelled, fraction_digits, parts, is_minus}
+use Rattle.b2_dectext.specs.Grammar.{Sign, Spelling, sign_text, point_text, spelling_text, fraction_digits, parts, is_minus}
 use Rattle.b2_dectext.specs.Grammar as grammar
 use Rattle.b2_dectext.proofs.Longest.{plain, plain-read, IsReadWhole}
 use Rattle.b2_dectext.specs.Digits.{digit_byte, digit_bytes, without_last_zeros, AreDigits, value_after, digits_value}
@@ -204,7 +204,7 @@ both false b e = absurd (cc)
 pub read_as : (text other : List ℕ) (x y : Result Number ℕ) → other ≡ text → x ≡ y → IsReadWhole other x → IsReadWhole text y
 read_as text other x y same number h = subst (λ t. IsReadWhole t y) same (subst (IsReadWhole other) number h)
 
-zero-shown : spelled (plain grammar.unsigned (48 ∷ []) None) ≡ without_spaces zero_number
+zero-shown : spelling_text (plain grammar.unsigned (48 ∷ []) None) ≡ without_spaces zero_number
 unfolding shown_size
 zero-shown = refl
 
@@ -222,7 +222,7 @@ zero-back =
     (plain-read grammar.unsigned (48 ∷ []) None (record { each = zero-digit }) (record { each = λ k h. absurd (omega arith) }) (omega arith))
 
 number-shown : (x : Number) → (x.coef == 0) ≡ false → 98 ≤ x.place → x.place ≤ 111
-    → spelled (plain (sign_for x.neg) (take (x.place - 98) (digit_bytes 13 x.coef)) (fraction_for (without_last_zeros (drop (x.place - 98) (digit_bytes 13 x.coef))))) ≡ without_spaces x
+    → spelling_text (plain (sign_for x.neg) (take (x.place - 98) (digit_bytes 13 x.coef)) (fraction_for (without_last_zeros (drop (x.place - 98) (digit_bytes 13 x.coef))))) ≡ without_spaces x
 unfolding with_point
 number-shown x some low high =
     let w : List ℕ = take (x.place - 98) (digit_bytes 13 x.coef) in

@@ -10,7 +10,7 @@ use Rattle.b2_dec.proofs.Ranks.{thirteen}
 use Rattle.b2_dectext.specs.Digits.{digit_byte, digit_bytes, digits_value, AreDigits}
 use Rattle.b2_dectext.specs.NumberText.{number_len, number_read, in_result, parts_value}
 use Rattle.b2_dectext.specs.Printed.{nine_digits, exponent_shown, is_fixed, is_plain, as_shown, sign_shown, shown_size, without_spaces, printed}
-use Rattle.b2_dectext.specs.Grammar.{Sign, Spelling, exponent_text, is_minus, spelled, parts}
+use Rattle.b2_dectext.specs.Grammar.{Sign, Spelling, exponent_text, is_minus, spelling_text, parts}
 use Rattle.b2_dectext.specs.Grammar as grammar
 use Rattle.b2_dectext.proofs.Longest.{IsReadWhole, with_exponent, with_exponent-read}
 use Rattle.b2_dectext.proofs.ReadBack.{digit_bytes-value, digit_bytes-length, are_digits, take_digits, drop_digits, sign_for, sign_for-text, sign_for-minus, shown-number, read_as, plain-back}
@@ -78,7 +78,7 @@ spelling_of : Number → Sign → ℕ → Spelling
 spelling_of x h n = with_exponent (sign_for x.neg) (take 1 (nine x.coef)) (drop 1 (nine x.coef)) h (digit_byte 1 n) (digit_byte 0 n ∷ [])
 
 text-shown : (x : Number) (h : Sign) (n : ℕ) → (x.coef == 0) ≡ false → is_fixed x.place ≡ false → exponent_text h (two n) ≡ exponent_shown x.place
-    → spelled (spelling_of x h n) ≡ without_spaces x
+    → spelling_text (spelling_of x h n) ≡ without_spaces x
 unfolding spelling_of two
 text-shown x h n some far shown =
     let w : List ℕ = take 1 (nine x.coef) in

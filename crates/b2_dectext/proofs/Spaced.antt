@@ -9,7 +9,7 @@ use Rattle.b2_base.specs.Lexical.{is_digit}
 use Rattle.b2_dec.specs.Number.{Number}
 use Rattle.b2_dectext.specs.Digits.{AreDigits}
 use Rattle.b2_dectext.specs.NumberText.{number_len, number_value, spaces_len, spaced_number_len}
-use Rattle.b2_dectext.specs.Grammar.{Sign, Spelling, sign_text, point_text, exponent_text, spelled, fraction_digits, IsSpelling, IsNumberText, IsLongest, AreSpaces, IsSpacedNumber, IsLongestSpaced}
+use Rattle.b2_dectext.specs.Grammar.{Sign, Spelling, sign_text, point_text, exponent_text, spelling_text, fraction_digits, IsSpelling, IsNumberText, IsLongest, AreSpaces, IsSpacedNumber, IsLongestSpaced}
 use Rattle.b2_dectext.specs.Grammar as grammar
 use Rattle.b2_dectext.proofs.Longest.{longest-read, spelled-length, some_text}
 
@@ -65,7 +65,7 @@ spaceless-number text x h =
 some_number : (text : List ℕ) (x : Result Number ℕ) → IsNumberText text x → 0 < length text
 some_number text x h =
     let s : Spelling = h.spelling in
-    let long : length (spelled s) ≡ length text = ap length h.text_is in
+    let long : length (spelling_text s) ≡ length text = ap length h.text_is in
     let count = spelled-length (sign_text s.sign) s.whole (point_text s.fraction) (exponent_text s.exponent_sign s.exponent) in
     elim (cases_lt 0 (length s.whole + length (point_text s.fraction))) [
       | inl some ↦ omega (arith, long, count)

@@ -7,7 +7,7 @@ use Rattle.b2_base.specs.Byte as byte
 use Rattle.b2_base.specs.Lexical.{digits_width, first}
 use Rattle.b2_dectext.specs.Digits.{AreDigits}
 use Rattle.b2_dectext.specs.NumberText.{sign_len, unsigned, whole_part, fraction_part, point_len, mantissa_len, exponent_digits, exponent_len, number_len, parts_of, parts_value, number_value}
-use Rattle.b2_dectext.specs.Grammar.{Sign, Spelling, sign_text, point_text, exponent_text, spelled, fraction_digits, parts, IsSpelling, IsNumberText, is_minus}
+use Rattle.b2_dectext.specs.Grammar.{Sign, Spelling, sign_text, point_text, exponent_text, spelling_text, fraction_digits, parts, IsSpelling, IsNumberText, is_minus}
 use Rattle.b2_dectext.specs.Grammar as grammar
 use Rattle.b2_dectext.proofs.Lengths.{digits_at_front, digits_width-le-length}
 
@@ -182,7 +182,7 @@ read-number text some =
           take-add (sign_len text) m text ∙ ap₂ (λ s t. s ++ t) (sign-front text) (mantissa-front body there) in
           let back : take (exponent_len rest) (drop (sign_len text + m) text) ≡ exponent_text (sign_of (drop 1 rest)) (exponent_digits rest) =
           ap (take (exponent_len rest)) (sym (drop-drop m (sign_len text) text)) ∙ exponent-front rest in
-          let all : take (sign_len text + m + exponent_len rest) text ≡ spelled (read_spelling text) =
+          let all : take (sign_len text + m + exponent_len rest) text ≡ spelling_text (read_spelling text) =
           take-add (sign_len text + m) (exponent_len rest) text ∙ ap₂ (λ s t. s ++ t) front back
           ∙ append_assoc (sign_text (sign_of text)) _ _
           ∙ ap (λ t. sign_text (sign_of text) ++ t) (append_assoc (whole_part body) _ _) in

@@ -33,8 +33,8 @@ exponent_text s [] = []
 exponent_text s (d ∷ ds) = byte.upper_e ∷ (sign_text s ++ d ∷ ds)
 
 -- the text that such parts spell
-abbrev pub spelled : Spelling → List ℕ
-spelled s = sign_text s.sign ++ (s.whole ++ (point_text s.fraction ++ exponent_text s.exponent_sign s.exponent))
+abbrev pub spelling_text : Spelling → List ℕ
+spelling_text s = sign_text s.sign ++ (s.whole ++ (point_text s.fraction ++ exponent_text s.exponent_sign s.exponent))
 
 -- the digits after the point
 abbrev pub fraction_digits : Option (List ℕ) → List ℕ
@@ -69,7 +69,7 @@ parts s = record {
 pub record IsNumberText (text : List ℕ) (number : Result Number ℕ) : Type 0 where
   pub spelling : Spelling
   pub fine : IsSpelling spelling
-  pub text_is : spelled spelling ≡ text
+  pub text_is : spelling_text spelling ≡ text
   pub value : parts_value (parts spelling) ≡ number
 
 -- n is the length of the longest number at the front of a text, and 0 where none stands there.

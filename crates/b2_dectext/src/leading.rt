@@ -6,10 +6,7 @@ ghost use Rattle.b2_dectext.specs.Digits.{IsLeading};
 
 use b2_base::Code;
 use b2_base::codes::{C60_UNDERFLOW, C61_OVERFLOW};
-use b2_dec::{Dec, Mode, round_exact, round_whole_part};
-
-/// The number above the largest thirteen digits.
-const ABOVE: u64 = 10_000_000_000_000;
+use b2_dec::{COEFFICIENT_LIMIT, Dec, Mode, round_exact, round_whole_part};
 
 /// The leading digits of a number, at most fourteen, and how many follow them.
 #[derive(Clone, Copy)]
@@ -27,7 +24,7 @@ pub fn with_digit(leading: Leading, digit: u8) -> Leading
     ensures value { (n : ℕ) → IsLeading n leading.digits leading.more → IsLeading (10 * n + digit) result.digits result.more }
     ensures bound { result.more ≤ leading.more + 1 }
 {
-    if leading.digits < ABOVE {
+    if leading.digits < COEFFICIENT_LIMIT {
         Leading {
             digits: leading.digits * 10 + digit as u64,
             more: leading.more,
@@ -59,7 +56,7 @@ pub fn rounded(neg: bool, digits: u64, high: u128, low: u128) -> Result<Dec, Cod
         return Err(Code::known(C61_OVERFLOW));
     }
     let place = (high - low) as u32;
-    if digits < ABOVE {
+    if digits < COEFFICIENT_LIMIT {
         round_exact(neg, digits as u128, place, Mode::Round)
     } else {
         round_whole_part(neg, digits as u128, place, Mode::Round)

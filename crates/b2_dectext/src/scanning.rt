@@ -6,7 +6,7 @@ ghost use Rattle.b2_dectext.specs.Digits.{AreDigits};
 ghost use Rattle.b2_dectext.specs.NumberText as grammar;
 ghost use Rattle.b2_dectext.specs.NumberText.{parts_of};
 
-use b2_base::lexical::{digits_width, dropped, first};
+use b2_base::lexical::{digits_width, first, rest_after};
 
 /// How many spaces a text begins with.
 pub(crate) fn spaces_len(text: &[u8]) -> usize
@@ -55,7 +55,7 @@ pub(crate) fn fraction_part(text: &[u8]) -> &[u8]
     ensures digits { AreDigits result.now }
 {
     if first(text) == b'.' {
-        whole_part(dropped(text, 1))
+        whole_part(rest_after(text, 1))
     } else {
         &text[..0]
     }
@@ -89,7 +89,7 @@ pub(crate) fn exponent_digits(text: &[u8]) -> &[u8]
     ensures digits { AreDigits result.now }
 {
     if first(text) == b'E' {
-        let digits = unsigned(dropped(text, 1));
+        let digits = unsigned(rest_after(text, 1));
         &digits[..digits_width(digits).min(2)]
     } else {
         &text[..0]
@@ -107,7 +107,7 @@ fn exponent_len(text: &[u8], digits: &[u8]) -> usize
     if digits.len() == 0 {
         return 0;
     }
-    1 + sign_len(dropped(text, 1)) + digits.len()
+    1 + sign_len(rest_after(text, 1)) + digits.len()
 }
 
 /// The number at the front of a text: its parts and its length, 0 where there is none.
@@ -155,7 +155,7 @@ pub(crate) fn spelling(text: &[u8]) -> Parsed<'_>
         neg: first(text) == b'-',
         whole,
         fraction,
-        exponent_neg: first(dropped(rest, 1)) == b'-',
+        exponent_neg: first(rest_after(rest, 1)) == b'-',
         exponent,
         len,
     }

@@ -3,7 +3,8 @@ use Rattle.std.proofs.Common.{◌≡◌, ◌∙◌, ℕ, Option, Result, Ok, Err
 use Rattle.b2_base.specs.declared.codes.Fault.{Fault}
 use Rattle.b2_base.specs.declared.codes.Fault.TheVariants as fault
 use Rattle.b2_vars.specs.Tables.{VarsState}
-use Rattle.b2_expr.specs.Assigning.{Assigned, Ends, EndsWith}
+use Rattle.b2_vars.specs.Assigned.{Assigned}
+use Rattle.b2_expr.specs.Assigning.{Ends, EndsWith}
 
 pub ended_so : (a : Assigned) (old new : VarsState) (r : Result (Unit {0}) Fault) (code : Option ℕ) → Ends a old new r → EndsWith r code → record { vars = new; code = code } ≡ a
 ended_so a old new (Ok done) code is ends = ap (λ (v : VarsState). record { vars = v; code = code }) is.1 ∙ ap (λ (o : Option ℕ). record { vars = a.vars; code = o }) (ends ∙ sym is.0)

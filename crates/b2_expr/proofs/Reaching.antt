@@ -7,7 +7,8 @@ use Rattle.b2_vars.specs.Answers.{code_if, first_of}
 use Rattle.b2_vars.specs.Tables.{VarsState}
 use Rattle.b2_alpha.specs.Sums.{are_decimal, decimal_difference, decimal_sum}
 use Rattle.b2_expr.specs.Answers.{TextAnswer, ◌>>=◌}
-use Rattle.b2_expr.specs.Assigning.{Assigned, unless_refused, receiver_code, with_made, reached_by, portion_in}
+use Rattle.b2_vars.specs.Assigned.{Assigned}
+use Rattle.b2_expr.specs.Assigning.{unless_refused, receiver_code, with_made, reached_by, portion_in}
 use Rattle.b2_expr.specs.Functions.{whole_between}
 use Rattle.b2_expr.specs.Receivers.{portion_count}
 use Rattle.b2_expr.specs.ReceiverLaws.{EachPartIsAPortion, SameWhereNotReached, NoCodeWhereReached}

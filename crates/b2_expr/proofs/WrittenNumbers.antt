@@ -16,7 +16,7 @@ use Rattle.b2_expr.specs.Value.{literal_number, literal_value}
 use Rattle.b2_expr.proofs.Operands.{literal_is, literal_rest, literal_here}
 use Rattle.b2_dectext.specs.Digits.{AreDigits, value_after}
 use Rattle.b2_dectext.specs.NumberText.{Parts, parts_value, number_len}
-use Rattle.b2_dectext.specs.Grammar.{spelled, parts, fraction_digits}
+use Rattle.b2_dectext.specs.Grammar.{spelling_text, parts, fraction_digits}
 use Rattle.b2_dectext.specs.Grammar as grammar
 use Rattle.b2_dectext.proofs.Lengths.{digits_at_front, digits_width-le-length}
 use Rattle.b2_dectext.proofs.Longest.{plain, plain-read, IsReadWhole}
@@ -36,11 +36,11 @@ after_point (b ∷ bs) h = ap (λ (d : ℕ). d ∷ bs) (eqb-true b byte.point h)
 
 -- What a plain number comes to: its digits, divided by ten as often as digits stand after the point.
 plain_value : (w : List ℕ) (f : Option (List ℕ)) → AreDigits w → AreDigits (fraction_digits f) → 0 < length w + length (fraction_digits f)
-    → literal_value (spelled (plain grammar.unsigned w f)) ≡ rnd Round false (value_after (value_after 0 w) (fraction_digits f)) (10 ^ length (fraction_digits f))
+    → literal_value (spelling_text (plain grammar.unsigned w f)) ≡ rnd Round false (value_after (value_after 0 w) (fraction_digits f)) (10 ^ length (fraction_digits f))
 plain_value w f hw hf some =
     let p : Parts = parts (plain grammar.unsigned w f) in
-    let whole : IsReadWhole (spelled (plain grammar.unsigned w f)) (parts_value p) = plain-read grammar.unsigned w f hw hf some in
-    let there : (number_len (spelled (plain grammar.unsigned w f)) == 0) ≡ false = ne_eqb _ 0 (λ e. absurd (omega (arith, whole.some, e))) in
+    let whole : IsReadWhole (spelling_text (plain grammar.unsigned w f)) (parts_value p) = plain-read grammar.unsigned w f hw hf some in
+    let there : (number_len (spelling_text (plain grammar.unsigned w f)) == 0) ≡ false = ne_eqb _ 0 (λ e. absurd (omega (arith, whole.some, e))) in
     rw there (whole.value ∙ sym (value_of-multiplied p refl)
     ∙ ap (λ n. rnd Round false n (10 ^ length (fraction_digits f))) (mul-one (value_after (value_after 0 w) (fraction_digits f))))
 

@@ -8,6 +8,7 @@ use Rattle.b2_dec.specs.Number.{Number}
 use Rattle.b2_dec.specs.declared.values.Value.{Value}
 use Rattle.b2_dec.specs.declared.values.Value.TheVariants as value
 use Rattle.b2_alpha.specs.Values.{padded}
+use Rattle.b2_vars.specs.Assigned.{Assigned}
 use Rattle.b2_vars.specs.Calls.{set_code, part_code, missing_code, part_place, with_scalar, with_change, with_bytes_of, IsPart, ChangesPart}
 use Rattle.b2_vars.specs.Shapes.{cell_at}
 use Rattle.b2_vars.specs.Tables.{VarsState, shape_at, variable_at}
@@ -34,11 +35,6 @@ is_global_receiver (receiver_kind.Alpha to) = to.element.global
 abbrev pub is_global_buffer : Buffer → Bool
 is_global_buffer (buffer_kind.Value to) = to.element.global
 is_global_buffer (buffer_kind.Array a) = a.global
-
--- what an assignment leaves: the variables, and its code where it ends with one
-pub record Assigned : Type 0 where
-  pub vars : VarsState
-  pub code : Option ℕ
 
 -- nothing is assigned, for a code
 abbrev pub unassigned : ℕ → VarsState → Assigned

@@ -5,7 +5,8 @@ use Rattle.b2_text.specs.Program.{TextState}
 use Rattle.b2_vars.specs.Tables.{VarsState}
 use Rattle.b2_vars.specs.declared.setting.Setting.{Setting}
 use Rattle.b2_expr.specs.Answers.{Answer, TextAnswer}
-use Rattle.b2_expr.specs.Assigning.{Assigned, assigned_bytes, assigned_number, unassigned}
+use Rattle.b2_vars.specs.Assigned.{Assigned}
+use Rattle.b2_expr.specs.Assigning.{assigned_bytes, assigned_number, unassigned}
 use Rattle.b2_expr.specs.Receivers.{alpha_receiver, number_receiver}
 use Rattle.b2_expr.specs.Scope.{surroundings_of}
 use Rattle.b2_expr.specs.Value.{in_statement}

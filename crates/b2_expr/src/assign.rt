@@ -13,7 +13,7 @@ use crate::operations::{RightSide, make_side};
 use crate::receiver::{AlphaReceiver, Buffer, Receiver};
 use b2_alpha::assign;
 use b2_base::codes::X75_NOT_DECIMAL;
-use b2_base::lexical::{dropped, front};
+use b2_base::lexical::{first_bytes, rest_after};
 use b2_base::{Code, Fault, NoMemory};
 use b2_dec::{Dec, Value};
 use b2_vars::Vars;
@@ -54,8 +54,8 @@ fn portion<'a>(vars: &'a Vars, to: &AlphaReceiver) -> &'a [u8]
     let element = to.element;
     let _shape = vars.shape(element.var);
     match vars.alpha(element.var, element.row, element.column) {
-        Ok(bytes) => front(
-            dropped(bytes, usize::from(to.portion.from)),
+        Ok(bytes) => first_bytes(
+            rest_after(bytes, usize::from(to.portion.from)),
             usize::from(to.portion.count),
         ),
         Err(_) => unreachable!(),
@@ -184,8 +184,8 @@ fn value_bytes<'a>(vars: &'a Vars, of: &AlphaReceiver) -> Result<&'a [u8], Code>
 {
     let element = of.element;
     match vars.alpha(element.var, element.row, element.column) {
-        Ok(bytes) => Ok(front(
-            dropped(bytes, usize::from(of.portion.from)),
+        Ok(bytes) => Ok(first_bytes(
+            rest_after(bytes, usize::from(of.portion.from)),
             usize::from(of.portion.count),
         )),
         Err(code) => Err(code),

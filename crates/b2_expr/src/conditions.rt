@@ -12,7 +12,7 @@ use crate::scope::Scope;
 use b2_alpha::compare;
 use b2_atom::relation_width;
 use b2_base::Code;
-use b2_base::lexical::{dropped, first};
+use b2_base::lexical::{first, rest_after};
 use b2_dec::{Bytes, cmp};
 use b2_rows::{Chain, goes_on, is_alpha_at, relation_at};
 
@@ -30,7 +30,7 @@ pub fn truth<'a>(s: &Scope<'_>, text: &'a [u8]) -> Result<(bool, &'a [u8]), Code
     let mut left = after;
     while goes_on(Chain::Condition, left) {
         let word = first(left);
-        let (other, rest) = match comparison(s, dropped(left, 1)) {
+        let (other, rest) = match comparison(s, rest_after(left, 1)) {
             Ok(found) => found,
             Err(code) => return Err(code),
         };
@@ -66,7 +66,7 @@ fn alpha_comparison<'a>(s: &Scope<'_>, text: &'a [u8]) -> Result<(bool, &'a [u8]
     };
     let width = relation_width(sign);
     let mut right = Bytes::new();
-    match alpha(s, dropped(sign, width), &mut right) {
+    match alpha(s, rest_after(sign, width), &mut right) {
         Ok(rest) => {
             let order = compare(left.bytes(), right.bytes());
             Ok((relation_at(sign).holds(order), rest))
@@ -86,7 +86,7 @@ fn numeric_comparison<'a>(s: &Scope<'_>, text: &'a [u8]) -> Result<(bool, &'a [u
         Err(code) => return Err(code),
     };
     let width = relation_width(sign);
-    match climb(Level::Sum, s, dropped(sign, width)) {
+    match climb(Level::Sum, s, rest_after(sign, width)) {
         Ok((right, rest)) => Ok((relation_at(sign).holds(cmp(left, right)), rest)),
         Err(code) => Err(code),
     }

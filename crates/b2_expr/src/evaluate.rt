@@ -33,7 +33,7 @@ use crate::functions::{
     binary_bytes, column_written, count_written, extreme, number_of, of_one, of_text, of_two,
     position_of, subscript, whole_between, whole_number,
 };
-use crate::literals::literal_at;
+use crate::literals::written_number_at;
 use crate::named::{Element, Located, NameKind, Subscripts, variable_of};
 use crate::operators::{Level, Waiting, completed, is_signed, item_level, operator_at};
 use crate::scope::{Env, Parameter, Scope, hidden_by, kept_number};
@@ -42,7 +42,7 @@ use b2_alpha::value_len;
 use b2_atom::{Origin, literal_width, numeric_name_width, relation_width};
 use b2_base::Code;
 use b2_base::codes::{A04_TOO_DEEP, P38_NO_DEFFN, X72_TOO_LONG, X77_NO_PARTITION};
-use b2_base::lexical::{at, dropped, first, front};
+use b2_base::lexical::{at, first, first_bytes, rest_after};
 use b2_dec::{Bytes, Dec};
 use b2_rows::{
     AlphaOperand, Chain, Name, Operand, alpha_name, alpha_operand_at, goes_on, hex_byte_at, is_at,
@@ -85,7 +85,7 @@ fn past_sign<'a>(
         wanted,
         made: Level::Product,
     });
-    (Level::Power, dropped(text, 1))
+    (Level::Power, rest_after(text, 1))
 }
 
 /// The first operand of what is read at a level, the level at which its operators go on, and what stands after it; a sign before it waits.
@@ -141,7 +141,7 @@ pub fn climb<'a>(wanted: Level, s: &Scope<'_>, text: &'a [u8]) -> Result<(Dec, &
             let (other, below, rest) = match first_operand(
                 item_level(level),
                 s,
-                dropped(left, 1),
+                rest_after(left, 1),
                 &mut waiting,
             ) {
                 Ok(found) => found,
@@ -172,7 +172,7 @@ fn operand<'a>(s: &Scope<'_>, text: &'a [u8]) -> Result<(Dec, &'a [u8]), Code>
     ensures { Gives (value (context s.now) level_of.Operand (tree_at row.OPERAND text.now)) (after_part row.OPERAND text.now) result }
 {
     match operand_at(text) {
-        Operand::Number => literal_at(text),
+        Operand::Number => written_number_at(text),
         Operand::Parentheses => group(s, text),
         Operand::Function => call_at(s, text),
         Operand::OfOne => of_one_at(s, text),
@@ -194,7 +194,7 @@ fn kept_at<'a>(env: &Env<'_>, text: &'a [u8]) -> (Dec, &'a [u8])
     ensures rest { result.1.now ≡ after_part row.KEPT_NUMBER text.now }
 {
     let number = kept_number(env, first(text));
-    (whole_number(u64::from(number)), dropped(text, 1))
+    (whole_number(u64::from(number)), rest_after(text, 1))
 }
 
 /// An expression in parentheses.
@@ -204,8 +204,8 @@ fn group<'a>(s: &Scope<'_>, text: &'a [u8]) -> Result<(Dec, &'a [u8]), Code>
     requires part { is_part row.PARENTHESES text.now ≡ true }
     ensures { Gives (meaning.operand (context s.now) kind_is.Parentheses (tree_at row.PARENTHESES text.now)) (after_part row.PARENTHESES text.now) result }
 {
-    match climb(Level::Sum, s, dropped(text, 1)) {
-        Ok((number, rest)) => Ok((number, dropped(rest, 1))),
+    match climb(Level::Sum, s, rest_after(text, 1)) {
+        Ok((number, rest)) => Ok((number, rest_after(rest, 1))),
         Err(code) => Err(code),
     }
 }
@@ -217,12 +217,12 @@ fn call_at<'a>(s: &Scope<'_>, text: &'a [u8]) -> Result<(Dec, &'a [u8]), Code>
     requires part { is_part row.FUNCTION text.now ≡ true }
     ensures { Gives (meaning.operand (context s.now) kind_is.Function (tree_at row.FUNCTION text.now)) (after_part row.FUNCTION text.now) result }
 {
-    let (argument, rest) = match climb(Level::Sum, s, dropped(text, 3)) {
+    let (argument, rest) = match climb(Level::Sum, s, rest_after(text, 3)) {
         Ok(found) => found,
         Err(code) => return Err(code),
     };
     match call(s, at(text, 1), argument) {
-        Ok(number) => Ok((number, dropped(rest, 1))),
+        Ok(number) => Ok((number, rest_after(rest, 1))),
         Err(code) => Err(code),
     }
 }
@@ -240,7 +240,7 @@ fn call(s: &Scope<'_>, name: u8, argument: Dec) -> Result<Dec, Code>
     if s.room == 0 {
         return Err(Code::known(A04_TOO_DEEP));
     }
-    let named = dropped(unit, 3);
+    let named = rest_after(unit, 3);
     let (name, width) = numeric_name(named);
     let inner = Scope {
         env: s.env,
@@ -250,7 +250,7 @@ fn call(s: &Scope<'_>, name: u8, argument: Dec) -> Result<Dec, Code>
         }),
         room: s.room - 1,
     };
-    let body = dropped(named, width + 2);
+    let body = rest_after(named, width + 2);
     match climb(Level::Sum, &inner, body) {
         Ok((number, _)) => Ok(number),
         Err(code) => Err(code),
@@ -287,12 +287,12 @@ fn of_one_at<'a>(s: &Scope<'_>, text: &'a [u8]) -> Result<(Dec, &'a [u8]), Code>
     requires part { is_part row.OF_ONE text.now ≡ true }
     ensures { Gives (meaning.operand (context s.now) kind_is.OfOne (tree_at row.OF_ONE text.now)) (after_part row.OF_ONE text.now) result }
 {
-    let (x, rest) = match climb(Level::Sum, s, dropped(text, 1)) {
+    let (x, rest) = match climb(Level::Sum, s, rest_after(text, 1)) {
         Ok(found) => found,
         Err(code) => return Err(code),
     };
     match of_one(first(text), x) {
-        Ok(number) => Ok((number, dropped(rest, 1))),
+        Ok(number) => Ok((number, rest_after(rest, 1))),
         Err(code) => Err(code),
     }
 }
@@ -304,16 +304,16 @@ fn of_two_at<'a>(s: &Scope<'_>, text: &'a [u8]) -> Result<(Dec, &'a [u8]), Code>
     requires part { is_part row.OF_TWO text.now ≡ true }
     ensures { Gives (meaning.operand (context s.now) kind_is.OfTwo (tree_at row.OF_TWO text.now)) (after_part row.OF_TWO text.now) result }
 {
-    let (x, after) = match climb(Level::Sum, s, dropped(text, 1)) {
+    let (x, after) = match climb(Level::Sum, s, rest_after(text, 1)) {
         Ok(found) => found,
         Err(code) => return Err(code),
     };
-    let (y, rest) = match climb(Level::Sum, s, dropped(after, 1)) {
+    let (y, rest) = match climb(Level::Sum, s, rest_after(after, 1)) {
         Ok(found) => found,
         Err(code) => return Err(code),
     };
     match of_two(s.env.mode, first(text), x, y) {
-        Ok(number) => Ok((number, dropped(rest, 1))),
+        Ok(number) => Ok((number, rest_after(rest, 1))),
         Err(code) => Err(code),
     }
 }
@@ -326,12 +326,12 @@ fn of_more_at<'a>(s: &Scope<'_>, text: &'a [u8]) -> Result<(Dec, &'a [u8]), Code
     ensures { Gives (meaning.operand (context s.now) kind_is.OfMore (tree_at row.OF_MORE text.now)) (after_part row.OF_MORE text.now) result }
 {
     let word = first(text);
-    let (number, after) = match climb(Level::Sum, s, dropped(text, 1)) {
+    let (number, after) = match climb(Level::Sum, s, rest_after(text, 1)) {
         Ok(found) => found,
         Err(code) => return Err(code),
     };
     match further_numbers(word, number, s, after) {
-        Ok((number, rest)) => Ok((number, dropped(rest, 1))),
+        Ok((number, rest)) => Ok((number, rest_after(rest, 1))),
         Err(code) => Err(code),
     }
 }
@@ -353,7 +353,7 @@ fn further_numbers<'a>(
         if !is_at(b',', left) {
             return Ok((number, left));
         }
-        let (other, rest) = match climb(Level::Sum, s, dropped(left, 1)) {
+        let (other, rest) = match climb(Level::Sum, s, rest_after(left, 1)) {
             Ok(found) => found,
             Err(code) => return Err(code),
         };
@@ -371,8 +371,8 @@ fn of_alpha_at<'a>(s: &Scope<'_>, text: &'a [u8]) -> Result<(Dec, &'a [u8]), Cod
     ensures { Gives (meaning.operand (context s.now) kind_is.OfAlpha (tree_at row.OF_ALPHA text.now)) (after_part row.OF_ALPHA text.now) result }
 {
     let mut value = Bytes::new();
-    match alpha(s, dropped(text, 1), &mut value) {
-        Ok(rest) => Ok((of_text(first(text), value.bytes()), dropped(rest, 1))),
+    match alpha(s, rest_after(text, 1), &mut value) {
+        Ok(rest) => Ok((of_text(first(text), value.bytes()), rest_after(rest, 1))),
         Err(code) => Err(code),
     }
 }
@@ -385,18 +385,18 @@ fn position_at<'a>(s: &Scope<'_>, text: &'a [u8]) -> Result<(Dec, &'a [u8]), Cod
     ensures { Gives (meaning.operand (context s.now) kind_is.Position (tree_at row.POSITION text.now)) (after_part row.POSITION text.now) result }
 {
     let mut value = Bytes::new();
-    let sign = match alpha(s, dropped(text, 1), &mut value) {
+    let sign = match alpha(s, rest_after(text, 1), &mut value) {
         Ok(rest) => rest,
         Err(code) => return Err(code),
     };
     let width = relation_width(sign);
     let mut wanted = Bytes::new();
-    match alpha(s, dropped(sign, width), &mut wanted) {
+    match alpha(s, rest_after(sign, width), &mut wanted) {
         Ok(rest) => {
             let relation = relation_at(sign);
             Ok((
                 position_of(relation, value.bytes(), wanted.bytes()),
-                dropped(rest, 1),
+                rest_after(rest, 1),
             ))
         }
         Err(code) => Err(code),
@@ -411,7 +411,7 @@ fn bytes_at<'a>(s: &Scope<'_>, text: &'a [u8]) -> Result<(Dec, &'a [u8]), Code>
     ensures { Gives (meaning.operand (context s.now) kind_is.Value (tree_at row.VALUE text.now)) (after_part row.VALUE text.now) result }
 {
     let mut value = Bytes::new();
-    let after = match alpha(s, dropped(text, 1), &mut value) {
+    let after = match alpha(s, rest_after(text, 1), &mut value) {
         Ok(rest) => rest,
         Err(code) => return Err(code),
     };
@@ -424,7 +424,7 @@ fn bytes_at<'a>(s: &Scope<'_>, text: &'a [u8]) -> Result<(Dec, &'a [u8]), Code>
         Err(code) => return Err(code),
     };
     match number_of(value.bytes(), count) {
-        Ok(number) => Ok((number, dropped(rest, 1))),
+        Ok(number) => Ok((number, rest_after(rest, 1))),
         Err(code) => Err(code),
     }
 }
@@ -439,7 +439,7 @@ pub fn second<'a>(s: &Scope<'_>, text: &'a [u8]) -> Result<(Option<Dec>, &'a [u8
     if !is_at(b',', text) {
         return Ok((None, text));
     }
-    match climb(Level::Sum, s, dropped(text, 1)) {
+    match climb(Level::Sum, s, rest_after(text, 1)) {
         Ok((number, rest)) => Ok((Some(number), rest)),
         Err(code) => Err(code),
     }
@@ -455,7 +455,7 @@ fn subscripts<'a>(s: &Scope<'_>, text: &'a [u8]) -> Result<(Subscripts, &'a [u8]
     if !is_at(b'(', text) {
         return Ok((Subscripts { row: 0, column: 0 }, text));
     }
-    let (row, after) = match climb(Level::Sum, s, dropped(text, 1)) {
+    let (row, after) = match climb(Level::Sum, s, rest_after(text, 1)) {
         Ok(found) => found,
         Err(code) => return Err(code),
     };
@@ -467,7 +467,7 @@ fn subscripts<'a>(s: &Scope<'_>, text: &'a [u8]) -> Result<(Subscripts, &'a [u8]
         row: subscript(row),
         column: column_written(column),
     };
-    Ok((at, dropped(rest, 1)))
+    Ok((at, rest_after(rest, 1)))
 }
 
 /// The element that a name and its subscripts stand for. X77 comes at the name, before its subscripts.
@@ -487,7 +487,7 @@ pub fn located<'a, 'v>(
         Ok(vars) => vars,
         Err(code) => return Err(code),
     };
-    let after = dropped(text, width);
+    let after = rest_after(text, width);
     let (at, rest) = match subscripts(s, after) {
         Ok(found) => found,
         Err(code) => return Err(code),
@@ -528,7 +528,7 @@ fn hidden_at(s: &Scope<'_>, text: &[u8]) -> Option<Dec>
         return None;
     };
     let (name, width) = numeric_name(text);
-    if is_at(b'(', dropped(text, width)) {
+    if is_at(b'(', rest_after(text, width)) {
         return None;
     }
     hidden_by(s.parameter, name)
@@ -544,7 +544,7 @@ fn variable<'a>(s: &Scope<'_>, text: &'a [u8]) -> Result<(Dec, &'a [u8]), Code>
     if let Some(number) = hidden_at(s, text) {
         return Ok((
             number,
-            dropped(text, numeric_name_width(Origin::Atoms, text)),
+            rest_after(text, numeric_name_width(Origin::Atoms, text)),
         ));
     }
     let (located, rest) = match located(s, NameKind::Number, text) {
@@ -591,7 +591,7 @@ fn further_operands<'a>(s: &Scope<'_>, text: &'a [u8], into: &mut Bytes) -> Resu
 {
     let mut left = text;
     while goes_on(Chain::Alpha, left) {
-        left = match alpha_operand(s, dropped(left, 1), into) {
+        left = match alpha_operand(s, rest_after(left, 1), into) {
             Ok(rest) => rest,
             Err(code) => return Err(code),
         };
@@ -621,8 +621,8 @@ fn quoted_at<'a>(text: &'a [u8], into: &mut Bytes) -> Result<&'a [u8], Code>
     requires part { is_part row.LITERAL text.now ≡ true }
     ensures { Appends (literal_bytes (tree_at row.LITERAL text.now)) (after_part row.LITERAL text.now) into.old into.new result }
 {
-    match join_text(b2_rows::literal_at(text), into) {
-        Ok(()) => Ok(dropped(text, literal_width(text))),
+    match join_text(b2_rows::quoted_at(text), into) {
+        Ok(()) => Ok(rest_after(text, literal_width(text))),
         Err(code) => Err(code),
     }
 }
@@ -636,10 +636,10 @@ fn pairs_at<'a>(text: &'a [u8], into: &mut Bytes) -> &'a [u8]
     ensures rest { result.now ≡ after_part row.HEX_PAIRS text.now }
 {
     into.push(hex_byte_at(text));
-    let mut left = dropped(text, 2);
+    let mut left = rest_after(text, 2);
     while is_hex_at(left) {
         into.push(hex_byte_at(left));
-        left = dropped(left, 2);
+        left = rest_after(left, 2);
     }
     left
 }
@@ -651,9 +651,9 @@ fn hex_at<'a>(text: &'a [u8], into: &mut Bytes) -> Result<&'a [u8], Code>
     ensures { Appends (hex_bytes (tree_at row.HEX text.now)) (after_part row.HEX text.now) into.old into.new result }
 {
     let mut bytes = Bytes::new();
-    let rest = pairs_at(dropped(text, 1), &mut bytes);
+    let rest = pairs_at(rest_after(text, 1), &mut bytes);
     match join_text(bytes.bytes(), into) {
-        Ok(()) => Ok(dropped(rest, 1)),
+        Ok(()) => Ok(rest_after(rest, 1)),
         Err(code) => Err(code),
     }
 }
@@ -665,7 +665,7 @@ fn part_at<'a>(s: &Scope<'_>, text: &'a [u8], into: &mut Bytes) -> Result<&'a [u
     requires part { is_part row.STRING_PART text.now ≡ true }
     ensures { Appends (meaning.text_operand (context s.now) alpha_kind_is.StringPart (tree_at row.STRING_PART text.now)) (after_part row.STRING_PART text.now) into.old into.new result }
 {
-    let (located, after) = match located(s, NameKind::AlphaReceiver, dropped(text, 1)) {
+    let (located, after) = match located(s, NameKind::AlphaReceiver, rest_after(text, 1)) {
         Ok(found) => found,
         Err(code) => return Err(code),
     };
@@ -673,7 +673,7 @@ fn part_at<'a>(s: &Scope<'_>, text: &'a [u8], into: &mut Bytes) -> Result<&'a [u
         Ok(bytes) => bytes,
         Err(code) => return Err(code),
     };
-    let (from, after) = match climb(Level::Sum, s, dropped(after, 1)) {
+    let (from, after) = match climb(Level::Sum, s, rest_after(after, 1)) {
         Ok(found) => found,
         Err(code) => return Err(code),
     };
@@ -686,7 +686,7 @@ fn part_at<'a>(s: &Scope<'_>, text: &'a [u8], into: &mut Bytes) -> Result<&'a [u
         Err(code) => return Err(code),
     };
     match join_text(part, into) {
-        Ok(()) => Ok(dropped(rest, 1)),
+        Ok(()) => Ok(rest_after(rest, 1)),
         Err(code) => Err(code),
     }
 }
@@ -698,12 +698,12 @@ pub fn bytes_of_part(bytes: &[u8], from: Dec, count: Option<Dec>) -> Result<&[u8
 {
     let length = bytes.len() as u8;
     let from = whole_between(1, length, from)?;
-    let left = dropped(bytes, usize::from(from) - 1);
+    let left = rest_after(bytes, usize::from(from) - 1);
     match count {
         None => Ok(left),
         Some(count) => {
             let count = whole_between(1, left.len() as u8, count)?;
-            Ok(front(left, usize::from(count)))
+            Ok(first_bytes(left, usize::from(count)))
         }
     }
 }
@@ -715,7 +715,7 @@ fn binary_at<'a>(s: &Scope<'_>, text: &'a [u8], into: &mut Bytes) -> Result<&'a 
     requires part { is_part row.BINARY text.now ≡ true }
     ensures { Appends (meaning.text_operand (context s.now) alpha_kind_is.Binary (tree_at row.BINARY text.now)) (after_part row.BINARY text.now) into.old into.new result }
 {
-    let (number, after) = match climb(Level::Sum, s, dropped(text, 1)) {
+    let (number, after) = match climb(Level::Sum, s, rest_after(text, 1)) {
         Ok(found) => found,
         Err(code) => return Err(code),
     };
@@ -728,7 +728,7 @@ fn binary_at<'a>(s: &Scope<'_>, text: &'a [u8], into: &mut Bytes) -> Result<&'a 
         Err(code) => return Err(code),
     };
     match join_number(number, count, into) {
-        Ok(()) => Ok(dropped(rest, 1)),
+        Ok(()) => Ok(rest_after(rest, 1)),
         Err(code) => Err(code),
     }
 }
@@ -761,7 +761,7 @@ fn alpha_variable<'a>(s: &Scope<'_>, text: &'a [u8], into: &mut Bytes) -> Result
         Ok(bytes) => bytes,
         Err(code) => return Err(code),
     };
-    match join_text(front(bytes, value_len(bytes)), into) {
+    match join_text(first_bytes(bytes, value_len(bytes)), into) {
         Ok(()) => Ok(rest),
         Err(code) => Err(code),
     }

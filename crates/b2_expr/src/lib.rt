@@ -32,8 +32,6 @@ mod receiver;
 mod receivers;
 mod receiving;
 mod scope;
-#[cfg(test)]
-mod tests;
 mod value;
 
 pub use assign::{

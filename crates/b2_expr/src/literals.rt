@@ -14,7 +14,7 @@ ghost use Rattle.b2_expr.specs.Value.{literal_number, literal_value};
 use b2_atom::{Origin, number_width};
 use b2_base::Code;
 use b2_base::codes::S17_NUMERIC;
-use b2_base::lexical::{dropped, first, front, is_digit};
+use b2_base::lexical::{first, first_bytes, is_digit, rest_after};
 use b2_dec::{Dec, Mode, round_exact};
 use b2_dectext::literal;
 
@@ -62,14 +62,14 @@ fn long_literal(text: &[u8]) -> Result<(Dec, &[u8]), Code>
     ensures { Gives (literal_number (tree_at row.NUMBER text.now)) (after_part row.NUMBER text.now) result }
 {
     let width = number_width(Origin::Atoms, text);
-    match literal_value(front(text, width)) {
-        Ok(number) => Ok((number, dropped(text, width))),
+    match literal_value(first_bytes(text, width)) {
+        Ok(number) => Ok((number, rest_after(text, width))),
         Err(code) => Err(code),
     }
 }
 
 /// A number of at most thirteen digits divided by ten `places` times.
-fn with_places(digits: u64, places: usize) -> Result<Dec, Code>
+fn divided_by_tens(digits: u64, places: usize) -> Result<Dec, Code>
     requires small { digits < 10000000000000 }
     requires few { places ≤ 99 }
     ensures { result ≡ rnd mode.Round false digits (10 ^ places) }
@@ -95,7 +95,7 @@ fn ended<'a>(
     if is_digit(end) || end == b'E' || places > PLACES {
         return long_literal(text);
     }
-    match with_places(digits, places) {
+    match divided_by_tens(digits, places) {
         Ok(number) => Ok((number, rest)),
         Err(code) => Err(code),
     }
@@ -103,7 +103,7 @@ fn ended<'a>(
 
 /// A number that is written out: in one pass where it has no exponent and thirteen digits at most, not counting zeros at
 /// its front.
-pub fn literal_at(text: &[u8]) -> Result<(Dec, &[u8]), Code>
+pub fn written_number_at(text: &[u8]) -> Result<(Dec, &[u8]), Code>
     requires part { is_part row.NUMBER text.now ≡ true }
     ensures { Gives (literal_number (tree_at row.NUMBER text.now)) (after_part row.NUMBER text.now) result }
 {
@@ -111,7 +111,7 @@ pub fn literal_at(text: &[u8]) -> Result<(Dec, &[u8]), Code>
     if first(after) != b'.' {
         return ended(text, whole, 0, after);
     }
-    let fraction = dropped(after, 1);
+    let fraction = rest_after(after, 1);
     let (digits, rest) = take_digits(whole, fraction);
     ended(text, digits, fraction.len() - rest.len(), rest)
 }

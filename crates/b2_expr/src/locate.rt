@@ -22,7 +22,7 @@ use crate::receiver::{AlphaReceiver, Array, Buffer, Portion, Receiver};
 use crate::scope::{Env, Scope};
 use b2_atom::words::STR_OPEN;
 use b2_base::Code;
-use b2_base::lexical::dropped;
+use b2_base::lexical::rest_after;
 use b2_dec::{Dec, Kind};
 use b2_rows::{Name, alpha_name, is_alpha_at, is_array_at, is_at, numeric_name};
 
@@ -104,11 +104,11 @@ fn part_receiver_at<'a>(s: &Scope<'_>, text: &'a [u8]) -> Result<(AlphaReceiver,
     ensures place { Gives (spec.part_receiver (context s.now) (tree_at row.STRING_PART text.now)) (after_part row.STRING_PART text.now) result }
     ensures name { IfOk result (λ p. IsAlpha p.0.element.var) }
 {
-    let (whole, after) = match whole_value_at(s, dropped(text, 1)) {
+    let (whole, after) = match whole_value_at(s, rest_after(text, 1)) {
         Ok(found) => found,
         Err(code) => return Err(code),
     };
-    let (from, after) = match climb(Level::Sum, s, dropped(after, 1)) {
+    let (from, after) = match climb(Level::Sum, s, rest_after(after, 1)) {
         Ok(found) => found,
         Err(code) => return Err(code),
     };
@@ -122,7 +122,7 @@ fn part_receiver_at<'a>(s: &Scope<'_>, text: &'a [u8]) -> Result<(AlphaReceiver,
                 element: whole.element,
                 portion,
             },
-            dropped(rest, 1),
+            rest_after(rest, 1),
         )),
         Err(code) => Err(code),
     }
@@ -211,7 +211,7 @@ pub fn array_named_at<'a>(
 {
     let (name, width) = array_name_at(kind, text);
     match array_there(env, name) {
-        Ok(array) => Ok((array, dropped(text, width))),
+        Ok(array) => Ok((array, rest_after(text, width))),
         Err(code) => Err(code),
     }
 }
@@ -224,7 +224,7 @@ fn array_at<'a>(env: &Env<'_>, kind: Kind, text: &'a [u8]) -> Result<(Array, &'a
     ensures name { IfOk result (λ p. IsArray p.0.var × (p.0.var.alpha ≡ is_alpha_array kind)) }
 {
     match array_named_at(env, kind, text) {
-        Ok((array, rest)) => Ok((array, dropped(rest, 2))),
+        Ok((array, rest)) => Ok((array, rest_after(rest, 2))),
         Err(code) => Err(code),
     }
 }

@@ -16,7 +16,7 @@ use crate::scope::Scope;
 use b2_alpha::{add, addc, assign, bool_op, dac, dsc, sub, subc};
 use b2_atom::rows::{FIRST_AND_OPERATIONS, OPERATIONS};
 use b2_atom::words::{ADD, ADDC, AND, BOOL, DAC, DSC, OR, SUB, SUBC, XOR};
-use b2_base::lexical::{dropped, first};
+use b2_base::lexical::{first, rest_after};
 use b2_base::{Code, Fault};
 use b2_dec::Bytes;
 use b2_rows::{hex_digit_at, is_alpha_at, is_at, is_read};
@@ -109,8 +109,8 @@ fn digit_operation_at<'a>(s: &Scope<'_>, text: &'a [u8]) -> Result<(Operation, &
     requires part { is_part row.BOOLEAN text.now ≡ true }
     ensures { Gives (spec.digit_operation (context s.now) (tree_at row.BOOLEAN text.now)) (after_part row.BOOLEAN text.now) result }
 {
-    let digit = hex_digit_at(dropped(text, 1));
-    with_operand(AlphaOperator::Bool(digit), s, dropped(text, 2))
+    let digit = hex_digit_at(rest_after(text, 1));
+    with_operand(AlphaOperator::Bool(digit), s, rest_after(text, 2))
 }
 
 /// Any other operation.
@@ -119,7 +119,7 @@ fn word_operation_at<'a>(s: &Scope<'_>, text: &'a [u8]) -> Result<(Operation, &'
     requires part { is_part row.OTHER_OPERATION text.now ≡ true }
     ensures { Gives (spec.word_operation (context s.now) (tree_at row.OTHER_OPERATION text.now)) (after_part row.OTHER_OPERATION text.now) result }
 {
-    with_operand(operator_of(first(text)), s, dropped(text, 1))
+    with_operand(operator_of(first(text)), s, rest_after(text, 1))
 }
 
 /// An operation, and what stands after it.

@@ -16,7 +16,7 @@ use b2_atom::words::STR_OPEN;
 use b2_atom::{
     Origin, alpha_name_width, literal_width, number_width, numeric_name_width, relation_width,
 };
-use b2_base::lexical::dropped;
+use b2_base::lexical::rest_after;
 use b2_rows::{
     AlphaOperand, Chain, Operand, alpha_operand_at, goes_on, has_sign, is_alpha_at, is_at,
     is_hex_at, operand_at,
@@ -31,7 +31,7 @@ fn past_sum(text: &[u8]) -> &[u8]
 {
     let mut left = past_product(text);
     while goes_on(Chain::Sum, left) {
-        left = past_product(dropped(left, 1));
+        left = past_product(rest_after(left, 1));
     }
     left
 }
@@ -45,7 +45,7 @@ fn past_product(text: &[u8]) -> &[u8]
 {
     let mut left = past_factor(text);
     while goes_on(Chain::Product, left) {
-        left = past_factor(dropped(left, 1));
+        left = past_factor(rest_after(left, 1));
     }
     left
 }
@@ -58,7 +58,7 @@ fn past_factor(text: &[u8]) -> &[u8]
     ensures { result.now ≡ after_part row.FACTOR text.now }
 {
     if has_sign(text) {
-        past_power(dropped(text, 1))
+        past_power(rest_after(text, 1))
     } else {
         past_power(text)
     }
@@ -73,7 +73,7 @@ fn past_power(text: &[u8]) -> &[u8]
 {
     let mut left = past_operand(text);
     while goes_on(Chain::Power, left) {
-        left = past_operand(dropped(left, 1));
+        left = past_operand(rest_after(left, 1));
     }
     left
 }
@@ -86,7 +86,7 @@ fn past_operand(text: &[u8]) -> &[u8]
     ensures { result.now ≡ after_part row.OPERAND text.now }
 {
     match operand_at(text) {
-        Operand::Number => dropped(text, number_width(Origin::Atoms, text)),
+        Operand::Number => rest_after(text, number_width(Origin::Atoms, text)),
         Operand::Parentheses => past_group(text),
         Operand::Function => past_function(text),
         Operand::OfOne => past_of_one(text),
@@ -95,7 +95,7 @@ fn past_operand(text: &[u8]) -> &[u8]
         Operand::OfAlpha => past_of_alpha(text),
         Operand::Position => past_position(text),
         Operand::Value => past_value(text),
-        Operand::KeptNumber => dropped(text, 1),
+        Operand::KeptNumber => rest_after(text, 1),
         Operand::Variable => past_name(NameKind::Number, text),
     }
 }
@@ -107,7 +107,7 @@ fn past_group(text: &[u8]) -> &[u8]
     requires part { is_part row.PARENTHESES text.now ≡ true }
     ensures { result.now ≡ after_part row.PARENTHESES text.now }
 {
-    dropped(past_sum(dropped(text, 1)), 1)
+    rest_after(past_sum(rest_after(text, 1)), 1)
 }
 
 /// Past a call of a DEFFN.
@@ -117,7 +117,7 @@ fn past_function(text: &[u8]) -> &[u8]
     requires part { is_part row.FUNCTION text.now ≡ true }
     ensures { result.now ≡ after_part row.FUNCTION text.now }
 {
-    dropped(past_sum(dropped(text, 3)), 1)
+    rest_after(past_sum(rest_after(text, 3)), 1)
 }
 
 /// Past ABS, INT, FIX, SGN or SQR.
@@ -127,7 +127,7 @@ fn past_of_one(text: &[u8]) -> &[u8]
     requires part { is_part row.OF_ONE text.now ≡ true }
     ensures { result.now ≡ after_part row.OF_ONE text.now }
 {
-    dropped(past_sum(dropped(text, 1)), 1)
+    rest_after(past_sum(rest_after(text, 1)), 1)
 }
 
 /// Past ROUND or MOD.
@@ -137,8 +137,8 @@ fn past_of_two(text: &[u8]) -> &[u8]
     requires part { is_part row.OF_TWO text.now ≡ true }
     ensures { result.now ≡ after_part row.OF_TWO text.now }
 {
-    let after = past_sum(dropped(text, 1));
-    dropped(past_sum(dropped(after, 1)), 1)
+    let after = past_sum(rest_after(text, 1));
+    rest_after(past_sum(rest_after(after, 1)), 1)
 }
 
 /// Past MAX or MIN.
@@ -148,8 +148,8 @@ fn past_of_more(text: &[u8]) -> &[u8]
     requires part { is_part row.OF_MORE text.now ≡ true }
     ensures { result.now ≡ after_part row.OF_MORE text.now }
 {
-    let after = past_sum(dropped(text, 1));
-    dropped(past_further(after), 1)
+    let after = past_sum(rest_after(text, 1));
+    rest_after(past_further(after), 1)
 }
 
 /// Past the numbers that follow the first of MAX or MIN, of which there are at most seven.
@@ -163,7 +163,7 @@ fn past_further(text: &[u8]) -> &[u8]
         if !is_at(b',', left) {
             return left;
         }
-        left = past_sum(dropped(left, 1));
+        left = past_sum(rest_after(left, 1));
     }
     left
 }
@@ -175,7 +175,7 @@ fn past_of_alpha(text: &[u8]) -> &[u8]
     requires part { is_part row.OF_ALPHA text.now ≡ true }
     ensures { result.now ≡ after_part row.OF_ALPHA text.now }
 {
-    dropped(past_alpha(dropped(text, 1)), 1)
+    rest_after(past_alpha(rest_after(text, 1)), 1)
 }
 
 /// Past POS.
@@ -185,9 +185,9 @@ fn past_position(text: &[u8]) -> &[u8]
     requires part { is_part row.POSITION text.now ≡ true }
     ensures { result.now ≡ after_part row.POSITION text.now }
 {
-    let sign = past_alpha(dropped(text, 1));
+    let sign = past_alpha(rest_after(text, 1));
     let width = relation_width(sign);
-    dropped(past_alpha(dropped(sign, width)), 1)
+    rest_after(past_alpha(rest_after(sign, width)), 1)
 }
 
 /// Past VAL.
@@ -197,8 +197,8 @@ fn past_value(text: &[u8]) -> &[u8]
     requires part { is_part row.VALUE text.now ≡ true }
     ensures { result.now ≡ after_part row.VALUE text.now }
 {
-    let after = past_alpha(dropped(text, 1));
-    dropped(past_second(after), 1)
+    let after = past_alpha(rest_after(text, 1));
+    rest_after(past_second(after), 1)
 }
 
 /// Past a number after a comma, where one is written.
@@ -211,7 +211,7 @@ fn past_second(text: &[u8]) -> &[u8]
     if !is_at(b',', text) {
         return text;
     }
-    past_sum(dropped(text, 1))
+    past_sum(rest_after(text, 1))
 }
 
 /// Past subscripts, where some are written.
@@ -224,8 +224,8 @@ fn past_subscripts(text: &[u8]) -> &[u8]
     if !is_at(b'(', text) {
         return text;
     }
-    let after = past_sum(dropped(text, 1));
-    dropped(past_second(after), 1)
+    let after = past_sum(rest_after(text, 1));
+    rest_after(past_second(after), 1)
 }
 
 /// How many bytes a name of a kind takes.
@@ -247,7 +247,7 @@ fn past_name(kind: NameKind, text: &[u8]) -> &[u8]
     requires part { is_part (name_row kind) text.now ≡ true }
     ensures { result.now ≡ after_part (name_row kind) text.now }
 {
-    past_subscripts(dropped(text, width_of_name(kind, text)))
+    past_subscripts(rest_after(text, width_of_name(kind, text)))
 }
 
 /// Past an alpha expression.
@@ -259,7 +259,7 @@ fn past_alpha(text: &[u8]) -> &[u8]
 {
     let mut left = past_alpha_operand(text);
     while goes_on(Chain::Alpha, left) {
-        left = past_alpha_operand(dropped(left, 1));
+        left = past_alpha_operand(rest_after(left, 1));
     }
     left
 }
@@ -272,7 +272,7 @@ fn past_alpha_operand(text: &[u8]) -> &[u8]
     ensures { result.now ≡ after_part row.ALPHA_OPERAND text.now }
 {
     match alpha_operand_at(text) {
-        AlphaOperand::Literal => dropped(text, literal_width(text)),
+        AlphaOperand::Literal => rest_after(text, literal_width(text)),
         AlphaOperand::StringPart => past_part(text),
         AlphaOperand::Hex => past_hex(text),
         AlphaOperand::Binary => past_binary(text),
@@ -286,7 +286,7 @@ fn past_hex(text: &[u8]) -> &[u8]
     requires part { is_part row.HEX text.now ≡ true }
     ensures { result.now ≡ after_part row.HEX text.now }
 {
-    dropped(past_pairs(dropped(text, 1)), 1)
+    rest_after(past_pairs(rest_after(text, 1)), 1)
 }
 
 /// Past pairs of hexadecimal digits.
@@ -295,9 +295,9 @@ fn past_pairs(text: &[u8]) -> &[u8]
     requires part { is_part row.HEX_PAIRS text.now ≡ true }
     ensures { result.now ≡ after_part row.HEX_PAIRS text.now }
 {
-    let mut left = dropped(text, 2);
+    let mut left = rest_after(text, 2);
     while is_hex_at(left) {
-        left = dropped(left, 2);
+        left = rest_after(left, 2);
     }
     left
 }
@@ -309,8 +309,8 @@ fn past_binary(text: &[u8]) -> &[u8]
     requires part { is_part row.BINARY text.now ≡ true }
     ensures { result.now ≡ after_part row.BINARY text.now }
 {
-    let after = past_sum(dropped(text, 1));
-    dropped(past_second(after), 1)
+    let after = past_sum(rest_after(text, 1));
+    rest_after(past_second(after), 1)
 }
 
 /// Past STR.
@@ -320,9 +320,9 @@ fn past_part(text: &[u8]) -> &[u8]
     requires part { is_part row.STRING_PART text.now ≡ true }
     ensures { result.now ≡ after_part row.STRING_PART text.now }
 {
-    let comma = past_name(NameKind::AlphaReceiver, dropped(text, 1));
-    let after = past_sum(dropped(comma, 1));
-    dropped(past_second(after), 1)
+    let comma = past_name(NameKind::AlphaReceiver, rest_after(text, 1));
+    let after = past_sum(rest_after(comma, 1));
+    rest_after(past_second(after), 1)
 }
 
 /// What stands after an alpha receiver.

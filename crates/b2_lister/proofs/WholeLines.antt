@@ -5,7 +5,7 @@ use Rattle.b2_atom.specs.Words.{Text}
 use Rattle.b2_base.specs.Lexical.{all_printable, capped_value, is_digit, is_printable, skip_blanks}
 use Rattle.b2_atom.specs.Lines.{line_atoms}
 use Rattle.b2_atom.specs.declared.words.Origin.TheVariants as origin
-use Rattle.b2_atom.specs.declared.sink.Stop.{Stop}
+use Rattle.b2_atom.specs.declared.output.Stop.{Stop}
 use Rattle.b2_syntax.specs.Reading.{printable_width, after_digits, not_too_long, read_atoms, with_atoms, after_number, numbered, immediate, by_first, reads}
 use Rattle.b2_syntax.specs.declared.Entered.{Entered}
 use Rattle.b2_syntax.specs.declared.Entered.TheVariants.{Numbered, Immediate}

@@ -4,7 +4,7 @@ use Rattle.b2_atom.specs.Words.{Text}
 use Rattle.b2_base.specs.Byte as byte
 use Rattle.b2_base.specs.Lexical.{without_zeros}
 use Rattle.b2_atom.specs.Lines.{line_source}
-use Rattle.b2_atom.specs.declared.sink.Stop.{Stop}
+use Rattle.b2_atom.specs.declared.output.Stop.{Stop}
 
 abbrev pub five_digits : ℕ → Text
 five_digits n = (byte.digit_0 + n / 10000) ∷ (byte.digit_0 + n / 1000 % 10) ∷ (byte.digit_0 + n / 100 % 10) ∷ (byte.digit_0 + n / 10 % 10) ∷ (byte.digit_0 + n % 10) ∷ []

@@ -6,7 +6,7 @@ ghost use Rattle.b2_lister.specs.Listing.{listing};
 ghost use Rattle.b2_machine.specs.Listed as spec;
 
 use b2_atom::Atoms;
-use b2_base::lexical::dropped;
+use b2_base::lexical::rest_after;
 use b2_base::{ByteList, NoMemory};
 use b2_lister::list;
 use b2_rows::named_lines;
@@ -19,7 +19,7 @@ pub fn named_range(unit: &[u8]) -> (u16, u16)
     requires part { is_part row.LIST unit.now ≡ true }
     ensures { result ≡ spec.named_range (tree_at row.LIST unit.now) }
 {
-    let (from, to) = named_lines(dropped(unit, 1));
+    let (from, to) = named_lines(rest_after(unit, 1));
     (from, to.unwrap_or(from))
 }
 

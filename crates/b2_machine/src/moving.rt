@@ -8,7 +8,7 @@ ghost use Rattle.b2_machine.specs.Moving as spec;
 
 use crate::ends::{Stepped, Why, counts, ends_turn};
 use crate::messages::error_at;
-use crate::readiness::{become_ready, end_line, note_error, rest};
+use crate::readiness::{become_ready, become_ready_quietly, end_line, note_error};
 use b2_access::{Outcome, Private, goal_place, line_named, place_after, statement_placed};
 use b2_atom::{Atoms, rows};
 use b2_base::{Code, NoMemory};
@@ -95,7 +95,7 @@ fn go_to(alloc: Global, me: &mut Private, place: Option<Place>) -> Result<Steppe
             move_to(me, place);
             Ok(counts())
         }
-        None => rest(alloc, me),
+        None => become_ready_quietly(alloc, me),
     }
 }
 
@@ -200,7 +200,7 @@ pub fn settle(
         Outcome::Failed(code) => fault(alloc, me, home, place, code),
         Outcome::Repeat => Ok(same),
         Outcome::Break => break_after(alloc, me, home, place),
-        Outcome::Ready => rest(alloc, me),
+        Outcome::Ready => become_ready_quietly(alloc, me),
     }
 }
 

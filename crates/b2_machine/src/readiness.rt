@@ -42,7 +42,7 @@ pub fn become_ready(me: &mut Private, text: Vec<u8>) -> Result<Stepped, NoMemory
 }
 
 /// The same where nothing but what already waits is shown before the `:`.
-pub fn rest(alloc: Global, me: &mut Private) -> Result<Stepped, NoMemory>
+pub fn become_ready_quietly(alloc: Global, me: &mut Private) -> Result<Stepped, NoMemory>
     ensures ended { IfOk result (λ e. record { me = me.new; end = e } ≡ spec.rests me.old) }
     ensures part { me.new.part ≡ me.old.part }
 {

@@ -11,7 +11,7 @@ ghost use Rattle.b2_machine.specs.Stays.{IsLegalCourse};
 use crate::ends::{Stepped, counts, repeats};
 use crate::listed::{named_range, range_listed};
 use crate::moving::{settle, settle_on};
-use crate::readiness::rest;
+use crate::readiness::become_ready_quietly;
 use b2_access::{
     Access, Answer, DeviceTable, Lent, Outcome, Planned, Private, failed, statement_on,
     statement_placed,
@@ -234,7 +234,7 @@ fn begin_by(
 {
     let home = lent.home;
     let Some(builder) = builder_at(me, home, *place) else {
-        return Ok(Course::Ended(rest(alloc, me)?));
+        return Ok(Course::Ended(become_ready_quietly(alloc, me)?));
     };
     let mut lent = lent;
     let planned = plan_by(alloc, me, &mut lent, devices, *place, builder)?;

@@ -55,7 +55,7 @@ fn run_process(rt: &HostRuntime) -> Status {
 
 fn main(rt: HostRuntime) -> ExitCode {
     let status = run_process(&rt);
-    let line = status.line();
+    let line = status.message();
     if !line.bytes().is_empty() {
         if let Ok(text) = str::from_utf8(line.bytes()) {
             let _ = rt.eprintln(text);

@@ -51,7 +51,7 @@ impl Status {
     }
 
     /// The line for standard error, empty for `Ok`. It takes no memory.
-    pub fn line(&self) -> LineText
+    pub fn message(&self) -> LineText
         ensures { result ≡ status_line self.now }
     {
         match self {

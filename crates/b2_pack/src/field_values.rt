@@ -13,7 +13,7 @@ use crate::specification::{Field, digits_row};
 use b2_alpha::assign;
 use b2_base::Code;
 use b2_base::codes::{X71_DOES_NOT_FIT, X73_NOT_A_NUMBER, X74_OTHER_KIND, X76_LOCATOR_OR_FIELD};
-use b2_base::lexical::{dropped, front, skip_blanks};
+use b2_base::lexical::{first_bytes, rest_after, skip_blanks};
 use b2_dec::{Bytes, Dec, Kind, Value};
 
 /// A printed form without the blank after it, and without the one before it unless the number is below zero.
@@ -21,8 +21,8 @@ fn without_outer_blanks(neg: bool, shown: &[u8]) -> &[u8]
     ensures text { (x : Number) → neg ≡ x.neg → shown.now ≡ printed x → result.now ≡ without_spaces x }
     ensures within { length result.now ≤ length shown.now }
 {
-    let text = front(shown, shown.len().saturating_sub(1));
-    if neg { text } else { dropped(text, 1) }
+    let text = first_bytes(shown, shown.len().saturating_sub(1));
+    if neg { text } else { rest_after(text, 1) }
 }
 
 /// The text of a number: its printed form without the outer spaces.
@@ -31,7 +31,7 @@ fn number_text(x: Dec) -> Bytes
 {
     let mut shown = [0; 24];
     let len = b2_dectext::write(x, &mut shown);
-    alpha_of(without_outer_blanks(x.is_negative(), front(&shown, len)))
+    alpha_of(without_outer_blanks(x.is_negative(), first_bytes(&shown, len)))
 }
 
 /// Nothing, or the code.
@@ -154,7 +154,7 @@ fn packed_number(bytes: &[u8]) -> Result<Dec, Code>
 }
 
 /// The number in the bytes of a field, or the first code of the field.
-fn number_in(field: Field, bytes: &[u8]) -> Result<Dec, Code>
+fn number_of_field(field: Field, bytes: &[u8]) -> Result<Dec, Code>
     requires legal { specification.IsField field }
     requires width { length bytes.now ≡ specification.field_length field }
     ensures { spec.as_value result ≡ spec.field_value field Kind.Number bytes.now }
@@ -185,7 +185,7 @@ pub(crate) fn field_value(field: Field, kind: Kind, bytes: &[u8]) -> Result<Valu
     ensures { result ≡ spec.field_value field kind bytes.now }
 {
     match kind {
-        Kind::Number => match number_in(field, bytes) {
+        Kind::Number => match number_of_field(field, bytes) {
             Ok(x) => Ok(Value::Number(x)),
             Err(code) => Err(code),
         },

@@ -52,8 +52,8 @@ fn lies_in(layout: Layout, index: usize, next: u32, slot: &[u8; 16]) -> bool
     if !slot::is_entry(slot) {
         return true;
     }
-    let start = slot::start(layout, slot);
-    let end = slot::end(layout, slot);
+    let start = slot::first_sector(layout, slot);
+    let end = slot::last_sector(layout, slot);
     index <= start as usize && start < end && end < next
 }
 
@@ -189,8 +189,8 @@ fn lie_apart(layout: Layout, slot: &[u8; 16], other: &[u8; 16]) -> bool
 {
     !(slot::is_entry(slot)
         && slot::is_entry(other)
-        && slot::start(layout, slot) <= slot::end(layout, other)
-        && slot::start(layout, other) <= slot::end(layout, slot))
+        && slot::first_sector(layout, slot) <= slot::last_sector(layout, other)
+        && slot::first_sector(layout, other) <= slot::last_sector(layout, slot))
 }
 
 /// A slot against all that follow it.
@@ -248,10 +248,10 @@ fn is_controlled(layout: Layout, bytes: &[u8], slot: &[u8; 16]) -> bool
     if !slot::is_entry(slot) {
         return true;
     }
-    let end = slot::end(layout, slot);
+    let end = slot::last_sector(layout, slot);
     is_control(
         layout,
-        end - slot::start(layout, slot),
+        end - slot::first_sector(layout, slot),
         image::sector(bytes, end as usize),
     )
 }

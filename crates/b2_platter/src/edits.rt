@@ -7,7 +7,7 @@ use crate::Layout;
 use byteorder::{BigEndian, ByteOrder};
 
 /// Spells a sector number at a place.
-pub fn put_number(layout: Layout, bytes: &mut [u8], place: usize, n: u32)
+pub fn put_sector_number(layout: Layout, bytes: &mut [u8], place: usize, n: u32)
     requires room { place + width_of layout ≤ length bytes.old }
     requires fits { n < 256 ^ width_of layout }
     ensures { bytes.new ≡ take place bytes.old ++ (sector_number_bytes layout n ++ drop (place + width_of layout) bytes.old) }
@@ -25,9 +25,9 @@ pub fn image_head(layout: Layout, index: u8, total: u32, end: u32, next: u32) ->
     let mut image_head = [0; 16];
     image_head[0] = layout.version();
     image_head[1] = index;
-    put_number(layout, &mut image_head, 2, total);
-    put_number(layout, &mut image_head, 2 + layout.width(), end);
-    put_number(layout, &mut image_head, 2 + 2 * layout.width(), next);
+    put_sector_number(layout, &mut image_head, 2, total);
+    put_sector_number(layout, &mut image_head, 2 + layout.width(), end);
+    put_sector_number(layout, &mut image_head, 2 + 2 * layout.width(), next);
     image_head
 }
 

@@ -71,7 +71,7 @@ fn has_kind(slot: &[u8; 16]) -> bool
 
 /// The first sector of the slot's file.
 #[tactic(auto, unfolding(crate::specs::Slot::slot_start))]
-pub fn start(layout: Layout, slot: &[u8; 16]) -> u32
+pub fn first_sector(layout: Layout, slot: &[u8; 16]) -> u32
     ensures { result ≡ slot_start layout slot.now }
 {
     layout.number(slot, 2)
@@ -79,7 +79,7 @@ pub fn start(layout: Layout, slot: &[u8; 16]) -> u32
 
 /// The last sector of the slot's file.
 #[tactic(auto, unfolding(crate::specs::Slot::slot_end))]
-pub fn end(layout: Layout, slot: &[u8; 16]) -> u32
+pub fn last_sector(layout: Layout, slot: &[u8; 16]) -> u32
     ensures { result ≡ slot_end layout slot.now }
 {
     layout.number(slot, 2 + layout.width())

@@ -4,10 +4,10 @@ use Rattle.std.specs.List.{list_all}
 use Rattle.std.proofs.lemmas.Bool.{le-ltb, lt-ltb, cases_lt}
 use Rattle.std.proofs.lemmas.List.Sums.{fold-append}
 use native.Mathlib.Nat.{mul-mod_left}
-use Rattle.b2_print.specs.Columns.{next_column, column_after, passes}
+use Rattle.b2_print.specs.Columns.{next_column, column_after, passes, placed}
 use Rattle.b2_print.specs.declared.layout.Item.{Item}
 use Rattle.b2_print.specs.declared.layout.Item.TheVariants as item
-use Rattle.b2_print.specs.Layout.{item_text, stands_on_line, placed, column_past, item_column, layout, items_column, fits_line, next_zone, zone_text}
+use Rattle.b2_print.specs.Layout.{item_text, stands_on_line, item_placed, column_past, item_column, layout, items_column, fits_line, next_zone, zone_text}
 
 pub or_assoc : (a b c : Bool) → (a || (b || c)) ≡ ((a || b) || c)
 or_assoc true b c = refl
@@ -41,10 +41,10 @@ standing-fits : (b p : Bool) → b ≡ true → not (b && p) ≡ true → p ≡ 
 standing-fits true p s h = none-passes p h
 standing-fits false p s h = absurd (cc)
 
-pub placed-fits : (width column : ℕ) (it : Item) → stands_on_line it ≡ true → fits_line width it ≡ true → passes width column (placed width column it) ≡ false
+pub placed-fits : (width column : ℕ) (it : Item) → stands_on_line it ≡ true → fits_line width it ≡ true → passes width column (item_placed width column it) ≡ false
 placed-fits width column it s h =
     let fits : passes width 0 (item_text width 0 it) ≡ false = standing-fits (stands_on_line it) (passes width 0 (item_text width 0 it)) s h in
-    ap (λ t. passes width column (if t && not (column == 0) && passes width column (item_text width column it) then 10 ∷ item_text width 0 it else item_text width column it)) s
+    ap (λ t. passes width column (if t then placed width column (λ c. item_text width c it) else item_text width column it)) s
     ∙ placed_if width column (item_text width column it) (item_text width 0 it) (column == 0) (passes width column (item_text width column it))
     (λ e. ap (λ c. item_text width c it) (eqb-true column 0 e)) refl
     (λ e. ap (λ c. passes width c (item_text width 0 it)) (eqb-true column 0 e) ∙ fits) fits
@@ -66,7 +66,7 @@ layout-fits width column [] s h = refl
 layout-fits width column (it ∷ items) s h =
     let stand = both (stands_on_line it) (list_all stands_on_line items) s in
     let parts = both (fits_line width it) (list_all (fits_line width) items) h in
-    let text : List ℕ = placed width column it in
+    let text : List ℕ = item_placed width column it in
     ap (λ c. passes width column (text ++ layout width c items)) (line-column column it text stand.0)
     ∙ passes-append width column text (layout width (column_after column text) items)
     ∙ ap (λ t. t || passes width (column_after column text) (layout width (column_after column text) items)) (placed-fits width column it stand.0 parts.0)
@@ -77,8 +77,8 @@ layout-append : (width column : ℕ) (items more : List Item) → layout width c
 layout-append width column [] more = refl
 layout-append width column (it ∷ items) more =
     let next : ℕ = item_column width column it in
-    ap (λ t. placed width column it ++ t) (layout-append width next items more)
-    ∙ sym (append_assoc (placed width column it) (layout width next items) (layout width (items_column width next items) more))
+    ap (λ t. item_placed width column it ++ t) (layout-append width next items more)
+    ∙ sym (append_assoc (item_placed width column it) (layout width next items) (layout width (items_column width next items) more))
 
 pub items-go_on : (width column : ℕ) (items more : List Item) →
     (layout width column (items ++ more) ≡ layout width column items ++ layout width (items_column width column items) more)

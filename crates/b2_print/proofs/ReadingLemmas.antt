@@ -8,12 +8,12 @@ use Rattle.b2_base.specs.Lexical.{hex_digit, hex_pair}
 use Rattle.b2_dec.specs.Number.{Number}
 use Rattle.b2_dectext.specs.Digits.{digit_byte, digit_bytes, without_last_zeros}
 use Rattle.b2_dectext.specs.Printed.{printed, shown_size, with_point, after_point, nine_digits, exponent_shown, sign_shown, is_fixed}
-use Rattle.b2_print.specs.Columns.{next_column, column_after, passes}
+use Rattle.b2_print.specs.Columns.{next_column, column_after, passes, placed}
 use Rattle.b2_print.specs.Screen.{placing_bytes, outline_bytes}
 use Rattle.b2_print.specs.Reading.{ColumnReading, between, begun, column_of, read_byte, read_on, reads_past, is_other_byte, begins_none}
 use Rattle.b2_print.specs.declared.layout.Item.{Item}
 use Rattle.b2_print.specs.declared.layout.Item.TheVariants as item
-use Rattle.b2_print.specs.Layout.{next_zone, item_text, stands_on_line, placed, item_column, layout, items_column, is_on_screen, are_on_screen, fits_line}
+use Rattle.b2_print.specs.Layout.{next_zone, item_text, stands_on_line, item_placed, item_column, layout, items_column, is_on_screen, are_on_screen, fits_line}
 use Rattle.b2_print.proofs.ColumnLemmas.{or_assoc, both, none-passes, placed-fits, line-column}
 
 -- texts without the byte that begins a sequence
@@ -109,9 +109,10 @@ other-item width column item.Line s h = refl
 other-item width column (item.At row to erase) s h = absurd (cc)
 other-item width column (item.Outline rows columns) s h = absurd (cc)
 
-other-placed : (width column : ℕ) (it : Item) → stands_on_line it ≡ true → begins_none it ≡ true → list_all is_other_byte (placed width column it) ≡ true
+other-placed : (width column : ℕ) (it : Item) → stands_on_line it ≡ true → begins_none it ≡ true → list_all is_other_byte (item_placed width column it) ≡ true
 other-placed width column it s h =
-    other-if (stands_on_line it && not (column == 0) && passes width column (item_text width column it)) (10 ∷ item_text width 0 it) (item_text width column it)
+    ap (λ (t : Bool). list_all is_other_byte (if t then placed width column (λ c. item_text width c it) else item_text width column it)) s
+    ∙ other-if (not (column == 0) && passes width column (item_text width column it)) (10 ∷ item_text width 0 it) (item_text width column it)
     (other-item width 0 it s h) (other-item width column it s h)
 
 -- other bytes are read as they count on a line
@@ -185,10 +186,10 @@ outline-past width column rows columns h =
     above-none width column _ h ∙ above-none width column _ h ∙ above-none width column _ h ∙ above-none width column _ h
 
 -- an item
-line-read : (width column : ℕ) (it : Item) → stands_on_line it ≡ true → begins_none it ≡ true → read_on (between column) (placed width column it) ≡ between (item_column width column it)
-line-read width column it s h = read-other column (placed width column it) (other-placed width column it s h) ∙ ap between (sym (line-column column it (placed width column it) s))
+line-read : (width column : ℕ) (it : Item) → stands_on_line it ≡ true → begins_none it ≡ true → read_on (between column) (item_placed width column it) ≡ between (item_column width column it)
+line-read width column it s h = read-other column (item_placed width column it) (other-placed width column it s h) ∙ ap between (sym (line-column column it (item_placed width column it) s))
 
-item-read : (width column : ℕ) (it : Item) → begins_none it ≡ true → read_on (between column) (placed width column it) ≡ between (item_column width column it)
+item-read : (width column : ℕ) (it : Item) → begins_none it ≡ true → read_on (between column) (item_placed width column it) ≡ between (item_column width column it)
 item-read width column (item.Number x) h = line-read width column (item.Number x) refl h
 item-read width column (item.Alpha bytes) h = line-read width column (item.Alpha bytes) refl h
 item-read width column (item.Tab n) h = line-read width column (item.Tab n) refl h
@@ -203,7 +204,7 @@ layout-read width column [] h = refl
 layout-read width column (it ∷ items) h =
     let parts = both (begins_none it) (list_all begins_none items) h in
     let next : ℕ = item_column width column it in
-    fold-append read_byte (between column) (placed width column it) (layout width next items)
+    fold-append read_byte (between column) (item_placed width column it) (layout width next items)
     ∙ ap (λ r. read_on r (layout width next items)) (item-read width column it parts.0)
     ∙ layout-read width next items parts.1
 
@@ -219,15 +220,15 @@ within-after width column (b ∷ bs) h k =
     neither false b h = (refl, h)
 
 pub record Within (width column : ℕ) (it : Item) : Type 0 where
-  pub text : reads_past width (between column) (placed width column it) ≡ false
+  pub text : reads_past width (between column) (item_placed width column it) ≡ false
   pub after : item_column width column it ≤ width
 
 line-within : (width column : ℕ) (it : Item) → column ≤ width → stands_on_line it ≡ true → begins_none it ≡ true → fits_line width it ≡ true → Within width column it
 line-within width column it h s plain fits =
     let fit = placed-fits width column it s fits in
     record {
-      text = past-other width column (placed width column it) (other-placed width column it s plain) ∙ fit;
-      after = rw (line-column column it (placed width column it) s) (within-after width column (placed width column it) h fit);
+      text = past-other width column (item_placed width column it) (other-placed width column it s plain) ∙ fit;
+      after = rw (line-column column it (item_placed width column it) s) (within-after width column (item_placed width column it) h fit);
     }
 
 item-within : (width column : ℕ) (it : Item) → column ≤ width → 80 ≤ width → begins_none it ≡ true → fits_line width it ≡ true → is_on_screen it ≡ true → Within width column it
@@ -255,7 +256,7 @@ layout-within width column (it ∷ items) h w plain fits lie =
     let on_screen = both (is_on_screen it) (are_on_screen items) lie in
     let here = item-within width column it h w none.0 room.0 on_screen.0 in
     let next : ℕ = item_column width column it in
-    past-append width (between column) (placed width column it) (layout width next items)
-    ∙ ap (λ p. p || reads_past width (read_on (between column) (placed width column it)) (layout width next items)) here.text
+    past-append width (between column) (item_placed width column it) (layout width next items)
+    ∙ ap (λ p. p || reads_past width (read_on (between column) (item_placed width column it)) (layout width next items)) here.text
     ∙ ap (λ r. reads_past width r (layout width next items)) (item-read width column it none.0)
     ∙ layout-within width next items here.after w none.1 room.1 on_screen.1

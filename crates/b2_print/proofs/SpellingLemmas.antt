@@ -8,7 +8,7 @@ use Rattle.b2_base.specs.Lexical.{first}
 use Rattle.b2_dectext.specs.declared.field_parts.Sign.{Sign}
 use Rattle.b2_dectext.specs.declared.field_parts.Sign.TheVariants.{Unsigned, Always, Negative}
 use Rattle.b2_dectext.specs.FieldParts.{sign_bytes, is_hash, leading_sign, after_sign}
-use Rattle.b2_print.specs.Images.{Field, dollar_bytes, point_bytes, point_width, field_bytes, field_width, is_place, after_dollar, decimals_of, field_at, piece_of, width_after_first, further_pieces, pieces_of, spelled}
+use Rattle.b2_print.specs.Images.{Field, dollar_bytes, point_bytes, point_width, field_bytes, field_width, is_place, after_dollar, decimals_of, field_at, piece_of, width_after_first, further_pieces, pieces_of, piece_bytes}
 use Rattle.b2_print.proofs.ImageLemmas.{field-some, drop-first}
 
 -- a number of `#` and what follows them
@@ -97,21 +97,21 @@ field-spelled text =
     let t1 = after_sign text in
     places-spelled text t1 (after_dollar t1) (leading_sign text) (first t1 == byte.dollar) (first (after_dollar t1) == byte.number_sign) (sign-spelled text) (dollar-spelled t1)
 
-piece-spelled : (b : ℕ) (bs : List ℕ) (o : Option Field) → field_at (b ∷ bs) ≡ o → spelled (piece_of b o) ++ drop (width_after_first o) bs ≡ b ∷ bs
+piece-spelled : (b : ℕ) (bs : List ℕ) (o : Option Field) → field_at (b ∷ bs) ≡ o → piece_bytes (piece_of b o) ++ drop (width_after_first o) bs ≡ b ∷ bs
 piece-spelled b bs None e = refl
 piece-spelled b bs (Some f) e =
     let some : 0 < field_width f = rw e at (field-some (b ∷ bs)) in
     let whole : field_bytes f ++ drop (field_width f) (b ∷ bs) ≡ b ∷ bs = rw e at (field-spelled (b ∷ bs)) in
     ap (λ t. field_bytes f ++ t) (sym (drop-first (field_width f) b bs some)) ∙ whole
 
-further_pieces-spelled : (text : List ℕ) (n : ℕ) → flat_map spelled (further_pieces n text) ≡ drop n text
+further_pieces-spelled : (text : List ℕ) (n : ℕ) → flat_map piece_bytes (further_pieces n text) ≡ drop n text
 unfolding further_pieces
 further_pieces-spelled [] zero = refl
 further_pieces-spelled [] (suc n) = refl
 further_pieces-spelled (b ∷ bs) (suc n) = further_pieces-spelled bs n
 further_pieces-spelled (b ∷ bs) zero =
     let o = field_at (b ∷ bs) in
-    ap (λ t. spelled (piece_of b o) ++ t) (further_pieces-spelled bs (width_after_first o)) ∙ piece-spelled b bs o refl
+    ap (λ t. piece_bytes (piece_of b o) ++ t) (further_pieces-spelled bs (width_after_first o)) ∙ piece-spelled b bs o refl
 
-pub pieces_of-spelled : (image : List ℕ) → flat_map spelled (pieces_of image) ≡ image
+pub pieces_of-spelled : (image : List ℕ) → flat_map piece_bytes (pieces_of image) ≡ image
 pieces_of-spelled image = further_pieces-spelled image 0

@@ -1,5 +1,5 @@
 -- Where the next byte goes. Columns are counted from 0.
-use Rattle.std.specs.Prelude.{ℕ, ◌+◌, ◌==◌, ◌||◌, nat_lt, min, Bool, false, if◌then◌else◌, List, [], ◌∷◌}
+use Rattle.std.specs.Prelude.{ℕ, ◌+◌, ◌==◌, ◌&&◌, ◌||◌, nat_lt, min, not, Bool, false, if◌then◌else◌, List, [], ◌∷◌}
 use Rattle.std.specs.List.{fold}
 use Rattle.b2_base.specs.Byte as byte
 
@@ -16,3 +16,8 @@ column_after column text = fold next_column column text
 abbrev pub passes : ℕ → ℕ → List ℕ → Bool
 passes width column [] = false
 passes width column (b ∷ bs) = nat_lt width (next_column column b) || passes width (next_column column b) bs
+
+-- What is shown at a column, by the column where it begins: on a new line where it would pass the width, unless it is
+-- at the beginning of its line.
+abbrev pub placed : ℕ → ℕ → (ℕ → List ℕ) → List ℕ
+placed width column shown = if not (column == 0) && passes width column (shown column) then byte.newline ∷ shown 0 else shown column

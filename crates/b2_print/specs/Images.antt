@@ -78,9 +78,9 @@ point_bytes (suc n) = byte.point ∷ replicate (suc n) byte.number_sign
 abbrev pub field_bytes : Field → List ℕ
 field_bytes f = sign_bytes f.sign ++ dollar_bytes f.dollar ++ f.whole ++ point_bytes f.decimals
 
-abbrev pub spelled : Piece → List ℕ
-spelled (literal b) = b ∷ []
-spelled (field f) = field_bytes f
+abbrev pub piece_bytes : Piece → List ℕ
+piece_bytes (literal b) = b ∷ []
+piece_bytes (field f) = field_bytes f
 
 -- the pieces of an image
 abbrev pub pieces_of : List ℕ → List Piece

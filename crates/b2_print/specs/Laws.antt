@@ -7,7 +7,7 @@ use Rattle.b2_print.specs.declared.layout.Item.{Item}
 use Rattle.b2_print.specs.Layout.{layout, items_column, stands_on_line, are_on_screen, fits_line, zone_text}
 use Rattle.b2_print.specs.Screen.{screen_columns}
 use Rattle.b2_print.specs.Reading.{between, read_on, reads_past, begins_none}
-use Rattle.b2_print.specs.Images.{Field, field_width, pieces_of, spelled}
+use Rattle.b2_print.specs.Images.{Field, field_width, pieces_of, piece_bytes}
 use Rattle.b2_print.specs.Filling.{filled}
 
 -- Items after others begin at the column after those.
@@ -39,7 +39,7 @@ ZonesEnd = (width column : ℕ) → width ≤ 65535 → column_after column (zon
 
 -- The pieces of an image, written one after another, are the image.
 abbrev pub PiecesAreTheImage : Type 0
-PiecesAreTheImage = (image : List ℕ) → flat_map spelled (pieces_of image) ≡ image
+PiecesAreTheImage = (image : List ℕ) → flat_map piece_bytes (pieces_of image) ≡ image
 
 -- A value takes as many bytes as its field.
 abbrev pub FieldsKeepTheirWidth : Type 0

@@ -4,7 +4,7 @@ use Rattle.std.specs.List.{flat_map, fold, list_all}
 use Rattle.b2_base.specs.Byte as byte
 use Rattle.b2_base.specs.Lexical.{hex_pair}
 use Rattle.b2_dectext.specs.Printed.{printed}
-use Rattle.b2_print.specs.Columns.{column_after, passes}
+use Rattle.b2_print.specs.Columns.{column_after, passes, placed}
 use Rattle.b2_print.specs.Screen.{place_text, outline_bytes, screen_rows, screen_columns}
 use Rattle.b2_print.specs.declared.layout.Item.{Item}
 use Rattle.b2_print.specs.declared.layout.Item.TheVariants as item
@@ -35,11 +35,9 @@ stands_on_line (item.At row to erase) = false
 stands_on_line (item.Outline rows columns) = false
 stands_on_line it = true
 
--- An item on the line that would pass the width goes on a new line, unless it is at the beginning of its line.
-abbrev pub placed : ℕ → ℕ → Item → List ℕ
-placed width column it =
-    if stands_on_line it && not (column == 0) && passes width column (item_text width column it) then byte.newline ∷ item_text width 0 it
-    else item_text width column it
+-- An item on the line has its place by the width. The others go where they say.
+abbrev pub item_placed : ℕ → ℕ → Item → List ℕ
+item_placed width column it = if stands_on_line it then placed width column (λ c. item_text width c it) else item_text width column it
 
 -- The column after an item that shows a text: its own after a place on the screen, the same after an outline. After
 -- other items it is the column after their bytes.
@@ -49,12 +47,12 @@ column_past column (item.Outline rows columns) text = column
 column_past column it text = column_after column text
 
 abbrev pub item_column : ℕ → ℕ → Item → ℕ
-item_column width column it = column_past column it (placed width column it)
+item_column width column it = column_past column it (item_placed width column it)
 
 -- items one after another, and the column after them
 abbrev pub layout : ℕ → ℕ → List Item → List ℕ
 layout width column [] = []
-layout width column (it ∷ its) = placed width column it ++ layout width (item_column width column it) its
+layout width column (it ∷ its) = item_placed width column it ++ layout width (item_column width column it) its
 
 abbrev pub items_column : ℕ → ℕ → List Item → ℕ
 items_column width column items = fold (item_column width) column items

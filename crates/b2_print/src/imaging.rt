@@ -25,7 +25,7 @@ fn put(alloc: Global, field: &Field<'_>, value: &Value, text: &mut Vec<u8>) -> R
 }
 
 /// Appends one line of the image, and gives the number of values that it took.
-fn line(
+fn image_line(
     alloc: Global,
     image: &[u8],
     values: &[Value],
@@ -86,10 +86,10 @@ fn all_lines(alloc: Global, image: &[u8], values: &[Value], more: bool) -> Resul
         (λ text. text.items ≡ spec.all_lines (pieces_of image.now) values.now ++ (if more then [] else byte.newline ∷ [])) }
 {
     let mut text = Vec::new(alloc);
-    let mut used = line(alloc, image, values, &mut text)?;
+    let mut used = image_line(alloc, image, values, &mut text)?;
     while used < values.len() {
         text.push(b'\n')?;
-        used += line(alloc, image, &values[used..], &mut text)?;
+        used += image_line(alloc, image, &values[used..], &mut text)?;
     }
     if !more {
         text.push(b'\n')?;

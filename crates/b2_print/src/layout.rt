@@ -142,9 +142,9 @@ fn stands_on_line(item: &Item<'_>) -> bool
 }
 
 /// An item at the column where it goes: on a new line where it stands on the line and would pass the width.
-fn placed(alloc: Global, width: u16, column: u16, item: &Item<'_>) -> Result<Vec<u8>, NoMemory>
+fn item_placed(alloc: Global, width: u16, column: u16, item: &Item<'_>) -> Result<Vec<u8>, NoMemory>
     requires on_screen { spec.is_on_screen item.now ≡ true }
-    ensures { IfOk result (λ text. text.items ≡ spec.placed width column item.now) }
+    ensures { IfOk result (λ text. text.items ≡ spec.item_placed width column item.now) }
 {
     let text = item_text(alloc, width, column, item)?;
     if !stands_on_line(item) || column == 0 || !passes(width, column, &text) {
@@ -188,7 +188,7 @@ pub fn lay(
     let mut shown = Vec::new(alloc);
     let mut at = column;
     for item in items {
-        let text = placed(alloc, width, at, item)?;
+        let text = item_placed(alloc, width, at, item)?;
         at = column_past(at, item, &text);
         shown.extend_from_slice(&text)?;
     }

@@ -32,6 +32,3 @@ pub use laws::{
     law_pieces_are_the_image, law_screen_stays_within, law_zones_end,
 };
 pub use layout::{Item, are_on_screen, lay};
-
-#[cfg(test)]
-mod tests;

@@ -4,7 +4,7 @@ use Rattle.std.specs.List.{range_with_len}
 use Rattle.std.proofs.lemmas.List.{length-take, length-take-le, length-replicate, take_all, take-append-drop}
 use Rattle.std.proofs.lemmas.List.FromFn.{length-map-range_with_len}
 use Rattle.b2_text.specs.Program.{Lines}
-use Rattle.b2_progfile.specs.Programs.{Ascending, AllPieces, SpellsProgram, all_line_bytes, piece_bytes, program_bytes}
+use Rattle.b2_progfile.specs.Programs.{Ascending, AllPieces, SpellsProgram, all_line_bytes, held_bytes, program_bytes}
 use Rattle.b2_progfile.specs.Saving.{piece_at, pieces_count, text_sectors, program_sectors}
 use Rattle.b2_platter.proofs.SectorRuns.{AllLong}
 
@@ -51,7 +51,7 @@ drop-more (suc n) m (x ∷ xs) = let next : suc (n + m) ≡ suc n + m = omega ar
 
 -- what the sectors from the k-th on hold
 held : (bytes : List ℕ) (k n : ℕ) → length bytes ≤ 255 * (k + suc n) → 255 * (k + suc n) < length bytes + 255
-    → piece_bytes (map (piece_at bytes) (range_with_len k (suc n))) ≡ drop (255 * k) bytes ++ replicate (255 * (k + suc n) - length bytes) 0
+    → held_bytes (map (piece_at bytes) (range_with_len k (suc n))) ≡ drop (255 * k) bytes ++ replicate (255 * (k + suc n) - length bytes) 0
 held bytes k zero low high =
     let d = length-drop (255 * k) bytes in
     let all : take 255 (drop (255 * k) bytes) ≡ drop (255 * k) bytes = take_all 255 (drop (255 * k) bytes) (omega (arith, d, low)) in
@@ -73,11 +73,11 @@ held bytes k (suc n) low high =
 count-some : (bytes : List ℕ) → 1 ≤ length bytes → pieces_count bytes ≡ suc (pieces_count bytes - 1)
 count-some bytes h = omega (arith, h)
 
-pub pieces-hold : (bytes : List ℕ) → 1 ≤ length bytes → piece_bytes (text_sectors bytes) ≡ bytes ++ replicate (255 * pieces_count bytes - length bytes) 0
+pub pieces-hold : (bytes : List ℕ) → 1 ≤ length bytes → held_bytes (text_sectors bytes) ≡ bytes ++ replicate (255 * pieces_count bytes - length bytes) 0
 pieces-hold bytes h =
     let n = count-some bytes h in
     let all : 0 + suc (pieces_count bytes - 1) ≡ pieces_count bytes = omega (arith, h) in
-    ap (λ (m : ℕ). piece_bytes (map (piece_at bytes) (range_with_len 0 m))) n
+    ap (λ (m : ℕ). held_bytes (map (piece_at bytes) (range_with_len 0 m))) n
     ∙ (held bytes 0 (pieces_count bytes - 1) (omega (arith, h)) (omega (arith, h))
     ∙ ap₂ (λ (t : List ℕ) (m : ℕ). t ++ replicate (255 * m - length bytes) 0) (drop-none bytes) all)
 

@@ -38,14 +38,14 @@ AllPieces [] = Unit {0}
 AllPieces (s ∷ sectors) = (first s ≡ PIECE) × AllPieces sectors
 
 -- what sectors hold after their first bytes
-abbrev pub piece_bytes : List (List ℕ) → List ℕ
-piece_bytes [] = []
-piece_bytes (s ∷ sectors) = drop 1 s ++ piece_bytes sectors
+abbrev pub held_bytes : List (List ℕ) → List ℕ
+held_bytes [] = []
+held_bytes (s ∷ sectors) = drop 1 s ++ held_bytes sectors
 
 -- sectors spell a program: each is a piece, and what they hold is the program, with 00 in the last piece alone
 pub record SpellsProgram (lines : Lines) (sectors : List (List ℕ)) : Type 0 where
   pub pieces : AllPieces sectors
-  pub text : IsProgramText lines (piece_bytes sectors)
+  pub text : IsProgramText lines (held_bytes sectors)
 
 -- a live program file with these lines
 pub record IsProgramFile (image : List ℕ) (e : Entry) (lines : Lines) : Type 0 where

@@ -6,7 +6,7 @@ ghost use Rattle.b2_base.specs.Lexical.{first};
 ghost use Rattle.b2_platter.specs.declared.layout.Layout.TheVariants.{Narrow};
 ghost use Rattle.b2_platter.specs.Image.{total_of, sectors_at};
 ghost use Rattle.b2_text.specs.Program.{Lines, with_line};
-ghost use Rattle.b2_progfile.specs.Programs.{AllPieces, IsProgramText, SpellsProgram, piece_bytes};
+ghost use Rattle.b2_progfile.specs.Programs.{AllPieces, IsProgramText, SpellsProgram, held_bytes};
 ghost use Rattle.b2_platter.specs.Reading.{Unspelled};
 ghost use Rattle.b2_progfile.specs.Loading.{IsProgramEnd, IsLineAt};
 
@@ -40,7 +40,7 @@ fn add(bytes: &mut Vec<u8>, more: &[u8]) -> Result<(), NoMemory>
 fn held_bytes(alloc: Global, p: &Platter, at: u32, count: u32) -> Result<Vec<u8>, Fault>
     requires { at + count ≤ total_of Narrow p.now }
     ensures pieces { OnOk result (AllPieces (sectors_at p.now at count)) }
-    ensures bytes { IfOk result (λ bytes. bytes.items ≡ piece_bytes (sectors_at p.now at count)) }
+    ensures bytes { IfOk result (λ bytes. bytes.items ≡ held_bytes (sectors_at p.now at count)) }
     ensures err { IfErr result (Unspelled (¬ AllPieces (sectors_at p.now at count))) }
 {
     let _image = p.image();
@@ -50,7 +50,7 @@ fn held_bytes(alloc: Global, p: &Platter, at: u32, count: u32) -> Result<Vec<u8>
         if lexical::first(sector) != PIECE {
             return Err(no_program());
         }
-        add(&mut bytes, lexical::dropped(sector, 1))?;
+        add(&mut bytes, lexical::rest_after(sector, 1))?;
     }
     Ok(bytes)
 }
@@ -74,7 +74,7 @@ fn next_line(alloc: Global, bytes: &[u8], least: u16) -> Result<(u16, Atoms), Fa
     if after.len() < count {
         return Err(no_program());
     }
-    let found = Atoms::of(alloc, lexical::front(after, count))?;
+    let found = Atoms::of(alloc, lexical::first_bytes(after, count))?;
     let Some(atoms) = found else {
         return Err(no_program());
     };
@@ -104,7 +104,7 @@ fn is_program_end(bytes: &[u8]) -> bool
     if bytes.len() >= 257 {
         return false;
     }
-    slot::all_zero(lexical::dropped(bytes, 2))
+    slot::all_zero(lexical::rest_after(bytes, 2))
 }
 
 /// The lines of a program that some bytes spell. D88 exactly where they spell none.
@@ -121,7 +121,7 @@ fn lines_of(alloc: Global, bytes: &[u8]) -> Result<Text, Fault>
             Err(fault) => return Err(fault),
         };
         put_wide(&mut t, number, &atoms)?;
-        rest = lexical::dropped(lexical::dropped(rest, 3), atoms.bytes().len());
+        rest = lexical::rest_after(lexical::rest_after(rest, 3), atoms.bytes().len());
         least = number + 1;
     }
     if !is_program_end(rest) {

@@ -85,7 +85,7 @@ fn part_bytes(bytes: &[u8], k: usize) -> &[u8]
     ensures value { result.now ≡ take 255 (drop (255 * k) bytes.now) }
     ensures short { length result.now ≤ 255 }
 {
-    lexical::front(lexical::dropped(bytes, PIECE_BYTES * k), PIECE_BYTES)
+    lexical::first_bytes(lexical::rest_after(bytes, PIECE_BYTES * k), PIECE_BYTES)
 }
 
 /// Some bytes, and 00 after them.

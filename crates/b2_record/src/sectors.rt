@@ -138,9 +138,9 @@ fn values_of(alloc: Global, bytes: &[u8]) -> Result<Vec<Value>, Fault>
             return Err(Fault::Code(Code::known(D88_FORMAT)));
         };
         add(&mut values, value)?;
-        rest = lexical::dropped(rest, len);
+        rest = lexical::rest_after(rest, len);
     }
-    if !slot::all_zero(lexical::dropped(rest, 1)) {
+    if !slot::all_zero(lexical::rest_after(rest, 1)) {
         return Err(Fault::Code(Code::known(D88_FORMAT)));
     }
     Ok(values)
@@ -167,7 +167,7 @@ pub(crate) fn group_at(alloc: Global, bytes: &[u8; 256], number: u8) -> Result<G
     if bytes[1] != number {
         return Err(Fault::Code(Code::known(D88_FORMAT)));
     }
-    match values_of(alloc, lexical::dropped(bytes, 2)) {
+    match values_of(alloc, lexical::rest_after(bytes, 2)) {
         Ok(values) => Ok(Group { values, is_last }),
         Err(fault) => Err(fault),
     }

@@ -182,8 +182,8 @@ fn values_go_into_the_next_sector(rt: HostRuntime) -> Result<(), Fail> {
         assert_eq!(rt; bytes.len() / 256, sectors.len());
         let mut rest: &[u8] = &bytes;
         for sector in sectors {
-            assert!(rt; outline(lexical::front(rest, 256)) == *sector);
-            rest = lexical::dropped(rest, 256);
+            assert!(rt; outline(lexical::first_bytes(rest, 256)) == *sector);
+            rest = lexical::rest_after(rest, 256);
         }
     }
     Ok(())

@@ -6,7 +6,7 @@ use Rattle.b2_atom.specs.Tree.{Trees, Outcome, Parser, preceded, and_then, under
 use Rattle.b2_atom.specs.Grammar.{part, reader, item, many, items, level, deep, statement, absent, row_items, starts}
 use Rattle.b2_atom.specs.Lines.{left_after}
 use Rattle.b2_atom.specs.declared.words.Origin.TheVariants.{Atoms}
-use Rattle.b2_atom.specs.declared.sink.Stop.{Stop}
+use Rattle.b2_atom.specs.declared.output.Stop.{Stop}
 use Rattle.b2_atom.specs.declared.forms.Leaf.{Leaf}
 use Rattle.b2_atom.specs.declared.forms.Leaf.TheVariants as leaf
 use Rattle.b2_atom.specs.declared.forms.Start.{Start}

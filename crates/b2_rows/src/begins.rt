@@ -7,7 +7,7 @@ ghost use Rattle.b2_atom.specs.declared.forms.Start.TheVariants as start;
 
 use b2_atom::words::{ABS_OPEN, BIN_OPEN, FN, HASH_TERM, HEX_OPEN, LINE_MARK, Origin};
 use b2_atom::{any_name_width, is_alpha_name, numeric_name_width};
-use b2_base::lexical::{dropped, first, is_digit, is_hex_digit};
+use b2_base::lexical::{first, is_digit, is_hex_digit, rest_after};
 
 /// Whether a word or a sign stands at a text.
 pub fn is_at(code: u8, text: &[u8]) -> bool
@@ -55,8 +55,8 @@ pub fn is_array_at(text: &[u8]) -> bool
     ensures { result ≡ starts Atoms start.Array text.now }
 {
     let width = any_name_width(Origin::Atoms, text);
-    let after = dropped(text, width);
-    width > 0 && first(after) == b'(' && first(dropped(after, 1)) == b')'
+    let after = rest_after(text, width);
+    width > 0 && first(after) == b'(' && first(rest_after(after, 1)) == b')'
 }
 
 /// Whether a hexadecimal digit stands at a text.

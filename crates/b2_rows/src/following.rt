@@ -12,7 +12,7 @@ use crate::leaves::line_at;
 use crate::row_units::{row_unit, spells_a_line};
 use b2_atom::Atoms;
 use b2_atom::words::{ELSE, ERROR};
-use b2_base::lexical::dropped;
+use b2_base::lexical::rest_after;
 
 /// Where a step goes on.
 #[derive(Clone, Copy, Debug, PartialEq, Eq)]
@@ -73,7 +73,7 @@ fn else_goal(unit: &[u8], k: usize) -> Goal
     requires few { k < 255 }
     ensures goal { result ≡ spec.else_goal k (tree_at row.ELSE unit.now) }
 {
-    let named = dropped(unit, 1);
+    let named = rest_after(unit, 1);
     if is_line_at(named) {
         Goal::Line(line_at(named))
     } else {

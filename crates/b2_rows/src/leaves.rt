@@ -15,7 +15,9 @@ use b2_atom::{
     numeric_name_width,
 };
 use b2_base::Addr;
-use b2_base::lexical::{at, capped_value, decimal_of, dropped, first, front, hex_value, is_digit};
+use b2_base::lexical::{
+    at, capped_value, decimal_of, first, first_bytes, hex_value, is_digit, rest_after,
+};
 
 /// The name of a variable as it is typed, without subscripts.
 #[derive(Clone, Copy, Debug, PartialEq, Eq)]
@@ -43,10 +45,10 @@ fn variable_name(alpha: bool, bytes: &[u8]) -> Name
     ensures { result ≡ spec.variable_name alpha bytes.now }
 {
     let global = first(bytes) == b'@';
-    let lettered = if global { dropped(bytes, 1) } else { bytes };
+    let lettered = if global { rest_after(bytes, 1) } else { bytes };
     Name {
         letter: first(lettered),
-        digit: digit_in(dropped(lettered, 1)),
+        digit: digit_in(rest_after(lettered, 1)),
         alpha,
         global,
     }
@@ -60,7 +62,7 @@ pub fn numeric_name(text: &[u8]) -> (Name, usize)
     ensures width { result.1 ≡ leaf_width Atoms leaf.Name text.now }
 {
     let width = numeric_name_width(Origin::Atoms, text);
-    (variable_name(false, front(text, width)), width)
+    (variable_name(false, first_bytes(text, width)), width)
 }
 
 /// The name of an alpha variable, and how many bytes it takes.
@@ -71,7 +73,7 @@ pub fn alpha_name(text: &[u8]) -> (Name, usize)
     ensures width { result.1 ≡ leaf_width Atoms leaf.AlphaName text.now }
 {
     let width = alpha_name_width(Origin::Atoms, text);
-    (variable_name(true, front(text, width)), width)
+    (variable_name(true, first_bytes(text, width)), width)
 }
 
 /// The name of a number without `@`, and how many bytes it takes.
@@ -83,7 +85,7 @@ pub fn local_name(text: &[u8]) -> (Name, usize)
     ensures width { result.1 ≡ leaf_width Atoms leaf.LocalName text.now }
 {
     let width = local_name_width(Origin::Atoms, text);
-    (variable_name(false, front(text, width)), width)
+    (variable_name(false, first_bytes(text, width)), width)
 }
 
 /// The letter or digit that names a function.
@@ -117,7 +119,7 @@ pub fn slot_at(text: &[u8]) -> u8
     ensures value { result ≡ spec.slot_number (leaf_bytes leaf.Slot text.now) }
     ensures small { result ≤ 15 }
 {
-    capped_value(dropped(text, 1), 999) as u8
+    capped_value(rest_after(text, 1), 999) as u8
 }
 
 /// The address of a device.
@@ -125,19 +127,19 @@ pub fn address_at(text: &[u8]) -> Addr
     requires { is_leaf leaf.Address text.now ≡ true }
     ensures value { result ≡ leaf_bytes leaf.Address text.now }
 {
-    match Addr::of(front(text, address_width(Origin::Atoms, text))) {
+    match Addr::of(first_bytes(text, address_width(Origin::Atoms, text))) {
         Some(address) => address,
         None => unreachable!(),
     }
 }
 
 /// The bytes of a literal, between its quotes.
-pub fn literal_at(text: &[u8]) -> &[u8]
+pub fn quoted_at(text: &[u8]) -> &[u8]
     requires { is_leaf leaf.Literal text.now ≡ true }
     ensures value { result.now ≡ spec.literal_of (leaf_bytes leaf.Literal text.now) }
     ensures quoted { leaf_bytes leaf.Literal text.now ≡ byte.quote ∷ (result.now ++ (byte.quote ∷ [])) }
 {
-    front(dropped(text, 1), literal_width(text).saturating_sub(2))
+    first_bytes(rest_after(text, 1), literal_width(text).saturating_sub(2))
 }
 
 /// The bytes of an image, before its closing parenthesis.
@@ -146,7 +148,7 @@ pub fn image_at(text: &[u8]) -> &[u8]
     ensures value { result.now ≡ spec.image_of (leaf_bytes leaf.Image text.now) }
     ensures closed { leaf_bytes leaf.Image text.now ≡ result.now ++ (byte.closing ∷ []) }
 {
-    front(text, image_width(Origin::Atoms, text).saturating_sub(1))
+    first_bytes(text, image_width(Origin::Atoms, text).saturating_sub(1))
 }
 
 /// The byte that two hexadecimal digits spell.

@@ -32,7 +32,7 @@ pub use chains::{Chain, goes_on, has_sign};
 pub use following::{Goal, after_false, next_unit, past_colon, taken_fault};
 pub use leaves::{
     Name, address_at, alpha_name, function_name, hex_byte_at, hex_digit_at, image_at, line_at,
-    literal_at, local_name, numeric_name, relation_at, slot_at, small_at,
+    local_name, numeric_name, quoted_at, relation_at, slot_at, small_at,
 };
 pub use line_numbers::named_lines;
 pub use operands::{AlphaOperand, Operand, alpha_operand_at, operand_at};

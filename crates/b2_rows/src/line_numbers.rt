@@ -7,7 +7,7 @@ ghost use Rattle.b2_rows.specs.Optional.{maybe_part, maybe_tree};
 
 use crate::begins::{is_at, is_line_at};
 use crate::leaves::line_at;
-use b2_base::lexical::dropped;
+use b2_base::lexical::rest_after;
 
 /// The first of the lines that are named at a text, and the last where a second one is named; or all lines, where none is named.
 #[tactic(auto, using(crate::proofs::NamedLines::first_here, crate::proofs::NamedLines::second_here, crate::proofs::NamedLines::two_lines, crate::proofs::NamedLines::one_line, crate::proofs::NamedLines::all_lines))]
@@ -19,9 +19,9 @@ pub fn named_lines(text: &[u8]) -> (u16, Option<u16>)
         return (0, Some(9999));
     }
     let first = line_at(text);
-    let after = dropped(text, 3);
+    let after = rest_after(text, 3);
     if is_at(b',', after) {
-        (first, Some(line_at(dropped(after, 1))))
+        (first, Some(line_at(rest_after(after, 1))))
     } else {
         (first, None)
     }

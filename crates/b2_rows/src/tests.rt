@@ -2,7 +2,7 @@ use crate::{
     AlphaOperand, Chain, Goal, Name, Operand, address_at, after_false, alpha_name,
     alpha_operand_at, function_name, goes_on, has_sign, hex_byte_at, hex_digit_at, image_at,
     is_alpha_at, is_array_at, is_at, is_hex_at, is_line_at, is_numeric_at, is_read, line_at,
-    literal_at, local_name, next_unit, numeric_name, operand_at, past_colon, relation_at, row_unit,
+    local_name, next_unit, numeric_name, operand_at, past_colon, quoted_at, relation_at, row_unit,
     slot_at, small_at, taken_fault,
 };
 use b2_alpha::Rel;
@@ -169,7 +169,7 @@ const TEXTS: [(Bytes, &[u8], &[u8]); 7] = [
 // The bytes that are read at a text, none where they don't stand there.
 fn text_matches(bytes: Bytes, text: &[u8], want: &[u8]) -> bool {
     match bytes {
-        Bytes::Literal if literal_width(text) > 0 => literal_at(text) == want,
+        Bytes::Literal if literal_width(text) > 0 => quoted_at(text) == want,
         Bytes::Image if image_width(Origin::Atoms, text) > 0 => image_at(text) == want,
         Bytes::Address if address_width(Origin::Atoms, text) > 0 => {
             address_at(text).bytes().as_slice() == want

@@ -78,7 +78,7 @@ impl World {
     {
         match *e {
             Event::Key(t, k) => self.key(t, k),
-            Event::Front(t, p) => self.front(t, p),
+            Event::Front(t, p) => self.set_front(t, p),
             Event::Halt(p) => self.halt(p),
             Event::Reset(p) => self.reset(p),
             Event::Turn(p, quota) => return self.turn(p, quota),
@@ -143,7 +143,7 @@ impl World {
     }
 
     /// Puts a partition in front of a terminal.
-    fn front(&mut self, t: Term, p: Part)
+    fn set_front(&mut self, t: Term, p: Part)
         ensures { self.new ≡ does (Front t p) self.old }
     {
         self.stores.set_front(t, p);

@@ -11,7 +11,8 @@ use Rattle.b2_rows.specs.Choices.{ReadAs, first_branch, second_branch}
 use Rattle.b2_rows.proofs.Choices.{either_first, either_second}
 use Rattle.b2_text.specs.Program.{TextState}
 use Rattle.b2_vars.specs.Tables.{VarsState}
-use Rattle.b2_expr.specs.Assigning.{Assigned, then_assigned, unless_coded}
+use Rattle.b2_vars.specs.Assigned.{Assigned}
+use Rattle.b2_expr.specs.Assigning.{then_assigned, unless_coded}
 use Rattle.b2_stmt.specs.Assignments.{assign_each, assign_numbers, assign_sides, assigns}
 use Rattle.b2_vars.specs.declared.setting.Setting.{Setting}
 

@@ -32,7 +32,8 @@ use Rattle.b2_flow.specs.declared.frame.Frame.TheVariants.{Call}
 use Rattle.b2_flow.specs.declared.frame.Place.{Place}
 use Rattle.b2_text.specs.Program.{TextState}
 use Rattle.b2_vars.specs.Tables.{VarsState}
-use Rattle.b2_expr.specs.Assigning.{Assigned, assigned_value, is_alpha_receiver, then_assigned, unless_coded}
+use Rattle.b2_vars.specs.Assigned.{Assigned}
+use Rattle.b2_expr.specs.Assigning.{assigned_value, is_alpha_receiver, then_assigned, unless_coded}
 use Rattle.b2_expr.specs.declared.receiver.Receiver.{Receiver}
 use Rattle.b2_expr.specs.declared.receiver.Receiver.TheVariants as receiver_kind
 use Rattle.b2_rows.proofs.RowsRead.{stands_of}

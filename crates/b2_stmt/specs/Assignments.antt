@@ -7,7 +7,8 @@ use Rattle.b2_rows.specs.CommaLists.{after_all_listed, all_listed}
 use Rattle.b2_text.specs.Program.{TextState}
 use Rattle.b2_vars.specs.Tables.{VarsState}
 use Rattle.b2_expr.specs.Answers.{Answer}
-use Rattle.b2_expr.specs.Assigning.{Assigned, assigned_side, then_assigned, unassigned}
+use Rattle.b2_vars.specs.Assigned.{Assigned}
+use Rattle.b2_expr.specs.Assigning.{assigned_side, then_assigned, unassigned}
 use Rattle.b2_expr.specs.Receiving.{assign_number_at}
 use Rattle.b2_expr.specs.Receivers.{alpha_receiver}
 use Rattle.b2_expr.specs.RightSide.{Side, right_side}

@@ -12,7 +12,8 @@ use Rattle.b2_text.specs.Program.{TextState}
 use Rattle.b2_vars.specs.Calls.{with_bytes_of}
 use Rattle.b2_vars.specs.Tables.{VarsState, variable_at}
 use Rattle.b2_expr.specs.Answers.{◌>>=◌}
-use Rattle.b2_expr.specs.Assigning.{Assigned, buffer_code, portion_in, reached_by, unless_refused, with_portion, unassigned}
+use Rattle.b2_vars.specs.Assigned.{Assigned}
+use Rattle.b2_expr.specs.Assigning.{buffer_code, portion_in, reached_by, unless_refused, with_portion, unassigned}
 use Rattle.b2_expr.specs.Functions.{fixed}
 use Rattle.b2_expr.specs.Receivers.{alpha_receiver, buffer}
 use Rattle.b2_expr.specs.Scope.{Context}

@@ -13,7 +13,8 @@ use Rattle.b2_vars.specs.Shapes.{is_up_to}
 use Rattle.b2_vars.specs.Tables.{VarsState}
 use Rattle.b2_vars.specs.declared.shape.Shape.{Shape}
 use Rattle.b2_expr.specs.Answers.{Answer, ◌>>=◌}
-use Rattle.b2_expr.specs.Assigning.{Assigned, unless_refused, unassigned}
+use Rattle.b2_vars.specs.Assigned.{Assigned}
+use Rattle.b2_expr.specs.Assigning.{unless_refused, unassigned}
 use Rattle.b2_expr.specs.Functions.{fixed}
 use Rattle.b2_expr.specs.Named.{variable_of, variables_of}
 use Rattle.b2_expr.specs.Scope.{Context}

@@ -16,7 +16,8 @@ use Rattle.b2_flow.specs.declared.frame.Frame.TheVariants.{For}
 use Rattle.b2_flow.specs.declared.frame.Place.{Place}
 use Rattle.b2_flow.specs.declared.frame.Var2.{Var2}
 use Rattle.b2_expr.specs.Answers.{Answer, ◌>>=◌}
-use Rattle.b2_expr.specs.Assigning.{Assigned, assigned_number}
+use Rattle.b2_vars.specs.Assigned.{Assigned}
+use Rattle.b2_expr.specs.Assigning.{assigned_number}
 use Rattle.b2_expr.specs.Functions.{is_below, whole_number}
 use Rattle.b2_expr.specs.Named.{number_there}
 use Rattle.b2_expr.specs.Scope.{Context}

@@ -14,7 +14,8 @@ use Rattle.b2_text.specs.Program.{Lines, TextState}
 use Rattle.b2_text.specs.Spots.{first_opening, is_mark, or_else}
 use Rattle.b2_text.specs.declared.spots.Spot.{Spot}
 use Rattle.b2_vars.specs.Tables.{VarsState}
-use Rattle.b2_expr.specs.Assigning.{Assigned, assigned_value, then_assigned, unassigned}
+use Rattle.b2_vars.specs.Assigned.{Assigned}
+use Rattle.b2_expr.specs.Assigning.{assigned_value, then_assigned, unassigned}
 use Rattle.b2_expr.specs.Receivers.{any_receiver}
 use Rattle.b2_expr.specs.Value.{in_statement}
 use Rattle.b2_expr.specs.declared.receiver.Receiver.{Receiver}

@@ -4,7 +4,7 @@ use Rattle.b2_atom.specs.Tree.{Trees}
 use Rattle.b2_atom.specs.declared.rows.TheConstants as row
 use Rattle.b2_text.specs.Program.{TextState}
 use Rattle.b2_vars.specs.Tables.{VarsState}
-use Rattle.b2_expr.specs.Assigning.{Assigned}
+use Rattle.b2_vars.specs.Assigned.{Assigned}
 use Rattle.b2_stmt.specs.Assignments.{assigns}
 use Rattle.b2_stmt.specs.Buffers.{inits, rotates}
 use Rattle.b2_stmt.specs.Dimensions.{dimensions}

@@ -6,7 +6,6 @@ use Rattle.b2_atom.specs.Units.{TreeUnit}
 use Rattle.b2_atom.specs.declared.rows.TheConstants as row
 use Rattle.b2_rows.specs.Following.{tree_units}
 use Rattle.b2_flow.specs.declared.frame.Place.{Place}
-use Rattle.b2_expr.specs.Assigning.{Assigned}
 use Rattle.b2_access.specs.declared.accesses.Access.{Access}
 use Rattle.b2_access.specs.declared.accesses.Answer.{Answer}
 use Rattle.b2_access.specs.declared.planned.Outcome.TheVariants as outcome
@@ -20,7 +19,7 @@ use Rattle.b2_stmt.specs.Clearing.{asked_access, edit_finishes}
 use Rattle.b2_stmt.specs.OnVariables.{is_on_variables, on_variables}
 use Rattle.b2_stmt.specs.Marked.{takes_args}
 use Rattle.b2_stmt.specs.Reading.{reads_data, with_read}
-use Rattle.b2_access.specs.Planning.{Ended, Finishing, Planning, asks, done, finished, goes_or, stays}
+use Rattle.b2_access.specs.Planning.{Ended, Finishing, Planning, asks, done, finished, stays, with_assigned}
 
 -- statements for programs alone, and those for immediate lines alone
 abbrev pub is_for_programs : ℕ → Bool
@@ -34,14 +33,10 @@ is_for_immediate_lines r = r == row.RUN || r == row.CONTINUE
 abbrev pub is_refused : ℕ → Bool → Bool
 is_refused r program = if program then is_for_immediate_lines r else is_for_programs r
 
--- variables that were changed, and the next unit or a fault
-abbrev pub with_assigned : Assigned → Private → Ended
-with_assigned a me = record { me = record me { vars = a.vars }; outcome = goes_or outcome.Next a.code }
-
 -- a statement that asks for no access, by its row and its tree
 abbrev pub ended_of : ℕ → Trees → Here → Private → SeenLent → Ended
 ended_of r t h me s =
-    if is_on_variables r then with_assigned (on_variables r (setting_of me) s.home t me.vars) me
+    if is_on_variables r then with_assigned (on_variables r (setting_of me) s.home t me.vars) outcome.Next me
     else (if r == row.READ then with_read (reads_data (setting_of me) s.home s.own.lines t me.vars me.next_data) me
     else (if r == row.DEFFN_MARKED then takes_args me.args s.home t me
     else carried (asked_of r t h (context_of (setting_of me) me.vars s.home) s.home.lines) h.place me s.own.lines s.home.lines))

@@ -8,7 +8,8 @@ use Rattle.b2_atom.specs.Tree.Trees.{Put}
 use Rattle.b2_text.specs.Program.{TextState, Lines}
 use Rattle.b2_text.specs.declared.spots.Spot.{Spot}
 use Rattle.b2_vars.specs.Tables.{VarsState}
-use Rattle.b2_expr.specs.Assigning.{Assigned, assigned_value, is_alpha_receiver}
+use Rattle.b2_vars.specs.Assigned.{Assigned}
+use Rattle.b2_expr.specs.Assigning.{assigned_value, is_alpha_receiver}
 use Rattle.b2_expr.specs.Receivers.{any_receiver}
 use Rattle.b2_expr.specs.Value.{in_statement}
 use Rattle.b2_expr.specs.declared.receiver.Receiver.{Receiver}

@@ -9,7 +9,7 @@ ghost use Rattle.b2_stmt.specs.Arguments.{GivesValues, PutsArgument, arguments_a
 ghost use Rattle.b2_rows.specs.CommaLists.{commas};
 
 use b2_atom::Cursor;
-use b2_base::lexical::{digits_width, dropped};
+use b2_base::lexical::{digits_width, rest_after};
 use b2_base::{Code, Fault};
 use b2_dec::{Bytes, Value, ValueList};
 use b2_expr::{Env, alpha, number};
@@ -85,7 +85,7 @@ fn arguments(alloc: Global, e: &Env<'_>, text: &[u8]) -> Result<ValueList, Fault
         if !is_at(b',', rest) {
             return Ok(ValueList::new(values));
         }
-        left = dropped(rest, 1);
+        left = rest_after(rest, 1);
     }
 }
 
@@ -93,8 +93,8 @@ fn arguments(alloc: Global, e: &Env<'_>, text: &[u8]) -> Result<ValueList, Fault
 fn past_number(unit: &[u8]) -> &[u8]
     ensures { result.now ≡ spec.past_number unit.now }
 {
-    let number = dropped(unit, 1);
-    dropped(number, digits_width(number))
+    let number = rest_after(unit, 1);
+    rest_after(number, digits_width(number))
 }
 
 /// The values of the arguments of GOSUB', of which there may be none.
@@ -105,7 +105,7 @@ pub fn arguments_of(alloc: Global, e: &Env<'_>, unit: &[u8]) -> Result<ValueList
 {
     let text = past_number(unit);
     if is_at(b'(', text) {
-        arguments(alloc, e, dropped(text, 1))
+        arguments(alloc, e, rest_after(text, 1))
     } else {
         Ok(ValueList::new(Vec::new(alloc)))
     }

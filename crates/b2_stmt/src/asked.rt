@@ -21,7 +21,7 @@ use crate::branches::{goto_goal, if_goal, passed_function, passed_goal};
 use crate::calls::{call_line, forget, go_back, has_all, line_called};
 use crate::choices::choice_at;
 use crate::course::{
-    clear, line_to_restore, line_to_run, restore, resume, run, select, stop, stop_text,
+    clear, line_to_restore, line_to_run, restore, resume, run_program, select, stop, stop_text,
     text_of_stop,
 };
 use crate::loops::{Loop, begin_loop, counter_at, loop_at, next_round};
@@ -297,7 +297,7 @@ pub fn do_asked(
         Asked::Forget(all) => Ok(forget(me, place, all)),
         Asked::Stop(shown, after) => Ok(stop(me, shown, place, after)),
         Asked::Select(mode) => Ok(select(me, mode)),
-        Asked::Run(n) => Ok(run(me, own, n)),
+        Asked::Run(n) => Ok(run_program(me, own, n)),
         Asked::Continue => Ok(resume(me)),
         Asked::Restore(n) => Ok(restore(me, own, n)),
         Asked::Clear(common) => Ok(clear(me, common)),

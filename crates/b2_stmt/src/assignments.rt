@@ -12,7 +12,7 @@ ghost use Rattle.b2_stmt.specs.Assignments.{side_of_assignment, sum_of_assignmen
 ghost use Rattle.b2_rows.specs.CommaLists.{after_all_listed, all_listed};
 
 use b2_atom::Cursor;
-use b2_base::lexical::dropped;
+use b2_base::lexical::rest_after;
 use b2_base::{Code, NoMemory};
 use b2_dec::Dec;
 use b2_expr::{
@@ -52,9 +52,9 @@ fn expression_after(text: &[u8]) -> &[u8]
 {
     let mut left = past_number_receiver(text);
     while is_at(b',', left) {
-        left = past_number_receiver(dropped(left, 1));
+        left = past_number_receiver(rest_after(left, 1));
     }
-    dropped(left, 1)
+    rest_after(left, 1)
 }
 
 /// Assigns a number to the receivers of an assignment, from left to right.
@@ -79,7 +79,7 @@ fn assign_all(
         if !is_at(b',', left) {
             return Ok(None);
         }
-        left = dropped(left, 1);
+        left = rest_after(left, 1);
     }
 }
 
@@ -109,9 +109,9 @@ fn side_after(text: &[u8]) -> &[u8]
 {
     let mut left = past_alpha_receiver(text);
     while is_at(b',', left) {
-        left = past_alpha_receiver(dropped(left, 1));
+        left = past_alpha_receiver(rest_after(left, 1));
     }
-    dropped(left, 1)
+    rest_after(left, 1)
 }
 
 /// Assigns a right side to the receivers of an assignment, from left to right.
@@ -136,7 +136,7 @@ fn assign_side_to_all(
         if !is_at(b',', left) {
             return Ok(None);
         }
-        left = dropped(left, 1);
+        left = rest_after(left, 1);
     }
 }
 

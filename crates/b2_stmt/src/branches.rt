@@ -13,7 +13,7 @@ use b2_atom::words::GLOBAL_PART;
 use b2_atom::{Atoms, Cursor};
 use b2_base::Code;
 use b2_base::codes::S27_LEFT_OUT;
-use b2_base::lexical::dropped;
+use b2_base::lexical::rest_after;
 use b2_expr::{Env, condition};
 use b2_rows::{Goal, after_false, is_at, line_at, past_colon, spells_a_line};
 
@@ -24,7 +24,7 @@ pub fn goto_goal(unit: &[u8]) -> Goal
     ensures goal { Ok result ≡ spec.goto_goal (tree_at row.GOTO unit.now) }
     ensures unit { IsUnit result }
 {
-    Goal::Line(line_at(dropped(unit, 1)))
+    Goal::Line(line_at(rest_after(unit, 1)))
 }
 
 /// Past the next `:` after the k-th unit, as an ELSE that is reached in passing.
@@ -55,9 +55,9 @@ pub fn if_goal(e: &Env<'_>, line: &Atoms, k: usize, unit: &[u8]) -> Result<Goal,
     ensures goal { result ≡ spec.if_goal (in_statement (surroundings e.now)) k (tree_units line.now) (tree_at row.IF unit.now) }
     ensures unit { IfOk result IsUnit }
 {
-    let mut c = Cursor::over(dropped(unit, 1));
+    let mut c = Cursor::over(rest_after(unit, 1));
     match condition(&mut c, e) {
-        Ok(true) => Ok(named_at(dropped(c.rest(), 1), k)),
+        Ok(true) => Ok(named_at(rest_after(c.rest(), 1), k)),
         Ok(false) => Ok(false_goal(line, k)),
         Err(code) => Err(code),
     }
@@ -69,7 +69,7 @@ pub fn passed_function(unit: &[u8]) -> Outcome
     requires part { is_part row.DEFFN unit.now ≡ true }
     ensures { result ≡ spec.passed_function (tree_at row.DEFFN unit.now) }
 {
-    if is_at(GLOBAL_PART, dropped(unit, 1)) {
+    if is_at(GLOBAL_PART, rest_after(unit, 1)) {
         failed(S27_LEFT_OUT)
     } else {
         Outcome::Next

@@ -12,7 +12,7 @@ use b2_alpha::rotate;
 use b2_atom::Cursor;
 use b2_atom::words::ROTATEC_OPEN;
 use b2_base::codes::P34_RANGE;
-use b2_base::lexical::dropped;
+use b2_base::lexical::rest_after;
 use b2_base::{Code, NoMemory};
 use b2_dec::{Dec, fix, whole};
 use b2_expr::{
@@ -51,7 +51,7 @@ fn byte_of_init(unit: &[u8]) -> u8
     requires part { is_part row.INIT unit.now ≡ true }
     ensures { result ≡ spec.byte_of_init (tree_at row.INIT unit.now) }
 {
-    hex_byte_at(dropped(unit, 1))
+    hex_byte_at(rest_after(unit, 1))
 }
 
 /// INIT: fills buffers with a byte, from left to right. The code with which that ended, or none.
@@ -66,7 +66,7 @@ pub fn init(
     ensures { IfOk result (λ code. record { vars = vars.new; code = code } ≡ spec.inits a.now home.now (tree_at row.INIT unit.now) vars.old) }
 {
     let byte = byte_of_init(unit);
-    let mut left = dropped(unit, 4);
+    let mut left = rest_after(unit, 4);
     loop {
         let mut c = Cursor::over(left);
         let to = match buffer(&mut c, &surroundings_of(a, vars, home)) {
@@ -81,7 +81,7 @@ pub fn init(
         if !is_at(b',', after) {
             return Ok(None);
         }
-        left = dropped(after, 1);
+        left = rest_after(after, 1);
     }
 }
 
@@ -106,12 +106,12 @@ fn turn_at(e: &Env<'_>, unit: &[u8]) -> Result<Turn, Code>
     ensures low { IfOk result (λ turn. negsuc 7 ≤ℤ turn.bits) }
     ensures high { IfOk result (λ turn. turn.bits ≤ℤ pos 8) }
 {
-    let mut c = Cursor::over(dropped(unit, 1));
+    let mut c = Cursor::over(rest_after(unit, 1));
     let to = match alpha_receiver(&mut c, e) {
         Ok(to) => to,
         Err(code) => return Err(code),
     };
-    let mut c = Cursor::over(dropped(c.rest(), 1));
+    let mut c = Cursor::over(rest_after(c.rest(), 1));
     let x = match number(&mut c, e) {
         Ok(x) => x,
         Err(code) => return Err(code),

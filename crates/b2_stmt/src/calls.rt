@@ -10,7 +10,7 @@ use crate::framing::put_frame;
 use b2_access::{Outcome, Private, failed, to_place};
 use b2_atom::words::ALL;
 use b2_base::codes::{P36_NO_LINE, P41_NO_CALL};
-use b2_base::lexical::dropped;
+use b2_base::lexical::rest_after;
 use b2_flow::{Frame, Place};
 use b2_rows::{is_at, line_at};
 use b2_text::Text;
@@ -21,7 +21,7 @@ pub fn line_called(unit: &[u8]) -> u16
     requires part { is_part row.GOSUB unit.now ≡ true }
     ensures { result ≡ spec.line_called (tree_at row.GOSUB unit.now) }
 {
-    line_at(dropped(unit, 1))
+    line_at(rest_after(unit, 1))
 }
 
 /// Calls a line, which leads back to a place. P36 comes before A04.
@@ -105,7 +105,7 @@ pub fn has_all(unit: &[u8]) -> bool
     requires part { is_part row.RETURN_CLEAR unit.now ≡ true }
     ensures { result ≡ spec.has_all (tree_at row.RETURN_CLEAR unit.now) }
 {
-    is_at(ALL, dropped(dropped(unit, 1), 1))
+    is_at(ALL, rest_after(rest_after(unit, 1), 1))
 }
 
 /// RETURN CLEAR with ALL or without.

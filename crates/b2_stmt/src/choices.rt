@@ -14,7 +14,7 @@ ghost use Rattle.b2_rows.specs.CommaLists.{commas};
 use b2_atom::Cursor;
 use b2_atom::words::GOTO;
 use b2_base::Code;
-use b2_base::lexical::dropped;
+use b2_base::lexical::rest_after;
 use b2_dec::{Dec, fix, whole};
 use b2_expr::{Env, number};
 use b2_rows::{is_at, line_at};
@@ -28,11 +28,11 @@ fn nth_line(text: &[u8], k: usize) -> Option<u16>
 {
     let mut left = text;
     for _ in 0..k {
-        let after = dropped(left, 3);
+        let after = rest_after(left, 3);
         if !is_at(b',', after) {
             return None;
         }
-        left = dropped(after, 1);
+        left = rest_after(after, 1);
     }
     Some(line_at(left))
 }
@@ -55,7 +55,7 @@ fn line_after_word(listed: &[u8], x: Dec) -> Option<u16>
     requires list { is_list commas row.COMMA_LINE (drop 3 (drop 1 listed.now)) ≡ true }
     ensures { result ≡ spec.counted_line (fixed x) (lines_at (drop 1 listed.now)) }
 {
-    counted_line(dropped(listed, 1), whole(fix(x)))
+    counted_line(rest_after(listed, 1), whole(fix(x)))
 }
 
 /// Whether ON goes there or calls, and the line that is chosen; or the code of its number.
@@ -64,7 +64,7 @@ pub fn choice_at(e: &Env<'_>, unit: &[u8]) -> Result<(bool, Option<u16>), Code>
     requires part { is_part row.ON unit.now ≡ true }
     ensures { result ≡ spec.choice_in (in_statement (surroundings e.now)) (tree_at row.ON unit.now) }
 {
-    let mut c = Cursor::over(dropped(unit, 1));
+    let mut c = Cursor::over(rest_after(unit, 1));
     match number(&mut c, e) {
         Ok(x) => {
             let listed = c.rest();

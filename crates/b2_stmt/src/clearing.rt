@@ -12,7 +12,7 @@ use crate::calls::drop_frames;
 use b2_access::{Access, Answer, Lent, Outcome, Private, failed};
 use b2_atom::rows;
 use b2_base::codes::A08_TEXT_BORROWED;
-use b2_base::lexical::dropped;
+use b2_base::lexical::rest_after;
 use b2_base::{Addr, ByteList, NoMemory};
 use b2_rows::named_lines;
 use std::alloc::Global;
@@ -23,7 +23,7 @@ fn asks_to_erase(unit: &[u8]) -> Access
     requires part { is_part row.CLEAR_P unit.now ≡ true }
     ensures { result ≡ spec.asks_to_erase (tree_at row.CLEAR_P unit.now) }
 {
-    let (from, to) = named_lines(dropped(dropped(unit, 1), 1));
+    let (from, to) = named_lines(rest_after(rest_after(unit, 1), 1));
     Access::Erase {
         from,
         to: to.unwrap_or(9999),

@@ -7,11 +7,11 @@ ghost use Rattle.b2_stmt.specs.Course as spec;
 use b2_access::{Outcome, Private, failed};
 use b2_atom::words::LINE;
 use b2_base::codes::{P36_NO_LINE, P46_NOTHING_KEPT};
-use b2_base::lexical::dropped;
+use b2_base::lexical::rest_after;
 use b2_base::{Addr, ByteList, NoMemory};
 use b2_dec::Mode;
 use b2_flow::Place;
-use b2_rows::{is_at, is_line_at, line_at, literal_at};
+use b2_rows::{is_at, is_line_at, line_at, quoted_at};
 use b2_text::{Spot, Text};
 use std::alloc::Global;
 
@@ -30,9 +30,9 @@ pub fn text_of_stop(unit: &[u8]) -> Option<&[u8]>
     requires part { is_part row.STOP unit.now ≡ true }
     ensures { option_copied result ≡ spec.text_of_stop (tree_at row.STOP unit.now) }
 {
-    let text = dropped(unit, 1);
+    let text = rest_after(unit, 1);
     if is_at(b'"', text) {
-        Some(literal_at(text))
+        Some(quoted_at(text))
     } else {
         None
     }
@@ -85,7 +85,7 @@ fn run_from(me: &mut Private, n: Option<u16>) -> Outcome
 }
 
 /// RUN.
-pub fn run(me: &mut Private, own: &Text, n: Option<u16>) -> Outcome
+pub fn run_program(me: &mut Private, own: &Text, n: Option<u16>) -> Outcome
     ensures ended { record { me = me.new; outcome = result } ≡ spec.runs n own.now.lines me.old }
     ensures part { me.new.part ≡ me.old.part }
 {
@@ -105,7 +105,7 @@ pub fn line_to_run(unit: &[u8]) -> Option<u16>
     requires part { is_part row.RUN unit.now ≡ true }
     ensures { result ≡ spec.line_to_run (tree_at row.RUN unit.now) }
 {
-    let line = dropped(unit, 1);
+    let line = rest_after(unit, 1);
     if is_line_at(line) {
         Some(line_at(line))
     } else {
@@ -145,9 +145,9 @@ pub fn line_to_restore(unit: &[u8]) -> Option<u16>
     requires part { is_part row.RESTORE unit.now ≡ true }
     ensures { result ≡ spec.line_to_restore (tree_at row.RESTORE unit.now) }
 {
-    let line = dropped(unit, 1);
+    let line = rest_after(unit, 1);
     if is_at(LINE, line) {
-        Some(line_at(dropped(line, 1)))
+        Some(line_at(rest_after(line, 1)))
     } else {
         None
     }

@@ -12,10 +12,10 @@ use b2_access::statement_on;
 use b2_atom::{Origin, literal_width, rows, signed_number_width};
 use b2_base::Code;
 use b2_base::codes::S17_NUMERIC;
-use b2_base::lexical::{dropped, front};
+use b2_base::lexical::{first_bytes, rest_after};
 use b2_dec::{Bytes, Dec, Value};
 use b2_dectext::literal;
-use b2_rows::{RowUnit, is_at, literal_at};
+use b2_rows::{RowUnit, is_at, quoted_at};
 use b2_text::{Spot, Text};
 
 /// A literal of DATA.
@@ -43,7 +43,7 @@ fn quoted_bytes(text: &[u8]) -> Bytes
     requires part { is_part row.LITERAL text.now ≡ true }
     ensures { result ≡ spec.literal_bytes_at text.now }
 {
-    match Bytes::of(literal_at(text)) {
+    match Bytes::of(quoted_at(text)) {
         Some(bytes) => bytes,
         None => unreachable!(),
     }
@@ -58,7 +58,7 @@ fn datum(text: &[u8]) -> Result<Value, Code>
     if is_at(b'"', text) {
         return Ok(Value::Alpha(quoted_bytes(text)));
     }
-    match number_spelled(front(text, signed_number_width(Origin::Atoms, text))) {
+    match number_spelled(first_bytes(text, signed_number_width(Origin::Atoms, text))) {
         Ok(number) => Ok(Value::Number(number)),
         Err(code) => Err(code),
     }
@@ -71,9 +71,9 @@ fn past_datum(text: &[u8]) -> &[u8]
     ensures { result.now ≡ after_part row.DATUM text.now }
 {
     if is_at(b'"', text) {
-        dropped(text, literal_width(text))
+        rest_after(text, literal_width(text))
     } else {
-        dropped(text, signed_number_width(Origin::Atoms, text))
+        rest_after(text, signed_number_width(Origin::Atoms, text))
     }
 }
 
@@ -91,7 +91,7 @@ fn nth_datum(text: &[u8], k: usize) -> Option<&[u8]>
         if !is_at(b',', after) {
             return None;
         }
-        left = dropped(after, 1);
+        left = rest_after(after, 1);
     }
     Some(left)
 }
@@ -102,7 +102,7 @@ fn nth_value(unit: &[u8], k: usize) -> Option<Result<Value, Code>>
     requires part { is_part row.DATA unit.now ≡ true }
     ensures { result ≡ option_map spec.datum_value (slice_get (spec.literals_listed (tree_at row.DATA unit.now)) k) }
 {
-    match nth_datum(dropped(unit, 1), k) {
+    match nth_datum(rest_after(unit, 1), k) {
         Some(text) => Some(datum(text)),
         None => None,
     }

@@ -16,22 +16,15 @@ ghost use Rattle.b2_stmt.specs.Dimensions as spec;
 use b2_atom::Cursor;
 use b2_atom::words::COM;
 use b2_base::codes::{P50_DIMENSION, P53_LENGTH, X77_NO_PARTITION};
-use b2_base::lexical::dropped;
+use b2_base::lexical::rest_after;
 use b2_base::{Code, NoMemory};
 use b2_dec::{Dec, fix, whole};
 use b2_expr::{Env, code_of, number, surroundings_of, variable_of};
 use b2_rows::{alpha_name, is_alpha_at, is_at, is_numeric_at, numeric_name};
 use b2_text::Text;
-use b2_vars::{Setting, Shape, Var, Vars};
-
-/// The most rows of an array without columns.
-const LONGEST: u16 = 4000;
-/// The most rows, and the most columns, of an array with both.
-const WIDEST: u16 = 255;
-/// The longest alpha value.
-const LONGEST_VALUE: i64 = 124;
-/// The length of an alpha value where none is written.
-const USUAL_LENGTH: u8 = 16;
+use b2_vars::{
+    LONGEST_ARRAY, LONGEST_VALUE, Setting, Shape, USUAL_LENGTH, Var, Vars, WIDEST_ARRAY,
+};
 
 /// The dimensions of an array: its rows, and its columns or 0.
 #[derive(Clone, Copy, Debug, PartialEq, Eq)]
@@ -78,11 +71,11 @@ fn columns_at<'t>(e: &Env<'_>, text: &'t [u8]) -> Result<(u16, &'t [u8]), Code>
     if !is_at(b',', text) {
         return Ok((0, text));
     }
-    let (x, rest) = match number_at(e, dropped(text, 1)) {
+    let (x, rest) = match number_at(e, rest_after(text, 1)) {
         Ok(found) => found,
         Err(code) => return Err(code),
     };
-    match dimension(WIDEST, whole(fix(x))) {
+    match dimension(WIDEST_ARRAY, whole(fix(x))) {
         Ok(cols) => Ok((cols, rest)),
         Err(code) => Err(code),
     }
@@ -92,7 +85,7 @@ fn columns_at<'t>(e: &Env<'_>, text: &'t [u8]) -> Result<(u16, &'t [u8]), Code>
 fn most_rows(two: bool) -> u16
     ensures { result ≡ spec.most_rows two }
 {
-    if two { WIDEST } else { LONGEST }
+    if two { WIDEST_ARRAY } else { LONGEST_ARRAY }
 }
 
 /// The dimensions at a text, and what stands after them: each is taken and tested before the next.
@@ -101,7 +94,7 @@ fn dimensions_at<'t>(e: &Env<'_>, text: &'t [u8]) -> Result<(Dimensions, &'t [u8
     requires part { is_part row.SUBSCRIPTS text.now ≡ true }
     ensures { Gives (spec.dimensions_in (in_statement (surroundings e.now)) (tree_at row.SUBSCRIPTS text.now)) (after_part row.SUBSCRIPTS text.now) result }
 {
-    let (x, after) = match number_at(e, dropped(text, 1)) {
+    let (x, after) = match number_at(e, rest_after(text, 1)) {
         Ok(found) => found,
         Err(code) => return Err(code),
     };
@@ -110,7 +103,7 @@ fn dimensions_at<'t>(e: &Env<'_>, text: &'t [u8]) -> Result<(Dimensions, &'t [u8
         Err(code) => return Err(code),
     };
     match columns_at(e, after) {
-        Ok((cols, rest)) => Ok((Dimensions { rows, cols }, dropped(rest, 1))),
+        Ok((cols, rest)) => Ok((Dimensions { rows, cols }, rest_after(rest, 1))),
         Err(code) => Err(code),
     }
 }
@@ -123,7 +116,7 @@ fn tested_length(alpha: bool, n: Option<i64>) -> Result<u8, Code>
         return Err(Code::known(P53_LENGTH));
     }
     match n {
-        Some(n) if 1 <= n && n <= LONGEST_VALUE => Ok(n as u8),
+        Some(n) if 1 <= n && n <= LONGEST_VALUE as i64 => Ok(n as u8),
         _ => Err(Code::known(P53_LENGTH)),
     }
 }
@@ -216,7 +209,7 @@ fn alpha_entry_at<'t>(e: &Env<'_>, text: &'t [u8]) -> Result<(Entry, &'t [u8]), 
     if name.global {
         return Err(Code::known(X77_NO_PARTITION));
     }
-    let after = dropped(text, width);
+    let after = rest_after(text, width);
     if !is_at(b'(', after) {
         return match lone_shape_at(e, after) {
             Ok((shape, rest)) => {
@@ -247,7 +240,7 @@ fn number_entry_at<'t>(e: &Env<'_>, text: &'t [u8]) -> Result<(Entry, &'t [u8]),
     if name.global {
         return Err(Code::known(X77_NO_PARTITION));
     }
-    let after = dropped(text, width);
+    let after = rest_after(text, width);
     if !is_at(b'(', after) {
         let var = variable_of(name, false);
         let shape = shape_of_length(0);
@@ -297,7 +290,7 @@ pub fn dim(vars: &mut Vars, a: &Setting, home: &Text, unit: &[u8]) -> Result<Opt
     ensures { IfOk result (λ code. record { vars = vars.new; code = code } ≡ spec.dimensions a.now home.now (tree_at row.DIM unit.now) vars.old) }
 {
     let common = is_at(COM, unit);
-    let mut left = dropped(unit, 1);
+    let mut left = rest_after(unit, 1);
     loop {
         let (entry, after) = match dimensioned_at(&surroundings_of(a, vars, home), left) {
             Ok(found) => found,
@@ -310,6 +303,6 @@ pub fn dim(vars: &mut Vars, a: &Setting, home: &Text, unit: &[u8]) -> Result<Opt
         if !is_at(b',', after) {
             return Ok(None);
         }
-        left = dropped(after, 1);
+        left = rest_after(after, 1);
     }
 }

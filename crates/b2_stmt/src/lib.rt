@@ -33,6 +33,3 @@ mod reading;
 pub use calls::drop_frames;
 pub use clearing::{asks_access, finish};
 pub use planning::{execute, is_built, plan};
-
-#[cfg(test)]
-mod tests;

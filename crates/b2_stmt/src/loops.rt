@@ -13,7 +13,7 @@ use crate::framing::put_frame;
 use b2_access::{Outcome, Private, failing};
 use b2_atom::Cursor;
 use b2_atom::words::STEP;
-use b2_base::lexical::dropped;
+use b2_base::lexical::rest_after;
 use b2_base::{Code, NoMemory};
 use b2_dec::{Dec, Mode, add, cmp};
 use b2_expr::{Element, Env, assign_number, number};
@@ -71,7 +71,7 @@ fn step_at(e: &Env<'_>, text: &[u8]) -> Result<Dec, Code>
     requires part { is_part row.STEP text.now ≡ true }
     ensures { result ≡ spec.step_in (in_statement (surroundings e.now)) 1 (tree_at row.STEP text.now) }
 {
-    number(&mut Cursor::over(dropped(text, 1)), e)
+    number(&mut Cursor::over(rest_after(text, 1)), e)
 }
 
 /// What FOR writes: its values from left to right.
@@ -81,15 +81,15 @@ pub fn loop_at(e: &Env<'_>, unit: &[u8]) -> Result<Loop, Code>
     ensures written { result ≡ spec.loop_in (in_statement (surroundings e.now)) (tree_at row.FOR unit.now) }
     ensures named { IfOk result (λ l. is_legal_name (scalar_of l.var) ≡ true) }
 {
-    let named = dropped(unit, 1);
+    let named = rest_after(unit, 1);
     let (name, width) = local_name(named);
     let var = counter(name);
-    let mut c = Cursor::over(dropped(dropped(named, width), 1));
+    let mut c = Cursor::over(rest_after(rest_after(named, width), 1));
     let from = match number(&mut c, e) {
         Ok(from) => from,
         Err(code) => return Err(code),
     };
-    let mut c = Cursor::over(dropped(c.rest(), 1));
+    let mut c = Cursor::over(rest_after(c.rest(), 1));
     let limit = match number(&mut c, e) {
         Ok(limit) => limit,
         Err(code) => return Err(code),
@@ -214,6 +214,6 @@ pub fn counter_at(unit: &[u8]) -> Var2
     ensures variable { result ≡ spec.counter_in (tree_at row.NEXT unit.now) }
     ensures named { is_legal_name (scalar_of result) ≡ true }
 {
-    let (name, _) = local_name(dropped(unit, 1));
+    let (name, _) = local_name(rest_after(unit, 1));
     counter(name)
 }

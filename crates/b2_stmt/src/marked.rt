@@ -11,7 +11,7 @@ use crate::reading::suits;
 use b2_access::{Outcome, Private, failed, goes_or, setting_of};
 use b2_atom::Cursor;
 use b2_base::codes::{P35_ARGUMENTS, P38_NO_DEFFN};
-use b2_base::lexical::{digits_width, dropped};
+use b2_base::lexical::{digits_width, rest_after};
 use b2_base::{Code, NoMemory, Part};
 use b2_dec::{Value, ValueList};
 use b2_expr::{Receiver, any_receiver, assign_value, code_of, past_any_receiver, surroundings_of};
@@ -26,7 +26,7 @@ pub fn number_called(unit: &[u8]) -> u8
     requires part { is_part row.GOSUB_MARKED unit.now ≡ true }
     ensures { result ≡ spec.number_called (tree_at row.GOSUB_MARKED unit.now) }
 {
-    small_at(dropped(unit, 1))
+    small_at(rest_after(unit, 1))
 }
 
 /// The place of a spot in the text of a partition.
@@ -110,7 +110,7 @@ fn values_fit(text: &[u8], args: &[Value]) -> bool
         if !is_at(b',', left) {
             return values.is_empty();
         }
-        left = dropped(left, 1);
+        left = rest_after(left, 1);
     }
 }
 
@@ -170,7 +170,7 @@ fn take_each(
         if !is_at(b',', left) {
             return Ok(None);
         }
-        left = dropped(left, 1);
+        left = rest_after(left, 1);
         values = others;
     }
 }
@@ -208,7 +208,7 @@ fn take_none(vars: &Vars, a: &Setting, home: &Text, args: &[Value]) -> Option<Co
 
 /// Assigns values to the receivers of DEFFN'.
 #[tactic(auto, using(crate::proofs::MarkRows::parameters_first, crate::proofs::MarkRows::parameters_list, crate::proofs::MarkRows::parameters_are, crate::proofs::MarkRows::no_parameters))]
-fn take(
+fn take_arguments(
     vars: &mut Vars,
     a: &Setting,
     home: &Text,
@@ -218,10 +218,10 @@ fn take(
     requires part { is_part row.DEFFN_MARKED unit.now ≡ true }
     ensures { IfOk result (λ code. record { vars = vars.new; code = code } ≡ spec.takes_values a.now home.now (spec.parameters_of (tree_at row.DEFFN_MARKED unit.now)) args.now vars.old) }
 {
-    let number = dropped(unit, 1);
-    let text = dropped(number, digits_width(number));
+    let number = rest_after(unit, 1);
+    let text = rest_after(number, digits_width(number));
     if is_at(b'(', text) {
-        take_at(vars, a, home, args, dropped(text, 1))
+        take_at(vars, a, home, args, rest_after(text, 1))
     } else {
         Ok(take_none(vars, a, home, args))
     }
@@ -237,6 +237,6 @@ pub fn take_args(me: &mut Private, home: &Text, unit: &[u8]) -> Result<Outcome, 
     let Some(args) = me.args.take() else {
         return Ok(Outcome::Next);
     };
-    let code = take(&mut me.vars, &setting, home, args.values(), unit)?;
+    let code = take_arguments(&mut me.vars, &setting, home, args.values(), unit)?;
     Ok(goes_or(Outcome::Next, code))
 }

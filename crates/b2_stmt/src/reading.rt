@@ -11,7 +11,7 @@ ghost use Rattle.b2_rows.specs.CommaLists.{are_others, past_first, receivers_at}
 use crate::data::{Literal, next_literal};
 use b2_atom::Cursor;
 use b2_base::codes::{X70_TOO_LITTLE, X74_OTHER_KIND};
-use b2_base::lexical::dropped;
+use b2_base::lexical::rest_after;
 use b2_base::{Code, NoMemory};
 use b2_dec::Value;
 use b2_expr::{Receiver, any_receiver, assign_value, code_of, past_any_receiver, surroundings_of};
@@ -129,7 +129,7 @@ fn read_all(
         if !is_at(b',', left) {
             return Ok(None);
         }
-        left = dropped(left, 1);
+        left = rest_after(left, 1);
     }
 }
 
@@ -146,5 +146,5 @@ pub fn read(
     requires part { is_part row.READ unit.now ≡ true }
     ensures { IfOk result (λ code. record { vars = vars.new; next = next.new; code = code } ≡ spec.reads_data a.now home.now own.now.lines (tree_at row.READ unit.now) vars.old next.old) }
 {
-    read_all(vars, next, a, home, own, dropped(unit, 1))
+    read_all(vars, next, a, home, own, rest_after(unit, 1))
 }

@@ -8,7 +8,7 @@ use Rattle.b2_atom.specs.declared.rows.TheConstants as row
 use Rattle.b2_flow.specs.declared.frame.Place.{Place}
 use Rattle.b2_text.specs.Program.{Lines, TextState, line_at}
 use Rattle.b2_vars.specs.Tables.{VarsState}
-use Rattle.b2_expr.specs.Assigning.{Assigned}
+use Rattle.b2_vars.specs.Assigned.{Assigned}
 use Rattle.b2_expr.specs.Scope.{Context}
 use Rattle.b2_access.specs.Going.{where_there}
 use Rattle.b2_access.specs.Homes.{FinishesWithin, HomesIn, IsWithin, OutcomeIn, PlaceIn, PlannedIn, PlansWithin, homes_of, is_marked}
@@ -16,7 +16,7 @@ use Rattle.b2_access.specs.Lending.{SeenLent}
 use Rattle.b2_access.specs.Partition.{setting_of}
 use Rattle.b2_access.specs.Placed.{Statement, statement_placed}
 use Rattle.b2_access.specs.Places.{line_start}
-use Rattle.b2_access.specs.Planning.{Ended, Planning, goes_or}
+use Rattle.b2_access.specs.Planning.{Ended, Planning, goes_or, with_assigned}
 use Rattle.b2_access.specs.declared.accesses.Access.{Access}
 use Rattle.b2_access.specs.declared.accesses.Access.TheVariants as access
 use Rattle.b2_access.specs.declared.accesses.Answer.{Answer}
@@ -26,7 +26,6 @@ use Rattle.b2_access.specs.declared.planned.Outcome.TheVariants as outcome
 use Rattle.b2_access.specs.declared.private.Private.{Private}
 use Rattle.b2_access.proofs.Choice.{either}
 use Rattle.b2_expr.specs.Value.{context_of}
-use Rattle.b2_stmt_io.specs.Changed.{with_assigned}
 use Rattle.b2_stmt_io.specs.Converting.{converts}
 use Rattle.b2_stmt_io.specs.Inputs.{takes_typed}
 use Rattle.b2_stmt_io.specs.Keys.{first_named, key_leads, key_taken, other_named, key_assigned, waits, without_key}

@@ -28,7 +28,7 @@ use Rattle.b2_access.specs.declared.private.Private.{Private}
 use Rattle.b2_access.specs.Partition.{setting_of}
 use Rattle.b2_access.specs.Going.{to_line}
 use Rattle.b2_stmt_io.specs.Keys.{key_leads, key_assigned, waits, without_key}
-use Rattle.b2_stmt_io.specs.Changed.{with_assigned}
+use Rattle.b2_access.specs.Planning.{with_assigned}
 use Rattle.b2_expr.specs.Receiving.{assign_bytes_at}
 
 abbrev lines_items : List Item

@@ -9,7 +9,8 @@ use Rattle.b2_alpha.specs.Values.{value_of}
 use Rattle.b2_atom.specs.Words.{Text}
 use Rattle.b2_atom.specs.Tree.{Trees}
 use Rattle.b2_vars.specs.Tables.{VarsState}
-use Rattle.b2_expr.specs.Assigning.{Assigned, then_assigned, unless_coded}
+use Rattle.b2_vars.specs.Assigned.{Assigned}
+use Rattle.b2_expr.specs.Assigning.{then_assigned, unless_coded}
 use Rattle.b2_stmt_io.specs.Inputs.{take_parts, unchanged}
 use Rattle.b2_rows.specs.CommaLists.{are_others, others_at, receivers_at}
 use Rattle.b2_stmt_io.specs.TypedText.{is_within_part, onto_first, typed_parts}

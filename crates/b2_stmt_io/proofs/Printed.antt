@@ -26,7 +26,7 @@ use Rattle.b2_expr.specs.Answers.{◌>>=◌}
 use Rattle.b2_expr.specs.Scope.{Context}
 use Rattle.b2_rows.proofs.RowsRead.{stands_of}
 use Rattle.b2_stmt_io.proofs.LeftOut.{maybe_then}
-use Rattle.b2_stmt_io.specs.Printing.{Shown, column_after_items, column_after_shown, further_in, item_at, item_in, item_of, shown_items, items_of, laid, laid_after, newline_where, placed, separator_in, zone_where}
+use Rattle.b2_stmt_io.specs.Printing.{Shown, column_after_items, column_after_shown, further_in, item_at, item_in, item_of, shown_items, items_of, laid, laid_after, newline_where, on_terminal, separator_in, zone_where}
 use Rattle.b2_rows.proofs.ListEnds.{also_done}
 
 abbrev print_items : List Item
@@ -70,9 +70,9 @@ append_nil : (xs : List ℕ) → xs ++ [] ≡ xs
 append_nil [] = refl
 append_nil (x ∷ xs) = ap (λ (l : List ℕ). x ∷ l) (append_nil xs)
 
-one_text : (old new : List ℕ) (column : ℕ) (it : Result Shown ℕ) → (it >>= (λ x. Ok (old ++ placed column x))) ≡ Ok new
+one_text : (old new : List ℕ) (column : ℕ) (it : Result Shown ℕ) → (it >>= (λ x. Ok (old ++ on_terminal column x))) ≡ Ok new
     → ((it >>= (λ x. Ok (Some x))) >>= (λ o. Ok (old ++ laid column (items_of o)))) ≡ Ok new
-one_text old new column (Ok x) is = ap (λ (l : List ℕ). Ok (old ++ l)) (append_nil (placed column x)) ∙ is
+one_text old new column (Ok x) is = ap (λ (l : List ℕ). Ok (old ++ l)) (append_nil (on_terminal column x)) ∙ is
 one_text old new column (Err code) is = is
 
 one_column : (column after : ℕ) (it : Result Shown ℕ) → (it >>= (λ x. Ok (column_after_shown column x))) ≡ Ok after
@@ -89,7 +89,7 @@ one_code code (Ok x) is = cc
 one_code code (Err c) is = cc
 
 pub one_shown : (s : Context) (t : Text) (old new : List ℕ) (column after : ℕ) → starts Atoms start.PrintItem t ≡ true
-    → (item_of s (tree_at row.PRINT_ITEM t) >>= (λ x. Ok (old ++ placed column x))) ≡ Ok new
+    → (item_of s (tree_at row.PRINT_ITEM t) >>= (λ x. Ok (old ++ on_terminal column x))) ≡ Ok new
     → (item_there s t >>= (λ o. Ok (old ++ laid column (items_of o)))) ≡ Ok new
 one_shown s t old new column after is text = ap (λ (r : Result (Option Shown) ℕ). r >>= (λ o. Ok (old ++ laid column (items_of o)))) (one_there s t is) ∙ one_text old new column (item_of s (tree_at row.PRINT_ITEM t)) text
 
@@ -225,8 +225,8 @@ next_shorter t is = let e = separator_shorter t is in let f = maybe_no_longer st
 laid_append : (column : ℕ) (xs ys : List Shown) → laid column (xs ++ ys) ≡ (laid column xs ++ laid (column_after_items column xs) ys)
 laid_append column [] ys = refl
 laid_append column (x ∷ xs) ys =
-    ap (λ (l : List ℕ). placed column x ++ l) (laid_append (column_after_shown column x) xs ys)
-    ∙ sym (append_assoc (placed column x) (laid (column_after_shown column x) xs) (laid (column_after_items (column_after_shown column x) xs) ys))
+    ap (λ (l : List ℕ). on_terminal column x ++ l) (laid_append (column_after_shown column x) xs ys)
+    ∙ sym (append_assoc (on_terminal column x) (laid (column_after_shown column x) xs) (laid (column_after_items (column_after_shown column x) xs) ys))
 
 after_first : (old : List ℕ) (column : ℕ) (xs : List Shown) (r : Result (List Shown) ℕ)
     → laid_after old column (r >>= (λ its. Ok (xs ++ its))) ≡ laid_after (old ++ laid column xs) (column_after_items column xs) r

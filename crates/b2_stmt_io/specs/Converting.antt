@@ -8,7 +8,8 @@ use Rattle.b2_rows.specs.Values.{image_of}
 use Rattle.b2_text.specs.Program.{TextState}
 use Rattle.b2_vars.specs.Tables.{VarsState}
 use Rattle.b2_expr.specs.Answers.{Answer, TextAnswer}
-use Rattle.b2_expr.specs.Assigning.{Assigned, unassigned}
+use Rattle.b2_vars.specs.Assigned.{Assigned}
+use Rattle.b2_expr.specs.Assigning.{unassigned}
 use Rattle.b2_expr.specs.Value.{in_statement, text, value}
 use Rattle.b2_expr.specs.declared.operators.Level.TheVariants as level
 use Rattle.b2_print.specs.Imaged.{converted}

@@ -8,7 +8,8 @@ use Rattle.b2_atom.specs.Tree.Trees.{In}
 use Rattle.b2_atom.specs.declared.rows.TheConstants as row
 use Rattle.b2_text.specs.Program.{TextState}
 use Rattle.b2_vars.specs.Tables.{VarsState}
-use Rattle.b2_expr.specs.Assigning.{Assigned, then_assigned, unassigned}
+use Rattle.b2_vars.specs.Assigned.{Assigned}
+use Rattle.b2_expr.specs.Assigning.{then_assigned, unassigned}
 use Rattle.b2_stmt_io.specs.LineReading.{after_prompt, takes_line}
 use Rattle.b2_rows.specs.CommaLists.{all_listed}
 use Rattle.b2_expr.specs.Receiving.{assign_bytes_at, assign_number_at}

@@ -13,8 +13,7 @@ use Rattle.b2_access.specs.declared.private.Private.{Private}
 use Rattle.b2_access.specs.Partition.{setting_of}
 use Rattle.b2_rows.specs.LineNumbers.{line_in}
 use Rattle.b2_access.specs.Going.{to_line}
-use Rattle.b2_stmt_io.specs.Changed.{with_assigned}
-use Rattle.b2_access.specs.Planning.{Ended, stays}
+use Rattle.b2_access.specs.Planning.{Ended, stays, with_assigned}
 use Rattle.b2_expr.specs.Receiving.{assign_bytes_at}
 
 -- the two lines that may be named

@@ -1,4 +1,3 @@
-pub mod Changed
 pub mod TypedText
 pub mod Printing
 pub mod Showing

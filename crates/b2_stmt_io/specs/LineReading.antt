@@ -6,7 +6,7 @@ use Rattle.b2_atom.specs.Tree.Trees.{Done, Put, In}
 use Rattle.b2_rows.specs.Values.{literal_of}
 use Rattle.b2_text.specs.Program.{Lines, TextState}
 use Rattle.b2_vars.specs.Tables.{VarsState}
-use Rattle.b2_expr.specs.Assigning.{Assigned}
+use Rattle.b2_vars.specs.Assigned.{Assigned}
 use Rattle.b2_access.specs.declared.accesses.Access.{Access}
 use Rattle.b2_access.specs.declared.accesses.Access.TheVariants as access
 use Rattle.b2_access.specs.declared.accesses.Answer.{Answer}
@@ -14,8 +14,7 @@ use Rattle.b2_access.specs.declared.accesses.Answer.TheVariants as answer
 use Rattle.b2_access.specs.declared.planned.Outcome.TheVariants as outcome
 use Rattle.b2_access.specs.declared.private.Private.{Private}
 use Rattle.b2_stmt_io.specs.Marks.{typed_by_mark}
-use Rattle.b2_stmt_io.specs.Changed.{with_assigned}
-use Rattle.b2_access.specs.Planning.{Ended, stays}
+use Rattle.b2_access.specs.Planning.{Ended, stays, with_assigned}
 use Rattle.b2_expr.specs.Receiving.{assign_bytes_at}
 use Rattle.b2_stmt_io.specs.Showing.{with_column}
 use Rattle.b2_vars.specs.declared.setting.Setting.{Setting}

@@ -21,8 +21,7 @@ use Rattle.b2_stmt_io.specs.Inputs.{takes_typed}
 use Rattle.b2_stmt_io.specs.Keys.{key_taken}
 use Rattle.b2_stmt_io.specs.LineReading.{asks_line, line_answered, prompt_of}
 use Rattle.b2_access.specs.Placed.{Statement, statement_placed}
-use Rattle.b2_stmt_io.specs.Changed.{with_assigned}
-use Rattle.b2_access.specs.Planning.{Ended, Finishing, Planning, done, finished, stays}
+use Rattle.b2_access.specs.Planning.{Ended, Finishing, Planning, done, finished, stays, with_assigned}
 use Rattle.b2_stmt_io.specs.Printing.{prints}
 use Rattle.b2_stmt_io.specs.Showing.{shown, shows_bytes}
 

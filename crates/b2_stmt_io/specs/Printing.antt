@@ -1,5 +1,5 @@
 -- What PRINT shows, by its tree.
-use Rattle.std.specs.Prelude.{◌≡◌, ℕ, ◌-◌, ◌==◌, ◌&&◌, not, Bool, true, false, List, [], ◌∷◌, ◌++◌, replicate, Option, Some, None, is_some, Result, Ok, Err, if◌then◌else◌}
+use Rattle.std.specs.Prelude.{◌≡◌, ℕ, ◌-◌, ◌==◌, Bool, true, false, List, [], ◌∷◌, ◌++◌, replicate, Option, Some, None, is_some, Result, Ok, Err, if◌then◌else◌}
 use Rattle.std.specs.List.{flat_map}
 use Rattle.std.specs.Borrow.{Bor}
 use Rattle.b2_base.specs.Byte as byte
@@ -8,7 +8,7 @@ use Rattle.b2_base.specs.Refusals.{IsRefused}
 use Rattle.b2_base.specs.declared.codes.Fault.{Fault}
 use Rattle.b2_base.specs.declared.codes.TheConstants.{S17_NUMERIC, S22_WORD}
 use Rattle.b2_dectext.specs.Printed.{printed}
-use Rattle.b2_print.specs.Columns.{column_after, passes}
+use Rattle.b2_print.specs.Columns.{column_after, placed}
 use Rattle.b2_print.specs.Layout.{zone_text}
 use Rattle.b2_atom.specs.Words.{Text}
 use Rattle.b2_atom.specs.Tree.{Trees}
@@ -27,17 +27,17 @@ width = 80
 abbrev pub Shown : Type 0
 Shown = ℕ → List ℕ
 
--- one that would pass the width goes on a new line, unless it is at the beginning of its line
-abbrev pub placed : ℕ → Shown → List ℕ
-placed column it = if not (column == 0) && passes width column (it column) then byte.newline ∷ it 0 else it column
+-- an item on the lines of the terminal
+abbrev pub on_terminal : ℕ → Shown → List ℕ
+on_terminal column it = placed width column it
 
 abbrev pub column_after_shown : ℕ → Shown → ℕ
-column_after_shown column it = column_after column (placed column it)
+column_after_shown column it = column_after column (on_terminal column it)
 
 -- items one after another
 abbrev pub laid : ℕ → List Shown → List ℕ
 laid column [] = []
-laid column (it ∷ its) = placed column it ++ laid (column_after_shown column it) its
+laid column (it ∷ its) = on_terminal column it ++ laid (column_after_shown column it) its
 
 -- TAB: blanks up to a column from 0 to 255
 abbrev pub blanks_to : ℕ → Shown
@@ -132,7 +132,7 @@ column_after_items column (it ∷ its) = column_after_items (column_after_shown 
 
 -- an item that is shown after a text, the column after it and what stands after it; or its code, where memory doesn't fail
 abbrev pub ShowsItem : Result Shown ℕ → Text → ℕ → List ℕ → List ℕ → Result (ℕ × Bor Text) Fault → Type 0
-ShowsItem it rest column old new (Ok p) = ((it >>= (λ x. Ok (old ++ placed column x))) ≡ Ok new) × (((it >>= (λ x. Ok (column_after_shown column x))) ≡ Ok p.0) × (p.1.now ≡ rest))
+ShowsItem it rest column old new (Ok p) = ((it >>= (λ x. Ok (old ++ on_terminal column x))) ≡ Ok new) × (((it >>= (λ x. Ok (column_after_shown column x))) ≡ Ok p.0) × (p.1.now ≡ rest))
 ShowsItem it rest column old new (Err f) = IsRefused it f
 
 -- the same of an item or none

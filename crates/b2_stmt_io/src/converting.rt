@@ -11,7 +11,7 @@ ghost use Rattle.b2_expr.specs.Receiving.{assign_bytes_at as assigns_bytes};
 
 use crate::typed_text::typed_number;
 use b2_atom::Cursor;
-use b2_base::lexical::dropped;
+use b2_base::lexical::rest_after;
 use b2_base::{Code, NoMemory};
 use b2_dec::{Bytes, Dec};
 use b2_expr::{
@@ -45,7 +45,7 @@ fn convert_bytes(
         a,
         home,
         typed_number(bytes.bytes()),
-        dropped(c.rest(), 1),
+        rest_after(c.rest(), 1),
     )
 }
 
@@ -80,7 +80,7 @@ fn image_after(text: &[u8]) -> &[u8]
     requires image { is_leaf leaf.Image (drop 1 (drop 1 (after_part row.ALPHA_RECEIVER text.now))) ≡ true }
     ensures { result.now ≡ image_of (leaf_bytes leaf.Image (drop 1 (drop 1 (after_part row.ALPHA_RECEIVER text.now)))) }
 {
-    image_at(dropped(dropped(past_alpha_receiver(text), 1), 1))
+    image_at(rest_after(rest_after(past_alpha_receiver(text), 1), 1))
 }
 
 /// A number in an image, for an alpha receiver.
@@ -99,7 +99,7 @@ fn convert_number(
         Ok(x) => x,
         Err(code) => return Ok(Some(code)),
     };
-    let receiver = dropped(c.rest(), 1);
+    let receiver = rest_after(c.rest(), 1);
     image_to(vars, a, home, x, image_after(receiver), receiver)
 }
 
@@ -114,7 +114,7 @@ pub fn convert_unit(
     requires part { is_part row.CONVERT unit.now ≡ true }
     ensures { IfOk result (λ code. record { vars = vars.new; code = code } ≡ spec.converts a.now home.now (tree_at row.CONVERT unit.now) vars.old) }
 {
-    let text = dropped(unit, 1);
+    let text = rest_after(unit, 1);
     if is_alpha_at(text) {
         convert_bytes(vars, a, home, text)
     } else {

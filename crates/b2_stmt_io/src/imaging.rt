@@ -18,12 +18,12 @@ ghost use Rattle.b2_stmt_io.specs.Showing.{shows_bytes};
 use b2_access::{Access, Planned, failing};
 use b2_atom::{Cursor, literal_width};
 use b2_base::codes::{P36_NO_LINE, P42_IMAGE};
-use b2_base::lexical::dropped;
+use b2_base::lexical::rest_after;
 use b2_base::{ByteList, Code, Fault, NoMemory};
 use b2_dec::{Bytes, Value};
 use b2_expr::{Env, alpha, number};
 use b2_print::using;
-use b2_rows::{is_alpha_at, is_at, is_line_at, line_at, literal_at};
+use b2_rows::{is_alpha_at, is_at, is_line_at, line_at, quoted_at};
 use b2_text::Text;
 use std::alloc::Global;
 
@@ -46,11 +46,11 @@ fn image_of<'a>(home: &'a Text, unit: &'a [u8]) -> Result<&'a [u8], Code>
     requires part { is_part row.PRINTUSING unit.now ≡ true }
     ensures { LendsOr (spec.image_named home.now.lines (tree_at row.PRINTUSING unit.now)) result }
 {
-    let text = dropped(unit, 1);
+    let text = rest_after(unit, 1);
     if is_line_at(text) {
         line_image(home, line_at(text))
     } else {
-        Ok(literal_at(text))
+        Ok(quoted_at(text))
     }
 }
 
@@ -60,11 +60,11 @@ fn items_of(unit: &[u8]) -> &[u8]
     requires part { is_part row.PRINTUSING unit.now ≡ true }
     ensures { result.now ≡ items_text unit.now }
 {
-    let text = dropped(unit, 1);
+    let text = rest_after(unit, 1);
     if is_line_at(text) {
-        dropped(dropped(text, 3), 1)
+        rest_after(rest_after(text, 3), 1)
     } else {
-        dropped(dropped(text, literal_width(text)), 1)
+        rest_after(rest_after(text, literal_width(text)), 1)
     }
 }
 
@@ -112,7 +112,7 @@ fn values_at<'a>(e: &Env<'_>, text: &'a [u8], values: &mut Vec<Value>) -> Result
     };
     add(values, x)?;
     while is_at(b',', left) {
-        let (x, rest) = match any_value(e, dropped(left, 1)) {
+        let (x, rest) = match any_value(e, rest_after(left, 1)) {
             Ok(found) => found,
             Err(code) => return Err(Fault::Code(code)),
         };

@@ -14,7 +14,7 @@ use crate::typed_text::{part_width, typed_number};
 use b2_access::{Access, Answer, Outcome, Private, goes_or, setting_of};
 use b2_alpha::value_len;
 use b2_atom::rows;
-use b2_base::lexical::{dropped, front, skip_blanks};
+use b2_base::lexical::{first_bytes, rest_after, skip_blanks};
 use b2_base::{Code, NoMemory, Term};
 use b2_expr::{assign_bytes_at, assign_number_at, past_any_receiver};
 use b2_rows::{is_alpha_at, is_at};
@@ -27,7 +27,7 @@ use std::alloc::Global;
 fn item_value(bytes: &[u8]) -> &[u8]
     ensures { result.now ≡ value_of bytes.now }
 {
-    front(bytes, value_len(bytes))
+    first_bytes(bytes, value_len(bytes))
 }
 
 /// Assigns a part that isn't empty to the receiver at a text.
@@ -83,7 +83,7 @@ fn parts_to(
     let mut typed = line;
     loop {
         let width = part_width(typed);
-        let code = part_to(vars, a, home, front(typed, width), left)?;
+        let code = part_to(vars, a, home, first_bytes(typed, width), left)?;
         if code.is_some() {
             return Ok(code);
         }
@@ -91,12 +91,12 @@ fn parts_to(
         if !is_at(b',', left) {
             return Ok(None);
         }
-        typed = dropped(typed, width);
+        typed = rest_after(typed, width);
         if typed.is_empty() {
             return Ok(None);
         }
-        left = dropped(left, 1);
-        typed = dropped(typed, 1);
+        left = rest_after(left, 1);
+        typed = rest_after(typed, 1);
     }
 }
 
@@ -112,7 +112,7 @@ fn take_parts(
     requires part { is_part row.INPUT unit.now ≡ true }
     ensures { IfOk result (λ code. record { vars = vars.new; code = code } ≡ spec.takes_parts a.now home.now line.now (tree_at row.INPUT unit.now) vars.old) }
 {
-    parts_to(vars, a, home, line, past_prompt(dropped(unit, 1)))
+    parts_to(vars, a, home, line, past_prompt(rest_after(unit, 1)))
 }
 
 /// What INPUT asks for.
@@ -121,7 +121,7 @@ pub fn ask_input(alloc: Global, prompted: bool, term: Term, unit: &[u8]) -> Resu
     requires part { is_part row.INPUT unit.now ≡ true }
     ensures { IfOk result (λ a. a ≡ asks_line prompted term (prompt_of (tree_at row.INPUT unit.now))) }
 {
-    ask_line(alloc, prompted, term, dropped(unit, 1))
+    ask_line(alloc, prompted, term, rest_after(unit, 1))
 }
 
 /// Assigns a line to the receivers of a statement that read it, LINPUT or INPUT.

@@ -9,7 +9,7 @@ ghost use Rattle.b2_stmt_io.specs.Keys as spec;
 
 use b2_access::{Answer, Outcome, Private, goes_or, setting_of, to_line};
 use b2_base::NoMemory;
-use b2_base::lexical::dropped;
+use b2_base::lexical::rest_after;
 use b2_expr::{assign_bytes_at, past_alpha_receiver};
 use b2_flow::Place;
 use b2_rows::{is_at, line_at};
@@ -19,7 +19,7 @@ use b2_text::Text;
 fn other_named(text: &[u8]) -> &[u8]
     ensures { result.now ≡ drop 1 (drop 3 (drop 1 text.now)) }
 {
-    dropped(dropped(dropped(text, 1), 3), 1)
+    rest_after(rest_after(rest_after(text, 1), 3), 1)
 }
 
 /// Where KEYIN goes on after a key, by the lines that are named at a text.
@@ -34,7 +34,7 @@ fn key_leads(special: bool, home: &Text, place: Place, text: &[u8]) -> Outcome
     if special {
         to_line(home, place, line_at(other_named(text)))
     } else {
-        to_line(home, place, line_at(dropped(text, 1)))
+        to_line(home, place, line_at(rest_after(text, 1)))
     }
 }
 
@@ -53,7 +53,7 @@ fn assign_key(
     ensures part { me.new.part ≡ me.old.part }
 {
     let setting = setting_of(me);
-    let receiver = dropped(unit, 1);
+    let receiver = rest_after(unit, 1);
     let code = assign_bytes_at(&mut me.vars, &setting, home, &[key], receiver)?;
     Ok(goes_or(
         key_leads(special, home, place, past_alpha_receiver(receiver)),
@@ -67,7 +67,7 @@ fn without_key(unit: &[u8]) -> Outcome
     requires part { is_part row.KEYIN unit.now ≡ true }
     ensures { result ≡ spec.without_key (tree_at row.KEYIN unit.now) }
 {
-    if is_at(b',', past_alpha_receiver(dropped(unit, 1))) {
+    if is_at(b',', past_alpha_receiver(rest_after(unit, 1))) {
         Outcome::Next
     } else {
         Outcome::Repeat

@@ -25,6 +25,3 @@ mod typed_text;
 pub use marks::typed_by_mark;
 pub use planning::{finish, is_built, plan};
 pub use showing::{after_show, move_column};
-
-#[cfg(test)]
-mod tests;

@@ -12,10 +12,10 @@ use crate::marks::typed_by_mark;
 use crate::showing::move_column;
 use b2_access::{Access, Outcome, Private};
 use b2_atom::literal_width;
-use b2_base::lexical::dropped;
+use b2_base::lexical::rest_after;
 use b2_base::{ByteList, Code, NoMemory, Term};
 use b2_expr::assign_bytes_at;
-use b2_rows::{is_at, literal_at};
+use b2_rows::{is_at, quoted_at};
 use b2_text::Text;
 use b2_vars::{Setting, Vars};
 use std::alloc::Global;
@@ -27,7 +27,7 @@ fn prompt_at(text: &[u8]) -> &[u8]
     ensures { result.now ≡ spec.prompt_there (maybe_tree (start.Code byte.quote) row.PROMPT text.now) }
 {
     if is_at(b'"', text) {
-        literal_at(text)
+        quoted_at(text)
     } else {
         &[]
     }
@@ -40,7 +40,7 @@ pub fn past_prompt(text: &[u8]) -> &[u8]
     ensures { result.now ≡ after_maybe (start.Code byte.quote) row.PROMPT text.now }
 {
     if is_at(b'"', text) {
-        dropped(dropped(text, literal_width(text)), 1)
+        rest_after(rest_after(text, literal_width(text)), 1)
     } else {
         text
     }
@@ -73,7 +73,7 @@ pub fn ask_linput(
     requires part { is_part row.LINPUT unit.now ≡ true }
     ensures { IfOk result (λ a. a ≡ spec.asks_line prompted term (spec.prompt_of (tree_at row.LINPUT unit.now))) }
 {
-    ask_line(alloc, prompted, term, dropped(unit, 1))
+    ask_line(alloc, prompted, term, rest_after(unit, 1))
 }
 
 /// Assigns a line to the receiver of LINPUT.
@@ -88,7 +88,7 @@ pub fn assign_line(
     requires part { is_part row.LINPUT unit.now ≡ true }
     ensures { IfOk result (λ code. record { vars = vars.new; code = code } ≡ spec.takes_line a.now home.now line.now (tree_at row.LINPUT unit.now) vars.old) }
 {
-    assign_bytes_at(vars, a, home, line, past_prompt(dropped(unit, 1)))
+    assign_bytes_at(vars, a, home, line, past_prompt(rest_after(unit, 1)))
 }
 
 /// After the prompt was shown.

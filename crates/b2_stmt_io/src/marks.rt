@@ -7,8 +7,8 @@ ghost use Rattle.b2_stmt_io.specs.Marks as spec;
 
 use b2_access::statement_on;
 use b2_atom::rows;
-use b2_base::lexical::{digits_width, dropped};
-use b2_rows::{RowUnit, is_at, literal_at};
+use b2_base::lexical::{digits_width, rest_after};
+use b2_rows::{RowUnit, is_at, quoted_at};
 use b2_text::Text;
 
 /// The literal of a DEFFN', where it has one.
@@ -17,10 +17,10 @@ fn mark_bytes(unit: &[u8]) -> Option<&[u8]>
     requires part { is_part row.DEFFN_MARKED unit.now ≡ true }
     ensures { option_copied result ≡ spec.mark_bytes (tree_at row.DEFFN_MARKED unit.now) }
 {
-    let number = dropped(unit, 1);
-    let text = dropped(number, digits_width(number));
+    let number = rest_after(unit, 1);
+    let text = rest_after(number, digits_width(number));
     if is_at(b'"', text) {
-        Some(literal_at(text))
+        Some(quoted_at(text))
     } else {
         None
     }

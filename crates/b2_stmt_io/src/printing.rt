@@ -13,12 +13,12 @@ ghost use Rattle.b2_expr.specs.Functions.{whole_between};
 ghost use Rattle.b2_expr.specs.Scope.{surroundings};
 ghost use Rattle.b2_expr.specs.Value.{in_statement};
 ghost use Rattle.b2_stmt_io.specs.Printing as spec;
-ghost use Rattle.b2_stmt_io.specs.Printing.{ShowsItem, ShowsMaybe, placed, column_after_shown, shown_bytes, blanks_to, digits_of, laid, laid_after, column_after_items, newline_where, zone_where};
+ghost use Rattle.b2_stmt_io.specs.Printing.{ShowsItem, ShowsMaybe, on_terminal, column_after_shown, shown_bytes, blanks_to, digits_of, laid, laid_after, column_after_items, newline_where, zone_where};
 
 use b2_atom::Cursor;
 use b2_atom::words::{HEXOF_OPEN, TAB_OPEN};
 use b2_base::codes::P34_RANGE;
-use b2_base::lexical::{dropped, first};
+use b2_base::lexical::{first, rest_after};
 use b2_base::{ByteList, Code, Fault, NoMemory};
 use b2_dec::{Bytes, Dec, fix, whole};
 use b2_expr::{Env, alpha, number, whole_between};
@@ -31,7 +31,7 @@ const WIDTH: u16 = 80;
 
 /// Shows bytes at a column after a text, and gives the column after them.
 fn show_bytes(alloc: Global, bytes: &[u8], column: u16, out: &mut Vec<u8>) -> Result<u16, NoMemory>
-    ensures text { OnOk result (out.new.items ≡ out.old.items ++ placed column (shown_bytes bytes.now)) }
+    ensures text { OnOk result (out.new.items ≡ out.old.items ++ on_terminal column (shown_bytes bytes.now)) }
     ensures column { IfOk result (λ after. after ≡ column_after_shown column (shown_bytes bytes.now)) }
 {
     lay(alloc, &[Item::Alpha(bytes)], column, WIDTH, out)
@@ -39,7 +39,7 @@ fn show_bytes(alloc: Global, bytes: &[u8], column: u16, out: &mut Vec<u8>) -> Re
 
 /// The same of a number in its printed form.
 fn show_number(alloc: Global, x: Dec, column: u16, out: &mut Vec<u8>) -> Result<u16, NoMemory>
-    ensures text { OnOk result (out.new.items ≡ out.old.items ++ placed column (shown_bytes (printed x))) }
+    ensures text { OnOk result (out.new.items ≡ out.old.items ++ on_terminal column (shown_bytes (printed x))) }
     ensures column { IfOk result (λ after. after ≡ column_after_shown column (shown_bytes (printed x))) }
 {
     lay(alloc, &[Item::Number(x)], column, WIDTH, out)
@@ -47,7 +47,7 @@ fn show_number(alloc: Global, x: Dec, column: u16, out: &mut Vec<u8>) -> Result<
 
 /// The same of each byte as two hexadecimal digits.
 fn show_digits(alloc: Global, bytes: &[u8], column: u16, out: &mut Vec<u8>) -> Result<u16, NoMemory>
-    ensures text { OnOk result (out.new.items ≡ out.old.items ++ placed column (digits_of bytes.now)) }
+    ensures text { OnOk result (out.new.items ≡ out.old.items ++ on_terminal column (digits_of bytes.now)) }
     ensures column { IfOk result (λ after. after ≡ column_after_shown column (digits_of bytes.now)) }
 {
     lay(alloc, &[Item::Hex(bytes)], column, WIDTH, out)
@@ -55,7 +55,7 @@ fn show_digits(alloc: Global, bytes: &[u8], column: u16, out: &mut Vec<u8>) -> R
 
 /// The same of blanks up to a column.
 fn show_blanks(alloc: Global, to: u8, column: u16, out: &mut Vec<u8>) -> Result<u16, NoMemory>
-    ensures text { OnOk result (out.new.items ≡ out.old.items ++ placed column (blanks_to to)) }
+    ensures text { OnOk result (out.new.items ≡ out.old.items ++ on_terminal column (blanks_to to)) }
     ensures column { IfOk result (λ after. after ≡ column_after_shown column (blanks_to to)) }
 {
     lay(alloc, &[Item::Tab(to)], column, WIDTH, out)
@@ -95,7 +95,7 @@ fn tab_shown<'a>(
     requires part { is_part row.TAB text.now ≡ true }
     ensures { ShowsItem (spec.tab_in (in_statement (surroundings e.now)) (tree_at row.TAB text.now)) (after_part row.TAB text.now) column out.old.items out.new.items result }
 {
-    let mut c = Cursor::over(dropped(text, 1));
+    let mut c = Cursor::over(rest_after(text, 1));
     let x = match number(&mut c, e) {
         Ok(x) => x,
         Err(code) => return Err(Fault::Code(code)),
@@ -105,7 +105,7 @@ fn tab_shown<'a>(
         Err(code) => return Err(Fault::Code(code)),
     };
     let after = show_blanks(alloc, to, column, out)?;
-    Ok((after, dropped(c.rest(), 1)))
+    Ok((after, rest_after(c.rest(), 1)))
 }
 
 /// Shows the digits of HEXOF.
@@ -120,14 +120,14 @@ fn hex_shown<'a>(
     requires part { is_part row.HEXOF text.now ≡ true }
     ensures { ShowsItem (spec.hex_in (in_statement (surroundings e.now)) (tree_at row.HEXOF text.now)) (after_part row.HEXOF text.now) column out.old.items out.new.items result }
 {
-    let mut c = Cursor::over(dropped(text, 1));
+    let mut c = Cursor::over(rest_after(text, 1));
     let mut bytes = Bytes::new();
     match alpha(&mut c, e, &mut bytes) {
         Ok(()) => {}
         Err(code) => return Err(Fault::Code(code)),
     }
     let after = show_digits(alloc, bytes.bytes(), column, out)?;
-    Ok((after, dropped(c.rest(), 1)))
+    Ok((after, rest_after(c.rest(), 1)))
 }
 
 /// Shows the bytes of an alpha expression.
@@ -247,14 +247,14 @@ fn show_items(
     requires part { is_part row.PRINT unit.now ≡ true }
     ensures { MatchResult result (λ done. laid_after out.old.items column (spec.shown_items (in_statement (surroundings e.now)) (tree_at row.PRINT unit.now)) ≡ Ok out.new.items) (λ f. IsRefused (spec.shown_items (in_statement (surroundings e.now)) (tree_at row.PRINT unit.now)) f) }
 {
-    let (mut at, _, mut left) = match item_or_none(alloc, e, column, dropped(unit, 1), out) {
+    let (mut at, _, mut left) = match item_or_none(alloc, e, column, rest_after(unit, 1), out) {
         Ok(shown) => shown,
         Err(fault) => return Err(fault),
     };
     let mut line = true;
     while is_separator_at(left) {
         let zone = show_separator(alloc, first(left), at, out)?;
-        let (after, is_item, rest) = match item_or_none(alloc, e, zone, dropped(left, 1), out) {
+        let (after, is_item, rest) = match item_or_none(alloc, e, zone, rest_after(left, 1), out) {
             Ok(shown) => shown,
             Err(fault) => return Err(fault),
         };

@@ -5,7 +5,7 @@ ghost use Rattle.b2_stmt_io.specs.TypedText as spec;
 
 use b2_base::Code;
 use b2_base::codes::X73_NOT_A_NUMBER;
-use b2_base::lexical::{dropped, skip_blanks};
+use b2_base::lexical::{rest_after, skip_blanks};
 use b2_dec::Dec;
 use b2_dectext::read;
 
@@ -15,7 +15,7 @@ pub fn typed_number(text: &[u8]) -> Result<Dec, Code>
 {
     let begun = skip_blanks(text);
     let (width, number) = read(begun);
-    if !skip_blanks(dropped(begun, width)).is_empty() {
+    if !skip_blanks(rest_after(begun, width)).is_empty() {
         return Err(Code::known(X73_NOT_A_NUMBER));
     }
     match number {

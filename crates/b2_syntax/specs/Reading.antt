@@ -6,8 +6,8 @@ use Rattle.b2_atom.specs.Words.{Text}
 use Rattle.b2_atom.specs.Lines.{line_atoms}
 use Rattle.b2_atom.specs.declared.words.Origin.{Origin}
 use Rattle.b2_atom.specs.declared.words.Origin.TheVariants as origin
-use Rattle.b2_atom.specs.declared.sink.Stop.{Stop}
-use Rattle.b2_atom.specs.declared.sink.Stop.TheVariants as stop
+use Rattle.b2_atom.specs.declared.output.Stop.{Stop}
+use Rattle.b2_atom.specs.declared.output.Stop.TheVariants as stop
 use Rattle.b2_syntax.specs.declared.Entered.{Entered}
 use Rattle.b2_syntax.specs.declared.Entered.TheVariants.{Empty, Delete, Numbered, Immediate}
 use Rattle.b2_syntax.specs.declared.LineErr.{LineErr}

@@ -13,7 +13,7 @@ ghost use Rattle.b2_syntax.specs.Reading as spec;
 use b2_atom::{Atoms, Origin, Stop};
 use b2_base::Code;
 use b2_base::codes::{A04_TOO_DEEP, A05_LINE_TOO_LONG, A07_LINE_NUMBER, S29_BYTE};
-use b2_base::lexical::{capped_value, digits_width, dropped, is_printable, skip_blanks};
+use b2_base::lexical::{capped_value, digits_width, is_printable, rest_after, skip_blanks};
 use std::alloc::Global;
 
 #[cfg(test)]
@@ -94,7 +94,7 @@ fn numbered(alloc: Global, line: &[u8], own: &[u8]) -> Result<Entered, LineErr>
     if number > 9999 {
         return Err(LineErr::At(Code::known(A07_LINE_NUMBER), 0));
     }
-    let rest = skip_blanks(dropped(own, digits_width(own)));
+    let rest = skip_blanks(rest_after(own, digits_width(own)));
     if rest.is_empty() {
         return Ok(Entered::Delete(number));
     }

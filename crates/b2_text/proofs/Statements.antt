@@ -21,7 +21,7 @@ use Rattle.b2_atom.specs.declared.forms.Item.TheVariants.{Word, Sign, Typed, Par
 use Rattle.b2_atom.specs.declared.forms.Start.TheVariants as start
 use Rattle.b2_base.specs.Byte as byte
 use Rattle.b2_base.specs.declared.codes.TheConstants.{S10_OPEN, S11_CLOSE, S12_EQUALS, S22_WORD, S24_SMALL_NUMBER}
-use Rattle.b2_atom.specs.declared.sink.Stop.{Stop}
+use Rattle.b2_atom.specs.declared.output.Stop.{Stop}
 use Rattle.b2_atom.proofs.Booleans.{equal, never}
 use Rattle.b2_text.specs.Spots.{is_mark, is_function, is_data}
 use Rattle.b2_text.specs.Trees.{is_numbered, is_named}

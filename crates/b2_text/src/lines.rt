@@ -36,7 +36,7 @@ pub fn cost_at(lines: &Lines, n: u16) -> usize
 }
 
 /// Puts a line in its place, where one of its number gives way; after `NoMemory` the lines are as before.
-pub fn insert(lines: &mut Lines, n: u16, line: Atoms) -> Result<(), NoMemory>
+pub fn put_in_place(lines: &mut Lines, n: u16, line: Atoms) -> Result<(), NoMemory>
     ensures ok { OnOk result (lines.new.entries ≡ with_line n line lines.old.entries) }
     ensures err { OnErr result (lines.new.entries ≡ lines.old.entries) }
     ensures ordered { IsStrictlySortedBy nat_cmp (keys_of lines.new.entries) }

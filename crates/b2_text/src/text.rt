@@ -10,7 +10,9 @@ ghost use Rattle.b2_text.specs.Program.{is_within, size_of, line_at, with_line, 
 ghost use Rattle.b2_text.specs.Spots.{is_mark, is_function, is_data, unit_at, first_opening, data_from};
 
 use crate::Spot;
-use crate::lines::{Lines, cost, cost_at, first_above, first_of_all, first_within, insert, within};
+use crate::lines::{
+    Lines, cost, cost_at, first_above, first_of_all, first_within, put_in_place, within,
+};
 use crate::spots::{first_data, first_function, first_mark};
 use b2_atom::Atoms;
 use b2_base::codes::A01_TEXT_AREA;
@@ -138,8 +140,8 @@ impl Text {
         if cost > self.area - rest {
             return Err(Fault::Code(Code::known(A01_TEXT_AREA)));
         }
-        let line = a.copy(self.alloc)?;
-        insert(&mut self.lines, n, line)?;
+        let line = a.try_clone(self.alloc)?;
+        put_in_place(&mut self.lines, n, line)?;
         self.size = rest + cost;
         Ok(())
     }

@@ -5,4 +5,5 @@ pub mod Variables
 pub mod VariableLending
 pub mod Tables
 pub mod Calls
+pub mod Assigned
 pub mod VarsLending

@@ -25,5 +25,5 @@ mod vars;
 
 pub use name::Var;
 pub use setting::Setting;
-pub use shape::Shape;
+pub use shape::{LONGEST_ARRAY, LONGEST_VALUE, Shape, USUAL_LENGTH, WIDEST_ARRAY};
 pub use vars::Vars;

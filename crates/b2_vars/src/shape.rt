@@ -5,13 +5,13 @@ ghost use Rattle.b2_vars.specs.Shapes.{has_dimensions, has_length, is_same_shape
 use crate::name::Var;
 
 /// The longest array of one dimension.
-const LONGEST: u16 = 4000;
+pub const LONGEST_ARRAY: u16 = 4000;
 /// The most rows, and the most columns, of an array of two dimensions.
-const WIDEST: u16 = 255;
+pub const WIDEST_ARRAY: u16 = 255;
 /// The longest alpha value.
-const LONGEST_VALUE: u8 = 124;
-/// The length of an alpha scalar that is made by its first use.
-const SCALAR_LENGTH: u8 = 16;
+pub const LONGEST_VALUE: u8 = 124;
+/// The length of an alpha value where none is given.
+pub const USUAL_LENGTH: u8 = 16;
 
 /// The dimensions of a variable, 0 for each that it doesn't have, and the length of its alpha values, 0 for numbers.
 #[derive(Clone, Copy, Debug, PartialEq, Eq)]
@@ -27,8 +27,8 @@ pub fn has_dimensions(v: Var, shape: Shape) -> bool
 {
     match (v.array, shape.cols) {
         (false, cols) => shape.rows == 0 && cols == 0,
-        (true, 0) => is_up_to(LONGEST, shape.rows),
-        (true, cols) => is_up_to(WIDEST, shape.rows) && is_up_to(WIDEST, cols),
+        (true, 0) => is_up_to(LONGEST_ARRAY, shape.rows),
+        (true, cols) => is_up_to(WIDEST_ARRAY, shape.rows) && is_up_to(WIDEST_ARRAY, cols),
     }
 }
 
@@ -64,7 +64,7 @@ pub fn scalar_shape(v: Var) -> Shape
     Shape {
         rows: 0,
         cols: 0,
-        len: if v.alpha { SCALAR_LENGTH } else { 0 },
+        len: if v.alpha { USUAL_LENGTH } else { 0 },
     }
 }
 

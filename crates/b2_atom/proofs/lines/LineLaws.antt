@@ -13,7 +13,7 @@ use Rattle.b2_atom.specs.Laws.{SpellsTree, EachLineSpellsATree, EachTreeIsALine,
 use Rattle.b2_atom.specs.declared.rows.TheConstants as row
 use Rattle.b2_atom.specs.declared.words.Origin.{Origin}
 use Rattle.b2_atom.specs.declared.words.Origin.TheVariants as origin
-use Rattle.b2_atom.specs.declared.sink.Stop.{Stop}
+use Rattle.b2_atom.specs.declared.output.Stop.{Stop}
 use Rattle.b2_atom.proofs.Booleans.{and_right, both}
 use Rattle.b2_atom.proofs.settled.Fronts.{of_row, of, of_items, Known, refuse, is_free_row}
 use Rattle.b2_atom.proofs.settled.Fronts.Front.{None}

@@ -20,7 +20,7 @@ use Rattle.b2_atom.specs.declared.forms.Position.{Position}
 use Rattle.b2_atom.specs.declared.forms.Position.TheVariants as place
 use Rattle.b2_atom.specs.declared.forms.Item.{Item}
 use Rattle.b2_atom.specs.declared.forms.Item.TheVariants.{Word, Part, Either, Statement}
-use Rattle.b2_atom.specs.declared.sink.Stop.{Stop}
+use Rattle.b2_atom.specs.declared.output.Stop.{Stop}
 use Rattle.b2_atom.proofs.Booleans.{and_left, and_right, never, or_cases, equal}
 use Rattle.b2_atom.proofs.settled.Fronts.{every, some, Front, fronts, surely, Tail, of_items, of_row, of, settled, marked_choice, is_free_row, statement_heads, every_statement}
 use Rattle.b2_atom.proofs.settled.Computed.{one_of_statements}

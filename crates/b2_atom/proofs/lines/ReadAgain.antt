@@ -12,8 +12,8 @@ use Rattle.b2_atom.specs.Fitting.{LineTree}
 use Rattle.b2_atom.specs.declared.words.Origin.TheVariants as origin
 use Rattle.b2_atom.specs.declared.forms.Position.TheVariants.{First}
 use Rattle.b2_atom.specs.declared.forms.Leaf.{Leaf}
-use Rattle.b2_atom.specs.declared.sink.Stop.{Stop}
-use Rattle.b2_atom.specs.declared.sink.Stop.TheVariants.{At}
+use Rattle.b2_atom.specs.declared.output.Stop.{Stop}
+use Rattle.b2_atom.specs.declared.output.Stop.TheVariants.{At}
 use Rattle.b2_atom.proofs.Booleans.{false_true, equal}
 use Rattle.b2_atom.proofs.spelling.SideBySide.{not_empty}
 use Rattle.b2_atom.proofs.spelling.SpellsSource.{token_fronted}

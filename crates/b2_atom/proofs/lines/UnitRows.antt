@@ -13,7 +13,7 @@ use Rattle.b2_atom.specs.Lines.{LineUnit, IsReadBy, KeepsRow, KeepsUses, KeepsUn
 use Rattle.b2_atom.specs.Laws.{IsStatement, IsReadByItsRow, EachUnitIsReadByItsRow}
 use Rattle.b2_atom.specs.Table.{forms}
 use Rattle.b2_atom.specs.declared.words.Origin.TheVariants.{Atoms}
-use Rattle.b2_atom.specs.declared.sink.Stop.{Stop}
+use Rattle.b2_atom.specs.declared.output.Stop.{Stop}
 use Rattle.b2_atom.specs.declared.forms.Position.{Position}
 use Rattle.b2_atom.specs.declared.spans.Span.{Span}
 use Rattle.b2_atom.proofs.lines.EachUnit.{each_unit}

@@ -1,4 +1,4 @@
--- One reading after another, and what a sink holds after it.
+-- One reading after another, and what a output holds after it.
 use Rattle.std.proofs.Common.{◌≡◌, ℕ, zero, suc, ◌+◌, ◌-◌, ◌<◌, List, [], ◌∷◌, ◌++◌, length, refl, sym, ap, ◌∙◌, arith, Bor, Result, Ok, Err, true, false, Bool, if◌then◌else◌, ◌≤◌, is_ok, append_assoc, append-nil, ◌&&◌, ◌||◌, nat_le}
 use Rattle.b2_atom.specs.Words.{Text}
 use Rattle.b2_atom.specs.Tokens.{Token, token_atoms, listed, ending, ends_wordy, is_operand, is_apart, maybe_spaced, spelled, is_global_name, is_function_word}
@@ -6,9 +6,9 @@ use Rattle.b2_atom.specs.Tree.{Trees, Outcome, Parser, Seen, atoms, also, preced
 use Rattle.b2_atom.specs.Tree.Trees.{Done, Put, In}
 use Rattle.b2_atom.specs.Tree.Seen.{Silent, Noted, Written, Listed}
 use Rattle.b2_atom.specs.Lines.{left_after, atoms_of, source_of, uses_of, is_line, line_source}
-use Rattle.b2_atom.specs.declared.sink.Stop.{Stop}
-use Rattle.b2_atom.specs.declared.sink.Uses.{Uses}
-use Rattle.b2_atom.specs.declared.sink.Stop.TheVariants.{At}
+use Rattle.b2_atom.specs.declared.output.Stop.{Stop}
+use Rattle.b2_atom.specs.declared.output.Uses.{Uses}
+use Rattle.b2_atom.specs.declared.output.Stop.TheVariants.{At}
 use Rattle.b2_atom.specs.declared.words.Origin.{Origin}
 use Rattle.b2_atom.specs.declared.words.Origin.TheVariants as origin
 use Rattle.b2_atom.specs.declared.forms.Start.{Start}
@@ -43,7 +43,7 @@ pub bind_err : (old : Seen) (e : Stop) (o : Outcome) (q : Parser Text) → emitt
 bind_err old e (Err f) q is = is
 bind_err old e (Ok p) q is = cc
 
--- a sink that holds no bytes holds none after a reading, and every other does
+-- a output that holds no bytes holds none after a reading, and every other does
 pub put_all-bytes : (s : Seen) (t : Trees) → holds_bytes (put_all s t) ≡ holds_bytes s
 put_all-bytes s Done = refl
 put_all-bytes Silent (Put t ts) = put_all-bytes Silent ts
@@ -150,7 +150,7 @@ pub statement_err : (o : Origin) (f : ℕ) (p : Position) (old : Seen) (t : Text
 statement_err o f p old t e h is =
     statement_more o f p old t h ∙ ap (λ (r : Result (ℕ × Text) Stop). emitted old (chosen r (part o (f - 1) 32 40))) is
 
--- what is left after a reading, as its sink tells
+-- what is left after a reading, as its output tells
 pub rest_ok : (s n : Seen) (o : Outcome) (r : Text) → emitted s o ≡ Ok (n, r) → left_after o ≡ r
 rest_ok s n (Err e) r is = cc
 rest_ok s n (Ok p) r is =
@@ -176,7 +176,7 @@ put_all-written bs (Put t ts) =
 put_all-written bs (In n i ts) =
     ap (λ (s : Seen). put_all s ts) (put_all-written bs i) ∙ put_all-written (bs ++ atoms i) ts ∙ ap Written (append_assoc bs (atoms i) (atoms ts))
 
--- the atoms in a sink that held none
+-- the atoms in a output that held none
 pub held : (n : Seen) (rest : Text) (o : Outcome) → emitted (Written []) o ≡ Ok (n, rest) → atoms_of o ≡ Ok (bytes_of n)
 held n rest (Err e) is = cc
 held n rest (Ok p) is =
@@ -232,7 +232,7 @@ pub line_has_source : (t : Text) (e : Stop) → is_line t ≡ true → line_sour
 unfolding is_line line_source
 line_has_source t e h k = no_source (read_line origin.Atoms t) (nat_le (length t) 255) e h k
 
--- a sink that notes what is used
+-- a output that notes what is used
 put_all-noted : (u : Uses) (t : Trees) → put_all (Noted u) t ≡ Noted (record { globals = u.globals || names_global t; functions = u.functions || calls_function t })
 put_all-noted u Done = λ i. Noted (record { globals = sym (or_false u.globals) i; functions = sym (or_false u.functions) i })
 put_all-noted u (Put t ts) =
@@ -243,7 +243,7 @@ put_all-noted u (In n inner ts) =
     ∙ put_all-noted (record { globals = u.globals || names_global inner; functions = u.functions || calls_function inner }) ts
     ∙ (λ i. Noted (record { globals = or_assoc u.globals (names_global inner) (names_global ts) i; functions = or_assoc u.functions (calls_function inner) (calls_function ts) i }))
 
--- a sink that noted nothing notes what was read
+-- a output that noted nothing notes what was read
 pub uses_noted : (n : Seen) (rest : Text) (o : Outcome) → emitted (Noted (record { globals = false; functions = false })) o ≡ Ok (n, rest) → noted n ≡ uses_of o
 uses_noted n rest (Err e) is = cc
 uses_noted n rest (Ok p) is =

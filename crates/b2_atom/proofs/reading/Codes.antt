@@ -11,8 +11,8 @@ use Rattle.b2_atom.specs.Lines.{good_code, IsKnown}
 use Rattle.b2_atom.specs.Grammar.{reader, read_item, items, item, level, deep, statement, statement_within, many, row_items, rows_of, row_place, starts, absent, read_line, chosen, statement_row, row_at, allowed, from, mark, among, program_word, program_word_at, ignored, optional_comma, end_of_line, end_at, read_leaf, leaf_at, plain, atoms_line_number, typed_line_number, line_number_at, text_to_end, two_digits, begins_let, variable_begins, barred_following, barred_line, barred_place}
 use Rattle.b2_atom.specs.declared.words.Origin.{Origin}
 use Rattle.b2_atom.specs.declared.words.Origin.TheVariants.{Program, Immediate, Atoms}
-use Rattle.b2_atom.specs.declared.sink.Stop.{Stop}
-use Rattle.b2_atom.specs.declared.sink.Stop.TheVariants.{At, Deep, NoMemory}
+use Rattle.b2_atom.specs.declared.output.Stop.{Stop}
+use Rattle.b2_atom.specs.declared.output.Stop.TheVariants.{At, Deep, NoMemory}
 use Rattle.b2_atom.specs.declared.forms.Form.{Form}
 use Rattle.b2_atom.specs.declared.forms.Leaf.{Leaf}
 use Rattle.b2_atom.specs.declared.forms.Leaf.TheVariants as leaf

@@ -22,8 +22,8 @@ use Rattle.b2_atom.specs.declared.forms.Position.TheVariants as place
 use Rattle.b2_atom.specs.declared.forms.Form.{Form}
 use Rattle.b2_atom.specs.declared.forms.Item.{Item}
 use Rattle.b2_atom.specs.declared.forms.Item.TheVariants.{Word, Sign, Typed, Part, Either, Many, Statement, End}
-use Rattle.b2_atom.specs.declared.sink.Stop.{Stop}
-use Rattle.b2_atom.specs.declared.sink.Stop.TheVariants.{At}
+use Rattle.b2_atom.specs.declared.output.Stop.{Stop}
+use Rattle.b2_atom.specs.declared.output.Stop.TheVariants.{At}
 use Rattle.b2_atom.proofs.Booleans.{and_left, and_right, equal, both, or_one, or_other}
 use Rattle.b2_atom.proofs.typed.Longest.{every}
 use Rattle.b2_atom.proofs.reading.Fitted.{no_remark, Good, Leads, tokens_also, append_remarks, calm_row, calm_part, calm_level, calm_deep, calm_item_good, calm_item, skipped_short, ahead_less, nothing_left, drop_short, same_code, le_both}

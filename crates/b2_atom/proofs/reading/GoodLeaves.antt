@@ -15,8 +15,8 @@ use Rattle.b2_atom.specs.declared.words.Origin.{Origin}
 use Rattle.b2_atom.specs.declared.words.Origin.TheVariants.{Program, Immediate, Atoms}
 use Rattle.b2_atom.specs.declared.forms.Leaf.{Leaf}
 use Rattle.b2_atom.specs.declared.forms.Leaf.TheVariants as leaf
-use Rattle.b2_atom.specs.declared.sink.Stop.{Stop}
-use Rattle.b2_atom.specs.declared.sink.Stop.TheVariants.{At}
+use Rattle.b2_atom.specs.declared.output.Stop.{Stop}
+use Rattle.b2_atom.specs.declared.output.Stop.TheVariants.{At}
 use Rattle.b2_atom.proofs.Booleans.{and_right, false_true, both}
 use Rattle.b2_atom.proofs.typed.WordsRead.{typed_end}
 use Rattle.b2_atom.proofs.typed.Widths.{get_none, digits_most, if_most}

@@ -17,7 +17,7 @@ use Rattle.b2_atom.specs.declared.forms.Leaf.TheVariants as leaf
 use Rattle.b2_atom.specs.declared.forms.Position.{Position}
 use Rattle.b2_atom.specs.declared.forms.Item.{Item}
 use Rattle.b2_atom.specs.declared.forms.Item.TheVariants.{Word, Sign, Among, ProgramWord, Ignored, Comma, LeftOut, End, Typed, Part, Maybe, Either, Many, Nest, Statement}
-use Rattle.b2_atom.specs.declared.sink.Stop.{Stop}
+use Rattle.b2_atom.specs.declared.output.Stop.{Stop}
 use Rattle.b2_atom.proofs.Booleans.{either_way, and_left, and_right, not_true}
 use Rattle.b2_atom.proofs.settled.Fronts.{some, Front, fronts, Known, of_item, of_items, of, refuse, settled_item, is_free_row, leading, is_last, covered, statement_heads}
 use Rattle.b2_atom.proofs.settled.Fronts.Front.{None, Spanned}

@@ -12,8 +12,8 @@ use Rattle.b2_atom.specs.Leaves.{refused, leaf_width}
 use Rattle.b2_atom.specs.Grammar.{reader, read_item, items, item, level, deep, statement, statement_within, many, row_items, rows_of, row_place, starts, read_line, chosen, statement_row, row_at, from, mark, among, program_word, ignored, optional_comma, end_of_line, end_at, read_leaf, leaf_at, plain_of, atoms_line_number, text_to_end}
 use Rattle.b2_atom.specs.declared.words.Origin.{Origin}
 use Rattle.b2_atom.specs.declared.words.Origin.TheVariants.{Atoms}
-use Rattle.b2_atom.specs.declared.sink.Stop.{Stop}
-use Rattle.b2_atom.specs.declared.sink.Stop.TheVariants.{At}
+use Rattle.b2_atom.specs.declared.output.Stop.{Stop}
+use Rattle.b2_atom.specs.declared.output.Stop.TheVariants.{At}
 use Rattle.b2_atom.specs.declared.forms.Leaf.{Leaf}
 use Rattle.b2_atom.specs.declared.forms.Leaf.TheVariants as leaf
 use Rattle.b2_atom.specs.declared.forms.Start.{Start}

@@ -23,8 +23,8 @@ use Rattle.b2_atom.specs.declared.forms.Position.{Position}
 use Rattle.b2_atom.specs.declared.forms.Form.{Form}
 use Rattle.b2_atom.specs.declared.forms.Item.{Item}
 use Rattle.b2_atom.specs.declared.forms.Item.TheVariants.{Word, Sign, Among}
-use Rattle.b2_atom.specs.declared.sink.Stop.{Stop}
-use Rattle.b2_atom.specs.declared.sink.Stop.TheVariants.{At}
+use Rattle.b2_atom.specs.declared.output.Stop.{Stop}
+use Rattle.b2_atom.specs.declared.output.Stop.TheVariants.{At}
 use Rattle.b2_atom.proofs.Booleans.{and_left, and_right, or_one, or_other, or_false, or_cases, never, not_true, equal, span_of, either_way}
 use Rattle.b2_atom.proofs.settled.Fronts.{every, some, Front, fronts, spans, sure, is_spanned, pair_surely, variable_spans, lacks, choose, closing_heads, seconds, marked_choice, chosen_row, when, of_item, of_items, of, statement_heads, is_mark_item, leading}
 use Rattle.b2_atom.proofs.settled.Fronts.Front.{Any, Spanned}

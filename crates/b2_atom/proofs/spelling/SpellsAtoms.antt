@@ -11,7 +11,7 @@ use Rattle.b2_atom.specs.declared.words.Origin.{Origin}
 use Rattle.b2_atom.specs.declared.words.Origin.TheVariants.{Atoms}
 use Rattle.b2_atom.specs.declared.forms.Leaf.{Leaf}
 use Rattle.b2_atom.specs.declared.forms.Leaf.TheVariants as leaf
-use Rattle.b2_atom.specs.declared.sink.Stop.TheVariants.{At}
+use Rattle.b2_atom.specs.declared.output.Stop.TheVariants.{At}
 use Rattle.b2_atom.proofs.Booleans.{and_left, and_right, false_true}
 use Rattle.b2_atom.proofs.spelling.Begun.{begins_plain, begins_coded, begins_lined}
 use Rattle.b2_atom.proofs.spelling.SideBySide.{Showing, FirstOf, coded_first, plain_first, text_first, later, whole_width, not_empty, is_text, leaf_ends}

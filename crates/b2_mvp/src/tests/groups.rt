@@ -302,7 +302,7 @@ fn a_log_is_checked_against_all_partitions(rt: HostRuntime) -> Result<(), Fail> 
         let mut shelf = shelf(alloc, Some(BOOT_2), Some(log), &[])?;
         let mut sink = MemSink::new(alloc, Vec::new(alloc));
         let status = mvp(alloc, &alone_words(alloc, b"1")?, &mut shelf, &mut sink);
-        assert_eq!(rt; status.line().bytes(), line);
+        assert_eq!(rt; status.message().bytes(), line);
     }
     Ok(())
 }

@@ -147,7 +147,7 @@ fn bad_boots_write_nothing(rt: HostRuntime) -> Result<(), Fail> {
         let mut sink = MemSink::new(alloc, Vec::new(alloc));
         let status = mvp(alloc, &words, &mut shelf, &mut sink);
         assert_eq!(rt; status.number(), 4);
-        assert_eq!(rt; status.line().bytes(), *line);
+        assert_eq!(rt; status.message().bytes(), *line);
         assert!(rt; shelf.file(b"out.t01").is_none() && sink.written().is_empty());
     }
     Ok(())
@@ -162,7 +162,7 @@ fn bad_logs_write_nothing(rt: HostRuntime) -> Result<(), Fail> {
         let mut sink = MemSink::new(alloc, Vec::new(alloc));
         let status = mvp(alloc, &words, &mut shelf, &mut sink);
         assert_eq!(rt; status.number(), 5);
-        assert_eq!(rt; status.line().bytes(), *line);
+        assert_eq!(rt; status.message().bytes(), *line);
         assert!(rt; shelf.file(b"out.t01").is_none() && sink.written().is_empty());
     }
     Ok(())
@@ -176,7 +176,7 @@ fn near_misses_are_usage(rt: HostRuntime) -> Result<(), Fail> {
         let mut sink = MemSink::new(alloc, Vec::new(alloc));
         let status = mvp(alloc, &words(alloc, texts)?, &mut shelf, &mut sink);
         assert_eq!(rt; status.number(), 1);
-        assert_eq!(rt; status.line().bytes(), b"usage".as_slice());
+        assert_eq!(rt; status.message().bytes(), b"usage".as_slice());
         assert!(rt; shelf.file(b"out.t01").is_none() && sink.written().is_empty());
     }
     Ok(())
@@ -279,7 +279,7 @@ fn failing_calls_have_their_status(rt: HostRuntime) -> Result<(), Fail> {
         let mut sink = MemSink::new(alloc, vec![in alloc; row.sink]?);
         let status = mvp(alloc, &words, &mut shelf, &mut sink);
         assert_eq!(rt; status.number(), row.number);
-        assert_eq!(rt; status.line().bytes(), row.line);
+        assert_eq!(rt; status.message().bytes(), row.line);
         assert_eq!(rt; shelf.file(b"out.t01"), row.first);
         assert_eq!(rt; shelf.file(b"out.t02"), row.second);
         assert_eq!(rt; sink.written().is_empty(), row.number != 0);
@@ -306,7 +306,7 @@ fn the_first_refusal_is_the_answer(rt: HostRuntime) -> Result<(), Fail> {
         let mut sink = MemSink::new(alloc, Vec::new(alloc));
         let status = mvp(alloc, &words, &mut shelf, &mut sink);
         assert_eq!(rt; status.number(), number);
-        assert_eq!(rt; status.line().bytes(), line);
+        assert_eq!(rt; status.message().bytes(), line);
     }
     Ok(())
 }
@@ -332,7 +332,7 @@ fn inputs_of_the_limit_and_one_byte_more(rt: HostRuntime) -> Result<(), Fail> {
         let mut sink = MemSink::new(alloc, Vec::new(alloc));
         let status = mvp(alloc, &words, &mut shelf, &mut sink);
         assert_eq!(rt; status.number(), number);
-        assert_eq!(rt; status.line().bytes(), line);
+        assert_eq!(rt; status.message().bytes(), line);
         assert_eq!(rt; sink.written().is_empty(), number != 0);
     }
     Ok(())

@@ -218,7 +218,7 @@ fn runs_write_a_transcript_and_a_summary(rt: HostRuntime) -> Result<(), Fail> {
         let mut sink = MemSink::new(alloc, Vec::new(alloc));
         let status = mvp(alloc, &words, &mut shelf, &mut sink);
         assert_eq!(rt; status.number(), 0);
-        assert!(rt; status.line().bytes().is_empty());
+        assert!(rt; status.message().bytes().is_empty());
         assert_eq!(rt; shelf.file(b"out.t01").unwrap_or(b"none"), row.transcript);
         assert_eq!(rt; sink.written(), row.summary);
     }

@@ -70,37 +70,25 @@ fn two_partitions(alloc: Global) -> Result<Stores, Fail> {
     Ok(Stores::new(alloc, &b)?)
 }
 
-/// The terminal of a number.
-fn term(n: u8) -> Result<Term, Fail> {
-    match Term::of(n) {
-        Some(term) => Ok(term),
-        None => Err(Fail::new("no terminal")),
-    }
-}
-
-/// The partition of a number.
-fn part(n: u8) -> Result<Part, Fail> {
-    match Part::of(n) {
-        Some(part) => Ok(part),
-        None => Err(Fail::new("no partition")),
-    }
-}
-
 /// The access that is asked.
 fn access_of(alloc: Global, ask: &Ask) -> Result<Access, Fail>
     ensures { IfOk result IsLegal }
 {
     Ok(match ask {
         Ask::Show(n, bytes) => Access::Show {
-            term: term(*n)?,
+            term: Term::of(*n).ok_or("no terminal")?,
             bytes: ByteList::from_slice(alloc, bytes)?,
         },
-        Ask::ReadLine(n) => Access::ReadLine { term: term(*n)? },
+        Ask::ReadLine(n) => Access::ReadLine {
+            term: Term::of(*n).ok_or("no terminal")?,
+        },
         Ask::Insert(n, bytes) => Access::Insert {
-            term: term(*n)?,
+            term: Term::of(*n).ok_or("no terminal")?,
             bytes: ByteList::from_slice(alloc, bytes)?,
         },
-        Ask::Key(n) => Access::Key { term: term(*n)? },
+        Ask::Key(n) => Access::Key {
+            term: Term::of(*n).ok_or("no terminal")?,
+        },
         Ask::PutLine(line, bytes) => Access::PutLine {
             line: (*line).min(9999),
             atoms: Atoms::of(alloc, bytes)?,
@@ -160,21 +148,28 @@ fn is_answered<S: Shared>(
     expected: &Expected,
 ) -> Result<bool, Fail> {
     let access = access_of(alloc, ask)?;
-    let answer = stores.serve(part(who)?, &access)?;
+    let answer = stores.serve(Part::of(who).ok_or("no partition")?, &access)?;
     Ok(is_expected(&answer, expected))
 }
 
 /// Does a step, and says whether it came out as expected.
 fn comes_out(alloc: Global, stores: &mut Stores, step: &Step) -> Result<bool, Fail> {
     match step {
-        Step::Press(n, key, room) => Ok(stores.key(term(*n)?, *key) == *room),
+        Step::Press(n, key, room) => Ok(
+            stores.key(Term::of(*n).ok_or("no terminal")?, *key) == *room,
+        ),
         Step::Front(n, p) => {
-            stores.set_front(term(*n)?, part(*p)?);
+            stores.set_front(
+                Term::of(*n).ok_or("no terminal")?,
+                Part::of(*p).ok_or("no partition")?,
+            );
             Ok(true)
         }
         Step::Asks(who, ask, expected) => is_answered(alloc, stores, *who, ask, expected),
-        Step::Shown(n, bytes) => Ok(has_shown(stores, term(*n)?, bytes)),
-        Step::First(who, line) => Ok(first_line(stores, part(*who)?) == *line),
+        Step::Shown(n, bytes) => Ok(has_shown(stores, Term::of(*n).ok_or("no terminal")?, bytes)),
+        Step::First(who, line) => Ok(
+            first_line(stores, Part::of(*who).ok_or("no partition")?) == *line,
+        ),
     }
 }
 

@@ -1,5 +1,5 @@
 use Rattle.std.proofs.Common.{rules, arith, sym, ap, ◌∙◌, ◌≡◌, ◌<◌, true, false}
-use Rattle.b2_atom.specs.Tree.{seen_sink, emitted}
+use Rattle.b2_atom.specs.Tree.{seen_output, emitted}
 use Rattle.b2_atom.specs.declared.forms.Item.{Item}
 use Rattle.std.proofs.lemmas.Grind.{common_steps}
 use Rattle.b2_atom.specs.Grammar.{starts, item, item_of_part, level, deep, statement_within, read_item}
@@ -82,15 +82,15 @@ take_item-returns-in-Statement t c = first_of (search rules, grind (arith, commo
 pub take_item-returns-else-room-eq0 : goal.take_item-returns-else-room-eq0
 take_item-returns-else-room-eq0 t c =
     let some : 0 < c.args.room = omega arith in
-    takes_same (seen_sink c.args.out.now) (seen_sink c.part-in-Nest.new.out) _ _ c.part-in-Nest.result
-    (nest_more c.args.origin c.args.fuel c.args.room c.args.level c.in-Nest.row (seen_sink c.args.out.now) c.args.text.now some
-    ∙ ap (λ (i : Item). emitted (seen_sink c.args.out.now) (item_of_part c.args.origin c.args.fuel c.args.room c.args.level i c.args.text.now)) (sym c.in-Nest.is)) c.part-in-Nest.ensures
+    takes_same (seen_output c.args.out.now) (seen_output c.part-in-Nest.new.out) _ _ c.part-in-Nest.result
+    (nest_more c.args.origin c.args.fuel c.args.room c.args.level c.in-Nest.row (seen_output c.args.out.now) c.args.text.now some
+    ∙ ap (λ (i : Item). emitted (seen_output c.args.out.now) (item_of_part c.args.origin c.args.fuel c.args.room c.args.level i c.args.text.now)) (sym c.in-Nest.is)) c.part-in-Nest.ensures
 
 pub statement-returns-in-Ok : goal.statement-returns-in-Ok
 statement-returns-in-Ok t c =
     let some : 0 < c.args.fuel = omega arith in
-    takes_same (seen_sink c.args.out.now) (seen_sink c.part.new.out) _ _ c.part.result
-    (statement_ok c.args.origin c.args.fuel c.args.place (seen_sink c.args.out.now) c.args.text.now c.in-Ok.here.now c.in-Ok.row some c.in-Ok.ensures.row) c.part.ensures
+    takes_same (seen_output c.args.out.now) (seen_output c.part.new.out) _ _ c.part.result
+    (statement_ok c.args.origin c.args.fuel c.args.place (seen_output c.args.out.now) c.args.text.now c.in-Ok.here.now c.in-Ok.row some c.in-Ok.ensures.row) c.part.ensures
 
 pub statement-returns-in-Err : goal.statement-returns-in-Err
 unfolding statement_within
@@ -100,4 +100,4 @@ pub take_item-returns-in-Word : goal.take_item-returns-in-Word
 unfolding item
 take_item-returns-in-Word t c =
     let own : item_of_part c.args.origin c.args.fuel c.args.room c.args.level c.args.item c.args.text.now ≡ read_item c.args.origin c.args.item c.args.text.now = grind (arith, common_steps, c.in-Word.is) in
-    takes_same (seen_sink c.args.out.now) (seen_sink c.read_item.new.out) _ _ c.read_item.result (ap (emitted (seen_sink c.args.out.now)) (sym own)) c.read_item.ensures
+    takes_same (seen_output c.args.out.now) (seen_output c.read_item.new.out) _ _ c.read_item.result (ap (emitted (seen_output c.args.out.now)) (sym own)) c.read_item.ensures

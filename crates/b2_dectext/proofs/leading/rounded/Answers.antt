@@ -18,14 +18,14 @@ returns-then-high-low-2 c n more tens h e =
     ap Err c.known-then-high-low-2.ensures ∙ sym (rnd-large c.args.neg _ _ (written-some n c.args.digits more tens c.if-digits-eq0.false h)
     (too_high n c.args.digits more tens c.args.low c.args.high h c.if-digits-eq0.false e c.if-high-low-2.true))
 
-pub returns-then-digits-lt-ABOVE : goal.returns-then-digits-lt-ABOVE
-returns-then-digits-lt-ABOVE c n more tens h e =
+pub returns-then-digits-lt-COEFFICIENT_LIMIT : goal.returns-then-digits-lt-COEFFICIENT_LIMIT
+returns-then-digits-lt-COEFFICIENT_LIMIT c n more tens h e =
     let place : c.args.high - c.args.low + c.args.low ≡ 222 + (more + tens) = omega arith in
     c.round_exact.ensures (n * 10 ^ tens) (10 ^ c.args.low) (ten_pos c.args.low)
-    (written-exact n c.args.digits more tens (c.args.high - c.args.low) c.args.low h c.if-digits-lt-ABOVE.true place)
+    (written-exact n c.args.digits more tens (c.args.high - c.args.low) c.args.low h c.if-digits-lt-COEFFICIENT_LIMIT.true place)
 
-pub returns-else-digits-lt-ABOVE : goal.returns-else-digits-lt-ABOVE
-returns-else-digits-lt-ABOVE c n more tens h e =
+pub returns-else-digits-lt-COEFFICIENT_LIMIT : goal.returns-else-digits-lt-COEFFICIENT_LIMIT
+returns-else-digits-lt-COEFFICIENT_LIMIT c n more tens h e =
     let place : c.args.high - c.args.low + c.args.low ≡ 222 + (more + tens) = omega arith in
     c.round_whole_part.ensures (n * 10 ^ tens) (10 ^ c.args.low) (ten_pos c.args.low)
     (written-part n c.args.digits more tens (c.args.high - c.args.low) c.args.low h place)

@@ -23,15 +23,15 @@ use Rattle.b2_expr.proofs.evaluate.+values.Goals as goal
 
 pub alpha_variable-returns-in-Ok-join_text : goal.alpha_variable-returns-in-Ok-join_text
 alpha_variable-returns-in-Ok-join_text t c = (
-  text_there (context c.args.s.now) (tree_at row.ALPHA_VARIABLE c.args.text.now) (place_seen c.in-Ok.found.0) c.in-Ok-bytes.bytes.now c.front.result.now c.args.into.now c.value_len.result
-      c.in-Ok.ensures.place.0 c.in-Ok-bytes.ensures.value c.value_len.ensures.value c.front.ensures ∙ c.in-Ok-join_text.ensures,
+  text_there (context c.args.s.now) (tree_at row.ALPHA_VARIABLE c.args.text.now) (place_seen c.in-Ok.found.0) c.in-Ok-bytes.bytes.now c.first_bytes.result.now c.args.into.now c.value_len.result
+      c.in-Ok.ensures.place.0 c.in-Ok-bytes.ensures.value c.value_len.ensures.value c.first_bytes.ensures ∙ c.in-Ok-join_text.ensures,
   c.in-Ok.ensures.place.1,
 )
 
 pub alpha_variable-returns-in-Err-join_text : goal.alpha_variable-returns-in-Err-join_text
 alpha_variable-returns-in-Err-join_text t c =
-    text_there (context c.args.s.now) (tree_at row.ALPHA_VARIABLE c.args.text.now) (place_seen c.in-Ok.found.0) c.in-Ok-bytes.bytes.now c.front.result.now c.args.into.now c.value_len.result
-    c.in-Ok.ensures.place.0 c.in-Ok-bytes.ensures.value c.value_len.ensures.value c.front.ensures ∙ c.in-Err-join_text.ensures
+    text_there (context c.args.s.now) (tree_at row.ALPHA_VARIABLE c.args.text.now) (place_seen c.in-Ok.found.0) c.in-Ok-bytes.bytes.now c.first_bytes.result.now c.args.into.now c.value_len.result
+    c.in-Ok.ensures.place.0 c.in-Ok-bytes.ensures.value c.value_len.ensures.value c.first_bytes.ensures ∙ c.in-Err-join_text.ensures
 
 pub located-returns-clause-name : goal.located-returns-clause-name
 located-returns-clause-name t c = (
@@ -41,8 +41,8 @@ located-returns-clause-name t c = (
 
 pub call-climb-requires : goal.call-climb-requires
 call-climb-requires t c = (
-  let few = length_after c.in-Some.unit.now c.dropped-named.result.now c.dropped-body.result.now _ c.dropped-named.ensures c.dropped-body.ensures c.in-Some.ensures.short in omega (arith, few, c.decreases, c.if-s-eq0.false),
-  subst (λ (u : Text). is_part row.SUM u ≡ true) (sym (c.dropped-body.ensures ∙ body_is c.in-Some.unit.now c.dropped-named.result.now c.numeric_name-width.result.1 c.dropped-named.ensures c.numeric_name-width.ensures.width))
+  let few = length_after c.in-Some.unit.now c.rest_after-named.result.now c.rest_after-body.result.now _ c.rest_after-named.ensures c.rest_after-body.ensures c.in-Some.ensures.short in omega (arith, few, c.decreases, c.if-s-eq0.false),
+  subst (λ (u : Text). is_part row.SUM u ≡ true) (sym (c.rest_after-body.ensures ∙ body_is c.in-Some.unit.now c.rest_after-named.result.now c.numeric_name-width.result.1 c.rest_after-named.ensures c.numeric_name-width.ensures.width))
       (body_part c.args.name c.in-Some.unit.now c.in-Some.ensures.part c.requires.named c.in-Some.ensures.found),
 )
 
@@ -55,26 +55,26 @@ further_numbers-returns-then-not-is_at t c = (
 
 pub further_numbers-climb-requires : goal.further_numbers-climb-requires
 further_numbers-climb-requires t c = (
-  let shorter = further.step_shorter c.loop.left.now c.dropped.result.now (sym c.if-not-is_at.ensures) c.dropped.ensures in let left = c.loop.invariant.shorter in omega (arith, shorter, left, c.decreases),
-  further.step_part (7 - c.loop.counter) (7 - (c.loop.counter + 1)) c.loop.left.now c.dropped.result.now c.loop.invariant.part (let less = c.loop-test.true in omega (arith, less)) (sym c.if-not-is_at.ensures) c.dropped.ensures,
+  let shorter = further.step_shorter c.loop.left.now c.rest_after.result.now (sym c.if-not-is_at.ensures) c.rest_after.ensures in let left = c.loop.invariant.shorter in omega (arith, shorter, left, c.decreases),
+  further.step_part (7 - c.loop.counter) (7 - (c.loop.counter + 1)) c.loop.left.now c.rest_after.result.now c.loop.invariant.part (let less = c.loop-test.true in omega (arith, less)) (sym c.if-not-is_at.ensures) c.rest_after.ensures,
 )
 
 pub further_numbers-returns-in-Err : goal.further_numbers-returns-in-Err
 further_numbers-returns-in-Err t c =
     sym c.loop.invariant.value
-    ∙ further.step_value (context c.args.s.now) c.args.word c.loop.number (7 - c.loop.counter) (7 - (c.loop.counter + 1)) c.loop.left.now c.dropped.result.now (Err c.in-Err.code) (let less = c.loop-test.true in omega (arith, less)) (sym c.if-not-is_at.ensures) c.dropped.ensures c.in-Err.ensures
-    ∙ further.refused (context c.args.s.now) c.args.word c.in-Err.code (further_tree (7 - (c.loop.counter + 1)) (after_part row.SUM c.dropped.result.now))
+    ∙ further.step_value (context c.args.s.now) c.args.word c.loop.number (7 - c.loop.counter) (7 - (c.loop.counter + 1)) c.loop.left.now c.rest_after.result.now (Err c.in-Err.code) (let less = c.loop-test.true in omega (arith, less)) (sym c.if-not-is_at.ensures) c.rest_after.ensures c.in-Err.ensures
+    ∙ further.refused (context c.args.s.now) c.args.word c.in-Err.code (further_tree (7 - (c.loop.counter + 1)) (after_part row.SUM c.rest_after.result.now))
 
 pub further_numbers-loop-preserved : goal.further_numbers-loop-preserved
 further_numbers-loop-preserved t c =
     record {
-      part = further.step_further (7 - c.loop.counter) (7 - (c.loop.counter + 1)) c.loop.left.now c.dropped.result.now c.in-Ok.found.1.now c.loop.invariant.part (let less = c.loop-test.true in omega (arith, less)) (sym c.if-not-is_at.ensures) c.dropped.ensures c.in-Ok.ensures.1;
+      part = further.step_further (7 - c.loop.counter) (7 - (c.loop.counter + 1)) c.loop.left.now c.rest_after.result.now c.in-Ok.found.1.now c.loop.invariant.part (let less = c.loop-test.true in omega (arith, less)) (sym c.if-not-is_at.ensures) c.rest_after.ensures c.in-Ok.ensures.1;
       value = ap (λ (u : Text). extremes (context c.args.s.now) c.args.word (Ok c.extreme-number.result) (further_tree (7 - (c.loop.counter + 1)) u)) c.in-Ok.ensures.1
-          ∙ ap (λ (x : Number). extremes (context c.args.s.now) c.args.word (Ok x) (further_tree (7 - (c.loop.counter + 1)) (after_part row.SUM c.dropped.result.now))) c.extreme-number.ensures
-          ∙ sym (further.step_value (context c.args.s.now) c.args.word c.loop.number (7 - c.loop.counter) (7 - (c.loop.counter + 1)) c.loop.left.now c.dropped.result.now (Ok c.in-Ok.found.0) (let less = c.loop-test.true in omega (arith, less)) (sym c.if-not-is_at.ensures) c.dropped.ensures c.in-Ok.ensures.0)
+          ∙ ap (λ (x : Number). extremes (context c.args.s.now) c.args.word (Ok x) (further_tree (7 - (c.loop.counter + 1)) (after_part row.SUM c.rest_after.result.now))) c.extreme-number.ensures
+          ∙ sym (further.step_value (context c.args.s.now) c.args.word c.loop.number (7 - c.loop.counter) (7 - (c.loop.counter + 1)) c.loop.left.now c.rest_after.result.now (Ok c.in-Ok.found.0) (let less = c.loop-test.true in omega (arith, less)) (sym c.if-not-is_at.ensures) c.rest_after.ensures c.in-Ok.ensures.0)
           ∙ c.loop.invariant.value;
-      rest = further.step_rest (7 - c.loop.counter) (7 - (c.loop.counter + 1)) c.loop.left.now c.dropped.result.now c.in-Ok.found.1.now (let less = c.loop-test.true in omega (arith, less)) (sym c.if-not-is_at.ensures) c.dropped.ensures c.in-Ok.ensures.1 ∙ c.loop.invariant.rest;
-      shorter = (let a = further.step_shorter c.loop.left.now c.dropped.result.now (sym c.if-not-is_at.ensures) c.dropped.ensures in let b = further.part_after c.dropped.result.now c.in-Ok.found.1.now c.in-Ok.ensures.1 in let d = c.loop.invariant.shorter in omega (arith, a, b, d));
+      rest = further.step_rest (7 - c.loop.counter) (7 - (c.loop.counter + 1)) c.loop.left.now c.rest_after.result.now c.in-Ok.found.1.now (let less = c.loop-test.true in omega (arith, less)) (sym c.if-not-is_at.ensures) c.rest_after.ensures c.in-Ok.ensures.1 ∙ c.loop.invariant.rest;
+      shorter = (let a = further.step_shorter c.loop.left.now c.rest_after.result.now (sym c.if-not-is_at.ensures) c.rest_after.ensures in let b = further.part_after c.rest_after.result.now c.in-Ok.found.1.now c.in-Ok.ensures.1 in let d = c.loop.invariant.shorter in omega (arith, a, b, d));
     }
 
 pub further_numbers-returns : goal.further_numbers-returns
@@ -92,9 +92,9 @@ climb-push-requires t c = (
 
 pub climb-first_operand-requires-in-Some : goal.climb-first_operand-requires-in-Some
 climb-first_operand-requires-in-Some t c = (
-  let a = waiting_shorter c.loop-level.reading c.loop-level.top c.in-Some.level c.loop-level.left.now c.dropped.result.now c.loop-level.invariant.lists (c.in-Some.ensures ∙ ap (pick (spans c.loop-level.reading c.loop-level.top)) c.first-operator.ensures) c.dropped.ensures in let d = c.loop-level.invariant.shorter in omega (arith, a, d, c.decreases),
+  let a = waiting_shorter c.loop-level.reading c.loop-level.top c.in-Some.level c.loop-level.left.now c.rest_after.result.now c.loop-level.invariant.lists (c.in-Some.ensures ∙ ap (pick (spans c.loop-level.reading c.loop-level.top)) c.first-operator.ensures) c.rest_after.ensures in let d = c.loop-level.invariant.shorter in omega (arith, a, d, c.decreases),
   (
-    waiting_part c.loop-level.reading c.loop-level.top c.in-Some.level c.item_level.result c.loop-level.left.now c.dropped.result.now c.loop-level.invariant.lists (c.in-Some.ensures ∙ ap (pick (spans c.loop-level.reading c.loop-level.top)) c.first-operator.ensures) c.item_level.ensures c.dropped.ensures,
+    waiting_part c.loop-level.reading c.loop-level.top c.in-Some.level c.item_level.result c.loop-level.left.now c.rest_after.result.now c.loop-level.invariant.lists (c.in-Some.ensures ∙ ap (pick (spans c.loop-level.reading c.loop-level.top)) c.first-operator.ensures) c.item_level.ensures c.rest_after.ensures,
     subst (λ (ps : List Waiting). have_room 0 ps c.item_level.result ≡ true) (sym c.push.ensures.items)
         (waiting_fit c.loop-level.waiting.items c.loop-level.reading c.loop-level.top c.in-Some.level c.item_level.result c.loop-level.number c.first-operator.result c.loop-level.left.now c.loop-level.invariant.room (c.in-Some.ensures ∙ ap (pick (spans c.loop-level.reading c.loop-level.top)) c.first-operator.ensures) c.item_level.ensures),
   ),
@@ -103,36 +103,36 @@ climb-first_operand-requires-in-Some t c = (
 pub climb-returns-in-Err-first_operand : goal.climb-returns-in-Err-first_operand
 climb-returns-in-Err-first_operand t c =
     sym c.loop-level.invariant.value
-    ∙ waiting_refused (context c.args.s.now) c.loop-level.waiting.items c.loop-level.reading c.loop-level.top c.in-Some.level c.item_level.result c.loop-level.number c.first-operator.result c.loop-level.left.now c.dropped.result.now c.in-Err-first_operand.code c.loop-level.invariant.lists (c.in-Some.ensures ∙ ap (pick (spans c.loop-level.reading c.loop-level.top)) c.first-operator.ensures) c.item_level.ensures c.dropped.ensures c.first-operator.ensures c.in-Err-first_operand.ensures.value
+    ∙ waiting_refused (context c.args.s.now) c.loop-level.waiting.items c.loop-level.reading c.loop-level.top c.in-Some.level c.item_level.result c.loop-level.number c.first-operator.result c.loop-level.left.now c.rest_after.result.now c.in-Err-first_operand.code c.loop-level.invariant.lists (c.in-Some.ensures ∙ ap (pick (spans c.loop-level.reading c.loop-level.top)) c.first-operator.ensures) c.item_level.ensures c.rest_after.ensures c.first-operator.ensures c.in-Err-first_operand.ensures.value
 
 pub climb-loop-level-smaller-in-Some : goal.climb-loop-level-smaller-in-Some
 climb-loop-level-smaller-in-Some t c =
-    let a = waiting_shorter c.loop-level.reading c.loop-level.top c.in-Some.level c.loop-level.left.now c.dropped.result.now c.loop-level.invariant.lists (c.in-Some.ensures ∙ ap (pick (spans c.loop-level.reading c.loop-level.top)) c.first-operator.ensures) c.dropped.ensures in
+    let a = waiting_shorter c.loop-level.reading c.loop-level.top c.in-Some.level c.loop-level.left.now c.rest_after.result.now c.loop-level.invariant.lists (c.in-Some.ensures ∙ ap (pick (spans c.loop-level.reading c.loop-level.top)) c.first-operator.ensures) c.rest_after.ensures in
     let b = c.in-Ok-first_operand.ensures.shorter in
-    let d = one_more_sign c.push.new.self.items c.first_operand-in-Some.new.waiting.items c.item_level.result c.dropped.result.now c.in-Ok-first_operand.ensures.items in
+    let d = one_more_sign c.push.new.self.items c.first_operand-in-Some.new.waiting.items c.item_level.result c.rest_after.result.now c.in-Ok-first_operand.ensures.items in
     let e = c.push.ensures.len in
     omega (arith, a, b, d, e)
 
 pub climb-loop-level-preserved-in-Some : goal.climb-loop-level-preserved-in-Some
 climb-loop-level-preserved-in-Some t c =
-    let items : c.first_operand-in-Some.new.waiting.items ≡ (c.loop-level.waiting.items ++ waits_for c.loop-level.reading c.in-Some.level c.loop-level.number c.first-operator.result ∷ []) ++ (waiting_sign c.item_level.result c.dropped.result.now) = c.in-Ok-first_operand.ensures.items ∙ ap (λ (ps : List Waiting). ps ++ (waiting_sign c.item_level.result c.dropped.result.now)) c.push.ensures.items in
+    let items : c.first_operand-in-Some.new.waiting.items ≡ (c.loop-level.waiting.items ++ waits_for c.loop-level.reading c.in-Some.level c.loop-level.number c.first-operator.result ∷ []) ++ (waiting_sign c.item_level.result c.rest_after.result.now) = c.in-Ok-first_operand.ensures.items ∙ ap (λ (ps : List Waiting). ps ++ (waiting_sign c.item_level.result c.rest_after.result.now)) c.push.ensures.items in
     record {
       lists = c.in-Ok-first_operand.ensures.lists;
       stand = subst (λ (ps : List Waiting). lists_stand ps (left_after_levels (spans c.in-Ok-first_operand.found.1 level.Power) c.in-Ok-first_operand.found.2.now) ≡ true) (sym items)
-          (read_stand (c.loop-level.waiting.items ++ waits_for c.loop-level.reading c.in-Some.level c.loop-level.number c.first-operator.result ∷ []) (waiting_sign c.item_level.result c.dropped.result.now) c.item_level.result c.in-Ok-first_operand.found.1 c.dropped.result.now c.in-Ok-first_operand.found.2.now c.in-Ok-first_operand.ensures.rest c.in-Ok-first_operand.ensures.stand
-          (waiting_stand c.loop-level.waiting.items c.loop-level.reading c.loop-level.top c.in-Some.level c.item_level.result c.loop-level.number c.first-operator.result c.loop-level.left.now c.dropped.result.now c.loop-level.invariant.lists (c.in-Some.ensures ∙ ap (pick (spans c.loop-level.reading c.loop-level.top)) c.first-operator.ensures) c.item_level.ensures c.dropped.ensures c.loop-level.invariant.stand));
+          (read_stand (c.loop-level.waiting.items ++ waits_for c.loop-level.reading c.in-Some.level c.loop-level.number c.first-operator.result ∷ []) (waiting_sign c.item_level.result c.rest_after.result.now) c.item_level.result c.in-Ok-first_operand.found.1 c.rest_after.result.now c.in-Ok-first_operand.found.2.now c.in-Ok-first_operand.ensures.rest c.in-Ok-first_operand.ensures.stand
+          (waiting_stand c.loop-level.waiting.items c.loop-level.reading c.loop-level.top c.in-Some.level c.item_level.result c.loop-level.number c.first-operator.result c.loop-level.left.now c.rest_after.result.now c.loop-level.invariant.lists (c.in-Some.ensures ∙ ap (pick (spans c.loop-level.reading c.loop-level.top)) c.first-operator.ensures) c.item_level.ensures c.rest_after.ensures c.loop-level.invariant.stand));
       room = subst (λ (ps : List Waiting). have_room 0 ps c.in-Ok-first_operand.found.1 ≡ true) (sym items)
-          (read_fit (c.loop-level.waiting.items ++ waits_for c.loop-level.reading c.in-Some.level c.loop-level.number c.first-operator.result ∷ []) c.item_level.result c.in-Ok-first_operand.found.1 c.dropped.result.now c.in-Ok-first_operand.ensures.level
+          (read_fit (c.loop-level.waiting.items ++ waits_for c.loop-level.reading c.in-Some.level c.loop-level.number c.first-operator.result ∷ []) c.item_level.result c.in-Ok-first_operand.found.1 c.rest_after.result.now c.in-Ok-first_operand.ensures.level
           (waiting_fit c.loop-level.waiting.items c.loop-level.reading c.loop-level.top c.in-Some.level c.item_level.result c.loop-level.number c.first-operator.result c.loop-level.left.now c.loop-level.invariant.room (c.in-Some.ensures ∙ ap (pick (spans c.loop-level.reading c.loop-level.top)) c.first-operator.ensures) c.item_level.ensures));
       value = ap (λ (ps : List Waiting). all_completed (context c.args.s.now) ps (ends (context c.args.s.now) (spans c.in-Ok-first_operand.found.1 level.Power) (Ok c.in-Ok-first_operand.found.0) c.in-Ok-first_operand.found.2.now) (left_after_levels (spans c.in-Ok-first_operand.found.1 level.Power) c.in-Ok-first_operand.found.2.now)) items
-          ∙ read_value (context c.args.s.now) (c.loop-level.waiting.items ++ waits_for c.loop-level.reading c.in-Some.level c.loop-level.number c.first-operator.result ∷ []) (waiting_sign c.item_level.result c.dropped.result.now) c.item_level.result c.in-Ok-first_operand.found.1 c.in-Ok-first_operand.found.0 c.dropped.result.now c.in-Ok-first_operand.found.2.now c.in-Ok-first_operand.ensures.value c.in-Ok-first_operand.ensures.rest
-          ∙ waiting_value (context c.args.s.now) c.loop-level.waiting.items c.loop-level.reading c.loop-level.top c.in-Some.level c.item_level.result c.loop-level.number c.first-operator.result c.loop-level.left.now c.dropped.result.now c.loop-level.invariant.lists (c.in-Some.ensures ∙ ap (pick (spans c.loop-level.reading c.loop-level.top)) c.first-operator.ensures) c.item_level.ensures c.dropped.ensures c.first-operator.ensures
+          ∙ read_value (context c.args.s.now) (c.loop-level.waiting.items ++ waits_for c.loop-level.reading c.in-Some.level c.loop-level.number c.first-operator.result ∷ []) (waiting_sign c.item_level.result c.rest_after.result.now) c.item_level.result c.in-Ok-first_operand.found.1 c.in-Ok-first_operand.found.0 c.rest_after.result.now c.in-Ok-first_operand.found.2.now c.in-Ok-first_operand.ensures.value c.in-Ok-first_operand.ensures.rest
+          ∙ waiting_value (context c.args.s.now) c.loop-level.waiting.items c.loop-level.reading c.loop-level.top c.in-Some.level c.item_level.result c.loop-level.number c.first-operator.result c.loop-level.left.now c.rest_after.result.now c.loop-level.invariant.lists (c.in-Some.ensures ∙ ap (pick (spans c.loop-level.reading c.loop-level.top)) c.first-operator.ensures) c.item_level.ensures c.rest_after.ensures c.first-operator.ensures
           ∙ c.loop-level.invariant.value;
       rest = ap (λ (ps : List Waiting). left_after_all ps (left_after_levels (spans c.in-Ok-first_operand.found.1 level.Power) c.in-Ok-first_operand.found.2.now)) items
-          ∙ read_rest (c.loop-level.waiting.items ++ waits_for c.loop-level.reading c.in-Some.level c.loop-level.number c.first-operator.result ∷ []) (waiting_sign c.item_level.result c.dropped.result.now) c.item_level.result c.in-Ok-first_operand.found.1 c.dropped.result.now c.in-Ok-first_operand.found.2.now c.in-Ok-first_operand.ensures.rest
-          ∙ waiting_rest c.loop-level.waiting.items c.loop-level.reading c.loop-level.top c.in-Some.level c.item_level.result c.loop-level.number c.first-operator.result c.loop-level.left.now c.dropped.result.now c.loop-level.invariant.lists (c.in-Some.ensures ∙ ap (pick (spans c.loop-level.reading c.loop-level.top)) c.first-operator.ensures) c.item_level.ensures c.dropped.ensures
+          ∙ read_rest (c.loop-level.waiting.items ++ waits_for c.loop-level.reading c.in-Some.level c.loop-level.number c.first-operator.result ∷ []) (waiting_sign c.item_level.result c.rest_after.result.now) c.item_level.result c.in-Ok-first_operand.found.1 c.rest_after.result.now c.in-Ok-first_operand.found.2.now c.in-Ok-first_operand.ensures.rest
+          ∙ waiting_rest c.loop-level.waiting.items c.loop-level.reading c.loop-level.top c.in-Some.level c.item_level.result c.loop-level.number c.first-operator.result c.loop-level.left.now c.rest_after.result.now c.loop-level.invariant.lists (c.in-Some.ensures ∙ ap (pick (spans c.loop-level.reading c.loop-level.top)) c.first-operator.ensures) c.item_level.ensures c.rest_after.ensures
           ∙ c.loop-level.invariant.rest;
-      shorter = (let a = waiting_shorter c.loop-level.reading c.loop-level.top c.in-Some.level c.loop-level.left.now c.dropped.result.now c.loop-level.invariant.lists (c.in-Some.ensures ∙ ap (pick (spans c.loop-level.reading c.loop-level.top)) c.first-operator.ensures) c.dropped.ensures in let d = c.in-Ok-first_operand.ensures.shorter in let e = c.loop-level.invariant.shorter in omega (arith, a, d, e));
+      shorter = (let a = waiting_shorter c.loop-level.reading c.loop-level.top c.in-Some.level c.loop-level.left.now c.rest_after.result.now c.loop-level.invariant.lists (c.in-Some.ensures ∙ ap (pick (spans c.loop-level.reading c.loop-level.top)) c.first-operator.ensures) c.rest_after.ensures in let d = c.in-Ok-first_operand.ensures.shorter in let e = c.loop-level.invariant.shorter in omega (arith, a, d, e));
     }
 
 pub climb-returns-in-Err-completed : goal.climb-returns-in-Err-completed

@@ -3,7 +3,7 @@ use Rattle.b2_base.specs.Lexical.{first}
 use Rattle.b2_platter.specs.declared.layout.Layout.TheVariants.{Narrow}
 use Rattle.b2_platter.specs.Image.{sector, sectors_at}
 use Rattle.b2_platter.proofs.Goodness.{most_of_good}
-use Rattle.b2_progfile.specs.Programs.{AllPieces, piece_bytes}
+use Rattle.b2_progfile.specs.Programs.{AllPieces, held_bytes}
 use Rattle.b2_progfile.proofs.Copies.{sectors-next}
 use Rattle.b2_progfile.proofs.reading.held_bytes.Goals as goal
 
@@ -23,15 +23,15 @@ loop-k-preserved c =
     let h : c.loop-k.k < c.args.count = c.loop-k-test.true in
     let own = sector c.args.p.now (c.args.at + c.loop-k.k) in
     let left = c.args.count - (c.loop-k.k + 1) in
-    let rest = piece_bytes (sectors_at c.args.p.now (c.args.at + c.loop-k.k + 1) left) in
+    let rest = held_bytes (sectors_at c.args.p.now (c.args.at + c.loop-k.k + 1) left) in
     let next = sectors-next c.args.p.now (c.args.at + c.loop-k.k) c.loop-k.k c.args.count h in
     let place : c.args.at + (c.loop-k.k + 1) ≡ c.args.at + c.loop-k.k + 1 = omega arith in
-    let held : c.dropped.result.now ≡ drop 1 own = c.dropped.ensures ∙ ap (drop 1) c.sector-sector.ensures.value in
+    let held : c.rest_after.result.now ≡ drop 1 own = c.rest_after.ensures ∙ ap (drop 1) c.sector-sector.ensures.value in
     let marked = sym (ap first c.sector-sector.ensures.value) ∙ (sym c.first.ensures ∙ c.if-first-ne-PIECE.false) in
     record {
-      bytes = ap₂ (λ (a : List ℕ) (n : ℕ). a ++ piece_bytes (sectors_at c.args.p.now n left)) (c.in_ok-add.ensures ∙ ap (λ (more : List ℕ). c.loop-k.bytes.items ++ more) held) place
+      bytes = ap₂ (λ (a : List ℕ) (n : ℕ). a ++ held_bytes (sectors_at c.args.p.now n left)) (c.in_ok-add.ensures ∙ ap (λ (more : List ℕ). c.loop-k.bytes.items ++ more) held) place
           ∙ (append_assoc c.loop-k.bytes.items (drop 1 own) rest
-          ∙ (ap (λ (t : List ℕ). c.loop-k.bytes.items ++ t) (sym (ap piece_bytes next)) ∙ c.loop-k.invariant.bytes));
+          ∙ (ap (λ (t : List ℕ). c.loop-k.bytes.items ++ t) (sym (ap held_bytes next)) ∙ c.loop-k.invariant.bytes));
       pieces = λ all. c.loop-k.invariant.pieces (subst AllPieces (sym next) (marked, subst (λ (n : ℕ). AllPieces (sectors_at c.args.p.now n left)) place all));
       all = λ whole. (let there = subst AllPieces next (c.loop-k.invariant.all whole) in subst (λ (n : ℕ). AllPieces (sectors_at c.args.p.now n left)) (sym place) there.1);
     }

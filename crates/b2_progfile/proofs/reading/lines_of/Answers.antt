@@ -21,7 +21,7 @@ loop-alloc-preserved c =
     let at = c.in-Ok.ensures.ok in
     let low : next_least 0 was ≤ l.0 = omega (arith, at.low, c.loop-alloc.invariant.least) in
     let now : c.put_wide.new.t.lines ≡ was ++ (l.0, l.1) ∷ [] = ap (λ (t : TextState). t.lines) c.in_ok-put_wide.ensures ∙ with-last 0 l.0 l.1 was c.loop-alloc.invariant.ascending low in
-    let left : c.dropped-rest.result.now ≡ drop (length l.1) (drop 3 c.loop-alloc.rest.now) = c.dropped-rest.ensures ∙ ap₂ (λ (a : List ℕ) (t : List ℕ). drop (length a) t) c.bytes.ensures.value c.dropped.ensures in
+    let left : c.rest_after-rest.result.now ≡ drop (length l.1) (drop 3 c.loop-alloc.rest.now) = c.rest_after-rest.ensures ∙ ap₂ (λ (a : List ℕ) (t : List ℕ). drop (length a) t) c.bytes.ensures.value c.rest_after.ensures in
     record {
       read = read-more c.args.bytes.now c.loop-alloc.rest.now (drop (length l.1) (drop 3 c.loop-alloc.rest.now)) was l c.loop-alloc.invariant.read at.same
           ∙ ap₂ (λ (ls : List (ℕ × List ℕ)) (t : List ℕ). all_line_bytes ls ++ t) (sym now) (sym left);

@@ -13,7 +13,7 @@ pub loop-value-preserved : goal.loop-value-preserved
 loop-value-preserved c =
     let some = c.in-Some.ensures.some in
     record {
-      read = rw (c.in_ok-add.ensures, c.dropped-rest.ensures) (read-more c.args.bytes.now c.loop-value.rest.now (drop c.in-Some.len c.loop-value.rest.now) c.loop-value.values.items c.in-Some.value c.loop-value.invariant.read some.1);
+      read = rw (c.in_ok-add.ensures, c.rest_after-rest.ensures) (read-more c.args.bytes.now c.loop-value.rest.now (drop c.in-Some.len c.loop-value.rest.now) c.loop-value.values.items c.in-Some.value c.loop-value.invariant.read some.1);
       storable = rw c.in_ok-add.ensures (storable-joined c.loop-value.values.items (c.in-Some.value ∷ []) c.loop-value.invariant.storable (some.0, tt));
     }
 

@@ -20,7 +20,7 @@ pub loop-preserved : goal.loop-preserved
 loop-preserved c =
     let i = c.loop.invariant in
     let is : (first (drop 3 c.loop.left.now) == byte.comma) ≡ true = search rules in
-    let same : drop 1 (drop 3 c.loop.left.now) ≡ c.dropped-left.result.now = search rules in
+    let same : drop 1 (drop 3 c.loop.left.now) ≡ c.rest_after-left.result.now = search rules in
     record {
       first = subst (λ (u : Text). is_leaf leaf.LineNumber u ≡ true) same (other_here (drop 3 c.loop.left.now) i.list is);
       list = subst (λ (u : Text). is_list commas row.COMMA_LINE (drop 3 u) ≡ true) same (other_list (drop 3 c.loop.left.now) i.list is);

@@ -34,7 +34,7 @@ loop-value-preserved c =
     let same : c.loop-value.values.now ≡ x ∷ xs = search rules in
     let none : c.in_ok-code.code ≡ None = search rules in
     let comma : (first (past_first left) == byte.comma) ≡ true = search rules in
-    let next : drop 1 (past_first left) ≡ c.dropped-left.result.now = search rules in
+    let next : drop 1 (past_first left) ≡ c.rest_after-left.result.now = search rules in
     record {
       part = subst (λ (u : Text). is_part row.RECEIVER u ≡ true) next (other_part (past_first left) i.list comma);
       list = subst (λ (u : Text). are_others (past_first u) ≡ true) next (other_list (past_first left) i.list comma);

@@ -37,7 +37,7 @@ loop-value-preserved c =
     let suited : suits c.is_alpha_at.result x ≡ true = search rules in
     let suit : suits (takes_bytes (tree_at row.RECEIVER left)) x ≡ true = ap (λ (b : Bool). suits b x) (kind_is left i.part ∙ sym c.is_alpha_at.ensures) ∙ suited in
     let comma : (first (past_first left) == byte.comma) ≡ true = search rules in
-    let next : drop 1 (past_first left) ≡ c.dropped-left.result.now = search rules in
+    let next : drop 1 (past_first left) ≡ c.rest_after-left.result.now = search rules in
     record {
       part = subst (λ (u : Text). is_part row.RECEIVER u ≡ true) next (other_part (past_first left) i.list comma);
       list = subst (λ (u : Text). are_others (past_first u) ≡ true) next (other_list (past_first left) i.list comma);

@@ -13,7 +13,7 @@ returns-then-is_some c =
     let typed = c.loop-code.typed.now in
     let left = c.loop-code.left.now in
     let one = takes_part c.args.a.now c.args.home.now in
-    let took = c.in_ok-code.ensures ∙ ap (λ (p : List ℕ). one (tree_at row.RECEIVER left) p c.loop-code.vars) (c.front.ensures ∙ ap (λ (n : ℕ). take n typed) c.part_width-width.ensures.width) in
+    let took = c.in_ok-code.ensures ∙ ap (λ (p : List ℕ). one (tree_at row.RECEIVER left) p c.loop-code.vars) (c.first_bytes.ensures ∙ ap (λ (n : ℕ). take n typed) c.part_width-width.ensures.width) in
     part_coded one (tree_at row.RECEIVER left) (others_at (past_first left)) typed c.loop-code.vars c.part_to.new.vars c.in_ok-code.code took (sym c.if-is_some.ensures)
     ∙ c.loop-code.invariant.taken
 
@@ -22,7 +22,7 @@ returns-then-not-is_at c =
     let typed = c.loop-code.typed.now in
     let left = c.loop-code.left.now in
     let one = takes_part c.args.a.now c.args.home.now in
-    let took = c.in_ok-code.ensures ∙ ap (λ (p : List ℕ). one (tree_at row.RECEIVER left) p c.loop-code.vars) (c.front.ensures ∙ ap (λ (n : ℕ). take n typed) c.part_width-width.ensures.width) in
+    let took = c.in_ok-code.ensures ∙ ap (λ (p : List ℕ). one (tree_at row.RECEIVER left) p c.loop-code.vars) (c.first_bytes.ensures ∙ ap (λ (n : ℕ). take n typed) c.part_width-width.ensures.width) in
     sym (no_more one (past_first left) (further_parts (drop (width_of typed) typed)) c.part_to.new.vars (sym (c.if-not-is_at.ensures ∙ ap (λ (u : List ℕ). first u == byte.comma) c.past_any_receiver-left.ensures)))
     ∙ part_more one (tree_at row.RECEIVER left) (others_at (past_first left)) typed c.loop-code.vars c.part_to.new.vars c.in_ok-code.code took (none_of c.in_ok-code.code (sym c.if-is_some.ensures))
     ∙ c.loop-code.invariant.taken
@@ -32,8 +32,8 @@ returns-then-is_empty c =
     let typed = c.loop-code.typed.now in
     let left = c.loop-code.left.now in
     let one = takes_part c.args.a.now c.args.home.now in
-    let took = c.in_ok-code.ensures ∙ ap (λ (p : List ℕ). one (tree_at row.RECEIVER left) p c.loop-code.vars) (c.front.ensures ∙ ap (λ (n : ℕ). take n typed) c.part_width-width.ensures.width) in
+    let took = c.in_ok-code.ensures ∙ ap (λ (p : List ℕ). one (tree_at row.RECEIVER left) p c.loop-code.vars) (c.first_bytes.ensures ∙ ap (λ (n : ℕ). take n typed) c.part_width-width.ensures.width) in
     sym (none_left one (others_at (past_first left)) (drop (width_of typed) typed) c.part_to.new.vars
-    (sym (c.if-is_empty.ensures ∙ ap (λ (u : List ℕ). length u == 0) (c.dropped-typed.ensures ∙ ap (λ (n : ℕ). drop n typed) c.part_width-width.ensures.width))))
+    (sym (c.if-is_empty.ensures ∙ ap (λ (u : List ℕ). length u == 0) (c.rest_after-typed.ensures ∙ ap (λ (n : ℕ). drop n typed) c.part_width-width.ensures.width))))
     ∙ part_more one (tree_at row.RECEIVER left) (others_at (past_first left)) typed c.loop-code.vars c.part_to.new.vars c.in_ok-code.code took (none_of c.in_ok-code.code (sym c.if-is_some.ensures))
     ∙ c.loop-code.invariant.taken

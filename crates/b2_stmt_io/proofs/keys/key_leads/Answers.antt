@@ -18,5 +18,5 @@ returns-then-special c =
 pub returns-else-special : goal.returns-else-special
 returns-else-special c =
     let lines = c.args.home.now.lines in
-    c.to_line-else-special.ensures ∙ ap (to_line lines c.args.place) (c.line_at-else-special.ensures.value ∙ ap line_at c.dropped.ensures)
+    c.to_line-else-special.ensures ∙ ap (to_line lines c.args.place) (c.line_at-else-special.ensures.value ∙ ap line_at c.rest_after.ensures)
     ∙ sym (to_first c.args.special lines c.args.place c.args.text.now c.requires.part (sym c.if-not-is_at.ensures) c.if-special.false)

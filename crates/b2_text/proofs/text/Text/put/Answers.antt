@@ -19,9 +19,9 @@ pub invariant_of-self-2 : goal.invariant_of-self-2
 invariant_of-self-2 c =
     let room : cost c.args.a.now ≤ c.self.inside.area - (c.self.inside.size - cost_at c.args.n c.self.inside.lines.entries) =
     rw (← c.cost_at.ensures, ← c.cost-cost.ensures) c.if-cost-self.false in
-    let is = c.in_ok-insert.ensures.ok ∙ ap (λ (l : List ℕ). with_line c.args.n l c.self.inside.lines.entries) c.in_ok-line.ensures in
+    let is = c.in_ok-put_in_place.ensures.ok ∙ ap (λ (l : List ℕ). with_line c.args.n l c.self.inside.lines.entries) c.in_ok-line.ensures in
     rw (c.cost_at.ensures, c.cost-cost.ensures)
-    (sound_put c.args.n c.args.a.now c.self.inside.lines.entries c.insert.new.lines.entries c.self.inside.area c.self.inside.size c.requires c.self.invariant room is c.insert.ensures.ordered)
+    (sound_put c.args.n c.args.a.now c.self.inside.lines.entries c.put_in_place.new.lines.entries c.self.inside.area c.self.inside.size c.requires c.self.invariant room is c.put_in_place.ensures.ordered)
 
 pub returns-clause-fits : goal.returns-clause-fits
 returns-clause-fits c =
