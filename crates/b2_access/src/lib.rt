@@ -29,8 +29,6 @@ mod planned;
 mod private;
 mod setting;
 mod shared;
-#[cfg(test)]
-mod tests;
 
 pub use accesses::{Access, Answer};
 pub use devices::{Device, DeviceTable};

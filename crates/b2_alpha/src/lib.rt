@@ -14,8 +14,6 @@ pub mod laws;
 mod number;
 mod relation;
 mod sums;
-#[cfg(test)]
-mod tests;
 mod value;
 
 pub use bits::{bool_op, rotate};

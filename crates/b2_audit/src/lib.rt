@@ -13,8 +13,6 @@ pub mod laws;
 mod marking;
 mod part_set;
 mod seen;
-#[cfg(test)]
-mod tests;
 mod watched;
 
 pub use seen::Seen;

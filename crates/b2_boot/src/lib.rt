@@ -20,8 +20,6 @@ mod boot_file;
 mod log;
 mod log_lines;
 mod rows;
-#[cfg(test)]
-mod tests;
 
 pub use boot::{Boot, BootPartition, BootTerminal};
 pub use boot_file::{BootErr, boot_of};

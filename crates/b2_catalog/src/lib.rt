@@ -24,8 +24,6 @@ mod place;
 mod plain;
 mod renames;
 mod spelling;
-#[cfg(test)]
-mod tests;
 
 pub use additions::enter;
 pub use changes::{scratch, set_used};

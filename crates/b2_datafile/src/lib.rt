@@ -16,8 +16,6 @@ pub mod marks;
 mod moving;
 mod opening;
 mod saving;
-#[cfg(test)]
-mod tests;
 
 pub use b2_base::{By, Slot};
 pub use loading::load;

@@ -35,5 +35,3 @@ pub use rounding::{COEFFICIENT_LIMIT, round_exact, round_whole_part};
 pub use sums::{add, sub};
 pub use values::{Bytes, Kind, KindList, Value, ValueList};
 
-#[cfg(test)]
-mod tests;

@@ -26,5 +26,3 @@ pub use leading::{Leading, rounded, with_digit};
 pub use printing::write;
 pub use reading::{literal, num, read};
 
-#[cfg(test)]
-mod tests;

@@ -13,8 +13,6 @@ mod frame;
 pub mod laws;
 mod search;
 mod stack;
-#[cfg(test)]
-mod tests;
 
 pub use frame::{Frame, Place, Var2};
 pub use stack::Stack;

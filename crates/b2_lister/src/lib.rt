@@ -14,8 +14,6 @@ use b2_base::lexical::without_zeros;
 use std::alloc::Global;
 
 mod laws;
-#[cfg(test)]
-mod tests;
 
 pub use laws::{each_listed_line_is_read_back, each_tree_is_listed_and_read_back};
 

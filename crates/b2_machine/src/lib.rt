@@ -23,8 +23,6 @@ mod moving;
 mod readiness;
 mod statements;
 mod stepping;
-#[cfg(test)]
-mod tests;
 mod turning;
 mod typing;
 

@@ -17,8 +17,6 @@ mod locators;
 mod moving;
 mod searching;
 mod sorting;
-#[cfg(test)]
-mod tests;
 
 pub use moving::{copy, move_by};
 pub use searching::search;

@@ -14,8 +14,6 @@ mod array;
 mod combining;
 mod filling;
 pub mod laws;
-#[cfg(test)]
-mod tests;
 
 pub use array::{Fill, Mat};
 pub use combining::{MatOp, combine, scale};

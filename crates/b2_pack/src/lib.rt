@@ -27,5 +27,3 @@ pub use laws::{
 pub use packing::{fields, pack};
 pub use unpacking::{unfields, unpack};
 
-#[cfg(test)]
-mod tests;

@@ -20,8 +20,6 @@ pub mod image;
 mod layout;
 mod platter;
 pub mod slot;
-#[cfg(test)]
-mod tests;
 
 pub use layout::Layout;
 pub use platter::{ImageErr, Platter, image_is_what_it_says};

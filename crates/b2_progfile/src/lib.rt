@@ -22,8 +22,6 @@ mod moving_all;
 mod reading;
 mod saving;
 mod spelling;
-#[cfg(test)]
-mod tests;
 
 pub use loading::load;
 pub use moving::move_file;

@@ -18,8 +18,6 @@ mod items;
 pub mod laws;
 mod records;
 mod sectors;
-#[cfg(test)]
-mod tests;
 
 pub use items::{all_short, is_short};
 pub use records::{put, sectors_of, take};

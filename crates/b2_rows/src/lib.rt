@@ -24,8 +24,6 @@ mod leaves;
 mod line_numbers;
 mod operands;
 mod row_units;
-#[cfg(test)]
-mod tests;
 
 pub use begins::{is_alpha_at, is_array_at, is_at, is_hex_at, is_line_at, is_numeric_at};
 pub use chains::{Chain, goes_on, has_sign};

@@ -13,8 +13,6 @@
 
 pub mod laws;
 mod start;
-#[cfg(test)]
-mod tests;
 mod world;
 
 pub use world::World;

@@ -12,8 +12,6 @@ use std::marker::Model;
 
 mod sequence;
 mod sheet;
-#[cfg(test)]
-mod tests;
 
 use sequence::{Sequence, feed_bytes};
 use sheet::Sheet;

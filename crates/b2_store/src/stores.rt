@@ -319,6 +319,3 @@ impl Shared for Stores {
 
     ghost lends_globals = { λ who home at m w. refl };
 }
-
-#[cfg(test)]
-mod tests;

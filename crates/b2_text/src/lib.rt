@@ -11,8 +11,6 @@
 mod laws;
 mod lines;
 mod spots;
-#[cfg(test)]
-mod tests;
 mod text;
 
 pub use laws::{data_are_found, functions_are_found, marks_are_found};

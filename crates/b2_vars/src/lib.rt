@@ -18,8 +18,6 @@ mod name;
 mod setting;
 mod shape;
 mod table;
-#[cfg(test)]
-mod tests;
 mod variable;
 mod vars;
 

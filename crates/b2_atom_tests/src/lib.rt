@@ -1,8 +1,0 @@
-//! The tests of `b2_atom`.
-//!
-//! A crate with tests is proved once without them and once with them. In a crate of their own they leave `b2_atom` to be
-//! proved once.
-#![tactic(auto)]
-
-#[cfg(test)]
-mod tests;
