@@ -1,5 +1,5 @@
 -- What an access touches and writes. Marked homes and names are not looked at until names of global texts come.
-use Rattle.std.specs.Prelude.{◌≤◌, ℕ, List, [], ◌∷◌}
+use Rattle.std.specs.Prelude.{◌≤◌, ℕ, List, [], ◌∷◌, Some}
 use Rattle.b2_access.specs.declared.objects.Object.{Object}
 use Rattle.b2_access.specs.declared.objects.Object.TheVariants as object
 use Rattle.b2_access.specs.declared.accesses.Access.{Access}
@@ -39,3 +39,12 @@ written_by x who a = may_write who a
 abbrev pub IsLegal : Access → Type 0
 IsLegal (access.PutLine line atoms homes) = line ≤ 9999
 IsLegal a = Unit {0}
+
+-- Which accesses may want memory: those that put bytes or a line where there may be no room kept for them. A key is taken and
+-- lines are taken out without any.
+abbrev pub MayWantMemory : Access → Type 0
+MayWantMemory (access.Show term bytes) = Unit {0}
+MayWantMemory (access.ReadLine term) = Unit {0}
+MayWantMemory (access.Insert term bytes) = Unit {0}
+MayWantMemory (access.PutLine line (Some atoms) homes) = Unit {0}
+MayWantMemory a = ⊥

@@ -6,7 +6,7 @@ use b2_base::{Addr, Part};
 use std::marker::Model;
 
 /// A device: its address, whether it is a printer or else a platter, and the partition that alone may use it, if one is named.
-#[derive(Clone, Copy, Debug, PartialEq, Eq)]
+#[derive(Clone, Copy)]
 pub struct Device {
     pub addr: Addr,
     pub printer: bool,

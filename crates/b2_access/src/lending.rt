@@ -4,7 +4,7 @@ use b2_text::Text;
 use b2_vars::Vars;
 
 /// Whose `@` variables a step wants.
-#[derive(Clone, Copy, Debug, PartialEq, Eq)]
+#[derive(Clone, Copy)]
 pub enum At {
     /// None.
     None,

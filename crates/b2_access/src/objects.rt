@@ -2,7 +2,7 @@
 use b2_base::{Addr, Name8, Part, Term};
 
 /// An object of the store that all partitions share.
-#[derive(Clone, Copy, Debug, PartialEq, Eq)]
+#[derive(Clone, Copy)]
 pub enum Object {
     /// The program text of a partition.
     Text(Part),

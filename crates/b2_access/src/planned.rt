@@ -4,7 +4,7 @@ use b2_base::Code;
 use b2_flow::Place;
 
 /// How a statement ends.
-#[derive(Clone, Copy, Debug, PartialEq, Eq)]
+#[derive(Clone, Copy)]
 pub enum Outcome {
     /// The place moves on to the next unit.
     Next,

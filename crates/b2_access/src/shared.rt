@@ -1,7 +1,8 @@
 // The store that all partitions share, of any kind.
-ghost use Rattle.std.specs.Prelude.{◌≡◌, ℕ, Some, IfOk, IsSome};
+ghost use Rattle.std.specs.Prelude.{◌≡◌, ℕ, Some, IfOk, IfErr, IsSome};
 ghost use Rattle.std.specs.Borrow.{sem};
 ghost use Rattle.b2_vars.specs.Tables.{VarsState};
+ghost use Rattle.b2_access.specs.declared.accesses.Access.{Access as AccessSpec};
 ghost use Rattle.b2_access.specs.declared.lending.At.{At as AtSpec};
 ghost use Rattle.b2_access.specs.Lending.{globals_lent};
 ghost use Rattle.b2_access.specs.Loans.{Loan, LendsFrom, LoansGlobals, globals_at, left_at};
@@ -29,6 +30,9 @@ pub trait Shared {
     /// Its way of serving.
     ghost serving: { ServingOf Meaning };
 
+    /// Which accesses may want memory.
+    ghost wants: { AccessSpec → Type 0 };
+
     /// What it means after a loan.
     ghost lending: { Loan Meaning };
 
@@ -50,11 +54,12 @@ pub trait Shared {
         ensures home { Some result.home.now ≡ content (store (meaning self.old)) (Object.Text home) }
         ensures globals { globals_lent result ≡ globals_at home at.now (store (meaning self.old)) };
 
-    /// Serves an access of a partition.
+    /// Serves an access of a partition. Memory fails only for one that may want it.
     fn serve(&mut self, who: Part, access: &Access) -> Result<Answer, NoMemory>
         requires legal { IsLegal access.now }
         ensures same { holds self.new ≡ holds self.old }
-        ensures served { IfOk result (λ a. record { after = meaning self.new; answer = a } ≡ serving (meaning self.old) who access.now) };
+        ensures served { IfOk result (λ a. record { after = meaning self.new; answer = a } ≡ serving (meaning self.old) who access.now) }
+        ensures memory { IfErr result (λ _. wants access.now) };
 
     /// What an access is answered and writes depends on what it touches alone, and all else stays.
     ghost local: { IsLocal store serving };

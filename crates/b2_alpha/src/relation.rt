@@ -7,7 +7,7 @@ ghost use Rattle.b2_alpha.specs.Relations.{holds, found_place, order_of};
 use std::cmp::Ordering;
 
 /// A relation between two values.
-#[derive(Clone, Copy, Debug, PartialEq, Eq)]
+#[derive(Clone, Copy)]
 pub enum Rel {
     Eq,
     Ne,

@@ -14,7 +14,7 @@ use std::alloc::Global;
 use std::marker::Model;
 
 /// At most 255 bytes that spell a line of the language. Contracts see it as the list of its bytes.
-#[derive(Debug, Drop)]
+#[derive(Drop)]
 pub struct Atoms {
     bytes: Vec<u8>,
     units: Vec<Span>,

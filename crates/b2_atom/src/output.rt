@@ -21,7 +21,7 @@ pub struct Source {
 }
 
 /// What a unit uses beside variables of its own partition.
-#[derive(Clone, Copy, Debug, PartialEq, Eq)]
+#[derive(Clone, Copy)]
 pub struct Uses {
     /// Whether an `@` name stands in it.
     pub globals: bool,
@@ -52,7 +52,7 @@ pub enum Output {
 }
 
 /// Why a reading ends early: a code and how many bytes are left there, too many parentheses, or that memory fails.
-#[derive(Clone, Copy, Debug, PartialEq, Eq)]
+#[derive(Clone, Copy)]
 pub enum Stop {
     At(u8, usize),
     Deep,

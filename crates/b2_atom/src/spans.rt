@@ -14,7 +14,7 @@ use b2_base::lexical::{first, first_bytes, rest_after};
 use std::alloc::Global;
 
 /// A unit of a line: where it stands, which of the line's bytes are its own, the row of its statement, and what it uses.
-#[derive(Clone, Copy, Debug)]
+#[derive(Clone, Copy)]
 pub struct Span {
     place: Position,
     from: u8,

@@ -4,7 +4,7 @@ ghost use Rattle.b2_atom.specs.Words as words;
 ghost use Rattle.b2_atom.specs.Grammar as spec;
 
 use crate::forms::{Form, Position, Rule, Start};
-use crate::leaves::{any_name_width, is_alpha_name, numeric_name_width, refused};
+use crate::leaves::{any_name_width, is_alpha_name, refused};
 use crate::output::Stop;
 use crate::rows;
 use crate::table::FORMS;
@@ -50,10 +50,17 @@ fn is_numeric_sign(class: u8) -> bool
         || is_among(ABS_OPEN, HASH_TERM, class)
 }
 
+fn begins_name(class: u8) -> bool
+    ensures { result ≡ spec.begins_name class }
+{
+    is_letter(class) || class == b'@'
+}
+
 fn numeric_begins(origin: Origin, text: &[u8]) -> bool
     ensures { result ≡ spec.numeric_begins origin text.now }
 {
-    is_numeric_sign(ahead(origin, text).0) || numeric_name_width(origin, text) > 0
+    let class = ahead(origin, text).0;
+    is_numeric_sign(class) || (begins_name(class) && !is_alpha_name(origin, text))
 }
 
 fn array_begins(origin: Origin, text: &[u8]) -> bool
@@ -68,7 +75,7 @@ fn variable_begins(origin: Origin, text: &[u8]) -> bool
     ensures { result ≡ spec.variable_begins origin text.now }
 {
     let class = ahead(origin, text).0;
-    is_letter(class) || class == b'@' || class == STR_OPEN
+    begins_name(class) || class == STR_OPEN
 }
 
 fn spelled_after(origin: Origin, text: &[u8], second: u8, third: u8) -> bool

@@ -5,7 +5,7 @@ ghost use Rattle.b2_atom.specs.Words as spec;
 use b2_base::lexical::{first, rest_after, skip_blanks, upper};
 
 /// Where a text is read from: a typed line of a program or an immediate one, or atoms.
-#[derive(Clone, Copy, Debug, PartialEq, Eq)]
+#[derive(Clone, Copy)]
 pub enum Origin {
     Program,
     Immediate,

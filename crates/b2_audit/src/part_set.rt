@@ -6,7 +6,7 @@ use b2_base::Part;
 use std::marker::Model;
 
 /// A set of partitions. Contracts see it as a number, in which the bit of a partition is that of its number less 1.
-#[derive(Clone, Copy, Debug, PartialEq, Eq)]
+#[derive(Clone, Copy)]
 pub struct PartSet {
     bits: u16,
 }

@@ -39,6 +39,8 @@ impl<S: Shared> Shared for Watched<'_, S> {
 
     ghost serving = { watching S.store S.serving };
 
+    ghost wants = { S.wants };
+
     ghost lending = { watched_loan S.lending };
 
     ghost after_loan = { λ who home at s w. record s { inner = record s.inner { now = S.after_loan who home at s.inner.now w }; seen = record s.seen { now = touch_all who (lent_to who home) s.seen.now } } };

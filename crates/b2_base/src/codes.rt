@@ -149,7 +149,7 @@ pub const D89_OTHER_KIND: u8 = 89;
 pub const I98_SECTOR: u8 = 98;
 
 /// The code of an error, from 1 to 99. Contracts see it as its number.
-#[derive(Clone, Copy, Debug, PartialEq, Eq)]
+#[derive(Clone, Copy)]
 pub struct Code {
     number: u8,
 }
@@ -213,7 +213,7 @@ impl Code {
 }
 
 /// A refusal with its code, or that memory failed.
-#[derive(Clone, Copy, Debug, PartialEq, Eq)]
+#[derive(Clone, Copy)]
 pub enum Fault {
     Code(Code),
     NoMemory,

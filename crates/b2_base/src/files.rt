@@ -2,7 +2,7 @@
 use crate::{Addr, Name8};
 
 /// An open data file with a place in it.
-#[derive(Clone, Copy, Debug, PartialEq, Eq)]
+#[derive(Clone, Copy)]
 pub struct Slot {
     /// The device that the file is on.
     pub addr: Addr,
@@ -17,7 +17,7 @@ pub struct Slot {
 }
 
 /// How the place in a data file is moved.
-#[derive(Clone, Copy, Debug, PartialEq, Eq)]
+#[derive(Clone, Copy)]
 pub enum By {
     /// Over a number of records towards the end.
     Forward(u32),

@@ -6,7 +6,7 @@ use crate::lexical::all_printable;
 use std::marker::Model;
 
 /// A name of 1 to 8 bytes from 20 to 7E, the first not 20, padded with 20. Contracts see it as its eight bytes.
-#[derive(Clone, Copy, Debug, PartialEq, Eq)]
+#[derive(Clone, Copy, PartialEq, Eq)]
 pub struct Name8 {
     padded: [u8; 8],
 }

@@ -5,7 +5,7 @@ ghost use Rattle.b2_base.specs.Files.{Files, IsFetched, IsAbsent, IsCutShort, wi
 ghost use Rattle.b2_base.specs.Outside.{IsPartWritten};
 
 /// The answer of a fetch.
-#[derive(Clone, Copy, Debug, PartialEq, Eq)]
+#[derive(Clone, Copy)]
 pub enum Fetch {
     /// The whole file was read.
     Done,
@@ -19,7 +19,7 @@ pub enum Fetch {
 }
 
 /// The answer of a keep or a put.
-#[derive(Clone, Copy, Debug, PartialEq, Eq)]
+#[derive(Clone, Copy)]
 pub enum Keep {
     /// All bytes were written.
     Done,

@@ -6,7 +6,7 @@ ghost use Rattle.b2_base.specs.Places.{part_of, term_of, bit_of};
 use std::marker::Model;
 
 /// A partition, from 1 to 16. Contracts see it as its number.
-#[derive(Clone, Copy, Debug, PartialEq, Eq)]
+#[derive(Clone, Copy, PartialEq, Eq)]
 pub struct Part {
     number: u8,
 }
@@ -63,7 +63,7 @@ impl Part {
 }
 
 /// A terminal, from 1 to 12. Contracts see it as its number.
-#[derive(Clone, Copy, Debug, PartialEq, Eq)]
+#[derive(Clone, Copy)]
 pub struct Term {
     number: u8,
 }

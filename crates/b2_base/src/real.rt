@@ -8,7 +8,7 @@ ghost use Rattle.b2_base.specs.declared.real.Reading.TheVariants.{Whole, TooLong
 
 use crate::{Fetch, Keep, Shelf, Sink};
 use arrayvec::ArrayString;
-use std::fs::OpenFile;
+use std::fs::{OpenFile, OpenOptions};
 use std::io::{self, ErrorKind, Read, Write};
 use std::marker::Model;
 use std::rt::Files;
@@ -168,7 +168,8 @@ fn write_whole<W: Write>(writer: &mut W, bytes: &[u8]) -> bool
 }
 
 /// Writes the file of a name: whether all went well. The bytes go to a file beside it, whose name is moved over once they
-/// are on the disk; where a step fails, the file beside it is removed and an old file of the name stays whole.
+/// are on the disk; where a step fails, the file beside it is removed and an old file of the name stays whole. What stands
+/// beside it before is removed and never written through, be it a link to another file or not.
 fn write_file<R: Files>(rt: &R, name: &[u8], bytes: &[u8]) -> bool {
     let Ok(path) = str::from_utf8(name) else {
         return false;
@@ -177,7 +178,10 @@ fn write_file<R: Files>(rt: &R, name: &[u8], bytes: &[u8]) -> bool {
     if beside.try_push_str(path).is_err() || beside.try_push('~').is_err() {
         return false;
     }
-    let Ok(file) = fs::create(rt, beside.as_str()) else {
+    let _ = fs::remove_file(rt, beside.as_str());
+    let mut options = OpenOptions::new();
+    options.write(true).create_new(true);
+    let Ok(file) = options.open(rt, beside.as_str()) else {
         return false;
     };
     if write_down(file, bytes) && fs::rename(rt, beside.as_str(), path).is_ok() {

@@ -3,14 +3,14 @@ use b2_base::{Part, Term};
 use std::marker::Model;
 
 /// A terminal and the partition in front of it.
-#[derive(Clone, Copy, Debug, PartialEq, Eq)]
+#[derive(Clone, Copy)]
 pub struct BootTerminal {
     pub number: Term,
     pub front: Part,
 }
 
 /// A partition on its terminal. The sizes of its text, its variables and its globals are in KiB.
-#[derive(Clone, Copy, Debug, PartialEq, Eq)]
+#[derive(Clone, Copy)]
 pub struct BootPartition {
     pub number: Part,
     pub terminal: Term,

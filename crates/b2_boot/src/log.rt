@@ -12,7 +12,7 @@ use b2_term::KeyItem;
 use std::alloc::Global;
 
 /// What happens.
-#[derive(Clone, Copy, Debug, PartialEq, Eq)]
+#[derive(Clone, Copy)]
 pub enum Event {
     /// A key at a terminal.
     Key(Term, KeyItem),
@@ -29,7 +29,7 @@ pub enum Event {
 }
 
 /// Why there are no events.
-#[derive(Clone, Copy, Debug, PartialEq, Eq)]
+#[derive(Clone, Copy)]
 pub enum LogErr {
     /// The first line that fails a check, from 1, and its first check.
     Line(u32, u8),

@@ -10,7 +10,7 @@ use std::marker::Model;
 use toml::{Table, Value};
 
 /// Which table of the file a key stands in.
-#[derive(Clone, Copy, Debug, PartialEq, Eq)]
+#[derive(Clone, Copy)]
 pub enum Section {
     File,
     Terminal,
@@ -18,14 +18,14 @@ pub enum Section {
 }
 
 /// A terminal as it is written, with 65,535 in place of each number outside 0 to 65,535.
-#[derive(Clone, Copy, Debug, PartialEq, Eq)]
+#[derive(Clone, Copy)]
 pub struct TerminalRow {
     pub number: u16,
     pub front: u16,
 }
 
 /// A partition as it is written, with 65,535 in place of each number outside 0 to 65,535. Its sizes are in KiB.
-#[derive(Clone, Copy, Debug, PartialEq, Eq)]
+#[derive(Clone, Copy)]
 pub struct PartitionRow {
     pub number: u16,
     pub terminal: u16,

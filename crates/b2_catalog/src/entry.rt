@@ -2,7 +2,7 @@
 use b2_base::Name8;
 
 /// A file in the catalogue.
-#[derive(Clone, Copy, Debug, PartialEq, Eq)]
+#[derive(Clone, Copy)]
 pub struct Entry {
     /// Its name.
     pub name: Name8,

@@ -7,7 +7,7 @@ use crate::rounding::ten_to;
 use std::marker::Model;
 
 /// How a result with more than thirteen digits becomes a number.
-#[derive(Clone, Copy, Debug, PartialEq, Eq)]
+#[derive(Clone, Copy)]
 pub enum Mode {
     /// The nearest number, a half away from zero.
     Round,
@@ -16,7 +16,7 @@ pub enum Mode {
 }
 
 /// A decimal number of thirteen digits. Contracts see it as its sign, its digits and the place of the last of them.
-#[derive(Clone, Copy, Debug, PartialEq, Eq)]
+#[derive(Clone, Copy)]
 pub struct Dec {
     /// The thirteen digits, with the sign of the number.
     signed_digits: i64,

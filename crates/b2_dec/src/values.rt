@@ -96,7 +96,7 @@ pub enum Value {
 }
 
 /// Which kind of value.
-#[derive(Clone, Copy, Debug, PartialEq, Eq)]
+#[derive(Clone, Copy)]
 pub enum Kind {
     Number,
     Alpha,

@@ -10,7 +10,7 @@ use b2_rows::Name;
 use b2_vars::{Var, Vars};
 
 /// A value of a variable: whether its name has `@`, the variable, and the row and the column, 0 where there is none.
-#[derive(Clone, Copy, Debug, PartialEq, Eq)]
+#[derive(Clone, Copy)]
 pub struct Element {
     pub global: bool,
     pub var: Var,
@@ -19,14 +19,14 @@ pub struct Element {
 }
 
 /// A row and a column, each 0 where there is none.
-#[derive(Clone, Copy, Debug, PartialEq, Eq)]
+#[derive(Clone, Copy)]
 pub struct Subscripts {
     pub row: u16,
     pub column: u16,
 }
 
 /// The kinds of names with subscripts or none: of numbers and of alpha values, as operands and as receivers.
-#[derive(Clone, Copy, Debug, PartialEq, Eq)]
+#[derive(Clone, Copy)]
 pub enum NameKind {
     Number,
     Alpha,

@@ -23,7 +23,7 @@ use b2_rows::{hex_digit_at, is_alpha_at, is_at, is_read};
 use std::alloc::Global;
 
 /// What is done with the bytes of a receiver and an operand.
-#[derive(Clone, Copy, Debug, PartialEq, Eq)]
+#[derive(Clone, Copy)]
 pub enum AlphaOperator {
     /// AND, OR, XOR and BOOL: bits joined by a digit.
     Bool(u8),

@@ -10,7 +10,7 @@ use b2_base::codes::C65_EXPONENT;
 use b2_dec::{Dec, Mode, add, div, mul, power, sub, whole};
 
 /// The levels of operators, from what binds least to what binds most.
-#[derive(Clone, Copy, Debug, Default, PartialEq, Eq)]
+#[derive(Clone, Copy, Default)]
 pub enum Level {
     #[default]
     Sum,

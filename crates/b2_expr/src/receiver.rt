@@ -6,35 +6,35 @@ use crate::named::Element;
 use b2_vars::Var;
 
 /// Bytes of an alpha value: how many stand before them, and how many they are.
-#[derive(Clone, Copy, Debug, PartialEq, Eq)]
+#[derive(Clone, Copy)]
 pub struct Portion {
     pub from: u8,
     pub count: u8,
 }
 
 /// An alpha element, and the bytes of it that are named: all of them, or those that STR names.
-#[derive(Clone, Copy, Debug, PartialEq, Eq)]
+#[derive(Clone, Copy)]
 pub struct AlphaReceiver {
     pub element: Element,
     pub portion: Portion,
 }
 
 /// A receiver of either kind.
-#[derive(Clone, Copy, Debug, PartialEq, Eq)]
+#[derive(Clone, Copy)]
 pub enum Receiver {
     Number(Element),
     Alpha(AlphaReceiver),
 }
 
 /// A whole array: whether its name has `@`, and the variable.
-#[derive(Clone, Copy, Debug, PartialEq, Eq)]
+#[derive(Clone, Copy)]
 pub struct Array {
     pub global: bool,
     pub var: Var,
 }
 
 /// Bytes that are filled or searched: those of an alpha receiver, or those of all values of an alpha array.
-#[derive(Clone, Copy, Debug, PartialEq, Eq)]
+#[derive(Clone, Copy)]
 pub enum Buffer {
     Value(AlphaReceiver),
     Array(Array),

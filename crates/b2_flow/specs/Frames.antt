@@ -1,5 +1,5 @@
 -- What a frame is asked about.
-use Rattle.std.specs.Prelude.{ℕ, Bool, true, false, not, ◌&&◌, ◌||◌, ◌==◌, Option, is_some}
+use Rattle.std.specs.Prelude.{ℕ, Bool, true, false, not, ◌&&◌, ◌==◌, Option, is_some}
 use Rattle.std.specs.Option.{option_eq, option_map_or}
 use Rattle.b2_flow.specs.declared.frame.Frame.{Frame}
 use Rattle.b2_flow.specs.declared.frame.Frame.TheVariants.{For, Call}
@@ -27,15 +27,11 @@ abbrev pub is_immediate_loop : Frame → Bool
 is_immediate_loop (For v limit step body) = not (is_some body.line)
 is_immediate_loop (Call back entered) = false
 
--- whether a call leads back to a partition
-abbrev pub is_back_home : ℕ → Option Place → Bool
-is_back_home h back = option_map_or (λ (place : Place). place.home == h) back false
-
 -- whether a call entered the text of a partition
 abbrev pub is_entered : ℕ → Option ℕ → Bool
 is_entered h entered = option_map_or (λ (part : ℕ). part == h) entered false
 
--- a frame names a partition: as the home of a loop's body, as the home that a call leads back to, or as the one it entered
-abbrev pub names_home : ℕ → Frame → Bool
-names_home h (For v limit step body) = body.home == h
-names_home h (Call back entered) = is_back_home h back || is_entered h entered
+-- a frame is a call that entered the text of a partition
+abbrev pub enters : ℕ → Frame → Bool
+enters h (For v limit step body) = false
+enters h (Call back entered) = is_entered h entered

@@ -1,13 +1,13 @@
 // What stands on the stack: loops and calls, and the places that they lead to.
-ghost use Rattle.std.specs.Prelude.{◌≡◌, ◌≤◌, ◌-◌, ◌==◌, ℕ, if◌then◌else◌};
+ghost use Rattle.std.specs.Prelude.{◌≡◌, ◌≤◌, ◌-◌, ℕ, if◌then◌else◌};
 ghost use Rattle.std.specs.Int.{bit_at};
-ghost use Rattle.b2_flow.specs.Frames.{is_loop_of, is_immediate_loop, is_back_home, is_entered, names_home};
+ghost use Rattle.b2_flow.specs.Frames.{is_loop_of, is_immediate_loop, is_entered, enters};
 
 use b2_base::Part;
 use b2_dec::Dec;
 
 /// A unit of a text: that of a line of the home's program, or of the immediate line where there is no line number.
-#[derive(Clone, Copy, Debug, PartialEq, Eq)]
+#[derive(Clone, Copy)]
 pub struct Place {
     pub home: Part,
     pub line: Option<u16>,
@@ -15,14 +15,14 @@ pub struct Place {
 }
 
 /// The numeric scalar that a loop counts: a letter, and a digit where there is one.
-#[derive(Clone, Copy, Debug, PartialEq, Eq)]
+#[derive(Clone, Copy, PartialEq, Eq)]
 pub struct Var2 {
     pub letter: u8,
     pub digit: Option<u8>,
 }
 
 /// A loop or a call that hasn't ended.
-#[derive(Clone, Copy, Debug, PartialEq, Eq)]
+#[derive(Clone, Copy)]
 pub enum Frame {
     /// A loop: its variable, the last value, what NEXT adds, and the unit after its FOR.
     For {
@@ -60,24 +60,14 @@ impl Frame {
         }
     }
 
-    /// The partitions that the frame names, as marks.
-    pub(crate) fn homes(self) -> u16
-        ensures { (h : ℕ) → 1 ≤ h → bit_at result (h - 1) ≡ (if names_home h self then 1 else 0) }
+    /// The partition whose text the frame entered, as a mark.
+    pub(crate) fn entered(self) -> u16
+        ensures { (h : ℕ) → 1 ≤ h → bit_at result (h - 1) ≡ (if enters h self then 1 else 0) }
     {
         match self {
-            Frame::For { body, .. } => body.home.bit(),
-            Frame::Call { back, entered } => back_mark(back) | entered_mark(entered),
+            Frame::For { .. } => 0,
+            Frame::Call { entered, .. } => entered_mark(entered),
         }
-    }
-}
-
-/// The bit of the home that a call leads back to.
-fn back_mark(back: Option<Place>) -> u16
-    ensures { (h : ℕ) → 1 ≤ h → bit_at result (h - 1) ≡ (if is_back_home h back then 1 else 0) }
-{
-    match back {
-        Some(place) => place.home.bit(),
-        None => 0,
     }
 }
 

@@ -3,7 +3,7 @@ ghost use Rattle.std.specs.Prelude.{◌≡◌, ◌≤◌, ◌-◌, ℕ, ◌∷�
 ghost use Rattle.std.specs.Int.{bit_at};
 ghost use Rattle.std.specs.List.{list_any};
 ghost use Rattle.b2_flow.specs.declared.frame.Frame.TheVariants.{Call};
-ghost use Rattle.b2_flow.specs.Frames.{names_home};
+ghost use Rattle.b2_flow.specs.Frames.{enters};
 ghost use Rattle.b2_flow.specs.Stacks.{has_loop, from_loop, has_call, from_call, top_loop};
 
 use crate::frame::{Frame, Place, Var2};
@@ -52,13 +52,13 @@ pub(crate) fn nearest_call(frames: &[Frame]) -> Option<(usize, (Option<Place>, O
     None
 }
 
-/// The partitions that frames name, as marks.
+/// The partitions whose texts frames entered, as marks.
 pub(crate) fn homes(frames: &[Frame]) -> u16
-    ensures { (h : ℕ) → 1 ≤ h → bit_at result (h - 1) ≡ (if list_any (names_home h) frames.now then 1 else 0) }
+    ensures { (h : ℕ) → 1 ≤ h → bit_at result (h - 1) ≡ (if list_any (enters h) frames.now then 1 else 0) }
 {
     let mut marks = 0;
     for frame in frames {
-        marks |= frame.homes();
+        marks |= frame.entered();
     }
     marks
 }

@@ -5,7 +5,7 @@ ghost use Rattle.std.specs.Vec.{vec_capacity};
 ghost use Rattle.std.specs.List.{filter, list_any, slice_get};
 ghost use Rattle.b2_base.specs.declared.codes.TheConstants.{A04_TOO_DEEP, P40_NO_FOR, P41_NO_CALL};
 ghost use Rattle.b2_flow.specs.declared.frame.Frame.TheVariants.{Call};
-ghost use Rattle.b2_flow.specs.Frames.{is_immediate_loop, names_home};
+ghost use Rattle.b2_flow.specs.Frames.{is_immediate_loop, enters};
 ghost use Rattle.b2_flow.specs.Stacks.{most_frames, has_loop, from_loop, has_call, from_call, top_loop, without_top_loop};
 
 use crate::frame::{Frame, Place, Var2};
@@ -135,10 +135,10 @@ impl Stack {
         self.frames.get(k).copied()
     }
 
-    /// The partitions that the frames name, as marks: the bit of partition h is h - 1. A loop names the home of its body, a
-    /// call the home that it leads back to and the partition whose text it entered.
+    /// The partitions whose texts the frames entered, as marks: the bit of partition h is h - 1. A partition that a call or a
+    /// loop only leads back to is not among them, and the own one is only where a call entered it.
     pub fn homes(&self) -> u16
-        ensures marks { (h : ℕ) → 1 ≤ h → bit_at result (h - 1) ≡ (if list_any (names_home h) self.now then 1 else 0) }
+        ensures marks { (h : ℕ) → 1 ≤ h → bit_at result (h - 1) ≡ (if list_any (enters h) self.now then 1 else 0) }
     {
         search::homes(&self.frames)
     }

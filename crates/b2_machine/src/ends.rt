@@ -6,7 +6,7 @@ use b2_access::Answer;
 use b2_base::Part;
 
 /// Why a turn ends.
-#[derive(Clone, Copy, Debug, PartialEq, Eq)]
+#[derive(Clone, Copy)]
 pub enum Why {
     /// As many steps counted as its quota.
     Quota,
@@ -21,7 +21,7 @@ pub enum Why {
 }
 
 /// How a step ended.
-#[derive(Clone, Copy, Debug, PartialEq, Eq)]
+#[derive(Clone, Copy)]
 pub struct Stepped {
     /// Whether it counts.
     pub counted: bool,
@@ -30,7 +30,7 @@ pub struct Stepped {
 }
 
 /// How a turn ended.
-#[derive(Clone, Copy, Debug, PartialEq, Eq)]
+#[derive(Clone, Copy)]
 pub struct Turned {
     /// How many of its steps counted.
     pub steps: u16,

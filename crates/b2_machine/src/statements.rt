@@ -25,7 +25,7 @@ use b2_text::Text;
 use std::alloc::Global;
 
 /// Who executes a statement.
-#[derive(Clone, Copy, Debug, PartialEq, Eq)]
+#[derive(Clone, Copy)]
 pub enum Builder {
     /// This crate: LIST from a line to a line.
     Listing(u16, u16),

@@ -13,7 +13,7 @@ pub struct Mat<'a> {
 }
 
 /// What an array is filled with.
-#[derive(Clone, Copy, Debug, PartialEq, Eq)]
+#[derive(Clone, Copy)]
 pub enum Fill {
     /// Ones.
     Con,

@@ -10,7 +10,7 @@ use b2_base::codes::P43_SHAPES;
 use b2_dec::{Dec, Mode, add, mul, sub};
 
 /// What two arrays are combined by.
-#[derive(Clone, Copy, Debug, PartialEq, Eq)]
+#[derive(Clone, Copy)]
 pub enum MatOp {
     /// Each number and the other's at its place.
     Add,

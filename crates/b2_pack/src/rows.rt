@@ -14,7 +14,7 @@ const PLUS_NIBBLE: u8 = 0xC;
 const MINUS_NIBBLE: u8 = 0xD;
 
 /// Where the nibble of a sign stands.
-#[derive(Clone, Copy, Debug, PartialEq, Eq)]
+#[derive(Clone, Copy)]
 pub(crate) enum SignNibble {
     /// Nowhere.
     Absent,
@@ -25,7 +25,7 @@ pub(crate) enum SignNibble {
 }
 
 /// Decimal digits in nibbles.
-#[derive(Clone, Copy, Debug, PartialEq, Eq)]
+#[derive(Clone, Copy)]
 pub(crate) struct Row {
     pub(crate) sign: SignNibble,
     /// How many digits there are.

@@ -16,7 +16,7 @@ pub(crate) const PACKED: u8 = 0x60;
 pub(crate) const ALPHA: u8 = 0xA0;
 
 /// What a field holds, and in how many bytes.
-#[derive(Clone, Copy, Debug, PartialEq, Eq)]
+#[derive(Clone, Copy)]
 pub(crate) enum Field {
     /// The text of a number, at the right end of its width in bytes.
     Text(u8),
@@ -29,7 +29,7 @@ pub(crate) enum Field {
 }
 
 /// A pair of a specification.
-#[derive(Clone, Copy, Debug, PartialEq, Eq)]
+#[derive(Clone, Copy)]
 pub(crate) enum Pair {
     /// A number of bytes that are left as they are.
     Skip(u8),

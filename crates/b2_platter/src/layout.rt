@@ -6,7 +6,7 @@ use byteorder::{BigEndian, ByteOrder};
 
 /// The layout of an image: its version, how many bytes a sector number takes, and how many sectors it may have. All
 /// places of fields follow from these.
-#[derive(Clone, Copy, Debug, PartialEq, Eq)]
+#[derive(Clone, Copy)]
 pub enum Layout {
     /// Sector numbers of two bytes.
     Narrow,

@@ -14,7 +14,7 @@ use std::alloc::Global;
 use std::marker::Model;
 
 /// The first check that an image fails, from 1 to 9.
-#[derive(Clone, Copy, Debug, PartialEq, Eq)]
+#[derive(Clone, Copy)]
 pub struct ImageErr(pub u8);
 
 /// A disk image that fails none of the nine checks. Contracts see it as its bytes.

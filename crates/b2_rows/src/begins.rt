@@ -6,8 +6,8 @@ ghost use Rattle.b2_atom.specs.declared.words.Origin.TheVariants.{Atoms};
 ghost use Rattle.b2_atom.specs.declared.forms.Start.TheVariants as start;
 
 use b2_atom::words::{ABS_OPEN, BIN_OPEN, FN, HASH_TERM, HEX_OPEN, LINE_MARK, Origin};
-use b2_atom::{any_name_width, is_alpha_name, numeric_name_width};
-use b2_base::lexical::{first, is_digit, is_hex_digit, rest_after};
+use b2_atom::{any_name_width, is_alpha_name};
+use b2_base::lexical::{first, is_digit, is_hex_digit, is_letter, rest_after};
 
 /// Whether a word or a sign stands at a text.
 pub fn is_at(code: u8, text: &[u8]) -> bool
@@ -46,7 +46,7 @@ pub fn is_numeric_at(text: &[u8]) -> bool
         || is_digit(byte)
         || byte == FN
         || byte >= ABS_OPEN && byte <= HASH_TERM
-        || numeric_name_width(Origin::Atoms, text) > 0
+        || (is_letter(byte) || byte == b'@') && !is_alpha_name(Origin::Atoms, text)
 }
 
 /// Whether a name with an empty pair of parentheses stands at a text.

@@ -7,7 +7,7 @@ use b2_atom::words::{AND, XOR};
 use b2_base::lexical::first;
 
 /// A chain of the table: an item, and further items, each after an operator.
-#[derive(Clone, Copy, Debug, PartialEq, Eq)]
+#[derive(Clone, Copy)]
 pub enum Chain {
     /// Products, joined by `+` and `-`.
     Sum,

@@ -15,7 +15,7 @@ use b2_atom::words::{ELSE, ERROR};
 use b2_base::lexical::rest_after;
 
 /// Where a step goes on.
-#[derive(Clone, Copy, Debug, PartialEq, Eq)]
+#[derive(Clone, Copy)]
 pub enum Goal {
     /// At the line of a number.
     Line(u16),

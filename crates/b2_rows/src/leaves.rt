@@ -20,7 +20,7 @@ use b2_base::lexical::{
 };
 
 /// The name of a variable as it is typed, without subscripts.
-#[derive(Clone, Copy, Debug, PartialEq, Eq)]
+#[derive(Clone, Copy)]
 pub struct Name {
     /// One of `A` to `Z`.
     pub letter: u8,

@@ -10,7 +10,7 @@ use b2_atom::words::{
 use b2_base::lexical::{first, is_digit};
 
 /// A kind of operand in a numeric expression.
-#[derive(Clone, Copy, Debug, PartialEq, Eq)]
+#[derive(Clone, Copy)]
 pub enum Operand {
     /// A number that is written out.
     Number,
@@ -37,7 +37,7 @@ pub enum Operand {
 }
 
 /// A kind of operand in an alpha expression.
-#[derive(Clone, Copy, Debug, PartialEq, Eq)]
+#[derive(Clone, Copy)]
 pub enum AlphaOperand {
     /// Bytes in quotes.
     Literal,

@@ -33,7 +33,16 @@ present_from p (suc n) w = (if is_some (private_of p w) then 1 else 0) + present
 abbrev pub present : WorldState → ℕ
 present w = present_from 1 16 w
 
--- in each round every partition that is present has one turn
+-- in a round each of the sixteen numbers has exactly one turn, with the quota of the boot, in ascending order
+abbrev pub one_turn_each : ℕ → List Action
+one_turn_each q =
+    Turn 1 q ∷ Turn 2 q ∷ Turn 3 q ∷ Turn 4 q ∷ Turn 5 q ∷ Turn 6 q ∷ Turn 7 q ∷ Turn 8 q
+    ∷ Turn 9 q ∷ Turn 10 q ∷ Turn 11 q ∷ Turn 12 q ∷ Turn 13 q ∷ Turn 14 q ∷ Turn 15 q ∷ Turn 16 q ∷ []
+
+abbrev pub RoundsAscend : Type 0
+RoundsAscend = (q n : ℕ) → actions q (event.Rounds (suc n)) ≡ one_turn_each q ++ actions q (event.Rounds n)
+
+-- in each round every partition that is present counts one turn
 abbrev pub CountsTurns : Type 0
 CountsTurns = (n : ℕ) (w : WorldState) → w.turns < 2 ^ 64 → (happens (event.Rounds n) w).turns ≡ tallied w.turns (n * present w)
 

@@ -114,6 +114,12 @@ actions quota (event.Reset p) = Reset p ∷ []
 actions quota (event.Turn p n) = Turn p n ∷ []
 actions quota (event.Rounds n) = rounds quota n
 
+-- an event that gives turns: in these alone memory may fail
+abbrev pub GivesTurns : Event → Type 0
+GivesTurns (event.Turn p n) = Unit {0}
+GivesTurns (event.Rounds n) = Unit {0}
+GivesTurns e = ⊥
+
 -- AN EVENT
 abbrev pub happens : Event → WorldState → WorldState
 happens e w = does_all (actions w.quota e) w

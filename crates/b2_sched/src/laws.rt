@@ -1,7 +1,7 @@
 //! What holds of every world: each law is the contract of a function without a body.
 ghost use Rattle.b2_sched.specs.Clean.{CleanOnesAreAsAlone, MarksSayWhoIsClean, RunsMarkTheirSteps};
 ghost use Rattle.b2_sched.specs.Groups.{CleanGroupsAreAsAlone, GroupsRelyOnTheirOwn, TurnsChangeTheirOwn};
-ghost use Rattle.b2_sched.specs.Laws.{RunsByActions, LeavesOthers, KeepsPresent, CountsTurns, NoPlaceIsKept};
+ghost use Rattle.b2_sched.specs.Laws.{RunsByActions, LeavesOthers, KeepsPresent, RoundsAscend, CountsTurns, NoPlaceIsKept};
 ghost use Rattle.b2_sched.specs.Marking.{TurnsMarkTheirSteps};
 
 /// A run is one list of actions, of which each is a key, a front, a halt, a reset or a turn.
@@ -19,8 +19,13 @@ pub fn law_the_same_are_present()
     ensures { KeepsPresent }
 {}
 
-/// In each round every partition that is present has one turn, and no other has one.
+/// In a round each of the sixteen numbers has exactly one turn, in ascending order.
 pub fn law_a_round_has_a_turn_of_each()
+    ensures { RoundsAscend }
+{}
+
+/// In a round as many turns are counted as partitions are present.
+pub fn law_a_round_counts_those_present()
     ensures { CountsTurns }
 {}
 

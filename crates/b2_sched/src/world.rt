@@ -3,7 +3,7 @@ ghost use Rattle.std.specs.Prelude.{◌≡◌, [], IfOk, IfErr, OnOk};
 ghost use Rattle.b2_audit.specs.Marks.{is_clean};
 ghost use Rattle.b2_store.specs.Meaning.{store_of};
 ghost use Rattle.b2_sched.specs.Start.{booted};
-ghost use Rattle.b2_sched.specs.World.{does, does_all, turns_from, rounds, happens, ran, Key, Front, Halt, Reset, Turn};
+ghost use Rattle.b2_sched.specs.World.{does, does_all, turns_from, rounds, happens, ran, GivesTurns, Key, Front, Halt, Reset, Turn};
 
 use crate::start::{areas_of, fronts_of, privates_of};
 use b2_access::{DeviceTable, Private};
@@ -71,10 +71,11 @@ impl World {
         })
     }
 
-    /// What happens. Where memory fails, no partition is present afterwards, so that none runs on.
+    /// What happens. Where memory fails, no partition is present afterwards, so that none runs on; it fails only in turns.
     pub fn event(&mut self, e: &Event) -> Result<(), NoMemory>
         ensures happened { OnOk result (self.new ≡ happens e.now self.old) }
         ensures ended { IfErr result (λ _. self.new.privates ≡ []) }
+        ensures memory { IfErr result (λ _. GivesTurns e.now) }
     {
         match *e {
             Event::Key(t, k) => self.key(t, k),

@@ -24,7 +24,7 @@ use b2_text::Text;
 use b2_vars::{Setting, Vars};
 
 /// What ROTATE and ROTATEC ask for.
-#[derive(Clone, Copy, Debug, PartialEq, Eq)]
+#[derive(Clone, Copy)]
 pub struct Turn {
     /// The bytes that turn.
     pub to: AlphaReceiver,

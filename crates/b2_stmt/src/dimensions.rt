@@ -27,14 +27,14 @@ use b2_vars::{
 };
 
 /// The dimensions of an array: its rows, and its columns or 0.
-#[derive(Clone, Copy, Debug, PartialEq, Eq)]
+#[derive(Clone, Copy)]
 pub struct Dimensions {
     pub rows: u16,
     pub cols: u16,
 }
 
 /// A variable that DIM or COM makes.
-#[derive(Clone, Copy, Debug, PartialEq, Eq)]
+#[derive(Clone, Copy)]
 pub struct Entry {
     pub var: Var,
     pub shape: Shape,

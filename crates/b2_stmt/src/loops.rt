@@ -23,7 +23,7 @@ use b2_vars::{Var, Vars};
 use std::cmp::Ordering;
 
 /// A loop as FOR writes it: its variable, the value that this begins with, the limit, and what NEXT adds.
-#[derive(Clone, Copy, Debug, PartialEq, Eq)]
+#[derive(Clone, Copy)]
 pub struct Loop {
     pub var: Var2,
     pub from: Dec,

@@ -192,7 +192,8 @@ impl Stores {
     /// Puts a line into the text of a partition, or takes it out where it has no atoms, where nobody stands inside.
     fn put_line(&mut self, who: Part, line: u16, atoms: &Option<Atoms>) -> Result<Answer, NoMemory>
         requires { line ≤ 9999 }
-        ensures { IfOk result (Performs (edits who (puts_line who line atoms.now)) self.old self.new) }
+        ensures performed { IfOk result (Performs (edits who (puts_line who line atoms.now)) self.old self.new) }
+        ensures memory { IfErr result (λ _. IsSome atoms.now) }
     {
         if let Some(q) = self.first_inside(who) {
             return Ok(Answer::Locked(q));
@@ -269,6 +270,7 @@ impl Shared for Stores {
     ghost use Rattle.b2_access.specs.Locality.{serves_is_local, serves_keeps_listed};
     ghost use Rattle.b2_access.specs.Serving.{serves, itself};
     ghost use Rattle.b2_access.specs.Store.{StoreState};
+    ghost use Rattle.b2_access.specs.Touching.{MayWantMemory};
     ghost use Rattle.b2_store.specs.Meaning.{store_of, with_spare};
 
     ghost Meaning = { StoreState };
@@ -278,6 +280,8 @@ impl Shared for Stores {
     ghost store = { itself };
 
     ghost serving = { serves };
+
+    ghost wants = { MayWantMemory };
 
     ghost lending = { λ who home at m w. m };
 

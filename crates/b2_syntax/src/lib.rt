@@ -18,7 +18,7 @@ use std::alloc::Global;
 
 
 /// What a typed line means.
-#[derive(Debug, Drop)]
+#[derive(Drop)]
 pub enum Entered {
     /// Nothing but blanks.
     Empty,
@@ -31,7 +31,7 @@ pub enum Entered {
 }
 
 /// Why a typed line isn't read.
-#[derive(Clone, Copy, Debug, PartialEq, Eq)]
+#[derive(Clone, Copy)]
 pub enum LineErr {
     /// A code and the column, from 1, of what is missing; codes of class A have no column, and 0 in its place.
     At(Code, usize),

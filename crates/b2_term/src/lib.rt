@@ -30,7 +30,7 @@ const BELL: u8 = 7;
 const BACKSPACE: u8 = 8;
 
 /// A key: a byte, or a special function key by its number.
-#[derive(Clone, Copy, Debug, PartialEq, Eq)]
+#[derive(Clone, Copy)]
 pub enum KeyItem {
     Byte(u8),
     Special(u8),

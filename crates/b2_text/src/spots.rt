@@ -7,7 +7,7 @@ use b2_atom::{Atoms, DATA, DEFFN, DEFFN_PRIME};
 use b2_base::lexical::capped_value;
 
 /// A place in a text: a unit of a line, counted from 0.
-#[derive(Clone, Copy, Debug, PartialEq, Eq)]
+#[derive(Clone, Copy)]
 pub struct Spot {
     pub line: u16,
     pub unit: u8,

@@ -23,7 +23,7 @@ use std::collections::btree_map::Range;
 use std::marker::Model;
 
 /// A line of a text.
-#[derive(Clone, Copy, Debug)]
+#[derive(Clone, Copy)]
 pub struct Line<'a> {
     pub number: u16,
     pub atoms: &'a Atoms,
@@ -126,13 +126,14 @@ impl Text {
         first_data(&self.lines, from)
     }
 
-    /// Puts a line in its place, where one of its number gives way. A01 comes exactly where the size would pass the area.
-    /// After a fault the text is as before.
+    /// Puts a line in its place, where one of its number gives way. A01 comes exactly where the size would pass the area, and
+    /// want of memory only where it would not. After a fault the text is as before.
     pub fn put(&mut self, n: u16, a: &Atoms) -> Result<(), Fault>
         requires { n ≤ 9999 }
         ensures ok { OnOk result (self.new ≡ record self.old { lines = with_line n a.now self.old.lines }) }
         ensures fits { OnOk result (size_of (with_line n a.now self.old.lines) ≤ self.old.area) }
         ensures full { IfErr result (λ e. e ≢ Fault.NoMemory → (e ≡ Fault.Code 1) × (self.old.area < size_of (with_line n a.now self.old.lines))) }
+        ensures memory { IfErr result (λ e. e ≡ Fault.NoMemory → size_of (with_line n a.now self.old.lines) ≤ self.old.area) }
         ensures err { OnErr result (self.new ≡ self.old) }
     {
         let cost = cost(a);

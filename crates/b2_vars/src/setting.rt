@@ -3,7 +3,7 @@ use b2_base::{Part, Term};
 use b2_dec::Mode;
 
 /// What the expressions of a partition look at beside its variables and a text.
-#[derive(Clone, Copy, Debug, PartialEq, Eq)]
+#[derive(Clone, Copy)]
 pub struct Setting {
     /// How results become numbers.
     pub mode: Mode,

@@ -14,7 +14,7 @@ pub const LONGEST_VALUE: u8 = 124;
 pub const USUAL_LENGTH: u8 = 16;
 
 /// The dimensions of a variable, 0 for each that it doesn't have, and the length of its alpha values, 0 for numbers.
-#[derive(Clone, Copy, Debug, PartialEq, Eq)]
+#[derive(Clone, Copy)]
 pub struct Shape {
     pub rows: u16,
     pub cols: u16,

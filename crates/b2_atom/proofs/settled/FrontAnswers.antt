@@ -1,12 +1,12 @@
 -- What a text answers where its tokens have a front that settles the question.
-use Rattle.std.proofs.Common.{◌≡◌, ℕ, ◌-◌, ◌==◌, ◌&&◌, ◌||◌, nat_le, nat_lt, Bool, true, false, if◌then◌else◌, List, [], ◌∷◌, ◌++◌, length, get_or, refl, sym, ap, subst, ◌∙◌, arith, inl, inr}
+use Rattle.std.proofs.Common.{◌≡◌, ℕ, ◌-◌, ◌==◌, ◌&&◌, ◌||◌, not, nat_le, nat_lt, Bool, true, false, if◌then◌else◌, List, [], ◌∷◌, ◌++◌, length, get_or, refl, sym, ap, subst, ◌∙◌, arith, inl, inr}
 use Rattle.std.proofs.lemmas.Bool.Decides.{nat_tests}
 use Rattle.b2_base.specs.Lexical.{capped_value, digits_width, first, is_digit, is_hex_digit, is_letter}
 use Rattle.b2_atom.specs.Words.{Text, skipped, ahead, kept_byte, word_at}
 use Rattle.b2_atom.specs.Tokens.{Token}
 use Rattle.b2_atom.specs.Tokens.Token.{Coded, Plain, Lined}
 use Rattle.b2_atom.specs.Leaves.{is_alpha_name, name_width, numeric_name_width, mantissa_width, number_width, local_name_width, function_name_width, literal_width, slot_width, small_width, signed_number_width, relation_width, alpha_name_width}
-use Rattle.b2_atom.specs.Grammar.{alpha_begins, numeric_begins, class_at, is_among, is_line, starts, is_numeric_sign}
+use Rattle.b2_atom.specs.Grammar.{alpha_begins, numeric_begins, begins_name, class_at, is_among, is_line, starts, is_numeric_sign}
 use Rattle.b2_atom.specs.Spelling.{ShowsName, ShowsHex, Named, Spells, is_whole, is_classed}
 use Rattle.b2_atom.specs.Fitting.{leaf_number}
 use Rattle.b2_atom.proofs.Booleans.{or_assoc, and_left, and_right, or_left, or_right, or_none, or_one, or_other, or_false, or_cases, equal, span_of, among_inside, among_apart}
@@ -383,21 +383,40 @@ says_alpha o f false ts s h k spelled = elim (or_cases (is_numeric_name f) (sure
       (not_alpha o (skipped o s) (not_named o (skipped o s) (spans_left name_spans alpha_spans (class_at o s) none))))
 ]
 
-no_number_name : (o : Origin) (u : Text) → is_alpha_name o u ≡ true → nat_lt 0 (numeric_name_width o u) ≡ false
-no_number_name o u h = ap (λ (x : Bool). nat_lt 0 (if x then 0 else name_width o u)) h
+-- where a name without `$` begins, and where none does
+begins_where : (letter at second : Bool) (n m : ℕ) → nat_lt 0 (if letter then n else (if at && second then m else 0)) ≡ true → (letter || at) ≡ true
+begins_where true at second n m h = refl
+begins_where false true second n m h = refl
+begins_where false false second n m h = cc
+
+both_hold : (a b : Bool) → a ≡ true → b ≡ false → (a && not b) ≡ true
+both_hold true b h k = rw k refl
+both_hold false b h k = cc
+
+number_begins : (o : Origin) (u : Text) → is_alpha_name o u ≡ false → nat_lt 0 (numeric_name_width o u) ≡ true → (begins_name (ahead o u).0 && not (is_alpha_name o u)) ≡ true
+number_begins o u a w =
+    let n : nat_lt 0 (name_width o u) ≡ true = ap (λ (x : Bool). nat_lt 0 (if x then 0 else name_width o u)) (sym a) ∙ w in
+    both_hold (begins_name (ahead o u).0) (is_alpha_name o u) (begins_where (is_letter (ahead o u).0) ((ahead o u).0 == 64) _ _ _ n) a
+
+one_fails : (a b : Bool) → b ≡ true → (a && not b) ≡ false
+one_fails true b h = rw h refl
+one_fails false b h = refl
+
+nothing_begins : (c : ℕ) (b : Bool) → spans name_spans c ≡ false → (begins_name c && b) ≡ false
+nothing_begins c b h = ap (λ (x : Bool). x && b) (or_none _ _ (no_letter c h) (no_at c h))
 
 pub says_numeric : (o : Origin) (f : Front) (b : Bool) (ts : List Token) (s : Text) → numeric f b ≡ true → fronts f ts ≡ true → Spells o ts s → numeric_begins o (skipped o s) ≡ b
 says_numeric o f true ts s h k spelled = elim (or_cases (is_numeric_name f) (sure numeric_spans f true) h) [
-  | inl g ↦ or_other _ _ (names_number o f ts s g k spelled).1
+  | inl g ↦ (let n = names_number o f ts s g k spelled in or_other _ _ (number_begins o (skipped o s) n.0 n.1))
   | inr g ↦ or_one _ _ (sign_spans (class_at o s) ∙ class_says numeric_spans o f true ts s g k spelled)
 ]
 says_numeric o f false ts s h k spelled = elim (or_cases (is_alpha_front f) (sure (name_spans ++ numeric_spans) f false) h) [
   | inl g ↦ or_none _ _
       (sign_spans (class_at o s) ∙ spans_left numeric_spans alpha_spans (class_at o s) (class_says (numeric_spans ++ alpha_spans) o f false ts s (alpha_front f g) k spelled))
-      (no_number_name o (skipped o s) (names_alpha o f ts s g k spelled))
+      (one_fails (begins_name (class_at o s)) (is_alpha_name o (skipped o s)) (names_alpha o f ts s g k spelled))
   | inr g ↦ (let none = class_says (name_spans ++ numeric_spans) o f false ts s g k spelled in
       or_none _ _ (sign_spans (class_at o s) ∙ spans_right name_spans numeric_spans (class_at o s) none)
-      (ap (nat_lt 0) (not_numeric o (skipped o s) (not_named o (skipped o s) (spans_left name_spans numeric_spans (class_at o s) none)))))
+      (nothing_begins (class_at o s) (not (is_alpha_name o (skipped o s))) (spans_left name_spans numeric_spans (class_at o s) none)))
 ]
 
 and_none : (a b : Bool) → a ≡ false → (a && b) ≡ false

@@ -1,5 +1,0 @@
-use Rattle.b2_sched.proofs.Lasting.{counts_turns}
-use Rattle.b2_sched.proofs.laws.law_a_round_has_a_turn_of_each.Goals as goal
-
-pub returns : goal.returns
-returns c = counts_turns
