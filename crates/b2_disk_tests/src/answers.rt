@@ -103,11 +103,12 @@ pub fn show_hex(said: &mut String, bytes: &[u8]) -> Result<(), AllocError> {
             said.push(' ')?;
         }
         show_hex_byte(said, *byte)?;
-        left = rest;
-        let length = 1 + count_of_front(rest, *byte);
+        let length = count_of_front(left, *byte);
         if length >= RUN {
             write!(said, "*{length}")?;
-            left = rest_after(rest, length - 1);
+            left = rest_after(left, length);
+        } else {
+            left = rest;
         }
     }
     Ok(())
