@@ -11,3 +11,5 @@ pub mod StepHomes
 pub mod KeptPlace
 pub mod StepTerminal
 pub mod AtOnce
+pub mod Counted
+pub mod Unchanged
