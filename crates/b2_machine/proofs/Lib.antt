@@ -1,6 +1,5 @@
 pub mod Results
 pub mod UnitCounts
-pub mod TextsKept
 pub mod Turns
 pub mod Kept
 pub mod LegalPlans
