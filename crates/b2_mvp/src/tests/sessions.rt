@@ -8,12 +8,12 @@
 //     ! LINE     a line of the log, of which nothing is shown
 //     LINE       a line that is shown
 //
-// An empty line is none. In a line that is shown a backslash says more:
+// An empty line is none. A backslash at the end of a line is none either, and shows which blanks before it belong to the line.
+// In a line that is shown it says more:
 //
 //     \0E        the byte of these two hexadecimal digits
 //     \:         this byte itself, as it would say something else at the front of the line; `\\` is a backslash
 //     \>LINE     the rest is typed there, and RETURN
-//     \          at the end, nothing: the blanks before it belong to the line
 //     \-         at the end: no newline is shown here
 //
 // A session begins with `READY`, and ends with a prompt unless its last line ends with `\-`. What is typed gets turns enough to
@@ -22,6 +22,16 @@
 //
 // The last session of each table is wrong, so that it is seen to be told.
 mod branches;
+mod bytes;
+mod calls;
+mod data;
+mod editing;
+mod input;
+mod loops;
+mod numbers;
+mod printing;
+mod texts;
+mod variables;
 
 use super::transcript_of;
 use b2_base::cut;
@@ -77,7 +87,11 @@ impl<'a> Session<'a> {
     }
 
     // A line is typed, and its keys are echoed.
-    fn type_line(&mut self, line: &[u8]) -> Result<(), AllocError> {
+    fn type_line(&mut self, text: &[u8]) -> Result<(), AllocError> {
+        let line = match text {
+            [front @ .., b'\\'] => front,
+            _ => text,
+        };
         self.grant_turns()?;
         self.transcript.extend_from_slice(line)?;
         self.transcript.push(b'\n')?;
