@@ -4,6 +4,7 @@
 // array` and `array`. LINES are typed before. LENT are typed in another partition, whose variables are then lent as `@` variables;
 // where there are none of these, no `@` variables are found. A variable is shown with its row and its column, and an alpha
 // receiver with the bytes before it and its own.
+// `assign | LINES | TYPED`: the code of an alpha assignment, if there is one, and whether the receiver counts as reached.
 // `elsewhere | AREA | LINES | TYPED`: a receiver that is located, and then assigned among variables of an area where there are none.
 ghost use Rattle.std.specs.Prelude.{IfOk};
 ghost use Rattle.b2_expr.specs.Receivers.{IsNamed};
@@ -24,8 +25,8 @@ use b2_cases::{Cells, number_of};
 use b2_dec::{Bytes, Dec, Kind};
 use b2_expr::{
     AlphaReceiver, Array, Buffer, Element, Env, Receiver, alpha, alpha_receiver, any_receiver,
-    array_named, assign_bytes, assign_number, buffer, condition, is_reached, number,
-    number_receiver, whole_array,
+    array_named, assign_bytes, assign_number, assign_side, buffer, condition, is_reached,
+    is_right_side_read, number, number_receiver, right_side, whole_array,
 };
 use b2_rows::{is_read, row_unit};
 use b2_vars::{Var, Vars};
@@ -78,6 +79,11 @@ fn after_words<'a>(line: &'a Atoms, call: &[u8]) -> &'a [u8] {
         b"whole array" => 2,
         _ => 1,
     };
+    after_count(line, count)
+}
+
+/// What stands in the line after a number of bytes.
+fn after_count(line: &Atoms, count: usize) -> &[u8] {
     match row_unit(line, 0) {
         Some(unit) => rest_after(unit.bytes, count),
         None => &[],
@@ -288,6 +294,24 @@ fn receiver_of(alloc: Global, bench: &Bench<'_>, typed: &[u8]) -> Result<Receive
     }
 }
 
+/// Appends the code of an assignment, if there is one, and whether its receiver counts as reached.
+fn show_assigned(into: &mut String, outcome: &Result<(), Fault>) -> Result<(), Unanswered> {
+    match outcome {
+        Ok(()) => {}
+        Err(Fault::Code(code)) => {
+            show_code(into, *code)?;
+            into.push(' ')?;
+        }
+        Err(Fault::NoMemory) => return Err(Unanswered::NoMemory),
+    }
+    into.push_str(if is_reached(outcome) {
+        "reached"
+    } else {
+        "not reached"
+    })?;
+    Ok(())
+}
+
 /// Assigns a receiver among other variables: its code, whether it is reached, and what the variables take then.
 pub fn elsewhere(alloc: Global, cells: &mut Cells<'_>) -> Answer {
     let area = number_of(cells.next());
@@ -299,20 +323,32 @@ pub fn elsewhere(alloc: Global, cells: &mut Cells<'_>) -> Answer {
         Receiver::Alpha(to) => assign_bytes(&mut vars, &to, b"A"),
     };
     let mut into = String::new(alloc);
-    match &outcome {
-        Ok(()) => {}
-        Err(Fault::Code(code)) => {
-            show_code(&mut into, *code)?;
-            into.push(' ')?;
-        }
-        Err(Fault::NoMemory) => return Err(Unanswered::NoMemory),
-    }
-    into.push_str(if is_reached(&outcome) {
-        "reached"
-    } else {
-        "not reached"
-    })?;
+    show_assigned(&mut into, &outcome)?;
     let count = vars.count();
     write!(into, ", {count} bytes")?;
+    Ok(into)
+}
+
+/// Does an alpha assignment: its code, and whether its receiver is reached.
+pub fn assign_typed(alloc: Global, cells: &mut Cells<'_>) -> Answer {
+    let mut bench = prepared(alloc, &[], cells.next())?;
+    let line = line_of(alloc, Origin::Program, cells.next())?;
+    let text = after_count(&line, 0);
+    if !is_read(ALPHA_RECEIVER, text) {
+        return Err(Unanswered::Misread);
+    }
+    let mut c = Cursor::over(text);
+    let Ok(to) = alpha_receiver(&mut c, &bench.env()) else {
+        return Err(Unanswered::Misread);
+    };
+    let mut c = Cursor::over(rest_after(c.rest(), 1));
+    if !is_right_side_read(c.rest()) {
+        return Err(Unanswered::Misread);
+    }
+    let side = right_side(alloc, &mut c, &bench.env())?;
+    let mut into = String::new(alloc);
+    show_assigned(&mut into, &assign_side(&mut bench.me.vars, &to, &side))?;
+    into.push_str(" before ")?;
+    show_bytes(&mut into, c.rest())?;
     Ok(into)
 }

@@ -25,6 +25,7 @@ fn answer(alloc: Global, call: &[u8], cells: &mut Cells<'_>) -> Answer {
             running::answer(alloc, call, cells)
         }
         b"turns" | b"state" => turning::answer(alloc, call, cells),
+        b"assign" => locating::assign_typed(alloc, cells),
         b"elsewhere" => locating::elsewhere(alloc, cells),
         _ => locating::answer(alloc, call, cells),
     }

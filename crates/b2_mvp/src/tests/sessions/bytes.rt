@@ -12,12 +12,12 @@ const SESSIONS: &[u8] = br#"
 :A$="ABCDEF":INIT(2a)STR(A$,2,3)
 :PRINT A$
 A***EF
-
-= Those before a fault are filled, and those after it are not
+=
 :A$="A":INIT(2A)A$,STR(B$,15)
 :PRINT A$;B$
 ****************              **
-=
+
+= Those before a fault are filled, and those after it are not
 :INIT(2A)A$,B$(1),C$
 ERR P59
 :PRINT STR(A$,1,1);HEXOF(C$)

@@ -276,6 +276,24 @@ ERR C61
 :READ B:PRINT B
  1 \
 
+= READ to receivers of both kinds and to parts of them
+:10 DATA "abcdefg","xy","x"
+:20 DATA 1.5,"xyz"
+:DIM E$5,A(3),B$(2)3
+:B$(1)="X":B$(2)="YZ"
+:READ E$:PRINT STR(E$,1)
+abcde
+:READ STR(E$,2,3):PRINT STR(E$,1)
+axy e
+:READ STR(E$,6,1)
+ERR P34
+:PRINT STR(E$,1)
+axy e
+:READ E$
+:READ A(2),STR(B$(1),2)
+:PRINT A(2);B$(1);B$(2);STR(B$(2),3,1);"!"
+ 1.5 XxyYZ !
+
 = The place of READ stays where lines change, and its count holds only while a DATA stands at that very unit
 :10 DATA 1,2
 :20 DATA 9

@@ -292,7 +292,7 @@ ERR C62
  3 \
 
 = LEN is the length of the value: of a variable up to its last byte that is no blank, of all else the whole
-:DIM A(3),B(2,2),B$(2)3,E$5,L$124,S$5:A=5:B=-2:A1=7
+:DIM B$(2)3,E$5,L$124,S$5
 :A$="ABC":N$="12AB":S$="A B":B$(1)="X":B$(2)="YZ":INIT(4C)L$
 :PRINT LEN("ABC")
  3 \
@@ -387,7 +387,7 @@ ERR C62
  1  1  9 \
 
 = An alpha value has at most 255 bytes
-:DIM A(3),B(2,2),B$(2)3,E$5,L$124,S$5:A=5:B=-2:A1=7
+:DIM B$(2)3,E$5,L$124,S$5
 :A$="ABC":N$="12AB":S$="A B":B$(1)="X":B$(2)="YZ":INIT(4C)L$
 :PRINT LEN(L$&L$&"1234567")
  255 \
@@ -399,7 +399,7 @@ ERR X72
  125 \
 
 = A variable that was never assigned is 0; subscripts lose their fractions, and a second one of 0 is none
-:DIM A(3),B(2,2),B$(2)3,E$5,L$124,S$5:A=5:B=-2:A1=7
+:DIM A(3),B(2,2):A=5:B=-2:A1=7
 :A(1)=10:A(2)=20:A(3)=30:B(1,1)=11:B(1,2)=12:B(2,1)=21:B(2,2)=22
 :PRINT A
  5 \
@@ -431,7 +431,7 @@ ERR X72
  21 \
 
 = An element that the array lacks is P57, an array that is not there P59, after the codes of the subscripts
-:DIM A(3),B(2,2),B$(2)3,E$5,L$124,S$5:A=5:B=-2:A1=7
+:DIM A(3),B(2,2):A=5:B=-2:A1=7
 :A(1)=10:A(2)=20:A(3)=30:B(1,1)=11:B(1,2)=12:B(2,1)=21:B(2,2)=22
 :PRINT A(0)
 ERR P57
@@ -476,7 +476,7 @@ ERR C62
 :9 DEFFN 1(X)=X+1
 :12 DEFFN U(X)=FN9(X)
 :13 DEFFN R(X)=FNR(X)
-:DIM A(3),B(2,2),B$(2)3,E$5,L$124,S$5:A=5:B=-2:A1=7
+:DIM A(3),B(2,2):A=5:B=-2:A1=7
 :A(1)=10:A(2)=20:A(3)=30:B(1,1)=11:B(1,2)=12:B(2,1)=21:B(2,2)=22
 :PRINT FNA(3)
  6 \

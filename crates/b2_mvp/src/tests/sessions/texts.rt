@@ -5,7 +5,7 @@ use std::test::Fail;
 #[rattlefmt::skip]
 const SESSIONS: &[u8] = br#"
 = The value of a variable is its bytes up to the last that is no blank, at least one; literals have all of theirs
-:DIM A(3),B(2,2),B$(2)3,E$5,L$124,S$5:A=5:B=-2:A1=7
+:DIM B$(2)3,E$5,L$124,S$5
 :A$="ABC":N$="12AB":S$="A B":B$(1)="X":B$(2)="YZ":INIT(4C)L$
 :PRINT "ABC"
 ABC
@@ -29,7 +29,7 @@ YZX
 BC
 
 = STR is a part of all bytes that the variable has
-:DIM A(3),B(2,2),B$(2)3,E$5,L$124,S$5:A=5:B=-2:A1=7
+:DIM B$(2)3,E$5,L$124,S$5
 :A$="ABC":N$="12AB":S$="A B":B$(1)="X":B$(2)="YZ":INIT(4C)L$
 :PRINT STR(A$,1,5);"!"
 ABC  !
@@ -114,7 +114,7 @@ ERR P34
 ERR P34
 
 = The first code from the left counts
-:DIM A(3),B(2,2),B$(2)3,E$5,L$124,S$5:A=5:B=-2:A1=7
+:DIM B$(2)3,E$5,L$124,S$5
 :A$="ABC":N$="12AB":S$="A B":B$(1)="X":B$(2)="YZ":INIT(4C)L$
 :PRINT Q$(1)
 ERR P59
