@@ -80,13 +80,6 @@ ERR P40
 :RUN
  9 END
 
-= A GOSUB at the end of the program leads back to its end
-:10 GOTO 30
-:20 PRINT "IN":RETURN
-:30 GOSUB 20
-:RUN
-IN
-
 = A line that INPUT or LINPUT read sets the column to 0
 :10 INPUT A:PRINT TAB(3);"X"
 :RUN
