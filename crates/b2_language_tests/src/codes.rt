@@ -1,14 +1,15 @@
 // Codes of errors, and why a line isn't read, as rows show them.
 use b2_atom::Stop;
 use b2_base::{Code, Fault};
+use b2_cases::shown::show_code;
 use b2_syntax::LineErr;
 use std::alloc::{AllocError, Global};
 
 /// The letter of a code's class and its two digits.
 pub fn code_shown(alloc: Global, code: Code) -> Result<String, AllocError> {
-    let class = code.class() as char;
-    let number = code.number();
-    format!(in alloc; "{class}{number:02}")
+    let mut text = String::new(alloc);
+    show_code(&mut text, code)?;
+    Ok(text)
 }
 
 /// A code, or that memory failed.

@@ -1,7 +1,6 @@
 // A partition that executes statements by themselves: over texts and variables that it is lent, its accesses answered by a row.
 ghost use Rattle.std.specs.Prelude.{◌≤◌};
 
-use crate::answers::Unanswered;
 use crate::showing::{show_code, show_lines};
 use b2_access::{
     Access, Answer, DeviceTable, Lent, Outcome, Planned, Private, line_named, place_after,
@@ -11,6 +10,7 @@ use b2_atom::Atoms;
 use b2_atom::words::Origin;
 use b2_base::lexical::{capped_value, digits_width, first, is_digit, rest_after};
 use b2_base::{ByteList, NoMemory, Part, Term, cut};
+use b2_cases::answers::Unanswered;
 use b2_expr::Env;
 use b2_flow::Place;
 use b2_text::Text;

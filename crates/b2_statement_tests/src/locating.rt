@@ -9,7 +9,6 @@
 ghost use Rattle.std.specs.Prelude.{IfOk};
 ghost use Rattle.b2_expr.specs.Receivers.{IsNamed};
 
-use crate::answers::{Answer, Unanswered};
 use crate::bench::{Bench, line_of};
 use crate::showing::show_code;
 use b2_atom::rows::{
@@ -20,6 +19,7 @@ use b2_atom::words::Origin;
 use b2_atom::{Atoms, Cursor};
 use b2_base::lexical::{first_bytes, rest_after};
 use b2_base::{Code, Fault};
+use b2_cases::answers::{Answer, Unanswered};
 use b2_cases::shown::{show_bytes, show_truth};
 use b2_cases::{Cells, number_of};
 use b2_dec::{Bytes, Dec, Kind};

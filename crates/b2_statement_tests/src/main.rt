@@ -4,14 +4,13 @@
 //! it, and each module's first lines say how its rows are written.
 #![tactic(auto)]
 
-mod answers;
 mod bench;
 mod locating;
 mod running;
 mod showing;
 mod turning;
 
-use answers::{Answer, Unanswered};
+use b2_cases::answers::{Answer, Unanswered};
 use b2_cases::{Calls, Cells, try_rows};
 use std::alloc::{AllocError, Global};
 use std::io;

@@ -5,10 +5,10 @@
 // `at home | PROGRAM | HOME | LINE`: from a line of the text of partition 2.
 // `control | LINE` and `terminal | LINE`: a line that is executed by one of the two crates, whatever stands there.
 // `read on | PROGRAM | LINE | UNIT | COUNT`: what READ takes where it is to go on there, and where it goes on then.
-use crate::answers::{Answer, Unanswered};
 use crate::bench::{Bench, Builder};
 use b2_atom::words::Origin;
 use b2_base::Part;
+use b2_cases::answers::{Answer, Unanswered};
 use b2_cases::{Cells, number_of, small_of};
 use b2_flow::Place;
 use b2_text::Spot;

@@ -8,11 +8,11 @@ ghost use Rattle.std.specs.Prelude.{◌≡◌, IfOk, OnOk, IsSome};
 ghost use Rattle.b2_access.specs.Store.{content};
 ghost use Rattle.b2_store.specs.Meaning.{store_of};
 
-use crate::answers::{Answer, Unanswered};
 use crate::showing::show_lines;
 use b2_access::{DeviceTable, Object, Private};
 use b2_base::lexical::capped_value;
 use b2_base::{NoMemory, Part, Term, cut};
+use b2_cases::answers::{Answer, Unanswered};
 use b2_cases::{Cells, number_of};
 use b2_flow::{Frame, Place};
 use b2_machine::{Stepped, Turned, Why, step, turn};

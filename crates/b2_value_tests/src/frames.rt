@@ -10,11 +10,11 @@
 // A frame is a letter. Loops: I, J, K and I1 of those variables, up to 9 by steps of 2, in line 30 of partition 4; x and y up
 // to 3 by steps of 1, in the immediate line of partition 3. Calls: c back to line 10 of partition 1, e back to line 20 of
 // partition 2 from 16, s back to the ready state.
-use crate::answers::{Answer, Unanswered};
 use crate::items::Items;
 use crate::showing::{show_code, show_dec, show_outcome};
 use b2_base::Part;
 use b2_cases::Cells;
+use b2_cases::answers::{Answer, Unanswered};
 use b2_cases::shown::show_truth;
 use b2_dec::Dec;
 use b2_flow::{Frame, Place, Stack, Var2};
@@ -63,10 +63,7 @@ fn variable(word: &[u8]) -> Result<Var2, Unanswered> {
 fn frame_of(word: &[u8]) -> Result<Frame, Unanswered> {
     match word {
         b"c" => Ok(call_back(Some(place(Part::known(1), Some(10))), None)),
-        b"e" => Ok(call_back(
-            Some(place(Part::known(2), Some(20))),
-            Some(Part::known(16)),
-        )),
+        b"e" => Ok(call_back(Some(place(Part::known(2), Some(20))), Some(Part::known(16)))),
         b"s" => Ok(call_back(None, None)),
         b"x" | b"y" => Ok(Frame::For {
             var: variable(word)?,

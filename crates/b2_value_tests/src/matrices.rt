@@ -5,12 +5,12 @@
 //   refused.
 // - `matrix scale | MODE | NUMBER | ARRAY`, `matrix transpose | ARRAY`: the receiver, after the code, if any.
 // - `matrix fill | WITH | ROWS COLUMNS`: the receiver, after the code, if any. WITH is `ones`, `zeros` or `unit`.
-use crate::answers::{Answer, Unanswered};
 use crate::decimals::mode_of;
 use crate::items::{Items, dec_of};
 use crate::showing::{show_code, show_decs};
 use b2_base::Code;
 use b2_cases::Cells;
+use b2_cases::answers::{Answer, Unanswered};
 use b2_dec::Dec;
 use b2_matrix::{Fill, Mat, MatOp, combine, fill, scale, transpose};
 use std::alloc::{AllocError, Global};

@@ -10,9 +10,9 @@
 // `BOX ROWS COLUMNS`.
 ghost use Rattle.std.specs.Prelude.{◌≤◌, IfOk};
 
-use crate::answers::{Answer, Unanswered};
 use crate::items::{Item, Items, dec_of, values_of};
 use crate::showing::{show_code, show_fault, show_quoted};
+use b2_cases::answers::{Answer, Unanswered};
 use b2_cases::{Cells, bytes_of, is_yes, number_of};
 use b2_dec::Bytes;
 use b2_print::{Item as Shown, are_on_screen, column_after, convert, lay, using};

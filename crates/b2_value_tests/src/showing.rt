@@ -1,7 +1,8 @@
 // Numbers, values, codes and packed bytes as rows show them.
+use b2_base::Code;
 use b2_base::lexical::{first_bytes, hex_pair, rest_after};
-use b2_base::{Code, Fault};
 use b2_cases::shown::show_bytes;
+pub use b2_cases::shown::{show_code, show_fault};
 use b2_dec::{Dec, Value};
 use std::alloc::{AllocError, Global};
 use std::fmt::Write;
@@ -84,22 +85,6 @@ pub fn show_values(alloc: Global, into: &mut String, values: &[Value]) -> Result
         show_value(alloc, into, value)?;
     }
     Ok(())
-}
-
-/// Appends a code: the letter of its class and two digits.
-pub fn show_code(into: &mut String, code: Code) -> Result<(), AllocError> {
-    let number = code.number();
-    into.push(code.class() as char)?;
-    write!(into, "{number:02}")?;
-    Ok(())
-}
-
-/// Appends the code of a refusal.
-pub fn show_fault(into: &mut String, fault: Fault) -> Result<(), AllocError> {
-    match fault {
-        Fault::Code(code) => show_code(into, code),
-        Fault::NoMemory => into.push_str("no memory"),
-    }
 }
 
 /// Appends `ok`, or the code.

@@ -9,11 +9,11 @@
 ghost use Rattle.std.specs.Prelude.{◌≡◌, true};
 ghost use Rattle.b2_vars.specs.Names.{is_legal_name};
 
-use crate::answers::{Answer, Unanswered};
 use crate::items::{Items, dec_of, value_of};
 use crate::showing::{show_code, show_fault, show_outcome, show_quoted, show_value};
 use b2_base::Fault;
 use b2_cases::Cells;
+use b2_cases::answers::{Answer, Unanswered};
 use b2_cases::shown::show_truth;
 use b2_dec::Value;
 use b2_vars::{Shape, Var, Vars};
@@ -232,8 +232,14 @@ fn set(
     requires { is_legal_name v ≡ true }
 {
     match value_of(alloc, items.next())? {
-        Value::Number(x) if !v.alpha => show_result(shown, vars.set(v, row, column, &Value::Number(x))),
-        Value::Alpha(bytes) if v.alpha => show_result(shown, vars.set(v, row, column, &Value::Alpha(bytes))),
+        Value::Number(x) if !v.alpha => show_result(
+            shown,
+            vars.set(v, row, column, &Value::Number(x)),
+        ),
+        Value::Alpha(bytes) if v.alpha => show_result(
+            shown,
+            vars.set(v, row, column, &Value::Alpha(bytes)),
+        ),
         _ => Err(Unanswered::Misread),
     }
 }

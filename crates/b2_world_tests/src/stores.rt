@@ -16,8 +16,8 @@ use crate::pieces::{show_named, word};
 use b2_access::{Access, Answer, At, Object, Shared};
 use b2_atom::Atoms;
 use b2_audit::{Seen, Watched};
-use b2_base::{ByteList, Code, NoMemory, Part, Term};
-use b2_cases::shown::show_truth;
+use b2_base::{ByteList, NoMemory, Part, Term};
+use b2_cases::shown::{show_code, show_truth};
 use b2_cases::{Cells, bytes_of, number_of, small_of};
 use b2_store::{StoreBoot, Stores};
 use b2_term::KeyItem;
@@ -99,14 +99,6 @@ fn access_of(alloc: Global, spelled: &[u8]) -> Result<Option<Access>, NoMemory>
         b"show" | b"read" | b"insert" | b"key" => at_terminal(alloc, kind, rest),
         _ => at_text(alloc, kind, rest),
     }
-}
-
-/// Shows a code by its class and its number.
-fn show_code(into: &mut String, code: Code) -> Result<(), NoMemory> {
-    into.push(code.class() as char)?;
-    let number = code.number();
-    write!(into, "{number:02}")?;
-    Ok(())
 }
 
 /// Shows an answer.
