@@ -60,9 +60,9 @@ pub fn bytes_of(alloc: Global, cell: &[u8]) -> Result<Vec<u8>, AllocError> {
     Ok(bytes)
 }
 
-/// The whole number that a cell's digits say, at most 4294967295.
+/// The whole number that a cell's digits say, at most 100000000.
 pub fn whole_of(cell: &[u8]) -> u32 {
-    capped_value(cell, 4294967295)
+    capped_value(cell, 100000000)
 }
 
 /// The whole number that a cell's digits say, at most 65535.

@@ -26,10 +26,13 @@ mod bytes;
 mod calls;
 mod data;
 mod editing;
+mod first_codes;
 mod input;
 mod loops;
 mod numbers;
 mod printing;
+mod resuming;
+mod steps;
 mod texts;
 mod variables;
 
