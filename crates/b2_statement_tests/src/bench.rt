@@ -33,7 +33,7 @@ pub enum Builder {
 
 /// A partition and what it is lent.
 #[derive(Drop)]
-pub struct Bench<'a> {
+pub struct Bench {
     pub me: Private,
     own: Text,
     /// The text of partition 2.
@@ -43,8 +43,9 @@ pub struct Bench<'a> {
     /// Whether there are `@` variables.
     pub found: bool,
     pub builder: Builder,
-    /// The answers to come.
-    answers: &'a [u8],
+    /// The answers, and how many of their bytes have been read.
+    answers: Vec<u8>,
+    read: usize,
     /// What was shown, and how the lines ended.
     pub told: String,
 }
@@ -101,14 +102,30 @@ fn answer_of(alloc: Global, item: &[u8]) -> Result<Answer, Unanswered> {
     }
 }
 
-impl<'a> Bench<'a> {
+/// The text in which a place is.
+fn home_of<'a>(place: Place, own: &'a Text, other: &'a Text) -> &'a Text {
+    if place.home.number() == 1 { own } else { other }
+}
+
+/// The place after one, in a program or in the immediate line.
+fn moved(me: &Private, home: &Text, place: Place) -> Option<Place> {
+    if place.unit == 255 {
+        return None;
+    }
+    match line_named(&me.immediate, home, place.line) {
+        Some(line) => place_after(home, line, place),
+        None => None,
+    }
+}
+
+impl Bench {
     /// Partition 1 with a program of its own, beside another program of partition 2.
     pub fn new(
         alloc: Global,
         own: &[u8],
         other: &[u8],
-        answers: &'a [u8],
-    ) -> Result<Bench<'a>, Unanswered> {
+        answers: &[u8],
+    ) -> Result<Bench, Unanswered> {
         Ok(Bench {
             me: Private::new(alloc, Part::known(1), Term::known(1), 4096)?,
             own: program_of(alloc, own)?,
@@ -116,7 +133,8 @@ impl<'a> Bench<'a> {
             globals: Vars::new(alloc, 4096)?,
             found: false,
             builder: Builder::Either,
-            answers,
+            answers: Vec::from_slice(alloc, answers)?,
+            read: 0,
             told: String::new(alloc),
         })
     }
@@ -138,28 +156,18 @@ impl<'a> Bench<'a> {
         }
     }
 
-    /// The text in which a place is.
-    fn home_of(&self, place: Place) -> &Text {
-        if place.home.number() == 1 {
-            &self.own
-        } else {
-            &self.other
-        }
-    }
-
     /// Whether the crate of statements at the terminal executes the statement at a place.
     fn is_at_terminal(&self, place: Place) -> bool {
         match self.builder {
             Builder::Control => false,
             Builder::Terminal => true,
-            Builder::Either => match statement_placed(
-                place,
-                &self.me.immediate,
-                self.home_of(place),
-            ) {
-                Some(unit) => b2_stmt_io::is_built(unit.row),
-                None => false,
-            },
+            Builder::Either => {
+                let home = home_of(place, &self.own, &self.other);
+                match statement_placed(place, &self.me.immediate, home) {
+                    Some(unit) => b2_stmt_io::is_built(unit.row),
+                    None => false,
+                }
+            }
         }
     }
 
@@ -173,11 +181,7 @@ impl<'a> Bench<'a> {
         let devices = DeviceTable::new(Vec::new(alloc));
         let mut lent = Lent {
             own: &self.own,
-            home: if place.home.number() == 1 {
-                &self.own
-            } else {
-                &self.other
-            },
+            home: home_of(place, &self.own, &self.other),
             globals: &mut self.globals,
             found: self.found,
         };
@@ -199,11 +203,7 @@ impl<'a> Bench<'a> {
     ) -> Result<Outcome, NoMemory> {
         let mut lent = Lent {
             own: &self.own,
-            home: if place.home.number() == 1 {
-                &self.own
-            } else {
-                &self.other
-            },
+            home: home_of(place, &self.own, &self.other),
             globals: &mut self.globals,
             found: self.found,
         };
@@ -246,12 +246,13 @@ impl<'a> Bench<'a> {
         if matches!(access, Access::Show { .. }) {
             return Ok(Some(Answer::Done));
         }
-        if self.answers.is_empty() {
+        let (item, _) = cut(rest_after(&self.answers, self.read), MARK);
+        if item.is_empty() {
             return Ok(None);
         }
-        let (item, rest) = cut(self.answers, MARK);
-        self.answers = rest.unwrap_or(&[]);
-        Ok(Some(answer_of(alloc, item)?))
+        let answer = answer_of(alloc, item)?;
+        self.read = self.read.saturating_add(item.len()).saturating_add(1);
+        Ok(Some(answer))
     }
 
     /// How the statement at a place ends, None where it waits for an answer.
@@ -265,18 +266,6 @@ impl<'a> Bench<'a> {
         match self.next_answer(alloc, &access)? {
             Some(answer) => Ok(Some(self.finish(alloc, place, at_terminal, &access, &answer)?)),
             None => Ok(None),
-        }
-    }
-
-    /// The place after one, in a program or in the immediate line.
-    fn moved(&self, place: Place) -> Option<Place> {
-        if place.unit == 255 {
-            return None;
-        }
-        let home = self.home_of(place);
-        match line_named(&self.me.immediate, home, place.line) {
-            Some(line) => place_after(home, line, place),
-            None => None,
         }
     }
 
@@ -297,7 +286,8 @@ impl<'a> Bench<'a> {
         };
         match outcome {
             Outcome::Next | Outcome::Break => {
-                self.me.place = self.moved(place);
+                let home = home_of(place, &self.own, &self.other);
+                self.me.place = moved(&self.me, home, place);
                 self.me.prompted = false;
             }
             Outcome::Jump(to) => self.me.place = Some(to),
@@ -331,6 +321,15 @@ impl<'a> Bench<'a> {
         Ok(())
     }
 
+    /// Puts the partition at a place.
+    pub fn put_at(&mut self, home: Part, line: Option<u16>) {
+        self.me.place = Some(Place {
+            home,
+            line,
+            unit: 0,
+        });
+    }
+
     /// Does the lines of a cell, of which those with a number go into the program.
     pub fn type_lines(&mut self, alloc: Global, lines: &[u8]) -> Result<(), Unanswered> {
         let mut left = lines;
@@ -357,11 +356,7 @@ impl<'a> Bench<'a> {
         source: &[u8],
     ) -> Result<(), Unanswered> {
         self.me.immediate = Some(line_of(alloc, origin, source)?);
-        self.me.place = Some(Place {
-            home: Part::known(1),
-            line: None,
-            unit: 0,
-        });
+        self.put_at(Part::known(1), None);
         self.go_on(alloc)
     }
 }

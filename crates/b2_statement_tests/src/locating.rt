@@ -34,7 +34,7 @@ use std::alloc::{AllocError, Global};
 use std::mem::swap;
 
 /// A partition after lines that set its variables, and those that it is lent.
-fn prepared<'a>(alloc: Global, lent: &[u8], lines: &[u8]) -> Result<Bench<'a>, Unanswered> {
+fn prepared(alloc: Global, lent: &[u8], lines: &[u8]) -> Result<Bench, Unanswered> {
     let mut bench = Bench::new(alloc, &[], &[], &[])?;
     bench.type_lines(alloc, lines)?;
     if !lent.is_empty() {
@@ -280,7 +280,7 @@ fn push_portion(into: &mut String, to: &AlphaReceiver) -> Result<(), AllocError>
 }
 
 /// The receiver that is typed.
-fn receiver_of(alloc: Global, bench: &Bench<'_>, typed: &[u8]) -> Result<Receiver, Unanswered>
+fn receiver_of(alloc: Global, bench: &Bench, typed: &[u8]) -> Result<Receiver, Unanswered>
     ensures { IfOk result IsNamed }
 {
     let line = framed(alloc, b"receiver", typed)?;

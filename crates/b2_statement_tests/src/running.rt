@@ -10,7 +10,6 @@ use b2_atom::words::Origin;
 use b2_base::Part;
 use b2_cases::answers::{Answer, Unanswered};
 use b2_cases::{Cells, number_of, small_of};
-use b2_flow::Place;
 use b2_text::Spot;
 use std::alloc::Global;
 
@@ -38,11 +37,7 @@ fn run_at_home(alloc: Global, cells: &mut Cells<'_>) -> Answer {
     let own = cells.next();
     let home = cells.next();
     let mut bench = Bench::new(alloc, own, home, &[])?;
-    bench.me.place = Some(Place {
-        home: Part::known(2),
-        line: Some(number_of(cells.next())),
-        unit: 0,
-    });
+    bench.put_at(Part::known(2), Some(number_of(cells.next())));
     bench.go_on(alloc)?;
     Ok(bench.told)
 }
