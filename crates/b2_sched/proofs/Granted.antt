@@ -63,7 +63,7 @@ more_from who (suc n) me s k =
     let x = step_of me s in
     let c = counted_on k x.end in
     more_by x.end.why x.end.counted (step_told who me s) (steps_in_turn who n x.me x.after) k x.me x.after (turn_from itself serves after_loan n x.me x.after c)
-        (steps_count_or_end itself serves after_loan me s) (more_from who n x.me x.after c)
+    (steps_count_or_end itself serves after_loan me s) (more_from who n x.me x.after c)
 
 no_more : (n : ℕ) → n + 0 ≡ n
 no_more n = omega arith
@@ -87,7 +87,7 @@ from_few quota p (suc k) w =
     let one = turned_few p quota (private_of p w) w in
     let same : present_from (p + 1) k after ≡ present_from (p + 1) k w = there_from (p + 1) k after w (λ q. does_there q (Turn p quota) w) in
     let more : (does_all (turns_from quota (p + 1) k) after).steps ≤ after.steps + present_from (p + 1) k w * quota =
-        subst (λ n. (does_all (turns_from quota (p + 1) k) after).steps ≤ after.steps + n * quota) same (from_few quota (p + 1) k after) in
+    subst (λ n. (does_all (turns_from quota (p + 1) k) after).steps ≤ after.steps + n * quota) same (from_few quota (p + 1) k after) in
     one_and_more (is_some (private_of p w)) quota after.steps w.steps _ _ one more
 
 rounds_few : (quota n : ℕ) (w : WorldState) → (does_all (rounds quota n) w).steps ≤ w.steps + n * (present w * quota)
@@ -98,7 +98,7 @@ rounds_few quota (suc n) w =
     let one : after.steps ≤ w.steps + present w * quota = from_few quota 1 16 w in
     let same : present after ≡ present w = there_from 1 16 after w (λ q. all_there q round w) in
     let more : (does_all (rounds quota n) after).steps ≤ after.steps + n * (present w * quota) =
-        subst (λ k. (does_all (rounds quota n) after).steps ≤ after.steps + n * (k * quota)) same (rounds_few quota n after) in
+    subst (λ k. (does_all (rounds quota n) after).steps ≤ after.steps + n * (k * quota)) same (rounds_few quota n after) in
     let whole : (does_all (rounds quota (suc n)) w).steps ≡ (does_all (rounds quota n) after).steps = ap (λ (v : WorldState). v.steps) (does_append round (rounds quota n) w) in
     omega arith
 
@@ -198,6 +198,6 @@ run_few b (e ∷ es) w is few =
 pub runs_keep_to_their_grant : RunsKeepToTheirGrant
 runs_keep_to_their_grant b log =
     let few : present (booted b) ≤ length b.partitions =
-        subst (λ n. n ≤ length b.partitions) (sym (present_listed 1 16 (booted b))) (subst (λ n. listed (booted b).privates 1 16 ≤ n) (length-map b.partitions private_row) (listed_few (booted b).privates 1 16)) in
+    subst (λ n. n ≤ length b.partitions) (sym (present_listed 1 16 (booted b))) (subst (λ n. listed (booted b).privates 1 16 ≤ n) (length-map b.partitions private_row) (listed_few (booted b).privates 1 16)) in
     let all = run_few b log (booted b) refl few in
     omega arith
