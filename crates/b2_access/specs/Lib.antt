@@ -10,6 +10,7 @@ pub mod Loans
 pub mod Task
 pub mod Serving
 pub mod Causes
+pub mod Answering
 pub mod Objects
 pub mod Contents
 pub mod TaskLocality
@@ -21,3 +22,4 @@ pub mod Placed
 pub mod Homes
 pub mod Keeping
 pub mod OwnTerminal
+pub mod Waiting

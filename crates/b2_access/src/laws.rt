@@ -1,7 +1,8 @@
 //! What holds of a partition itself, and of serving: each law is the contract of a function without a body.
 ghost use Rattle.std.specs.Prelude.{ℕ};
 ghost use Rattle.b2_access.specs.Partition.{at_start, KeepsNone};
-ghost use Rattle.b2_access.specs.Serving.{StopsUnchanged};
+ghost use Rattle.b2_access.specs.Answering.{AnswersByRow};
+ghost use Rattle.b2_access.specs.Serving.{StopsUnchanged, serves};
 ghost use Rattle.b2_access.specs.Causes.{WaitsForTheFront, LocksForTheFirst, RefusesForRoom};
 
 /// A partition that starts keeps no place. While program text runs none is kept: that is what statements have to leave so.
@@ -27,4 +28,9 @@ pub fn law_locked_is_for_the_first_inside()
 /// A code is answered exactly where nobody stands inside the text, and it has no room for the line that is put: A01.
 pub fn law_a_code_is_for_want_of_room()
     ensures { RefusesForRoom }
+{}
+
+/// Every answer is one of those that the row of its access has.
+pub fn law_answers_are_of_their_rows()
+    ensures { AnswersByRow serves }
 {}

@@ -4,6 +4,7 @@ ghost use Rattle.std.specs.Borrow.{sem};
 ghost use Rattle.b2_vars.specs.Tables.{VarsState};
 ghost use Rattle.b2_access.specs.declared.accesses.Access.{Access as AccessSpec};
 ghost use Rattle.b2_access.specs.declared.lending.At.{At as AtSpec};
+ghost use Rattle.b2_access.specs.Answering.{AnswersByRow};
 ghost use Rattle.b2_access.specs.Lending.{globals_lent};
 ghost use Rattle.b2_access.specs.Loans.{Loan, LendsFrom, LoansGlobals, globals_at, left_at};
 ghost use Rattle.b2_access.specs.Sharing.{ServingOf, IsLocal, KeepsListed};
@@ -63,6 +64,9 @@ pub trait Shared {
 
     /// What an access is answered and writes depends on what it touches alone, and all else stays.
     ghost local: { IsLocal store serving };
+
+    /// An access is answered as its row says.
+    ghost answers_by_row: { AnswersByRow serving };
 
     /// What is listed stays so.
     ghost keeps_listed: { KeepsListed store serving };

@@ -64,6 +64,8 @@ impl<S: Shared> Shared for Watched<'_, S> {
 
     ghost local = { watching_is_local S.store S.serving S.local };
 
+    ghost answers_by_row = { λ m who x. S.answers_by_row m.0 who x };
+
     ghost keeps_listed = { watching_keeps_listed S.store S.serving S.keeps_listed };
 
     ghost loans = { λ who home at s w. ap (λ m. (m, touch_all who (lent_to who home) s.seen.now)) (S.loans who home at s.inner.now w) };

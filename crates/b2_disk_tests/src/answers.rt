@@ -1,6 +1,7 @@
 // What calls answer, as rows show it.
 use b2_base::lexical::{hex_digit, rest_after};
 use b2_base::{Code, Fault, NoMemory};
+pub use b2_cases::shown::show_code;
 use std::alloc::{AllocError, AllocFailed, Global};
 
 /// Why a call is not answered.
@@ -36,14 +37,6 @@ pub fn told(alloc: Global, answer: Result<String, Unanswered>) -> Result<String,
         Err(Unanswered::Misread) => format!(in alloc; "misread"),
         Err(Unanswered::NoMemory) => format!(in alloc; "no memory"),
     }
-}
-
-/// Appends a code: the letter of its class, and two digits.
-pub fn show_code(said: &mut String, code: Code) -> Result<(), AllocError> {
-    let number = code.number();
-    said.push(code.class() as char)?;
-    said.push((b'0' + number / 10) as char)?;
-    said.push((b'0' + number % 10) as char)
 }
 
 /// Appends the code of a fault.

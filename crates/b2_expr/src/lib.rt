@@ -42,7 +42,7 @@ pub use functions::{fixed, whole_between};
 pub use named::{Element, variable_of};
 pub use operations::{AlphaOperator, Operation, RightSide, is_right_side_read};
 pub use operators::Level;
-pub use passing::{past_alpha_receiver, past_any_receiver, past_number_receiver};
+pub use passing::{past_alpha_receiver, past_any_receiver, past_number_receiver, past_sum};
 pub use receiver::{AlphaReceiver, Array, Buffer, Portion, Receiver};
 pub use receivers::{
     alpha_receiver, any_receiver, array_named, buffer, number_receiver, right_side, whole_array,

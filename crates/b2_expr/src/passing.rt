@@ -25,7 +25,7 @@ use b2_rows::{
 /// Past a sum.
 #[cycle(passing)]
 #[tactic(auto, using(b2_rows::proofs::EachChain::sum_item, b2_rows::proofs::EachChain::sum_list, b2_rows::proofs::EachChain::sum_rest, crate::proofs::Passed::sum_on_item, crate::proofs::Passed::sum_on_list, crate::proofs::Passed::sum_on_rest, crate::proofs::Passed::sum_on_shorter, crate::proofs::Passed::sum_off_rest, b2_rows::proofs::Levels::part_no_longer))]
-fn past_sum(text: &[u8]) -> &[u8]
+pub fn past_sum(text: &[u8]) -> &[u8]
     requires part { is_part row.SUM text.now ≡ true }
     ensures { result.now ≡ after_part row.SUM text.now }
 {

@@ -272,7 +272,7 @@ module _ {M : Type 0} (store : M → StoreState) (serving : ServingOf M) (lendin
 
   enter_keeps : (o : Option (ℕ × Option (List ℕ))) (me : Private) (m : M) → KeepsNone me → KeepsNone (enters_or_goes_on store serving lending o me m).me
   enter_keeps None me m h = run_keeps me.place me m refl h
-  enter_keeps (Some line) me m h = put_keeps _ (record me { numbered = None }) h
+  enter_keeps (Some line) me m h = put_keeps _ me h
 
   type_keeps : (o : Option (List ℕ)) (me : Private) (m : M) → KeepsNone me → KeepsNone (types_or_goes_on store serving lending o me m).me
   type_keeps None me m h = enter_keeps me.numbered me m h

@@ -1,6 +1,5 @@
 pub mod Results
 pub mod UnitCounts
-pub mod TextsKept
 pub mod Turns
 pub mod Kept
 pub mod LegalPlans
@@ -11,3 +10,5 @@ pub mod StepHomes
 pub mod KeptPlace
 pub mod StepTerminal
 pub mod AtOnce
+pub mod Counted
+pub mod Unchanged

@@ -203,7 +203,7 @@ module _ {M : Type 0} (store : M → StoreState) (serving : ServingOf M) (lendin
   by_place (Some p) me = by_statement p me
 
   by_number : (x : Option (ℕ × Option (List ℕ))) (me : Private) → Goes me.part (λ s. asks_to_enter x me s) (λ m. enters_or_goes_on store serving lending x me m)
-  by_number (Some line) me = by_answer me (puts_numbered line) (λ a. put_by a (record me { numbered = None }))
+  by_number (Some line) me = by_answer me (puts_numbered line) (λ a. put_by a me)
   by_number None me = by_place me.place me
 
   by_literal : (x : Option (List ℕ)) (me : Private) → Goes me.part (λ s. asks_to_type x me s) (λ m. types_or_goes_on store serving lending x me m)

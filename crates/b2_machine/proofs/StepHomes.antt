@@ -241,7 +241,7 @@ module _ (among : ℕ → Bool) where
         (carried_in b.course p b.me (lent store serving lending me m) h x, x.part)
 
     at_number : (x : Option (ℕ × Option (List ℕ))) (me : Private) (m : M) → Within me → StepIn (enters_or_goes_on store serving lending x me m) (asks_to_enter x me (store m))
-    at_number (Some line) me m w = (put_in _ (record me { numbered = None }) (record { part = w.part; place = w.place; kept = w.kept; frames = w.frames }), w.part)
+    at_number (Some line) me m w = (put_in _ me w, w.part)
     at_number None me m w = at_place me.place me m w.place w
 
     at_literal : (x : Option (List ℕ)) (me : Private) (m : M) → Within me → StepIn (types_or_goes_on store serving lending x me m) (asks_to_type x me (store m))

@@ -179,7 +179,7 @@ module _ {M : Type 0} (store : M → StoreState) (serving : ServingOf M) (lendin
       (carried_stays b.course p b.me (lent store serving lending me m) ∙ h.0, h.1)
 
   at_number : (x : Option (ℕ × Option (List ℕ))) (me : Private) (m : M) → StepAt me.term (enters_or_goes_on store serving lending x me m) (asks_to_enter x me (store m))
-  at_number (Some line) me m = (put_stays (serving m me.part (puts_numbered line)).answer (record me { numbered = None }), names_none me.term (puts_numbered line) refl)
+  at_number (Some line) me m = (put_stays (serving m me.part (puts_numbered line)).answer me, names_none me.term (puts_numbered line) refl)
   at_number None me m = at_place me.place me m
 
   at_literal : (x : Option (List ℕ)) (me : Private) (m : M) → StepAt me.term (types_or_goes_on store serving lending x me m) (asks_to_type x me (store m))

@@ -10,3 +10,4 @@ pub mod Step
 pub mod Turn
 pub mod Stays
 pub mod Touched
+pub mod Counting

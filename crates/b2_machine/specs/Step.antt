@@ -82,7 +82,7 @@ module _ {M : Type 0} (store : M → StoreState) (serving : ServingOf M) (lendin
 
   -- the fifth: a numbered line that was read is put into the own text
   abbrev pub enters_line : ℕ × Option (List ℕ) → Private → M → StepEnd M
-  enters_line line me m = asks_for (puts_numbered line) (λ a. put_by a (record me { numbered = None })) me m
+  enters_line line me m = asks_for (puts_numbered line) (λ a. put_by a me) me m
 
   -- the sixth: the statement at its place is executed. It ends at once over what is lent, or over what is lent again after
   -- the access that it planned.

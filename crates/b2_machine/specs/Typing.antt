@@ -57,10 +57,19 @@ line_taken bytes me = takes_or_refuses (reads bytes) (record me { term_column = 
 abbrev pub puts_numbered : ℕ × Option (List ℕ) → Access
 puts_numbered line = access.PutLine (min line.0 9999) line.1 0
 
+-- the line that an access puts, back from it
+abbrev pub atoms_put : Access → Option (List ℕ)
+atoms_put (access.PutLine line atoms homes) = atoms
+atoms_put x = None
+
+-- the line isn't waiting to be put any more
+abbrev pub without_numbered : Private → Private
+without_numbered me = record me { numbered = None }
+
 -- It was put, and as after any edit there are no frames and nothing is kept; or it is refused, since another partition stands
--- in the text or there is no room for it.
+-- in the text or there is no room for it. With any other answer it waits on.
 abbrev pub put_by : Answer → Private → Ending
-put_by answer.Done me = carries_on (prompts [] (without_frames me))
-put_by (answer.Locked q) me = carries_on (refuses A08_TEXT_BORROWED [] me)
-put_by (answer.Refused code) me = carries_on (refuses code [] me)
+put_by answer.Done me = carries_on (prompts [] (without_frames (without_numbered me)))
+put_by (answer.Locked q) me = carries_on (refuses A08_TEXT_BORROWED [] (without_numbered me))
+put_by (answer.Refused code) me = carries_on (refuses code [] (without_numbered me))
 put_by a me = again a me

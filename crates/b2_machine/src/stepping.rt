@@ -11,7 +11,7 @@ use crate::keys::press_over;
 use crate::readiness::{halt, reset};
 use crate::statements::{Builder, Course, begin_over, finish_over};
 use crate::typing::{
-    after_literal, after_pending, after_put, on_own_line, put_numbered, take_line,
+    after_literal, after_pending, after_put, atoms_put, on_own_line, put_numbered, take_line,
 };
 use b2_access::{Access, Answer, At, DeviceTable, Object, Private, Shared};
 use b2_base::{ByteList, NoMemory, Part};
@@ -96,7 +96,7 @@ fn read_line<S: Shared>(alloc: Global, me: &mut Private, s: &mut S) -> Result<St
     }
 }
 
-/// A numbered line is put into the own text.
+/// A numbered line is put into the own text; where it has to wait, it is kept.
 fn enter_line<S: Shared>(alloc: Global, me: &mut Private, s: &mut S) -> Result<Stepped, NoMemory>
     requires read { IsSome me.old.numbered }
     ensures ended { IfOk result (λ e. record { me = me.new; after = S.meaning s.new; end = e } ≡ spec.enters_or_goes_on S.store S.serving S.lending me.old.numbered me.old (S.meaning s.old)) }
@@ -109,6 +109,7 @@ fn enter_line<S: Shared>(alloc: Global, me: &mut Private, s: &mut S) -> Result<S
     };
     let access = put_numbered(line, atoms);
     let answer = ask_store(s, me.part, &access)?;
+    me.numbered = Some((line, atoms_put(access)));
     after_put(alloc, me, &answer)
 }
 

@@ -121,22 +121,35 @@ pub fn put_numbered(line: u16, atoms: Option<Atoms>) -> Access
     }
 }
 
-/// A numbered line was put, or it is refused.
+/// The line that an access puts into the text, back from it.
+pub fn atoms_put(access: Access) -> Option<Atoms>
+    ensures { result ≡ spec.atoms_put access }
+{
+    match access {
+        Access::PutLine { atoms, .. } => atoms,
+        _ => None,
+    }
+}
+
+/// A numbered line was put, or it is refused; with any other answer it waits on.
 pub fn after_put(alloc: Global, me: &mut Private, answer: &Answer) -> Result<Stepped, NoMemory>
     ensures ended { IfOk result (λ e. record { me = me.new; end = e } ≡ spec.put_by answer.now me.old) }
     ensures part { me.new.part ≡ me.old.part }
 {
     match answer {
         Answer::Done => {
+            me.numbered = None;
             drop_frames(me);
             prompt(me, Vec::new(alloc))?;
             Ok(counts())
         }
         Answer::Locked(_) => {
+            me.numbered = None;
             refuse(alloc, me, Code::known(A08_TEXT_BORROWED))?;
             Ok(counts())
         }
         Answer::Refused(code) => {
+            me.numbered = None;
             refuse(alloc, me, *code)?;
             Ok(counts())
         }

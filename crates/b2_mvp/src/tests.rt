@@ -1,6 +1,7 @@
 // What no clause says: that the machine, the boot and the log are those which the manuals and our rules want, by whole runs
 // with all that they write; and that each refusal has its status.
-use b2_base::MemShelf;
+use crate::top::mvp;
+use b2_base::{MemShelf, MemSink};
 use std::alloc::{AllocError, Global};
 use std::collections::BTreeMap;
 
@@ -8,6 +9,7 @@ mod groups;
 mod long_lines;
 mod refusals;
 mod runs;
+mod sessions;
 mod shared_runs;
 
 // Partition 1 on terminal 1.
@@ -68,4 +70,16 @@ fn shelf(
         files.insert(b"log".to_vec(alloc)?, Vec::from_slice(alloc, log)?)?;
     }
     Ok(MemShelf::new(alloc, files, Vec::from_slice(alloc, failing)?))
+}
+
+// What terminal 1 shows in a run, or the line for the status where that isn't 0.
+fn transcript_of(alloc: Global, boot: &[u8], log: &[u8]) -> Result<Vec<u8>, AllocError> {
+    let mut shelf = shelf(alloc, Some(boot), Some(log), &[])?;
+    let mut sink = MemSink::new(alloc, Vec::new(alloc));
+    let status = mvp(alloc, &run_words(alloc)?, &mut shelf, &mut sink);
+    if status.number() == 0 {
+        Vec::from_slice(alloc, shelf.file(b"out.t01").unwrap_or(b""))
+    } else {
+        Vec::from_slice(alloc, status.message().bytes())
+    }
 }

@@ -48,14 +48,14 @@ turned_there : (q p n : ℕ) (m : Option Private) (w : WorldState) → is_some (
 turned_there q p n None w = refl
 turned_there q p n (Some me) w = row_there q p (turn_of n me w.store).me w.privates
 
-does_there : (q : ℕ) (a : Action) (w : WorldState) → is_some (private_of q (does a w)) ≡ is_some (private_of q w)
+pub does_there : (q : ℕ) (a : Action) (w : WorldState) → is_some (private_of q (does a w)) ≡ is_some (private_of q w)
 does_there q (Key t k) w = refl
 does_there q (Front t p) w = refl
 does_there q (Halt p) w = changed_there q p asked_to_halt (private_of p w) w.privates
 does_there q (Reset p) w = changed_there q p asked_to_reset (private_of p w) w.privates
 does_there q (Turn p n) w = turned_there q p n (private_of p w) w
 
-all_there : (q : ℕ) (xs : List Action) (w : WorldState) → is_some (private_of q (does_all xs w)) ≡ is_some (private_of q w)
+pub all_there : (q : ℕ) (xs : List Action) (w : WorldState) → is_some (private_of q (does_all xs w)) ≡ is_some (private_of q w)
 all_there q [] w = refl
 all_there q (x ∷ xs) w = all_there q xs (does x w) ∙ does_there q x w
 
@@ -63,7 +63,7 @@ pub same_present : KeepsPresent
 same_present e w p = all_there p (actions w.quota e) w
 
 -- how many are present after a turn, and after a round
-there_from : (p n : ℕ) (v w : WorldState) → ((q : ℕ) → is_some (private_of q v) ≡ is_some (private_of q w)) → present_from p n v ≡ present_from p n w
+pub there_from : (p n : ℕ) (v w : WorldState) → ((q : ℕ) → is_some (private_of q v) ≡ is_some (private_of q w)) → present_from p n v ≡ present_from p n w
 there_from p zero v w same = refl
 there_from p (suc n) v w same = rw (same p, there_from (p + 1) n v w same) refl
 

@@ -15,3 +15,4 @@ pub mod Present
 pub mod WatchedTurns
 pub mod WorldMarks
 pub mod KeptPlaces
+pub mod Granted

@@ -118,7 +118,7 @@ by_place None me = by_line me
 by_place (Some place) me = by_statement place me
 
 by_number : (x : Option (ℕ × Option (List ℕ))) (me : Private) → IsMarkedBy me.part (λ s. asks_to_enter x me s) (λ s. enters_or_goes_on itself serves after_loan x me s) (λ m. enters_or_goes_on store_in (watching itself serves) (watched_loan after_loan) x me m)
-by_number (Some line) me = by_answer me (puts_numbered line) (λ a. put_by a (record me { numbered = None }))
+by_number (Some line) me = by_answer me (puts_numbered line) (λ a. put_by a me)
 by_number None me = by_place me.place me
 
 by_literal : (x : Option (List ℕ)) (me : Private) → IsMarkedBy me.part (λ s. asks_to_type x me s) (λ s. types_or_goes_on itself serves after_loan x me s) (λ m. types_or_goes_on store_in (watching itself serves) (watched_loan after_loan) x me m)

@@ -1,11 +1,14 @@
 -- What holds of every world, in words of its own.
-use Rattle.std.specs.Prelude.{◌≡◌, ◌≢◌, ℕ, zero, suc, ◌+◌, ◌*◌, ◌^◌, ◌<◌, List, [], ◌∷◌, ◌++◌, Some, is_some, if◌then◌else◌}
+use Rattle.std.specs.Prelude.{◌≡◌, ◌≢◌, ℕ, zero, suc, ◌+◌, ◌*◌, ◌^◌, ◌<◌, ◌≤◌, List, [], ◌∷◌, ◌++◌, length, Some, is_some, if◌then◌else◌}
 use Rattle.b2_boot.specs.Boots.{BootState}
+use Rattle.b2_boot.specs.Logs.{granted_by}
 use Rattle.b2_boot.specs.declared.log.Event.{Event}
 use Rattle.b2_boot.specs.declared.log.Event.TheVariants as event
 use Rattle.b2_access.specs.Partition.{KeepsNone}
+use Rattle.b2_access.specs.Store.{StoreState}
 use Rattle.b2_access.specs.declared.private.Private.{Private}
 use Rattle.b2_sched.specs.Start.{booted}
+use Rattle.b2_sched.specs.Turns.{steps_in_turn, turn_of}
 use Rattle.b2_sched.specs.World.{WorldState, Action, Turn, private_of, tallied, actions, does, does_all, happens, ran}
 
 -- the actions of all events, in order
@@ -45,6 +48,14 @@ RoundsAscend = (q n : ℕ) → actions q (event.Rounds (suc n)) ≡ one_turn_eac
 -- in each round every partition that is present counts one turn
 abbrev pub CountsTurns : Type 0
 CountsTurns = (n : ℕ) (w : WorldState) → w.turns < 2 ^ 64 → (happens (event.Rounds n) w).turns ≡ tallied w.turns (n * present w)
+
+-- a run from a boot counts no more steps than its log grants
+abbrev pub RunsKeepToTheirGrant : Type 0
+RunsKeepToTheirGrant = (b : BootState) (log : List Event) → (ran log (booted b)).steps ≤ granted_by b log
+
+-- a turn counts all of its steps, or all but its last
+abbrev pub TurnsCountAllButOne : Type 0
+TurnsCountAllButOne = (who quota : ℕ) (me : Private) (s : StoreState) → length (steps_in_turn who quota me s) ≤ (turn_of quota me s).turned.steps + 1
 
 -- Whatever was run, no partition keeps a place for CONTINUE while its program runs.
 abbrev pub NoPlaceIsKept : Type 0

@@ -1,7 +1,7 @@
 //! What holds of every world: each law is the contract of a function without a body.
 ghost use Rattle.b2_sched.specs.Clean.{CleanOnesAreAsAlone, MarksSayWhoIsClean, RunsMarkTheirSteps};
 ghost use Rattle.b2_sched.specs.Groups.{CleanGroupsAreAsAlone, GroupsRelyOnTheirOwn, TurnsChangeTheirOwn};
-ghost use Rattle.b2_sched.specs.Laws.{RunsByActions, LeavesOthers, KeepsPresent, RoundsAscend, CountsTurns, NoPlaceIsKept};
+ghost use Rattle.b2_sched.specs.Laws.{RunsByActions, LeavesOthers, KeepsPresent, RoundsAscend, CountsTurns, NoPlaceIsKept, RunsKeepToTheirGrant, TurnsCountAllButOne};
 ghost use Rattle.b2_sched.specs.Marking.{TurnsMarkTheirSteps};
 
 /// A run is one list of actions, of which each is a key, a front, a halt, a reset or a turn.
@@ -27,6 +27,16 @@ pub fn law_a_round_has_a_turn_of_each()
 /// In a round as many turns are counted as partitions are present.
 pub fn law_a_round_counts_those_present()
     ensures { CountsTurns }
+{}
+
+/// A run from a boot counts no more steps than its log grants.
+pub fn law_a_run_keeps_to_its_grant()
+    ensures { RunsKeepToTheirGrant }
+{}
+
+/// A turn has at most one step that doesn't count.
+pub fn law_a_turn_counts_all_but_one()
+    ensures { TurnsCountAllButOne }
 {}
 
 /// Whatever was run, no partition keeps a place for CONTINUE while its program runs.

@@ -1,5 +1,5 @@
 -- ON and its list of lines, by their rows.
-use Rattle.std.proofs.Common.{◌≡◌, ◌<◌, ◌≤◌, ℕ, suc, ◌+◌, ◌-◌, ◌==◌, Bool, true, false, if◌then◌else◌, List, [], ◌∷◌, drop, get_or, Some, None, Ok, refl, sym, ap, subst, ◌∙◌, arith}
+use Rattle.std.proofs.Common.{◌≡◌, ◌<◌, ◌≤◌, ℕ, suc, ◌+◌, ◌-◌, ◌==◌, not, Bool, true, false, if◌then◌else◌, List, [], ◌∷◌, drop, get_or, Some, None, Ok, refl, sym, ap, subst, ◌∙◌, arith}
 use Rattle.std.specs.Prelude.{slice_get}
 use Rattle.b2_base.specs.Byte as byte
 use Rattle.b2_base.specs.Lexical.{first}
@@ -26,7 +26,7 @@ use Rattle.b2_expr.specs.Scope.{Context}
 use Rattle.b2_expr.specs.Value.{value}
 use Rattle.b2_expr.specs.declared.operators.Level.TheVariants as level
 use Rattle.b2_rows.proofs.RowsRead.{stands_of}
-use Rattle.b2_stmt.specs.Choices.{choice_in, counted_line, lines_after, lines_of}
+use Rattle.b2_stmt.specs.Choices.{calls_a_line, choice_in, counted_line, lines_after, lines_of}
 use Rattle.b2_stmt.specs.Lines.{lines_at}
 use Rattle.b2_rows.specs.CommaLists.{commas}
 
@@ -143,6 +143,16 @@ on_by : (s : Context) (b : Bool) (sum x y : Trees) → choice_in s (Put (Coded w
     ≡ (value s level.Sum sum >>= (λ n. Ok (b, counted_line (fixed n) (lines_of (if b then x else y)))))
 on_by s true sum x y = refl
 on_by s false sum x y = refl
+
+calls_by : (b : Bool) (sum x y : Trees) → calls_a_line (Put (Coded word.ON) (In 2 sum (if b then In 1 x Done else In 0 y Done))) ≡ not b
+calls_by true sum x y = refl
+calls_by false sum x y = refl
+
+pub on_calls : (t : Text) → is_part row.ON t ≡ true → calls_a_line (tree_at row.ON t) ≡ not (first (listed_text t) == word.GOTO)
+unfolding starts
+on_calls t ok =
+    ap calls_a_line (stands_of row.ON on_items t on_row ok).1
+    ∙ calls_by (first (listed_text t) == word.GOTO) (tree_at row.SUM (drop 1 t)) (tree_at row.ON_GOTO (listed_text t)) (tree_at row.ON_GOSUB (listed_text t))
 
 pub on_is : (s : Context) (t : Text) → is_part row.ON t ≡ true → choice_in s (tree_at row.ON t)
     ≡ (value s level.Sum (tree_at row.SUM (drop 1 t)) >>= (λ n. Ok (first (listed_text t) == word.GOTO, counted_line (fixed n) (lines_at (drop 1 (listed_text t))))))

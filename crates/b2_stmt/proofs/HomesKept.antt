@@ -1,5 +1,5 @@
 -- A statement names no partition as a home but its own and those that were named before.
-use Rattle.std.proofs.Common.{◌≡◌, ℕ, ◌==◌, ◌&&◌, ◌∙◌, refl, sym, ap, nat_lt, Bool, true, false, if◌then◌else◌, List, [], ◌∷◌, length, Option, Some, None, is_some, Result, Ok, Err}
+use Rattle.std.proofs.Common.{◌≡◌, ℕ, ◌==◌, ◌&&◌, not, ◌∙◌, refl, sym, ap, nat_lt, Bool, true, false, if◌then◌else◌, List, [], ◌∷◌, length, Option, Some, None, is_some, Result, Ok, Err}
 use Rattle.std.specs.Prelude.{slice_get, unwrap_or, ◌+◌, ◌-◌, ◌%◌, ◌^◌}
 use Rattle.std.proofs.Math.Nat.{zero-div}
 use Rattle.std.specs.Option.{option_map, option_and_then}
@@ -36,14 +36,14 @@ use Rattle.b2_access.specs.declared.planned.Outcome.TheVariants as outcome
 use Rattle.b2_access.specs.declared.private.Private.{Private}
 use Rattle.b2_expr.specs.Value.{context_of}
 use Rattle.b2_access.specs.Partition.{setting_of}
-use Rattle.b2_stmt.specs.Asked.{Here, asked_of, asks_choice, asks_loop, asks_mark, body_place, carried, line_chosen, place_after, still}
+use Rattle.b2_stmt.specs.Asked.{Here, asked_of, asks_choice, asks_loop, asks_on, asks_mark, body_place, carried, line_chosen, place_after, still}
 use Rattle.b2_stmt.specs.Arguments.{arguments, operands_of}
 use Rattle.b2_stmt.specs.OnVariables.{is_on_variables, on_variables}
 use Rattle.b2_stmt.specs.Marked.{calls_mark, mark_in, mark_place, number_called, parameters_of, place_in, takes_values, takes_args}
 use Rattle.b2_stmt.specs.Reading.{reads_data}
 use Rattle.b2_stmt.specs.Branches.{goto_goal, if_goal, passed_function}
 use Rattle.b2_stmt.specs.Calls.{back_from, called_where, forgets, leaves_call}
-use Rattle.b2_stmt.specs.Choices.{choice_in}
+use Rattle.b2_stmt.specs.Choices.{calls_a_line, choice_in}
 use Rattle.b2_stmt.specs.Clearing.{asked_access, cleared, edited, edit_finishes}
 use Rattle.b2_stmt.specs.Course.{continues, restores, restores_where, runs, runs_from, runs_where}
 use Rattle.b2_stmt.specs.Frames.{with_frame}
@@ -169,12 +169,16 @@ module _ (among : ℕ → Bool) where
   chosen_in true None h lines k after = tt
   chosen_in true (Some n) h lines k after = lined (line_at n lines) (line_start h.place n) k
   chosen_in false None h lines k after = tt
-  chosen_in false (Some n) h lines k after = either AskedIn (is_some h.place.line) _ _ after tt
+  chosen_in false (Some n) h lines k after = after
 
   choice_asked : (r : Result (Bool × Option ℕ) ℕ) (h : Here) (lines : Lines) → among h.place.home ≡ true → PlaceIn among (place_after h lines) → AskedIn (asks_choice r h lines)
   unfolding AskedIn
   choice_asked (Ok p) h lines k after = chosen_in p.0 p.1 h lines k after
   choice_asked (Err code) h lines k after = tt
+
+  on_asked : (t : Trees) (h : Here) (s : Context) (lines : Lines) → among h.place.home ≡ true → PlaceIn among (place_after h lines) → AskedIn (asks_on t h s lines)
+  unfolding AskedIn
+  on_asked t h s lines k after = either AskedIn (calls_a_line t && not (is_some h.place.line)) _ _ tt (choice_asked (choice_in s t) h lines k after)
 
   mark_asked : (n : ℕ) (args : Result (List Value) ℕ) (back : Option Place) → PlaceIn among back → AskedIn (asks_mark n args back)
   unfolding AskedIn
@@ -202,7 +206,7 @@ module _ (among : ℕ → Bool) where
       (either AskedIn (r == row.RESTORE) _ _ tt
       (either AskedIn (r == row.CLEAR_V) _ _ tt
       (either AskedIn (r == row.CLEAR_N) _ _ tt
-      (either AskedIn (r == row.ON) _ _ (choice_asked (choice_in s t) h lines k after)
+      (either AskedIn (r == row.ON) _ _ (on_asked t h s lines k after)
       (either AskedIn (r == row.GOSUB_MARKED) _ _ (mark_asked (number_called t) (arguments s (operands_of t)) (place_after h lines) after) (still_in r t h s lines k)))))))))))))))
 
   -- loops

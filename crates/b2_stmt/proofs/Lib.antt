@@ -33,3 +33,4 @@ pub mod ReadingOrder
 pub mod Erased
 pub mod HomesKept
 pub mod KeptPlaces
+pub mod Waits

@@ -1,5 +1,5 @@
 -- What a statement asks of the private state, by its row and its tree.
-use Rattle.std.specs.Prelude.{◌≡◌, ℕ, ◌+◌, ◌==◌, ◌||◌, Bool, true, false, List, Option, None, Some, is_some, unwrap_or, Result, Ok, Err, if◌then◌else◌}
+use Rattle.std.specs.Prelude.{◌≡◌, ℕ, ◌+◌, ◌==◌, ◌&&◌, ◌||◌, not, Bool, true, false, List, Option, None, Some, is_some, unwrap_or, Result, Ok, Err, if◌then◌else◌}
 use Rattle.b2_base.specs.declared.codes.TheConstants.{S26_PROGRAM_ONLY, S27_LEFT_OUT}
 use Rattle.b2_dec.specs.declared.number.Mode.TheVariants.{Round, Cut}
 use Rattle.b2_dec.specs.declared.values.Value.{Value}
@@ -18,7 +18,7 @@ use Rattle.b2_access.specs.declared.planned.Outcome.TheVariants as outcome
 use Rattle.b2_access.specs.declared.private.Private.{Private}
 use Rattle.b2_stmt.specs.Branches.{goto_goal, if_goal, passed_function}
 use Rattle.b2_stmt.specs.Calls.{called_where, forgets, goes_back, has_all, line_called}
-use Rattle.b2_stmt.specs.Choices.{choice_in}
+use Rattle.b2_stmt.specs.Choices.{calls_a_line, choice_in}
 use Rattle.b2_stmt.specs.Course.{clears_variables, continues, line_to_restore, line_to_run, restores, runs, selects, stop_text, stops_program, text_of_stop}
 use Rattle.b2_access.specs.Going.{to_found, to_goal, to_line}
 use Rattle.b2_stmt.specs.Loops.{loop_begins, counter_in, loop_in, nexts, scalar_of}
@@ -45,16 +45,20 @@ abbrev pub asks_loop : Result Loop ℕ → Place → Asked
 asks_loop (Ok l) body = asked.Begin l body
 asks_loop (Err code) body = asked.Nothing (outcome.Failed code)
 
--- ON: to the line that is chosen, or a call of it in a program; out of range it goes on
+-- ON: to the line that is chosen, or a call of it; out of range it goes on
 abbrev pub line_chosen : Bool → Option ℕ → Here → Lines → Asked
 line_chosen true None h lines = asked.Nothing outcome.Next
 line_chosen true (Some n) h lines = asked.Nothing (to_line lines h.place n)
 line_chosen false None h lines = asked.Nothing outcome.Next
-line_chosen false (Some n) h lines = if is_some h.place.line then asked.Call n (place_after h lines) else asked.Nothing (outcome.Failed S26_PROGRAM_ONLY)
+line_chosen false (Some n) h lines = asked.Call n (place_after h lines)
 
 abbrev pub asks_choice : Result (Bool × Option ℕ) ℕ → Here → Lines → Asked
 asks_choice (Ok p) h lines = line_chosen p.0 p.1 h lines
 asks_choice (Err code) h lines = asked.Nothing (outcome.Failed code)
+
+-- a call is for programs alone, whatever the number
+abbrev pub asks_on : Trees → Here → Context → Lines → Asked
+asks_on t h s lines = if calls_a_line t && not (is_some h.place.line) then asked.Nothing (outcome.Failed S26_PROGRAM_ONLY) else asks_choice (choice_in s t) h lines
 
 -- GOSUB': a call of the DEFFN' of a number, which passes values
 abbrev pub asks_mark : ℕ → Result (List Value) ℕ → Option Place → Asked
@@ -98,7 +102,7 @@ asked_of r t h s lines =
     else (if r == row.RESTORE then asked.Restore (line_to_restore t)
     else (if r == row.CLEAR_V then asked.Clear true
     else (if r == row.CLEAR_N then asked.Clear false
-    else (if r == row.ON then asks_choice (choice_in s t) h lines
+    else (if r == row.ON then asks_on t h s lines
     else (if r == row.GOSUB_MARKED then asks_mark (number_called t) (arguments s (operands_of t)) (place_after h lines)
     else asked.Nothing (still r t h s lines)))))))))))))))
 

@@ -1,5 +1,5 @@
 -- ON: a line of a list, by a number.
-use Rattle.std.specs.Prelude.{ℕ, ◌-◌, ◌==◌, ℤ, pos, Bool, List, [], ◌∷◌, Option, None, Some, Result, Ok, Err, slice_get, if◌then◌else◌}
+use Rattle.std.specs.Prelude.{ℕ, ◌-◌, ◌==◌, ℤ, pos, Bool, false, not, List, [], ◌∷◌, Option, None, Some, Result, Ok, Err, slice_get, if◌then◌else◌}
 use Rattle.b2_base.specs.declared.codes.TheConstants.{S17_NUMERIC}
 use Rattle.b2_atom.specs.Tree.{Trees}
 use Rattle.b2_atom.specs.Tree.Trees.{Put, In}
@@ -27,6 +27,11 @@ counted_line z lines = None
 abbrev pub lines_of : Trees → List ℕ
 lines_of (Put word lines) = lines_in_list lines
 lines_of t = []
+
+-- whether ON calls the line that it chooses
+abbrev pub calls_a_line : Trees → Bool
+calls_a_line (Put word (In m sum (In n literals_listed end))) = not (n == 1)
+calls_a_line t = false
 
 -- whether ON goes there or calls, and the line that is chosen
 abbrev pub choice_in : Context → Trees → Result (Bool × Option ℕ) ℕ

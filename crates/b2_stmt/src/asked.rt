@@ -9,7 +9,6 @@ ghost use Rattle.b2_stmt.specs.Arguments.{arguments, operands_of};
 ghost use Rattle.b2_stmt.specs.Marked.{number_called as called_number};
 ghost use Rattle.b2_expr.specs.Scope.{surroundings_of as about};
 ghost use Rattle.b2_stmt.specs.Branches.{if_goal as if_goal_of};
-ghost use Rattle.b2_stmt.specs.Choices.{choice_in};
 ghost use Rattle.b2_access.specs.Going.{to_found};
 ghost use Rattle.b2_stmt.specs.Loops.{loop_in};
 ghost use Rattle.b2_stmt.specs.Course.{stop_text as shown_by_stop, text_of_stop};
@@ -19,7 +18,7 @@ ghost use Rattle.b2_stmt.specs.Asked.{HasLegalNames};
 use crate::arguments::arguments_of;
 use crate::branches::{goto_goal, if_goal, passed_function, passed_goal};
 use crate::calls::{call_line, forget, go_back, has_all, line_called};
-use crate::choices::choice_at;
+use crate::choices::{calls_a_line, choice_at};
 use crate::course::{
     clear, line_to_restore, line_to_run, restore, resume, run_program, select, stop, stop_text,
     text_of_stop,
@@ -110,13 +109,7 @@ fn line_chosen(goto: bool, line: Option<u16>, home: &Text, atoms: &Atoms, place:
     match (goto, line) {
         (_, None) => Asked::Nothing(Outcome::Next),
         (true, Some(n)) => Asked::Nothing(to_line(home, place, n)),
-        (false, Some(n)) => {
-            if place.line.is_some() {
-                Asked::Call(n, place_after(home, atoms, place))
-            } else {
-                Asked::Nothing(failed(S26_PROGRAM_ONLY))
-            }
-        }
+        (false, Some(n)) => Asked::Call(n, place_after(home, atoms, place)),
     }
 }
 
@@ -131,9 +124,12 @@ fn ask_choice<'a>(
 ) -> Asked
     requires part { is_part row.ON unit.now ≡ true }
     requires few { place.unit < 255 }
-    ensures asked { result ≡ spec.asks_choice (choice_in (in_statement (about a.now vars.now home.now)) (tree_at row.ON unit.now)) (record { place = place; units = tree_units line.now }) home.now.lines }
+    ensures asked { result ≡ spec.asks_on (tree_at row.ON unit.now) (record { place = place; units = tree_units line.now }) (in_statement (about a.now vars.now home.now)) home.now.lines }
     ensures named { HasLegalNames result }
 {
+    if place.line.is_none() && calls_a_line(unit) {
+        return Asked::Nothing(failed(S26_PROGRAM_ONLY));
+    }
     let e = Env {
         globals: None,
         ..surroundings_of(a, vars, home)

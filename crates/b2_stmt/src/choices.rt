@@ -16,7 +16,7 @@ use b2_atom::words::GOTO;
 use b2_base::Code;
 use b2_base::lexical::rest_after;
 use b2_dec::{Dec, fix, whole};
-use b2_expr::{Env, number};
+use b2_expr::{Env, number, past_sum};
 use b2_rows::{is_at, line_at};
 
 /// The k-th line of a list, counted from 0, None where it has no such line.
@@ -56,6 +56,15 @@ fn line_after_word(listed: &[u8], x: Dec) -> Option<u16>
     ensures { result ≡ spec.counted_line (fixed x) (lines_at (drop 1 listed.now)) }
 {
     counted_line(rest_after(listed, 1), whole(fix(x)))
+}
+
+/// Whether ON calls the line that it chooses.
+#[tactic(auto, using(crate::proofs::ChoiceRows::on_sum, crate::proofs::ChoiceRows::on_calls))]
+pub fn calls_a_line(unit: &[u8]) -> bool
+    requires part { is_part row.ON unit.now ≡ true }
+    ensures { result ≡ spec.calls_a_line (tree_at row.ON unit.now) }
+{
+    !is_at(GOTO, past_sum(rest_after(unit, 1)))
 }
 
 /// Whether ON goes there or calls, and the line that is chosen; or the code of its number.

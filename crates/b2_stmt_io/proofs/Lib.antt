@@ -14,3 +14,4 @@ pub mod UsingRows
 pub mod Planned
 pub mod HomesKept
 pub mod KeptPlaces
+pub mod Waits

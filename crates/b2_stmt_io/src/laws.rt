@@ -2,6 +2,7 @@
 ghost use Rattle.b2_access.specs.Homes.{FinishesWithin, PlansWithin};
 ghost use Rattle.b2_access.specs.Keeping.{FinishesInPlace, FinishesKeepNone, PlansInPlace, PlansKeepNone};
 ghost use Rattle.b2_access.specs.OwnTerminal.{FinishesAtTerminal, PlansAtTerminal};
+ghost use Rattle.b2_access.specs.Waiting.{FinishesUnchanged, PlansBeforeChanges};
 ghost use Rattle.b2_stmt_io.specs.Plan.{finish, plan};
 
 /// A statement that is planned names no partition as a home, in a place, in a frame, where it leads or in what it asks for, but
@@ -43,4 +44,14 @@ pub fn plans_stay_at_the_terminal()
 /// One that finishes leaves it too.
 pub fn finishes_stay_at_the_terminal()
     ensures { FinishesAtTerminal finish }
+{}
+
+/// Where a statement plans an access, nothing of the partition has changed yet.
+pub fn plans_come_before_changes()
+    ensures { PlansBeforeChanges plan }
+{}
+
+/// Where it has to wait, or no key is there, it leaves the partition as it was.
+pub fn waits_change_nothing()
+    ensures { FinishesUnchanged finish }
 {}

@@ -1,5 +1,5 @@
 // The store: its rows, and how it serves and lends.
-ghost use Rattle.std.specs.Prelude.{◌≡◌, ◌≤◌, Some, IfOk, option_copied};
+ghost use Rattle.std.specs.Prelude.{◌≡◌, ◌≤◌, Some, IfOk, IfErr, IsSome, option_copied};
 ghost use Rattle.b2_access.specs.Store.{content};
 ghost use Rattle.b2_access.specs.Serving.{if_other, other_front, first_inside, at_terminal, shows, line_answer, reads_line, inserts, key_answer, takes_key, edits, puts_atoms, erases, puts_line, clears};
 ghost use Rattle.b2_store.specs.Changes.{keyed_at, front_at, room_at};
@@ -267,6 +267,7 @@ impl Stores {
 
 impl Shared for Stores {
     ghost use Rattle.std.specs.Prelude.{refl};
+    ghost use Rattle.b2_access.specs.Answering.{serves_by_row};
     ghost use Rattle.b2_access.specs.Locality.{serves_is_local, serves_keeps_listed};
     ghost use Rattle.b2_access.specs.Serving.{serves, itself};
     ghost use Rattle.b2_access.specs.Store.{StoreState};
@@ -314,6 +315,8 @@ impl Shared for Stores {
     }
 
     ghost local = { serves_is_local };
+
+    ghost answers_by_row = { serves_by_row };
 
     ghost keeps_listed = { serves_keeps_listed };
 

@@ -1,5 +1,5 @@
 -- What lines take after a change.
-use Rattle.std.proofs.Common.{◌≡◌, ℕ, ◌+◌, ◌-◌, ◌<◌, ◌≤◌, Bool, true, false, cond, List, [], ◌∷◌, refl, sym, ap, subst, ◌∙◌, arith, All, Option, Some, None, nat_cmp, Ordering, Less, Equal, Greater, is_eq}
+use Rattle.std.proofs.Common.{◌≡◌, ℕ, ◌+◌, ◌-◌, ◌<◌, ◌≤◌, Bool, true, false, cond, List, [], ◌∷◌, refl, sym, ap, subst, ◌∙◌, arith, All, Option, Some, None, Result, Ok, Err, IfErr, nat_cmp, Ordering, Less, Equal, Greater, is_eq}
 use Rattle.std.proofs.lemmas.Bool.Decides.{nat_tests}
 use Rattle.std.proofs.lemmas.Map.Views.{All-keys-insert_entry, All-map-remove_entry}
 use Rattle.std.specs.Option.{option_map_or}
@@ -105,3 +105,8 @@ sound_taken n a es new area size sound there is ordered =
       small = subst (λ (ls : Lines). All (λ m. m ≤ 9999) (keys_of ls)) (sym is) (All-map-remove_entry (is_at (nat_cmp n)) (λ e. e.0) (λ m. m ≤ 9999) es sound.small);
       ordered = ordered;
     }
+
+-- what holds of each refusal
+pub each_err : {A E : Type 0} (r : Result A E) (P : E → Type 0) → ((e : E) → P e) → IfErr r P
+each_err (Ok x) P h = tt
+each_err (Err e) P h = h e

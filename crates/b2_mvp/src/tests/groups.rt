@@ -149,7 +149,7 @@ struct Alone {
     summary: &'static [u8],
 }
 
-const ALONE: [Alone; 9] = [
+const ALONE: [Alone; 11] = [
     // Partition 9 isn't in the boot, and does nothing.
     Alone {
         boot: BOOT_2,
@@ -188,6 +188,26 @@ const ALONE: [Alone; 9] = [
         parts: b"1",
         kept: &[(b"out.t01", b"READY\n:")],
         summary: b"turns 2 steps 1 dropped 0 apart 1\n",
+    },
+    // Nobody takes the terminal of one that isn't there, whatever is typed at it.
+    Alone {
+        boot: BOOT_4,
+        log: b"type 1 PRINT 1\nrounds 2",
+        parts: b"2,16",
+        kept: &[
+            (b"out.t01", b""),
+            (b"out.t02", b""),
+            (b"out.t12", b"READY\n:"),
+        ],
+        summary: b"turns 4 steps 1 dropped 0 apart 2,16\n",
+    },
+    // The log may give the terminal to one that isn't there; what is typed meanwhile waits for the next one.
+    Alone {
+        boot: ONE_TERMINAL,
+        log: b"front 1 2\nrounds 1\nfront 1 1\ntype 1 PRINT 1\nrounds 1\nfront 1 2\nrounds 1",
+        parts: b"2",
+        kept: &[(b"out.t01", b"READY\n:PRINT 1\n 1 \n")],
+        summary: b"turns 3 steps 3 dropped 0 apart 2\n",
     },
     // One that wasn't apart is, alone.
     Alone {

@@ -1,7 +1,5 @@
 // Lines of up to 255 atom bytes, one that is longer, and an area that is filled to the byte.
-use super::{BOOT_1, run_words, shelf};
-use crate::top::mvp;
-use b2_base::MemSink;
+use super::{BOOT_1, transcript_of};
 use std::alloc::{AllocError, Global};
 use std::test::Fail;
 
@@ -131,16 +129,6 @@ fn add_line(
     }
     log.extend_from_slice(b"\nrounds 1\nkey 1 0D\nrounds 2")?;
     Ok(())
-}
-
-// What a run of partition 1 on terminal 1 shows.
-fn transcript_of(alloc: Global, boot: &[u8], log: &[u8]) -> Result<Vec<u8>, Fail> {
-    let mut shelf = shelf(alloc, Some(boot), Some(log), &[])?;
-    let mut sink = MemSink::new(alloc, Vec::new(alloc));
-    if mvp(alloc, &run_words(alloc)?, &mut shelf, &mut sink).number() != 0 {
-        return Err(Fail::new("the run is refused"));
-    }
-    Ok(Vec::from_slice(alloc, shelf.file(b"out.t01").unwrap_or(b""))?)
 }
 
 #[test]

@@ -22,7 +22,7 @@ struct Row {
     summary: &'static [u8],
 }
 
-const ROWS: [Row; 9] = [
+const ROWS: [Row; 10] = [
     Row {
         boot: BOOT_2,
         log: b"",
@@ -45,6 +45,13 @@ const ROWS: [Row; 9] = [
             b"READY\n:PRINT #PART\n 1 \n:READY\n:PRINT #PART\n 2 \n:",
         )],
         summary: b"turns 8 steps 8 dropped 0 apart -\n",
+    },
+    // A PRINT that shows no byte waits for the terminal all the same.
+    Row {
+        boot: ONE_TERMINAL,
+        log: b"type 1 10 PRINT ;:GOTO 10\ntype 1 RUN\nturn 1 10\nfront 1 2\nturn 1 10\n",
+        kept: &[(b"out.t01", b"READY\n:10 PRINT ;:GOTO 10\n:RUN\n")],
+        summary: b"turns 2 steps 10 dropped 0 apart 1,2\n",
     },
     // Turns of two partitions, cut off by their quotas.
     Row {

@@ -1,7 +1,7 @@
 use Rattle.std.proofs.Common.{◌≤◌, ◌-◌, ◌<◌, ◌∙◌, List, ℕ, ap, arith}
 use Rattle.b2_base.specs.declared.codes.Fault.TheVariants.{Code}
 use Rattle.b2_text.specs.Program.{cost, cost_at, with_line}
-use Rattle.b2_text.proofs.Sizes.{cost_at-le, over, fitting, sound_put}
+use Rattle.b2_text.proofs.Sizes.{cost_at-le, each_err, over, fitting, sound_put}
 use Rattle.b2_text.proofs.text.Text.put.Goals as goal
 
 pub overflow_sub-rest : goal.overflow_sub-rest
@@ -28,3 +28,15 @@ returns-clause-fits c =
     let room : cost c.args.a.now ≤ c.self.inside.area - (c.self.inside.size - cost_at c.args.n c.self.inside.lines.entries) =
     rw (← c.cost_at.ensures, ← c.cost-cost.ensures) c.if-cost-self.false in
     rw (← c.self.view_is) (fitting c.args.n c.args.a.now c.self.inside.lines.entries c.self.inside.area c.self.inside.size c.self.invariant room)
+
+pub returns-in_err-line-clause-memory : goal.returns-in_err-line-clause-memory
+returns-in_err-line-clause-memory c =
+    let room : cost c.args.a.now ≤ c.self.inside.area - (c.self.inside.size - cost_at c.args.n c.self.inside.lines.entries) =
+    rw (← c.cost_at.ensures, ← c.cost-cost.ensures) c.if-cost-self.false in
+    each_err c.from_residual.result _ (λ e is. rw (← c.self.view_is) (fitting c.args.n c.args.a.now c.self.inside.lines.entries c.self.inside.area c.self.inside.size c.self.invariant room))
+
+pub returns-in_err-put_in_place-clause-memory : goal.returns-in_err-put_in_place-clause-memory
+returns-in_err-put_in_place-clause-memory c =
+    let room : cost c.args.a.now ≤ c.self.inside.area - (c.self.inside.size - cost_at c.args.n c.self.inside.lines.entries) =
+    rw (← c.cost_at.ensures, ← c.cost-cost.ensures) c.if-cost-self.false in
+    each_err c.from_residual-in_err-put_in_place.result _ (λ e is. rw (← c.self.view_is) (fitting c.args.n c.args.a.now c.self.inside.lines.entries c.self.inside.area c.self.inside.size c.self.invariant room))

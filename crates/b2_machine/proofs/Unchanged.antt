@@ -1,0 +1,193 @@
+-- A step that doesn't count has changed nothing of its partition, but that a halt is forgotten.
+use Rattle.std.proofs.Common.{◌≡◌, ◌∙◌, refl, ap, ℕ, Bool, true, false, if◌then◌else◌, List, Option, Some, None, is_some}
+use Rattle.b2_flow.specs.declared.frame.Place.{Place}
+use Rattle.b2_text.specs.Program.{Lines}
+use Rattle.b2_access.specs.Answering.{delays}
+use Rattle.b2_access.specs.Lending.{SeenLent}
+use Rattle.b2_access.specs.Loans.{Loan}
+use Rattle.b2_access.specs.Partition.{is_ready}
+use Rattle.b2_access.specs.Placed.{Statement, statement_placed}
+use Rattle.b2_access.specs.Sharing.{ServingOf}
+use Rattle.b2_access.specs.Store.{StoreState}
+use Rattle.b2_access.specs.Waiting.{UnchangedIfAsks}
+use Rattle.b2_access.specs.declared.accesses.Access.{Access}
+use Rattle.b2_access.specs.declared.accesses.Access.TheVariants as access
+use Rattle.b2_access.specs.declared.accesses.Answer.{Answer}
+use Rattle.b2_access.specs.declared.accesses.Answer.TheVariants as answer
+use Rattle.b2_access.specs.declared.lending.At.TheVariants as at
+use Rattle.b2_access.specs.declared.planned.Outcome.{Outcome}
+use Rattle.b2_access.specs.declared.planned.Outcome.TheVariants as outcome
+use Rattle.b2_access.specs.declared.planned.Planned.{Planned}
+use Rattle.b2_access.specs.declared.planned.Planned.TheVariants as planned
+use Rattle.b2_access.specs.declared.private.Private.{Private}
+use Rattle.b2_stmt.proofs.Waits as stmt
+use Rattle.b2_stmt_io.proofs.Waits as stmt_io
+use Rattle.b2_machine.specs.Counting.{UncountedStepsChangeNothing}
+use Rattle.b2_machine.specs.Endings.{counts, ends_turn, repeats}
+use Rattle.b2_machine.specs.Listed.{lists}
+use Rattle.b2_machine.specs.Moving.{ends_by, error_place, faults, following_place, goes_to}
+use Rattle.b2_machine.specs.Readiness.{halted, reset_state, resets}
+use Rattle.b2_machine.specs.Statements.{begins_where, begun_by, builder_of, finish_by, finishes, plan_by}
+use Rattle.b2_machine.specs.Step.{acts, by_itself, enters_or_goes_on, executes, goes_through, halts_or_acts, line_read, runs_or_reads, seen_by, shows_or_goes_on, step, text_in, types_or_goes_on}
+use Rattle.b2_machine.specs.Typing.{on_own_line, put_by, shown_by, typed_by_key}
+use Rattle.b2_machine.specs.declared.ends.Stepped.{Stepped}
+use Rattle.b2_machine.specs.declared.ends.Why.TheVariants as reason
+use Rattle.b2_machine.specs.declared.statements.Builder.{Builder}
+use Rattle.b2_machine.specs.declared.statements.Builder.TheVariants as builder
+
+delayed : (a : Answer) → (repeats a).counted ≡ false → delays a ≡ true
+delayed answer.Done h = cc
+delayed (answer.Line bytes) h = cc
+delayed (answer.Special n) h = cc
+delayed (answer.Key b) h = cc
+delayed answer.NoKeys h = refl
+delayed (answer.Wait q) h = refl
+delayed (answer.Locked q) h = cc
+delayed (answer.Refused code) h = cc
+
+module _ (before : Private) where
+  -- a step that has ended so has changed nothing, where it doesn't count
+  abbrev Unless : Stepped → Private → Type 0
+  Unless e me = e.counted ≡ false → me ≡ before
+
+  shown : (term : ℕ) (bytes : List ℕ) (a : Answer) → Unless (shown_by (access.Show term bytes) a before).end (shown_by (access.Show term bytes) a before).me
+  shown term bytes answer.Done h = cc
+  shown term bytes (answer.Line text) h = refl
+  shown term bytes (answer.Special n) h = refl
+  shown term bytes (answer.Key b) h = refl
+  shown term bytes answer.NoKeys h = refl
+  shown term bytes (answer.Wait q) h = refl
+  shown term bytes (answer.Locked q) h = refl
+  shown term bytes (answer.Refused code) h = refl
+
+  typed : (a : Answer) → Unless (typed_by_key a before).end (typed_by_key a before).me
+  typed answer.Done h = cc
+  typed (answer.Line bytes) h = refl
+  typed (answer.Special n) h = refl
+  typed (answer.Key b) h = refl
+  typed answer.NoKeys h = refl
+  typed (answer.Wait q) h = refl
+  typed (answer.Locked q) h = refl
+  typed (answer.Refused code) h = refl
+
+  put : (a : Answer) → Unless (put_by a before).end (put_by a before).me
+  put answer.Done h = cc
+  put (answer.Line bytes) h = refl
+  put (answer.Special n) h = refl
+  put (answer.Key b) h = refl
+  put answer.NoKeys h = refl
+  put (answer.Wait q) h = refl
+  put (answer.Locked q) h = cc
+  put (answer.Refused code) h = cc
+
+  -- where a statement leads
+  gone : (o : Option Place) (me : Private) → Unless (goes_to o me).end (goes_to o me).me
+  gone None me h = cc
+  gone (Some q) me h = cc
+
+  faulted : (code : ℕ) (o : Option Place) (p : Place) (me : Private) → Unless (faults code o p me).end (faults code o p me).me
+  faulted code None p me h = cc
+  faulted code (Some q) p me h = cc
+
+  ended : (same : Stepped) (o : Outcome) (p : Place) (me : Private) (home : Lines) → Unless same me → Unless (ends_by same o p me home).end (ends_by same o p me home).me
+  ended same outcome.Next p me home k h = gone (following_place p me home) me h
+  ended same (outcome.Jump q) p me home k h = cc
+  ended same (outcome.Failed code) p me home k h = faulted code (error_place code p me home) p me h
+  ended same outcome.Repeat p me home k h = k h
+  ended same outcome.Break p me home k h = cc
+  ended same outcome.Ready p me home k h = cc
+
+  -- what a statement plans, and how it finishes
+  listed : (b : Bool) (range : ℕ × ℕ) (s : SeenLent) → UnchangedIfAsks before (lists b range before s).me (lists b range before s).planned
+  listed true range s = tt
+  listed false range s = refl
+
+  plans : (b : Builder) (p : Place) (s : SeenLent) → UnchangedIfAsks before (plan_by b p before s).me (plan_by b p before s).planned
+  plans (builder.Listing from to) p s = listed (is_some p.line) (from, to) s
+  plans builder.Control p s = stmt.plans_before_changes before s
+  plans builder.Terminal p s = stmt_io.plans_before_changes before s
+  plans builder.Nobody p s = tt
+
+  finished : (b : Builder) (x : Access) (a : Answer) (me : Private) (s : SeenLent) → delays a ≡ true → (finish_by b x a me s).me ≡ me
+  finished (builder.Listing from to) x a me s h = stmt_io.after_shown x a me h
+  finished builder.Control x a me s h = stmt.finishes_unchanged x a me s h
+  finished builder.Terminal x a me s h = stmt_io.finishes_unchanged x a me s h
+  finished builder.Nobody x a me s h = refl
+
+  finishing : (b : Builder) (x : Access) (a : Answer) (p : Place) (me : Private) (s : SeenLent) → me ≡ before → Unless (finishes b x a p me s).end (finishes b x a p me s).me
+  finishing b x a p me s same =
+      let f = finish_by b x a me s in
+      ended (repeats a) f.outcome p f.me s.home.lines (λ h. finished b x a me s (delayed a h) ∙ same)
+
+  module _ {M : Type 0} (store : M → StoreState) (serving : ServingOf M) (lending : Loan M) where
+    begun : (x : Planned) (b : Builder) (p : Place) (me : Private) (home : Lines) (m : M) → UnchangedIfAsks before me x
+        → Unless (goes_through store serving lending (begun_by x b p me home) p m).end (goes_through store serving lending (begun_by x b p me home) p m).me
+    begun (planned.Done o) b p me home m same = ended counts o p me home (λ h. cc)
+    begun (planned.Ask a) b p me home m same = let g = serving m me.part a in finishing b a g.answer p me (seen_by me (store g.after)) same
+
+    unit : (o : Option Statement) (p : Place) (s : SeenLent) (m : M)
+        → Unless (goes_through store serving lending (begins_where o p before s) p m).end (goes_through store serving lending (begins_where o p before s) p m).me
+    unit None p s m h = cc
+    unit (Some u) p s m h = let x = plan_by (builder_of u) p before s in begun x.planned (builder_of u) p x.me s.home.lines m (plans (builder_of u) p s) h
+
+    executed : (p : Place) (m : M) → Unless (executes store serving lending p before m).end (executes store serving lending p before m).me
+    executed p m = unit (statement_placed p before.immediate (text_in (store m) before.part).lines) p (seen_by before (store m)) (lending before.part before.part at.None m None)
+
+    read : (a : Answer) (m : M) → Unless (line_read store serving lending a before m).end (line_read store serving lending a before m).me
+    read answer.Done m h = refl
+    read (answer.Line bytes) m h = cc
+    read (answer.Special n) m h = cc
+    read (answer.Key b) m h = refl
+    read answer.NoKeys m h = refl
+    read (answer.Wait q) m h = refl
+    read (answer.Locked q) m h = refl
+    read (answer.Refused code) m h = refl
+
+    run : (o : Option Place) (m : M) → Unless (runs_or_reads store serving lending o before m).end (runs_or_reads store serving lending o before m).me
+    run None m = let g = serving m before.part (access.ReadLine before.term) in read g.answer g.after
+    run (Some p) m = executed p m
+
+    enter : (o : Option (ℕ × Option (List ℕ))) (m : M) → Unless (enters_or_goes_on store serving lending o before m).end (enters_or_goes_on store serving lending o before m).me
+    enter None m = run before.place m
+    enter (Some line) m = put _
+
+    type_ : (o : Option (List ℕ)) (m : M) → Unless (types_or_goes_on store serving lending o before m).end (types_or_goes_on store serving lending o before m).me
+    type_ None m = enter before.numbered m
+    type_ (Some text) m = typed _
+
+    show : (o : Option (List ℕ × List ℕ)) (m : M) → Unless (shows_or_goes_on store serving lending o before m).end (shows_or_goes_on store serving lending o before m).me
+    show None m = type_ before.literal m
+    show (Some bytes) m = shown before.term (on_own_line before.term_column bytes.1) _
+
+module _ {M : Type 0} (store : M → StoreState) (serving : ServingOf M) (lending : Loan M) where
+  -- but for the flag of a halt
+  abbrev ButForHalt : Private → Stepped → Private → Type 0
+  ButForHalt me e after = e.counted ≡ false → record after { halt = me.halt } ≡ me
+
+  acted : (me : Private) (m : M) → ButForHalt me (acts store serving lending me m).end (acts store serving lending me m).me
+  acted me m h = ap (λ (p : Private). record p { halt = me.halt }) (show me store serving lending me.pending m h)
+
+  halt : (b : Bool) (me : Private) (m : M)
+      → ButForHalt me (if b then acts store serving lending (record me { halt = false }) m else by_itself store serving lending (halted me) m).end
+      (if b then acts store serving lending (record me { halt = false }) m else by_itself store serving lending (halted me) m).me
+  halt true me m h = let ready = record me { halt = false } in ap (λ (p : Private). record p { halt = me.halt }) (show ready store serving lending me.pending m h)
+  halt false me m h = cc
+
+  act : (b : Bool) (me : Private) (m : M)
+      → ButForHalt me (if b then halts_or_acts store serving lending me m else acts store serving lending me m).end
+      (if b then halts_or_acts store serving lending me m else acts store serving lending me m).me
+  act true me m = halt (is_ready me) me m
+  act false me m = acted me m
+
+  reset_counts : (b : Bool) → (if b then counts else ends_turn reason.Ready).counted ≡ true
+  reset_counts true = refl
+  reset_counts false = refl
+
+  any : (b : Bool) (me : Private) (m : M)
+      → ButForHalt me (if b then by_itself store serving lending (resets me) m else (if me.halt then halts_or_acts store serving lending me m else acts store serving lending me m)).end
+      (if b then by_itself store serving lending (resets me) m else (if me.halt then halts_or_acts store serving lending me m else acts store serving lending me m)).me
+  any true me m h = let counted = reset_counts (is_ready me) in cc
+  any false me m h = act me.halt me m h
+
+  pub uncounted_steps_change_nothing : UncountedStepsChangeNothing store serving lending
+  uncounted_steps_change_nothing me m h = any me.reset me m h

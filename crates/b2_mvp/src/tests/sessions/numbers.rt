@@ -1,0 +1,563 @@
+// Numeric expressions: operators, digits, functions, and which code comes first.
+use super::all_hold;
+use std::test::Fail;
+
+#[rattlefmt::skip]
+const SESSIONS: &[u8] = br#"
+= A power binds first, then a sign, then `*` and `/`, then `+` and `-`; all join from the left
+:A=5
+:PRINT 2+3*4
+ 14 \
+:PRINT 2*3+4
+ 10 \
+:PRINT (2+3)*4
+ 20 \
+:PRINT 2 * (3 + 4) * 5
+ 70 \
+:PRINT 8/2/2
+ 2 \
+:PRINT 8/2*2
+ 8 \
+:PRINT 10-4-3
+ 3 \
+:PRINT 10-4+3
+ 9 \
+:PRINT 1-2*3-4
+-9 \
+:PRINT 9-3^2*2/3
+ 3 \
+:PRINT 2^3^2
+ 64 \
+:PRINT 2^3*2
+ 16 \
+:PRINT 2*3^2
+ 18 \
+:PRINT -2^2
+-4 \
+:PRINT -2^2^2
+-16 \
+:PRINT (-2)^2
+ 4 \
+:PRINT 2*-3
+-6 \
+:PRINT 2+-3
+-1 \
+:PRINT 2--3
+ 5 \
+:PRINT +4
+ 4 \
+:PRINT -2*-3^2
+ 18 \
+:PRINT -2/4
+-.5 \
+:PRINT -A^2
+-25 \
+:PRINT 0^1
+ 0 \
+:PRINT 2^0
+ 1 \
+:PRINT 1^255
+ 1 \
+:PRINT ((((((((((((((((((((((((((((((((1))))))))))))))))))))))))))))))))
+ 1 \
+
+= An expression ends before what can't go on with it
+:PRINT 2+3*4;2
+ 14  2 \
+:PRINT (2+3)*4;-2^2;2
+ 20 -4  2 \
+:PRINT SQR(9);ABS(-3.5);#PART;ERR;2
+ 3  3.5  1  0  2 \
+
+= Each result and each number that is written has 13 digits, a half going away from zero
+:PRINT 1/3
+ .3333333333333 \
+:PRINT -2/3
+-.6666666666667 \
+:PRINT 1e13
+ 1.00000000E+13 \
+:PRINT 1e13/10
+ 1000000000000 \
+:PRINT .05
+ 5.00000000E-02 \
+:PRINT .05*10
+ .5 \
+:PRINT .5E1
+ 5 \
+:PRINT 1E5
+ 100000 \
+:PRINT 12345678901234
+ 1.23456789E+13 \
+:PRINT 12345678901234/10
+ 1234567890123 \
+:PRINT 9999999999999+1
+ 1.00000000E+13 \
+:PRINT (9999999999999+1)/10
+ 1000000000000 \
+:PRINT 9999999999999+.5
+ 1.00000000E+13 \
+:PRINT (9999999999999+.5)/10
+ 1000000000000 \
+:PRINT 1E-99/1E-99
+ 1 \
+:PRINT 1234567890123
+ 1234567890123 \
+:PRINT 12345678901235
+ 1.23456789E+13 \
+:PRINT 12345678901235/10
+ 1234567890124 \
+:PRINT .012345678901235
+ 1.23456789E-02 \
+:PRINT .012345678901235*10
+ .1234567890124 \
+:PRINT 1.2345678901234
+ 1.234567890123 \
+:PRINT .0000000000001
+ 1.00000000E-13 \
+:PRINT .0000000000001*1E13
+ 1 \
+:PRINT 0001.50
+ 1.5 \
+:PRINT 5.
+ 5 \
+:PRINT .0
+ 0 \
+:PRINT .000000000000000000000000000000000000000000000000000000000000000000000000000000000000000000000000001
+ 1.00000000E-99 \
+:PRINT .000000000000000000000000000000000000000000000000000000000000000000000000000000000000000000000000001*1E99
+ 1 \
+:PRINT .0000000000000000000000000000000000000000000000000000000000000000000000000000000000000000000000000001
+ERR C60
+:PRINT .0000000000000000000000000000000000000000000000000000000000000000000000000000000000000000000000000000
+ 0 \
+:PRINT .00000000000000000000000000000000000000000000000000000000000000000000000000000000000000000000000000001E5
+ 1.00000000E-96 \
+:PRINT .00000000000000000000000000000000000000000000000000000000000000000000000000000000000000000000000000001E5*1E96
+ 1 \
+
+= After SELECT NO ROUND further digits are dropped, in a function too
+:10 DEFFN A(X)=X*2
+:SELECT NO ROUND
+:PRINT 9999999999999+.5
+ 9999999999999 \
+:PRINT -2/3
+-.6666666666666 \
+:PRINT 2/3
+ .6666666666666 \
+:PRINT FNA(2/3)
+ 1.333333333333 \
+
+= An operator has a code where its values have no result
+:PRINT 1/0
+ERR C62
+:PRINT 0/0
+ERR C63
+:PRINT 0^0
+ERR C63
+:PRINT 1E-99/10
+ERR C60
+:PRINT 9E99*10
+ERR C61
+:PRINT 10E99
+ERR C61
+:PRINT .01E-99
+ERR C60
+:PRINT 2^.5
+ERR C65
+:PRINT 2^(-1)
+ERR C65
+:PRINT 1^256
+ERR C65
+:PRINT SQR(-1)
+ERR C66
+
+= The code of the left side comes first, then that of the right side, and then that of the operator
+:DIM B$(2)3
+:PRINT 1/0+0/0
+ERR C62
+:PRINT 0/0+1/0
+ERR C63
+:PRINT 1/0+10E99
+ERR C62
+:PRINT 10E99+1/0
+ERR C61
+:PRINT .01E-99+1/0
+ERR C60
+:PRINT 1/0*Q(1)
+ERR C62
+:PRINT Q(1)*(1/0)
+ERR P59
+:PRINT 2*3+1/0*Q(1)
+ERR C62
+:PRINT 1/(0*Q(1))
+ERR P59
+:PRINT 2^256+1/0
+ERR C65
+:PRINT 2^.5^(1/0)
+ERR C65
+:PRINT 2^(1/0)
+ERR C62
+:PRINT (1/0)^.5
+ERR C62
+:PRINT MAX(1,0/0,1/0)
+ERR C63
+:PRINT MOD(0/0,1/0)
+ERR C63
+:PRINT ROUND(1/0,100)
+ERR C62
+:PRINT ROUND(1,1/0)
+ERR C62
+:PRINT VAL("A",1/0)
+ERR C62
+:PRINT VAL(Q$(1),1/0)
+ERR P59
+:PRINT LEN("A"&Q$(1))
+ERR P59
+:PRINT POS(Q$(1)=B$(3))
+ERR P59
+:PRINT POS(B$(3)=Q$(1))
+ERR P57
+
+= ABS, INT, FIX, SGN and SQR
+:PRINT ABS(-3.5)
+ 3.5 \
+:PRINT ABS(0)
+ 0 \
+:PRINT INT(2.7)
+ 2 \
+:PRINT INT(-2.1)
+-3 \
+:PRINT INT(-2)
+-2 \
+:PRINT FIX(2.7)
+ 2 \
+:PRINT FIX(-2.7)
+-2 \
+:PRINT SGN(-.5)
+-1 \
+:PRINT SGN(0)
+ 0 \
+:PRINT SGN(1E50)
+ 1 \
+:PRINT SQR(2)
+ 1.414213562373 \
+
+= ROUND, MOD, MAX and MIN
+:A=5
+:PRINT SQR(9)
+ 3 \
+:PRINT SQR(0)
+ 0 \
+:PRINT ROUND(2.345,2)
+ 2.35 \
+:PRINT ROUND(-2.345,2)
+-2.35 \
+:PRINT ROUND(1250,-2)
+ 1300 \
+:PRINT ROUND(1249,-2)
+ 1200 \
+:PRINT ROUND(1.5,.9)
+ 2 \
+:PRINT ROUND(1,99.9)
+ 1 \
+:PRINT ROUND(1,100)
+ERR P34
+:PRINT ROUND(1,-100)
+ERR P34
+:PRINT MOD(7,3)
+ 1 \
+:PRINT MOD(-7,3)
+ 2 \
+:PRINT MOD(7,-3)
+-2 \
+:PRINT MOD(5.5,2)
+ 1.5 \
+:PRINT MOD(1,0)
+ERR C62
+:PRINT MOD(0,0)
+ERR C62
+:PRINT MAX(1,2,3,4,5,6,7,8)
+ 8 \
+:PRINT MAX(-1,-2)
+-1 \
+:PRINT MAX(2,9,A)
+ 9 \
+:PRINT MIN(3,-1,2)
+-1 \
+:PRINT MIN(8,7,6,5,4,3,2,1)
+ 1 \
+:PRINT MIN(1,1)
+ 1 \
+:PRINT MAX(MIN(1,2),MIN(3,4))
+ 3 \
+
+= LEN is the length of the value: of a variable up to its last byte that is no blank, of all else the whole
+:DIM B$(2)3,E$5,L$124,S$5
+:A$="ABC":N$="12AB":S$="A B":B$(1)="X":B$(2)="YZ":INIT(4C)L$
+:PRINT LEN("ABC")
+ 3 \
+:PRINT LEN("A  ")
+ 3 \
+:PRINT LEN(A$)
+ 3 \
+:PRINT LEN(S$)
+ 3 \
+:PRINT LEN(E$)
+ 1 \
+:PRINT LEN(Z$)
+ 1 \
+:PRINT LEN(STR(A$,1))
+ 16 \
+:PRINT LEN(STR(E$,2))
+ 4 \
+:PRINT LEN(HEX(412020))
+ 3 \
+:PRINT LEN(BIN(0,4))
+ 4 \
+:PRINT LEN(L$&L$)
+ 248 \
+
+= NUM is the length of the longest prefix that is a number with blanks around it
+:N$="12AB"
+:PRINT NUM("12")
+ 2 \
+:PRINT NUM(N$)
+ 2 \
+:PRINT NUM(" 12 A")
+ 4 \
+:PRINT NUM("A")
+ 0 \
+:PRINT NUM("-1.5E2")
+ 6 \
+:PRINT NUM("+")
+ 0 \
+:PRINT NUM("   ")
+ 0 \
+:PRINT NUM("10E99")
+ 5 \
+
+= POS is the place of the first byte that stands in the relation to the first byte of the second value
+:PRINT POS("ABC"="C")
+ 3 \
+:PRINT POS("ABC"="CX")
+ 3 \
+:PRINT POS("ABC"="Z")
+ 0 \
+:PRINT POS("ABC">"A")
+ 2 \
+:PRINT POS("ABC"<"C")
+ 1 \
+:PRINT POS("ABC"<>"A")
+ 2 \
+:PRINT POS("ABC">="B")
+ 2 \
+:PRINT POS("CBA"<="B")
+ 2 \
+
+= VAL is the number of the first bytes, at most four and no more than the value has
+:PRINT VAL("A")
+ 65 \
+:PRINT VAL("AB")
+ 65 \
+:PRINT VAL("AB",2)
+ 16706 \
+:PRINT VAL(HEX(010203),3)
+ 66051 \
+:PRINT VAL(HEX(FFFFFFFF),4)
+ 4294967295 \
+:PRINT VAL("AB",1.9)
+ 65 \
+:PRINT VAL("A",2)
+ERR P34
+:PRINT VAL("ABCDE",0)
+ERR P34
+:PRINT VAL("ABCDE",5)
+ERR P34
+:PRINT VAL("ABCDE",-1)
+ERR P34
+
+= ERR is the number of the last code, #PART the partition and #TERM the terminal
+:PRINT 1/0
+ERR C62
+:PRINT ERR
+ 62 \
+:PRINT ERR+1
+ 63 \
+:PRINT #PART;#TERM;#PART*10-#TERM
+ 1  1  9 \
+
+= An alpha value has at most 255 bytes
+:DIM B$(2)3,E$5,L$124,S$5
+:A$="ABC":N$="12AB":S$="A B":B$(1)="X":B$(2)="YZ":INIT(4C)L$
+:PRINT LEN(L$&L$&"1234567")
+ 255 \
+:PRINT LEN(L$&L$&"12345678")
+ERR X72
+:PRINT VAL(L$&L$&"12345678")
+ERR X72
+:PRINT POS(L$&"!"="!")
+ 125 \
+
+= A variable that was never assigned is 0; subscripts lose their fractions, and a second one of 0 is none
+:DIM A(3),B(2,2):A=5:B=-2:A1=7
+:A(1)=10:A(2)=20:A(3)=30:B(1,1)=11:B(1,2)=12:B(2,1)=21:B(2,2)=22
+:PRINT A
+ 5 \
+:PRINT B*A
+-10 \
+:PRINT A1
+ 7 \
+:PRINT Z
+ 0 \
+:PRINT Z9
+ 0 \
+:PRINT A(1)
+ 10 \
+:PRINT A(3.9)
+ 30 \
+:PRINT A(A-3)
+ 20 \
+:PRINT A(A(1)/10)
+ 10 \
+:PRINT A(2,0)
+ 20 \
+:PRINT A(2,.9)
+ 20 \
+:PRINT B(1,2)
+ 12 \
+:PRINT B(2,1)
+ 21 \
+:PRINT B(2.9,1.9)
+ 21 \
+
+= An element that the array lacks is P57, an array that is not there P59, after the codes of the subscripts
+:DIM A(3),B(2,2):A=5:B=-2:A1=7
+:A(1)=10:A(2)=20:A(3)=30:B(1,1)=11:B(1,2)=12:B(2,1)=21:B(2,2)=22
+:PRINT A(0)
+ERR P57
+:PRINT A(.9)
+ERR P57
+:PRINT A(4)
+ERR P57
+:PRINT A(-1)
+ERR P57
+:PRINT A(65537)
+ERR P57
+:PRINT A(1E20)
+ERR P57
+:PRINT A(1,1)
+ERR P57
+:PRINT B(1)
+ERR P57
+:PRINT B(3,1)
+ERR P57
+:PRINT B(1,3)
+ERR P57
+:PRINT Q(1)
+ERR P59
+:PRINT A1(1)
+ERR P59
+:PRINT Q(1/0)
+ERR C62
+:PRINT A(1,1/0)
+ERR C62
+:PRINT A(9,1/0)
+ERR C62
+
+= FN calls: a parameter hides the variable of its name in its own function alone
+:1 DEFFN A(X)=X*2
+:2 DEFFN B(A)=A+B
+:3 DEFFN C(X)=FNA(X)+FNA(X+1)
+:4 DEFFN D(A)=FNE(1)+A
+:5 DEFFN E(X)=A+X
+:6 DEFFN F(A)=A(1)
+:7 DEFFN G(A)=A1
+:8 DEFFN H(A1)=A1*10+A
+:9 DEFFN 1(X)=X+1
+:12 DEFFN U(X)=FN9(X)
+:13 DEFFN R(X)=FNR(X)
+:DIM A(3),B(2,2):A=5:B=-2:A1=7
+:A(1)=10:A(2)=20:A(3)=30:B(1,1)=11:B(1,2)=12:B(2,1)=21:B(2,2)=22
+:PRINT FNA(3)
+ 6 \
+:PRINT FNA(FNA(FNA(1)))
+ 8 \
+:PRINT FNB(10)
+ 8 \
+:PRINT FNB(10)+A
+ 13 \
+:PRINT FNC(3)
+ 14 \
+:PRINT FND(100)
+ 106 \
+:PRINT FNE(1)
+ 6 \
+:PRINT FNF(99)
+ 10 \
+:PRINT FNG(99)
+ 7 \
+:PRINT FNH(2)
+ 25 \
+:PRINT FN1(1)
+ 2 \
+:PRINT FN1(FNA(2))*2
+ 10 \
+:PRINT FN9(1)
+ERR P38
+:PRINT FNZ(1)
+ERR P38
+:PRINT FNU(1)
+ERR P38
+:PRINT FNZ(1/0)
+ERR C62
+:PRINT FNZ(1)+1/0
+ERR P38
+:PRINT 1/0+FNZ(1)
+ERR C62
+:PRINT FNR(1)
+ERR A04
+:PRINT FNR(1/0)
+ERR C62
+
+= Sixteen calls may be open, and those in an argument are open no more
+:73 DEFFN I(X)=FNJ(X)+1
+:74 DEFFN J(X)=FNK(X)+1
+:75 DEFFN K(X)=FNL(X)+1
+:76 DEFFN L(X)=FNM(X)+1
+:77 DEFFN M(X)=FNN(X)+1
+:78 DEFFN N(X)=FNO(X)+1
+:79 DEFFN O(X)=FNP(X)+1
+:80 DEFFN P(X)=FNQ(X)+1
+:81 DEFFN Q(X)=FNR(X)+1
+:82 DEFFN R(X)=FNS(X)+1
+:83 DEFFN S(X)=FNT(X)+1
+:84 DEFFN T(X)=FNU(X)+1
+:85 DEFFN U(X)=FNV(X)+1
+:86 DEFFN V(X)=FNW(X)+1
+:87 DEFFN W(X)=FNX(X)+1
+:88 DEFFN X(X)=FNY(X)+1
+:100 DEFFN Y(X)=X
+:PRINT FNY(1)
+ 1 \
+:PRINT FNJ(1)
+ 16 \
+:PRINT FNJ(FNJ(1))
+ 31 \
+:PRINT FNJ(1)+FNJ(2)
+ 33 \
+:PRINT FNI(1)
+ERR A04
+:PRINT FNI(1/0)
+ERR C62
+:PRINT 1+FNI(FNJ(1))
+ERR A04
+
+= This session is wrong
+:PRINT 2
+ 3 \
+"#;
+
+#[test]
+fn numbers_are_worked_out(rt: HostRuntime) -> Result<(), Fail> {
+    all_hold(&rt, SESSIONS)
+}

@@ -1,0 +1,25 @@
+-- Whoever has a text keeps one: over an access, at a terminal, and over several calls.
+use Rattle.std.proofs.Common.{◌≡◌, ℕ, sym, subst}
+use Rattle.std.specs.Prelude.{Option, Some, None}
+use Rattle.b2_access.specs.Sharing.{Gives, KeepsListed, ServingOf}
+use Rattle.b2_access.specs.Store.{StoreState}
+use Rattle.b2_access.specs.declared.accesses.Access.{Access}
+use Rattle.b2_access.specs.declared.accesses.Answer.{Answer}
+use Rattle.b2_access.specs.declared.objects.Object.TheVariants as object
+use Rattle.b2_store.specs.Changes.{with_terminal}
+use Rattle.b2_term.specs.Terminal.{TerminalState}
+use Rattle.b2_world_tests.specs.Texts.{HasTexts, KeepsTexts}
+
+pub texts_kept : (s t : StoreState) → KeepsTexts s t → HasTexts s → HasTexts t
+texts_kept s t f h = (f 1 h.0, f 2 h.1)
+
+pub both_kept : (s t u : StoreState) → KeepsTexts s t → KeepsTexts t u → KeepsTexts s u
+both_kept s t u f g p h = g p (f p h)
+
+pub terminal_kept : (o : Option TerminalState) (n : ℕ) (f : TerminalState → TerminalState) (s : StoreState) → KeepsTexts s (with_terminal o n f s)
+terminal_kept None n f s p h = h
+terminal_kept (Some x) n f s p h = h
+
+pub served_kept : {M : Type 0} (store : M → StoreState) (serving : ServingOf M) → KeepsListed store serving → (who : ℕ) (a : Access) (m after : M) (x : Answer) → ◌≡◌ {A = Gives M} (record { after = after; answer = x }) (serving m who a)
+    → KeepsTexts (store m) (store after)
+served_kept {M} store serving law who a m after x is = subst (λ (g : Gives M). KeepsTexts (store m) (store g.after)) (sym is) (λ p. law who a m (object.Text p))

@@ -1,0 +1,360 @@
+// A store that is watched, and the accesses of partitions. Partitions 1, 2, 3 and 16 have texts of 64 bytes; 1, 2 and 16 are in
+// front of the terminals 1, 2 and 12.
+//
+// `store | CALL | ..`: what the calls answer one after another. Accesses begin with the number of the partition that asks: `1 show
+// TERMINAL BYTES`, `1 read TERMINAL`, `1 insert TERMINAL BYTES`, `1 key TERMINAL`, `1 put LINE SOURCE`, `1 take LINE`, `1 erase FROM
+// TO`, `1 clear`. Others are `press TERMINAL BYTES` and `special TERMINAL N` for keys, `front TERMINAL PARTITION`, `shown TERMINAL`
+// for its transcript, `lend PARTITION HOME` for the first lines of both texts and whether `@` variables are found, for the
+// partitions 1 and 2, and `clean` for the partitions that are not.
+ghost use Rattle.std.specs.Prelude.{◌≡◌, OnOk, IfOk, IfSome, IsSome};
+ghost use Rattle.b2_access.specs.Store.{content};
+ghost use Rattle.b2_access.specs.Touching.{IsLegal};
+ghost use Rattle.b2_store.specs.Meaning.{store_of};
+ghost use Rattle.b2_world_tests.specs.Texts.{HasTexts, KeepsTexts};
+
+use crate::pieces::{show_named, word};
+use b2_access::{Access, Answer, At, Object, Shared};
+use b2_atom::Atoms;
+use b2_audit::{Seen, Watched};
+use b2_base::{ByteList, NoMemory, Part, Term};
+use b2_cases::shown::{show_code, show_truth};
+use b2_cases::{Cells, bytes_of, number_of, small_of};
+use b2_store::{StoreBoot, Stores};
+use b2_term::KeyItem;
+use std::alloc::Global;
+use std::fmt::Write;
+
+/// The area of each text and of each partition's `@` variables.
+const AREA: usize = 64;
+
+/// The store as it starts.
+fn four_partitions(alloc: Global) -> Result<Stores, NoMemory>
+    ensures texts { IfOk result (λ s. HasTexts (store_of s)) }
+{
+    let mut partitions = Vec::new(alloc);
+    partitions.push((Part::known(1), AREA, AREA))?;
+    partitions.push((Part::known(2), AREA, AREA))?;
+    partitions.push((Part::known(3), AREA, AREA))?;
+    partitions.push((Part::known(16), AREA, AREA))?;
+    let mut terminals = Vec::new(alloc);
+    terminals.push((Term::known(1), Part::known(1)))?;
+    terminals.push((Term::known(2), Part::known(2)))?;
+    terminals.push((Term::known(12), Part::known(16)))?;
+    let start = StoreBoot {
+        partitions,
+        terminals,
+    };
+    Stores::new(alloc, &start)
+}
+
+/// An access at a terminal, None where it is misspelled.
+fn at_terminal(alloc: Global, kind: &[u8], rest: &[u8]) -> Result<Option<Access>, NoMemory>
+    ensures { IfOk result (λ found. IfSome found IsLegal) }
+{
+    let (number, text) = word(rest);
+    let Some(term) = Term::of(small_of(number)) else {
+        return Ok(None);
+    };
+    let bytes = ByteList::new(bytes_of(alloc, text)?);
+    Ok(match kind {
+        b"show" => Some(Access::Show { term, bytes }),
+        b"read" => Some(Access::ReadLine { term }),
+        b"insert" => Some(Access::Insert { term, bytes }),
+        b"key" => Some(Access::Key { term }),
+        _ => None,
+    })
+}
+
+/// An access to the own text, None where it is misspelled.
+fn at_text(alloc: Global, kind: &[u8], rest: &[u8]) -> Result<Option<Access>, NoMemory>
+    ensures { IfOk result (λ found. IfSome found IsLegal) }
+{
+    let (number, text) = word(rest);
+    let line = number_of(number).min(9999);
+    let homes = 0;
+    let atoms = Atoms::of(alloc, text)?;
+    Ok(match kind {
+        b"put" if atoms.is_some() => Some(Access::PutLine { line, atoms, homes }),
+        b"take" => Some(Access::PutLine {
+            line,
+            atoms: None,
+            homes,
+        }),
+        b"erase" => Some(Access::Erase {
+            from: line,
+            to: number_of(text),
+            homes,
+        }),
+        b"clear" => Some(Access::ClearAll { name: None, homes }),
+        _ => None,
+    })
+}
+
+/// An access, None where it is misspelled.
+fn access_of(alloc: Global, spelled: &[u8]) -> Result<Option<Access>, NoMemory>
+    ensures { IfOk result (λ found. IfSome found IsLegal) }
+{
+    let (kind, rest) = word(spelled);
+    match kind {
+        b"show" | b"read" | b"insert" | b"key" => at_terminal(alloc, kind, rest),
+        _ => at_text(alloc, kind, rest),
+    }
+}
+
+/// Shows an answer.
+fn show_answer(into: &mut String, answer: &Answer) -> Result<(), NoMemory> {
+    match answer {
+        Answer::Done => into.push_str("done")?,
+        Answer::Line(line) => show_named(into, "line", line.bytes())?,
+        Answer::Special(n) => write!(into, "special {n}")?,
+        Answer::Key(byte) => show_named(into, "key", &[*byte])?,
+        Answer::NoKeys => into.push_str("no keys")?,
+        Answer::Wait(part) => {
+            let number = part.number();
+            write!(into, "wait for {number}")?;
+        }
+        Answer::Locked(part) => {
+            let number = part.number();
+            write!(into, "locked by {number}")?;
+        }
+        Answer::Refused(code) => show_code(into, *code)?,
+    }
+    Ok(())
+}
+
+/// Asks a store of any kind.
+fn asked<S: Shared>(stores: &mut S, who: Part, access: &Access) -> Result<Answer, NoMemory>
+    requires legal { IsLegal access.now }
+    ensures same { S.holds stores.new ≡ S.holds stores.old }
+    ensures kept { OnOk result (KeepsTexts (S.store (S.meaning stores.old)) (S.store (S.meaning stores.new))) }
+{
+    stores.serve(who, access)
+}
+
+/// Makes an access over the watched store, and shows its answer.
+fn ask(
+    stores: &mut Stores,
+    seen: &mut Seen,
+    who: Part,
+    access: &Access,
+    into: &mut String,
+) -> Result<(), NoMemory>
+    requires legal { IsLegal access.now }
+    ensures kept { OnOk result (KeepsTexts (store_of stores.old) (store_of stores.new)) }
+{
+    let mut watched = Watched::new(stores, seen);
+    let answer = asked(&mut watched, who, access)?;
+    show_answer(into, &answer)
+}
+
+/// The same for an access that is spelled.
+fn ask_spelled(
+    alloc: Global,
+    stores: &mut Stores,
+    seen: &mut Seen,
+    who: &[u8],
+    spelled: &[u8],
+    into: &mut String,
+) -> Result<(), NoMemory>
+    ensures kept { OnOk result (KeepsTexts (store_of stores.old) (store_of stores.new)) }
+{
+    let access = access_of(alloc, spelled)?;
+    match (Part::of(small_of(who)), access) {
+        (Some(who), Some(access)) => ask(stores, seen, who, &access, into),
+        _ => Ok(into.push_str("no such call")?),
+    }
+}
+
+/// Queues a key at a terminal, and shows whether it was taken.
+fn press(
+    stores: &mut Stores,
+    terminal: Term,
+    key: KeyItem,
+    into: &mut String,
+) -> Result<(), NoMemory>
+    ensures kept { KeepsTexts (store_of stores.old) (store_of stores.new) }
+{
+    into.push_str(match stores.key(terminal, key) {
+        Some(true) => " taken",
+        Some(false) => " dropped",
+        None => " no terminal",
+    })?;
+    Ok(())
+}
+
+/// Queues each byte as a key.
+fn press_all(
+    stores: &mut Stores,
+    terminal: Term,
+    keys: &[u8],
+    into: &mut String,
+) -> Result<(), NoMemory>
+    ensures kept { OnOk result (KeepsTexts (store_of stores.old) (store_of stores.new)) }
+{
+    for key in keys {
+        press(stores, terminal, KeyItem::Byte(*key), into)?;
+    }
+    Ok(())
+}
+
+/// Puts a partition in front of a terminal.
+fn put_in_front(stores: &mut Stores, terminal: Term, number: u8)
+    ensures kept { KeepsTexts (store_of stores.old) (store_of stores.new) }
+{
+    if let Some(part) = Part::of(number) {
+        stores.set_front(terminal, part);
+    }
+}
+
+/// Shows what a terminal has shown.
+fn show_terminal(stores: &Stores, terminal: Term, into: &mut String) -> Result<(), NoMemory> {
+    match stores.terminal(terminal) {
+        Some(terminal) => show_named(into, "shown", terminal.transcript()),
+        None => Ok(into.push_str("no terminal")?),
+    }
+}
+
+/// Does what isn't an access at a terminal.
+fn at_keyboard(
+    alloc: Global,
+    stores: &mut Stores,
+    call: &[u8],
+    rest: &[u8],
+    into: &mut String,
+) -> Result<(), NoMemory>
+    ensures kept { OnOk result (KeepsTexts (store_of stores.old) (store_of stores.new)) }
+{
+    let (number, text) = word(rest);
+    let Some(terminal) = Term::of(small_of(number)) else {
+        return Ok(into.push_str("no such call")?);
+    };
+    match call {
+        b"press" => {
+            into.push_str("keys")?;
+            press_all(stores, terminal, &bytes_of(alloc, text)?, into)
+        }
+        b"special" => {
+            into.push_str("keys")?;
+            press(stores, terminal, KeyItem::Special(small_of(text)), into)
+        }
+        b"front" => {
+            put_in_front(stores, terminal, small_of(text));
+            Ok(into.push_str("set")?)
+        }
+        _ => show_terminal(stores, terminal, into),
+    }
+}
+
+/// The first lines of the own text and of the home's that a store of any kind lends, and whether `@` variables are found.
+fn first_lent<S: Shared>(stores: &mut S, who: Part, home: Part) -> (Option<u16>, Option<u16>, bool)
+    requires own { IsSome (content (S.store (S.meaning stores.old)) (Object.Text who)) }
+    requires home { IsSome (content (S.store (S.meaning stores.old)) (Object.Text home)) }
+    ensures same { S.holds stores.new ≡ S.holds stores.old }
+    ensures kept { KeepsTexts (S.store (S.meaning stores.old)) (S.store (S.meaning stores.new)) }
+{
+    let lent = stores.lend(who, home, &At::Home);
+    (
+        lent.own.next_after(None),
+        lent.home.next_after(None),
+        lent.found,
+    )
+}
+
+/// Shows the number of a line, if there is one.
+fn show_line(into: &mut String, name: &str, line: Option<u16>) -> Result<(), NoMemory> {
+    into.push_str(name)?;
+    match line {
+        Some(number) => write!(into, " {number} ")?,
+        None => into.push_str(" none ")?,
+    }
+    Ok(())
+}
+
+/// Lends a text of its home to a partition over the watched store, and shows what is lent.
+fn lend(
+    stores: &mut Stores,
+    seen: &mut Seen,
+    who: Part,
+    home: Part,
+    into: &mut String,
+) -> Result<(), NoMemory>
+    requires own { IsSome (content (store_of stores.old) (Object.Text who)) }
+    requires home { IsSome (content (store_of stores.old) (Object.Text home)) }
+    ensures kept { KeepsTexts (store_of stores.old) (store_of stores.new) }
+{
+    let mut watched = Watched::new(stores, seen);
+    let (own, home, found) = first_lent(&mut watched, who, home);
+    show_line(into, "own", own)?;
+    show_line(into, "home", home)?;
+    into.push_str("globals ")?;
+    show_truth(into, found)?;
+    Ok(())
+}
+
+/// The same for a pair of partitions that is spelled.
+fn lend_spelled(
+    stores: &mut Stores,
+    seen: &mut Seen,
+    pair: &[u8],
+    into: &mut String,
+) -> Result<(), NoMemory>
+    requires texts { HasTexts (store_of stores.old) }
+    ensures kept { KeepsTexts (store_of stores.old) (store_of stores.new) }
+{
+    match pair {
+        b"1 1" => lend(stores, seen, Part::known(1), Part::known(1), into),
+        b"1 2" => lend(stores, seen, Part::known(1), Part::known(2), into),
+        b"2 1" => lend(stores, seen, Part::known(2), Part::known(1), into),
+        b"2 2" => lend(stores, seen, Part::known(2), Part::known(2), into),
+        _ => Ok(into.push_str("no such call")?),
+    }
+}
+
+/// Shows the partitions that are not clean.
+fn show_clean(seen: &Seen, into: &mut String) -> Result<(), NoMemory> {
+    into.push_str("not clean")?;
+    for number in 1..17u8 {
+        if !seen.is_clean(Part::known(number)) {
+            write!(into, " {number}")?;
+        }
+    }
+    Ok(())
+}
+
+/// Makes a call, and shows its answer.
+fn answer(
+    alloc: Global,
+    stores: &mut Stores,
+    seen: &mut Seen,
+    cell: &[u8],
+    into: &mut String,
+) -> Result<(), NoMemory>
+    requires texts { HasTexts (store_of stores.old) }
+    ensures kept { OnOk result (KeepsTexts (store_of stores.old) (store_of stores.new)) }
+{
+    let (call, rest) = word(cell);
+    match call {
+        b"press" | b"special" | b"front" | b"shown" => at_keyboard(alloc, stores, call, rest, into),
+        b"lend" => lend_spelled(stores, seen, rest, into),
+        b"clean" => show_clean(seen, into),
+        _ => ask_spelled(alloc, stores, seen, call, rest, into),
+    }
+}
+
+/// What the calls in the cells answer.
+pub fn called(alloc: Global, row: Cells<'_>) -> Result<String, NoMemory> {
+    let mut cells = row;
+    let mut stores = four_partitions(alloc)?;
+    let mut seen = Seen::new();
+    let mut shown = String::new(alloc);
+    for place in 0..u64::MAX {
+        if cells.is_empty() {
+            break;
+        }
+        if place > 0 {
+            shown.push_str(", ")?;
+        }
+        answer(alloc, &mut stores, &mut seen, cells.next(), &mut shown)?;
+    }
+    Ok(shown)
+}

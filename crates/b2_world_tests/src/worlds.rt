@@ -1,0 +1,121 @@
+// Worlds, and what a log leaves of them.
+//
+// `world | NAME | LINE | ..`: what each listed terminal has shown, and the counts of turns, steps and dropped keys, after a log
+// over the world of the boot of a name. `clean | NAME | LINE | ..`: the partitions that are not clean then.
+// `alone_world | NAME | PARTITION .. | LINE | ..`: the same as `world` where the world has these partitions alone.
+// `other_log | NAME | NAME | LINE | ..`: the same where the log is read over another boot, so that it may have events that the
+// world's own boot doesn't allow.
+use crate::boots::{alone_of, named, no_boot};
+use crate::logs::{Log, log_over};
+use crate::pieces::show_named;
+use b2_base::{NoMemory, Part, Term};
+use b2_boot::{Boot, Event};
+use b2_cases::Cells;
+use b2_sched::World;
+use std::alloc::Global;
+use std::fmt::Write;
+
+/// Shows what was shown at each terminal that is listed.
+fn show_terminals(alloc: Global, into: &mut String, world: &World) -> Result<(), NoMemory> {
+    for number in 1..13u8 {
+        if let Some(terminal) = world.stores().terminal(Term::known(number)) {
+            let name = format!(in alloc; "{number}")?;
+            show_named(into, name.as_str(), terminal.transcript())?;
+            into.push_str(", ")?;
+        }
+    }
+    Ok(())
+}
+
+/// What the terminals of a world have shown, and its counts.
+fn left_of(alloc: Global, world: &World) -> Result<String, NoMemory> {
+    let mut shown = String::new(alloc);
+    show_terminals(alloc, &mut shown, world)?;
+    let turns = world.turns();
+    let steps = world.steps();
+    let dropped = world.dropped();
+    write!(&mut shown, "turns {turns} steps {steps} dropped {dropped}")?;
+    Ok(shown)
+}
+
+/// The partitions that are not clean.
+fn not_clean(alloc: Global, world: &World) -> Result<String, NoMemory> {
+    let mut shown = String::new(alloc);
+    shown.push_str("not clean")?;
+    for number in 1..17u8 {
+        if !world.clean(Part::known(number)) {
+            write!(&mut shown, " {number}")?;
+        }
+    }
+    Ok(shown)
+}
+
+/// What happens event by event in the world of a boot.
+fn after_events(alloc: Global, boot: &Boot, events: &[Event]) -> Result<World, NoMemory> {
+    let mut world = World::boot(alloc, boot)?;
+    for event in events {
+        world.event(event)?;
+    }
+    Ok(world)
+}
+
+/// The world of a boot after the run of a log.
+fn after_run(alloc: Global, boot: &Boot, events: &[Event]) -> Result<World, NoMemory> {
+    let mut world = World::boot(alloc, boot)?;
+    world.run(events)?;
+    Ok(world)
+}
+
+/// What the run of a log leaves.
+pub fn shown(alloc: Global, row: Cells<'_>) -> Result<String, NoMemory> {
+    let mut cells = row;
+    let Some(boot) = named(alloc, cells.next())? else {
+        return no_boot(alloc);
+    };
+    match log_over(alloc, &mut cells, &boot)? {
+        Log::Events(events) => left_of(alloc, &after_run(alloc, &boot, &events)?),
+        Log::Refused(said) => Ok(said),
+    }
+}
+
+/// Who isn't clean after the run of a log.
+pub fn cleanness(alloc: Global, row: Cells<'_>) -> Result<String, NoMemory> {
+    let mut cells = row;
+    let Some(boot) = named(alloc, cells.next())? else {
+        return no_boot(alloc);
+    };
+    match log_over(alloc, &mut cells, &boot)? {
+        Log::Events(events) => not_clean(alloc, &after_run(alloc, &boot, &events)?),
+        Log::Refused(said) => Ok(said),
+    }
+}
+
+/// What the events of a log leave where some partitions are alone.
+pub fn shown_alone(alloc: Global, row: Cells<'_>) -> Result<String, NoMemory> {
+    let mut cells = row;
+    let Some(boot) = named(alloc, cells.next())? else {
+        return no_boot(alloc);
+    };
+    let Some(alone) = alone_of(alloc, &boot, &mut cells)? else {
+        return no_boot(alloc);
+    };
+    match log_over(alloc, &mut cells, &boot)? {
+        Log::Events(events) => left_of(alloc, &after_events(alloc, &alone, &events)?),
+        Log::Refused(said) => Ok(said),
+    }
+}
+
+/// What the events of a log leave that was read over another boot.
+pub fn shown_by_another(alloc: Global, row: Cells<'_>) -> Result<String, NoMemory> {
+    let mut cells = row;
+    let Some(boot) = named(alloc, cells.next())? else {
+        return no_boot(alloc);
+    };
+    let Some(reader) = named(alloc, cells.next())? else {
+        return no_boot(alloc);
+    };
+    match log_over(alloc, &mut cells, &reader)? {
+        Log::Events(events) => left_of(alloc, &after_events(alloc, &boot, &events)?),
+        Log::Refused(said) => Ok(said),
+    }
+}

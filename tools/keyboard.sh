@@ -1,0 +1,107 @@
+# Shared by try and live, which are bash scripts that have set `own` to their folder and `name` to their name, and are given
+# the proved program in B2_PROGRAM, as `b2` does. The program alone decides what the machine does: here its logs are written,
+# and what it shows is passed on.
+export LC_ALL=C
+program=${B2_PROGRAM-}
+log_limit=5000000
+
+fail() { # STATUS TEXT
+    echo "$name: $2" >&2
+    exit "$1"
+}
+
+is_number() { # WORD HIGHEST
+    [[ $1 =~ ^[1-9][0-9]{0,6}$ ]] && (($1 <= $2))
+}
+
+is_readable_file() { # FILE
+    [ -f "$1" ] && [ -r "$1" ]
+}
+
+# A folder for the boot file and the outputs. Each run writes its transcripts down to the disk, so the folder is in memory
+# where that can be. The program runs inside it under plain names, whatever the names outside are.
+make_work_folder() {
+    [ -x "$program" ] || fail 127 "the program is not there; it is run as b2 $name"
+    work=$(mktemp -d /dev/shm/b2.XXXXXX 2>/dev/null) || work=$(mktemp -d) || fail 2 "no folder for the outputs can be made"
+}
+
+# A boot file of one partition with the largest areas.
+write_boot() { # FILE QUOTA
+    printf '%s\n' "quota = $2" '' '[[terminal]]' 'number = 1' 'front = 1' '' \
+        '[[partition]]' 'number = 1' 'terminal = 1' 'text = 24' 'data = 24' 'globals = 8' >"$1"
+}
+
+# Runs the log and the lines that are given here after it. Sets `rise` to the steps that counted beyond `steps`; or sets
+# `refusal` to the program's line, where it ends with another status than 0. No `$( )` stands here: inside of one, a trapped
+# signal breaks bash 5.2.
+run_with() { # LINES
+    { cat -- "$log" && printf '%s' "$1"; } | (cd "$work" && exec "$program" run boot /dev/stdin out) >"$work/summary" 2>&1
+    local status=${PIPESTATUS[1]} word all
+    if ((status != 0)); then
+        read -r refusal <"$work/summary"
+        return "$status"
+    fi
+    read -r word turns word all word dropped word <"$work/summary"
+    rise=$((all - steps))
+}
+
+# Sets `out` to the name of a terminal's transcript.
+transcript() { # TERMINAL
+    printf -v out '%s/out.t%02d' "$work" "$1"
+}
+
+# Shows what the transcript has beyond its first `shown` bytes. SHOW leaves in the file `held` how many of the last bytes it
+# held back, where it does so.
+show_new() { # SHOW
+    local size held=0
+    wc -c <"$out" >"$work/size"
+    read -r size <"$work/size"
+    ((size > shown)) || return 0
+    echo 0 >"$work/held"
+    tail -c +$((shown + 1)) "$out" | "$1"
+    read -r held <"$work/held"
+    shown=$((size - held))
+}
+
+# What a transcript says, for a terminal of today: the codes of the screen become its sequences, and all other bytes that
+# can't be shown are left out, so no program sends sequences of its own. What is held back is a sequence without its end.
+for_the_screen() {
+    od -An -v -tu1 | awk -v held="$work/held" '
+        BEGIN {
+            home = 1; clear = 3; bell = 7; left = 8; right = 9; newline = 10; up = 12; to_margin = 13
+            start = 2; placing = 65; outline = 66
+            for (byte = 32; byte < 127; byte++) shown[byte] = sprintf("%c", byte)
+            shown[home] = "\033[H"; shown[clear] = "\033[H\033[2J"; shown[bell] = "\007"; shown[left] = "\010"
+            shown[right] = "\033[C"; shown[newline] = "\n"; shown[up] = "\033[A"; shown[to_margin] = "\r"
+        }
+        function place(row, column) {
+            if (row >= 0 && row < 24 && column >= 0 && column < 80) printf "\033[%d;%dH", row + 1, column + 1
+        }
+        # An outline with its first cell at the cursor, which stays where it is.
+        function draw(rows, columns,    row, edge) {
+            if (rows < 2 || rows > 24 || columns < 2 || columns > 80) return
+            edge = sprintf("%" (columns - 2) "s", "")
+            gsub(/ /, "-", edge)
+            printf "\0337+%s+", edge
+            for (row = 1; row < rows - 1; row++) {
+                printf "\0338\033[%dB|", row
+                if (columns > 2) printf "\033[%dC", columns - 2
+                printf "|"
+            }
+            printf "\0338\033[%dB+%s+\0338", rows - 1, edge
+        }
+        # A sequence is its start, its kind and two numbers that count from 20.
+        function take(byte) {
+            if (part == 0 && byte == start) part = 1
+            else if (part == 0) printf "%s", shown[byte]
+            else if (part == 1) { kind = byte; part = byte == placing || byte == outline ? 2 : 0 }
+            else if (part == 2) { first = byte - 32; part = 3 }
+            else {
+                part = 0
+                if (kind == placing) place(first, byte - 32)
+                else draw(first, byte - 32)
+            }
+        }
+        { for (f = 1; f <= NF; f++) take($f) }
+        END { print part + 0 >held }'
+}

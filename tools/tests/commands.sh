@@ -1,0 +1,222 @@
+# The commands type, try, run and alone, on good and bad input.
+
+# A text of N bytes.
+bytes() { # N
+    printf "%${1}s" '' | tr ' ' x
+}
+
+type_spells_a_log() {
+    printf '10 PRINT\t"A"\r\n\n   \nCLEAR\n20 END' >listing.bas
+    gives 0 "type: a listing" ./b2 type 1 listing.bas
+    is_text "type: tabs, carriage returns, empty lines, no newline at the end" "$work/out" \
+        'turn 1 2\ntype 1 10 PRINT "A"\nturn 1 4\ntype 1 CLEAR\nturn 1 1000\nturn 1 2\ntype 1 20 END\nturn 1 4\n'
+    gives 0 "type: another partition" ./b2 type 12 listing.bas 16
+    has "type: another partition" "$work/out" 'type 12 20 END'
+    has "type: another partition" "$work/out" 'turn 16 4'
+    printf '20 B\n10 A\n' >order.bas
+    gives 0 "type: the order of the file" ./b2 type 2 order.bas
+    is_text "type: the order of the file" "$work/out" 'turn 2 2\ntype 2 20 B\nturn 2 4\ntype 2 10 A\nturn 2 4\n'
+    : >empty.bas
+    gives 0 "type: an empty listing" ./b2 type 1 empty.bas
+    is_text "type: an empty listing" "$work/out" 'turn 1 2\n'
+}
+
+type_refuses() {
+    local words
+    for words in '' '1' '1 listing.bas 1 1' '0 listing.bas' '13 listing.bas' '01 listing.bas' 'x listing.bas' \
+        '1 listing.bas 17' '1 listing.bas 0' '1 nofile' '1 .'; do
+        # shellcheck disable=SC2086
+        gives 2 "type $words" ./b2 type $words
+        is_empty "type $words" "$work/out"
+    done
+    printf '10 PRINT "OK"\n20 PRINT "\303\244"\n' >listing.bas
+    gives 2 "type: a byte that no key gives" ./b2 type 1 listing.bas
+    is_empty "type: a byte that no key gives" "$work/out"
+    is_text "type: a byte that no key gives" "$work/err" \
+        'type: listing.bas: line 2 has a byte that no key gives: hexadecimal C3 at byte 11\n'
+    printf '10 A\000B\n' >listing.bas
+    gives 2 "type: the byte 00" ./b2 type 1 listing.bas
+    has "type: the byte 00" "$work/err" 'line 1 has a byte that no key gives: hexadecimal 00 at byte 5'
+    printf '10 A\rB\n' >listing.bas
+    gives 2 "type: a carriage return inside of a line" ./b2 type 1 listing.bas
+    printf '10 END\n20 REM %s\n' "$(bytes 250)" >listing.bas
+    gives 2 "type: a line of 257 bytes" ./b2 type 1 listing.bas
+    is_empty "type: a line of 257 bytes" "$work/out"
+    is_text "type: a line of 257 bytes" "$work/err" 'type: listing.bas: line 2 has 257 bytes; at most 256 can be typed\n'
+    gives 0 "type --help" ./b2 type --help
+}
+
+# Lines about the size of the queue, each after a line without a number, come back whole.
+long_lines_are_typed() {
+    local size
+    : >listing.bas
+    for size in 126 127 128 256; do
+        printf 'X=1\n%d REM %s\n' "$size" "$(bytes $((size - 8)))" >>listing.bas
+    done
+    echo LIST >>listing.bas
+    ./b2 type 1 listing.bas >listing.log
+    gives 0 "lines of 126 to 256 bytes" ./b2 run examples/first.toml listing.log out
+    is_empty "lines of 126 to 256 bytes: no key is lost" "$work/err"
+    for size in 126 127 128 256; do
+        if [ "$(grep -c "^:$size REM x\{$((size - 8))\}\$" out.t01)" = 1 ]; then ok; else bad "a line of $size bytes" "not echoed"; fi
+        if [ "$(grep -c "^$size REM x\{$((size - 8))\}\$" out.t01)" = 1 ]; then ok; else bad "a line of $size bytes" "not listed"; fi
+    done
+}
+
+run_tells_dropped() {
+    printf 'type 1 %s\ntype 1 %s\nrounds 1\n' "$(bytes 100)" "$(bytes 100)" >full.log
+    gives 0 "run: a full queue" ./b2 run examples/first.toml full.log out
+    is_text "run: a full queue" "$work/out" 'turns 1 steps 3 dropped 74 apart 1\n'
+    is_text "run: a full queue" "$work/err" \
+        'b2: 74 keys found a full queue; turns belong between the lines of keys, as b2 type gives them\n'
+    gives 0 "alone: a full queue" ./b2 alone examples/first.toml full.log out 1
+    has "alone: a full queue" "$work/err" '74 keys found a full queue'
+    gives 0 "run: no key is lost" ./b2 run examples/first.toml examples/first.log out
+    is_text "run: no key is lost" "$work/out" 'turns 5 steps 4 dropped 0 apart 1\n'
+    is_empty "run: no key is lost" "$work/err"
+    gives 2 "run: a file that isn't there" ./b2 run examples/first.toml nofile out
+    is_text "run: a file that isn't there" "$work/err" 'missing nofile\n'
+    [ ! -e /dev/full ] || gives 7 "run: a summary that can't be put" bash -c './b2 run examples/first.toml full.log out >/dev/full'
+    gives 1 "words that are no command" ./b2 fun examples/first.toml full.log out
+    has "words that are no command" "$work/err" './b2 try examples/mortgage.bas'
+}
+
+try_runs_a_listing() {
+    printf '20 PRINT "TWO"\n10 PRINT "ONE"\n' >listing.bas
+    gives 0 "try: a program without questions" ./b2 try listing.bas
+    is_text "try: a program without questions" "$work/out" 'RUN\nONE\nTWO\n:'
+    is_empty "try: a program without questions" "$work/err"
+    answered 0 "try: every statement that runs" "$(cat "$top/tools/tests/every_statement.in")" \
+        ./b2 try "$top/tools/tests/every_statement.bas"
+    same "try: every statement that runs" "$work/out" "$top/tools/tests/every_statement.out"
+    is_empty "try: every statement that runs" "$work/err"
+    # An error ends a run as END does.
+    echo '10 PRINT 1/0' >listing.bas
+    gives 0 "try: an error" ./b2 try listing.bas
+    is_text "try: an error" "$work/out" 'RUN\nERR C62 AT 10\n:'
+    : >listing.bas
+    gives 0 "try: an empty listing" ./b2 try listing.bas
+    printf '10 FOR I=1 TO 20000:NEXT I\n20 PRINT I\n' >listing.bas
+    gives 0 "try: a run of many turns" ./b2 try listing.bas
+    is_text "try: a run of many turns" "$work/out" 'RUN\n 20001 \n:'
+}
+
+try_answers() {
+    printf '10 LINPUT "A",A$:KEYIN B$:INPUT "C",C\n20 PRINT A$;B$;C\n' >listing.bas
+    answered 0 "try: a line, a key, a line" 'ONE\nX\n5\n' ./b2 try listing.bas
+    is_text "try: a line, a key, a line" "$work/out" 'RUN\nA? ONE\nC? 5\nONEX 5 \n:'
+    answered 0 "try: the last answer without a newline" 'ONE\nX\n5' ./b2 try listing.bas
+    has "try: the last answer without a newline" "$work/out" 'ONEX 5'
+    answered 0 "try: carriage returns and tabs" 'A\tB\r\nX\r\n5\r\n' ./b2 try listing.bas
+    has "try: carriage returns and tabs" "$work/out" 'A BX 5'
+    answered 21 "try: an answer is missing" 'ONE\n' ./b2 try listing.bas
+    is_text "try: an answer is missing" "$work/out" 'RUN\nA? ONE\n'
+    is_text "try: an answer is missing" "$work/err" "try: the program waits for an answer that isn't there\n"
+    answered 21 "try: the last answer is missing" 'ONE\nX\n' ./b2 try listing.bas
+    is_text "try: the last answer is missing" "$work/out" 'RUN\nA? ONE\nC? '
+    answered 0 "try: answers that are left" 'ONE\nX\n5\nMORE\nAND MORE\n' ./b2 try listing.bas
+    is_text "try: answers that are left" "$work/err" \
+        'try: the run has ended; answer 4 and what follows it was not asked for\n'
+    is_text "try: answers that are left are not typed" "$work/out" 'RUN\nA? ONE\nC? 5\nONEX 5 \n:'
+    answered 2 "try: an answer that can't be typed" 'ONE\n\001\n' ./b2 try listing.bas
+    has "try: an answer that can't be typed" "$work/err" 'answer 2 has a byte that no key gives'
+    printf '10 KEYIN A$:PRINT HEXOF(A$)\n' >listing.bas
+    answered 0 "try: an empty line is RETURN where KEYIN waits" '\n' ./b2 try listing.bas
+    is_text "try: an empty line is RETURN where KEYIN waits" "$work/out" 'RUN\n0D\n:'
+    printf '10 DIM A$124:LINPUT A$:PRINT LEN(A$)\n' >listing.bas
+    answered 0 "try: an answer of 200 bytes" "$(bytes 200)\\n" ./b2 try listing.bas
+    is_text "try: an answer of 200 bytes" "$work/out" "RUN\n? $(bytes 200)\n 124 \n:"
+    is_empty "try: an answer of 200 bytes" "$work/err"
+}
+
+try_gives_special_keys() {
+    printf '%s\n' '10 PRINT "READY FOR KEYS":END' "20 DEFFN'0:PRINT \"ZERO\":RETURN" "30 DEFFN'31\"PRINT 7\"" \
+        "40 DEFFN'5:LINPUT \"NAME\",N\$:PRINT N\$:RETURN" >listing.bas
+    answered 0 "try: keys after the end" 'sf 0\nsf 5\nANN\n' ./b2 try listing.bas
+    is_text "try: keys after the end" "$work/out" 'RUN\nREADY FOR KEYS\n:ZERO\n:NAME? ANN\nANN\n:'
+    answered 0 "try: a key types a line, and the next answer goes on with it" 'sf 31\n;8\n' ./b2 try listing.bas
+    is_text "try: a key types a line, and the next answer goes on with it" "$work/out" \
+        'RUN\nREADY FOR KEYS\n:PRINT 7;8\n 7  8 \n:'
+    answered 0 "try: a line that is not ended" 'sf 31\n' ./b2 try listing.bas
+    is_text "try: a line that is not ended" "$work/out" 'RUN\nREADY FOR KEYS\n:PRINT 7'
+    answered 0 "try: sf 32 is no key" 'sf 32\n' ./b2 try listing.bas
+    has "try: sf 32 is no key" "$work/err" 'answer 1 and what follows'
+}
+
+try_ends_with_its_status() {
+    printf '10 PRINT "A"\n20 PRIMT\n30 PRINT SIN(1)\n' >listing.bas
+    gives 22 "try: lines that are not taken" ./b2 try listing.bas
+    is_text "try: lines that are not taken" "$work/out" 'RUN\nA\n:'
+    is_text "try: lines that are not taken" "$work/err" \
+        'try: not taken: 20 PRIMT: ERR S12 COL 5\ntry: not taken: 30 PRINT SIN(1): ERR S27 COL 10\n'
+    echo '10 GOTO 10' >listing.bas
+    gives 20 "try: an endless loop" ./b2 try --steps 3000 listing.bas
+    is_text "try: an endless loop" "$work/out" 'RUN\n'
+    is_text "try: an endless loop" "$work/err" \
+        'try: the steps ran out; --steps N grants more, and a log has at most 5000000\n'
+    printf '10 PRINT "A":INPUT B:GOTO 10\n' >listing.bas
+    answered 20 "try: too few steps" '1\n2\n3\n4\n5\n' ./b2 try --steps 20 listing.bas
+    # The line is read, RUN executed, a PRINT executed and the colon shown.
+    echo '10 PRINT "A"' >listing.bas
+    gives 0 "try: few steps are enough" ./b2 try --steps 20 listing.bas
+    gives 20 "try: two steps aren't" ./b2 try --steps 2 listing.bas
+    printf '10 FOR I=1 TO 400:$BREAK:NEXT I\n20 PRINT "DONE"\n' >listing.bas
+    gives 0 "try: turns that \$BREAK ends" ./b2 try --steps 30000 listing.bas
+    is_text "try: turns that \$BREAK ends" "$work/out" 'RUN\nDONE\n:'
+    printf '10 PRINT 1\nRUN\n20 PRINT 2\n' >listing.bas
+    gives 0 "try: a RUN in the listing that comes to its end" ./b2 try listing.bas
+    printf '10 INPUT A\nRUN\n' >listing.bas
+    gives 2 "try: a RUN in the listing that waits" ./b2 try listing.bas
+    has "try: a RUN in the listing that waits" "$work/err" 'RUN is typed after the listing'
+}
+
+try_refuses() {
+    local words
+    echo '10 END' >listing.bas
+    for words in '' 'listing.bas listing.bas' 'nofile' '--fast listing.bas' '--steps 0 listing.bas' '--steps x listing.bas' \
+        '--steps 5000001 listing.bas' '--steps' '--keep' '.'; do
+        # shellcheck disable=SC2086
+        gives 2 "try $words" ./b2 try $words
+        is_empty "try $words" "$work/out"
+    done
+    printf '10 END\n20 \201\n' >listing.bas
+    gives 2 "try: a listing that can't be typed" ./b2 try listing.bas
+    has "try: a listing that can't be typed" "$work/err" 'listing.bas: line 2 has a byte that no key gives'
+    gives 0 "try --help" ./b2 try --help
+    gives 0 "live --help" ./b2 live --help
+    gives 2 "live without a terminal" ./b2 live
+    gives 2 "live --fast" ./b2 live --fast
+    gives 2 "live nofile" ./b2 live nofile
+}
+
+# What is kept shows the same again, up to the RUN and from there on.
+try_keeps() {
+    answered 0 "try --keep" "$(cat examples/guess.in)" ./b2 try --keep kept/guess examples/guess.bas
+    cp "$work/out" shown
+    gives 0 "try --keep: the log runs again" ./b2 run kept/guess/boot.toml kept/guess/log again
+    same "try --keep: the same summary" "$work/out" kept/guess/summary
+    same "try --keep: the same transcript" again.t01 kept/guess/out.t01
+    tail -c "$(wc -c <shown)" again.t01 >"$work/end"
+    same "try --keep: what was shown" "$work/end" shown
+    printf '10 GOTO 10\n' >listing.bas
+    gives 20 "try --keep of an endless loop" ./b2 try --steps 2500 --keep kept/loop listing.bas
+    gives 0 "try --keep of an endless loop: the log runs again" ./b2 run kept/loop/boot.toml kept/loop/log again
+    printf '10 FOR I=1 TO 40:$BREAK:NEXT I\n20 PRINT "DONE"\n' >listing.bas
+    gives 0 "try --keep of \$BREAK" ./b2 try --keep kept/break listing.bas
+    cp "$work/out" shown
+    gives 0 "try --keep of \$BREAK: the log runs again" ./b2 run kept/break/boot.toml kept/break/log again
+    tail -c "$(wc -c <shown)" again.t01 >"$work/end"
+    same "try --keep of \$BREAK: what was shown" "$work/end" shown
+    gives 2 "try --keep in a file's place" ./b2 try --keep shown/x listing.bas
+}
+
+type_spells_a_log
+type_refuses
+long_lines_are_typed
+run_tells_dropped
+try_runs_a_listing
+try_answers
+try_gives_special_keys
+try_ends_with_its_status
+try_refuses
+try_keeps
