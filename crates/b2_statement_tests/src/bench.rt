@@ -102,9 +102,14 @@ fn answer_of(alloc: Global, item: &[u8]) -> Result<Answer, Unanswered> {
     }
 }
 
-/// The text in which a place is.
-fn home_of<'a>(place: Place, own: &'a Text, other: &'a Text) -> &'a Text {
-    if place.home.number() == 1 { own } else { other }
+/// Returns whether a place is in the text of partition 1.
+fn is_own(place: &Place) -> bool {
+    place.home.number() == 1
+}
+
+/// The text of partition 1, or else the other.
+fn home_of<'a>(is_own: bool, own: &'a Text, other: &'a Text) -> &'a Text {
+    if is_own { own } else { other }
 }
 
 /// The place after one, in a program or in the immediate line.
@@ -162,7 +167,7 @@ impl Bench {
             Builder::Control => false,
             Builder::Terminal => true,
             Builder::Either => {
-                let home = home_of(place, &self.own, &self.other);
+                let home = home_of(is_own(&place), &self.own, &self.other);
                 match statement_placed(place, &self.me.immediate, home) {
                     Some(unit) => b2_stmt_io::is_built(unit.row),
                     None => false,
@@ -181,7 +186,7 @@ impl Bench {
         let devices = DeviceTable::new(Vec::new(alloc));
         let mut lent = Lent {
             own: &self.own,
-            home: home_of(place, &self.own, &self.other),
+            home: home_of(is_own(&place), &self.own, &self.other),
             globals: &mut self.globals,
             found: self.found,
         };
@@ -203,7 +208,7 @@ impl Bench {
     ) -> Result<Outcome, NoMemory> {
         let mut lent = Lent {
             own: &self.own,
-            home: home_of(place, &self.own, &self.other),
+            home: home_of(is_own(&place), &self.own, &self.other),
             globals: &mut self.globals,
             found: self.found,
         };
@@ -286,7 +291,7 @@ impl Bench {
         };
         match outcome {
             Outcome::Next | Outcome::Break => {
-                let home = home_of(place, &self.own, &self.other);
+                let home = home_of(is_own(&place), &self.own, &self.other);
                 self.me.place = moved(&self.me, home, place);
                 self.me.prompted = false;
             }
