@@ -101,7 +101,11 @@ fn shelf_call(
         },
         _ => return Err(Unanswered::Misread),
     }
-    Ok(())
+    if items.is_empty() {
+        Ok(())
+    } else {
+        Err(Unanswered::Misread)
+    }
 }
 
 fn sink_calls(alloc: Global, cells: &mut Cells<'_>) -> Answer {
