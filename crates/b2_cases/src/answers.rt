@@ -3,6 +3,7 @@ use b2_base::{Fault, NoMemory};
 use std::alloc::{AllocError, AllocFailed};
 
 /// Why a row gives nothing.
+#[derive(Drop)]
 pub enum Unanswered {
     /// There is no call of that name.
     NoSuchCall,
