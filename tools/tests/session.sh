@@ -2,11 +2,12 @@
 
 patience=${B2_PATIENCE:-60}
 
-# Begins a session with these words. Its process is told in the file pid, its status in the file ended.
+# Begins a session with these words. Its process is told in the file pid, its status in the file ended. What a script runs in
+# the background doesn't get the signal INT, unless that is given back.
 begin_session() { # WORD..
     rm -f keys pid seen before after ended
     mkfifo keys
-    script -qfc "stty cols 80 rows 24; stty -g >before; (exec sh -c 'echo \$\$ >pid; exec ./b2 live --log s.log $*'); echo \$? >ended
+    script -qfc "stty cols 80 rows 24; stty -g >before; (exec env --default-signal=INT sh -c 'echo \$\$ >pid; exec ./b2 live --log s.log $*'); echo \$? >ended
         stty -g >after" /dev/null <keys >seen 2>&1 &
     script_process=$!
     exec 4>keys
@@ -102,7 +103,7 @@ shared_terminal() {
     session="a session of two partitions at one terminal"
     rm -f s.log*
     begin_session examples/front.toml
-    see READY && see : && send '10 FOR I=1 TO 200:NEXT I:PRINT "DONE"\r' && see '\n:' && send 'RUN\r' && see 'RUN\r' &&
+    see READY && see : && send '10 FOR I=1 TO 5000:NEXT I:PRINT "DONE"\r' && see '\n:' && send 'RUN\r' && see 'RUN\r' &&
         send '\020' && see READY && send 'PRINT #PART\r' && see ' 2 \r' && send '\020' && see 'DONE\r'
     send '\004'
     end_session 0
