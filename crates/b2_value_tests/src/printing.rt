@@ -69,15 +69,16 @@ fn count_of(text: &[u8]) -> Result<usize, Unanswered>
     ensures { IfOk result (λ count. count ≤ 4) }
 {
     let mut items = Items::of(text);
-    let mut count = 0;
-    while count < 4 && !items.is_empty() {
+    for count in 0..4usize {
+        if items.is_empty() {
+            return Ok(count);
+        }
         let Ok(_) = next_shown(&mut items) else {
             return Err(Unanswered::Misread);
         };
-        count += 1;
     }
     if items.is_empty() {
-        Ok(count)
+        Ok(4)
     } else {
         Err(Unanswered::Misread)
     }

@@ -18,8 +18,11 @@ fn push_bytes(into: &mut String, bytes: &[u8]) -> Result<(), AllocError> {
 /// Digits without the zeros at their end.
 fn without_last_zeros(digits: &[u8]) -> &[u8] {
     let mut left = digits;
-    while let [before @ .., b'0'] = left {
-        left = before;
+    for _ in 0..digits.len() {
+        match left {
+            [before @ .., b'0'] => left = before,
+            _ => break,
+        }
     }
     left
 }
