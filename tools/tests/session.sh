@@ -91,7 +91,7 @@ two_terminals() {
     session="a session at two terminals"
     rm -f s.log*
     begin_session examples/two.toml
-    see READY && see : && send '10 PRINT "ONE";#PART:GOTO 10\r' && see '\n:' && send 'RUN\r' && see 'ONE 1 \r' &&
+    see READY && see : && send '10 FOR I=1 TO 300:NEXT I:PRINT "ONE";#PART:GOTO 10\r' && see '\n:' && send 'RUN\r' && see 'ONE 1 \r' &&
         send '\024' && see '\033[H\033[2J' && see READY && see : && send 'PRINT "HERE IS";#PART\r' && see 'HERE IS 2 \r' &&
         send '\024' && see 'ONE 1 \r' && send '\003' && see HALT
     send '\004'
