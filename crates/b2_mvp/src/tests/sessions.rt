@@ -38,7 +38,7 @@ mod variables;
 
 use super::transcript_of;
 use b2_base::cut;
-use b2_base::lexical::{hex_value, is_hex_digit};
+use b2_base::lexical::{first_bytes, hex_value, is_hex_digit, rest_after};
 use std::alloc::{AllocError, Global};
 use std::process::Abort;
 use std::test::Fail;
@@ -104,9 +104,9 @@ impl<'a> Session<'a> {
                 break;
             }
             self.log.extend_from_slice(b"keys 1 ")?;
-            self.log.extend_from_slice(&left[..PIECE])?;
+            self.log.extend_from_slice(first_bytes(left, PIECE))?;
             self.log.extend_from_slice(b"\nrounds 1\n")?;
-            left = &left[PIECE..];
+            left = rest_after(left, PIECE);
         }
         self.log.extend_from_slice(b"type 1 ")?;
         self.log.extend_from_slice(left)?;
