@@ -1,12 +1,16 @@
 #!/usr/bin/env python3
-"""Writes tables of typed lines: crates/b2_syntax/src/tests/vectors.rt and crates/b2_lister/src/tests/vectors.rt.
+"""Writes rows of typed lines into crates/b2_language_tests/stdin, between its two lines that name this script.
 
 LINES pairs each typed line with what it must be read as, worked out by hand from the language's rules: its atoms, with
-words in braces and line numbers in angles, or the code and the column of what is missing. The codes of the words and the
-listed form of each line come from this script's own few lines, which share nothing with the program. Run it at the top of
-the repository; the same tables come out each time.
+words in braces and line numbers in angles, or the code and the column of what is missing. Between them stand the topics.
+The codes of the words and the listed form of each line come from this script's own few lines, which share nothing with the
+program. Run it at the top of the repository; the same rows come out each time.
 """
 import re
+
+TABLE = "crates/b2_language_tests/stdin"
+BEGINS = "# The rows from here on are written by tools/line_vectors.py.\n"
+ENDS = "# The rows of tools/line_vectors.py end here.\n"
 
 WORDS = """REM DIM COM GOTO GOSUB GOSUB' RETURN CLEAR ALL ON IF THEN ELSE END FOR TO STEP NEXT STOP DEFFN DEFFN' FN ERROR READ
 DATA RESTORE LINE SELECT PRINT PRINTUSING INPUT LINPUT KEYIN DISK NO @PART $BREAK $OPEN $CLOSE INIT( CONVERT ROTATE(
@@ -15,7 +19,7 @@ DSKIP DBACKSPACE LIMITS SCRATCH LS LIST RUN CONTINUE LOAD SAVE TAB( HEXOF( HEX( 
 SUBC DAC DSC ABS( INT( FIX( SGN( SQR( ROUND( MOD( MAX( MIN( LEN( NUM( POS( VAL( ERR #PART #TERM ROUND""".split()
 
 LINES = [
-    # assignments
+    "Assignments",
     ("10 X=5", "X=5"),
     ("10 let x , y1 , @z = 5", "X,Y1,@Z=5"),
     ("10 A(1,2)=A(1)+@B(X)", "A(1,2)=A(1)+@B(X)"),
@@ -34,7 +38,7 @@ LINES = [
     ("A$=5", "S18 4"),
     ("A$=B$&", "S18 7"),
     ("A$=B$ AND 5", "S18 11"),
-    # expressions
+    "Expressions",
     ("PRINT -A^2*-B/+C", "{PRINT}-A^2*-B/+C"),
     ("PRINT INT(1.5)+FIX(A)-SGN(B)*SQR(4)/ABS(C)", "{PRINT}{INT(}1.5)+{FIX(}A)-{SGN(}B)*{SQR(}4)/{ABS(}C)"),
     ("PRINT ROUND(A,2);MIN(1,2);MAX(A,B,C,D,E,F,G,H)", "{PRINT}{ROUND(}A,2);{MIN(}1,2);{MAX(}A,B,C,D,E,F,G,H)"),
@@ -50,16 +54,18 @@ LINES = [
     ("A=MOD(5)", "S13 8"),
     ('A=POS(A$ "B")', "S21 10"),
     ("PRINT EXP(1)", "S27 7"),
+    ("10 @5", "S20 4"),
+    ("PRINT .", "S17 7"),
     ("A=1+#PI", "S27 5"),
     ("A=RND(1)*COS(X)", "S27 3"),
-    # REM and %
+    "REM and %",
     ("10 REM", "{REM}"),
     ("10 REMark: it", "{REM}ark: it"),
     ("A=1:rem  x ", "A=1:{REM}  x "),
     ("10 %", "%"),
     ("10 %## $#", "%## $#"),
     ("10 A=1:%##", "S28 8"),
-    # DIM and COM
+    "DIM and COM",
     ("10 DIM A(10),B$(3)", "{DIM}A(10),B$(3)"),
     ("10 DIM A$5,B1$X", "{DIM}A$5,B1$X"),
     ("10 DIM A$(2,3)4+1", "{DIM}A$(2,3)4+1"),
@@ -68,7 +74,7 @@ LINES = [
     ("10 COM A$(2)-X", "{COM}A$(2)-X"),
     ("10 DIM 5", "S20 8"),
     ("10 COM A,", "S20 10"),
-    # GOTO, GOSUB, RETURN, ON
+    "GOTO, GOSUB, RETURN, ON",
     ("10 GOTO 0", "{GOTO}<0>"),
     ("10 GOTO 0099", "{GOTO}<99>"),
     ("GOTO 9999", "{GOTO}<9999>"),
@@ -94,7 +100,7 @@ LINES = [
     ("10 ON A GOSUB 1,2", "{ON}A{GOSUB}<1>,<2>"),
     ("ON A GOTO 1,", "S15 13"),
     ("ON GOTO 1", "S17 4"),
-    # IF, ELSE, ERROR
+    "IF, ELSE, ERROR",
     ("10 IF A<>B THEN 20", "{IF}A<>B{THEN}<20>"),
     ('10 IF A$<="x" OR B=1 XOR C>2 THEN PRINT A', '{IF}A$<="x"{OR}B=1{XOR}C>2{THEN}{PRINT}A'),
     ("IF A=1 THEN IF B=2 THEN END", "{IF}A=1{THEN}{IF}B=2{THEN}{END}"),
@@ -115,7 +121,7 @@ LINES = [
     ("A=1:ERROR ERROR END", "S14 11"),
     ("A=1:ERROR", "S14 10"),
     ("IF A=1 THEN ERROR END", "S14 13"),
-    # FOR, NEXT, END, STOP
+    "FOR, NEXT, END, STOP",
     ("10 FOR I=1 TO 10", "{FOR}I=1{TO}10"),
     ("FOR I1=A TO B STEP -C", "{FOR}I1=A{TO}B{STEP}-C"),
     ("10 FOR E=1E5 TO 1E6 STEP 1E5", "{FOR}E=1E5{TO}1E6{STEP}1E5"),
@@ -136,7 +142,7 @@ LINES = [
     ('10 STOP "at 5"', '{STOP}"at 5"'),
     ('STOP"X":PRINT', '{STOP}"X":{PRINT}'),
     ("STOP 5", "S25 6"),
-    # DEFFN
+    "DEFFN",
     ("10 DEFFN X(Y)=Y*2", "{DEFFN}X(Y)=Y*2"),
     ("10 DEFFN2(Z1)=Z1^2", "{DEFFN}2(Z1)=Z1^2"),
     ("10 DEFFNA(@B)=FNB(@B)", "{DEFFN}A(@B)={FN}B(@B)"),
@@ -152,7 +158,7 @@ LINES = [
     ('10 DEFFN @PART "A B":PRINT', '{DEFFN}{@PART}"A B":{PRINT}'),
     ("10 DEFFN @PART 5", "S18 16"),
     ('10 A=1:DEFFN @PART "X"', "S28 8"),
-    # READ, DATA, RESTORE
+    "READ, DATA, RESTORE",
     ("10 READ A,A$,A(1),A$(1,2)", "{READ}A,A$,A(1),A$(1,2)"),
     ("READ STR(A$,1,2)", "{READ}{STR(}A$,1,2)"),
     ("10 READ @A", "{READ}@A"),
@@ -166,7 +172,7 @@ LINES = [
     ("10 RESTORE LINE 20", "{RESTORE}{LINE}<20>"),
     ("10 RESTORE:END", "{RESTORE}:{END}"),
     ("RESTORE LINE A", "S15 14"),
-    # CLEAR, INIT, CONVERT, ROTATE
+    "CLEAR, INIT, CONVERT, ROTATE",
     ("CLEAR", "{CLEAR}"),
     ("10 CLEAR:END", "{CLEAR}:{END}"),
     ("A=1:CLEAR", "A=1:{CLEAR}"),
@@ -200,7 +206,7 @@ LINES = [
     ("10 ROTATEC(A$,8)", "{ROTATEC(}A$,8)"),
     ("ROTATEC(A$,X+1):END", "{ROTATEC(}A$,X+1):{END}"),
     ("ROTATEC(A,1)", "S20 9"),
-    # SELECT
+    "SELECT",
     ("SELECT ROUND", "{SELECT}{ROUND}"),
     ("10 SELECT ROUND:END", "{SELECT}{ROUND}:{END}"),
     ("10 SELECT NO ROUND:END", "{SELECT}{NO}{ROUND}:{END}"),
@@ -216,7 +222,7 @@ LINES = [
     ("SELECT @PART A$", "S18 14"),
     ("SELECT", "S22 7"),
     ("SELECT ON", "S27 8"),
-    # PRINT, PRINTUSING
+    "PRINT, PRINTUSING",
     ("PRINT", "{PRINT}"),
     ("PRINT;,A", "{PRINT};,A"),
     ('10 PRINT "a";B$,C;', '{PRINT}"a";B$,C;'),
@@ -230,7 +236,7 @@ LINES = [
     ("PRINTUSING 10 X", "S13 15"),
     ("PRINTUSING 10", "S13 14"),
     ("PRINTUSING 10,A;B", "S25 17"),
-    # INPUT, LINPUT, KEYIN
+    "INPUT, LINPUT, KEYIN",
     ("10 INPUT A", "{INPUT}A"),
     ('10 INPUT "N",A$,B(1)', '{INPUT}"N",A$,B(1)'),
     ("10 INPUT STR(A$,1),@B", "{INPUT}{STR(}A$,1),@B"),
@@ -244,7 +250,7 @@ LINES = [
     ("10 KEYIN STR(A$,1,1),100,200", "{KEYIN}{STR(}A$,1,1),<100>,<200>"),
     ("10 KEYIN A$(1),1,2:END", "{KEYIN}A$(1),<1>,<2>:{END}"),
     ("10 KEYIN A$,1", "S13 14"),
-    # $BREAK, $OPEN, $CLOSE
+    "$BREAK, $OPEN, $CLOSE",
     ("$BREAK", "{$BREAK}"),
     ("10 $BREAK:END", "{$BREAK}:{END}"),
     ("IF A=1 THEN $BREAK", "{IF}A=1{THEN}{$BREAK}"),
@@ -257,7 +263,7 @@ LINES = [
     ("10 $CLOSE/D11,/215:END", "{$CLOSE}/D11,/215:{END}"),
     ("$CLOSE /D11", "{$CLOSE}/D11"),
     ("$CLOSE /", "S23 9"),
-    # MAT
+    "MAT",
     ("MAT A=B-C", "{MAT}A=B-C"),
     ("10 MAT A1=B1*@C", "{MAT}A1=B1*@C"),
     ("10 MAT A=B:END", "{MAT}A=B:{END}"),
@@ -289,7 +295,7 @@ LINES = [
     ("10 MAT COPY A$() TO B$():END", "{MAT}{COPY}A$(){TO}B$():{END}"),
     ("MAT COPY @A$() TO B1$()", "{MAT}{COPY}@A$(){TO}B1$()"),
     ("MAT COPY A$ TO B$()", "S10 13"),
-    # PACK and its kin
+    "PACK and its kin",
     ("10 PACK(+##.##)A$ FROM X", "{PACK(}+##.##)A${FROM}X"),
     ("PACK( ####)STR(A$,1,2) FROM X,Y+1,3", "{PACK(}####){STR(}A$,1,2){FROM}X,Y+1,3"),
     ("PACK(##)A$", "S22 11"),
@@ -302,7 +308,7 @@ LINES = [
     ("10 $UNPACK(F=F$(1))A$() TO B$,C", "{$UNPACK(}F=F$(1))A$(){TO}B$,C"),
     ("$UNPACK(F=F$)STR(A$,1) TO X(1)", "{$UNPACK(}F=F$){STR(}A$,1){TO}X(1)"),
     ("$UNPACK(D=F$)A$ TO X", "S27 9"),
-    # disks
+    "Disks",
     ("10 LIMITS T,A$,B,C,D", "{LIMITS}T,A$,B,C,D"),
     ('LIMITS T/D11,"X",A,B,C(1),D', '{LIMITS}T/D11,"X",A,B,C(1),D'),
     ("LIMITS T A,B,C", "{LIMITS}T,A,B,C"),
@@ -351,7 +357,7 @@ LINES = [
     ('10 LOAD DC RUN T,A$', '{LOAD}{RUN}T,A$'),
     ('LOAD RUN T/D11,"A B":END', '{LOAD}{RUN}T/D11,"A B":{END}'),
     ("LOAD T", "S18 7"),
-    # immediate lines alone
+    "Immediate lines alone",
     ("LIST 5", "{LIST}<5>"),
     ("PRINT A:LIST", "{PRINT}A:{LIST}"),
     ("LIST 10,20:LIST 30", "{LIST}<10>,<20>:{LIST}<30>"),
@@ -367,7 +373,7 @@ LINES = [
     ("A=1:CONTINUE", "A=1:{CONTINUE}"),
     ("CONTINUE 5", "S25 10"),
     ("10 CONTINUE", "S26 4"),
-    # what else is left out
+    "What else is left out",
     ("PLOT 5", "S27 1"),
     ("HEXPRINT A$", "S27 1"),
     ("$GIO", "S27 1"),
@@ -379,7 +385,13 @@ LINES = [
     ("10 HEXPACK A$ FROM B$", "S27 4"),
     ("A=ARCSIN(1)", "S27 3"),
     ("A=ARCTAN(1)+TAN(2)", "S27 3"),
-    # statements, ends, bytes and numbers
+    ("A=ARCCOS(1)", "S27 3"),
+    ("A=TAN(1)", "S27 3"),
+    ("A=COS(1)", "S27 3"),
+    ("HEXUNPACK A$ TO B$", "S27 1"),
+    ("$FORMAT A$=B$", "S27 1"),
+    ("MAT READ A", "S27 5"),
+    "Statements, ends, bytes and numbers",
     ("A=1:", "S14 5"),
     ("PRINT 1:)", "S14 9"),
     ("END END", "S25 5"),
@@ -387,6 +399,9 @@ LINES = [
     ("REM \x7f", "S29 5"),
     ("A=1\tX", "S29 4"),
     ("99999 A=1", "A07"),
+    ("99999 A=", "A07"),
+    ("99999 A=\x01", "S29 9"),
+    ("PRINT \x01(", "S29 7"),
     ("PRINT " + "ABS(" * 33 + "1" + ")" * 33, "A04"),
     ("A=" + "X(" * 33 + "1" + ")" * 33, "A04"),
     ("PRINT " + "(" * 32 + "1" + ")" * 32, "{PRINT}" + "(" * 32 + "1" + ")" * 32),
@@ -395,38 +410,22 @@ LINES = [
     ("10 REM" + "x" * 250, "{REM}" + "x" * 250),
     ("10 %" + "#" * 252, "%" + "#" * 252),
     ("PRINT " + "1+" * 127 + "1", "A05"),
+    ("PRINT " + "1+" * 128, "S17 263"),
 ]
 
 TOKEN = re.compile(r"\{([^}]+)\}|<(\d+)>|(.)", re.S)
 
 
-def tokens(text):
-    """Pairs of a kind and a text: a word, a line number, or a byte."""
-    for word, line, byte in TOKEN.findall(text):
+def tokens(expected):
+    """Pairs of a kind and a text: a word, a line number, or a byte. `<` is a byte where no digits and `>` follow."""
+    for word, line, byte in TOKEN.findall(expected):
         yield ("word", word) if word else ("line", line) if line else ("byte", byte)
-
-
-def split(expected):
-    """The tokens; `<` before a sign is a byte, as it is where no digits and `>` follow."""
-    return list(tokens(expected))
-
-
-def atoms(expected):
-    out = bytearray()
-    for kind, text in split(expected):
-        if kind == "word":
-            out.append(128 + WORDS.index(text))
-        elif kind == "line":
-            out += bytes([255]) + bytes.fromhex(text.rjust(4, "0"))
-        else:
-            out += text.encode("latin-1")
-    return bytes(out)
 
 
 def listed(expected):
     """The canonical source, by the rules on words that end and that begin with a letter."""
     out, wordy, operand, remark = "", False, False, False
-    for kind, text in split(expected):
+    for kind, text in tokens(expected):
         begins = kind == "word" and text[0].isalpha()
         if not remark and ((wordy and text not in ":,;)=/") or (operand and begins)):
             out += " "
@@ -439,45 +438,62 @@ def listed(expected):
     return out
 
 
-def literal(data):
-    """The inside of a literal of bytes."""
+def escaped(byte):
+    return "\\%02X" % ord(byte)
+
+
+def cell(text):
+    """A text as a cell writes it."""
+    ends = (0, len(text) - 1)
+    return "".join(
+        c if " " <= c <= "~" and c not in "\\|" and not (c == " " and place in ends) else escaped(c)
+        for place, c in enumerate(text)
+    )
+
+
+def atoms_cell(expected):
+    """Atoms as a cell writes them: words and line numbers in braces."""
     out = ""
-    for b in data:
-        c = chr(b)
-        out += "\\" + c if c in '"\\' else c if 32 <= b < 127 else "\\x%02X" % b
-    return out
+    for kind, text in tokens(expected):
+        out += text if kind == "byte" else "{%s}" % text
+    return cell(out)
 
 
-def answer(expected):
-    m = re.fullmatch(r"([SA])(\d\d)(?: (\d+))?", expected)
-    return (int(m.group(2)), int(m.group(3) or 0)) if m else None
+def rows_of(typed, expected):
+    """The rows of a typed line: how it is read, and how its atoms are listed."""
+    code = re.fullmatch(r"([SA]\d\d)(?: (\d+))?", expected)
+    if code:
+        return ["read | %s | %s COL %s" % (cell(typed), code.group(1), code.group(2) or 0)]
+    front = "line 10" if typed[:1].isdigit() else "immediate"
+    atoms = atoms_cell(expected)
+    return [
+        "read | %s | %s %s" % (cell(typed), front, atoms),
+        "list | %s | 10 | %s" % (atoms, cell("10 " + listed(expected))),
+    ]
 
 
-def table(name, rows, comment):
-    """Rows of a text and of bytes in hexadecimal, `~` between them and a newline after them."""
-    out = ["/// " + comment, "pub const %s_COUNT: usize = %d;" % (name, len(rows)), "", "#[rattlefmt::skip]", 'pub const %s: &[u8] = b"\\' % name]
-    out += ["%s~%s\\n\\" % (literal(text.encode("latin-1")), data.hex().upper()) for text, data in rows]
-    return out + ['";']
+def word_rows():
+    return ["word | \\%02X | %s" % (128 + place, word) for place, word in enumerate(WORDS)]
 
 
-def write(path, parts):
-    with open(path, "w") as f:
-        f.write("// Written by tools/line_vectors.py.\n\n" + "\n\n".join("\n".join(p) for p in parts) + "\n")
+def rows():
+    """The rows of the words, and those of each topic below it."""
+    out = ["", "# The words in the order of their codes."] + word_rows()
+    out += ["", "# By topic: how each form is read and listed, and the code and the column where an item is missing."]
+    for line in LINES:
+        out += ["", "# %s." % line] if isinstance(line, str) else rows_of(*line)
+    return out + [""]
 
 
 def main():
-    taken = [(t, atoms(e)) for t, e in LINES if not answer(e)]
-    programs = [row for row in taken if row[0][:1].isdigit()]
-    immediates = [row for row in taken if not row[0][:1].isdigit()]
-    refusals = [(t, bytes(answer(e))) for t, e in LINES if answer(e)]
-    lines = [("10 " + listed(e), atoms(e)) for t, e in LINES if not answer(e)]
-    write("crates/b2_syntax/src/tests/vectors.rt", [
-        table("PROGRAMS", programs, "Lines of number 10 as they are typed, with their atoms."),
-        table("IMMEDIATES", immediates, "Immediate lines with their atoms."),
-        table("REFUSALS", refusals, "Lines that are refused, each with its code and its column, or 0 where it has none."),
-    ])
-    write("crates/b2_lister/src/tests/vectors.rt", [table("LINES", lines, "How lines are listed with the number 10, and their atoms.")])
-    print(len(programs), "lines of programs,", len(immediates), "immediate lines,", len(refusals), "refusals")
+    with open(TABLE) as file:
+        before, rest = file.read().split(BEGINS)
+    after = rest.split(ENDS)[1]
+    whole = before + BEGINS + "\n".join(rows()) + "\n" + ENDS + after
+    with open(TABLE, "w") as file:
+        file.write(whole)
+    lines = whole.splitlines()
+    print("%d rows, the last in line %d" % (sum(line != "" and line[0] != "#" for line in lines), len(lines)))
 
 
 main()

@@ -11,6 +11,7 @@
 //! What shows that it tells a wrong row is the last row of each table, which is wrong and must be named.
 #![tactic(auto)]
 
+pub mod answers;
 mod cells;
 mod rows;
 pub mod shown;

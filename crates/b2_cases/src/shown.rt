@@ -1,6 +1,8 @@
 // What calls give, as rows show it.
 use b2_base::lexical::{hex_digit, is_printable};
+use b2_base::{Code, Fault};
 use std::alloc::AllocError;
+use std::fmt::Write;
 
 /// Appends bytes: each that a cell can show as it is, and else a backslash and two hexadecimal digits.
 pub fn show_bytes(into: &mut String, bytes: &[u8]) -> Result<(), AllocError> {
@@ -25,4 +27,20 @@ fn is_shown(byte: u8) -> bool {
 /// Appends `yes` or `no`.
 pub fn show_truth(into: &mut String, holds: bool) -> Result<(), AllocError> {
     into.push_str(if holds { "yes" } else { "no" })
+}
+
+/// Appends a code: the letter of its class and two digits.
+pub fn show_code(into: &mut String, code: Code) -> Result<(), AllocError> {
+    let number = code.number();
+    into.push(code.class() as char)?;
+    write!(into, "{number:02}")?;
+    Ok(())
+}
+
+/// Appends the code of a fault, or that memory failed.
+pub fn show_fault(into: &mut String, fault: Fault) -> Result<(), AllocError> {
+    match fault {
+        Fault::Code(code) => show_code(into, code),
+        Fault::NoMemory => into.push_str("no memory"),
+    }
 }

@@ -2,3 +2,4 @@ pub mod Writing
 pub mod Fronts
 pub mod Passing
 pub mod Saved
+pub mod Marked

@@ -1,6 +1,5 @@
 -- A data file: records one after the other, and an end mark.
-use Rattle.std.specs.Prelude.{◌≡◌, ℕ, ◌+◌, ◌-◌, true, ◌==◌, ◌||◌, nat_le, false, List, [], ◌∷◌, replicate, Option}
-use Rattle.b2_base.specs.Lexical.{first}
+use Rattle.std.specs.Prelude.{◌≡◌, ℕ, ◌+◌, ◌-◌, ◌≤◌, ◌⊎◌, false, List, [], ◌∷◌, replicate, Option}
 use Rattle.b2_dec.specs.declared.values.Value.{Value}
 use Rattle.b2_platter.specs.Image.{sector, sectors_at}
 use Rattle.b2_platter.specs.Edits.{put_sector}
@@ -30,7 +29,7 @@ pub record IsWhole (image : List ℕ) (e : Entry) (records : List (List Value)) 
 
 -- a place where the records end: that of the control sector, one after it, or one with the end mark
 abbrev pub IsEndOfRecords : List ℕ → Entry → ℕ → Type 0
-IsEndOfRecords image e pos = (nat_le e.end pos || (first (sector image pos) == END_MARK)) ≡ true
+IsEndOfRecords image e pos = (e.end ≤ pos) ⊎ (sector image pos ≡ end_mark)
 
 -- the end mark at a place, and the control sector that says so
 abbrev pub with_end : List ℕ → Entry → ℕ → List ℕ

@@ -1,12 +1,11 @@
 // Records are read.
-ghost use Rattle.std.specs.Prelude.{◌≡◌, ◌+◌, ◌-◌, ◌<◌, ◌≤◌, ◌||◌, ◌==◌, nat_le, true, Some, None, IfOk, IfErr};
-ghost use Rattle.b2_base.specs.Lexical.{first};
+ghost use Rattle.std.specs.Prelude.{◌≡◌, ◌↔◌, ◌<◌, ◌≤◌, IsTrue, IfOk, IfErr};
 ghost use Rattle.b2_platter.specs.declared.layout.Layout.TheVariants.{Narrow};
-ghost use Rattle.b2_platter.specs.Image.{sector, total_of};
-ghost use Rattle.b2_datafile.specs.declared.marks.TheConstants.{END_MARK};
+ghost use Rattle.b2_platter.specs.Image.{total_of};
+ghost use Rattle.b2_datafile.specs.Files.{IsEndOfRecords};
 ghost use Rattle.b2_datafile.specs.Loading.{Loads, LoadFails, agree, is_of};
 
-use crate::marks::END_MARK;
+use crate::marks;
 use crate::opening::file_of;
 use b2_base::codes::{D80_NOT_OPEN, X70_TOO_LITTLE, X74_OTHER_KIND};
 use b2_base::{Code, Fault, Slot};
@@ -19,9 +18,9 @@ use std::alloc::Global;
 /// Whether the records of a file end at a place: that of its control sector, one after it, or one with the end mark.
 pub(crate) fn is_end_of_records(p: &Platter, e: &Entry, pos: u32) -> bool
     requires { e.now.end < total_of Narrow p.now }
-    ensures { result ≡ (nat_le e.now.end pos || (first (sector p.now pos) == END_MARK)) }
+    ensures { IsTrue result ↔ IsEndOfRecords p.now e.now pos }
 {
-    e.end <= pos || p.sector(pos)[0] == END_MARK
+    e.end <= pos || marks::is_end_mark(p.sector(pos))
 }
 
 /// Whether a value is of a kind.

@@ -17,7 +17,7 @@ use b2_base::{Code, Slot};
 use b2_catalog::{Entry, set_used};
 use b2_dec::Value;
 use b2_platter::Platter;
-use b2_record::{put, sectors_of};
+use b2_record::{put_next, sectors_of};
 
 /// Writes the record of these values from a sector on.
 fn put_record(p: &mut Platter, at: u32, values: &[Value], count: u32)
@@ -30,8 +30,9 @@ fn put_record(p: &mut Platter, at: u32, values: &[Value], count: u32)
 {
     let _image = p.image();
     let mut sector = [0; 256];
+    let mut rest = values;
     for k in 0..count {
-        put(values, k + 1, &mut sector);
+        rest = put_next(rest, k + 1, &mut sector);
         p.put_file(at + k, &sector);
     }
 }

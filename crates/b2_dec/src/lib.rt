@@ -34,4 +34,3 @@ pub use rests::{modulo, round_to};
 pub use rounding::{COEFFICIENT_LIMIT, round_exact, round_whole_part};
 pub use sums::{add, sub};
 pub use values::{Bytes, Kind, KindList, Value, ValueList};
-

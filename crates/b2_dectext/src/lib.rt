@@ -25,4 +25,3 @@ pub use laws::printed_is_read;
 pub use leading::{Leading, rounded, with_digit};
 pub use printing::write;
 pub use reading::{literal, num, read};
-

@@ -1,5 +1,6 @@
 -- The places of a search, from an index on.
-use Rattle.std.proofs.Common.{◌≡◌, ◌<◌, ◌≤◌, ◌+◌, ◌-◌, ◌∙◌, ℕ, zero, suc, Bool, true, false, cond, if◌then◌else◌, List, [], ◌∷◌, ◌++◌, length, map, refl, sym, ap, subst, arith, inl, inr, ⊎_elim}
+use Rattle.std.proofs.Common.{◌≡◌, ◌<◌, ◌≤◌, ◌+◌, ◌-◌, ◌%◌, ◌==◌, ◌&&◌, ◌∙◌, ℕ, zero, suc, min, Bool, true, false, cond, if◌then◌else◌, List, [], ◌∷◌, ◌++◌, length, map, refl, sym, ap, subst, arith, inl, inr, ⊎_elim, ne_eqb, zero-add}
+use Rattle.std.proofs.Math.Nat.{add-mod_right, mod-add-mod, mod-eq_of_lt}
 use Rattle.std.specs.List.{All, AllByRecursion, Contains, filter, range_with_len}
 use Rattle.std.specs.List.Sorted.{IsStrictlyIncreasing}
 use Rattle.std.proofs.lemmas.List.{get_or-map, length-map, map-id}
@@ -8,7 +9,7 @@ use Rattle.std.proofs.lemmas.Bool.{cases_lt}
 use Rattle.std.proofs.lemmas.List.Elements.{All-from_recursion}
 use Rattle.std.proofs.lemmas.List.Kept.{IsStrictlyIncreasing-filter}
 use Rattle.b2_alpha.specs.declared.relation.Rel.{Rel}
-use Rattle.b2_matalpha.specs.Searches.{is_found, found_places}
+use Rattle.b2_matalpha.specs.Searches.{is_found, stands_at, found_places}
 use Rattle.b2_matalpha.proofs.Orders.{Has, contains_from}
 
 -- the places that are found from an index on
@@ -27,22 +28,58 @@ found_here of rel want step index low =
     ap (λ (n : ℕ). map (λ k. k + 1) (filter (is_found of rel want step) (range_with_len index n))) longer
     ∙ shown (is_found of rel want step index) index (filter (is_found of rel want step) (range_with_len (index + 1) (length of - (index + 1))))
 
-pub found_if : (of : List ℕ) (rel : Rel) (want : List ℕ) (step index : ℕ) → index < length of → is_found of rel want step index ≡ true
-    → found_from of rel want step index ≡ (index + 1) ∷ found_from of rel want step (index + 1)
-found_if of rel want step index low test =
-    found_here of rel want step index low
-    ∙ ap (λ (t : Bool). if t then (index + 1) ∷ found_from of rel want step (index + 1) else found_from of rel want step (index + 1)) test
+pub none_left : (of : List ℕ) (rel : Rel) (want : List ℕ) (step index : ℕ) → length of ≤ index → found_from of rel want step index ≡ []
+none_left of rel want step index past =
+    let none : length of - index ≡ 0 = omega arith in
+    ap (λ (n : ℕ). map (λ k. k + 1) (filter (is_found of rel want step) (range_with_len index n))) none
 
-pub not_found_if : (of : List ℕ) (rel : Rel) (want : List ℕ) (step index : ℕ) → index < length of → is_found of rel want step index ≡ false
+not_found_if : (of : List ℕ) (rel : Rel) (want : List ℕ) (step index : ℕ) → index < length of → is_found of rel want step index ≡ false
     → found_from of rel want step index ≡ found_from of rel want step (index + 1)
 not_found_if of rel want step index low test =
     found_here of rel want step index low
     ∙ ap (λ (t : Bool). if t then (index + 1) ∷ found_from of rel want step (index + 1) else found_from of rel want step (index + 1)) test
 
-pub none_left : (of : List ℕ) (rel : Rel) (want : List ℕ) (step index : ℕ) → length of ≤ index → found_from of rel want step index ≡ []
-none_left of rel want step index past =
-    let none : length of - index ≡ 0 = omega arith in
-    ap (λ (n : ℕ). map (λ k. k + 1) (filter (is_found of rel want step) (range_with_len index n))) none
+-- the indices before the next one of the search
+none_between : (of : List ℕ) (rel : Rel) (want : List ℕ) (step index first count : ℕ) → index % step ≡ 0 → index < first → first + count ≤ index + step → first + count ≤ length of
+    → found_from of rel want step first ≡ found_from of rel want step (first + count)
+none_between of rel want step index first zero at low high within = let same : first ≡ first + zero = omega arith in ap (found_from of rel want step) same
+none_between of rel want step index first (suc count) at low high within =
+    let past = first - index in
+    let apart : first ≡ index + past = omega (arith, low) in
+    let rest : first % step ≡ past = ap (λ (n : ℕ). n % step) apart ∙ sym (mod-add-mod index step past) ∙ ap (λ (n : ℕ). (n + past) % step) at ∙ ap (λ (n : ℕ). n % step) (zero-add past) ∙ mod-eq_of_lt (let less : past < step = omega (arith, low, high) in less) in
+    let other : (first % step == 0) ≡ false = ne_eqb (first % step) 0 (λ e. omega (arith, rest, low, e)) in
+    let next : first + 1 + count ≡ first + suc count = omega arith in
+    not_found_if of rel want step first (omega (arith, within)) (ap (λ (b : Bool). b && stands_at of rel want first) other)
+    ∙ none_between of rel want step index (first + 1) count at (omega (arith, low)) (omega (arith, high)) (omega (arith, within))
+    ∙ ap (found_from of rel want step) next
+
+-- from an index of the search to the next, or to the end of the bytes
+to_next : (of : List ℕ) (rel : Rel) (want : List ℕ) (step index next : ℕ) → 0 < step → index % step ≡ 0 → index < length of → next ≡ index + min step (length of - index)
+    → found_from of rel want step (index + 1) ≡ found_from of rel want step next
+to_next of rel want step index next some at low is =
+    let same : index + 1 + (next - (index + 1)) ≡ next = omega (arith, some, low, is) in
+    none_between of rel want step index (index + 1) (next - (index + 1)) at (omega arith) (omega (arith, some, low, is)) (omega (arith, some, low, is)) ∙ ap (found_from of rel want step) same
+
+chosen : (of : List ℕ) (rel : Rel) (want : List ℕ) (step index : ℕ) → index % step ≡ 0 → is_found of rel want step index ≡ stands_at of rel want index
+chosen of rel want step index at = ap (λ (n : ℕ). (n == 0) && stands_at of rel want index) at
+
+pub found_if : (of : List ℕ) (rel : Rel) (want : List ℕ) (step index next : ℕ) → 0 < step → index % step ≡ 0 → index < length of → next ≡ index + min step (length of - index) → stands_at of rel want index ≡ true
+    → found_from of rel want step index ≡ (index + 1) ∷ found_from of rel want step next
+found_if of rel want step index next some at low is test =
+    found_here of rel want step index low
+    ∙ ap (λ (t : Bool). if t then (index + 1) ∷ found_from of rel want step (index + 1) else found_from of rel want step (index + 1)) (chosen of rel want step index at ∙ test)
+    ∙ ap (λ (places : List ℕ). (index + 1) ∷ places) (to_next of rel want step index next some at low is)
+
+pub none_if : (of : List ℕ) (rel : Rel) (want : List ℕ) (step index next : ℕ) → 0 < step → index % step ≡ 0 → index < length of → next ≡ index + min step (length of - index) → stands_at of rel want index ≡ false
+    → found_from of rel want step index ≡ found_from of rel want step next
+none_if of rel want step index next some at low is test =
+    not_found_if of rel want step index low (chosen of rel want step index at ∙ test) ∙ to_next of rel want step index next some at low is
+
+-- the next index is one of the search, where it isn't the end of the bytes
+pub next_at : (of : List ℕ) (step index next : ℕ) → index % step ≡ 0 → next ≡ index + min step (length of - index) → next < length of → next % step ≡ 0
+next_at of step index next at is low =
+    let all : next ≡ index + step = omega (arith, is, low) in
+    ap (λ (n : ℕ). n % step) all ∙ add-mod_right index step ∙ at
 
 range_rises : (a n : ℕ) → IsStrictlyIncreasing (range_with_len a n)
 range_rises a n k low =

@@ -1,7 +1,7 @@
 // The search.
 ghost use Rattle.std.specs.Prelude.{◌≡◌, ◌<◌, ◌≤◌, length};
 ghost use Rattle.b2_matalpha.specs.Locators.{received};
-ghost use Rattle.b2_matalpha.specs.Searches.{stands_at, is_found, found_places};
+ghost use Rattle.b2_matalpha.specs.Searches.{stands_at, found_places};
 
 use crate::locators::put_locator;
 use b2_alpha::{Rel, compare};
@@ -15,15 +15,6 @@ fn stands_at(of: &[u8], rel: Rel, want: &[u8], index: usize) -> bool
     want.len() <= rest.len() && rel.holds(compare(&rest[..want.len()], want))
 }
 
-/// Whether an index is one of the search, and what is wanted stands there.
-fn is_found(of: &[u8], rel: Rel, want: &[u8], step: usize, index: usize) -> bool
-    requires step { 0 < step }
-    requires index { index ≤ length of.now }
-    ensures { result ≡ is_found of.now rel want.now step index }
-{
-    index % step == 0 && stands_at(of, rel, want, index)
-}
-
 /// Writes the places, counted from 1, of the bytes of `of` that stand in the relation to `want`, as locators in ascending
 /// order. The places looked at are the first and each that is `step` after another, as long as enough bytes stand there.
 /// Locators are written until `into` is full, and then 0000 where it fits; what is after them stays.
@@ -34,10 +25,12 @@ pub fn search(of: &[u8], rel: Rel, want: &[u8], step: usize, into: &mut [u8])
     ensures { into.new ≡ received (found_places of.now rel want.now step) into.old }
 {
     let mut used = 0;
-    for index in 0..of.len() {
-        if is_found(of, rel, want, step, index) {
+    let mut index = 0;
+    while index < of.len() {
+        if stands_at(of, rel, want, index) {
             used = put_locator(into, used, (index + 1) as u16);
         }
+        index += step.min(of.len() - index);
     }
     put_locator(into, used, 0);
 }

@@ -26,4 +26,3 @@ pub use laws::{
 };
 pub use packing::{fields, pack};
 pub use unpacking::{unfields, unpack};
-

@@ -7,6 +7,7 @@ pub mod Parsing
 pub mod Merging
 pub mod Copying
 pub mod Files
+pub mod Starts
 pub mod Refilling
 pub mod Told
 pub mod MovedFiles

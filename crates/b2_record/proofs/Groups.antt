@@ -9,7 +9,7 @@ use Rattle.b2_dec.specs.declared.values.Value.TheVariants as value
 use Rattle.b2_record.specs.declared.sectors.TheConstants.{ROOM}
 use Rattle.b2_record.specs.Items.{value_spelled, group_bytes, is_short, IsStorable, AllStorable}
 use Rattle.b2_record.specs.Records.{has_room, fits_in_sector, goes_over, go_on, is_record, is_none, all_values, sector_of, sector_kind, sectors_from, Spells}
-use Rattle.b2_record.specs.Writing.{groups_from, groups_of, record_of, first_count}
+use Rattle.b2_record.specs.Writing.{groups_from, groups_of, record_of, first_count, sectors_left}
 use Rattle.b2_record.proofs.Values.{bytes_joined}
 
 -- ---- a group with one more value
@@ -86,15 +86,13 @@ first-fits used (v ∷ values) h = fits_chosen (has_room used v) used v values h
 
 -- ---- a sector among its record's
 
-get-sector-at : (number i sum : ℕ) (groups after : List (List Value)) (group : List Value) → drop i groups ≡ group ∷ after → number + i ≡ sum
-    → slice_get (sectors_from number groups) i ≡ Some (sector_of (sector_kind (sum == 1) (is_none after)) sum group)
-get-sector-at number zero sum groups after group e n = let same : number ≡ sum = omega (arith, n) in rw (e, same) refl
-get-sector-at number (suc i) sum [] after group e n = cc
-get-sector-at number (suc i) sum (g ∷ groups) after group e n = get-sector-at (number + 1) i sum groups after group e (omega (arith, n))
-
-pub get-sector : (number i : ℕ) (groups after : List (List Value)) (group : List Value) → drop i groups ≡ group ∷ after
-    → slice_get (sectors_from number groups) i ≡ Some (sector_of (sector_kind (number + i == 1) (is_none after)) (number + i) group)
-get-sector number i groups after group e = get-sector-at number i (number + i) groups after group e refl
+pub get-sector : (number i sum : ℕ) (groups : List (List Value)) (sector : List ℕ) (more : List (List ℕ)) → number + i ≡ sum → sectors_from sum (drop i groups) ≡ sector ∷ more
+    → slice_get (sectors_from number groups) i ≡ Some sector
+get-sector number zero sum groups sector more n e =
+    let same : number ≡ sum = omega (arith, n) in
+    ap (λ (sectors : List (List ℕ)). slice_get sectors 0) (ap (λ (k : ℕ). sectors_from k groups) same ∙ e)
+get-sector number (suc i) sum [] sector more n e = cc
+get-sector number (suc i) sum (g ∷ groups) sector more n e = get-sector (number + 1) i sum groups sector more (omega (arith, n)) e
 
 -- ---- one way to part values
 
@@ -285,12 +283,23 @@ counted-more count used len total v rest after h e n room =
 pub fits-first : (rest : List Value) → fits_in_sector (take (first_count 0 rest) rest) ≡ true
 fits-first rest = let few = first-fits 0 rest (omega arith) in le-leb (length (group_bytes (take (first_count 0 rest) rest))) ROOM (omega (arith, few))
 
-pub put-sector : (k : ℕ) (values rest group after : List Value) → 1 ≤ k → groups_of rest ≡ drop (k - 1) (groups_of values) → group ≡ take (first_count 0 rest) rest → after ≡ drop (first_count 0 rest) rest
-    → slice_get (record_of values) (k - 1) ≡ Some (sector_of (sector_kind (k == 1) (length after == 0)) k group)
-put-sector k values rest group after some same first last =
-    let here : drop (k - 1) (groups_of values) ≡ group ∷ later after = sym same ∙ (groups-first rest ∙ ap₂ (λ g t. g ∷ later t) (sym first) (sym last)) in
-    let place : 1 + (k - 1) ≡ k = omega (arith, some) in
-    get-sector-at 1 (k - 1) k (groups_of values) (later after) group here place ∙ ap (λ (b : Bool). Some (sector_of (sector_kind (k == 1) b) k group)) (is_none-later after)
+-- ---- a sector, and the values after it
+
+later-left : (number : ℕ) (values : List Value) → list_all is_short values ≡ true → sectors_from number (later values) ≡ sectors_left number values
+later-left number [] short = refl
+later-left number (v ∷ values) short = ap (sectors_from number) (later-groups v values (and-left _ _ short))
+
+pub sector-and-left : (k : ℕ) (values group after : List Value) → list_all is_short after ≡ true → group ≡ take (first_count 0 values) values → after ≡ drop (first_count 0 values) values
+    → sectors_from k (groups_of values) ≡ sector_of (sector_kind (k == 1) (length after == 0)) k group ∷ sectors_left (k + 1) after
+sector-and-left k values group after short first last =
+    let here : groups_of values ≡ group ∷ later after = groups-first values ∙ ap₂ (λ g t. g ∷ later t) (sym first) (sym last) in
+    ap (sectors_from k) here
+    ∙ ap₂ (λ (b : Bool) (sectors : List (List ℕ)). sector_of (sector_kind (k == 1) b) k group ∷ sectors) (is_none-later after) (later-left (k + 1) after short)
+
+-- where a sector is left, it is the first of the values that are left
+pub left-some : (number : ℕ) (values : List Value) → 1 ≤ length (sectors_left number values) → sectors_from number (groups_of values) ≡ sectors_left number values
+left-some number [] some = absurd (omega (arith, some))
+left-some number (v ∷ values) some = refl
 
 pub next-value : (values : List Value) (i : ℕ) (v : Value) → i < length values → v ≡ get_or values i v → drop i values ≡ v ∷ drop (i + 1) values
 next-value values i v h e = drop-cons values i v h ∙ ap₂ (λ w n. w ∷ drop n values) (sym e) (sym (add-one i))

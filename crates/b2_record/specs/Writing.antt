@@ -18,6 +18,11 @@ groups_of values = groups_from [] values
 abbrev pub record_of : List Value → List (List ℕ)
 record_of values = sectors_from 1 (groups_of values)
 
+-- the further sectors of a record, numbered from some number on, for the values that are left; none where none are left
+abbrev pub sectors_left : ℕ → List Value → List (List ℕ)
+sectors_left number [] = []
+sectors_left number (v ∷ values) = sectors_from number (groups_of (v ∷ values))
+
 -- how many of the values have room in a sector of which some bytes are used
 abbrev pub first_count : ℕ → List Value → ℕ
 first_count used [] = 0

@@ -5,9 +5,9 @@
 //! bytes; an alpha value of 1 to 124 bytes is the byte 80 plus its length, and its bytes. A value goes into the current
 //! sector where it and FD fit, and else into the next. Nothing else is a record.
 //!
-//! `sectors_of` counts the sectors of a record, `put` writes one of them, and `take` reads the record at a place: it gives
-//! the one list of values whose record stands there, and D88 exactly where none does. `laws` says that a list of values has
-//! one record, and that at one place one record begins at most.
+//! `sectors_of` counts the sectors of a record, `put` writes one of them, `put_next` writes one after the other, and `take`
+//! reads the record at a place: it gives the one list of values whose record stands there, and D88 exactly where none does.
+//! `laws` says that a list of values has one record, and that at one place one record begins at most.
 //!
 //! Stands on `b2_base` for codes, on `b2_dec` for values, on `b2_platter` for sectors, and on `arrayvec` for a sector that
 //! is being written. The definitions are in `specs/`: `Items` for the bytes of values, `Records` for the grammar, a relation
@@ -20,4 +20,4 @@ mod records;
 mod sectors;
 
 pub use items::{all_short, is_short};
-pub use records::{put, sectors_of, take};
+pub use records::{put, put_next, sectors_of, take};

@@ -1,12 +1,12 @@
 // Records: a list of values in as many sectors as it needs.
-ghost use Rattle.std.specs.Prelude.{◌≡◌, ◌==◌, ◌||◌, ◌+◌, ◌-◌, ◌<◌, ◌≤◌, ◌++◌, true, min, Some, None, OnOk, OnSome, IfOk, IfErr, length, nat_le, drop, take, if◌then◌else◌};
+ghost use Rattle.std.specs.Prelude.{◌≡◌, ◌==◌, ◌||◌, ◌+◌, ◌-◌, ◌<◌, ◌≤◌, ◌∷◌, ◌++◌, true, min, Some, None, OnOk, OnSome, IfOk, IfErr, length, nat_le, drop, take, if◌then◌else◌};
 ghost use Rattle.std.specs.List.{list_all, slice_get};
 ghost use Rattle.b2_platter.specs.declared.layout.Layout.TheVariants.{Narrow};
 ghost use Rattle.b2_platter.specs.Image.{total_of, sectors_at};
 ghost use Rattle.b2_record.specs.Items.{is_short, AllStorable};
 ghost use Rattle.b2_platter.specs.Reading.{Unspelled};
-ghost use Rattle.b2_record.specs.Records.{goes_over, Spells, IsNoRecord};
-ghost use Rattle.b2_record.specs.Writing.{groups_of, record_of, first_count};
+ghost use Rattle.b2_record.specs.Records.{goes_over, sectors_from, Spells, IsNoRecord};
+ghost use Rattle.b2_record.specs.Writing.{groups_of, record_of, first_count, sectors_left};
 
 use crate::items::{bytes_len, value_width};
 use crate::sectors::{ROOM, group_at, sector_kind, write_sector};
@@ -82,6 +82,19 @@ fn from_sector(values: &[Value], k: u32) -> &[Value]
     rest
 }
 
+/// Writes the sector with number k of the record that goes on with these values, and gives the values that are left for
+/// the sectors after it.
+pub fn put_next<'a>(values: &'a [Value], k: u32, into: &mut [u8; 256]) -> &'a [Value]
+    requires short { list_all is_short values.now ≡ true }
+    requires few { k ≤ 255 }
+    ensures sectors { sectors_from k (groups_of values.now) ≡ into.new ∷ sectors_left (k + 1) result.now }
+    ensures short { list_all is_short result.now ≡ true }
+{
+    let (group, after) = values.split_at(first_count(values));
+    write_sector(sector_kind(k == 1, after.is_empty()), k as u8, group, into);
+    after
+}
+
 /// Writes sector k of the record of these values, counted from 1.
 pub fn put(values: &[Value], k: u32, into: &mut [u8; 256])
     requires short { list_all is_short values.now ≡ true }
@@ -91,8 +104,7 @@ pub fn put(values: &[Value], k: u32, into: &mut [u8; 256])
     ensures { slice_get (record_of values.now) (k - 1) ≡ Some into.new }
 {
     let rest = from_sector(values, k);
-    let (group, after) = rest.split_at(first_count(rest));
-    write_sector(sector_kind(k == 1, after.is_empty()), k as u8, group, into);
+    let _after = put_next(rest, k, into);
 }
 
 /// Whether the values of a further sector begin with one that had no room in the sector before.

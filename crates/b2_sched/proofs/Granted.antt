@@ -45,7 +45,7 @@ few_from (suc n) me s k =
     few_by x.end.why c n k x.me x.after (turn_from itself serves after_loan n x.me x.after c) (counted_few x.end.counted k) (few_from n x.me x.after c)
 
 turn_few : (quota : ℕ) (me : Private) (s : StoreState) → (turn_of quota me s).turned.steps ≤ quota
-turn_few quota me s = few_from quota me s 0
+turn_few quota me s = let few = few_from quota me s 0 in omega arith
 
 -- all of its steps, or all but the last
 more_by : (o : Option Why) (b : Bool) (told : Step) (rest : List Step) (k : ℕ) (me : Private) (s : StoreState) (t : TurnEnd StoreState)
@@ -57,13 +57,13 @@ more_by (Some w) true told rest k me s t ends h = omega arith
 more_by (Some w) false told rest k me s t ends h = omega arith
 
 more_from : (who n : ℕ) (me : Private) (s : StoreState) (k : ℕ) → length (steps_in_turn who n me s) + k ≤ (turn_from itself serves after_loan n me s k).turned.steps + 1
-unfolding steps_in_turn, turn_from
+unfolding steps_in_turn turn_from
 more_from who zero me s k = omega arith
 more_from who (suc n) me s k =
     let x = step_of me s in
     let c = counted_on k x.end in
     more_by x.end.why x.end.counted (step_told who me s) (steps_in_turn who n x.me x.after) k x.me x.after (turn_from itself serves after_loan n x.me x.after c)
-        (steps_count_or_end itself serves after_loan me s) (more_from who n x.me x.after c)
+    (steps_count_or_end itself serves after_loan me s) (more_from who n x.me x.after c)
 
 no_more : (n : ℕ) → n + 0 ≡ n
 no_more n = omega arith
@@ -76,6 +76,10 @@ turned_few : (p n : ℕ) (m : Option Private) (w : WorldState) → (with_turn p 
 turned_few p n None w = omega arith
 turned_few p n (Some me) w = let few = turn_few n me w.store in omega arith
 
+one_and_more : (b : Bool) (quota x y z rest : ℕ) → x ≤ y + (if b then 1 else 0) * quota → z ≤ x + rest * quota → z ≤ y + ((if b then 1 else 0) + rest) * quota
+one_and_more true quota x y z rest f g = omega arith
+one_and_more false quota x y z rest f g = omega arith
+
 from_few : (quota p k : ℕ) (w : WorldState) → (does_all (turns_from quota p k) w).steps ≤ w.steps + present_from p k w * quota
 from_few quota p zero w = omega arith
 from_few quota p (suc k) w =
@@ -83,12 +87,8 @@ from_few quota p (suc k) w =
     let one = turned_few p quota (private_of p w) w in
     let same : present_from (p + 1) k after ≡ present_from (p + 1) k w = there_from (p + 1) k after w (λ q. does_there q (Turn p quota) w) in
     let more : (does_all (turns_from quota (p + 1) k) after).steps ≤ after.steps + present_from (p + 1) k w * quota =
-        subst (λ n. (does_all (turns_from quota (p + 1) k) after).steps ≤ after.steps + n * quota) same (from_few quota (p + 1) k after) in
-    by (is_some (private_of p w)) one more
-  where
-    by : (b : Bool) {x y z rest : ℕ} → x ≤ y + (if b then 1 else 0) * quota → z ≤ x + rest * quota → z ≤ y + ((if b then 1 else 0) + rest) * quota
-    by true f g = omega arith
-    by false f g = omega arith
+    subst (λ n. (does_all (turns_from quota (p + 1) k) after).steps ≤ after.steps + n * quota) same (from_few quota (p + 1) k after) in
+    one_and_more (is_some (private_of p w)) quota after.steps w.steps _ _ one more
 
 rounds_few : (quota n : ℕ) (w : WorldState) → (does_all (rounds quota n) w).steps ≤ w.steps + n * (present w * quota)
 rounds_few quota zero w = omega arith
@@ -98,7 +98,7 @@ rounds_few quota (suc n) w =
     let one : after.steps ≤ w.steps + present w * quota = from_few quota 1 16 w in
     let same : present after ≡ present w = there_from 1 16 after w (λ q. all_there q round w) in
     let more : (does_all (rounds quota n) after).steps ≤ after.steps + n * (present w * quota) =
-        subst (λ k. (does_all (rounds quota n) after).steps ≤ after.steps + n * (k * quota)) same (rounds_few quota n after) in
+    subst (λ k. (does_all (rounds quota n) after).steps ≤ after.steps + n * (k * quota)) same (rounds_few quota n after) in
     let whole : (does_all (rounds quota (suc n)) w).steps ≡ (does_all (rounds quota n) after).steps = ap (λ (v : WorldState). v.steps) (does_append round (rounds quota n) w) in
     omega arith
 
@@ -116,23 +116,23 @@ unfolding listed
 present_listed p zero w = refl
 present_listed p (suc n) w = ap (λ k. (if is_some (private_of p w) then 1 else 0) + k) (present_listed (p + 1) n w)
 
+none_here : (k p rest : ℕ) (b : Bool) → (k == p) ≡ b → k < p → rest ≡ 0 → (if b then 1 else 0) + rest ≡ 0
+none_here k p rest true e h none = let same : k ≡ p = same_number k p e in omega arith
+none_here k p rest false e h none = omega arith
+
 none_below : (k p n : ℕ) → k < p → one_of k p n ≡ 0
 unfolding one_of
 none_below k p zero h = refl
-none_below k p (suc n) h = by (k == p) refl
-  where
-    by : (b : Bool) → (k == p) ≡ b → (if b then 1 else 0) + one_of k (p + 1) n ≡ 0
-    by true e = let same : k ≡ p = same_number k p e in omega arith
-    by false e = none_below k (p + 1) n (omega arith)
+none_below k p (suc n) h = none_here k p (one_of k (p + 1) n) (k == p) refl h (none_below k (p + 1) n (omega arith))
+
+one_here : (k p rest : ℕ) (b : Bool) → (k == p) ≡ b → (k < p + 1 → rest ≡ 0) → rest ≤ 1 → (if b then 1 else 0) + rest ≤ 1
+one_here k p rest true e none few = let same : k ≡ p = same_number k p e in let nothing : rest ≡ 0 = none (omega arith) in omega arith
+one_here k p rest false e none few = omega arith
 
 one_at_most : (k p n : ℕ) → one_of k p n ≤ 1
 unfolding one_of
 one_at_most k p zero = omega arith
-one_at_most k p (suc n) = by (k == p) refl
-  where
-    by : (b : Bool) → (k == p) ≡ b → (if b then 1 else 0) + one_of k (p + 1) n ≤ 1
-    by true e = let same : k ≡ p = same_number k p e in let none : one_of k (p + 1) n ≡ 0 = none_below k (p + 1) n (omega arith) in omega arith
-    by false e = one_at_most k (p + 1) n
+one_at_most k p (suc n) = one_here k p (one_of k (p + 1) n) (k == p) refl (λ h. none_below k (p + 1) n h) (one_at_most k (p + 1) n)
 
 first_or_rest : (b : Bool) (x : Private) (o : Option Private) → (if is_some (if b then Some x else o) then 1 else 0) ≤ (if b then 1 else 0) + (if is_some o then 1 else 0)
 first_or_rest true x None = omega arith
@@ -141,7 +141,7 @@ first_or_rest false x None = omega arith
 first_or_rest false x (Some y) = omega arith
 
 listed_more : (k : ℕ) (x : Private) (rows : List (ℕ × Private)) (p n : ℕ) → listed ((k, x) ∷ rows) p n ≤ one_of k p n + listed rows p n
-unfolding listed, one_of
+unfolding listed one_of
 listed_more k x rows p zero = omega arith
 listed_more k x rows p (suc n) =
     let here = first_or_rest (k == p) x (row_of p rows) in
@@ -151,7 +151,7 @@ listed_more k x rows p (suc n) =
 listed_none : (p n : ℕ) → listed [] p n ≡ 0
 unfolding listed
 listed_none p zero = refl
-listed_none p (suc n) = listed_none (p + 1) n
+listed_none p (suc n) = let rest = listed_none (p + 1) n in omega arith
 
 listed_few : (rows : List (ℕ × Private)) (p n : ℕ) → listed rows p n ≤ length rows
 listed_few [] p n = let none = listed_none p n in omega arith
@@ -168,16 +168,16 @@ stays_few n = omega arith
 at_most_itself : (n : ℕ) → n ≤ n
 at_most_itself n = omega arith
 
+once_few : (c : Bool) (n x y : ℕ) → x ≤ y + (if c then 1 else 0) * n → x ≤ y + n
+once_few true n x y h = omega arith
+once_few false n x y h = omega arith
+
 event_few : (b : BootState) (e : Event) (w : WorldState) → w.quota ≡ b.quota → present w ≤ length b.partitions → (happens e w).steps ≤ w.steps + grants b e
 event_few b (event.Key t k) w is few = stays_few w.steps
 event_few b (event.Front t p) w is few = stays_few w.steps
 event_few b (event.Halt p) w is few = stays_few w.steps
 event_few b (event.Reset p) w is few = stays_few w.steps
-event_few b (event.Turn p n) w is few = by (is_some (private_of p w)) (turned_few p n (private_of p w) w)
-  where
-    by : (c : Bool) {x y : ℕ} → x ≤ y + (if c then 1 else 0) * n → x ≤ y + n
-    by true h = omega arith
-    by false h = omega arith
+event_few b (event.Turn p n) w is few = once_few (is_some (private_of p w)) n _ w.steps (turned_few p n (private_of p w) w)
 event_few b (event.Rounds n) w is few =
     let all = rounds_few w.quota n w in
     let most : present w * w.quota ≤ length b.partitions * b.quota = subst (λ q. present w * w.quota ≤ length b.partitions * q) is (mul-le (present w) w.quota (length b.partitions) w.quota few (at_most_itself w.quota)) in
@@ -198,5 +198,6 @@ run_few b (e ∷ es) w is few =
 pub runs_keep_to_their_grant : RunsKeepToTheirGrant
 runs_keep_to_their_grant b log =
     let few : present (booted b) ≤ length b.partitions =
-        subst (λ n. n ≤ length b.partitions) (sym (present_listed 1 16 (booted b))) (subst (λ n. listed (booted b).privates 1 16 ≤ n) (length-map b.partitions private_row) (listed_few (booted b).privates 1 16)) in
-    run_few b log (booted b) refl few
+    subst (λ n. n ≤ length b.partitions) (sym (present_listed 1 16 (booted b))) (subst (λ n. listed (booted b).privates 1 16 ≤ n) (length-map b.partitions private_row) (listed_few (booted b).privates 1 16)) in
+    let all = run_few b log (booted b) refl few in
+    omega arith

@@ -1,5 +1,5 @@
 // 24 rows of 80 cells with a cursor, and what changes them.
-ghost use Rattle.std.specs.Prelude.{◌≡◌, false, ◌≤◌, ◌<◌, [], get_or, length, set};
+ghost use Rattle.std.specs.Prelude.{◌≡◌, ◌-◌, false, ◌≤◌, ◌<◌, [], get_or, length, set, if◌then◌else◌};
 ghost use Rattle.b2_base.specs.Lexical as lexical;
 ghost use Rattle.b2_screen.specs.Sheet as spec;
 ghost use Rattle.b2_screen.specs.Sheet.{blank_sheet, scrolled, glyph_written, on_next_row, cursor_placed, outlined, outlined_row, each_from, IsDrawable};
@@ -132,14 +132,33 @@ fn outlined_cell(rectangle: Rectangle, i: u8, j: u8, cell: u8) -> u8
     }
 }
 
+/// How many columns after a cell of an outline the next one of its row stands: one in its first and its last row, and in
+/// the others as many as lead from side to side.
+fn step_along(rectangle: Rectangle, i: u8) -> u8
+    requires { IsDrawable rectangle }
+    ensures value { result ≡ (if spec.is_end rectangle.row rectangle.rows i then 1 else rectangle.columns - 1) }
+    ensures some { 1 ≤ result }
+    ensures few { result ≤ 80 }
+{
+    if is_end(rectangle.row, rectangle.rows, i) {
+        1
+    } else {
+        rectangle.columns - 1
+    }
+}
+
 /// Draws on a row what an outline has in it.
 fn outline_row(row: &mut [u8; 80], rectangle: Rectangle, i: u8)
     requires { IsDrawable rectangle }
     ensures { row.new ≡ outlined_row rectangle i row.old }
 {
-    for j in 0..COLUMNS {
+    let step = step_along(rectangle, i);
+    let end = (rectangle.column + rectangle.columns).min(COLUMNS);
+    let mut j = rectangle.column;
+    while j < end {
         let cell = row[usize::from(j)];
         row[usize::from(j)] = outlined_cell(rectangle, i, j, cell);
+        j += step;
     }
 }
 
@@ -148,7 +167,8 @@ fn outline_rows(rows: &mut Rows, rectangle: Rectangle)
     requires { IsDrawable rectangle }
     ensures { rows.new ≡ each_from (outlined_row rectangle) 0 rows.old }
 {
-    for i in 0..ROWS {
+    let end = (rectangle.row + rectangle.rows).min(ROWS);
+    for i in rectangle.row..end {
         let mut row = rows[usize::from(i)];
         outline_row(&mut row, rectangle, i);
         rows[usize::from(i)] = row;

@@ -16,7 +16,6 @@ use b2_base::codes::{A04_TOO_DEEP, A05_LINE_TOO_LONG, A07_LINE_NUMBER, S29_BYTE}
 use b2_base::lexical::{capped_value, digits_width, is_printable, rest_after, skip_blanks};
 use std::alloc::Global;
 
-
 /// What a typed line means.
 #[derive(Drop)]
 pub enum Entered {

@@ -16,7 +16,6 @@ use std::collections::VecDeque;
 use std::marker::Model;
 use std::mem;
 
-
 /// How many keys may wait.
 const QUEUE_SIZE: usize = 128;
 

@@ -6,11 +6,11 @@
 // - `number parts | A`: whether it is below zero and whether it is zero, its thirteen digits and its exponent.
 // - `number packed | BYTES`: the number that is packed in eight bytes, and the bytes that it packs to.
 // - `number mixed | MODE | TIMES`: four operations in a circle, each on what the one before it gave, as many times.
-use crate::answers::{Answer, Unanswered};
 use crate::items::{Items, dec_of, packed_of};
 use crate::showing::{show_code, show_dec, show_packed};
 use b2_base::Code;
 use b2_cases::Cells;
+use b2_cases::answers::{Answer, Unanswered};
 use b2_cases::shown::show_truth;
 use b2_dec::{
     Dec, Mode, abs, add, cmp, div, fix, int, modulo, mul, pack, power, round_to, sgn, sqr, sub,

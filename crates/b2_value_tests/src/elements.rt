@@ -6,11 +6,11 @@
 //   lengths are those of an element of the array and of the receiver.
 // - `element sort_locators | ARRAY | LENGTH | ROOM`: the receiver, after the code, if any.
 // - `element copy | ARRAY | ROOM`: the receiver.
-use crate::answers::{Answer, Unanswered};
 use crate::items::{Items, packed_of};
 use crate::showing::{show_code, show_fault};
 use crate::strings::relation_of;
 use b2_cases::Cells;
+use b2_cases::answers::{Answer, Unanswered};
 use b2_cases::shown::show_bytes;
 use b2_matalpha::{copy, move_by, search, sort_locators};
 use std::alloc::Global;

@@ -24,7 +24,11 @@ fn fetch(rt: &HostRuntime, name: &str, limit: u16) -> io::Result<Vec<u8>> {
     let mut shelf = FileShelf::new(rt);
     let mut into = Vec::new(rt.alloc());
     let fetched = shelf.fetch(name.as_bytes(), limit as usize, &mut into);
-    println!(rt; "fetch {name} of at most {limit} bytes: {}, {} bytes", name_of_fetch(fetched), into.len())?;
+    println!(rt;
+        "fetch {name} of at most {limit} bytes: {}, {} bytes",
+        name_of_fetch(fetched),
+        into.len()
+    )?;
     Ok(into)
 }
 

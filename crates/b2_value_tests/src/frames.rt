@@ -1,7 +1,7 @@
 // The loops and calls that haven't ended.
 //
 // - `frame calls | FRAMES | CALL ..`: what each call gives, and the frames that are left, the lowest first. A call is
-//   `loop_of VARIABLE`, `end_loop`, `pop_call`, `drop_immediate`, `clear` or `push FRAME`.
+//   `loop_of VARIABLE`, `end_loop`, `pop_call`, `drop_immediate` or `clear`.
 // - `frame homes | FRAMES`: the partitions that the frames name: their marks as a number, where that of partition h is
 //   2 ^ (h - 1), and each of them.
 // - `frame full | TIMES | FRAME`: how many of so many pushes of the frame were taken, what one more push gives, how many frames
@@ -10,11 +10,12 @@
 // A frame is a letter. Loops: I, J, K and I1 of those variables, up to 9 by steps of 2, in line 30 of partition 4; x and y up
 // to 3 by steps of 1, in the immediate line of partition 3. Calls: c back to line 10 of partition 1, e back to line 20 of
 // partition 2 from 16, s back to the ready state.
-use crate::answers::{Answer, Unanswered};
 use crate::items::Items;
 use crate::showing::{show_code, show_dec, show_outcome};
 use b2_base::Part;
+use b2_base::lexical::first;
 use b2_cases::Cells;
+use b2_cases::answers::{Answer, Unanswered};
 use b2_cases::shown::show_truth;
 use b2_dec::Dec;
 use b2_flow::{Frame, Place, Stack, Var2};
@@ -44,42 +45,37 @@ fn call_back(back: Option<Place>, entered: Option<Part>) -> Frame {
     Frame::Call { back, entered }
 }
 
+/// Returns whether a word names a variable or a frame.
+fn is_name(word: &[u8]) -> bool {
+    word.len() == 1 || word.len() == 2
+}
+
 /// The variable that a word names.
-fn variable(word: &[u8]) -> Result<Var2, Unanswered> {
-    match word {
-        [letter] => Ok(Var2 {
-            letter: *letter,
-            digit: None,
-        }),
-        [letter, digit] => Ok(Var2 {
-            letter: *letter,
-            digit: Some(*digit),
-        }),
-        _ => Err(Unanswered::Misread),
+fn variable(word: &[u8]) -> Var2 {
+    Var2 {
+        letter: first(word),
+        digit: word.get(1).copied(),
     }
 }
 
 /// The frame that a word names.
-fn frame_of(word: &[u8]) -> Result<Frame, Unanswered> {
+fn frame_of(word: &[u8]) -> Frame {
     match word {
-        b"c" => Ok(call_back(Some(place(Part::known(1), Some(10))), None)),
-        b"e" => Ok(call_back(
-            Some(place(Part::known(2), Some(20))),
-            Some(Part::known(16)),
-        )),
-        b"s" => Ok(call_back(None, None)),
-        b"x" | b"y" => Ok(Frame::For {
-            var: variable(word)?,
+        b"c" => call_back(Some(place(Part::known(1), Some(10))), None),
+        b"e" => call_back(Some(place(Part::known(2), Some(20))), Some(Part::known(16))),
+        b"s" => call_back(None, None),
+        b"x" | b"y" => Frame::For {
+            var: variable(word),
             limit: Dec::of_whole(3),
             step: Dec::of_whole(1),
             body: place(Part::known(3), None),
-        }),
-        _ => Ok(Frame::For {
-            var: variable(word)?,
+        },
+        _ => Frame::For {
+            var: variable(word),
             limit: Dec::of_whole(9),
             step: Dec::of_whole(2),
             body: place(Part::known(4), Some(30)),
-        }),
+        },
     }
 }
 
@@ -91,8 +87,8 @@ fn stack_of(alloc: Global, cell: &[u8]) -> Result<Stack, Unanswered> {
         if items.is_empty() {
             break;
         }
-        let frame = frame_of(items.word()?)?;
-        if stack.push(frame).is_err() {
+        let word = items.word()?;
+        if !is_name(word) || stack.push(frame_of(word)).is_err() {
             return Err(Unanswered::Misread);
         }
     }
@@ -193,8 +189,13 @@ fn one_call(
     shown: &mut String,
 ) -> Result<(), Unanswered> {
     let mut items = Items::of(cell);
-    match items.word()? {
-        b"loop_of" => match stack.loop_of(variable(items.word()?)?) {
+    let call = items.word()?;
+    let word = items.word()?;
+    if !items.is_empty() {
+        return Err(Unanswered::Misread);
+    }
+    match call {
+        b"loop_of" => match stack.loop_of(variable(word)) {
             Ok((limit, step, body)) => show_loop(alloc, shown, limit, step, body)?,
             Err(code) => show_code(shown, code)?,
         },
@@ -202,7 +203,6 @@ fn one_call(
             Ok((back, entered)) => show_call(shown, back, entered)?,
             Err(code) => show_code(shown, code)?,
         },
-        b"push" => show_outcome(shown, stack.push(frame_of(items.word()?)?))?,
         b"end_loop" => stack.end_loop(),
         b"drop_immediate" => stack.drop_immediate(),
         b"clear" => stack.clear(),
@@ -225,11 +225,11 @@ fn homes(alloc: Global, cells: &mut Cells<'_>) -> Answer {
     Ok(shown)
 }
 
-/// Pushes a frame so many times; gives how many were taken.
-fn push_often(stack: &mut Stack, frame: Frame, times: u16) -> u16 {
+/// Pushes the frame that a word names so many times; gives how often it was taken.
+fn push_often(stack: &mut Stack, word: &[u8], times: u16) -> u16 {
     let mut taken = 0u16;
     for _ in 0..times {
-        if stack.push(frame).is_ok() {
+        if stack.push(frame_of(word)).is_ok() {
             taken = taken.saturating_add(1);
         }
     }
@@ -238,13 +238,13 @@ fn push_often(stack: &mut Stack, frame: Frame, times: u16) -> u16 {
 
 fn full(alloc: Global, cells: &mut Cells<'_>) -> Answer {
     let times = Items::of(cells.next()).number()?;
-    let frame = frame_of(cells.next())?;
+    let word = cells.next();
     let mut stack = Stack::new(alloc)?;
     let mut shown = String::new(alloc);
     for _ in 0..2u8 {
-        let taken = push_often(&mut stack, frame, times);
+        let taken = push_often(&mut stack, word, times);
         write!(shown, "{taken} taken, ")?;
-        show_outcome(&mut shown, stack.push(frame_of(b"I")?))?;
+        show_outcome(&mut shown, stack.push(frame_of(b"I")))?;
         write!(shown, ", {} there", stack.len())?;
         if let Some(top) = stack.frame(199) {
             show_frame(alloc, &mut shown, top)?;

@@ -1,7 +1,7 @@
 // The items of a cell: words with blanks between them, and texts in quotes.
-use crate::answers::Unanswered;
 use b2_base::cut;
 use b2_base::lexical::{digits_width, hex_value, is_hex_digit, skip_blanks};
+use b2_cases::answers::Unanswered;
 use b2_cases::{bytes_of, number_of, small_of, whole_of};
 use b2_dec::{Bytes, Dec, Value};
 use b2_dectext::read;

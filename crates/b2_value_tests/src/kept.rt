@@ -3,12 +3,12 @@
 // - `value bytes | BYTES | BYTE | BYTES`: the bytes, to which one and then more are added, how many there are and whether there
 //   are none; and the same after all are dropped.
 // - `value values | VALUES` and `value kinds | KINDS`: the list, and how many are given back.
-use crate::answers::{Answer, Unanswered};
 use crate::items::{packed_of, values_of};
 use crate::packing::kinds_of;
 use crate::showing::{show_quoted, show_values};
 use b2_base::lexical::first;
 use b2_cases::Cells;
+use b2_cases::answers::{Answer, Unanswered};
 use b2_cases::shown::show_truth;
 use b2_dec::{Bytes, Kind, KindList, ValueList};
 use std::alloc::{AllocError, Global};

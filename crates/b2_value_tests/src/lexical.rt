@@ -5,13 +5,13 @@
 // - `text NAME | TEXT`: what the call of that name gives for the text, or for its first byte or all of its bytes.
 // - `text NAME | TEXT | NUMBER`, for the calls that take a place, a count or a cap.
 // - `text NAME | NUMBER`, for the calls that take a number.
-use crate::answers::{Answer, Unanswered};
 use b2_base::cut;
 use b2_base::lexical::{
     all_printable, at, capped_value, decimal_byte, decimal_of, digits_width, first, first_bytes,
     hex_digit, hex_pair, hex_value, is_decimal, is_digit, is_hex_digit, is_letter, is_printable,
     is_small_letter, rest_after, skip_blanks, upper, without_zeros,
 };
+use b2_cases::answers::{Answer, Unanswered};
 use b2_cases::shown::{show_bytes, show_truth};
 use b2_cases::{Cells, bytes_of, small_of, whole_of};
 use std::alloc::{AllocError, Global};

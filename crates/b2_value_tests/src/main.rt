@@ -5,7 +5,6 @@
 //! are written. `files` calls what is outside itself.
 #![tactic(auto)]
 
-mod answers;
 mod decimals;
 mod elements;
 mod files;
@@ -23,8 +22,8 @@ mod showing;
 mod strings;
 mod variables;
 
-use answers::{Answer, Unanswered};
 use b2_base::cut;
+use b2_cases::answers::{Answer, Unanswered};
 use b2_cases::{Calls, Cells, try_rows};
 use std::alloc::{AllocError, Global};
 use std::io;

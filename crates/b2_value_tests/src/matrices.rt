@@ -5,12 +5,15 @@
 //   refused.
 // - `matrix scale | MODE | NUMBER | ARRAY`, `matrix transpose | ARRAY`: the receiver, after the code, if any.
 // - `matrix fill | WITH | ROWS COLUMNS`: the receiver, after the code, if any. WITH is `ones`, `zeros` or `unit`.
-use crate::answers::{Answer, Unanswered};
+ghost use Rattle.std.specs.Prelude.{◌≡◌, ◌*◌, length, IfOk};
+ghost use Rattle.b2_matrix.specs.Arrays.{columns_of};
+
 use crate::decimals::mode_of;
 use crate::items::{Items, dec_of};
 use crate::showing::{show_code, show_decs};
 use b2_base::Code;
 use b2_cases::Cells;
+use b2_cases::answers::{Answer, Unanswered};
 use b2_dec::Dec;
 use b2_matrix::{Fill, Mat, MatOp, combine, fill, scale, transpose};
 use std::alloc::{AllocError, Global};
@@ -51,12 +54,16 @@ fn spelled(alloc: Global, cell: &[u8]) -> Result<Array, Unanswered> {
 }
 
 /// How many numbers a shape has.
-fn count_of(rows: u16, cols: u16) -> usize {
+fn count_of(rows: u16, cols: u16) -> usize
+    ensures { result ≡ rows * columns_of cols }
+{
     usize::from(rows) * usize::from(cols.max(1))
 }
 
 /// A receiver.
-fn sevens(alloc: Global, count: usize) -> Result<Vec<Dec>, AllocError> {
+fn sevens(alloc: Global, count: usize) -> Result<Vec<Dec>, AllocError>
+    ensures { IfOk result (λ into. length into.items ≡ count) }
+{
     vec![in alloc; Dec::of_whole(7); count]
 }
 

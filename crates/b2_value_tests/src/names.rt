@@ -7,10 +7,10 @@
 // - `name addresses | ADDRESSES`: the list of the default one and these.
 // - `name line | ITEMS`: the line of these pieces.
 // - `name bytes | TEXT`: the bytes of the list made from a slice, of one made from a `Vec`, and the `Vec` given back.
-use crate::answers::{Answer, Unanswered};
 use crate::items::Items;
 use crate::showing::{show_code, show_quoted};
 use b2_base::{Addr, AddrList, ByteList, Code, FileName, LineText, Name8, Part, Term};
+use b2_cases::answers::{Answer, Unanswered};
 use b2_cases::shown::show_bytes;
 use b2_cases::{Cells, bytes_of, small_of};
 use std::alloc::Global;

@@ -4,9 +4,9 @@
 // - `numeral read | TEXT`: the length of the longest number at the front, and the number.
 // - `numeral literal | TEXT`: the same, with the code of one that is out of range.
 // - `numeral num | TEXT`: the length of the number with the spaces around it.
-use crate::answers::{Answer, Unanswered};
 use crate::items::dec_of;
 use crate::showing::{show_code, show_dec, show_quoted};
+use b2_cases::answers::{Answer, Unanswered};
 use b2_cases::{Cells, bytes_of};
 use b2_dectext::{literal, num, read, write};
 use std::alloc::Global;

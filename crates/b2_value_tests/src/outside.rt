@@ -3,10 +3,10 @@
 // - `outside shelf | FAILING | CALL | CALL ..`: what each call gives. The shelf has a file `a` of the bytes `ABC`. A call is
 //   `fetch NAME LIMIT`, `keep NAME "BYTES"` or `file NAME`.
 // - `outside sink | FAILING | "BYTES" ..`: what each put gives, and what was written in the end.
-use crate::answers::{Answer, Unanswered};
 use crate::items::Items;
 use crate::showing::show_quoted;
 use b2_base::{Fetch, Keep, MemShelf, MemSink, Shelf, Sink};
+use b2_cases::answers::{Answer, Unanswered};
 use b2_cases::{Cells, whole_of};
 use std::alloc::{AllocError, Global};
 use std::collections::BTreeMap;
@@ -101,7 +101,11 @@ fn shelf_call(
         },
         _ => return Err(Unanswered::Misread),
     }
-    Ok(())
+    if items.is_empty() {
+        Ok(())
+    } else {
+        Err(Unanswered::Misread)
+    }
 }
 
 fn sink_calls(alloc: Global, cells: &mut Cells<'_>) -> Answer {

@@ -6,12 +6,12 @@
 // - `$UNPACK | SPECIFICATION | KINDS | BUFFER`: the values, or the code. KINDS has `A` for bytes, and `N` for a number.
 //
 // Buffers and specifications are hexadecimal digits, and texts in quotes.
-use crate::answers::{Answer, Unanswered};
 use crate::items::{Items, decs_of, packed_of, values_of};
 use crate::showing::{show_code, show_decs, show_fault, show_packed, show_values};
 use b2_base::Code;
-use b2_cases::{Cells, bytes_of};
+use b2_cases::answers::{Answer, Unanswered};
 use b2_cases::shown::show_bytes;
+use b2_cases::{Cells, bytes_of};
 use b2_dec::Kind;
 use b2_pack::{fields, pack, unfields, unpack};
 use std::alloc::{AllocError, Global};

@@ -6,13 +6,13 @@
 // - `print convert | IMAGE | NUMBER`: what stands in place of `old`, after the code, if any.
 // - `print column_after | COLUMN | TEXT`.
 //
-// There are at most four items. An item is a number, bytes between quotes, `TAB COLUMN`, `HEX "BYTES"`, `ZONE`, `LINE`, `AT ROW COLUMN ERASED` or
-// `BOX ROWS COLUMNS`.
+// There are at most four items. An item is a number, bytes between quotes, `TAB COLUMN`, `HEX "BYTES"`, `ZONE`, `LINE`,
+// `AT ROW COLUMN ERASED` or `BOX ROWS COLUMNS`.
 ghost use Rattle.std.specs.Prelude.{◌≤◌, IfOk};
 
-use crate::answers::{Answer, Unanswered};
 use crate::items::{Item, Items, dec_of, values_of};
 use crate::showing::{show_code, show_fault, show_quoted};
+use b2_cases::answers::{Answer, Unanswered};
 use b2_cases::{Cells, bytes_of, is_yes, number_of};
 use b2_dec::Bytes;
 use b2_print::{Item as Shown, are_on_screen, column_after, convert, lay, using};
@@ -56,31 +56,47 @@ fn next_shown<'a>(items: &mut Items<'a>) -> Result<Shown<'a>, Unanswered> {
     }
 }
 
-/// Reads an item of PRINT where there is one, and says how many there were: 1 or 0.
-fn shown_if_any<'a>(items: &mut Items<'a>) -> Result<(Shown<'a>, usize), Unanswered>
-    ensures { IfOk result (λ found. found.1 ≤ 1) }
-{
-    if items.is_empty() {
-        return Ok((Shown::Line, 0));
+/// Reads an item of PRINT, or gives a newline where all have been read or an item is misread.
+fn shown_or_line<'a>(items: &mut Items<'a>) -> Shown<'a> {
+    match next_shown(items) {
+        Ok(item) => item,
+        Err(_) => Shown::Line,
     }
-    let item = next_shown(items)?;
-    Ok((item, 1))
+}
+
+/// How many items of PRINT there are, of at most four.
+fn count_of(text: &[u8]) -> Result<usize, Unanswered>
+    ensures { IfOk result (λ count. count ≤ 4) }
+{
+    let mut items = Items::of(text);
+    for count in 0..4usize {
+        if items.is_empty() {
+            return Ok(count);
+        }
+        let Ok(_) = next_shown(&mut items) else {
+            return Err(Unanswered::Misread);
+        };
+    }
+    if items.is_empty() {
+        Ok(4)
+    } else {
+        Err(Unanswered::Misread)
+    }
 }
 
 fn laid(alloc: Global, cells: &mut Cells<'_>) -> Answer {
     let from = number_of(cells.next());
     let width = number_of(cells.next());
     let text = bytes_of(alloc, cells.next())?;
+    let count = count_of(&text)?;
     let mut items = Items::of(&text);
-    let (first, one) = shown_if_any(&mut items)?;
-    let (second, two) = shown_if_any(&mut items)?;
-    let (third, three) = shown_if_any(&mut items)?;
-    let (fourth, four) = shown_if_any(&mut items)?;
-    if !items.is_empty() {
-        return Err(Unanswered::Misread);
-    }
-    let all = [first, second, third, fourth];
-    show_laid(alloc, &all[..one + two + three + four], from, width)
+    let all = [
+        shown_or_line(&mut items),
+        shown_or_line(&mut items),
+        shown_or_line(&mut items),
+        shown_or_line(&mut items),
+    ];
+    show_laid(alloc, &all[..count], from, width)
 }
 
 fn show_laid(alloc: Global, items: &[Shown<'_>], from: u16, width: u16) -> Answer {

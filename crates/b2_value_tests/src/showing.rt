@@ -1,7 +1,8 @@
 // Numbers, values, codes and packed bytes as rows show them.
+use b2_base::Code;
 use b2_base::lexical::{first_bytes, hex_pair, rest_after};
-use b2_base::{Code, Fault};
 use b2_cases::shown::show_bytes;
+pub use b2_cases::shown::{show_code, show_fault};
 use b2_dec::{Dec, Value};
 use std::alloc::{AllocError, Global};
 use std::fmt::Write;
@@ -17,8 +18,11 @@ fn push_bytes(into: &mut String, bytes: &[u8]) -> Result<(), AllocError> {
 /// Digits without the zeros at their end.
 fn without_last_zeros(digits: &[u8]) -> &[u8] {
     let mut left = digits;
-    while let [before @ .., b'0'] = left {
-        left = before;
+    for _ in 0..digits.len() {
+        match left {
+            [before @ .., b'0'] => left = before,
+            _ => break,
+        }
     }
     left
 }
@@ -84,22 +88,6 @@ pub fn show_values(alloc: Global, into: &mut String, values: &[Value]) -> Result
         show_value(alloc, into, value)?;
     }
     Ok(())
-}
-
-/// Appends a code: the letter of its class and two digits.
-pub fn show_code(into: &mut String, code: Code) -> Result<(), AllocError> {
-    let number = code.number();
-    into.push(code.class() as char)?;
-    write!(into, "{number:02}")?;
-    Ok(())
-}
-
-/// Appends the code of a refusal.
-pub fn show_fault(into: &mut String, fault: Fault) -> Result<(), AllocError> {
-    match fault {
-        Fault::Code(code) => show_code(into, code),
-        Fault::NoMemory => into.push_str("no memory"),
-    }
 }
 
 /// Appends `ok`, or the code.

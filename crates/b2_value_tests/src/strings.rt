@@ -5,7 +5,6 @@
 // - `alpha bool_op | VALUE | OPERAND | DIGIT`, `alpha rotate | VALUE | N | HOW`: the value after it. HOW is `each` or `whole`.
 // - `alpha pos | VALUE | RELATION | BYTE`, `alpha compare | ONE | OTHER`, `alpha value_len | VALUE`.
 // - `alpha val | VALUE | COUNT`, `alpha bin | NUMBER | VALUE`, `alpha hex_text | BYTE`.
-use crate::answers::{Answer, Unanswered};
 use crate::decimals::{name_of_order, places_of};
 use crate::items::{Items, dec_of, packed_of};
 use crate::showing::{show_code, show_outcome, show_packed};
@@ -15,6 +14,7 @@ use b2_alpha::{
 };
 use b2_base::lexical::first;
 use b2_cases::Cells;
+use b2_cases::answers::{Answer, Unanswered};
 use b2_cases::shown::show_bytes;
 use b2_dec::whole;
 use std::alloc::Global;

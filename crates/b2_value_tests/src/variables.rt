@@ -9,11 +9,11 @@
 ghost use Rattle.std.specs.Prelude.{◌≡◌, true};
 ghost use Rattle.b2_vars.specs.Names.{is_legal_name};
 
-use crate::answers::{Answer, Unanswered};
 use crate::items::{Items, dec_of, value_of};
 use crate::showing::{show_code, show_fault, show_outcome, show_quoted, show_value};
 use b2_base::Fault;
 use b2_cases::Cells;
+use b2_cases::answers::{Answer, Unanswered};
 use b2_cases::shown::show_truth;
 use b2_dec::Value;
 use b2_vars::{Shape, Var, Vars};
@@ -26,6 +26,14 @@ pub fn answer(alloc: Global, call: &[u8], cells: &mut Cells<'_>) -> Answer {
         b"calls" => calls(alloc, cells),
         _ => Err(Unanswered::NoSuchCall),
     }
+}
+
+/// A value of a variable.
+#[derive(Clone, Copy)]
+struct At {
+    v: Var,
+    row: u16,
+    column: u16,
 }
 
 /// The variable that a word names.
@@ -119,9 +127,12 @@ fn of_variable(
         b"shape" => show_shape(vars, v, shown),
         b"all" | b"all_mut" | b"change_all" => of_all(alloc, vars, v, call, shown),
         _ => {
-            let row = items.number()?;
-            let column = items.number()?;
-            of_value(alloc, vars, v, row, column, call, items, shown)
+            let at = At {
+                v,
+                row: items.number()?,
+                column: items.number()?,
+            };
+            of_value(alloc, vars, at, call, items, shown)
         }
     }
 }
@@ -198,117 +209,122 @@ fn of_all(
 fn of_value(
     alloc: Global,
     vars: &mut Vars,
-    v: Var,
-    row: u16,
-    column: u16,
+    at: At,
     call: &[u8],
     items: &mut Items<'_>,
     shown: &mut String,
 ) -> Result<(), Unanswered>
-    requires { is_legal_name v ≡ true }
+    requires { is_legal_name at.v ≡ true }
 {
     match call {
-        b"get" => match vars.get(v, row, column) {
+        b"get" => match vars.get(at.v, at.row, at.column) {
             Ok(value) => Ok(show_value(alloc, shown, &value)?),
             Err(code) => Ok(show_code(shown, code)?),
         },
-        b"reach_value" => Ok(show_outcome(shown, vars.reach_value(v, row, column))?),
-        b"set" => set(alloc, vars, v, row, column, items, shown),
-        b"set_number" => set_number(vars, v, row, column, items, shown),
-        b"set_alpha" => set_alpha(alloc, vars, v, row, column, items, shown),
-        _ => of_part(alloc, vars, v, row, column, call, items, shown),
+        b"reach_value" => Ok(show_outcome(shown, vars.reach_value(at.v, at.row, at.column))?),
+        b"set" => set(alloc, vars, at, items, shown),
+        b"set_number" => set_number(vars, at, items, shown),
+        b"set_alpha" => set_alpha(alloc, vars, at, items, shown),
+        b"set_part" => set_part(alloc, vars, at, items, shown),
+        _ => change_part(vars, at, call, items, shown),
     }
 }
 
 fn set(
     alloc: Global,
     vars: &mut Vars,
-    v: Var,
-    row: u16,
-    column: u16,
+    at: At,
     items: &mut Items<'_>,
     shown: &mut String,
 ) -> Result<(), Unanswered>
-    requires { is_legal_name v ≡ true }
+    requires { is_legal_name at.v ≡ true }
 {
     match value_of(alloc, items.next())? {
-        Value::Number(x) if !v.alpha => show_result(shown, vars.set(v, row, column, &Value::Number(x))),
-        Value::Alpha(bytes) if v.alpha => show_result(shown, vars.set(v, row, column, &Value::Alpha(bytes))),
+        Value::Number(x) if !at.v.alpha => show_result(
+            shown,
+            vars.set(at.v, at.row, at.column, &Value::Number(x)),
+        ),
+        Value::Alpha(bytes) if at.v.alpha => show_result(
+            shown,
+            vars.set(at.v, at.row, at.column, &Value::Alpha(bytes)),
+        ),
         _ => Err(Unanswered::Misread),
     }
 }
 
 fn set_number(
     vars: &mut Vars,
-    v: Var,
-    row: u16,
-    column: u16,
+    at: At,
     items: &mut Items<'_>,
     shown: &mut String,
 ) -> Result<(), Unanswered>
-    requires { is_legal_name v ≡ true }
+    requires { is_legal_name at.v ≡ true }
 {
     let x = dec_of(items.word()?)?;
-    if v.alpha {
+    if at.v.alpha {
         return Err(Unanswered::Misread);
     }
-    show_result(shown, vars.set_number(v, row, column, x))
+    show_result(shown, vars.set_number(at.v, at.row, at.column, x))
 }
 
 fn set_alpha(
     alloc: Global,
     vars: &mut Vars,
-    v: Var,
-    row: u16,
-    column: u16,
+    at: At,
     items: &mut Items<'_>,
     shown: &mut String,
 ) -> Result<(), Unanswered>
-    requires { is_legal_name v ≡ true }
+    requires { is_legal_name at.v ≡ true }
 {
     let bytes = items.quoted(alloc)?;
-    if !v.alpha {
+    if !at.v.alpha {
         return Err(Unanswered::Misread);
     }
-    show_result(shown, vars.set_alpha(v, row, column, &bytes))
+    show_result(shown, vars.set_alpha(at.v, at.row, at.column, &bytes))
 }
 
-/// Makes a call on a part of an alpha value.
-fn of_part(
+fn set_part(
     alloc: Global,
     vars: &mut Vars,
-    v: Var,
-    row: u16,
-    column: u16,
+    at: At,
+    items: &mut Items<'_>,
+    shown: &mut String,
+) -> Result<(), Unanswered>
+    requires { is_legal_name at.v ≡ true }
+{
+    let from = items.count()?;
+    let bytes = items.quoted(alloc)?;
+    match vars.reach_part(at.v, at.row, at.column, from, bytes.len()) {
+        Ok(()) => vars.set_part(at.v, at.row, at.column, from, &bytes),
+        Err(fault) => return Ok(show_fault(shown, fault)?),
+    }
+    Ok(shown.push_str("ok")?)
+}
+
+/// Makes a call that lends a part of an alpha value, and changes it.
+fn change_part(
+    vars: &mut Vars,
+    at: At,
     call: &[u8],
     items: &mut Items<'_>,
     shown: &mut String,
 ) -> Result<(), Unanswered>
-    requires { is_legal_name v ≡ true }
+    requires { is_legal_name at.v ≡ true }
 {
     let from = items.count()?;
-    if call == b"set_part".as_slice() {
-        let bytes = items.quoted(alloc)?;
-        let reached = vars.reach_part(v, row, column, from, bytes.len());
-        if reached.is_ok() {
-            vars.set_part(v, row, column, from, &bytes);
-        }
-        return show_result(shown, reached);
-    }
     let n = items.count()?;
-    match vars.reach_part(v, row, column, from, n) {
-        Ok(()) => {
-            match call {
-                b"reach_part" => {}
-                b"part_mut" => vars.part_mut(v, row, column, from, n).fill(b'X'),
-                b"change_part" => {
-                    vars.change_part(v, row, column, from, n, |part: &mut [u8]| part.reverse());
-                }
-                _ => return Err(Unanswered::NoSuchCall),
+    match vars.reach_part(at.v, at.row, at.column, from, n) {
+        Ok(()) => match call {
+            b"reach_part" => {}
+            b"part_mut" => vars.part_mut(at.v, at.row, at.column, from, n).fill(b'X'),
+            b"change_part" => {
+                vars.change_part(at.v, at.row, at.column, from, n, |part: &mut [u8]| {
+                    part.reverse()
+                });
             }
-            shown.push_str("ok")?;
-        }
-        Err(fault) => show_fault(shown, fault)?,
+            _ => return Err(Unanswered::NoSuchCall),
+        },
+        Err(fault) => return Ok(show_fault(shown, fault)?),
     }
-    Ok(())
+    Ok(shown.push_str("ok")?)
 }

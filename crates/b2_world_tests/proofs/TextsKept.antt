@@ -1,6 +1,6 @@
 -- Whoever has a text keeps one: over an access, at a terminal, and over several calls.
 use Rattle.std.proofs.Common.{◌≡◌, ℕ, sym, subst}
-use Rattle.std.specs.Prelude.{Option, Some, None}
+use Rattle.std.specs.Prelude.{Option, Some, None, Result, Ok, Err, IfOk, OnOk}
 use Rattle.b2_access.specs.Sharing.{Gives, KeepsListed, ServingOf}
 use Rattle.b2_access.specs.Store.{StoreState}
 use Rattle.b2_access.specs.declared.accesses.Access.{Access}
@@ -23,3 +23,8 @@ terminal_kept (Some x) n f s p h = h
 pub served_kept : {M : Type 0} (store : M → StoreState) (serving : ServingOf M) → KeepsListed store serving → (who : ℕ) (a : Access) (m after : M) (x : Answer) → ◌≡◌ {A = Gives M} (record { after = after; answer = x }) (serving m who a)
     → KeepsTexts (store m) (store after)
 served_kept {M} store serving law who a m after x is = subst (λ (g : Gives M). KeepsTexts (store m) (store g.after)) (sym is) (λ p. law who a m (object.Text p))
+
+-- what holds where an answer is Ok
+pub on_ok : {A E : Type 0} (r : Result A E) (P : A → Type 0) (Q : Type 0) → ((x : A) → P x → Q) → IfOk r P → OnOk r Q
+on_ok (Ok x) P Q f h = f x h
+on_ok (Err e) P Q f h = h

@@ -1,5 +1,5 @@
 -- The texts that a store has.
-use Rattle.std.specs.Prelude.{ℕ, IsSome, ◌×◌}
+use Rattle.std.specs.Prelude.{ℕ, IsSome}
 use Rattle.b2_access.specs.Store.{StoreState, content}
 use Rattle.b2_access.specs.declared.objects.Object.TheVariants as object
 

@@ -3,6 +3,9 @@
 // `after | LINE | UNIT | SOURCE`: the place after a unit of a line of this source. `goal | LINE | UNIT | GOAL`: where a goal on a
 // line leads from a place; a goal is `line N`, `unit N` or `next line`. A LINE `-` is the immediate line. Each gives the home,
 // the line and the unit of the place, or `none`.
+ghost use Rattle.std.specs.Prelude.{◌≡◌, ◌≤◌, IfSome};
+ghost use Rattle.b2_access.specs.Places.{IsUnit};
+
 use crate::pieces::word;
 use b2_access::{goal_place, place_after};
 use b2_atom::Atoms;
@@ -70,22 +73,29 @@ fn said_of(alloc: Global, place: &Option<Place>) -> Result<String, NoMemory> {
     }
 }
 
+/// What is said where a row is misspelled.
+fn no_place(alloc: Global) -> Result<String, NoMemory> {
+    Ok(format!(in alloc; "no such place")?)
+}
+
 /// The place after a unit.
 pub fn after_unit(alloc: Global, row: Cells<'_>) -> Result<String, NoMemory> {
     let mut cells = row;
     let line = line_of(cells.next());
-    let unit = small_of(cells.next());
-    let source = Atoms::of(alloc, cells.next())?;
-    match (two_lines(alloc)?, source) {
-        (Some(text), Some(atoms)) if unit < 255 => {
-            said_of(alloc, &place_after(&text, &atoms, place_of(line, unit)))
-        }
-        _ => Ok(format!(in alloc; "no such place")?),
-    }
+    let unit = small_of(cells.next()).min(254);
+    let Some(atoms) = Atoms::of(alloc, cells.next())? else {
+        return no_place(alloc);
+    };
+    let Some(text) = two_lines(alloc)? else {
+        return no_place(alloc);
+    };
+    said_of(alloc, &place_after(&text, &atoms, place_of(line, unit)))
 }
 
 /// The goal in a cell, None where it is misspelled.
-fn goal_of(cell: &[u8]) -> Option<Goal> {
+fn goal_of(cell: &[u8]) -> Option<Goal>
+    ensures { IfSome result IsUnit }
+{
     let (kind, rest) = word(cell);
     match kind {
         b"line" => Some(Goal::Line(number_of(rest))),
@@ -100,11 +110,11 @@ pub fn at_goal(alloc: Global, row: Cells<'_>) -> Result<String, NoMemory> {
     let mut cells = row;
     let line = line_of(cells.next());
     let unit = small_of(cells.next());
-    let goal = goal_of(cells.next());
-    match (two_lines(alloc)?, goal) {
-        (Some(text), Some(goal)) => {
-            said_of(alloc, &goal_place(&text, place_of(line, unit), goal))
-        }
-        _ => Ok(format!(in alloc; "no such place")?),
-    }
+    let Some(goal) = goal_of(cells.next()) else {
+        return no_place(alloc);
+    };
+    let Some(text) = two_lines(alloc)? else {
+        return no_place(alloc);
+    };
+    said_of(alloc, &goal_place(&text, place_of(line, unit), goal))
 }

@@ -16,8 +16,8 @@ use crate::pieces::{show_named, word};
 use b2_access::{Access, Answer, At, Object, Shared};
 use b2_atom::Atoms;
 use b2_audit::{Seen, Watched};
-use b2_base::{ByteList, Code, NoMemory, Part, Term};
-use b2_cases::shown::show_truth;
+use b2_base::{ByteList, NoMemory, Part, Term};
+use b2_cases::shown::{show_code, show_truth};
 use b2_cases::{Cells, bytes_of, number_of, small_of};
 use b2_store::{StoreBoot, Stores};
 use b2_term::KeyItem;
@@ -101,11 +101,9 @@ fn access_of(alloc: Global, spelled: &[u8]) -> Result<Option<Access>, NoMemory>
     }
 }
 
-/// Shows a code by its class and its number.
-fn show_code(into: &mut String, code: Code) -> Result<(), NoMemory> {
-    into.push(code.class() as char)?;
-    let number = code.number();
-    write!(into, "{number:02}")?;
+/// Shows that a call is misspelled.
+fn no_call(into: &mut String) -> Result<(), NoMemory> {
+    into.push_str("no such call")?;
     Ok(())
 }
 
@@ -166,14 +164,17 @@ fn ask_spelled(
 ) -> Result<(), NoMemory>
     ensures kept { OnOk result (KeepsTexts (store_of stores.old) (store_of stores.new)) }
 {
-    let access = access_of(alloc, spelled)?;
-    match (Part::of(small_of(who)), access) {
-        (Some(who), Some(access)) => ask(stores, seen, who, &access, into),
-        _ => Ok(into.push_str("no such call")?),
-    }
+    let Some(who) = Part::of(small_of(who)) else {
+        return no_call(into);
+    };
+    let Some(access) = access_of(alloc, spelled)? else {
+        return no_call(into);
+    };
+    ask(stores, seen, who, &access, into)
 }
 
 /// Queues a key at a terminal, and shows whether it was taken.
+#[tactic(auto, using(crate::proofs::TextsKept::terminal_kept))]
 fn press(
     stores: &mut Stores,
     terminal: Term,
@@ -191,6 +192,7 @@ fn press(
 }
 
 /// Queues each byte as a key.
+#[tactic(auto, using(crate::proofs::TextsKept::both_kept))]
 fn press_all(
     stores: &mut Stores,
     terminal: Term,
@@ -206,6 +208,7 @@ fn press_all(
 }
 
 /// Puts a partition in front of a terminal.
+#[tactic(auto, using(crate::proofs::TextsKept::terminal_kept))]
 fn put_in_front(stores: &mut Stores, terminal: Term, number: u8)
     ensures kept { KeepsTexts (store_of stores.old) (store_of stores.new) }
 {
@@ -218,7 +221,10 @@ fn put_in_front(stores: &mut Stores, terminal: Term, number: u8)
 fn show_terminal(stores: &Stores, terminal: Term, into: &mut String) -> Result<(), NoMemory> {
     match stores.terminal(terminal) {
         Some(terminal) => show_named(into, "shown", terminal.transcript()),
-        None => Ok(into.push_str("no terminal")?),
+        None => {
+            into.push_str("no terminal")?;
+            Ok(())
+        }
     }
 }
 
@@ -234,7 +240,7 @@ fn at_keyboard(
 {
     let (number, text) = word(rest);
     let Some(terminal) = Term::of(small_of(number)) else {
-        return Ok(into.push_str("no such call")?);
+        return no_call(into);
     };
     match call {
         b"press" => {
@@ -247,7 +253,8 @@ fn at_keyboard(
         }
         b"front" => {
             put_in_front(stores, terminal, small_of(text));
-            Ok(into.push_str("set")?)
+            into.push_str("set")?;
+            Ok(())
         }
         _ => show_terminal(stores, terminal, into),
     }
@@ -314,7 +321,7 @@ fn lend_spelled(
         b"1 2" => lend(stores, seen, Part::known(1), Part::known(2), into),
         b"2 1" => lend(stores, seen, Part::known(2), Part::known(1), into),
         b"2 2" => lend(stores, seen, Part::known(2), Part::known(2), into),
-        _ => Ok(into.push_str("no such call")?),
+        _ => no_call(into),
     }
 }
 
@@ -350,6 +357,7 @@ fn answer(
 }
 
 /// What the calls in the cells answer.
+#[tactic(auto, using(crate::proofs::TextsKept::texts_kept))]
 pub fn called(alloc: Global, row: Cells<'_>) -> Result<String, NoMemory> {
     let mut cells = row;
     let mut stores = four_partitions(alloc)?;

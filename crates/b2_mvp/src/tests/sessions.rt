@@ -99,7 +99,10 @@ impl<'a> Session<'a> {
         self.transcript.extend_from_slice(line)?;
         self.transcript.push(b'\n')?;
         let mut left = line;
-        while left.len() > PIECE {
+        for _ in 0..line.len() {
+            if left.len() <= PIECE {
+                break;
+            }
             self.log.extend_from_slice(b"keys 1 ")?;
             self.log.extend_from_slice(&left[..PIECE])?;
             self.log.extend_from_slice(b"\nrounds 1\n")?;

@@ -1,4 +1,4 @@
-use Rattle.std.proofs.Common.{◌≡◌, ◌≤◌, ◌++◌, length, take, drop}
+use Rattle.std.proofs.Common.{◌≡◌, ◌<◌, ◌≤◌, ◌++◌, ◌-◌, ◌%◌, length, take, drop}
 use Rattle.b2_matalpha.specs.Locators.{received}
 use Rattle.b2_matalpha.specs.Searches.{found_places}
 use Rattle.b2_matalpha.proofs.Found.{found_from}
@@ -8,5 +8,10 @@ use Rattle.b2_matalpha.proofs.searching.search.Given as goal
 abbrev pub invariant-loop-index : goal.invariant-loop-index
 invariant-loop-index l = record {
   within : l.used ≤ length l.into;
+  inside : l.index ≤ length l.of;
+  at : l.index < length l.of → l.index % l.step ≡ 0;
   whole : take l.used l.into ++ received (found_from l.of l.rel l.want l.step l.index) (drop l.used l.into) ≡ received (found_places l.of l.rel l.want l.step) l.fn.into;
 }
+
+abbrev pub decreases-loop-index : goal.decreases-loop-index
+decreases-loop-index l = length l.of - l.index

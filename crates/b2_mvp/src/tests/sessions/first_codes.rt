@@ -161,14 +161,6 @@ ERR P57 AT 10
 :PRINT B;C
  1  3 \
 
-= FN takes its argument before it looks for its function
-:PRINT FNZ(1/0)
-ERR C62
-:PRINT FNZ(A(1))
-ERR P59
-:PRINT FNZ(1)
-ERR P38
-
 = FN takes its argument before it counts the calls that are open
 :10 DEFFN A(X)=FNA(X-1+0/X)
 :PRINT FNA(15)
@@ -204,17 +196,6 @@ ERR A04
 :25 DEFFN P(X)=X*2
 :PRINT FNA(4)
  8 \
-
-= GOSUB' takes its values before it looks for the DEFFN'
-:10 GOSUB'7(1/0)
-:20 GOSUB'7(1,Q$(1))
-:30 GOSUB'7(1)
-:GOTO 10
-ERR C62 AT 10
-:GOTO 20
-ERR P59 AT 20
-:GOTO 30
-ERR P38 AT 30
 
 = Where 200 loops and calls are open, A04 comes after all codes but P35
 :10 N=N+1:IF N<=200 THEN GOSUB 10

@@ -383,13 +383,6 @@ STOP
 \:CONTINUE
 ON
 
-= STOP at the end of the program keeps no place
-:10 STOP
-:RUN
-STOP
-:CONTINUE
-ERR P46
-
 = CONTINUE goes on in the loops and calls that were open
 :10 FOR I=1 TO 2:GOSUB 30
 :20 NEXT I:PRINT "END":END

@@ -72,6 +72,12 @@ ERR P40
 :NEXT I
 ERR P40
 
+= NEXT rounds its sum as SELECT says
+:FOR I=9999999999999 TO 0 STEP .5:NEXT I:PRINT I
+ 1.00000000E+13 \
+:SELECT NO ROUND:FOR I=9999999999999 TO 0 STEP .5:NEXT I:PRINT I
+ 9999999999999 \
+
 = A FOR drops the loop of its variable in the same call with those inside it, and none of the caller
 :FOR I=1 TO 2:FOR J=1 TO 2:FOR I=1 TO 2:NEXT J
 ERR P40
@@ -79,13 +85,6 @@ ERR P40
 :30 FOR I=8+I TO 20:RETURN
 :RUN
  9 END
-
-= A GOSUB at the end of the program leads back to its end
-:10 GOTO 30
-:20 PRINT "IN":RETURN
-:30 GOSUB 20
-:RUN
-IN
 
 = A line that INPUT or LINPUT read sets the column to 0
 :10 INPUT A:PRINT TAB(3);"X"
@@ -150,6 +149,12 @@ AB Q
 :RUN
 ? \>X,
 58 7 \
+
+= A comma parts what INPUT reads, also between quotes, which LINPUT and INPUT take like any other byte
+:10 INPUT A$,B$:PRINT A$;"/";B$
+:RUN
+? \>"A,B"
+"A/B"
 
 = A fault of INPUT may be taken, and the prompt is shown again
 :10 INPUT A:ERROR PRINT ERR:GOTO 10
@@ -352,6 +357,23 @@ READY
 ! rounds 9
 \:PRINT 10
  10 \
+
+= So it does where it has no text and another has one, in INPUT too
+:10 DEFFN'3:PRINT "CALLED":RETURN
+:20 DEFFN'3"TYPED"
+:30 INPUT A:PRINT A
+! rounds 9
+! sf 1 3
+! rounds 9
+\:CALLED
+:GOTO 30
+! rounds 9
+! sf 1 3
+! keys 1 5
+! key 1 0D
+! rounds 9
+? 5
+ 5 \
 
 = Bytes that can't be shown are dropped, and a backspace in an empty line does nothing
 ! rounds 9

@@ -1,5 +1,5 @@
-use Rattle.std.proofs.Common.{◌≡◌, length}
-use Rattle.b2_screen.specs.Sheet.{outlined_row, outlined_cell}
+use Rattle.std.proofs.Common.{◌≡◌, ◌+◌, ◌-◌, ◌≤◌, ◌⊎◌, false, length}
+use Rattle.b2_screen.specs.Sheet.{is_end, outlined_row, outlined_cell}
 use Rattle.b2_screen.proofs.Places.{each_partly}
 use Rattle.b2_screen.proofs.sheet.outline_row.Given as goal
 
@@ -7,5 +7,10 @@ use Rattle.b2_screen.proofs.sheet.outline_row.Given as goal
 abbrev pub invariant-loop-j : goal.invariant-loop-j
 invariant-loop-j l = record {
   width : length l.row ≡ 80;
-  drawn : each_partly (outlined_cell l.fn.rectangle l.fn.i) l.j l.row ≡ outlined_row l.fn.rectangle l.fn.i l.fn.row;
+  low : l.rectangle.column ≤ l.j;
+  side : is_end l.rectangle.row l.rectangle.rows l.i ≡ false → (l.j ≡ l.rectangle.column) ⊎ (l.rectangle.column + l.rectangle.columns - 1 ≤ l.j);
+  drawn : each_partly (outlined_cell l.rectangle l.i) l.j l.row ≡ outlined_row l.rectangle l.i l.fn.row;
 }
+
+abbrev pub decreases-loop-j : goal.decreases-loop-j
+decreases-loop-j l = 80 - l.j

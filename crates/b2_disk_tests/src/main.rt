@@ -1,0 +1,40 @@
+//! Rows of the calls on disks: platters, their catalogue, records, data files, and program files. The file `stdin` has the
+//! rows, each a line as `b2_cases` reads it.
+//!
+//! A row `disk` has a call in each cell. The calls are made one after the other, from a blank disk of sixteen sectors and an
+//! empty text on, and the answers of all of them are what the row gives. A row `record` shows the sectors of a record, and a
+//! row `sectors` how many they are.
+#![tactic(auto)]
+
+mod answers;
+mod catalogs;
+mod data_files;
+mod each;
+mod images;
+mod programs;
+mod records;
+mod sessions;
+mod values;
+mod words;
+
+use b2_cases::{Calls, Cells, try_rows};
+use std::alloc::{AllocError, Global};
+use std::io;
+
+struct DiskCalls;
+
+impl Calls for DiskCalls {
+    fn given(alloc: Global, call: &[u8], cells: Cells<'_>) -> Result<String, AllocError> {
+        let mut row = cells;
+        match call {
+            b"disk" => sessions::all_answers(alloc, row),
+            b"record" => answers::told(alloc, records::sectors_shown(alloc, row.next())),
+            b"sectors" => answers::told(alloc, records::sectors_counted(alloc, row.next())),
+            _ => format!(in alloc; "no such row"),
+        }
+    }
+}
+
+fn main(rt: HostRuntime) -> io::Result<()> {
+    try_rows::<DiskCalls>(&rt)
+}
