@@ -77,6 +77,10 @@ run_tells_dropped() {
     gives 2 "run: a file that isn't there" ./b2 run examples/first.toml nofile out
     is_text "run: a file that isn't there" "$work/err" 'missing nofile\n'
     [ ! -e /dev/full ] || gives 7 "run: a summary that can't be put" bash -c './b2 run examples/first.toml full.log out >/dev/full'
+    gives 1 "no words" ./b2
+    has "no words" "$work/err" './b2 try examples/mortgage.bas'
+    gives 0 "--help" ./b2 --help
+    has "--help" "$work/out" './b2 try examples/mortgage.bas'
     gives 1 "words that are no command" ./b2 fun examples/first.toml full.log out
     has "words that are no command" "$work/err" './b2 try examples/mortgage.bas'
 }

@@ -94,3 +94,4 @@ consoles_run docs/USING.md
 consoles_run README.md
 for page in README.md docs/USING.md docs/CODES.md examples/README.md; do commands_in_text_run "$page"; done
 codes_are_shown
+gives 0 "ARCHITECTURE.md has the picture of crates.txt" "$top/tools/picture" --check
