@@ -1,5 +1,5 @@
 -- A step that doesn't count ends its turn.
-use Rattle.std.proofs.Common.{◌≡◌, refl, ℕ, ◌&&◌, not, Bool, true, false, if◌then◌else◌, List, Option, Some, None, is_some}
+use Rattle.std.proofs.Common.{refl, ℕ, Bool, true, false, if◌then◌else◌, List, Option, Some, None}
 use Rattle.b2_flow.specs.declared.frame.Place.{Place}
 use Rattle.b2_text.specs.Program.{Lines}
 use Rattle.b2_access.specs.Lending.{SeenLent}
@@ -18,13 +18,13 @@ use Rattle.b2_access.specs.declared.planned.Outcome.TheVariants as outcome
 use Rattle.b2_access.specs.declared.planned.Planned.{Planned}
 use Rattle.b2_access.specs.declared.planned.Planned.TheVariants as planned
 use Rattle.b2_access.specs.declared.private.Private.{Private}
-use Rattle.b2_access.proofs.Choice.{either}
+use Rattle.b2_language.specs.Languages.{Ways}
 use Rattle.b2_machine.specs.Counting.{CountsOrEnds, StepsCountOrEnd}
 use Rattle.b2_machine.specs.Endings.{counts, ends_turn, repeats}
 use Rattle.b2_machine.specs.Moving.{ends_by, error_place, faults, following_place, goes_to}
-use Rattle.b2_machine.specs.Readiness.{end_of_reset, halted, resets}
+use Rattle.b2_machine.specs.Readiness.{halted, resets}
 use Rattle.b2_machine.specs.Statements.{begins_where, begun_by, builder_of, finish_by, finishes, plan_by}
-use Rattle.b2_machine.specs.Step.{acts, by_itself, carries_out, enters_or_goes_on, executes, goes_through, halts_or_acts, line_read, runs_or_reads, seen_by, shows_or_goes_on, step, text_in, types_or_goes_on}
+use Rattle.b2_machine.specs.Step.{acts, by_itself, enters_or_goes_on, executes, goes_through, halts_or_acts, line_read, runs_or_reads, seen_by, shows_or_goes_on, text_in, types_or_goes_on}
 use Rattle.b2_machine.specs.Typing.{on_own_line, put_by, shown_by, typed_by_key}
 use Rattle.b2_machine.specs.declared.ends.Stepped.{Stepped}
 use Rattle.b2_machine.specs.declared.ends.Why.{Why}
@@ -95,19 +95,19 @@ ended same outcome.Repeat p me home h = h
 ended same outcome.Break p me home h = ending reason.Break
 ended same outcome.Ready p me home h = ending reason.Ready
 
-finishing : (b : Builder) (x : Access) (a : Answer) (p : Place) (me : Private) (s : SeenLent) → CountsOrEnds (finishes b x a p me s).end
-finishing b x a p me s = let f = finish_by b x a me s in ended (repeats a) f.outcome p f.me s.home.lines (repeating a)
+finishing : (ways : Ways) (b : Builder) (x : Access) (a : Answer) (p : Place) (me : Private) (s : SeenLent) → CountsOrEnds (finishes ways b x a p me s).end
+finishing ways b x a p me s = let f = finish_by ways b x a me s in ended (repeats a) f.outcome p f.me s.home.lines (repeating a)
 
-module _ {M : Type 0} (store : M → StoreState) (serving : ServingOf M) (lending : Loan M) where
-  begun : (x : Planned) (b : Builder) (p : Place) (me : Private) (home : Lines) (m : M) → CountsOrEnds (goes_through store serving lending (begun_by x b p me home) p m).end
+module _ (ways : Ways) {M : Type 0} (store : M → StoreState) (serving : ServingOf M) (lending : Loan M) where
+  begun : (x : Planned) (b : Builder) (p : Place) (me : Private) (home : Lines) (m : M) → CountsOrEnds (goes_through ways store serving lending (begun_by x b p me home) p m).end
   begun (planned.Done o) b p me home m = ended counts o p me home counting
-  begun (planned.Ask a) b p me home m = let g = serving m me.part a in finishing b a g.answer p me (seen_by me (store g.after))
+  begun (planned.Ask a) b p me home m = let g = serving m me.part a in finishing ways b a g.answer p me (seen_by me (store g.after))
 
-  unit : (o : Option Statement) (p : Place) (me : Private) (s : SeenLent) (m : M) → CountsOrEnds (goes_through store serving lending (begins_where o p me s) p m).end
+  unit : (o : Option Statement) (p : Place) (me : Private) (s : SeenLent) (m : M) → CountsOrEnds (goes_through ways store serving lending (begins_where ways o p me s) p m).end
   unit None p me s m = ending reason.Ready
-  unit (Some u) p me s m = let x = plan_by (builder_of u) p me s in begun x.planned (builder_of u) p x.me s.home.lines m
+  unit (Some u) p me s m = let x = plan_by ways (builder_of ways u) p me s in begun x.planned (builder_of ways u) p x.me s.home.lines m
 
-  executed : (p : Place) (me : Private) (m : M) → CountsOrEnds (executes store serving lending p me m).end
+  executed : (p : Place) (me : Private) (m : M) → CountsOrEnds (executes ways store serving lending p me m).end
   executed p me m = unit (statement_placed p me.immediate (text_in (store m) me.part).lines) p me (seen_by me (store m)) (lending me.part me.part at.None m None)
 
   read : (a : Answer) (me : Private) (m : M) → CountsOrEnds (line_read store serving lending a me m).end
@@ -120,27 +120,27 @@ module _ {M : Type 0} (store : M → StoreState) (serving : ServingOf M) (lendin
   read (answer.Locked q) me m = repeating (answer.Locked q)
   read (answer.Refused code) me m = repeating (answer.Refused code)
 
-  run : (o : Option Place) (me : Private) (m : M) → CountsOrEnds (runs_or_reads store serving lending o me m).end
+  run : (o : Option Place) (me : Private) (m : M) → CountsOrEnds (runs_or_reads ways store serving lending o me m).end
   run None me m = let g = serving m me.part (access.ReadLine me.term) in read g.answer me g.after
   run (Some p) me m = executed p me m
 
-  enter : (o : Option (ℕ × Option (List ℕ))) (me : Private) (m : M) → CountsOrEnds (enters_or_goes_on store serving lending o me m).end
+  enter : (o : Option (ℕ × Option (List ℕ))) (me : Private) (m : M) → CountsOrEnds (enters_or_goes_on ways store serving lending o me m).end
   enter None me m = run me.place me m
   enter (Some line) me m = put _ me
 
-  type_ : (o : Option (List ℕ)) (me : Private) (m : M) → CountsOrEnds (types_or_goes_on store serving lending o me m).end
+  type_ : (o : Option (List ℕ)) (me : Private) (m : M) → CountsOrEnds (types_or_goes_on ways store serving lending o me m).end
   type_ None me m = enter me.numbered me m
   type_ (Some text) me m = typed _ me
 
-  show : (o : Option (List ℕ × List ℕ)) (me : Private) (m : M) → CountsOrEnds (shows_or_goes_on store serving lending o me m).end
+  show : (o : Option (List ℕ × List ℕ)) (me : Private) (m : M) → CountsOrEnds (shows_or_goes_on ways store serving lending o me m).end
   show None me m = type_ me.literal me m
   show (Some bytes) me m = shown me.term (on_own_line me.term_column bytes.1) _ me
 
-  halt : (b : Bool) (me : Private) (m : M) → CountsOrEnds (if b then acts store serving lending (record me { halt = false }) m else by_itself store serving lending (halted me) m).end
+  halt : (b : Bool) (me : Private) (m : M) → CountsOrEnds (if b then acts ways store serving lending (record me { halt = false }) m else by_itself store serving lending (halted me) m).end
   halt true me m = show me.pending (record me { halt = false }) m
   halt false me m = ending reason.Ready
 
-  act : (b : Bool) (me : Private) (m : M) → CountsOrEnds (if b then halts_or_acts store serving lending me m else acts store serving lending me m).end
+  act : (b : Bool) (me : Private) (m : M) → CountsOrEnds (if b then halts_or_acts ways store serving lending me m else acts ways store serving lending me m).end
   act true me m = halt (is_ready me) me m
   act false me m = show me.pending me m
 
@@ -149,9 +149,9 @@ module _ {M : Type 0} (store : M → StoreState) (serving : ServingOf M) (lendin
   reset false = ending reason.Ready
 
   any : (b : Bool) (me : Private) (m : M)
-      → CountsOrEnds (if b then by_itself store serving lending (resets me) m else (if me.halt then halts_or_acts store serving lending me m else acts store serving lending me m)).end
+      → CountsOrEnds (if b then by_itself store serving lending (resets me) m else (if me.halt then halts_or_acts ways store serving lending me m else acts ways store serving lending me m)).end
   any true me m = reset (is_ready me)
   any false me m = act me.halt me m
 
-  pub steps_count_or_end : StepsCountOrEnd store serving lending
+  pub steps_count_or_end : StepsCountOrEnd ways store serving lending
   steps_count_or_end me m = any me.reset me m

@@ -32,8 +32,7 @@ use Rattle.b2_access.specs.declared.planned.Outcome.TheVariants as outcome
 use Rattle.b2_access.specs.declared.planned.Planned.{Planned}
 use Rattle.b2_access.specs.declared.planned.Planned.TheVariants as planned
 use Rattle.b2_access.specs.declared.private.Private.{Private}
-use Rattle.b2_stmt.proofs.KeptPlaces as stmt
-use Rattle.b2_stmt_io.proofs.KeptPlaces as stmt_io
+use Rattle.b2_language.specs.Languages.{AreLawful, Ways}
 use Rattle.b2_machine.specs.Keys.{calls, calls_where, pressed_by}
 use Rattle.b2_machine.specs.Listed.{lists}
 use Rattle.b2_machine.specs.Moving.{ends_by, enters_program, error_place, faults, goes_to, is_continue, is_taken, moves_to, following_place, units_at}
@@ -66,7 +65,7 @@ not_ready : (kept : Option Place) (o : Outcome) → (o ≡ outcome.Ready → ⊥
 not_ready kept o never (inl h) = h
 not_ready kept o never (inr h) = absurd (never h)
 
-module _ (p : Place) where
+module _ (ways : Ways) (lawful : AreLawful ways) (p : Place) where
   -- a place in program text is led to from program text
   FromHere : Option Place → Type 0
   FromHere None = Unit {0}
@@ -137,10 +136,9 @@ module _ (p : Place) where
   listed true range me s h = (h.0, λ r. inl (h.1 r))
   listed false range me s h = (h.0, λ r. inl (h.1 r))
 
-  plans : (b : Builder) (me : Private) (s : SeenLent) → Here me → PlannedHere (plan_by b p me s).me (plan_by b p me s).planned
+  plans : (b : Builder) (me : Private) (s : SeenLent) → Here me → PlannedHere (plan_by ways b p me s).me (plan_by ways b p me s).planned
   plans (builder.Listing from to) me s h = listed (is_some p.line) (from, to) me s h
-  plans builder.Control me s h = (stmt.plans_in_place me s ∙ h.0, λ r. stmt.plans_keep_none me s (h.1 r))
-  plans builder.Terminal me s h = (stmt_io.plans_in_place me s ∙ h.0, λ r. stmt_io.plans_keep_none me s (h.1 r))
+  plans (builder.Language n) me s h = (lawful.plans_in_place n me s ∙ h.0, λ r. lawful.plans_keep_none n me s (h.1 r))
   plans builder.Nobody me s h = (h.0, λ r. inl (h.1 r))
 
   shown_here : (x : Access) (a : Answer) (me : Private) → Here me → EndedHere (shown x a me).me (shown x a me).outcome
@@ -159,14 +157,13 @@ module _ (p : Place) where
   shown_here (access.Erase from to homes) a me h = (h.0, λ r. inl (h.1 r))
   shown_here (access.ClearAll name homes) a me h = (h.0, λ r. inl (h.1 r))
 
-  finished : (b : Builder) (x : Access) (a : Answer) (me : Private) (s : SeenLent) → Here me → EndedHere (finish_by b x a me s).me (finish_by b x a me s).outcome
+  finished : (b : Builder) (x : Access) (a : Answer) (me : Private) (s : SeenLent) → Here me → EndedHere (finish_by ways b x a me s).me (finish_by ways b x a me s).outcome
   finished (builder.Listing from to) x a me s h = shown_here x a me h
-  finished builder.Control x a me s h = (stmt.finishes_in_place x a me s ∙ h.0, λ r. stmt.finishes_keep_none x a me s (h.1 r))
-  finished builder.Terminal x a me s h = (stmt_io.finishes_in_place x a me s ∙ h.0, λ r. stmt_io.finishes_keep_none x a me s (h.1 r))
+  finished (builder.Language n) x a me s h = (lawful.finishes_in_place n x a me s ∙ h.0, λ r. lawful.finishes_keep_none n x a me s (h.1 r))
   finished builder.Nobody x a me s h = (h.0, λ r. inl (h.1 r))
 
-  finish_keeps : (b : Builder) (x : Access) (a : Answer) (me : Private) (s : SeenLent) → Here me → KeepsNone (finishes b x a p me s).me
-  finish_keeps b x a me s h = let f = finished b x a me s h in ended _ (finish_by b x a me s).outcome (finish_by b x a me s).me s.home.lines f.0 f.1
+  finish_keeps : (b : Builder) (x : Access) (a : Answer) (me : Private) (s : SeenLent) → Here me → KeepsNone (finishes ways b x a p me s).me
+  finish_keeps b x a me s h = let f = finished b x a me s h in ended _ (finish_by ways b x a me s).outcome (finish_by ways b x a me s).me s.home.lines f.0 f.1
 
   outcome_of : Planned → Outcome
   outcome_of (planned.Done o) = o
@@ -185,19 +182,19 @@ module _ (p : Place) where
   asked_kept a kept (inr h) = cc
 
   module _ {M : Type 0} (store : M → StoreState) (serving : ServingOf M) (lending : Loan M) where
-    begun_keeps : (x : Planned) (b : Builder) (me : Private) (home : Lines) (m : M) → PlannedHere me x → KeepsNone (goes_through store serving lending (begun_by x b p me home) p m).me
+    begun_keeps : (x : Planned) (b : Builder) (me : Private) (home : Lines) (m : M) → PlannedHere me x → KeepsNone (goes_through ways store serving lending (begun_by x b p me home) p m).me
     begun_keeps (planned.Done o) b me home m h = ended _ o me home h.0 (λ r. done_kept o me.kept (h.1 r))
     begun_keeps (planned.Ask a) b me home m h =
         let g = serving m me.part a in
         finish_keeps b a g.answer me (seen_by me (store g.after)) (h.0, λ r. asked_kept a me.kept (h.1 r))
 
-    unit_keeps : (o : Option Statement) (me : Private) (s : SeenLent) (m : M) → Here me → KeepsNone (goes_through store serving lending (begins_where o p me s) p m).me
+    unit_keeps : (o : Option Statement) (me : Private) (s : SeenLent) (m : M) → Here me → KeepsNone (goes_through ways store serving lending (begins_where ways o p me s) p m).me
     unit_keeps None me s m h = λ r. absurd (false_is_true r)
     unit_keeps (Some u) me s m h =
-        let x = plan_by (builder_of u) p me s in
-        begun_keeps x.planned (builder_of u) x.me s.home.lines m (plans (builder_of u) me s h)
+        let x = plan_by ways (builder_of ways u) p me s in
+        begun_keeps x.planned (builder_of ways u) x.me s.home.lines m (plans (builder_of ways u) me s h)
 
-    pub executed : (me : Private) (m : M) → Here me → KeepsNone (executes store serving lending p me m).me
+    pub executed : (me : Private) (m : M) → Here me → KeepsNone (executes ways store serving lending p me m).me
     executed me m h = unit_keeps (statement_placed p me.immediate (text_in (store m) me.part).lines) me (seen_by me (store m)) (lending me.part me.part at.None m None) h
 
 -- output and literals, as they wait
@@ -255,7 +252,7 @@ module _ where
   put_keeps (answer.Locked q) me h = h
   put_keeps (answer.Refused code) me h = h
 
-module _ {M : Type 0} (store : M → StoreState) (serving : ServingOf M) (lending : Loan M) where
+module _ (ways : Ways) (lawful : AreLawful ways) {M : Type 0} (store : M → StoreState) (serving : ServingOf M) (lending : Loan M) where
   read_keeps : (a : Answer) (me : Private) (m : M) → KeepsNone me → KeepsNone (line_read store serving lending a me m).me
   read_keeps answer.Done me m h = h
   read_keeps (answer.Line bytes) me m h = taken_or (reads bytes) (record me { term_column = 0 }) h
@@ -266,50 +263,50 @@ module _ {M : Type 0} (store : M → StoreState) (serving : ServingOf M) (lendin
   read_keeps (answer.Locked q) me m h = h
   read_keeps (answer.Refused code) me m h = h
 
-  run_keeps : (o : Option Place) (me : Private) (m : M) → me.place ≡ o → KeepsNone me → KeepsNone (runs_or_reads store serving lending o me m).me
+  run_keeps : (o : Option Place) (me : Private) (m : M) → me.place ≡ o → KeepsNone me → KeepsNone (runs_or_reads ways store serving lending o me m).me
   run_keeps None me m is h = read_keeps (serving m me.part (access.ReadLine me.term)).answer me (serving m me.part (access.ReadLine me.term)).after h
-  run_keeps (Some p) me m is h = executed p store serving lending me m (is, λ r. h (ap Runs is ∙ r))
+  run_keeps (Some p) me m is h = executed ways lawful p store serving lending me m (is, λ r. h (ap Runs is ∙ r))
 
-  enter_keeps : (o : Option (ℕ × Option (List ℕ))) (me : Private) (m : M) → KeepsNone me → KeepsNone (enters_or_goes_on store serving lending o me m).me
+  enter_keeps : (o : Option (ℕ × Option (List ℕ))) (me : Private) (m : M) → KeepsNone me → KeepsNone (enters_or_goes_on ways store serving lending o me m).me
   enter_keeps None me m h = run_keeps me.place me m refl h
   enter_keeps (Some line) me m h = put_keeps _ me h
 
-  type_keeps : (o : Option (List ℕ)) (me : Private) (m : M) → KeepsNone me → KeepsNone (types_or_goes_on store serving lending o me m).me
+  type_keeps : (o : Option (List ℕ)) (me : Private) (m : M) → KeepsNone me → KeepsNone (types_or_goes_on ways store serving lending o me m).me
   type_keeps None me m h = enter_keeps me.numbered me m h
   type_keeps (Some text) me m h = literal_keeps _ me h
 
-  show_keeps : (o : Option (List ℕ × List ℕ)) (me : Private) (m : M) → KeepsNone me → KeepsNone (shows_or_goes_on store serving lending o me m).me
+  show_keeps : (o : Option (List ℕ × List ℕ)) (me : Private) (m : M) → KeepsNone me → KeepsNone (shows_or_goes_on ways store serving lending o me m).me
   show_keeps None me m h = type_keeps me.literal me m h
   show_keeps (Some shown) me m h = pending_keeps me.term (on_own_line me.term_column shown.1) _ me h
 
-  halt_keeps : (b : Bool) (me : Private) (m : M) → KeepsNone me → KeepsNone (if b then acts store serving lending (record me { halt = false }) m else by_itself store serving lending (halted me) m).me
+  halt_keeps : (b : Bool) (me : Private) (m : M) → KeepsNone me → KeepsNone (if b then acts ways store serving lending (record me { halt = false }) m else by_itself store serving lending (halted me) m).me
   halt_keeps true me m h = show_keeps me.pending (record me { halt = false }) m h
   halt_keeps false me m h = λ r. absurd (false_is_true r)
 
-  act_by : (b : Bool) (me : Private) (m : M) → KeepsNone me → KeepsNone (if b then halts_or_acts store serving lending me m else acts store serving lending me m).me
+  act_by : (b : Bool) (me : Private) (m : M) → KeepsNone me → KeepsNone (if b then halts_or_acts ways store serving lending me m else acts ways store serving lending me m).me
   act_by true me m h = halt_keeps (is_ready me) me m h
   act_by false me m h = show_keeps me.pending me m h
 
   step_by : (b : Bool) (me : Private) (m : M) → KeepsNone me
-      → KeepsNone (if b then by_itself store serving lending (resets me) m else (if me.halt then halts_or_acts store serving lending me m else acts store serving lending me m)).me
+      → KeepsNone (if b then by_itself store serving lending (resets me) m else (if me.halt then halts_or_acts ways store serving lending me m else acts ways store serving lending me m)).me
   step_by true me m h = λ r. absurd (false_is_true r)
   step_by false me m h = act_by me.halt me m h
 
-  pub step_keeps : (me : Private) (m : M) → KeepsNone me → KeepsNone (step store serving lending me m).me
+  pub step_keeps : (me : Private) (m : M) → KeepsNone me → KeepsNone (step ways store serving lending me m).me
   step_keeps me m h = step_by me.reset me m h
 
-  ended_turn : (o : Option Why) (n : ℕ) (me : Private) (m : M) (steps : ℕ) → KeepsNone me → ((k : ℕ) → KeepsNone (turn_from store serving lending n me m k).me)
-      → KeepsNone (unless_ended {A = TurnEnd M} o (λ w. turn_ended steps w me m) (turn_from store serving lending n me m steps)).me
+  ended_turn : (o : Option Why) (n : ℕ) (me : Private) (m : M) (steps : ℕ) → KeepsNone me → ((k : ℕ) → KeepsNone (turn_from ways store serving lending n me m k).me)
+      → KeepsNone (unless_ended {A = TurnEnd M} o (λ w. turn_ended steps w me m) (turn_from ways store serving lending n me m steps)).me
   ended_turn None n me m steps h k = k steps
   ended_turn (Some w) n me m steps h k = h
 
-  from_keeps : (n : ℕ) (me : Private) (m : M) (steps : ℕ) → KeepsNone me → KeepsNone (turn_from store serving lending n me m steps).me
+  from_keeps : (n : ℕ) (me : Private) (m : M) (steps : ℕ) → KeepsNone me → KeepsNone (turn_from ways store serving lending n me m steps).me
   unfolding turn_from
   from_keeps zero me m steps h = h
   from_keeps (suc n) me m steps h =
-      let s = step store serving lending me m in
+      let s = step ways store serving lending me m in
       let kept = step_keeps me m h in
       ended_turn s.end.why n s.me s.after (counted_on steps s.end) kept (λ k. from_keeps n s.me s.after k kept)
 
-  pub turn_keeps : (quota : ℕ) (me : Private) (m : M) → KeepsNone me → KeepsNone (turn store serving lending quota me m).me
+  pub turn_keeps : (quota : ℕ) (me : Private) (m : M) → KeepsNone me → KeepsNone (turn ways store serving lending quota me m).me
   turn_keeps quota me m h = from_keeps quota me m 0 h

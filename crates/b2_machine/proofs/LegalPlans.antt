@@ -1,28 +1,13 @@
 -- No statement asks for a line above 9999.
-use Rattle.std.proofs.Common.{◌≡◌, ℕ, ◌==◌, Bool, true, false, if◌then◌else◌, List, Option, Some, None, Result, Ok, Err, is_some, subst, sym}
-use Rattle.std.specs.Prelude.{slice_get}
-use Rattle.b2_atom.specs.Tree.{Trees}
-use Rattle.b2_atom.specs.Tree.Trees.{Done, Put, In}
-use Rattle.b2_atom.specs.Units.{TreeUnit}
-use Rattle.b2_atom.specs.declared.rows.TheConstants as row
-use Rattle.b2_rows.specs.Following.{tree_units}
+use Rattle.std.proofs.Common.{◌≡◌, ℕ, Bool, true, false, is_some, subst, sym}
 use Rattle.b2_text.specs.Program.{Lines}
 use Rattle.b2_flow.specs.declared.frame.Place.{Place}
 use Rattle.b2_access.specs.Lending.{SeenLent}
-use Rattle.b2_access.specs.Placed.{Statement, statement_placed}
 use Rattle.b2_access.specs.Planning.{Planning}
-use Rattle.b2_access.specs.Touching.{IsLegal}
-use Rattle.b2_access.specs.declared.accesses.Access.{Access}
 use Rattle.b2_access.specs.declared.planned.Planned.{Planned}
 use Rattle.b2_access.specs.declared.planned.Planned.TheVariants as planned
 use Rattle.b2_access.specs.declared.private.Private.{Private}
-use Rattle.b2_stmt.specs.Asked.{Here}
-use Rattle.b2_stmt.specs.Clearing.{asked_access, asks_to_erase}
-use Rattle.b2_stmt.specs.Plan as stmt
-use Rattle.b2_stmt_io.specs.LineReading.{asks_line}
-use Rattle.b2_stmt_io.specs.Plan as stmt_io
-use Rattle.b2_stmt_io.specs.Showing.{shows_bytes}
-use Rattle.b2_expr.specs.Scope.{Context}
+use Rattle.b2_language.specs.Languages.{AreLawful, IsLegalPlan, Ways}
 use Rattle.b2_machine.specs.Listed.{lists}
 use Rattle.b2_machine.specs.Stays.{IsLegalCourse}
 use Rattle.b2_machine.specs.Statements.{Begun, begun_by, plan_by}
@@ -30,92 +15,22 @@ use Rattle.b2_machine.specs.declared.statements.Builder.{Builder}
 use Rattle.b2_machine.specs.declared.statements.Builder.TheVariants as builder
 use Rattle.b2_machine.specs.declared.statements.Course.{Course}
 
-by_if : {A : Type 0} (P : A → Type 0) (b : Bool) (x y : A) → P x → P y → P (if b then x else y)
-by_if P true x y px py = px
-by_if P false x y px py = py
-
-abbrev IsLegalPlan : Planned → Type 0
-IsLegalPlan (planned.Done o) = Unit {0}
-IsLegalPlan (planned.Ask a) = IsLegal a
-
-abbrev IsLegalIfAny : Option Access → Type 0
-IsLegalIfAny None = Unit {0}
-IsLegalIfAny (Some a) = IsLegal a
-
-abbrev Fine : Planning → Type 0
-Fine x = IsLegalPlan x.planned
-
--- CLEAR P
-erased : (t : Trees) → IsLegal (asks_to_erase t)
-erased Done = tt
-erased (Put w Done) = tt
-erased (Put w (Put l t)) = tt
-erased (Put w (In m i t)) = tt
-erased (In m i t) = tt
-
-accessed : (r : ℕ) (t : Trees) → IsLegalIfAny (asked_access r t)
-accessed r t = by_if IsLegalIfAny (r == row.CLEAR) _ _ tt (by_if IsLegalIfAny (r == row.CLEAR_P) (Some (asks_to_erase t)) None (erased t) tt)
-
--- statements of control
-by_any : (a : Option Access) (s : SeenLent) (me : Private) (e : _) → IsLegalIfAny a → Fine (stmt.by_access a s me e)
-by_any None s me e h = tt
-by_any (Some a) s me e h = h
-
-control_at : (u : Option TreeUnit) (h : Here) (me : Private) (s : SeenLent) → Fine (stmt.course_at u h me s)
-control_at None h me s = tt
-control_at (Some u) h me s = by_if Fine (stmt.is_refused u.row (is_some h.place.line)) _ _ tt (by_any (asked_access u.row u.tree) s me _ (accessed u.row u.tree))
-
-control_in : (line : Option (List ℕ)) (p : Place) (me : Private) (s : SeenLent) → Fine (stmt.course_in line p me s)
-control_in None p me s = tt
-control_in (Some line) p me s = control_at (slice_get (tree_units line) p.unit) _ me s
-
-control_where : (p : Option Place) (me : Private) (s : SeenLent) → Fine (stmt.course p me s)
-control_where None me s = tt
-control_where (Some p) me s = control_in _ p me s
-
--- statements at the terminal
-shown : (term : ℕ) (x : Result (List ℕ) ℕ) → IsLegalPlan (shows_bytes term x)
-shown term (Ok bytes) = tt
-shown term (Err code) = tt
-
-line_asked : (prompted : Bool) (term : ℕ) (prompt : List ℕ) → IsLegalPlan (planned.Ask (asks_line prompted term prompt))
-line_asked true term prompt = tt
-line_asked false term prompt = tt
-
-asked : (r : ℕ) (t : Trees) (e : Context) (column : ℕ) (prompted : Bool) → IsLegalPlan (stmt_io.asked_of r t e column prompted)
-asked r t e column prompted =
-    by_if IsLegalPlan (r == row.PRINT) _ _ (shown e.around.term _)
-    (by_if IsLegalPlan (r == row.PRINTUSING) _ _ (shown e.around.term _)
-    (by_if IsLegalPlan (r == row.KEYIN) _ _ tt
-    (by_if IsLegalPlan (r == row.LINPUT) _ _ (line_asked prompted e.around.term _)
-    (by_if IsLegalPlan (r == row.INPUT) _ _ (line_asked prompted e.around.term _) tt))))
-
-terminal_at : (u : Option Statement) (p : Place) (me : Private) (s : SeenLent) → Fine (stmt_io.course_at u p me s)
-terminal_at None p me s = tt
-terminal_at (Some u) p me s =
-    by_if Fine (stmt_io.is_refused u.row (is_some p.line)) _ _ tt (by_if Fine (u.row == row.CONVERT) _ _ tt (asked u.row u.tree _ _ _))
-
-terminal_where : (p : Option Place) (me : Private) (s : SeenLent) → Fine (stmt_io.course p me s)
-terminal_where None me s = tt
-terminal_where (Some p) me s = terminal_at (statement_placed p me.immediate s.home.lines) p me s
-
--- LIST
-listed : (b : Bool) (range : ℕ × ℕ) (me : Private) (s : SeenLent) → Fine (lists b range me s)
+listed : (b : Bool) (range : ℕ × ℕ) (me : Private) (s : SeenLent) → IsLegalPlan (lists b range me s).planned
 listed true range me s = tt
 listed false range me s = tt
-
-planned_by : (b : Builder) (p : Place) (me : Private) (s : SeenLent) → Fine (plan_by b p me s)
-planned_by (builder.Listing from to) p me s = listed (is_some p.line) (from, to) me s
-planned_by builder.Control p me s = control_where me.place me s
-planned_by builder.Terminal p me s = terminal_where me.place me s
-planned_by builder.Nobody p me s = tt
 
 courses : (x : Planned) (b : Builder) (p : Place) (me : Private) (home : Lines) → IsLegalPlan x → IsLegalCourse (begun_by x b p me home).course
 courses (planned.Done o) b p me home h = tt
 courses (planned.Ask a) b p me home h = h
 
-pub legal_planned : (x : Planning) (b : Builder) (p : Place) (me : Private) (s : SeenLent) → x ≡ plan_by b p me s → IsLegalPlan x.planned
-legal_planned x b p me s is = subst (λ (y : Planning). IsLegalPlan y.planned) (sym is) (planned_by b p me s)
+module _ (ways : Ways) (lawful : AreLawful ways) where
+  planned_by : (b : Builder) (p : Place) (me : Private) (s : SeenLent) → IsLegalPlan (plan_by ways b p me s).planned
+  planned_by (builder.Listing from to) p me s = listed (is_some p.line) (from, to) me s
+  planned_by (builder.Language r) p me s = lawful.plans_legally r me s
+  planned_by builder.Nobody p me s = tt
+
+  pub legal_planned : (x : Planning) (b : Builder) (p : Place) (me : Private) (s : SeenLent) → x ≡ plan_by ways b p me s → IsLegalPlan x.planned
+  legal_planned x b p me s is = subst (λ (y : Planning). IsLegalPlan y.planned) (sym is) (planned_by b p me s)
 
 pub legal_begun : (x : Planned) (b : Builder) (p : Place) (me after : Private) (home : Lines) (c : Course) → IsLegalPlan x → ◌≡◌ {A = Begun} (record { me = after; course = c }) (begun_by x b p me home) → IsLegalCourse c
 legal_begun x b p me after home c h is = subst (λ (y : Begun). IsLegalCourse y.course) (sym is) (courses x b p me home h)

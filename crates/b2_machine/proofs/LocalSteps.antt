@@ -18,6 +18,7 @@ use Rattle.b2_access.specs.declared.lending.At.TheVariants as at
 use Rattle.b2_access.specs.declared.objects.Object.{Object}
 use Rattle.b2_access.specs.declared.objects.Object.TheVariants as object
 use Rattle.b2_access.specs.declared.private.Private.{Private}
+use Rattle.b2_language.specs.Languages.{Ways}
 use Rattle.b2_machine.specs.Endings.{Ending}
 use Rattle.b2_machine.specs.Keys.{pressed}
 use Rattle.b2_machine.specs.Readiness.{halted, resets}
@@ -39,7 +40,7 @@ is_in o (x ∷ xs) = by (same_object o x) (is_in o xs)
     by (inr apart) (inl h) = inl (inr h)
     by (inr apart) (inr out) = inr (λ h. elim h [ inl e ↦ apart e | inr i ↦ out i ])
 
-module _ {M : Type 0} (store : M → StoreState) (serving : ServingOf M) (lending : Loan M) (local : IsLocal store serving) (loans : LoansGlobals store lending) where
+module _ (ways : Ways) {M : Type 0} (store : M → StoreState) (serving : ServingOf M) (lending : Loan M) (local : IsLocal store serving) (loans : LoansGlobals store lending) where
   abbrev Goes : ℕ → (StoreState → Asking) → (M → StepEnd M) → Type 0
   Goes part asks goes = GoesLocally store serving part asks goes
 
@@ -129,7 +130,7 @@ module _ {M : Type 0} (store : M → StoreState) (serving : ServingOf M) (lendin
   -- a statement that began: over what is lent, it has ended, or it asks and is lent its text again
   module _ (part : ℕ) (p : Place) (first : Private) where
     over : Course → Private → M → StepEnd M
-    over c me m = carries_out store serving lending c p me (lent store serving lending first m)
+    over c me m = carries_out ways store serving lending c p me (lent store serving lending first m)
 
     asks_over : Course → Private → Asking
     asks_over c me = record { who = me.part; access = access_asked c }
@@ -154,8 +155,8 @@ module _ {M : Type 0} (store : M → StoreState) (serving : ServingOf M) (lendin
           record {
             touches = ap (λ (os : List Object). object.Text part ∷ object.Text me.part ∷ os) by.touches;
             wrote = by.wrote;
-            own = ap (λ (x : SeenLent). (finishes b a g.answer p me x).me) seen ∙ ap (λ (x : Answer). (finishes b a x p me (seen_by me (store h.after))).me) alike.answers;
-            end = ap (λ (x : SeenLent). (finishes b a g.answer p me x).end) seen ∙ ap (λ (x : Answer). (finishes b a x p me (seen_by me (store h.after))).end) alike.answers;
+            own = ap (λ (x : SeenLent). (finishes ways b a g.answer p me x).me) seen ∙ ap (λ (x : Answer). (finishes ways b a x p me (seen_by me (store h.after))).me) alike.answers;
+            end = ap (λ (x : SeenLent). (finishes ways b a g.answer p me x).end) seen ∙ ap (λ (x : Answer). (finishes ways b a x p me (seen_by me (store h.after))).end) alike.answers;
             contents = λ o i. lent_same me g.after o ∙ alike.contents o (subst (λ (os : List Object). IsIn o os) to_u.wrote i) ∙ sym (lent_same me h.after o);
           };
       others = λ m o out.
@@ -178,13 +179,13 @@ module _ {M : Type 0} (store : M → StoreState) (serving : ServingOf M) (lendin
     began (course.Asks a b) me = asked b a me
 
   -- the statement at a place
-  by_statement : (p : Place) (me : Private) → Goes me.part (λ s. asks_at (Some p) me s) (λ m. executes store serving lending p me m)
+  by_statement : (p : Place) (me : Private) → Goes me.part (λ s. asks_at ways (Some p) me s) (λ m. executes ways store serving lending p me m)
   unfolding over asks_over
   by_statement p me = record {
     alike = λ m n agree.
-        let b = begins p me (seen_by me (store m)) in
-        let same : begins p me (seen_by me (store m)) ≡ begins p me (seen_by me (store n)) =
-        ap (λ (t : TextState). begins p me (record { own = t; home = t; globals = None })) (same_text me.part (store m) (store n) (agree (object.Text me.part) (inl refl))) in
+        let b = begins ways p me (seen_by me (store m)) in
+        let same : begins ways p me (seen_by me (store m)) ≡ begins ways p me (seen_by me (store n)) =
+        ap (λ (t : TextState). begins ways p me (record { own = t; home = t; globals = None })) (same_text me.part (store m) (store n) (agree (object.Text me.part) (inl refl))) in
         let by = (began me.part p me b.course b.me).alike m n agree in
         record {
           touches = by.touches ∙ ap (λ (x : Begun). touched_by me.part (begun_asks x) (store n)) same;
@@ -193,35 +194,35 @@ module _ {M : Type 0} (store : M → StoreState) (serving : ServingOf M) (lendin
           end = by.end ∙ ap (λ (x : Begun). (over me.part p me x.course x.me n).end) same;
           contents = λ o i. by.contents o i ∙ ap (λ (x : Begun). content (store (over me.part p me x.course x.me n).after) o) same;
         };
-    others = λ m o out. let b = begins p me (seen_by me (store m)) in (began me.part p me b.course b.me).others m o out;
-    within = λ m o i. let b = begins p me (seen_by me (store m)) in (began me.part p me b.course b.me).within m o i;
+    others = λ m o out. let b = begins ways p me (seen_by me (store m)) in (began me.part p me b.course b.me).others m o out;
+    within = λ m o i. let b = begins ways p me (seen_by me (store m)) in (began me.part p me b.course b.me).within m o i;
   }
 
   -- the six rules
-  by_place : (x : Option Place) (me : Private) → Goes me.part (λ s. asks_at x me s) (λ m. runs_or_reads store serving lending x me m)
+  by_place : (x : Option Place) (me : Private) → Goes me.part (λ s. asks_at ways x me s) (λ m. runs_or_reads ways store serving lending x me m)
   by_place None me = by_line me
   by_place (Some p) me = by_statement p me
 
-  by_number : (x : Option (ℕ × Option (List ℕ))) (me : Private) → Goes me.part (λ s. asks_to_enter x me s) (λ m. enters_or_goes_on store serving lending x me m)
+  by_number : (x : Option (ℕ × Option (List ℕ))) (me : Private) → Goes me.part (λ s. asks_to_enter ways x me s) (λ m. enters_or_goes_on ways store serving lending x me m)
   by_number (Some line) me = by_answer me (puts_numbered line) (λ a. put_by a me)
   by_number None me = by_place me.place me
 
-  by_literal : (x : Option (List ℕ)) (me : Private) → Goes me.part (λ s. asks_to_type x me s) (λ m. types_or_goes_on store serving lending x me m)
+  by_literal : (x : Option (List ℕ)) (me : Private) → Goes me.part (λ s. asks_to_type ways x me s) (λ m. types_or_goes_on ways store serving lending x me m)
   by_literal (Some text) me = by_answer me (access.Insert me.term text) (λ a. typed_by_key a me)
   by_literal None me = by_number me.numbered me
 
-  by_output : (x : Option (List ℕ × List ℕ)) (me : Private) → Goes me.part (λ s. asks_to_show x me s) (λ m. shows_or_goes_on store serving lending x me m)
+  by_output : (x : Option (List ℕ × List ℕ)) (me : Private) → Goes me.part (λ s. asks_to_show ways x me s) (λ m. shows_or_goes_on ways store serving lending x me m)
   by_output (Some shown) me =
       let a = access.Show me.term (on_own_line me.term_column shown.1) in by_answer me a (λ x. shown_by a x me)
   by_output None me = by_literal me.literal me
 
-  by_acting : (me : Private) → Goes me.part (λ s. asks_as_it_acts me s) (λ m. acts store serving lending me m)
+  by_acting : (me : Private) → Goes me.part (λ s. asks_as_it_acts ways me s) (λ m. acts ways store serving lending me m)
   by_acting me = by_output me.pending me
 
-  by_halt : (me : Private) → Goes me.part (λ s. asks_unless_halted me s) (λ m. halts_or_acts store serving lending me m)
+  by_halt : (me : Private) → Goes me.part (λ s. asks_unless_halted ways me s) (λ m. halts_or_acts ways store serving lending me m)
   by_halt me = by_test me.part (is_ready me) _ _ _ _ (by_acting (record me { halt = false })) (by_itself me.part me.part (halted me))
 
-  pub steps_are_local : StepsAreLocal store serving lending
+  pub steps_are_local : StepsAreLocal ways store serving lending
   steps_are_local me =
       by_test me.part me.reset _ _ _ _ (by_itself me.part me.part (resets me))
       (by_test me.part me.halt _ _ _ _ (by_halt me) (by_acting me))

@@ -37,9 +37,8 @@ use Rattle.b2_access.specs.declared.planned.Planned.{Planned}
 use Rattle.b2_access.specs.declared.planned.Planned.TheVariants as planned
 use Rattle.b2_access.specs.declared.private.Private.{Private}
 use Rattle.b2_access.proofs.Choice.{either}
-use Rattle.b2_stmt.proofs.HomesKept as stmt_homes
+use Rattle.b2_language.specs.Languages.{AreLawful, Ways}
 use Rattle.b2_stmt_io.specs.Marks.{typed_by_mark}
-use Rattle.b2_stmt_io.proofs.HomesKept as stmt_io_homes
 use Rattle.b2_machine.specs.Endings.{Ending, counts, repeats}
 use Rattle.b2_machine.specs.Keys.{called_at, calls_where, pressed_by}
 use Rattle.b2_machine.specs.Listed.{range_listed, lists}
@@ -59,7 +58,7 @@ use Rattle.b2_stmt_io.specs.Showing.{shown}
 true_is_false : true ≡ false → ⊥
 true_is_false h = cc
 
-module _ (among : ℕ → Bool) where
+module _ (ways : Ways) (lawful : AreLawful ways) (among : ℕ → Bool) where
   abbrev Within : Private → Type 0
   Within me = IsWithin among me
 
@@ -181,21 +180,20 @@ module _ (among : ℕ → Bool) where
   listed_in true range me s w = (w, tt)
   listed_in false range me s w = (w, show_marks_none me.term (range_listed range s.own.lines))
 
-  planned_in : (b : Builder) (p : Place) (me : Private) (s : SeenLent) → Within me → PlanningIn (plan_by b p me s)
+  planned_in : (b : Builder) (p : Place) (me : Private) (s : SeenLent) → Within me → PlanningIn (plan_by ways b p me s)
   planned_in (builder.Listing from to) p me s w = listed_in (is_some p.line) (from, to) me s w
-  planned_in builder.Control p me s w = stmt_homes.plans_within among me s w
-  planned_in builder.Terminal p me s w = stmt_io_homes.plans_within among me s w
+  planned_in (builder.Language r) p me s w = lawful.plans_within r among me s w
   planned_in builder.Nobody p me s w = (w, tt)
 
   begun_in : (x : Planned) (b : Builder) (p : Place) (me : Private) (home : Lines) → among p.home ≡ true → PlannedIn among x → Within me → Within (begun_by x b p me home).me
   begun_in (planned.Done o) b p me home h k w = ends_in counts o p me home h k w
   begun_in (planned.Ask a) b p me home h k w = w
 
-  begins_in : (u : Option Statement) (p : Place) (me : Private) (s : SeenLent) → among p.home ≡ true → Within me → Within (begins_where u p me s).me
+  begins_in : (u : Option Statement) (p : Place) (me : Private) (s : SeenLent) → among p.home ≡ true → Within me → Within (begins_where ways u p me s).me
   begins_in None p me s h w = readied _ me w
   begins_in (Some u) p me s h w =
-      let x = planned_in (builder_of u) p me s w in
-      begun_in (plan_by (builder_of u) p me s).planned (builder_of u) p (plan_by (builder_of u) p me s).me s.home.lines h x.1 x.0
+      let x = planned_in (builder_of ways u) p me s w in
+      begun_in (plan_by ways (builder_of ways u) p me s).planned (builder_of ways u) p (plan_by ways (builder_of ways u) p me s).me s.home.lines h x.1 x.0
 
   abbrev FinishingIn : Finishing → Type 0
   FinishingIn x = IsWithin among x.me × OutcomeIn among x.outcome
@@ -204,16 +202,15 @@ module _ (among : ℕ → Bool) where
   show_ended (access.Show term bytes) answer.Done me w = (record { part = w.part; place = w.place; kept = w.kept; frames = w.frames }, tt)
   show_ended x a me w = (w, tt)
 
-  finish_in : (b : Builder) (x : Access) (a : Answer) (me : Private) (s : SeenLent) → Within me → FinishingIn (finish_by b x a me s)
+  finish_in : (b : Builder) (x : Access) (a : Answer) (me : Private) (s : SeenLent) → Within me → FinishingIn (finish_by ways b x a me s)
   finish_in (builder.Listing from to) x a me s w = show_ended x a me w
-  finish_in builder.Control x a me s w = stmt_homes.finishes_within among x a me s w
-  finish_in builder.Terminal x a me s w = stmt_io_homes.finishes_within among x a me s w
+  finish_in (builder.Language r) x a me s w = lawful.finishes_within r among x a me s w
   finish_in builder.Nobody x a me s w = (w, tt)
 
-  finished_in : (b : Builder) (x : Access) (a : Answer) (p : Place) (me : Private) (s : SeenLent) → among p.home ≡ true → Within me → EndIn (finishes b x a p me s)
+  finished_in : (b : Builder) (x : Access) (a : Answer) (p : Place) (me : Private) (s : SeenLent) → among p.home ≡ true → Within me → EndIn (finishes ways b x a p me s)
   finished_in b x a p me s h w =
       let y = finish_in b x a me s w in
-      ends_in (repeats a) (finish_by b x a me s).outcome p (finish_by b x a me s).me s.home.lines h y.1 y.0
+      ends_in (repeats a) (finish_by ways b x a me s).outcome p (finish_by ways b x a me s).me s.home.lines h y.1 y.0
 
   module _ {M : Type 0} (store : M → StoreState) (serving : ServingOf M) (lending : Loan M) where
     -- after a step, and whoever asked
@@ -229,39 +226,39 @@ module _ (among : ℕ → Bool) where
     read_in (answer.Special n) me m w = pressed_in (typed_by_mark n (text_in (store m) me.part).lines) (first_opening (is_mark n) (text_in (store m) me.part).lines) me w
     read_in x me m w = w
 
-    carried_in : (c : Course) (p : Place) (me : Private) (m : M) → among p.home ≡ true → Within me → Within (carries_out store serving lending c p me m).me
+    carried_in : (c : Course) (p : Place) (me : Private) (m : M) → among p.home ≡ true → Within me → Within (carries_out ways store serving lending c p me m).me
     carried_in (course.Ended e) p me m h w = w
     carried_in (course.Asks a b) p me m h w = finished_in b a (serving m me.part a).answer p me (seen_by me (store (serving m me.part a).after)) h w
 
-    at_place : (x : Option Place) (me : Private) (m : M) → PlaceIn among x → Within me → StepIn (runs_or_reads store serving lending x me m) (asks_at x me (store m))
+    at_place : (x : Option Place) (me : Private) (m : M) → PlaceIn among x → Within me → StepIn (runs_or_reads ways store serving lending x me m) (asks_at ways x me (store m))
     at_place None me m h w = (read_in (serving m me.part (access.ReadLine me.term)).answer me (serving m me.part (access.ReadLine me.term)).after w, w.part)
     at_place (Some p) me m h w =
-        let b = begins p me (seen_by me (store m)) in
+        let b = begins ways p me (seen_by me (store m)) in
         let x = begins_in (statement_placed p me.immediate (seen_by me (store m)).home.lines) p me (seen_by me (store m)) h w in
         (carried_in b.course p b.me (lent store serving lending me m) h x, x.part)
 
-    at_number : (x : Option (ℕ × Option (List ℕ))) (me : Private) (m : M) → Within me → StepIn (enters_or_goes_on store serving lending x me m) (asks_to_enter x me (store m))
+    at_number : (x : Option (ℕ × Option (List ℕ))) (me : Private) (m : M) → Within me → StepIn (enters_or_goes_on ways store serving lending x me m) (asks_to_enter ways x me (store m))
     at_number (Some line) me m w = (put_in _ me w, w.part)
     at_number None me m w = at_place me.place me m w.place w
 
-    at_literal : (x : Option (List ℕ)) (me : Private) (m : M) → Within me → StepIn (types_or_goes_on store serving lending x me m) (asks_to_type x me (store m))
+    at_literal : (x : Option (List ℕ)) (me : Private) (m : M) → Within me → StepIn (types_or_goes_on ways store serving lending x me m) (asks_to_type ways x me (store m))
     at_literal (Some text) me m w = (typed_in _ me w, w.part)
     at_literal None me m w = at_number me.numbered me m w
 
-    at_output : (x : Option (List ℕ × List ℕ)) (me : Private) (m : M) → Within me → StepIn (shows_or_goes_on store serving lending x me m) (asks_to_show x me (store m))
+    at_output : (x : Option (List ℕ × List ℕ)) (me : Private) (m : M) → Within me → StepIn (shows_or_goes_on ways store serving lending x me m) (asks_to_show ways x me (store m))
     at_output (Some text) me m w = (shown_in (access.Show me.term (on_own_line me.term_column text.1)) _ me w, w.part)
     at_output None me m w = at_literal me.literal me m w
 
-    at_halt : (me : Private) (m : M) → Within me → StepIn (halts_or_acts store serving lending me m) (asks_unless_halted me (store m))
+    at_halt : (me : Private) (m : M) → Within me → StepIn (halts_or_acts ways store serving lending me m) (asks_unless_halted ways me (store m))
     at_halt me m w =
         by_test (is_ready me) _ _ _ _
         (at_output me.pending (record me { halt = false }) m (record { part = w.part; place = w.place; kept = w.kept; frames = w.frames }))
         (halted_in me w, w.part)
 
-    step_in : (me : Private) (m : M) → Within me → StepIn (step store serving lending me m) (asking me (store m))
+    step_in : (me : Private) (m : M) → Within me → StepIn (step ways store serving lending me m) (asking ways me (store m))
     step_in me m w =
         by_test me.reset _ _ _ _ (reset_in me w, w.part)
         (by_test me.halt _ _ _ _ (at_halt me m w) (at_output me.pending me m w))
 
-pub steps_stay_within : {M : Type 0} (store : M → StoreState) (serving : ServingOf M) (lending : Loan M) → StepsStayWithin store serving lending
-steps_stay_within store serving lending among me m w = step_in among store serving lending me m w
+pub steps_stay_within : (ways : Ways) (lawful : AreLawful ways) {M : Type 0} (store : M → StoreState) (serving : ServingOf M) (lending : Loan M) → StepsStayWithin ways store serving lending
+steps_stay_within ways lawful store serving lending among me m w = step_in ways lawful among store serving lending me m w

@@ -29,8 +29,7 @@ use Rattle.b2_access.specs.declared.planned.Planned.TheVariants as planned
 use Rattle.b2_access.specs.declared.private.Private.{Private}
 use Rattle.b2_access.proofs.Choice.{either}
 use Rattle.b2_access.proofs.OwnTerminal.{names_none, names_own}
-use Rattle.b2_stmt.proofs.KeptPlaces as stmt
-use Rattle.b2_stmt_io.proofs.KeptPlaces as stmt_io
+use Rattle.b2_language.specs.Languages.{AreLawful, Ways}
 use Rattle.b2_stmt_io.specs.Marks.{typed_by_mark}
 use Rattle.b2_stmt_io.specs.Showing.{shown}
 use Rattle.b2_machine.specs.Endings.{counts, repeats}
@@ -114,11 +113,10 @@ listed_at : (b : Bool) (range : ℕ × ℕ) (me : Private) (s : SeenLent) → Pl
 listed_at true range me s = (refl, tt)
 listed_at false range me s = (refl, names_own me.term (access.Show me.term (range_listed range s.own.lines)) refl)
 
-planned_at : (b : Builder) (p : Place) (me : Private) (s : SeenLent) → PlanningAt me.term (plan_by b p me s)
-planned_at (builder.Listing from to) p me s = listed_at (is_some p.line) (from, to) me s
-planned_at builder.Control p me s = stmt.plans_at_terminal me s
-planned_at builder.Terminal p me s = stmt_io.plans_at_terminal me s
-planned_at builder.Nobody p me s = (refl, tt)
+planned_at : (ways : Ways) (lawful : AreLawful ways) (b : Builder) (p : Place) (me : Private) (s : SeenLent) → PlanningAt me.term (plan_by ways b p me s)
+planned_at ways lawful (builder.Listing from to) p me s = listed_at (is_some p.line) (from, to) me s
+planned_at ways lawful (builder.Language r) p me s = lawful.plans_at_terminal r me s
+planned_at ways lawful builder.Nobody p me s = (refl, tt)
 
 abbrev BegunAt : ℕ → Begun → Type 0
 BegunAt t b = (b.me.term ≡ t) × AskedAt t (access_asked b.course)
@@ -127,29 +125,28 @@ begun_at : (t : ℕ) (x : Planned) (b : Builder) (p : Place) (me : Private) (hom
 begun_at t (planned.Done o) b p me home is h = (ended_stays counts o p me home ∙ is, tt)
 begun_at t (planned.Ask a) b p me home is h = (is, h)
 
-begins_at : (u : Option Statement) (p : Place) (me : Private) (s : SeenLent) → BegunAt me.term (begins_where u p me s)
-begins_at None p me s = (refl, tt)
-begins_at (Some u) p me s =
-    let x = plan_by (builder_of u) p me s in
-    let h = planned_at (builder_of u) p me s in
-    begun_at me.term x.planned (builder_of u) p x.me s.home.lines h.0 h.1
+begins_at : (ways : Ways) (lawful : AreLawful ways) (u : Option Statement) (p : Place) (me : Private) (s : SeenLent) → BegunAt me.term (begins_where ways u p me s)
+begins_at ways lawful None p me s = (refl, tt)
+begins_at ways lawful (Some u) p me s =
+    let x = plan_by ways (builder_of ways u) p me s in
+    let h = planned_at ways lawful (builder_of ways u) p me s in
+    begun_at me.term x.planned (builder_of ways u) p x.me s.home.lines h.0 h.1
 
 list_stays : (x : Access) (a : Answer) (me : Private) → SameTerminal me (shown x a me).me
 list_stays (access.Show term bytes) answer.Done me = refl
 list_stays x a me = refl
 
-finish_stays : (b : Builder) (x : Access) (a : Answer) (me : Private) (s : SeenLent) → SameTerminal me (finish_by b x a me s).me
-finish_stays (builder.Listing from to) x a me s = list_stays x a me
-finish_stays builder.Control x a me s = stmt.finishes_at_terminal x a me s
-finish_stays builder.Terminal x a me s = stmt_io.finishes_at_terminal x a me s
-finish_stays builder.Nobody x a me s = refl
+finish_stays : (ways : Ways) (lawful : AreLawful ways) (b : Builder) (x : Access) (a : Answer) (me : Private) (s : SeenLent) → SameTerminal me (finish_by ways b x a me s).me
+finish_stays ways lawful (builder.Listing from to) x a me s = list_stays x a me
+finish_stays ways lawful (builder.Language r) x a me s = lawful.finishes_at_terminal r x a me s
+finish_stays ways lawful builder.Nobody x a me s = refl
 
-finished_stays : (b : Builder) (x : Access) (a : Answer) (p : Place) (me : Private) (s : SeenLent) → SameTerminal me (finishes b x a p me s).me
-finished_stays b x a p me s =
-    let y = finish_by b x a me s in
-    ended_stays (repeats a) y.outcome p y.me s.home.lines ∙ finish_stays b x a me s
+finished_stays : (ways : Ways) (lawful : AreLawful ways) (b : Builder) (x : Access) (a : Answer) (p : Place) (me : Private) (s : SeenLent) → SameTerminal me (finishes ways b x a p me s).me
+finished_stays ways lawful b x a p me s =
+    let y = finish_by ways b x a me s in
+    ended_stays (repeats a) y.outcome p y.me s.home.lines ∙ finish_stays ways lawful b x a me s
 
-module _ {M : Type 0} (store : M → StoreState) (serving : ServingOf M) (lending : Loan M) where
+module _ (ways : Ways) (lawful : AreLawful ways) {M : Type 0} (store : M → StoreState) (serving : ServingOf M) (lending : Loan M) where
   -- after a step, and what it asked for
   abbrev StepAt : ℕ → StepEnd M → Asking → Type 0
   StepAt t e asks = (e.me.term ≡ t) × AskedAt t asks.access
@@ -163,40 +160,40 @@ module _ {M : Type 0} (store : M → StoreState) (serving : ServingOf M) (lendin
   read_stays (answer.Special n) me m = pressed_stays (typed_by_mark n (text_in (store m) me.part).lines) (first_opening (is_mark n) (text_in (store m) me.part).lines) me
   read_stays x me m = refl
 
-  carried_stays : (c : Course) (p : Place) (me : Private) (m : M) → SameTerminal me (carries_out store serving lending c p me m).me
+  carried_stays : (c : Course) (p : Place) (me : Private) (m : M) → SameTerminal me (carries_out ways store serving lending c p me m).me
   carried_stays (course.Ended e) p me m = refl
   carried_stays (course.Asks a b) p me m =
       let g = serving m me.part a in
-      finished_stays b a g.answer p me (seen_by me (store g.after))
+      finished_stays ways lawful b a g.answer p me (seen_by me (store g.after))
 
-  at_place : (x : Option Place) (me : Private) (m : M) → StepAt me.term (runs_or_reads store serving lending x me m) (asks_at x me (store m))
+  at_place : (x : Option Place) (me : Private) (m : M) → StepAt me.term (runs_or_reads ways store serving lending x me m) (asks_at ways x me (store m))
   at_place None me m =
       let g = serving m me.part (access.ReadLine me.term) in
       (read_stays g.answer me g.after, names_own me.term (access.ReadLine me.term) refl)
   at_place (Some p) me m =
-      let b = begins p me (seen_by me (store m)) in
-      let h = begins_at (statement_placed p me.immediate (seen_by me (store m)).home.lines) p me (seen_by me (store m)) in
+      let b = begins ways p me (seen_by me (store m)) in
+      let h = begins_at ways lawful (statement_placed p me.immediate (seen_by me (store m)).home.lines) p me (seen_by me (store m)) in
       (carried_stays b.course p b.me (lent store serving lending me m) ∙ h.0, h.1)
 
-  at_number : (x : Option (ℕ × Option (List ℕ))) (me : Private) (m : M) → StepAt me.term (enters_or_goes_on store serving lending x me m) (asks_to_enter x me (store m))
+  at_number : (x : Option (ℕ × Option (List ℕ))) (me : Private) (m : M) → StepAt me.term (enters_or_goes_on ways store serving lending x me m) (asks_to_enter ways x me (store m))
   at_number (Some line) me m = (put_stays (serving m me.part (puts_numbered line)).answer me, names_none me.term (puts_numbered line) refl)
   at_number None me m = at_place me.place me m
 
-  at_literal : (x : Option (List ℕ)) (me : Private) (m : M) → StepAt me.term (types_or_goes_on store serving lending x me m) (asks_to_type x me (store m))
+  at_literal : (x : Option (List ℕ)) (me : Private) (m : M) → StepAt me.term (types_or_goes_on ways store serving lending x me m) (asks_to_type ways x me (store m))
   at_literal (Some text) me m = (typed_stays (serving m me.part (access.Insert me.term text)).answer me, names_own me.term (access.Insert me.term text) refl)
   at_literal None me m = at_number me.numbered me m
 
-  at_output : (x : Option (List ℕ × List ℕ)) (me : Private) (m : M) → StepAt me.term (shows_or_goes_on store serving lending x me m) (asks_to_show x me (store m))
+  at_output : (x : Option (List ℕ × List ℕ)) (me : Private) (m : M) → StepAt me.term (shows_or_goes_on ways store serving lending x me m) (asks_to_show ways x me (store m))
   at_output (Some text) me m =
       let a = access.Show me.term (on_own_line me.term_column text.1) in
       (shown_stays a (serving m me.part a).answer me, names_own me.term a refl)
   at_output None me m = at_literal me.literal me m
 
-  at_halt : (me : Private) (m : M) → StepAt me.term (halts_or_acts store serving lending me m) (asks_unless_halted me (store m))
+  at_halt : (me : Private) (m : M) → StepAt me.term (halts_or_acts ways store serving lending me m) (asks_unless_halted ways me (store m))
   at_halt me m = by_test me.term (is_ready me) _ _ _ _ (at_output me.pending (record me { halt = false }) m) (refl, tt)
 
-  step_at : (me : Private) (m : M) → StepAt me.term (step store serving lending me m) (asking me (store m))
+  step_at : (me : Private) (m : M) → StepAt me.term (step ways store serving lending me m) (asking ways me (store m))
   step_at me m = by_test me.term me.reset _ _ _ _ (refl, tt) (by_test me.term me.halt _ _ _ _ (at_halt me m) (at_output me.pending me m))
 
-pub steps_ask_at_terminal : {M : Type 0} (store : M → StoreState) (serving : ServingOf M) (lending : Loan M) → StepsAskAtTerminal store serving lending
-steps_ask_at_terminal store serving lending me m = step_at store serving lending me m
+pub steps_ask_at_terminal : (ways : Ways) (lawful : AreLawful ways) {M : Type 0} (store : M → StoreState) (serving : ServingOf M) (lending : Loan M) → StepsAskAtTerminal ways store serving lending
+steps_ask_at_terminal ways lawful store serving lending me m = step_at ways lawful store serving lending me m

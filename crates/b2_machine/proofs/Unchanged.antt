@@ -20,15 +20,15 @@ use Rattle.b2_access.specs.declared.planned.Outcome.TheVariants as outcome
 use Rattle.b2_access.specs.declared.planned.Planned.{Planned}
 use Rattle.b2_access.specs.declared.planned.Planned.TheVariants as planned
 use Rattle.b2_access.specs.declared.private.Private.{Private}
-use Rattle.b2_stmt.proofs.Waits as stmt
-use Rattle.b2_stmt_io.proofs.Waits as stmt_io
+use Rattle.b2_language.specs.Languages.{AreLawful, Ways}
+use Rattle.b2_stmt_io.proofs.Waits.{after_shown}
 use Rattle.b2_machine.specs.Counting.{UncountedStepsChangeNothing}
 use Rattle.b2_machine.specs.Endings.{counts, ends_turn, repeats}
 use Rattle.b2_machine.specs.Listed.{lists}
 use Rattle.b2_machine.specs.Moving.{ends_by, error_place, faults, following_place, goes_to}
-use Rattle.b2_machine.specs.Readiness.{halted, reset_state, resets}
+use Rattle.b2_machine.specs.Readiness.{halted, resets}
 use Rattle.b2_machine.specs.Statements.{begins_where, begun_by, builder_of, finish_by, finishes, plan_by}
-use Rattle.b2_machine.specs.Step.{acts, by_itself, enters_or_goes_on, executes, goes_through, halts_or_acts, line_read, runs_or_reads, seen_by, shows_or_goes_on, step, text_in, types_or_goes_on}
+use Rattle.b2_machine.specs.Step.{acts, by_itself, enters_or_goes_on, executes, goes_through, halts_or_acts, line_read, runs_or_reads, seen_by, shows_or_goes_on, text_in, types_or_goes_on}
 use Rattle.b2_machine.specs.Typing.{on_own_line, put_by, shown_by, typed_by_key}
 use Rattle.b2_machine.specs.declared.ends.Stepped.{Stepped}
 use Rattle.b2_machine.specs.declared.ends.Why.TheVariants as reason
@@ -45,7 +45,7 @@ delayed (answer.Wait q) h = refl
 delayed (answer.Locked q) h = cc
 delayed (answer.Refused code) h = cc
 
-module _ (before : Private) where
+module _ (ways : Ways) (lawful : AreLawful ways) (before : Private) where
   -- a step that has ended so has changed nothing, where it doesn't count
   abbrev Unless : Stepped → Private → Type 0
   Unless e me = e.counted ≡ false → me ≡ before
@@ -102,35 +102,33 @@ module _ (before : Private) where
   listed true range s = tt
   listed false range s = refl
 
-  plans : (b : Builder) (p : Place) (s : SeenLent) → UnchangedIfAsks before (plan_by b p before s).me (plan_by b p before s).planned
+  plans : (b : Builder) (p : Place) (s : SeenLent) → UnchangedIfAsks before (plan_by ways b p before s).me (plan_by ways b p before s).planned
   plans (builder.Listing from to) p s = listed (is_some p.line) (from, to) s
-  plans builder.Control p s = stmt.plans_before_changes before s
-  plans builder.Terminal p s = stmt_io.plans_before_changes before s
+  plans (builder.Language r) p s = lawful.plans_before_changes r before s
   plans builder.Nobody p s = tt
 
-  finished : (b : Builder) (x : Access) (a : Answer) (me : Private) (s : SeenLent) → delays a ≡ true → (finish_by b x a me s).me ≡ me
-  finished (builder.Listing from to) x a me s h = stmt_io.after_shown x a me h
-  finished builder.Control x a me s h = stmt.finishes_unchanged x a me s h
-  finished builder.Terminal x a me s h = stmt_io.finishes_unchanged x a me s h
+  finished : (b : Builder) (x : Access) (a : Answer) (me : Private) (s : SeenLent) → delays a ≡ true → (finish_by ways b x a me s).me ≡ me
+  finished (builder.Listing from to) x a me s h = after_shown x a me h
+  finished (builder.Language r) x a me s h = lawful.finishes_unchanged r x a me s h
   finished builder.Nobody x a me s h = refl
 
-  finishing : (b : Builder) (x : Access) (a : Answer) (p : Place) (me : Private) (s : SeenLent) → me ≡ before → Unless (finishes b x a p me s).end (finishes b x a p me s).me
+  finishing : (b : Builder) (x : Access) (a : Answer) (p : Place) (me : Private) (s : SeenLent) → me ≡ before → Unless (finishes ways b x a p me s).end (finishes ways b x a p me s).me
   finishing b x a p me s same =
-      let f = finish_by b x a me s in
+      let f = finish_by ways b x a me s in
       ended (repeats a) f.outcome p f.me s.home.lines (λ h. finished b x a me s (delayed a h) ∙ same)
 
   module _ {M : Type 0} (store : M → StoreState) (serving : ServingOf M) (lending : Loan M) where
     begun : (x : Planned) (b : Builder) (p : Place) (me : Private) (home : Lines) (m : M) → UnchangedIfAsks before me x
-        → Unless (goes_through store serving lending (begun_by x b p me home) p m).end (goes_through store serving lending (begun_by x b p me home) p m).me
+        → Unless (goes_through ways store serving lending (begun_by x b p me home) p m).end (goes_through ways store serving lending (begun_by x b p me home) p m).me
     begun (planned.Done o) b p me home m same = ended counts o p me home (λ h. cc)
     begun (planned.Ask a) b p me home m same = let g = serving m me.part a in finishing b a g.answer p me (seen_by me (store g.after)) same
 
     unit : (o : Option Statement) (p : Place) (s : SeenLent) (m : M)
-        → Unless (goes_through store serving lending (begins_where o p before s) p m).end (goes_through store serving lending (begins_where o p before s) p m).me
+        → Unless (goes_through ways store serving lending (begins_where ways o p before s) p m).end (goes_through ways store serving lending (begins_where ways o p before s) p m).me
     unit None p s m h = cc
-    unit (Some u) p s m h = let x = plan_by (builder_of u) p before s in begun x.planned (builder_of u) p x.me s.home.lines m (plans (builder_of u) p s) h
+    unit (Some u) p s m h = let x = plan_by ways (builder_of ways u) p before s in begun x.planned (builder_of ways u) p x.me s.home.lines m (plans (builder_of ways u) p s) h
 
-    executed : (p : Place) (m : M) → Unless (executes store serving lending p before m).end (executes store serving lending p before m).me
+    executed : (p : Place) (m : M) → Unless (executes ways store serving lending p before m).end (executes ways store serving lending p before m).me
     executed p m = unit (statement_placed p before.immediate (text_in (store m) before.part).lines) p (seen_by before (store m)) (lending before.part before.part at.None m None)
 
     read : (a : Answer) (m : M) → Unless (line_read store serving lending a before m).end (line_read store serving lending a before m).me
@@ -143,39 +141,39 @@ module _ (before : Private) where
     read (answer.Locked q) m h = refl
     read (answer.Refused code) m h = refl
 
-    run : (o : Option Place) (m : M) → Unless (runs_or_reads store serving lending o before m).end (runs_or_reads store serving lending o before m).me
+    run : (o : Option Place) (m : M) → Unless (runs_or_reads ways store serving lending o before m).end (runs_or_reads ways store serving lending o before m).me
     run None m = let g = serving m before.part (access.ReadLine before.term) in read g.answer g.after
     run (Some p) m = executed p m
 
-    enter : (o : Option (ℕ × Option (List ℕ))) (m : M) → Unless (enters_or_goes_on store serving lending o before m).end (enters_or_goes_on store serving lending o before m).me
+    enter : (o : Option (ℕ × Option (List ℕ))) (m : M) → Unless (enters_or_goes_on ways store serving lending o before m).end (enters_or_goes_on ways store serving lending o before m).me
     enter None m = run before.place m
     enter (Some line) m = put _
 
-    type_ : (o : Option (List ℕ)) (m : M) → Unless (types_or_goes_on store serving lending o before m).end (types_or_goes_on store serving lending o before m).me
+    type_ : (o : Option (List ℕ)) (m : M) → Unless (types_or_goes_on ways store serving lending o before m).end (types_or_goes_on ways store serving lending o before m).me
     type_ None m = enter before.numbered m
     type_ (Some text) m = typed _
 
-    show : (o : Option (List ℕ × List ℕ)) (m : M) → Unless (shows_or_goes_on store serving lending o before m).end (shows_or_goes_on store serving lending o before m).me
+    show : (o : Option (List ℕ × List ℕ)) (m : M) → Unless (shows_or_goes_on ways store serving lending o before m).end (shows_or_goes_on ways store serving lending o before m).me
     show None m = type_ before.literal m
     show (Some bytes) m = shown before.term (on_own_line before.term_column bytes.1) _
 
-module _ {M : Type 0} (store : M → StoreState) (serving : ServingOf M) (lending : Loan M) where
+module _ (ways : Ways) (lawful : AreLawful ways) {M : Type 0} (store : M → StoreState) (serving : ServingOf M) (lending : Loan M) where
   -- but for the flag of a halt
   abbrev ButForHalt : Private → Stepped → Private → Type 0
   ButForHalt me e after = e.counted ≡ false → record after { halt = me.halt } ≡ me
 
-  acted : (me : Private) (m : M) → ButForHalt me (acts store serving lending me m).end (acts store serving lending me m).me
-  acted me m h = ap (λ (p : Private). record p { halt = me.halt }) (show me store serving lending me.pending m h)
+  acted : (me : Private) (m : M) → ButForHalt me (acts ways store serving lending me m).end (acts ways store serving lending me m).me
+  acted me m h = ap (λ (p : Private). record p { halt = me.halt }) (show ways lawful me store serving lending me.pending m h)
 
   halt : (b : Bool) (me : Private) (m : M)
-      → ButForHalt me (if b then acts store serving lending (record me { halt = false }) m else by_itself store serving lending (halted me) m).end
-      (if b then acts store serving lending (record me { halt = false }) m else by_itself store serving lending (halted me) m).me
-  halt true me m h = let ready = record me { halt = false } in ap (λ (p : Private). record p { halt = me.halt }) (show ready store serving lending me.pending m h)
+      → ButForHalt me (if b then acts ways store serving lending (record me { halt = false }) m else by_itself store serving lending (halted me) m).end
+      (if b then acts ways store serving lending (record me { halt = false }) m else by_itself store serving lending (halted me) m).me
+  halt true me m h = let ready = record me { halt = false } in ap (λ (p : Private). record p { halt = me.halt }) (show ways lawful ready store serving lending me.pending m h)
   halt false me m h = cc
 
   act : (b : Bool) (me : Private) (m : M)
-      → ButForHalt me (if b then halts_or_acts store serving lending me m else acts store serving lending me m).end
-      (if b then halts_or_acts store serving lending me m else acts store serving lending me m).me
+      → ButForHalt me (if b then halts_or_acts ways store serving lending me m else acts ways store serving lending me m).end
+      (if b then halts_or_acts ways store serving lending me m else acts ways store serving lending me m).me
   act true me m = halt (is_ready me) me m
   act false me m = acted me m
 
@@ -184,10 +182,10 @@ module _ {M : Type 0} (store : M → StoreState) (serving : ServingOf M) (lendin
   reset_counts false = refl
 
   any : (b : Bool) (me : Private) (m : M)
-      → ButForHalt me (if b then by_itself store serving lending (resets me) m else (if me.halt then halts_or_acts store serving lending me m else acts store serving lending me m)).end
-      (if b then by_itself store serving lending (resets me) m else (if me.halt then halts_or_acts store serving lending me m else acts store serving lending me m)).me
+      → ButForHalt me (if b then by_itself store serving lending (resets me) m else (if me.halt then halts_or_acts ways store serving lending me m else acts ways store serving lending me m)).end
+      (if b then by_itself store serving lending (resets me) m else (if me.halt then halts_or_acts ways store serving lending me m else acts ways store serving lending me m)).me
   any true me m h = let counted = reset_counts (is_ready me) in cc
   any false me m h = act me.halt me m h
 
-  pub uncounted_steps_change_nothing : UncountedStepsChangeNothing store serving lending
+  pub uncounted_steps_change_nothing : UncountedStepsChangeNothing ways store serving lending
   uncounted_steps_change_nothing me m h = any me.reset me m h

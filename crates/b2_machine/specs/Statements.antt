@@ -1,5 +1,5 @@
--- What a statement plans and how it finishes, by the crate that builds it.
-use Rattle.std.specs.Prelude.{◌==◌, ◌&&◌, not, Bool, Option, Some, None, is_some, if◌then◌else◌}
+-- What a statement plans and how it finishes, by who executes it.
+use Rattle.std.specs.Prelude.{◌==◌, Option, Some, None, is_some, if◌then◌else◌}
 use Rattle.b2_base.specs.declared.codes.TheConstants.{S27_LEFT_OUT}
 use Rattle.b2_atom.specs.Tree.{names_global}
 use Rattle.b2_atom.specs.declared.rows.TheConstants as row
@@ -14,9 +14,7 @@ use Rattle.b2_access.specs.declared.planned.Outcome.TheVariants as outcome
 use Rattle.b2_access.specs.declared.planned.Planned.{Planned}
 use Rattle.b2_access.specs.declared.planned.Planned.TheVariants as planned
 use Rattle.b2_access.specs.declared.private.Private.{Private}
-use Rattle.b2_stmt.specs.Clearing.{asks_access}
-use Rattle.b2_stmt.specs.Plan as stmt
-use Rattle.b2_stmt_io.specs.Plan as stmt_io
+use Rattle.b2_language.specs.Languages.{Ways}
 use Rattle.b2_stmt_io.specs.Showing.{shown}
 use Rattle.b2_machine.specs.Endings.{Ending, counts, repeats}
 use Rattle.b2_machine.specs.Listed.{lists, named_range}
@@ -28,31 +26,24 @@ use Rattle.b2_machine.specs.declared.statements.Course.{Course}
 use Rattle.b2_machine.specs.declared.statements.Course.TheVariants as course
 
 -- who executes a statement; nobody does yet where its row isn't built or an `@` name stands in it
-abbrev pub builder_of : Statement → Builder
-builder_of u =
+abbrev pub builder_of : Ways → Statement → Builder
+builder_of ways u =
     if names_global u.tree then builder.Nobody
     else (if u.row == row.LIST then builder.Listing (named_range u.tree).0 (named_range u.tree).1
-    else (if stmt.is_built u.row then builder.Control
-    else (if stmt_io.is_built u.row then builder.Terminal
-    else builder.Nobody)))
-
--- whether a statement ends without an access, and the crate of control executes it
-abbrev pub ends_at_once : Statement → Bool
-ends_at_once u = not (names_global u.tree) && stmt.is_built u.row && not (asks_access u.row)
+    else (if ways.built u.row then builder.Language u.row
+    else builder.Nobody))
 
 -- what the statement at a place plans
-abbrev pub plan_by : Builder → Place → Private → SeenLent → Planning
-plan_by (builder.Listing from to) p me s = lists (is_some p.line) (from, to) me s
-plan_by builder.Control p me s = stmt.plan me s
-plan_by builder.Terminal p me s = stmt_io.plan me s
-plan_by builder.Nobody p me s = done s (stays me (outcome.Failed S27_LEFT_OUT))
+abbrev pub plan_by : Ways → Builder → Place → Private → SeenLent → Planning
+plan_by ways (builder.Listing from to) p me s = lists (is_some p.line) (from, to) me s
+plan_by ways (builder.Language r) p me s = ways.plan r me s
+plan_by ways builder.Nobody p me s = done s (stays me (outcome.Failed S27_LEFT_OUT))
 
 -- how it finishes, by the answer to its access
-abbrev pub finish_by : Builder → Access → Answer → Private → SeenLent → Finishing
-finish_by (builder.Listing from to) x a me s = finished s (shown x a me)
-finish_by builder.Control x a me s = stmt.finish x a me s
-finish_by builder.Terminal x a me s = stmt_io.finish x a me s
-finish_by builder.Nobody x a me s = finished s (stays me outcome.Repeat)
+abbrev pub finish_by : Ways → Builder → Access → Answer → Private → SeenLent → Finishing
+finish_by ways (builder.Listing from to) x a me s = finished s (shown x a me)
+finish_by ways (builder.Language r) x a me s = ways.finish r x a me s
+finish_by ways builder.Nobody x a me s = finished s (stays me outcome.Repeat)
 
 -- what became of a statement that began: the step has ended, or an access is asked for
 pub record Begun : Type 0 where
@@ -70,17 +61,17 @@ abbrev pub begun : Planning → Builder → Place → Lines → Begun
 begun x b p home = begun_by x.planned b p x.me home
 
 -- a statement that isn't there ends the text or the immediate line
-abbrev pub begins_where : Option Statement → Place → Private → SeenLent → Begun
-begins_where None p me s = has_ended (rests me)
-begins_where (Some u) p me s = begun (plan_by (builder_of u) p me s) (builder_of u) p s.home.lines
+abbrev pub begins_where : Ways → Option Statement → Place → Private → SeenLent → Begun
+begins_where ways None p me s = has_ended (rests me)
+begins_where ways (Some u) p me s = begun (plan_by ways (builder_of ways u) p me s) (builder_of ways u) p s.home.lines
 
 -- the statement at a place begins
-abbrev pub begins : Place → Private → SeenLent → Begun
-begins p me s = begins_where (statement_placed p me.immediate s.home.lines) p me s
+abbrev pub begins : Ways → Place → Private → SeenLent → Begun
+begins ways p me s = begins_where ways (statement_placed p me.immediate s.home.lines) p me s
 
 -- and ends by the answer to its access
 abbrev pub ends_with : Finishing → Answer → Place → Lines → Ending
 ends_with f a p home = ends_by (repeats a) f.outcome p f.me home
 
-abbrev pub finishes : Builder → Access → Answer → Place → Private → SeenLent → Ending
-finishes b x a p me s = ends_with (finish_by b x a me s) a p s.home.lines
+abbrev pub finishes : Ways → Builder → Access → Answer → Place → Private → SeenLent → Ending
+finishes ways b x a p me s = ends_with (finish_by ways b x a me s) a p s.home.lines

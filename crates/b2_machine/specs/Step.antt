@@ -1,4 +1,4 @@
--- A step of a partition over a shared store: the first of six rules that applies. It makes at most one access.
+-- A step of a partition of any language over a shared store: the first of six rules that applies. It makes at most one access.
 use Rattle.std.specs.Prelude.{false, ℕ, List, [], Option, Some, None, unwrap_or, if◌then◌else◌}
 use Rattle.b2_flow.specs.declared.frame.Place.{Place}
 use Rattle.b2_text.specs.Program.{TextState}
@@ -14,6 +14,7 @@ use Rattle.b2_access.specs.declared.accesses.Answer.TheVariants as answer
 use Rattle.b2_access.specs.declared.lending.At.TheVariants as at
 use Rattle.b2_access.specs.declared.objects.Object.TheVariants as object
 use Rattle.b2_access.specs.declared.private.Private.{Private}
+use Rattle.b2_language.specs.Languages.{Ways}
 use Rattle.b2_machine.specs.Endings.{Ending, again, carries_on}
 use Rattle.b2_machine.specs.Keys.{pressed}
 use Rattle.b2_machine.specs.Readiness.{halted, resets}
@@ -84,10 +85,11 @@ module _ {M : Type 0} (store : M → StoreState) (serving : ServingOf M) (lendin
   abbrev pub enters_line : ℕ × Option (List ℕ) → Private → M → StepEnd M
   enters_line line me m = asks_for (puts_numbered line) (λ a. put_by a me) me m
 
+module _ (ways : Ways) {M : Type 0} (store : M → StoreState) (serving : ServingOf M) (lending : Loan M) where
   -- the sixth: the statement at its place is executed. It ends at once over what is lent, or over what is lent again after
   -- the access that it planned.
   abbrev pub finishes_by : Builder → Access → Place → Private → Gives M → StepEnd M
-  finishes_by b a p me g = by_itself (finishes b a g.answer p me (seen_by me (store g.after))) (lent me g.after)
+  finishes_by b a p me g = by_itself store serving lending (finishes ways b a g.answer p me (seen_by me (store g.after))) (lent store serving lending me g.after)
 
   abbrev pub carries_out : Course → Place → Private → M → StepEnd M
   carries_out (course.Ended e) p me m = record { me = me; after = m; end = e }
@@ -97,23 +99,23 @@ module _ {M : Type 0} (store : M → StoreState) (serving : ServingOf M) (lendin
   goes_through b p m = carries_out b.course p b.me m
 
   abbrev pub executes : Place → Private → M → StepEnd M
-  executes p me m = goes_through (begins p me (seen_by me (store m))) p (lent me m)
+  executes p me m = goes_through (begins ways p me (seen_by me (store m))) p (lent store serving lending me m)
 
   -- the rules from the third on
   abbrev pub runs_or_reads : Option Place → Private → M → StepEnd M
-  runs_or_reads None me m = reads_line me m
+  runs_or_reads None me m = reads_line store serving lending me m
   runs_or_reads (Some p) me m = executes p me m
 
   abbrev pub enters_or_goes_on : Option (ℕ × Option (List ℕ)) → Private → M → StepEnd M
-  enters_or_goes_on (Some line) me m = enters_line line me m
+  enters_or_goes_on (Some line) me m = enters_line store serving lending line me m
   enters_or_goes_on None me m = runs_or_reads me.place me m
 
   abbrev pub types_or_goes_on : Option (List ℕ) → Private → M → StepEnd M
-  types_or_goes_on (Some text) me m = types_literal text me m
+  types_or_goes_on (Some text) me m = types_literal store serving lending text me m
   types_or_goes_on None me m = enters_or_goes_on me.numbered me m
 
   abbrev pub shows_or_goes_on : Option (List ℕ × List ℕ) → Private → M → StepEnd M
-  shows_or_goes_on (Some shown) me m = shows_pending shown.1 me m
+  shows_or_goes_on (Some shown) me m = shows_pending store serving lending shown.1 me m
   shows_or_goes_on None me m = types_or_goes_on me.literal me m
 
   abbrev pub acts : Private → M → StepEnd M
@@ -123,11 +125,11 @@ module _ {M : Type 0} (store : M → StoreState) (serving : ServingOf M) (lendin
   abbrev pub halts_or_acts : Private → M → StepEnd M
   halts_or_acts me m =
       if is_ready me then acts (record me { halt = false }) m
-      else by_itself (halted me) m
+      else by_itself store serving lending (halted me) m
 
   -- the first: a reset
   abbrev pub step : Private → M → StepEnd M
   step me m =
-      if me.reset then by_itself (resets me) m
+      if me.reset then by_itself store serving lending (resets me) m
       else (if me.halt then halts_or_acts me m
       else acts me m)

@@ -13,6 +13,7 @@ use Rattle.b2_access.specs.declared.accesses.Access.TheVariants as access
 use Rattle.b2_access.specs.declared.objects.Object.{Object}
 use Rattle.b2_access.specs.declared.objects.Object.TheVariants as object
 use Rattle.b2_access.specs.declared.private.Private.{Private}
+use Rattle.b2_language.specs.Languages.{Ways}
 use Rattle.b2_machine.specs.Statements.{Begun, begins}
 use Rattle.b2_machine.specs.Step.{StepEnd, seen_by, step}
 use Rattle.b2_machine.specs.Typing.{on_own_line, puts_numbered}
@@ -39,38 +40,38 @@ abbrev pub begun_asks : Begun → Asking
 begun_asks b = record { who = b.me.part; access = access_asked b.course }
 
 -- the sixth rule and the fourth: the statement at the place asks, or a line is read
-abbrev pub asks_at : Option Place → Private → StoreState → Asking
-asks_at None me s = asks_one (access.ReadLine me.term) me
-asks_at (Some p) me s = begun_asks (begins p me (seen_by me s))
+abbrev pub asks_at : Ways → Option Place → Private → StoreState → Asking
+asks_at ways None me s = asks_one (access.ReadLine me.term) me
+asks_at ways (Some p) me s = begun_asks (begins ways p me (seen_by me s))
 
 -- the fifth: a numbered line is put
-abbrev pub asks_to_enter : Option (ℕ × Option (List ℕ)) → Private → StoreState → Asking
-asks_to_enter (Some line) me s = asks_one (puts_numbered line) me
-asks_to_enter None me s = asks_at me.place me s
+abbrev pub asks_to_enter : Ways → Option (ℕ × Option (List ℕ)) → Private → StoreState → Asking
+asks_to_enter ways (Some line) me s = asks_one (puts_numbered line) me
+asks_to_enter ways None me s = asks_at ways me.place me s
 
 -- the fourth: a literal is typed
-abbrev pub asks_to_type : Option (List ℕ) → Private → StoreState → Asking
-asks_to_type (Some text) me s = asks_one (access.Insert me.term text) me
-asks_to_type None me s = asks_to_enter me.numbered me s
+abbrev pub asks_to_type : Ways → Option (List ℕ) → Private → StoreState → Asking
+asks_to_type ways (Some text) me s = asks_one (access.Insert me.term text) me
+asks_to_type ways None me s = asks_to_enter ways me.numbered me s
 
 -- the third: pending output is shown
-abbrev pub asks_to_show : Option (List ℕ × List ℕ) → Private → StoreState → Asking
-asks_to_show (Some shown) me s = asks_one (access.Show me.term (on_own_line me.term_column shown.1)) me
-asks_to_show None me s = asks_to_type me.literal me s
+abbrev pub asks_to_show : Ways → Option (List ℕ × List ℕ) → Private → StoreState → Asking
+asks_to_show ways (Some shown) me s = asks_one (access.Show me.term (on_own_line me.term_column shown.1)) me
+asks_to_show ways None me s = asks_to_type ways me.literal me s
 
-abbrev pub asks_as_it_acts : Private → StoreState → Asking
-asks_as_it_acts me s = asks_to_show me.pending me s
+abbrev pub asks_as_it_acts : Ways → Private → StoreState → Asking
+asks_as_it_acts ways me s = asks_to_show ways me.pending me s
 
 -- the second and the first: a halt and a reset ask for nothing
-abbrev pub asks_unless_halted : Private → StoreState → Asking
-asks_unless_halted me s = if is_ready me then asks_as_it_acts (record me { halt = false }) s else asks_nothing me
+abbrev pub asks_unless_halted : Ways → Private → StoreState → Asking
+asks_unless_halted ways me s = if is_ready me then asks_as_it_acts ways (record me { halt = false }) s else asks_nothing me
 
 -- WHAT A STEP ASKS FOR
-abbrev pub asking : Private → StoreState → Asking
-asking me s =
+abbrev pub asking : Ways → Private → StoreState → Asking
+asking ways me s =
     if me.reset then asks_nothing me
-    else (if me.halt then asks_unless_halted me s
-    else asks_as_it_acts me s)
+    else (if me.halt then asks_unless_halted ways me s
+    else asks_as_it_acts ways me s)
 
 abbrev pub touched_where : Option Access → ℕ → StoreState → List Object
 touched_where None who s = []
@@ -82,8 +83,8 @@ abbrev pub touched_by : ℕ → Asking → StoreState → List Object
 touched_by part x s = object.Text part ∷ object.Text x.who ∷ touched_where x.access x.who s
 
 -- THE OBJECTS THAT A STEP TOUCHES
-abbrev pub step_touched : Private → StoreState → List Object
-step_touched me s = touched_by me.part (asking me s) s
+abbrev pub step_touched : Ways → Private → StoreState → List Object
+step_touched ways me s = touched_by me.part (asking ways me s) s
 
 module _ {M : Type 0} (store : M → StoreState) (serving : ServingOf M) where
   abbrev pub written_where : Option Access → ℕ → M → List Object
@@ -92,10 +93,6 @@ module _ {M : Type 0} (store : M → StoreState) (serving : ServingOf M) where
 
   abbrev pub written_for : Asking → M → List Object
   written_for x m = written_where x.access x.who m
-
-  -- THOSE THAT IT WRITES, by the answer to its access
-  abbrev pub step_written : Private → M → List Object
-  step_written me m = written_for (asking me (store m)) m
 
   -- A step of a partition by what it asks for, from two meanings: the lists, the private state, the end, and the contents of what
   -- it writes are the same.
@@ -113,14 +110,19 @@ module _ {M : Type 0} (store : M → StoreState) (serving : ServingOf M) where
     pub others : (m : M) (o : Object) → (IsIn o (written_for (asks (store m)) m) → ⊥) → content (store (goes m).after) o ≡ content (store m) o
     pub within : (m : M) (o : Object) → IsIn o (written_for (asks (store m)) m) → IsIn o (touched_by part (asks (store m)) (store m))
 
+module _ (ways : Ways) {M : Type 0} (store : M → StoreState) (serving : ServingOf M) where
+  -- THOSE THAT IT WRITES, by the answer to its access
+  abbrev pub step_written : Private → M → List Object
+  step_written me m = written_for store serving (asking ways me (store m)) m
+
   -- A STEP IS LOCAL
   abbrev pub StepsAreLocal : Loan M → Type 0
-  StepsAreLocal lending = (me : Private) → GoesLocally me.part (asking me) (step store serving lending me)
+  StepsAreLocal lending = (me : Private) → GoesLocally store serving me.part (asking ways me) (step ways store serving lending me)
 
   -- A step names no partition as a home, and asks as none, but its own and those that were named before.
   abbrev pub StepsStayWithin : Loan M → Type 0
-  StepsStayWithin lending = (among : ℕ → Bool) (me : Private) (m : M) → IsWithin among me → IsWithin among (step store serving lending me m).me × (among (asking me (store m)).who ≡ true)
+  StepsStayWithin lending = (among : ℕ → Bool) (me : Private) (m : M) → IsWithin among me → IsWithin among (step ways store serving lending me m).me × (among (asking ways me (store m)).who ≡ true)
 
   -- A step asks at the terminal of its partition alone, and leaves which one that is.
   abbrev pub StepsAskAtTerminal : Loan M → Type 0
-  StepsAskAtTerminal lending = (me : Private) (m : M) → ((step store serving lending me m).me.term ≡ me.term) × AskedAt me.term (asking me (store m)).access
+  StepsAskAtTerminal lending = (me : Private) (m : M) → ((step ways store serving lending me m).me.term ≡ me.term) × AskedAt me.term (asking ways me (store m)).access

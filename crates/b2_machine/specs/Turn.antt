@@ -4,6 +4,7 @@ use Rattle.b2_access.specs.Loans.{Loan}
 use Rattle.b2_access.specs.Sharing.{ServingOf}
 use Rattle.b2_access.specs.Store.{StoreState}
 use Rattle.b2_access.specs.declared.private.Private.{Private}
+use Rattle.b2_language.specs.Languages.{Ways}
 use Rattle.b2_machine.specs.Step.{step}
 use Rattle.b2_machine.specs.declared.ends.Stepped.{Stepped}
 use Rattle.b2_machine.specs.declared.ends.Turned.{Turned}
@@ -28,12 +29,12 @@ abbrev pub unless_ended : {A : Type 0} → Option Why → (Why → A) → A → 
 unless_ended None ends carries_on = carries_on
 unless_ended (Some w) ends carries_on = ends w
 
-module _ {M : Type 0} (store : M → StoreState) (serving : ServingOf M) (lending : Loan M) where
+module _ (ways : Ways) {M : Type 0} (store : M → StoreState) (serving : ServingOf M) (lending : Loan M) where
   -- at most so many more steps, after some that counted
   unfoldable pub turn_from : ℕ → Private → M → ℕ → TurnEnd M
   turn_from zero me m steps = ended_turn steps reason.Quota me m
   turn_from (suc n) me m steps =
-      let s = step store serving lending me m in
+      let s = step ways store serving lending me m in
       unless_ended s.end.why
       (λ w. ended_turn (counted_on steps s.end) w s.me s.after)
       (turn_from n s.me s.after (counted_on steps s.end))

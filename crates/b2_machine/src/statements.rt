@@ -1,10 +1,12 @@
 // What a statement plans and how it finishes, over what is lent.
-ghost use Rattle.std.specs.Prelude.{◌≡◌, ◌<◌, true, IfOk, IfSome, Option, Some, None, is_some, option_map};
-ghost use Rattle.b2_atom.specs.Tree.{uses_in};
+ghost use Rattle.std.specs.Prelude.{◌≡◌, ◌<◌, true, false, IfOk, IfSome, Option, Some, None, is_some, option_map};
+ghost use Rattle.b2_atom.specs.Tree.{names_global, uses_in};
 ghost use Rattle.b2_rows.specs.Laws.{IsRow};
 ghost use Rattle.b2_rows.specs.Rows.{tree_at};
+ghost use Rattle.b2_vars.specs.Tables.{VarsState};
 ghost use Rattle.b2_access.specs.Lending.{globals_lent, seen_lent, SeenLent};
 ghost use Rattle.b2_access.specs.Placed.{line_named as line_of_place, statement_placed as named_at, statement_on as named_on};
+ghost use Rattle.b2_machine.specs.Listed.{lists};
 ghost use Rattle.b2_machine.specs.Statements as spec;
 ghost use Rattle.b2_machine.specs.Stays.{IsLegalCourse};
 
@@ -20,6 +22,7 @@ use b2_atom::{Atoms, rows};
 use b2_base::NoMemory;
 use b2_base::codes::{S26_PROGRAM_ONLY, S27_LEFT_OUT};
 use b2_flow::Place;
+use b2_language::Language;
 use b2_rows::RowUnit;
 use b2_text::Text;
 use std::alloc::Global;
@@ -29,10 +32,8 @@ use std::alloc::Global;
 pub enum Builder {
     /// This crate: LIST from a line to a line.
     Listing(u16, u16),
-    /// The crate of control and assignment.
-    Control,
-    /// The crate of statements at the terminal.
-    Terminal,
+    /// The language, by the row of the statement.
+    Language(u16),
     /// Nobody yet.
     Nobody,
 }
@@ -47,31 +48,29 @@ pub enum Course {
 }
 
 /// Who executes the statement of a unit.
-fn builder_of(unit: &RowUnit<'_>) -> Builder
+fn builder_of<L: Language>(unit: &RowUnit<'_>) -> Builder
     requires read { IsRow unit.now.row unit.now.bytes.now (tree_at unit.now.row unit.now.bytes.now) }
     requires uses { unit.now.uses ≡ uses_in (tree_at unit.now.row unit.now.bytes.now) }
-    ensures { result ≡ spec.builder_of (record { row = unit.now.row; tree = tree_at unit.now.row unit.now.bytes.now }) }
+    ensures { result ≡ spec.builder_of L.ways (record { row = unit.now.row; tree = tree_at unit.now.row unit.now.bytes.now }) }
 {
     if unit.uses.globals {
         Builder::Nobody
     } else if unit.row == rows::LIST {
         let (from, to) = named_range(unit.bytes);
         Builder::Listing(from, to)
-    } else if b2_stmt::is_built(unit.row) {
-        Builder::Control
-    } else if b2_stmt_io::is_built(unit.row) {
-        Builder::Terminal
+    } else if L::is_built(unit.row) {
+        Builder::Language(unit.row)
     } else {
         Builder::Nobody
     }
 }
 
 /// Who executes the statement at a place, where one is there.
-fn builder_at(me: &Private, home: &Text, place: Place) -> Option<Builder>
-    ensures { result ≡ option_map spec.builder_of (named_at place me.now.immediate home.now.lines) }
+fn builder_at<L: Language>(me: &Private, home: &Text, place: Place) -> Option<Builder>
+    ensures { result ≡ option_map (spec.builder_of L.ways) (named_at place me.now.immediate home.now.lines) }
 {
     match statement_placed(place, &me.immediate, home) {
-        Some(unit) => Some(builder_of(&unit)),
+        Some(unit) => Some(builder_of::<L>(&unit)),
         None => None,
     }
 }
@@ -85,7 +84,7 @@ fn plan_list(
     from: u16,
     to: u16,
 ) -> Result<Planned, NoMemory>
-    ensures { (s : SeenLent) → s.own ≡ own.now → IfOk result (λ p. record { me = me.now; globals = s.globals; planned = p } ≡ spec.plan_by (Builder.Listing from to) place me.now s) }
+    ensures { (s : SeenLent) → s.own ≡ own.now → IfOk result (λ p. record { me = me.now; globals = s.globals; planned = p } ≡ lists (is_some place.line) (from, to) me.now s) }
 {
     if place.line.is_some() {
         return Ok(Planned::Done(failed(S26_PROGRAM_ONLY)));
@@ -97,7 +96,7 @@ fn plan_list(
 }
 
 /// What the statement at a place plans.
-fn plan_by(
+fn plan_by<L: Language>(
     alloc: Global,
     me: &mut Private,
     lent: &mut Lent<'_>,
@@ -105,20 +104,19 @@ fn plan_by(
     place: Place,
     builder: Builder,
 ) -> Result<Planned, NoMemory>
-    ensures planned { IfOk result (λ p. record { me = me.new; globals = globals_lent lent.new; planned = p } ≡ spec.plan_by builder place me.old (seen_lent lent.old)) }
+    ensures planned { IfOk result (λ p. record { me = me.new; globals = globals_lent lent.new; planned = p } ≡ spec.plan_by L.ways builder place me.old (seen_lent lent.old)) }
     ensures same_reference { lent.new.globals.ghost_name ≡ lent.old.globals.ghost_name }
     ensures part { me.new.part ≡ me.old.part }
 {
     match builder {
         Builder::Listing(from, to) => plan_list(alloc, me, lent.own, place, from, to),
-        Builder::Control => b2_stmt::plan(alloc, me, lent, devices),
-        Builder::Terminal => b2_stmt_io::plan(alloc, me, lent, devices),
+        Builder::Language(row) => L::plan(alloc, row, me, lent, devices),
         Builder::Nobody => Ok(Planned::Done(failed(S27_LEFT_OUT))),
     }
 }
 
 /// How it finishes, by the answer to its access.
-fn finish_by(
+fn finish_by<L: Language>(
     alloc: Global,
     me: &mut Private,
     lent: &mut Lent<'_>,
@@ -126,14 +124,13 @@ fn finish_by(
     access: &Access,
     answer: &Answer,
 ) -> Result<Outcome, NoMemory>
-    ensures finished { IfOk result (λ o. record { me = me.new; globals = globals_lent lent.new; outcome = o } ≡ spec.finish_by builder access.now answer.now me.old (seen_lent lent.old)) }
+    ensures finished { IfOk result (λ o. record { me = me.new; globals = globals_lent lent.new; outcome = o } ≡ spec.finish_by L.ways builder access.now answer.now me.old (seen_lent lent.old)) }
     ensures same_reference { lent.new.globals.ghost_name ≡ lent.old.globals.ghost_name }
     ensures part { me.new.part ≡ me.old.part }
 {
     match builder {
         Builder::Listing(_, _) => Ok(b2_stmt_io::after_show(me, access, answer)),
-        Builder::Control => b2_stmt::finish(alloc, me, lent, access, answer),
-        Builder::Terminal => b2_stmt_io::finish(alloc, me, lent, access, answer),
+        Builder::Language(row) => L::finish(alloc, row, me, lent, access, answer),
         Builder::Nobody => Ok(Outcome::Repeat),
     }
 }
@@ -159,16 +156,8 @@ fn begun(
     }
 }
 
-/// Whether a statement ends without an access, and the crate of control executes it.
-fn ends_at_once(unit: &RowUnit<'_>) -> bool
-    requires { unit.now.uses ≡ uses_in (tree_at unit.now.row unit.now.bytes.now) }
-    ensures { result ≡ spec.ends_at_once (record { row = unit.now.row; tree = tree_at unit.now.row unit.now.bytes.now }) }
-{
-    !unit.uses.globals && b2_stmt::is_built(unit.row) && !b2_stmt::asks_access(unit.row)
-}
-
-/// Executes the statement of a unit at a place in a line of the program, where it ends at once.
-fn end_at_once(
+/// Executes the statement of a unit at a place in a line of the program, where the language ends it at once.
+fn end_at_once<L: Language>(
     alloc: Global,
     me: &mut Private,
     own: &Text,
@@ -176,23 +165,30 @@ fn end_at_once(
     line: &Atoms,
     unit: &RowUnit<'_>,
     place: &Place,
-) -> Result<Stepped, NoMemory>
+) -> Result<Option<Stepped>, NoMemory>
     requires stands { me.old.place ≡ Some place.now }
     requires program { is_some place.now.line ≡ true }
     requires line { line_of_place me.old.immediate home.now.lines place.now.line ≡ Some line.now }
     requires statement { Some (record { row = unit.now.row; tree = tree_at unit.now.row unit.now.bytes.now }) ≡ named_on (Some line.now) place.now.unit }
-    requires quiet { spec.ends_at_once (record { row = unit.now.row; tree = tree_at unit.now.row unit.now.bytes.now }) ≡ true }
+    requires local { names_global (tree_at unit.now.row unit.now.bytes.now) ≡ false }
     requires read { IsRow unit.now.row unit.now.bytes.now (tree_at unit.now.row unit.now.bytes.now) }
     requires few { place.now.unit < 255 }
-    ensures begun { (s : SeenLent) → s.own ≡ own.now → s.home ≡ home.now → IfOk result (λ e. spec.has_ended (record { me = me.new; end = e }) ≡ spec.begins place.now me.old s) }
+    ensures begun { (globals : Option VarsState) → IfOk result (λ e. IfSome e (λ e. spec.has_ended (record { me = me.new; end = e }) ≡ spec.begins L.ways place.now me.old (record { own = own.now; home = home.now; globals = globals }))) }
+    ensures same { IfOk result (λ e. e ≡ None → me.new ≡ me.old) }
     ensures part { me.new.part ≡ me.old.part }
 {
-    let outcome = b2_stmt::execute(alloc, me, own, home, line, unit, *place)?;
-    settle_on(alloc, me, home, line, *place, outcome)
+    let ended = L::plan_at_once(alloc, me, own, home, line, unit, place)?;
+    match ended {
+        Some(outcome) => {
+            let end = settle_on(alloc, me, home, line, *place, outcome)?;
+            Ok(Some(end))
+        }
+        None => Ok(None),
+    }
 }
 
-/// Executes the statement at a place, where it ends at once and stands in a line of the program.
-fn begin_at_once(
+/// Executes the statement at a place, where it stands in a line of the program and the language ends it at once.
+fn begin_at_once<L: Language>(
     alloc: Global,
     me: &mut Private,
     own: &Text,
@@ -200,7 +196,7 @@ fn begin_at_once(
     place: &Place,
 ) -> Result<Option<Stepped>, NoMemory>
     requires stands { me.old.place ≡ Some place.now }
-    ensures begun { (s : SeenLent) → s.own ≡ own.now → s.home ≡ home.now → IfOk result (λ e. IfSome e (λ e. spec.has_ended (record { me = me.new; end = e }) ≡ spec.begins place.now me.old s)) }
+    ensures begun { (globals : Option VarsState) → IfOk result (λ e. IfSome e (λ e. spec.has_ended (record { me = me.new; end = e }) ≡ spec.begins L.ways place.now me.old (record { own = own.now; home = home.now; globals = globals }))) }
     ensures same { IfOk result (λ e. e ≡ None → me.new ≡ me.old) }
     ensures part { me.new.part ≡ me.old.part }
 {
@@ -213,15 +209,14 @@ fn begin_at_once(
     let Some(unit) = statement_on(line.atoms, usize::from(place.unit)) else {
         return Ok(None);
     };
-    if !ends_at_once(&unit) {
+    if unit.uses.globals {
         return Ok(None);
     }
-    let end = end_at_once(alloc, me, own, home, line.atoms, &unit, place)?;
-    Ok(Some(end))
+    end_at_once::<L>(alloc, me, own, home, line.atoms, &unit, place)
 }
 
 /// The statement at a place begins, over what is lent, by who executes it.
-fn begin_by(
+fn begin_by<L: Language>(
     alloc: Global,
     me: &mut Private,
     lent: Lent<'_>,
@@ -229,20 +224,20 @@ fn begin_by(
     place: &Place,
 ) -> Result<Course, NoMemory>
     ensures legal { IfOk result IsLegalCourse }
-    ensures begun { IfOk result (λ c. record { me = me.new; course = c } ≡ spec.begins place.now me.old (seen_lent lent.entry)) }
+    ensures begun { IfOk result (λ c. record { me = me.new; course = c } ≡ spec.begins L.ways place.now me.old (seen_lent lent.entry)) }
     ensures part { me.new.part ≡ me.old.part }
 {
     let home = lent.home;
-    let Some(builder) = builder_at(me, home, *place) else {
+    let Some(builder) = builder_at::<L>(me, home, *place) else {
         return Ok(Course::Ended(become_ready_quietly(alloc, me)?));
     };
     let mut lent = lent;
-    let planned = plan_by(alloc, me, &mut lent, devices, *place, builder)?;
+    let planned = plan_by::<L>(alloc, me, &mut lent, devices, *place, builder)?;
     begun(alloc, me, home, *place, planned, builder)
 }
 
 /// The statement at a place of a partition begins, over what is lent. One that ends at once is found by one look-up.
-pub fn begin_over(
+pub fn begin_over<L: Language>(
     alloc: Global,
     me: &mut Private,
     lent: Lent<'_>,
@@ -251,18 +246,18 @@ pub fn begin_over(
 ) -> Result<Course, NoMemory>
     requires stands { me.old.place ≡ Some place.now }
     ensures legal { IfOk result IsLegalCourse }
-    ensures begun { IfOk result (λ c. record { me = me.new; course = c } ≡ spec.begins place.now me.old (seen_lent lent.entry)) }
+    ensures begun { IfOk result (λ c. record { me = me.new; course = c } ≡ spec.begins L.ways place.now me.old (seen_lent lent.entry)) }
     ensures part { me.new.part ≡ me.old.part }
 {
-    let ended = begin_at_once(alloc, me, lent.own, lent.home, place)?;
+    let ended = begin_at_once::<L>(alloc, me, lent.own, lent.home, place)?;
     match ended {
         Some(end) => Ok(Course::Ended(end)),
-        None => begin_by(alloc, me, lent, devices, place),
+        None => begin_by::<L>(alloc, me, lent, devices, place),
     }
 }
 
 /// It ends by the answer to its access, over what is lent again.
-pub fn finish_over(
+pub fn finish_over<L: Language>(
     alloc: Global,
     me: &mut Private,
     lent: Lent<'_>,
@@ -271,11 +266,11 @@ pub fn finish_over(
     access: &Access,
     answer: &Answer,
 ) -> Result<Stepped, NoMemory>
-    ensures ended { IfOk result (λ e. record { me = me.new; end = e } ≡ spec.finishes builder access.now answer.now place me.old (seen_lent lent.entry)) }
+    ensures ended { IfOk result (λ e. record { me = me.new; end = e } ≡ spec.finishes L.ways builder access.now answer.now place me.old (seen_lent lent.entry)) }
     ensures part { me.new.part ≡ me.old.part }
 {
     let home = lent.home;
     let mut lent = lent;
-    let outcome = finish_by(alloc, me, &mut lent, builder, access, answer)?;
+    let outcome = finish_by::<L>(alloc, me, &mut lent, builder, access, answer)?;
     settle(alloc, me, home, place, outcome, repeats(answer))
 }

@@ -16,6 +16,7 @@ use crate::typing::{
 use b2_access::{Access, Answer, At, DeviceTable, Object, Private, Shared};
 use b2_base::{ByteList, NoMemory, Part};
 use b2_flow::Place;
+use b2_language::Language;
 use std::alloc::Global;
 
 /// An access of a partition is served.
@@ -97,9 +98,13 @@ fn read_line<S: Shared>(alloc: Global, me: &mut Private, s: &mut S) -> Result<St
 }
 
 /// A numbered line is put into the own text; where it has to wait, it is kept.
-fn enter_line<S: Shared>(alloc: Global, me: &mut Private, s: &mut S) -> Result<Stepped, NoMemory>
+fn enter_line<L: Language, S: Shared>(
+    alloc: Global,
+    me: &mut Private,
+    s: &mut S,
+) -> Result<Stepped, NoMemory>
     requires read { IsSome me.old.numbered }
-    ensures ended { IfOk result (λ e. record { me = me.new; after = S.meaning s.new; end = e } ≡ spec.enters_or_goes_on S.store S.serving S.lending me.old.numbered me.old (S.meaning s.old)) }
+    ensures ended { IfOk result (λ e. record { me = me.new; after = S.meaning s.new; end = e } ≡ spec.enters_or_goes_on L.ways S.store S.serving S.lending me.old.numbered me.old (S.meaning s.old)) }
     ensures same { S.holds s.new ≡ S.holds s.old }
     ensures part { me.new.part ≡ me.old.part }
     ensures listed { OnOk result (KeepsAll (S.store (S.meaning s.old)) (S.store (S.meaning s.new))) }
@@ -114,7 +119,7 @@ fn enter_line<S: Shared>(alloc: Global, me: &mut Private, s: &mut S) -> Result<S
 }
 
 /// The statement at a place begins.
-fn begin<S: Shared>(
+fn begin<L: Language, S: Shared>(
     alloc: Global,
     me: &mut Private,
     s: &mut S,
@@ -124,18 +129,18 @@ fn begin<S: Shared>(
     requires stands { me.old.place ≡ Some place.now }
     requires own { IsSome (content (S.store (S.meaning s.old)) (Object.Text me.old.part)) }
     ensures legal { IfOk result IsLegalCourse }
-    ensures begun { IfOk result (λ c. record { me = me.new; course = c } ≡ begins place.now me.old (spec.seen_by me.old (S.store (S.meaning s.old)))) }
+    ensures begun { IfOk result (λ c. record { me = me.new; course = c } ≡ begins L.ways place.now me.old (spec.seen_by me.old (S.store (S.meaning s.old)))) }
     ensures lent { S.meaning s.new ≡ spec.lent S.store S.serving S.lending me.old (S.meaning s.old) }
     ensures same { S.holds s.new ≡ S.holds s.old }
     ensures part { me.new.part ≡ me.old.part }
     ensures listed { OnOk result (KeepsAll (S.store (S.meaning s.old)) (S.store (S.meaning s.new))) }
 {
     let part = me.part;
-    begin_over(alloc, me, s.lend(part, part, &At::None), d, place)
+    begin_over::<L>(alloc, me, s.lend(part, part, &At::None), d, place)
 }
 
 /// It finishes, after its access was answered.
-fn finish<S: Shared>(
+fn finish<L: Language, S: Shared>(
     alloc: Global,
     me: &mut Private,
     s: &mut S,
@@ -145,19 +150,19 @@ fn finish<S: Shared>(
     answer: Answer,
 ) -> Result<Stepped, NoMemory>
     requires own { IsSome (content (S.store (S.meaning s.old)) (Object.Text me.old.part)) }
-    ensures ended { IfOk result (λ e. record { me = me.new; after = S.meaning s.new; end = e } ≡ spec.finishes_by S.store S.serving S.lending builder access.now place me.old (record { after = S.meaning s.old; answer = answer })) }
+    ensures ended { IfOk result (λ e. record { me = me.new; after = S.meaning s.new; end = e } ≡ spec.finishes_by L.ways S.store S.serving S.lending builder access.now place me.old (record { after = S.meaning s.old; answer = answer })) }
     ensures same { S.holds s.new ≡ S.holds s.old }
     ensures part { me.new.part ≡ me.old.part }
     ensures listed { OnOk result (KeepsAll (S.store (S.meaning s.old)) (S.store (S.meaning s.new))) }
 {
     let part = me.part;
     let lent = s.lend(part, part, &At::None);
-    finish_over(alloc, me, lent, place, builder, access, &answer)
+    finish_over::<L>(alloc, me, lent, place, builder, access, &answer)
 }
 
 /// What a statement that began asked for is done.
 #[tactic(auto, using(crate::proofs::Kept::both_kept))]
-fn carry_out<S: Shared>(
+fn carry_out<L: Language, S: Shared>(
     alloc: Global,
     me: &mut Private,
     s: &mut S,
@@ -166,7 +171,7 @@ fn carry_out<S: Shared>(
 ) -> Result<Stepped, NoMemory>
     requires own { IsSome (content (S.store (S.meaning s.old)) (Object.Text me.old.part)) }
     requires legal { IsLegalCourse course }
-    ensures ended { IfOk result (λ e. record { me = me.new; after = S.meaning s.new; end = e } ≡ spec.carries_out S.store S.serving S.lending course place me.old (S.meaning s.old)) }
+    ensures ended { IfOk result (λ e. record { me = me.new; after = S.meaning s.new; end = e } ≡ spec.carries_out L.ways S.store S.serving S.lending course place me.old (S.meaning s.old)) }
     ensures same { S.holds s.new ≡ S.holds s.old }
     ensures part { me.new.part ≡ me.old.part }
     ensures listed { OnOk result (KeepsAll (S.store (S.meaning s.old)) (S.store (S.meaning s.new))) }
@@ -175,14 +180,14 @@ fn carry_out<S: Shared>(
         Course::Ended(end) => Ok(end),
         Course::Asks(access, builder) => {
             let answer = ask_store(s, me.part, &access)?;
-            finish(alloc, me, s, place, builder, &access, answer)
+            finish::<L, S>(alloc, me, s, place, builder, &access, answer)
         }
     }
 }
 
 /// The statement at a place is executed.
 #[tactic(auto, using(crate::proofs::Kept::both_kept))]
-fn execute<S: Shared>(
+fn execute<L: Language, S: Shared>(
     alloc: Global,
     me: &mut Private,
     s: &mut S,
@@ -191,62 +196,62 @@ fn execute<S: Shared>(
 ) -> Result<Stepped, NoMemory>
     requires stands { me.old.place ≡ Some place }
     requires own { IsSome (content (S.store (S.meaning s.old)) (Object.Text me.old.part)) }
-    ensures ended { IfOk result (λ e. record { me = me.new; after = S.meaning s.new; end = e } ≡ spec.executes S.store S.serving S.lending place me.old (S.meaning s.old)) }
+    ensures ended { IfOk result (λ e. record { me = me.new; after = S.meaning s.new; end = e } ≡ spec.executes L.ways S.store S.serving S.lending place me.old (S.meaning s.old)) }
     ensures same { S.holds s.new ≡ S.holds s.old }
     ensures part { me.new.part ≡ me.old.part }
     ensures listed { OnOk result (KeepsAll (S.store (S.meaning s.old)) (S.store (S.meaning s.new))) }
 {
-    let course = begin(alloc, me, s, d, &place)?;
-    carry_out(alloc, me, s, place, course)
+    let course = begin::<L, S>(alloc, me, s, d, &place)?;
+    carry_out::<L, S>(alloc, me, s, place, course)
 }
 
 /// The statement at the place is executed, or a line is read.
-fn run_or_read<S: Shared>(
+fn run_or_read<L: Language, S: Shared>(
     alloc: Global,
     me: &mut Private,
     s: &mut S,
     d: &DeviceTable,
 ) -> Result<Stepped, NoMemory>
     requires own { IsSome (content (S.store (S.meaning s.old)) (Object.Text me.old.part)) }
-    ensures ended { IfOk result (λ e. record { me = me.new; after = S.meaning s.new; end = e } ≡ spec.runs_or_reads S.store S.serving S.lending me.old.place me.old (S.meaning s.old)) }
+    ensures ended { IfOk result (λ e. record { me = me.new; after = S.meaning s.new; end = e } ≡ spec.runs_or_reads L.ways S.store S.serving S.lending me.old.place me.old (S.meaning s.old)) }
     ensures same { S.holds s.new ≡ S.holds s.old }
     ensures part { me.new.part ≡ me.old.part }
     ensures listed { OnOk result (KeepsAll (S.store (S.meaning s.old)) (S.store (S.meaning s.new))) }
 {
     match me.place {
-        Some(place) => execute(alloc, me, s, d, place),
+        Some(place) => execute::<L, S>(alloc, me, s, d, place),
         None => read_line(alloc, me, s),
     }
 }
 
 /// A numbered line is put, or it goes on.
-fn enter_or_go_on<S: Shared>(
+fn enter_or_go_on<L: Language, S: Shared>(
     alloc: Global,
     me: &mut Private,
     s: &mut S,
     d: &DeviceTable,
 ) -> Result<Stepped, NoMemory>
     requires own { IsSome (content (S.store (S.meaning s.old)) (Object.Text me.old.part)) }
-    ensures ended { IfOk result (λ e. record { me = me.new; after = S.meaning s.new; end = e } ≡ spec.enters_or_goes_on S.store S.serving S.lending me.old.numbered me.old (S.meaning s.old)) }
+    ensures ended { IfOk result (λ e. record { me = me.new; after = S.meaning s.new; end = e } ≡ spec.enters_or_goes_on L.ways S.store S.serving S.lending me.old.numbered me.old (S.meaning s.old)) }
     ensures same { S.holds s.new ≡ S.holds s.old }
     ensures part { me.new.part ≡ me.old.part }
     ensures listed { OnOk result (KeepsAll (S.store (S.meaning s.old)) (S.store (S.meaning s.new))) }
 {
     match &me.numbered {
-        Some(_) => enter_line(alloc, me, s),
-        None => run_or_read(alloc, me, s, d),
+        Some(_) => enter_line::<L, S>(alloc, me, s),
+        None => run_or_read::<L, S>(alloc, me, s, d),
     }
 }
 
 /// A literal is typed, or it goes on.
-fn type_or_go_on<S: Shared>(
+fn type_or_go_on<L: Language, S: Shared>(
     alloc: Global,
     me: &mut Private,
     s: &mut S,
     d: &DeviceTable,
 ) -> Result<Stepped, NoMemory>
     requires own { IsSome (content (S.store (S.meaning s.old)) (Object.Text me.old.part)) }
-    ensures ended { IfOk result (λ e. record { me = me.new; after = S.meaning s.new; end = e } ≡ spec.types_or_goes_on S.store S.serving S.lending me.old.literal me.old (S.meaning s.old)) }
+    ensures ended { IfOk result (λ e. record { me = me.new; after = S.meaning s.new; end = e } ≡ spec.types_or_goes_on L.ways S.store S.serving S.lending me.old.literal me.old (S.meaning s.old)) }
     ensures same { S.holds s.new ≡ S.holds s.old }
     ensures part { me.new.part ≡ me.old.part }
     ensures listed { OnOk result (KeepsAll (S.store (S.meaning s.old)) (S.store (S.meaning s.new))) }
@@ -256,19 +261,19 @@ fn type_or_go_on<S: Shared>(
             let typed = ByteList::from_slice(alloc, text.bytes())?;
             insert_literal(me, s, typed)
         }
-        None => enter_or_go_on(alloc, me, s, d),
+        None => enter_or_go_on::<L, S>(alloc, me, s, d),
     }
 }
 
 /// Pending output is shown, or it goes on.
-fn act<S: Shared>(
+fn act<L: Language, S: Shared>(
     alloc: Global,
     me: &mut Private,
     s: &mut S,
     d: &DeviceTable,
 ) -> Result<Stepped, NoMemory>
     requires own { IsSome (content (S.store (S.meaning s.old)) (Object.Text me.old.part)) }
-    ensures ended { IfOk result (λ e. record { me = me.new; after = S.meaning s.new; end = e } ≡ spec.shows_or_goes_on S.store S.serving S.lending me.old.pending me.old (S.meaning s.old)) }
+    ensures ended { IfOk result (λ e. record { me = me.new; after = S.meaning s.new; end = e } ≡ spec.shows_or_goes_on L.ways S.store S.serving S.lending me.old.pending me.old (S.meaning s.old)) }
     ensures same { S.holds s.new ≡ S.holds s.old }
     ensures part { me.new.part ≡ me.old.part }
     ensures listed { OnOk result (KeepsAll (S.store (S.meaning s.old)) (S.store (S.meaning s.new))) }
@@ -278,19 +283,19 @@ fn act<S: Shared>(
             let shown = on_own_line(alloc, me.term_column, text.bytes())?;
             show(me, s, shown)
         }
-        None => type_or_go_on(alloc, me, s, d),
+        None => type_or_go_on::<L, S>(alloc, me, s, d),
     }
 }
 
 /// A partition that runs is halted, and another goes on.
-fn halt_or_act<S: Shared>(
+fn halt_or_act<L: Language, S: Shared>(
     alloc: Global,
     me: &mut Private,
     s: &mut S,
     d: &DeviceTable,
 ) -> Result<Stepped, NoMemory>
     requires own { IsSome (content (S.store (S.meaning s.old)) (Object.Text me.old.part)) }
-    ensures ended { IfOk result (λ e. record { me = me.new; after = S.meaning s.new; end = e } ≡ spec.halts_or_acts S.store S.serving S.lending me.old (S.meaning s.old)) }
+    ensures ended { IfOk result (λ e. record { me = me.new; after = S.meaning s.new; end = e } ≡ spec.halts_or_acts L.ways S.store S.serving S.lending me.old (S.meaning s.old)) }
     ensures same { S.holds s.new ≡ S.holds s.old }
     ensures part { me.new.part ≡ me.old.part }
     ensures listed { OnOk result (KeepsAll (S.store (S.meaning s.old)) (S.store (S.meaning s.new))) }
@@ -299,19 +304,19 @@ fn halt_or_act<S: Shared>(
         return halt(alloc, me);
     }
     me.halt = false;
-    act(alloc, me, s, d)
+    act::<L, S>(alloc, me, s, d)
 }
 
 /// One step of a partition whose own text is in the store: the first of the six rules that applies. After want of memory
 /// nothing is said of the partition and of what the store means.
-pub fn step<S: Shared>(
+pub fn step<L: Language, S: Shared>(
     alloc: Global,
     me: &mut Private,
     s: &mut S,
     d: &DeviceTable,
 ) -> Result<Stepped, NoMemory>
     requires own { IsSome (content (S.store (S.meaning s.old)) (Object.Text me.old.part)) }
-    ensures stepped { IfOk result (λ e. record { me = me.new; after = S.meaning s.new; end = e } ≡ spec.step S.store S.serving S.lending me.old (S.meaning s.old)) }
+    ensures stepped { IfOk result (λ e. record { me = me.new; after = S.meaning s.new; end = e } ≡ spec.step L.ways S.store S.serving S.lending me.old (S.meaning s.old)) }
     ensures same { S.holds s.new ≡ S.holds s.old }
     ensures part { me.new.part ≡ me.old.part }
     ensures listed { OnOk result (KeepsAll (S.store (S.meaning s.old)) (S.store (S.meaning s.new))) }
@@ -320,7 +325,7 @@ pub fn step<S: Shared>(
         return reset(alloc, me);
     }
     if me.halt {
-        return halt_or_act(alloc, me, s, d);
+        return halt_or_act::<L, S>(alloc, me, s, d);
     }
-    act(alloc, me, s, d)
+    act::<L, S>(alloc, me, s, d)
 }

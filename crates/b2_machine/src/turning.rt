@@ -8,6 +8,7 @@ use crate::ends::{Turned, Why};
 use crate::stepping::step;
 use b2_access::{DeviceTable, Object, Private, Shared};
 use b2_base::NoMemory;
+use b2_language::Language;
 use std::alloc::Global;
 
 /// How many steps have counted after one more.
@@ -21,7 +22,7 @@ fn counted_on(steps: u16, counted: bool) -> u16
 /// One turn of a partition whose own text is in the store: at most `quota` steps that count. Where the last of them also
 /// ends the turn by itself, that is why it ended. After want of memory nothing is said of the partition and of what the
 /// store means.
-pub fn turn<S: Shared>(
+pub fn turn<L: Language, S: Shared>(
     alloc: Global,
     me: &mut Private,
     s: &mut S,
@@ -29,7 +30,7 @@ pub fn turn<S: Shared>(
     quota: u16,
 ) -> Result<Turned, NoMemory>
     requires own { IsSome (content (S.store (S.meaning s.old)) (Object.Text me.old.part)) }
-    ensures turned { IfOk result (λ t. record { me = me.new; after = S.meaning s.new; turned = t } ≡ spec.turn S.store S.serving S.lending quota me.old (S.meaning s.old)) }
+    ensures turned { IfOk result (λ t. record { me = me.new; after = S.meaning s.new; turned = t } ≡ spec.turn L.ways S.store S.serving S.lending quota me.old (S.meaning s.old)) }
     ensures few { IfOk result (λ t. t.steps ≤ quota) }
     ensures same { S.holds s.new ≡ S.holds s.old }
     ensures part { me.new.part ≡ me.old.part }
@@ -37,7 +38,7 @@ pub fn turn<S: Shared>(
 {
     let mut steps = 0;
     for _ in 0..quota {
-        let end = step(alloc, me, s, d)?;
+        let end = step::<L, S>(alloc, me, s, d)?;
         steps = counted_on(steps, end.counted);
         let why = end.why;
         match why {

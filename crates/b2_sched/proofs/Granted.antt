@@ -1,12 +1,12 @@
 -- A turn counts at most its quota of steps, and all of its steps or all but its last; a run counts no more than its log grants.
-use Rattle.std.specs.Prelude.{◌≡◌, ℕ, zero, suc, ◌+◌, ◌*◌, ◌<◌, ◌≤◌, ◌==◌, Bool, true, false, List, [], ◌∷◌, length, map, Option, Some, None, is_some, refl, if◌then◌else◌}
+use Rattle.std.specs.Prelude.{◌≡◌, ℕ, zero, suc, ◌+◌, ◌*◌, ◌<◌, ◌≤◌, ◌==◌, Bool, true, false, List, [], ◌∷◌, length, Option, Some, None, is_some, refl, if◌then◌else◌}
 use Rattle.std.proofs.Common.{sym, ap, subst, ◌∙◌, arith}
 use Rattle.std.proofs.Math.Nat.{mul-le-mul_left, mul_comm}
 use Rattle.std.proofs.lemmas.Nat.{mul-le}
 use Rattle.std.proofs.lemmas.List.{length-map}
+use Rattle.b2_basic.specs.Choice.{basic}
 use Rattle.b2_boot.specs.Boots.{BootState}
 use Rattle.b2_boot.specs.Logs.{grants, granted_by}
-use Rattle.b2_boot.specs.declared.boot.BootPartition.{BootPartition}
 use Rattle.b2_boot.specs.declared.log.Event.{Event}
 use Rattle.b2_boot.specs.declared.log.Event.TheVariants as event
 use Rattle.b2_access.specs.Rows.{row_of}
@@ -15,7 +15,6 @@ use Rattle.b2_access.specs.Store.{StoreState}
 use Rattle.b2_access.specs.declared.private.Private.{Private}
 use Rattle.b2_audit.specs.Steps.{Step}
 use Rattle.b2_machine.specs.Turn.{TurnEnd, counted_on, ended_turn, turn_from, unless_ended}
-use Rattle.b2_machine.specs.declared.ends.Stepped.{Stepped}
 use Rattle.b2_machine.specs.declared.ends.Why.{Why}
 use Rattle.b2_machine.proofs.Counted.{steps_count_or_end}
 use Rattle.b2_sched.proofs.Folds.{does_append, all_keep_quota}
@@ -36,13 +35,13 @@ few_by : (o : Option Why) (c n k : ℕ) (me : Private) (s : StoreState) (t : Tur
 few_by None c n k me s t h few = omega arith
 few_by (Some w) c n k me s t h few = omega arith
 
-few_from : (n : ℕ) (me : Private) (s : StoreState) (k : ℕ) → (turn_from itself serves after_loan n me s k).turned.steps ≤ k + n
+few_from : (n : ℕ) (me : Private) (s : StoreState) (k : ℕ) → (turn_from basic itself serves after_loan n me s k).turned.steps ≤ k + n
 unfolding turn_from
 few_from zero me s k = omega arith
 few_from (suc n) me s k =
     let x = step_of me s in
     let c = counted_on k x.end in
-    few_by x.end.why c n k x.me x.after (turn_from itself serves after_loan n x.me x.after c) (counted_few x.end.counted k) (few_from n x.me x.after c)
+    few_by x.end.why c n k x.me x.after (turn_from basic itself serves after_loan n x.me x.after c) (counted_few x.end.counted k) (few_from n x.me x.after c)
 
 turn_few : (quota : ℕ) (me : Private) (s : StoreState) → (turn_of quota me s).turned.steps ≤ quota
 turn_few quota me s = let few = few_from quota me s 0 in omega arith
@@ -56,14 +55,14 @@ more_by None false told rest k me s t ends h = let never : false ≡ true = ends
 more_by (Some w) true told rest k me s t ends h = omega arith
 more_by (Some w) false told rest k me s t ends h = omega arith
 
-more_from : (who n : ℕ) (me : Private) (s : StoreState) (k : ℕ) → length (steps_in_turn who n me s) + k ≤ (turn_from itself serves after_loan n me s k).turned.steps + 1
+more_from : (who n : ℕ) (me : Private) (s : StoreState) (k : ℕ) → length (steps_in_turn who n me s) + k ≤ (turn_from basic itself serves after_loan n me s k).turned.steps + 1
 unfolding steps_in_turn turn_from
 more_from who zero me s k = omega arith
 more_from who (suc n) me s k =
     let x = step_of me s in
     let c = counted_on k x.end in
-    more_by x.end.why x.end.counted (step_told who me s) (steps_in_turn who n x.me x.after) k x.me x.after (turn_from itself serves after_loan n x.me x.after c)
-    (steps_count_or_end itself serves after_loan me s) (more_from who n x.me x.after c)
+    more_by x.end.why x.end.counted (step_told who me s) (steps_in_turn who n x.me x.after) k x.me x.after (turn_from basic itself serves after_loan n x.me x.after c)
+    (steps_count_or_end basic itself serves after_loan me s) (more_from who n x.me x.after c)
 
 no_more : (n : ℕ) → n + 0 ≡ n
 no_more n = omega arith

@@ -13,6 +13,8 @@ use Rattle.b2_access.specs.declared.objects.Object.{Object}
 use Rattle.b2_access.specs.declared.objects.Object.TheVariants as object
 use Rattle.b2_access.specs.declared.private.Private.{Private}
 use Rattle.b2_audit.specs.Steps.{Step, Group}
+use Rattle.b2_basic.specs.Choice.{basic}
+use Rattle.b2_basic.specs.Lawful.{basic_is_lawful}
 use Rattle.b2_machine.proofs.LocalSteps.{is_in, steps_are_local}
 use Rattle.b2_machine.proofs.StepHomes.{steps_stay_within}
 use Rattle.b2_machine.specs.Step.{step}
@@ -33,10 +35,10 @@ pub record IsOut (g : Group) (out : Object → Type 0) : Type 0 where
   pub terminals : (t : ℕ) → out (object.Terminal t) → ⊥
 
 abbrev turn_on : ℕ → Private → StoreState → ℕ → TurnEnd StoreState
-turn_on n me s steps = turn_from itself serves after_loan n me s steps
+turn_on n me s steps = turn_from basic itself serves after_loan n me s steps
 
-local : (me : Private) → GoesLocally itself serves me.part (asking me) (step itself serves after_loan me)
-local me = steps_are_local itself serves after_loan serves_is_local (λ who home at m left. refl) me
+local : (me : Private) → GoesLocally itself serves me.part (asking basic me) (step basic itself serves after_loan me)
+local me = steps_are_local basic itself serves after_loan serves_is_local (λ who home at m left. refl) me
 
 -- how a step ends is how its turn goes on
 abbrev goes_on : ℕ → Stepped → ℕ → Private → StoreState → TurnEnd StoreState
@@ -49,7 +51,7 @@ turn_stays_within among zero me s steps w = w
 turn_stays_within among (suc n) me s steps w = by (step_of me s).end.why (turn_stays_within among n (step_of me s).me (step_of me s).after (counted_on steps (step_of me s).end) next)
   where
     next : IsWithin among (step_of me s).me
-    next = (steps_stay_within itself serves after_loan among me s w).0
+    next = (steps_stay_within basic basic_is_lawful itself serves after_loan among me s w).0
 
     by : (why : Option Why) → IsWithin among (turn_on n (step_of me s).me (step_of me s).after (counted_on steps (step_of me s).end)).me
         → IsWithin among (unless_ended why (λ w. ended_turn (counted_on steps (step_of me s).end) w (step_of me s).me (step_of me s).after) (turn_on n (step_of me s).me (step_of me s).after (counted_on steps (step_of me s).end))).me
@@ -108,10 +110,10 @@ module _ (g : Group) where
     accessed_where None who s member = tt
     accessed_where (Some a) who s member = accessed who a s member
 
-    stepped : (me : Private) (s : StoreState) → IsWithin g me → NoneOut (step_touched me s)
+    stepped : (me : Private) (s : StoreState) → IsWithin g me → NoneOut (step_touched basic me s)
     stepped me s w =
-        let asks = (steps_stay_within itself serves after_loan g me s w).1 in
-        (is_out.texts me.part w.part, (is_out.texts (asking me s).who asks, accessed_where (asking me s).access (asking me s).who s asks))
+        let asks = (steps_stay_within basic basic_is_lawful itself serves after_loan g me s w).1 in
+        (is_out.texts me.part w.part, (is_out.texts (asking basic me s).who asks, accessed_where (asking basic me s).access (asking basic me s).who s asks))
 
     -- a member's turn leaves what it can't come to as it is
     pub leaves_out : (n : ℕ) (me : Private) (s : StoreState) (steps : ℕ) → IsWithin g me → (o : Object) → out o → content (turn_on n me s steps).after o ≡ content s o
@@ -120,10 +122,10 @@ module _ (g : Group) where
     leaves_out (suc n) me s steps w o is = by (step_of me s).end.why (leaves_out n (step_of me s).me (step_of me s).after (counted_on steps (step_of me s).end) next o is)
       where
         next : IsWithin g (step_of me s).me
-        next = (steps_stay_within itself serves after_loan g me s w).0
+        next = (steps_stay_within basic basic_is_lawful itself serves after_loan g me s w).0
 
         kept : content (step_of me s).after o ≡ content s o
-        kept = (local me).others s o (λ i. none_out (step_touched me s) o (stepped me s w) ((local me).within s o i) is)
+        kept = (local me).others s o (λ i. none_out (step_touched basic me s) o (stepped me s w) ((local me).within s o i) is)
 
         by : (why : Option Why) → content (turn_on n (step_of me s).me (step_of me s).after (counted_on steps (step_of me s).end)).after o ≡ content (step_of me s).after o
             → content (unless_ended why (λ w. ended_turn (counted_on steps (step_of me s).end) w (step_of me s).me (step_of me s).after) (turn_on n (step_of me s).me (step_of me s).after (counted_on steps (step_of me s).end))).after o ≡ content s o
@@ -135,13 +137,13 @@ module _ (g : Group) where
       pub own : x.me ≡ y.me
       pub objects : StoresAlike out os x.after y.after
 
-    step_alike : (me : Private) (s t : StoreState) (os : List Object) → IsWithin g me → StoresAlike out os s t → AreApart (step_touched me s) os → GoesAlike itself serves me.part (asking me) (step itself serves after_loan me) s t
-    step_alike me s t os w agree apart = (local me).alike s t (λ o i. agree o (λ f. apart o i f) (λ bad. none_out (step_touched me s) o (stepped me s w) i bad))
+    step_alike : (me : Private) (s t : StoreState) (os : List Object) → IsWithin g me → StoresAlike out os s t → AreApart (step_touched basic me s) os → GoesAlike itself serves me.part (asking basic me) (step basic itself serves after_loan me) s t
+    step_alike me s t os w agree apart = (local me).alike s t (λ o i. agree o (λ f. apart o i f) (λ bad. none_out (step_touched basic me s) o (stepped me s w) i bad))
 
-    next_agree : (me : Private) (s t : StoreState) (os : List Object) → StoresAlike out os s t → GoesAlike itself serves me.part (asking me) (step itself serves after_loan me) s t → StoresAlike out os (step_of me s).after (step_of me t).after
-    next_agree me s t os agree alike o clear inside = by (is_in o (step_written itself serves me s))
+    next_agree : (me : Private) (s t : StoreState) (os : List Object) → StoresAlike out os s t → GoesAlike itself serves me.part (asking basic me) (step basic itself serves after_loan me) s t → StoresAlike out os (step_of me s).after (step_of me t).after
+    next_agree me s t os agree alike o clear inside = by (is_in o (step_written basic itself serves me s))
       where
-        by : Decided (IsIn o (step_written itself serves me s)) → content (step_of me s).after o ≡ content (step_of me t).after o
+        by : Decided (IsIn o (step_written basic itself serves me s)) → content (step_of me s).after o ≡ content (step_of me t).after o
         by (inl i) = alike.contents o i
         by (inr not) =
             (local me).others s o not ∙ agree o clear inside ∙ sym ((local me).others t o (λ i. not (subst (λ (xs : List Object). IsIn o xs) (sym alike.wrote) i)))
@@ -155,11 +157,11 @@ module _ (g : Group) where
         let by_me = subst (λ (z : Private). TurnsAlike os (goes_on n (step_of me s).end steps (step_of me s).me (step_of me s).after) (goes_on n (step_of me s).end steps z (step_of me t).after)) alike.own (by (step_of me s).end.why later rest) in
         subst (λ (e : Stepped). TurnsAlike os (goes_on n (step_of me s).end steps (step_of me s).me (step_of me s).after) (goes_on n e steps (step_of me t).me (step_of me t).after)) alike.end by_me
       where
-        alike : GoesAlike itself serves me.part (asking me) (step itself serves after_loan me) s t
+        alike : GoesAlike itself serves me.part (asking basic me) (step basic itself serves after_loan me) s t
         alike = step_alike me s t os w agree (clean.0 member)
 
         next : IsWithin g (step_of me s).me
-        next = (steps_stay_within itself serves after_loan g me s w).0
+        next = (steps_stay_within basic basic_is_lawful itself serves after_loan g me s w).0
 
         agree_next : StoresAlike out os (step_of me s).after (step_of me t).after
         agree_next = next_agree me s t os agree alike

@@ -5,6 +5,8 @@ use Rattle.b2_access.specs.Partition.{KeepsNone}
 use Rattle.b2_access.specs.Rows.{row_of}
 use Rattle.b2_access.specs.Serving.{itself, serves}
 use Rattle.b2_access.specs.declared.private.Private.{Private}
+use Rattle.b2_basic.specs.Choice.{basic}
+use Rattle.b2_basic.specs.Lawful.{basic_is_lawful}
 use Rattle.b2_boot.specs.declared.boot.BootPartition.{BootPartition}
 use Rattle.b2_machine.proofs.KeptPlace.{turn_keeps}
 use Rattle.b2_sched.proofs.EachRow.{IsKept, each_ran}
@@ -27,7 +29,7 @@ keeps_none : IsKept (λ p me. KeepsNone me)
 keeps_none = record {
   halt = λ p me h. h;
   reset = λ p me h. h;
-  turn = λ p n me s h. turn_keeps itself serves after_loan n me s h;
+  turn = λ p n me s h. turn_keeps basic basic_is_lawful itself serves after_loan n me s h;
 }
 
 pub no_place_kept : NoPlaceIsKept

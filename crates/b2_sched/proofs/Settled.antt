@@ -12,6 +12,8 @@ use Rattle.b2_access.specs.declared.objects.Object.TheVariants as object
 use Rattle.b2_access.specs.declared.private.Private.{Private}
 use Rattle.b2_audit.proofs.Accesses.{accesses_are_marked, accesses_write_own_texts}
 use Rattle.b2_audit.specs.Steps.{AreMarked, AreSteps, IsMarked, IsPartition, IsTerminal, WriteOwnTexts, just}
+use Rattle.b2_basic.specs.Choice.{basic}
+use Rattle.b2_basic.specs.Lawful.{basic_is_lawful}
 use Rattle.b2_boot.specs.declared.boot.BootPartition.{BootPartition}
 use Rattle.b2_machine.proofs.StepHomes.{steps_stay_within}
 use Rattle.b2_machine.proofs.StepTerminal.{steps_ask_at_terminal}
@@ -41,31 +43,31 @@ wrote_own who q None s i = absurd i
 wrote_own who q (Some a) s i = accesses_write_own_texts who q a (serves s who a).answer i
 
 module _ (p : ℕ) (me : Private) (s : StoreState) (is : IsSettled p me) where
-  asks_itself : (asking me s).who ≡ p
-  asks_itself = same_number (asking me s).who p (steps_stay_within itself serves after_loan (just p) me s is.home).1
+  asks_itself : (asking basic me s).who ≡ p
+  asks_itself = same_number (asking basic me s).who p (steps_stay_within basic basic_is_lawful itself serves after_loan (just p) me s is.home).1
 
-  step_marked : AreMarked (step_touched me s) × AreMarked (step_written itself serves me s)
+  step_marked : AreMarked (step_touched basic me s) × AreMarked (step_written basic itself serves me s)
   step_marked =
-      let x = asking me s in
+      let x = asking basic me s in
       let number : (k : ℕ) → k ≡ p → IsPartition k = λ k e. subst (λ (j : ℕ). IsPartition j) (sym e) is.number in
       let me_is = number me.part (same_number me.part p is.home.part) in
       let who_is = number x.who asks_itself in
-      let both = asked_marked x.who me.term x.access s who_is is.terminal (steps_ask_at_terminal itself serves after_loan me s).1 in
+      let both = asked_marked x.who me.term x.access s who_is is.terminal (steps_ask_at_terminal basic basic_is_lawful itself serves after_loan me s).1 in
       (marked_first (object.Text me.part) (object.Text x.who ∷ touched_where x.access x.who s) me_is (marked_first (object.Text x.who) (touched_where x.access x.who s) who_is both.0), both.1)
 
-  step_writes_own : (q : ℕ) → IsIn (object.Text q) (step_written itself serves me s) → q ≡ p
-  step_writes_own q i = wrote_own (asking me s).who q (asking me s).access s i ∙ asks_itself
+  step_writes_own : (q : ℕ) → IsIn (object.Text q) (step_written basic itself serves me s) → q ≡ p
+  step_writes_own q i = wrote_own (asking basic me s).who q (asking basic me s).access s i ∙ asks_itself
 
   next_settled : IsSettled p (step_of me s).me
   next_settled = record {
     number = is.number;
-    terminal = subst (λ (t : ℕ). IsTerminal t) (sym (steps_ask_at_terminal itself serves after_loan me s).0) is.terminal;
-    home = (steps_stay_within itself serves after_loan (just p) me s is.home).0;
+    terminal = subst (λ (t : ℕ). IsTerminal t) (sym (steps_ask_at_terminal basic basic_is_lawful itself serves after_loan me s).0) is.terminal;
+    home = (steps_stay_within basic basic_is_lawful itself serves after_loan (just p) me s is.home).0;
   }
 
 -- along a turn
 abbrev turn_on : ℕ → Private → StoreState → ℕ → TurnEnd StoreState
-turn_on n me s steps = turn_from itself serves after_loan n me s steps
+turn_on n me s steps = turn_from basic itself serves after_loan n me s steps
 
 pub turn_settled : (p n : ℕ) (me : Private) (s : StoreState) (steps : ℕ) → IsSettled p me → IsSettled p (turn_on n me s steps).me
 unfolding turn_from

@@ -9,6 +9,7 @@ use Rattle.b2_audit.specs.Marks.{Marks, writers_of}
 use Rattle.b2_audit.specs.PartSets.{has_other}
 use Rattle.b2_audit.specs.Steps.{AreSteps, IsPartition, just, marks_after}
 use Rattle.b2_audit.specs.Watching.{watched_loan, watching}
+use Rattle.b2_basic.specs.Choice.{basic}
 use Rattle.b2_machine.specs.Turn.{TurnEnd, turn}
 use Rattle.b2_sched.specs.Turns.{after_loan, steps_in_turn, turn_of}
 
@@ -20,7 +21,7 @@ abbrev pub store_in : Watched → StoreState
 store_in m = m.0
 
 abbrev pub watched_turn : ℕ → Private → Watched → TurnEnd Watched
-watched_turn n me m = turn store_in (watching itself serves) (watched_loan after_loan) n me m
+watched_turn n me m = turn basic store_in (watching itself serves) (watched_loan after_loan) n me m
 
 -- nobody else wrote the text of a partition
 abbrev pub IsOwnText : ℕ → Marks → Type 0

@@ -5,6 +5,7 @@ use Rattle.b2_access.specs.Loans.{Loan}
 use Rattle.b2_access.specs.Serving.{serves, itself}
 use Rattle.b2_access.specs.Store.{StoreState}
 use Rattle.b2_audit.specs.Steps.{Step}
+use Rattle.b2_basic.specs.Choice.{basic}
 use Rattle.b2_machine.specs.Step.{StepEnd, step}
 use Rattle.b2_machine.specs.Touched.{step_touched, step_written}
 use Rattle.b2_machine.specs.Turn.{TurnEnd, turn, unless_ended}
@@ -15,14 +16,14 @@ after_loan who home at s left = s
 
 -- a turn
 abbrev pub turn_of : ℕ → Private → StoreState → TurnEnd StoreState
-turn_of quota me s = turn itself serves after_loan quota me s
+turn_of quota me s = turn basic itself serves after_loan quota me s
 
 -- a step, and how it is told
 abbrev pub step_of : Private → StoreState → StepEnd StoreState
-step_of me s = step itself serves after_loan me s
+step_of me s = step basic itself serves after_loan me s
 
 abbrev pub step_told : ℕ → Private → StoreState → Step
-step_told who me s = record { who = who; touched = step_touched me s; written = step_written itself serves me s }
+step_told who me s = record { who = who; touched = step_touched basic me s; written = step_written basic itself serves me s }
 
 -- the steps of a turn
 unfoldable pub steps_in_turn : ℕ → ℕ → Private → StoreState → List Step

@@ -9,6 +9,7 @@ use crate::start::{areas_of, fronts_of, privates_of};
 use b2_access::{DeviceTable, Private};
 use b2_audit::{Seen, Watched};
 use b2_base::{NoMemory, Part, Term};
+use b2_basic::Basic;
 use b2_boot::{Boot, Event};
 use b2_machine::turn;
 use b2_store::{Rows, StoreBoot, Stores};
@@ -180,7 +181,7 @@ impl World {
         };
         let me = self.privates.value_mut(part);
         let mut watched = Watched::new(&mut self.stores, &mut self.seen);
-        match turn(self.alloc, me, &mut watched, &self.devices, quota) {
+        match turn::<Basic, _>(self.alloc, me, &mut watched, &self.devices, quota) {
             Ok(turned) => {
                 self.turns = self.turns.saturating_add(1);
                 self.steps = self.steps.saturating_add(u64::from(turned.steps));

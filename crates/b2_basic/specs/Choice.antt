@@ -1,0 +1,37 @@
+-- Which crate executes the statements of a row; so what they plan, and how they finish.
+use Rattle.std.specs.Prelude.{ℕ, ◌||◌, Bool, if◌then◌else◌}
+use Rattle.b2_access.specs.Lending.{SeenLent}
+use Rattle.b2_access.specs.Planning.{Finishing, Planning}
+use Rattle.b2_access.specs.declared.accesses.Access.{Access}
+use Rattle.b2_access.specs.declared.accesses.Answer.{Answer}
+use Rattle.b2_access.specs.declared.private.Private.{Private}
+use Rattle.b2_language.specs.Languages.{Ways}
+use Rattle.b2_stmt.specs.Plan as stmt
+use Rattle.b2_stmt_io.specs.Plan as stmt_io
+use Rattle.b2_basic.specs.declared.choice.Family.{Family}
+use Rattle.b2_basic.specs.declared.choice.Family.TheVariants as family
+
+abbrev pub is_built : ℕ → Bool
+is_built r = stmt.is_built r || stmt_io.is_built r
+
+-- the family of a row that is built
+abbrev pub family_of : ℕ → Family
+family_of r = if stmt.is_built r then family.Control else family.Terminal
+
+abbrev pub plan_by : Family → Private → SeenLent → Planning
+plan_by family.Control me s = stmt.plan me s
+plan_by family.Terminal me s = stmt_io.plan me s
+
+abbrev pub finish_by : Family → Access → Answer → Private → SeenLent → Finishing
+finish_by family.Control x a me s = stmt.finish x a me s
+finish_by family.Terminal x a me s = stmt_io.finish x a me s
+
+abbrev pub plan : ℕ → Private → SeenLent → Planning
+plan r me s = plan_by (family_of r) me s
+
+abbrev pub finish : ℕ → Access → Answer → Private → SeenLent → Finishing
+finish r x a me s = finish_by (family_of r) x a me s
+
+-- THE LANGUAGE OF THE MACHINE
+abbrev pub basic : Ways
+basic = record { built = is_built; plan = plan; finish = finish }

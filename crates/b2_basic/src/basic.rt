@@ -1,0 +1,67 @@
+// The language of the machine.
+ghost use Rattle.std.specs.Prelude.{◌≡◌};
+
+use crate::choice::{Family, execute_at_once, family_of};
+use b2_access::{Access, Answer, DeviceTable, Lent, Outcome, Planned, Private};
+use b2_atom::Atoms;
+use b2_base::NoMemory;
+use b2_flow::Place;
+use b2_language::Language;
+use b2_rows::RowUnit;
+use b2_text::Text;
+use std::alloc::Global;
+
+/// The language of the machine, as it is built.
+pub struct Basic;
+
+impl Language for Basic {
+    ghost use Rattle.b2_basic.specs.Choice.{basic};
+    ghost use Rattle.b2_basic.specs.Lawful.{basic_is_lawful};
+
+    ghost ways = { basic };
+
+    fn is_built(row: u16) -> bool {
+        b2_stmt::is_built(row) || b2_stmt_io::is_built(row)
+    }
+
+    fn plan(
+        alloc: Global,
+        row: u16,
+        me: &mut Private,
+        lent: &mut Lent<'_>,
+        devices: &DeviceTable,
+    ) -> Result<Planned, NoMemory> {
+        match family_of(row) {
+            Family::Control => b2_stmt::plan(alloc, me, lent, devices),
+            Family::Terminal => b2_stmt_io::plan(alloc, me, lent, devices),
+        }
+    }
+
+    fn finish(
+        alloc: Global,
+        row: u16,
+        me: &mut Private,
+        lent: &mut Lent<'_>,
+        access: &Access,
+        answer: &Answer,
+    ) -> Result<Outcome, NoMemory> {
+        match family_of(row) {
+            Family::Control => b2_stmt::finish(alloc, me, lent, access, answer),
+            Family::Terminal => b2_stmt_io::finish(alloc, me, lent, access, answer),
+        }
+    }
+
+    fn plan_at_once(
+        alloc: Global,
+        me: &mut Private,
+        own: &Text,
+        home: &Text,
+        line: &Atoms,
+        unit: &RowUnit<'_>,
+        place: &Place,
+    ) -> Result<Option<Outcome>, NoMemory> {
+        execute_at_once(alloc, me, own, home, line, unit, place)
+    }
+
+    ghost lawful = { basic_is_lawful };
+}

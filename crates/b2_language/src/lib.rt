@@ -1,0 +1,14 @@
+//! A language of any kind, as its machine knows it.
+//!
+//! `Language` is what the statements of a language do, by the rows of its table: which rows are built, what a statement plans,
+//! and how it finishes. It is a parameter of the machine, as the shared store is; what a machine needs to know of it are its
+//! laws.
+//!
+//! Stands on `b2_access` for the private state, what is lent, accesses and answers, on `b2_rows` for units, on `b2_text` and
+//! `b2_flow` for lines and places, on `b2_atom` and `b2_base`. The definitions are in `specs/`: what a language is and owes in
+//! `Languages`.
+#![tactic(auto)]
+
+mod language;
+
+pub use language::Language;
