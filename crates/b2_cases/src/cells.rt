@@ -2,6 +2,7 @@
 use b2_base::cut;
 use b2_base::lexical::{capped_value, hex_value, is_hex_digit};
 use std::alloc::{AllocError, Global};
+use std::str;
 
 /// The cells of a row that have not been read.
 #[derive(Clone, Copy)]
@@ -78,4 +79,9 @@ pub fn small_of(cell: &[u8]) -> u8 {
 /// Returns whether a cell says `yes`.
 pub fn is_yes(cell: &[u8]) -> bool {
     matches!(cell, b"yes")
+}
+
+/// The text of a cell; none where its bytes are no text.
+pub fn str_of(cell: &[u8]) -> &str {
+    str::from_utf8(cell).unwrap_or("")
 }

@@ -5,7 +5,8 @@
 //! as a backslash and two hexadecimal digits. Empty lines and lines that begin with `#` are no rows.
 //!
 //! - `try_rows` tries each row of the standard input, and names those that give something else than they say.
-//! - `cells` reads what the cells say, and `shown` writes what calls give in the same way.
+//! - `cells` reads what the cells say, and `shown` writes what calls give in the same way; a `Sheet` does both, and notes what
+//!   goes wrong.
 //!
 //! It stands on `b2_base`. It is for tests alone: nothing of the machine stands on it, and it promises nothing but to be safe.
 //! What shows that it tells a wrong row is the last row of each table, which is wrong and must be named.
@@ -14,7 +15,9 @@
 pub mod answers;
 mod cells;
 mod rows;
+mod sheet;
 pub mod shown;
 
-pub use cells::{Cells, bytes_of, is_yes, number_of, small_of, whole_of};
+pub use cells::{Cells, bytes_of, is_yes, number_of, small_of, str_of, whole_of};
 pub use rows::{Calls, try_rows};
+pub use sheet::{Item, Sheet};

@@ -8,15 +8,33 @@ use std::fmt::Write;
 pub fn show_bytes(into: &mut String, bytes: &[u8]) -> Result<(), AllocError> {
     for (place, byte) in bytes.iter().enumerate() {
         let is_at_an_end = place == 0 || place + 1 == bytes.len();
-        if is_shown(*byte) && !(is_at_an_end && *byte == b' ') {
-            into.push(*byte as char)?;
-        } else {
-            into.push('\\')?;
-            into.push(hex_digit(*byte / 16) as char)?;
-            into.push(hex_digit(*byte % 16) as char)?;
-        }
+        show_byte(into, *byte, is_at_an_end)?;
     }
     Ok(())
+}
+
+/// Appends bytes between quotes.
+pub fn show_quoted(into: &mut String, bytes: &[u8]) -> Result<(), AllocError> {
+    into.push('"')?;
+    for byte in bytes {
+        show_byte(into, *byte, false)?;
+    }
+    into.push('"')
+}
+
+/// Appends a byte; a blank at an end of a cell can't be shown as it is.
+fn show_byte(into: &mut String, byte: u8, is_at_an_end: bool) -> Result<(), AllocError> {
+    if is_shown(byte) && !(is_at_an_end && byte == b' ') {
+        return into.push(byte as char);
+    }
+    show_hex(into, byte)
+}
+
+/// Appends a byte as a backslash and two hexadecimal digits.
+pub fn show_hex(into: &mut String, byte: u8) -> Result<(), AllocError> {
+    into.push('\\')?;
+    into.push(hex_digit(byte / 16) as char)?;
+    into.push(hex_digit(byte % 16) as char)
 }
 
 /// Returns whether a cell shows the byte as it is.

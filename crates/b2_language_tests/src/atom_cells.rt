@@ -2,10 +2,9 @@
 use b2_atom::words::{LAST, LINE_MARK, REM, word_text};
 use b2_base::cut;
 use b2_base::lexical::{
-    capped_value, decimal_byte, decimal_of, digits_width, hex_digit, is_decimal, is_printable,
+    capped_value, decimal_byte, decimal_of, digits_width, is_decimal, is_printable,
 };
-use b2_cases::bytes_of;
-use std::alloc::{AllocError, Global};
+use b2_cases::Sheet;
 
 /// The code of the word of a spelling, None where there is no such word.
 fn word_of(spelling: &[u8]) -> Option<u8> {
@@ -17,85 +16,75 @@ fn word_of(spelling: &[u8]) -> Option<u8> {
     None
 }
 
-/// Appends the word or the number of a line that stands between braces, and says whether there is one.
-fn push_braced(atoms: &mut Vec<u8>, inner: &[u8]) -> Result<bool, AllocError> {
+/// Appends the word or the number of a line that stands between braces.
+fn push_braced(sheet: &mut Sheet<'_>, atoms: &mut Vec<u8>, inner: &[u8]) {
     if let Some(code) = word_of(inner) {
-        atoms.push(code)?;
-        return Ok(true);
+        return sheet.push(atoms, code);
+    }
+    if inner.is_empty() || inner.len() > 4 || digits_width(inner) != inner.len() {
+        sheet.misread();
     }
     let number = capped_value(inner, 9999);
-    atoms.push(LINE_MARK)?;
-    atoms.push(decimal_byte((number / 100) as u8))?;
-    atoms.push(decimal_byte((number % 100) as u8))?;
-    Ok(!inner.is_empty() && inner.len() <= 4 && digits_width(inner) == inner.len())
+    sheet.push(atoms, LINE_MARK);
+    sheet.push(atoms, decimal_byte((number / 100) as u8));
+    sheet.push(atoms, decimal_byte((number % 100) as u8));
 }
 
-/// The atoms that a cell spells, None where something stands between its braces that is neither a word nor a number.
-pub fn atoms_of(alloc: Global, cell: &[u8]) -> Result<Option<Vec<u8>>, AllocError> {
-    let mut atoms = Vec::new(alloc);
-    let mut left = cell;
-    for _ in 0..=cell.len() {
+/// The atoms that a text spells. A row is misread where something stands between its braces that is neither a word nor a number.
+pub fn atoms_of(sheet: &mut Sheet<'_>, text: &[u8]) -> Vec<u8> {
+    let mut atoms = Vec::new(sheet.alloc());
+    let mut left = text;
+    for _ in 0..=text.len() {
         let (plain, braced) = cut(left, b'{');
-        let bytes = bytes_of(alloc, plain)?;
-        atoms.extend_from_slice(&bytes)?;
+        let bytes = sheet.spelled(plain);
+        sheet.append(&mut atoms, &bytes);
         let Some(rest) = braced else {
             break;
         };
         let (inner, after) = cut(rest, b'}');
-        if !push_braced(&mut atoms, inner)? {
-            return Ok(None);
-        }
+        push_braced(sheet, &mut atoms, inner);
         left = after.unwrap_or(&[]);
     }
-    Ok(Some(atoms))
+    atoms
 }
 
-/// Appends atoms as a cell spells them.
-pub fn show_atoms(into: &mut String, atoms: &[u8]) -> Result<(), AllocError> {
+/// Shows atoms as a cell spells them.
+pub fn show_atoms(sheet: &mut Sheet<'_>, atoms: &[u8]) {
     let mut left = atoms;
     for _ in 0..atoms.len() {
         match left {
             [LINE_MARK, high, low, rest @ ..] if is_decimal(*high) && is_decimal(*low) => {
-                show_line_number(into, *high, *low)?;
+                show_line_number(sheet, *high, *low);
                 left = rest;
             }
             [b' '] => {
-                into.push_str("\\20")?;
+                sheet.show("\\20");
                 break;
             }
             [byte, rest @ ..] => {
-                show_atom(into, *byte)?;
+                show_atom(sheet, *byte);
                 left = rest;
             }
             [] => break,
         }
     }
-    Ok(())
 }
 
-fn show_line_number(into: &mut String, high: u8, low: u8) -> Result<(), AllocError> {
-    let number = u16::from(decimal_of(high)) * 100 + u16::from(decimal_of(low));
-    write!(into, "{{{number}}}")
+fn show_line_number(sheet: &mut Sheet<'_>, high: u8, low: u8) {
+    sheet.show("{");
+    sheet.show_number(u64::from(decimal_of(high)) * 100 + u64::from(decimal_of(low)));
+    sheet.show("}");
 }
 
-/// Appends a word between braces, or a byte that is none.
-fn show_atom(into: &mut String, atom: u8) -> Result<(), AllocError> {
+/// Shows a word between braces, or a byte that is none.
+fn show_atom(sheet: &mut Sheet<'_>, atom: u8) {
     if atom >= REM && atom <= LAST {
-        into.push('{')?;
-        push_bytes(into, word_text(atom))?;
-        return into.push('}');
+        sheet.show("{");
+        sheet.show_letters(word_text(atom));
+        sheet.show("}");
+    } else if is_printable(atom) && !matches!(atom, b'\\' | b'|' | b'{' | b'}') {
+        sheet.show_letter(atom);
+    } else {
+        sheet.show_hex(atom);
     }
-    if is_printable(atom) && !matches!(atom, b'\\' | b'|' | b'{' | b'}') {
-        return into.push(atom as char);
-    }
-    into.push('\\')?;
-    into.push(hex_digit(atom / 16) as char)?;
-    into.push(hex_digit(atom % 16) as char)
-}
-
-fn push_bytes(into: &mut String, bytes: &[u8]) -> Result<(), AllocError> {
-    for byte in bytes {
-        into.push(*byte as char)?;
-    }
-    Ok(())
 }

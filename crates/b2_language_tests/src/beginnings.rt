@@ -1,29 +1,29 @@
 // What begins at a text of a unit: kinds of items, operands and operators.
+use b2_cases::Sheet;
 use b2_rows::{
     AlphaOperand, Chain, Operand, alpha_operand_at, goes_on, has_sign, is_alpha_at, is_array_at,
     is_at, is_hex_at, is_line_at, is_numeric_at, operand_at,
 };
-use std::alloc::{AllocError, Global};
 
-/// The words of what holds, or that nothing does.
-fn noted(alloc: Global, notes: &[(&str, bool)]) -> Result<String, AllocError> {
-    let mut shown = String::new(alloc);
+/// Shows the words of what holds, or that nothing does.
+fn show_noted(sheet: &mut Sheet<'_>, notes: &[(&str, bool)]) {
+    let mut is_first = true;
     for (word, holds) in notes {
         if *holds {
-            if !shown.is_empty() {
-                shown.push_str(", ")?;
+            if !is_first {
+                sheet.show(", ");
             }
-            shown.push_str(word)?;
+            sheet.show(word);
+            is_first = false;
         }
     }
-    if shown.is_empty() {
-        shown.push_str("nothing")?;
+    if is_first {
+        sheet.show("nothing");
     }
-    Ok(shown)
 }
 
 /// `begins | TEXT`: which kinds of items begin there.
-pub fn begins(alloc: Global, text: &[u8]) -> Result<String, AllocError> {
+pub fn begins(sheet: &mut Sheet<'_>, text: &[u8]) {
     let notes = [
         ("line", is_line_at(text)),
         ("alpha", is_alpha_at(text)),
@@ -32,11 +32,11 @@ pub fn begins(alloc: Global, text: &[u8]) -> Result<String, AllocError> {
         ("hex digit", is_hex_at(text)),
         ("comma", is_at(b',', text)),
     ];
-    noted(alloc, &notes)
+    show_noted(sheet, &notes);
 }
 
 /// `goes on | TEXT`: the chains of which an operator stands there, and whether that is a sign.
-pub fn chains(alloc: Global, text: &[u8]) -> Result<String, AllocError> {
+pub fn chains(sheet: &mut Sheet<'_>, text: &[u8]) {
     let notes = [
         ("sum", goes_on(Chain::Sum, text)),
         ("product", goes_on(Chain::Product, text)),
@@ -48,12 +48,12 @@ pub fn chains(alloc: Global, text: &[u8]) -> Result<String, AllocError> {
         ("length power", goes_on(Chain::LengthPower, text)),
         ("sign", has_sign(text)),
     ];
-    noted(alloc, &notes)
+    show_noted(sheet, &notes);
 }
 
 /// `operand | TEXT`: the kind of the operand that stands there.
-pub fn operand(alloc: Global, text: &[u8]) -> Result<String, AllocError> {
-    let kind = match operand_at(text) {
+pub fn operand(text: &[u8]) -> &'static str {
+    match operand_at(text) {
         Operand::Number => "number",
         Operand::Parentheses => "parentheses",
         Operand::Function => "function",
@@ -65,18 +65,16 @@ pub fn operand(alloc: Global, text: &[u8]) -> Result<String, AllocError> {
         Operand::Value => "value",
         Operand::KeptNumber => "kept number",
         Operand::Variable => "variable",
-    };
-    String::from_str(alloc, kind)
+    }
 }
 
 /// `alpha operand | TEXT`: the kind of the alpha operand that stands there.
-pub fn alpha_operand(alloc: Global, text: &[u8]) -> Result<String, AllocError> {
-    let kind = match alpha_operand_at(text) {
+pub fn alpha_operand(text: &[u8]) -> &'static str {
+    match alpha_operand_at(text) {
         AlphaOperand::Literal => "literal",
         AlphaOperand::StringPart => "part of a string",
         AlphaOperand::Hex => "hex",
         AlphaOperand::Binary => "binary",
         AlphaOperand::Variable => "variable",
-    };
-    String::from_str(alloc, kind)
+    }
 }

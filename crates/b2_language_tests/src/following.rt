@@ -1,72 +1,71 @@
 // The units of a line of a program, and what follows them.
 use crate::row_names::name_of;
 use b2_atom::{Atoms, Origin};
-use b2_cases::{Cells, bytes_of, number_of};
+use b2_cases::{Sheet, number_of};
 use b2_rows::{Goal, after_false, next_unit, past_colon, row_unit, taken_fault};
-use std::alloc::{AllocError, Global};
 
-/// Appends where a step goes on.
-fn show_goal(into: &mut String, goal: Goal) -> Result<(), AllocError> {
+/// Shows where a step goes on.
+fn show_goal(sheet: &mut Sheet<'_>, goal: Goal) {
     match goal {
-        Goal::Line(number) => write!(into, "line {number}"),
-        Goal::Unit(k) => write!(into, "unit {k}"),
-        Goal::NextLine => into.push_str("next line"),
+        Goal::Line(number) => {
+            sheet.show("line ");
+            sheet.show_number(u64::from(number));
+        }
+        Goal::Unit(k) => {
+            sheet.show("unit ");
+            sheet.show_number(k as u64);
+        }
+        Goal::NextLine => sheet.show("next line"),
     }
 }
 
-/// Appends the unit at which a step goes on after a fault.
-fn show_taken(into: &mut String, taken: Option<usize>) -> Result<(), AllocError> {
+/// Shows the unit at which a step goes on after a fault.
+fn show_taken(sheet: &mut Sheet<'_>, taken: Option<usize>) {
     match taken {
-        Some(k) => write!(into, "unit {k}"),
-        None => into.push_str("none"),
+        Some(k) => {
+            sheet.show("unit ");
+            sheet.show_number(k as u64);
+        }
+        None => sheet.show("none"),
     }
 }
 
 /// `unit | TYPED LINE | UNIT`: the row of the unit, where a step goes on after it, past the next `:`, after a false IF, and
 /// after a fault.
-pub fn unit(alloc: Global, row: Cells<'_>) -> Result<String, AllocError> {
-    let mut cells = row;
-    let typed = bytes_of(alloc, cells.next())?;
-    let k = usize::from(number_of(cells.next()));
-    match Atoms::read(alloc, Origin::Program, &typed) {
-        Ok(Some(line)) => unit_shown(alloc, &line, k),
-        _ => format!(in alloc; "no line"),
+pub fn unit(sheet: &mut Sheet<'_>) {
+    let typed = sheet.bytes();
+    let k = usize::from(number_of(sheet.cell()));
+    match Atoms::read(sheet.alloc(), Origin::Program, &typed) {
+        Ok(Some(line)) => show_unit(sheet, &line, k),
+        _ => sheet.show("no line"),
     }
 }
 
-fn unit_shown(alloc: Global, line: &Atoms, k: usize) -> Result<String, AllocError> {
-    let mut shown = String::new(alloc);
-    match row_unit(line, k) {
-        Some(unit) => {
-            shown.push_str(name_of(unit.row))?;
-            let goals = [
-                (": then ", next_unit(line, k)),
-                (", past ", past_colon(line, k)),
-                (", false ", after_false(line, k)),
-            ];
-            for (words, goal) in goals {
-                shown.push_str(words)?;
-                show_goal(&mut shown, goal)?;
-            }
-            shown.push_str(", fault ")?;
-            show_taken(&mut shown, taken_fault(line, k))?;
-        }
-        None => shown.push_str("no unit")?,
+fn show_unit(sheet: &mut Sheet<'_>, line: &Atoms, k: usize) {
+    let Some(unit) = row_unit(line, k) else {
+        return sheet.show("no unit");
+    };
+    sheet.show(name_of(unit.row));
+    let goals = [
+        (": then ", next_unit(line, k)),
+        (", past ", past_colon(line, k)),
+        (", false ", after_false(line, k)),
+    ];
+    for (words, goal) in goals {
+        sheet.show(words);
+        show_goal(sheet, goal);
     }
-    Ok(shown)
+    sheet.show(", fault ");
+    show_taken(sheet, taken_fault(line, k));
 }
 
 /// `uses | TYPED LINE | UNIT`: whether FN and whether an `@` name stands in the unit.
-pub fn uses(alloc: Global, row: Cells<'_>) -> Result<String, AllocError> {
-    let mut cells = row;
-    let typed = bytes_of(alloc, cells.next())?;
-    let k = usize::from(number_of(cells.next()));
-    match Atoms::read(alloc, Origin::Program, &typed) {
-        Ok(Some(line)) => {
-            let said = uses_of(&line, k);
-            String::from_str(alloc, said)
-        }
-        _ => format!(in alloc; "no line"),
+pub fn uses(sheet: &mut Sheet<'_>) {
+    let typed = sheet.bytes();
+    let k = usize::from(number_of(sheet.cell()));
+    match Atoms::read(sheet.alloc(), Origin::Program, &typed) {
+        Ok(Some(line)) => sheet.show(uses_of(&line, k)),
+        _ => sheet.show("no line"),
     }
 }
 

@@ -8,25 +8,24 @@ use b2_atom::{
     small_width,
 };
 use b2_base::lexical::{at, first, is_decimal};
-use b2_cases::shown::show_bytes;
+use b2_cases::Sheet;
 use b2_rows::{
     Name, address_at, alpha_name, function_name, hex_byte_at, hex_digit_at, image_at, is_line_at,
     is_read, line_at, local_name, named_lines, numeric_name, quoted_at, relation_at, slot_at,
     small_at,
 };
-use std::alloc::{AllocError, Global};
 
 /// `CALL | TEXT`: what is read at the text, or that nothing of the kind stands there.
-pub fn leaf(alloc: Global, call: &[u8], text: &[u8]) -> Result<String, AllocError> {
+pub fn leaf(sheet: &mut Sheet<'_>, call: &str, text: &[u8]) {
     match call {
-        b"line number" | b"small number" | b"slot" | b"hex byte" | b"hex digit" => {
-            number(alloc, call, text)
+        "line number" | "small number" | "slot" | "hex byte" | "hex digit" => {
+            show_number(sheet, number_at(call, text));
         }
-        b"name" | b"alpha name" | b"local name" => name(alloc, call, text),
-        b"function name" | b"literal" | b"image" | b"address" => bytes(alloc, call, text),
-        b"relation" => relation(alloc, text),
-        b"named lines" => lines(alloc, text),
-        _ => format!(in alloc; "no such call"),
+        "name" | "alpha name" | "local name" => show_name(sheet, name_at(call, text)),
+        "function name" | "literal" | "image" | "address" => show_bytes(sheet, call, text),
+        "relation" => show_relation(sheet, text),
+        "named lines" => show_lines(sheet, lines_at(text)),
+        _ => sheet.no_such_call(),
     }
 }
 
@@ -43,81 +42,69 @@ fn line_number(text: &[u8]) -> Option<u16> {
 }
 
 /// The number of a kind that stands at a text.
-fn number_at(kind: &[u8], text: &[u8]) -> Option<u16> {
+fn number_at(kind: &str, text: &[u8]) -> Option<u16> {
     match kind {
-        b"line number" => line_number(text),
-        b"small number" if small_width(text) > 0 => Some(u16::from(small_at(text))),
-        b"slot" if slot_width(text) > 0 => Some(u16::from(slot_at(text))),
-        b"hex byte" if hex_pair_width(Origin::Atoms, text) > 0 => {
+        "line number" => line_number(text),
+        "small number" if small_width(text) > 0 => Some(u16::from(small_at(text))),
+        "slot" if slot_width(text) > 0 => Some(u16::from(slot_at(text))),
+        "hex byte" if hex_pair_width(Origin::Atoms, text) > 0 => {
             Some(u16::from(hex_byte_at(text)))
         }
-        b"hex digit" if hex_digit_width(Origin::Atoms, text) > 0 => {
+        "hex digit" if hex_digit_width(Origin::Atoms, text) > 0 => {
             Some(u16::from(hex_digit_at(text)))
         }
         _ => None,
     }
 }
 
-fn number(alloc: Global, kind: &[u8], text: &[u8]) -> Result<String, AllocError> {
-    match number_at(kind, text) {
-        Some(number) => format!(in alloc; "{number}"),
-        None => format!(in alloc; "none"),
+fn show_number(sheet: &mut Sheet<'_>, found: Option<u16>) {
+    match found {
+        Some(number) => sheet.show_number(u64::from(number)),
+        None => sheet.show("none"),
     }
 }
 
 /// The name of a kind that stands at a text, and how many bytes it takes.
-fn name_at(kind: &[u8], text: &[u8]) -> Option<(Name, usize)> {
+fn name_at(kind: &str, text: &[u8]) -> Option<(Name, usize)> {
     match kind {
-        b"name" if numeric_name_width(Origin::Atoms, text) > 0 => Some(numeric_name(text)),
-        b"alpha name" if alpha_name_width(Origin::Atoms, text) > 0 => Some(alpha_name(text)),
-        b"local name" if local_name_width(Origin::Atoms, text) > 0 => Some(local_name(text)),
+        "name" if numeric_name_width(Origin::Atoms, text) > 0 => Some(numeric_name(text)),
+        "alpha name" if alpha_name_width(Origin::Atoms, text) > 0 => Some(alpha_name(text)),
+        "local name" if local_name_width(Origin::Atoms, text) > 0 => Some(local_name(text)),
         _ => None,
     }
 }
 
-fn name(alloc: Global, kind: &[u8], text: &[u8]) -> Result<String, AllocError> {
-    let mut shown = String::new(alloc);
-    match name_at(kind, text) {
-        Some((name, width)) => {
-            show_name(&mut shown, name)?;
-            write!(shown, " in {width}")?;
-        }
-        None => shown.push_str("none")?,
-    }
-    Ok(shown)
-}
-
-/// Appends a name's parts as they are typed.
-fn show_name(into: &mut String, name: Name) -> Result<(), AllocError> {
+/// Shows a name's parts as they are typed, and how many bytes it takes.
+fn show_name(sheet: &mut Sheet<'_>, found: Option<(Name, usize)>) {
+    let Some((name, width)) = found else {
+        return sheet.show("none");
+    };
     if name.global {
-        into.push('@')?;
+        sheet.show("@");
     }
-    into.push(name.letter as char)?;
+    sheet.show_letter(name.letter);
     if let Some(digit) = name.digit {
-        into.push(digit as char)?;
+        sheet.show_letter(digit);
     }
     if name.alpha {
-        into.push('$')?;
+        sheet.show("$");
     }
-    Ok(())
+    sheet.show(" in ");
+    sheet.show_number(width as u64);
 }
 
-fn bytes(alloc: Global, kind: &[u8], text: &[u8]) -> Result<String, AllocError> {
-    let mut shown = String::new(alloc);
+fn show_bytes(sheet: &mut Sheet<'_>, kind: &str, text: &[u8]) {
     match kind {
-        b"function name" if function_name_width(Origin::Atoms, text) > 0 => {
-            show_bytes(&mut shown, &[function_name(text)])?;
+        "function name" if function_name_width(Origin::Atoms, text) > 0 => {
+            sheet.show_bytes(&[function_name(text)]);
         }
-        b"literal" if literal_width(text) > 0 => show_bytes(&mut shown, quoted_at(text))?,
-        b"image" if image_width(Origin::Atoms, text) > 0 => {
-            show_bytes(&mut shown, image_at(text))?;
+        "literal" if literal_width(text) > 0 => sheet.show_bytes(quoted_at(text)),
+        "image" if image_width(Origin::Atoms, text) > 0 => sheet.show_bytes(image_at(text)),
+        "address" if address_width(Origin::Atoms, text) > 0 => {
+            sheet.show_bytes(&address_at(text).bytes());
         }
-        b"address" if address_width(Origin::Atoms, text) > 0 => {
-            show_bytes(&mut shown, &address_at(text).bytes())?;
-        }
-        _ => shown.push_str("none")?,
+        _ => sheet.show("none"),
     }
-    Ok(shown)
 }
 
 fn sign_of(relation: Rel) -> &'static str {
@@ -131,13 +118,14 @@ fn sign_of(relation: Rel) -> &'static str {
     }
 }
 
-fn relation(alloc: Global, text: &[u8]) -> Result<String, AllocError> {
+fn show_relation(sheet: &mut Sheet<'_>, text: &[u8]) {
     let width = relation_width(text);
     if width == 0 {
-        return format!(in alloc; "none");
+        return sheet.show("none");
     }
-    let sign = sign_of(relation_at(text));
-    format!(in alloc; "{sign} in {width}")
+    sheet.show(sign_of(relation_at(text)));
+    sheet.show(" in ");
+    sheet.show_number(width as u64);
 }
 
 /// The first and the last of the lines that are named at a text.
@@ -149,10 +137,16 @@ fn lines_at(text: &[u8]) -> Option<(u16, Option<u16>)> {
     Some(named_lines(text))
 }
 
-fn lines(alloc: Global, text: &[u8]) -> Result<String, AllocError> {
-    match lines_at(text) {
-        Some((from, Some(to))) => format!(in alloc; "{from} to {to}"),
-        Some((from, None)) => format!(in alloc; "{from} alone"),
-        None => format!(in alloc; "none"),
+fn show_lines(sheet: &mut Sheet<'_>, found: Option<(u16, Option<u16>)>) {
+    let Some((from, to)) = found else {
+        return sheet.show("none");
+    };
+    sheet.show_number(u64::from(from));
+    match to {
+        Some(to) => {
+            sheet.show(" to ");
+            sheet.show_number(u64::from(to));
+        }
+        None => sheet.show(" alone"),
     }
 }

@@ -16,7 +16,7 @@ mod text_steps;
 mod typed;
 
 use atom_cells::atoms_of;
-use b2_cases::{Calls, Cells, try_rows};
+use b2_cases::{Calls, Cells, Sheet, str_of, try_rows};
 use std::alloc::{AllocError, Global};
 use std::io;
 
@@ -24,35 +24,40 @@ struct LanguageCalls;
 
 impl Calls for LanguageCalls {
     fn given(alloc: Global, call: &[u8], cells: Cells<'_>) -> Result<String, AllocError> {
-        match call {
-            b"read" => typed::read_line(alloc, cells),
-            b"source" => typed::source(alloc, cells),
-            b"line" => typed::line(alloc, cells),
-            b"word" => typed::word(alloc, cells),
-            b"unit" => following::unit(alloc, cells),
-            b"uses" => following::uses(alloc, cells),
-            b"text" => text_steps::text(alloc, cells),
-            _ => at_atoms(alloc, call, cells),
-        }
+        let mut sheet = Sheet::new(alloc, cells);
+        answer(&mut sheet, str_of(call));
+        sheet.finish()
     }
 }
 
-/// What a call gives whose first cell is atoms.
-fn at_atoms(alloc: Global, call: &[u8], row: Cells<'_>) -> Result<String, AllocError> {
-    let mut cells = row;
-    let Some(atoms) = atoms_of(alloc, cells.next())? else {
-        return format!(in alloc; "no such word");
-    };
+/// Makes the call of that name.
+fn answer(sheet: &mut Sheet<'_>, call: &str) {
     match call {
-        b"units" => lines::units(alloc, &atoms),
-        b"rows" => lines::rows(alloc, &atoms),
-        b"list" => lines::listed(alloc, &atoms, cells.next()),
-        b"reads row" => lines::reads(alloc, &atoms, cells.next()),
-        b"begins" => beginnings::begins(alloc, &atoms),
-        b"operand" => beginnings::operand(alloc, &atoms),
-        b"alpha operand" => beginnings::alpha_operand(alloc, &atoms),
-        b"goes on" => beginnings::chains(alloc, &atoms),
-        _ => leaves::leaf(alloc, call, &atoms),
+        "read" => typed::read_line(sheet),
+        "source" => typed::source(sheet),
+        "line" => typed::line(sheet),
+        "word" => typed::word(sheet),
+        "unit" => following::unit(sheet),
+        "uses" => following::uses(sheet),
+        "text" => text_steps::text(sheet),
+        _ => at_atoms(sheet, call),
+    }
+}
+
+/// Makes the call of that name at the atoms that its first cell spells.
+fn at_atoms(sheet: &mut Sheet<'_>, call: &str) {
+    let cell = sheet.cell();
+    let atoms = atoms_of(sheet, cell);
+    match call {
+        "units" => lines::units(sheet, &atoms),
+        "rows" => lines::rows(sheet, &atoms),
+        "list" => lines::listed(sheet, &atoms),
+        "reads row" => lines::reads(sheet, &atoms),
+        "begins" => beginnings::begins(sheet, &atoms),
+        "operand" => sheet.show(beginnings::operand(&atoms)),
+        "alpha operand" => sheet.show(beginnings::alpha_operand(&atoms)),
+        "goes on" => beginnings::chains(sheet, &atoms),
+        _ => leaves::leaf(sheet, call, &atoms),
     }
 }
 

@@ -1,13 +1,11 @@
 // A program text, and what is asked of it call by call.
 use crate::atom_cells::{atoms_of, show_atoms};
-use crate::codes::{code_shown, fault_shown};
 use b2_atom::Atoms;
 use b2_atom::words::REM;
 use b2_base::cut;
 use b2_base::lexical::{first, is_digit, is_letter};
-use b2_cases::{Cells, number_of, small_of, whole_of};
+use b2_cases::{Sheet, number_of, small_of, str_of, whole_of};
 use b2_text::{Spot, Text};
-use std::alloc::{AllocError, Global};
 use std::mem;
 
 /// The text that is asked, and one whose lines it may take.
@@ -21,63 +19,50 @@ struct Texts {
 const OTHER_AREA: usize = 8192;
 
 /// `text | AREA | STEP | STEP ..`: what each step gives, asked of a text that has no lines in the beginning.
-pub fn text(alloc: Global, row: Cells<'_>) -> Result<String, AllocError> {
-    let mut cells = row;
-    let area = whole_of(cells.next()) as usize;
-    let mut shown = String::new(alloc);
-    match (Text::new(alloc, area), Text::new(alloc, OTHER_AREA)) {
-        (Ok(asked), Ok(other)) => {
-            let mut texts = Texts { asked, other };
-            show_steps(alloc, &mut shown, &mut texts, cells)?;
-        }
-        _ => shown.push_str("no memory")?,
-    }
-    Ok(shown)
+pub fn text(sheet: &mut Sheet<'_>) {
+    let area = whole_of(sheet.cell()) as usize;
+    let (Ok(asked), Ok(other)) = (
+        Text::new(sheet.alloc(), area),
+        Text::new(sheet.alloc(), OTHER_AREA),
+    ) else {
+        return sheet.no_memory();
+    };
+    show_steps(sheet, &mut Texts { asked, other });
 }
 
-/// How many steps a row may have.
-const MOST_STEPS: usize = 100;
-
-/// Appends what each step gives.
-fn show_steps(
-    alloc: Global,
-    into: &mut String,
-    texts: &mut Texts,
-    row: Cells<'_>,
-) -> Result<(), AllocError> {
-    let mut cells = row;
-    for count in 0..MOST_STEPS {
-        if cells.is_empty() {
-            return Ok(());
+/// Shows what each step gives.
+fn show_steps(sheet: &mut Sheet<'_>, texts: &mut Texts) {
+    for count in 0..u64::MAX {
+        if sheet.is_empty() {
+            break;
         }
         if count > 0 {
-            into.push_str(", ")?;
+            sheet.show(", ");
         }
-        let given = step(alloc, texts, cells.next())?;
-        into.push_str(given.as_str())?;
+        step(sheet, texts);
     }
-    into.push_str(", and no further step is taken")
 }
 
-/// What a step gives: a call's name and what it is called with.
-fn step(alloc: Global, texts: &mut Texts, step: &[u8]) -> Result<String, AllocError> {
-    let (name, rest) = cut(step, b' ');
+/// Makes a step: a call's name and what it is called with.
+fn step(sheet: &mut Sheet<'_>, texts: &mut Texts) {
+    let (name, rest) = cut(sheet.cell(), b' ');
+    let call = str_of(name);
     let words = rest.unwrap_or(&[]);
-    match name {
-        b"put" => put(alloc, &mut texts.asked, words),
-        b"remark" => remark(alloc, &mut texts.asked, words),
-        b"other" => put(alloc, &mut texts.other, words),
-        b"take" => take(alloc, texts),
-        b"delete" => {
+    match call {
+        "put" => put(sheet, &mut texts.asked, words),
+        "remark" => remark(sheet, &mut texts.asked, words),
+        "other" => put(sheet, &mut texts.other, words),
+        "take" => take(sheet, texts),
+        "delete" => {
             let (from, to) = two_numbers(words);
             texts.asked.delete(from, to);
-            String::from_str(alloc, "done")
+            sheet.show("done");
         }
-        b"clear" => {
+        "clear" => {
             texts.asked.clear();
-            String::from_str(alloc, "done")
+            sheet.show("done");
         }
-        _ => found(alloc, &texts.asked, name, words),
+        _ => show_found(sheet, &texts.asked, call, words),
     }
 }
 
@@ -88,132 +73,122 @@ fn two_numbers(words: &[u8]) -> (u16, u16) {
 }
 
 /// `put NUMBER ATOMS`, and `other NUMBER ATOMS` for the other text.
-fn put(alloc: Global, text: &mut Text, words: &[u8]) -> Result<String, AllocError> {
+fn put(sheet: &mut Sheet<'_>, text: &mut Text, words: &[u8]) {
     let (number, spelled) = cut(words, b' ');
-    match atoms_of(alloc, spelled.unwrap_or(&[]))? {
-        Some(atoms) => put_bytes(alloc, text, number_of(number), &atoms),
-        None => String::from_str(alloc, "no such word"),
-    }
+    let atoms = atoms_of(sheet, spelled.unwrap_or(&[]));
+    put_bytes(sheet, text, number_of(number), &atoms);
 }
 
 /// `remark NUMBER COUNT`: puts a REM with that many letters.
-fn remark(alloc: Global, text: &mut Text, words: &[u8]) -> Result<String, AllocError> {
+fn remark(sheet: &mut Sheet<'_>, text: &mut Text, words: &[u8]) {
     let (number, letters) = two_numbers(words);
-    let mut atoms = vec![in alloc; REM]?;
+    let mut atoms = Vec::new(sheet.alloc());
+    sheet.push(&mut atoms, REM);
     for _ in 0..letters {
-        atoms.push(b'A')?;
+        sheet.push(&mut atoms, b'A');
     }
-    put_bytes(alloc, text, number, &atoms)
+    put_bytes(sheet, text, number, &atoms);
 }
 
-fn put_bytes(
-    alloc: Global,
-    text: &mut Text,
-    number: u16,
-    atoms: &[u8],
-) -> Result<String, AllocError> {
-    match Atoms::of(alloc, atoms) {
+fn put_bytes(sheet: &mut Sheet<'_>, text: &mut Text, number: u16, atoms: &[u8]) {
+    match Atoms::of(sheet.alloc(), atoms) {
         Ok(Some(line)) => match text.put(number.min(9999), &line) {
-            Ok(()) => String::from_str(alloc, "done"),
-            Err(fault) => fault_shown(alloc, fault),
+            Ok(()) => sheet.show("done"),
+            Err(fault) => sheet.show_fault(fault),
         },
-        Ok(None) => String::from_str(alloc, "no line"),
-        Err(_) => String::from_str(alloc, "no memory"),
+        Ok(None) => sheet.show("no line"),
+        Err(_) => sheet.no_memory(),
     }
 }
 
 /// `take`: the text takes the lines of the other one, which has none after it.
-fn take(alloc: Global, texts: &mut Texts) -> Result<String, AllocError> {
-    let Ok(none) = Text::new(alloc, OTHER_AREA) else {
-        return String::from_str(alloc, "no memory");
+fn take(sheet: &mut Sheet<'_>, texts: &mut Texts) {
+    let Ok(none) = Text::new(sheet.alloc(), OTHER_AREA) else {
+        return sheet.no_memory();
     };
     let other = mem::replace(&mut texts.other, none);
     match texts.asked.take_lines(other) {
-        Ok(()) => String::from_str(alloc, "done"),
-        Err(code) => code_shown(alloc, code),
+        Ok(()) => sheet.show("done"),
+        Err(code) => sheet.show_code(code),
     }
 }
 
-/// What is found in a text.
-fn found(alloc: Global, text: &Text, name: &[u8], words: &[u8]) -> Result<String, AllocError> {
-    match name {
-        b"size" => {
-            let size = text.size();
-            format!(in alloc; "{size}")
-        }
-        b"next" => next(alloc, text, words),
-        b"line" => line(alloc, text, number_of(words)),
-        b"lines" => lines(alloc, text, two_numbers(words)),
-        b"marked" => spot(alloc, text.marked(small_of(words))),
-        b"function" => function(alloc, text, first(words)),
-        b"data" => {
+/// Shows what is found in a text.
+fn show_found(sheet: &mut Sheet<'_>, text: &Text, call: &str, words: &[u8]) {
+    match call {
+        "size" => sheet.show_number(text.size() as u64),
+        "next" => show_next(sheet, text, words),
+        "line" => show_line(sheet, text, number_of(words)),
+        "lines" => show_lines(sheet, text, two_numbers(words)),
+        "marked" => show_spot(sheet, text.marked(small_of(words))),
+        "function" => show_function(sheet, text, first(words)),
+        "data" => {
             let (line, unit) = two_numbers(words);
             let unit = unit.min(255) as u8;
-            spot(alloc, text.data_at(Spot { line, unit }))
+            show_spot(sheet, text.data_at(Spot { line, unit }));
         }
-        _ => String::from_str(alloc, "no such step"),
+        _ => sheet.no_such_call(),
     }
 }
 
 /// `next` for the first line of all, and `next NUMBER` for the first above that number.
-fn next(alloc: Global, text: &Text, words: &[u8]) -> Result<String, AllocError> {
+fn show_next(sheet: &mut Sheet<'_>, text: &Text, words: &[u8]) {
     let from = if words.is_empty() {
         None
     } else {
         Some(number_of(words))
     };
     match text.next_after(from) {
-        Some(number) => format!(in alloc; "{number}"),
-        None => String::from_str(alloc, "none"),
+        Some(number) => sheet.show_number(u64::from(number)),
+        None => sheet.show("none"),
     }
 }
 
 /// `line NUMBER`: the line of the number, with that number.
-fn line(alloc: Global, text: &Text, number: u16) -> Result<String, AllocError> {
+fn show_line(sheet: &mut Sheet<'_>, text: &Text, number: u16) {
     match text.line(number) {
         Some(line) => {
-            let number = line.number;
-            let mut shown = format!(in alloc; "{number} ")?;
-            show_atoms(&mut shown, line.atoms.bytes())?;
-            Ok(shown)
+            sheet.show_number(u64::from(line.number));
+            sheet.show(" ");
+            show_atoms(sheet, line.atoms.bytes());
         }
-        None => String::from_str(alloc, "none"),
+        None => sheet.show("none"),
     }
 }
 
 /// `lines FROM TO`: the numbers of the lines from one to another.
-fn lines(alloc: Global, text: &Text, range: (u16, u16)) -> Result<String, AllocError> {
+fn show_lines(sheet: &mut Sheet<'_>, text: &Text, range: (u16, u16)) {
     let (from, to) = range;
     if from > to {
-        return String::from_str(alloc, "no such range");
+        return sheet.misread();
     }
-    let mut shown = String::new(alloc);
+    let mut is_first = true;
     for (number, _) in text.lines(from, to) {
-        if !shown.is_empty() {
-            shown.push(' ')?;
+        if !is_first {
+            sheet.show(" ");
         }
-        let number = *number;
-        write!(&mut shown, "{number}")?;
+        sheet.show_number(u64::from(*number));
+        is_first = false;
     }
-    Ok(shown)
 }
 
 /// `function NAME`: where the DEFFN of a letter or a digit stands.
-fn function(alloc: Global, text: &Text, name: u8) -> Result<String, AllocError> {
+fn show_function(sheet: &mut Sheet<'_>, text: &Text, name: u8) {
     if is_letter(name) || is_digit(name) {
-        spot(alloc, text.function(name))
+        show_spot(sheet, text.function(name));
     } else {
-        String::from_str(alloc, "no name")
+        sheet.misread();
     }
 }
 
-fn spot(alloc: Global, found: Option<Spot>) -> Result<String, AllocError> {
+fn show_spot(sheet: &mut Sheet<'_>, found: Option<Spot>) {
     match found {
         Some(spot) => {
-            let line = spot.line;
-            let unit = spot.unit;
-            format!(in alloc; "line {line} unit {unit}")
+            sheet.show("line ");
+            sheet.show_number(u64::from(spot.line));
+            sheet.show(" unit ");
+            sheet.show_number(u64::from(spot.unit));
         }
-        None => String::from_str(alloc, "none"),
+        None => sheet.show("none"),
     }
 }

@@ -6,83 +6,86 @@
 // - `number parts | A`: whether it is below zero and whether it is zero, its thirteen digits and its exponent.
 // - `number packed | BYTES`: the number that is packed in eight bytes, and the bytes that it packs to.
 // - `number mixed | MODE | TIMES`: four operations in a circle, each on what the one before it gave, as many times.
-use crate::items::{Items, dec_of, packed_of};
-use crate::showing::{show_code, show_dec, show_packed};
+use crate::items::{dec_of, next_dec, next_packed};
+use crate::showing::{show_dec, show_packed};
 use b2_base::Code;
-use b2_cases::Cells;
-use b2_cases::answers::{Answer, Unanswered};
-use b2_cases::shown::show_truth;
+use b2_cases::{Sheet, str_of};
 use b2_dec::{
     Dec, Mode, abs, add, cmp, div, fix, int, modulo, mul, pack, power, round_to, sgn, sqr, sub,
     unpack, whole,
 };
-use std::alloc::Global;
 use std::cmp::Ordering;
-use std::fmt::Write;
 
-pub fn answer(alloc: Global, call: &[u8], cells: &mut Cells<'_>) -> Answer {
+pub fn answer(call: &str, sheet: &mut Sheet<'_>) {
     match call {
-        b"add" | b"sub" | b"mul" | b"div" | b"modulo" => joined(alloc, call, cells),
-        b"power" | b"round_to" => counted(alloc, call, cells),
-        b"cmp" => compared(alloc, cells),
-        b"packed" => packed(alloc, cells),
-        b"parts" => parts(alloc, cells),
-        b"mixed" => mixed(alloc, cells),
-        _ => of_one(alloc, call, cells),
+        "add" | "sub" | "mul" | "div" | "modulo" => joined(call, sheet),
+        "power" => raised(sheet),
+        "round_to" => rounded(sheet),
+        "cmp" => compared(sheet),
+        "packed" => packed(sheet),
+        "parts" => parts(sheet),
+        "mixed" => mixed(sheet),
+        _ => of_one(call, sheet),
     }
 }
 
-/// The mode that a cell names.
-pub fn mode_of(cell: &[u8]) -> Result<Mode, Unanswered> {
-    match cell {
-        b"round" => Ok(Mode::Round),
-        b"cut" => Ok(Mode::Cut),
-        _ => Err(Unanswered::Misread),
+/// Reads a cell that names a mode.
+pub fn next_mode(sheet: &mut Sheet<'_>) -> Mode {
+    match str_of(sheet.cell()) {
+        "round" => Mode::Round,
+        "cut" => Mode::Cut,
+        _ => {
+            sheet.misread();
+            Mode::Round
+        }
     }
 }
 
 /// Shows a number, or the code.
-fn outcome(alloc: Global, outcome: Result<Dec, Code>) -> Answer {
-    let mut shown = String::new(alloc);
+fn show_result(sheet: &mut Sheet<'_>, outcome: Result<Dec, Code>) {
     match outcome {
-        Ok(x) => show_dec(alloc, &mut shown, x)?,
-        Err(code) => show_code(&mut shown, code)?,
+        Ok(x) => show_dec(sheet, x),
+        Err(code) => sheet.show_code(code),
     }
-    Ok(shown)
 }
 
-fn joined(alloc: Global, call: &[u8], cells: &mut Cells<'_>) -> Answer {
-    let mode = mode_of(cells.next())?;
-    let a = dec_of(cells.next())?;
-    let b = dec_of(cells.next())?;
+fn joined(call: &str, sheet: &mut Sheet<'_>) {
+    let mode = next_mode(sheet);
+    let a = next_dec(sheet);
+    let b = next_dec(sheet);
     let found = match call {
-        b"add" => add(a, b, mode),
-        b"sub" => sub(a, b, mode),
-        b"mul" => mul(a, b, mode),
-        b"div" => div(a, b, mode),
+        "add" => add(a, b, mode),
+        "sub" => sub(a, b, mode),
+        "mul" => mul(a, b, mode),
+        "div" => div(a, b, mode),
         _ => modulo(a, b, mode),
     };
-    outcome(alloc, found)
+    show_result(sheet, found);
 }
 
-/// The number of places that a word says, from -128 to 127.
-pub fn places_of(word: &[u8]) -> Result<i8, Unanswered> {
-    match whole(dec_of(word)?) {
-        Some(n) if -128 <= n && n <= 127 => Ok(n as i8),
-        _ => Err(Unanswered::Misread),
+/// Reads a cell that says a number of places, from -128 to 127.
+pub fn next_places(sheet: &mut Sheet<'_>) -> i8 {
+    match whole(next_dec(sheet)) {
+        Some(n) if -128 <= n && n <= 127 => n as i8,
+        _ => {
+            sheet.misread();
+            0
+        }
     }
 }
 
-fn counted(alloc: Global, call: &[u8], cells: &mut Cells<'_>) -> Answer {
-    if call == b"power".as_slice() {
-        let mode = mode_of(cells.next())?;
-        let a = dec_of(cells.next())?;
-        let n = Items::of(cells.next()).small()?;
-        return outcome(alloc, power(a, n, mode));
-    }
-    let a = dec_of(cells.next())?;
-    let n = places_of(cells.next())?;
-    outcome(alloc, round_to(a, n))
+fn raised(sheet: &mut Sheet<'_>) {
+    let mode = next_mode(sheet);
+    let a = next_dec(sheet);
+    sheet.open();
+    let n = sheet.small();
+    show_result(sheet, power(a, n, mode));
+}
+
+fn rounded(sheet: &mut Sheet<'_>) {
+    let a = next_dec(sheet);
+    let n = next_places(sheet);
+    show_result(sheet, round_to(a, n));
 }
 
 /// The name of an order.
@@ -94,51 +97,50 @@ pub fn name_of_order(order: Ordering) -> &'static str {
     }
 }
 
-fn compared(alloc: Global, cells: &mut Cells<'_>) -> Answer {
-    let a = dec_of(cells.next())?;
-    let b = dec_of(cells.next())?;
-    Ok(format!(in alloc; "{}", name_of_order(cmp(a, b)))?)
+fn compared(sheet: &mut Sheet<'_>) {
+    let a = next_dec(sheet);
+    let b = next_dec(sheet);
+    sheet.show(name_of_order(cmp(a, b)));
 }
 
-fn of_one(alloc: Global, call: &[u8], cells: &mut Cells<'_>) -> Answer {
-    let a = dec_of(cells.next())?;
+fn of_one(call: &str, sheet: &mut Sheet<'_>) {
+    let a = next_dec(sheet);
     match call {
-        b"sqr" => outcome(alloc, sqr(a)),
-        b"int" => outcome(alloc, Ok(int(a))),
-        b"fix" => outcome(alloc, Ok(fix(a))),
-        b"abs" => outcome(alloc, Ok(abs(a))),
-        b"sgn" => outcome(alloc, Ok(sgn(a))),
-        b"whole" => match whole(a) {
-            Some(n) => Ok(format!(in alloc; "{n}")?),
-            None => Ok(format!(in alloc; "none")?),
+        "sqr" => show_result(sheet, sqr(a)),
+        "int" => show_dec(sheet, int(a)),
+        "fix" => show_dec(sheet, fix(a)),
+        "abs" => show_dec(sheet, abs(a)),
+        "sgn" => show_dec(sheet, sgn(a)),
+        "whole" => match whole(a) {
+            Some(n) => sheet.show_signed(n),
+            None => sheet.show("none"),
         },
-        _ => Err(Unanswered::NoSuchCall),
+        _ => sheet.no_such_call(),
     }
 }
 
-fn parts(alloc: Global, cells: &mut Cells<'_>) -> Answer {
-    let a = dec_of(cells.next())?;
-    let mut shown = String::new(alloc);
-    show_truth(&mut shown, a.is_negative())?;
-    shown.push(' ')?;
-    show_truth(&mut shown, a.is_zero())?;
-    write!(shown, " {} {}", a.coefficient(), a.exponent())?;
-    Ok(shown)
+fn parts(sheet: &mut Sheet<'_>) {
+    let a = next_dec(sheet);
+    sheet.show_truth(a.is_negative());
+    sheet.show(" ");
+    sheet.show_truth(a.is_zero());
+    sheet.show(" ");
+    sheet.show_number(a.coefficient());
+    sheet.show(" ");
+    sheet.show_signed(i64::from(a.exponent()));
 }
 
-fn packed(alloc: Global, cells: &mut Cells<'_>) -> Answer {
-    let text = packed_of(alloc, cells.next())?;
+fn packed(sheet: &mut Sheet<'_>) {
+    let text = next_packed(sheet);
     let [a, b, c, d, e, f, g, h] = text.as_slice() else {
-        return Err(Unanswered::Misread);
+        return sheet.misread();
     };
     let Some(x) = unpack(&[*a, *b, *c, *d, *e, *f, *g, *h]) else {
-        return Ok(format!(in alloc; "none")?);
+        return sheet.show("none");
     };
-    let mut shown = String::new(alloc);
-    show_dec(alloc, &mut shown, x)?;
-    shown.push(' ')?;
-    show_packed(&mut shown, &pack(x))?;
-    Ok(shown)
+    show_dec(sheet, x);
+    sheet.show(" ");
+    show_packed(sheet, &pack(x));
 }
 
 /// The numbers of the circle of operations.
@@ -153,7 +155,7 @@ struct Circle {
 }
 
 /// Once round the circle: a number above the top is scaled down.
-fn round_once(circle: Circle, start: Dec, mode: Mode) -> Result<Dec, Code> {
+fn round_once(circle: &Circle, start: Dec, mode: Mode) -> Result<Dec, Code> {
     let product = mul(start, circle.factor, mode)?;
     let sum = add(product, circle.addend, mode)?;
     let quotient = div(sum, circle.divisor, mode)?;
@@ -165,23 +167,31 @@ fn round_once(circle: Circle, start: Dec, mode: Mode) -> Result<Dec, Code> {
     }
 }
 
-fn mixed(alloc: Global, cells: &mut Cells<'_>) -> Answer {
-    let mode = mode_of(cells.next())?;
-    let times = Items::of(cells.next()).count()?;
-    let circle = Circle {
-        factor: dec_of(b"1.000321765432")?,
-        addend: dec_of(b".7654321")?,
-        divisor: dec_of(b"1.000043219876")?,
-        less: dec_of(b".25")?,
-        top: dec_of(b"1E9")?,
-        scale: dec_of(b"1E-9")?,
-    };
+/// The numbers of the circle.
+fn circle_of_numbers(sheet: &mut Sheet<'_>) -> Circle {
+    Circle {
+        factor: dec_of(sheet, b"1.000321765432"),
+        addend: dec_of(sheet, b".7654321"),
+        divisor: dec_of(sheet, b"1.000043219876"),
+        less: dec_of(sheet, b".25"),
+        top: dec_of(sheet, b"1E9"),
+        scale: dec_of(sheet, b"1E-9"),
+    }
+}
+
+/// So many times round the circle, from 1 on.
+fn rounds(circle: &Circle, mode: Mode, times: usize) -> Result<Dec, Code> {
     let mut x = Dec::of_whole(1);
     for _ in 0..times {
-        match round_once(circle, x, mode) {
-            Ok(next) => x = next,
-            Err(code) => return outcome(alloc, Err(code)),
-        }
+        x = round_once(circle, x, mode)?;
     }
-    outcome(alloc, Ok(x))
+    Ok(x)
+}
+
+fn mixed(sheet: &mut Sheet<'_>) {
+    let mode = next_mode(sheet);
+    sheet.open();
+    let times = sheet.count();
+    let circle = circle_of_numbers(sheet);
+    show_result(sheet, rounds(&circle, mode, times));
 }

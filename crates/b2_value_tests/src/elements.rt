@@ -6,89 +6,88 @@
 //   lengths are those of an element of the array and of the receiver.
 // - `element sort_locators | ARRAY | LENGTH | ROOM`: the receiver, after the code, if any.
 // - `element copy | ARRAY | ROOM`: the receiver.
-use crate::items::{Items, packed_of};
-use crate::showing::{show_code, show_fault};
-use crate::strings::relation_of;
-use b2_cases::Cells;
-use b2_cases::answers::{Answer, Unanswered};
-use b2_cases::shown::show_bytes;
+use crate::items::next_packed;
+use crate::strings::next_relation;
+use b2_cases::Sheet;
 use b2_matalpha::{copy, move_by, search, sort_locators};
-use std::alloc::Global;
-use std::fmt::Write;
 
-pub fn answer(alloc: Global, call: &[u8], cells: &mut Cells<'_>) -> Answer {
+pub fn answer(call: &str, sheet: &mut Sheet<'_>) {
     match call {
-        b"search" => found(alloc, cells),
-        b"move_by" => moved(alloc, cells),
-        b"sort_locators" => sorted(alloc, cells),
-        b"copy" => copied(alloc, cells),
-        _ => Err(Unanswered::NoSuchCall),
+        "search" => found(sheet),
+        "move_by" => moved(sheet),
+        "sort_locators" => sorted(sheet),
+        "copy" => copied(sheet),
+        _ => sheet.no_such_call(),
     }
 }
 
-/// A receiver of as many points as a cell says.
-fn points(alloc: Global, cell: &[u8]) -> Result<Vec<u8>, Unanswered> {
-    let room = Items::of(cell).number()?;
-    Ok(vec![in alloc; b'.'; room as usize]?)
-}
-
-fn found(alloc: Global, cells: &mut Cells<'_>) -> Answer {
-    let array = packed_of(alloc, cells.next())?;
-    let relation = relation_of(cells.next())?;
-    let value = packed_of(alloc, cells.next())?;
-    let step = Items::of(cells.next()).count()?;
-    let mut into = points(alloc, cells.next())?;
-    if array.len() > 65535 || value.is_empty() || step == 0 {
-        return Err(Unanswered::Misread);
-    }
-    search(&array, relation, &value, step, &mut into);
-    let mut shown = String::new(alloc);
-    show_bytes(&mut shown, &into)?;
-    Ok(shown)
-}
-
-fn moved(alloc: Global, cells: &mut Cells<'_>) -> Answer {
-    let array = packed_of(alloc, cells.next())?;
-    let len = Items::of(cells.next()).count()?;
-    let locators = packed_of(alloc, cells.next())?;
-    let to_len = Items::of(cells.next()).count()?;
-    let mut to = points(alloc, cells.next())?;
-    if array.len() > 65535 || len == 0 || to_len == 0 {
-        return Err(Unanswered::Misread);
-    }
-    let mut shown = String::new(alloc);
-    match move_by(&array, len, &locators, &mut to, to_len) {
-        Ok(count) => write!(shown, "{count} ")?,
-        Err(code) => {
-            show_code(&mut shown, code)?;
-            shown.push(' ')?;
+/// Reads a cell that says how many points a receiver has.
+fn next_points(sheet: &mut Sheet<'_>) -> Vec<u8> {
+    let alloc = sheet.alloc();
+    sheet.open();
+    let room = sheet.number();
+    match vec![in alloc; b'.'; room as usize] {
+        Ok(points) => points,
+        Err(_) => {
+            sheet.no_memory();
+            Vec::new(alloc)
         }
     }
-    show_bytes(&mut shown, &to)?;
-    Ok(shown)
 }
 
-fn sorted(alloc: Global, cells: &mut Cells<'_>) -> Answer {
-    let array = packed_of(alloc, cells.next())?;
-    let len = Items::of(cells.next()).count()?;
-    let mut into = points(alloc, cells.next())?;
+/// Reads a cell that says a whole number.
+fn next_count(sheet: &mut Sheet<'_>) -> usize {
+    sheet.open();
+    sheet.count()
+}
+
+fn found(sheet: &mut Sheet<'_>) {
+    let array = next_packed(sheet);
+    let relation = next_relation(sheet);
+    let value = next_packed(sheet);
+    let step = next_count(sheet);
+    let mut into = next_points(sheet);
+    if array.len() > 65535 || value.is_empty() || step == 0 {
+        return sheet.misread();
+    }
+    search(&array, relation, &value, step, &mut into);
+    sheet.show_bytes(&into);
+}
+
+fn moved(sheet: &mut Sheet<'_>) {
+    let array = next_packed(sheet);
+    let len = next_count(sheet);
+    let locators = next_packed(sheet);
+    let to_len = next_count(sheet);
+    let mut to = next_points(sheet);
+    if array.len() > 65535 || len == 0 || to_len == 0 {
+        return sheet.misread();
+    }
+    match move_by(&array, len, &locators, &mut to, to_len) {
+        Ok(count) => sheet.show_number(count as u64),
+        Err(code) => sheet.show_code(code),
+    }
+    sheet.show(" ");
+    sheet.show_bytes(&to);
+}
+
+fn sorted(sheet: &mut Sheet<'_>) {
+    let array = next_packed(sheet);
+    let len = next_count(sheet);
+    let mut into = next_points(sheet);
     if array.len() > 65535 || len == 0 {
-        return Err(Unanswered::Misread);
+        return sheet.misread();
     }
-    let mut shown = String::new(alloc);
-    if let Err(fault) = sort_locators(alloc, &array, len, &mut into) {
-        show_fault(&mut shown, fault)?;
-        shown.push(' ')?;
+    if let Err(fault) = sort_locators(sheet.alloc(), &array, len, &mut into) {
+        sheet.show_fault(fault);
+        sheet.show(" ");
     }
-    show_bytes(&mut shown, &into)?;
-    Ok(shown)
+    sheet.show_bytes(&into);
 }
 
-fn copied(alloc: Global, cells: &mut Cells<'_>) -> Answer {
-    let array = packed_of(alloc, cells.next())?;
-    let mut into = points(alloc, cells.next())?;
+fn copied(sheet: &mut Sheet<'_>) {
+    let array = next_packed(sheet);
+    let mut into = next_points(sheet);
     copy(&array, &mut into);
-    let mut shown = String::new(alloc);
-    show_bytes(&mut shown, &into)?;
-    Ok(shown)
+    sheet.show_bytes(&into);
 }

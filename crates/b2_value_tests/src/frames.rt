@@ -10,24 +10,19 @@
 // A frame is a letter. Loops: I, J, K and I1 of those variables, up to 9 by steps of 2, in line 30 of partition 4; x and y up
 // to 3 by steps of 1, in the immediate line of partition 3. Calls: c back to line 10 of partition 1, e back to line 20 of
 // partition 2 from 16, s back to the ready state.
-use crate::items::Items;
-use crate::showing::{show_code, show_dec, show_outcome};
+use crate::showing::show_dec;
 use b2_base::Part;
 use b2_base::lexical::first;
-use b2_cases::Cells;
-use b2_cases::answers::{Answer, Unanswered};
-use b2_cases::shown::show_truth;
+use b2_cases::{Sheet, str_of};
 use b2_dec::Dec;
 use b2_flow::{Frame, Place, Stack, Var2};
-use std::alloc::{AllocError, Global};
-use std::fmt::Write;
 
-pub fn answer(alloc: Global, call: &[u8], cells: &mut Cells<'_>) -> Answer {
+pub fn answer(call: &str, sheet: &mut Sheet<'_>) {
     match call {
-        b"calls" => calls(alloc, cells),
-        b"homes" => homes(alloc, cells),
-        b"full" => full(alloc, cells),
-        _ => Err(Unanswered::NoSuchCall),
+        "calls" => calls(sheet),
+        "homes" => homes(sheet),
+        "full" => full(sheet),
+        _ => sheet.no_such_call(),
     }
 }
 
@@ -60,11 +55,11 @@ fn variable(word: &[u8]) -> Var2 {
 
 /// The frame that a word names.
 fn frame_of(word: &[u8]) -> Frame {
-    match word {
-        b"c" => call_back(Some(place(Part::known(1), Some(10))), None),
-        b"e" => call_back(Some(place(Part::known(2), Some(20))), Some(Part::known(16))),
-        b"s" => call_back(None, None),
-        b"x" | b"y" => Frame::For {
+    match str_of(word) {
+        "c" => call_back(Some(place(Part::known(1), Some(10))), None),
+        "e" => call_back(Some(place(Part::known(2), Some(20))), Some(Part::known(16))),
+        "s" => call_back(None, None),
+        "x" | "y" => Frame::For {
             var: variable(word),
             limit: Dec::of_whole(3),
             step: Dec::of_whole(1),
@@ -79,150 +74,134 @@ fn frame_of(word: &[u8]) -> Frame {
     }
 }
 
-/// A stack of the frames that a cell names, the lowest first.
-fn stack_of(alloc: Global, cell: &[u8]) -> Result<Stack, Unanswered> {
-    let mut stack = Stack::new(alloc)?;
-    let mut items = Items::of(cell);
-    for _ in 0..cell.len() {
-        if items.is_empty() {
+/// Reads a cell that names frames, and pushes them.
+fn push_named(stack: &mut Stack, sheet: &mut Sheet<'_>) {
+    sheet.open();
+    for _ in 0..u64::MAX {
+        if !sheet.has_items() {
             break;
         }
-        let word = items.word()?;
+        let word = sheet.word();
         if !is_name(word) || stack.push(frame_of(word)).is_err() {
-            return Err(Unanswered::Misread);
+            sheet.misread();
         }
     }
-    Ok(stack)
 }
 
-/// Appends a place: its partition, its line where it has one, and its unit.
-fn show_place(shown: &mut String, place: Place) -> Result<(), AllocError> {
-    write!(shown, "{}", place.home.number())?;
+/// Shows a place: its partition, its line where it has one, and its unit.
+fn show_place(sheet: &mut Sheet<'_>, place: Place) {
+    sheet.show_number(u64::from(place.home.number()));
     if let Some(line) = place.line {
-        write!(shown, ":{line}")?;
+        sheet.show(":");
+        sheet.show_number(u64::from(line));
     }
-    write!(shown, ":{}", place.unit)
+    sheet.show(":");
+    sheet.show_number(u64::from(place.unit));
 }
 
-/// Appends what a call has: where it leads back to, and the partition whose text it entered.
-fn show_call(
-    shown: &mut String,
-    back: Option<Place>,
-    entered: Option<Part>,
-) -> Result<(), AllocError> {
+/// Shows what a call has: where it leads back to, and the partition whose text it entered.
+fn show_call(sheet: &mut Sheet<'_>, back: Option<Place>, entered: Option<Part>) {
     match back {
-        Some(place) => show_place(shown, place)?,
-        None => shown.push_str("ready")?,
+        Some(place) => show_place(sheet, place),
+        None => sheet.show("ready"),
     }
     if let Some(part) = entered {
-        write!(shown, " from {}", part.number())?;
+        sheet.show(" from ");
+        sheet.show_number(u64::from(part.number()));
     }
-    Ok(())
 }
 
-/// Appends what a loop has: its limit, its step and its body.
-fn show_loop(
-    alloc: Global,
-    shown: &mut String,
-    limit: Dec,
-    step: Dec,
-    body: Place,
-) -> Result<(), AllocError> {
-    show_dec(alloc, shown, limit)?;
-    shown.push_str(" by ")?;
-    show_dec(alloc, shown, step)?;
-    shown.push_str(" in ")?;
-    show_place(shown, body)
+/// Shows what a loop has: its limit, its step and its body.
+fn show_loop(sheet: &mut Sheet<'_>, limit: Dec, step: Dec, body: Place) {
+    show_dec(sheet, limit);
+    sheet.show(" by ");
+    show_dec(sheet, step);
+    sheet.show(" in ");
+    show_place(sheet, body);
 }
 
-/// Appends a frame in parentheses; a loop begins with its variable.
-fn show_frame(alloc: Global, shown: &mut String, frame: Frame) -> Result<(), AllocError> {
-    shown.push_str(" (")?;
+/// Shows a frame in parentheses; a loop begins with its variable.
+fn show_frame(sheet: &mut Sheet<'_>, frame: Frame) {
+    sheet.show(" (");
     match frame {
-        Frame::Call { back, entered } => show_call(shown, back, entered)?,
+        Frame::Call { back, entered } => show_call(sheet, back, entered),
         Frame::For {
             var,
             limit,
             step,
             body,
         } => {
-            shown.push(var.letter as char)?;
+            sheet.show_letter(var.letter);
             if let Some(digit) = var.digit {
-                shown.push(digit as char)?;
+                sheet.show_letter(digit);
             }
-            shown.push_str(" to ")?;
-            show_loop(alloc, shown, limit, step, body)?;
+            sheet.show(" to ");
+            show_loop(sheet, limit, step, body);
         }
     }
-    shown.push(')')
+    sheet.show(")");
 }
 
-/// Appends how many frames there are, and each of them, the lowest first.
-fn show_stack(alloc: Global, shown: &mut String, stack: &Stack) -> Result<(), AllocError> {
-    write!(shown, "{}", stack.len())?;
+/// Shows how many frames there are, and each of them, the lowest first.
+fn show_stack(sheet: &mut Sheet<'_>, stack: &Stack) {
+    sheet.show_number(stack.len() as u64);
     for k in 0..=stack.len() {
         if let Some(frame) = stack.frame(k) {
-            show_frame(alloc, shown, frame)?;
+            show_frame(sheet, frame);
         }
     }
-    Ok(())
 }
 
-fn calls(alloc: Global, cells: &mut Cells<'_>) -> Answer {
-    let mut stack = stack_of(alloc, cells.next())?;
-    let mut shown = String::new(alloc);
+fn calls(sheet: &mut Sheet<'_>) {
+    let Ok(mut stack) = Stack::new(sheet.alloc()) else {
+        return sheet.no_memory();
+    };
+    push_named(&mut stack, sheet);
     for _ in 0..100u8 {
-        if cells.is_empty() {
+        if sheet.is_empty() {
             break;
         }
-        one_call(alloc, &mut stack, cells.next(), &mut shown)?;
-        shown.push_str(", ")?;
+        one_call(&mut stack, sheet);
+        sheet.show(", ");
     }
-    show_stack(alloc, &mut shown, &stack)?;
-    Ok(shown)
+    show_stack(sheet, &stack);
 }
 
-fn one_call(
-    alloc: Global,
-    stack: &mut Stack,
-    cell: &[u8],
-    shown: &mut String,
-) -> Result<(), Unanswered> {
-    let mut items = Items::of(cell);
-    let call = items.word()?;
-    let word = items.word()?;
-    if !items.is_empty() {
-        return Err(Unanswered::Misread);
-    }
+fn one_call(stack: &mut Stack, sheet: &mut Sheet<'_>) {
+    sheet.open();
+    let call = str_of(sheet.word());
+    let word = sheet.word();
     match call {
-        b"loop_of" => match stack.loop_of(variable(word)) {
-            Ok((limit, step, body)) => show_loop(alloc, shown, limit, step, body)?,
-            Err(code) => show_code(shown, code)?,
+        "loop_of" => match stack.loop_of(variable(word)) {
+            Ok((limit, step, body)) => show_loop(sheet, limit, step, body),
+            Err(code) => sheet.show_code(code),
         },
-        b"pop_call" => match stack.pop_call() {
-            Ok((back, entered)) => show_call(shown, back, entered)?,
-            Err(code) => show_code(shown, code)?,
+        "pop_call" => match stack.pop_call() {
+            Ok((back, entered)) => show_call(sheet, back, entered),
+            Err(code) => sheet.show_code(code),
         },
-        b"end_loop" => stack.end_loop(),
-        b"drop_immediate" => stack.drop_immediate(),
-        b"clear" => stack.clear(),
-        _ => return Err(Unanswered::Misread),
+        "end_loop" => stack.end_loop(),
+        "drop_immediate" => stack.drop_immediate(),
+        "clear" => stack.clear(),
+        _ => sheet.misread(),
     }
-    Ok(())
 }
 
-fn homes(alloc: Global, cells: &mut Cells<'_>) -> Answer {
-    let stack = stack_of(alloc, cells.next())?;
+fn homes(sheet: &mut Sheet<'_>) {
+    let Ok(mut stack) = Stack::new(sheet.alloc()) else {
+        return sheet.no_memory();
+    };
+    push_named(&mut stack, sheet);
     let marks = stack.homes();
-    let mut shown = format!(in alloc; "{marks}")?;
+    sheet.show_number(u64::from(marks));
     for number in 1..17u8 {
         if let Some(part) = Part::of(number) {
             if marks & part.bit() != 0 {
-                write!(shown, " {number}")?;
+                sheet.show(" ");
+                sheet.show_number(u64::from(number));
             }
         }
     }
-    Ok(shown)
 }
 
 /// Pushes the frame that a word names so many times; gives how often it was taken.
@@ -236,23 +215,32 @@ fn push_often(stack: &mut Stack, word: &[u8], times: u16) -> u16 {
     taken
 }
 
-fn full(alloc: Global, cells: &mut Cells<'_>) -> Answer {
-    let times = Items::of(cells.next()).number()?;
-    let word = cells.next();
-    let mut stack = Stack::new(alloc)?;
-    let mut shown = String::new(alloc);
+/// Fills a stack, and shows what one more push gives, and what stands at the top.
+fn show_filled(stack: &mut Stack, word: &[u8], times: u16, sheet: &mut Sheet<'_>) {
+    let taken = push_often(stack, word, times);
+    sheet.show_number(u64::from(taken));
+    sheet.show(" taken, ");
+    sheet.show_outcome(stack.push(frame_of(b"I")));
+    sheet.show(", ");
+    sheet.show_number(stack.len() as u64);
+    sheet.show(" there");
+    if let Some(top) = stack.frame(199) {
+        show_frame(sheet, top);
+    }
+    sheet.show(", ");
+    sheet.show_truth(stack.frame(200).is_some());
+    sheet.show("; ");
+}
+
+fn full(sheet: &mut Sheet<'_>) {
+    sheet.open();
+    let times = sheet.number();
+    let word = sheet.cell();
+    let Ok(mut stack) = Stack::new(sheet.alloc()) else {
+        return sheet.no_memory();
+    };
     for _ in 0..2u8 {
-        let taken = push_often(&mut stack, word, times);
-        write!(shown, "{taken} taken, ")?;
-        show_outcome(&mut shown, stack.push(frame_of(b"I")))?;
-        write!(shown, ", {} there", stack.len())?;
-        if let Some(top) = stack.frame(199) {
-            show_frame(alloc, &mut shown, top)?;
-        }
-        shown.push_str(", ")?;
-        show_truth(&mut shown, stack.frame(200).is_some())?;
-        shown.push_str("; ")?;
+        show_filled(&mut stack, word, times, sheet);
         stack.clear();
     }
-    Ok(shown)
 }

@@ -1,192 +1,121 @@
-// The items of a cell: words with blanks between them, and texts in quotes.
+// What the cells and items of a row say: numbers, values and bytes.
 use b2_base::cut;
-use b2_base::lexical::{digits_width, hex_value, is_hex_digit, skip_blanks};
-use b2_cases::answers::Unanswered;
-use b2_cases::{bytes_of, number_of, small_of, whole_of};
+use b2_base::lexical::{hex_value, is_hex_digit};
+use b2_cases::{Item, Sheet, number_of};
 use b2_dec::{Bytes, Dec, Value};
 use b2_dectext::read;
-use std::alloc::Global;
-
-/// An item of a cell.
-#[derive(Clone, Copy)]
-pub enum Item<'a> {
-    /// Bytes up to a blank.
-    Word(&'a [u8]),
-    /// Bytes between two quotes.
-    Quoted(&'a [u8]),
-}
-
-/// The items of a text that have not been read.
-#[derive(Clone, Copy)]
-pub struct Items<'a> {
-    left: &'a [u8],
-}
-
-impl<'a> Items<'a> {
-    pub fn of(text: &'a [u8]) -> Items<'a> {
-        Items {
-            left: skip_blanks(text),
-        }
-    }
-
-    /// Returns whether all items have been read.
-    pub fn is_empty(&self) -> bool {
-        self.left.is_empty()
-    }
-
-    /// Reads an item: an empty word where all have been read.
-    pub fn next(&mut self) -> Item<'a> {
-        let (item, after) = match self.left {
-            [b'"', rest @ ..] => {
-                let (inner, after) = cut(rest, b'"');
-                (Item::Quoted(inner), after)
-            }
-            _ => {
-                let (word, after) = cut(self.left, b' ');
-                (Item::Word(word), after)
-            }
-        };
-        self.left = skip_blanks(after.unwrap_or(&[]));
-        item
-    }
-
-    /// Reads a word: an empty one where all items have been read.
-    pub fn word(&mut self) -> Result<&'a [u8], Unanswered> {
-        match self.next() {
-            Item::Word(word) => Ok(word),
-            Item::Quoted(_) => Err(Unanswered::Misread),
-        }
-    }
-
-    /// Reads bytes between quotes.
-    pub fn quoted(&mut self, alloc: Global) -> Result<Vec<u8>, Unanswered> {
-        match self.next() {
-            Item::Word(_) => Err(Unanswered::Misread),
-            Item::Quoted(text) => Ok(bytes_of(alloc, text)?),
-        }
-    }
-
-    /// Reads a whole number, at most 65535: 0 where all items have been read.
-    pub fn number(&mut self) -> Result<u16, Unanswered> {
-        let word = self.word()?;
-        if digits_width(word) == word.len() {
-            Ok(number_of(word))
-        } else {
-            Err(Unanswered::Misread)
-        }
-    }
-
-    /// Reads a whole number, at most 255: 0 where all items have been read.
-    pub fn small(&mut self) -> Result<u8, Unanswered> {
-        let word = self.word()?;
-        if digits_width(word) == word.len() {
-            Ok(small_of(word))
-        } else {
-            Err(Unanswered::Misread)
-        }
-    }
-
-    /// Reads a whole number; the word `most` is the greatest.
-    pub fn count(&mut self) -> Result<usize, Unanswered> {
-        let word = self.word()?;
-        if word == b"most".as_slice() {
-            return Ok(usize::MAX);
-        }
-        if digits_width(word) == word.len() {
-            Ok(whole_of(word) as usize)
-        } else {
-            Err(Unanswered::Misread)
-        }
-    }
-}
 
 /// The number that a word is.
-pub fn dec_of(word: &[u8]) -> Result<Dec, Unanswered> {
+pub fn dec_of(sheet: &mut Sheet<'_>, word: &[u8]) -> Dec {
     match read(word) {
-        (len, Some(x)) if len == word.len() => Ok(x),
-        _ => Err(Unanswered::Misread),
+        (len, Some(x)) if len == word.len() => x,
+        _ => {
+            sheet.misread();
+            Dec::of_whole(0)
+        }
     }
 }
 
-/// The numbers that the words of a cell are.
-pub fn decs_of(alloc: Global, cell: &[u8]) -> Result<Vec<Dec>, Unanswered> {
-    let mut all = Vec::new(alloc);
-    let mut items = Items::of(cell);
-    for _ in 0..cell.len() {
-        if items.is_empty() {
+/// Reads a cell that is a number.
+pub fn next_dec(sheet: &mut Sheet<'_>) -> Dec {
+    let cell = sheet.cell();
+    dec_of(sheet, cell)
+}
+
+/// Reads the numbers that are left of the open cell.
+pub fn decs_left(sheet: &mut Sheet<'_>) -> Vec<Dec> {
+    let mut all = Vec::new(sheet.alloc());
+    for _ in 0..u64::MAX {
+        if !sheet.has_items() {
             break;
         }
-        all.push(dec_of(items.word()?)?)?;
+        let word = sheet.word();
+        let x = dec_of(sheet, word);
+        sheet.push(&mut all, x);
     }
-    Ok(all)
+    all
 }
 
-/// The value that an item is: a number, or the bytes between quotes.
-pub fn value_of(alloc: Global, item: Item<'_>) -> Result<Value, Unanswered> {
-    match item {
-        Item::Word(word) => Ok(Value::Number(dec_of(word)?)),
-        Item::Quoted(text) => match Bytes::of(&bytes_of(alloc, text)?) {
-            Some(all) => Ok(Value::Alpha(all)),
-            None => Err(Unanswered::Misread),
-        },
+/// Reads a cell of numbers.
+pub fn next_decs(sheet: &mut Sheet<'_>) -> Vec<Dec> {
+    sheet.open();
+    decs_left(sheet)
+}
+
+/// Reads an item that is a value: a number, or the bytes between quotes.
+pub fn value(sheet: &mut Sheet<'_>) -> Value {
+    match sheet.item() {
+        Item::Word(word) => Value::Number(dec_of(sheet, word)),
+        Item::Quoted(text) => Value::Alpha(bytes_of(sheet, text)),
     }
 }
 
-/// The values that the items of a cell are.
-pub fn values_of(alloc: Global, cell: &[u8]) -> Result<Vec<Value>, Unanswered> {
-    let mut all = Vec::new(alloc);
-    let mut items = Items::of(cell);
-    for _ in 0..cell.len() {
-        if items.is_empty() {
+/// The bytes that a text spells.
+fn bytes_of(sheet: &mut Sheet<'_>, text: &[u8]) -> Bytes {
+    match Bytes::of(&sheet.spelled(text)) {
+        Some(bytes) => bytes,
+        None => {
+            sheet.misread();
+            Bytes::new()
+        }
+    }
+}
+
+/// Reads a cell of values.
+pub fn next_values(sheet: &mut Sheet<'_>) -> Vec<Value> {
+    let mut all = Vec::new(sheet.alloc());
+    sheet.open();
+    for _ in 0..u64::MAX {
+        if !sheet.has_items() {
             break;
         }
-        all.push(value_of(alloc, items.next())?)?;
+        let value = value(sheet);
+        sheet.push(&mut all, value);
     }
-    Ok(all)
+    all
 }
 
 /// Appends the bytes that a word spells in hexadecimal digits.
-fn push_hex(into: &mut Vec<u8>, word: &[u8]) -> Result<(), Unanswered> {
+fn push_hex(sheet: &mut Sheet<'_>, into: &mut Vec<u8>, word: &[u8]) {
     let mut left = word;
     for _ in 0..word.len() {
         match left {
             [high, low, rest @ ..] if is_hex_digit(*high) && is_hex_digit(*low) => {
-                into.push(hex_value(*high) * 16 + hex_value(*low))?;
+                sheet.push(into, hex_value(*high) * 16 + hex_value(*low));
                 left = rest;
             }
             [] => break,
-            _ => return Err(Unanswered::Misread),
+            _ => return sheet.misread(),
         }
     }
-    Ok(())
 }
 
 /// Appends the bytes of an item: those between quotes, or those of a word in hexadecimal digits, which `*` and a number
 /// repeat.
-fn push_item(alloc: Global, into: &mut Vec<u8>, item: Item<'_>) -> Result<(), Unanswered> {
-    match item {
+fn push_item(sheet: &mut Sheet<'_>, into: &mut Vec<u8>) {
+    match sheet.item() {
         Item::Quoted(text) => {
-            into.extend_from_slice(&bytes_of(alloc, text)?)?;
+            let bytes = sheet.spelled(text);
+            sheet.append(into, &bytes);
         }
         Item::Word(word) => {
             let (pairs, times) = cut(word, b'*');
             for _ in 0..times.map_or(1, number_of) {
-                push_hex(into, pairs)?;
+                push_hex(sheet, into, pairs);
             }
         }
     }
-    Ok(())
 }
 
-/// The bytes that the items of a cell are: texts in quotes, and words of hexadecimal digits.
-pub fn packed_of(alloc: Global, cell: &[u8]) -> Result<Vec<u8>, Unanswered> {
-    let mut all = Vec::new(alloc);
-    let mut items = Items::of(cell);
-    for _ in 0..cell.len() {
-        if items.is_empty() {
+/// Reads a cell of bytes: texts in quotes, and words of hexadecimal digits.
+pub fn next_packed(sheet: &mut Sheet<'_>) -> Vec<u8> {
+    let mut all = Vec::new(sheet.alloc());
+    sheet.open();
+    for _ in 0..u64::MAX {
+        if !sheet.has_items() {
             break;
         }
-        push_item(alloc, &mut all, items.next())?;
+        push_item(sheet, &mut all);
     }
-    Ok(all)
+    all
 }

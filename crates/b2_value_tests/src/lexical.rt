@@ -11,87 +11,73 @@ use b2_base::lexical::{
     hex_digit, hex_pair, hex_value, is_decimal, is_digit, is_hex_digit, is_letter, is_printable,
     is_small_letter, rest_after, skip_blanks, upper, without_zeros,
 };
-use b2_cases::answers::{Answer, Unanswered};
-use b2_cases::shown::{show_bytes, show_truth};
-use b2_cases::{Cells, bytes_of, small_of, whole_of};
-use std::alloc::{AllocError, Global};
-use std::fmt::Write;
+use b2_cases::{Sheet, small_of, whole_of};
 
-pub fn answer(alloc: Global, call: &[u8], cells: &mut Cells<'_>) -> Answer {
+pub fn answer(call: &str, sheet: &mut Sheet<'_>) {
     match call {
-        b"cut" => cut_at(alloc, cells),
-        b"hex_digit" | b"decimal_byte" => of_number(alloc, call, cells),
-        b"at" | b"rest_after" | b"first_bytes" | b"capped_value" => placed(alloc, call, cells),
-        _ => of_text(alloc, call, cells),
+        "cut" => cut_at(sheet),
+        "hex_digit" | "decimal_byte" => of_number(call, sheet),
+        "at" | "rest_after" | "first_bytes" | "capped_value" => placed(call, sheet),
+        _ => of_text(call, sheet),
     }
 }
 
-fn cut_at(alloc: Global, cells: &mut Cells<'_>) -> Answer {
-    let mark = bytes_of(alloc, cells.next())?;
-    let text = bytes_of(alloc, cells.next())?;
+fn cut_at(sheet: &mut Sheet<'_>) {
+    let mark = sheet.bytes();
+    let text = sheet.bytes();
     let (before, after) = cut(&text, first(&mark));
-    let mut shown = String::new(alloc);
-    show_bytes(&mut shown, before)?;
+    sheet.show_bytes(before);
     if let Some(rest) = after {
-        shown.push_str(" then ")?;
-        show_bytes(&mut shown, rest)?;
+        sheet.show(" then ");
+        sheet.show_bytes(rest);
     }
-    Ok(shown)
 }
 
-fn of_number(alloc: Global, call: &[u8], cells: &mut Cells<'_>) -> Answer {
-    let n = small_of(cells.next());
-    let mut shown = String::new(alloc);
+fn of_number(call: &str, sheet: &mut Sheet<'_>) {
+    let n = small_of(sheet.cell());
     match call {
-        b"hex_digit" if n < 16 => show_bytes(&mut shown, &[hex_digit(n)])?,
-        b"decimal_byte" if n < 100 => show_bytes(&mut shown, &[decimal_byte(n)])?,
-        _ => return Err(Unanswered::Misread),
+        "hex_digit" if n < 16 => sheet.show_bytes(&[hex_digit(n)]),
+        "decimal_byte" if n < 100 => sheet.show_bytes(&[decimal_byte(n)]),
+        _ => sheet.misread(),
     }
-    Ok(shown)
 }
 
-fn placed(alloc: Global, call: &[u8], cells: &mut Cells<'_>) -> Answer {
-    let text = bytes_of(alloc, cells.next())?;
-    let n = whole_of(cells.next());
-    let mut shown = String::new(alloc);
+fn placed(call: &str, sheet: &mut Sheet<'_>) {
+    let text = sheet.bytes();
+    let n = whole_of(sheet.cell());
     match call {
-        b"at" => show_bytes(&mut shown, &[at(&text, n as usize)])?,
-        b"rest_after" => show_bytes(&mut shown, rest_after(&text, n as usize))?,
-        b"first_bytes" => show_bytes(&mut shown, first_bytes(&text, n as usize))?,
-        _ => write!(shown, "{}", capped_value(&text, n.min(100000000)))?,
+        "at" => sheet.show_bytes(&[at(&text, n as usize)]),
+        "rest_after" => sheet.show_bytes(rest_after(&text, n as usize)),
+        "first_bytes" => sheet.show_bytes(first_bytes(&text, n as usize)),
+        _ => sheet.show_number(u64::from(capped_value(&text, n.min(100000000)))),
     }
-    Ok(shown)
 }
 
-fn of_text(alloc: Global, call: &[u8], cells: &mut Cells<'_>) -> Answer {
-    let text = bytes_of(alloc, cells.next())?;
-    let mut shown = String::new(alloc);
+fn of_text(call: &str, sheet: &mut Sheet<'_>) {
+    let text = sheet.bytes();
     match call {
-        b"first" => show_bytes(&mut shown, &[first(&text)])?,
-        b"skip_blanks" => show_bytes(&mut shown, skip_blanks(&text))?,
-        b"digits_width" => write!(shown, "{}", digits_width(&text))?,
-        b"without_zeros" => show_bytes(&mut shown, without_zeros(&text))?,
-        b"all_printable" => show_truth(&mut shown, all_printable(&text))?,
-        _ => return of_byte(alloc, call, first(&text)),
+        "first" => sheet.show_bytes(&[first(&text)]),
+        "skip_blanks" => sheet.show_bytes(skip_blanks(&text)),
+        "digits_width" => sheet.show_number(digits_width(&text) as u64),
+        "without_zeros" => sheet.show_bytes(without_zeros(&text)),
+        "all_printable" => sheet.show_truth(all_printable(&text)),
+        _ => of_byte(call, first(&text), sheet),
     }
-    Ok(shown)
 }
 
-fn of_byte(alloc: Global, call: &[u8], byte: u8) -> Answer {
-    let mut shown = String::new(alloc);
+fn of_byte(call: &str, byte: u8, sheet: &mut Sheet<'_>) {
     match call {
-        b"kinds" => show_kinds(&mut shown, byte)?,
-        b"upper" => show_bytes(&mut shown, &[upper(byte)])?,
-        b"hex_value" if is_hex_digit(byte) => write!(shown, "{}", hex_value(byte))?,
-        b"hex_pair" => show_bytes(&mut shown, &hex_pair(byte))?,
-        b"is_decimal" => show_truth(&mut shown, is_decimal(byte))?,
-        b"decimal_of" => write!(shown, "{}", decimal_of(byte))?,
-        _ => return Err(Unanswered::NoSuchCall),
+        "kinds" => show_kinds(byte, sheet),
+        "upper" => sheet.show_bytes(&[upper(byte)]),
+        "hex_value" if is_hex_digit(byte) => sheet.show_number(u64::from(hex_value(byte))),
+        "hex_pair" => sheet.show_bytes(&hex_pair(byte)),
+        "is_decimal" => sheet.show_truth(is_decimal(byte)),
+        "decimal_of" => sheet.show_number(u64::from(decimal_of(byte))),
+        _ => sheet.no_such_call(),
     }
-    Ok(shown)
 }
 
-fn show_kinds(shown: &mut String, byte: u8) -> Result<(), AllocError> {
+fn show_kinds(byte: u8, sheet: &mut Sheet<'_>) {
     let kinds = [
         (is_digit(byte), "digit "),
         (is_letter(byte), "letter "),
@@ -101,8 +87,7 @@ fn show_kinds(shown: &mut String, byte: u8) -> Result<(), AllocError> {
     ];
     for (holds, name) in kinds {
         if holds {
-            shown.push_str(name)?;
+            sheet.show(name);
         }
     }
-    Ok(())
 }

@@ -23,44 +23,38 @@ mod strings;
 mod variables;
 
 use b2_base::cut;
-use b2_cases::answers::{Answer, Unanswered};
-use b2_cases::{Calls, Cells, try_rows};
+use b2_cases::{Calls, Cells, Sheet, str_of, try_rows};
 use std::alloc::{AllocError, Global};
 use std::io;
 
 struct ValueCalls;
 
-/// What the call of that name in a topic gives.
-fn answer(alloc: Global, topic: &[u8], call: &[u8], cells: &mut Cells<'_>) -> Answer {
+/// Makes the call of that name in a topic.
+fn answer(topic: &str, call: &str, sheet: &mut Sheet<'_>) {
     match topic {
-        b"text" => lexical::answer(alloc, call, cells),
-        b"name" => names::answer(alloc, call, cells),
-        b"outside" => outside::answer(alloc, call, cells),
-        b"number" => decimals::answer(alloc, call, cells),
-        b"numeral" => numerals::answer(alloc, call, cells),
-        b"value" => kept::answer(alloc, call, cells),
-        b"alpha" => strings::answer(alloc, call, cells),
-        b"packed" => packing::answer(alloc, call, cells),
-        b"print" => printing::answer(alloc, call, cells),
-        b"matrix" => matrices::answer(alloc, call, cells),
-        b"element" => elements::answer(alloc, call, cells),
-        b"frame" => frames::answer(alloc, call, cells),
-        b"variable" => variables::answer(alloc, call, cells),
-        _ => Err(Unanswered::NoSuchCall),
+        "text" => lexical::answer(call, sheet),
+        "name" => names::answer(call, sheet),
+        "outside" => outside::answer(call, sheet),
+        "number" => decimals::answer(call, sheet),
+        "numeral" => numerals::answer(call, sheet),
+        "value" => kept::answer(call, sheet),
+        "alpha" => strings::answer(call, sheet),
+        "packed" => packing::answer(call, sheet),
+        "print" => printing::answer(call, sheet),
+        "matrix" => matrices::answer(call, sheet),
+        "element" => elements::answer(call, sheet),
+        "frame" => frames::answer(call, sheet),
+        "variable" => variables::answer(call, sheet),
+        _ => sheet.no_such_call(),
     }
 }
 
 impl Calls for ValueCalls {
     fn given(alloc: Global, call: &[u8], cells: Cells<'_>) -> Result<String, AllocError> {
-        let mut left = cells;
+        let mut sheet = Sheet::new(alloc, cells);
         let (topic, name) = cut(call, b' ');
-        match answer(alloc, topic, name.unwrap_or(&[]), &mut left) {
-            Ok(shown) if left.is_empty() => Ok(shown),
-            Ok(_) => format!(in alloc; "a cell that no call reads"),
-            Err(Unanswered::NoSuchCall) => format!(in alloc; "no such call"),
-            Err(Unanswered::Misread) => format!(in alloc; "a cell that is misread"),
-            Err(Unanswered::NoMemory) => format!(in alloc; "no memory"),
-        }
+        answer(str_of(topic), str_of(name.unwrap_or(&[])), &mut sheet);
+        sheet.finish()
     }
 }
 

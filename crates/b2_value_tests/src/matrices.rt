@@ -8,26 +8,24 @@
 ghost use Rattle.std.specs.Prelude.{◌≡◌, ◌*◌, length, IfOk};
 ghost use Rattle.b2_matrix.specs.Arrays.{columns_of};
 
-use crate::decimals::mode_of;
-use crate::items::{Items, dec_of};
-use crate::showing::{show_code, show_decs};
+use crate::decimals::next_mode;
+use crate::items::{decs_left, next_dec};
+use crate::showing::show_decs;
 use b2_base::Code;
-use b2_cases::Cells;
-use b2_cases::answers::{Answer, Unanswered};
+use b2_cases::{Sheet, str_of};
 use b2_dec::Dec;
 use b2_matrix::{Fill, Mat, MatOp, combine, fill, scale, transpose};
 use std::alloc::{AllocError, Global};
-use std::fmt::Write;
 
-pub fn answer(alloc: Global, call: &[u8], cells: &mut Cells<'_>) -> Answer {
+pub fn answer(call: &str, sheet: &mut Sheet<'_>) {
     match call {
-        b"add" => combined(alloc, MatOp::Add, cells),
-        b"sub" => combined(alloc, MatOp::Sub, cells),
-        b"mul" => combined(alloc, MatOp::Mul, cells),
-        b"scale" => scaled(alloc, cells),
-        b"transpose" => turned(alloc, cells),
-        b"fill" => filled(alloc, cells),
-        _ => Err(Unanswered::NoSuchCall),
+        "add" => combined(MatOp::Add, sheet),
+        "sub" => combined(MatOp::Sub, sheet),
+        "mul" => combined(MatOp::Mul, sheet),
+        "scale" => scaled(sheet),
+        "transpose" => turned(sheet),
+        "fill" => filled(sheet),
+        _ => sheet.no_such_call(),
     }
 }
 
@@ -39,18 +37,13 @@ struct Array {
     cells: Vec<Dec>,
 }
 
-fn spelled(alloc: Global, cell: &[u8]) -> Result<Array, Unanswered> {
-    let mut items = Items::of(cell);
-    let rows = items.number()?;
-    let cols = items.number()?;
-    let mut cells = Vec::new(alloc);
-    for _ in 0..cell.len() {
-        if items.is_empty() {
-            break;
-        }
-        cells.push(dec_of(items.word()?)?)?;
-    }
-    Ok(Array { rows, cols, cells })
+/// Reads a cell that spells an array.
+fn next_array(sheet: &mut Sheet<'_>) -> Array {
+    sheet.open();
+    let rows = sheet.number();
+    let cols = sheet.number();
+    let cells = decs_left(sheet);
+    Array { rows, cols, cells }
 }
 
 /// How many numbers a shape has.
@@ -68,30 +61,29 @@ fn sevens(alloc: Global, count: usize) -> Result<Vec<Dec>, AllocError>
 }
 
 /// Shows the receiver, after the code, if any. After the code of an element the receiver may hold anything.
-fn received(alloc: Global, refusal: Result<(), Code>, into: &[Dec]) -> Answer {
-    let mut shown = String::new(alloc);
+fn show_received(sheet: &mut Sheet<'_>, refusal: Result<(), Code>, into: &[Dec]) {
     if let Err(code) = refusal {
-        show_code(&mut shown, code)?;
+        sheet.show_code(code);
         if code.class() == b'C' {
-            return Ok(shown);
+            return;
         }
-        shown.push(' ')?;
+        sheet.show(" ");
     }
-    show_decs(alloc, &mut shown, into)?;
-    Ok(shown)
+    show_decs(sheet, into);
 }
 
-fn combined(alloc: Global, op: MatOp, cells: &mut Cells<'_>) -> Answer {
-    let mode = mode_of(cells.next())?;
-    let first = spelled(alloc, cells.next())?;
-    let second = spelled(alloc, cells.next())?;
-    if first.cells.len() != count_of(first.rows, first.cols) {
-        return Err(Unanswered::Misread);
+fn combined(op: MatOp, sheet: &mut Sheet<'_>) {
+    let mode = next_mode(sheet);
+    let first = next_array(sheet);
+    let second = next_array(sheet);
+    if first.cells.len() != count_of(first.rows, first.cols)
+        || second.cells.len() != count_of(second.rows, second.cols)
+    {
+        return sheet.misread();
     }
-    if second.cells.len() != count_of(second.rows, second.cols) {
-        return Err(Unanswered::Misread);
-    }
-    let mut into = sevens(alloc, count_of(first.rows, second.cols))?;
+    let Ok(mut into) = sevens(sheet.alloc(), count_of(first.rows, second.cols)) else {
+        return sheet.no_memory();
+    };
     let a = Mat {
         rows: first.rows,
         cols: first.cols,
@@ -104,60 +96,75 @@ fn combined(alloc: Global, op: MatOp, cells: &mut Cells<'_>) -> Answer {
     };
     match combine(op, a, b, mode, &mut into) {
         Ok((rows, cols)) => {
-            let mut shown = String::new(alloc);
-            write!(shown, "{rows} {cols} ")?;
-            show_decs(alloc, &mut shown, &into)?;
-            Ok(shown)
+            sheet.show_number(u64::from(rows));
+            sheet.show(" ");
+            sheet.show_number(u64::from(cols));
+            sheet.show(" ");
+            show_decs(sheet, &into);
         }
-        Err(code) => received(alloc, Err(code), &into),
+        Err(code) => show_received(sheet, Err(code), &into),
     }
 }
 
-fn scaled(alloc: Global, cells: &mut Cells<'_>) -> Answer {
-    let mode = mode_of(cells.next())?;
-    let k = dec_of(cells.next())?;
-    let array = spelled(alloc, cells.next())?;
+fn scaled(sheet: &mut Sheet<'_>) {
+    let mode = next_mode(sheet);
+    let k = next_dec(sheet);
+    let array = next_array(sheet);
     let count = count_of(array.rows, array.cols);
     if array.cells.len() != count {
-        return Err(Unanswered::Misread);
+        return sheet.misread();
     }
-    let mut into = sevens(alloc, count)?;
+    let Ok(mut into) = sevens(sheet.alloc(), count) else {
+        return sheet.no_memory();
+    };
     let a = Mat {
         rows: array.rows,
         cols: array.cols,
         cells: &array.cells,
     };
     let refusal = scale(k, a, mode, &mut into);
-    received(alloc, refusal, &into)
+    show_received(sheet, refusal, &into);
 }
 
-fn turned(alloc: Global, cells: &mut Cells<'_>) -> Answer {
-    let array = spelled(alloc, cells.next())?;
+fn turned(sheet: &mut Sheet<'_>) {
+    let array = next_array(sheet);
     let count = count_of(array.rows, array.cols);
     if array.cells.len() != count {
-        return Err(Unanswered::Misread);
+        return sheet.misread();
     }
-    let mut into = sevens(alloc, count)?;
+    let Ok(mut into) = sevens(sheet.alloc(), count) else {
+        return sheet.no_memory();
+    };
     let a = Mat {
         rows: array.rows,
         cols: array.cols,
         cells: &array.cells,
     };
     transpose(a, &mut into);
-    received(alloc, Ok(()), &into)
+    show_decs(sheet, &into);
 }
 
-fn filled(alloc: Global, cells: &mut Cells<'_>) -> Answer {
-    let with = match cells.next() {
-        b"ones" => Fill::Con,
-        b"zeros" => Fill::Zer,
-        b"unit" => Fill::Idn,
-        _ => return Err(Unanswered::Misread),
+/// Reads a cell that says what an array is filled with.
+fn next_fill(sheet: &mut Sheet<'_>) -> Fill {
+    match str_of(sheet.cell()) {
+        "ones" => Fill::Con,
+        "zeros" => Fill::Zer,
+        "unit" => Fill::Idn,
+        _ => {
+            sheet.misread();
+            Fill::Zer
+        }
+    }
+}
+
+fn filled(sheet: &mut Sheet<'_>) {
+    let with = next_fill(sheet);
+    sheet.open();
+    let rows = sheet.number();
+    let cols = sheet.number();
+    let Ok(mut into) = sevens(sheet.alloc(), count_of(rows, cols)) else {
+        return sheet.no_memory();
     };
-    let mut shape = Items::of(cells.next());
-    let rows = shape.number()?;
-    let cols = shape.number()?;
-    let mut into = sevens(alloc, count_of(rows, cols))?;
     let refusal = fill(with, rows, cols, &mut into);
-    received(alloc, refusal, &into)
+    show_received(sheet, refusal, &into);
 }

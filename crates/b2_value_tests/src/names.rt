@@ -7,159 +7,131 @@
 // - `name addresses | ADDRESSES`: the list of the default one and these.
 // - `name line | ITEMS`: the line of these pieces.
 // - `name bytes | TEXT`: the bytes of the list made from a slice, of one made from a `Vec`, and the `Vec` given back.
-use crate::items::Items;
-use crate::showing::{show_code, show_quoted};
 use b2_base::{Addr, AddrList, ByteList, Code, FileName, LineText, Name8, Part, Term};
-use b2_cases::answers::{Answer, Unanswered};
-use b2_cases::shown::show_bytes;
-use b2_cases::{Cells, bytes_of, small_of};
-use std::alloc::Global;
-use std::fmt::Write;
+use b2_cases::{Sheet, small_of};
 
-pub fn answer(alloc: Global, call: &[u8], cells: &mut Cells<'_>) -> Answer {
+pub fn answer(call: &str, sheet: &mut Sheet<'_>) {
     match call {
-        b"code" | b"part" | b"term" => numbered(alloc, call, cells),
-        b"known" => known(alloc, cells),
-        b"name8" => name8(alloc, cells),
-        b"address" => address(alloc, cells),
-        b"file" => file(alloc, cells),
-        b"no_file" => no_file(alloc),
-        b"addresses" => addresses(alloc, cells),
-        b"line" => line(alloc, cells),
-        b"bytes" => bytes(alloc, cells),
-        _ => Err(Unanswered::NoSuchCall),
+        "code" => code(sheet),
+        "part" => part(sheet),
+        "term" => term(sheet),
+        "known" => known(sheet),
+        "name8" => name8(sheet),
+        "address" => address(sheet),
+        "file" => file(sheet),
+        "no_file" => sheet.show_quoted(FileName::empty().bytes()),
+        "addresses" => addresses(sheet),
+        "line" => line(sheet),
+        "bytes" => bytes(sheet),
+        _ => sheet.no_such_call(),
     }
 }
 
-/// What is shown where there is no value.
-fn none(alloc: Global) -> Answer {
-    Ok(format!(in alloc; "none")?)
-}
-
-fn numbered(alloc: Global, call: &[u8], cells: &mut Cells<'_>) -> Answer {
-    let n = small_of(cells.next());
-    let mut shown = String::new(alloc);
-    match call {
-        b"part" => match Part::of(n) {
-            Some(part) => write!(shown, "{}", part.number())?,
-            None => return none(alloc),
-        },
-        b"term" => match Term::of(n) {
-            Some(term) => write!(shown, "{}", term.number())?,
-            None => return none(alloc),
-        },
-        _ => match Code::new(n) {
-            Some(code) => show_code(&mut shown, code)?,
-            None => return none(alloc),
-        },
+fn code(sheet: &mut Sheet<'_>) {
+    match Code::new(small_of(sheet.cell())) {
+        Some(code) => sheet.show_code(code),
+        None => sheet.show("none"),
     }
-    Ok(shown)
 }
 
-fn known(alloc: Global, cells: &mut Cells<'_>) -> Answer {
-    let n = small_of(cells.next());
+fn part(sheet: &mut Sheet<'_>) {
+    match Part::of(small_of(sheet.cell())) {
+        Some(part) => sheet.show_number(u64::from(part.number())),
+        None => sheet.show("none"),
+    }
+}
+
+fn term(sheet: &mut Sheet<'_>) {
+    match Term::of(small_of(sheet.cell())) {
+        Some(term) => sheet.show_number(u64::from(term.number())),
+        None => sheet.show("none"),
+    }
+}
+
+fn known(sheet: &mut Sheet<'_>) {
+    let n = small_of(sheet.cell());
     if n < 1 || n > 99 {
-        return Err(Unanswered::Misread);
+        return sheet.misread();
     }
-    let mut shown = String::new(alloc);
-    show_code(&mut shown, Code::known(n))?;
+    sheet.show_code(Code::known(n));
     if n <= 16 {
-        write!(shown, " {}", Part::known(n).number())?;
+        sheet.show(" ");
+        sheet.show_number(u64::from(Part::known(n).number()));
     }
     if n <= 12 {
-        write!(shown, " {}", Term::known(n).number())?;
+        sheet.show(" ");
+        sheet.show_number(u64::from(Term::known(n).number()));
     }
-    Ok(shown)
 }
 
-fn name8(alloc: Global, cells: &mut Cells<'_>) -> Answer {
-    let Some(name) = Name8::of(&bytes_of(alloc, cells.next())?) else {
-        return none(alloc);
-    };
-    let mut shown = String::new(alloc);
-    show_quoted(alloc, &mut shown, &name.bytes())?;
-    Ok(shown)
-}
-
-fn address(alloc: Global, cells: &mut Cells<'_>) -> Answer {
-    let Some(address) = Addr::of(&bytes_of(alloc, cells.next())?) else {
-        return none(alloc);
-    };
-    let mut shown = String::new(alloc);
-    show_bytes(&mut shown, &address.bytes())?;
-    Ok(shown)
-}
-
-fn file(alloc: Global, cells: &mut Cells<'_>) -> Answer {
-    let text = bytes_of(alloc, cells.next())?;
-    let ending = bytes_of(alloc, cells.next())?;
-    let Some(name) = FileName::of(&text) else {
-        return none(alloc);
-    };
-    if name.bytes().len() + ending.len() > 200 {
-        return Err(Unanswered::Misread);
+fn name8(sheet: &mut Sheet<'_>) {
+    match Name8::of(&sheet.bytes()) {
+        Some(name) => sheet.show_quoted(&name.bytes()),
+        None => sheet.show("none"),
     }
-    let mut shown = String::new(alloc);
-    show_bytes(&mut shown, name.with(&ending).bytes())?;
-    Ok(shown)
 }
 
-fn no_file(alloc: Global) -> Answer {
-    let mut shown = String::new(alloc);
-    show_quoted(alloc, &mut shown, FileName::empty().bytes())?;
-    Ok(shown)
+fn address(sheet: &mut Sheet<'_>) {
+    match Addr::of(&sheet.bytes()) {
+        Some(address) => sheet.show_bytes(&address.bytes()),
+        None => sheet.show("none"),
+    }
 }
 
-fn addresses(alloc: Global, cells: &mut Cells<'_>) -> Answer {
+fn file(sheet: &mut Sheet<'_>) {
+    let text = sheet.bytes();
+    let ending = sheet.bytes();
+    match FileName::of(&text) {
+        Some(name) if name.bytes().len() + ending.len() > 200 => sheet.misread(),
+        Some(name) => sheet.show_bytes(name.with(&ending).bytes()),
+        None => sheet.show("none"),
+    }
+}
+
+fn addresses(sheet: &mut Sheet<'_>) {
     let mut list = AddrList::new();
     list.push(Addr::default());
-    let mut items = Items::of(cells.next());
+    sheet.open();
     for _ in 0..11 {
-        if items.is_empty() {
+        if !sheet.has_items() {
             break;
         }
-        let Some(address) = Addr::of(items.word()?) else {
-            return Err(Unanswered::Misread);
-        };
-        if list.addresses().len() < 12 {
-            list.push(address);
+        match Addr::of(sheet.word()) {
+            Some(address) if list.addresses().len() < 12 => list.push(address),
+            _ => sheet.misread(),
         }
     }
-    let mut shown = String::new(alloc);
     for address in list.addresses() {
-        show_bytes(&mut shown, &address.bytes())?;
-        shown.push(' ')?;
+        sheet.show_bytes(&address.bytes());
+        sheet.show(" ");
     }
-    Ok(shown)
 }
 
-fn line(alloc: Global, cells: &mut Cells<'_>) -> Answer {
+fn line(sheet: &mut Sheet<'_>) {
     let mut line = LineText::empty();
-    let mut items = Items::of(cells.next());
+    sheet.open();
     for _ in 0..240u8 {
-        if items.is_empty() {
+        if !sheet.has_items() {
             break;
         }
-        let piece = items.quoted(alloc)?;
+        let piece = sheet.quoted();
         if line.bytes().len() + piece.len() > 240 {
-            return Err(Unanswered::Misread);
+            return sheet.misread();
         }
         line.add(&piece);
     }
-    let mut shown = String::new(alloc);
-    show_bytes(&mut shown, line.bytes())?;
-    Ok(shown)
+    sheet.show_bytes(line.bytes());
 }
 
-fn bytes(alloc: Global, cells: &mut Cells<'_>) -> Answer {
-    let text = bytes_of(alloc, cells.next())?;
-    let copied = ByteList::from_slice(alloc, &text)?;
-    let mut shown = String::new(alloc);
-    show_bytes(&mut shown, copied.bytes())?;
+fn bytes(sheet: &mut Sheet<'_>) {
+    let text = sheet.bytes();
+    match ByteList::from_slice(sheet.alloc(), &text) {
+        Ok(copied) => sheet.show_bytes(copied.bytes()),
+        Err(_) => sheet.no_memory(),
+    }
     let list = ByteList::new(text);
-    shown.push(' ')?;
-    show_bytes(&mut shown, list.bytes())?;
-    shown.push(' ')?;
-    show_bytes(&mut shown, &list.into_vec())?;
-    Ok(shown)
+    sheet.show(" ");
+    sheet.show_bytes(list.bytes());
+    sheet.show(" ");
+    sheet.show_bytes(&list.into_vec());
 }

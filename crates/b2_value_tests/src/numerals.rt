@@ -4,63 +4,57 @@
 // - `numeral read | TEXT`: the length of the longest number at the front, and the number.
 // - `numeral literal | TEXT`: the same, with the code of one that is out of range.
 // - `numeral num | TEXT`: the length of the number with the spaces around it.
-use crate::items::dec_of;
-use crate::showing::{show_code, show_dec, show_quoted};
-use b2_cases::answers::{Answer, Unanswered};
-use b2_cases::{Cells, bytes_of};
+use crate::items::next_dec;
+use crate::showing::show_dec;
+use b2_cases::Sheet;
 use b2_dectext::{literal, num, read, write};
-use std::alloc::Global;
-use std::fmt::Write;
 
-pub fn answer(alloc: Global, call: &[u8], cells: &mut Cells<'_>) -> Answer {
+pub fn answer(call: &str, sheet: &mut Sheet<'_>) {
     match call {
-        b"write" => written(alloc, cells),
-        b"read" => found(alloc, cells),
-        b"literal" => found_literal(alloc, cells),
-        b"num" => measured(alloc, cells),
-        _ => Err(Unanswered::NoSuchCall),
+        "write" => written(sheet),
+        "read" => found(sheet),
+        "literal" => found_literal(sheet),
+        "num" => measured(sheet),
+        _ => sheet.no_such_call(),
     }
 }
 
-fn written(alloc: Global, cells: &mut Cells<'_>) -> Answer {
-    let x = dec_of(cells.next())?;
+fn written(sheet: &mut Sheet<'_>) {
+    let x = next_dec(sheet);
     let mut into = [b'#'; 24];
     let len = write(x, &mut into);
-    let mut shown = String::new(alloc);
-    show_quoted(alloc, &mut shown, &into)?;
-    write!(shown, " {len}")?;
-    Ok(shown)
+    sheet.show_quoted(&into);
+    sheet.show(" ");
+    sheet.show_number(len as u64);
 }
 
-fn found(alloc: Global, cells: &mut Cells<'_>) -> Answer {
-    let text = bytes_of(alloc, cells.next())?;
+fn found(sheet: &mut Sheet<'_>) {
+    let text = sheet.bytes();
     let (len, number) = read(&text);
-    let mut shown = String::new(alloc);
-    write!(shown, "{len} ")?;
+    sheet.show_number(len as u64);
+    sheet.show(" ");
     match number {
-        Some(x) => show_dec(alloc, &mut shown, x)?,
-        None => shown.push_str("none")?,
+        Some(x) => show_dec(sheet, x),
+        None => sheet.show("none"),
     }
-    Ok(shown)
 }
 
-fn found_literal(alloc: Global, cells: &mut Cells<'_>) -> Answer {
-    let text = bytes_of(alloc, cells.next())?;
-    let mut shown = String::new(alloc);
+fn found_literal(sheet: &mut Sheet<'_>) {
+    let text = sheet.bytes();
     match literal(&text) {
         Some((len, number)) => {
-            write!(shown, "{len} ")?;
+            sheet.show_number(len as u64);
+            sheet.show(" ");
             match number {
-                Ok(x) => show_dec(alloc, &mut shown, x)?,
-                Err(code) => show_code(&mut shown, code)?,
+                Ok(x) => show_dec(sheet, x),
+                Err(code) => sheet.show_code(code),
             }
         }
-        None => shown.push_str("none")?,
+        None => sheet.show("none"),
     }
-    Ok(shown)
 }
 
-fn measured(alloc: Global, cells: &mut Cells<'_>) -> Answer {
-    let text = bytes_of(alloc, cells.next())?;
-    Ok(format!(in alloc; "{}", num(&text))?)
+fn measured(sheet: &mut Sheet<'_>) {
+    let text = sheet.bytes();
+    sheet.show_number(num(&text) as u64);
 }

@@ -3,33 +3,31 @@
 // - `outside shelf | FAILING | CALL | CALL ..`: what each call gives. The shelf has a file `a` of the bytes `ABC`. A call is
 //   `fetch NAME LIMIT`, `keep NAME "BYTES"` or `file NAME`.
 // - `outside sink | FAILING | "BYTES" ..`: what each put gives, and what was written in the end.
-use crate::items::Items;
-use crate::showing::show_quoted;
 use b2_base::{Fetch, Keep, MemShelf, MemSink, Shelf, Sink};
-use b2_cases::answers::{Answer, Unanswered};
-use b2_cases::{Cells, whole_of};
+use b2_cases::{Sheet, str_of, whole_of};
 use std::alloc::{AllocError, Global};
 use std::collections::BTreeMap;
 
-pub fn answer(alloc: Global, call: &[u8], cells: &mut Cells<'_>) -> Answer {
+pub fn answer(call: &str, sheet: &mut Sheet<'_>) {
     match call {
-        b"shelf" => shelf_calls(alloc, cells),
-        b"sink" => sink_calls(alloc, cells),
-        _ => Err(Unanswered::NoSuchCall),
+        "shelf" => shelf_calls(sheet),
+        "sink" => sink_calls(sheet),
+        _ => sheet.no_such_call(),
     }
 }
 
-/// The numbers of the calls that fail.
-fn failing(alloc: Global, cell: &[u8]) -> Result<Vec<u32>, Unanswered> {
-    let mut all = Vec::new(alloc);
-    let mut items = Items::of(cell);
-    for _ in 0..cell.len() {
-        if items.is_empty() {
+/// Reads the numbers of the calls that fail.
+fn failing(sheet: &mut Sheet<'_>) -> Vec<u32> {
+    let mut all = Vec::new(sheet.alloc());
+    sheet.open();
+    for _ in 0..u64::MAX {
+        if !sheet.has_items() {
             break;
         }
-        all.push(whole_of(items.word()?))?;
+        let number = whole_of(sheet.word());
+        sheet.push(&mut all, number);
     }
-    Ok(all)
+    all
 }
 
 /// How a fetch went.
@@ -59,67 +57,57 @@ fn shelf(alloc: Global, failing: Vec<u32>) -> Result<MemShelf, AllocError> {
     Ok(MemShelf::new(alloc, files, failing))
 }
 
-fn shelf_calls(alloc: Global, cells: &mut Cells<'_>) -> Answer {
-    let mut shelf = shelf(alloc, failing(alloc, cells.next())?)?;
-    let mut shown = String::new(alloc);
+fn shelf_calls(sheet: &mut Sheet<'_>) {
+    let failing = failing(sheet);
+    let Ok(mut shelf) = shelf(sheet.alloc(), failing) else {
+        return sheet.no_memory();
+    };
     for place in 0..100u8 {
-        if cells.is_empty() {
+        if sheet.is_empty() {
             break;
         }
         if place > 0 {
-            shown.push_str(", ")?;
+            sheet.show(", ");
         }
-        shelf_call(alloc, &mut shelf, cells.next(), &mut shown)?;
+        shelf_call(&mut shelf, sheet);
     }
-    Ok(shown)
 }
 
-fn shelf_call(
-    alloc: Global,
-    shelf: &mut MemShelf,
-    cell: &[u8],
-    shown: &mut String,
-) -> Result<(), Unanswered> {
-    let mut items = Items::of(cell);
-    let call = items.word()?;
-    let name = items.word()?;
+fn shelf_call(shelf: &mut MemShelf, sheet: &mut Sheet<'_>) {
+    sheet.open();
+    let call = str_of(sheet.word());
+    let name = sheet.word();
     match call {
-        b"fetch" => {
-            let mut into = Vec::new(alloc);
-            let limit = items.number()?;
-            shown.push_str(name_of_fetch(shelf.fetch(name, limit as usize, &mut into)))?;
-            shown.push(' ')?;
-            show_quoted(alloc, shown, &into)?;
+        "fetch" => {
+            let mut into = Vec::new(sheet.alloc());
+            let limit = sheet.number();
+            sheet.show(name_of_fetch(shelf.fetch(name, limit as usize, &mut into)));
+            sheet.show(" ");
+            sheet.show_quoted(&into);
         }
-        b"keep" => {
-            let bytes = items.quoted(alloc)?;
-            shown.push_str(name_of_keep(shelf.keep(name, &bytes)))?;
+        "keep" => {
+            let bytes = sheet.quoted();
+            sheet.show(name_of_keep(shelf.keep(name, &bytes)));
         }
-        b"file" => match shelf.file(name) {
-            Some(bytes) => show_quoted(alloc, shown, bytes)?,
-            None => shown.push_str("none")?,
+        "file" => match shelf.file(name) {
+            Some(bytes) => sheet.show_quoted(bytes),
+            None => sheet.show("none"),
         },
-        _ => return Err(Unanswered::Misread),
-    }
-    if items.is_empty() {
-        Ok(())
-    } else {
-        Err(Unanswered::Misread)
+        _ => sheet.misread(),
     }
 }
 
-fn sink_calls(alloc: Global, cells: &mut Cells<'_>) -> Answer {
-    let mut sink = MemSink::new(alloc, failing(alloc, cells.next())?);
-    let mut items = Items::of(cells.next());
-    let mut shown = String::new(alloc);
+fn sink_calls(sheet: &mut Sheet<'_>) {
+    let failing = failing(sheet);
+    let mut sink = MemSink::new(sheet.alloc(), failing);
+    sheet.open();
     for _ in 0..100u8 {
-        if items.is_empty() {
+        if !sheet.has_items() {
             break;
         }
-        let bytes = items.quoted(alloc)?;
-        shown.push_str(name_of_keep(sink.put(&bytes)))?;
-        shown.push_str(", ")?;
+        let bytes = sheet.quoted();
+        sheet.show(name_of_keep(sink.put(&bytes)));
+        sheet.show(", ");
     }
-    show_quoted(alloc, &mut shown, sink.written())?;
-    Ok(shown)
+    sheet.show_quoted(sink.written());
 }

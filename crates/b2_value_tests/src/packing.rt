@@ -6,95 +6,73 @@
 // - `$UNPACK | SPECIFICATION | KINDS | BUFFER`: the values, or the code. KINDS has `A` for bytes, and `N` for a number.
 //
 // Buffers and specifications are hexadecimal digits, and texts in quotes.
-use crate::items::{Items, decs_of, packed_of, values_of};
-use crate::showing::{show_code, show_decs, show_fault, show_packed, show_values};
-use b2_base::Code;
-use b2_cases::answers::{Answer, Unanswered};
-use b2_cases::shown::show_bytes;
-use b2_cases::{Cells, bytes_of};
+use crate::items::{next_decs, next_packed, next_values};
+use crate::showing::{show_decs, show_packed, show_values};
+use b2_cases::Sheet;
 use b2_dec::Kind;
 use b2_pack::{fields, pack, unfields, unpack};
-use std::alloc::{AllocError, Global};
 
-pub fn answer(alloc: Global, call: &[u8], cells: &mut Cells<'_>) -> Answer {
+pub fn answer(call: &str, sheet: &mut Sheet<'_>) {
     match call {
-        b"PACK" => packed(alloc, cells),
-        b"UNPACK" => unpacked(alloc, cells),
-        b"$PACK" => fielded(alloc, cells, false),
-        b"$PACK text" => fielded(alloc, cells, true),
-        b"$UNPACK" => unfielded(alloc, cells),
-        _ => Err(Unanswered::NoSuchCall),
+        "PACK" => packed(sheet),
+        "UNPACK" => unpacked(sheet),
+        "$PACK" => fielded(sheet, false),
+        "$PACK text" => fielded(sheet, true),
+        "$UNPACK" => unfielded(sheet),
+        _ => sheet.no_such_call(),
     }
 }
 
-/// Appends the code of a refusal and a blank.
-fn show_refused(into: &mut String, outcome: Result<(), Code>) -> Result<(), AllocError> {
-    match outcome {
-        Ok(()) => Ok(()),
-        Err(code) => {
-            show_code(into, code)?;
-            into.push(' ')
-        }
+fn packed(sheet: &mut Sheet<'_>) {
+    let image = sheet.bytes();
+    let xs = next_decs(sheet);
+    let mut buffer = next_packed(sheet);
+    sheet.show_refused(pack(&image, &xs, &mut buffer));
+    show_packed(sheet, &buffer);
+}
+
+fn unpacked(sheet: &mut Sheet<'_>) {
+    let image = sheet.bytes();
+    sheet.open();
+    let count = sheet.count();
+    let buffer = next_packed(sheet);
+    match unpack(sheet.alloc(), &image, count, &buffer) {
+        Ok(xs) => show_decs(sheet, &xs),
+        Err(fault) => sheet.show_fault(fault),
     }
 }
 
-fn packed(alloc: Global, cells: &mut Cells<'_>) -> Answer {
-    let image = bytes_of(alloc, cells.next())?;
-    let xs = decs_of(alloc, cells.next())?;
-    let mut buffer = packed_of(alloc, cells.next())?;
-    let mut shown = String::new(alloc);
-    show_refused(&mut shown, pack(&image, &xs, &mut buffer))?;
-    show_packed(&mut shown, &buffer)?;
-    Ok(shown)
-}
-
-fn unpacked(alloc: Global, cells: &mut Cells<'_>) -> Answer {
-    let image = bytes_of(alloc, cells.next())?;
-    let count = Items::of(cells.next()).count()?;
-    let buffer = packed_of(alloc, cells.next())?;
-    let mut shown = String::new(alloc);
-    match unpack(alloc, &image, count, &buffer) {
-        Ok(xs) => show_decs(alloc, &mut shown, &xs)?,
-        Err(fault) => show_fault(&mut shown, fault)?,
-    }
-    Ok(shown)
-}
-
-fn fielded(alloc: Global, cells: &mut Cells<'_>, as_text: bool) -> Answer {
-    let specification = packed_of(alloc, cells.next())?;
-    let values = values_of(alloc, cells.next())?;
-    let mut buffer = packed_of(alloc, cells.next())?;
-    let mut shown = String::new(alloc);
-    show_refused(&mut shown, fields(&specification, &values, &mut buffer))?;
+fn fielded(sheet: &mut Sheet<'_>, as_text: bool) {
+    let specification = next_packed(sheet);
+    let values = next_values(sheet);
+    let mut buffer = next_packed(sheet);
+    sheet.show_refused(fields(&specification, &values, &mut buffer));
     if as_text {
-        show_bytes(&mut shown, &buffer)?;
+        sheet.show_bytes(&buffer);
     } else {
-        show_packed(&mut shown, &buffer)?;
+        show_packed(sheet, &buffer);
     }
-    Ok(shown)
 }
 
-/// The kinds that a cell's letters say.
-pub fn kinds_of(alloc: Global, letters: &[u8]) -> Result<Vec<Kind>, Unanswered> {
-    let mut kinds = Vec::new(alloc);
-    for letter in letters {
+/// Reads a cell whose letters say kinds.
+pub fn next_kinds(sheet: &mut Sheet<'_>) -> Vec<Kind> {
+    let mut kinds = Vec::new(sheet.alloc());
+    for letter in sheet.cell() {
         match *letter {
-            b'A' => kinds.push(Kind::Alpha)?,
-            b'N' => kinds.push(Kind::Number)?,
-            _ => return Err(Unanswered::Misread),
+            b'A' => sheet.push(&mut kinds, Kind::Alpha),
+            b'N' => sheet.push(&mut kinds, Kind::Number),
+            _ => sheet.misread(),
         }
     }
-    Ok(kinds)
+    kinds
 }
 
-fn unfielded(alloc: Global, cells: &mut Cells<'_>) -> Answer {
-    let specification = packed_of(alloc, cells.next())?;
-    let kinds = kinds_of(alloc, cells.next())?;
-    let buffer = packed_of(alloc, cells.next())?;
-    let mut shown = String::new(alloc);
-    match unfields(alloc, &specification, &kinds, &buffer) {
-        Ok(values) => show_values(alloc, &mut shown, &values)?,
-        Err(fault) => show_fault(&mut shown, fault)?,
+fn unfielded(sheet: &mut Sheet<'_>) {
+    let specification = next_packed(sheet);
+    let kinds = next_kinds(sheet);
+    let buffer = next_packed(sheet);
+    match unfields(sheet.alloc(), &specification, &kinds, &buffer) {
+        Ok(values) => show_values(sheet, &values),
+        Err(fault) => sheet.show_fault(fault),
     }
-    Ok(shown)
 }

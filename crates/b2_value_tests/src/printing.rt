@@ -8,142 +8,141 @@
 //
 // There are at most four items. An item is a number, bytes between quotes, `TAB COLUMN`, `HEX "BYTES"`, `ZONE`, `LINE`,
 // `AT ROW COLUMN ERASED` or `BOX ROWS COLUMNS`.
-ghost use Rattle.std.specs.Prelude.{◌≤◌, IfOk};
+ghost use Rattle.std.specs.Prelude.{◌≤◌};
 
-use crate::items::{Item, Items, dec_of, values_of};
-use crate::showing::{show_code, show_fault, show_quoted};
-use b2_cases::answers::{Answer, Unanswered};
-use b2_cases::{Cells, bytes_of, is_yes, number_of};
+use crate::items::{dec_of, next_dec, next_values};
+use b2_cases::{Item, Sheet, is_yes, number_of, str_of};
 use b2_dec::Bytes;
 use b2_print::{Item as Shown, are_on_screen, column_after, convert, lay, using};
-use std::alloc::Global;
-use std::fmt::Write;
 
-pub fn answer(alloc: Global, call: &[u8], cells: &mut Cells<'_>) -> Answer {
+pub fn answer(call: &str, sheet: &mut Sheet<'_>) {
     match call {
-        b"lay" => laid(alloc, cells),
-        b"using" => imaged(alloc, cells),
-        b"convert" => converted(alloc, cells),
-        b"column_after" => column(alloc, cells),
-        _ => Err(Unanswered::NoSuchCall),
+        "lay" => laid(sheet),
+        "using" => imaged(sheet),
+        "convert" => converted(sheet),
+        "column_after" => column(sheet),
+        _ => sheet.no_such_call(),
+    }
+}
+
+/// Reads bytes between quotes, as they stand there.
+fn hex_bytes<'a>(sheet: &mut Sheet<'a>) -> &'a [u8] {
+    match sheet.item() {
+        Item::Quoted(bytes) => bytes,
+        Item::Word(_) => {
+            sheet.misread();
+            &[]
+        }
     }
 }
 
 /// Reads an item of PRINT.
-fn next_shown<'a>(items: &mut Items<'a>) -> Result<Shown<'a>, Unanswered> {
-    let word = match items.next() {
-        Item::Quoted(bytes) => return Ok(Shown::Alpha(bytes)),
+fn shown<'a>(sheet: &mut Sheet<'a>) -> Shown<'a> {
+    let word = match sheet.item() {
+        Item::Quoted(bytes) => return Shown::Alpha(bytes),
         Item::Word(word) => word,
     };
-    match word {
-        b"TAB" => Ok(Shown::Tab(items.small()?)),
-        b"HEX" => match items.next() {
-            Item::Quoted(bytes) => Ok(Shown::Hex(bytes)),
-            Item::Word(_) => Err(Unanswered::Misread),
+    match str_of(word) {
+        "TAB" => Shown::Tab(sheet.small()),
+        "HEX" => Shown::Hex(hex_bytes(sheet)),
+        "ZONE" => Shown::Zone,
+        "LINE" => Shown::Line,
+        "AT" => Shown::At {
+            row: sheet.small(),
+            column: sheet.small(),
+            erase: sheet.small(),
         },
-        b"ZONE" => Ok(Shown::Zone),
-        b"LINE" => Ok(Shown::Line),
-        b"AT" => Ok(Shown::At {
-            row: items.small()?,
-            column: items.small()?,
-            erase: items.small()?,
-        }),
-        b"BOX" => Ok(Shown::Outline {
-            rows: items.small()?,
-            columns: items.small()?,
-        }),
-        _ => Ok(Shown::Number(dec_of(word)?)),
+        "BOX" => Shown::Outline {
+            rows: sheet.small(),
+            columns: sheet.small(),
+        },
+        _ => Shown::Number(dec_of(sheet, word)),
     }
 }
 
-/// Reads an item of PRINT, or gives a newline where all have been read or an item is misread.
-fn shown_or_line<'a>(items: &mut Items<'a>) -> Shown<'a> {
-    match next_shown(items) {
-        Ok(item) => item,
-        Err(_) => Shown::Line,
+/// Reads an item of PRINT, or gives a newline where all have been read.
+fn shown_or_line<'a>(sheet: &mut Sheet<'a>) -> Shown<'a> {
+    if sheet.has_items() {
+        shown(sheet)
+    } else {
+        Shown::Line
     }
 }
 
 /// How many items of PRINT there are, of at most four.
-fn count_of(text: &[u8]) -> Result<usize, Unanswered>
-    ensures { IfOk result (λ count. count ≤ 4) }
+fn count_of(sheet: &mut Sheet<'_>) -> usize
+    ensures { result ≤ 4 }
 {
-    let mut items = Items::of(text);
     for count in 0..4usize {
-        if items.is_empty() {
-            return Ok(count);
+        if !sheet.has_items() {
+            return count;
         }
-        let Ok(_) = next_shown(&mut items) else {
-            return Err(Unanswered::Misread);
-        };
+        shown(sheet);
     }
-    if items.is_empty() {
-        Ok(4)
-    } else {
-        Err(Unanswered::Misread)
-    }
+    4
 }
 
-fn laid(alloc: Global, cells: &mut Cells<'_>) -> Answer {
-    let from = number_of(cells.next());
-    let width = number_of(cells.next());
-    let text = bytes_of(alloc, cells.next())?;
-    let count = count_of(&text)?;
-    let mut items = Items::of(&text);
+fn laid(sheet: &mut Sheet<'_>) {
+    let from = number_of(sheet.cell());
+    let width = number_of(sheet.cell());
+    let text = sheet.bytes();
+    let count = count_of(&mut Sheet::of_items(sheet.alloc(), &text));
+    let mut items = Sheet::of_items(sheet.alloc(), &text);
     let all = [
         shown_or_line(&mut items),
         shown_or_line(&mut items),
         shown_or_line(&mut items),
         shown_or_line(&mut items),
     ];
-    show_laid(alloc, &all[..count], from, width)
+    if !items.is_well_read() {
+        return sheet.misread();
+    }
+    show_laid(sheet, &all[..count], from, width);
 }
 
-fn show_laid(alloc: Global, items: &[Shown<'_>], from: u16, width: u16) -> Answer {
+fn show_laid(sheet: &mut Sheet<'_>, items: &[Shown<'_>], from: u16, width: u16) {
     if !are_on_screen(items) {
-        return Ok(format!(in alloc; "off the screen")?);
+        return sheet.show("off the screen");
     }
-    let mut into = vec![in alloc; b'>']?;
-    let after = lay(alloc, items, from, width, &mut into)?;
-    let mut shown = String::new(alloc);
-    show_quoted(alloc, &mut shown, &into)?;
-    write!(shown, " {after}")?;
-    Ok(shown)
+    let mut into = Vec::new(sheet.alloc());
+    sheet.push(&mut into, b'>');
+    match lay(sheet.alloc(), items, from, width, &mut into) {
+        Ok(after) => {
+            sheet.show_quoted(&into);
+            sheet.show(" ");
+            sheet.show_number(u64::from(after));
+        }
+        Err(_) => sheet.no_memory(),
+    }
 }
 
-fn imaged(alloc: Global, cells: &mut Cells<'_>) -> Answer {
-    let image = bytes_of(alloc, cells.next())?;
-    let values = values_of(alloc, cells.next())?;
-    let is_followed = is_yes(cells.next());
-    let mut into = vec![in alloc; b'>']?;
-    let mut shown = String::new(alloc);
-    if let Err(fault) = using(alloc, &image, &values, is_followed, &mut into) {
-        show_fault(&mut shown, fault)?;
-        shown.push(' ')?;
+fn imaged(sheet: &mut Sheet<'_>) {
+    let image = sheet.bytes();
+    let values = next_values(sheet);
+    let is_followed = is_yes(sheet.cell());
+    let mut into = Vec::new(sheet.alloc());
+    sheet.push(&mut into, b'>');
+    if let Err(fault) = using(sheet.alloc(), &image, &values, is_followed, &mut into) {
+        sheet.show_fault(fault);
+        sheet.show(" ");
     }
-    show_quoted(alloc, &mut shown, &into)?;
-    Ok(shown)
+    sheet.show_quoted(&into);
 }
 
-fn converted(alloc: Global, cells: &mut Cells<'_>) -> Answer {
-    let image = bytes_of(alloc, cells.next())?;
-    let x = dec_of(cells.next())?;
+fn converted(sheet: &mut Sheet<'_>) {
+    let image = sheet.bytes();
+    let x = next_dec(sheet);
     let mut into = Bytes::new();
     into.extend(b"old");
-    let mut shown = String::new(alloc);
     if image.len() > 255 {
-        return Err(Unanswered::Misread);
+        return sheet.misread();
     }
-    if let Err(code) = convert(&image, x, &mut into) {
-        show_code(&mut shown, code)?;
-        shown.push(' ')?;
-    }
-    show_quoted(alloc, &mut shown, into.bytes())?;
-    Ok(shown)
+    sheet.show_refused(convert(&image, x, &mut into));
+    sheet.show_quoted(into.bytes());
 }
 
-fn column(alloc: Global, cells: &mut Cells<'_>) -> Answer {
-    let from = number_of(cells.next());
-    let text = bytes_of(alloc, cells.next())?;
-    Ok(format!(in alloc; "{}", column_after(from, &text))?)
+fn column(sheet: &mut Sheet<'_>) {
+    let from = number_of(sheet.cell());
+    let text = sheet.bytes();
+    sheet.show_number(u64::from(column_after(from, &text)));
 }

@@ -1,19 +1,7 @@
-// Numbers, values, codes and packed bytes as rows show them.
-use b2_base::Code;
+// Numbers, values and packed bytes as rows show them.
 use b2_base::lexical::{first_bytes, hex_pair, rest_after};
-use b2_cases::shown::show_bytes;
-pub use b2_cases::shown::{show_code, show_fault};
+use b2_cases::Sheet;
 use b2_dec::{Dec, Value};
-use std::alloc::{AllocError, Global};
-use std::fmt::Write;
-
-/// Appends bytes that can be shown.
-fn push_bytes(into: &mut String, bytes: &[u8]) -> Result<(), AllocError> {
-    for byte in bytes {
-        into.push(*byte as char)?;
-    }
-    Ok(())
-}
 
 /// Digits without the zeros at their end.
 fn without_last_zeros(digits: &[u8]) -> &[u8] {
@@ -27,74 +15,63 @@ fn without_last_zeros(digits: &[u8]) -> &[u8] {
     left
 }
 
-/// Appends a number with all its digits: from .1 to 9999999999999 as it is, and else with one digit before the point and
-/// an exponent.
-pub fn show_dec(alloc: Global, into: &mut String, x: Dec) -> Result<(), AllocError> {
+/// Shows a number with all its digits: from .1 to 9999999999999 as it is, and else with one digit before the point and an
+/// exponent.
+pub fn show_dec(sheet: &mut Sheet<'_>, x: Dec) {
     if x.is_zero() {
-        return into.push_str("0");
+        return sheet.show("0");
     }
     if x.is_negative() {
-        into.push('-')?;
+        sheet.show("-");
     }
     let exponent = x.exponent();
     let is_plain = exponent >= -1 && exponent <= 12;
     let whole = if is_plain { (exponent + 1) as usize } else { 1 };
-    let digits = format!(in alloc; "{}", x.coefficient())?;
-    push_bytes(into, first_bytes(digits.as_bytes(), whole))?;
+    show_digits(sheet, x.coefficient(), whole);
+    if !is_plain {
+        sheet.show("E");
+        sheet.show_signed(i64::from(exponent));
+    }
+}
+
+/// Shows digits with a point after so many of them, and without the zeros at the end of the fraction.
+fn show_digits(sheet: &mut Sheet<'_>, coefficient: u64, whole: usize) {
+    let Ok(digits) = format!(in sheet.alloc(); "{coefficient}") else {
+        return sheet.no_memory();
+    };
+    sheet.show_letters(first_bytes(digits.as_bytes(), whole));
     let fraction = without_last_zeros(rest_after(digits.as_bytes(), whole));
     if !fraction.is_empty() {
-        into.push('.')?;
-        push_bytes(into, fraction)?;
+        sheet.show(".");
+        sheet.show_letters(fraction);
     }
-    if !is_plain {
-        write!(into, "E{exponent}")?;
-    }
-    Ok(())
 }
 
-/// Appends numbers with a blank between them.
-pub fn show_decs(alloc: Global, into: &mut String, xs: &[Dec]) -> Result<(), AllocError> {
+/// Shows numbers with a blank between them.
+pub fn show_decs(sheet: &mut Sheet<'_>, xs: &[Dec]) {
     for (place, x) in xs.iter().enumerate() {
         if place > 0 {
-            into.push(' ')?;
+            sheet.show(" ");
         }
-        show_dec(alloc, into, *x)?;
+        show_dec(sheet, *x);
     }
-    Ok(())
 }
 
-/// Appends bytes between quotes.
-pub fn show_quoted(alloc: Global, into: &mut String, bytes: &[u8]) -> Result<(), AllocError> {
-    let mut quoted = vec![in alloc; b'"']?;
-    quoted.extend_from_slice(bytes)?;
-    quoted.push(b'"')?;
-    show_bytes(into, &quoted)
-}
-
-/// Appends a value: a number, or bytes between quotes.
-pub fn show_value(alloc: Global, into: &mut String, value: &Value) -> Result<(), AllocError> {
+/// Shows a value: a number, or bytes between quotes.
+pub fn show_value(sheet: &mut Sheet<'_>, value: &Value) {
     match value {
-        Value::Number(x) => show_dec(alloc, into, *x),
-        Value::Alpha(bytes) => show_quoted(alloc, into, bytes.bytes()),
+        Value::Number(x) => show_dec(sheet, *x),
+        Value::Alpha(bytes) => sheet.show_quoted(bytes.bytes()),
     }
 }
 
-/// Appends values with a blank between them.
-pub fn show_values(alloc: Global, into: &mut String, values: &[Value]) -> Result<(), AllocError> {
+/// Shows values with a blank between them.
+pub fn show_values(sheet: &mut Sheet<'_>, values: &[Value]) {
     for (place, value) in values.iter().enumerate() {
         if place > 0 {
-            into.push(' ')?;
+            sheet.show(" ");
         }
-        show_value(alloc, into, value)?;
-    }
-    Ok(())
-}
-
-/// Appends `ok`, or the code.
-pub fn show_outcome(into: &mut String, outcome: Result<(), Code>) -> Result<(), AllocError> {
-    match outcome {
-        Ok(()) => into.push_str("ok"),
-        Err(code) => show_code(into, code),
+        show_value(sheet, value);
     }
 }
 
@@ -106,8 +83,8 @@ fn run_length(byte: u8, text: &[u8]) -> usize {
 /// The shortest run of a byte that is shown once.
 const SHOWN_ONCE: usize = 10;
 
-/// Appends bytes in hexadecimal digits; a long run of one byte is shown once, with its length, and stands apart.
-pub fn show_packed(into: &mut String, bytes: &[u8]) -> Result<(), AllocError> {
+/// Shows bytes in hexadecimal digits; a long run of one byte is shown once, with its length, and stands apart.
+pub fn show_packed(sheet: &mut Sheet<'_>, bytes: &[u8]) {
     let mut left = bytes;
     let mut is_apart = true;
     for _ in 0..bytes.len() {
@@ -117,14 +94,15 @@ pub fn show_packed(into: &mut String, bytes: &[u8]) -> Result<(), AllocError> {
         let run = run_length(*byte, left);
         let is_run = run >= SHOWN_ONCE;
         if is_run && !is_apart {
-            into.push(' ')?;
+            sheet.show(" ");
         }
-        push_bytes(into, &hex_pair(*byte))?;
+        sheet.show_letters(&hex_pair(*byte));
         if is_run {
-            write!(into, "*{run} ")?;
+            sheet.show("*");
+            sheet.show_number(run as u64);
+            sheet.show(" ");
         }
         is_apart = is_run;
         left = rest_after(left, if is_run { run } else { 1 });
     }
-    Ok(())
 }

@@ -5,151 +5,152 @@
 // - `alpha bool_op | VALUE | OPERAND | DIGIT`, `alpha rotate | VALUE | N | HOW`: the value after it. HOW is `each` or `whole`.
 // - `alpha pos | VALUE | RELATION | BYTE`, `alpha compare | ONE | OTHER`, `alpha value_len | VALUE`.
 // - `alpha val | VALUE | COUNT`, `alpha bin | NUMBER | VALUE`, `alpha hex_text | BYTE`.
-use crate::decimals::{name_of_order, places_of};
-use crate::items::{Items, dec_of, packed_of};
-use crate::showing::{show_code, show_outcome, show_packed};
+use crate::decimals::{name_of_order, next_places};
+use crate::items::{dec_of, next_packed};
+use crate::showing::show_packed;
 use b2_alpha::{
     Rel, add, addc, assign, bin, bool_op, compare, dac, dsc, hex_text, pos, rotate, sub, subc, val,
     value_len,
 };
 use b2_base::lexical::first;
-use b2_cases::Cells;
-use b2_cases::answers::{Answer, Unanswered};
-use b2_cases::shown::show_bytes;
+use b2_cases::{Sheet, str_of};
 use b2_dec::whole;
-use std::alloc::Global;
 
-pub fn answer(alloc: Global, call: &[u8], cells: &mut Cells<'_>) -> Answer {
+pub fn answer(call: &str, sheet: &mut Sheet<'_>) {
     match call {
-        b"bool_op" => joined(alloc, cells),
-        b"rotate" => rotated(alloc, cells),
-        b"pos" => found(alloc, cells),
-        b"compare" => compared(alloc, cells),
-        b"value_len" => measured(alloc, cells),
-        b"val" => valued(alloc, cells),
-        b"bin" => put_number(alloc, cells),
-        b"hex_text" => spelled(alloc, cells),
-        _ => changed(alloc, call, cells),
+        "bool_op" => joined(sheet),
+        "rotate" => rotated(sheet),
+        "pos" => found(sheet),
+        "compare" => compared(sheet),
+        "value_len" => measured(sheet),
+        "val" => valued(sheet),
+        "bin" => put_number(sheet),
+        "hex_text" => spelled(sheet),
+        _ => changed(call, sheet),
     }
 }
 
-fn changed(alloc: Global, call: &[u8], cells: &mut Cells<'_>) -> Answer {
-    let mut value = packed_of(alloc, cells.next())?;
-    let operand = packed_of(alloc, cells.next())?;
+fn changed(call: &str, sheet: &mut Sheet<'_>) {
+    let mut value = next_packed(sheet);
+    let operand = next_packed(sheet);
     let mut refusal = Ok(());
     match call {
-        b"assign" => assign(&mut value, &operand),
-        b"add" => add(&mut value, &operand),
-        b"sub" => sub(&mut value, &operand),
-        b"addc" => addc(&mut value, &operand),
-        b"subc" => subc(&mut value, &operand),
-        b"dac" => refusal = dac(&mut value, &operand),
-        b"dsc" => refusal = dsc(&mut value, &operand),
-        _ => return Err(Unanswered::NoSuchCall),
+        "assign" => assign(&mut value, &operand),
+        "add" => add(&mut value, &operand),
+        "sub" => sub(&mut value, &operand),
+        "addc" => addc(&mut value, &operand),
+        "subc" => subc(&mut value, &operand),
+        "dac" => refusal = dac(&mut value, &operand),
+        "dsc" => refusal = dsc(&mut value, &operand),
+        _ => return sheet.no_such_call(),
     }
-    let mut shown = String::new(alloc);
-    if let Err(code) = refusal {
-        show_code(&mut shown, code)?;
-        shown.push(' ')?;
-    }
-    show_packed(&mut shown, &value)?;
-    Ok(shown)
+    sheet.show_refused(refusal);
+    show_packed(sheet, &value);
 }
 
-fn joined(alloc: Global, cells: &mut Cells<'_>) -> Answer {
-    let mut value = packed_of(alloc, cells.next())?;
-    let operand = packed_of(alloc, cells.next())?;
-    let digit = Items::of(cells.next()).small()?;
+fn joined(sheet: &mut Sheet<'_>) {
+    let mut value = next_packed(sheet);
+    let operand = next_packed(sheet);
+    sheet.open();
+    let digit = sheet.small();
     if digit >= 16 {
-        return Err(Unanswered::Misread);
+        return sheet.misread();
     }
     bool_op(&mut value, &operand, digit);
-    let mut shown = String::new(alloc);
-    show_packed(&mut shown, &value)?;
-    Ok(shown)
+    show_packed(sheet, &value);
 }
 
-fn rotated(alloc: Global, cells: &mut Cells<'_>) -> Answer {
-    let mut value = packed_of(alloc, cells.next())?;
-    let n = places_of(cells.next())?;
-    let is_whole = match cells.next() {
-        b"each" => false,
-        b"whole" => true,
-        _ => return Err(Unanswered::Misread),
-    };
+/// Reads a cell that says whether the value is rotated as a whole, or each byte.
+fn next_is_whole(sheet: &mut Sheet<'_>) -> bool {
+    match str_of(sheet.cell()) {
+        "each" => false,
+        "whole" => true,
+        _ => {
+            sheet.misread();
+            false
+        }
+    }
+}
+
+fn rotated(sheet: &mut Sheet<'_>) {
+    let mut value = next_packed(sheet);
+    let n = next_places(sheet);
+    let is_whole = next_is_whole(sheet);
     if n < -8 || n > 8 {
-        return Err(Unanswered::Misread);
+        return sheet.misread();
     }
     rotate(&mut value, n, is_whole);
-    let mut shown = String::new(alloc);
-    show_packed(&mut shown, &value)?;
-    Ok(shown)
+    show_packed(sheet, &value);
 }
 
-/// The relation that a cell spells.
-pub fn relation_of(cell: &[u8]) -> Result<Rel, Unanswered> {
-    match cell {
-        b"=" => Ok(Rel::Eq),
-        b"<>" => Ok(Rel::Ne),
-        b"<" => Ok(Rel::Lt),
-        b"<=" => Ok(Rel::Le),
-        b">" => Ok(Rel::Gt),
-        b">=" => Ok(Rel::Ge),
-        _ => Err(Unanswered::Misread),
+/// Reads a cell that spells a relation.
+pub fn next_relation(sheet: &mut Sheet<'_>) -> Rel {
+    match str_of(sheet.cell()) {
+        "=" => Rel::Eq,
+        "<>" => Rel::Ne,
+        "<" => Rel::Lt,
+        "<=" => Rel::Le,
+        ">" => Rel::Gt,
+        ">=" => Rel::Ge,
+        _ => {
+            sheet.misread();
+            Rel::Eq
+        }
     }
 }
 
-fn found(alloc: Global, cells: &mut Cells<'_>) -> Answer {
-    let value = packed_of(alloc, cells.next())?;
-    let relation = relation_of(cells.next())?;
-    let byte = first(&packed_of(alloc, cells.next())?);
-    Ok(format!(in alloc; "{}", pos(&value, relation, byte))?)
+fn found(sheet: &mut Sheet<'_>) {
+    let value = next_packed(sheet);
+    let relation = next_relation(sheet);
+    let byte = first(&next_packed(sheet));
+    sheet.show_number(pos(&value, relation, byte) as u64);
 }
 
-fn compared(alloc: Global, cells: &mut Cells<'_>) -> Answer {
-    let one = packed_of(alloc, cells.next())?;
-    let other = packed_of(alloc, cells.next())?;
-    Ok(format!(in alloc; "{}", name_of_order(compare(&one, &other)))?)
+fn compared(sheet: &mut Sheet<'_>) {
+    let one = next_packed(sheet);
+    let other = next_packed(sheet);
+    sheet.show(name_of_order(compare(&one, &other)));
 }
 
-fn measured(alloc: Global, cells: &mut Cells<'_>) -> Answer {
-    let value = packed_of(alloc, cells.next())?;
-    Ok(format!(in alloc; "{}", value_len(&value))?)
+fn measured(sheet: &mut Sheet<'_>) {
+    let value = next_packed(sheet);
+    sheet.show_number(value_len(&value) as u64);
 }
 
-fn valued(alloc: Global, cells: &mut Cells<'_>) -> Answer {
-    let value = packed_of(alloc, cells.next())?;
-    let n = Items::of(cells.next()).count()?;
+fn valued(sheet: &mut Sheet<'_>) {
+    let value = next_packed(sheet);
+    sheet.open();
+    let n = sheet.count();
     if n < 1 || n > 4 || n > value.len() {
-        return Err(Unanswered::Misread);
+        return sheet.misread();
     }
-    Ok(format!(in alloc; "{}", val(&value, n))?)
+    sheet.show_number(u64::from(val(&value, n)));
 }
 
-/// The whole number that a word says; `most` is the greatest.
-fn wide_of(word: &[u8]) -> Result<u64, Unanswered> {
-    if word == b"most".as_slice() {
-        return Ok(u64::MAX);
+/// Reads a cell that says a whole number; `most` is the greatest.
+fn next_wide(sheet: &mut Sheet<'_>) -> u64 {
+    let cell = sheet.cell();
+    if str_of(cell) == "most" {
+        return u64::MAX;
     }
-    match whole(dec_of(word)?) {
-        Some(n) if n >= 0 => Ok(n as u64),
-        _ => Err(Unanswered::Misread),
+    match whole(dec_of(sheet, cell)) {
+        Some(n) if n >= 0 => n as u64,
+        _ => {
+            sheet.misread();
+            0
+        }
     }
 }
 
-fn put_number(alloc: Global, cells: &mut Cells<'_>) -> Answer {
-    let number = wide_of(cells.next())?;
-    let mut value = packed_of(alloc, cells.next())?;
-    let mut shown = String::new(alloc);
-    show_outcome(&mut shown, bin(number, &mut value))?;
-    shown.push(' ')?;
-    show_packed(&mut shown, &value)?;
-    Ok(shown)
+fn put_number(sheet: &mut Sheet<'_>) {
+    let number = next_wide(sheet);
+    let mut value = next_packed(sheet);
+    sheet.show_outcome(bin(number, &mut value));
+    sheet.show(" ");
+    show_packed(sheet, &value);
 }
 
-fn spelled(alloc: Global, cells: &mut Cells<'_>) -> Answer {
-    let byte = first(&packed_of(alloc, cells.next())?);
-    let mut shown = String::new(alloc);
-    show_bytes(&mut shown, &hex_text(byte))?;
-    Ok(shown)
+fn spelled(sheet: &mut Sheet<'_>) {
+    let byte = first(&next_packed(sheet));
+    sheet.show_bytes(&hex_text(byte));
 }

@@ -9,22 +9,17 @@
 ghost use Rattle.std.specs.Prelude.{◌≡◌, true};
 ghost use Rattle.b2_vars.specs.Names.{is_legal_name};
 
-use crate::items::{Items, dec_of, value_of};
-use crate::showing::{show_code, show_fault, show_outcome, show_quoted, show_value};
-use b2_base::Fault;
-use b2_cases::Cells;
-use b2_cases::answers::{Answer, Unanswered};
-use b2_cases::shown::show_truth;
+use crate::items::{dec_of, value};
+use crate::showing::show_value;
+use b2_cases::{Sheet, str_of};
 use b2_dec::Value;
 use b2_vars::{Shape, Var, Vars};
-use std::alloc::Global;
-use std::fmt::Write;
 
-pub fn answer(alloc: Global, call: &[u8], cells: &mut Cells<'_>) -> Answer {
+pub fn answer(call: &str, sheet: &mut Sheet<'_>) {
     match call {
-        b"is_legal" => is_legal(alloc, cells),
-        b"calls" => calls(alloc, cells),
-        _ => Err(Unanswered::NoSuchCall),
+        "is_legal" => is_legal(sheet),
+        "calls" => calls(sheet),
+        _ => sheet.no_such_call(),
     }
 }
 
@@ -36,23 +31,23 @@ struct At {
     column: u16,
 }
 
-/// The variable that a word names.
-fn variable(word: &[u8]) -> Result<Var, Unanswered> {
+/// The variable that a word names, None where it names none.
+fn variable(word: &[u8]) -> Option<Var> {
     let [letter, after @ ..] = word else {
-        return Err(Unanswered::Misread);
+        return None;
     };
     let (digit, kind) = match after {
         [] | [b'$' | b'(', ..] => (None, after),
         [digit, kind @ ..] => (Some(*digit), kind),
     };
-    let (alpha, array) = match kind {
-        b"" => (false, false),
-        b"$" => (true, false),
-        b"()" => (false, true),
-        b"$()" => (true, true),
-        _ => return Err(Unanswered::Misread),
+    let (alpha, array) = match str_of(kind) {
+        "" => (false, false),
+        "$" => (true, false),
+        "()" => (false, true),
+        "$()" => (true, true),
+        _ => return None,
     };
-    Ok(Var {
+    Some(Var {
         letter: *letter,
         digit,
         alpha,
@@ -60,271 +55,203 @@ fn variable(word: &[u8]) -> Result<Var, Unanswered> {
     })
 }
 
-fn is_legal(alloc: Global, cells: &mut Cells<'_>) -> Answer {
-    let v = variable(cells.next())?;
-    let mut shown = String::new(alloc);
-    show_truth(&mut shown, v.is_legal())?;
-    Ok(shown)
+fn is_legal(sheet: &mut Sheet<'_>) {
+    match variable(sheet.cell()) {
+        Some(v) => sheet.show_truth(v.is_legal()),
+        None => sheet.misread(),
+    }
 }
 
-fn calls(alloc: Global, cells: &mut Cells<'_>) -> Answer {
-    let area = Items::of(cells.next()).count()?;
-    let mut vars = Vars::new(alloc, area)?;
-    let mut shown = String::new(alloc);
+fn calls(sheet: &mut Sheet<'_>) {
+    sheet.open();
+    let area = sheet.count();
+    let Ok(mut vars) = Vars::new(sheet.alloc(), area) else {
+        return sheet.no_memory();
+    };
     for place in 0..100u8 {
-        if cells.is_empty() {
+        if sheet.is_empty() {
             break;
         }
         if place > 0 {
-            shown.push_str(", ")?;
+            sheet.show(", ");
         }
-        let mut items = Items::of(cells.next());
-        one_call(alloc, &mut vars, &mut items, &mut shown)?;
-        if !items.is_empty() {
-            return Err(Unanswered::Misread);
-        }
-        write!(shown, " {}", vars.count())?;
+        sheet.open();
+        one_call(&mut vars, sheet);
+        sheet.show(" ");
+        sheet.show_number(vars.count() as u64);
     }
-    Ok(shown)
 }
 
-/// Makes a call, and appends what it gives.
-fn one_call(
-    alloc: Global,
-    vars: &mut Vars,
-    items: &mut Items<'_>,
-    shown: &mut String,
-) -> Result<(), Unanswered> {
-    let call = items.word()?;
+/// Makes a call, and shows what it gives.
+fn one_call(vars: &mut Vars, sheet: &mut Sheet<'_>) {
+    let call = str_of(sheet.word());
     match call {
-        b"clear" => vars.clear(),
-        b"clear_non_common" => vars.clear_non_common(),
-        _ => {
-            let v = variable(items.word()?)?;
-            if !v.is_legal() {
-                return Err(Unanswered::Misread);
-            }
-            return of_variable(alloc, vars, v, call, items, shown);
+        "clear" => {
+            vars.clear();
+            sheet.show("ok");
         }
+        "clear_non_common" => {
+            vars.clear_non_common();
+            sheet.show("ok");
+        }
+        _ => match variable(sheet.word()) {
+            Some(v) if v.is_legal() => of_variable(vars, v, call, sheet),
+            _ => sheet.misread(),
+        },
     }
-    shown.push_str("ok")?;
-    Ok(())
 }
 
 /// Makes a call on a variable.
-fn of_variable(
-    alloc: Global,
-    vars: &mut Vars,
-    v: Var,
-    call: &[u8],
-    items: &mut Items<'_>,
-    shown: &mut String,
-) -> Result<(), Unanswered>
+fn of_variable(vars: &mut Vars, v: Var, call: &str, sheet: &mut Sheet<'_>)
     requires { is_legal_name v ≡ true }
 {
     match call {
-        b"dim" | b"com" | b"redim" => shaped(vars, v, call, items, shown),
-        b"shape" => show_shape(vars, v, shown),
-        b"all" | b"all_mut" | b"change_all" => of_all(alloc, vars, v, call, shown),
+        "dim" | "com" | "redim" => shaped(vars, v, call, sheet),
+        "shape" => show_shape(vars, v, sheet),
+        "all" | "all_mut" | "change_all" => of_all(vars, v, call, sheet),
         _ => {
             let at = At {
                 v,
-                row: items.number()?,
-                column: items.number()?,
+                row: sheet.number(),
+                column: sheet.number(),
             };
-            of_value(alloc, vars, at, call, items, shown)
+            of_value(vars, at, call, sheet);
         }
     }
 }
 
-fn show_shape(vars: &Vars, v: Var, shown: &mut String) -> Result<(), Unanswered>
+fn show_shape(vars: &Vars, v: Var, sheet: &mut Sheet<'_>)
     requires { is_legal_name v ≡ true }
 {
     match vars.shape(v) {
-        Some(shape) => write!(shown, "{} {} {}", shape.rows, shape.cols, shape.len)?,
-        None => shown.push_str("none")?,
+        Some(shape) => {
+            sheet.show_number(u64::from(shape.rows));
+            sheet.show(" ");
+            sheet.show_number(u64::from(shape.cols));
+            sheet.show(" ");
+            sheet.show_number(u64::from(shape.len));
+        }
+        None => sheet.show("none"),
     }
-    Ok(())
 }
 
-/// Appends `ok`, or why a call was refused.
-fn show_result(shown: &mut String, made: Result<(), Fault>) -> Result<(), Unanswered> {
-    match made {
-        Ok(()) => shown.push_str("ok")?,
-        Err(fault) => show_fault(shown, fault)?,
-    }
-    Ok(())
-}
-
-fn shaped(
-    vars: &mut Vars,
-    v: Var,
-    call: &[u8],
-    items: &mut Items<'_>,
-    shown: &mut String,
-) -> Result<(), Unanswered>
+fn shaped(vars: &mut Vars, v: Var, call: &str, sheet: &mut Sheet<'_>)
     requires { is_legal_name v ≡ true }
 {
     let shape = Shape {
-        rows: items.number()?,
-        cols: items.number()?,
-        len: items.small()?,
+        rows: sheet.number(),
+        cols: sheet.number(),
+        len: sheet.small(),
     };
     match call {
-        b"dim" => show_result(shown, vars.dim(v, shape)),
-        b"com" => show_result(shown, vars.com(v, shape)),
-        _ => {
-            show_outcome(shown, vars.redim(v, shape))?;
-            Ok(())
-        }
+        "dim" => sheet.show_result(vars.dim(v, shape)),
+        "com" => sheet.show_result(vars.com(v, shape)),
+        _ => sheet.show_outcome(vars.redim(v, shape)),
     }
 }
 
-fn of_all(
-    alloc: Global,
-    vars: &mut Vars,
-    v: Var,
-    call: &[u8],
-    shown: &mut String,
-) -> Result<(), Unanswered>
+fn of_all(vars: &mut Vars, v: Var, call: &str, sheet: &mut Sheet<'_>)
     requires { is_legal_name v ≡ true }
 {
     if let Err(code) = vars.reach_all(v) {
-        show_code(shown, code)?;
-        return Ok(());
+        return sheet.show_code(code);
     }
     match call {
-        b"all_mut" => vars.all_mut(v).fill(b'X'),
-        b"change_all" => vars.change_all(v, |all: &mut [u8]| all.reverse()),
+        "all_mut" => vars.all_mut(v).fill(b'X'),
+        "change_all" => vars.change_all(v, |all: &mut [u8]| all.reverse()),
         _ => {}
     }
     match vars.all(v) {
-        Ok(all) => show_quoted(alloc, shown, all)?,
-        Err(code) => show_code(shown, code)?,
+        Ok(all) => sheet.show_quoted(all),
+        Err(code) => sheet.show_code(code),
     }
-    Ok(())
 }
 
 /// Makes a call on a value of a variable.
-fn of_value(
-    alloc: Global,
-    vars: &mut Vars,
-    at: At,
-    call: &[u8],
-    items: &mut Items<'_>,
-    shown: &mut String,
-) -> Result<(), Unanswered>
+fn of_value(vars: &mut Vars, at: At, call: &str, sheet: &mut Sheet<'_>)
     requires { is_legal_name at.v ≡ true }
 {
     match call {
-        b"get" => match vars.get(at.v, at.row, at.column) {
-            Ok(value) => Ok(show_value(alloc, shown, &value)?),
-            Err(code) => Ok(show_code(shown, code)?),
+        "get" => match vars.get(at.v, at.row, at.column) {
+            Ok(value) => show_value(sheet, &value),
+            Err(code) => sheet.show_code(code),
         },
-        b"reach_value" => Ok(show_outcome(shown, vars.reach_value(at.v, at.row, at.column))?),
-        b"set" => set(alloc, vars, at, items, shown),
-        b"set_number" => set_number(vars, at, items, shown),
-        b"set_alpha" => set_alpha(alloc, vars, at, items, shown),
-        b"set_part" => set_part(alloc, vars, at, items, shown),
-        _ => change_part(vars, at, call, items, shown),
+        "reach_value" => sheet.show_outcome(vars.reach_value(at.v, at.row, at.column)),
+        "set" => set(vars, at, sheet),
+        "set_number" => set_number(vars, at, sheet),
+        "set_alpha" => set_alpha(vars, at, sheet),
+        "set_part" => set_part(vars, at, sheet),
+        _ => change_part(vars, at, call, sheet),
     }
 }
 
-fn set(
-    alloc: Global,
-    vars: &mut Vars,
-    at: At,
-    items: &mut Items<'_>,
-    shown: &mut String,
-) -> Result<(), Unanswered>
+fn set(vars: &mut Vars, at: At, sheet: &mut Sheet<'_>)
     requires { is_legal_name at.v ≡ true }
 {
-    match value_of(alloc, items.next())? {
-        Value::Number(x) if !at.v.alpha => show_result(
-            shown,
-            vars.set(at.v, at.row, at.column, &Value::Number(x)),
-        ),
-        Value::Alpha(bytes) if at.v.alpha => show_result(
-            shown,
-            vars.set(at.v, at.row, at.column, &Value::Alpha(bytes)),
-        ),
-        _ => Err(Unanswered::Misread),
+    match value(sheet) {
+        Value::Number(x) if !at.v.alpha => {
+            sheet.show_result(vars.set(at.v, at.row, at.column, &Value::Number(x)));
+        }
+        Value::Alpha(bytes) if at.v.alpha => {
+            sheet.show_result(vars.set(at.v, at.row, at.column, &Value::Alpha(bytes)));
+        }
+        _ => sheet.misread(),
     }
 }
 
-fn set_number(
-    vars: &mut Vars,
-    at: At,
-    items: &mut Items<'_>,
-    shown: &mut String,
-) -> Result<(), Unanswered>
+fn set_number(vars: &mut Vars, at: At, sheet: &mut Sheet<'_>)
     requires { is_legal_name at.v ≡ true }
 {
-    let x = dec_of(items.word()?)?;
+    let word = sheet.word();
+    let x = dec_of(sheet, word);
     if at.v.alpha {
-        return Err(Unanswered::Misread);
+        return sheet.misread();
     }
-    show_result(shown, vars.set_number(at.v, at.row, at.column, x))
+    sheet.show_result(vars.set_number(at.v, at.row, at.column, x));
 }
 
-fn set_alpha(
-    alloc: Global,
-    vars: &mut Vars,
-    at: At,
-    items: &mut Items<'_>,
-    shown: &mut String,
-) -> Result<(), Unanswered>
+fn set_alpha(vars: &mut Vars, at: At, sheet: &mut Sheet<'_>)
     requires { is_legal_name at.v ≡ true }
 {
-    let bytes = items.quoted(alloc)?;
+    let bytes = sheet.quoted();
     if !at.v.alpha {
-        return Err(Unanswered::Misread);
+        return sheet.misread();
     }
-    show_result(shown, vars.set_alpha(at.v, at.row, at.column, &bytes))
+    sheet.show_result(vars.set_alpha(at.v, at.row, at.column, &bytes));
 }
 
-fn set_part(
-    alloc: Global,
-    vars: &mut Vars,
-    at: At,
-    items: &mut Items<'_>,
-    shown: &mut String,
-) -> Result<(), Unanswered>
+fn set_part(vars: &mut Vars, at: At, sheet: &mut Sheet<'_>)
     requires { is_legal_name at.v ≡ true }
 {
-    let from = items.count()?;
-    let bytes = items.quoted(alloc)?;
+    let from = sheet.count();
+    let bytes = sheet.quoted();
     match vars.reach_part(at.v, at.row, at.column, from, bytes.len()) {
-        Ok(()) => vars.set_part(at.v, at.row, at.column, from, &bytes),
-        Err(fault) => return Ok(show_fault(shown, fault)?),
+        Ok(()) => {
+            vars.set_part(at.v, at.row, at.column, from, &bytes);
+            sheet.show("ok");
+        }
+        Err(fault) => sheet.show_fault(fault),
     }
-    Ok(shown.push_str("ok")?)
 }
 
 /// Makes a call that lends a part of an alpha value, and changes it.
-fn change_part(
-    vars: &mut Vars,
-    at: At,
-    call: &[u8],
-    items: &mut Items<'_>,
-    shown: &mut String,
-) -> Result<(), Unanswered>
+fn change_part(vars: &mut Vars, at: At, call: &str, sheet: &mut Sheet<'_>)
     requires { is_legal_name at.v ≡ true }
 {
-    let from = items.count()?;
-    let n = items.count()?;
-    match vars.reach_part(at.v, at.row, at.column, from, n) {
-        Ok(()) => match call {
-            b"reach_part" => {}
-            b"part_mut" => vars.part_mut(at.v, at.row, at.column, from, n).fill(b'X'),
-            b"change_part" => {
-                vars.change_part(at.v, at.row, at.column, from, n, |part: &mut [u8]| {
-                    part.reverse()
-                });
-            }
-            _ => return Err(Unanswered::NoSuchCall),
-        },
-        Err(fault) => return Ok(show_fault(shown, fault)?),
+    let from = sheet.count();
+    let n = sheet.count();
+    if let Err(fault) = vars.reach_part(at.v, at.row, at.column, from, n) {
+        return sheet.show_fault(fault);
     }
-    Ok(shown.push_str("ok")?)
+    match call {
+        "reach_part" => {}
+        "part_mut" => vars.part_mut(at.v, at.row, at.column, from, n).fill(b'X'),
+        "change_part" => {
+            vars.change_part(at.v, at.row, at.column, from, n, |part: &mut [u8]| {
+                part.reverse()
+            });
+        }
+        _ => return sheet.no_such_call(),
+    }
+    sheet.show("ok");
 }
