@@ -1,7 +1,7 @@
 // The language of the machine.
 ghost use Rattle.std.specs.Prelude.{◌≡◌};
 
-use crate::choice::{Family, execute_at_once, family_of};
+use crate::choice::{Family, family_of, plan_found};
 use b2_access::{Access, Answer, DeviceTable, Lent, Outcome, Planned, Private};
 use b2_atom::Atoms;
 use b2_base::NoMemory;
@@ -59,8 +59,8 @@ impl Language for Basic {
         line: &Atoms,
         unit: &RowUnit<'_>,
         place: &Place,
-    ) -> Result<Option<Outcome>, NoMemory> {
-        execute_at_once(alloc, me, own, home, line, unit, place)
+    ) -> Result<Option<Planned>, NoMemory> {
+        plan_found(alloc, me, own, home, line, unit, place)
     }
 
     ghost lawful = { basic_is_lawful };

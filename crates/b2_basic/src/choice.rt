@@ -4,10 +4,9 @@ ghost use Rattle.b2_rows.specs.Laws.{IsRow};
 ghost use Rattle.b2_rows.specs.Rows.{tree_at};
 ghost use Rattle.b2_vars.specs.Tables.{VarsState};
 ghost use Rattle.b2_access.specs.Placed.{line_named, statement_on};
-ghost use Rattle.b2_access.specs.Planning.{done};
 ghost use Rattle.b2_basic.specs.Choice as spec;
 
-use b2_access::{Outcome, Private};
+use b2_access::{Planned, Private};
 use b2_atom::Atoms;
 use b2_base::NoMemory;
 use b2_flow::Place;
@@ -35,8 +34,8 @@ pub fn family_of(row: u16) -> Family
     }
 }
 
-/// Executes the statement of a unit, where it is one of control and asks for nothing.
-pub fn execute_at_once(
+/// What the statement of a unit plans, where it is one of control and asks for nothing.
+pub fn plan_found(
     alloc: Global,
     me: &mut Private,
     own: &Text,
@@ -44,21 +43,21 @@ pub fn execute_at_once(
     line: &Atoms,
     unit: &RowUnit<'_>,
     place: &Place,
-) -> Result<Option<Outcome>, NoMemory>
+) -> Result<Option<Planned>, NoMemory>
     requires stands { me.old.place ≡ Some place.now }
     requires program { is_some place.now.line ≡ true }
     requires line { line_named me.old.immediate home.now.lines place.now.line ≡ Some line.now }
     requires statement { Some (record { row = unit.now.row; tree = tree_at unit.now.row unit.now.bytes.now }) ≡ statement_on (Some line.now) place.now.unit }
     requires read { IsRow unit.now.row unit.now.bytes.now (tree_at unit.now.row unit.now.bytes.now) }
     requires few { place.now.unit < 255 }
-    ensures planned { (globals : Option VarsState) → IfOk result (λ o. IfSome o (λ o. done (record { own = own.now; home = home.now; globals = globals }) (record { me = me.new; outcome = o }) ≡ spec.plan unit.now.row me.old (record { own = own.now; home = home.now; globals = globals }))) }
-    ensures built { IfOk result (λ o. IfSome o (λ _. spec.is_built unit.now.row ≡ true)) }
-    ensures same { IfOk result (λ o. o ≡ None → me.new ≡ me.old) }
+    ensures planned { (globals : Option VarsState) → IfOk result (λ p. IfSome p (λ p. record { me = me.new; globals = globals; planned = p } ≡ spec.plan unit.now.row me.old (record { own = own.now; home = home.now; globals = globals }))) }
+    ensures built { IfOk result (λ p. IfSome p (λ _. spec.is_built unit.now.row ≡ true)) }
+    ensures same { IfOk result (λ p. p ≡ None → me.new ≡ me.old) }
     ensures part { me.new.part ≡ me.old.part }
 {
     if !b2_stmt::is_built(unit.row) || b2_stmt::asks_access(unit.row) {
         return Ok(None);
     }
     let outcome = b2_stmt::execute(alloc, me, own, home, line, unit, *place)?;
-    Ok(Some(outcome))
+    Ok(Some(Planned::Done(outcome)))
 }

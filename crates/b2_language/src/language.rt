@@ -5,7 +5,6 @@ ghost use Rattle.b2_rows.specs.Rows.{tree_at};
 ghost use Rattle.b2_vars.specs.Tables.{VarsState};
 ghost use Rattle.b2_access.specs.Lending.{globals_lent, seen_lent};
 ghost use Rattle.b2_access.specs.Placed.{line_named, statement_on};
-ghost use Rattle.b2_access.specs.Planning.{done};
 ghost use Rattle.b2_language.specs.Languages.{AreLawful, Ways};
 
 use b2_access::{Access, Answer, DeviceTable, Lent, Outcome, Planned, Private};
@@ -50,8 +49,8 @@ pub trait Language {
         ensures same_reference { lent.new.globals.ghost_name ≡ lent.old.globals.ghost_name }
         ensures part { me.new.part ≡ me.old.part };
 
-    /// What `plan` says of a unit in a line of the program, where that asks for nothing and the language has a quicker way to
-    /// say so, since the line and the unit are found; none, and nothing is done, where it has not.
+    /// What `plan` says of a unit in a line of the program, where the language has a quicker way to say so, since the line and
+    /// the unit are found; none, and nothing is done, where it has not.
     fn plan_at_once(
         alloc: Global,
         me: &mut Private,
@@ -60,16 +59,16 @@ pub trait Language {
         line: &Atoms,
         unit: &RowUnit<'_>,
         place: &Place,
-    ) -> Result<Option<Outcome>, NoMemory>
+    ) -> Result<Option<Planned>, NoMemory>
         requires stands { me.old.place ≡ Some place.now }
         requires program { is_some place.now.line ≡ true }
         requires line { line_named me.old.immediate home.now.lines place.now.line ≡ Some line.now }
         requires statement { Some (record { row = unit.now.row; tree = tree_at unit.now.row unit.now.bytes.now }) ≡ statement_on (Some line.now) place.now.unit }
         requires read { IsRow unit.now.row unit.now.bytes.now (tree_at unit.now.row unit.now.bytes.now) }
         requires few { place.now.unit < 255 }
-        ensures planned { (globals : Option VarsState) → IfOk result (λ o. IfSome o (λ o. done (record { own = own.now; home = home.now; globals = globals }) (record { me = me.new; outcome = o }) ≡ ways.plan unit.now.row me.old (record { own = own.now; home = home.now; globals = globals }))) }
-        ensures built { IfOk result (λ o. IfSome o (λ _. ways.built unit.now.row ≡ true)) }
-        ensures same { IfOk result (λ o. o ≡ None → me.new ≡ me.old) }
+        ensures planned { (globals : Option VarsState) → IfOk result (λ p. IfSome p (λ p. record { me = me.new; globals = globals; planned = p } ≡ ways.plan unit.now.row me.old (record { own = own.now; home = home.now; globals = globals }))) }
+        ensures built { IfOk result (λ p. IfSome p (λ _. ways.built unit.now.row ≡ true)) }
+        ensures same { IfOk result (λ p. p ≡ None → me.new ≡ me.old) }
         ensures part { me.new.part ≡ me.old.part }
     {
         Ok(None)

@@ -1,4 +1,4 @@
--- A statement that the language ends at once: what its step begins with is what it does.
+-- A statement that the language plans at once: what its step begins with is what it plans.
 use Rattle.std.proofs.Common.{◌≡◌, ℕ, ◌==◌, Bool, true, false, true≢false, if◌then◌else◌, List, refl, sym, ap, ◌∙◌, arith, Option, Some, None, is_some}
 use Rattle.std.proofs.lemmas.Bool.Decides.{nat_tests}
 use Rattle.b2_atom.specs.Tree.{names_global}
@@ -7,12 +7,10 @@ use Rattle.b2_flow.specs.declared.frame.Place.{Place}
 use Rattle.b2_text.specs.Program.{Lines}
 use Rattle.b2_access.specs.Lending.{SeenLent}
 use Rattle.b2_access.specs.Placed.{Statement, line_named, statement_placed, statement_on}
-use Rattle.b2_access.specs.Planning.{Ended, Planning, done}
+use Rattle.b2_access.specs.Planning.{Planning}
 use Rattle.b2_access.specs.declared.private.Private.{Private}
 use Rattle.b2_language.specs.Languages.{AreLawful, Ways}
-use Rattle.b2_machine.specs.Endings.{Ending, counts}
-use Rattle.b2_machine.specs.Moving.{ends_by}
-use Rattle.b2_machine.specs.Statements.{begins, begins_where, begun, builder_of, has_ended, plan_by}
+use Rattle.b2_machine.specs.Statements.{Begun, begins, begins_where, begun, builder_of, plan_by}
 use Rattle.b2_machine.specs.declared.statements.Builder.{Builder}
 use Rattle.b2_machine.specs.declared.statements.Builder.TheVariants as builder
 
@@ -39,13 +37,12 @@ module _ (ways : Ways) (lawful : AreLawful ways) where
   built : (u : Statement) → names_global u.tree ≡ false → ways.built u.row ≡ true → builder_of ways u ≡ builder.Language u.row
   built u local is = otherwise (names_global u.tree) _ _ local ∙ otherwise (u.row == row.LIST) _ _ (no_list u.row is) ∙ chosen (ways.built u.row) _ _ is
 
-  pub ended_at_once : (p : Place) (me : Private) (s : SeenLent) (line : List ℕ) (u : Statement) (x : Ended) (e : Ending)
+  pub begun_at_once : (p : Place) (me : Private) (s : SeenLent) (line : List ℕ) (u : Statement) (x : Planning) (b : Begun)
       → line_named me.immediate s.home.lines p.line ≡ Some line → Some u ≡ statement_on (Some line) p.unit → names_global u.tree ≡ false → ways.built u.row ≡ true
-      → done s x ≡ ways.plan u.row me s → e ≡ ends_by counts x.outcome p x.me s.home.lines
-      → has_ended e ≡ begins ways p me s
-  ended_at_once p me s line u x e is_line is_unit local is is_x is_e =
+      → x ≡ ways.plan u.row me s → b ≡ begun x (builder.Language u.row) p s.home.lines → b ≡ begins ways p me s
+  begun_at_once p me s line u x b is_line is_unit local is is_x is_b =
       let there : statement_placed p me.immediate s.home.lines ≡ Some u = ap (λ (l : Option (List ℕ)). statement_on l p.unit) is_line ∙ sym is_unit in
-      let plans : plan_by ways (builder_of ways u) p me s ≡ done s x = ap (λ (b : Builder). plan_by ways b p me s) (built u local is) ∙ sym is_x in
-      ap has_ended is_e
-      ∙ sym (ap (λ (y : Planning). begun y (builder_of ways u) p s.home.lines) plans)
+      is_b
+      ∙ ap (λ (y : Planning). begun y (builder.Language u.row) p s.home.lines) is_x
+      ∙ sym (ap (λ (o : Builder). begun (plan_by ways o p me s) o p s.home.lines) (built u local is))
       ∙ sym (ap (λ (o : Option Statement). begins_where ways o p me s) there)

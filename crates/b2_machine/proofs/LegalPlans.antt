@@ -1,16 +1,16 @@
 -- No statement asks for a line above 9999.
-use Rattle.std.proofs.Common.{◌≡◌, ℕ, Bool, true, false, is_some, subst, sym}
+use Rattle.std.proofs.Common.{◌≡◌, ℕ, Bool, true, false, Option, Some, None, is_some, subst, sym}
 use Rattle.b2_text.specs.Program.{Lines}
 use Rattle.b2_flow.specs.declared.frame.Place.{Place}
 use Rattle.b2_access.specs.Lending.{SeenLent}
-use Rattle.b2_access.specs.Planning.{Planning}
+use Rattle.b2_access.specs.Placed.{Statement, statement_placed}
 use Rattle.b2_access.specs.declared.planned.Planned.{Planned}
 use Rattle.b2_access.specs.declared.planned.Planned.TheVariants as planned
 use Rattle.b2_access.specs.declared.private.Private.{Private}
 use Rattle.b2_language.specs.Languages.{AreLawful, IsLegalPlan, Ways}
 use Rattle.b2_machine.specs.Listed.{lists}
 use Rattle.b2_machine.specs.Stays.{IsLegalCourse}
-use Rattle.b2_machine.specs.Statements.{Begun, begun_by, plan_by}
+use Rattle.b2_machine.specs.Statements.{Begun, begins, begins_where, begun_by, builder_of, plan_by}
 use Rattle.b2_machine.specs.declared.statements.Builder.{Builder}
 use Rattle.b2_machine.specs.declared.statements.Builder.TheVariants as builder
 use Rattle.b2_machine.specs.declared.statements.Course.{Course}
@@ -29,8 +29,9 @@ module _ (ways : Ways) (lawful : AreLawful ways) where
   planned_by (builder.Language r) p me s = lawful.plans_legally r me s
   planned_by builder.Nobody p me s = tt
 
-  pub legal_planned : (x : Planning) (b : Builder) (p : Place) (me : Private) (s : SeenLent) → x ≡ plan_by ways b p me s → IsLegalPlan x.planned
-  legal_planned x b p me s is = subst (λ (y : Planning). IsLegalPlan y.planned) (sym is) (planned_by b p me s)
+  begun_at : (o : Option Statement) (p : Place) (me : Private) (s : SeenLent) → IsLegalCourse (begins_where ways o p me s).course
+  begun_at None p me s = tt
+  begun_at (Some u) p me s = let x = plan_by ways (builder_of ways u) p me s in courses x.planned (builder_of ways u) p x.me s.home.lines (planned_by (builder_of ways u) p me s)
 
-pub legal_begun : (x : Planned) (b : Builder) (p : Place) (me after : Private) (home : Lines) (c : Course) → IsLegalPlan x → ◌≡◌ {A = Begun} (record { me = after; course = c }) (begun_by x b p me home) → IsLegalCourse c
-legal_begun x b p me after home c h is = subst (λ (y : Begun). IsLegalCourse y.course) (sym is) (courses x b p me home h)
+  pub legal_begun : (p : Place) (me after : Private) (s : SeenLent) (c : Course) → ◌≡◌ {A = Begun} (record { me = after; course = c }) (begins ways p me s) → IsLegalCourse c
+  legal_begun p me after s c is = subst (λ (b : Begun). IsLegalCourse b.course) (sym is) (begun_at (statement_placed p me.immediate s.home.lines) p me s)

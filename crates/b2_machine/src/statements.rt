@@ -156,8 +156,31 @@ fn begun(
     }
 }
 
-/// Executes the statement of a unit at a place in a line of the program, where the language ends it at once.
-fn end_at_once<L: Language>(
+/// What becomes of a plan of the language, of a unit at a place in a line of the program.
+fn begun_on(
+    alloc: Global,
+    me: &mut Private,
+    home: &Text,
+    line: &Atoms,
+    place: &Place,
+    planned: Planned,
+    row: u16,
+) -> Result<Course, NoMemory>
+    requires line { line_of_place me.old.immediate home.now.lines place.now.line ≡ Some line.now }
+    ensures begun { IfOk result (λ c. record { me = me.new; course = c } ≡ spec.begun_by planned (Builder.Language row) place.now me.old home.now.lines) }
+    ensures part { me.new.part ≡ me.old.part }
+{
+    match planned {
+        Planned::Done(outcome) => {
+            let end = settle_on(alloc, me, home, line, *place, outcome)?;
+            Ok(Course::Ended(end))
+        }
+        Planned::Ask(access) => Ok(Course::Asks(access, Builder::Language(row))),
+    }
+}
+
+/// The statement of a unit at a place in a line of the program begins, where the language plans it at once.
+fn begin_unit<L: Language>(
     alloc: Global,
     me: &mut Private,
     own: &Text,
@@ -165,7 +188,7 @@ fn end_at_once<L: Language>(
     line: &Atoms,
     unit: &RowUnit<'_>,
     place: &Place,
-) -> Result<Option<Stepped>, NoMemory>
+) -> Result<Option<Course>, NoMemory>
     requires stands { me.old.place ≡ Some place.now }
     requires program { is_some place.now.line ≡ true }
     requires line { line_of_place me.old.immediate home.now.lines place.now.line ≡ Some line.now }
@@ -173,31 +196,32 @@ fn end_at_once<L: Language>(
     requires local { names_global (tree_at unit.now.row unit.now.bytes.now) ≡ false }
     requires read { IsRow unit.now.row unit.now.bytes.now (tree_at unit.now.row unit.now.bytes.now) }
     requires few { place.now.unit < 255 }
-    ensures begun { (globals : Option VarsState) → IfOk result (λ e. IfSome e (λ e. spec.has_ended (record { me = me.new; end = e }) ≡ spec.begins L.ways place.now me.old (record { own = own.now; home = home.now; globals = globals }))) }
-    ensures same { IfOk result (λ e. e ≡ None → me.new ≡ me.old) }
+    ensures begun { (globals : Option VarsState) → IfOk result (λ c. IfSome c (λ c. record { me = me.new; course = c } ≡ spec.begins L.ways place.now me.old (record { own = own.now; home = home.now; globals = globals }))) }
+    ensures same { IfOk result (λ c. c ≡ None → me.new ≡ me.old) }
     ensures part { me.new.part ≡ me.old.part }
 {
-    let ended = L::plan_at_once(alloc, me, own, home, line, unit, place)?;
-    match ended {
-        Some(outcome) => {
-            let end = settle_on(alloc, me, home, line, *place, outcome)?;
-            Ok(Some(end))
+    let planned = L::plan_at_once(alloc, me, own, home, line, unit, place)?;
+    match planned {
+        Some(planned) => {
+            let course = begun_on(alloc, me, home, line, place, planned, unit.row)?;
+            Ok(Some(course))
         }
         None => Ok(None),
     }
 }
 
-/// Executes the statement at a place, where it stands in a line of the program and the language ends it at once.
-fn begin_at_once<L: Language>(
+/// The statement at a place begins, where it stands in a line of the program and the language plans it at once: it is found by
+/// one look-up.
+fn begin_found<L: Language>(
     alloc: Global,
     me: &mut Private,
     own: &Text,
     home: &Text,
     place: &Place,
-) -> Result<Option<Stepped>, NoMemory>
+) -> Result<Option<Course>, NoMemory>
     requires stands { me.old.place ≡ Some place.now }
-    ensures begun { (globals : Option VarsState) → IfOk result (λ e. IfSome e (λ e. spec.has_ended (record { me = me.new; end = e }) ≡ spec.begins L.ways place.now me.old (record { own = own.now; home = home.now; globals = globals }))) }
-    ensures same { IfOk result (λ e. e ≡ None → me.new ≡ me.old) }
+    ensures begun { (globals : Option VarsState) → IfOk result (λ c. IfSome c (λ c. record { me = me.new; course = c } ≡ spec.begins L.ways place.now me.old (record { own = own.now; home = home.now; globals = globals }))) }
+    ensures same { IfOk result (λ c. c ≡ None → me.new ≡ me.old) }
     ensures part { me.new.part ≡ me.old.part }
 {
     let Some(n) = place.line else {
@@ -212,7 +236,7 @@ fn begin_at_once<L: Language>(
     if unit.uses.globals {
         return Ok(None);
     }
-    end_at_once::<L>(alloc, me, own, home, line.atoms, &unit, place)
+    begin_unit::<L>(alloc, me, own, home, line.atoms, &unit, place)
 }
 
 /// The statement at a place begins, over what is lent, by who executes it.
@@ -223,7 +247,6 @@ fn begin_by<L: Language>(
     devices: &DeviceTable,
     place: &Place,
 ) -> Result<Course, NoMemory>
-    ensures legal { IfOk result IsLegalCourse }
     ensures begun { IfOk result (λ c. record { me = me.new; course = c } ≡ spec.begins L.ways place.now me.old (seen_lent lent.entry)) }
     ensures part { me.new.part ≡ me.old.part }
 {
@@ -236,7 +259,7 @@ fn begin_by<L: Language>(
     begun(alloc, me, home, *place, planned, builder)
 }
 
-/// The statement at a place of a partition begins, over what is lent. One that ends at once is found by one look-up.
+/// The statement at a place of a partition begins, over what is lent.
 pub fn begin_over<L: Language>(
     alloc: Global,
     me: &mut Private,
@@ -249,9 +272,9 @@ pub fn begin_over<L: Language>(
     ensures begun { IfOk result (λ c. record { me = me.new; course = c } ≡ spec.begins L.ways place.now me.old (seen_lent lent.entry)) }
     ensures part { me.new.part ≡ me.old.part }
 {
-    let ended = begin_at_once::<L>(alloc, me, lent.own, lent.home, place)?;
-    match ended {
-        Some(end) => Ok(Course::Ended(end)),
+    let begun = begin_found::<L>(alloc, me, lent.own, lent.home, place)?;
+    match begun {
+        Some(course) => Ok(course),
         None => begin_by::<L>(alloc, me, lent, devices, place),
     }
 }
