@@ -1,74 +1,25 @@
 // What calls answer, as rows show it.
-use b2_base::lexical::{hex_digit, rest_after};
-use b2_base::{Code, Fault, NoMemory};
-pub use b2_cases::shown::show_code;
-use std::alloc::{AllocError, AllocFailed, Global};
+use b2_base::Code;
+use b2_base::lexical::{hex_pair, rest_after};
+use b2_cases::Sheet;
 
-/// Why a call is not answered.
-#[derive(Drop)]
-pub enum Unanswered {
-    /// The words of the call don't say what it wants, or there is no such call.
-    Misread,
-    NoMemory,
-}
-
-impl From<AllocError> for Unanswered {
-    fn from(_: AllocError) -> Unanswered {
-        Unanswered::NoMemory
-    }
-}
-
-impl<T: Drop> From<AllocFailed<T>> for Unanswered {
-    fn from(_: AllocFailed<T>) -> Unanswered {
-        Unanswered::NoMemory
-    }
-}
-
-impl From<NoMemory> for Unanswered {
-    fn from(_: NoMemory) -> Unanswered {
-        Unanswered::NoMemory
-    }
-}
-
-/// What a row gives: the answer, or why there is none.
-pub fn told(alloc: Global, answer: Result<String, Unanswered>) -> Result<String, AllocError> {
-    match answer {
-        Ok(said) => Ok(said),
-        Err(Unanswered::Misread) => format!(in alloc; "misread"),
-        Err(Unanswered::NoMemory) => format!(in alloc; "no memory"),
-    }
-}
-
-/// Appends the code of a fault.
-pub fn show_fault(said: &mut String, fault: Fault) -> Result<(), Unanswered> {
-    match fault {
-        Fault::Code(code) => Ok(show_code(said, code)?),
-        Fault::NoMemory => Err(Unanswered::NoMemory),
-    }
-}
-
-/// Appends `done`, or a code.
-pub fn show_done(said: &mut String, outcome: Result<(), Code>) -> Result<(), AllocError> {
+/// Shows `done`, or a code.
+pub fn show_done(sheet: &mut Sheet<'_>, outcome: Result<(), Code>) {
     match outcome {
-        Ok(()) => said.push_str("done"),
-        Err(code) => show_code(said, code),
+        Ok(()) => sheet.show("done"),
+        Err(code) => sheet.show_code(code),
     }
 }
 
-/// Appends a number.
-pub fn show_number(said: &mut String, n: u32) -> Result<(), AllocError> {
-    write!(said, "{n}")
+/// Shows a number.
+pub fn show_number(sheet: &mut Sheet<'_>, n: u32) {
+    sheet.show_number(u64::from(n));
 }
 
-/// Appends a number, after a blank.
-pub fn show_next_number(said: &mut String, n: u32) -> Result<(), AllocError> {
-    write!(said, " {n}")
-}
-
-/// Appends the two digits of a byte.
-pub fn show_hex_byte(said: &mut String, byte: u8) -> Result<(), AllocError> {
-    said.push(hex_digit(byte / 16) as char)?;
-    said.push(hex_digit(byte % 16) as char)
+/// Shows a number, after a blank.
+pub fn show_next_number(sheet: &mut Sheet<'_>, n: u32) {
+    sheet.show(" ");
+    show_number(sheet, n);
 }
 
 /// How many bytes at the front are this one.
@@ -84,27 +35,27 @@ fn count_of_front(bytes: &[u8], byte: u8) -> usize {
 /// From how many equal bytes on they are shown as one, with their count.
 const RUN: usize = 8;
 
-/// Appends bytes as pairs of digits with blanks between them; a run of eight or more equal bytes as one, with its length
+/// Shows bytes as pairs of digits with blanks between them; a run of eight or more equal bytes as one, with its length
 /// after `*`.
-pub fn show_hex(said: &mut String, bytes: &[u8]) -> Result<(), AllocError> {
+pub fn show_pairs(sheet: &mut Sheet<'_>, bytes: &[u8]) {
     let mut left = bytes;
     for shown in 0..bytes.len() {
         let [byte, rest @ ..] = left else {
             break;
         };
         if shown > 0 {
-            said.push(' ')?;
+            sheet.show(" ");
         }
-        show_hex_byte(said, *byte)?;
+        sheet.show_letters(&hex_pair(*byte));
         let length = count_of_front(left, *byte);
         if length >= RUN {
-            write!(said, "*{length}")?;
+            sheet.show("*");
+            sheet.show_number(length as u64);
             left = rest_after(left, length);
         } else {
             left = rest;
         }
     }
-    Ok(())
 }
 
 /// Bytes up to the last that isn't 00.
@@ -119,11 +70,11 @@ fn without_end(bytes: &[u8]) -> &[u8] {
     left
 }
 
-/// Appends the bytes of a sector up to the last that isn't 00; `00` where all are.
-pub fn show_sector(said: &mut String, sector: &[u8; 256]) -> Result<(), AllocError> {
+/// Shows the bytes of a sector up to the last that isn't 00; `00` where all are.
+pub fn show_sector(sheet: &mut Sheet<'_>, sector: &[u8; 256]) {
     let bytes = without_end(sector);
     if bytes.is_empty() {
-        return said.push_str("00");
+        sheet.show("00");
     }
-    show_hex(said, bytes)
+    show_pairs(sheet, bytes);
 }

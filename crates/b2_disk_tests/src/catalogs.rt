@@ -1,118 +1,104 @@
 // Calls on the catalogue of a disk.
 ghost use Rattle.std.specs.Prelude.{◌≡◌, ◌<◌, ◌+◌, IfSome};
 
-use crate::answers::{Unanswered, show_code, show_done, show_next_number, show_number};
-use crate::words::Words;
+use crate::answers::{show_done, show_next_number, show_number};
+use crate::words::{is_program, name, whole};
 use b2_base::codes::Code;
 use b2_base::{Name8, Steps};
-use b2_cases::shown::show_bytes;
+use b2_cases::Sheet;
 use b2_catalog::{Entry, enter, find, format, limits, listing, look, reuse, scratch, set_used};
 use b2_platter::{Platter, checks, image};
-use std::alloc::{AllocError, Global};
 use std::marker::Brand;
 use std::sync::ledger::{Blank, Ledger};
 
-/// Makes a call: returns whether it is one of these.
-pub fn answered(
-    alloc: Global,
-    p: &mut Platter,
-    call: &[u8],
-    words: &mut Words<'_>,
-    said: &mut String,
-) -> Result<bool, Unanswered> {
+/// Makes the call of that name, and returns whether it is one of these.
+pub fn is_answered(p: &mut Platter, call: &str, sheet: &mut Sheet<'_>) -> bool {
     match call {
-        b"enter" => enter_all(alloc, p, words, said)?,
-        b"scratch" => show_done(said, scratch(p, words.name(alloc)?))?,
-        b"reuse" => take_again(alloc, p, words, said)?,
-        b"look" => look_up(p, words.name(alloc)?, said)?,
-        b"find" => find_counted(p, words.name(alloc)?, said)?,
-        b"reads" => show_reads(p, words.name(alloc)?, said)?,
-        b"used" => use_sectors(alloc, p, words, said)?,
-        b"limits" => show_limits(p, said)?,
-        b"format" => format_disk(p, words, said)?,
-        b"listing" => show_listing(alloc, p, said)?,
-        _ => return Ok(false),
+        "enter" => enter_all(p, sheet),
+        "reuse" => take_again(p, sheet),
+        "used" => use_sectors(p, sheet),
+        "limits" => show_limits(p, sheet),
+        "format" => format_disk(p, sheet),
+        "listing" => show_listing(p, sheet),
+        "scratch" | "look" | "find" | "reads" => {
+            if let Some(name) = name(sheet) {
+                at_name(p, name, call, sheet);
+            }
+        }
+        _ => return false,
     }
-    Ok(true)
+    true
 }
 
-/// Appends an entry as a listing has it: P for a program or D for data, S where it is scratched, its first, its last and
+/// Makes a call on the file of a name.
+fn at_name(p: &mut Platter, name: Name8, call: &str, sheet: &mut Sheet<'_>) {
+    match call {
+        "scratch" => show_done(sheet, scratch(p, name)),
+        "look" => show_found(sheet, name, look(p, name)),
+        "find" => find_counted(p, name, sheet),
+        _ => show_reads(p, name, sheet),
+    }
+}
+
+/// Shows an entry as a listing has it: P for a program or D for data, S where it is scratched, its first, its last and
 /// its used sectors; and whether it is of another name.
-fn show_entry(said: &mut String, name: Name8, e: Entry) -> Result<(), AllocError> {
-    said.push(if e.program { 'P' } else { 'D' })?;
+fn show_entry(sheet: &mut Sheet<'_>, name: Name8, e: Entry) {
+    sheet.show(if e.program { "P" } else { "D" });
     if !e.live {
-        said.push('S')?;
+        sheet.show("S");
     }
-    show_next_number(said, e.start)?;
-    show_next_number(said, e.end)?;
-    show_next_number(said, e.used)?;
+    show_next_number(sheet, e.start);
+    show_next_number(sheet, e.end);
+    show_next_number(sheet, e.used);
     if e.name != name {
-        said.push_str(" of another name")?;
+        sheet.show(" of another name");
     }
-    Ok(())
 }
 
-/// Appends what was made, or a code.
-fn show_made(
-    said: &mut String,
-    name: Name8,
-    outcome: Result<Entry, Code>,
-) -> Result<(), AllocError> {
+/// Shows what was made, or a code.
+fn show_made(sheet: &mut Sheet<'_>, name: Name8, outcome: Result<Entry, Code>) {
     match outcome {
-        Ok(e) => show_entry(said, name, e),
-        Err(code) => show_code(said, code),
+        Ok(e) => show_entry(sheet, name, e),
+        Err(code) => sheet.show_code(code),
     }
 }
 
-/// Appends what was found, or `none`.
-fn show_found(said: &mut String, name: Name8, found: Option<Entry>) -> Result<(), AllocError> {
+/// Shows what was found, or `none`.
+fn show_found(sheet: &mut Sheet<'_>, name: Name8, found: Option<Entry>) {
     match found {
-        Some(e) => show_entry(said, name, e),
-        None => said.push_str("none"),
+        Some(e) => show_entry(sheet, name, e),
+        None => sheet.show("none"),
     }
 }
 
 /// `enter KIND SECTORS NAME ..`: enters files of these names.
-fn enter_all(
-    alloc: Global,
-    p: &mut Platter,
-    words: &mut Words<'_>,
-    said: &mut String,
-) -> Result<(), Unanswered> {
-    let program = words.is_program()?;
-    let sectors = words.whole()?;
+fn enter_all(p: &mut Platter, sheet: &mut Sheet<'_>) {
+    let program = is_program(sheet);
+    let sectors = whole(sheet);
     if sectors < 2 {
-        return Err(Unanswered::Misread);
+        return sheet.misread();
     }
-    for k in 0..words.most() {
-        if words.is_empty() {
+    for k in 0..u64::MAX {
+        if !sheet.has_items() {
             break;
         }
         if k > 0 {
-            said.push_str(", ")?;
+            sheet.show(", ");
         }
-        let name = words.name(alloc)?;
-        show_made(said, name, enter(p, name, program, sectors))?;
+        if let Some(name) = name(sheet) {
+            show_made(sheet, name, enter(p, name, program, sectors));
+        }
     }
-    Ok(())
 }
 
 /// `reuse OLD NEW KIND`.
-fn take_again(
-    alloc: Global,
-    p: &mut Platter,
-    words: &mut Words<'_>,
-    said: &mut String,
-) -> Result<(), Unanswered> {
-    let old = words.name(alloc)?;
-    let name = words.name(alloc)?;
-    let program = words.is_program()?;
-    Ok(show_made(said, name, reuse(p, old, name, program))?)
-}
-
-/// `look NAME`.
-fn look_up(p: &Platter, name: Name8, said: &mut String) -> Result<(), Unanswered> {
-    Ok(show_found(said, name, look(p, name))?)
+fn take_again(p: &mut Platter, sheet: &mut Sheet<'_>) {
+    let old = name(sheet);
+    let new = name(sheet);
+    let program = is_program(sheet);
+    if let (Some(old), Some(new)) = (old, new) {
+        show_made(sheet, new, reuse(p, old, new, program));
+    }
 }
 
 /// What the counted look-up finds.
@@ -125,8 +111,8 @@ fn found<L: Ledger>(p: &Platter, name: Name8, blank: Blank) -> Option<Entry>
 }
 
 /// `find NAME`.
-fn find_counted(p: &Platter, name: Name8, said: &mut String) -> Result<(), Unanswered> {
-    Ok(show_found(said, name, found::<Brand>(p, name, Blank::new(1)))?)
+fn find_counted(p: &Platter, name: Name8, sheet: &mut Sheet<'_>) {
+    show_found(sheet, name, found::<Brand>(p, name, Blank::new(1)));
 }
 
 /// How many of two index sectors the look-up of a name that isn't there reads, which are its steps: one where the first on
@@ -158,57 +144,50 @@ fn sectors_counted<L: Ledger>(p: &Platter, name: Name8, blank: Blank) -> Option<
 
 /// `reads NAME`: how many of two index sectors the look-up of a name reads that isn't there, and `none` where it is. That
 /// these are the steps that `find` counts is proved.
-fn show_reads(p: &Platter, name: Name8, said: &mut String) -> Result<(), Unanswered> {
+fn show_reads(p: &Platter, name: Name8, sheet: &mut Sheet<'_>) {
     match sectors_counted::<Brand>(p, name, Blank::new(1)) {
-        Some(read) => show_number(said, read)?,
-        None => said.push_str("none")?,
+        Some(read) => show_number(sheet, read),
+        None => sheet.show("none"),
     }
-    Ok(())
 }
 
 /// `used NAME SECTORS`: says how many sectors of a live file are used.
-fn use_sectors(
-    alloc: Global,
-    p: &mut Platter,
-    words: &mut Words<'_>,
-    said: &mut String,
-) -> Result<(), Unanswered> {
-    let name = words.name(alloc)?;
-    let used = words.whole()?;
+fn use_sectors(p: &mut Platter, sheet: &mut Sheet<'_>) {
+    let Some(name) = name(sheet) else {
+        return;
+    };
+    let used = whole(sheet);
     if let Some(e) = look(p, name)
         && e.live
         && used >= 1
         && e.end.saturating_sub(e.start) >= used
     {
         set_used(p, e, used);
-        said.push_str("done")?;
-        return Ok(());
+        return sheet.show("done");
     }
-    Err(Unanswered::Misread)
+    sheet.misread();
 }
 
 /// `limits`: the index sectors, the first sector after the catalogue, and the next free sector.
-fn show_limits(p: &Platter, said: &mut String) -> Result<(), Unanswered> {
+fn show_limits(p: &Platter, sheet: &mut Sheet<'_>) {
     let (index, end, next) = limits(p);
-    show_number(said, index)?;
-    show_next_number(said, end)?;
-    Ok(show_next_number(said, next)?)
+    show_number(sheet, index);
+    show_next_number(sheet, end);
+    show_next_number(sheet, next);
 }
 
 /// `format INDEX LAST`.
-fn format_disk(
-    p: &mut Platter,
-    words: &mut Words<'_>,
-    said: &mut String,
-) -> Result<(), Unanswered> {
-    let index = words.whole()?;
-    let end = words.whole()?;
-    Ok(show_done(said, format(p, index, end))?)
+fn format_disk(p: &mut Platter, sheet: &mut Sheet<'_>) {
+    let index = whole(sheet);
+    let end = whole(sheet);
+    show_done(sheet, format(p, index, end));
 }
 
 /// `listing`.
-fn show_listing(alloc: Global, p: &Platter, said: &mut String) -> Result<(), Unanswered> {
-    let mut text = Vec::new(alloc);
-    listing(p, &mut text)?;
-    Ok(show_bytes(said, &text)?)
+fn show_listing(p: &Platter, sheet: &mut Sheet<'_>) {
+    let mut text = Vec::new(sheet.alloc());
+    match listing(p, &mut text) {
+        Ok(()) => sheet.show_bytes(&text),
+        Err(_) => sheet.no_memory(),
+    }
 }

@@ -1,34 +1,35 @@
 // A call made on many disks, each with one byte changed.
-use crate::answers::Unanswered;
 use crate::images::{put_byte, show_check};
 use crate::sessions::{Session, simple_answer};
-use crate::words::Words;
+use b2_base::cut;
 use b2_base::lexical::at;
+use b2_cases::{Sheet, whole_of};
 use b2_platter::Platter;
 use std::alloc::{AllocError, Global};
 use std::mem;
 
-/// Makes a call on the disk with a byte in place, and leaves the disk as it was. Where the image isn't good, the answer is the
-/// check that it fails.
+/// Makes a call on the disk with a byte in place, and leaves the disk as it was: its answer. Where the image isn't good, the
+/// answer is the check that it fails.
 fn answer_changed(
     alloc: Global,
     session: &mut Session,
     place: usize,
     byte: u8,
-    call: Words<'_>,
-) -> Result<String, Unanswered> {
-    let mut said = String::new(alloc);
+    call: &[u8],
+) -> Result<String, AllocError> {
+    let mut sheet = Sheet::of_items(alloc, &[]);
     let mut image = Vec::from_slice(alloc, session.disk.image())?;
-    put_byte(&mut image, place, byte)?;
+    put_byte(&mut sheet, &mut image, place, byte);
     match Platter::open(image) {
         Ok(changed) => {
             let kept = mem::replace(&mut session.disk, changed);
-            simple_answer(alloc, session, call, &mut said)?;
+            let answer = simple_answer(alloc, session, call)?;
             session.disk = kept;
+            sheet.show(answer.as_str());
         }
-        Err(refused) => show_check(&mut said, refused)?,
+        Err(refused) => show_check(&mut sheet, refused),
     }
-    Ok(said)
+    sheet.finish()
 }
 
 /// What the answers to a call are: each with the places, or the bytes, that gave it.
@@ -91,42 +92,35 @@ impl Runs {
     }
 }
 
-/// `each-place PLACE COUNT CALL`: makes a call with the byte at a place greater by one, for each of some places, and appends
-/// the answers.
-pub fn places(
-    alloc: Global,
-    session: &mut Session,
-    call: Words<'_>,
-    said: &mut String,
-) -> Result<(), Unanswered> {
-    let mut words = call;
-    let from = words.whole()?;
-    let count = words.whole()?;
+/// The number that the first word says, and what follows it.
+fn number_before(words: &[u8]) -> (u32, &[u8]) {
+    let (number, rest) = cut(words, b' ');
+    (whole_of(number), rest.unwrap_or(&[]))
+}
+
+/// `each-place PLACE COUNT CALL`: makes a call with the byte at a place greater by one, for each of some places: the answers.
+pub fn places(alloc: Global, session: &mut Session, words: &[u8]) -> Result<String, AllocError> {
+    let (from, rest) = number_before(words);
+    let (count, call) = number_before(rest);
     let mut runs = Runs::new(alloc);
     for k in 0..count {
         let place = from.saturating_add(k);
         let byte = at(session.disk.image(), place as usize).wrapping_add(1);
-        let answer = answer_changed(alloc, session, place as usize, byte, words)?;
+        let answer = answer_changed(alloc, session, place as usize, byte, call)?;
         runs.add(place, answer)?;
     }
     runs.show_last()?;
-    Ok(said.push_str(runs.said.as_str())?)
+    Ok(runs.said)
 }
 
-/// `each-value PLACE CALL`: makes a call with each of the 256 bytes at a place, and appends the answers.
-pub fn values(
-    alloc: Global,
-    session: &mut Session,
-    call: Words<'_>,
-    said: &mut String,
-) -> Result<(), Unanswered> {
-    let mut words = call;
-    let place = words.whole()? as usize;
+/// `each-value PLACE CALL`: makes a call with each of the 256 bytes at a place: the answers.
+pub fn values(alloc: Global, session: &mut Session, words: &[u8]) -> Result<String, AllocError> {
+    let (place, call) = number_before(words);
     let mut runs = Runs::new(alloc);
     for byte in 0..=255u8 {
-        let answer = answer_changed(alloc, session, place, byte, words)?;
+        let answer = answer_changed(alloc, session, place as usize, byte, call)?;
         runs.add(u32::from(byte), answer)?;
     }
     runs.show_last()?;
-    Ok(said.push_str(runs.said.as_str())?)
+    Ok(runs.said)
 }

@@ -1,136 +1,130 @@
 // Calls on a platter as a whole.
-use crate::answers::{Unanswered, show_hex, show_number, show_sector};
-use crate::words::{Words, hex_byte_of};
+use crate::answers::{show_number, show_pairs, show_sector};
+use crate::words::{hex_byte_of, whole};
 use b2_base::lexical::{first_bytes, rest_after};
+use b2_cases::Sheet;
 use b2_platter::{ImageErr, Platter};
-use std::alloc::Global;
 
-/// Makes a call: returns whether it is one of these.
-pub fn answered(
-    alloc: Global,
-    p: &mut Platter,
-    call: &[u8],
-    words: &mut Words<'_>,
-    said: &mut String,
-) -> Result<bool, Unanswered> {
+/// Makes the call of that name, and returns whether it is one of these.
+pub fn is_answered(p: &mut Platter, call: &str, sheet: &mut Sheet<'_>) -> bool {
     match call {
-        b"blank" => *p = blank(alloc, words)?,
-        b"change" => change(alloc, p, words, said)?,
-        b"resize" => resize(alloc, p, words, said)?,
-        b"sector" => show_one(p, words, said)?,
-        b"bytes" => show_some(p, words, said)?,
-        b"size" => show_number(said, p.sectors())?,
-        _ => return Ok(false),
+        "blank" => make_blank(p, sheet),
+        "change" => change(p, sheet),
+        "resize" => resize(p, sheet),
+        "sector" => show_one(p, sheet),
+        "bytes" => show_some(p, sheet),
+        "size" => show_number(sheet, p.sectors()),
+        _ => return false,
     }
-    Ok(true)
+    true
 }
 
 /// `blank SECTORS`: a blank disk in place of this one.
-fn blank(alloc: Global, words: &mut Words<'_>) -> Result<Platter, Unanswered> {
-    let sectors = words.whole()?;
+fn make_blank(p: &mut Platter, sheet: &mut Sheet<'_>) {
+    let sectors = whole(sheet);
     if sectors < 16 || sectors > 32512 {
-        return Err(Unanswered::Misread);
+        return sheet.misread();
     }
-    Ok(Platter::blank(alloc, sectors)?)
+    match Platter::blank(sheet.alloc(), sectors) {
+        Ok(blank) => *p = blank,
+        Err(_) => sheet.no_memory(),
+    }
+}
+
+/// The image of a disk.
+pub fn image_of(p: &Platter, sheet: &mut Sheet<'_>) -> Vec<u8> {
+    let mut image = Vec::new(sheet.alloc());
+    sheet.append(&mut image, p.image());
+    image
 }
 
 /// `change PLACE BYTE .. ; PLACE BYTE ..`: opens the image with these bytes in place. Where it isn't good, the disk stays.
-fn change(
-    alloc: Global,
-    p: &mut Platter,
-    words: &mut Words<'_>,
-    said: &mut String,
-) -> Result<(), Unanswered> {
-    let mut image = Vec::from_slice(alloc, p.image())?;
-    put_changes(&mut image, words)?;
-    open(p, image, said)
+fn change(p: &mut Platter, sheet: &mut Sheet<'_>) {
+    let mut image = image_of(p, sheet);
+    put_changes(sheet, &mut image);
+    open(sheet, p, image);
 }
 
 /// `resize LENGTH PLACE BYTE .. ; ..`: the same of the image with another length.
-fn resize(
-    alloc: Global,
-    p: &mut Platter,
-    words: &mut Words<'_>,
-    said: &mut String,
-) -> Result<(), Unanswered> {
-    let length = words.whole()? as usize;
-    let mut image = vec![in alloc; 0; length]?;
+fn resize(p: &mut Platter, sheet: &mut Sheet<'_>) {
+    let length = whole(sheet) as usize;
+    let Ok(mut image) = vec![in sheet.alloc(); 0; length] else {
+        return sheet.no_memory();
+    };
     for (place, byte) in p.image().iter().enumerate() {
         if place < image.len() {
             image[place] = *byte;
         }
     }
-    put_changes(&mut image, words)?;
-    open(p, image, said)
+    put_changes(sheet, &mut image);
+    open(sheet, p, image);
 }
 
 /// Opens an image in place of the disk: `good`, or the first check that it fails.
-pub fn open(p: &mut Platter, image: Vec<u8>, said: &mut String) -> Result<(), Unanswered> {
+pub fn open(sheet: &mut Sheet<'_>, p: &mut Platter, image: Vec<u8>) {
     match Platter::open(image) {
         Ok(opened) => {
             *p = opened;
-            said.push_str("good")?;
+            sheet.show("good");
         }
-        Err(refused) => show_check(said, refused)?,
+        Err(refused) => show_check(sheet, refused),
     }
-    Ok(())
 }
 
-/// Appends which check an image fails.
-pub fn show_check(said: &mut String, refused: ImageErr) -> Result<(), Unanswered> {
+/// Shows which check an image fails.
+pub fn show_check(sheet: &mut Sheet<'_>, refused: ImageErr) {
     let ImageErr(check) = refused;
-    said.push_str("check ")?;
-    Ok(show_number(said, u32::from(check))?)
+    sheet.show("check ");
+    sheet.show_number(u64::from(check));
 }
 
 /// Puts a byte in its place.
-pub fn put_byte(image: &mut Vec<u8>, place: usize, byte: u8) -> Result<(), Unanswered> {
+pub fn put_byte(sheet: &mut Sheet<'_>, image: &mut Vec<u8>, place: usize, byte: u8) {
     if place >= image.len() {
-        return Err(Unanswered::Misread);
+        return sheet.misread();
     }
     image[place] = byte;
-    Ok(())
 }
 
 /// Puts bytes in their places, each group of them from a place on.
-fn put_changes(image: &mut Vec<u8>, words: &mut Words<'_>) -> Result<(), Unanswered> {
-    for _ in 0..words.most() {
-        if words.is_empty() {
+fn put_changes(sheet: &mut Sheet<'_>, image: &mut Vec<u8>) {
+    for _ in 0..u64::MAX {
+        if !sheet.has_items() {
             break;
         }
-        let place = words.whole()? as usize;
-        put_group(image, place, words)?;
+        let place = whole(sheet) as usize;
+        put_group(sheet, image, place);
     }
-    Ok(())
 }
 
 /// Puts bytes in place from one on, up to a `;` or the end.
-fn put_group(image: &mut Vec<u8>, from: usize, words: &mut Words<'_>) -> Result<(), Unanswered> {
+fn put_group(sheet: &mut Sheet<'_>, image: &mut Vec<u8>, from: usize) {
     let mut place = from;
-    for _ in 0..words.most() {
-        let word = words.next();
+    for _ in 0..u64::MAX {
+        let word = sheet.word();
         if matches!(word, [] | [b';']) {
             break;
         }
-        put_byte(image, place, hex_byte_of(word)?)?;
+        match hex_byte_of(word) {
+            Some(byte) => put_byte(sheet, image, place, byte),
+            None => sheet.misread(),
+        }
         place = place.saturating_add(1);
     }
-    Ok(())
 }
 
 /// `sector N`: its bytes up to the last that isn't 00.
-fn show_one(p: &Platter, words: &mut Words<'_>, said: &mut String) -> Result<(), Unanswered> {
-    let n = words.whole()?;
+fn show_one(p: &Platter, sheet: &mut Sheet<'_>) {
+    let n = whole(sheet);
     if n >= p.sectors() {
-        return Err(Unanswered::Misread);
+        return sheet.misread();
     }
-    Ok(show_sector(said, p.sector(n))?)
+    show_sector(sheet, p.sector(n));
 }
 
 /// `bytes PLACE COUNT`: bytes of the image.
-fn show_some(p: &Platter, words: &mut Words<'_>, said: &mut String) -> Result<(), Unanswered> {
-    let place = words.whole()? as usize;
-    let count = words.whole()? as usize;
-    let bytes = first_bytes(rest_after(p.image(), place), count);
-    Ok(show_hex(said, bytes)?)
+fn show_some(p: &Platter, sheet: &mut Sheet<'_>) {
+    let place = whole(sheet) as usize;
+    let count = whole(sheet) as usize;
+    show_pairs(sheet, first_bytes(rest_after(p.image(), place), count));
 }

@@ -17,7 +17,7 @@ mod sessions;
 mod values;
 mod words;
 
-use b2_cases::{Calls, Cells, try_rows};
+use b2_cases::{Calls, Cells, Sheet, str_of, try_rows};
 use std::alloc::{AllocError, Global};
 use std::io;
 
@@ -25,13 +25,14 @@ struct DiskCalls;
 
 impl Calls for DiskCalls {
     fn given(alloc: Global, call: &[u8], cells: Cells<'_>) -> Result<String, AllocError> {
-        let mut row = cells;
-        match call {
-            b"disk" => sessions::all_answers(alloc, row),
-            b"record" => answers::told(alloc, records::sectors_shown(alloc, row.next())),
-            b"sectors" => answers::told(alloc, records::sectors_counted(alloc, row.next())),
-            _ => format!(in alloc; "no such row"),
+        let mut sheet = Sheet::new(alloc, cells);
+        match str_of(call) {
+            "disk" => sessions::all_answers(&mut sheet),
+            "record" => records::show_sectors(&mut sheet),
+            "sectors" => records::count_sectors(&mut sheet),
+            _ => sheet.no_such_call(),
         }
+        sheet.finish()
     }
 }
 

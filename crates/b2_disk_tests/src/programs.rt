@@ -1,196 +1,177 @@
 // Calls on program files, and files moved between disks.
-ghost use Rattle.std.specs.Prelude.{◌≤◌, IfOk};
+ghost use Rattle.std.specs.Prelude.{◌≤◌};
 
-use crate::answers::{Unanswered, show_done, show_fault, show_number};
+use crate::answers::show_done;
 use crate::sessions::Session;
-use crate::words::Words;
+use crate::words::{name, short, whole};
 use b2_atom::{Atoms, REM};
 use b2_base::Fault;
-use b2_cases::bytes_of;
-use b2_cases::shown::show_bytes;
+use b2_cases::Sheet;
 use b2_progfile::{load, move_file, move_platter, save};
 use b2_text::Text;
-use std::alloc::Global;
 
-/// Makes a call: returns whether it is one of these.
-pub fn answered(
-    alloc: Global,
-    session: &mut Session,
-    call: &[u8],
-    words: &mut Words<'_>,
-    said: &mut String,
-) -> Result<bool, Unanswered> {
+/// Makes the call of that name, and returns whether it is one of these.
+pub fn is_answered(session: &mut Session, call: &str, sheet: &mut Sheet<'_>) -> bool {
     match call {
-        b"text" => session.text = Text::new(alloc, words.whole()? as usize)?,
-        b"line" => put_line(alloc, &mut session.text, words, said)?,
-        b"remark" => put_remark(alloc, &mut session.text, words, said)?,
-        b"lines" => show_lines(&session.text, said)?,
-        b"taken" => show_taken(&session.text, said)?,
-        b"save-program" => save_new(alloc, session, words, said)?,
-        b"save-over" => save_over(alloc, session, words, said)?,
-        b"load-program" => load_one(alloc, session, words, false, said)?,
-        b"load-instead" => load_one(alloc, session, words, true, said)?,
-        b"move" => move_one(alloc, session, words, said)?,
-        b"move-all" => move_all(alloc, session, said)?,
-        _ => return Ok(false),
+        "text" => make_text(&mut session.text, sheet),
+        "line" => put_line(&mut session.text, sheet),
+        "remark" => put_remark(&mut session.text, sheet),
+        "lines" => show_lines(&session.text, sheet),
+        "taken" => sheet.show_number(session.text.size() as u64),
+        "save-program" => save_new(session, sheet),
+        "save-over" => save_over(session, sheet),
+        "load-program" => load_one(session, false, sheet),
+        "load-instead" => load_one(session, true, sheet),
+        "move" => move_one(session, sheet),
+        "move-all" => move_all(session, sheet),
+        _ => return false,
     }
-    Ok(true)
+    true
 }
 
-/// Appends `done`, or the code of a fault.
-fn show_outcome(said: &mut String, outcome: Result<(), Fault>) -> Result<(), Unanswered> {
+/// Shows `done`, or the code of a fault.
+fn show_outcome(sheet: &mut Sheet<'_>, outcome: Result<(), Fault>) {
     match outcome {
-        Ok(()) => Ok(said.push_str("done")?),
-        Err(fault) => show_fault(said, fault),
+        Ok(()) => sheet.show("done"),
+        Err(fault) => sheet.show_fault(fault),
     }
 }
 
-/// The number of a line.
-fn line_number(words: &mut Words<'_>) -> Result<u16, Unanswered>
-    ensures { IfOk result (λ n. n ≤ 9999) }
+/// `text AREA`: a text without lines in place of this one.
+fn make_text(text: &mut Text, sheet: &mut Sheet<'_>) {
+    let area = whole(sheet) as usize;
+    match Text::new(sheet.alloc(), area) {
+        Ok(made) => *text = made,
+        Err(_) => sheet.no_memory(),
+    }
+}
+
+/// Reads the number of a line.
+fn line_number(sheet: &mut Sheet<'_>) -> u16
+    ensures { result ≤ 9999 }
 {
-    let number = words.short()?;
+    let number = short(sheet);
     if number > 9999 {
-        return Err(Unanswered::Misread);
+        sheet.misread();
+        return 0;
     }
-    Ok(number)
+    number
 }
 
-/// Puts a line of these bytes into a text; appends the code where it can't.
-fn put_bytes(
-    alloc: Global,
-    text: &mut Text,
-    number: u16,
-    bytes: &[u8],
-    said: &mut String,
-) -> Result<(), Unanswered>
+/// Puts a line of these bytes into a text; shows the code where it can't.
+fn put_bytes(sheet: &mut Sheet<'_>, text: &mut Text, number: u16, bytes: &[u8])
     requires { number ≤ 9999 }
 {
-    let Some(atoms) = Atoms::of(alloc, bytes)? else {
-        return Err(Unanswered::Misread);
-    };
-    match text.put(number, &atoms) {
-        Ok(()) => Ok(()),
-        Err(fault) => show_fault(said, fault),
+    match Atoms::of(sheet.alloc(), bytes) {
+        Ok(Some(atoms)) => {
+            if let Err(fault) = text.put(number, &atoms) {
+                sheet.show_fault(fault);
+            }
+        }
+        Ok(None) => sheet.misread(),
+        Err(_) => sheet.no_memory(),
     }
 }
 
 /// `line NUMBER ATOMS`: puts a line into the text.
-fn put_line(
-    alloc: Global,
-    text: &mut Text,
-    words: &mut Words<'_>,
-    said: &mut String,
-) -> Result<(), Unanswered> {
-    let number = line_number(words)?;
-    let bytes = bytes_of(alloc, words.next())?;
-    put_bytes(alloc, text, number, &bytes, said)
+fn put_line(text: &mut Text, sheet: &mut Sheet<'_>) {
+    let number = line_number(sheet);
+    let word = sheet.word();
+    let bytes = sheet.spelled(word);
+    put_bytes(sheet, text, number, &bytes);
 }
 
 /// `remark NUMBER COUNT`: puts a line of REM and that many letters A into the text.
-fn put_remark(
-    alloc: Global,
-    text: &mut Text,
-    words: &mut Words<'_>,
-    said: &mut String,
-) -> Result<(), Unanswered> {
-    let number = line_number(words)?;
-    let mut bytes = vec![in alloc; REM]?;
-    for _ in 0..words.whole()? {
-        bytes.push(b'A')?;
+fn put_remark(text: &mut Text, sheet: &mut Sheet<'_>) {
+    let number = line_number(sheet);
+    let mut bytes = Vec::new(sheet.alloc());
+    sheet.push(&mut bytes, REM);
+    for _ in 0..whole(sheet) {
+        sheet.push(&mut bytes, b'A');
     }
-    put_bytes(alloc, text, number, &bytes, said)
+    put_bytes(sheet, text, number, &bytes);
 }
 
 /// `lines`: the lines of the text, each its number and its atoms; `none` where there are none.
-fn show_lines(text: &Text, said: &mut String) -> Result<(), Unanswered> {
-    if text.next_after(None).is_none() {
-        said.push_str("none")?;
-    }
+fn show_lines(text: &Text, sheet: &mut Sheet<'_>) {
+    let mut is_first = true;
     for (number, atoms) in text.lines(0, 9999) {
-        if !said.is_empty() {
-            said.push_str("; ")?;
+        if !is_first {
+            sheet.show("; ");
         }
-        write!(said, "{number} ")?;
-        show_bytes(said, atoms.bytes())?;
+        sheet.show_number(u64::from(*number));
+        sheet.show(" ");
+        sheet.show_bytes(atoms.bytes());
+        is_first = false;
     }
-    Ok(())
-}
-
-/// `taken`: how many bytes the lines take.
-fn show_taken(text: &Text, said: &mut String) -> Result<(), Unanswered> {
-    let size = text.size();
-    Ok(write!(said, "{size}")?)
+    if is_first {
+        sheet.show("none");
+    }
 }
 
 /// `save-program FROM TO NAME`: saves lines as a new file.
-fn save_new(
-    alloc: Global,
-    session: &mut Session,
-    words: &mut Words<'_>,
-    said: &mut String,
-) -> Result<(), Unanswered> {
-    let from = words.short()?;
-    let to = words.short()?;
-    let name = words.name(alloc)?;
-    show_outcome(
-        said,
-        save(
-            alloc,
-            &mut session.disk,
-            &session.text,
-            from,
-            to,
-            None,
-            name,
-        ),
-    )
+fn save_new(session: &mut Session, sheet: &mut Sheet<'_>) {
+    let from = short(sheet);
+    let to = short(sheet);
+    let Some(name) = name(sheet) else {
+        return;
+    };
+    let outcome = save(
+        sheet.alloc(),
+        &mut session.disk,
+        &session.text,
+        from,
+        to,
+        None,
+        name,
+    );
+    show_outcome(sheet, outcome);
 }
 
 /// `save-over FROM TO OLD NAME`: saves lines into the sectors of a scratched file.
-fn save_over(
-    alloc: Global,
-    session: &mut Session,
-    words: &mut Words<'_>,
-    said: &mut String,
-) -> Result<(), Unanswered> {
-    let from = words.short()?;
-    let to = words.short()?;
-    let old = Some(words.name(alloc)?);
-    let name = words.name(alloc)?;
-    show_outcome(
-        said,
-        save(alloc, &mut session.disk, &session.text, from, to, old, name),
-    )
+fn save_over(session: &mut Session, sheet: &mut Sheet<'_>) {
+    let from = short(sheet);
+    let to = short(sheet);
+    let old = name(sheet);
+    let Some(new) = name(sheet) else {
+        return;
+    };
+    let outcome = save(
+        sheet.alloc(),
+        &mut session.disk,
+        &session.text,
+        from,
+        to,
+        old,
+        new,
+    );
+    show_outcome(sheet, outcome);
 }
 
 /// `load-program NAME`: puts the lines of a file to those of the text; `load-instead NAME` in place of them.
-fn load_one(
-    alloc: Global,
-    session: &mut Session,
-    words: &mut Words<'_>,
-    replace: bool,
-    said: &mut String,
-) -> Result<(), Unanswered> {
-    let name = words.name(alloc)?;
-    show_outcome(
-        said,
-        load(alloc, &session.disk, name, &mut session.text, replace),
-    )
+fn load_one(session: &mut Session, replace: bool, sheet: &mut Sheet<'_>) {
+    let Some(name) = name(sheet) else {
+        return;
+    };
+    let outcome = load(
+        sheet.alloc(),
+        &session.disk,
+        name,
+        &mut session.text,
+        replace,
+    );
+    show_outcome(sheet, outcome);
 }
 
 /// `move NAME`: moves a file of the other disk to this one.
-fn move_one(
-    alloc: Global,
-    session: &mut Session,
-    words: &mut Words<'_>,
-    said: &mut String,
-) -> Result<(), Unanswered> {
-    let name = words.name(alloc)?;
-    Ok(show_done(said, move_file(&session.other, name, &mut session.disk))?)
+fn move_one(session: &mut Session, sheet: &mut Sheet<'_>) {
+    if let Some(name) = name(sheet) {
+        show_done(sheet, move_file(&session.other, name, &mut session.disk));
+    }
 }
 
 /// `move-all`: moves all live files of the other disk to this one.
-fn move_all(alloc: Global, session: &mut Session, said: &mut String) -> Result<(), Unanswered> {
-    show_outcome(said, move_platter(alloc, &session.other, &mut session.disk))
+fn move_all(session: &mut Session, sheet: &mut Sheet<'_>) {
+    let outcome = move_platter(sheet.alloc(), &session.other, &mut session.disk);
+    show_outcome(sheet, outcome);
 }

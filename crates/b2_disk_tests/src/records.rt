@@ -1,113 +1,98 @@
 // Calls on records, alone and on a disk.
-use crate::answers::{Unanswered, show_fault, show_number, show_sector};
+use crate::answers::{show_number, show_sector};
 use crate::images;
-use crate::values::{show_values, values_of};
-use crate::words::Words;
+use crate::values::{show_values, values_left};
+use crate::words::whole;
+use b2_cases::Sheet;
 use b2_dec::Value;
 use b2_platter::Platter;
 use b2_record::{all_short, put, sectors_of, take};
-use std::alloc::Global;
 
-/// Makes a call: returns whether it is one of these.
-pub fn answered(
-    alloc: Global,
-    p: &mut Platter,
-    call: &[u8],
-    words: &mut Words<'_>,
-    said: &mut String,
-) -> Result<bool, Unanswered> {
+/// Makes the call of that name, and returns whether it is one of these.
+pub fn is_answered(p: &mut Platter, call: &str, sheet: &mut Sheet<'_>) -> bool {
     match call {
-        b"put" => put_at(alloc, p, words, said)?,
-        b"take" => take_from(alloc, p, words, said)?,
-        _ => return Ok(false),
+        "put" => put_at(p, sheet),
+        "take" => take_from(p, sheet),
+        _ => return false,
     }
-    Ok(true)
+    true
 }
 
 /// The sectors of a record, one after the other. Misread where a value may not stand in a record, or they are too many.
-fn spelled(alloc: Global, values: &[Value]) -> Result<Vec<u8>, Unanswered> {
-    let mut bytes = Vec::new(alloc);
+fn sectors(sheet: &mut Sheet<'_>, values: &[Value]) -> Vec<u8> {
+    let mut bytes = Vec::new(sheet.alloc());
     if !all_short(values) {
-        return Err(Unanswered::Misread);
+        sheet.misread();
+        return bytes;
     }
     let Some(count) = sectors_of(values) else {
-        return Err(Unanswered::Misread);
+        sheet.misread();
+        return bytes;
     };
     for k in 1..count + 1 {
         let mut sector = [0xEE; 256];
         put(values, k, &mut sector);
-        bytes.extend_from_slice(&sector)?;
+        sheet.append(&mut bytes, &sector);
     }
-    Ok(bytes)
+    bytes
 }
 
 /// `record | VALUES`: the sectors of the record, with `/` between them.
-pub fn sectors_shown(alloc: Global, cell: &[u8]) -> Result<String, Unanswered> {
-    let mut said = String::new(alloc);
-    let values = values_of(alloc, &mut Words::of(cell))?;
-    let bytes = spelled(alloc, &values)?;
+pub fn show_sectors(sheet: &mut Sheet<'_>) {
+    sheet.open();
+    let values = values_left(sheet);
+    let bytes = sectors(sheet, &values);
     let mut left: &[u8] = &bytes;
-    for _ in 0..bytes.len() {
+    for place in 0..bytes.len() {
         let Some((sector, rest)) = left.split_first_chunk::<256>() else {
             break;
         };
-        if !said.is_empty() {
-            said.push_str(" / ")?;
+        if place > 0 {
+            sheet.show(" / ");
         }
-        show_sector(&mut said, sector)?;
+        show_sector(sheet, sector);
         left = rest;
     }
-    Ok(said)
 }
 
 /// `sectors | VALUES`: how many sectors the record of these values has; `none` where it would have too many.
-pub fn sectors_counted(alloc: Global, cell: &[u8]) -> Result<String, Unanswered> {
-    let mut said = String::new(alloc);
-    let values = values_of(alloc, &mut Words::of(cell))?;
+pub fn count_sectors(sheet: &mut Sheet<'_>) {
+    sheet.open();
+    let values = values_left(sheet);
     if !all_short(&values) {
-        return Err(Unanswered::Misread);
+        return sheet.misread();
     }
     match sectors_of(&values) {
-        Some(sectors) => show_number(&mut said, sectors)?,
-        None => said.push_str("none")?,
+        Some(sectors) => show_number(sheet, sectors),
+        None => sheet.show("none"),
     }
-    Ok(said)
 }
 
 /// `put SECTOR VALUES`: puts the record of these values into the image from a sector on.
-fn put_at(
-    alloc: Global,
-    p: &mut Platter,
-    words: &mut Words<'_>,
-    said: &mut String,
-) -> Result<(), Unanswered> {
-    let from = 256 * words.whole()? as usize;
-    let bytes = spelled(alloc, &values_of(alloc, words)?)?;
-    let mut image = Vec::from_slice(alloc, p.image())?;
+fn put_at(p: &mut Platter, sheet: &mut Sheet<'_>) {
+    let from = 256 * whole(sheet) as usize;
+    let values = values_left(sheet);
+    let bytes = sectors(sheet, &values);
+    let mut image = images::image_of(p, sheet);
     for (place, byte) in bytes.iter().enumerate() {
-        images::put_byte(&mut image, from.saturating_add(place), *byte)?;
+        images::put_byte(sheet, &mut image, from.saturating_add(place), *byte);
     }
-    images::open(p, image, said)
+    images::open(sheet, p, image);
 }
 
 /// `take SECTOR LAST`: the record that begins at a sector and ends at the last one or before, and how many sectors it has.
-fn take_from(
-    alloc: Global,
-    p: &Platter,
-    words: &mut Words<'_>,
-    said: &mut String,
-) -> Result<(), Unanswered> {
-    let at = words.whole()?;
-    let last = words.whole()?;
+fn take_from(p: &Platter, sheet: &mut Sheet<'_>) {
+    let at = whole(sheet);
+    let last = whole(sheet);
     if last >= p.sectors() {
-        return Err(Unanswered::Misread);
+        return sheet.misread();
     }
-    match take(alloc, p, at, last) {
+    match take(sheet.alloc(), p, at, last) {
         Ok((values, count)) => {
-            show_values(said, &values)?;
-            said.push_str("in ")?;
-            Ok(show_number(said, count)?)
+            show_values(sheet, &values);
+            sheet.show("in ");
+            show_number(sheet, count);
         }
-        Err(fault) => show_fault(said, fault),
+        Err(fault) => sheet.show_fault(fault),
     }
 }

@@ -1,9 +1,7 @@
 // The calls of a row, one after the other.
-use crate::answers::Unanswered;
-use crate::words::Words;
 use crate::{catalogs, data_files, each, images, programs, records};
-use b2_cases::Cells;
-use b2_cases::shown::show_bytes;
+use b2_base::cut;
+use b2_cases::{Sheet, str_of};
 use b2_datafile::Slot;
 use b2_platter::Platter;
 use b2_text::Text;
@@ -29,109 +27,79 @@ const SECTORS: u32 = 16;
 /// How many bytes the text has room for at first.
 const AREA: usize = 2048;
 
-impl Session {
-    fn new(alloc: Global) -> Result<Session, Unanswered> {
-        Ok(Session {
-            disk: Platter::blank(alloc, SECTORS)?,
-            other: Platter::blank(alloc, SECTORS)?,
-            slot: None,
-            text: Text::new(alloc, AREA)?,
-        })
-    }
-}
-
-/// How many calls a row has at most.
-const MOST_CALLS: u32 = 100;
-
 /// `disk | CALL | CALL ..`: the answers of all calls that answer, with commas between them.
-pub fn all_answers(alloc: Global, cells: Cells<'_>) -> Result<String, AllocError> {
-    let mut all = String::new(alloc);
-    let mut left = cells;
-    let Ok(mut session) = Session::new(alloc) else {
-        return format!(in alloc; "no memory");
+pub fn all_answers(sheet: &mut Sheet<'_>) {
+    let alloc = sheet.alloc();
+    let (Ok(disk), Ok(other), Ok(text)) = (
+        Platter::blank(alloc, SECTORS),
+        Platter::blank(alloc, SECTORS),
+        Text::new(alloc, AREA),
+    ) else {
+        return sheet.no_memory();
     };
-    for _ in 0..MOST_CALLS {
-        if left.is_empty() {
-            return Ok(all);
+    let mut session = Session {
+        disk,
+        other,
+        slot: None,
+        text,
+    };
+    show_answers(sheet, &mut session);
+}
+
+fn show_answers(sheet: &mut Sheet<'_>, session: &mut Session) {
+    let mut is_first = true;
+    for _ in 0..u64::MAX {
+        if sheet.is_empty() {
+            break;
         }
-        let cell = left.next();
-        let mut said = String::new(alloc);
-        match answer(alloc, &mut session, Words::of(cell), &mut said) {
-            Ok(()) => (),
-            Err(Unanswered::NoMemory) => said.push_str("no memory")?,
-            Err(Unanswered::Misread) => show_misread(&mut said, cell)?,
+        let cell = sheet.cell();
+        let Ok(said) = answer(sheet.alloc(), session, cell) else {
+            return sheet.no_memory();
+        };
+        if said.is_empty() {
+            continue;
         }
-        add_answer(&mut all, said.as_str())?;
-    }
-    all.push_str(", too many calls")?;
-    Ok(all)
-}
-
-fn show_misread(said: &mut String, cell: &[u8]) -> Result<(), AllocError> {
-    said.push_str(" misread: ")?;
-    show_bytes(said, cell)
-}
-
-fn add_answer(all: &mut String, said: &str) -> Result<(), AllocError> {
-    if said.is_empty() {
-        return Ok(());
-    }
-    if !all.is_empty() {
-        all.push_str(", ")?;
-    }
-    all.push_str(said)
-}
-
-/// Makes a call, and appends its answer.
-fn answer(
-    alloc: Global,
-    session: &mut Session,
-    call: Words<'_>,
-    said: &mut String,
-) -> Result<(), Unanswered> {
-    let mut words = call;
-    match words.next() {
-        b"other" => {
-            mem::swap(&mut session.disk, &mut session.other);
-            nothing_left(words)
+        if !is_first {
+            sheet.show(", ");
         }
-        b"each-place" => each::places(alloc, session, words, said),
-        b"each-value" => each::values(alloc, session, words, said),
-        _ => simple_answer(alloc, session, call, said),
+        sheet.show(said.as_str());
+        is_first = false;
     }
 }
 
-/// Makes a call that makes no others, and appends its answer.
+/// Makes a call: its answer.
+fn answer(alloc: Global, session: &mut Session, call: &[u8]) -> Result<String, AllocError> {
+    let (name, rest) = cut(call, b' ');
+    match str_of(name) {
+        "each-place" => each::places(alloc, session, rest.unwrap_or(&[])),
+        "each-value" => each::values(alloc, session, rest.unwrap_or(&[])),
+        _ => simple_answer(alloc, session, call),
+    }
+}
+
+/// Makes a call that makes no others: its answer.
 pub fn simple_answer(
     alloc: Global,
     session: &mut Session,
-    call: Words<'_>,
-    said: &mut String,
-) -> Result<(), Unanswered> {
-    let mut words = call;
-    let name = words.next();
-    if images::answered(alloc, &mut session.disk, name, &mut words, said)?
-        || catalogs::answered(alloc, &mut session.disk, name, &mut words, said)?
-        || records::answered(alloc, &mut session.disk, name, &mut words, said)?
-        || data_files::answered(
-            alloc,
-            &mut session.disk,
-            &mut session.slot,
-            name,
-            &mut words,
-            said,
-        )?
-        || programs::answered(alloc, session, name, &mut words, said)?
-    {
-        return nothing_left(words);
+    call: &[u8],
+) -> Result<String, AllocError> {
+    let mut sheet = Sheet::of_items(alloc, call);
+    let name = str_of(sheet.word());
+    if !is_answered(session, name, &mut sheet) {
+        sheet.no_such_call();
     }
-    Err(Unanswered::Misread)
+    sheet.finish()
 }
 
-/// Refuses a call with more words than it reads.
-fn nothing_left(words: Words<'_>) -> Result<(), Unanswered> {
-    if words.is_empty() {
-        return Ok(());
+/// Makes the call of that name, and returns whether there is one.
+fn is_answered(session: &mut Session, call: &str, sheet: &mut Sheet<'_>) -> bool {
+    if call == "other" {
+        mem::swap(&mut session.disk, &mut session.other);
+        return true;
     }
-    Err(Unanswered::Misread)
+    images::is_answered(&mut session.disk, call, sheet)
+        || catalogs::is_answered(&mut session.disk, call, sheet)
+        || records::is_answered(&mut session.disk, call, sheet)
+        || data_files::is_answered(&mut session.disk, &mut session.slot, call, sheet)
+        || programs::is_answered(session, call, sheet)
 }

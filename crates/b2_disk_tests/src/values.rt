@@ -1,130 +1,121 @@
 // Values as rows say and show them: a number, bytes between quotes, or `x*124` for that many letters x.
-use crate::answers::Unanswered;
-use crate::words::Words;
 use b2_base::lexical::first_bytes;
-use b2_cases::bytes_of;
-use b2_cases::shown::show_bytes;
+use b2_cases::{Item, Sheet, whole_of};
 use b2_dec::{Bytes, Dec, Kind, Value};
 use b2_dectext::{read, write};
-use std::alloc::{AllocError, Global};
 
 /// The letter that stands in values of which only the length counts.
 const LETTER: u8 = b'x';
 
 /// The value of that many letters.
-fn letters(count: u32) -> Result<Value, Unanswered> {
+fn letters(sheet: &mut Sheet<'_>, count: u32) -> Value {
     let mut bytes = Bytes::new();
     for _ in 0..count {
         if bytes.len() >= 255 {
-            return Err(Unanswered::Misread);
+            sheet.misread();
+            break;
         }
         bytes.push(LETTER);
     }
-    Ok(Value::Alpha(bytes))
+    Value::Alpha(bytes)
 }
 
 /// The value of the bytes between quotes.
-fn alpha_of(alloc: Global, inner: &[u8]) -> Result<Value, Unanswered> {
-    let bytes = bytes_of(alloc, inner)?;
-    match Bytes::of(&bytes) {
-        Some(alpha) => Ok(Value::Alpha(alpha)),
-        None => Err(Unanswered::Misread),
+fn alpha_of(sheet: &mut Sheet<'_>, inner: &[u8]) -> Value {
+    match Bytes::of(&sheet.spelled(inner)) {
+        Some(alpha) => Value::Alpha(alpha),
+        None => {
+            sheet.misread();
+            Value::Alpha(Bytes::new())
+        }
     }
 }
 
 /// The number that a word is.
-fn number_of(word: &[u8]) -> Result<Value, Unanswered> {
+fn number_of(sheet: &mut Sheet<'_>, word: &[u8]) -> Value {
     match read(word) {
-        (length, Some(number)) if length == word.len() => Ok(Value::Number(number)),
-        _ => Err(Unanswered::Misread),
+        (length, Some(number)) if length == word.len() => Value::Number(number),
+        _ => {
+            sheet.misread();
+            Value::Number(Dec::of_whole(0))
+        }
     }
 }
 
-fn value_of(alloc: Global, word: &[u8]) -> Result<Value, Unanswered> {
-    match word {
-        [b'"', inner @ .., b'"'] => alpha_of(alloc, inner),
-        [b'x', b'*', count @ ..] => letters(Words::of(count).whole()?),
-        _ => number_of(word),
+fn value_of(sheet: &mut Sheet<'_>, item: Item<'_>) -> Value {
+    match item {
+        Item::Quoted(inner) => alpha_of(sheet, inner),
+        Item::Word([b'x', b'*', count @ ..]) => letters(sheet, whole_of(count)),
+        Item::Word(word) => number_of(sheet, word),
     }
 }
 
-/// Adds the value of a word that many times.
-fn add_times(
-    alloc: Global,
-    values: &mut Vec<Value>,
-    times: u32,
-    word: &[u8],
-) -> Result<(), Unanswered> {
+/// Adds the value of an item that many times.
+fn add_times(sheet: &mut Sheet<'_>, values: &mut Vec<Value>, times: u32, item: Item<'_>) {
     for _ in 0..times {
-        values.push(value_of(alloc, word)?)?;
+        let value = value_of(sheet, item);
+        sheet.push(values, value);
     }
-    Ok(())
 }
 
-/// The values that the words say; after a word `*510` the next one that many times.
-pub fn values_of(alloc: Global, words: &mut Words<'_>) -> Result<Vec<Value>, Unanswered> {
-    let mut values = Vec::new(alloc);
-    for _ in 0..words.most() {
-        if words.is_empty() {
+/// Reads the values that are left of the open cell; after a word `*510` the next one stands that many times.
+pub fn values_left(sheet: &mut Sheet<'_>) -> Vec<Value> {
+    let mut values = Vec::new(sheet.alloc());
+    for _ in 0..u64::MAX {
+        if !sheet.has_items() {
             break;
         }
-        match words.next() {
-            [b'*', times @ ..] => {
-                add_times(alloc, &mut values, Words::of(times).whole()?, words.next())?
+        match sheet.item() {
+            Item::Word([b'*', times @ ..]) => {
+                let item = sheet.item();
+                add_times(sheet, &mut values, whole_of(times), item);
             }
-            word => values.push(value_of(alloc, word)?)?,
+            item => add_times(sheet, &mut values, 1, item),
         }
     }
-    Ok(values)
+    values
 }
 
-fn kind_of(letter: u8) -> Result<Kind, Unanswered> {
-    match letter {
-        b'N' => Ok(Kind::Number),
-        b'A' => Ok(Kind::Alpha),
-        _ => Err(Unanswered::Misread),
+/// Reads the kinds that a word says: `N` for a number, and `A` for an alpha value.
+pub fn kinds(sheet: &mut Sheet<'_>) -> Vec<Kind> {
+    let mut kinds = Vec::new(sheet.alloc());
+    for letter in sheet.word() {
+        match *letter {
+            b'N' => sheet.push(&mut kinds, Kind::Number),
+            b'A' => sheet.push(&mut kinds, Kind::Alpha),
+            _ => sheet.misread(),
+        }
     }
+    kinds
 }
 
-/// The kinds that a word says: `N` for a number, and `A` for an alpha value.
-pub fn kinds_of(alloc: Global, word: &[u8]) -> Result<Vec<Kind>, Unanswered> {
-    let mut kinds = Vec::new(alloc);
-    for letter in word {
-        kinds.push(kind_of(*letter)?)?;
-    }
-    Ok(kinds)
-}
-
-/// Appends a number.
-fn show_dec(said: &mut String, number: Dec) -> Result<(), AllocError> {
+/// Shows a number.
+fn show_dec(sheet: &mut Sheet<'_>, number: Dec) {
     let mut text = [0; 24];
     let length = write(number, &mut text);
     for byte in first_bytes(&text, length) {
         if *byte != b' ' {
-            said.push(*byte as char)?;
+            sheet.show_letter(*byte);
         }
     }
-    Ok(())
 }
 
-fn show_alpha(said: &mut String, bytes: &[u8]) -> Result<(), AllocError> {
+fn show_alpha(sheet: &mut Sheet<'_>, bytes: &[u8]) {
     if bytes.iter().all(|byte| *byte == b'x') {
-        let length = bytes.len();
-        return write!(said, "x*{length}");
+        sheet.show("x*");
+        sheet.show_number(bytes.len() as u64);
+    } else {
+        sheet.show_quoted(bytes);
     }
-    said.push('"')?;
-    show_bytes(said, bytes)?;
-    said.push('"')
 }
 
-/// Appends values, each with a blank after it.
-pub fn show_values(said: &mut String, values: &[Value]) -> Result<(), AllocError> {
+/// Shows values, each with a blank after it.
+pub fn show_values(sheet: &mut Sheet<'_>, values: &[Value]) {
     for value in values {
         match value {
-            Value::Number(number) => show_dec(said, *number)?,
-            Value::Alpha(alpha) => show_alpha(said, alpha.bytes())?,
+            Value::Number(number) => show_dec(sheet, *number),
+            Value::Alpha(alpha) => show_alpha(sheet, alpha.bytes()),
         }
-        said.push(' ')?;
+        sheet.show(" ");
     }
-    Ok(())
 }

@@ -1,84 +1,55 @@
-// The words of a call: what stands between its blanks.
-use crate::answers::Unanswered;
-use b2_base::lexical::{capped_value, digits_width, hex_value, is_hex_digit, skip_blanks};
-use b2_base::{Name8, cut};
-use b2_cases::bytes_of;
-use std::alloc::Global;
+// The words of a call: numbers, names and kinds of files.
+use b2_base::Name8;
+use b2_base::lexical::{digits_width, hex_value, is_hex_digit};
+use b2_cases::{Sheet, str_of, whole_of};
 
-/// The greatest number that a word can say.
-const MOST: u32 = 100_000_000;
-
-/// The words of a call that have not been read.
-#[derive(Clone, Copy)]
-pub struct Words<'a> {
-    left: &'a [u8],
+/// Reads a whole number, at most 100000000.
+pub fn whole(sheet: &mut Sheet<'_>) -> u32 {
+    let word = sheet.word();
+    if word.is_empty() || digits_width(word) != word.len() {
+        sheet.misread();
+    }
+    whole_of(word)
 }
 
-impl<'a> Words<'a> {
-    pub fn of(cell: &'a [u8]) -> Words<'a> {
-        Words { left: cell }
+/// Reads a whole number of sectors, lines or bytes, at most 65535.
+pub fn short(sheet: &mut Sheet<'_>) -> u16 {
+    let number = whole(sheet);
+    if number > 65535 {
+        sheet.misread();
+        return 0;
     }
+    number as u16
+}
 
-    /// Returns whether all words have been read.
-    pub fn is_empty(&self) -> bool {
-        skip_blanks(self.left).is_empty()
+/// Reads the name of a file, None where the word is none.
+pub fn name(sheet: &mut Sheet<'_>) -> Option<Name8> {
+    let word = sheet.word();
+    let found = Name8::of(&sheet.spelled(word));
+    if found.is_none() {
+        sheet.misread();
     }
+    found
+}
 
-    /// How many words there can be at most.
-    pub fn most(&self) -> usize {
-        self.left.len()
-    }
-
-    /// Reads a word, an empty one where all have been read.
-    pub fn next(&mut self) -> &'a [u8] {
-        let (word, rest) = cut(skip_blanks(self.left), b' ');
-        self.left = rest.unwrap_or(&[]);
-        word
-    }
-
-    /// Reads a whole number, at most 100000000.
-    pub fn whole(&mut self) -> Result<u32, Unanswered> {
-        let word = self.next();
-        if word.is_empty() || digits_width(word) != word.len() {
-            return Err(Unanswered::Misread);
-        }
-        Ok(capped_value(word, MOST))
-    }
-
-    /// Reads a whole number of sectors, lines or bytes, at most 65535.
-    pub fn short(&mut self) -> Result<u16, Unanswered> {
-        let number = self.whole()?;
-        if number > 65535 {
-            return Err(Unanswered::Misread);
-        }
-        Ok(number as u16)
-    }
-
-    /// Reads the name of a file.
-    pub fn name(&mut self, alloc: Global) -> Result<Name8, Unanswered> {
-        let bytes = bytes_of(alloc, self.next())?;
-        match Name8::of(&bytes) {
-            Some(name) => Ok(name),
-            None => Err(Unanswered::Misread),
-        }
-    }
-
-    /// Reads `P` for a program, or `D` for data: whether it is a program.
-    pub fn is_program(&mut self) -> Result<bool, Unanswered> {
-        match self.next() {
-            b"P" => Ok(true),
-            b"D" => Ok(false),
-            _ => Err(Unanswered::Misread),
+/// Reads `P` for a program, or `D` for data: whether it is a program.
+pub fn is_program(sheet: &mut Sheet<'_>) -> bool {
+    match str_of(sheet.word()) {
+        "P" => true,
+        "D" => false,
+        _ => {
+            sheet.misread();
+            false
         }
     }
 }
 
-/// The byte that two hexadecimal digits say.
-pub fn hex_byte_of(word: &[u8]) -> Result<u8, Unanswered> {
+/// The byte that two hexadecimal digits say, None where they say none.
+pub fn hex_byte_of(word: &[u8]) -> Option<u8> {
     match word {
         [high, low] if is_hex_digit(*high) && is_hex_digit(*low) => {
-            Ok(hex_value(*high) * 16 + hex_value(*low))
+            Some(hex_value(*high) * 16 + hex_value(*low))
         }
-        _ => Err(Unanswered::Misread),
+        _ => None,
     }
 }
