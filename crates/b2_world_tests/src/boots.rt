@@ -7,7 +7,7 @@
 use crate::pieces::word;
 use b2_base::{NoMemory, Part};
 use b2_boot::{Boot, BootErr, BootPartition, BootTerminal, boot_of};
-use b2_cases::{Cells, bytes_of, small_of};
+use b2_cases::{Cells, bytes_of, small_of, str_of};
 use std::alloc::Global;
 use std::fmt::Write;
 
@@ -61,13 +61,13 @@ partition=[{number=2,terminal=1,text=8,data=8,globals=2},{number=1,terminal=2,te
 
 /// The file of the boot of a name, an empty one where there is none.
 fn file_named(name: &[u8]) -> &'static [u8] {
-    match name {
-        b"one" => ONE,
-        b"two" => TWO,
-        b"steps" => STEPS,
-        b"shared" => SHARED,
-        b"three" => THREE,
-        b"crossed" => CROSSED,
+    match str_of(name) {
+        "one" => ONE,
+        "two" => TWO,
+        "steps" => STEPS,
+        "shared" => SHARED,
+        "three" => THREE,
+        "crossed" => CROSSED,
         _ => b"",
     }
 }
@@ -121,9 +121,9 @@ fn said_by(alloc: Global, boot: &Boot) -> Result<String, NoMemory> {
 
 /// Appends the line that a cell stands for.
 fn push_line(alloc: Global, file: &mut Vec<u8>, cell: &[u8]) -> Result<(), NoMemory> {
-    match cell {
-        b"T" => file.extend_from_slice(TERMINAL)?,
-        b"P" => file.extend_from_slice(PARTITION)?,
+    match str_of(cell) {
+        "T" => file.extend_from_slice(TERMINAL)?,
+        "P" => file.extend_from_slice(PARTITION)?,
         _ => file.extend_from_slice(&bytes_of(alloc, cell)?)?,
     }
     Ok(())

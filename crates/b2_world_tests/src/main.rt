@@ -14,36 +14,36 @@ mod terminals;
 mod worlds;
 
 use b2_base::NoMemory;
-use b2_cases::{Calls, Cells, try_rows};
+use b2_cases::{Calls, Cells, str_of, try_rows};
 use std::alloc::{AllocError, Global};
 use std::io;
 
 struct WorldCalls;
 
 /// What a call gives.
-fn called(alloc: Global, call: &[u8], cells: Cells<'_>) -> Result<String, NoMemory> {
+fn called(alloc: Global, call: &str, cells: Cells<'_>) -> Result<String, NoMemory> {
     match call {
-        b"terminal" => terminals::called(alloc, cells),
-        b"boot" => boots::read(alloc, cells),
-        b"alone" => boots::left_alone(alloc, cells),
-        b"log" => logs::read(alloc, cells),
-        b"device" => partitions::device(alloc, cells),
-        b"partition" => partitions::at_start(alloc, cells),
-        b"after" => places::after_unit(alloc, cells),
-        b"goal" => places::at_goal(alloc, cells),
-        b"store" => stores::called(alloc, cells),
-        b"world" => worlds::shown(alloc, cells),
-        b"clean" => worlds::cleanness(alloc, cells),
-        b"alone_world" => worlds::shown_alone(alloc, cells),
-        b"other_log" => worlds::shown_by_another(alloc, cells),
-        b"screen" => screens::fed(alloc, cells),
+        "terminal" => terminals::called(alloc, cells),
+        "boot" => boots::read(alloc, cells),
+        "alone" => boots::left_alone(alloc, cells),
+        "log" => logs::read(alloc, cells),
+        "device" => partitions::device(alloc, cells),
+        "partition" => partitions::at_start(alloc, cells),
+        "after" => places::after_unit(alloc, cells),
+        "goal" => places::at_goal(alloc, cells),
+        "store" => stores::called(alloc, cells),
+        "world" => worlds::shown(alloc, cells),
+        "clean" => worlds::cleanness(alloc, cells),
+        "alone_world" => worlds::shown_alone(alloc, cells),
+        "other_log" => worlds::shown_by_another(alloc, cells),
+        "screen" => screens::fed(alloc, cells),
         _ => Ok(format!(in alloc; "no such call")?),
     }
 }
 
 impl Calls for WorldCalls {
     fn given(alloc: Global, call: &[u8], cells: Cells<'_>) -> Result<String, AllocError> {
-        match called(alloc, call, cells) {
+        match called(alloc, str_of(call), cells) {
             Ok(shown) => Ok(shown),
             Err(NoMemory) => format!(in alloc; "no memory"),
         }

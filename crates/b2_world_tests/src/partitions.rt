@@ -12,7 +12,7 @@ use crate::pieces::show_named;
 use b2_access::{Device, DeviceTable, Private};
 use b2_base::{Addr, NoMemory, Part, Term};
 use b2_cases::shown::{show_bytes, show_truth};
-use b2_cases::{Cells, small_of, whole_of};
+use b2_cases::{Cells, small_of, str_of, whole_of};
 use b2_dec::Mode;
 use std::alloc::Global;
 use std::fmt::Write;
@@ -120,9 +120,9 @@ fn show_flags(into: &mut String, me: &Private) -> Result<(), NoMemory> {
 
 /// Asks for a halt or a reset.
 fn ask(me: &mut Private, flag: &[u8]) {
-    match flag {
-        b"halt" => me.flag_halt(),
-        b"reset" => me.flag_reset(),
+    match str_of(flag) {
+        "halt" => me.flag_halt(),
+        "reset" => me.flag_reset(),
         _ => {}
     }
 }

@@ -10,7 +10,7 @@ use crate::pieces::word;
 use b2_access::{goal_place, place_after};
 use b2_atom::Atoms;
 use b2_base::{Fault, NoMemory, Part};
-use b2_cases::{Cells, number_of, small_of};
+use b2_cases::{Cells, number_of, small_of, str_of};
 use b2_flow::Place;
 use b2_rows::Goal;
 use b2_text::Text;
@@ -43,8 +43,8 @@ fn two_lines(alloc: Global) -> Result<Option<Text>, NoMemory> {
 
 /// The number of the line in a cell, None for the immediate line.
 fn line_of(cell: &[u8]) -> Option<u16> {
-    match cell {
-        b"-" => None,
+    match str_of(cell) {
+        "-" => None,
         _ => Some(number_of(cell)),
     }
 }
@@ -97,10 +97,10 @@ fn goal_of(cell: &[u8]) -> Option<Goal>
     ensures { IfSome result IsUnit }
 {
     let (kind, rest) = word(cell);
-    match kind {
-        b"line" => Some(Goal::Line(number_of(rest))),
-        b"unit" => Some(Goal::Unit(usize::from(small_of(rest)))),
-        b"next" => Some(Goal::NextLine),
+    match str_of(kind) {
+        "line" => Some(Goal::Line(number_of(rest))),
+        "unit" => Some(Goal::Unit(usize::from(small_of(rest)))),
+        "next" => Some(Goal::NextLine),
         _ => None,
     }
 }

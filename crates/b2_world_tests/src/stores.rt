@@ -18,7 +18,7 @@ use b2_atom::Atoms;
 use b2_audit::{Seen, Watched};
 use b2_base::{ByteList, NoMemory, Part, Term};
 use b2_cases::shown::{show_code, show_truth};
-use b2_cases::{Cells, bytes_of, number_of, small_of};
+use b2_cases::{Cells, bytes_of, number_of, small_of, str_of};
 use b2_store::{StoreBoot, Stores};
 use b2_term::KeyItem;
 use std::alloc::Global;
@@ -48,7 +48,7 @@ fn four_partitions(alloc: Global) -> Result<Stores, NoMemory>
 }
 
 /// An access at a terminal, None where it is misspelled.
-fn at_terminal(alloc: Global, kind: &[u8], rest: &[u8]) -> Result<Option<Access>, NoMemory>
+fn at_terminal(alloc: Global, kind: &str, rest: &[u8]) -> Result<Option<Access>, NoMemory>
     ensures { IfOk result (λ found. IfSome found IsLegal) }
 {
     let (number, text) = word(rest);
@@ -57,16 +57,16 @@ fn at_terminal(alloc: Global, kind: &[u8], rest: &[u8]) -> Result<Option<Access>
     };
     let bytes = ByteList::new(bytes_of(alloc, text)?);
     Ok(match kind {
-        b"show" => Some(Access::Show { term, bytes }),
-        b"read" => Some(Access::ReadLine { term }),
-        b"insert" => Some(Access::Insert { term, bytes }),
-        b"key" => Some(Access::Key { term }),
+        "show" => Some(Access::Show { term, bytes }),
+        "read" => Some(Access::ReadLine { term }),
+        "insert" => Some(Access::Insert { term, bytes }),
+        "key" => Some(Access::Key { term }),
         _ => None,
     })
 }
 
 /// An access to the own text, None where it is misspelled.
-fn at_text(alloc: Global, kind: &[u8], rest: &[u8]) -> Result<Option<Access>, NoMemory>
+fn at_text(alloc: Global, kind: &str, rest: &[u8]) -> Result<Option<Access>, NoMemory>
     ensures { IfOk result (λ found. IfSome found IsLegal) }
 {
     let (number, text) = word(rest);
@@ -74,18 +74,18 @@ fn at_text(alloc: Global, kind: &[u8], rest: &[u8]) -> Result<Option<Access>, No
     let homes = 0;
     let atoms = Atoms::of(alloc, text)?;
     Ok(match kind {
-        b"put" if atoms.is_some() => Some(Access::PutLine { line, atoms, homes }),
-        b"take" => Some(Access::PutLine {
+        "put" if atoms.is_some() => Some(Access::PutLine { line, atoms, homes }),
+        "take" => Some(Access::PutLine {
             line,
             atoms: None,
             homes,
         }),
-        b"erase" => Some(Access::Erase {
+        "erase" => Some(Access::Erase {
             from: line,
             to: number_of(text),
             homes,
         }),
-        b"clear" => Some(Access::ClearAll { name: None, homes }),
+        "clear" => Some(Access::ClearAll { name: None, homes }),
         _ => None,
     })
 }
@@ -94,9 +94,10 @@ fn at_text(alloc: Global, kind: &[u8], rest: &[u8]) -> Result<Option<Access>, No
 fn access_of(alloc: Global, spelled: &[u8]) -> Result<Option<Access>, NoMemory>
     ensures { IfOk result (λ found. IfSome found IsLegal) }
 {
-    let (kind, rest) = word(spelled);
+    let (first, rest) = word(spelled);
+    let kind = str_of(first);
     match kind {
-        b"show" | b"read" | b"insert" | b"key" => at_terminal(alloc, kind, rest),
+        "show" | "read" | "insert" | "key" => at_terminal(alloc, kind, rest),
         _ => at_text(alloc, kind, rest),
     }
 }
@@ -232,7 +233,7 @@ fn show_terminal(stores: &Stores, terminal: Term, into: &mut String) -> Result<(
 fn at_keyboard(
     alloc: Global,
     stores: &mut Stores,
-    call: &[u8],
+    call: &str,
     rest: &[u8],
     into: &mut String,
 ) -> Result<(), NoMemory>
@@ -243,15 +244,15 @@ fn at_keyboard(
         return no_call(into);
     };
     match call {
-        b"press" => {
+        "press" => {
             into.push_str("keys")?;
             press_all(stores, terminal, &bytes_of(alloc, text)?, into)
         }
-        b"special" => {
+        "special" => {
             into.push_str("keys")?;
             press(stores, terminal, KeyItem::Special(small_of(text)), into)
         }
-        b"front" => {
+        "front" => {
             put_in_front(stores, terminal, small_of(text));
             into.push_str("set")?;
             Ok(())
@@ -316,11 +317,11 @@ fn lend_spelled(
     requires texts { HasTexts (store_of stores.old) }
     ensures kept { KeepsTexts (store_of stores.old) (store_of stores.new) }
 {
-    match pair {
-        b"1 1" => lend(stores, seen, Part::known(1), Part::known(1), into),
-        b"1 2" => lend(stores, seen, Part::known(1), Part::known(2), into),
-        b"2 1" => lend(stores, seen, Part::known(2), Part::known(1), into),
-        b"2 2" => lend(stores, seen, Part::known(2), Part::known(2), into),
+    match str_of(pair) {
+        "1 1" => lend(stores, seen, Part::known(1), Part::known(1), into),
+        "1 2" => lend(stores, seen, Part::known(1), Part::known(2), into),
+        "2 1" => lend(stores, seen, Part::known(2), Part::known(1), into),
+        "2 2" => lend(stores, seen, Part::known(2), Part::known(2), into),
         _ => no_call(into),
     }
 }
@@ -347,12 +348,13 @@ fn answer(
     requires texts { HasTexts (store_of stores.old) }
     ensures kept { OnOk result (KeepsTexts (store_of stores.old) (store_of stores.new)) }
 {
-    let (call, rest) = word(cell);
+    let (first, rest) = word(cell);
+    let call = str_of(first);
     match call {
-        b"press" | b"special" | b"front" | b"shown" => at_keyboard(alloc, stores, call, rest, into),
-        b"lend" => lend_spelled(stores, seen, rest, into),
-        b"clean" => show_clean(seen, into),
-        _ => ask_spelled(alloc, stores, seen, call, rest, into),
+        "press" | "special" | "front" | "shown" => at_keyboard(alloc, stores, call, rest, into),
+        "lend" => lend_spelled(stores, seen, rest, into),
+        "clean" => show_clean(seen, into),
+        _ => ask_spelled(alloc, stores, seen, first, rest, into),
     }
 }
 

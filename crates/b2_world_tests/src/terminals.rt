@@ -5,7 +5,7 @@
 // `show BYTES` shows them, and `front N` puts a partition in front and asks who is there.
 use crate::pieces::{show_named, word};
 use b2_base::{NoMemory, Part};
-use b2_cases::{Cells, bytes_of, number_of, small_of};
+use b2_cases::{Cells, bytes_of, number_of, small_of, str_of};
 use b2_term::{KeyItem, Read, Terminal};
 use std::alloc::Global;
 use std::fmt::Write;
@@ -74,28 +74,28 @@ fn answer(
     into: &mut String,
 ) -> Result<(), NoMemory> {
     let (call, rest) = word(cell);
-    match call {
-        b"keys" => {
+    match str_of(call) {
+        "keys" => {
             let taken = keys_taken(terminal, &bytes_of(alloc, rest)?);
             write!(into, "{taken} taken")?;
         }
-        b"many" => {
+        "many" => {
             let (times, bytes) = word(rest);
             let taken = keys_taken_again(terminal, number_of(times), &bytes_of(alloc, bytes)?);
             write!(into, "{taken} taken")?;
         }
-        b"special" => show_taken(into, terminal.key(KeyItem::Special(small_of(rest))))?,
-        b"read" => show_read(into, &terminal.read_line()?)?,
-        b"one" => show_key(into, terminal.one_key())?,
-        b"insert" => {
+        "special" => show_taken(into, terminal.key(KeyItem::Special(small_of(rest))))?,
+        "read" => show_read(into, &terminal.read_line()?)?,
+        "one" => show_key(into, terminal.one_key())?,
+        "insert" => {
             terminal.insert(&bytes_of(alloc, rest)?)?;
             into.push_str("inserted")?;
         }
-        b"show" => {
+        "show" => {
             terminal.show(&bytes_of(alloc, rest)?)?;
             into.push_str("shown")?;
         }
-        b"front" => show_front(into, terminal, small_of(rest))?,
+        "front" => show_front(into, terminal, small_of(rest))?,
         _ => into.push_str("no such call")?,
     }
     Ok(())
