@@ -15,7 +15,7 @@ use Rattle.b2_access.specs.declared.objects.Object.TheVariants as object
 use Rattle.b2_access.specs.declared.private.Private.{Private}
 use Rattle.b2_machine.specs.Statements.{Begun, begins}
 use Rattle.b2_machine.specs.Step.{StepEnd, seen_by, step}
-use Rattle.b2_machine.specs.Typing.{on_own_line, puts_numbered}
+use Rattle.b2_machine.specs.Typing.{puts_numbered, shows_pending}
 use Rattle.b2_machine.specs.declared.statements.Course.{Course}
 use Rattle.b2_machine.specs.declared.statements.Course.TheVariants as course
 
@@ -55,7 +55,7 @@ asks_to_type None me s = asks_to_enter me.numbered me s
 
 -- the third: pending output is shown
 abbrev pub asks_to_show : Option (List ℕ × List ℕ) → Private → StoreState → Asking
-asks_to_show (Some shown) me s = asks_one (access.Show me.term (on_own_line me.term_column shown.1)) me
+asks_to_show (Some shown) me s = asks_one (shows_pending shown.1 me) me
 asks_to_show None me s = asks_to_type me.literal me s
 
 abbrev pub asks_as_it_acts : Private → StoreState → Asking

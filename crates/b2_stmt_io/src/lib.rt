@@ -24,4 +24,4 @@ mod typed_text;
 
 pub use marks::typed_by_mark;
 pub use planning::{finish, is_built, plan};
-pub use showing::{after_show, move_column};
+pub use showing::{after_show, show_from};

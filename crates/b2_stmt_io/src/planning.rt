@@ -60,10 +60,10 @@ fn ask(
     let term = e.term;
     match unit.row {
         rows::PRINT => ask_print(alloc, e, column, unit.bytes),
-        rows::PRINTUSING => ask_using(alloc, e, unit.bytes),
+        rows::PRINTUSING => ask_using(alloc, e, column, unit.bytes),
         rows::KEYIN => Ok(Planned::Ask(Access::Key { term })),
-        rows::LINPUT => Ok(Planned::Ask(ask_linput(alloc, prompted, term, unit.bytes)?)),
-        rows::INPUT => Ok(Planned::Ask(ask_input(alloc, prompted, term, unit.bytes)?)),
+        rows::LINPUT => Ok(Planned::Ask(ask_linput(alloc, prompted, column, term, unit.bytes)?)),
+        rows::INPUT => Ok(Planned::Ask(ask_input(alloc, prompted, column, term, unit.bytes)?)),
         _ => Ok(Planned::Done(failed(S27_LEFT_OUT))),
     }
 }
