@@ -25,7 +25,7 @@ use Rattle.b2_stmt_io.specs.Showing.{shows_bytes, shows_laid}
 use Rattle.b2_expr.specs.Scope.{Context}
 use Rattle.b2_machine.specs.Listed.{lists}
 use Rattle.b2_machine.specs.Stays.{IsLegalCourse}
-use Rattle.b2_machine.specs.Statements.{Begun, begun_by, plan_by}
+use Rattle.b2_machine.specs.Statements.{Begun, begins, begins_where, begun_by, builder_of, plan_by}
 use Rattle.b2_machine.specs.declared.statements.Builder.{Builder}
 use Rattle.b2_machine.specs.declared.statements.Builder.TheVariants as builder
 use Rattle.b2_machine.specs.declared.statements.Course.{Course}
@@ -118,8 +118,9 @@ courses : (x : Planned) (b : Builder) (p : Place) (me : Private) (home : Lines) 
 courses (planned.Done o) b p me home h = tt
 courses (planned.Ask a) b p me home h = h
 
-pub legal_planned : (x : Planning) (b : Builder) (p : Place) (me : Private) (s : SeenLent) → x ≡ plan_by b p me s → IsLegalPlan x.planned
-legal_planned x b p me s is = subst (λ (y : Planning). IsLegalPlan y.planned) (sym is) (planned_by b p me s)
+begun_at : (o : Option Statement) (p : Place) (me : Private) (s : SeenLent) → IsLegalCourse (begins_where o p me s).course
+begun_at None p me s = tt
+begun_at (Some u) p me s = let x = plan_by (builder_of u) p me s in courses x.planned (builder_of u) p x.me s.home.lines (planned_by (builder_of u) p me s)
 
-pub legal_begun : (x : Planned) (b : Builder) (p : Place) (me after : Private) (home : Lines) (c : Course) → IsLegalPlan x → ◌≡◌ {A = Begun} (record { me = after; course = c }) (begun_by x b p me home) → IsLegalCourse c
-legal_begun x b p me after home c h is = subst (λ (y : Begun). IsLegalCourse y.course) (sym is) (courses x b p me home h)
+pub legal_begun : (p : Place) (me after : Private) (s : SeenLent) (c : Course) → ◌≡◌ {A = Begun} (record { me = after; course = c }) (begins p me s) → IsLegalCourse c
+legal_begun p me after s c is = subst (λ (b : Begun). IsLegalCourse b.course) (sym is) (begun_at (statement_placed p me.immediate s.home.lines) p me s)

@@ -189,17 +189,47 @@ fn end_at_once(
     settle_on(alloc, me, home, line, *place, outcome)
 }
 
-/// Executes the statement at a place, where it ends at once and stands in a line of the program.
-fn begin_at_once(
+/// The statement of a unit at a place in a line of the program begins, where the crate of statements at the terminal executes
+/// it.
+fn begin_at_terminal(
+    alloc: Global,
+    me: &mut Private,
+    home: &Text,
+    line: &Atoms,
+    unit: &RowUnit<'_>,
+    place: &Place,
+) -> Result<Course, NoMemory>
+    requires stands { me.old.place ≡ Some place.now }
+    requires program { is_some place.now.line ≡ true }
+    requires line { line_of_place me.old.immediate home.now.lines place.now.line ≡ Some line.now }
+    requires statement { Some (record { row = unit.now.row; tree = tree_at unit.now.row unit.now.bytes.now }) ≡ named_on (Some line.now) place.now.unit }
+    requires terminal { spec.builder_of (record { row = unit.now.row; tree = tree_at unit.now.row unit.now.bytes.now }) ≡ Builder.Terminal }
+    requires read { IsRow unit.now.row unit.now.bytes.now (tree_at unit.now.row unit.now.bytes.now) }
+    ensures begun { (s : SeenLent) → s.home ≡ home.now → IfOk result (λ c. record { me = me.new; course = c } ≡ spec.begins place.now me.old s) }
+    ensures part { me.new.part ≡ me.old.part }
+{
+    let planned = b2_stmt_io::plan_found(alloc, me, home, unit)?;
+    match planned {
+        Planned::Done(outcome) => {
+            let end = settle_on(alloc, me, home, line, *place, outcome)?;
+            Ok(Course::Ended(end))
+        }
+        Planned::Ask(access) => Ok(Course::Asks(access, Builder::Terminal)),
+    }
+}
+
+/// The statement at a place begins, where it stands in a line of the program and either ends at once or is one at the terminal:
+/// it is found by one look-up.
+fn begin_found(
     alloc: Global,
     me: &mut Private,
     own: &Text,
     home: &Text,
     place: &Place,
-) -> Result<Option<Stepped>, NoMemory>
+) -> Result<Option<Course>, NoMemory>
     requires stands { me.old.place ≡ Some place.now }
-    ensures begun { (s : SeenLent) → s.own ≡ own.now → s.home ≡ home.now → IfOk result (λ e. IfSome e (λ e. spec.has_ended (record { me = me.new; end = e }) ≡ spec.begins place.now me.old s)) }
-    ensures same { IfOk result (λ e. e ≡ None → me.new ≡ me.old) }
+    ensures begun { (s : SeenLent) → s.own ≡ own.now → s.home ≡ home.now → IfOk result (λ c. IfSome c (λ c. record { me = me.new; course = c } ≡ spec.begins place.now me.old s)) }
+    ensures same { IfOk result (λ c. c ≡ None → me.new ≡ me.old) }
     ensures part { me.new.part ≡ me.old.part }
 {
     let Some(n) = place.line else {
@@ -211,11 +241,17 @@ fn begin_at_once(
     let Some(unit) = statement_on(line.atoms, usize::from(place.unit)) else {
         return Ok(None);
     };
-    if !ends_at_once(&unit) {
-        return Ok(None);
+    if ends_at_once(&unit) {
+        let end = end_at_once(alloc, me, own, home, line.atoms, &unit, place)?;
+        return Ok(Some(Course::Ended(end)));
     }
-    let end = end_at_once(alloc, me, own, home, line.atoms, &unit, place)?;
-    Ok(Some(end))
+    match builder_of(&unit) {
+        Builder::Terminal => {
+            let course = begin_at_terminal(alloc, me, home, line.atoms, &unit, place)?;
+            Ok(Some(course))
+        }
+        _ => Ok(None),
+    }
 }
 
 /// The statement at a place begins, over what is lent, by who executes it.
@@ -226,7 +262,6 @@ fn begin_by(
     devices: &DeviceTable,
     place: &Place,
 ) -> Result<Course, NoMemory>
-    ensures legal { IfOk result IsLegalCourse }
     ensures begun { IfOk result (λ c. record { me = me.new; course = c } ≡ spec.begins place.now me.old (seen_lent lent.entry)) }
     ensures part { me.new.part ≡ me.old.part }
 {
@@ -239,7 +274,7 @@ fn begin_by(
     begun(alloc, me, home, *place, planned, builder)
 }
 
-/// The statement at a place of a partition begins, over what is lent. One that ends at once is found by one look-up.
+/// The statement at a place of a partition begins, over what is lent.
 pub fn begin_over(
     alloc: Global,
     me: &mut Private,
@@ -252,9 +287,9 @@ pub fn begin_over(
     ensures begun { IfOk result (λ c. record { me = me.new; course = c } ≡ spec.begins place.now me.old (seen_lent lent.entry)) }
     ensures part { me.new.part ≡ me.old.part }
 {
-    let ended = begin_at_once(alloc, me, lent.own, lent.home, place)?;
-    match ended {
-        Some(end) => Ok(Course::Ended(end)),
+    let begun = begin_found(alloc, me, lent.own, lent.home, place)?;
+    match begun {
+        Some(course) => Ok(course),
         None => begin_by(alloc, me, lent, devices, place),
     }
 }
