@@ -57,7 +57,11 @@ fn at_terminal(alloc: Global, kind: &[u8], rest: &[u8]) -> Result<Option<Access>
     };
     let bytes = ByteList::new(bytes_of(alloc, text)?);
     Ok(match kind {
-        b"show" => Some(Access::Show { term, bytes }),
+        b"show" => Some(Access::Show {
+            term,
+            bytes,
+            column: 0,
+        }),
         b"read" => Some(Access::ReadLine { term }),
         b"insert" => Some(Access::Insert { term, bytes }),
         b"key" => Some(Access::Key { term }),
