@@ -102,7 +102,7 @@ edit_waits s who q None t goes = (λ e. absurd (not_wait _ q goes e), λ h. let 
 edit_waits s who q (Some p) t goes = (λ e. cc, λ h. let no = h.0 in cc)
 
 pub waits : WaitsForTheFront
-waits who q (access.Show term bytes) s = let c = content s (object.Terminal term) in terminal_waits s who q c (shows term bytes c) (not_held_up _ (show_goes s term bytes c))
+waits who q (access.Show term bytes column) s = let c = content s (object.Terminal term) in terminal_waits s who q c (shows term bytes c) (not_held_up _ (show_goes s term bytes c))
 waits who q (access.ReadLine term) s = let c = content s (object.Terminal term) in terminal_waits s who q c (reads_line term c) (not_held_up _ (reads_go s term c))
 waits who q (access.Insert term bytes) s = let c = content s (object.Terminal term) in terminal_waits s who q c (inserts term bytes c) (not_held_up _ (insert_goes s term bytes c))
 waits who q (access.Key term) s = let c = content s (object.Terminal term) in terminal_waits s who q c (takes_key term c) (not_held_up _ (keys_go s term c))
@@ -122,7 +122,7 @@ edit_locks s q None t goes = (λ e. absurd (not_locked _ q goes e), λ h. let no
 edit_locks s q (Some p) t goes = (λ e. let first : p ≡ q = cc in (refl, ap Some first), λ h. let first : Some p ≡ Some q = h.1 in cc)
 
 pub locks : LocksForTheFirst
-locks who q (access.Show term bytes) s = let c = content s (object.Terminal term) in terminal_locks s q (other_front who c) (first_in s who) (shows term bytes c) (not_held_up _ (show_goes s term bytes c))
+locks who q (access.Show term bytes column) s = let c = content s (object.Terminal term) in terminal_locks s q (other_front who c) (first_in s who) (shows term bytes c) (not_held_up _ (show_goes s term bytes c))
 locks who q (access.ReadLine term) s = let c = content s (object.Terminal term) in terminal_locks s q (other_front who c) (first_in s who) (reads_line term c) (not_held_up _ (reads_go s term c))
 locks who q (access.Insert term bytes) s = let c = content s (object.Terminal term) in terminal_locks s q (other_front who c) (first_in s who) (inserts term bytes c) (not_held_up _ (insert_goes s term bytes c))
 locks who q (access.Key term) s = let c = content s (object.Terminal term) in terminal_locks s q (other_front who c) (first_in s who) (takes_key term c) (not_held_up _ (keys_go s term c))
@@ -162,7 +162,7 @@ line_refuses s who c n atoms None = room_refuses s who c n atoms (content s (obj
 line_refuses s who c n atoms (Some p) = (λ e. cc, λ h. let no = h.1 in cc)
 
 pub refuses : RefusesForRoom
-refuses who c (access.Show term bytes) s = let x = content s (object.Terminal term) in terminal_refuses s who c (other_front who x) (shows term bytes x) (show_goes s term bytes x)
+refuses who c (access.Show term bytes column) s = let x = content s (object.Terminal term) in terminal_refuses s who c (other_front who x) (shows term bytes x) (show_goes s term bytes x)
 refuses who c (access.ReadLine term) s = let x = content s (object.Terminal term) in terminal_refuses s who c (other_front who x) (reads_line term x) (reads_go s term x)
 refuses who c (access.Insert term bytes) s = let x = content s (object.Terminal term) in terminal_refuses s who c (other_front who x) (inserts term bytes x) (insert_goes s term bytes x)
 refuses who c (access.Key term) s = let x = content s (object.Terminal term) in terminal_refuses s who c (other_front who x) (takes_key term x) (keys_go s term x)

@@ -94,7 +94,7 @@ clears_keep s who None = answers_keep s answer.Done
 clears_keep s who (Some t) = both_keep s who t (content s (object.Globals who))
 
 pub stopped : StopsUnchanged
-stopped who (access.Show term bytes) s = terminal_keeps s who term (shows term bytes) (shows_keep s term bytes)
+stopped who (access.Show term bytes column) s = terminal_keeps s who term (shows term bytes) (shows_keep s term bytes)
 stopped who (access.ReadLine term) s = terminal_keeps s who term (reads_line term) (reads_keep s term)
 stopped who (access.Insert term bytes) s = terminal_keeps s who term (inserts term bytes) (inserts_keep s term bytes)
 stopped who (access.Key term) s = terminal_keeps s who term (takes_key term) (keys_keep s term)

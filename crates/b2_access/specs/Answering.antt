@@ -18,8 +18,8 @@ use Rattle.b2_access.specs.Store.{StoreState, content}
 use Rattle.b2_access.specs.Task.{Task, Look, performs}
 
 abbrev pub can_answer : Access → Answer → Bool
-can_answer (access.Show term bytes) answer.Done = true
-can_answer (access.Show term bytes) (answer.Wait q) = true
+can_answer (access.Show term bytes column) answer.Done = true
+can_answer (access.Show term bytes column) (answer.Wait q) = true
 can_answer (access.ReadLine term) (answer.Line bytes) = true
 can_answer (access.ReadLine term) (answer.Special n) = true
 can_answer (access.ReadLine term) answer.NoKeys = true
@@ -76,9 +76,9 @@ key_by_row term None = refl
 key_by_row term (Some (key.Byte b)) = refl
 key_by_row term (Some (key.Special n)) = refl
 
-shows_by_row : (term : ℕ) (bytes : List ℕ) (s : StoreState) (t : Option TerminalState) → EndsByRow (access.Show term bytes) s (shows term bytes t)
-shows_by_row term bytes s None = refl
-shows_by_row term bytes s (Some t) = refl
+shows_by_row : (term : ℕ) (bytes : List ℕ) (column : ℕ) (s : StoreState) (t : Option TerminalState) → EndsByRow (access.Show term bytes column) s (shows term bytes t)
+shows_by_row term bytes column s None = refl
+shows_by_row term bytes column s (Some t) = refl
 
 reads_by_row : (term : ℕ) (s : StoreState) (t : Option TerminalState) → EndsByRow (access.ReadLine term) s (reads_line term t)
 reads_by_row term s None = refl
@@ -117,8 +117,8 @@ clears_by_row who homes name s None = refl
 clears_by_row who homes name s (Some t) = clears_both_by_row who homes name s t (content s (object.Globals who))
 
 pub serves_by_row : AnswersByRow serves
-serves_by_row s who (access.Show term bytes) =
-    let t = content s (object.Terminal term) in waits_by_row (access.Show term bytes) s (other_front who t) (shows term bytes t) (λ q. refl) (shows_by_row term bytes s t)
+serves_by_row s who (access.Show term bytes column) =
+    let t = content s (object.Terminal term) in waits_by_row (access.Show term bytes column) s (other_front who t) (shows term bytes t) (λ q. refl) (shows_by_row term bytes column s t)
 serves_by_row s who (access.ReadLine term) =
     let t = content s (object.Terminal term) in waits_by_row (access.ReadLine term) s (other_front who t) (reads_line term t) (λ q. refl) (reads_by_row term s t)
 serves_by_row s who (access.Insert term bytes) =

@@ -13,7 +13,7 @@ use Rattle.b2_access.specs.Serving.{first_inside, serves}
 
 -- the terminal that an access names
 abbrev pub terminal_of : Access → Option ℕ
-terminal_of (access.Show term bytes) = Some term
+terminal_of (access.Show term bytes column) = Some term
 terminal_of (access.ReadLine term) = Some term
 terminal_of (access.Insert term bytes) = Some term
 terminal_of (access.Key term) = Some term

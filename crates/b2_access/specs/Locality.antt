@@ -56,9 +56,9 @@ terminal_within who term a s does there h =
     let t = content s (object.Terminal term) in
     looks_within who a s (object.Terminal term) (λ c. unless_waits (other_front who c) (does c)) there (wait_within who a s (other_front who t) (does t) (h t))
 
-shows_within : (who term : ℕ) (bytes : List ℕ) (s : StoreState) (c : Option TerminalState) → IsWithin who (access.Show term bytes) s (shows term bytes c)
-shows_within who term bytes s None = just_answers who (access.Show term bytes) s answer.Done
-shows_within who term bytes s (Some t) = puts_within who (access.Show term bytes) s (object.Terminal term) _ answer.Done (inl refl)
+shows_within : (who term : ℕ) (bytes : List ℕ) (column : ℕ) (s : StoreState) (c : Option TerminalState) → IsWithin who (access.Show term bytes column) s (shows term bytes c)
+shows_within who term bytes column s None = just_answers who (access.Show term bytes column) s answer.Done
+shows_within who term bytes column s (Some t) = puts_within who (access.Show term bytes column) s (object.Terminal term) _ answer.Done (inl refl)
 
 line_writes : (who term : ℕ) (r : Read) → IsIn (object.Terminal term) (written_by (line_answer r) who (access.ReadLine term))
 line_writes who term (read.Line bytes) = inl refl
@@ -112,7 +112,7 @@ clears_within who name homes s (Some t) =
     looks_within who (access.ClearAll name homes) s (object.Globals who) (clears_both who t) (inr (inr (inl refl))) (both_within who name homes s t (content s (object.Globals who)))
 
 task_within : (who : ℕ) (a : Access) (s : StoreState) → IsWithin who a s (task who a)
-task_within who (access.Show term bytes) s = terminal_within who term (access.Show term bytes) s (shows term bytes) (inl refl) (shows_within who term bytes s)
+task_within who (access.Show term bytes column) s = terminal_within who term (access.Show term bytes column) s (shows term bytes) (inl refl) (shows_within who term bytes column s)
 task_within who (access.ReadLine term) s = terminal_within who term (access.ReadLine term) s (reads_line term) (inl refl) (reads_within who term s)
 task_within who (access.Insert term bytes) s = terminal_within who term (access.Insert term bytes) s (inserts term bytes) (inl refl) (inserts_within who term bytes s)
 task_within who (access.Key term) s = terminal_within who term (access.Key term) s (takes_key term) (inl refl) (keys_within who term s)
@@ -122,7 +122,7 @@ task_within who (access.ClearAll name homes) s = edit_within who (access.ClearAl
 
 -- what is written was touched
 may_write_touched : (s : StoreState) (who : ℕ) (a : Access) → Sub (may_write who a) (touched s who a)
-may_write_touched s who (access.Show term bytes) o h = h
+may_write_touched s who (access.Show term bytes column) o h = h
 may_write_touched s who (access.ReadLine term) o h = h
 may_write_touched s who (access.Insert term bytes) o h = h
 may_write_touched s who (access.Key term) o h = h
@@ -137,7 +137,7 @@ written_touched s who a (answer.Refused c) = λ o h. absurd h
 written_touched s who a x = may_write_touched s who a
 
 same_touched : (s t : StoreState) (who : ℕ) (a : Access) → touched s who a ≡ touched t who a
-same_touched s t who (access.Show term bytes) = refl
+same_touched s t who (access.Show term bytes column) = refl
 same_touched s t who a = refl
 
 served_alike : (who : ℕ) (a : Access) (s t : StoreState) → AgreeOn (touched s who a) s t → ServesAlike itself serves who a s t

@@ -119,7 +119,7 @@ clears who (Some t) = Look (object.Globals who) (clears_both who t)
 
 -- what an access of a partition does
 abbrev pub task : ℕ → Access → Task
-task who (access.Show term bytes) = at_terminal who term (shows term bytes)
+task who (access.Show term bytes column) = at_terminal who term (shows term bytes)
 task who (access.ReadLine term) = at_terminal who term (reads_line term)
 task who (access.Insert term bytes) = at_terminal who term (inserts term bytes)
 task who (access.Key term) = at_terminal who term (takes_key term)

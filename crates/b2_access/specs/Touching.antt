@@ -10,7 +10,7 @@ use Rattle.b2_access.specs.Store.{StoreState}
 
 -- the objects that an access of a partition touches, whatever its answer is
 abbrev pub touched : StoreState → ℕ → Access → List Object
-touched s who (access.Show term bytes) = object.Terminal term ∷ []
+touched s who (access.Show term bytes column) = object.Terminal term ∷ []
 touched s who (access.ReadLine term) = object.Terminal term ∷ []
 touched s who (access.Insert term bytes) = object.Terminal term ∷ []
 touched s who (access.Key term) = object.Terminal term ∷ []
@@ -20,7 +20,7 @@ touched s who (access.ClearAll name homes) = object.Borrow who ∷ object.Text w
 
 -- those that it writes where nothing stops it
 abbrev pub may_write : ℕ → Access → List Object
-may_write who (access.Show term bytes) = object.Terminal term ∷ []
+may_write who (access.Show term bytes column) = object.Terminal term ∷ []
 may_write who (access.ReadLine term) = object.Terminal term ∷ []
 may_write who (access.Insert term bytes) = object.Terminal term ∷ []
 may_write who (access.Key term) = object.Terminal term ∷ []
@@ -43,7 +43,7 @@ IsLegal a = Unit {0}
 -- Which accesses may want memory: those that put bytes or a line where there may be no room kept for them. A key is taken and
 -- lines are taken out without any.
 abbrev pub MayWantMemory : Access → Type 0
-MayWantMemory (access.Show term bytes) = Unit {0}
+MayWantMemory (access.Show term bytes column) = Unit {0}
 MayWantMemory (access.ReadLine term) = Unit {0}
 MayWantMemory (access.Insert term bytes) = Unit {0}
 MayWantMemory (access.PutLine line (Some atoms) homes) = Unit {0}

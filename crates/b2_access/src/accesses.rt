@@ -6,10 +6,11 @@ use b2_base::{ByteList, Code, Name8, Part, Term};
 /// a partition is that of its number less 1.
 #[derive(Drop)]
 pub enum Access {
-    /// The bytes are shown at the terminal.
+    /// The bytes are shown at the terminal, whose column is then this one.
     Show {
         term: Term,
         bytes: ByteList,
+        column: u16,
     },
     /// A line is read from the terminal.
     ReadLine {

@@ -22,7 +22,7 @@ own_text : (who : ℕ) → IsPartition who → AreMarked (object.Text who ∷ []
 own_text who is = add (object.Text who) [] is nothing
 
 touched_are : (s : StoreState) (who : ℕ) (a : Access) → IsPartition who → ((t : ℕ) → terminal_of a ≡ Some t → IsTerminal t) → AreMarked (touched s who a)
-touched_are s who (access.Show term bytes) is at = add (object.Terminal term) [] (at term refl) nothing
+touched_are s who (access.Show term bytes column) is at = add (object.Terminal term) [] (at term refl) nothing
 touched_are s who (access.ReadLine term) is at = add (object.Terminal term) [] (at term refl) nothing
 touched_are s who (access.Insert term bytes) is at = add (object.Terminal term) [] (at term refl) nothing
 touched_are s who (access.Key term) is at = add (object.Terminal term) [] (at term refl) nothing
@@ -32,7 +32,7 @@ touched_are s who (access.ClearAll name homes) is at =
     add (object.Borrow who) (object.Text who ∷ object.Globals who ∷ []) is (add (object.Text who) (object.Globals who ∷ []) is (add (object.Globals who) [] is nothing))
 
 may_write_are : (who : ℕ) (a : Access) → IsPartition who → ((t : ℕ) → terminal_of a ≡ Some t → IsTerminal t) → AreMarked (may_write who a)
-may_write_are who (access.Show term bytes) is at = add (object.Terminal term) [] (at term refl) nothing
+may_write_are who (access.Show term bytes column) is at = add (object.Terminal term) [] (at term refl) nothing
 may_write_are who (access.ReadLine term) is at = add (object.Terminal term) [] (at term refl) nothing
 may_write_are who (access.Insert term bytes) is at = add (object.Terminal term) [] (at term refl) nothing
 may_write_are who (access.Key term) is at = add (object.Terminal term) [] (at term refl) nothing
@@ -71,7 +71,7 @@ no_terminal : (q t : ℕ) → IsIn (object.Text q) (object.Terminal t ∷ []) �
 no_terminal q t i = elim i [ inl e ↦ cc | inr none ↦ none ]
 
 own_text_of : (who q : ℕ) (a : Access) → IsIn (object.Text q) (may_write who a) → q ≡ who
-own_text_of who q (access.Show term bytes) i = absurd (no_terminal q term i)
+own_text_of who q (access.Show term bytes column) i = absurd (no_terminal q term i)
 own_text_of who q (access.ReadLine term) i = absurd (no_terminal q term i)
 own_text_of who q (access.Insert term bytes) i = absurd (no_terminal q term i)
 own_text_of who q (access.Key term) i = absurd (no_terminal q term i)

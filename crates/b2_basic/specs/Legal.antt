@@ -19,7 +19,7 @@ use Rattle.b2_stmt.specs.Clearing.{asked_access, asks_to_erase}
 use Rattle.b2_stmt.specs.Plan as stmt
 use Rattle.b2_stmt_io.specs.LineReading.{asks_line}
 use Rattle.b2_stmt_io.specs.Plan as stmt_io
-use Rattle.b2_stmt_io.specs.Showing.{shows_bytes}
+use Rattle.b2_stmt_io.specs.Showing.{shows_bytes, shows_laid}
 use Rattle.b2_language.specs.Languages.{IsLegalPlan, PlansLegally}
 use Rattle.b2_expr.specs.Scope.{Context}
 
@@ -63,21 +63,25 @@ control_where None me s = tt
 control_where (Some p) me s = control_in _ p me s
 
 -- statements at the terminal
-shown : (term : ℕ) (x : Result (List ℕ) ℕ) → IsLegalPlan (shows_bytes term x)
-shown term (Ok bytes) = tt
-shown term (Err code) = tt
+laid : (term : ℕ) (x : Result (List ℕ × ℕ) ℕ) → IsLegalPlan (shows_laid term x)
+laid term (Ok shown) = tt
+laid term (Err code) = tt
 
-line_asked : (prompted : Bool) (term : ℕ) (prompt : List ℕ) → IsLegalPlan (planned.Ask (asks_line prompted term prompt))
-line_asked true term prompt = tt
-line_asked false term prompt = tt
+shown : (column term : ℕ) (x : Result (List ℕ) ℕ) → IsLegalPlan (shows_bytes column term x)
+shown column term (Ok bytes) = tt
+shown column term (Err code) = tt
+
+line_asked : (prompted : Bool) (column term : ℕ) (prompt : List ℕ) → IsLegalPlan (planned.Ask (asks_line prompted column term prompt))
+line_asked true column term prompt = tt
+line_asked false column term prompt = tt
 
 asked : (r : ℕ) (t : Trees) (e : Context) (column : ℕ) (prompted : Bool) → IsLegalPlan (stmt_io.asked_of r t e column prompted)
 asked r t e column prompted =
-    by_if IsLegalPlan (r == row.PRINT) _ _ (shown e.around.term _)
-    (by_if IsLegalPlan (r == row.PRINTUSING) _ _ (shown e.around.term _)
+    by_if IsLegalPlan (r == row.PRINT) _ _ (laid e.around.term _)
+    (by_if IsLegalPlan (r == row.PRINTUSING) _ _ (shown column e.around.term _)
     (by_if IsLegalPlan (r == row.KEYIN) _ _ tt
-    (by_if IsLegalPlan (r == row.LINPUT) _ _ (line_asked prompted e.around.term _)
-    (by_if IsLegalPlan (r == row.INPUT) _ _ (line_asked prompted e.around.term _) tt))))
+    (by_if IsLegalPlan (r == row.LINPUT) _ _ (line_asked prompted column e.around.term _)
+    (by_if IsLegalPlan (r == row.INPUT) _ _ (line_asked prompted column e.around.term _) tt))))
 
 terminal_at : (u : Option Statement) (p : Place) (me : Private) (s : SeenLent) → Fine (stmt_io.course_at u p me s)
 terminal_at None p me s = tt

@@ -34,7 +34,7 @@ pub fn family_of(row: u16) -> Family
     }
 }
 
-/// What the statement of a unit plans, where it is one of control and asks for nothing.
+/// What the statement of a unit in a line of the program plans, but for one of control that asks for an access.
 pub fn plan_found(
     alloc: Global,
     me: &mut Private,
@@ -55,9 +55,16 @@ pub fn plan_found(
     ensures same { IfOk result (λ p. p ≡ None → me.new ≡ me.old) }
     ensures part { me.new.part ≡ me.old.part }
 {
-    if !b2_stmt::is_built(unit.row) || b2_stmt::asks_access(unit.row) {
-        return Ok(None);
+    if b2_stmt::is_built(unit.row) {
+        if b2_stmt::asks_access(unit.row) {
+            return Ok(None);
+        }
+        let outcome = b2_stmt::execute(alloc, me, own, home, line, unit, *place)?;
+        return Ok(Some(Planned::Done(outcome)));
     }
-    let outcome = b2_stmt::execute(alloc, me, own, home, line, unit, *place)?;
-    Ok(Some(Planned::Done(outcome)))
+    if b2_stmt_io::is_built(unit.row) {
+        let planned = b2_stmt_io::plan_found(alloc, me, home, unit)?;
+        return Ok(Some(planned));
+    }
+    Ok(None)
 }

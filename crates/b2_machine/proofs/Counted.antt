@@ -25,7 +25,7 @@ use Rattle.b2_machine.specs.Moving.{ends_by, error_place, faults, following_plac
 use Rattle.b2_machine.specs.Readiness.{halted, resets}
 use Rattle.b2_machine.specs.Statements.{begins_where, begun_by, builder_of, finish_by, finishes, plan_by}
 use Rattle.b2_machine.specs.Step.{acts, by_itself, enters_or_goes_on, executes, goes_through, halts_or_acts, line_read, runs_or_reads, seen_by, shows_or_goes_on, text_in, types_or_goes_on}
-use Rattle.b2_machine.specs.Typing.{on_own_line, put_by, shown_by, typed_by_key}
+use Rattle.b2_machine.specs.Typing.{put_by, shown_by, shows_pending, typed_by_key}
 use Rattle.b2_machine.specs.declared.ends.Stepped.{Stepped}
 use Rattle.b2_machine.specs.declared.ends.Why.{Why}
 use Rattle.b2_machine.specs.declared.ends.Why.TheVariants as reason
@@ -48,15 +48,15 @@ repeating (answer.Locked q) h = cc
 repeating (answer.Refused code) h = cc
 
 -- what waits to be shown, a literal, and a numbered line
-shown : (term : ℕ) (bytes : List ℕ) (a : Answer) (me : Private) → CountsOrEnds (shown_by (access.Show term bytes) a me).end
-shown term bytes answer.Done me = counting
-shown term bytes (answer.Line text) me = repeating (answer.Line text)
-shown term bytes (answer.Special n) me = repeating (answer.Special n)
-shown term bytes (answer.Key b) me = repeating (answer.Key b)
-shown term bytes answer.NoKeys me = repeating answer.NoKeys
-shown term bytes (answer.Wait q) me = repeating (answer.Wait q)
-shown term bytes (answer.Locked q) me = repeating (answer.Locked q)
-shown term bytes (answer.Refused code) me = repeating (answer.Refused code)
+shown : (text : List ℕ) (a : Answer) (me : Private) → CountsOrEnds (shown_by (shows_pending text me) a me).end
+shown text answer.Done me = counting
+shown text (answer.Line bytes) me = repeating (answer.Line bytes)
+shown text (answer.Special n) me = repeating (answer.Special n)
+shown text (answer.Key b) me = repeating (answer.Key b)
+shown text answer.NoKeys me = repeating answer.NoKeys
+shown text (answer.Wait q) me = repeating (answer.Wait q)
+shown text (answer.Locked q) me = repeating (answer.Locked q)
+shown text (answer.Refused code) me = repeating (answer.Refused code)
 
 typed : (a : Answer) (me : Private) → CountsOrEnds (typed_by_key a me).end
 typed answer.Done me = counting
@@ -134,7 +134,7 @@ module _ (ways : Ways) {M : Type 0} (store : M → StoreState) (serving : Servin
 
   show : (o : Option (List ℕ × List ℕ)) (me : Private) (m : M) → CountsOrEnds (shows_or_goes_on ways store serving lending o me m).end
   show None me m = type_ me.literal me m
-  show (Some bytes) me m = shown me.term (on_own_line me.term_column bytes.1) _ me
+  show (Some bytes) me m = shown bytes.1 _ me
 
   halt : (b : Bool) (me : Private) (m : M) → CountsOrEnds (if b then acts ways store serving lending (record me { halt = false }) m else by_itself store serving lending (halted me) m).end
   halt true me m = show me.pending (record me { halt = false }) m

@@ -43,7 +43,7 @@ use Rattle.b2_stmt_io.specs.Marks.{typed_by_mark}
 use Rattle.b2_access.specs.declared.lending.At.TheVariants as at
 use Rattle.b2_access.proofs.Choice.{either}
 use Rattle.b2_machine.specs.Step.{acts, by_itself, halts_or_acts, enters_or_goes_on, executes, goes_through, line_read, runs_or_reads, seen_by, shows_or_goes_on, step, text_in, types_or_goes_on}
-use Rattle.b2_machine.specs.Typing.{on_own_line, put_by, shown_by, takes, takes_or_refuses, typed_by_key}
+use Rattle.b2_machine.specs.Typing.{put_by, shown_by, shows_pending, takes, takes_or_refuses, typed_by_key}
 use Rattle.b2_machine.specs.Turn.{TurnEnd, counted_on, ended_turn as turn_ended, turn, turn_from, unless_ended}
 use Rattle.b2_machine.specs.declared.ends.Stepped.{Stepped}
 use Rattle.b2_machine.specs.declared.ends.Why.{Why}
@@ -142,14 +142,14 @@ module _ (ways : Ways) (lawful : AreLawful ways) (p : Place) where
   plans builder.Nobody me s h = (h.0, λ r. inl (h.1 r))
 
   shown_here : (x : Access) (a : Answer) (me : Private) → Here me → EndedHere (shown x a me).me (shown x a me).outcome
-  shown_here (access.Show term shown_bytes) answer.Done me h = (h.0, λ r. inl (h.1 r))
-  shown_here (access.Show term shown_bytes) (answer.Line bytes) me h = (h.0, λ r. inl (h.1 r))
-  shown_here (access.Show term shown_bytes) (answer.Special n) me h = (h.0, λ r. inl (h.1 r))
-  shown_here (access.Show term shown_bytes) (answer.Key b) me h = (h.0, λ r. inl (h.1 r))
-  shown_here (access.Show term shown_bytes) answer.NoKeys me h = (h.0, λ r. inl (h.1 r))
-  shown_here (access.Show term shown_bytes) (answer.Wait q) me h = (h.0, λ r. inl (h.1 r))
-  shown_here (access.Show term shown_bytes) (answer.Locked q) me h = (h.0, λ r. inl (h.1 r))
-  shown_here (access.Show term shown_bytes) (answer.Refused code) me h = (h.0, λ r. inl (h.1 r))
+  shown_here (access.Show term shown_bytes column) answer.Done me h = (h.0, λ r. inl (h.1 r))
+  shown_here (access.Show term shown_bytes column) (answer.Line bytes) me h = (h.0, λ r. inl (h.1 r))
+  shown_here (access.Show term shown_bytes column) (answer.Special n) me h = (h.0, λ r. inl (h.1 r))
+  shown_here (access.Show term shown_bytes column) (answer.Key b) me h = (h.0, λ r. inl (h.1 r))
+  shown_here (access.Show term shown_bytes column) answer.NoKeys me h = (h.0, λ r. inl (h.1 r))
+  shown_here (access.Show term shown_bytes column) (answer.Wait q) me h = (h.0, λ r. inl (h.1 r))
+  shown_here (access.Show term shown_bytes column) (answer.Locked q) me h = (h.0, λ r. inl (h.1 r))
+  shown_here (access.Show term shown_bytes column) (answer.Refused code) me h = (h.0, λ r. inl (h.1 r))
   shown_here (access.ReadLine term) a me h = (h.0, λ r. inl (h.1 r))
   shown_here (access.Insert term bytes) a me h = (h.0, λ r. inl (h.1 r))
   shown_here (access.Key term) a me h = (h.0, λ r. inl (h.1 r))
@@ -199,15 +199,15 @@ module _ (ways : Ways) (lawful : AreLawful ways) (p : Place) where
 
 -- output and literals, as they wait
 module _ where
-  pending_keeps : (term : ℕ) (bytes : List ℕ) (a : Answer) (me : Private) → KeepsNone me → KeepsNone (shown_by (access.Show term bytes) a me).me
-  pending_keeps term shown_bytes answer.Done me h = h
-  pending_keeps term shown_bytes (answer.Line bytes) me h = h
-  pending_keeps term shown_bytes (answer.Special n) me h = h
-  pending_keeps term shown_bytes (answer.Key b) me h = h
-  pending_keeps term shown_bytes answer.NoKeys me h = h
-  pending_keeps term shown_bytes (answer.Wait q) me h = h
-  pending_keeps term shown_bytes (answer.Locked q) me h = h
-  pending_keeps term shown_bytes (answer.Refused code) me h = h
+  pending_keeps : (text : List ℕ) (a : Answer) (me : Private) → KeepsNone me → KeepsNone (shown_by (shows_pending text me) a me).me
+  pending_keeps text answer.Done me h = h
+  pending_keeps text (answer.Line bytes) me h = h
+  pending_keeps text (answer.Special n) me h = h
+  pending_keeps text (answer.Key b) me h = h
+  pending_keeps text answer.NoKeys me h = h
+  pending_keeps text (answer.Wait q) me h = h
+  pending_keeps text (answer.Locked q) me h = h
+  pending_keeps text (answer.Refused code) me h = h
 
   literal_keeps : (a : Answer) (me : Private) → KeepsNone me → KeepsNone (typed_by_key a me).me
   literal_keeps answer.Done me h = h
@@ -277,7 +277,7 @@ module _ (ways : Ways) (lawful : AreLawful ways) {M : Type 0} (store : M → Sto
 
   show_keeps : (o : Option (List ℕ × List ℕ)) (me : Private) (m : M) → KeepsNone me → KeepsNone (shows_or_goes_on ways store serving lending o me m).me
   show_keeps None me m h = type_keeps me.literal me m h
-  show_keeps (Some shown) me m h = pending_keeps me.term (on_own_line me.term_column shown.1) _ me h
+  show_keeps (Some shown) me m h = pending_keeps shown.1 _ me h
 
   halt_keeps : (b : Bool) (me : Private) (m : M) → KeepsNone me → KeepsNone (if b then acts ways store serving lending (record me { halt = false }) m else by_itself store serving lending (halted me) m).me
   halt_keeps true me m h = show_keeps me.pending (record me { halt = false }) m h

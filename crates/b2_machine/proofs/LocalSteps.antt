@@ -25,7 +25,7 @@ use Rattle.b2_machine.specs.Readiness.{halted, resets}
 use Rattle.b2_machine.specs.Statements.{Begun, begins, finishes}
 use Rattle.b2_machine.specs.Step.{StepEnd, acts, carries_out, enters_or_goes_on, executes, halts_or_acts, lent, line_read, no_text, reads_line, runs_or_reads, seen_by, shows_or_goes_on, text_in, types_or_goes_on}
 use Rattle.b2_machine.specs.Touched.{Asking, GoesLocally, StepsAreLocal, access_asked, asks_as_it_acts, asks_at, asks_one, asks_to_enter, asks_to_show, asks_to_type, asks_unless_halted, begun_asks, touched_by, written_for}
-use Rattle.b2_machine.specs.Typing.{on_own_line, put_by, puts_numbered, shown_by, typed_by_key}
+use Rattle.b2_machine.specs.Typing.{put_by, puts_numbered, shown_by, shows_pending, typed_by_key}
 use Rattle.b2_machine.specs.declared.ends.Stepped.{Stepped}
 use Rattle.b2_machine.specs.declared.statements.Builder.{Builder}
 use Rattle.b2_machine.specs.declared.statements.Course.{Course}
@@ -213,7 +213,7 @@ module _ (ways : Ways) {M : Type 0} (store : M → StoreState) (serving : Servin
 
   by_output : (x : Option (List ℕ × List ℕ)) (me : Private) → Goes me.part (λ s. asks_to_show ways x me s) (λ m. shows_or_goes_on ways store serving lending x me m)
   by_output (Some shown) me =
-      let a = access.Show me.term (on_own_line me.term_column shown.1) in by_answer me a (λ x. shown_by a x me)
+      let a = shows_pending shown.1 me in by_answer me a (λ x. shown_by a x me)
   by_output None me = by_literal me.literal me
 
   by_acting : (me : Private) → Goes me.part (λ s. asks_as_it_acts ways me s) (λ m. acts ways store serving lending me m)

@@ -47,13 +47,13 @@ use Rattle.b2_machine.specs.Readiness.{halted, readies, resets, without_immediat
 use Rattle.b2_machine.specs.Statements.{begins, begins_where, begun_by, builder_of, finish_by, finishes, plan_by}
 use Rattle.b2_machine.specs.Step.{StepEnd, carries_out, enters_or_goes_on, halts_or_acts, lent, line_read, runs_or_reads, seen_by, shows_or_goes_on, step, text_in, types_or_goes_on}
 use Rattle.b2_machine.specs.Touched.{Asking, StepsStayWithin, asking, asks_at, asks_to_enter, asks_to_show, asks_to_type, asks_unless_halted}
-use Rattle.b2_machine.specs.Typing.{line_taken, on_own_line, put_by, shown_by, takes, takes_or_refuses, typed_by_key}
+use Rattle.b2_machine.specs.Typing.{line_taken, put_by, shown_by, shows_pending, takes, takes_or_refuses, typed_by_key}
 use Rattle.b2_machine.specs.declared.ends.Stepped.{Stepped}
 use Rattle.b2_machine.specs.declared.statements.Builder.{Builder}
 use Rattle.b2_machine.specs.declared.statements.Builder.TheVariants as builder
 use Rattle.b2_machine.specs.declared.statements.Course.{Course}
 use Rattle.b2_machine.specs.declared.statements.Course.TheVariants as course
-use Rattle.b2_stmt_io.specs.Showing.{shown}
+use Rattle.b2_stmt_io.specs.Showing.{shown, shows_from}
 
 true_is_false : true ≡ false → ⊥
 true_is_false h = cc
@@ -81,7 +81,7 @@ module _ (ways : Ways) (lawful : AreLawful ways) (among : ℕ → Bool) where
 
   -- what is shown, typed and entered
   shown_in : (x : Access) (a : Answer) (me : Private) → Within me → EndIn (shown_by x a me)
-  shown_in (access.Show term bytes) answer.Done me w = record { part = w.part; place = w.place; kept = w.kept; frames = w.frames }
+  shown_in (access.Show term bytes column) answer.Done me w = record { part = w.part; place = w.place; kept = w.kept; frames = w.frames }
   shown_in x a me w = w
 
   typed_in : (a : Answer) (me : Private) → Within me → EndIn (typed_by_key a me)
@@ -173,12 +173,12 @@ module _ (ways : Ways) (lawful : AreLawful ways) (among : ℕ → Bool) where
   abbrev PlanningIn : Planning → Type 0
   PlanningIn x = IsWithin among x.me × PlannedIn among x.planned
 
-  show_marks_none : (term : ℕ) (bytes : List ℕ) → HomesIn among (access.Show term bytes)
-  show_marks_none term bytes h is = absurd (true_is_false (sym is ∙ ap (λ (n : ℕ). n % 2 == 1) (zero-div (2 ^ (h - 1)))))
+  show_marks_none : (column term : ℕ) (bytes : List ℕ) → HomesIn among (shows_from column term bytes)
+  show_marks_none column term bytes h is = absurd (true_is_false (sym is ∙ ap (λ (n : ℕ). n % 2 == 1) (zero-div (2 ^ (h - 1)))))
 
   listed_in : (b : Bool) (range : ℕ × ℕ) (me : Private) (s : SeenLent) → Within me → PlanningIn (lists b range me s)
   listed_in true range me s w = (w, tt)
-  listed_in false range me s w = (w, show_marks_none me.term (range_listed range s.own.lines))
+  listed_in false range me s w = (w, show_marks_none me.term_column me.term (range_listed range s.own.lines))
 
   planned_in : (b : Builder) (p : Place) (me : Private) (s : SeenLent) → Within me → PlanningIn (plan_by ways b p me s)
   planned_in (builder.Listing from to) p me s w = listed_in (is_some p.line) (from, to) me s w
@@ -199,7 +199,7 @@ module _ (ways : Ways) (lawful : AreLawful ways) (among : ℕ → Bool) where
   FinishingIn x = IsWithin among x.me × OutcomeIn among x.outcome
 
   show_ended : (x : Access) (a : Answer) (me : Private) → Within me → IsWithin among (shown x a me).me × OutcomeIn among (shown x a me).outcome
-  show_ended (access.Show term bytes) answer.Done me w = (record { part = w.part; place = w.place; kept = w.kept; frames = w.frames }, tt)
+  show_ended (access.Show term bytes column) answer.Done me w = (record { part = w.part; place = w.place; kept = w.kept; frames = w.frames }, tt)
   show_ended x a me w = (w, tt)
 
   finish_in : (b : Builder) (x : Access) (a : Answer) (me : Private) (s : SeenLent) → Within me → FinishingIn (finish_by ways b x a me s)
@@ -246,7 +246,7 @@ module _ (ways : Ways) (lawful : AreLawful ways) (among : ℕ → Bool) where
     at_literal None me m w = at_number me.numbered me m w
 
     at_output : (x : Option (List ℕ × List ℕ)) (me : Private) (m : M) → Within me → StepIn (shows_or_goes_on ways store serving lending x me m) (asks_to_show ways x me (store m))
-    at_output (Some text) me m w = (shown_in (access.Show me.term (on_own_line me.term_column text.1)) _ me w, w.part)
+    at_output (Some text) me m w = (shown_in (shows_pending text.1 me) _ me w, w.part)
     at_output None me m w = at_literal me.literal me m w
 
     at_halt : (me : Private) (m : M) → Within me → StepIn (halts_or_acts ways store serving lending me m) (asks_unless_halted ways me (store m))

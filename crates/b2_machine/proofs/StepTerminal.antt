@@ -31,7 +31,7 @@ use Rattle.b2_access.proofs.Choice.{either}
 use Rattle.b2_access.proofs.OwnTerminal.{names_none, names_own}
 use Rattle.b2_language.specs.Languages.{AreLawful, Ways}
 use Rattle.b2_stmt_io.specs.Marks.{typed_by_mark}
-use Rattle.b2_stmt_io.specs.Showing.{shown}
+use Rattle.b2_stmt_io.specs.Showing.{shown, shows_from}
 use Rattle.b2_machine.specs.Endings.{counts, repeats}
 use Rattle.b2_machine.specs.Keys.{calls_where, pressed_by}
 use Rattle.b2_machine.specs.Listed.{range_listed, lists}
@@ -39,7 +39,7 @@ use Rattle.b2_machine.specs.Moving.{ends_by, error_place, faults, goes_to, jumps
 use Rattle.b2_machine.specs.Statements.{Begun, begins, begins_where, begun_by, builder_of, finish_by, finishes, plan_by}
 use Rattle.b2_machine.specs.Step.{StepEnd, carries_out, enters_or_goes_on, halts_or_acts, lent, line_read, runs_or_reads, seen_by, shows_or_goes_on, step, text_in, types_or_goes_on}
 use Rattle.b2_machine.specs.Touched.{Asking, StepsAskAtTerminal, access_asked, asking, asks_at, asks_to_enter, asks_to_show, asks_to_type, asks_unless_halted}
-use Rattle.b2_machine.specs.Typing.{on_own_line, put_by, puts_numbered, shown_by, takes, takes_or_refuses, typed_by_key}
+use Rattle.b2_machine.specs.Typing.{put_by, puts_numbered, shown_by, shows_pending, takes, takes_or_refuses, typed_by_key}
 use Rattle.b2_machine.specs.declared.ends.Stepped.{Stepped}
 use Rattle.b2_machine.specs.declared.statements.Builder.{Builder}
 use Rattle.b2_machine.specs.declared.statements.Builder.TheVariants as builder
@@ -52,7 +52,7 @@ SameTerminal me after = after.term ≡ me.term
 
 -- what is shown, typed and entered
 shown_stays : (x : Access) (a : Answer) (me : Private) → SameTerminal me (shown_by x a me).me
-shown_stays (access.Show term bytes) answer.Done me = refl
+shown_stays (access.Show term bytes column) answer.Done me = refl
 shown_stays x a me = refl
 
 typed_stays : (a : Answer) (me : Private) → SameTerminal me (typed_by_key a me).me
@@ -111,7 +111,7 @@ PlanningAt t x = (x.me.term ≡ t) × PlannedAt t x.planned
 
 listed_at : (b : Bool) (range : ℕ × ℕ) (me : Private) (s : SeenLent) → PlanningAt me.term (lists b range me s)
 listed_at true range me s = (refl, tt)
-listed_at false range me s = (refl, names_own me.term (access.Show me.term (range_listed range s.own.lines)) refl)
+listed_at false range me s = (refl, names_own me.term (shows_from me.term_column me.term (range_listed range s.own.lines)) refl)
 
 planned_at : (ways : Ways) (lawful : AreLawful ways) (b : Builder) (p : Place) (me : Private) (s : SeenLent) → PlanningAt me.term (plan_by ways b p me s)
 planned_at ways lawful (builder.Listing from to) p me s = listed_at (is_some p.line) (from, to) me s
@@ -133,7 +133,7 @@ begins_at ways lawful (Some u) p me s =
     begun_at me.term x.planned (builder_of ways u) p x.me s.home.lines h.0 h.1
 
 list_stays : (x : Access) (a : Answer) (me : Private) → SameTerminal me (shown x a me).me
-list_stays (access.Show term bytes) answer.Done me = refl
+list_stays (access.Show term bytes column) answer.Done me = refl
 list_stays x a me = refl
 
 finish_stays : (ways : Ways) (lawful : AreLawful ways) (b : Builder) (x : Access) (a : Answer) (me : Private) (s : SeenLent) → SameTerminal me (finish_by ways b x a me s).me
@@ -185,7 +185,7 @@ module _ (ways : Ways) (lawful : AreLawful ways) {M : Type 0} (store : M → Sto
 
   at_output : (x : Option (List ℕ × List ℕ)) (me : Private) (m : M) → StepAt me.term (shows_or_goes_on ways store serving lending x me m) (asks_to_show ways x me (store m))
   at_output (Some text) me m =
-      let a = access.Show me.term (on_own_line me.term_column text.1) in
+      let a = shows_pending text.1 me in
       (shown_stays a (serving m me.part a).answer me, names_own me.term a refl)
   at_output None me m = at_literal me.literal me m
 

@@ -29,7 +29,7 @@ use Rattle.b2_machine.specs.Moving.{ends_by, error_place, faults, following_plac
 use Rattle.b2_machine.specs.Readiness.{halted, resets}
 use Rattle.b2_machine.specs.Statements.{begins_where, begun_by, builder_of, finish_by, finishes, plan_by}
 use Rattle.b2_machine.specs.Step.{acts, by_itself, enters_or_goes_on, executes, goes_through, halts_or_acts, line_read, runs_or_reads, seen_by, shows_or_goes_on, text_in, types_or_goes_on}
-use Rattle.b2_machine.specs.Typing.{on_own_line, put_by, shown_by, typed_by_key}
+use Rattle.b2_machine.specs.Typing.{put_by, shown_by, shows_pending, typed_by_key}
 use Rattle.b2_machine.specs.declared.ends.Stepped.{Stepped}
 use Rattle.b2_machine.specs.declared.ends.Why.TheVariants as reason
 use Rattle.b2_machine.specs.declared.statements.Builder.{Builder}
@@ -50,15 +50,15 @@ module _ (ways : Ways) (lawful : AreLawful ways) (before : Private) where
   abbrev Unless : Stepped → Private → Type 0
   Unless e me = e.counted ≡ false → me ≡ before
 
-  shown : (term : ℕ) (bytes : List ℕ) (a : Answer) → Unless (shown_by (access.Show term bytes) a before).end (shown_by (access.Show term bytes) a before).me
-  shown term bytes answer.Done h = cc
-  shown term bytes (answer.Line text) h = refl
-  shown term bytes (answer.Special n) h = refl
-  shown term bytes (answer.Key b) h = refl
-  shown term bytes answer.NoKeys h = refl
-  shown term bytes (answer.Wait q) h = refl
-  shown term bytes (answer.Locked q) h = refl
-  shown term bytes (answer.Refused code) h = refl
+  shown : (text : List ℕ) (a : Answer) → Unless (shown_by (shows_pending text before) a before).end (shown_by (shows_pending text before) a before).me
+  shown text answer.Done h = cc
+  shown text (answer.Line bytes) h = refl
+  shown text (answer.Special n) h = refl
+  shown text (answer.Key b) h = refl
+  shown text answer.NoKeys h = refl
+  shown text (answer.Wait q) h = refl
+  shown text (answer.Locked q) h = refl
+  shown text (answer.Refused code) h = refl
 
   typed : (a : Answer) → Unless (typed_by_key a before).end (typed_by_key a before).me
   typed answer.Done h = cc
@@ -155,7 +155,7 @@ module _ (ways : Ways) (lawful : AreLawful ways) (before : Private) where
 
     show : (o : Option (List ℕ × List ℕ)) (m : M) → Unless (shows_or_goes_on ways store serving lending o before m).end (shows_or_goes_on ways store serving lending o before m).me
     show None m = type_ before.literal m
-    show (Some bytes) m = shown before.term (on_own_line before.term_column bytes.1) _
+    show (Some bytes) m = shown bytes.1 _
 
 module _ (ways : Ways) (lawful : AreLawful ways) {M : Type 0} (store : M → StoreState) (serving : ServingOf M) (lending : Loan M) where
   -- but for the flag of a halt

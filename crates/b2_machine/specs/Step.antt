@@ -22,7 +22,7 @@ use Rattle.b2_machine.specs.Statements.{Begun, begins, finishes}
 use Rattle.b2_machine.specs.declared.statements.Builder.{Builder}
 use Rattle.b2_machine.specs.declared.statements.Course.{Course}
 use Rattle.b2_machine.specs.declared.statements.Course.TheVariants as course
-use Rattle.b2_machine.specs.Typing.{line_taken, on_own_line, put_by, puts_numbered, shown_by, typed_by_key}
+use Rattle.b2_machine.specs.Typing.{line_taken, put_by, puts_numbered, shown_by, shows_pending, typed_by_key}
 use Rattle.b2_machine.specs.declared.ends.Stepped.{Stepped}
 
 -- a step, the private state after it, and what the store then means
@@ -61,9 +61,6 @@ module _ {M : Type 0} (store : M → StoreState) (serving : ServingOf M) (lendin
   -- the third rule: output that is pending is shown, on a line of its own
   abbrev pub shows : Access → Private → M → StepEnd M
   shows x me m = asks_for x (λ a. shown_by x a me) me m
-
-  abbrev pub shows_pending : List ℕ → Private → M → StepEnd M
-  shows_pending text me m = shows (access.Show me.term (on_own_line me.term_column text)) me m
 
   -- the fourth: a literal is typed
   abbrev pub types_literal : List ℕ → Private → M → StepEnd M
@@ -115,7 +112,7 @@ module _ (ways : Ways) {M : Type 0} (store : M → StoreState) (serving : Servin
   types_or_goes_on None me m = enters_or_goes_on me.numbered me m
 
   abbrev pub shows_or_goes_on : Option (List ℕ × List ℕ) → Private → M → StepEnd M
-  shows_or_goes_on (Some shown) me m = shows_pending store serving lending shown.1 me m
+  shows_or_goes_on (Some shown) me m = shows store serving lending (shows_pending shown.1 me) me m
   shows_or_goes_on None me m = types_or_goes_on me.literal me m
 
   abbrev pub acts : Private → M → StepEnd M

@@ -16,7 +16,7 @@ use Rattle.b2_access.specs.declared.private.Private.{Private}
 use Rattle.b2_language.specs.Languages.{Ways}
 use Rattle.b2_machine.specs.Statements.{Begun, begins}
 use Rattle.b2_machine.specs.Step.{StepEnd, seen_by, step}
-use Rattle.b2_machine.specs.Typing.{on_own_line, puts_numbered}
+use Rattle.b2_machine.specs.Typing.{puts_numbered, shows_pending}
 use Rattle.b2_machine.specs.declared.statements.Course.{Course}
 use Rattle.b2_machine.specs.declared.statements.Course.TheVariants as course
 
@@ -56,7 +56,7 @@ asks_to_type ways None me s = asks_to_enter ways me.numbered me s
 
 -- the third: pending output is shown
 abbrev pub asks_to_show : Ways → Option (List ℕ × List ℕ) → Private → StoreState → Asking
-asks_to_show ways (Some shown) me s = asks_one (access.Show me.term (on_own_line me.term_column shown.1)) me
+asks_to_show ways (Some shown) me s = asks_one (shows_pending shown.1 me) me
 asks_to_show ways None me s = asks_to_type ways me.literal me s
 
 abbrev pub asks_as_it_acts : Ways → Private → StoreState → Asking

@@ -13,7 +13,7 @@ use Rattle.b2_access.specs.declared.accesses.Answer.{Answer}
 use Rattle.b2_access.specs.declared.accesses.Answer.TheVariants as answer
 use Rattle.b2_access.specs.declared.private.Private.{Private}
 use Rattle.b2_stmt.specs.Calls.{without_frames}
-use Rattle.b2_stmt_io.specs.Showing.{with_column}
+use Rattle.b2_stmt_io.specs.Showing.{shows_from}
 use Rattle.b2_machine.specs.Endings.{Ending, again, carries_on}
 use Rattle.b2_machine.specs.Messages.{column_text}
 use Rattle.b2_machine.specs.Readiness.{prompts, refuses}
@@ -22,9 +22,12 @@ use Rattle.b2_machine.specs.Readiness.{prompts, refuses}
 abbrev pub on_own_line : ℕ → List ℕ → List ℕ
 on_own_line column text = if column == 0 then text else byte.newline ∷ text
 
+abbrev pub shows_pending : List ℕ → Private → Access
+shows_pending text me = shows_from me.term_column me.term (on_own_line me.term_column text)
+
 -- it was shown at the terminal, the only device so far; with any other answer it waits on
 abbrev pub shown_by : Access → Answer → Private → Ending
-shown_by (access.Show term shown) answer.Done me = carries_on (record (with_column shown me) { pending = None })
+shown_by (access.Show term shown column) answer.Done me = carries_on (record me { term_column = column; pending = None })
 shown_by x a me = again a me
 
 -- the literal of a special function key was typed; with any other answer it waits on

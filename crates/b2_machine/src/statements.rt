@@ -89,10 +89,8 @@ fn plan_list(
     if place.line.is_some() {
         return Ok(Planned::Done(failed(S26_PROGRAM_ONLY)));
     }
-    Ok(Planned::Ask(Access::Show {
-        term: me.term,
-        bytes: range_listed(alloc, own, from, to)?,
-    }))
+    let listed = range_listed(alloc, own, from, to)?;
+    Ok(Planned::Ask(b2_stmt_io::show_from(me.term_column, me.term, listed)))
 }
 
 /// What the statement at a place plans.

@@ -5,6 +5,7 @@ ghost use Rattle.b2_access.specs.Touching.{IsLegal};
 ghost use Rattle.b2_machine.specs.Statements.{begins};
 ghost use Rattle.b2_machine.specs.Stays.{KeepsAll, IsLegalCourse};
 ghost use Rattle.b2_machine.specs.Step as spec;
+ghost use Rattle.b2_stmt_io.specs.Showing.{shows_from};
 
 use crate::ends::{Stepped, counts, repeats};
 use crate::keys::press_over;
@@ -17,6 +18,7 @@ use b2_access::{Access, Answer, At, DeviceTable, Object, Private, Shared};
 use b2_base::{ByteList, NoMemory, Part};
 use b2_flow::Place;
 use b2_language::Language;
+use b2_stmt_io::show_from;
 use std::alloc::Global;
 
 /// An access of a partition is served.
@@ -31,15 +33,12 @@ fn ask_store<S: Shared>(s: &mut S, who: Part, access: &Access) -> Result<Answer,
 
 /// Pending output is shown.
 fn show<S: Shared>(me: &mut Private, s: &mut S, shown: ByteList) -> Result<Stepped, NoMemory>
-    ensures ended { IfOk result (λ e. record { me = me.new; after = S.meaning s.new; end = e } ≡ spec.shows S.store S.serving S.lending (Access.Show me.old.term shown) me.old (S.meaning s.old)) }
+    ensures ended { IfOk result (λ e. record { me = me.new; after = S.meaning s.new; end = e } ≡ spec.shows S.store S.serving S.lending (shows_from me.old.term_column me.old.term shown) me.old (S.meaning s.old)) }
     ensures same { S.holds s.new ≡ S.holds s.old }
     ensures part { me.new.part ≡ me.old.part }
     ensures listed { OnOk result (KeepsAll (S.store (S.meaning s.old)) (S.store (S.meaning s.new))) }
 {
-    let access = Access::Show {
-        term: me.term,
-        bytes: shown,
-    };
+    let access = show_from(me.term_column, me.term, shown);
     let answer = ask_store(s, me.part, &access)?;
     Ok(after_pending(me, &access, &answer))
 }

@@ -11,7 +11,6 @@ use b2_base::codes::A08_TEXT_BORROWED;
 use b2_base::{ByteList, Code, NoMemory};
 use b2_flow::Place;
 use b2_stmt::drop_frames;
-use b2_stmt_io::move_column;
 use b2_syntax::{Entered, LineErr, read};
 use std::alloc::Global;
 
@@ -33,9 +32,9 @@ pub fn after_pending(me: &mut Private, access: &Access, answer: &Answer) -> Step
     ensures part { me.new.part ≡ me.old.part }
 {
     match (access, answer) {
-        (Access::Show { bytes, .. }, Answer::Done) => {
+        (Access::Show { column, .. }, Answer::Done) => {
             me.pending = None;
-            move_column(me, bytes.bytes());
+            me.term_column = *column;
             counts()
         }
         _ => repeats(answer),

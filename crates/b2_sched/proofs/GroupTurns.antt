@@ -98,7 +98,7 @@ module _ (g : Group) where
     none_out (x ∷ xs) o h i bad = elim i [ inl e ↦ h.0 (subst out e bad) | inr j ↦ none_out xs o h.1 j bad ]
 
     accessed : (who : ℕ) (a : Access) (s : StoreState) → g who ≡ true → NoneOut (touched s who a)
-    accessed who (access.Show term bytes) s member = (is_out.terminals term, tt)
+    accessed who (access.Show term bytes column) s member = (is_out.terminals term, tt)
     accessed who (access.ReadLine term) s member = (is_out.terminals term, tt)
     accessed who (access.Insert term bytes) s member = (is_out.terminals term, tt)
     accessed who (access.Key term) s member = (is_out.terminals term, tt)

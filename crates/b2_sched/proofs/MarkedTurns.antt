@@ -27,7 +27,7 @@ use Rattle.b2_machine.specs.Statements.{begins}
 use Rattle.b2_machine.specs.Step.{StepEnd, acts, carries_out, enters_or_goes_on, executes, halts_or_acts, line_read, reads_line, runs_or_reads, seen_by, shows_or_goes_on, step, types_or_goes_on}
 use Rattle.b2_machine.specs.Touched.{Asking, access_asked, asking, asks_at, asks_nothing, asks_one, asks_to_enter, asks_to_show, asks_to_type, asks_unless_halted, step_touched, step_written, touched_by, written_for, written_where}
 use Rattle.b2_machine.specs.Turn.{TurnEnd, counted_on, ended_turn, turn_from, unless_ended}
-use Rattle.b2_machine.specs.Typing.{on_own_line, put_by, puts_numbered, shown_by, typed_by_key}
+use Rattle.b2_machine.specs.Typing.{put_by, puts_numbered, shown_by, shows_pending, typed_by_key}
 use Rattle.b2_machine.specs.declared.ends.Why.{Why}
 use Rattle.b2_machine.specs.declared.statements.Course.{Course}
 use Rattle.b2_machine.specs.declared.statements.Course.TheVariants as course
@@ -128,7 +128,7 @@ by_literal (Some text) me = by_answer me (access.Insert me.term text) (λ a. typ
 by_literal None me = by_number me.numbered me
 
 by_output : (x : Option (List ℕ × List ℕ)) (me : Private) → IsMarkedBy me.part (λ s. asks_to_show basic x me s) (λ s. shows_or_goes_on basic itself serves after_loan x me s) (λ m. shows_or_goes_on basic store_in (watching itself serves) (watched_loan after_loan) x me m)
-by_output (Some text) me = by_answer me (access.Show me.term (on_own_line me.term_column text.1)) (λ a. shown_by (access.Show me.term (on_own_line me.term_column text.1)) a me)
+by_output (Some text) me = by_answer me (shows_pending text.1 me) (λ a. shown_by (shows_pending text.1 me) a me)
 by_output None me = by_literal me.literal me
 
 by_halt : (me : Private) → IsMarkedBy me.part (λ s. asks_unless_halted basic me s) (λ s. halts_or_acts basic itself serves after_loan me s) (λ m. halts_or_acts basic store_in (watching itself serves) (watched_loan after_loan) me m)

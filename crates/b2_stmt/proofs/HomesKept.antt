@@ -420,7 +420,7 @@ module _ (among : ℕ → Bool) where
   unfolding EndedIn
   finishes_in (access.ClearAll name homes) a me w = edited_in a (cleared me) me (record { part = w.part; place = w.place; kept = tt; frames = tt }) w
   finishes_in (access.Erase from to homes) a me w = edited_in a _ me (record { part = w.part; place = w.place; kept = tt; frames = tt }) w
-  finishes_in (access.Show term bytes) a me w = (w, tt)
+  finishes_in (access.Show term bytes column) a me w = (w, tt)
   finishes_in (access.ReadLine term) a me w = (w, tt)
   finishes_in (access.Insert term bytes) a me w = (w, tt)
   finishes_in (access.Key term) a me w = (w, tt)

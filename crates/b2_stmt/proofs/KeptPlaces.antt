@@ -245,7 +245,7 @@ module _ (here : Option Place × ℕ) (matters : Bool) where
   unfolding KeepsNothing
   finishing (access.ClearAll name homes) a me k = edits a (cleared me) me (k.0, λ r. refl) k
   finishing (access.Erase from to homes) a me k = edits a _ me (k.0, λ r. refl) k
-  finishing (access.Show term bytes) a me k = (k.0, λ r. inl (k.1 r))
+  finishing (access.Show term bytes column) a me k = (k.0, λ r. inl (k.1 r))
   finishing (access.ReadLine term) a me k = (k.0, λ r. inl (k.1 r))
   finishing (access.Insert term bytes) a me k = (k.0, λ r. inl (k.1 r))
   finishing (access.Key term) a me k = (k.0, λ r. inl (k.1 r))

@@ -65,7 +65,7 @@ after_edit (answer.Refused code) after me h = refl
 after_access : (x : Access) (a : Answer) (me : Private) → delays a ≡ true → (edit_finishes x a me).me ≡ me
 after_access (access.ClearAll name homes) a me h = after_edit a (cleared me) me h
 after_access (access.Erase from to homes) a me h = after_edit a (without_frames me) me h
-after_access (access.Show term bytes) a me h = refl
+after_access (access.Show term bytes column) a me h = refl
 after_access (access.ReadLine term) a me h = refl
 after_access (access.Insert term bytes) a me h = refl
 after_access (access.Key term) a me h = refl

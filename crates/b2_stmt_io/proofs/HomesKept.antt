@@ -54,7 +54,7 @@ module _ (among : ℕ → Bool) where
   asked_in : (r : ℕ) (t : Trees) (e : Context) (column : ℕ) (prompted : Bool) → PlannedIn among (asked_of r t e column prompted)
   asked_in r t e column prompted =
       let term = e.around.term in
-      each_asked (PlannedIn among) e (λ code. tt) (λ bytes. no_mark (access.Show term bytes) refl) (no_mark (access.ReadLine term) refl) (no_mark (access.Key term) refl) r t column prompted
+      each_asked (PlannedIn among) e (λ code. tt) (λ bytes column. no_mark (access.Show term bytes column) refl) (no_mark (access.ReadLine term) refl) (no_mark (access.Key term) refl) r t column prompted
 
   PlanningIn : Planning → Type 0
   PlanningIn p = IsWithin among p.me × PlannedIn among p.planned
@@ -89,14 +89,14 @@ module _ (among : ℕ → Bool) where
   -- how PRINT and PRINTUSING finish
   shown_in : (x : Access) (a : Answer) (me : Private) → Within me → EndedIn (shown x a me)
   unfolding EndedIn
-  shown_in (access.Show term bytes) answer.Done me w = (record { part = w.part; place = w.place; kept = w.kept; frames = w.frames }, tt)
-  shown_in (access.Show term shown) (answer.Line bytes) me w = (w, tt)
-  shown_in (access.Show term shown) (answer.Special n) me w = (w, tt)
-  shown_in (access.Show term shown) (answer.Key b) me w = (w, tt)
-  shown_in (access.Show term shown) answer.NoKeys me w = (w, tt)
-  shown_in (access.Show term shown) (answer.Wait q) me w = (w, tt)
-  shown_in (access.Show term shown) (answer.Locked q) me w = (w, tt)
-  shown_in (access.Show term shown) (answer.Refused code) me w = (w, tt)
+  shown_in (access.Show term bytes column) answer.Done me w = (record { part = w.part; place = w.place; kept = w.kept; frames = w.frames }, tt)
+  shown_in (access.Show term shown column) (answer.Line bytes) me w = (w, tt)
+  shown_in (access.Show term shown column) (answer.Special n) me w = (w, tt)
+  shown_in (access.Show term shown column) (answer.Key b) me w = (w, tt)
+  shown_in (access.Show term shown column) answer.NoKeys me w = (w, tt)
+  shown_in (access.Show term shown column) (answer.Wait q) me w = (w, tt)
+  shown_in (access.Show term shown column) (answer.Locked q) me w = (w, tt)
+  shown_in (access.Show term shown column) (answer.Refused code) me w = (w, tt)
   shown_in (access.ReadLine term) a me w = (w, tt)
   shown_in (access.Insert term bytes) a me w = (w, tt)
   shown_in (access.Key term) a me w = (w, tt)
@@ -150,7 +150,7 @@ module _ (among : ℕ → Bool) where
   -- INPUT and LINPUT
   prompt_in : (x : Access) (me : Private) → Within me → EndedIn (after_showing x me)
   unfolding EndedIn
-  prompt_in (access.Show term bytes) me w = (record { part = w.part; place = w.place; kept = w.kept; frames = w.frames }, tt)
+  prompt_in (access.Show term bytes column) me w = (record { part = w.part; place = w.place; kept = w.kept; frames = w.frames }, tt)
   prompt_in (access.ReadLine term) me w = (w, tt)
   prompt_in (access.Insert term bytes) me w = (w, tt)
   prompt_in (access.Key term) me w = (w, tt)

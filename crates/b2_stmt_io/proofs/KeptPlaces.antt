@@ -52,14 +52,14 @@ module _ (here kept : Option Place) (term : ℕ) where
   -- how PRINT and PRINTUSING finish
   after_shown : (x : Access) (a : Answer) (me : Private) → KeepsPlaces me → KeepsPlaces (shown x a me).me
   unfolding KeepsPlaces
-  after_shown (access.Show term bytes) answer.Done me h = h
-  after_shown (access.Show term bytes) (answer.Line line) me h = h
-  after_shown (access.Show term bytes) (answer.Special n) me h = h
-  after_shown (access.Show term bytes) (answer.Key b) me h = h
-  after_shown (access.Show term bytes) answer.NoKeys me h = h
-  after_shown (access.Show term bytes) (answer.Wait q) me h = h
-  after_shown (access.Show term bytes) (answer.Locked q) me h = h
-  after_shown (access.Show term bytes) (answer.Refused code) me h = h
+  after_shown (access.Show term bytes column) answer.Done me h = h
+  after_shown (access.Show term bytes column) (answer.Line line) me h = h
+  after_shown (access.Show term bytes column) (answer.Special n) me h = h
+  after_shown (access.Show term bytes column) (answer.Key b) me h = h
+  after_shown (access.Show term bytes column) answer.NoKeys me h = h
+  after_shown (access.Show term bytes column) (answer.Wait q) me h = h
+  after_shown (access.Show term bytes column) (answer.Locked q) me h = h
+  after_shown (access.Show term bytes column) (answer.Refused code) me h = h
   after_shown (access.ReadLine term) a me h = h
   after_shown (access.Insert term bytes) a me h = h
   after_shown (access.Key term) a me h = h
@@ -90,7 +90,7 @@ module _ (here kept : Option Place) (term : ℕ) where
   -- INPUT and LINPUT
   after_prompt : (x : Access) (me : Private) → KeepsPlaces me → KeepsPlaces (after_showing x me).me
   unfolding KeepsPlaces
-  after_prompt (access.Show term bytes) me h = h
+  after_prompt (access.Show term bytes column) me h = h
   after_prompt (access.ReadLine term) me h = h
   after_prompt (access.Insert term bytes) me h = h
   after_prompt (access.Key term) me h = h
@@ -142,7 +142,7 @@ unfolding AsksAt
 asks_here u me s =
     let term = me.term in
     either (AsksAt term) (u.row == row.CONVERT) _ _ tt
-    (each_asked (PlannedAt term) (context_of (setting_of me) me.vars s.home) (λ code. tt) (λ bytes. names_own term (access.Show term bytes) refl) (names_own term (access.ReadLine term) refl) (names_own term (access.Key term) refl) u.row u.tree me.term_column me.prompted)
+    (each_asked (PlannedAt term) (context_of (setting_of me) me.vars s.home) (λ code. tt) (λ bytes column. names_own term (access.Show term bytes column) refl) (names_own term (access.ReadLine term) refl) (names_own term (access.Key term) refl) u.row u.tree me.term_column me.prompted)
 
 unit_asks : (o : Option Statement) (p : Place) (me : Private) (s : SeenLent) → AsksAt me.term (course_at o p me s)
 unfolding AsksAt

@@ -1,6 +1,7 @@
 pub mod Refusals
 pub mod LeftOut
 pub mod Finished
+pub mod Found
 pub mod KeyRows
 pub mod MarkRows
 pub mod PromptRows

@@ -21,7 +21,8 @@ use Rattle.b2_expr.specs.Scope.{Context}
 use Rattle.b2_expr.specs.Value.{text, value}
 use Rattle.b2_expr.specs.declared.operators.Level.TheVariants as level
 use Rattle.b2_rows.proofs.RowsRead.{stands_of}
-use Rattle.b2_stmt_io.specs.Printing.{alpha_in, blanks_to, digits_of, hex_in, item_of, number_in, tab_in}
+use Rattle.b2_print.specs.declared.layout.Item.TheVariants as shown
+use Rattle.b2_stmt_io.specs.Printing.{alpha_in, hex_in, hex_item, item_of, number_in, tab_in}
 
 -- TAB
 abbrev tab_items : List Item
@@ -35,7 +36,7 @@ pub tab_sum : (t : Text) → is_part row.TAB t ≡ true → is_part row.SUM (dro
 tab_sum t ok = (stands_of row.TAB tab_items t tab_row ok).0.1.0
 
 pub tab_is : (s : Context) (t : Text) → is_part row.TAB t ≡ true
-    → tab_in s (tree_at row.TAB t) ≡ (value s level.Sum (tree_at row.SUM (drop 1 t)) >>= (λ x. whole_between 0 255 x >>= (λ to. Ok (blanks_to to))))
+    → tab_in s (tree_at row.TAB t) ≡ (value s level.Sum (tree_at row.SUM (drop 1 t)) >>= (λ x. whole_between 0 255 x >>= (λ to. Ok (shown.Tab to))))
 tab_is s t ok = ap (tab_in s) (stands_of row.TAB tab_items t tab_row ok).1
 
 pub tab_rest : (t : Text) → is_part row.TAB t ≡ true → after_part row.TAB t ≡ drop 1 (after_part row.SUM (drop 1 t))
@@ -52,7 +53,7 @@ hex_row = refl
 pub hex_alpha : (t : Text) → is_part row.HEXOF t ≡ true → is_part row.ALPHA (drop 1 t) ≡ true
 hex_alpha t ok = (stands_of row.HEXOF hex_items t hex_row ok).0.1.0
 
-pub hex_is : (s : Context) (t : Text) → is_part row.HEXOF t ≡ true → hex_in s (tree_at row.HEXOF t) ≡ (text s (tree_at row.ALPHA (drop 1 t)) >>= (λ bytes. Ok (digits_of bytes)))
+pub hex_is : (s : Context) (t : Text) → is_part row.HEXOF t ≡ true → hex_in s (tree_at row.HEXOF t) ≡ (text s (tree_at row.ALPHA (drop 1 t)) >>= (λ bytes. Ok (hex_item bytes)))
 hex_is s t ok = ap (hex_in s) (stands_of row.HEXOF hex_items t hex_row ok).1
 
 pub hex_rest : (t : Text) → is_part row.HEXOF t ≡ true → after_part row.HEXOF t ≡ drop 1 (after_part row.ALPHA (drop 1 t))

@@ -25,8 +25,10 @@ use Rattle.b2_rows.proofs.Lists.{goes, ended}
 use Rattle.b2_expr.specs.Answers.{◌>>=◌}
 use Rattle.b2_expr.specs.Scope.{Context}
 use Rattle.b2_rows.proofs.RowsRead.{stands_of}
+use Rattle.b2_print.proofs.ColumnLemmas.{items-go_on}
+use Rattle.b2_print.specs.declared.layout.Item.{Item as Shown}
 use Rattle.b2_stmt_io.proofs.LeftOut.{maybe_then}
-use Rattle.b2_stmt_io.specs.Printing.{Shown, column_after_items, column_after_shown, further_in, item_at, item_in, item_of, shown_items, items_of, laid, laid_after, newline_where, on_terminal, separator_in, zone_where}
+use Rattle.b2_stmt_io.specs.Printing.{column_after_items, column_after_shown, further_in, item_at, item_in, item_of, shown_items, items_of, laid, laid_after, newline_where, on_terminal, separator_in, width, zone_where}
 use Rattle.b2_rows.proofs.ListEnds.{also_done}
 
 abbrev print_items : List Item
@@ -222,16 +224,14 @@ unfolding starts
 next_shorter t is = let e = separator_shorter t is in let f = maybe_no_longer start.PrintItem row.PRINT_ITEM (drop 1 t) in omega (arith, e, f)
 
 -- items laid out after a text
-laid_append : (column : ℕ) (xs ys : List Shown) → laid column (xs ++ ys) ≡ (laid column xs ++ laid (column_after_items column xs) ys)
-laid_append column [] ys = refl
-laid_append column (x ∷ xs) ys =
-    ap (λ (l : List ℕ). on_terminal column x ++ l) (laid_append (column_after_shown column x) xs ys)
-    ∙ sym (append_assoc (on_terminal column x) (laid (column_after_shown column x) xs) (laid (column_after_items (column_after_shown column x) xs) ys))
-
 after_first : (old : List ℕ) (column : ℕ) (xs : List Shown) (r : Result (List Shown) ℕ)
     → laid_after old column (r >>= (λ its. Ok (xs ++ its))) ≡ laid_after (old ++ laid column xs) (column_after_items column xs) r
 after_first old column xs (Err code) = refl
-after_first old column xs (Ok its) = ap (λ (l : List ℕ). Ok (old ++ l)) (laid_append column xs its) ∙ ap Ok (sym (append_assoc old (laid column xs) (laid (column_after_items column xs) its)))
+after_first old column xs (Ok its) =
+    let on = items-go_on width column xs its in
+    let text : old ++ laid column (xs ++ its) ≡ (old ++ laid column xs) ++ laid (column_after_items column xs) its =
+    ap (λ (l : List ℕ). old ++ l) on.0 ∙ sym (append_assoc old (laid column xs) (laid (column_after_items column xs) its)) in
+    ap (λ (l : List ℕ). Ok (l, column_after_items column (xs ++ its))) text ∙ ap (λ (n : ℕ). Ok ((old ++ laid column xs) ++ laid (column_after_items column xs) its, n)) on.1
 
 joined_twice : (r : Result (List Shown) ℕ) (xs ys : List Shown) → (r >>= (λ its. Ok (xs ++ (ys ++ its)))) ≡ ((r >>= (λ its. Ok (ys ++ its))) >>= (λ its. Ok (xs ++ its)))
 joined_twice (Ok its) xs ys = refl
@@ -312,7 +312,9 @@ next_refused s line t code old column before whole first_text ok sep found same 
     not_laid first_text before code whole (sym same ∙ ap (laid_after old column) (Follows.zone (follows t ok sep) s line
     ∙ refused_then code (item_there s (drop 1 t)) (λ x. then_further s (is_some x) (zone_where (first t == byte.comma)) x (further_at (after_item (drop 1 t)))) found))
 
-pub all_shown : (s : Context) (line : Bool) (t : Text) (old new : List ℕ) (column : ℕ) → starts Atoms separators t ≡ false → new ≡ old ++ laid column (newline_where line)
-    → laid_after old column (further_in s line (further_at t)) ≡ Ok new
-all_shown s line t old new column is text =
-    ap (λ (a : Trees). laid_after old column (further_in s line a)) (Ends.tree (ended separators row.FURTHER_ITEM t is)) ∙ ap Ok (sym text)
+pub all_shown : (s : Context) (line : Bool) (t : Text) (old new : List ℕ) (column after : ℕ) → starts Atoms separators t ≡ false
+    → new ≡ old ++ laid column (newline_where line) → after ≡ column_after_items column (newline_where line)
+    → laid_after old column (further_in s line (further_at t)) ≡ Ok (new, after)
+all_shown s line t old new column after is text at =
+    ap (λ (a : Trees). laid_after old column (further_in s line a)) (Ends.tree (ended separators row.FURTHER_ITEM t is))
+    ∙ ap (λ (l : List ℕ). Ok (l, column_after_items column (newline_where line))) (sym text) ∙ ap (λ (n : ℕ). Ok (new, n)) (sym at)

@@ -1,5 +1,5 @@
 -- A statement at the terminal that has to wait leaves the partition as it was.
-use Rattle.std.proofs.Common.{◌≡◌, refl, ℕ, ◌==◌, ◌||◌, Bool, true, false, List, Option, Some, None, is_some}
+use Rattle.std.proofs.Common.{◌≡◌, refl, ℕ, ◌==◌, ◌||◌, true, List, Option, Some, None, is_some}
 use Rattle.b2_atom.specs.Tree.{Trees}
 use Rattle.b2_atom.specs.declared.rows.TheConstants as row
 use Rattle.b2_flow.specs.declared.frame.Place.{Place}
@@ -34,7 +34,7 @@ module _ (me : Private) (s : SeenLent) where
   unfolding BeforeChanges
   statement u =
       either BeforeChanges (u.row == row.CONVERT) _ _ tt
-      (each_asked (UnchangedIfAsks me me) (context_of (setting_of me) me.vars s.home) (λ code. tt) (λ bytes. refl) refl refl u.row u.tree me.term_column me.prompted)
+      (each_asked (UnchangedIfAsks me me) (context_of (setting_of me) me.vars s.home) (λ code. tt) (λ bytes column. refl) refl refl u.row u.tree me.term_column me.prompted)
 
   unit : (o : Option Statement) (p : Place) → BeforeChanges (course_at o p me s)
   unfolding BeforeChanges
@@ -51,14 +51,14 @@ unfolding BeforeChanges
 plans_before_changes me s = at_place me s me.place
 
 pub after_shown : (x : Access) (a : Answer) (me : Private) → delays a ≡ true → (shown x a me).me ≡ me
-after_shown (access.Show term bytes) answer.Done me h = cc
-after_shown (access.Show term bytes) (answer.Line line) me h = refl
-after_shown (access.Show term bytes) (answer.Special n) me h = refl
-after_shown (access.Show term bytes) (answer.Key b) me h = refl
-after_shown (access.Show term bytes) answer.NoKeys me h = refl
-after_shown (access.Show term bytes) (answer.Wait q) me h = refl
-after_shown (access.Show term bytes) (answer.Locked q) me h = refl
-after_shown (access.Show term bytes) (answer.Refused code) me h = refl
+after_shown (access.Show term bytes column) answer.Done me h = cc
+after_shown (access.Show term bytes column) (answer.Line line) me h = refl
+after_shown (access.Show term bytes column) (answer.Special n) me h = refl
+after_shown (access.Show term bytes column) (answer.Key b) me h = refl
+after_shown (access.Show term bytes column) answer.NoKeys me h = refl
+after_shown (access.Show term bytes column) (answer.Wait q) me h = refl
+after_shown (access.Show term bytes column) (answer.Locked q) me h = refl
+after_shown (access.Show term bytes column) (answer.Refused code) me h = refl
 after_shown (access.ReadLine term) a me h = refl
 after_shown (access.Insert term bytes) a me h = refl
 after_shown (access.Key term) a me h = refl

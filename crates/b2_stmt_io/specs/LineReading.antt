@@ -16,7 +16,7 @@ use Rattle.b2_access.specs.declared.private.Private.{Private}
 use Rattle.b2_stmt_io.specs.Marks.{typed_by_mark}
 use Rattle.b2_access.specs.Planning.{Ended, stays, with_assigned}
 use Rattle.b2_expr.specs.Receiving.{assign_bytes_at}
-use Rattle.b2_stmt_io.specs.Showing.{with_column}
+use Rattle.b2_stmt_io.specs.Showing.{shows_from}
 use Rattle.b2_vars.specs.declared.setting.Setting.{Setting}
 
 -- the text of a prompt, no bytes where none is written
@@ -38,8 +38,8 @@ after_prompt (Put word (In n prompt more)) = more
 after_prompt t = Done
 
 -- the prompt is shown with `? ` after it, and once it was shown a line is read
-abbrev pub asks_line : Bool → ℕ → List ℕ → Access
-asks_line prompted term prompt = if prompted then access.ReadLine term else access.Show term (prompt ++ codes "? ")
+abbrev pub asks_line : Bool → ℕ → ℕ → List ℕ → Access
+asks_line prompted column term prompt = if prompted then access.ReadLine term else shows_from column term (prompt ++ codes "? ")
 
 -- the receiver of LINPUT, which takes all bytes of a line
 abbrev pub receiver_of : Trees → Trees
@@ -49,13 +49,13 @@ receiver_of t = Done
 abbrev pub takes_line : Setting → TextState → List ℕ → Trees → VarsState → Assigned
 takes_line a home line t vars = assign_bytes_at a home (Ok line) (receiver_of (after_prompt t)) vars
 
--- the prompt was shown
-abbrev pub prompted : List ℕ → Private → Ended
-prompted bytes me = record { me = record (with_column bytes me) { prompted = true }; outcome = outcome.Repeat }
+-- the prompt was shown, and the terminal is at this column
+abbrev pub prompted : ℕ → Private → Ended
+prompted column me = record { me = record me { term_column = column; prompted = true }; outcome = outcome.Repeat }
 
 -- what was shown is the prompt
 abbrev pub after_showing : Access → Private → Ended
-after_showing (access.Show term bytes) me = prompted bytes me
+after_showing (access.Show term bytes column) me = prompted column me
 after_showing x me = stays me outcome.Repeat
 
 -- a special function key has its literal typed in the next step, where it has one

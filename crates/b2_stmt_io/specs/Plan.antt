@@ -23,7 +23,7 @@ use Rattle.b2_stmt_io.specs.LineReading.{asks_line, line_answered, prompt_of}
 use Rattle.b2_access.specs.Placed.{Statement, statement_placed}
 use Rattle.b2_access.specs.Planning.{Ended, Finishing, Planning, done, finished, stays, with_assigned}
 use Rattle.b2_stmt_io.specs.Printing.{prints}
-use Rattle.b2_stmt_io.specs.Showing.{shown, shows_bytes}
+use Rattle.b2_stmt_io.specs.Showing.{shown, shows_bytes, shows_laid}
 
 -- statements for programs alone
 abbrev pub is_for_programs : ℕ → Bool
@@ -36,11 +36,11 @@ is_refused r program = is_for_programs r && not program
 -- what a statement asks for that changes nothing yet, at a column and after its prompt was shown or not
 abbrev pub asked_of : ℕ → Trees → Context → ℕ → Bool → Planned
 asked_of r t e column prompted =
-    if r == row.PRINT then shows_bytes e.around.term (prints e column t)
-    else (if r == row.PRINTUSING then shows_bytes e.around.term (prints_using e t)
+    if r == row.PRINT then shows_laid e.around.term (prints e column t)
+    else (if r == row.PRINTUSING then shows_bytes column e.around.term (prints_using e t)
     else (if r == row.KEYIN then planned.Ask (access.Key e.around.term)
-    else (if r == row.LINPUT then planned.Ask (asks_line prompted e.around.term (prompt_of t))
-    else (if r == row.INPUT then planned.Ask (asks_line prompted e.around.term (prompt_of t))
+    else (if r == row.LINPUT then planned.Ask (asks_line prompted column e.around.term (prompt_of t))
+    else (if r == row.INPUT then planned.Ask (asks_line prompted column e.around.term (prompt_of t))
     else planned.Done (outcome.Failed S27_LEFT_OUT)))))
 
 abbrev pub as_before : SeenLent → Private → Planned → Planning

@@ -1,4 +1,4 @@
--- What is shown at a terminal, and what becomes of its column.
+-- What is shown at a terminal, with the column after it.
 use Rattle.std.specs.Prelude.{ℕ, List, Result, Ok, Err}
 use Rattle.b2_print.specs.Columns.{column_after}
 use Rattle.b2_access.specs.declared.accesses.Access.{Access}
@@ -11,16 +11,21 @@ use Rattle.b2_access.specs.declared.planned.Planned.TheVariants as planned
 use Rattle.b2_access.specs.declared.private.Private.{Private}
 use Rattle.b2_access.specs.Planning.{Ended, stays}
 
--- bytes are shown at a terminal by one access, also where there are none; a code asks for nothing
-abbrev pub shows_bytes : ℕ → Result (List ℕ) ℕ → Planned
-shows_bytes term (Ok bytes) = planned.Ask (access.Show term bytes)
-shows_bytes term (Err code) = planned.Done (outcome.Failed code)
+-- what shows bytes as they are, at a terminal whose column is this one
+abbrev pub shows_from : ℕ → ℕ → List ℕ → Access
+shows_from column term bytes = access.Show term bytes (column_after column bytes)
 
--- the column after what was shown
-abbrev pub with_column : List ℕ → Private → Private
-with_column bytes me = record me { term_column = column_after me.term_column bytes }
+-- They are shown by one access, also where there are none; a code asks for nothing.
+abbrev pub shows_bytes : ℕ → ℕ → Result (List ℕ) ℕ → Planned
+shows_bytes column term (Ok bytes) = planned.Ask (shows_from column term bytes)
+shows_bytes column term (Err code) = planned.Done (outcome.Failed code)
+
+-- the same of what was laid out, with the column after it
+abbrev pub shows_laid : ℕ → Result (List ℕ × ℕ) ℕ → Planned
+shows_laid term (Ok laid) = planned.Ask (access.Show term laid.0 laid.1)
+shows_laid term (Err code) = planned.Done (outcome.Failed code)
 
 -- what was shown ends PRINT, PRINTUSING and LIST; with any other answer the step is repeated
 abbrev pub shown : Access → Answer → Private → Ended
-shown (access.Show term bytes) answer.Done me = record { me = with_column bytes me; outcome = outcome.Next }
+shown (access.Show term bytes column) answer.Done me = record { me = record me { term_column = column }; outcome = outcome.Next }
 shown x a me = stays me outcome.Repeat

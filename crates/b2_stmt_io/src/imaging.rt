@@ -15,7 +15,8 @@ ghost use Rattle.b2_rows.specs.CommaLists.{after_all_listed};
 ghost use Rattle.b2_stmt_io.specs.Operands.{are_operands, items_text, operands_at, operands_tree, past_operand};
 ghost use Rattle.b2_stmt_io.specs.Showing.{shows_bytes};
 
-use b2_access::{Access, Planned, failing};
+use crate::showing::show_from;
+use b2_access::{Planned, failing};
 use b2_atom::{Cursor, literal_width};
 use b2_base::codes::{P36_NO_LINE, P42_IMAGE};
 use b2_base::lexical::rest_after;
@@ -145,16 +146,13 @@ fn shown_using(alloc: Global, e: &Env<'_>, unit: &[u8]) -> Result<ByteList, Faul
 }
 
 /// What PRINTUSING asks for: its items are evaluated, and then they are shown.
-#[tactic(auto, using(crate::proofs::Refusals::refused_so))]
-pub fn ask_using(alloc: Global, e: &Env<'_>, unit: &[u8]) -> Result<Planned, NoMemory>
+#[tactic(auto, using(crate::proofs::Refusals::bytes_refused))]
+pub fn ask_using(alloc: Global, e: &Env<'_>, column: u16, unit: &[u8]) -> Result<Planned, NoMemory>
     requires part { is_part row.PRINTUSING unit.now ≡ true }
-    ensures { IfOk result (λ p. p ≡ shows_bytes e.now.term (spec.prints_using (in_statement (surroundings e.now)) (tree_at row.PRINTUSING unit.now))) }
+    ensures { IfOk result (λ p. p ≡ shows_bytes column e.now.term (spec.prints_using (in_statement (surroundings e.now)) (tree_at row.PRINTUSING unit.now))) }
 {
     match shown_using(alloc, e, unit) {
-        Ok(bytes) => Ok(Planned::Ask(Access::Show {
-            term: e.term,
-            bytes,
-        })),
+        Ok(bytes) => Ok(Planned::Ask(show_from(column, e.term, bytes))),
         Err(fault) => Ok(Planned::Done(failing(fault)?)),
     }
 }

@@ -117,11 +117,17 @@ fn take_parts(
 
 /// What INPUT asks for.
 #[tactic(auto, using(crate::proofs::InputRows::input_prompt, crate::proofs::InputRows::input_shows))]
-pub fn ask_input(alloc: Global, prompted: bool, term: Term, unit: &[u8]) -> Result<Access, NoMemory>
+pub fn ask_input(
+    alloc: Global,
+    prompted: bool,
+    column: u16,
+    term: Term,
+    unit: &[u8],
+) -> Result<Access, NoMemory>
     requires part { is_part row.INPUT unit.now ≡ true }
-    ensures { IfOk result (λ a. a ≡ asks_line prompted term (prompt_of (tree_at row.INPUT unit.now))) }
+    ensures { IfOk result (λ a. a ≡ asks_line prompted column term (prompt_of (tree_at row.INPUT unit.now))) }
 {
-    ask_line(alloc, prompted, term, rest_after(unit, 1))
+    ask_line(alloc, prompted, column, term, rest_after(unit, 1))
 }
 
 /// Assigns a line to the receivers of a statement that read it, LINPUT or INPUT.
@@ -161,7 +167,7 @@ pub fn after_line(
     ensures part { me.new.part ≡ me.old.part }
 {
     match (access, answer) {
-        (Access::Show { bytes, .. }, Answer::Done) => Ok(prompt_shown(me, bytes.bytes())),
+        (Access::Show { column, .. }, Answer::Done) => Ok(prompt_shown(me, *column)),
         (_, Answer::Line(line)) => {
             let setting = setting_of(me);
             let code = take_typed(&mut me.vars, &setting, home, kind, line.bytes(), unit)?;

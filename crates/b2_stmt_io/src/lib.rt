@@ -23,5 +23,5 @@ mod showing;
 mod typed_text;
 
 pub use marks::typed_by_mark;
-pub use planning::{finish, is_built, plan};
-pub use showing::{after_show, move_column};
+pub use planning::{finish, is_built, plan, plan_found};
+pub use showing::{after_show, show_from};

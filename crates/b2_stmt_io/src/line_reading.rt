@@ -9,7 +9,7 @@ ghost use Rattle.b2_stmt_io.specs.LineReading as spec;
 ghost use Rattle.b2_stmt_io.specs.Marks.{typed_by_mark};
 
 use crate::marks::typed_by_mark;
-use crate::showing::move_column;
+use crate::showing::show_from;
 use b2_access::{Access, Outcome, Private};
 use b2_atom::literal_width;
 use b2_base::lexical::rest_after;
@@ -47,19 +47,22 @@ pub fn past_prompt(text: &[u8]) -> &[u8]
 }
 
 /// The prompt at a text is shown, or a line is read where it was.
-pub fn ask_line(alloc: Global, prompted: bool, term: Term, text: &[u8]) -> Result<Access, NoMemory>
+pub fn ask_line(
+    alloc: Global,
+    prompted: bool,
+    column: u16,
+    term: Term,
+    text: &[u8],
+) -> Result<Access, NoMemory>
     requires part { maybe_part (start.Code byte.quote) row.PROMPT text.now ≡ true }
-    ensures { IfOk result (λ a. a ≡ spec.asks_line prompted term (spec.prompt_there (maybe_tree (start.Code byte.quote) row.PROMPT text.now))) }
+    ensures { IfOk result (λ a. a ≡ spec.asks_line prompted column term (spec.prompt_there (maybe_tree (start.Code byte.quote) row.PROMPT text.now))) }
 {
     if prompted {
         return Ok(Access::ReadLine { term });
     }
     let mut shown = Vec::from_slice(alloc, prompt_at(text))?;
     shown.extend_from_slice(b"? ")?;
-    Ok(Access::Show {
-        term,
-        bytes: ByteList::new(shown),
-    })
+    Ok(show_from(column, term, ByteList::new(shown)))
 }
 
 /// What LINPUT asks for.
@@ -67,13 +70,14 @@ pub fn ask_line(alloc: Global, prompted: bool, term: Term, text: &[u8]) -> Resul
 pub fn ask_linput(
     alloc: Global,
     prompted: bool,
+    column: u16,
     term: Term,
     unit: &[u8],
 ) -> Result<Access, NoMemory>
     requires part { is_part row.LINPUT unit.now ≡ true }
-    ensures { IfOk result (λ a. a ≡ spec.asks_line prompted term (spec.prompt_of (tree_at row.LINPUT unit.now))) }
+    ensures { IfOk result (λ a. a ≡ spec.asks_line prompted column term (spec.prompt_of (tree_at row.LINPUT unit.now))) }
 {
-    ask_line(alloc, prompted, term, rest_after(unit, 1))
+    ask_line(alloc, prompted, column, term, rest_after(unit, 1))
 }
 
 /// Assigns a line to the receiver of LINPUT.
@@ -91,12 +95,12 @@ pub fn assign_line(
     assign_bytes_at(vars, a, home, line, past_prompt(rest_after(unit, 1)))
 }
 
-/// After the prompt was shown.
-pub fn prompt_shown(me: &mut Private, bytes: &[u8]) -> Outcome
-    ensures ended { record { me = me.new; outcome = result } ≡ spec.prompted bytes.now me.old }
+/// After the prompt was shown, with the terminal at this column.
+pub fn prompt_shown(me: &mut Private, column: u16) -> Outcome
+    ensures ended { record { me = me.new; outcome = result } ≡ spec.prompted column me.old }
     ensures part { me.new.part ≡ me.old.part }
 {
-    move_column(me, bytes);
+    me.term_column = column;
     me.prompted = true;
     Outcome::Repeat
 }

@@ -4,7 +4,7 @@ ghost use Rattle.b2_rows.specs.Laws.{IsRow};
 ghost use Rattle.b2_rows.specs.Rows.{tree_at};
 ghost use Rattle.b2_access.specs.Lending.{globals_lent, seen_lent, SeenLent};
 ghost use Rattle.b2_vars.specs.Tables.{VarsState};
-ghost use Rattle.b2_text.specs.Program.{line_at};
+ghost use Rattle.b2_text.specs.Program.{TextState, line_at};
 ghost use Rattle.b2_expr.specs.Scope.{surroundings};
 ghost use Rattle.b2_expr.specs.Value.{in_statement};
 ghost use Rattle.b2_access.specs.Placed.{statement_on as named_on};
@@ -60,12 +60,82 @@ fn ask(
     let term = e.term;
     match unit.row {
         rows::PRINT => ask_print(alloc, e, column, unit.bytes),
-        rows::PRINTUSING => ask_using(alloc, e, unit.bytes),
+        rows::PRINTUSING => ask_using(alloc, e, column, unit.bytes),
         rows::KEYIN => Ok(Planned::Ask(Access::Key { term })),
-        rows::LINPUT => Ok(Planned::Ask(ask_linput(alloc, prompted, term, unit.bytes)?)),
-        rows::INPUT => Ok(Planned::Ask(ask_input(alloc, prompted, term, unit.bytes)?)),
+        rows::LINPUT => Ok(Planned::Ask(ask_linput(alloc, prompted, column, term, unit.bytes)?)),
+        rows::INPUT => Ok(Planned::Ask(ask_input(alloc, prompted, column, term, unit.bytes)?)),
         _ => Ok(Planned::Done(failed(S27_LEFT_OUT))),
     }
+}
+
+/// What the statement of a unit plans that was found in a line of the program.
+pub fn plan_found(
+    alloc: Global,
+    me: &mut Private,
+    home: &Text,
+    unit: &RowUnit<'_>,
+) -> Result<Planned, NoMemory>
+    requires read { IsRow unit.now.row unit.now.bytes.now (tree_at unit.now.row unit.now.bytes.now) }
+    ensures planned { (own : TextState) (globals : Option VarsState) → IfOk result (λ p. record { me = me.new; globals = globals; planned = p } ≡ spec.course_of (record { row = unit.now.row; tree = tree_at unit.now.row unit.now.bytes.now }) me.old (record { own = own; home = home.now; globals = globals })) }
+    ensures part { me.new.part ≡ me.old.part }
+{
+    let setting = setting_of(me);
+    if unit.row == rows::CONVERT {
+        let code = convert_unit(&mut me.vars, &setting, home, unit.bytes)?;
+        return Ok(Planned::Done(goes_or(Outcome::Next, code)));
+    }
+    let e = surroundings_of(&setting, &me.vars, home);
+    ask(alloc, &e, me.term_column, me.prompted, unit)
+}
+
+/// What the statement at a place in a line of the program plans.
+fn plan_program(
+    alloc: Global,
+    me: &mut Private,
+    home: &Text,
+    n: u16,
+    place: Place,
+) -> Result<Planned, NoMemory>
+    requires line { place.line ≡ Some n }
+    ensures planned { (own : TextState) (globals : Option VarsState) → IfOk result (λ p. record { me = me.new; globals = globals; planned = p } ≡ spec.course_at (named_on (line_at n home.now.lines) place.unit) place me.old (record { own = own; home = home.now; globals = globals })) }
+    ensures part { me.new.part ≡ me.old.part }
+{
+    let Some(line) = home.line(n) else {
+        return Ok(Planned::Done(Outcome::Ready));
+    };
+    let Some(unit) = statement_on(line.atoms, usize::from(place.unit)) else {
+        return Ok(Planned::Done(Outcome::Ready));
+    };
+    plan_found(alloc, me, home, &unit)
+}
+
+/// What the statement at a place in the immediate line plans. Its bytes lie in the private state.
+fn plan_immediate(
+    alloc: Global,
+    me: &mut Private,
+    home: &Text,
+    place: Place,
+) -> Result<Planned, NoMemory>
+    requires line { place.line ≡ None }
+    ensures planned { (own : TextState) (globals : Option VarsState) → IfOk result (λ p. record { me = me.new; globals = globals; planned = p } ≡ spec.course_at (named_on me.old.immediate place.unit) place me.old (record { own = own; home = home.now; globals = globals })) }
+    ensures part { me.new.part ≡ me.old.part }
+{
+    let setting = setting_of(me);
+    let Some(line) = &me.immediate else {
+        return Ok(Planned::Done(Outcome::Ready));
+    };
+    let Some(unit) = statement_on(line, usize::from(place.unit)) else {
+        return Ok(Planned::Done(Outcome::Ready));
+    };
+    if is_refused(unit.row, false) {
+        return Ok(Planned::Done(failed(S26_PROGRAM_ONLY)));
+    }
+    if unit.row == rows::CONVERT {
+        let code = convert_unit(&mut me.vars, &setting, home, unit.bytes)?;
+        return Ok(Planned::Done(goes_or(Outcome::Next, code)));
+    }
+    let e = surroundings_of(&setting, &me.vars, home);
+    ask(alloc, &e, me.term_column, me.prompted, &unit)
 }
 
 /// What the statement at the place of a partition plans. Where no unit is there it is ready.
@@ -80,23 +150,13 @@ pub fn plan(
     ensures same_reference { lent.new.globals.ghost_name ≡ lent.old.globals.ghost_name }
     ensures part { me.new.part ≡ me.old.part }
 {
-    let setting = setting_of(me);
-    let home = lent.home;
     let Some(place) = me.place else {
         return Ok(Planned::Done(Outcome::Ready));
     };
-    let Some(unit) = statement_placed(place, &me.immediate, home) else {
-        return Ok(Planned::Done(Outcome::Ready));
-    };
-    if is_refused(unit.row, place.line.is_some()) {
-        return Ok(Planned::Done(failed(S26_PROGRAM_ONLY)));
+    match place.line {
+        Some(n) => plan_program(alloc, me, lent.home, n, place),
+        None => plan_immediate(alloc, me, lent.home, place),
     }
-    if unit.row == rows::CONVERT {
-        let code = convert_unit(&mut me.vars, &setting, home, unit.bytes)?;
-        return Ok(Planned::Done(goes_or(Outcome::Next, code)));
-    }
-    let e = surroundings_of(&setting, &me.vars, home);
-    ask(alloc, &e, me.term_column, me.prompted, &unit)
 }
 
 /// How the statement at a place in a line of the program finishes.

@@ -1,8 +1,7 @@
-// What PRINT shows.
+// What PRINT shows, and the column after it.
 ghost use Rattle.std.specs.Prelude.{◌≡◌, ◌==◌, ◌++◌, true, MatchResult, OnOk, IfOk, Ok};
 ghost use Rattle.b2_base.specs.Byte as byte;
 ghost use Rattle.b2_base.specs.Refusals.{IsRefused};
-ghost use Rattle.b2_dectext.specs.Printed.{printed};
 ghost use Rattle.b2_atom.specs.Grammar.{starts};
 ghost use Rattle.b2_atom.specs.declared.words.Origin.TheVariants.{Atoms};
 ghost use Rattle.b2_atom.specs.declared.rows.TheConstants as row;
@@ -13,7 +12,8 @@ ghost use Rattle.b2_expr.specs.Functions.{whole_between};
 ghost use Rattle.b2_expr.specs.Scope.{surroundings};
 ghost use Rattle.b2_expr.specs.Value.{in_statement};
 ghost use Rattle.b2_stmt_io.specs.Printing as spec;
-ghost use Rattle.b2_stmt_io.specs.Printing.{ShowsItem, ShowsMaybe, on_terminal, column_after_shown, shown_bytes, blanks_to, digits_of, laid, laid_after, column_after_items, newline_where, zone_where};
+ghost use Rattle.b2_print.specs.declared.layout.Item.TheVariants as item;
+ghost use Rattle.b2_stmt_io.specs.Printing.{ShowsItem, ShowsMaybe, alpha_item, hex_item, on_terminal, column_after_shown, laid, laid_after, column_after_items, newline_where, zone_where};
 
 use b2_atom::Cursor;
 use b2_atom::words::{HEXOF_OPEN, TAB_OPEN};
@@ -31,32 +31,32 @@ const WIDTH: u16 = 80;
 
 /// Shows bytes at a column after a text, and gives the column after them.
 fn show_bytes(alloc: Global, bytes: &[u8], column: u16, out: &mut Vec<u8>) -> Result<u16, NoMemory>
-    ensures text { OnOk result (out.new.items ≡ out.old.items ++ on_terminal column (shown_bytes bytes.now)) }
-    ensures column { IfOk result (λ after. after ≡ column_after_shown column (shown_bytes bytes.now)) }
+    ensures text { OnOk result (out.new.items ≡ out.old.items ++ on_terminal column (alpha_item bytes.now)) }
+    ensures column { IfOk result (λ after. after ≡ column_after_shown column (alpha_item bytes.now)) }
 {
     lay(alloc, &[Item::Alpha(bytes)], column, WIDTH, out)
 }
 
 /// The same of a number in its printed form.
 fn show_number(alloc: Global, x: Dec, column: u16, out: &mut Vec<u8>) -> Result<u16, NoMemory>
-    ensures text { OnOk result (out.new.items ≡ out.old.items ++ on_terminal column (shown_bytes (printed x))) }
-    ensures column { IfOk result (λ after. after ≡ column_after_shown column (shown_bytes (printed x))) }
+    ensures text { OnOk result (out.new.items ≡ out.old.items ++ on_terminal column (item.Number x)) }
+    ensures column { IfOk result (λ after. after ≡ column_after_shown column (item.Number x)) }
 {
     lay(alloc, &[Item::Number(x)], column, WIDTH, out)
 }
 
 /// The same of each byte as two hexadecimal digits.
 fn show_digits(alloc: Global, bytes: &[u8], column: u16, out: &mut Vec<u8>) -> Result<u16, NoMemory>
-    ensures text { OnOk result (out.new.items ≡ out.old.items ++ on_terminal column (digits_of bytes.now)) }
-    ensures column { IfOk result (λ after. after ≡ column_after_shown column (digits_of bytes.now)) }
+    ensures text { OnOk result (out.new.items ≡ out.old.items ++ on_terminal column (hex_item bytes.now)) }
+    ensures column { IfOk result (λ after. after ≡ column_after_shown column (hex_item bytes.now)) }
 {
     lay(alloc, &[Item::Hex(bytes)], column, WIDTH, out)
 }
 
 /// The same of blanks up to a column.
 fn show_blanks(alloc: Global, to: u8, column: u16, out: &mut Vec<u8>) -> Result<u16, NoMemory>
-    ensures text { OnOk result (out.new.items ≡ out.old.items ++ on_terminal column (blanks_to to)) }
-    ensures column { IfOk result (λ after. after ≡ column_after_shown column (blanks_to to)) }
+    ensures text { OnOk result (out.new.items ≡ out.old.items ++ on_terminal column (item.Tab to)) }
+    ensures column { IfOk result (λ after. after ≡ column_after_shown column (item.Tab to)) }
 {
     lay(alloc, &[Item::Tab(to)], column, WIDTH, out)
 }
@@ -73,14 +73,16 @@ fn show_separator(alloc: Global, mark: u8, column: u16, out: &mut Vec<u8>) -> Re
     }
 }
 
-/// Shows the newline at the end, where one belongs there.
-fn show_end(alloc: Global, line: bool, column: u16, out: &mut Vec<u8>) -> Result<(), NoMemory>
-    ensures { OnOk result (out.new.items ≡ out.old.items ++ laid column (newline_where line)) }
+/// Shows the newline at the end after a text, where one belongs there, and gives the column after it.
+fn show_end(alloc: Global, line: bool, column: u16, out: &mut Vec<u8>) -> Result<u16, NoMemory>
+    ensures text { OnOk result (out.new.items ≡ out.old.items ++ laid column (newline_where line)) }
+    ensures column { IfOk result (λ after. after ≡ column_after_items column (newline_where line)) }
 {
     if line {
-        lay(alloc, &[Item::Line], column, WIDTH, out)?;
+        lay(alloc, &[Item::Line], column, WIDTH, out)
+    } else {
+        lay(alloc, &[], column, WIDTH, out)
     }
-    Ok(())
 }
 
 /// Shows the blanks of TAB.
@@ -235,7 +237,8 @@ fn item_or_none<'a>(
     }
 }
 
-/// Shows the items of PRINT from a column on after a text, and a newline where no separator stands last.
+/// Shows the items of PRINT from a column on after a text, and a newline where no separator stands last; gives the column after
+/// them.
 #[tactic(auto, using(crate::proofs::Printed::print_item, crate::proofs::Printed::print_list, crate::proofs::Printed::first_shown, crate::proofs::Printed::first_refused, crate::proofs::Printed::next_item, crate::proofs::Printed::next_list, crate::proofs::Printed::next_shorter, crate::proofs::Printed::next_shown, crate::proofs::Printed::next_refused, crate::proofs::Printed::all_shown))]
 fn show_items(
     alloc: Global,
@@ -243,9 +246,9 @@ fn show_items(
     column: u16,
     unit: &[u8],
     out: &mut Vec<u8>,
-) -> Result<(), Fault>
+) -> Result<u16, Fault>
     requires part { is_part row.PRINT unit.now ≡ true }
-    ensures { MatchResult result (λ done. laid_after out.old.items column (spec.shown_items (in_statement (surroundings e.now)) (tree_at row.PRINT unit.now)) ≡ Ok out.new.items) (λ f. IsRefused (spec.shown_items (in_statement (surroundings e.now)) (tree_at row.PRINT unit.now)) f) }
+    ensures { MatchResult result (λ after. laid_after out.old.items column (spec.shown_items (in_statement (surroundings e.now)) (tree_at row.PRINT unit.now)) ≡ Ok (out.new.items, after)) (λ f. IsRefused (spec.shown_items (in_statement (surroundings e.now)) (tree_at row.PRINT unit.now)) f) }
 {
     let (mut at, _, mut left) = match item_or_none(alloc, e, column, rest_after(unit, 1), out) {
         Ok(shown) => shown,
@@ -262,23 +265,23 @@ fn show_items(
         line = is_item;
         left = rest;
     }
-    show_end(alloc, line, at, out)?;
-    Ok(())
+    let after = show_end(alloc, line, at, out)?;
+    Ok(after)
 }
 
-/// What PRINT shows from a column on; or its first code.
+/// What PRINT shows from a column on, with the column after it; or its first code.
 pub fn shown_by_print(
     alloc: Global,
     e: &Env<'_>,
     column: u16,
     unit: &[u8],
-) -> Result<ByteList, Fault>
+) -> Result<(ByteList, u16), Fault>
     requires part { is_part row.PRINT unit.now ≡ true }
-    ensures { MatchResult result (λ bytes. spec.prints (in_statement (surroundings e.now)) column (tree_at row.PRINT unit.now) ≡ Ok bytes) (λ f. IsRefused (spec.prints (in_statement (surroundings e.now)) column (tree_at row.PRINT unit.now)) f) }
+    ensures { MatchResult result (λ shown. spec.prints (in_statement (surroundings e.now)) column (tree_at row.PRINT unit.now) ≡ Ok shown) (λ f. IsRefused (spec.prints (in_statement (surroundings e.now)) column (tree_at row.PRINT unit.now)) f) }
 {
     let mut out = Vec::new(alloc);
     match show_items(alloc, e, column, unit, &mut out) {
-        Ok(()) => Ok(ByteList::new(out)),
+        Ok(after) => Ok((ByteList::new(out), after)),
         Err(fault) => Err(fault),
     }
 }

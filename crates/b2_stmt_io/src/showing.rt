@@ -1,4 +1,4 @@
-// What is shown at a terminal, and what becomes of its column.
+// What is shown at a terminal, with the column after it.
 ghost use Rattle.std.specs.Prelude.{◌≡◌, true, IfOk};
 ghost use Rattle.b2_atom.specs.declared.rows.TheConstants as row;
 ghost use Rattle.b2_rows.specs.Rows.{is_part, tree_at};
@@ -9,42 +9,47 @@ ghost use Rattle.b2_stmt_io.specs.Showing as spec;
 
 use crate::printing::shown_by_print;
 use b2_access::{Access, Answer, Outcome, Planned, Private, failing};
-use b2_base::NoMemory;
+use b2_base::{ByteList, NoMemory, Term};
 use b2_expr::Env;
 use b2_print::column_after;
 use std::alloc::Global;
 
+/// What shows bytes as they are, at a terminal whose column is this one.
+pub fn show_from(column: u16, term: Term, bytes: ByteList) -> Access
+    ensures { result ≡ spec.shows_from column term bytes }
+{
+    let after = column_after(column, bytes.bytes());
+    Access::Show {
+        term,
+        bytes,
+        column: after,
+    }
+}
+
 /// What PRINT asks for: its items are evaluated, and then they are shown.
-#[tactic(auto, using(crate::proofs::Refusals::refused_so))]
+#[tactic(auto, using(crate::proofs::Refusals::layout_refused))]
 pub fn ask_print(alloc: Global, e: &Env<'_>, column: u16, unit: &[u8]) -> Result<Planned, NoMemory>
     requires part { is_part row.PRINT unit.now ≡ true }
-    ensures { IfOk result (λ p. p ≡ spec.shows_bytes e.now.term (prints (in_statement (surroundings e.now)) column (tree_at row.PRINT unit.now))) }
+    ensures { IfOk result (λ p. p ≡ spec.shows_laid e.now.term (prints (in_statement (surroundings e.now)) column (tree_at row.PRINT unit.now))) }
 {
     match shown_by_print(alloc, e, column, unit) {
-        Ok(bytes) => Ok(Planned::Ask(Access::Show {
+        Ok((bytes, after)) => Ok(Planned::Ask(Access::Show {
             term: e.term,
             bytes,
+            column: after,
         })),
         Err(fault) => Ok(Planned::Done(failing(fault)?)),
     }
 }
 
-/// The column of the terminal moves by bytes that were shown.
-pub fn move_column(me: &mut Private, bytes: &[u8])
-    ensures changed { me.new ≡ spec.with_column bytes.now me.old }
-    ensures part { me.new.part ≡ me.old.part }
-{
-    me.term_column = column_after(me.term_column, bytes);
-}
-
-/// How a statement that shows bytes finishes, as PRINT, PRINTUSING and LIST.
+/// How a statement that shows something finishes, as PRINT, PRINTUSING and LIST.
 pub fn after_show(me: &mut Private, access: &Access, answer: &Answer) -> Outcome
     ensures ended { record { me = me.new; outcome = result } ≡ spec.shown access.now answer.now me.old }
     ensures part { me.new.part ≡ me.old.part }
 {
     match (access, answer) {
-        (Access::Show { bytes, .. }, Answer::Done) => {
-            move_column(me, bytes.bytes());
+        (Access::Show { column, .. }, Answer::Done) => {
+            me.term_column = *column;
             Outcome::Next
         }
         _ => Outcome::Repeat,

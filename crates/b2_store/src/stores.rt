@@ -304,7 +304,7 @@ impl Shared for Stores {
 
     fn serve(&mut self, who: Part, access: &Access) -> Result<Answer, NoMemory> {
         match access {
-            Access::Show { term, bytes } => self.show(who, *term, bytes.bytes()),
+            Access::Show { term, bytes, .. } => self.show(who, *term, bytes.bytes()),
             Access::ReadLine { term } => self.read_line(who, *term),
             Access::Insert { term, bytes } => self.insert(who, *term, bytes.bytes()),
             Access::Key { term } => Ok(self.take_key(who, *term)),

@@ -57,7 +57,11 @@ fn at_terminal(alloc: Global, kind: &str, rest: &[u8]) -> Result<Option<Access>,
     };
     let bytes = ByteList::new(bytes_of(alloc, text)?);
     Ok(match kind {
-        "show" => Some(Access::Show { term, bytes }),
+        "show" => Some(Access::Show {
+            term,
+            bytes,
+            column: 0,
+        }),
         "read" => Some(Access::ReadLine { term }),
         "insert" => Some(Access::Insert { term, bytes }),
         "key" => Some(Access::Key { term }),
