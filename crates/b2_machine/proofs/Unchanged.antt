@@ -2,7 +2,7 @@
 use Rattle.std.proofs.Common.{◌≡◌, ◌∙◌, refl, ap, ℕ, Bool, true, false, if◌then◌else◌, List, Option, Some, None, is_some}
 use Rattle.b2_flow.specs.declared.frame.Place.{Place}
 use Rattle.b2_text.specs.Program.{Lines}
-use Rattle.b2_access.specs.Answering.{delays}
+use Rattle.b2_access.specs.AnswerKinds.{delays}
 use Rattle.b2_access.specs.Lending.{SeenLent}
 use Rattle.b2_access.specs.Loans.{Loan}
 use Rattle.b2_access.specs.Partition.{is_ready}
@@ -26,9 +26,9 @@ use Rattle.b2_machine.specs.Counting.{UncountedStepsChangeNothing}
 use Rattle.b2_machine.specs.Endings.{counts, ends_turn, repeats}
 use Rattle.b2_machine.specs.Listed.{lists}
 use Rattle.b2_machine.specs.Moving.{ends_by, error_place, faults, following_place, goes_to}
-use Rattle.b2_machine.specs.Readiness.{halted, reset_state, resets}
+use Rattle.b2_machine.specs.Readiness.{halted, resets}
 use Rattle.b2_machine.specs.Statements.{begins_where, begun_by, builder_of, finish_by, finishes, plan_by}
-use Rattle.b2_machine.specs.Step.{acts, by_itself, enters_or_goes_on, executes, goes_through, halts_or_acts, line_read, runs_or_reads, seen_by, shows_or_goes_on, step, text_in, types_or_goes_on}
+use Rattle.b2_machine.specs.Step.{acts, by_itself, enters_or_goes_on, executes, goes_through, halts_or_acts, line_read, runs_or_reads, seen_by, shows_or_goes_on, text_in, types_or_goes_on}
 use Rattle.b2_machine.specs.Typing.{on_own_line, put_by, shown_by, typed_by_key}
 use Rattle.b2_machine.specs.declared.ends.Stepped.{Stepped}
 use Rattle.b2_machine.specs.declared.ends.Why.TheVariants as reason

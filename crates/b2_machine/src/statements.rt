@@ -3,6 +3,7 @@ ghost use Rattle.std.specs.Prelude.{◌≡◌, ◌<◌, true, IfOk, IfSome, Opti
 ghost use Rattle.b2_atom.specs.Tree.{uses_in};
 ghost use Rattle.b2_rows.specs.Laws.{IsRow};
 ghost use Rattle.b2_rows.specs.Rows.{tree_at};
+ghost use Rattle.b2_access.specs.Answering.{can_answer};
 ghost use Rattle.b2_access.specs.Lending.{globals_lent, seen_lent, SeenLent};
 ghost use Rattle.b2_access.specs.Placed.{line_named as line_of_place, statement_placed as named_at, statement_on as named_on};
 ghost use Rattle.b2_machine.specs.Statements as spec;
@@ -126,6 +127,7 @@ fn finish_by(
     access: &Access,
     answer: &Answer,
 ) -> Result<Outcome, NoMemory>
+    requires possible { can_answer access.now answer.now ≡ true }
     ensures finished { IfOk result (λ o. record { me = me.new; globals = globals_lent lent.new; outcome = o } ≡ spec.finish_by builder access.now answer.now me.old (seen_lent lent.old)) }
     ensures same_reference { lent.new.globals.ghost_name ≡ lent.old.globals.ghost_name }
     ensures part { me.new.part ≡ me.old.part }
@@ -271,6 +273,7 @@ pub fn finish_over(
     access: &Access,
     answer: &Answer,
 ) -> Result<Stepped, NoMemory>
+    requires possible { can_answer access.now answer.now ≡ true }
     ensures ended { IfOk result (λ e. record { me = me.new; end = e } ≡ spec.finishes builder access.now answer.now place me.old (seen_lent lent.entry)) }
     ensures part { me.new.part ≡ me.old.part }
 {

@@ -1,12 +1,11 @@
 -- A turn counts at most its quota of steps, and all of its steps or all but its last; a run counts no more than its log grants.
-use Rattle.std.specs.Prelude.{◌≡◌, ℕ, zero, suc, ◌+◌, ◌*◌, ◌<◌, ◌≤◌, ◌==◌, Bool, true, false, List, [], ◌∷◌, length, map, Option, Some, None, is_some, refl, if◌then◌else◌}
+use Rattle.std.specs.Prelude.{◌≡◌, ℕ, zero, suc, ◌+◌, ◌*◌, ◌<◌, ◌≤◌, ◌==◌, Bool, true, false, List, [], ◌∷◌, length, Option, Some, None, is_some, refl, if◌then◌else◌}
 use Rattle.std.proofs.Common.{sym, ap, subst, ◌∙◌, arith}
 use Rattle.std.proofs.Math.Nat.{mul-le-mul_left, mul_comm}
 use Rattle.std.proofs.lemmas.Nat.{mul-le}
 use Rattle.std.proofs.lemmas.List.{length-map}
 use Rattle.b2_boot.specs.Boots.{BootState}
 use Rattle.b2_boot.specs.Logs.{grants, granted_by}
-use Rattle.b2_boot.specs.declared.boot.BootPartition.{BootPartition}
 use Rattle.b2_boot.specs.declared.log.Event.{Event}
 use Rattle.b2_boot.specs.declared.log.Event.TheVariants as event
 use Rattle.b2_access.specs.Rows.{row_of}
@@ -15,7 +14,6 @@ use Rattle.b2_access.specs.Store.{StoreState}
 use Rattle.b2_access.specs.declared.private.Private.{Private}
 use Rattle.b2_audit.specs.Steps.{Step}
 use Rattle.b2_machine.specs.Turn.{TurnEnd, counted_on, ended_turn, turn_from, unless_ended}
-use Rattle.b2_machine.specs.declared.ends.Stepped.{Stepped}
 use Rattle.b2_machine.specs.declared.ends.Why.{Why}
 use Rattle.b2_machine.proofs.Counted.{steps_count_or_end}
 use Rattle.b2_sched.proofs.Folds.{does_append, all_keep_quota}

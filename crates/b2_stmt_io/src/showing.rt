@@ -1,5 +1,6 @@
 // What is shown at a terminal, and what becomes of its column.
 ghost use Rattle.std.specs.Prelude.{◌≡◌, true, IfOk};
+ghost use Rattle.b2_access.specs.Answering.{can_answer};
 ghost use Rattle.b2_atom.specs.declared.rows.TheConstants as row;
 ghost use Rattle.b2_rows.specs.Rows.{is_part, tree_at};
 ghost use Rattle.b2_expr.specs.Scope.{surroundings};
@@ -39,14 +40,19 @@ pub fn move_column(me: &mut Private, bytes: &[u8])
 
 /// How a statement that shows bytes finishes, as PRINT, PRINTUSING and LIST.
 pub fn after_show(me: &mut Private, access: &Access, answer: &Answer) -> Outcome
+    requires possible { can_answer access.now answer.now ≡ true }
     ensures ended { record { me = me.new; outcome = result } ≡ spec.shown access.now answer.now me.old }
     ensures part { me.new.part ≡ me.old.part }
 {
-    match (access, answer) {
-        (Access::Show { bytes, .. }, Answer::Done) => {
+    let Access::Show { bytes, .. } = access else {
+        return Outcome::Repeat;
+    };
+    match answer {
+        Answer::Done => {
             move_column(me, bytes.bytes());
             Outcome::Next
         }
-        _ => Outcome::Repeat,
+        Answer::Wait(_) => Outcome::Repeat,
+        _ => unreachable!(),
     }
 }
