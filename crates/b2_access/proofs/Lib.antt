@@ -1,5 +1,10 @@
-pub mod Stopped
+pub mod TaskLaws
+pub mod RowLaws
+pub mod Told
+pub mod Locality
 pub mod Causes
+pub mod Delays
+pub mod Held
 pub mod Statements
 pub mod OwnTerminal
 pub mod Choice

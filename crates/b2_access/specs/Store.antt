@@ -7,21 +7,25 @@ use Rattle.b2_access.specs.declared.objects.Object.{Object}
 use Rattle.b2_access.specs.declared.objects.Object.TheVariants as object
 use Rattle.b2_access.specs.Rows.{row_of, with_row}
 
--- Texts, who stands inside each, in order of entering, `@` variables and terminals. No names, printers, platters and holders of
--- devices are kept yet.
+-- Texts, who stands inside each, in order of entering, `@` variables and terminals. Names, printers, platters and holders of devices
+-- have their kinds of contents, but none of them is listed yet.
 pub record StoreState : Type 0 where
   pub texts : List (ℕ × TextState)
   pub borrows : List (ℕ × List ℕ)
   pub globals : List (ℕ × VarsState)
   pub terminals : List (ℕ × TerminalState)
 
--- what an object of each kind has
+-- What an object of each kind has. A name and a device are held by a partition or by nobody, a printer has the bytes that it
+-- printed, and a platter has the bytes of its image.
 abbrev pub ContentOf : Object → Type 0
 ContentOf (object.Text p) = TextState
 ContentOf (object.Borrow p) = List ℕ
+ContentOf (object.Name n) = Option ℕ
 ContentOf (object.Globals p) = VarsState
 ContentOf (object.Terminal t) = TerminalState
-ContentOf o = Unit {0}
+ContentOf (object.Printer a) = List ℕ
+ContentOf (object.Platter a) = List ℕ
+ContentOf (object.Hog a) = Option ℕ
 
 -- what an object has, None where it isn't listed
 abbrev pub content : StoreState → (o : Object) → Option (ContentOf o)

@@ -1,6 +1,6 @@
 -- A statement that has to wait leaves the partition as it was.
 use Rattle.std.specs.Prelude.{◌≡◌, true}
-use Rattle.b2_access.specs.Answering.{delays}
+use Rattle.b2_access.specs.AnswerKinds.{delays}
 use Rattle.b2_access.specs.Lending.{SeenLent}
 use Rattle.b2_access.specs.Planning.{Finishing, Planning}
 use Rattle.b2_access.specs.declared.accesses.Access.{Access}

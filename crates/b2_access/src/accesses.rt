@@ -1,4 +1,7 @@
 // What a step asks of the store, and what is answered.
+ghost use Rattle.std.specs.Prelude.{◌≡◌};
+ghost use Rattle.b2_access.specs.AnswerKinds as kind;
+
 use b2_atom::Atoms;
 use b2_base::{ByteList, Code, Name8, Part, Term};
 
@@ -63,4 +66,16 @@ pub enum Answer {
     Locked(Part),
     /// It was refused with a code: nothing was done.
     Refused(Code),
+}
+
+impl Answer {
+    /// Whether nothing was done.
+    pub fn stops(&self) -> bool
+        ensures { result ≡ kind.stops self.now }
+    {
+        matches!(
+            self,
+            Answer::Wait(_) | Answer::Locked(_) | Answer::Refused(_)
+        )
+    }
 }

@@ -9,11 +9,12 @@
 //! Stands on `b2_text`, `b2_vars` and `b2_flow` for what a partition has, on `b2_term` for terminals, on `b2_rows` for goals
 //! on a line, on `b2_dec` for values, on `b2_atom` for lines and on `b2_base`. The definitions are in `specs/`: a partition in
 //! `Partition`, what it is lent in `Lending`, what a statement plans and how it finishes in `Planning`, places in `Places`,
-//! `Placed` and `Going`, and the devices in `Devices`; the store in `Store`, what an
-//! access touches and writes in `Touching`, how each is served in `Serving`, when one is stopped in `Causes`, what a shared
-//! store is in `Sharing`, and what a loan leaves in `Loans`. `Locality` proves that serving is local, by its tasks (`Task`,
-//! `TaskLocality`). What a statement leaves of a partition is in `Homes`, `Keeping` and `OwnTerminal`. What holds of serving
-//! stands in `laws`.
+//! `Placed` and `Going`, and the devices in `Devices`; the store in `Store`, what a shared store is in `Sharing`, and what a
+//! loan leaves in `Loans`. What an access reaches is in `Reach`, what it writes and does of that, as a task, and which answers
+//! it tells in `AccessRows`, a line an access; what stops one in `Stopping`, and how it is served by these in `Serving`. What
+//! a statement leaves of a partition is in `Homes`, `Keeping` and `OwnTerminal`. What holds of serving stands in `laws`: that
+//! it is local, when each answer that stops an access comes (`Causes`), and which answers each can have (`Answering`). It is
+//! proved over rows and tasks, not by accesses.
 #![tactic(auto)]
 
 mod accesses;
@@ -27,6 +28,7 @@ mod placed;
 mod places;
 mod planned;
 mod private;
+mod reached;
 mod setting;
 mod shared;
 
@@ -40,5 +42,6 @@ pub use placed::{line_named, statement_on, statement_placed};
 pub use places::{goal_place, place_after};
 pub use planned::{Outcome, Planned};
 pub use private::Private;
+pub use reached::{Reached, TextUse, Written, reached_by, written_by};
 pub use setting::setting_of;
 pub use shared::Shared;

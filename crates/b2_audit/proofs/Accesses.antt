@@ -1,16 +1,21 @@
--- What accesses touch and write is marked.
-use Rattle.std.specs.Prelude.{◌≡◌, ℕ, List, [], ◌∷◌, Some, refl}
+-- What accesses touch and write is marked, by what they reach; and they write no text but the own.
+use Rattle.std.specs.Prelude.{◌≡◌, ℕ, Bool, true, false, List, [], ◌∷◌, ◌++◌, map, Option, Some, None, refl, if◌then◌else◌}
 use Rattle.std.proofs.Common.{sym, subst, inl, inr}
 use Rattle.b2_access.specs.declared.objects.Object.{Object}
 use Rattle.b2_access.specs.declared.objects.Object.TheVariants as object
 use Rattle.b2_access.specs.declared.accesses.Access.{Access}
-use Rattle.b2_access.specs.declared.accesses.Access.TheVariants as access
 use Rattle.b2_access.specs.declared.accesses.Answer.{Answer}
-use Rattle.b2_access.specs.declared.accesses.Answer.TheVariants as answer
+use Rattle.b2_access.specs.declared.reached.TextUse.{TextUse}
+use Rattle.b2_access.specs.declared.reached.TextUse.TheVariants as text
+use Rattle.b2_access.specs.AccessRows.{reach, row}
+use Rattle.b2_access.specs.AnswerKinds.{stops}
 use Rattle.b2_access.specs.Causes.{terminal_of}
+use Rattle.b2_access.specs.Reach.{DevicePart, DeviceReach, HoldAlone, WithPlatter, WithPrinter, Reach, device_objects, objects_reached, part_objects, terminal_objects, text_objects, variable_objects}
 use Rattle.b2_access.specs.Store.{StoreState, IsIn}
-use Rattle.b2_access.specs.Touching.{touched, may_write, written_by}
+use Rattle.b2_access.specs.Touching.{touched, written_by}
+use Rattle.b2_access.proofs.Told.{no_borrowers, written_is_reached}
 use Rattle.b2_audit.specs.Steps.{IsPartition, IsTerminal, IsMarked, AreMarked, AccessesAreMarked, AccessesWriteOwnTexts}
+use Rattle.b2_audit.proofs.CleanSteps.{in_both}
 
 nothing : AreMarked []
 nothing o i = absurd i
@@ -18,66 +23,107 @@ nothing o i = absurd i
 add : (x : Object) (xs : List Object) → IsMarked x → AreMarked xs → AreMarked (x ∷ xs)
 add x xs is are o i = elim i [ inl e ↦ subst (λ (y : Object). IsMarked y) (sym e) is | inr j ↦ are o j ]
 
-own_text : (who : ℕ) → IsPartition who → AreMarked (object.Text who ∷ [])
-own_text who is = add (object.Text who) [] is nothing
+both_are : (xs ys : List Object) → AreMarked xs → AreMarked ys → AreMarked (xs ++ ys)
+both_are xs ys are_xs are_ys o i = elim ((in_both o xs ys).0 i) [ inl j ↦ are_xs o j | inr j ↦ are_ys o j ]
+
+terminal_is : (term : Option ℕ) → ((t : ℕ) → term ≡ Some t → IsTerminal t) → AreMarked (terminal_objects term)
+terminal_is None at = nothing
+terminal_is (Some t) at = add (object.Terminal t) [] (at t refl) nothing
+
+text_is : (who : ℕ) (used : TextUse) → IsPartition who → AreMarked (text_objects who used)
+text_is who text.Unused is = nothing
+text_is who text.Read is = add (object.Text who) [] is nothing
+text_is who text.Edited is = add (object.Borrow who) (object.Text who ∷ []) is (add (object.Text who) [] is nothing)
+
+variables_are : (who : ℕ) (b : Bool) → IsPartition who → AreMarked (variable_objects who b)
+variables_are who true is = add (object.Globals who) [] is nothing
+variables_are who false is = nothing
+
+part_is : (a : List ℕ) (p : DevicePart) → AreMarked (part_objects a p)
+part_is a HoldAlone = add (object.Hog a) [] tt nothing
+part_is a WithPlatter = add (object.Hog a) (object.Platter a ∷ []) tt (add (object.Platter a) [] tt nothing)
+part_is a WithPrinter = add (object.Hog a) (object.Printer a ∷ []) tt (add (object.Printer a) [] tt nothing)
+
+devices_are : (ds : List DeviceReach) → AreMarked (device_objects ds)
+devices_are [] = nothing
+devices_are (d ∷ ds) = both_are (part_objects d.address d.part) (device_objects ds) (part_is d.address d.part) (devices_are ds)
+
+names_are : (ns : List (List ℕ)) → AreMarked (map object.Name ns)
+names_are [] = nothing
+names_are (n ∷ ns) = add (object.Name n) (map object.Name ns) tt (names_are ns)
+
+reached_are : (who : ℕ) (r : Reach) → IsPartition who → ((t : ℕ) → r.terminal ≡ Some t → IsTerminal t) → AreMarked (map object.Borrow r.borrowers) → AreMarked (objects_reached who r)
+reached_are who r is at lent =
+    both_are (terminal_objects r.terminal) _ (terminal_is r.terminal at)
+    (both_are (text_objects who r.text) _ (text_is who r.text is)
+    (both_are (variable_objects who r.variables) _ (variables_are who r.variables is)
+    (both_are (map object.Borrow r.borrowers) _ lent
+    (both_are (device_objects r.devices) _ (devices_are r.devices) (names_are r.names)))))
 
 touched_are : (s : StoreState) (who : ℕ) (a : Access) → IsPartition who → ((t : ℕ) → terminal_of a ≡ Some t → IsTerminal t) → AreMarked (touched s who a)
-touched_are s who (access.Show term bytes column) is at = add (object.Terminal term) [] (at term refl) nothing
-touched_are s who (access.ReadLine term) is at = add (object.Terminal term) [] (at term refl) nothing
-touched_are s who (access.Insert term bytes) is at = add (object.Terminal term) [] (at term refl) nothing
-touched_are s who (access.Key term) is at = add (object.Terminal term) [] (at term refl) nothing
-touched_are s who (access.PutLine line atoms homes) is at = add (object.Borrow who) (object.Text who ∷ []) is (own_text who is)
-touched_are s who (access.Erase from to homes) is at = add (object.Borrow who) (object.Text who ∷ []) is (own_text who is)
-touched_are s who (access.ClearAll name homes) is at =
-    add (object.Borrow who) (object.Text who ∷ object.Globals who ∷ []) is (add (object.Text who) (object.Globals who ∷ []) is (add (object.Globals who) [] is nothing))
+touched_are s who a is at = reached_are who (reach a) is at (subst (λ (ps : List ℕ). AreMarked (map object.Borrow ps)) (sym (no_borrowers a)) nothing)
 
-may_write_are : (who : ℕ) (a : Access) → IsPartition who → ((t : ℕ) → terminal_of a ≡ Some t → IsTerminal t) → AreMarked (may_write who a)
-may_write_are who (access.Show term bytes column) is at = add (object.Terminal term) [] (at term refl) nothing
-may_write_are who (access.ReadLine term) is at = add (object.Terminal term) [] (at term refl) nothing
-may_write_are who (access.Insert term bytes) is at = add (object.Terminal term) [] (at term refl) nothing
-may_write_are who (access.Key term) is at = add (object.Terminal term) [] (at term refl) nothing
-may_write_are who (access.PutLine line atoms homes) is at = own_text who is
-may_write_are who (access.Erase from to homes) is at = own_text who is
-may_write_are who (access.ClearAll name homes) is at = add (object.Text who) (object.Globals who ∷ []) is (add (object.Globals who) [] is nothing)
-
-by_answer : (x : Answer) (who : ℕ) (a : Access) → AreMarked (may_write who a) → AreMarked (written_by x who a)
-by_answer (answer.Wait q) who a are = nothing
-by_answer (answer.Locked q) who a are = nothing
-by_answer (answer.Refused c) who a are = nothing
-by_answer answer.Done who a are = are
-by_answer answer.NoKeys who a are = are
-by_answer (answer.Line bytes) who a are = are
-by_answer (answer.Special n) who a are = are
-by_answer (answer.Key b) who a are = are
+-- what an access wrote it writes where nothing stops it
+may_have_written : (x : Answer) (who : ℕ) (a : Access) (o : Object) → IsIn o (written_by x who a) → IsIn o ((row a).writes who)
+may_have_written x who a o = by (stops x)
+  where
+    by : (b : Bool) → IsIn o (if b then [] else (row a).writes who) → IsIn o ((row a).writes who)
+    by true i = absurd i
+    by false i = i
 
 pub accesses_are_marked : AccessesAreMarked
-accesses_are_marked s who a is at = (touched_are s who a is at, λ x. by_answer x who a (may_write_are who a is at))
+accesses_are_marked s who a is at =
+    let are = touched_are s who a is at in
+    (are, λ x o i. are o (written_is_reached a who o (may_have_written x who a o i)))
 
--- an object that an access wrote it may write
-may_have_written : (x : Answer) (who : ℕ) (a : Access) (o : Object) → IsIn o (written_by x who a) → IsIn o (may_write who a)
-may_have_written (answer.Wait q) who a o i = absurd i
-may_have_written (answer.Locked q) who a o i = absurd i
-may_have_written (answer.Refused c) who a o i = absurd i
-may_have_written answer.Done who a o i = i
-may_have_written answer.NoKeys who a o i = i
-may_have_written (answer.Line bytes) who a o i = i
-may_have_written (answer.Special n) who a o i = i
-may_have_written (answer.Key b) who a o i = i
+-- of texts only the own is reached
+no_terminal : (q : ℕ) (term : Option ℕ) → IsIn (object.Text q) (terminal_objects term) → ⊥
+no_terminal q None i = i
+no_terminal q (Some t) i = elim i [ inl e ↦ cc | inr none ↦ none ]
 
-same_text : (q p : ℕ) → object.Text q ≡ object.Text p → q ≡ p
-same_text q p e = cc
+own_text : (who q : ℕ) (used : TextUse) → IsIn (object.Text q) (text_objects who used) → q ≡ who
+own_text who q text.Unused i = absurd i
+own_text who q text.Read i = elim i [ inl e ↦ cc | inr none ↦ absurd none ]
+own_text who q text.Edited i = elim i [ inl e ↦ absurd (let bad : object.Text q ≡ object.Borrow who = e in cc) | inr j ↦ elim j [ inl e ↦ cc | inr none ↦ absurd none ] ]
 
-no_terminal : (q t : ℕ) → IsIn (object.Text q) (object.Terminal t ∷ []) → ⊥
-no_terminal q t i = elim i [ inl e ↦ cc | inr none ↦ none ]
+no_variables : (who q : ℕ) (b : Bool) → IsIn (object.Text q) (variable_objects who b) → ⊥
+no_variables who q true i = elim i [ inl e ↦ cc | inr none ↦ none ]
+no_variables who q false i = i
 
-own_text_of : (who q : ℕ) (a : Access) → IsIn (object.Text q) (may_write who a) → q ≡ who
-own_text_of who q (access.Show term bytes column) i = absurd (no_terminal q term i)
-own_text_of who q (access.ReadLine term) i = absurd (no_terminal q term i)
-own_text_of who q (access.Insert term bytes) i = absurd (no_terminal q term i)
-own_text_of who q (access.Key term) i = absurd (no_terminal q term i)
-own_text_of who q (access.PutLine line atoms homes) i = elim i [ inl e ↦ same_text q who e | inr none ↦ absurd none ]
-own_text_of who q (access.Erase from to homes) i = elim i [ inl e ↦ same_text q who e | inr none ↦ absurd none ]
-own_text_of who q (access.ClearAll name homes) i = elim i [ inl e ↦ same_text q who e | inr more ↦ elim more [ inl e ↦ absurd (let bad : object.Text q ≡ object.Globals who = e in cc) | inr none ↦ absurd none ] ]
+no_borrower : (q : ℕ) (ps : List ℕ) → IsIn (object.Text q) (map object.Borrow ps) → ⊥
+no_borrower q [] i = i
+no_borrower q (p ∷ ps) i = elim i [ inl e ↦ cc | inr j ↦ no_borrower q ps j ]
+
+no_part : (q : ℕ) (a : List ℕ) (p : DevicePart) → IsIn (object.Text q) (part_objects a p) → ⊥
+no_part q a HoldAlone i = elim i [ inl e ↦ cc | inr none ↦ none ]
+no_part q a WithPlatter i = elim i [ inl e ↦ cc | inr j ↦ elim j [ inl e ↦ cc | inr none ↦ none ] ]
+no_part q a WithPrinter i = elim i [ inl e ↦ cc | inr j ↦ elim j [ inl e ↦ cc | inr none ↦ none ] ]
+
+no_device : (q : ℕ) (ds : List DeviceReach) → IsIn (object.Text q) (device_objects ds) → ⊥
+no_device q [] i = i
+no_device q (d ∷ ds) i = elim ((in_both (object.Text q) (part_objects d.address d.part) (device_objects ds)).0 i) [ inl j ↦ no_part q d.address d.part j | inr j ↦ no_device q ds j ]
+
+no_name : (q : ℕ) (ns : List (List ℕ)) → IsIn (object.Text q) (map object.Name ns) → ⊥
+no_name q [] i = i
+no_name q (n ∷ ns) i = elim i [ inl e ↦ cc | inr j ↦ no_name q ns j ]
+
+reaches_own_text : (who q : ℕ) (r : Reach) → IsIn (object.Text q) (objects_reached who r) → q ≡ who
+reaches_own_text who q r i = elim ((in_both (object.Text q) (terminal_objects r.terminal) _).0 i) [
+  | inl j ↦ absurd (no_terminal q r.terminal j)
+  | inr j ↦ elim ((in_both (object.Text q) (text_objects who r.text) _).0 j) [
+    | inl k ↦ own_text who q r.text k
+    | inr k ↦ absurd (beside k)
+  ]
+]
+  where
+    beside : IsIn (object.Text q) (variable_objects who r.variables ++ (map object.Borrow r.borrowers ++ (device_objects r.devices ++ map object.Name r.names))) → ⊥
+    beside i = elim ((in_both (object.Text q) (variable_objects who r.variables) _).0 i) [
+      | inl j ↦ no_variables who q r.variables j
+      | inr j ↦ elim ((in_both (object.Text q) (map object.Borrow r.borrowers) _).0 j) [
+        | inl k ↦ no_borrower q r.borrowers k
+        | inr k ↦ elim ((in_both (object.Text q) (device_objects r.devices) _).0 k) [ inl d ↦ no_device q r.devices d | inr n ↦ no_name q r.names n ]
+      ]
+    ]
 
 pub accesses_write_own_texts : AccessesWriteOwnTexts
-accesses_write_own_texts who q a x i = own_text_of who q a (may_have_written x who a (object.Text q) i)
+accesses_write_own_texts who q a x i = reaches_own_text who q (reach a) (written_is_reached a who (object.Text q) (may_have_written x who a (object.Text q) i))

@@ -8,3 +8,5 @@ pub mod CleanSteps
 pub mod Said
 pub mod Accesses
 pub mod OwnTexts
+pub mod Others
+pub mod InParts

@@ -1,27 +1,20 @@
 -- What a partition wrote itself isn't foul to it, so it may touch before or after.
-use Rattle.std.specs.Prelude.{◌≡◌, ℕ, zero, suc, Bool, true, false, List, [], ◌∷◌, ◌++◌, get_or, set, refl, if◌then◌else◌}
+use Rattle.std.specs.Prelude.{◌≡◌, ℕ, Bool, true, false, List, [], ◌∷◌, ◌++◌, refl, if◌then◌else◌}
 use Rattle.std.proofs.Common.{sym, ap, subst, ◌∙◌, inl, inr}
 use Rattle.b2_access.specs.declared.objects.Object.{Object}
 use Rattle.b2_access.specs.Objects.{same_object}
-use Rattle.b2_audit.specs.PartSets.{with_part, without_part, has_other}
+use Rattle.b2_audit.specs.PartSets.{without_part, has_other}
 use Rattle.b2_audit.specs.Marks.{Marks, touch, write, touch_all, write_all}
 use Rattle.b2_audit.specs.Steps.{IsPartition, IsMarked, AreMarked, MarkedInParts}
-use Rattle.b2_audit.proofs.PartBits.{other_with_same}
-use Rattle.b2_audit.proofs.Places.{index, at_index, written_at, writes_elsewhere}
+use Rattle.b2_audit.proofs.Places.{own_write, writes_elsewhere}
 use Rattle.b2_audit.proofs.Fouling.{is_foul}
-
-own_set : (sets : List ℕ) (i who : ℕ) → IsPartition who → has_other (get_or (set sets i (with_part (get_or sets i 0) who)) i 0) who ≡ has_other (get_or sets i 0) who
-own_set [] i who is = refl
-own_set (x ∷ xs) zero who is = other_with_same x who is
-own_set (x ∷ xs) (suc i) who is = own_set xs i who is
+use Rattle.b2_audit.proofs.InParts.{touched_in_turn}
 
 foul_own : (who : ℕ) (o w : Object) (m : Marks) → IsPartition who → IsMarked o → IsMarked w → is_foul who o (write who w m) ≡ is_foul who o m
 foul_own who o w m is is_o is_w = elim (same_object o w) [
   | inl e ↦
       let P : Object → Type 0 = λ x. is_foul who x (write who w m) ≡ is_foul who x m in
-      let at_w : P w =
-      ap (λ (n : ℕ). has_other n who) (at_index w (write who w m) is_w ∙ ap (λ (sets : List ℕ). get_or sets (index w) 0) (written_at who w m is_w))
-      ∙ own_set m.writers (index w) who is ∙ sym (ap (λ (n : ℕ). has_other n who) (at_index w m is_w)) in
+      let at_w : P w = own_write who w m is is_w in
       subst P (sym e) at_w
   | inr apart ↦ ap (λ (n : ℕ). has_other n who) (writes_elsewhere who w o m is_w is_o apart)
 ]
@@ -43,10 +36,6 @@ own_writes_are_idle : (who : ℕ) (os ws : List Object) (m : Marks) → IsPartit
 own_writes_are_idle who os [] m is are_os are_ws = refl
 own_writes_are_idle who os (w ∷ ws) m is are_os are_ws =
     own_writes_are_idle who os ws (write who w m) is are_os (λ x i. are_ws x (inr i)) ∙ ap (write_all who ws) (all_touched who os w m is are_os (are_ws w (inl refl)))
-
-touched_in_turn : (who : ℕ) (os ps : List Object) (m : Marks) → touch_all who (os ++ ps) m ≡ touch_all who ps (touch_all who os m)
-touched_in_turn who [] ps m = refl
-touched_in_turn who (o ∷ os) ps m = touched_in_turn who os ps (touch who o m)
 
 pub marked_in_parts : MarkedInParts
 marked_in_parts who first touched later written m is are_later are_written =

@@ -1,80 +1,208 @@
 -- Objects by their places, and the sets there.
-use Rattle.std.specs.Prelude.{◌≡◌, ◌≢◌, ◌<◌, ◌+◌, ◌-◌, ℕ, List, length, get_or, set, Option, Some, refl}
-use Rattle.std.proofs.Common.{sym, ap, subst, ◌∙◌, arith}
+use Rattle.std.specs.Prelude.{◌≡◌, ◌≢◌, ◌⊎◌, ◌<◌, ◌≤◌, ◌+◌, ◌*◌, ◌-◌, ◌==◌, ℕ, zero, suc, Bool, true, false, List, [], ◌∷◌, length, get_or, set, Option, Some, None, refl, if◌then◌else◌}
+use Rattle.std.proofs.Common.{sym, ap, subst, ◌∙◌, arith, inl, inr}
+use Rattle.std.proofs.lemmas.Bool.{false≢true, false_from_ne_true}
+use Rattle.std.proofs.lemmas.Slice.Eq.{bytes_eq-Decides}
 use Rattle.std.proofs.lemmas.List.{get_or-set_same, get_or-set_other, length-set}
 use Rattle.b2_access.specs.declared.objects.Object.{Object}
 use Rattle.b2_access.specs.declared.objects.Object.TheVariants as object
-use Rattle.b2_audit.specs.PartSets.{with_part}
-use Rattle.b2_audit.specs.Marks.{Marks, object_place, set_at, with_writer, writers_of, write}
-use Rattle.b2_audit.specs.Steps.{IsPartition, IsMarked}
+use Rattle.b2_audit.specs.PartSets.{with_part, has_other}
+use Rattle.b2_audit.specs.Marks.{Marks, Writers, object_place, is_same, set_among, set_at, with_one_among, with_one_at, writers_of, write}
+use Rattle.b2_audit.specs.Steps.{IsPartition, IsTerminal, IsMarked}
+use Rattle.b2_audit.proofs.PartBits.{other_with_same}
 
--- the place of an object that is marked, among those of its kind
+-- an object that has a place, by its kind and its number
+abbrev pub IsPlaced : Object → Type 0
+IsPlaced (object.Text p) = IsPartition p
+IsPlaced (object.Borrow p) = IsPartition p
+IsPlaced (object.Globals p) = IsPartition p
+IsPlaced (object.Terminal t) = IsTerminal t
+IsPlaced o = ⊥
+
+abbrev kind : Object → ℕ
+kind (object.Text p) = 0
+kind (object.Borrow p) = 1
+kind (object.Globals p) = 2
+kind (object.Terminal t) = 3
+kind o = 4
+
+abbrev number : Object → ℕ
+number (object.Text p) = p
+number (object.Borrow p) = p
+number (object.Globals p) = p
+number (object.Terminal t) = t
+number o = 0
+
+-- its place among all: there are at most sixteen of each kind
 abbrev pub index : Object → ℕ
-index (object.Text p) = p - 1
-index (object.Borrow p) = 16 + (p - 1)
-index (object.Globals p) = 32 + (p - 1)
-index (object.Terminal t) = 48 + (t - 1)
-index o = 60
+index o = 16 * kind o + (number o - 1)
 
-pub placed : (o : Object) → IsMarked o → (object_place o ≡ Some (index o)) × (index o < 60)
-placed (object.Text p) is = let a = is.0 in let b = is.1 in (refl, omega (arith, a, b))
-placed (object.Borrow p) is = let a = is.0 in let b = is.1 in (refl, omega (arith, a, b))
-placed (object.Globals p) is = let a = is.0 in let b = is.1 in (refl, omega (arith, a, b))
-placed (object.Terminal t) is = let a = is.0 in let b = is.1 in (refl, omega (arith, a, b))
+pub record StandsAt (o : Object) : Type 0 where
+  pub place : object_place o ≡ Some (index o)
+  pub below : index o < 60
+  pub from_one : 1 ≤ number o
+  pub at_most : number o ≤ 16
+
+pub placed : (o : Object) → IsPlaced o → StandsAt o
+placed (object.Text p) is = let a = is.0 in let b = is.1 in record { place = ap Some (omega arith); below = omega (arith, a, b); from_one = a; at_most = b }
+placed (object.Borrow p) is = let a = is.0 in let b = is.1 in record { place = ap Some (omega arith); below = omega (arith, a, b); from_one = a; at_most = b }
+placed (object.Globals p) is = let a = is.0 in let b = is.1 in record { place = ap Some (omega arith); below = omega (arith, a, b); from_one = a; at_most = b }
+placed (object.Terminal t) is = let a = is.0 in let b = is.1 in record { place = ap Some (omega arith); below = omega (arith, a, b); from_one = a; at_most = omega (arith, b) }
 placed (object.Name n) is = absurd is
 placed (object.Printer a) is = absurd is
 placed (object.Platter a) is = absurd is
 placed (object.Hog a) is = absurd is
 
-same_part : (p q : ℕ) → IsPartition p → IsPartition q → p - 1 ≡ q - 1 → p ≡ q
-same_part p q is_p is_q e = let a = is_p.0 in let b = is_q.0 in omega (arith, e, a, b)
+-- the object of a kind with a number
+abbrev of_kind : ℕ → ℕ → Object
+of_kind k n = if k == 0 then object.Text n else (if k == 1 then object.Borrow n else (if k == 2 then object.Globals n else object.Terminal n))
+
+read_back : (o : Object) → IsPlaced o → of_kind (kind o) (number o) ≡ o
+read_back (object.Text p) is = refl
+read_back (object.Borrow p) is = refl
+read_back (object.Globals p) is = refl
+read_back (object.Terminal t) is = refl
+read_back (object.Name n) is = absurd is
+read_back (object.Printer a) is = absurd is
+read_back (object.Platter a) is = absurd is
+read_back (object.Hog a) is = absurd is
+
+-- numbers of at most sixteen of each kind tell the kind and the number
+same_kind : (j k n m : ℕ) → 1 ≤ n → n ≤ 16 → 1 ≤ m → m ≤ 16 → 16 * j + (n - 1) ≡ 16 * k + (m - 1) → j ≡ k
+same_kind j k n m a b c d e = omega (arith, a, b, c, d, e)
+
+same_number : (j k n m : ℕ) → 1 ≤ n → n ≤ 16 → 1 ≤ m → m ≤ 16 → 16 * j + (n - 1) ≡ 16 * k + (m - 1) → n ≡ m
+same_number j k n m a b c d e = omega (arith, a, b, c, d, e)
 
 -- the place tells the object
-one_place : (o x : Object) → IsMarked o → IsMarked x → index o ≡ index x → o ≡ x
-one_place (object.Text p) (object.Text q) is_o is_x e = ap object.Text (same_part p q is_o is_x e)
-one_place (object.Borrow p) (object.Borrow q) is_o is_x e = ap object.Borrow (same_part p q is_o is_x (omega (arith, e)))
-one_place (object.Globals p) (object.Globals q) is_o is_x e = ap object.Globals (same_part p q is_o is_x (omega (arith, e)))
-one_place (object.Terminal t) (object.Terminal u) is_o is_x e = ap object.Terminal (let a = is_o.0 in let b = is_x.0 in omega (arith, e, a, b))
-one_place (object.Text p) (object.Borrow q) is_o is_x e = absurd (let a = is_o.1 in omega (arith, e, a))
-one_place (object.Text p) (object.Globals q) is_o is_x e = absurd (let a = is_o.1 in omega (arith, e, a))
-one_place (object.Text p) (object.Terminal q) is_o is_x e = absurd (let a = is_o.1 in omega (arith, e, a))
-one_place (object.Borrow p) (object.Text q) is_o is_x e = absurd (let a = is_x.1 in omega (arith, e, a))
-one_place (object.Borrow p) (object.Globals q) is_o is_x e = absurd (let a = is_o.1 in omega (arith, e, a))
-one_place (object.Borrow p) (object.Terminal q) is_o is_x e = absurd (let a = is_o.1 in omega (arith, e, a))
-one_place (object.Globals p) (object.Text q) is_o is_x e = absurd (let a = is_x.1 in omega (arith, e, a))
-one_place (object.Globals p) (object.Borrow q) is_o is_x e = absurd (let a = is_x.1 in omega (arith, e, a))
-one_place (object.Globals p) (object.Terminal q) is_o is_x e = absurd (let a = is_o.1 in omega (arith, e, a))
-one_place (object.Terminal p) (object.Text q) is_o is_x e = absurd (let a = is_x.1 in omega (arith, e, a))
-one_place (object.Terminal p) (object.Borrow q) is_o is_x e = absurd (let a = is_x.1 in omega (arith, e, a))
-one_place (object.Terminal p) (object.Globals q) is_o is_x e = absurd (let a = is_x.1 in omega (arith, e, a))
-one_place (object.Name n) x is_o is_x e = absurd is_o
-one_place (object.Printer a) x is_o is_x e = absurd is_o
-one_place (object.Platter a) x is_o is_x e = absurd is_o
-one_place (object.Hog a) x is_o is_x e = absurd is_o
-one_place o (object.Name n) is_o is_x e = absurd is_x
-one_place o (object.Printer a) is_o is_x e = absurd is_x
-one_place o (object.Platter a) is_o is_x e = absurd is_x
-one_place o (object.Hog a) is_o is_x e = absurd is_x
+one_place : (o x : Object) → IsPlaced o → IsPlaced x → index o ≡ index x → o ≡ x
+one_place o x is_o is_x e =
+    let a = placed o is_o in
+    let b = placed x is_x in
+    let k = same_kind (kind o) (kind x) (number o) (number x) a.from_one a.at_most b.from_one b.at_most e in
+    let n = same_number (kind o) (kind x) (number o) (number x) a.from_one a.at_most b.from_one b.at_most e in
+    sym (read_back o is_o) ∙ ap (λ (j : ℕ). of_kind j (number o)) k ∙ ap (of_kind (kind x)) n ∙ read_back x is_x
 
-pub at_index : (o : Object) (m : Marks) → IsMarked o → writers_of o m ≡ get_or m.writers (index o) 0
-at_index o m is = ap (λ (p : Option ℕ). set_at p m.writers) (placed o is).0
+-- or it has none: it is the same as itself
+pub record IsUnplaced (o : Object) : Type 0 where
+  pub none : object_place o ≡ None
+  pub itself : is_same o o ≡ true
 
-pub written_at : (who : ℕ) (o : Object) (m : Marks) → IsMarked o → (write who o m).writers ≡ set m.writers (index o) (with_part (get_or m.writers (index o) 0) who)
-written_at who o m is = ap (λ (p : Option ℕ). with_writer who p m.writers) (placed o is).0
+pub placed_or : (o : Object) → IsMarked o → IsPlaced o ⊎ IsUnplaced o
+placed_or (object.Text p) is = inl is
+placed_or (object.Borrow p) is = inl is
+placed_or (object.Globals p) is = inl is
+placed_or (object.Terminal t) is = inl is
+placed_or (object.Name n) is = inr (record { none = refl; itself = (bytes_eq-Decides n n).1 refl })
+placed_or (object.Printer a) is = inr (record { none = refl; itself = (bytes_eq-Decides a a).1 refl })
+placed_or (object.Platter a) is = inr (record { none = refl; itself = (bytes_eq-Decides a a).1 refl })
+placed_or (object.Hog a) is = inr (record { none = refl; itself = (bytes_eq-Decides a a).1 refl })
+
+-- those that are the same are one
+same_is_one : (x o : Object) → is_same x o ≡ true → x ≡ o
+same_is_one (object.Name n) (object.Name m) e = ap object.Name ((bytes_eq-Decides n m).0 e)
+same_is_one (object.Printer a) (object.Printer b) e = ap object.Printer ((bytes_eq-Decides a b).0 e)
+same_is_one (object.Platter a) (object.Platter b) e = ap object.Platter ((bytes_eq-Decides a b).0 e)
+same_is_one (object.Hog a) (object.Hog b) e = ap object.Hog ((bytes_eq-Decides a b).0 e)
+same_is_one x o e = absurd (false≢true e)
+
+-- sets, by the place of an object
+set_placed : (o : Object) (w : Writers) → IsPlaced o → set_at (object_place o) o w ≡ get_or w.placed (index o) 0
+set_placed o w is = ap (λ (p : Option ℕ). set_at p o w) (placed o is).place
+
+set_unplaced : (o : Object) (w : Writers) → IsUnplaced o → set_at (object_place o) o w ≡ set_among o w.others
+set_unplaced o w is = ap (λ (p : Option ℕ). set_at p o w) is.none
+
+abbrev with_one_placed : ℕ → Object → Writers → Writers
+with_one_placed who o w = record w { placed = set w.placed (index o) (with_part (get_or w.placed (index o) 0) who) }
+
+abbrev with_one_unplaced : ℕ → Object → Writers → Writers
+with_one_unplaced who o w = record w { others = with_one_among who o w.others }
+
+write_placed : (who : ℕ) (o : Object) (w : Writers) → IsPlaced o → with_one_at (object_place o) who o w ≡ with_one_placed who o w
+write_placed who o w is = ap (λ (p : Option ℕ). with_one_at p who o w) (placed o is).place
+
+write_unplaced : (who : ℕ) (o : Object) (w : Writers) → IsUnplaced o → with_one_at (object_place o) who o w ≡ with_one_unplaced who o w
+write_unplaced who o w is = ap (λ (p : Option ℕ). with_one_at p who o w) is.none
+
+-- nobody wrote anything at the start
+pub nobody_at : (o : Object) (w : Writers) → IsMarked o → ((i : ℕ) → i < 60 → get_or w.placed i 0 ≡ 0) → w.others ≡ [] → set_at (object_place o) o w ≡ 0
+nobody_at o w is empty none = elim (placed_or o is) [
+  | inl at ↦ set_placed o w at ∙ empty (index o) (placed o at).below
+  | inr off ↦ set_unplaced o w off ∙ ap (set_among o) none
+]
 
 -- there are as many places after an object was written
-pub as_many : (who : ℕ) (o : Object) (m : Marks) → IsMarked o → length (write who o m).writers ≡ length m.writers
-as_many who o m is = ap (λ (sets : List ℕ). length sets) (written_at who o m is) ∙ length-set m.writers (index o) _
+pub as_many : (who : ℕ) (o : Object) (m : Marks) → IsMarked o → length (write who o m).writers.placed ≡ length m.writers.placed
+as_many who o m is = elim (placed_or o is) [
+  | inl at ↦ ap (λ (w : Writers). length w.placed) (write_placed who o m.writers at) ∙ length-set m.writers.placed (index o) _
+  | inr off ↦ ap (λ (w : Writers). length w.placed) (write_unplaced who o m.writers off)
+]
+
+-- one of the others that was written has one more
+set_written : (who : ℕ) (o : Object) → is_same o o ≡ true → (es : List (Object × ℕ)) → set_among o (with_one_among who o es) ≡ with_part (set_among o es) who
+set_written who o itself [] = ap (λ (b : Bool). if b then with_part 0 who else 0) itself
+set_written who o itself (e ∷ es) = by (is_same e.0 o) refl (set_written who o itself es)
+  where
+    by : (b : Bool) → is_same e.0 o ≡ b → set_among o (with_one_among who o es) ≡ with_part (set_among o es) who
+        → set_among o (if b then (e.0, with_part e.1 who) ∷ es else e ∷ with_one_among who o es) ≡ with_part (if b then e.1 else set_among o es) who
+    by true is later = ap (λ (b : Bool). if b then with_part e.1 who else set_among o es) is
+    by false is later = ap (λ (b : Bool). if b then e.1 else set_among o (with_one_among who o es)) is ∙ later
+
+-- and each but that one has what it had
+set_kept : (who : ℕ) (o x : Object) → x ≢ o → (es : List (Object × ℕ)) → set_among x (with_one_among who o es) ≡ set_among x es
+set_kept who o x apart [] = ap (λ (b : Bool). if b then with_part 0 who else 0) (false_from_ne_true (is_same o x) (λ e. apart (sym (same_is_one o x e))))
+set_kept who o x apart (e ∷ es) = by (is_same e.0 o) refl (set_kept who o x apart es)
+  where
+    by : (b : Bool) → is_same e.0 o ≡ b → set_among x (with_one_among who o es) ≡ set_among x es
+        → set_among x (if b then (e.0, with_part e.1 who) ∷ es else e ∷ with_one_among who o es) ≡ (if is_same e.0 x then e.1 else set_among x es)
+    by true is later =
+        let far = false_from_ne_true (is_same e.0 x) (λ same. apart (sym (same_is_one e.0 x same) ∙ same_is_one e.0 o is)) in
+        ap (λ (b : Bool). if b then with_part e.1 who else set_among x es) far ∙ sym (ap (λ (b : Bool). if b then e.1 else set_among x es) far)
+    by false is later = ap (λ (n : ℕ). if is_same e.0 x then e.1 else n) later
 
 -- who wrote it has one more
-pub writes_here : (who : ℕ) (o : Object) (m : Marks) → IsMarked o → length m.writers ≡ 60 → writers_of o (write who o m) ≡ with_part (writers_of o m) who
-writes_here who o m is whole =
-    let small = (placed o is).1 in
-    at_index o (write who o m) is ∙ ap (λ (sets : List ℕ). get_or sets (index o) 0) (written_at who o m is)
-    ∙ get_or-set_same m.writers (index o) _ 0 (subst (λ (n : ℕ). index o < n) (sym whole) small) ∙ ap (λ (n : ℕ). with_part n who) (sym (at_index o m is))
+pub writes_here : (who : ℕ) (o : Object) (m : Marks) → IsMarked o → length m.writers.placed ≡ 60 → writers_of o (write who o m) ≡ with_part (writers_of o m) who
+writes_here who o m is whole = elim (placed_or o is) [
+  | inl at ↦
+      ap (set_at (object_place o) o) (write_placed who o m.writers at) ∙ set_placed o (with_one_placed who o m.writers) at
+      ∙ get_or-set_same m.writers.placed (index o) _ 0 (subst (λ (n : ℕ). index o < n) (sym whole) (placed o at).below)
+      ∙ ap (λ (n : ℕ). with_part n who) (sym (set_placed o m.writers at))
+  | inr off ↦
+      ap (set_at (object_place o) o) (write_unplaced who o m.writers off) ∙ set_unplaced o (with_one_unplaced who o m.writers) off
+      ∙ set_written who o off.itself m.writers.others
+      ∙ ap (λ (n : ℕ). with_part n who) (sym (set_unplaced o m.writers off))
+]
+
+-- to whom it isn't foul, it isn't so after that one wrote it
+own_set : (sets : List ℕ) (i who : ℕ) → IsPartition who → has_other (get_or (set sets i (with_part (get_or sets i 0) who)) i 0) who ≡ has_other (get_or sets i 0) who
+own_set [] i who is = refl
+own_set (x ∷ xs) zero who is = other_with_same x who is
+own_set (x ∷ xs) (suc i) who is = own_set xs i who is
+
+pub own_write : (who : ℕ) (o : Object) (m : Marks) → IsPartition who → IsMarked o → has_other (writers_of o (write who o m)) who ≡ has_other (writers_of o m) who
+own_write who o m is_who is =
+    let other : ℕ → Bool = λ n. has_other n who in
+    elim (placed_or o is) [
+      | inl at ↦
+          ap other (ap (set_at (object_place o) o) (write_placed who o m.writers at) ∙ set_placed o (with_one_placed who o m.writers) at)
+          ∙ own_set m.writers.placed (index o) who is_who ∙ ap other (sym (set_placed o m.writers at))
+      | inr off ↦
+          ap other (ap (set_at (object_place o) o) (write_unplaced who o m.writers off) ∙ set_unplaced o (with_one_unplaced who o m.writers) off ∙ set_written who o off.itself m.writers.others)
+          ∙ other_with_same (set_among o m.writers.others) who is_who ∙ ap other (sym (set_unplaced o m.writers off))
+    ]
 
 -- another object's stay
 pub writes_elsewhere : (who : ℕ) (o x : Object) (m : Marks) → IsMarked o → IsMarked x → x ≢ o → writers_of x (write who o m) ≡ writers_of x m
-writes_elsewhere who o x m is_o is_x other =
-    at_index x (write who o m) is_x ∙ ap (λ (sets : List ℕ). get_or sets (index x) 0) (written_at who o m is_o)
-    ∙ get_or-set_other m.writers (index o) (index x) _ 0 (λ e. other (one_place x o is_x is_o e)) ∙ sym (at_index x m is_x)
+writes_elsewhere who o x m is_o is_x other = elim (placed_or o is_o) [
+  | inl at ↦ ap (set_at (object_place x) x) (write_placed who o m.writers at) ∙ elim (placed_or x is_x) [
+    | inl there ↦
+        set_placed x (with_one_placed who o m.writers) there
+        ∙ get_or-set_other m.writers.placed (index o) (index x) _ 0 (λ e. other (one_place x o there at e)) ∙ sym (set_placed x m.writers there)
+    | inr off ↦ set_unplaced x (with_one_placed who o m.writers) off ∙ sym (set_unplaced x m.writers off)
+  ]
+  | inr gone ↦ ap (set_at (object_place x) x) (write_unplaced who o m.writers gone) ∙ elim (placed_or x is_x) [
+    | inl there ↦ set_placed x (with_one_unplaced who o m.writers) there ∙ sym (set_placed x m.writers there)
+    | inr off ↦ set_unplaced x (with_one_unplaced who o m.writers) off ∙ set_kept who o x other m.writers.others ∙ sym (set_unplaced x m.writers off)
+  ]
+]

@@ -7,17 +7,17 @@ use Rattle.std.proofs.lemmas.List.{get_or-replicate, length-replicate}
 use Rattle.b2_access.specs.declared.objects.Object.{Object}
 use Rattle.b2_access.specs.Store.{IsIn}
 use Rattle.b2_audit.specs.PartSets.{has_other}
-use Rattle.b2_audit.specs.Marks.{Marks, is_clean, marked, touch_all, unmarked}
+use Rattle.b2_audit.specs.Marks.{Marks, Writers, is_clean, marked, touch_all, unmarked}
 use Rattle.b2_audit.specs.Steps.{Step, marks_after, just, by_other, IsPartition, IsMarked, AreMarked, AreSteps, MarksSayClean}
 use Rattle.b2_audit.proofs.PartBits.{none_other, all_have}
-use Rattle.b2_audit.proofs.Places.{index, placed, at_index}
+use Rattle.b2_audit.proofs.Places.{nobody_at}
 use Rattle.b2_audit.proofs.Fouling.{is_foul, touching_keeps, foul_by_writers, still_whole, all_written}
 use Rattle.b2_audit.proofs.Cleaning.{writing_leaves, touches_of_other, own_touches}
 use Rattle.b2_audit.proofs.CleanSteps.{AreApart, CleanFrom, in_both, clean_steps}
 
 -- the marks have these objects as foul to a partition
 pub record Stands (p : ℕ) (m : Marks) (os : List Object) : Type 0 where
-  pub whole : length m.writers ≡ 60
+  pub whole : length m.writers.placed ≡ 60
   pub dirty : (o : Object) → IsMarked o → (is_foul p o m ≡ true) ↔ IsIn o os
 
 -- at the start there are none
@@ -25,7 +25,7 @@ pub from_start : (p : ℕ) → Stands p unmarked []
 from_start p = record {
   whole = length-replicate {A = ℕ} 60 0;
   dirty = λ o is.
-      let none = ap (λ (n : ℕ). has_other n p) (at_index o unmarked is ∙ get_or-replicate {A = ℕ} 60 (index o) 0 0 (placed o is).1) ∙ none_other p in
+      let none = ap (λ (n : ℕ). has_other n p) (nobody_at o unmarked.writers is (λ i below. get_or-replicate {A = ℕ} 60 i 0 0 below) refl) ∙ none_other p in
       (λ h. absurd (false≢true (sym none ∙ h)), λ i. absurd i);
 }
 
@@ -51,7 +51,7 @@ pub step_stands : (p : ℕ) (x : Step) (m : Marks) (os : List Object) → IsPart
 step_stands p x m os is_p is_who are h =
     let keeps = touching_keeps x.who x.touched m in
     let touched = touch_all x.who x.touched m in
-    let whole = ap (λ (sets : List ℕ). length sets) keeps ∙ h.whole in
+    let whole = ap (λ (w : Writers). length w.placed) keeps ∙ h.whole in
     record {
       whole = still_whole x.who x.written touched are ∙ whole;
       dirty = λ o is.

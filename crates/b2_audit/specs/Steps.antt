@@ -47,13 +47,13 @@ IsPartition p = (1 ≤ p) × (p ≤ 16)
 abbrev pub IsTerminal : ℕ → Type 0
 IsTerminal t = (1 ≤ t) × (t ≤ 12)
 
--- an object whose writers are marked
+-- an object whose writers are marked: each of the numbers that there are, and each name and device
 abbrev pub IsMarked : Object → Type 0
 IsMarked (object.Text p) = IsPartition p
 IsMarked (object.Borrow p) = IsPartition p
 IsMarked (object.Globals p) = IsPartition p
 IsMarked (object.Terminal t) = IsTerminal t
-IsMarked o = ⊥
+IsMarked o = Unit {0}
 
 abbrev pub AreMarked : List Object → Type 0
 AreMarked os = (o : Object) → IsIn o os → IsMarked o

@@ -1,10 +1,11 @@
 // The marks that partitions leave.
-ghost use Rattle.std.specs.Prelude.{◌≡◌};
-ghost use Rattle.b2_audit.specs.Marks.{unmarked, is_clean, object_place, writers_of, touch, write};
+ghost use Rattle.std.specs.Prelude.{◌≡◌, ◌<◌, None, OnOk, IfErr, IfSome, position};
+ghost use Rattle.b2_audit.specs.Marks.{unmarked, is_clean, is_same, object_place, set_among, with_one_among, writers_of, touch, write};
 
 use crate::part_set::PartSet;
 use b2_access::Object;
-use b2_base::Part;
+use b2_base::{NoMemory, Part};
+use std::alloc::Global;
 use std::marker::Model;
 
 /// Texts, who stands inside each and `@` variables of sixteen partitions, and twelve terminals.
@@ -14,8 +15,10 @@ const PLACES: usize = 60;
 /// clean until it touches an object that another one wrote before.
 #[derive(Drop)]
 pub struct Seen {
-    // Those who wrote each object, by its place.
-    writers: [PartSet; PLACES],
+    // Those who wrote each object that has a place.
+    placed: [PartSet; PLACES],
+    // Those who wrote each other object, once one did.
+    others: Vec<(Object, PartSet)>,
     clean: PartSet,
 }
 
@@ -24,12 +27,13 @@ impl Model for Seen {
 
     ghost Value = { Marks };
 
-    ghost view = { λ s. record { writers = s.writers; clean = s.clean } };
+    ghost view = { λ s. record { writers = record { placed = s.placed; others = s.others.items }; clean = s.clean } };
 }
 
-/// The place of an object, None for one of a kind that the store has not yet.
-fn object_place(object: Object) -> Option<usize>
-    ensures { result ≡ object_place object }
+/// The place of an object, None for a name or a device.
+fn object_place(object: &Object) -> Option<usize>
+    ensures value { result ≡ object_place object.now }
+    ensures below { IfSome result (λ place. place < 60) }
 {
     match object {
         Object::Text(p) => Some(usize::from(p.number() - 1)),
@@ -40,13 +44,72 @@ fn object_place(object: Object) -> Option<usize>
     }
 }
 
+/// Whether two objects without places are the same.
+fn is_same(a: &Object, b: &Object) -> bool
+    ensures { result ≡ is_same a.now b.now }
+{
+    match a {
+        Object::Name(n) => match b {
+            Object::Name(m) => n == m,
+            _ => false,
+        },
+        Object::Printer(n) => match b {
+            Object::Printer(m) => n == m,
+            _ => false,
+        },
+        Object::Platter(n) => match b {
+            Object::Platter(m) => n == m,
+            _ => false,
+        },
+        Object::Hog(n) => match b {
+            Object::Hog(m) => n == m,
+            _ => false,
+        },
+        _ => false,
+    }
+}
+
+/// The place of an object among the others, None where nobody wrote it.
+fn place_among(others: &[(Object, PartSet)], object: &Object) -> Option<usize>
+    ensures { result ≡ position (λ e. is_same e.0 object.now) others.now }
+{
+    others.iter().position(|row| is_same(&row.0, object))
+}
+
+/// Who wrote an object without a place.
+fn set_among(others: &[(Object, PartSet)], object: &Object) -> PartSet
+    ensures { result ≡ set_among object.now others.now }
+{
+    for row in others {
+        if is_same(&row.0, object) {
+            return row.1;
+        }
+    }
+    PartSet::none()
+}
+
+/// Adds a partition to those who wrote an object without a place.
+fn add_among(others: &mut Vec<(Object, PartSet)>, who: Part, object: Object) -> Result<(), NoMemory>
+    ensures { OnOk result (others.new.items ≡ with_one_among who object others.old.items) }
+{
+    match place_among(others, &object) {
+        Some(place) => {
+            let row = &mut others[place];
+            row.1 = row.1.with(who);
+        }
+        None => others.push((object, PartSet::none().with(who)))?,
+    }
+    Ok(())
+}
+
 impl Seen {
-    /// Nobody wrote anything, and each partition is clean.
-    pub fn new() -> Seen
+    /// Nobody wrote anything, and each partition is clean. It takes no memory.
+    pub fn new(alloc: Global) -> Seen
         ensures { result ≡ unmarked }
     {
         Seen {
-            writers: [PartSet::none(); PLACES],
+            placed: [PartSet::none(); PLACES],
+            others: Vec::new(alloc),
             clean: PartSet::all(),
         }
     }
@@ -59,12 +122,12 @@ impl Seen {
     }
 
     /// Who wrote an object.
-    fn writers_of(&self, object: Object) -> PartSet
-        ensures { result ≡ writers_of object self.now }
+    fn writers_of(&self, object: &Object) -> PartSet
+        ensures { result ≡ writers_of object.now self.now }
     {
         match object_place(object) {
-            Some(place) => self.writers[place],
-            None => PartSet::none(),
+            Some(place) => self.placed[place],
+            None => set_among(&self.others, object),
         }
     }
 
@@ -72,17 +135,22 @@ impl Seen {
     pub(crate) fn touch(&mut self, who: Part, object: Object)
         ensures { self.new ≡ touch who object self.old }
     {
-        if self.writers_of(object).has_other(who) {
+        if self.writers_of(&object).has_other(who) {
             self.clean = self.clean.without(who);
         }
     }
 
-    /// Marks that a partition writes an object.
-    pub(crate) fn write(&mut self, who: Part, object: Object)
-        ensures { self.new ≡ write who object self.old }
+    /// Marks that a partition writes an object. Memory fails only for a name or a device.
+    pub(crate) fn write(&mut self, who: Part, object: Object) -> Result<(), NoMemory>
+        ensures written { OnOk result (self.new ≡ write who object self.old) }
+        ensures memory { IfErr result (λ _. object_place object ≡ None) }
     {
-        if let Some(place) = object_place(object) {
-            self.writers[place] = self.writers[place].with(who);
+        match object_place(&object) {
+            Some(place) => {
+                self.placed[place] = self.placed[place].with(who);
+                Ok(())
+            }
+            None => add_among(&mut self.others, who, object),
         }
     }
 }

@@ -58,7 +58,7 @@ impl<S: Shared> Shared for Watched<'_, S> {
     fn serve(&mut self, who: Part, access: &Access) -> Result<Answer, NoMemory> {
         mark_touched(self.seen, who, access);
         let answer = self.inner.serve(who, access)?;
-        mark_written(self.seen, who, access, &answer);
+        mark_written(self.seen, who, access, &answer)?;
         Ok(answer)
     }
 

@@ -3,6 +3,7 @@ ghost use Rattle.std.specs.Prelude.{◌≡◌, ◌<◌, true, Option, Some, None
 ghost use Rattle.b2_rows.specs.Laws.{IsRow};
 ghost use Rattle.b2_rows.specs.Rows.{tree_at};
 ghost use Rattle.b2_vars.specs.Tables.{VarsState};
+ghost use Rattle.b2_access.specs.Answering.{can_answer};
 ghost use Rattle.b2_access.specs.Lending.{globals_lent, seen_lent};
 ghost use Rattle.b2_access.specs.Placed.{line_named, statement_on};
 ghost use Rattle.b2_language.specs.Languages.{AreLawful, Ways};
@@ -36,7 +37,7 @@ pub trait Language {
         ensures same_reference { lent.new.globals.ghost_name ≡ lent.old.globals.ghost_name }
         ensures part { me.new.part ≡ me.old.part };
 
-    /// How it finishes, by the access that it asked for and its answer.
+    /// How it finishes, by the access that it asked for and its answer, which is one that the access can have.
     fn finish(
         alloc: Global,
         row: u16,
@@ -45,6 +46,7 @@ pub trait Language {
         access: &Access,
         answer: &Answer,
     ) -> Result<Outcome, NoMemory>
+        requires possible { can_answer access.now answer.now ≡ true }
         ensures finished { IfOk result (λ o. record { me = me.new; globals = globals_lent lent.new; outcome = o } ≡ ways.finish row access.now answer.now me.old (seen_lent lent.old)) }
         ensures same_reference { lent.new.globals.ghost_name ≡ lent.old.globals.ghost_name }
         ensures part { me.new.part ≡ me.old.part };

@@ -4,6 +4,7 @@ ghost use Rattle.b2_atom.specs.Tree.{names_global, uses_in};
 ghost use Rattle.b2_rows.specs.Laws.{IsRow};
 ghost use Rattle.b2_rows.specs.Rows.{tree_at};
 ghost use Rattle.b2_vars.specs.Tables.{VarsState};
+ghost use Rattle.b2_access.specs.Answering.{can_answer};
 ghost use Rattle.b2_access.specs.Lending.{globals_lent, seen_lent, SeenLent};
 ghost use Rattle.b2_access.specs.Placed.{line_named as line_of_place, statement_placed as named_at, statement_on as named_on};
 ghost use Rattle.b2_machine.specs.Listed.{lists};
@@ -122,6 +123,7 @@ fn finish_by<L: Language>(
     access: &Access,
     answer: &Answer,
 ) -> Result<Outcome, NoMemory>
+    requires possible { can_answer access.now answer.now ≡ true }
     ensures finished { IfOk result (λ o. record { me = me.new; globals = globals_lent lent.new; outcome = o } ≡ spec.finish_by L.ways builder access.now answer.now me.old (seen_lent lent.old)) }
     ensures same_reference { lent.new.globals.ghost_name ≡ lent.old.globals.ghost_name }
     ensures part { me.new.part ≡ me.old.part }
@@ -287,6 +289,7 @@ pub fn finish_over<L: Language>(
     access: &Access,
     answer: &Answer,
 ) -> Result<Stepped, NoMemory>
+    requires possible { can_answer access.now answer.now ≡ true }
     ensures ended { IfOk result (λ e. record { me = me.new; end = e } ≡ spec.finishes L.ways builder access.now answer.now place me.old (seen_lent lent.entry)) }
     ensures part { me.new.part ≡ me.old.part }
 {

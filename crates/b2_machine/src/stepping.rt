@@ -1,5 +1,6 @@
 // A step: the first of six rules that applies.
-ghost use Rattle.std.specs.Prelude.{◌≡◌, Some, IfOk, OnOk, IsSome};
+ghost use Rattle.std.specs.Prelude.{◌≡◌, true, Some, IfOk, OnOk, IsSome};
+ghost use Rattle.b2_access.specs.Answering.{can_answer};
 ghost use Rattle.b2_access.specs.Store.{content};
 ghost use Rattle.b2_access.specs.Touching.{IsLegal};
 ghost use Rattle.b2_machine.specs.Statements.{begins};
@@ -25,6 +26,7 @@ use std::alloc::Global;
 fn ask_store<S: Shared>(s: &mut S, who: Part, access: &Access) -> Result<Answer, NoMemory>
     requires legal { IsLegal access.now }
     ensures served { IfOk result (λ a. record { after = S.meaning s.new; answer = a } ≡ S.serving (S.meaning s.old) who access.now) }
+    ensures possible { IfOk result (λ a. can_answer access.now a ≡ true) }
     ensures same { S.holds s.new ≡ S.holds s.old }
     ensures listed { OnOk result (KeepsAll (S.store (S.meaning s.old)) (S.store (S.meaning s.new))) }
 {
@@ -86,13 +88,14 @@ fn read_line<S: Shared>(alloc: Global, me: &mut Private, s: &mut S) -> Result<St
 {
     let access = Access::ReadLine { term: me.term };
     let answer = ask_store(s, me.part, &access)?;
-    match answer {
+    match &answer {
         Answer::Line(line) => {
             take_line(alloc, me, line.bytes())?;
             Ok(counts())
         }
-        Answer::Special(n) => press(alloc, me, s, n),
-        answer => Ok(repeats(&answer)),
+        Answer::Special(n) => press(alloc, me, s, *n),
+        Answer::NoKeys | Answer::Wait(_) => Ok(repeats(&answer)),
+        _ => unreachable!(),
     }
 }
 
@@ -149,6 +152,7 @@ fn finish<L: Language, S: Shared>(
     answer: Answer,
 ) -> Result<Stepped, NoMemory>
     requires own { IsSome (content (S.store (S.meaning s.old)) (Object.Text me.old.part)) }
+    requires possible { can_answer access.now answer ≡ true }
     ensures ended { IfOk result (λ e. record { me = me.new; after = S.meaning s.new; end = e } ≡ spec.finishes_by L.ways S.store S.serving S.lending builder access.now place me.old (record { after = S.meaning s.old; answer = answer })) }
     ensures same { S.holds s.new ≡ S.holds s.old }
     ensures part { me.new.part ≡ me.old.part }

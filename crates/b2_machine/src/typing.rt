@@ -1,5 +1,6 @@
 // Lines that are typed: what is read, and numbered ones that go into the text.
-ghost use Rattle.std.specs.Prelude.{◌≡◌, ◌≢◌, Err, IfOk, OnOk};
+ghost use Rattle.std.specs.Prelude.{◌≡◌, ◌≢◌, true, [], None, Err, IfOk, OnOk};
+ghost use Rattle.b2_access.specs.Answering.{can_answer};
 ghost use Rattle.b2_machine.specs.Typing as spec;
 
 use crate::ends::{Stepped, counts, repeats};
@@ -28,21 +29,27 @@ pub fn on_own_line(alloc: Global, column: u16, text: &[u8]) -> Result<ByteList, 
 
 /// Pending output was shown, or waits on.
 pub fn after_pending(me: &mut Private, access: &Access, answer: &Answer) -> Stepped
+    requires possible { can_answer access.now answer.now ≡ true }
     ensures ended { record { me = me.new; end = result } ≡ spec.shown_by access.now answer.now me.old }
     ensures part { me.new.part ≡ me.old.part }
 {
-    match (access, answer) {
-        (Access::Show { column, .. }, Answer::Done) => {
+    let Access::Show { column, .. } = access else {
+        return repeats(answer);
+    };
+    match answer {
+        Answer::Done => {
             me.pending = None;
             me.term_column = *column;
             counts()
         }
-        _ => repeats(answer),
+        Answer::Wait(_) => repeats(answer),
+        _ => unreachable!(),
     }
 }
 
 /// A literal was typed, or waits on.
 pub fn after_literal(me: &mut Private, answer: &Answer) -> Stepped
+    requires possible { can_answer (Access.Insert me.old.term []) answer.now ≡ true }
     ensures ended { record { me = me.new; end = result } ≡ spec.typed_by_key answer.now me.old }
     ensures part { me.new.part ≡ me.old.part }
 {
@@ -51,7 +58,8 @@ pub fn after_literal(me: &mut Private, answer: &Answer) -> Stepped
             me.literal = None;
             counts()
         }
-        _ => repeats(answer),
+        Answer::Wait(_) => repeats(answer),
+        _ => unreachable!(),
     }
 }
 
@@ -130,8 +138,9 @@ pub fn atoms_put(access: Access) -> Option<Atoms>
     }
 }
 
-/// A numbered line was put, or it is refused; with any other answer it waits on.
+/// A numbered line was put, or it is refused.
 pub fn after_put(alloc: Global, me: &mut Private, answer: &Answer) -> Result<Stepped, NoMemory>
+    requires possible { can_answer (Access.PutLine 0 None 0) answer.now ≡ true }
     ensures ended { IfOk result (λ e. record { me = me.new; end = e } ≡ spec.put_by answer.now me.old) }
     ensures part { me.new.part ≡ me.old.part }
 {
@@ -152,6 +161,6 @@ pub fn after_put(alloc: Global, me: &mut Private, answer: &Answer) -> Result<Ste
             refuse(alloc, me, *code)?;
             Ok(counts())
         }
-        _ => Ok(repeats(answer)),
+        _ => unreachable!(),
     }
 }

@@ -114,6 +114,10 @@ outside_is_out g = record {
   borrowers = λ p member bad. clash (g p) member bad;
   variables = λ p member bad. clash (g p) member bad;
   terminals = λ t bad. bad;
+  holds = λ a bad. bad;
+  platters = λ a bad. bad;
+  printers = λ a bad. bad;
+  names = λ n bad. bad;
 }
   where
     clash : (b : Bool) → b ≡ true → b ≡ false → ⊥

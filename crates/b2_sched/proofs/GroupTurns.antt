@@ -1,17 +1,21 @@
 -- A turn in two stores that have in common what isn't foul and isn't left out, of a member and of another.
-use Rattle.std.specs.Prelude.{◌≡◌, ℕ, zero, suc, Bool, true, false, List, [], ◌∷◌, Option, Some, None, refl}
+use Rattle.std.specs.Prelude.{◌≡◌, ℕ, zero, suc, Bool, true, false, List, [], ◌∷◌, ◌++◌, map, Option, Some, None, refl}
 use Rattle.std.proofs.Common.{sym, ap, subst, ◌∙◌, inl, inr}
 use Rattle.b2_access.specs.Homes.{IsWithin}
-use Rattle.b2_access.specs.Locality.{serves_is_local}
+use Rattle.b2_access.proofs.Locality.{serves_is_local}
+use Rattle.b2_access.proofs.Told.{no_borrowers}
 use Rattle.b2_access.specs.Objects.{Decided}
+use Rattle.b2_access.specs.AccessRows.{reach}
+use Rattle.b2_access.specs.Reach.{DevicePart, DeviceReach, HoldAlone, WithPlatter, WithPrinter, Reach, device_objects, objects_reached, part_objects, terminal_objects, text_objects, variable_objects}
 use Rattle.b2_access.specs.Serving.{serves, itself}
 use Rattle.b2_access.specs.Store.{StoreState, IsIn, content}
 use Rattle.b2_access.specs.Touching.{touched}
 use Rattle.b2_access.specs.declared.accesses.Access.{Access}
-use Rattle.b2_access.specs.declared.accesses.Access.TheVariants as access
 use Rattle.b2_access.specs.declared.objects.Object.{Object}
 use Rattle.b2_access.specs.declared.objects.Object.TheVariants as object
 use Rattle.b2_access.specs.declared.private.Private.{Private}
+use Rattle.b2_access.specs.declared.reached.TextUse.{TextUse}
+use Rattle.b2_access.specs.declared.reached.TextUse.TheVariants as text
 use Rattle.b2_audit.specs.Steps.{Step, Group}
 use Rattle.b2_basic.specs.Choice.{basic}
 use Rattle.b2_basic.specs.Lawful.{basic_is_lawful}
@@ -27,12 +31,17 @@ use Rattle.b2_sched.proofs.Foul.{foul_after, fouled, other_fouls, own_fouls_noth
 use Rattle.b2_sched.specs.Groups.{StoresAlike}
 use Rattle.b2_sched.specs.Turns.{after_loan, step_of, steps_in_turn, step_told}
 
--- Which objects may be left out: none that a member can come to. A partition comes to what is its own, and to terminals.
+-- Which objects may be left out: none that a member can come to. A partition comes to what is its own, to terminals, devices and
+-- names.
 pub record IsOut (g : Group) (out : Object → Type 0) : Type 0 where
   pub texts : (p : ℕ) → g p ≡ true → out (object.Text p) → ⊥
   pub borrowers : (p : ℕ) → g p ≡ true → out (object.Borrow p) → ⊥
   pub variables : (p : ℕ) → g p ≡ true → out (object.Globals p) → ⊥
   pub terminals : (t : ℕ) → out (object.Terminal t) → ⊥
+  pub holds : (a : List ℕ) → out (object.Hog a) → ⊥
+  pub platters : (a : List ℕ) → out (object.Platter a) → ⊥
+  pub printers : (a : List ℕ) → out (object.Printer a) → ⊥
+  pub names : (n : List ℕ) → out (object.Name n) → ⊥
 
 abbrev turn_on : ℕ → Private → StoreState → ℕ → TurnEnd StoreState
 turn_on n me s steps = turn_from basic itself serves after_loan n me s steps
@@ -97,14 +106,46 @@ module _ (g : Group) where
     none_out [] o h i bad = i
     none_out (x ∷ xs) o h i bad = elim i [ inl e ↦ h.0 (subst out e bad) | inr j ↦ none_out xs o h.1 j bad ]
 
+    both_in : (xs ys : List Object) → NoneOut xs → NoneOut ys → NoneOut (xs ++ ys)
+    both_in [] ys h k = k
+    both_in (x ∷ xs) ys h k = (h.0, both_in xs ys h.1 k)
+
+    terminal_in : (term : Option ℕ) → NoneOut (terminal_objects term)
+    terminal_in None = tt
+    terminal_in (Some t) = (is_out.terminals t, tt)
+
+    text_in : (who : ℕ) (used : TextUse) → g who ≡ true → NoneOut (text_objects who used)
+    text_in who text.Unused member = tt
+    text_in who text.Read member = (is_out.texts who member, tt)
+    text_in who text.Edited member = (is_out.borrowers who member, (is_out.texts who member, tt))
+
+    variables_in : (who : ℕ) (b : Bool) → g who ≡ true → NoneOut (variable_objects who b)
+    variables_in who true member = (is_out.variables who member, tt)
+    variables_in who false member = tt
+
+    part_in : (a : List ℕ) (p : DevicePart) → NoneOut (part_objects a p)
+    part_in a HoldAlone = (is_out.holds a, tt)
+    part_in a WithPlatter = (is_out.holds a, (is_out.platters a, tt))
+    part_in a WithPrinter = (is_out.holds a, (is_out.printers a, tt))
+
+    devices_in : (ds : List DeviceReach) → NoneOut (device_objects ds)
+    devices_in [] = tt
+    devices_in (d ∷ ds) = both_in (part_objects d.address d.part) (device_objects ds) (part_in d.address d.part) (devices_in ds)
+
+    names_in : (ns : List (List ℕ)) → NoneOut (map object.Name ns)
+    names_in [] = tt
+    names_in (n ∷ ns) = (is_out.names n, names_in ns)
+
+    reached : (who : ℕ) (r : Reach) → g who ≡ true → NoneOut (map object.Borrow r.borrowers) → NoneOut (objects_reached who r)
+    reached who r member lent =
+        both_in (terminal_objects r.terminal) _ (terminal_in r.terminal)
+        (both_in (text_objects who r.text) _ (text_in who r.text member)
+        (both_in (variable_objects who r.variables) _ (variables_in who r.variables member)
+        (both_in (map object.Borrow r.borrowers) _ lent
+        (both_in (device_objects r.devices) _ (devices_in r.devices) (names_in r.names)))))
+
     accessed : (who : ℕ) (a : Access) (s : StoreState) → g who ≡ true → NoneOut (touched s who a)
-    accessed who (access.Show term bytes column) s member = (is_out.terminals term, tt)
-    accessed who (access.ReadLine term) s member = (is_out.terminals term, tt)
-    accessed who (access.Insert term bytes) s member = (is_out.terminals term, tt)
-    accessed who (access.Key term) s member = (is_out.terminals term, tt)
-    accessed who (access.PutLine line atoms homes) s member = (is_out.borrowers who member, (is_out.texts who member, tt))
-    accessed who (access.Erase from to homes) s member = (is_out.borrowers who member, (is_out.texts who member, tt))
-    accessed who (access.ClearAll name homes) s member = (is_out.borrowers who member, (is_out.texts who member, (is_out.variables who member, tt)))
+    accessed who a s member = reached who (reach a) member (subst (λ (ps : List ℕ). NoneOut (map object.Borrow ps)) (sym (no_borrowers a)) tt)
 
     accessed_where : (a : Option Access) (who : ℕ) (s : StoreState) → g who ≡ true → NoneOut (touched_where a who s)
     accessed_where None who s member = tt

@@ -148,7 +148,7 @@ step_is_marked me =
 abbrev turn_with : TurnEnd StoreState → Marks → TurnEnd Watched
 turn_with t m = record { me = t.me; after = (t.after, m); turned = t.turned }
 
-one_step : (p : ℕ) (me : Private) (s : StoreState) (m : Marks) → IsPartition p → IsWithin (just p) me → AreMarked (step_written basic itself serves me s) → length m.writers ≡ 60 → IsOwnText p m
+one_step : (p : ℕ) (me : Private) (s : StoreState) (m : Marks) → IsPartition p → IsWithin (just p) me → AreMarked (step_written basic itself serves me s) → length m.writers.placed ≡ 60 → IsOwnText p m
     → step basic store_in (watching itself serves) (watched_loan after_loan) me (s, m) ≡ with_marks (step_of me s) (marked p (step_touched basic me s) (step_written basic itself serves me s) m)
 one_step p me s m is_p w are whole own =
     let same : me.part ≡ p = same_number me.part p w.part in
@@ -158,7 +158,7 @@ one_step p me s m is_p w are whole own =
     → step basic store_in (watching itself serves) (watched_loan after_loan) me (s, m) ≡ with_marks (step_of me s) (marked q (step_touched basic me s) (step_written basic itself serves me s) m))
     same (step_is_marked me s m) asks own after
 
-pub turn_is_marked : (p n : ℕ) (me : Private) (s : StoreState) (m : Marks) (steps : ℕ) → IsPartition p → IsWithin (just p) me → AreSteps (steps_in_turn p n me s) → length m.writers ≡ 60 → IsOwnText p m
+pub turn_is_marked : (p n : ℕ) (me : Private) (s : StoreState) (m : Marks) (steps : ℕ) → IsPartition p → IsWithin (just p) me → AreSteps (steps_in_turn p n me s) → length m.writers.placed ≡ 60 → IsOwnText p m
     → turn_from basic store_in (watching itself serves) (watched_loan after_loan) n me (s, m) steps ≡ turn_with (turn_from basic itself serves after_loan n me s steps) (marks_after (steps_in_turn p n me s) m)
 unfolding turn_from steps_in_turn
 turn_is_marked p zero me s m steps is_p w are whole own = refl
@@ -173,7 +173,7 @@ turn_is_marked p (suc n) me s m steps is_p w are whole own =
     still : IsOwnText p (marked p (step_touched basic me s) (step_written basic itself serves me s) m)
     still = still_own p p (step_touched basic me s) (step_written basic itself serves me s) m is_p is_p are.2 whole (λ i apart. apart refl) own
 
-    as_long : length (marked p (step_touched basic me s) (step_written basic itself serves me s) m).writers ≡ 60
+    as_long : length (marked p (step_touched basic me s) (step_written basic itself serves me s) m).writers.placed ≡ 60
     as_long = whole_on p (step_touched basic me s) (step_written basic itself serves me s) m are.2 whole
 
     by : (why : Option Why)

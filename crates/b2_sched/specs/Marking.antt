@@ -27,9 +27,9 @@ watched_turn n me m = turn basic store_in (watching itself serves) (watched_loan
 abbrev pub IsOwnText : ℕ → Marks → Type 0
 IsOwnText p m = has_other (writers_of (object.Text p) m) p ≡ false
 
--- marks have a place for each of sixty objects
+-- marks have sixty places
 abbrev pub AreWhole : Marks → Type 0
-AreWhole m = length m.writers ≡ 60
+AreWhole m = length m.writers.placed ≡ 60
 
 -- a turn, with marks beside the store
 abbrev pub with_marks : TurnEnd StoreState → Marks → TurnEnd Watched

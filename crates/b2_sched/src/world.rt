@@ -65,7 +65,7 @@ impl World {
             devices: DeviceTable::new(Vec::new(alloc)),
             privates,
             stores,
-            seen: Seen::new(),
+            seen: Seen::new(alloc),
             turns: 0,
             steps: 0,
             dropped: 0,
@@ -155,20 +155,20 @@ impl World {
     fn halt(&mut self, p: Part)
         ensures { self.new ≡ does (Halt p) self.old }
     {
-        let Some(_me) = self.privates.get(p) else {
+        let Some(me) = self.privates.get_mut(p) else {
             return;
         };
-        self.privates.value_mut(p).flag_halt();
+        me.flag_halt();
     }
 
     /// Asks a partition for a reset.
     fn reset(&mut self, p: Part)
         ensures { self.new ≡ does (Reset p) self.old }
     {
-        let Some(_me) = self.privates.get(p) else {
+        let Some(me) = self.privates.get_mut(p) else {
             return;
         };
-        self.privates.value_mut(p).flag_reset();
+        me.flag_reset();
     }
 
     /// A turn of a partition over the store, which is watched meanwhile; an absent one has none.
@@ -176,10 +176,9 @@ impl World {
         ensures turned { OnOk result (self.new ≡ does (Turn part quota) self.old) }
         ensures ended { IfErr result (λ _. self.new.privates ≡ []) }
     {
-        let Some(_me) = self.privates.get(part) else {
+        let Some(me) = self.privates.get_mut(part) else {
             return Ok(());
         };
-        let me = self.privates.value_mut(part);
         let mut watched = Watched::new(&mut self.stores, &mut self.seen);
         match turn::<Basic, _>(self.alloc, me, &mut watched, &self.devices, quota) {
             Ok(turned) => {

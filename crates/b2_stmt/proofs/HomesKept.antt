@@ -30,7 +30,6 @@ use Rattle.b2_access.specs.Places.{goal_place, line_after, line_start}
 use Rattle.b2_access.specs.declared.accesses.Access.{Access}
 use Rattle.b2_access.specs.declared.accesses.Access.TheVariants as access
 use Rattle.b2_access.specs.declared.accesses.Answer.{Answer}
-use Rattle.b2_access.specs.declared.accesses.Answer.TheVariants as answer
 use Rattle.b2_access.specs.declared.planned.Outcome.{Outcome}
 use Rattle.b2_access.specs.declared.planned.Outcome.TheVariants as outcome
 use Rattle.b2_access.specs.declared.private.Private.{Private}
@@ -44,7 +43,7 @@ use Rattle.b2_stmt.specs.Reading.{reads_data}
 use Rattle.b2_stmt.specs.Branches.{goto_goal, if_goal, passed_function}
 use Rattle.b2_stmt.specs.Calls.{back_from, called_where, forgets, leaves_call}
 use Rattle.b2_stmt.specs.Choices.{calls_a_line, choice_in}
-use Rattle.b2_stmt.specs.Clearing.{asked_access, cleared, edited, edit_finishes}
+use Rattle.b2_stmt.specs.Clearing.{asked_access, clearing_ends, edit_finishes}
 use Rattle.b2_stmt.specs.Course.{continues, restores, restores_where, runs, runs_from, runs_where}
 use Rattle.b2_stmt.specs.Frames.{with_frame}
 use Rattle.b2_access.specs.Going.{to_found, to_goal, to_place, where_there}
@@ -53,6 +52,7 @@ use Rattle.b2_stmt.specs.Loops.{loop_begins, loop_element, loop_counts, goes_rou
 use Rattle.b2_access.specs.Placed.{line_named}
 use Rattle.b2_stmt.specs.Plan.{permitted, by_access, course, course_at, course_in, ended_of, finish, is_refused, plan}
 use Rattle.b2_access.specs.Planning.{Ended, Planning, done, goes_or}
+use Rattle.b2_access.specs.Views.{ClearCame, AllCleared, LinesErased, TextLocked, ClearLater, clear_came}
 use Rattle.b2_access.proofs.Choice.{either}
 use Rattle.b2_stmt.proofs.Erased.{each_erased}
 use Rattle.b2_stmt.specs.declared.asked.Asked.{Asked}
@@ -405,26 +405,15 @@ module _ (among : ℕ → Bool) where
   planned_in (Some p) me s k w = line_in (line_named me.immediate s.home.lines p.line) p me s k w
 
   -- how it finishes
-  edited_in : (a : Answer) (after me : Private) → Within after → Within me → EndedIn (edited a after me)
+  clears_in : (k : ClearCame) (me : Private) → Within me → EndedIn (clearing_ends k me)
   unfolding EndedIn
-  edited_in answer.Done after me v w = (v, tt)
-  edited_in (answer.Line bytes) after me v w = (w, tt)
-  edited_in (answer.Special n) after me v w = (w, tt)
-  edited_in (answer.Key b) after me v w = (w, tt)
-  edited_in answer.NoKeys after me v w = (w, tt)
-  edited_in (answer.Wait q) after me v w = (w, tt)
-  edited_in (answer.Locked q) after me v w = (w, tt)
-  edited_in (answer.Refused code) after me v w = (w, tt)
+  clears_in AllCleared me w = (record { part = w.part; place = w.place; kept = tt; frames = tt }, tt)
+  clears_in LinesErased me w = (record { part = w.part; place = w.place; kept = tt; frames = tt }, tt)
+  clears_in TextLocked me w = (w, tt)
+  clears_in ClearLater me w = (w, tt)
 
   finishes_in : (x : Access) (a : Answer) (me : Private) → Within me → EndedIn (edit_finishes x a me)
-  unfolding EndedIn
-  finishes_in (access.ClearAll name homes) a me w = edited_in a (cleared me) me (record { part = w.part; place = w.place; kept = tt; frames = tt }) w
-  finishes_in (access.Erase from to homes) a me w = edited_in a _ me (record { part = w.part; place = w.place; kept = tt; frames = tt }) w
-  finishes_in (access.Show term bytes column) a me w = (w, tt)
-  finishes_in (access.ReadLine term) a me w = (w, tt)
-  finishes_in (access.Insert term bytes) a me w = (w, tt)
-  finishes_in (access.Key term) a me w = (w, tt)
-  finishes_in (access.PutLine line atoms homes) a me w = (w, tt)
+  finishes_in x a me w = clears_in (clear_came x a) me w
 
 pub plans_within : PlansWithin plan
 unfolding PlanningIn

@@ -28,17 +28,17 @@ use Rattle.b2_access.specs.Planning.{Ended, Planning, done}
 use Rattle.b2_access.specs.declared.accesses.Access.{Access}
 use Rattle.b2_access.specs.declared.accesses.Access.TheVariants as access
 use Rattle.b2_access.specs.declared.accesses.Answer.{Answer}
-use Rattle.b2_access.specs.declared.accesses.Answer.TheVariants as answer
 use Rattle.b2_access.specs.declared.planned.Outcome.{Outcome}
 use Rattle.b2_access.specs.declared.planned.Outcome.TheVariants as outcome
 use Rattle.b2_access.specs.declared.planned.Planned.TheVariants as planned
 use Rattle.b2_access.specs.declared.private.Private.{Private}
+use Rattle.b2_access.specs.Views.{ClearCame, AllCleared, LinesErased, TextLocked, ClearLater, clear_came}
 use Rattle.b2_access.proofs.Choice.{either}
 use Rattle.b2_access.proofs.OwnTerminal.{names_none}
 use Rattle.b2_expr.specs.Value.{context_of}
 use Rattle.b2_stmt.specs.Asked.{Here, asked_of, carried}
 use Rattle.b2_stmt.specs.Calls.{back_from, called_where, forgets, leaves_call}
-use Rattle.b2_stmt.specs.Clearing.{asked_access, cleared, edited, edit_finishes}
+use Rattle.b2_stmt.specs.Clearing.{asked_access, clearing_ends, edit_finishes}
 use Rattle.b2_stmt.specs.Course.{continues, restores, restores_where, runs, runs_from, runs_where}
 use Rattle.b2_stmt.specs.Frames.{with_frame}
 use Rattle.b2_stmt.specs.Loops.{loop_begins, loop_element, loop_counts, goes_round, is_over, made_loop, next_value, nexts, tested, without_loop}
@@ -230,26 +230,15 @@ module _ (here : Option Place × ℕ) (matters : Bool) where
   at_place (Some p) me s k = on_line (line_named me.immediate s.home.lines p.line) p me s k
 
   -- how it finishes
-  edits : (a : Answer) (after me : Private) → KeepsNoPlace after → KeepsNoPlace me → KeepsNothing (edited a after me)
+  clears : (k : ClearCame) (me : Private) → KeepsNoPlace me → KeepsNothing (clearing_ends k me)
   unfolding KeepsNothing
-  edits answer.Done after me h k = (h.0, λ r. inl (h.1 r))
-  edits (answer.Line bytes) after me h k = (k.0, λ r. inl (k.1 r))
-  edits (answer.Special n) after me h k = (k.0, λ r. inl (k.1 r))
-  edits (answer.Key b) after me h k = (k.0, λ r. inl (k.1 r))
-  edits answer.NoKeys after me h k = (k.0, λ r. inl (k.1 r))
-  edits (answer.Wait q) after me h k = (k.0, λ r. inl (k.1 r))
-  edits (answer.Locked q) after me h k = (k.0, λ r. inl (k.1 r))
-  edits (answer.Refused code) after me h k = (k.0, λ r. inl (k.1 r))
+  clears AllCleared me h = (h.0, λ r. inl refl)
+  clears LinesErased me h = (h.0, λ r. inl refl)
+  clears TextLocked me h = (h.0, λ r. inl (h.1 r))
+  clears ClearLater me h = (h.0, λ r. inl (h.1 r))
 
   finishing : (x : Access) (a : Answer) (me : Private) → KeepsNoPlace me → KeepsNothing (edit_finishes x a me)
-  unfolding KeepsNothing
-  finishing (access.ClearAll name homes) a me k = edits a (cleared me) me (k.0, λ r. refl) k
-  finishing (access.Erase from to homes) a me k = edits a _ me (k.0, λ r. refl) k
-  finishing (access.Show term bytes column) a me k = (k.0, λ r. inl (k.1 r))
-  finishing (access.ReadLine term) a me k = (k.0, λ r. inl (k.1 r))
-  finishing (access.Insert term bytes) a me k = (k.0, λ r. inl (k.1 r))
-  finishing (access.Key term) a me k = (k.0, λ r. inl (k.1 r))
-  finishing (access.PutLine line atoms homes) a me k = (k.0, λ r. inl (k.1 r))
+  finishing x a me k = clears (clear_came x a) me k
 
 -- of the place and of the terminal
 same_place : (me after : Private) → stands after ≡ stands me → after.place ≡ me.place

@@ -1,23 +1,20 @@
 -- A statement that has to wait leaves the partition as it was.
-use Rattle.std.proofs.Common.{◌≡◌, refl, ℕ, Bool, true, false, List, Option, Some, None, is_some}
+use Rattle.std.proofs.Common.{ap, refl, ℕ, List, Option, Some, None, is_some}
 use Rattle.std.specs.Prelude.{slice_get}
 use Rattle.b2_atom.specs.Units.{TreeUnit}
 use Rattle.b2_rows.specs.Following.{tree_units}
 use Rattle.b2_flow.specs.declared.frame.Place.{Place}
-use Rattle.b2_access.specs.Answering.{delays}
 use Rattle.b2_access.specs.Lending.{SeenLent}
 use Rattle.b2_access.specs.Placed.{line_named}
 use Rattle.b2_access.specs.Planning.{Ended, Planning}
 use Rattle.b2_access.specs.Waiting.{FinishesUnchanged, PlansBeforeChanges, UnchangedIfAsks}
 use Rattle.b2_access.specs.declared.accesses.Access.{Access}
-use Rattle.b2_access.specs.declared.accesses.Access.TheVariants as access
-use Rattle.b2_access.specs.declared.accesses.Answer.{Answer}
-use Rattle.b2_access.specs.declared.accesses.Answer.TheVariants as answer
 use Rattle.b2_access.specs.declared.private.Private.{Private}
+use Rattle.b2_access.specs.Views.{ClearCame}
 use Rattle.b2_access.proofs.Choice.{either}
+use Rattle.b2_access.proofs.Delays.{clear_delayed}
 use Rattle.b2_stmt.specs.Asked.{Here}
-use Rattle.b2_stmt.specs.Clearing.{asked_access, cleared, edited, edit_finishes}
-use Rattle.b2_stmt.specs.Calls.{without_frames}
+use Rattle.b2_stmt.specs.Clearing.{asked_access, clearing_ends}
 use Rattle.b2_stmt.specs.Plan.{by_access, course, course_at, course_in, ended_of, finish, is_refused, permitted, plan}
 
 module _ (me : Private) (s : SeenLent) where
@@ -52,24 +49,5 @@ pub plans_before_changes : PlansBeforeChanges plan
 unfolding BeforeChanges
 plans_before_changes me s = at_place me s me.place
 
-after_edit : (a : Answer) (after me : Private) → delays a ≡ true → (edited a after me).me ≡ me
-after_edit answer.Done after me h = cc
-after_edit (answer.Line bytes) after me h = refl
-after_edit (answer.Special n) after me h = refl
-after_edit (answer.Key b) after me h = refl
-after_edit answer.NoKeys after me h = refl
-after_edit (answer.Wait q) after me h = refl
-after_edit (answer.Locked q) after me h = refl
-after_edit (answer.Refused code) after me h = refl
-
-after_access : (x : Access) (a : Answer) (me : Private) → delays a ≡ true → (edit_finishes x a me).me ≡ me
-after_access (access.ClearAll name homes) a me h = after_edit a (cleared me) me h
-after_access (access.Erase from to homes) a me h = after_edit a (without_frames me) me h
-after_access (access.Show term bytes column) a me h = refl
-after_access (access.ReadLine term) a me h = refl
-after_access (access.Insert term bytes) a me h = refl
-after_access (access.Key term) a me h = refl
-after_access (access.PutLine line atoms homes) a me h = refl
-
 pub finishes_unchanged : FinishesUnchanged finish
-finishes_unchanged x a me s h = after_access x a me h
+finishes_unchanged x a me s h = ap (λ (k : ClearCame). (clearing_ends k me).me) (clear_delayed x a h)

@@ -10,12 +10,12 @@ use Rattle.b2_access.specs.Partition.{terminal_address}
 use Rattle.b2_access.specs.declared.accesses.Access.{Access}
 use Rattle.b2_access.specs.declared.accesses.Access.TheVariants as access
 use Rattle.b2_access.specs.declared.accesses.Answer.{Answer}
-use Rattle.b2_access.specs.declared.accesses.Answer.TheVariants as answer
 use Rattle.b2_access.specs.declared.planned.Outcome.TheVariants as outcome
 use Rattle.b2_access.specs.declared.private.Private.{Private}
 use Rattle.b2_stmt.specs.Calls.{without_frames}
 use Rattle.b2_rows.specs.LineNumbers.{named_lines}
 use Rattle.b2_access.specs.Planning.{Ended, stays}
+use Rattle.b2_access.specs.Views.{ClearCame, AllCleared, LinesErased, TextLocked, ClearLater, clear_came}
 
 -- the lines that are named go: up to the last one of the text, where no second one is named
 abbrev pub erases_lines : ℕ × Option ℕ → Access
@@ -36,13 +36,12 @@ asked_access r t = if r == row.CLEAR then Some (access.ClearAll None 0) else (if
 abbrev pub cleared : Private → Private
 cleared me = record (without_frames me) { vars = record me.vars { table = map.empty }; pending = Some (terminal_address, codes "READY" ++ byte.newline ∷ []) }
 
--- what a partition is after a text of its own was changed; A08 where another stands inside it, and else the step is repeated
-abbrev pub edited : Answer → Private → Private → Ended
-edited answer.Done after me = record { me = after; outcome = outcome.Ready }
-edited (answer.Locked q) after me = stays me (outcome.Failed A08_TEXT_BORROWED)
-edited a after me = stays me outcome.Repeat
+-- how a statement finishes that clears text: the frames go with the lines; A08 where another stands inside it; else the step is repeated
+abbrev pub clearing_ends : ClearCame → Private → Ended
+clearing_ends AllCleared me = record { me = cleared me; outcome = outcome.Ready }
+clearing_ends LinesErased me = record { me = without_frames me; outcome = outcome.Ready }
+clearing_ends TextLocked me = stays me (outcome.Failed A08_TEXT_BORROWED)
+clearing_ends ClearLater me = stays me outcome.Repeat
 
 abbrev pub edit_finishes : Access → Answer → Private → Ended
-edit_finishes (access.ClearAll name homes) a me = edited a (cleared me) me
-edit_finishes (access.Erase from to homes) a me = edited a (without_frames me) me
-edit_finishes x a me = stays me outcome.Repeat
+edit_finishes x a me = clearing_ends (clear_came x a) me

@@ -1,10 +1,10 @@
 // CLEAR and CLEAR P: what they ask of the store, and how they finish.
-ghost use Rattle.std.specs.Prelude.{◌≡◌, ◌≢◌, true, IfOk};
+ghost use Rattle.std.specs.Prelude.{◌≡◌, true, IfOk};
 ghost use Rattle.b2_atom.specs.declared.rows.TheConstants as row;
 ghost use Rattle.b2_rows.specs.Rows.{is_part, tree_at};
+ghost use Rattle.b2_access.specs.Answering.{can_answer};
 ghost use Rattle.b2_access.specs.Lending.{globals_lent, seen_lent};
-ghost use Rattle.b2_access.specs.declared.private.Private.{Private};
-ghost use Rattle.b2_stmt.specs.Calls.{without_frames};
+ghost use Rattle.b2_access.specs.Views.{AllCleared, LinesErased};
 ghost use Rattle.b2_stmt.specs.Clearing as spec;
 ghost use Rattle.b2_stmt.specs.Plan.{finish};
 
@@ -55,7 +55,7 @@ pub fn asked_access(row: u16, unit: &[u8]) -> Option<Access>
 
 /// After lines were erased.
 fn erase_lines(me: &mut Private) -> Outcome
-    ensures ended { record { me = me.new; outcome = result } ≡ spec.edited Answer.Done (without_frames me.old) me.old }
+    ensures ended { record { me = me.new; outcome = result } ≡ spec.clearing_ends LinesErased me.old }
     ensures part { me.new.part ≡ me.old.part }
 {
     drop_frames(me);
@@ -64,7 +64,7 @@ fn erase_lines(me: &mut Private) -> Outcome
 
 /// After all was cleared: the variables go too.
 fn clear_all(alloc: Global, me: &mut Private) -> Result<Outcome, NoMemory>
-    ensures ended { IfOk result (λ o. record { me = me.new; outcome = o } ≡ spec.edited Answer.Done (spec.cleared me.old) me.old) }
+    ensures ended { IfOk result (λ o. record { me = me.new; outcome = o } ≡ spec.clearing_ends AllCleared me.old) }
     ensures part { me.new.part ≡ me.old.part }
 {
     let ready = ByteList::from_slice(alloc, b"READY\n")?;
@@ -74,17 +74,6 @@ fn clear_all(alloc: Global, me: &mut Private) -> Result<Outcome, NoMemory>
     Ok(outcome)
 }
 
-/// Where a text was not changed: A08 where another partition stands inside it, and else the step is repeated.
-fn not_edited(answer: &Answer) -> Outcome
-    requires undone { answer.now ≢ Answer.Done }
-    ensures { (me after : Private) → record { me = me; outcome = result } ≡ spec.edited answer.now after me }
-{
-    match answer {
-        Answer::Locked(_) => failed(A08_TEXT_BORROWED),
-        _ => Outcome::Repeat,
-    }
-}
-
 /// How a statement finishes by the answer to the access that it asked for.
 fn finish_with(
     alloc: Global,
@@ -92,19 +81,26 @@ fn finish_with(
     access: &Access,
     answer: &Answer,
 ) -> Result<Outcome, NoMemory>
+    requires possible { can_answer access.now answer.now ≡ true }
     ensures ended { IfOk result (λ o. record { me = me.new; outcome = o } ≡ spec.edit_finishes access.now answer.now me.old) }
     ensures part { me.new.part ≡ me.old.part }
 {
-    match (access, answer) {
-        (Access::ClearAll { .. }, Answer::Done) => clear_all(alloc, me),
-        (Access::Erase { .. }, Answer::Done) => Ok(erase_lines(me)),
-        (Access::ClearAll { .. } | Access::Erase { .. }, answer) => Ok(not_edited(answer)),
+    match access {
+        Access::ClearAll { .. } => match answer {
+            Answer::Done => clear_all(alloc, me),
+            Answer::Locked(_) => Ok(failed(A08_TEXT_BORROWED)),
+            _ => unreachable!(),
+        },
+        Access::Erase { .. } => match answer {
+            Answer::Done => Ok(erase_lines(me)),
+            Answer::Locked(_) => Ok(failed(A08_TEXT_BORROWED)),
+            _ => unreachable!(),
+        },
         _ => Ok(Outcome::Repeat),
     }
 }
 
-/// How a statement finishes, by the access that it asked for and its answer. Where the answer is none of that access, nothing
-/// changes and the step is repeated.
+/// How a statement finishes, by the access that it asked for and its answer, which is one that the access can have.
 pub fn finish(
     alloc: Global,
     me: &mut Private,
@@ -112,6 +108,7 @@ pub fn finish(
     access: &Access,
     answer: &Answer,
 ) -> Result<Outcome, NoMemory>
+    requires possible { can_answer access.now answer.now ≡ true }
     ensures finished { IfOk result (λ o. record { me = me.new; globals = globals_lent lent.new; outcome = o } ≡ finish access.now answer.now me.old (seen_lent lent.old)) }
     ensures same_globals { lent.new.globals.now ≡ lent.old.globals.now }
     ensures same_reference { lent.new.globals.ghost_name ≡ lent.old.globals.ghost_name }

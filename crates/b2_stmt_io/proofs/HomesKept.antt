@@ -17,10 +17,10 @@ use Rattle.b2_access.specs.Partition.{setting_of}
 use Rattle.b2_access.specs.Placed.{Statement, statement_placed}
 use Rattle.b2_access.specs.Places.{line_start}
 use Rattle.b2_access.specs.Planning.{Ended, Planning, goes_or, with_assigned}
+use Rattle.b2_access.specs.Views.{KeyCame, ByteTyped, KeyPressed, NoKey, KeyLater, LineCame, PromptShown, LineEntered, LineLeft, LineLater, column_shown, key_came, line_came}
 use Rattle.b2_access.specs.declared.accesses.Access.{Access}
 use Rattle.b2_access.specs.declared.accesses.Access.TheVariants as access
 use Rattle.b2_access.specs.declared.accesses.Answer.{Answer}
-use Rattle.b2_access.specs.declared.accesses.Answer.TheVariants as answer
 use Rattle.b2_access.specs.declared.planned.Outcome.{Outcome}
 use Rattle.b2_access.specs.declared.planned.Outcome.TheVariants as outcome
 use Rattle.b2_access.specs.declared.private.Private.{Private}
@@ -28,11 +28,11 @@ use Rattle.b2_access.proofs.Choice.{either}
 use Rattle.b2_expr.specs.Value.{context_of}
 use Rattle.b2_stmt_io.specs.Converting.{converts}
 use Rattle.b2_stmt_io.specs.Inputs.{takes_typed}
-use Rattle.b2_stmt_io.specs.Keys.{first_named, key_leads, key_taken, other_named, key_assigned, waits, without_key}
-use Rattle.b2_stmt_io.specs.LineReading.{after_showing, line_answered, types}
+use Rattle.b2_stmt_io.specs.Keys.{first_named, key_leads, key_taken_by, other_named, key_assigned, waits, without_key}
+use Rattle.b2_stmt_io.specs.LineReading.{line_answered_by, types}
 use Rattle.b2_stmt_io.specs.Marks.{typed_by_mark}
 use Rattle.b2_stmt_io.specs.Plan.{asked_of, course, course_at, course_of, finish_ended, ended_at, ended_of, finish, is_refused, plan}
-use Rattle.b2_stmt_io.specs.Showing.{shown}
+use Rattle.b2_stmt_io.specs.Showing.{shown_where}
 use Rattle.b2_stmt_io.proofs.Planned.{each_asked}
 
 true_is_false : true ≡ false → ⊥
@@ -87,22 +87,10 @@ module _ (among : ℕ → Bool) where
   planned_in (Some p) me s w = unit_in (statement_placed p me.immediate s.home.lines) p me s w
 
   -- how PRINT and PRINTUSING finish
-  shown_in : (x : Access) (a : Answer) (me : Private) → Within me → EndedIn (shown x a me)
+  shown_in : (o : Option ℕ) (me : Private) → Within me → EndedIn (shown_where o me)
   unfolding EndedIn
-  shown_in (access.Show term bytes column) answer.Done me w = (record { part = w.part; place = w.place; kept = w.kept; frames = w.frames }, tt)
-  shown_in (access.Show term shown column) (answer.Line bytes) me w = (w, tt)
-  shown_in (access.Show term shown column) (answer.Special n) me w = (w, tt)
-  shown_in (access.Show term shown column) (answer.Key b) me w = (w, tt)
-  shown_in (access.Show term shown column) answer.NoKeys me w = (w, tt)
-  shown_in (access.Show term shown column) (answer.Wait q) me w = (w, tt)
-  shown_in (access.Show term shown column) (answer.Locked q) me w = (w, tt)
-  shown_in (access.Show term shown column) (answer.Refused code) me w = (w, tt)
-  shown_in (access.ReadLine term) a me w = (w, tt)
-  shown_in (access.Insert term bytes) a me w = (w, tt)
-  shown_in (access.Key term) a me w = (w, tt)
-  shown_in (access.PutLine line atoms homes) a me w = (w, tt)
-  shown_in (access.Erase from to homes) a me w = (w, tt)
-  shown_in (access.ClearAll name homes) a me w = (w, tt)
+  shown_in (Some column) me w = (record { part = w.part; place = w.place; kept = w.kept; frames = w.frames }, tt)
+  shown_in None me w = (w, tt)
 
   -- KEYIN
   there_in : (o : Option (List ℕ)) (p : Place) → among p.home ≡ true → OutcomeIn among (where_there o p)
@@ -136,28 +124,14 @@ module _ (among : ℕ → Bool) where
   no_key_in (Put w (Put v t)) = tt
   no_key_in (Put w (In n receiver lines)) = waits_in lines
 
-  keyed_in : (a : Answer) (home : TextState) (p : Place) (t : Trees) (me : Private) → among p.home ≡ true → Within me → EndedIn (key_taken a home p t me)
+  keyed_in : (k : KeyCame) (home : TextState) (p : Place) (t : Trees) (me : Private) → among p.home ≡ true → Within me → EndedIn (key_taken_by k home p t me)
   unfolding EndedIn
-  keyed_in answer.Done home p t me k w = (w, tt)
-  keyed_in (answer.Line bytes) home p t me k w = (w, tt)
-  keyed_in (answer.Special n) home p t me k w = key_in n true home p t me k w
-  keyed_in (answer.Key key) home p t me k w = key_in key false home p t me k w
-  keyed_in answer.NoKeys home p t me k w = (w, no_key_in t)
-  keyed_in (answer.Wait q) home p t me k w = (w, tt)
-  keyed_in (answer.Locked q) home p t me k w = (w, tt)
-  keyed_in (answer.Refused code) home p t me k w = (w, tt)
+  keyed_in (ByteTyped key) home p t me k w = key_in key false home p t me k w
+  keyed_in (KeyPressed n) home p t me k w = key_in n true home p t me k w
+  keyed_in NoKey home p t me k w = (w, no_key_in t)
+  keyed_in KeyLater home p t me k w = (w, tt)
 
   -- INPUT and LINPUT
-  prompt_in : (x : Access) (me : Private) → Within me → EndedIn (after_showing x me)
-  unfolding EndedIn
-  prompt_in (access.Show term bytes column) me w = (record { part = w.part; place = w.place; kept = w.kept; frames = w.frames }, tt)
-  prompt_in (access.ReadLine term) me w = (w, tt)
-  prompt_in (access.Insert term bytes) me w = (w, tt)
-  prompt_in (access.Key term) me w = (w, tt)
-  prompt_in (access.PutLine line atoms homes) me w = (w, tt)
-  prompt_in (access.Erase from to homes) me w = (w, tt)
-  prompt_in (access.ClearAll name homes) me w = (w, tt)
-
   types_in : (o : Option (List ℕ)) (me : Private) → Within me → EndedIn (types o me)
   unfolding EndedIn
   types_in None me w = (w, tt)
@@ -166,24 +140,20 @@ module _ (among : ℕ → Bool) where
   at_line_start : (me : Private) → Within me → Within (record me { term_column = 0 })
   at_line_start me w = record { part = w.part; place = w.place; kept = w.kept; frames = w.frames }
 
-  line_in : (takes : List ℕ → VarsState → Assigned) (x : Access) (a : Answer) (own : Lines) (me : Private) → Within me → EndedIn (line_answered takes x a own me)
+  line_in : (takes : List ℕ → VarsState → Assigned) (l : LineCame) (own : Lines) (me : Private) → Within me → EndedIn (line_answered_by takes l own me)
   unfolding EndedIn
-  line_in takes x answer.Done own me w = prompt_in x me w
-  line_in takes x (answer.Line line) own me w = assigned_in (takes line me.vars) outcome.Next (record me { term_column = 0 }) tt (at_line_start me w)
-  line_in takes x (answer.Special n) own me w = types_in (typed_by_mark n own) me w
-  line_in takes x (answer.Key b) own me w = (w, tt)
-  line_in takes x answer.NoKeys own me w = (w, tt)
-  line_in takes x (answer.Wait q) own me w = (w, tt)
-  line_in takes x (answer.Locked q) own me w = (w, tt)
-  line_in takes x (answer.Refused code) own me w = (w, tt)
+  line_in takes (PromptShown bytes) own me w = (record { part = w.part; place = w.place; kept = w.kept; frames = w.frames }, tt)
+  line_in takes (LineEntered line) own me w = assigned_in (takes line me.vars) outcome.Next (record me { term_column = 0 }) tt (at_line_start me w)
+  line_in takes (LineLeft n) own me w = types_in (typed_by_mark n own) me w
+  line_in takes LineLater own me w = (w, tt)
 
   -- how a statement finishes
   ended_of_in : (u : Statement) (p : Place) (x : Access) (a : Answer) (me : Private) (s : SeenLent) → among p.home ≡ true → Within me → EndedIn (ended_of u p x a me s)
   unfolding EndedIn
   ended_of_in u p x a me s k w =
-      either EndedIn (u.row == row.PRINT || u.row == row.PRINTUSING) _ _ (shown_in x a me w)
-      (either EndedIn (u.row == row.KEYIN) _ _ (keyed_in a s.home p u.tree me k w)
-      (either EndedIn (u.row == row.LINPUT || u.row == row.INPUT) _ _ (line_in (λ line vars. takes_typed u.row (setting_of me) s.home line u.tree vars) x a s.own.lines me w) (w, tt)))
+      either EndedIn (u.row == row.PRINT || u.row == row.PRINTUSING) _ _ (shown_in (column_shown x a) me w)
+      (either EndedIn (u.row == row.KEYIN) _ _ (keyed_in (key_came x a) s.home p u.tree me k w)
+      (either EndedIn (u.row == row.LINPUT || u.row == row.INPUT) _ _ (line_in (λ line vars. takes_typed u.row (setting_of me) s.home line u.tree vars) (line_came x a) s.own.lines me w) (w, tt)))
 
   ended_at_in : (o : Option Statement) (p : Place) (x : Access) (a : Answer) (me : Private) (s : SeenLent) → among p.home ≡ true → Within me → EndedIn (ended_at o p x a me s)
   unfolding EndedIn

@@ -13,20 +13,20 @@ use Rattle.b2_access.specs.OwnTerminal.{FinishesAtTerminal, PlannedAt, PlansAtTe
 use Rattle.b2_access.specs.Partition.{setting_of}
 use Rattle.b2_access.specs.Placed.{Statement, statement_placed}
 use Rattle.b2_access.specs.Planning.{Ended, Planning}
+use Rattle.b2_access.specs.Views.{KeyCame, ByteTyped, KeyPressed, NoKey, KeyLater, LineCame, PromptShown, LineEntered, LineLeft, LineLater, column_shown, key_came, line_came}
 use Rattle.b2_access.specs.declared.accesses.Access.{Access}
 use Rattle.b2_access.specs.declared.accesses.Access.TheVariants as access
 use Rattle.b2_access.specs.declared.accesses.Answer.{Answer}
-use Rattle.b2_access.specs.declared.accesses.Answer.TheVariants as answer
 use Rattle.b2_access.specs.declared.private.Private.{Private}
 use Rattle.b2_access.proofs.Choice.{either}
 use Rattle.b2_access.proofs.OwnTerminal.{names_own}
 use Rattle.b2_expr.specs.Value.{context_of}
 use Rattle.b2_stmt_io.specs.Inputs.{takes_typed}
-use Rattle.b2_stmt_io.specs.Keys.{key_taken, key_assigned}
-use Rattle.b2_stmt_io.specs.LineReading.{after_showing, line_answered, types}
+use Rattle.b2_stmt_io.specs.Keys.{key_taken_by, key_assigned}
+use Rattle.b2_stmt_io.specs.LineReading.{line_answered_by, types}
 use Rattle.b2_stmt_io.specs.Marks.{typed_by_mark}
 use Rattle.b2_stmt_io.specs.Plan.{course, course_at, course_of, finish_ended, ended_at, ended_of, finish, is_refused, plan}
-use Rattle.b2_stmt_io.specs.Showing.{shown}
+use Rattle.b2_stmt_io.specs.Showing.{shown_where}
 use Rattle.b2_stmt_io.proofs.Planned.{each_asked}
 
 module _ (here kept : Option Place) (term : ℕ) where
@@ -50,22 +50,10 @@ module _ (here kept : Option Place) (term : ℕ) where
   planned_at (Some p) me s h = planned_unit (statement_placed p me.immediate s.home.lines) p me s h
 
   -- how PRINT and PRINTUSING finish
-  after_shown : (x : Access) (a : Answer) (me : Private) → KeepsPlaces me → KeepsPlaces (shown x a me).me
+  after_shown : (o : Option ℕ) (me : Private) → KeepsPlaces me → KeepsPlaces (shown_where o me).me
   unfolding KeepsPlaces
-  after_shown (access.Show term bytes column) answer.Done me h = h
-  after_shown (access.Show term bytes column) (answer.Line line) me h = h
-  after_shown (access.Show term bytes column) (answer.Special n) me h = h
-  after_shown (access.Show term bytes column) (answer.Key b) me h = h
-  after_shown (access.Show term bytes column) answer.NoKeys me h = h
-  after_shown (access.Show term bytes column) (answer.Wait q) me h = h
-  after_shown (access.Show term bytes column) (answer.Locked q) me h = h
-  after_shown (access.Show term bytes column) (answer.Refused code) me h = h
-  after_shown (access.ReadLine term) a me h = h
-  after_shown (access.Insert term bytes) a me h = h
-  after_shown (access.Key term) a me h = h
-  after_shown (access.PutLine line atoms homes) a me h = h
-  after_shown (access.Erase from to homes) a me h = h
-  after_shown (access.ClearAll name homes) a me h = h
+  after_shown (Some column) me h = h
+  after_shown None me h = h
 
   -- KEYIN
   after_taken : (key : ℕ) (special : Bool) (home : TextState) (p : Place) (t : Trees) (me : Private) → KeepsPlaces me → KeepsPlaces (key_assigned key special home p t me).me
@@ -76,52 +64,34 @@ module _ (here kept : Option Place) (term : ℕ) where
   after_taken key special home p (Put word (Put v t)) me h = h
   after_taken key special home p (Put word (In n receiver lines)) me h = h
 
-  after_key : (a : Answer) (home : TextState) (p : Place) (t : Trees) (me : Private) → KeepsPlaces me → KeepsPlaces (key_taken a home p t me).me
+  after_key : (k : KeyCame) (home : TextState) (p : Place) (t : Trees) (me : Private) → KeepsPlaces me → KeepsPlaces (key_taken_by k home p t me).me
   unfolding KeepsPlaces
-  after_key answer.Done home p t me h = h
-  after_key (answer.Line bytes) home p t me h = h
-  after_key (answer.Special n) home p t me h = after_taken n true home p t me h
-  after_key (answer.Key key) home p t me h = after_taken key false home p t me h
-  after_key answer.NoKeys home p t me h = h
-  after_key (answer.Wait q) home p t me h = h
-  after_key (answer.Locked q) home p t me h = h
-  after_key (answer.Refused code) home p t me h = h
+  after_key (ByteTyped key) home p t me h = after_taken key false home p t me h
+  after_key (KeyPressed n) home p t me h = after_taken n true home p t me h
+  after_key NoKey home p t me h = h
+  after_key KeyLater home p t me h = h
 
   -- INPUT and LINPUT
-  after_prompt : (x : Access) (me : Private) → KeepsPlaces me → KeepsPlaces (after_showing x me).me
-  unfolding KeepsPlaces
-  after_prompt (access.Show term bytes column) me h = h
-  after_prompt (access.ReadLine term) me h = h
-  after_prompt (access.Insert term bytes) me h = h
-  after_prompt (access.Key term) me h = h
-  after_prompt (access.PutLine line atoms homes) me h = h
-  after_prompt (access.Erase from to homes) me h = h
-  after_prompt (access.ClearAll name homes) me h = h
-
   after_special : (o : Option (List ℕ)) (me : Private) → KeepsPlaces me → KeepsPlaces (types o me).me
   unfolding KeepsPlaces
   after_special None me h = h
   after_special (Some text) me h = h
 
-  after_line : (takes : List ℕ → VarsState → Assigned) (x : Access) (a : Answer) (own : Lines) (me : Private) → KeepsPlaces me → KeepsPlaces (line_answered takes x a own me).me
+  after_line : (takes : List ℕ → VarsState → Assigned) (l : LineCame) (own : Lines) (me : Private) → KeepsPlaces me → KeepsPlaces (line_answered_by takes l own me).me
   unfolding KeepsPlaces
-  after_line takes x answer.Done own me h = after_prompt x me h
-  after_line takes x (answer.Line line) own me h = h
-  after_line takes x (answer.Special n) own me h = after_special (typed_by_mark n own) me h
-  after_line takes x (answer.Key b) own me h = h
-  after_line takes x answer.NoKeys own me h = h
-  after_line takes x (answer.Wait q) own me h = h
-  after_line takes x (answer.Locked q) own me h = h
-  after_line takes x (answer.Refused code) own me h = h
+  after_line takes (PromptShown bytes) own me h = h
+  after_line takes (LineEntered line) own me h = h
+  after_line takes (LineLeft n) own me h = after_special (typed_by_mark n own) me h
+  after_line takes LineLater own me h = h
 
   -- how a statement finishes
   ended_by : (u : Statement) (p : Place) (x : Access) (a : Answer) (me : Private) (s : SeenLent) → KeepsPlaces me → KeepsPlaces (ended_of u p x a me s).me
   unfolding KeepsPlaces
   ended_by u p x a me s h =
       let F : Ended → Type 0 = λ e. KeepsPlaces e.me in
-      either F (u.row == row.PRINT || u.row == row.PRINTUSING) _ _ (after_shown x a me h)
-      (either F (u.row == row.KEYIN) _ _ (after_key a s.home p u.tree me h)
-      (either F (u.row == row.LINPUT || u.row == row.INPUT) _ _ (after_line (λ line vars. takes_typed u.row (setting_of me) s.home line u.tree vars) x a s.own.lines me h) h))
+      either F (u.row == row.PRINT || u.row == row.PRINTUSING) _ _ (after_shown (column_shown x a) me h)
+      (either F (u.row == row.KEYIN) _ _ (after_key (key_came x a) s.home p u.tree me h)
+      (either F (u.row == row.LINPUT || u.row == row.INPUT) _ _ (after_line (λ line vars. takes_typed u.row (setting_of me) s.home line u.tree vars) (line_came x a) s.own.lines me h) h))
 
   ended_unit : (o : Option Statement) (p : Place) (x : Access) (a : Answer) (me : Private) (s : SeenLent) → KeepsPlaces me → KeepsPlaces (ended_at o p x a me s).me
   unfolding KeepsPlaces

@@ -1,29 +1,29 @@
 -- A statement at the terminal that has to wait leaves the partition as it was.
-use Rattle.std.proofs.Common.{◌≡◌, refl, ℕ, ◌==◌, ◌||◌, true, List, Option, Some, None, is_some}
+use Rattle.std.proofs.Common.{◌≡◌, refl, ap, inl, inr, ℕ, ◌==◌, ◌||◌, true, List, Option, Some, None, is_some}
 use Rattle.b2_atom.specs.Tree.{Trees}
 use Rattle.b2_atom.specs.declared.rows.TheConstants as row
 use Rattle.b2_flow.specs.declared.frame.Place.{Place}
 use Rattle.b2_text.specs.Program.{Lines, TextState}
 use Rattle.b2_vars.specs.Assigned.{Assigned}
 use Rattle.b2_vars.specs.Tables.{VarsState}
-use Rattle.b2_access.specs.Answering.{delays}
+use Rattle.b2_access.specs.AnswerKinds.{delays}
 use Rattle.b2_access.specs.Lending.{SeenLent}
 use Rattle.b2_access.specs.Partition.{setting_of}
 use Rattle.b2_access.specs.Placed.{Statement, statement_placed}
 use Rattle.b2_access.specs.Planning.{Ended, Planning}
 use Rattle.b2_access.specs.Waiting.{FinishesUnchanged, PlansBeforeChanges, UnchangedIfAsks}
 use Rattle.b2_access.specs.declared.accesses.Access.{Access}
-use Rattle.b2_access.specs.declared.accesses.Access.TheVariants as access
 use Rattle.b2_access.specs.declared.accesses.Answer.{Answer}
-use Rattle.b2_access.specs.declared.accesses.Answer.TheVariants as answer
 use Rattle.b2_access.specs.declared.private.Private.{Private}
+use Rattle.b2_access.specs.Views.{KeyCame, LineCame}
 use Rattle.b2_access.proofs.Choice.{either}
+use Rattle.b2_access.proofs.Delays.{key_delayed, line_delayed, none_shown}
 use Rattle.b2_expr.specs.Value.{context_of}
 use Rattle.b2_stmt_io.specs.Inputs.{takes_typed}
-use Rattle.b2_stmt_io.specs.Keys.{key_taken}
-use Rattle.b2_stmt_io.specs.LineReading.{line_answered}
+use Rattle.b2_stmt_io.specs.Keys.{key_taken, key_taken_by}
+use Rattle.b2_stmt_io.specs.LineReading.{line_answered, line_answered_by}
 use Rattle.b2_stmt_io.specs.Plan.{course, course_at, course_of, ended_at, ended_of, finish, finish_ended, is_refused, plan}
-use Rattle.b2_stmt_io.specs.Showing.{shown}
+use Rattle.b2_stmt_io.specs.Showing.{shown, shown_where}
 use Rattle.b2_stmt_io.proofs.Planned.{each_asked}
 
 module _ (me : Private) (s : SeenLent) where
@@ -51,46 +51,22 @@ unfolding BeforeChanges
 plans_before_changes me s = at_place me s me.place
 
 pub after_shown : (x : Access) (a : Answer) (me : Private) → delays a ≡ true → (shown x a me).me ≡ me
-after_shown (access.Show term bytes column) answer.Done me h = cc
-after_shown (access.Show term bytes column) (answer.Line line) me h = refl
-after_shown (access.Show term bytes column) (answer.Special n) me h = refl
-after_shown (access.Show term bytes column) (answer.Key b) me h = refl
-after_shown (access.Show term bytes column) answer.NoKeys me h = refl
-after_shown (access.Show term bytes column) (answer.Wait q) me h = refl
-after_shown (access.Show term bytes column) (answer.Locked q) me h = refl
-after_shown (access.Show term bytes column) (answer.Refused code) me h = refl
-after_shown (access.ReadLine term) a me h = refl
-after_shown (access.Insert term bytes) a me h = refl
-after_shown (access.Key term) a me h = refl
-after_shown (access.PutLine line atoms homes) a me h = refl
-after_shown (access.Erase from to homes) a me h = refl
-after_shown (access.ClearAll name homes) a me h = refl
+after_shown x a me h = ap (λ (o : Option ℕ). (shown_where o me).me) (none_shown x a h)
 
-after_key : (a : Answer) (home : TextState) (p : Place) (t : Trees) (me : Private) → delays a ≡ true → (key_taken a home p t me).me ≡ me
-after_key answer.Done home p t me h = refl
-after_key (answer.Line bytes) home p t me h = refl
-after_key (answer.Special n) home p t me h = cc
-after_key (answer.Key key) home p t me h = cc
-after_key answer.NoKeys home p t me h = refl
-after_key (answer.Wait q) home p t me h = refl
-after_key (answer.Locked q) home p t me h = refl
-after_key (answer.Refused code) home p t me h = refl
+after_key : (x : Access) (a : Answer) (home : TextState) (p : Place) (t : Trees) (me : Private) → delays a ≡ true → (key_taken x a home p t me).me ≡ me
+after_key x a home p t me h = elim (key_delayed x a h) [
+  | inl none ↦ ap (λ (k : KeyCame). (key_taken_by k home p t me).me) none
+  | inr later ↦ ap (λ (k : KeyCame). (key_taken_by k home p t me).me) later
+]
 
 after_line : (takes : List ℕ → VarsState → Assigned) (x : Access) (a : Answer) (own : Lines) (me : Private) → delays a ≡ true → (line_answered takes x a own me).me ≡ me
-after_line takes x answer.Done own me h = cc
-after_line takes x (answer.Line line) own me h = cc
-after_line takes x (answer.Special n) own me h = cc
-after_line takes x (answer.Key b) own me h = refl
-after_line takes x answer.NoKeys own me h = refl
-after_line takes x (answer.Wait q) own me h = refl
-after_line takes x (answer.Locked q) own me h = refl
-after_line takes x (answer.Refused code) own me h = refl
+after_line takes x a own me h = ap (λ (l : LineCame). (line_answered_by takes l own me).me) (line_delayed x a h)
 
 after_statement : (u : Statement) (p : Place) (x : Access) (a : Answer) (me : Private) (s : SeenLent) → delays a ≡ true → (ended_of u p x a me s).me ≡ me
 after_statement u p x a me s h =
     let F : Ended → Type 0 = λ e. e.me ≡ me in
     either F (u.row == row.PRINT || u.row == row.PRINTUSING) _ _ (after_shown x a me h)
-    (either F (u.row == row.KEYIN) _ _ (after_key a s.home p u.tree me h)
+    (either F (u.row == row.KEYIN) _ _ (after_key x a s.home p u.tree me h)
     (either F (u.row == row.LINPUT || u.row == row.INPUT) _ _ (after_line (λ line vars. takes_typed u.row (setting_of me) s.home line u.tree vars) x a s.own.lines me h) refl))
 
 after_unit : (o : Option Statement) (p : Place) (x : Access) (a : Answer) (me : Private) (s : SeenLent) → delays a ≡ true → (ended_at o p x a me s).me ≡ me

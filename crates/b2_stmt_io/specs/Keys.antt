@@ -5,8 +5,8 @@ use Rattle.b2_atom.specs.Tree.{Trees}
 use Rattle.b2_atom.specs.Tree.Trees.{Put, In}
 use Rattle.b2_flow.specs.declared.frame.Place.{Place}
 use Rattle.b2_text.specs.Program.{Lines, TextState}
+use Rattle.b2_access.specs.declared.accesses.Access.{Access}
 use Rattle.b2_access.specs.declared.accesses.Answer.{Answer}
-use Rattle.b2_access.specs.declared.accesses.Answer.TheVariants as answer
 use Rattle.b2_access.specs.declared.planned.Outcome.{Outcome}
 use Rattle.b2_access.specs.declared.planned.Outcome.TheVariants as outcome
 use Rattle.b2_access.specs.declared.private.Private.{Private}
@@ -14,6 +14,7 @@ use Rattle.b2_access.specs.Partition.{setting_of}
 use Rattle.b2_rows.specs.LineNumbers.{line_in}
 use Rattle.b2_access.specs.Going.{to_line}
 use Rattle.b2_access.specs.Planning.{Ended, stays, with_assigned}
+use Rattle.b2_access.specs.Views.{KeyCame, ByteTyped, KeyPressed, NoKey, KeyLater, key_came}
 use Rattle.b2_expr.specs.Receiving.{assign_bytes_at}
 
 -- the two lines that may be named
@@ -46,8 +47,11 @@ without_key (Put word (In n receiver lines)) = waits lines
 without_key t = outcome.Repeat
 
 -- how KEYIN finishes
-abbrev pub key_taken : Answer → TextState → Place → Trees → Private → Ended
-key_taken (answer.Key key) home p t me = key_assigned key false home p t me
-key_taken (answer.Special n) home p t me = key_assigned n true home p t me
-key_taken answer.NoKeys home p t me = stays me (without_key t)
-key_taken a home p t me = stays me outcome.Repeat
+abbrev pub key_taken_by : KeyCame → TextState → Place → Trees → Private → Ended
+key_taken_by (ByteTyped key) home p t me = key_assigned key false home p t me
+key_taken_by (KeyPressed n) home p t me = key_assigned n true home p t me
+key_taken_by NoKey home p t me = stays me (without_key t)
+key_taken_by KeyLater home p t me = stays me outcome.Repeat
+
+abbrev pub key_taken : Access → Answer → TextState → Place → Trees → Private → Ended
+key_taken x a home p t me = key_taken_by (key_came x a) home p t me

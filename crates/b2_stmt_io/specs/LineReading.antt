@@ -10,11 +10,11 @@ use Rattle.b2_vars.specs.Assigned.{Assigned}
 use Rattle.b2_access.specs.declared.accesses.Access.{Access}
 use Rattle.b2_access.specs.declared.accesses.Access.TheVariants as access
 use Rattle.b2_access.specs.declared.accesses.Answer.{Answer}
-use Rattle.b2_access.specs.declared.accesses.Answer.TheVariants as answer
 use Rattle.b2_access.specs.declared.planned.Outcome.TheVariants as outcome
 use Rattle.b2_access.specs.declared.private.Private.{Private}
 use Rattle.b2_stmt_io.specs.Marks.{typed_by_mark}
 use Rattle.b2_access.specs.Planning.{Ended, stays, with_assigned}
+use Rattle.b2_access.specs.Views.{LineCame, PromptShown, LineEntered, LineLeft, LineLater, line_came}
 use Rattle.b2_expr.specs.Receiving.{assign_bytes_at}
 use Rattle.b2_stmt_io.specs.Showing.{shows_from}
 use Rattle.b2_vars.specs.declared.setting.Setting.{Setting}
@@ -53,20 +53,17 @@ takes_line a home line t vars = assign_bytes_at a home (Ok line) (receiver_of (a
 abbrev pub prompted : ℕ → Private → Ended
 prompted column me = record { me = record me { term_column = column; prompted = true }; outcome = outcome.Repeat }
 
--- what was shown is the prompt
-abbrev pub after_showing : Access → Private → Ended
-after_showing (access.Show term bytes column) me = prompted column me
-after_showing x me = stays me outcome.Repeat
-
 -- a special function key has its literal typed in the next step, where it has one
 abbrev pub types : Option (List ℕ) → Private → Ended
 types None me = stays me outcome.Repeat
 types (Some text) me = record { me = record me { literal = Some text }; outcome = outcome.Repeat }
 
--- how they finish: the prompt was shown, a line was read and is taken, or a special function key was; with any other answer the
--- step is repeated
+-- how they finish: the prompt was shown, a line was read and is taken, or a special function key was; else the step is repeated
+abbrev pub line_answered_by : (List ℕ → VarsState → Assigned) → LineCame → Lines → Private → Ended
+line_answered_by takes (PromptShown column) own me = prompted column me
+line_answered_by takes (LineEntered line) own me = with_assigned (takes line me.vars) outcome.Next (record me { term_column = 0 })
+line_answered_by takes (LineLeft n) own me = types (typed_by_mark n own) me
+line_answered_by takes LineLater own me = stays me outcome.Repeat
+
 abbrev pub line_answered : (List ℕ → VarsState → Assigned) → Access → Answer → Lines → Private → Ended
-line_answered takes x answer.Done own me = after_showing x me
-line_answered takes x (answer.Line line) own me = with_assigned (takes line me.vars) outcome.Next (record me { term_column = 0 })
-line_answered takes x (answer.Special n) own me = types (typed_by_mark n own) me
-line_answered takes x a own me = stays me outcome.Repeat
+line_answered takes x a own me = line_answered_by takes (line_came x a) own me

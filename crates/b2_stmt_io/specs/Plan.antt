@@ -68,7 +68,7 @@ plan me s = course me.place me s
 abbrev pub ended_of : Statement → Place → Access → Answer → Private → SeenLent → Ended
 ended_of u p x a me s =
     if u.row == row.PRINT || u.row == row.PRINTUSING then shown x a me
-    else (if u.row == row.KEYIN then key_taken a s.home p u.tree me
+    else (if u.row == row.KEYIN then key_taken x a s.home p u.tree me
     else (if u.row == row.LINPUT || u.row == row.INPUT then line_answered (λ line vars. takes_typed u.row (setting_of me) s.home line u.tree vars) x a s.own.lines me
     else stays me outcome.Repeat))
 

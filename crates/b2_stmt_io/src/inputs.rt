@@ -3,6 +3,7 @@ ghost use Rattle.std.specs.Prelude.{◌≡◌, ◌==◌, ◌||◌, true, IfOk};
 ghost use Rattle.b2_alpha.specs.Values.{value_of};
 ghost use Rattle.b2_atom.specs.declared.rows.TheConstants as row;
 ghost use Rattle.b2_rows.specs.Rows.{is_part, tree_at};
+ghost use Rattle.b2_access.specs.Answering.{can_answer};
 ghost use Rattle.b2_access.specs.Partition.{setting_of};
 ghost use Rattle.b2_stmt_io.specs.Inputs as spec;
 ghost use Rattle.b2_stmt_io.specs.LineReading.{asks_line, line_answered, prompt_of};
@@ -150,6 +151,35 @@ fn take_typed(
     }
 }
 
+/// How LINPUT and INPUT finish after a line was asked for.
+fn after_reading(
+    alloc: Global,
+    me: &mut Private,
+    own: &Text,
+    home: &Text,
+    answer: &Answer,
+    kind: u16,
+    unit: &[u8],
+) -> Result<Outcome, NoMemory>
+    requires part { is_part kind unit.now ≡ true }
+    requires reads { (kind == row.LINPUT || kind == row.INPUT) ≡ true }
+    requires possible { can_answer (Access.ReadLine me.old.term) answer.now ≡ true }
+    ensures ended { IfOk result (λ o. record { me = me.new; outcome = o } ≡ line_answered (λ line vars. spec.takes_typed kind (setting_of me.old) home.now line (tree_at kind unit.now) vars) (Access.ReadLine me.old.term) answer.now own.now.lines me.old) }
+    ensures part { me.new.part ≡ me.old.part }
+{
+    match answer {
+        Answer::Line(line) => {
+            let setting = setting_of(me);
+            let code = take_typed(&mut me.vars, &setting, home, kind, line.bytes(), unit)?;
+            me.term_column = 0;
+            Ok(goes_or(Outcome::Next, code))
+        }
+        Answer::Special(n) => type_literal(alloc, me, own, *n),
+        Answer::NoKeys | Answer::Wait(_) => Ok(Outcome::Repeat),
+        _ => unreachable!(),
+    }
+}
+
 /// How LINPUT and INPUT finish.
 pub fn after_line(
     alloc: Global,
@@ -163,18 +193,17 @@ pub fn after_line(
 ) -> Result<Outcome, NoMemory>
     requires part { is_part kind unit.now ≡ true }
     requires reads { (kind == row.LINPUT || kind == row.INPUT) ≡ true }
+    requires possible { can_answer access.now answer.now ≡ true }
     ensures ended { IfOk result (λ o. record { me = me.new; outcome = o } ≡ line_answered (λ line vars. spec.takes_typed kind (setting_of me.old) home.now line (tree_at kind unit.now) vars) access.now answer.now own.now.lines me.old) }
     ensures part { me.new.part ≡ me.old.part }
 {
-    match (access, answer) {
-        (Access::Show { column, .. }, Answer::Done) => Ok(prompt_shown(me, *column)),
-        (_, Answer::Line(line)) => {
-            let setting = setting_of(me);
-            let code = take_typed(&mut me.vars, &setting, home, kind, line.bytes(), unit)?;
-            me.term_column = 0;
-            Ok(goes_or(Outcome::Next, code))
-        }
-        (_, Answer::Special(n)) => type_literal(alloc, me, own, *n),
+    match access {
+        Access::Show { column, .. } => match answer {
+            Answer::Done => Ok(prompt_shown(me, *column)),
+            Answer::Wait(_) => Ok(Outcome::Repeat),
+            _ => unreachable!(),
+        },
+        Access::ReadLine { .. } => after_reading(alloc, me, own, home, answer, kind, unit),
         _ => Ok(Outcome::Repeat),
     }
 }

@@ -1,5 +1,6 @@
 // KEYIN: one key, and where it leads.
 ghost use Rattle.std.specs.Prelude.{◌≡◌, true, IfOk, drop};
+ghost use Rattle.b2_access.specs.Answering.{can_answer};
 ghost use Rattle.b2_base.specs.Byte as byte;
 ghost use Rattle.b2_atom.specs.declared.rows.TheConstants as row;
 ghost use Rattle.b2_atom.specs.declared.forms.Start.TheVariants as start;
@@ -7,7 +8,7 @@ ghost use Rattle.b2_rows.specs.Rows.{is_part, tree_at};
 ghost use Rattle.b2_rows.specs.Optional.{maybe_part, maybe_tree};
 ghost use Rattle.b2_stmt_io.specs.Keys as spec;
 
-use b2_access::{Answer, Outcome, Private, goes_or, setting_of, to_line};
+use b2_access::{Access, Answer, Outcome, Private, goes_or, setting_of, to_line};
 use b2_base::NoMemory;
 use b2_base::lexical::rest_after;
 use b2_expr::{assign_bytes_at, past_alpha_receiver};
@@ -79,17 +80,23 @@ pub fn after_key(
     me: &mut Private,
     home: &Text,
     place: Place,
+    access: &Access,
     answer: &Answer,
     unit: &[u8],
 ) -> Result<Outcome, NoMemory>
     requires part { is_part row.KEYIN unit.now ≡ true }
-    ensures ended { IfOk result (λ o. record { me = me.new; outcome = o } ≡ spec.key_taken answer.now home.now place (tree_at row.KEYIN unit.now) me.old) }
+    requires possible { can_answer access.now answer.now ≡ true }
+    ensures ended { IfOk result (λ o. record { me = me.new; outcome = o } ≡ spec.key_taken access.now answer.now home.now place (tree_at row.KEYIN unit.now) me.old) }
     ensures part { me.new.part ≡ me.old.part }
 {
+    let Access::Key { .. } = access else {
+        return Ok(Outcome::Repeat);
+    };
     match answer {
         Answer::Key(key) => assign_key(me, *key, false, home, place, unit),
         Answer::Special(n) => assign_key(me, *n, true, home, place, unit),
         Answer::NoKeys => Ok(without_key(unit)),
-        _ => Ok(Outcome::Repeat),
+        Answer::Wait(_) => Ok(Outcome::Repeat),
+        _ => unreachable!(),
     }
 }

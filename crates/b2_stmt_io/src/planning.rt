@@ -1,5 +1,6 @@
 // What the statement at a partition's place plans, and how it finishes.
-ghost use Rattle.std.specs.Prelude.{◌≡◌, IfOk, Option, Some, None, option_map};
+ghost use Rattle.std.specs.Prelude.{◌≡◌, true, IfOk, Option, Some, None, option_map};
+ghost use Rattle.b2_access.specs.Answering.{can_answer};
 ghost use Rattle.b2_rows.specs.Laws.{IsRow};
 ghost use Rattle.b2_rows.specs.Rows.{tree_at};
 ghost use Rattle.b2_access.specs.Lending.{globals_lent, seen_lent, SeenLent};
@@ -171,6 +172,7 @@ fn finish_program(
     answer: &Answer,
 ) -> Result<Outcome, NoMemory>
     requires line { place.line ≡ Some n }
+    requires possible { can_answer access.now answer.now ≡ true }
     ensures ended { (globals : Option VarsState) → IfOk result (λ o. record { me = me.new; outcome = o } ≡ spec.ended_at (named_on (line_at n home.now.lines) place.unit) place access.now answer.now me.old (record { own = own.now; home = home.now; globals = globals })) }
     ensures part { me.new.part ≡ me.old.part }
 {
@@ -183,7 +185,7 @@ fn finish_program(
     let bytes = unit.bytes;
     match unit.row {
         rows::PRINT | rows::PRINTUSING => Ok(after_show(me, access, answer)),
-        rows::KEYIN => after_key(me, home, place, answer, bytes),
+        rows::KEYIN => after_key(me, home, place, access, answer, bytes),
         rows::LINPUT | rows::INPUT => {
             after_line(alloc, me, own, home, access, answer, unit.row, bytes)
         }
@@ -207,6 +209,7 @@ fn row_at_once(immediate: &Option<Atoms>, k: u8) -> Option<u16>
 /// How the statement at a place in the immediate line finishes.
 fn finish_immediate(me: &mut Private, place: Place, access: &Access, answer: &Answer) -> Outcome
     requires line { place.line ≡ None }
+    requires possible { can_answer access.now answer.now ≡ true }
     ensures ended { (s : SeenLent) → record { me = me.new; outcome = result } ≡ spec.ended_at (named_on me.old.immediate place.unit) place access.now answer.now me.old s }
     ensures part { me.new.part ≡ me.old.part }
 {
@@ -216,8 +219,8 @@ fn finish_immediate(me: &mut Private, place: Place, access: &Access, answer: &An
     }
 }
 
-/// How the statement at the place of a partition finishes, by the access that it asked for and its answer. Where the answer is
-/// none of that access, nothing changes and the step is repeated.
+/// How the statement at the place of a partition finishes, by the access that it asked for and its answer, which is one that the
+/// access can have.
 pub fn finish(
     alloc: Global,
     me: &mut Private,
@@ -225,6 +228,7 @@ pub fn finish(
     access: &Access,
     answer: &Answer,
 ) -> Result<Outcome, NoMemory>
+    requires possible { can_answer access.now answer.now ≡ true }
     ensures finished { IfOk result (λ o. record { me = me.new; globals = globals_lent lent.new; outcome = o } ≡ spec.finish access.now answer.now me.old (seen_lent lent.old)) }
     ensures same_globals { lent.new.globals.now ≡ lent.old.globals.now }
     ensures same_reference { lent.new.globals.ghost_name ≡ lent.old.globals.ghost_name }

@@ -1,5 +1,6 @@
 // What is shown at a terminal, with the column after it.
 ghost use Rattle.std.specs.Prelude.{◌≡◌, true, IfOk};
+ghost use Rattle.b2_access.specs.Answering.{can_answer};
 ghost use Rattle.b2_atom.specs.declared.rows.TheConstants as row;
 ghost use Rattle.b2_rows.specs.Rows.{is_part, tree_at};
 ghost use Rattle.b2_expr.specs.Scope.{surroundings};
@@ -44,14 +45,19 @@ pub fn ask_print(alloc: Global, e: &Env<'_>, column: u16, unit: &[u8]) -> Result
 
 /// How a statement that shows something finishes, as PRINT, PRINTUSING and LIST.
 pub fn after_show(me: &mut Private, access: &Access, answer: &Answer) -> Outcome
+    requires possible { can_answer access.now answer.now ≡ true }
     ensures ended { record { me = me.new; outcome = result } ≡ spec.shown access.now answer.now me.old }
     ensures part { me.new.part ≡ me.old.part }
 {
-    match (access, answer) {
-        (Access::Show { column, .. }, Answer::Done) => {
+    let Access::Show { column, .. } = access else {
+        return Outcome::Repeat;
+    };
+    match answer {
+        Answer::Done => {
             me.term_column = *column;
             Outcome::Next
         }
-        _ => Outcome::Repeat,
+        Answer::Wait(_) => Outcome::Repeat,
+        _ => unreachable!(),
     }
 }

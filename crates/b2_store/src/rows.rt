@@ -1,5 +1,6 @@
 // Rows by the numbers of partitions or of terminals.
 ghost use Rattle.std.specs.Prelude.{◌≡◌, ◌==◌, ℕ, [], ◌∷◌, ◌++◌, Some, IsSome, OnOk, position, option_copied};
+ghost use Rattle.std.specs.Option.{option_copied_mut};
 ghost use Rattle.std.specs.Borrow.{sem};
 ghost use Rattle.b2_access.specs.Rows.{row_of};
 
@@ -98,14 +99,18 @@ impl<X> Rows<X> {
         self.get(key).unwrap()
     }
 
-    /// The same, to be changed.
-    pub fn value_mut<K: Numbered>(&mut self, key: K) -> &mut X
-        requires { IsSome (row_of (K.number_of key) self.old) }
+    /// The content of the first row of a number, to be changed; None where no row has it.
+    pub fn get_mut<K: Numbered>(&mut self, key: K) -> Option<&mut X>
         ensures* writes_back { sem 𝓛 (LendsRow X.row self.entry (K.number_of key) result) }
-        ensures there { Some result.now ≡ row_of (K.number_of key) self.old }
+        ensures there { option_copied_mut result ≡ row_of (K.number_of key) self.old }
     {
-        let place = row_place(&self.rows, key.row_number()).unwrap();
-        let row = &mut self.rows[place];
-        &mut row.1
+        let n = key.row_number();
+        match row_place(&self.rows, n) {
+            Some(place) => {
+                let row = &mut self.rows[place];
+                Some(&mut row.1)
+            }
+            None => None,
+        }
     }
 }

@@ -1,7 +1,10 @@
-// The store: its rows, and how it serves and lends.
-ghost use Rattle.std.specs.Prelude.{◌≡◌, ◌≤◌, Some, IfOk, IfErr, IsSome, option_copied};
+// The store: its rows, what stops an access, and how each is served and what is lent.
+ghost use Rattle.std.specs.Prelude.{◌≡◌, ◌≤◌, ℕ, List, [], ◌∷◌, Option, Some, IfOk, IfErr, option_copied};
+ghost use Rattle.b2_access.specs.AccessRows.{line_answer, key_answer};
+ghost use Rattle.b2_access.specs.Reach.{reach_of};
+ghost use Rattle.b2_access.specs.Stopping as stopping;
 ghost use Rattle.b2_access.specs.Store.{content};
-ghost use Rattle.b2_access.specs.Serving.{if_other, other_front, first_inside, at_terminal, shows, line_answer, reads_line, inserts, key_answer, takes_key, edits, puts_atoms, erases, puts_line, clears};
+ghost use Rattle.b2_access.specs.Touching.{IsLegal, MayWantMemory};
 ghost use Rattle.b2_store.specs.Changes.{keyed_at, front_at, room_at};
 ghost use Rattle.b2_store.specs.Refusals.{IsRefusal};
 ghost use Rattle.b2_store.specs.Start.{store_at_start};
@@ -10,7 +13,7 @@ use crate::boot::StoreBoot;
 use crate::part_list::PartList;
 use crate::rows::Rows;
 use crate::start::{borrows_of, globals_of, terminals_of, texts_of};
-use b2_access::{Access, Answer, At, Lent, Object, Shared};
+use b2_access::{Access, Answer, At, Lent, Object, Reached, Shared, TextUse, reached_by};
 use b2_atom::Atoms;
 use b2_base::{Fault, NoMemory, Part, Term};
 use b2_term::{KeyItem, Read, Terminal};
@@ -32,9 +35,22 @@ pub struct Stores {
 
 /// A partition, where it is another.
 fn other(who: Part, p: Part) -> Option<Part>
-    ensures { result ≡ if_other who p }
+    ensures { result ≡ stopping.first_other who (p ∷ []) }
 {
     if p == who { None } else { Some(p) }
+}
+
+/// What stops an access, by who comes first and who stands inside the text.
+fn stop_by(first: Option<Part>, inside: Option<Part>) -> Option<Answer>
+    ensures { result ≡ stopping.stop_by first inside }
+{
+    match first {
+        Some(q) => Some(Answer::Wait(q)),
+        None => match inside {
+            Some(q) => Some(Answer::Locked(q)),
+            None => None,
+        },
+    }
 }
 
 /// The answer to the reading of a line.
@@ -70,7 +86,7 @@ fn refusal(fault: Fault) -> Result<Answer, NoMemory>
 }
 
 impl Stores {
-    ghost use Rattle.b2_store.specs.Meaning.{store_of, Performs};
+    ghost use Rattle.b2_store.specs.Meaning.{store_of, Does};
 
     /// The store of a boot: empty texts, no `@` variables, and idle terminals.
     pub fn new(alloc: Global, b: &StoreBoot) -> Result<Stores, NoMemory>
@@ -97,178 +113,161 @@ impl Stores {
         ensures room { result ≡ room_at (content (store_of self.old) (Object.Terminal t)) }
         ensures queued { store_of self.new ≡ keyed_at t k (store_of self.old) }
     {
-        let Some(_terminal) = self.terminals.get(t) else {
-            return None;
-        };
-        Some(self.terminals.value_mut(t).key(k))
+        match self.terminals.get_mut(t) {
+            Some(terminal) => Some(terminal.key(k)),
+            None => None,
+        }
     }
 
     /// Puts a partition in front of a terminal, where it is listed.
     pub fn set_front(&mut self, t: Term, p: Part)
         ensures front { store_of self.new ≡ front_at t p (store_of self.old) }
     {
-        let Some(_terminal) = self.terminals.get(t) else {
-            return;
-        };
-        self.terminals.value_mut(t).set_front(p);
+        if let Some(terminal) = self.terminals.get_mut(t) {
+            terminal.set_front(p);
+        }
     }
 
-    /// Whom to wait for at a terminal: the partition in front, where it is another.
-    fn other_front(&self, who: Part, term: Term) -> Option<Part>
-        ensures { result ≡ other_front who (content (store_of self.now) (Object.Terminal term)) }
+    /// The first partition that is another, of those who come first at what is reached: the one in front of the terminal.
+    fn first_other(&self, who: Part, reached: &Reached) -> Option<Part>
+        ensures { result ≡ stopping.first_other who (stopping.first_there (reach_of reached.now) (store_of self.now)) }
     {
-        match self.terminals.get(term) {
-            Some(terminal) => other(who, terminal.front()),
+        match reached.terminal {
+            Some(term) => match self.terminals.get(term) {
+                Some(terminal) => other(who, terminal.front()),
+                None => None,
+            },
             None => None,
         }
     }
 
-    /// The first that stands inside the text of a partition.
-    fn first_inside(&self, who: Part) -> Option<Part>
-        ensures { result ≡ first_inside (content (store_of self.now) (Object.Borrow who)) }
+    /// The first that stands inside the text of a partition, where it is edited.
+    fn inside_edited(&self, who: Part, text: TextUse) -> Option<Part>
+        ensures { result ≡ stopping.inside_edited who text (store_of self.now) }
     {
-        match self.borrows.get(who) {
-            Some(parts) => parts.first(),
-            None => None,
+        match text {
+            TextUse::Unused | TextUse::Read => None,
+            TextUse::Edited => match self.borrows.get(who) {
+                Some(parts) => parts.first(),
+                None => None,
+            },
         }
     }
 
-    /// Shows bytes at a terminal, for the partition in front of it.
-    fn show(&mut self, who: Part, term: Term, bytes: &[u8]) -> Result<Answer, NoMemory>
-        ensures { IfOk result (Performs (at_terminal who term (shows term bytes.now)) self.old self.new) }
+    /// What stops an access that reaches so far. It is tested here alone, before anything is done.
+    fn stop(&self, who: Part, reached: &Reached) -> Option<Answer>
+        ensures { result ≡ stopping.stop who (reach_of reached.now) (store_of self.now) }
     {
-        if let Some(q) = self.other_front(who, term) {
-            return Ok(Answer::Wait(q));
+        stop_by(
+            self.first_other(who, reached),
+            self.inside_edited(who, reached.text),
+        )
+    }
+
+    /// Shows bytes at a terminal.
+    fn show(&mut self, term: Term, bytes: &[u8]) -> Result<Answer, NoMemory>
+        ensures { (who column : ℕ) → IfOk result (Does who (Access.Show term bytes.now column) self.old self.new) }
+    {
+        if let Some(terminal) = self.terminals.get_mut(term) {
+            terminal.show(bytes)?;
         }
-        let Some(_terminal) = self.terminals.get(term) else {
-            return Ok(Answer::Done);
-        };
-        self.terminals.value_mut(term).show(bytes)?;
         Ok(Answer::Done)
     }
 
-    /// Reads a line from a terminal, for the partition in front of it.
-    fn read_line(&mut self, who: Part, term: Term) -> Result<Answer, NoMemory>
-        ensures { IfOk result (Performs (at_terminal who term (reads_line term)) self.old self.new) }
+    /// Reads a line from a terminal.
+    fn read_line(&mut self, term: Term) -> Result<Answer, NoMemory>
+        ensures { (who : ℕ) → IfOk result (Does who (Access.ReadLine term) self.old self.new) }
     {
-        if let Some(q) = self.other_front(who, term) {
-            return Ok(Answer::Wait(q));
-        }
-        let Some(_terminal) = self.terminals.get(term) else {
+        let Some(terminal) = self.terminals.get_mut(term) else {
             return Ok(Answer::NoKeys);
         };
-        let read = self.terminals.value_mut(term).read_line()?;
+        let read = terminal.read_line()?;
         Ok(line_answer(read))
     }
 
-    /// Types bytes into the line at a terminal, for the partition in front of it.
-    fn insert(&mut self, who: Part, term: Term, bytes: &[u8]) -> Result<Answer, NoMemory>
-        ensures { IfOk result (Performs (at_terminal who term (inserts term bytes.now)) self.old self.new) }
+    /// Types bytes into the line at a terminal.
+    fn insert(&mut self, term: Term, bytes: &[u8]) -> Result<Answer, NoMemory>
+        ensures { (who : ℕ) → IfOk result (Does who (Access.Insert term bytes.now) self.old self.new) }
     {
-        if let Some(q) = self.other_front(who, term) {
-            return Ok(Answer::Wait(q));
+        if let Some(terminal) = self.terminals.get_mut(term) {
+            terminal.insert(bytes)?;
         }
-        let Some(_terminal) = self.terminals.get(term) else {
-            return Ok(Answer::Done);
-        };
-        self.terminals.value_mut(term).insert(bytes)?;
         Ok(Answer::Done)
     }
 
-    /// Takes a key from a terminal, for the partition in front of it.
-    fn take_key(&mut self, who: Part, term: Term) -> Answer
-        ensures { Performs (at_terminal who term (takes_key term)) self.old self.new result }
+    /// Takes a key from a terminal.
+    fn take_key(&mut self, term: Term) -> Answer
+        ensures { (who : ℕ) → Does who (Access.Key term) self.old self.new result }
     {
-        if let Some(q) = self.other_front(who, term) {
-            return Answer::Wait(q);
+        match self.terminals.get_mut(term) {
+            Some(terminal) => key_answer(terminal.one_key()),
+            None => Answer::NoKeys,
         }
-        let Some(_terminal) = self.terminals.get(term) else {
-            return Answer::NoKeys;
-        };
-        let key = self.terminals.value_mut(term).one_key();
-        key_answer(key)
-    }
-
-    /// Puts a line into the text of a partition, or takes it out where it has no atoms, where nobody stands inside.
-    fn put_line(&mut self, who: Part, line: u16, atoms: &Option<Atoms>) -> Result<Answer, NoMemory>
-        requires { line ≤ 9999 }
-        ensures performed { IfOk result (Performs (edits who (puts_line who line atoms.now)) self.old self.new) }
-        ensures memory { IfErr result (λ _. IsSome atoms.now) }
-    {
-        if let Some(q) = self.first_inside(who) {
-            return Ok(Answer::Locked(q));
-        }
-        match atoms {
-            Some(atoms) => self.put_atoms(who, line, atoms),
-            None => Ok(self.take_out(who, line, line)),
-        }
-    }
-
-    /// Takes lines out of the text of a partition, where nobody stands inside.
-    fn erase(&mut self, who: Part, from: u16, to: u16) -> Answer
-        ensures { Performs (edits who (erases who from to)) self.old self.new result }
-    {
-        if let Some(q) = self.first_inside(who) {
-            return Answer::Locked(q);
-        }
-        self.take_out(who, from, to)
-    }
-
-    /// Takes all lines and all `@` variables of a partition away, where nobody stands inside its text.
-    fn clear_all(&mut self, who: Part) -> Answer
-        ensures { Performs (edits who (clears who)) self.old self.new result }
-    {
-        if let Some(q) = self.first_inside(who) {
-            return Answer::Locked(q);
-        }
-        self.clear(who)
     }
 
     /// Puts a line into the text of a partition.
-    fn put_atoms(&mut self, who: Part, line: u16, atoms: &Atoms) -> Result<Answer, NoMemory>
+    #[tactic(auto, using(crate::proofs::Same::with_same))]
+    fn put_line(&mut self, who: Part, line: u16, atoms: &Atoms) -> Result<Answer, NoMemory>
         requires { line ≤ 9999 }
-        ensures { IfOk result (Performs (puts_atoms who line atoms.now (content (store_of self.old) (Object.Text who))) self.old self.new) }
+        ensures { (homes : ℕ) → IfOk result (Does who (Access.PutLine line (Some atoms.now) homes) self.old self.new) }
     {
-        let Some(_text) = self.texts.get(who) else {
+        let Some(text) = self.texts.get_mut(who) else {
             return Ok(Answer::Done);
         };
-        match self.texts.value_mut(who).put(line, atoms) {
+        match text.put(line, atoms) {
             Ok(()) => Ok(Answer::Done),
             Err(fault) => refusal(fault),
         }
     }
 
     /// Takes lines out of the text of a partition.
-    fn take_out(&mut self, who: Part, from: u16, to: u16) -> Answer
-        ensures { Performs (erases who from to (content (store_of self.old) (Object.Text who))) self.old self.new result }
+    fn erase(&mut self, who: Part, from: u16, to: u16) -> Answer
+        ensures { (homes : ℕ) → Does who (Access.Erase from to homes) self.old self.new result }
     {
-        let Some(_text) = self.texts.get(who) else {
-            return Answer::Done;
-        };
-        self.texts.value_mut(who).delete(from, to);
+        if let Some(text) = self.texts.get_mut(who) {
+            text.delete(from, to);
+        }
         Answer::Done
     }
 
     /// Takes all lines and all `@` variables of a partition away.
-    fn clear(&mut self, who: Part) -> Answer
-        ensures { Performs (clears who (content (store_of self.old) (Object.Text who))) self.old self.new result }
+    fn clear_all(&mut self, who: Part) -> Answer
+        ensures { (name : Option (List ℕ)) (homes : ℕ) → Does who (Access.ClearAll name homes) self.old self.new result }
     {
-        let Some(_text) = self.texts.get(who) else {
+        let Some(text) = self.texts.get_mut(who) else {
             return Answer::Done;
         };
-        self.texts.value_mut(who).clear();
-        let Some(_globals) = self.globals.get(who) else {
-            return Answer::Done;
-        };
-        self.globals.value_mut(who).clear();
+        text.clear();
+        if let Some(variables) = self.globals.get_mut(who) {
+            variables.clear();
+        }
         Answer::Done
+    }
+
+    /// Does what an access does that nothing stops.
+    fn perform(&mut self, who: Part, access: &Access) -> Result<Answer, NoMemory>
+        requires legal { IsLegal access.now }
+        ensures done { IfOk result (Does who access.now self.old self.new) }
+        ensures memory { IfErr result (λ _. MayWantMemory access.now) }
+    {
+        match access {
+            Access::Show { term, bytes, .. } => self.show(*term, bytes.bytes()),
+            Access::ReadLine { term } => self.read_line(*term),
+            Access::Insert { term, bytes } => self.insert(*term, bytes.bytes()),
+            Access::Key { term } => Ok(self.take_key(*term)),
+            Access::PutLine { line, atoms, .. } => match atoms {
+                Some(atoms) => self.put_line(who, *line, atoms),
+                None => Ok(self.erase(who, *line, *line)),
+            },
+            Access::Erase { from, to, .. } => Ok(self.erase(who, *from, *to)),
+            Access::ClearAll { .. } => Ok(self.clear_all(who)),
+        }
     }
 }
 
 impl Shared for Stores {
     ghost use Rattle.std.specs.Prelude.{refl};
-    ghost use Rattle.b2_access.specs.Answering.{serves_by_row};
-    ghost use Rattle.b2_access.specs.Locality.{serves_is_local, serves_keeps_listed};
+    ghost use Rattle.b2_access.proofs.Locality.{serves_by_row, serves_is_local, serves_keeps_listed};
     ghost use Rattle.b2_access.specs.Serving.{serves, itself};
     ghost use Rattle.b2_access.specs.Store.{StoreState};
     ghost use Rattle.b2_access.specs.Touching.{MayWantMemory};
@@ -303,14 +302,9 @@ impl Shared for Stores {
     }
 
     fn serve(&mut self, who: Part, access: &Access) -> Result<Answer, NoMemory> {
-        match access {
-            Access::Show { term, bytes, .. } => self.show(who, *term, bytes.bytes()),
-            Access::ReadLine { term } => self.read_line(who, *term),
-            Access::Insert { term, bytes } => self.insert(who, *term, bytes.bytes()),
-            Access::Key { term } => Ok(self.take_key(who, *term)),
-            Access::PutLine { line, atoms, .. } => self.put_line(who, *line, atoms),
-            Access::Erase { from, to, .. } => Ok(self.erase(who, *from, *to)),
-            Access::ClearAll { .. } => Ok(self.clear_all(who)),
+        match self.stop(who, &reached_by(access)) {
+            Some(answer) => Ok(answer),
+            None => self.perform(who, access),
         }
     }
 

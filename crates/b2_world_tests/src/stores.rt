@@ -367,7 +367,7 @@ fn answer(
 pub fn called(alloc: Global, row: Cells<'_>) -> Result<String, NoMemory> {
     let mut cells = row;
     let mut stores = four_partitions(alloc)?;
-    let mut seen = Seen::new();
+    let mut seen = Seen::new(alloc);
     let mut shown = String::new(alloc);
     for place in 0..u64::MAX {
         if cells.is_empty() {

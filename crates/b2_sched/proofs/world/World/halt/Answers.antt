@@ -1,4 +1,5 @@
-use Rattle.std.proofs.Common.{sym, subst}
+use Rattle.std.proofs.Common.{sym, ap, subst, ◌∙◌}
+use Rattle.std.specs.Option.{option_copied_mut}
 use Rattle.b2_access.specs.declared.private.Private.{Private}
 use Rattle.b2_store.specs.Meaning.{store_of}
 use Rattle.b2_sched.specs.Presence.{IsSettled}
@@ -6,11 +7,12 @@ use Rattle.b2_sched.proofs.Present.{still_present, with_own}
 use Rattle.b2_sched.proofs.Settled.{halt_settled}
 use Rattle.b2_sched.proofs.world.World.halt.Goals as goal
 
-pub invariant_of-self : goal.invariant_of-self
-invariant_of-self c =
+pub invariant_of-self-2 : goal.invariant_of-self-2
+invariant_of-self-2 c =
     let s = store_of c.self.inside.stores in
     let m = c.self.inside.seen in
     let p = c.args.p in
-    let was = c.self.invariant p c.value_mut.result.now (sym c.value_mut.ensures.there) in
-    let settled = subst (λ (me : Private). IsSettled p me) (sym c.flag_halt.ensures.halt) (halt_settled p c.value_mut.result.now was.settled) in
-    still_present p c.flag_halt.new.self c.self.inside.privates s s m m (with_own p c.value_mut.result.now c.flag_halt.new.self s m settled was) (λ q me is. is) c.self.invariant
+    let me = c.in-Some.me.now in
+    let was = c.self.invariant p me (sym (ap option_copied_mut (sym c.in-Some.is) ∙ c.get_mut.ensures.there)) in
+    let settled = subst (λ (you : Private). IsSettled p you) (sym c.flag_halt.ensures.halt) (halt_settled p me was.settled) in
+    still_present p c.flag_halt.new.self c.self.inside.privates s s m m (with_own p me c.flag_halt.new.self s m settled was) (λ q you is. is) c.self.invariant

@@ -1,4 +1,5 @@
-use Rattle.std.proofs.Common.{rules, sym, ap, subst}
+use Rattle.std.proofs.Common.{rules, sym, ap, subst, ◌∙◌}
+use Rattle.std.specs.Option.{option_copied_mut}
 use Rattle.std.specs.Prelude.{ℕ, IsSome}
 use Rattle.b2_access.specs.Store.{StoreState, content}
 use Rattle.b2_audit.specs.Marks.{Marks}
@@ -12,31 +13,31 @@ use Rattle.b2_sched.proofs.world.World.turn.Goals as goal
 
 pub turn-requires : goal.turn-requires
 turn-requires c =
-    let me = c.value_mut-me.result.now in
-    let was = c.self.invariant c.args.part me (sym c.value_mut-me.ensures.there) in
+    let me = c.in-Some.me.now in
+    let was = c.self.invariant c.args.part me (sym (ap option_copied_mut (sym c.in-Some.is) ∙ c.get_mut.ensures.there)) in
     let own = subst (λ (p : ℕ). IsSome (content (store_of c.self.inside.stores) (object.Text p))) (sym (same_number me.part c.args.part was.settled.home.part)) was.text in
     record { own = subst (λ (s : StoreState). IsSome (content s (object.Text me.part))) (sym (ap store_of c.new-watched.ensures.inner)) own }
 
-pub invariant_of-self : goal.invariant_of-self
-invariant_of-self c =
-    let me = c.value_mut-me.result.now in
+pub invariant_of-self-in-Ok : goal.invariant_of-self-in-Ok
+invariant_of-self-in-Ok c =
+    let me = c.in-Some.me.now in
     let rows = c.self.inside.privates in
     let watched = c.new-watched.result in
     let stores = subst (λ (s : StoreState). ArePresent rows s c.self.inside.seen) (sym (ap store_of c.new-watched.ensures.inner)) c.self.invariant in
     let present = subst (λ (m : Marks). ArePresent rows (store_of watched.inner.now) m) (sym c.new-watched.ensures.seen) stores in
-    let was = present c.args.part me (sym c.value_mut-me.ensures.there) in
+    let was = present c.args.part me (sym (ap option_copied_mut (sym c.in-Some.is) ∙ c.get_mut.ensures.there)) in
     turned_present c.args.part c.args.quota me c.turn.new.me (store_of watched.inner.now) (store_of c.turn.new.s.inner.now) watched.seen.now c.turn.new.s.seen.now c.in-Ok.turned c.in-Ok.ensures.turned was rows c.in-Ok.ensures.listed present
 
 pub returns-in-Ok-clause-turned : goal.returns-in-Ok-clause-turned
 returns-in-Ok-clause-turned c =
-    let me = c.value_mut-me.result.now in
+    let me = c.in-Some.me.now in
     let inside = c.self.inside in
     let watched = c.new-watched.result in
     let w : WorldState = record { quota = inside.quota; privates = inside.privates; store = store_of inside.stores; marks = inside.seen; turns = inside.turns; steps = inside.steps; dropped = inside.dropped } in
     let stores_are = ap store_of c.new-watched.ensures.inner in
     let stores = subst (λ (s : StoreState). ArePresent inside.privates s inside.seen) (sym stores_are) c.self.invariant in
     let present = subst (λ (m : Marks). ArePresent inside.privates (store_of watched.inner.now) m) (sym c.new-watched.ensures.seen) stores in
-    let there = sym c.value_mut-me.ensures.there in
+    let there = sym (ap option_copied_mut (sym c.in-Some.is) ∙ c.get_mut.ensures.there) in
     let was = present c.args.part me there in
     let world = turned_world c.args.part c.args.quota me c.turn.new.me (store_of watched.inner.now) (store_of c.turn.new.s.inner.now) watched.seen.now c.turn.new.s.seen.now c.in-Ok.turned c.in-Ok.ensures.turned was w (sym stores_are) (sym c.new-watched.ensures.seen) there in
     search (rules, world)

@@ -1,0 +1,119 @@
+-- THE ROWS OF THE ACCESSES: what each reaches, what it writes of that, which answers it tells where nothing stops it, and what it does.
+-- What isn't listed stays as it is, and an empty terminal has no keys.
+use Rattle.std.specs.Prelude.{ℕ, nat_lt, Bool, true, List, [], ◌∷◌, ◌++◌, drop, slice_get, Option, Some, None, refl, if◌then◌else◌}
+use Rattle.std.specs.FinMap as map
+use Rattle.std.proofs.Common.{inl, inr}
+use Rattle.b2_base.specs.declared.codes.TheConstants.{A01_TEXT_AREA}
+use Rattle.b2_text.specs.Program.{TextState, size_of, with_line, without}
+use Rattle.b2_vars.specs.Tables.{VarsState}
+use Rattle.b2_term.specs.Terminal.{TerminalState, line_read, after_read, inserted}
+use Rattle.b2_term.specs.declared.KeyItem.{KeyItem}
+use Rattle.b2_term.specs.declared.KeyItem.TheVariants as key
+use Rattle.b2_term.specs.declared.Read.{Read}
+use Rattle.b2_term.specs.declared.Read.TheVariants as read
+use Rattle.b2_access.specs.declared.objects.Object.{Object}
+use Rattle.b2_access.specs.declared.objects.Object.TheVariants as object
+use Rattle.b2_access.specs.declared.accesses.Access.{Access}
+use Rattle.b2_access.specs.declared.accesses.Access.TheVariants as access
+use Rattle.b2_access.specs.declared.accesses.Answer.{Answer}
+use Rattle.b2_access.specs.declared.accesses.Answer.TheVariants as answer
+use Rattle.b2_access.specs.AnswerKinds.{is_done, is_done_or_code, is_of_key, is_of_line}
+use Rattle.b2_access.specs.Reach.{Reach, at_terminal, objects_reached, own_text}
+use Rattle.b2_access.specs.Task.{Task, Look, Tell, Refuse, answers, puts}
+
+-- A row. What is reached is the same for all partitions and in all stores; what is written and done is so for the one that asks.
+pub record AccessRow : Type 0 where
+  pub reach : Reach
+  pub writes : ℕ → List Object
+  pub tells : Answer → Bool
+  pub does : (who : ℕ) → Task (objects_reached who reach) (writes who)
+
+-- at a terminal
+abbrev pub TerminalTask : ℕ → Type 0
+TerminalTask term = Task (object.Terminal term ∷ []) (object.Terminal term ∷ [])
+
+abbrev pub shows : (term : ℕ) → List ℕ → Option TerminalState → TerminalTask term
+shows term bytes None = answers answer.Done
+shows term bytes (Some t) = puts (object.Terminal term) (inl refl) (record t { transcript = t.transcript ++ bytes }) answer.Done
+
+abbrev pub line_answer : Read → Answer
+line_answer (read.Line bytes) = answer.Line bytes
+line_answer (read.Special n) = answer.Special n
+line_answer read.NoKeys = answer.NoKeys
+
+abbrev pub reads_line : (term : ℕ) → Option TerminalState → TerminalTask term
+reads_line term None = answers answer.NoKeys
+reads_line term (Some t) = puts (object.Terminal term) (inl refl) (after_read t) (line_answer (line_read t))
+
+abbrev pub inserts : (term : ℕ) → List ℕ → Option TerminalState → TerminalTask term
+inserts term bytes None = answers answer.Done
+inserts term bytes (Some t) = puts (object.Terminal term) (inl refl) (inserted bytes t) answer.Done
+
+abbrev pub key_answer : Option KeyItem → Answer
+key_answer None = answer.NoKeys
+key_answer (Some (key.Byte b)) = answer.Key b
+key_answer (Some (key.Special n)) = answer.Special n
+
+abbrev pub takes_key : (term : ℕ) → Option TerminalState → TerminalTask term
+takes_key term None = answers answer.NoKeys
+takes_key term (Some t) = puts (object.Terminal term) (inl refl) (record t { queue = drop 1 t.queue }) (key_answer (slice_get t.queue 0))
+
+-- an edit of the own text
+abbrev pub EditTask : ℕ → Type 0
+EditTask who = Task (object.Borrow who ∷ object.Text who ∷ []) (object.Text who ∷ [])
+
+-- a line goes into its place, where the text has room
+abbrev pub puts_atoms : (who : ℕ) → ℕ → List ℕ → Option TextState → EditTask who
+puts_atoms who n atoms None = answers answer.Done
+puts_atoms who n atoms (Some t) =
+    if nat_lt t.area (size_of (with_line n atoms t.lines)) then Refuse A01_TEXT_AREA
+    else puts (object.Text who) (inl refl) (record t { lines = with_line n atoms t.lines }) answer.Done
+
+abbrev pub erases : (who : ℕ) → ℕ → ℕ → Option TextState → EditTask who
+erases who from to None = answers answer.Done
+erases who from to (Some t) = puts (object.Text who) (inl refl) (record t { lines = without from to t.lines }) answer.Done
+
+-- a line without atoms is taken out
+abbrev pub puts_line : (who : ℕ) → ℕ → Option (List ℕ) → Option TextState → EditTask who
+puts_line who n None text = erases who n n text
+puts_line who n (Some atoms) text = puts_atoms who n atoms text
+
+-- the lines and the `@` variables go
+abbrev pub ClearTask : ℕ → Type 0
+ClearTask who = Task (object.Borrow who ∷ object.Text who ∷ object.Globals who ∷ []) (object.Text who ∷ object.Globals who ∷ [])
+
+abbrev pub no_lines : TextState → TextState
+no_lines t = record t { lines = [] }
+
+abbrev pub no_globals : VarsState → VarsState
+no_globals v = record v { table = map.empty }
+
+abbrev pub clears_both : (who : ℕ) → TextState → Option VarsState → ClearTask who
+clears_both who t None = puts (object.Text who) (inl refl) (no_lines t) answer.Done
+clears_both who t (Some v) =
+    Tell (record { place = object.Text who; there = inl refl; value = no_lines t } ∷ record { place = object.Globals who; there = inr (inl refl); value = no_globals v } ∷ []) answer.Done
+
+abbrev pub clears : (who : ℕ) → Option TextState → ClearTask who
+clears who None = answers answer.Done
+clears who (Some t) = Look (object.Globals who) (inr (inr (inl refl))) (clears_both who t)
+
+-- the row of an access of one terminal, and that of an edit
+abbrev pub terminal_row : (term : ℕ) → (Answer → Bool) → (Option TerminalState → TerminalTask term) → AccessRow
+terminal_row term tells does = record { reach = at_terminal term; writes = λ who. object.Terminal term ∷ []; tells = tells; does = λ who. Look (object.Terminal term) (inl refl) does }
+
+abbrev pub edit_row : (Answer → Bool) → ((who : ℕ) → Option TextState → EditTask who) → AccessRow
+edit_row tells does = record { reach = own_text; writes = λ who. object.Text who ∷ []; tells = tells; does = λ who. Look (object.Text who) (inr (inl refl)) (does who) }
+
+-- THE ROW OF EACH ACCESS
+abbrev pub row : Access → AccessRow
+row (access.Show term bytes column) = terminal_row term is_done (shows term bytes)
+row (access.ReadLine term) = terminal_row term is_of_line (reads_line term)
+row (access.Insert term bytes) = terminal_row term is_done (inserts term bytes)
+row (access.Key term) = terminal_row term is_of_key (takes_key term)
+row (access.PutLine line atoms homes) = edit_row is_done_or_code (λ who. puts_line who line atoms)
+row (access.Erase from to homes) = edit_row is_done (λ who. erases who from to)
+row (access.ClearAll name homes) =
+    record { reach = record own_text { variables = true }; writes = λ who. object.Text who ∷ object.Globals who ∷ []; tells = is_done; does = λ who. Look (object.Text who) (inr (inl refl)) (clears who) }
+
+abbrev pub reach : Access → Reach
+reach a = (row a).reach

@@ -1,0 +1,19 @@
+-- A device that a partition holds is out of the reach of all others.
+use Rattle.std.specs.Prelude.{◌≡◌, ◌≢◌, ℕ, List, Option, Some, None}
+use Rattle.b2_access.specs.declared.objects.Object.{Object}
+use Rattle.b2_access.specs.declared.objects.Object.TheVariants as object
+use Rattle.b2_access.specs.declared.accesses.Access.{Access}
+use Rattle.b2_access.specs.Serving.{serves}
+use Rattle.b2_access.specs.Store.{StoreState, content}
+
+-- the device that an object belongs to: who holds it, its platter and its printer
+abbrev pub device_of : Object → Option (List ℕ)
+device_of (object.Hog a) = Some a
+device_of (object.Platter a) = Some a
+device_of (object.Printer a) = Some a
+device_of o = None
+
+-- what belongs to a device stays as it is through every access of a partition, while another one holds it
+abbrev pub HeldStaysAsItIs : Type 0
+HeldStaysAsItIs = (who p : ℕ) (d : List ℕ) (o : Object) (a : Access) (s : StoreState) → content s (object.Hog d) ≡ Some (Some p) → p ≢ who → device_of o ≡ Some d
+    → content (serves s who a).after o ≡ content s o

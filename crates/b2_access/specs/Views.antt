@@ -1,0 +1,53 @@
+-- What came of an access, as those see it who asked for it: each view tells the answers that one kind of statement looks at, and no
+-- others. So an access or an answer that comes later touches no statement that has nothing to do with it.
+use Rattle.std.specs.Prelude.{ℕ, List, Option, Some, None}
+use Rattle.b2_access.specs.declared.accesses.Access.{Access}
+use Rattle.b2_access.specs.declared.accesses.Access.TheVariants as access
+use Rattle.b2_access.specs.declared.accesses.Answer.{Answer}
+use Rattle.b2_access.specs.declared.accesses.Answer.TheVariants as answer
+
+-- the column after what was shown, None where nothing was
+abbrev pub column_shown : Access → Answer → Option ℕ
+column_shown (access.Show term bytes column) answer.Done = Some column
+column_shown x a = None
+
+-- what came of asking for a key: a byte, a special function key, or none so far; or it is asked for again
+pub data KeyCame : Type 0 where
+  ByteTyped : ℕ → KeyCame
+  KeyPressed : ℕ → KeyCame
+  NoKey : KeyCame
+  KeyLater : KeyCame
+
+abbrev pub key_came : Access → Answer → KeyCame
+key_came (access.Key term) (answer.Key b) = ByteTyped b
+key_came (access.Key term) (answer.Special n) = KeyPressed n
+key_came (access.Key term) answer.NoKeys = NoKey
+key_came x a = KeyLater
+
+-- what came of asking for a line, before which a prompt is shown: that was shown, up to a column, a line was entered, or a special
+-- function key ended the reading; or it is asked for again
+pub data LineCame : Type 0 where
+  PromptShown : ℕ → LineCame
+  LineEntered : List ℕ → LineCame
+  LineLeft : ℕ → LineCame
+  LineLater : LineCame
+
+abbrev pub line_came : Access → Answer → LineCame
+line_came (access.Show term bytes column) answer.Done = PromptShown column
+line_came (access.ReadLine term) (answer.Line line) = LineEntered line
+line_came (access.ReadLine term) (answer.Special n) = LineLeft n
+line_came x a = LineLater
+
+-- what came of clearing a text: all of it is gone, or the lines that were named are, or another stands inside; or it is asked for again
+pub data ClearCame : Type 0 where
+  AllCleared : ClearCame
+  LinesErased : ClearCame
+  TextLocked : ClearCame
+  ClearLater : ClearCame
+
+abbrev pub clear_came : Access → Answer → ClearCame
+clear_came (access.ClearAll name homes) answer.Done = AllCleared
+clear_came (access.ClearAll name homes) (answer.Locked q) = TextLocked
+clear_came (access.Erase from to homes) answer.Done = LinesErased
+clear_came (access.Erase from to homes) (answer.Locked q) = TextLocked
+clear_came x a = ClearLater

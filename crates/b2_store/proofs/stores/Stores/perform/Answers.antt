@@ -1,0 +1,20 @@
+use Rattle.std.proofs.Common.{sym, subst, ◌∙◌, ap}
+use Rattle.b2_access.specs.declared.accesses.Access.TheVariants as access
+use Rattle.b2_store.specs.Meaning.{Does}
+use Rattle.b2_store.proofs.stores.Stores.perform.Goals as goal
+
+-- what a method does is what its access does
+pub returns-in-Key-clause-done : goal.returns-in-Key-clause-done
+returns-in-Key-clause-done c = subst (λ a. Does c.args.who a c.args.self.now c.take_key.new.self c.take_key.result) (sym c.in-Key.is) (c.take_key.ensures c.args.who)
+
+pub returns-in-None-clause-done : goal.returns-in-None-clause-done
+returns-in-None-clause-done c =
+    let out = c.in-PutLine.is ∙ ap (λ atoms. access.PutLine c.in-PutLine.line atoms c.in-PutLine.homes) c.in-None.is in
+    subst (λ a. Does c.args.who a c.args.self.now c.erase.new.self c.erase.result) (sym out) (c.erase.ensures c.in-PutLine.homes)
+
+pub returns-in-Erase-clause-done : goal.returns-in-Erase-clause-done
+returns-in-Erase-clause-done c = subst (λ a. Does c.args.who a c.args.self.now c.erase-in-Erase.new.self c.erase-in-Erase.result) (sym c.in-Erase.is) (c.erase-in-Erase.ensures c.in-Erase.homes)
+
+pub returns-in-ClearAll-clause-done : goal.returns-in-ClearAll-clause-done
+returns-in-ClearAll-clause-done c =
+    subst (λ a. Does c.args.who a c.args.self.now c.clear_all.new.self c.clear_all.result) (sym c.in-ClearAll.is) (c.clear_all.ensures c.in-ClearAll.name c.in-ClearAll.homes)
