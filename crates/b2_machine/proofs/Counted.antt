@@ -38,45 +38,24 @@ ending : (w : Why) → CountsOrEnds (ends_turn w)
 ending w h = refl
 
 repeating : (a : Answer) → CountsOrEnds (repeats a)
-repeating answer.Done h = cc
-repeating (answer.Line bytes) h = cc
-repeating (answer.Special n) h = cc
-repeating (answer.Key b) h = cc
 repeating answer.NoKeys h = refl
 repeating (answer.Wait q) h = refl
-repeating (answer.Locked q) h = cc
-repeating (answer.Refused code) h = cc
+repeating a h = cc
 
 -- what waits to be shown, a literal, and a numbered line
 shown : (text : List ℕ) (a : Answer) (me : Private) → CountsOrEnds (shown_by (shows_pending text me) a me).end
 shown text answer.Done me = counting
-shown text (answer.Line bytes) me = repeating (answer.Line bytes)
-shown text (answer.Special n) me = repeating (answer.Special n)
-shown text (answer.Key b) me = repeating (answer.Key b)
-shown text answer.NoKeys me = repeating answer.NoKeys
-shown text (answer.Wait q) me = repeating (answer.Wait q)
-shown text (answer.Locked q) me = repeating (answer.Locked q)
-shown text (answer.Refused code) me = repeating (answer.Refused code)
+shown text a me = repeating a
 
 typed : (a : Answer) (me : Private) → CountsOrEnds (typed_by_key a me).end
 typed answer.Done me = counting
-typed (answer.Line bytes) me = repeating (answer.Line bytes)
-typed (answer.Special n) me = repeating (answer.Special n)
-typed (answer.Key b) me = repeating (answer.Key b)
-typed answer.NoKeys me = repeating answer.NoKeys
-typed (answer.Wait q) me = repeating (answer.Wait q)
-typed (answer.Locked q) me = repeating (answer.Locked q)
-typed (answer.Refused code) me = repeating (answer.Refused code)
+typed a me = repeating a
 
 put : (a : Answer) (me : Private) → CountsOrEnds (put_by a me).end
 put answer.Done me = counting
-put (answer.Line bytes) me = repeating (answer.Line bytes)
-put (answer.Special n) me = repeating (answer.Special n)
-put (answer.Key b) me = repeating (answer.Key b)
-put answer.NoKeys me = repeating answer.NoKeys
-put (answer.Wait q) me = repeating (answer.Wait q)
 put (answer.Locked q) me = counting
 put (answer.Refused code) me = counting
+put a me = repeating a
 
 -- where a statement leads
 gone : (o : Option Place) (me : Private) → CountsOrEnds (goes_to o me).end
@@ -111,14 +90,9 @@ module _ (ways : Ways) {M : Type 0} (store : M → StoreState) (serving : Servin
   executed p me m = unit (statement_placed p me.immediate (text_in (store m) me.part).lines) p me (seen_by me (store m)) (lending me.part me.part at.None m None)
 
   read : (a : Answer) (me : Private) (m : M) → CountsOrEnds (line_read store serving lending a me m).end
-  read answer.Done me m = repeating answer.Done
   read (answer.Line bytes) me m = counting
   read (answer.Special n) me m = counting
-  read (answer.Key b) me m = repeating (answer.Key b)
-  read answer.NoKeys me m = repeating answer.NoKeys
-  read (answer.Wait q) me m = repeating (answer.Wait q)
-  read (answer.Locked q) me m = repeating (answer.Locked q)
-  read (answer.Refused code) me m = repeating (answer.Refused code)
+  read a me m = repeating a
 
   run : (o : Option Place) (me : Private) (m : M) → CountsOrEnds (runs_or_reads ways store serving lending o me m).end
   run None me m = let g = serving m me.part (access.ReadLine me.term) in read g.answer me g.after

@@ -143,19 +143,7 @@ module _ (ways : Ways) (lawful : AreLawful ways) (p : Place) where
 
   shown_here : (x : Access) (a : Answer) (me : Private) → Here me → EndedHere (shown x a me).me (shown x a me).outcome
   shown_here (access.Show term shown_bytes column) answer.Done me h = (h.0, λ r. inl (h.1 r))
-  shown_here (access.Show term shown_bytes column) (answer.Line bytes) me h = (h.0, λ r. inl (h.1 r))
-  shown_here (access.Show term shown_bytes column) (answer.Special n) me h = (h.0, λ r. inl (h.1 r))
-  shown_here (access.Show term shown_bytes column) (answer.Key b) me h = (h.0, λ r. inl (h.1 r))
-  shown_here (access.Show term shown_bytes column) answer.NoKeys me h = (h.0, λ r. inl (h.1 r))
-  shown_here (access.Show term shown_bytes column) (answer.Wait q) me h = (h.0, λ r. inl (h.1 r))
-  shown_here (access.Show term shown_bytes column) (answer.Locked q) me h = (h.0, λ r. inl (h.1 r))
-  shown_here (access.Show term shown_bytes column) (answer.Refused code) me h = (h.0, λ r. inl (h.1 r))
-  shown_here (access.ReadLine term) a me h = (h.0, λ r. inl (h.1 r))
-  shown_here (access.Insert term bytes) a me h = (h.0, λ r. inl (h.1 r))
-  shown_here (access.Key term) a me h = (h.0, λ r. inl (h.1 r))
-  shown_here (access.PutLine line atoms homes) a me h = (h.0, λ r. inl (h.1 r))
-  shown_here (access.Erase from to homes) a me h = (h.0, λ r. inl (h.1 r))
-  shown_here (access.ClearAll name homes) a me h = (h.0, λ r. inl (h.1 r))
+  shown_here x a me h = (h.0, λ r. inl (h.1 r))
 
   finished : (b : Builder) (x : Access) (a : Answer) (me : Private) (s : SeenLent) → Here me → EndedHere (finish_by ways b x a me s).me (finish_by ways b x a me s).outcome
   finished (builder.Listing from to) x a me s h = shown_here x a me h
@@ -201,23 +189,11 @@ module _ (ways : Ways) (lawful : AreLawful ways) (p : Place) where
 module _ where
   pending_keeps : (text : List ℕ) (a : Answer) (me : Private) → KeepsNone me → KeepsNone (shown_by (shows_pending text me) a me).me
   pending_keeps text answer.Done me h = h
-  pending_keeps text (answer.Line bytes) me h = h
-  pending_keeps text (answer.Special n) me h = h
-  pending_keeps text (answer.Key b) me h = h
-  pending_keeps text answer.NoKeys me h = h
-  pending_keeps text (answer.Wait q) me h = h
-  pending_keeps text (answer.Locked q) me h = h
-  pending_keeps text (answer.Refused code) me h = h
+  pending_keeps text a me h = h
 
   literal_keeps : (a : Answer) (me : Private) → KeepsNone me → KeepsNone (typed_by_key a me).me
   literal_keeps answer.Done me h = h
-  literal_keeps (answer.Line bytes) me h = h
-  literal_keeps (answer.Special n) me h = h
-  literal_keeps (answer.Key b) me h = h
-  literal_keeps answer.NoKeys me h = h
-  literal_keeps (answer.Wait q) me h = h
-  literal_keeps (answer.Locked q) me h = h
-  literal_keeps (answer.Refused code) me h = h
+  literal_keeps a me h = h
 
   -- lines that are typed
   taken : (e : Entered) (me : Private) → KeepsNone me → KeepsNone (takes e me)
@@ -244,24 +220,15 @@ module _ where
 
   put_keeps : (a : Answer) (me : Private) → KeepsNone me → KeepsNone (put_by a me).me
   put_keeps answer.Done me h = λ r. refl
-  put_keeps (answer.Line bytes) me h = h
-  put_keeps (answer.Special n) me h = h
-  put_keeps (answer.Key b) me h = h
-  put_keeps answer.NoKeys me h = h
-  put_keeps (answer.Wait q) me h = h
   put_keeps (answer.Locked q) me h = h
   put_keeps (answer.Refused code) me h = h
+  put_keeps a me h = h
 
 module _ (ways : Ways) (lawful : AreLawful ways) {M : Type 0} (store : M → StoreState) (serving : ServingOf M) (lending : Loan M) where
   read_keeps : (a : Answer) (me : Private) (m : M) → KeepsNone me → KeepsNone (line_read store serving lending a me m).me
-  read_keeps answer.Done me m h = h
   read_keeps (answer.Line bytes) me m h = taken_or (reads bytes) (record me { term_column = 0 }) h
   read_keeps (answer.Special n) me m h = pressed_keeps (typed_by_mark n (text_in (store m) me.part).lines) (first_opening (is_mark n) (text_in (store m) me.part).lines) me h
-  read_keeps (answer.Key b) me m h = h
-  read_keeps answer.NoKeys me m h = h
-  read_keeps (answer.Wait q) me m h = h
-  read_keeps (answer.Locked q) me m h = h
-  read_keeps (answer.Refused code) me m h = h
+  read_keeps a me m h = h
 
   run_keeps : (o : Option Place) (me : Private) (m : M) → me.place ≡ o → KeepsNone me → KeepsNone (runs_or_reads ways store serving lending o me m).me
   run_keeps None me m is h = read_keeps (serving m me.part (access.ReadLine me.term)).answer me (serving m me.part (access.ReadLine me.term)).after h

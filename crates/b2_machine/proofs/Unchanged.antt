@@ -36,14 +36,9 @@ use Rattle.b2_machine.specs.declared.statements.Builder.{Builder}
 use Rattle.b2_machine.specs.declared.statements.Builder.TheVariants as builder
 
 delayed : (a : Answer) → (repeats a).counted ≡ false → delays a ≡ true
-delayed answer.Done h = cc
-delayed (answer.Line bytes) h = cc
-delayed (answer.Special n) h = cc
-delayed (answer.Key b) h = cc
 delayed answer.NoKeys h = refl
 delayed (answer.Wait q) h = refl
-delayed (answer.Locked q) h = cc
-delayed (answer.Refused code) h = cc
+delayed a h = cc
 
 module _ (ways : Ways) (lawful : AreLawful ways) (before : Private) where
   -- a step that has ended so has changed nothing, where it doesn't count
@@ -52,33 +47,17 @@ module _ (ways : Ways) (lawful : AreLawful ways) (before : Private) where
 
   shown : (text : List ℕ) (a : Answer) → Unless (shown_by (shows_pending text before) a before).end (shown_by (shows_pending text before) a before).me
   shown text answer.Done h = cc
-  shown text (answer.Line bytes) h = refl
-  shown text (answer.Special n) h = refl
-  shown text (answer.Key b) h = refl
-  shown text answer.NoKeys h = refl
-  shown text (answer.Wait q) h = refl
-  shown text (answer.Locked q) h = refl
-  shown text (answer.Refused code) h = refl
+  shown text a h = refl
 
   typed : (a : Answer) → Unless (typed_by_key a before).end (typed_by_key a before).me
   typed answer.Done h = cc
-  typed (answer.Line bytes) h = refl
-  typed (answer.Special n) h = refl
-  typed (answer.Key b) h = refl
-  typed answer.NoKeys h = refl
-  typed (answer.Wait q) h = refl
-  typed (answer.Locked q) h = refl
-  typed (answer.Refused code) h = refl
+  typed a h = refl
 
   put : (a : Answer) → Unless (put_by a before).end (put_by a before).me
   put answer.Done h = cc
-  put (answer.Line bytes) h = refl
-  put (answer.Special n) h = refl
-  put (answer.Key b) h = refl
-  put answer.NoKeys h = refl
-  put (answer.Wait q) h = refl
   put (answer.Locked q) h = cc
   put (answer.Refused code) h = cc
+  put a h = refl
 
   -- where a statement leads
   gone : (o : Option Place) (me : Private) → Unless (goes_to o me).end (goes_to o me).me
@@ -132,14 +111,9 @@ module _ (ways : Ways) (lawful : AreLawful ways) (before : Private) where
     executed p m = unit (statement_placed p before.immediate (text_in (store m) before.part).lines) p (seen_by before (store m)) (lending before.part before.part at.None m None)
 
     read : (a : Answer) (m : M) → Unless (line_read store serving lending a before m).end (line_read store serving lending a before m).me
-    read answer.Done m h = refl
     read (answer.Line bytes) m h = cc
     read (answer.Special n) m h = cc
-    read (answer.Key b) m h = refl
-    read answer.NoKeys m h = refl
-    read (answer.Wait q) m h = refl
-    read (answer.Locked q) m h = refl
-    read (answer.Refused code) m h = refl
+    read a m h = refl
 
     run : (o : Option Place) (m : M) → Unless (runs_or_reads ways store serving lending o before m).end (runs_or_reads ways store serving lending o before m).me
     run None m = let g = serving m before.part (access.ReadLine before.term) in read g.answer g.after
