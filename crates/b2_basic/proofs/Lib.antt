@@ -1,2 +1,2 @@
--- AtTerminal: what is planned where a unit was found is what is planned at its place.
-pub mod AtTerminal
+-- Found: what is planned where a unit was found is what the language plans at its place.
+mod Found

@@ -1,11 +1,12 @@
 -- Which crate executes the statements of a row; so what they plan, and how they finish.
-use Rattle.std.specs.Prelude.{ℕ, ◌||◌, Bool, if◌then◌else◌}
+use Rattle.std.specs.Prelude.{ℕ, ◌||◌, ◌&&◌, not, Bool, if◌then◌else◌}
 use Rattle.b2_access.specs.Lending.{SeenLent}
 use Rattle.b2_access.specs.Planning.{Finishing, Planning}
 use Rattle.b2_access.specs.declared.accesses.Access.{Access}
 use Rattle.b2_access.specs.declared.accesses.Answer.{Answer}
 use Rattle.b2_access.specs.declared.private.Private.{Private}
 use Rattle.b2_language.specs.Languages.{Ways}
+use Rattle.b2_stmt.specs.Clearing.{asks_access}
 use Rattle.b2_stmt.specs.Plan as stmt
 use Rattle.b2_stmt_io.specs.Plan as stmt_io
 use Rattle.b2_basic.specs.declared.choice.Family.{Family}
@@ -13,6 +14,10 @@ use Rattle.b2_basic.specs.declared.choice.Family.TheVariants as family
 
 abbrev pub is_built : ℕ → Bool
 is_built r = stmt.is_built r || stmt_io.is_built r
+
+-- a statement of control that asks for nothing is planned at once where it was found
+abbrev pub is_at_once : ℕ → Bool
+is_at_once r = stmt.is_built r && not (asks_access r)
 
 -- the family of a row that is built
 abbrev pub family_of : ℕ → Family

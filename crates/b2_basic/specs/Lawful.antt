@@ -1,17 +1,20 @@
 -- What holds of the statements of each crate holds of the language: by the family of their row, and by nothing else.
-use Rattle.std.specs.Prelude.{refl}
+use Rattle.std.proofs.Common.{◌≡◌, ℕ, Bool, true, false, true≢false, ◌&&◌, ◌||◌, not, refl, sym}
 use Rattle.b2_access.specs.Homes.{FinishesWithin, PlansWithin}
 use Rattle.b2_access.specs.Keeping.{FinishesInPlace, FinishesKeepNone, PlansInPlace, PlansKeepNone}
 use Rattle.b2_access.specs.OwnTerminal.{FinishesAtTerminal, PlansAtTerminal}
 use Rattle.b2_access.specs.Waiting.{FinishesUnchanged, PlansBeforeChanges}
 use Rattle.b2_language.specs.Languages.{AreLawful, PlansLegally}
+use Rattle.b2_stmt.specs.Clearing.{asks_access}
+use Rattle.b2_stmt.specs.Plan as stmt
 use Rattle.b2_stmt.proofs.HomesKept as stmt_homes
 use Rattle.b2_stmt.proofs.KeptPlaces as stmt_places
 use Rattle.b2_stmt.proofs.Waits as stmt_waits
+use Rattle.b2_stmt_io.specs.Plan as stmt_io
 use Rattle.b2_stmt_io.proofs.HomesKept as stmt_io_homes
 use Rattle.b2_stmt_io.proofs.KeptPlaces as stmt_io_places
 use Rattle.b2_stmt_io.proofs.Waits as stmt_io_waits
-use Rattle.b2_basic.specs.Choice.{basic, family_of, finish_by, plan_by}
+use Rattle.b2_basic.specs.Choice.{basic, family_of, finish_by, is_at_once, is_built, plan_by}
 use Rattle.b2_basic.specs.Legal.{control_legally, terminal_legally}
 use Rattle.b2_basic.specs.declared.choice.Family.{Family}
 use Rattle.b2_basic.specs.declared.choice.Family.TheVariants as family
@@ -75,3 +78,10 @@ basic_is_lawful = record {
   plans_before_changes = λ r. plan_before_changes (family_of r);
   finishes_unchanged = λ r. finish_unchanged (family_of r);
 }
+
+built_by : (b c d : Bool) → (b && not c) ≡ true → (b || d) ≡ true
+built_by true c d is = refl
+built_by false c d is = absurd (true≢false (sym is))
+
+pub at_once_is_built : (r : ℕ) → is_at_once r ≡ true → is_built r ≡ true
+at_once_is_built r is = built_by (stmt.is_built r) (asks_access r) (stmt_io.is_built r) is

@@ -1,7 +1,7 @@
 // The language of the machine.
 ghost use Rattle.std.specs.Prelude.{◌≡◌};
 
-use crate::choice::{Family, family_of, plan_found};
+use crate::choice::{Family, family_of};
 use b2_access::{Access, Answer, DeviceTable, Lent, Outcome, Planned, Private};
 use b2_atom::Atoms;
 use b2_base::NoMemory;
@@ -15,10 +15,12 @@ use std::alloc::Global;
 pub struct Basic;
 
 impl Language for Basic {
-    ghost use Rattle.b2_basic.specs.Choice.{basic};
-    ghost use Rattle.b2_basic.specs.Lawful.{basic_is_lawful};
+    ghost use Rattle.b2_basic.specs.Choice.{basic, is_at_once};
+    ghost use Rattle.b2_basic.specs.Lawful.{at_once_is_built, basic_is_lawful};
 
     ghost ways = { basic };
+
+    ghost at_once = { is_at_once };
 
     fn is_built(row: u16) -> bool {
         b2_stmt::is_built(row) || b2_stmt_io::is_built(row)
@@ -51,6 +53,10 @@ impl Language for Basic {
         }
     }
 
+    fn is_at_once(row: u16) -> bool {
+        b2_stmt::is_built(row) && !b2_stmt::asks_access(row)
+    }
+
     fn plan_at_once(
         alloc: Global,
         me: &mut Private,
@@ -59,9 +65,25 @@ impl Language for Basic {
         line: &Atoms,
         unit: &RowUnit<'_>,
         place: &Place,
-    ) -> Result<Option<Planned>, NoMemory> {
-        plan_found(alloc, me, own, home, line, unit, place)
+    ) -> Result<Outcome, NoMemory> {
+        b2_stmt::execute(alloc, me, own, home, line, unit, *place)
     }
+
+    fn plan_found(
+        alloc: Global,
+        me: &mut Private,
+        lent: &mut Lent<'_>,
+        devices: &DeviceTable,
+        unit: &RowUnit<'_>,
+        place: &Place,
+    ) -> Result<Planned, NoMemory> {
+        match family_of(unit.row) {
+            Family::Control => b2_stmt::plan(alloc, me, lent, devices),
+            Family::Terminal => b2_stmt_io::plan_found(alloc, me, lent.home, unit),
+        }
+    }
+
+    ghost at_once_is_built = { at_once_is_built };
 
     ghost lawful = { basic_is_lawful };
 }

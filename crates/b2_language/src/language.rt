@@ -1,11 +1,12 @@
 // What the statements of a language do.
-ghost use Rattle.std.specs.Prelude.{◌≡◌, ◌<◌, true, Option, Some, None, IfOk, IfSome, is_some};
+ghost use Rattle.std.specs.Prelude.{◌≡◌, ◌<◌, ℕ, Bool, true, Option, Some, IfOk, is_some};
 ghost use Rattle.b2_rows.specs.Laws.{IsRow};
 ghost use Rattle.b2_rows.specs.Rows.{tree_at};
 ghost use Rattle.b2_vars.specs.Tables.{VarsState};
 ghost use Rattle.b2_access.specs.Answering.{can_answer};
 ghost use Rattle.b2_access.specs.Lending.{globals_lent, seen_lent};
-ghost use Rattle.b2_access.specs.Placed.{line_named, statement_on};
+ghost use Rattle.b2_access.specs.Placed.{line_named, statement_on, statement_placed};
+ghost use Rattle.b2_access.specs.Planning.{done};
 ghost use Rattle.b2_language.specs.Languages.{AreLawful, Ways};
 
 use b2_access::{Access, Answer, DeviceTable, Lent, Outcome, Planned, Private};
@@ -20,6 +21,9 @@ use std::alloc::Global;
 pub trait Language {
     /// What they do.
     ghost ways: { Ways };
+
+    /// The rows whose statements are planned at once.
+    ghost at_once: { ℕ → Bool };
 
     /// Whether statements of a row are built.
     fn is_built(row: u16) -> bool
@@ -51,8 +55,12 @@ pub trait Language {
         ensures same_reference { lent.new.globals.ghost_name ≡ lent.old.globals.ghost_name }
         ensures part { me.new.part ≡ me.old.part };
 
-    /// What `plan` says of a unit in a line of the program, where the language has a quicker way to say so, since the line and
-    /// the unit are found; none, and nothing is done, where it has not.
+    /// Whether statements of a row are planned at once where their unit was found in a line of the program: they ask for
+    /// nothing there.
+    fn is_at_once(row: u16) -> bool
+        ensures at_once { result ≡ at_once row };
+
+    /// What `plan` says of such a unit, at its place in a line of the program.
     fn plan_at_once(
         alloc: Global,
         me: &mut Private,
@@ -61,20 +69,39 @@ pub trait Language {
         line: &Atoms,
         unit: &RowUnit<'_>,
         place: &Place,
-    ) -> Result<Option<Planned>, NoMemory>
+    ) -> Result<Outcome, NoMemory>
+        requires at_once { at_once unit.now.row ≡ true }
         requires stands { me.old.place ≡ Some place.now }
         requires program { is_some place.now.line ≡ true }
         requires line { line_named me.old.immediate home.now.lines place.now.line ≡ Some line.now }
         requires statement { Some (record { row = unit.now.row; tree = tree_at unit.now.row unit.now.bytes.now }) ≡ statement_on (Some line.now) place.now.unit }
         requires read { IsRow unit.now.row unit.now.bytes.now (tree_at unit.now.row unit.now.bytes.now) }
         requires few { place.now.unit < 255 }
-        ensures planned { (globals : Option VarsState) → IfOk result (λ p. IfSome p (λ p. record { me = me.new; globals = globals; planned = p } ≡ ways.plan unit.now.row me.old (record { own = own.now; home = home.now; globals = globals }))) }
-        ensures built { IfOk result (λ p. IfSome p (λ _. ways.built unit.now.row ≡ true)) }
-        ensures same { IfOk result (λ p. p ≡ None → me.new ≡ me.old) }
+        ensures planned { (globals : Option VarsState) → IfOk result (λ o. done (record { own = own.now; home = home.now; globals = globals }) (record { me = me.new; outcome = o }) ≡ ways.plan unit.now.row me.old (record { own = own.now; home = home.now; globals = globals })) }
+        ensures part { me.new.part ≡ me.old.part };
+
+    /// What `plan` says of any unit that was found so; where the language has no shorter way it is looked up again.
+    fn plan_found(
+        alloc: Global,
+        me: &mut Private,
+        lent: &mut Lent<'_>,
+        devices: &DeviceTable,
+        unit: &RowUnit<'_>,
+        place: &Place,
+    ) -> Result<Planned, NoMemory>
+        requires stands { me.old.place ≡ Some place.now }
+        requires program { is_some place.now.line ≡ true }
+        requires statement { Some (record { row = unit.now.row; tree = tree_at unit.now.row unit.now.bytes.now }) ≡ statement_placed place.now me.old.immediate lent.old.home.now.lines }
+        requires read { IsRow unit.now.row unit.now.bytes.now (tree_at unit.now.row unit.now.bytes.now) }
+        ensures planned { IfOk result (λ p. record { me = me.new; globals = globals_lent lent.new; planned = p } ≡ ways.plan unit.now.row me.old (seen_lent lent.old)) }
+        ensures same_reference { lent.new.globals.ghost_name ≡ lent.old.globals.ghost_name }
         ensures part { me.new.part ≡ me.old.part }
     {
-        Ok(None)
+        Self::plan(alloc, unit.row, me, lent, devices)
     }
+
+    /// What is planned at once is built.
+    ghost at_once_is_built: { (r : ℕ) → at_once r ≡ true → ways.built r ≡ true };
 
     /// What it owes its machine.
     ghost lawful: { AreLawful ways };

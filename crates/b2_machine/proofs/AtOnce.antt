@@ -1,4 +1,4 @@
--- A statement that the language plans at once: what its step begins with is what it plans.
+-- A statement that was found in a line of the program: what its step begins with is what is planned there.
 use Rattle.std.proofs.Common.{◌≡◌, ℕ, ◌==◌, Bool, true, false, true≢false, if◌then◌else◌, List, refl, sym, ap, ◌∙◌, arith, Option, Some, None, is_some}
 use Rattle.std.proofs.lemmas.Bool.Decides.{nat_tests}
 use Rattle.b2_atom.specs.Tree.{names_global}
@@ -37,12 +37,16 @@ module _ (ways : Ways) (lawful : AreLawful ways) where
   built : (u : Statement) → names_global u.tree ≡ false → ways.built u.row ≡ true → builder_of ways u ≡ builder.Language u.row
   built u local is = otherwise (names_global u.tree) _ _ local ∙ otherwise (u.row == row.LIST) _ _ (no_list u.row is) ∙ chosen (ways.built u.row) _ _ is
 
+  pub begun_where_found : (p : Place) (me : Private) (s : SeenLent) (u : Statement) (o : Builder) (x : Planning) (b : Begun)
+      → Some u ≡ statement_placed p me.immediate s.home.lines → o ≡ builder_of ways u → x ≡ plan_by ways o p me s → b ≡ begun x o p s.home.lines → b ≡ begins ways p me s
+  begun_where_found p me s u o x b is_unit is_builder is_x is_b =
+      is_b
+      ∙ ap (λ (y : Planning). begun y o p s.home.lines) is_x
+      ∙ ap (λ (k : Builder). begun (plan_by ways k p me s) k p s.home.lines) is_builder
+      ∙ ap (λ (o : Option Statement). begins_where ways o p me s) is_unit
+
   pub begun_at_once : (p : Place) (me : Private) (s : SeenLent) (line : List ℕ) (u : Statement) (x : Planning) (b : Begun)
       → line_named me.immediate s.home.lines p.line ≡ Some line → Some u ≡ statement_on (Some line) p.unit → names_global u.tree ≡ false → ways.built u.row ≡ true
       → x ≡ ways.plan u.row me s → b ≡ begun x (builder.Language u.row) p s.home.lines → b ≡ begins ways p me s
   begun_at_once p me s line u x b is_line is_unit local is is_x is_b =
-      let there : statement_placed p me.immediate s.home.lines ≡ Some u = ap (λ (l : Option (List ℕ)). statement_on l p.unit) is_line ∙ sym is_unit in
-      is_b
-      ∙ ap (λ (y : Planning). begun y (builder.Language u.row) p s.home.lines) is_x
-      ∙ sym (ap (λ (o : Builder). begun (plan_by ways o p me s) o p s.home.lines) (built u local is))
-      ∙ sym (ap (λ (o : Option Statement). begins_where ways o p me s) there)
+      begun_where_found p me s u (builder.Language u.row) x b (is_unit ∙ sym (ap (λ (l : Option (List ℕ)). statement_on l p.unit) is_line)) (sym (built u local is)) is_x is_b

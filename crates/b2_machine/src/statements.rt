@@ -1,5 +1,5 @@
 // What a statement plans and how it finishes, over what is lent.
-ghost use Rattle.std.specs.Prelude.{◌≡◌, ◌<◌, true, false, IfOk, IfSome, Option, Some, None, is_some, option_map};
+ghost use Rattle.std.specs.Prelude.{◌≡◌, ◌<◌, true, false, IfOk, Option, Some, is_some, option_map};
 ghost use Rattle.b2_atom.specs.Tree.{names_global, uses_in};
 ghost use Rattle.b2_rows.specs.Laws.{IsRow};
 ghost use Rattle.b2_rows.specs.Rows.{tree_at};
@@ -9,7 +9,6 @@ ghost use Rattle.b2_access.specs.Lending.{globals_lent, seen_lent, SeenLent};
 ghost use Rattle.b2_access.specs.Placed.{line_named as line_of_place, statement_placed as named_at, statement_on as named_on};
 ghost use Rattle.b2_machine.specs.Listed.{lists};
 ghost use Rattle.b2_machine.specs.Statements as spec;
-ghost use Rattle.b2_machine.specs.Stays.{IsLegalCourse};
 
 use crate::ends::{Stepped, counts, repeats};
 use crate::listed::{named_range, range_listed};
@@ -156,7 +155,7 @@ fn begun(
     }
 }
 
-/// What becomes of a plan of the language, of a unit at a place in a line of the program.
+/// What becomes of a plan for a unit at a place in a line of the program.
 fn begun_on(
     alloc: Global,
     me: &mut Private,
@@ -164,10 +163,10 @@ fn begun_on(
     line: &Atoms,
     place: &Place,
     planned: Planned,
-    row: u16,
+    builder: Builder,
 ) -> Result<Course, NoMemory>
     requires line { line_of_place me.old.immediate home.now.lines place.now.line ≡ Some line.now }
-    ensures begun { IfOk result (λ c. record { me = me.new; course = c } ≡ spec.begun_by planned (Builder.Language row) place.now me.old home.now.lines) }
+    ensures begun { IfOk result (λ c. record { me = me.new; course = c } ≡ spec.begun_by planned builder place.now me.old home.now.lines) }
     ensures part { me.new.part ≡ me.old.part }
 {
     match planned {
@@ -175,12 +174,38 @@ fn begun_on(
             let end = settle_on(alloc, me, home, line, *place, outcome)?;
             Ok(Course::Ended(end))
         }
-        Planned::Ask(access) => Ok(Course::Asks(access, Builder::Language(row))),
+        Planned::Ask(access) => Ok(Course::Asks(access, builder)),
+    }
+}
+
+/// What the statement of a unit plans, at its place in a line of the program.
+fn plan_found<L: Language>(
+    alloc: Global,
+    me: &mut Private,
+    lent: &mut Lent<'_>,
+    devices: &DeviceTable,
+    unit: &RowUnit<'_>,
+    place: &Place,
+    builder: Builder,
+) -> Result<Planned, NoMemory>
+    requires stands { me.old.place ≡ Some place.now }
+    requires program { is_some place.now.line ≡ true }
+    requires statement { Some (record { row = unit.now.row; tree = tree_at unit.now.row unit.now.bytes.now }) ≡ named_at place.now me.old.immediate lent.old.home.now.lines }
+    requires read { IsRow unit.now.row unit.now.bytes.now (tree_at unit.now.row unit.now.bytes.now) }
+    requires chosen { builder ≡ spec.builder_of L.ways (record { row = unit.now.row; tree = tree_at unit.now.row unit.now.bytes.now }) }
+    ensures planned { IfOk result (λ p. record { me = me.new; globals = globals_lent lent.new; planned = p } ≡ spec.plan_by L.ways builder place.now me.old (seen_lent lent.old)) }
+    ensures same_reference { lent.new.globals.ghost_name ≡ lent.old.globals.ghost_name }
+    ensures part { me.new.part ≡ me.old.part }
+{
+    match builder {
+        Builder::Listing(from, to) => plan_list(alloc, me, lent.own, *place, from, to),
+        Builder::Language(_) => L::plan_found(alloc, me, lent, devices, unit, place),
+        Builder::Nobody => Ok(Planned::Done(failed(S27_LEFT_OUT))),
     }
 }
 
 /// The statement of a unit at a place in a line of the program begins, where the language plans it at once.
-fn begin_unit<L: Language>(
+fn begin_at_once<L: Language>(
     alloc: Global,
     me: &mut Private,
     own: &Text,
@@ -188,59 +213,50 @@ fn begin_unit<L: Language>(
     line: &Atoms,
     unit: &RowUnit<'_>,
     place: &Place,
-) -> Result<Option<Course>, NoMemory>
+) -> Result<Stepped, NoMemory>
+    requires local { names_global (tree_at unit.now.row unit.now.bytes.now) ≡ false }
+    requires at_once { L.at_once unit.now.row ≡ true }
     requires stands { me.old.place ≡ Some place.now }
     requires program { is_some place.now.line ≡ true }
     requires line { line_of_place me.old.immediate home.now.lines place.now.line ≡ Some line.now }
     requires statement { Some (record { row = unit.now.row; tree = tree_at unit.now.row unit.now.bytes.now }) ≡ named_on (Some line.now) place.now.unit }
-    requires local { names_global (tree_at unit.now.row unit.now.bytes.now) ≡ false }
     requires read { IsRow unit.now.row unit.now.bytes.now (tree_at unit.now.row unit.now.bytes.now) }
     requires few { place.now.unit < 255 }
-    ensures begun { (globals : Option VarsState) → IfOk result (λ c. IfSome c (λ c. record { me = me.new; course = c } ≡ spec.begins L.ways place.now me.old (record { own = own.now; home = home.now; globals = globals }))) }
-    ensures same { IfOk result (λ c. c ≡ None → me.new ≡ me.old) }
+    ensures begun { (globals : Option VarsState) → IfOk result (λ e. spec.has_ended (record { me = me.new; end = e }) ≡ spec.begins L.ways place.now me.old (record { own = own.now; home = home.now; globals = globals })) }
     ensures part { me.new.part ≡ me.old.part }
 {
-    let planned = L::plan_at_once(alloc, me, own, home, line, unit, place)?;
-    match planned {
-        Some(planned) => {
-            let course = begun_on(alloc, me, home, line, place, planned, unit.row)?;
-            Ok(Some(course))
-        }
-        None => Ok(None),
-    }
+    let outcome = L::plan_at_once(alloc, me, own, home, line, unit, place)?;
+    settle_on(alloc, me, home, line, *place, outcome)
 }
 
-/// The statement at a place begins, where it stands in a line of the program and the language plans it at once: it is found by
-/// one look-up.
+/// The statement of a unit at a place in a line of the program begins.
 fn begin_found<L: Language>(
     alloc: Global,
     me: &mut Private,
-    own: &Text,
-    home: &Text,
+    lent: Lent<'_>,
+    devices: &DeviceTable,
+    line: &Atoms,
+    unit: &RowUnit<'_>,
     place: &Place,
-) -> Result<Option<Course>, NoMemory>
+) -> Result<Course, NoMemory>
     requires stands { me.old.place ≡ Some place.now }
-    ensures begun { (globals : Option VarsState) → IfOk result (λ c. IfSome c (λ c. record { me = me.new; course = c } ≡ spec.begins L.ways place.now me.old (record { own = own.now; home = home.now; globals = globals }))) }
-    ensures same { IfOk result (λ c. c ≡ None → me.new ≡ me.old) }
+    requires program { is_some place.now.line ≡ true }
+    requires line { line_of_place me.old.immediate lent.home.now.lines place.now.line ≡ Some line.now }
+    requires statement { Some (record { row = unit.now.row; tree = tree_at unit.now.row unit.now.bytes.now }) ≡ named_at place.now me.old.immediate lent.home.now.lines }
+    requires read { IsRow unit.now.row unit.now.bytes.now (tree_at unit.now.row unit.now.bytes.now) }
+    requires uses { unit.now.uses ≡ uses_in (tree_at unit.now.row unit.now.bytes.now) }
+    ensures begun { IfOk result (λ c. record { me = me.new; course = c } ≡ spec.begins L.ways place.now me.old (seen_lent lent.entry)) }
     ensures part { me.new.part ≡ me.old.part }
 {
-    let Some(n) = place.line else {
-        return Ok(None);
-    };
-    let Some(line) = home.line(n) else {
-        return Ok(None);
-    };
-    let Some(unit) = statement_on(line.atoms, usize::from(place.unit)) else {
-        return Ok(None);
-    };
-    if unit.uses.globals {
-        return Ok(None);
-    }
-    begin_unit::<L>(alloc, me, own, home, line.atoms, &unit, place)
+    let home = lent.home;
+    let builder = builder_of::<L>(unit);
+    let mut lent = lent;
+    let planned = plan_found::<L>(alloc, me, &mut lent, devices, unit, place, builder)?;
+    begun_on(alloc, me, home, line, place, planned, builder)
 }
 
-/// The statement at a place begins, over what is lent, by who executes it.
-fn begin_by<L: Language>(
+/// The statement at a place in the immediate line begins, by who executes it.
+fn begin_immediate<L: Language>(
     alloc: Global,
     me: &mut Private,
     lent: Lent<'_>,
@@ -259,7 +275,7 @@ fn begin_by<L: Language>(
     begun(alloc, me, home, *place, planned, builder)
 }
 
-/// The statement at a place of a partition begins, over what is lent.
+/// The statement at a place of a partition begins, over what is lent. In a line of the program it is found by one look-up.
 pub fn begin_over<L: Language>(
     alloc: Global,
     me: &mut Private,
@@ -268,15 +284,24 @@ pub fn begin_over<L: Language>(
     place: &Place,
 ) -> Result<Course, NoMemory>
     requires stands { me.old.place ≡ Some place.now }
-    ensures legal { IfOk result IsLegalCourse }
     ensures begun { IfOk result (λ c. record { me = me.new; course = c } ≡ spec.begins L.ways place.now me.old (seen_lent lent.entry)) }
     ensures part { me.new.part ≡ me.old.part }
 {
-    let begun = begin_found::<L>(alloc, me, lent.own, lent.home, place)?;
-    match begun {
-        Some(course) => Ok(course),
-        None => begin_by::<L>(alloc, me, lent, devices, place),
+    let Some(n) = place.line else {
+        return begin_immediate::<L>(alloc, me, lent, devices, place);
+    };
+    let home = lent.home;
+    let Some(line) = home.line(n) else {
+        return Ok(Course::Ended(become_ready_quietly(alloc, me)?));
+    };
+    let Some(unit) = statement_on(line.atoms, usize::from(place.unit)) else {
+        return Ok(Course::Ended(become_ready_quietly(alloc, me)?));
+    };
+    if !unit.uses.globals && L::is_at_once(unit.row) {
+        let end = begin_at_once::<L>(alloc, me, lent.own, home, line.atoms, &unit, place)?;
+        return Ok(Course::Ended(end));
     }
+    begin_found::<L>(alloc, me, lent, devices, line.atoms, &unit, place)
 }
 
 /// It ends by the answer to its access, over what is lent again.
