@@ -6,7 +6,7 @@ use Rattle.b2_access.specs.declared.accesses.Access.TheVariants as access
 use Rattle.b2_access.specs.declared.accesses.Answer.{Answer}
 use Rattle.b2_access.specs.declared.accesses.Answer.TheVariants as answer
 use Rattle.b2_access.specs.AnswerKinds.{delays}
-use Rattle.b2_access.specs.Views.{ClearLater, KeyLater, LineLater, NoKey, clear_came, column_shown, key_came, line_came}
+use Rattle.b2_access.specs.Views.{ChangeLater, ClearLater, KeyLater, LineLater, NoKey, change_came, clear_came, column_shown, key_came, limits_told, line_came, listing_told}
 
 pub none_shown : (x : Access) (a : Answer) → delays a ≡ true → column_shown x a ≡ None
 none_shown (access.Show term bytes column) answer.Done h = cc
@@ -30,3 +30,18 @@ clear_delayed (access.ClearAll name homes) (answer.Locked q) h = cc
 clear_delayed (access.Erase from to homes) answer.Done h = cc
 clear_delayed (access.Erase from to homes) (answer.Locked q) h = cc
 clear_delayed x a h = refl
+
+pub limits_delayed : (x : Access) (a : Answer) → delays a ≡ true → limits_told x a ≡ None
+limits_delayed (access.Limits addr name) (answer.Four a b c d) h = cc
+limits_delayed x a h = refl
+
+pub listing_delayed : (x : Access) (a : Answer) → delays a ≡ true → listing_told x a ≡ None
+listing_delayed (access.ListDisk addr) (answer.Bytes bytes) h = cc
+listing_delayed x a h = refl
+
+pub change_delayed : (x : Access) (a : Answer) → delays a ≡ true → change_came x a ≡ ChangeLater
+change_delayed (access.Scratch addr name) answer.Done h = cc
+change_delayed (access.Scratch addr name) (answer.Refused c) h = cc
+change_delayed (access.Format addr index end) answer.Done h = cc
+change_delayed (access.Format addr index end) (answer.Refused c) h = cc
+change_delayed x a h = refl

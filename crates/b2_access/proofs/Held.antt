@@ -5,14 +5,17 @@ use Rattle.std.proofs.Common.{sym, ap, subst, ◌∙◌, inl, inr}
 use Rattle.b2_access.specs.declared.objects.Object.{Object}
 use Rattle.b2_access.specs.declared.objects.Object.TheVariants as object
 use Rattle.b2_access.specs.declared.accesses.Access.{Access}
+use Rattle.b2_access.specs.declared.accesses.Access.TheVariants as access
 use Rattle.b2_access.specs.declared.reached.TextUse.{TextUse}
 use Rattle.b2_access.specs.declared.reached.TextUse.TheVariants as text
 use Rattle.b2_access.specs.AccessRows.{row}
-use Rattle.b2_access.specs.Holding.{HeldStaysAsItIs, device_of}
+use Rattle.b2_access.specs.Disks.{DiskWork}
+use Rattle.b2_access.specs.Holding.{HeldStaysAsItIs, OtherImagesStay, device_of, image_changed}
 use Rattle.b2_access.specs.Reach.{DevicePart, DeviceReach, HoldAlone, WithPlatter, WithPrinter, Reach, device_objects, objects_reached, part_objects, terminal_objects, text_objects, variable_objects}
 use Rattle.b2_access.specs.Serving.{performs, unless_stopped}
 use Rattle.b2_access.specs.Stopping.{at_front, first_other, first_there, holders, holding, inside_edited, stop_by}
 use Rattle.b2_access.specs.Store.{StoreState, content, IsIn}
+use Rattle.b2_access.proofs.RowLaws.{leaves}
 use Rattle.b2_access.proofs.TaskLaws.{leaves_others}
 use Rattle.b2_access.proofs.Told.{written_is_reached}
 
@@ -108,17 +111,35 @@ module _ (d : List ℕ) (o : Object) (is : device_of o ≡ Some d) where
     ]
   ]
 
-module _ (who p : ℕ) (d : List ℕ) (o : Object) (a : Access) (s : StoreState) (held : content s (object.Hog d) ≡ Some (Some p)) (apart : p ≢ who) (is : device_of o ≡ Some d) where
+module _ (disks : DiskWork) (who p : ℕ) (d : List ℕ) (o : Object) (a : Access) (s : StoreState) (held : content s (object.Hog d) ≡ Some (Some p)) (apart : p ≢ who) (is : device_of o ≡ Some d) where
   unwritten : first_other who (first_there (row a).reach s) ≡ None → IsIn o ((row a).writes who) → ⊥
   unwritten none i =
       let there = is_reached d o is who (row a).reach (written_is_reached a who o i) in
       met who p apart (first_there (row a).reach s) (among_right p (at_front (row a).reach.terminal s) (holders (row a).reach.devices s) (holds_one p d (row a).reach.devices s held there)) none
 
   stays : (first inside : Option ℕ) → first_other who (first_there (row a).reach s) ≡ first
-      → content (unless_stopped (stop_by first inside) (performs ((row a).does who) s) s).after o ≡ content s o
+      → content (unless_stopped (stop_by first inside) (performs ((row a).does disks who) s) s).after o ≡ content s o
   stays (Some q) inside e = refl
   stays None (Some q) e = refl
-  stays None None e = leaves_others ((row a).does who) s o (unwritten e)
+  stays None None e = leaves_others ((row a).does disks who) s o (unwritten e)
 
 pub held_stays : HeldStaysAsItIs
-held_stays who p d o a s held apart is = stays who p d o a s held apart is (first_other who (first_there (row a).reach s)) (inside_edited who (row a).reach.text s) refl
+held_stays disks who p d o a s held apart is = stays disks who p d o a s held apart is (first_other who (first_there (row a).reach s)) (inside_edited who (row a).reach.text s) refl
+
+-- an access that changes another image, or none, doesn't write this one
+no_other : (d : List ℕ) (x : Object) → device_of x ≡ None → IsIn (object.Platter d) (x ∷ []) → ⊥
+no_other d x none i = elim i [ inl e ↦ clash d (object.Platter d) refl x none e | inr never ↦ never ]
+
+no_image : (d addr : List ℕ) → Some addr ≢ Some d → IsIn (object.Platter d) (object.Platter addr ∷ []) → ⊥
+no_image d addr apart i = elim i [ inl e ↦ apart (ap Some (sym (same_device d (object.Platter d) refl (object.Platter addr) addr refl e))) | inr never ↦ never ]
+
+image_unwritten : (who : ℕ) (d : List ℕ) (a : Access) → image_changed a ≢ Some d → IsIn (object.Platter d) ((row a).writes who) → ⊥
+image_unwritten who d (access.ClearAll name homes) apart i = elim i [ inl e ↦ clash d (object.Platter d) refl (object.Text who) refl e | inr j ↦ no_other d (object.Globals who) refl j ]
+image_unwritten who d (access.Limits addr name) apart i = i
+image_unwritten who d (access.ListDisk addr) apart i = i
+image_unwritten who d (access.Scratch addr name) apart i = no_image d addr apart i
+image_unwritten who d (access.Format addr index end) apart i = no_image d addr apart i
+image_unwritten who d a apart i = no_other d _ refl i
+
+pub other_images_stay : OtherImagesStay
+other_images_stay disks who d a s apart = leaves (row a) disks who s (object.Platter d) (image_unwritten who d a apart)

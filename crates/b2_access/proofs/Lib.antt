@@ -6,5 +6,12 @@ pub mod Causes
 pub mod Delays
 pub mod Held
 pub mod Statements
+pub mod Homes
 pub mod OwnTerminal
+pub mod OwnDevices
 pub mod Choice
+pub mod Courses
+pub mod Tables
+pub mod MarkRows
+pub mod Shown
+pub mod Working

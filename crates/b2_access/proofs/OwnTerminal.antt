@@ -1,8 +1,14 @@
--- Accesses that name no terminal but one.
-use Rattle.std.specs.Prelude.{◌≡◌, ℕ, None, Some}
+-- Accesses that name no terminal but one; and those that reach it and nothing else, which mark no home and put no line.
+use Rattle.std.specs.Prelude.{◌≡◌, ℕ, Bool, Option, None, Some, refl}
+use Rattle.std.proofs.Common.{ap}
 use Rattle.b2_access.specs.Causes.{terminal_of}
-use Rattle.b2_access.specs.OwnTerminal.{NamesAlone}
+use Rattle.b2_access.specs.Homes.{HomesIn, homes_of}
+use Rattle.b2_access.specs.OwnTerminal.{IsAtTerminal, NamesAlone}
+use Rattle.b2_access.specs.Reach.{Reach}
+use Rattle.b2_access.specs.Touching.{IsLegal}
 use Rattle.b2_access.specs.declared.accesses.Access.{Access}
+use Rattle.b2_access.specs.declared.accesses.Access.TheVariants as access
+use Rattle.b2_access.proofs.Homes.{marks_none}
 
 -- one that names none, and one that names this one
 pub names_none : (t : ℕ) (a : Access) → terminal_of a ≡ None → NamesAlone t a
@@ -10,3 +16,26 @@ names_none t a none u is = cc
 
 pub names_own : (t : ℕ) (a : Access) → terminal_of a ≡ Some t → NamesAlone t a
 names_own t a own u is = cc
+
+terminal_is : (t : ℕ) (a : Access) → IsAtTerminal t a → terminal_of a ≡ Some t
+terminal_is t a is = ap (λ (r : Reach). r.terminal) is
+
+pub at_terminal_names_own : (t : ℕ) (a : Access) → IsAtTerminal t a → NamesAlone t a
+at_terminal_names_own t a is = names_own t a (terminal_is t a is)
+
+-- an edit reaches no terminal
+no_terminal : {A : Type 0} (t : ℕ) → ◌≡◌ {A = Option ℕ} None (Some t) → A
+no_terminal t e = absurd (cc)
+
+homes_none : (t : ℕ) (a : Access) → IsAtTerminal t a → homes_of a ≡ 0
+homes_none t (access.PutLine line atoms homes) is = no_terminal t (terminal_is t (access.PutLine line atoms homes) is)
+homes_none t (access.Erase from to homes) is = no_terminal t (terminal_is t (access.Erase from to homes) is)
+homes_none t (access.ClearAll name homes) is = no_terminal t (terminal_is t (access.ClearAll name homes) is)
+homes_none t a is = refl
+
+pub at_terminal_marks_none : (among : ℕ → Bool) (t : ℕ) (a : Access) → IsAtTerminal t a → HomesIn among a
+at_terminal_marks_none among t a is = marks_none among a (homes_none t a is)
+
+pub at_terminal_is_legal : (t : ℕ) (a : Access) → IsAtTerminal t a → IsLegal a
+at_terminal_is_legal t (access.PutLine line atoms homes) is = no_terminal t (terminal_is t (access.PutLine line atoms homes) is)
+at_terminal_is_legal t a is = tt

@@ -13,6 +13,7 @@ use Rattle.b2_access.specs.AccessRows.{AccessRow}
 use Rattle.b2_access.specs.AnswerKinds.{holds_up, stops}
 use Rattle.b2_access.specs.Answering.{TellsOnly, is_edited, may_stop, may_wait}
 use Rattle.b2_access.specs.Causes.{IsFirstOther}
+use Rattle.b2_access.specs.Disks.{DiskWork}
 use Rattle.b2_access.specs.Reach.{DevicePart, DeviceReach, HoldAlone, WithPlatter, WithPrinter, Reach, device_objects, objects_reached, part_objects, terminal_objects, text_objects, variable_objects}
 use Rattle.b2_access.specs.Serving.{performs, serves_row, unless_stopped}
 use Rattle.b2_access.specs.Stopping.{at_front, first_inside, first_other, first_there, holders, holding, in_front, inside_edited, stop, stop_by}
@@ -98,6 +99,11 @@ inside_is who q text.Unused s = (λ e. cc, λ h. absurd (false≢true h.0))
 inside_is who q text.Read s = (λ e. cc, λ h. absurd (false≢true h.0))
 inside_is who q text.Edited s = (λ e. (refl, e), λ h. h.1)
 
+outside_is : (who : ℕ) (used : TextUse) (s : StoreState) → (inside_edited who used s ≡ None) ↔ (is_edited used ≡ true → first_inside (content s (object.Borrow who)) ≡ None)
+outside_is who text.Unused s = (λ e is. absurd (false≢true is), λ h. refl)
+outside_is who text.Read s = (λ e is. absurd (false≢true is), λ h. refl)
+outside_is who text.Edited s = (λ e is. e, λ h. h refl)
+
 -- who comes first or stands inside is of the kinds that may stop it
 waits_there : (who q : ℕ) (term : Option ℕ) (ds : List DeviceReach) (s : StoreState) → first_other who (at_front term s ++ holders ds s) ≡ Some q → may_wait term ds ≡ true
 waits_there who q None [] s is = cc
@@ -112,55 +118,55 @@ either_right : (a b : Bool) → b ≡ true → (a || b) ≡ true
 either_right true b h = refl
 either_right false b h = h
 
-module _ (r : AccessRow) (who : ℕ) where
+module _ (r : AccessRow) (disks : DiskWork) (who : ℕ) where
   -- in two stores
   pub served_alike : (s t : StoreState) → AgreeOn (objects_reached who r.reach) s t
-      → ((serves_row r s who).answer ≡ (serves_row r t who).answer)
-      × ((o : Object) → content s o ≡ content t o → content (serves_row r s who).after o ≡ content (serves_row r t who).after o)
+      → ((serves_row r disks s who).answer ≡ (serves_row r disks t who).answer)
+      × ((o : Object) → content s o ≡ content t o → content (serves_row r disks s who).after o ≡ content (serves_row r disks t who).after o)
   served_alike s t agree =
       let same = same_stop who r.reach s t agree in
       let h = by (stop who r.reach s) in (
-        h.0 ∙ ap (λ y. (unless_stopped y (performs (r.does who) t) t).answer) same,
-        λ o e. h.1 o e ∙ ap (λ y. content (unless_stopped y (performs (r.does who) t) t).after o) same,
+        h.0 ∙ ap (λ y. (unless_stopped y (performs (r.does disks who) t) t).answer) same,
+        λ o e. h.1 o e ∙ ap (λ y. content (unless_stopped y (performs (r.does disks who) t) t).after o) same,
       )
     where
       by : (y : Option Answer)
-          → ((unless_stopped y (performs (r.does who) s) s).answer ≡ (unless_stopped y (performs (r.does who) t) t).answer)
-          × ((o : Object) → content s o ≡ content t o → content (unless_stopped y (performs (r.does who) s) s).after o ≡ content (unless_stopped y (performs (r.does who) t) t).after o)
-      by None = let h = gives_alike (r.does who) s t agree in (h.answers, h.contents)
+          → ((unless_stopped y (performs (r.does disks who) s) s).answer ≡ (unless_stopped y (performs (r.does disks who) t) t).answer)
+          × ((o : Object) → content s o ≡ content t o → content (unless_stopped y (performs (r.does disks who) s) s).after o ≡ content (unless_stopped y (performs (r.does disks who) t) t).after o)
+      by None = let h = gives_alike (r.does disks who) s t agree in (h.answers, h.contents)
       by (Some y) = (refl, λ o e. e)
 
   -- what isn't written stays, and what is listed does
-  pub leaves : (s : StoreState) (o : Object) → (IsIn o (r.writes who) → ⊥) → content (serves_row r s who).after o ≡ content s o
+  pub leaves : (s : StoreState) (o : Object) → (IsIn o (r.writes who) → ⊥) → content (serves_row r disks s who).after o ≡ content s o
   leaves s o out = by (stop who r.reach s)
     where
-      by : (y : Option Answer) → content (unless_stopped y (performs (r.does who) s) s).after o ≡ content s o
-      by None = leaves_others (r.does who) s o out
+      by : (y : Option Answer) → content (unless_stopped y (performs (r.does disks who) s) s).after o ≡ content s o
+      by None = leaves_others (r.does disks who) s o out
       by (Some y) = refl
 
-  pub keeps : (s : StoreState) (o : Object) → IsSome (content s o) → IsSome (content (serves_row r s who).after o)
+  pub keeps : (s : StoreState) (o : Object) → IsSome (content s o) → IsSome (content (serves_row r disks s who).after o)
   keeps s o listed = by (stop who r.reach s)
     where
-      by : (y : Option Answer) → IsSome (content (unless_stopped y (performs (r.does who) s) s).after o)
-      by None = keeps_listed (r.does who) s o listed
+      by : (y : Option Answer) → IsSome (content (unless_stopped y (performs (r.does disks who) s) s).after o)
+      by None = keeps_listed (r.does disks who) s o listed
       by (Some y) = listed
 
-  module _ (tells : TellsOnly r.tells (r.does who)) (s : StoreState) where
-    told : IsTold r.tells (r.does who) s
-    told = is_told r.tells (r.does who) s tells
+  module _ (tells : TellsOnly r.tells (r.does disks who)) (s : StoreState) where
+    told : IsTold r.tells (r.does disks who) s
+    told = is_told r.tells (r.does disks who) s tells
 
     -- one that is stopped changes nothing
-    pub stops_unchanged : stops (serves_row r s who).answer ≡ true → (serves_row r s who).after ≡ s
+    pub stops_unchanged : stops (serves_row r disks s who).answer ≡ true → (serves_row r disks s who).after ≡ s
     stops_unchanged = by (stop who r.reach s)
       where
-        by : (y : Option Answer) → stops (unless_stopped y (performs (r.does who) s) s).answer ≡ true → (unless_stopped y (performs (r.does who) s) s).after ≡ s
+        by : (y : Option Answer) → stops (unless_stopped y (performs (r.does disks who) s) s).answer ≡ true → (unless_stopped y (performs (r.does disks who) s) s).after ≡ s
         by None e = told.unchanged e
         by (Some y) e = refl
 
     abbrev given : Option ℕ → Option ℕ → Answer
-    given first inside = (unless_stopped (stop_by first inside) (performs (r.does who) s) s).answer
+    given first inside = (unless_stopped (stop_by first inside) (performs (r.does disks who) s) s).answer
 
-    never_held_up : (y : Answer) → holds_up y ≡ true → (performs (r.does who) s).answer ≡ y → ⊥
+    never_held_up : (y : Answer) → holds_up y ≡ true → (performs (r.does disks who) s).answer ≡ y → ⊥
     never_held_up y up e = false≢true (sym told.goes_on ∙ ap holds_up e ∙ up)
 
     -- Wait is for the first other
@@ -169,7 +175,7 @@ module _ (r : AccessRow) (who : ℕ) where
     waits_by q None (Some p) = (λ e. cc, λ e. cc)
     waits_by q None None = (λ e. absurd (never_held_up (answer.Wait q) refl e), λ e. cc)
 
-    pub waits : (q : ℕ) → ((serves_row r s who).answer ≡ answer.Wait q) ↔ IsFirstOther who q (first_there r.reach s)
+    pub waits : (q : ℕ) → ((serves_row r disks s who).answer ≡ answer.Wait q) ↔ IsFirstOther who q (first_there r.reach s)
     waits q =
         let by = waits_by q (first_other who (first_there r.reach s)) (inside_edited who r.reach.text s) in
         let first = first_is who q (first_there r.reach s) in
@@ -181,7 +187,7 @@ module _ (r : AccessRow) (who : ℕ) where
     locks_by q None (Some p) = (λ e. let same : p ≡ q = cc in (refl, ap Some same), λ h. let e = h.1 in let same : p ≡ q = cc in ap answer.Locked same)
     locks_by q None None = (λ e. absurd (never_held_up (answer.Locked q) refl e), λ h. let no = h.1 in cc)
 
-    pub locks : (q : ℕ) → ((serves_row r s who).answer ≡ answer.Locked q)
+    pub locks : (q : ℕ) → ((serves_row r disks s who).answer ≡ answer.Locked q)
         ↔ (((p : ℕ) → IsFirstOther who p (first_there r.reach s) → ⊥) × (is_edited r.reach.text ≡ true) × (first_inside (content s (object.Borrow who)) ≡ Some q))
     locks q =
         let by = locks_by q (first_other who (first_there r.reach s)) (inside_edited who r.reach.text s) in
@@ -190,10 +196,18 @@ module _ (r : AccessRow) (who : ℕ) where
         (λ e. let h = by.0 e in let there = inside.0 h.1 in (nobody.0 h.0, there.0, there.1), λ h. by.1 (nobody.1 h.0, inside.1 (h.1, h.2)))
 
     -- a code is the row's, where nothing stops it
-    pub refuses_by : (c : ℕ) (first inside : Option ℕ) → given first inside ≡ answer.Refused c → (first ≡ None) × (inside ≡ None) × ((performs (r.does who) s).answer ≡ answer.Refused c)
-    refuses_by c (Some p) inside e = cc
-    refuses_by c None (Some p) e = cc
-    refuses_by c None None e = (refl, refl, e)
+    refuses_by : (c : ℕ) (first inside : Option ℕ) → (given first inside ≡ answer.Refused c) ↔ ((first ≡ None) × (inside ≡ None) × ((performs (r.does disks who) s).answer ≡ answer.Refused c))
+    refuses_by c (Some p) inside = (λ e. cc, λ h. let no = h.0 in cc)
+    refuses_by c None (Some p) = (λ e. cc, λ h. let no = h.1 in cc)
+    refuses_by c None None = (λ e. (refl, refl, e), λ h. h.2)
+
+    pub refuses : (c : ℕ) → ((serves_row r disks s who).answer ≡ answer.Refused c)
+        ↔ (((p : ℕ) → IsFirstOther who p (first_there r.reach s) → ⊥) × (is_edited r.reach.text ≡ true → first_inside (content s (object.Borrow who)) ≡ None) × ((performs (r.does disks who) s).answer ≡ answer.Refused c))
+    refuses c =
+        let by = refuses_by c (first_other who (first_there r.reach s)) (inside_edited who r.reach.text s) in
+        let nobody = nobody_first who (first_there r.reach s) in
+        let outside = outside_is who r.reach.text s in
+        (λ e. let h = by.0 e in (nobody.0 h.0, outside.0 h.1, h.2), λ h. by.1 (nobody.1 h.0, outside.1 h.1, h.2))
 
     -- every answer is one that may stop it, or that its row tells
     answers_by : (first inside : Option ℕ) → first_other who (first_there r.reach s) ≡ first → inside_edited who r.reach.text s ≡ inside
@@ -208,7 +222,7 @@ module _ (r : AccessRow) (who : ℕ) where
         inside_is_edited q text.Read e = cc
         inside_is_edited q text.Edited e = refl
     answers_by None None first_is inside_is =
-        let y = (performs (r.does who) s).answer in either_right (may_stop r.reach y) (r.tells y) told.says
+        let y = (performs (r.does disks who) s).answer in either_right (may_stop r.reach y) (r.tells y) told.says
 
-    pub answered : (may_stop r.reach (serves_row r s who).answer || r.tells (serves_row r s who).answer) ≡ true
+    pub answered : (may_stop r.reach (serves_row r disks s who).answer || r.tells (serves_row r disks s who).answer) ≡ true
     answered = answers_by (first_other who (first_there r.reach s)) (inside_edited who r.reach.text s) refl refl

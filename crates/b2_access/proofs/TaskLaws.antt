@@ -14,15 +14,15 @@ use Rattle.b2_access.specs.Task.{Put, Task, Look, Tell, Refuse}
 
 puts_alike : {ws : List Object} (ps : List (Put ws)) (o : Object) (s t : StoreState) → content s o ≡ content t o → content (put_each ps s) o ≡ content (put_each ps t) o
 puts_alike [] o s t same = same
-puts_alike (p ∷ ps) o s t same = puts_alike ps o _ _ (put_alike p.place o p.value s t same)
+puts_alike (p ∷ ps) o s t same = puts_alike ps o _ _ (put_alike p.target o p.value s t same)
 
 puts_other : {ws : List Object} (ps : List (Put ws)) (o : Object) (s : StoreState) → (IsIn o ws → ⊥) → content (put_each ps s) o ≡ content s o
 puts_other [] o s out = refl
-puts_other {ws} (p ∷ ps) o s out = puts_other ps o _ out ∙ content_other p.place o p.value s (λ e. out (subst (λ (x : Object). IsIn x ws) (sym e) p.there))
+puts_other {ws} (p ∷ ps) o s out = puts_other ps o _ out ∙ content_other p.target o p.value s (λ e. out (subst (λ (x : Object). IsIn x ws) (sym e) p.there))
 
 puts_listed : {ws : List Object} (ps : List (Put ws)) (o : Object) (s : StoreState) → IsSome (content s o) → IsSome (content (put_each ps s) o)
 puts_listed [] o s listed = listed
-puts_listed (p ∷ ps) o s listed = puts_listed ps o _ (put_listed p.place o p.value s listed)
+puts_listed (p ∷ ps) o s listed = puts_listed ps o _ (put_listed p.target o p.value s listed)
 
 -- a task gives the same in two stores
 pub record GivesAlike {ts ws : List Object} (x : Task ts ws) (s t : StoreState) : Type 0 where

@@ -1,5 +1,5 @@
 -- The rows of the accesses: each tells the answers that it says, and writes nothing that it doesn't reach.
-use Rattle.std.specs.Prelude.{◌≡◌, ℕ, nat_lt, true, false, List, [], slice_get, Option, Some, None, refl}
+use Rattle.std.specs.Prelude.{◌≡◌, ℕ, nat_lt, true, false, List, [], slice_get, Option, Some, None, Result, Ok, Err, refl}
 use Rattle.std.proofs.Common.{inr}
 use Rattle.b2_text.specs.Program.{TextState, size_of, with_line}
 use Rattle.b2_vars.specs.Tables.{VarsState}
@@ -11,7 +11,7 @@ use Rattle.b2_term.specs.declared.Read.TheVariants as read
 use Rattle.b2_access.specs.declared.objects.Object.{Object}
 use Rattle.b2_access.specs.declared.accesses.Access.{Access}
 use Rattle.b2_access.specs.declared.accesses.Access.TheVariants as access
-use Rattle.b2_access.specs.AccessRows.{clears, clears_both, key_answer, line_answer, puts_atoms, puts_line, reach, row}
+use Rattle.b2_access.specs.AccessRows.{becomes, changes_image, clears, clears_both, key_answer, line_answer, puts_atoms, puts_line, reach, row}
 use Rattle.b2_access.specs.AnswerKinds.{is_done, is_done_or_code, is_of_key, is_of_line, stops}
 use Rattle.b2_access.specs.Answering.{RowsTellTheirAnswers, TellsOnly}
 use Rattle.b2_access.specs.Reach.{objects_reached}
@@ -45,14 +45,26 @@ of_clearing : (who : ℕ) (t : Option TextState) → TellsOnly is_done (clears w
 of_clearing who None = (refl, refl)
 of_clearing who (Some t) = of_both who t
 
+of_image : (addr : List ℕ) (r : Result (List ℕ) ℕ) → TellsOnly is_done_or_code (becomes addr r)
+of_image addr (Ok image) = (refl, refl)
+of_image addr (Err code) = refl
+
+of_change : (addr : List ℕ) (made : List ℕ → Result (List ℕ) ℕ) (c : Option (List ℕ)) → TellsOnly is_done_or_code (changes_image addr made c)
+of_change addr made None = (refl, refl)
+of_change addr made (Some image) = of_image addr (made image)
+
 pub rows_tell_their_answers : RowsTellTheirAnswers
-rows_tell_their_answers (access.Show term bytes column) who = elim [ None ↦ (refl, refl) | Some t ↦ (refl, refl) ]
-rows_tell_their_answers (access.ReadLine term) who = elim [ None ↦ (refl, refl) | Some t ↦ of_line (line_read t) ]
-rows_tell_their_answers (access.Insert term bytes) who = elim [ None ↦ (refl, refl) | Some t ↦ (refl, refl) ]
-rows_tell_their_answers (access.Key term) who = elim [ None ↦ (refl, refl) | Some t ↦ of_key (slice_get t.queue 0) ]
-rows_tell_their_answers (access.PutLine line atoms homes) who = of_put who line atoms
-rows_tell_their_answers (access.Erase from to homes) who = elim [ None ↦ (refl, refl) | Some t ↦ (refl, refl) ]
-rows_tell_their_answers (access.ClearAll name homes) who = of_clearing who
+rows_tell_their_answers disks (access.Show term bytes column) who = elim [ None ↦ (refl, refl) | Some t ↦ (refl, refl) ]
+rows_tell_their_answers disks (access.ReadLine term) who = elim [ None ↦ (refl, refl) | Some t ↦ of_line (line_read t) ]
+rows_tell_their_answers disks (access.Insert term bytes) who = elim [ None ↦ (refl, refl) | Some t ↦ (refl, refl) ]
+rows_tell_their_answers disks (access.Key term) who = elim [ None ↦ (refl, refl) | Some t ↦ of_key (slice_get t.queue 0) ]
+rows_tell_their_answers disks (access.PutLine line atoms homes) who = of_put who line atoms
+rows_tell_their_answers disks (access.Erase from to homes) who = elim [ None ↦ (refl, refl) | Some t ↦ (refl, refl) ]
+rows_tell_their_answers disks (access.ClearAll name homes) who = of_clearing who
+rows_tell_their_answers disks (access.Limits addr name) who = elim [ None ↦ (refl, refl) | Some image ↦ (refl, refl) ]
+rows_tell_their_answers disks (access.ListDisk addr) who = elim [ None ↦ (refl, refl) | Some image ↦ (refl, refl) ]
+rows_tell_their_answers disks (access.Scratch addr name) who = of_change addr (disks.scratch name)
+rows_tell_their_answers disks (access.Format addr index end) who = of_change addr (disks.format index end)
 
 -- what is written is reached
 pub written_is_reached : (a : Access) (who : ℕ) (o : Object) → IsIn o ((row a).writes who) → IsIn o (objects_reached who (reach a))
@@ -63,13 +75,12 @@ written_is_reached (access.Key term) who o i = i
 written_is_reached (access.PutLine line atoms homes) who o i = inr i
 written_is_reached (access.Erase from to homes) who o i = inr i
 written_is_reached (access.ClearAll name homes) who o i = inr i
+written_is_reached (access.Limits addr name) who o i = absurd i
+written_is_reached (access.ListDisk addr) who o i = absurd i
+written_is_reached (access.Scratch addr name) who o i = inr i
+written_is_reached (access.Format addr index end) who o i = inr i
 
 -- no access reaches borrowers yet
 pub no_borrowers : (a : Access) → (reach a).borrowers ≡ []
-no_borrowers (access.Show term bytes column) = refl
-no_borrowers (access.ReadLine term) = refl
-no_borrowers (access.Insert term bytes) = refl
-no_borrowers (access.Key term) = refl
 no_borrowers (access.PutLine line atoms homes) = refl
-no_borrowers (access.Erase from to homes) = refl
-no_borrowers (access.ClearAll name homes) = refl
+no_borrowers a = refl

@@ -1,6 +1,6 @@
 -- THE ROWS OF THE ACCESSES: what each reaches, what it writes of that, which answers it tells where nothing stops it, and what it does.
--- What isn't listed stays as it is, and an empty terminal has no keys.
-use Rattle.std.specs.Prelude.{ℕ, nat_lt, Bool, true, List, [], ◌∷◌, ◌++◌, drop, slice_get, Option, Some, None, refl, if◌then◌else◌}
+-- What isn't listed stays as it is: an empty terminal has no keys, and a disk has no limits and no listing.
+use Rattle.std.specs.Prelude.{ℕ, pos, nat_lt, Bool, true, Result, Ok, Err, List, [], ◌∷◌, ◌++◌, drop, slice_get, Option, Some, None, refl, if◌then◌else◌}
 use Rattle.std.specs.FinMap as map
 use Rattle.std.proofs.Common.{inl, inr}
 use Rattle.b2_base.specs.declared.codes.TheConstants.{A01_TEXT_AREA}
@@ -17,16 +17,18 @@ use Rattle.b2_access.specs.declared.accesses.Access.{Access}
 use Rattle.b2_access.specs.declared.accesses.Access.TheVariants as access
 use Rattle.b2_access.specs.declared.accesses.Answer.{Answer}
 use Rattle.b2_access.specs.declared.accesses.Answer.TheVariants as answer
-use Rattle.b2_access.specs.AnswerKinds.{is_done, is_done_or_code, is_of_key, is_of_line}
-use Rattle.b2_access.specs.Reach.{Reach, at_terminal, objects_reached, own_text}
+use Rattle.b2_access.specs.AnswerKinds.{is_done, is_done_or_code, is_of_key, is_of_limits, is_of_line, is_of_listing}
+use Rattle.b2_access.specs.Disks.{DiskWork, FourNumbers}
+use Rattle.b2_access.specs.Reach.{Reach, at_disk, at_terminal, objects_reached, own_text}
 use Rattle.b2_access.specs.Task.{Task, Look, Tell, Refuse, answers, puts}
 
--- A row. What is reached is the same for all partitions and in all stores; what is written and done is so for the one that asks.
+-- A row. What is reached is the same for all partitions and in all stores; what is written and done is so for the one that asks. What
+-- a disk does to an image is for the store to say.
 pub record AccessRow : Type 0 where
   pub reach : Reach
   pub writes : ℕ → List Object
   pub tells : Answer → Bool
-  pub does : (who : ℕ) → Task (objects_reached who reach) (writes who)
+  pub does : DiskWork → (who : ℕ) → Task (objects_reached who reach) (writes who)
 
 -- at a terminal
 abbrev pub TerminalTask : ℕ → Type 0
@@ -91,7 +93,7 @@ no_globals v = record v { table = map.empty }
 abbrev pub clears_both : (who : ℕ) → TextState → Option VarsState → ClearTask who
 clears_both who t None = puts (object.Text who) (inl refl) (no_lines t) answer.Done
 clears_both who t (Some v) =
-    Tell (record { place = object.Text who; there = inl refl; value = no_lines t } ∷ record { place = object.Globals who; there = inr (inl refl); value = no_globals v } ∷ []) answer.Done
+    Tell (record { target = object.Text who; there = inl refl; value = no_lines t } ∷ record { target = object.Globals who; there = inr (inl refl); value = no_globals v } ∷ []) answer.Done
 
 abbrev pub clears : (who : ℕ) → Option TextState → ClearTask who
 clears who None = answers answer.Done
@@ -99,10 +101,43 @@ clears who (Some t) = Look (object.Globals who) (inr (inr (inl refl))) (clears_b
 
 -- the row of an access of one terminal, and that of an edit
 abbrev pub terminal_row : (term : ℕ) → (Answer → Bool) → (Option TerminalState → TerminalTask term) → AccessRow
-terminal_row term tells does = record { reach = at_terminal term; writes = λ who. object.Terminal term ∷ []; tells = tells; does = λ who. Look (object.Terminal term) (inl refl) does }
+terminal_row term tells does = record { reach = at_terminal term; writes = λ who. object.Terminal term ∷ []; tells = tells; does = λ disks who. Look (object.Terminal term) (inl refl) does }
 
 abbrev pub edit_row : (Answer → Bool) → ((who : ℕ) → Option TextState → EditTask who) → AccessRow
-edit_row tells does = record { reach = own_text; writes = λ who. object.Text who ∷ []; tells = tells; does = λ who. Look (object.Text who) (inr (inl refl)) (does who) }
+edit_row tells does = record { reach = own_text; writes = λ who. object.Text who ∷ []; tells = tells; does = λ disks who. Look (object.Text who) (inr (inl refl)) (does who) }
+
+-- at a disk: its image is read
+abbrev pub four_answer : FourNumbers → Answer
+four_answer n = answer.Four n.first n.second n.third n.fourth
+
+abbrev pub no_limits : FourNumbers
+no_limits = record { first = pos 0; second = pos 0; third = pos 0; fourth = pos 0 }
+
+abbrev pub ReadTask : List ℕ → Type 0
+ReadTask addr = Task (object.Hog addr ∷ object.Platter addr ∷ []) []
+
+abbrev pub reads_image : (addr : List ℕ) → Answer → (List ℕ → Answer) → Option (List ℕ) → ReadTask addr
+reads_image addr unlisted says None = answers unlisted
+reads_image addr unlisted says (Some image) = answers (says image)
+
+-- or it becomes another one, or a code comes
+abbrev pub ChangeTask : List ℕ → Type 0
+ChangeTask addr = Task (object.Hog addr ∷ object.Platter addr ∷ []) (object.Platter addr ∷ [])
+
+abbrev pub becomes : (addr : List ℕ) → Result (List ℕ) ℕ → ChangeTask addr
+becomes addr (Ok image) = puts (object.Platter addr) (inl refl) image answer.Done
+becomes addr (Err code) = Refuse code
+
+abbrev pub changes_image : (addr : List ℕ) → (List ℕ → Result (List ℕ) ℕ) → Option (List ℕ) → ChangeTask addr
+changes_image addr made None = answers answer.Done
+changes_image addr made (Some image) = becomes addr (made image)
+
+abbrev pub reading_row : List ℕ → (Answer → Bool) → Answer → (DiskWork → List ℕ → Answer) → AccessRow
+reading_row addr tells unlisted says = record { reach = at_disk addr; writes = λ who. []; tells = tells; does = λ disks who. Look (object.Platter addr) (inr (inl refl)) (reads_image addr unlisted (says disks)) }
+
+abbrev pub changing_row : List ℕ → (DiskWork → List ℕ → Result (List ℕ) ℕ) → AccessRow
+changing_row addr made =
+    record { reach = at_disk addr; writes = λ who. object.Platter addr ∷ []; tells = is_done_or_code; does = λ disks who. Look (object.Platter addr) (inr (inl refl)) (changes_image addr (made disks)) }
 
 -- THE ROW OF EACH ACCESS
 abbrev pub row : Access → AccessRow
@@ -113,7 +148,11 @@ row (access.Key term) = terminal_row term is_of_key (takes_key term)
 row (access.PutLine line atoms homes) = edit_row is_done_or_code (λ who. puts_line who line atoms)
 row (access.Erase from to homes) = edit_row is_done (λ who. erases who from to)
 row (access.ClearAll name homes) =
-    record { reach = record own_text { variables = true }; writes = λ who. object.Text who ∷ object.Globals who ∷ []; tells = is_done; does = λ who. Look (object.Text who) (inr (inl refl)) (clears who) }
+    record { reach = record own_text { variables = true }; writes = λ who. object.Text who ∷ object.Globals who ∷ []; tells = is_done; does = λ disks who. Look (object.Text who) (inr (inl refl)) (clears who) }
+row (access.Limits addr name) = reading_row addr is_of_limits (four_answer no_limits) (λ disks image. four_answer (disks.limits name image))
+row (access.ListDisk addr) = reading_row addr is_of_listing (answer.Bytes []) (λ disks image. answer.Bytes (disks.listing image))
+row (access.Scratch addr name) = changing_row addr (λ disks image. disks.scratch name image)
+row (access.Format addr index end) = changing_row addr (λ disks image. disks.format index end image)
 
 abbrev pub reach : Access → Reach
 reach a = (row a).reach

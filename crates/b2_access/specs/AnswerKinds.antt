@@ -54,3 +54,12 @@ is_of_key (answer.Key b) = true
 is_of_key (answer.Special n) = true
 is_of_key answer.NoKeys = true
 is_of_key x = false
+
+-- what a disk is asked for
+abbrev pub is_of_limits : Answer → Bool
+is_of_limits (answer.Four a b c d) = true
+is_of_limits x = false
+
+abbrev pub is_of_listing : Answer → Bool
+is_of_listing (answer.Bytes bytes) = true
+is_of_listing x = false

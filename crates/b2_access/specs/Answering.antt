@@ -8,6 +8,7 @@ use Rattle.b2_access.specs.declared.reached.TextUse.{TextUse}
 use Rattle.b2_access.specs.declared.reached.TextUse.TheVariants as text
 use Rattle.b2_access.specs.AccessRows.{reach, row}
 use Rattle.b2_access.specs.AnswerKinds.{is_lock, is_wait, stops}
+use Rattle.b2_access.specs.Disks.{DiskWork}
 use Rattle.b2_access.specs.Reach.{DeviceReach, Reach}
 use Rattle.b2_access.specs.Sharing.{ServingOf}
 use Rattle.b2_access.specs.Store.{ContentOf}
@@ -37,7 +38,7 @@ TellsOnly some (Refuse c) = some (answer.Refused c) ≡ true
 
 -- each row tells the answers that it says
 abbrev pub RowsTellTheirAnswers : Type 0
-RowsTellTheirAnswers = (a : Access) (who : ℕ) → TellsOnly (row a).tells ((row a).does who)
+RowsTellTheirAnswers = (disks : DiskWork) (a : Access) (who : ℕ) → TellsOnly (row a).tells ((row a).does disks who)
 
 -- each answer of a way of serving is one that its access can have
 abbrev pub AnswersByRow : {M : Type 0} → ServingOf M → Type 0

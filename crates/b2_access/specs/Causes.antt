@@ -1,5 +1,5 @@
 -- When an access is stopped, and by whom.
-use Rattle.std.specs.Prelude.{◌≡◌, ◌≢◌, ◌↔◌, ◌⊎◌, ◌<◌, ℕ, Bool, true, List, [], ◌∷◌, Option, Some, None}
+use Rattle.std.specs.Prelude.{◌≡◌, ◌≢◌, ◌↔◌, ◌⊎◌, ◌<◌, ℕ, Bool, true, List, [], ◌∷◌, Option, Some, None, Result, Err}
 use Rattle.b2_base.specs.declared.codes.TheConstants.{A01_TEXT_AREA}
 use Rattle.b2_text.specs.Program.{TextState, size_of, with_line}
 use Rattle.b2_access.specs.declared.objects.Object.TheVariants as object
@@ -8,6 +8,7 @@ use Rattle.b2_access.specs.declared.accesses.Access.TheVariants as access
 use Rattle.b2_access.specs.declared.accesses.Answer.TheVariants as answer
 use Rattle.b2_access.specs.Answering.{is_edited}
 use Rattle.b2_access.specs.AccessRows.{reach}
+use Rattle.b2_access.specs.Disks.{DiskWork}
 use Rattle.b2_access.specs.Serving.{serves}
 use Rattle.b2_access.specs.Stopping.{first_inside, first_there}
 use Rattle.b2_access.specs.Store.{StoreState, content}
@@ -42,19 +43,32 @@ abbrev pub IsFullFor : ℕ → List ℕ → Option TextState → Type 0
 IsFullFor n atoms None = ⊥
 IsFullFor n atoms (Some t) = t.area < size_of (with_line n atoms t.lines)
 
--- an access puts a line for which its text has no room
-abbrev pub LacksRoom : StoreState → ℕ → Access → Type 0
-LacksRoom s who (access.PutLine n (Some atoms) homes) = IsFullFor n atoms (content s (object.Text who))
-LacksRoom s who a = ⊥
+-- what is made of an image is a code
+abbrev pub GivesCode : ℕ → (List ℕ → Result (List ℕ) ℕ) → Option (List ℕ) → Type 0
+GivesCode c made None = ⊥
+GivesCode c made (Some image) = made image ≡ Err c
+
+-- A code that an access meets where nothing stops it: A01, where it puts a line for which its text has no room, and the one of what it
+-- makes of an image.
+abbrev pub MeetsCode : DiskWork → StoreState → ℕ → ℕ → Access → Type 0
+MeetsCode disks s who c (access.PutLine n (Some atoms) homes) = (c ≡ A01_TEXT_AREA) × IsFullFor n atoms (content s (object.Text who))
+MeetsCode disks s who c (access.Scratch addr name) = GivesCode c (disks.scratch name) (content s (object.Platter addr))
+MeetsCode disks s who c (access.Format addr index end) = GivesCode c (disks.format index end) (content s (object.Platter addr))
+MeetsCode disks s who c a = ⊥
+
+-- nobody stands inside the text, where it is edited
+abbrev pub NobodyInside : StoreState → ℕ → Access → Type 0
+NobodyInside s who a = is_edit a ≡ true → first_in s who ≡ None
 
 -- Wait comes exactly where another partition comes first, and names it
 abbrev pub WaitsForTheFirst : Type 0
-WaitsForTheFirst = (who q : ℕ) (a : Access) (s : StoreState) → ((serves s who a).answer ≡ answer.Wait q) ↔ ComesFirst s who q a
+WaitsForTheFirst = (disks : DiskWork) (who q : ℕ) (a : Access) (s : StoreState) → ((serves disks s who a).answer ≡ answer.Wait q) ↔ ComesFirst s who q a
 
 -- Locked comes exactly where nobody comes first, and an edit meets a partition inside the text; it names the first
 abbrev pub LocksForTheFirst : Type 0
-LocksForTheFirst = (who q : ℕ) (a : Access) (s : StoreState) → ((serves s who a).answer ≡ answer.Locked q) ↔ (NobodyComesFirst s who a × (is_edit a ≡ true) × (first_in s who ≡ Some q))
+LocksForTheFirst = (disks : DiskWork) (who q : ℕ) (a : Access) (s : StoreState) → ((serves disks s who a).answer ≡ answer.Locked q) ↔ (NobodyComesFirst s who a × (is_edit a ≡ true) × (first_in s who ≡ Some q))
 
--- a code comes exactly where nobody stands inside the text, and it has no room for the line; it is A01
-abbrev pub RefusesForRoom : Type 0
-RefusesForRoom = (who c : ℕ) (a : Access) (s : StoreState) → ((serves s who a).answer ≡ answer.Refused c) ↔ ((c ≡ A01_TEXT_AREA) × (first_in s who ≡ None) × LacksRoom s who a)
+-- a code comes exactly where nobody comes first, nobody stands inside the text that is edited, and the access meets the code
+abbrev pub RefusesWithTheCode : Type 0
+RefusesWithTheCode =
+    (disks : DiskWork) (who c : ℕ) (a : Access) (s : StoreState) → ((serves disks s who a).answer ≡ answer.Refused c) ↔ (NobodyComesFirst s who a × NobodyInside s who a × MeetsCode disks s who c a)

@@ -2,50 +2,66 @@
 use Rattle.std.specs.Prelude.{◌≡◌, ◌≢◌, ℕ, ◌==◌, Bool, true, false, cond, List, [], ◌∷◌, Option, Some, None, option_map, IsSome, refl}
 use Rattle.std.specs.Map.{lookup, set_value}
 use Rattle.std.specs.Cmp.{unsigned_Decides}
+use Rattle.std.specs.Str.{bytes_eq}
 use Rattle.std.proofs.Common.{sym, ap, subst, ◌∙◌, inl, inr}
 use Rattle.std.proofs.lemmas.Bool.{false_from_ne_true}
+use Rattle.std.proofs.lemmas.Slice.Eq.{bytes_eq-Decides}
 use Rattle.b2_access.specs.declared.objects.Object.{Object}
 use Rattle.b2_access.specs.declared.objects.Object.TheVariants as object
 use Rattle.b2_access.specs.Objects.{same_object}
 use Rattle.b2_access.specs.Store.{StoreState, ContentOf, content, put}
 
-pub row_same : {X : Type 0} (k : ℕ) (w : X) (es : List (ℕ × X)) → lookup (λ x. x == k) (set_value (λ x. x == k) es w) ≡ option_map (λ _. w) (lookup (λ x. x == k) es)
-row_same k w [] = refl
-row_same {X} k w (e ∷ es) =
-    let P : Bool → Type 0 = λ b. b ≡ (e.0 == k) → lookup (λ x. x == k) (cond b ((e.0, w) ∷ es) (e ∷ set_value (λ x. x == k) es w)) ≡ option_map (λ _. w) (cond b (Some e.1) (lookup (λ x. x == k) es)) in
+-- rows by any test of their keys: the first that passes it has the new content
+pub row_same : {K X : Type 0} (test : K → Bool) (w : X) (es : List (K × X)) → lookup test (set_value test es w) ≡ option_map (λ _. w) (lookup test es)
+row_same test w [] = refl
+row_same {K} {X} test w (e ∷ es) =
+    let P : Bool → Type 0 = λ b. b ≡ test e.0 → lookup test (cond b ((e.0, w) ∷ es) (e ∷ set_value test es w)) ≡ option_map (λ _. w) (cond b (Some e.1) (lookup test es)) in
     let both : (b : Bool) → P b = elim [
-      | true ↦ λ is. ap (λ b. cond b (Some w) (lookup (λ x. x == k) es)) (sym is)
-      | false ↦ λ is. ap (λ b. cond b (Some e.1) (lookup (λ x. x == k) (set_value (λ x. x == k) es w))) (sym is) ∙ row_same k w es
+      | true ↦ λ is. ap (λ b. cond b (Some w) (lookup test es)) (sym is)
+      | false ↦ λ is. ap (λ b. cond b (Some e.1) (lookup test (set_value test es w))) (sym is) ∙ row_same test w es
     ] in
-    both (e.0 == k) refl
+    both (test e.0) refl
 
-pub row_other : {X : Type 0} (j k : ℕ) (w : X) → j ≢ k → (es : List (ℕ × X)) → lookup (λ x. x == j) (set_value (λ x. x == k) es w) ≡ lookup (λ x. x == j) es
-row_other j k w apart [] = refl
-row_other {X} j k w apart (e ∷ es) =
-    let P : Bool → Type 0 = λ b. b ≡ (e.0 == k) → lookup (λ x. x == j) (cond b ((e.0, w) ∷ es) (e ∷ set_value (λ x. x == k) es w)) ≡ cond (e.0 == j) (Some e.1) (lookup (λ x. x == j) es) in
-    let far : e.0 ≡ k → (e.0 == j) ≡ false = λ same. false_from_ne_true (e.0 == j) (λ is. apart (sym ((unsigned_Decides e.0 j).0 is) ∙ same)) in
+-- and by a test that no key passes with it all is as before
+abbrev pub NeverBoth : {K : Type 0} → (K → Bool) → (K → Bool) → Type 0
+NeverBoth {K} test other = (k : K) → test k ≡ true → other k ≡ true → ⊥
+
+pub row_other : {K X : Type 0} (test other : K → Bool) (w : X) → NeverBoth test other → (es : List (K × X)) → lookup other (set_value test es w) ≡ lookup other es
+row_other test other w never [] = refl
+row_other {K} {X} test other w never (e ∷ es) =
+    let P : Bool → Type 0 = λ b. b ≡ test e.0 → lookup other (cond b ((e.0, w) ∷ es) (e ∷ set_value test es w)) ≡ cond (other e.0) (Some e.1) (lookup other es) in
     let both : (b : Bool) → P b = elim [
       | true ↦ λ is.
-          let other = far ((unsigned_Decides e.0 k).0 (sym is)) in
-          ap (λ b. cond b (Some w) (lookup (λ x. x == j) es)) other ∙ sym (ap (λ b. cond b (Some e.1) (lookup (λ x. x == j) es)) other)
-      | false ↦ λ is. ap (cond (e.0 == j) (Some e.1)) (row_other j k w apart es)
+          let fails = false_from_ne_true (other e.0) (never e.0 (sym is)) in
+          ap (λ b. cond b (Some w) (lookup other es)) fails ∙ sym (ap (λ b. cond b (Some e.1) (lookup other es)) fails)
+      | false ↦ λ is. ap (cond (other e.0) (Some e.1)) (row_other test other w never es)
     ] in
-    both (e.0 == k) refl
+    both (test e.0) refl
+
+other_number : (n m : ℕ) → n ≢ m → NeverBoth (λ k. k == n) (λ k. k == m)
+other_number n m apart k is_n is_m = apart (sym ((unsigned_Decides k n).0 is_n) ∙ (unsigned_Decides k m).0 is_m)
+
+other_device : (a b : List ℕ) → a ≢ b → NeverBoth (λ k. bytes_eq k a) (λ k. bytes_eq k b)
+other_device a b apart k is_a is_b = apart (sym ((bytes_eq-Decides k a).0 is_a) ∙ (bytes_eq-Decides k b).0 is_b)
 
 -- the object has it, where it was listed
 pub content_same : (o : Object) (c : ContentOf o) (s : StoreState) → content (put o c s) o ≡ option_map (λ _. c) (content s o)
-content_same (object.Text p) c s = row_same p c s.texts
-content_same (object.Borrow p) c s = row_same p c s.borrows
-content_same (object.Globals p) c s = row_same p c s.globals
-content_same (object.Terminal t) c s = row_same t c s.terminals
+content_same (object.Text p) c s = row_same (λ k. k == p) c s.texts
+content_same (object.Borrow p) c s = row_same (λ k. k == p) c s.borrows
+content_same (object.Globals p) c s = row_same (λ k. k == p) c s.globals
+content_same (object.Terminal t) c s = row_same (λ k. k == t) c s.terminals
+content_same (object.Platter a) c s = row_same (λ k. bytes_eq k a) c s.platters
+content_same (object.Hog a) c s = row_same (λ k. bytes_eq k a) c s.hogs
 content_same o c s = refl
 
 -- all else stays
 pub content_other : (o x : Object) (c : ContentOf o) (s : StoreState) → x ≢ o → content (put o c s) x ≡ content s x
-content_other (object.Text p) (object.Text q) c s apart = row_other q p c (λ e. apart (ap object.Text e)) s.texts
-content_other (object.Borrow p) (object.Borrow q) c s apart = row_other q p c (λ e. apart (ap object.Borrow e)) s.borrows
-content_other (object.Globals p) (object.Globals q) c s apart = row_other q p c (λ e. apart (ap object.Globals e)) s.globals
-content_other (object.Terminal t) (object.Terminal u) c s apart = row_other u t c (λ e. apart (ap object.Terminal e)) s.terminals
+content_other (object.Text p) (object.Text q) c s apart = row_other _ _ c (other_number p q (λ e. apart (ap object.Text (sym e)))) s.texts
+content_other (object.Borrow p) (object.Borrow q) c s apart = row_other _ _ c (other_number p q (λ e. apart (ap object.Borrow (sym e)))) s.borrows
+content_other (object.Globals p) (object.Globals q) c s apart = row_other _ _ c (other_number p q (λ e. apart (ap object.Globals (sym e)))) s.globals
+content_other (object.Terminal t) (object.Terminal u) c s apart = row_other _ _ c (other_number t u (λ e. apart (ap object.Terminal (sym e)))) s.terminals
+content_other (object.Platter a) (object.Platter b) c s apart = row_other _ _ c (other_device a b (λ e. apart (ap object.Platter (sym e)))) s.platters
+content_other (object.Hog a) (object.Hog b) c s apart = row_other _ _ c (other_device a b (λ e. apart (ap object.Hog (sym e)))) s.hogs
 content_other o x c s apart = refl
 
 -- an object that is the same in two stores is so after a content was put into both

@@ -1,8 +1,10 @@
--- A device that a partition holds is out of the reach of all others.
+-- A device that a partition holds is out of the reach of all others; and which images an access changes.
 use Rattle.std.specs.Prelude.{◌≡◌, ◌≢◌, ℕ, List, Option, Some, None}
 use Rattle.b2_access.specs.declared.objects.Object.{Object}
 use Rattle.b2_access.specs.declared.objects.Object.TheVariants as object
 use Rattle.b2_access.specs.declared.accesses.Access.{Access}
+use Rattle.b2_access.specs.declared.accesses.Access.TheVariants as access
+use Rattle.b2_access.specs.Disks.{DiskWork}
 use Rattle.b2_access.specs.Serving.{serves}
 use Rattle.b2_access.specs.Store.{StoreState, content}
 
@@ -15,5 +17,14 @@ device_of o = None
 
 -- what belongs to a device stays as it is through every access of a partition, while another one holds it
 abbrev pub HeldStaysAsItIs : Type 0
-HeldStaysAsItIs = (who p : ℕ) (d : List ℕ) (o : Object) (a : Access) (s : StoreState) → content s (object.Hog d) ≡ Some (Some p) → p ≢ who → device_of o ≡ Some d
-    → content (serves s who a).after o ≡ content s o
+HeldStaysAsItIs = (disks : DiskWork) (who p : ℕ) (d : List ℕ) (o : Object) (a : Access) (s : StoreState) → content s (object.Hog d) ≡ Some (Some p) → p ≢ who → device_of o ≡ Some d
+    → content (serves disks s who a).after o ≡ content s o
+
+-- An access other than one that scratches a file or formats leaves every image as it is, and these two leave every other one.
+abbrev pub image_changed : Access → Option (List ℕ)
+image_changed (access.Scratch addr name) = Some addr
+image_changed (access.Format addr index end) = Some addr
+image_changed a = None
+
+abbrev pub OtherImagesStay : Type 0
+OtherImagesStay = (disks : DiskWork) (who : ℕ) (d : List ℕ) (a : Access) (s : StoreState) → image_changed a ≢ Some d → content (serves disks s who a).after (object.Platter d) ≡ content s (object.Platter d)

@@ -7,6 +7,7 @@ pub mod Store
 pub mod AnswerKinds
 pub mod Reach
 pub mod Task
+pub mod Disks
 pub mod AccessRows
 pub mod Touching
 pub mod Sharing
@@ -23,7 +24,15 @@ pub mod Planning
 pub mod Endings
 pub mod Going
 pub mod Placed
+pub mod Courses
+pub mod Found
+pub mod Marks
 pub mod Homes
 pub mod Keeping
 pub mod OwnTerminal
+pub mod OwnDevices
 pub mod Waiting
+pub mod LeftAlone
+pub mod Working
+pub mod Steering
+pub mod Showing

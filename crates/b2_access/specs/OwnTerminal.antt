@@ -1,8 +1,10 @@
 -- A statement asks at the terminal of its partition alone, and leaves which one that is.
 use Rattle.std.specs.Prelude.{◌≡◌, ℕ, Option, None, Some}
+use Rattle.b2_access.specs.AccessRows.{reach}
 use Rattle.b2_access.specs.Causes.{terminal_of}
 use Rattle.b2_access.specs.Lending.{SeenLent}
 use Rattle.b2_access.specs.Planning.{Finishing, Planning}
+use Rattle.b2_access.specs.Reach.{at_terminal}
 use Rattle.b2_access.specs.declared.accesses.Access.{Access}
 use Rattle.b2_access.specs.declared.accesses.Answer.{Answer}
 use Rattle.b2_access.specs.declared.planned.Planned.{Planned}
@@ -13,7 +15,11 @@ use Rattle.b2_access.specs.declared.private.Private.{Private}
 abbrev pub NamesAlone : ℕ → Access → Type 0
 NamesAlone t a = (u : ℕ) → terminal_of a ≡ Some u → u ≡ t
 
--- and so does what is asked for, where anything is
+-- one that reaches this terminal and nothing else
+abbrev pub IsAtTerminal : ℕ → Access → Type 0
+IsAtTerminal t a = reach a ≡ at_terminal t
+
+-- what is asked for names no other terminal either, where anything is
 abbrev pub AskedAt : ℕ → Option Access → Type 0
 AskedAt t None = Unit {0}
 AskedAt t (Some a) = NamesAlone t a

@@ -1,5 +1,5 @@
 -- What a partition has for itself.
-use Rattle.std.specs.Prelude.{◌≡◌, ℕ, Bool, true, false, not, List, [], ◌∷◌, ◌++◌, Some, None, is_some, codes}
+use Rattle.std.specs.Prelude.{◌≡◌, ℕ, Bool, true, false, not, List, [], ◌∷◌, ◌++◌, Option, Some, None, is_some, codes}
 use Rattle.std.specs.Option.{option_map_or}
 use Rattle.std.specs.FinMap as map
 use Rattle.b2_base.specs.Byte as byte
@@ -22,8 +22,8 @@ abbrev pub no_variables : ℕ → VarsState
 no_variables area = record { area = area; table = map.empty }
 
 -- a partition as it starts
-abbrev pub at_start : ℕ → ℕ → ℕ → Private
-at_start p t area = record {
+abbrev pub at_start : ℕ → ℕ → ℕ → Option (List ℕ) → Private
+at_start p t area disk = record {
   part = p;
   term = t;
   mode = Round;
@@ -32,6 +32,8 @@ at_start p t area = record {
   immediate = None;
   vars = no_variables area;
   stack = [];
+  disk = disk;
+  boot_disk = disk;
   term_column = 0;
   last = 0;
   next_data = None;
@@ -55,6 +57,10 @@ runs_program me = option_map_or (λ (p : Place). is_some p.line) me.place false
 -- no place is kept while program text runs
 abbrev pub KeepsNone : Private → Type 0
 KeepsNone me = runs_program me ≡ true → me.kept ≡ None
+
+-- no loop and no call is left, no arguments wait for a DEFFN', and no place is kept for CONTINUE
+abbrev pub without_frames : Private → Private
+without_frames me = record me { stack = []; kept = None; args = None }
 
 -- what its expressions look at beside its variables and a text
 abbrev pub setting_of : Private → Setting

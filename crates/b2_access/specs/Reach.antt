@@ -18,7 +18,7 @@ pub record DeviceReach : Type 0 where
   pub part : DevicePart
 
 -- A terminal, the own text, the own `@` variables, the borrowers of some texts, devices in the order written, and names. No access
--- reaches borrowers, devices or names yet: those that it marks and names are looked at once names of global texts come.
+-- reaches borrowers or names yet: those that it marks and names are looked at once names of global texts come.
 pub record Reach : Type 0 where
   pub terminal : Option ℕ
   pub text : TextUse
@@ -33,12 +33,23 @@ nothing = record { terminal = None; text = text.Unused; variables = false; borro
 abbrev pub at_terminal : ℕ → Reach
 at_terminal term = record nothing { terminal = Some term }
 
+-- a platter, and who holds it
+abbrev pub disk : List ℕ → DeviceReach
+disk address = record { address = address; part = WithPlatter }
+
+abbrev pub at_disk : List ℕ → Reach
+at_disk address = record nothing { devices = disk address ∷ [] }
+
+abbrev pub disks_of : Option (List ℕ) → List DeviceReach
+disks_of None = []
+disks_of (Some address) = disk address ∷ []
+
 abbrev pub own_text : Reach
 own_text = record nothing { text = text.Edited }
 
 -- what is reached, as a value of the program says it
 abbrev pub reach_of : Reached → Reach
-reach_of r = record nothing { terminal = r.terminal; text = r.text; variables = r.variables }
+reach_of r = record nothing { terminal = r.terminal; text = r.text; variables = r.variables; devices = disks_of r.disk }
 
 -- the objects that are reached: an edit looks at who stands inside the text
 abbrev pub terminal_objects : Option ℕ → List Object
@@ -68,9 +79,13 @@ objects_reached who r =
     terminal_objects r.terminal ++ (text_objects who r.text ++ (variable_objects who r.variables ++ (map object.Borrow r.borrowers ++ (device_objects r.devices ++ map object.Name r.names))))
 
 -- the objects of what is written, as a value of the program says it
-abbrev pub own_text_objects : ℕ → Bool → List Object
-own_text_objects who false = []
-own_text_objects who true = object.Text who ∷ []
+abbrev pub where_written : Bool → Object → List Object
+where_written false o = []
+where_written true o = o ∷ []
+
+abbrev pub platter_objects : Option (List ℕ) → List Object
+platter_objects None = []
+platter_objects (Some address) = object.Platter address ∷ []
 
 abbrev pub objects_written : Written → ℕ → List Object
-objects_written w who = terminal_objects w.terminal ++ (own_text_objects who w.text ++ variable_objects who w.variables)
+objects_written w who = terminal_objects w.terminal ++ (where_written w.text (object.Text who) ++ (where_written w.variables (object.Globals who) ++ platter_objects w.platter))

@@ -6,6 +6,7 @@ use Rattle.b2_access.specs.declared.accesses.Answer.{Answer}
 use Rattle.b2_access.specs.declared.accesses.Answer.TheVariants as answer
 use Rattle.b2_access.specs.AccessRows.{AccessRow, row}
 use Rattle.b2_access.specs.AnswerKinds.{stops}
+use Rattle.b2_access.specs.Disks.{DiskWork}
 use Rattle.b2_access.specs.Sharing.{Gives, ServingOf}
 use Rattle.b2_access.specs.Stopping.{stop}
 use Rattle.b2_access.specs.Store.{StoreState, content, put}
@@ -13,7 +14,7 @@ use Rattle.b2_access.specs.Task.{Put, Task, Look, Tell, Refuse}
 
 abbrev pub put_each : {written : List Object} → List (Put written) → StoreState → StoreState
 put_each [] s = s
-put_each (p ∷ ps) s = put_each ps (put p.place p.value s)
+put_each (p ∷ ps) s = put_each ps (put p.target p.value s)
 
 -- what a task answers, and the store after it
 abbrev pub performs : {reached written : List Object} → Task reached written → StoreState → Gives StoreState
@@ -26,16 +27,16 @@ abbrev pub unless_stopped : Option Answer → Gives StoreState → StoreState �
 unless_stopped None g s = g
 unless_stopped (Some x) g s = record { after = s; answer = x }
 
-abbrev pub serves_row : AccessRow → StoreState → ℕ → Gives StoreState
-serves_row r s who = unless_stopped (stop who r.reach s) (performs (r.does who) s) s
+abbrev pub serves_row : AccessRow → DiskWork → StoreState → ℕ → Gives StoreState
+serves_row r disks s who = unless_stopped (stop who r.reach s) (performs (r.does disks who) s) s
 
--- HOW A PLAIN STORE SERVES, which means itself
-abbrev pub serves : ServingOf StoreState
-serves s who a = serves_row (row a) s who
+-- HOW A PLAIN STORE SERVES, which means itself, where disks do so much
+abbrev pub serves : DiskWork → ServingOf StoreState
+serves disks s who a = serves_row (row a) disks s who
 
 abbrev pub itself : StoreState → StoreState
 itself s = s
 
 -- an access that was stopped leaves the store as it was
 abbrev pub StopsUnchanged : Type 0
-StopsUnchanged = (who : ℕ) (a : Access) (s : StoreState) → stops (serves s who a).answer ≡ true → (serves s who a).after ≡ s
+StopsUnchanged = (disks : DiskWork) (who : ℕ) (a : Access) (s : StoreState) → stops (serves disks s who a).answer ≡ true → (serves disks s who a).after ≡ s

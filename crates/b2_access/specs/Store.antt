@@ -5,15 +5,17 @@ use Rattle.b2_vars.specs.Tables.{VarsState}
 use Rattle.b2_term.specs.Terminal.{TerminalState}
 use Rattle.b2_access.specs.declared.objects.Object.{Object}
 use Rattle.b2_access.specs.declared.objects.Object.TheVariants as object
-use Rattle.b2_access.specs.Rows.{row_of, with_row}
+use Rattle.b2_access.specs.Rows.{row_of, with_row, device_row, with_device_row}
 
--- Texts, who stands inside each, in order of entering, `@` variables and terminals. Names, printers, platters and holders of devices
--- have their kinds of contents, but none of them is listed yet.
+-- Texts, who stands inside each, in order of entering, `@` variables, terminals, the images of platters, and who holds each device.
+-- Names and printers have their kinds of contents, but none of them is listed yet.
 pub record StoreState : Type 0 where
   pub texts : List (ℕ × TextState)
   pub borrows : List (ℕ × List ℕ)
   pub globals : List (ℕ × VarsState)
   pub terminals : List (ℕ × TerminalState)
+  pub platters : List (List ℕ × List ℕ)
+  pub hogs : List (List ℕ × Option ℕ)
 
 -- What an object of each kind has. A name and a device are held by a partition or by nobody, a printer has the bytes that it
 -- printed, and a platter has the bytes of its image.
@@ -33,6 +35,8 @@ content s (object.Text p) = row_of p s.texts
 content s (object.Borrow p) = row_of p s.borrows
 content s (object.Globals p) = row_of p s.globals
 content s (object.Terminal t) = row_of t s.terminals
+content s (object.Platter a) = device_row a s.platters
+content s (object.Hog a) = device_row a s.hogs
 content s o = None
 
 -- an object that is listed has another content
@@ -41,6 +45,8 @@ put (object.Text p) c s = record s { texts = with_row p s.texts c }
 put (object.Borrow p) c s = record s { borrows = with_row p s.borrows c }
 put (object.Globals p) c s = record s { globals = with_row p s.globals c }
 put (object.Terminal t) c s = record s { terminals = with_row t s.terminals c }
+put (object.Platter a) c s = record s { platters = with_device_row a s.platters c }
+put (object.Hog a) c s = record s { hogs = with_device_row a s.hogs c }
 put o c s = s
 
 -- an object is one of a list

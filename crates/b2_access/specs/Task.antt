@@ -7,9 +7,9 @@ use Rattle.b2_access.specs.Store.{ContentOf, IsIn}
 
 -- a new content of an object that is written
 pub record Put (written : List Object) : Type 0 where
-  pub place : Object
-  pub there : IsIn place written
-  pub value : ContentOf place
+  pub target : Object
+  pub there : IsIn target written
+  pub value : ContentOf target
 
 pub data Task (reached written : List Object) : Type 0 where
   Look : (o : Object) → IsIn o reached → (Option (ContentOf o) → Task reached written) → Task reached written
@@ -22,4 +22,4 @@ answers x = Tell [] x
 
 -- one object has another content
 abbrev pub puts : {reached written : List Object} (o : Object) → IsIn o written → ContentOf o → Answer → Task reached written
-puts o there c x = Tell (record { place = o; there = there; value = c } ∷ []) x
+puts o there c x = Tell (record { target = o; there = there; value = c } ∷ []) x

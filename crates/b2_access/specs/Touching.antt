@@ -22,11 +22,12 @@ abbrev pub IsLegal : Access → Type 0
 IsLegal (access.PutLine line atoms homes) = line ≤ 9999
 IsLegal a = Unit {0}
 
--- Which accesses may want memory: those that put bytes or a line where there may be no room kept for them. A key is taken and
--- lines are taken out without any.
+-- Which accesses may want memory: those that put bytes or a line where there may be no room kept for them, and one that lays out bytes.
+-- A key is taken, lines are taken out, and disks are looked at and changed without any.
 abbrev pub MayWantMemory : Access → Type 0
 MayWantMemory (access.Show term bytes column) = Unit {0}
 MayWantMemory (access.ReadLine term) = Unit {0}
 MayWantMemory (access.Insert term bytes) = Unit {0}
 MayWantMemory (access.PutLine line (Some atoms) homes) = Unit {0}
+MayWantMemory (access.ListDisk addr) = Unit {0}
 MayWantMemory a = ⊥

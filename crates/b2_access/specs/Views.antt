@@ -5,6 +5,7 @@ use Rattle.b2_access.specs.declared.accesses.Access.{Access}
 use Rattle.b2_access.specs.declared.accesses.Access.TheVariants as access
 use Rattle.b2_access.specs.declared.accesses.Answer.{Answer}
 use Rattle.b2_access.specs.declared.accesses.Answer.TheVariants as answer
+use Rattle.b2_access.specs.Disks.{FourNumbers}
 
 -- the column after what was shown, None where nothing was
 abbrev pub column_shown : Access → Answer → Option ℕ
@@ -51,3 +52,25 @@ clear_came (access.ClearAll name homes) (answer.Locked q) = TextLocked
 clear_came (access.Erase from to homes) answer.Done = LinesErased
 clear_came (access.Erase from to homes) (answer.Locked q) = TextLocked
 clear_came x a = ClearLater
+
+-- the four numbers that were told of a disk, and the listing of its index; None where it is asked for again
+abbrev pub limits_told : Access → Answer → Option FourNumbers
+limits_told (access.Limits addr name) (answer.Four a b c d) = Some (record { first = a; second = b; third = c; fourth = d })
+limits_told x a = None
+
+abbrev pub listing_told : Access → Answer → Option (List ℕ)
+listing_told (access.ListDisk addr) (answer.Bytes bytes) = Some bytes
+listing_told x a = None
+
+-- what came of changing a disk: it was changed, or it was refused with a code; or it is asked for again
+pub data ChangeCame : Type 0 where
+  DiskChanged : ChangeCame
+  ChangeRefused : ℕ → ChangeCame
+  ChangeLater : ChangeCame
+
+abbrev pub change_came : Access → Answer → ChangeCame
+change_came (access.Scratch addr name) answer.Done = DiskChanged
+change_came (access.Scratch addr name) (answer.Refused c) = ChangeRefused c
+change_came (access.Format addr index end) answer.Done = DiskChanged
+change_came (access.Format addr index end) (answer.Refused c) = ChangeRefused c
+change_came x a = ChangeLater

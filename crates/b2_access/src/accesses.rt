@@ -3,7 +3,7 @@ ghost use Rattle.std.specs.Prelude.{◌≡◌};
 ghost use Rattle.b2_access.specs.AnswerKinds as kind;
 
 use b2_atom::Atoms;
-use b2_base::{ByteList, Code, Name8, Part, Term};
+use b2_base::{Addr, ByteList, Code, Name8, Part, Term};
 
 /// What a step asks of the store, once at most. `homes` marks the partitions whose text the asking one gives back: the bit of
 /// a partition is that of its number less 1.
@@ -45,6 +45,26 @@ pub enum Access {
         name: Option<Name8>,
         homes: u16,
     },
+    /// The limits of a file on a platter, or of its catalogue where no name is given.
+    Limits {
+        addr: Addr,
+        name: Option<Name8>,
+    },
+    /// The index of a platter is listed.
+    ListDisk {
+        addr: Addr,
+    },
+    /// A file on a platter is scratched.
+    Scratch {
+        addr: Addr,
+        name: Name8,
+    },
+    /// A platter gets an empty index of so many sectors, and a catalogue up to this last sector.
+    Format {
+        addr: Addr,
+        index: u32,
+        end: u32,
+    },
 }
 
 /// What the store answers.
@@ -60,6 +80,11 @@ pub enum Answer {
     Key(u8),
     /// No key that ends a line, or no key, is there.
     NoKeys,
+    /// Four numbers: the first and the last sector, the sectors used and the kind of a file, or the sectors of the index, the first
+    /// sector after the catalogue, the next free sector and 0.
+    Four(i64, i64, i64, i64),
+    /// Bytes that were laid out.
+    Bytes(ByteList),
     /// Another partition is in front of the terminal, or holds the device: nothing was done.
     Wait(Part),
     /// Another partition stands inside the text: nothing was done.

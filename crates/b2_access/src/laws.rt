@@ -1,25 +1,39 @@
-//! What holds of a partition itself, and of serving: each law is the contract of a function without a body.
-ghost use Rattle.std.specs.Prelude.{ℕ};
+//! What holds of a partition itself, of statements by their form, and of serving: each law is the contract of a function without a body.
+ghost use Rattle.std.specs.Prelude.{ℕ, List, Option};
 ghost use Rattle.b2_access.specs.Partition.{at_start, KeepsNone};
 ghost use Rattle.b2_access.specs.Answering.{AnswersByRow, RowsTellTheirAnswers};
-ghost use Rattle.b2_access.specs.Causes.{WaitsForTheFirst, LocksForTheFirst, RefusesForRoom};
-ghost use Rattle.b2_access.specs.Holding.{HeldStaysAsItIs};
+ghost use Rattle.b2_access.specs.Causes.{WaitsForTheFirst, LocksForTheFirst, RefusesWithTheCode};
+ghost use Rattle.b2_access.specs.Disks.{DiskWork};
+ghost use Rattle.b2_access.specs.Holding.{HeldStaysAsItIs, OtherImagesStay};
 ghost use Rattle.b2_access.specs.Serving.{StopsUnchanged, serves, itself};
 ghost use Rattle.b2_access.specs.Sharing.{IsLocal, KeepsListed};
+ghost use Rattle.b2_access.specs.Working.{FinishesArePutBack, PlansArePutBack};
 
 /// A partition that starts keeps no place. While program text runs none is kept: that is what statements have to leave so.
 pub fn law_a_start_keeps_none()
-    ensures { (p t area : ℕ) → KeepsNone (at_start p t area) }
+    ensures { (p t area : ℕ) (disk : Option (List ℕ)) → KeepsNone (at_start p t area disk) }
+{}
+
+/// A statement that changes no frame and no place that is kept, whatever it plans, leaves the partition in its place and at its
+/// terminal, keeps no place, and has changed nothing where it asks for an access; it names no other partition where it leads to
+/// none.
+pub fn law_plans_are_put_back()
+    ensures { PlansArePutBack }
+{}
+
+/// And so does one that finishes; it changes nothing where its work stays as it was.
+pub fn law_finishes_are_put_back()
+    ensures { FinishesArePutBack }
 {}
 
 /// What an access is answered and writes depends on what it touches alone, and all else stays.
 pub fn law_serving_is_local()
-    ensures { IsLocal itself serves }
+    ensures { (disks : DiskWork) → IsLocal itself (serves disks) }
 {}
 
 /// What is listed stays so.
 pub fn law_what_is_listed_stays_so()
-    ensures { KeepsListed itself serves }
+    ensures { (disks : DiskWork) → KeepsListed itself (serves disks) }
 {}
 
 /// An access that is answered Wait, Locked or Refused leaves the store as it was.
@@ -38,14 +52,20 @@ pub fn law_locked_is_for_the_first_inside()
     ensures { LocksForTheFirst }
 {}
 
-/// A code is answered exactly where nobody stands inside the text, and it has no room for the line that is put: A01.
-pub fn law_a_code_is_for_want_of_room()
-    ensures { RefusesForRoom }
+/// A code is answered exactly where nobody comes first or stands inside the text that is edited, and the access meets the code: A01,
+/// where a text has no room for the line that is put, or the code of what is made of an image.
+pub fn law_a_code_is_met()
+    ensures { RefusesWithTheCode }
 {}
 
 /// What belongs to a device stays as it is through every access of a partition, while another one holds the device.
 pub fn law_a_held_device_stays_as_it_is()
     ensures { HeldStaysAsItIs }
+{}
+
+/// An access other than one that scratches a file or formats leaves every image as it is, and these two leave every other one.
+pub fn law_other_images_stay_as_they_are()
+    ensures { OtherImagesStay }
 {}
 
 /// Each row tells the answers that it says.
@@ -55,5 +75,5 @@ pub fn law_rows_tell_their_answers()
 
 /// Every answer is one that may stop its access, or that its row tells.
 pub fn law_answers_are_of_their_rows()
-    ensures { AnswersByRow serves }
+    ensures { (disks : DiskWork) → AnswersByRow (serves disks) }
 {}

@@ -10,6 +10,21 @@ use b2_flow::Place;
 use b2_rows::{RowUnit, row_unit};
 use b2_text::Text;
 
+/// A statement of a line where it was found, with the texts that it sees.
+#[derive(Clone, Copy)]
+pub struct Found<'a> {
+    /// The text of the partition.
+    pub own: &'a Text,
+    /// The text of its home.
+    pub home: &'a Text,
+    /// Its line.
+    pub line: &'a Atoms,
+    /// Its unit.
+    pub unit: &'a RowUnit<'a>,
+    /// Its place.
+    pub place: Place,
+}
+
 /// The line of a place: one of the text at home, or the immediate line.
 pub fn line_named<'a>(
     immediate: &'a Option<Atoms>,

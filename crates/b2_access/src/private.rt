@@ -1,6 +1,6 @@
 // What a partition has for itself.
 ghost use Rattle.std.specs.Prelude.{◌≡◌, IfOk, true};
-ghost use Rattle.b2_access.specs.Partition.{at_start};
+ghost use Rattle.b2_access.specs.Partition.{at_start, without_frames};
 
 use b2_atom::Atoms;
 use b2_base::{Addr, ByteList, NoMemory, Part, Term};
@@ -33,6 +33,10 @@ pub struct Private {
     pub vars: Vars,
     /// Its loops and calls.
     pub stack: Stack,
+    /// The platter that is selected, none where none is.
+    pub disk: Option<Addr>,
+    /// The platter that is selected at the start, and after CLEAR.
+    pub boot_disk: Option<Addr>,
     /// The column at its terminal; it stays at 65,535 once it is there.
     pub term_column: u16,
     /// The last code, 0 for none.
@@ -56,10 +60,16 @@ pub struct Private {
 }
 
 impl Private {
-    /// A partition at its terminal, with an area of `area` bytes for its variables. It is ready, and `READY`, a newline and
-    /// `:` wait to be shown.
-    pub fn new(alloc: Global, p: Part, t: Term, area: usize) -> Result<Private, NoMemory>
-        ensures at_start { IfOk result (λ me. me ≡ at_start p t area) }
+    /// A partition at its terminal, with an area of `area` bytes for its variables, and the platter that it starts with. It is
+    /// ready, and `READY`, a newline and `:` wait to be shown.
+    pub fn new(
+        alloc: Global,
+        p: Part,
+        t: Term,
+        area: usize,
+        disk: Option<Addr>,
+    ) -> Result<Private, NoMemory>
+        ensures at_start { IfOk result (λ me. me ≡ at_start p t area disk) }
     {
         Ok(Private {
             part: p,
@@ -70,6 +80,8 @@ impl Private {
             immediate: None,
             vars: Vars::new(alloc, area)?,
             stack: Stack::new(alloc)?,
+            disk,
+            boot_disk: disk,
             term_column: 0,
             last: 0,
             next_data: None,
@@ -99,4 +111,14 @@ impl Private {
     {
         self.reset = true;
     }
+}
+
+/// No frames, no arguments and no place to continue at are left.
+pub fn drop_frames(me: &mut Private)
+    ensures dropped { me.new ≡ without_frames me.old }
+    ensures part { me.new.part ≡ me.old.part }
+{
+    me.stack.clear();
+    me.kept = None;
+    me.args = None;
 }

@@ -1,10 +1,12 @@
 // What an access reaches, and what it writes of that.
 ghost use Rattle.std.specs.Prelude.{◌≡◌, true, false, Some, None};
-ghost use Rattle.b2_access.specs.AccessRows.{reach, row};
+ghost use Rattle.b2_access.specs.AccessRows.{reach as reach_by, row};
+ghost use Rattle.b2_access.specs.Reach as reach;
+ghost use Rattle.b2_access.specs.Holding.{image_changed};
 ghost use Rattle.b2_access.specs.Reach.{objects_written, reach_of};
 
 use crate::accesses::Access;
-use b2_base::Term;
+use b2_base::{Addr, Term};
 
 /// How the text of the partition that asks is reached.
 #[derive(Clone, Copy)]
@@ -26,33 +28,56 @@ pub struct Reached {
     pub text: TextUse,
     /// Whether the `@` variables of the partition that asks.
     pub variables: bool,
+    /// The platter that it names, with who holds it.
+    pub disk: Option<Addr>,
+}
+
+/// Nothing.
+fn reaches_nothing() -> Reached
+    ensures { result ≡ record { terminal = None; text = TextUse.Unused; variables = false; disk = None } }
+{
+    Reached {
+        terminal: None,
+        text: TextUse::Unused,
+        variables: false,
+        disk: None,
+    }
 }
 
 /// A terminal.
 fn at_terminal(term: Term) -> Reached
-    ensures { result ≡ record { terminal = Some term; text = TextUse.Unused; variables = false } }
+    ensures { reach_of result ≡ reach.at_terminal term }
 {
     Reached {
         terminal: Some(term),
-        text: TextUse::Unused,
-        variables: false,
+        ..reaches_nothing()
     }
 }
 
 /// The text of the partition that asks, which is edited.
 fn own_text(variables: bool) -> Reached
-    ensures { result ≡ record { terminal = None; text = TextUse.Edited; variables = variables } }
+    ensures { reach_of result ≡ record reach.own_text { variables = variables } }
 {
     Reached {
-        terminal: None,
         text: TextUse::Edited,
         variables,
+        ..reaches_nothing()
+    }
+}
+
+/// A platter, and who holds it.
+fn at_disk(addr: Addr) -> Reached
+    ensures { reach_of result ≡ reach.at_disk addr }
+{
+    Reached {
+        disk: Some(addr),
+        ..reaches_nothing()
     }
 }
 
 /// What an access reaches.
 pub fn reached_by(access: &Access) -> Reached
-    ensures reached { reach_of result ≡ reach access.now }
+    ensures reached { reach_of result ≡ reach_by access.now }
 {
     match access {
         Access::Show { term, .. }
@@ -61,6 +86,10 @@ pub fn reached_by(access: &Access) -> Reached
         | Access::Key { term } => at_terminal(*term),
         Access::PutLine { .. } | Access::Erase { .. } => own_text(false),
         Access::ClearAll { .. } => own_text(true),
+        Access::Limits { addr, .. }
+        | Access::ListDisk { addr }
+        | Access::Scratch { addr, .. }
+        | Access::Format { addr, .. } => at_disk(*addr),
     }
 }
 
@@ -73,33 +102,57 @@ pub struct Written {
     pub text: bool,
     /// Whether the `@` variables of the partition that asks.
     pub variables: bool,
+    /// The platter that it names.
+    pub platter: Option<Addr>,
+}
+
+/// Nothing is written.
+fn writes_nothing() -> Written
+    ensures { result ≡ record { terminal = None; text = false; variables = false; platter = None } }
+{
+    Written {
+        terminal: None,
+        text: false,
+        variables: false,
+        platter: None,
+    }
 }
 
 /// A terminal is written.
 fn writes_terminal(term: Term) -> Written
-    ensures { result ≡ record { terminal = Some term; text = false; variables = false } }
+    ensures { result ≡ record { terminal = Some term; text = false; variables = false; platter = None } }
 {
     Written {
         terminal: Some(term),
-        text: false,
-        variables: false,
+        ..writes_nothing()
     }
 }
 
 /// The text of the partition that asks is written.
 fn writes_text(variables: bool) -> Written
-    ensures { result ≡ record { terminal = None; text = true; variables = variables } }
+    ensures { result ≡ record { terminal = None; text = true; variables = variables; platter = None } }
 {
     Written {
-        terminal: None,
         text: true,
         variables,
+        ..writes_nothing()
+    }
+}
+
+/// A platter is written.
+fn writes_platter(platter: Addr) -> Written
+    ensures { result ≡ record { terminal = None; text = false; variables = false; platter = Some platter } }
+{
+    Written {
+        platter: Some(platter),
+        ..writes_nothing()
     }
 }
 
 /// What an access writes where nothing stops it.
 pub fn written_by(access: &Access) -> Written
     ensures written { objects_written result ≡ (row access.now).writes }
+    ensures platter { result.platter ≡ image_changed access.now }
 {
     match access {
         Access::Show { term, .. }
@@ -108,5 +161,7 @@ pub fn written_by(access: &Access) -> Written
         | Access::Key { term } => writes_terminal(*term),
         Access::PutLine { .. } | Access::Erase { .. } => writes_text(false),
         Access::ClearAll { .. } => writes_text(true),
+        Access::Limits { .. } | Access::ListDisk { .. } => writes_nothing(),
+        Access::Scratch { addr, .. } | Access::Format { addr, .. } => writes_platter(*addr),
     }
 }

@@ -1,6 +1,6 @@
 -- Reading by the rows of the table: what the code's walk does at each item, and that what is read and what fits are the same.
 --
--- The walk: Binds has one reading after another, and what a output holds after it; Codes, that each refusal has a code from 1 to
+-- The walk: Binds has one reading after another, and what an output holds after it; Codes, that each refusal has a code from 1 to
 -- 99.
 -- A tree that fits is read from each text that spells its tokens: `read_back` of ReadBack, one lemma for each kind of item in
 -- Complete and Branches.

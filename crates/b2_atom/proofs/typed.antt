@@ -5,7 +5,7 @@
 -- A leaf, which is what is typed by hand, has its width whatever comes after it that doesn't run on: Widths for numbers, digits,
 -- literals and images, Characters for hexadecimal digits, comparison signs and function names, Names for names, LineNumbers
 -- for line numbers. LeavesRead puts them together: `leaf_read`, that a whole leaf is read where it stands.
--- LeafFronts and CleanLeaves say which bytes a whole leaf begins with and consists of.
+-- LeafStarts and CleanLeaves say which bytes a whole leaf begins with and consists of.
 pub mod Longest
 pub mod WordsRead
 pub mod Keywords
@@ -13,6 +13,6 @@ pub mod Widths
 pub mod Names
 pub mod Characters
 pub mod LineNumbers
-pub mod LeafFronts
+pub mod LeafStarts
 pub mod LeavesRead
 pub mod CleanLeaves

@@ -7,7 +7,7 @@ use Rattle.b2_atom.specs.Tokens.Token.{Coded, Plain, Lined}
 use Rattle.b2_atom.specs.Tree.{Trees, tokens}
 use Rattle.b2_atom.specs.Tree.Trees.{Done, Put, In}
 use Rattle.b2_atom.specs.Table.{forms}
-use Rattle.b2_atom.specs.Grammar.{row_items, is_among, barred_following, barred_line, barred_place}
+use Rattle.b2_atom.specs.Grammar.{row_items, is_among, barred_following, barred_line, barred_position}
 use Rattle.b2_atom.specs.Spelling.{is_whole, is_free_text}
 use Rattle.b2_atom.specs.declared.words.TheConstants as word
 use Rattle.b2_atom.specs.declared.rows.TheConstants as row
@@ -53,7 +53,7 @@ fits_token o i t = false
 
 -- whether a rule allows a statement at a place in such a line
 abbrev pub is_allowed : Origin → Position → Rule → Bool
-is_allowed o p r = not (barred_following p r || (barred_line o r || barred_place p r))
+is_allowed o p r = not (barred_following p r || (barred_line o r || barred_position p r))
 
 -- whether a row is that of a statement that is allowed there: one of the forms, or an assignment
 abbrev pub is_statement : List Form → Origin → Position → ℕ → Bool

@@ -5,7 +5,7 @@ use Rattle.b2_atom.specs.Words.{Text}
 use Rattle.b2_atom.specs.Tokens.{listed}
 use Rattle.b2_atom.specs.Tree.{Trees, atoms, tokens}
 use Rattle.b2_atom.specs.Tree.Trees.{Done, In}
-use Rattle.b2_atom.specs.Grammar.{reader, part, statement, read_line}
+use Rattle.b2_atom.specs.Grammar.{reader, part, statement, parse_line}
 use Rattle.b2_atom.specs.Lines.{is_line, line_atoms, LineUnit, units_of, unit_row}
 use Rattle.b2_atom.specs.Fitting.{LineTree, LineTreeWithin}
 use Rattle.b2_atom.specs.Units.{TreeUnit, unit_atoms, units_on}
@@ -36,7 +36,7 @@ EachTreeIsALine = (t : Trees) → IsTree t → length (atoms t) ≤ 255 → is_l
 
 -- and are read as this tree, with nothing left
 abbrev pub EachTreeIsReadFromItsAtoms : Type 0
-EachTreeIsReadFromItsAtoms = (t : Trees) → IsTree t → read_line origin.Atoms (atoms t) ≡ Ok (t, [])
+EachTreeIsReadFromItsAtoms = (t : Trees) → IsTree t → parse_line origin.Atoms (atoms t) ≡ Ok (t, [])
 
 -- what is read of a line of any kind is a tree that the rows allow in such a line, and nothing is left
 pub record FitsWhole (o : Origin) (t : Trees) (rest : Text) : Type 0 where
@@ -44,7 +44,7 @@ pub record FitsWhole (o : Origin) (t : Trees) (rest : Text) : Type 0 where
   pub whole : rest ≡ []
 
 abbrev pub WhatIsReadFitsTheRows : Type 0
-WhatIsReadFitsTheRows = (o : Origin) (source : Text) (t : Trees) (rest : Text) → read_line o source ≡ Ok (t, rest) → FitsWhole o t rest
+WhatIsReadFitsTheRows = (o : Origin) (source : Text) (t : Trees) (rest : Text) → parse_line o source ≡ Ok (t, rest) → FitsWhole o t rest
 
 -- no two trees have the same atoms, however deep their parentheses are
 abbrev pub NoTwoTreesShareAtoms : Type 0
@@ -65,7 +65,7 @@ WhatIsListedIsReadBack =
 pub record IsStatement (u : LineUnit) : Type 0 where
   pub row : ℕ
   pub tree : Trees
-  pub read : statement (reader origin.Atoms) 1 u.place u.bytes ≡ Ok (In row tree Done, [])
+  pub read : statement (reader origin.Atoms) 1 u.position u.bytes ≡ Ok (In row tree Done, [])
 
 -- each unit of a line is one statement by itself
 abbrev pub EachUnitIsAStatement : Type 0
@@ -74,7 +74,7 @@ EachUnitIsAStatement = (line : Text) → is_line line ≡ true → All IsStateme
 -- a unit is read by its row alone, as the statement that it is, with nothing left
 pub record IsReadByItsRow (u : LineUnit) : Type 0 where
   pub tree : Trees
-  pub statement : statement (reader origin.Atoms) 1 u.place u.bytes ≡ Ok (In (unit_row u) tree Done, [])
+  pub statement : statement (reader origin.Atoms) 1 u.position u.bytes ≡ Ok (In (unit_row u) tree Done, [])
   pub part : part origin.Atoms 0 32 40 (unit_row u) u.bytes ≡ Ok (tree, [])
 
 -- each unit of a line is read by the row that the table chooses for it
@@ -83,7 +83,7 @@ EachUnitIsReadByItsRow = (line : Text) → is_line line ≡ true → All IsReadB
 
 -- a unit on a tree is read as its own tree by itself, with nothing left
 abbrev pub IsReadAlone : TreeUnit → Type 0
-IsReadAlone u = statement (reader origin.Atoms) 1 u.place (atoms u.tree) ≡ Ok (In u.row u.tree Done, [])
+IsReadAlone u = statement (reader origin.Atoms) 1 u.position (atoms u.tree) ≡ Ok (In u.row u.tree Done, [])
 
 -- the units of a tree's atoms are the atoms of its units, each of which is read by itself
 pub record IsCutIntoUnits (t : Trees) : Type 0 where

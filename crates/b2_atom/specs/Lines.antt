@@ -6,7 +6,7 @@ use Rattle.b2_base.specs.Lexical.{first}
 use Rattle.b2_atom.specs.Words.{Text}
 use Rattle.b2_atom.specs.Tokens.{listed}
 use Rattle.b2_atom.specs.Tree.{Trees, Outcome, atoms, tokens, uses_in}
-use Rattle.b2_atom.specs.Grammar.{reader, part, statement, statement_row, read_line}
+use Rattle.b2_atom.specs.Grammar.{reader, part, statement, statement_row, parse_line}
 use Rattle.b2_atom.specs.declared.rows.TheConstants as row
 use Rattle.b2_atom.specs.declared.words.Origin.{Origin}
 use Rattle.b2_atom.specs.declared.words.Origin.TheVariants as origin
@@ -19,7 +19,7 @@ use Rattle.b2_atom.specs.declared.forms.Position.TheVariants.{First, Further, Fo
 
 -- a list of at most 255 bytes that the table reads as a line of atoms
 unfoldable pub is_line : Text → Bool
-is_line t = nat_le (length t) 255 && is_ok (read_line origin.Atoms t)
+is_line t = nat_le (length t) 255 && is_ok (parse_line origin.Atoms t)
 
 -- the atom bytes of what was read
 abbrev pub atoms_of : Outcome → Result Text Stop
@@ -28,7 +28,7 @@ atoms_of (Err e) = Err e
 
 -- the atom bytes of a line, or why it isn't read
 unfoldable pub line_atoms : Origin → Text → Result Text Stop
-line_atoms o t = atoms_of (read_line o t)
+line_atoms o t = atoms_of (parse_line o t)
 
 -- the atom bytes of a line of at most 255, and nothing of a longer one
 abbrev pub short_line : Result Text Stop → Result (Option Text) Stop
@@ -51,7 +51,7 @@ source_of (Err e) = Err e
 
 -- the canonical source of a line of atoms
 unfoldable pub line_source : Text → Result Text Stop
-line_source t = source_of (read_line origin.Atoms t)
+line_source t = source_of (parse_line origin.Atoms t)
 
 -- what is left after a reading
 abbrev pub left_after : Outcome → Text
@@ -64,11 +64,11 @@ after_unit p t = left_after (statement (reader origin.Atoms) 1 p t)
 
 -- a unit: where it stands, and its bytes
 pub record LineUnit : Type 0 where
-  pub place : Position
+  pub position : Position
   pub bytes : Text
 
 abbrev pub leading_unit : Position → Text → LineUnit
-leading_unit p t = record { place = p; bytes = take (length t - length (after_unit p t)) t }
+leading_unit p t = record { position = p; bytes = take (length t - length (after_unit p t)) t }
 
 -- the row of a statement that begins somewhere, and the line's own, which is no statement's, where none begins
 abbrev pub chosen_row : Result (ℕ × Text) Stop → ℕ
@@ -77,7 +77,7 @@ chosen_row (Err e) = row.LINE
 
 -- the row of a unit: the one that the table chooses for its own bytes at its place
 unfoldable pub unit_row : LineUnit → ℕ
-unit_row u = chosen_row (statement_row origin.Atoms u.place u.bytes)
+unit_row u = chosen_row (statement_row origin.Atoms u.position u.bytes)
 
 -- what is used in what was read
 abbrev pub uses_of : Outcome → Uses
@@ -86,7 +86,7 @@ uses_of (Err e) = record { globals = false; functions = false }
 
 -- what a unit uses: an `@` name, a function
 unfoldable pub unit_uses : LineUnit → Uses
-unit_uses u = uses_of (statement (reader origin.Atoms) 1 u.place u.bytes)
+unit_uses u = uses_of (statement (reader origin.Atoms) 1 u.position u.bytes)
 
 -- bytes that a row reads from the first to the last, with no statement in it
 pub record IsReadBy (number : ℕ) (bytes : Text) : Type 0 where
@@ -94,15 +94,15 @@ pub record IsReadBy (number : ℕ) (bytes : Text) : Type 0 where
   pub read : part origin.Atoms 0 32 40 number bytes ≡ Ok (tree, [])
 
 -- the units in what stands after one: a `:` parts them, or nothing where a statement follows
-abbrev pub next_place : Text → Position
-next_place rest = if first rest == byte.colon then Further else Following
+abbrev pub next_position : Text → Position
+next_position rest = if first rest == byte.colon then Further else Following
 
 abbrev pub next_text : Text → Text
 next_text rest = if first rest == byte.colon then drop 1 rest else rest
 
 abbrev pub units_after : (Position → Text → List LineUnit) → Text → List LineUnit
 units_after more [] = []
-units_after more (b ∷ bs) = more (next_place (b ∷ bs)) (next_text (b ∷ bs))
+units_after more (b ∷ bs) = more (next_position (b ∷ bs)) (next_text (b ∷ bs))
 
 -- the first units of a text from a place on, at most n
 abbrev pub units_from : ℕ → Position → Text → List LineUnit
@@ -115,7 +115,7 @@ units_of t = units_from (length t) First t
 
 -- a unit by its span: its place, and which of the line's bytes are its own
 abbrev pub spanned : Text → Span → LineUnit
-spanned line s = record { place = s.place; bytes = take s.width (drop s.from line) }
+spanned line s = record { position = s.position; bytes = take s.width (drop s.from line) }
 
 -- a span keeps the row of its unit
 abbrev pub KeepsRow : Text → Span → Type 0
@@ -145,4 +145,4 @@ is_further Following = false
 -- the first unit after the k-th that follows a `:`, or the number of units; i units were counted before
 abbrev pub further_unit : ℕ → ℕ → List LineUnit → ℕ
 further_unit k i [] = i
-further_unit k i (u ∷ us) = if nat_lt k i && is_further u.place then i else further_unit k (suc i) us
+further_unit k i (u ∷ us) = if nat_lt k i && is_further u.position then i else further_unit k (suc i) us

@@ -13,7 +13,7 @@ use Rattle.b2_atom.specs.declared.forms.Item.TheVariants.{Part, Maybe, Either, M
 -- a statement of a line: where it stands, its row, and its own tree, without the statement that follows its THEN, ELSE or
 -- ERROR
 pub record TreeUnit : Type 0 where
-  pub place : Position
+  pub position : Position
   pub row : ℕ
   pub tree : Trees
 
@@ -50,7 +50,7 @@ own is (In m inner ts) = own_branch (giving is) m (λ (items : List Item). own i
 -- the statements in a branch and after it, where a statement comes before those in it
 abbrev pub units_of_branch : List Item → ℕ → (List Item → Trees) → (List Item → List TreeUnit) → (List Item → List TreeUnit) → List TreeUnit
 units_of_branch [] m tree inner others = []
-units_of_branch (Statement p ∷ is) m tree inner others = record { place = p; row = m; tree = tree (row_items m) } ∷ (inner (row_items m) ++ others is)
+units_of_branch (Statement p ∷ is) m tree inner others = record { position = p; row = m; tree = tree (row_items m) } ∷ (inner (row_items m) ++ others is)
 units_of_branch (i ∷ is) m tree inner others = inner (items_in i m) ++ others (items_after i is m)
 
 -- the statements in the tree of some items, from left to right
@@ -66,4 +66,4 @@ units_on t = units_in (row_items row.LINE) t
 
 -- a unit's place and its atoms
 abbrev pub unit_atoms : TreeUnit → LineUnit
-unit_atoms u = record { place = u.place; bytes = atoms u.tree }
+unit_atoms u = record { position = u.position; bytes = atoms u.tree }

@@ -215,10 +215,10 @@ pub fn literal_width(text: &[u8]) -> usize
 }
 
 /// Whether a hexadecimal digit stands at a place of a text.
-fn is_hex_at(origin: Origin, text: &[u8], place: usize) -> bool
-    ensures { result ≡ spec.is_hex_at origin text.now place }
+fn is_hex_at(origin: Origin, text: &[u8], index: usize) -> bool
+    ensures { result ≡ spec.is_hex_at origin text.now index }
 {
-    is_hex_digit(kept_byte(origin, at(text, place)))
+    is_hex_digit(kept_byte(origin, at(text, index)))
 }
 
 /// How many bytes spell two hexadecimal digits, or 0.

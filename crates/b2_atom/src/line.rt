@@ -7,7 +7,7 @@ ghost use Rattle.b2_atom.specs.Lines.{IsKnown, is_line, line_atoms, line_source,
 use crate::laws::what_is_read_is_a_line;
 use crate::output::{Output, Source, Stop, Uses, bytes_of};
 use crate::spans::{Span, further_unit, span_at, spans_of};
-use crate::walk::{DEPTH, LEVELS, part, read_line};
+use crate::walk::{DEPTH, LEVELS, parse_line, part};
 use crate::words::Origin;
 use b2_base::NoMemory;
 use std::alloc::Global;
@@ -63,7 +63,7 @@ fn spells_line(bytes: &[u8]) -> bool
         return false;
     }
     let mut output = Output::Silent;
-    match read_line(&mut output, Origin::Atoms, bytes) {
+    match parse_line(&mut output, Origin::Atoms, bytes) {
         Ok(_) => true,
         Err(_) => false,
     }
@@ -88,7 +88,7 @@ pub fn read_source(alloc: Global, origin: Origin, text: &[u8]) -> Result<Vec<u8>
     ensures read { MatchResult result (λ bytes. line_atoms origin text.now ≡ Ok bytes.items) (λ e. e ≢ Stop.NoMemory → line_atoms origin text.now ≡ Err e) }
 {
     let mut output = Output::Written(Vec::new(alloc));
-    match read_line(&mut output, origin, text) {
+    match parse_line(&mut output, origin, text) {
         Ok(_) => Ok(bytes_of(alloc, output)),
         Err(stop) => Err(stop),
     }
@@ -104,7 +104,7 @@ fn line_source(alloc: Global, line: &[u8]) -> Result<Vec<u8>, Stop>
         wordy: false,
         operand: false,
     });
-    match read_line(&mut output, Origin::Atoms, line) {
+    match parse_line(&mut output, Origin::Atoms, line) {
         Ok(_) => Ok(bytes_of(alloc, output)),
         Err(stop) => Err(stop),
     }

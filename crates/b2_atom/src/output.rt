@@ -271,7 +271,7 @@ pub fn put_line_number(output: &mut Output, high: u8, low: u8) -> Result<(), Sto
     }
 }
 
-/// The bytes of a output.
+/// The bytes of an output.
 pub fn bytes_of(alloc: Global, output: Output) -> Vec<u8>
     ensures { result.items ≡ bytes_of (seen_output output) }
 {
@@ -282,7 +282,7 @@ pub fn bytes_of(alloc: Global, output: Output) -> Vec<u8>
     }
 }
 
-/// What a output noted.
+/// What an output noted.
 pub fn noted(output: &Output) -> Uses
     ensures { result ≡ noted (seen_output output.now) }
 {

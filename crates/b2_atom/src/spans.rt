@@ -1,7 +1,7 @@
 // The units of a line: found once, when the line is made, and looked up from then on.
 ghost use Rattle.std.specs.Prelude.{◌≡◌, ◌≤◌, ℕ, List, IfOk, length, map, slice_get};
 ghost use Rattle.std.specs.List.{All};
-ghost use Rattle.b2_atom.specs.Lines.{IsEndOf, KeepsRow, KeepsUses, after_unit, further_unit, is_further, next_place, next_text, spanned, leading_unit, unit_row, unit_uses, units_of};
+ghost use Rattle.b2_atom.specs.Lines.{IsEndOf, KeepsRow, KeepsUses, after_unit, further_unit, is_further, next_position, next_text, spanned, leading_unit, unit_row, unit_uses, units_of};
 
 use crate::forms::Position;
 use crate::output::{Output, Uses, noted};
@@ -16,7 +16,7 @@ use std::alloc::Global;
 /// A unit of a line: where it stands, which of the line's bytes are its own, the row of its statement, and what it uses.
 #[derive(Clone, Copy)]
 pub struct Span {
-    place: Position,
+    position: Position,
     from: u8,
     width: u8,
     row: u16,
@@ -50,9 +50,9 @@ impl Span {
 
     /// Whether the unit stands after a `:`.
     fn follows_colon(&self) -> bool
-        ensures { result ≡ is_further self.now.place }
+        ensures { result ≡ is_further self.now.position }
     {
-        self.place == Position::Further
+        self.position == Position::Further
     }
 }
 
@@ -65,11 +65,11 @@ pub fn span_at(units: &[Span], k: usize) -> Option<Span>
 
 /// What stands after the first unit of a text.
 #[tactic(auto, unfolding(crate::specs::Lines::after_unit))]
-fn after_unit(place: Position, text: &[u8]) -> &[u8]
-    ensures { result.now ≡ after_unit place text.now }
+fn after_unit(position: Position, text: &[u8]) -> &[u8]
+    ensures { result.now ≡ after_unit position text.now }
 {
     let mut output = Output::Silent;
-    match statement(&mut output, Origin::Atoms, 1, place, text) {
+    match statement(&mut output, Origin::Atoms, 1, position, text) {
         Ok(rest) => rest,
         Err(_) => &[],
     }
@@ -77,10 +77,10 @@ fn after_unit(place: Position, text: &[u8]) -> &[u8]
 
 /// The row of the statement that is a unit's bytes.
 #[tactic(auto, unfolding(crate::specs::Lines::unit_row))]
-fn unit_row(place: Position, bytes: &[u8]) -> u16
-    ensures { result ≡ unit_row (record { place = place; bytes = bytes.now }) }
+fn unit_row(position: Position, bytes: &[u8]) -> u16
+    ensures { result ≡ unit_row (record { position = position; bytes = bytes.now }) }
 {
-    match statement_row(Origin::Atoms, place, bytes) {
+    match statement_row(Origin::Atoms, position, bytes) {
         Ok((row, _)) => row,
         Err(_) => rows::LINE,
     }
@@ -88,19 +88,19 @@ fn unit_row(place: Position, bytes: &[u8]) -> u16
 
 /// What the statement uses that is a unit's bytes.
 #[tactic(auto, using(crate::proofs::reading::Binds::uses_noted, crate::proofs::reading::Binds::none_noted), unfolding(crate::specs::Lines::unit_uses))]
-fn unit_uses(place: Position, bytes: &[u8]) -> Uses
-    ensures { result ≡ unit_uses (record { place = place; bytes = bytes.now }) }
+fn unit_uses(position: Position, bytes: &[u8]) -> Uses
+    ensures { result ≡ unit_uses (record { position = position; bytes = bytes.now }) }
 {
     let mut output = Output::Noted(Uses::nothing());
-    match statement(&mut output, Origin::Atoms, 1, place, bytes) {
+    match statement(&mut output, Origin::Atoms, 1, position, bytes) {
         Ok(_) => noted(&output),
         Err(_) => Uses::nothing(),
     }
 }
 
 /// Where the unit stands that begins after another.
-fn next_place(rest: &[u8]) -> Position
-    ensures { result ≡ next_place rest.now }
+fn next_position(rest: &[u8]) -> Position
+    ensures { result ≡ next_position rest.now }
 {
     if first(rest) == b':' {
         Position::Further
@@ -121,22 +121,22 @@ fn next_text(rest: &[u8]) -> &[u8]
 }
 
 /// The unit at a text that is left of a line, before what stands after the unit.
-fn span_between(line: &[u8], place: Position, left: &[u8], rest: &[u8]) -> Span
+fn span_between(line: &[u8], position: Position, left: &[u8], rest: &[u8]) -> Span
     requires few { length line.now ≤ 255 }
     requires left { IsEndOf line.now left.now }
-    requires rest { rest.now ≡ after_unit place left.now }
-    ensures unit { spanned line.now result ≡ leading_unit place left.now }
-    ensures row { result.row ≡ unit_row (leading_unit place left.now) }
-    ensures uses { result.uses ≡ unit_uses (leading_unit place left.now) }
+    requires rest { rest.now ≡ after_unit position left.now }
+    ensures unit { spanned line.now result ≡ leading_unit position left.now }
+    ensures row { result.row ≡ unit_row (leading_unit position left.now) }
+    ensures uses { result.uses ≡ unit_uses (leading_unit position left.now) }
 {
     let from = line.len() - left.len();
     let width = left.len() - rest.len();
     Span {
-        place,
+        position,
         from: from as u8,
         width: width as u8,
-        row: unit_row(place, first_bytes(left, width)),
-        uses: unit_uses(place, first_bytes(left, width)),
+        row: unit_row(position, first_bytes(left, width)),
+        uses: unit_uses(position, first_bytes(left, width)),
     }
 }
 
@@ -148,15 +148,15 @@ pub fn spans_of(alloc: Global, line: &[u8]) -> Result<Vec<Span>, NoMemory>
     ensures uses { IfOk result (λ spans. All (KeepsUses line.now) spans.items) }
 {
     let mut spans = Vec::new(alloc);
-    let mut place = Position::First;
+    let mut position = Position::First;
     let mut left = line;
     for _ in 0..line.len() {
-        let rest = after_unit(place, left);
-        spans.push(span_between(line, place, left, rest))?;
+        let rest = after_unit(position, left);
+        spans.push(span_between(line, position, left, rest))?;
         if rest.is_empty() {
             return Ok(spans);
         }
-        place = next_place(rest);
+        position = next_position(rest);
         left = next_text(rest);
     }
     Ok(spans)

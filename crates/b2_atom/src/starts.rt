@@ -135,10 +135,10 @@ pub fn begins(origin: Origin, start: Start, text: &[u8]) -> bool
     starts_by(origin, start, class, after, here)
 }
 
-fn barred_following(place: Position, rule: Rule) -> bool
-    ensures { result ≡ spec.barred_following place rule }
+fn barred_following(position: Position, rule: Rule) -> bool
+    ensures { result ≡ spec.barred_following position rule }
 {
-    place == Position::Following && rule == Rule::AfterColon
+    position == Position::Following && rule == Rule::AfterColon
 }
 
 fn barred_line(origin: Origin, rule: Rule) -> bool
@@ -151,10 +151,10 @@ fn barred_line(origin: Origin, rule: Rule) -> bool
     }
 }
 
-fn barred_place(place: Position, rule: Rule) -> bool
-    ensures { result ≡ spec.barred_place place rule }
+fn barred_position(position: Position, rule: Rule) -> bool
+    ensures { result ≡ spec.barred_position position rule }
 {
-    match (place, rule) {
+    match (position, rule) {
         (Position::First, Rule::AfterColon) => true,
         (Position::Further | Position::Following, Rule::First | Rule::FirstInProgram) => true,
         _ => false,
@@ -162,15 +162,15 @@ fn barred_place(place: Position, rule: Rule) -> bool
 }
 
 /// The row of a form, where its rule allows it.
-fn allowed(origin: Origin, place: Position, form: &Form, text: &[u8]) -> Result<u16, Stop>
-    ensures row { result ≡ spec.allowed origin place form.now text.now }
+fn allowed(origin: Origin, position: Position, form: &Form, text: &[u8]) -> Result<u16, Stop>
+    ensures row { result ≡ spec.allowed origin position form.now text.now }
     ensures known { IfErr result (λ e. e ≢ Stop.NoMemory) }
 {
-    if barred_following(place, form.rule) {
+    if barred_following(position, form.rule) {
         Err(Stop::At(codes::S14_STATEMENT, text.len()))
     } else if barred_line(origin, form.rule) {
         Err(Stop::At(codes::S26_PROGRAM_ONLY, text.len()))
-    } else if barred_place(place, form.rule) {
+    } else if barred_position(position, form.rule) {
         Err(Stop::At(codes::S28_PLACE_ON_LINE, text.len()))
     } else {
         Ok(form.row)
@@ -179,8 +179,8 @@ fn allowed(origin: Origin, place: Position, form: &Form, text: &[u8]) -> Result<
 
 /// The row of the first form that begins, and else of an assignment.
 #[tactic(auto, unfolding(crate::specs::Grammar::starts))]
-fn row_at(forms: &[Form], origin: Origin, place: Position, text: &[u8]) -> Result<u16, Stop>
-    ensures row { result ≡ spec.row_at forms.now origin place text.now }
+fn row_at(forms: &[Form], origin: Origin, position: Position, text: &[u8]) -> Result<u16, Stop>
+    ensures row { result ≡ spec.row_at forms.now origin position text.now }
     ensures known { IfErr result (λ e. e ≢ Stop.NoMemory) }
 {
     let here = skipped(origin, text);
@@ -188,7 +188,7 @@ fn row_at(forms: &[Form], origin: Origin, place: Position, text: &[u8]) -> Resul
     let mut left = forms;
     while let [form, others @ ..] = left {
         if starts_by(origin, form.start, class, after, here) {
-            return allowed(origin, place, form, text);
+            return allowed(origin, position, form, text);
         }
         left = others;
     }
@@ -200,14 +200,14 @@ fn row_at(forms: &[Form], origin: Origin, place: Position, text: &[u8]) -> Resul
 
 /// The row of a statement at a text, and where to read it.
 #[tactic(auto, unfolding(crate::specs::Grammar::statement_row))]
-pub fn statement_row(origin: Origin, place: Position, text: &[u8]) -> Result<(u16, &[u8]), Stop>
+pub fn statement_row(origin: Origin, position: Position, text: &[u8]) -> Result<(u16, &[u8]), Stop>
     ensures known { IfErr result (λ e. e ≢ Stop.NoMemory) }
-    ensures row { MatchResult result (λ r. spec.statement_row origin place text.now ≡ Ok (r.0, r.1.now)) (λ e. spec.statement_row origin place text.now ≡ Err e) }
+    ensures row { MatchResult result (λ r. spec.statement_row origin position text.now ≡ Ok (r.0, r.1.now)) (λ e. spec.statement_row origin position text.now ≡ Err e) }
 {
     let here = skipped(origin, text);
     if is_source(origin) && begins_with(b"LET", here) {
         return Ok((rows::ASSIGNMENT, rest_after(here, 3)));
     }
-    let row = row_at(&FORMS, origin, place, here)?;
+    let row = row_at(&FORMS, origin, position, here)?;
     Ok((row, here))
 }

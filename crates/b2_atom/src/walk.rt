@@ -4,10 +4,10 @@ ghost use Rattle.b2_atom.specs.Tree.{seen_output, Takes};
 ghost use Rattle.b2_atom.specs.Grammar as spec;
 
 use crate::forms::{Item, Position, Start};
-use crate::marks::read_item;
 use crate::output::{Output, Stop};
 use crate::rows;
 use crate::starts::{begins, statement_row};
+use crate::symbols::read_item;
 use crate::table::{ROWS_0, ROWS_1, ROWS_2, ROWS_3};
 use crate::words::Origin;
 use b2_base::codes;
@@ -19,10 +19,10 @@ pub const DEPTH: u8 = 32;
 pub const LEVELS: u8 = 40;
 
 /// A row of a table, or an empty one.
-fn row_in(table: &'static [&'static [Item]], place: usize) -> &'static [Item]
-    ensures { result.now ≡ get_or (map (λ r. r.now) table.now) place [] }
+fn row_in(table: &'static [&'static [Item]], index: usize) -> &'static [Item]
+    ensures { result.now ≡ get_or (map (λ r. r.now) table.now) index [] }
 {
-    match table.get(place) {
+    match table.get(index) {
         Some(row) => row,
         None => &[],
     }
@@ -33,16 +33,16 @@ fn row_in(table: &'static [&'static [Item]], place: usize) -> &'static [Item]
 fn row_items(number: u16) -> &'static [Item]
     ensures { result.now ≡ spec.row_items number }
 {
-    let place = usize::from(if number < 192 {
+    let index = usize::from(if number < 192 {
         number % 64
     } else {
         number - 192
     });
     match number / 64 {
-        0 => row_in(&ROWS_0, place),
-        1 => row_in(&ROWS_1, place),
-        2 => row_in(&ROWS_2, place),
-        _ => row_in(&ROWS_3, place),
+        0 => row_in(&ROWS_0, index),
+        1 => row_in(&ROWS_1, index),
+        2 => row_in(&ROWS_2, index),
+        _ => row_in(&ROWS_3, index),
     }
 }
 
@@ -84,7 +84,7 @@ fn take_item<'a>(
             }
             part(out, origin, fuel, room - 1, LEVELS, row, text)
         }
-        Item::Statement(place) => statement(out, origin, fuel, place, text),
+        Item::Statement(position) => statement(out, origin, fuel, position, text),
         Item::Word(_)
         | Item::Sign(_, _)
         | Item::Among(_, _, _)
@@ -159,23 +159,23 @@ pub fn statement<'a>(
     out: &mut Output,
     origin: Origin,
     fuel: usize,
-    place: Position,
+    position: Position,
     text: &'a [u8],
 ) -> Result<&'a [u8], Stop>
-    ensures { Takes (seen_output out.old) (spec.statement (spec.reader origin) fuel place text.now) (seen_output out.new) result }
+    ensures { Takes (seen_output out.old) (spec.statement (spec.reader origin) fuel position text.now) (seen_output out.new) result }
 {
     if fuel == 0 {
         return Ok(text);
     }
-    match statement_row(origin, place, text) {
+    match statement_row(origin, position, text) {
         Ok((row, here)) => part(out, origin, fuel - 1, DEPTH, LEVELS, row, here),
         Err(stop) => Err(stop),
     }
 }
 
 /// Reads a whole line.
-pub fn read_line<'a>(out: &mut Output, origin: Origin, text: &'a [u8]) -> Result<&'a [u8], Stop>
-    ensures { Takes (seen_output out.old) (spec.read_line origin text.now) (seen_output out.new) result }
+pub fn parse_line<'a>(out: &mut Output, origin: Origin, text: &'a [u8]) -> Result<&'a [u8], Stop>
+    ensures { Takes (seen_output out.old) (spec.parse_line origin text.now) (seen_output out.new) result }
 {
     part(out, origin, text.len() + 1, DEPTH, LEVELS, rows::LINE, text)
 }

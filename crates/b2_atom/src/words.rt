@@ -403,9 +403,9 @@ pub fn begins_with(word: &[u8], text: &[u8]) -> bool
     true
 }
 
-/// The longest word of a table at a text: its length and its place, or length 0.
+/// The longest word of a table at a text: its length and its index, or length 0.
 fn longest(table: &[&[u8]], text: &[u8]) -> (usize, usize)
-    ensures place { result ≡ spec.longest (map (λ w. w.now) table.now) text.now (0, 0) 0 }
+    ensures index { result ≡ spec.longest (map (λ w. w.now) table.now) text.now (0, 0) 0 }
     ensures within { result.1 ≤ length table.now }
 {
     let mut best = (0, 0);
@@ -421,7 +421,7 @@ fn longest(table: &[&[u8]], text: &[u8]) -> (usize, usize)
     best
 }
 
-/// The longest word at a text: its length, or 0, and its place.
+/// The longest word at a text: its length, or 0, and its index.
 #[tactic(auto, unfolding(crate::specs::Words::word_at))]
 fn word_at(text: &[u8]) -> (usize, usize)
     ensures { result ≡ spec.word_at text.now }
@@ -440,10 +440,10 @@ pub fn skipped(origin: Origin, text: &[u8]) -> &[u8]
 }
 
 /// An entry of a table, or none.
-fn text_in(table: &'static [&'static [u8]], place: usize) -> &'static [u8]
-    ensures { result.now ≡ get_or (map (λ w. w.now) table.now) place [] }
+fn text_in(table: &'static [&'static [u8]], index: usize) -> &'static [u8]
+    ensures { result.now ≡ get_or (map (λ w. w.now) table.now) index [] }
 {
-    match table.get(place) {
+    match table.get(index) {
         Some(text) => text,
         None => &[],
     }
@@ -479,14 +479,14 @@ fn typed_ahead(text: &[u8]) -> (u8, &[u8])
     ensures class { result.0 ≡ (spec.typed_ahead text.now).0 }
     ensures after { result.1.now ≡ (spec.typed_ahead text.now).1 }
 {
-    let (length, place) = word_at(text);
+    let (length, index) = word_at(text);
     if length == 0 {
         return (upper(first(text)), rest_after(text, 1));
     }
-    if place >= CODED {
+    if index >= CODED {
         return (LEFT_OUT, rest_after(text, length));
     }
-    longer_word(place as u8 + REM, rest_after(text, length))
+    longer_word(index as u8 + REM, rest_after(text, length))
 }
 
 /// What stands at a text, a word's code or a byte or 0 at the end, and what follows it.

@@ -6,7 +6,7 @@ use Rattle.b2_access.specs.declared.objects.Object.{Object}
 use Rattle.b2_access.specs.Objects.{same_object}
 use Rattle.b2_access.specs.Store.{IsIn}
 use Rattle.b2_audit.specs.PartSets.{with_part, without_part, has_other}
-use Rattle.b2_audit.specs.Marks.{Marks, Writers, object_place, set_at, writers_of, touch, write, touch_all, write_all}
+use Rattle.b2_audit.specs.Marks.{Marks, Writers, object_index, set_at, writers_of, touch, write, touch_all, write_all}
 use Rattle.b2_audit.specs.Steps.{IsPartition, IsMarked, AreMarked}
 use Rattle.b2_audit.proofs.PartBits.{other_with_same, other_with_other}
 use Rattle.b2_audit.proofs.Places.{as_many, writes_here, writes_elsewhere}
@@ -27,7 +27,7 @@ touching_keeps who [] m = refl
 touching_keeps who (o ∷ os) m = touching_keeps who os (touch who o m) ∙ touch_keeps who o m
 
 pub foul_by_writers : (p : ℕ) (o : Object) (m n : Marks) → m.writers ≡ n.writers → is_foul p o m ≡ is_foul p o n
-foul_by_writers p o m n same = ap (λ (w : Writers). has_other (set_at (object_place o) o w) p) same
+foul_by_writers p o m n same = ap (λ (w : Writers). has_other (set_at (object_index o) o w) p) same
 
 pub touch_leaves_foul : (p who : ℕ) (o x : Object) (m : Marks) → is_foul p o (touch who x m) ≡ is_foul p o m
 touch_leaves_foul p who o x m = foul_by_writers p o (touch who x m) m (touch_keeps who x m)
@@ -36,7 +36,7 @@ touch_leaves_foul p who o x m = foul_by_writers p o (touch who x m) m (touch_kee
 abbrev FoulOr : ℕ → Object → Marks → Type 0 → Type 0
 FoulOr p o m P = (is_foul p o m ≡ true) ⊎ P
 
-foul_here : (p who : ℕ) (w : Object) (m : Marks) → IsPartition p → IsPartition who → IsMarked w → length m.writers.placed ≡ 60
+foul_here : (p who : ℕ) (w : Object) (m : Marks) → IsPartition p → IsPartition who → IsMarked w → length m.writers.indexed ≡ 60
     → (is_foul p w (write who w m) ≡ true) ↔ FoulOr p w m (who ≢ p)
 foul_here p who w m is_p is_who is_w whole =
     let by = ap (λ (n : ℕ). has_other n p) (writes_here who w m is_w whole) in
@@ -47,7 +47,7 @@ foul_here p who w m is_p is_who is_w whole =
       | inr other ↦ (λ h. inr other, λ h. by ∙ other_with_other (writers_of w m) p who is_p is_who other)
     ]
 
-foul_written : (p who : ℕ) (w o : Object) (m : Marks) → IsPartition p → IsPartition who → IsMarked w → IsMarked o → length m.writers.placed ≡ 60
+foul_written : (p who : ℕ) (w o : Object) (m : Marks) → IsPartition p → IsPartition who → IsMarked w → IsMarked o → length m.writers.indexed ≡ 60
     → (is_foul p o (write who w m) ≡ true) ↔ FoulOr p o m ((o ≡ w) × (who ≢ p))
 foul_written p who w o m is_p is_who is_w is_o whole = elim (same_object o w) [
   | inl e ↦
@@ -60,12 +60,12 @@ foul_written p who w o m is_p is_who is_w is_o whole = elim (same_object o w) [
       (λ h. inl (sym same ∙ h), λ h. elim h [ inl f ↦ same ∙ f | inr both ↦ absurd (apart both.0) ])
 ]
 
-pub still_whole : (who : ℕ) (ws : List Object) (m : Marks) → AreMarked ws → length (write_all who ws m).writers.placed ≡ length m.writers.placed
+pub still_whole : (who : ℕ) (ws : List Object) (m : Marks) → AreMarked ws → length (write_all who ws m).writers.indexed ≡ length m.writers.indexed
 still_whole who [] m are = refl
 still_whole who (w ∷ ws) m are = still_whole who ws (write who w m) (λ o i. are o (inr i)) ∙ as_many who w m (are w (inl refl))
 
 -- what is foul after some objects were written
-pub all_written : (p who : ℕ) (ws : List Object) (o : Object) (m : Marks) → IsPartition p → IsPartition who → AreMarked ws → IsMarked o → length m.writers.placed ≡ 60
+pub all_written : (p who : ℕ) (ws : List Object) (o : Object) (m : Marks) → IsPartition p → IsPartition who → AreMarked ws → IsMarked o → length m.writers.indexed ≡ 60
     → (is_foul p o (write_all who ws m) ≡ true) ↔ FoulOr p o m (IsIn o ws × (who ≢ p))
 all_written p who [] o m is_p is_who are is_o whole = (λ h. inl h, λ h. elim h [ inl f ↦ f | inr both ↦ absurd both.0 ])
 all_written p who (w ∷ ws) o m is_p is_who are is_o whole =

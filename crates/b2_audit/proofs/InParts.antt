@@ -12,15 +12,16 @@ pub written_in_turn : (who : ℕ) (os ps : List Object) (m : Marks) → write_al
 written_in_turn who [] ps m = refl
 written_in_turn who (o ∷ os) ps m = written_in_turn who os ps (write who o m)
 
--- three parts
-pub touched_in_parts : (who : ℕ) (xs ys zs : List Object) (m one two three : Marks) → one ≡ touch_all who xs m → two ≡ touch_all who ys one → three ≡ touch_all who zs two
-    → three ≡ touch_all who (xs ++ (ys ++ (zs ++ []))) m
-touched_in_parts who xs ys zs m one two three first second third =
-    third ∙ ap (touch_all who zs) (second ∙ ap (touch_all who ys) first)
-    ∙ sym (touched_in_turn who xs (ys ++ (zs ++ [])) m ∙ touched_in_turn who ys (zs ++ []) (touch_all who xs m) ∙ touched_in_turn who zs [] (touch_all who ys (touch_all who xs m)))
+-- four parts
+pub touched_in_parts : (who : ℕ) (xs ys zs ds : List Object) (m one two three four : Marks) → one ≡ touch_all who xs m → two ≡ touch_all who ys one → three ≡ touch_all who zs two → four ≡ touch_all who ds three
+    → four ≡ touch_all who (xs ++ (ys ++ (zs ++ (ds ++ [])))) m
+touched_in_parts who xs ys zs ds m one two three four first second third last =
+    last ∙ ap (touch_all who ds) (third ∙ ap (touch_all who zs) (second ∙ ap (touch_all who ys) first))
+    ∙ sym (touched_in_turn who xs (ys ++ (zs ++ (ds ++ []))) m ∙ touched_in_turn who ys (zs ++ (ds ++ [])) (touch_all who xs m)
+    ∙ touched_in_turn who zs (ds ++ []) (touch_all who ys (touch_all who xs m)) ∙ touched_in_turn who ds [] (touch_all who zs (touch_all who ys (touch_all who xs m))))
 
-pub written_in_parts : (who : ℕ) (xs ys zs : List Object) (m one two three : Marks) → one ≡ write_all who xs m → two ≡ write_all who ys one → three ≡ write_all who zs two
-    → three ≡ write_all who (xs ++ (ys ++ zs)) m
-written_in_parts who xs ys zs m one two three first second third =
-    third ∙ ap (write_all who zs) (second ∙ ap (write_all who ys) first)
-    ∙ sym (written_in_turn who xs (ys ++ zs) m ∙ written_in_turn who ys zs (write_all who xs m))
+pub written_in_parts : (who : ℕ) (xs ys zs ds : List Object) (m one two three four : Marks) → one ≡ write_all who xs m → two ≡ write_all who ys one → three ≡ write_all who zs two → four ≡ write_all who ds three
+    → four ≡ write_all who (xs ++ (ys ++ (zs ++ ds))) m
+written_in_parts who xs ys zs ds m one two three four first second third last =
+    last ∙ ap (write_all who ds) (third ∙ ap (write_all who zs) (second ∙ ap (write_all who ys) first))
+    ∙ sym (written_in_turn who xs (ys ++ (zs ++ ds)) m ∙ written_in_turn who ys (zs ++ ds) (write_all who xs m) ∙ written_in_turn who zs ds (write_all who ys (write_all who xs m)))

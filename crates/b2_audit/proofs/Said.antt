@@ -17,7 +17,7 @@ use Rattle.b2_audit.proofs.CleanSteps.{AreApart, CleanFrom, in_both, clean_steps
 
 -- the marks have these objects as foul to a partition
 pub record Stands (p : ℕ) (m : Marks) (os : List Object) : Type 0 where
-  pub whole : length m.writers.placed ≡ 60
+  pub whole : length m.writers.indexed ≡ 60
   pub dirty : (o : Object) → IsMarked o → (is_foul p o m ≡ true) ↔ IsIn o os
 
 -- at the start there are none
@@ -51,7 +51,7 @@ pub step_stands : (p : ℕ) (x : Step) (m : Marks) (os : List Object) → IsPart
 step_stands p x m os is_p is_who are h =
     let keeps = touching_keeps x.who x.touched m in
     let touched = touch_all x.who x.touched m in
-    let whole = ap (λ (w : Writers). length w.placed) keeps ∙ h.whole in
+    let whole = ap (λ (w : Writers). length w.indexed) keeps ∙ h.whole in
     record {
       whole = still_whole x.who x.written touched are ∙ whole;
       dirty = λ o is.

@@ -6,10 +6,10 @@ use Rattle.b2_access.specs.declared.objects.Object.{Object}
 use Rattle.b2_access.specs.declared.objects.Object.TheVariants as object
 use Rattle.b2_audit.specs.PartSets.{has, with_part, without_part, has_other}
 
--- Who wrote each object: the sets of those who wrote the objects that have places, and beside them the other objects that were
+-- Who wrote each object: the sets of those who wrote the objects that have indices, and beside them the other objects that were
 -- written, each with its set.
 pub record Writers : Type 0 where
-  pub placed : List ℕ
+  pub indexed : List ℕ
   pub others : List (Object × ℕ)
 
 -- with the set of the clean partitions
@@ -17,23 +17,23 @@ pub record Marks : Type 0 where
   pub writers : Writers
   pub clean : ℕ
 
--- The place of an object: texts, who stands inside each and `@` variables by partition, then terminals. Names and devices have
+-- The index of an object: texts, who stands inside each and `@` variables by partition, then terminals. Names and devices have
 -- none: each stands among the others once it was written.
-abbrev pub object_place : Object → Option ℕ
-object_place (object.Text p) = Some (p - 1)
-object_place (object.Borrow p) = Some (16 + (p - 1))
-object_place (object.Globals p) = Some (32 + (p - 1))
-object_place (object.Terminal t) = Some (48 + (t - 1))
-object_place o = None
+abbrev pub object_index : Object → Option ℕ
+object_index (object.Text p) = Some (p - 1)
+object_index (object.Borrow p) = Some (16 + (p - 1))
+object_index (object.Globals p) = Some (32 + (p - 1))
+object_index (object.Terminal t) = Some (48 + (t - 1))
+object_index o = None
 
 -- nobody wrote anything, and all sixteen partitions are clean
 abbrev pub unmarked : Marks
-unmarked = record { writers = record { placed = replicate 60 0; others = [] }; clean = 65535 }
+unmarked = record { writers = record { indexed = replicate 60 0; others = [] }; clean = 65535 }
 
 abbrev pub is_clean : ℕ → Marks → Bool
 is_clean p m = has m.clean p
 
--- whether two objects without places are the same
+-- whether two objects without indices are the same
 abbrev pub is_same : Object → Object → Bool
 is_same (object.Name n) (object.Name m) = bytes_eq n m
 is_same (object.Printer a) (object.Printer b) = bytes_eq a b
@@ -50,18 +50,18 @@ abbrev pub with_one_among : ℕ → Object → List (Object × ℕ) → List (Ob
 with_one_among who o [] = (o, with_part 0 who) ∷ []
 with_one_among who o (e ∷ es) = if is_same e.0 o then (e.0, with_part e.1 who) ∷ es else e ∷ with_one_among who o es
 
--- the set of an object, by its place, and the sets with one more partition there
+-- the set of an object, by its index, and the sets with one more partition there
 abbrev pub set_at : Option ℕ → Object → Writers → ℕ
 set_at None o w = set_among o w.others
-set_at (Some place) o w = get_or w.placed place 0
+set_at (Some index) o w = get_or w.indexed index 0
 
 abbrev pub with_one_at : Option ℕ → ℕ → Object → Writers → Writers
 with_one_at None who o w = record w { others = with_one_among who o w.others }
-with_one_at (Some place) who o w = record w { placed = set w.placed place (with_part (get_or w.placed place 0) who) }
+with_one_at (Some index) who o w = record w { indexed = set w.indexed index (with_part (get_or w.indexed index 0) who) }
 
 -- who wrote an object
 abbrev pub writers_of : Object → Marks → ℕ
-writers_of o m = set_at (object_place o) o m.writers
+writers_of o m = set_at (object_index o) o m.writers
 
 -- a partition touches an object
 abbrev pub touch : ℕ → Object → Marks → Marks
@@ -69,7 +69,7 @@ touch who o m = if has_other (writers_of o m) who then record m { clean = withou
 
 -- a partition writes an object
 abbrev pub write : ℕ → Object → Marks → Marks
-write who o m = record m { writers = with_one_at (object_place o) who o m.writers }
+write who o m = record m { writers = with_one_at (object_index o) who o m.writers }
 
 abbrev pub touch_all : ℕ → List Object → Marks → Marks
 touch_all who [] m = m

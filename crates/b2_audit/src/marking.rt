@@ -1,13 +1,14 @@
 // The marks of accesses: by what they reach, and by what they write of that.
-ghost use Rattle.std.specs.Prelude.{◌≡◌, OnOk, IfErr};
-ghost use Rattle.b2_access.specs.Reach.{objects_reached, objects_written, own_text_objects, reach_of, terminal_objects, text_objects, variable_objects};
+ghost use Rattle.std.specs.Prelude.{◌≡◌, OnOk, IfErr, IsSome};
+ghost use Rattle.b2_access.specs.Reach.{device_objects, disks_of, objects_reached, objects_written, platter_objects, reach_of, terminal_objects, text_objects, variable_objects, where_written};
 ghost use Rattle.b2_access.specs.Store.{StoreState};
 ghost use Rattle.b2_access.specs.Touching.{touched, written_by as objects_by_answer};
-ghost use Rattle.b2_audit.specs.Marks.{touch_all, write_all};
+ghost use Rattle.b2_audit.specs.Marks.{object_index, touch_all, write_all};
+ghost use Rattle.b2_audit.specs.Watching.{GrowsMarks};
 
 use crate::seen::Seen;
 use b2_access::{Access, Answer, Object, Reached, TextUse, Written, reached_by, written_by};
-use b2_base::{NoMemory, Part, Term};
+use b2_base::{Addr, NoMemory, Part, Term};
 
 /// Marks that a terminal is touched, where one is reached.
 fn touch_terminal(seen: &mut Seen, who: Part, terminal: Option<Term>)
@@ -41,6 +42,16 @@ fn touch_variables(seen: &mut Seen, who: Part, variables: bool)
     }
 }
 
+/// Marks that a platter is touched, and who holds it, where one is reached.
+fn touch_disk(seen: &mut Seen, who: Part, disk: Option<Addr>)
+    ensures { seen.new ≡ touch_all who (device_objects (disks_of disk)) seen.old }
+{
+    if let Some(addr) = disk {
+        seen.touch(who, Object::Hog(addr));
+        seen.touch(who, Object::Platter(addr));
+    }
+}
+
 /// Marks what is reached.
 #[tactic(auto, using(crate::proofs::InParts::touched_in_parts))]
 fn touch_reached(seen: &mut Seen, who: Part, reached: &Reached)
@@ -49,6 +60,7 @@ fn touch_reached(seen: &mut Seen, who: Part, reached: &Reached)
     touch_terminal(seen, who, reached.terminal);
     touch_text(seen, who, reached.text);
     touch_variables(seen, who, reached.variables);
+    touch_disk(seen, who, reached.disk);
 }
 
 /// Marks what an access touches, whatever it will be answered.
@@ -69,27 +81,26 @@ fn write_terminal(seen: &mut Seen, who: Part, terminal: Option<Term>) -> Result<
     }
 }
 
-/// Marks that the own text is written, where it is.
-fn write_text(seen: &mut Seen, who: Part, text: bool) -> Result<(), NoMemory>
-    ensures written { OnOk result (seen.new ≡ write_all who (own_text_objects who text) seen.old) }
-    ensures memory { IfErr result (λ _. ⊥) }
+/// Marks that an object is written, where it is. Memory fails only for a name or a device.
+fn write_where(seen: &mut Seen, who: Part, object: Object, written: bool) -> Result<(), NoMemory>
+    ensures written { OnOk result (seen.new ≡ write_all who (where_written written object) seen.old) }
+    ensures memory { IfErr result (λ _. object_index object ≡ None) }
 {
-    if text {
-        seen.write(who, Object::Text(who))
+    if written {
+        seen.write(who, object)
     } else {
         Ok(())
     }
 }
 
-/// Marks that the own `@` variables are written, where they are.
-fn write_variables(seen: &mut Seen, who: Part, variables: bool) -> Result<(), NoMemory>
-    ensures written { OnOk result (seen.new ≡ write_all who (variable_objects who variables) seen.old) }
-    ensures memory { IfErr result (λ _. ⊥) }
+/// Marks that a platter is written, where one is. Memory fails only there.
+fn write_platter(seen: &mut Seen, who: Part, platter: Option<Addr>) -> Result<(), NoMemory>
+    ensures written { OnOk result (seen.new ≡ write_all who (platter_objects platter) seen.old) }
+    ensures memory { IfErr result (λ _. IsSome platter) }
 {
-    if variables {
-        seen.write(who, Object::Globals(who))
-    } else {
-        Ok(())
+    match platter {
+        Some(addr) => seen.write(who, Object::Platter(addr)),
+        None => Ok(()),
     }
 }
 
@@ -97,14 +108,15 @@ fn write_variables(seen: &mut Seen, who: Part, variables: bool) -> Result<(), No
 #[tactic(auto, using(crate::proofs::InParts::written_in_parts))]
 fn write_each(seen: &mut Seen, who: Part, written: &Written) -> Result<(), NoMemory>
     ensures written { OnOk result (seen.new ≡ write_all who (objects_written written.now who) seen.old) }
-    ensures memory { IfErr result (λ _. ⊥) }
+    ensures memory { IfErr result (λ _. IsSome written.now.platter) }
 {
     write_terminal(seen, who, written.terminal)?;
-    write_text(seen, who, written.text)?;
-    write_variables(seen, who, written.variables)
+    write_where(seen, who, Object::Text(who), written.text)?;
+    write_where(seen, who, Object::Globals(who), written.variables)?;
+    write_platter(seen, who, written.platter)
 }
 
-/// Marks what an access wrote, by its answer. It takes no memory so far, since no access writes a name or a device.
+/// Marks what an access wrote, by its answer. Memory fails only where it may write an image.
 pub(crate) fn mark_written(
     seen: &mut Seen,
     who: Part,
@@ -112,7 +124,7 @@ pub(crate) fn mark_written(
     answer: &Answer,
 ) -> Result<(), NoMemory>
     ensures written { OnOk result (seen.new ≡ write_all who (objects_by_answer answer.now who access.now) seen.old) }
-    ensures memory { IfErr result (λ _. ⊥) }
+    ensures memory { IfErr result (λ _. GrowsMarks access.now) }
 {
     if answer.stops() {
         return Ok(());

@@ -1,6 +1,6 @@
 // The marks that partitions leave.
 ghost use Rattle.std.specs.Prelude.{◌≡◌, ◌<◌, None, OnOk, IfErr, IfSome, position};
-ghost use Rattle.b2_audit.specs.Marks.{unmarked, is_clean, is_same, object_place, set_among, with_one_among, writers_of, touch, write};
+ghost use Rattle.b2_audit.specs.Marks.{unmarked, is_clean, is_same, object_index, set_among, with_one_among, writers_of, touch, write};
 
 use crate::part_set::PartSet;
 use b2_access::Object;
@@ -9,14 +9,14 @@ use std::alloc::Global;
 use std::marker::Model;
 
 /// Texts, who stands inside each and `@` variables of sixteen partitions, and twelve terminals.
-const PLACES: usize = 60;
+const INDEXED: usize = 60;
 
 /// The marks that partitions leave where they touch and write: who wrote each object, and which partitions are clean. A partition is
 /// clean until it touches an object that another one wrote before.
 #[derive(Drop)]
 pub struct Seen {
-    // Those who wrote each object that has a place.
-    placed: [PartSet; PLACES],
+    // Those who wrote each object that has an index.
+    indexed: [PartSet; INDEXED],
     // Those who wrote each other object, once one did.
     others: Vec<(Object, PartSet)>,
     clean: PartSet,
@@ -27,13 +27,13 @@ impl Model for Seen {
 
     ghost Value = { Marks };
 
-    ghost view = { λ s. record { writers = record { placed = s.placed; others = s.others.items }; clean = s.clean } };
+    ghost view = { λ s. record { writers = record { indexed = s.indexed; others = s.others.items }; clean = s.clean } };
 }
 
-/// The place of an object, None for a name or a device.
-fn object_place(object: &Object) -> Option<usize>
-    ensures value { result ≡ object_place object.now }
-    ensures below { IfSome result (λ place. place < 60) }
+/// The index of an object, None for a name or a device.
+fn object_index(object: &Object) -> Option<usize>
+    ensures value { result ≡ object_index object.now }
+    ensures below { IfSome result (λ index. index < 60) }
 {
     match object {
         Object::Text(p) => Some(usize::from(p.number() - 1)),
@@ -44,7 +44,7 @@ fn object_place(object: &Object) -> Option<usize>
     }
 }
 
-/// Whether two objects without places are the same.
+/// Whether two objects without indices are the same.
 fn is_same(a: &Object, b: &Object) -> bool
     ensures { result ≡ is_same a.now b.now }
 {
@@ -69,14 +69,14 @@ fn is_same(a: &Object, b: &Object) -> bool
     }
 }
 
-/// The place of an object among the others, None where nobody wrote it.
-fn place_among(others: &[(Object, PartSet)], object: &Object) -> Option<usize>
+/// The index of an object among the others, None where nobody wrote it.
+fn index_among(others: &[(Object, PartSet)], object: &Object) -> Option<usize>
     ensures { result ≡ position (λ e. is_same e.0 object.now) others.now }
 {
     others.iter().position(|row| is_same(&row.0, object))
 }
 
-/// Who wrote an object without a place.
+/// Who wrote an object without an index.
 fn set_among(others: &[(Object, PartSet)], object: &Object) -> PartSet
     ensures { result ≡ set_among object.now others.now }
 {
@@ -88,13 +88,13 @@ fn set_among(others: &[(Object, PartSet)], object: &Object) -> PartSet
     PartSet::none()
 }
 
-/// Adds a partition to those who wrote an object without a place.
+/// Adds a partition to those who wrote an object without an index.
 fn add_among(others: &mut Vec<(Object, PartSet)>, who: Part, object: Object) -> Result<(), NoMemory>
     ensures { OnOk result (others.new.items ≡ with_one_among who object others.old.items) }
 {
-    match place_among(others, &object) {
-        Some(place) => {
-            let row = &mut others[place];
+    match index_among(others, &object) {
+        Some(index) => {
+            let row = &mut others[index];
             row.1 = row.1.with(who);
         }
         None => others.push((object, PartSet::none().with(who)))?,
@@ -108,7 +108,7 @@ impl Seen {
         ensures { result ≡ unmarked }
     {
         Seen {
-            placed: [PartSet::none(); PLACES],
+            indexed: [PartSet::none(); INDEXED],
             others: Vec::new(alloc),
             clean: PartSet::all(),
         }
@@ -125,8 +125,8 @@ impl Seen {
     fn writers_of(&self, object: &Object) -> PartSet
         ensures { result ≡ writers_of object.now self.now }
     {
-        match object_place(object) {
-            Some(place) => self.placed[place],
+        match object_index(object) {
+            Some(index) => self.indexed[index],
             None => set_among(&self.others, object),
         }
     }
@@ -143,11 +143,11 @@ impl Seen {
     /// Marks that a partition writes an object. Memory fails only for a name or a device.
     pub(crate) fn write(&mut self, who: Part, object: Object) -> Result<(), NoMemory>
         ensures written { OnOk result (self.new ≡ write who object self.old) }
-        ensures memory { IfErr result (λ _. object_place object ≡ None) }
+        ensures memory { IfErr result (λ _. object_index object ≡ None) }
     {
-        match object_place(&object) {
-            Some(place) => {
-                self.placed[place] = self.placed[place].with(who);
+        match object_index(&object) {
+            Some(index) => {
+                self.indexed[index] = self.indexed[index].with(who);
                 Ok(())
             }
             None => add_among(&mut self.others, who, object),

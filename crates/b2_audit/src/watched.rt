@@ -29,7 +29,8 @@ impl<S: Shared> Shared for Watched<'_, S> {
     ghost use Rattle.std.proofs.Common.{ap};
     ghost use Rattle.std.specs.Borrow.{GName};
     ghost use Rattle.b2_audit.specs.Marks.{Marks, touch_all};
-    ghost use Rattle.b2_audit.specs.Watching.{watching, watched_loan, lent_to, watching_is_local, watching_keeps_listed, watched_loan_globals};
+    ghost use Rattle.std.specs.Prelude.{◌⊎◌};
+    ghost use Rattle.b2_audit.specs.Watching.{GrowsMarks, watching, watched_loan, lent_to, watching_is_local, watching_keeps_listed, watched_loan_globals};
 
     ghost Meaning = { S.Meaning × Marks };
 
@@ -39,7 +40,7 @@ impl<S: Shared> Shared for Watched<'_, S> {
 
     ghost serving = { watching S.store S.serving };
 
-    ghost wants = { S.wants };
+    ghost wants = { λ a. S.wants a ⊎ GrowsMarks a };
 
     ghost lending = { watched_loan S.lending };
 

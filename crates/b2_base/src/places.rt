@@ -23,6 +23,17 @@ impl Model for Part {
     ghost inverse = { λ n. record { number = n } };
 }
 
+/// The first partition.
+impl Default for Part {
+    ghost use Rattle.std.specs.Prelude.{◌≡◌};
+
+    ghost is_default = { λ p. p ≡ 1 };
+
+    fn default() -> Part {
+        Part { number: 1 }
+    }
+}
+
 impl Part {
     /// The partition of a number, None outside 1 to 16.
     pub fn of(n: u8) -> Option<Part>

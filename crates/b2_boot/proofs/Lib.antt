@@ -1,4 +1,6 @@
 pub mod Sorted
+pub mod ByAddress
+pub mod Sources
 pub mod Passed
 pub mod Shuffled
 pub mod Lines

@@ -1,21 +1,26 @@
 -- The boot: what a file says, its checks and the first that fails, and the boot of a file that passes them all.
-use Rattle.std.specs.Prelude.{◌≡◌, ℕ, zero, suc, ◌<◌, List, [], ◌∷◌, ◌++◌, length, map, Bool, true, ◌&&◌, ◌==◌, not, nat_le, Option, Some, None, Result, Ok, Err, if◌then◌else◌}
+use Rattle.std.specs.Prelude.{◌≡◌, ℕ, zero, suc, ◌+◌, ◌*◌, ◌<◌, ◌≤◌, List, [], ◌∷◌, ◌++◌, length, map, codes, Bool, true, false, ◌&&◌, ◌==◌, not, nat_le, nat_lt, Option, Some, None, Result, Ok, Err, if◌then◌else◌}
 use Rattle.std.specs.List.{list_all, list_any}
 use Rattle.std.specs.List.Sorted.{IsPermutation}
 use Rattle.b2_boot.specs.declared.rows.TerminalRow.{TerminalRow}
+use Rattle.b2_base.specs.Lexical.{first, hex_value}
+use Rattle.b2_base.specs.Names.{is_address, is_file_name}
 use Rattle.b2_boot.specs.declared.rows.PartitionRow.{PartitionRow}
+use Rattle.b2_boot.specs.declared.rows.PlatterRow.{PlatterRow}
 use Rattle.b2_boot.specs.declared.boot.BootTerminal.{BootTerminal}
 use Rattle.b2_boot.specs.declared.boot.BootPartition.{BootPartition}
+use Rattle.b2_boot.specs.declared.boot.BootPlatter.{BootPlatter}
 use Rattle.b2_boot.specs.declared.boot_file.BootErr.{BootErr}
 use Rattle.b2_boot.specs.declared.boot_file.BootErr.TheVariants as refused
 use Rattle.toml.specs.Data.{Members}
-use Rattle.b2_boot.specs.Rows.{RowsState, document_of, document_rows, is_between}
+use Rattle.b2_boot.specs.Rows.{RowsState, document_of, document_rows, is_between, spells}
 
--- a boot: the quota of a turn, and its terminals and partitions by number
+-- a boot: the quota of a turn, its terminals and partitions by number, and its platters by address
 pub record BootState : Type 0 where
   pub quota : ℕ
   pub terminals : List BootTerminal
   pub partitions : List BootPartition
+  pub platters : List BootPlatter
 
 -- the numbers of rows
 abbrev pub terminal_numbers : List TerminalRow → List ℕ
@@ -29,9 +34,9 @@ abbrev pub stand_once : ℕ → List ℕ → Bool
 stand_once most [] = true
 stand_once most (n ∷ ns) = (is_between 1 most n && not (list_any (λ m. m == n) ns)) && stand_once most ns
 
--- 3: there are 1 to 12 terminals, and 1 to 16 partitions
+-- 3: there are 1 to 12 terminals, 1 to 16 partitions, and at most 8 platters
 abbrev pub are_counted : RowsState → Bool
-are_counted b = is_between 1 12 (length b.terminals) && is_between 1 16 (length b.partitions)
+are_counted b = is_between 1 12 (length b.terminals) && (is_between 1 16 (length b.partitions) && nat_le (length b.platters) 8)
 
 -- 6: text and data are 2 to 24 KiB, and globals at most 8
 abbrev pub sizes_fit : PartitionRow → Bool
@@ -50,6 +55,39 @@ is_partition_at t n rows = list_any (λ p. (p.number == n) && (p.terminal == t))
 
 abbrev pub all_fronts_fit : List TerminalRow → List PartitionRow → Bool
 all_fronts_fit terminals partitions = list_all (λ t. is_partition_at t.number t.front partitions) terminals
+
+-- no two are the same
+abbrev pub all_differ : {A : Type 0} → (A → A → Bool) → List A → Bool
+all_differ same [] = true
+all_differ same (x ∷ xs) = not (list_any (same x) xs) && all_differ same xs
+
+-- 9: no two platters have one image name
+abbrev pub same_image : Option (List ℕ) → Option (List ℕ) → Bool
+same_image (Some name) (Some other) = spells name other
+same_image image other = false
+
+-- 10: an address is that of a platter by its first digit, and none stands twice
+abbrev pub is_platter_digit : ℕ → Bool
+is_platter_digit b = list_any (λ d. b == d) (codes "3BD")
+
+abbrev pub is_platter_address : List ℕ → Bool
+is_platter_address address = is_address address && is_platter_digit (first address)
+
+abbrev pub addresses_fit : List PlatterRow → Bool
+addresses_fit platters = list_all (λ p. is_platter_address p.address) platters && all_differ (λ p q. spells p.address q.address) platters
+
+-- 12: a disk is a platter that is listed
+abbrev pub is_listed : {A : Type 0} → (A → List ℕ) → List A → Option (List ℕ) → Bool
+is_listed address platters None = true
+is_listed address platters (Some disk) = list_any (λ p. spells disk (address p)) platters
+
+abbrev pub disks_listed : List PartitionRow → List PlatterRow → Bool
+disks_listed partitions platters = list_all (λ p. is_listed (λ q. q.address) platters p.disk) partitions
+
+-- 14: an image has the name of a file
+abbrev pub may_be_named : Option (List ℕ) → Bool
+may_be_named None = true
+may_be_named (Some name) = is_file_name name
 
 -- the first of some checks that fails
 abbrev pub first_failed : List (ℕ × Bool) → Option ℕ
@@ -76,40 +114,89 @@ number_of_terminal r = r.number
 abbrev pub number_of_partition : PartitionRow → ℕ
 number_of_partition r = r.number
 
--- the rows in ascending order
-abbrev pub ascending : RowsState → RowsState
-ascending b = record { quota = b.quota; terminals = rows_up_to number_of_terminal 12 b.terminals; partitions = rows_up_to number_of_partition 16 b.partitions }
+-- the terminals and the partitions in ascending order
+abbrev pub terminals_by_number : List TerminalRow → List TerminalRow
+terminals_by_number rows = rows_up_to number_of_terminal 12 rows
 
--- the checks of rows in ascending order
-abbrev pub checks_of_sorted : List TerminalRow → List PartitionRow → List (ℕ × Bool)
-checks_of_sorted terminals partitions =
-    (6, list_all sizes_fit partitions) ∷ (7, terminals_listed terminals partitions) ∷ (8, all_fronts_fit terminals partitions) ∷ []
+abbrev pub partitions_by_number : List PartitionRow → List PartitionRow
+partitions_by_number rows = rows_up_to number_of_partition 16 rows
 
--- the checks of what a document says; those of sizes and between rows look at the rows in ascending order
-abbrev pub checks : RowsState → RowsState → List (ℕ × Bool)
-checks written sorted =
-    (3, are_counted written) ∷ (4, stand_once 12 (terminal_numbers written.terminals)) ∷ (5, stand_once 16 (partition_numbers written.partitions))
-    ∷ checks_of_sorted sorted.terminals sorted.partitions
+-- the checks of platters, and of the disks of partitions
+abbrev pub checks_of_platters : List PartitionRow → List PlatterRow → List (ℕ × Bool)
+checks_of_platters partitions platters =
+    (9, all_differ (λ p q. same_image p.image q.image) platters) ∷ (10, addresses_fit platters)
+    ∷ (12, disks_listed partitions platters) ∷ (14, list_all (λ p. may_be_named p.image) platters) ∷ []
+
+-- the checks of terminals and partitions in ascending order, and of platters
+abbrev pub checks_of_sorted : List TerminalRow → List PartitionRow → List PlatterRow → List (ℕ × Bool)
+checks_of_sorted terminals partitions platters =
+    (6, list_all sizes_fit partitions) ∷ (7, terminals_listed terminals partitions) ∷ (8, all_fronts_fit terminals partitions)
+    ∷ checks_of_platters partitions platters
+
+-- the checks of what a document says; those of sizes and between rows look at terminals and partitions in ascending order
+abbrev pub checks : RowsState → List TerminalRow → List PartitionRow → List (ℕ × Bool)
+checks b terminals partitions =
+    (3, are_counted b) ∷ (4, stand_once 12 (terminal_numbers b.terminals)) ∷ (5, stand_once 16 (partition_numbers b.partitions))
+    ∷ checks_of_sorted terminals partitions b.platters
 
 abbrev pub check_of_rows : RowsState → Option ℕ
-check_of_rows b = first_failed (checks b (ascending b))
+check_of_rows b = first_failed (checks b (terminals_by_number b.terminals) (partitions_by_number b.partitions))
 
--- the numbers of a row are those of a terminal and of a partition
+-- the numbers of a row are those of a terminal and of a partition, its disk is an address, and an image has the name of a file
 abbrev pub has_places : TerminalRow → Bool
 has_places t = is_between 1 12 t.number && is_between 1 16 t.front
 
+abbrev pub may_be_address : Option (List ℕ) → Bool
+may_be_address None = true
+may_be_address (Some address) = is_address address
+
 abbrev pub has_its_places : PartitionRow → Bool
-has_its_places p = is_between 1 16 p.number && is_between 1 12 p.terminal
+has_its_places p = is_between 1 16 p.number && (is_between 1 12 p.terminal && may_be_address p.disk)
+
+abbrev pub is_spelled : PlatterRow → Bool
+is_spelled p = is_address p.address && may_be_named p.image
 
 abbrev pub boot_terminal : TerminalRow → BootTerminal
 boot_terminal r = record { number = r.number; front = r.front }
 
 abbrev pub partition_of : PartitionRow → BootPartition
-partition_of r = record { number = r.number; terminal = r.terminal; text = r.text; vars = r.vars; globals = r.globals }
+partition_of r = record { number = r.number; terminal = r.terminal; text = r.text; vars = r.vars; globals = r.globals; disk = r.disk }
 
--- the boot of rows in ascending order
+abbrev pub boot_platter : PlatterRow → BootPlatter
+boot_platter r = record { address = r.address; image = r.image; blank = r.blank }
+
+-- the number below 4,096 that the three digits of an address spell
+abbrev pub address_number : List ℕ → ℕ
+address_number (a ∷ b ∷ c ∷ []) = 256 * hex_value a + (16 * hex_value b + hex_value c)
+address_number address = 0
+
+abbrev pub number_of_platter : BootPlatter → ℕ
+number_of_platter p = address_number p.address
+
+-- one more before the first of a greater number
+abbrev pub placed : {A : Type 0} → (A → ℕ) → A → List A → List A
+placed number x [] = x ∷ []
+placed number x (y ∷ ys) = if nat_lt (number x) (number y) then x ∷ y ∷ ys else y ∷ placed number x ys
+
+-- the same in the order of their numbers
+abbrev pub in_order : {A : Type 0} → (A → ℕ) → List A → List A
+in_order number [] = []
+in_order number (x ∷ xs) = placed number x (in_order number xs)
+
+abbrev pub platters_by_address : List PlatterRow → List BootPlatter
+platters_by_address rows = in_order number_of_platter (map boot_platter rows)
+
+-- the boot of rows, with terminals and partitions in ascending order
+abbrev pub boot_with : RowsState → List TerminalRow → List PartitionRow → BootState
+boot_with b terminals partitions = record {
+  quota = b.quota;
+  terminals = map boot_terminal terminals;
+  partitions = map partition_of partitions;
+  platters = platters_by_address b.platters;
+}
+
 abbrev pub boot_from : RowsState → BootState
-boot_from b = record { quota = b.quota; terminals = map boot_terminal b.terminals; partitions = map partition_of b.partitions }
+boot_from b = boot_with b (terminals_by_number b.terminals) (partitions_by_number b.partitions)
 
 -- the boot of rows, or the check that they fail
 abbrev pub unless_failed : Option ℕ → BootState → Result BootState ℕ
@@ -118,7 +205,7 @@ unless_failed (Some check) b = Err check
 
 abbrev pub boot_by_rows : Option RowsState → Result BootState ℕ
 boot_by_rows None = Err 2
-boot_by_rows (Some b) = unless_failed (check_of_rows b) (boot_from (ascending b))
+boot_by_rows (Some b) = unless_failed (check_of_rows b) (boot_from b)
 
 abbrev pub boot_by_document : Option Members → Result BootState ℕ
 boot_by_document None = Err 1
@@ -147,6 +234,15 @@ abbrev pub Ascends : ℕ → List ℕ → Type 0
 Ascends above [] = Unit {0}
 Ascends above (n ∷ ns) = (above < n) × Ascends n ns
 
+-- an image or from 16 to 32,512 blank sectors, and not both
+abbrev pub is_either : Option (List ℕ) → Option ℕ → Bool
+is_either (Some name) None = true
+is_either None (Some sectors) = is_between 16 32512 sectors
+is_either image blank = false
+
+abbrev pub is_platter : BootPlatter → Bool
+is_platter p = is_platter_address p.address && (is_either p.image p.blank && may_be_named p.image)
+
 -- what every boot of a file is
 pub record IsGood (b : BootState) : Type 0 where
   pub quota : is_between 1 1000 b.quota ≡ true
@@ -155,12 +251,18 @@ pub record IsGood (b : BootState) : Type 0 where
   pub sizes : list_all (λ p. is_between 2 24 p.text && (is_between 2 24 p.vars && nat_le p.globals 8)) b.partitions ≡ true
   pub listed : list_all (λ p. has_terminal p.terminal b.terminals) b.partitions ≡ true
   pub fronts : list_all (λ t. has_partition t.number t.front b.partitions) b.terminals ≡ true
+  pub few_platters : length b.platters ≤ 8
+  pub platters_ascend : Ascends 0 (map number_of_platter b.platters)
+  pub platters : list_all is_platter b.platters ≡ true
+  pub images : all_differ (λ p q. same_image p.image q.image) b.platters ≡ true
+  pub disks : list_all (λ p. is_listed (λ q. q.address) b.platters p.disk) b.partitions ≡ true
 
 -- a boot has the quota and the rows of a file, in another order
 pub record Keeps (rows : RowsState) (b : BootState) : Type 0 where
   pub quota : b.quota ≡ rows.quota
   pub terminals : IsPermutation (map boot_terminal rows.terminals) b.terminals
   pub partitions : IsPermutation (map partition_of rows.partitions) b.partitions
+  pub platters : IsPermutation (map boot_platter rows.platters) b.platters
 
 -- there are rows, and a boot keeps them
 abbrev pub KeepsRows : Option RowsState → BootState → Type 0

@@ -1,7 +1,7 @@
 -- What a boot file says before its checks: the rows of its tables, in the file's order.
 use Rattle.std.specs.Prelude.{ℕ, ℤ, pos, negsuc, List, [], ◌∷◌, codes, Bool, true, ◌&&◌, ◌||◌, min, nat_le, Option, Some, None, option_and_then, option_map, if◌then◌else◌}
 use Rattle.std.specs.Str.{is_utf8}
-use Rattle.toml.specs.Data.{Data, Items, no_items, item, Members, no_members, member, get_member, as_integer, as_array, as_table}
+use Rattle.toml.specs.Data.{Data, Items, no_items, item, Members, no_members, member, get_member, as_str, as_integer, as_array, as_table}
 use Rattle.toml.specs.Parse.{parse_document}
 use Rattle.std.specs.Cmp.Lexicographic.{pointwise}
 use Rattle.std.specs.Prelude.{nat_eq}
@@ -9,12 +9,14 @@ use Rattle.b2_boot.specs.declared.rows.Section.{Section}
 use Rattle.b2_boot.specs.declared.rows.Section.TheVariants as section
 use Rattle.b2_boot.specs.declared.rows.TerminalRow.{TerminalRow}
 use Rattle.b2_boot.specs.declared.rows.PartitionRow.{PartitionRow}
+use Rattle.b2_boot.specs.declared.rows.PlatterRow.{PlatterRow}
 
--- what a file says: its quota, and a row for each terminal and each partition
+-- what a file says: its quota, and a row for each terminal, each partition and each platter
 pub record RowsState : Type 0 where
   pub quota : ℕ
   pub terminals : List TerminalRow
   pub partitions : List PartitionRow
+  pub platters : List PlatterRow
 
 -- the document that bytes spell
 abbrev pub document_of : List ℕ → Option Members
@@ -33,11 +35,15 @@ spells word key = pointwise nat_eq key word
 
 -- the keys that the file and the rows of its tables may have
 abbrev pub is_known : Section → List ℕ → Bool
-is_known section.File key = spells (codes "quota") key || (spells (codes "terminal") key || spells (codes "partition") key)
+is_known section.File key =
+    spells (codes "quota") key || (spells (codes "terminal") key
+    || (spells (codes "partition") key || spells (codes "platter") key))
 is_known section.Terminal key = spells (codes "number") key || spells (codes "front") key
 is_known section.Partition key =
     spells (codes "number") key || (spells (codes "terminal") key
-    || (spells (codes "text") key || (spells (codes "data") key || spells (codes "globals") key)))
+    || (spells (codes "text") key || (spells (codes "data") key
+    || (spells (codes "globals") key || spells (codes "disk") key))))
+is_known section.Platter key = spells (codes "address") key || (spells (codes "image") key || spells (codes "blank") key)
 
 abbrev pub all_known : Section → Members → Bool
 all_known s no_members = true
@@ -46,6 +52,10 @@ all_known s (member key d ms) = is_known s key && all_known s ms
 -- the number at a key, which has to be there
 abbrev pub number_of_key : List ℕ → Members → Option ℕ
 number_of_key key ms = option_map small (option_and_then as_integer (get_member key ms))
+
+-- the text at a key, which has to be there
+abbrev pub text_of_key : List ℕ → Members → Option (List ℕ)
+text_of_key key ms = option_and_then as_str (get_member key ms)
 
 -- the tables at a key: none where the key isn't there
 abbrev pub items_of_key : Option Data → Option Items
@@ -63,7 +73,7 @@ terminal_said ms = if all_known section.Terminal ms then terminal_from (number_o
 -- the sizes of a partition: of its text, its variables and its globals
 abbrev pub sizes_from : Option ℕ → Option ℕ → Option ℕ → ℕ → ℕ → Option PartitionRow
 sizes_from (Some text) (Some vars) (Some globals) number terminal =
-    Some (record { number = number; terminal = terminal; text = text; vars = vars; globals = globals })
+    Some (record { number = number; terminal = terminal; text = text; vars = vars; globals = globals; disk = None })
 sizes_from text vars globals number terminal = None
 
 abbrev pub sizes_of : Members → ℕ → ℕ → Option PartitionRow
@@ -73,10 +83,42 @@ abbrev pub partition_from : Option ℕ → Option ℕ → (ℕ → ℕ → Optio
 partition_from (Some number) (Some terminal) sized = sized number terminal
 partition_from number terminal sized = None
 
+-- a partition with its disk, which may be left out
+abbrev pub with_disk : Option Data → PartitionRow → Option PartitionRow
+with_disk None r = Some r
+with_disk (Some d) r = option_map (λ text. record r { disk = Some text }) (as_str d)
+
 -- the row of a partition
 abbrev pub partition_row : Members → Option PartitionRow
 partition_row ms =
-    if all_known section.Partition ms then partition_from (number_of_key (codes "number") ms) (number_of_key (codes "terminal") ms) (sizes_of ms) else None
+    if all_known section.Partition ms then
+    option_and_then (with_disk (get_member (codes "disk") ms)) (partition_from (number_of_key (codes "number") ms) (number_of_key (codes "terminal") ms) (sizes_of ms))
+    else None
+
+-- a platter with an image
+abbrev pub of_image : List ℕ → Data → Option PlatterRow
+of_image address d = option_map (λ name. record { address = address; image = Some name; blank = None }) (as_str d)
+
+-- how many sectors a blank platter has: 16 to 32,512
+abbrev pub sectors_of : Option ℕ → Option ℕ
+sectors_of None = None
+sectors_of (Some sectors) = if is_between 16 32512 sectors then Some sectors else None
+
+-- a blank platter
+abbrev pub of_sectors : List ℕ → Data → Option PlatterRow
+of_sectors address d =
+    option_map (λ sectors. record { address = address; image = None; blank = Some sectors }) (sectors_of (option_map small (as_integer d)))
+
+-- a platter has an image or is blank, and not both
+abbrev pub platter_from : Option (List ℕ) → Option Data → Option Data → Option PlatterRow
+platter_from (Some address) (Some d) None = of_image address d
+platter_from (Some address) None (Some d) = of_sectors address d
+platter_from address image blank = None
+
+-- the row of a platter
+abbrev pub platter_row : Members → Option PlatterRow
+platter_row ms =
+    if all_known section.Platter ms then platter_from (text_of_key (codes "address") ms) (get_member (codes "image") ms) (get_member (codes "blank") ms) else None
 
 -- a row before others
 abbrev pub before_rows : {A : Type 0} → Option A → Option (List A) → Option (List A)
@@ -92,23 +134,33 @@ abbrev pub partition_rows : Items → Option (List PartitionRow)
 partition_rows no_items = Some []
 partition_rows (item d ds) = before_rows (option_and_then partition_row (as_table d)) (partition_rows ds)
 
+abbrev pub platter_rows : Items → Option (List PlatterRow)
+platter_rows no_items = Some []
+platter_rows (item d ds) = before_rows (option_and_then platter_row (as_table d)) (platter_rows ds)
+
 -- a quota is from 1 to 1000
 abbrev pub quota_of : Option ℕ → Option ℕ
 quota_of None = None
 quota_of (Some quota) = if is_between 1 1000 quota then Some quota else None
 
--- the rows of all terminals, and of all partitions
+-- the rows of all terminals, of all partitions, and of all platters
 abbrev pub terminals_said : Members → Option (List TerminalRow)
 terminals_said ms = option_and_then terminal_rows (items_of_key (get_member (codes "terminal") ms))
 
 abbrev pub partitions_of : Members → Option (List PartitionRow)
 partitions_of ms = option_and_then partition_rows (items_of_key (get_member (codes "partition") ms))
 
-abbrev pub rows_from : Option ℕ → Option (List TerminalRow) → Option (List PartitionRow) → Option RowsState
-rows_from (Some quota) (Some terminals) (Some partitions) = Some (record { quota = quota; terminals = terminals; partitions = partitions })
-rows_from quota terminals partitions = None
+abbrev pub platters_said : Members → Option (List PlatterRow)
+platters_said ms = option_and_then platter_rows (items_of_key (get_member (codes "platter") ms))
 
--- what a document says: each key known and there, of its kind, and a quota that is in range
+abbrev pub rows_from : Option ℕ → Option (List TerminalRow) → Option (List PartitionRow) → Option (List PlatterRow) → Option RowsState
+rows_from (Some quota) (Some terminals) (Some partitions) (Some platters) =
+    Some (record { quota = quota; terminals = terminals; partitions = partitions; platters = platters })
+rows_from quota terminals partitions platters = None
+
+-- what a document says: each key known and there, of its kind, and the quota and the sectors of blank platters in range
 abbrev pub document_rows : Members → Option RowsState
 document_rows ms =
-    if all_known section.File ms then rows_from (quota_of (number_of_key (codes "quota") ms)) (terminals_said ms) (partitions_of ms) else None
+    if all_known section.File ms then
+    rows_from (quota_of (number_of_key (codes "quota") ms)) (terminals_said ms) (partitions_of ms) (platters_said ms)
+    else None

@@ -2,8 +2,8 @@
 ghost use Rattle.std.specs.Prelude.{◌≡◌, IfOk, filter};
 ghost use Rattle.b2_boot.specs.Alone.{alone, is_in_group};
 
-use crate::boot::{Boot, BootPartition, BootTerminal};
-use b2_base::{NoMemory, Part};
+use crate::boot::{Boot, BootPartition, BootPlatter, BootTerminal};
+use b2_base::{FileName, NoMemory, Part};
 use std::alloc::Global;
 
 impl Boot {
@@ -15,6 +15,7 @@ impl Boot {
             quota: self.quota,
             terminals: terminals_copied(alloc, &self.terminals)?,
             partitions: members(alloc, &self.partitions, group)?,
+            platters: platters_copied(alloc, &self.platters)?,
         })
     }
 }
@@ -35,6 +36,45 @@ fn terminals_copied(
 {
     let mut copies = Vec::new(alloc);
     copies.extend_from_slice(terminals)?;
+    Ok(copies)
+}
+
+/// A name again.
+fn name_copied(name: &FileName) -> FileName
+    ensures { result ≡ name.now }
+{
+    FileName::empty().with(name.bytes())
+}
+
+/// A name again, where there is one.
+fn image_copied(image: &Option<FileName>) -> Option<FileName>
+    ensures { result ≡ image.now }
+{
+    match image {
+        Some(name) => Some(name_copied(name)),
+        None => None,
+    }
+}
+
+/// A platter again.
+fn platter_copied(platter: &BootPlatter) -> BootPlatter
+    ensures { result ≡ platter.now }
+{
+    BootPlatter {
+        address: platter.address,
+        image: image_copied(&platter.image),
+        blank: platter.blank,
+    }
+}
+
+/// All platters.
+fn platters_copied(alloc: Global, platters: &[BootPlatter]) -> Result<Vec<BootPlatter>, NoMemory>
+    ensures { IfOk result (λ copies. copies.items ≡ platters.now) }
+{
+    let mut copies = Vec::new(alloc);
+    for platter in platters {
+        copies.push(platter_copied(platter))?;
+    }
     Ok(copies)
 }
 

@@ -1,5 +1,5 @@
-// A boot: the quota of a turn, and its terminals and partitions by number.
-use b2_base::{Part, Term};
+// A boot: the quota of a turn, its terminals and partitions by number, and its platters by address.
+use b2_base::{Addr, FileName, Part, Term};
 use std::marker::Model;
 
 /// A terminal and the partition in front of it.
@@ -9,7 +9,8 @@ pub struct BootTerminal {
     pub front: Part,
 }
 
-/// A partition on its terminal. The sizes of its text, its variables and its globals are in KiB.
+/// A partition on its terminal, and its disk where it has one. The sizes of its text, its variables and its globals are in
+/// KiB.
 #[derive(Clone, Copy)]
 pub struct BootPartition {
     pub number: Part,
@@ -17,6 +18,15 @@ pub struct BootPartition {
     pub text: u16,
     pub vars: u16,
     pub globals: u16,
+    pub disk: Option<Addr>,
+}
+
+/// A platter at its address: the name of its image, or how many sectors it has, blank.
+#[derive(Drop)]
+pub struct BootPlatter {
+    pub address: Addr,
+    pub image: Option<FileName>,
+    pub blank: Option<u32>,
 }
 
 /// What the machine starts with. Contracts see it as one record of lists.
@@ -25,6 +35,7 @@ pub struct Boot {
     pub quota: u16,
     pub terminals: Vec<BootTerminal>,
     pub partitions: Vec<BootPartition>,
+    pub platters: Vec<BootPlatter>,
 }
 
 impl Model for Boot {
@@ -32,5 +43,5 @@ impl Model for Boot {
 
     ghost Value = { BootState };
 
-    ghost view = { λ b. record { quota = b.quota; terminals = b.terminals.items; partitions = b.partitions.items } };
+    ghost view = { λ b. record { quota = b.quota; terminals = b.terminals.items; partitions = b.partitions.items; platters = b.platters.items } };
 }

@@ -1,10 +1,11 @@
 // What a boot file says before its checks: the rows of its tables, in the file's order.
-ghost use Rattle.std.specs.Prelude.{◌≡◌, IfOk, IfSome, true, codes, option_map, option_and_then};
+ghost use Rattle.std.specs.Prelude.{◌≡◌, IfOk, IfSome, Some, true, codes, option_map, option_and_then};
+ghost use Rattle.std.specs.Option.{option_copied};
 ghost use Rattle.toml.specs.View.{view, table_view, items_view};
-ghost use Rattle.toml.specs.Data.{get_member, as_table};
+ghost use Rattle.toml.specs.Data.{get_member, as_integer, as_table};
 ghost use Rattle.b2_boot.specs.Rows as spec;
 
-use b2_base::NoMemory;
+use b2_base::{ByteList, NoMemory};
 use std::alloc::Global;
 use std::marker::Model;
 use toml::{Table, Value};
@@ -15,6 +16,7 @@ pub enum Section {
     File,
     Terminal,
     Partition,
+    Platter,
 }
 
 /// A terminal as it is written, with 65,535 in place of each number outside 0 to 65,535.
@@ -24,14 +26,25 @@ pub struct TerminalRow {
     pub front: u16,
 }
 
-/// A partition as it is written, with 65,535 in place of each number outside 0 to 65,535. Its sizes are in KiB.
-#[derive(Clone, Copy)]
+/// A partition as it is written, with 65,535 in place of each number outside 0 to 65,535. Its sizes are in KiB, and its disk
+/// may be any text.
+#[derive(Drop)]
 pub struct PartitionRow {
     pub number: u16,
     pub terminal: u16,
     pub text: u16,
     pub vars: u16,
     pub globals: u16,
+    pub disk: Option<ByteList>,
+}
+
+/// A platter as it is written: its address and the name of its image, which may be any texts, or how many sectors it has,
+/// blank.
+#[derive(Drop)]
+pub struct PlatterRow {
+    pub address: ByteList,
+    pub image: Option<ByteList>,
+    pub blank: Option<u16>,
 }
 
 /// All rows of a file. Contracts see it as the record of its lists.
@@ -40,6 +53,7 @@ pub struct BootRows {
     pub quota: u16,
     pub terminals: Vec<TerminalRow>,
     pub partitions: Vec<PartitionRow>,
+    pub platters: Vec<PlatterRow>,
 }
 
 impl Model for BootRows {
@@ -47,7 +61,7 @@ impl Model for BootRows {
 
     ghost Value = { RowsState };
 
-    ghost view = { λ b. record { quota = b.quota; terminals = b.terminals.items; partitions = b.partitions.items } };
+    ghost view = { λ b. record { quota = b.quota; terminals = b.terminals.items; partitions = b.partitions.items; platters = b.platters.items } };
 }
 
 /// The document that bytes spell, None where they spell none.
@@ -95,6 +109,7 @@ fn is_known(section: Section, key: &[u8]) -> bool
             key == b"quota".as_slice()
                 || key == b"terminal".as_slice()
                 || key == b"partition".as_slice()
+                || key == b"platter".as_slice()
         }
         Section::Terminal => key == b"number".as_slice() || key == b"front".as_slice(),
         Section::Partition => {
@@ -103,6 +118,10 @@ fn is_known(section: Section, key: &[u8]) -> bool
                 || key == b"text".as_slice()
                 || key == b"data".as_slice()
                 || key == b"globals".as_slice()
+                || key == b"disk".as_slice()
+        }
+        Section::Platter => {
+            key == b"address".as_slice() || key == b"image".as_slice() || key == b"blank".as_slice()
         }
     }
 }
@@ -119,12 +138,29 @@ fn all_known(section: Section, table: &Table) -> bool
     true
 }
 
+/// What stands at a key, None where nothing is there.
+fn value_at<'a>(table: &'a Table, key: &str) -> Option<&'a Value>
+    ensures { option_map (λ value. view value.now) result ≡ get_member key.now (table_view table.now) }
+{
+    table.get(key)
+}
+
 /// The number at a key, None where none is there.
 fn number_of_key(table: &Table, key: &str) -> Option<u16>
     ensures { result ≡ spec.number_of_key key.now (table_view table.now) }
 {
-    match table.get(key) {
+    match value_at(table, key) {
         Some(value) => small_if_some(value.as_integer()),
+        None => None,
+    }
+}
+
+/// The text at a key, None where none is there.
+fn text_of_key<'a>(table: &'a Table, key: &str) -> Option<&'a str>
+    ensures { option_copied result ≡ spec.text_of_key key.now (table_view table.now) }
+{
+    match value_at(table, key) {
+        Some(value) => value.as_str(),
         None => None,
     }
 }
@@ -164,16 +200,30 @@ fn sizes(table: &Table, number: u16, terminal: u16) -> Option<PartitionRow>
         text,
         vars,
         globals,
+        disk: None,
     })
 }
 
-/// The row of a partition, None where a key is unknown, missing or of another kind.
-fn partition_row(table: &Table) -> Option<PartitionRow>
-    ensures { result ≡ spec.partition_row (table_view table.now) }
+/// A partition with the disk that a value says, None where that is no text.
+fn on_disk(
+    alloc: Global,
+    row: PartitionRow,
+    value: &Value,
+) -> Result<Option<PartitionRow>, NoMemory>
+    ensures { IfOk result (λ found. found ≡ spec.with_disk (Some (view value.now)) row) }
 {
-    if !all_known(Section::Partition, table) {
-        return None;
-    }
+    let mut row = row;
+    let Some(text) = value.as_str() else {
+        return Ok(None);
+    };
+    row.disk = Some(ByteList::from_slice(alloc, text.as_bytes())?);
+    Ok(Some(row))
+}
+
+/// A partition but for its disk, None where a key is missing or of another kind.
+fn on_terminal(table: &Table) -> Option<PartitionRow>
+    ensures { result ≡ spec.partition_from (spec.number_of_key (codes "number") (table_view table.now)) (spec.number_of_key (codes "terminal") (table_view table.now)) (spec.sizes_of (table_view table.now)) }
+{
     let Some(number) = number_of_key(table, "number") else {
         return None;
     };
@@ -181,6 +231,103 @@ fn partition_row(table: &Table) -> Option<PartitionRow>
         return None;
     };
     sizes(table, number, terminal)
+}
+
+/// The row of a partition, None where a key is unknown, missing or of another kind.
+fn partition_row(alloc: Global, table: &Table) -> Result<Option<PartitionRow>, NoMemory>
+    ensures { IfOk result (λ found. found ≡ spec.partition_row (table_view table.now)) }
+{
+    if !all_known(Section::Partition, table) {
+        return Ok(None);
+    }
+    let Some(row) = on_terminal(table) else {
+        return Ok(None);
+    };
+    match value_at(table, "disk") {
+        Some(value) => on_disk(alloc, row, value),
+        None => Ok(Some(row)),
+    }
+}
+
+/// A platter with an image, None where that is no text.
+fn of_image(alloc: Global, address: &[u8], value: &Value) -> Result<Option<PlatterRow>, NoMemory>
+    ensures { IfOk result (λ found. found ≡ spec.of_image address.now (view value.now)) }
+{
+    let Some(name) = value.as_str() else {
+        return Ok(None);
+    };
+    Ok(Some(PlatterRow {
+        address: ByteList::from_slice(alloc, address)?,
+        image: Some(ByteList::from_slice(alloc, name.as_bytes())?),
+        blank: None,
+    }))
+}
+
+/// How many sectors a blank platter has, None outside 16 to 32,512.
+fn sectors(value: &Value) -> Option<u16>
+    ensures { result ≡ spec.sectors_of (option_map spec.small (as_integer (view value.now))) }
+{
+    let Some(sectors) = small_if_some(value.as_integer()) else {
+        return None;
+    };
+    if sectors >= 16 && sectors <= 32512 {
+        Some(sectors)
+    } else {
+        None
+    }
+}
+
+/// A blank platter, None where that is no number of sectors.
+fn of_sectors(alloc: Global, address: &[u8], value: &Value) -> Result<Option<PlatterRow>, NoMemory>
+    ensures { IfOk result (λ found. found ≡ spec.of_sectors address.now (view value.now)) }
+{
+    let Some(sectors) = sectors(value) else {
+        return Ok(None);
+    };
+    Ok(Some(PlatterRow {
+        address: ByteList::from_slice(alloc, address)?,
+        image: None,
+        blank: Some(sectors),
+    }))
+}
+
+/// A platter with an image or blank, None where it is both or neither.
+fn platter_from(
+    alloc: Global,
+    address: &[u8],
+    image: Option<&Value>,
+    blank: Option<&Value>,
+) -> Result<Option<PlatterRow>, NoMemory>
+    ensures { IfOk result (λ found. found ≡ spec.platter_from (Some address.now) (option_map (λ value. view value.now) image.entry) (option_map (λ value. view value.now) blank.entry)) }
+{
+    match image {
+        Some(value) => match blank {
+            Some(_) => Ok(None),
+            None => of_image(alloc, address, value),
+        },
+        None => match blank {
+            Some(value) => of_sectors(alloc, address, value),
+            None => Ok(None),
+        },
+    }
+}
+
+/// The row of a platter, None where a key is unknown, missing or of another kind.
+fn platter_row(alloc: Global, table: &Table) -> Result<Option<PlatterRow>, NoMemory>
+    ensures { IfOk result (λ found. found ≡ spec.platter_row (table_view table.now)) }
+{
+    if !all_known(Section::Platter, table) {
+        return Ok(None);
+    }
+    match text_of_key(table, "address") {
+        Some(address) => platter_from(
+            alloc,
+            address.as_bytes(),
+            value_at(table, "image"),
+            value_at(table, "blank"),
+        ),
+        None => Ok(None),
+    }
 }
 
 /// The row that an item of a table's array is, None where it is none.
@@ -194,12 +341,22 @@ fn terminal_in(item: &Value) -> Option<TerminalRow>
 }
 
 /// The row that an item of a table's array is, None where it is none.
-fn partition_in(item: &Value) -> Option<PartitionRow>
-    ensures { result ≡ option_and_then spec.partition_row (as_table (view item.now)) }
+fn partition_in(alloc: Global, item: &Value) -> Result<Option<PartitionRow>, NoMemory>
+    ensures { IfOk result (λ found. found ≡ option_and_then spec.partition_row (as_table (view item.now))) }
 {
     match item.as_table() {
-        Some(table) => partition_row(table),
-        None => None,
+        Some(table) => partition_row(alloc, table),
+        None => Ok(None),
+    }
+}
+
+/// The row that an item of a table's array is, None where it is none.
+fn platter_in(alloc: Global, item: &Value) -> Result<Option<PlatterRow>, NoMemory>
+    ensures { IfOk result (λ found. found ≡ option_and_then spec.platter_row (as_table (view item.now))) }
+{
+    match item.as_table() {
+        Some(table) => platter_row(alloc, table),
+        None => Ok(None),
     }
 }
 
@@ -223,7 +380,21 @@ fn partition_rows(alloc: Global, items: &[Value]) -> Result<Option<Vec<Partition
 {
     let mut rows = Vec::new(alloc);
     for item in items {
-        match partition_in(item) {
+        match partition_in(alloc, item)? {
+            Some(row) => rows.push(row)?,
+            None => return Ok(None),
+        }
+    }
+    Ok(Some(rows))
+}
+
+/// All items as rows, None where one is none.
+fn platter_rows(alloc: Global, items: &[Value]) -> Result<Option<Vec<PlatterRow>>, NoMemory>
+    ensures { IfOk result (λ found. option_map (λ rows. rows.items) found ≡ spec.platter_rows (items_view items.now)) }
+{
+    let mut rows = Vec::new(alloc);
+    for item in items {
+        match platter_in(alloc, item)? {
             Some(row) => rows.push(row)?,
             None => return Ok(None),
         }
@@ -235,7 +406,7 @@ fn partition_rows(alloc: Global, items: &[Value]) -> Result<Option<Vec<Partition
 fn items_at<'a>(table: &'a Table, key: &str) -> Option<&'a [Value]>
     ensures { option_map (λ items. items_view items.now) result ≡ spec.items_of_key (get_member key.now (table_view table.now)) }
 {
-    match table.get(key) {
+    match value_at(table, key) {
         Some(value) => match value.as_array() {
             Some(array) => Some(array.as_slice()),
             None => None,
@@ -279,7 +450,18 @@ fn partitions(alloc: Global, table: &Table) -> Result<Option<Vec<PartitionRow>>,
     }
 }
 
-/// What a document says, None where a key is unknown, missing or of another kind, or the quota is out of range.
+/// The rows of the platters, None where a key of one is unknown, missing or of another kind.
+fn platters(alloc: Global, table: &Table) -> Result<Option<Vec<PlatterRow>>, NoMemory>
+    ensures { IfOk result (λ found. option_map (λ rows. rows.items) found ≡ spec.platters_said (table_view table.now)) }
+{
+    match items_at(table, "platter") {
+        Some(items) => platter_rows(alloc, items),
+        None => Ok(None),
+    }
+}
+
+/// What a document says, None where a key is unknown, missing or of another kind, or the quota or a blank platter's sectors
+/// are out of range.
 pub fn boot_rows(alloc: Global, table: &Table) -> Result<Option<BootRows>, NoMemory>
     ensures value { IfOk result (λ found. found ≡ spec.document_rows (table_view table.now)) }
     ensures quota { IfOk result (λ found. IfSome found (λ rows. spec.is_between 1 1000 rows.quota ≡ true)) }
@@ -296,9 +478,13 @@ pub fn boot_rows(alloc: Global, table: &Table) -> Result<Option<BootRows>, NoMem
     let Some(partitions) = partitions(alloc, table)? else {
         return Ok(None);
     };
+    let Some(platters) = platters(alloc, table)? else {
+        return Ok(None);
+    };
     Ok(Some(BootRows {
         quota,
         terminals,
         partitions,
+        platters,
     }))
 }

@@ -5,7 +5,7 @@ use crate::answers::show_done;
 use crate::sessions::Session;
 use crate::words::{name, short, whole};
 use b2_atom::{Atoms, REM};
-use b2_base::Fault;
+use b2_base::{Fault, Name8};
 use b2_cases::Sheet;
 use b2_progfile::{load, move_file, move_platter, save};
 use b2_text::Text;
@@ -109,23 +109,27 @@ fn show_lines(text: &Text, sheet: &mut Sheet<'_>) {
     }
 }
 
+/// Saves lines as a new file, or into the sectors of a scratched one.
+fn save_lines(
+    session: &mut Session,
+    sheet: &mut Sheet<'_>,
+    from: u16,
+    to: u16,
+    old: Option<Name8>,
+    name: Name8,
+) {
+    let alloc = sheet.alloc();
+    let outcome = save(alloc, &mut session.disk, &session.text, from, to, old, name);
+    show_outcome(sheet, outcome);
+}
+
 /// `save-program FROM TO NAME`: saves lines as a new file.
 fn save_new(session: &mut Session, sheet: &mut Sheet<'_>) {
     let from = short(sheet);
     let to = short(sheet);
-    let Some(name) = name(sheet) else {
-        return;
-    };
-    let outcome = save(
-        sheet.alloc(),
-        &mut session.disk,
-        &session.text,
-        from,
-        to,
-        None,
-        name,
-    );
-    show_outcome(sheet, outcome);
+    if let Some(name) = name(sheet) {
+        save_lines(session, sheet, from, to, None, name);
+    }
 }
 
 /// `save-over FROM TO OLD NAME`: saves lines into the sectors of a scratched file.
@@ -133,19 +137,9 @@ fn save_over(session: &mut Session, sheet: &mut Sheet<'_>) {
     let from = short(sheet);
     let to = short(sheet);
     let old = name(sheet);
-    let Some(new) = name(sheet) else {
-        return;
-    };
-    let outcome = save(
-        sheet.alloc(),
-        &mut session.disk,
-        &session.text,
-        from,
-        to,
-        old,
-        new,
-    );
-    show_outcome(sheet, outcome);
+    if let Some(new) = name(sheet) {
+        save_lines(session, sheet, from, to, old, new);
+    }
 }
 
 /// `load-program NAME`: puts the lines of a file to those of the text; `load-instead NAME` in place of them.

@@ -45,7 +45,7 @@ same_row m n b c h is = grind (arith, nat_tests)
 
 of_unit : (u : LineUnit) (name : ℕ) → IsRowUnit u → (is_letter name || is_digit name) ≡ true → is_function name u.bytes ≡ true → is_part row.DEFFN u.bytes ≡ true
 of_unit u name r k h =
-    let is : IsRowUnit.row r ≡ row.DEFFN = same_row (IsRowUnit.row r) row.DEFFN _ _ h (function_is name u.place u.bytes (IsRowUnit.row r) (IsRowUnit.tree r) k (chosen_of u.place u.bytes (IsRowUnit.row r) (IsRowUnit.tree r) (IsRowUnit.read r))) in
+    let is : IsRowUnit.row r ≡ row.DEFFN = same_row (IsRowUnit.row r) row.DEFFN _ _ h (function_is name u.position u.bytes (IsRowUnit.row r) (IsRowUnit.tree r) k (chosen_of u.position u.bytes (IsRowUnit.row r) (IsRowUnit.tree r) (IsRowUnit.read r))) in
     subst (λ (n : ℕ). is_part n u.bytes ≡ true) is (IsRow.part (IsRowUnit.is r))
 
 among_units : (us : List LineUnit) (k name : ℕ) (bytes : Text) → All IsRowUnit us → option_map (λ (u : LineUnit). u.bytes) (slice_get us k) ≡ Some bytes

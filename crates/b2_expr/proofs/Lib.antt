@@ -11,9 +11,4 @@ pub mod Pairs
 pub mod Texts
 pub mod Defined
 pub mod Comparisons
-pub mod ReceiverRows
-pub mod OperationRows
-pub mod Portions
-pub mod Reaching
 pub mod Passed
-pub mod Ended

@@ -29,9 +29,9 @@ use Rattle.b2_rows.proofs.Lists.{goes}
 use Rattle.b2_rows.proofs.EachChain as each
 use Rattle.b2_expr.specs.Answers.{TextAnswer, ◌>>=◌}
 use Rattle.b2_expr.specs.Functions.{joined_text, count_or, binary_bytes, fixed}
-use Rattle.b2_expr.specs.Named.{Place, bytes_there}
+use Rattle.b2_expr.specs.Named.{Cell, bytes_there}
 use Rattle.b2_expr.specs.Scope.{Context}
-use Rattle.b2_expr.specs.Value.{value, text, further_text, text_row, text_operand, second, located, bytes_of_part, text_of_place, literal_bytes, hex_bytes, pairs_of}
+use Rattle.b2_expr.specs.Value.{value, text, further_text, text_row, text_operand, second, located, bytes_of_part, text_of_cell, literal_bytes, hex_bytes, pairs_of}
 use Rattle.b2_rows.specs.declared.operands.AlphaOperand.TheVariants as alpha_kind
 use Rattle.b2_expr.specs.declared.operators.Level.TheVariants as level
 use Rattle.b2_rows.proofs.RowsRead.{stands_of, shorter_at}
@@ -246,7 +246,7 @@ pub count_shorter : (t : Text) → is_part row.STRING_PART t ≡ true → length
 count_shorter t ok = let a = from_shorter t ok in let b = part_no_longer row.SUM (from_at t) in omega (arith, a, b)
 
 -- a variable
-pub variable_text : (e : Context) (a : Trees) → text_operand e alpha_kind.Variable a ≡ text_of_place (located e true a)
+pub variable_text : (e : Context) (a : Trees) → text_operand e alpha_kind.Variable a ≡ text_of_cell (located e true a)
 unfolding text_operand
 variable_text e Done = refl
 variable_text e (Put token more) = refl
@@ -260,8 +260,8 @@ taken_again (suc n) (b ∷ bytes) = ap (λ (t : List ℕ). b ∷ t) (taken_again
 value_taken : (bytes : List ℕ) → take (length (value_of bytes)) bytes ≡ value_of bytes
 value_taken bytes = taken_again _ bytes
 
-pub text_there : (e : Context) (a : Trees) (p : Place) (bytes part old : List ℕ) (n : ℕ) → located e true a ≡ Ok p → bytes_there p ≡ Ok bytes → n ≡ length (value_of bytes) → part ≡ take n bytes
+pub text_there : (e : Context) (a : Trees) (p : Cell) (bytes part old : List ℕ) (n : ℕ) → located e true a ≡ Ok p → bytes_there p ≡ Ok bytes → n ≡ length (value_of bytes) → part ≡ take n bytes
     → (text_operand e alpha_kind.Variable a >>= joined_text old) ≡ joined_text old part
 text_there e a p bytes part old n is_p is_b is_n is_part =
-    ap (λ (x : TextAnswer). x >>= joined_text old) (variable_text e a ∙ ap text_of_place is_p ∙ ap (λ (x : TextAnswer). x >>= (λ b. Ok (value_of b))) is_b)
+    ap (λ (x : TextAnswer). x >>= joined_text old) (variable_text e a ∙ ap text_of_cell is_p ∙ ap (λ (x : TextAnswer). x >>= (λ b. Ok (value_of b))) is_b)
     ∙ ap (joined_text old) (sym (is_part ∙ ap (λ (k : ℕ). take k bytes) is_n ∙ value_taken bytes))

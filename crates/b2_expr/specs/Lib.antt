@@ -1,7 +1,9 @@
 pub mod Answers
 pub mod Operators
 pub mod Functions
+pub mod Kinds
 pub mod Scope
+pub mod Workspace
 pub mod Named
 pub mod Value
 pub mod Levels
@@ -9,8 +11,3 @@ pub mod Unfinished
 pub mod Further
 pub mod Reads
 pub mod Condition
-pub mod Receivers
-pub mod RightSide
-pub mod Assigning
-pub mod Receiving
-pub mod ReceiverLaws

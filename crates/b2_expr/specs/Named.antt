@@ -14,7 +14,7 @@ use Rattle.b2_atom.specs.declared.words.Origin.TheVariants.{Atoms}
 use Rattle.b2_atom.specs.declared.forms.Leaf.{Leaf}
 use Rattle.b2_atom.specs.declared.forms.Leaf.TheVariants as leaf
 use Rattle.b2_rows.specs.declared.leaves.Name.{Name}
-use Rattle.b2_expr.specs.Answers.{Answer, TextAnswer, unless, or_code}
+use Rattle.b2_expr.specs.Answers.{Answer, TextAnswer, ◌>>=◌, unless, or_code}
 use Rattle.b2_expr.specs.Scope.{Surroundings}
 use Rattle.b2_expr.specs.declared.named.Element.{Element}
 use Rattle.b2_expr.specs.declared.named.Located.{Located}
@@ -26,7 +26,7 @@ abbrev pub variable_of : Name → Bool → Var
 variable_of name array = record { letter = name.letter; digit = name.digit; alpha = name.alpha; array = array }
 
 -- an element, and the variables among which it is looked for
-pub record Place : Type 0 where
+pub record Cell : Type 0 where
   pub vars : VarsState
   pub element : Element
 
@@ -35,17 +35,21 @@ abbrev pub variables_of : Surroundings → Name → Result VarsState ℕ
 variables_of e name = if name.global then or_code X77_NO_PARTITION e.globals else Ok e.own
 
 -- what is found there, or P59 or P57 where the array isn't there or has no such element
-abbrev pub there : {A : Type 0} → (ℕ → Option VariableState → A) → Place → Result A ℕ
+abbrev pub there : {A : Type 0} → (ℕ → Option VariableState → A) → Cell → Result A ℕ
 there read l =
     unless (get_code l.element.var l.element.row l.element.column l.vars.table)
     (read (cell_at (shape_at l.element.var l.vars.table) l.element.row l.element.column) (map.get l.vars.table l.element.var))
 
 -- the number of an element
-abbrev pub number_there : Place → Answer
+abbrev pub number_there : Cell → Answer
 number_there l = there number_at l
 
+-- a numeric element that is there, whose number isn't looked at
+abbrev pub element_there : Cell → Result Element ℕ
+element_there l = number_there l >>= (λ x. Ok l.element)
+
 -- all bytes of an element
-abbrev pub bytes_there : Place → TextAnswer
+abbrev pub bytes_there : Cell → TextAnswer
 bytes_there l = there alpha_at l
 
 -- the row of a name with subscripts or none, and whether it has a `$`
@@ -62,8 +66,8 @@ is_alpha_kind name_kind.NumberReceiver = false
 is_alpha_kind name_kind.AlphaReceiver = true
 
 -- what the code looks up
-abbrev pub place_seen : Located → Place
-place_seen l = record { vars = l.vars.now; element = l.element }
+abbrev pub cell_seen : Located → Cell
+cell_seen l = record { vars = l.vars.now; element = l.element }
 
 -- how it is typed
 abbrev pub name_leaf : NameKind → Leaf

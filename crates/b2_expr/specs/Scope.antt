@@ -3,7 +3,6 @@ use Rattle.std.specs.Prelude.{ℕ, ◌==◌, ◌&&◌, Bool, true, false, option
 use Rattle.b2_dec.specs.Number.{Number}
 use Rattle.b2_dec.specs.declared.number.Mode.{Mode}
 use Rattle.b2_vars.specs.Tables.{VarsState}
-use Rattle.b2_vars.specs.declared.setting.Setting.{Setting}
 use Rattle.b2_text.specs.Program.{TextState}
 use Rattle.b2_atom.specs.declared.words.TheConstants as word
 use Rattle.b2_rows.specs.declared.leaves.Name.{Name}
@@ -32,10 +31,6 @@ pub record Context : Type 0 where
 -- what the code lends as surroundings
 abbrev pub surroundings : Env → Surroundings
 surroundings e = record { own = e.own.now; globals = option_map (λ v. v.now) e.globals; home = e.home.now; mode = e.mode; err = e.err; part = e.part; term = e.term }
-
--- those of a statement, by a setting, variables and the text of the home; `@` variables come later, and until then there are none
-abbrev pub surroundings_of : Setting → VarsState → TextState → Surroundings
-surroundings_of a vars home = record { own = vars; globals = None; home = home; mode = a.mode; err = a.last; part = a.part; term = a.term }
 
 -- the last code, the partition or the terminal
 abbrev pub kept_number : Surroundings → ℕ → ℕ

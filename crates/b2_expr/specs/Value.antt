@@ -17,14 +17,13 @@ use Rattle.b2_rows.specs.Links.{token_code, first_code}
 use Rattle.b2_rows.specs.Values.{variable_name, literal_of, hex_byte_of, relation_of}
 use Rattle.b2_rows.specs.declared.leaves.Name.{Name}
 use Rattle.b2_text.specs.Program.{TextState}
-use Rattle.b2_vars.specs.Tables.{VarsState}
-use Rattle.b2_vars.specs.declared.setting.Setting.{Setting}
 use Rattle.b2_text.specs.Spots.{unit_at, is_function, first_opening}
 use Rattle.b2_expr.specs.Answers.{Answer, TextAnswer, ◌>>=◌, or_code}
 use Rattle.b2_expr.specs.Functions.{whole_number, subscript, column_written, whole_between, of_one, of_two, extreme, of_text, position_of, count_or, number_of, binary_bytes, joined_text, fixed}
-use Rattle.b2_expr.specs.Named.{Place, variable_of, variables_of, number_there, bytes_there}
+use Rattle.b2_expr.specs.Named.{Cell, variable_of, variables_of, number_there, bytes_there}
 use Rattle.b2_expr.specs.Operators.{joined, under_sign}
-use Rattle.b2_expr.specs.Scope.{Surroundings, Context, surroundings, surroundings_of, hidden_by, kept_number}
+use Rattle.b2_expr.specs.Scope.{Surroundings, Context, surroundings, hidden_by, kept_number}
+use Rattle.b2_expr.specs.Workspace.{WorkState, surroundings_of}
 use Rattle.b2_expr.specs.declared.scope.Parameter.{Parameter}
 use Rattle.b2_expr.specs.declared.scope.Scope.{Scope}
 use Rattle.b2_expr.specs.declared.named.Subscripts.{Subscripts}
@@ -106,7 +105,7 @@ branch_of (Put token more) = 0
 branch_of (In n a more) = n
 
 -- the element that a name and its subscripts stand for: X77 comes at the name, before the subscripts
-abbrev pub element : Surroundings → Name → ℕ → Result Subscripts ℕ → Result Place ℕ
+abbrev pub element : Surroundings → Name → ℕ → Result Subscripts ℕ → Result Cell ℕ
 element e name n subscripts =
     variables_of e name >>= (λ vars. subscripts >>= (λ at. Ok (record {
       vars = vars;
@@ -118,18 +117,18 @@ abbrev pub hidden_or : Option Number → Answer → Answer
 hidden_or (Some x) answer = Ok x
 hidden_or None answer = answer
 
-abbrev pub element_number : Result Place ℕ → Answer
+abbrev pub element_number : Result Cell ℕ → Answer
 element_number place = place >>= number_there
 
 abbrev pub named_number : Context → Name → ℕ → Result Subscripts ℕ → Answer
 named_number s name n subscripts = hidden_or (if n == 1 then None else hidden_by s.parameter name) (element_number (element s.around name n subscripts))
 
 -- the value of an alpha variable: its bytes but the blanks at their end
-abbrev pub text_of_place : Result Place ℕ → TextAnswer
-text_of_place place = place >>= bytes_there >>= (λ bytes. Ok (value_of bytes))
+abbrev pub text_of_cell : Result Cell ℕ → TextAnswer
+text_of_cell cell = cell >>= bytes_there >>= (λ bytes. Ok (value_of bytes))
 
 abbrev pub named_text : Context → Name → ℕ → Result Subscripts ℕ → TextAnswer
-named_text s name n subscripts = text_of_place (element s.around name n subscripts)
+named_text s name n subscripts = text_of_cell (element s.around name n subscripts)
 
 unfoldable mutual
   -- a row of a level of operators
@@ -218,7 +217,7 @@ unfoldable mutual
   text_operand s k t = Err S18_ALPHA
 
 -- the element that a name with subscripts or none stands for
-abbrev pub located : Context → Bool → Trees → Result Place ℕ
+abbrev pub located : Context → Bool → Trees → Result Cell ℕ
 located s alpha (Put token more) = element s.around (variable_name alpha (token_text token)) (branch_of more) (subscripts s more)
 located s alpha t = Err (if alpha then S18_ALPHA else S17_NUMERIC)
 
@@ -245,6 +244,6 @@ context s = record { around = surroundings s.env.now; parameter = s.parameter; c
 abbrev pub in_statement : Surroundings → Context
 in_statement e = record { around = e; parameter = None; call = called e 16 }
 
--- what the expressions of a statement look at, by a setting, variables and the text of the home
-abbrev pub context_of : Setting → VarsState → TextState → Context
-context_of a vars home = in_statement (surroundings_of a vars home)
+-- what the expressions of a statement look at in its workspace
+abbrev pub context_of : WorkState → Context
+context_of w = in_statement (surroundings_of w)

@@ -20,7 +20,7 @@ ghost use Rattle.b2_expr.specs.Functions.{joined_number, joined_text};
 ghost use Rattle.b2_expr.specs.Further.{after_further, are_further, further_tree};
 ghost use Rattle.b2_expr.specs.Levels.{are_lists, ends, left_after_levels, row_of_level, spans};
 ghost use Rattle.b2_expr.specs.Unfinished.{all_completed, have_room, left_after_all, level_after, lists_stand, past_sign, waiting_sign};
-ghost use Rattle.b2_expr.specs.Named.{after_name, is_alpha_kind, name_leaf, name_row, place_seen, variable_of, variables_of};
+ghost use Rattle.b2_expr.specs.Named.{after_name, is_alpha_kind, name_leaf, name_row, cell_seen, variable_of, variables_of};
 ghost use Rattle.b2_expr.specs.Scope.{surroundings};
 ghost use Rattle.b2_expr.specs.Reads.{Appends, Gives};
 ghost use Rattle.b2_expr.specs.Value as meaning;
@@ -479,7 +479,7 @@ pub fn located<'a, 'v>(
     text: &'a [u8],
 ) -> Result<(Located<'v>, &'a [u8]), Code>
     requires part { is_part (name_row kind) text.now ≡ true }
-    ensures place { MatchResult result (λ p. (located (context s.now) (is_alpha_kind kind) (tree_at (name_row kind) text.now) ≡ Ok (place_seen p.0)) × (p.1.now ≡ after_part (name_row kind) text.now)) (λ code. located (context s.now) (is_alpha_kind kind) (tree_at (name_row kind) text.now) ≡ Err code) }
+    ensures place { MatchResult result (λ p. (located (context s.now) (is_alpha_kind kind) (tree_at (name_row kind) text.now) ≡ Ok (cell_seen p.0)) × (p.1.now ≡ after_part (name_row kind) text.now)) (λ code. located (context s.now) (is_alpha_kind kind) (tree_at (name_row kind) text.now) ≡ Err code) }
     ensures name { IfOk result (λ p. (is_legal_name p.0.element.var ≡ true) × (p.0.element.var.alpha ≡ is_alpha_kind kind)) }
 {
     let (name, width) = name_at(kind, text);

@@ -1,8 +1,7 @@
 // Variables by their names as they are written.
 ghost use Rattle.std.specs.Prelude.{◌≡◌, ◌≤◌, true, false, length, MatchResult, IfOk, Ok, Err};
 ghost use Rattle.b2_vars.specs.Names.{is_legal_name};
-ghost use Rattle.b2_expr.specs.Named.{bytes_there, is_alpha_kind, number_there, place_seen, variable_of};
-ghost use Rattle.b2_expr.specs.Receivers.{element_there};
+ghost use Rattle.b2_expr.specs.Named.{bytes_there, element_there, is_alpha_kind, number_there, cell_seen, variable_of};
 
 use b2_base::Code;
 use b2_dec::Dec;
@@ -70,7 +69,7 @@ impl<'a> Located<'a> {
     pub fn number(&self) -> Result<Dec, Code>
         requires named { is_legal_name self.now.element.var ≡ true }
         requires number { self.now.element.var.alpha ≡ false }
-        ensures { result ≡ number_there (place_seen self.now) }
+        ensures { result ≡ number_there (cell_seen self.now) }
     {
         let element = self.element;
         self.vars.number(element.var, element.row, element.column)
@@ -79,7 +78,7 @@ impl<'a> Located<'a> {
     /// A numeric element that is there, whose number isn't read. P59 and P57 come as for its number.
     pub fn reached(&self) -> Result<Element, Code>
         requires named { is_legal_name self.now.element.var ≡ true }
-        ensures there { result ≡ element_there (place_seen self.now) }
+        ensures there { result ≡ element_there (cell_seen self.now) }
         ensures same { IfOk result (λ element. element ≡ self.now.element) }
     {
         let element = self.element;
@@ -96,7 +95,7 @@ impl<'a> Located<'a> {
     pub fn bytes(&self) -> Result<&'a [u8], Code>
         requires named { is_legal_name self.now.element.var ≡ true }
         requires alpha { self.now.element.var.alpha ≡ true }
-        ensures value { MatchResult result (λ x. bytes_there (place_seen self.now) ≡ Ok x.now) (λ code. bytes_there (place_seen self.now) ≡ Err code) }
+        ensures value { MatchResult result (λ x. bytes_there (cell_seen self.now) ≡ Ok x.now) (λ code. bytes_there (cell_seen self.now) ≡ Err code) }
         ensures short { IfOk result (λ x. length x.now ≤ 124) }
     {
         let element = self.element;

@@ -1,5 +1,4 @@
-// What stands after receivers, found without the values of their subscripts and numbers: an assignment takes its expression
-// first, and stands after them.
+// What stands after expressions, found without their values.
 ghost use Rattle.std.specs.Prelude.{◌≡◌, true};
 ghost use Rattle.b2_base.specs.Byte as byte;
 ghost use Rattle.b2_atom.specs.declared.rows.TheConstants as row;
@@ -12,14 +11,12 @@ ghost use Rattle.b2_atom.specs.Leaves.{leaf_width};
 ghost use Rattle.b2_atom.specs.declared.words.Origin.TheVariants.{Atoms};
 
 use crate::named::NameKind;
-use b2_atom::words::STR_OPEN;
 use b2_atom::{
     Origin, alpha_name_width, literal_width, number_width, numeric_name_width, relation_width,
 };
 use b2_base::lexical::rest_after;
 use b2_rows::{
-    AlphaOperand, Chain, Operand, alpha_operand_at, goes_on, has_sign, is_alpha_at, is_at,
-    is_hex_at, operand_at,
+    AlphaOperand, Chain, Operand, alpha_operand_at, goes_on, has_sign, is_at, is_hex_at, operand_at,
 };
 
 /// Past a sum.
@@ -243,7 +240,7 @@ fn width_of_name(kind: NameKind, text: &[u8]) -> usize
 /// Past a name with subscripts or none.
 #[cycle(passing)]
 #[tactic(auto, using(crate::proofs::Names::located_subscripts, crate::proofs::Names::located_rest, crate::proofs::Names::drop_no_longer))]
-fn past_name(kind: NameKind, text: &[u8]) -> &[u8]
+pub fn past_name(kind: NameKind, text: &[u8]) -> &[u8]
     requires part { is_part (name_row kind) text.now ≡ true }
     ensures { result.now ≡ after_part (name_row kind) text.now }
 {
@@ -316,45 +313,11 @@ fn past_binary(text: &[u8]) -> &[u8]
 /// Past STR.
 #[cycle(passing)]
 #[tactic(auto, using(crate::proofs::Texts::part_variable, crate::proofs::Texts::part_from, crate::proofs::Texts::part_count, crate::proofs::Texts::part_rest, crate::proofs::Texts::part_shorter, crate::proofs::Texts::from_shorter, crate::proofs::Texts::count_shorter))]
-fn past_part(text: &[u8]) -> &[u8]
+pub fn past_part(text: &[u8]) -> &[u8]
     requires part { is_part row.STRING_PART text.now ≡ true }
     ensures { result.now ≡ after_part row.STRING_PART text.now }
 {
     let comma = past_name(NameKind::AlphaReceiver, rest_after(text, 1));
     let after = past_sum(rest_after(comma, 1));
     rest_after(past_second(after), 1)
-}
-
-/// What stands after an alpha receiver.
-#[tactic(auto, using(crate::proofs::ReceiverRows::alpha_part_here, crate::proofs::ReceiverRows::alpha_part_rest, crate::proofs::ReceiverRows::alpha_whole_here, crate::proofs::ReceiverRows::alpha_whole_rest))]
-pub fn past_alpha_receiver(text: &[u8]) -> &[u8]
-    requires part { is_part row.ALPHA_RECEIVER text.now ≡ true }
-    ensures { result.now ≡ after_part row.ALPHA_RECEIVER text.now }
-{
-    if is_at(STR_OPEN, text) {
-        past_part(text)
-    } else {
-        past_name(NameKind::AlphaReceiver, text)
-    }
-}
-
-/// What stands after a receiver of either kind.
-#[tactic(auto, using(crate::proofs::ReceiverRows::any_alpha_here, crate::proofs::ReceiverRows::any_alpha_rest, crate::proofs::ReceiverRows::any_number_here, crate::proofs::ReceiverRows::any_number_rest))]
-pub fn past_any_receiver(text: &[u8]) -> &[u8]
-    requires part { is_part row.RECEIVER text.now ≡ true }
-    ensures { result.now ≡ after_part row.RECEIVER text.now }
-{
-    if is_alpha_at(text) {
-        past_alpha_receiver(text)
-    } else {
-        past_name(NameKind::NumberReceiver, text)
-    }
-}
-
-/// What stands after a numeric receiver.
-pub fn past_number_receiver(text: &[u8]) -> &[u8]
-    requires part { is_part row.NUMERIC_RECEIVER text.now ≡ true }
-    ensures { result.now ≡ after_part row.NUMERIC_RECEIVER text.now }
-{
-    past_name(NameKind::NumberReceiver, text)
 }

@@ -1,13 +1,13 @@
 // What expressions look at.
 ghost use Rattle.std.specs.Prelude.{◌≡◌};
-ghost use Rattle.b2_expr.specs.Scope.{hidden_by, is_same_name, kept_number, same_digit, surroundings, surroundings_of};
+ghost use Rattle.b2_expr.specs.Scope.{hidden_by, is_same_name, kept_number, same_digit, surroundings};
 
 use b2_atom::words::{ERR, HASH_PART};
 use b2_base::{Part, Term};
 use b2_dec::{Dec, Mode};
 use b2_rows::Name;
 use b2_text::Text;
-use b2_vars::{Setting, Vars};
+use b2_vars::Vars;
 
 /// What expressions look at.
 #[derive(Drop)]
@@ -26,21 +26,6 @@ pub struct Env<'a> {
     pub part: Part,
     /// Its terminal.
     pub term: Term,
-}
-
-/// What the expressions of a statement look at, by a setting, variables and the text of the home; without `@` variables.
-pub fn surroundings_of<'a>(a: &Setting, vars: &'a Vars, home: &'a Text) -> Env<'a>
-    ensures { surroundings result ≡ surroundings_of a.now vars.now home.now }
-{
-    Env {
-        own: vars,
-        globals: None,
-        home,
-        mode: a.mode,
-        err: a.last,
-        part: a.part,
-        term: a.term,
-    }
 }
 
 /// The parameter of a function that is called: its name and its value.

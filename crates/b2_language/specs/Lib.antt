@@ -1,1 +1,3 @@
 pub mod Languages
+pub mod Following
+pub mod Running

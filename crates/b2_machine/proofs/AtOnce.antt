@@ -1,10 +1,9 @@
 -- A statement that was found in a line of the program: what its step begins with is what is planned there.
-use Rattle.std.proofs.Common.{◌≡◌, ℕ, ◌==◌, Bool, true, false, true≢false, if◌then◌else◌, List, refl, sym, ap, ◌∙◌, arith, Option, Some, None, is_some}
+use Rattle.std.proofs.Common.{◌≡◌, ℕ, ◌==◌, Bool, true, false, true≢false, if◌then◌else◌, List, refl, sym, ap, ◌∙◌, arith, Option, Some}
 use Rattle.std.proofs.lemmas.Bool.Decides.{nat_tests}
 use Rattle.b2_atom.specs.Tree.{names_global}
 use Rattle.b2_atom.specs.declared.rows.TheConstants as row
 use Rattle.b2_flow.specs.declared.frame.Place.{Place}
-use Rattle.b2_text.specs.Program.{Lines}
 use Rattle.b2_access.specs.Lending.{SeenLent}
 use Rattle.b2_access.specs.Placed.{Statement, line_named, statement_placed, statement_on}
 use Rattle.b2_access.specs.Planning.{Planning}
@@ -19,11 +18,6 @@ chosen b x y is = ap (λ (c : Bool). if c then x else y) is
 
 otherwise : {A : Type 0} (b : Bool) (x y : A) → b ≡ false → (if b then x else y) ≡ y
 otherwise b x y is = ap (λ (c : Bool). if c then x else y) is
-
--- a line of the program is the same, whatever the immediate line is
-pub line_kept : (immediate other : Option (List ℕ)) (home : Lines) (n : Option ℕ) (line : List ℕ) → is_some n ≡ true → line_named immediate home n ≡ Some line → line_named other home n ≡ Some line
-line_kept immediate other home None line is h = absurd (true≢false (sym is))
-line_kept immediate other home (Some n) line is h = h
 
 module _ (ways : Ways) (lawful : AreLawful ways) where
   -- LIST is none of the language's rows

@@ -33,13 +33,13 @@ use Rattle.b2_access.specs.declared.planned.Planned.{Planned}
 use Rattle.b2_access.specs.declared.planned.Planned.TheVariants as planned
 use Rattle.b2_access.specs.declared.private.Private.{Private}
 use Rattle.b2_language.specs.Languages.{AreLawful, Ways}
+use Rattle.b2_language.specs.Following.{following_place, moves_to, units_at}
 use Rattle.b2_machine.specs.Keys.{calls, calls_where, pressed_by}
 use Rattle.b2_machine.specs.Listed.{lists}
-use Rattle.b2_machine.specs.Moving.{ends_by, enters_program, error_place, faults, goes_to, is_continue, is_taken, moves_to, following_place, units_at}
+use Rattle.b2_machine.specs.Moving.{ends_by, enters_program, error_place, faults, goes_to, is_continue, is_taken}
 use Rattle.b2_machine.specs.Readiness.{halted, resets}
 use Rattle.b2_machine.specs.Statements.{begins_where, begun_by, builder_of, finish_by, finishes, plan_by}
-use Rattle.b2_stmt_io.specs.Showing.{shown}
-use Rattle.b2_stmt_io.specs.Marks.{typed_by_mark}
+use Rattle.b2_access.specs.Marks.{typed_by_mark}
 use Rattle.b2_access.specs.declared.lending.At.TheVariants as at
 use Rattle.b2_access.proofs.Choice.{either}
 use Rattle.b2_machine.specs.Step.{acts, by_itself, halts_or_acts, enters_or_goes_on, executes, goes_through, line_read, runs_or_reads, seen_by, shows_or_goes_on, step, text_in, types_or_goes_on}
@@ -138,16 +138,12 @@ module _ (ways : Ways) (lawful : AreLawful ways) (p : Place) where
 
   plans : (b : Builder) (me : Private) (s : SeenLent) → Here me → PlannedHere (plan_by ways b p me s).me (plan_by ways b p me s).planned
   plans (builder.Listing from to) me s h = listed (is_some p.line) (from, to) me s h
-  plans (builder.Language n) me s h = (lawful.plans_in_place n me s ∙ h.0, λ r. lawful.plans_keep_none n me s (h.1 r))
+  plans (builder.Language n) me s h = ((lawful.leave_the_rest n).plans_in_place me s ∙ h.0, λ r. (lawful.leave_the_rest n).plans_keep_none me s (h.1 r))
   plans builder.Nobody me s h = (h.0, λ r. inl (h.1 r))
 
-  shown_here : (x : Access) (a : Answer) (me : Private) → Here me → EndedHere (shown x a me).me (shown x a me).outcome
-  shown_here (access.Show term shown_bytes column) answer.Done me h = (h.0, λ r. inl (h.1 r))
-  shown_here x a me h = (h.0, λ r. inl (h.1 r))
-
   finished : (b : Builder) (x : Access) (a : Answer) (me : Private) (s : SeenLent) → Here me → EndedHere (finish_by ways b x a me s).me (finish_by ways b x a me s).outcome
-  finished (builder.Listing from to) x a me s h = shown_here x a me h
-  finished (builder.Language n) x a me s h = (lawful.finishes_in_place n x a me s ∙ h.0, λ r. lawful.finishes_keep_none n x a me s (h.1 r))
+  finished (builder.Listing from to) x a me s h = (h.0, λ r. inl (h.1 r))
+  finished (builder.Language n) x a me s h = ((lawful.leave_the_rest n).finishes_in_place x a me s ∙ h.0, λ r. (lawful.leave_the_rest n).finishes_keep_none x a me s (h.1 r))
   finished builder.Nobody x a me s h = (h.0, λ r. inl (h.1 r))
 
   finish_keeps : (b : Builder) (x : Access) (a : Answer) (me : Private) (s : SeenLent) → Here me → KeepsNone (finishes ways b x a p me s).me

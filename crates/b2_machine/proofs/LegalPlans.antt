@@ -9,17 +9,17 @@ use Rattle.b2_access.specs.declared.planned.Planned.TheVariants as planned
 use Rattle.b2_access.specs.declared.private.Private.{Private}
 use Rattle.b2_language.specs.Languages.{AreLawful, IsLegalPlan, Ways}
 use Rattle.b2_machine.specs.Listed.{lists}
-use Rattle.b2_machine.specs.Stays.{IsLegalCourse}
+use Rattle.b2_machine.specs.Stays.{IsLegalProgress}
 use Rattle.b2_machine.specs.Statements.{Begun, begins, begins_where, begun_by, builder_of, plan_by}
 use Rattle.b2_machine.specs.declared.statements.Builder.{Builder}
 use Rattle.b2_machine.specs.declared.statements.Builder.TheVariants as builder
-use Rattle.b2_machine.specs.declared.statements.Course.{Course}
+use Rattle.b2_machine.specs.declared.statements.Progress.{Progress}
 
 listed : (b : Bool) (range : ℕ × ℕ) (me : Private) (s : SeenLent) → IsLegalPlan (lists b range me s).planned
 listed true range me s = tt
 listed false range me s = tt
 
-courses : (x : Planned) (b : Builder) (p : Place) (me : Private) (home : Lines) → IsLegalPlan x → IsLegalCourse (begun_by x b p me home).course
+courses : (x : Planned) (b : Builder) (p : Place) (me : Private) (home : Lines) → IsLegalPlan x → IsLegalProgress (begun_by x b p me home).progress
 courses (planned.Done o) b p me home h = tt
 courses (planned.Ask a) b p me home h = h
 
@@ -29,9 +29,9 @@ module _ (ways : Ways) (lawful : AreLawful ways) where
   planned_by (builder.Language r) p me s = lawful.plans_legally r me s
   planned_by builder.Nobody p me s = tt
 
-  begun_at : (o : Option Statement) (p : Place) (me : Private) (s : SeenLent) → IsLegalCourse (begins_where ways o p me s).course
+  begun_at : (o : Option Statement) (p : Place) (me : Private) (s : SeenLent) → IsLegalProgress (begins_where ways o p me s).progress
   begun_at None p me s = tt
   begun_at (Some u) p me s = let x = plan_by ways (builder_of ways u) p me s in courses x.planned (builder_of ways u) p x.me s.home.lines (planned_by (builder_of ways u) p me s)
 
-  pub legal_begun : (p : Place) (me after : Private) (s : SeenLent) (c : Course) → ◌≡◌ {A = Begun} (record { me = after; course = c }) (begins ways p me s) → IsLegalCourse c
-  legal_begun p me after s c is = subst (λ (b : Begun). IsLegalCourse b.course) (sym is) (begun_at (statement_placed p me.immediate s.home.lines) p me s)
+  pub legal_begun : (p : Place) (me after : Private) (s : SeenLent) (c : Progress) → ◌≡◌ {A = Begun} (record { me = after; progress = c }) (begins ways p me s) → IsLegalProgress c
+  legal_begun p me after s c is = subst (λ (b : Begun). IsLegalProgress b.progress) (sym is) (begun_at (statement_placed p me.immediate s.home.lines) p me s)

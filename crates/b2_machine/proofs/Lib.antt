@@ -10,5 +10,6 @@ pub mod StepHomes
 pub mod KeptPlace
 pub mod StepTerminal
 pub mod AtOnce
+pub mod Begins
 pub mod Counted
 pub mod Unchanged

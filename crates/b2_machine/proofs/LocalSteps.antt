@@ -28,8 +28,8 @@ use Rattle.b2_machine.specs.Touched.{Asking, GoesLocally, StepsAreLocal, access_
 use Rattle.b2_machine.specs.Typing.{put_by, puts_numbered, shown_by, shows_pending, typed_by_key}
 use Rattle.b2_machine.specs.declared.ends.Stepped.{Stepped}
 use Rattle.b2_machine.specs.declared.statements.Builder.{Builder}
-use Rattle.b2_machine.specs.declared.statements.Course.{Course}
-use Rattle.b2_machine.specs.declared.statements.Course.TheVariants as course
+use Rattle.b2_machine.specs.declared.statements.Progress.{Progress}
+use Rattle.b2_machine.specs.declared.statements.Progress.TheVariants as progress
 
 pub is_in : (o : Object) (os : List Object) → Decided (IsIn o os)
 is_in o [] = inr (λ h. h)
@@ -129,13 +129,13 @@ module _ (ways : Ways) {M : Type 0} (store : M → StoreState) (serving : Servin
 
   -- a statement that began: over what is lent, it has ended, or it asks and is lent its text again
   module _ (part : ℕ) (p : Place) (first : Private) where
-    over : Course → Private → M → StepEnd M
+    over : Progress → Private → M → StepEnd M
     over c me m = carries_out ways store serving lending c p me (lent store serving lending first m)
 
-    asks_over : Course → Private → Asking
+    asks_over : Progress → Private → Asking
     asks_over c me = record { who = me.part; access = access_asked c }
 
-    asked : (b : Builder) (a : Access) (me : Private) → Goes part (λ s. asks_over (course.Asks a b) me) (over (course.Asks a b) me)
+    asked : (b : Builder) (a : Access) (me : Private) → Goes part (λ s. asks_over (progress.Asks a b) me) (over (progress.Asks a b) me)
     unfolding over asks_over
     asked b a me = record {
       alike = λ m n agree.
@@ -166,7 +166,7 @@ module _ (ways : Ways) {M : Type 0} (store : M → StoreState) (serving : Servin
       within = λ m o i. inr (inr (local.within me.part a m o i));
     }
 
-    ended : (e : Stepped) (me : Private) → Goes part (λ s. asks_over (course.Ended e) me) (over (course.Ended e) me)
+    ended : (e : Stepped) (me : Private) → Goes part (λ s. asks_over (progress.Ended e) me) (over (progress.Ended e) me)
     unfolding over asks_over
     ended e me = record {
       alike = λ m n agree. record { touches = refl; wrote = refl; own = refl; end = refl; contents = λ o i. absurd i };
@@ -174,9 +174,9 @@ module _ (ways : Ways) {M : Type 0} (store : M → StoreState) (serving : Servin
       within = λ m o i. absurd i;
     }
 
-    began : (c : Course) (me : Private) → Goes part (λ s. asks_over c me) (over c me)
-    began (course.Ended e) me = ended e me
-    began (course.Asks a b) me = asked b a me
+    began : (c : Progress) (me : Private) → Goes part (λ s. asks_over c me) (over c me)
+    began (progress.Ended e) me = ended e me
+    began (progress.Asks a b) me = asked b a me
 
   -- the statement at a place
   by_statement : (p : Place) (me : Private) → Goes me.part (λ s. asks_at ways (Some p) me s) (λ m. executes ways store serving lending p me m)
@@ -186,16 +186,16 @@ module _ (ways : Ways) {M : Type 0} (store : M → StoreState) (serving : Servin
         let b = begins ways p me (seen_by me (store m)) in
         let same : begins ways p me (seen_by me (store m)) ≡ begins ways p me (seen_by me (store n)) =
         ap (λ (t : TextState). begins ways p me (record { own = t; home = t; globals = None })) (same_text me.part (store m) (store n) (agree (object.Text me.part) (inl refl))) in
-        let by = (began me.part p me b.course b.me).alike m n agree in
+        let by = (began me.part p me b.progress b.me).alike m n agree in
         record {
           touches = by.touches ∙ ap (λ (x : Begun). touched_by me.part (begun_asks x) (store n)) same;
           wrote = by.wrote ∙ ap (λ (x : Begun). written_for store serving (begun_asks x) n) same;
-          own = by.own ∙ ap (λ (x : Begun). (over me.part p me x.course x.me n).me) same;
-          end = by.end ∙ ap (λ (x : Begun). (over me.part p me x.course x.me n).end) same;
-          contents = λ o i. by.contents o i ∙ ap (λ (x : Begun). content (store (over me.part p me x.course x.me n).after) o) same;
+          own = by.own ∙ ap (λ (x : Begun). (over me.part p me x.progress x.me n).me) same;
+          end = by.end ∙ ap (λ (x : Begun). (over me.part p me x.progress x.me n).end) same;
+          contents = λ o i. by.contents o i ∙ ap (λ (x : Begun). content (store (over me.part p me x.progress x.me n).after) o) same;
         };
-    others = λ m o out. let b = begins ways p me (seen_by me (store m)) in (began me.part p me b.course b.me).others m o out;
-    within = λ m o i. let b = begins ways p me (seen_by me (store m)) in (began me.part p me b.course b.me).within m o i;
+    others = λ m o out. let b = begins ways p me (seen_by me (store m)) in (began me.part p me b.progress b.me).others m o out;
+    within = λ m o i. let b = begins ways p me (seen_by me (store m)) in (began me.part p me b.progress b.me).within m o i;
   }
 
   -- the six rules

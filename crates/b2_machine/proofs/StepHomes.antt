@@ -37,12 +37,16 @@ use Rattle.b2_access.specs.declared.planned.Planned.{Planned}
 use Rattle.b2_access.specs.declared.planned.Planned.TheVariants as planned
 use Rattle.b2_access.specs.declared.private.Private.{Private}
 use Rattle.b2_access.proofs.Choice.{either}
+use Rattle.b2_access.proofs.Shown.{shown_leads}
+use Rattle.b2_access.proofs.Working.{within}
 use Rattle.b2_language.specs.Languages.{AreLawful, Ways}
-use Rattle.b2_stmt_io.specs.Marks.{typed_by_mark}
+use Rattle.b2_access.specs.Marks.{typed_by_mark}
+use Rattle.b2_language.specs.Following.{following_place, moves_to, units_at}
 use Rattle.b2_machine.specs.Endings.{Ending, counts, repeats}
 use Rattle.b2_machine.specs.Keys.{called_at, calls_where, pressed_by}
 use Rattle.b2_machine.specs.Listed.{range_listed, lists}
-use Rattle.b2_machine.specs.Moving.{ends_by, enters_program, error_place, faults, goes_to, is_continue, is_taken, jumps, moves_to, following_place, units_at}
+use Rattle.b2_machine.specs.Messages.{shows_text}
+use Rattle.b2_machine.specs.Moving.{ends_by, enters_program, error_place, faults, goes_to, is_continue, is_taken, jumps}
 use Rattle.b2_machine.specs.Readiness.{halted, readies, resets, without_immediate_loops}
 use Rattle.b2_machine.specs.Statements.{begins, begins_where, begun_by, builder_of, finish_by, finishes, plan_by}
 use Rattle.b2_machine.specs.Step.{StepEnd, carries_out, enters_or_goes_on, halts_or_acts, lent, line_read, runs_or_reads, seen_by, shows_or_goes_on, step, text_in, types_or_goes_on}
@@ -51,9 +55,10 @@ use Rattle.b2_machine.specs.Typing.{line_taken, put_by, shown_by, shows_pending,
 use Rattle.b2_machine.specs.declared.ends.Stepped.{Stepped}
 use Rattle.b2_machine.specs.declared.statements.Builder.{Builder}
 use Rattle.b2_machine.specs.declared.statements.Builder.TheVariants as builder
-use Rattle.b2_machine.specs.declared.statements.Course.{Course}
-use Rattle.b2_machine.specs.declared.statements.Course.TheVariants as course
-use Rattle.b2_stmt_io.specs.Showing.{shown, shows_from}
+use Rattle.b2_machine.specs.declared.statements.Progress.{Progress}
+use Rattle.b2_machine.specs.declared.statements.Progress.TheVariants as progress
+use Rattle.b2_access.specs.Showing.{shown}
+use Rattle.b2_access.specs.Views.{column_shown}
 
 true_is_false : true ≡ false → ⊥
 true_is_false h = cc
@@ -173,16 +178,16 @@ module _ (ways : Ways) (lawful : AreLawful ways) (among : ℕ → Bool) where
   abbrev PlanningIn : Planning → Type 0
   PlanningIn x = IsWithin among x.me × PlannedIn among x.planned
 
-  show_marks_none : (column term : ℕ) (bytes : List ℕ) → HomesIn among (shows_from column term bytes)
-  show_marks_none column term bytes h is = absurd (true_is_false (sym is ∙ ap (λ (n : ℕ). n % 2 == 1) (zero-div (2 ^ (h - 1)))))
+  show_marks_none : (text : List ℕ) (me : Private) → HomesIn among (shows_text text me)
+  show_marks_none text me h is = absurd (true_is_false (sym is ∙ ap (λ (n : ℕ). n % 2 == 1) (zero-div (2 ^ (h - 1)))))
 
   listed_in : (b : Bool) (range : ℕ × ℕ) (me : Private) (s : SeenLent) → Within me → PlanningIn (lists b range me s)
   listed_in true range me s w = (w, tt)
-  listed_in false range me s w = (w, show_marks_none me.term_column me.term (range_listed range s.own.lines))
+  listed_in false range me s w = (w, show_marks_none (range_listed range s.own.lines) me)
 
   planned_in : (b : Builder) (p : Place) (me : Private) (s : SeenLent) → Within me → PlanningIn (plan_by ways b p me s)
   planned_in (builder.Listing from to) p me s w = listed_in (is_some p.line) (from, to) me s w
-  planned_in (builder.Language r) p me s w = lawful.plans_within r among me s w
+  planned_in (builder.Language r) p me s w = (lawful.leave_the_rest r).plans_within among me s w
   planned_in builder.Nobody p me s w = (w, tt)
 
   begun_in : (x : Planned) (b : Builder) (p : Place) (me : Private) (home : Lines) → among p.home ≡ true → PlannedIn among x → Within me → Within (begun_by x b p me home).me
@@ -198,13 +203,9 @@ module _ (ways : Ways) (lawful : AreLawful ways) (among : ℕ → Bool) where
   abbrev FinishingIn : Finishing → Type 0
   FinishingIn x = IsWithin among x.me × OutcomeIn among x.outcome
 
-  show_ended : (x : Access) (a : Answer) (me : Private) → Within me → IsWithin among (shown x a me).me × OutcomeIn among (shown x a me).outcome
-  show_ended (access.Show term bytes column) answer.Done me w = (record { part = w.part; place = w.place; kept = w.kept; frames = w.frames }, tt)
-  show_ended x a me w = (w, tt)
-
   finish_in : (b : Builder) (x : Access) (a : Answer) (me : Private) (s : SeenLent) → Within me → FinishingIn (finish_by ways b x a me s)
-  finish_in (builder.Listing from to) x a me s w = show_ended x a me w
-  finish_in (builder.Language r) x a me s w = lawful.finishes_within r among x a me s w
+  finish_in (builder.Listing from to) x a me s w = (within among me (shown x a me).work w, shown_leads among (column_shown x a) me)
+  finish_in (builder.Language r) x a me s w = (lawful.leave_the_rest r).finishes_within among x a me s w
   finish_in builder.Nobody x a me s w = (w, tt)
 
   finished_in : (b : Builder) (x : Access) (a : Answer) (p : Place) (me : Private) (s : SeenLent) → among p.home ≡ true → Within me → EndIn (finishes ways b x a p me s)
@@ -226,16 +227,16 @@ module _ (ways : Ways) (lawful : AreLawful ways) (among : ℕ → Bool) where
     read_in (answer.Special n) me m w = pressed_in (typed_by_mark n (text_in (store m) me.part).lines) (first_opening (is_mark n) (text_in (store m) me.part).lines) me w
     read_in x me m w = w
 
-    carried_in : (c : Course) (p : Place) (me : Private) (m : M) → among p.home ≡ true → Within me → Within (carries_out ways store serving lending c p me m).me
-    carried_in (course.Ended e) p me m h w = w
-    carried_in (course.Asks a b) p me m h w = finished_in b a (serving m me.part a).answer p me (seen_by me (store (serving m me.part a).after)) h w
+    carried_in : (c : Progress) (p : Place) (me : Private) (m : M) → among p.home ≡ true → Within me → Within (carries_out ways store serving lending c p me m).me
+    carried_in (progress.Ended e) p me m h w = w
+    carried_in (progress.Asks a b) p me m h w = finished_in b a (serving m me.part a).answer p me (seen_by me (store (serving m me.part a).after)) h w
 
     at_place : (x : Option Place) (me : Private) (m : M) → PlaceIn among x → Within me → StepIn (runs_or_reads ways store serving lending x me m) (asks_at ways x me (store m))
     at_place None me m h w = (read_in (serving m me.part (access.ReadLine me.term)).answer me (serving m me.part (access.ReadLine me.term)).after w, w.part)
     at_place (Some p) me m h w =
         let b = begins ways p me (seen_by me (store m)) in
         let x = begins_in (statement_placed p me.immediate (seen_by me (store m)).home.lines) p me (seen_by me (store m)) h w in
-        (carried_in b.course p b.me (lent store serving lending me m) h x, x.part)
+        (carried_in b.progress p b.me (lent store serving lending me m) h x, x.part)
 
     at_number : (x : Option (ℕ × Option (List ℕ))) (me : Private) (m : M) → Within me → StepIn (enters_or_goes_on ways store serving lending x me m) (asks_to_enter ways x me (store m))
     at_number (Some line) me m w = (put_in _ me w, w.part)

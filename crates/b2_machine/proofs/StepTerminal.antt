@@ -30,12 +30,13 @@ use Rattle.b2_access.specs.declared.private.Private.{Private}
 use Rattle.b2_access.proofs.Choice.{either}
 use Rattle.b2_access.proofs.OwnTerminal.{names_none, names_own}
 use Rattle.b2_language.specs.Languages.{AreLawful, Ways}
-use Rattle.b2_stmt_io.specs.Marks.{typed_by_mark}
-use Rattle.b2_stmt_io.specs.Showing.{shown, shows_from}
+use Rattle.b2_access.specs.Marks.{typed_by_mark}
+use Rattle.b2_language.specs.Following.{following_place}
 use Rattle.b2_machine.specs.Endings.{counts, repeats}
 use Rattle.b2_machine.specs.Keys.{calls_where, pressed_by}
 use Rattle.b2_machine.specs.Listed.{range_listed, lists}
-use Rattle.b2_machine.specs.Moving.{ends_by, error_place, faults, goes_to, jumps, following_place}
+use Rattle.b2_machine.specs.Messages.{shows_text}
+use Rattle.b2_machine.specs.Moving.{ends_by, error_place, faults, goes_to, jumps}
 use Rattle.b2_machine.specs.Statements.{Begun, begins, begins_where, begun_by, builder_of, finish_by, finishes, plan_by}
 use Rattle.b2_machine.specs.Step.{StepEnd, carries_out, enters_or_goes_on, halts_or_acts, lent, line_read, runs_or_reads, seen_by, shows_or_goes_on, step, text_in, types_or_goes_on}
 use Rattle.b2_machine.specs.Touched.{Asking, StepsAskAtTerminal, access_asked, asking, asks_at, asks_to_enter, asks_to_show, asks_to_type, asks_unless_halted}
@@ -43,8 +44,8 @@ use Rattle.b2_machine.specs.Typing.{put_by, puts_numbered, shown_by, shows_pendi
 use Rattle.b2_machine.specs.declared.ends.Stepped.{Stepped}
 use Rattle.b2_machine.specs.declared.statements.Builder.{Builder}
 use Rattle.b2_machine.specs.declared.statements.Builder.TheVariants as builder
-use Rattle.b2_machine.specs.declared.statements.Course.{Course}
-use Rattle.b2_machine.specs.declared.statements.Course.TheVariants as course
+use Rattle.b2_machine.specs.declared.statements.Progress.{Progress}
+use Rattle.b2_machine.specs.declared.statements.Progress.TheVariants as progress
 
 -- the terminal stays
 abbrev SameTerminal : Private → Private → Type 0
@@ -111,15 +112,15 @@ PlanningAt t x = (x.me.term ≡ t) × PlannedAt t x.planned
 
 listed_at : (b : Bool) (range : ℕ × ℕ) (me : Private) (s : SeenLent) → PlanningAt me.term (lists b range me s)
 listed_at true range me s = (refl, tt)
-listed_at false range me s = (refl, names_own me.term (shows_from me.term_column me.term (range_listed range s.own.lines)) refl)
+listed_at false range me s = (refl, names_own me.term (shows_text (range_listed range s.own.lines) me) refl)
 
 planned_at : (ways : Ways) (lawful : AreLawful ways) (b : Builder) (p : Place) (me : Private) (s : SeenLent) → PlanningAt me.term (plan_by ways b p me s)
 planned_at ways lawful (builder.Listing from to) p me s = listed_at (is_some p.line) (from, to) me s
-planned_at ways lawful (builder.Language r) p me s = lawful.plans_at_terminal r me s
+planned_at ways lawful (builder.Language r) p me s = (lawful.leave_the_rest r).plans_at_terminal me s
 planned_at ways lawful builder.Nobody p me s = (refl, tt)
 
 abbrev BegunAt : ℕ → Begun → Type 0
-BegunAt t b = (b.me.term ≡ t) × AskedAt t (access_asked b.course)
+BegunAt t b = (b.me.term ≡ t) × AskedAt t (access_asked b.progress)
 
 begun_at : (t : ℕ) (x : Planned) (b : Builder) (p : Place) (me : Private) (home : Lines) → me.term ≡ t → PlannedAt t x → BegunAt t (begun_by x b p me home)
 begun_at t (planned.Done o) b p me home is h = (ended_stays counts o p me home ∙ is, tt)
@@ -132,13 +133,9 @@ begins_at ways lawful (Some u) p me s =
     let h = planned_at ways lawful (builder_of ways u) p me s in
     begun_at me.term x.planned (builder_of ways u) p x.me s.home.lines h.0 h.1
 
-list_stays : (x : Access) (a : Answer) (me : Private) → SameTerminal me (shown x a me).me
-list_stays (access.Show term bytes column) answer.Done me = refl
-list_stays x a me = refl
-
 finish_stays : (ways : Ways) (lawful : AreLawful ways) (b : Builder) (x : Access) (a : Answer) (me : Private) (s : SeenLent) → SameTerminal me (finish_by ways b x a me s).me
-finish_stays ways lawful (builder.Listing from to) x a me s = list_stays x a me
-finish_stays ways lawful (builder.Language r) x a me s = lawful.finishes_at_terminal r x a me s
+finish_stays ways lawful (builder.Listing from to) x a me s = refl
+finish_stays ways lawful (builder.Language r) x a me s = (lawful.leave_the_rest r).finishes_at_terminal x a me s
 finish_stays ways lawful builder.Nobody x a me s = refl
 
 finished_stays : (ways : Ways) (lawful : AreLawful ways) (b : Builder) (x : Access) (a : Answer) (p : Place) (me : Private) (s : SeenLent) → SameTerminal me (finishes ways b x a p me s).me
@@ -160,9 +157,9 @@ module _ (ways : Ways) (lawful : AreLawful ways) {M : Type 0} (store : M → Sto
   read_stays (answer.Special n) me m = pressed_stays (typed_by_mark n (text_in (store m) me.part).lines) (first_opening (is_mark n) (text_in (store m) me.part).lines) me
   read_stays x me m = refl
 
-  carried_stays : (c : Course) (p : Place) (me : Private) (m : M) → SameTerminal me (carries_out ways store serving lending c p me m).me
-  carried_stays (course.Ended e) p me m = refl
-  carried_stays (course.Asks a b) p me m =
+  carried_stays : (c : Progress) (p : Place) (me : Private) (m : M) → SameTerminal me (carries_out ways store serving lending c p me m).me
+  carried_stays (progress.Ended e) p me m = refl
+  carried_stays (progress.Asks a b) p me m =
       let g = serving m me.part a in
       finished_stays ways lawful b a g.answer p me (seen_by me (store g.after))
 
@@ -173,7 +170,7 @@ module _ (ways : Ways) (lawful : AreLawful ways) {M : Type 0} (store : M → Sto
   at_place (Some p) me m =
       let b = begins ways p me (seen_by me (store m)) in
       let h = begins_at ways lawful (statement_placed p me.immediate (seen_by me (store m)).home.lines) p me (seen_by me (store m)) in
-      (carried_stays b.course p b.me (lent store serving lending me m) ∙ h.0, h.1)
+      (carried_stays b.progress p b.me (lent store serving lending me m) ∙ h.0, h.1)
 
   at_number : (x : Option (ℕ × Option (List ℕ))) (me : Private) (m : M) → StepAt me.term (enters_or_goes_on ways store serving lending x me m) (asks_to_enter ways x me (store m))
   at_number (Some line) me m = (put_stays (serving m me.part (puts_numbered line)).answer me, names_none me.term (puts_numbered line) refl)

@@ -21,11 +21,13 @@ use Rattle.b2_access.specs.declared.planned.Planned.{Planned}
 use Rattle.b2_access.specs.declared.planned.Planned.TheVariants as planned
 use Rattle.b2_access.specs.declared.private.Private.{Private}
 use Rattle.b2_language.specs.Languages.{AreLawful, Ways}
-use Rattle.b2_stmt_io.proofs.Waits.{after_shown}
+use Rattle.b2_access.proofs.Shown.{after_shown}
+use Rattle.b2_access.specs.Working.{Work, put_back}
+use Rattle.b2_language.specs.Following.{following_place}
 use Rattle.b2_machine.specs.Counting.{UncountedStepsChangeNothing}
 use Rattle.b2_machine.specs.Endings.{counts, ends_turn, repeats}
 use Rattle.b2_machine.specs.Listed.{lists}
-use Rattle.b2_machine.specs.Moving.{ends_by, error_place, faults, following_place, goes_to}
+use Rattle.b2_machine.specs.Moving.{ends_by, error_place, faults, goes_to}
 use Rattle.b2_machine.specs.Readiness.{halted, resets}
 use Rattle.b2_machine.specs.Statements.{begins_where, begun_by, builder_of, finish_by, finishes, plan_by}
 use Rattle.b2_machine.specs.Step.{acts, by_itself, enters_or_goes_on, executes, goes_through, halts_or_acts, line_read, runs_or_reads, seen_by, shows_or_goes_on, text_in, types_or_goes_on}
@@ -83,12 +85,12 @@ module _ (ways : Ways) (lawful : AreLawful ways) (before : Private) where
 
   plans : (b : Builder) (p : Place) (s : SeenLent) → UnchangedIfAsks before (plan_by ways b p before s).me (plan_by ways b p before s).planned
   plans (builder.Listing from to) p s = listed (is_some p.line) (from, to) s
-  plans (builder.Language r) p s = lawful.plans_before_changes r before s
+  plans (builder.Language r) p s = (lawful.leave_the_rest r).plans_before_changes before s
   plans builder.Nobody p s = tt
 
   finished : (b : Builder) (x : Access) (a : Answer) (me : Private) (s : SeenLent) → delays a ≡ true → (finish_by ways b x a me s).me ≡ me
-  finished (builder.Listing from to) x a me s h = after_shown x a me h
-  finished (builder.Language r) x a me s h = lawful.finishes_unchanged r x a me s h
+  finished (builder.Listing from to) x a me s h = ap (λ (w : Work). put_back w me) (after_shown x a me h)
+  finished (builder.Language r) x a me s h = (lawful.leave_the_rest r).finishes_unchanged x a me s h
   finished builder.Nobody x a me s h = refl
 
   finishing : (b : Builder) (x : Access) (a : Answer) (p : Place) (me : Private) (s : SeenLent) → me ≡ before → Unless (finishes ways b x a p me s).end (finishes ways b x a p me s).me

@@ -1,24 +1,15 @@
 -- Lines have at most 255 units, so units are counted by bytes.
-use Rattle.std.proofs.Common.{◌≡◌, ℕ, suc, ◌+◌, ◌<◌, ◌≤◌, ◌==◌, nat_lt, Bool, true, false, List, [], ◌∷◌, length, refl, sym, ap, arith, Option, Some, None, if◌then◌else◌}
+use Rattle.std.proofs.Common.{◌≡◌, ℕ, suc, ◌+◌, ◌<◌, ◌≤◌, ◌==◌, nat_lt, Bool, true, false, List, [], ◌∷◌, length, refl, sym, arith, Option, Some, None, if◌then◌else◌}
 use Rattle.std.specs.Prelude.{slice_get}
 use Rattle.std.proofs.lemmas.Bool.Decides.{nat_tests}
 use Rattle.b2_atom.specs.Words.{Text}
 use Rattle.b2_atom.specs.Lines.{is_line, units_of}
 use Rattle.b2_atom.specs.Units.{TreeUnit}
 use Rattle.b2_atom.specs.declared.rows.TheConstants as row
-use Rattle.b2_rows.specs.Following.{tree_units, unit_or_next, taken_fault, error_goal, further_on}
+use Rattle.b2_rows.specs.Following.{tree_units, taken_fault, error_goal, further_on}
 use Rattle.b2_rows.specs.declared.following.Goal.{Goal}
 use Rattle.b2_rows.specs.declared.following.Goal.TheVariants as goal
 use Rattle.b2_rows.proofs.WhatFollows.{beyond_line}
-use Rattle.b2_text.specs.Program.{Lines}
-use Rattle.b2_flow.specs.declared.frame.Place.{Place}
-use Rattle.b2_access.specs.Places.{goal_place}
-
--- after the last unit that a byte counts there is none
-pub none_after : (home : Lines) (line : Text) (p : Place) → is_line line ≡ true → length (units_of line) ≤ 255 → p.unit ≡ 255
-    → goal_place home p (unit_or_next (p.unit + 1) (tree_units line)) ≡ goal_place home p goal.NextLine
-none_after home line p h few is =
-    ap (goal_place home p) (beyond_line line (p.unit + 1) h (grind (arith, nat_tests)))
 
 some_is : {A : Type 0} (x y : A) → Some x ≡ Some y → x ≡ y
 some_is x y h = cc

@@ -9,9 +9,9 @@ use Rattle.b2_lister.specs.Listing.{listing}
 use Rattle.b2_text.specs.Program.{Lines, is_within}
 use Rattle.b2_access.specs.Lending.{SeenLent}
 use Rattle.b2_access.specs.Planning.{Planning, asks, done, stays}
-use Rattle.b2_stmt_io.specs.Showing.{shows_from}
 use Rattle.b2_access.specs.declared.planned.Outcome.TheVariants as outcome
 use Rattle.b2_access.specs.declared.private.Private.{Private}
+use Rattle.b2_machine.specs.Messages.{shows_text}
 
 -- lines as they are listed, each ended by a newline
 abbrev pub each_listed : Lines → List ℕ
@@ -32,4 +32,4 @@ named_range t = (0, 9999)
 -- they are shown at the terminal; in a program LIST may not stand
 abbrev pub lists : Bool → ℕ × ℕ → Private → SeenLent → Planning
 lists true range me s = done s (stays me (outcome.Failed S26_PROGRAM_ONLY))
-lists false range me s = asks s me (shows_from me.term_column me.term (range_listed range s.own.lines))
+lists false range me s = asks s me (shows_text (range_listed range s.own.lines) me)

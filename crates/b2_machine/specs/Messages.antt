@@ -1,9 +1,13 @@
--- What the machine itself shows: READY, HALT and errors.
+-- What the machine itself shows: READY, HALT, errors and lines.
 use Rattle.std.specs.Prelude.{ℕ, ◌+◌, ◌/◌, ◌%◌, ◌==◌, List, [], ◌∷◌, ◌++◌, codes, Option, Some, None, if◌then◌else◌}
 use Rattle.std.specs.Fmt.{decimal}
 use Rattle.b2_base.specs.Byte as byte
 use Rattle.b2_base.specs.Codes.{class_of}
 use Rattle.b2_flow.specs.declared.frame.Place.{Place}
+use Rattle.b2_print.specs.Columns.{column_after}
+use Rattle.b2_access.specs.declared.accesses.Access.{Access}
+use Rattle.b2_access.specs.declared.accesses.Access.TheVariants as access
+use Rattle.b2_access.specs.declared.private.Private.{Private}
 
 abbrev pub halt_text : List ℕ
 halt_text = codes "HALT" ++ byte.newline ∷ []
@@ -34,3 +38,7 @@ column_text code column = if class_of code == class_s then codes " COL " ++ deci
 -- an error with where it was met
 abbrev pub error_text : ℕ → List ℕ → List ℕ
 error_text code where_met = code_text code ++ where_met ++ byte.newline ∷ []
+
+-- a text is shown as it is at the terminal, by its column
+abbrev pub shows_text : List ℕ → Private → Access
+shows_text text me = access.Show me.term text (column_after me.term_column text)

@@ -1,37 +1,20 @@
 -- Where a partition goes on after a statement, by its outcome.
-use Rattle.std.specs.Prelude.{ℕ, ◌+◌, ◌==◌, ◌&&◌, ◌||◌, Bool, false, not, List, [], Option, Some, None, is_some, option_map, if◌then◌else◌}
+use Rattle.std.specs.Prelude.{ℕ, ◌==◌, ◌&&◌, ◌||◌, Bool, false, not, Option, Some, None, is_some, option_map, if◌then◌else◌}
 use Rattle.b2_base.specs.Codes.{class_of}
-use Rattle.b2_atom.specs.Units.{TreeUnit}
 use Rattle.b2_atom.specs.declared.rows.TheConstants as row
 use Rattle.b2_flow.specs.declared.frame.Place.{Place}
-use Rattle.b2_rows.specs.Following.{taken_fault, tree_units, unit_or_next}
+use Rattle.b2_rows.specs.Following.{taken_fault}
 use Rattle.b2_text.specs.Program.{Lines}
-use Rattle.b2_access.specs.Placed.{Statement, line_named, statement_placed}
-use Rattle.b2_access.specs.Places.{goal_place}
+use Rattle.b2_access.specs.Placed.{Statement, statement_placed}
 use Rattle.b2_access.specs.declared.planned.Outcome.{Outcome}
 use Rattle.b2_access.specs.declared.planned.Outcome.TheVariants as outcome
 use Rattle.b2_access.specs.declared.private.Private.{Private}
+use Rattle.b2_language.specs.Following.{following_place, moves_to, units_at}
 use Rattle.b2_machine.specs.Endings.{Ending, ends_turn, carries_on}
 use Rattle.b2_machine.specs.Messages.{error_text, where_text}
 use Rattle.b2_machine.specs.Readiness.{becomes_ready, drops_line, rests, with_error}
 use Rattle.b2_machine.specs.declared.ends.Stepped.{Stepped}
 use Rattle.b2_machine.specs.declared.ends.Why.TheVariants as reason
-
--- the units of the line of a place, none where the line isn't there
-abbrev pub units_of_line : Option (List ℕ) → List TreeUnit
-units_of_line None = []
-units_of_line (Some line) = tree_units line
-
-abbrev pub units_at : Place → Private → Lines → List TreeUnit
-units_at p me home = units_of_line (line_named me.immediate home p.line)
-
--- the place after it, where nothing else is said
-abbrev pub following_place : Place → Private → Lines → Option Place
-following_place p me home = goal_place home p (unit_or_next (p.unit + 1) (units_at p me home))
-
--- it stands at another place, where no prompt was shown yet
-abbrev pub moves_to : Place → Private → Private
-moves_to q me = record me { place = Some q; prompted = false }
 
 -- From an immediate line into the program: the line with its loops goes, and the kept place; the arguments that wait for a
 -- DEFFN' go too, unless it is CONTINUE.

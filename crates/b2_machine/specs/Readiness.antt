@@ -3,9 +3,8 @@ use Rattle.std.specs.Prelude.{ℕ, false, not, List, [], ◌∷◌, ◌++◌, fi
 use Rattle.b2_base.specs.Byte as byte
 use Rattle.b2_flow.specs.Frames.{is_immediate_loop}
 use Rattle.b2_flow.specs.declared.frame.Frame.{Frame}
-use Rattle.b2_access.specs.Partition.{ready_text, runs_program, is_ready, terminal_address}
+use Rattle.b2_access.specs.Partition.{is_ready, ready_text, runs_program, terminal_address, without_frames}
 use Rattle.b2_access.specs.declared.private.Private.{Private}
-use Rattle.b2_stmt.specs.Calls.{without_frames}
 use Rattle.b2_machine.specs.Endings.{Ending, counts, ends_turn}
 use Rattle.b2_machine.specs.Messages.{error_text, halt_text}
 use Rattle.b2_machine.specs.declared.ends.Stepped.{Stepped}

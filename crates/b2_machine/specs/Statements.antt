@@ -15,15 +15,16 @@ use Rattle.b2_access.specs.declared.planned.Planned.{Planned}
 use Rattle.b2_access.specs.declared.planned.Planned.TheVariants as planned
 use Rattle.b2_access.specs.declared.private.Private.{Private}
 use Rattle.b2_language.specs.Languages.{Ways}
-use Rattle.b2_stmt_io.specs.Showing.{shown}
+use Rattle.b2_access.specs.Showing.{shown}
+use Rattle.b2_access.specs.Working.{ended}
 use Rattle.b2_machine.specs.Endings.{Ending, counts, repeats}
 use Rattle.b2_machine.specs.Listed.{lists, named_range}
 use Rattle.b2_machine.specs.Moving.{ends_by}
 use Rattle.b2_machine.specs.Readiness.{rests}
 use Rattle.b2_machine.specs.declared.statements.Builder.{Builder}
 use Rattle.b2_machine.specs.declared.statements.Builder.TheVariants as builder
-use Rattle.b2_machine.specs.declared.statements.Course.{Course}
-use Rattle.b2_machine.specs.declared.statements.Course.TheVariants as course
+use Rattle.b2_machine.specs.declared.statements.Progress.{Progress}
+use Rattle.b2_machine.specs.declared.statements.Progress.TheVariants as progress
 
 -- who executes a statement; nobody does yet where its row isn't built or an `@` name stands in it
 abbrev pub builder_of : Ways → Statement → Builder
@@ -41,21 +42,21 @@ plan_by ways builder.Nobody p me s = done s (stays me (outcome.Failed S27_LEFT_O
 
 -- how it finishes, by the answer to its access
 abbrev pub finish_by : Ways → Builder → Access → Answer → Private → SeenLent → Finishing
-finish_by ways (builder.Listing from to) x a me s = finished s (shown x a me)
+finish_by ways (builder.Listing from to) x a me s = finished s (ended me (shown x a me))
 finish_by ways (builder.Language r) x a me s = ways.finish r x a me s
 finish_by ways builder.Nobody x a me s = finished s (stays me outcome.Repeat)
 
 -- what became of a statement that began: the step has ended, or an access is asked for
 pub record Begun : Type 0 where
   pub me : Private
-  pub course : Course
+  pub progress : Progress
 
 abbrev pub has_ended : Ending → Begun
-has_ended e = record { me = e.me; course = course.Ended e.end }
+has_ended e = record { me = e.me; progress = progress.Ended e.end }
 
 abbrev pub begun_by : Planned → Builder → Place → Private → Lines → Begun
 begun_by (planned.Done o) b p me home = has_ended (ends_by counts o p me home)
-begun_by (planned.Ask a) b p me home = record { me = me; course = course.Asks a b }
+begun_by (planned.Ask a) b p me home = record { me = me; progress = progress.Asks a b }
 
 abbrev pub begun : Planning → Builder → Place → Lines → Begun
 begun x b p home = begun_by x.planned b p x.me home

@@ -1,16 +1,23 @@
 -- What steps leave as it is.
-use Rattle.std.specs.Prelude.{IsSome}
+use Rattle.std.specs.Prelude.{◌≡◌, ℕ, IsSome, OnOk, Result}
 use Rattle.b2_access.specs.Store.{StoreState, content}
 use Rattle.b2_access.specs.Touching.{IsLegal}
 use Rattle.b2_access.specs.declared.objects.Object.{Object}
-use Rattle.b2_machine.specs.declared.statements.Course.{Course}
-use Rattle.b2_machine.specs.declared.statements.Course.TheVariants as course
+use Rattle.b2_machine.specs.declared.statements.Progress.{Progress}
+use Rattle.b2_machine.specs.declared.statements.Progress.TheVariants as progress
 
 -- what is listed in a store is so in another
 abbrev pub KeepsAll : StoreState → StoreState → Type 0
 KeepsAll s t = (o : Object) → IsSome (content s o) → IsSome (content t o)
 
+-- What a step keeps: the references that the store holds on to, which partition it is, and, where memory doesn't fail, what is
+-- listed.
+pub record Keeps {A E H : Type 0} (result : Result A E) (held holds : H) (p q : ℕ) (s t : StoreState) : Type 0 where
+  pub same : holds ≡ held
+  pub part : q ≡ p
+  pub listed : OnOk result (KeepsAll s t)
+
 -- a statement asks for no line above 9999
-abbrev pub IsLegalCourse : Course → Type 0
-IsLegalCourse (course.Ended e) = Unit {0}
-IsLegalCourse (course.Asks a b) = IsLegal a
+abbrev pub IsLegalProgress : Progress → Type 0
+IsLegalProgress (progress.Ended e) = Unit {0}
+IsLegalProgress (progress.Asks a b) = IsLegal a

@@ -20,8 +20,8 @@ use Rattle.b2_machine.specs.Keys.{pressed}
 use Rattle.b2_machine.specs.Readiness.{halted, resets}
 use Rattle.b2_machine.specs.Statements.{Begun, begins, finishes}
 use Rattle.b2_machine.specs.declared.statements.Builder.{Builder}
-use Rattle.b2_machine.specs.declared.statements.Course.{Course}
-use Rattle.b2_machine.specs.declared.statements.Course.TheVariants as course
+use Rattle.b2_machine.specs.declared.statements.Progress.{Progress}
+use Rattle.b2_machine.specs.declared.statements.Progress.TheVariants as progress
 use Rattle.b2_machine.specs.Typing.{line_taken, put_by, puts_numbered, shown_by, shows_pending, typed_by_key}
 use Rattle.b2_machine.specs.declared.ends.Stepped.{Stepped}
 
@@ -88,12 +88,12 @@ module _ (ways : Ways) {M : Type 0} (store : M → StoreState) (serving : Servin
   abbrev pub finishes_by : Builder → Access → Place → Private → Gives M → StepEnd M
   finishes_by b a p me g = by_itself store serving lending (finishes ways b a g.answer p me (seen_by me (store g.after))) (lent store serving lending me g.after)
 
-  abbrev pub carries_out : Course → Place → Private → M → StepEnd M
-  carries_out (course.Ended e) p me m = record { me = me; after = m; end = e }
-  carries_out (course.Asks a b) p me m = finishes_by b a p me (serving m me.part a)
+  abbrev pub carries_out : Progress → Place → Private → M → StepEnd M
+  carries_out (progress.Ended e) p me m = record { me = me; after = m; end = e }
+  carries_out (progress.Asks a b) p me m = finishes_by b a p me (serving m me.part a)
 
   abbrev pub goes_through : Begun → Place → M → StepEnd M
-  goes_through b p m = carries_out b.course p b.me m
+  goes_through b p m = carries_out b.progress p b.me m
 
   abbrev pub executes : Place → Private → M → StepEnd M
   executes p me m = goes_through (begins ways p me (seen_by me (store m))) p (lent store serving lending me m)

@@ -17,8 +17,8 @@ use Rattle.b2_language.specs.Languages.{Ways}
 use Rattle.b2_machine.specs.Statements.{Begun, begins}
 use Rattle.b2_machine.specs.Step.{StepEnd, seen_by, step}
 use Rattle.b2_machine.specs.Typing.{puts_numbered, shows_pending}
-use Rattle.b2_machine.specs.declared.statements.Course.{Course}
-use Rattle.b2_machine.specs.declared.statements.Course.TheVariants as course
+use Rattle.b2_machine.specs.declared.statements.Progress.{Progress}
+use Rattle.b2_machine.specs.declared.statements.Progress.TheVariants as progress
 
 -- who asks, and the access that is asked for: None where a step asks for none
 pub record Asking : Type 0 where
@@ -32,12 +32,12 @@ abbrev pub asks_one : Access → Private → Asking
 asks_one a me = record { who = me.part; access = Some a }
 
 -- a statement has ended, or it asks
-abbrev pub access_asked : Course → Option Access
-access_asked (course.Ended e) = None
-access_asked (course.Asks a b) = Some a
+abbrev pub access_asked : Progress → Option Access
+access_asked (progress.Ended e) = None
+access_asked (progress.Asks a b) = Some a
 
 abbrev pub begun_asks : Begun → Asking
-begun_asks b = record { who = b.me.part; access = access_asked b.course }
+begun_asks b = record { who = b.me.part; access = access_asked b.progress }
 
 -- the sixth rule and the fourth: the statement at the place asks, or a line is read
 abbrev pub asks_at : Ways → Option Place → Private → StoreState → Asking

@@ -12,10 +12,9 @@ use Rattle.b2_access.specs.declared.accesses.Access.TheVariants as access
 use Rattle.b2_access.specs.declared.accesses.Answer.{Answer}
 use Rattle.b2_access.specs.declared.accesses.Answer.TheVariants as answer
 use Rattle.b2_access.specs.declared.private.Private.{Private}
-use Rattle.b2_stmt.specs.Calls.{without_frames}
-use Rattle.b2_stmt_io.specs.Showing.{shows_from}
+use Rattle.b2_access.specs.Partition.{without_frames}
 use Rattle.b2_machine.specs.Endings.{Ending, again, carries_on}
-use Rattle.b2_machine.specs.Messages.{column_text}
+use Rattle.b2_machine.specs.Messages.{column_text, shows_text}
 use Rattle.b2_machine.specs.Readiness.{prompts, refuses}
 
 -- pending output goes on a line of its own
@@ -23,7 +22,7 @@ abbrev pub on_own_line : ℕ → List ℕ → List ℕ
 on_own_line column text = if column == 0 then text else byte.newline ∷ text
 
 abbrev pub shows_pending : List ℕ → Private → Access
-shows_pending text me = shows_from me.term_column me.term (on_own_line me.term_column text)
+shows_pending text me = shows_text (on_own_line me.term_column text) me
 
 -- it was shown at the terminal, the only device so far; with any other answer it waits on
 abbrev pub shown_by : Access → Answer → Private → Ending

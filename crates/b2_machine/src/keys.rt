@@ -4,11 +4,10 @@ ghost use Rattle.b2_access.specs.Lending.{seen_lent};
 ghost use Rattle.b2_machine.specs.Keys as spec;
 
 use crate::readiness::refuse;
-use b2_access::{Lent, Private};
+use b2_access::{Lent, Private, typed_by_mark};
 use b2_base::{ByteList, NoMemory};
 use b2_dec::ValueList;
 use b2_flow::{Frame, Place};
-use b2_stmt_io::typed_by_mark;
 use b2_text::{Spot, Text};
 use std::alloc::Global;
 

@@ -1,4 +1,6 @@
 //! What holds of steps, whatever the language and the store are: each law is the contract of a function without a body.
+ghost use Rattle.std.specs.Prelude.{List};
+ghost use Rattle.b2_access.specs.declared.devices.Device.{Device};
 ghost use Rattle.b2_access.specs.Partition.{KeepsNone};
 ghost use Rattle.b2_access.specs.declared.private.Private.{Private};
 ghost use Rattle.b2_machine.specs.Counting.{StepsCountOrEnd, UncountedStepsChangeNothing};
@@ -11,31 +13,31 @@ use b2_language::Language;
 /// A step is local: from two meanings that agree on what it touches the partition, the end of the step and what it writes are
 /// the same; what it doesn't write stays; and what it writes it touches.
 pub fn law_a_step_is_local<L: Language, S: Shared>()
-    ensures { StepsAreLocal L.ways S.store S.serving S.lending }
+    ensures { (devices : List Device) → StepsAreLocal (L.ways devices) S.store S.serving S.lending }
 {}
 
 /// A step names no partition as a home, in a place or in a frame, and asks as none, but its own and those that were named
 /// before.
 pub fn law_a_step_stays_within<L: Language, S: Shared>()
-    ensures { StepsStayWithin L.ways S.store S.serving S.lending }
+    ensures { (devices : List Device) → StepsStayWithin (L.ways devices) S.store S.serving S.lending }
 {}
 
 /// Where no place is kept for CONTINUE while program text runs, a step leaves it so.
 pub fn law_a_step_keeps_no_place<L: Language, S: Shared>()
-    ensures { (me : Private) (m : S.Meaning) → KeepsNone me → KeepsNone (step L.ways S.store S.serving S.lending me m).me }
+    ensures { (devices : List Device) (me : Private) (m : S.Meaning) → KeepsNone me → KeepsNone (step (L.ways devices) S.store S.serving S.lending me m).me }
 {}
 
 /// A step asks at the terminal of its partition alone, and leaves which one that is.
 pub fn law_a_step_asks_at_its_terminal<L: Language, S: Shared>()
-    ensures { StepsAskAtTerminal L.ways S.store S.serving S.lending }
+    ensures { (devices : List Device) → StepsAskAtTerminal (L.ways devices) S.store S.serving S.lending }
 {}
 
 /// A step that doesn't count ends its turn. So each turn has at most one, its last.
 pub fn law_a_step_counts_or_ends_its_turn<L: Language, S: Shared>()
-    ensures { StepsCountOrEnd L.ways S.store S.serving S.lending }
+    ensures { (devices : List Device) → StepsCountOrEnd (L.ways devices) S.store S.serving S.lending }
 {}
 
 /// A step that doesn't count has changed nothing of its partition, but that a halt which found it ready is forgotten.
 pub fn law_an_uncounted_step_changes_nothing<L: Language, S: Shared>()
-    ensures { UncountedStepsChangeNothing L.ways S.store S.serving S.lending }
+    ensures { (devices : List Device) → UncountedStepsChangeNothing (L.ways devices) S.store S.serving S.lending }
 {}

@@ -5,10 +5,8 @@
 //! number of steps, and ends before its quota where one ends it. `step` and `turn` are proved to be the functions of `specs/`
 //! over the meaning, the serving and the lending of whatever store they are given.
 //!
-//! Stands on `b2_language` for what statements do, on `b2_access` for the private state, accesses and the store, on `b2_syntax`
-//! and `b2_lister` for lines, on `b2_rows`, `b2_text` and `b2_flow` for places, on `b2_atom` and `b2_base`; and on `b2_stmt` and
-//! `b2_stmt_io` for what both of them and the machine do: dropping frames, showing bytes, and typing what a special function
-//! key says.
+//! Stands on `b2_language` for what statements do, on `b2_access` for the private state, accesses and the store,
+//! on `b2_syntax` and `b2_lister` for lines, on `b2_rows`, `b2_text` and `b2_flow` for places, on `b2_atom` and `b2_base`.
 //!
 //! The definitions are in `specs/`: how a step ends in `Endings`, what is shown in `Messages`, becoming ready in `Readiness`,
 //! where a partition goes on in `Moving`, LIST in `Listed`, the choice among statements in `Statements`, typed lines in

@@ -1,10 +1,12 @@
-// What the machine itself shows: errors.
+// What the machine itself shows: errors and lines.
 ghost use Rattle.std.specs.Prelude.{◌≡◌, ◌++◌, [], IfOk, OnOk};
 ghost use Rattle.std.specs.Fmt.{decimal};
 ghost use Rattle.b2_machine.specs.Messages as spec;
 
-use b2_base::{Code, NoMemory, Part};
+use b2_access::{Access, Private};
+use b2_base::{ByteList, Code, NoMemory, Part};
 use b2_flow::Place;
+use b2_print::column_after;
 use itoa::Buffer;
 use std::alloc::Global;
 
@@ -83,4 +85,16 @@ pub fn error_in_line(alloc: Global, code: Code, column: usize) -> Result<Vec<u8>
     }
     out.push(b'\n')?;
     Ok(out)
+}
+
+/// Shows a text as it is at the terminal of a partition.
+pub fn show_text(me: &Private, text: ByteList) -> Access
+    ensures { result ≡ spec.shows_text text me.now }
+{
+    let column = column_after(me.term_column, text.bytes());
+    Access::Show {
+        term: me.term,
+        bytes: text,
+        column,
+    }
 }

@@ -1,52 +1,31 @@
 // Where a partition goes on after a statement, by its outcome.
-ghost use Rattle.std.specs.Prelude.{◌≡◌, ◌+◌, Some, IfOk, option_map};
+ghost use Rattle.std.specs.Prelude.{◌≡◌, Some, IfOk, option_map};
 ghost use Rattle.b2_access.specs.Placed.{line_named as line_of_place, statement_placed as named_at};
-ghost use Rattle.b2_access.specs.Places.{goal_place as place_of_goal};
-ghost use Rattle.b2_rows.specs.Following.{taken_fault as fault_taken, tree_units, unit_or_next};
+ghost use Rattle.b2_rows.specs.Following.{taken_fault as fault_taken, tree_units};
+ghost use Rattle.b2_language.specs.Following.{following_place};
 ghost use Rattle.b2_machine.specs.Endings as ending;
 ghost use Rattle.b2_machine.specs.Moving as spec;
 
 use crate::ends::{Stepped, Why, counts, ends_turn};
 use crate::messages::error_at;
 use crate::readiness::{become_ready, become_ready_quietly, end_line, note_error};
-use b2_access::{Outcome, Private, goal_place, line_named, place_after, statement_placed};
+use b2_access::{Outcome, Private, goal_place, line_named, statement_placed};
 use b2_atom::{Atoms, rows};
 use b2_base::{Code, NoMemory};
 use b2_flow::Place;
+use b2_language::{move_to, place_on};
 use b2_rows::{Goal, spells_a_line, taken_fault};
 use b2_text::Text;
 use std::alloc::Global;
 
-/// The place after a unit of a line.
-#[tactic(auto, using(crate::proofs::UnitCounts::none_after))]
-fn place_on(home: &Text, line: &Atoms, place: Place) -> Option<Place>
-    ensures { result ≡ place_of_goal home.now.lines place (unit_or_next (place.unit + 1) (tree_units line.now)) }
-{
-    spells_a_line(line);
-    line.units();
-    if place.unit == u8::MAX {
-        return goal_place(home, place, Goal::NextLine);
-    }
-    place_after(home, line, place)
-}
-
 /// The place after a place of a partition, where nothing else is said.
 fn following_place(me: &Private, home: &Text, place: Place) -> Option<Place>
-    ensures { result ≡ spec.following_place place me.now home.now.lines }
+    ensures { result ≡ following_place place me.now home.now.lines }
 {
     match line_named(&me.immediate, home, place.line) {
         Some(line) => place_on(home, line, place),
         None => goal_place(home, place, Goal::NextLine),
     }
-}
-
-/// It stands at another place.
-fn move_to(me: &mut Private, place: Place)
-    ensures changed { me.new ≡ spec.moves_to place me.old }
-    ensures part { me.new.part ≡ me.old.part }
-{
-    me.place = Some(place);
-    me.prompted = false;
 }
 
 /// From an immediate line into the program.
@@ -168,7 +147,7 @@ fn break_after(
     home: &Text,
     place: Place,
 ) -> Result<Stepped, NoMemory>
-    ensures ended { IfOk result (λ e. record { me = me.new; end = e } ≡ spec.breaks (spec.goes_to (spec.following_place place me.old home.now.lines) me.old)) }
+    ensures ended { IfOk result (λ e. record { me = me.new; end = e } ≡ spec.breaks (spec.goes_to (following_place place me.old home.now.lines) me.old)) }
     ensures part { me.new.part ≡ me.old.part }
 {
     let next = following_place(me, home, place);

@@ -4,9 +4,8 @@ ghost use Rattle.b2_machine.specs.Readiness as spec;
 
 use crate::ends::{Stepped, Why, counts, ends_turn};
 use crate::messages::plain_error;
-use b2_access::Private;
+use b2_access::{Private, drop_frames};
 use b2_base::{Addr, ByteList, Code, NoMemory};
-use b2_stmt::drop_frames;
 use std::alloc::Global;
 
 /// A text and `:` wait to be shown.

@@ -1,22 +1,26 @@
 // What a statement plans and how it finishes, over what is lent.
-ghost use Rattle.std.specs.Prelude.{◌≡◌, ◌<◌, true, false, IfOk, Option, Some, is_some, option_map};
-ghost use Rattle.b2_atom.specs.Tree.{names_global, uses_in};
+ghost use Rattle.std.specs.Prelude.{◌≡◌, true, List, IfOk, Option, Some, is_some, option_map};
+ghost use Rattle.b2_atom.specs.Tree.{uses_in};
 ghost use Rattle.b2_rows.specs.Laws.{IsRow};
 ghost use Rattle.b2_rows.specs.Rows.{tree_at};
 ghost use Rattle.b2_vars.specs.Tables.{VarsState};
+ghost use Rattle.b2_access.specs.declared.devices.Device.{Device};
 ghost use Rattle.b2_access.specs.Answering.{can_answer};
+ghost use Rattle.b2_access.specs.Found.{IsFound, seen_found, statement_found};
 ghost use Rattle.b2_access.specs.Lending.{globals_lent, seen_lent, SeenLent};
-ghost use Rattle.b2_access.specs.Placed.{line_named as line_of_place, statement_placed as named_at, statement_on as named_on};
+ghost use Rattle.b2_access.specs.Placed.{line_named as line_of_place, statement_placed as named_at};
+ghost use Rattle.b2_language.specs.Running.{IsFoundAtOnce};
 ghost use Rattle.b2_machine.specs.Listed.{lists};
 ghost use Rattle.b2_machine.specs.Statements as spec;
 
 use crate::ends::{Stepped, counts, repeats};
 use crate::listed::{named_range, range_listed};
+use crate::messages::show_text;
 use crate::moving::{settle, settle_on};
 use crate::readiness::become_ready_quietly;
 use b2_access::{
-    Access, Answer, DeviceTable, Lent, Outcome, Planned, Private, failed, statement_on,
-    statement_placed,
+    Access, Answer, DeviceTable, Found, Lent, Outcome, Planned, Private, after_show, failed,
+    statement_on, statement_placed,
 };
 use b2_atom::{Atoms, rows};
 use b2_base::NoMemory;
@@ -40,7 +44,7 @@ pub enum Builder {
 
 /// What became of a statement that began.
 #[derive(Drop)]
-pub enum Course {
+pub enum Progress {
     /// The step has ended.
     Ended(Stepped),
     /// It asks for an access; who executes it finishes by the answer.
@@ -51,7 +55,7 @@ pub enum Course {
 fn builder_of<L: Language>(unit: &RowUnit<'_>) -> Builder
     requires read { IsRow unit.now.row unit.now.bytes.now (tree_at unit.now.row unit.now.bytes.now) }
     requires uses { unit.now.uses ≡ uses_in (tree_at unit.now.row unit.now.bytes.now) }
-    ensures { result ≡ spec.builder_of L.ways (record { row = unit.now.row; tree = tree_at unit.now.row unit.now.bytes.now }) }
+    ensures { (devices : List Device) → result ≡ spec.builder_of (L.ways devices) (record { row = unit.now.row; tree = tree_at unit.now.row unit.now.bytes.now }) }
 {
     if unit.uses.globals {
         Builder::Nobody
@@ -67,7 +71,7 @@ fn builder_of<L: Language>(unit: &RowUnit<'_>) -> Builder
 
 /// Who executes the statement at a place, where one is there.
 fn builder_at<L: Language>(me: &Private, home: &Text, place: Place) -> Option<Builder>
-    ensures { result ≡ option_map (spec.builder_of L.ways) (named_at place me.now.immediate home.now.lines) }
+    ensures { (devices : List Device) → result ≡ option_map (spec.builder_of (L.ways devices)) (named_at place me.now.immediate home.now.lines) }
 {
     match statement_placed(place, &me.immediate, home) {
         Some(unit) => Some(builder_of::<L>(&unit)),
@@ -90,7 +94,7 @@ fn plan_list(
         return Ok(Planned::Done(failed(S26_PROGRAM_ONLY)));
     }
     let listed = range_listed(alloc, own, from, to)?;
-    Ok(Planned::Ask(b2_stmt_io::show_from(me.term_column, me.term, listed)))
+    Ok(Planned::Ask(show_text(me, listed)))
 }
 
 /// What the statement at a place plans.
@@ -102,7 +106,7 @@ fn plan_by<L: Language>(
     place: Place,
     builder: Builder,
 ) -> Result<Planned, NoMemory>
-    ensures planned { IfOk result (λ p. record { me = me.new; globals = globals_lent lent.new; planned = p } ≡ spec.plan_by L.ways builder place me.old (seen_lent lent.old)) }
+    ensures planned { IfOk result (λ p. record { me = me.new; globals = globals_lent lent.new; planned = p } ≡ spec.plan_by (L.ways devices.now) builder place me.old (seen_lent lent.old)) }
     ensures same_reference { lent.new.globals.ghost_name ≡ lent.old.globals.ghost_name }
     ensures part { me.new.part ≡ me.old.part }
 {
@@ -123,12 +127,12 @@ fn finish_by<L: Language>(
     answer: &Answer,
 ) -> Result<Outcome, NoMemory>
     requires possible { can_answer access.now answer.now ≡ true }
-    ensures finished { IfOk result (λ o. record { me = me.new; globals = globals_lent lent.new; outcome = o } ≡ spec.finish_by L.ways builder access.now answer.now me.old (seen_lent lent.old)) }
+    ensures finished { (devices : List Device) → IfOk result (λ o. record { me = me.new; globals = globals_lent lent.new; outcome = o } ≡ spec.finish_by (L.ways devices) builder access.now answer.now me.old (seen_lent lent.old)) }
     ensures same_reference { lent.new.globals.ghost_name ≡ lent.old.globals.ghost_name }
     ensures part { me.new.part ≡ me.old.part }
 {
     match builder {
-        Builder::Listing(_, _) => Ok(b2_stmt_io::after_show(me, access, answer)),
+        Builder::Listing(_, _) => Ok(after_show(me, access, answer)),
         Builder::Language(row) => L::finish(alloc, row, me, lent, access, answer),
         Builder::Nobody => Ok(Outcome::Repeat),
     }
@@ -142,16 +146,16 @@ fn begun(
     place: Place,
     planned: Planned,
     builder: Builder,
-) -> Result<Course, NoMemory>
-    ensures begun { IfOk result (λ c. record { me = me.new; course = c } ≡ spec.begun_by planned builder place me.old home.now.lines) }
+) -> Result<Progress, NoMemory>
+    ensures begun { IfOk result (λ c. record { me = me.new; progress = c } ≡ spec.begun_by planned builder place me.old home.now.lines) }
     ensures part { me.new.part ≡ me.old.part }
 {
     match planned {
         Planned::Done(outcome) => {
             let end = settle(alloc, me, home, place, outcome, counts())?;
-            Ok(Course::Ended(end))
+            Ok(Progress::Ended(end))
         }
-        Planned::Ask(access) => Ok(Course::Asks(access, builder)),
+        Planned::Ask(access) => Ok(Progress::Asks(access, builder)),
     }
 }
 
@@ -161,98 +165,77 @@ fn begun_on(
     me: &mut Private,
     home: &Text,
     line: &Atoms,
-    place: &Place,
+    place: Place,
     planned: Planned,
     builder: Builder,
-) -> Result<Course, NoMemory>
-    requires line { line_of_place me.old.immediate home.now.lines place.now.line ≡ Some line.now }
-    ensures begun { IfOk result (λ c. record { me = me.new; course = c } ≡ spec.begun_by planned builder place.now me.old home.now.lines) }
+) -> Result<Progress, NoMemory>
+    requires line { line_of_place me.old.immediate home.now.lines place.line ≡ Some line.now }
+    ensures begun { IfOk result (λ c. record { me = me.new; progress = c } ≡ spec.begun_by planned builder place me.old home.now.lines) }
     ensures part { me.new.part ≡ me.old.part }
 {
     match planned {
         Planned::Done(outcome) => {
-            let end = settle_on(alloc, me, home, line, *place, outcome)?;
-            Ok(Course::Ended(end))
+            let end = settle_on(alloc, me, home, line, place, outcome)?;
+            Ok(Progress::Ended(end))
         }
-        Planned::Ask(access) => Ok(Course::Asks(access, builder)),
+        Planned::Ask(access) => Ok(Progress::Asks(access, builder)),
     }
 }
 
-/// What the statement of a unit plans, at its place in a line of the program.
+/// What a statement plans that was found in a line of the program.
 fn plan_found<L: Language>(
     alloc: Global,
     me: &mut Private,
     lent: &mut Lent<'_>,
     devices: &DeviceTable,
-    unit: &RowUnit<'_>,
-    place: &Place,
+    found: &Found<'_>,
     builder: Builder,
 ) -> Result<Planned, NoMemory>
-    requires stands { me.old.place ≡ Some place.now }
-    requires program { is_some place.now.line ≡ true }
-    requires statement { Some (record { row = unit.now.row; tree = tree_at unit.now.row unit.now.bytes.now }) ≡ named_at place.now me.old.immediate lent.old.home.now.lines }
-    requires read { IsRow unit.now.row unit.now.bytes.now (tree_at unit.now.row unit.now.bytes.now) }
-    requires chosen { builder ≡ spec.builder_of L.ways (record { row = unit.now.row; tree = tree_at unit.now.row unit.now.bytes.now }) }
-    ensures planned { IfOk result (λ p. record { me = me.new; globals = globals_lent lent.new; planned = p } ≡ spec.plan_by L.ways builder place.now me.old (seen_lent lent.old)) }
+    requires found { IsFound found.now lent.old.home.now.lines me.old }
+    requires chosen { builder ≡ spec.builder_of (L.ways devices.now) (statement_found found.now) }
+    ensures planned { IfOk result (λ p. record { me = me.new; globals = globals_lent lent.new; planned = p } ≡ spec.plan_by (L.ways devices.now) builder found.now.place me.old (seen_lent lent.old)) }
     ensures same_reference { lent.new.globals.ghost_name ≡ lent.old.globals.ghost_name }
     ensures part { me.new.part ≡ me.old.part }
 {
     match builder {
-        Builder::Listing(from, to) => plan_list(alloc, me, lent.own, *place, from, to),
-        Builder::Language(_) => L::plan_found(alloc, me, lent, devices, unit, place),
+        Builder::Listing(from, to) => plan_list(alloc, me, lent.own, found.place, from, to),
+        Builder::Language(_) => L::plan_found(alloc, me, lent, devices, found),
         Builder::Nobody => Ok(Planned::Done(failed(S27_LEFT_OUT))),
     }
 }
 
-/// The statement of a unit at a place in a line of the program begins, where the language plans it at once.
+/// A statement that was found in a line of the program begins, where the language plans it at once.
 fn begin_at_once<L: Language>(
     alloc: Global,
     me: &mut Private,
-    own: &Text,
-    home: &Text,
-    line: &Atoms,
-    unit: &RowUnit<'_>,
-    place: &Place,
+    found: &Found<'_>,
 ) -> Result<Stepped, NoMemory>
-    requires local { names_global (tree_at unit.now.row unit.now.bytes.now) ≡ false }
-    requires at_once { L.at_once unit.now.row ≡ true }
-    requires stands { me.old.place ≡ Some place.now }
-    requires program { is_some place.now.line ≡ true }
-    requires line { line_of_place me.old.immediate home.now.lines place.now.line ≡ Some line.now }
-    requires statement { Some (record { row = unit.now.row; tree = tree_at unit.now.row unit.now.bytes.now }) ≡ named_on (Some line.now) place.now.unit }
-    requires read { IsRow unit.now.row unit.now.bytes.now (tree_at unit.now.row unit.now.bytes.now) }
-    requires few { place.now.unit < 255 }
-    ensures begun { (globals : Option VarsState) → IfOk result (λ e. spec.has_ended (record { me = me.new; end = e }) ≡ spec.begins L.ways place.now me.old (record { own = own.now; home = home.now; globals = globals })) }
+    requires found { IsFoundAtOnce L.at_once found.now me.old }
+    ensures begun { (devices : List Device) (globals : Option VarsState) → IfOk result (λ e. spec.has_ended (record { me = me.new; end = e }) ≡ spec.begins (L.ways devices) found.now.place me.old (seen_found found.now globals)) }
     ensures part { me.new.part ≡ me.old.part }
 {
-    let outcome = L::plan_at_once(alloc, me, own, home, line, unit, place)?;
-    settle_on(alloc, me, home, line, *place, outcome)
+    let outcome = L::plan_at_once(alloc, me, found)?;
+    settle_on(alloc, me, found.home, found.line, found.place, outcome)
 }
 
-/// The statement of a unit at a place in a line of the program begins.
+/// A statement that was found in a line of the program begins.
 fn begin_found<L: Language>(
     alloc: Global,
     me: &mut Private,
     lent: Lent<'_>,
     devices: &DeviceTable,
-    line: &Atoms,
-    unit: &RowUnit<'_>,
-    place: &Place,
-) -> Result<Course, NoMemory>
-    requires stands { me.old.place ≡ Some place.now }
-    requires program { is_some place.now.line ≡ true }
-    requires line { line_of_place me.old.immediate lent.home.now.lines place.now.line ≡ Some line.now }
-    requires statement { Some (record { row = unit.now.row; tree = tree_at unit.now.row unit.now.bytes.now }) ≡ named_at place.now me.old.immediate lent.home.now.lines }
-    requires read { IsRow unit.now.row unit.now.bytes.now (tree_at unit.now.row unit.now.bytes.now) }
-    requires uses { unit.now.uses ≡ uses_in (tree_at unit.now.row unit.now.bytes.now) }
-    ensures begun { IfOk result (λ c. record { me = me.new; course = c } ≡ spec.begins L.ways place.now me.old (seen_lent lent.entry)) }
+    found: &Found<'_>,
+) -> Result<Progress, NoMemory>
+    requires found { IsFound found.now lent.home.now.lines me.old }
+    requires uses { found.now.unit.now.uses ≡ uses_in (statement_found found.now).tree }
+    ensures begun { IfOk result (λ c. record { me = me.new; progress = c } ≡ spec.begins (L.ways devices.now) found.now.place me.old (seen_lent lent.entry)) }
     ensures part { me.new.part ≡ me.old.part }
 {
     let home = lent.home;
-    let builder = builder_of::<L>(unit);
+    let builder = builder_of::<L>(found.unit);
     let mut lent = lent;
-    let planned = plan_found::<L>(alloc, me, &mut lent, devices, unit, place, builder)?;
-    begun_on(alloc, me, home, line, place, planned, builder)
+    let planned = plan_found::<L>(alloc, me, &mut lent, devices, found, builder)?;
+    begun_on(alloc, me, home, found.line, found.place, planned, builder)
 }
 
 /// The statement at a place in the immediate line begins, by who executes it.
@@ -261,18 +244,18 @@ fn begin_immediate<L: Language>(
     me: &mut Private,
     lent: Lent<'_>,
     devices: &DeviceTable,
-    place: &Place,
-) -> Result<Course, NoMemory>
-    ensures begun { IfOk result (λ c. record { me = me.new; course = c } ≡ spec.begins L.ways place.now me.old (seen_lent lent.entry)) }
+    place: Place,
+) -> Result<Progress, NoMemory>
+    ensures begun { IfOk result (λ c. record { me = me.new; progress = c } ≡ spec.begins (L.ways devices.now) place me.old (seen_lent lent.entry)) }
     ensures part { me.new.part ≡ me.old.part }
 {
     let home = lent.home;
-    let Some(builder) = builder_at::<L>(me, home, *place) else {
-        return Ok(Course::Ended(become_ready_quietly(alloc, me)?));
+    let Some(builder) = builder_at::<L>(me, home, place) else {
+        return Ok(Progress::Ended(become_ready_quietly(alloc, me)?));
     };
     let mut lent = lent;
-    let planned = plan_by::<L>(alloc, me, &mut lent, devices, *place, builder)?;
-    begun(alloc, me, home, *place, planned, builder)
+    let planned = plan_by::<L>(alloc, me, &mut lent, devices, place, builder)?;
+    begun(alloc, me, home, place, planned, builder)
 }
 
 /// The statement at a place of a partition begins, over what is lent. In a line of the program it is found by one look-up.
@@ -282,26 +265,33 @@ pub fn begin_over<L: Language>(
     lent: Lent<'_>,
     devices: &DeviceTable,
     place: &Place,
-) -> Result<Course, NoMemory>
+) -> Result<Progress, NoMemory>
     requires stands { me.old.place ≡ Some place.now }
-    ensures begun { IfOk result (λ c. record { me = me.new; course = c } ≡ spec.begins L.ways place.now me.old (seen_lent lent.entry)) }
+    ensures begun { IfOk result (λ c. record { me = me.new; progress = c } ≡ spec.begins (L.ways devices.now) place.now me.old (seen_lent lent.entry)) }
     ensures part { me.new.part ≡ me.old.part }
 {
     let Some(n) = place.line else {
-        return begin_immediate::<L>(alloc, me, lent, devices, place);
+        return begin_immediate::<L>(alloc, me, lent, devices, *place);
     };
     let home = lent.home;
     let Some(line) = home.line(n) else {
-        return Ok(Course::Ended(become_ready_quietly(alloc, me)?));
+        return Ok(Progress::Ended(become_ready_quietly(alloc, me)?));
     };
     let Some(unit) = statement_on(line.atoms, usize::from(place.unit)) else {
-        return Ok(Course::Ended(become_ready_quietly(alloc, me)?));
+        return Ok(Progress::Ended(become_ready_quietly(alloc, me)?));
+    };
+    let found = Found {
+        own: lent.own,
+        home,
+        line: line.atoms,
+        unit: &unit,
+        place: *place,
     };
     if !unit.uses.globals && L::is_at_once(unit.row) {
-        let end = begin_at_once::<L>(alloc, me, lent.own, home, line.atoms, &unit, place)?;
-        return Ok(Course::Ended(end));
+        let end = begin_at_once::<L>(alloc, me, &found)?;
+        return Ok(Progress::Ended(end));
     }
-    begin_found::<L>(alloc, me, lent, devices, line.atoms, &unit, place)
+    begin_found::<L>(alloc, me, lent, devices, &found)
 }
 
 /// It ends by the answer to its access, over what is lent again.
@@ -315,7 +305,7 @@ pub fn finish_over<L: Language>(
     answer: &Answer,
 ) -> Result<Stepped, NoMemory>
     requires possible { can_answer access.now answer.now ≡ true }
-    ensures ended { IfOk result (λ e. record { me = me.new; end = e } ≡ spec.finishes L.ways builder access.now answer.now place me.old (seen_lent lent.entry)) }
+    ensures ended { (devices : List Device) → IfOk result (λ e. record { me = me.new; end = e } ≡ spec.finishes (L.ways devices) builder access.now answer.now place me.old (seen_lent lent.entry)) }
     ensures part { me.new.part ≡ me.old.part }
 {
     let home = lent.home;

@@ -1,17 +1,19 @@
 // A step: the first of six rules that applies.
-ghost use Rattle.std.specs.Prelude.{◌≡◌, true, Some, IfOk, OnOk, IsSome};
+ghost use Rattle.std.specs.Prelude.{◌≡◌, true, List, Some, IfOk, IsSome};
+ghost use Rattle.b2_access.specs.declared.devices.Device.{Device};
 ghost use Rattle.b2_access.specs.Answering.{can_answer};
 ghost use Rattle.b2_access.specs.Store.{content};
 ghost use Rattle.b2_access.specs.Touching.{IsLegal};
-ghost use Rattle.b2_machine.specs.Statements.{begins};
-ghost use Rattle.b2_machine.specs.Stays.{KeepsAll, IsLegalCourse};
+ghost use Rattle.b2_machine.specs.Statements.{begins, finishes};
+ghost use Rattle.b2_machine.specs.Stays.{Keeps, IsLegalProgress};
 ghost use Rattle.b2_machine.specs.Step as spec;
-ghost use Rattle.b2_stmt_io.specs.Showing.{shows_from};
+ghost use Rattle.b2_machine.specs.Messages.{shows_text};
 
 use crate::ends::{Stepped, counts, repeats};
 use crate::keys::press_over;
+use crate::messages::show_text;
 use crate::readiness::{halt, reset};
-use crate::statements::{Builder, Course, begin_over, finish_over};
+use crate::statements::{Builder, Progress, begin_over, finish_over};
 use crate::typing::{
     after_literal, after_pending, after_put, atoms_put, on_own_line, put_numbered, take_line,
 };
@@ -19,7 +21,6 @@ use b2_access::{Access, Answer, At, DeviceTable, Object, Private, Shared};
 use b2_base::{ByteList, NoMemory, Part};
 use b2_flow::Place;
 use b2_language::Language;
-use b2_stmt_io::show_from;
 use std::alloc::Global;
 
 /// An access of a partition is served.
@@ -27,20 +28,17 @@ fn ask_store<S: Shared>(s: &mut S, who: Part, access: &Access) -> Result<Answer,
     requires legal { IsLegal access.now }
     ensures served { IfOk result (λ a. record { after = S.meaning s.new; answer = a } ≡ S.serving (S.meaning s.old) who access.now) }
     ensures possible { IfOk result (λ a. can_answer access.now a ≡ true) }
-    ensures same { S.holds s.new ≡ S.holds s.old }
-    ensures listed { OnOk result (KeepsAll (S.store (S.meaning s.old)) (S.store (S.meaning s.new))) }
+    ensures kept { Keeps result (S.holds s.old) (S.holds s.new) who who (S.store (S.meaning s.old)) (S.store (S.meaning s.new)) }
 {
     s.serve(who, access)
 }
 
 /// Pending output is shown.
 fn show<S: Shared>(me: &mut Private, s: &mut S, shown: ByteList) -> Result<Stepped, NoMemory>
-    ensures ended { IfOk result (λ e. record { me = me.new; after = S.meaning s.new; end = e } ≡ spec.shows S.store S.serving S.lending (shows_from me.old.term_column me.old.term shown) me.old (S.meaning s.old)) }
-    ensures same { S.holds s.new ≡ S.holds s.old }
-    ensures part { me.new.part ≡ me.old.part }
-    ensures listed { OnOk result (KeepsAll (S.store (S.meaning s.old)) (S.store (S.meaning s.new))) }
+    ensures ended { IfOk result (λ e. record { me = me.new; after = S.meaning s.new; end = e } ≡ spec.shows S.store S.serving S.lending (shows_text shown me.old) me.old (S.meaning s.old)) }
+    ensures kept { Keeps result (S.holds s.old) (S.holds s.new) me.old.part me.new.part (S.store (S.meaning s.old)) (S.store (S.meaning s.new)) }
 {
-    let access = show_from(me.term_column, me.term, shown);
+    let access = show_text(me, shown);
     let answer = ask_store(s, me.part, &access)?;
     Ok(after_pending(me, &access, &answer))
 }
@@ -52,9 +50,7 @@ fn insert_literal<S: Shared>(
     text: ByteList,
 ) -> Result<Stepped, NoMemory>
     ensures ended { IfOk result (λ e. record { me = me.new; after = S.meaning s.new; end = e } ≡ spec.types_literal S.store S.serving S.lending text me.old (S.meaning s.old)) }
-    ensures same { S.holds s.new ≡ S.holds s.old }
-    ensures part { me.new.part ≡ me.old.part }
-    ensures listed { OnOk result (KeepsAll (S.store (S.meaning s.old)) (S.store (S.meaning s.new))) }
+    ensures kept { Keeps result (S.holds s.old) (S.holds s.new) me.old.part me.new.part (S.store (S.meaning s.old)) (S.store (S.meaning s.new)) }
 {
     let access = Access::Insert {
         term: me.term,
@@ -68,9 +64,7 @@ fn insert_literal<S: Shared>(
 fn press<S: Shared>(alloc: Global, me: &mut Private, s: &mut S, n: u8) -> Result<Stepped, NoMemory>
     requires own { IsSome (content (S.store (S.meaning s.old)) (Object.Text me.old.part)) }
     ensures ended { IfOk result (λ e. record { me = me.new; after = S.meaning s.new; end = e } ≡ spec.line_read S.store S.serving S.lending (Answer.Special n) me.old (S.meaning s.old)) }
-    ensures same { S.holds s.new ≡ S.holds s.old }
-    ensures part { me.new.part ≡ me.old.part }
-    ensures listed { OnOk result (KeepsAll (S.store (S.meaning s.old)) (S.store (S.meaning s.new))) }
+    ensures kept { Keeps result (S.holds s.old) (S.holds s.new) me.old.part me.new.part (S.store (S.meaning s.old)) (S.store (S.meaning s.new)) }
 {
     let part = me.part;
     press_over(alloc, me, s.lend(part, part, &At::None), n)?;
@@ -82,9 +76,7 @@ fn press<S: Shared>(alloc: Global, me: &mut Private, s: &mut S, n: u8) -> Result
 fn read_line<S: Shared>(alloc: Global, me: &mut Private, s: &mut S) -> Result<Stepped, NoMemory>
     requires own { IsSome (content (S.store (S.meaning s.old)) (Object.Text me.old.part)) }
     ensures ended { IfOk result (λ e. record { me = me.new; after = S.meaning s.new; end = e } ≡ spec.reads_line S.store S.serving S.lending me.old (S.meaning s.old)) }
-    ensures same { S.holds s.new ≡ S.holds s.old }
-    ensures part { me.new.part ≡ me.old.part }
-    ensures listed { OnOk result (KeepsAll (S.store (S.meaning s.old)) (S.store (S.meaning s.new))) }
+    ensures kept { Keeps result (S.holds s.old) (S.holds s.new) me.old.part me.new.part (S.store (S.meaning s.old)) (S.store (S.meaning s.new)) }
 {
     let access = Access::ReadLine { term: me.term };
     let answer = ask_store(s, me.part, &access)?;
@@ -106,10 +98,8 @@ fn enter_line<L: Language, S: Shared>(
     s: &mut S,
 ) -> Result<Stepped, NoMemory>
     requires read { IsSome me.old.numbered }
-    ensures ended { IfOk result (λ e. record { me = me.new; after = S.meaning s.new; end = e } ≡ spec.enters_or_goes_on L.ways S.store S.serving S.lending me.old.numbered me.old (S.meaning s.old)) }
-    ensures same { S.holds s.new ≡ S.holds s.old }
-    ensures part { me.new.part ≡ me.old.part }
-    ensures listed { OnOk result (KeepsAll (S.store (S.meaning s.old)) (S.store (S.meaning s.new))) }
+    ensures ended { (devices : List Device) → IfOk result (λ e. record { me = me.new; after = S.meaning s.new; end = e } ≡ spec.enters_or_goes_on (L.ways devices) S.store S.serving S.lending me.old.numbered me.old (S.meaning s.old)) }
+    ensures kept { Keeps result (S.holds s.old) (S.holds s.new) me.old.part me.new.part (S.store (S.meaning s.old)) (S.store (S.meaning s.new)) }
 {
     let Some((line, atoms)) = me.numbered.take() else {
         unreachable!();
@@ -127,15 +117,13 @@ fn begin<L: Language, S: Shared>(
     s: &mut S,
     d: &DeviceTable,
     place: &Place,
-) -> Result<Course, NoMemory>
+) -> Result<Progress, NoMemory>
     requires stands { me.old.place ≡ Some place.now }
     requires own { IsSome (content (S.store (S.meaning s.old)) (Object.Text me.old.part)) }
-    ensures legal { IfOk result IsLegalCourse }
-    ensures begun { IfOk result (λ c. record { me = me.new; course = c } ≡ begins L.ways place.now me.old (spec.seen_by me.old (S.store (S.meaning s.old)))) }
+    ensures legal { IfOk result IsLegalProgress }
+    ensures begun { IfOk result (λ c. record { me = me.new; progress = c } ≡ begins (L.ways d.now) place.now me.old (spec.seen_by me.old (S.store (S.meaning s.old)))) }
     ensures lent { S.meaning s.new ≡ spec.lent S.store S.serving S.lending me.old (S.meaning s.old) }
-    ensures same { S.holds s.new ≡ S.holds s.old }
-    ensures part { me.new.part ≡ me.old.part }
-    ensures listed { OnOk result (KeepsAll (S.store (S.meaning s.old)) (S.store (S.meaning s.new))) }
+    ensures kept { Keeps result (S.holds s.old) (S.holds s.new) me.old.part me.new.part (S.store (S.meaning s.old)) (S.store (S.meaning s.new)) }
 {
     let part = me.part;
     begin_over::<L>(alloc, me, s.lend(part, part, &At::None), d, place)
@@ -153,10 +141,9 @@ fn finish<L: Language, S: Shared>(
 ) -> Result<Stepped, NoMemory>
     requires own { IsSome (content (S.store (S.meaning s.old)) (Object.Text me.old.part)) }
     requires possible { can_answer access.now answer ≡ true }
-    ensures ended { IfOk result (λ e. record { me = me.new; after = S.meaning s.new; end = e } ≡ spec.finishes_by L.ways S.store S.serving S.lending builder access.now place me.old (record { after = S.meaning s.old; answer = answer })) }
-    ensures same { S.holds s.new ≡ S.holds s.old }
-    ensures part { me.new.part ≡ me.old.part }
-    ensures listed { OnOk result (KeepsAll (S.store (S.meaning s.old)) (S.store (S.meaning s.new))) }
+    ensures ended { (devices : List Device) → IfOk result (λ e. record { me = me.new; end = e } ≡ finishes (L.ways devices) builder access.now answer place me.old (spec.seen_by me.old (S.store (S.meaning s.old)))) }
+    ensures lent { S.meaning s.new ≡ spec.lent S.store S.serving S.lending me.old (S.meaning s.old) }
+    ensures kept { Keeps result (S.holds s.old) (S.holds s.new) me.old.part me.new.part (S.store (S.meaning s.old)) (S.store (S.meaning s.new)) }
 {
     let part = me.part;
     let lent = s.lend(part, part, &At::None);
@@ -170,18 +157,16 @@ fn carry_out<L: Language, S: Shared>(
     me: &mut Private,
     s: &mut S,
     place: Place,
-    course: Course,
+    progress: Progress,
 ) -> Result<Stepped, NoMemory>
     requires own { IsSome (content (S.store (S.meaning s.old)) (Object.Text me.old.part)) }
-    requires legal { IsLegalCourse course }
-    ensures ended { IfOk result (λ e. record { me = me.new; after = S.meaning s.new; end = e } ≡ spec.carries_out L.ways S.store S.serving S.lending course place me.old (S.meaning s.old)) }
-    ensures same { S.holds s.new ≡ S.holds s.old }
-    ensures part { me.new.part ≡ me.old.part }
-    ensures listed { OnOk result (KeepsAll (S.store (S.meaning s.old)) (S.store (S.meaning s.new))) }
+    requires legal { IsLegalProgress progress }
+    ensures ended { (devices : List Device) → IfOk result (λ e. record { me = me.new; after = S.meaning s.new; end = e } ≡ spec.carries_out (L.ways devices) S.store S.serving S.lending progress place me.old (S.meaning s.old)) }
+    ensures kept { Keeps result (S.holds s.old) (S.holds s.new) me.old.part me.new.part (S.store (S.meaning s.old)) (S.store (S.meaning s.new)) }
 {
-    match course {
-        Course::Ended(end) => Ok(end),
-        Course::Asks(access, builder) => {
+    match progress {
+        Progress::Ended(end) => Ok(end),
+        Progress::Asks(access, builder) => {
             let answer = ask_store(s, me.part, &access)?;
             finish::<L, S>(alloc, me, s, place, builder, &access, answer)
         }
@@ -199,13 +184,11 @@ fn execute<L: Language, S: Shared>(
 ) -> Result<Stepped, NoMemory>
     requires stands { me.old.place ≡ Some place }
     requires own { IsSome (content (S.store (S.meaning s.old)) (Object.Text me.old.part)) }
-    ensures ended { IfOk result (λ e. record { me = me.new; after = S.meaning s.new; end = e } ≡ spec.executes L.ways S.store S.serving S.lending place me.old (S.meaning s.old)) }
-    ensures same { S.holds s.new ≡ S.holds s.old }
-    ensures part { me.new.part ≡ me.old.part }
-    ensures listed { OnOk result (KeepsAll (S.store (S.meaning s.old)) (S.store (S.meaning s.new))) }
+    ensures ended { IfOk result (λ e. record { me = me.new; after = S.meaning s.new; end = e } ≡ spec.executes (L.ways d.now) S.store S.serving S.lending place me.old (S.meaning s.old)) }
+    ensures kept { Keeps result (S.holds s.old) (S.holds s.new) me.old.part me.new.part (S.store (S.meaning s.old)) (S.store (S.meaning s.new)) }
 {
-    let course = begin::<L, S>(alloc, me, s, d, &place)?;
-    carry_out::<L, S>(alloc, me, s, place, course)
+    let progress = begin::<L, S>(alloc, me, s, d, &place)?;
+    carry_out::<L, S>(alloc, me, s, place, progress)
 }
 
 /// The statement at the place is executed, or a line is read.
@@ -216,10 +199,8 @@ fn run_or_read<L: Language, S: Shared>(
     d: &DeviceTable,
 ) -> Result<Stepped, NoMemory>
     requires own { IsSome (content (S.store (S.meaning s.old)) (Object.Text me.old.part)) }
-    ensures ended { IfOk result (λ e. record { me = me.new; after = S.meaning s.new; end = e } ≡ spec.runs_or_reads L.ways S.store S.serving S.lending me.old.place me.old (S.meaning s.old)) }
-    ensures same { S.holds s.new ≡ S.holds s.old }
-    ensures part { me.new.part ≡ me.old.part }
-    ensures listed { OnOk result (KeepsAll (S.store (S.meaning s.old)) (S.store (S.meaning s.new))) }
+    ensures ended { IfOk result (λ e. record { me = me.new; after = S.meaning s.new; end = e } ≡ spec.runs_or_reads (L.ways d.now) S.store S.serving S.lending me.old.place me.old (S.meaning s.old)) }
+    ensures kept { Keeps result (S.holds s.old) (S.holds s.new) me.old.part me.new.part (S.store (S.meaning s.old)) (S.store (S.meaning s.new)) }
 {
     match me.place {
         Some(place) => execute::<L, S>(alloc, me, s, d, place),
@@ -235,10 +216,8 @@ fn enter_or_go_on<L: Language, S: Shared>(
     d: &DeviceTable,
 ) -> Result<Stepped, NoMemory>
     requires own { IsSome (content (S.store (S.meaning s.old)) (Object.Text me.old.part)) }
-    ensures ended { IfOk result (λ e. record { me = me.new; after = S.meaning s.new; end = e } ≡ spec.enters_or_goes_on L.ways S.store S.serving S.lending me.old.numbered me.old (S.meaning s.old)) }
-    ensures same { S.holds s.new ≡ S.holds s.old }
-    ensures part { me.new.part ≡ me.old.part }
-    ensures listed { OnOk result (KeepsAll (S.store (S.meaning s.old)) (S.store (S.meaning s.new))) }
+    ensures ended { IfOk result (λ e. record { me = me.new; after = S.meaning s.new; end = e } ≡ spec.enters_or_goes_on (L.ways d.now) S.store S.serving S.lending me.old.numbered me.old (S.meaning s.old)) }
+    ensures kept { Keeps result (S.holds s.old) (S.holds s.new) me.old.part me.new.part (S.store (S.meaning s.old)) (S.store (S.meaning s.new)) }
 {
     match &me.numbered {
         Some(_) => enter_line::<L, S>(alloc, me, s),
@@ -254,10 +233,8 @@ fn type_or_go_on<L: Language, S: Shared>(
     d: &DeviceTable,
 ) -> Result<Stepped, NoMemory>
     requires own { IsSome (content (S.store (S.meaning s.old)) (Object.Text me.old.part)) }
-    ensures ended { IfOk result (λ e. record { me = me.new; after = S.meaning s.new; end = e } ≡ spec.types_or_goes_on L.ways S.store S.serving S.lending me.old.literal me.old (S.meaning s.old)) }
-    ensures same { S.holds s.new ≡ S.holds s.old }
-    ensures part { me.new.part ≡ me.old.part }
-    ensures listed { OnOk result (KeepsAll (S.store (S.meaning s.old)) (S.store (S.meaning s.new))) }
+    ensures ended { IfOk result (λ e. record { me = me.new; after = S.meaning s.new; end = e } ≡ spec.types_or_goes_on (L.ways d.now) S.store S.serving S.lending me.old.literal me.old (S.meaning s.old)) }
+    ensures kept { Keeps result (S.holds s.old) (S.holds s.new) me.old.part me.new.part (S.store (S.meaning s.old)) (S.store (S.meaning s.new)) }
 {
     match &me.literal {
         Some(text) => {
@@ -276,10 +253,8 @@ fn act<L: Language, S: Shared>(
     d: &DeviceTable,
 ) -> Result<Stepped, NoMemory>
     requires own { IsSome (content (S.store (S.meaning s.old)) (Object.Text me.old.part)) }
-    ensures ended { IfOk result (λ e. record { me = me.new; after = S.meaning s.new; end = e } ≡ spec.shows_or_goes_on L.ways S.store S.serving S.lending me.old.pending me.old (S.meaning s.old)) }
-    ensures same { S.holds s.new ≡ S.holds s.old }
-    ensures part { me.new.part ≡ me.old.part }
-    ensures listed { OnOk result (KeepsAll (S.store (S.meaning s.old)) (S.store (S.meaning s.new))) }
+    ensures ended { IfOk result (λ e. record { me = me.new; after = S.meaning s.new; end = e } ≡ spec.shows_or_goes_on (L.ways d.now) S.store S.serving S.lending me.old.pending me.old (S.meaning s.old)) }
+    ensures kept { Keeps result (S.holds s.old) (S.holds s.new) me.old.part me.new.part (S.store (S.meaning s.old)) (S.store (S.meaning s.new)) }
 {
     match &me.pending {
         Some((_, text)) => {
@@ -298,10 +273,8 @@ fn halt_or_act<L: Language, S: Shared>(
     d: &DeviceTable,
 ) -> Result<Stepped, NoMemory>
     requires own { IsSome (content (S.store (S.meaning s.old)) (Object.Text me.old.part)) }
-    ensures ended { IfOk result (λ e. record { me = me.new; after = S.meaning s.new; end = e } ≡ spec.halts_or_acts L.ways S.store S.serving S.lending me.old (S.meaning s.old)) }
-    ensures same { S.holds s.new ≡ S.holds s.old }
-    ensures part { me.new.part ≡ me.old.part }
-    ensures listed { OnOk result (KeepsAll (S.store (S.meaning s.old)) (S.store (S.meaning s.new))) }
+    ensures ended { IfOk result (λ e. record { me = me.new; after = S.meaning s.new; end = e } ≡ spec.halts_or_acts (L.ways d.now) S.store S.serving S.lending me.old (S.meaning s.old)) }
+    ensures kept { Keeps result (S.holds s.old) (S.holds s.new) me.old.part me.new.part (S.store (S.meaning s.old)) (S.store (S.meaning s.new)) }
 {
     if me.place.is_some() {
         return halt(alloc, me);
@@ -319,10 +292,8 @@ pub fn step<L: Language, S: Shared>(
     d: &DeviceTable,
 ) -> Result<Stepped, NoMemory>
     requires own { IsSome (content (S.store (S.meaning s.old)) (Object.Text me.old.part)) }
-    ensures stepped { IfOk result (λ e. record { me = me.new; after = S.meaning s.new; end = e } ≡ spec.step L.ways S.store S.serving S.lending me.old (S.meaning s.old)) }
-    ensures same { S.holds s.new ≡ S.holds s.old }
-    ensures part { me.new.part ≡ me.old.part }
-    ensures listed { OnOk result (KeepsAll (S.store (S.meaning s.old)) (S.store (S.meaning s.new))) }
+    ensures stepped { IfOk result (λ e. record { me = me.new; after = S.meaning s.new; end = e } ≡ spec.step (L.ways d.now) S.store S.serving S.lending me.old (S.meaning s.old)) }
+    ensures kept { Keeps result (S.holds s.old) (S.holds s.new) me.old.part me.new.part (S.store (S.meaning s.old)) (S.store (S.meaning s.new)) }
 {
     if me.reset {
         return reset(alloc, me);

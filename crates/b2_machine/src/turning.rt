@@ -1,7 +1,7 @@
 // A turn: steps up to the first that ends it, or to as many as its quota.
-ghost use Rattle.std.specs.Prelude.{◌≡◌, ◌≤◌, ◌<◌, ◌+◌, IfOk, OnOk, IsSome, if◌then◌else◌};
+ghost use Rattle.std.specs.Prelude.{◌≡◌, ◌≤◌, ◌<◌, ◌+◌, IfOk, IsSome, if◌then◌else◌};
 ghost use Rattle.b2_access.specs.Store.{content};
-ghost use Rattle.b2_machine.specs.Stays.{KeepsAll};
+ghost use Rattle.b2_machine.specs.Stays.{Keeps};
 ghost use Rattle.b2_machine.specs.Turn as spec;
 
 use crate::ends::{Turned, Why};
@@ -30,11 +30,9 @@ pub fn turn<L: Language, S: Shared>(
     quota: u16,
 ) -> Result<Turned, NoMemory>
     requires own { IsSome (content (S.store (S.meaning s.old)) (Object.Text me.old.part)) }
-    ensures turned { IfOk result (λ t. record { me = me.new; after = S.meaning s.new; turned = t } ≡ spec.turn L.ways S.store S.serving S.lending quota me.old (S.meaning s.old)) }
+    ensures turned { IfOk result (λ t. record { me = me.new; after = S.meaning s.new; turned = t } ≡ spec.turn (L.ways d.now) S.store S.serving S.lending quota me.old (S.meaning s.old)) }
     ensures few { IfOk result (λ t. t.steps ≤ quota) }
-    ensures same { S.holds s.new ≡ S.holds s.old }
-    ensures part { me.new.part ≡ me.old.part }
-    ensures listed { OnOk result (KeepsAll (S.store (S.meaning s.old)) (S.store (S.meaning s.new))) }
+    ensures kept { Keeps result (S.holds s.old) (S.holds s.new) me.old.part me.new.part (S.store (S.meaning s.old)) (S.store (S.meaning s.new)) }
 {
     let mut steps = 0;
     for _ in 0..quota {

@@ -6,12 +6,11 @@ ghost use Rattle.b2_machine.specs.Typing as spec;
 use crate::ends::{Stepped, counts, repeats};
 use crate::messages::error_in_line;
 use crate::readiness::{note_error, prompt, refuse};
-use b2_access::{Access, Answer, Private};
+use b2_access::{Access, Answer, Private, drop_frames};
 use b2_atom::Atoms;
 use b2_base::codes::A08_TEXT_BORROWED;
 use b2_base::{ByteList, Code, NoMemory};
 use b2_flow::Place;
-use b2_stmt::drop_frames;
 use b2_syntax::{Entered, LineErr, read};
 use std::alloc::Global;
 

@@ -3,6 +3,7 @@ ghost use Rattle.std.specs.Prelude.{◌≡◌, ◌↔◌, ◌∷◌, ◌++◌, �
 ghost use Rattle.std.specs.Fmt.{decimal};
 ghost use Rattle.b2_mvp.specs.Parts as spec;
 
+use arrayvec::ArrayVec;
 use b2_base::lexical::is_digit;
 use b2_base::{NoMemory, Part, cut};
 use itoa::Buffer;
@@ -11,19 +12,17 @@ use std::marker::Model;
 /// At most sixteen partitions, in order. Contracts see them as a list.
 #[derive(Drop)]
 pub struct Parts {
-    // The first of these.
-    parts: [Part; 16],
-    count: usize,
+    parts: ArrayVec<Part, 16>,
 }
 
 impl Model for Parts {
-    ghost use Rattle.std.specs.Prelude.{ℕ, List, ◌≤◌, take};
+    ghost use Rattle.std.specs.Prelude.{ℕ, List, ◌≤◌, length};
 
     ghost Value = { List ℕ };
 
-    ghost view = { λ s. take s.count s.parts };
+    ghost view = { λ s. s.parts.items };
 
-    ghost invariant = { λ s. s.count ≤ 16 };
+    ghost invariant = { λ s. length s.parts.items ≤ 16 };
 }
 
 impl Parts {
@@ -31,8 +30,7 @@ impl Parts {
         ensures { result ≡ [] }
     {
         Parts {
-            parts: [Part::known(1); 16],
-            count: 0,
+            parts: ArrayVec::new(),
         }
     }
 
@@ -41,15 +39,14 @@ impl Parts {
         requires { length self.old < 16 }
         ensures { self.new ≡ self.old ++ part ∷ [] }
     {
-        self.parts[self.count] = part;
-        self.count += 1;
+        let _ = self.parts.try_push(part);
     }
 
     /// The partitions in order.
     pub fn as_slice(&self) -> &[Part]
         ensures { result.now ≡ self.now }
     {
-        &self.parts[..self.count]
+        self.parts.as_slice()
     }
 
     /// The partitions that a word lists: numbers from 1 to 16 that ascend, each without zeros before, joined by commas. None

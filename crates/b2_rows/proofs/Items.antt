@@ -33,10 +33,10 @@ pub holds_map : (v w : Trees → Text → Type 0) (o : Outcome) → ((a : Trees)
 holds_map v w (Ok p) more h = more p.0 p.1 h
 holds_map v w (Err e) more h = tt
 
-pub mark_case : (b : Bool) (c : ℕ) (t : Text) (e : Stop) (q : Parser Text) (v : Trees → Text → Type 0) → (first t == c) ≡ b
+pub symbol_case : (b : Bool) (c : ℕ) (t : Text) (e : Stop) (q : Parser Text) (v : Trees → Text → Type 0) → (first t == c) ≡ b
     → (first t ≡ c → Holds (λ a r. v (Put (Coded c) a) r) (q (drop 1 t))) → Holds v (and_then (if b then one (Coded c) (drop 1 t) else Err e) q)
-mark_case true c t e q v is h = holds_preceded v (Put (Coded c) Done) (q (drop 1 t)) (h (equal (first t) c is))
-mark_case false c t e q v is h = tt
+symbol_case true c t e q v is h = holds_preceded v (Put (Coded c) Done) (q (drop 1 t)) (h (equal (first t) c is))
+symbol_case false c t e q v is h = tt
 
 pub among_case : (b : Bool) (low high : ℕ) (t : Text) (e : Stop) (q : Parser Text) (v : Trees → Text → Type 0) → is_among low high (first t) ≡ b
     → (is_among low high (first t) ≡ true → Holds (λ a r. v (Put (Coded (first t)) a) r) (q (drop 1 t)))

@@ -11,7 +11,7 @@ use Rattle.b2_atom.specs.Words.{Text}
 use Rattle.b2_atom.specs.Tree.{Trees, Outcome, atoms, under, names_global, calls_function, uses_in}
 use Rattle.b2_atom.specs.Tree.Trees.{Done, In}
 use Rattle.b2_atom.specs.Table.{forms}
-use Rattle.b2_atom.specs.Grammar.{reader, statement, statement_within, statement_row, chosen, from, row_at, row_items, starts, read_line}
+use Rattle.b2_atom.specs.Grammar.{reader, statement, statement_within, statement_row, chosen, from, row_at, row_items, starts, parse_line}
 use Rattle.b2_atom.specs.Lines.{is_line, LineUnit, units_of, further_unit, is_further, left_after, unit_row, unit_uses, uses_of, chosen_row, IsReadBy}
 use Rattle.b2_atom.specs.Units.{TreeUnit, unit_atoms, units_on}
 use Rattle.b2_atom.specs.Laws.{IsTree, IsReadAlone}
@@ -20,7 +20,7 @@ use Rattle.b2_atom.specs.declared.rows.TheConstants as row
 use Rattle.b2_atom.specs.declared.words.Origin.TheVariants.{Atoms}
 use Rattle.b2_atom.specs.declared.output.Stop.{Stop}
 use Rattle.b2_atom.specs.declared.forms.Position.{Position}
-use Rattle.b2_atom.specs.declared.forms.Position.TheVariants as place
+use Rattle.b2_atom.specs.declared.forms.Position.TheVariants as position
 use Rattle.b2_atom.specs.declared.forms.Item.TheVariants.{Word, Part, Either}
 use Rattle.b2_atom.specs.declared.forms.Start.TheVariants as start
 use Rattle.b2_atom.proofs.Booleans.{both, equal, never, or_false}
@@ -48,7 +48,7 @@ cut_of line t same units alone rows = record {
 
 tree_is : (line : Text) (t : Trees) → IsTree t → atoms t ≡ line → line_tree line ≡ t
 unfolding line_tree
-tree_is line t h same = ap (λ (s : Text). tree_of (read_line Atoms s)) (sym same) ∙ ap tree_of (atoms_back t h)
+tree_is line t h same = ap (λ (s : Text). tree_of (parse_line Atoms s)) (sym same) ∙ ap tree_of (atoms_back t h)
 
 pub line_cut : (line : Text) → is_line line ≡ true → LineCut line
 line_cut line h =
@@ -60,7 +60,7 @@ line_cut line h =
 -- the units as they are counted
 further_same : (k i : ℕ) (us : List TreeUnit) → further_unit k i (map unit_atoms us) ≡ further_on k i us
 further_same k i [] = refl
-further_same k i (u ∷ us) = ap (λ (n : ℕ). if nat_lt k i && is_further u.place then i else n) (further_same k (suc i) us)
+further_same k i (u ∷ us) = ap (λ (n : ℕ). if nat_lt k i && is_further u.position then i else n) (further_same k (suc i) us)
 
 pub further_is : (line : Text) (k : ℕ) → is_line line ≡ true → further_unit k 0 (units_of line) ≡ further_on k 0 (tree_units line)
 further_is line k h = ap (further_unit k 0) (line_cut line h).units ∙ further_same k 0 (tree_units line)
@@ -133,21 +133,21 @@ row_chosen : (p : Position) (s : Text) (n : ℕ) (t : Trees) (r : Result ℕ Sto
 row_chosen p s n t (Err e) q h = cc
 row_chosen p s n t (Ok m) q h = let e = same_row m n t (q m s) h in (λ i. Ok (e i))
 
-pub row_of_unit : (u : TreeUnit) → IsReadAlone u → row_at forms Atoms u.place (atoms u.tree) ≡ Ok u.row
+pub row_of_unit : (u : TreeUnit) → IsReadAlone u → row_at forms Atoms u.position (atoms u.tree) ≡ Ok u.row
 unfolding statement_within statement_row
-row_of_unit u h = row_chosen u.place (atoms u.tree) u.row u.tree (row_at forms Atoms u.place (atoms u.tree)) _ h
+row_of_unit u h = row_chosen u.position (atoms u.tree) u.row u.tree (row_at forms Atoms u.position (atoms u.tree)) _ h
 
 else_row : (p : Position) (s : Text) (m : ℕ) → row_at forms Atoms p (word.ELSE ∷ s) ≡ Ok m → m ≡ row.ELSE
 unfolding starts
-else_row place.First s m h = cc
-else_row place.Further s m h = cc
-else_row place.Following s m h = cc
+else_row position.First s m h = cc
+else_row position.Further s m h = cc
+else_row position.Following s m h = cc
 
 error_row : (p : Position) (s : Text) (m : ℕ) → row_at forms Atoms p (word.ERROR ∷ s) ≡ Ok m → m ≡ row.ERROR
 unfolding starts
-error_row place.First s m h = cc
-error_row place.Further s m h = cc
-error_row place.Following s m h = cc
+error_row position.First s m h = cc
+error_row position.Further s m h = cc
+error_row position.Following s m h = cc
 
 pub else_items : row_items row.ELSE ≡ Word word.ELSE ∷ Either start.Line row.LINE_NUMBER row.FOLLOWING ∷ []
 unfolding row_items
@@ -187,10 +187,10 @@ unit_part : (u : TreeUnit) (n : ℕ) → IsRowOnTree u → u.row ≡ n → is_pa
 unit_part u n h same = subst (λ (m : ℕ). is_part m (atoms u.tree) ≡ true) same h.part
 
 pub else_told : (u : TreeUnit) → IsReadAlone u → IsRowOnTree u → (first (atoms u.tree) == word.ELSE) ≡ (u.row == row.ELSE)
-else_told u h k = byte_by word.ELSE row.ELSE u.place (atoms u.tree) u.row _ _ refl refl refl else_row (row_of_unit u h) (λ same. else_first (atoms u.tree) (unit_part u row.ELSE k same))
+else_told u h k = byte_by word.ELSE row.ELSE u.position (atoms u.tree) u.row _ _ refl refl refl else_row (row_of_unit u h) (λ same. else_first (atoms u.tree) (unit_part u row.ELSE k same))
 
 pub error_told : (u : TreeUnit) → IsReadAlone u → IsRowOnTree u → (first (atoms u.tree) == word.ERROR) ≡ (u.row == row.ERROR)
-error_told u h k = byte_by word.ERROR row.ERROR u.place (atoms u.tree) u.row _ _ refl refl refl error_row (row_of_unit u h) (λ same. error_first (atoms u.tree) (unit_part u row.ERROR k same))
+error_told u h k = byte_by word.ERROR row.ERROR u.position (atoms u.tree) u.row _ _ refl refl refl error_row (row_of_unit u h) (λ same. error_first (atoms u.tree) (unit_part u row.ERROR k same))
 
 -- a unit with its row
 pub unit_is_row : (n : ℕ) (bytes : Text) → length bytes ≤ 255 → IsReadBy n bytes → IsRow n bytes (tree_at n bytes)
@@ -222,7 +222,7 @@ uses_within n t o is = ap uses_of is ∙ (λ i. record { globals = or_false (nam
 
 unit_use_is : (v : TreeUnit) → IsReadAlone v → unit_uses (unit_atoms v) ≡ uses_in v.tree
 unfolding unit_uses
-unit_use_is v h = uses_within v.row v.tree (statement (reader Atoms) 1 v.place (atoms v.tree)) h
+unit_use_is v h = uses_within v.row v.tree (statement (reader Atoms) 1 v.position (atoms v.tree)) h
 
 uses_by : (o : Option TreeUnit) → ((v : TreeUnit) → o ≡ Some v → IsReadAlone v) → option_map unit_uses (option_map unit_atoms o) ≡ option_map (λ (v : TreeUnit). uses_in v.tree) o
 uses_by None h = refl

@@ -8,14 +8,14 @@ use Rattle.b2_atom.specs.Words.{Text}
 use Rattle.b2_atom.specs.Tree.{Trees, Outcome, under, atoms}
 use Rattle.b2_atom.specs.Tree.Trees.{Done, In}
 use Rattle.b2_atom.specs.Grammar.{reader, statement, statement_within, chosen, from, statement_row, row_at}
-use Rattle.b2_atom.specs.Lines.{left_after, is_line, after_unit, LineUnit, leading_unit, next_place, next_text, units_after, units_from, units_of}
+use Rattle.b2_atom.specs.Lines.{left_after, is_line, after_unit, LineUnit, leading_unit, next_position, next_text, units_after, units_from, units_of}
 use Rattle.b2_atom.specs.Units.{TreeUnit, unit_atoms, units_on}
 use Rattle.b2_atom.specs.Laws.{IsStatement, IsReadAlone}
 use Rattle.b2_atom.specs.Table.{forms}
 use Rattle.b2_atom.specs.declared.words.Origin.TheVariants.{Atoms}
 use Rattle.b2_atom.specs.declared.output.Stop.{Stop}
 use Rattle.b2_atom.specs.declared.forms.Position.{Position}
-use Rattle.b2_atom.specs.declared.forms.Position.TheVariants as place
+use Rattle.b2_atom.specs.declared.forms.Position.TheVariants as position
 use Rattle.b2_atom.proofs.Booleans.{both}
 use Rattle.b2_atom.proofs.reading.Sound.{takes_statement}
 use Rattle.b2_atom.proofs.lines.EachUnit.{each_unit, tree_is_cut}
@@ -70,7 +70,7 @@ next_if false m t h = h
 
 units_after_short : (m n : ℕ) → ((p : Position) (t : Text) → length t ≤ m → All (Within m) (units_from n p t)) → (t : Text) → length t ≤ m → All (Within m) (units_after (units_from n) t)
 units_after_short m n ih [] h = All-nil (Within m)
-units_after_short m n ih (b ∷ bs) h = ih (next_place (b ∷ bs)) (next_text (b ∷ bs)) (next_if (b == byte.colon) m (b ∷ bs) h)
+units_after_short m n ih (b ∷ bs) h = ih (next_position (b ∷ bs)) (next_text (b ∷ bs)) (next_if (b == byte.colon) m (b ∷ bs) h)
 
 units_short : (m n : ℕ) (p : Position) (t : Text) → length t ≤ m → All (Within m) (units_from n p t)
 units_short m zero p t h = All-nil (Within m)
@@ -83,7 +83,7 @@ each_of [] h k = All-nil IsRowUnit
 each_of (u ∷ us) h k =
     let s = All-head IsStatement u us h in
     All-cons IsRowUnit u us
-    (record { row = s.row; tree = s.tree; read = s.read; is = statement_is_row u.place u.bytes s.row s.tree (let e = All-head (Within 255) u us k in omega (arith, e)) s.read })
+    (record { row = s.row; tree = s.tree; read = s.read; is = statement_is_row u.position u.bytes s.row s.tree (let e = All-head (Within 255) u us k in omega (arith, e)) s.read })
     (each_of us (All-tail IsStatement u us h) (All-tail (Within 255) u us k))
 
 pub line_short : (line : Text) → is_line line ≡ true → length line ≤ 255
@@ -95,18 +95,18 @@ line_short line h = short_by (length line) _ h
 
 pub each_unit_is_a_row : EachUnitIsARow
 unfolding units_of
-each_unit_is_a_row line h = each_of (units_of line) (each_unit line h) (units_short 255 (length line) place.First line (line_short line h))
+each_unit_is_a_row line h = each_of (units_of line) (each_unit line h) (units_short 255 (length line) position.First line (line_short line h))
 
 -- each unit on a tree
 tree_units : (vs : List TreeUnit) → All IsReadAlone vs → All (Within 255) (map unit_atoms vs) → All IsRowOnTree vs
 tree_units [] h k = All-nil IsRowOnTree
 tree_units (v ∷ vs) h k =
     All-cons IsRowOnTree v vs
-    (statement_is_row v.place (atoms v.tree) v.row v.tree (let e = All-head (Within 255) (unit_atoms v) (map unit_atoms vs) k in omega (arith, e)) (All-head IsReadAlone v vs h))
+    (statement_is_row v.position (atoms v.tree) v.row v.tree (let e = All-head (Within 255) (unit_atoms v) (map unit_atoms vs) k in omega (arith, e)) (All-head IsReadAlone v vs h))
     (tree_units vs (All-tail IsReadAlone v vs h) (All-tail (Within 255) (unit_atoms v) (map unit_atoms vs) k))
 
 pub each_tree_unit_is_its_row : EachTreeUnitIsItsRow
 unfolding units_of
 each_tree_unit_is_its_row t h short =
     let c = tree_is_cut t h in
-    tree_units (units_on t) c.alone (subst (λ (us : List LineUnit). All (Within 255) us) c.units (units_short 255 (length (atoms t)) place.First (atoms t) short))
+    tree_units (units_on t) c.alone (subst (λ (us : List LineUnit). All (Within 255) us) c.units (units_short 255 (length (atoms t)) position.First (atoms t) short))

@@ -4,7 +4,7 @@ use Rattle.b2_atom.specs.Words.{Text}
 use Rattle.b2_atom.specs.Tokens.Token.{Lined}
 use Rattle.b2_atom.specs.Tree.{Trees}
 use Rattle.b2_atom.specs.Tree.Trees.{Put, In}
-use Rattle.b2_atom.specs.Grammar.{read_line}
+use Rattle.b2_atom.specs.Grammar.{parse_line}
 use Rattle.b2_atom.specs.Lines.{is_further}
 use Rattle.b2_atom.specs.Units.{TreeUnit, units_on}
 use Rattle.b2_atom.specs.declared.rows.TheConstants as row
@@ -16,7 +16,7 @@ use Rattle.b2_rows.specs.declared.following.Goal.TheVariants as goal
 
 -- the tree that the bytes of a line are read as, and the units on it
 unfoldable pub line_tree : Text → Trees
-line_tree line = tree_of (read_line Atoms line)
+line_tree line = tree_of (parse_line Atoms line)
 
 abbrev pub tree_units : Text → List TreeUnit
 tree_units line = units_on (line_tree line)
@@ -24,7 +24,7 @@ tree_units line = units_on (line_tree line)
 -- the first unit after the k-th that follows a `:`, or the number of units; i units were counted before
 abbrev pub further_on : ℕ → ℕ → List TreeUnit → ℕ
 further_on k i [] = i
-further_on k i (u ∷ us) = if nat_lt k i && is_further u.place then i else further_on k (suc i) us
+further_on k i (u ∷ us) = if nat_lt k i && is_further u.position then i else further_on k (suc i) us
 
 -- a unit of the line, or the next line where the line has no such unit
 abbrev pub unit_or_next : ℕ → List TreeUnit → Goal

@@ -59,7 +59,7 @@ pub record IsRow (n : ℕ) (bytes : Text) (t : Trees) : Type 0 where
 pub record IsRowUnit (u : LineUnit) : Type 0 where
   pub row : ℕ
   pub tree : Trees
-  pub read : statement (reader Atoms) 1 u.place u.bytes ≡ Ok (In row tree Done, [])
+  pub read : statement (reader Atoms) 1 u.position u.bytes ≡ Ok (In row tree Done, [])
   pub is : IsRow row u.bytes tree
 
 -- each unit of a line is a row that is read

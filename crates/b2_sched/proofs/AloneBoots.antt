@@ -16,7 +16,7 @@ use Rattle.b2_sched.proofs.GroupRows.{is_it}
 use Rattle.b2_sched.proofs.GroupRuns.{group_relies}
 use Rattle.b2_sched.proofs.Numbers.{same_number}
 use Rattle.b2_sched.specs.Groups.{CleanGroupsAreAsAlone, IsOutside, WorldsAlike}
-use Rattle.b2_sched.specs.Start.{areas_of, booted, private_row, store_booted}
+use Rattle.b2_sched.specs.Start.{Images, areas_of, booted, private_row, store_booted}
 
 both_maps : {A B C : Type 0} (k : B → C) (f : A → B) (xs : List A) → map k (map f xs) ≡ map (λ x. k (f x)) xs
 both_maps k f [] = refl
@@ -75,25 +75,26 @@ in_group : (b : Bool) → (b ≡ false → ⊥) → b ≡ true
 in_group true out = refl
 in_group false out = absurd (out refl)
 
-objects : (g : Group) (b : BootState) (o : Object) → (IsOutside g o → ⊥) → content (store_booted b) o ≡ content (store_booted (alone g b)) o
-objects g b (object.Text p) inside = areas_kept g p (λ a. (text_row a).1) b.partitions (in_group (g p) inside)
-objects g b (object.Borrow p) inside = areas_kept g p (λ a. (borrow_row a).1) b.partitions (in_group (g p) inside)
-objects g b (object.Globals p) inside = areas_kept g p (λ a. (globals_row a).1) b.partitions (in_group (g p) inside)
-objects g b (object.Terminal t) inside = refl
-objects g b o inside = refl
+objects : (g : Group) (b : BootState) (images : Images) (o : Object) → (IsOutside g o → ⊥) → content (store_booted b images) o ≡ content (store_booted (alone g b) images) o
+objects g b images (object.Text p) inside = areas_kept g p (λ a. (text_row a).1) b.partitions (in_group (g p) inside)
+objects g b images (object.Borrow p) inside = areas_kept g p (λ a. (borrow_row a).1) b.partitions (in_group (g p) inside)
+objects g b images (object.Globals p) inside = areas_kept g p (λ a. (globals_row a).1) b.partitions (in_group (g p) inside)
+objects g b images (object.Terminal t) inside = refl
+objects g b images o inside = refl
 
-pub starts_alike : (g : Group) (b : BootState) → WorldsAlike (IsOutside g) g [] (booted b) (booted (alone g b))
-starts_alike g b = record {
+pub starts_alike : (g : Group) (b : BootState) (images : Images) → WorldsAlike (IsOutside g) g [] (booted b images) (booted (alone g b) images)
+starts_alike g b images = record {
   quota = refl;
+  devices = refl;
   privates = record {
     members = λ p member. of_member g p (λ x. (private_row x).1) b.partitions member;
     absent = λ p out. of_another g p (λ x. (private_row x).1) b.partitions out;
     homes = λ p me member is. starts_within g p b.partitions me member is;
   };
-  stores = λ o clear inside. objects g b o inside;
+  stores = λ o clear inside. objects g b images o inside;
 }
 
 pub as_alone : CleanGroupsAreAsAlone
-as_alone g b log clean =
-    let after = group_relies g log (booted b) (booted (alone g b)) (starts_alike g b) clean in
+as_alone g b images log clean =
+    let after = group_relies g log (booted b images) (booted (alone g b) images) (starts_alike g b images) clean in
     (after.privates.members, λ o inside clear. after.stores o clear inside)

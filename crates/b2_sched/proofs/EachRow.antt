@@ -3,6 +3,7 @@ use Rattle.std.specs.Prelude.{◌≡◌, ℕ, List, [], ◌∷◌, Option, Some,
 use Rattle.std.proofs.Common.{sym, subst}
 use Rattle.b2_access.specs.Rows.{row_of, with_row}
 use Rattle.b2_access.specs.Store.{StoreState}
+use Rattle.b2_access.specs.declared.devices.Device.{Device}
 use Rattle.b2_access.specs.declared.private.Private.{Private}
 use Rattle.b2_boot.specs.declared.log.Event.{Event}
 use Rattle.b2_sched.proofs.GroupRows.{row_holds}
@@ -22,7 +23,7 @@ module _ (P : ℕ → Private → Type 0) where
   pub record IsKept : Type 0 where
     pub halt : (p : ℕ) (me : Private) → P p me → P p (asked_to_halt me)
     pub reset : (p : ℕ) (me : Private) → P p me → P p (asked_to_reset me)
-    pub turn : (p n : ℕ) (me : Private) (s : StoreState) → P p me → P p (turn_of n me s).me
+    pub turn : (devices : List Device) (p n : ℕ) (me : Private) (s : StoreState) → P p me → P p (turn_of devices n me s).me
 
   module _ (kept : IsKept) where
     each_changed : (f : Private → Private) → ((p : ℕ) (me : Private) → P p me → P p (f me)) → (p : ℕ) (o : Option Private) (rows : List (ℕ × Private)) → row_of p rows ≡ o → EachIs rows → EachIs (row_changed p o f rows)
@@ -31,7 +32,7 @@ module _ (P : ℕ → Private → Type 0) where
 
     each_turned : (p n : ℕ) (o : Option Private) (w : WorldState) → private_of p w ≡ o → EachIs w.privates → EachIs (with_turn p o n w).privates
     each_turned p n None w is old = old
-    each_turned p n (Some me) w is old = each_row p (turn_of n me w.store).me w.privates (kept.turn p n me w.store (old p me is)) old
+    each_turned p n (Some me) w is old = each_row p (turn_of w.devices n me w.store).me w.privates (kept.turn w.devices p n me w.store (old p me is)) old
 
     pub each_action : (a : Action) (w : WorldState) → EachIs w.privates → EachIs (does a w).privates
     each_action (Key t k) w old = old

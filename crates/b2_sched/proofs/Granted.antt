@@ -4,25 +4,27 @@ use Rattle.std.proofs.Common.{sym, ap, subst, ◌∙◌, arith}
 use Rattle.std.proofs.Math.Nat.{mul-le-mul_left, mul_comm}
 use Rattle.std.proofs.lemmas.Nat.{mul-le}
 use Rattle.std.proofs.lemmas.List.{length-map}
-use Rattle.b2_basic.specs.Choice.{basic}
 use Rattle.b2_boot.specs.Boots.{BootState}
 use Rattle.b2_boot.specs.Logs.{grants, granted_by}
 use Rattle.b2_boot.specs.declared.log.Event.{Event}
 use Rattle.b2_boot.specs.declared.log.Event.TheVariants as event
 use Rattle.b2_access.specs.Rows.{row_of}
-use Rattle.b2_access.specs.Serving.{serves, itself}
+use Rattle.b2_access.specs.Serving.{itself}
+use Rattle.b2_store.specs.DiskWork.{serves}
 use Rattle.b2_access.specs.Store.{StoreState}
+use Rattle.b2_access.specs.declared.devices.Device.{Device}
 use Rattle.b2_access.specs.declared.private.Private.{Private}
 use Rattle.b2_audit.specs.Steps.{Step}
 use Rattle.b2_machine.specs.Turn.{TurnEnd, counted_on, ended_turn, turn_from, unless_ended}
 use Rattle.b2_machine.specs.declared.ends.Why.{Why}
 use Rattle.b2_machine.proofs.Counted.{steps_count_or_end}
+use Rattle.b2_sched.specs.Choice.{basic}
 use Rattle.b2_sched.proofs.Folds.{does_append, all_keep_quota}
 use Rattle.b2_sched.proofs.Lasting.{all_there, does_there, there_from}
 use Rattle.b2_sched.proofs.Numbers.{same_number}
 use Rattle.b2_sched.specs.Laws.{RunsKeepToTheirGrant, TurnsCountAllButOne, present_from, present}
 use Rattle.b2_sched.specs.Start.{booted, private_row}
-use Rattle.b2_sched.specs.Turns.{after_loan, step_of, step_told, steps_in_turn, turn_of}
+use Rattle.b2_sched.specs.Turns.{after_loan, step_of, step_noted, steps_in_turn, turn_of}
 use Rattle.b2_sched.specs.World.{WorldState, Turn, private_of, with_turn, actions, does, does_all, happens, ran, rounds, turns_from}
 
 -- a turn by its next step
@@ -35,16 +37,17 @@ few_by : (o : Option Why) (c n k : ℕ) (me : Private) (s : StoreState) (t : Tur
 few_by None c n k me s t h few = omega arith
 few_by (Some w) c n k me s t h few = omega arith
 
-few_from : (n : ℕ) (me : Private) (s : StoreState) (k : ℕ) → (turn_from basic itself serves after_loan n me s k).turned.steps ≤ k + n
-unfolding turn_from
-few_from zero me s k = omega arith
-few_from (suc n) me s k =
-    let x = step_of me s in
-    let c = counted_on k x.end in
-    few_by x.end.why c n k x.me x.after (turn_from basic itself serves after_loan n x.me x.after c) (counted_few x.end.counted k) (few_from n x.me x.after c)
+module _ (devices : List Device) where
+  few_from : (n : ℕ) (me : Private) (s : StoreState) (k : ℕ) → (turn_from (basic devices) itself serves after_loan n me s k).turned.steps ≤ k + n
+  unfolding turn_from
+  few_from zero me s k = omega arith
+  few_from (suc n) me s k =
+      let x = step_of devices me s in
+      let c = counted_on k x.end in
+      few_by x.end.why c n k x.me x.after (turn_from (basic devices) itself serves after_loan n x.me x.after c) (counted_few x.end.counted k) (few_from n x.me x.after c)
 
-turn_few : (quota : ℕ) (me : Private) (s : StoreState) → (turn_of quota me s).turned.steps ≤ quota
-turn_few quota me s = let few = few_from quota me s 0 in omega arith
+  turn_few : (quota : ℕ) (me : Private) (s : StoreState) → (turn_of devices quota me s).turned.steps ≤ quota
+  turn_few quota me s = let few = few_from quota me s 0 in omega arith
 
 -- all of its steps, or all but the last
 more_by : (o : Option Why) (b : Bool) (told : Step) (rest : List Step) (k : ℕ) (me : Private) (s : StoreState) (t : TurnEnd StoreState)
@@ -55,25 +58,26 @@ more_by None false told rest k me s t ends h = let never : false ≡ true = ends
 more_by (Some w) true told rest k me s t ends h = omega arith
 more_by (Some w) false told rest k me s t ends h = omega arith
 
-more_from : (who n : ℕ) (me : Private) (s : StoreState) (k : ℕ) → length (steps_in_turn who n me s) + k ≤ (turn_from basic itself serves after_loan n me s k).turned.steps + 1
-unfolding steps_in_turn turn_from
-more_from who zero me s k = omega arith
-more_from who (suc n) me s k =
-    let x = step_of me s in
-    let c = counted_on k x.end in
-    more_by x.end.why x.end.counted (step_told who me s) (steps_in_turn who n x.me x.after) k x.me x.after (turn_from basic itself serves after_loan n x.me x.after c)
-    (steps_count_or_end basic itself serves after_loan me s) (more_from who n x.me x.after c)
+module _ (devices : List Device) where
+  more_from : (who n : ℕ) (me : Private) (s : StoreState) (k : ℕ) → length (steps_in_turn devices who n me s) + k ≤ (turn_from (basic devices) itself serves after_loan n me s k).turned.steps + 1
+  unfolding steps_in_turn turn_from
+  more_from who zero me s k = omega arith
+  more_from who (suc n) me s k =
+      let x = step_of devices me s in
+      let c = counted_on k x.end in
+      more_by x.end.why x.end.counted (step_noted devices who me s) (steps_in_turn devices who n x.me x.after) k x.me x.after (turn_from (basic devices) itself serves after_loan n x.me x.after c)
+      (steps_count_or_end (basic devices) itself serves after_loan me s) (more_from who n x.me x.after c)
 
 no_more : (n : ℕ) → n + 0 ≡ n
 no_more n = omega arith
 
 pub turns_count_all_but_one : TurnsCountAllButOne
-turns_count_all_but_one who quota me s = subst (λ n. n ≤ (turn_of quota me s).turned.steps + 1) (no_more (length (steps_in_turn who quota me s))) (more_from who quota me s 0)
+turns_count_all_but_one devices who quota me s = subst (λ n. n ≤ (turn_of devices quota me s).turned.steps + 1) (no_more (length (steps_in_turn devices who quota me s))) (more_from devices who quota me s 0)
 
 -- turns, rounds and events of a world
 turned_few : (p n : ℕ) (m : Option Private) (w : WorldState) → (with_turn p m n w).steps ≤ w.steps + (if is_some m then 1 else 0) * n
 turned_few p n None w = omega arith
-turned_few p n (Some me) w = let few = turn_few n me w.store in omega arith
+turned_few p n (Some me) w = let few = turn_few w.devices n me w.store in omega arith
 
 one_and_more : (b : Bool) (quota x y z rest : ℕ) → x ≤ y + (if b then 1 else 0) * quota → z ≤ x + rest * quota → z ≤ y + ((if b then 1 else 0) + rest) * quota
 one_and_more true quota x y z rest f g = omega arith
@@ -195,8 +199,8 @@ run_few b (e ∷ es) w is few =
     omega arith
 
 pub runs_keep_to_their_grant : RunsKeepToTheirGrant
-runs_keep_to_their_grant b log =
-    let few : present (booted b) ≤ length b.partitions =
-    subst (λ n. n ≤ length b.partitions) (sym (present_listed 1 16 (booted b))) (subst (λ n. listed (booted b).privates 1 16 ≤ n) (length-map b.partitions private_row) (listed_few (booted b).privates 1 16)) in
-    let all = run_few b log (booted b) refl few in
+runs_keep_to_their_grant b images log =
+    let few : present (booted b images) ≤ length b.partitions =
+    subst (λ n. n ≤ length b.partitions) (sym (present_listed 1 16 (booted b images))) (subst (λ n. listed (booted b images).privates 1 16 ≤ n) (length-map b.partitions private_row) (listed_few (booted b images).privates 1 16)) in
+    let all = run_few b log (booted b images) refl few in
     omega arith

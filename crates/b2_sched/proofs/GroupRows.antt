@@ -2,7 +2,7 @@
 use Rattle.std.specs.Prelude.{◌≡◌, ◌≢◌, ℕ, ◌==◌, Bool, true, false, List, [], Option, Some, None, is_some, option_map, refl}
 use Rattle.std.proofs.Common.{sym, ap, subst, ◌∙◌}
 use Rattle.std.proofs.lemmas.Bool.{true≢false}
-use Rattle.b2_access.specs.Contents.{row_same, row_other}
+use Rattle.b2_sched.proofs.Numbered.{numbered_same, numbered_other}
 use Rattle.b2_access.specs.Homes.{IsWithin}
 use Rattle.b2_access.specs.Rows.{row_of, with_row}
 use Rattle.b2_access.specs.declared.private.Private.{Private}
@@ -17,9 +17,9 @@ row_alike q p x xs ys same = by (q == p) refl
   where
     by : (b : Bool) → (q == p) ≡ b → row_of q (with_row p xs x) ≡ row_of q (with_row p ys x)
     by true e =
-        let at_p : row_of p xs ≡ row_of p ys → row_of p (with_row p xs x) ≡ row_of p (with_row p ys x) = λ h. row_same p x xs ∙ ap (option_map (λ _. x)) h ∙ sym (row_same p x ys) in
+        let at_p : row_of p xs ≡ row_of p ys → row_of p (with_row p xs x) ≡ row_of p (with_row p ys x) = λ h. numbered_same p x xs ∙ ap (option_map (λ _. x)) h ∙ sym (numbered_same p x ys) in
         subst (λ k. row_of k xs ≡ row_of k ys → row_of k (with_row p xs x) ≡ row_of k (with_row p ys x)) (sym (same_number q p e)) at_p same
-    by false e = row_other q p x (other_number q p e) xs ∙ same ∙ sym (row_other q p x (other_number q p e) ys)
+    by false e = numbered_other q p x (other_number q p e) xs ∙ same ∙ sym (numbered_other q p x (other_number q p e) ys)
 
 pub is_it : (x me : Private) → Some x ≡ Some me → x ≡ me
 is_it x me e = cc
@@ -36,8 +36,8 @@ row_holds P q p x xs holds held me is = by (q == p) refl
     by : (b : Bool) → (q == p) ≡ b → P me
     by true e =
         let at_p : row_of p (with_row p xs x) ≡ Some me = subst (λ k. row_of k (with_row p xs x) ≡ Some me) (same_number q p e) is in
-        subst P (put_there x me (row_of p xs) (sym (row_same p x xs) ∙ at_p)) (holds (same_number q p e))
-    by false e = held me (sym (row_other q p x (other_number q p e) xs) ∙ is)
+        subst P (put_there x me (row_of p xs) (sym (numbered_same p x xs) ∙ at_p)) (holds (same_number q p e))
+    by false e = held me (sym (numbered_other q p x (other_number q p e) xs) ∙ is)
 
 module _ (g : Group) where
   is_another : (p q : ℕ) → g p ≡ false → g q ≡ true → q ≢ p
@@ -54,9 +54,9 @@ module _ (g : Group) where
   -- one of an outsider in the first alone
   pub first_rows : (p : ℕ) (x : Private) (xs ys : List (ℕ × Private)) → g p ≡ false → MembersAlike g xs ys → MembersAlike g (with_row p xs x) ys
   first_rows p x xs ys out alike = record {
-    members = λ q member. row_other q p x (is_another p q out member) xs ∙ alike.members q member;
+    members = λ q member. numbered_other q p x (is_another p q out member) xs ∙ alike.members q member;
     absent = alike.absent;
-    homes = λ q me member is. alike.homes q me member (sym (row_other q p x (is_another p q out member) xs) ∙ is);
+    homes = λ q me member is. alike.homes q me member (sym (numbered_other q p x (is_another p q out member) xs) ∙ is);
   }
 
   -- whoever it is that changes, where it is present

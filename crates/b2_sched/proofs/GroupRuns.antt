@@ -5,10 +5,11 @@ use Rattle.b2_access.specs.Contents.{content_other, content_same}
 use Rattle.b2_access.specs.Objects.{Decided, same_object}
 use Rattle.b2_access.specs.Rows.{with_row}
 use Rattle.b2_access.specs.Store.{StoreState, content}
+use Rattle.b2_access.specs.declared.devices.Device.{Device}
 use Rattle.b2_access.specs.declared.objects.Object.{Object}
 use Rattle.b2_access.specs.declared.objects.Object.TheVariants as object
 use Rattle.b2_access.specs.declared.private.Private.{Private}
-use Rattle.b2_audit.specs.Steps.{Group, foul}
+use Rattle.b2_audit.specs.Steps.{Group, foul, marks_after}
 use Rattle.b2_machine.specs.Turn.{TurnEnd}
 use Rattle.b2_audit.proofs.CleanSteps.{CleanFrom, clean_steps}
 use Rattle.b2_sched.proofs.Foul.{clean_first, clean_rest, foul_after, foul_append, foul_so_far, stays_foul}
@@ -17,8 +18,8 @@ use Rattle.b2_sched.proofs.GroupTurns.{IsOut, members_foul, members_turn, others
 use Rattle.b2_sched.proofs.Lasting.{by_actions}
 use Rattle.b2_sched.specs.Groups.{GroupsRelyOnTheirOwn, IsOutside, MembersAlike, WorldsAlike, steps_along, steps_at, steps_of}
 use Rattle.b2_sched.specs.Laws.{all_actions}
-use Rattle.b2_sched.specs.Turns.{told_by, turn_of}
-use Rattle.b2_sched.specs.World.{WorldState, Action, Key, Front, Halt, Reset, Turn, asked_to_halt, asked_to_reset, does, does_all, private_of, ran, with_turn}
+use Rattle.b2_sched.specs.Turns.{noted_by, steps_in_turn, turn_of}
+use Rattle.b2_sched.specs.World.{WorldState, Action, Key, Front, Halt, Reset, Turn, after_turn, asked_to_halt, asked_to_reset, does, does_all, private_of, ran, with_turn}
 use Rattle.b2_store.specs.Changes.{with_terminal}
 use Rattle.b2_term.specs.Terminal.{TerminalState, keyed}
 
@@ -50,48 +51,53 @@ module _ (g : Group) (out : Object → Type 0) (is_out : IsOut g out) where
 
   -- a member's turn happens in both worlds
   both_turn : (p n : ℕ) (w v : WorldState) (os : List Object) (m : Option Private) → g p ≡ true → private_of p w ≡ m → Alike os w v
-      → CleanFrom g os (told_by p n m w.store) → Alike (foul_after g (told_by p n m w.store) os) (with_turn p m n w) (with_turn p m n v)
+      → CleanFrom g os (noted_by w.devices p n m w.store) → Alike (foul_after g (noted_by w.devices p n m w.store) os) (with_turn p m n w) (with_turn p m n v)
   both_turn p n w v os None member is alike clean = alike
   both_turn p n w v os (Some me) member is alike clean =
       let inside = alike.privates.homes p me member is in
-      let x : TurnEnd StoreState = turn_of n me w.store in
-      let turns = members_turn g out is_out p n me w.store v.store 0 os member inside alike.stores clean in
-      let rows = both_rows g p x.me w.privates v.privates (turn_stays_within g n me w.store 0 inside) alike.privates in
-      let here : Alike os (with_turn p (Some me) n w) (with_turn p (Some me) n v) = record {
+      let x : TurnEnd StoreState = turn_of w.devices n me w.store in
+      let turns = members_turn w.devices g out is_out p n me w.store v.store 0 os member inside alike.stores clean in
+      let rows = both_rows g p x.me w.privates v.privates (turn_stays_within w.devices g n me w.store 0 inside) alike.privates in
+      let there : List Device → WorldState = λ ds. after_turn p (turn_of ds n me v.store) (marks_after (steps_in_turn ds p n me v.store) v.marks) v in
+      let here : Alike os (with_turn p (Some me) n w) (there w.devices) = record {
         quota = alike.quota;
+        devices = alike.devices;
         privates = subst (λ (z : Private). MembersAlike g (with_row p w.privates x.me) (with_row p v.privates z)) turns.own rows;
         stores = turns.objects;
       } in
-      subst (λ (xs : List Object). Alike xs (with_turn p (Some me) n w) (with_turn p (Some me) n v)) (sym (members_foul g p n me w.store os member)) here
+      subst (λ (xs : List Object). Alike xs (with_turn p (Some me) n w) (with_turn p (Some me) n v)) (sym (members_foul w.devices g p n me w.store os member)) (subst (λ (ds : List Device). Alike os (with_turn p (Some me) n w) (there ds)) alike.devices here)
 
   -- an outsider's in the first alone
-  first_turn : (p n : ℕ) (w v : WorldState) (os : List Object) (m : Option Private) → g p ≡ false → Alike os w v → Alike (foul_after g (told_by p n m w.store) os) (with_turn p m n w) v
+  first_turn : (p n : ℕ) (w v : WorldState) (os : List Object) (m : Option Private) → g p ≡ false → Alike os w v → Alike (foul_after g (noted_by w.devices p n m w.store) os) (with_turn p m n w) v
   first_turn p n w v os None other alike = alike
   first_turn p n w v os (Some me) other alike = record {
     quota = alike.quota;
-    privates = first_rows g p (turn_of n me w.store).me w.privates v.privates other alike.privates;
-    stores = λ o clear inside. others_turn g p n me w.store 0 os other o clear ∙ alike.stores o (λ i. clear (stays_foul g (told_by p n (Some me) w.store) os o i)) inside;
+    devices = alike.devices;
+    privates = first_rows g p (turn_of w.devices n me w.store).me w.privates v.privates other alike.privates;
+    stores = λ o clear inside. others_turn w.devices g p n me w.store 0 os other o clear ∙ alike.stores o (λ i. clear (stays_foul g (noted_by w.devices p n (Some me) w.store) os o i)) inside;
   }
 
-  turn_alike : (p n : ℕ) (w v : WorldState) (os : List Object) → Alike os w v → CleanFrom g os (told_by p n (private_of p w) w.store)
-      → Alike (foul_after g (told_by p n (private_of p w) w.store) os) (with_turn p (private_of p w) n w) (with_turn p (private_of p v) n v)
+  turn_alike : (p n : ℕ) (w v : WorldState) (os : List Object) → Alike os w v → CleanFrom g os (noted_by w.devices p n (private_of p w) w.store)
+      → Alike (foul_after g (noted_by w.devices p n (private_of p w) w.store) os) (with_turn p (private_of p w) n w) (with_turn p (private_of p v) n v)
   turn_alike p n w v os alike clean = by (g p) refl
     where
-      by : (b : Bool) → g p ≡ b → Alike (foul_after g (told_by p n (private_of p w) w.store) os) (with_turn p (private_of p w) n w) (with_turn p (private_of p v) n v)
-      by true member = subst (λ (m : Option Private). Alike (foul_after g (told_by p n (private_of p w) w.store) os) (with_turn p (private_of p w) n w) (with_turn p m n v)) (alike.privates.members p member) (both_turn p n w v os (private_of p w) member refl alike clean)
-      by false other = subst (λ (m : Option Private). Alike (foul_after g (told_by p n (private_of p w) w.store) os) (with_turn p (private_of p w) n w) (with_turn p m n v)) (sym (alike.privates.absent p other)) (first_turn p n w v os (private_of p w) other alike)
+      by : (b : Bool) → g p ≡ b → Alike (foul_after g (noted_by w.devices p n (private_of p w) w.store) os) (with_turn p (private_of p w) n w) (with_turn p (private_of p v) n v)
+      by true member = subst (λ (m : Option Private). Alike (foul_after g (noted_by w.devices p n (private_of p w) w.store) os) (with_turn p (private_of p w) n w) (with_turn p m n v)) (alike.privates.members p member) (both_turn p n w v os (private_of p w) member refl alike clean)
+      by false other = subst (λ (m : Option Private). Alike (foul_after g (noted_by w.devices p n (private_of p w) w.store) os) (with_turn p (private_of p w) n w) (with_turn p m n v)) (sym (alike.privates.absent p other)) (first_turn p n w v os (private_of p w) other alike)
 
   -- whatever happens
   action_alike : (a : Action) (w v : WorldState) (os : List Object) → Alike os w v → CleanFrom g os (steps_at a w) → Alike (foul_after g (steps_at a w) os) (does a w) (does a v)
-  action_alike (Key t k) w v os alike clean = record { quota = alike.quota; privates = alike.privates; stores = λ o clear inside. terminal_alike t (keyed k) w.store v.store o (alike.stores o clear inside) }
-  action_alike (Front t p) w v os alike clean = record { quota = alike.quota; privates = alike.privates; stores = λ o clear inside. terminal_alike t (λ x. record x { front = p }) w.store v.store o (alike.stores o clear inside) }
+  action_alike (Key t k) w v os alike clean = record { quota = alike.quota; devices = alike.devices; privates = alike.privates; stores = λ o clear inside. terminal_alike t (keyed k) w.store v.store o (alike.stores o clear inside) }
+  action_alike (Front t p) w v os alike clean = record { quota = alike.quota; devices = alike.devices; privates = alike.privates; stores = λ o clear inside. terminal_alike t (λ x. record x { front = p }) w.store v.store o (alike.stores o clear inside) }
   action_alike (Halt p) w v os alike clean = record {
     quota = alike.quota;
+    devices = alike.devices;
     privates = rows_changed g asked_to_halt (λ me h. record { part = h.part; place = h.place; kept = h.kept; frames = h.frames }) p w.privates v.privates alike.privates;
     stores = alike.stores;
   }
   action_alike (Reset p) w v os alike clean = record {
     quota = alike.quota;
+    devices = alike.devices;
     privates = rows_changed g asked_to_reset (λ me h. record { part = h.part; place = h.place; kept = h.kept; frames = h.frames }) p w.privates v.privates alike.privates;
     stores = alike.stores;
   }
@@ -130,6 +136,7 @@ group_relies g log w v alike clean =
     let all = all_alike g (IsOutside g) (outside_is_out g) acts w v [] alike ((clean_steps g steps).1 clean) in
     let less : WorldsAlike (IsOutside g) g (foul g steps) (does_all acts w) (does_all acts v) = record {
       quota = all.quota;
+      devices = all.devices;
       privates = all.privates;
       stores = λ o clear inside. all.stores o (λ i. elim (foul_so_far g steps [] o i) [ inl j ↦ clear j | inr j ↦ absurd j ]) inside;
     } in

@@ -3,12 +3,13 @@ use Rattle.std.specs.Prelude.{◌≡◌, ℕ, ◌==◌, Bool, true, false, cond,
 use Rattle.std.proofs.Common.{ap, subst}
 use Rattle.b2_access.specs.Partition.{KeepsNone}
 use Rattle.b2_access.specs.Rows.{row_of}
-use Rattle.b2_access.specs.Serving.{itself, serves}
+use Rattle.b2_access.specs.Serving.{itself}
+use Rattle.b2_store.specs.DiskWork.{serves}
 use Rattle.b2_access.specs.declared.private.Private.{Private}
-use Rattle.b2_basic.specs.Choice.{basic}
-use Rattle.b2_basic.specs.Lawful.{basic_is_lawful}
 use Rattle.b2_boot.specs.declared.boot.BootPartition.{BootPartition}
 use Rattle.b2_machine.proofs.KeptPlace.{turn_keeps}
+use Rattle.b2_sched.specs.Choice.{basic}
+use Rattle.b2_sched.specs.Lawful.{basic_is_lawful}
 use Rattle.b2_sched.proofs.EachRow.{IsKept, each_ran}
 use Rattle.b2_sched.proofs.GroupRows.{is_it}
 use Rattle.b2_sched.specs.Laws.{NoPlaceIsKept}
@@ -29,8 +30,8 @@ keeps_none : IsKept (λ p me. KeepsNone me)
 keeps_none = record {
   halt = λ p me h. h;
   reset = λ p me h. h;
-  turn = λ p n me s h. turn_keeps basic basic_is_lawful itself serves after_loan n me s h;
+  turn = λ devices p n me s h. turn_keeps (basic devices) (basic_is_lawful devices) itself serves after_loan n me s h;
 }
 
 pub no_place_kept : NoPlaceIsKept
-no_place_kept b log p me is = each_ran (λ q you. KeepsNone you) keeps_none log (booted b) (booted_none b.partitions) p me is
+no_place_kept b images log p me is = each_ran (λ q you. KeepsNone you) keeps_none log (booted b images) (booted_none b.partitions) p me is

@@ -1,7 +1,7 @@
 -- The laws of a world.
 use Rattle.std.specs.Prelude.{◌≡◌, ◌≢◌, ℕ, zero, suc, ◌+◌, ◌*◌, ◌^◌, ◌<◌, ◌==◌, Bool, true, false, List, [], ◌∷◌, Option, Some, None, is_some, option_map, refl, if◌then◌else◌}
 use Rattle.std.proofs.Common.{sym, ap, subst, ◌∙◌, arith}
-use Rattle.b2_access.specs.Contents.{row_same, row_other}
+use Rattle.b2_sched.proofs.Numbered.{numbered_same, numbered_other}
 use Rattle.b2_access.specs.Rows.{row_of, with_row}
 use Rattle.b2_access.specs.declared.private.Private.{Private}
 use Rattle.b2_sched.proofs.Folds.{does_append, all_keep_quota}
@@ -21,7 +21,7 @@ by_actions (e ∷ es) w =
 -- the others after a turn
 turned_others : (p q n : ℕ) (m : Option Private) (w : WorldState) → q ≢ p → private_of q (with_turn p m n w) ≡ private_of q w
 turned_others p q n None w apart = refl
-turned_others p q n (Some me) w apart = row_other q p (turn_of n me w.store).me apart w.privates
+turned_others p q n (Some me) w apart = numbered_other q p (turn_of w.devices n me w.store).me apart w.privates
 
 pub leaves_others : LeavesOthers
 leaves_others p q n w apart = turned_others p q n (private_of p w) w apart
@@ -37,8 +37,8 @@ row_there q p x rows = by (q == p) refl
     by : (b : Bool) → (q == p) ≡ b → is_some (row_of q (with_row p rows x)) ≡ is_some (row_of q rows)
     by true e =
         let same : p ≡ q = sym (same_number q p e) in
-        subst (λ k. is_some (row_of k (with_row p rows x)) ≡ is_some (row_of k rows)) same (ap (λ (o : Option Private). is_some o) (row_same p x rows) ∙ some_there x (row_of p rows))
-    by false e = ap (λ (o : Option Private). is_some o) (row_other q p x (other_number q p e) rows)
+        subst (λ k. is_some (row_of k (with_row p rows x)) ≡ is_some (row_of k rows)) same (ap (λ (o : Option Private). is_some o) (numbered_same p x rows) ∙ some_there x (row_of p rows))
+    by false e = ap (λ (o : Option Private). is_some o) (numbered_other q p x (other_number q p e) rows)
 
 changed_there : (q p : ℕ) (f : Private → Private) (m : Option Private) (rows : List (ℕ × Private)) → is_some (row_of q (row_changed p m f rows)) ≡ is_some (row_of q rows)
 changed_there q p f None rows = refl
@@ -46,7 +46,7 @@ changed_there q p f (Some me) rows = row_there q p (f me) rows
 
 turned_there : (q p n : ℕ) (m : Option Private) (w : WorldState) → is_some (private_of q (with_turn p m n w)) ≡ is_some (private_of q w)
 turned_there q p n None w = refl
-turned_there q p n (Some me) w = row_there q p (turn_of n me w.store).me w.privates
+turned_there q p n (Some me) w = row_there q p (turn_of w.devices n me w.store).me w.privates
 
 pub does_there : (q : ℕ) (a : Action) (w : WorldState) → is_some (private_of q (does a w)) ≡ is_some (private_of q w)
 does_there q (Key t k) w = refl

@@ -1,3 +1,7 @@
+pub mod BootDevices
+pub mod Numbered
+-- Found: what is planned where a unit was found is what the language plans at its place.
+mod Found
 pub mod Folds
 pub mod Numbers
 pub mod Lasting

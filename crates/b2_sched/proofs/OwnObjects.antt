@@ -31,7 +31,7 @@ keeps_home : IsKept IsHome
 keeps_home = record {
   halt = halts_at_home;
   reset = resets_at_home;
-  turn = λ p n me s h. turn_stays_within (just p) n me s 0 h;
+  turn = λ devices p n me s h. turn_stays_within devices (just p) n me s 0 h;
 }
 
 pub same_as_itself : (p : ℕ) → (p == p) ≡ true
@@ -42,9 +42,9 @@ starts_at_home ps p me is = starts_within (just p) p ps me (same_as_itself p) is
 
 turned_own : (p n : ℕ) (m : Option Private) (w : WorldState) → private_of p w ≡ m → EachIs IsHome w.privates → (o : Object) → IsOutside (just p) o → content (with_turn p m n w).store o ≡ content w.store o
 turned_own p n None w is own o out = refl
-turned_own p n (Some me) w is own o out = leaves_out (just p) (IsOutside (just p)) (outside_is_out (just p)) n me w.store 0 (own p me is) o out
+turned_own p n (Some me) w is own o out = leaves_out w.devices (just p) (IsOutside (just p)) (outside_is_out (just p)) n me w.store 0 (own p me is) o out
 
 pub change_their_own : TurnsChangeTheirOwn
-change_their_own b log p n o out =
-    let w = ran log (booted b) in
-    turned_own p n (private_of p w) w refl (each_ran IsHome keeps_home log (booted b) (starts_at_home b.partitions)) o out
+change_their_own b images log p n o out =
+    let w = ran log (booted b images) in
+    turned_own p n (private_of p w) w refl (each_ran IsHome keeps_home log (booted b images) (starts_at_home b.partitions)) o out

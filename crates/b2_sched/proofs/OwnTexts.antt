@@ -28,13 +28,13 @@ still_own p who ts ws m is_p is_who are whole never own = by (is_foul p (object.
 
     by : (b : Bool) → is_foul p (object.Text p) (marked who ts ws m) ≡ b → b ≡ false
     by false e = refl
-    by true e = elim ((all_written p who ws (object.Text p) (touch_all who ts m) is_p is_who are is_p (ap (λ (w : Writers). length w.placed) keeps ∙ whole)).0 e) [
+    by true e = elim ((all_written p who ws (object.Text p) (touch_all who ts m) is_p is_who are is_p (ap (λ (w : Writers). length w.indexed) keeps ∙ whole)).0 e) [
       | inl f ↦ absurd (true≢false (sym f ∙ foul_by_writers p (object.Text p) (touch_all who ts m) m keeps ∙ own))
       | inr h ↦ absurd (never h.0 h.1)
     ]
 
 pub whole_on : (who : ℕ) (ts ws : List Object) (m : Marks) → AreMarked ws → AreWhole m → AreWhole (marked who ts ws m)
-whole_on who ts ws m are whole = still_whole who ws (touch_all who ts m) are ∙ ap (λ (w : Writers). length w.placed) (touching_keeps who ts m) ∙ whole
+whole_on who ts ws m are whole = still_whole who ws (touch_all who ts m) are ∙ ap (λ (w : Writers). length w.indexed) (touching_keeps who ts m) ∙ whole
 
 -- after steps that write no text of another
 pub after_steps : (p : ℕ) (xs : List Step) (m : Marks) → IsPartition p → AreSteps xs → WriteOwnTexts xs → AreWhole m → IsOwnText p m → AreWhole (marks_after xs m) × IsOwnText p (marks_after xs m)

@@ -4,6 +4,7 @@ use Rattle.std.specs.Prelude.{◌≡◌, ℕ, ◌==◌, Bool, true, false, cond,
 use Rattle.std.proofs.Common.{sym, ap, subst}
 use Rattle.b2_access.specs.Rows.{row_of, with_row}
 use Rattle.b2_access.specs.Store.{StoreState}
+use Rattle.b2_access.specs.declared.devices.Device.{Device}
 use Rattle.b2_access.specs.declared.objects.Object.TheVariants as object
 use Rattle.b2_access.specs.declared.private.Private.{Private}
 use Rattle.b2_audit.specs.Marks.{Marks, unmarked}
@@ -36,17 +37,17 @@ present_at rows s m None t f present p me is = present p me is
 present_at rows s m (Some x) t f present p me is = let was = present p me is in record { settled = was.settled; text = was.text; own = was.own; whole = was.whole }
 
 -- after a turn
-pub turn_present : (q n : ℕ) (you : Private) (rows : List (ℕ × Private)) (s t : StoreState) (m : Marks) → KeepsAll s t → IsPresent q you s m → ArePresent rows s m
-    → ArePresent (with_row q rows (turn_of n you s).me) t (marks_after (steps_in_turn q n you s) m)
-turn_present q n you rows s t m keeps it present = still_present q (turn_of n you s).me rows s t m after (with_own q you (turn_of n you s).me t after (turn_settled q n you s 0 it.settled) (others q you it)) others present
+pub turn_present : (devices : List Device) (q n : ℕ) (you : Private) (rows : List (ℕ × Private)) (s t : StoreState) (m : Marks) → KeepsAll s t → IsPresent q you s m → ArePresent rows s m
+    → ArePresent (with_row q rows (turn_of devices n you s).me) t (marks_after (steps_in_turn devices q n you s) m)
+turn_present devices q n you rows s t m keeps it present = still_present q (turn_of devices n you s).me rows s t m after (with_own q you (turn_of devices n you s).me t after (turn_settled devices q n you s 0 it.settled) (others q you it)) others present
   where
     after : Marks
-    after = marks_after (steps_in_turn q n you s) m
+    after = marks_after (steps_in_turn devices q n you s) m
 
-    others : (p : ℕ) (me : Private) → IsPresent p me s m → IsPresent p me t (marks_after (steps_in_turn q n you s) m)
+    others : (p : ℕ) (me : Private) → IsPresent p me s m → IsPresent p me t (marks_after (steps_in_turn devices q n you s) m)
     others p me is =
-        let steps = turn_steps q n you s it.settled in
-        let both = after_steps p (steps_in_turn q n you s) m is.settled.number steps.0 steps.1 is.whole is.own in
+        let steps = turn_steps devices q n you s it.settled in
+        let both = after_steps p (steps_in_turn devices q n you s) m is.settled.number steps.0 steps.1 is.whole is.own in
         record { settled = is.settled; text = keeps (object.Text p) is.text; own = both.1; whole = both.0 }
 
 -- each partition of a boot has a text

@@ -15,7 +15,7 @@ use Rattle.b2_sched.specs.Groups.{steps_along, steps_at, steps_of}
 use Rattle.b2_sched.specs.Laws.{all_actions}
 use Rattle.b2_sched.specs.Presence.{IsSettled}
 use Rattle.b2_sched.specs.Start.{booted}
-use Rattle.b2_sched.specs.Turns.{told_by}
+use Rattle.b2_sched.specs.Turns.{noted_by}
 use Rattle.b2_sched.specs.World.{WorldState, Action, Key, Front, Halt, Reset, Turn, does, does_all, private_of, with_turn}
 
 -- along the actions of a run
@@ -23,7 +23,7 @@ marks_append : (xs ys : List Step) (m : Marks) → marks_after (xs ++ ys) m ≡ 
 marks_append [] ys m = refl
 marks_append (x ∷ xs) ys m = marks_append xs ys (marked x.who x.touched x.written m)
 
-turn_marks : (p n : ℕ) (o : Option Private) (w : WorldState) → (with_turn p o n w).marks ≡ marks_after (told_by p n o w.store) w.marks
+turn_marks : (p n : ℕ) (o : Option Private) (w : WorldState) → (with_turn p o n w).marks ≡ marks_after (noted_by w.devices p n o w.store) w.marks
 turn_marks p n None w = refl
 turn_marks p n (Some me) w = refl
 
@@ -48,16 +48,16 @@ both_are : (xs ys : List Step) → AreSteps xs → AreSteps ys → AreSteps (xs 
 both_are [] ys h k = k
 both_are (x ∷ xs) ys h k = (h.0, h.1, h.2, both_are xs ys h.3 k)
 
-told_are : (p n : ℕ) (o : Option Private) (w : WorldState) → private_of p w ≡ o → EachIs (λ p me. IsSettled p me) w.privates → AreSteps (told_by p n o w.store)
-told_are p n None w is each = tt
-told_are p n (Some me) w is each = (turn_steps p n me w.store (each p me is)).0
+noted_are : (p n : ℕ) (o : Option Private) (w : WorldState) → private_of p w ≡ o → EachIs (λ p me. IsSettled p me) w.privates → AreSteps (noted_by w.devices p n o w.store)
+noted_are p n None w is each = tt
+noted_are p n (Some me) w is each = (turn_steps w.devices p n me w.store (each p me is)).0
 
 action_steps : (a : Action) (w : WorldState) → EachIs (λ p me. IsSettled p me) w.privates → AreSteps (steps_at a w)
 action_steps (Key t k) w each = tt
 action_steps (Front t p) w each = tt
 action_steps (Halt p) w each = tt
 action_steps (Reset p) w each = tt
-action_steps (Turn p n) w each = told_are p n (private_of p w) w refl each
+action_steps (Turn p n) w each = noted_are p n (private_of p w) w refl each
 
 all_steps : (acts : List Action) (w : WorldState) → EachIs (λ p me. IsSettled p me) w.privates → AreSteps (steps_along acts w)
 all_steps [] w each = tt
@@ -65,11 +65,11 @@ all_steps (a ∷ rest) w each =
     both_are (steps_at a w) (steps_along rest (does a w)) (action_steps a w each) (all_steps rest (does a w) (each_action (λ p me. IsSettled p me) keeps_settled a w each))
 
 pub who_is_clean : MarksSayWhoIsClean
-who_is_clean b log p are is_p =
-    let w = booted b in
+who_is_clean b images log p are is_p =
+    let w = booted b images in
     let steps = steps_of log w in
     let said = marks_say_clean steps p (all_steps (all_actions b.quota log) w (starts_settled b.partitions are)) is_p in
     subst (λ (m : Marks). (is_clean p m ≡ true) ↔ IsClean (just p) steps) (sym (runs_mark log w)) said
 
 pub clean_as_alone : CleanOnesAreAsAlone
-clean_as_alone b log p are is_p clean = (as_alone (just p) b log ((who_is_clean b log p are is_p).0 clean)).0 p (same_as_itself p)
+clean_as_alone b images log p are is_p clean = (as_alone (just p) b images log ((who_is_clean b images log p are is_p).0 clean)).0 p (same_as_itself p)

@@ -11,8 +11,8 @@ use Rattle.b2_boot.specs.Alone.{alone}
 use Rattle.b2_boot.specs.Boots.{BootState}
 use Rattle.b2_boot.specs.declared.log.Event.{Event}
 use Rattle.b2_sched.specs.Laws.{all_actions}
-use Rattle.b2_sched.specs.Start.{booted}
-use Rattle.b2_sched.specs.Turns.{told_by}
+use Rattle.b2_sched.specs.Start.{Images, booted}
+use Rattle.b2_sched.specs.Turns.{noted_by}
 use Rattle.b2_sched.specs.World.{WorldState, Action, Key, Front, Halt, Reset, Turn, does, private_of, ran}
 
 -- the steps of an action: those of a turn
@@ -21,7 +21,7 @@ steps_at (Key t k) w = []
 steps_at (Front t p) w = []
 steps_at (Halt p) w = []
 steps_at (Reset p) w = []
-steps_at (Turn p n) w = told_by p n (private_of p w) w.store
+steps_at (Turn p n) w = noted_by w.devices p n (private_of p w) w.store
 
 abbrev pub steps_along : List Action → WorldState → List Step
 steps_along [] w = []
@@ -52,6 +52,7 @@ StoresAlike out dirty s t = (o : Object) → (IsIn o dirty → ⊥) → (out o �
 -- THE INVARIANT of a world and that of a group alone, where some objects are foul
 pub record WorldsAlike (out : Object → Type 0) (g : Group) (dirty : List Object) (w v : WorldState) : Type 0 where
   pub quota : w.quota ≡ v.quota
+  pub devices : w.devices ≡ v.devices
   pub privates : MembersAlike g w.privates v.privates
   pub stores : StoresAlike out dirty w.store v.store
 
@@ -64,11 +65,11 @@ GroupsRelyOnTheirOwn = (g : Group) (log : List Event) (w v : WorldState) → Wor
 -- THE GROUP THEOREM: after any log each member of a clean group has the own state, and each object that no other wrote has the
 -- contents, that they have in the world booted with the group alone under the same log. What belongs to others isn't compared.
 abbrev pub CleanGroupsAreAsAlone : Type 0
-CleanGroupsAreAsAlone = (g : Group) (b : BootState) (log : List Event) → IsClean g (steps_of log (booted b))
-    → ((p : ℕ) → g p ≡ true → private_of p (ran log (booted b)) ≡ private_of p (ran log (booted (alone g b))))
-    × ((o : Object) → (IsOutside g o → ⊥) → (IsIn o (foul g (steps_of log (booted b))) → ⊥) → content (ran log (booted b)).store o ≡ content (ran log (booted (alone g b))).store o)
+CleanGroupsAreAsAlone = (g : Group) (b : BootState) (images : Images) (log : List Event) → IsClean g (steps_of log (booted b images))
+    → ((p : ℕ) → g p ≡ true → private_of p (ran log (booted b images)) ≡ private_of p (ran log (booted (alone g b) images)))
+    × ((o : Object) → (IsOutside g o → ⊥) → (IsIn o (foul g (steps_of log (booted b images))) → ⊥) → content (ran log (booted b images)).store o ≡ content (ran log (booted (alone g b) images)).store o)
 
 -- No turn of a partition changes what belongs to another: its text, who stands inside, and its `@` variables.
 abbrev pub TurnsChangeTheirOwn : Type 0
-TurnsChangeTheirOwn = (b : BootState) (log : List Event) (p n : ℕ) (o : Object) → IsOutside (just p) o
-    → content (does (Turn p n) (ran log (booted b))).store o ≡ content (ran log (booted b)).store o
+TurnsChangeTheirOwn = (b : BootState) (images : Images) (log : List Event) (p n : ℕ) (o : Object) → IsOutside (just p) o
+    → content (does (Turn p n) (ran log (booted b images))).store o ≡ content (ran log (booted b images)).store o

@@ -6,8 +6,9 @@ use Rattle.b2_boot.specs.declared.log.Event.{Event}
 use Rattle.b2_boot.specs.declared.log.Event.TheVariants as event
 use Rattle.b2_access.specs.Partition.{KeepsNone}
 use Rattle.b2_access.specs.Store.{StoreState}
+use Rattle.b2_access.specs.declared.devices.Device.{Device}
 use Rattle.b2_access.specs.declared.private.Private.{Private}
-use Rattle.b2_sched.specs.Start.{booted}
+use Rattle.b2_sched.specs.Start.{Images, booted}
 use Rattle.b2_sched.specs.Turns.{steps_in_turn, turn_of}
 use Rattle.b2_sched.specs.World.{WorldState, Action, Turn, private_of, tallied, actions, does, does_all, happens, ran}
 
@@ -51,12 +52,12 @@ CountsTurns = (n : ℕ) (w : WorldState) → w.turns < 2 ^ 64 → (happens (even
 
 -- a run from a boot counts no more steps than its log grants
 abbrev pub RunsKeepToTheirGrant : Type 0
-RunsKeepToTheirGrant = (b : BootState) (log : List Event) → (ran log (booted b)).steps ≤ granted_by b log
+RunsKeepToTheirGrant = (b : BootState) (images : Images) (log : List Event) → (ran log (booted b images)).steps ≤ granted_by b log
 
 -- a turn counts all of its steps, or all but its last
 abbrev pub TurnsCountAllButOne : Type 0
-TurnsCountAllButOne = (who quota : ℕ) (me : Private) (s : StoreState) → length (steps_in_turn who quota me s) ≤ (turn_of quota me s).turned.steps + 1
+TurnsCountAllButOne = (devices : List Device) (who quota : ℕ) (me : Private) (s : StoreState) → length (steps_in_turn devices who quota me s) ≤ (turn_of devices quota me s).turned.steps + 1
 
 -- Whatever was run, no partition keeps a place for CONTINUE while its program runs.
 abbrev pub NoPlaceIsKept : Type 0
-NoPlaceIsKept = (b : BootState) (log : List Event) (p : ℕ) (me : Private) → private_of p (ran log (booted b)) ≡ Some me → KeepsNone me
+NoPlaceIsKept = (b : BootState) (images : Images) (log : List Event) (p : ℕ) (me : Private) → private_of p (ran log (booted b images)) ≡ Some me → KeepsNone me

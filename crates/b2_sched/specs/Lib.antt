@@ -1,3 +1,6 @@
+pub mod Choice
+pub mod Legal
+pub mod Lawful
 pub mod Turns
 pub mod Marking
 pub mod Presence

@@ -3,6 +3,7 @@
 use Rattle.std.specs.Prelude.{ℕ, zero, suc, ◌+◌, ◌^◌, ◌-◌, min, Bool, true, false, List, [], ◌∷◌, ◌++◌, Option, Some, None}
 use Rattle.b2_term.specs.declared.KeyItem.{KeyItem}
 use Rattle.b2_access.specs.declared.objects.Object.TheVariants as object
+use Rattle.b2_access.specs.declared.devices.Device.{Device}
 use Rattle.b2_access.specs.declared.private.Private.{Private}
 use Rattle.b2_access.specs.Rows.{row_of, with_row}
 use Rattle.b2_access.specs.Store.{StoreState, content}
@@ -14,10 +15,11 @@ use Rattle.b2_boot.specs.declared.log.Event.TheVariants as event
 use Rattle.b2_machine.specs.Turn.{TurnEnd}
 use Rattle.b2_sched.specs.Turns.{steps_in_turn, turn_of}
 
--- the quota of a turn in a round, the own state of each partition by its number, the store, the marks of all steps, and how many
+-- the quota of a turn in a round, the devices that there are, the own state of each partition by its number, the store, the marks of all steps, and how many
 -- turns and counting steps there were and how many keys were dropped
 pub record WorldState : Type 0 where
   pub quota : ℕ
+  pub devices : List Device
   pub privates : List (ℕ × Private)
   pub store : StoreState
   pub marks : Marks
@@ -82,7 +84,7 @@ after_turn p t marks w = record w {
 -- its steps add their marks; one that is absent does nothing
 abbrev pub with_turn : ℕ → Option Private → ℕ → WorldState → WorldState
 with_turn p None quota w = w
-with_turn p (Some me) quota w = after_turn p (turn_of quota me w.store) (marks_after (steps_in_turn p quota me w.store) w.marks) w
+with_turn p (Some me) quota w = after_turn p (turn_of w.devices quota me w.store) (marks_after (steps_in_turn w.devices p quota me w.store) w.marks) w
 
 abbrev pub does : Action → WorldState → WorldState
 does (Key t k) w = with_key t k w

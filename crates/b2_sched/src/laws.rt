@@ -1,8 +1,10 @@
 //! What holds of every world: each law is the contract of a function without a body.
+ghost use Rattle.b2_boot.specs.Boots.{BootState, IsGood};
 ghost use Rattle.b2_sched.specs.Clean.{CleanOnesAreAsAlone, MarksSayWhoIsClean, RunsMarkTheirSteps};
 ghost use Rattle.b2_sched.specs.Groups.{CleanGroupsAreAsAlone, GroupsRelyOnTheirOwn, TurnsChangeTheirOwn};
 ghost use Rattle.b2_sched.specs.Laws.{RunsByActions, LeavesOthers, KeepsPresent, RoundsAscend, CountsTurns, NoPlaceIsKept, RunsKeepToTheirGrant, TurnsCountAllButOne};
 ghost use Rattle.b2_sched.specs.Marking.{TurnsMarkTheirSteps};
+ghost use Rattle.b2_sched.specs.Start.{HasDevices};
 
 /// A run is one list of actions, of which each is a key, a front, a halt, a reset or a turn.
 pub fn law_a_run_is_its_actions()
@@ -82,4 +84,9 @@ pub fn law_the_marks_say_who_is_clean()
 /// same log.
 pub fn law_who_is_clean_is_as_alone()
     ensures { CleanOnesAreAsAlone }
+{}
+
+/// A boot that passed its checks has few devices, each address once.
+pub fn law_a_boot_has_devices()
+    ensures { (b : BootState) → IsGood b → HasDevices b }
 {}

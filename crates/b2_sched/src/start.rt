@@ -3,8 +3,8 @@ ghost use Rattle.std.specs.Prelude.{◌≡◌, IfOk, OnOk, map};
 ghost use Rattle.b2_sched.specs.Start.{AreNumbered, in_bytes, private_row, areas_of, front_of_boot};
 
 use b2_access::Private;
-use b2_base::{NoMemory, Part, Term};
-use b2_boot::{BootPartition, BootTerminal};
+use b2_base::{Addr, NoMemory, Part, Term};
+use b2_boot::{BootPartition, BootPlatter, BootTerminal};
 use b2_store::Rows;
 use std::alloc::Global;
 
@@ -16,13 +16,16 @@ fn in_bytes(size: u16) -> usize
 }
 
 /// Each partition as it starts. Each has a number and a terminal that there are.
-pub fn privates_of(alloc: Global, partitions: &[BootPartition]) -> Result<Rows<Private>, NoMemory>
+pub fn privates_of(
+    alloc: Global,
+    partitions: &[BootPartition],
+) -> Result<Rows<Part, Private>, NoMemory>
     ensures started { IfOk result (λ rows. rows ≡ map private_row partitions.now) }
     ensures numbered { OnOk result (AreNumbered partitions.now) }
 {
     let mut rows = Rows::new(alloc);
     for p in partitions {
-        let me = Private::new(alloc, p.number, p.terminal, in_bytes(p.vars))?;
+        let me = Private::new(alloc, p.number, p.terminal, in_bytes(p.vars), p.disk)?;
         rows.add(p.number, me)?;
     }
     Ok(rows)
@@ -51,4 +54,15 @@ pub fn fronts_of(alloc: Global, terminals: &[BootTerminal]) -> Result<Vec<(Term,
         fronts.push((t.number, t.front))?;
     }
     Ok(fronts)
+}
+
+/// The address of each platter.
+pub fn addresses_of(alloc: Global, platters: &[BootPlatter]) -> Result<Vec<Addr>, NoMemory>
+    ensures { IfOk result (λ addresses. addresses.items ≡ map (λ p. p.address) platters.now) }
+{
+    let mut addresses = Vec::new(alloc);
+    for p in platters {
+        addresses.push(p.address)?;
+    }
+    Ok(addresses)
 }

@@ -1,30 +1,31 @@
 // The world: events and runs.
-ghost use Rattle.std.specs.Prelude.{◌≡◌, [], IfOk, IfErr, OnOk};
+ghost use Rattle.std.specs.Prelude.{◌≡◌, [], IfOk, IfErr, OnOk, length};
 ghost use Rattle.b2_audit.specs.Marks.{is_clean};
 ghost use Rattle.b2_store.specs.Meaning.{store_of};
-ghost use Rattle.b2_sched.specs.Start.{booted};
+ghost use Rattle.b2_sched.specs.Start.{HasDevices, booted};
 ghost use Rattle.b2_sched.specs.World.{does, does_all, turns_from, rounds, happens, ran, GivesTurns, Key, Front, Halt, Reset, Turn};
 
-use crate::start::{areas_of, fronts_of, privates_of};
+use crate::basic::Basic;
+use crate::start::{addresses_of, areas_of, fronts_of, privates_of};
 use b2_access::{DeviceTable, Private};
 use b2_audit::{Seen, Watched};
 use b2_base::{NoMemory, Part, Term};
-use b2_basic::Basic;
 use b2_boot::{Boot, Event};
 use b2_machine::turn;
+use b2_platter::Platter;
 use b2_store::{Rows, StoreBoot, Stores};
 use b2_term::KeyItem;
 use std::alloc::Global;
 use std::marker::Model;
 
-/// Partitions, the store that they share, the marks of what they touch and write there, and counts of turns, counting steps and
+/// The devices that there are, partitions, the store that they share, the marks of what they touch and write there, and counts of turns, counting steps and
 /// dropped keys. Contracts see it as one record.
 #[derive(Drop)]
 pub struct World {
     alloc: Global,
     quota: u16,
     devices: DeviceTable,
-    privates: Rows<Private>,
+    privates: Rows<Part, Private>,
     stores: Stores,
     seen: Seen,
     turns: u64,
@@ -43,29 +44,36 @@ impl Model for World {
 
     ghost coded = { Prim.hlevel (codes, coded_vars) };
 
-    ghost view = { λ w. record { quota = w.quota; privates = w.privates; store = store_of w.stores; marks = w.seen; turns = w.turns; steps = w.steps; dropped = w.dropped } };
+    ghost view = { λ w. record { quota = w.quota; devices = w.devices; privates = w.privates; store = store_of w.stores; marks = w.seen; turns = w.turns; steps = w.steps; dropped = w.dropped } };
 
     ghost invariant = { λ w. ArePresent w.privates (store_of w.stores) w.seen };
 }
 
 impl World {
-    /// The world of a boot: each partition as it starts, empty texts, idle terminals, and nothing marked or counted.
-    pub fn boot(alloc: Global, b: &Boot) -> Result<World, NoMemory>
-        ensures started { IfOk result (λ w. w ≡ booted b.now) }
+    /// The world of a boot and of the images of its platters, in its order: each partition as it starts, empty texts, idle
+    /// terminals, devices that nobody holds, and nothing marked or counted.
+    pub fn boot(alloc: Global, b: &Boot, platters: Vec<Platter>) -> Result<World, NoMemory>
+        requires devices { HasDevices b.now }
+        requires as_many { length b.now.platters ≡ length platters.items }
+        ensures started { IfOk result (λ w. w ≡ booted b.now platters.items) }
     {
         let privates = privates_of(alloc, &b.partitions)?;
+        let addresses = addresses_of(alloc, &b.platters)?;
+        let devices = DeviceTable::of_platters(alloc, &addresses)?;
         let start = StoreBoot {
             partitions: areas_of(alloc, &b.partitions)?,
             terminals: fronts_of(alloc, &b.terminals)?,
+            platters: addresses,
         };
-        let stores = Stores::new(alloc, &start)?;
+        let stores = Stores::new(alloc, &start, platters)?;
+        let seen = Seen::new(alloc);
         Ok(World {
             alloc,
             quota: b.quota,
-            devices: DeviceTable::new(Vec::new(alloc)),
+            devices,
             privates,
             stores,
-            seen: Seen::new(alloc),
+            seen,
             turns: 0,
             steps: 0,
             dropped: 0,

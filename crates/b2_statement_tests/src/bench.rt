@@ -25,8 +25,10 @@ pub const MARK: u8 = b'~';
 /// Who executes a statement.
 #[derive(Clone, Copy, PartialEq)]
 pub enum Builder {
-    /// The crate of control and assignment.
+    /// The crate of control.
     Control,
+    /// The crate of statements on variables.
+    Variables,
     /// The crate of statements at the terminal.
     Terminal,
     /// The one of these that has the statement.
@@ -50,6 +52,17 @@ pub struct Bench {
     read: usize,
     /// What was shown, and how the lines ended.
     pub told: String,
+}
+
+/// The crate that builds a row.
+fn builder_of(row: u16) -> Builder {
+    if b2_stmt_io::is_built(row) {
+        Builder::Terminal
+    } else if b2_stmt_var::is_built(row) {
+        Builder::Variables
+    } else {
+        Builder::Control
+    }
 }
 
 /// The line of a source.
@@ -129,6 +142,12 @@ fn suits(access: &Access, answer: &Answer) -> bool
         Access::Erase { .. } | Access::ClearAll { .. } => {
             matches!(answer, Answer::Done | Answer::Locked(_))
         }
+        Access::Limits { .. } => matches!(answer, Answer::Four(..) | Answer::Wait(_)),
+        Access::ListDisk { .. } => matches!(answer, Answer::Bytes(_) | Answer::Wait(_)),
+        Access::Scratch { .. } | Access::Format { .. } => matches!(
+            answer,
+            Answer::Done | Answer::Refused(_) | Answer::Wait(_)
+        ),
     }
 }
 
@@ -191,28 +210,20 @@ impl Bench {
         }
     }
 
-    /// Whether the crate of statements at the terminal executes the statement at a place.
-    fn is_at_terminal(&self, place: Place) -> bool {
-        match self.builder {
-            Builder::Control => false,
-            Builder::Terminal => true,
-            Builder::Either => {
-                let home = home_of(is_own(&place), &self.own, &self.other);
-                match statement_placed(place, &self.me.immediate, home) {
-                    Some(unit) => b2_stmt_io::is_built(unit.row),
-                    None => false,
-                }
-            }
+    /// The crate that executes the statement at a place.
+    fn builder_at(&self, place: Place) -> Builder {
+        if self.builder != Builder::Either {
+            return self.builder;
+        }
+        let home = home_of(is_own(&place), &self.own, &self.other);
+        match statement_placed(place, &self.me.immediate, home) {
+            Some(unit) => builder_of(unit.row),
+            None => Builder::Control,
         }
     }
 
     /// What the statement at the place plans.
-    fn plan(
-        &mut self,
-        alloc: Global,
-        place: Place,
-        at_terminal: bool,
-    ) -> Result<Planned, NoMemory> {
+    fn plan(&mut self, alloc: Global, place: Place, builder: Builder) -> Result<Planned, NoMemory> {
         let devices = DeviceTable::new(Vec::new(alloc));
         let mut lent = Lent {
             own: &self.own,
@@ -220,10 +231,10 @@ impl Bench {
             globals: &mut self.globals,
             found: self.found,
         };
-        if at_terminal {
-            b2_stmt_io::plan(alloc, &mut self.me, &mut lent, &devices)
-        } else {
-            b2_stmt::plan(alloc, &mut self.me, &mut lent, &devices)
+        match builder {
+            Builder::Terminal => b2_stmt_io::plan(alloc, &mut self.me, &mut lent, &devices),
+            Builder::Variables => b2_stmt_var::plan(alloc, &mut self.me, &mut lent, &devices),
+            _ => b2_stmt::plan(alloc, &mut self.me, &mut lent, &devices),
         }
     }
 
@@ -232,7 +243,7 @@ impl Bench {
         &mut self,
         alloc: Global,
         place: Place,
-        at_terminal: bool,
+        builder: Builder,
         access: &Access,
         answer: &Answer,
     ) -> Result<Outcome, NoMemory>
@@ -244,10 +255,14 @@ impl Bench {
             globals: &mut self.globals,
             found: self.found,
         };
-        if at_terminal {
-            b2_stmt_io::finish(alloc, &mut self.me, &mut lent, access, answer)
-        } else {
-            b2_stmt::finish(alloc, &mut self.me, &mut lent, access, answer)
+        match builder {
+            Builder::Terminal => {
+                b2_stmt_io::finish(alloc, &mut self.me, &mut lent, access, answer)
+            }
+            Builder::Variables => {
+                b2_stmt_var::finish(alloc, &mut self.me, &mut lent, access, answer)
+            }
+            _ => b2_stmt::finish(alloc, &mut self.me, &mut lent, access, answer),
         }
     }
 
@@ -256,14 +271,14 @@ impl Bench {
         &mut self,
         alloc: Global,
         place: Place,
-        at_terminal: bool,
+        builder: Builder,
         access: &Access,
         answer: &Answer,
     ) -> Result<Outcome, Unanswered> {
         if !suits(access, answer) {
             return Err(Unanswered::Misread);
         }
-        let outcome = self.finish(alloc, place, at_terminal, access, answer)?;
+        let outcome = self.finish(alloc, place, builder, access, answer)?;
         Ok(outcome)
     }
 
@@ -310,14 +325,14 @@ impl Bench {
 
     /// How the statement at a place ends, None where it waits for an answer.
     fn execute(&mut self, alloc: Global, place: Place) -> Result<Option<Outcome>, Unanswered> {
-        let at_terminal = self.is_at_terminal(place);
-        let access = match self.plan(alloc, place, at_terminal)? {
+        let builder = self.builder_at(place);
+        let access = match self.plan(alloc, place, builder)? {
             Planned::Done(outcome) => return Ok(Some(outcome)),
             Planned::Ask(access) => access,
         };
         self.tell_access(&access)?;
         match self.next_answer(alloc, &access)? {
-            Some(answer) => Ok(Some(self.ended(alloc, place, at_terminal, &access, &answer)?)),
+            Some(answer) => Ok(Some(self.ended(alloc, place, builder, &access, &answer)?)),
             None => Ok(None),
         }
     }

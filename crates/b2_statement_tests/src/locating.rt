@@ -7,7 +7,7 @@
 // `assign | LINES | TYPED`: the code of an alpha assignment, if there is one, and whether the receiver counts as reached.
 // `elsewhere | AREA | LINES | TYPED`: a receiver that is located, and then assigned among variables of an area where there are none.
 ghost use Rattle.std.specs.Prelude.{IfOk};
-ghost use Rattle.b2_expr.specs.Receivers.{IsNamed};
+ghost use Rattle.b2_receiver.specs.Receivers.{IsNamed};
 
 use crate::bench::{Bench, line_of};
 use crate::showing::show_code;
@@ -23,10 +23,11 @@ use b2_cases::answers::{Answer, Unanswered};
 use b2_cases::shown::{show_bytes, show_truth};
 use b2_cases::{Cells, number_of, str_of};
 use b2_dec::{Bytes, Dec, Kind};
-use b2_expr::{
-    AlphaReceiver, Array, Buffer, Element, Env, Receiver, alpha, alpha_receiver, any_receiver,
-    array_named, assign_bytes, assign_number, assign_side, buffer, condition, is_reached,
-    is_right_side_read, number, number_receiver, right_side, whole_array,
+use b2_expr::{Element, Env, alpha, condition, number};
+use b2_receiver::{
+    AlphaReceiver, Array, Buffer, Receiver, alpha_receiver, any_receiver, array_named,
+    assign_bytes, assign_number, assign_side, buffer, is_reached, is_right_side_read,
+    number_receiver, right_side, whole_array,
 };
 use b2_rows::{is_read, row_unit};
 use b2_vars::{Var, Vars};

@@ -20,7 +20,7 @@ struct StatementCalls;
 /// What the call of that name gives.
 fn answer(alloc: Global, call: &[u8], cells: &mut Cells<'_>) -> Answer {
     match str_of(call) {
-        "run" | "at home" | "control" | "terminal" | "read on" => {
+        "run" | "at home" | "control" | "variables" | "terminal" | "read on" => {
             running::answer(alloc, call, cells)
         }
         "turns" | "state" => turning::answer(alloc, call, cells),

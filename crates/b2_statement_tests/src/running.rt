@@ -3,7 +3,7 @@
 //
 // `run | PROGRAM | LINES | ANSWERS`: what each typed line shows in brackets, what it asks for, and how it ends.
 // `at home | PROGRAM | HOME | LINE`: from a line of the text of partition 2.
-// `control | LINE` and `terminal | LINE`: a line that is executed by one of the two crates, whatever stands there.
+// `control | LINE`, `variables | LINE` and `terminal | LINE`: a line that one of the crates executes, whatever stands there.
 // `read on | PROGRAM | LINE | UNIT | COUNT`: what READ takes where it is to go on there, and where it goes on then.
 use crate::bench::{Bench, Builder};
 use b2_atom::words::Origin;
@@ -19,6 +19,7 @@ pub fn answer(alloc: Global, call: &[u8], cells: &mut Cells<'_>) -> Answer {
         "run" => run(alloc, cells),
         "at home" => run_at_home(alloc, cells),
         "control" => run_by(alloc, Builder::Control, cells),
+        "variables" => run_by(alloc, Builder::Variables, cells),
         "terminal" => run_by(alloc, Builder::Terminal, cells),
         "read on" => read_on(alloc, cells),
         _ => Err(Unanswered::NoSuchCall),

@@ -12,11 +12,11 @@ use crate::showing::show_lines;
 use b2_access::{DeviceTable, Object, Private};
 use b2_base::lexical::{capped_value, first};
 use b2_base::{NoMemory, Part, Term, cut};
-use b2_basic::Basic;
 use b2_cases::answers::{Answer, Unanswered};
 use b2_cases::{Cells, number_of, str_of};
 use b2_flow::{Frame, Place};
 use b2_machine::{Stepped, Turned, Why, step, turn};
+use b2_sched::Basic;
 use b2_store::{StoreBoot, Stores};
 use b2_term::KeyItem;
 use std::alloc::{AllocError, Global};
@@ -34,8 +34,9 @@ fn store_with(alloc: Global, area: usize) -> Result<Stores, NoMemory>
     let boot = StoreBoot {
         partitions,
         terminals,
+        platters: Vec::new(alloc),
     };
-    Stores::new(alloc, &boot)
+    Stores::new(alloc, &boot, Vec::new(alloc))
 }
 
 /// A key at the terminal.

@@ -1,8 +1,8 @@
--- STOP, RUN and RESTORE, by their rows.
+-- STOP and RUN, by their rows.
 use Rattle.std.proofs.Common.{◌≡◌, ◌==◌, Bool, true, false, if◌then◌else◌, List, [], ◌∷◌, drop, get_or, Some, None, refl, ap, ◌∙◌}
 use Rattle.b2_base.specs.Byte as byte
 use Rattle.b2_base.specs.Lexical.{first}
-use Rattle.b2_base.specs.declared.codes.TheConstants.{S15_LINE_NUMBER, S18_ALPHA}
+use Rattle.b2_base.specs.declared.codes.TheConstants.{S18_ALPHA}
 use Rattle.b2_atom.specs.Words.{Text}
 use Rattle.b2_atom.specs.Tokens.Token.{Coded, Plain}
 use Rattle.b2_atom.specs.Tree.{Trees}
@@ -20,7 +20,7 @@ use Rattle.b2_rows.specs.Rows.{is_part, tree_at}
 use Rattle.b2_rows.specs.Values.{line_of, literal_of}
 use Rattle.b2_rows.proofs.RowsRead.{stands_of}
 use Rattle.b2_rows.specs.LineNumbers.{line_in}
-use Rattle.b2_stmt.specs.Course.{text_of_stop, line_to_run, line_to_restore}
+use Rattle.b2_stmt.specs.Course.{text_of_stop, line_to_run}
 use Rattle.b2_stmt.proofs.BranchRows.{line_here, line_number, taken_way}
 
 -- STOP
@@ -90,41 +90,3 @@ run_with t ok is =
 
 pub run_without : (t : Text) → is_part row.RUN t ≡ true → starts Atoms start.Line (drop 1 t) ≡ false → line_to_run (tree_at row.RUN t) ≡ None
 run_without t ok is = ap line_to_run (stands_of row.RUN run_items t run_row ok).1 ∙ run_by (starts Atoms start.Line (drop 1 t)) false (tree_at row.LINE_NUMBER (drop 1 t)) is
-
--- RESTORE
-abbrev restore_items : List Item
-restore_items = Word word.RESTORE ∷ Maybe (start.Code word.LINE) row.LINE_OF_DATA ∷ []
-
-restore_row : row_items row.RESTORE ≡ restore_items
-unfolding row_items
-restore_row = refl
-
-abbrev data_items : List Item
-data_items = Word word.LINE ∷ Typed leaf.LineNumber S15_LINE_NUMBER ∷ []
-
-data_row : row_items row.LINE_OF_DATA ≡ data_items
-unfolding row_items
-data_row = refl
-
-pub restore_line : (t : Text) → is_part row.RESTORE t ≡ true → (first (drop 1 t) == word.LINE) ≡ true → is_leaf leaf.LineNumber (drop 1 (drop 1 t)) ≡ true
-unfolding starts
-restore_line t ok is = (stands_of row.LINE_OF_DATA data_items (drop 1 t) data_row (taken_way (first (drop 1 t) == word.LINE) _ _ is (stands_of row.RESTORE restore_items t restore_row ok).0.1).0).0.1.0
-
-restore_by : (b c : Bool) (a : Trees) → b ≡ c → line_to_restore (Put (Coded word.RESTORE) (if b then In 1 a Done else In 0 Done Done)) ≡ (if c then line_to_restore (Put (Coded word.RESTORE) (In 1 a Done)) else None)
-restore_by true true a is = refl
-restore_by false false a is = refl
-restore_by true false a is = cc
-restore_by false true a is = cc
-
-pub restore_with : (t : Text) → is_part row.RESTORE t ≡ true → (first (drop 1 t) == word.LINE) ≡ true
-    → line_to_restore (tree_at row.RESTORE t) ≡ Some (line_of (get_or (drop 1 (drop 1 t)) 1 0) (get_or (drop 1 (drop 1 t)) 2 0))
-unfolding starts
-restore_with t ok is =
-    let r = stands_of row.RESTORE restore_items t restore_row ok in
-    let part = (taken_way (first (drop 1 t) == word.LINE) _ _ is r.0.1).0 in
-    ap line_to_restore r.1 ∙ restore_by (first (drop 1 t) == word.LINE) true (tree_at row.LINE_OF_DATA (drop 1 t)) is
-    ∙ ap (λ (a : Trees). line_to_restore (Put (Coded word.RESTORE) (In 1 a Done))) (stands_of row.LINE_OF_DATA data_items (drop 1 t) data_row part).1
-
-pub restore_without : (t : Text) → is_part row.RESTORE t ≡ true → (first (drop 1 t) == word.LINE) ≡ false → line_to_restore (tree_at row.RESTORE t) ≡ None
-unfolding starts
-restore_without t ok is = ap line_to_restore (stands_of row.RESTORE restore_items t restore_row ok).1 ∙ restore_by (first (drop 1 t) == word.LINE) false (tree_at row.LINE_OF_DATA (drop 1 t)) is

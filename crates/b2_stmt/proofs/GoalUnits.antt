@@ -9,15 +9,11 @@ use Rattle.b2_atom.specs.Tree.Trees.{Done, Put, In}
 use Rattle.b2_atom.specs.Lines.{is_line}
 use Rattle.b2_atom.specs.Units.{TreeUnit}
 use Rattle.b2_atom.specs.declared.rows.TheConstants as row
-use Rattle.b2_atom.proofs.lines.Units.{few_units}
 use Rattle.b2_rows.specs.Following.{tree_units, further_on, unit_or_next, past_colon, named_goal, else_goal, false_goal, after_false}
 use Rattle.b2_rows.specs.Values.{line_of}
 use Rattle.b2_rows.specs.declared.following.Goal.TheVariants as goal
-use Rattle.b2_rows.proofs.LineTrees.{count_is}
 use Rattle.b2_access.specs.Places.{IsUnit}
-
-pub few : (line : Text) → is_line line ≡ true → length (tree_units line) ≤ 255
-few line h = let e = count_is line h in let f = few_units line h in omega (arith, e, f)
+use Rattle.b2_access.proofs.Statements.{few}
 
 unit_by : (b : Bool) (k n : ℕ) → nat_lt k n ≡ b → n ≤ 255 → IsUnit (if b then goal.Unit k else goal.NextLine)
 unit_by true k n is small = grind (arith, nat_tests)

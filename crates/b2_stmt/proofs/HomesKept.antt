@@ -1,13 +1,11 @@
 -- A statement names no partition as a home but its own and those that were named before.
-use Rattle.std.proofs.Common.{◌≡◌, ℕ, ◌==◌, ◌&&◌, not, ◌∙◌, refl, sym, ap, nat_lt, Bool, true, false, if◌then◌else◌, List, [], ◌∷◌, length, Option, Some, None, is_some, Result, Ok, Err}
-use Rattle.std.specs.Prelude.{slice_get, unwrap_or, ◌+◌, ◌-◌, ◌%◌, ◌^◌}
-use Rattle.std.proofs.Math.Nat.{zero-div}
+use Rattle.std.proofs.Common.{◌≡◌, ℕ, ◌==◌, ◌&&◌, not, refl, subst, nat_lt, Bool, true, false, if◌then◌else◌, List, [], ◌∷◌, length, Option, Some, None, is_some, Result, Ok, Err}
+use Rattle.std.specs.Prelude.{unwrap_or, ◌+◌}
 use Rattle.std.specs.Option.{option_map, option_and_then}
 use Rattle.b2_atom.specs.Tree.{Trees}
 use Rattle.b2_atom.specs.Tree.Trees.{Done, Put, In}
-use Rattle.b2_atom.specs.Units.{TreeUnit}
 use Rattle.b2_atom.specs.declared.rows.TheConstants as row
-use Rattle.b2_rows.specs.Following.{past_colon, tree_units, unit_or_next}
+use Rattle.b2_rows.specs.Following.{past_colon, unit_or_next}
 use Rattle.b2_rows.specs.declared.following.Goal.{Goal}
 use Rattle.b2_rows.specs.declared.following.Goal.TheVariants as goal
 use Rattle.b2_text.specs.Program.{Lines, TextState, line_at, number_after}
@@ -21,7 +19,7 @@ use Rattle.b2_flow.specs.declared.frame.Frame.{Frame}
 use Rattle.b2_flow.specs.declared.frame.Frame.TheVariants.{For, Call}
 use Rattle.b2_flow.specs.declared.frame.Place.{Place}
 use Rattle.b2_flow.specs.declared.frame.Var2.{Var2}
-use Rattle.b2_expr.specs.Assigning.{assigned_number}
+use Rattle.b2_receiver.specs.Assigning.{assigned_number}
 use Rattle.b2_expr.specs.Answers.{Answer as NumberAnswer}
 use Rattle.b2_expr.specs.Named.{number_there}
 use Rattle.b2_expr.specs.Scope.{Context}
@@ -33,42 +31,50 @@ use Rattle.b2_access.specs.declared.accesses.Answer.{Answer}
 use Rattle.b2_access.specs.declared.planned.Outcome.{Outcome}
 use Rattle.b2_access.specs.declared.planned.Outcome.TheVariants as outcome
 use Rattle.b2_access.specs.declared.private.Private.{Private}
-use Rattle.b2_expr.specs.Value.{context_of}
+use Rattle.b2_expr.specs.Workspace.{work_in}
 use Rattle.b2_access.specs.Partition.{setting_of}
-use Rattle.b2_stmt.specs.Asked.{Here, asked_of, asks_choice, asks_loop, asks_on, asks_mark, body_place, carried, line_chosen, place_after, still}
+use Rattle.b2_stmt.specs.Asked.{Asks, Leads, asked_of, asking_rows, asks_choice, asks_loop, asks_mark, asks_nothing, asks_on, body_place, carried, is_still, left_out, line_chosen, place_after, still, still_rows}
 use Rattle.b2_stmt.specs.Arguments.{arguments, operands_of}
-use Rattle.b2_stmt.specs.OnVariables.{is_on_variables, on_variables}
 use Rattle.b2_stmt.specs.Marked.{calls_mark, mark_in, mark_place, number_called, parameters_of, place_in, takes_values, takes_args}
-use Rattle.b2_stmt.specs.Reading.{reads_data}
 use Rattle.b2_stmt.specs.Branches.{goto_goal, if_goal, passed_function}
 use Rattle.b2_stmt.specs.Calls.{back_from, called_where, forgets, leaves_call}
 use Rattle.b2_stmt.specs.Choices.{calls_a_line, choice_in}
 use Rattle.b2_stmt.specs.Clearing.{asked_access, clearing_ends, edit_finishes}
-use Rattle.b2_stmt.specs.Course.{continues, restores, restores_where, runs, runs_from, runs_where}
+use Rattle.b2_stmt.specs.Course.{continues, runs, runs_from, runs_where}
 use Rattle.b2_stmt.specs.Frames.{with_frame}
 use Rattle.b2_access.specs.Going.{to_found, to_goal, to_place, where_there}
-use Rattle.b2_access.specs.Homes.{FinishesWithin, FrameIn, FramesIn, HomesIn, IsWithin, OutcomeIn, PlaceIn, PlannedIn, PlansWithin, homes_of, is_marked}
+use Rattle.b2_access.specs.Homes.{FinishesWithin, FrameIn, FramesIn, HomesIn, IsWithin, OutcomeIn, PlaceIn, PlannedIn, PlansWithin}
 use Rattle.b2_stmt.specs.Loops.{loop_begins, loop_element, loop_counts, goes_round, is_over, loop_in, made_loop, next_value, nexts, tested, without_loop}
-use Rattle.b2_access.specs.Placed.{line_named}
-use Rattle.b2_stmt.specs.Plan.{permitted, by_access, course, course_at, course_in, ended_of, finish, is_refused, plan}
-use Rattle.b2_access.specs.Planning.{Ended, Planning, done, goes_or}
+use Rattle.b2_access.specs.Courses.{Here, here}
+use Rattle.b2_access.specs.Placed.{Statement}
+use Rattle.b2_stmt.specs.Plan.{around, by_access, does, ended_of, finish, is_refused, plan, stops}
+use Rattle.b2_access.specs.Planning.{Planning, done, goes_or}
 use Rattle.b2_access.specs.Views.{ClearCame, AllCleared, LinesErased, TextLocked, ClearLater, clear_came}
 use Rattle.b2_access.proofs.Choice.{either}
+use Rattle.b2_access.proofs.Homes.{marks_none}
+use Rattle.b2_access.specs.Working.{work_of}
+use Rattle.b2_access.specs.Steering.{Steered, control_of, put_control, steered}
+use Rattle.b2_access.proofs.Courses.{each_course}
+use Rattle.b2_access.proofs.Tables.{each_row}
 use Rattle.b2_stmt.proofs.Erased.{each_erased}
 use Rattle.b2_stmt.specs.declared.asked.Asked.{Asked}
 use Rattle.b2_stmt.specs.declared.asked.Asked.TheVariants as asked
 use Rattle.b2_stmt.specs.declared.loops.Loop.{Loop}
 
-true_is_false : true ≡ false → ⊥
-true_is_false h = cc
-
 module _ (among : ℕ → Bool) where
-  -- what a statement leaves names only these
-  EndedIn : Ended → Type 0
-  EndedIn e = IsWithin among e.me × OutcomeIn among e.outcome
-
   abbrev Within : Private → Type 0
   Within me = IsWithin among me
+
+  -- what a statement leaves names only these
+  abbrev Left : Option Place → List Frame → Type 0
+  Left kept frames = PlaceIn among kept × FramesIn among frames
+
+  EndedIn : Steered → Type 0
+  EndedIn e = Left e.control.kept e.control.stack × OutcomeIn among e.outcome
+
+  -- all of it where nothing was changed
+  left : (me : Private) → Within me → Left me.kept me.stack
+  left me w = (w.kept, w.frames)
 
   -- the same partition with other frames
   with_frames : (me : Private) (fs : List Frame) → Within me → FramesIn among fs → Within (record me { stack = fs })
@@ -89,7 +95,7 @@ module _ (among : ℕ → Bool) where
   framed : (f : Frame) (o : Outcome) (me : Private) → Within me → FrameIn among f → OutcomeIn among o → EndedIn (with_frame f o me)
   unfolding EndedIn
   framed f o me w h k =
-      either EndedIn (nat_lt (length me.stack) most_frames) (record { me = record me { stack = f ∷ me.stack }; outcome = o }) _ (with_frames me (f ∷ me.stack) w (h, w.frames), k) (w, tt)
+      either EndedIn (nat_lt (length me.stack) most_frames) (record { control = record (control_of me) { stack = f ∷ me.stack }; outcome = o }) _ ((w.kept, (h, w.frames)), k) (left me w, tt)
 
   -- the next unit, or a fault
   next_in : (o : Option ℕ) → OutcomeIn among (goes_or outcome.Next o)
@@ -148,16 +154,20 @@ module _ (among : ℕ → Bool) where
 
   still_in : (r : ℕ) (t : Trees) (h : Here) (s : Context) (lines : Lines) → among h.place.home ≡ true → OutcomeIn among (still r t h s lines)
   still_in r t h s lines k =
-      either (OutcomeIn among) (r == row.IF) _ _ (found_in lines h.place (if_goal s h.place.unit h.units t) k)
-      (either (OutcomeIn among) (r == row.GOTO) _ _ (found_in lines h.place (goto_goal t) k)
-      (either (OutcomeIn among) (r == row.ELSE) _ _ (goes_in lines h.place (past_colon h.place.unit h.units) k)
-      (either (OutcomeIn among) (r == row.ERROR) _ _ (goes_in lines h.place goal.NextLine k)
-      (either (OutcomeIn among) (r == row.END) _ _ tt
-      (either (OutcomeIn among) (r == row.REMARK) _ _ tt
-      (either (OutcomeIn among) (r == row.IMAGE_LINE) _ _ tt
-      (either (OutcomeIn among) (r == row.DATA) _ _ tt
-      (either (OutcomeIn among) (r == row.DEFFN) _ _ (passed_in t)
-      (either (OutcomeIn among) (r == row.BREAK) _ _ tt tt)))))))))
+      let F : Leads → Type 0 = λ leads. OutcomeIn among (leads t h s lines) in
+      each_row F still_rows left_out r (
+        found_in lines h.place (if_goal s h.place.unit h.units t) k,
+        (
+          found_in lines h.place (goto_goal t) k,
+          (
+            goes_in lines h.place (past_colon h.place.unit h.units) k,
+            (
+              goes_in lines h.place goal.NextLine k,
+              (tt, (tt, (tt, (tt, (passed_in t, (tt, tt)))))),
+            ),
+          ),
+        ),
+      ) tt
 
   loop_asked : (l : Result Loop ℕ) (body : Place) → among body.home ≡ true → AskedIn (asks_loop l body)
   unfolding AskedIn
@@ -193,26 +203,37 @@ module _ (among : ℕ → Bool) where
   unfolding AskedIn
   asked_in r t h s lines k =
       let after : PlaceIn among (place_after h lines) = goal_in lines h.place (unit_or_next (h.place.unit + 1) h.units) k in
-      either AskedIn (r == row.FOR) _ _ (loop_asked (loop_in s t) (body_place h lines) (body_by (place_after h lines) _ after k))
-      (either AskedIn (r == row.NEXT) _ _ tt
-      (either AskedIn (r == row.GOSUB) _ _ after
-      (either AskedIn (r == row.RETURN) _ _ tt
-      (either AskedIn (r == row.RETURN_CLEAR) _ _ tt
-      (either AskedIn (r == row.STOP) _ _ after
-      (either AskedIn (r == row.SELECT) _ _ tt
-      (either AskedIn (r == row.SELECT_NO_ROUND) _ _ tt
-      (either AskedIn (r == row.RUN) _ _ tt
-      (either AskedIn (r == row.CONTINUE) _ _ tt
-      (either AskedIn (r == row.RESTORE) _ _ tt
-      (either AskedIn (r == row.CLEAR_V) _ _ tt
-      (either AskedIn (r == row.CLEAR_N) _ _ tt
-      (either AskedIn (r == row.ON) _ _ (on_asked t h s lines k after)
-      (either AskedIn (r == row.GOSUB_MARKED) _ _ (mark_asked (number_called t) (arguments s (operands_of t)) (place_after h lines) after) (still_in r t h s lines k)))))))))))))))
+      let F : Asks → Type 0 = λ asks. AskedIn (asks t h s lines) in
+      each_row F asking_rows asks_nothing r (
+        loop_asked (loop_in s t) (body_place h lines) (body_by (place_after h lines) _ after k),
+        (
+          tt,
+          (
+            after,
+            (
+              mark_asked (number_called t) (arguments s (operands_of t)) (place_after h lines) after,
+              (
+                tt,
+                (
+                  tt,
+                  (
+                    on_asked t h s lines k after,
+                    (
+                      after,
+                      (tt, (tt, (tt, (tt, tt)))),
+                    ),
+                  ),
+                ),
+              ),
+            ),
+          ),
+        ),
+      ) tt
 
   -- loops
   made_in : (o : Option ℕ) (l : Loop) (body : Place) (me : Private) → Within me → among body.home ≡ true → EndedIn (made_loop o l body me)
   unfolding EndedIn
-  made_in (Some code) l body me w h = (w, tt)
+  made_in (Some code) l body me w h = (left me w, tt)
   made_in None l body me w h = framed (For l.var l.limit l.step body) outcome.Next (record me { stack = without_loop l.var me.stack }) (with_frames me (without_loop l.var me.stack) w (no_old_loop l.var me.stack w.frames)) h tt
 
   begins_in : (l : Loop) (body : Place) (me : Private) → Within me → among body.home ≡ true → EndedIn (loop_begins l body me)
@@ -222,13 +243,13 @@ module _ (among : ℕ → Bool) where
 
   tested_in : (o : Option ℕ) (over : Bool) (body : Place) (me : Private) → Within me → among body.home ≡ true → EndedIn (tested o over body me)
   unfolding EndedIn
-  tested_in (Some code) over body me w h = (w, tt)
-  tested_in None true body me w h = (with_frames me (without_top_loop me.stack) w (without_top me.stack w.frames), tt)
-  tested_in None false body me w h = (w, h)
+  tested_in (Some code) over body me w h = (left me w, tt)
+  tested_in None true body me w h = ((w.kept, without_top me.stack w.frames), tt)
+  tested_in None false body me w h = (left me w, h)
 
   counts_in : (x : NumberAnswer) (v : Var2) (limit step : Number) (body : Place) (me : Private) → Within me → among body.home ≡ true → EndedIn (loop_counts x v limit step body me)
   unfolding EndedIn
-  counts_in (Err code) v limit step body me w h = (w, tt)
+  counts_in (Err code) v limit step body me w h = (left me w, tt)
   counts_in (Ok x) v limit step body me w h =
       tested_in (assigned_number (loop_element v) x me.vars).code (is_over x limit step) body (record me { vars = (assigned_number (loop_element v) x me.vars).vars })
       (record { part = w.part; place = w.place; kept = w.kept; frames = w.frames }) h
@@ -245,19 +266,19 @@ module _ (among : ℕ → Bool) where
 
   round_in : (o : Option (Number × Number × Place)) (v : Var2) (me : Private) → Within me → LoopIn o → EndedIn (goes_round o v me)
   unfolding EndedIn LoopIn
-  round_in None v me w h = (w, tt)
+  round_in None v me w h = (left me w, tt)
   round_in (Some p) v me w h = counts_in (next_value me.mode (number_there (record { vars = me.vars; element = loop_element v })) p.1) v p.0 p.1 p.2 me w h
 
   nexts_in : (v : Var2) (me : Private) → Within me → EndedIn (nexts v me)
   unfolding EndedIn
   nexts_in v me w =
       let frames : FramesIn among (from_loop v me.stack) = from (is_loop_of v) me.stack w.frames in
-      either EndedIn (has_loop v me.stack) _ _ (round_in (top_loop (from_loop v me.stack)) v (record me { stack = from_loop v me.stack }) (with_frames me (from_loop v me.stack) w frames) (top_in (from_loop v me.stack) frames)) (w, tt)
+      either EndedIn (has_loop v me.stack) _ _ (round_in (top_loop (from_loop v me.stack)) v (record me { stack = from_loop v me.stack }) (with_frames me (from_loop v me.stack) w frames) (top_in (from_loop v me.stack) frames)) (left me w, tt)
 
   -- calls
   called_in : (line : Option (List ℕ)) (q : Place) (back : Option Place) (me : Private) → Within me → among q.home ≡ true → PlaceIn among back → EndedIn (called_where line q back me)
   unfolding EndedIn
-  called_in None q back me w h k = (w, tt)
+  called_in None q back me w h k = (left me w, tt)
   called_in (Some line) q back me w h k = framed (Call back None) (outcome.Jump q) me w (k, tt) h
 
   spot_in : (part : ℕ) (o : Option Spot) → among part ≡ true → PlaceIn among (option_map (place_in part) o)
@@ -270,31 +291,31 @@ module _ (among : ℕ → Bool) where
 
   mark_called : (to : Option Place) (args : List Value) (back : Option Place) (me : Private) → Within me → PlaceIn among to → PlaceIn among back → EndedIn (calls_mark to args back me)
   unfolding EndedIn
-  mark_called None args back me w h k = (w, tt)
+  mark_called None args back me w h k = (left me w, tt)
   mark_called (Some q) args back me w h k =
-      either EndedIn (nat_lt (length me.stack) most_frames) (record { me = record me { stack = Call back None ∷ me.stack; args = Some args }; outcome = outcome.Jump q }) _
-      (record { part = w.part; place = w.place; kept = w.kept; frames = ((k, tt), w.frames) }, h) (w, tt)
+      either EndedIn (nat_lt (length me.stack) most_frames) (record { control = record (control_of me) { work = record (work_of me) { args = Some args }; stack = Call back None ∷ me.stack }; outcome = outcome.Jump q }) _
+      ((w.kept, ((k, tt), w.frames)), h) (left me w, tt)
 
   args_in : (o : Option (List Value)) (home : TextState) (t : Trees) (me : Private) → Within me → EndedIn (takes_args o home t me)
   unfolding EndedIn
-  args_in None home t me w = (w, tt)
+  args_in None home t me w = (left me w, tt)
   args_in (Some xs) home t me w =
-      (record { part = w.part; place = w.place; kept = w.kept; frames = w.frames }, next_in (takes_values (setting_of me) home (parameters_of t) xs me.vars).code)
+      ((w.kept, w.frames), next_in (takes_values (parameters_of t) xs (work_in (setting_of me) home me.vars)).code)
 
   back_in : (how : Option Place → Outcome) (fs : List Frame) (me : Private) → ((b : Option Place) → PlaceIn among b → OutcomeIn among (how b)) → Within me → FramesIn among fs → EndedIn (back_from how fs me)
   unfolding EndedIn
-  back_in how [] me leads w h = (w, tt)
-  back_in how (For v limit step body ∷ fs) me leads w h = (w, tt)
-  back_in how (Call back entered ∷ fs) me leads w h = (with_frames me fs w h.1, leads back h.0.0)
+  back_in how [] me leads w h = (left me w, tt)
+  back_in how (For v limit step body ∷ fs) me leads w h = (left me w, tt)
+  back_in how (Call back entered ∷ fs) me leads w h = ((w.kept, h.1), leads back h.0.0)
 
   leaves_in : (how : Option Place → Outcome) (me : Private) → ((b : Option Place) → PlaceIn among b → OutcomeIn among (how b)) → Within me → EndedIn (leaves_call how me)
   unfolding EndedIn
-  leaves_in how me leads w = either EndedIn (has_call me.stack) _ _ (back_in how (from_call me.stack) me leads w (from is_call me.stack w.frames)) (w, tt)
+  leaves_in how me leads w = either EndedIn (has_call me.stack) _ _ (back_in how (from_call me.stack) me leads w (from is_call me.stack w.frames)) (left me w, tt)
 
   forgets_in : (all : Bool) (p : Place) (me : Private) → Within me → EndedIn (forgets all p me)
   unfolding EndedIn
   forgets_in false p me w = leaves_in (λ back. outcome.Next) me (λ b h. tt) w
-  forgets_in true p me w = either EndedIn (has_call me.stack && (p.home == me.part)) _ _ (record { part = w.part; place = w.place; kept = tt; frames = tt }, tt) (w, tt)
+  forgets_in true p me w = either EndedIn (has_call me.stack && (p.home == me.part)) _ _ ((tt, tt), tt) (left me w, tt)
 
   -- the course of the program
   kept_in : (b : Bool) (after kept : Option Place) → PlaceIn among after → PlaceIn among kept → PlaceIn among (if b then after else kept)
@@ -302,12 +323,12 @@ module _ (among : ℕ → Bool) where
 
   runs_in : (n : Option ℕ) (me : Private) → Within me → EndedIn (runs_from n me)
   unfolding EndedIn
-  runs_in None me w = (record { part = w.part; place = w.place; kept = tt; frames = tt }, tt)
-  runs_in (Some n) me w = (record { part = w.part; place = w.place; kept = tt; frames = tt }, w.part)
+  runs_in None me w = ((tt, tt), tt)
+  runs_in (Some n) me w = ((tt, tt), w.part)
 
   runs_where_in : (line : Option (List ℕ)) (n : ℕ) (me : Private) → Within me → EndedIn (runs_where line n me)
   unfolding EndedIn
-  runs_where_in None n me w = (w, tt)
+  runs_where_in None n me w = (left me w, tt)
   runs_where_in (Some line) n me w = runs_in (Some n) me w
 
   run_in : (n : Option ℕ) (own : Lines) (me : Private) → Within me → EndedIn (runs n own me)
@@ -316,59 +337,43 @@ module _ (among : ℕ → Bool) where
 
   continues_in : (o : Option Place) (me : Private) → Within me → PlaceIn among o → EndedIn (continues o me)
   unfolding EndedIn
-  continues_in None me w h = (w, tt)
-  continues_in (Some p) me w h = (w, h)
-
-  restores_where_in : (line : Option (List ℕ)) (n : ℕ) (me : Private) → Within me → EndedIn (restores_where line n me)
-  unfolding EndedIn
-  restores_where_in None n me w = (w, tt)
-  restores_where_in (Some line) n me w = (record { part = w.part; place = w.place; kept = w.kept; frames = w.frames }, tt)
-
-  restores_in : (n : Option ℕ) (own : Lines) (me : Private) → Within me → EndedIn (restores n own me)
-  unfolding EndedIn
-  restores_in None own me w = (record { part = w.part; place = w.place; kept = w.kept; frames = w.frames }, tt)
-  restores_in (Some n) own me w = restores_where_in (line_at n own) n me w
+  continues_in None me w h = (left me w, tt)
+  continues_in (Some p) me w h = (left me w, h)
 
   carried_in : (a : Asked) (p : Place) (me : Private) (own home : Lines) → among p.home ≡ true → Within me → AskedIn a → EndedIn (carried a p me own home)
   unfolding EndedIn AskedIn
-  carried_in (asked.Nothing o) p me own home h w k = (w, k)
+  carried_in (asked.Nothing o) p me own home h w k = (left me w, k)
   carried_in (asked.Begin l body) p me own home h w k = begins_in l body me w k
   carried_in (asked.Next v) p me own home h w k = nexts_in v me w
   carried_in (asked.Call n back) p me own home h w k = called_in (line_at n home) (line_start p n) back me w h k
   carried_in asked.Return p me own home h w k = leaves_in to_place me placed w
   carried_in (asked.Forget all) p me own home h w k = forgets_in all p me w
   carried_in (asked.Stop shown after) p me own home h w k =
-      (record { part = w.part; place = w.place; kept = kept_in (is_some p.line) after me.kept k w.kept; frames = w.frames }, tt)
-  carried_in (asked.Select mode) p me own home h w k = (record { part = w.part; place = w.place; kept = w.kept; frames = w.frames }, tt)
+      ((kept_in (is_some p.line) after me.kept k w.kept, w.frames), tt)
+  carried_in (asked.Select mode) p me own home h w k = ((w.kept, w.frames), tt)
   carried_in (asked.Run n) p me own home h w k = run_in n own me w
   carried_in asked.Continue p me own home h w k = continues_in me.kept me w w.kept
-  carried_in (asked.Restore n) p me own home h w k = restores_in n own me w
-  carried_in (asked.Clear common) p me own home h w k = (record { part = w.part; place = w.place; kept = w.kept; frames = w.frames }, tt)
   carried_in (asked.CallMark n args back) p me own home h w k =
       mark_called (mark_place n p me.part own home) args back me w
       (either_in (mark_in p.home n home) (mark_in me.part n own) (spot_in p.home (first_opening (is_mark n) home) h) (spot_in me.part (first_opening (is_mark n) own) w.part)) k
 
   -- a statement
-  ended_in : (r : ℕ) (t : Trees) (h : Here) (me : Private) (s : SeenLent) → among h.place.home ≡ true → Within me → EndedIn (ended_of r t h me s)
+  ended_in : (u : Statement) (h : Here) (me : Private) (s : SeenLent) → among h.place.home ≡ true → Within me → EndedIn (ended_of u h me s)
   unfolding EndedIn
-  ended_in r t h me s k w =
-      either EndedIn (is_on_variables r) _ _
-      (record { part = w.part; place = w.place; kept = w.kept; frames = w.frames }, next_in (on_variables r (setting_of me) s.home t me.vars).code)
-      (either EndedIn (r == row.READ) _ _
-      (record { part = w.part; place = w.place; kept = w.kept; frames = w.frames }, next_in (reads_data (setting_of me) s.home s.own.lines t me.vars me.next_data).code)
-      (either EndedIn (r == row.DEFFN_MARKED) _ _ (args_in me.args s.home t me w)
-      (carried_in (asked_of r t h (context_of (setting_of me) me.vars s.home) s.home.lines) h.place me s.own.lines s.home.lines k w (asked_in r t h (context_of (setting_of me) me.vars s.home) s.home.lines k))))
+  ended_in u h me s k w =
+      either EndedIn (is_still u.row) _ _ (left me w, still_in u.row u.tree h (around me s) s.home.lines k)
+      (either EndedIn (u.row == row.DEFFN_MARKED) _ _ (args_in me.args s.home u.tree me w)
+      (carried_in (asked_of u.row u.tree h (around me s) s.home.lines) h.place me s.own.lines s.home.lines k w (asked_in u.row u.tree h (around me s) s.home.lines k)))
 
   PlanningIn : Planning → Type 0
   PlanningIn p = IsWithin among p.me × PlannedIn among p.planned
 
-  done_in : (s : SeenLent) (e : Ended) → EndedIn e → PlanningIn (done s e)
-  unfolding EndedIn PlanningIn
-  done_in s e h = h
+  put_in : (me : Private) (e : Steered) → Within me → Left e.control.kept e.control.stack → Within (put_control e.control me)
+  put_in me e w h = record { part = w.part; place = w.place; kept = h.0; frames = h.1 }
 
-  -- an access that marks no home
-  no_mark : (a : Access) → homes_of a ≡ 0 → HomesIn among a
-  no_mark a none h is = absurd (true_is_false (sym is ∙ ap (λ (n : ℕ). is_marked h n) none ∙ ap (λ (n : ℕ). n % 2 == 1) (zero-div (2 ^ (h - 1)))))
+  done_in : (s : SeenLent) (me : Private) (e : Steered) → Within me → EndedIn e → PlanningIn (done s (steered me e))
+  unfolding EndedIn PlanningIn
+  done_in s me e w h = (put_in me e w h.0, h.1)
 
   AccessIn : Option Access → Type 0
   AccessIn None = Unit {0}
@@ -377,48 +382,35 @@ module _ (among : ℕ → Bool) where
   asked_of_in : (r : ℕ) (t : Trees) → AccessIn (asked_access r t)
   unfolding AccessIn
   asked_of_in r t =
-      either AccessIn (r == row.CLEAR) _ _ (no_mark (access.ClearAll None 0) refl) (either AccessIn (r == row.CLEAR_P) _ _ (each_erased (HomesIn among) (λ from to. no_mark (access.Erase from to 0) refl) t) tt)
+      either AccessIn (r == row.CLEAR) _ _ (marks_none among (access.ClearAll None 0) refl) (either AccessIn (r == row.CLEAR_P) _ _ (each_erased (HomesIn among) (λ from to. marks_none among (access.Erase from to 0) refl) t) tt)
 
-  access_in : (o : Option Access) (s : SeenLent) (me : Private) (e : Ended) → Within me → EndedIn e → AccessIn o → PlanningIn (by_access o s me e)
+  access_in : (o : Option Access) (s : SeenLent) (me : Private) (e : Steered) → Within me → EndedIn e → AccessIn o → PlanningIn (by_access o s me e)
   unfolding PlanningIn AccessIn
-  access_in None s me e w h k = done_in s e h
+  access_in None s me e w h k = done_in s me e w h
   access_in (Some a) s me e w h k = (w, k)
 
-  allowed_in : (r : ℕ) (t : Trees) (h : Here) (me : Private) (s : SeenLent) → among h.place.home ≡ true → Within me → PlanningIn (permitted r t h me s)
-  unfolding EndedIn PlanningIn
-  allowed_in r t h me s k w =
-      either PlanningIn (is_refused r (is_some h.place.line)) _ _ (w, tt) (access_in (asked_access r t) s me (ended_of r t h me s) w (ended_in r t h me s k w) (asked_of_in r t))
-
-  unit_in : (o : Option TreeUnit) (h : Here) (me : Private) (s : SeenLent) → among h.place.home ≡ true → Within me → PlanningIn (course_at o h me s)
+  planned_in : (me : Private) (s : SeenLent) → Within me → PlanningIn (plan me s)
   unfolding PlanningIn
-  unit_in None h me s k w = (w, tt)
-  unit_in (Some u) h me s k w = allowed_in u.row u.tree h me s k w
-
-  line_in : (o : Option (List ℕ)) (p : Place) (me : Private) (s : SeenLent) → among p.home ≡ true → Within me → PlanningIn (course_in o p me s)
-  unfolding PlanningIn
-  line_in None p me s k w = (w, tt)
-  line_in (Some line) p me s k w = unit_in (slice_get (tree_units line) p.unit) (record { place = p; units = tree_units line }) me s k w
-
-  planned_in : (o : Option Place) (me : Private) (s : SeenLent) → PlaceIn among o → Within me → PlanningIn (course o me s)
-  unfolding PlanningIn
-  planned_in None me s k w = (w, tt)
-  planned_in (Some p) me s k w = line_in (line_named me.immediate s.home.lines p.line) p me s k w
+  planned_in me s w =
+      each_course is_refused (stops me s) (does me s) me s PlanningIn (w, tt) (w, tt) (λ p is u.
+      let k : among p.home ≡ true = subst (λ (o : Option Place). PlaceIn among o) is w.place in
+      access_in (asked_access u.row u.tree) s me (ended_of u (here p me s) me s) w (ended_in u (here p me s) me s k w) (asked_of_in u.row u.tree))
 
   -- how it finishes
   clears_in : (k : ClearCame) (me : Private) → Within me → EndedIn (clearing_ends k me)
   unfolding EndedIn
-  clears_in AllCleared me w = (record { part = w.part; place = w.place; kept = tt; frames = tt }, tt)
-  clears_in LinesErased me w = (record { part = w.part; place = w.place; kept = tt; frames = tt }, tt)
-  clears_in TextLocked me w = (w, tt)
-  clears_in ClearLater me w = (w, tt)
+  clears_in AllCleared me w = ((tt, tt), tt)
+  clears_in LinesErased me w = ((tt, tt), tt)
+  clears_in TextLocked me w = (left me w, tt)
+  clears_in ClearLater me w = (left me w, tt)
 
-  finishes_in : (x : Access) (a : Answer) (me : Private) → Within me → EndedIn (edit_finishes x a me)
-  finishes_in x a me w = clears_in (clear_came x a) me w
+  finishes_in : (x : Access) (a : Answer) (me : Private) → Within me → IsWithin among (steered me (edit_finishes x a me)).me × OutcomeIn among (edit_finishes x a me).outcome
+  unfolding EndedIn
+  finishes_in x a me w = let h = clears_in (clear_came x a) me w in (put_in me (edit_finishes x a me) w h.0, h.1)
 
 pub plans_within : PlansWithin plan
 unfolding PlanningIn
-plans_within among me s w = planned_in among me.place me s w.place w
+plans_within among me s w = planned_in among me s w
 
 pub finishes_within : FinishesWithin finish
-unfolding EndedIn
 finishes_within among x a me s w = finishes_in among x a me w

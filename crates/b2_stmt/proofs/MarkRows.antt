@@ -30,19 +30,19 @@ use Rattle.b2_rows.proofs.Optional.{maybe_stands, begun_part, begun_tree, left_o
 use Rattle.b2_flow.specs.Stacks.{most_frames}
 use Rattle.b2_flow.specs.declared.frame.Frame.TheVariants.{Call}
 use Rattle.b2_flow.specs.declared.frame.Place.{Place}
-use Rattle.b2_text.specs.Program.{TextState}
-use Rattle.b2_vars.specs.Tables.{VarsState}
-use Rattle.b2_vars.specs.Assigned.{Assigned}
-use Rattle.b2_expr.specs.Assigning.{assigned_value, is_alpha_receiver, then_assigned, unless_coded}
-use Rattle.b2_expr.specs.declared.receiver.Receiver.{Receiver}
-use Rattle.b2_expr.specs.declared.receiver.Receiver.TheVariants as receiver_kind
+use Rattle.b2_receiver.specs.Assigning.{is_alpha_receiver}
+use Rattle.b2_receiver.specs.Receiving.{given_value}
+use Rattle.b2_expr.specs.Workspace.{WorkState, WorkLeft, then_works, unless_coded}
+use Rattle.b2_receiver.specs.declared.receiver.Receiver.{Receiver}
+use Rattle.b2_receiver.specs.declared.receiver.Receiver.TheVariants as receiver_kind
 use Rattle.b2_rows.proofs.RowsRead.{stands_of}
 use Rattle.b2_access.specs.declared.planned.Outcome.TheVariants as outcome
 use Rattle.b2_access.specs.declared.private.Private.{Private}
+use Rattle.b2_access.specs.Working.{work_of}
+use Rattle.b2_access.specs.Steering.{control_of, steered, unsteered}
 use Rattle.b2_stmt.specs.Marked.{calls_mark, values_fit, number_called, parameters_of, receivers_in, tail_receivers, take_each, takes_values, takes_bytes}
-use Rattle.b2_stmt.specs.Reading.{suits}
+use Rattle.b2_expr.specs.Kinds.{suits}
 use Rattle.b2_rows.specs.CommaLists.{are_others, past_first, receivers_at, commas}
-use Rattle.b2_vars.specs.declared.setting.Setting.{Setting}
 use Rattle.b2_stmt.proofs.ArgumentRows.{call_items, call_row, number_width}
 
 -- the number that GOSUB' calls
@@ -53,18 +53,25 @@ pub called_is : (t : Text) → is_part row.GOSUB_MARKED t ≡ true → number_ca
 called_is t ok = ap number_called (stands_of row.GOSUB_MARKED call_items t call_row ok).1
 
 -- the call's frame, and no room for it
-by_room : (b : Bool) (q : Place) (args : List Value) (back : Option Place) (me : Private) → b ≡ nat_lt (length me.stack) most_frames
-    → calls_mark (Some q) args back me
+room_so : (b c : Bool) (q : Place) (args : List Value) (back : Option Place) (me : Private) → b ≡ c
+    → steered me (if c then record { control = record (control_of me) { work = record (work_of me) { args = Some args }; stack = Call back None ∷ me.stack }; outcome = outcome.Jump q } else unsteered me (outcome.Failed A04_TOO_DEEP))
     ≡ (if b then record { me = record me { stack = Call back None ∷ me.stack; args = Some args }; outcome = outcome.Jump q } else record { me = me; outcome = outcome.Failed A04_TOO_DEEP })
-by_room b q args back me is =
-    sym (ap (λ (x : Bool). if x then record { me = record me { stack = Call back None ∷ me.stack; args = Some args }; outcome = outcome.Jump q } else record { me = me; outcome = outcome.Failed A04_TOO_DEEP }) is)
+room_so true true q args back me is = refl
+room_so true false q args back me is = cc
+room_so false true q args back me is = cc
+room_so false false q args back me is = refl
+
+by_room : (b : Bool) (q : Place) (args : List Value) (back : Option Place) (me : Private) → b ≡ nat_lt (length me.stack) most_frames
+    → steered me (calls_mark (Some q) args back me)
+    ≡ (if b then record { me = record me { stack = Call back None ∷ me.stack; args = Some args }; outcome = outcome.Jump q } else record { me = me; outcome = outcome.Failed A04_TOO_DEEP })
+by_room b q args back me is = room_so b _ q args back me is
 
 pub call_put : (q : Place) (args : List Value) (back : Option Place) (me : Private) → true ≡ nat_lt (length me.stack) most_frames
-    → calls_mark (Some q) args back me ≡ record { me = record me { stack = Call back None ∷ me.stack; args = Some args }; outcome = outcome.Jump q }
+    → steered me (calls_mark (Some q) args back me) ≡ record { me = record me { stack = Call back None ∷ me.stack; args = Some args }; outcome = outcome.Jump q }
 call_put q args back me is = by_room true q args back me is
 
 pub no_room : (q : Place) (args : List Value) (back : Option Place) (me : Private) → false ≡ nat_lt (length me.stack) most_frames
-    → calls_mark (Some q) args back me ≡ record { me = me; outcome = outcome.Failed A04_TOO_DEEP }
+    → steered me (calls_mark (Some q) args back me) ≡ record { me = me; outcome = outcome.Failed A04_TOO_DEEP }
 no_room q args back me is = by_room false q args back me is
 
 -- the kind of a receiver
@@ -101,20 +108,20 @@ last_fits [] = refl
 last_fits (x ∷ xs) = sym (not_empty x xs)
 
 -- a value of the other kind than the receiver's
-pub other_kind : (to : Receiver) (x : Value) (vars : VarsState) → suits (is_alpha_receiver to) x ≡ false → assigned_value to x vars ≡ record { vars = vars; code = None }
-other_kind (receiver_kind.Number e) (value.Number x) vars is = cc
-other_kind (receiver_kind.Number e) (value.Alpha bytes) vars is = refl
-other_kind (receiver_kind.Alpha to) (value.Number x) vars is = refl
-other_kind (receiver_kind.Alpha to) (value.Alpha bytes) vars is = cc
+pub other_kind : (to : Receiver) (x : Value) (w : WorkState) → suits (is_alpha_receiver to) x ≡ false → given_value to x w ≡ record { work = w; code = None }
+other_kind (receiver_kind.Number e) (value.Number x) w is = cc
+other_kind (receiver_kind.Number e) (value.Alpha bytes) w is = refl
+other_kind (receiver_kind.Alpha to) (value.Number x) w is = refl
+other_kind (receiver_kind.Alpha to) (value.Alpha bytes) w is = cc
 
 -- no receivers
-pub no_receivers : (a : Setting) (home : TextState) (xs : List Value) (vars : VarsState) → (length xs == 0) ≡ true → takes_values a home [] xs vars ≡ record { vars = vars; code = None }
-no_receivers a home [] vars is = refl
-no_receivers a home (x ∷ xs) vars is = absurd (grind (arith, nat_tests))
+pub no_receivers : (xs : List Value) (w : WorkState) → (length xs == 0) ≡ true → takes_values [] xs w ≡ record { work = w; code = None }
+no_receivers [] w is = refl
+no_receivers (x ∷ xs) w is = absurd (grind (arith, nat_tests))
 
-pub no_values : (a : Setting) (home : TextState) (xs : List Value) (vars : VarsState) → (length xs == 0) ≡ false → takes_values a home [] xs vars ≡ record { vars = vars; code = Some P35_ARGUMENTS }
-no_values a home [] vars is = cc
-no_values a home (x ∷ xs) vars is = refl
+pub no_values : (xs : List Value) (w : WorkState) → (length xs == 0) ≡ false → takes_values [] xs w ≡ record { work = w; code = Some P35_ARGUMENTS }
+no_values [] w is = cc
+no_values (x ∷ xs) w is = refl
 
 -- DEFFN'
 abbrev begun : Start
@@ -217,23 +224,23 @@ no_parameters t ok is = let m = marked t ok in Marked.receivers m ∙ none_by (t
 
 -- a receiver that took its value, and the others
 abbrev One : Type 0
-One = Trees → Value → VarsState → Assigned
+One = Trees → Value → WorkState → WorkLeft
 
-pub without_values : (one : One) (ts : List Trees) (xs : List Value) (vars : VarsState) → xs ≡ [] → take_each one ts xs vars ≡ record { vars = vars; code = None }
-without_values one [] xs vars is = refl
-without_values one (t ∷ ts) xs vars is = ap (λ (ys : List Value). take_each one (t ∷ ts) ys vars) is
+pub without_values : (one : One) (ts : List Trees) (xs : List Value) (w : WorkState) → xs ≡ [] → take_each one ts xs w ≡ record { work = w; code = None }
+without_values one [] xs w is = refl
+without_values one (t ∷ ts) xs w is = ap (λ (ys : List Value). take_each one (t ∷ ts) ys w) is
 
-pub value_more : (one : One) (t : Trees) (ts : List Trees) (x : Value) (xs ys : List Value) (old new : VarsState) (code : Option ℕ) → ys ≡ x ∷ xs → record { vars = new; code = code } ≡ one t x old → code ≡ None
+pub value_more : (one : One) (t : Trees) (ts : List Trees) (x : Value) (xs ys : List Value) (old new : WorkState) (code : Option ℕ) → ys ≡ x ∷ xs → record { work = new; code = code } ≡ one t x old → code ≡ None
     → take_each one ts xs new ≡ take_each one (t ∷ ts) ys old
 value_more one t ts x xs ys old new code same is none =
-    sym (ap (λ (c : Option ℕ). unless_coded c new (take_each one ts xs)) none) ∙ ap (λ (a : Assigned). then_assigned a (take_each one ts xs)) is ∙ sym (ap (λ (zs : List Value). take_each one (t ∷ ts) zs old) same)
+    sym (ap (λ (c : Option ℕ). unless_coded c new (take_each one ts xs)) none) ∙ ap (λ (r : WorkLeft). then_works r (take_each one ts xs)) is ∙ sym (ap (λ (zs : List Value). take_each one (t ∷ ts) zs old) same)
 
-coded_by : (one : One) (t : Trees) (ts : List Trees) (x : Value) (xs : List Value) (old new : VarsState) (code : Option ℕ) (c : ℕ) → record { vars = new; code = code } ≡ one t x old → code ≡ Some c
-    → take_each one (t ∷ ts) (x ∷ xs) old ≡ record { vars = new; code = code }
+coded_by : (one : One) (t : Trees) (ts : List Trees) (x : Value) (xs : List Value) (old new : WorkState) (code : Option ℕ) (c : ℕ) → record { work = new; code = code } ≡ one t x old → code ≡ Some c
+    → take_each one (t ∷ ts) (x ∷ xs) old ≡ record { work = new; code = code }
 coded_by one t ts x xs old new code c is some =
-    sym (ap (λ (a : Assigned). then_assigned a (take_each one ts xs)) is) ∙ ap (λ (o : Option ℕ). unless_coded o new (take_each one ts xs)) some ∙ ap (λ (o : Option ℕ). record { vars = new; code = o }) (sym some)
+    sym (ap (λ (r : WorkLeft). then_works r (take_each one ts xs)) is) ∙ ap (λ (o : Option ℕ). unless_coded o new (take_each one ts xs)) some ∙ ap (λ (o : Option ℕ). record { work = new; code = o }) (sym some)
 
-pub value_coded : (one : One) (t : Trees) (ts : List Trees) (x : Value) (xs ys : List Value) (old new : VarsState) (code : Option ℕ) → ys ≡ x ∷ xs → record { vars = new; code = code } ≡ one t x old → is_some code ≡ true
-    → record { vars = new; code = code } ≡ take_each one (t ∷ ts) ys old
+pub value_coded : (one : One) (t : Trees) (ts : List Trees) (x : Value) (xs ys : List Value) (old new : WorkState) (code : Option ℕ) → ys ≡ x ∷ xs → record { work = new; code = code } ≡ one t x old → is_some code ≡ true
+    → record { work = new; code = code } ≡ take_each one (t ∷ ts) ys old
 value_coded one t ts x xs ys old new None same is some = cc
 value_coded one t ts x xs ys old new (Some c) same is some = sym (ap (λ (zs : List Value). take_each one (t ∷ ts) zs old) same ∙ coded_by one t ts x xs old new (Some c) c is refl)

@@ -6,15 +6,14 @@ use Rattle.b2_base.specs.declared.codes.TheConstants.{A08_TEXT_BORROWED}
 use Rattle.b2_atom.specs.Tree.{Trees}
 use Rattle.b2_atom.specs.Tree.Trees.{Put}
 use Rattle.b2_atom.specs.declared.rows.TheConstants as row
-use Rattle.b2_access.specs.Partition.{terminal_address}
+use Rattle.b2_access.specs.Partition.{terminal_address, without_frames}
 use Rattle.b2_access.specs.declared.accesses.Access.{Access}
 use Rattle.b2_access.specs.declared.accesses.Access.TheVariants as access
 use Rattle.b2_access.specs.declared.accesses.Answer.{Answer}
 use Rattle.b2_access.specs.declared.planned.Outcome.TheVariants as outcome
 use Rattle.b2_access.specs.declared.private.Private.{Private}
-use Rattle.b2_stmt.specs.Calls.{without_frames}
 use Rattle.b2_rows.specs.LineNumbers.{named_lines}
-use Rattle.b2_access.specs.Planning.{Ended, stays}
+use Rattle.b2_access.specs.Steering.{Steered, control_of, unsteered}
 use Rattle.b2_access.specs.Views.{ClearCame, AllCleared, LinesErased, TextLocked, ClearLater, clear_came}
 
 -- the lines that are named go: up to the last one of the text, where no second one is named
@@ -32,16 +31,17 @@ asks_access r = r == row.CLEAR || r == row.CLEAR_P
 abbrev pub asked_access : ℕ → Trees → Option Access
 asked_access r t = if r == row.CLEAR then Some (access.ClearAll None 0) else (if r == row.CLEAR_P then Some (asks_to_erase t) else None)
 
--- all is cleared: the text and the `@` variables by the access, and then the variables and the frames; it is shown to be ready
+-- all is cleared: the text and the `@` variables by the access, and then the variables and the frames; the platter with which the
+-- partition started is selected again, and it is shown to be ready
 abbrev pub cleared : Private → Private
-cleared me = record (without_frames me) { vars = record me.vars { table = map.empty }; pending = Some (terminal_address, codes "READY" ++ byte.newline ∷ []) }
+cleared me = record (without_frames me) { vars = record me.vars { table = map.empty }; disk = me.boot_disk; pending = Some (terminal_address, codes "READY" ++ byte.newline ∷ []) }
 
 -- how a statement finishes that clears text: the frames go with the lines; A08 where another stands inside it; else the step is repeated
-abbrev pub clearing_ends : ClearCame → Private → Ended
-clearing_ends AllCleared me = record { me = cleared me; outcome = outcome.Ready }
-clearing_ends LinesErased me = record { me = without_frames me; outcome = outcome.Ready }
-clearing_ends TextLocked me = stays me (outcome.Failed A08_TEXT_BORROWED)
-clearing_ends ClearLater me = stays me outcome.Repeat
+abbrev pub clearing_ends : ClearCame → Private → Steered
+clearing_ends AllCleared me = record { control = control_of (cleared me); outcome = outcome.Ready }
+clearing_ends LinesErased me = record { control = control_of (without_frames me); outcome = outcome.Ready }
+clearing_ends TextLocked me = unsteered me (outcome.Failed A08_TEXT_BORROWED)
+clearing_ends ClearLater me = unsteered me outcome.Repeat
 
-abbrev pub edit_finishes : Access → Answer → Private → Ended
+abbrev pub edit_finishes : Access → Answer → Private → Steered
 edit_finishes x a me = clearing_ends (clear_came x a) me

@@ -1,6 +1,5 @@
--- STOP, RUN, CONTINUE, SELECT and RESTORE.
-use Rattle.std.specs.Prelude.{ℕ, ◌==◌, Bool, List, [], ◌∷◌, ◌++◌, codes, Option, None, Some, is_some, if◌then◌else◌}
-use Rattle.std.specs.FinMap as map
+-- STOP, RUN, CONTINUE and SELECT.
+use Rattle.std.specs.Prelude.{ℕ, ◌==◌, List, [], ◌∷◌, ◌++◌, codes, Option, None, Some, is_some, if◌then◌else◌}
 use Rattle.b2_base.specs.Byte as byte
 use Rattle.b2_base.specs.declared.codes.TheConstants.{P36_NO_LINE, P46_NOTHING_KEPT}
 use Rattle.b2_dec.specs.declared.number.Mode.{Mode}
@@ -15,7 +14,8 @@ use Rattle.b2_access.specs.Partition.{terminal_address}
 use Rattle.b2_access.specs.declared.planned.Outcome.TheVariants as outcome
 use Rattle.b2_access.specs.declared.private.Private.{Private}
 use Rattle.b2_rows.specs.LineNumbers.{line_in}
-use Rattle.b2_access.specs.Planning.{Ended, stays}
+use Rattle.b2_access.specs.Steering.{Control, Steered, control_of, unsteered}
+use Rattle.b2_access.specs.Working.{work_of}
 
 -- a line that is named, or none
 abbrev pub line_or_none : Trees → Option ℕ
@@ -23,8 +23,8 @@ line_or_none (In n line end) = if n == 1 then Some (line_in line) else None
 line_or_none t = None
 
 -- SELECT ROUND and SELECT NO ROUND
-abbrev pub selects : Mode → Private → Ended
-selects mode me = record { me = record me { mode = mode }; outcome = outcome.Next }
+abbrev pub selects : Mode → Private → Steered
+selects mode me = record { control = record (control_of me) { work = record (work_of me) { mode = mode } }; outcome = outcome.Next }
 
 -- STOP is shown, and a blank and a text where one is written
 abbrev pub stop_text : Option (List ℕ) → List ℕ
@@ -39,29 +39,33 @@ text_of_stop t = None
 abbrev pub kept_after : Place → Option Place → Option Place → Option Place
 kept_after p after kept = if is_some p.line then after else kept
 
-abbrev pub stops_program : List ℕ → Place → Option Place → Private → Ended
+abbrev pub stops_program : List ℕ → Place → Option Place → Private → Steered
 stops_program shown p after me = record {
-  me = record me { pending = Some (terminal_address, shown); kept = kept_after p after me.kept };
+  control = record (control_of me) { work = record (work_of me) { pending = Some (terminal_address, shown) }; kept = kept_after p after me.kept };
   outcome = outcome.Ready;
 }
 
 -- the program begins anew: the variables that aren't common, the frames, the last code, the place of READ and what was kept go
-abbrev pub begun_anew : Private → Private
-begun_anew me = record me { vars = record me.vars { table = common_only me.vars.table }; stack = []; kept = None; args = None; last = 0; next_data = None }
+abbrev pub begun_anew : Private → Control
+begun_anew me = record {
+  work = record (work_of me) { vars = record me.vars { table = common_only me.vars.table }; last = 0; next_data = None; args = None };
+  kept = None;
+  stack = [];
+}
 
 abbrev pub own_line : ℕ → Private → Place
 own_line n me = record { home = me.part; line = Some n; unit = 0 }
 
-abbrev pub runs_from : Option ℕ → Private → Ended
-runs_from None me = record { me = begun_anew me; outcome = outcome.Ready }
-runs_from (Some n) me = record { me = begun_anew me; outcome = outcome.Jump (own_line n me) }
+abbrev pub runs_from : Option ℕ → Private → Steered
+runs_from None me = record { control = begun_anew me; outcome = outcome.Ready }
+runs_from (Some n) me = record { control = begun_anew me; outcome = outcome.Jump (own_line n me) }
 
 -- RUN with a line: P36 comes before anything else
-abbrev pub runs_where : Option (List ℕ) → ℕ → Private → Ended
-runs_where None n me = stays me (outcome.Failed P36_NO_LINE)
+abbrev pub runs_where : Option (List ℕ) → ℕ → Private → Steered
+runs_where None n me = unsteered me (outcome.Failed P36_NO_LINE)
 runs_where (Some line) n me = runs_from (Some n) me
 
-abbrev pub runs : Option ℕ → Lines → Private → Ended
+abbrev pub runs : Option ℕ → Lines → Private → Steered
 runs None own me = runs_from (number_after None own) me
 runs (Some n) own me = runs_where (line_at n own) n me
 
@@ -70,23 +74,6 @@ line_to_run (Put word line) = line_or_none line
 line_to_run t = None
 
 -- CONTINUE
-abbrev pub continues : Option Place → Private → Ended
-continues None me = stays me (outcome.Failed P46_NOTHING_KEPT)
-continues (Some p) me = stays me (outcome.Jump p)
-
--- RESTORE: READ goes on at the first DATA, or at a line of the own text
-abbrev pub restores_where : Option (List ℕ) → ℕ → Private → Ended
-restores_where None n me = stays me (outcome.Failed P36_NO_LINE)
-restores_where (Some line) n me = record { me = record me { next_data = Some (record { line = n; unit = 0 }, 0) }; outcome = outcome.Next }
-
-abbrev pub restores : Option ℕ → Lines → Private → Ended
-restores None own me = record { me = record me { next_data = None }; outcome = outcome.Next }
-restores (Some n) own me = restores_where (line_at n own) n me
-
-abbrev pub line_to_restore : Trees → Option ℕ
-line_to_restore (Put word (In n (Put line_word line) end)) = if n == 1 then Some (line_in line) else None
-line_to_restore t = None
-
--- CLEAR V, which takes the common variables too, and CLEAR N
-abbrev pub clears_variables : Bool → Private → Ended
-clears_variables common me = record { me = record me { vars = record me.vars { table = if common then map.empty else common_only me.vars.table } }; outcome = outcome.Next }
+abbrev pub continues : Option Place → Private → Steered
+continues None me = unsteered me (outcome.Failed P46_NOTHING_KEPT)
+continues (Some p) me = unsteered me (outcome.Jump p)

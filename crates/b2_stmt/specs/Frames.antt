@@ -6,10 +6,10 @@ use Rattle.b2_flow.specs.declared.frame.Frame.{Frame}
 use Rattle.b2_access.specs.declared.planned.Outcome.{Outcome}
 use Rattle.b2_access.specs.declared.planned.Outcome.TheVariants as outcome
 use Rattle.b2_access.specs.declared.private.Private.{Private}
-use Rattle.b2_access.specs.Planning.{Ended}
+use Rattle.b2_access.specs.Steering.{Steered, control_of, unsteered}
 
 -- a frame on top; A04 where there is no room for it
-abbrev pub with_frame : Frame → Outcome → Private → Ended
+abbrev pub with_frame : Frame → Outcome → Private → Steered
 with_frame f goes me =
-    if nat_lt (length me.stack) most_frames then record { me = record me { stack = f ∷ me.stack }; outcome = goes }
-    else record { me = me; outcome = outcome.Failed A04_TOO_DEEP }
+    if nat_lt (length me.stack) most_frames then record { control = record (control_of me) { stack = f ∷ me.stack }; outcome = goes }
+    else unsteered me (outcome.Failed A04_TOO_DEEP)

@@ -5,16 +5,8 @@ pub mod Calls
 pub mod Course
 pub mod Choices
 pub mod Lines
-pub mod Assignments
 pub mod Arguments
 pub mod Asked
-pub mod Data
-pub mod Reading
-pub mod ReadingOrder
 pub mod Marked
-pub mod Buffers
-pub mod Lengths
-pub mod Dimensions
-pub mod OnVariables
 pub mod Clearing
 pub mod Plan

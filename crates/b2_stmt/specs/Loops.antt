@@ -17,7 +17,7 @@ use Rattle.b2_flow.specs.declared.frame.Place.{Place}
 use Rattle.b2_flow.specs.declared.frame.Var2.{Var2}
 use Rattle.b2_expr.specs.Answers.{Answer, ◌>>=◌}
 use Rattle.b2_vars.specs.Assigned.{Assigned}
-use Rattle.b2_expr.specs.Assigning.{assigned_number}
+use Rattle.b2_receiver.specs.Assigning.{assigned_number}
 use Rattle.b2_expr.specs.Functions.{is_below, whole_number}
 use Rattle.b2_expr.specs.Named.{number_there}
 use Rattle.b2_expr.specs.Scope.{Context}
@@ -27,7 +27,7 @@ use Rattle.b2_expr.specs.declared.operators.Level.TheVariants as level
 use Rattle.b2_access.specs.declared.planned.Outcome.TheVariants as outcome
 use Rattle.b2_access.specs.declared.private.Private.{Private}
 use Rattle.b2_stmt.specs.Frames.{with_frame}
-use Rattle.b2_access.specs.Planning.{Ended, stays}
+use Rattle.b2_access.specs.Steering.{Steered, control_of, unsteered}
 use Rattle.b2_stmt.specs.declared.loops.Loop.{Loop}
 
 -- the scalar of a name, as a loop counts it, and its place among the variables
@@ -56,47 +56,47 @@ abbrev pub without_loop : Var2 → List Frame → List Frame
 without_loop v frames = if has_loop v frames then without_top_loop (from_loop v frames) else frames
 
 -- the variable has its first value, and then the loop is made
-abbrev pub made_loop : Option ℕ → Loop → Place → Private → Ended
-made_loop (Some code) l body me = stays me (outcome.Failed code)
+abbrev pub made_loop : Option ℕ → Loop → Place → Private → Steered
+made_loop (Some code) l body me = unsteered me (outcome.Failed code)
 made_loop None l body me = with_frame (For l.var l.limit l.step body) outcome.Next (record me { stack = without_loop l.var me.stack })
 
-abbrev pub begins_by : Assigned → Loop → Place → Private → Ended
+abbrev pub begins_by : Assigned → Loop → Place → Private → Steered
 begins_by a l body me = made_loop a.code l body (record me { vars = a.vars })
 
-abbrev pub loop_begins : Loop → Place → Private → Ended
+abbrev pub loop_begins : Loop → Place → Private → Steered
 loop_begins l body me = begins_by (assigned_number (loop_element l.var) l.from me.vars) l body me
 
-abbrev pub begins_or : Result Loop ℕ → Place → Private → Ended
+abbrev pub begins_or : Result Loop ℕ → Place → Private → Steered
 begins_or (Ok l) body me = loop_begins l body me
-begins_or (Err code) body me = stays me (outcome.Failed code)
+begins_or (Err code) body me = unsteered me (outcome.Failed code)
 
 -- whether a loop is over: its variable is past the limit in the direction of its step
 abbrev pub is_over : Number → Number → Number → Bool
 is_over x limit step = if step.neg then not (is_below limit x) else not (is_below x limit)
 
 -- the variable has its next value, and then it is tested
-abbrev pub tested : Option ℕ → Bool → Place → Private → Ended
-tested (Some code) over body me = stays me (outcome.Failed code)
-tested None over body me = if over then record { me = record me { stack = without_top_loop me.stack }; outcome = outcome.Next } else stays me (outcome.Jump body)
+abbrev pub tested : Option ℕ → Bool → Place → Private → Steered
+tested (Some code) over body me = unsteered me (outcome.Failed code)
+tested None over body me = if over then record { control = record (control_of me) { stack = without_top_loop me.stack }; outcome = outcome.Next } else unsteered me (outcome.Jump body)
 
-abbrev pub tested_by : Assigned → Bool → Place → Private → Ended
+abbrev pub tested_by : Assigned → Bool → Place → Private → Steered
 tested_by a over body me = tested a.code over body (record me { vars = a.vars })
 
-abbrev pub loop_counts : Answer → Var2 → Number → Number → Place → Private → Ended
+abbrev pub loop_counts : Answer → Var2 → Number → Number → Place → Private → Steered
 loop_counts (Ok x) v limit step body me = tested_by (assigned_number (loop_element v) x me.vars) (is_over x limit step) body me
-loop_counts (Err code) v limit step body me = stays me (outcome.Failed code)
+loop_counts (Err code) v limit step body me = unsteered me (outcome.Failed code)
 
 -- the value that the variable has, and the step
 abbrev pub next_value : Mode → Answer → Number → Answer
 next_value mode x step = x >>= (λ n. sum_of mode n step)
 
-abbrev pub goes_round : Option (Number × Number × Place) → Var2 → Private → Ended
-goes_round None v me = stays me (outcome.Failed P40_NO_FOR)
+abbrev pub goes_round : Option (Number × Number × Place) → Var2 → Private → Steered
+goes_round None v me = unsteered me (outcome.Failed P40_NO_FOR)
 goes_round (Some p) v me = loop_counts (next_value me.mode (number_there (record { vars = me.vars; element = loop_element v })) p.1) v p.0 p.1 p.2 me
 
 -- NEXT: the loops above the one of its variable are dropped before anything else
-abbrev pub nexts : Var2 → Private → Ended
-nexts v me = if has_loop v me.stack then goes_round (top_loop (from_loop v me.stack)) v (record me { stack = from_loop v me.stack }) else stays me (outcome.Failed P40_NO_FOR)
+abbrev pub nexts : Var2 → Private → Steered
+nexts v me = if has_loop v me.stack then goes_round (top_loop (from_loop v me.stack)) v (record me { stack = from_loop v me.stack }) else unsteered me (outcome.Failed P40_NO_FOR)
 
 abbrev pub counter_in : Trees → Var2
 counter_in (Put word (Put (Plain k name) end)) = counter (variable_name false name)

@@ -13,20 +13,19 @@ use Rattle.b2_flow.specs.declared.frame.Place.{Place}
 use Rattle.b2_text.specs.Program.{Lines, TextState}
 use Rattle.b2_text.specs.Spots.{first_opening, is_mark, or_else}
 use Rattle.b2_text.specs.declared.spots.Spot.{Spot}
-use Rattle.b2_vars.specs.Tables.{VarsState}
-use Rattle.b2_vars.specs.Assigned.{Assigned}
-use Rattle.b2_expr.specs.Assigning.{assigned_value, then_assigned, unassigned}
-use Rattle.b2_expr.specs.Receivers.{any_receiver}
-use Rattle.b2_expr.specs.Value.{in_statement}
-use Rattle.b2_expr.specs.declared.receiver.Receiver.{Receiver}
+use Rattle.b2_receiver.specs.Receivers.{any_receiver}
+use Rattle.b2_expr.specs.Value.{context_of}
+use Rattle.b2_expr.specs.Workspace.{WorkState, WorkLeft, refused, then_works, unchanged, work_in}
+use Rattle.b2_receiver.specs.Receiving.{given_value}
+use Rattle.b2_receiver.specs.declared.receiver.Receiver.{Receiver}
 use Rattle.b2_access.specs.Partition.{setting_of}
 use Rattle.b2_access.specs.declared.planned.Outcome.TheVariants as outcome
 use Rattle.b2_access.specs.declared.private.Private.{Private}
-use Rattle.b2_expr.specs.Scope.{surroundings_of}
 use Rattle.b2_rows.specs.CommaLists.{all_listed}
-use Rattle.b2_stmt.specs.Reading.{suits}
-use Rattle.b2_access.specs.Planning.{Ended, goes_or, stays}
-use Rattle.b2_vars.specs.declared.setting.Setting.{Setting}
+use Rattle.b2_expr.specs.Kinds.{suits}
+use Rattle.b2_access.specs.Planning.{goes_or}
+use Rattle.b2_access.specs.Steering.{Steered, control_of, unsteered}
+use Rattle.b2_access.specs.Working.{work_of}
 
 -- the number that is called
 abbrev pub number_called : Trees → ℕ
@@ -45,11 +44,11 @@ mark_place n p part own home = or_else (mark_in p.home n home) (mark_in part n o
 
 -- a call of it, which leads back to another place and passes values; P38 where it stands nowhere, and else A04 where there is
 -- no room for a frame
-abbrev pub calls_mark : Option Place → List Value → Option Place → Private → Ended
-calls_mark None args back me = stays me (outcome.Failed P38_NO_DEFFN)
+abbrev pub calls_mark : Option Place → List Value → Option Place → Private → Steered
+calls_mark None args back me = unsteered me (outcome.Failed P38_NO_DEFFN)
 calls_mark (Some q) args back me =
-    if nat_lt (length me.stack) most_frames then record { me = record me { stack = Call back None ∷ me.stack; args = Some args }; outcome = outcome.Jump q }
-    else stays me (outcome.Failed A04_TOO_DEEP)
+    if nat_lt (length me.stack) most_frames then record { control = record (control_of me) { work = record (work_of me) { args = Some args }; stack = Call back None ∷ me.stack }; outcome = outcome.Jump q }
+    else unsteered me (outcome.Failed A04_TOO_DEEP)
 
 -- the receivers of DEFFN'; none where it has no parentheses
 abbrev pub receivers_in : Trees → List Trees
@@ -75,28 +74,28 @@ values_fit (t ∷ ts) (x ∷ xs) = suits (takes_bytes t) x && values_fit ts xs
 values_fit ts xs = false
 
 -- a receiver takes a value; it is located among the variables as they then are
-abbrev pub value_to : Result Receiver ℕ → Value → VarsState → Assigned
-value_to (Ok to) x vars = assigned_value to x vars
-value_to (Err code) x vars = unassigned code vars
+abbrev pub value_to : Result Receiver ℕ → Value → WorkState → WorkLeft
+value_to (Ok to) x w = given_value to x w
+value_to (Err code) x w = refused code w
 
-abbrev pub takes_value : Setting → TextState → Trees → Value → VarsState → Assigned
-takes_value a home t x vars = value_to (any_receiver (in_statement (surroundings_of a vars home)) t) x vars
+abbrev pub takes_value : Trees → Value → WorkState → WorkLeft
+takes_value t x w = value_to (any_receiver (context_of w) t) x w
 
 -- receivers from left to right, up to one with a code
-abbrev pub take_each : (Trees → Value → VarsState → Assigned) → List Trees → List Value → VarsState → Assigned
-take_each one [] xs vars = record { vars = vars; code = None }
-take_each one (t ∷ ts) [] vars = record { vars = vars; code = None }
-take_each one (t ∷ ts) (x ∷ xs) vars = then_assigned (one t x vars) (take_each one ts xs)
+abbrev pub take_each : (Trees → Value → WorkState → WorkLeft) → List Trees → List Value → WorkState → WorkLeft
+take_each one [] xs w = unchanged w
+take_each one (t ∷ ts) [] w = unchanged w
+take_each one (t ∷ ts) (x ∷ xs) w = then_works (one t x w) (take_each one ts xs)
 
 -- number and kinds are compared as a whole before any receiver takes its value
-abbrev pub takes_values : Setting → TextState → List Trees → List Value → VarsState → Assigned
-takes_values a home ts xs vars = if values_fit ts xs then take_each (takes_value a home) ts xs vars else record { vars = vars; code = Some P35_ARGUMENTS }
+abbrev pub takes_values : List Trees → List Value → WorkState → WorkLeft
+takes_values ts xs w = if values_fit ts xs then take_each takes_value ts xs w else refused P35_ARGUMENTS w
 
 -- the values are used up, also where a receiver has a code
-abbrev pub used_up : Assigned → Private → Ended
-used_up a me = record { me = record me { vars = a.vars; args = None }; outcome = goes_or outcome.Next a.code }
+abbrev pub used_up : WorkLeft → Private → Steered
+used_up r me = record { control = record (control_of me) { work = record (work_of me) { vars = r.work.own; args = None } }; outcome = goes_or outcome.Next r.code }
 
 -- DEFFN': where no call waits for it, nothing
-abbrev pub takes_args : Option (List Value) → TextState → Trees → Private → Ended
-takes_args None home t me = stays me outcome.Next
-takes_args (Some xs) home t me = used_up (takes_values (setting_of me) home (parameters_of t) xs me.vars) me
+abbrev pub takes_args : Option (List Value) → TextState → Trees → Private → Steered
+takes_args None home t me = unsteered me outcome.Next
+takes_args (Some xs) home t me = used_up (takes_values (parameters_of t) xs (work_in (setting_of me) home me.vars)) me

@@ -4,25 +4,23 @@ ghost use Rattle.b2_atom.specs.declared.rows.TheConstants as row;
 ghost use Rattle.b2_rows.specs.Following.{tree_units};
 ghost use Rattle.b2_rows.specs.Laws.{IsRow};
 ghost use Rattle.b2_rows.specs.Rows.{is_part, tree_at};
-ghost use Rattle.b2_expr.specs.Value.{in_statement};
+ghost use Rattle.b2_expr.specs.Value.{context_of};
 ghost use Rattle.b2_stmt.specs.Arguments.{arguments, operands_of};
 ghost use Rattle.b2_stmt.specs.Marked.{number_called as called_number};
-ghost use Rattle.b2_expr.specs.Scope.{surroundings_of as about};
+ghost use Rattle.b2_expr.specs.Workspace.{workspace};
 ghost use Rattle.b2_stmt.specs.Branches.{if_goal as if_goal_of};
 ghost use Rattle.b2_access.specs.Going.{to_found};
 ghost use Rattle.b2_stmt.specs.Loops.{loop_in};
 ghost use Rattle.b2_stmt.specs.Course.{stop_text as shown_by_stop, text_of_stop};
 ghost use Rattle.b2_stmt.specs.Asked as spec;
 ghost use Rattle.b2_stmt.specs.Asked.{HasLegalNames};
+ghost use Rattle.b2_access.specs.Steering.{steered};
 
 use crate::arguments::arguments_of;
 use crate::branches::{goto_goal, if_goal, passed_function, passed_goal};
 use crate::calls::{call_line, forget, go_back, has_all, line_called};
 use crate::choices::{calls_a_line, choice_at};
-use crate::course::{
-    clear, line_to_restore, line_to_run, restore, resume, run_program, select, stop, stop_text,
-    text_of_stop,
-};
+use crate::course::{line_to_run, resume, run_program, select, stop, stop_text, text_of_stop};
 use crate::loops::{Loop, begin_loop, counter_at, loop_at, next_round};
 use crate::marked::{call_mark, number_called};
 use b2_access::{Outcome, Private, failed, failing, place_after, to_found, to_goal, to_line};
@@ -30,11 +28,10 @@ use b2_atom::{Atoms, rows};
 use b2_base::codes::{S26_PROGRAM_ONLY, S27_LEFT_OUT};
 use b2_base::{ByteList, NoMemory};
 use b2_dec::{Mode, ValueList};
-use b2_expr::{Env, surroundings_of};
+use b2_expr::{Workspace, surroundings_of};
 use b2_flow::{Place, Var2};
 use b2_rows::{Goal, RowUnit};
 use b2_text::Text;
-use b2_vars::{Setting, Vars};
 use std::alloc::Global;
 
 /// What a statement asks of the private state, once its bytes were looked at.
@@ -60,10 +57,6 @@ pub enum Asked {
     Run(Option<u16>),
     /// The place that is kept.
     Continue,
-    /// That READ goes on at the first DATA, or at a line.
-    Restore(Option<u16>),
-    /// That variables go, the common ones too or not.
-    Clear(bool),
     /// A call of the DEFFN' of a number, which passes values and leads back to a place.
     CallMark(u8, ValueList, Option<Place>),
 }
@@ -85,15 +78,12 @@ fn body_place(home: &Text, line: &Atoms, place: Place) -> Place
 }
 
 /// What FOR asks for.
-fn ask_loop<'a>(vars: &'a Vars, a: &Setting, home: &'a Text, unit: &[u8], body: Place) -> Asked
+fn ask_loop(work: &Workspace<'_>, unit: &[u8], body: Place) -> Asked
     requires part { is_part row.FOR unit.now ≡ true }
-    ensures asked { result ≡ spec.asks_loop (loop_in (in_statement (about a.now vars.now home.now)) (tree_at row.FOR unit.now)) body }
+    ensures asked { result ≡ spec.asks_loop (loop_in (context_of (workspace work.now)) (tree_at row.FOR unit.now)) body }
     ensures named { HasLegalNames result }
 {
-    let e = Env {
-        globals: None,
-        ..surroundings_of(a, vars, home)
-    };
+    let e = surroundings_of(work);
     match loop_at(&e, unit) {
         Ok(l) => Asked::Begin(l, body),
         Err(code) => Asked::Nothing(Outcome::Failed(code)),
@@ -114,73 +104,55 @@ fn line_chosen(goto: bool, line: Option<u16>, home: &Text, atoms: &Atoms, place:
 }
 
 /// What ON asks for.
-fn ask_choice<'a>(
-    vars: &'a Vars,
-    a: &Setting,
-    home: &'a Text,
-    line: &Atoms,
-    place: Place,
-    unit: &[u8],
-) -> Asked
+fn ask_choice(work: &Workspace<'_>, line: &Atoms, place: Place, unit: &[u8]) -> Asked
     requires part { is_part row.ON unit.now ≡ true }
     requires few { place.unit < 255 }
-    ensures asked { result ≡ spec.asks_on (tree_at row.ON unit.now) (record { place = place; units = tree_units line.now }) (in_statement (about a.now vars.now home.now)) home.now.lines }
+    ensures asked { result ≡ spec.asks_on (tree_at row.ON unit.now) (record { place = place; units = tree_units line.now }) (context_of (workspace work.now)) work.now.home.now.lines }
     ensures named { HasLegalNames result }
 {
     if place.line.is_none() && calls_a_line(unit) {
         return Asked::Nothing(failed(S26_PROGRAM_ONLY));
     }
-    let e = Env {
-        globals: None,
-        ..surroundings_of(a, vars, home)
-    };
+    let e = surroundings_of(work);
     match choice_at(&e, unit) {
-        Ok((goto, n)) => line_chosen(goto, n, home, line, place),
+        Ok((goto, n)) => line_chosen(goto, n, work.home, line, place),
         Err(code) => Asked::Nothing(Outcome::Failed(code)),
     }
 }
 
 /// How IF ends.
-fn if_outcome<'a>(
-    vars: &'a Vars,
-    a: &Setting,
-    home: &'a Text,
-    line: &Atoms,
-    place: Place,
-    unit: &[u8],
-) -> Outcome
+fn if_outcome(work: &Workspace<'_>, line: &Atoms, place: Place, unit: &[u8]) -> Outcome
     requires part { is_part row.IF unit.now ≡ true }
     requires few { place.unit < 255 }
-    ensures { result ≡ to_found home.now.lines place (if_goal_of (in_statement (about a.now vars.now home.now)) place.unit (tree_units line.now) (tree_at row.IF unit.now)) }
+    ensures { result ≡ to_found work.now.home.now.lines place (if_goal_of (context_of (workspace work.now)) place.unit (tree_units line.now) (tree_at row.IF unit.now)) }
 {
-    let e = Env {
-        globals: None,
-        ..surroundings_of(a, vars, home)
+    // Taken apart and made again, since the proof of a body wants to meet each type that it lends.
+    let Place {
+        home: part,
+        line: number,
+        unit: k,
+    } = place;
+    let found = if_goal(&surroundings_of(work), line, usize::from(k), unit);
+    let place = Place {
+        home: part,
+        line: number,
+        unit: k,
     };
-    let found = if_goal(&e, line, usize::from(place.unit), unit);
-    to_found(home, place, found)
+    to_found(work.home, place, found)
 }
 
 /// How a statement ends that changes nothing.
-pub fn still(
-    vars: &Vars,
-    a: &Setting,
-    home: &Text,
-    line: &Atoms,
-    place: Place,
-    row: u16,
-    unit: &[u8],
-) -> Outcome
+pub fn still(work: &Workspace<'_>, line: &Atoms, place: Place, row: u16, unit: &[u8]) -> Outcome
     requires part { is_part row unit.now ≡ true }
     requires few { place.unit < 255 }
-    ensures { result ≡ spec.still row (tree_at row unit.now) (record { place = place; units = tree_units line.now }) (in_statement (about a.now vars.now home.now)) home.now.lines }
+    ensures { result ≡ spec.still row (tree_at row unit.now) (record { place = place; units = tree_units line.now }) (context_of (workspace work.now)) work.now.home.now.lines }
 {
     let k = usize::from(place.unit);
     match row {
-        rows::IF => if_outcome(vars, a, home, line, place, unit),
-        rows::GOTO => to_goal(home, place, goto_goal(unit)),
-        rows::ELSE => to_goal(home, place, passed_goal(line, k)),
-        rows::ERROR => to_goal(home, place, Goal::NextLine),
+        rows::IF => if_outcome(work, line, place, unit),
+        rows::GOTO => to_goal(work.home, place, goto_goal(unit)),
+        rows::ELSE => to_goal(work.home, place, passed_goal(line, k)),
+        rows::ERROR => to_goal(work.home, place, Goal::NextLine),
         rows::END => Outcome::Ready,
         rows::REMARK | rows::IMAGE_LINE | rows::DATA => Outcome::Next,
         rows::DEFFN => passed_function(unit),
@@ -199,22 +171,17 @@ fn ask_stop(alloc: Global, unit: &[u8], after: Option<Place>) -> Result<Asked, N
 }
 
 /// What GOSUB' asks for.
-fn ask_mark<'a>(
+fn ask_mark(
     alloc: Global,
-    vars: &'a Vars,
-    a: &Setting,
-    home: &'a Text,
+    work: &Workspace<'_>,
     unit: &[u8],
     back: Option<Place>,
 ) -> Result<Asked, NoMemory>
     requires part { is_part row.GOSUB_MARKED unit.now ≡ true }
-    ensures asked { IfOk result (λ asked. asked ≡ spec.asks_mark (called_number (tree_at row.GOSUB_MARKED unit.now)) (arguments (in_statement (about a.now vars.now home.now)) (operands_of (tree_at row.GOSUB_MARKED unit.now))) back) }
+    ensures asked { IfOk result (λ asked. asked ≡ spec.asks_mark (called_number (tree_at row.GOSUB_MARKED unit.now)) (arguments (context_of (workspace work.now)) (operands_of (tree_at row.GOSUB_MARKED unit.now))) back) }
     ensures named { IfOk result HasLegalNames }
 {
-    let e = Env {
-        globals: None,
-        ..surroundings_of(a, vars, home)
-    };
+    let e = surroundings_of(work);
     match arguments_of(alloc, &e, unit) {
         Ok(args) => Ok(Asked::CallMark(number_called(unit), args, back)),
         Err(fault) => {
@@ -238,37 +205,32 @@ fn copy_of(place: &Place) -> Place
 /// What the statement of a row asks for.
 pub fn ask(
     alloc: Global,
-    vars: &Vars,
-    a: &Setting,
-    home: &Text,
+    work: &Workspace<'_>,
     line: &Atoms,
     place: &Place,
     unit: &RowUnit<'_>,
 ) -> Result<Asked, NoMemory>
     requires read { IsRow unit.now.row unit.now.bytes.now (tree_at unit.now.row unit.now.bytes.now) }
     requires few { place.now.unit < 255 }
-    ensures asked { IfOk result (λ asked. asked ≡ spec.asked_of unit.now.row (tree_at unit.now.row unit.now.bytes.now) (record { place = place.now; units = tree_units line.now }) (in_statement (about a.now vars.now home.now)) home.now.lines) }
+    ensures asked { IfOk result (λ asked. asked ≡ spec.asked_of unit.now.row (tree_at unit.now.row unit.now.bytes.now) (record { place = place.now; units = tree_units line.now }) (context_of (workspace work.now)) work.now.home.now.lines) }
     ensures named { IfOk result HasLegalNames }
 {
     let bytes = unit.bytes;
     let place = copy_of(place);
     match unit.row {
-        rows::FOR => Ok(ask_loop(vars, a, home, bytes, body_place(home, line, place))),
+        rows::FOR => Ok(ask_loop(work, bytes, body_place(work.home, line, place))),
         rows::NEXT => Ok(Asked::Next(counter_at(bytes))),
-        rows::GOSUB => Ok(Asked::Call(line_called(bytes), place_after(home, line, place))),
+        rows::GOSUB => Ok(Asked::Call(line_called(bytes), place_after(work.home, line, place))),
         rows::RETURN => Ok(Asked::Return),
         rows::RETURN_CLEAR => Ok(Asked::Forget(has_all(bytes))),
-        rows::STOP => ask_stop(alloc, bytes, place_after(home, line, place)),
+        rows::STOP => ask_stop(alloc, bytes, place_after(work.home, line, place)),
         rows::SELECT => Ok(Asked::Select(Mode::Round)),
         rows::SELECT_NO_ROUND => Ok(Asked::Select(Mode::Cut)),
         rows::RUN => Ok(Asked::Run(line_to_run(bytes))),
         rows::CONTINUE => Ok(Asked::Continue),
-        rows::RESTORE => Ok(Asked::Restore(line_to_restore(bytes))),
-        rows::CLEAR_V => Ok(Asked::Clear(true)),
-        rows::CLEAR_N => Ok(Asked::Clear(false)),
-        rows::GOSUB_MARKED => ask_mark(alloc, vars, a, home, bytes, place_after(home, line, place)),
-        rows::ON => Ok(ask_choice(vars, a, home, line, place, bytes)),
-        row => Ok(Asked::Nothing(still(vars, a, home, line, place, row, bytes))),
+        rows::GOSUB_MARKED => ask_mark(alloc, work, bytes, place_after(work.home, line, place)),
+        rows::ON => Ok(ask_choice(work, line, place, bytes)),
+        _ => Ok(Asked::Nothing(failed(S27_LEFT_OUT))),
     }
 }
 
@@ -281,7 +243,7 @@ pub fn do_asked(
     asked: Asked,
 ) -> Result<Outcome, NoMemory>
     requires named { HasLegalNames asked }
-    ensures ended { IfOk result (λ o. record { me = me.new; outcome = o } ≡ spec.carried asked place me.old own.now.lines home.now.lines) }
+    ensures ended { IfOk result (λ o. record { me = me.new; outcome = o } ≡ steered me.old (spec.carried asked place me.old own.now.lines home.now.lines)) }
     ensures part { me.new.part ≡ me.old.part }
 {
     match asked {
@@ -295,8 +257,6 @@ pub fn do_asked(
         Asked::Select(mode) => Ok(select(me, mode)),
         Asked::Run(n) => Ok(run_program(me, own, n)),
         Asked::Continue => Ok(resume(me)),
-        Asked::Restore(n) => Ok(restore(me, own, n)),
-        Asked::Clear(common) => Ok(clear(me, common)),
         Asked::CallMark(n, args, back) => Ok(call_mark(me, own, home, place, n, args, back)),
     }
 }

@@ -5,9 +5,10 @@ ghost use Rattle.b2_rows.specs.Rows.{is_part, tree_at};
 ghost use Rattle.b2_access.specs.Places.{line_start};
 ghost use Rattle.b2_text.specs.Program.{line_at};
 ghost use Rattle.b2_stmt.specs.Calls as spec;
+ghost use Rattle.b2_access.specs.Steering.{steered};
 
 use crate::framing::put_frame;
-use b2_access::{Outcome, Private, failed, to_place};
+use b2_access::{Outcome, Private, drop_frames, failed, to_place};
 use b2_atom::words::ALL;
 use b2_base::codes::{P36_NO_LINE, P41_NO_CALL};
 use b2_base::lexical::rest_after;
@@ -32,7 +33,7 @@ pub fn call_line(
     n: u16,
     back: Option<Place>,
 ) -> Outcome
-    ensures ended { record { me = me.new; outcome = result } ≡ spec.called_where (line_at n home.now.lines) (line_start place n) back me.old }
+    ensures ended { record { me = me.new; outcome = result } ≡ steered me.old (spec.called_where (line_at n home.now.lines) (line_start place n) back me.old) }
     ensures part { me.new.part ≡ me.old.part }
 {
     if home.line(n).is_none() {
@@ -52,7 +53,7 @@ pub fn call_line(
 
 /// RETURN.
 pub fn go_back(me: &mut Private) -> Outcome
-    ensures ended { record { me = me.new; outcome = result } ≡ spec.goes_back me.old }
+    ensures ended { record { me = me.new; outcome = result } ≡ steered me.old (spec.goes_back me.old) }
     ensures part { me.new.part ≡ me.old.part }
 {
     match me.stack.pop_call() {
@@ -63,7 +64,7 @@ pub fn go_back(me: &mut Private) -> Outcome
 
 /// RETURN CLEAR.
 fn forget_call(me: &mut Private) -> Outcome
-    ensures ended { record { me = me.new; outcome = result } ≡ spec.forgets_call me.old }
+    ensures ended { record { me = me.new; outcome = result } ≡ steered me.old (spec.forgets_call me.old) }
     ensures part { me.new.part ≡ me.old.part }
 {
     match me.stack.pop_call() {
@@ -72,19 +73,9 @@ fn forget_call(me: &mut Private) -> Outcome
     }
 }
 
-/// No frames, no arguments and no place to continue at are left.
-pub fn drop_frames(me: &mut Private)
-    ensures dropped { me.new ≡ spec.without_frames me.old }
-    ensures part { me.new.part ≡ me.old.part }
-{
-    me.stack.clear();
-    me.kept = None;
-    me.args = None;
-}
-
 /// RETURN CLEAR ALL.
 fn forget_all(me: &mut Private, place: Place) -> Outcome
-    ensures ended { record { me = me.new; outcome = result } ≡ spec.forgets_all place me.old }
+    ensures ended { record { me = me.new; outcome = result } ≡ steered me.old (spec.forgets_all place me.old) }
     ensures part { me.new.part ≡ me.old.part }
 {
     if place.home != me.part {
@@ -110,7 +101,7 @@ pub fn has_all(unit: &[u8]) -> bool
 
 /// RETURN CLEAR with ALL or without.
 pub fn forget(me: &mut Private, place: Place, all: bool) -> Outcome
-    ensures ended { record { me = me.new; outcome = result } ≡ spec.forgets all place me.old }
+    ensures ended { record { me = me.new; outcome = result } ≡ steered me.old (spec.forgets all place me.old) }
     ensures part { me.new.part ≡ me.old.part }
 {
     if all {

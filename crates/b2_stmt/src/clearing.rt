@@ -7,9 +7,9 @@ ghost use Rattle.b2_access.specs.Lending.{globals_lent, seen_lent};
 ghost use Rattle.b2_access.specs.Views.{AllCleared, LinesErased};
 ghost use Rattle.b2_stmt.specs.Clearing as spec;
 ghost use Rattle.b2_stmt.specs.Plan.{finish};
+ghost use Rattle.b2_access.specs.Steering.{steered};
 
-use crate::calls::drop_frames;
-use b2_access::{Access, Answer, Lent, Outcome, Private, failed};
+use b2_access::{Access, Answer, Lent, Outcome, Private, drop_frames, failed};
 use b2_atom::rows;
 use b2_base::codes::A08_TEXT_BORROWED;
 use b2_base::lexical::rest_after;
@@ -55,21 +55,22 @@ pub fn asked_access(row: u16, unit: &[u8]) -> Option<Access>
 
 /// After lines were erased.
 fn erase_lines(me: &mut Private) -> Outcome
-    ensures ended { record { me = me.new; outcome = result } ≡ spec.clearing_ends LinesErased me.old }
+    ensures ended { record { me = me.new; outcome = result } ≡ steered me.old (spec.clearing_ends LinesErased me.old) }
     ensures part { me.new.part ≡ me.old.part }
 {
     drop_frames(me);
     Outcome::Ready
 }
 
-/// After all was cleared: the variables go too.
+/// After all was cleared: the variables go too, and the platter with which the partition started is selected again.
 fn clear_all(alloc: Global, me: &mut Private) -> Result<Outcome, NoMemory>
-    ensures ended { IfOk result (λ o. record { me = me.new; outcome = o } ≡ spec.clearing_ends AllCleared me.old) }
+    ensures ended { IfOk result (λ o. record { me = me.new; outcome = o } ≡ steered me.old (spec.clearing_ends AllCleared me.old)) }
     ensures part { me.new.part ≡ me.old.part }
 {
     let ready = ByteList::from_slice(alloc, b"READY\n")?;
     let outcome = erase_lines(me);
     me.vars.clear();
+    me.disk = me.boot_disk;
     me.pending = Some((Addr::default(), ready));
     Ok(outcome)
 }
@@ -82,7 +83,7 @@ fn finish_with(
     answer: &Answer,
 ) -> Result<Outcome, NoMemory>
     requires possible { can_answer access.now answer.now ≡ true }
-    ensures ended { IfOk result (λ o. record { me = me.new; outcome = o } ≡ spec.edit_finishes access.now answer.now me.old) }
+    ensures ended { IfOk result (λ o. record { me = me.new; outcome = o } ≡ steered me.old (spec.edit_finishes access.now answer.now me.old)) }
     ensures part { me.new.part ≡ me.old.part }
 {
     match access {

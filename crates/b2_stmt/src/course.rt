@@ -1,23 +1,23 @@
-// STOP, RUN, CONTINUE, SELECT and RESTORE.
+// STOP, RUN, CONTINUE and SELECT.
 ghost use Rattle.std.specs.Prelude.{◌≡◌, true, IfOk, Some, option_copied};
 ghost use Rattle.b2_atom.specs.declared.rows.TheConstants as row;
 ghost use Rattle.b2_rows.specs.Rows.{is_part, tree_at};
 ghost use Rattle.b2_stmt.specs.Course as spec;
+ghost use Rattle.b2_access.specs.Steering.{steered};
 
 use b2_access::{Outcome, Private, failed};
-use b2_atom::words::LINE;
 use b2_base::codes::{P36_NO_LINE, P46_NOTHING_KEPT};
 use b2_base::lexical::rest_after;
 use b2_base::{Addr, ByteList, NoMemory};
 use b2_dec::Mode;
 use b2_flow::Place;
 use b2_rows::{is_at, is_line_at, line_at, quoted_at};
-use b2_text::{Spot, Text};
+use b2_text::Text;
 use std::alloc::Global;
 
 /// SELECT ROUND and SELECT NO ROUND.
 pub fn select(me: &mut Private, mode: Mode) -> Outcome
-    ensures ended { record { me = me.new; outcome = result } ≡ spec.selects mode me.old }
+    ensures ended { record { me = me.new; outcome = result } ≡ steered me.old (spec.selects mode me.old) }
     ensures part { me.new.part ≡ me.old.part }
 {
     me.mode = mode;
@@ -53,7 +53,7 @@ pub fn stop_text(alloc: Global, text: Option<&[u8]>) -> Result<ByteList, NoMemor
 
 /// STOP at a place, where what it shows and the place after it are known.
 pub fn stop(me: &mut Private, shown: ByteList, place: Place, after: Option<Place>) -> Outcome
-    ensures ended { record { me = me.new; outcome = result } ≡ spec.stops_program shown place after me.old }
+    ensures ended { record { me = me.new; outcome = result } ≡ steered me.old (spec.stops_program shown place after me.old) }
     ensures part { me.new.part ≡ me.old.part }
 {
     me.pending = Some((Addr::default(), shown));
@@ -65,7 +65,7 @@ pub fn stop(me: &mut Private, shown: ByteList, place: Place, after: Option<Place
 
 /// The program begins anew, at a line of its own text or with none.
 fn run_from(me: &mut Private, n: Option<u16>) -> Outcome
-    ensures ended { record { me = me.new; outcome = result } ≡ spec.runs_from n me.old }
+    ensures ended { record { me = me.new; outcome = result } ≡ steered me.old (spec.runs_from n me.old) }
     ensures part { me.new.part ≡ me.old.part }
 {
     me.vars.clear_non_common();
@@ -86,7 +86,7 @@ fn run_from(me: &mut Private, n: Option<u16>) -> Outcome
 
 /// RUN.
 pub fn run_program(me: &mut Private, own: &Text, n: Option<u16>) -> Outcome
-    ensures ended { record { me = me.new; outcome = result } ≡ spec.runs n own.now.lines me.old }
+    ensures ended { record { me = me.new; outcome = result } ≡ steered me.old (spec.runs n own.now.lines me.old) }
     ensures part { me.new.part ≡ me.old.part }
 {
     let Some(n) = n else {
@@ -115,53 +115,10 @@ pub fn line_to_run(unit: &[u8]) -> Option<u16>
 
 /// CONTINUE.
 pub fn resume(me: &Private) -> Outcome
-    ensures { record { me = me.now; outcome = result } ≡ spec.continues me.now.kept me.now }
+    ensures { record { me = me.now; outcome = result } ≡ steered me.now (spec.continues me.now.kept me.now) }
 {
     match me.kept {
         Some(place) => Outcome::Jump(place),
         None => failed(P46_NOTHING_KEPT),
     }
-}
-
-/// RESTORE.
-pub fn restore(me: &mut Private, own: &Text, n: Option<u16>) -> Outcome
-    ensures ended { record { me = me.new; outcome = result } ≡ spec.restores n own.now.lines me.old }
-    ensures part { me.new.part ≡ me.old.part }
-{
-    let Some(n) = n else {
-        me.next_data = None;
-        return Outcome::Next;
-    };
-    if own.line(n).is_none() {
-        return failed(P36_NO_LINE);
-    }
-    me.next_data = Some((Spot { line: n, unit: 0 }, 0));
-    Outcome::Next
-}
-
-/// The line that RESTORE names.
-#[tactic(auto, using(crate::proofs::CourseRows::restore_line, crate::proofs::CourseRows::restore_with, crate::proofs::CourseRows::restore_without))]
-pub fn line_to_restore(unit: &[u8]) -> Option<u16>
-    requires part { is_part row.RESTORE unit.now ≡ true }
-    ensures { result ≡ spec.line_to_restore (tree_at row.RESTORE unit.now) }
-{
-    let line = rest_after(unit, 1);
-    if is_at(LINE, line) {
-        Some(line_at(rest_after(line, 1)))
-    } else {
-        None
-    }
-}
-
-/// CLEAR V, which takes the common variables too, and CLEAR N.
-pub fn clear(me: &mut Private, common: bool) -> Outcome
-    ensures ended { record { me = me.new; outcome = result } ≡ spec.clears_variables common me.old }
-    ensures part { me.new.part ≡ me.old.part }
-{
-    if common {
-        me.vars.clear();
-    } else {
-        me.vars.clear_non_common();
-    }
-    Outcome::Next
 }

@@ -8,6 +8,7 @@ ghost use Rattle.b2_expr.specs.Scope.{surroundings};
 ghost use Rattle.b2_expr.specs.Value.{in_statement};
 ghost use Rattle.b2_stmt.specs.Loops as spec;
 ghost use Rattle.b2_stmt.specs.Loops.{scalar_of};
+ghost use Rattle.b2_access.specs.Steering.{steered};
 
 use crate::framing::put_frame;
 use b2_access::{Outcome, Private, failing};
@@ -16,8 +17,9 @@ use b2_atom::words::STEP;
 use b2_base::lexical::rest_after;
 use b2_base::{Code, NoMemory};
 use b2_dec::{Dec, Mode, add, cmp};
-use b2_expr::{Element, Env, assign_number, number};
+use b2_expr::{Element, Env, number};
 use b2_flow::{Frame, Place, Stack, Var2};
+use b2_receiver::assign_number;
 use b2_rows::{Name, is_at, local_name};
 use b2_vars::{Var, Vars};
 use std::cmp::Ordering;
@@ -128,7 +130,7 @@ fn drop_loop(stack: &mut Stack, v: Var2)
 /// Begins a loop whose body stands at a place.
 pub fn begin_loop(me: &mut Private, l: Loop, body: Place) -> Result<Outcome, NoMemory>
     requires named { is_legal_name (scalar_of l.var) ≡ true }
-    ensures ended { IfOk result (λ o. record { me = me.new; outcome = o } ≡ spec.loop_begins l body me.old) }
+    ensures ended { IfOk result (λ o. record { me = me.new; outcome = o } ≡ steered me.old (spec.loop_begins l body me.old)) }
     ensures part { me.new.part ≡ me.old.part }
 {
     match assign_number(&mut me.vars, loop_element(l.var), l.from) {
@@ -177,7 +179,7 @@ fn go_round(
     body: Place,
 ) -> Result<Outcome, NoMemory>
     requires named { is_legal_name (scalar_of v) ≡ true }
-    ensures ended { IfOk result (λ o. record { me = me.new; outcome = o } ≡ spec.goes_round (Some (limit, step, body)) v me.old) }
+    ensures ended { IfOk result (λ o. record { me = me.new; outcome = o } ≡ steered me.old (spec.goes_round (Some (limit, step, body)) v me.old)) }
     ensures part { me.new.part ≡ me.old.part }
 {
     let x = match next_value(&me.vars, me.mode, v, step) {
@@ -198,7 +200,7 @@ fn go_round(
 /// NEXT of a variable.
 pub fn next_round(me: &mut Private, v: Var2) -> Result<Outcome, NoMemory>
     requires named { is_legal_name (scalar_of v) ≡ true }
-    ensures ended { IfOk result (λ o. record { me = me.new; outcome = o } ≡ spec.nexts v me.old) }
+    ensures ended { IfOk result (λ o. record { me = me.new; outcome = o } ≡ steered me.old (spec.nexts v me.old)) }
     ensures part { me.new.part ≡ me.old.part }
 {
     match me.stack.loop_of(v) {

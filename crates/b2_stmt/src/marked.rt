@@ -2,23 +2,24 @@
 ghost use Rattle.std.specs.Prelude.{◌≡◌, true, IfOk, Some, []};
 ghost use Rattle.b2_atom.specs.declared.rows.TheConstants as row;
 ghost use Rattle.b2_rows.specs.Rows.{is_part, tree_at};
-ghost use Rattle.b2_expr.specs.Assigning.{assigned_value};
-ghost use Rattle.b2_expr.specs.Receivers.{IsNamed};
+ghost use Rattle.b2_receiver.specs.Receivers.{IsNamed};
+ghost use Rattle.b2_receiver.specs.Receiving.{given_value};
+ghost use Rattle.b2_expr.specs.Workspace.{workspace};
 ghost use Rattle.b2_stmt.specs.Marked as spec;
 ghost use Rattle.b2_rows.specs.CommaLists.{are_others, past_first, receivers_at};
+ghost use Rattle.b2_access.specs.Steering.{steered};
 
-use crate::reading::suits;
 use b2_access::{Outcome, Private, failed, goes_or, setting_of};
 use b2_atom::Cursor;
 use b2_base::codes::{P35_ARGUMENTS, P38_NO_DEFFN};
 use b2_base::lexical::{digits_width, rest_after};
 use b2_base::{Code, NoMemory, Part};
 use b2_dec::{Value, ValueList};
-use b2_expr::{Receiver, any_receiver, assign_value, code_of, past_any_receiver, surroundings_of};
+use b2_expr::{Workspace, suits, surroundings_of};
 use b2_flow::{Frame, Place};
+use b2_receiver::{Receiver, any_receiver, give_value, past_any_receiver};
 use b2_rows::{is_alpha_at, is_at, small_at};
 use b2_text::{Spot, Text};
-use b2_vars::{Setting, Vars};
 
 /// The number that GOSUB' calls.
 #[tactic(auto, using(crate::proofs::MarkRows::called_number, crate::proofs::MarkRows::called_is))]
@@ -56,7 +57,7 @@ fn mark_place(n: u8, place: Place, part: Part, own: &Text, home: &Text) -> Optio
 /// Calls the statement at a place, which leads back to another and passes values. A04 where there is no room for it.
 #[tactic(auto, using(crate::proofs::MarkRows::call_put, crate::proofs::MarkRows::no_room))]
 fn call_place(me: &mut Private, to: Place, args: ValueList, back: Option<Place>) -> Outcome
-    ensures { record { me = me.new; outcome = result } ≡ spec.calls_mark (Some to) args back me.old }
+    ensures { record { me = me.new; outcome = result } ≡ steered me.old (spec.calls_mark (Some to) args back me.old) }
 {
     let frame = Frame::Call {
         back,
@@ -81,7 +82,7 @@ pub fn call_mark(
     args: ValueList,
     back: Option<Place>,
 ) -> Outcome
-    ensures { record { me = me.new; outcome = result } ≡ spec.calls_mark (spec.mark_place n place me.old.part own.now.lines home.now.lines) args back me.old }
+    ensures { record { me = me.new; outcome = result } ≡ steered me.old (spec.calls_mark (spec.mark_place n place me.old.part own.now.lines home.now.lines) args back me.old) }
 {
     match mark_place(n, place, me.part, own, home) {
         Some(to) => call_place(me, to, args, back),
@@ -90,7 +91,7 @@ pub fn call_mark(
 }
 
 /// Whether there are as many values as receivers at a text, each of its receiver's kind.
-#[tactic(auto, using(crate::proofs::ReadRows::other_part, crate::proofs::ReadRows::other_list, crate::proofs::ReadRows::receiver_shorter, crate::proofs::MarkRows::kind_is))]
+#[tactic(auto, using(b2_receiver::proofs::ReceiverLists::other_part, b2_receiver::proofs::ReceiverLists::other_list, b2_receiver::proofs::ReceiverLists::receiver_shorter, crate::proofs::MarkRows::kind_is))]
 fn values_fit(text: &[u8], args: &[Value]) -> bool
     requires part { is_part row.RECEIVER text.now ≡ true }
     requires list { are_others (past_first text.now) ≡ true }
@@ -115,46 +116,49 @@ fn values_fit(text: &[u8], args: &[Value]) -> bool
 }
 
 /// Assigns a value to a receiver, where they are of one kind.
-#[tactic(auto, using(b2_expr::proofs::Ended::ended_so, crate::proofs::ReadRows::one_kind, crate::proofs::MarkRows::other_kind))]
-fn assign_to(vars: &mut Vars, to: &Receiver, value: &Value) -> Result<Option<Code>, NoMemory>
+#[tactic(auto, using(b2_receiver::proofs::OneKind::one_kind, crate::proofs::MarkRows::other_kind))]
+fn assign_to(
+    work: &mut Workspace<'_>,
+    to: &Receiver,
+    value: &Value,
+) -> Result<Option<Code>, NoMemory>
     requires named { IsNamed to.now }
-    ensures { IfOk result (λ code. record { vars = vars.new; code = code } ≡ assigned_value to.now value.now vars.old) }
+    ensures worked { IfOk result (λ code. record { work = workspace work.new; code = code } ≡ given_value to.now value.now (workspace work.old)) }
+    ensures same_reference { work.new.own.ghost_name ≡ work.old.own.ghost_name }
 {
     if !suits(to.is_alpha(), value) {
         return Ok(None);
     }
-    code_of(assign_value(vars, to, value))
+    give_value(work, to, value)
 }
 
 /// Assigns a value to the receiver at a text.
 fn take_value(
-    vars: &mut Vars,
-    a: &Setting,
-    home: &Text,
+    work: &mut Workspace<'_>,
     value: &Value,
     text: &[u8],
 ) -> Result<Option<Code>, NoMemory>
     requires part { is_part row.RECEIVER text.now ≡ true }
-    ensures { IfOk result (λ code. record { vars = vars.new; code = code } ≡ spec.takes_value a.now home.now (tree_at row.RECEIVER text.now) value.now vars.old) }
+    ensures worked { IfOk result (λ code. record { work = workspace work.new; code = code } ≡ spec.takes_value (tree_at row.RECEIVER text.now) value.now (workspace work.old)) }
+    ensures same_reference { work.new.own.ghost_name ≡ work.old.own.ghost_name }
 {
-    match any_receiver(&mut Cursor::over(text), &surroundings_of(a, vars, home)) {
-        Ok(to) => assign_to(vars, &to, value),
+    match any_receiver(&mut Cursor::over(text), &surroundings_of(work)) {
+        Ok(to) => assign_to(work, &to, value),
         Err(code) => Ok(Some(code)),
     }
 }
 
 /// Assigns values to the receivers at a text, from left to right.
-#[tactic(auto, using(crate::proofs::ReadRows::other_part, crate::proofs::ReadRows::other_list, crate::proofs::ReadRows::receiver_shorter))]
+#[tactic(auto, using(b2_receiver::proofs::ReceiverLists::other_part, b2_receiver::proofs::ReceiverLists::other_list, b2_receiver::proofs::ReceiverLists::receiver_shorter))]
 fn take_each(
-    vars: &mut Vars,
-    a: &Setting,
-    home: &Text,
+    work: &mut Workspace<'_>,
     args: &[Value],
     text: &[u8],
 ) -> Result<Option<Code>, NoMemory>
     requires part { is_part row.RECEIVER text.now ≡ true }
     requires list { are_others (past_first text.now) ≡ true }
-    ensures { IfOk result (λ code. record { vars = vars.new; code = code } ≡ spec.take_each (spec.takes_value a.now home.now) (receivers_at text.now) args.now vars.old) }
+    ensures worked { IfOk result (λ code. record { work = workspace work.new; code = code } ≡ spec.take_each spec.takes_value (receivers_at text.now) args.now (workspace work.old)) }
+    ensures same_reference { work.new.own.ghost_name ≡ work.old.own.ghost_name }
 {
     let mut left = text;
     let mut values = args;
@@ -162,7 +166,7 @@ fn take_each(
         let Some((value, others)) = values.split_first() else {
             return Ok(None);
         };
-        let code = take_value(vars, a, home, value, left)?;
+        let code = take_value(work, value, left)?;
         if code.is_some() {
             return Ok(code);
         }
@@ -176,19 +180,14 @@ fn take_each(
 }
 
 /// Assigns values to the receivers at a text. P35 comes before any of them takes its value.
-fn take_at(
-    vars: &mut Vars,
-    a: &Setting,
-    home: &Text,
-    args: &[Value],
-    text: &[u8],
-) -> Result<Option<Code>, NoMemory>
+fn take_at(work: &mut Workspace<'_>, args: &[Value], text: &[u8]) -> Result<Option<Code>, NoMemory>
     requires part { is_part row.RECEIVER text.now ≡ true }
     requires list { are_others (past_first text.now) ≡ true }
-    ensures { IfOk result (λ code. record { vars = vars.new; code = code } ≡ spec.takes_values a.now home.now (receivers_at text.now) args.now vars.old) }
+    ensures worked { IfOk result (λ code. record { work = workspace work.new; code = code } ≡ spec.takes_values (receivers_at text.now) args.now (workspace work.old)) }
+    ensures same_reference { work.new.own.ghost_name ≡ work.old.own.ghost_name }
 {
     if values_fit(text, args) {
-        take_each(vars, a, home, args, text)
+        take_each(work, args, text)
     } else {
         Ok(Some(Code::known(P35_ARGUMENTS)))
     }
@@ -196,8 +195,8 @@ fn take_at(
 
 /// Where there are no receivers: P35 where values are passed.
 #[tactic(auto, using(crate::proofs::MarkRows::no_receivers, crate::proofs::MarkRows::no_values))]
-fn take_none(vars: &Vars, a: &Setting, home: &Text, args: &[Value]) -> Option<Code>
-    ensures { record { vars = vars.now; code = result } ≡ spec.takes_values a.now home.now [] args.now vars.now }
+fn take_none(work: &Workspace<'_>, args: &[Value]) -> Option<Code>
+    ensures { record { work = workspace work.now; code = result } ≡ spec.takes_values [] args.now (workspace work.now) }
 {
     if args.is_empty() {
         None
@@ -209,34 +208,38 @@ fn take_none(vars: &Vars, a: &Setting, home: &Text, args: &[Value]) -> Option<Co
 /// Assigns values to the receivers of DEFFN'.
 #[tactic(auto, using(crate::proofs::MarkRows::parameters_first, crate::proofs::MarkRows::parameters_list, crate::proofs::MarkRows::parameters_are, crate::proofs::MarkRows::no_parameters))]
 fn take_arguments(
-    vars: &mut Vars,
-    a: &Setting,
-    home: &Text,
+    work: &mut Workspace<'_>,
     args: &[Value],
     unit: &[u8],
 ) -> Result<Option<Code>, NoMemory>
     requires part { is_part row.DEFFN_MARKED unit.now ≡ true }
-    ensures { IfOk result (λ code. record { vars = vars.new; code = code } ≡ spec.takes_values a.now home.now (spec.parameters_of (tree_at row.DEFFN_MARKED unit.now)) args.now vars.old) }
+    ensures worked { IfOk result (λ code. record { work = workspace work.new; code = code } ≡ spec.takes_values (spec.parameters_of (tree_at row.DEFFN_MARKED unit.now)) args.now (workspace work.old)) }
+    ensures same_reference { work.new.own.ghost_name ≡ work.old.own.ghost_name }
 {
     let number = rest_after(unit, 1);
     let text = rest_after(number, digits_width(number));
     if is_at(b'(', text) {
-        take_at(vars, a, home, args, rest_after(text, 1))
+        take_at(work, args, rest_after(text, 1))
     } else {
-        Ok(take_none(vars, a, home, args))
+        Ok(take_none(work, args))
     }
 }
 
 /// DEFFN': it takes what a call passes; where no call waits for it, it does nothing.
 pub fn take_args(me: &mut Private, home: &Text, unit: &[u8]) -> Result<Outcome, NoMemory>
     requires part { is_part row.DEFFN_MARKED unit.now ≡ true }
-    ensures ended { IfOk result (λ o. record { me = me.new; outcome = o } ≡ spec.takes_args me.old.args home.now (tree_at row.DEFFN_MARKED unit.now) me.old) }
+    ensures ended { IfOk result (λ o. record { me = me.new; outcome = o } ≡ steered me.old (spec.takes_args me.old.args home.now (tree_at row.DEFFN_MARKED unit.now) me.old)) }
     ensures part { me.new.part ≡ me.old.part }
 {
     let setting = setting_of(me);
     let Some(args) = me.args.take() else {
         return Ok(Outcome::Next);
     };
-    let code = take_arguments(&mut me.vars, &setting, home, args.values(), unit)?;
+    let mut work = Workspace {
+        own: &mut me.vars,
+        setting,
+        home,
+    };
+    let code = take_arguments(&mut work, args.values(), unit)?;
     Ok(goes_or(Outcome::Next, code))
 }

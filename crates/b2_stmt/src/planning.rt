@@ -1,53 +1,41 @@
 // What the statement at a partition's place plans.
-ghost use Rattle.std.specs.Prelude.{◌≡◌, ◌<◌, true, false, IfOk, Option, Some, None, is_some};
+ghost use Rattle.std.specs.Prelude.{◌≡◌, false, IfOk, Option, Some};
 ghost use Rattle.b2_rows.specs.Following.{tree_units};
-ghost use Rattle.b2_rows.specs.Laws.{IsRow};
-ghost use Rattle.b2_rows.specs.Rows.{tree_at};
-ghost use Rattle.b2_text.specs.Program.{line_at};
 ghost use Rattle.b2_vars.specs.Tables.{VarsState};
+ghost use Rattle.b2_access.specs.Courses.{course_at, permitted};
+ghost use Rattle.b2_access.specs.Found.{IsRead, here_found, seen_found, statement_found};
 ghost use Rattle.b2_access.specs.Lending.{globals_lent, seen_lent};
 ghost use Rattle.b2_access.specs.Partition.{setting_of};
+ghost use Rattle.b2_access.specs.Placed.{statement_on as named_on};
 ghost use Rattle.b2_access.specs.Planning.{done};
 ghost use Rattle.b2_expr.specs.Value.{context_of};
+ghost use Rattle.b2_expr.specs.Workspace.{work_in};
 ghost use Rattle.b2_stmt.specs.Asked.{asked_of, carried, is_still};
 ghost use Rattle.b2_stmt.specs.Clearing.{asks_access};
 ghost use Rattle.b2_stmt.specs.Plan as spec;
+ghost use Rattle.b2_access.specs.Steering.{steered};
 
 use crate::asked::{ask, do_asked, still};
 use crate::clearing::asked_access;
 use crate::marked::take_args;
-use crate::on_variables::{change_variables, is_on_variables};
-use crate::reading::read;
-use b2_access::{DeviceTable, Lent, Outcome, Planned, Private, failed, goes_or, setting_of};
+use b2_access::{
+    DeviceTable, Found, Lent, Outcome, Planned, Private, failed, setting_of, statement_on,
+};
 use b2_atom::{Atoms, rows};
 use b2_base::NoMemory;
 use b2_base::codes::S26_PROGRAM_ONLY;
+use b2_expr::Workspace;
 use b2_flow::Place;
-use b2_rows::{RowUnit, row_unit};
 use b2_text::Text;
 use std::alloc::Global;
 
-/// Whether this crate builds a row.
-pub fn is_built(row: u16) -> bool
-    ensures { result ≡ spec.is_built row }
+/// Whether the statement of a row changes nothing and asks the private state for nothing.
+fn is_still(row: u16) -> bool
+    ensures { result ≡ is_still row }
 {
     matches!(
         row,
-        rows::ASSIGNMENT
-            | rows::FOR
-            | rows::NEXT
-            | rows::GOSUB
-            | rows::RETURN
-            | rows::RETURN_CLEAR
-            | rows::STOP
-            | rows::SELECT
-            | rows::SELECT_NO_ROUND
-            | rows::RUN
-            | rows::CONTINUE
-            | rows::RESTORE
-            | rows::CLEAR_V
-            | rows::CLEAR_N
-            | rows::IF
+        rows::IF
             | rows::GOTO
             | rows::ELSE
             | rows::ERROR
@@ -57,16 +45,32 @@ pub fn is_built(row: u16) -> bool
             | rows::DATA
             | rows::DEFFN
             | rows::BREAK
-            | rows::CLEAR
-            | rows::CLEAR_P
-            | rows::ON
-            | rows::DEFFN_MARKED
-            | rows::DIM
-            | rows::INIT
-            | rows::ROTATE
-            | rows::READ
-            | rows::GOSUB_MARKED
     )
+}
+
+/// Whether this crate builds a row.
+pub fn is_built(row: u16) -> bool
+    ensures { result ≡ spec.is_built row }
+{
+    is_still(row)
+        || matches!(
+            row,
+            rows::FOR
+                | rows::NEXT
+                | rows::GOSUB
+                | rows::GOSUB_MARKED
+                | rows::RETURN
+                | rows::RETURN_CLEAR
+                | rows::ON
+                | rows::STOP
+                | rows::RUN
+                | rows::CONTINUE
+                | rows::SELECT
+                | rows::SELECT_NO_ROUND
+                | rows::DEFFN_MARKED
+                | rows::CLEAR
+                | rows::CLEAR_P
+        )
 }
 
 /// Whether a statement is for programs alone.
@@ -93,176 +97,109 @@ fn is_refused(row: u16, program: bool) -> bool
     }
 }
 
-/// Whether the statement of a row changes nothing and asks the private state for nothing.
-fn is_still(row: u16) -> bool
-    ensures { result ≡ is_still row }
-{
-    matches!(
-        row,
-        rows::IF
-            | rows::GOTO
-            | rows::ELSE
-            | rows::ERROR
-            | rows::END
-            | rows::REMARK
-            | rows::IMAGE_LINE
-            | rows::DATA
-            | rows::DEFFN
-            | rows::BREAK
-    )
-}
-
-/// Executes a unit at a place, whose statement asks the private state for something.
-fn execute_asked(
-    alloc: Global,
-    me: &mut Private,
-    own: &Text,
-    home: &Text,
-    line: &Atoms,
-    unit: &RowUnit<'_>,
-    place: Place,
-) -> Result<Outcome, NoMemory>
-    requires read { IsRow unit.now.row unit.now.bytes.now (tree_at unit.now.row unit.now.bytes.now) }
-    requires few { place.unit < 255 }
-    ensures ended { IfOk result (λ o. record { me = me.new; outcome = o } ≡ carried (asked_of unit.now.row (tree_at unit.now.row unit.now.bytes.now) (record { place = place; units = tree_units line.now }) (context_of (setting_of me.old) me.old.vars home.now) home.now.lines) place me.old own.now.lines home.now.lines) }
+/// Executes a statement that asks the private state for something.
+fn execute_asked(alloc: Global, me: &mut Private, found: &Found<'_>) -> Result<Outcome, NoMemory>
+    requires read { IsRead found.now }
+    ensures ended { IfOk result (λ o. record { me = me.new; outcome = o } ≡ steered me.old (carried (asked_of found.now.unit.now.row (statement_found found.now).tree (here_found found.now) (context_of (work_in (setting_of me.old) found.now.home.now me.old.vars)) found.now.home.now.lines) found.now.place me.old found.now.own.now.lines found.now.home.now.lines)) }
     ensures part { me.new.part ≡ me.old.part }
 {
     let setting = setting_of(me);
-    let asked = ask(alloc, &me.vars, &setting, home, line, &place, unit)?;
-    do_asked(me, own, home, place, asked)
+    let work = Workspace {
+        own: &mut me.vars,
+        setting,
+        home: found.home,
+    };
+    let asked = ask(alloc, &work, found.line, &found.place, found.unit)?;
+    do_asked(me, found.own, found.home, found.place, asked)
 }
 
-/// Executes a unit at a place, where its statement may stand there and asks for no access.
-#[tactic(auto, using(crate::proofs::Executed::still_there, crate::proofs::Executed::asked_there))]
-fn execute_allowed(
-    alloc: Global,
-    me: &mut Private,
-    own: &Text,
-    home: &Text,
-    line: &Atoms,
-    unit: &RowUnit<'_>,
-    place: Place,
-) -> Result<Outcome, NoMemory>
-    requires read { IsRow unit.now.row unit.now.bytes.now (tree_at unit.now.row unit.now.bytes.now) }
-    requires few { place.unit < 255 }
-    ensures ended { (globals : Option VarsState) → IfOk result (λ o. record { me = me.new; outcome = o } ≡ spec.ended_of unit.now.row (tree_at unit.now.row unit.now.bytes.now) (record { place = place; units = tree_units line.now }) me.old (record { own = own.now; home = home.now; globals = globals })) }
+/// Executes a statement that may stand where it does and asks for no access.
+#[tactic(auto, using(crate::proofs::Executed::taken_there, crate::proofs::Executed::asked_there))]
+fn execute_allowed(alloc: Global, me: &mut Private, found: &Found<'_>) -> Result<Outcome, NoMemory>
+    requires read { IsRead found.now }
+    ensures ended { (globals : Option VarsState) → IfOk result (λ o. record { me = me.new; outcome = o } ≡ steered me.old (spec.ended_of (statement_found found.now) (here_found found.now) me.old (seen_found found.now globals))) }
     ensures part { me.new.part ≡ me.old.part }
 {
-    let setting = setting_of(me);
-    let row = unit.row;
-    let bytes = unit.bytes;
-    if is_on_variables(row) {
-        let code = change_variables(alloc, &mut me.vars, &setting, home, row, bytes)?;
-        return Ok(goes_or(Outcome::Next, code));
-    }
+    let row = found.unit.row;
+    let bytes = found.unit.bytes;
     if is_still(row) {
-        return Ok(still(&me.vars, &setting, home, line, place, row, bytes));
-    }
-    if row == rows::READ {
-        let code = read(&mut me.vars, &mut me.next_data, &setting, home, own, bytes)?;
-        return Ok(goes_or(Outcome::Next, code));
+        let setting = setting_of(me);
+        let work = Workspace {
+            own: &mut me.vars,
+            setting,
+            home: found.home,
+        };
+        return Ok(still(&work, found.line, found.place, row, bytes));
     }
     if row == rows::DEFFN_MARKED {
-        return take_args(me, home, bytes);
+        return take_args(me, found.home, bytes);
     }
-    execute_asked(alloc, me, own, home, line, unit, place)
+    execute_asked(alloc, me, found)
 }
 
-/// Executes a unit at a place in a line of the program, where its statement asks for no access.
-#[tactic(auto, using(crate::proofs::Executed::refused_there, crate::proofs::Executed::quiet_there))]
-pub fn execute(
+/// Executes a statement that its caller has found, where it asks for no access.
+#[tactic(auto, using(b2_access::proofs::Courses::may_not_stand))]
+pub fn execute(alloc: Global, me: &mut Private, found: &Found<'_>) -> Result<Outcome, NoMemory>
+    requires quiet { asks_access found.now.unit.now.row ≡ false }
+    requires read { IsRead found.now }
+    ensures ended { (globals : Option VarsState) → IfOk result (λ o. done (seen_found found.now globals) (record { me = me.new; outcome = o }) ≡ permitted spec.is_refused (spec.stops me.old (seen_found found.now globals)) (spec.does me.old (seen_found found.now globals)) (statement_found found.now) (here_found found.now)) }
+    ensures part { me.new.part ≡ me.old.part }
+{
+    if is_refused(found.unit.row, found.place.line.is_some()) {
+        return Ok(failed(S26_PROGRAM_ONLY));
+    }
+    execute_allowed(alloc, me, found)
+}
+
+/// What a statement plans that was found on a line.
+#[tactic(auto, using(crate::proofs::Executed::access_planned, crate::proofs::Executed::asks_none))]
+fn plan_unit(alloc: Global, me: &mut Private, found: &Found<'_>) -> Result<Planned, NoMemory>
+    requires read { IsRead found.now }
+    ensures planned { (globals : Option VarsState) → IfOk result (λ p. record { me = me.new; globals = globals; planned = p } ≡ permitted spec.is_refused (spec.stops me.old (seen_found found.now globals)) (spec.does me.old (seen_found found.now globals)) (statement_found found.now) (here_found found.now)) }
+    ensures part { me.new.part ≡ me.old.part }
+{
+    if let Some(access) = asked_access(found.unit.row, found.unit.bytes) {
+        return Ok(Planned::Ask(access));
+    }
+    let outcome = execute(alloc, me, found)?;
+    Ok(Planned::Done(outcome))
+}
+
+/// What the unit at a place on a line plans.
+fn plan_on(
     alloc: Global,
     me: &mut Private,
     own: &Text,
     home: &Text,
     line: &Atoms,
-    unit: &RowUnit<'_>,
-    place: Place,
-) -> Result<Outcome, NoMemory>
-    requires program { is_some place.line ≡ true }
-    requires quiet { asks_access unit.now.row ≡ false }
-    requires read { IsRow unit.now.row unit.now.bytes.now (tree_at unit.now.row unit.now.bytes.now) }
-    requires few { place.unit < 255 }
-    ensures ended { (globals : Option VarsState) → IfOk result (λ o. done (record { own = own.now; home = home.now; globals = globals }) (record { me = me.new; outcome = o }) ≡ spec.permitted unit.now.row (tree_at unit.now.row unit.now.bytes.now) (record { place = place; units = tree_units line.now }) me.old (record { own = own.now; home = home.now; globals = globals })) }
-    ensures part { me.new.part ≡ me.old.part }
-{
-    if is_refused(unit.row, true) {
-        return Ok(failed(S26_PROGRAM_ONLY));
-    }
-    execute_allowed(alloc, me, own, home, line, unit, place)
-}
-
-/// Executes the unit at a place in a line of the program.
-#[tactic(auto, using(crate::proofs::Executed::access_planned, crate::proofs::Executed::asks_none))]
-fn execute_program(
-    alloc: Global,
-    me: &mut Private,
-    own: &Text,
-    home: &Text,
-    n: u16,
     place: Place,
 ) -> Result<Planned, NoMemory>
-    requires line { place.line ≡ Some n }
-    ensures planned { (globals : Option VarsState) → IfOk result (λ p. record { me = me.new; globals = globals; planned = p } ≡ spec.course_in (line_at n home.now.lines) place me.old (record { own = own.now; home = home.now; globals = globals })) }
+    ensures planned { (globals : Option VarsState) → IfOk result (λ p. record { me = me.new; globals = globals; planned = p } ≡ course_at spec.is_refused (spec.stops me.old (record { own = own.now; home = home.now; globals = globals })) (spec.does me.old (record { own = own.now; home = home.now; globals = globals })) (named_on (Some line.now) place.unit) (record { place = place; units = tree_units line.now })) }
     ensures part { me.new.part ≡ me.old.part }
 {
-    let Some(line) = home.line(n) else {
-        return Ok(Planned::Done(Outcome::Ready));
-    };
-    let Some(unit) = row_unit(line.atoms, usize::from(place.unit)) else {
-        return Ok(Planned::Done(Outcome::Ready));
-    };
-    if let Some(access) = asked_access(unit.row, unit.bytes) {
-        return Ok(Planned::Ask(access));
+    match statement_on(line, usize::from(place.unit)) {
+        Some(unit) => {
+            let found = Found {
+                own,
+                home,
+                line,
+                unit: &unit,
+                place,
+            };
+            plan_unit(alloc, me, &found)
+        }
+        None => Ok(Planned::Done(Outcome::Ready)),
     }
-    let outcome = execute(alloc, me, own, home, line.atoms, &unit, place)?;
-    Ok(Planned::Done(outcome))
 }
 
-/// Executes the unit at a place in the immediate line. Its bytes lie in the private state, so what it asks is taken from them
-/// before that state changes: a detour that a unit of the program is spared, whose bytes lie elsewhere.
-fn execute_immediate(
-    alloc: Global,
-    me: &mut Private,
-    own: &Text,
-    home: &Text,
-    place: Place,
-) -> Result<Planned, NoMemory>
-    requires line { place.line ≡ None }
-    ensures planned { (globals : Option VarsState) → IfOk result (λ p. record { me = me.new; globals = globals; planned = p } ≡ spec.course_in me.old.immediate place me.old (record { own = own.now; home = home.now; globals = globals })) }
-    ensures part { me.new.part ≡ me.old.part }
+/// A copy of the immediate line: it lies in the private state, which its statements change.
+fn copy_of_line(alloc: Global, immediate: &Option<Atoms>) -> Result<Option<Atoms>, NoMemory>
+    ensures { IfOk result (λ line. line ≡ immediate.now) }
 {
-    let setting = setting_of(me);
-    let Some(line) = &me.immediate else {
-        return Ok(Planned::Done(Outcome::Ready));
-    };
-    let Some(unit) = row_unit(line, usize::from(place.unit)) else {
-        return Ok(Planned::Done(Outcome::Ready));
-    };
-    if is_refused(unit.row, false) {
-        return Ok(Planned::Done(failed(S26_PROGRAM_ONLY)));
+    match immediate {
+        Some(line) => Ok(Some(line.try_clone(alloc)?)),
+        None => Ok(None),
     }
-    if is_on_variables(unit.row) {
-        let code = change_variables(alloc, &mut me.vars, &setting, home, unit.row, unit.bytes)?;
-        return Ok(Planned::Done(goes_or(Outcome::Next, code)));
-    }
-    if unit.row == rows::READ {
-        let code = read(
-            &mut me.vars,
-            &mut me.next_data,
-            &setting,
-            home,
-            own,
-            unit.bytes,
-        )?;
-        return Ok(Planned::Done(goes_or(Outcome::Next, code)));
-    }
-    if let Some(access) = asked_access(unit.row, unit.bytes) {
-        return Ok(Planned::Ask(access));
-    }
-    let asked = ask(alloc, &me.vars, &setting, home, line, &place, &unit)?;
-    let outcome = do_asked(me, own, home, place, asked)?;
-    Ok(Planned::Done(outcome))
 }
 
 /// What the statement at the place of a partition plans. Where no unit is there it is ready.
@@ -273,6 +210,7 @@ pub fn plan(
     devices: &DeviceTable,
 ) -> Result<Planned, NoMemory>
     ensures planned { IfOk result (λ p. record { me = me.new; globals = globals_lent lent.new; planned = p } ≡ spec.plan me.old (seen_lent lent.old)) }
+    ensures same_texts { (lent.new.own ≡ lent.old.own) × (lent.new.home ≡ lent.old.home) }
     ensures same_globals { lent.new.globals.now ≡ lent.old.globals.now }
     ensures same_reference { lent.new.globals.ghost_name ≡ lent.old.globals.ghost_name }
     ensures part { me.new.part ≡ me.old.part }
@@ -281,7 +219,13 @@ pub fn plan(
         return Ok(Planned::Done(Outcome::Ready));
     };
     match place.line {
-        Some(n) => execute_program(alloc, me, lent.own, lent.home, n, place),
-        None => execute_immediate(alloc, me, lent.own, lent.home, place),
+        Some(n) => match lent.home.line(n) {
+            Some(line) => plan_on(alloc, me, lent.own, lent.home, line.atoms, place),
+            None => Ok(Planned::Done(Outcome::Ready)),
+        },
+        None => match copy_of_line(alloc, &me.immediate)? {
+            Some(line) => plan_on(alloc, me, lent.own, lent.home, &line, place),
+            None => Ok(Planned::Done(Outcome::Ready)),
+        },
     }
 }

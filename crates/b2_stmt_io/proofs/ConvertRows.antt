@@ -21,13 +21,10 @@ use Rattle.b2_rows.specs.Rows.{is_part, tree_at, after_part, When}
 use Rattle.b2_rows.specs.Values.{image_of}
 use Rattle.b2_rows.proofs.Levels.{part_no_longer}
 use Rattle.b2_rows.proofs.RowsRead.{part_short, stands_of}
-use Rattle.b2_expr.specs.Value.{in_statement, text, value}
+use Rattle.b2_expr.specs.Value.{context_of, text, value}
+use Rattle.b2_expr.specs.Workspace.{WorkState}
 use Rattle.b2_expr.specs.declared.operators.Level.TheVariants as level
-use Rattle.b2_text.specs.Program.{TextState}
-use Rattle.b2_vars.specs.Tables.{VarsState}
-use Rattle.b2_expr.specs.Scope.{surroundings_of}
 use Rattle.b2_stmt_io.specs.Converting.{converts, converts_bytes, converts_number, image_from, number_from}
-use Rattle.b2_vars.specs.declared.setting.Setting.{Setting}
 
 -- of bytes
 abbrev bytes_items : List Item
@@ -43,10 +40,10 @@ bytes_here t ok = (stands_of row.CONVERT_ALPHA bytes_items t bytes_row ok).0.0
 pub bytes_receiver : (t : Text) → is_part row.CONVERT_ALPHA t ≡ true → is_part row.NUMERIC_RECEIVER (drop 1 (after_part row.ALPHA t)) ≡ true
 bytes_receiver t ok = (stands_of row.CONVERT_ALPHA bytes_items t bytes_row ok).0.1.1.0
 
-pub bytes_are : (a : Setting) (home : TextState) (t : Text) (vars : VarsState) → is_part row.CONVERT_ALPHA t ≡ true
-    → converts_bytes a home (tree_at row.CONVERT_ALPHA t) vars
-    ≡ number_from a home (text (in_statement (surroundings_of a vars home)) (tree_at row.ALPHA t)) (tree_at row.NUMERIC_RECEIVER (drop 1 (after_part row.ALPHA t))) vars
-bytes_are a home t vars ok = ap (λ (u : Trees). converts_bytes a home u vars) (stands_of row.CONVERT_ALPHA bytes_items t bytes_row ok).1
+pub bytes_are : (t : Text) (w : WorkState) → is_part row.CONVERT_ALPHA t ≡ true
+    → converts_bytes (tree_at row.CONVERT_ALPHA t) w
+    ≡ number_from (text (context_of w) (tree_at row.ALPHA t)) (tree_at row.NUMERIC_RECEIVER (drop 1 (after_part row.ALPHA t))) w
+bytes_are t w ok = ap (λ (u : Trees). converts_bytes u w) (stands_of row.CONVERT_ALPHA bytes_items t bytes_row ok).1
 
 -- of a number
 abbrev number_items : List Item
@@ -97,10 +94,10 @@ image_short t ok =
     let f = image_text_short t ok in
     image_of_short (leaf_bytes leaf.Image (image_text t)) (omega (arith, e, f))
 
-pub number_is : (a : Setting) (home : TextState) (t : Text) (vars : VarsState) → is_part row.CONVERT_NUMBER t ≡ true
-    → converts_number a home (tree_at row.CONVERT_NUMBER t) vars
-    ≡ image_from a home (value (in_statement (surroundings_of a vars home)) level.Sum (tree_at row.SUM t)) (image_of (leaf_bytes leaf.Image (image_text t))) (tree_at row.ALPHA_RECEIVER (receiver_text t)) vars
-number_is a home t vars ok = ap (λ (u : Trees). converts_number a home u vars) (stands_of row.CONVERT_NUMBER number_items t number_row ok).1
+pub number_is : (t : Text) (w : WorkState) → is_part row.CONVERT_NUMBER t ≡ true
+    → converts_number (tree_at row.CONVERT_NUMBER t) w
+    ≡ image_from (value (context_of w) level.Sum (tree_at row.SUM t)) (image_of (leaf_bytes leaf.Image (image_text t))) (tree_at row.ALPHA_RECEIVER (receiver_text t)) w
+number_is t w ok = ap (λ (u : Trees). converts_number u w) (stands_of row.CONVERT_NUMBER number_items t number_row ok).1
 
 -- CONVERT
 abbrev convert_items : List Item
@@ -124,21 +121,21 @@ alpha_here t ok is = (taken_way (starts Atoms start.Alpha (drop 1 t)) _ _ is (st
 pub other_here : (t : Text) → is_part row.CONVERT t ≡ true → starts Atoms start.Alpha (drop 1 t) ≡ false → is_part row.CONVERT_NUMBER (drop 1 t) ≡ true
 other_here t ok is = (other_way (starts Atoms start.Alpha (drop 1 t)) _ _ is (stands_of row.CONVERT convert_items t convert_row ok).0.1).0
 
-converts_by : (a : Setting) (home : TextState) (vars : VarsState) (b c : Bool) (x y : Trees) → b ≡ c
-    → converts a home (Put (Coded word.CONVERT) (if b then In 1 x Done else In 0 y Done)) vars ≡ (if c then converts_bytes a home x vars else converts_number a home y vars)
-converts_by a home vars true true x y is = refl
-converts_by a home vars false false x y is = refl
-converts_by a home vars true false x y is = cc
-converts_by a home vars false true x y is = cc
+converts_by : (w : WorkState) (b c : Bool) (x y : Trees) → b ≡ c
+    → converts (Put (Coded word.CONVERT) (if b then In 1 x Done else In 0 y Done)) w ≡ (if c then converts_bytes x w else converts_number y w)
+converts_by w true true x y is = refl
+converts_by w false false x y is = refl
+converts_by w true false x y is = cc
+converts_by w false true x y is = cc
 
-pub alpha_is : (a : Setting) (home : TextState) (t : Text) (vars : VarsState) → is_part row.CONVERT t ≡ true → starts Atoms start.Alpha (drop 1 t) ≡ true
-    → converts a home (tree_at row.CONVERT t) vars ≡ converts_bytes a home (tree_at row.CONVERT_ALPHA (drop 1 t)) vars
-alpha_is a home t vars ok is =
-    ap (λ (u : Trees). converts a home u vars) (stands_of row.CONVERT convert_items t convert_row ok).1
-    ∙ converts_by a home vars (starts Atoms start.Alpha (drop 1 t)) true (tree_at row.CONVERT_ALPHA (drop 1 t)) (tree_at row.CONVERT_NUMBER (drop 1 t)) is
+pub alpha_is : (t : Text) (w : WorkState) → is_part row.CONVERT t ≡ true → starts Atoms start.Alpha (drop 1 t) ≡ true
+    → converts (tree_at row.CONVERT t) w ≡ converts_bytes (tree_at row.CONVERT_ALPHA (drop 1 t)) w
+alpha_is t w ok is =
+    ap (λ (u : Trees). converts u w) (stands_of row.CONVERT convert_items t convert_row ok).1
+    ∙ converts_by w (starts Atoms start.Alpha (drop 1 t)) true (tree_at row.CONVERT_ALPHA (drop 1 t)) (tree_at row.CONVERT_NUMBER (drop 1 t)) is
 
-pub other_is : (a : Setting) (home : TextState) (t : Text) (vars : VarsState) → is_part row.CONVERT t ≡ true → starts Atoms start.Alpha (drop 1 t) ≡ false
-    → converts a home (tree_at row.CONVERT t) vars ≡ converts_number a home (tree_at row.CONVERT_NUMBER (drop 1 t)) vars
-other_is a home t vars ok is =
-    ap (λ (u : Trees). converts a home u vars) (stands_of row.CONVERT convert_items t convert_row ok).1
-    ∙ converts_by a home vars (starts Atoms start.Alpha (drop 1 t)) false (tree_at row.CONVERT_ALPHA (drop 1 t)) (tree_at row.CONVERT_NUMBER (drop 1 t)) is
+pub other_is : (t : Text) (w : WorkState) → is_part row.CONVERT t ≡ true → starts Atoms start.Alpha (drop 1 t) ≡ false
+    → converts (tree_at row.CONVERT t) w ≡ converts_number (tree_at row.CONVERT_NUMBER (drop 1 t)) w
+other_is t w ok is =
+    ap (λ (u : Trees). converts u w) (stands_of row.CONVERT convert_items t convert_row ok).1
+    ∙ converts_by w (starts Atoms start.Alpha (drop 1 t)) false (tree_at row.CONVERT_ALPHA (drop 1 t)) (tree_at row.CONVERT_NUMBER (drop 1 t)) is

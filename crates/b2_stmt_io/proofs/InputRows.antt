@@ -1,8 +1,6 @@
 -- INPUT by its rows: its prompt, its receivers, and the kinds of them.
-use Rattle.std.proofs.Common.{◌≡◌, ◌<◌, ℕ, ◌==◌, true, false, List, [], ◌∷◌, length, drop, Ok, refl, ap, ◌∙◌}
-use Rattle.b2_base.specs.Byte as byte
-use Rattle.b2_base.specs.Lexical.{first, skip_blanks}
-use Rattle.b2_base.specs.declared.codes.TheConstants.{S13_SEPARATOR}
+use Rattle.std.proofs.Common.{◌≡◌, ℕ, true, false, List, [], ◌∷◌, drop, Ok, refl, ap, ◌∙◌}
+use Rattle.b2_base.specs.Lexical.{skip_blanks}
 use Rattle.b2_alpha.specs.Values.{value_of}
 use Rattle.b2_atom.specs.Words.{Text}
 use Rattle.b2_atom.specs.Tokens.Token.{Coded}
@@ -16,19 +14,16 @@ use Rattle.b2_atom.specs.declared.forms.Start.TheVariants as start
 use Rattle.b2_atom.specs.declared.forms.Item.{Item}
 use Rattle.b2_atom.specs.declared.forms.Item.TheVariants.{Word, Part, Maybe, Many}
 use Rattle.b2_rows.specs.Choices.{ReadAs, first_branch, second_branch}
-use Rattle.b2_rows.specs.Rows.{is_part, tree_at, after_part, list_at}
+use Rattle.b2_rows.specs.Rows.{is_part, tree_at, list_at}
 use Rattle.b2_rows.specs.Optional.{maybe_part, maybe_tree}
 use Rattle.b2_rows.proofs.Choices.{either_first, either_second}
 use Rattle.b2_rows.proofs.RowsRead.{stands_of}
-use Rattle.b2_text.specs.Program.{TextState}
-use Rattle.b2_vars.specs.Tables.{VarsState}
 use Rattle.b2_stmt_io.specs.Inputs.{take_parts, takes_part, takes_parts, takes_some}
 use Rattle.b2_stmt_io.specs.LineReading.{after_prompt, prompt_of, prompt_there}
-use Rattle.b2_rows.specs.CommaLists.{all_listed, commas, are_others, others_at, past_first, receivers_at}
-use Rattle.b2_expr.specs.Receiving.{assign_bytes_at, assign_number_at}
+use Rattle.b2_rows.specs.CommaLists.{all_listed, commas, are_others, past_first, receivers_at}
+use Rattle.b2_expr.specs.Workspace.{WorkState}
+use Rattle.b2_receiver.specs.Receiving.{assign_bytes_at, assign_number_at}
 use Rattle.b2_stmt_io.specs.TypedText.{typed_parts, typed_number}
-use Rattle.b2_vars.specs.declared.setting.Setting.{Setting}
-use Rattle.b2_rows.proofs.CommaLists.{IsComma, Other, other, no_items_left, items_of_other, item_shorter}
 use Rattle.b2_stmt_io.proofs.LeftOut.{maybe_put, maybe_then}
 use Rattle.b2_stmt_io.proofs.PromptRows.{after_is, prompt_is, quoted, rest_at}
 
@@ -44,36 +39,16 @@ number_read t ok is = either_second row.RECEIVER row.ALPHA_RECEIVER row.NUMERIC_
 pub alpha_here : (t : Text) → is_part row.RECEIVER t ≡ true → starts Atoms start.Alpha t ≡ true → is_part row.ALPHA_RECEIVER t ≡ true
 alpha_here t ok is = ReadAs.part (alpha_read t ok is)
 
-pub alpha_is : (a : Setting) (home : TextState) (part : List ℕ) (t : Text) (vars : VarsState) → is_part row.RECEIVER t ≡ true → starts Atoms start.Alpha t ≡ true
-    → takes_some a home part (tree_at row.RECEIVER t) vars ≡ assign_bytes_at a home (Ok (value_of (skip_blanks part))) (tree_at row.ALPHA_RECEIVER t) vars
-alpha_is a home part t vars ok is = ap (λ (u : Trees). takes_some a home part u vars) (ReadAs.tree (alpha_read t ok is))
+pub alpha_is : (part : List ℕ) (t : Text) (w : WorkState) → is_part row.RECEIVER t ≡ true → starts Atoms start.Alpha t ≡ true
+    → takes_some part (tree_at row.RECEIVER t) w ≡ assign_bytes_at (Ok (value_of (skip_blanks part))) (tree_at row.ALPHA_RECEIVER t) w
+alpha_is part t w ok is = ap (λ (u : Trees). takes_some part u w) (ReadAs.tree (alpha_read t ok is))
 
 pub number_here : (t : Text) → is_part row.RECEIVER t ≡ true → starts Atoms start.Alpha t ≡ false → is_part row.NUMERIC_RECEIVER t ≡ true
 number_here t ok is = ReadAs.part (number_read t ok is)
 
-pub number_is : (a : Setting) (home : TextState) (part : List ℕ) (t : Text) (vars : VarsState) → is_part row.RECEIVER t ≡ true → starts Atoms start.Alpha t ≡ false
-    → takes_some a home part (tree_at row.RECEIVER t) vars ≡ assign_number_at a home (typed_number part) (tree_at row.NUMERIC_RECEIVER t) vars
-number_is a home part t vars ok is = ap (λ (u : Trees). takes_some a home part u vars) (ReadAs.tree (number_read t ok is))
-
--- further receivers
-comma_row : IsComma row.COMMA_RECEIVER row.RECEIVER S13_SEPARATOR
-unfolding row_items
-comma_row = refl
-
-pub other_part : (t : Text) → are_others t ≡ true → (first t == byte.comma) ≡ true → is_part row.RECEIVER (drop 1 t) ≡ true
-other_part t ok is = Other.part (other row.COMMA_RECEIVER row.RECEIVER S13_SEPARATOR t comma_row ok is)
-
-pub other_list : (t : Text) → are_others t ≡ true → (first t == byte.comma) ≡ true → are_others (past_first (drop 1 t)) ≡ true
-other_list t ok is = Other.list (other row.COMMA_RECEIVER row.RECEIVER S13_SEPARATOR t comma_row ok is)
-
-pub other_items : (t : Text) → are_others t ≡ true → (first t == byte.comma) ≡ true → others_at t ≡ receivers_at (drop 1 t)
-other_items t ok is = items_of_other row.COMMA_RECEIVER row.RECEIVER S13_SEPARATOR Done t comma_row ok is
-
-pub no_items : (t : Text) → (first t == byte.comma) ≡ false → others_at t ≡ []
-no_items t is = no_items_left row.COMMA_RECEIVER Done t is
-
-pub receiver_shorter : (t : Text) → (first (after_part row.RECEIVER t) == byte.comma) ≡ true → length (drop 1 (after_part row.RECEIVER t)) < length t
-receiver_shorter t is = item_shorter row.RECEIVER t is
+pub number_is : (part : List ℕ) (t : Text) (w : WorkState) → is_part row.RECEIVER t ≡ true → starts Atoms start.Alpha t ≡ false
+    → takes_some part (tree_at row.RECEIVER t) w ≡ assign_number_at (typed_number part) (tree_at row.NUMERIC_RECEIVER t) w
+number_is part t w ok is = ap (λ (u : Trees). takes_some part u w) (ReadAs.tree (number_read t ok is))
 
 -- INPUT
 abbrev input_items : List Item
@@ -110,6 +85,6 @@ input_shows t ok = ap prompt_of (input_tree t ok) ∙ prompt_is word.INPUT (drop
 input_to : (t : Text) → is_part row.INPUT t ≡ true → all_listed (after_prompt (tree_at row.INPUT t)) ≡ receivers_at (rest_at t)
 input_to t ok = ap (λ (a : Trees). all_listed (after_prompt a)) (input_tree t ok) ∙ ap all_listed (after_is word.INPUT (drop 1 t) (receivers_tree (rest_at t)))
 
-pub input_is : (a : Setting) (home : TextState) (line : List ℕ) (t : Text) (vars : VarsState) → is_part row.INPUT t ≡ true
-    → takes_parts a home line (tree_at row.INPUT t) vars ≡ take_parts (takes_part a home) (receivers_at (rest_at t)) (typed_parts line) vars
-input_is a home line t vars ok = ap (λ (ts : List Trees). take_parts (takes_part a home) ts (typed_parts line) vars) (input_to t ok)
+pub input_is : (line : List ℕ) (t : Text) (w : WorkState) → is_part row.INPUT t ≡ true
+    → takes_parts line (tree_at row.INPUT t) w ≡ take_parts takes_part (receivers_at (rest_at t)) (typed_parts line) w
+input_is line t w ok = ap (λ (ts : List Trees). take_parts takes_part ts (typed_parts line) w) (input_to t ok)

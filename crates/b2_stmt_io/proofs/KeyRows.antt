@@ -28,8 +28,9 @@ use Rattle.b2_access.specs.declared.private.Private.{Private}
 use Rattle.b2_access.specs.Partition.{setting_of}
 use Rattle.b2_access.specs.Going.{to_line}
 use Rattle.b2_stmt_io.specs.Keys.{key_leads, key_assigned, waits, without_key}
-use Rattle.b2_access.specs.Planning.{with_assigned}
-use Rattle.b2_expr.specs.Receiving.{assign_bytes_at}
+use Rattle.b2_access.specs.Working.{with_variables, work_of}
+use Rattle.b2_receiver.specs.Receiving.{assign_bytes_at}
+use Rattle.b2_expr.specs.Workspace.{own_of, work_in}
 
 abbrev lines_items : List Item
 lines_items = Sign byte.comma S13_SEPARATOR ∷ Typed leaf.LineNumber S15_LINE_NUMBER ∷ Sign byte.comma S13_SEPARATOR ∷ Typed leaf.LineNumber S15_LINE_NUMBER ∷ []
@@ -100,8 +101,8 @@ key_tree t ok = (stands_of row.KEYIN key_items t key_row ok).1
 
 pub takes_key_is : (key : ℕ) (special : Bool) (home : TextState) (p : Place) (t : Text) (me : Private) → is_part row.KEYIN t ≡ true
     → key_assigned key special home p (tree_at row.KEYIN t) me
-    ≡ with_assigned (assign_bytes_at (setting_of me) home (Ok (key ∷ [])) (tree_at row.ALPHA_RECEIVER (drop 1 t)) me.vars)
-    (key_leads special home.lines p (maybe_tree (start.Code byte.comma) row.COMMA_TWO_LINES (after_receiver t))) me
+    ≡ with_variables (own_of (assign_bytes_at (Ok (key ∷ [])) (tree_at row.ALPHA_RECEIVER (drop 1 t)) (work_in (setting_of me) home me.vars)))
+    (key_leads special home.lines p (maybe_tree (start.Code byte.comma) row.COMMA_TWO_LINES (after_receiver t))) (work_of me)
 takes_key_is key special home p t me ok = ap (λ (a : Trees). key_assigned key special home p a me) (key_tree t ok)
 
 waits_by : (t : Text) (b : Bool) → (first t == byte.comma) ≡ b → waits (maybe_tree (start.Code byte.comma) row.COMMA_TWO_LINES t) ≡ (if b then outcome.Next else outcome.Repeat)

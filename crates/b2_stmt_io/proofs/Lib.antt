@@ -1,9 +1,7 @@
 pub mod Refusals
 pub mod LeftOut
 pub mod Finished
-pub mod Found
 pub mod KeyRows
-pub mod MarkRows
 pub mod PromptRows
 pub mod ConvertRows
 pub mod InputRows
@@ -16,3 +14,4 @@ pub mod Planned
 pub mod HomesKept
 pub mod KeptPlaces
 pub mod Waits
+pub mod LeftAlone

@@ -8,13 +8,11 @@ use Rattle.b2_base.specs.Lexical.{first}
 use Rattle.b2_alpha.specs.Values.{value_of}
 use Rattle.b2_atom.specs.Words.{Text}
 use Rattle.b2_atom.specs.Tree.{Trees}
-use Rattle.b2_vars.specs.Tables.{VarsState}
-use Rattle.b2_vars.specs.Assigned.{Assigned}
-use Rattle.b2_expr.specs.Assigning.{then_assigned, unless_coded}
-use Rattle.b2_stmt_io.specs.Inputs.{take_parts, unchanged}
+use Rattle.b2_expr.specs.Workspace.{WorkState, WorkLeft, then_works, unchanged, unless_coded}
+use Rattle.b2_stmt_io.specs.Inputs.{take_parts}
 use Rattle.b2_rows.specs.CommaLists.{are_others, others_at, receivers_at}
 use Rattle.b2_stmt_io.specs.TypedText.{is_within_part, onto_first, typed_parts}
-use Rattle.b2_stmt_io.proofs.InputRows.{no_items, other_items}
+use Rattle.b2_receiver.proofs.ReceiverLists.{no_items, other_items}
 
 -- the front of bytes that is as long as another front of them
 front_again : (n : ℕ) (xs : List ℕ) → take (length (take n xs)) xs ≡ take n xs
@@ -49,29 +47,29 @@ parts_are (b ∷ bs) =
 
 -- a receiver that took its part, and the others
 abbrev One : Type 0
-One = Trees → List ℕ → VarsState → Assigned
+One = Trees → List ℕ → WorkState → WorkLeft
 
-taken : (one : One) (t : Trees) (ts : List Trees) (line : List ℕ) (old : VarsState)
-    → take_parts one (t ∷ ts) (typed_parts line) old ≡ then_assigned (one t (take (width_of line) line) old) (take_parts one ts (further_parts (drop (width_of line) line)))
+taken : (one : One) (t : Trees) (ts : List Trees) (line : List ℕ) (old : WorkState)
+    → take_parts one (t ∷ ts) (typed_parts line) old ≡ then_works (one t (take (width_of line) line) old) (take_parts one ts (further_parts (drop (width_of line) line)))
 taken one t ts line old = ap (λ (ps : List (List ℕ)). take_parts one (t ∷ ts) ps old) (parts_are line)
 
-pub part_more : (one : One) (t : Trees) (ts : List Trees) (line : List ℕ) (old new : VarsState) (code : Option ℕ)
-    → record { vars = new; code = code } ≡ one t (take (width_of line) line) old → code ≡ None
+pub part_more : (one : One) (t : Trees) (ts : List Trees) (line : List ℕ) (old new : WorkState) (code : Option ℕ)
+    → record { work = new; code = code } ≡ one t (take (width_of line) line) old → code ≡ None
     → take_parts one ts (further_parts (drop (width_of line) line)) new ≡ take_parts one (t ∷ ts) (typed_parts line) old
 part_more one t ts line old new code is none =
     let next = take_parts one ts (further_parts (drop (width_of line) line)) in
-    sym (ap (λ (c : Option ℕ). unless_coded c new next) none) ∙ ap (λ (a : Assigned). then_assigned a next) is ∙ sym (taken one t ts line old)
+    sym (ap (λ (c : Option ℕ). unless_coded c new next) none) ∙ ap (λ (r : WorkLeft). then_works r next) is ∙ sym (taken one t ts line old)
 
-coded_by : (one : One) (t : Trees) (ts : List Trees) (line : List ℕ) (old new : VarsState) (code : Option ℕ) (c : ℕ)
-    → record { vars = new; code = code } ≡ one t (take (width_of line) line) old → code ≡ Some c
-    → take_parts one (t ∷ ts) (typed_parts line) old ≡ record { vars = new; code = code }
+coded_by : (one : One) (t : Trees) (ts : List Trees) (line : List ℕ) (old new : WorkState) (code : Option ℕ) (c : ℕ)
+    → record { work = new; code = code } ≡ one t (take (width_of line) line) old → code ≡ Some c
+    → take_parts one (t ∷ ts) (typed_parts line) old ≡ record { work = new; code = code }
 coded_by one t ts line old new code c is some =
     let next = take_parts one ts (further_parts (drop (width_of line) line)) in
-    taken one t ts line old ∙ sym (ap (λ (a : Assigned). then_assigned a next) is) ∙ ap (λ (o : Option ℕ). unless_coded o new next) some ∙ ap (λ (o : Option ℕ). record { vars = new; code = o }) (sym some)
+    taken one t ts line old ∙ sym (ap (λ (r : WorkLeft). then_works r next) is) ∙ ap (λ (o : Option ℕ). unless_coded o new next) some ∙ ap (λ (o : Option ℕ). record { work = new; code = o }) (sym some)
 
-pub part_coded : (one : One) (t : Trees) (ts : List Trees) (line : List ℕ) (old new : VarsState) (code : Option ℕ)
-    → record { vars = new; code = code } ≡ one t (take (width_of line) line) old → is_some code ≡ true
-    → record { vars = new; code = code } ≡ take_parts one (t ∷ ts) (typed_parts line) old
+pub part_coded : (one : One) (t : Trees) (ts : List Trees) (line : List ℕ) (old new : WorkState) (code : Option ℕ)
+    → record { work = new; code = code } ≡ one t (take (width_of line) line) old → is_some code ≡ true
+    → record { work = new; code = code } ≡ take_parts one (t ∷ ts) (typed_parts line) old
 part_coded one t ts line old new None is some = cc
 part_coded one t ts line old new (Some c) is some = sym (coded_by one t ts line old new (Some c) c is refl)
 
@@ -80,21 +78,21 @@ none_of None is = refl
 none_of (Some c) is = cc
 
 -- no further receiver, no further part, or both
-pub no_more : (one : One) (t : Text) (ps : List (List ℕ)) (vars : VarsState) → (first t == byte.comma) ≡ false → take_parts one (others_at t) ps vars ≡ unchanged vars
-no_more one t ps vars is = ap (λ (ts : List Trees). take_parts one ts ps vars) (no_items t is)
+pub no_more : (one : One) (t : Text) (ps : List (List ℕ)) (w : WorkState) → (first t == byte.comma) ≡ false → take_parts one (others_at t) ps w ≡ unchanged w
+no_more one t ps w is = ap (λ (ts : List Trees). take_parts one ts ps w) (no_items t is)
 
-without_parts : (one : One) (ts : List Trees) (vars : VarsState) → take_parts one ts [] vars ≡ unchanged vars
-without_parts one [] vars = refl
-without_parts one (t ∷ ts) vars = refl
+without_parts : (one : One) (ts : List Trees) (w : WorkState) → take_parts one ts [] w ≡ unchanged w
+without_parts one [] w = refl
+without_parts one (t ∷ ts) w = refl
 
 not_none : (b : ℕ) (bs : List ℕ) → (length (b ∷ bs) == 0) ≡ true → ⊥
 not_none b bs is = grind (arith, nat_tests)
 
-pub none_left : (one : One) (ts : List Trees) (after : List ℕ) (vars : VarsState) → (length after == 0) ≡ true → take_parts one ts (further_parts after) vars ≡ unchanged vars
-none_left one ts [] vars is = without_parts one ts vars
-none_left one ts (b ∷ bs) vars is = absurd (not_none b bs is)
+pub none_left : (one : One) (ts : List Trees) (after : List ℕ) (w : WorkState) → (length after == 0) ≡ true → take_parts one ts (further_parts after) w ≡ unchanged w
+none_left one ts [] w is = without_parts one ts w
+none_left one ts (b ∷ bs) w is = absurd (not_none b bs is)
 
-pub key_leads : (one : One) (t : Text) (after : List ℕ) (vars : VarsState) → are_others t ≡ true → (first t == byte.comma) ≡ true → (length after == 0) ≡ false
-    → take_parts one (receivers_at (drop 1 t)) (typed_parts (drop 1 after)) vars ≡ take_parts one (others_at t) (further_parts after) vars
-key_leads one t [] vars ok is some = cc
-key_leads one t (b ∷ bs) vars ok is some = ap (λ (ts : List Trees). take_parts one ts (typed_parts bs) vars) (sym (other_items t ok is))
+pub key_leads : (one : One) (t : Text) (after : List ℕ) (w : WorkState) → are_others t ≡ true → (first t == byte.comma) ≡ true → (length after == 0) ≡ false
+    → take_parts one (receivers_at (drop 1 t)) (typed_parts (drop 1 after)) w ≡ take_parts one (others_at t) (further_parts after) w
+key_leads one t [] w ok is some = cc
+key_leads one t (b ∷ bs) w ok is some = ap (λ (ts : List Trees). take_parts one ts (typed_parts bs) w) (sym (other_items t ok is))

@@ -1,5 +1,5 @@
 -- INPUT and LINPUT by their rows: a prompt, and what stands after it.
-use Rattle.std.proofs.Common.{◌≡◌, ℕ, ◌==◌, Bool, true, false, if◌then◌else◌, List, [], ◌∷◌, drop, Ok, refl, ap, ◌∙◌}
+use Rattle.std.proofs.Common.{◌≡◌, ℕ, ◌==◌, Bool, true, false, if◌then◌else◌, List, [], ◌∷◌, drop, refl, ap, ◌∙◌}
 use Rattle.b2_base.specs.Byte as byte
 use Rattle.b2_base.specs.Lexical.{first}
 use Rattle.b2_base.specs.declared.codes.TheConstants.{S13_SEPARATOR}
@@ -23,13 +23,9 @@ use Rattle.b2_rows.specs.Optional.{maybe_part, maybe_tree, after_maybe}
 use Rattle.b2_rows.specs.Values.{literal_of}
 use Rattle.b2_rows.proofs.Optional.{begun_part, begun_tree, begun_rest, left_out_tree, left_out_rest}
 use Rattle.b2_rows.proofs.RowsRead.{stands_of}
-use Rattle.b2_text.specs.Program.{TextState}
-use Rattle.b2_vars.specs.Tables.{VarsState}
-use Rattle.b2_stmt_io.specs.LineReading.{after_prompt, prompt_bytes, prompt_of, prompt_there, receiver_of, takes_line}
-use Rattle.b2_expr.specs.Receiving.{assign_bytes_at}
-use Rattle.b2_vars.specs.declared.setting.Setting.{Setting}
+use Rattle.b2_stmt_io.specs.LineReading.{after_prompt, prompt_bytes, prompt_of, prompt_there, receiver_of}
 use Rattle.b2_stmt_io.proofs.LeftOut.{maybe_put, maybe_then}
-use Rattle.b2_stmt_io.proofs.MarkRows.{after_literal, literal_here, literal_tree}
+use Rattle.b2_access.proofs.MarkRows.{after_literal, literal_here, literal_tree}
 
 abbrev pub quoted : Start
 quoted = start.Code byte.quote
@@ -120,9 +116,5 @@ linput_tree t ok =
 pub linput_shows : (t : Text) → is_part row.LINPUT t ≡ true → prompt_of (tree_at row.LINPUT t) ≡ prompt_there (maybe_tree quoted row.PROMPT (drop 1 t))
 linput_shows t ok = ap prompt_of (linput_tree t ok) ∙ prompt_is word.LINPUT (drop 1 t) (In 2 (tree_at row.ALPHA_RECEIVER (rest_at t)) Done)
 
-linput_to : (t : Text) → is_part row.LINPUT t ≡ true → receiver_of (after_prompt (tree_at row.LINPUT t)) ≡ tree_at row.ALPHA_RECEIVER (rest_at t)
+pub linput_to : (t : Text) → is_part row.LINPUT t ≡ true → receiver_of (after_prompt (tree_at row.LINPUT t)) ≡ tree_at row.ALPHA_RECEIVER (rest_at t)
 linput_to t ok = ap (λ (a : Trees). receiver_of (after_prompt a)) (linput_tree t ok) ∙ ap receiver_of (after_is word.LINPUT (drop 1 t) (In 2 (tree_at row.ALPHA_RECEIVER (rest_at t)) Done))
-
-pub linput_is : (a : Setting) (home : TextState) (line : List ℕ) (t : Text) (vars : VarsState) → is_part row.LINPUT t ≡ true
-    → takes_line a home line (tree_at row.LINPUT t) vars ≡ assign_bytes_at a home (Ok line) (tree_at row.ALPHA_RECEIVER (rest_at t)) vars
-linput_is a home line t vars ok = ap (λ (r : Trees). assign_bytes_at a home (Ok line) r vars) (linput_to t ok)

@@ -13,9 +13,10 @@ use Rattle.b2_access.specs.declared.private.Private.{Private}
 use Rattle.b2_access.specs.Partition.{setting_of}
 use Rattle.b2_rows.specs.LineNumbers.{line_in}
 use Rattle.b2_access.specs.Going.{to_line}
-use Rattle.b2_access.specs.Planning.{Ended, stays, with_assigned}
 use Rattle.b2_access.specs.Views.{KeyCame, ByteTyped, KeyPressed, NoKey, KeyLater, key_came}
-use Rattle.b2_expr.specs.Receiving.{assign_bytes_at}
+use Rattle.b2_access.specs.Working.{Worked, leaves, with_variables, work_of}
+use Rattle.b2_receiver.specs.Receiving.{assign_bytes_at}
+use Rattle.b2_expr.specs.Workspace.{own_of, work_in}
 
 -- the two lines that may be named
 abbrev pub first_named : Trees → ℕ
@@ -32,10 +33,10 @@ key_leads special lines p (In n named end) = if n == 1 then to_line lines p (if 
 key_leads special lines p t = outcome.Next
 
 -- the key, or the number of a special function key, is assigned as one byte, and then it goes on
-abbrev pub key_assigned : ℕ → Bool → TextState → Place → Trees → Private → Ended
+abbrev pub key_assigned : ℕ → Bool → TextState → Place → Trees → Private → Worked
 key_assigned key special home p (Put word (In n receiver lines)) me =
-    with_assigned (assign_bytes_at (setting_of me) home (Ok (key ∷ [])) receiver me.vars) (key_leads special home.lines p lines) me
-key_assigned key special home p t me = stays me (outcome.Failed S20_VARIABLE)
+    with_variables (own_of (assign_bytes_at (Ok (key ∷ [])) receiver (work_in (setting_of me) home me.vars))) (key_leads special home.lines p lines) (work_of me)
+key_assigned key special home p t me = leaves me (outcome.Failed S20_VARIABLE)
 
 -- without a key it goes on where lines are named, and else it waits
 abbrev pub waits : Trees → Outcome
@@ -47,11 +48,11 @@ without_key (Put word (In n receiver lines)) = waits lines
 without_key t = outcome.Repeat
 
 -- how KEYIN finishes
-abbrev pub key_taken_by : KeyCame → TextState → Place → Trees → Private → Ended
+abbrev pub key_taken_by : KeyCame → TextState → Place → Trees → Private → Worked
 key_taken_by (ByteTyped key) home p t me = key_assigned key false home p t me
 key_taken_by (KeyPressed n) home p t me = key_assigned n true home p t me
-key_taken_by NoKey home p t me = stays me (without_key t)
-key_taken_by KeyLater home p t me = stays me outcome.Repeat
+key_taken_by NoKey home p t me = leaves me (without_key t)
+key_taken_by KeyLater home p t me = leaves me outcome.Repeat
 
-abbrev pub key_taken : Access → Answer → TextState → Place → Trees → Private → Ended
+abbrev pub key_taken : Access → Answer → TextState → Place → Trees → Private → Worked
 key_taken x a home p t me = key_taken_by (key_came x a) home p t me

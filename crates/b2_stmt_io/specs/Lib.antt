@@ -2,7 +2,6 @@ pub mod TypedText
 pub mod Printing
 pub mod Showing
 pub mod Keys
-pub mod Marks
 pub mod LineReading
 pub mod Converting
 pub mod Inputs

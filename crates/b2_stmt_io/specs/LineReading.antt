@@ -4,7 +4,7 @@ use Rattle.b2_atom.specs.Tokens.Token.{Plain}
 use Rattle.b2_atom.specs.Tree.{Trees}
 use Rattle.b2_atom.specs.Tree.Trees.{Done, Put, In}
 use Rattle.b2_rows.specs.Values.{literal_of}
-use Rattle.b2_text.specs.Program.{Lines, TextState}
+use Rattle.b2_text.specs.Program.{Lines}
 use Rattle.b2_vars.specs.Tables.{VarsState}
 use Rattle.b2_vars.specs.Assigned.{Assigned}
 use Rattle.b2_access.specs.declared.accesses.Access.{Access}
@@ -12,12 +12,12 @@ use Rattle.b2_access.specs.declared.accesses.Access.TheVariants as access
 use Rattle.b2_access.specs.declared.accesses.Answer.{Answer}
 use Rattle.b2_access.specs.declared.planned.Outcome.TheVariants as outcome
 use Rattle.b2_access.specs.declared.private.Private.{Private}
-use Rattle.b2_stmt_io.specs.Marks.{typed_by_mark}
-use Rattle.b2_access.specs.Planning.{Ended, stays, with_assigned}
+use Rattle.b2_access.specs.Marks.{typed_by_mark}
 use Rattle.b2_access.specs.Views.{LineCame, PromptShown, LineEntered, LineLeft, LineLater, line_came}
-use Rattle.b2_expr.specs.Receiving.{assign_bytes_at}
+use Rattle.b2_access.specs.Working.{Worked, leaves, with_variables, work_of}
+use Rattle.b2_receiver.specs.Receiving.{assign_bytes_at}
+use Rattle.b2_expr.specs.Workspace.{WorkState, WorkLeft}
 use Rattle.b2_stmt_io.specs.Showing.{shows_from}
-use Rattle.b2_vars.specs.declared.setting.Setting.{Setting}
 
 -- the text of a prompt, no bytes where none is written
 abbrev pub prompt_bytes : Trees → List ℕ
@@ -46,24 +46,24 @@ abbrev pub receiver_of : Trees → Trees
 receiver_of (In n receiver end) = receiver
 receiver_of t = Done
 
-abbrev pub takes_line : Setting → TextState → List ℕ → Trees → VarsState → Assigned
-takes_line a home line t vars = assign_bytes_at a home (Ok line) (receiver_of (after_prompt t)) vars
+abbrev pub takes_line : List ℕ → Trees → WorkState → WorkLeft
+takes_line line t w = assign_bytes_at (Ok line) (receiver_of (after_prompt t)) w
 
 -- the prompt was shown, and the terminal is at this column
-abbrev pub prompted : ℕ → Private → Ended
-prompted column me = record { me = record me { term_column = column; prompted = true }; outcome = outcome.Repeat }
+abbrev pub prompted : ℕ → Private → Worked
+prompted column me = record { work = record (work_of me) { term_column = column; prompted = true }; outcome = outcome.Repeat }
 
 -- a special function key has its literal typed in the next step, where it has one
-abbrev pub types : Option (List ℕ) → Private → Ended
-types None me = stays me outcome.Repeat
-types (Some text) me = record { me = record me { literal = Some text }; outcome = outcome.Repeat }
+abbrev pub types : Option (List ℕ) → Private → Worked
+types None me = leaves me outcome.Repeat
+types (Some text) me = record { work = record (work_of me) { literal = Some text }; outcome = outcome.Repeat }
 
 -- how they finish: the prompt was shown, a line was read and is taken, or a special function key was; else the step is repeated
-abbrev pub line_answered_by : (List ℕ → VarsState → Assigned) → LineCame → Lines → Private → Ended
+abbrev pub line_answered_by : (List ℕ → VarsState → Assigned) → LineCame → Lines → Private → Worked
 line_answered_by takes (PromptShown column) own me = prompted column me
-line_answered_by takes (LineEntered line) own me = with_assigned (takes line me.vars) outcome.Next (record me { term_column = 0 })
+line_answered_by takes (LineEntered line) own me = with_variables (takes line me.vars) outcome.Next (record (work_of me) { term_column = 0 })
 line_answered_by takes (LineLeft n) own me = types (typed_by_mark n own) me
-line_answered_by takes LineLater own me = stays me outcome.Repeat
+line_answered_by takes LineLater own me = leaves me outcome.Repeat
 
-abbrev pub line_answered : (List ℕ → VarsState → Assigned) → Access → Answer → Lines → Private → Ended
+abbrev pub line_answered : (List ℕ → VarsState → Assigned) → Access → Answer → Lines → Private → Worked
 line_answered takes x a own me = line_answered_by takes (line_came x a) own me

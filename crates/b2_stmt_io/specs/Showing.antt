@@ -1,15 +1,11 @@
 -- What is shown at a terminal, with the column after it.
-use Rattle.std.specs.Prelude.{ℕ, List, Option, Some, None, Result, Ok, Err}
+use Rattle.std.specs.Prelude.{ℕ, List, Result, Ok, Err}
 use Rattle.b2_print.specs.Columns.{column_after}
 use Rattle.b2_access.specs.declared.accesses.Access.{Access}
 use Rattle.b2_access.specs.declared.accesses.Access.TheVariants as access
-use Rattle.b2_access.specs.declared.accesses.Answer.{Answer}
 use Rattle.b2_access.specs.declared.planned.Outcome.TheVariants as outcome
 use Rattle.b2_access.specs.declared.planned.Planned.{Planned}
 use Rattle.b2_access.specs.declared.planned.Planned.TheVariants as planned
-use Rattle.b2_access.specs.declared.private.Private.{Private}
-use Rattle.b2_access.specs.Planning.{Ended, stays}
-use Rattle.b2_access.specs.Views.{column_shown}
 
 -- what shows bytes as they are, at a terminal whose column is this one
 abbrev pub shows_from : ℕ → ℕ → List ℕ → Access
@@ -24,11 +20,3 @@ shows_bytes column term (Err code) = planned.Done (outcome.Failed code)
 abbrev pub shows_laid : ℕ → Result (List ℕ × ℕ) ℕ → Planned
 shows_laid term (Ok laid) = planned.Ask (access.Show term laid.0 laid.1)
 shows_laid term (Err code) = planned.Done (outcome.Failed code)
-
--- what was shown ends PRINT, PRINTUSING and LIST; unless it was, the step is repeated
-abbrev pub shown_where : Option ℕ → Private → Ended
-shown_where (Some column) me = record { me = record me { term_column = column }; outcome = outcome.Next }
-shown_where None me = stays me outcome.Repeat
-
-abbrev pub shown : Access → Answer → Private → Ended
-shown x a me = shown_where (column_shown x a) me

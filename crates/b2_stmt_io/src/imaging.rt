@@ -4,7 +4,7 @@ ghost use Rattle.b2_base.specs.Byte as byte;
 ghost use Rattle.b2_base.specs.Lexical.{first};
 ghost use Rattle.b2_base.specs.Refusals.{IsRefused};
 ghost use Rattle.b2_atom.specs.declared.rows.TheConstants as row;
-ghost use Rattle.b2_expr.specs.Assigning.{LendsOr};
+ghost use Rattle.b2_receiver.specs.Assigning.{LendsOr};
 ghost use Rattle.b2_expr.specs.Scope.{surroundings};
 ghost use Rattle.b2_expr.specs.Value.{in_statement};
 ghost use Rattle.b2_rows.specs.Rows.{is_part, tree_at};

@@ -5,6 +5,8 @@ ghost use Rattle.b2_atom.specs.declared.rows.TheConstants as row;
 ghost use Rattle.b2_rows.specs.Rows.{is_part, tree_at};
 ghost use Rattle.b2_access.specs.Answering.{can_answer};
 ghost use Rattle.b2_access.specs.Partition.{setting_of};
+ghost use Rattle.b2_access.specs.Working.{ended};
+ghost use Rattle.b2_expr.specs.Workspace.{own_of, work_in, workspace};
 ghost use Rattle.b2_stmt_io.specs.Inputs as spec;
 ghost use Rattle.b2_stmt_io.specs.LineReading.{asks_line, line_answered, prompt_of};
 ghost use Rattle.b2_rows.specs.CommaLists.{are_others, past_first, receivers_at};
@@ -17,10 +19,10 @@ use b2_alpha::value_len;
 use b2_atom::rows;
 use b2_base::lexical::{first_bytes, rest_after, skip_blanks};
 use b2_base::{Code, NoMemory, Term};
-use b2_expr::{assign_bytes_at, assign_number_at, past_any_receiver};
+use b2_expr::Workspace;
+use b2_receiver::{assign_bytes_at, assign_number_at, past_any_receiver};
 use b2_rows::{is_alpha_at, is_at};
 use b2_text::Text;
-use b2_vars::{Setting, Vars};
 use std::alloc::Global;
 
 /// Bytes without the blanks after them, but for the first.
@@ -33,58 +35,43 @@ fn item_value(bytes: &[u8]) -> &[u8]
 
 /// Assigns a part that isn't empty to the receiver at a text.
 #[tactic(auto, using(crate::proofs::InputRows::alpha_here, crate::proofs::InputRows::alpha_is, crate::proofs::InputRows::number_here, crate::proofs::InputRows::number_is))]
-fn some_to(
-    vars: &mut Vars,
-    a: &Setting,
-    home: &Text,
-    part: &[u8],
-    text: &[u8],
-) -> Result<Option<Code>, NoMemory>
+fn some_to(work: &mut Workspace<'_>, part: &[u8], text: &[u8]) -> Result<Option<Code>, NoMemory>
     requires part { is_part row.RECEIVER text.now ≡ true }
-    ensures { IfOk result (λ code. record { vars = vars.new; code = code } ≡ spec.takes_some a.now home.now part.now (tree_at row.RECEIVER text.now) vars.old) }
+    ensures worked { IfOk result (λ code. record { work = workspace work.new; code = code } ≡ spec.takes_some part.now (tree_at row.RECEIVER text.now) (workspace work.old)) }
+    ensures same_reference { work.new.own.ghost_name ≡ work.old.own.ghost_name }
 {
     if is_alpha_at(text) {
-        assign_bytes_at(vars, a, home, item_value(skip_blanks(part)), text)
+        assign_bytes_at(work, item_value(skip_blanks(part)), text)
     } else {
-        assign_number_at(vars, a, home, typed_number(part), text)
+        assign_number_at(work, typed_number(part), text)
     }
 }
 
 /// Assigns a part to the receiver at a text, unless it is empty.
-fn part_to(
-    vars: &mut Vars,
-    a: &Setting,
-    home: &Text,
-    part: &[u8],
-    text: &[u8],
-) -> Result<Option<Code>, NoMemory>
+fn part_to(work: &mut Workspace<'_>, part: &[u8], text: &[u8]) -> Result<Option<Code>, NoMemory>
     requires part { is_part row.RECEIVER text.now ≡ true }
-    ensures { IfOk result (λ code. record { vars = vars.new; code = code } ≡ spec.takes_part a.now home.now (tree_at row.RECEIVER text.now) part.now vars.old) }
+    ensures worked { IfOk result (λ code. record { work = workspace work.new; code = code } ≡ spec.takes_part (tree_at row.RECEIVER text.now) part.now (workspace work.old)) }
+    ensures same_reference { work.new.own.ghost_name ≡ work.old.own.ghost_name }
 {
     if skip_blanks(part).is_empty() {
         return Ok(None);
     }
-    some_to(vars, a, home, part, text)
+    some_to(work, part, text)
 }
 
 /// Assigns the parts of a line to the receivers that stand at a text, from left to right.
-#[tactic(auto, using(crate::proofs::Parted::part_more, crate::proofs::Parted::key_leads, crate::proofs::InputRows::other_part, crate::proofs::InputRows::other_list, crate::proofs::InputRows::receiver_shorter))]
-fn parts_to(
-    vars: &mut Vars,
-    a: &Setting,
-    home: &Text,
-    line: &[u8],
-    text: &[u8],
-) -> Result<Option<Code>, NoMemory>
+#[tactic(auto, using(crate::proofs::Parted::part_more, crate::proofs::Parted::key_leads, b2_receiver::proofs::ReceiverLists::other_part, b2_receiver::proofs::ReceiverLists::other_list, b2_receiver::proofs::ReceiverLists::receiver_shorter))]
+fn parts_to(work: &mut Workspace<'_>, line: &[u8], text: &[u8]) -> Result<Option<Code>, NoMemory>
     requires part { is_part row.RECEIVER text.now ≡ true }
     requires list { are_others (past_first text.now) ≡ true }
-    ensures { IfOk result (λ code. record { vars = vars.new; code = code } ≡ spec.take_parts (spec.takes_part a.now home.now) (receivers_at text.now) (typed_parts line.now) vars.old) }
+    ensures worked { IfOk result (λ code. record { work = workspace work.new; code = code } ≡ spec.take_parts spec.takes_part (receivers_at text.now) (typed_parts line.now) (workspace work.old)) }
+    ensures same_reference { work.new.own.ghost_name ≡ work.old.own.ghost_name }
 {
     let mut left = text;
     let mut typed = line;
     loop {
         let width = part_width(typed);
-        let code = part_to(vars, a, home, first_bytes(typed, width), left)?;
+        let code = part_to(work, first_bytes(typed, width), left)?;
         if code.is_some() {
             return Ok(code);
         }
@@ -103,17 +90,12 @@ fn parts_to(
 
 /// Assigns a line to the receivers of INPUT.
 #[tactic(auto, using(crate::proofs::InputRows::input_prompt, crate::proofs::InputRows::input_receiver, crate::proofs::InputRows::input_list, crate::proofs::InputRows::input_is))]
-fn take_parts(
-    vars: &mut Vars,
-    a: &Setting,
-    home: &Text,
-    line: &[u8],
-    unit: &[u8],
-) -> Result<Option<Code>, NoMemory>
+fn take_parts(work: &mut Workspace<'_>, line: &[u8], unit: &[u8]) -> Result<Option<Code>, NoMemory>
     requires part { is_part row.INPUT unit.now ≡ true }
-    ensures { IfOk result (λ code. record { vars = vars.new; code = code } ≡ spec.takes_parts a.now home.now line.now (tree_at row.INPUT unit.now) vars.old) }
+    ensures worked { IfOk result (λ code. record { work = workspace work.new; code = code } ≡ spec.takes_parts line.now (tree_at row.INPUT unit.now) (workspace work.old)) }
+    ensures same_reference { work.new.own.ghost_name ≡ work.old.own.ghost_name }
 {
-    parts_to(vars, a, home, line, past_prompt(rest_after(unit, 1)))
+    parts_to(work, line, past_prompt(rest_after(unit, 1)))
 }
 
 /// What INPUT asks for.
@@ -133,21 +115,20 @@ pub fn ask_input(
 
 /// Assigns a line to the receivers of a statement that read it, LINPUT or INPUT.
 fn take_typed(
-    vars: &mut Vars,
-    a: &Setting,
-    home: &Text,
+    work: &mut Workspace<'_>,
     kind: u16,
     line: &[u8],
     unit: &[u8],
 ) -> Result<Option<Code>, NoMemory>
     requires part { is_part kind unit.now ≡ true }
     requires reads { (kind == row.LINPUT || kind == row.INPUT) ≡ true }
-    ensures { IfOk result (λ code. record { vars = vars.new; code = code } ≡ spec.takes_typed kind a.now home.now line.now (tree_at kind unit.now) vars.old) }
+    ensures worked { IfOk result (λ code. record { work = workspace work.new; code = code } ≡ spec.takes_typed kind line.now (tree_at kind unit.now) (workspace work.old)) }
+    ensures same_reference { work.new.own.ghost_name ≡ work.old.own.ghost_name }
 {
     if kind == rows::LINPUT {
-        assign_line(vars, a, home, line, unit)
+        assign_line(work, line, unit)
     } else {
-        take_parts(vars, a, home, line, unit)
+        take_parts(work, line, unit)
     }
 }
 
@@ -164,13 +145,18 @@ fn after_reading(
     requires part { is_part kind unit.now ≡ true }
     requires reads { (kind == row.LINPUT || kind == row.INPUT) ≡ true }
     requires possible { can_answer (Access.ReadLine me.old.term) answer.now ≡ true }
-    ensures ended { IfOk result (λ o. record { me = me.new; outcome = o } ≡ line_answered (λ line vars. spec.takes_typed kind (setting_of me.old) home.now line (tree_at kind unit.now) vars) (Access.ReadLine me.old.term) answer.now own.now.lines me.old) }
+    ensures ended { IfOk result (λ o. record { me = me.new; outcome = o } ≡ ended me.old (line_answered (λ line vars. own_of (spec.takes_typed kind line (tree_at kind unit.now) (work_in (setting_of me.old) home.now vars))) (Access.ReadLine me.old.term) answer.now own.now.lines me.old)) }
     ensures part { me.new.part ≡ me.old.part }
 {
     match answer {
         Answer::Line(line) => {
             let setting = setting_of(me);
-            let code = take_typed(&mut me.vars, &setting, home, kind, line.bytes(), unit)?;
+            let mut work = Workspace {
+                own: &mut me.vars,
+                setting,
+                home,
+            };
+            let code = take_typed(&mut work, kind, line.bytes(), unit)?;
             me.term_column = 0;
             Ok(goes_or(Outcome::Next, code))
         }
@@ -194,7 +180,7 @@ pub fn after_line(
     requires part { is_part kind unit.now ≡ true }
     requires reads { (kind == row.LINPUT || kind == row.INPUT) ≡ true }
     requires possible { can_answer access.now answer.now ≡ true }
-    ensures ended { IfOk result (λ o. record { me = me.new; outcome = o } ≡ line_answered (λ line vars. spec.takes_typed kind (setting_of me.old) home.now line (tree_at kind unit.now) vars) access.now answer.now own.now.lines me.old) }
+    ensures ended { IfOk result (λ o. record { me = me.new; outcome = o } ≡ ended me.old (line_answered (λ line vars. own_of (spec.takes_typed kind line (tree_at kind unit.now) (work_in (setting_of me.old) home.now vars))) access.now answer.now own.now.lines me.old)) }
     ensures part { me.new.part ≡ me.old.part }
 {
     match access {

@@ -1,6 +1,7 @@
 // KEYIN: one key, and where it leads.
 ghost use Rattle.std.specs.Prelude.{◌≡◌, true, IfOk, drop};
 ghost use Rattle.b2_access.specs.Answering.{can_answer};
+ghost use Rattle.b2_access.specs.Working.{ended};
 ghost use Rattle.b2_base.specs.Byte as byte;
 ghost use Rattle.b2_atom.specs.declared.rows.TheConstants as row;
 ghost use Rattle.b2_atom.specs.declared.forms.Start.TheVariants as start;
@@ -11,8 +12,9 @@ ghost use Rattle.b2_stmt_io.specs.Keys as spec;
 use b2_access::{Access, Answer, Outcome, Private, goes_or, setting_of, to_line};
 use b2_base::NoMemory;
 use b2_base::lexical::rest_after;
-use b2_expr::{assign_bytes_at, past_alpha_receiver};
+use b2_expr::Workspace;
 use b2_flow::Place;
+use b2_receiver::{assign_bytes_at, past_alpha_receiver};
 use b2_rows::{is_at, line_at};
 use b2_text::Text;
 
@@ -50,12 +52,17 @@ fn assign_key(
     unit: &[u8],
 ) -> Result<Outcome, NoMemory>
     requires part { is_part row.KEYIN unit.now ≡ true }
-    ensures ended { IfOk result (λ o. record { me = me.new; outcome = o } ≡ spec.key_assigned key special home.now place (tree_at row.KEYIN unit.now) me.old) }
+    ensures ended { IfOk result (λ o. record { me = me.new; outcome = o } ≡ ended me.old (spec.key_assigned key special home.now place (tree_at row.KEYIN unit.now) me.old)) }
     ensures part { me.new.part ≡ me.old.part }
 {
     let setting = setting_of(me);
     let receiver = rest_after(unit, 1);
-    let code = assign_bytes_at(&mut me.vars, &setting, home, &[key], receiver)?;
+    let mut work = Workspace {
+        own: &mut me.vars,
+        setting,
+        home,
+    };
+    let code = assign_bytes_at(&mut work, &[key], receiver)?;
     Ok(goes_or(
         key_leads(special, home, place, past_alpha_receiver(receiver)),
         code,
@@ -86,7 +93,7 @@ pub fn after_key(
 ) -> Result<Outcome, NoMemory>
     requires part { is_part row.KEYIN unit.now ≡ true }
     requires possible { can_answer access.now answer.now ≡ true }
-    ensures ended { IfOk result (λ o. record { me = me.new; outcome = o } ≡ spec.key_taken access.now answer.now home.now place (tree_at row.KEYIN unit.now) me.old) }
+    ensures ended { IfOk result (λ o. record { me = me.new; outcome = o } ≡ ended me.old (spec.key_taken access.now answer.now home.now place (tree_at row.KEYIN unit.now) me.old)) }
     ensures part { me.new.part ≡ me.old.part }
 {
     let Access::Key { .. } = access else {

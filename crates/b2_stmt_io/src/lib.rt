@@ -3,7 +3,7 @@
 //! `plan` takes the statement at a partition's place: it ends at once, or asks that bytes are shown, or for a line or a key;
 //! `finish` does the rest by the answer. What each statement does is said by its row and its tree in `specs/`, a statement a
 //! file or two; `Plan` finds the unit and chooses among them. `is_built` tells which rows are built here.
-//! `laws` says which partitions a statement names.
+//! `laws` says what a statement leaves alone.
 //!
 //! Stands on `b2_expr` for values and receivers, on `b2_print` for lines and images, on `b2_dectext` for number text, on
 //! `b2_alpha`, on `b2_access` for the private state and loans, on `b2_rows` for units, and on `b2_text`, `b2_vars`, `b2_flow`,
@@ -16,12 +16,9 @@ mod inputs;
 mod keys;
 pub mod laws;
 mod line_reading;
-mod marks;
 mod planning;
 mod printing;
 mod showing;
 mod typed_text;
 
-pub use marks::typed_by_mark;
 pub use planning::{finish, is_built, plan, plan_found};
-pub use showing::{after_show, show_from};

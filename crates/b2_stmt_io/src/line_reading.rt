@@ -5,19 +5,20 @@ ghost use Rattle.b2_atom.specs.declared.rows.TheConstants as row;
 ghost use Rattle.b2_atom.specs.declared.forms.Start.TheVariants as start;
 ghost use Rattle.b2_rows.specs.Rows.{is_part, tree_at};
 ghost use Rattle.b2_rows.specs.Optional.{maybe_part, maybe_tree, after_maybe};
+ghost use Rattle.b2_expr.specs.Workspace.{workspace};
 ghost use Rattle.b2_stmt_io.specs.LineReading as spec;
-ghost use Rattle.b2_stmt_io.specs.Marks.{typed_by_mark};
+ghost use Rattle.b2_access.specs.Marks.{typed_by_mark};
+ghost use Rattle.b2_access.specs.Working.{ended};
 
-use crate::marks::typed_by_mark;
 use crate::showing::show_from;
-use b2_access::{Access, Outcome, Private};
+use b2_access::{Access, Outcome, Private, typed_by_mark};
 use b2_atom::literal_width;
 use b2_base::lexical::rest_after;
 use b2_base::{ByteList, Code, NoMemory, Term};
-use b2_expr::assign_bytes_at;
+use b2_expr::Workspace;
+use b2_receiver::assign_bytes_at;
 use b2_rows::{is_at, quoted_at};
 use b2_text::Text;
-use b2_vars::{Setting, Vars};
 use std::alloc::Global;
 
 /// The text of the prompt at a text, no bytes where none stands there.
@@ -81,23 +82,22 @@ pub fn ask_linput(
 }
 
 /// Assigns a line to the receiver of LINPUT.
-#[tactic(auto, using(crate::proofs::PromptRows::linput_prompt, crate::proofs::PromptRows::linput_receiver, crate::proofs::PromptRows::linput_is))]
+#[tactic(auto, using(crate::proofs::PromptRows::linput_prompt, crate::proofs::PromptRows::linput_receiver, crate::proofs::PromptRows::linput_to))]
 pub fn assign_line(
-    vars: &mut Vars,
-    a: &Setting,
-    home: &Text,
+    work: &mut Workspace<'_>,
     line: &[u8],
     unit: &[u8],
 ) -> Result<Option<Code>, NoMemory>
     requires part { is_part row.LINPUT unit.now ≡ true }
-    ensures { IfOk result (λ code. record { vars = vars.new; code = code } ≡ spec.takes_line a.now home.now line.now (tree_at row.LINPUT unit.now) vars.old) }
+    ensures worked { IfOk result (λ code. record { work = workspace work.new; code = code } ≡ spec.takes_line line.now (tree_at row.LINPUT unit.now) (workspace work.old)) }
+    ensures same_reference { work.new.own.ghost_name ≡ work.old.own.ghost_name }
 {
-    assign_bytes_at(vars, a, home, line, past_prompt(rest_after(unit, 1)))
+    assign_bytes_at(work, line, past_prompt(rest_after(unit, 1)))
 }
 
 /// After the prompt was shown, with the terminal at this column.
 pub fn prompt_shown(me: &mut Private, column: u16) -> Outcome
-    ensures ended { record { me = me.new; outcome = result } ≡ spec.prompted column me.old }
+    ensures ended { record { me = me.new; outcome = result } ≡ ended me.old (spec.prompted column me.old) }
     ensures part { me.new.part ≡ me.old.part }
 {
     me.term_column = column;
@@ -107,7 +107,7 @@ pub fn prompt_shown(me: &mut Private, column: u16) -> Outcome
 
 /// Has a special function key type its literal, where it has one.
 pub fn type_literal(alloc: Global, me: &mut Private, own: &Text, n: u8) -> Result<Outcome, NoMemory>
-    ensures ended { IfOk result (λ o. record { me = me.new; outcome = o } ≡ spec.types (typed_by_mark n own.now.lines) me.old) }
+    ensures ended { IfOk result (λ o. record { me = me.new; outcome = o } ≡ ended me.old (spec.types (typed_by_mark n own.now.lines) me.old)) }
     ensures part { me.new.part ≡ me.old.part }
 {
     if let Some(text) = typed_by_mark(own, n) {

@@ -8,7 +8,9 @@ ghost use Rattle.b2_vars.specs.Tables.{VarsState};
 ghost use Rattle.b2_text.specs.Program.{TextState, line_at};
 ghost use Rattle.b2_expr.specs.Scope.{surroundings};
 ghost use Rattle.b2_expr.specs.Value.{in_statement};
+ghost use Rattle.b2_access.specs.Courses.{course_at, units_on};
 ghost use Rattle.b2_access.specs.Placed.{statement_on as named_on};
+ghost use Rattle.b2_access.specs.Working.{ended, plans_by};
 ghost use Rattle.b2_stmt_io.specs.Plan as spec;
 
 use crate::converting::convert_unit;
@@ -16,15 +18,15 @@ use crate::imaging::ask_using;
 use crate::inputs::{after_line, ask_input};
 use crate::keys::after_key;
 use crate::line_reading::ask_linput;
-use crate::showing::{after_show, ask_print};
+use crate::showing::ask_print;
 use b2_access::{
-    Access, Answer, DeviceTable, Lent, Outcome, Planned, Private, failed, goes_or, setting_of,
-    statement_on, statement_placed,
+    Access, Answer, DeviceTable, Lent, Outcome, Planned, Private, after_show, failed, goes_or,
+    setting_of, statement_on, statement_placed,
 };
 use b2_atom::{Atoms, rows};
 use b2_base::NoMemory;
 use b2_base::codes::{S26_PROGRAM_ONLY, S27_LEFT_OUT};
-use b2_expr::{Env, surroundings_of};
+use b2_expr::{Env, Workspace, surroundings_of};
 use b2_flow::Place;
 use b2_rows::RowUnit;
 use b2_text::Text;
@@ -77,66 +79,21 @@ pub fn plan_found(
     unit: &RowUnit<'_>,
 ) -> Result<Planned, NoMemory>
     requires read { IsRow unit.now.row unit.now.bytes.now (tree_at unit.now.row unit.now.bytes.now) }
-    ensures planned { (own : TextState) (globals : Option VarsState) → IfOk result (λ p. record { me = me.new; globals = globals; planned = p } ≡ spec.course_of (record { row = unit.now.row; tree = tree_at unit.now.row unit.now.bytes.now }) me.old (record { own = own; home = home.now; globals = globals })) }
+    ensures planned { (own : TextState) (globals : Option VarsState) → IfOk result (λ p. record { me = me.new; globals = globals; planned = p } ≡ plans_by (spec.course_of (record { row = unit.now.row; tree = tree_at unit.now.row unit.now.bytes.now })) me.old (record { own = own; home = home.now; globals = globals })) }
     ensures part { me.new.part ≡ me.old.part }
 {
     let setting = setting_of(me);
+    let mut work = Workspace {
+        own: &mut me.vars,
+        setting,
+        home,
+    };
     if unit.row == rows::CONVERT {
-        let code = convert_unit(&mut me.vars, &setting, home, unit.bytes)?;
+        let code = convert_unit(&mut work, unit.bytes)?;
         return Ok(Planned::Done(goes_or(Outcome::Next, code)));
     }
-    let e = surroundings_of(&setting, &me.vars, home);
+    let e = surroundings_of(&work);
     ask(alloc, &e, me.term_column, me.prompted, unit)
-}
-
-/// What the statement at a place in a line of the program plans.
-fn plan_program(
-    alloc: Global,
-    me: &mut Private,
-    home: &Text,
-    n: u16,
-    place: Place,
-) -> Result<Planned, NoMemory>
-    requires line { place.line ≡ Some n }
-    ensures planned { (own : TextState) (globals : Option VarsState) → IfOk result (λ p. record { me = me.new; globals = globals; planned = p } ≡ spec.course_at (named_on (line_at n home.now.lines) place.unit) place me.old (record { own = own; home = home.now; globals = globals })) }
-    ensures part { me.new.part ≡ me.old.part }
-{
-    let Some(line) = home.line(n) else {
-        return Ok(Planned::Done(Outcome::Ready));
-    };
-    let Some(unit) = statement_on(line.atoms, usize::from(place.unit)) else {
-        return Ok(Planned::Done(Outcome::Ready));
-    };
-    plan_found(alloc, me, home, &unit)
-}
-
-/// What the statement at a place in the immediate line plans. Its bytes lie in the private state.
-fn plan_immediate(
-    alloc: Global,
-    me: &mut Private,
-    home: &Text,
-    place: Place,
-) -> Result<Planned, NoMemory>
-    requires line { place.line ≡ None }
-    ensures planned { (own : TextState) (globals : Option VarsState) → IfOk result (λ p. record { me = me.new; globals = globals; planned = p } ≡ spec.course_at (named_on me.old.immediate place.unit) place me.old (record { own = own; home = home.now; globals = globals })) }
-    ensures part { me.new.part ≡ me.old.part }
-{
-    let setting = setting_of(me);
-    let Some(line) = &me.immediate else {
-        return Ok(Planned::Done(Outcome::Ready));
-    };
-    let Some(unit) = statement_on(line, usize::from(place.unit)) else {
-        return Ok(Planned::Done(Outcome::Ready));
-    };
-    if is_refused(unit.row, false) {
-        return Ok(Planned::Done(failed(S26_PROGRAM_ONLY)));
-    }
-    if unit.row == rows::CONVERT {
-        let code = convert_unit(&mut me.vars, &setting, home, unit.bytes)?;
-        return Ok(Planned::Done(goes_or(Outcome::Next, code)));
-    }
-    let e = surroundings_of(&setting, &me.vars, home);
-    ask(alloc, &e, me.term_column, me.prompted, &unit)
 }
 
 /// What the statement at the place of a partition plans. Where no unit is there it is ready.
@@ -147,6 +104,7 @@ pub fn plan(
     devices: &DeviceTable,
 ) -> Result<Planned, NoMemory>
     ensures planned { IfOk result (λ p. record { me = me.new; globals = globals_lent lent.new; planned = p } ≡ spec.plan me.old (seen_lent lent.old)) }
+    ensures same_texts { (lent.new.own ≡ lent.old.own) × (lent.new.home ≡ lent.old.home) }
     ensures same_globals { lent.new.globals.now ≡ lent.old.globals.now }
     ensures same_reference { lent.new.globals.ghost_name ≡ lent.old.globals.ghost_name }
     ensures part { me.new.part ≡ me.old.part }
@@ -154,10 +112,24 @@ pub fn plan(
     let Some(place) = me.place else {
         return Ok(Planned::Done(Outcome::Ready));
     };
-    match place.line {
-        Some(n) => plan_program(alloc, me, lent.home, n, place),
-        None => plan_immediate(alloc, me, lent.home, place),
+    let setting = setting_of(me);
+    let Some(unit) = statement_placed(place, &me.immediate, lent.home) else {
+        return Ok(Planned::Done(Outcome::Ready));
+    };
+    if is_refused(unit.row, place.line.is_some()) {
+        return Ok(Planned::Done(failed(S26_PROGRAM_ONLY)));
     }
+    let mut work = Workspace {
+        own: &mut me.vars,
+        setting,
+        home: lent.home,
+    };
+    if unit.row == rows::CONVERT {
+        let code = convert_unit(&mut work, unit.bytes)?;
+        return Ok(Planned::Done(goes_or(Outcome::Next, code)));
+    }
+    let e = surroundings_of(&work);
+    ask(alloc, &e, me.term_column, me.prompted, &unit)
 }
 
 /// How the statement at a place in a line of the program finishes.
@@ -173,7 +145,7 @@ fn finish_program(
 ) -> Result<Outcome, NoMemory>
     requires line { place.line ≡ Some n }
     requires possible { can_answer access.now answer.now ≡ true }
-    ensures ended { (globals : Option VarsState) → IfOk result (λ o. record { me = me.new; outcome = o } ≡ spec.ended_at (named_on (line_at n home.now.lines) place.unit) place access.now answer.now me.old (record { own = own.now; home = home.now; globals = globals })) }
+    ensures ended { (globals : Option VarsState) → IfOk result (λ o. record { me = me.new; outcome = o } ≡ ended me.old (course_at spec.is_refused (spec.repeats me.old) (spec.finishes access.now answer.now me.old (record { own = own.now; home = home.now; globals = globals })) (named_on (line_at n home.now.lines) place.unit) (record { place = place; units = units_on (line_at n home.now.lines) }))) }
     ensures part { me.new.part ≡ me.old.part }
 {
     let Some(line) = home.line(n) else {
@@ -210,7 +182,7 @@ fn row_at_once(immediate: &Option<Atoms>, k: u8) -> Option<u16>
 fn finish_immediate(me: &mut Private, place: Place, access: &Access, answer: &Answer) -> Outcome
     requires line { place.line ≡ None }
     requires possible { can_answer access.now answer.now ≡ true }
-    ensures ended { (s : SeenLent) → record { me = me.new; outcome = result } ≡ spec.ended_at (named_on me.old.immediate place.unit) place access.now answer.now me.old s }
+    ensures ended { (s : SeenLent) → record { me = me.new; outcome = result } ≡ ended me.old (course_at spec.is_refused (spec.repeats me.old) (spec.finishes access.now answer.now me.old s) (named_on me.old.immediate place.unit) (record { place = place; units = units_on me.old.immediate })) }
     ensures part { me.new.part ≡ me.old.part }
 {
     match row_at_once(&me.immediate, place.unit) {

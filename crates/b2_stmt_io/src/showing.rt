@@ -9,7 +9,7 @@ ghost use Rattle.b2_stmt_io.specs.Printing.{prints};
 ghost use Rattle.b2_stmt_io.specs.Showing as spec;
 
 use crate::printing::shown_by_print;
-use b2_access::{Access, Answer, Outcome, Planned, Private, failing};
+use b2_access::{Access, Planned, failing};
 use b2_base::{ByteList, NoMemory, Term};
 use b2_expr::Env;
 use b2_print::column_after;
@@ -40,24 +40,5 @@ pub fn ask_print(alloc: Global, e: &Env<'_>, column: u16, unit: &[u8]) -> Result
             column: after,
         })),
         Err(fault) => Ok(Planned::Done(failing(fault)?)),
-    }
-}
-
-/// How a statement that shows something finishes, as PRINT, PRINTUSING and LIST.
-pub fn after_show(me: &mut Private, access: &Access, answer: &Answer) -> Outcome
-    requires possible { can_answer access.now answer.now ≡ true }
-    ensures ended { record { me = me.new; outcome = result } ≡ spec.shown access.now answer.now me.old }
-    ensures part { me.new.part ≡ me.old.part }
-{
-    let Access::Show { column, .. } = access else {
-        return Outcome::Repeat;
-    };
-    match answer {
-        Answer::Done => {
-            me.term_column = *column;
-            Outcome::Next
-        }
-        Answer::Wait(_) => Outcome::Repeat,
-        _ => unreachable!(),
     }
 }

@@ -1,2 +1,4 @@
 pub mod Placed
 pub mod Same
+pub mod DiskCalls
+pub mod Firsts

@@ -3,3 +3,4 @@ pub mod Meaning
 pub mod Start
 pub mod Changes
 pub mod Refusals
+pub mod DiskWork

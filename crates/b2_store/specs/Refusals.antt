@@ -1,5 +1,5 @@
 -- How a fault is answered.
-use Rattle.std.specs.Prelude.{◌≡◌}
+use Rattle.std.specs.Prelude.{◌≡◌, ℕ, Result, Ok, Err}
 use Rattle.b2_base.specs.declared.codes.Fault.{Fault}
 use Rattle.b2_base.specs.declared.codes.Fault.TheVariants as fault
 use Rattle.b2_access.specs.declared.accesses.Answer.{Answer}
@@ -9,3 +9,8 @@ use Rattle.b2_access.specs.declared.accesses.Answer.TheVariants as answer
 abbrev pub IsRefusal : Fault → Answer → Type 0
 IsRefusal (fault.Code c) a = a ≡ answer.Refused c
 IsRefusal fault.NoMemory a = ⊥
+
+-- a change that is made is done; one that isn't has its code
+abbrev pub made_answer : Result (Unit {0}) ℕ → Answer
+made_answer (Ok u) = answer.Done
+made_answer (Err code) = answer.Refused code

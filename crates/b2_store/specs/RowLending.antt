@@ -1,9 +1,9 @@
 -- What rows end as, of which a content was lent.
-use Rattle.std.specs.Prelude.{ℕ, List, Option}
+use Rattle.std.specs.Prelude.{Bool, List, Option}
+use Rattle.std.specs.Map.{set_value}
 use Rattle.std.specs.Borrow.{LendsIf, MutBor, Fml, RattleType}
-use Rattle.b2_access.specs.Rows.{with_row}
 use Rattle.b2_store.specs.contracts.rows.Rows.{the_row}
 
--- that of the first row of a number, where one has it
-abbrev pub LendsRow : (X : RattleType) → MutBor (List (ℕ × X.Denot)) → ℕ → Option (MutBor X.Denot) → Fml
-LendsRow X rows n x = LendsIf (the_row X) X rows x (with_row n rows.now) rows.now
+-- that of the first row whose key passes a test, where one does
+abbrev pub LendsRow : (K X : RattleType) → MutBor (List (K.Denot × X.Denot)) → (K.Denot → Bool) → Option (MutBor X.Denot) → Fml
+LendsRow K X rows test x = LendsIf (the_row K X) X rows x (set_value test rows.now) rows.now

@@ -1,5 +1,5 @@
--- A store as it starts: empty texts, nobody inside, no `@` variables, and idle terminals.
-use Rattle.std.specs.Prelude.{ℕ, List, [], map}
+-- A store as it starts: empty texts, nobody inside, no `@` variables, idle terminals, the platters of the boot, and nobody who holds one.
+use Rattle.std.specs.Prelude.{ℕ, List, [], ◌∷◌, map, Option, None}
 use Rattle.b2_text.specs.Program.{TextState}
 use Rattle.b2_vars.specs.Tables.{VarsState}
 use Rattle.b2_term.specs.Terminal.{TerminalState}
@@ -24,10 +24,22 @@ globals_row p = (p.0, no_variables p.2)
 abbrev pub terminal_row : ℕ × ℕ → ℕ × TerminalState
 terminal_row t = (t.0, record { queue = []; front = t.1; line = []; transcript = [] })
 
-abbrev pub store_at_start : StoreBoot → StoreState
-store_at_start b = record {
+-- contents at their keys, one after the other
+abbrev pub paired : {K X : Type 0} → List K → List X → List (K × X)
+paired [] xs = []
+paired (k ∷ ks) [] = []
+paired (k ∷ ks) (x ∷ xs) = (k, x) ∷ paired ks xs
+
+-- a device that nobody holds
+abbrev pub free_row : List ℕ → List ℕ × Option ℕ
+free_row address = (address, None)
+
+abbrev pub store_at_start : StoreBoot → List (List ℕ) → StoreState
+store_at_start b images = record {
   texts = map text_row b.partitions.items;
   borrows = map borrow_row b.partitions.items;
   globals = map globals_row b.partitions.items;
   terminals = map terminal_row b.terminals.items;
+  platters = paired b.platters.items images;
+  hogs = map free_row b.platters.items;
 }

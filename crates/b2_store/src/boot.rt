@@ -1,10 +1,11 @@
 // What a store is made of.
-use b2_base::{Part, Term};
+use b2_base::{Addr, Part, Term};
 
 /// What a store starts with: each partition with the areas of its text and of its `@` variables, and each terminal with the
-/// partition in front of it, both ascending by number.
+/// partition in front of it, both ascending by number; and the addresses of its platters, ascending.
 #[derive(Drop)]
 pub struct StoreBoot {
     pub partitions: Vec<(Part, usize, usize)>,
     pub terminals: Vec<(Term, Part)>,
+    pub platters: Vec<Addr>,
 }

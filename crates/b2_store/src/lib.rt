@@ -1,20 +1,22 @@
-//! The store that all partitions share: program texts, `@` variables and terminals.
+//! The store that all partitions share: program texts, `@` variables, terminals, and platters with who holds each.
 //!
-//! `Stores` is a store as definitions see it, kept as rows by the numbers of partitions and terminals, and serves the accesses
-//! of partitions as `b2_access` defines it. It lends texts by reference. Until names of global texts come no `@` variables are
-//! found, and nobody stands inside the text of another.
+//! `Stores` is a store as definitions see it, kept as rows by the numbers of partitions and terminals and the addresses of
+//! devices, and serves the accesses of partitions as `b2_access` defines it. It lends texts by reference. Until names of global
+//! texts come no `@` variables are found, and nobody stands inside the text of another.
 //!
-//! Stands on `b2_access` for what a store, its serving and its loans are, on `b2_text`, `b2_vars` and `b2_term` for what
-//! objects have, on `b2_atom` for lines and on `b2_base`. The definitions are in `specs/`: the store that `Stores` means in
-//! `Meaning`, how it starts in `Start`, and what keys and fronts change in `Changes`.
+//! Stands on `b2_access` for what a store, its serving and its loans are, on `b2_text`, `b2_vars`, `b2_term` and `b2_platter`
+//! for what objects have, on `b2_catalog` for what a disk does, on `b2_atom` for lines and on `b2_base`. The definitions are in
+//! `specs/`: the store that `Stores` means in `Meaning`, how it starts in `Start`, what keys and fronts change in `Changes`, and
+//! what disks do to an image in `DiskWork`.
 #![tactic(auto)]
 
 mod boot;
+mod disks;
 mod part_list;
 mod rows;
 mod start;
 mod stores;
 
 pub use boot::StoreBoot;
-pub use rows::{Numbered, Rows};
+pub use rows::{Key, Rows};
 pub use stores::Stores;

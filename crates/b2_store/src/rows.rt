@@ -1,113 +1,127 @@
-// Rows by the numbers of partitions or of terminals.
-ghost use Rattle.std.specs.Prelude.{◌≡◌, ◌==◌, ℕ, [], ◌∷◌, ◌++◌, Some, IsSome, OnOk, position, option_copied};
+// Rows, each found by its key: the number of a partition or of a terminal, or the address of a device.
+ghost use Rattle.std.specs.Prelude.{◌≡◌, ℕ, Bool, [], ◌∷◌, ◌++◌, Some, IsSome, OnOk, position, option_copied};
+ghost use Rattle.std.specs.Map.{lookup};
 ghost use Rattle.std.specs.Option.{option_copied_mut};
 ghost use Rattle.std.specs.Borrow.{sem};
-ghost use Rattle.b2_access.specs.Rows.{row_of};
 
-use b2_base::{NoMemory, Part, Term};
+use b2_base::{Addr, NoMemory, Part, Term};
 use std::alloc::Global;
 use std::marker::Model;
 
-/// What has a number, by which its row is found.
-pub trait Numbered {
-    /// The number.
-    ghost number_of: { Self → ℕ };
+/// What rows are found by.
+pub trait Key: Copy {
+    /// Whether the key of a row is this one.
+    ghost found_by: { Self → Self → Bool };
 
-    /// Its number.
-    fn row_number(self) -> u8
-        ensures { result ≡ number_of self };
+    /// Whether another key is the same.
+    fn finds(self, other: Self) -> bool
+        ensures { result ≡ found_by self other };
 }
 
-impl Numbered for Part {
-    ghost number_of = { λ p. p };
+impl Key for Part {
+    ghost use Rattle.std.specs.Prelude.{◌==◌};
 
-    fn row_number(self) -> u8 {
-        self.number()
+    ghost found_by = { λ key k. k == key };
+
+    fn finds(self, other: Part) -> bool {
+        other == self
     }
 }
 
-impl Numbered for Term {
-    ghost number_of = { λ t. t };
+impl Key for Term {
+    ghost use Rattle.std.specs.Prelude.{◌==◌};
 
-    fn row_number(self) -> u8 {
-        self.number()
+    ghost found_by = { λ key k. k == key };
+
+    fn finds(self, other: Term) -> bool {
+        other.number() == self.number()
     }
 }
 
-/// Contents in rows, each with a number. Contracts see the list of the rows.
+impl Key for Addr {
+    ghost use Rattle.std.specs.Str.{bytes_eq};
+
+    ghost found_by = { λ key k. bytes_eq k key };
+
+    fn finds(self, other: Addr) -> bool {
+        other == self
+    }
+}
+
+/// Contents in rows, each with a key. Contracts see the list of the rows.
 #[derive(Drop)]
-pub struct Rows<X> {
-    rows: Vec<(u8, X)>,
+pub struct Rows<K, X> {
+    rows: Vec<(K, X)>,
 }
 
-impl<X> Model for Rows<X> {
-    ghost use Rattle.std.specs.Prelude.{ℕ, List};
-    ghost use Rattle.std.specs.Coded.{coded_list, coded×, coded_ℕ};
+impl<K, X> Model for Rows<K, X> {
+    ghost use Rattle.std.specs.Prelude.{List};
+    ghost use Rattle.std.specs.Coded.{coded_list, coded×};
 
-    ghost Value = { List (ℕ × X) };
+    ghost Value = { List (K × X) };
 
-    ghost coded = { coded_list (coded× coded_ℕ X.code) };
+    ghost coded = { coded_list (coded× K.code X.code) };
 
     ghost view = { λ r. r.rows.items };
 }
 
-/// The place of the first row of a number, None where no row has it.
-fn row_place<X>(rows: &[(u8, X)], n: u8) -> Option<usize>
-    ensures { result ≡ position (λ e. e.0 == n) rows.now }
+/// The index of the first row of a key, None where no row has it.
+fn row_index<K: Key, X>(rows: &[(K, X)], key: K) -> Option<usize>
+    ensures { result ≡ position (λ e. K.found_by key e.0) rows.now }
 {
-    rows.iter().position(|row| row.0 == n)
+    rows.iter().position(|row| key.finds(row.0))
 }
 
-impl<X: Drop> Rows<X> {
+impl<K: Drop, X: Drop> Rows<K, X> {
     /// Adds a row after the others.
-    pub fn add<K: Numbered>(&mut self, key: K, x: X) -> Result<(), NoMemory>
-        ensures { OnOk result (self.new ≡ self.old ++ (K.number_of key, x) ∷ []) }
+    pub fn add(&mut self, key: K, x: X) -> Result<(), NoMemory>
+        ensures { OnOk result (self.new ≡ self.old ++ (key, x) ∷ []) }
     {
-        self.rows.push((key.row_number(), x))?;
+        self.rows.push((key, x))?;
         Ok(())
     }
 }
 
-impl<X> Rows<X> {
-    ghost use Rattle.b2_store.specs.RowLending.{LendsRow};
-
+impl<K, X> Rows<K, X> {
     /// No rows. It takes no memory.
-    pub fn new(alloc: Global) -> Rows<X>
+    pub fn new(alloc: Global) -> Rows<K, X>
         ensures { result ≡ [] }
     {
         Rows {
             rows: Vec::new(alloc),
         }
     }
+}
 
-    /// The content of the first row of a number, None where no row has it.
-    pub fn get<K: Numbered>(&self, key: K) -> Option<&X>
-        ensures { option_copied result ≡ row_of (K.number_of key) self.now }
+impl<K: Key, X> Rows<K, X> {
+    ghost use Rattle.b2_store.specs.RowLending.{LendsRow};
+
+    /// The content of the first row of a key, None where no row has it.
+    pub fn get(&self, key: K) -> Option<&X>
+        ensures { option_copied result ≡ lookup (K.found_by key) self.now }
     {
-        let n = key.row_number();
-        match row_place(&self.rows, n) {
-            Some(place) => Some(&self.rows[place].1),
+        match row_index(&self.rows, key) {
+            Some(index) => Some(&self.rows[index].1),
             None => None,
         }
     }
 
-    /// The same, where a row has the number.
-    pub fn value<K: Numbered>(&self, key: K) -> &X
-        requires { IsSome (row_of (K.number_of key) self.now) }
-        ensures { Some result.now ≡ row_of (K.number_of key) self.now }
+    /// The same, where a row has the key.
+    pub fn value(&self, key: K) -> &X
+        requires { IsSome (lookup (K.found_by key) self.now) }
+        ensures { Some result.now ≡ lookup (K.found_by key) self.now }
     {
         self.get(key).unwrap()
     }
 
-    /// The content of the first row of a number, to be changed; None where no row has it.
-    pub fn get_mut<K: Numbered>(&mut self, key: K) -> Option<&mut X>
-        ensures* writes_back { sem 𝓛 (LendsRow X.row self.entry (K.number_of key) result) }
-        ensures there { option_copied_mut result ≡ row_of (K.number_of key) self.old }
+    /// The content of the first row of a key, to be changed; None where no row has it.
+    pub fn get_mut(&mut self, key: K) -> Option<&mut X>
+        ensures* writes_back { sem 𝓛 (LendsRow K.row X.row self.entry (K.found_by key) result) }
+        ensures there { option_copied_mut result ≡ lookup (K.found_by key) self.old }
     {
-        let n = key.row_number();
-        match row_place(&self.rows, n) {
-            Some(place) => {
-                let row = &mut self.rows[place];
+        match row_index(&self.rows, key) {
+            Some(index) => {
+                let row = &mut self.rows[index];
                 Some(&mut row.1)
             }
             None => None,

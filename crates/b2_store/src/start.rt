@@ -1,17 +1,21 @@
 // The rows of a store as it starts.
-ghost use Rattle.std.specs.Prelude.{◌≡◌, IfOk, map};
-ghost use Rattle.b2_store.specs.Start.{text_row, borrow_row, globals_row, terminal_row};
+ghost use Rattle.std.specs.Prelude.{◌≡◌, IfOk, length, map};
+ghost use Rattle.b2_store.specs.Start.{text_row, borrow_row, globals_row, terminal_row, free_row, paired};
 
 use crate::part_list::PartList;
 use crate::rows::Rows;
-use b2_base::{NoMemory, Part, Term};
+use b2_base::{Addr, NoMemory, Part, Term};
+use b2_platter::Platter;
 use b2_term::Terminal;
 use b2_text::Text;
 use b2_vars::Vars;
 use std::alloc::Global;
 
 /// An empty text for each partition, of its area.
-pub fn texts_of(alloc: Global, partitions: &[(Part, usize, usize)]) -> Result<Rows<Text>, NoMemory>
+pub fn texts_of(
+    alloc: Global,
+    partitions: &[(Part, usize, usize)],
+) -> Result<Rows<Part, Text>, NoMemory>
     ensures { IfOk result (λ rows. rows ≡ map text_row partitions.now) }
 {
     let mut rows = Rows::new(alloc);
@@ -25,7 +29,7 @@ pub fn texts_of(alloc: Global, partitions: &[(Part, usize, usize)]) -> Result<Ro
 pub fn borrows_of(
     alloc: Global,
     partitions: &[(Part, usize, usize)],
-) -> Result<Rows<PartList>, NoMemory>
+) -> Result<Rows<Part, PartList>, NoMemory>
     ensures { IfOk result (λ rows. rows ≡ map borrow_row partitions.now) }
 {
     let mut rows = Rows::new(alloc);
@@ -39,7 +43,7 @@ pub fn borrows_of(
 pub fn globals_of(
     alloc: Global,
     partitions: &[(Part, usize, usize)],
-) -> Result<Rows<Vars>, NoMemory>
+) -> Result<Rows<Part, Vars>, NoMemory>
     ensures { IfOk result (λ rows. rows ≡ map globals_row partitions.now) }
 {
     let mut rows = Rows::new(alloc);
@@ -50,12 +54,43 @@ pub fn globals_of(
 }
 
 /// An idle terminal for each, with its partition in front.
-pub fn terminals_of(alloc: Global, terminals: &[(Term, Part)]) -> Result<Rows<Terminal>, NoMemory>
+pub fn terminals_of(
+    alloc: Global,
+    terminals: &[(Term, Part)],
+) -> Result<Rows<Term, Terminal>, NoMemory>
     ensures { IfOk result (λ rows. rows ≡ map terminal_row terminals.now) }
 {
     let mut rows = Rows::new(alloc);
     for terminal in terminals {
         rows.add(terminal.0, Terminal::new(alloc, terminal.1)?)?;
+    }
+    Ok(rows)
+}
+
+/// Each platter at its address.
+pub fn platters_of(
+    alloc: Global,
+    addresses: &[Addr],
+    platters: Vec<Platter>,
+) -> Result<Rows<Addr, Platter>, NoMemory>
+    requires as_many { length addresses.now ≡ length platters.items }
+    ensures { IfOk result (λ rows. rows ≡ paired addresses.now platters.items) }
+{
+    let mut left = platters;
+    let mut rows = Rows::new(alloc);
+    for address in addresses {
+        rows.add(*address, left.remove(0))?;
+    }
+    Ok(rows)
+}
+
+/// Nobody who holds each device.
+pub fn holders_of(alloc: Global, addresses: &[Addr]) -> Result<Rows<Addr, Option<Part>>, NoMemory>
+    ensures { IfOk result (λ rows. rows ≡ map free_row addresses.now) }
+{
+    let mut rows = Rows::new(alloc);
+    for address in addresses {
+        rows.add(*address, None)?;
     }
     Ok(rows)
 }

@@ -1,34 +1,41 @@
 // The store: its rows, what stops an access, and how each is served and what is lent.
-ghost use Rattle.std.specs.Prelude.{◌≡◌, ◌≤◌, ℕ, List, [], ◌∷◌, Option, Some, IfOk, IfErr, option_copied};
+ghost use Rattle.std.specs.Prelude.{◌≡◌, ◌≤◌, ℕ, length, List, [], ◌∷◌, Option, Some, IfOk, IfErr, option_copied};
 ghost use Rattle.b2_access.specs.AccessRows.{line_answer, key_answer};
-ghost use Rattle.b2_access.specs.Reach.{reach_of};
+ghost use Rattle.b2_access.specs.Reach.{disks_of, reach_of};
 ghost use Rattle.b2_access.specs.Stopping as stopping;
 ghost use Rattle.b2_access.specs.Store.{content};
 ghost use Rattle.b2_access.specs.Touching.{IsLegal, MayWantMemory};
 ghost use Rattle.b2_store.specs.Changes.{keyed_at, front_at, room_at};
-ghost use Rattle.b2_store.specs.Refusals.{IsRefusal};
+ghost use Rattle.b2_store.specs.Refusals.{IsRefusal, made_answer};
 ghost use Rattle.b2_store.specs.Start.{store_at_start};
 
 use crate::boot::StoreBoot;
+use crate::disks::{format_disk, limits_answer, scratch_file};
 use crate::part_list::PartList;
 use crate::rows::Rows;
-use crate::start::{borrows_of, globals_of, terminals_of, texts_of};
+use crate::start::{borrows_of, globals_of, holders_of, platters_of, terminals_of, texts_of};
 use b2_access::{Access, Answer, At, Lent, Object, Reached, Shared, TextUse, reached_by};
 use b2_atom::Atoms;
-use b2_base::{Fault, NoMemory, Part, Term};
+use b2_base::{Addr, ByteList, Code, Fault, Name8, NoMemory, Part, Term};
+use b2_catalog::listing;
+use b2_platter::Platter;
 use b2_term::{KeyItem, Read, Terminal};
 use b2_text::Text;
 use b2_vars::Vars;
 use std::alloc::Global;
 
-/// The store that all partitions share. It means its rows, by `store_of`: all but the spare.
+/// The store that all partitions share. It means its rows, by `store_of`: all but the allocator and the spare.
 #[derive(Drop)]
 pub struct Stores {
-    texts: Rows<Text>,
+    alloc: Global,
+    texts: Rows<Part, Text>,
     // Who stands inside each text, in order of entering.
-    borrows: Rows<PartList>,
-    globals: Rows<Vars>,
-    terminals: Rows<Terminal>,
+    borrows: Rows<Part, PartList>,
+    globals: Rows<Part, Vars>,
+    terminals: Rows<Term, Terminal>,
+    platters: Rows<Addr, Platter>,
+    // Who holds each device.
+    hogs: Rows<Addr, Option<Part>>,
     // What is lent where no `@` variables are found.
     spare: Vars,
 }
@@ -85,18 +92,33 @@ fn refusal(fault: Fault) -> Result<Answer, NoMemory>
     }
 }
 
+/// The answer to a change that is made or refused.
+fn made_answer(made: Result<(), Code>) -> Answer
+    ensures { result ≡ made_answer made }
+{
+    match made {
+        Ok(()) => Answer::Done,
+        Err(code) => Answer::Refused(code),
+    }
+}
+
 impl Stores {
     ghost use Rattle.b2_store.specs.Meaning.{store_of, Does};
 
-    /// The store of a boot: empty texts, no `@` variables, and idle terminals.
-    pub fn new(alloc: Global, b: &StoreBoot) -> Result<Stores, NoMemory>
-        ensures at_start { IfOk result (λ s. store_of s ≡ store_at_start b.now) }
+    /// The store of a boot: empty texts, no `@` variables, idle terminals, and these platters, one for each address of the boot, in its
+    /// order. Nobody holds one.
+    pub fn new(alloc: Global, b: &StoreBoot, platters: Vec<Platter>) -> Result<Stores, NoMemory>
+        requires as_many { length b.now.platters.items ≡ length platters.items }
+        ensures at_start { IfOk result (λ s. store_of s ≡ store_at_start b.now platters.items) }
     {
         Ok(Stores {
+            alloc,
             texts: texts_of(alloc, &b.partitions)?,
             borrows: borrows_of(alloc, &b.partitions)?,
             globals: globals_of(alloc, &b.partitions)?,
             terminals: terminals_of(alloc, &b.terminals)?,
+            platters: platters_of(alloc, &b.platters, platters)?,
+            hogs: holders_of(alloc, &b.platters)?,
             spare: Vars::new(alloc, 0)?,
         })
     }
@@ -106,6 +128,13 @@ impl Stores {
         ensures listed { option_copied result ≡ content (store_of self.now) (Object.Terminal t) }
     {
         self.terminals.get(t)
+    }
+
+    /// A platter, None exactly where its address isn't listed.
+    pub fn platter(&self, a: Addr) -> Option<&Platter>
+        ensures listed { option_copied result ≡ content (store_of self.now) (Object.Platter a) }
+    {
+        self.platters.get(a)
     }
 
     /// Queues a key at a terminal. It answers whether there was room, None exactly where the terminal isn't listed.
@@ -128,16 +157,35 @@ impl Stores {
         }
     }
 
-    /// The first partition that is another, of those who come first at what is reached: the one in front of the terminal.
+    /// The partition in front of a terminal, where it is another.
+    fn other_in_front(&self, who: Part, term: Option<Term>) -> Option<Part>
+        ensures { result ≡ stopping.first_other who (stopping.at_front term (store_of self.now)) }
+    {
+        match self.terminals.get(term?) {
+            Some(terminal) => other(who, terminal.front()),
+            None => None,
+        }
+    }
+
+    /// The partition that holds a device, where it is another.
+    fn other_holder(&self, who: Part, device: Option<Addr>) -> Option<Part>
+        ensures { result ≡ stopping.first_other who (stopping.holders (disks_of device) (store_of self.now)) }
+    {
+        match self.hogs.get(device?) {
+            Some(Some(holder)) => other(who, *holder),
+            _ => None,
+        }
+    }
+
+    /// The first partition that is another, of those who come first at what is reached: the one in front of the terminal, and then the
+    /// one that holds the device.
+    #[tactic(auto, using(crate::proofs::Firsts::first_of_both))]
     fn first_other(&self, who: Part, reached: &Reached) -> Option<Part>
         ensures { result ≡ stopping.first_other who (stopping.first_there (reach_of reached.now) (store_of self.now)) }
     {
-        match reached.terminal {
-            Some(term) => match self.terminals.get(term) {
-                Some(terminal) => other(who, terminal.front()),
-                None => None,
-            },
-            None => None,
+        match self.other_in_front(who, reached.terminal) {
+            Some(q) => Some(q),
+            None => self.other_holder(who, reached.disk),
         }
     }
 
@@ -244,6 +292,49 @@ impl Stores {
         Answer::Done
     }
 
+    /// Says the limits of a file or of the catalogue.
+    fn limits(&self, addr: Addr, name: Option<Name8>) -> Answer
+        ensures { (who : ℕ) → Does who (Access.Limits addr name) self.now self.now result }
+    {
+        match self.platters.get(addr) {
+            Some(platter) => limits_answer(platter, name),
+            None => Answer::Four(0, 0, 0, 0),
+        }
+    }
+
+    /// Lists the index of a platter.
+    fn list_disk(&self, addr: Addr) -> Result<Answer, NoMemory>
+        ensures { (who : ℕ) → IfOk result (Does who (Access.ListDisk addr) self.now self.now) }
+    {
+        let mut bytes = Vec::new(self.alloc);
+        if let Some(platter) = self.platters.get(addr) {
+            listing(platter, &mut bytes)?;
+        }
+        Ok(Answer::Bytes(ByteList::new(bytes)))
+    }
+
+    /// Scratches a file.
+    #[tactic(auto, using(crate::proofs::Same::with_same))]
+    fn scratch(&mut self, addr: Addr, name: Name8) -> Answer
+        ensures { (who : ℕ) → Does who (Access.Scratch addr name) self.old self.new result }
+    {
+        match self.platters.get_mut(addr) {
+            Some(platter) => made_answer(scratch_file(platter, name)),
+            None => Answer::Done,
+        }
+    }
+
+    /// Makes an empty index.
+    #[tactic(auto, using(crate::proofs::Same::with_same))]
+    fn format(&mut self, addr: Addr, index: u32, end: u32) -> Answer
+        ensures { (who : ℕ) → Does who (Access.Format addr index end) self.old self.new result }
+    {
+        match self.platters.get_mut(addr) {
+            Some(platter) => made_answer(format_disk(platter, index, end)),
+            None => Answer::Done,
+        }
+    }
+
     /// Does what an access does that nothing stops.
     fn perform(&mut self, who: Part, access: &Access) -> Result<Answer, NoMemory>
         requires legal { IsLegal access.now }
@@ -261,6 +352,10 @@ impl Stores {
             },
             Access::Erase { from, to, .. } => Ok(self.erase(who, *from, *to)),
             Access::ClearAll { .. } => Ok(self.clear_all(who)),
+            Access::Limits { addr, name } => Ok(self.limits(*addr, *name)),
+            Access::ListDisk { addr } => self.list_disk(*addr),
+            Access::Scratch { addr, name } => Ok(self.scratch(*addr, *name)),
+            Access::Format { addr, index, end } => Ok(self.format(*addr, *index, *end)),
         }
     }
 }
@@ -268,7 +363,8 @@ impl Stores {
 impl Shared for Stores {
     ghost use Rattle.std.specs.Prelude.{refl};
     ghost use Rattle.b2_access.proofs.Locality.{serves_by_row, serves_is_local, serves_keeps_listed};
-    ghost use Rattle.b2_access.specs.Serving.{serves, itself};
+    ghost use Rattle.b2_access.specs.Serving.{itself};
+    ghost use Rattle.b2_store.specs.DiskWork.{disks, serves};
     ghost use Rattle.b2_access.specs.Store.{StoreState};
     ghost use Rattle.b2_access.specs.Touching.{MayWantMemory};
     ghost use Rattle.b2_store.specs.Meaning.{store_of, with_spare};
@@ -308,11 +404,11 @@ impl Shared for Stores {
         }
     }
 
-    ghost local = { serves_is_local };
+    ghost local = { serves_is_local disks };
 
-    ghost answers_by_row = { serves_by_row };
+    ghost answers_by_row = { serves_by_row disks };
 
-    ghost keeps_listed = { serves_keeps_listed };
+    ghost keeps_listed = { serves_keeps_listed disks };
 
     ghost loans = { λ who home at s w. refl };
 

@@ -22,13 +22,13 @@ abbrev Tells : (Text → Bool) → (TreeUnit → Bool) → Type 0
 Tells test on = (u : TreeUnit) → IsReadAlone u → test (atoms u.tree) ≡ on u
 
 mark_tells : (n : ℕ) → Tells (is_mark n) (is_mark_unit n)
-mark_tells n u h = mark_is n u.place (atoms u.tree) u.row u.tree (chosen_of u.place (atoms u.tree) u.row u.tree h)
+mark_tells n u h = mark_is n u.position (atoms u.tree) u.row u.tree (chosen_of u.position (atoms u.tree) u.row u.tree h)
 
 function_tells : (name : ℕ) → (is_letter name || is_digit name) ≡ true → Tells (is_function name) (is_function_unit name)
-function_tells name k u h = function_is name u.place (atoms u.tree) u.row u.tree k (chosen_of u.place (atoms u.tree) u.row u.tree h)
+function_tells name k u h = function_is name u.position (atoms u.tree) u.row u.tree k (chosen_of u.position (atoms u.tree) u.row u.tree h)
 
 data_tells : Tells is_data is_data_unit
-data_tells u h = data_is u.place (atoms u.tree) u.row u.tree (chosen_of u.place (atoms u.tree) u.row u.tree h)
+data_tells u h = data_is u.position (atoms u.tree) u.row u.tree (chosen_of u.position (atoms u.tree) u.row u.tree h)
 
 -- the first unit of a line
 opening_is : (test : Text → Bool) (on : TreeUnit → Bool) → Tells test on → test [] ≡ false → (vs : List TreeUnit) → All IsReadAlone vs

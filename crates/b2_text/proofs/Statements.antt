@@ -9,13 +9,13 @@ use Rattle.b2_atom.specs.Tokens.Token.{Coded, Plain}
 use Rattle.b2_atom.specs.Tree.{Trees, Outcome, Parser, one, nothing, and_then, under}
 use Rattle.b2_atom.specs.Tree.Trees.{Done, Put, In}
 use Rattle.b2_atom.specs.Table.{forms}
-use Rattle.b2_atom.specs.Grammar.{reader, statement, statement_within, statement_row, row_at, from, chosen, plain_of, level, deep, items, item, mark, read_leaf, row_items, starts}
+use Rattle.b2_atom.specs.Grammar.{reader, statement, statement_within, statement_row, row_at, from, chosen, plain_of, level, deep, items, item, symbol, read_leaf, row_items, starts}
 use Rattle.b2_atom.specs.declared.words.TheConstants as word
 use Rattle.b2_atom.specs.declared.rows.TheConstants as row
 use Rattle.b2_atom.specs.declared.words.Origin.TheVariants.{Atoms}
 use Rattle.b2_atom.specs.declared.forms.Leaf.TheVariants as leaf
 use Rattle.b2_atom.specs.declared.forms.Position.{Position}
-use Rattle.b2_atom.specs.declared.forms.Position.TheVariants as place
+use Rattle.b2_atom.specs.declared.forms.Position.TheVariants as position
 use Rattle.b2_atom.specs.declared.forms.Item.{Item}
 use Rattle.b2_atom.specs.declared.forms.Item.TheVariants.{Word, Sign, Typed, Part, Maybe, Either, Many, Nest}
 use Rattle.b2_atom.specs.declared.forms.Start.TheVariants as start
@@ -94,7 +94,7 @@ tail_of x t (Ok r) h = record { tree = r.0; is = tree_is; read = (λ i. Ok (r.0,
   rest_is : r.1 ≡ []
   rest_is = ap (rest_in []) h
 
--- a token that stands at the front, or none is read
+-- a token that stands at the start, or none is read
 record Fronted (b : Bool) (x : Token) (t : Trees) (o : Outcome) : Type 0 where
   there : b ≡ true
   tail : Tail x t o
@@ -104,7 +104,7 @@ token_front true x r e q t h = record { there = refl; tail = tail_of x t (q r) h
 token_front false x r e q t h = cc
 
 word_front : (l c : ℕ) (is : List Item) (b : ℕ) (s : Text) (t : Trees) → items_read l (Word c ∷ is) (b ∷ s) ≡ Ok (t, []) → Fronted (b == c) (Coded c) t (items_read l is s)
-unfolding items item mark
+unfolding items item symbol
 word_front l c is b s t h = token_front (b == c) (Coded c) s (refused Atoms S22_WORD (b ∷ s)) (items_read l is) t h
 
 -- nothing is read of no bytes
@@ -115,9 +115,9 @@ none_chosen p m h = cc
 -- DATA
 data_chosen : (p : Position) (s : Text) (m : ℕ) → row_at forms Atoms p (word.DATA ∷ s) ≡ Ok m → m ≡ row.DATA
 unfolding starts
-data_chosen place.First s m h = cc
-data_chosen place.Further s m h = cc
-data_chosen place.Following s m h = cc
+data_chosen position.First s m h = cc
+data_chosen position.Further s m h = cc
+data_chosen position.Following s m h = cc
 
 data_items : row_items row.DATA ≡ Word word.DATA ∷ Part row.DATUM ∷ Many (start.Code byte.comma) row.COMMA_DATUM ∷ []
 unfolding row_items
@@ -177,9 +177,9 @@ value_of_digits n (b ∷ s) = by_digit (is_digit b) refl (value_of_digits (min (
 -- DEFFN' and its number
 mark_chosen : (p : Position) (s : Text) (m : ℕ) → row_at forms Atoms p (word.DEFFN_PRIME ∷ s) ≡ Ok m → m ≡ row.DEFFN_MARKED
 unfolding starts
-mark_chosen place.First s m h = cc
-mark_chosen place.Further s m h = cc
-mark_chosen place.Following s m h = cc
+mark_chosen position.First s m h = cc
+mark_chosen position.Further s m h = cc
+mark_chosen position.Following s m h = cc
 
 mark_width : (n : ℕ) (s : Text) (b : Bool) → nat_le (capped_value 999 0 s) 255 ≡ b → not ((if b then digits_width s else 0) == 0) ≡ true
     → capped_value 999 0 (map (kept_byte Atoms) (take (if b then digits_width s else 0) s)) ≡ capped_value 999 0 s
@@ -222,9 +222,9 @@ mark_is n p (b ∷ s) m t h = by_mark n p b s m t (b == word.DEFFN_PRIME) (m == 
 -- DEFFN and its name
 function_chosen : (p : Position) (s : Text) (m : ℕ) → row_at forms Atoms p (word.DEFFN ∷ s) ≡ Ok m → m ≡ row.DEFFN
 unfolding starts
-function_chosen place.First s m h = cc
-function_chosen place.Further s m h = cc
-function_chosen place.Following s m h = cc
+function_chosen position.First s m h = cc
+function_chosen position.Further s m h = cc
+function_chosen position.Following s m h = cc
 
 function_items : row_items row.DEFFN ≡ Word word.DEFFN ∷ Either (start.Code word.GLOBAL_PART) row.GLOBAL_PART row.FUNCTION_BODY ∷ []
 unfolding row_items
@@ -243,11 +243,11 @@ unfolding items item read_leaf
 name_front l code is s t h = typed_name (function_name_width Atoms s) code s (items_read l is) t h
 
 sign_front : (l c code : ℕ) (is : List Item) (b : ℕ) (s : Text) (t : Trees) → items_read l (Sign c code ∷ is) (b ∷ s) ≡ Ok (t, []) → Fronted (b == c) (Coded c) t (items_read l is s)
-unfolding items item mark
+unfolding items item symbol
 sign_front l c code is b s t h = token_front (b == c) (Coded c) s (refused Atoms code (b ∷ s)) (items_read l is) t h
 
 no_sign : (l code : ℕ) (is : List Item) (t : Trees) → items_read l (Sign byte.opening code ∷ is) [] ≡ Ok (t, []) → ⊥
-unfolding items item mark
+unfolding items item symbol
 no_sign l code is t h = cc
 
 -- a branch at the end of a row

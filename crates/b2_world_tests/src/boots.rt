@@ -1,12 +1,12 @@
 // Boot files, the boots that they are, and boots with a group alone.
 //
 // `boot | LINE | ..`: the boot of a file of these lines, or the first check that it fails. A line `T` stands for a terminal 1
-// with partition 1 in front, and `P` for a partition 1 on it.
+// with partition 1 in front, `P` for a partition 1 on it, and `D` for a partition 1 on it with the disk D11.
 //
 // `alone | NAME | PARTITION PARTITION ..`: the boot of a name with these partitions alone.
 use crate::pieces::word;
-use b2_base::{NoMemory, Part};
-use b2_boot::{Boot, BootErr, BootPartition, BootTerminal, boot_of};
+use b2_base::{Addr, NoMemory, Part};
+use b2_boot::{Boot, BootErr, BootPartition, BootPlatter, BootTerminal, boot_of};
 use b2_cases::{Cells, bytes_of, small_of, str_of};
 use std::alloc::Global;
 use std::fmt::Write;
@@ -16,6 +16,9 @@ const TERMINAL: &[u8] = b"terminal=[{number=1,front=1}]";
 
 /// The line `P`.
 const PARTITION: &[u8] = b"partition=[{number=1,terminal=1,text=8,data=8,globals=2}]";
+
+/// The line `D`.
+const ON_DISK: &[u8] = b"partition=[{number=1,terminal=1,text=8,data=8,globals=2,disk=\"D11\"}]";
 
 /// Partition 1 on terminal 1.
 const ONE: &[u8] = b"\
@@ -59,6 +62,14 @@ terminal=[{number=1,front=2},{number=2,front=1}]
 partition=[{number=2,terminal=1,text=8,data=8,globals=2},{number=1,terminal=2,text=8,data=8,globals=2}]
 ";
 
+/// Partitions 1 and 2, each on the terminal of its number and with a disk, and a third disk; listed from the last to the first.
+const DISKS: &[u8] = b"\
+quota=20
+terminal=[{number=2,front=2},{number=1,front=1}]
+partition=[{number=2,terminal=2,text=8,data=8,globals=2,disk=\"310\"},{number=1,terminal=1,text=8,data=8,globals=2,disk=\"D11\"}]
+platter=[{address=\"D11\",blank=64},{address=\"B10\",image=\"a.img\"},{address=\"310\",blank=16}]
+";
+
 /// The file of the boot of a name, an empty one where there is none.
 fn file_named(name: &[u8]) -> &'static [u8] {
     match str_of(name) {
@@ -68,6 +79,7 @@ fn file_named(name: &[u8]) -> &'static [u8] {
         "shared" => SHARED,
         "three" => THREE,
         "crossed" => CROSSED,
+        "disks" => DISKS,
         _ => b"",
     }
 }
@@ -103,6 +115,31 @@ fn show_partition(into: &mut String, partition: &BootPartition) -> Result<(), No
     let data = partition.vars;
     let globals = partition.globals;
     write!(into, " text {text} data {data} globals {globals}")?;
+    if let Some(disk) = partition.disk {
+        write!(into, " disk ")?;
+        show_address(into, disk)?;
+    }
+    Ok(())
+}
+
+/// Shows an address.
+fn show_address(into: &mut String, address: Addr) -> Result<(), NoMemory> {
+    let digits = address.bytes();
+    into.push_str(str_of(&digits))?;
+    Ok(())
+}
+
+/// Shows a platter, and its image or how many sectors it has.
+fn show_platter(into: &mut String, platter: &BootPlatter) -> Result<(), NoMemory> {
+    write!(into, ", platter ")?;
+    show_address(into, platter.address)?;
+    if let Some(name) = &platter.image {
+        write!(into, " image ")?;
+        into.push_str(str_of(name.bytes()))?;
+    }
+    if let Some(sectors) = platter.blank {
+        write!(into, " blank {sectors}")?;
+    }
     Ok(())
 }
 
@@ -116,6 +153,9 @@ fn said_by(alloc: Global, boot: &Boot) -> Result<String, NoMemory> {
     for partition in &boot.partitions {
         show_partition(&mut shown, partition)?;
     }
+    for platter in &boot.platters {
+        show_platter(&mut shown, platter)?;
+    }
     Ok(shown)
 }
 
@@ -124,6 +164,7 @@ fn push_line(alloc: Global, file: &mut Vec<u8>, cell: &[u8]) -> Result<(), NoMem
     match str_of(cell) {
         "T" => file.extend_from_slice(TERMINAL)?,
         "P" => file.extend_from_slice(PARTITION)?,
+        "D" => file.extend_from_slice(ON_DISK)?,
         _ => file.extend_from_slice(&bytes_of(alloc, cell)?)?,
     }
     Ok(())

@@ -136,7 +136,7 @@ pub fn at_start(alloc: Global, row: Cells<'_>) -> Result<String, NoMemory> {
         return Ok(format!(in alloc; "no such partition")?);
     };
     let area = whole_of(cells.next()) as usize;
-    let mut me = Private::new(alloc, part, term, area)?;
+    let mut me = Private::new(alloc, part, term, area, None)?;
     let number = me.part.number();
     let terminal = me.term.number();
     let mut shown = format!(in alloc; "partition {number} at {terminal}")?;

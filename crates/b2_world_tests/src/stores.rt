@@ -1,9 +1,9 @@
 // A store that is watched, and the accesses of partitions. Partitions 1, 2, 3 and 16 have texts of 64 bytes; 1, 2 and 16 are in
-// front of the terminals 1, 2 and 12.
+// front of the terminals 1, 2 and 12. Two platters of 64 sectors stand at D10 and D20; D20 has a file DATA of 4 sectors.
 //
 // `store | CALL | ..`: what the calls answer one after another. Accesses begin with the number of the partition that asks: `1 show
 // TERMINAL BYTES`, `1 read TERMINAL`, `1 insert TERMINAL BYTES`, `1 key TERMINAL`, `1 put LINE SOURCE`, `1 take LINE`, `1 erase FROM
-// TO`, `1 clear`. Others are `press TERMINAL BYTES` and `special TERMINAL N` for keys, `front TERMINAL PARTITION`, `shown TERMINAL`
+// TO`, `1 clear`, `1 limits ADDRESS [NAME]`, `1 list ADDRESS`, `1 scratch ADDRESS NAME`, `1 format ADDRESS SECTORS END`. Others are `press TERMINAL BYTES` and `special TERMINAL N` for keys, `front TERMINAL PARTITION`, `shown TERMINAL`
 // for its transcript, `lend PARTITION HOME` for the first lines of both texts and whether `@` variables are found, for the
 // partitions 1 and 2, and `clean` for the partitions that are not.
 ghost use Rattle.std.specs.Prelude.{◌≡◌, OnOk, IfOk, IfSome, IsSome};
@@ -16,9 +16,11 @@ use crate::pieces::{show_named, word};
 use b2_access::{Access, Answer, At, Object, Shared};
 use b2_atom::Atoms;
 use b2_audit::{Seen, Watched};
-use b2_base::{ByteList, NoMemory, Part, Term};
+use b2_base::{Addr, ByteList, Name8, NoMemory, Part, Term};
 use b2_cases::shown::{show_code, show_truth};
 use b2_cases::{Cells, bytes_of, number_of, small_of, str_of};
+use b2_catalog::enter;
+use b2_platter::Platter;
 use b2_store::{StoreBoot, Stores};
 use b2_term::KeyItem;
 use std::alloc::Global;
@@ -26,6 +28,13 @@ use std::fmt::Write;
 
 /// The area of each text and of each partition's `@` variables.
 const AREA: usize = 64;
+
+/// A platter with a file.
+fn with_file(alloc: Global) -> Result<Platter, NoMemory> {
+    let mut platter = Platter::blank(alloc, 64)?;
+    let _entered = enter(&mut platter, Name8::of(b"DATA").unwrap(), false, 4);
+    Ok(platter)
+}
 
 /// The store as it starts.
 fn four_partitions(alloc: Global) -> Result<Stores, NoMemory>
@@ -40,11 +49,18 @@ fn four_partitions(alloc: Global) -> Result<Stores, NoMemory>
     terminals.push((Term::known(1), Part::known(1)))?;
     terminals.push((Term::known(2), Part::known(2)))?;
     terminals.push((Term::known(12), Part::known(16)))?;
+    let mut addresses = Vec::new(alloc);
+    let mut platters = Vec::new(alloc);
+    addresses.push(Addr::of(b"D10").unwrap())?;
+    platters.push(Platter::blank(alloc, 64)?)?;
+    addresses.push(Addr::of(b"D20").unwrap())?;
+    platters.push(with_file(alloc)?)?;
     let start = StoreBoot {
         partitions,
         terminals,
+        platters: addresses,
     };
-    Stores::new(alloc, &start)
+    Stores::new(alloc, &start, platters)
 }
 
 /// An access at a terminal, None where it is misspelled.
@@ -94,6 +110,32 @@ fn at_text(alloc: Global, kind: &str, rest: &[u8]) -> Result<Option<Access>, NoM
     })
 }
 
+/// An access at a disk, None where it is misspelled.
+fn at_disk(kind: &str, rest: &[u8]) -> Option<Access>
+    ensures { IfSome result IsLegal }
+{
+    let (address, text) = word(rest);
+    let addr = Addr::of(address)?;
+    let (first, second) = word(text);
+    match kind {
+        "limits" if first.is_empty() => Some(Access::Limits { addr, name: None }),
+        "limits" => Some(Access::Limits {
+            addr,
+            name: Some(Name8::of(first)?),
+        }),
+        "list" => Some(Access::ListDisk { addr }),
+        "scratch" => Some(Access::Scratch {
+            addr,
+            name: Name8::of(first)?,
+        }),
+        _ => Some(Access::Format {
+            addr,
+            index: u32::from(number_of(first)),
+            end: u32::from(number_of(second)),
+        }),
+    }
+}
+
 /// An access, None where it is misspelled.
 fn access_of(alloc: Global, spelled: &[u8]) -> Result<Option<Access>, NoMemory>
     ensures { IfOk result (λ found. IfSome found IsLegal) }
@@ -102,6 +144,7 @@ fn access_of(alloc: Global, spelled: &[u8]) -> Result<Option<Access>, NoMemory>
     let kind = str_of(first);
     match kind {
         "show" | "read" | "insert" | "key" => at_terminal(alloc, kind, rest),
+        "limits" | "list" | "scratch" | "format" => Ok(at_disk(kind, rest)),
         _ => at_text(alloc, kind, rest),
     }
 }
@@ -120,6 +163,8 @@ fn show_answer(into: &mut String, answer: &Answer) -> Result<(), NoMemory> {
         Answer::Special(n) => write!(into, "special {n}")?,
         Answer::Key(byte) => show_named(into, "key", &[*byte])?,
         Answer::NoKeys => into.push_str("no keys")?,
+        Answer::Four(start, end, used, kind) => write!(into, "four {start} {end} {used} {kind}")?,
+        Answer::Bytes(bytes) => show_named(into, "bytes", bytes.bytes())?,
         Answer::Wait(part) => {
             let number = part.number();
             write!(into, "wait for {number}")?;

@@ -4,7 +4,7 @@ use Rattle.b2_atom.specs.Tokens.{Token}
 use Rattle.b2_atom.specs.Tokens.Token.{Coded, Plain, Lined}
 use Rattle.b2_atom.specs.Tree.{Trees}
 use Rattle.b2_atom.specs.Tree.Trees.{Done, Put, In}
-use Rattle.b2_atom.specs.Grammar.{row_items, barred_following, barred_line, barred_place}
+use Rattle.b2_atom.specs.Grammar.{row_items, barred_following, barred_line, barred_position}
 use Rattle.b2_atom.specs.Fitting.{Fits, FitsPut, FitsIn, FitsBranch, fits_token, giving, is_statement, is_allowed, LineTree, LineTreeWithin}
 use Rattle.b2_atom.specs.Table.{forms}
 use Rattle.b2_atom.specs.declared.rows.TheConstants as row
@@ -125,7 +125,7 @@ no_bar : (r : Rule) → barred_line origin.Atoms r ≡ false
 no_bar r = refl
 
 allowed_anywhere : (o : Origin) (p : Position) (r : Rule) → is_allowed o p r ≡ true → is_allowed origin.Atoms p r ≡ true
-allowed_anywhere o p r h = allowed_by (barred_following p r) (barred_line o r) (barred_place p r) h
+allowed_anywhere o p r h = allowed_by (barred_following p r) (barred_line o r) (barred_position p r) h
 
 statement_anywhere : (o : Origin) (p : Position) (m : ℕ) (fs : List Form) → is_statement fs o p m ≡ true → is_statement fs origin.Atoms p m ≡ true
 statement_anywhere o p m [] h = h

@@ -21,13 +21,13 @@ use Rattle.b2_atom.specs.declared.rows.TheConstants as row
 use Rattle.b2_atom.specs.declared.words.Origin.TheVariants.{Atoms}
 use Rattle.b2_atom.specs.declared.forms.Start.TheVariants as start
 use Rattle.b2_atom.specs.declared.forms.Position.{Position}
-use Rattle.b2_atom.specs.declared.forms.Position.TheVariants as place
+use Rattle.b2_atom.specs.declared.forms.Position.TheVariants as position
 use Rattle.b2_atom.specs.declared.forms.Item.{Item}
 use Rattle.b2_atom.specs.declared.forms.Item.TheVariants.{Sign, Many, End, Statement}
 use Rattle.b2_atom.proofs.Booleans.{never}
 use Rattle.b2_atom.proofs.reading.Sound.{Takes, takes_statement}
-use Rattle.b2_atom.proofs.settled.Fronts.{some, Front, fronts, statement_heads}
-use Rattle.b2_atom.proofs.settled.FrontAnswers.{answers}
+use Rattle.b2_atom.proofs.settled.Lookaheads.{some, Lookahead, is_ahead, statement_heads}
+use Rattle.b2_atom.proofs.settled.LookaheadAnswers.{answers}
 use Rattle.b2_atom.proofs.settled.Heads.{is_closing}
 use Rattle.b2_atom.proofs.settled.Beside.{good_tree}
 use Rattle.b2_atom.proofs.reading.FittedLines.{further_is, line_is}
@@ -76,10 +76,10 @@ cut_none : Cut [] []
 cut_none = record { units = refl; alone = All-nil IsReadAlone }
 
 cut_one : (p : Position) (m : ℕ) (t : Trees) (xs more : List Token) (us : List LineUnit) (vs : List TreeUnit) → UnitRead p m t xs more → Cut us vs
-    → Cut (leading_unit p (atoms_of_tokens (xs ++ more)) ∷ us) (record { place = p; row = m; tree = t } ∷ vs)
+    → Cut (leading_unit p (atoms_of_tokens (xs ++ more)) ∷ us) (record { position = p; row = m; tree = t } ∷ vs)
 cut_one p m t xs more us vs h cut = record {
-  units = (λ i. record { place = p; bytes = (unit_bytes p m t xs more h ∙ sym (unit_atoms_are p m t xs more h)) i } ∷ cut.units i);
-  alone = All-cons IsReadAlone (record { place = p; row = m; tree = t }) vs (ap (statement (reader Atoms) 1 p) (unit_atoms_are p m t xs more h) ∙ h.alone) cut.alone;
+  units = (λ i. record { position = p; bytes = (unit_bytes p m t xs more h ∙ sym (unit_atoms_are p m t xs more h)) i } ∷ cut.units i);
+  alone = All-cons IsReadAlone (record { position = p; row = m; tree = t }) vs (ap (statement (reader Atoms) 1 p) (unit_atoms_are p m t xs more h) ∙ h.alone) cut.alone;
 }
 
 -- the items after a statement, and one of them
@@ -90,11 +90,11 @@ abbrev FurtherRows : Trees → Type 0
 FurtherRows ts = Fits Atoms 32 32 FurtherItems ts
 
 abbrev FurtherRow : Trees → Type 0
-FurtherRow q = Fits Atoms 32 32 (Sign 58 25 ∷ Statement place.Further ∷ []) q
+FurtherRow q = Fits Atoms 32 32 (Sign 58 25 ∷ Statement position.Further ∷ []) q
 
 -- the units from a statement on
 abbrev units_from_it : Position → ℕ → Trees → Trees → List TreeUnit
-units_from_it p m t ts = record { place = p; row = m; tree = own (row_items m) t } ∷ (units_in (row_items m) t ++ units_in FurtherItems ts)
+units_from_it p m t ts = record { position = p; row = m; tree = own (row_items m) t } ∷ (units_in (row_items m) t ++ units_in FurtherItems ts)
 
 -- what gives the units from where a statement stands, in at most n bytes
 abbrev AllOf : ℕ → (Position → Text → List LineUnit) → Type 0
@@ -102,28 +102,28 @@ AllOf n f = (p : Position) (m : ℕ) (t ts : Trees) → is_statement forms Atoms
     → Stand (tokens t ++ tokens ts) → length (atoms_of_tokens (tokens t ++ tokens ts)) ≤ n → Cut (f p (atoms_of_tokens (tokens t ++ tokens ts))) (units_from_it p m t ts)
 
 -- after a `:`
-colon_next : (f : Position → Text → List LineUnit) (d : ℕ) (s : Text) → (d == 58) ≡ true → units_after f (d ∷ s) ≡ f place.Further s
-colon_next f d s h = (λ i. f (if h i then place.Further else place.Following) (if h i then s else d ∷ s))
+colon_next : (f : Position → Text → List LineUnit) (d : ℕ) (s : Text) → (d == 58) ≡ true → units_after f (d ∷ s) ≡ f position.Further s
+colon_next f d s h = (λ i. f (if h i then position.Further else position.Following) (if h i then s else d ∷ s))
 
 -- where a statement follows
-following_next : (f : Position → Text → List LineUnit) (b : ℕ) (s : Text) → (b == 58) ≡ false → units_after f (b ∷ s) ≡ f place.Following (b ∷ s)
-following_next f b s h = (λ i. f (if h i then place.Further else place.Following) (if h i then s else b ∷ s))
+following_next : (f : Position → Text → List LineUnit) (b : ℕ) (s : Text) → (b == 58) ≡ false → units_after f (b ∷ s) ≡ f position.Following (b ∷ s)
+following_next f b s h = (λ i. f (if h i then position.Further else position.Following) (if h i then s else b ∷ s))
 
 further_bytes : (n d : ℕ) (s : Text) → length (d ∷ s) ≤ n → length s ≤ n
 further_bytes n d s h = omega (arith, h)
 
 further_units : (n : ℕ) (f : Position → Text → List LineUnit) → AllOf n f → (q ts : Trees) → FurtherRow q → FurtherRows ts
     → Stand (tokens q ++ tokens ts) → length (atoms_of_tokens (tokens q ++ tokens ts)) ≤ n
-    → Cut (units_after f (atoms_of_tokens (tokens q ++ tokens ts))) (units_in (Sign 58 25 ∷ Statement place.Further ∷ []) q ++ units_in FurtherItems ts)
+    → Cut (units_after f (atoms_of_tokens (tokens q ++ tokens ts))) (units_in (Sign 58 25 ∷ Statement position.Further ∷ []) q ++ units_in FurtherItems ts)
 further_units n f all (Put (Coded d) (In m t Done)) ts fits more st few =
     let same : (tokens t ++ []) ++ tokens ts ≡ tokens t ++ tokens ts = ap (λ (l : List Token). l ++ tokens ts) (append-nil (tokens t)) in
     let st_ = subst (λ (l : List Token). Stand l) same (stand_behind (Coded d ∷ []) ((tokens t ++ []) ++ tokens ts) st) in
     let few_ = subst (λ (l : List Token). length (atoms_of_tokens l) ≤ n) same (further_bytes n d (atoms_of_tokens ((tokens t ++ []) ++ tokens ts)) few) in
     let vs : List TreeUnit = units_in (row_items m) t in
-    subst (λ (us : List LineUnit). Cut us (record { place = place.Further; row = m; tree = own (row_items m) t } ∷ ((vs ++ []) ++ units_in FurtherItems ts)))
-    (sym (colon_next f d (atoms_of_tokens ((tokens t ++ []) ++ tokens ts)) fits.0 ∙ ap (λ (l : List Token). f place.Further (atoms_of_tokens l)) same))
-    (subst (λ (ws : List TreeUnit). Cut (f place.Further (atoms_of_tokens (tokens t ++ tokens ts))) (record { place = place.Further; row = m; tree = own (row_items m) t } ∷ (ws ++ units_in FurtherItems ts)))
-    (sym (append-nil vs)) (all place.Further m t ts fits.1.0 fits.1.1.0 more st_ few_))
+    subst (λ (us : List LineUnit). Cut us (record { position = position.Further; row = m; tree = own (row_items m) t } ∷ ((vs ++ []) ++ units_in FurtherItems ts)))
+    (sym (colon_next f d (atoms_of_tokens ((tokens t ++ []) ++ tokens ts)) fits.0 ∙ ap (λ (l : List Token). f position.Further (atoms_of_tokens l)) same))
+    (subst (λ (ws : List TreeUnit). Cut (f position.Further (atoms_of_tokens (tokens t ++ tokens ts))) (record { position = position.Further; row = m; tree = own (row_items m) t } ∷ (ws ++ units_in FurtherItems ts)))
+    (sym (append-nil vs)) (all position.Further m t ts fits.1.0 fits.1.1.0 more st_ few_))
 further_units n f all (Put (Coded d) (In m t (Put u us))) ts fits more st few = absurd fits.1.1.1
 further_units n f all (Put (Coded d) (In m t (In k u us))) ts fits more st few = absurd fits.1.1.1
 further_units n f all (Put (Coded d) (Put u us)) ts fits more st few = cc
@@ -168,11 +168,11 @@ rows_close Done fits = cc
 rows_close (Put t ts) fits = cc
 
 -- a statement that follows begins with no `:`
-no_colon : (ts : List Token) (s : Text) → some (λ (f : Front). fronts f ts) statement_heads ≡ true → Spells Atoms ts s → (first s == 58) ≡ false
+no_colon : (ts : List Token) (s : Text) → some (λ (f : Lookahead). is_ahead f ts) statement_heads ≡ true → Spells Atoms ts s → (first s == 58) ≡ false
 unfolding starts
 no_colon ts s heads spelled = answers Atoms (start.Code 58) statement_heads false ts s refl heads spelled
 
-following_units : (f : Position → Text → List LineUnit) (s : Text) (vs : List TreeUnit) → (first s == 58) ≡ false → 1 ≤ length s → Cut (f place.Following s) vs → Cut (units_after f s) vs
+following_units : (f : Position → Text → List LineUnit) (s : Text) (vs : List TreeUnit) → (first s == 58) ≡ false → 1 ≤ length s → Cut (f position.Following s) vs → Cut (units_after f s) vs
 following_units f [] vs h some_ cut = absurd (omega arith)
 following_units f (b ∷ s) vs h some_ cut = subst (λ (us : List LineUnit). Cut us vs) (sym (following_next f b s h)) cut
 
@@ -181,14 +181,14 @@ next_units : (n : ℕ) (f : Position → Text → List LineUnit) → AllOf n f �
 next_units n f all us ts here fits next st few =
     let s : Text = atoms_of_tokens here in
     let st_ = subst (λ (l : List Token). Stand l) next.same st in
-    let one = first_unit place.Following next.row next.tree (tokens ts) next.stated next.fits (rows_close ts fits) st_ in
+    let one = first_unit position.Following next.row next.tree (tokens ts) next.stated next.fits (rows_close ts fits) st_ in
     let same_ : s ≡ atoms_of_tokens (one.front ++ one.behind) = ap atoms_of_tokens (next.same ∙ one.same) in
-    let some_ = some_bytes place.Following _ s _ (ap (statement (reader Atoms) 1 place.Following) same_ ∙ one.read.here) in
-    let vs : List TreeUnit = units_from_it place.Following next.row next.tree ts in
+    let some_ = some_bytes position.Following _ s _ (ap (statement (reader Atoms) 1 position.Following) same_ ∙ one.read.here) in
+    let vs : List TreeUnit = units_from_it position.Following next.row next.tree ts in
     subst (λ (ws : List TreeUnit). Cut (units_after f s) (ws ++ units_in FurtherItems ts)) (sym next.units)
     (following_units f s vs (no_colon here s next.heads (spells_atoms here st.good st.neighbours)) some_
-    (subst (λ (l : List Token). Cut (f place.Following (atoms_of_tokens l)) vs) (sym next.same)
-    (all place.Following next.row next.tree ts next.stated next.fits fits st_ (subst (λ (l : List Token). length (atoms_of_tokens l) ≤ n) next.same few))))
+    (subst (λ (l : List Token). Cut (f position.Following (atoms_of_tokens l)) vs) (sym next.same)
+    (all position.Following next.row next.tree ts next.stated next.fits fits st_ (subst (λ (l : List Token). length (atoms_of_tokens l) ≤ n) next.same few))))
 
 fewer : (n : ℕ) (xs ys : List Token) → 1 ≤ length (atoms_of_tokens xs) → length (atoms_of_tokens (xs ++ ys)) ≤ suc n → length (atoms_of_tokens ys) ≤ n
 fewer n xs ys some_ few =
@@ -224,11 +224,11 @@ all_units zero p m t ts stated fits more st few =
 all_units (suc n) p m t ts stated fits more st few =
     units_from_one n (units_from n) (all_units n) p m t ts (tokens t ++ tokens ts) more (first_unit p m t (tokens ts) stated fits (rows_close ts more) st) st few
 
-line_units : (n : ℕ) (t : Trees) → Fits Atoms 32 32 (Statement place.First ∷ FurtherItems) t → Stand (tokens t) → length (atoms_of_tokens (tokens t)) ≤ n
-    → Cut (units_from n place.First (atoms_of_tokens (tokens t))) (units_in (Statement place.First ∷ FurtherItems) t)
+line_units : (n : ℕ) (t : Trees) → Fits Atoms 32 32 (Statement position.First ∷ FurtherItems) t → Stand (tokens t) → length (atoms_of_tokens (tokens t)) ≤ n
+    → Cut (units_from n position.First (atoms_of_tokens (tokens t))) (units_in (Statement position.First ∷ FurtherItems) t)
 line_units n Done fits st few = cc
 line_units n (Put x ts) fits st few = cc
-line_units n (In m t ts) fits st few = all_units n place.First m t ts fits.0 fits.1.0 fits.1.1 st few
+line_units n (In m t ts) fits st few = all_units n position.First m t ts fits.0 fits.1.0 fits.1.1 st few
 
 tree_cut : (t : Trees) → IsTree t → Cut (units_of (atoms t)) (units_on t)
 unfolding units_of units_on
@@ -237,8 +237,8 @@ tree_cut t h =
     let st : Stand (tokens t) = record { good = good.0; neighbours = good.1; remarks = h.remarks } in
     let same : atoms_of_tokens (tokens t) ≡ atoms t = tree_atoms t in
     let few : length (atoms_of_tokens (tokens t)) ≤ length (atoms t) = (let e = ap (λ (l : Text). length l) same in omega (arith, e)) in
-    subst (λ (s : Text). Cut (units_from (length (atoms t)) place.First s) (units_in (row_items row.LINE) t)) same
-    (subst (λ (is : List Item). Cut (units_from (length (atoms t)) place.First (atoms_of_tokens (tokens t))) (units_in is t)) (sym line_is)
+    subst (λ (s : Text). Cut (units_from (length (atoms t)) position.First s) (units_in (row_items row.LINE) t)) same
+    (subst (λ (is : List Item). Cut (units_from (length (atoms t)) position.First (atoms_of_tokens (tokens t))) (units_in is t)) (sym line_is)
     (line_units (length (atoms t)) t (subst (λ (is : List Item). Fits Atoms 32 32 is t) line_is h.fits) st few))
 
 pub tree_is_cut : EachTreeIsCutIntoUnits

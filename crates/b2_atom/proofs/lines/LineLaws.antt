@@ -5,7 +5,7 @@ use Rattle.b2_atom.specs.Words.{Text}
 use Rattle.b2_atom.specs.Tokens.{Token, token_atoms, listed}
 use Rattle.b2_atom.specs.Tree.{Trees, Outcome, atoms, tokens}
 use Rattle.b2_atom.specs.Tree.Trees.{Done, Put, In}
-use Rattle.b2_atom.specs.Grammar.{row_items, read_line, level}
+use Rattle.b2_atom.specs.Grammar.{row_items, parse_line, level}
 use Rattle.b2_atom.specs.Lines.{is_line, line_atoms, atoms_of}
 use Rattle.b2_atom.specs.Spelling.{Spells, atoms_of_tokens}
 use Rattle.b2_atom.specs.Fitting.{LineTree, LineTreeWithin, RemarksEnd}
@@ -15,9 +15,9 @@ use Rattle.b2_atom.specs.declared.words.Origin.{Origin}
 use Rattle.b2_atom.specs.declared.words.Origin.TheVariants as origin
 use Rattle.b2_atom.specs.declared.output.Stop.{Stop}
 use Rattle.b2_atom.proofs.Booleans.{and_right, both}
-use Rattle.b2_atom.proofs.settled.Fronts.{of_row, of, of_items, Known, refuse, is_free_row}
-use Rattle.b2_atom.proofs.settled.Fronts.Front.{None}
-use Rattle.b2_atom.proofs.settled.Heads.{known, Refused, refused_fronts}
+use Rattle.b2_atom.proofs.settled.Lookaheads.{of_row, of, of_items, Known, refuse, is_free_row}
+use Rattle.b2_atom.proofs.settled.Lookaheads.Lookahead.{None}
+use Rattle.b2_atom.proofs.settled.Heads.{known, Refused, refused_lookaheads}
 use Rattle.b2_atom.proofs.reading.Complete.{Ready, bound_row}
 use Rattle.b2_atom.proofs.reading.Branches.{Chooses, reads_part, row_rank}
 use Rattle.b2_atom.proofs.reading.ReadBack.{read_back, count}
@@ -47,7 +47,7 @@ line_ready most o t f less remarks_ = record {
   settles = bound_row row.LINE line_bound;
   ranked = (let P : Known → Type 0 = λ k. suc k.rank ≤ 40 in let e : suc (of_items of (row_items row.LINE)).rank ≤ 40 = subst P (sym (known row.LINE)) (row_rank row.LINE) in omega (arith, e));
   enough = λ h. omega (arith, less);
-  refuses = (let P : Known → Type 0 = λ k. Refused o k.tails [] in subst P (sym (known row.LINE)) (refused_fronts o (of row.LINE).tails (None ∷ []) [] line_tails refl));
+  refuses = (let P : Known → Type 0 = λ k. Refused o k.tails [] in subst P (sym (known row.LINE)) (refused_lookaheads o (of row.LINE).tails (None ∷ []) [] line_tails refl));
   remarks = (let P : List Token → Type 0 = λ l. RemarksEnd l in subst P (sym (append-nil (tokens t))) remarks_);
 }
 
@@ -67,8 +67,8 @@ read_within_back most o t s h spelled =
     s (subst P (sym (append-nil (tokens t))) spelled) in
     ran.1.0 ∙ ap (λ (r : Text). Ok (t, r)) ran.1.1
 
-pub read_line_back : (o : Origin) (t : Trees) (s : Text) → LineTree o t → Spells o (tokens t) s → read_line o s ≡ Ok (t, [])
-read_line_back = read_within_back 32
+pub parse_line_back : (o : Origin) (t : Trees) (s : Text) → LineTree o t → Spells o (tokens t) s → parse_line o s ≡ Ok (t, [])
+parse_line_back = read_within_back 32
 
 -- the atoms of a tree are those of its tokens
 pub append_atoms : (xs ys : List Token) → atoms_of_tokens (xs ++ ys) ≡ atoms_of_tokens xs ++ atoms_of_tokens ys
@@ -122,7 +122,7 @@ pub one_tree : NoTwoTreesShareAtoms
 one_tree t u (n, is_t) (m, is_u) same =
     one_tree_within (n + m) t u (anywhere_wider n (n + m) (less_left n m) origin.Atoms t is_t) (anywhere_wider m (n + m) (less_right n m) origin.Atoms u is_u) same
 
-tree_of : (s : Text) (o : Outcome) → read_line origin.Atoms s ≡ o → is_ok o ≡ true → Takes s o → Ends o → SpellsTree s
+tree_of : (s : Text) (o : Outcome) → parse_line origin.Atoms s ≡ o → is_ok o ≡ true → Takes s o → Ends o → SpellsTree s
 tree_of s (Err e) is h takes ends = cc
 tree_of s (Ok p) is h takes ends = record {
   tree = p.0;
@@ -133,20 +133,20 @@ tree_of s (Ok p) is h takes ends = record {
 -- each line spells a tree
 pub spells_tree : EachLineSpellsATree
 unfolding is_line
-spells_tree s h = tree_of s (read_line origin.Atoms s) refl (and_right (nat_le (length s) 255) _ h) (takes_line s) (ends_line origin.Atoms s)
+spells_tree s h = tree_of s (parse_line origin.Atoms s) refl (and_right (nat_le (length s) 255) _ h) (takes_line s) (ends_line origin.Atoms s)
 
 -- what is listed is read back
 listed_program : (t : Trees) → LineTree origin.Program t → line_atoms origin.Program (listed false false (tokens t)) ≡ Ok (atoms t)
 unfolding line_atoms
 listed_program t h =
     let good = good_tree 32 origin.Program t h in
-    ap atoms_of (read_line_back origin.Program t (listed false false (tokens t)) h (spells_listed (tokens t) good.0 good.1))
+    ap atoms_of (parse_line_back origin.Program t (listed false false (tokens t)) h (spells_listed (tokens t) good.0 good.1))
 
 listed_immediate : (t : Trees) → LineTree origin.Immediate t → line_atoms origin.Immediate (listed false false (tokens t)) ≡ Ok (atoms t)
 unfolding line_atoms
 listed_immediate t h =
     let good = good_tree 32 origin.Immediate t h in
-    ap atoms_of (read_line_back origin.Immediate t (listed false false (tokens t)) h (spells_immediate (tokens t) good.0 good.1))
+    ap atoms_of (parse_line_back origin.Immediate t (listed false false (tokens t)) h (spells_immediate (tokens t) good.0 good.1))
 
 pub listed_back : WhatIsListedIsReadBack
 listed_back = (listed_program, listed_immediate)
@@ -160,7 +160,7 @@ pub ok_same : (a b : Text) → ◌≡◌ {A = Result Text Stop} (Ok a) (Ok b) �
 unfolding ok_of
 ok_same a b h = ap (λ (r : Result Text Stop). ok_of r a) h
 
-read_of : (o : Origin) (s line : Text) (r : Outcome) → read_line o s ≡ r → atoms_of r ≡ Ok line → length line ≤ 255 → is_line line ≡ true
+read_of : (o : Origin) (s line : Text) (r : Outcome) → parse_line o s ≡ r → atoms_of r ≡ Ok line → length line ≤ 255 → is_line line ≡ true
 read_of o s line (Err e) is h less = cc
 read_of o s line (Ok p) is h less =
     let same : atoms p.0 ≡ line = ok_same (atoms p.0) line h in
@@ -169,4 +169,4 @@ read_of o s line (Ok p) is h less =
 
 pub read_is_line : WhatIsReadIsALine
 unfolding line_atoms
-read_is_line o s line h less = read_of o s line (read_line o s) refl h less
+read_is_line o s line h less = read_of o s line (parse_line o s) refl h less

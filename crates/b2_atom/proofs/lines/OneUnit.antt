@@ -17,21 +17,21 @@ use Rattle.b2_atom.specs.declared.rows.TheConstants as row
 use Rattle.b2_atom.specs.declared.words.Origin.TheVariants.{Atoms}
 use Rattle.b2_atom.specs.declared.forms.Start.TheVariants as start
 use Rattle.b2_atom.specs.declared.forms.Position.{Position}
-use Rattle.b2_atom.specs.declared.forms.Position.TheVariants as place
+use Rattle.b2_atom.specs.declared.forms.Position.TheVariants as position
 use Rattle.b2_atom.specs.declared.forms.Item.{Item}
 use Rattle.b2_atom.specs.declared.forms.Item.TheVariants.{Word, Part, Either, Statement}
 use Rattle.b2_atom.specs.declared.output.Stop.{Stop}
 use Rattle.b2_atom.proofs.Booleans.{and_left, and_right, never, or_cases, equal}
-use Rattle.b2_atom.proofs.settled.Fronts.{every, some, Front, fronts, surely, Tail, of_items, of_row, of, settled, marked_choice, is_free_row, statement_heads, every_statement}
+use Rattle.b2_atom.proofs.settled.Lookaheads.{every, some, Lookahead, is_ahead, surely, Tail, of_items, of_row, of, settled, symbol_choice, is_free_row, statement_heads, every_statement}
 use Rattle.b2_atom.proofs.settled.Computed.{one_of_statements}
 use Rattle.b2_atom.proofs.settled.Heads.{Refused, is_closing, leads}
 use Rattle.b2_atom.proofs.reading.Fitted.{tokens_also}
 use Rattle.b2_atom.proofs.reading.FittedLines.{following_is, error_is, else_is, if_is as if_row_is}
-use Rattle.b2_atom.proofs.settled.FrontAnswers.{answers}
+use Rattle.b2_atom.proofs.settled.LookaheadAnswers.{answers}
 use Rattle.b2_atom.proofs.reading.Complete.{Runs, runs_then, runs_under, runs_is, if_is, reads_row, reads_item, next_runs, remarks_right}
-use Rattle.b2_atom.proofs.reading.Branches.{reads_part, row_runs, row_fronts, then_then}
+use Rattle.b2_atom.proofs.reading.Branches.{reads_part, row_runs, row_lookaheads, then_then}
 use Rattle.b2_atom.proofs.reading.ReadBack.{read_back, statement_row_runs}
-use Rattle.b2_atom.proofs.settled.Choice.{one_statement, marked, Stands, opens_statement}
+use Rattle.b2_atom.proofs.settled.Choice.{one_statement, led_by_symbol, Stands, opens_statement}
 use Rattle.b2_atom.proofs.spelling.SideBySide.{later}
 use Rattle.b2_atom.proofs.spelling.SpellsAtoms.{spells_atoms}
 use Rattle.b2_atom.proofs.reading.Sound.{Takes, takes_statement}
@@ -139,7 +139,7 @@ record Followed (m c : ℕ) (front : List Item) (last : Item) : Type 0 where
   plain : (of_items of (Word c ∷ front)).plain ≡ true
   tails : (of_items of (Word c ∷ front)).tails ≡ []
   ranked : nat_le (of_items of (Word c ∷ front)).rank 39 ≡ true
-  chosen : marked_choice m (Word c ∷ front) ≡ true
+  chosen : symbol_choice m (Word c ∷ front) ≡ true
 
 rank_le : (n : ℕ) → nat_le n 39 ≡ true → n ≤ 39
 rank_le n h = grind (arith, nat_tests)
@@ -187,13 +187,13 @@ cut_stands : (m c : ℕ) (front : List Item) (last : Item) → Followed m c fron
 unfolding opens_first
 cut_stands m c front last f p Done s stated fits spelled_ = cc
 cut_stands m c front last f p (Put (Coded d) ts) s stated fits spelled_ =
-    marked Atoms p 32 m (Word c ∷ front) (Put (Coded d) ts) [] s refl f.chosen (λ xs x same. sym (ap opens_first same)) stated fits refl spelled_
+    led_by_symbol Atoms p 32 m (Word c ∷ front) (Put (Coded d) ts) [] s refl f.chosen (λ xs x same. sym (ap opens_first same)) stated fits refl spelled_
 cut_stands m c front last f p (Put (Plain k w) ts) s stated fits spelled_ = cc
 cut_stands m c front last f p (Put (Lined h l) ts) s stated fits spelled_ = cc
 cut_stands m c front last f p (In n inner ts) s stated fits spelled_ = absurd fits
 
 -- no fuel is left for a statement
-none_read : (st : Position → Parser Text) (d p : ℕ → Parser Text) (v : Text) → st place.Following v ≡ Ok (Done, v) → items st d p (reader Atoms) (Statement place.Following ∷ []) v ≡ Ok (Done, v)
+none_read : (st : Position → Parser Text) (d p : ℕ → Parser Text) (v : Text) → st position.Following v ≡ Ok (Done, v) → items st d p (reader Atoms) (Statement position.Following ∷ []) v ≡ Ok (Done, v)
 unfolding items item
 none_read st d p v h = ap (λ (o : Outcome). and_then o (nothing)) h
 
@@ -224,7 +224,7 @@ line_bound : not (is_free_row (row_items row.LINE_NUMBER)) ≡ true
 unfolding row_items
 line_bound = refl
 
-line_heads : (not (of row.LINE_NUMBER).empty && every (λ (f : Front). surely start.Line f true) (of row.LINE_NUMBER).heads) ≡ true
+line_heads : (not (of row.LINE_NUMBER).empty && every (λ (f : Lookahead). surely start.Line f true) (of row.LINE_NUMBER).heads) ≡ true
 unfolding of_row of row_items
 line_heads = refl
 
@@ -244,7 +244,7 @@ either_line : (b : Trees) (more : List Token) (v : Text) → Fits Atoms 32 32 (r
 unfolding item
 either_line b more v fits remarks_ spelled_ =
     let asked = answers Atoms start.Line (of row.LINE_NUMBER).heads true (tokens b ++ more) v (and_right (not (of row.LINE_NUMBER).empty) _ line_heads)
-    (row_fronts b Atoms 32 32 row.LINE_NUMBER fits (and_left _ _ line_heads) more) spelled_ in
+    (row_lookaheads b Atoms 32 32 row.LINE_NUMBER fits (and_left _ _ line_heads) more) spelled_ in
     last_runs LineOrStatement (In 1 b Done) more v
     (runs_is Atoms _ (under 1 (reads_part Atoms 32 32 39 0 row.LINE_NUMBER v)) (In 1 b Done) more (if_is (starts Atoms start.Line v) true _ _ asked)
     (runs_under Atoms 1 (reads_part Atoms 32 32 39 0 row.LINE_NUMBER v) b more
@@ -255,11 +255,11 @@ either_line b more v fits remarks_ spelled_ =
 pub record Next (us : List TreeUnit) (more here : List Token) : Type 0 where
   pub row : ℕ
   pub tree : Trees
-  pub stated : is_statement forms Atoms place.Following row ≡ true
+  pub stated : is_statement forms Atoms position.Following row ≡ true
   pub fits : Fits Atoms 32 32 (row_items row) tree
   pub same : here ≡ tokens tree ++ more
-  pub heads : some (λ (f : Front). fronts f here) statement_heads ≡ true
-  pub units : us ≡ record { place = place.Following; row = row; tree = own (row_items row) tree } ∷ units_in (row_items row) tree
+  pub heads : some (λ (f : Lookahead). is_ahead f here) statement_heads ≡ true
+  pub units : us ≡ record { position = position.Following; row = row; tree = own (row_items row) tree } ∷ units_in (row_items row) tree
 
 -- the first unit of a statement's tokens: all of them, or another statement follows
 pub record FirstUnit (p : Position) (m : ℕ) (t : Trees) (all more : List Token) : Type 0 where
@@ -319,13 +319,13 @@ split_part n front last plain split (In m inner ts) h =
     }
 
 -- a statement that follows
-open_heads : (q : Trees) (more : List Token) → Fits Atoms 32 32 (Statement place.Following ∷ []) q → some (λ (f : Front). fronts f (tokens q ++ more)) statement_heads ≡ true
-open_heads q more fits = elim (leads q Atoms 32 32 (Statement place.Following ∷ []) fits more) [
+open_heads : (q : Trees) (more : List Token) → Fits Atoms 32 32 (Statement position.Following ∷ []) q → some (λ (f : Lookahead). is_ahead f (tokens q ++ more)) statement_heads ≡ true
+open_heads q more fits = elim (leads q Atoms 32 32 (Statement position.Following ∷ []) fits more) [
   | inl g ↦ cc
   | inr g ↦ g
 ]
 
-next_statement : (q : Trees) (more : List Token) → Fits Atoms 32 32 (Statement place.Following ∷ []) q → Next (units_in (Statement place.Following ∷ []) q) more (tokens q ++ more)
+next_statement : (q : Trees) (more : List Token) → Fits Atoms 32 32 (Statement position.Following ∷ []) q → Next (units_in (Statement position.Following ∷ []) q) more (tokens q ++ more)
 next_statement Done more fits = cc
 next_statement (Put t ts) more fits = cc
 next_statement (In m inner Done) more fits = record {
@@ -335,16 +335,16 @@ next_statement (In m inner Done) more fits = record {
   fits = fits.1.0;
   same = ap (λ (l : List Token). l ++ more) (append-nil (tokens inner));
   heads = open_heads (In m inner Done) more fits;
-  units = ap (λ (us : List TreeUnit). record { place = place.Following; row = m; tree = own (row_items m) inner } ∷ us) (append-nil (units_in (row_items m) inner));
+  units = ap (λ (us : List TreeUnit). record { position = position.Following; row = m; tree = own (row_items m) inner } ∷ us) (append-nil (units_in (row_items m) inner));
 }
 next_statement (In m inner (Put t ts)) more fits = absurd fits.1.1
 next_statement (In m inner (In n other ts)) more fits = absurd fits.1.1
 
-followed_by : (q : Trees) → Fits Atoms 32 32 (row_items row.FOLLOWING) q → Fits Atoms 32 32 (Statement place.Following ∷ []) q
+followed_by : (q : Trees) → Fits Atoms 32 32 (row_items row.FOLLOWING) q → Fits Atoms 32 32 (Statement position.Following ∷ []) q
 followed_by q fits = subst (λ (is : List Item). Fits Atoms 32 32 is q) following_is fits
 
 -- which is cut out
-own_statement : (q : Trees) → Fits Atoms 32 32 (Statement place.Following ∷ []) q → own (Statement place.Following ∷ []) q ≡ Done
+own_statement : (q : Trees) → Fits Atoms 32 32 (Statement position.Following ∷ []) q → own (Statement position.Following ∷ []) q ≡ Done
 own_statement Done fits = cc
 own_statement (Put t ts) fits = cc
 own_statement (In m inner Done) fits = refl
@@ -354,10 +354,10 @@ own_statement (In m inner (In n other ts)) fits = absurd fits.1.1
 own_followed : (k : ℕ) (q : Trees) → Fits Atoms 32 32 (row_items row.FOLLOWING) q → In k (own (row_items row.FOLLOWING) q) Done ≡ In k Done Done
 own_followed k q fits = ap (λ (u : Trees). In k u Done) (ap (λ (is : List Item). own is q) following_is ∙ own_statement q (followed_by q fits))
 
-units_followed : (q : Trees) → units_in (row_items row.FOLLOWING) q ++ [] ≡ units_in (Statement place.Following ∷ []) q
+units_followed : (q : Trees) → units_in (row_items row.FOLLOWING) q ++ [] ≡ units_in (Statement position.Following ∷ []) q
 units_followed q = append-nil (units_in (row_items row.FOLLOWING) q) ∙ ap (λ (is : List Item). units_in is q) following_is
 
-unlined : (ts : List Token) (v : Text) → some (λ (f : Front). fronts f ts) statement_heads ≡ true → Spells Atoms ts v → starts Atoms start.Line v ≡ false
+unlined : (ts : List Token) (v : Text) → some (λ (f : Lookahead). is_ahead f ts) statement_heads ≡ true → Spells Atoms ts v → starts Atoms start.Line v ≡ false
 unlined ts v heads spelled_ = answers Atoms start.Line statement_heads false ts v refl heads spelled_
 
 nothing_there : (v : Text) → v ≡ [] → starts Atoms start.Line v ≡ false
@@ -425,7 +425,7 @@ follow_tokens a q k more =
 
 follow_unit : (m c : ℕ) (front : List Item) (last : Item) → Followed m c front last → (p : Position) (a q : Trees) (k : ℕ) (more : List Token) → is_statement forms Atoms p m ≡ true
     → Fits Atoms 32 32 (row_items m) (also a (In k q Done)) → Fits Atoms 32 32 (Word c ∷ front) a → Fits Atoms 32 32 (row_items row.FOLLOWING) q → is_closing more ≡ true
-    → own (row_items m) (also a (In k q Done)) ≡ also a (In k Done Done) → units_in (row_items m) (also a (In k q Done)) ≡ units_in (Statement place.Following ∷ []) q
+    → own (row_items m) (also a (In k q Done)) ≡ also a (In k Done Done) → units_in (row_items m) (also a (In k q Done)) ≡ units_in (Statement position.Following ∷ []) q
     → Stops last k (tokens q ++ more) → Stops last k [] → Stand (tokens (also a (In k q Done)) ++ more) → FirstUnit p m (also a (In k q Done)) (tokens (also a (In k q Done)) ++ more) more
 follow_unit m c front last f p a q k more stated fits fits_a fits_q closed own_is units_are stops ends st =
     let mid : List Token = tokens q ++ more in

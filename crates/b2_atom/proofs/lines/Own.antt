@@ -9,7 +9,7 @@ use Rattle.b2_atom.specs.declared.forms.Leaf.TheVariants as leaf
 use Rattle.b2_atom.specs.declared.forms.Item.{Item}
 use Rattle.b2_atom.specs.declared.forms.Item.TheVariants.{Word, Sign, Among, ProgramWord, Ignored, Comma, LeftOut, End, Typed, Part, Maybe, Either, Many, Nest, Statement}
 use Rattle.b2_atom.proofs.Booleans.{and_left, and_right, both, or_cases}
-use Rattle.b2_atom.proofs.settled.Fronts.{Known, of_item, of_items, of, of_row, settled, settled_item, is_free_row, is_text, is_bound, refuse}
+use Rattle.b2_atom.proofs.settled.Lookaheads.{Known, of_item, of_items, of, of_row, settled, settled_item, is_free_row, is_text, is_bound, refuse}
 use Rattle.b2_atom.proofs.settled.Computed.{row_settled}
 use Rattle.b2_atom.proofs.settled.Heads.{known}
 

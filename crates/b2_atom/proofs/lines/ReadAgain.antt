@@ -6,7 +6,7 @@ use Rattle.b2_atom.specs.Tokens.{Token, token_atoms, listed, spelled, ends_wordy
 use Rattle.b2_atom.specs.Tokens.Token.{Coded, Plain, Lined}
 use Rattle.b2_atom.specs.Tree.{Trees, Outcome, tokens, atoms}
 use Rattle.b2_atom.specs.Lines.{line_atoms, line_source, atoms_of, source_of}
-use Rattle.b2_atom.specs.Grammar.{reader, items, item, level, deep, statement, statement_within, statement_row, starts, row_items, read_line}
+use Rattle.b2_atom.specs.Grammar.{reader, items, item, level, deep, statement, statement_within, statement_row, starts, row_items, parse_line}
 use Rattle.b2_atom.specs.Spelling.{AllGood, good_token, is_whole, is_free_text, atoms_of_tokens}
 use Rattle.b2_atom.specs.Fitting.{LineTree}
 use Rattle.b2_atom.specs.declared.words.Origin.TheVariants as origin
@@ -31,7 +31,7 @@ unfolding level items item row_items statement_within
 stopped_line s zero e h some = absurd (omega arith)
 stopped_line s (suc n) e h some = rw h refl
 
-no_statement : (s : Text) (e : Stop) → statement_row origin.Atoms First s ≡ Err e → is_ok (read_line origin.Atoms s) ≡ false
+no_statement : (s : Text) (e : Stop) → statement_row origin.Atoms First s ≡ Err e → is_ok (parse_line origin.Atoms s) ≡ false
 no_statement s e h = stopped_line s (length s + 1) e h (let some : 0 < length s + 1 = omega arith in some)
 
 empty_row : statement_row origin.Atoms First [] ≡ Err (At 14 0)
@@ -50,14 +50,14 @@ pub record Begun (a : Text) : Type 0 where
   pub some : 0 < length a
   pub blank : (first a == 32) ≡ false
 
-begun_by : (a : ℕ) (x : Text) (b : Bool) → (a == 32) ≡ b → is_ok (read_line origin.Atoms (a ∷ x)) ≡ true → Begun (a ∷ x)
+begun_by : (a : ℕ) (x : Text) (b : Bool) → (a == 32) ≡ b → is_ok (parse_line origin.Atoms (a ∷ x)) ≡ true → Begun (a ∷ x)
 begun_by a x true is h =
-    let P : ℕ → Type 0 = λ n. is_ok (read_line origin.Atoms (n ∷ x)) ≡ true in
+    let P : ℕ → Type 0 = λ n. is_ok (parse_line origin.Atoms (n ∷ x)) ≡ true in
     let there : P 32 = subst P (equal a 32 is) h in
     absurd (false_true (sym (no_statement (32 ∷ x) (At 14 (suc (length x))) (blank_row x)) ∙ there))
 begun_by a x false is h = record { some = omega arith; blank = is }
 
-begun : (a : Text) → is_ok (read_line origin.Atoms a) ≡ true → Begun a
+begun : (a : Text) → is_ok (parse_line origin.Atoms a) ≡ true → Begun a
 begun [] h = absurd (false_true (sym (no_statement [] (At 14 0) empty_row) ∙ h))
 begun (a ∷ x) h = begun_by a x (a == 32) refl h
 
@@ -112,7 +112,7 @@ read_again t h =
       some = front.some;
     }
 
-again_of : (s a : Text) (r : Outcome) → read_line origin.Program s ≡ r → atoms_of r ≡ Ok a → (u : Text) × ReadAgain a u
+again_of : (s a : Text) (r : Outcome) → parse_line origin.Program s ≡ r → atoms_of r ≡ Ok a → (u : Text) × ReadAgain a u
 again_of s a (Err e) is h = cc
 again_of s a (Ok p) is h =
     let same : atoms p.0 ≡ a = ok_same (atoms p.0) a h in
@@ -121,4 +121,4 @@ again_of s a (Ok p) is h =
 -- what was read of a program's line
 pub typed_again : (s a : Text) → line_atoms origin.Program s ≡ Ok a → (u : Text) × ReadAgain a u
 unfolding line_atoms
-typed_again s a h = again_of s a (read_line origin.Program s) refl h
+typed_again s a h = again_of s a (parse_line origin.Program s) refl h

@@ -44,13 +44,13 @@ of_chosen (Ok m) q u n t rest is =
     (both.0, ap (λ (k : ℕ). q k u) (sym both.0) ∙ both.1)
 
 read_by_row : (p : Position) (u : Text) (n : ℕ) (t : Trees) → statement (reader Atoms) 1 p u ≡ Ok (In n t Done, [])
-    → (unit_row (record { place = p; bytes = u }) ≡ n) × (part Atoms 0 32 40 n u ≡ Ok (t, []))
+    → (unit_row (record { position = p; bytes = u }) ≡ n) × (part Atoms 0 32 40 n u ≡ Ok (t, []))
 unfolding statement_within statement_row unit_row
 read_by_row p u n t is = of_chosen (row_at forms Atoms p u) (part Atoms 0 32 40) u n t [] is
 
 by_its_row : (u : LineUnit) → IsStatement u → IsReadByItsRow u
 by_its_row u h =
-    let both = read_by_row u.place u.bytes h.row h.tree h.read in
+    let both = read_by_row u.position u.bytes h.row h.tree h.read in
     record {
       tree = h.tree;
       statement = h.read ∙ (λ i. Ok (In (sym both.0 i) h.tree Done, []));

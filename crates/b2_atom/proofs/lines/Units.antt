@@ -8,7 +8,7 @@ use Rattle.std.specs.Option.{option_map}
 use Rattle.b2_atom.specs.Words.{Text}
 use Rattle.b2_atom.specs.Tree.{Outcome, atoms}
 use Rattle.b2_atom.specs.Grammar.{reader, statement}
-use Rattle.b2_atom.specs.Lines.{LineUnit, leading_unit, units_from, units_after, after_unit, left_after, next_place, next_text, is_line, units_of, spanned, KeepsUnits, IsEndOf, further_unit, is_further}
+use Rattle.b2_atom.specs.Lines.{LineUnit, leading_unit, units_from, units_after, after_unit, left_after, next_position, next_text, is_line, units_of, spanned, KeepsUnits, IsEndOf, further_unit, is_further}
 use Rattle.b2_atom.specs.declared.words.Origin.TheVariants.{Atoms}
 use Rattle.b2_atom.specs.declared.forms.Position.{Position}
 use Rattle.b2_atom.specs.declared.forms.Position.TheVariants.{First}
@@ -19,7 +19,7 @@ use Rattle.b2_atom.proofs.reading.Sound.{Takes, takes_statement}
 some_left : (n i : ℕ) → i < n → suc (n - (i + 1)) ≡ n - i
 some_left n i h = omega arith
 
-further_some : (f : Position → Text → List LineUnit) (rest : Text) → (length rest == 0) ≡ false → units_after f rest ≡ f (next_place rest) (next_text rest)
+further_some : (f : Position → Text → List LineUnit) (rest : Text) → (length rest == 0) ≡ false → units_after f rest ≡ f (next_position rest) (next_text rest)
 further_some f [] h = cc
 further_some f (b ∷ bs) h = refl
 
@@ -31,7 +31,7 @@ further_none f [] h = refl
 further_none f (b ∷ bs) h = absurd (nonempty (length bs) h)
 
 pub next_units : (n i : ℕ) (p : Position) (t rest : Text) → i < n → rest ≡ after_unit p t → (length rest == 0) ≡ false
-    → units_from (n - i) p t ≡ leading_unit p t ∷ units_from (n - (i + 1)) (next_place rest) (next_text rest)
+    → units_from (n - i) p t ≡ leading_unit p t ∷ units_from (n - (i + 1)) (next_position rest) (next_text rest)
 next_units n i p t rest h is some =
     ap (λ (m : ℕ). units_from m p t) (sym (some_left n i h))
     ∙ ap (λ (r : Text). leading_unit p t ∷ units_after (units_from (n - (i + 1))) r) (sym is)
@@ -54,11 +54,11 @@ one_more line spans more s u us added is =
     ∙ ap (λ (v : LineUnit). map (spanned line) spans ++ v ∷ us) is
 
 pub found_next : (line : Text) (n i : ℕ) (p q : Position) (t rest next : Text) (spans more : List Span) (s : Span) → more ≡ spans ++ s ∷ [] → spanned line s ≡ leading_unit p t
-    → i < n → rest ≡ after_unit p t → (length rest == 0) ≡ false → q ≡ next_place rest → next ≡ next_text rest
+    → i < n → rest ≡ after_unit p t → (length rest == 0) ≡ false → q ≡ next_position rest → next ≡ next_text rest
     → map (spanned line) spans ++ units_from (n - i) p t ≡ units_of line → map (spanned line) more ++ units_from (n - (i + 1)) q next ≡ units_of line
 found_next line n i p q t rest next spans more s added is h behind_ some placed left found =
     (λ x. map (spanned line) more ++ units_from (n - (i + 1)) (placed x) (left x))
-    ∙ one_more line spans more s (leading_unit p t) (units_from (n - (i + 1)) (next_place rest) (next_text rest)) added is
+    ∙ one_more line spans more s (leading_unit p t) (units_from (n - (i + 1)) (next_position rest) (next_text rest)) added is
     ∙ ap (λ (us : List LineUnit). map (spanned line) spans ++ us) (sym (next_units n i p t rest h behind_ some))
     ∙ found
 
@@ -140,7 +140,7 @@ shorter left rest p is = (end_unit left left rest p (end_whole left) is).short
 
 further_few : (n : ℕ) (rest : Text) → ((p : Position) (t : Text) → length (units_from n p t) ≤ n) → length (units_after (units_from n) rest) ≤ n
 further_few n [] few = omega arith
-further_few n (b ∷ bs) few = few (next_place (b ∷ bs)) (next_text (b ∷ bs))
+further_few n (b ∷ bs) few = few (next_position (b ∷ bs)) (next_text (b ∷ bs))
 
 few_from : (n : ℕ) (p : Position) (t : Text) → length (units_from n p t) ≤ n
 few_from zero p t = omega arith
@@ -176,7 +176,7 @@ number_within (u ∷ us) zero bytes h = omega arith
 number_within (u ∷ us) (suc k) bytes h = let after = number_within us k bytes h in omega (arith, after)
 
 -- a unit that a walk passes by
-passed : (k i : ℕ) (u : LineUnit) (us : List LineUnit) → (nat_lt k i && is_further u.place) ≡ false → further_unit k i (u ∷ us) ≡ further_unit k (i + 1) us
+passed : (k i : ℕ) (u : LineUnit) (us : List LineUnit) → (nat_lt k i && is_further u.position) ≡ false → further_unit k i (u ∷ us) ≡ further_unit k (i + 1) us
 passed k i u us h = ap (λ (b : Bool). if b then i else further_unit k (suc i) us) h ∙ ap (λ (n : ℕ). further_unit k n us) (sym (add-one i))
 
 not_after : (k i : ℕ) (b : Bool) → i ≤ k → (nat_lt k i && b) ≡ false
@@ -191,7 +191,7 @@ further_after (suc j) k i [] h few = absurd (omega arith)
 further_after (suc j) k i (u ∷ us) h few =
     (let same : i + suc j ≡ i + 1 + j = omega arith in ap (λ (n : ℕ). further_unit k n (drop j us)) same)
     ∙ further_after j k (i + 1) us (omega arith) (omega arith)
-    ∙ sym (passed k i u us (not_after k i (is_further u.place) (omega arith)))
+    ∙ sym (passed k i u us (not_after k i (is_further u.position) (omega arith)))
 
 -- which units are passed by
 pub further_first : (k : ℕ) (line : Text) (spans : List Span) → k + 1 ≤ length spans
@@ -215,22 +215,22 @@ here line spans i d h =
     ∙ ap (map (spanned line)) (drop_more spans i d h)
     ∙ ap (λ (us : List LineUnit). spanned line (get_or spans i d) ∷ us) (sym (drop-map (spanned line) (i + 1) spans))
 
-pub further_passed : (k i : ℕ) (line : Text) (spans : List Span) (d : Span) → i < length spans → is_further (get_or spans i d).place ≡ false
+pub further_passed : (k i : ℕ) (line : Text) (spans : List Span) (d : Span) → i < length spans → is_further (get_or spans i d).position ≡ false
     → further_unit k (i + 1) (drop (i + 1) (map (spanned line) spans)) ≡ further_unit k i (drop i (map (spanned line) spans))
 further_passed k i line spans d h not_it =
     sym (ap (further_unit k i) (here line spans i d h) ∙ passed k i (spanned line (get_or spans i d)) (drop (i + 1) (map (spanned line) spans)) (none (nat_lt k i) not_it)) where
-      none : (b : Bool) → is_further (get_or spans i d).place ≡ false → (b && is_further (get_or spans i d).place) ≡ false
+      none : (b : Bool) → is_further (get_or spans i d).position ≡ false → (b && is_further (get_or spans i d).position) ≡ false
       none true h = h
       none false h = refl
 
-pub further_found : (k i : ℕ) (line : Text) (spans : List Span) (d : Span) → k < i → i < length spans → is_further (get_or spans i d).place ≡ true
+pub further_found : (k i : ℕ) (line : Text) (spans : List Span) (d : Span) → k < i → i < length spans → is_further (get_or spans i d).position ≡ true
     → i ≡ further_unit k i (drop i (map (spanned line) spans))
 further_found k i line spans d after h it =
     sym (ap (further_unit k i) (here line spans i d h) ∙ (λ x. if both x then i else further_unit k (suc i) (drop (i + 1) (map (spanned line) spans)))) where
       is_after : nat_lt k i ≡ true
       is_after = grind (arith, nat_tests)
 
-      both : (nat_lt k i && is_further (get_or spans i d).place) ≡ true
+      both : (nat_lt k i && is_further (get_or spans i d).position) ≡ true
       both = (λ x. is_after x && it x)
 
 pub further_none_left : (k i : ℕ) (line : Text) (spans : List Span) → i ≡ length spans → i ≡ further_unit k i (drop i (map (spanned line) spans))

@@ -1,4 +1,4 @@
--- One reading after another, and what a output holds after it.
+-- One reading after another, and what an output holds after it.
 use Rattle.std.proofs.Common.{◌≡◌, ℕ, zero, suc, ◌+◌, ◌-◌, ◌<◌, List, [], ◌∷◌, ◌++◌, length, refl, sym, ap, ◌∙◌, arith, Bor, Result, Ok, Err, true, false, Bool, if◌then◌else◌, ◌≤◌, is_ok, append_assoc, append-nil, ◌&&◌, ◌||◌, nat_le}
 use Rattle.b2_atom.specs.Words.{Text}
 use Rattle.b2_atom.specs.Tokens.{Token, token_atoms, listed, ending, ends_wordy, is_operand, is_apart, maybe_spaced, spelled, is_global_name, is_function_word}
@@ -16,7 +16,7 @@ use Rattle.b2_atom.specs.declared.forms.Position.{Position}
 use Rattle.b2_atom.specs.declared.forms.Item.{Item}
 use Rattle.b2_atom.specs.declared.forms.Item.TheVariants.{Nest}
 use Rattle.b2_atom.proofs.Booleans.{or_false, or_assoc}
-use Rattle.b2_atom.specs.Grammar.{Reader, reader, items, item, item_of_part, deep, level, statement, statement_within, many, row_items, starts, absent, part, read_line, chosen, statement_row}
+use Rattle.b2_atom.specs.Grammar.{Reader, reader, items, item, item_of_part, deep, level, statement, statement_within, many, row_items, starts, absent, part, parse_line, chosen, statement_row}
 
 pub put_all-also : (s : Seen) (a b : Trees) → put_all s (also a b) ≡ put_all (put_all s a) b
 put_all-also s Done b = refl
@@ -43,7 +43,7 @@ pub bind_err : (old : Seen) (e : Stop) (o : Outcome) (q : Parser Text) → emitt
 bind_err old e (Err f) q is = is
 bind_err old e (Ok p) q is = cc
 
--- a output that holds no bytes holds none after a reading, and every other does
+-- an output that holds no bytes holds none after a reading, and every other does
 pub put_all-bytes : (s : Seen) (t : Trees) → holds_bytes (put_all s t) ≡ holds_bytes s
 put_all-bytes s Done = refl
 put_all-bytes Silent (Put t ts) = put_all-bytes Silent ts
@@ -176,7 +176,7 @@ put_all-written bs (Put t ts) =
 put_all-written bs (In n i ts) =
     ap (λ (s : Seen). put_all s ts) (put_all-written bs i) ∙ put_all-written (bs ++ atoms i) ts ∙ ap Written (append_assoc bs (atoms i) (atoms ts))
 
--- the atoms in a output that held none
+-- the atoms in an output that held none
 pub held : (n : Seen) (rest : Text) (o : Outcome) → emitted (Written []) o ≡ Ok (n, rest) → atoms_of o ≡ Ok (bytes_of n)
 held n rest (Err e) is = cc
 held n rest (Ok p) is =
@@ -230,9 +230,9 @@ no_source (Ok p) b e h k = cc
 -- a line has a source
 pub line_has_source : (t : Text) (e : Stop) → is_line t ≡ true → line_source t ≡ Err e → ⊥
 unfolding is_line line_source
-line_has_source t e h k = no_source (read_line origin.Atoms t) (nat_le (length t) 255) e h k
+line_has_source t e h k = no_source (parse_line origin.Atoms t) (nat_le (length t) 255) e h k
 
--- a output that notes what is used
+-- an output that notes what is used
 put_all-noted : (u : Uses) (t : Trees) → put_all (Noted u) t ≡ Noted (record { globals = u.globals || names_global t; functions = u.functions || calls_function t })
 put_all-noted u Done = λ i. Noted (record { globals = sym (or_false u.globals) i; functions = sym (or_false u.functions) i })
 put_all-noted u (Put t ts) =
@@ -243,7 +243,7 @@ put_all-noted u (In n inner ts) =
     ∙ put_all-noted (record { globals = u.globals || names_global inner; functions = u.functions || calls_function inner }) ts
     ∙ (λ i. Noted (record { globals = or_assoc u.globals (names_global inner) (names_global ts) i; functions = or_assoc u.functions (calls_function inner) (calls_function ts) i }))
 
--- a output that noted nothing notes what was read
+-- an output that noted nothing notes what was read
 pub uses_noted : (n : Seen) (rest : Text) (o : Outcome) → emitted (Noted (record { globals = false; functions = false })) o ≡ Ok (n, rest) → noted n ≡ uses_of o
 uses_noted n rest (Err e) is = cc
 uses_noted n rest (Ok p) is =

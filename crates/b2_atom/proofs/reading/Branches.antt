@@ -19,11 +19,11 @@ use Rattle.b2_atom.specs.declared.forms.Position.{Position}
 use Rattle.b2_atom.specs.declared.forms.Item.{Item}
 use Rattle.b2_atom.specs.declared.forms.Item.TheVariants.{Word, Sign, Typed, Part, Maybe, Either, Many, Nest}
 use Rattle.b2_atom.proofs.Booleans.{equal, and_left, and_right, or_one, or_other, or_cases, never, not_true}
-use Rattle.b2_atom.proofs.settled.Fronts.{every, some, Front, fronts, surely, Tail, Known, when, of_item, of_items, of, refuse, settled_item, is_far, is_near, is_bound, is_closed, is_mark_item, is_free_row, of_row, is_remark_item, is_text}
-use Rattle.b2_atom.proofs.settled.Fronts.Front.{Spanned}
-use Rattle.b2_atom.proofs.settled.Fronts.Tail.{Asked}
-use Rattle.b2_atom.proofs.settled.FrontAnswers.{answers}
-use Rattle.b2_atom.proofs.settled.Heads.{known, Refused, RefusedBy, refused_left, refused_right, refused_fronts, is_closing, Led, leads, led_known, fills}
+use Rattle.b2_atom.proofs.settled.Lookaheads.{every, some, Lookahead, is_ahead, surely, Tail, Known, when, of_item, of_items, of, refuse, settled_item, is_far, is_near, is_bound, is_closed, is_symbol_item, is_free_row, of_row, is_remark_item, is_text}
+use Rattle.b2_atom.proofs.settled.Lookaheads.Lookahead.{Spanned}
+use Rattle.b2_atom.proofs.settled.Lookaheads.Tail.{Asked}
+use Rattle.b2_atom.proofs.settled.LookaheadAnswers.{answers}
+use Rattle.b2_atom.proofs.settled.Heads.{known, Refused, RefusedBy, refused_left, refused_right, refused_lookaheads, is_closing, Led, leads, led_known, fills}
 use Rattle.b2_atom.proofs.reading.Complete.{Runs, runs_then, runs_under, runs_is, reads_row, lead, Ready, behind, next_runs, length_append, ready_in, ready_row, rank_left, if_is, remarks_right, put_runs}
 use Rattle.b2_atom.proofs.settled.Computed.{row_settled}
 
@@ -69,10 +69,10 @@ inner_less : (b : Bool) (a c n f : ℕ) → b ≡ false → n ≡ a + c → n �
 inner_less true a c n f h is e = cc
 inner_less false a c n f h is e = omega (arith, e, is)
 
-pub inner_enough : (o : Origin) (most room l f m : ℕ) (i : Item) (is : List Item) (inner ts : Trees) (more : List Token) → is_mark_item i ≡ false
+pub inner_enough : (o : Origin) (most room l f m : ℕ) (i : Item) (is : List Item) (inner ts : Trees) (more : List Token) → is_symbol_item i ≡ false
     → Ready o most room l f (i ∷ is) (In m inner ts) more → (of_item of i).plain ≡ false → length (tokens inner) ≤ f
-inner_enough o most room l f m i is inner ts more unmarked r h =
-    inner_less (is_mark_item i) (length (tokens inner)) (length (tokens ts)) (length (tokens inner ++ tokens ts)) f unmarked (length_append (tokens inner) (tokens ts))
+inner_enough o most room l f m i is inner ts more led_by_none r h =
+    inner_less (is_symbol_item i) (length (tokens inner)) (length (tokens ts)) (length (tokens inner ++ tokens ts)) f led_by_none (length_append (tokens inner) (tokens ts))
     (r.enough (and_plain (of_item of i).plain (of_items of is).plain h))
 
 pub inner_remarks : (inner ts : Trees) (more : List Token) → RemarksEnd ((tokens inner ++ tokens ts) ++ more) → RemarksEnd (tokens inner ++ (tokens ts ++ more))
@@ -105,9 +105,9 @@ led_row : (inner : Trees) (o : Origin) (most room n : ℕ) → Fits o most room 
 led_row inner o most room n fits more = led_known n (tokens inner) more (leads inner o most room (row_items n) fits more)
 
 -- a row that isn't empty begins as it must
-pub row_fronts : (inner : Trees) (o : Origin) (most room n : ℕ) → Fits o most room (row_items n) inner → not (of n).empty ≡ true → (more : List Token)
-    → some (λ (f : Front). fronts f (tokens inner ++ more)) (of n).heads ≡ true
-row_fronts inner o most room n fits full more = elim (led_row inner o most room n fits more) [
+pub row_lookaheads : (inner : Trees) (o : Origin) (most room n : ℕ) → Fits o most room (row_items n) inner → not (of n).empty ≡ true → (more : List Token)
+    → some (λ (f : Lookahead). is_ahead f (tokens inner ++ more)) (of n).heads ≡ true
+row_lookaheads inner o most room n fits full more = elim (led_row inner o most room n fits more) [
   | inl g ↦ never (of n).empty g.1 (not_true _ full)
   | inr g ↦ g
 ]
@@ -129,7 +129,7 @@ maybe_runs inner ts gi gt o chooses most room l f x n is fi ft more r s spelled 
     let spelled_in = inner_spelled o inner ts more s spelled in
     let behind_ = branch_behind o most room l f 1 (Maybe x n) is inner ts more ft (and_left _ _ tests) r in
     let asked = answers o x (of n).heads true (tokens inner ++ (tokens ts ++ more)) s (and_right (not (of n).empty) _ fronts_)
-    (row_fronts inner o most room n fi (and_left _ _ fronts_) (tokens ts ++ more)) spelled_in in
+    (row_lookaheads inner o most room n fi (and_left _ _ fronts_) (tokens ts ++ more)) spelled_in in
     next_runs o most room l f (Maybe x n) is (In 1 inner Done) ts (tokens ts ++ more) more s
     (runs_is o _ (under 1 (reads_part o most room l f n s)) (In 1 inner Done) (tokens ts ++ more) (if_is (starts o x s) true _ _ asked)
     (runs_under o 1 (reads_part o most room l f n s) inner (tokens ts ++ more)
@@ -167,7 +167,7 @@ second_asked : (inner : Trees) (o : Origin) (most room : ℕ) (x : Start) (n k :
     → Refused o (when (of k).empty (Asked x ∷ [])) more → Spells o (tokens inner ++ more) s → starts o x s ≡ false
 second_asked inner o most room x n k more s fits near refused spelled = elim (led_row inner o most room k fits more) [
   | inl g ↦ (let P : List Token → Type 0 = λ l. Spells o (l ++ more) s in when_one o (of k).empty (Asked x) more g.1 refused s (subst P g.0 spelled))
-  | inr g ↦ answers o x (of k).heads false (tokens inner ++ more) s (and_right (every (λ (f : Front). surely x f true) (of n).heads) _ near) g spelled
+  | inr g ↦ answers o x (of k).heads false (tokens inner ++ more) s (and_right (every (λ (f : Lookahead). surely x f true) (of n).heads) _ near) g spelled
 ]
 
 -- the first of two
@@ -183,7 +183,7 @@ first_runs inner ts gi gt o chooses most room l f x n k is fi ft more r s spelle
     let behind_ = branch_behind o most room l f 1 (Either x n k) is inner ts more ft (and_left _ _ tests) r in
     let asked : starts o x s ≡ true = elim (or_cases (is_far x n k) (is_near of x n k) (and_right (not (of n).empty) _ choice)) [
       | inl g ↦ chooses.far_first x n k most room inner (tokens ts ++ more) s g fi spelled_in
-      | inr g ↦ answers o x (of n).heads true (tokens inner ++ (tokens ts ++ more)) s (and_left _ _ g) (row_fronts inner o most room n fi (and_left _ _ choice) (tokens ts ++ more)) spelled_in
+      | inr g ↦ answers o x (of n).heads true (tokens inner ++ (tokens ts ++ more)) s (and_left _ _ g) (row_lookaheads inner o most room n fi (and_left _ _ choice) (tokens ts ++ more)) spelled_in
     ] in
     next_runs o most room l f (Either x n k) is (In 1 inner Done) ts (tokens ts ++ more) more s
     (runs_is o _ (under 1 (reads_part o most room l f n s)) (In 1 inner Done) (tokens ts ++ more) (if_is (starts o x s) true _ _ asked)
@@ -217,15 +217,15 @@ second_runs inner ts gi gt o chooses most room l f x n k is fi ft more r s spell
     rest_tails (inner_remarks inner ts more r.remarks) s spelled_in)))
     (λ u spelled_. gt o chooses most room l f is ft more (ready_in o most room l f 0 (Either x n k) is inner ts more refl (and_right (refuse (of_item of (Either x n k)).tails (of_items of is).heads) _ tests) r) u spelled_)
 
-close_heads : (c : ℕ) (code : ℕ) (is : List Item) (xs more : List Token) → (c == 41) ≡ true → Led (of_items of (Sign c code ∷ is)) xs more → some (λ (f : Front). fronts f (xs ++ more)) (Spanned 41 41 ∷ []) ≡ true
+close_heads : (c : ℕ) (code : ℕ) (is : List Item) (xs more : List Token) → (c == 41) ≡ true → Led (of_items of (Sign c code ∷ is)) xs more → some (λ (f : Lookahead). is_ahead f (xs ++ more)) (Spanned 41 41 ∷ []) ≡ true
 close_heads c code is xs more h (inl g) = cc
-close_heads c code is xs more h (inr g) = ap (λ (n : ℕ). some (λ (f : Front). fronts f (xs ++ more)) (Spanned n n ∷ [])) (sym (equal c 41 h)) ∙ g
+close_heads c code is xs more h (inr g) = ap (λ (n : ℕ). some (λ (f : Lookahead). is_ahead f (xs ++ more)) (Spanned n n ∷ [])) (sym (equal c 41 h)) ∙ g
 
 -- a `)` stands after what stands in parentheses
 nest_behind : (o : Origin) (most room n : ℕ) (is : List Item) (ts : Trees) (more : List Token) → is_closed is ≡ true → refuse (of n).tails (Spanned 41 41 ∷ []) ≡ true → Fits o most room is ts
     → Refused o (of n).tails (tokens ts ++ more)
 nest_behind o most room n (Sign c code ∷ is) ts more h test fits =
-    refused_fronts o (of n).tails (Spanned 41 41 ∷ []) (tokens ts ++ more) test (close_heads c code is (tokens ts) more h (leads ts o most room (Sign c code ∷ is) fits more))
+    refused_lookaheads o (of n).tails (Spanned 41 41 ∷ []) (tokens ts ++ more) test (close_heads c code is (tokens ts) more h (leads ts o most room (Sign c code ∷ is) fits more))
 nest_behind o most room n [] ts more h test fits = cc
 nest_behind o most room n (i ∷ is) ts more h test fits = cc
 
@@ -271,7 +271,7 @@ pub then_then : (o : Outcome) (q r : Parser Text) → and_then (and_then o q) r 
 then_then (Ok p) q r = then_joined p.0 (q p.1) r
 then_then (Err e) q r = refl
 
-some_split : (p : Front → Bool) (xs ys : List Front) → some p (xs ++ ys) ≡ true → (some p xs ≡ true) ⊎ (some p ys ≡ true)
+some_split : (p : Lookahead → Bool) (xs ys : List Lookahead) → some p (xs ++ ys) ≡ true → (some p xs ≡ true) ⊎ (some p ys ≡ true)
 some_split p [] ys h = inr h
 some_split p (x ∷ xs) ys h = elim (or_cases (p x) (some p (xs ++ ys)) h) [
   | inl g ↦ inl (or_one _ _ g)
@@ -285,8 +285,8 @@ some_split p (x ∷ xs) ys h = elim (or_cases (p x) (some p (xs ++ ys)) h) [
 turn_behind : (o : Origin) (x : Start) (n : ℕ) (is : List Item) (xs more : List Token) → Led (of_items of (Many x n ∷ is)) xs more → refuse (of n).tails (of n).heads ≡ true
     → refuse (of_item of (Many x n)).tails (of_items of is).heads ≡ true → Refused o (of_items of (Many x n ∷ is)).tails more → Refused o (of n).tails (xs ++ more)
 turn_behind o x n is xs more (inl g) own test refused = (behind o (Many x n) is xs more (inl g) test refused).1
-turn_behind o x n is xs more (inr g) own test refused = elim (some_split (λ (f : Front). fronts f (xs ++ more)) (of n).heads (of_items of is).heads g) [
-  | inl e ↦ refused_fronts o (of n).tails (of n).heads (xs ++ more) own e
+turn_behind o x n is xs more (inr g) own test refused = elim (some_split (λ (f : Lookahead). is_ahead f (xs ++ more)) (of n).heads (of_items of is).heads g) [
+  | inl e ↦ refused_lookaheads o (of n).tails (of n).heads (xs ++ more) own e
   | inr e ↦ (behind o (Many x n) is xs more (inr e) test refused).1
 ]
 
@@ -343,8 +343,8 @@ many_more inner ts gi gt o chooses most room l f x n is fi ft more r (suc k) fue
     let rest = and_right (not (of n).empty) _ choice in
     let tests = and_right (settled_item of (Many x n) is) _ r.settles in
     let spelled_in = inner_spelled o inner ts more s spelled in
-    let behind_ = turn_behind o x n is (tokens ts) more (leads ts o most room (Many x n ∷ is) ft more) (and_right (every (λ (f : Front). surely x f true) (of n).heads) _ rest) (and_left _ _ tests) r.refuses in
-    let asked = answers o x (of n).heads true (tokens inner ++ (tokens ts ++ more)) s (and_left _ _ rest) (row_fronts inner o most room n fi (and_left _ _ choice) (tokens ts ++ more)) spelled_in in
+    let behind_ = turn_behind o x n is (tokens ts) more (leads ts o most room (Many x n ∷ is) ft more) (and_right (every (λ (f : Lookahead). surely x f true) (of n).heads) _ rest) (and_left _ _ tests) r.refuses in
+    let asked = answers o x (of n).heads true (tokens inner ++ (tokens ts ++ more)) s (and_left _ _ rest) (row_lookaheads inner o most room n fi (and_left _ _ choice) (tokens ts ++ more)) spelled_in in
     let less = less_fuel (length (tokens inner)) (length (tokens ts)) (length (tokens inner ++ tokens ts)) k (length_append (tokens inner) (tokens ts))
     (some_tokens inner o most room n fi (and_left _ _ choice)) fuel in
     runs_is o _ (and_then (under 1 (reads_part o most room l f n s)) (λ (u : Text). and_then (many (reader o) x (reads_part o most room l f n) k u) (reads_row o most room l f is))) (In 1 inner ts) more

@@ -8,7 +8,7 @@ use Rattle.b2_atom.specs.Words.{Text, kept_byte, ahead, skipped, is_source}
 use Rattle.b2_atom.specs.Tree.{Trees, Seen, emitted, Outcome, Parser, one, nothing, preceded, and_then, under}
 use Rattle.b2_atom.specs.Leaves.{refused, missing, leaf_width, until_quote}
 use Rattle.b2_atom.specs.Lines.{good_code, IsKnown}
-use Rattle.b2_atom.specs.Grammar.{reader, read_item, items, item, level, deep, statement, statement_within, many, row_items, rows_of, row_place, starts, absent, read_line, chosen, statement_row, row_at, allowed, from, mark, among, program_word, program_word_at, ignored, optional_comma, end_of_line, end_at, read_leaf, leaf_at, plain, atoms_line_number, typed_line_number, line_number_at, text_to_end, two_digits, begins_let, variable_begins, barred_following, barred_line, barred_place}
+use Rattle.b2_atom.specs.Grammar.{reader, read_item, items, item, level, deep, statement, statement_within, many, row_items, rows_of, row_place, starts, absent, parse_line, chosen, statement_row, row_at, allowed, from, symbol, among, program_word, program_word_at, ignored, optional_comma, end_of_line, end_at, read_leaf, leaf_at, plain, atoms_line_number, typed_line_number, line_number_at, text_to_end, two_digits, begins_let, variable_begins, barred_following, barred_line, barred_position}
 use Rattle.b2_atom.specs.declared.words.Origin.{Origin}
 use Rattle.b2_atom.specs.declared.words.Origin.TheVariants.{Program, Immediate, Atoms}
 use Rattle.b2_atom.specs.declared.output.Stop.{Stop}
@@ -157,7 +157,7 @@ known_end o [] = tt
 known_end o (b ∷ bs) = known_refused o 25 (b ∷ bs) refl
 
 known_read : (o : Origin) (i : Item) (s : Text) → good_item i ≡ true → Known (read_item o i s)
-unfolding mark among program_word ignored optional_comma end_of_line read_leaf
+unfolding symbol among program_word ignored optional_comma end_of_line read_leaf
 known_read o (Word c) s h = one_or ((ahead o (skipped o s)).0 == c) (Coded c) (ahead o (skipped o s)).1 (refused o 22 (skipped o s)) (known_refused o 22 (skipped o s) refl)
 known_read o (Sign c code) s h = one_or ((ahead o (skipped o s)).0 == c) (Coded c) (ahead o (skipped o s)).1 (refused o code (skipped o s)) (known_refused o code (skipped o s) h)
 known_read o (Among low high code) s h = one_or (nat_le low (ahead o (skipped o s)).0 && nat_le (ahead o (skipped o s)).0 high) (Coded (ahead o (skipped o s)).0) (ahead o (skipped o s)).1 (refused o code (skipped o s)) (known_refused o code (skipped o s) h)
@@ -232,8 +232,8 @@ known_row_if false r q h k = k
 known_allowed : (o : Origin) (x : Position) (f : Form) (t : Text) → KnownRow (allowed o x f t)
 known_allowed o x f t =
     known_row_if (barred_following x f.rule) (Err (At 14 (length t)))
-    (if barred_line o f.rule then Err (At 26 (length t)) else (if barred_place x f.rule then Err (At 28 (length t)) else Ok f.row)) refl
-    (known_row_if (barred_line o f.rule) (Err (At 26 (length t))) (if barred_place x f.rule then Err (At 28 (length t)) else Ok f.row) refl (known_row_if (barred_place x f.rule) (Err (At 28 (length t))) (Ok f.row) refl tt))
+    (if barred_line o f.rule then Err (At 26 (length t)) else (if barred_position x f.rule then Err (At 28 (length t)) else Ok f.row)) refl
+    (known_row_if (barred_line o f.rule) (Err (At 26 (length t))) (if barred_position x f.rule then Err (At 28 (length t)) else Ok f.row) refl (known_row_if (barred_position x f.rule) (Err (At 28 (length t))) (Ok f.row) refl tt))
 
 known_row : (fs : List Form) (o : Origin) (x : Position) (t : Text) → KnownRow (row_at fs o x t)
 known_row [] o x t = known_row_if (variable_begins o t) (Ok row.ASSIGNMENT) (Err (refused o 14 t)) tt (known_refused o 14 t refl)
@@ -257,15 +257,15 @@ known_statement o zero x s = tt
 known_statement o (suc f) x s =
     known_chosen (statement_row o x s) _ (known_statement_row o x s) (known_level o (statement (reader o) f) _ (known_statement o f) (known_deep o (statement (reader o) f) (known_statement o f) 32) 40)
 
-known_read_line : (o : Origin) (s : Text) → Known (read_line o s)
-known_read_line o s = known_level o (statement (reader o) (length s + 1)) _ (known_statement o (length s + 1)) (known_deep o (statement (reader o) (length s + 1)) (known_statement o (length s + 1)) 32) 40 _ s
+known_parse_line : (o : Origin) (s : Text) → Known (parse_line o s)
+known_parse_line o s = known_level o (statement (reader o) (length s + 1)) _ (known_statement o (length s + 1)) (known_deep o (statement (reader o) (length s + 1)) (known_statement o (length s + 1)) 32) 40 _ s
 
 known_emitted : (old : Seen) (u : Outcome) (e : Stop) → Known u → emitted old u ≡ Err e → IsKnown e
 known_emitted old (Ok p) e h is = cc
 known_emitted old (Err f) e h is = let same : f ≡ e = cc in subst IsKnown same h
 
 -- the refusal of a line, whatever holds its atoms
-pub known_stopped : (o : Origin) (s : Text) (old : Seen) (e : Stop) → (e ≢ NoMemory → emitted old (read_line o s) ≡ Err e) → IsKnown e
-known_stopped o s old (At c l) h = known_emitted old (read_line o s) (At c l) (known_read_line o s) (h (λ is. cc))
+pub known_stopped : (o : Origin) (s : Text) (old : Seen) (e : Stop) → (e ≢ NoMemory → emitted old (parse_line o s) ≡ Err e) → IsKnown e
+known_stopped o s old (At c l) h = known_emitted old (parse_line o s) (At c l) (known_parse_line o s) (h (λ is. cc))
 known_stopped o s old Deep h = tt
 known_stopped o s old NoMemory h = tt

@@ -7,7 +7,7 @@ use Rattle.b2_atom.specs.Tokens.Token.{Coded, Plain, Lined}
 use Rattle.b2_atom.specs.Tree.{Trees, tokens, Outcome, Parser, one, preceded, and_then, under, also}
 use Rattle.b2_atom.specs.Tree.Trees.{Done, Put, In}
 use Rattle.b2_atom.specs.Leaves.{refused}
-use Rattle.b2_atom.specs.Grammar.{reader, items, item, level, deep, statement_within, row_items, starts, mark, mark_at, among, among_at, program_word, optional_comma, optional_comma_at, read_leaf, ignored, end_of_line, end_at, is_among}
+use Rattle.b2_atom.specs.Grammar.{reader, items, item, level, deep, statement_within, row_items, starts, symbol, symbol_at, among, among_at, program_word, optional_comma, optional_comma_at, read_leaf, ignored, end_of_line, end_at, is_among}
 use Rattle.b2_atom.specs.Spelling.{Spells}
 use Rattle.b2_atom.specs.Fitting.{giving, may_end, fits_token, leaf_number, RemarksEnd}
 use Rattle.b2_atom.specs.declared.words.Origin.{Origin}
@@ -19,10 +19,10 @@ use Rattle.b2_atom.specs.declared.forms.Position.{Position}
 use Rattle.b2_atom.specs.declared.forms.Item.{Item}
 use Rattle.b2_atom.specs.declared.forms.Item.TheVariants.{Word, Sign, Among, ProgramWord, Ignored, Comma, LeftOut, End, Typed, Part, Maybe, Either, Many, Nest, Statement}
 use Rattle.b2_atom.proofs.Booleans.{and_left, and_right, or_cases, never, equal, not_true}
-use Rattle.b2_atom.proofs.settled.Fronts.{Tail, Known, when, of_item, of_items, of, refuse, settled, is_mark_item, is_last, is_free_row, of_row}
-use Rattle.b2_atom.proofs.settled.FrontAnswers.{same_leaf}
+use Rattle.b2_atom.proofs.settled.Lookaheads.{Tail, Known, when, of_item, of_items, of, refuse, settled, is_symbol_item, is_last, is_free_row, of_row}
+use Rattle.b2_atom.proofs.settled.LookaheadAnswers.{same_leaf}
 use Rattle.b2_atom.proofs.settled.Computed.{row_settled}
-use Rattle.b2_atom.proofs.settled.Heads.{known, Refused, refused_left, refused_right, refused_fronts, Led, may_end_empty, led_giving}
+use Rattle.b2_atom.proofs.settled.Heads.{known, Refused, refused_left, refused_right, refused_lookaheads, Led, may_end_empty, led_giving}
 
 -- a reading that gives a tree, and leaves a text that spells some tokens
 abbrev pub Runs : Origin → Outcome → Trees → List Token → Type 0
@@ -44,10 +44,10 @@ pub if_is : (b c : Bool) (x y : Outcome) → b ≡ c → (if b then x else y) �
 if_is b c x y h = ap (λ (d : Bool). if d then x else y) h
 
 -- a word or a sign
-coded : (o : Origin) (c d code : ℕ) (ts : List Token) (s : Text) → (d == c) ≡ true → Spells o (Coded d ∷ ts) s → Runs o (mark_at o c code (skipped o s)) (Put (Coded d) Done) ts
+coded : (o : Origin) (c d code : ℕ) (ts : List Token) (s : Text) → (d == c) ≡ true → Spells o (Coded d ∷ ts) s → Runs o (symbol_at o c code (skipped o s)) (Put (Coded d) Done) ts
 coded o c d code ts s h spelled =
     let there : ahead o (skipped o s) ≡ (d, spelled.0) = spelled.1.0.reads in
-    let P : Trees → Type 0 = λ t. Runs o (mark_at o c code (skipped o s)) t ts in
+    let P : Trees → Type 0 = λ t. Runs o (symbol_at o c code (skipped o s)) t ts in
     subst P (ap (λ (n : ℕ). Put (Coded n) Done) (sym (equal d c h)))
     (spelled.0, (ap (λ (x : ℕ × Text). if x.0 == c then one (Coded c) x.1 else Err (refused o code (skipped o s))) there ∙ if_is (d == c) true _ _ h, spelled.1.1))
 
@@ -82,7 +82,7 @@ lined_leaf o k x y code ts s h spelled =
 -- a token is read by its item
 pub token_runs : (st : Position → Parser Text) (d p : ℕ → Parser Text) (o : Origin) (i : Item) (t : Token) (ts : List Token) (s : Text) → fits_token o i t ≡ true → Spells o (t ∷ ts) s
     → Runs o (item st d p (reader o) i s) (Put t Done) ts
-unfolding item mark among program_word optional_comma
+unfolding item symbol among program_word optional_comma
 token_runs st dp p o (Word c) (Coded d) ts s h spelled = coded o c d 22 ts s h spelled
 token_runs st dp p o (Sign c code) (Coded d) ts s h spelled = coded o c d code ts s h spelled
 token_runs st dp p o (Among a b code) (Coded d) ts s h spelled = coded_among o a b d code ts s h spelled
@@ -120,7 +120,7 @@ reads_item o most room l f i =
 -- a statement's word or sign counts where fuel is needed for the statements after it
 abbrev pub lead : List Item → ℕ
 lead [] = 0
-lead (i ∷ is) = if is_mark_item i then 1 else 0
+lead (i ∷ is) = if is_symbol_item i then 1 else 0
 
 -- what is known where items are read
 pub record Ready (o : Origin) (most room l f : ℕ) (is : List Item) (t : Trees) (more : List Token) : Type 0 where
@@ -140,7 +140,7 @@ pub behind : (o : Origin) (i : Item) (is : List Item) (xs more : List Token) →
 behind o i is xs more (inl h) test refused =
     let P : List Token → Type 0 = λ l. Refused o (of_item of i).tails (l ++ more) in
     subst P (sym h.0) (when_true (of_items of is).empty (of_item of i).tails (of_items of is).tails o more h.1 refused)
-behind o i is xs more (inr h) test refused = refused_fronts o (of_item of i).tails (of_items of is).heads (xs ++ more) test h
+behind o i is xs more (inr h) test refused = refused_lookaheads o (of_item of i).tails (of_items of is).heads (xs ++ more) test h
 
 pub rank_left : (a b n : ℕ) → (if nat_le a b then b else a) ≤ n → a ≤ n
 rank_left a b n h = grind (arith, nat_tests)
@@ -215,12 +215,12 @@ less_in true a c n m f h is e = cc
 less_in false a c n m f h is e = omega (arith, e, is)
 
 -- after the items that give nothing
-ready_behind : (o : Origin) (most room l f : ℕ) (i : Item) (is : List Item) (t : Trees) (more : List Token) → is_mark_item i ≡ false → (tests : settled of is ≡ true) → Ready o most room l f (i ∷ is) t more → Ready o most room l f is t more
-ready_behind o most room l f i is t more unmarked tests r = record {
+ready_behind : (o : Origin) (most room l f : ℕ) (i : Item) (is : List Item) (t : Trees) (more : List Token) → is_symbol_item i ≡ false → (tests : settled of is ≡ true) → Ready o most room l f (i ∷ is) t more → Ready o most room l f is t more
+ready_behind o most room l f i is t more led_by_none tests r = record {
   settles = tests;
   ranked = rank_right (of_item of i).rank (of_items of is).rank l r.ranked;
   enough = λ h. let e = r.enough (and_false (of_item of i).plain (of_items of is).plain h) in
-      less_behind (is_mark_item i) (length (tokens t)) (lead is) f unmarked e;
+      less_behind (is_symbol_item i) (length (tokens t)) (lead is) f led_by_none e;
   refuses = refused_right o (when (of_items of is).empty (of_item of i).tails) _ more r.refuses;
   remarks = r.remarks;
 }
@@ -253,20 +253,20 @@ pub ready_put : (o : Origin) (most room l f : ℕ) (i : Item) (is : List Item) (
 ready_put o most room l f i is t ts more tests r = record {
   settles = tests;
   ranked = rank_right (of_item of i).rank (of_items of is).rank l r.ranked;
-  enough = λ h. let e = r.enough (and_false (of_item of i).plain (of_items of is).plain h) in put_enough (is_mark_item i) (length (tokens ts)) (lead is) f e;
+  enough = λ h. let e = r.enough (and_false (of_item of i).plain (of_items of is).plain h) in put_enough (is_symbol_item i) (length (tokens ts)) (lead is) f e;
   refuses = refused_right o (when (of_items of is).empty (of_item of i).tails) _ more r.refuses;
   remarks = r.remarks.1;
 }
 
 -- and what a branch leaves to them
-pub ready_in : (o : Origin) (most room l f m : ℕ) (i : Item) (is : List Item) (inner ts : Trees) (more : List Token) → is_mark_item i ≡ false → settled of is ≡ true
+pub ready_in : (o : Origin) (most room l f m : ℕ) (i : Item) (is : List Item) (inner ts : Trees) (more : List Token) → is_symbol_item i ≡ false → settled of is ≡ true
     → Ready o most room l f (i ∷ is) (In m inner ts) more → Ready o most room l f is ts more
-ready_in o most room l f m i is inner ts more unmarked tests r = record {
+ready_in o most room l f m i is inner ts more led_by_none tests r = record {
   settles = tests;
   ranked = rank_right (of_item of i).rank (of_items of is).rank l r.ranked;
   enough = λ h. let e = r.enough (and_false (of_item of i).plain (of_items of is).plain h) in
       let n = length_append (tokens inner) (tokens ts) in
-      less_in (is_mark_item i) (length (tokens inner)) (length (tokens ts)) (length (tokens inner ++ tokens ts)) (lead is) f unmarked n e;
+      less_in (is_symbol_item i) (length (tokens inner)) (length (tokens ts)) (length (tokens inner ++ tokens ts)) (lead is) f led_by_none n e;
   refuses = refused_right o (when (of_items of is).empty (of_item of i).tails) _ more r.refuses;
   remarks = (let P : List Token → Type 0 = λ l. RemarksEnd l in remarks_right (tokens inner) (tokens ts ++ more) (subst P (append_assoc (tokens inner) (tokens ts) more) r.remarks));
 }

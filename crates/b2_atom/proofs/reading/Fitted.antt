@@ -9,7 +9,7 @@ use Rattle.b2_atom.specs.Tokens.Token.{Coded, Plain, Lined}
 use Rattle.b2_atom.specs.Tree.{Trees, Outcome, Parser, one, nothing, preceded, and_then, under, also, tokens}
 use Rattle.b2_atom.specs.Tree.Trees.{Done, Put, In}
 use Rattle.b2_atom.specs.Leaves.{leaf_width, refused, missing}
-use Rattle.b2_atom.specs.Grammar.{reader, items, item, level, deep, many, row_items, starts, absent, mark, among, program_word, ignored, optional_comma, end_of_line, end_at, read_leaf, plain, line_number_at, typed_line_number, two_digits, atoms_line_number, text_to_end, is_among}
+use Rattle.b2_atom.specs.Grammar.{reader, items, item, level, deep, many, row_items, starts, absent, symbol, among, program_word, ignored, optional_comma, end_of_line, end_at, read_leaf, plain, line_number_at, typed_line_number, two_digits, atoms_line_number, text_to_end, is_among}
 use Rattle.b2_atom.specs.Spelling.{is_whole, good_token}
 use Rattle.b2_atom.specs.Fitting.{leaf_number, fits_token, Fits, is_remark}
 use Rattle.b2_atom.specs.declared.words.TheConstants as word
@@ -229,8 +229,8 @@ good_leaf o room k code is s n = leaf_by o room k code is s (read_leaf o k code 
 abbrev pub calm_code : ℕ → Bool
 calm_code c = not (c == word.REM || c == 37)
 
-code_good : (o : Origin) (P : Trees → Type 0) (c code : ℕ) (s : Text) → calm_code c ≡ true → P (Put (Coded c) Done) → Good P s (mark o c code s)
-unfolding mark
+code_good : (o : Origin) (P : Trees → Type 0) (c code : ℕ) (s : Text) → calm_code c ≡ true → P (Put (Coded c) Done) → Good P s (symbol o c code s)
+unfolding symbol
 code_good o P c code s calm p =
     good_if P s ((ahead o (skipped o s)).0 == c) (one (Coded c) (ahead o (skipped o s)).1) (Err (refused o code (skipped o s)))
     (p, (both (calm_code c) true calm refl, behind_short o s)) tt

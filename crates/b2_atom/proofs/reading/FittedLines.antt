@@ -8,7 +8,7 @@ use Rattle.b2_atom.specs.Tree.{Trees, Outcome, Parser, one, nothing, preceded, a
 use Rattle.b2_atom.specs.Tree.Trees.{Done, Put, In}
 use Rattle.b2_base.specs.Lexical.{all_printable}
 use Rattle.b2_atom.specs.Leaves.{refused}
-use Rattle.b2_atom.specs.Grammar.{reader, items, item, level, deep, many, statement, statement_within, chosen, statement_row, row_at, allowed, from, begins_let, variable_begins, barred_following, barred_line, barred_place, row_items, starts, absent, mark, end_of_line, end_at, read_leaf, text_to_end, read_line}
+use Rattle.b2_atom.specs.Grammar.{reader, items, item, level, deep, many, statement, statement_within, chosen, statement_row, row_at, allowed, from, begins_let, variable_begins, barred_following, barred_line, barred_position, row_items, starts, absent, symbol, end_of_line, end_at, read_leaf, text_to_end, parse_line}
 use Rattle.b2_atom.specs.Fitting.{fits_token, giving, FitsPut, Fits, is_remark, RemarksEnd, is_statement, is_allowed, LineTree}
 use Rattle.b2_atom.specs.Table.{forms}
 use Rattle.b2_atom.specs.declared.words.TheConstants as word
@@ -18,7 +18,7 @@ use Rattle.b2_atom.specs.declared.words.Origin.TheVariants.{Program, Immediate, 
 use Rattle.b2_atom.specs.declared.forms.Leaf.TheVariants as leaf
 use Rattle.b2_atom.specs.declared.forms.Start.TheVariants as start
 use Rattle.b2_atom.specs.declared.forms.Position.{Position}
-use Rattle.b2_atom.specs.declared.forms.Position.TheVariants as place
+use Rattle.b2_atom.specs.declared.forms.Position.TheVariants as position
 use Rattle.b2_atom.specs.declared.forms.Form.{Form}
 use Rattle.b2_atom.specs.declared.forms.Item.{Item}
 use Rattle.b2_atom.specs.declared.forms.Item.TheVariants.{Word, Sign, Typed, Part, Either, Many, Statement, End}
@@ -136,28 +136,28 @@ idles_then : (P Q R : Trees → Type 0) (s : Text) (o : Outcome) (q : Parser Tex
 idles_then P Q R s (Err e) q more g h = tt
 idles_then P Q R s (Ok p) q more g h = idles_joined P Q R s p.0 p.1 (q p.1) more g.0 g.1.0 g.1.1.0 g.1.1.1 (h p.1 g.1.1.0)
 
--- a mark takes something
+-- a symbol takes something
 no_null : (c : ℕ) → (0 == c) ≡ true → nat_lt 0 c ≡ true → ⊥
 no_null c h k = grind (arith, nat_tests)
 
-mark_less : (o : Origin) (c : ℕ) (t : Text) → ((ahead o t).0 == c) ≡ true → nat_lt 0 c ≡ true → length (ahead o t).1 < length t
-mark_less o c [] h k = absurd (no_null c (ap (λ (p : ℕ × Text). p.0 == c) (sym (nothing_left o)) ∙ h) k)
-mark_less o c (a ∷ y) h k = let less = ahead_less o a y in omega arith
+symbol_less : (o : Origin) (c : ℕ) (t : Text) → ((ahead o t).0 == c) ≡ true → nat_lt 0 c ≡ true → length (ahead o t).1 < length t
+symbol_less o c [] h k = absurd (no_null c (ap (λ (p : ℕ × Text). p.0 == c) (sym (nothing_left o)) ∙ h) k)
+symbol_less o c (a ∷ y) h k = let less = ahead_less o a y in omega arith
 
-mark_by : (o : Origin) (P R : Trees → Type 0) (c code : ℕ) (s : Text) (q : Parser Text) (b : Bool) → ((ahead o (skipped o s)).0 == c) ≡ b → nat_lt 0 c ≡ true
+symbol_by : (o : Origin) (P R : Trees → Type 0) (c code : ℕ) (s : Text) (q : Parser Text) (b : Bool) → ((ahead o (skipped o s)).0 == c) ≡ b → nat_lt 0 c ≡ true
     → no_remark (Coded c ∷ []) ≡ true → ((t : Trees) → P t → R (Put (Coded c) t)) → ((u : Text) → length u < length s → Ends P u (q u))
     → Ends R s (and_then (if b then one (Coded c) (ahead o (skipped o s)).1 else Err (refused o code (skipped o s))) q)
-mark_by o P R c code s q true is some calm more h =
-    let less : length (ahead o (skipped o s)).1 < length s = (let one = mark_less o c (skipped o s) is some in let two = skipped_short o s in omega arith) in
+symbol_by o P R c code s q true is some calm more h =
+    let less : length (ahead o (skipped o s)).1 < length s = (let one = symbol_less o c (skipped o s) is some in let two = skipped_short o s in omega arith) in
     let le : length (ahead o (skipped o s)).1 ≤ length s = omega arith in
     calm_joined (λ a. a ≡ Put (Coded c) Done) P R s (Put (Coded c) Done) (ahead o (skipped o s)).1 (q (ahead o (skipped o s)).1)
     (λ a b x y. let Q : Trees → Type 0 = λ a'. R (also a' b) in subst Q (sym x) (more b y)) refl calm le (h (ahead o (skipped o s)).1 less)
-mark_by o P R c code s q false is some calm more h = tt
+symbol_by o P R c code s q false is some calm more h = tt
 
-mark_first : (o : Origin) (P R : Trees → Type 0) (c code : ℕ) (s : Text) (q : Parser Text) → nat_lt 0 c ≡ true → no_remark (Coded c ∷ []) ≡ true
-    → ((t : Trees) → P t → R (Put (Coded c) t)) → ((u : Text) → length u < length s → Ends P u (q u)) → Ends R s (and_then (mark o c code s) q)
-unfolding mark
-mark_first o P R c code s q some calm more h = mark_by o P R c code s q ((ahead o (skipped o s)).0 == c) refl some calm more h
+symbol_first : (o : Origin) (P R : Trees → Type 0) (c code : ℕ) (s : Text) (q : Parser Text) → nat_lt 0 c ≡ true → no_remark (Coded c ∷ []) ≡ true
+    → ((t : Trees) → P t → R (Put (Coded c) t)) → ((u : Text) → length u < length s → Ends P u (q u)) → Ends R s (and_then (symbol o c code s) q)
+unfolding symbol
+symbol_first o P R c code s q some calm more h = symbol_by o P R c code s q ((ahead o (skipped o s)).0 == c) refl some calm more h
 
 -- the readers of a row: parentheses, and parts with l levels in them
 abbrev pub row_read : Origin → (Position → Parser Text) → ℕ → List Item → Parser Text
@@ -185,12 +185,12 @@ last_step o stf l i s g =
 word_step : (o : Origin) (stf : Position → Parser Text) (l c : ℕ) (is : List Item) (s : Text) → nat_lt 0 c ≡ true → no_remark (Coded c ∷ []) ≡ true
     → ((u : Text) → length u < length s → Ends (Fits o 32 32 is) u (row_read o stf l is u)) → Ends (Fits o 32 32 (Word c ∷ is)) s (row_read o stf l (Word c ∷ is) s)
 unfolding items item
-word_step o stf l c is s some calm h = mark_first o (Fits o 32 32 is) (Fits o 32 32 (Word c ∷ is)) c 22 s (row_read o stf l is) some calm (λ t fit. (same_code c, fit)) h
+word_step o stf l c is s some calm h = symbol_first o (Fits o 32 32 is) (Fits o 32 32 (Word c ∷ is)) c 22 s (row_read o stf l is) some calm (λ t fit. (same_code c, fit)) h
 
 sign_step : (o : Origin) (stf : Position → Parser Text) (l c code : ℕ) (is : List Item) (s : Text) → nat_lt 0 c ≡ true → no_remark (Coded c ∷ []) ≡ true
     → ((u : Text) → length u < length s → Ends (Fits o 32 32 is) u (row_read o stf l is u)) → Ends (Fits o 32 32 (Sign c code ∷ is)) s (row_read o stf l (Sign c code ∷ is) s)
 unfolding items item
-sign_step o stf l c code is s some calm h = mark_first o (Fits o 32 32 is) (Fits o 32 32 (Sign c code ∷ is)) c code s (row_read o stf l is) some calm (λ t fit. (same_code c, fit)) h
+sign_step o stf l c code is s some calm h = symbol_first o (Fits o 32 32 is) (Fits o 32 32 (Sign c code ∷ is)) c code s (row_read o stf l is) some calm (λ t fit. (same_code c, fit)) h
 
 ends_row : (o : Origin) (stf : Position → Parser Text) (l n : ℕ) (is : List Item) (s : Text) → row_items n ≡ is → Ends (Fits o 32 32 is) s (row_read o stf l is s)
     → Ends (Fits o 32 32 (row_items n)) s (level (reader o) stf (deep (reader o) stf 32) (suc l) n s)
@@ -223,14 +223,14 @@ statement_last : (o : Origin) (stf : Position → Parser Text) (f l : ℕ) → B
 unfolding item
 statement_last o stf f l st p s less = last_step o stf l (Statement p) s (ends_map (StatementTree o p) (Leads o 32 (Statement p) []) s (stf p s) (statement_leads o p []) (st p s less))
 
-pub following_is : row_items row.FOLLOWING ≡ Statement place.Following ∷ []
+pub following_is : row_items row.FOLLOWING ≡ Statement position.Following ∷ []
 unfolding row_items
 following_is = refl
 
 following_row : (o : Origin) (stf : Position → Parser Text) (f l : ℕ) → Below o stf f → (s : Text) → length s < f
     → Ends (Fits o 32 32 (row_items row.FOLLOWING)) s (level (reader o) stf (deep (reader o) stf 32) (suc l) row.FOLLOWING s)
 following_row o stf f l st s less =
-    ends_row o stf l row.FOLLOWING (Statement place.Following ∷ []) s following_is (statement_last o stf f l st place.Following s less)
+    ends_row o stf l row.FOLLOWING (Statement position.Following ∷ []) s following_is (statement_last o stf f l st position.Following s less)
 
 pub error_is : row_items row.ERROR ≡ Word word.ERROR ∷ Part row.FOLLOWING ∷ []
 unfolding row_items
@@ -336,12 +336,12 @@ unfolding row_items
 image_is = refl
 
 remark_row : (o : Origin) (stf : Position → Parser Text) (l : ℕ) (s : Text) → Ends (Fits o 32 32 (row_items row.REMARK)) s (level (reader o) stf (deep (reader o) stf 32) (suc l) row.REMARK s)
-unfolding items item mark read_leaf
+unfolding items item symbol read_leaf
 remark_row o stf l s =
     ends_row o stf l row.REMARK (Word word.REM ∷ Typed leaf.Text 14 ∷ []) s remark_is (remark_by o (Word word.REM) word.REM 22 s ((ahead o (skipped o s)).0 == word.REM) refl refl)
 
 image_row : (o : Origin) (stf : Position → Parser Text) (l : ℕ) (s : Text) → Ends (Fits o 32 32 (row_items row.IMAGE_LINE)) s (level (reader o) stf (deep (reader o) stf 32) (suc l) row.IMAGE_LINE s)
-unfolding items item mark read_leaf
+unfolding items item symbol read_leaf
 image_row o stf l s =
     ends_row o stf l row.IMAGE_LINE (Sign 37 14 ∷ Typed leaf.Text 14 ∷ []) s image_is (remark_by o (Sign 37 14) 37 14 s ((ahead o (skipped o s)).0 == 37) refl refl)
 
@@ -375,7 +375,7 @@ fact_later f fs o p (Err e) h = tt
 none_barred : (a b c : Bool) → a ≡ false → b ≡ false → c ≡ false → not (a || (b || c)) ≡ true
 none_barred a b c ha hb hc = rw ha (rw hb (rw hc refl))
 
-allowed_by : (f : Form) (fs : List Form) (o : Origin) (p : Position) (t : Text) (a b c : Bool) → barred_following p f.rule ≡ a → barred_line o f.rule ≡ b → barred_place p f.rule ≡ c
+allowed_by : (f : Form) (fs : List Form) (o : Origin) (p : Position) (t : Text) (a b c : Bool) → barred_following p f.rule ≡ a → barred_line o f.rule ≡ b → barred_position p f.rule ≡ c
     → is_statement_row f.row ≡ true
     → RowFact (f ∷ fs) o p (if a then Err (At 14 (length t)) else (if b then Err (At 26 (length t)) else (if c then Err (At 28 (length t)) else Ok f.row)))
 allowed_by f fs o p t true b c ha hb hc h = tt
@@ -383,7 +383,7 @@ allowed_by f fs o p t false true c ha hb hc h = tt
 allowed_by f fs o p t false false true ha hb hc h = tt
 allowed_by f fs o p t false false false ha hb hc h = (
   or_one (f.row == f.row && is_allowed o p f.rule) (is_statement fs o p f.row)
-      (both (f.row == f.row) (is_allowed o p f.rule) (same_code f.row) (none_barred (barred_following p f.rule) (barred_line o f.rule) (barred_place p f.rule) ha hb hc)),
+      (both (f.row == f.row) (is_allowed o p f.rule) (same_code f.row) (none_barred (barred_following p f.rule) (barred_line o f.rule) (barred_position p f.rule) ha hb hc)),
   h,
 )
 
@@ -394,7 +394,7 @@ row_fact : (fs : List Form) (o : Origin) (p : Position) (t : Text) → every (λ
 row_fact [] o p t h = fact_if [] o p (variable_begins o t) (Ok row.ASSIGNMENT) (Err (refused o 14 t)) (assignment_fact o p) tt
 row_fact (f ∷ fs) o p t h =
     fact_if (f ∷ fs) o p (starts o f.start t) (allowed o p f t) (row_at fs o p t)
-    (allowed_by f fs o p t (barred_following p f.rule) (barred_line o f.rule) (barred_place p f.rule) refl refl refl (and_left (is_statement_row f.row) (every (λ f. is_statement_row f.row) fs) h))
+    (allowed_by f fs o p t (barred_following p f.rule) (barred_line o f.rule) (barred_position p f.rule) refl refl refl (and_left (is_statement_row f.row) (every (λ f. is_statement_row f.row) fs) h))
     (fact_later f fs o p (row_at fs o p t) (row_fact fs o p t (and_right (is_statement_row f.row) (every (λ f. is_statement_row f.row) fs) h)))
 
 always_assignment : (fs : List Form) (o : Origin) (p : Position) → is_statement fs o p row.ASSIGNMENT ≡ true
@@ -471,15 +471,15 @@ statements_below o (suc f) p s less =
     statement_chosen o (statement (reader o) f) f p s (statement_row o p s) (statements_below o f) (less_suc (length s) f less) (place_fact o p s)
 
 -- further statements
-pub further_is : row_items row.FURTHER_STATEMENT ≡ Sign 58 25 ∷ Statement place.Further ∷ []
+pub further_is : row_items row.FURTHER_STATEMENT ≡ Sign 58 25 ∷ Statement position.Further ∷ []
 unfolding row_items
 further_is = refl
 
 further_row : (o : Origin) (stf : Position → Parser Text) (f l : ℕ) → Below o stf f → (s : Text) → length s ≤ f
     → Ends (Fits o 32 32 (row_items row.FURTHER_STATEMENT)) s (level (reader o) stf (deep (reader o) stf 32) (suc l) row.FURTHER_STATEMENT s)
 further_row o stf f l st s le =
-    ends_row o stf l row.FURTHER_STATEMENT (Sign 58 25 ∷ Statement place.Further ∷ []) s further_is
-    (sign_step o stf l 58 25 (Statement place.Further ∷ []) s refl refl (λ u less. statement_last o stf f l st place.Further u (lt_le (length u) (length s) f less le)))
+    ends_row o stf l row.FURTHER_STATEMENT (Sign 58 25 ∷ Statement position.Further ∷ []) s further_is
+    (sign_step o stf l 58 25 (Statement position.Further ∷ []) s refl refl (λ u less. statement_last o stf f l st position.Further u (lt_le (length u) (length s) f less le)))
 
 none_skipped : (o : Origin) → skipped o [] ≡ []
 none_skipped Program = refl
@@ -529,7 +529,7 @@ unfolding items item end_of_line
 end_idles o stf l v = end_by o v (skipped o v)
 
 -- a line
-pub line_is : row_items row.LINE ≡ Statement place.First ∷ Many (start.Code 58) row.FURTHER_STATEMENT ∷ End ∷ []
+pub line_is : row_items row.LINE ≡ Statement position.First ∷ Many (start.Code 58) row.FURTHER_STATEMENT ∷ End ∷ []
 unfolding row_items
 line_is = refl
 
@@ -545,19 +545,19 @@ fewer : (a b c : ℕ) → a ≤ b → b < c → a ≤ c
 fewer a b c h k = omega arith
 
 line_items : (o : Origin) (stf : Position → Parser Text) (f l : ℕ) → Below o stf f → (s : Text) → length s < f
-    → Ends (Fits o 32 32 (Statement place.First ∷ Many (start.Code 58) row.FURTHER_STATEMENT ∷ End ∷ [])) s
-    (row_read o stf (suc l) (Statement place.First ∷ Many (start.Code 58) row.FURTHER_STATEMENT ∷ End ∷ []) s)
+    → Ends (Fits o 32 32 (Statement position.First ∷ Many (start.Code 58) row.FURTHER_STATEMENT ∷ End ∷ [])) s
+    (row_read o stf (suc l) (Statement position.First ∷ Many (start.Code 58) row.FURTHER_STATEMENT ∷ End ∷ []) s)
 unfolding items item
 line_items o stf f l st s less =
-    idle_then (StatementTree o place.First) (Fits o 32 32 (Many (start.Code 58) row.FURTHER_STATEMENT ∷ End ∷ []))
-    (Fits o 32 32 (Statement place.First ∷ Many (start.Code 58) row.FURTHER_STATEMENT ∷ End ∷ [])) s (stf place.First s)
+    idle_then (StatementTree o position.First) (Fits o 32 32 (Many (start.Code 58) row.FURTHER_STATEMENT ∷ End ∷ []))
+    (Fits o 32 32 (Statement position.First ∷ Many (start.Code 58) row.FURTHER_STATEMENT ∷ End ∷ [])) s (stf position.First s)
     (row_read o stf (suc l) (Many (start.Code 58) row.FURTHER_STATEMENT ∷ End ∷ []))
-    (λ a b x y. statement_leads o place.First (Many (start.Code 58) row.FURTHER_STATEMENT ∷ End ∷ []) a x b y) (st place.First s less)
+    (λ a b x y. statement_leads o position.First (Many (start.Code 58) row.FURTHER_STATEMENT ∷ End ∷ []) a x b y) (st position.First s less)
     (λ u le. line_rest o stf f l st u (fewer (length u) (length s) f le less))
 
-line_ends : (o : Origin) (s : Text) → Ends (Fits o 32 32 (row_items row.LINE)) s (read_line o s)
+line_ends : (o : Origin) (s : Text) → Ends (Fits o 32 32 (row_items row.LINE)) s (parse_line o s)
 line_ends o s =
-    ends_row o (statement (reader o) (length s + 1)) 39 row.LINE (Statement place.First ∷ Many (start.Code 58) row.FURTHER_STATEMENT ∷ End ∷ []) s line_is
+    ends_row o (statement (reader o) (length s + 1)) 39 row.LINE (Statement position.First ∷ Many (start.Code 58) row.FURTHER_STATEMENT ∷ End ∷ []) s line_is
     (line_items o (statement (reader o) (length s + 1)) (length s + 1) 38 (statements_below o (length s + 1)) s (let less : length s < length s + 1 = omega arith in less))
 
 fit_of : (o : Origin) (s : Text) (u : Outcome) (t : Trees) (rest : Text) → u ≡ Ok (t, rest) → Ends (Fits o 32 32 (row_items row.LINE)) s u → LineTree o t
@@ -568,5 +568,5 @@ fit_of o s (Ok p) t rest is g =
     record { fits = subst (Fits o 32 32 (row_items row.LINE)) same g.0; remarks = subst (λ a. RemarksEnd (tokens a)) same g.1.0.remarks }
 
 -- what is read of a line is a tree that the table allows
-pub reads_fit : (o : Origin) (s : Text) (t : Trees) (rest : Text) → read_line o s ≡ Ok (t, rest) → LineTree o t
-reads_fit o s t rest is = fit_of o s (read_line o s) t rest is (line_ends o s)
+pub reads_fit : (o : Origin) (s : Text) (t : Trees) (rest : Text) → parse_line o s ≡ Ok (t, rest) → LineTree o t
+reads_fit o s t rest is = fit_of o s (parse_line o s) t rest is (line_ends o s)

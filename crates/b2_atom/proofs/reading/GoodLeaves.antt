@@ -22,7 +22,7 @@ use Rattle.b2_atom.proofs.typed.WordsRead.{typed_end}
 use Rattle.b2_atom.proofs.typed.Widths.{get_none, digits_most, if_most}
 use Rattle.b2_atom.proofs.typed.Names.{width_of, no_name}
 use Rattle.b2_atom.proofs.typed.Characters.{is_function_name}
-use Rattle.b2_atom.proofs.typed.LeafFronts.{width_yes}
+use Rattle.b2_atom.proofs.typed.LeafStarts.{width_yes}
 use Rattle.b2_atom.proofs.spelling.SideBySide.{is_text}
 use Rattle.b2_atom.proofs.reading.WholeLeaves.{number_kept, number_back, signed_kept, signed_back, slot_kept, slot_back, small_kept, small_back, image_kept, image_back, relation_kept_text, relation_back, literal_back}
 use Rattle.b2_atom.proofs.reading.WholeNames.{name_whole, local_whole, alpha_whole, function_whole, length_kept}

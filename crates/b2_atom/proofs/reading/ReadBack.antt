@@ -19,18 +19,18 @@ use Rattle.b2_atom.specs.declared.forms.Item.{Item}
 use Rattle.b2_atom.specs.declared.forms.Item.TheVariants.{Word, Sign, Among, ProgramWord, Ignored, Comma, LeftOut, End, Typed, Part, Maybe, Either, Many, Nest, Statement}
 use Rattle.b2_atom.specs.declared.output.Stop.{Stop}
 use Rattle.b2_atom.proofs.Booleans.{either_way, and_left, and_right, not_true}
-use Rattle.b2_atom.proofs.settled.Fronts.{some, Front, fronts, Known, of_item, of_items, of, refuse, settled_item, is_free_row, leading, is_last, covered, statement_heads}
-use Rattle.b2_atom.proofs.settled.Fronts.Front.{None, Spanned}
+use Rattle.b2_atom.proofs.settled.Lookaheads.{some, Lookahead, is_ahead, Known, of_item, of_items, of, refuse, settled_item, is_free_row, leading, is_last, covered, statement_heads}
+use Rattle.b2_atom.proofs.settled.Lookaheads.Lookahead.{None, Spanned}
 use Rattle.b2_atom.proofs.settled.Computed.{statement_good}
-use Rattle.b2_atom.proofs.settled.Heads.{known, Refused, refused_fronts, is_closing, leads, fills}
+use Rattle.b2_atom.proofs.settled.Heads.{known, Refused, refused_lookaheads, is_closing, leads, fills}
 use Rattle.b2_atom.proofs.reading.Complete.{Runs, runs_under, runs_is, reads_row, lead, Ready, next_runs, length_append, ready_in, ready_put, by_giving, done_runs, put_runs, bound_row}
 use Rattle.b2_atom.proofs.reading.Branches.{Chooses, Good, GoodMany, reads_part, inner_spelled, inner_remarks, branch_behind, row_rank, done_of, part_runs, maybe_runs, maybe_left, first_runs, second_runs, nest_runs, many_left, many_more, free_runs}
 
-closing_fronts : (more : List Token) → is_closing more ≡ true → some (λ (f : Front). fronts f more) (None ∷ Spanned 58 58 ∷ []) ≡ true
-closing_fronts [] h = refl
-closing_fronts (Coded c ∷ ts) h = grind (arith, nat_tests)
-closing_fronts (Plain k w ∷ ts) h = cc
-closing_fronts (Lined x y ∷ ts) h = cc
+closing_lookaheads : (more : List Token) → is_closing more ≡ true → some (λ (f : Lookahead). is_ahead f more) (None ∷ Spanned 58 58 ∷ []) ≡ true
+closing_lookaheads [] h = refl
+closing_lookaheads (Coded c ∷ ts) h = grind (arith, nat_tests)
+closing_lookaheads (Plain k w ∷ ts) h = cc
+closing_lookaheads (Lined x y ∷ ts) h = cc
 
 lead_one : (is : List Item) → leading is ≡ true → lead is ≡ 1
 lead_one [] h = cc
@@ -62,7 +62,7 @@ statement_row_runs inner good o chooses most f p m more u stated fits closed rem
                 enough_lead (length (tokens inner)) f (lead (row_items m)) (less followed)
                 (lead_one (row_items m) (or_false_left (of m).plain (leading (row_items m)) (and_left _ _ rest) followed));
             refuses = (let P : Known → Type 0 = λ k. Refused o k.tails more in
-                subst P (sym (known m)) (refused_fronts o (of m).tails (None ∷ Spanned 58 58 ∷ []) more (or_false_left (is_free_row (row_items m)) _ free_or g) (closing_fronts more closed)));
+                subst P (sym (known m)) (refused_lookaheads o (of m).tails (None ∷ Spanned 58 58 ∷ []) more (or_false_left (is_free_row (row_items m)) _ free_or g) (closing_lookaheads more closed)));
             remarks = remarks_;
           }) u spelled
     ]

@@ -9,7 +9,7 @@ use Rattle.std.proofs.lemmas.List.{take-append-drop}
 use Rattle.b2_atom.specs.Tree.{Trees, Outcome, Parser, one, nothing, preceded, and_then, under, also, atoms}
 use Rattle.b2_atom.specs.Tree.Trees.{Done, Put, In}
 use Rattle.b2_atom.specs.Leaves.{refused, leaf_width}
-use Rattle.b2_atom.specs.Grammar.{reader, read_item, items, item, level, deep, statement, statement_within, many, row_items, rows_of, row_place, starts, read_line, chosen, statement_row, row_at, from, mark, among, program_word, ignored, optional_comma, end_of_line, end_at, read_leaf, leaf_at, plain_of, atoms_line_number, text_to_end}
+use Rattle.b2_atom.specs.Grammar.{reader, read_item, items, item, level, deep, statement, statement_within, many, row_items, rows_of, row_place, starts, parse_line, chosen, statement_row, row_at, from, symbol, among, program_word, ignored, optional_comma, end_of_line, end_at, read_leaf, leaf_at, plain_of, atoms_line_number, text_to_end}
 use Rattle.b2_atom.specs.declared.words.Origin.{Origin}
 use Rattle.b2_atom.specs.declared.words.Origin.TheVariants.{Atoms}
 use Rattle.b2_atom.specs.declared.output.Stop.{Stop}
@@ -148,7 +148,7 @@ unfolding row_items
 row_good n = get_good (rows_of (n / 64)) (row_place n) (all_good (n / 64))
 
 takes_read : (i : Item) (s : Text) → good_item i ≡ true → Takes s (read_item Atoms i s)
-unfolding mark among program_word ignored optional_comma end_of_line read_leaf
+unfolding symbol among program_word ignored optional_comma end_of_line read_leaf
 takes_read (Word c) s h = front_byte c s (refused Atoms 22 s) h (first s == c) refl
 takes_read (Sign c code) s h = front_byte c s (refused Atoms code s) h (first s == c) refl
 takes_read (Among low high code) s h = front_among low high s (refused Atoms code s) h (nat_le low (first s) && nat_le (first s) high) refl
@@ -217,7 +217,7 @@ takes_statement (suc f) x s =
     takes_chosen (row_at forms Atoms x s) _ s (takes_level (statement (reader Atoms) f) _ (takes_statement f) (takes_deep (statement (reader Atoms) f) (takes_statement f) 32) 40)
 
 -- the atoms of what is read from a line of atoms, and what is left, are the line
-pub takes_line : (s : Text) → Takes s (read_line Atoms s)
+pub takes_line : (s : Text) → Takes s (parse_line Atoms s)
 takes_line s = takes_level (statement (reader Atoms) (length s + 1)) _ (takes_statement (length s + 1)) (takes_deep (statement (reader Atoms) (length s + 1)) (takes_statement (length s + 1)) 32) 40 _ s
 
 -- nothing is left after a line
@@ -241,6 +241,6 @@ ends_row : (o : Origin) (st : Position → Parser Text) (d p : ℕ → Parser Te
 unfolding items item end_of_line
 ends_row o st d p i j s = ends_then (item st d p (reader o) i s) _ (λ u. ends_then (item st d p (reader o) j u) _ (λ v. ends_at o (skipped o v)))
 
-pub ends_line : (o : Origin) (s : Text) → Ends (read_line o s)
+pub ends_line : (o : Origin) (s : Text) → Ends (parse_line o s)
 unfolding level row_items
 ends_line o s = ends_row o _ _ _ _ _ s

@@ -7,7 +7,7 @@ use Rattle.b2_atom.specs.Leaves.{number_width, number_width_by, mantissa_of, man
 use Rattle.b2_atom.specs.declared.words.Origin.{Origin}
 use Rattle.b2_atom.specs.declared.words.Origin.TheVariants.{Program, Immediate, Atoms}
 use Rattle.b2_atom.proofs.typed.Widths.{get_front, get_none, drop_front, small_more, slot_more, number_parts, signed_parts, one_more_suc}
-use Rattle.b2_atom.proofs.typed.LeafFronts.{width_yes}
+use Rattle.b2_atom.proofs.typed.LeafStarts.{width_yes}
 use Rattle.b2_atom.proofs.typed.Characters.{image_parts, relation_most}
 
 -- the same width without what stands after

@@ -11,7 +11,7 @@ use Rattle.b2_atom.specs.declared.words.Origin.TheVariants.{Program, Immediate, 
 use Rattle.b2_atom.proofs.Booleans.{false_true, equal}
 use Rattle.b2_atom.proofs.typed.Names.{NameShape, numeric_read, alpha_read, width_of, three_shape, two_kinds, too_wide, numeric_of, local_of, named_of, dollar_of, no_width}
 use Rattle.b2_atom.proofs.typed.Characters.{is_function_name}
-use Rattle.b2_atom.proofs.typed.LeafFronts.{width_yes}
+use Rattle.b2_atom.proofs.typed.LeafStarts.{width_yes}
 use Rattle.b2_atom.proofs.reading.WholeLeaves.{kept_digit, kept_fixed}
 
 -- the byte of a class that no word has

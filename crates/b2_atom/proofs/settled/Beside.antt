@@ -15,13 +15,13 @@ use Rattle.b2_atom.specs.declared.words.TheConstants as word
 use Rattle.b2_atom.specs.declared.forms.Leaf.{Leaf}
 use Rattle.b2_atom.specs.declared.forms.Leaf.TheVariants as leaf
 use Rattle.b2_atom.proofs.Booleans.{and_left, and_right, or_left, or_right, or_none, or_one, or_other, or_cases, never, not_true, equal, both, either_way}
-use Rattle.b2_atom.proofs.settled.Fronts.{Span, apart, when, dollar_spans, every, some, of, of_items, covered, statement_heads, good_front, before_good, Front, fronts, marks, is_kind, is_one, not_free, not_image, no_dollar, unrelated, lettered, is_data, beside_code, beside_leaf, is_calm, beside}
-use Rattle.b2_atom.proofs.settled.Fronts.Front.{Any, None, Spanned, Hand, Numbered}
-use Rattle.b2_atom.proofs.settled.FrontAnswers.{same_leaf, some_front}
+use Rattle.b2_atom.proofs.settled.Lookaheads.{Span, apart, when, dollar_spans, every, some, of, of_items, covered, statement_heads, good_lookahead, before_good, Lookahead, is_ahead, symbols, is_kind, is_one, not_free, not_image, no_dollar, unrelated, lettered, is_data, beside_code, beside_leaf, is_calm, beside}
+use Rattle.b2_atom.proofs.settled.Lookaheads.Lookahead.{Any, None, Spanned, Hand, Numbered}
+use Rattle.b2_atom.proofs.settled.LookaheadAnswers.{same_leaf, some_lookahead}
 use Rattle.b2_atom.proofs.settled.Computed.{row_paired, row_good, line_heads}
 use Rattle.b2_atom.proofs.settled.Heads.{leads, led_known, covered_all}
 use Rattle.b2_atom.proofs.settled.Choice.{opens_statement, opening}
-use Rattle.b2_atom.proofs.settled.Pairs.{TwoTokens, Tells, front_last, Chain, Follows, chained}
+use Rattle.b2_atom.proofs.settled.Pairs.{TwoTokens, Tells, lookahead_last, Chain, Follows, chained}
 
 -- after a remark any token may stand here, since nothing does
 abbrev pub may_stand : TwoTokens
@@ -31,7 +31,7 @@ turn_not : (b : Bool) → b ≡ false → not b ≡ true
 turn_not true h = cc
 turn_not false h = refl
 
-kind_of : (n : ℕ) (j : Leaf) (g : Front) (w : Text) → is_kind n g ≡ false → fronts g (Plain j w ∷ []) ≡ true → is_one g ≡ true → (leaf_number j == n) ≡ false
+kind_of : (n : ℕ) (j : Leaf) (g : Lookahead) (w : Text) → is_kind n g ≡ false → is_ahead g (Plain j w ∷ []) ≡ true → is_one g ≡ true → (leaf_number j == n) ≡ false
 kind_of n j (Hand k) w h m one = let same : leaf_number j ≡ leaf_number k = equal (leaf_number j) (leaf_number k) (and_left _ _ m) in ap (λ (x : ℕ). x == n) same ∙ h
 kind_of n j Any w h m one = cc
 kind_of n j None w h m one = cc
@@ -46,36 +46,36 @@ image_kind : (j : Leaf) (w : Text) → (leaf_number j == 13) ≡ false → is_im
 image_kind leaf.Image w h = cc
 image_kind j w h = refl
 
-tells_free : (g : Front) (u : Token) → not_free g ≡ true → fronts g (u ∷ []) ≡ true → is_free_text u ≡ false
+tells_free : (g : Lookahead) (u : Token) → not_free g ≡ true → is_ahead g (u ∷ []) ≡ true → is_free_text u ≡ false
 tells_free g (Coded c) h m = refl
 tells_free g (Lined x y) h m = refl
 tells_free g (Plain j w) h m = free_kind j w (kind_of 14 j g w (not_true _ (and_right (is_one g) _ h)) m (and_left _ _ h))
 
-tells_image : (g : Front) (u : Token) → not_image g ≡ true → fronts g (u ∷ []) ≡ true → is_image u ≡ false
+tells_image : (g : Lookahead) (u : Token) → not_image g ≡ true → is_ahead g (u ∷ []) ≡ true → is_image u ≡ false
 tells_image g (Coded c) h m = refl
 tells_image g (Lined x y) h m = refl
 tells_image g (Plain j w) h m = image_kind j w (kind_of 13 j g w (not_true _ (and_right (is_one g) _ h)) m (and_left _ _ h))
 
-code_mark : (a b c : ℕ) → (nat_lt b 65 || nat_lt 90 a) ≡ true → is_among a b c ≡ true → not (is_letter c) ≡ true
-code_mark a b c h m = grind (arith, nat_tests)
+code_symbol : (a b c : ℕ) → (nat_lt b 65 || nat_lt 90 a) ≡ true → is_among a b c ≡ true → not (is_letter c) ≡ true
+code_symbol a b c h m = grind (arith, nat_tests)
 
 hand_relation : (j : Leaf) (w : Text) → j ≡ leaf.Relation → is_word_or_sign (Plain j w) ≡ true
 hand_relation j w h = ap (λ (l : Leaf). is_word_or_sign (Plain l w)) h
 
-hand_mark : (k j : Leaf) (w : Text) → marks (Hand k) ≡ true → j ≡ k → is_word_or_sign (Plain j w) ≡ true
-hand_mark leaf.Relation j w h same = hand_relation j w same
-hand_mark k j w h same = cc
+hand_symbol : (k j : Leaf) (w : Text) → symbols (Hand k) ≡ true → j ≡ k → is_word_or_sign (Plain j w) ≡ true
+hand_symbol leaf.Relation j w h same = hand_relation j w same
+hand_symbol k j w h same = cc
 
-tells_mark : (g : Front) (u : Token) → marks g ≡ true → fronts g (u ∷ []) ≡ true → is_word_or_sign u ≡ true
-tells_mark (Spanned a b) (Coded c) h m = code_mark a b c h m
-tells_mark (Spanned a b) (Plain j w) h m = cc
-tells_mark (Spanned a b) (Lined x y) h m = cc
-tells_mark (Hand k) (Plain j w) h m = hand_mark k j w h (same_leaf k j (and_left _ _ m))
-tells_mark (Hand k) (Coded c) h m = cc
-tells_mark (Hand k) (Lined x y) h m = cc
-tells_mark Any u h m = cc
-tells_mark None u h m = cc
-tells_mark Numbered u h m = cc
+tells_symbol : (g : Lookahead) (u : Token) → symbols g ≡ true → is_ahead g (u ∷ []) ≡ true → is_word_or_sign u ≡ true
+tells_symbol (Spanned a b) (Coded c) h m = code_symbol a b c h m
+tells_symbol (Spanned a b) (Plain j w) h m = cc
+tells_symbol (Spanned a b) (Lined x y) h m = cc
+tells_symbol (Hand k) (Plain j w) h m = hand_symbol k j w h (same_leaf k j (and_left _ _ m))
+tells_symbol (Hand k) (Coded c) h m = cc
+tells_symbol (Hand k) (Lined x y) h m = cc
+tells_symbol Any u h m = cc
+tells_symbol None u h m = cc
+tells_symbol Numbered u h m = cc
 
 outside : (a b k : ℕ) → (nat_lt k a || nat_lt b k) ≡ true → is_among a b k ≡ true → ⊥
 outside a b k h m = grind (arith, nat_tests)
@@ -109,7 +109,7 @@ dollar_by a b c true is h m =
 dollar_code : (a b c : ℕ) → no_dollar (Spanned a b) ≡ true → is_among a b c ≡ true → is_dollar (Coded c) ≡ false
 dollar_code a b c h m = dollar_by a b c (is_word c) refl h m
 
-tells_dollar : (g : Front) (u : Token) → no_dollar g ≡ true → fronts g (u ∷ []) ≡ true → is_dollar u ≡ false
+tells_dollar : (g : Lookahead) (u : Token) → no_dollar g ≡ true → is_ahead g (u ∷ []) ≡ true → is_dollar u ≡ false
 tells_dollar (Spanned a b) (Coded c) h m = dollar_code a b c h m
 tells_dollar (Spanned a b) (Plain j w) h m = refl
 tells_dollar (Spanned a b) (Lined x y) h m = refl
@@ -129,7 +129,7 @@ relation_kind : (j : Leaf) (w : Text) → (leaf_number j == 15) ≡ false → is
 relation_kind leaf.Relation w h = cc
 relation_kind j w h = refl
 
-tells_unrelated : (g : Front) (u : Token) → unrelated g ≡ true → fronts g (u ∷ []) ≡ true → is_unrelated u ≡ true
+tells_unrelated : (g : Lookahead) (u : Token) → unrelated g ≡ true → is_ahead g (u ∷ []) ≡ true → is_unrelated u ≡ true
 tells_unrelated (Spanned a b) (Coded c) h m = unrelated_code a b c h m
 tells_unrelated (Spanned a b) (Plain j w) h m = cc
 tells_unrelated (Spanned a b) (Lined x y) h m = cc
@@ -145,7 +145,7 @@ tells_unrelated None u h m = cc
 lettered_code : (c a b d : ℕ) → lettered c (Spanned a b) ≡ true → is_among a b d ≡ true → is_lettered c (Coded d) ≡ true
 lettered_code c a b d h m = grind (arith, nat_tests)
 
-tells_lettered : (c : ℕ) (g : Front) (u : Token) → lettered c g ≡ true → fronts g (u ∷ []) ≡ true → is_lettered c u ≡ true
+tells_lettered : (c : ℕ) (g : Lookahead) (u : Token) → lettered c g ≡ true → is_ahead g (u ∷ []) ≡ true → is_lettered c u ≡ true
 tells_lettered c (Spanned a b) (Coded d) h m = lettered_code c a b d h m
 tells_lettered c (Spanned a b) (Plain j w) h m = cc
 tells_lettered c (Spanned a b) (Lined x y) h m = cc
@@ -161,7 +161,7 @@ data_kind leaf.Image w h k = cc
 data_kind leaf.Relation w h k = cc
 data_kind j w h k = refl
 
-tells_data : (g : Front) (u : Token) → is_data g ≡ true → fronts g (u ∷ []) ≡ true → (is_word_or_sign u || is_image u) ≡ false
+tells_data : (g : Lookahead) (u : Token) → is_data g ≡ true → is_ahead g (u ∷ []) ≡ true → (is_word_or_sign u || is_image u) ≡ false
 tells_data (Hand k) (Plain j w) h m =
     let none = not_true (is_kind 13 (Hand k) || is_kind 15 (Hand k)) h in
     data_kind j w (kind_of 13 j (Hand k) w (or_left _ _ none) m refl) (kind_of 15 j (Hand k) w (or_right (is_kind 13 (Hand k)) _ none) m refl)
@@ -185,7 +185,7 @@ code_by false false true p nf lt da im free lett bad img h a b c e = turn_true f
 code_by false false false true nf lt da im free lett bad img h a b c e = turn_true free (not img) (a (and_left _ _ h)) (turn_not img (e (and_right nf _ h)))
 code_by false false false false nf lt da im free lett bad img h a b c e = turn_true free true (a (and_left _ _ h)) refl
 
-tells_code : (c : ℕ) (g : Front) (u : Token) → beside_code c g ≡ true → fronts g (u ∷ []) ≡ true → may_stand (Coded c) u ≡ true
+tells_code : (c : ℕ) (g : Lookahead) (u : Token) → beside_code c g ≡ true → is_ahead g (u ∷ []) ≡ true → may_stand (Coded c) u ≡ true
 tells_code c g u h m =
     code_by (c == word.REM || c == 37) (is_letter c) (c == word.DATA) (c == word.PRINT) (not_free g) (lettered c g) (is_data g) (not_image g)
     (is_free_text u) (is_lettered c u) (is_word_or_sign u || is_image u) (is_image u) h
@@ -223,7 +223,7 @@ hand_literal : (k j : Leaf) (w : Text) → (leaf_number k == 6) ≡ true → j �
 hand_literal leaf.Literal j w h same = literal_kind j w same
 hand_literal k j w h same = cc
 
-tells_literal : (g : Front) (u : Token) → is_kind 6 g ≡ true → fronts g (u ∷ []) ≡ true → is_literal u ≡ true
+tells_literal : (g : Lookahead) (u : Token) → is_kind 6 g ≡ true → is_ahead g (u ∷ []) ≡ true → is_literal u ≡ true
 tells_literal (Hand k) (Plain j w) h m = hand_literal k j w h (same_leaf k j (and_left _ _ m))
 tells_literal (Hand k) (Coded c) h m = cc
 tells_literal (Hand k) (Lined x y) h m = cc
@@ -232,15 +232,15 @@ tells_literal Numbered u h m = cc
 tells_literal Any u h m = cc
 tells_literal None u h m = cc
 
-tells_leaf : (k : Leaf) (w : Text) (g : Front) (u : Token) → beside_leaf k g ≡ true → fronts g (u ∷ []) ≡ true → may_stand (Plain k w) u ≡ true
-tells_leaf leaf.Number w g u h m = tells_mark g u h m
-tells_leaf leaf.SignedNumber w g u h m = tells_mark g u h m
-tells_leaf leaf.Name w g u h m = both (is_word_or_sign u) _ (tells_mark g u (and_left _ _ h) m) (turn_not _ (tells_dollar g u (and_right (marks g) _ h) m))
-tells_leaf leaf.LocalName w g u h m = both (is_word_or_sign u) _ (tells_mark g u (and_left _ _ h) m) (turn_not _ (tells_dollar g u (and_right (marks g) _ h) m))
-tells_leaf leaf.FunctionName w g u h m = tells_mark g u h m
-tells_leaf leaf.Slot w g u h m = tells_mark g u h m
-tells_leaf leaf.Small w g u h m = elim (or_cases (marks g) (is_kind 6 g) h) [
-  | inl e ↦ or_one _ _ (tells_mark g u e m)
+tells_leaf : (k : Leaf) (w : Text) (g : Lookahead) (u : Token) → beside_leaf k g ≡ true → is_ahead g (u ∷ []) ≡ true → may_stand (Plain k w) u ≡ true
+tells_leaf leaf.Number w g u h m = tells_symbol g u h m
+tells_leaf leaf.SignedNumber w g u h m = tells_symbol g u h m
+tells_leaf leaf.Name w g u h m = both (is_word_or_sign u) _ (tells_symbol g u (and_left _ _ h) m) (turn_not _ (tells_dollar g u (and_right (symbols g) _ h) m))
+tells_leaf leaf.LocalName w g u h m = both (is_word_or_sign u) _ (tells_symbol g u (and_left _ _ h) m) (turn_not _ (tells_dollar g u (and_right (symbols g) _ h) m))
+tells_leaf leaf.FunctionName w g u h m = tells_symbol g u h m
+tells_leaf leaf.Slot w g u h m = tells_symbol g u h m
+tells_leaf leaf.Small w g u h m = elim (or_cases (symbols g) (is_kind 6 g) h) [
+  | inl e ↦ or_one _ _ (tells_symbol g u e m)
   | inr e ↦ or_other (is_word_or_sign u) _ (tells_literal g u e m)
 ]
 tells_leaf leaf.Relation w g u h m =
@@ -250,7 +250,7 @@ tells_leaf leaf.Relation w g u h m =
 tells_leaf leaf.Text w g u h m = refl
 tells_leaf k w g u h m = turn_not _ (tells_free g u h m)
 
-tells_hand : (k j : Leaf) (w : Text) (g : Front) (u : Token) → j ≡ k → beside_leaf k g ≡ true → fronts g (u ∷ []) ≡ true → may_stand (Plain j w) u ≡ true
+tells_hand : (k j : Leaf) (w : Text) (g : Lookahead) (u : Token) → j ≡ k → beside_leaf k g ≡ true → is_ahead g (u ∷ []) ≡ true → may_stand (Plain j w) u ≡ true
 tells_hand k j w g u same h m = ap (λ (l : Leaf). may_stand (Plain l w) u) same ∙ tells_leaf k w g u h m
 
 if_calm : (e : Bool) (x y : Bool) → (if e then x else y) ≡ true → ((e ≡ true) × (x ≡ true)) ⊎ (y ≡ true)
@@ -260,21 +260,21 @@ if_calm false x y h = inr h
 single : (a b c : ℕ) → (a == b) ≡ true → is_among a b c ≡ true → c ≡ a
 single a b c h m = grind (arith, nat_tests)
 
-tells_spanned : (a b c : ℕ) (g : Front) (u : Token) → beside (Spanned a b) g ≡ true → is_among a b c ≡ true → fronts g (u ∷ []) ≡ true → may_stand (Coded c) u ≡ true
+tells_spanned : (a b c : ℕ) (g : Lookahead) (u : Token) → beside (Spanned a b) g ≡ true → is_among a b c ≡ true → is_ahead g (u ∷ []) ≡ true → may_stand (Coded c) u ≡ true
 tells_spanned a b c g u h k m = elim (if_calm (a == b) (beside_code a g) (is_calm a b && not_free g) h) [
   | inl e ↦ tells_code c g u (ap (λ (n : ℕ). beside_code n g) (single a b c e.0 k) ∙ e.1) m
   | inr e ↦ calm_stands a b c u (and_left _ _ e) k (tells_free g u (and_right (is_calm a b) _ e) m)
 ]
 
--- what the fronts tell
+-- what the lookaheads tell
 pub tells : Tells beside may_stand
-tells (Spanned a b) g (Coded c) u us h k m = tells_spanned a b c g u h k (sym (front_last g u us) ∙ m)
+tells (Spanned a b) g (Coded c) u us h k m = tells_spanned a b c g u h k (sym (lookahead_last g u us) ∙ m)
 tells (Spanned a b) g (Plain j w) u us h k m = cc
 tells (Spanned a b) g (Lined x y) u us h k m = cc
-tells (Hand l) g (Plain j w) u us h k m = tells_hand l j w g u (same_leaf l j (and_left _ _ k)) h (sym (front_last g u us) ∙ m)
+tells (Hand l) g (Plain j w) u us h k m = tells_hand l j w g u (same_leaf l j (and_left _ _ k)) h (sym (lookahead_last g u us) ∙ m)
 tells (Hand l) g (Coded c) u us h k m = cc
 tells (Hand l) g (Lined x y) u us h k m = cc
-tells Numbered g (Lined x y) u us h k m = tells_mark g u h (sym (front_last g u us) ∙ m)
+tells Numbered g (Lined x y) u us h k m = tells_symbol g u h (sym (lookahead_last g u us) ∙ m)
 tells Numbered g (Coded c) u us h k m = cc
 tells Numbered g (Plain j w) u us h k m = cc
 tells Any g t u us h k m = cc
@@ -284,41 +284,41 @@ tells None g t u us h k m = cc
 good_span : (a b c : ℕ) → (nat_le word.REM a && nat_le b word.LAST) ≡ true → is_among a b c ≡ true → is_among word.REM word.LAST c ≡ true
 good_span a b c h m = grind (arith, nat_tests)
 
-good_code : (a b c : ℕ) → good_front (Spanned a b) ≡ true → is_among a b c ≡ true → good_token (Coded c) ≡ true
+good_code : (a b c : ℕ) → good_lookahead (Spanned a b) ≡ true → is_among a b c ≡ true → good_token (Coded c) ≡ true
 good_code a b c h m = elim (or_cases (nat_le word.REM a && nat_le b word.LAST) (a == b && is_in a plain_signs) h) [
   | inl e ↦ or_one _ _ (good_span a b c e m)
   | inr e ↦ or_other (is_among word.REM word.LAST c) _ (ap (λ (n : ℕ). is_in n plain_signs) (single a b c (and_left _ _ e) m) ∙ and_right (a == b) _ e)
 ]
 
-front_good : (g : Front) (u : Token) (us : List Token) → good_front g ≡ true → fronts g (u ∷ us) ≡ true → good_token u ≡ true
-front_good (Spanned a b) (Coded c) us h m = good_code a b c h m
-front_good (Spanned a b) (Plain j w) us h m = cc
-front_good (Spanned a b) (Lined x y) us h m = cc
-front_good (Hand k) (Plain j w) us h m = and_right (leaf_number j == leaf_number k) _ m
-front_good (Hand k) (Coded c) us h m = cc
-front_good (Hand k) (Lined x y) us h m = cc
-front_good Numbered (Lined x y) us h m = m
-front_good Numbered (Coded c) us h m = cc
-front_good Numbered (Plain j w) us h m = cc
-front_good Any u us h m = cc
-front_good None u us h m = cc
+lookahead_good : (g : Lookahead) (u : Token) (us : List Token) → good_lookahead g ≡ true → is_ahead g (u ∷ us) ≡ true → good_token u ≡ true
+lookahead_good (Spanned a b) (Coded c) us h m = good_code a b c h m
+lookahead_good (Spanned a b) (Plain j w) us h m = cc
+lookahead_good (Spanned a b) (Lined x y) us h m = cc
+lookahead_good (Hand k) (Plain j w) us h m = and_right (leaf_number j == leaf_number k) _ m
+lookahead_good (Hand k) (Coded c) us h m = cc
+lookahead_good (Hand k) (Lined x y) us h m = cc
+lookahead_good Numbered (Lined x y) us h m = m
+lookahead_good Numbered (Coded c) us h m = cc
+lookahead_good Numbered (Plain j w) us h m = cc
+lookahead_good Any u us h m = cc
+lookahead_good None u us h m = cc
 
 abbrev pub then_good : TwoTokens
 then_good t u = good_token u
 
 tells_good : Tells before_good then_good
-tells_good f g t u us h k m = front_good g u us h m
+tells_good f g t u us h k m = lookahead_good g u us h m
 
 all_good : (t : Token) (ts : List Token) → good_token t ≡ true → Chain then_good (t ∷ ts) → AllGood (t ∷ ts)
 all_good t [] h c = (h, tt)
 all_good t (u ∷ us) h c = (h, all_good u us c.0 c.1)
 
 -- free text stands after a remark alone
-unfree_mark : (u : Token) → is_word_or_sign u ≡ true → is_free_text u ≡ false
-unfree_mark (Coded c) h = refl
-unfree_mark (Plain leaf.Text w) h = cc
-unfree_mark (Plain k w) h = refl
-unfree_mark (Lined x y) h = refl
+unfree_symbol : (u : Token) → is_word_or_sign u ≡ true → is_free_text u ≡ false
+unfree_symbol (Coded c) h = refl
+unfree_symbol (Plain leaf.Text w) h = cc
+unfree_symbol (Plain k w) h = refl
+unfree_symbol (Lined x y) h = refl
 
 unfree_literal : (u : Token) → is_literal u ≡ true → is_free_text u ≡ false
 unfree_literal (Coded c) h = refl
@@ -327,14 +327,14 @@ unfree_literal (Plain k w) h = refl
 unfree_literal (Lined x y) h = refl
 
 unfree_leaf : (k : Leaf) (u : Token) → may_follow_leaf k u ≡ true → is_free_text u ≡ false
-unfree_leaf leaf.Number u h = unfree_mark u h
-unfree_leaf leaf.SignedNumber u h = unfree_mark u h
-unfree_leaf leaf.Name u h = unfree_mark u (and_left _ _ h)
-unfree_leaf leaf.LocalName u h = unfree_mark u (and_left _ _ h)
-unfree_leaf leaf.FunctionName u h = unfree_mark u h
-unfree_leaf leaf.Slot u h = unfree_mark u h
+unfree_leaf leaf.Number u h = unfree_symbol u h
+unfree_leaf leaf.SignedNumber u h = unfree_symbol u h
+unfree_leaf leaf.Name u h = unfree_symbol u (and_left _ _ h)
+unfree_leaf leaf.LocalName u h = unfree_symbol u (and_left _ _ h)
+unfree_leaf leaf.FunctionName u h = unfree_symbol u h
+unfree_leaf leaf.Slot u h = unfree_symbol u h
 unfree_leaf leaf.Small u h = elim (or_cases (is_word_or_sign u) (is_literal u) h) [
-  | inl e ↦ unfree_mark u e
+  | inl e ↦ unfree_symbol u e
   | inr e ↦ unfree_literal u e
 ]
 unfree_leaf leaf.Relation u h = or_left _ _ (not_true _ (and_right (is_unrelated u) _ h))
@@ -348,7 +348,7 @@ unfree_by false free x h k = not_true _ (and_left _ _ k)
 unfree : (t u : Token) → is_remark t ≡ false → may_follow t u ≡ true → is_free_text u ≡ false
 unfree (Coded c) u r h = unfree_by (c == word.REM || c == 37) (is_free_text u) _ r h
 unfree (Plain k w) u r h = unfree_leaf k u h
-unfree (Lined x y) u r h = unfree_mark u h
+unfree (Lined x y) u r h = unfree_symbol u h
 
 stands_follow : (r f m : Bool) → r ≡ false → f ≡ false → ((r || f) || m) ≡ true → m ≡ true
 stands_follow true f m a b h = cc
@@ -379,27 +379,27 @@ side_by_side t (u ∷ us) f c r = elim (either_way (is_remark t)) [
 ]
 
 -- the tokens of a line's tree are good, and may stand side by side
-good_line : (o : Origin) (ts : List Token) → some (λ (f : Front). fronts f ts) (of row.LINE).heads ≡ true → Chain may_stand ts → Chain then_good ts → RemarksEnd ts → AllGood ts × Neighbours ts
+good_line : (o : Origin) (ts : List Token) → some (λ (f : Lookahead). is_ahead f ts) (of row.LINE).heads ≡ true → Chain may_stand ts → Chain then_good ts → RemarksEnd ts → AllGood ts × Neighbours ts
 good_line o [] begun a b r = (tt, tt)
 good_line o (t ∷ ts) begun a b r =
-    let one = some_front good_front (of row.LINE).heads (t ∷ ts) (and_left _ _ (and_right (covered statement_heads (of row.LINE).heads) _ line_heads)) begun in
+    let one = some_lookahead good_lookahead (of row.LINE).heads (t ∷ ts) (and_left _ _ (and_right (covered statement_heads (of row.LINE).heads) _ line_heads)) begun in
     let opens = opening t ts (covered_all statement_heads (of row.LINE).heads (t ∷ ts) (and_left _ _ line_heads) begun) in
-    (all_good t ts (front_good one.0 t ts one.1.0 one.1.1) b, side_by_side t ts (opens_unfree t opens) a r)
+    (all_good t ts (lookahead_good one.0 t ts one.1.0 one.1.1) b, side_by_side t ts (opens_unfree t opens) a r)
 
-none_follows : (q : TwoTokens) (fs : List Front) → Follows q fs []
+none_follows : (q : TwoTokens) (fs : List Lookahead) → Follows q fs []
 none_follows q fs = λ t k. tt
 
 pub good_tree : (most : ℕ) (o : Origin) (t : Trees) → LineTreeWithin most o t → AllGood (tokens t) × Neighbours (tokens t)
 good_tree most o t h =
     let led = led_known row.LINE (tokens t) [] (leads t o most most (row_items row.LINE) h.fits []) in
-    let begun : some (λ (f : Front). fronts f (tokens t ++ [])) (of row.LINE).heads ≡ true = elim led [
-      | inl g ↦ never (of row.LINE).empty g.1 (not_true _ (and_right (every good_front (of row.LINE).heads) _ (and_right (covered statement_heads (of row.LINE).heads) _ line_heads)))
+    let begun : some (λ (f : Lookahead). is_ahead f (tokens t ++ [])) (of row.LINE).heads ≡ true = elim led [
+      | inl g ↦ never (of row.LINE).empty g.1 (not_true _ (and_right (every good_lookahead (of row.LINE).heads) _ (and_right (covered statement_heads (of row.LINE).heads) _ line_heads)))
       | inr g ↦ g
     ] in
     let P : List Token → Type 0 = λ l. Chain may_stand l in
     let Q : List Token → Type 0 = λ l. Chain then_good l in
     let same = append-nil (tokens t) in
-    good_line o (tokens t) (ap (λ (l : List Token). some (λ (f : Front). fronts f l) (of row.LINE).heads) (sym same) ∙ begun)
+    good_line o (tokens t) (ap (λ (l : List Token). some (λ (f : Lookahead). is_ahead f l) (of row.LINE).heads) (sym same) ∙ begun)
     (subst P same (chained (λ n. true) beside may_stand tells (λ n k. row_paired n) (λ k n. refl) t o most most (row_items row.LINE) h.fits (row_paired row.LINE) [] (none_follows may_stand ((of_items of (row_items row.LINE)).ends)) tt))
     (subst Q same (chained (λ n. true) before_good then_good tells_good (λ n k. row_good n) (λ k n. refl) t o most most (row_items row.LINE) h.fits (row_good row.LINE) [] (none_follows then_good ((of_items of (row_items row.LINE)).ends)) tt))
     h.remarks

@@ -7,7 +7,7 @@ use Rattle.b2_atom.specs.Tokens.{Token}
 use Rattle.b2_atom.specs.Tokens.Token.{Coded, Plain, Lined}
 use Rattle.b2_atom.specs.Tree.{Trees, tokens}
 use Rattle.b2_atom.specs.Tree.Trees.{Done, Put, In}
-use Rattle.b2_atom.specs.Grammar.{row_items, starts, class_at, is_among, row_at, allowed, from, statement_row, begins_let, variable_begins, read_leaf, plain, spelled_after, barred_following, barred_line, barred_place}
+use Rattle.b2_atom.specs.Grammar.{row_items, starts, class_at, is_among, row_at, allowed, from, statement_row, begins_let, variable_begins, read_leaf, plain, spelled_after, barred_following, barred_line, barred_position}
 use Rattle.b2_atom.specs.Spelling.{Begins, Spells, Named, has_class, is_whole}
 use Rattle.b2_atom.specs.Fitting.{Fits, FitsPut, FitsIn, FitsBranch, giving, may_end, leaf_number, is_statement, is_allowed}
 use Rattle.b2_atom.specs.Table.{forms}
@@ -26,9 +26,9 @@ use Rattle.b2_atom.specs.declared.forms.Item.TheVariants.{Word, Sign, Among}
 use Rattle.b2_atom.specs.declared.output.Stop.{Stop}
 use Rattle.b2_atom.specs.declared.output.Stop.TheVariants.{At}
 use Rattle.b2_atom.proofs.Booleans.{and_left, and_right, or_one, or_other, or_false, or_cases, never, not_true, equal, span_of, either_way}
-use Rattle.b2_atom.proofs.settled.Fronts.{every, some, Front, fronts, spans, sure, is_spanned, pair_surely, variable_spans, lacks, choose, closing_heads, seconds, marked_choice, chosen_row, when, of_item, of_items, of, statement_heads, is_mark_item, leading}
-use Rattle.b2_atom.proofs.settled.Fronts.Front.{Any, Spanned}
-use Rattle.b2_atom.proofs.settled.FrontAnswers.{says, some_front, class_says, same_leaf}
+use Rattle.b2_atom.proofs.settled.Lookaheads.{every, some, Lookahead, is_ahead, spans, sure, is_spanned, pair_surely, variable_spans, lacks, choose, closing_heads, seconds, symbol_choice, chosen_row, when, of_item, of_items, of, statement_heads, is_symbol_item, leading}
+use Rattle.b2_atom.proofs.settled.Lookaheads.Lookahead.{Any, Spanned}
+use Rattle.b2_atom.proofs.settled.LookaheadAnswers.{says, some_lookahead, class_says, same_leaf}
 use Rattle.b2_atom.proofs.settled.Computed.{statement_good, statement_chosen}
 use Rattle.b2_atom.proofs.settled.Heads.{is_closing, Led, leads, led_known, covered_all, token_leads}
 
@@ -104,7 +104,7 @@ respelled o t ts s rest h b = cc
 hand_opens : (k j : Leaf) (w : Text) → j ≡ k → opens_statement (Plain k w) ≡ true → opens_statement (Plain j w) ≡ true
 hand_opens k j w same h = ap (λ (l : Leaf). opens_statement (Plain l w)) same ∙ h
 
-pub opening : (t : Token) (ts : List Token) → some (λ (f : Front). fronts f (t ∷ ts)) statement_heads ≡ true → opens_statement t ≡ true
+pub opening : (t : Token) (ts : List Token) → some (λ (f : Lookahead). is_ahead f (t ∷ ts)) statement_heads ≡ true → opens_statement t ≡ true
 opening (Coded c) ts h = refl
 opening (Plain j w) ts h = elim (or_cases (leaf_number j == 2 && is_whole j w) ((leaf_number j == 3 && is_whole j w) || false) h) [
   | inl g ↦ hand_opens leaf.Name j w (same_leaf leaf.Name j (and_left _ _ g)) refl
@@ -121,7 +121,7 @@ opens_class (Plain leaf.Name w) h = refl
 opens_class (Plain leaf.AlphaName w) h = refl
 opens_class t h = cc
 
--- what two fronts settle
+-- what two lookaheads settle
 one_code : (a c : ℕ) (b : Bool) → spans ((a, a) ∷ []) c ≡ b → (c == a) ≡ b
 one_code a c b h = span_of a c ∙ sym (or_false _) ∙ h
 
@@ -147,21 +147,21 @@ pair_first : (o : Origin) (a c : ℕ) (u : Text) → (class_at o u == a) ≡ fal
 unfolding starts
 pair_first o a c u h = and_first _ _ h
 
-code_front : (a b d : ℕ) (ss : ℕ) (x : Bool) → sure ((ss, ss) ∷ []) (Spanned a b) x ≡ true → is_among a b d ≡ true → (d == ss) ≡ x
-code_front a b d ss true h k = grind (arith, nat_tests)
-code_front a b d ss false h k = grind (arith, nat_tests)
+code_lookahead : (a b d : ℕ) (ss : ℕ) (x : Bool) → sure ((ss, ss) ∷ []) (Spanned a b) x ≡ true → is_among a b d ≡ true → (d == ss) ≡ x
+code_lookahead a b d ss true h k = grind (arith, nat_tests)
+code_lookahead a b d ss false h k = grind (arith, nat_tests)
 
-pair_true : (o : Origin) (a c : ℕ) (f g : Front) (t : Token) (ts : List Token) (u : Text) → is_spanned f ≡ true → sure ((a, a) ∷ []) f true ≡ true → sure ((c, c) ∷ []) g true ≡ true
-    → fronts f (t ∷ ts) ≡ true → fronts g ts ≡ true → Spells o (t ∷ ts) u → starts o (start.Pair a c) u ≡ true
+pair_true : (o : Origin) (a c : ℕ) (f g : Lookahead) (t : Token) (ts : List Token) (u : Text) → is_spanned f ≡ true → sure ((a, a) ∷ []) f true ≡ true → sure ((c, c) ∷ []) g true ≡ true
+    → is_ahead f (t ∷ ts) ≡ true → is_ahead g ts ≡ true → Spells o (t ∷ ts) u → starts o (start.Pair a c) u ≡ true
 pair_true o a c (Spanned x y) g (Coded d) ts u h i j k l spelled =
     pair_seen o a c d ts u spelled
-    ∙ and_yes _ _ (code_front x y d a true i k) (one_code c (class_at o spelled.0) true (class_says ((c, c) ∷ []) o g true ts spelled.0 j l spelled.1.1))
+    ∙ and_yes _ _ (code_lookahead x y d a true i k) (one_code c (class_at o spelled.0) true (class_says ((c, c) ∷ []) o g true ts spelled.0 j l spelled.1.1))
 pair_true o a c (Spanned x y) g (Plain w z) ts u h i j k l spelled = cc
 pair_true o a c (Spanned x y) g (Lined w z) ts u h i j k l spelled = cc
 pair_true o a c f g t ts u h i j k l spelled = cc
 
-pair_false : (o : Origin) (a c : ℕ) (f g : Front) (t : Token) (ts : List Token) (u : Text) → is_spanned f ≡ true → sure ((c, c) ∷ []) g false ≡ true
-    → fronts f (t ∷ ts) ≡ true → fronts g ts ≡ true → Spells o (t ∷ ts) u → starts o (start.Pair a c) u ≡ false
+pair_false : (o : Origin) (a c : ℕ) (f g : Lookahead) (t : Token) (ts : List Token) (u : Text) → is_spanned f ≡ true → sure ((c, c) ∷ []) g false ≡ true
+    → is_ahead f (t ∷ ts) ≡ true → is_ahead g ts ≡ true → Spells o (t ∷ ts) u → starts o (start.Pair a c) u ≡ false
 pair_false o a c (Spanned x y) g (Coded d) ts u h j k l spelled =
     pair_seen o a c d ts u spelled
     ∙ and_second _ _ (one_code c (class_at o spelled.0) false (class_says ((c, c) ∷ []) o g false ts spelled.0 j l spelled.1.1))
@@ -169,7 +169,7 @@ pair_false o a c (Spanned x y) g (Plain w z) ts u h j k l spelled = cc
 pair_false o a c (Spanned x y) g (Lined w z) ts u h j k l spelled = cc
 pair_false o a c f g t ts u h j k l spelled = cc
 
-pair_says : (o : Origin) (st : Start) (f g : Front) (b : Bool) (t : Token) (ts : List Token) (u : Text) → pair_surely st f g b ≡ true → fronts f (t ∷ ts) ≡ true → fronts g ts ≡ true
+pair_says : (o : Origin) (st : Start) (f g : Lookahead) (b : Bool) (t : Token) (ts : List Token) (u : Text) → pair_surely st f g b ≡ true → is_ahead f (t ∷ ts) ≡ true → is_ahead g ts ≡ true
     → Spells o (t ∷ ts) u → starts o st u ≡ b
 pair_says o (start.Pair a c) f g true t ts u h k l spelled =
     let rest = and_right (is_spanned f) _ h in
@@ -196,7 +196,7 @@ allowed_there o p x u false false true h = cc
 allowed_there o p x u false false false h = refl
 
 allowed_row : (o : Origin) (p : Position) (x : Form) (u : Text) → is_allowed o p x.rule ≡ true → allowed o p x u ≡ Ok x.row
-allowed_row o p x u h = allowed_there o p x u (barred_following p x.rule) (barred_line o x.rule) (barred_place p x.rule) h
+allowed_row o p x u h = allowed_there o p x u (barred_following p x.rule) (barred_line o x.rule) (barred_position p x.rule) h
 
 variable_code : (c : ℕ) → spans variable_spans c ≡ true → (is_letter c || c == 64 || c == word.STR_OPEN) ≡ true
 variable_code c h = grind (arith, nat_tests)
@@ -212,7 +212,7 @@ if_other false x y h k = k
 if_row : (b c : Bool) (x y : Result ℕ Stop) → b ≡ c → (if b then x else y) ≡ (if c then x else y)
 if_row b c x y h = ap (λ (d : Bool). if d then x else y) h
 
-at_row : (o : Origin) (p : Position) (xs : List Form) (m : ℕ) (f g : Front) (t : Token) (ts : List Token) (u : Text) → choose xs m f g ≡ true → fronts f (t ∷ ts) ≡ true → fronts g ts ≡ true
+at_row : (o : Origin) (p : Position) (xs : List Form) (m : ℕ) (f g : Lookahead) (t : Token) (ts : List Token) (u : Text) → choose xs m f g ≡ true → is_ahead f (t ∷ ts) ≡ true → is_ahead g ts ≡ true
     → Spells o (t ∷ ts) u → skipped o u ≡ u → is_statement xs o p m ≡ true → row_at xs o p u ≡ Ok m
 at_row o p [] m f g t ts u h k l spelled same stated =
     let class = class_says variable_spans o f true (t ∷ ts) u (and_right (m == row.ASSIGNMENT) _ h) k spelled in
@@ -244,7 +244,7 @@ result_row false u r m v h k = ap (from u) k
 abbrev pub Stands : Origin → Position → ℕ → List Token → Text → Type 0
 Stands o p m ts s = (u : Text) × ((statement_row o p s ≡ Ok (m, u)) × Spells o ts u)
 
-stands : (o : Origin) (p : Position) (m : ℕ) (f g : Front) (t : Token) (ts : List Token) (s : Text) → choose forms m f g ≡ true → fronts f (t ∷ ts) ≡ true → fronts g ts ≡ true
+stands : (o : Origin) (p : Position) (m : ℕ) (f g : Lookahead) (t : Token) (ts : List Token) (s : Text) → choose forms m f g ≡ true → is_ahead f (t ∷ ts) ≡ true → is_ahead g ts ≡ true
     → opens_statement t ≡ true → is_statement forms o p m ≡ true → Spells o (t ∷ ts) s → Stands o p m (t ∷ ts) s
 unfolding statement_row
 stands o p m f g t ts s h k l opens stated spelled =
@@ -258,86 +258,86 @@ stands o p m f g t ts s h k l opens stated spelled =
     )
 
 -- by its first two tokens
-by_two : (o : Origin) (p : Position) (m : ℕ) (fs gs : List Front) (t : Token) (ts : List Token) (s : Text) → every (λ (f : Front). every (λ (g : Front). choose forms m f g) gs) fs ≡ true
-    → some (λ (f : Front). fronts f (t ∷ ts)) fs ≡ true → some (λ (g : Front). fronts g ts) gs ≡ true → opens_statement t ≡ true → is_statement forms o p m ≡ true
+by_two : (o : Origin) (p : Position) (m : ℕ) (fs gs : List Lookahead) (t : Token) (ts : List Token) (s : Text) → every (λ (f : Lookahead). every (λ (g : Lookahead). choose forms m f g) gs) fs ≡ true
+    → some (λ (f : Lookahead). is_ahead f (t ∷ ts)) fs ≡ true → some (λ (g : Lookahead). is_ahead g ts) gs ≡ true → opens_statement t ≡ true → is_statement forms o p m ≡ true
     → Spells o (t ∷ ts) s → Stands o p m (t ∷ ts) s
 by_two o p m fs gs t ts s h k l opens stated spelled =
-    let f = some_front (λ (x : Front). every (λ (g : Front). choose forms m x g) gs) fs (t ∷ ts) h k in
-    let g = some_front (λ (y : Front). choose forms m f.0 y) gs ts f.1.0 l in
+    let f = some_lookahead (λ (x : Lookahead). every (λ (g : Lookahead). choose forms m x g) gs) fs (t ∷ ts) h k in
+    let g = some_lookahead (λ (y : Lookahead). choose forms m f.0 y) gs ts f.1.0 l in
     stands o p m f.0 g.0 t ts s g.1.0 f.1.1 g.1.1 opens stated spelled
 
-by_one : (o : Origin) (p : Position) (m : ℕ) (fs : List Front) (t : Token) (ts : List Token) (s : Text) → every (λ (f : Front). choose forms m f Any) fs ≡ true
-    → some (λ (f : Front). fronts f (t ∷ ts)) fs ≡ true → opens_statement t ≡ true → is_statement forms o p m ≡ true → Spells o (t ∷ ts) s → Stands o p m (t ∷ ts) s
+by_one : (o : Origin) (p : Position) (m : ℕ) (fs : List Lookahead) (t : Token) (ts : List Token) (s : Text) → every (λ (f : Lookahead). choose forms m f Any) fs ≡ true
+    → some (λ (f : Lookahead). is_ahead f (t ∷ ts)) fs ≡ true → opens_statement t ≡ true → is_statement forms o p m ≡ true → Spells o (t ∷ ts) s → Stands o p m (t ∷ ts) s
 by_one o p m fs t ts s h k opens stated spelled =
-    let f = some_front (λ (x : Front). choose forms m x Any) fs (t ∷ ts) h k in
+    let f = some_lookahead (λ (x : Lookahead). choose forms m x Any) fs (t ∷ ts) h k in
     stands o p m f.0 Any t ts s f.1.0 f.1.1 refl opens stated spelled
 
-closing_fronts : (more : List Token) → is_closing more ≡ true → some (λ (f : Front). fronts f more) closing_heads ≡ true
-closing_fronts [] h = refl
-closing_fronts (Coded c ∷ ts) h = grind (arith, nat_tests)
-closing_fronts (Plain k w ∷ ts) h = cc
-closing_fronts (Lined x y ∷ ts) h = cc
+closing_lookaheads : (more : List Token) → is_closing more ≡ true → some (λ (f : Lookahead). is_ahead f more) closing_heads ≡ true
+closing_lookaheads [] h = refl
+closing_lookaheads (Coded c ∷ ts) h = grind (arith, nat_tests)
+closing_lookaheads (Plain k w ∷ ts) h = cc
+closing_lookaheads (Lined x y ∷ ts) h = cc
 
-some_left : (p : Front → Bool) (xs ys : List Front) → some p xs ≡ true → some p (xs ++ ys) ≡ true
+some_left : (p : Lookahead → Bool) (xs ys : List Lookahead) → some p xs ≡ true → some p (xs ++ ys) ≡ true
 some_left p [] ys h = cc
 some_left p (x ∷ xs) ys h = elim (or_cases (p x) (some p xs) h) [
   | inl g ↦ or_one _ _ g
   | inr g ↦ or_other (p x) _ (some_left p xs ys g)
 ]
 
-some_right : (p : Front → Bool) (xs ys : List Front) → some p ys ≡ true → some p (xs ++ ys) ≡ true
+some_right : (p : Lookahead → Bool) (xs ys : List Lookahead) → some p ys ≡ true → some p (xs ++ ys) ≡ true
 some_right p [] ys h = h
 some_right p (x ∷ xs) ys h = or_other (p x) _ (some_right p xs ys h)
 
-some_when : (p : Front → Bool) (b : Bool) (ys : List Front) → b ≡ true → some p ys ≡ true → some p (when b ys) ≡ true
+some_when : (p : Lookahead → Bool) (b : Bool) (ys : List Lookahead) → b ≡ true → some p ys ≡ true → some p (when b ys) ≡ true
 some_when p true ys h k = k
 some_when p false ys h k = cc
 
-second_front : (is : List Item) (xs more : List Token) → Led (of_items of is) xs more → is_closing more ≡ true → some (λ (f : Front). fronts f (xs ++ more)) (seconds is) ≡ true
-second_front is xs more (inl h) closed =
+second_lookahead : (is : List Item) (xs more : List Token) → Led (of_items of is) xs more → is_closing more ≡ true → some (λ (f : Lookahead). is_ahead f (xs ++ more)) (seconds is) ≡ true
+second_lookahead is xs more (inl h) closed =
     some_right _ (of_items of is).heads _ (some_when _ (of_items of is).empty closing_heads h.1
-    (ap (λ (l : List Token). some (λ (f : Front). fronts f (l ++ more)) closing_heads) h.0 ∙ closing_fronts more closed))
-second_front is xs more (inr h) closed = some_left _ (of_items of is).heads _ h
+    (ap (λ (l : List Token). some (λ (f : Lookahead). is_ahead f (l ++ more)) closing_heads) h.0 ∙ closing_lookaheads more closed))
+second_lookahead is xs more (inr h) closed = some_left _ (of_items of is).heads _ h
 
-mark_giving : (i : Item) (is : List Item) → is_mark_item i ≡ true → giving (i ∷ is) ≡ i ∷ is
-mark_giving (Word c) is h = refl
-mark_giving (Sign c code) is h = refl
-mark_giving (Among a b code) is h = refl
-mark_giving i is h = cc
+symbol_giving : (i : Item) (is : List Item) → is_symbol_item i ≡ true → giving (i ∷ is) ≡ i ∷ is
+symbol_giving (Word c) is h = refl
+symbol_giving (Sign c code) is h = refl
+symbol_giving (Among a b code) is h = refl
+symbol_giving i is h = cc
 
-mark_branch : (o : Origin) (most room m : ℕ) (i : Item) (is : List Item) (below : ℕ → List Item → Type 0) (rest : List Item → Type 0) → is_mark_item i ≡ true → FitsBranch o most room i is m below rest → ⊥
-mark_branch o most room m (Word c) is below rest h fits = fits
-mark_branch o most room m (Sign c code) is below rest h fits = fits
-mark_branch o most room m (Among a b code) is below rest h fits = fits
-mark_branch o most room m i is below rest h fits = cc
+symbol_branch : (o : Origin) (most room m : ℕ) (i : Item) (is : List Item) (below : ℕ → List Item → Type 0) (rest : List Item → Type 0) → is_symbol_item i ≡ true → FitsBranch o most room i is m below rest → ⊥
+symbol_branch o most room m (Word c) is below rest h fits = fits
+symbol_branch o most room m (Sign c code) is below rest h fits = fits
+symbol_branch o most room m (Among a b code) is below rest h fits = fits
+symbol_branch o most room m i is below rest h fits = cc
 
-mark_end : (i : Item) (is : List Item) → is_mark_item i ≡ true → may_end (i ∷ is) ≡ true → ⊥
-mark_end (Word c) is h k = cc
-mark_end (Sign c code) is h k = cc
-mark_end (Among a b code) is h k = cc
-mark_end i is h k = cc
+symbol_end : (i : Item) (is : List Item) → is_symbol_item i ≡ true → may_end (i ∷ is) ≡ true → ⊥
+symbol_end (Word c) is h k = cc
+symbol_end (Sign c code) is h k = cc
+symbol_end (Among a b code) is h k = cc
+symbol_end i is h k = cc
 
 -- a statement that begins with a word or a sign
-pub marked : (o : Origin) (p : Position) (most m : ℕ) (is : List Item) (t : Trees) (more : List Token) (s : Text) → leading is ≡ true → marked_choice m is ≡ true
+pub led_by_symbol : (o : Origin) (p : Position) (most m : ℕ) (is : List Item) (t : Trees) (more : List Token) (s : Text) → leading is ≡ true → symbol_choice m is ≡ true
     → ((xs : List Token) (x : Token) → tokens t ++ more ≡ x ∷ xs → opens_statement x ≡ true) → is_statement forms o p m ≡ true → Fits o most most is t → is_closing more ≡ true
     → Spells o (tokens t ++ more) s → Stands o p m (tokens t ++ more) s
-marked o p most m [] t more s led test opens stated fits closed spelled = cc
-marked o p most m (i ∷ is) Done more s led test opens stated fits closed spelled = absurd (mark_end i is led fits)
-marked o p most m (i ∷ is) (Put t ts) more s led test opens stated fits closed spelled =
+led_by_symbol o p most m [] t more s led test opens stated fits closed spelled = cc
+led_by_symbol o p most m (i ∷ is) Done more s led test opens stated fits closed spelled = absurd (symbol_end i is led fits)
+led_by_symbol o p most m (i ∷ is) (Put t ts) more s led test opens stated fits closed spelled =
     let P : List Item → Type 0 = λ js. FitsPut o js t (λ (rest : List Item). Fits o most most rest ts) in
-    let there : P (i ∷ is) = subst P (mark_giving i is led) fits in
+    let there : P (i ∷ is) = subst P (symbol_giving i is led) fits in
     by_two o p m (of_item of i).heads (seconds is) t (tokens ts ++ more) s test (token_leads o i t (tokens ts ++ more) there.0)
-    (second_front is (tokens ts) more (leads ts o most most is there.1 more) closed) (opens (tokens ts ++ more) t refl) stated spelled
-marked o p most m (i ∷ is) (In n inner ts) more s led test opens stated fits closed spelled =
+    (second_lookahead is (tokens ts) more (leads ts o most most is there.1 more) closed) (opens (tokens ts ++ more) t refl) stated spelled
+led_by_symbol o p most m (i ∷ is) (In n inner ts) more s led test opens stated fits closed spelled =
     let P : List Item → Type 0 = λ js. FitsIn o most most js n (λ (deep : ℕ) (items : List Item). Fits o most deep items inner) (λ (rest : List Item). Fits o most most rest ts) in
-    let there : P (i ∷ is) = subst P (mark_giving i is led) fits in
-    absurd (mark_branch o most most n i is (λ (deep : ℕ) (items : List Item). Fits o most deep items inner) (λ (rest : List Item). Fits o most most rest ts) led there)
+    let there : P (i ∷ is) = subst P (symbol_giving i is led) fits in
+    absurd (symbol_branch o most most n i is (λ (deep : ℕ) (items : List Item). Fits o most deep items inner) (λ (rest : List Item). Fits o most most rest ts) led there)
 
-unmarked : (o : Origin) (p : Position) (m : ℕ) (xs : List Token) (s : Text) → every (λ (f : Front). choose forms m f Any) (of m).heads ≡ true
-    → some (λ (f : Front). fronts f xs) (of m).heads ≡ true → ((ys : List Token) (x : Token) → xs ≡ x ∷ ys → opens_statement x ≡ true)
-    → is_statement forms o p m ≡ true → Spells o xs s → (some (λ (f : Front). fronts f xs) statement_heads ≡ true) → Stands o p m xs s
-unmarked o p m [] s test begun opens stated spelled heads = cc
-unmarked o p m (x ∷ xs) s test begun opens stated spelled heads = by_one o p m (of m).heads x xs s test begun (opens xs x refl) stated spelled
+led_by_none : (o : Origin) (p : Position) (m : ℕ) (xs : List Token) (s : Text) → every (λ (f : Lookahead). choose forms m f Any) (of m).heads ≡ true
+    → some (λ (f : Lookahead). is_ahead f xs) (of m).heads ≡ true → ((ys : List Token) (x : Token) → xs ≡ x ∷ ys → opens_statement x ≡ true)
+    → is_statement forms o p m ≡ true → Spells o xs s → (some (λ (f : Lookahead). is_ahead f xs) statement_heads ≡ true) → Stands o p m xs s
+led_by_none o p m [] s test begun opens stated spelled heads = cc
+led_by_none o p m (x ∷ xs) s test begun opens stated spelled heads = by_one o p m (of m).heads x xs s test begun (opens xs x refl) stated spelled
 
 -- a statement is chosen by its tokens
 pub one_statement : (o : Origin) (p : Position) (most m : ℕ) (inner : Trees) (more : List Token) (s : Text) → is_statement forms o p m ≡ true → Fits o most most (row_items m) inner
@@ -346,14 +346,14 @@ one_statement o p most m inner more s stated fits closed spelled =
     let test = statement_good o p m stated in
     let full = not_true _ (and_left _ _ test) in
     let led = led_known m (tokens inner) more (leads inner o most most (row_items m) fits more) in
-    let begun : some (λ (f : Front). fronts f (tokens inner ++ more)) (of m).heads ≡ true = elim led [
+    let begun : some (λ (f : Lookahead). is_ahead f (tokens inner ++ more)) (of m).heads ≡ true = elim led [
       | inl g ↦ never (of m).empty g.1 full
       | inr g ↦ g
     ] in
     let heads = covered_all statement_heads (of m).heads (tokens inner ++ more) (and_left _ _ (and_right (not (of m).empty) _ test)) begun in
     let opens : (xs : List Token) (x : Token) → tokens inner ++ more ≡ x ∷ xs → opens_statement x ≡ true =
-    λ xs x same. opening x xs (ap (λ (l : List Token). some (λ (f : Front). fronts f l) statement_heads) (sym same) ∙ heads) in
+    λ xs x same. opening x xs (ap (λ (l : List Token). some (λ (f : Lookahead). is_ahead f l) statement_heads) (sym same) ∙ heads) in
     elim (either_way (leading (row_items m))) [
-      | inl g ↦ marked o p most m (row_items m) inner more s g (ap (chosen_row m) (sym g) ∙ statement_chosen o p m stated) opens stated fits closed spelled
-      | inr g ↦ unmarked o p m (tokens inner ++ more) s (ap (chosen_row m) (sym g) ∙ statement_chosen o p m stated) begun opens stated spelled heads
+      | inl g ↦ led_by_symbol o p most m (row_items m) inner more s g (ap (chosen_row m) (sym g) ∙ statement_chosen o p m stated) opens stated fits closed spelled
+      | inr g ↦ led_by_none o p m (tokens inner ++ more) s (ap (chosen_row m) (sym g) ∙ statement_chosen o p m stated) begun opens stated spelled heads
     ]

@@ -9,7 +9,7 @@ use Rattle.b2_atom.specs.declared.forms.Position.{Position}
 use Rattle.b2_atom.specs.declared.forms.Form.{Form}
 use Rattle.b2_atom.specs.declared.forms.Item.{Item}
 use Rattle.b2_atom.proofs.Booleans.{and_left, and_right, or_cases, equal}
-use Rattle.b2_atom.proofs.settled.Fronts.{of_row, of, settled_row, settled_rows, good_statement, every_statement, chosen_statement, chosen_row, leading, paired, beside, Beside, before_good, good_front, every, covered, statement_heads}
+use Rattle.b2_atom.proofs.settled.Lookaheads.{of_row, of, settled_row, settled_rows, good_statement, every_statement, chosen_statement, chosen_row, leading, paired, beside, Beside, before_good, good_lookahead, every, covered, statement_heads}
 
 settled_0 : settled_rows rows_0 ≡ true
 unfolding of_row of row_items
@@ -127,6 +127,6 @@ unfolding row_items
 row_good n = one_paired before_good (rows_of (n / 64)) (row_place n) (all_paired before_good good_0 good_1 good_2 good_3 (n / 64))
 
 -- a line begins with good tokens, as statements do
-pub line_heads : (covered statement_heads (of row.LINE).heads && (every good_front (of row.LINE).heads && not (of row.LINE).empty)) ≡ true
+pub line_heads : (covered statement_heads (of row.LINE).heads && (every good_lookahead (of row.LINE).heads && not (of row.LINE).empty)) ≡ true
 unfolding of_row of row_items
 line_heads = refl

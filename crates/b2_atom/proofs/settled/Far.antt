@@ -21,22 +21,22 @@ use Rattle.b2_atom.specs.declared.forms.Start.TheVariants as start
 use Rattle.b2_atom.specs.declared.forms.Item.{Item}
 use Rattle.b2_atom.specs.declared.forms.Item.TheVariants.{Sign, Typed, Nest}
 use Rattle.b2_atom.proofs.Booleans.{and_left, and_right, or_one, or_other, or_cases, or_false, never, not_true, equal, both, either_way, span_of}
-use Rattle.b2_atom.proofs.settled.Fronts.{Span, spans, apart, every, some, Front, fronts, sure, alpha, is_named, is_numeric_name, name_spans, alpha_spans, number_front, class_front, before_number, is_expression, not_open, not_b, named_or_not, ends_open, asks_open, some_tail, is_spanned, Tail, of, is_far, besides, Known}
-use Rattle.b2_atom.proofs.settled.Fronts.Front.{Any, None, Spanned, Hand, Numbered}
-use Rattle.b2_atom.proofs.settled.Fronts.Tail.{Asked}
-use Rattle.b2_atom.proofs.settled.FrontAnswers.{some_front, class_says, says_alpha, same_leaf, not_named, not_alpha}
+use Rattle.b2_atom.proofs.settled.Lookaheads.{Span, spans, apart, every, some, Lookahead, is_ahead, sure, alpha, is_named, is_numeric_name, name_spans, alpha_spans, number_lookahead, class_lookahead, before_number, is_expression, not_open, not_b, named_or_not, ends_open, asks_open, some_tail, is_spanned, Tail, of, is_far, besides, Known}
+use Rattle.b2_atom.proofs.settled.Lookaheads.Lookahead.{Any, None, Spanned, Hand, Numbered}
+use Rattle.b2_atom.proofs.settled.Lookaheads.Tail.{Asked}
+use Rattle.b2_atom.proofs.settled.LookaheadAnswers.{some_lookahead, class_says, says_alpha, same_leaf, not_named, not_alpha}
 use Rattle.b2_atom.proofs.settled.Heads.{known, Refused, RefusedBy, leads, led_known, fills}
-use Rattle.b2_atom.proofs.settled.Pairs.{TwoTokens, Tells, Chain, Follows, chained, front_last, before_fronts}
+use Rattle.b2_atom.proofs.settled.Pairs.{TwoTokens, Tells, Chain, Follows, chained, lookahead_last, before_lookaheads}
 use Rattle.b2_atom.proofs.settled.FarComputed.{row_within, operand_ends, receiver_ends, element_ends, sum_heads, alpha_heads, operand_full, element_full}
 
--- the front of a token by itself
-abbrev pub front_of : Token → Front
-front_of (Coded c) = Spanned c c
-front_of (Plain k w) = Hand k
-front_of (Lined x y) = Numbered
+-- the lookahead of a token by itself
+abbrev pub lookahead_of : Token → Lookahead
+lookahead_of (Coded c) = Spanned c c
+lookahead_of (Plain k w) = Hand k
+lookahead_of (Lined x y) = Numbered
 
 abbrev pub number_token : Token → Bool
-number_token u = fronts (front_of u) (u ∷ []) && (alpha (front_of u) false && (has_class u && not (is_code 41 u)))
+number_token u = is_ahead (lookahead_of u) (u ∷ []) && (alpha (lookahead_of u) false && (has_class u && not (is_code 41 u)))
 
 abbrev pub named_token : Token → Bool
 named_token (Plain k w) = is_named k
@@ -66,21 +66,21 @@ close_code a b c h m = grind (arith, nat_tests)
 open_code : (a b c : ℕ) → (nat_lt b 40 || nat_lt 40 a) ≡ true → is_among a b c ≡ true → not (c == 40) ≡ true
 open_code a b c h m = grind (arith, nat_tests)
 
-number_coded : (a b c : ℕ) → number_front (Spanned a b) ≡ true → is_among a b c ≡ true → number_token (Coded c) ≡ true
+number_coded : (a b c : ℕ) → number_lookahead (Spanned a b) ≡ true → is_among a b c ≡ true → number_token (Coded c) ≡ true
 number_coded a b c h m =
     let sure_ = and_left (apart (name_spans ++ alpha_spans) (a, b)) _ (and_left _ _ h) in
     both (is_among c c c) _ (among_itself c)
     (both (alpha (Spanned c c) false) _ (both (apart (name_spans ++ alpha_spans) (c, c)) true (apart_code (name_spans ++ alpha_spans) a b c sure_ m) refl)
     (close_code a b c (and_right (alpha (Spanned a b) false) _ h) m))
 
-number_hand : (k j : Leaf) (w : Text) → number_front (Hand k) ≡ true → fronts (Hand k) (Plain j w ∷ []) ≡ true → number_token (Plain j w) ≡ true
+number_hand : (k j : Leaf) (w : Text) → number_lookahead (Hand k) ≡ true → is_ahead (Hand k) (Plain j w ∷ []) ≡ true → number_token (Plain j w) ≡ true
 number_hand k j w h m =
     let same = same_leaf k j (and_left _ _ m) in
     both (leaf_number j == leaf_number j && is_whole j w) _ (both (leaf_number j == leaf_number j) _ (same_number (leaf_number j)) (and_right (leaf_number j == leaf_number k) _ m))
     (both (alpha (Hand j) false) _ (ap (λ (l : Leaf). alpha (Hand l) false) same ∙ and_left _ _ h)
     (both (is_classed j) true (ap is_classed same ∙ and_left (is_classed k) true (and_right (alpha (Hand k) false) _ h)) refl))
 
-tells_number : (g : Front) (u : Token) → number_front g ≡ true → fronts g (u ∷ []) ≡ true → number_token u ≡ true
+tells_number : (g : Lookahead) (u : Token) → number_lookahead g ≡ true → is_ahead g (u ∷ []) ≡ true → number_token u ≡ true
 tells_number (Spanned a b) (Coded c) h m = number_coded a b c h m
 tells_number (Spanned a b) (Plain j w) h m = cc
 tells_number (Spanned a b) (Lined x y) h m = cc
@@ -91,7 +91,7 @@ tells_number Any u h m = cc
 tells_number None u h m = cc
 tells_number Numbered u h m = cc
 
-tells_class : (g : Front) (u : Token) → class_front g ≡ true → fronts g (u ∷ []) ≡ true → has_class u ≡ true
+tells_class : (g : Lookahead) (u : Token) → class_lookahead g ≡ true → is_ahead g (u ∷ []) ≡ true → has_class u ≡ true
 tells_class (Spanned a b) (Coded c) h m = refl
 tells_class (Spanned a b) (Plain j w) h m = cc
 tells_class (Spanned a b) (Lined x y) h m = cc
@@ -102,14 +102,14 @@ tells_class Any u h m = cc
 tells_class None u h m = cc
 tells_class Numbered u h m = cc
 
-tells_open : (f g : Front) (t u : Token) → before_number f g ≡ true → fronts f (t ∷ []) ≡ true → fronts g (u ∷ []) ≡ true → opens_well t u ≡ true
-tells_open (Spanned a b) g (Coded c) u h m n = elim (or_cases (nat_lt b 40 || nat_lt 40 a) (number_front g) h) [
+tells_open : (f g : Lookahead) (t u : Token) → before_number f g ≡ true → is_ahead f (t ∷ []) ≡ true → is_ahead g (u ∷ []) ≡ true → opens_well t u ≡ true
+tells_open (Spanned a b) g (Coded c) u h m n = elim (or_cases (nat_lt b 40 || nat_lt 40 a) (number_lookahead g) h) [
   | inl e ↦ both _ true (or_one _ _ (open_code a b c e m)) refl
   | inr e ↦ both _ true (or_other (not (c == 40)) _ (tells_number g u e n)) refl
 ]
 tells_open (Spanned a b) g (Plain j w) u h m n = cc
 tells_open (Spanned a b) g (Lined x y) u h m n = cc
-tells_open (Hand k) g (Plain j w) u h m n = elim (or_cases (not (is_named k)) (class_front g) h) [
+tells_open (Hand k) g (Plain j w) u h m n = elim (or_cases (not (is_named k)) (class_lookahead g) h) [
   | inl e ↦ or_one _ _ (ap (λ (l : Leaf). not (is_named l)) (same_leaf k j (and_left _ _ m)) ∙ e)
   | inr e ↦ or_other (not (is_named j)) _ (tells_class g u e n)
 ]
@@ -122,7 +122,7 @@ tells_open Any g t u h m n = cc
 tells_open None g t u h m n = cc
 
 tells_well : Tells before_number opens_well
-tells_well f g t u us h k m = tells_open f g t u h k (sym (front_last g u us) ∙ m)
+tells_well f g t u us h k m = tells_open f g t u h k (sym (lookahead_last g u us) ∙ m)
 
 no_line : is_expression row.LINE ≡ true → (n : ℕ) → is_expression n ≡ true
 no_line h n = cc
@@ -132,7 +132,7 @@ well : (o : Origin) (most room k : ℕ) (inner : Trees) → is_expression k ≡ 
     → Chain opens_well (tokens inner ++ (Coded 41 ∷ []))
 well o most room k inner h test fits =
     chained is_expression before_number opens_well tells_well row_within no_line inner o most room (row_items k) fits (row_within k h) (Coded 41 ∷ [])
-    (let P : List Front → Type 0 = λ l. Follows opens_well l (Coded 41 ∷ []) in subst P (ap (λ (x : Known). x.ends) (sym (known k))) (before_fronts before_number opens_well tells_well (of k).ends (Spanned 41 41 ∷ []) (Coded 41 ∷ []) test refl))
+    (let P : List Lookahead → Type 0 = λ l. Follows opens_well l (Coded 41 ∷ []) in subst P (ap (λ (x : Known). x.ends) (sym (known k))) (before_lookaheads before_number opens_well tells_well (of k).ends (Spanned 41 41 ∷ []) (Coded 41 ∷ []) test refl))
     (tt, tt)
 
 and_none : (a b : Bool) → a ≡ false → (a && b) ≡ false
@@ -157,12 +157,12 @@ inside_closed : (o : Origin) (s : Text) → (class_at o s == 40) ≡ false → s
 unfolding starts
 inside_closed o s h = and_none _ _ h
 
-front_here : (u : Token) (us : List Token) → fronts (front_of u) (u ∷ []) ≡ true → fronts (front_of u) (u ∷ us) ≡ true
-front_here u us h = front_last (front_of u) u us ∙ h
+lookahead_here : (u : Token) (us : List Token) → is_ahead (lookahead_of u) (u ∷ []) ≡ true → is_ahead (lookahead_of u) (u ∷ us) ≡ true
+lookahead_here u us h = lookahead_last (lookahead_of u) u us ∙ h
 
 -- what follows a `(` begins no alpha operand
 not_inside : (o : Origin) (u : Token) (us : List Token) (s : Text) → number_token u ≡ true → Spells o (u ∷ us) s → alpha_begins o (skipped o s) ≡ false
-not_inside o u us s h spelled = says_alpha o (front_of u) false (u ∷ us) s (and_left _ _ (and_right (fronts (front_of u) (u ∷ [])) _ h)) (front_here u us (and_left _ _ h)) spelled
+not_inside o u us s h spelled = says_alpha o (lookahead_of u) false (u ∷ us) s (and_left _ _ (and_right (is_ahead (lookahead_of u) (u ∷ [])) _ h)) (lookahead_here u us (and_left _ _ h)) spelled
 
 yes_or : (a b : Bool) → (not a || b) ≡ true → a ≡ true → b ≡ true
 yes_or true b h k = h
@@ -178,28 +178,28 @@ inside_first o c (u ∷ us) more s chain spelled = elim (either_way (c == 40)) [
   | inr e ↦ inside_seen o c (u ∷ (us ++ more)) s spelled ∙ and_none _ _ e
 ]
 
-spanned_plain : (f : Front) (j : Leaf) (w : Text) (ts : List Token) → is_spanned f ≡ true → fronts f (Plain j w ∷ ts) ≡ false
+spanned_plain : (f : Lookahead) (j : Leaf) (w : Text) (ts : List Token) → is_spanned f ≡ true → is_ahead f (Plain j w ∷ ts) ≡ false
 spanned_plain (Spanned a b) j w ts h = refl
 spanned_plain f j w ts h = cc
 
-spanned_lined : (f : Front) (x y : ℕ) (ts : List Token) → is_spanned f ≡ true → fronts f (Lined x y ∷ ts) ≡ false
+spanned_lined : (f : Lookahead) (x y : ℕ) (ts : List Token) → is_spanned f ≡ true → is_ahead f (Lined x y ∷ ts) ≡ false
 spanned_lined (Spanned a b) x y ts h = refl
 spanned_lined f x y ts h = cc
 
-inside_by : (o : Origin) (xs more : List Token) (s : Text) → (f : Front) → not_open f ≡ true → fronts f (xs ++ more) ≡ true → 0 < length xs → Chain opens_well (xs ++ (Coded 41 ∷ [])) → Spells o (xs ++ more) s
+inside_by : (o : Origin) (xs more : List Token) (s : Text) → (f : Lookahead) → not_open f ≡ true → is_ahead f (xs ++ more) ≡ true → 0 < length xs → Chain opens_well (xs ++ (Coded 41 ∷ [])) → Spells o (xs ++ more) s
     → starts o start.AlphaInside s ≡ false
 inside_by o [] more s f h m full chain spelled = absurd (omega (arith, full))
 inside_by o (Coded c ∷ xs) more s f h m full chain spelled = inside_first o c xs more s chain spelled
 inside_by o (Plain j w ∷ xs) more s f h m full chain spelled = elim (or_cases (is_spanned f) (sure ((40, 40) ∷ []) f false) h) [
-  | inl e ↦ never (fronts f (Plain j w ∷ (xs ++ more))) m (spanned_plain f j w (xs ++ more) e)
+  | inl e ↦ never (is_ahead f (Plain j w ∷ (xs ++ more))) m (spanned_plain f j w (xs ++ more) e)
   | inr e ↦ inside_closed o s (one_code 40 (class_at o s) false (class_says ((40, 40) ∷ []) o f false (Plain j w ∷ (xs ++ more)) s e m spelled))
 ]
 inside_by o (Lined x y ∷ xs) more s f h m full chain spelled = elim (or_cases (is_spanned f) (sure ((40, 40) ∷ []) f false) h) [
-  | inl e ↦ never (fronts f (Lined x y ∷ (xs ++ more))) m (spanned_lined f x y (xs ++ more) e)
+  | inl e ↦ never (is_ahead f (Lined x y ∷ (xs ++ more))) m (spanned_lined f x y (xs ++ more) e)
   | inr e ↦ inside_closed o s (one_code 40 (class_at o s) false (class_says ((40, 40) ∷ []) o f false (Lined x y ∷ (xs ++ more)) s e m spelled))
 ]
 
-row_begun : (inner : Trees) (o : Origin) (most room n : ℕ) → Fits o most room (row_items n) inner → not (of n).empty ≡ true → (more : List Token) → some (λ (f : Front). fronts f (tokens inner ++ more)) (of n).heads ≡ true
+row_begun : (inner : Trees) (o : Origin) (most room n : ℕ) → Fits o most room (row_items n) inner → not (of n).empty ≡ true → (more : List Token) → some (λ (f : Lookahead). is_ahead f (tokens inner ++ more)) (of n).heads ≡ true
 row_begun inner o most room n fits full more = elim (led_known n (tokens inner) more (leads inner o most room (row_items n) fits more)) [
   | inl g ↦ never (of n).empty g.1 (not_true _ full)
   | inr g ↦ g
@@ -214,7 +214,7 @@ inside_second o most room inner more s fits spelled =
     let rest = and_right (every not_open (of row.SUM).heads) _ sum_heads in
     let ends_ = and_right (every not_b (of row.SUM).heads) _ rest in
     let full = and_right (besides before_number (of row.SUM).ends (Spanned 41 41 ∷ [])) _ ends_ in
-    let one = some_front not_open (of row.SUM).heads (tokens inner ++ more) (and_left _ _ sum_heads) (row_begun inner o most room row.SUM fits full more) in
+    let one = some_lookahead not_open (of row.SUM).heads (tokens inner ++ more) (and_left _ _ sum_heads) (row_begun inner o most room row.SUM fits full more) in
     inside_by o (tokens inner) more s one.0 one.1.0 one.1.1 (row_full inner o most room row.SUM fits full) (well o most room row.SUM inner refl (and_left _ _ ends_) fits) spelled
 
 -- B E G
@@ -226,7 +226,7 @@ letters_none : (o : Origin) (s : Text) → (class_at o s == 66) ≡ false → st
 unfolding starts
 letters_none o s h = and_none _ _ h
 
-numeric_class : (f : Front) (j : Leaf) (w : Text) (ts : List Token) → is_numeric_name f ≡ true → fronts f (Plain j w ∷ ts) ≡ true → is_classed j ≡ true
+numeric_class : (f : Lookahead) (j : Leaf) (w : Text) (ts : List Token) → is_numeric_name f ≡ true → is_ahead f (Plain j w ∷ ts) ≡ true → is_classed j ≡ true
 numeric_class (Hand leaf.Name) j w ts h m = ap is_classed (same_leaf leaf.Name j (and_left _ _ m))
 numeric_class (Hand leaf.LocalName) j w ts h m = ap is_classed (same_leaf leaf.LocalName j (and_left _ _ m))
 numeric_class (Hand k) j w ts h m = cc
@@ -241,28 +241,28 @@ is_plain_first (Coded c ∷ ts) = false
 is_plain_first (Plain j w ∷ ts) = true
 is_plain_first (Lined x y ∷ ts) = false
 
-numeric_front : (f : Front) (ts : List Token) → is_numeric_name f ≡ true → is_plain_first ts ≡ false → fronts f ts ≡ false
-numeric_front (Hand k) [] h m = refl
-numeric_front (Hand k) (Coded c ∷ ts) h m = refl
-numeric_front (Hand k) (Plain j w ∷ ts) h m = cc
-numeric_front (Hand k) (Lined x y ∷ ts) h m = refl
-numeric_front Any ts h m = cc
-numeric_front None ts h m = cc
-numeric_front (Spanned a b) ts h m = cc
-numeric_front Numbered ts h m = cc
+numeric_lookahead : (f : Lookahead) (ts : List Token) → is_numeric_name f ≡ true → is_plain_first ts ≡ false → is_ahead f ts ≡ false
+numeric_lookahead (Hand k) [] h m = refl
+numeric_lookahead (Hand k) (Coded c ∷ ts) h m = refl
+numeric_lookahead (Hand k) (Plain j w ∷ ts) h m = cc
+numeric_lookahead (Hand k) (Lined x y ∷ ts) h m = refl
+numeric_lookahead Any ts h m = cc
+numeric_lookahead None ts h m = cc
+numeric_lookahead (Spanned a b) ts h m = cc
+numeric_lookahead Numbered ts h m = cc
 
-letters_by : (o : Origin) (f : Front) (ts : List Token) (s : Text) → is_numeric_name f ≡ true → fronts f ts ≡ true → Spells o ts s → starts o (start.Letters 66 69 71) s ≡ false
+letters_by : (o : Origin) (f : Lookahead) (ts : List Token) (s : Text) → is_numeric_name f ≡ true → is_ahead f ts ≡ true → Spells o ts s → starts o (start.Letters 66 69 71) s ≡ false
 letters_by o f (Plain j w ∷ ts) s h m spelled = letters_seen o (Plain j w) ts s (numeric_class f j w ts h m) spelled
-letters_by o f [] s h m spelled = never (fronts f []) m (numeric_front f [] h refl)
-letters_by o f (Coded c ∷ ts) s h m spelled = never (fronts f (Coded c ∷ ts)) m (numeric_front f (Coded c ∷ ts) h refl)
-letters_by o f (Lined x y ∷ ts) s h m spelled = never (fronts f (Lined x y ∷ ts)) m (numeric_front f (Lined x y ∷ ts) h refl)
+letters_by o f [] s h m spelled = never (is_ahead f []) m (numeric_lookahead f [] h refl)
+letters_by o f (Coded c ∷ ts) s h m spelled = never (is_ahead f (Coded c ∷ ts)) m (numeric_lookahead f (Coded c ∷ ts) h refl)
+letters_by o f (Lined x y ∷ ts) s h m spelled = never (is_ahead f (Lined x y ∷ ts)) m (numeric_lookahead f (Lined x y ∷ ts) h refl)
 
 letters_second : (o : Origin) (most room : ℕ) (inner : Trees) (more : List Token) (s : Text) → Fits o most room (row_items row.SUM) inner → Spells o (tokens inner ++ more) s → starts o (start.Letters 66 69 71) s ≡ false
 letters_second o most room inner more s fits spelled =
     let rest = and_right (every not_open (of row.SUM).heads) _ sum_heads in
     let ends_ = and_right (every not_b (of row.SUM).heads) _ rest in
     let full = and_right (besides before_number (of row.SUM).ends (Spanned 41 41 ∷ [])) _ ends_ in
-    let one = some_front not_b (of row.SUM).heads (tokens inner ++ more) (and_left _ _ rest) (row_begun inner o most room row.SUM fits full more) in
+    let one = some_lookahead not_b (of row.SUM).heads (tokens inner ++ more) (and_left _ _ rest) (row_begun inner o most room row.SUM fits full more) in
     elim (or_cases (sure ((66, 66) ∷ []) one.0 false) (is_numeric_name one.0) one.1.0) [
       | inl e ↦ letters_none o s (one_code 66 (class_at o s) false (class_says ((66, 66) ∷ []) o one.0 false (tokens inner ++ more) s e one.1.1 spelled))
       | inr e ↦ letters_by o one.0 (tokens inner ++ more) s e one.1.1 spelled
@@ -296,7 +296,7 @@ close_there : (o : Origin) (d : ℕ) (ts : List Token) (x : Token) (r : Text) �
     → (first (skipped o (drop 1 (skipped o r))) == 41) ≡ false
 close_there o d ts x r open_ num spelled =
     let same : drop 1 (skipped o r) ≡ spelled.0 = ap (λ (y : ℕ × Text). y.1) (sym (open_ahead o (skipped o r) open_) ∙ spelled.1.0.reads) in
-    let rest = and_right (alpha (front_of x) false) _ (and_right (fronts (front_of x) (x ∷ [])) _ num) in
+    let rest = and_right (alpha (lookahead_of x) false) _ (and_right (is_ahead (lookahead_of x) (x ∷ [])) _ num) in
     ap (λ (u : Text). first (skipped o u) == 41) same ∙ spelled.1.1.1.0.closes (and_left _ _ rest) ∙ not_true (is_code 41 x) (and_right (has_class x) _ rest)
 
 no_array_code : (o : Origin) (d : ℕ) (us more : List Token) (r : Text) → Chain opens_well ((Coded d ∷ us) ++ (Coded 41 ∷ [])) → Spells o (Coded d ∷ (us ++ more)) r → OpenAndClosed o r ≡ false
@@ -369,7 +369,7 @@ refused_open o (t ∷ ts) more h r s spelled = elim (or_cases (asks_open t) (som
   | inr e ↦ refused_open o ts more e r.1 s spelled
 ]
 
-array_by : (o : Origin) (f : Front) (xs more : List Token) (s : Text) → named_or_not f ≡ true → fronts f (xs ++ more) ≡ true → 0 < length xs → Chain opens_well (xs ++ (Coded 41 ∷ []))
+array_by : (o : Origin) (f : Lookahead) (xs more : List Token) (s : Text) → named_or_not f ≡ true → is_ahead f (xs ++ more) ≡ true → 0 < length xs → Chain opens_well (xs ++ (Coded 41 ∷ []))
     → ((u : Text) → Spells o more u → starts o (start.Code 40) u ≡ false) → Spells o (xs ++ more) s → starts o start.Array s ≡ false
 array_by o (Hand k) [] more s h m full chain refused spelled = absurd (omega (arith, full))
 array_by o (Hand k) (Plain j w ∷ xs) more s h m full chain refused spelled = elim (or_cases (is_named k) (sure name_spans (Hand k) false) h) [
@@ -389,7 +389,7 @@ array_second : (o : Origin) (most room k : ℕ) (inner : Trees) (more : List Tok
     → Refused o (of k).tails more → Spells o (tokens inner ++ more) s → starts o start.Array s ≡ false
 array_second o most room k inner more s within ends_ full fits refused spelled =
     let rest = and_right (some_tail asks_open (of k).tails) _ ends_ in
-    let one = some_front named_or_not (of k).heads (tokens inner ++ more) (and_right (besides before_number (of k).ends (Spanned 41 41 ∷ [])) _ rest) (row_begun inner o most room k fits full more) in
+    let one = some_lookahead named_or_not (of k).heads (tokens inner ++ more) (and_right (besides before_number (of k).ends (Spanned 41 41 ∷ [])) _ rest) (row_begun inner o most room k fits full more) in
     array_by o one.0 (tokens inner) more s one.1.0 one.1.1 (row_full inner o most room k fits full) (well o most room k inner within (and_left _ _ rest) fits)
     (refused_open o (of k).tails more (and_left _ _ ends_) refused) spelled
 
@@ -473,8 +473,8 @@ alpha_array_first o most room inner more s fits spelled = array_row o most room 
 -- a scratched file
 alpha_row : (o : Origin) (most room : ℕ) (b : Trees) (more : List Token) (s : Text) → Fits o most room (row_items row.ALPHA) b → Spells o (tokens b ++ more) s → alpha_begins o (skipped o s) ≡ true
 alpha_row o most room b more s fits spelled =
-    let one = some_front (λ (f : Front). alpha f true) (of row.ALPHA).heads (tokens b ++ more) (and_left _ _ alpha_heads)
-    (row_begun b o most room row.ALPHA fits (and_right (every (λ (f : Front). alpha f true) (of row.ALPHA).heads) _ alpha_heads) more) in
+    let one = some_lookahead (λ (f : Lookahead). alpha f true) (of row.ALPHA).heads (tokens b ++ more) (and_left _ _ alpha_heads)
+    (row_begun b o most room row.ALPHA fits (and_right (every (λ (f : Lookahead). alpha f true) (of row.ALPHA).heads) _ alpha_heads) more) in
     says_alpha o one.0 true (tokens b ++ more) s one.1.0 one.1.1 spelled
 
 nest_alpha : (o : Origin) (most room : ℕ) (is : List Item) (a : Trees) (more : List Token) (s : Text) → Fits o most room (Nest row.ALPHA ∷ is) a → Spells o (tokens a ++ more) s → alpha_begins o (skipped o s) ≡ true

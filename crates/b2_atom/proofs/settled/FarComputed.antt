@@ -6,8 +6,8 @@ use Rattle.b2_atom.specs.Table.{rows_0, rows_1}
 use Rattle.b2_atom.specs.declared.rows.TheConstants as row
 use Rattle.b2_atom.specs.declared.forms.Item.{Item}
 use Rattle.b2_atom.proofs.Booleans.{and_left, and_right}
-use Rattle.b2_atom.proofs.settled.Fronts.{every, of_row, of, Within, Beside, paired, before_number, is_expression, within_rows, not_open, not_b, ends_open, besides, alpha, Front}
-use Rattle.b2_atom.proofs.settled.Fronts.Front.{Spanned}
+use Rattle.b2_atom.proofs.settled.Lookaheads.{every, of_row, of, Within, Beside, paired, before_number, is_expression, within_rows, not_open, not_b, ends_open, besides, alpha, Lookahead}
+use Rattle.b2_atom.proofs.settled.Lookaheads.Lookahead.{Spanned}
 
 within_0 : within_rows is_expression before_number 0 rows_0 ≡ true
 unfolding of_row of row_items
@@ -65,7 +65,7 @@ pub sum_heads : (every not_open (of row.SUM).heads && (every not_b (of row.SUM).
 unfolding of_row of row_items
 sum_heads = refl
 
-pub alpha_heads : (every (λ (f : Front). alpha f true) (of row.ALPHA).heads && not (of row.ALPHA).empty) ≡ true
+pub alpha_heads : (every (λ (f : Lookahead). alpha f true) (of row.ALPHA).heads && not (of row.ALPHA).empty) ≡ true
 unfolding of_row of row_items
 alpha_heads = refl
 

@@ -19,10 +19,10 @@ use Rattle.b2_atom.specs.declared.forms.Position.{Position}
 use Rattle.b2_atom.specs.declared.forms.Item.{Item}
 use Rattle.b2_atom.specs.declared.forms.Item.TheVariants.{Word, Sign, Among, ProgramWord, Ignored, Comma, LeftOut, End, Typed, Part, Maybe, Either, Many, Nest, Statement}
 use Rattle.b2_atom.proofs.Booleans.{not_true, among_inside, and_left, and_right, or_left, or_right, or_one, or_other, or_cases, never, span_of}
-use Rattle.b2_atom.proofs.settled.Fronts.{every, some, Front, fronts, Tail, refused_by, is_none, is_colon, Known, when, larger, of_item, joined_known, of_items, of_row, of, refuse, statement_heads, covers, covered}
-use Rattle.b2_atom.proofs.settled.Fronts.Front.{Any, None, Spanned, Hand, Numbered}
-use Rattle.b2_atom.proofs.settled.Fronts.Tail.{Asked, Closed, Over}
-use Rattle.b2_atom.proofs.settled.FrontAnswers.{answers, some_front}
+use Rattle.b2_atom.proofs.settled.Lookaheads.{every, some, Lookahead, is_ahead, Tail, refused_by, is_none, is_colon, Known, when, larger, of_item, joined_known, of_items, of_row, of, refuse, statement_heads, covers, covered}
+use Rattle.b2_atom.proofs.settled.Lookaheads.Lookahead.{Any, None, Spanned, Hand, Numbered}
+use Rattle.b2_atom.proofs.settled.Lookaheads.Tail.{Asked, Closed, Over}
+use Rattle.b2_atom.proofs.settled.LookaheadAnswers.{answers, some_lookahead}
 use Rattle.b2_atom.proofs.settled.Computed.{row_settled, statement_good}
 
 -- more levels than a row's parts are deep tell no more
@@ -107,7 +107,7 @@ pub refused_both : (o : Origin) (xs ys : List Tail) (more : List Token) → Refu
 refused_both o [] ys more h k = k
 refused_both o (x ∷ xs) ys more h k = (h.0, refused_both o xs ys more h.1 k)
 
-none_there : (f : Front) (ts : List Token) → is_none f ≡ true → fronts f ts ≡ true → ts ≡ []
+none_there : (f : Lookahead) (ts : List Token) → is_none f ≡ true → is_ahead f ts ≡ true → ts ≡ []
 none_there None [] h k = refl
 none_there None (t ∷ ts) h k = cc
 none_there Any ts h k = cc
@@ -118,7 +118,7 @@ none_there Numbered ts h k = cc
 colon_code : (a b c : ℕ) → (a == 58 && b == 58) ≡ true → is_among a b c ≡ true → (c == 58) ≡ true
 colon_code a b c h k = grind (arith, nat_tests)
 
-closed_there : (f : Front) (ts : List Token) → (is_none f || is_colon f) ≡ true → fronts f ts ≡ true → is_closing ts ≡ true
+closed_there : (f : Lookahead) (ts : List Token) → (is_none f || is_colon f) ≡ true → is_ahead f ts ≡ true → is_closing ts ≡ true
 closed_there None [] h k = refl
 closed_there None (t ∷ ts) h k = cc
 closed_there Any ts h k = cc
@@ -129,41 +129,41 @@ closed_there (Spanned a b) (Lined x y ∷ ts) h k = cc
 closed_there (Hand l) ts h k = cc
 closed_there Numbered ts h k = cc
 
-refused_one : (o : Origin) (t : Tail) (fs : List Front) (ts : List Token) → every (refused_by t) fs ≡ true → some (λ (f : Front). fronts f ts) fs ≡ true → RefusedBy o t ts
+refused_one : (o : Origin) (t : Tail) (fs : List Lookahead) (ts : List Token) → every (refused_by t) fs ≡ true → some (λ (f : Lookahead). is_ahead f ts) fs ≡ true → RefusedBy o t ts
 refused_one o (Asked st) fs ts h k = λ s spelled. answers o st fs false ts s h k spelled
-refused_one o Closed fs ts h k = let one = some_front (refused_by Closed) fs ts h k in closed_there one.0 ts one.1.0 one.1.1
-refused_one o Over fs ts h k = let one = some_front (refused_by Over) fs ts h k in none_there one.0 ts one.1.0 one.1.1
+refused_one o Closed fs ts h k = let one = some_lookahead (refused_by Closed) fs ts h k in closed_there one.0 ts one.1.0 one.1.1
+refused_one o Over fs ts h k = let one = some_lookahead (refused_by Over) fs ts h k in none_there one.0 ts one.1.0 one.1.1
 
--- what the fronts of what stands there refuse
-pub refused_fronts : (o : Origin) (xs : List Tail) (fs : List Front) (ts : List Token) → refuse xs fs ≡ true → some (λ (f : Front). fronts f ts) fs ≡ true → Refused o xs ts
-refused_fronts o [] fs ts h k = tt
-refused_fronts o (x ∷ xs) fs ts h k = (refused_one o x fs ts (and_left _ _ h) k, refused_fronts o xs fs ts (and_right (every (refused_by x) fs) _ h) k)
+-- what the lookaheads of what stands there refuse
+pub refused_lookaheads : (o : Origin) (xs : List Tail) (fs : List Lookahead) (ts : List Token) → refuse xs fs ≡ true → some (λ (f : Lookahead). is_ahead f ts) fs ≡ true → Refused o xs ts
+refused_lookaheads o [] fs ts h k = tt
+refused_lookaheads o (x ∷ xs) fs ts h k = (refused_one o x fs ts (and_left _ _ h) k, refused_lookaheads o xs fs ts (and_right (every (refused_by x) fs) _ h) k)
 
 -- tokens that are none where a row may be empty, or that begin as the row's trees do
 abbrev pub Led : Known → List Token → List Token → Type 0
-Led k xs more = ((xs ≡ []) × (k.empty ≡ true)) ⊎ (some (λ (f : Front). fronts f (xs ++ more)) k.heads ≡ true)
+Led k xs more = ((xs ≡ []) × (k.empty ≡ true)) ⊎ (some (λ (f : Lookahead). is_ahead f (xs ++ more)) k.heads ≡ true)
 
-some_left : (p : Front → Bool) (xs ys : List Front) → some p xs ≡ true → some p (xs ++ ys) ≡ true
+some_left : (p : Lookahead → Bool) (xs ys : List Lookahead) → some p xs ≡ true → some p (xs ++ ys) ≡ true
 some_left p [] ys h = cc
 some_left p (x ∷ xs) ys h = elim (or_cases (p x) (some p xs) h) [
   | inl g ↦ or_one _ _ g
   | inr g ↦ or_other (p x) _ (some_left p xs ys g)
 ]
 
-some_right : (p : Front → Bool) (xs ys : List Front) → some p ys ≡ true → some p (xs ++ ys) ≡ true
+some_right : (p : Lookahead → Bool) (xs ys : List Lookahead) → some p ys ≡ true → some p (xs ++ ys) ≡ true
 some_right p [] ys h = h
 some_right p (x ∷ xs) ys h = or_other (p x) _ (some_right p xs ys h)
 
-some_when : (p : Front → Bool) (b : Bool) (ys : List Front) → b ≡ true → some p ys ≡ true → some p (when b ys) ≡ true
+some_when : (p : Lookahead → Bool) (b : Bool) (ys : List Lookahead) → b ≡ true → some p ys ≡ true → some p (when b ys) ≡ true
 some_when p true ys h k = k
 some_when p false ys h k = cc
 
 led_seq : (a b : Known) (xs ys more : List Token) → Led a xs (ys ++ more) → Led b ys more → Led (joined_known a b) (xs ++ ys) more
 led_seq a b xs ys more (inl h) (inl k) = inl ((λ i. h.0 i ++ k.0 i), rw h.1 k.1)
 led_seq a b xs ys more (inl h) (inr k) =
-    inr (some_right _ a.heads _ (some_when _ a.empty b.heads h.1 (ap (λ (l : List Token). some (λ (f : Front). fronts f ((l ++ ys) ++ more)) b.heads) h.0 ∙ k)))
+    inr (some_right _ a.heads _ (some_when _ a.empty b.heads h.1 (ap (λ (l : List Token). some (λ (f : Lookahead). is_ahead f ((l ++ ys) ++ more)) b.heads) h.0 ∙ k)))
 led_seq a b xs ys more (inr h) k =
-    inr (some_left _ a.heads _ (ap (λ (l : List Token). some (λ (f : Front). fronts f l) a.heads) (append_assoc xs ys more) ∙ h))
+    inr (some_left _ a.heads _ (ap (λ (l : List Token). some (λ (f : Lookahead). is_ahead f l) a.heads) (append_assoc xs ys more) ∙ h))
 
 no_line_leaf : (w : Text) → is_whole leaf.LineNumber w ≡ true → ⊥
 no_line_leaf w h = grind (arith, nat_tests)
@@ -173,7 +173,7 @@ line_leaf leaf.LineNumber w h = no_line_leaf w h
 line_leaf j w h = cc
 
 -- a token of an item begins as the item does
-pub token_leads : (o : Origin) (i : Item) (t : Token) (ts : List Token) → fits_token o i t ≡ true → some (λ (f : Front). fronts f (t ∷ ts)) (of_item of i).heads ≡ true
+pub token_leads : (o : Origin) (i : Item) (t : Token) (ts : List Token) → fits_token o i t ≡ true → some (λ (f : Lookahead). is_ahead f (t ∷ ts)) (of_item of i).heads ≡ true
 token_leads o (Word c) (Coded d) ts h = or_one _ _ (sym (span_of c d) ∙ h)
 token_leads o (Sign c code) (Coded d) ts h = or_one _ _ (sym (span_of c d) ∙ h)
 token_leads o (Among a b code) (Coded d) ts h = or_one _ _ h
@@ -208,27 +208,27 @@ may_end_empty (End ∷ is) h = may_end_empty is h
 may_end_empty (Typed leaf.Text code ∷ is) h = may_end_empty is h
 may_end_empty (i ∷ is) h = cc
 
-pub covered_front : (g f : Front) (ts : List Token) → covers g f ≡ true → fronts f ts ≡ true → fronts g ts ≡ true
-covered_front (Spanned a b) (Spanned c d) [] h k = cc
-covered_front (Spanned a b) (Spanned c d) (Coded e ∷ ts) h k = among_inside a b c d e h k
-covered_front (Spanned a b) (Spanned c d) (Plain j w ∷ ts) h k = cc
-covered_front (Spanned a b) (Spanned c d) (Lined x y ∷ ts) h k = cc
-covered_front (Hand l) (Hand j) [] h k = cc
-covered_front (Hand l) (Hand j) (Coded e ∷ ts) h k = cc
-covered_front (Hand l) (Hand j) (Plain i w ∷ ts) h k = grind (arith, nat_tests)
-covered_front (Hand l) (Hand j) (Lined x y ∷ ts) h k = cc
-covered_front Numbered Numbered ts h k = k
-covered_front g f ts h k = cc
+pub covered_lookahead : (g f : Lookahead) (ts : List Token) → covers g f ≡ true → is_ahead f ts ≡ true → is_ahead g ts ≡ true
+covered_lookahead (Spanned a b) (Spanned c d) [] h k = cc
+covered_lookahead (Spanned a b) (Spanned c d) (Coded e ∷ ts) h k = among_inside a b c d e h k
+covered_lookahead (Spanned a b) (Spanned c d) (Plain j w ∷ ts) h k = cc
+covered_lookahead (Spanned a b) (Spanned c d) (Lined x y ∷ ts) h k = cc
+covered_lookahead (Hand l) (Hand j) [] h k = cc
+covered_lookahead (Hand l) (Hand j) (Coded e ∷ ts) h k = cc
+covered_lookahead (Hand l) (Hand j) (Plain i w ∷ ts) h k = grind (arith, nat_tests)
+covered_lookahead (Hand l) (Hand j) (Lined x y ∷ ts) h k = cc
+covered_lookahead Numbered Numbered ts h k = k
+covered_lookahead g f ts h k = cc
 
-covered_some : (gs : List Front) (f : Front) (ts : List Token) → some (λ (g : Front). covers g f) gs ≡ true → fronts f ts ≡ true → some (λ (g : Front). fronts g ts) gs ≡ true
+covered_some : (gs : List Lookahead) (f : Lookahead) (ts : List Token) → some (λ (g : Lookahead). covers g f) gs ≡ true → is_ahead f ts ≡ true → some (λ (g : Lookahead). is_ahead g ts) gs ≡ true
 covered_some [] f ts h k = cc
-covered_some (g ∷ gs) f ts h k = elim (or_cases (covers g f) (some (λ (x : Front). covers x f) gs) h) [
-  | inl e ↦ or_one _ _ (covered_front g f ts e k)
-  | inr e ↦ or_other (fronts g ts) _ (covered_some gs f ts e k)
+covered_some (g ∷ gs) f ts h k = elim (or_cases (covers g f) (some (λ (x : Lookahead). covers x f) gs) h) [
+  | inl e ↦ or_one _ _ (covered_lookahead g f ts e k)
+  | inr e ↦ or_other (is_ahead g ts) _ (covered_some gs f ts e k)
 ]
 
-pub covered_all : (gs fs : List Front) (ts : List Token) → covered gs fs ≡ true → some (λ (f : Front). fronts f ts) fs ≡ true → some (λ (g : Front). fronts g ts) gs ≡ true
-covered_all gs fs ts h k = let one = some_front (λ (f : Front). some (λ (g : Front). covers g f) gs) fs ts h k in covered_some gs one.0 ts one.1.0 one.1.1
+pub covered_all : (gs fs : List Lookahead) (ts : List Token) → covered gs fs ≡ true → some (λ (f : Lookahead). is_ahead f ts) fs ≡ true → some (λ (g : Lookahead). is_ahead g ts) gs ≡ true
+covered_all gs fs ts h k = let one = some_lookahead (λ (f : Lookahead). some (λ (g : Lookahead). covers g f) gs) fs ts h k in covered_some gs one.0 ts one.1.0 one.1.1
 
 pub giving_known : (is : List Item) → ((of_items of (giving is)).heads ≡ (of_items of is).heads) × ((of_items of (giving is)).empty ≡ (of_items of is).empty)
 giving_known [] = (refl, refl)
@@ -238,11 +238,11 @@ giving_known (i ∷ is) = (refl, refl)
 
 pub led_giving : (is : List Item) (xs more : List Token) → Led (of_items of (giving is)) xs more → Led (of_items of is) xs more
 led_giving is xs more (inl h) = inl (h.0, sym (giving_known is).1 ∙ h.1)
-led_giving is xs more (inr h) = inr (ap (some (λ (f : Front). fronts f (xs ++ more))) (sym (giving_known is).0) ∙ h)
+led_giving is xs more (inr h) = inr (ap (some (λ (f : Lookahead). is_ahead f (xs ++ more))) (sym (giving_known is).0) ∙ h)
 
 pub led_known : (n : ℕ) (xs more : List Token) → Led (of_items of (row_items n)) xs more → Led (of n) xs more
 led_known n xs more (inl h) = inl (h.0, ap (λ (k : Known). k.empty) (sym (known n)) ∙ h.1)
-led_known n xs more (inr h) = inr (ap (λ (k : Known). some (λ (f : Front). fronts f (xs ++ more)) k.heads) (sym (known n)) ∙ h)
+led_known n xs more (inr h) = inr (ap (λ (k : Known). some (λ (f : Lookahead). is_ahead f (xs ++ more)) k.heads) (sym (known n)) ∙ h)
 
 -- a row that may be left out, and what two rows begin with
 led_maybe : (s : Start) (n : ℕ) (xs more : List Token) → Led (of n) xs more → Led (of_item of (Maybe s n)) xs more
@@ -299,7 +299,7 @@ branch_leads inner ts li lt o most room zero (Many s n) is h more =
     led_seq (of_item of (Many s n)) (of_items of is) (tokens inner) (tokens ts) more (inl (no_tokens o most room inner h.0, refl)) (lt o most room is h.1 more)
 branch_leads inner ts li lt o most room (suc zero) (Many s n) is h more = elim (led_row inner li o most room n h.0 (tokens ts ++ more)) [
   | inl g ↦ (let P : List Token → Type 0 = λ l. Led (of_items of (Many s n ∷ is)) (l ++ tokens ts) more in subst P (sym g.0) (lt o most room (Many s n ∷ is) h.1 more))
-  | inr g ↦ inr (some_left _ (of n).heads _ (ap (λ (l : List Token). some (λ (f : Front). fronts f l) (of n).heads) (append_assoc (tokens inner) (tokens ts) more) ∙ g))
+  | inr g ↦ inr (some_left _ (of n).heads _ (ap (λ (l : List Token). some (λ (f : Lookahead). is_ahead f l) (of n).heads) (append_assoc (tokens inner) (tokens ts) more) ∙ g))
 ]
 branch_leads inner ts li lt o most room (suc (suc m)) (Many s n) is h more = absurd h
 branch_leads inner ts li lt o most room m (Nest n) is h more = inr refl

@@ -16,10 +16,10 @@ use Rattle.b2_atom.proofs.settled.Computed.{statement_good}
 use Rattle.b2_atom.specs.declared.forms.Leaf.TheVariants as leaf
 use Rattle.b2_atom.specs.declared.forms.Item.TheVariants.{Word, Sign, Among, ProgramWord, Ignored, Comma, LeftOut, End, Typed, Part, Maybe, Either, Many, Nest, Statement}
 use Rattle.b2_atom.proofs.Booleans.{equal, and_left, and_right, or_one, or_other, or_cases}
-use Rattle.b2_atom.proofs.settled.Fronts.{every, some, Front, fronts, Known, when, of_item, of_items, of, next_heads, Beside, besides, Within, paired, paired_item, is_closed, covers, covered, statement_ends, statement_heads, refuse, is_free_row, leading}
-use Rattle.b2_atom.proofs.settled.Fronts.Front.{Any, None, Spanned, Hand, Numbered}
-use Rattle.b2_atom.proofs.settled.FrontAnswers.{some_front}
-use Rattle.b2_atom.proofs.settled.Heads.{known, Led, leads, led_known, token_leads, covered_front, covered_all}
+use Rattle.b2_atom.proofs.settled.Lookaheads.{every, some, Lookahead, is_ahead, Known, when, of_item, of_items, of, next_heads, Beside, besides, Within, paired, paired_item, is_closed, covers, covered, statement_ends, statement_heads, refuse, is_free_row, leading}
+use Rattle.b2_atom.proofs.settled.Lookaheads.Lookahead.{Any, None, Spanned, Hand, Numbered}
+use Rattle.b2_atom.proofs.settled.LookaheadAnswers.{some_lookahead}
+use Rattle.b2_atom.proofs.settled.Heads.{known, Led, leads, led_known, token_leads, covered_lookahead, covered_all}
 
 abbrev pub TwoTokens : Type 0
 TwoTokens = Token → Token → Bool
@@ -34,56 +34,56 @@ Chain q [] = Unit {0}
 Chain q (t ∷ ts) = Before q t ts × Chain q ts
 
 -- what may follow the last token of some items
-abbrev pub Follows : TwoTokens → List Front → List Token → Type 0
-Follows q fs more = (t : Token) → some (λ (f : Front). fronts f (t ∷ [])) fs ≡ true → Before q t more
+abbrev pub Follows : TwoTokens → List Lookahead → List Token → Type 0
+Follows q fs more = (t : Token) → some (λ (f : Lookahead). is_ahead f (t ∷ [])) fs ≡ true → Before q t more
 
--- what the fronts tell holds of the tokens
+-- what the lookaheads tell holds of the tokens
 abbrev pub Tells : Beside → TwoTokens → Type 0
-Tells p q = (f g : Front) (t u : Token) (us : List Token) → p f g ≡ true → fronts f (t ∷ []) ≡ true → fronts g (u ∷ us) ≡ true → q t u ≡ true
+Tells p q = (f g : Lookahead) (t u : Token) (us : List Token) → p f g ≡ true → is_ahead f (t ∷ []) ≡ true → is_ahead g (u ∷ us) ≡ true → q t u ≡ true
 
-some_left : (p : Front → Bool) (xs ys : List Front) → some p xs ≡ true → some p (xs ++ ys) ≡ true
+some_left : (p : Lookahead → Bool) (xs ys : List Lookahead) → some p xs ≡ true → some p (xs ++ ys) ≡ true
 some_left p [] ys h = cc
 some_left p (x ∷ xs) ys h = elim (or_cases (p x) (some p xs) h) [
   | inl g ↦ or_one _ _ g
   | inr g ↦ or_other (p x) _ (some_left p xs ys g)
 ]
 
-some_right : (p : Front → Bool) (xs ys : List Front) → some p ys ≡ true → some p (xs ++ ys) ≡ true
+some_right : (p : Lookahead → Bool) (xs ys : List Lookahead) → some p ys ≡ true → some p (xs ++ ys) ≡ true
 some_right p [] ys h = h
 some_right p (x ∷ xs) ys h = or_other (p x) _ (some_right p xs ys h)
 
-some_when : (p : Front → Bool) (b : Bool) (ys : List Front) → b ≡ true → some p ys ≡ true → some p (when b ys) ≡ true
+some_when : (p : Lookahead → Bool) (b : Bool) (ys : List Lookahead) → b ≡ true → some p ys ≡ true → some p (when b ys) ≡ true
 some_when p true ys h k = k
 some_when p false ys h k = cc
 
-follows_left : (q : TwoTokens) (xs ys : List Front) (more : List Token) → Follows q (xs ++ ys) more → Follows q xs more
+follows_left : (q : TwoTokens) (xs ys : List Lookahead) (more : List Token) → Follows q (xs ++ ys) more → Follows q xs more
 follows_left q xs ys more h = λ t k. h t (some_left _ xs ys k)
 
-follows_right : (q : TwoTokens) (xs ys : List Front) (more : List Token) → Follows q (xs ++ ys) more → Follows q ys more
+follows_right : (q : TwoTokens) (xs ys : List Lookahead) (more : List Token) → Follows q (xs ++ ys) more → Follows q ys more
 follows_right q xs ys more h = λ t k. h t (some_right _ xs ys k)
 
-follows_when : (q : TwoTokens) (b : Bool) (xs ys : List Front) (more : List Token) → b ≡ true → Follows q (when b xs ++ ys) more → Follows q xs more
+follows_when : (q : TwoTokens) (b : Bool) (xs ys : List Lookahead) (more : List Token) → b ≡ true → Follows q (when b xs ++ ys) more → Follows q xs more
 follows_when q true xs ys more h k = follows_left q xs ys more k
 follows_when q false xs ys more h k = cc
 
-pub before_fronts : (p : Beside) (q : TwoTokens) → Tells p q → (fs gs : List Front) (ts : List Token) → besides p fs gs ≡ true → some (λ (g : Front). fronts g ts) gs ≡ true → Follows q fs ts
-before_fronts p q tells fs gs [] test h = λ t k. tt
-before_fronts p q tells fs gs (u ∷ us) test h = λ t k.
-    let f = some_front (λ (x : Front). every (λ (g : Front). p x g) gs) fs (t ∷ []) test k in
-    let g = some_front (λ (y : Front). p f.0 y) gs (u ∷ us) f.1.0 h in
+pub before_lookaheads : (p : Beside) (q : TwoTokens) → Tells p q → (fs gs : List Lookahead) (ts : List Token) → besides p fs gs ≡ true → some (λ (g : Lookahead). is_ahead g ts) gs ≡ true → Follows q fs ts
+before_lookaheads p q tells fs gs [] test h = λ t k. tt
+before_lookaheads p q tells fs gs (u ∷ us) test h = λ t k.
+    let f = some_lookahead (λ (x : Lookahead). every (λ (g : Lookahead). p x g) gs) fs (t ∷ []) test k in
+    let g = some_lookahead (λ (y : Lookahead). p f.0 y) gs (u ∷ us) f.1.0 h in
     tells f.0 g.0 t u us g.1.0 f.1.1 g.1.1
 
 -- what stands at the front of items
 abbrev pub NextLed : List Item → List Token → List Token → Type 0
-NextLed is xs more = ((xs ≡ []) × ((of_items of is).empty ≡ true)) ⊎ (some (λ (f : Front). fronts f (xs ++ more)) (next_heads is) ≡ true)
+NextLed is xs more = ((xs ≡ []) × ((of_items of is).empty ≡ true)) ⊎ (some (λ (f : Lookahead). is_ahead f (xs ++ more)) (next_heads is) ≡ true)
 
 nest_led : (n : ℕ) (is : List Item) (xs ys more : List Token) → Led (of n) xs (ys ++ more) → Led (of_items of is) ys more → NextLed (Nest n ∷ is) (xs ++ ys) more
 nest_led n is xs ys more (inl h) (inl k) = inl ((λ i. h.0 i ++ k.0 i), k.1)
 nest_led n is xs ys more (inl h) (inr k) =
     inr (some_right _ (of n).heads _ (some_when _ (of n).empty (of_items of is).heads h.1
-    (ap (λ (l : List Token). some (λ (f : Front). fronts f ((l ++ ys) ++ more)) (of_items of is).heads) h.0 ∙ k)))
+    (ap (λ (l : List Token). some (λ (f : Lookahead). is_ahead f ((l ++ ys) ++ more)) (of_items of is).heads) h.0 ∙ k)))
 nest_led n is xs ys more (inr h) k =
-    inr (some_left _ (of n).heads _ (ap (λ (l : List Token). some (λ (f : Front). fronts f l) (of n).heads) (append_assoc xs ys more) ∙ h))
+    inr (some_left _ (of n).heads _ (ap (λ (l : List Token). some (λ (f : Lookahead). is_ahead f l) (of n).heads) (append_assoc xs ys more) ∙ h))
 
 nest_next : (t : Trees) (o : Origin) (most room n : ℕ) (is : List Item) → Fits o most room (Nest n ∷ is) t → (more : List Token) → NextLed (Nest n ∷ is) (tokens t) more
 nest_next Done o most room n is h more = cc
@@ -102,7 +102,7 @@ item_follows : (p : Beside) (q : TwoTokens) → Tells p q → (i : Item) (is : L
 item_follows p q tells i is xs more (inl h) test follows =
     let P : List Token → Type 0 = λ l. Follows q (of_item of i).ends (l ++ more) in
     subst P (sym h.0) (follows_when q (of_items of is).empty (of_item of i).ends (of_items of is).ends more h.1 follows)
-item_follows p q tells i is xs more (inr h) test follows = before_fronts p q tells (of_item of i).ends (next_heads is) (xs ++ more) test h
+item_follows p q tells i is xs more (inr h) test follows = before_lookaheads p q tells (of_item of i).ends (next_heads is) (xs ++ more) test h
 
 -- a table of rows whose tokens may stand side by side
 abbrev pub Rows : Within → Beside → Type 0
@@ -133,7 +133,7 @@ no_tokens o most room (In m inner ts) h = absurd h
 chain_none : (q : TwoTokens) (o : Origin) (most room : ℕ) (inner : Trees) (ys more : List Token) → Fits o most room [] inner → Chain q (ys ++ more) → Chain q ((tokens inner ++ ys) ++ more)
 chain_none q o most room inner ys more fits h = let P : List Token → Type 0 = λ l. Chain q ((l ++ ys) ++ more) in subst P (sym (no_tokens o most room inner fits)) h
 
-some_split : (p : Front → Bool) (xs ys : List Front) → some p (xs ++ ys) ≡ true → (some p xs ≡ true) ⊎ (some p ys ≡ true)
+some_split : (p : Lookahead → Bool) (xs ys : List Lookahead) → some p (xs ++ ys) ≡ true → (some p xs ≡ true) ⊎ (some p ys ≡ true)
 some_split p [] ys h = inr h
 some_split p (x ∷ xs) ys h = elim (or_cases (p x) (some p (xs ++ ys)) h) [
   | inl g ↦ inl (or_one _ _ g)
@@ -147,24 +147,24 @@ turn_follows : (p : Beside) (q : TwoTokens) → Tells p q → (x : Start) (n : �
     → besides p (of n).ends (of n).heads ≡ true → besides p (of n).ends (of_items of is).heads ≡ true → Follows q (of_items of (Many x n ∷ is)).ends more → Follows q (of n).ends (xs ++ more)
 turn_follows p q tells x n is xs more (inl h) own test follows =
     let P : List Token → Type 0 = λ l. Follows q (of n).ends (l ++ more) in subst P (sym h.0) (follows_when q (of_items of is).empty (of n).ends (of_items of is).ends more h.1 follows)
-turn_follows p q tells x n is xs more (inr h) own test follows = elim (some_split (λ (f : Front). fronts f (xs ++ more)) (of n).heads (of_items of is).heads h) [
-  | inl e ↦ before_fronts p q tells (of n).ends (of n).heads (xs ++ more) own e
-  | inr e ↦ before_fronts p q tells (of n).ends (of_items of is).heads (xs ++ more) test e
+turn_follows p q tells x n is xs more (inr h) own test follows = elim (some_split (λ (f : Lookahead). is_ahead f (xs ++ more)) (of n).heads (of_items of is).heads h) [
+  | inl e ↦ before_lookaheads p q tells (of n).ends (of n).heads (xs ++ more) own e
+  | inr e ↦ before_lookaheads p q tells (of n).ends (of_items of is).heads (xs ++ more) test e
 ]
 
-close_front : (c code : ℕ) (is : List Item) (xs more : List Token) → (c == 41) ≡ true → Led (of_items of (Sign c code ∷ is)) xs more → some (λ (f : Front). fronts f (xs ++ more)) (Spanned 41 41 ∷ []) ≡ true
-close_front c code is xs more h (inl g) = cc
-close_front c code is xs more h (inr g) = ap (λ (n : ℕ). some (λ (f : Front). fronts f (xs ++ more)) (Spanned n n ∷ [])) (sym (equal c 41 h)) ∙ g
+close_lookahead : (c code : ℕ) (is : List Item) (xs more : List Token) → (c == 41) ≡ true → Led (of_items of (Sign c code ∷ is)) xs more → some (λ (f : Lookahead). is_ahead f (xs ++ more)) (Spanned 41 41 ∷ []) ≡ true
+close_lookahead c code is xs more h (inl g) = cc
+close_lookahead c code is xs more h (inr g) = ap (λ (n : ℕ). some (λ (f : Lookahead). is_ahead f (xs ++ more)) (Spanned n n ∷ [])) (sym (equal c 41 h)) ∙ g
 
 nest_follows : (p : Beside) (q : TwoTokens) → Tells p q → (o : Origin) (most room n : ℕ) (is : List Item) (ts : Trees) (more : List Token) → is_closed is ≡ true
     → besides p (of n).ends (Spanned 41 41 ∷ []) ≡ true → Fits o most room is ts → Follows q (of n).ends (tokens ts ++ more)
 nest_follows p q tells o most room n (Sign c code ∷ is) ts more h test fits =
-    before_fronts p q tells (of n).ends (Spanned 41 41 ∷ []) (tokens ts ++ more) test (close_front c code is (tokens ts) more h (leads ts o most room (Sign c code ∷ is) fits more))
+    before_lookaheads p q tells (of n).ends (Spanned 41 41 ∷ []) (tokens ts ++ more) test (close_lookahead c code is (tokens ts) more h (leads ts o most room (Sign c code ∷ is) fits more))
 nest_follows p q tells o most room n [] ts more h test fits = cc
 nest_follows p q tells o most room n (i ∷ is) ts more h test fits = cc
 
-covers_last : (g f : Front) (t : Token) → covers g f ≡ true → fronts f (t ∷ []) ≡ true → fronts g (t ∷ []) ≡ true
-covers_last g f t h k = covered_front g f (t ∷ []) h k
+covers_last : (g f : Lookahead) (t : Token) → covers g f ≡ true → is_ahead f (t ∷ []) ≡ true → is_ahead g (t ∷ []) ≡ true
+covers_last g f t h k = covered_lookahead g f (t ∷ []) h k
 
 statement_follows : (q : TwoTokens) (o : Origin) (x : Position) (m : ℕ) (more : List Token) → is_statement forms o x m ≡ true → Follows q statement_ends more → Follows q (of m).ends more
 statement_follows q o x m more stated h = λ t k.
@@ -242,21 +242,21 @@ branch_chain r p q tells rows all_ inner ts ci ct o most room m LeftOut is h tes
 branch_chain r p q tells rows all_ inner ts ci ct o most room m End is h test more follows chain = absurd h
 branch_chain r p q tells rows all_ inner ts ci ct o most room m (Typed k code) is h test more follows chain = absurd h
 
-pub front_last : (f : Front) (t : Token) (ts : List Token) → fronts f (t ∷ ts) ≡ fronts f (t ∷ [])
-front_last Any t ts = refl
-front_last None t ts = refl
-front_last (Spanned a b) (Coded c) ts = refl
-front_last (Spanned a b) (Plain k w) ts = refl
-front_last (Spanned a b) (Lined x y) ts = refl
-front_last (Hand l) (Coded c) ts = refl
-front_last (Hand l) (Plain k w) ts = refl
-front_last (Hand l) (Lined x y) ts = refl
-front_last Numbered (Coded c) ts = refl
-front_last Numbered (Plain k w) ts = refl
-front_last Numbered (Lined x y) ts = refl
+pub lookahead_last : (f : Lookahead) (t : Token) (ts : List Token) → is_ahead f (t ∷ ts) ≡ is_ahead f (t ∷ [])
+lookahead_last Any t ts = refl
+lookahead_last None t ts = refl
+lookahead_last (Spanned a b) (Coded c) ts = refl
+lookahead_last (Spanned a b) (Plain k w) ts = refl
+lookahead_last (Spanned a b) (Lined x y) ts = refl
+lookahead_last (Hand l) (Coded c) ts = refl
+lookahead_last (Hand l) (Plain k w) ts = refl
+lookahead_last (Hand l) (Lined x y) ts = refl
+lookahead_last Numbered (Coded c) ts = refl
+lookahead_last Numbered (Plain k w) ts = refl
+lookahead_last Numbered (Lined x y) ts = refl
 
 -- a token may be the last of its item
-token_ends : (o : Origin) (i : Item) (t : Token) → fits_token o i t ≡ true → some (λ (f : Front). fronts f (t ∷ [])) (of_item of i).ends ≡ true
+token_ends : (o : Origin) (i : Item) (t : Token) → fits_token o i t ≡ true → some (λ (f : Lookahead). is_ahead f (t ∷ [])) (of_item of i).ends ≡ true
 token_ends o (Word c) t h = token_leads o (Word c) t [] h
 token_ends o (Sign c code) t h = token_leads o (Sign c code) t [] h
 token_ends o (Among a b code) t h = token_leads o (Among a b code) t [] h

@@ -20,7 +20,7 @@ use Rattle.b2_atom.proofs.typed.Keywords.{is_keyword, not_before_sign, not_at_si
 use Rattle.b2_atom.proofs.typed.Names.{NameShape, numeric_shape, numeric_read, local_shape, alpha_shape, alpha_read, ahead_sign, ahead_letter, digit_upper}
 use Rattle.b2_atom.proofs.typed.Characters.{hex_kept, function_of, is_function_name, function_ahead}
 use Rattle.b2_atom.proofs.typed.LeavesRead.{ends, leaf_read, name_digit, name_letter, name_dollar, dollar_before, dollar_long}
-use Rattle.b2_atom.proofs.typed.LeafFronts.{front, leaf_front, width_yes}
+use Rattle.b2_atom.proofs.typed.LeafStarts.{front, leaf_front, width_yes}
 use Rattle.b2_atom.proofs.typed.CleanLeaves.{whole_upper}
 use Rattle.b2_atom.proofs.typed.Widths.{get_first}
 

@@ -73,9 +73,9 @@ ahead_two o c d x false is h =
 operand_letter : (c : ℕ) → is_letter c ≡ true → is_operand (Coded c) ≡ true
 operand_letter c h = grind (arith, nat_tests)
 
-mark_first : (c d n : ℕ) (l : Bool) → is_letter c ≡ true → is_letter d ≡ l → l ≡ false → FirstOf (is_operand (Coded c)) (Coded d) n → is_letter (upper n) ≡ false
-mark_first c d n true o h k is = cc
-mark_first c d n false o h k is = quiet_letter n (is.mark (ap (λ (b : Bool). not b || false) h) (operand_letter c o))
+symbol_first : (c d n : ℕ) (l : Bool) → is_letter c ≡ true → is_letter d ≡ l → l ≡ false → FirstOf (is_operand (Coded c)) (Coded d) n → is_letter (upper n) ≡ false
+symbol_first c d n true o h k is = cc
+symbol_first c d n false o h k is = quiet_letter n (is.symbol (ap (λ (b : Bool). not b || false) h) (operand_letter c o))
 
 coded_ahead : (o : Origin) (shown : Token → List Token → Text) → Showing o shown → (c d : ℕ) (us : List Token) (l : Bool) → is_letter d ≡ l → is_letter c ≡ true
     → good_token (Coded d) ≡ true → is_lettered c (Coded d) ≡ true → ahead o (c ∷ shown (Coded c) (Coded d ∷ us)) ≡ (c, shown (Coded c) (Coded d ∷ us))
@@ -83,7 +83,7 @@ coded_ahead o shown is c d us true l h g m =
     let P : Text → Type 0 = λ t. ahead o (c ∷ t) ≡ (c, t) in
     subst P (sym (is.letters c d us h l)) (ahead_two o c d (shown (Coded d) us) (c == 66 && d == 69) refl (letter_two c d l m))
 coded_ahead o shown is c d us false l h g m =
-    ahead_letter o c (shown (Coded c) (Coded d ∷ us)) (letter_upper c h) (mark_first c d (first (shown (Coded c) (Coded d ∷ us))) false h l refl (is.first_is (Coded c) (Coded d) us g))
+    ahead_letter o c (shown (Coded c) (Coded d ∷ us)) (letter_upper c h) (symbol_first c d (first (shown (Coded c) (Coded d ∷ us))) false h l refl (is.first_is (Coded c) (Coded d) us g))
 
 pub letter_ahead : (o : Origin) (shown : Token → List Token → Text) → Showing o shown → (c : ℕ) (ts : List Token) → is_letter c ≡ true → AllGood ts
     → Neighbours (Coded c ∷ ts) → ahead o (c ∷ shown (Coded c) ts) ≡ (c, shown (Coded c) ts)
@@ -122,7 +122,7 @@ third_coded o shown is e vs true l g m =
     ap (λ (t : Text). kept_byte o (get_or t 0 0) == 71) (is.letters 69 e vs refl l)
     ∙ ap (λ (n : ℕ). kept_byte o n == 71) same ∙ ap (λ (n : ℕ). n == 71) (kept_g o) ∙ ap (λ (n : ℕ). n == 71) (sym same)
 third_coded o shown is e vs false l g m =
-    no_letter o (shown (Coded 69) (Coded e ∷ vs)) 71 (no_g o) (mark_first 69 e (first (shown (Coded 69) (Coded e ∷ vs))) false refl l refl (is.first_is (Coded 69) (Coded e) vs g))
+    no_letter o (shown (Coded 69) (Coded e ∷ vs)) 71 (no_g o) (symbol_first 69 e (first (shown (Coded 69) (Coded e ∷ vs))) false refl l refl (is.first_is (Coded 69) (Coded e) vs g))
     ∙ sym (not_g e l)
 
 third : (o : Origin) (shown : Token → List Token → Text) → Showing o shown → (us : List Token) → AllGood us → Neighbours (Coded 69 ∷ us)
@@ -152,7 +152,7 @@ second_coded o shown is d us true l g nb m =
     let there : P d = subst P (sym same) at_e in
     ap (λ (t : Text). spelled_after o t 69 71) (is.letters 66 d us refl l) ∙ there g nb
 second_coded o shown is d us false l g nb m =
-    none_behind o (shown (Coded 66) (Coded d ∷ us)) (mark_first 66 d (first (shown (Coded 66) (Coded d ∷ us))) false refl l refl (is.first_is (Coded 66) (Coded d) us g.0))
+    none_behind o (shown (Coded 66) (Coded d ∷ us)) (symbol_first 66 d (first (shown (Coded 66) (Coded d ∷ us))) false refl l refl (is.first_is (Coded 66) (Coded d) us g.0))
     ∙ sym (beg_second d us (not_e d l))
 
 second : (o : Origin) (shown : Token → List Token → Text) → Showing o shown → (ts : List Token) → AllGood ts → Neighbours (Coded 66 ∷ ts)

@@ -83,14 +83,14 @@ word_first : (operand : Bool) (c : ℕ) (w x : Text) → WordFront c w → 0 < l
 word_first operand c w x is some h =
     let P : ℕ → Type 0 = λ n. FirstOf operand (Coded c) n in
     subst P (sym (first_more w x some)) (record {
-      mark = λ m o. not_or (begins_wordy (Coded c)) (quiet (first w)) is.quiet_or_wordy (ap (λ (b : Bool). b && begins_wordy (Coded c)) (sym o) ∙ h);
+      symbol = λ m o. not_or (begins_wordy (Coded c)) (quiet (first w)) is.quiet_or_wordy (ap (λ (b : Bool). b && begins_wordy (Coded c)) (sym o) ∙ h);
       dollar = λ m n. not_not (first w == 36) (is_dollar (Coded c)) is.dollar n;
       unrelated = λ m. is.unrelated;
       lined = λ m. cc;
     })
 
 blank_first : (operand : Bool) (u : Token) → FirstOf operand u 32
-blank_first operand u = record { mark = λ m o. refl; dollar = λ m n. refl; unrelated = λ m. refl; lined = λ m. refl }
+blank_first operand u = record { symbol = λ m o. refl; dollar = λ m n. refl; unrelated = λ m. refl; lined = λ m. refl }
 
 digit_unrelated : (n : ℕ) → is_digit n ≡ true → ends_relation n ≡ true
 digit_unrelated n h = grind (arith, nat_tests)
@@ -100,7 +100,7 @@ digit_letter n h = grind (arith, nat_tests)
 
 digit_first : (operand : Bool) (high low n : ℕ) → is_digit n ≡ true → FirstOf operand (Lined high low) n
 digit_first operand high low n h = record {
-  mark = λ m o. cc;
+  symbol = λ m o. cc;
   dollar = λ m k. cc;
   unrelated = λ m. digit_unrelated n h;
   lined = λ m. digit_letter n h;

@@ -17,7 +17,7 @@ use Rattle.b2_atom.proofs.Booleans.{and_left, and_right, equal, not_true}
 use Rattle.b2_atom.proofs.typed.Longest.{every}
 use Rattle.b2_atom.proofs.typed.Characters.{ends_relation}
 use Rattle.b2_atom.proofs.typed.LeavesRead.{ends}
-use Rattle.b2_atom.proofs.typed.LeafFronts.{front, leaf_front, turned}
+use Rattle.b2_atom.proofs.typed.LeafStarts.{front, leaf_front, turned}
 
 pub later : (t : Token) (ts : List Token) → Neighbours (t ∷ ts) → Neighbours ts
 later t [] h = tt
@@ -49,7 +49,7 @@ is_lined t = false
 
 -- what the first byte is where a token stands, after an operand or another token
 pub record FirstOf (operand : Bool) (u : Token) (n : ℕ) : Type 0 where
-  pub mark : (is_word_or_sign u || is_literal u) ≡ true → operand ≡ true → quiet n ≡ true
+  pub symbol : (is_word_or_sign u || is_literal u) ≡ true → operand ≡ true → quiet n ≡ true
   pub dollar : is_word_or_sign u ≡ true → is_dollar u ≡ false → (n == 36) ≡ false
   pub unrelated : (is_unrelated u && not (is_free_text u || is_image u)) ≡ true → ends_relation n ≡ true
   pub lined : is_lined u ≡ true → is_letter (upper n) ≡ false
@@ -95,7 +95,7 @@ or_none false h = cc
 
 pub coded_first : (operand : Bool) (d : ℕ) → good_token (Coded d) ≡ true → FirstOf operand (Coded d) d
 coded_first operand d h = record {
-  mark = λ m o. byte_quiet d (coded_byte d h) (or_none (not (is_letter d)) m);
+  symbol = λ m o. byte_quiet d (coded_byte d h) (or_none (not (is_letter d)) m);
   dollar = λ m n. byte_dollar d (coded_byte d h) m;
   unrelated = λ m. byte_unrelated d (coded_byte d h) (and_left (not (d == 61)) true m);
   lined = λ m. cc;
@@ -131,7 +131,7 @@ no_dollar k a w h m = cc
 
 pub plain_first : (operand : Bool) (k : Leaf) (a : ℕ) (w : Text) → leaf_width Atoms k (a ∷ w) ≡ suc (length w) → FirstOf operand (Plain k (a ∷ w)) a
 plain_first operand k a w h = record {
-  mark = λ m o. literal_quiet k a (a ∷ w) (leaf_front k a w h) m;
+  symbol = λ m o. literal_quiet k a (a ∷ w) (leaf_front k a w h) m;
   dollar = λ m n. no_dollar k a (a ∷ w) (leaf_front k a w h) m;
   unrelated = λ m. front_unrelated k a (a ∷ w) (leaf_front k a w h) m;
   lined = λ m. cc;
@@ -139,7 +139,7 @@ plain_first operand k a w h = record {
 
 -- free text may begin with any byte
 pub text_first : (operand : Bool) (a : ℕ) (w : Text) → FirstOf operand (Plain leaf.Text w) a
-text_first operand a w = record { mark = λ m o. cc; dollar = λ m n. cc; unrelated = λ m. cc; lined = λ m. cc }
+text_first operand a w = record { symbol = λ m o. cc; dollar = λ m n. cc; unrelated = λ m. cc; lined = λ m. cc }
 
 -- what is typed by hand ends before what may follow it
 quiet_number : (n : ℕ) → quiet n ≡ true → ends leaf.Number n ≡ true
@@ -162,17 +162,17 @@ or_first a b h = rw h refl
 
 name_ends : (u : Token) (n : ℕ) → (is_word_or_sign u && not (is_dollar u)) ≡ true → FirstOf true u n → ends leaf.Name n ≡ true
 name_ends u n m is =
-    let mark = and_left (is_word_or_sign u) (not (is_dollar u)) m in
-    quiet_name n (is.mark (or_first (is_word_or_sign u) (is_literal u) mark) refl) (is.dollar mark (not_true (is_dollar u) (and_right (is_word_or_sign u) (not (is_dollar u)) m)))
+    let symbol = and_left (is_word_or_sign u) (not (is_dollar u)) m in
+    quiet_name n (is.symbol (or_first (is_word_or_sign u) (is_literal u) symbol) refl) (is.dollar symbol (not_true (is_dollar u) (and_right (is_word_or_sign u) (not (is_dollar u)) m)))
 
 pub ends_next : (k : Leaf) (u : Token) (n : ℕ) → may_follow_leaf k u ≡ true → FirstOf (is_operand_leaf k) u n → ends k n ≡ true
-ends_next leaf.Number u n m is = quiet_number n (is.mark (or_first (is_word_or_sign u) (is_literal u) m) refl)
-ends_next leaf.SignedNumber u n m is = quiet_number n (is.mark (or_first (is_word_or_sign u) (is_literal u) m) refl)
+ends_next leaf.Number u n m is = quiet_number n (is.symbol (or_first (is_word_or_sign u) (is_literal u) m) refl)
+ends_next leaf.SignedNumber u n m is = quiet_number n (is.symbol (or_first (is_word_or_sign u) (is_literal u) m) refl)
 ends_next leaf.Name u n m is = name_ends u n m is
 ends_next leaf.LocalName u n m is = name_ends u n m is
-ends_next leaf.FunctionName u n m is = quiet_function n (is.mark (or_first (is_word_or_sign u) (is_literal u) m) refl)
-ends_next leaf.Small u n m is = turned (is_digit n) (quiet_digits n (is.mark m refl))
-ends_next leaf.Slot u n m is = turned (is_digit n) (quiet_digits n (is.mark (or_first (is_word_or_sign u) (is_literal u) m) refl))
+ends_next leaf.FunctionName u n m is = quiet_function n (is.symbol (or_first (is_word_or_sign u) (is_literal u) m) refl)
+ends_next leaf.Small u n m is = turned (is_digit n) (quiet_digits n (is.symbol m refl))
+ends_next leaf.Slot u n m is = turned (is_digit n) (quiet_digits n (is.symbol (or_first (is_word_or_sign u) (is_literal u) m) refl))
 ends_next leaf.Relation u n m is = is.unrelated m
 ends_next k u n m is = refl
 
@@ -202,4 +202,4 @@ pub line_ends : (o : Origin) (shown : Token → List Token → Text) → Showing
     → is_digit (first (shown (Lined high low) ts)) ≡ false
 line_ends o shown is high low [] g nb = ap (λ (t : Text). is_digit (first t)) (is.empty (Lined high low))
 line_ends o shown is high low (u ∷ us) g nb =
-    quiet_digits (first (shown (Lined high low) (u ∷ us))) ((is.first_is (Lined high low) u us g.0).mark (or_first (is_word_or_sign u) (is_literal u) nb.0) refl)
+    quiet_digits (first (shown (Lined high low) (u ∷ us))) ((is.first_is (Lined high low) u us g.0).symbol (or_first (is_word_or_sign u) (is_literal u) nb.0) refl)

@@ -44,7 +44,7 @@ good_first operand k [] x h = absurd (not_empty k h)
 good_first operand k (a ∷ w) x h = kind_first operand k a w (is_text k) refl h
 
 line_first : (operand : Bool) (high low : ℕ) → FirstOf operand (Lined high low) 255
-line_first operand high low = record { mark = λ m o. cc; dollar = λ m n. cc; unrelated = λ m. refl; lined = λ m. refl }
+line_first operand high low = record { symbol = λ m o. cc; dollar = λ m n. cc; unrelated = λ m. refl; lined = λ m. refl }
 
 atoms_first : (t u : Token) (us : List Token) → good_token u ≡ true → FirstOf (is_operand t) u (first (atoms_of_tokens (u ∷ us)))
 atoms_first t (Coded d) us h = coded_first (is_operand t) d h

@@ -21,7 +21,7 @@ use Rattle.b2_atom.proofs.typed.WordsRead.{is_code, lengthens, lengthens_word, t
 use Rattle.b2_atom.proofs.typed.Keywords.{is_keyword, not_at_sign, not_at_other, at_no_word, no_word_but, never_let, never_using, only_save, only_load}
 use Rattle.b2_atom.proofs.typed.LineNumbers.{LineShown, line_shown, line_read}
 use Rattle.b2_atom.proofs.typed.LeavesRead.{ends}
-use Rattle.b2_atom.proofs.typed.LeafFronts.{leaf_front}
+use Rattle.b2_atom.proofs.typed.LeafStarts.{leaf_front}
 use Rattle.b2_atom.proofs.spelling.Begun.{begins_plain, begins_coded, begins_lined, front_no_blank, leaf_quiet, quiet_keyword, is_plain_sign, ahead_plain, let_none}
 use Rattle.b2_atom.proofs.spelling.SideBySide.{among_signs, later, whole_width, not_empty, is_text, leaf_ends, line_ends}
 use Rattle.b2_atom.proofs.spelling.Lettered.{letter_ahead, beg_shown}
@@ -189,8 +189,8 @@ join_cases true false s l u hs hl hu = rw (hs refl) (rw (hl refl) refl)
 join_cases false true s l u hs hl hu = hu refl
 join_cases false false s l u hs hl hu = refl
 
-no_mark_word : (e : ℕ) → not (is_letter e) ≡ false → is_word e ≡ true → ⊥
-no_mark_word e h k = grind (arith, nat_tests)
+no_symbol_word : (e : ℕ) → not (is_letter e) ≡ false → is_word e ≡ true → ⊥
+no_symbol_word e h k = grind (arith, nat_tests)
 
 word_not_zero : (e : ℕ) → is_word e ≡ true → (e == 0) ≡ false
 word_not_zero e h = grind (arith, nat_tests)
@@ -219,7 +219,7 @@ behind_data_absent v d c u us f all g nb is =
     let fr = not_true (is_free_text u) (and_left (not (is_free_text u)) _ m) in
     let no_more = not_true (is_word_or_sign u || is_image u) (and_right (not (is_free_text u)) _ m) in
     absent_behind v d (Coded c) u us f all (or_second (is_word_or_sign u) (is_image u) no_more) fr
-    (λ e same h. absurd (no_mark_word e (ap is_word_or_sign (sym same) ∙ or_first (is_word_or_sign u) (is_image u) no_more) h)) g nb.1
+    (λ e same h. absurd (no_symbol_word e (ap is_word_or_sign (sym same) ∙ or_first (is_word_or_sign u) (is_image u) no_more) h)) g nb.1
 
 behind_print_absent : (v : Text) (c : ℕ) (u : Token) (us : List Token) → is_foreign v ≡ true → below (no_word_but v 0) word.CODED ≡ true → AllGood (u ∷ us) → Neighbours (Coded c ∷ u ∷ us)
     → (c == word.PRINT) ≡ true → begins_with v (skip_blanks (source_behind (Coded c) (u ∷ us))) ≡ false
@@ -270,14 +270,14 @@ word_source : (o : Origin) → is_source o ≡ true → (apart : Bool) (c : ℕ)
 word_source o s apart c ts is g gs nb =
     let code = good_word c g is in
     let f = coded_fronted c true is g in
-    let fronts = word_fronts c code in
+    let is_ahead = word_fronts c code in
     let some = word_some c code in
     begins_coded o c ts (maybe_spaced apart (spelled (Coded c)) ++ source_behind (Coded c) ts) (word_text c ++ source_behind (Coded c) ts) (source_behind (Coded c) ts)
     (skip_spaced o s apart (spelled (Coded c)) (source_behind (Coded c) ts) f.blank f.some ∙ ap (λ (t : Text). t ++ source_behind (Coded c) ts) (spelled_word c is))
     (source_ahead o s (word_text c ++ source_behind (Coded c) ts) (c, source_behind (Coded c) ts) (typed_word c (source_behind (Coded c) ts) code (stops_behind c ts) (joins_listed c ts gs nb)))
     (longer (word_text c) (source_behind (Coded c) ts) some)
-    (ap (λ (n : ℕ). n == 40) (first_more (word_text c) (source_behind (Coded c) ts) some) ∙ same_false (first (word_text c) == 40) (c == 40) fronts.opens (not_open c code))
-    (ap (λ (n : ℕ). n == 41) (first_more (word_text c) (source_behind (Coded c) ts) some) ∙ same_false (first (word_text c) == 41) (c == 41) fronts.closes (not_close c code))
+    (ap (λ (n : ℕ). n == 40) (first_more (word_text c) (source_behind (Coded c) ts) some) ∙ same_false (first (word_text c) == 40) (c == 40) is_ahead.opens (not_open c code))
+    (ap (λ (n : ℕ). n == 41) (first_more (word_text c) (source_behind (Coded c) ts) some) ∙ same_false (first (word_text c) == 41) (c == 41) is_ahead.closes (not_close c code))
     (let_none o (word_text c ++ source_behind (Coded c) ts) (at_no_word (76 ∷ 69 ∷ 84 ∷ []) 0 c (source_behind (Coded c) ts) never_let code (not_null c code)))
     (beg_shown o source_behind (source_shown o) c ts gs nb)
 

@@ -13,7 +13,7 @@ use Rattle.b2_atom.proofs.typed.Widths.{pointed, no_exponent, number_parts, sign
 use Rattle.b2_atom.proofs.typed.Names.{NameShape, numeric_shape, local_shape, alpha_shape}
 use Rattle.b2_atom.proofs.typed.Characters.{is_function_name, image_parts, relation_most}
 use Rattle.b2_atom.proofs.typed.LeavesRead.{all_upper, is_free}
-use Rattle.b2_atom.proofs.typed.LeafFronts.{leaf_front, width_yes}
+use Rattle.b2_atom.proofs.typed.LeafStarts.{leaf_front, width_yes}
 
 -- a byte that may stand in a line, and is no small letter
 abbrev pub is_clean : ℕ → Bool

@@ -7,7 +7,7 @@ use Rattle.b2_atom.proofs.spans.spans_of.Given as goal
 abbrev pub invariant-loop : goal.invariant-loop
 invariant-loop l = record {
   left : IsEndOf l.line l.left;
-  units : map (spanned l.line) l.spans.items ++ units_from (length l.line - l.counter) l.place l.left ≡ units_of l.line;
+  units : map (spanned l.line) l.spans.items ++ units_from (length l.line - l.counter) l.position l.left ≡ units_of l.line;
   rows : All (KeepsRow l.line) l.spans.items;
   uses : All (KeepsUses l.line) l.spans.items;
 }

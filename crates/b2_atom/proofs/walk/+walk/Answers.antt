@@ -90,7 +90,7 @@ pub statement-returns-in-Ok : goal.statement-returns-in-Ok
 statement-returns-in-Ok t c =
     let some : 0 < c.args.fuel = omega arith in
     takes_same (seen_output c.args.out.now) (seen_output c.part.new.out) _ _ c.part.result
-    (statement_ok c.args.origin c.args.fuel c.args.place (seen_output c.args.out.now) c.args.text.now c.in-Ok.here.now c.in-Ok.row some c.in-Ok.ensures.row) c.part.ensures
+    (statement_ok c.args.origin c.args.fuel c.args.position (seen_output c.args.out.now) c.args.text.now c.in-Ok.here.now c.in-Ok.row some c.in-Ok.ensures.row) c.part.ensures
 
 pub statement-returns-in-Err : goal.statement-returns-in-Err
 unfolding statement_within

@@ -8,8 +8,8 @@ pub returns-in-Some : goal.returns-in-Some
 returns-in-Some c =
     let items = c.args.others.now.items in
     let row = c.index_mut-row.result.now in
-    ap (λ (n : ℕ). set items c.in-Some.place (row.0, n)) c.with-row.ensures
-    ∙ at_place c.args.who items c.args.object c.in-Some.place row (cc) c.index_mut-row.ensures.value
+    ap (λ (n : ℕ). set items c.in-Some.index (row.0, n)) c.with-row.ensures
+    ∙ at_place c.args.who items c.args.object c.in-Some.index row (cc) c.index_mut-row.ensures.value
 
 pub returns-in_ok-push-in-None : goal.returns-in_ok-push-in-None
 returns-in_ok-push-in-None c =

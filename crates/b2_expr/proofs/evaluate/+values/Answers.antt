@@ -11,7 +11,7 @@ use Rattle.b2_expr.specs.Levels.{ends, left_after_levels, pick, spans}
 use Rattle.b2_expr.specs.Unfinished.{all_completed, have_room, left_after_all, lists_stand, waiting_sign}
 use Rattle.b2_expr.specs.declared.operators.Level.TheVariants as level
 use Rattle.b2_expr.specs.declared.operators.Waiting.{Waiting}
-use Rattle.b2_expr.specs.Named.{name_leaf, place_seen}
+use Rattle.b2_expr.specs.Named.{name_leaf, cell_seen}
 use Rattle.b2_expr.specs.Value.{context, extremes}
 use Rattle.b2_expr.proofs.Climbs.{off_value, off_rest}
 use Rattle.b2_expr.proofs.Waits.{waits_for, few_for_operator, waiting_shorter, waiting_part, waiting_fit, waiting_refused, waiting_value, waiting_rest, waiting_stand, one_more_sign, read_value, read_rest, read_stand, read_fit, completed_value, completed_refused, completed_rest, completed_stand, completed_lists, completed_fit, none_wait, opened_no_longer, opened_operand, opened_value, opened_refused, opened_lists, opened_stand, opened_rest}
@@ -23,14 +23,14 @@ use Rattle.b2_expr.proofs.evaluate.+values.Goals as goal
 
 pub alpha_variable-returns-in-Ok-join_text : goal.alpha_variable-returns-in-Ok-join_text
 alpha_variable-returns-in-Ok-join_text t c = (
-  text_there (context c.args.s.now) (tree_at row.ALPHA_VARIABLE c.args.text.now) (place_seen c.in-Ok.found.0) c.in-Ok-bytes.bytes.now c.first_bytes.result.now c.args.into.now c.value_len.result
+  text_there (context c.args.s.now) (tree_at row.ALPHA_VARIABLE c.args.text.now) (cell_seen c.in-Ok.found.0) c.in-Ok-bytes.bytes.now c.first_bytes.result.now c.args.into.now c.value_len.result
       c.in-Ok.ensures.place.0 c.in-Ok-bytes.ensures.value c.value_len.ensures.value c.first_bytes.ensures ∙ c.in-Ok-join_text.ensures,
   c.in-Ok.ensures.place.1,
 )
 
 pub alpha_variable-returns-in-Err-join_text : goal.alpha_variable-returns-in-Err-join_text
 alpha_variable-returns-in-Err-join_text t c =
-    text_there (context c.args.s.now) (tree_at row.ALPHA_VARIABLE c.args.text.now) (place_seen c.in-Ok.found.0) c.in-Ok-bytes.bytes.now c.first_bytes.result.now c.args.into.now c.value_len.result
+    text_there (context c.args.s.now) (tree_at row.ALPHA_VARIABLE c.args.text.now) (cell_seen c.in-Ok.found.0) c.in-Ok-bytes.bytes.now c.first_bytes.result.now c.args.into.now c.value_len.result
     c.in-Ok.ensures.place.0 c.in-Ok-bytes.ensures.value c.value_len.ensures.value c.first_bytes.ensures ∙ c.in-Err-join_text.ensures
 
 pub located-returns-clause-name : goal.located-returns-clause-name

@@ -7,4 +7,4 @@ use Rattle.b2_machine.proofs.stepping.act.Goals as goal
 pub returns-in-None-clause-ended : goal.returns-in-None-clause-ended
 returns-in-None-clause-ended g c =
     let shared = g.S.Shared in
-    ok_map c.type_or_go_on.result _ _ (λ e is. is ∙ ap (λ (x : Option (List ℕ × List ℕ)). shows_or_goes_on g.L.Language.ways shared.store shared.serving shared.lending x c.args.me.now (shared.meaning c.args.s.now)) (sym c.in-None.is)) c.type_or_go_on.ensures.ended
+    ok_map c.type_or_go_on.result _ _ (λ e is. is ∙ ap (λ (x : Option (List ℕ × List ℕ)). shows_or_goes_on (g.L.Language.ways c.args.d.now) shared.store shared.serving shared.lending x c.args.me.now (shared.meaning c.args.s.now)) (sym c.in-None.is)) c.type_or_go_on.ensures.ended

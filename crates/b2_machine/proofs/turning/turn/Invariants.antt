@@ -7,7 +7,7 @@ abbrev pub invariant-loop : goal.invariant-loop
 invariant-loop g l =
     let shared = g.S.Shared in
     record {
-      told : turn_from g.L.Language.ways shared.store shared.serving shared.lending (l.quota - l.counter) l.me (shared.meaning l.s) l.steps ≡ turn_from g.L.Language.ways shared.store shared.serving shared.lending l.quota l.fn.me (shared.meaning l.fn.s) 0;
+      told : turn_from (g.L.Language.ways l.fn.d) shared.store shared.serving shared.lending (l.quota - l.counter) l.me (shared.meaning l.s) l.steps ≡ turn_from (g.L.Language.ways l.fn.d) shared.store shared.serving shared.lending l.quota l.fn.me (shared.meaning l.fn.s) 0;
       few : l.steps ≤ l.counter;
       same : shared.holds l.s ≡ shared.holds l.fn.s;
       part : l.me.part ≡ l.fn.me.part;

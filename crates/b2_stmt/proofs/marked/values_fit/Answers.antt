@@ -6,10 +6,10 @@ use Rattle.b2_atom.specs.Tree.{Trees}
 use Rattle.b2_atom.specs.declared.rows.TheConstants as row
 use Rattle.b2_rows.specs.Rows.{is_part, tree_at}
 use Rattle.b2_stmt.specs.Marked.{values_fit, takes_bytes}
-use Rattle.b2_stmt.specs.Reading.{suits}
+use Rattle.b2_expr.specs.Kinds.{suits}
 use Rattle.b2_rows.specs.CommaLists.{are_others, others_at, past_first, receivers_at}
 use Rattle.b2_stmt.proofs.MarkRows.{kind_is, last_fits, same_fits}
-use Rattle.b2_stmt.proofs.ReadRows.{no_items, other_items, other_list, other_part}
+use Rattle.b2_receiver.proofs.ReceiverLists.{no_items, other_items, other_list, other_part}
 use Rattle.b2_stmt.proofs.marked.values_fit.Goals as goal
 
 pub returns-then-not-is_at : goal.returns-then-not-is_at

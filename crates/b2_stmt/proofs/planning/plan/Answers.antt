@@ -1,17 +1,19 @@
-use Rattle.std.proofs.Common.{◌≡◌, IfOk, subst}
+use Rattle.std.proofs.Common.{rules, ◌≡◌, ◌∙◌, IfOk, Some, ap, subst}
 use Rattle.b2_access.specs.Lending.{globals_lent, seen_lent}
+use Rattle.b2_access.specs.Placed.{line_named}
 use Rattle.b2_access.specs.Planning.{Planning}
-use Rattle.b2_stmt.proofs.Executed.{immediate_planned, program_planned}
+use Rattle.b2_access.proofs.Courses.{line_course}
+use Rattle.b2_stmt.specs.Plan.{does, is_refused, stops}
 use Rattle.b2_stmt.proofs.planning.plan.Goals as goal
 
-pub returns-in-Some-line-clause-planned : goal.returns-in-Some-line-clause-planned
-returns-in-Some-line-clause-planned c =
+pub returns-in-Some-2-clause-planned : goal.returns-in-Some-2-clause-planned
+returns-in-Some-2-clause-planned c =
     let globals = globals_lent c.args.lent.now in
-    subst (λ (x : Planning). IfOk c.execute_program.result (λ p. ◌≡◌ {A = Planning} (record { me = c.execute_program.new.me; globals = globals; planned = p }) x))
-    (program_planned c.args.me.now (seen_lent c.args.lent.now) c.in-Some.place c.in-Some-line.n c.in-Some.is c.in-Some-line.is) (c.execute_program.ensures.planned globals)
-
-pub returns-in-None-clause-planned : goal.returns-in-None-clause-planned
-returns-in-None-clause-planned c =
-    let globals = globals_lent c.args.lent.now in
-    subst (λ (x : Planning). IfOk c.execute_immediate.result (λ p. ◌≡◌ {A = Planning} (record { me = c.execute_immediate.new.me; globals = globals; planned = p }) x))
-    (immediate_planned c.args.me.now (seen_lent c.args.lent.now) c.in-Some.place c.in-Some.is c.in-None.is) (c.execute_immediate.ensures.planned globals)
+    let s = seen_lent c.args.lent.now in
+    let me = c.args.me.now in
+    let p = c.in-Some.place in
+    let line = c.in-Some-2.line in
+    let copied : me.immediate ≡ Some line = search rules in
+    let named : line_named me.immediate s.home.lines p.line ≡ Some line = ap (line_named me.immediate s.home.lines) c.in-None.is ∙ copied in
+    subst (λ (x : Planning). IfOk c.plan_on-in-Some-2.result (λ planned. ◌≡◌ {A = Planning} (record { me = c.plan_on-in-Some-2.new.me; globals = globals; planned = planned }) x))
+    (line_course is_refused (stops me s) (does me s) p me s (Some line) c.in-Some.is named) (c.plan_on-in-Some-2.ensures.planned globals)

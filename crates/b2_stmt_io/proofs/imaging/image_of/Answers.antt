@@ -3,7 +3,7 @@ use Rattle.b2_atom.specs.Grammar.{starts}
 use Rattle.b2_atom.specs.declared.words.Origin.TheVariants.{Atoms}
 use Rattle.b2_atom.specs.declared.forms.Start.TheVariants as start
 use Rattle.b2_expr.specs.Answers.{TextAnswer}
-use Rattle.b2_expr.specs.Assigning.{LendsOr}
+use Rattle.b2_receiver.specs.Assigning.{LendsOr}
 use Rattle.b2_rows.specs.Values.{line_of}
 use Rattle.b2_text.specs.Program.{line_at}
 use Rattle.b2_stmt_io.specs.Imaging.{line_image}

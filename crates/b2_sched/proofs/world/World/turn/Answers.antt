@@ -1,4 +1,4 @@
-use Rattle.std.proofs.Common.{rules, sym, ap, subst, ◌∙◌}
+use Rattle.std.proofs.Common.{rules, refl, sym, ap, subst, ◌∙◌}
 use Rattle.std.specs.Option.{option_copied_mut}
 use Rattle.std.specs.Prelude.{ℕ, IsSome}
 use Rattle.b2_access.specs.Store.{StoreState, content}
@@ -26,18 +26,18 @@ invariant_of-self-in-Ok c =
     let stores = subst (λ (s : StoreState). ArePresent rows s c.self.inside.seen) (sym (ap store_of c.new-watched.ensures.inner)) c.self.invariant in
     let present = subst (λ (m : Marks). ArePresent rows (store_of watched.inner.now) m) (sym c.new-watched.ensures.seen) stores in
     let was = present c.args.part me (sym (ap option_copied_mut (sym c.in-Some.is) ∙ c.get_mut.ensures.there)) in
-    turned_present c.args.part c.args.quota me c.turn.new.me (store_of watched.inner.now) (store_of c.turn.new.s.inner.now) watched.seen.now c.turn.new.s.seen.now c.in-Ok.turned c.in-Ok.ensures.turned was rows c.in-Ok.ensures.listed present
+    turned_present c.self.inside.devices c.args.part c.args.quota me c.turn.new.me (store_of watched.inner.now) (store_of c.turn.new.s.inner.now) watched.seen.now c.turn.new.s.seen.now c.in-Ok.turned c.in-Ok.ensures.turned was rows c.in-Ok.ensures.kept.listed present
 
 pub returns-in-Ok-clause-turned : goal.returns-in-Ok-clause-turned
 returns-in-Ok-clause-turned c =
     let me = c.in-Some.me.now in
     let inside = c.self.inside in
     let watched = c.new-watched.result in
-    let w : WorldState = record { quota = inside.quota; privates = inside.privates; store = store_of inside.stores; marks = inside.seen; turns = inside.turns; steps = inside.steps; dropped = inside.dropped } in
+    let w : WorldState = record { quota = inside.quota; devices = inside.devices; privates = inside.privates; store = store_of inside.stores; marks = inside.seen; turns = inside.turns; steps = inside.steps; dropped = inside.dropped } in
     let stores_are = ap store_of c.new-watched.ensures.inner in
     let stores = subst (λ (s : StoreState). ArePresent inside.privates s inside.seen) (sym stores_are) c.self.invariant in
     let present = subst (λ (m : Marks). ArePresent inside.privates (store_of watched.inner.now) m) (sym c.new-watched.ensures.seen) stores in
     let there = sym (ap option_copied_mut (sym c.in-Some.is) ∙ c.get_mut.ensures.there) in
     let was = present c.args.part me there in
-    let world = turned_world c.args.part c.args.quota me c.turn.new.me (store_of watched.inner.now) (store_of c.turn.new.s.inner.now) watched.seen.now c.turn.new.s.seen.now c.in-Ok.turned c.in-Ok.ensures.turned was w (sym stores_are) (sym c.new-watched.ensures.seen) there in
+    let world = turned_world inside.devices c.args.part c.args.quota me c.turn.new.me (store_of watched.inner.now) (store_of c.turn.new.s.inner.now) watched.seen.now c.turn.new.s.seen.now c.in-Ok.turned c.in-Ok.ensures.turned was w refl (sym stores_are) (sym c.new-watched.ensures.seen) there in
     search (rules, world)

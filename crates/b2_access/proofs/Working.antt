@@ -1,0 +1,70 @@
+-- What statements leave by their form: whatever such a statement plans, and however it finishes, what it changed is put back, and all else
+-- stays.
+use Rattle.std.proofs.Common.{◌≡◌, ◌∙◌, ℕ, Bool, ap, inl, refl}
+use Rattle.b2_access.specs.Homes.{FinishesWithin, IsWithin, PlannedIn, PlansWithin}
+use Rattle.b2_access.specs.Keeping.{FinishesInPlace, FinishesKeepNone, PlansInPlace, PlansKeepNone}
+use Rattle.b2_access.specs.Lending.{SeenLent}
+use Rattle.b2_access.specs.OwnTerminal.{FinishesAtTerminal, PlannedAt, PlansAtTerminal}
+use Rattle.b2_access.specs.Waiting.{FinishesUnchanged, PlansBeforeChanges, UnchangedIfAsks}
+use Rattle.b2_access.specs.Working.{Ends, Plans, LeadsWithin, PlansEachWithin, PlansEachAtTerminal, ChangesNoWork, Work, Worked, Working, as_planned, finishes_by, planned_of, plans_by, put_back, work_of}
+use Rattle.b2_access.specs.declared.accesses.Access.{Access}
+use Rattle.b2_access.specs.declared.accesses.Answer.{Answer}
+use Rattle.b2_access.specs.declared.planned.Planned.{Planned}
+use Rattle.b2_access.specs.declared.planned.Planned.TheVariants as planned
+use Rattle.b2_access.specs.declared.private.Private.{Private}
+
+-- what holds of a partition whatever is put back into it holds of it after a plan
+after_plan : (P : Private → Type 0) (me : Private) (s : SeenLent) (k : Working) → ((w : Work) → P (put_back w me)) → P (as_planned me s k).me
+after_plan P me s (Ends w) h = h w.work
+after_plan P me s (Plans p) h = h (work_of me)
+
+-- what is planned is what the statement comes to
+pub as_it_comes : (P : Planned → Type 0) (me : Private) (s : SeenLent) (k : Working) → P (planned_of k) → P (as_planned me s k).planned
+as_it_comes P me s (Ends w) h = h
+as_it_comes P me s (Plans p) h = h
+
+pub within : (among : ℕ → Bool) (me : Private) (w : Work) → IsWithin among me → IsWithin among (put_back w me)
+within among me w h = record { part = h.part; place = h.place; kept = h.kept; frames = h.frames }
+
+unchanged_if_asks : (me : Private) (s : SeenLent) (p : Planned) → UnchangedIfAsks me me p
+unchanged_if_asks me s (planned.Done o) = tt
+unchanged_if_asks me s (planned.Ask a) = refl
+
+before_changes : (me : Private) (s : SeenLent) (k : Working) → UnchangedIfAsks me (as_planned me s k).me (as_planned me s k).planned
+before_changes me s (Ends w) = tt
+before_changes me s (Plans p) = unchanged_if_asks me s p
+
+-- WHAT IT PLANS
+module _ (way : Private → SeenLent → Working) where
+  pub plans_within : PlansEachWithin way → PlansWithin (plans_by way)
+  plans_within h among me s w =
+      (after_plan (IsWithin among) me s (way me s) (λ x. within among me x w), as_it_comes (PlannedIn among) me s (way me s) (h among me s w.place))
+
+  pub plans_in_place : PlansInPlace (plans_by way)
+  plans_in_place me s = after_plan (λ x. x.place ≡ me.place) me s (way me s) (λ w. refl)
+
+  pub plans_keep_none : PlansKeepNone (plans_by way)
+  plans_keep_none me s none = inl (after_plan (λ x. x.kept ≡ me.kept) me s (way me s) (λ w. refl) ∙ none)
+
+  pub plans_at_terminal : PlansEachAtTerminal way → PlansAtTerminal (plans_by way)
+  plans_at_terminal h me s = (after_plan (λ x. x.term ≡ me.term) me s (way me s) (λ w. refl), as_it_comes (PlannedAt me.term) me s (way me s) (h me s))
+
+  pub plans_before_changes : PlansBeforeChanges (plans_by way)
+  plans_before_changes me s = before_changes me s (way me s)
+
+-- AND HOW IT FINISHES
+module _ (way : Access → Answer → Private → SeenLent → Worked) where
+  pub finishes_within : LeadsWithin way → FinishesWithin (finishes_by way)
+  finishes_within h among x a me s w = (within among me (way x a me s).work w, h among x a me s w.place)
+
+  pub finishes_in_place : FinishesInPlace (finishes_by way)
+  finishes_in_place x a me s = refl
+
+  pub finishes_keep_none : FinishesKeepNone (finishes_by way)
+  finishes_keep_none x a me s none = inl none
+
+  pub finishes_at_terminal : FinishesAtTerminal (finishes_by way)
+  finishes_at_terminal x a me s = refl
+
+  pub finishes_unchanged : ChangesNoWork way → FinishesUnchanged (finishes_by way)
+  finishes_unchanged h x a me s is = ap (λ (w : Work). put_back w me) (h x a me s is)

@@ -1,2 +1,0 @@
--- Found: what is planned where a unit was found is what the language plans at its place.
-mod Found

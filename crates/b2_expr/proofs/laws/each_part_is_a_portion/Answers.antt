@@ -1,5 +1,0 @@
-use Rattle.b2_expr.proofs.Reaching.{each_part_is_a_portion}
-use Rattle.b2_expr.proofs.laws.each_part_is_a_portion.Goals as goal
-
-pub returns : goal.returns
-returns c = each_part_is_a_portion

@@ -1,5 +1,0 @@
-use Rattle.b2_expr.proofs.Reaching.{no_code_where_reached}
-use Rattle.b2_expr.proofs.laws.no_code_where_reached.Goals as goal
-
-pub returns : goal.returns
-returns c = no_code_where_reached

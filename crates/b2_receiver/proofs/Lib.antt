@@ -1,0 +1,7 @@
+pub mod ReceiverRows
+pub mod OperationRows
+pub mod Portions
+pub mod Reaching
+pub mod Ended
+pub mod OneKind
+pub mod ReceiverLists

@@ -1,0 +1,107 @@
+// Receivers that take what they are given, also at the place where they are written.
+ghost use Rattle.std.specs.Prelude.{◌≡◌, true, IfOk, Ok};
+ghost use Rattle.b2_atom.specs.declared.rows.TheConstants as row;
+ghost use Rattle.b2_rows.specs.Rows.{is_part, tree_at};
+ghost use Rattle.b2_vars.specs.Variables.{is_alpha};
+ghost use Rattle.b2_receiver.specs.Assigning.{is_alpha_receiver};
+ghost use Rattle.b2_receiver.specs.Receivers.{IsAlpha, IsNamed};
+ghost use Rattle.b2_receiver.specs.Receiving as spec;
+ghost use Rattle.b2_receiver.specs.RightSide.{side_seen};
+ghost use Rattle.b2_expr.specs.Workspace.{workspace};
+
+use crate::assign::{assign_bytes, assign_number, assign_side, assign_value, code_of};
+use crate::operations::RightSide;
+use crate::receiver::{AlphaReceiver, Receiver};
+use crate::receivers::{alpha_receiver, number_receiver};
+use b2_atom::Cursor;
+use b2_base::{Code, NoMemory};
+use b2_dec::{Dec, Value};
+use b2_expr::{Workspace, surroundings_of};
+
+/// Assigns bytes to an alpha receiver. Gives the code with which that ended, or none (`assign_bytes`).
+#[tactic(auto, using(crate::proofs::Ended::worked_so))]
+pub fn give_bytes(
+    work: &mut Workspace<'_>,
+    to: &AlphaReceiver,
+    bytes: &[u8],
+) -> Result<Option<Code>, NoMemory>
+    requires named { IsAlpha to.now.element.var }
+    ensures worked { IfOk result (λ code. record { work = workspace work.new; code = code } ≡ spec.given_bytes to.now bytes.now (workspace work.old)) }
+    ensures same_reference { work.new.own.ghost_name ≡ work.old.own.ghost_name }
+{
+    code_of(assign_bytes(work.own, to, bytes))
+}
+
+/// Assigns a value to a receiver of its kind. Gives the code with which that ended, or none (`assign_value`).
+#[tactic(auto, using(crate::proofs::Ended::worked_so))]
+pub fn give_value(
+    work: &mut Workspace<'_>,
+    to: &Receiver,
+    value: &Value,
+) -> Result<Option<Code>, NoMemory>
+    requires named { IsNamed to.now }
+    requires kind { is_alpha value.now ≡ is_alpha_receiver to.now }
+    ensures worked { IfOk result (λ code. record { work = workspace work.new; code = code } ≡ spec.given_value to.now value.now (workspace work.old)) }
+    ensures same_reference { work.new.own.ghost_name ≡ work.old.own.ghost_name }
+{
+    code_of(assign_value(work.own, to, value))
+}
+
+/// Assigns bytes to the alpha receiver at a text, located among the variables as they are. Gives the first code: of the
+/// receiver, then of assigning to it (`assign_bytes`).
+#[tactic(auto, using(crate::proofs::Ended::worked_so))]
+pub fn assign_bytes_at(
+    work: &mut Workspace<'_>,
+    bytes: &[u8],
+    text: &[u8],
+) -> Result<Option<Code>, NoMemory>
+    requires part { is_part row.ALPHA_RECEIVER text.now ≡ true }
+    ensures worked { IfOk result (λ code. record { work = workspace work.new; code = code } ≡ spec.assign_bytes_at (Ok bytes.now) (tree_at row.ALPHA_RECEIVER text.now) (workspace work.old)) }
+    ensures same_reference { work.new.own.ghost_name ≡ work.old.own.ghost_name }
+{
+    let to = match alpha_receiver(&mut Cursor::over(text), &surroundings_of(work)) {
+        Ok(to) => to,
+        Err(code) => return Ok(Some(code)),
+    };
+    code_of(assign_bytes(work.own, &to, bytes))
+}
+
+/// Assigns the right side of an alpha assignment to the receiver at a text, as `assign_bytes_at` (`assign_side`).
+#[tactic(auto, using(crate::proofs::Ended::worked_so))]
+pub fn assign_side_at(
+    work: &mut Workspace<'_>,
+    side: &RightSide,
+    text: &[u8],
+) -> Result<Option<Code>, NoMemory>
+    requires part { is_part row.ALPHA_RECEIVER text.now ≡ true }
+    ensures worked { IfOk result (λ code. record { work = workspace work.new; code = code } ≡ spec.assign_side_at (side_seen side.now) (tree_at row.ALPHA_RECEIVER text.now) (workspace work.old)) }
+    ensures same_reference { work.new.own.ghost_name ≡ work.old.own.ghost_name }
+{
+    let to = match alpha_receiver(&mut Cursor::over(text), &surroundings_of(work)) {
+        Ok(to) => to,
+        Err(code) => return Ok(Some(code)),
+    };
+    code_of(assign_side(work.own, &to, side))
+}
+
+/// Assigns a number, or gives the code in its place, to the numeric receiver at a text, located among the variables as they
+/// are. Gives the first code: of the receiver, then the one in the number's place, then of assigning (`assign_number`).
+#[tactic(auto, using(crate::proofs::Ended::worked_so))]
+pub fn assign_number_at(
+    work: &mut Workspace<'_>,
+    x: Result<Dec, Code>,
+    text: &[u8],
+) -> Result<Option<Code>, NoMemory>
+    requires part { is_part row.NUMERIC_RECEIVER text.now ≡ true }
+    ensures worked { IfOk result (λ code. record { work = workspace work.new; code = code } ≡ spec.assign_number_at x (tree_at row.NUMERIC_RECEIVER text.now) (workspace work.old)) }
+    ensures same_reference { work.new.own.ghost_name ≡ work.old.own.ghost_name }
+{
+    let to = match number_receiver(&mut Cursor::over(text), &surroundings_of(work)) {
+        Ok(to) => to,
+        Err(code) => return Ok(Some(code)),
+    };
+    match x {
+        Ok(x) => code_of(assign_number(work.own, to, x)),
+        Err(code) => Ok(Some(code)),
+    }
+}

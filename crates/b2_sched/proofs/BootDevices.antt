@@ -1,0 +1,45 @@
+-- A boot of a file has few devices, and each address once: they ascend by their numbers.
+use Rattle.std.specs.Prelude.{◌≡◌, ℕ, ◌<◌, ◌≤◌, Bool, true, false, not, ◌&&◌, ◌||◌, List, [], ◌∷◌, length, map, refl}
+use Rattle.std.proofs.Common.{ap, sym, subst, ◌∙◌, arith}
+use Rattle.std.proofs.lemmas.Slice.Eq.{bytes_eq-Decides}
+use Rattle.std.specs.List.{list_any}
+use Rattle.std.specs.Str.{bytes_eq}
+use Rattle.b2_access.specs.Devices.{are_distinct}
+use Rattle.b2_boot.specs.Boots.{Ascends, BootState, IsGood, address_number, number_of_platter}
+use Rattle.b2_boot.specs.declared.boot.BootPlatter.{BootPlatter}
+use Rattle.b2_sched.specs.Start.{HasDevices, addresses}
+
+abbrev places : List BootPlatter → List (List ℕ)
+places ps = map (λ p. p.address) ps
+
+higher : (n m : ℕ) (xs : List ℕ) → n < m → Ascends m xs → Ascends n xs
+higher n m [] below as = tt
+higher n m (x ∷ xs) below as = (omega arith, as.1)
+
+-- none of the later ones has the address of a lower number
+apart : (a : List ℕ) (q : BootPlatter) → address_number a < number_of_platter q → bytes_eq a q.address ≡ false
+apart a q below = by (bytes_eq a q.address) refl
+  where
+    by : (b : Bool) → bytes_eq a q.address ≡ b → b ≡ false
+    by false e = refl
+    by true e = let same : address_number a ≡ number_of_platter q = ap address_number ((bytes_eq-Decides a q.address).0 e) in absurd (omega arith)
+
+none_of : (b c : Bool) → b ≡ false → c ≡ false → (b || c) ≡ false
+none_of b c is also = ap (λ (x : Bool). x || c) is ∙ also
+
+none_later : (a : List ℕ) (ps : List BootPlatter) → Ascends (address_number a) (map number_of_platter ps) → list_any (bytes_eq a) (places ps) ≡ false
+none_later a [] as = refl
+none_later a (p ∷ ps) as = none_of (bytes_eq a p.address) (list_any (bytes_eq a) (places ps)) (apart a p as.0) (none_later a ps (higher (address_number a) (number_of_platter p) (map number_of_platter ps) as.0 as.1))
+
+both : (b c : Bool) → b ≡ false → c ≡ true → (not b && c) ≡ true
+both b c is also = ap (λ (x : Bool). not x && c) is ∙ also
+
+distinct : (above : ℕ) (ps : List BootPlatter) → Ascends above (map number_of_platter ps) → are_distinct (places ps) ≡ true
+distinct above [] as = refl
+distinct above (p ∷ ps) as = both (list_any (bytes_eq p.address) (places ps)) (are_distinct (places ps)) (none_later p.address ps as.1) (distinct (number_of_platter p) ps as.1)
+
+at_most_twelve : (n : ℕ) → n ≤ 8 → n ≤ 12
+at_most_twelve n few = omega arith
+
+pub has_devices : (b : BootState) → IsGood b → HasDevices b
+has_devices b good = record { few = at_most_twelve (length b.platters) good.few_platters; distinct = distinct 0 b.platters good.platters_ascend }

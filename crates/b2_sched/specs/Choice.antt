@@ -1,0 +1,46 @@
+-- Which crate executes the statements of a row; so what they plan, and how they finish.
+use Rattle.std.specs.Prelude.{ℕ, ◌||◌, ◌&&◌, not, Bool, List, if◌then◌else◌}
+use Rattle.b2_access.specs.Lending.{SeenLent}
+use Rattle.b2_access.specs.Planning.{Finishing, Planning}
+use Rattle.b2_access.specs.declared.accesses.Access.{Access}
+use Rattle.b2_access.specs.declared.accesses.Answer.{Answer}
+use Rattle.b2_access.specs.declared.devices.Device.{Device}
+use Rattle.b2_access.specs.declared.private.Private.{Private}
+use Rattle.b2_language.specs.Languages.{Ways}
+use Rattle.b2_stmt.specs.Clearing.{asks_access}
+use Rattle.b2_stmt.specs.Plan as stmt
+use Rattle.b2_stmt_io.specs.Plan as stmt_io
+use Rattle.b2_stmt_var.specs.Plan as stmt_var
+use Rattle.b2_sched.specs.declared.choice.Family.{Family}
+use Rattle.b2_sched.specs.declared.choice.Family.TheVariants as family
+
+abbrev pub is_built : ℕ → Bool
+is_built r = stmt_var.is_built r || stmt.is_built r || stmt_io.is_built r
+
+-- a statement on variables, and one of control that asks for nothing, is planned at once where it was found
+abbrev pub is_at_once : ℕ → Bool
+is_at_once r = stmt_var.is_built r || (stmt.is_built r && not (asks_access r))
+
+-- the family of a row that is built
+abbrev pub family_of : ℕ → Family
+family_of r = if stmt_var.is_built r then family.Variables else (if stmt.is_built r then family.Control else family.Terminal)
+
+abbrev pub plan_by : List Device → Family → Private → SeenLent → Planning
+plan_by devices family.Variables me s = stmt_var.plan me s
+plan_by devices family.Control me s = stmt.plan me s
+plan_by devices family.Terminal me s = stmt_io.plan me s
+
+abbrev pub finish_by : Family → Access → Answer → Private → SeenLent → Finishing
+finish_by family.Variables x a me s = stmt_var.finish x a me s
+finish_by family.Control x a me s = stmt.finish x a me s
+finish_by family.Terminal x a me s = stmt_io.finish x a me s
+
+abbrev pub plan : List Device → ℕ → Private → SeenLent → Planning
+plan devices r me s = plan_by devices (family_of r) me s
+
+abbrev pub finish : ℕ → Access → Answer → Private → SeenLent → Finishing
+finish r x a me s = finish_by (family_of r) x a me s
+
+-- THE LANGUAGE OF THE MACHINE, over the devices that there are
+abbrev pub basic : List Device → Ways
+basic devices = record { built = is_built; plan = plan devices; finish = finish }

@@ -1,0 +1,59 @@
+-- No statement asks for a line above 9999.
+use Rattle.std.proofs.Common.{ℕ, ◌==◌, Bool, true, false, if◌then◌else◌, Option, Some, None}
+use Rattle.b2_atom.specs.Tree.{Trees}
+use Rattle.b2_atom.specs.Tree.Trees.{Done, Put, In}
+use Rattle.b2_atom.specs.declared.rows.TheConstants as row
+use Rattle.b2_access.specs.Lending.{SeenLent}
+use Rattle.b2_access.specs.Planning.{Planning}
+use Rattle.b2_access.specs.Touching.{IsLegal}
+use Rattle.b2_access.specs.Working.{planned_of, stops}
+use Rattle.b2_access.specs.declared.accesses.Access.{Access}
+use Rattle.b2_access.specs.declared.private.Private.{Private}
+use Rattle.b2_access.proofs.Courses.{each_course}
+use Rattle.b2_access.proofs.OwnTerminal.{at_terminal_is_legal}
+use Rattle.b2_access.proofs.Working.{as_it_comes}
+use Rattle.b2_stmt.specs.Clearing.{asked_access, asks_to_erase}
+use Rattle.b2_stmt.specs.Plan as stmt
+use Rattle.b2_stmt_var.specs.Plan as stmt_var
+use Rattle.b2_stmt_io.specs.Plan as stmt_io
+use Rattle.b2_stmt_io.proofs.Planned as stmt_io_planned
+use Rattle.b2_language.specs.Languages.{IsLegalPlan, PlansLegally}
+
+by_if : {A : Type 0} (P : A → Type 0) (b : Bool) (x y : A) → P x → P y → P (if b then x else y)
+by_if P true x y px py = px
+by_if P false x y px py = py
+
+abbrev IsLegalIfAny : Option Access → Type 0
+IsLegalIfAny None = Unit {0}
+IsLegalIfAny (Some a) = IsLegal a
+
+abbrev Fine : Planning → Type 0
+Fine x = IsLegalPlan x.planned
+
+-- CLEAR P
+erased : (t : Trees) → IsLegal (asks_to_erase t)
+erased Done = tt
+erased (Put w Done) = tt
+erased (Put w (Put l t)) = tt
+erased (Put w (In m i t)) = tt
+erased (In m i t) = tt
+
+accessed : (r : ℕ) (t : Trees) → IsLegalIfAny (asked_access r t)
+accessed r t = by_if IsLegalIfAny (r == row.CLEAR) _ _ tt (by_if IsLegalIfAny (r == row.CLEAR_P) (Some (asks_to_erase t)) None (erased t) tt)
+
+-- statements of control
+by_any : (a : Option Access) (s : SeenLent) (me : Private) (e : _) → IsLegalIfAny a → Fine (stmt.by_access a s me e)
+by_any None s me e h = tt
+by_any (Some a) s me e h = h
+
+pub control_legally : PlansLegally stmt.plan
+control_legally me s = each_course stmt.is_refused (stmt.stops me s) (stmt.does me s) me s Fine tt tt (λ p is u. by_any (asked_access u.row u.tree) s me _ (accessed u.row u.tree))
+
+-- statements on variables
+pub variables_legally : PlansLegally stmt_var.plan
+variables_legally me s =
+    as_it_comes IsLegalPlan me s (stmt_var.works me s) (each_course stmt_var.is_refused stops (stmt_var.does me s) me s (λ w. IsLegalPlan (planned_of w)) tt tt (λ p is u. tt))
+
+-- statements at the terminal ask for lines of no text at all
+pub terminal_legally : PlansLegally stmt_io.plan
+terminal_legally me s = as_it_comes IsLegalPlan me s (stmt_io.works me s) (stmt_io_planned.each_planned me s IsLegalPlan tt tt (λ code. tt) (λ a is. at_terminal_is_legal me.term a is))

@@ -1,0 +1,87 @@
+// The language of the machine.
+ghost use Rattle.std.specs.Prelude.{◌≡◌};
+
+use crate::choice::{Family, family_of};
+use b2_access::{Access, Answer, DeviceTable, Found, Lent, Outcome, Planned, Private};
+use b2_base::NoMemory;
+use b2_language::Language;
+use std::alloc::Global;
+
+/// The language of the machine, as it is built.
+pub struct Basic;
+
+impl Language for Basic {
+    ghost use Rattle.b2_sched.specs.Choice.{basic, is_at_once};
+    ghost use Rattle.b2_sched.specs.Lawful.{at_once_is_built, basic_is_lawful};
+
+    ghost ways = { basic };
+
+    ghost at_once = { is_at_once };
+
+    fn is_built(row: u16) -> bool {
+        b2_stmt_var::is_built(row) || b2_stmt::is_built(row) || b2_stmt_io::is_built(row)
+    }
+
+    fn plan(
+        alloc: Global,
+        row: u16,
+        me: &mut Private,
+        lent: &mut Lent<'_>,
+        devices: &DeviceTable,
+    ) -> Result<Planned, NoMemory> {
+        match family_of(row) {
+            Family::Variables => b2_stmt_var::plan(alloc, me, lent, devices),
+            Family::Control => b2_stmt::plan(alloc, me, lent, devices),
+            Family::Terminal => b2_stmt_io::plan(alloc, me, lent, devices),
+        }
+    }
+
+    fn finish(
+        alloc: Global,
+        row: u16,
+        me: &mut Private,
+        lent: &mut Lent<'_>,
+        access: &Access,
+        answer: &Answer,
+    ) -> Result<Outcome, NoMemory> {
+        match family_of(row) {
+            Family::Variables => b2_stmt_var::finish(alloc, me, lent, access, answer),
+            Family::Control => b2_stmt::finish(alloc, me, lent, access, answer),
+            Family::Terminal => b2_stmt_io::finish(alloc, me, lent, access, answer),
+        }
+    }
+
+    fn is_at_once(row: u16) -> bool {
+        b2_stmt_var::is_built(row) || (b2_stmt::is_built(row) && !b2_stmt::asks_access(row))
+    }
+
+    fn plan_at_once(
+        alloc: Global,
+        me: &mut Private,
+        found: &Found<'_>,
+    ) -> Result<Outcome, NoMemory> {
+        if b2_stmt_var::is_built(found.unit.row) {
+            b2_stmt_var::execute(alloc, me, found)
+        } else {
+            b2_stmt::execute(alloc, me, found)
+        }
+    }
+
+    fn plan_found(
+        alloc: Global,
+        me: &mut Private,
+        lent: &mut Lent<'_>,
+        devices: &DeviceTable,
+        found: &Found<'_>,
+    ) -> Result<Planned, NoMemory> {
+        match family_of(found.unit.row) {
+            Family::Variables => b2_stmt_var::plan(alloc, me, lent, devices),
+            Family::Control => b2_stmt::plan(alloc, me, lent, devices),
+            Family::Terminal => b2_stmt_io::plan_found(alloc, me, lent.home, found.unit),
+        }
+    }
+
+    ghost at_once_is_built = { at_once_is_built };
+
+    ghost lawful = { basic_is_lawful };
+}

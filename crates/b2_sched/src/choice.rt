@@ -1,0 +1,27 @@
+// Which crate executes the statements of a row.
+ghost use Rattle.std.specs.Prelude.{◌≡◌};
+ghost use Rattle.b2_sched.specs.Choice as spec;
+
+/// A family of statements: those of one crate.
+#[derive(Clone, Copy)]
+pub enum Family {
+    /// Statements on variables.
+    Variables,
+    /// Statements of control.
+    Control,
+    /// Statements at the terminal.
+    Terminal,
+}
+
+/// The family of a row that is built.
+pub fn family_of(row: u16) -> Family
+    ensures { result ≡ spec.family_of row }
+{
+    if b2_stmt_var::is_built(row) {
+        Family::Variables
+    } else if b2_stmt::is_built(row) {
+        Family::Control
+    } else {
+        Family::Terminal
+    }
+}

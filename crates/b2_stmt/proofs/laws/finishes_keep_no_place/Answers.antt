@@ -1,5 +1,0 @@
-use Rattle.b2_stmt.proofs.KeptPlaces.{finishes_keep_none}
-use Rattle.b2_stmt.proofs.laws.finishes_keep_no_place.Goals as goal
-
-pub returns : goal.returns
-returns c = finishes_keep_none

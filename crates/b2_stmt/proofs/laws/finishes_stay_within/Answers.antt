@@ -1,5 +1,0 @@
-use Rattle.b2_stmt.proofs.HomesKept.{finishes_within}
-use Rattle.b2_stmt.proofs.laws.finishes_stay_within.Goals as goal
-
-pub returns : goal.returns
-returns c = finishes_within

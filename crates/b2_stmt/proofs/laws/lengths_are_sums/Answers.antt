@@ -1,5 +1,0 @@
-use Rattle.b2_stmt.proofs.LengthRows.{lengths_are_sums}
-use Rattle.b2_stmt.proofs.laws.lengths_are_sums.Goals as goal
-
-pub returns : goal.returns
-returns c = lengths_are_sums

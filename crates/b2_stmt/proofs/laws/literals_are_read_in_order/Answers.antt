@@ -1,5 +1,0 @@
-use Rattle.b2_stmt.proofs.ReadingOrder.{reads_in_order}
-use Rattle.b2_stmt.proofs.laws.literals_are_read_in_order.Goals as goal
-
-pub returns : goal.returns
-returns c = reads_in_order

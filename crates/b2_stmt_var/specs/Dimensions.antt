@@ -1,0 +1,119 @@
+-- DIM and COM: the variables that they make.
+use Rattle.std.specs.Prelude.{ℕ, ◌==◌, ℤ, pos, Bool, true, false, List, [], Option, None, Some, Result, Ok, Err, if◌then◌else◌}
+use Rattle.b2_base.specs.declared.codes.TheConstants.{P50_DIMENSION, P53_LENGTH, S20_VARIABLE}
+use Rattle.b2_atom.specs.Tree.{Trees}
+use Rattle.b2_atom.specs.Tree.Trees.{Put, In}
+use Rattle.b2_atom.specs.declared.words.TheConstants as word
+use Rattle.b2_rows.specs.Links.{token_code}
+use Rattle.b2_rows.specs.Values.{variable_name}
+use Rattle.b2_rows.specs.declared.leaves.Name.{Name}
+use Rattle.b2_vars.specs.Calls.{com_code, dim_code, with_new}
+use Rattle.b2_vars.specs.Shapes.{is_up_to}
+use Rattle.b2_vars.specs.Tables.{VarsState}
+use Rattle.b2_vars.specs.declared.shape.Shape.{Shape}
+use Rattle.b2_expr.specs.Answers.{Answer, ◌>>=◌}
+use Rattle.b2_vars.specs.Assigned.{Assigned}
+use Rattle.b2_receiver.specs.Assigning.{unless_refused}
+use Rattle.b2_expr.specs.Functions.{fixed}
+use Rattle.b2_expr.specs.Named.{variable_of, variables_of}
+use Rattle.b2_expr.specs.Scope.{Context}
+use Rattle.b2_expr.specs.Value.{branch_of, context_of, token_text, value}
+use Rattle.b2_expr.specs.Workspace.{WorkState, WorkLeft, on_own, refused}
+use Rattle.b2_expr.specs.declared.operators.Level.TheVariants as level
+use Rattle.b2_stmt_var.specs.Assignments.{assign_each}
+use Rattle.b2_rows.specs.CommaLists.{all_listed}
+use Rattle.b2_stmt_var.specs.Lengths.{length_value}
+use Rattle.b2_stmt_var.specs.declared.dimensions.Dimensions.{Dimensions}
+use Rattle.b2_stmt_var.specs.declared.dimensions.Entry.{Entry}
+
+-- a number without its fraction from 1 to the most, or a code
+abbrev pub up_to : ℕ → ℕ → Option ℤ → Result ℕ ℕ
+up_to most code (Some (pos n)) = if is_up_to most n then Ok n else Err code
+up_to most code z = Err code
+
+-- a dimension: up to 4,000 where it is the only one, and up to 255 each where there are two
+abbrev pub dimension : ℕ → Option ℤ → Result ℕ ℕ
+dimension most n = up_to most P50_DIMENSION n
+
+abbrev pub most_rows : Bool → ℕ
+most_rows two = if two then 255 else 4000
+
+-- the second dimension, 0 where none is written
+unfoldable pub columns_in : Context → Trees → Result ℕ ℕ
+columns_in s (In n (Put comma (In m sum end)) more) = value s level.Sum sum >>= (λ x. dimension 255 (fixed x))
+columns_in s t = Ok 0
+
+-- the dimensions from left to right: each is taken and tested before the next
+unfoldable pub dimensions_in : Context → Trees → Result Dimensions ℕ
+dimensions_in s (Put opening (In n (In m sum columns) close)) =
+    value s level.Sum sum >>= (λ x. dimension (most_rows (branch_of columns == 1)) (fixed x) >>= (λ rows. columns_in s columns >>= (λ cols. Ok (record { rows = rows; cols = cols }))))
+dimensions_in s t = Err P50_DIMENSION
+
+-- the length of an alpha value, 16 where none is written; a number has none
+abbrev pub tested_length : Bool → Option ℤ → Result ℕ ℕ
+tested_length true n = up_to 124 P53_LENGTH n
+tested_length false n = Err P53_LENGTH
+
+abbrev pub usual_length : Bool → ℕ
+usual_length alpha = if alpha then 16 else 0
+
+abbrev pub length_by : (Trees → Answer) → Bool → Trees → Result ℕ ℕ
+length_by value_of alpha (In n sum end) = if n == 1 then value_of sum >>= (λ x. tested_length alpha (fixed x)) else Ok (usual_length alpha)
+length_by value_of alpha t = Ok (usual_length alpha)
+
+-- the length after dimensions, and after a name alone
+unfoldable pub length_after : Context → Bool → Trees → Result ℕ ℕ
+length_after s alpha t = length_by (value s level.Sum) alpha t
+
+unfoldable pub length_alone : Context → Bool → Trees → Result ℕ ℕ
+length_alone s alpha t = length_by (length_value s) alpha t
+
+-- the shape of an array, and of a scalar
+unfoldable pub array_shape : Context → Bool → Trees → Result Shape ℕ
+array_shape s alpha (In n dimensions length) = dimensions_in s dimensions >>= (λ d. length_after s alpha length >>= (λ len. Ok (record { rows = d.rows; cols = d.cols; len = len })))
+array_shape s alpha t = Err P50_DIMENSION
+
+unfoldable pub lone_shape : Context → Bool → Trees → Result Shape ℕ
+lone_shape s alpha t = length_alone s alpha t >>= (λ len. Ok (record { rows = 0; cols = 0; len = len }))
+
+abbrev pub shape_after : Context → Bool → ℕ → Trees → Result Shape ℕ
+shape_after s alpha n t = if n == 1 then array_shape s alpha t else lone_shape s alpha t
+
+-- an entry: X77 comes at its name, before its dimensions
+abbrev pub entry_of : Context → Name → ℕ → Trees → Result Entry ℕ
+entry_of s name n t = variables_of s.around name >>= (λ vars. shape_after s name.alpha n t >>= (λ shape. Ok (record { var = variable_of name (n == 1); shape = shape })))
+
+unfoldable pub entry_named : Context → Bool → Trees → Result Entry ℕ
+entry_named s alpha (Put token (In n t end)) = entry_of s (variable_name alpha (token_text token)) n t
+entry_named s alpha t = Err S20_VARIABLE
+
+unfoldable pub entry_in : Context → Trees → Result Entry ℕ
+entry_in s (In n a end) = entry_named s (n == 1) a
+entry_in s t = Err S20_VARIABLE
+
+-- what makes it, with COM as a common variable
+abbrev pub entry_code : Bool → Entry → VarsState → Option ℕ
+entry_code true e old = com_code e.var e.shape old
+entry_code false e old = dim_code e.var e.shape old
+
+abbrev pub makes : Bool → Entry → VarsState → Assigned
+makes common e old = unless_refused (entry_code common e old) old (record { vars = record old { table = with_new e.var e.shape common old.table }; code = None })
+
+abbrev pub makes_found : Bool → Result Entry ℕ → WorkState → WorkLeft
+makes_found common (Ok e) w = on_own (makes common e w.own) w
+makes_found common (Err code) w = refused code w
+
+abbrev pub makes_one : Bool → Trees → WorkState → WorkLeft
+makes_one common t w = makes_found common (entry_in (context_of w) t) w
+
+abbrev pub is_com : Trees → Bool
+is_com (Put dim entries) = token_code dim == word.COM
+is_com t = false
+
+abbrev pub entries_of : Trees → List Trees
+entries_of (Put dim entries) = all_listed entries
+entries_of t = []
+
+-- they are made from left to right, each among the variables as they then are
+abbrev pub dimensions : Trees → WorkState → WorkLeft
+dimensions t w = assign_each (makes_one (is_com t)) (entries_of t) w

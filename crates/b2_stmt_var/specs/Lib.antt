@@ -1,0 +1,10 @@
+pub mod Left
+pub mod Assignments
+pub mod Buffers
+pub mod Lengths
+pub mod Dimensions
+pub mod Data
+pub mod Reading
+pub mod ReadingOrder
+pub mod Restoring
+pub mod Plan

@@ -1,0 +1,154 @@
+// INIT, ROTATE and ROTATEC: bytes that are changed in their place.
+ghost use Rattle.std.specs.Prelude.{◌≡◌, ◌≤ℤ◌, pos, negsuc, true, IfOk, Ok};
+ghost use Rattle.b2_alpha.specs.Bits.{rotated};
+ghost use Rattle.b2_atom.specs.declared.rows.TheConstants as row;
+ghost use Rattle.b2_rows.specs.Rows.{is_part, tree_at};
+ghost use Rattle.b2_receiver.specs.Receivers.{IsAlpha, IsBuffer};
+ghost use Rattle.b2_expr.specs.Scope.{surroundings};
+ghost use Rattle.b2_expr.specs.Value.{in_statement};
+ghost use Rattle.b2_expr.specs.Workspace.{on_own, workspace};
+ghost use Rattle.b2_stmt_var.specs.Buffers as spec;
+
+use b2_alpha::rotate;
+use b2_atom::Cursor;
+use b2_atom::words::ROTATEC_OPEN;
+use b2_base::codes::P34_RANGE;
+use b2_base::lexical::rest_after;
+use b2_base::{Code, NoMemory};
+use b2_dec::{Dec, fix, whole};
+use b2_expr::{Env, Workspace, number, surroundings_of};
+use b2_receiver::{AlphaReceiver, Buffer, alpha_receiver, buffer, change_buffer, code_of};
+use b2_rows::{hex_byte_at, is_at};
+
+/// What ROTATE and ROTATEC ask for.
+#[derive(Clone, Copy)]
+pub struct Turn {
+    /// The bytes that turn.
+    pub to: AlphaReceiver,
+    /// Whether all of them turn as one, or each by itself.
+    pub whole: bool,
+    /// By how many bits they turn left, from -8 to 8; below zero they turn right.
+    pub bits: i8,
+}
+
+/// Fills a buffer with a byte. The code with which that ended, or none.
+#[tactic(auto, using(crate::proofs::Changed::changed_work))]
+fn fill_buffer(work: &mut Workspace<'_>, to: &Buffer, byte: u8) -> Result<Option<Code>, NoMemory>
+    requires named { IsBuffer to.now }
+    ensures worked { IfOk result (λ code. record { work = workspace work.new; code = code } ≡ on_own (spec.bytes_changed (spec.all_filled byte) to.now (workspace work.old).own) (workspace work.old)) }
+    ensures same_reference { work.new.own.ghost_name ≡ work.old.own.ghost_name }
+{
+    code_of(change_buffer(work.own, to, |bytes| {
+        bytes.fill(byte);
+    }))
+}
+
+/// The byte that INIT fills with.
+#[tactic(auto, using(crate::proofs::BufferRows::init_pair, crate::proofs::BufferRows::init_byte))]
+fn byte_of_init(unit: &[u8]) -> u8
+    requires part { is_part row.INIT unit.now ≡ true }
+    ensures { result ≡ spec.byte_of_init (tree_at row.INIT unit.now) }
+{
+    hex_byte_at(rest_after(unit, 1))
+}
+
+/// INIT: fills buffers with a byte, from left to right. The code with which that ended, or none.
+#[tactic(auto, using(crate::proofs::BufferRows::first_part, crate::proofs::BufferRows::first_list, crate::proofs::BufferRows::other_part, crate::proofs::BufferRows::other_list, crate::proofs::BufferRows::other_items, crate::proofs::BufferRows::no_items, crate::proofs::BufferRows::buffer_shorter, crate::proofs::BufferRows::whole_items, crate::proofs::Assigned::one_more, crate::proofs::Assigned::one_coded))]
+pub fn init(work: &mut Workspace<'_>, unit: &[u8]) -> Result<Option<Code>, NoMemory>
+    requires part { is_part row.INIT unit.now ≡ true }
+    ensures worked { IfOk result (λ code. record { work = workspace work.new; code = code } ≡ spec.inits (tree_at row.INIT unit.now) (workspace work.old)) }
+    ensures same_reference { work.new.own.ghost_name ≡ work.old.own.ghost_name }
+{
+    let byte = byte_of_init(unit);
+    let mut left = rest_after(unit, 4);
+    loop {
+        let mut c = Cursor::over(left);
+        let to = match buffer(&mut c, &surroundings_of(work)) {
+            Ok(to) => to,
+            Err(code) => return Ok(Some(code)),
+        };
+        let code = fill_buffer(work, &to, byte)?;
+        if code.is_some() {
+            return Ok(code);
+        }
+        let after = c.rest();
+        if !is_at(b',', after) {
+            return Ok(None);
+        }
+        left = rest_after(after, 1);
+    }
+}
+
+/// By how many bits a number turns, P34 where it is none from -8 to 8.
+fn bits_of(n: Option<i64>) -> Result<i8, Code>
+    ensures value { result ≡ spec.bits_in n }
+    ensures low { IfOk result (λ bits. negsuc 7 ≤ℤ bits) }
+    ensures high { IfOk result (λ bits. bits ≤ℤ pos 8) }
+{
+    match n {
+        Some(n) if -8 <= n && n <= 8 => Ok(n as i8),
+        _ => Err(Code::known(P34_RANGE)),
+    }
+}
+
+/// What ROTATE and ROTATEC ask for: the receiver, and then by how many bits; or the first code from the left.
+#[tactic(auto, using(crate::proofs::TurnRows::turn_receiver, crate::proofs::TurnRows::turn_sum, crate::proofs::TurnRows::turn_is))]
+fn turn_at(e: &Env<'_>, unit: &[u8]) -> Result<Turn, Code>
+    requires part { is_part row.ROTATE unit.now ≡ true }
+    ensures turn { result ≡ spec.turn_in (in_statement (surroundings e.now)) (tree_at row.ROTATE unit.now) }
+    ensures named { IfOk result (λ turn. IsAlpha turn.to.element.var) }
+    ensures low { IfOk result (λ turn. negsuc 7 ≤ℤ turn.bits) }
+    ensures high { IfOk result (λ turn. turn.bits ≤ℤ pos 8) }
+{
+    let mut c = Cursor::over(rest_after(unit, 1));
+    let to = match alpha_receiver(&mut c, e) {
+        Ok(to) => to,
+        Err(code) => return Err(code),
+    };
+    let mut c = Cursor::over(rest_after(c.rest(), 1));
+    let x = match number(&mut c, e) {
+        Ok(x) => x,
+        Err(code) => return Err(code),
+    };
+    match bits_of(whole(fix(x))) {
+        Ok(bits) => {
+            let whole = is_at(ROTATEC_OPEN, unit);
+            Ok(Turn { to, whole, bits })
+        }
+        Err(code) => Err(code),
+    }
+}
+
+/// Turns the bits of bytes.
+fn turn_bytes(bytes: &mut [u8], asked: &Turn)
+    requires low { negsuc 7 ≤ℤ asked.now.bits }
+    requires high { asked.now.bits ≤ℤ pos 8 }
+    ensures { bytes.new ≡ rotated asked.now.whole asked.now.bits bytes.old }
+{
+    rotate(bytes, asked.bits, asked.whole);
+}
+
+/// Turns the bits of a receiver. The code with which that ended, or none.
+#[tactic(auto, using(crate::proofs::Changed::changed_work))]
+fn turn_bits(work: &mut Workspace<'_>, asked: &Turn) -> Result<Option<Code>, NoMemory>
+    requires named { IsAlpha asked.now.to.element.var }
+    requires low { negsuc 7 ≤ℤ asked.now.bits }
+    requires high { asked.now.bits ≤ℤ pos 8 }
+    ensures worked { IfOk result (λ code. record { work = workspace work.new; code = code } ≡ spec.turns (Ok asked.now) (workspace work.old)) }
+    ensures same_reference { work.new.own.ghost_name ≡ work.old.own.ghost_name }
+{
+    let to = Buffer::Value(asked.to);
+    code_of(change_buffer(work.own, &to, |bytes| turn_bytes(bytes, asked)))
+}
+
+/// ROTATE and ROTATEC: turns the bits of a receiver. The code with which that ended, or none.
+pub fn rotate_bits(work: &mut Workspace<'_>, unit: &[u8]) -> Result<Option<Code>, NoMemory>
+    requires part { is_part row.ROTATE unit.now ≡ true }
+    ensures worked { IfOk result (λ code. record { work = workspace work.new; code = code } ≡ spec.rotates (tree_at row.ROTATE unit.now) (workspace work.old)) }
+    ensures same_reference { work.new.own.ghost_name ≡ work.old.own.ghost_name }
+{
+    match turn_at(&surroundings_of(work), unit) {
+        Ok(asked) => turn_bits(work, &asked),
+        Err(code) => Ok(Some(code)),
+    }
+}
