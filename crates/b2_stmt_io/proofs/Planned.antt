@@ -25,12 +25,13 @@ use Rattle.b2_access.specs.declared.planned.Planned.TheVariants as planned
 use Rattle.b2_access.specs.declared.private.Private.{Private}
 use Rattle.b2_access.proofs.Choice.{either}
 use Rattle.b2_access.proofs.Courses.{each_course}
+use Rattle.b2_access.proofs.Tables.{each_row}
 use Rattle.b2_stmt_io.specs.Converting.{converts}
 use Rattle.b2_stmt_io.specs.Imaging.{prints_using}
 use Rattle.b2_stmt_io.specs.Inputs.{takes_typed}
 use Rattle.b2_stmt_io.specs.Keys.{key_taken}
 use Rattle.b2_stmt_io.specs.LineReading.{asks_line, line_answered, prompt_of}
-use Rattle.b2_stmt_io.specs.Plan.{asked_of, course_of, does, ended_of, is_refused, works}
+use Rattle.b2_stmt_io.specs.Plan.{Asks, Finishes, asked_of, asking_rows, course_of, does, ended_of, finishing_rows, is_refused, left_out, nothing_asked, takes_line, works}
 use Rattle.b2_stmt_io.specs.Printing.{prints}
 use Rattle.b2_print.specs.Columns.{column_after}
 use Rattle.b2_stmt_io.specs.Showing.{shows_bytes, shows_laid}
@@ -50,11 +51,12 @@ module _ (F : Planned → Type 0) (e : Context) (unassigned : (code : ℕ) → F
 
   each_asked : (r : ℕ) (t : Trees) (column : ℕ) (prompted : Bool) → F (asked_of r t e column prompted)
   each_asked r t column prompted =
-      either F (r == row.PRINT) _ _ (each_laid (prints e column t))
-      (either F (r == row.PRINTUSING) _ _ (each_shown column (prints_using e t))
-      (either F (r == row.KEYIN) _ _ (asks (access.Key e.around.term) refl)
-      (either F (r == row.LINPUT) _ _ (each_line prompted column (prompt_of t))
-      (either F (r == row.INPUT) _ _ (each_line prompted column (prompt_of t)) (unassigned S27_LEFT_OUT)))))
+      let line = each_line prompted column (prompt_of t) in
+      let Holds : Asks → Type 0 = λ asks. F (asks t e column prompted) in
+      each_row Holds asking_rows left_out r (
+        each_laid (prints e column t),
+        (each_shown column (prints_using e t), (asks (access.Key e.around.term) refl, (line, (line, tt)))),
+      ) (unassigned S27_LEFT_OUT)
 
 -- so also of what the statement at a place plans
 module _ (me : Private) (s : SeenLent) (F : Planned → Type 0) (next : F (planned.Done outcome.Next)) (ready : F (planned.Done outcome.Ready)) (failed : (code : ℕ) → F (planned.Done (outcome.Failed code)))
@@ -81,6 +83,6 @@ module _ (F : Worked → Type 0) (x : Access) (a : Answer) (me : Private) (s : S
     (goes : F (leaves me outcome.Next)) (repeats : F (leaves me outcome.Repeat)) where
   pub each_ended : (u : Statement) (p : Place) → F (key_taken x a s.home p u.tree me) → F (ended_of u p x a me s)
   each_ended u p keys =
-      either F (u.row == row.PRINT || u.row == row.PRINTUSING) _ _ shows
-      (either F (u.row == row.KEYIN) _ _ keys
-      (either F (u.row == row.LINPUT || u.row == row.INPUT) _ _ (lines (λ line vars. own_of (takes_typed u.row line u.tree (work_in (setting_of me) s.home vars)))) repeats))
+      let typed : (r : ℕ) → F (takes_line r u.tree p x a me s) = λ r. lines (λ line vars. own_of (takes_typed r line u.tree (work_in (setting_of me) s.home vars))) in
+      let Holds : Finishes → Type 0 = λ finishes. F (finishes u.tree p x a me s) in
+      each_row Holds finishing_rows nothing_asked u.row (shows, (shows, (keys, (typed row.LINPUT, (typed row.INPUT, tt))))) repeats

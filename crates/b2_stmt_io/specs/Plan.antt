@@ -1,5 +1,5 @@
 -- What a statement plans, by the unit at the place of a partition.
-use Rattle.std.specs.Prelude.{ℕ, ◌==◌, ◌&&◌, ◌||◌, not, Bool, if◌then◌else◌}
+use Rattle.std.specs.Prelude.{ℕ, ◌==◌, ◌&&◌, ◌||◌, not, Bool, List, [], ◌∷◌, if◌then◌else◌}
 use Rattle.b2_base.specs.declared.codes.TheConstants.{S27_LEFT_OUT}
 use Rattle.b2_atom.specs.Tree.{Trees}
 use Rattle.b2_atom.specs.declared.rows.TheConstants as row
@@ -25,6 +25,7 @@ use Rattle.b2_stmt_io.specs.Keys.{key_taken}
 use Rattle.b2_stmt_io.specs.LineReading.{asks_line, line_answered, prompt_of}
 use Rattle.b2_access.specs.Courses.{Here, course}
 use Rattle.b2_access.specs.Placed.{Statement}
+use Rattle.b2_access.specs.Rows.{at_row, has_row}
 use Rattle.b2_access.specs.Planning.{Finishing, Planning}
 use Rattle.b2_access.specs.Working.{Ends, Plans, Worked, Working, finishes_by, leaves, plans_by, stops, with_variables, work_of}
 use Rattle.b2_stmt_io.specs.Printing.{prints}
@@ -38,15 +39,25 @@ is_for_programs r = r == row.INPUT || r == row.LINPUT || r == row.KEYIN
 abbrev pub is_refused : ℕ → Bool → Bool
 is_refused r program = is_for_programs r && not program
 
--- what a statement asks for that changes nothing yet, at a column and after its prompt was shown or not
-abbrev pub asked_of : ℕ → Trees → Context → ℕ → Bool → Planned
-asked_of r t e column prompted =
-    if r == row.PRINT then shows_laid e.around.term (prints e column t)
-    else (if r == row.PRINTUSING then shows_bytes column e.around.term (prints_using e t)
-    else (if r == row.KEYIN then planned.Ask (access.Key e.around.term)
-    else (if r == row.LINPUT then planned.Ask (asks_line prompted column e.around.term (prompt_of t))
-    else (if r == row.INPUT then planned.Ask (asks_line prompted column e.around.term (prompt_of t))
-    else planned.Done (outcome.Failed S27_LEFT_OUT)))))
+-- what a statement asks for that changes nothing yet, a line a row, at a column and after its prompt was shown or not
+abbrev pub Asks : Type 0
+Asks = Trees → Context → ℕ → Bool → Planned
+
+abbrev pub asking_rows : List (ℕ × Asks)
+asking_rows =
+    (row.PRINT, λ t e column prompted. shows_laid e.around.term (prints e column t))
+    ∷ (row.PRINTUSING, λ t e column prompted. shows_bytes column e.around.term (prints_using e t))
+    ∷ (row.KEYIN, λ t e column prompted. planned.Ask (access.Key e.around.term))
+    ∷ (row.LINPUT, λ t e column prompted. planned.Ask (asks_line prompted column e.around.term (prompt_of t)))
+    ∷ (row.INPUT, λ t e column prompted. planned.Ask (asks_line prompted column e.around.term (prompt_of t)))
+    ∷ []
+
+-- what isn't built is left out
+abbrev pub left_out : Asks
+left_out t e column prompted = planned.Done (outcome.Failed S27_LEFT_OUT)
+
+abbrev pub asked_of : ℕ → Asks
+asked_of r = at_row asking_rows left_out r
 
 abbrev pub course_of : Statement → Private → SeenLent → Working
 course_of u me s =
@@ -63,13 +74,28 @@ works me s = course is_refused stops (does me s) me.place me s
 abbrev pub plan : Private → SeenLent → Planning
 plan me s = plans_by works me s
 
--- how a statement finishes by the answer to the access that it asked for, where it may stand in a line of the program
+-- how a statement finishes by the answer to the access that it asked for, a line a row, where it may stand in a line of the program
+abbrev pub Finishes : Type 0
+Finishes = Trees → Place → Access → Answer → Private → SeenLent → Worked
+
+abbrev pub takes_line : ℕ → Finishes
+takes_line r t p x a me s = line_answered (λ line vars. own_of (takes_typed r line t (work_in (setting_of me) s.home vars))) x a s.own.lines me
+
+abbrev pub finishing_rows : List (ℕ × Finishes)
+finishing_rows =
+    (row.PRINT, λ t p x a me s. shown x a me)
+    ∷ (row.PRINTUSING, λ t p x a me s. shown x a me)
+    ∷ (row.KEYIN, λ t p x a me s. key_taken x a s.home p t me)
+    ∷ (row.LINPUT, λ t p x a me s. takes_line row.LINPUT t p x a me s)
+    ∷ (row.INPUT, λ t p x a me s. takes_line row.INPUT t p x a me s)
+    ∷ []
+
+-- one that asks for nothing repeats its step
+abbrev pub nothing_asked : Finishes
+nothing_asked t p x a me s = leaves me outcome.Repeat
+
 abbrev pub ended_of : Statement → Place → Access → Answer → Private → SeenLent → Worked
-ended_of u p x a me s =
-    if u.row == row.PRINT || u.row == row.PRINTUSING then shown x a me
-    else (if u.row == row.KEYIN then key_taken x a s.home p u.tree me
-    else (if u.row == row.LINPUT || u.row == row.INPUT then line_answered (λ line vars. own_of (takes_typed u.row line u.tree (work_in (setting_of me) s.home vars))) x a s.own.lines me
-    else leaves me outcome.Repeat))
+ended_of u p x a me s = at_row finishing_rows nothing_asked u.row u.tree p x a me s
 
 abbrev pub finishes : Access → Answer → Private → SeenLent → Statement → Here → Worked
 finishes x a me s u h = ended_of u h.place x a me s
@@ -87,4 +113,4 @@ finish x a me s = finishes_by ends x a me s
 
 -- the rows that this crate builds
 abbrev pub is_built : ℕ → Bool
-is_built r = r == row.PRINT || r == row.PRINTUSING || r == row.KEYIN || r == row.LINPUT || r == row.INPUT || r == row.CONVERT
+is_built r = has_row asking_rows r || r == row.CONVERT
