@@ -1,20 +1,17 @@
 -- Where a partition goes on after a unit, where nothing else is said.
-use Rattle.std.specs.Prelude.{ℕ, ◌+◌, false, List, [], Option, Some, None}
+use Rattle.std.specs.Prelude.{◌+◌, false, List, Option, Some}
 use Rattle.b2_atom.specs.Units.{TreeUnit}
 use Rattle.b2_flow.specs.declared.frame.Place.{Place}
-use Rattle.b2_rows.specs.Following.{tree_units, unit_or_next}
+use Rattle.b2_rows.specs.Following.{unit_or_next}
 use Rattle.b2_text.specs.Program.{Lines}
+use Rattle.b2_access.specs.Courses.{units_on}
 use Rattle.b2_access.specs.Placed.{line_named}
 use Rattle.b2_access.specs.Places.{goal_place}
 use Rattle.b2_access.specs.declared.private.Private.{Private}
 
 -- the units of the line of a place, none where the line isn't there
-abbrev pub units_of_line : Option (List ℕ) → List TreeUnit
-units_of_line None = []
-units_of_line (Some line) = tree_units line
-
 abbrev pub units_at : Place → Private → Lines → List TreeUnit
-units_at p me home = units_of_line (line_named me.immediate home p.line)
+units_at p me home = units_on (line_named me.immediate home p.line)
 
 -- the place after it
 abbrev pub following_place : Place → Private → Lines → Option Place

@@ -57,8 +57,8 @@ leads_to (Some q) x = record { me = moves_to q x.me; globals = x.globals; passed
 abbrev pub leads : Planning → Place → Lines → Passing
 leads x p home = leads_to (led_from x.planned p x.me home) x
 
-abbrev pub stops : Private → SeenLent → Passing
-stops me s = record { me = me; globals = s.globals; passed = passed.Stops }
+abbrev pub passes_nothing : Private → SeenLent → Passing
+passes_nothing me s = record { me = me; globals = s.globals; passed = passed.Stops }
 
 -- a run ends after some statements that led on
 abbrev pub ends_run : ℕ → Option Planned → Private → Option VarsState → Ran
@@ -73,16 +73,16 @@ goes_or_ends (passed.Ends p) goes ends = ends (Some p)
 module _ (ways : Ways) (at_once : ℕ → Bool) where
   -- a statement is executed where it is planned at once: by its row, and no `@` name stands in it
   abbrev pub passes_by : Option Statement → Place → Private → SeenLent → Passing
-  passes_by None p me s = stops me s
-  passes_by (Some u) p me s = if not (names_global u.tree) && at_once u.row then leads (ways.plan u.row me s) p s.home.lines else stops me s
+  passes_by None p me s = passes_nothing me s
+  passes_by (Some u) p me s = if not (names_global u.tree) && at_once u.row then leads (ways.plan u.row me s) p s.home.lines else passes_nothing me s
 
   -- in a line of the program
   abbrev pub passes_in : Option ℕ → Place → Private → SeenLent → Passing
-  passes_in None p me s = stops me s
+  passes_in None p me s = passes_nothing me s
   passes_in (Some n) p me s = passes_by (statement_on (line_at n s.home.lines) p.unit) p me s
 
   abbrev pub passes_at : Option Place → Private → SeenLent → Passing
-  passes_at None me s = stops me s
+  passes_at None me s = passes_nothing me s
   passes_at (Some p) me s = passes_in p.line p me s
 
   abbrev pub passes : Private → SeenLent → Passing
