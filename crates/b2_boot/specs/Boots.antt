@@ -43,11 +43,11 @@ abbrev pub sizes_fit : PartitionRow → Bool
 sizes_fit p = is_between 2 24 p.text && (is_between 2 24 p.vars && nat_le p.globals 8)
 
 -- 7: each partition's terminal is listed
-abbrev pub has_row : ℕ → List TerminalRow → Bool
-has_row t rows = list_any (λ r. r.number == t) rows
+abbrev pub lists_terminal : ℕ → List TerminalRow → Bool
+lists_terminal t rows = list_any (λ r. r.number == t) rows
 
 abbrev pub terminals_listed : List TerminalRow → List PartitionRow → Bool
-terminals_listed terminals partitions = list_all (λ p. has_row p.terminal terminals) partitions
+terminals_listed terminals partitions = list_all (λ p. lists_terminal p.terminal terminals) partitions
 
 -- 8: each front is a partition of its terminal
 abbrev pub is_partition_at : ℕ → ℕ → List PartitionRow → Bool
@@ -57,9 +57,9 @@ abbrev pub all_fronts_fit : List TerminalRow → List PartitionRow → Bool
 all_fronts_fit terminals partitions = list_all (λ t. is_partition_at t.number t.front partitions) terminals
 
 -- no two are the same
-abbrev pub all_differ : {A : Type 0} → (A → A → Bool) → List A → Bool
-all_differ same [] = true
-all_differ same (x ∷ xs) = not (list_any (same x) xs) && all_differ same xs
+abbrev pub no_two_same : {A : Type 0} → (A → A → Bool) → List A → Bool
+no_two_same same [] = true
+no_two_same same (x ∷ xs) = not (list_any (same x) xs) && no_two_same same xs
 
 -- 9: no two platters have one image name
 abbrev pub same_image : Option (List ℕ) → Option (List ℕ) → Bool
@@ -74,15 +74,15 @@ abbrev pub is_platter_address : List ℕ → Bool
 is_platter_address address = is_address address && is_platter_digit (first address)
 
 abbrev pub addresses_fit : List PlatterRow → Bool
-addresses_fit platters = list_all (λ p. is_platter_address p.address) platters && all_differ (λ p q. spells p.address q.address) platters
+addresses_fit platters = list_all (λ p. is_platter_address p.address) platters && no_two_same (λ p q. spells p.address q.address) platters
 
 -- 12: a disk is a platter that is listed
-abbrev pub is_listed : {A : Type 0} → (A → List ℕ) → List A → Option (List ℕ) → Bool
-is_listed address platters None = true
-is_listed address platters (Some disk) = list_any (λ p. spells disk (address p)) platters
+abbrev pub is_disk_listed : {A : Type 0} → (A → List ℕ) → List A → Option (List ℕ) → Bool
+is_disk_listed address platters None = true
+is_disk_listed address platters (Some disk) = list_any (λ p. spells disk (address p)) platters
 
 abbrev pub disks_listed : List PartitionRow → List PlatterRow → Bool
-disks_listed partitions platters = list_all (λ p. is_listed (λ q. q.address) platters p.disk) partitions
+disks_listed partitions platters = list_all (λ p. is_disk_listed (λ q. q.address) platters p.disk) partitions
 
 -- 14: an image has the name of a file
 abbrev pub may_be_named : Option (List ℕ) → Bool
@@ -124,7 +124,7 @@ partitions_by_number rows = rows_up_to number_of_partition 16 rows
 -- the checks of platters, and of the disks of partitions
 abbrev pub checks_of_platters : List PartitionRow → List PlatterRow → List (ℕ × Bool)
 checks_of_platters partitions platters =
-    (9, all_differ (λ p q. same_image p.image q.image) platters) ∷ (10, addresses_fit platters)
+    (9, no_two_same (λ p q. same_image p.image q.image) platters) ∷ (10, addresses_fit platters)
     ∷ (12, disks_listed partitions platters) ∷ (14, list_all (λ p. may_be_named p.image) platters) ∷ []
 
 -- the checks of terminals and partitions in ascending order, and of platters
@@ -153,8 +153,8 @@ may_be_address (Some address) = is_address address
 abbrev pub has_its_places : PartitionRow → Bool
 has_its_places p = is_between 1 16 p.number && (is_between 1 12 p.terminal && may_be_address p.disk)
 
-abbrev pub is_spelled : PlatterRow → Bool
-is_spelled p = is_address p.address && may_be_named p.image
+abbrev pub is_platter_spelled : PlatterRow → Bool
+is_platter_spelled p = is_address p.address && may_be_named p.image
 
 abbrev pub boot_terminal : TerminalRow → BootTerminal
 boot_terminal r = record { number = r.number; front = r.front }
@@ -174,17 +174,17 @@ abbrev pub number_of_platter : BootPlatter → ℕ
 number_of_platter p = address_number p.address
 
 -- one more before the first of a greater number
-abbrev pub placed : {A : Type 0} → (A → ℕ) → A → List A → List A
-placed number x [] = x ∷ []
-placed number x (y ∷ ys) = if nat_lt (number x) (number y) then x ∷ y ∷ ys else y ∷ placed number x ys
+abbrev pub inserted_by : {A : Type 0} → (A → ℕ) → A → List A → List A
+inserted_by number x [] = x ∷ []
+inserted_by number x (y ∷ ys) = if nat_lt (number x) (number y) then x ∷ y ∷ ys else y ∷ inserted_by number x ys
 
 -- the same in the order of their numbers
-abbrev pub in_order : {A : Type 0} → (A → ℕ) → List A → List A
-in_order number [] = []
-in_order number (x ∷ xs) = placed number x (in_order number xs)
+abbrev pub sorted_by : {A : Type 0} → (A → ℕ) → List A → List A
+sorted_by number [] = []
+sorted_by number (x ∷ xs) = inserted_by number x (sorted_by number xs)
 
 abbrev pub platters_by_address : List PlatterRow → List BootPlatter
-platters_by_address rows = in_order number_of_platter (map boot_platter rows)
+platters_by_address rows = sorted_by number_of_platter (map boot_platter rows)
 
 -- the boot of rows, with terminals and partitions in ascending order
 abbrev pub boot_with : RowsState → List TerminalRow → List PartitionRow → BootState
@@ -254,8 +254,8 @@ pub record IsGood (b : BootState) : Type 0 where
   pub few_platters : length b.platters ≤ 8
   pub platters_ascend : Ascends 0 (map number_of_platter b.platters)
   pub platters : list_all is_platter b.platters ≡ true
-  pub images : all_differ (λ p q. same_image p.image q.image) b.platters ≡ true
-  pub disks : list_all (λ p. is_listed (λ q. q.address) b.platters p.disk) b.partitions ≡ true
+  pub images : no_two_same (λ p q. same_image p.image q.image) b.platters ≡ true
+  pub disks : list_all (λ p. is_disk_listed (λ q. q.address) b.platters p.disk) b.partitions ≡ true
 
 -- a boot has the quota and the rows of a file, in another order
 pub record Keeps (rows : RowsState) (b : BootState) : Type 0 where

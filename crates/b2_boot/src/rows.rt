@@ -264,7 +264,7 @@ fn of_image(alloc: Global, address: &[u8], value: &Value) -> Result<Option<Platt
 }
 
 /// How many sectors a blank platter has, None outside 16 to 32,512.
-fn sectors(value: &Value) -> Option<u16>
+fn sectors_said(value: &Value) -> Option<u16>
     ensures { result ≡ spec.sectors_of (option_map spec.small (as_integer (view value.now))) }
 {
     let Some(sectors) = small_if_some(value.as_integer()) else {
@@ -281,7 +281,7 @@ fn sectors(value: &Value) -> Option<u16>
 fn of_sectors(alloc: Global, address: &[u8], value: &Value) -> Result<Option<PlatterRow>, NoMemory>
     ensures { IfOk result (λ found. found ≡ spec.of_sectors address.now (view value.now)) }
 {
-    let Some(sectors) = sectors(value) else {
+    let Some(sectors) = sectors_said(value) else {
         return Ok(None);
     };
     Ok(Some(PlatterRow {
@@ -451,7 +451,7 @@ fn partitions(alloc: Global, table: &Table) -> Result<Option<Vec<PartitionRow>>,
 }
 
 /// The rows of the platters, None where a key of one is unknown, missing or of another kind.
-fn platters(alloc: Global, table: &Table) -> Result<Option<Vec<PlatterRow>>, NoMemory>
+fn platters_said(alloc: Global, table: &Table) -> Result<Option<Vec<PlatterRow>>, NoMemory>
     ensures { IfOk result (λ found. option_map (λ rows. rows.items) found ≡ spec.platters_said (table_view table.now)) }
 {
     match items_at(table, "platter") {
@@ -478,7 +478,7 @@ pub fn boot_rows(alloc: Global, table: &Table) -> Result<Option<BootRows>, NoMem
     let Some(partitions) = partitions(alloc, table)? else {
         return Ok(None);
     };
-    let Some(platters) = platters(alloc, table)? else {
+    let Some(platters) = platters_said(alloc, table)? else {
         return Ok(None);
     };
     Ok(Some(BootRows {
