@@ -13,8 +13,8 @@ abbrev places : List BootPlatter → List (List ℕ)
 places ps = map (λ p. p.address) ps
 
 higher : (n m : ℕ) (xs : List ℕ) → n < m → Ascends m xs → Ascends n xs
-higher n m [] below as = tt
-higher n m (x ∷ xs) below as = (omega arith, as.1)
+higher n m [] below ascend = tt
+higher n m (x ∷ xs) below ascend = (omega arith, ascend.1)
 
 -- none of the later ones has the address of a lower number
 apart : (a : List ℕ) (q : BootPlatter) → address_number a < number_of_platter q → bytes_eq a q.address ≡ false
@@ -28,15 +28,15 @@ none_of : (b c : Bool) → b ≡ false → c ≡ false → (b || c) ≡ false
 none_of b c is also = ap (λ (x : Bool). x || c) is ∙ also
 
 none_later : (a : List ℕ) (ps : List BootPlatter) → Ascends (address_number a) (map number_of_platter ps) → list_any (bytes_eq a) (places ps) ≡ false
-none_later a [] as = refl
-none_later a (p ∷ ps) as = none_of (bytes_eq a p.address) (list_any (bytes_eq a) (places ps)) (apart a p as.0) (none_later a ps (higher (address_number a) (number_of_platter p) (map number_of_platter ps) as.0 as.1))
+none_later a [] ascend = refl
+none_later a (p ∷ ps) ascend = none_of (bytes_eq a p.address) (list_any (bytes_eq a) (places ps)) (apart a p ascend.0) (none_later a ps (higher (address_number a) (number_of_platter p) (map number_of_platter ps) ascend.0 ascend.1))
 
 both : (b c : Bool) → b ≡ false → c ≡ true → (not b && c) ≡ true
 both b c is also = ap (λ (x : Bool). not x && c) is ∙ also
 
 distinct : (above : ℕ) (ps : List BootPlatter) → Ascends above (map number_of_platter ps) → are_distinct (places ps) ≡ true
-distinct above [] as = refl
-distinct above (p ∷ ps) as = both (list_any (bytes_eq p.address) (places ps)) (are_distinct (places ps)) (none_later p.address ps as.1) (distinct (number_of_platter p) ps as.1)
+distinct above [] ascend = refl
+distinct above (p ∷ ps) ascend = both (list_any (bytes_eq p.address) (places ps)) (are_distinct (places ps)) (none_later p.address ps ascend.1) (distinct (number_of_platter p) ps ascend.1)
 
 at_most_twelve : (n : ℕ) → n ≤ 8 → n ≤ 12
 at_most_twelve n few = omega arith
