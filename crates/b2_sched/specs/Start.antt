@@ -6,7 +6,7 @@ use Rattle.b2_access.specs.Partition.{at_start}
 use Rattle.b2_access.specs.Store.{StoreState}
 use Rattle.b2_audit.specs.Marks.{unmarked}
 use Rattle.b2_audit.specs.Steps.{IsPartition, IsTerminal}
-use Rattle.b2_store.specs.Start.{Areas, text_row, borrow_row, globals_row, terminal_row, paired, free_row}
+use Rattle.b2_store.specs.Start.{Areas, text_row, borrow_row, globals_row, idle_row, with_keys, free_row}
 use Rattle.b2_boot.specs.Boots.{BootState}
 use Rattle.b2_boot.specs.declared.boot.BootPartition.{BootPartition}
 use Rattle.b2_boot.specs.declared.boot.BootTerminal.{BootTerminal}
@@ -46,8 +46,8 @@ store_booted b images = record {
   texts = map text_row (map areas_of b.partitions);
   borrows = map borrow_row (map areas_of b.partitions);
   globals = map globals_row (map areas_of b.partitions);
-  terminals = map terminal_row (map front_of_boot b.terminals);
-  platters = paired (addresses b) images;
+  terminals = map idle_row (map front_of_boot b.terminals);
+  platters = with_keys (addresses b) images;
   hogs = map free_row (addresses b);
 }
 

@@ -31,9 +31,9 @@ limits_of None image = record { first = pos (index_of image); second = pos (cata
 limits_of (Some name) image = limits_of_file (get (catalogue image) name)
 
 -- with the slot of a file scratched
-abbrev pub with_scratched : List ℕ → Option ℕ → Result (List ℕ) ℕ
-with_scratched image None = Err D82_NO_FILE
-with_scratched image (Some k) = Ok (put_row image k (scratched_slot (row image k)))
+abbrev pub scratched_image : List ℕ → Option ℕ → Result (List ℕ) ℕ
+scratched_image image None = Err D82_NO_FILE
+scratched_image image (Some k) = Ok (put_row image k (scratched_slot (row image k)))
 
 -- with an empty index of 1 to 255 sectors, where the catalogue ends after it and on the platter
 abbrev pub can_format : ℕ → ℕ → List ℕ → Bool
@@ -44,7 +44,7 @@ with_index index end image = if can_format index end image then Ok (formatted Na
 
 -- THE WORK OF DISKS
 abbrev pub disks : DiskWork
-disks = record { limits = limits_of; listing = listing_of; scratch = λ name image. with_scratched image (slot_found image name); format = with_index }
+disks = record { limits = limits_of; listing = listing_of; scratch = λ name image. scratched_image image (slot_found image name); format = with_index }
 
 -- and how a store serves with it
 abbrev pub serves : ServingOf StoreState

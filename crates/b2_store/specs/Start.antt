@@ -21,14 +21,14 @@ abbrev pub globals_row : Areas → ℕ × VarsState
 globals_row p = (p.0, no_variables p.2)
 
 -- a terminal, and the partition in front of it
-abbrev pub terminal_row : ℕ × ℕ → ℕ × TerminalState
-terminal_row t = (t.0, record { queue = []; front = t.1; line = []; transcript = [] })
+abbrev pub idle_row : ℕ × ℕ → ℕ × TerminalState
+idle_row t = (t.0, record { queue = []; front = t.1; line = []; transcript = [] })
 
 -- contents at their keys, one after the other
-abbrev pub paired : {K X : Type 0} → List K → List X → List (K × X)
-paired [] xs = []
-paired (k ∷ ks) [] = []
-paired (k ∷ ks) (x ∷ xs) = (k, x) ∷ paired ks xs
+abbrev pub with_keys : {K X : Type 0} → List K → List X → List (K × X)
+with_keys [] xs = []
+with_keys (k ∷ ks) [] = []
+with_keys (k ∷ ks) (x ∷ xs) = (k, x) ∷ with_keys ks xs
 
 -- a device that nobody holds
 abbrev pub free_row : List ℕ → List ℕ × Option ℕ
@@ -39,7 +39,7 @@ store_at_start b images = record {
   texts = map text_row b.partitions.items;
   borrows = map borrow_row b.partitions.items;
   globals = map globals_row b.partitions.items;
-  terminals = map terminal_row b.terminals.items;
-  platters = paired b.platters.items images;
+  terminals = map idle_row b.terminals.items;
+  platters = with_keys b.platters.items images;
   hogs = map free_row b.platters.items;
 }

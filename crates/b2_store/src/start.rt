@@ -1,6 +1,6 @@
 // The rows of a store as it starts.
 ghost use Rattle.std.specs.Prelude.{◌≡◌, IfOk, length, map};
-ghost use Rattle.b2_store.specs.Start.{text_row, borrow_row, globals_row, terminal_row, free_row, paired};
+ghost use Rattle.b2_store.specs.Start.{text_row, borrow_row, globals_row, idle_row, free_row, with_keys};
 
 use crate::part_list::PartList;
 use crate::rows::Rows;
@@ -58,7 +58,7 @@ pub fn terminals_of(
     alloc: Global,
     terminals: &[(Term, Part)],
 ) -> Result<Rows<Term, Terminal>, NoMemory>
-    ensures { IfOk result (λ rows. rows ≡ map terminal_row terminals.now) }
+    ensures { IfOk result (λ rows. rows ≡ map idle_row terminals.now) }
 {
     let mut rows = Rows::new(alloc);
     for terminal in terminals {
@@ -74,7 +74,7 @@ pub fn platters_of(
     platters: Vec<Platter>,
 ) -> Result<Rows<Addr, Platter>, NoMemory>
     requires as_many { length addresses.now ≡ length platters.items }
-    ensures { IfOk result (λ rows. rows ≡ paired addresses.now platters.items) }
+    ensures { IfOk result (λ rows. rows ≡ with_keys addresses.now platters.items) }
 {
     let mut left = platters;
     let mut rows = Rows::new(alloc);
