@@ -1,1 +1,2 @@
+pub mod BootsAlone
 pub mod TextsKept

@@ -4,6 +4,9 @@
 // with partition 1 in front, `P` for a partition 1 on it, and `D` for a partition 1 on it with the disk D11.
 //
 // `alone | NAME | PARTITION PARTITION ..`: the boot of a name with these partitions alone.
+ghost use Rattle.std.specs.Prelude.{◌≡◌, IfOk, IfSome};
+ghost use Rattle.b2_sched.specs.Start.{HasDevices};
+
 use crate::pieces::word;
 use b2_base::{Addr, NoMemory, Part};
 use b2_boot::{Boot, BootErr, BootPartition, BootPlatter, BootTerminal, boot_of};
@@ -85,7 +88,10 @@ fn file_named(name: &[u8]) -> &'static [u8] {
 }
 
 /// The boot of a name, None where there is none.
-pub fn named(alloc: Global, name: &[u8]) -> Result<Option<Boot>, NoMemory> {
+#[tactic(auto, using(b2_sched::proofs::BootDevices::has_devices))]
+pub fn named(alloc: Global, name: &[u8]) -> Result<Option<Boot>, NoMemory>
+    ensures devices { IfOk result (λ found. IfSome found HasDevices) }
+{
     match boot_of(alloc, file_named(name)) {
         Ok(boot) => Ok(Some(boot)),
         Err(BootErr::Check(_)) => Ok(None),
@@ -214,11 +220,11 @@ fn group_of(alloc: Global, cell: &[u8]) -> Result<Option<Vec<Part>>, NoMemory> {
 }
 
 /// A boot with the group of the next cell alone, None where that is misspelled.
-pub fn alone_of(
-    alloc: Global,
-    boot: &Boot,
-    cells: &mut Cells<'_>,
-) -> Result<Option<Boot>, NoMemory> {
+#[tactic(auto, using(crate::proofs::BootsAlone::devices_stay))]
+pub fn alone_of(alloc: Global, boot: &Boot, cells: &mut Cells<'_>) -> Result<Option<Boot>, NoMemory>
+    requires devices { HasDevices boot.now }
+    ensures devices { IfOk result (λ found. IfSome found HasDevices) }
+{
     match group_of(alloc, cells.next())? {
         Some(group) => Ok(Some(boot.alone(alloc, &group)?)),
         None => Ok(None),

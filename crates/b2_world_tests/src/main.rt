@@ -4,6 +4,7 @@
 #![tactic(auto)]
 
 mod boots;
+mod images;
 mod logs;
 mod partitions;
 mod pieces;
@@ -36,6 +37,7 @@ fn called(alloc: Global, call: &str, cells: Cells<'_>) -> Result<String, NoMemor
         "clean" => worlds::cleanness(alloc, cells),
         "alone_world" => worlds::shown_alone(alloc, cells),
         "other_log" => worlds::shown_by_another(alloc, cells),
+        "disks" => worlds::platters_shown(alloc, cells),
         "screen" => screens::fed(alloc, cells),
         _ => Ok(format!(in alloc; "no such call")?),
     }

@@ -5,12 +5,21 @@
 // `alone_world | NAME | PARTITION .. | LINE | ..`: the same as `world` where the world has these partitions alone.
 // `other_log | NAME | NAME | LINE | ..`: the same where the log is read over another boot, so that it may have events that the
 // world's own boot doesn't allow.
+// `disks | NAME | IMAGE | ADDRESS | ..`: what the world of a boot has at these addresses, where each image is the one that is
+// spelled: the sectors of a platter, its index sectors, the first sector after its catalogue, and the next free one. In the
+// other rows each image is that of a blank platter.
+ghost use Rattle.std.specs.Prelude.{◌≡◌, IfOk, length};
+ghost use Rattle.b2_sched.specs.Start.{HasDevices};
+
 use crate::boots::{alone_of, named, no_boot};
+use crate::images::{BLANK, platter_of};
 use crate::logs::{Log, log_over};
 use crate::pieces::show_named;
-use b2_base::{NoMemory, Part, Term};
-use b2_boot::{Boot, Event};
+use b2_base::{Addr, NoMemory, Part, Term};
+use b2_boot::{Boot, BootPlatter, Event};
 use b2_cases::Cells;
+use b2_catalog::limits;
+use b2_platter::Platter;
 use b2_sched::World;
 use std::alloc::Global;
 use std::fmt::Write;
@@ -50,9 +59,30 @@ fn not_clean(alloc: Global, world: &World) -> Result<String, NoMemory> {
     Ok(shown)
 }
 
+/// The platters of a boot, in its order, where all images are the one that is spelled.
+fn platters_of(alloc: Global, rows: &[BootPlatter], image: &[u8]) -> Result<Vec<Platter>, NoMemory>
+    ensures as_many { IfOk result (λ platters. length rows.now ≡ length platters.items) }
+{
+    let mut platters = Vec::new(alloc);
+    for row in rows {
+        platters.push(platter_of(alloc, row, image)?)?;
+    }
+    Ok(platters)
+}
+
+/// The world of a boot as it starts, where all images are the one that is spelled.
+fn booted(alloc: Global, boot: &Boot, image: &[u8]) -> Result<World, NoMemory>
+    requires devices { HasDevices boot.now }
+{
+    let platters = platters_of(alloc, &boot.platters, image)?;
+    World::boot(alloc, boot, platters)
+}
+
 /// What happens event by event in the world of a boot.
-fn after_events(alloc: Global, boot: &Boot, events: &[Event]) -> Result<World, NoMemory> {
-    let mut world = World::boot(alloc, boot)?;
+fn after_events(alloc: Global, boot: &Boot, events: &[Event]) -> Result<World, NoMemory>
+    requires devices { HasDevices boot.now }
+{
+    let mut world = booted(alloc, boot, BLANK)?;
     for event in events {
         world.event(event)?;
     }
@@ -60,8 +90,10 @@ fn after_events(alloc: Global, boot: &Boot, events: &[Event]) -> Result<World, N
 }
 
 /// The world of a boot after the run of a log.
-fn after_run(alloc: Global, boot: &Boot, events: &[Event]) -> Result<World, NoMemory> {
-    let mut world = World::boot(alloc, boot)?;
+fn after_run(alloc: Global, boot: &Boot, events: &[Event]) -> Result<World, NoMemory>
+    requires devices { HasDevices boot.now }
+{
+    let mut world = booted(alloc, boot, BLANK)?;
     world.run(events)?;
     Ok(world)
 }
@@ -118,4 +150,39 @@ pub fn shown_by_another(alloc: Global, row: Cells<'_>) -> Result<String, NoMemor
         Log::Events(events) => left_of(alloc, &after_events(alloc, &boot, &events)?),
         Log::Refused(said) => Ok(said),
     }
+}
+
+/// Shows a platter of a world, or that there is none.
+fn show_platter(into: &mut String, world: &World, address: Addr) -> Result<(), NoMemory> {
+    let Some(platter) = world.stores().platter(address) else {
+        into.push_str("none")?;
+        return Ok(());
+    };
+    let sectors = platter.sectors();
+    let (index, end, next) = limits(platter);
+    write!(into, "{sectors} sectors {index} {end} {next}")?;
+    Ok(())
+}
+
+/// What the world of a boot has at some addresses.
+pub fn platters_shown(alloc: Global, row: Cells<'_>) -> Result<String, NoMemory> {
+    let mut cells = row;
+    let Some(boot) = named(alloc, cells.next())? else {
+        return no_boot(alloc);
+    };
+    let world = booted(alloc, &boot, cells.next())?;
+    let mut shown = String::new(alloc);
+    for place in 0..u64::MAX {
+        if cells.is_empty() {
+            break;
+        }
+        if place > 0 {
+            shown.push_str(", ")?;
+        }
+        match Addr::of(cells.next()) {
+            Some(address) => show_platter(&mut shown, &world, address)?,
+            None => shown.push_str("no address")?,
+        }
+    }
+    Ok(shown)
 }
