@@ -5,6 +5,8 @@
 //
 // `partition | NUMBER | TERMINAL | AREA | FLAG | ..`: a partition as it starts, and its flags then and after each that is asked for,
 // `halt` or `reset`.
+//
+// `disk | NUMBER | ADDRESS`: the disk of a partition that starts on this one, and the one that it is given back at a CLEAR.
 ghost use Rattle.std.specs.Prelude.{◌≡◌, true};
 ghost use Rattle.b2_base.specs.Names.{is_address};
 
@@ -151,5 +153,28 @@ pub fn at_start(alloc: Global, row: Cells<'_>) -> Result<String, NoMemory> {
         ask(&mut me, cells.next());
         show_flags(&mut shown, &me)?;
     }
+    Ok(shown)
+}
+
+/// Shows a disk, where there is one.
+fn show_disk(into: &mut String, name: &str, disk: Option<Addr>) -> Result<(), NoMemory> {
+    into.push_str(name)?;
+    match disk {
+        Some(address) => into.push_str(str_of(&address.bytes()))?,
+        None => into.push_str("none")?,
+    }
+    Ok(())
+}
+
+/// The disks of a partition as it starts.
+pub fn disks_at_start(alloc: Global, row: Cells<'_>) -> Result<String, NoMemory> {
+    let mut cells = row;
+    let Some(part) = Part::of(small_of(cells.next())) else {
+        return Ok(format!(in alloc; "no such partition")?);
+    };
+    let me = Private::new(alloc, part, Term::known(1), 0, Addr::of(cells.next()))?;
+    let mut shown = String::new(alloc);
+    show_disk(&mut shown, "disk ", me.disk)?;
+    show_disk(&mut shown, ", at first ", me.boot_disk)?;
     Ok(shown)
 }

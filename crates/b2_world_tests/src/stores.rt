@@ -3,22 +3,27 @@
 //
 // `store | CALL | ..`: what the calls answer one after another. Accesses begin with the number of the partition that asks: `1 show
 // TERMINAL BYTES`, `1 read TERMINAL`, `1 insert TERMINAL BYTES`, `1 key TERMINAL`, `1 put LINE SOURCE`, `1 take LINE`, `1 erase FROM
-// TO`, `1 clear`, `1 limits ADDRESS [NAME]`, `1 list ADDRESS`, `1 scratch ADDRESS NAME`, `1 format ADDRESS SECTORS END`. Others are `press TERMINAL BYTES` and `special TERMINAL N` for keys, `front TERMINAL PARTITION`, `shown TERMINAL`
-// for its transcript, `lend PARTITION HOME` for the first lines of both texts and whether `@` variables are found, for the
-// partitions 1 and 2, and `clean` for the partitions that are not.
-ghost use Rattle.std.specs.Prelude.{◌≡◌, OnOk, IfOk, IfSome, IsSome};
+// TO`, `1 clear`, `1 limits ADDRESS [NAME]`, `1 list ADDRESS`, `1 scratch ADDRESS NAME`, `1 format ADDRESS SECTORS END`. Others are
+// `press TERMINAL BYTES` and `special TERMINAL N` for keys, `front TERMINAL PARTITION`, `shown TERMINAL` for its transcript,
+// `platter ADDRESS PLACE COUNT` for the sectors of a platter and bytes of it in hexadecimal digits, `lend PARTITION HOME` for the
+// first lines of both texts and whether `@` variables are found, for the partitions 1 and 2, and `clean` for the partitions that
+// are not. `at once 1 limits ..` and the like are accesses over the store without its watch, which want no memory.
+// `image | IMAGE | CALL | ..`: the same, where D20 has the image that is spelled.
+ghost use Rattle.std.specs.Prelude.{◌≡◌, OnOk, IfOk, IfErr, IfSome, IsSome};
 ghost use Rattle.b2_access.specs.Store.{content};
 ghost use Rattle.b2_access.specs.Touching.{IsLegal};
 ghost use Rattle.b2_store.specs.Meaning.{store_of};
 ghost use Rattle.b2_world_tests.specs.Texts.{HasTexts, KeepsTexts};
 
+use crate::images::platter_spelled;
 use crate::pieces::{show_named, word};
 use b2_access::{Access, Answer, At, Object, Shared};
 use b2_atom::Atoms;
 use b2_audit::{Seen, Watched};
+use b2_base::lexical::{first_bytes, rest_after};
 use b2_base::{Addr, ByteList, Name8, NoMemory, Part, Term};
-use b2_cases::shown::{show_code, show_truth};
-use b2_cases::{Cells, bytes_of, number_of, small_of, str_of};
+use b2_cases::shown::{show_code, show_hex, show_truth};
+use b2_cases::{Cells, bytes_of, number_of, small_of, str_of, whole_of};
 use b2_catalog::enter;
 use b2_platter::Platter;
 use b2_store::{StoreBoot, Stores};
@@ -36,8 +41,8 @@ fn with_file(alloc: Global) -> Result<Platter, NoMemory> {
     Ok(platter)
 }
 
-/// The store as it starts.
-fn four_partitions(alloc: Global) -> Result<Stores, NoMemory>
+/// The store as it starts, with a platter at D20.
+fn four_partitions(alloc: Global, platter: Platter) -> Result<Stores, NoMemory>
     ensures texts { IfOk result (λ s. HasTexts (store_of s)) }
 {
     let mut partitions = Vec::new(alloc);
@@ -54,7 +59,7 @@ fn four_partitions(alloc: Global) -> Result<Stores, NoMemory>
     addresses.push(Addr::of(b"D10").unwrap())?;
     platters.push(Platter::blank(alloc, 64)?)?;
     addresses.push(Addr::of(b"D20").unwrap())?;
-    platters.push(with_file(alloc)?)?;
+    platters.push(platter)?;
     let start = StoreBoot {
         partitions,
         terminals,
@@ -130,8 +135,8 @@ fn at_disk(kind: &str, rest: &[u8]) -> Option<Access>
         }),
         _ => Some(Access::Format {
             addr,
-            index: u32::from(number_of(first)),
-            end: u32::from(number_of(second)),
+            index: whole_of(first),
+            end: whole_of(second),
         }),
     }
 }
@@ -183,6 +188,7 @@ fn asked<S: Shared>(stores: &mut S, who: Part, access: &Access) -> Result<Answer
     requires legal { IsLegal access.now }
     ensures same { S.holds stores.new ≡ S.holds stores.old }
     ensures kept { OnOk result (KeepsTexts (S.store (S.meaning stores.old)) (S.store (S.meaning stores.new))) }
+    ensures memory { IfErr result (λ _. S.wants access.now) }
 {
     stores.serve(who, access)
 }
@@ -375,6 +381,68 @@ fn lend_spelled(
     }
 }
 
+/// The answer to an access that wants no memory, and so is never refused for want of it; None where it is another.
+fn answered_at_once(stores: &mut Stores, who: Part, access: &Access) -> Option<Answer>
+    requires legal { IsLegal access.now }
+    ensures kept { KeepsTexts (store_of stores.old) (store_of stores.new) }
+{
+    match access {
+        Access::Key { .. }
+        | Access::Limits { .. }
+        | Access::Scratch { .. }
+        | Access::Format { .. } => {
+            match asked(stores, who, access) {
+                Ok(answer) => Some(answer),
+                Err(NoMemory) => unreachable!(),
+            }
+        }
+        _ => None,
+    }
+}
+
+/// Makes an access at once that is spelled, and shows its answer.
+fn ask_at_once(
+    alloc: Global,
+    stores: &mut Stores,
+    spelled: &[u8],
+    into: &mut String,
+) -> Result<(), NoMemory>
+    ensures kept { OnOk result (KeepsTexts (store_of stores.old) (store_of stores.new)) }
+{
+    let (_, numbered) = word(spelled);
+    let (number, rest) = word(numbered);
+    let Some(who) = Part::of(small_of(number)) else {
+        return no_call(into);
+    };
+    let Some(access) = access_of(alloc, rest)? else {
+        return no_call(into);
+    };
+    match answered_at_once(stores, who, &access) {
+        Some(answer) => show_answer(into, &answer),
+        None => no_call(into),
+    }
+}
+
+/// Shows how many sectors the platter of an address has, and some of its bytes; or that there is none.
+fn show_platter(stores: &Stores, spelled: &[u8], into: &mut String) -> Result<(), NoMemory> {
+    let (address, numbers) = word(spelled);
+    let (place, count) = word(numbers);
+    let Some(address) = Addr::of(address) else {
+        return no_call(into);
+    };
+    let Some(platter) = stores.platter(address) else {
+        into.push_str("no platter")?;
+        return Ok(());
+    };
+    let sectors = platter.sectors();
+    write!(into, "{sectors} sectors ")?;
+    let from = rest_after(platter.image(), whole_of(place) as usize);
+    for byte in first_bytes(from, whole_of(count) as usize) {
+        show_hex(into, *byte)?;
+    }
+    Ok(())
+}
+
 /// Shows the partitions that are not clean.
 fn show_clean(seen: &Seen, into: &mut String) -> Result<(), NoMemory> {
     into.push_str("not clean")?;
@@ -403,15 +471,19 @@ fn answer(
         "press" | "special" | "front" | "shown" => at_keyboard(alloc, stores, call, rest, into),
         "lend" => lend_spelled(stores, seen, rest, into),
         "clean" => show_clean(seen, into),
+        "platter" => show_platter(stores, rest, into),
+        "at" => ask_at_once(alloc, stores, rest, into),
         _ => ask_spelled(alloc, stores, seen, first, rest, into),
     }
 }
 
-/// What the calls in the cells answer.
+/// What the calls in the cells answer, over a store.
 #[tactic(auto, using(crate::proofs::TextsKept::texts_kept))]
-pub fn called(alloc: Global, row: Cells<'_>) -> Result<String, NoMemory> {
+fn answers(alloc: Global, start: Stores, row: Cells<'_>) -> Result<String, NoMemory>
+    requires texts { HasTexts (store_of start) }
+{
     let mut cells = row;
-    let mut stores = four_partitions(alloc)?;
+    let mut stores = start;
     let mut seen = Seen::new(alloc);
     let mut shown = String::new(alloc);
     for place in 0..u64::MAX {
@@ -424,4 +496,19 @@ pub fn called(alloc: Global, row: Cells<'_>) -> Result<String, NoMemory> {
         answer(alloc, &mut stores, &mut seen, cells.next(), &mut shown)?;
     }
     Ok(shown)
+}
+
+/// What the calls in the cells answer.
+pub fn called(alloc: Global, row: Cells<'_>) -> Result<String, NoMemory> {
+    let platter = with_file(alloc)?;
+    answers(alloc, four_partitions(alloc, platter)?, row)
+}
+
+/// What the calls in the cells answer where D20 has an image of its own.
+pub fn called_over_image(alloc: Global, row: Cells<'_>) -> Result<String, NoMemory> {
+    let mut cells = row;
+    match platter_spelled(alloc, cells.next())? {
+        Some(platter) => answers(alloc, four_partitions(alloc, platter)?, cells),
+        None => Ok(format!(in alloc; "no such image")?),
+    }
 }
