@@ -32,7 +32,7 @@ pub use functions::{fixed, whole_between};
 pub use kinds::suits;
 pub use named::{Element, Located, NameKind, variable_of};
 pub use operators::Level;
-pub use passing::{past_name, past_part, past_sum};
+pub use passing::{past_alpha, past_name, past_part, past_sum};
 pub use scope::{Env, Scope};
 pub use value::{alpha, condition, in_statement, number};
 pub use workspace::{Workspace, surroundings_of};

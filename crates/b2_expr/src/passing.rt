@@ -250,7 +250,7 @@ pub fn past_name(kind: NameKind, text: &[u8]) -> &[u8]
 /// Past an alpha expression.
 #[cycle(passing)]
 #[tactic(auto, using(crate::proofs::Texts::text_first, crate::proofs::Texts::text_list, crate::proofs::Texts::text_rest, crate::proofs::Texts::on_operand, crate::proofs::Texts::on_list, crate::proofs::Texts::on_rest, crate::proofs::Texts::on_shorter, crate::proofs::Texts::off_rest, b2_rows::proofs::Levels::part_no_longer))]
-fn past_alpha(text: &[u8]) -> &[u8]
+pub fn past_alpha(text: &[u8]) -> &[u8]
     requires part { is_part row.ALPHA text.now ≡ true }
     ensures { result.now ≡ after_part row.ALPHA text.now }
 {

@@ -1,0 +1,60 @@
+-- Where a statement on disks leads is at no other place, and what it asks for marks no home.
+use Rattle.std.proofs.Common.{ℕ, Bool, List, Option, Some, None}
+use Rattle.b2_atom.specs.Tree.{Trees}
+use Rattle.b2_access.specs.Disks.{FourNumbers}
+use Rattle.b2_access.specs.Homes.{FinishesWithin, OutcomeIn, PlannedIn, PlansWithin}
+use Rattle.b2_access.specs.Lending.{SeenLent}
+use Rattle.b2_access.specs.Planning.{goes_or}
+use Rattle.b2_access.specs.Views.{ChangeCame, DiskChanged, ChangeRefused, ChangeLater, change_came, limits_told, listing_told}
+use Rattle.b2_access.specs.Working.{Worked}
+use Rattle.b2_access.specs.declared.accesses.Access.{Access}
+use Rattle.b2_access.specs.declared.accesses.Answer.{Answer}
+use Rattle.b2_access.specs.declared.devices.Device.{Device}
+use Rattle.b2_access.specs.declared.planned.Outcome.TheVariants as outcome
+use Rattle.b2_access.specs.declared.private.Private.{Private}
+use Rattle.b2_access.proofs.Courses.{each_course}
+use Rattle.b2_access.proofs.OwnDevices.{at_disk_marks_none}
+use Rattle.b2_access.proofs.Working as form
+use Rattle.b2_stmt_disk.specs.Limits.{limits_end}
+use Rattle.b2_stmt_disk.specs.Listing.{listing_ends}
+use Rattle.b2_stmt_disk.specs.Plan.{ends, finish, finishes, is_refused, plan, repeats, works}
+use Rattle.b2_stmt_disk.specs.Scratching.{change_ends}
+use Rattle.b2_stmt_disk.proofs.Planned.{each_ended, each_planned}
+
+module _ (among : ℕ → Bool) where
+  Leads : Worked → Type 0
+  Leads w = OutcomeIn among w.outcome
+
+  code_in : (o : Option ℕ) → OutcomeIn among (goes_or outcome.Next o)
+  code_in None = tt
+  code_in (Some code) = tt
+
+  limits_in : (o : Option FourNumbers) (t : Trees) (me : Private) (s : SeenLent) → Leads (limits_end o t me s)
+  unfolding Leads
+  limits_in None t me s = tt
+  limits_in (Some n) t me s = code_in _
+
+  change_in : (c : ChangeCame) → OutcomeIn among (change_ends c)
+  change_in DiskChanged = tt
+  change_in (ChangeRefused code) = tt
+  change_in ChangeLater = tt
+
+  listing_in : (o : Option (List ℕ)) (me : Private) → Leads (listing_ends o me)
+  unfolding Leads
+  listing_in None me = tt
+  listing_in (Some bytes) me = tt
+
+  place_in : (x : Access) (a : Answer) (me : Private) (s : SeenLent) → Leads (ends x a me s)
+  unfolding Leads
+  place_in x a me s =
+      each_course is_refused (repeats me) (finishes x a me s) me s Leads tt tt
+      (λ p is u. each_ended Leads x a me s (λ t. limits_in (limits_told x a) t me s) (change_in (change_came x a)) (listing_in (listing_told x a) me) tt u)
+
+pub plans_within : (devices : List Device) → PlansWithin (plan devices)
+plans_within devices =
+    form.plans_within (works devices)
+    (λ among me s k. each_planned devices me s (PlannedIn among) tt tt (λ code. tt) (λ addr a listed is. at_disk_marks_none among addr a is))
+
+pub finishes_within : FinishesWithin finish
+unfolding Leads
+finishes_within = form.finishes_within ends (λ among x a me s k. place_in among x a me s)

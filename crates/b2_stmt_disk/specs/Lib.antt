@@ -1,0 +1,8 @@
+pub mod Drives
+pub mod FileNames
+pub mod Receivers
+pub mod Limits
+pub mod Scratching
+pub mod Listing
+pub mod Plan
+pub mod Laws

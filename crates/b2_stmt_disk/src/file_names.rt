@@ -1,0 +1,38 @@
+// The names of files.
+ghost use Rattle.std.specs.Prelude.{◌≡◌, true};
+ghost use Rattle.b2_atom.specs.declared.rows.TheConstants as row;
+ghost use Rattle.b2_rows.specs.Rows.{is_part, tree_at};
+ghost use Rattle.b2_expr.specs.Scope.{surroundings};
+ghost use Rattle.b2_expr.specs.Value.{in_statement};
+ghost use Rattle.b2_stmt_disk.specs.FileNames as spec;
+
+use b2_alpha::value_len;
+use b2_atom::Cursor;
+use b2_base::codes::D87_FILE_NAME;
+use b2_base::lexical::first_bytes;
+use b2_base::{Code, Name8};
+use b2_dec::Bytes;
+use b2_expr::{Env, alpha};
+
+/// The name that bytes are without the blanks at their end, D87 where they aren't one.
+#[tactic(auto, using(crate::proofs::NameRows::value_front))]
+fn file_name(bytes: &[u8]) -> Result<Name8, Code>
+    ensures { result ≡ spec.file_name bytes.now }
+{
+    match Name8::of(first_bytes(bytes, value_len(bytes))) {
+        Some(name) => Ok(name),
+        None => Err(Code::known(D87_FILE_NAME)),
+    }
+}
+
+/// The name of a file at a text.
+pub fn name_at(e: &Env<'_>, text: &[u8]) -> Result<Name8, Code>
+    requires part { is_part row.ALPHA text.now ≡ true }
+    ensures { result ≡ spec.name_given (in_statement (surroundings e.now)) (tree_at row.ALPHA text.now) }
+{
+    let mut bytes = Bytes::new();
+    match alpha(&mut Cursor::over(text), e, &mut bytes) {
+        Ok(()) => file_name(bytes.bytes()),
+        Err(code) => Err(code),
+    }
+}
