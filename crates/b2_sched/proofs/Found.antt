@@ -23,18 +23,21 @@ built_of : (b c : Bool) → (b && not c) ≡ true → b ≡ true
 built_of true c is = refl
 built_of false c is = absurd (true≢false (sym is))
 
-of_first : (a b : Bool) → a ≡ true → (if a then family.Variables else (if b then family.Control else family.Terminal)) ≡ family.Variables
-of_first a b is = ap (λ (x : Bool). if x then family.Variables else (if b then family.Control else family.Terminal)) is
+of_first : (a b : Bool) (others : Family) → a ≡ true → (if a then family.Variables else (if b then family.Control else others)) ≡ family.Variables
+of_first a b others is = ap (λ (x : Bool). if x then family.Variables else (if b then family.Control else others)) is
 
-of_second : (a b c : Bool) → a ≡ false → (a || (b && not c)) ≡ true → (if a then family.Variables else (if b then family.Control else family.Terminal)) ≡ family.Control
-of_second true b c other is = cc
-of_second false b c other is = ap (λ (x : Bool). if x then family.Control else family.Terminal) (built_of b c is)
+of_second : (a b c : Bool) (others : Family) → a ≡ false → (a || (b && not c)) ≡ true → (if a then family.Variables else (if b then family.Control else others)) ≡ family.Control
+of_second true b c others other is = cc
+of_second false b c others other is = ap (λ (x : Bool). if x then family.Control else others) (built_of b c is)
+
+abbrev others_of : ℕ → Family
+others_of r = if stmt_io.is_built r then family.Terminal else family.Disks
 
 variables : (r : ℕ) → stmt_var.is_built r ≡ true → family_of r ≡ family.Variables
-variables r is = of_first (stmt_var.is_built r) (stmt.is_built r) is
+variables r is = of_first (stmt_var.is_built r) (stmt.is_built r) (others_of r) is
 
 control : (r : ℕ) → stmt_var.is_built r ≡ false → is_at_once r ≡ true → family_of r ≡ family.Control
-control r other is = of_second (stmt_var.is_built r) (stmt.is_built r) (asks_access r) other is
+control r other is = of_second (stmt_var.is_built r) (stmt.is_built r) (asks_access r) (others_of r) other is
 
 -- where the line and the unit of a place were found
 unit_here : (p : Place) (me : Private) (s : SeenLent) (line : List ℕ) (u : Statement) → line_named me.immediate s.home.lines p.line ≡ Some line → Some u ≡ statement_on (Some line) p.unit

@@ -9,13 +9,14 @@ use Rattle.b2_access.specs.declared.private.Private.{Private}
 use Rattle.b2_language.specs.Languages.{Ways}
 use Rattle.b2_stmt.specs.Clearing.{asks_access}
 use Rattle.b2_stmt.specs.Plan as stmt
+use Rattle.b2_stmt_disk.specs.Plan as stmt_disk
 use Rattle.b2_stmt_io.specs.Plan as stmt_io
 use Rattle.b2_stmt_var.specs.Plan as stmt_var
 use Rattle.b2_sched.specs.declared.choice.Family.{Family}
 use Rattle.b2_sched.specs.declared.choice.Family.TheVariants as family
 
 abbrev pub is_built : ℕ → Bool
-is_built r = stmt_var.is_built r || stmt.is_built r || stmt_io.is_built r
+is_built r = stmt_var.is_built r || stmt.is_built r || stmt_io.is_built r || stmt_disk.is_built r
 
 -- a statement on variables, and one of control that asks for nothing, is planned at once where it was found
 abbrev pub is_at_once : ℕ → Bool
@@ -23,17 +24,23 @@ is_at_once r = stmt_var.is_built r || (stmt.is_built r && not (asks_access r))
 
 -- the family of a row that is built
 abbrev pub family_of : ℕ → Family
-family_of r = if stmt_var.is_built r then family.Variables else (if stmt.is_built r then family.Control else family.Terminal)
+family_of r =
+    if stmt_var.is_built r then family.Variables
+    else (if stmt.is_built r then family.Control
+    else (if stmt_io.is_built r then family.Terminal
+    else family.Disks))
 
 abbrev pub plan_by : List Device → Family → Private → SeenLent → Planning
 plan_by devices family.Variables me s = stmt_var.plan me s
 plan_by devices family.Control me s = stmt.plan me s
 plan_by devices family.Terminal me s = stmt_io.plan me s
+plan_by devices family.Disks me s = stmt_disk.plan devices me s
 
 abbrev pub finish_by : Family → Access → Answer → Private → SeenLent → Finishing
 finish_by family.Variables x a me s = stmt_var.finish x a me s
 finish_by family.Control x a me s = stmt.finish x a me s
 finish_by family.Terminal x a me s = stmt_io.finish x a me s
+finish_by family.Disks x a me s = stmt_disk.finish x a me s
 
 abbrev pub plan : List Device → ℕ → Private → SeenLent → Planning
 plan devices r me s = plan_by devices (family_of r) me s

@@ -6,12 +6,14 @@ use Rattle.b2_language.specs.Languages.{AreLawful, PlansLegally}
 use Rattle.b2_stmt.specs.Clearing.{asks_access}
 use Rattle.b2_stmt.specs.Plan as stmt
 use Rattle.b2_stmt.proofs.LeftAlone as stmt_laws
+use Rattle.b2_stmt_disk.specs.Plan as stmt_disk
+use Rattle.b2_stmt_disk.proofs.LeftAlone as stmt_disk_laws
 use Rattle.b2_stmt_io.specs.Plan as stmt_io
 use Rattle.b2_stmt_io.proofs.LeftAlone as stmt_io_laws
 use Rattle.b2_stmt_var.specs.Plan as stmt_var
 use Rattle.b2_stmt_var.proofs.LeftAlone as stmt_var_laws
 use Rattle.b2_sched.specs.Choice.{basic, family_of, finish_by, is_at_once, is_built, plan_by}
-use Rattle.b2_sched.specs.Legal.{control_legally, terminal_legally, variables_legally}
+use Rattle.b2_sched.specs.Legal.{control_legally, disks_legally, terminal_legally, variables_legally}
 use Rattle.b2_sched.specs.declared.choice.Family.{Family}
 use Rattle.b2_sched.specs.declared.choice.Family.TheVariants as family
 
@@ -19,19 +21,21 @@ plan_legally : (devices : List Device) (f : Family) → PlansLegally (plan_by de
 plan_legally devices family.Variables = variables_legally
 plan_legally devices family.Control = control_legally
 plan_legally devices family.Terminal = terminal_legally
+plan_legally devices family.Disks = disks_legally devices
 
 leave_the_rest : (devices : List Device) (f : Family) → LeaveTheRest (plan_by devices f) (finish_by f)
 leave_the_rest devices family.Variables = stmt_var_laws.leave_the_rest
 leave_the_rest devices family.Control = stmt_laws.leave_the_rest
 leave_the_rest devices family.Terminal = stmt_io_laws.leave_the_rest
+leave_the_rest devices family.Disks = stmt_disk_laws.leave_the_rest devices
 
 pub basic_is_lawful : (devices : List Device) → AreLawful (basic devices)
 basic_is_lawful devices = record { no_list = refl; plans_legally = λ r. plan_legally devices (family_of r); leave_the_rest = λ r. leave_the_rest devices (family_of r) }
 
-built_by : (a b c d : Bool) → (a || (b && not c)) ≡ true → (a || b || d) ≡ true
-built_by true b c d is = refl
-built_by false true c d is = refl
-built_by false false c d is = absurd (true≢false (sym is))
+built_by : (a b c d e : Bool) → (a || (b && not c)) ≡ true → (a || b || d || e) ≡ true
+built_by true b c d e is = refl
+built_by false true c d e is = refl
+built_by false false c d e is = absurd (true≢false (sym is))
 
 pub at_once_is_built : (devices : List Device) (r : ℕ) → is_at_once r ≡ true → is_built r ≡ true
-at_once_is_built devices r is = built_by (stmt_var.is_built r) (stmt.is_built r) (asks_access r) (stmt_io.is_built r) is
+at_once_is_built devices r is = built_by (stmt_var.is_built r) (stmt.is_built r) (asks_access r) (stmt_io.is_built r) (stmt_disk.is_built r) is

@@ -19,7 +19,10 @@ impl Language for Basic {
     ghost at_once = { is_at_once };
 
     fn is_built(row: u16) -> bool {
-        b2_stmt_var::is_built(row) || b2_stmt::is_built(row) || b2_stmt_io::is_built(row)
+        b2_stmt_var::is_built(row)
+            || b2_stmt::is_built(row)
+            || b2_stmt_io::is_built(row)
+            || b2_stmt_disk::is_built(row)
     }
 
     fn plan(
@@ -33,6 +36,7 @@ impl Language for Basic {
             Family::Variables => b2_stmt_var::plan(alloc, me, lent, devices),
             Family::Control => b2_stmt::plan(alloc, me, lent, devices),
             Family::Terminal => b2_stmt_io::plan(alloc, me, lent, devices),
+            Family::Disks => b2_stmt_disk::plan(alloc, me, lent, devices),
         }
     }
 
@@ -48,6 +52,7 @@ impl Language for Basic {
             Family::Variables => b2_stmt_var::finish(alloc, me, lent, access, answer),
             Family::Control => b2_stmt::finish(alloc, me, lent, access, answer),
             Family::Terminal => b2_stmt_io::finish(alloc, me, lent, access, answer),
+            Family::Disks => b2_stmt_disk::finish(alloc, me, lent, access, answer),
         }
     }
 
@@ -78,6 +83,7 @@ impl Language for Basic {
             Family::Variables => b2_stmt_var::plan(alloc, me, lent, devices),
             Family::Control => b2_stmt::plan(alloc, me, lent, devices),
             Family::Terminal => b2_stmt_io::plan_found(alloc, me, lent.home, found.unit),
+            Family::Disks => b2_stmt_disk::plan(alloc, me, lent, devices),
         }
     }
 

@@ -11,6 +11,8 @@ pub enum Family {
     Control,
     /// Statements at the terminal.
     Terminal,
+    /// Statements on disks.
+    Disks,
 }
 
 /// The family of a row that is built.
@@ -21,7 +23,9 @@ pub fn family_of(row: u16) -> Family
         Family::Variables
     } else if b2_stmt::is_built(row) {
         Family::Control
-    } else {
+    } else if b2_stmt_io::is_built(row) {
         Family::Terminal
+    } else {
+        Family::Disks
     }
 }
