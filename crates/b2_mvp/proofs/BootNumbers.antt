@@ -1,10 +1,10 @@
 -- The partitions of a boot file have numbers from 1 to 16 and terminals from 1 to 12.
-use Rattle.std.proofs.Common.{◌≡◌, ℕ, ◌≤◌, nat_le, Bool, true, false, List, [], ◌∷◌, map, cond, Option, Some, None, Ok, refl, sym, subst}
+use Rattle.std.proofs.Common.{◌≡◌, ℕ, ◌≤◌, nat_le, Bool, true, false, ◌&&◌, List, [], ◌∷◌, map, cond, Option, Some, None, Ok, refl, sym, subst}
 use Rattle.std.specs.Prelude.{filter}
 use Rattle.std.specs.List.{list_all}
 use Rattle.std.proofs.lemmas.Bool.{and_parts, leb-true}
 use Rattle.b2_boot.specs.Alone.{is_in_group}
-use Rattle.b2_boot.specs.Boots.{BootState, boot_of, boot_by_document, boot_by_rows, boot_from, ascending, check_of_rows, unless_failed, has_its_places, partition_of}
+use Rattle.b2_boot.specs.Boots.{BootState, boot_of, boot_by_document, boot_by_rows, boot_from, check_of_rows, partitions_by_number, terminals_by_number, unless_failed, has_its_places, may_be_address, partition_of}
 use Rattle.b2_boot.specs.Rows.{RowsState, document_of, document_rows, is_between}
 use Rattle.b2_boot.specs.declared.boot.BootPartition.{BootPartition}
 use Rattle.b2_boot.specs.declared.rows.PartitionRow.{PartitionRow}
@@ -19,13 +19,15 @@ rows_numbered : (ps : List PartitionRow) → list_all has_its_places ps ≡ true
 rows_numbered [] h = tt
 rows_numbered (p ∷ ps) h =
     let both = and_parts (has_its_places p) (list_all has_its_places ps) h in
-    let here = and_parts (is_between 1 16 p.number) (is_between 1 12 p.terminal) both.0 in
-    (within 16 p.number here.0, within 12 p.terminal here.1, rows_numbered ps both.1)
+    let here = and_parts (is_between 1 16 p.number) (is_between 1 12 p.terminal && may_be_address p.disk) both.0 in
+    let there = and_parts (is_between 1 12 p.terminal) (may_be_address p.disk) here.1 in
+    (within 16 p.number here.0, within 12 p.terminal there.0, rows_numbered ps both.1)
 
-by_check : (rows : RowsState) (b : BootState) (check : Option ℕ) → check_of_rows rows ≡ check → unless_failed check (boot_from (ascending rows)) ≡ Ok b → AreNumbered b.partitions
+by_check : (rows : RowsState) (b : BootState) (check : Option ℕ) → check_of_rows rows ≡ check → unless_failed check (boot_from rows) ≡ Ok b → AreNumbered b.partitions
 by_check rows b None is e =
-    let same : boot_from (ascending rows) ≡ b = cc in
-    subst (λ (x : BootState). AreNumbered x.partitions) same (rows_numbered (ascending rows).partitions (partitions_have_places rows (passed rows (ascending rows) (sym is))))
+    let same : boot_from rows ≡ b = cc in
+    let passes = passed rows (terminals_by_number rows.terminals) (partitions_by_number rows.partitions) (sym is) in
+    subst (λ (x : BootState). AreNumbered x.partitions) same (rows_numbered (partitions_by_number rows.partitions) (partitions_have_places rows passes.1))
 by_check rows b (Some n) is e = absurd cc
 
 by_rows : (rows : Option RowsState) (b : BootState) → boot_by_rows rows ≡ Ok b → AreNumbered b.partitions

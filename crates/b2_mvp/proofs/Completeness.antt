@@ -1,5 +1,5 @@
 -- The causes give the whole answer where the files are told and nothing fails.
-use Rattle.std.proofs.Common.{◌≡◌, ℕ, ◌≤◌, length, ◌<◌, nat_le, Bool, true, false, if◌then◌else◌, List, Option, Some, None, Result, Ok, Err, refl, sym, ap, subst, ◌∙◌, arith, inl, inr}
+use Rattle.std.proofs.Common.{◌≡◌, ℕ, ◌≤◌, length, ◌<◌, nat_le, Bool, true, false, if◌then◌else◌, List, [], ◌∷◌, ◌++◌, Option, Some, None, Result, Ok, Err, refl, sym, ap, subst, ◌∙◌, arith, inl, inr}
 use Rattle.std.specs.Option.{IfSome, IsSomeAnd}
 use Rattle.std.specs.FinMap.{get}
 use Rattle.std.proofs.lemmas.Bool.Decides.{nat_tests}
@@ -9,11 +9,16 @@ use Rattle.b2_base.specs.Seen.{ShelfSeen, SinkSeen}
 use Rattle.b2_boot.specs.Boots.{BootState, boot_of}
 use Rattle.b2_boot.specs.Logs.{LogRead, log_of}
 use Rattle.b2_boot.specs.Logs.LogRead.{Events, Refused}
-use Rattle.b2_mvp.specs.Inputs.{boot_limit, log_limit, HasBoot, IsLonger}
-use Rattle.b2_mvp.specs.Top.{command_of, Input, name_of, limit_of, IsReached, Comes}
-use Rattle.b2_mvp.specs.Top.Input.{TheBoot, TheLog}
-use Rattle.b2_mvp.specs.Complete.{Expected, expected, by_command, by_boot_file, by_boot, by_log_file, by_log, Answers, IsComplete}
-use Rattle.b2_mvp.specs.Complete.Expected.{NoCommand, IsMissing, IsLong, FailsBootCheck, FailsLogCheck, Ends}
+use Rattle.b2_boot.specs.declared.boot.BootPlatter.{BootPlatter}
+use Rattle.b2_boot.specs.declared.log.Event.{Event}
+use Rattle.b2_platter.specs.Checks.{first_check}
+use Rattle.b2_platter.specs.declared.layout.Layout.TheVariants.{Narrow}
+use Rattle.b2_sched.specs.Start.{Images}
+use Rattle.b2_mvp.specs.Inputs.{boot_limit, log_limit, image_limit, HasBoot, HasSource, HaveImages, FailsImage, IsLonger}
+use Rattle.b2_mvp.specs.Top.{command_of, Input, HasInputs, Runs, name_of, limit_of, IsReached, Comes}
+use Rattle.b2_mvp.specs.Top.Input.{TheBoot, TheLog, TheImage}
+use Rattle.b2_mvp.specs.Complete.{Expected, expected, by_command, by_boot_file, by_boot, by_log_file, by_log, by_images, by_platters, by_platter, by_source, by_image_file, by_check, one_more, Answers, IsComplete}
+use Rattle.b2_mvp.specs.Complete.Expected.{IsMissing, IsLong, FailsImageCheck}
 use Rattle.b2_mvp.specs.declared.status.Status.{Status}
 use Rattle.b2_mvp.specs.declared.status.Status.TheVariants as status
 use Rattle.b2_mvp.specs.declared.top.Command.{Command}
@@ -29,8 +34,8 @@ above_limit A size limit x y h = let e : nat_le size limit ≡ false = grind (ar
 by_boot_within : (m : Files) (c : Command) (bytes : List ℕ) → length bytes ≤ boot_limit → by_boot_file m c (Some bytes) ≡ by_boot m c (boot_of bytes)
 by_boot_within m c bytes h = within_limit Expected (length bytes) boot_limit _ _ h
 
-by_log_within : (c : Command) (boot : BootState) (bytes : List ℕ) → length bytes ≤ log_limit → by_log_file c boot (Some bytes) ≡ by_log c boot (log_of boot bytes)
-by_log_within c boot bytes h = within_limit Expected (length bytes) log_limit _ _ h
+by_log_within : (m : Files) (c : Command) (boot : BootState) (bytes : List ℕ) → length bytes ≤ log_limit → by_log_file m c boot (Some bytes) ≡ by_log m c boot (log_of boot bytes)
+by_log_within m c boot bytes h = within_limit Expected (length bytes) log_limit _ _ h
 
 -- where the words are a command, and the boot file says this
 expected_boot : (words : List (List ℕ)) (m : Files) (c : Command) (bytes : List ℕ) (r : Result BootState ℕ) → command_of words ≡ Some c
@@ -40,23 +45,64 @@ expected_boot words m c bytes r is h says =
 
 -- and the log says this
 expected_log : (words : List (List ℕ)) (m : Files) (c : Command) (boot : BootState) (bytes : List ℕ) (r : LogRead) → command_of words ≡ Some c
-    → HasBoot c.boot (Some m) boot → IsFetched (Some m) c.log log_limit bytes → log_of boot bytes ≡ r → expected words m ≡ by_log c boot r
+    → HasBoot c.boot (Some m) boot → IsFetched (Some m) c.log log_limit bytes → log_of boot bytes ≡ r → expected words m ≡ by_log m c boot r
 expected_log words m c boot bytes r is has h says =
-    expected_boot words m c has.bytes (Ok boot) is has.fetched has.passes ∙ ap (by_log_file c boot) h.told ∙ by_log_within c boot bytes h.within ∙ ap (by_log c boot) says
+    expected_boot words m c has.bytes (Ok boot) is has.fetched has.passes ∙ ap (by_log_file m c boot) h.told ∙ by_log_within m c boot bytes h.within ∙ ap (by_log m c boot) says
+
+-- and both pass
+expected_events : (words : List (List ℕ)) (m : Files) (c : Command) (inputs : HasInputs c (Some m)) → command_of words ≡ Some c
+    → expected words m ≡ by_images c inputs.boot inputs.events (by_platters m inputs.boot.platters)
+expected_events words m c inputs is = expected_log words m c inputs.boot inputs.has_log.bytes (Events inputs.events) is inputs.has_boot inputs.has_log.fetched inputs.has_log.passes
+
+-- an image that is there
+source_there : (m : Files) (address : List ℕ) (image : Option (List ℕ)) (blank : Option ℕ) (bytes : List ℕ) → HasSource image blank (Some m) bytes → by_source m address image blank ≡ Ok bytes
+source_there m address (Some name) blank bytes h =
+    ap (by_image_file address name) h.fetched.told ∙ within_limit (Result (List ℕ) Expected) (length bytes) image_limit _ _ h.fetched.within ∙ ap (by_check address bytes) h.good
+source_there m address None (Some sectors) bytes h = ap Ok (sym h)
+source_there m address None None bytes h = absurd h
+
+images_there : (m : Files) (ps : List BootPlatter) (images : Images) → HaveImages (Some m) ps images → by_platters m ps ≡ Ok images
+images_there m [] [] h = refl
+images_there m [] (image ∷ images) h = absurd h
+images_there m (p ∷ ps) [] h = absurd h
+images_there m (p ∷ ps) (image ∷ images) h = λ i. one_more (source_there m p.address p.image p.blank image h.0 i) (images_there m ps images h.1 i)
+
+-- some images, and what comes of those that follow
+abbrev prepend : Images → Result Images Expected → Result Images Expected
+prepend [] r = r
+prepend (image ∷ images) r = one_more (Ok image) (prepend images r)
+
+images_then : (m : Files) (before : List BootPlatter) (images : Images) (p : BootPlatter) (after : List BootPlatter) → HaveImages (Some m) before images
+    → by_platters m (before ++ p ∷ after) ≡ prepend images (one_more (by_platter m p) (by_platters m after))
+images_then m [] [] p after h = refl
+images_then m [] (image ∷ images) p after h = absurd h
+images_then m (q ∷ before) [] p after h = absurd h
+images_then m (q ∷ before) (image ∷ images) p after h = λ i. one_more (source_there m q.address q.image q.blank image h.0 i) (images_then m before images p after h.1 i)
+
+prepend_refused : (images : Images) (e : Expected) → prepend images (Err e) ≡ Err e
+prepend_refused [] e = refl
+prepend_refused (image ∷ images) e = ap (one_more (Ok image)) (prepend_refused images e)
 
 -- an input that is reached, by the file of its name
 abbrev by_input : (m : Files) (c : Command) (input : Input) → IsReached c (Some m) input → Option (List ℕ) → Expected
 by_input m c TheBoot r file = by_boot_file m c file
-by_input m c TheLog r file = by_log_file c r.0 file
+by_input m c TheLog r file = by_log_file m c r.0 file
+by_input m c (TheImage p name) r file = by_images c r.0.boot r.0.events (prepend r.1.images (one_more (by_image_file p.address name file) (by_platters m r.1.after)))
 
 expected_input : (words : List (List ℕ)) (m : Files) (c : Command) (input : Input) (r : IsReached c (Some m) input) → command_of words ≡ Some c
     → expected words m ≡ by_input m c input r (get m (name_of c input))
 expected_input words m c TheBoot r is = ap (by_command m) is
 expected_input words m c TheLog r is = expected_boot words m c r.1.bytes (Ok r.0) is r.1.fetched r.1.passes
+expected_input words m c (TheImage p name) r is =
+    expected_events words m c r.0 is
+    ∙ ap (by_images c r.0.boot r.0.events)
+    (ap (by_platters m) r.1.in_order ∙ images_then m r.1.before r.1.images p r.1.after r.1.have_images
+    ∙ ap (λ source. prepend r.1.images (one_more (by_source m p.address source p.blank) (by_platters m r.1.after))) r.1.named)
 
 missing_input : (m : Files) (c : Command) (input : Input) (r : IsReached c (Some m) input) → by_input m c input r None ≡ IsMissing (name_of c input)
 missing_input m c TheBoot r = refl
 missing_input m c TheLog r = refl
+missing_input m c (TheImage p name) r = ap (by_images c r.0.boot r.0.events) (prepend_refused r.1.images (IsMissing name))
 
 long_input : (m : Files) (c : Command) (input : Input) (r : IsReached c (Some m) input) (file : Option (List ℕ)) → IsSomeAnd file (λ f. limit_of input < length f)
     → by_input m c input r file ≡ IsLong (name_of c input) (limit_of input)
@@ -64,41 +110,88 @@ long_input m c TheBoot r None h = absurd h
 long_input m c TheBoot r (Some bytes) h = above_limit Expected (length bytes) boot_limit _ _ h
 long_input m c TheLog r None h = absurd h
 long_input m c TheLog r (Some bytes) h = above_limit Expected (length bytes) log_limit _ _ h
+long_input m c (TheImage p name) r None h = absurd h
+long_input m c (TheImage p name) r (Some bytes) h =
+    ap (λ (image : Result (List ℕ) Expected). by_images c r.0.boot r.0.events (prepend r.1.images (one_more image (by_platters m r.1.after))))
+    (above_limit (Result (List ℕ) Expected) (length bytes) image_limit _ _ h)
+    ∙ ap (by_images c r.0.boot r.0.events) (prepend_refused r.1.images (IsLong name image_limit))
+
+-- an image that isn't good
+expected_bad : (words : List (List ℕ)) (m : Files) (c : Command) (inputs : HasInputs c (Some m)) (address : List ℕ) (check : ℕ) → command_of words ≡ Some c
+    → FailsImage inputs.boot.platters (Some m) address check → expected words m ≡ FailsImageCheck address check
+expected_bad words m c inputs address check is h =
+    let r : IsReached c (Some m) (TheImage h.platter h.name) = (inputs, h.next) in
+    let bytes = h.fails.bytes in
+    expected_input words m c (TheImage h.platter h.name) r is
+    ∙ ap (by_input m c (TheImage h.platter h.name) r) h.fails.fetched.told
+    ∙ ap (λ (image : Result (List ℕ) Expected). by_images c inputs.boot inputs.events (prepend h.next.images (one_more image (by_platters m h.next.after))))
+    (within_limit (Result (List ℕ) Expected) (length bytes) image_limit _ _ h.fails.fetched.within ∙ ap (by_check h.platter.address bytes) h.fails.fails)
+    ∙ ap (by_images c inputs.boot inputs.events) (prepend_refused h.next.images (FailsImageCheck h.platter.address check))
+    ∙ ap (λ (a : List ℕ). FailsImageCheck a check) h.is_at
+
+-- a run to its end
+expected_run : (words : List (List ℕ)) (m : Files) (r : Runs words (Some m)) → expected words m ≡ by_images r.command r.inputs.boot r.inputs.events (Ok r.images)
+expected_run words m r =
+    expected_events words m r.command r.inputs r.is_command ∙ ap (by_images r.command r.inputs.boot r.inputs.events) (images_there m r.inputs.boot.platters r.images r.have_images)
 
 -- where memory fails, a command is answered
-no_command : (e : Expected) → (e ≡ NoCommand → ⊥) → Answers e status.NoMemory
-no_command NoCommand is = absurd (is refl)
-no_command (IsMissing name) is = inr refl
-no_command (IsLong name limit) is = inr refl
-no_command (FailsBootCheck check) is = inr refl
-no_command (FailsLogCheck line check) is = inr refl
-no_command (Ends c w) is = inr (inl refl)
+abbrev IsFine : {A : Type 0} → Result A Expected → Type 0
+IsFine (Ok x) = Unit {0}
+IsFine (Err e) = Answers e status.NoMemory
 
-log_command : (c : Command) (boot : BootState) (b : Bool) (r : LogRead) → (if b then by_log c boot r else IsLong c.log log_limit) ≡ NoCommand → ⊥
-log_command c boot true (Events es) e = cc
-log_command c boot true (Refused line check) e = cc
-log_command c boot false r e = cc
+check_fine : (address bytes : List ℕ) (check : Option ℕ) → IsFine (by_check address bytes check)
+check_fine address bytes None = tt
+check_fine address bytes (Some check) = inr refl
 
-log_file_command : (c : Command) (boot : BootState) (file : Option (List ℕ)) → by_log_file c boot file ≡ NoCommand → ⊥
-log_file_command c boot None e = cc
-log_file_command c boot (Some bytes) e = log_command c boot (nat_le (length bytes) log_limit) (log_of boot bytes) e
+within_fine : (b : Bool) (name : List ℕ) (r : Result (List ℕ) Expected) → IsFine r → IsFine (if b then r else Err (IsLong name image_limit))
+within_fine true name r h = h
+within_fine false name r h = inr refl
 
-boot_command : (m : Files) (c : Command) (b : Bool) (r : Result BootState ℕ) → (if b then by_boot m c r else IsLong c.boot boot_limit) ≡ NoCommand → ⊥
-boot_command m c true (Ok boot) e = log_file_command c boot (get m c.log) e
-boot_command m c true (Err check) e = cc
-boot_command m c false r e = cc
+file_fine : (address name : List ℕ) (file : Option (List ℕ)) → IsFine (by_image_file address name file)
+file_fine address name None = inr refl
+file_fine address name (Some bytes) = within_fine (nat_le (length bytes) image_limit) name _ (check_fine address bytes (first_check Narrow bytes))
 
-boot_file_command : (m : Files) (c : Command) (file : Option (List ℕ)) → by_boot_file m c file ≡ NoCommand → ⊥
-boot_file_command m c None e = cc
-boot_file_command m c (Some bytes) e = boot_command m c (nat_le (length bytes) boot_limit) (boot_of bytes) e
+source_fine : (m : Files) (address : List ℕ) (image : Option (List ℕ)) (blank : Option ℕ) → IsFine (by_source m address image blank)
+source_fine m address (Some name) blank = file_fine address name (get m name)
+source_fine m address None (Some sectors) = tt
+source_fine m address None None = tt
+
+more_fine : (r : Result (List ℕ) Expected) (rs : Result Images Expected) → IsFine r → IsFine rs → IsFine (one_more r rs)
+more_fine (Ok image) (Ok images) h k = tt
+more_fine (Ok image) (Err e) h k = k
+more_fine (Err e) rs h k = h
+
+platters_fine : (m : Files) (ps : List BootPlatter) → IsFine (by_platters m ps)
+platters_fine m [] = tt
+platters_fine m (p ∷ ps) = more_fine (by_platter m p) (by_platters m ps) (source_fine m p.address p.image p.blank) (platters_fine m ps)
+
+images_answered : (c : Command) (boot : BootState) (events : List Event) (r : Result Images Expected) → IsFine r → Answers (by_images c boot events r) status.NoMemory
+images_answered c boot events (Ok images) h = inr (inl refl)
+images_answered c boot events (Err e) h = h
+
+log_answered : (m : Files) (c : Command) (boot : BootState) (b : Bool) (r : LogRead) → Answers (if b then by_log m c boot r else IsLong c.log log_limit) status.NoMemory
+log_answered m c boot true (Events events) = images_answered c boot events (by_platters m boot.platters) (platters_fine m boot.platters)
+log_answered m c boot true (Refused line check) = inr refl
+log_answered m c boot false r = inr refl
+
+log_file_answered : (m : Files) (c : Command) (boot : BootState) (file : Option (List ℕ)) → Answers (by_log_file m c boot file) status.NoMemory
+log_file_answered m c boot None = inr refl
+log_file_answered m c boot (Some bytes) = log_answered m c boot (nat_le (length bytes) log_limit) (log_of boot bytes)
+
+boot_answered : (m : Files) (c : Command) (b : Bool) (r : Result BootState ℕ) → Answers (if b then by_boot m c r else IsLong c.boot boot_limit) status.NoMemory
+boot_answered m c true (Ok boot) = log_file_answered m c boot (get m c.log)
+boot_answered m c true (Err check) = inr refl
+boot_answered m c false r = inr refl
+
+boot_file_answered : (m : Files) (c : Command) (file : Option (List ℕ)) → Answers (by_boot_file m c file) status.NoMemory
+boot_file_answered m c None = inr refl
+boot_file_answered m c (Some bytes) = boot_answered m c (nat_le (length bytes) boot_limit) (boot_of bytes)
 
 -- each status is the expected one
 complete : (words : List (List ℕ)) (m : Files) (old new : ShelfSeen) (before after : SinkSeen) (s : Status) → old.files ≡ Some m
     → Comes words old new before after s → (Rose old.faults new.faults → ⊥) → (Rose before.faults after.faults → ⊥) → Answers (expected words m) s
 complete words m old new before after status.Ok told h shelf_well sink_well =
-    let r = h.run in
-    subst (λ e. Answers e status.Ok) (sym (expected_log words m r.command r.boot r.has_log.bytes (Events r.events) r.is_command (subst (λ f. HasBoot r.command.boot f r.boot) told r.has_boot)
-    (subst (λ f. IsFetched f r.command.log log_limit r.has_log.bytes) told r.has_log.fetched) r.has_log.passes)) (inl refl)
+    subst (λ e. Answers e status.Ok) (sym (expected_run words m (subst (Runs words) told h.run))) (inl refl)
 complete words m old new before after status.Usage told h shelf_well sink_well = subst (λ e. Answers e status.Usage) (sym (ap (by_command m) h.0)) refl
 complete words m old new before after (status.Missing name) told h shelf_well sink_well =
     let f = h.refuses in
@@ -126,17 +219,18 @@ complete words m old new before after (status.BadLog line check) told h shelf_we
     subst (λ e. Answers e (status.BadLog line check))
     (sym (expected_log words m h.command l.0 l.2.bytes (Refused line check) h.is_command (subst (λ f. HasBoot h.command.boot f l.0) told l.1)
     (subst (λ f. IsFetched f h.command.log log_limit l.2.bytes) told l.2.fetched) l.2.fails)) (inl refl)
+complete words m old new before after (status.BadImage address check) told h shelf_well sink_well =
+    let r = subst (λ files. (inputs : HasInputs h.command files) × FailsImage inputs.boot.platters files address check) told h.refuses in
+    subst (λ e. Answers e (status.BadImage address check)) (sym (expected_bad words m h.command r.0 address check h.is_command r.1)) (inl refl)
 complete words m old new before after (status.WriteFault name) told h shelf_well sink_well =
     elim (h.left) as (λ _. Answers (expected words m) (status.WriteFault name)) [
       | inl a ↦ absurd (shelf_well a.1)
       | inr b ↦ absurd (sink_well b.1)
     ]
 complete words m old new before after status.NoMemory told h shelf_well sink_well =
-    no_command (expected words m) (λ e. boot_file_command m h.command (get m h.command.boot) (ap (by_command m) (sym h.is_command) ∙ e))
+    subst (λ e. Answers e status.NoMemory) (sym (ap (by_command m) h.is_command)) (boot_file_answered m h.command (get m h.command.boot))
 complete words m old new before after (status.KeepNoMemory name) told h shelf_well sink_well =
-    let r = h.run in
-    subst (λ e. Answers e (status.KeepNoMemory name)) (sym (expected_log words m r.command r.boot r.has_log.bytes (Events r.events) r.is_command (subst (λ f. HasBoot r.command.boot f r.boot) told r.has_boot)
-    (subst (λ f. IsFetched f r.command.log log_limit r.has_log.bytes) told r.has_log.fetched) r.has_log.passes)) (inr (inr (name, refl)))
+    subst (λ e. Answers e (status.KeepNoMemory name)) (sym (expected_run words m (subst (Runs words) told h.run))) (inr (inr (name, refl)))
 
 is_complete : (words : List (List ℕ)) (old new : ShelfSeen) (before after : SinkSeen) (s : Status) (files : Option Files) → old.files ≡ files
     → Comes words old new before after s → IfSome files (λ m. (Rose old.faults new.faults → ⊥) → (Rose before.faults after.faults → ⊥) → Answers (expected words m) s)
@@ -155,6 +249,7 @@ only_usage words old new before after (status.ReadFault name) h none = absurd (l
 only_usage words old new before after (status.TooLong name limit) h none = absurd (let is = h.is_command in cc)
 only_usage words old new before after (status.BadBoot check) h none = absurd (let is = h.is_command in cc)
 only_usage words old new before after (status.BadLog line check) h none = absurd (let is = h.is_command in cc)
+only_usage words old new before after (status.BadImage address check) h none = absurd (let is = h.is_command in cc)
 only_usage words old new before after (status.WriteFault name) h none = absurd (let is = h.run.is_command in cc)
 only_usage words old new before after status.NoMemory h none = absurd (let is = h.is_command in cc)
 only_usage words old new before after (status.KeepNoMemory name) h none = absurd (let is = h.run.is_command in cc)

@@ -12,14 +12,18 @@ use Rattle.b2_boot.specs.declared.boot.BootPartition.{BootPartition}
 use Rattle.b2_boot.specs.declared.log.Event.{Event}
 use Rattle.b2_sched.proofs.AloneBoots.{as_alone}
 use Rattle.b2_sched.proofs.WorldMarks.{who_is_clean}
-use Rattle.b2_sched.specs.Start.{AreNumbered, booted}
+use Rattle.b2_sched.specs.Start.{AreNumbered, Images, booted}
 use Rattle.b2_sched.specs.World.{ran}
 use Rattle.b2_mvp.specs.Groups.{GroupsShowAsAlone, ListsTheClean}
-use Rattle.b2_mvp.specs.Outputs.{numbers, transcript}
+use Rattle.b2_mvp.specs.Outputs.{image, numbers, transcript}
 
--- the transcript of a terminal is a function of what the store has there
-pub groups_show : (out : List ℕ) (b : BootState) (log : List Event) → GroupsShowAsAlone out b log
-groups_show out b log g clean t not_foul = ap (transcript out t) ((as_alone g b log clean).1 (object.Terminal t) (λ outside. outside) not_foul)
+-- the transcript of a terminal and the image of a platter are functions of what the store has there
+pub groups_show : (out : List ℕ) (b : BootState) (images : Images) (log : List Event) → GroupsShowAsAlone out b images log
+groups_show out b images log g clean =
+    let same = (as_alone g b images log clean).1 in (
+      (λ t not_foul. ap (transcript out t) (same (object.Terminal t) (λ outside. outside) not_foul)),
+      (λ a not_foul. ap (image out a) (same (object.Platter a) (λ outside. outside) not_foul)),
+    )
 
 -- a number stands in a filtered list exactly where it stands in the list and passes the test
 kept_first : (same there passes here : Bool) → (same ≡ true → true ≡ passes) → here ≡ (there && passes) → (same || here) ≡ ((same || there) && passes)
@@ -57,12 +61,12 @@ numbered : (ps : List BootPartition) (p : ℕ) → AreNumbered ps → is_in_grou
 numbered [] p are e = absurd cc
 numbered (q ∷ ps) p are e = first_numbered q ps p (q.number == p) refl are.0 (numbered ps p are.2) e
 
-pub lists_clean : (b : BootState) (log : List Event) → AreNumbered b.partitions → ListsTheClean b log
-lists_clean b log are p =
-    let test = λ (q : ℕ). is_clean q (ran log (booted b)).marks in
+pub lists_clean : (b : BootState) (images : Images) (log : List Event) → AreNumbered b.partitions → ListsTheClean b images log
+lists_clean b images log are p =
+    let test = λ (q : ℕ). is_clean q (ran log (booted b images)).marks in
     let both = listed-filter test (numbers b.partitions) p in (
       (λ e.
           let h = and_parts (is_in_group (numbers b.partitions) p) (test p) (sym both ∙ e) in
-          (h.0, (who_is_clean b log p are (numbered b.partitions p are h.0)).0 h.1)),
-      (λ h. both ∙ and_from (is_in_group (numbers b.partitions) p) (test p) h.0 ((who_is_clean b log p are (numbered b.partitions p are h.0)).1 h.1)),
+          (h.0, (who_is_clean b images log p are (numbered b.partitions p are h.0)).0 h.1)),
+      (λ h. both ∙ and_from (is_in_group (numbers b.partitions) p) (test p) h.0 ((who_is_clean b images log p are (numbered b.partitions p are h.0)).1 h.1)),
     )

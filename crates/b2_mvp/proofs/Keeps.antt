@@ -1,11 +1,12 @@
 -- Keeps one after another.
-use Rattle.std.proofs.Common.{◌≡◌, ℕ, zero, suc, ◌+◌, ◌-◌, ◌≤◌, List, [], ◌∷◌, ◌++◌, Option, refl, sym, ap, subst, ◌∙◌, append_assoc, append-nil, arith}
+use Rattle.std.proofs.Common.{◌≡◌, ℕ, zero, suc, ◌+◌, ◌-◌, ◌≤◌, List, [], ◌∷◌, ◌++◌, map, Option, refl, sym, ap, subst, ◌∙◌, append_assoc, append-nil, arith}
 use Rattle.b2_base.specs.Counts.{Rose}
 use Rattle.b2_base.specs.Files.{Files, with_file, without_file}
 use Rattle.b2_base.specs.Seen.{ShelfSeen}
 use Rattle.b2_access.specs.declared.objects.Object.TheVariants as object
 use Rattle.b2_access.specs.Store.{StoreState, content}
-use Rattle.b2_mvp.specs.Outputs.{Output, transcript, transcripts_to, with_files, FailsKeep, CannotKeep}
+use Rattle.b2_boot.specs.declared.boot.BootPlatter.{BootPlatter}
+use Rattle.b2_mvp.specs.Outputs.{Output, image, images_at, transcript, transcripts_to, with_files, FailsKeep, CannotKeep}
 use Rattle.b2_mvp.specs.declared.status.Status.{Status}
 use Rattle.b2_mvp.specs.declared.status.Status.TheVariants as status
 
@@ -63,6 +64,7 @@ among done xs rest all first mid last (status.ReadFault at) is so_far later h = 
 among done xs rest all first mid last (status.TooLong at limit) is so_far later h = absurd h
 among done xs rest all first mid last (status.BadBoot check) is so_far later h = absurd h
 among done xs rest all first mid last (status.BadLog line check) is so_far later h = absurd h
+among done xs rest all first mid last (status.BadImage address check) is so_far later h = absurd h
 among done xs rest all first mid last (status.WriteFault at) is so_far later h =
     (fails_among done xs rest all at first.files mid.files last.files is so_far h.0, rose_later _ _ _ later h.1)
 among done xs rest all first mid last status.NoMemory is so_far later h = absurd h
@@ -82,3 +84,41 @@ pub one_fails : (spelled name bytes : List ℕ) (old new : Option Files) → spe
     → FailsKeep (record { name = name; bytes = bytes } ∷ []) name old new
 one_fails spelled name bytes old new is others =
     record { done = []; bytes = bytes; left = []; in_order = refl; files = subst (λ (n : List ℕ). without_file n new ≡ without_file n old) is others }
+
+-- images at some addresses, and then at others
+images_append : (out : List ℕ) (s : StoreState) (ps qs : List BootPlatter) → images_at out s (map (λ p. p.address) (ps ++ qs)) ≡ images_at out s (map (λ p. p.address) ps) ++ images_at out s (map (λ p. p.address) qs)
+images_append out s [] qs = refl
+images_append out s (p ∷ ps) qs =
+    ap (λ os. image out p.address (content s (object.Platter p.address)) ++ os) (images_append out s ps qs)
+    ∙ sym (append_assoc (image out p.address (content s (object.Platter p.address))) (images_at out s (map (λ q. q.address) ps)) (images_at out s (map (λ q. q.address) qs)))
+
+-- one more image
+pub image_more : (out : List ℕ) (s : StoreState) (before : List BootPlatter) (p : BootPlatter) (first mid last : Option Files)
+    → mid ≡ with_files (images_at out s (map (λ q. q.address) before)) first
+    → last ≡ with_files (image out p.address (content s (object.Platter p.address))) mid
+    → last ≡ with_files (images_at out s (map (λ q. q.address) (before ++ p ∷ []))) first
+image_more out s before p first mid last so_far more =
+    let here = image out p.address (content s (object.Platter p.address)) in
+    more ∙ ap (with_files here) so_far ∙ sym (with_files_append (images_at out s (map (λ q. q.address) before)) here first)
+    ∙ ap (λ os. with_files os first) (sym (images_append out s before (p ∷ []) ∙ ap (λ os. images_at out s (map (λ q. q.address) before) ++ os) (append-nil here)))
+
+-- the image of a platter fails among those of all
+pub image_fails : (out : List ℕ) (s : StoreState) (before after all : List BootPlatter) (p : BootPlatter) (first mid last : ShelfSeen) (st : Status) → all ≡ before ++ p ∷ after
+    → mid.files ≡ with_files (images_at out s (map (λ q. q.address) before)) first.files → first.faults ≤ mid.faults
+    → CannotKeep (image out p.address (content s (object.Platter p.address))) mid last st → CannotKeep (images_at out s (map (λ q. q.address) all)) first last st
+image_fails out s before after all p first mid last st in_order so_far later h =
+    let done = images_at out s (map (λ q. q.address) before) in
+    let here = image out p.address (content s (object.Platter p.address)) in
+    let rest = images_at out s (map (λ q. q.address) after) in
+    among done here rest _ first mid last st
+    (ap (λ (ps : List BootPlatter). images_at out s (map (λ q. q.address) ps)) in_order ∙ images_append out s before (p ∷ after) ∙ sym (append_assoc done here rest))
+    so_far later h
+
+-- some keeps of which one fails, before others
+pub first_fail : (xs ys : List Output) (first last : ShelfSeen) (st : Status) → CannotKeep xs first last st → CannotKeep (xs ++ ys) first last st
+first_fail xs ys first last st h = among [] xs ys (xs ++ ys) first first last st refl refl (omega arith) h
+
+-- and after others that were done
+pub then_fail : (xs ys : List Output) (first mid last : ShelfSeen) (st : Status) → mid.files ≡ with_files xs first.files → first.faults ≤ mid.faults
+    → CannotKeep ys mid last st → CannotKeep (xs ++ ys) first last st
+then_fail xs ys first mid last st done later h = among xs ys [] (xs ++ ys) first mid last st (sym (append-nil (xs ++ ys))) done later h

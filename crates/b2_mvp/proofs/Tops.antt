@@ -1,15 +1,16 @@
 -- The statuses of the parts are those of the whole.
-use Rattle.std.proofs.Common.{◌≡◌, ℕ, List, ◌++◌, Option, Some, ap, subst, ◌∙◌, inl, inr, arith}
+use Rattle.std.proofs.Common.{◌≡◌, ℕ, List, ◌++◌, Option, Some, None, refl, sym, ap, subst, ◌∙◌, inl, inr, arith}
 use Rattle.std.specs.Option.{option_map}
 use Rattle.b2_base.specs.Files.{Files, IsAbsent}
 use Rattle.b2_base.specs.Outside.{IsPartWritten}
 use Rattle.b2_base.specs.Seen.{ShelfSeen, SinkSeen, Later}
 use Rattle.b2_boot.specs.Boots.{BootState}
-use Rattle.b2_boot.specs.declared.log.Event.{Event}
-use Rattle.b2_mvp.specs.Inputs.{log_limit, HasBoot, HasLog, FailsLog, FetchFails, IsLonger, CannotBoot, CannotLog}
+use Rattle.b2_boot.specs.declared.boot.BootPlatter.{BootPlatter}
+use Rattle.b2_sched.specs.Start.{Images}
+use Rattle.b2_mvp.specs.Inputs.{log_limit, image_limit, HasBoot, HaveImages, IsNext, FailsLog, FailsChecks, FetchFails, IsLonger, CannotBoot, CannotLog, CannotOpen, CannotReadFrom, FailsAmong, CannotReadAll}
 use Rattle.b2_mvp.specs.Outputs.{Output, outputs, with_files, summary, FailsKeep}
-use Rattle.b2_mvp.specs.Top.{command_of, boot_for, world_after, Refuses, Stops, Delivers, FailsOutput, Comes}
-use Rattle.b2_mvp.specs.Top.Input.{TheBoot, TheLog}
+use Rattle.b2_mvp.specs.Top.{command_of, boot_for, world_after, HasInputs, Runs, Refuses, Stops, Delivers, FailsOutput, Comes}
+use Rattle.b2_mvp.specs.Top.Input.{TheBoot, TheLog, TheImage}
 use Rattle.b2_mvp.specs.declared.status.Status.{Status}
 use Rattle.b2_mvp.specs.declared.status.Status.TheVariants as status
 use Rattle.b2_mvp.specs.declared.top.Command.{Command}
@@ -18,7 +19,7 @@ use Rattle.b2_mvp.proofs.GroupOutputs.{groups_show, lists_clean}
 use Rattle.b2_mvp.proofs.Keeps.{rose_later}
 
 -- a fetch that comes after another
-later_fetch : (name : List ℕ) (limit : ℕ) (old mid new : ShelfSeen) (s : Status) → Later old mid → mid.files ≡ old.files → FetchFails name limit mid new s → FetchFails name limit old new s
+pub later_fetch : (name : List ℕ) (limit : ℕ) (old mid new : ShelfSeen) (s : Status) → Later old mid → mid.files ≡ old.files → FetchFails name limit mid new s → FetchFails name limit old new s
 later_fetch name limit old mid new status.Ok later same h = h
 later_fetch name limit old mid new status.Usage later same h = h
 later_fetch name limit old mid new (status.Missing at) later same h = (h.0, rose_later _ _ _ later.misses h.1, subst (λ f. IsAbsent f at) same h.2)
@@ -26,6 +27,7 @@ later_fetch name limit old mid new (status.ReadFault at) later same h = (h.0, ro
 later_fetch name limit old mid new (status.TooLong at most) later same h = (h.0, h.1, rose_later _ _ _ later.longs h.2, subst (λ f. IsLonger f at most) same h.3)
 later_fetch name limit old mid new (status.BadBoot check) later same h = h
 later_fetch name limit old mid new (status.BadLog line check) later same h = h
+later_fetch name limit old mid new (status.BadImage address check) later same h = h
 later_fetch name limit old mid new (status.WriteFault at) later same h = h
 later_fetch name limit old mid new status.NoMemory later same h = h
 later_fetch name limit old mid new (status.KeepNoMemory at) later same h = h
@@ -45,6 +47,7 @@ no_boot c old new (status.ReadFault at) h = record { input = TheBoot; reached = 
 no_boot c old new (status.TooLong at limit) h = record { input = TheBoot; reached = tt; fails = h }
 no_boot c old new (status.BadBoot check) h = h
 no_boot c old new (status.BadLog line check) h = absurd h
+no_boot c old new (status.BadImage address check) h = absurd h
 no_boot c old new (status.WriteFault at) h = absurd h
 no_boot c old new status.NoMemory h = tt
 no_boot c old new (status.KeepNoMemory at) h = absurd h
@@ -63,9 +66,53 @@ no_log c boot old mid new (status.TooLong at limit) later same has h =
     record { input = TheLog; reached = (boot, has); fails = later_fetch c.log log_limit old mid new (status.TooLong at limit) later same h }
 no_log c boot old mid new (status.BadBoot check) later same has h = absurd h
 no_log c boot old mid new (status.BadLog line check) later same has h = (boot, has, log_of_old c.log boot line check old.files mid.files same h)
+no_log c boot old mid new (status.BadImage address check) later same has h = absurd h
 no_log c boot old mid new (status.WriteFault at) later same has h = absurd h
 no_log c boot old mid new status.NoMemory later same has h = tt
 no_log c boot old mid new (status.KeepNoMemory at) later same has h = absurd h
+
+-- the file of an image that ends the call, after the log was read
+refused_file : (c : Command) (old mid new : ShelfSeen) (inputs : HasInputs c old.files) (p : BootPlatter) (name : List ℕ) (s : Status) → Later old mid → mid.files ≡ old.files
+    → IsNext old.files inputs.boot.platters p name → CannotOpen p.address name mid new s → Refuses c old new s
+refused_file c old mid new inputs p name status.Ok later same next h = absurd h
+refused_file c old mid new inputs p name status.Usage later same next h = absurd h
+refused_file c old mid new inputs p name (status.Missing at) later same next h =
+    record { input = TheImage p name; reached = (inputs, next); fails = later_fetch name image_limit old mid new (status.Missing at) later same h }
+refused_file c old mid new inputs p name (status.ReadFault at) later same next h =
+    record { input = TheImage p name; reached = (inputs, next); fails = later_fetch name image_limit old mid new (status.ReadFault at) later same h }
+refused_file c old mid new inputs p name (status.TooLong at limit) later same next h =
+    record { input = TheImage p name; reached = (inputs, next); fails = later_fetch name image_limit old mid new (status.TooLong at limit) later same h }
+refused_file c old mid new inputs p name (status.BadBoot check) later same next h = absurd h
+refused_file c old mid new inputs p name (status.BadLog line check) later same next h = absurd h
+refused_file c old mid new inputs p name (status.BadImage address check) later same next h =
+    (inputs, record { platter = p; name = name; next = next; is_at = sym h.0; fails = subst (λ f. FailsChecks name f check) same h.1 })
+refused_file c old mid new inputs p name (status.WriteFault at) later same next h = absurd h
+refused_file c old mid new inputs p name status.NoMemory later same next h = tt
+refused_file c old mid new inputs p name (status.KeepNoMemory at) later same next h = absurd h
+
+-- an image that does, whether it has a file or is blank
+refused_image : (c : Command) (old mid new : ShelfSeen) (inputs : HasInputs c old.files) (p : BootPlatter) (image : Option (List ℕ)) (s : Status) → Later old mid → mid.files ≡ old.files
+    → p.image ≡ image → ((name : List ℕ) → p.image ≡ Some name → IsNext old.files inputs.boot.platters p name) → CannotReadFrom image p.address mid new s → Refuses c old new s
+refused_image c old mid new inputs p None s later same is next h = subst (λ st. Refuses c old new st) (sym h) tt
+refused_image c old mid new inputs p (Some name) s later same is next h = refused_file c old mid new inputs p name s later same (next name is) h
+
+by_among : (c : Command) (old mid new : ShelfSeen) (inputs : HasInputs c old.files) (s : Status) → Later old mid → mid.files ≡ old.files → FailsAmong inputs.boot.platters mid new s → Refuses c old new s
+by_among c old mid new inputs s later same h =
+    refused_image c old mid new inputs h.platter h.platter.image s later same refl
+    (λ name is. record {
+      before = h.before;
+      images = h.images;
+      after = h.after;
+      in_order = h.in_order;
+      have_images = subst (λ f. HaveImages f h.before h.images) same h.have_images;
+      named = is;
+    })
+    h.fails
+
+-- one among those of a boot
+pub no_images : (c : Command) (old mid new : ShelfSeen) (inputs : HasInputs c old.files) (s : Status) → Later old mid → mid.files ≡ old.files → CannotReadAll inputs.boot.platters mid new s → Refuses c old new s
+no_images c old mid new inputs status.NoMemory later same h = tt
+no_images c old mid new inputs s later same h = by_among c old mid new inputs s later same h
 
 stops : (words : List (List ℕ)) (c : Command) (old new : ShelfSeen) (before after : SinkSeen) (s : Status) → command_of words ≡ Some c → new.files ≡ old.files → after ≡ before
     → Refuses c old new s → Stops words old new before after s
@@ -81,6 +128,7 @@ stopped words c old new before after (status.ReadFault at) is same still h = sto
 stopped words c old new before after (status.TooLong at limit) is same still h = stops words c old new before after (status.TooLong at limit) is same still h
 stopped words c old new before after (status.BadBoot check) is same still h = stops words c old new before after (status.BadBoot check) is same still h
 stopped words c old new before after (status.BadLog line check) is same still h = stops words c old new before after (status.BadLog line check) is same still h
+stopped words c old new before after (status.BadImage address check) is same still h = stops words c old new before after (status.BadImage address check) is same still h
 stopped words c old new before after (status.WriteFault at) is same still h = absurd h.fails
 stopped words c old new before after status.NoMemory is same still h = stops words c old new before after status.NoMemory is same still h
 stopped words c old new before after (status.KeepNoMemory at) is same still h = absurd h.fails
@@ -95,35 +143,34 @@ output xs ys line text old mid new before after at cause later_cause sink_cause 
       | inr b ↦ inr (b.0, b.1, b.2 ∙ (λ i. with_files (all i) (same i)), subst (IsPartWritten before.written after.written) line_is b.3)
     ]
 
+-- what the words run
+abbrev runs : (words : List (List ℕ)) (c : Command) (files : Option Files) (inputs : HasInputs c files) (images : Images) → command_of words ≡ Some c → HaveImages files inputs.boot.platters images → Runs words files
+runs words c files inputs images is have = record { command = c; is_command = is; inputs = inputs; images = images; have_images = have }
+
 -- what is delivered after the inputs were read and the events were run
-pub delivered : (words : List (List ℕ)) (c : Command) (boot : BootState) (events : List Event) (all : List Output) (line : List ℕ)
-    (old mid new : ShelfSeen) (before after : SinkSeen) (s : Status)
-    → command_of words ≡ Some c → HasBoot c.boot old.files boot → HasLog c.log old.files boot events
-    → all ≡ outputs c.out (world_after (boot_for c.group boot) events).store → line ≡ summary (boot_for c.group boot) (world_after (boot_for c.group boot) events)
+pub delivered : (words : List (List ℕ)) (c : Command) (old : ShelfSeen) (inputs : HasInputs c old.files) (images : Images) (all : List Output) (line : List ℕ)
+    (mid new : ShelfSeen) (before after : SinkSeen) (s : Status)
+    → command_of words ≡ Some c → HaveImages old.files inputs.boot.platters images
+    → all ≡ outputs c.out inputs.boot (world_after (boot_for c.group inputs.boot) images inputs.events).store
+    → line ≡ summary (boot_for c.group inputs.boot) (world_after (boot_for c.group inputs.boot) images inputs.events)
     → Later old mid → mid.files ≡ old.files
     → Delivers all line mid new before after s → Comes words old new before after s
-delivered words c boot events all line old mid new before after status.Ok is has_boot has_log all_is line_is later same h =
+delivered words c old inputs images all line mid new before after status.Ok is have all_is line_is later same h =
     record {
-      run = record { command = c; boot = boot; events = events; is_command = is; has_boot = has_boot; has_log = has_log };
+      run = runs words c old.files inputs images is have;
       files = h.0 ∙ (λ i. with_files (all_is i) (same i));
       written = h.1 ∙ ap (λ (l : List ℕ). option_map (λ w. w ++ l) before.written) line_is;
-      groups = groups_show c.out (boot_for c.group boot) events;
-      listed = lists_clean (boot_for c.group boot) events (numbered_for has_boot.bytes boot c.group has_boot.passes);
+      groups = groups_show c.out (boot_for c.group inputs.boot) images inputs.events;
+      listed = lists_clean (boot_for c.group inputs.boot) images inputs.events (numbered_for inputs.has_boot.bytes inputs.boot c.group inputs.has_boot.passes);
     }
-delivered words c boot events all line old mid new before after status.Usage is has_boot has_log all_is line_is later same h = absurd h
-delivered words c boot events all line old mid new before after (status.Missing at) is has_boot has_log all_is line_is later same h = absurd h
-delivered words c boot events all line old mid new before after (status.ReadFault at) is has_boot has_log all_is line_is later same h = absurd h
-delivered words c boot events all line old mid new before after (status.TooLong at limit) is has_boot has_log all_is line_is later same h = absurd h
-delivered words c boot events all line old mid new before after (status.BadBoot check) is has_boot has_log all_is line_is later same h = absurd h
-delivered words c boot events all line old mid new before after (status.BadLog number check) is has_boot has_log all_is line_is later same h = absurd h
-delivered words c boot events all line old mid new before after (status.WriteFault at) is has_boot has_log all_is line_is later same h =
+delivered words c old inputs images all line mid new before after (status.WriteFault at) is have all_is line_is later same h =
     record {
-      run = record { command = c; boot = boot; events = events; is_command = is; has_boot = has_boot; has_log = has_log };
+      run = runs words c old.files inputs images is have;
       left = output all _ line _ old mid new before after at _ _ _ all_is line_is same (rose_later _ _ _ later.faults) h;
     }
-delivered words c boot events all line old mid new before after status.NoMemory is has_boot has_log all_is line_is later same h = absurd h
-delivered words c boot events all line old mid new before after (status.KeepNoMemory at) is has_boot has_log all_is line_is later same h =
+delivered words c old inputs images all line mid new before after (status.KeepNoMemory at) is have all_is line_is later same h =
     record {
-      run = record { command = c; boot = boot; events = events; is_command = is; has_boot = has_boot; has_log = has_log };
+      run = runs words c old.files inputs images is have;
       left = output all _ line _ old mid new before after at _ _ _ all_is line_is same (λ u. u) h;
     }
+delivered words c old inputs images all line mid new before after s is have all_is line_is later same h = absurd h

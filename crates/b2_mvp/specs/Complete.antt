@@ -1,5 +1,5 @@
 -- What is to be answered where the shelf tells its files and nothing fails.
-use Rattle.std.specs.Prelude.{◌≡◌, ◌⊎◌, ℕ, nat_le, List, length, Option, Some, None, IfSome, Result, Ok, Err, if◌then◌else◌}
+use Rattle.std.specs.Prelude.{◌≡◌, ◌⊎◌, ℕ, nat_le, List, [], ◌∷◌, length, Option, Some, None, IfSome, Result, Ok, Err, if◌then◌else◌}
 use Rattle.std.specs.FinMap.{get}
 use Rattle.b2_base.specs.Counts.{Rose}
 use Rattle.b2_base.specs.Files.{Files}
@@ -7,11 +7,17 @@ use Rattle.b2_base.specs.Seen.{ShelfSeen, SinkSeen}
 use Rattle.b2_boot.specs.Boots.{BootState, boot_of}
 use Rattle.b2_boot.specs.Logs.{LogRead, log_of}
 use Rattle.b2_boot.specs.Logs.LogRead.{Events, Refused}
+use Rattle.b2_boot.specs.declared.boot.BootPlatter.{BootPlatter}
+use Rattle.b2_boot.specs.declared.log.Event.{Event}
+use Rattle.b2_platter.specs.Checks.{first_check}
+use Rattle.b2_platter.specs.Edits.{blank_image}
+use Rattle.b2_platter.specs.declared.layout.Layout.TheVariants.{Narrow}
+use Rattle.b2_sched.specs.Start.{Images}
 use Rattle.b2_sched.specs.World.{WorldState}
 use Rattle.b2_mvp.specs.declared.status.Status.{Status}
 use Rattle.b2_mvp.specs.declared.status.Status.TheVariants as status
 use Rattle.b2_mvp.specs.declared.top.Command.{Command}
-use Rattle.b2_mvp.specs.Inputs.{boot_limit, log_limit}
+use Rattle.b2_mvp.specs.Inputs.{boot_limit, log_limit, image_limit}
 use Rattle.b2_mvp.specs.Top.{command_of, boot_for, world_after}
 
 -- what is to be answered where the shelf tells its files
@@ -21,19 +27,52 @@ pub data Expected : Type 0 where
   IsLong : List ℕ → ℕ → Expected
   FailsBootCheck : ℕ → Expected
   FailsLogCheck : ℕ → ℕ → Expected
+  FailsImageCheck : List ℕ → ℕ → Expected
   Ends : Command → WorldState → Expected
 
-abbrev pub by_log : Command → BootState → LogRead → Expected
-by_log c boot (Events events) = Ends c (world_after (boot_for c.group boot) events)
-by_log c boot (Refused line check) = FailsLogCheck line check
+-- an image that is there, or what is to be answered
+abbrev pub by_check : List ℕ → List ℕ → Option ℕ → Result (List ℕ) Expected
+by_check address bytes None = Ok bytes
+by_check address bytes (Some check) = Err (FailsImageCheck address check)
 
-abbrev pub by_log_file : Command → BootState → Option (List ℕ) → Expected
-by_log_file c boot None = IsMissing c.log
-by_log_file c boot (Some bytes) = if nat_le (length bytes) log_limit then by_log c boot (log_of boot bytes) else IsLong c.log log_limit
+abbrev pub by_image_file : List ℕ → List ℕ → Option (List ℕ) → Result (List ℕ) Expected
+by_image_file address name None = Err (IsMissing name)
+by_image_file address name (Some bytes) = if nat_le (length bytes) image_limit then by_check address bytes (first_check Narrow bytes) else Err (IsLong name image_limit)
+
+-- every platter of a boot has one of the two
+abbrev pub by_source : Files → List ℕ → Option (List ℕ) → Option ℕ → Result (List ℕ) Expected
+by_source files address (Some name) blank = by_image_file address name (get files name)
+by_source files address None (Some sectors) = Ok (blank_image Narrow sectors)
+by_source files address None None = Ok []
+
+abbrev pub by_platter : Files → BootPlatter → Result (List ℕ) Expected
+by_platter files p = by_source files p.address p.image p.blank
+
+-- the images of some platters, or what is to be answered at the first that has none
+abbrev pub one_more : Result (List ℕ) Expected → Result Images Expected → Result Images Expected
+one_more (Ok image) (Ok images) = Ok (image ∷ images)
+one_more (Ok image) (Err e) = Err e
+one_more (Err e) images = Err e
+
+abbrev pub by_platters : Files → List BootPlatter → Result Images Expected
+by_platters files [] = Ok []
+by_platters files (p ∷ ps) = one_more (by_platter files p) (by_platters files ps)
+
+abbrev pub by_images : Command → BootState → List Event → Result Images Expected → Expected
+by_images c boot events (Ok images) = Ends c (world_after (boot_for c.group boot) images events)
+by_images c boot events (Err e) = e
+
+abbrev pub by_log : Files → Command → BootState → LogRead → Expected
+by_log files c boot (Events events) = by_images c boot events (by_platters files boot.platters)
+by_log files c boot (Refused line check) = FailsLogCheck line check
+
+abbrev pub by_log_file : Files → Command → BootState → Option (List ℕ) → Expected
+by_log_file files c boot None = IsMissing c.log
+by_log_file files c boot (Some bytes) = if nat_le (length bytes) log_limit then by_log files c boot (log_of boot bytes) else IsLong c.log log_limit
 
 abbrev pub by_boot : Files → Command → Result BootState ℕ → Expected
 by_boot files c (Err check) = FailsBootCheck check
-by_boot files c (Ok boot) = by_log_file c boot (get files c.log)
+by_boot files c (Ok boot) = by_log_file files c boot (get files c.log)
 
 abbrev pub by_boot_file : Files → Command → Option (List ℕ) → Expected
 by_boot_file files c None = IsMissing c.boot
@@ -53,6 +92,7 @@ Answers (IsMissing name) s = (s ≡ status.Missing name) ⊎ (s ≡ status.NoMem
 Answers (IsLong name limit) s = (s ≡ status.TooLong name limit) ⊎ (s ≡ status.NoMemory)
 Answers (FailsBootCheck check) s = (s ≡ status.BadBoot check) ⊎ (s ≡ status.NoMemory)
 Answers (FailsLogCheck line check) s = (s ≡ status.BadLog line check) ⊎ (s ≡ status.NoMemory)
+Answers (FailsImageCheck address check) s = (s ≡ status.BadImage address check) ⊎ (s ≡ status.NoMemory)
 Answers (Ends c world) s = (s ≡ status.Ok) ⊎ (s ≡ status.NoMemory) ⊎ ((name : List ℕ) × (s ≡ status.KeepNoMemory name))
 
 -- where the files are told and nothing failed, the answer is the expected one

@@ -1,26 +1,35 @@
 -- What the inputs of a run say, and how each can end the call.
-use Rattle.std.specs.Prelude.{◌≡◌, ℕ, ◌<◌, List, length, Option, IfSome, IsSomeAnd, Ok, Err}
+use Rattle.std.specs.Prelude.{◌≡◌, ℕ, ◌<◌, List, ◌∷◌, ◌++◌, length, Option, Some, None, IfSome, IsSomeAnd, Ok, Err}
 use Rattle.std.specs.FinMap.{get}
+use Rattle.std.specs.List.{AllZip}
 use Rattle.b2_base.specs.Counts.{Rose}
 use Rattle.b2_base.specs.Files.{Files, IsAbsent, IsFetched}
 use Rattle.b2_base.specs.Seen.{ShelfSeen}
 use Rattle.b2_boot.specs.Boots.{BootState, boot_of}
 use Rattle.b2_boot.specs.Logs.{log_of}
+use Rattle.b2_boot.specs.declared.boot.BootPlatter.{BootPlatter}
 use Rattle.b2_boot.specs.Logs.LogRead.{Events, Refused}
 use Rattle.b2_boot.specs.declared.boot_file.BootErr.{BootErr}
 use Rattle.b2_boot.specs.declared.boot_file.BootErr.TheVariants as boot_err
 use Rattle.b2_boot.specs.declared.log.Event.{Event}
 use Rattle.b2_boot.specs.declared.log.LogErr.{LogErr}
 use Rattle.b2_boot.specs.declared.log.LogErr.TheVariants as log_err
+use Rattle.b2_platter.specs.Checks.{Good, first_check}
+use Rattle.b2_platter.specs.Edits.{blank_image}
+use Rattle.b2_platter.specs.declared.layout.Layout.TheVariants.{Narrow}
+use Rattle.b2_sched.specs.Start.{Images}
 use Rattle.b2_mvp.specs.declared.status.Status.{Status}
 use Rattle.b2_mvp.specs.declared.status.Status.TheVariants as status
 
--- how many bytes a boot file and a log may have
+-- how many bytes a boot file, a log and an image may have
 abbrev pub boot_limit : ℕ
 boot_limit = 65536
 
 abbrev pub log_limit : ℕ
 log_limit = 4194304
+
+abbrev pub image_limit : ℕ
+image_limit = 8323072
 
 -- a boot file is read, and passes its checks
 pub record HasBoot (name : List ℕ) (files : Option Files) (boot : BootState) : Type 0 where
@@ -46,6 +55,46 @@ pub record FailsLog (name : List ℕ) (files : Option Files) (boot : BootState) 
   pub fetched : IsFetched files name log_limit bytes
   pub fails : log_of boot bytes ≡ Refused line check
 
+-- an image is read, and is good
+pub record IsRead (name : List ℕ) (files : Option Files) (image : List ℕ) : Type 0 where
+  pub fetched : IsFetched files name image_limit image
+  pub good : Good Narrow image
+
+-- what is on a platter as the machine starts: the image of a file, or blank sectors
+abbrev pub HasSource : Option (List ℕ) → Option ℕ → Option Files → List ℕ → Type 0
+HasSource (Some name) blank files image = IsRead name files image
+HasSource None (Some sectors) files image = image ≡ blank_image Narrow sectors
+HasSource None None files image = ⊥
+
+abbrev pub HasImage : Option Files → BootPlatter → List ℕ → Type 0
+HasImage files p image = HasSource p.image p.blank files image
+
+abbrev pub HaveImages : Option Files → List BootPlatter → Images → Type 0
+HaveImages files platters images = AllZip (HasImage files) platters images
+
+-- a platter with the image of a file, where those before it have their images
+pub record IsNext (files : Option Files) (platters : List BootPlatter) (platter : BootPlatter) (name : List ℕ) : Type 0 where
+  pub before : List BootPlatter
+  pub images : Images
+  pub after : List BootPlatter
+  pub in_order : platters ≡ before ++ platter ∷ after
+  pub have_images : HaveImages files before images
+  pub named : platter.image ≡ Some name
+
+-- an image is read, and this is the first check that it fails
+pub record FailsChecks (name : List ℕ) (files : Option Files) (check : ℕ) : Type 0 where
+  pub bytes : List ℕ
+  pub fetched : IsFetched files name image_limit bytes
+  pub fails : first_check Narrow bytes ≡ Some check
+
+-- so the first platter whose image isn't good has this address, and its image fails this check first
+pub record FailsImage (platters : List BootPlatter) (files : Option Files) (address : List ℕ) (check : ℕ) : Type 0 where
+  pub platter : BootPlatter
+  pub name : List ℕ
+  pub next : IsNext files platters platter name
+  pub is_at : platter.address ≡ address
+  pub fails : FailsChecks name files check
+
 -- a told file has more bytes than its limit
 abbrev pub IsLonger : Option Files → List ℕ → ℕ → Type 0
 IsLonger files name limit = IfSome files (λ m. IsSomeAnd (get m name) (λ file. limit < length file))
@@ -59,6 +108,7 @@ FetchFails input limit old new (status.ReadFault name) = (name ≡ input) × Ros
 FetchFails input limit old new (status.TooLong name most) = (name ≡ input) × (most ≡ limit) × Rose old.longs new.longs × IsLonger old.files name most
 FetchFails input limit old new (status.BadBoot check) = ⊥
 FetchFails input limit old new (status.BadLog line check) = ⊥
+FetchFails input limit old new (status.BadImage address check) = ⊥
 FetchFails input limit old new (status.WriteFault name) = ⊥
 FetchFails input limit old new status.NoMemory = Unit {0}
 FetchFails input limit old new (status.KeepNoMemory name) = ⊥
@@ -80,3 +130,30 @@ CannotBoot name old new s = FetchFails name boot_limit old new s
 abbrev pub CannotLog : List ℕ → BootState → ShelfSeen → ShelfSeen → Status → Type 0
 CannotLog name boot old new (status.BadLog line check) = FailsLog name old.files boot line check
 CannotLog name boot old new s = FetchFails name log_limit old new s
+
+-- when the image of a file ends the call, for a platter of an address
+abbrev pub CannotOpen : List ℕ → List ℕ → ShelfSeen → ShelfSeen → Status → Type 0
+CannotOpen address name old new (status.BadImage at check) = (at ≡ address) × FailsChecks name old.files check
+CannotOpen address name old new s = FetchFails name image_limit old new s
+
+-- a blank platter does so for want of memory alone
+abbrev pub CannotReadFrom : Option (List ℕ) → List ℕ → ShelfSeen → ShelfSeen → Status → Type 0
+CannotReadFrom None address old new s = s ≡ status.NoMemory
+CannotReadFrom (Some name) address old new s = CannotOpen address name old new s
+
+abbrev pub CannotRead : BootPlatter → ShelfSeen → ShelfSeen → Status → Type 0
+CannotRead p old new s = CannotReadFrom p.image p.address old new s
+
+-- one of some platters does so, where those before it have their images
+pub record FailsAmong (platters : List BootPlatter) (old new : ShelfSeen) (s : Status) : Type 0 where
+  pub before : List BootPlatter
+  pub images : Images
+  pub platter : BootPlatter
+  pub after : List BootPlatter
+  pub in_order : platters ≡ before ++ platter ∷ after
+  pub have_images : HaveImages old.files before images
+  pub fails : CannotRead platter old new s
+
+abbrev pub CannotReadAll : List BootPlatter → ShelfSeen → ShelfSeen → Status → Type 0
+CannotReadAll platters old new status.NoMemory = Unit {0}
+CannotReadAll platters old new s = FailsAmong platters old new s

@@ -1,4 +1,4 @@
--- What a run writes: a file for each terminal's transcript, and a last line that also tells who is apart.
+-- What a run writes: a file for each terminal's transcript and for each platter's image, and a last line that also tells who is apart.
 use Rattle.std.specs.Prelude.{◌≡◌, ℕ, zero, suc, ◌+◌, ◌/◌, ◌%◌, List, [], ◌∷◌, ◌++◌, map, filter, codes, Option, Some, None}
 use Rattle.std.specs.Fmt.{decimal}
 use Rattle.b2_base.specs.Byte as byte
@@ -11,6 +11,7 @@ use Rattle.b2_access.specs.Store.{StoreState, content}
 use Rattle.b2_audit.specs.Marks.{Marks, is_clean}
 use Rattle.b2_boot.specs.Boots.{BootState}
 use Rattle.b2_boot.specs.declared.boot.BootPartition.{BootPartition}
+use Rattle.b2_sched.specs.Start.{addresses}
 use Rattle.b2_sched.specs.World.{WorldState}
 use Rattle.b2_mvp.specs.Parts.{list_or_dash}
 use Rattle.b2_mvp.specs.declared.status.Status.{Status}
@@ -35,9 +36,23 @@ abbrev pub transcripts_to : List ℕ → StoreState → ℕ → List Output
 transcripts_to out s zero = []
 transcripts_to out s (suc t) = transcripts_to out s t ++ transcript out (suc t) (content s (object.Terminal (suc t)))
 
--- all that is kept, in the order in which it is kept
-abbrev pub outputs : List ℕ → StoreState → List Output
-outputs out s = transcripts_to out s 12
+-- the name of a platter's image ends in its address
+abbrev pub image_name : List ℕ → List ℕ → List ℕ
+image_name out address = out ++ byte.point ∷ address
+
+-- a platter that is listed has an image
+abbrev pub image : List ℕ → List ℕ → Option (List ℕ) → List Output
+image out address None = []
+image out address (Some bytes) = record { name = image_name out address; bytes = bytes } ∷ []
+
+-- the images of the platters at some addresses, in that order
+abbrev pub images_at : List ℕ → StoreState → List (List ℕ) → List Output
+images_at out s [] = []
+images_at out s (a ∷ rest) = image out a (content s (object.Platter a)) ++ images_at out s rest
+
+-- all that is kept, in the order in which it is kept: transcripts by number, and images by address
+abbrev pub outputs : List ℕ → BootState → StoreState → List Output
+outputs out b s = transcripts_to out s 12 ++ images_at out s (addresses b)
 
 -- the told files after such keeps
 abbrev pub with_files : List Output → Option Files → Option Files
@@ -78,6 +93,7 @@ CannotKeep all old new (status.ReadFault at) = ⊥
 CannotKeep all old new (status.TooLong at limit) = ⊥
 CannotKeep all old new (status.BadBoot check) = ⊥
 CannotKeep all old new (status.BadLog line check) = ⊥
+CannotKeep all old new (status.BadImage address check) = ⊥
 CannotKeep all old new (status.WriteFault at) = FailsKeep all at old.files new.files × Rose old.faults new.faults
 CannotKeep all old new status.NoMemory = ⊥
 CannotKeep all old new (status.KeepNoMemory at) = FailsKeep all at old.files new.files

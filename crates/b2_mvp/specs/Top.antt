@@ -10,13 +10,14 @@ use Rattle.b2_base.specs.Seen.{ShelfSeen, SinkSeen}
 use Rattle.b2_boot.specs.Alone.{alone, is_in_group}
 use Rattle.b2_boot.specs.Boots.{BootState}
 use Rattle.b2_boot.specs.declared.log.Event.{Event}
-use Rattle.b2_sched.specs.Start.{booted}
+use Rattle.b2_boot.specs.declared.boot.BootPlatter.{BootPlatter}
+use Rattle.b2_sched.specs.Start.{Images, booted}
 use Rattle.b2_sched.specs.World.{WorldState, ran}
 use Rattle.b2_mvp.specs.declared.status.Status.{Status}
 use Rattle.b2_mvp.specs.declared.status.Status.TheVariants as status
 use Rattle.b2_mvp.specs.declared.top.Command.{Command}
 use Rattle.b2_mvp.specs.Groups.{GroupsShowAsAlone, ListsTheClean}
-use Rattle.b2_mvp.specs.Inputs.{boot_limit, log_limit, HasBoot, HasLog, FailsBoot, FailsLog, FetchFails}
+use Rattle.b2_mvp.specs.Inputs.{boot_limit, log_limit, image_limit, HasBoot, HasLog, HaveImages, IsNext, FailsBoot, FailsLog, FailsImage, FetchFails}
 use Rattle.b2_mvp.specs.Outputs.{Output, outputs, with_files, summary, FailsKeep}
 use Rattle.b2_mvp.specs.Parts.{listed_parts}
 
@@ -41,28 +42,34 @@ abbrev pub boot_for : Option (List ℕ) → BootState → BootState
 boot_for None boot = boot
 boot_for (Some parts) boot = alone (is_in_group parts) boot
 
--- the world after the events, from the one that a boot starts
-abbrev pub world_after : BootState → List Event → WorldState
-world_after boot events = ran events (booted boot)
+-- the world after the events, from the one that a boot starts with the images of its platters
+abbrev pub world_after : BootState → Images → List Event → WorldState
+world_after boot images events = ran events (booted boot images)
 
--- the words run a boot and a log that pass their checks; the log is checked against the whole boot, whoever runs
-pub record Runs (words : List (List ℕ)) (files : Option Files) : Type 0 where
-  pub command : Command
+-- a command's boot and log pass their checks; the log is checked against the whole boot, whoever runs
+pub record HasInputs (c : Command) (files : Option Files) : Type 0 where
   pub boot : BootState
   pub events : List Event
+  pub has_boot : HasBoot c.boot files boot
+  pub has_log : HasLog c.log files boot events
+
+-- the words run these, and each platter of the boot has its image
+pub record Runs (words : List (List ℕ)) (files : Option Files) : Type 0 where
+  pub command : Command
   pub is_command : command_of words ≡ Some command
-  pub has_boot : HasBoot command.boot files boot
-  pub has_log : HasLog command.log files boot events
+  pub inputs : HasInputs command files
+  pub images : Images
+  pub have_images : HaveImages files inputs.boot.platters images
 
 -- the boot that is run, the world at the end, what is kept of it, and the line that is put
 abbrev pub boot_run : {words : List (List ℕ)} {files : Option Files} → Runs words files → BootState
-boot_run r = boot_for r.command.group r.boot
+boot_run r = boot_for r.command.group r.inputs.boot
 
 abbrev pub last_world : {words : List (List ℕ)} {files : Option Files} → Runs words files → WorldState
-last_world r = world_after (boot_run r) r.events
+last_world r = world_after (boot_run r) r.images r.inputs.events
 
 abbrev pub kept_of : {words : List (List ℕ)} {files : Option Files} → Runs words files → List Output
-kept_of r = outputs r.command.out (last_world r).store
+kept_of r = outputs r.command.out r.inputs.boot (last_world r).store
 
 abbrev pub line_put : {words : List (List ℕ)} {files : Option Files} → Runs words files → List ℕ
 line_put r = summary (boot_run r) (last_world r)
@@ -72,32 +79,36 @@ pub record IsUntouched (old new : ShelfSeen) (before after : SinkSeen) : Type 0 
   pub files : new.files ≡ old.files
   pub sink : after ≡ before
 
--- THE HEADLINE: what was written is what the machine writes, from this boot and under this log; each group of partitions that is
+-- THE HEADLINE: what was written is what the machine writes, from this boot and its images and under this log; each group of partitions that is
 -- clean there shows what it shows alone; and the line lists exactly the partitions that are clean by themselves.
 pub record IsRun (words : List (List ℕ)) (old new : ShelfSeen) (before after : SinkSeen) : Type 0 where
   pub run : Runs words old.files
   pub files : new.files ≡ with_files (kept_of run) old.files
   pub written : after.written ≡ option_map (λ w. w ++ line_put run) before.written
-  pub groups : GroupsShowAsAlone run.command.out (boot_run run) run.events
-  pub listed : ListsTheClean (boot_run run) run.events
+  pub groups : GroupsShowAsAlone run.command.out (boot_run run) run.images run.inputs.events
+  pub listed : ListsTheClean (boot_run run) run.images run.inputs.events
 
 -- the inputs of a command, in the order in which they are fetched
 pub data Input : Type 0 where
   TheBoot : Input
   TheLog : Input
+  TheImage : (platter : BootPlatter) (name : List ℕ) → Input
 
 abbrev pub name_of : Command → Input → List ℕ
 name_of c TheBoot = c.boot
 name_of c TheLog = c.log
+name_of c (TheImage platter name) = name
 
 abbrev pub limit_of : Input → ℕ
 limit_of TheBoot = boot_limit
 limit_of TheLog = log_limit
+limit_of (TheImage platter name) = image_limit
 
--- the log is fetched after the boot has passed its checks
+-- the log is fetched after the boot has passed its checks, and an image after the log and the images before it have
 abbrev pub IsReached : Command → Option Files → Input → Type 0
 IsReached c files TheBoot = Unit {0}
 IsReached c files TheLog = (boot : BootState) × HasBoot c.boot files boot
+IsReached c files (TheImage platter name) = (inputs : HasInputs c files) × IsNext files inputs.boot.platters platter name
 
 -- the fetch of an input that is reached ends the call
 pub record FailsFetch (c : Command) (old new : ShelfSeen) (s : Status) : Type 0 where
@@ -109,6 +120,7 @@ pub record FailsFetch (c : Command) (old new : ShelfSeen) (s : Status) : Type 0 
 abbrev pub Refuses : Command → ShelfSeen → ShelfSeen → Status → Type 0
 Refuses c old new (status.BadBoot check) = FailsBoot c.boot old.files check
 Refuses c old new (status.BadLog line check) = (boot : BootState) × HasBoot c.boot old.files boot × FailsLog c.log old.files boot line check
+Refuses c old new (status.BadImage address check) = (inputs : HasInputs c old.files) × FailsImage inputs.boot.platters old.files address check
 Refuses c old new status.NoMemory = Unit {0}
 Refuses c old new s = FailsFetch c old new s
 
@@ -139,6 +151,7 @@ Comes words old new before after (status.ReadFault name) = Stops words old new b
 Comes words old new before after (status.TooLong name limit) = Stops words old new before after (status.TooLong name limit)
 Comes words old new before after (status.BadBoot check) = Stops words old new before after (status.BadBoot check)
 Comes words old new before after (status.BadLog line check) = Stops words old new before after (status.BadLog line check)
+Comes words old new before after (status.BadImage address check) = Stops words old new before after (status.BadImage address check)
 Comes words old new before after (status.WriteFault name) = IsCutOff words name old new before after (Rose old.faults new.faults) (Rose before.faults after.faults)
 Comes words old new before after status.NoMemory = Stops words old new before after status.NoMemory
 Comes words old new before after (status.KeepNoMemory name) = IsCutOff words name old new before after (Unit {0}) (Unit {0})
@@ -152,6 +165,7 @@ Delivers all line old new before after (status.ReadFault at) = ⊥
 Delivers all line old new before after (status.TooLong at limit) = ⊥
 Delivers all line old new before after (status.BadBoot check) = ⊥
 Delivers all line old new before after (status.BadLog at check) = ⊥
+Delivers all line old new before after (status.BadImage at check) = ⊥
 Delivers all line old new before after (status.WriteFault at) = FailsOutput all line old new before after at (Rose old.faults new.faults) (Rose before.faults after.faults)
 Delivers all line old new before after status.NoMemory = ⊥
 Delivers all line old new before after (status.KeepNoMemory at) = FailsOutput all line old new before after at (Unit {0}) (Unit {0})

@@ -1,12 +1,19 @@
 // The inputs of a run: their bytes within a limit, and what they say.
-ghost use Rattle.std.specs.Prelude.{◌≡◌, ◌<◌, ◌^◌, IfOk, IfErr};
+ghost use Rattle.std.specs.Prelude.{◌≡◌, ◌<◌, ◌^◌, IfOk, IfErr, true};
+ghost use Rattle.std.specs.List.{list_all};
 ghost use Rattle.b2_base.specs.Files.{IsFetched};
 ghost use Rattle.b2_base.specs.Seen.{shelf_seen, Later};
+ghost use Rattle.b2_boot.specs.Boots.{IsGood, is_platter};
+ghost use Rattle.b2_boot.specs.Rows.{is_between};
+ghost use Rattle.b2_platter.specs.Edits.{blank_image};
+ghost use Rattle.b2_platter.specs.declared.layout.Layout.TheVariants.{Narrow};
+ghost use Rattle.b2_mvp.specs.declared.status.Status.{Status};
 ghost use Rattle.b2_mvp.specs.Inputs as spec;
 
 use crate::status::Status;
-use b2_base::{Fetch, FileName, Shelf};
-use b2_boot::{Boot, BootErr, Event, LogErr, boot_of, log_of};
+use b2_base::{Addr, Fetch, FileName, Shelf};
+use b2_boot::{Boot, BootErr, BootPlatter, Event, LogErr, boot_of, log_of};
+use b2_platter::Platter;
 use std::alloc::Global;
 
 /// How many bytes a boot file may have.
@@ -14,6 +21,9 @@ const BOOT_LIMIT: u32 = 65_536;
 
 /// How many bytes a log may have.
 const LOG_LIMIT: u32 = 4_194_304;
+
+/// How many bytes the image of a platter may have: 32,512 sectors.
+const IMAGE_LIMIT: u32 = 8_323_072;
 
 /// The bytes of an input within its limit.
 fn fetch_input<F: Shelf>(
@@ -63,6 +73,7 @@ pub fn read_boot<F: Shelf>(alloc: Global, name: FileName, shelf: &mut F) -> Resu
     ensures same { F.files shelf.new ≡ F.files shelf.old }
     ensures later { Later (shelf_seen F.files F.faults F.misses F.longs shelf.old) (shelf_seen F.files F.faults F.misses F.longs shelf.new) }
     ensures ok { IfOk result (λ boot. spec.HasBoot name (F.files shelf.old) boot) }
+    ensures good { IfOk result IsGood }
     ensures err { IfErr result (λ status. spec.CannotBoot name (shelf_seen F.files F.faults F.misses F.longs shelf.old) (shelf_seen F.files F.faults F.misses F.longs shelf.new) status) }
 {
     let bytes = match fetch_input(alloc, name, BOOT_LIMIT, shelf) {
@@ -95,4 +106,91 @@ pub fn read_log<F: Shelf>(
         Ok(events) => Ok(events),
         Err(refused) => Err(log_status(refused)),
     }
+}
+
+/// A name again.
+fn name_copied(name: &FileName) -> FileName
+    ensures { result ≡ name.now }
+{
+    FileName::empty().with(name.bytes())
+}
+
+/// The platter of a file.
+fn open_image<F: Shelf>(
+    alloc: Global,
+    address: Addr,
+    name: &FileName,
+    shelf: &mut F,
+) -> Result<Platter, Status>
+    ensures same { F.files shelf.new ≡ F.files shelf.old }
+    ensures later { Later (shelf_seen F.files F.faults F.misses F.longs shelf.old) (shelf_seen F.files F.faults F.misses F.longs shelf.new) }
+    ensures ok { IfOk result (λ image. spec.IsRead name.now (F.files shelf.old) image) }
+    ensures err { IfErr result (λ status. spec.CannotOpen address name.now (shelf_seen F.files F.faults F.misses F.longs shelf.old) (shelf_seen F.files F.faults F.misses F.longs shelf.new) status) }
+{
+    let bytes = match fetch_input(alloc, name_copied(name), IMAGE_LIMIT, shelf) {
+        Ok(bytes) => bytes,
+        Err(status) => return Err(status),
+    };
+    match Platter::open(bytes) {
+        Ok(platter) => Ok(platter),
+        Err(failed) => Err(Status::BadImage(address, failed.0)),
+    }
+}
+
+/// A blank platter of so many sectors.
+fn blank_platter(alloc: Global, sectors: u32) -> Result<Platter, Status>
+    requires { is_between 16 32512 sectors ≡ true }
+    ensures ok { IfOk result (λ image. image ≡ blank_image Narrow sectors) }
+    ensures err { IfErr result (λ status. status ≡ Status.NoMemory) }
+{
+    match Platter::blank(alloc, sectors) {
+        Ok(platter) => Ok(platter),
+        Err(_) => Err(Status::NoMemory),
+    }
+}
+
+/// A platter as the machine starts: the image of its file, or blank.
+fn read_image<F: Shelf>(
+    alloc: Global,
+    platter: &BootPlatter,
+    shelf: &mut F,
+) -> Result<Platter, Status>
+    requires good { is_platter platter.now ≡ true }
+    ensures same { F.files shelf.new ≡ F.files shelf.old }
+    ensures later { Later (shelf_seen F.files F.faults F.misses F.longs shelf.old) (shelf_seen F.files F.faults F.misses F.longs shelf.new) }
+    ensures ok { IfOk result (λ image. spec.HasImage (F.files shelf.old) platter.now image) }
+    ensures err { IfErr result (λ status. spec.CannotRead platter.now (shelf_seen F.files F.faults F.misses F.longs shelf.old) (shelf_seen F.files F.faults F.misses F.longs shelf.new) status) }
+{
+    if let Some(name) = &platter.image {
+        return open_image(alloc, platter.address, name, shelf);
+    }
+    match platter.blank {
+        Some(sectors) => blank_platter(alloc, sectors),
+        None => unreachable!(),
+    }
+}
+
+/// The platters of a boot as the machine starts, in its order, which is that of their addresses.
+pub fn read_images<F: Shelf>(
+    alloc: Global,
+    platters: &[BootPlatter],
+    shelf: &mut F,
+) -> Result<Vec<Platter>, Status>
+    requires good { list_all is_platter platters.now ≡ true }
+    ensures same { F.files shelf.new ≡ F.files shelf.old }
+    ensures later { Later (shelf_seen F.files F.faults F.misses F.longs shelf.old) (shelf_seen F.files F.faults F.misses F.longs shelf.new) }
+    ensures ok { IfOk result (λ images. spec.HaveImages (F.files shelf.old) platters.now images.items) }
+    ensures err { IfErr result (λ status. spec.CannotReadAll platters.now (shelf_seen F.files F.faults F.misses F.longs shelf.old) (shelf_seen F.files F.faults F.misses F.longs shelf.new) status) }
+{
+    let mut images = Vec::new(alloc);
+    for platter in platters {
+        let image = match read_image(alloc, platter, shelf) {
+            Ok(image) => image,
+            Err(status) => return Err(status),
+        };
+        let Ok(()) = images.push(image) else {
+            return Err(Status::NoMemory);
+        };
+    }
+    Ok(images)
 }

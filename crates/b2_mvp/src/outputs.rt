@@ -1,6 +1,6 @@
-// The outputs of a run: a file for each terminal's transcript, and the last line. None of them takes memory once it is
-// kept: transcripts are kept as they stand in the store.
-ghost use Rattle.std.specs.Prelude.{◌≡◌, ◌≤◌, ◌∷◌, [], OnOk, IfOk, IfErr, length};
+// The outputs of a run: a file for each terminal's transcript and for each platter's image, and the last line. None of them takes
+// memory once it is kept: transcripts and images are kept as they stand in the store.
+ghost use Rattle.std.specs.Prelude.{◌≡◌, ◌≤◌, ◌∷◌, [], OnOk, IfOk, IfErr, length, map};
 ghost use Rattle.b2_base.specs.Seen.{shelf_seen};
 ghost use Rattle.b2_access.specs.declared.objects.Object.{Object};
 ghost use Rattle.b2_access.specs.Store.{content};
@@ -9,8 +9,8 @@ ghost use Rattle.b2_mvp.specs.Outputs as spec;
 
 use crate::parts::add_list;
 use crate::status::Status;
-use b2_base::{FileName, Keep, NoMemory, Part, Shelf, Term};
-use b2_boot::{Boot, BootPartition};
+use b2_base::{Addr, FileName, Keep, NoMemory, Part, Shelf, Term};
+use b2_boot::{Boot, BootPartition, BootPlatter};
 use b2_sched::World;
 use b2_store::Stores;
 use std::alloc::Global;
@@ -86,15 +86,11 @@ fn keep_transcript<F: Shelf>(
 }
 
 /// Keeps the transcript of each terminal, by number.
-pub fn keep_transcripts<F: Shelf>(
-    out: &FileName,
-    stores: &Stores,
-    shelf: &mut F,
-) -> Result<(), Status>
+fn keep_transcripts<F: Shelf>(out: &FileName, stores: &Stores, shelf: &mut F) -> Result<(), Status>
     requires { length out.now ≤ 190 }
     ensures faults { F.faults shelf.old ≤ F.faults shelf.new }
-    ensures ok { OnOk result (F.files shelf.new ≡ spec.with_files (spec.outputs out.now (store_of stores.now)) (F.files shelf.old)) }
-    ensures err { IfErr result (λ status. spec.CannotKeep (spec.outputs out.now (store_of stores.now))
+    ensures ok { OnOk result (F.files shelf.new ≡ spec.with_files (spec.transcripts_to out.now (store_of stores.now) 12) (F.files shelf.old)) }
+    ensures err { IfErr result (λ status. spec.CannotKeep (spec.transcripts_to out.now (store_of stores.now) 12)
         (shelf_seen F.files F.faults F.misses F.longs shelf.old) (shelf_seen F.files F.faults F.misses F.longs shelf.new) status) }
 {
     for before in 0..12u8 {
@@ -104,4 +100,79 @@ pub fn keep_transcripts<F: Shelf>(
         }
     }
     Ok(())
+}
+
+/// The name of a platter's image: the front of the outputs' names, a point and its address.
+fn image_name(out: &FileName, address: Addr) -> FileName
+    requires { length out.now ≤ 190 }
+    ensures { result ≡ spec.image_name out.now address }
+{
+    FileName::empty()
+        .with(out.bytes())
+        .with(b".")
+        .with(&address.bytes())
+}
+
+/// Keeps the image of the platter at an address, where it is listed.
+fn keep_image<F: Shelf>(
+    out: &FileName,
+    address: Addr,
+    stores: &Stores,
+    shelf: &mut F,
+) -> Result<(), Status>
+    requires { length out.now ≤ 190 }
+    ensures faults { F.faults shelf.old ≤ F.faults shelf.new }
+    ensures ok { OnOk result (F.files shelf.new ≡ spec.with_files (spec.image out.now address (content (store_of stores.now) (Object.Platter address))) (F.files shelf.old)) }
+    ensures err { IfErr result (λ status. spec.CannotKeep (spec.image out.now address (content (store_of stores.now) (Object.Platter address)))
+        (shelf_seen F.files F.faults F.misses F.longs shelf.old) (shelf_seen F.files F.faults F.misses F.longs shelf.new) status) }
+{
+    let Some(platter) = stores.platter(address) else {
+        return Ok(());
+    };
+    keep_file(image_name(out, address), platter.image(), shelf)
+}
+
+/// Keeps the image of each platter, by address.
+fn keep_images<F: Shelf>(
+    out: &FileName,
+    platters: &[BootPlatter],
+    stores: &Stores,
+    shelf: &mut F,
+) -> Result<(), Status>
+    requires { length out.now ≤ 190 }
+    ensures faults { F.faults shelf.old ≤ F.faults shelf.new }
+    ensures ok { OnOk result (F.files shelf.new ≡ spec.with_files (spec.images_at out.now (store_of stores.now) (map (λ p. p.address) platters.now)) (F.files shelf.old)) }
+    ensures err { IfErr result (λ status. spec.CannotKeep (spec.images_at out.now (store_of stores.now) (map (λ p. p.address) platters.now))
+        (shelf_seen F.files F.faults F.misses F.longs shelf.old) (shelf_seen F.files F.faults F.misses F.longs shelf.new) status) }
+{
+    for platter in platters {
+        match keep_image(out, platter.address, stores, shelf) {
+            Ok(()) => {}
+            Err(status) => return Err(status),
+        }
+    }
+    Ok(())
+}
+
+/// Keeps the transcript of each terminal, by number, and then the image of each platter of a boot, by address.
+pub fn keep_outputs<F: Shelf>(
+    out: &FileName,
+    boot: &Boot,
+    stores: &Stores,
+    shelf: &mut F,
+) -> Result<(), Status>
+    requires { length out.now ≤ 190 }
+    ensures faults { F.faults shelf.old ≤ F.faults shelf.new }
+    ensures ok { OnOk result (F.files shelf.new ≡ spec.with_files (spec.outputs out.now boot.now (store_of stores.now)) (F.files shelf.old)) }
+    ensures err { IfErr result (λ status. spec.CannotKeep (spec.outputs out.now boot.now (store_of stores.now))
+        (shelf_seen F.files F.faults F.misses F.longs shelf.old) (shelf_seen F.files F.faults F.misses F.longs shelf.new) status) }
+{
+    match keep_transcripts(out, stores, shelf) {
+        Ok(()) => {}
+        Err(status) => return Err(status),
+    }
+    match keep_images(out, &boot.platters, stores, shelf) {
+        Ok(()) => Ok(()),
+        Err(status) => Err(status),
+    }
 }

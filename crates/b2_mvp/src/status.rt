@@ -3,7 +3,7 @@ ghost use Rattle.std.specs.Prelude.{◌≡◌, ◌≤◌, ◌+◌, ◌++◌, len
 ghost use Rattle.std.specs.Fmt.{decimal};
 ghost use Rattle.b2_mvp.specs.Status.{status_number, status_line};
 
-use b2_base::{FileName, LineText};
+use b2_base::{Addr, FileName, LineText};
 use itoa::Buffer;
 
 /// How a call of the program ended.
@@ -23,6 +23,8 @@ pub enum Status {
     BadBoot(u8),
     /// The first line of the log that fails a check, from 1, and its first check.
     BadLog(u32, u8),
+    /// The address of the first platter whose image isn't good, and the first check that the image fails.
+    BadImage(Addr, u8),
     /// Writing an output failed; the name is empty for the summary.
     WriteFault(FileName),
     /// Memory failed before anything was written.
@@ -44,6 +46,7 @@ impl Status {
             Status::TooLong(_, _) => 9,
             Status::BadBoot(_) => 4,
             Status::BadLog(_, _) => 5,
+            Status::BadImage(_, _) => 6,
             Status::WriteFault(_) => 7,
             Status::NoMemory => 8,
             Status::KeepNoMemory(_) => 11,
@@ -73,6 +76,13 @@ impl Status {
             Status::BadLog(number, check) => {
                 let mut line = text(b"bad log ");
                 add_number(&mut line, *number);
+                line.add(b" ");
+                add_number(&mut line, u32::from(*check));
+                line
+            }
+            Status::BadImage(address, check) => {
+                let mut line = text(b"bad image ");
+                line.add(&address.bytes());
                 line.add(b" ");
                 add_number(&mut line, u32::from(*check));
                 line

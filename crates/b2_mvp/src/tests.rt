@@ -1,5 +1,6 @@
 // What no clause says: that the machine, the boot and the log are those which the manuals and our rules want, by whole runs
 // with all that they write; and that each refusal has its status.
+use crate::status::Status;
 use crate::top::mvp;
 use b2_base::{MemShelf, MemSink};
 use std::alloc::{AllocError, Global};
@@ -7,6 +8,7 @@ use std::collections::BTreeMap;
 
 mod groups;
 mod long_lines;
+mod platters;
 mod refusals;
 mod runs;
 mod sessions;
@@ -55,6 +57,22 @@ fn alone_words(alloc: Global, parts: &[u8]) -> Result<Vec<Vec<u8>>, AllocError> 
     words(alloc, &[b"alone", b"boot", b"log", b"out", parts])
 }
 
+// A file among others, where it is there.
+fn put(
+    alloc: Global,
+    files: &mut BTreeMap<Vec<u8>, Vec<u8>>,
+    name: &[u8],
+    bytes: Option<&[u8]>,
+) -> Result<(), AllocError> {
+    if let Some(bytes) = bytes {
+        files.insert(
+            Vec::from_slice(alloc, name)?,
+            Vec::from_slice(alloc, bytes)?,
+        )?;
+    }
+    Ok(())
+}
+
 // A shelf with a boot file and a log, where they are there, whose listed calls fail.
 fn shelf(
     alloc: Global,
@@ -63,23 +81,44 @@ fn shelf(
     failing: &[u32],
 ) -> Result<MemShelf, AllocError> {
     let mut files = BTreeMap::new(alloc);
-    if let Some(boot) = boot {
-        files.insert(b"boot".to_vec(alloc)?, Vec::from_slice(alloc, boot)?)?;
-    }
-    if let Some(log) = log {
-        files.insert(b"log".to_vec(alloc)?, Vec::from_slice(alloc, log)?)?;
-    }
+    put(alloc, &mut files, b"boot", boot)?;
+    put(alloc, &mut files, b"log", log)?;
     Ok(MemShelf::new(alloc, files, Vec::from_slice(alloc, failing)?))
 }
 
-// What terminal 1 shows in a run, or the line for the status where that isn't 0.
-fn transcript_of(alloc: Global, boot: &[u8], log: &[u8]) -> Result<Vec<u8>, AllocError> {
-    let mut shelf = shelf(alloc, Some(boot), Some(log), &[])?;
+// One with a boot file, a log and an image.
+fn shelf_with(
+    alloc: Global,
+    boot: &[u8],
+    log: &[u8],
+    name: &[u8],
+    image: &[u8],
+) -> Result<MemShelf, AllocError> {
+    let mut files = BTreeMap::new(alloc);
+    put(alloc, &mut files, b"boot", Some(boot))?;
+    put(alloc, &mut files, b"log", Some(log))?;
+    put(alloc, &mut files, name, Some(image))?;
+    Ok(MemShelf::new(alloc, files, Vec::new(alloc)))
+}
+
+// How a run over a shelf ends.
+fn run_over(alloc: Global, shelf: &mut MemShelf) -> Result<Status, AllocError> {
+    let words = run_words(alloc)?;
     let mut sink = MemSink::new(alloc, Vec::new(alloc));
-    let status = mvp(alloc, &run_words(alloc)?, &mut shelf, &mut sink);
+    Ok(mvp(alloc, &words, shelf, &mut sink))
+}
+
+// What terminal 1 shows in a run over a shelf, or the line for the status where that isn't 0.
+fn transcript_over(alloc: Global, shelf: &mut MemShelf) -> Result<Vec<u8>, AllocError> {
+    let status = run_over(alloc, shelf)?;
     if status.number() == 0 {
         Vec::from_slice(alloc, shelf.file(b"out.t01").unwrap_or(b""))
     } else {
         Vec::from_slice(alloc, status.message().bytes())
     }
+}
+
+fn transcript_of(alloc: Global, boot: &[u8], log: &[u8]) -> Result<Vec<u8>, AllocError> {
+    let mut shelf = shelf(alloc, Some(boot), Some(log), &[])?;
+    transcript_over(alloc, &mut shelf)
 }

@@ -3,14 +3,16 @@ ghost use Rattle.std.specs.Prelude.{◌≡◌, ◌≤◌, IfSome, IfOk, None, le
 ghost use Rattle.b2_base.specs.Seen.{shelf_seen, sink_seen};
 ghost use Rattle.b2_mvp.specs.Complete.{IsComplete};
 ghost use Rattle.b2_mvp.specs.Outputs.{outputs, summary};
+ghost use Rattle.b2_sched.specs.Start.{HasDevices};
 ghost use Rattle.b2_mvp.specs.Top.{command_by, command_of, boot_for, texts, world_after, Delivers, Comes};
 
-use crate::inputs::{read_boot, read_log};
-use crate::outputs::{keep_transcripts, summarize};
+use crate::inputs::{read_boot, read_images, read_log};
+use crate::outputs::{keep_outputs, summarize};
 use crate::parts::Parts;
 use crate::status::Status;
 use b2_base::{FileName, Keep, NoMemory, Shelf, Sink};
 use b2_boot::{Boot, Event};
+use b2_platter::Platter;
 use b2_sched::World;
 use std::alloc::Global;
 
@@ -64,12 +66,19 @@ fn read_command(words: &[Vec<u8>]) -> Option<Command>
     }
 }
 
-/// Runs the events from the boot's world.
-fn run_events(alloc: Global, boot: &Boot, events: &[Event]) -> Result<Ready, NoMemory>
-    ensures world { IfOk result (λ ready. ready.world ≡ world_after boot.now events.now) }
-    ensures line { IfOk result (λ ready. ready.line.items ≡ summary boot.now (world_after boot.now events.now)) }
+/// Runs the events from the world of the boot and the images of its platters.
+fn run_events(
+    alloc: Global,
+    boot: &Boot,
+    platters: Vec<Platter>,
+    events: &[Event],
+) -> Result<Ready, NoMemory>
+    requires devices { HasDevices boot.now }
+    requires as_many { length boot.now.platters ≡ length platters.items }
+    ensures world { IfOk result (λ ready. ready.world ≡ world_after boot.now platters.items events.now) }
+    ensures line { IfOk result (λ ready. ready.line.items ≡ summary boot.now (world_after boot.now platters.items events.now)) }
 {
-    let mut world = World::boot(alloc, boot)?;
+    let mut world = World::boot(alloc, boot, platters)?;
     world.run(events)?;
     let line = summarize(alloc, boot, &world)?;
     Ok(Ready { world, line })
@@ -80,28 +89,37 @@ fn run_group(
     alloc: Global,
     group: &Option<Parts>,
     boot: &Boot,
+    platters: Vec<Platter>,
     events: &[Event],
 ) -> Result<Ready, NoMemory>
-    ensures world { IfOk result (λ ready. ready.world ≡ world_after (boot_for group.now boot.now) events.now) }
-    ensures line { IfOk result (λ ready. ready.line.items ≡ summary (boot_for group.now boot.now) (world_after (boot_for group.now boot.now) events.now)) }
+    requires devices { HasDevices boot.now }
+    requires as_many { length boot.now.platters ≡ length platters.items }
+    ensures world { IfOk result (λ ready. ready.world ≡ world_after (boot_for group.now boot.now) platters.items events.now) }
+    ensures line { IfOk result (λ ready. ready.line.items ≡ summary (boot_for group.now boot.now) (world_after (boot_for group.now boot.now) platters.items events.now)) }
 {
     match group {
-        None => run_events(alloc, boot, events),
+        None => run_events(alloc, boot, platters, events),
         Some(parts) => {
             let members = boot.alone(alloc, parts.as_slice())?;
-            run_events(alloc, &members, events)
+            run_events(alloc, &members, platters, events)
         }
     }
 }
 
-/// Keeps the transcripts, and puts the line.
-fn deliver<F: Shelf, O: Sink>(out: &FileName, ready: &Ready, shelf: &mut F, sink: &mut O) -> Status
+/// Keeps the transcripts and the images, and puts the line.
+fn deliver<F: Shelf, O: Sink>(
+    out: &FileName,
+    boot: &Boot,
+    ready: &Ready,
+    shelf: &mut F,
+    sink: &mut O,
+) -> Status
     requires { length out.now ≤ 190 }
-    ensures { Delivers (outputs out.now ready.now.world.store) ready.now.line.items
+    ensures { Delivers (outputs out.now boot.now ready.now.world.store) ready.now.line.items
         (shelf_seen F.files F.faults F.misses F.longs shelf.old) (shelf_seen F.files F.faults F.misses F.longs shelf.new)
         (sink_seen O.written O.faults sink.old) (sink_seen O.written O.faults sink.new) result }
 {
-    match keep_transcripts(out, ready.world.stores(), shelf) {
+    match keep_outputs(out, boot, ready.world.stores(), shelf) {
         Ok(()) => {}
         Err(status) => return status,
     }
@@ -134,20 +152,24 @@ fn run_words<F: Shelf, O: Sink>(
         Ok(events) => events,
         Err(status) => return status,
     };
-    let Ok(ready) = run_group(alloc, &command.group, &boot, &events) else {
+    let platters = match read_images(alloc, &boot.platters, shelf) {
+        Ok(platters) => platters,
+        Err(status) => return status,
+    };
+    let Ok(ready) = run_group(alloc, &command.group, &boot, platters, &events) else {
         return Status::NoMemory;
     };
-    deliver(&command.out, &ready, shelf, sink)
+    deliver(&command.out, &boot, &ready, shelf, sink)
 }
 
 /// Does all that the program does with the words after its name, over a shelf of files and a sink for the summary:
-/// `run BOOT LOG OUT` fetches the boot file and the log, runs the log from the boot, keeps the transcript of each
-/// terminal as `OUT.t` and its number of two digits, and puts the summary line, which also lists the partitions that are
-/// apart. `alone BOOT LOG OUT PARTS` does the same with the listed partitions alone; the log is checked against the whole boot
-/// all the same.
+/// `run BOOT LOG OUT` fetches the boot file, the log and the images of the platters by address, runs the log from the boot, keeps
+/// the transcript of each terminal as `OUT.t` and its number of two digits and the image of each platter as `OUT.` and its address,
+/// and puts the summary line, which also lists the partitions that are apart. `alone BOOT LOG OUT PARTS` does the same with the
+/// listed partitions alone; the log is checked against the whole boot all the same.
 ///
 /// The first refusal on this way is the answer. Until the log has run to its end, no file changes; nothing is put before
-/// the last transcript is kept. Where the words are no command, the answer is `Usage`, whatever the memory.
+/// the last image is kept. Where the words are no command, the answer is `Usage`, whatever the memory.
 pub fn mvp<F: Shelf, O: Sink>(
     alloc: Global,
     words: &[Vec<u8>],

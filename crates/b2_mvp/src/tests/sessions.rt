@@ -25,6 +25,7 @@ mod branches;
 mod bytes;
 mod calls;
 mod data;
+mod disks;
 mod editing;
 mod first_codes;
 mod input;
@@ -36,19 +37,23 @@ mod steps;
 mod texts;
 mod variables;
 
-use super::transcript_of;
+use super::platters::two_files;
+use super::{shelf_with, transcript_over};
 use b2_base::cut;
 use b2_base::lexical::{first_bytes, hex_value, is_hex_digit, rest_after};
 use std::alloc::{AllocError, Global};
 use std::process::Abort;
 use std::test::Fail;
 
-// Partition 1 on terminal 1.
+// Partition 1 on terminal 1, on a disk of 64 blank sectors; another one, and one with two files.
 #[rattlefmt::skip]
 const BOOT: &[u8] = b"\
 quota=1000\n\
 [[terminal]]\nnumber=1\nfront=1\n\
-[[partition]]\nnumber=1\nterminal=1\ntext=8\ndata=2\nglobals=2\n\
+[[partition]]\nnumber=1\nterminal=1\ntext=8\ndata=2\nglobals=2\ndisk=\"D11\"\n\
+[[platter]]\naddress=\"D11\"\nblank=64\n\
+[[platter]]\naddress=\"D12\"\nblank=64\n\
+[[platter]]\naddress=\"D13\"\nimage=\"files\"\n\
 ";
 
 // What is said of a table in which the last session alone is wrong.
@@ -170,7 +175,9 @@ impl<'a> Session<'a> {
         if self.is_ended {
             self.transcript.push(b':')?;
         }
-        let shown = transcript_of(alloc, BOOT, &self.log)?;
+        let image = two_files(alloc)?;
+        let mut shelf = shelf_with(alloc, BOOT, &self.log, b"files", &image)?;
+        let shown = transcript_over(alloc, &mut shelf)?;
         if shown != self.transcript {
             told.push_str("= ")?;
             push_bytes(told, self.title)?;
