@@ -1,12 +1,13 @@
 //! The machine as a program: `b2_mvp run BOOT LOG OUT`, and `b2_mvp alone BOOT LOG OUT PARTS` for some partitions alone.
 //!
-//! It reads a boot file and a log of keystrokes, halts and turns, runs the machine that the boot starts under that log,
-//! writes the transcript of each terminal to a file and a summary line to standard output. Stands on `b2_base` for the
-//! outside, on `b2_boot` for what the two inputs say, on `b2_sched` for the machine, and on `b2_audit` for who is clean.
+//! It reads a boot file, a log of keystrokes, halts and turns, and the images of platters, runs the machine that the boot and its
+//! images start under that log, writes the transcript of each terminal and the image of each platter to a file, and a summary line
+//! to standard output. Stands on `b2_base` for the outside, on `b2_boot` for what boot file and log say, on `b2_platter` for what
+//! an image has to be, on `b2_sched` for the machine, on `b2_store` for what is kept of it, and on `b2_audit` for who is clean.
 //!
 //! The main promise is the contract of `top::mvp`: whatever the words, the boot, the log and the outside, each status comes
 //! by its cause, and where the status is `Ok`, what was written is what the machine defined in `b2_sched` writes from this
-//! boot and under this log, and each group of partitions that is clean there shows what it shows alone. The definitions: `Inputs`
+//! boot and its images and under this log, and each group of partitions that is clean there shows what it shows alone. The definitions: `Inputs`
 //! what the inputs say and how their fetches end, `Parts` lists of partitions, `Outputs` what is written, `Groups` what that shows
 //! of groups, `Status` the statuses, `Top` when each comes, `Complete` what is to be answered where nothing fails.
 #![tactic(auto)]
