@@ -1,12 +1,14 @@
 -- A language: which rows are built, what their statements plan, and how they finish; and what it owes its machine.
-use Rattle.std.specs.Prelude.{◌≡◌, ℕ, Bool, false}
+use Rattle.std.specs.Prelude.{◌≡◌, ℕ, Bool, List, false}
 use Rattle.b2_atom.specs.declared.rows.TheConstants as row
 use Rattle.b2_access.specs.LeftAlone.{LeaveTheRest}
 use Rattle.b2_access.specs.Lending.{SeenLent}
+use Rattle.b2_access.specs.OwnDevices.{PlansListed}
 use Rattle.b2_access.specs.Planning.{Finishing, Planning}
 use Rattle.b2_access.specs.Touching.{IsLegal}
 use Rattle.b2_access.specs.declared.accesses.Access.{Access}
 use Rattle.b2_access.specs.declared.accesses.Answer.{Answer}
+use Rattle.b2_access.specs.declared.devices.Device.{Device}
 use Rattle.b2_access.specs.declared.planned.Planned.{Planned}
 use Rattle.b2_access.specs.declared.planned.Planned.TheVariants as planned
 use Rattle.b2_access.specs.declared.private.Private.{Private}
@@ -31,3 +33,7 @@ pub record AreLawful (ways : Ways) : Type 0 where
   pub no_list : ways.built row.LIST ≡ false
   pub plans_legally : (r : ℕ) → PlansLegally (ways.plan r)
   pub leave_the_rest : (r : ℕ) → LeaveTheRest (ways.plan r) (ways.finish r)
+
+-- And over the devices that there are: a statement of any row plans by the table, which lists what it asks for.
+abbrev pub AskForListed : (List Device → Ways) → Type 0
+AskForListed ways = (r : ℕ) → PlansListed (λ devices. (ways devices).plan r)

@@ -6,7 +6,7 @@ ghost use Rattle.b2_access.specs.Answering.{can_answer};
 ghost use Rattle.b2_access.specs.Found.{IsFound, seen_found};
 ghost use Rattle.b2_access.specs.Lending.{globals_lent, seen_lent};
 ghost use Rattle.b2_access.specs.Planning.{done};
-ghost use Rattle.b2_language.specs.Languages.{AreLawful, Ways};
+ghost use Rattle.b2_language.specs.Languages.{AreLawful, AskForListed, Ways};
 
 use b2_access::{Access, Answer, DeviceTable, Found, Lent, Outcome, Planned, Private};
 use b2_base::NoMemory;
@@ -85,4 +85,7 @@ pub trait Language {
 
     /// What it owes its machine.
     ghost lawful: { (devices : List Device) → AreLawful (ways devices) };
+
+    /// Its statements ask for devices that the table lists for their partition, and for no others.
+    ghost asks_listed: { AskForListed ways };
 }

@@ -9,6 +9,7 @@ pub mod LocalSteps
 pub mod StepHomes
 pub mod KeptPlace
 pub mod StepTerminal
+pub mod StepDevices
 pub mod AtOnce
 pub mod Begins
 pub mod Counted

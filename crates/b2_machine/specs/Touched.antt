@@ -3,6 +3,7 @@ use Rattle.std.specs.Prelude.{◌≡◌, ℕ, Bool, true, false, List, [], ◌�
 use Rattle.b2_flow.specs.declared.frame.Place.{Place}
 use Rattle.b2_access.specs.Homes.{IsWithin}
 use Rattle.b2_access.specs.Loans.{Loan}
+use Rattle.b2_access.specs.OwnDevices.{ReachesListed}
 use Rattle.b2_access.specs.OwnTerminal.{AskedAt}
 use Rattle.b2_access.specs.Partition.{is_ready}
 use Rattle.b2_access.specs.Sharing.{ServingOf, writes}
@@ -10,6 +11,7 @@ use Rattle.b2_access.specs.Store.{StoreState, AgreeOn, IsIn, content}
 use Rattle.b2_access.specs.Touching.{touched}
 use Rattle.b2_access.specs.declared.accesses.Access.{Access}
 use Rattle.b2_access.specs.declared.accesses.Access.TheVariants as access
+use Rattle.b2_access.specs.declared.devices.Device.{Device}
 use Rattle.b2_access.specs.declared.objects.Object.{Object}
 use Rattle.b2_access.specs.declared.objects.Object.TheVariants as object
 use Rattle.b2_access.specs.declared.private.Private.{Private}
@@ -72,6 +74,15 @@ asking ways me s =
     if me.reset then asks_nothing me
     else (if me.halt then asks_unless_halted ways me s
     else asks_as_it_acts ways me s)
+
+-- what is asked for reaches only devices that the table lists for a partition, where anything is
+abbrev pub AskedListed : List Device → ℕ → Option Access → Type 0
+AskedListed devices who None = Unit {0}
+AskedListed devices who (Some a) = ReachesListed devices who a
+
+-- A step asks for devices that the table lists for its partition, and for no others.
+abbrev pub StepsAskForListed : (List Device → Ways) → Type 0
+StepsAskForListed ways = (devices : List Device) (me : Private) (s : StoreState) → AskedListed devices me.part (asking (ways devices) me s).access
 
 abbrev pub touched_where : Option Access → ℕ → StoreState → List Object
 touched_where None who s = []

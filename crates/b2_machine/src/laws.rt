@@ -5,7 +5,7 @@ ghost use Rattle.b2_access.specs.Partition.{KeepsNone};
 ghost use Rattle.b2_access.specs.declared.private.Private.{Private};
 ghost use Rattle.b2_machine.specs.Counting.{StepsCountOrEnd, UncountedStepsChangeNothing};
 ghost use Rattle.b2_machine.specs.Step.{step};
-ghost use Rattle.b2_machine.specs.Touched.{StepsAreLocal, StepsAskAtTerminal, StepsStayWithin};
+ghost use Rattle.b2_machine.specs.Touched.{StepsAreLocal, StepsAskAtTerminal, StepsAskForListed, StepsStayWithin};
 
 use b2_access::Shared;
 use b2_language::Language;
@@ -30,6 +30,11 @@ pub fn law_a_step_keeps_no_place<L: Language, S: Shared>()
 /// A step asks at the terminal of its partition alone, and leaves which one that is.
 pub fn law_a_step_asks_at_its_terminal<L: Language, S: Shared>()
     ensures { (devices : List Device) → StepsAskAtTerminal (L.ways devices) S.store S.serving S.lending }
+{}
+
+/// A step asks for devices that the table lists for its partition, and for no others.
+pub fn law_a_step_asks_for_listed_devices<L: Language>()
+    ensures { StepsAskForListed L.ways }
 {}
 
 /// A step that doesn't count ends its turn. So each turn has at most one, its last.

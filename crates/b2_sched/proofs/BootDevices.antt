@@ -1,13 +1,13 @@
 -- A boot of a file has few devices, and each address once: they ascend by their numbers.
 use Rattle.std.specs.Prelude.{◌≡◌, ℕ, ◌<◌, ◌≤◌, Bool, true, false, not, ◌&&◌, ◌||◌, List, [], ◌∷◌, length, map, refl}
-use Rattle.std.proofs.Common.{ap, sym, subst, ◌∙◌, arith}
+use Rattle.std.proofs.Common.{ap, ◌∙◌, arith}
 use Rattle.std.proofs.lemmas.Slice.Eq.{bytes_eq-Decides}
 use Rattle.std.specs.List.{list_any}
 use Rattle.std.specs.Str.{bytes_eq}
 use Rattle.b2_access.specs.Devices.{are_distinct}
 use Rattle.b2_boot.specs.Boots.{Ascends, BootState, IsGood, address_number, number_of_platter}
 use Rattle.b2_boot.specs.declared.boot.BootPlatter.{BootPlatter}
-use Rattle.b2_sched.specs.Start.{HasDevices, addresses}
+use Rattle.b2_sched.specs.Start.{HasDevices}
 
 abbrev places : List BootPlatter → List (List ℕ)
 places ps = map (λ p. p.address) ps

@@ -26,6 +26,18 @@ pub all_keep_quota : (xs : List Action) (w : WorldState) → (does_all xs w).quo
 all_keep_quota [] w = refl
 all_keep_quota (x ∷ xs) w = all_keep_quota xs (does x w) ∙ keeps_quota x w
 
+-- and so do the devices that there are
+turned_devices : (p n : ℕ) (m : Option Private) (w : WorldState) → (with_turn p m n w).devices ≡ w.devices
+turned_devices p n None w = refl
+turned_devices p n (Some me) w = refl
+
+pub keeps_devices : (a : Action) (w : WorldState) → (does a w).devices ≡ w.devices
+keeps_devices (Key t k) w = refl
+keeps_devices (Front t p) w = refl
+keeps_devices (Halt p) w = refl
+keeps_devices (Reset p) w = refl
+keeps_devices (Turn p n) w = turned_devices p n (private_of p w) w
+
 -- along a round
 pub turn_first : (quota p : ℕ) (w : WorldState) → p < 17 → does_all (turns_from quota (p + 1) (17 - (p + 1))) (does (Turn p quota) w) ≡ does_all (turns_from quota p (17 - p)) w
 turn_first quota p w below = let left : suc (17 - (p + 1)) ≡ 17 - p = omega arith in ap (λ n. does_all (turns_from quota p n) w) left

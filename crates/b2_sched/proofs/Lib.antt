@@ -20,3 +20,4 @@ pub mod WatchedTurns
 pub mod WorldMarks
 pub mod KeptPlaces
 pub mod Granted
+pub mod TouchedDevices

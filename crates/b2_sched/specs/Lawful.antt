@@ -1,19 +1,22 @@
 -- What holds of the statements of each crate holds of the language: by the family of their row, and by nothing else.
 use Rattle.std.proofs.Common.{◌≡◌, ℕ, Bool, true, false, true≢false, ◌&&◌, ◌||◌, not, List, refl, sym}
 use Rattle.b2_access.specs.LeftAlone.{LeaveTheRest}
+use Rattle.b2_access.specs.OwnDevices.{PlansListed}
 use Rattle.b2_access.specs.declared.devices.Device.{Device}
-use Rattle.b2_language.specs.Languages.{AreLawful, PlansLegally}
+use Rattle.b2_language.specs.Languages.{AreLawful, AskForListed, PlansLegally}
 use Rattle.b2_stmt.specs.Clearing.{asks_access}
 use Rattle.b2_stmt.specs.Plan as stmt
 use Rattle.b2_stmt.proofs.LeftAlone as stmt_laws
 use Rattle.b2_stmt_disk.specs.Plan as stmt_disk
 use Rattle.b2_stmt_disk.proofs.LeftAlone as stmt_disk_laws
+use Rattle.b2_stmt_disk.proofs.Listed.{asked_are_listed}
 use Rattle.b2_stmt_io.specs.Plan as stmt_io
 use Rattle.b2_stmt_io.proofs.LeftAlone as stmt_io_laws
 use Rattle.b2_stmt_var.specs.Plan as stmt_var
 use Rattle.b2_stmt_var.proofs.LeftAlone as stmt_var_laws
 use Rattle.b2_sched.specs.Choice.{basic, family_of, finish_by, is_at_once, is_built, plan_by}
 use Rattle.b2_sched.specs.Legal.{control_legally, disks_legally, terminal_legally, variables_legally}
+use Rattle.b2_sched.specs.Listed.{control_listed, terminal_listed, variables_listed}
 use Rattle.b2_sched.specs.declared.choice.Family.{Family}
 use Rattle.b2_sched.specs.declared.choice.Family.TheVariants as family
 
@@ -31,6 +34,15 @@ leave_the_rest devices family.Disks = stmt_disk_laws.leave_the_rest devices
 
 pub basic_is_lawful : (devices : List Device) → AreLawful (basic devices)
 basic_is_lawful devices = record { no_list = refl; plans_legally = λ r. plan_legally devices (family_of r); leave_the_rest = λ r. leave_the_rest devices (family_of r) }
+
+plan_listed : (f : Family) → PlansListed (λ devices. plan_by devices f)
+plan_listed family.Variables = variables_listed
+plan_listed family.Control = control_listed
+plan_listed family.Terminal = terminal_listed
+plan_listed family.Disks = asked_are_listed
+
+pub basic_asks_for_listed : AskForListed basic
+basic_asks_for_listed r = plan_listed (family_of r)
 
 built_by : (a b c d e : Bool) → (a || (b && not c)) ≡ true → (a || b || d || e) ≡ true
 built_by true b c d e is = refl

@@ -1,5 +1,6 @@
 pub mod Choice
 pub mod Legal
+pub mod Listed
 pub mod Lawful
 pub mod Turns
 pub mod Marking
@@ -8,4 +9,5 @@ pub mod World
 pub mod Start
 pub mod Laws
 pub mod Groups
+pub mod Devices
 pub mod Clean

@@ -12,7 +12,7 @@ pub struct Basic;
 
 impl Language for Basic {
     ghost use Rattle.b2_sched.specs.Choice.{basic, is_at_once};
-    ghost use Rattle.b2_sched.specs.Lawful.{at_once_is_built, basic_is_lawful};
+    ghost use Rattle.b2_sched.specs.Lawful.{at_once_is_built, basic_asks_for_listed, basic_is_lawful};
 
     ghost ways = { basic };
 
@@ -90,4 +90,6 @@ impl Language for Basic {
     ghost at_once_is_built = { at_once_is_built };
 
     ghost lawful = { basic_is_lawful };
+
+    ghost asks_listed = { basic_asks_for_listed };
 }

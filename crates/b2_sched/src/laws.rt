@@ -1,6 +1,7 @@
 //! What holds of every world: each law is the contract of a function without a body.
 ghost use Rattle.b2_boot.specs.Boots.{BootState, IsGood};
 ghost use Rattle.b2_sched.specs.Clean.{CleanOnesAreAsAlone, MarksSayWhoIsClean, RunsMarkTheirSteps};
+ghost use Rattle.b2_sched.specs.Devices.{RunsTouchListedDevices};
 ghost use Rattle.b2_sched.specs.Groups.{CleanGroupsAreAsAlone, GroupsRelyOnTheirOwn, TurnsChangeTheirOwn};
 ghost use Rattle.b2_sched.specs.Laws.{RunsByActions, LeavesOthers, KeepsPresent, RoundsAscend, CountsTurns, NoPlaceIsKept, RunsKeepToTheirGrant, TurnsCountAllButOne};
 ghost use Rattle.b2_sched.specs.Marking.{TurnsMarkTheirSteps};
@@ -89,4 +90,9 @@ pub fn law_who_is_clean_is_as_alone()
 /// A boot that passed its checks has few devices, each address once.
 pub fn law_a_boot_has_devices()
     ensures { (b : BootState) → IsGood b → HasDevices b }
+{}
+
+/// Whatever was run from a boot, each object of a device that a step touched has an address that the boot lists.
+pub fn law_a_run_touches_listed_devices()
+    ensures { RunsTouchListedDevices }
 {}

@@ -1,0 +1,73 @@
+-- A step asks for devices that the table lists for its partition, and for no others.
+use Rattle.std.proofs.Common.{ℕ, Bool, true, false, List, Option, Some, None, is_some}
+use Rattle.b2_flow.specs.declared.frame.Place.{Place}
+use Rattle.b2_text.specs.Program.{Lines}
+use Rattle.b2_access.specs.Lending.{SeenLent}
+use Rattle.b2_access.specs.OwnDevices.{PlannedListed}
+use Rattle.b2_access.specs.Partition.{is_ready}
+use Rattle.b2_access.specs.Placed.{Statement, statement_placed}
+use Rattle.b2_access.specs.Store.{StoreState}
+use Rattle.b2_access.specs.declared.devices.Device.{Device}
+use Rattle.b2_access.specs.declared.planned.Planned.{Planned}
+use Rattle.b2_access.specs.declared.planned.Planned.TheVariants as planned
+use Rattle.b2_access.specs.declared.private.Private.{Private}
+use Rattle.b2_access.proofs.Choice.{either}
+use Rattle.b2_language.specs.Languages.{AskForListed, Ways}
+use Rattle.b2_machine.specs.Listed.{lists}
+use Rattle.b2_machine.specs.Statements.{begins_where, begun_by, builder_of, plan_by}
+use Rattle.b2_machine.specs.Step.{seen_by}
+use Rattle.b2_machine.specs.Touched.{AskedListed, Asking, StepsAskForListed, access_asked, asking, asks_at, asks_to_enter, asks_to_show, asks_to_type, asks_unless_halted}
+use Rattle.b2_machine.specs.declared.statements.Builder.{Builder}
+use Rattle.b2_machine.specs.declared.statements.Builder.TheVariants as builder
+
+-- LIST shows lines at the terminal
+listing_listed : (devices : List Device) (b : Bool) (range : ℕ × ℕ) (me : Private) (s : SeenLent) → PlannedListed devices me.part (lists b range me s).planned
+listing_listed devices true range me s = tt
+listing_listed devices false range me s = tt
+
+begun_listed : (devices : List Device) (who : ℕ) (x : Planned) (b : Builder) (p : Place) (me : Private) (home : Lines) → PlannedListed devices who x → AskedListed devices who (access_asked (begun_by x b p me home).progress)
+begun_listed devices who (planned.Done o) b p me home h = tt
+begun_listed devices who (planned.Ask a) b p me home h = h
+
+module _ (ways : List Device → Ways) (listed : AskForListed ways) (devices : List Device) where
+  -- statements
+  planned_listed : (b : Builder) (p : Place) (me : Private) (s : SeenLent) → PlannedListed devices me.part (plan_by (ways devices) b p me s).planned
+  planned_listed (builder.Listing from to) p me s = listing_listed devices (is_some p.line) (from, to) me s
+  planned_listed (builder.Language r) p me s = listed r devices me s
+  planned_listed builder.Nobody p me s = tt
+
+  begins_listed : (u : Option Statement) (p : Place) (me : Private) (s : SeenLent) → AskedListed devices me.part (access_asked (begins_where (ways devices) u p me s).progress)
+  begins_listed None p me s = tt
+  begins_listed (Some u) p me s =
+      let b = builder_of (ways devices) u in
+      let x = plan_by (ways devices) b p me s in
+      begun_listed devices me.part x.planned b p x.me s.home.lines (planned_listed b p me s)
+
+  -- the rules of a step: all but a statement ask at the terminal, or for an edit of the own text
+  abbrev Listed : ℕ → Asking → Type 0
+  Listed who x = AskedListed devices who x.access
+
+  at_place : (x : Option Place) (me : Private) (s : StoreState) → Listed me.part (asks_at (ways devices) x me s)
+  at_place None me s = tt
+  at_place (Some p) me s = begins_listed (statement_placed p me.immediate (seen_by me s).home.lines) p me (seen_by me s)
+
+  at_number : (x : Option (ℕ × Option (List ℕ))) (me : Private) (s : StoreState) → Listed me.part (asks_to_enter (ways devices) x me s)
+  at_number (Some line) me s = tt
+  at_number None me s = at_place me.place me s
+
+  at_literal : (x : Option (List ℕ)) (me : Private) (s : StoreState) → Listed me.part (asks_to_type (ways devices) x me s)
+  at_literal (Some text) me s = tt
+  at_literal None me s = at_number me.numbered me s
+
+  at_output : (x : Option (List ℕ × List ℕ)) (me : Private) (s : StoreState) → Listed me.part (asks_to_show (ways devices) x me s)
+  at_output (Some text) me s = tt
+  at_output None me s = at_literal me.literal me s
+
+  at_halt : (me : Private) (s : StoreState) → Listed me.part (asks_unless_halted (ways devices) me s)
+  at_halt me s = either (Listed me.part) (is_ready me) _ _ (at_output me.pending (record me { halt = false }) s) tt
+
+  step_listed : (me : Private) (s : StoreState) → Listed me.part (asking (ways devices) me s)
+  step_listed me s = either (Listed me.part) me.reset _ _ tt (either (Listed me.part) me.halt _ _ (at_halt me s) (at_output me.pending me s))
+
+pub steps_ask_for_listed : (ways : List Device → Ways) (listed : AskForListed ways) → StepsAskForListed ways
+steps_ask_for_listed ways listed devices me s = step_listed ways listed devices me s

@@ -1,0 +1,66 @@
+-- Statements on variables, of control and at the terminal ask for no device, so the table lists all that they ask for.
+use Rattle.std.proofs.Common.{ℕ, ◌==◌, ap, subst, sym, List, Option, Some, None}
+use Rattle.b2_atom.specs.Tree.{Trees}
+use Rattle.b2_atom.specs.Tree.Trees.{Done, Put, In}
+use Rattle.b2_atom.specs.declared.rows.TheConstants as row
+use Rattle.b2_access.specs.Lending.{SeenLent}
+use Rattle.b2_access.specs.OwnDevices.{AreListed, PlannedListed, PlansListed, ReachesListed}
+use Rattle.b2_access.specs.OwnTerminal.{IsAtTerminal}
+use Rattle.b2_access.specs.Planning.{Planning}
+use Rattle.b2_access.specs.Reach.{DeviceReach, Reach}
+use Rattle.b2_access.specs.Working.{planned_of, stops}
+use Rattle.b2_access.specs.declared.accesses.Access.{Access}
+use Rattle.b2_access.specs.declared.devices.Device.{Device}
+use Rattle.b2_access.specs.declared.private.Private.{Private}
+use Rattle.b2_access.proofs.Choice.{either}
+use Rattle.b2_access.proofs.Courses.{each_course}
+use Rattle.b2_access.proofs.Working.{as_it_comes}
+use Rattle.b2_stmt.specs.Clearing.{asked_access, asks_to_erase}
+use Rattle.b2_stmt.specs.Plan as stmt
+use Rattle.b2_stmt_var.specs.Plan as stmt_var
+use Rattle.b2_stmt_io.specs.Plan as stmt_io
+use Rattle.b2_stmt_io.proofs.Planned as stmt_io_planned
+
+module _ (devices : List Device) (who : ℕ) where
+  abbrev ListedIfAny : Option Access → Type 0
+  ListedIfAny None = Unit {0}
+  ListedIfAny (Some a) = ReachesListed devices who a
+
+  abbrev Fine : Planning → Type 0
+  Fine x = PlannedListed devices who x.planned
+
+  -- CLEAR P
+  erased : (t : Trees) → ReachesListed devices who (asks_to_erase t)
+  erased Done = tt
+  erased (Put w Done) = tt
+  erased (Put w (Put l t)) = tt
+  erased (Put w (In m i t)) = tt
+  erased (In m i t) = tt
+
+  accessed : (r : ℕ) (t : Trees) → ListedIfAny (asked_access r t)
+  accessed r t = either ListedIfAny (r == row.CLEAR) _ _ tt (either ListedIfAny (r == row.CLEAR_P) (Some (asks_to_erase t)) None (erased t) tt)
+
+  by_any : (a : Option Access) (s : SeenLent) (me : Private) (e : _) → ListedIfAny a → Fine (stmt.by_access a s me e)
+  by_any None s me e h = tt
+  by_any (Some a) s me e h = h
+
+  -- an access that reaches a terminal and nothing else
+  at_terminal_listed : (t : ℕ) (a : Access) → IsAtTerminal t a → ReachesListed devices who a
+  at_terminal_listed t a is = subst (λ (ds : List DeviceReach). AreListed devices who ds) (sym (ap (λ (r : Reach). r.devices) is)) tt
+
+-- statements of control
+pub control_listed : PlansListed (λ devices. stmt.plan)
+control_listed devices me s =
+    each_course stmt.is_refused (stmt.stops me s) (stmt.does me s) me s (Fine devices me.part) tt tt (λ p is u. by_any devices me.part (asked_access u.row u.tree) s me _ (accessed devices me.part u.row u.tree))
+
+-- statements on variables
+pub variables_listed : PlansListed (λ devices. stmt_var.plan)
+variables_listed devices me s =
+    as_it_comes (PlannedListed devices me.part) me s (stmt_var.works me s)
+    (each_course stmt_var.is_refused stops (stmt_var.does me s) me s (λ w. PlannedListed devices me.part (planned_of w)) tt tt (λ p is u. tt))
+
+-- statements at the terminal
+pub terminal_listed : PlansListed (λ devices. stmt_io.plan)
+terminal_listed devices me s =
+    as_it_comes (PlannedListed devices me.part) me s (stmt_io.works me s)
+    (stmt_io_planned.each_planned me s (PlannedListed devices me.part) tt tt (λ code. tt) (λ a is. at_terminal_listed devices me.part me.term a is))
