@@ -8,10 +8,12 @@ use Rattle.b2_text.specs.Program.{TextState, size_of, with_line}
 use Rattle.b2_access.specs.declared.objects.Object.TheVariants as object
 use Rattle.b2_access.specs.declared.accesses.Access.{Access}
 use Rattle.b2_access.specs.declared.accesses.Access.TheVariants as access
+use Rattle.b2_access.specs.declared.accesses.Answer.{Answer}
 use Rattle.b2_access.specs.declared.accesses.Answer.TheVariants as answer
-use Rattle.b2_access.specs.AccessRows.{EditTask, becomes, changes_image, erases, puts_atoms, row}
+use Rattle.b2_access.specs.AccessRows.{EditTask, becomes, changes_image, erases, finds_in_image, loaded_answer, no_file, puts_atoms, row, says_or_refuses}
 use Rattle.b2_access.specs.Causes.{GivesCode, IsFullFor, LocksForTheFirst, MeetsCode, RefusesWithTheCode, WaitsForTheFirst}
-use Rattle.b2_access.specs.Disks.{DiskWork}
+use Rattle.b2_access.specs.AnswerKinds.{stops}
+use Rattle.b2_access.specs.Disks.{DiskWork, Loaded, Made}
 use Rattle.b2_access.specs.Serving.{performs}
 use Rattle.b2_access.specs.Store.{StoreState, content}
 use Rattle.b2_access.specs.Task.{Refuse, puts}
@@ -51,20 +53,53 @@ out_never : (who c n : ℕ) (s : StoreState) (t : Option TextState) → (perform
 out_never who c n s None e = cc
 out_never who c n s (Some t) e = cc
 
--- what is made of an image
-image_refuses : (addr : List ℕ) (c : ℕ) (made : List ℕ → Result (List ℕ) ℕ) (s : StoreState) (image : Option (List ℕ)) → ((performs (changes_image addr made image) s).answer ≡ answer.Refused c) ↔ GivesCode c made image
-image_refuses addr c made s None = (λ e. cc, λ h. absurd h)
-image_refuses addr c made s (Some image) = by (made image)
-  where
-    by : (r : Result (List ℕ) ℕ) → ((performs (becomes addr r) s).answer ≡ answer.Refused c) ↔ (r ≡ Err c)
-    by (Ok w) = (λ e. cc, λ e. cc)
-    by (Err code) = (λ e. let same : code ≡ c = cc in ap Err same, λ e. let same : code ≡ c = cc in ap answer.Refused same)
+-- an answer that stops nothing is no code
+no_code : (c : ℕ) (x : Answer) → stops x ≡ false → x ≡ answer.Refused c → ⊥
+no_code c x never e = false≢true (sym never ∙ ap stops e)
+
+same_code : (c code : ℕ) → answer.Refused code ≡ answer.Refused c → code ≡ c
+same_code c code e = cc
+
+err_code : {A : Type 0} (c code : ℕ) → ◌≡◌ {A = Result A ℕ} (Err code) (Err c) → code ≡ c
+err_code c code e = cc
+
+-- what is made of an image, or looked for in it, whose other answers stop nothing
+module _ (c : ℕ) (addr : List ℕ) (unlisted : Answer) (there : stops unlisted ≡ false) (s : StoreState) where
+  change_refuses : {New : Type 0} (image_of : New → List ℕ) (says : New → Answer) → ((n : New) → stops (says n) ≡ false) → (made : List ℕ → Result New ℕ) (image : Option (List ℕ))
+      → ((performs (changes_image addr unlisted image_of says made image) s).answer ≡ answer.Refused c) ↔ GivesCode c made image
+  change_refuses image_of says goes made None = (λ e. no_code c unlisted there e, λ h. absurd h)
+  change_refuses {New} image_of says goes made (Some image) = by (made image)
+    where
+      by : (r : Result New ℕ) → ((performs (becomes addr image_of says r) s).answer ≡ answer.Refused c) ↔ (r ≡ Err c)
+      by (Ok new) = (λ e. absurd (no_code c (says new) (goes new) e), λ e. cc)
+      by (Err code) = (λ e. ap Err (same_code c code e), λ e. ap answer.Refused (err_code c code e))
+
+  finding_refuses : {Found : Type 0} (says : Found → Answer) → ((f : Found) → stops (says f) ≡ false) → (finds : List ℕ → Result Found ℕ) (image : Option (List ℕ))
+      → ((performs (finds_in_image addr unlisted says finds image) s).answer ≡ answer.Refused c) ↔ GivesCode c finds image
+  finding_refuses says goes finds None = (λ e. no_code c unlisted there e, λ h. absurd h)
+  finding_refuses {Found} says goes finds (Some image) = by (finds image)
+    where
+      by : (r : Result Found ℕ) → ((performs (says_or_refuses addr says r) s).answer ≡ answer.Refused c) ↔ (r ≡ Err c)
+      by (Ok found) = (λ e. absurd (no_code c (says found) (goes found) e), λ e. cc)
+      by (Err code) = (λ e. ap Err (same_code c code e), λ e. ap answer.Refused (err_code c code e))
+
+goes_on : (l : Option Loaded) → stops (loaded_answer l) ≡ false
+goes_on None = refl
+goes_on (Some l) = refl
 
 meets_code : (disks : DiskWork) (who c : ℕ) (a : Access) (s : StoreState) → ((performs ((row a).does disks who) s).answer ≡ answer.Refused c) ↔ MeetsCode disks s who c a
 meets_code disks who c (access.PutLine n (Some atoms) homes) s = full_refuses who c n atoms s (content s (object.Text who))
 meets_code disks who c (access.PutLine n None homes) s = (λ e. absurd (out_never who c n s (content s (object.Text who)) e), λ h. absurd h)
-meets_code disks who c (access.Scratch addr name) s = image_refuses addr c (disks.scratch name) s (content s (object.Platter addr))
-meets_code disks who c (access.Format addr index end) s = image_refuses addr c (disks.format index end) s (content s (object.Platter addr))
+meets_code disks who c (access.Scratch addr name) s = change_refuses c addr answer.Done refl s (λ image. image) (λ image. answer.Done) (λ n. refl) (disks.scratch name) (content s (object.Platter addr))
+meets_code disks who c (access.Format addr index end) s = change_refuses c addr answer.Done refl s (λ image. image) (λ image. answer.Done) (λ n. refl) (disks.format index end) (content s (object.Platter addr))
+meets_code disks who c (access.DataNew addr old sectors name) s =
+    change_refuses c addr (answer.Opened (no_file addr name)) refl s (λ m. m.image) (λ m. answer.Opened m.told) (λ m. refl) (disks.data_new addr old sectors name) (content s (object.Platter addr))
+meets_code disks who c (access.DataOpen addr name) s = finding_refuses c addr (answer.Opened (no_file addr name)) refl s answer.Opened (λ slot. refl) (disks.data_open addr name) (content s (object.Platter addr))
+meets_code disks who c (access.DataSave slot values) s =
+    change_refuses c slot.addr (answer.Moved slot.pos) refl s (λ m. m.image) (λ m. answer.Moved m.told) (λ m. refl) (disks.data_save slot values) (content s (object.Platter slot.addr))
+meets_code disks who c (access.DataEnd slot) s = change_refuses c slot.addr (answer.Moved slot.pos) refl s (λ m. m.image) (λ m. answer.Moved m.told) (λ m. refl) (disks.data_end slot) (content s (object.Platter slot.addr))
+meets_code disks who c (access.DataLoad slot kinds) s = finding_refuses c slot.addr answer.AtEnd refl s loaded_answer goes_on (disks.data_load slot kinds) (content s (object.Platter slot.addr))
+meets_code disks who c (access.Skip slot way) s = finding_refuses c slot.addr (answer.Moved slot.pos) refl s answer.Moved (λ n. refl) (disks.skip slot way) (content s (object.Platter slot.addr))
 meets_code disks who c a s = (λ e. absurd (never disks who c a s refl e), λ h. absurd h)
 
 pub refuses_with_the_code : RefusesWithTheCode

@@ -6,7 +6,26 @@ use Rattle.b2_access.specs.declared.accesses.Access.TheVariants as access
 use Rattle.b2_access.specs.declared.accesses.Answer.{Answer}
 use Rattle.b2_access.specs.declared.accesses.Answer.TheVariants as answer
 use Rattle.b2_access.specs.AnswerKinds.{delays}
-use Rattle.b2_access.specs.Views.{ChangeLater, ClearLater, KeyLater, LineLater, NoKey, change_came, clear_came, column_shown, key_came, limits_told, line_came, listing_told}
+use Rattle.b2_access.specs.Views.{
+  ChangeLater,
+  ClearLater,
+  KeyLater,
+  LineLater,
+  LoadingLater,
+  NoKey,
+  OpeningLater,
+  PlaceLater,
+  change_came,
+  clear_came,
+  column_shown,
+  key_came,
+  limits_told,
+  line_came,
+  listing_told,
+  loading_came,
+  opening_came,
+  place_came,
+}
 
 pub none_shown : (x : Access) (a : Answer) → delays a ≡ true → column_shown x a ≡ None
 none_shown (access.Show term bytes column) answer.Done h = cc
@@ -45,3 +64,25 @@ change_delayed (access.Scratch addr name) (answer.Refused c) h = cc
 change_delayed (access.Format addr index end) answer.Done h = cc
 change_delayed (access.Format addr index end) (answer.Refused c) h = cc
 change_delayed x a h = refl
+
+pub opening_delayed : (x : Access) (a : Answer) → delays a ≡ true → opening_came x a ≡ OpeningLater
+opening_delayed (access.DataNew addr old sectors name) (answer.Opened slot) h = cc
+opening_delayed (access.DataNew addr old sectors name) (answer.Refused c) h = cc
+opening_delayed (access.DataOpen addr name) (answer.Opened slot) h = cc
+opening_delayed (access.DataOpen addr name) (answer.Refused c) h = cc
+opening_delayed x a h = refl
+
+pub place_delayed : (x : Access) (a : Answer) → delays a ≡ true → place_came x a ≡ PlaceLater
+place_delayed (access.DataSave slot values) (answer.Moved place) h = cc
+place_delayed (access.DataSave slot values) (answer.Refused c) h = cc
+place_delayed (access.DataEnd slot) (answer.Moved place) h = cc
+place_delayed (access.DataEnd slot) (answer.Refused c) h = cc
+place_delayed (access.Skip slot way) (answer.Moved place) h = cc
+place_delayed (access.Skip slot way) (answer.Refused c) h = cc
+place_delayed x a h = refl
+
+pub loading_delayed : (x : Access) (a : Answer) → delays a ≡ true → loading_came x a ≡ LoadingLater
+loading_delayed (access.DataLoad slot kinds) (answer.Values values place) h = cc
+loading_delayed (access.DataLoad slot kinds) answer.AtEnd h = cc
+loading_delayed (access.DataLoad slot kinds) (answer.Refused c) h = cc
+loading_delayed x a h = refl

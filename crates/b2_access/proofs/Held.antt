@@ -139,6 +139,12 @@ image_unwritten who d (access.Limits addr name) apart i = i
 image_unwritten who d (access.ListDisk addr) apart i = i
 image_unwritten who d (access.Scratch addr name) apart i = no_image d addr apart i
 image_unwritten who d (access.Format addr index end) apart i = no_image d addr apart i
+image_unwritten who d (access.DataNew addr old sectors name) apart i = no_image d addr apart i
+image_unwritten who d (access.DataOpen addr name) apart i = i
+image_unwritten who d (access.DataSave slot values) apart i = no_image d slot.addr apart i
+image_unwritten who d (access.DataEnd slot) apart i = no_image d slot.addr apart i
+image_unwritten who d (access.DataLoad slot kinds) apart i = i
+image_unwritten who d (access.Skip slot way) apart i = i
 image_unwritten who d a apart i = no_other d _ refl i
 
 pub other_images_stay : OtherImagesStay

@@ -1,5 +1,4 @@
--- Accesses that reach a disk and nothing else: they name no terminal, mark no home and put no line; and the disk is listed where the
--- table lists it.
+-- Accesses that reach a disk and nothing else: they name no terminal and mark no home; and the disk is listed where the table lists it.
 use Rattle.std.specs.Prelude.{◌≡◌, ℕ, Bool, true, List, [], refl}
 use Rattle.std.proofs.Common.{ap, subst, sym}
 use Rattle.b2_access.specs.AccessRows.{reach}
@@ -8,7 +7,6 @@ use Rattle.b2_access.specs.Homes.{HomesIn, homes_of}
 use Rattle.b2_access.specs.OwnDevices.{AreListed, IsAtDisk, ReachesListed}
 use Rattle.b2_access.specs.OwnTerminal.{NamesAlone}
 use Rattle.b2_access.specs.Reach.{DeviceReach, Reach, at_disk}
-use Rattle.b2_access.specs.Touching.{IsLegal}
 use Rattle.b2_access.specs.declared.accesses.Access.{Access}
 use Rattle.b2_access.specs.declared.accesses.Access.TheVariants as access
 use Rattle.b2_access.specs.declared.devices.Device.{Device}
@@ -33,10 +31,6 @@ homes_none addr a is = refl
 
 pub at_disk_marks_none : (among : ℕ → Bool) (addr : List ℕ) (a : Access) → IsAtDisk addr a → HomesIn among a
 at_disk_marks_none among addr a is = marks_none among a (homes_none addr a is)
-
-pub at_disk_is_legal : (addr : List ℕ) (a : Access) → IsAtDisk addr a → IsLegal a
-at_disk_is_legal addr (access.PutLine line atoms homes) is = no_device addr (devices_are addr (access.PutLine line atoms homes) is)
-at_disk_is_legal addr a is = tt
 
 pub at_disk_is_listed : (devices : List Device) (who : ℕ) (addr : List ℕ) (a : Access) → is_platter_for who addr devices ≡ true → IsAtDisk addr a → ReachesListed devices who a
 at_disk_is_listed devices who addr a listed is = subst (λ (ds : List DeviceReach). AreListed devices who ds) (sym (devices_are addr a is)) (listed, tt)

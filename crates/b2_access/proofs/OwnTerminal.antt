@@ -23,7 +23,7 @@ terminal_is t a is = ap (λ (r : Reach). r.terminal) is
 pub at_terminal_names_own : (t : ℕ) (a : Access) → IsAtTerminal t a → NamesAlone t a
 at_terminal_names_own t a is = names_own t a (terminal_is t a is)
 
--- an edit reaches no terminal
+-- an edit reaches no terminal, and a disk is none
 no_terminal : {A : Type 0} (t : ℕ) → ◌≡◌ {A = Option ℕ} None (Some t) → A
 no_terminal t e = absurd (cc)
 
@@ -38,4 +38,9 @@ at_terminal_marks_none among t a is = marks_none among a (homes_none t a is)
 
 pub at_terminal_is_legal : (t : ℕ) (a : Access) → IsAtTerminal t a → IsLegal a
 at_terminal_is_legal t (access.PutLine line atoms homes) is = no_terminal t (terminal_is t (access.PutLine line atoms homes) is)
+at_terminal_is_legal t (access.DataNew addr None sectors name) is = no_terminal t (terminal_is t (access.DataNew addr None sectors name) is)
+at_terminal_is_legal t (access.DataSave slot values) is = no_terminal t (terminal_is t (access.DataSave slot values) is)
+at_terminal_is_legal t (access.DataEnd slot) is = no_terminal t (terminal_is t (access.DataEnd slot) is)
+at_terminal_is_legal t (access.DataLoad slot kinds) is = no_terminal t (terminal_is t (access.DataLoad slot kinds) is)
+at_terminal_is_legal t (access.Skip slot way) is = no_terminal t (terminal_is t (access.Skip slot way) is)
 at_terminal_is_legal t a is = tt

@@ -1,6 +1,7 @@
 -- The rows of the accesses: each tells the answers that it says, and writes nothing that it doesn't reach.
-use Rattle.std.specs.Prelude.{◌≡◌, ℕ, nat_lt, true, false, List, [], slice_get, Option, Some, None, Result, Ok, Err, refl}
+use Rattle.std.specs.Prelude.{◌≡◌, ℕ, nat_lt, Bool, true, false, List, [], slice_get, Option, Some, None, Result, Ok, Err, refl}
 use Rattle.std.proofs.Common.{inr}
+use Rattle.b2_base.specs.declared.files.Slot.{Slot}
 use Rattle.b2_text.specs.Program.{TextState, size_of, with_line}
 use Rattle.b2_vars.specs.Tables.{VarsState}
 use Rattle.b2_term.specs.Terminal.{line_read}
@@ -11,9 +12,12 @@ use Rattle.b2_term.specs.declared.Read.TheVariants as read
 use Rattle.b2_access.specs.declared.objects.Object.{Object}
 use Rattle.b2_access.specs.declared.accesses.Access.{Access}
 use Rattle.b2_access.specs.declared.accesses.Access.TheVariants as access
-use Rattle.b2_access.specs.AccessRows.{becomes, changes_image, clears, clears_both, key_answer, line_answer, puts_atoms, puts_line, reach, row}
-use Rattle.b2_access.specs.AnswerKinds.{is_done, is_done_or_code, is_of_key, is_of_line, stops}
+use Rattle.b2_access.specs.declared.accesses.Answer.{Answer}
+use Rattle.b2_access.specs.declared.accesses.Answer.TheVariants as answer
+use Rattle.b2_access.specs.AccessRows.{becomes, changes_image, clears, clears_both, finds_in_image, key_answer, line_answer, loaded_answer, no_file, puts_atoms, puts_line, reach, row, says_or_refuses}
+use Rattle.b2_access.specs.AnswerKinds.{is_done, is_done_or_code, is_of_key, is_of_line, is_of_loading, is_of_opening, is_of_place, stops}
 use Rattle.b2_access.specs.Answering.{RowsTellTheirAnswers, TellsOnly}
+use Rattle.b2_access.specs.Disks.{Loaded, Made}
 use Rattle.b2_access.specs.Reach.{objects_reached}
 use Rattle.b2_access.specs.Store.{IsIn}
 use Rattle.b2_access.proofs.Choice.{either}
@@ -45,13 +49,37 @@ of_clearing : (who : ℕ) (t : Option TextState) → TellsOnly is_done (clears w
 of_clearing who None = (refl, refl)
 of_clearing who (Some t) = of_both who t
 
-of_image : (addr : List ℕ) (r : Result (List ℕ) ℕ) → TellsOnly is_done_or_code (becomes addr r)
-of_image addr (Ok image) = (refl, refl)
-of_image addr (Err code) = refl
+-- an answer that a row tells, and that stops nothing
+abbrev IsTelling : (Answer → Bool) → Answer → Type 0
+IsTelling tells x = (tells x ≡ true) × (stops x ≡ false)
 
-of_change : (addr : List ℕ) (made : List ℕ → Result (List ℕ) ℕ) (c : Option (List ℕ)) → TellsOnly is_done_or_code (changes_image addr made c)
-of_change addr made None = (refl, refl)
-of_change addr made (Some image) = of_image addr (made image)
+-- what is told where a disk is changed, or looked at, and every code
+module _ (tells : Answer → Bool) (addr : List ℕ) (unlisted : Answer) (there : IsTelling tells unlisted) (refuses : (c : ℕ) → tells (answer.Refused c) ≡ true) where
+  of_change : {New : Type 0} (image_of : New → List ℕ) (says : New → Answer) → ((n : New) → IsTelling tells (says n)) → (made : List ℕ → Result New ℕ) (c : Option (List ℕ)) → TellsOnly tells (changes_image addr unlisted image_of says made c)
+  of_change image_of says told made None = there
+  of_change {New} image_of says told made (Some image) = by (made image)
+    where
+      by : (r : Result New ℕ) → TellsOnly tells (becomes addr image_of says r)
+      by (Ok new) = told new
+      by (Err code) = refuses code
+
+  of_finding : {Found : Type 0} (says : Found → Answer) → ((f : Found) → IsTelling tells (says f)) → (finds : List ℕ → Result Found ℕ) (c : Option (List ℕ)) → TellsOnly tells (finds_in_image addr unlisted says finds c)
+  of_finding says told finds None = there
+  of_finding {Found} says told finds (Some image) = by (finds image)
+    where
+      by : (r : Result Found ℕ) → TellsOnly tells (says_or_refuses addr says r)
+      by (Ok found) = told found
+      by (Err code) = refuses code
+
+of_done : (addr : List ℕ) (made : List ℕ → Result (List ℕ) ℕ) (c : Option (List ℕ)) → TellsOnly is_done_or_code (changes_image addr answer.Done (λ image. image) (λ image. answer.Done) made c)
+of_done addr made c = of_change is_done_or_code addr answer.Done (refl, refl) (λ c. refl) (λ image. image) (λ image. answer.Done) (λ n. (refl, refl)) made c
+
+of_placing : (slot : Slot) (made : List ℕ → Result (Made ℕ) ℕ) (c : Option (List ℕ)) → TellsOnly is_of_place (changes_image slot.addr (answer.Moved slot.pos) (λ m. m.image) (λ m. answer.Moved m.told) made c)
+of_placing slot made c = of_change is_of_place slot.addr (answer.Moved slot.pos) (refl, refl) (λ c. refl) (λ m. m.image) (λ m. answer.Moved m.told) (λ m. (refl, refl)) made c
+
+of_loaded : (l : Option Loaded) → IsTelling is_of_loading (loaded_answer l)
+of_loaded None = (refl, refl)
+of_loaded (Some l) = (refl, refl)
 
 pub rows_tell_their_answers : RowsTellTheirAnswers
 rows_tell_their_answers disks (access.Show term bytes column) who = elim [ None ↦ (refl, refl) | Some t ↦ (refl, refl) ]
@@ -63,8 +91,15 @@ rows_tell_their_answers disks (access.Erase from to homes) who = elim [ None ↦
 rows_tell_their_answers disks (access.ClearAll name homes) who = of_clearing who
 rows_tell_their_answers disks (access.Limits addr name) who = elim [ None ↦ (refl, refl) | Some image ↦ (refl, refl) ]
 rows_tell_their_answers disks (access.ListDisk addr) who = elim [ None ↦ (refl, refl) | Some image ↦ (refl, refl) ]
-rows_tell_their_answers disks (access.Scratch addr name) who = of_change addr (disks.scratch name)
-rows_tell_their_answers disks (access.Format addr index end) who = of_change addr (disks.format index end)
+rows_tell_their_answers disks (access.Scratch addr name) who = of_done addr (disks.scratch name)
+rows_tell_their_answers disks (access.Format addr index end) who = of_done addr (disks.format index end)
+rows_tell_their_answers disks (access.DataNew addr old sectors name) who =
+    of_change is_of_opening addr (answer.Opened (no_file addr name)) (refl, refl) (λ c. refl) (λ m. m.image) (λ m. answer.Opened m.told) (λ m. (refl, refl)) (disks.data_new addr old sectors name)
+rows_tell_their_answers disks (access.DataOpen addr name) who = of_finding is_of_opening addr (answer.Opened (no_file addr name)) (refl, refl) (λ c. refl) answer.Opened (λ s. (refl, refl)) (disks.data_open addr name)
+rows_tell_their_answers disks (access.DataSave slot values) who = of_placing slot (disks.data_save slot values)
+rows_tell_their_answers disks (access.DataEnd slot) who = of_placing slot (disks.data_end slot)
+rows_tell_their_answers disks (access.DataLoad slot kinds) who = of_finding is_of_loading slot.addr answer.AtEnd (refl, refl) (λ c. refl) loaded_answer of_loaded (disks.data_load slot kinds)
+rows_tell_their_answers disks (access.Skip slot way) who = of_finding is_of_place slot.addr (answer.Moved slot.pos) (refl, refl) (λ c. refl) answer.Moved (λ n. (refl, refl)) (disks.skip slot way)
 
 -- what is written is reached
 pub written_is_reached : (a : Access) (who : ℕ) (o : Object) → IsIn o ((row a).writes who) → IsIn o (objects_reached who (reach a))
@@ -79,6 +114,12 @@ written_is_reached (access.Limits addr name) who o i = absurd i
 written_is_reached (access.ListDisk addr) who o i = absurd i
 written_is_reached (access.Scratch addr name) who o i = inr i
 written_is_reached (access.Format addr index end) who o i = inr i
+written_is_reached (access.DataNew addr old sectors name) who o i = inr i
+written_is_reached (access.DataOpen addr name) who o i = absurd i
+written_is_reached (access.DataSave slot values) who o i = inr i
+written_is_reached (access.DataEnd slot) who o i = inr i
+written_is_reached (access.DataLoad slot kinds) who o i = absurd i
+written_is_reached (access.Skip slot way) who o i = absurd i
 
 -- no access reaches borrowers yet
 pub no_borrowers : (a : Access) → (reach a).borrowers ≡ []

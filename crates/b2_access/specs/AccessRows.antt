@@ -1,9 +1,11 @@
 -- THE ROWS OF THE ACCESSES: what each reaches, what it writes of that, which answers it tells where nothing stops it, and what it does.
--- What isn't listed stays as it is: an empty terminal has no keys, and a disk has no limits and no listing.
+-- What isn't listed stays as it is: an empty terminal has no keys, and a disk has no limits and no listing; a file there has no sectors,
+-- and a place in it stays.
 use Rattle.std.specs.Prelude.{ℕ, pos, nat_lt, Bool, true, Result, Ok, Err, List, [], ◌∷◌, ◌++◌, drop, slice_get, Option, Some, None, refl, if◌then◌else◌}
 use Rattle.std.specs.FinMap as map
 use Rattle.std.proofs.Common.{inl, inr}
 use Rattle.b2_base.specs.declared.codes.TheConstants.{A01_TEXT_AREA}
+use Rattle.b2_base.specs.declared.files.Slot.{Slot}
 use Rattle.b2_text.specs.Program.{TextState, size_of, with_line, without}
 use Rattle.b2_vars.specs.Tables.{VarsState}
 use Rattle.b2_term.specs.Terminal.{TerminalState, line_read, after_read, inserted}
@@ -17,8 +19,8 @@ use Rattle.b2_access.specs.declared.accesses.Access.{Access}
 use Rattle.b2_access.specs.declared.accesses.Access.TheVariants as access
 use Rattle.b2_access.specs.declared.accesses.Answer.{Answer}
 use Rattle.b2_access.specs.declared.accesses.Answer.TheVariants as answer
-use Rattle.b2_access.specs.AnswerKinds.{is_done, is_done_or_code, is_of_key, is_of_limits, is_of_line, is_of_listing}
-use Rattle.b2_access.specs.Disks.{DiskWork, FourNumbers}
+use Rattle.b2_access.specs.AnswerKinds.{is_done, is_done_or_code, is_of_key, is_of_limits, is_of_line, is_of_listing, is_of_loading, is_of_opening, is_of_place}
+use Rattle.b2_access.specs.Disks.{DiskWork, FourNumbers, Loaded, Made}
 use Rattle.b2_access.specs.Reach.{Reach, at_disk, at_terminal, objects_reached, own_text}
 use Rattle.b2_access.specs.Task.{Task, Look, Tell, Refuse, answers, puts}
 
@@ -120,24 +122,51 @@ abbrev pub reads_image : (addr : List ℕ) → Answer → (List ℕ → Answer) 
 reads_image addr unlisted says None = answers unlisted
 reads_image addr unlisted says (Some image) = answers (says image)
 
--- or it becomes another one, or a code comes
+-- or a code comes in place of what is read
+abbrev pub says_or_refuses : {Found : Type 0} (addr : List ℕ) → (Found → Answer) → Result Found ℕ → ReadTask addr
+says_or_refuses addr says (Ok found) = answers (says found)
+says_or_refuses addr says (Err code) = Refuse code
+
+abbrev pub finds_in_image : {Found : Type 0} (addr : List ℕ) → Answer → (Found → Answer) → (List ℕ → Result Found ℕ) → Option (List ℕ) → ReadTask addr
+finds_in_image addr unlisted says finds None = answers unlisted
+finds_in_image addr unlisted says finds (Some image) = says_or_refuses addr says (finds image)
+
+-- or it becomes another one, of which something is told, or a code comes
 abbrev pub ChangeTask : List ℕ → Type 0
 ChangeTask addr = Task (object.Hog addr ∷ object.Platter addr ∷ []) (object.Platter addr ∷ [])
 
-abbrev pub becomes : (addr : List ℕ) → Result (List ℕ) ℕ → ChangeTask addr
-becomes addr (Ok image) = puts (object.Platter addr) (inl refl) image answer.Done
-becomes addr (Err code) = Refuse code
+abbrev pub becomes : {New : Type 0} (addr : List ℕ) → (New → List ℕ) → (New → Answer) → Result New ℕ → ChangeTask addr
+becomes addr image_of says (Ok new) = puts (object.Platter addr) (inl refl) (image_of new) (says new)
+becomes addr image_of says (Err code) = Refuse code
 
-abbrev pub changes_image : (addr : List ℕ) → (List ℕ → Result (List ℕ) ℕ) → Option (List ℕ) → ChangeTask addr
-changes_image addr made None = answers answer.Done
-changes_image addr made (Some image) = becomes addr (made image)
+abbrev pub changes_image : {New : Type 0} (addr : List ℕ) → Answer → (New → List ℕ) → (New → Answer) → (List ℕ → Result New ℕ) → Option (List ℕ) → ChangeTask addr
+changes_image addr unlisted image_of says made None = answers unlisted
+changes_image addr unlisted image_of says made (Some image) = becomes addr image_of says (made image)
+
+-- a file without sectors, and what is told of a file and of a place in one
+abbrev pub no_file : List ℕ → List ℕ → Slot
+no_file addr name = record { addr = addr; name = name; start = 0; end = 0; pos = 0 }
+
+abbrev pub loaded_answer : Option Loaded → Answer
+loaded_answer None = answer.AtEnd
+loaded_answer (Some l) = answer.Values l.values l.place
 
 abbrev pub reading_row : List ℕ → (Answer → Bool) → Answer → (DiskWork → List ℕ → Answer) → AccessRow
 reading_row addr tells unlisted says = record { reach = at_disk addr; writes = λ who. []; tells = tells; does = λ disks who. Look (object.Platter addr) (inr (inl refl)) (reads_image addr unlisted (says disks)) }
 
+abbrev pub finding_row : {Found : Type 0} → List ℕ → (Answer → Bool) → Answer → (Found → Answer) → (DiskWork → List ℕ → Result Found ℕ) → AccessRow
+finding_row addr tells unlisted says finds = record { reach = at_disk addr; writes = λ who. []; tells = tells; does = λ disks who. Look (object.Platter addr) (inr (inl refl)) (finds_in_image addr unlisted says (finds disks)) }
+
+abbrev pub telling_row : {New : Type 0} → List ℕ → (Answer → Bool) → Answer → (New → List ℕ) → (New → Answer) → (DiskWork → List ℕ → Result New ℕ) → AccessRow
+telling_row addr tells unlisted image_of says made =
+    record { reach = at_disk addr; writes = λ who. object.Platter addr ∷ []; tells = tells; does = λ disks who. Look (object.Platter addr) (inr (inl refl)) (changes_image addr unlisted image_of says (made disks)) }
+
 abbrev pub changing_row : List ℕ → (DiskWork → List ℕ → Result (List ℕ) ℕ) → AccessRow
-changing_row addr made =
-    record { reach = at_disk addr; writes = λ who. object.Platter addr ∷ []; tells = is_done_or_code; does = λ disks who. Look (object.Platter addr) (inr (inl refl)) (changes_image addr (made disks)) }
+changing_row addr made = telling_row addr is_done_or_code answer.Done (λ image. image) (λ image. answer.Done) made
+
+-- at the place in an open file
+abbrev pub placing_row : Slot → (DiskWork → List ℕ → Result (Made ℕ) ℕ) → AccessRow
+placing_row slot made = telling_row slot.addr is_of_place (answer.Moved slot.pos) (λ m. m.image) (λ m. answer.Moved m.told) made
 
 -- THE ROW OF EACH ACCESS
 abbrev pub row : Access → AccessRow
@@ -153,6 +182,12 @@ row (access.Limits addr name) = reading_row addr is_of_limits (four_answer no_li
 row (access.ListDisk addr) = reading_row addr is_of_listing (answer.Bytes []) (λ disks image. answer.Bytes (disks.listing image))
 row (access.Scratch addr name) = changing_row addr (λ disks image. disks.scratch name image)
 row (access.Format addr index end) = changing_row addr (λ disks image. disks.format index end image)
+row (access.DataNew addr old sectors name) = telling_row addr is_of_opening (answer.Opened (no_file addr name)) (λ m. m.image) (λ m. answer.Opened m.told) (λ disks image. disks.data_new addr old sectors name image)
+row (access.DataOpen addr name) = finding_row addr is_of_opening (answer.Opened (no_file addr name)) answer.Opened (λ disks image. disks.data_open addr name image)
+row (access.DataSave slot values) = placing_row slot (λ disks image. disks.data_save slot values image)
+row (access.DataEnd slot) = placing_row slot (λ disks image. disks.data_end slot image)
+row (access.DataLoad slot kinds) = finding_row slot.addr is_of_loading answer.AtEnd loaded_answer (λ disks image. disks.data_load slot kinds image)
+row (access.Skip slot way) = finding_row slot.addr is_of_place (answer.Moved slot.pos) answer.Moved (λ disks image. disks.skip slot way image)
 
 abbrev pub reach : Access → Reach
 reach a = (row a).reach

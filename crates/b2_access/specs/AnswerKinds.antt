@@ -63,3 +63,20 @@ is_of_limits x = false
 abbrev pub is_of_listing : Answer → Bool
 is_of_listing (answer.Bytes bytes) = true
 is_of_listing x = false
+
+-- what a data file is asked for, or a code
+abbrev pub is_of_opening : Answer → Bool
+is_of_opening (answer.Opened slot) = true
+is_of_opening (answer.Refused c) = true
+is_of_opening x = false
+
+abbrev pub is_of_place : Answer → Bool
+is_of_place (answer.Moved place) = true
+is_of_place (answer.Refused c) = true
+is_of_place x = false
+
+abbrev pub is_of_loading : Answer → Bool
+is_of_loading (answer.Values values place) = true
+is_of_loading answer.AtEnd = true
+is_of_loading (answer.Refused c) = true
+is_of_loading x = false

@@ -43,17 +43,23 @@ abbrev pub IsFullFor : ℕ → List ℕ → Option TextState → Type 0
 IsFullFor n atoms None = ⊥
 IsFullFor n atoms (Some t) = t.area < size_of (with_line n atoms t.lines)
 
--- what is made of an image is a code
-abbrev pub GivesCode : ℕ → (List ℕ → Result (List ℕ) ℕ) → Option (List ℕ) → Type 0
+-- what is made or found of an image is a code
+abbrev pub GivesCode : {A : Type 0} → ℕ → (List ℕ → Result A ℕ) → Option (List ℕ) → Type 0
 GivesCode c made None = ⊥
 GivesCode c made (Some image) = made image ≡ Err c
 
 -- A code that an access meets where nothing stops it: A01, where it puts a line for which its text has no room, and the one of what it
--- makes of an image.
+-- makes of an image, or looks for in it.
 abbrev pub MeetsCode : DiskWork → StoreState → ℕ → ℕ → Access → Type 0
 MeetsCode disks s who c (access.PutLine n (Some atoms) homes) = (c ≡ A01_TEXT_AREA) × IsFullFor n atoms (content s (object.Text who))
 MeetsCode disks s who c (access.Scratch addr name) = GivesCode c (disks.scratch name) (content s (object.Platter addr))
 MeetsCode disks s who c (access.Format addr index end) = GivesCode c (disks.format index end) (content s (object.Platter addr))
+MeetsCode disks s who c (access.DataNew addr old sectors name) = GivesCode c (disks.data_new addr old sectors name) (content s (object.Platter addr))
+MeetsCode disks s who c (access.DataOpen addr name) = GivesCode c (disks.data_open addr name) (content s (object.Platter addr))
+MeetsCode disks s who c (access.DataSave slot values) = GivesCode c (disks.data_save slot values) (content s (object.Platter slot.addr))
+MeetsCode disks s who c (access.DataEnd slot) = GivesCode c (disks.data_end slot) (content s (object.Platter slot.addr))
+MeetsCode disks s who c (access.DataLoad slot kinds) = GivesCode c (disks.data_load slot kinds) (content s (object.Platter slot.addr))
+MeetsCode disks s who c (access.Skip slot way) = GivesCode c (disks.skip slot way) (content s (object.Platter slot.addr))
 MeetsCode disks s who c a = ⊥
 
 -- nobody stands inside the text, where it is edited

@@ -1,5 +1,9 @@
 -- What disks do to an image. The store says what that is; what is said of serving holds whatever it is.
 use Rattle.std.specs.Prelude.{ℕ, ℤ, List, Option, Result}
+use Rattle.b2_base.specs.declared.files.By.{By}
+use Rattle.b2_base.specs.declared.files.Slot.{Slot}
+use Rattle.b2_dec.specs.declared.values.Kind.{Kind}
+use Rattle.b2_dec.specs.declared.values.Value.{Value}
 
 -- four numbers that are answered together
 pub record FourNumbers : Type 0 where
@@ -8,10 +12,28 @@ pub record FourNumbers : Type 0 where
   pub third : ℤ
   pub fourth : ℤ
 
--- What is read of an image: the limits of a file or of the catalogue, and the listing of the index. What is made of one: with a file
--- scratched, and with an empty index; or a code, and then nothing is.
+-- an image that was made of another, and what is told of that
+pub record Made (Told : Type 0) : Type 0 where
+  pub image : List ℕ
+  pub told : Told
+
+-- values that were loaded from a file, and the place after them
+pub record Loaded : Type 0 where
+  pub values : List Value
+  pub place : ℕ
+
+-- What is read of an image: the limits of a file or of the catalogue, the listing of the index, a data file that is opened, what is
+-- loaded at its place, none where its records end, and where the place goes. What is made of one: with a file scratched, with an empty
+-- index, with a new data file, and with a record or an end mark at the place in one. A code may come in place of all but the first two,
+-- and then nothing is made.
 pub record DiskWork : Type 0 where
   pub limits : Option (List ℕ) → List ℕ → FourNumbers
   pub listing : List ℕ → List ℕ
   pub scratch : List ℕ → List ℕ → Result (List ℕ) ℕ
   pub format : ℕ → ℕ → List ℕ → Result (List ℕ) ℕ
+  pub data_new : List ℕ → Option (List ℕ) → ℕ → List ℕ → List ℕ → Result (Made Slot) ℕ
+  pub data_open : List ℕ → List ℕ → List ℕ → Result Slot ℕ
+  pub data_save : Slot → List Value → List ℕ → Result (Made ℕ) ℕ
+  pub data_end : Slot → List ℕ → Result (Made ℕ) ℕ
+  pub data_load : Slot → List Kind → List ℕ → Result (Option Loaded) ℕ
+  pub skip : Slot → By → List ℕ → Result ℕ ℕ

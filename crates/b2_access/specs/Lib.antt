@@ -21,6 +21,7 @@ pub mod Holding
 pub mod Objects
 pub mod Contents
 pub mod Planning
+pub mod LegalPlans
 pub mod Endings
 pub mod Going
 pub mod Placed

@@ -1,8 +1,9 @@
 -- What a partition has for itself.
-use Rattle.std.specs.Prelude.{◌≡◌, ℕ, Bool, true, false, not, List, [], ◌∷◌, ◌++◌, Option, Some, None, is_some, codes}
+use Rattle.std.specs.Prelude.{◌≡◌, ℕ, Bool, true, false, not, List, [], ◌∷◌, ◌++◌, Option, Some, None, is_some, replicate, codes}
 use Rattle.std.specs.Option.{option_map_or}
 use Rattle.std.specs.FinMap as map
 use Rattle.b2_base.specs.Byte as byte
+use Rattle.b2_base.specs.declared.files.Slot.{Slot}
 use Rattle.b2_dec.specs.declared.number.Mode.TheVariants.{Round}
 use Rattle.b2_flow.specs.declared.frame.Place.{Place}
 use Rattle.b2_vars.specs.Tables.{VarsState}
@@ -21,6 +22,10 @@ ready_text = codes "READY" ++ byte.newline ∷ byte.colon ∷ []
 abbrev pub no_variables : ℕ → VarsState
 no_variables area = record { area = area; table = map.empty }
 
+-- no data file is open
+abbrev pub no_files : List (Option Slot)
+no_files = replicate 16 None
+
 -- a partition as it starts
 abbrev pub at_start : ℕ → ℕ → ℕ → Option (List ℕ) → Private
 at_start p t area disk = record {
@@ -32,10 +37,12 @@ at_start p t area disk = record {
   immediate = None;
   vars = no_variables area;
   stack = [];
+  slots = no_files;
   disk = disk;
   boot_disk = disk;
   term_column = 0;
   last = 0;
+  at_end = false;
   next_data = None;
   args = None;
   halt = false;

@@ -1,5 +1,8 @@
 -- What an access touches and writes, and what it takes.
-use Rattle.std.specs.Prelude.{◌≤◌, ℕ, List, [], Some, if◌then◌else◌}
+use Rattle.std.specs.Prelude.{◌≡◌, ◌≤◌, ◌&&◌, nat_le, ℕ, Bool, true, List, [], length, Some, None, if◌then◌else◌}
+use Rattle.std.specs.List.{list_all}
+use Rattle.b2_dec.specs.declared.values.Value.{Value}
+use Rattle.b2_dec.specs.declared.values.Value.TheVariants as value
 use Rattle.b2_access.specs.declared.objects.Object.{Object}
 use Rattle.b2_access.specs.declared.accesses.Access.{Access}
 use Rattle.b2_access.specs.declared.accesses.Access.TheVariants as access
@@ -17,17 +20,30 @@ touched s who a = objects_reached who (reach a)
 abbrev pub written_by : Answer → ℕ → Access → List Object
 written_by x who a = if stops x then [] else (row a).writes who
 
--- lines have numbers up to 9999
+-- what a record may have: a number, or at least one byte and at most 124
+abbrev pub is_short : Value → Bool
+is_short (value.Number x) = true
+is_short (value.Alpha bytes) = nat_le 1 (length bytes) && nat_le (length bytes) 124
+
+-- Lines have numbers up to 9999; a new file has at least two sectors; a place in a file is none before its first sector; and what
+-- is saved a record may have.
 abbrev pub IsLegal : Access → Type 0
 IsLegal (access.PutLine line atoms homes) = line ≤ 9999
+IsLegal (access.DataNew addr None sectors name) = 2 ≤ sectors
+IsLegal (access.DataSave slot values) = (list_all is_short values ≡ true) × (slot.start ≤ slot.pos)
+IsLegal (access.DataEnd slot) = slot.start ≤ slot.pos
+IsLegal (access.DataLoad slot kinds) = slot.start ≤ slot.pos
+IsLegal (access.Skip slot way) = slot.start ≤ slot.pos
 IsLegal a = Unit {0}
 
--- Which accesses may want memory: those that put bytes or a line where there may be no room kept for them, and one that lays out bytes.
--- A key is taken, lines are taken out, and disks are looked at and changed without any.
+-- Which accesses may want memory: those that put bytes or a line where there may be no room kept for them, one that lays out bytes, and
+-- those that read records. A key is taken, lines are taken out, and disks are looked at and changed else without any.
 abbrev pub MayWantMemory : Access → Type 0
 MayWantMemory (access.Show term bytes column) = Unit {0}
 MayWantMemory (access.ReadLine term) = Unit {0}
 MayWantMemory (access.Insert term bytes) = Unit {0}
 MayWantMemory (access.PutLine line (Some atoms) homes) = Unit {0}
 MayWantMemory (access.ListDisk addr) = Unit {0}
+MayWantMemory (access.DataLoad slot kinds) = Unit {0}
+MayWantMemory (access.Skip slot way) = Unit {0}
 MayWantMemory a = ⊥

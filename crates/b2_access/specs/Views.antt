@@ -1,6 +1,8 @@
 -- What came of an access, as those see it who asked for it: each view tells the answers that one kind of statement looks at, and no
 -- others. So an access or an answer that comes later touches no statement that has nothing to do with it.
 use Rattle.std.specs.Prelude.{ℕ, List, Option, Some, None}
+use Rattle.b2_base.specs.declared.files.Slot.{Slot}
+use Rattle.b2_dec.specs.declared.values.Value.{Value}
 use Rattle.b2_access.specs.declared.accesses.Access.{Access}
 use Rattle.b2_access.specs.declared.accesses.Access.TheVariants as access
 use Rattle.b2_access.specs.declared.accesses.Answer.{Answer}
@@ -74,3 +76,47 @@ change_came (access.Scratch addr name) (answer.Refused c) = ChangeRefused c
 change_came (access.Format addr index end) answer.Done = DiskChanged
 change_came (access.Format addr index end) (answer.Refused c) = ChangeRefused c
 change_came x a = ChangeLater
+
+-- what came of opening a data file: it is open, or it was refused with a code; or it is asked for again
+pub data OpeningCame : Type 0 where
+  FileOpened : Slot → OpeningCame
+  OpeningRefused : ℕ → OpeningCame
+  OpeningLater : OpeningCame
+
+abbrev pub opening_came : Access → Answer → OpeningCame
+opening_came (access.DataNew addr old sectors name) (answer.Opened slot) = FileOpened slot
+opening_came (access.DataNew addr old sectors name) (answer.Refused c) = OpeningRefused c
+opening_came (access.DataOpen addr name) (answer.Opened slot) = FileOpened slot
+opening_came (access.DataOpen addr name) (answer.Refused c) = OpeningRefused c
+opening_came x a = OpeningLater
+
+-- what came of an access at the place in an open file: the file with its new place, or a code; or it is asked for again
+abbrev pub moved_to : Slot → ℕ → Slot
+moved_to slot place = record slot { pos = place }
+
+pub data PlaceCame : Type 0 where
+  PlaceMoved : Slot → PlaceCame
+  PlaceRefused : ℕ → PlaceCame
+  PlaceLater : PlaceCame
+
+abbrev pub place_came : Access → Answer → PlaceCame
+place_came (access.DataSave slot values) (answer.Moved place) = PlaceMoved (moved_to slot place)
+place_came (access.DataSave slot values) (answer.Refused c) = PlaceRefused c
+place_came (access.DataEnd slot) (answer.Moved place) = PlaceMoved (moved_to slot place)
+place_came (access.DataEnd slot) (answer.Refused c) = PlaceRefused c
+place_came (access.Skip slot way) (answer.Moved place) = PlaceMoved (moved_to slot place)
+place_came (access.Skip slot way) (answer.Refused c) = PlaceRefused c
+place_came x a = PlaceLater
+
+-- what came of loading: values, and the file with the place after them, or its records end, or a code; or it is asked for again
+pub data LoadingCame : Type 0 where
+  ValuesLoaded : Slot → List Value → LoadingCame
+  RecordsEnded : LoadingCame
+  LoadingRefused : ℕ → LoadingCame
+  LoadingLater : LoadingCame
+
+abbrev pub loading_came : Access → Answer → LoadingCame
+loading_came (access.DataLoad slot kinds) (answer.Values values place) = ValuesLoaded (moved_to slot place) values
+loading_came (access.DataLoad slot kinds) answer.AtEnd = RecordsEnded
+loading_came (access.DataLoad slot kinds) (answer.Refused c) = LoadingRefused c
+loading_came x a = LoadingLater

@@ -3,6 +3,7 @@
 -- it stands, its frames and the place that is kept, the platter that it starts with, the lines that it was given, and what was asked of
 -- it.
 use Rattle.std.specs.Prelude.{◌≡◌, ℕ, Bool, true, List, Option}
+use Rattle.b2_base.specs.declared.files.Slot.{Slot}
 use Rattle.b2_dec.specs.declared.number.Mode.{Mode}
 use Rattle.b2_dec.specs.declared.values.Value.{Value}
 use Rattle.b2_text.specs.declared.spots.Spot.{Spot}
@@ -25,9 +26,11 @@ use Rattle.b2_access.specs.declared.private.Private.{Private}
 pub record Work : Type 0 where
   pub mode : Mode
   pub vars : VarsState
+  pub slots : List (Option Slot)
   pub disk : Option (List ℕ)
   pub term_column : ℕ
   pub last : ℕ
+  pub at_end : Bool
   pub next_data : Option (Spot × ℕ)
   pub args : Option (List Value)
   pub pending : Option (List ℕ × List ℕ)
@@ -38,9 +41,11 @@ abbrev pub work_of : Private → Work
 work_of me = record {
   mode = me.mode;
   vars = me.vars;
+  slots = me.slots;
   disk = me.disk;
   term_column = me.term_column;
   last = me.last;
+  at_end = me.at_end;
   next_data = me.next_data;
   args = me.args;
   pending = me.pending;
@@ -52,9 +57,11 @@ abbrev pub put_back : Work → Private → Private
 put_back w me = record me {
   mode = w.mode;
   vars = w.vars;
+  slots = w.slots;
   disk = w.disk;
   term_column = w.term_column;
   last = w.last;
+  at_end = w.at_end;
   next_data = w.next_data;
   args = w.args;
   pending = w.pending;

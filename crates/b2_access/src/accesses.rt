@@ -3,7 +3,8 @@ ghost use Rattle.std.specs.Prelude.{◌≡◌};
 ghost use Rattle.b2_access.specs.AnswerKinds as kind;
 
 use b2_atom::Atoms;
-use b2_base::{Addr, ByteList, Code, Name8, Part, Term};
+use b2_base::{Addr, By, ByteList, Code, Name8, Part, Slot, Term};
+use b2_dec::{KindList, ValueList};
 
 /// What a step asks of the store, once at most. `homes` marks the partitions whose text the asking one gives back: the bit of
 /// a partition is that of its number less 1.
@@ -65,6 +66,38 @@ pub enum Access {
         index: u32,
         end: u32,
     },
+    /// A data file without records is made on a platter and opened: a new one of so many sectors, or a scratched file's sectors
+    /// again where an old name is given.
+    DataNew {
+        addr: Addr,
+        old: Option<Name8>,
+        sectors: u32,
+        name: Name8,
+    },
+    /// A data file on a platter is opened.
+    DataOpen {
+        addr: Addr,
+        name: Name8,
+    },
+    /// A record of these values is saved at the place in an open file.
+    DataSave {
+        slot: Slot,
+        values: ValueList,
+    },
+    /// The end mark is written at the place in an open file.
+    DataEnd {
+        slot: Slot,
+    },
+    /// Values of these kinds are loaded from the record at the place in an open file.
+    DataLoad {
+        slot: Slot,
+        kinds: KindList,
+    },
+    /// The place in an open file is moved.
+    Skip {
+        slot: Slot,
+        by: By,
+    },
 }
 
 /// What the store answers.
@@ -85,6 +118,14 @@ pub enum Answer {
     Four(i64, i64, i64, i64),
     /// Bytes that were laid out.
     Bytes(ByteList),
+    /// A data file is open.
+    Opened(Slot),
+    /// The place in an open file is now this one.
+    Moved(u32),
+    /// Values were loaded, and the place in the file is now this one.
+    Values(ValueList, u32),
+    /// The records of the file end at its place.
+    AtEnd,
     /// Another partition is in front of the terminal, or holds the device: nothing was done.
     Wait(Part),
     /// Another partition stands inside the text: nothing was done.

@@ -3,7 +3,7 @@ ghost use Rattle.std.specs.Prelude.{◌≡◌, IfOk, true};
 ghost use Rattle.b2_access.specs.Partition.{at_start, without_frames};
 
 use b2_atom::Atoms;
-use b2_base::{Addr, ByteList, NoMemory, Part, Term};
+use b2_base::{Addr, ByteList, NoMemory, Part, Slot, Term};
 use b2_dec::{Mode, ValueList};
 use b2_flow::{Place, Stack};
 use b2_text::Spot;
@@ -33,6 +33,8 @@ pub struct Private {
     pub vars: Vars,
     /// Its loops and calls.
     pub stack: Stack,
+    /// Its open data files, by the numbers of their slots.
+    pub slots: [Option<Slot>; 16],
     /// The platter that is selected, none where none is.
     pub disk: Option<Addr>,
     /// The platter that is selected at the start, and after CLEAR.
@@ -41,6 +43,8 @@ pub struct Private {
     pub term_column: u16,
     /// The last code, 0 for none.
     pub last: u8,
+    /// Whether the records ended where DATALOAD DC was to load one.
+    pub at_end: bool,
     /// The unit from which READ looks for DATA, and how many of its literals were read; none for the first of the text.
     pub next_data: Option<(Spot, u8)>,
     /// The arguments of a call that its DEFFN' has not taken yet.
@@ -80,10 +84,12 @@ impl Private {
             immediate: None,
             vars: Vars::new(alloc, area)?,
             stack: Stack::new(alloc)?,
+            slots: [None; 16],
             disk,
             boot_disk: disk,
             term_column: 0,
             last: 0,
+            at_end: false,
             next_data: None,
             args: None,
             halt: false,

@@ -89,7 +89,13 @@ pub fn reached_by(access: &Access) -> Reached
         Access::Limits { addr, .. }
         | Access::ListDisk { addr }
         | Access::Scratch { addr, .. }
-        | Access::Format { addr, .. } => at_disk(*addr),
+        | Access::Format { addr, .. }
+        | Access::DataNew { addr, .. }
+        | Access::DataOpen { addr, .. } => at_disk(*addr),
+        Access::DataSave { slot, .. }
+        | Access::DataEnd { slot }
+        | Access::DataLoad { slot, .. }
+        | Access::Skip { slot, .. } => at_disk(slot.addr),
     }
 }
 
@@ -161,7 +167,13 @@ pub fn written_by(access: &Access) -> Written
         | Access::Key { term } => writes_terminal(*term),
         Access::PutLine { .. } | Access::Erase { .. } => writes_text(false),
         Access::ClearAll { .. } => writes_text(true),
-        Access::Limits { .. } | Access::ListDisk { .. } => writes_nothing(),
-        Access::Scratch { addr, .. } | Access::Format { addr, .. } => writes_platter(*addr),
+        Access::Limits { .. }
+        | Access::ListDisk { .. }
+        | Access::DataOpen { .. }
+        | Access::DataLoad { .. }
+        | Access::Skip { .. } => writes_nothing(),
+        Access::Scratch { addr, .. } | Access::Format { addr, .. } | Access::DataNew { addr, .. } =>
+            writes_platter(*addr),
+        Access::DataSave { slot, .. } | Access::DataEnd { slot } => writes_platter(slot.addr),
     }
 }
