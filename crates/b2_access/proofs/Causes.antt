@@ -10,10 +10,10 @@ use Rattle.b2_access.specs.declared.accesses.Access.{Access}
 use Rattle.b2_access.specs.declared.accesses.Access.TheVariants as access
 use Rattle.b2_access.specs.declared.accesses.Answer.{Answer}
 use Rattle.b2_access.specs.declared.accesses.Answer.TheVariants as answer
-use Rattle.b2_access.specs.AccessRows.{EditTask, becomes, changes_image, erases, finds_in_image, loaded_answer, no_file, puts_atoms, row, says_or_refuses}
-use Rattle.b2_access.specs.Causes.{GivesCode, IsFullFor, LocksForTheFirst, MeetsCode, RefusesWithTheCode, WaitsForTheFirst}
+use Rattle.b2_access.specs.AccessRows.{EditTask, becomes, changes_image, erases, finds_in_image, loaded_answer, loads, loads_from, loads_text, moves, moves_from, moves_to, no_file, puts_atoms, row, saves, saves_in, saves_text, says_or_refuses}
+use Rattle.b2_access.specs.Causes.{GivesCode, GivesCodeOf, IsFullFor, LocksForTheFirst, MeetsCode, RefusesWithTheCode, WaitsForTheFirst}
 use Rattle.b2_access.specs.AnswerKinds.{stops}
-use Rattle.b2_access.specs.Disks.{DiskWork, Loaded, Made}
+use Rattle.b2_access.specs.Disks.{DiskWork, Loaded}
 use Rattle.b2_access.specs.Serving.{performs}
 use Rattle.b2_access.specs.Store.{StoreState, content}
 use Rattle.b2_access.specs.Task.{Refuse, puts}
@@ -83,6 +83,50 @@ module _ (c : ℕ) (addr : List ℕ) (unlisted : Answer) (there : stops unlisted
       by (Ok found) = (λ e. absurd (no_code c (says found) (goes found) e), λ e. cc)
       by (Err code) = (λ e. ap Err (same_code c code e), λ e. ap answer.Refused (err_code c code e))
 
+-- what is made of a text and an image, and of two images
+save_refuses : (who c : ℕ) (addr : List ℕ) (made : TextState → List ℕ → Result (List ℕ) ℕ) (s : StoreState) (image : Option (List ℕ))
+    → ((performs (saves_in who addr made image) s).answer ≡ answer.Refused c) ↔ GivesCodeOf c made (content s (object.Text who)) image
+save_refuses who c addr made s None = by (content s (object.Text who))
+  where
+    by : (t : Option TextState) → (answer.Done ≡ answer.Refused c) ↔ GivesCodeOf c made t None
+    by None = (λ e. absurd (no_code c answer.Done refl e), λ h. absurd h)
+    by (Some t) = (λ e. absurd (no_code c answer.Done refl e), λ h. absurd h)
+save_refuses who c addr made s (Some image) = by (content s (object.Text who))
+  where
+    made_by : (r : Result (List ℕ) ℕ) → ((performs (saves who addr r) s).answer ≡ answer.Refused c) ↔ (r ≡ Err c)
+    made_by (Ok new) = (λ e. absurd (no_code c answer.Done refl e), λ e. cc)
+    made_by (Err code) = (λ e. ap Err (same_code c code e), λ e. ap answer.Refused (err_code c code e))
+
+    by : (t : Option TextState) → ((performs (saves_text who addr made image t) s).answer ≡ answer.Refused c) ↔ GivesCodeOf c made t (Some image)
+    by None = (λ e. absurd (no_code c answer.Done refl e), λ h. absurd h)
+    by (Some t) = made_by (made t image)
+
+program_refuses : (who c : ℕ) (addr : List ℕ) (made : List ℕ → TextState → Result TextState ℕ) (s : StoreState) (image : Option (List ℕ))
+    → ((performs (loads_from who addr made image) s).answer ≡ answer.Refused c) ↔ GivesCodeOf c made image (content s (object.Text who))
+program_refuses who c addr made s None = (λ e. absurd (no_code c answer.Done refl e), λ h. absurd h)
+program_refuses who c addr made s (Some image) = by (content s (object.Text who))
+  where
+    made_by : (r : Result TextState ℕ) → ((performs (loads who addr r) s).answer ≡ answer.Refused c) ↔ (r ≡ Err c)
+    made_by (Ok new) = (λ e. absurd (no_code c answer.Done refl e), λ e. cc)
+    made_by (Err code) = (λ e. ap Err (same_code c code e), λ e. ap answer.Refused (err_code c code e))
+
+    by : (t : Option TextState) → ((performs (loads_text who addr made image t) s).answer ≡ answer.Refused c) ↔ GivesCodeOf c made (Some image) t
+    by None = (λ e. absurd (no_code c answer.Done refl e), λ h. absurd h)
+    by (Some t) = made_by (made image t)
+
+move_refuses : (c : ℕ) (from to : List ℕ) (made : List ℕ → List ℕ → Result (List ℕ) ℕ) (s : StoreState) (image : Option (List ℕ))
+    → ((performs (moves_from from to made image) s).answer ≡ answer.Refused c) ↔ GivesCodeOf c made image (content s (object.Platter to))
+move_refuses c from to made s None = (λ e. absurd (no_code c answer.Done refl e), λ h. absurd h)
+move_refuses c from to made s (Some image) = by (content s (object.Platter to))
+  where
+    made_by : (r : Result (List ℕ) ℕ) → ((performs (moves from to r) s).answer ≡ answer.Refused c) ↔ (r ≡ Err c)
+    made_by (Ok new) = (λ e. absurd (no_code c answer.Done refl e), λ e. cc)
+    made_by (Err code) = (λ e. ap Err (same_code c code e), λ e. ap answer.Refused (err_code c code e))
+
+    by : (other : Option (List ℕ)) → ((performs (moves_to from to made image other) s).answer ≡ answer.Refused c) ↔ GivesCodeOf c made (Some image) other
+    by None = (λ e. absurd (no_code c answer.Done refl e), λ h. absurd h)
+    by (Some other) = made_by (made image other)
+
 goes_on : (l : Option Loaded) → stops (loaded_answer l) ≡ false
 goes_on None = refl
 goes_on (Some l) = refl
@@ -100,6 +144,10 @@ meets_code disks who c (access.DataSave slot values) s =
 meets_code disks who c (access.DataEnd slot) s = change_refuses c slot.addr (answer.Moved slot.pos) refl s (λ m. m.image) (λ m. answer.Moved m.told) (λ m. refl) (disks.data_end slot) (content s (object.Platter slot.addr))
 meets_code disks who c (access.DataLoad slot kinds) s = finding_refuses c slot.addr answer.AtEnd refl s loaded_answer goes_on (disks.data_load slot kinds) (content s (object.Platter slot.addr))
 meets_code disks who c (access.Skip slot way) s = finding_refuses c slot.addr (answer.Moved slot.pos) refl s answer.Moved (λ n. refl) (disks.skip slot way) (content s (object.Platter slot.addr))
+meets_code disks who c (access.SaveProgram addr old name from to) s = save_refuses who c addr (disks.save_program old name from to) s (content s (object.Platter addr))
+meets_code disks who c (access.LoadProgram addr name replace declared homes) s = program_refuses who c addr (disks.load_program name replace) s (content s (object.Platter addr))
+meets_code disks who c (access.MovePlatter from to) s = move_refuses c from to disks.move_platter s (content s (object.Platter from))
+meets_code disks who c (access.MoveFile from name to) s = move_refuses c from to (disks.move_file name) s (content s (object.Platter from))
 meets_code disks who c a s = (λ e. absurd (never disks who c a s refl e), λ h. absurd h)
 
 pub refuses_with_the_code : RefusesWithTheCode

@@ -15,6 +15,7 @@ use Rattle.b2_access.specs.Views.{
   NoKey,
   OpeningLater,
   PlaceLater,
+  ProgramLater,
   change_came,
   clear_came,
   column_shown,
@@ -25,6 +26,7 @@ use Rattle.b2_access.specs.Views.{
   loading_came,
   opening_came,
   place_came,
+  program_came,
 }
 
 pub none_shown : (x : Access) (a : Answer) → delays a ≡ true → column_shown x a ≡ None
@@ -63,6 +65,12 @@ change_delayed (access.Scratch addr name) answer.Done h = cc
 change_delayed (access.Scratch addr name) (answer.Refused c) h = cc
 change_delayed (access.Format addr index end) answer.Done h = cc
 change_delayed (access.Format addr index end) (answer.Refused c) h = cc
+change_delayed (access.SaveProgram addr old name from to) answer.Done h = cc
+change_delayed (access.SaveProgram addr old name from to) (answer.Refused c) h = cc
+change_delayed (access.MovePlatter from to) answer.Done h = cc
+change_delayed (access.MovePlatter from to) (answer.Refused c) h = cc
+change_delayed (access.MoveFile from name to) answer.Done h = cc
+change_delayed (access.MoveFile from name to) (answer.Refused c) h = cc
 change_delayed x a h = refl
 
 pub opening_delayed : (x : Access) (a : Answer) → delays a ≡ true → opening_came x a ≡ OpeningLater
@@ -86,3 +94,9 @@ loading_delayed (access.DataLoad slot kinds) (answer.Values values place) h = cc
 loading_delayed (access.DataLoad slot kinds) answer.AtEnd h = cc
 loading_delayed (access.DataLoad slot kinds) (answer.Refused c) h = cc
 loading_delayed x a h = refl
+
+pub program_delayed : (x : Access) (a : Answer) → delays a ≡ true → program_came x a ≡ ProgramLater
+program_delayed (access.LoadProgram addr name replace declared homes) answer.Done h = cc
+program_delayed (access.LoadProgram addr name replace declared homes) (answer.Locked q) h = cc
+program_delayed (access.LoadProgram addr name replace declared homes) (answer.Refused c) h = cc
+program_delayed x a h = refl

@@ -145,6 +145,9 @@ image_unwritten who d (access.DataSave slot values) apart i = no_image d slot.ad
 image_unwritten who d (access.DataEnd slot) apart i = no_image d slot.addr apart i
 image_unwritten who d (access.DataLoad slot kinds) apart i = i
 image_unwritten who d (access.Skip slot way) apart i = i
+image_unwritten who d (access.SaveProgram addr old name from to) apart i = no_image d addr apart i
+image_unwritten who d (access.MovePlatter from to) apart i = no_image d to apart i
+image_unwritten who d (access.MoveFile from name to) apart i = no_image d to apart i
 image_unwritten who d a apart i = no_other d _ refl i
 
 pub other_images_stay : OtherImagesStay

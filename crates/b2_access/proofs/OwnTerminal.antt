@@ -31,6 +31,7 @@ homes_none : (t : ℕ) (a : Access) → IsAtTerminal t a → homes_of a ≡ 0
 homes_none t (access.PutLine line atoms homes) is = no_terminal t (terminal_is t (access.PutLine line atoms homes) is)
 homes_none t (access.Erase from to homes) is = no_terminal t (terminal_is t (access.Erase from to homes) is)
 homes_none t (access.ClearAll name homes) is = no_terminal t (terminal_is t (access.ClearAll name homes) is)
+homes_none t (access.LoadProgram addr name replace declared homes) is = no_terminal t (terminal_is t (access.LoadProgram addr name replace declared homes) is)
 homes_none t a is = refl
 
 pub at_terminal_marks_none : (among : ℕ → Bool) (t : ℕ) (a : Access) → IsAtTerminal t a → HomesIn among a
@@ -43,4 +44,6 @@ at_terminal_is_legal t (access.DataSave slot values) is = no_terminal t (termina
 at_terminal_is_legal t (access.DataEnd slot) is = no_terminal t (terminal_is t (access.DataEnd slot) is)
 at_terminal_is_legal t (access.DataLoad slot kinds) is = no_terminal t (terminal_is t (access.DataLoad slot kinds) is)
 at_terminal_is_legal t (access.Skip slot way) is = no_terminal t (terminal_is t (access.Skip slot way) is)
+at_terminal_is_legal t (access.MovePlatter from to) is = no_terminal t (terminal_is t (access.MovePlatter from to) is)
+at_terminal_is_legal t (access.MoveFile from name to) is = no_terminal t (terminal_is t (access.MoveFile from name to) is)
 at_terminal_is_legal t a is = tt

@@ -1,6 +1,6 @@
 -- The rows of the accesses: each tells the answers that it says, and writes nothing that it doesn't reach.
 use Rattle.std.specs.Prelude.{◌≡◌, ℕ, nat_lt, Bool, true, false, List, [], slice_get, Option, Some, None, Result, Ok, Err, refl}
-use Rattle.std.proofs.Common.{inr}
+use Rattle.std.proofs.Common.{inl, inr}
 use Rattle.b2_base.specs.declared.files.Slot.{Slot}
 use Rattle.b2_text.specs.Program.{TextState, size_of, with_line}
 use Rattle.b2_vars.specs.Tables.{VarsState}
@@ -14,7 +14,7 @@ use Rattle.b2_access.specs.declared.accesses.Access.{Access}
 use Rattle.b2_access.specs.declared.accesses.Access.TheVariants as access
 use Rattle.b2_access.specs.declared.accesses.Answer.{Answer}
 use Rattle.b2_access.specs.declared.accesses.Answer.TheVariants as answer
-use Rattle.b2_access.specs.AccessRows.{becomes, changes_image, clears, clears_both, finds_in_image, key_answer, line_answer, loaded_answer, no_file, puts_atoms, puts_line, reach, row, says_or_refuses}
+use Rattle.b2_access.specs.AccessRows.{becomes, changes_image, clears, clears_both, finds_in_image, key_answer, line_answer, loaded_answer, loads, loads_from, moves, moves_from, no_file, puts_atoms, puts_line, reach, row, saves, saves_in, says_or_refuses}
 use Rattle.b2_access.specs.AnswerKinds.{is_done, is_done_or_code, is_of_key, is_of_line, is_of_loading, is_of_opening, is_of_place, stops}
 use Rattle.b2_access.specs.Answering.{RowsTellTheirAnswers, TellsOnly}
 use Rattle.b2_access.specs.Disks.{Loaded, Made}
@@ -77,6 +77,30 @@ of_done addr made c = of_change is_done_or_code addr answer.Done (refl, refl) (�
 of_placing : (slot : Slot) (made : List ℕ → Result (Made ℕ) ℕ) (c : Option (List ℕ)) → TellsOnly is_of_place (changes_image slot.addr (answer.Moved slot.pos) (λ m. m.image) (λ m. answer.Moved m.told) made c)
 of_placing slot made c = of_change is_of_place slot.addr (answer.Moved slot.pos) (refl, refl) (λ c. refl) (λ m. m.image) (λ m. answer.Moved m.told) (λ m. (refl, refl)) made c
 
+of_saving : (who : ℕ) (addr : List ℕ) (made : TextState → List ℕ → Result (List ℕ) ℕ) (c : Option (List ℕ)) → TellsOnly is_done_or_code (saves_in who addr made c)
+of_saving who addr made None = (refl, refl)
+of_saving who addr made (Some image) = elim [ None ↦ (refl, refl) | Some t ↦ by (made t image) ]
+  where
+    by : (r : Result (List ℕ) ℕ) → TellsOnly is_done_or_code (saves who addr r)
+    by (Ok new) = (refl, refl)
+    by (Err code) = refl
+
+of_program : (who : ℕ) (addr : List ℕ) (made : List ℕ → TextState → Result TextState ℕ) (c : Option (List ℕ)) → TellsOnly is_done_or_code (loads_from who addr made c)
+of_program who addr made None = (refl, refl)
+of_program who addr made (Some image) = elim [ None ↦ (refl, refl) | Some t ↦ by (made image t) ]
+  where
+    by : (r : Result TextState ℕ) → TellsOnly is_done_or_code (loads who addr r)
+    by (Ok new) = (refl, refl)
+    by (Err code) = refl
+
+of_moving : (from to : List ℕ) (made : List ℕ → List ℕ → Result (List ℕ) ℕ) (c : Option (List ℕ)) → TellsOnly is_done_or_code (moves_from from to made c)
+of_moving from to made None = (refl, refl)
+of_moving from to made (Some image) = elim [ None ↦ (refl, refl) | Some other ↦ by (made image other) ]
+  where
+    by : (r : Result (List ℕ) ℕ) → TellsOnly is_done_or_code (moves from to r)
+    by (Ok new) = (refl, refl)
+    by (Err code) = refl
+
 of_loaded : (l : Option Loaded) → IsTelling is_of_loading (loaded_answer l)
 of_loaded None = (refl, refl)
 of_loaded (Some l) = (refl, refl)
@@ -100,6 +124,10 @@ rows_tell_their_answers disks (access.DataSave slot values) who = of_placing slo
 rows_tell_their_answers disks (access.DataEnd slot) who = of_placing slot (disks.data_end slot)
 rows_tell_their_answers disks (access.DataLoad slot kinds) who = of_finding is_of_loading slot.addr answer.AtEnd (refl, refl) (λ c. refl) loaded_answer of_loaded (disks.data_load slot kinds)
 rows_tell_their_answers disks (access.Skip slot way) who = of_finding is_of_place slot.addr (answer.Moved slot.pos) (refl, refl) (λ c. refl) answer.Moved (λ n. (refl, refl)) (disks.skip slot way)
+rows_tell_their_answers disks (access.SaveProgram addr old name from to) who = of_saving who addr (disks.save_program old name from to)
+rows_tell_their_answers disks (access.LoadProgram addr name replace declared homes) who = of_program who addr (disks.load_program name replace)
+rows_tell_their_answers disks (access.MovePlatter from to) who = of_moving from to disks.move_platter
+rows_tell_their_answers disks (access.MoveFile from name to) who = of_moving from to (disks.move_file name)
 
 -- what is written is reached
 pub written_is_reached : (a : Access) (who : ℕ) (o : Object) → IsIn o ((row a).writes who) → IsIn o (objects_reached who (reach a))
@@ -120,6 +148,10 @@ written_is_reached (access.DataSave slot values) who o i = inr i
 written_is_reached (access.DataEnd slot) who o i = inr i
 written_is_reached (access.DataLoad slot kinds) who o i = absurd i
 written_is_reached (access.Skip slot way) who o i = absurd i
+written_is_reached (access.SaveProgram addr old name from to) who o i = inr (inr i)
+written_is_reached (access.LoadProgram addr name replace declared homes) who o i = inr (elim i [ inl e ↦ inl e | inr none ↦ absurd none ])
+written_is_reached (access.MovePlatter from to) who o i = inr (inr (inr i))
+written_is_reached (access.MoveFile from name to) who o i = inr (inr (inr i))
 
 -- no access reaches borrowers yet
 pub no_borrowers : (a : Access) → (reach a).borrowers ≡ []

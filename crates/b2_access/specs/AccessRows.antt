@@ -21,7 +21,8 @@ use Rattle.b2_access.specs.declared.accesses.Answer.{Answer}
 use Rattle.b2_access.specs.declared.accesses.Answer.TheVariants as answer
 use Rattle.b2_access.specs.AnswerKinds.{is_done, is_done_or_code, is_of_key, is_of_limits, is_of_line, is_of_listing, is_of_loading, is_of_opening, is_of_place}
 use Rattle.b2_access.specs.Disks.{DiskWork, FourNumbers, Loaded, Made}
-use Rattle.b2_access.specs.Reach.{Reach, at_disk, at_terminal, objects_reached, own_text}
+use Rattle.b2_access.specs.Reach.{Reach, at_disk, at_disks, at_terminal, disk_and_text, objects_reached, own_text}
+use Rattle.b2_access.specs.declared.reached.TextUse.TheVariants as text
 use Rattle.b2_access.specs.Task.{Task, Look, Tell, Refuse, answers, puts}
 
 -- A row. What is reached is the same for all partitions and in all stores; what is written and done is so for the one that asks. What
@@ -168,6 +169,57 @@ changing_row addr made = telling_row addr is_done_or_code answer.Done (λ image.
 abbrev pub placing_row : Slot → (DiskWork → List ℕ → Result (Made ℕ) ℕ) → AccessRow
 placing_row slot made = telling_row slot.addr is_of_place (answer.Moved slot.pos) (λ m. m.image) (λ m. answer.Moved m.told) made
 
+-- of a disk and the own text: the disk is looked at first
+abbrev pub SaveTask : ℕ → List ℕ → Type 0
+SaveTask who addr = Task (object.Text who ∷ object.Hog addr ∷ object.Platter addr ∷ []) (object.Platter addr ∷ [])
+
+abbrev pub saves : (who : ℕ) (addr : List ℕ) → Result (List ℕ) ℕ → SaveTask who addr
+saves who addr (Ok image) = puts (object.Platter addr) (inl refl) image answer.Done
+saves who addr (Err code) = Refuse code
+
+abbrev pub saves_text : (who : ℕ) (addr : List ℕ) → (TextState → List ℕ → Result (List ℕ) ℕ) → List ℕ → Option TextState → SaveTask who addr
+saves_text who addr made image None = answers answer.Done
+saves_text who addr made image (Some t) = saves who addr (made t image)
+
+abbrev pub saves_in : (who : ℕ) (addr : List ℕ) → (TextState → List ℕ → Result (List ℕ) ℕ) → Option (List ℕ) → SaveTask who addr
+saves_in who addr made None = answers answer.Done
+saves_in who addr made (Some image) = Look (object.Text who) (inl refl) (saves_text who addr made image)
+
+abbrev pub LoadTask : ℕ → List ℕ → Type 0
+LoadTask who addr = Task (object.Borrow who ∷ object.Text who ∷ object.Hog addr ∷ object.Platter addr ∷ []) (object.Text who ∷ [])
+
+abbrev pub loads : (who : ℕ) (addr : List ℕ) → Result TextState ℕ → LoadTask who addr
+loads who addr (Ok t) = puts (object.Text who) (inl refl) t answer.Done
+loads who addr (Err code) = Refuse code
+
+abbrev pub loads_text : (who : ℕ) (addr : List ℕ) → (List ℕ → TextState → Result TextState ℕ) → List ℕ → Option TextState → LoadTask who addr
+loads_text who addr made image None = answers answer.Done
+loads_text who addr made image (Some t) = loads who addr (made image t)
+
+abbrev pub loads_from : (who : ℕ) (addr : List ℕ) → (List ℕ → TextState → Result TextState ℕ) → Option (List ℕ) → LoadTask who addr
+loads_from who addr made None = answers answer.Done
+loads_from who addr made (Some image) = Look (object.Text who) (inr (inl refl)) (loads_text who addr made image)
+
+-- from a disk to another
+abbrev pub MoveTask : List ℕ → List ℕ → Type 0
+MoveTask from to = Task (object.Hog from ∷ object.Platter from ∷ object.Hog to ∷ object.Platter to ∷ []) (object.Platter to ∷ [])
+
+abbrev pub moves : (from to : List ℕ) → Result (List ℕ) ℕ → MoveTask from to
+moves from to (Ok image) = puts (object.Platter to) (inl refl) image answer.Done
+moves from to (Err code) = Refuse code
+
+abbrev pub moves_to : (from to : List ℕ) → (List ℕ → List ℕ → Result (List ℕ) ℕ) → List ℕ → Option (List ℕ) → MoveTask from to
+moves_to from to made image None = answers answer.Done
+moves_to from to made image (Some other) = moves from to (made image other)
+
+abbrev pub moves_from : (from to : List ℕ) → (List ℕ → List ℕ → Result (List ℕ) ℕ) → Option (List ℕ) → MoveTask from to
+moves_from from to made None = answers answer.Done
+moves_from from to made (Some image) = Look (object.Platter to) (inr (inr (inr (inl refl)))) (moves_to from to made image)
+
+abbrev pub moving_row : (from to : List ℕ) → (DiskWork → List ℕ → List ℕ → Result (List ℕ) ℕ) → AccessRow
+moving_row from to made =
+    record { reach = at_disks from to; writes = λ who. object.Platter to ∷ []; tells = is_done_or_code; does = λ disks who. Look (object.Platter from) (inr (inl refl)) (moves_from from to (made disks)) }
+
 -- THE ROW OF EACH ACCESS
 abbrev pub row : Access → AccessRow
 row (access.Show term bytes column) = terminal_row term is_done (shows term bytes)
@@ -188,6 +240,12 @@ row (access.DataSave slot values) = placing_row slot (λ disks image. disks.data
 row (access.DataEnd slot) = placing_row slot (λ disks image. disks.data_end slot image)
 row (access.DataLoad slot kinds) = finding_row slot.addr is_of_loading answer.AtEnd loaded_answer (λ disks image. disks.data_load slot kinds image)
 row (access.Skip slot way) = finding_row slot.addr is_of_place (answer.Moved slot.pos) answer.Moved (λ disks image. disks.skip slot way image)
+row (access.SaveProgram addr old name from to) =
+    record { reach = disk_and_text addr text.Read; writes = λ who. object.Platter addr ∷ []; tells = is_done_or_code; does = λ disks who. Look (object.Platter addr) (inr (inr (inl refl))) (saves_in who addr (disks.save_program old name from to)) }
+row (access.LoadProgram addr name replace declared homes) =
+    record { reach = disk_and_text addr text.Edited; writes = λ who. object.Text who ∷ []; tells = is_done_or_code; does = λ disks who. Look (object.Platter addr) (inr (inr (inr (inl refl)))) (loads_from who addr (disks.load_program name replace)) }
+row (access.MovePlatter from to) = moving_row from to (λ disks. disks.move_platter)
+row (access.MoveFile from name to) = moving_row from to (λ disks. disks.move_file name)
 
 abbrev pub reach : Access → Reach
 reach a = (row a).reach

@@ -48,8 +48,14 @@ abbrev pub GivesCode : {A : Type 0} → ℕ → (List ℕ → Result A ℕ) → 
 GivesCode c made None = ⊥
 GivesCode c made (Some image) = made image ≡ Err c
 
+-- and the same of two things that are there
+abbrev pub GivesCodeOf : {A B C : Type 0} → ℕ → (A → B → Result C ℕ) → Option A → Option B → Type 0
+GivesCodeOf c made None y = ⊥
+GivesCodeOf c made (Some x) None = ⊥
+GivesCodeOf c made (Some x) (Some y) = made x y ≡ Err c
+
 -- A code that an access meets where nothing stops it: A01, where it puts a line for which its text has no room, and the one of what it
--- makes of an image, or looks for in it.
+-- makes of an image, or looks for in it; of a text and an image, or of two images.
 abbrev pub MeetsCode : DiskWork → StoreState → ℕ → ℕ → Access → Type 0
 MeetsCode disks s who c (access.PutLine n (Some atoms) homes) = (c ≡ A01_TEXT_AREA) × IsFullFor n atoms (content s (object.Text who))
 MeetsCode disks s who c (access.Scratch addr name) = GivesCode c (disks.scratch name) (content s (object.Platter addr))
@@ -60,6 +66,10 @@ MeetsCode disks s who c (access.DataSave slot values) = GivesCode c (disks.data_
 MeetsCode disks s who c (access.DataEnd slot) = GivesCode c (disks.data_end slot) (content s (object.Platter slot.addr))
 MeetsCode disks s who c (access.DataLoad slot kinds) = GivesCode c (disks.data_load slot kinds) (content s (object.Platter slot.addr))
 MeetsCode disks s who c (access.Skip slot way) = GivesCode c (disks.skip slot way) (content s (object.Platter slot.addr))
+MeetsCode disks s who c (access.SaveProgram addr old name from to) = GivesCodeOf c (disks.save_program old name from to) (content s (object.Text who)) (content s (object.Platter addr))
+MeetsCode disks s who c (access.LoadProgram addr name replace declared homes) = GivesCodeOf c (disks.load_program name replace) (content s (object.Platter addr)) (content s (object.Text who))
+MeetsCode disks s who c (access.MovePlatter from to) = GivesCodeOf c disks.move_platter (content s (object.Platter from)) (content s (object.Platter to))
+MeetsCode disks s who c (access.MoveFile from name to) = GivesCodeOf c (disks.move_file name) (content s (object.Platter from)) (content s (object.Platter to))
 MeetsCode disks s who c a = ⊥
 
 -- nobody stands inside the text, where it is edited

@@ -20,14 +20,17 @@ abbrev pub HeldStaysAsItIs : Type 0
 HeldStaysAsItIs = (disks : DiskWork) (who p : ℕ) (d : List ℕ) (o : Object) (a : Access) (s : StoreState) → content s (object.Hog d) ≡ Some (Some p) → p ≢ who → device_of o ≡ Some d
     → content (serves disks s who a).after o ≡ content s o
 
--- The image that an access may change: that of the disk on which it scratches a file, which it formats, or on which it makes a data file,
--- saves a record or writes an end mark. It leaves every other one, and other accesses leave every image as it is.
+-- The image that an access may change: that of the disk on which it scratches a file, which it formats, on which it makes a data file,
+-- saves a record or a program or writes an end mark, or to which it moves files. It leaves every other one, and other accesses leave every image as it is.
 abbrev pub image_changed : Access → Option (List ℕ)
 image_changed (access.Scratch addr name) = Some addr
 image_changed (access.Format addr index end) = Some addr
 image_changed (access.DataNew addr old sectors name) = Some addr
 image_changed (access.DataSave slot values) = Some slot.addr
 image_changed (access.DataEnd slot) = Some slot.addr
+image_changed (access.SaveProgram addr old name from to) = Some addr
+image_changed (access.MovePlatter from to) = Some to
+image_changed (access.MoveFile from name to) = Some to
 image_changed a = None
 
 abbrev pub OtherImagesStay : Type 0

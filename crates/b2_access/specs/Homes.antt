@@ -49,6 +49,7 @@ abbrev pub homes_of : Access → ℕ
 homes_of (access.PutLine line atoms homes) = homes
 homes_of (access.Erase from to homes) = homes
 homes_of (access.ClearAll name homes) = homes
+homes_of (access.LoadProgram addr name replace declared homes) = homes
 homes_of a = 0
 
 abbrev pub is_marked : ℕ → ℕ → Bool

@@ -40,6 +40,13 @@ disk address = record { address = address; part = WithPlatter }
 abbrev pub at_disk : List ℕ → Reach
 at_disk address = record nothing { devices = disk address ∷ [] }
 
+-- a platter and the own text, and two platters
+abbrev pub disk_and_text : List ℕ → TextUse → Reach
+disk_and_text address used = record (at_disk address) { text = used }
+
+abbrev pub at_disks : List ℕ → List ℕ → Reach
+at_disks from to = record nothing { devices = disk from ∷ disk to ∷ [] }
+
 abbrev pub disks_of : Option (List ℕ) → List DeviceReach
 disks_of None = []
 disks_of (Some address) = disk address ∷ []
@@ -49,7 +56,7 @@ own_text = record nothing { text = text.Edited }
 
 -- what is reached, as a value of the program says it
 abbrev pub reach_of : Reached → Reach
-reach_of r = record nothing { terminal = r.terminal; text = r.text; variables = r.variables; devices = disks_of r.disk }
+reach_of r = record nothing { terminal = r.terminal; text = r.text; variables = r.variables; devices = disks_of r.disk ++ disks_of r.other_disk }
 
 -- the objects that are reached: an edit looks at who stands inside the text
 abbrev pub terminal_objects : Option ℕ → List Object

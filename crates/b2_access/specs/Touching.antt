@@ -1,5 +1,5 @@
 -- What an access touches and writes, and what it takes.
-use Rattle.std.specs.Prelude.{◌≡◌, ◌≤◌, ◌&&◌, nat_le, ℕ, Bool, true, List, [], length, Some, None, if◌then◌else◌}
+use Rattle.std.specs.Prelude.{◌≡◌, ◌≢◌, ◌≤◌, ◌&&◌, nat_le, ℕ, Bool, true, List, [], length, Some, None, if◌then◌else◌}
 use Rattle.std.specs.List.{list_all}
 use Rattle.b2_dec.specs.declared.values.Value.{Value}
 use Rattle.b2_dec.specs.declared.values.Value.TheVariants as value
@@ -25,8 +25,8 @@ abbrev pub is_short : Value → Bool
 is_short (value.Number x) = true
 is_short (value.Alpha bytes) = nat_le 1 (length bytes) && nat_le (length bytes) 124
 
--- Lines have numbers up to 9999; a new file has at least two sectors; a place in a file is none before its first sector; and what
--- is saved a record may have.
+-- Lines have numbers up to 9999; a new file has at least two sectors; a place in a file is none before its first sector; what is
+-- saved a record may have; and files are moved to another disk.
 abbrev pub IsLegal : Access → Type 0
 IsLegal (access.PutLine line atoms homes) = line ≤ 9999
 IsLegal (access.DataNew addr None sectors name) = 2 ≤ sectors
@@ -34,10 +34,12 @@ IsLegal (access.DataSave slot values) = (list_all is_short values ≡ true) × (
 IsLegal (access.DataEnd slot) = slot.start ≤ slot.pos
 IsLegal (access.DataLoad slot kinds) = slot.start ≤ slot.pos
 IsLegal (access.Skip slot way) = slot.start ≤ slot.pos
+IsLegal (access.MovePlatter from to) = from ≢ to
+IsLegal (access.MoveFile from name to) = from ≢ to
 IsLegal a = Unit {0}
 
 -- Which accesses may want memory: those that put bytes or a line where there may be no room kept for them, one that lays out bytes, and
--- those that read records. A key is taken, lines are taken out, and disks are looked at and changed else without any.
+-- those that read records or programs or lay them out. A key is taken, lines are taken out, and disks are looked at and changed else without any.
 abbrev pub MayWantMemory : Access → Type 0
 MayWantMemory (access.Show term bytes column) = Unit {0}
 MayWantMemory (access.ReadLine term) = Unit {0}
@@ -46,4 +48,7 @@ MayWantMemory (access.PutLine line (Some atoms) homes) = Unit {0}
 MayWantMemory (access.ListDisk addr) = Unit {0}
 MayWantMemory (access.DataLoad slot kinds) = Unit {0}
 MayWantMemory (access.Skip slot way) = Unit {0}
+MayWantMemory (access.SaveProgram addr old name from to) = Unit {0}
+MayWantMemory (access.LoadProgram addr name replace declared homes) = Unit {0}
+MayWantMemory (access.MovePlatter from to) = Unit {0}
 MayWantMemory a = ⊥

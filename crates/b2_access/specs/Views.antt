@@ -75,6 +75,12 @@ change_came (access.Scratch addr name) answer.Done = DiskChanged
 change_came (access.Scratch addr name) (answer.Refused c) = ChangeRefused c
 change_came (access.Format addr index end) answer.Done = DiskChanged
 change_came (access.Format addr index end) (answer.Refused c) = ChangeRefused c
+change_came (access.SaveProgram addr old name from to) answer.Done = DiskChanged
+change_came (access.SaveProgram addr old name from to) (answer.Refused c) = ChangeRefused c
+change_came (access.MovePlatter from to) answer.Done = DiskChanged
+change_came (access.MovePlatter from to) (answer.Refused c) = ChangeRefused c
+change_came (access.MoveFile from name to) answer.Done = DiskChanged
+change_came (access.MoveFile from name to) (answer.Refused c) = ChangeRefused c
 change_came x a = ChangeLater
 
 -- what came of opening a data file: it is open, or it was refused with a code; or it is asked for again
@@ -120,3 +126,16 @@ loading_came (access.DataLoad slot kinds) (answer.Values values place) = ValuesL
 loading_came (access.DataLoad slot kinds) answer.AtEnd = RecordsEnded
 loading_came (access.DataLoad slot kinds) (answer.Refused c) = LoadingRefused c
 loading_came x a = LoadingLater
+
+-- what came of loading a program: its lines are in the text, or another stands inside that, or a code; or it is asked for again
+pub data ProgramCame : Type 0 where
+  ProgramLoaded : ProgramCame
+  ProgramLocked : ProgramCame
+  ProgramRefused : ℕ → ProgramCame
+  ProgramLater : ProgramCame
+
+abbrev pub program_came : Access → Answer → ProgramCame
+program_came (access.LoadProgram addr name replace declared homes) answer.Done = ProgramLoaded
+program_came (access.LoadProgram addr name replace declared homes) (answer.Locked q) = ProgramLocked
+program_came (access.LoadProgram addr name replace declared homes) (answer.Refused c) = ProgramRefused c
+program_came x a = ProgramLater

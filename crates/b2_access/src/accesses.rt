@@ -98,6 +98,35 @@ pub enum Access {
         slot: Slot,
         by: By,
     },
+    /// The lines from a number to another of the text of the asking partition are saved as a program on a platter: as a new file,
+    /// or in a scratched file's sectors where an old name is given.
+    SaveProgram {
+        addr: Addr,
+        old: Option<Name8>,
+        name: Name8,
+        from: u16,
+        to: u16,
+    },
+    /// The lines of a program on a platter go into the text of the asking partition, or become its lines; it gives up the name
+    /// that it has declared.
+    LoadProgram {
+        addr: Addr,
+        name: Name8,
+        replace: bool,
+        declared: Option<Name8>,
+        homes: u16,
+    },
+    /// All live files of a platter are moved to another.
+    MovePlatter {
+        from: Addr,
+        to: Addr,
+    },
+    /// A file of a platter is moved to another.
+    MoveFile {
+        from: Addr,
+        name: Name8,
+        to: Addr,
+    },
 }
 
 /// What the store answers.

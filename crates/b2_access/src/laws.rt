@@ -53,7 +53,7 @@ pub fn law_locked_is_for_the_first_inside()
 {}
 
 /// A code is answered exactly where nobody comes first or stands inside the text that is edited, and the access meets the code: A01,
-/// where a text has no room for the line that is put, or the code of what is made of an image or looked for in it.
+/// where a text has no room for the line that is put, or the code of what is made of an image or looked for in it, of a text and an image, or of two images.
 pub fn law_a_code_is_met()
     ensures { RefusesWithTheCode }
 {}
@@ -63,8 +63,8 @@ pub fn law_a_held_device_stays_as_it_is()
     ensures { HeldStaysAsItIs }
 {}
 
-/// An access that scratches a file, formats a disk, or makes a data file, saves a record or writes an end mark on one leaves every other
-/// image as it is, and all other accesses leave every image.
+/// An access that scratches a file, formats a disk, makes a data file, saves a record or a program or writes an end mark on one, or moves
+/// files to one leaves every other image as it is, and all other accesses leave every image.
 pub fn law_other_images_stay_as_they_are()
     ensures { OtherImagesStay }
 {}

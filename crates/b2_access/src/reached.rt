@@ -30,17 +30,20 @@ pub struct Reached {
     pub variables: bool,
     /// The platter that it names, with who holds it.
     pub disk: Option<Addr>,
+    /// The platter to which it moves files, with who holds it.
+    pub other_disk: Option<Addr>,
 }
 
 /// Nothing.
 fn reaches_nothing() -> Reached
-    ensures { result ≡ record { terminal = None; text = TextUse.Unused; variables = false; disk = None } }
+    ensures { result ≡ record { terminal = None; text = TextUse.Unused; variables = false; disk = None; other_disk = None } }
 {
     Reached {
         terminal: None,
         text: TextUse::Unused,
         variables: false,
         disk: None,
+        other_disk: None,
     }
 }
 
@@ -75,6 +78,27 @@ fn at_disk(addr: Addr) -> Reached
     }
 }
 
+/// A platter, who holds it, and the text of the partition that asks.
+fn disk_and_text(addr: Addr, text: TextUse) -> Reached
+    ensures { reach_of result ≡ reach.disk_and_text addr text }
+{
+    Reached {
+        text,
+        ..at_disk(addr)
+    }
+}
+
+/// A platter and another, and who holds them.
+fn at_disks(from: Addr, to: Addr) -> Reached
+    ensures { reach_of result ≡ reach.at_disks from to }
+{
+    Reached {
+        disk: Some(from),
+        other_disk: Some(to),
+        ..reaches_nothing()
+    }
+}
+
 /// What an access reaches.
 pub fn reached_by(access: &Access) -> Reached
     ensures reached { reach_of result ≡ reach_by access.now }
@@ -96,6 +120,11 @@ pub fn reached_by(access: &Access) -> Reached
         | Access::DataEnd { slot }
         | Access::DataLoad { slot, .. }
         | Access::Skip { slot, .. } => at_disk(slot.addr),
+        Access::SaveProgram { addr, .. } => disk_and_text(*addr, TextUse::Read),
+        Access::LoadProgram { addr, .. } => disk_and_text(*addr, TextUse::Edited),
+        Access::MovePlatter { from, to } | Access::MoveFile { from, to, .. } => {
+            at_disks(*from, *to)
+        }
     }
 }
 
@@ -165,15 +194,20 @@ pub fn written_by(access: &Access) -> Written
         | Access::ReadLine { term }
         | Access::Insert { term, .. }
         | Access::Key { term } => writes_terminal(*term),
-        Access::PutLine { .. } | Access::Erase { .. } => writes_text(false),
+        Access::PutLine { .. } | Access::Erase { .. } | Access::LoadProgram { .. } => {
+            writes_text(false)
+        }
         Access::ClearAll { .. } => writes_text(true),
         Access::Limits { .. }
         | Access::ListDisk { .. }
         | Access::DataOpen { .. }
         | Access::DataLoad { .. }
         | Access::Skip { .. } => writes_nothing(),
-        Access::Scratch { addr, .. } | Access::Format { addr, .. } | Access::DataNew { addr, .. } =>
-            writes_platter(*addr),
+        Access::Scratch { addr, .. }
+        | Access::Format { addr, .. }
+        | Access::DataNew { addr, .. }
+        | Access::SaveProgram { addr, .. } => writes_platter(*addr),
+        Access::MovePlatter { to, .. } | Access::MoveFile { to, .. } => writes_platter(*to),
         Access::DataSave { slot, .. } | Access::DataEnd { slot } => writes_platter(slot.addr),
     }
 }
