@@ -5,12 +5,10 @@ use Rattle.b2_access.specs.LeftAlone.{LeaveTheRest}
 use Rattle.b2_access.specs.Lending.{SeenLent}
 use Rattle.b2_access.specs.OwnDevices.{PlansListed}
 use Rattle.b2_access.specs.Planning.{Finishing, Planning}
-use Rattle.b2_access.specs.Touching.{IsLegal}
+use Rattle.b2_access.specs.LegalPlans.{PlansLegally}
 use Rattle.b2_access.specs.declared.accesses.Access.{Access}
 use Rattle.b2_access.specs.declared.accesses.Answer.{Answer}
 use Rattle.b2_access.specs.declared.devices.Device.{Device}
-use Rattle.b2_access.specs.declared.planned.Planned.{Planned}
-use Rattle.b2_access.specs.declared.planned.Planned.TheVariants as planned
 use Rattle.b2_access.specs.declared.private.Private.{Private}
 
 -- what the statements of a language do, by their rows
@@ -19,16 +17,8 @@ pub record Ways : Type 0 where
   pub plan : ℕ → Private → SeenLent → Planning
   pub finish : ℕ → Access → Answer → Private → SeenLent → Finishing
 
--- a plan asks for no line above 9999
-abbrev pub IsLegalPlan : Planned → Type 0
-IsLegalPlan (planned.Done o) = Unit {0}
-IsLegalPlan (planned.Ask a) = IsLegal a
-
-abbrev pub PlansLegally : (Private → SeenLent → Planning) → Type 0
-PlansLegally plan = (me : Private) (s : SeenLent) → IsLegalPlan (plan me s).planned
-
--- WHAT A LANGUAGE OWES ITS MACHINE. LIST is the machine's own. A statement asks for no line above 9999; and of its partition, and
--- of all others, it leaves alone what no statement changes.
+-- WHAT A LANGUAGE OWES ITS MACHINE. LIST is the machine's own. What a statement asks for may be asked for; and of its partition,
+-- and of all others, it leaves alone what no statement changes.
 pub record AreLawful (ways : Ways) : Type 0 where
   pub no_list : ways.built row.LIST ≡ false
   pub plans_legally : (r : ℕ) → PlansLegally (ways.plan r)

@@ -1,13 +1,14 @@
--- No statement asks for a line above 9999.
+-- What statements ask for may be asked for.
 use Rattle.std.proofs.Common.{◌≡◌, ℕ, Bool, true, false, Option, Some, None, is_some, subst, sym}
 use Rattle.b2_text.specs.Program.{Lines}
 use Rattle.b2_flow.specs.declared.frame.Place.{Place}
+use Rattle.b2_access.specs.LegalPlans.{IsLegalPlan}
 use Rattle.b2_access.specs.Lending.{SeenLent}
 use Rattle.b2_access.specs.Placed.{Statement, statement_placed}
 use Rattle.b2_access.specs.declared.planned.Planned.{Planned}
 use Rattle.b2_access.specs.declared.planned.Planned.TheVariants as planned
 use Rattle.b2_access.specs.declared.private.Private.{Private}
-use Rattle.b2_language.specs.Languages.{AreLawful, IsLegalPlan, Ways}
+use Rattle.b2_language.specs.Languages.{AreLawful, Ways}
 use Rattle.b2_machine.specs.Listed.{lists}
 use Rattle.b2_machine.specs.Stays.{IsLegalProgress}
 use Rattle.b2_machine.specs.Statements.{Begun, begins, begins_where, begun_by, builder_of, plan_by}

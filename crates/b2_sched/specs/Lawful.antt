@@ -3,7 +3,8 @@ use Rattle.std.proofs.Common.{◌≡◌, ℕ, Bool, true, false, true≢false, �
 use Rattle.b2_access.specs.LeftAlone.{LeaveTheRest}
 use Rattle.b2_access.specs.OwnDevices.{PlansListed}
 use Rattle.b2_access.specs.declared.devices.Device.{Device}
-use Rattle.b2_language.specs.Languages.{AreLawful, AskForListed, PlansLegally}
+use Rattle.b2_access.specs.LegalPlans.{PlansLegally}
+use Rattle.b2_language.specs.Languages.{AreLawful, AskForListed}
 use Rattle.b2_stmt.specs.Clearing.{asks_access}
 use Rattle.b2_stmt.specs.Plan as stmt
 use Rattle.b2_stmt.proofs.LeftAlone as stmt_laws

@@ -1,8 +1,9 @@
--- No statement asks for a line above 9999.
+-- What statements ask for may be asked for: no line above 9999, and what disks can do.
 use Rattle.std.proofs.Common.{ℕ, ◌==◌, Bool, true, false, if◌then◌else◌, List, Option, Some, None}
 use Rattle.b2_atom.specs.Tree.{Trees}
 use Rattle.b2_atom.specs.Tree.Trees.{Done, Put, In}
 use Rattle.b2_atom.specs.declared.rows.TheConstants as row
+use Rattle.b2_access.specs.LegalPlans.{IsLegalPlan, PlansLegally}
 use Rattle.b2_access.specs.Lending.{SeenLent}
 use Rattle.b2_access.specs.Planning.{Planning}
 use Rattle.b2_access.specs.Touching.{IsLegal}
@@ -11,17 +12,15 @@ use Rattle.b2_access.specs.declared.accesses.Access.{Access}
 use Rattle.b2_access.specs.declared.devices.Device.{Device}
 use Rattle.b2_access.specs.declared.private.Private.{Private}
 use Rattle.b2_access.proofs.Courses.{each_course}
-use Rattle.b2_access.proofs.OwnDevices.{at_disk_is_legal}
 use Rattle.b2_access.proofs.OwnTerminal.{at_terminal_is_legal}
 use Rattle.b2_access.proofs.Working.{as_it_comes}
 use Rattle.b2_stmt.specs.Clearing.{asked_access, asks_to_erase}
 use Rattle.b2_stmt.specs.Plan as stmt
 use Rattle.b2_stmt_var.specs.Plan as stmt_var
 use Rattle.b2_stmt_disk.specs.Plan as stmt_disk
-use Rattle.b2_stmt_disk.proofs.Planned as stmt_disk_planned
+use Rattle.b2_stmt_disk.proofs.Legal as stmt_disk_laws
 use Rattle.b2_stmt_io.specs.Plan as stmt_io
 use Rattle.b2_stmt_io.proofs.Planned as stmt_io_planned
-use Rattle.b2_language.specs.Languages.{IsLegalPlan, PlansLegally}
 
 by_if : {A : Type 0} (P : A → Type 0) (b : Bool) (x y : A) → P x → P y → P (if b then x else y)
 by_if P true x y px py = px
@@ -62,7 +61,6 @@ variables_legally me s =
 pub terminal_legally : PlansLegally stmt_io.plan
 terminal_legally me s = as_it_comes IsLegalPlan me s (stmt_io.works me s) (stmt_io_planned.each_planned me s IsLegalPlan tt tt (λ code. tt) (λ a is. at_terminal_is_legal me.term a is))
 
--- nor do statements on disks
+-- statements on disks
 pub disks_legally : (devices : List Device) → PlansLegally (stmt_disk.plan devices)
-disks_legally devices me s =
-    as_it_comes IsLegalPlan me s (stmt_disk.works devices me s) (stmt_disk_planned.each_planned devices me s IsLegalPlan tt tt (λ code. tt) (λ addr a listed is. at_disk_is_legal addr a is))
+disks_legally = stmt_disk_laws.plans_legally

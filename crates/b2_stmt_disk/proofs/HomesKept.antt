@@ -53,7 +53,7 @@ module _ (among : ℕ → Bool) where
 pub plans_within : (devices : List Device) → PlansWithin (plan devices)
 plans_within devices =
     form.plans_within (works devices)
-    (λ among me s k. each_planned devices me s (PlannedIn among) tt tt (λ code. tt) (λ addr a listed is. at_disk_marks_none among addr a is))
+    (λ among me s k. each_planned devices me s (PlannedIn among) tt tt (λ code. tt) (λ addr a listed is legal. at_disk_marks_none among addr a is))
 
 pub finishes_within : FinishesWithin finish
 unfolding Leads

@@ -1,8 +1,5 @@
--- What the rows of these statements say at their bytes: DriveRows for drives and SELECT DISK, NameRows for names, LimitsRows,
--- ScratchRows and ListRows. Planned has what holds of each statement as it plans and as it finishes; from there follow the laws of
--- LeftAlone and Listed, by way of HomesKept, KeptPlaces and Waits.
-pub mod DriveRows
-pub mod NameRows
+-- What the rows of these statements say at their bytes: LimitsRows, ScratchRows and ListRows. Planned has what holds of each statement as it plans and as it finishes; from there follow the laws of
+-- LeftAlone, Listed and Legal, by way of HomesKept, KeptPlaces and Waits.
 pub mod LimitsRows
 pub mod ScratchRows
 pub mod ListRows
@@ -12,3 +9,4 @@ pub mod KeptPlaces
 pub mod Waits
 pub mod LeftAlone
 pub mod Listed
+pub mod Legal

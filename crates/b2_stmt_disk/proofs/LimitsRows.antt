@@ -22,8 +22,8 @@ use Rattle.b2_expr.specs.Workspace.{WorkState, WorkLeft, refused, then_works, un
 use Rattle.b2_receiver.specs.Receiving.{assign_number_at}
 use Rattle.b2_access.specs.Disks.{FourNumbers}
 use Rattle.b2_access.specs.declared.accesses.Access.TheVariants as access
-use Rattle.b2_stmt_disk.specs.Drives.{DrivesSeen, drive_used}
-use Rattle.b2_stmt_disk.specs.FileNames.{name_given}
+use Rattle.b2_drive.specs.Drives.{DrivesSeen, drive_used}
+use Rattle.b2_drive.specs.FileNames.{name_given}
 use Rattle.b2_stmt_disk.specs.Limits.{after_name, asks_limits, gives_each, gives_file, gives_limits, gives_operands, is_absent, named_file, numbers_of, receivers_in, whole_number}
 use Rattle.b2_stmt_disk.specs.Receivers.{AreReceivers, is_fourth_after, next_receiver, receivers_at}
 

@@ -10,7 +10,7 @@ use Rattle.b2_rows.specs.Rows.{is_part, tree_at}
 use Rattle.b2_rows.proofs.RowsRead.{stands_of}
 use Rattle.b2_expr.specs.Answers.{◌>>=◌}
 use Rattle.b2_access.specs.declared.accesses.Access.TheVariants as access
-use Rattle.b2_stmt_disk.specs.Drives.{DrivesSeen, drive_used}
+use Rattle.b2_drive.specs.Drives.{DrivesSeen, drive_used}
 use Rattle.b2_stmt_disk.specs.Listing.{asks_to_list}
 
 abbrev items : List Item

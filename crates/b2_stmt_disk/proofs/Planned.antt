@@ -14,6 +14,7 @@ use Rattle.b2_access.specs.Lending.{SeenLent}
 use Rattle.b2_access.specs.OwnDevices.{IsAtDisk}
 use Rattle.b2_access.specs.Partition.{setting_of}
 use Rattle.b2_access.specs.Placed.{Statement}
+use Rattle.b2_access.specs.Touching.{IsLegal}
 use Rattle.b2_access.specs.Views.{change_came, limits_told, listing_told}
 use Rattle.b2_access.specs.Working.{Worked, Working, leaves, planned_of, stops}
 use Rattle.b2_access.specs.declared.accesses.Access.{Access}
@@ -26,8 +27,9 @@ use Rattle.b2_access.specs.declared.planned.Planned.TheVariants as planned
 use Rattle.b2_access.specs.declared.private.Private.{Private}
 use Rattle.b2_access.proofs.Choice.{either}
 use Rattle.b2_access.proofs.Courses.{each_course}
-use Rattle.b2_stmt_disk.specs.Drives.{DrivesSeen, device_named, drive_used, drives_of, platter_meant, platter_used, selected, selects}
-use Rattle.b2_stmt_disk.specs.FileNames.{name_given}
+use Rattle.b2_drive.specs.Drives.{DrivesSeen, device_named, drive_used, drives_of, platter_meant, platter_used, selects}
+use Rattle.b2_stmt_disk.specs.Selecting.{selected}
+use Rattle.b2_drive.specs.FileNames.{name_given}
 use Rattle.b2_stmt_disk.specs.Limits.{asks_limits, limits_end, named_file}
 use Rattle.b2_stmt_disk.specs.Listing.{asks_to_list, listing_ends}
 use Rattle.b2_stmt_disk.specs.Plan.{asked_of, asks_or_fails, course_of, does, ended_of, is_refused, works}
@@ -35,7 +37,7 @@ use Rattle.b2_stmt_disk.specs.Scratching.{asks_to_format, asks_to_scratch, chang
 
 -- what holds of each refusal, and of each access of a platter that may be used
 module _ (F : Planned → Type 0) (d : DrivesSeen) (failed : (code : ℕ) → F (planned.Done (outcome.Failed code)))
-    (asks : (addr : List ℕ) (a : Access) → is_platter_for d.who addr d.devices ≡ true → IsAtDisk addr a → F (planned.Ask a)) where
+    (asks : (addr : List ℕ) (a : Access) → is_platter_for d.who addr d.devices ≡ true → IsAtDisk addr a → IsLegal a → F (planned.Ask a)) where
   Asked : Result Access ℕ → Type 0
   Asked r = F (asks_or_fails r)
 
@@ -62,14 +64,14 @@ module _ (F : Planned → Type 0) (d : DrivesSeen) (failed : (code : ℕ) → F 
   unfolding Asked
   limits_asked e (Put word (In n drive operands)) =
       after_drive drive (λ addr. named_file e operands >>= (λ name. Ok (access.Limits addr name)))
-      (λ addr listed. after_value (named_file e operands) (λ name. Ok (access.Limits addr name)) (λ name. asks addr (access.Limits addr name) listed refl))
+      (λ addr listed. after_value (named_file e operands) (λ name. Ok (access.Limits addr name)) (λ name. asks addr (access.Limits addr name) listed refl tt))
   limits_asked e t = failed S20_VARIABLE
 
   scratch_asked : (e : Context) (t : Trees) → Asked (asks_to_scratch d e t)
   unfolding Asked
   scratch_asked e (Put word (In n drive (In m name end))) =
       after_drive drive (λ addr. name_given e name >>= (λ x. Ok (access.Scratch addr x)))
-      (λ addr listed. after_value (name_given e name) (λ x. Ok (access.Scratch addr x)) (λ x. asks addr (access.Scratch addr x) listed refl))
+      (λ addr listed. after_value (name_given e name) (λ x. Ok (access.Scratch addr x)) (λ x. asks addr (access.Scratch addr x) listed refl tt))
   scratch_asked e t = failed S18_ALPHA
 
   format_asked : (e : Context) (t : Trees) → Asked (asks_to_format d e t)
@@ -77,12 +79,12 @@ module _ (F : Planned → Type 0) (d : DrivesSeen) (failed : (code : ℕ) → F 
   format_asked e (Put scratch (Put disk (In n drive (Put ls (Put is (In m index (Put comma (Put end (Put equals (In k last more)))))))))) =
       after_drive drive (λ addr. sectors_given e index >>= (λ i. sectors_given e last >>= (λ l. Ok (access.Format addr i l))))
       (λ addr listed. after_value (sectors_given e index) (λ i. sectors_given e last >>= (λ l. Ok (access.Format addr i l)))
-      (λ i. after_value (sectors_given e last) (λ l. Ok (access.Format addr i l)) (λ l. asks addr (access.Format addr i l) listed refl)))
+      (λ i. after_value (sectors_given e last) (λ l. Ok (access.Format addr i l)) (λ l. asks addr (access.Format addr i l) listed refl tt)))
   format_asked e t = failed S17_NUMERIC
 
   list_asked : (t : Trees) → Asked (asks_to_list d t)
   unfolding Asked
-  list_asked (Put list (Put dc (In n drive end))) = after_drive drive (λ addr. Ok (access.ListDisk addr)) (λ addr listed. asks addr (access.ListDisk addr) listed refl)
+  list_asked (Put list (Put dc (In n drive end))) = after_drive drive (λ addr. Ok (access.ListDisk addr)) (λ addr listed. asks addr (access.ListDisk addr) listed refl tt)
   list_asked t = failed S23_DEVICE
 
   each_asked : (e : Context) (r : ℕ) (t : Trees) → F (asks_or_fails (asked_of d e r t))
@@ -95,7 +97,7 @@ module _ (F : Planned → Type 0) (d : DrivesSeen) (failed : (code : ℕ) → F 
 
 -- so also of what the statement at a place plans
 module _ (devices : List Device) (me : Private) (s : SeenLent) (F : Planned → Type 0) (next : F (planned.Done outcome.Next)) (ready : F (planned.Done outcome.Ready)) (failed : (code : ℕ) → F (planned.Done (outcome.Failed code)))
-    (asks : (addr : List ℕ) (a : Access) → is_platter_for me.part addr devices ≡ true → IsAtDisk addr a → F (planned.Ask a)) where
+    (asks : (addr : List ℕ) (a : Access) → is_platter_for me.part addr devices ≡ true → IsAtDisk addr a → IsLegal a → F (planned.Ask a)) where
   Each : Working → Type 0
   Each k = F (planned_of k)
 

@@ -13,8 +13,8 @@ use Rattle.b2_rows.proofs.RowsRead.{stands_of}
 use Rattle.b2_expr.specs.Answers.{◌>>=◌}
 use Rattle.b2_expr.specs.Scope.{Context}
 use Rattle.b2_access.specs.declared.accesses.Access.TheVariants as access
-use Rattle.b2_stmt_disk.specs.Drives.{DrivesSeen, drive_used}
-use Rattle.b2_stmt_disk.specs.FileNames.{name_given}
+use Rattle.b2_drive.specs.Drives.{DrivesSeen, drive_used}
+use Rattle.b2_drive.specs.FileNames.{name_given}
 use Rattle.b2_stmt_disk.specs.Scratching.{asks_to_format, asks_to_scratch, sectors_given}
 
 -- SCRATCH

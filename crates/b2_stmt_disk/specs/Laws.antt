@@ -1,5 +1,6 @@
 -- What holds of statements on disks, whatever they are, over any devices.
 use Rattle.std.specs.Prelude.{List}
+use Rattle.b2_access.specs.LegalPlans.{PlansLegally}
 use Rattle.b2_access.specs.LeftAlone.{LeaveTheRest}
 use Rattle.b2_access.specs.OwnDevices.{PlansListed}
 use Rattle.b2_access.specs.declared.devices.Device.{Device}
@@ -12,3 +13,7 @@ StatementsLeaveTheRest = (devices : List Device) → LeaveTheRest (plan devices)
 -- they ask for platters that the table lists for their partition, and for no others
 abbrev pub AskedDevicesAreListed : Type 0
 AskedDevicesAreListed = PlansListed plan
+
+-- and what it asks for may be asked for
+abbrev pub StatementsPlanLegally : Type 0
+StatementsPlanLegally = (devices : List Device) → PlansLegally (plan devices)

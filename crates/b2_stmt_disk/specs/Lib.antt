@@ -1,5 +1,4 @@
-pub mod Drives
-pub mod FileNames
+pub mod Selecting
 pub mod Receivers
 pub mod Limits
 pub mod Scratching

@@ -18,8 +18,8 @@ use Rattle.b2_access.specs.declared.accesses.Access.{Access}
 use Rattle.b2_access.specs.declared.accesses.Access.TheVariants as access
 use Rattle.b2_access.specs.declared.planned.Outcome.TheVariants as outcome
 use Rattle.b2_access.specs.declared.private.Private.{Private}
-use Rattle.b2_stmt_disk.specs.Drives.{DrivesSeen, drive_used}
-use Rattle.b2_stmt_disk.specs.FileNames.{name_given}
+use Rattle.b2_drive.specs.Drives.{DrivesSeen, drive_used}
+use Rattle.b2_drive.specs.FileNames.{name_given}
 use Rattle.b2_stmt_disk.specs.declared.limits.Told.{Told}
 
 -- the name of the file, where one is written

@@ -10,7 +10,7 @@ use Rattle.b2_access.specs.declared.accesses.Access.{Access}
 use Rattle.b2_access.specs.declared.accesses.Access.TheVariants as access
 use Rattle.b2_access.specs.declared.planned.Outcome.TheVariants as outcome
 use Rattle.b2_access.specs.declared.private.Private.{Private}
-use Rattle.b2_stmt_disk.specs.Drives.{DrivesSeen, drive_used}
+use Rattle.b2_drive.specs.Drives.{DrivesSeen, drive_used}
 
 abbrev pub asks_to_list : DrivesSeen → Trees → Result Access ℕ
 asks_to_list d (Put list (Put dc (In n drive end))) = drive_used d drive >>= (λ addr. Ok (access.ListDisk addr))

@@ -21,7 +21,8 @@ use Rattle.b2_access.specs.declared.planned.Outcome.TheVariants as outcome
 use Rattle.b2_access.specs.declared.planned.Planned.{Planned}
 use Rattle.b2_access.specs.declared.planned.Planned.TheVariants as planned
 use Rattle.b2_access.specs.declared.private.Private.{Private}
-use Rattle.b2_stmt_disk.specs.Drives.{DrivesSeen, drives_of, selected, selects}
+use Rattle.b2_drive.specs.Drives.{DrivesSeen, drives_of, selects}
+use Rattle.b2_stmt_disk.specs.Selecting.{selected}
 use Rattle.b2_stmt_disk.specs.Limits.{asks_limits, limits_end}
 use Rattle.b2_stmt_disk.specs.Listing.{asks_to_list, listing_ends}
 use Rattle.b2_stmt_disk.specs.Scratching.{asks_to_format, asks_to_scratch, change_ends}

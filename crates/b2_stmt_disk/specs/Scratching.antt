@@ -13,8 +13,8 @@ use Rattle.b2_access.specs.declared.accesses.Access.{Access}
 use Rattle.b2_access.specs.declared.accesses.Access.TheVariants as access
 use Rattle.b2_access.specs.declared.planned.Outcome.{Outcome}
 use Rattle.b2_access.specs.declared.planned.Outcome.TheVariants as outcome
-use Rattle.b2_stmt_disk.specs.Drives.{DrivesSeen, drive_used}
-use Rattle.b2_stmt_disk.specs.FileNames.{name_given}
+use Rattle.b2_drive.specs.Drives.{DrivesSeen, drive_used}
+use Rattle.b2_drive.specs.FileNames.{name_given}
 
 -- SCRATCH: the drive first, and then the name
 abbrev pub asks_to_scratch : DrivesSeen → Context → Trees → Result Access ℕ

@@ -1,5 +1,5 @@
 //! What holds of statements on disks, whatever they are: the contracts of functions without a body.
-ghost use Rattle.b2_stmt_disk.specs.Laws.{AskedDevicesAreListed, StatementsLeaveTheRest};
+ghost use Rattle.b2_stmt_disk.specs.Laws.{AskedDevicesAreListed, StatementsLeaveTheRest, StatementsPlanLegally};
 
 /// A statement, as it plans over any devices and as it finishes, names no partition as a home, in a place, in a frame, where it
 /// leads or in what it asks for, but its own and those that were named before. It leaves the place of the partition, which moves
@@ -12,4 +12,9 @@ pub fn statements_leave_the_rest()
 /// What a statement asks for reaches no devices but platters that the table lists for its partition.
 pub fn asked_devices_are_listed()
     ensures { AskedDevicesAreListed }
+{}
+
+/// What a statement asks for may be asked for.
+pub fn what_is_asked_is_legal()
+    ensures { StatementsPlanLegally }
 {}

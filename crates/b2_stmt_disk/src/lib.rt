@@ -2,17 +2,14 @@
 //!
 //! `plan` takes the statement at a partition's place, over the devices that there are: it ends at once, or asks for an access of
 //! one platter, which the partition may use; `finish` does the rest by the answer. What each statement does is said by its row
-//! and its tree in `specs/`: drives in `Drives`, names of files in `FileNames`, and a statement or two a file; `Plan` finds the
+//! and its tree in `specs/`: a statement or two a file, over drives and names of files in `b2_drive`; `Plan` finds the
 //! unit and chooses among them. `is_built` tells which rows are built here. `laws` says what a statement leaves alone, and for
 //! which devices it asks.
 //!
-//! Stands on `b2_expr` for values, on `b2_receiver` for receivers, on `b2_alpha` for the blanks at the end of a name, on
-//! `b2_access` for the private state, devices, loans and accesses, on `b2_rows` for units, and on `b2_text`, `b2_vars`,
+//! Stands on `b2_drive` for drives and names, on `b2_expr` for values, on `b2_receiver` for receivers, on `b2_access` for the private state, devices, loans and accesses, on `b2_rows` for units, and on `b2_text`, `b2_vars`,
 //! `b2_flow`, `b2_atom`, `b2_dec` and `b2_base`.
 #![tactic(auto)]
 
-mod drives;
-mod file_names;
 pub mod laws;
 mod limits;
 mod listing;

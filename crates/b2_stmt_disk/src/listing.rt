@@ -4,13 +4,13 @@ ghost use Rattle.b2_access.specs.Answering.{can_answer};
 ghost use Rattle.b2_access.specs.Views.{listing_told};
 ghost use Rattle.b2_atom.specs.declared.rows.TheConstants as row;
 ghost use Rattle.b2_rows.specs.Rows.{is_part, tree_at};
-ghost use Rattle.b2_stmt_disk.specs.Drives.{drives_seen};
+ghost use Rattle.b2_drive.specs.Drives.{drives_seen};
 ghost use Rattle.b2_stmt_disk.specs.Listing as spec;
 
-use crate::drives::{Drives, last_drive};
 use b2_access::{Access, Answer};
 use b2_base::lexical::rest_after;
 use b2_base::{ByteList, Code, NoMemory};
+use b2_drive::{Drives, last_drive};
 use std::alloc::Global;
 
 /// What LIST DC asks for.

@@ -6,10 +6,9 @@ ghost use Rattle.b2_rows.specs.Laws.{IsRow};
 ghost use Rattle.b2_rows.specs.Rows.{tree_at};
 ghost use Rattle.b2_expr.specs.Scope.{surroundings};
 ghost use Rattle.b2_expr.specs.Value.{in_statement};
-ghost use Rattle.b2_stmt_disk.specs.Drives.{drives_seen};
+ghost use Rattle.b2_drive.specs.Drives.{drives_seen};
 ghost use Rattle.b2_stmt_disk.specs.Plan as spec;
 
-use crate::drives::{Drives, select};
 use crate::limits::{ask_limits, give_limits, told_by};
 use crate::listing::{ask_to_list, listing_of};
 use crate::scratching::{after_change, ask_to_format, ask_to_scratch};
@@ -20,6 +19,7 @@ use b2_access::{
 use b2_atom::rows;
 use b2_base::codes::{S26_PROGRAM_ONLY, S27_LEFT_OUT};
 use b2_base::{Addr, Code, NoMemory};
+use b2_drive::{Drives, drives_for, select};
 use b2_expr::{Env, Workspace, surroundings_of};
 use b2_rows::RowUnit;
 use std::alloc::Global;
@@ -81,11 +81,7 @@ pub fn plan(
     let Some(place) = me.place else {
         return Ok(Planned::Done(Outcome::Ready));
     };
-    let d = Drives {
-        devices,
-        who: me.part,
-        selected: me.disk,
-    };
+    let d = drives_for(devices, me);
     let setting = setting_of(me);
     let Some(unit) = statement_placed(place, &me.immediate, lent.home) else {
         return Ok(Planned::Done(Outcome::Ready));

@@ -6,16 +6,15 @@ ghost use Rattle.b2_atom.specs.declared.rows.TheConstants as row;
 ghost use Rattle.b2_rows.specs.Rows.{is_part, tree_at};
 ghost use Rattle.b2_expr.specs.Scope.{surroundings};
 ghost use Rattle.b2_expr.specs.Value.{in_statement};
-ghost use Rattle.b2_stmt_disk.specs.Drives.{drives_seen};
+ghost use Rattle.b2_drive.specs.Drives.{drives_seen};
 ghost use Rattle.b2_stmt_disk.specs.Scratching as spec;
 
-use crate::drives::{Drives, drive, past_drive};
-use crate::file_names::name_at;
 use b2_access::{Access, Answer, Outcome};
 use b2_atom::Cursor;
 use b2_base::Code;
 use b2_base::codes::P34_RANGE;
 use b2_base::lexical::rest_after;
+use b2_drive::{Drives, drive, name_at, past_drive};
 use b2_expr::{Env, fixed, number, past_sum};
 
 /// What SCRATCH asks for: its drive first, and then the name of the file.

@@ -22,7 +22,7 @@ use Rattle.b2_rows.specs.Rows.{is_part, tree_at, after_part, When}
 use Rattle.b2_rows.specs.Choices.{ReadAs, second_branch}
 use Rattle.b2_rows.proofs.Choices.{either_first, either_second}
 use Rattle.b2_rows.proofs.RowsRead.{stands_of}
-use Rattle.b2_stmt_disk.specs.Drives.{DrivesSeen, address_in, device_at, device_named, drive_used, platter_meant, platter_used, selects}
+use Rattle.b2_drive.specs.Drives.{DrivesSeen, address_in, device_at, device_named, drive_used, platter_meant, platter_used, selects}
 
 -- a choice between what is left out and a row is that row
 left_out_row : row_items row.LEFT_OUT ≡ LeftOut ∷ []

@@ -4,7 +4,7 @@ ghost use Rattle.b2_atom.specs.declared.rows.TheConstants as row;
 ghost use Rattle.b2_rows.specs.Rows.{is_part, tree_at};
 ghost use Rattle.b2_expr.specs.Scope.{surroundings};
 ghost use Rattle.b2_expr.specs.Value.{in_statement};
-ghost use Rattle.b2_stmt_disk.specs.FileNames as spec;
+ghost use Rattle.b2_drive.specs.FileNames as spec;
 
 use b2_alpha::value_len;
 use b2_atom::Cursor;

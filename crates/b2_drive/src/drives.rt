@@ -6,9 +6,9 @@ ghost use Rattle.b2_atom.specs.declared.forms.Leaf.TheVariants as leaf;
 ghost use Rattle.b2_atom.specs.declared.rows.TheConstants as row;
 ghost use Rattle.b2_rows.specs.Leaves.{is_leaf};
 ghost use Rattle.b2_rows.specs.Rows.{after_part, is_part, tree_at};
-ghost use Rattle.b2_stmt_disk.specs.Drives as spec;
+ghost use Rattle.b2_drive.specs.Drives as spec;
 
-use b2_access::DeviceTable;
+use b2_access::{DeviceTable, Private};
 use b2_base::codes::P48_DEVICE;
 use b2_base::lexical::rest_after;
 use b2_base::{Addr, Code, Part};
@@ -23,6 +23,17 @@ pub struct Drives<'a> {
     pub who: Part,
     /// The platter that it has selected, if one.
     pub selected: Option<Addr>,
+}
+
+/// What the drives of a partition go by.
+pub fn drives_for<'a>(devices: &'a DeviceTable, me: &Private) -> Drives<'a>
+    ensures { spec.drives_seen result ≡ spec.drives_of devices.now me.now }
+{
+    Drives {
+        devices,
+        who: me.part,
+        selected: me.disk,
+    }
 }
 
 /// The platter that is meant, where the partition may use it; else P48.

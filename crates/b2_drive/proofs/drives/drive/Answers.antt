@@ -1,7 +1,7 @@
 use Rattle.std.proofs.Common.{◌∙◌, sym}
-use Rattle.b2_stmt_disk.specs.Drives.{drives_seen}
-use Rattle.b2_stmt_disk.proofs.DriveRows.{drive_is}
-use Rattle.b2_stmt_disk.proofs.drives.drive.Goals as goal
+use Rattle.b2_drive.specs.Drives.{drives_seen}
+use Rattle.b2_drive.proofs.DriveRows.{drive_is}
+use Rattle.b2_drive.proofs.drives.drive.Goals as goal
 
 pub returns : goal.returns
 returns c = c.used_at.ensures ∙ sym (drive_is (drives_seen c.args.d.now) c.args.text.now c.requires.part)

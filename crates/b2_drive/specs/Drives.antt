@@ -10,11 +10,9 @@ use Rattle.b2_atom.specs.Words.{Text}
 use Rattle.b2_atom.specs.declared.forms.Leaf.TheVariants as leaf
 use Rattle.b2_rows.specs.Leaves.{leaf_bytes}
 use Rattle.b2_access.specs.Devices.{is_platter_for}
-use Rattle.b2_access.specs.Working.{Worked, leaves, work_of}
 use Rattle.b2_access.specs.declared.devices.Device.{Device}
-use Rattle.b2_access.specs.declared.planned.Outcome.TheVariants as outcome
 use Rattle.b2_access.specs.declared.private.Private.{Private}
-use Rattle.b2_stmt_disk.specs.declared.drives.Drives.{Drives}
+use Rattle.b2_drive.specs.declared.drives.Drives.{Drives}
 
 -- what a drive goes by: the devices that there are, the partition that asks, and the platter that it has selected
 pub record DrivesSeen : Type 0 where
@@ -62,7 +60,3 @@ address_selected t = None
 
 abbrev pub selects : DrivesSeen → Trees → Result (List ℕ) ℕ
 selects d t = platter_used d (address_selected t)
-
-abbrev pub selected : Result (List ℕ) ℕ → Private → Worked
-selected (Ok addr) me = record { work = record (work_of me) { disk = Some addr }; outcome = outcome.Next }
-selected (Err code) me = leaves me (outcome.Failed code)

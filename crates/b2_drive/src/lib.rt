@@ -1,0 +1,15 @@
+//! Drives and names of files, as statements on disks have them.
+//!
+//! A drive names a platter, or means the one that the partition has selected; `drive` and `last_drive` give that platter where
+//! the partition may use it, and else P48. `name_at` gives the name of a file, or D87. The definitions are in `specs/`: `Drives`
+//! and `FileNames`.
+//!
+//! Stands on `b2_expr` for values, on `b2_alpha` for the blanks at the end of a name, on `b2_access` for devices and the private
+//! state, on `b2_rows` for units, and on `b2_atom`, `b2_dec` and `b2_base`.
+#![tactic(auto)]
+
+mod drives;
+mod file_names;
+
+pub use drives::{Drives, drive, drives_for, last_drive, past_drive, select};
+pub use file_names::name_at;
