@@ -84,7 +84,11 @@ pub fn after_change(access: &Access, answer: &Answer) -> Outcome
     ensures { result ≡ spec.change_ends (change_came access.now answer.now) }
 {
     match access {
-        Access::Scratch { .. } | Access::Format { .. } => match answer {
+        Access::Scratch { .. }
+        | Access::Format { .. }
+        | Access::SaveProgram { .. }
+        | Access::MovePlatter { .. }
+        | Access::MoveFile { .. } => match answer {
             Answer::Done => Outcome::Next,
             Answer::Refused(code) => Outcome::Failed(*code),
             Answer::Wait(_) => Outcome::Repeat,
