@@ -1,7 +1,8 @@
 -- Marks that are made for parts of a list, one part after another.
-use Rattle.std.specs.Prelude.{◌≡◌, ℕ, List, [], ◌∷◌, ◌++◌, refl}
+use Rattle.std.specs.Prelude.{◌≡◌, ℕ, List, [], ◌∷◌, ◌++◌, Option, Some, None, refl}
 use Rattle.std.proofs.Common.{sym, ap, ◌∙◌}
 use Rattle.b2_access.specs.declared.objects.Object.{Object}
+use Rattle.b2_access.specs.Reach.{device_objects, disks_of}
 use Rattle.b2_audit.specs.Marks.{Marks, touch, touch_all, write, write_all}
 
 pub touched_in_turn : (who : ℕ) (os ps : List Object) (m : Marks) → touch_all who (os ++ ps) m ≡ touch_all who ps (touch_all who os m)
@@ -11,6 +12,12 @@ touched_in_turn who (o ∷ os) ps m = touched_in_turn who os ps (touch who o m)
 pub written_in_turn : (who : ℕ) (os ps : List Object) (m : Marks) → write_all who (os ++ ps) m ≡ write_all who ps (write_all who os m)
 written_in_turn who [] ps m = refl
 written_in_turn who (o ∷ os) ps m = written_in_turn who os ps (write who o m)
+
+-- two disks
+pub touched_disks : (who : ℕ) (a b : Option (List ℕ)) (m one two : Marks) → one ≡ touch_all who (device_objects (disks_of a)) m → two ≡ touch_all who (device_objects (disks_of b)) one
+    → two ≡ touch_all who (device_objects (disks_of a ++ disks_of b)) m
+touched_disks who None b m one two first second = second ∙ ap (touch_all who (device_objects (disks_of b))) first
+touched_disks who (Some a) b m one two first second = second ∙ ap (touch_all who (device_objects (disks_of b))) first
 
 -- four parts
 pub touched_in_parts : (who : ℕ) (xs ys zs ds : List Object) (m one two three four : Marks) → one ≡ touch_all who xs m → two ≡ touch_all who ys one → three ≡ touch_all who zs two → four ≡ touch_all who ds three

@@ -1,5 +1,5 @@
 // The marks of accesses: by what they reach, and by what they write of that.
-ghost use Rattle.std.specs.Prelude.{◌≡◌, OnOk, IfErr, IsSome};
+ghost use Rattle.std.specs.Prelude.{◌≡◌, ◌++◌, OnOk, IfErr, IsSome};
 ghost use Rattle.b2_access.specs.Reach.{device_objects, disks_of, objects_reached, objects_written, platter_objects, reach_of, terminal_objects, text_objects, variable_objects, where_written};
 ghost use Rattle.b2_access.specs.Store.{StoreState};
 ghost use Rattle.b2_access.specs.Touching.{touched, written_by as objects_by_answer};
@@ -52,6 +52,15 @@ fn touch_disk(seen: &mut Seen, who: Part, disk: Option<Addr>)
     }
 }
 
+/// Marks two platters, where they are reached.
+#[tactic(auto, using(crate::proofs::InParts::touched_disks))]
+fn touch_disks(seen: &mut Seen, who: Part, disk: Option<Addr>, other: Option<Addr>)
+    ensures { seen.new ≡ touch_all who (device_objects (disks_of disk ++ disks_of other)) seen.old }
+{
+    touch_disk(seen, who, disk);
+    touch_disk(seen, who, other);
+}
+
 /// Marks what is reached.
 #[tactic(auto, using(crate::proofs::InParts::touched_in_parts))]
 fn touch_reached(seen: &mut Seen, who: Part, reached: &Reached)
@@ -60,7 +69,7 @@ fn touch_reached(seen: &mut Seen, who: Part, reached: &Reached)
     touch_terminal(seen, who, reached.terminal);
     touch_text(seen, who, reached.text);
     touch_variables(seen, who, reached.variables);
-    touch_disk(seen, who, reached.disk);
+    touch_disks(seen, who, reached.disk, reached.other_disk);
 }
 
 /// Marks what an access touches, whatever it will be answered.

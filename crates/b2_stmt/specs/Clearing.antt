@@ -6,7 +6,7 @@ use Rattle.b2_base.specs.declared.codes.TheConstants.{A08_TEXT_BORROWED}
 use Rattle.b2_atom.specs.Tree.{Trees}
 use Rattle.b2_atom.specs.Tree.Trees.{Put}
 use Rattle.b2_atom.specs.declared.rows.TheConstants as row
-use Rattle.b2_access.specs.Partition.{terminal_address, without_frames}
+use Rattle.b2_access.specs.Partition.{no_files, terminal_address, without_frames}
 use Rattle.b2_access.specs.declared.accesses.Access.{Access}
 use Rattle.b2_access.specs.declared.accesses.Access.TheVariants as access
 use Rattle.b2_access.specs.declared.accesses.Answer.{Answer}
@@ -31,10 +31,10 @@ asks_access r = r == row.CLEAR || r == row.CLEAR_P
 abbrev pub asked_access : ℕ → Trees → Option Access
 asked_access r t = if r == row.CLEAR then Some (access.ClearAll None 0) else (if r == row.CLEAR_P then Some (asks_to_erase t) else None)
 
--- all is cleared: the text and the `@` variables by the access, and then the variables and the frames; the platter with which the
--- partition started is selected again, and it is shown to be ready
+-- all is cleared: the text and the `@` variables by the access, and then the variables and the frames; no data file is open, the platter
+-- with which the partition started is selected again, and it is shown to be ready
 abbrev pub cleared : Private → Private
-cleared me = record (without_frames me) { vars = record me.vars { table = map.empty }; disk = me.boot_disk; pending = Some (terminal_address, codes "READY" ++ byte.newline ∷ []) }
+cleared me = record (without_frames me) { vars = record me.vars { table = map.empty }; slots = no_files; disk = me.boot_disk; pending = Some (terminal_address, codes "READY" ++ byte.newline ∷ []) }
 
 -- how a statement finishes that clears text: the frames go with the lines; A08 where another stands inside it; else the step is repeated
 abbrev pub clearing_ends : ClearCame → Private → Steered

@@ -62,7 +62,8 @@ fn erase_lines(me: &mut Private) -> Outcome
     Outcome::Ready
 }
 
-/// After all was cleared: the variables go too, and the platter with which the partition started is selected again.
+/// After all was cleared: the variables go too, no data file is open, and the platter with which the partition started is selected
+/// again.
 fn clear_all(alloc: Global, me: &mut Private) -> Result<Outcome, NoMemory>
     ensures ended { IfOk result (λ o. record { me = me.new; outcome = o } ≡ steered me.old (spec.clearing_ends AllCleared me.old)) }
     ensures part { me.new.part ≡ me.old.part }
@@ -70,6 +71,7 @@ fn clear_all(alloc: Global, me: &mut Private) -> Result<Outcome, NoMemory>
     let ready = ByteList::from_slice(alloc, b"READY\n")?;
     let outcome = erase_lines(me);
     me.vars.clear();
+    me.slots = [None; 16];
     me.disk = me.boot_disk;
     me.pending = Some((Addr::default(), ready));
     Ok(outcome)
