@@ -9,7 +9,7 @@ use Rattle.b2_catalog.specs.Catalogue.{catalogue}
 use Rattle.b2_catalog.specs.Ways.{place, slot_found}
 use Rattle.b2_catalog.specs.Changes.{entered, reused}
 use Rattle.b2_catalog.specs.Calls.{enter_refusal, new_entry, old_refusal, reuse_refusal, reused_place}
-use Rattle.b2_catalog.specs.Making.{file_again, file_given, file_made, make_refusal, new_file}
+use Rattle.b2_catalog.specs.Making.{MakesFile, file_again, file_given, file_made, make_refusal, new_file}
 use Rattle.b2_catalog.specs.Results.{unless_refused}
 use Rattle.b2_catalog.proofs.MadeFiles.{enters, goes-by, old-parts, refused-by, slot-by}
 
@@ -68,3 +68,9 @@ pub refused-value : (image : List ℕ) (old : Option (List ℕ)) (name : List �
 unfolding file_made
 refused-value image old name program sectors new (Ok e) err = tt
 refused-value image old name program sectors new (Err code) err = ap (λ (o : Option ℕ). unless_refused o (file_given image old name program sectors)) err.0
+
+-- what it says that a file is made is what the function says
+pub made-value : (image : List ℕ) (old : Option (List ℕ)) (name : List ℕ) (program : Bool) (sectors : ℕ) (new : List ℕ) (e : Entry) → make_refusal image old name sectors ≡ None
+    → MakesFile image old name program sectors new e → file_made image old name program sectors ≡ Ok (new, e)
+made-value image None name program sectors new e none made = made-new image name program sectors new e none made.0 made.1
+made-value image (Some old) name program sectors new e none made = made-again image old name program sectors new e none made.0 made.1
