@@ -16,3 +16,4 @@ pub mod Formats
 pub mod DataSectors
 pub mod Using
 pub mod MadeFiles
+pub mod FileMade

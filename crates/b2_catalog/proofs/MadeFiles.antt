@@ -106,18 +106,18 @@ module _ (image : List ℕ) (good : Good Narrow image) (name : List ℕ) (legal 
 
 -- ---- a file that is taken again
 
-old-parts : (o : Option Entry) (full : Bool) → old_refusal o full ≡ None → (is_some o ≡ true) × (full ≡ false)
+pub old-parts : (o : Option Entry) (full : Bool) → old_refusal o full ≡ None → (is_some o ≡ true) × (full ≡ false)
 old-parts None full h = cc
 old-parts (Some e) full h =
     let first = refused-by e.live true (cond full (Some D85_INDEX_FULL) None) D84_NOT_SCRATCHED h in
     let second = refused-by full true None D85_INDEX_FULL first.1 in
     (refl, second.0)
 
-slot-by : (image old : List ℕ) (o : Option ℕ) → slot_found image old ≡ o → is_some (get (catalogue image) old) ≡ true → (k : ℕ) × (slot_found image old ≡ Some k)
+pub slot-by : (image old : List ℕ) (o : Option ℕ) → slot_found image old ≡ o → is_some (get (catalogue image) old) ≡ true → (k : ℕ) × (slot_found image old ≡ Some k)
 slot-by image old None is h = (let none : is_some (slot_found image old) ≡ true = sym (present image old) ∙ h in let bad : false ≡ true = sym (ap is_some is) ∙ none in cc)
 slot-by image old (Some k) is h = (k, is)
 
-goes-by : (same : Bool) (o p : Option ℕ) (k : ℕ) → o ≡ Some k → (not same && is_none p) ≡ false → (to : ℕ) × (cond same o p ≡ Some to)
+pub goes-by : (same : Bool) (o p : Option ℕ) (k : ℕ) → o ≡ Some k → (not same && is_none p) ≡ false → (to : ℕ) × (cond same o p ≡ Some to)
 goes-by true o p k is h = (k, is)
 goes-by false o p k is h = none-or p h
 

@@ -1,9 +1,9 @@
 // A file is made: a new one, or a scratched one that is taken again.
-ghost use Rattle.std.specs.Prelude.{◌≡◌, ◌≤◌, true, Some, None, IfOk, IfErr, OnOk};
+ghost use Rattle.std.specs.Prelude.{◌≡◌, ◌≤◌, true, Some, None, Ok, Err, IfOk, IfErr, OnOk};
 ghost use Rattle.std.specs.FinMap.{get, insert};
 ghost use Rattle.b2_platter.specs.Image.{index_of};
 ghost use Rattle.b2_catalog.specs.Catalogue.{catalogue};
-ghost use Rattle.b2_catalog.specs.Making.{KeepsOthers, MakesFile, files_without, make_refusal};
+ghost use Rattle.b2_catalog.specs.Making.{KeepsOthers, MakesFile, file_made, files_without, make_refusal};
 
 use crate::Entry;
 use crate::additions::enter;
@@ -24,6 +24,8 @@ pub fn make_file(
     requires { old ≡ None → 2 ≤ sectors }
     ensures err { IfErr result (λ code. (make_refusal p.old old name sectors ≡ Some code) × (p.new ≡ p.old)) }
     ensures ok { OnOk result (make_refusal p.old old name sectors ≡ None) }
+    ensures value { IfOk result (λ e. file_made p.old old name program sectors ≡ Ok (p.new, e)) }
+    ensures refused { IfErr result (λ code. file_made p.old old name program sectors ≡ Err code) }
     ensures made { IfOk result (MakesFile p.old old name program sectors p.new) }
     ensures file { IfOk result (λ e. get (catalogue p.new) e.name ≡ Some e) }
     ensures named { IfOk result (λ e. e.name ≡ name) }

@@ -3,3 +3,5 @@ pub mod Fronts
 pub mod Passing
 pub mod Saved
 pub mod Marked
+pub mod Functions
+pub mod Opened

@@ -1,12 +1,15 @@
 -- A data file: records one after the other, and an end mark.
-use Rattle.std.specs.Prelude.{◌≡◌, ℕ, ◌+◌, ◌-◌, ◌≤◌, ◌⊎◌, false, List, [], ◌∷◌, replicate, Option}
+use Rattle.std.specs.Prelude.{◌≡◌, ℕ, ◌+◌, ◌-◌, ◌≤◌, ◌⊎◌, Bool, false, ◌||◌, nat_le, List, [], ◌∷◌, replicate, Option, Result, Ok, Err}
+use Rattle.std.specs.Str.{bytes_eq}
 use Rattle.b2_dec.specs.declared.values.Value.{Value}
 use Rattle.b2_platter.specs.Image.{sector, sectors_at}
 use Rattle.b2_platter.specs.Edits.{put_sector}
+use Rattle.b2_base.specs.declared.files.Slot.{Slot}
 use Rattle.b2_catalog.specs.declared.entry.Entry.{Entry}
 use Rattle.b2_catalog.specs.Changes.{control_sector}
-use Rattle.b2_catalog.specs.Making.{MakesFile}
+use Rattle.b2_catalog.specs.Making.{MakesFile, file_made}
 use Rattle.b2_record.specs.Records.{Spells}
+use Rattle.b2_datafile.specs.Slots.{opened}
 use Rattle.b2_datafile.specs.declared.marks.TheConstants.{END_MARK}
 
 -- the sector that ends a file's records
@@ -31,6 +34,10 @@ pub record IsWhole (image : List ℕ) (e : Entry) (records : List (List Value)) 
 abbrev pub IsEndOfRecords : List ℕ → Entry → ℕ → Type 0
 IsEndOfRecords image e pos = (e.end ≤ pos) ⊎ (sector image pos ≡ end_mark)
 
+-- whether they do
+abbrev pub ends_records : List ℕ → Entry → ℕ → Bool
+ends_records image e pos = nat_le e.end pos || bytes_eq (sector image pos) end_mark
+
 -- the end mark at a place, and the control sector that says so
 abbrev pub with_end : List ℕ → Entry → ℕ → List ℕ
 with_end image e pos = put_sector (put_sector image pos end_mark) e.end (control_sector (pos - e.start + 1))
@@ -41,3 +48,12 @@ pub record MadeEmpty (image : List ℕ) (old : Option (List ℕ)) (name : List �
   pub between : List ℕ
   pub made : MakesFile image old name false sectors between e
   pub same : new ≡ with_end between e e.start
+
+-- a file that is made, with the end mark in its first sector, and its slot; or why none is made
+abbrev pub emptied_and_opened : List ℕ → Result (List ℕ × Entry) ℕ → Result (List ℕ × Slot) ℕ
+emptied_and_opened addr (Err code) = Err code
+emptied_and_opened addr (Ok made) = Ok (with_end made.0 made.1 made.1.start, opened addr made.1)
+
+-- THE IMAGE AND THE SLOT of a data file that is made and opened, or why none is
+unfoldable pub new_opened : List ℕ → List ℕ → Option (List ℕ) → ℕ → List ℕ → Result (List ℕ × Slot) ℕ
+new_opened image addr old sectors name = emptied_and_opened addr (file_made image old name false sectors)

@@ -1,5 +1,5 @@
-pub mod Files
 pub mod Slots
+pub mod Files
 pub mod Loading
 pub mod Moving
 pub mod Laws

@@ -1,5 +1,5 @@
 -- How a place in a file is moved over records, and when it can't be.
-use Rattle.std.specs.Prelude.{◌≡◌, ℕ, zero, suc, ◌+◌, ◌-◌, ◌<◌, ◌≤◌, ◌⊎◌, List, Some, None, min}
+use Rattle.std.specs.Prelude.{◌≡◌, ℕ, zero, suc, ◌+◌, ◌-◌, ◌<◌, ◌≤◌, ◌⊎◌, ◌&&◌, ◌==◌, nat_le, List, slice_index, Option, Some, None, min, Result, Ok, Err, if◌then◌else◌}
 use Rattle.b2_base.specs.declared.codes.Fault.{Fault}
 use Rattle.b2_base.specs.declared.codes.Fault.TheVariants as fault
 use Rattle.b2_base.specs.declared.codes.TheConstants.{D80_NOT_OPEN, D88_FORMAT}
@@ -8,9 +8,10 @@ use Rattle.b2_base.specs.declared.files.By.{By}
 use Rattle.b2_base.specs.declared.files.By.TheVariants as by
 use Rattle.b2_catalog.specs.declared.entry.Entry.{Entry}
 use Rattle.b2_dec.specs.declared.values.Value.{Value}
-use Rattle.b2_platter.specs.Image.{sectors_at}
+use Rattle.b2_platter.specs.Image.{sector, sectors_at}
 use Rattle.b2_record.specs.Records.{Spells, IsNoRecord}
-use Rattle.b2_datafile.specs.Files.{IsEndOfRecords}
+use Rattle.b2_record.specs.Reading.{record_at}
+use Rattle.b2_datafile.specs.Files.{IsEndOfRecords, ends_records}
 use Rattle.b2_datafile.specs.Loading.{IsRecordAt}
 use Rattle.b2_datafile.specs.Slots.{file_of}
 
@@ -76,3 +77,44 @@ SkipFails image slot way (fault.Code code) =
     ((code ≡ D80_NOT_OPEN) × (file_of image slot ≡ None))
     ⊎ ((e : Entry) × (file_of image slot ≡ Some e) × (code ≡ D88_FORMAT) × NoMove image e slot.pos way)
 SkipFails image slot way fault.NoMemory = Unit {0}
+
+-- on over the sectors of a record that was read, where one was
+abbrev pub over : Option (List Value × ℕ) → (ℕ → Result ℕ ℕ) → Result ℕ ℕ
+over None on = Err D88_FORMAT
+over (Some found) on = on found.1
+
+-- the place after a number of records, or where they end
+abbrev pub place_ahead : List ℕ → Entry → ℕ → ℕ → Result ℕ ℕ
+place_ahead image e zero pos = Ok pos
+place_ahead image e (suc count) pos =
+    if ends_records image e pos then Ok pos else over (record_at image pos (e.end - 1)) (λ n. place_ahead image e count (pos + n))
+
+-- a record that was read, where it has so many sectors
+abbrev pub of_length : ℕ → Option (List Value × ℕ) → Option (List Value × ℕ)
+of_length n None = None
+of_length n (Some found) = if found.1 == n then Some found else None
+
+-- the record of so many sectors that ends directly before a place of a file
+abbrev pub ending_before : List ℕ → Entry → ℕ → ℕ → Option (List Value × ℕ)
+ending_before image e pos n = if nat_le 1 n && nat_le (e.start + n) pos then of_length n (record_at image (pos - n) (pos - 1)) else None
+
+-- the record that ends directly before a place: the number in its last sector says how many it has
+abbrev pub record_before : List ℕ → Entry → ℕ → Option (List Value × ℕ)
+record_before image e pos = ending_before image e pos (slice_index (sector image (pos - 1)) 1)
+
+-- the place a number of records before, or the file's first
+abbrev pub place_behind : List ℕ → Entry → ℕ → ℕ → Result ℕ ℕ
+place_behind image e zero pos = Ok pos
+place_behind image e (suc count) pos =
+    if nat_le pos e.start then Ok pos else over (record_before image e pos) (λ n. place_behind image e count (pos - n))
+
+abbrev pub moved_in : List ℕ → ℕ → By → Option Entry → Result ℕ ℕ
+moved_in image pos way None = Err D80_NOT_OPEN
+moved_in image pos (by.Forward count) (Some e) = place_ahead image e count (min pos e.end)
+moved_in image pos (by.Back count) (Some e) = place_behind image e count (min pos e.end)
+moved_in image pos by.Begin (Some e) = Ok e.start
+moved_in image pos by.End (Some e) = Ok (e.start + e.used - 1)
+
+-- WHERE A SLOT'S PLACE GOES, or why it doesn't
+unfoldable pub place_moved : List ℕ → Slot → By → Result ℕ ℕ
+place_moved image slot way = moved_in image slot.pos way (file_of image slot)

@@ -1,9 +1,10 @@
 // Records are read.
-ghost use Rattle.std.specs.Prelude.{◌≡◌, ◌↔◌, ◌<◌, ◌≤◌, IsTrue, IfOk, IfErr};
+ghost use Rattle.std.specs.Prelude.{◌≡◌, ◌↔◌, ◌<◌, ◌≤◌, IsTrue, IfOk, IfErr, Ok};
 ghost use Rattle.b2_platter.specs.declared.layout.Layout.TheVariants.{Narrow};
 ghost use Rattle.b2_platter.specs.Image.{total_of};
 ghost use Rattle.b2_datafile.specs.Files.{IsEndOfRecords};
-ghost use Rattle.b2_datafile.specs.Loading.{Loads, LoadFails, agree, is_of};
+ghost use Rattle.b2_catalog.specs.Results.{FailsBy};
+ghost use Rattle.b2_datafile.specs.Loading.{Loads, LoadFails, agree, as_values, is_of, values_loaded};
 
 use crate::marks;
 use crate::opening::file_of;
@@ -50,10 +51,8 @@ fn agree(kinds: &[Kind], values: &[Value]) -> bool
     true
 }
 
-/// Loads the record at a slot's place: its first values, as many as there are kinds, and the place after it; None where
-/// the records end there. D80 where the slot's file isn't there, else D88 where no record is spelled at the place, else
-/// X74 where a value is of another kind than asked, else X70 where more values are asked than there are.
-pub fn load(
+/// Loads the record at a slot's place, as `load` does.
+fn load_record(
     alloc: Global,
     p: &Platter,
     s: &Slot,
@@ -84,4 +83,22 @@ pub fn load(
     let mut asked = values;
     asked.truncate(kinds.len());
     Ok(Some((asked, pos + count)))
+}
+
+/// Loads the record at a slot's place: its first values, as many as there are kinds, and the place after it; None where
+/// the records end there. D80 where the slot's file isn't there, else D88 where no record is spelled at the place, else
+/// X74 where a value is of another kind than asked, else X70 where more values are asked than there are.
+pub fn load(
+    alloc: Global,
+    p: &Platter,
+    s: &Slot,
+    kinds: &[Kind],
+) -> Result<Option<(Vec<Value>, u32)>, Fault>
+    requires { s.now.start ≤ s.now.pos }
+    ensures value { IfOk result (λ given. values_loaded p.now s.now kinds.now ≡ Ok (as_values given)) }
+    ensures fails { IfErr result (FailsBy (values_loaded p.now s.now kinds.now)) }
+    ensures ok { IfOk result (Loads p.now s.now kinds.now) }
+    ensures err { IfErr result (LoadFails p.now s.now kinds.now) }
+{
+    load_record(alloc, p, s, kinds)
 }

@@ -1,11 +1,12 @@
 // A place in a file is moved over records.
-ghost use Rattle.std.specs.Prelude.{◌≡◌, ◌+◌, ◌-◌, ◌<◌, ◌≤◌, Some, IfOk, IfErr};
+ghost use Rattle.std.specs.Prelude.{◌≡◌, ◌+◌, ◌-◌, ◌<◌, ◌≤◌, Some, Ok, IfOk, IfErr};
 ghost use Rattle.b2_platter.specs.declared.layout.Layout.TheVariants.{Narrow};
 ghost use Rattle.b2_platter.specs.Image.{total_of};
 ghost use Rattle.b2_platter.specs.Reading.{Unspelled};
 ghost use Rattle.b2_catalog.specs.declared.entry.Entry.{Entry as File};
 ghost use Rattle.b2_datafile.specs.Slots.{file_of};
-ghost use Rattle.b2_datafile.specs.Moving.{Ahead, NoneAhead, Behind, NoneBehind, IsNoRecordBefore, IsRecordFrom, Moves, SkipFails};
+ghost use Rattle.b2_datafile.specs.Moving.{Ahead, NoneAhead, Behind, NoneBehind, IsNoRecordBefore, IsRecordFrom, Moves, SkipFails, place_moved};
+ghost use Rattle.b2_catalog.specs.Results.{FailsBy};
 
 use crate::loading::is_end_of_records;
 use crate::opening::file_of;
@@ -20,6 +21,17 @@ use std::alloc::Global;
 /// first; to the beginning; or to the end mark. D80 where the slot's file isn't there, else D88 where a record is to be
 /// passed and none is spelled there.
 pub fn skip(alloc: Global, p: &Platter, s: &Slot, by: By) -> Result<u32, Fault>
+    requires { s.now.start ≤ s.now.pos }
+    ensures value { IfOk result (λ pos. place_moved p.now s.now by ≡ Ok pos) }
+    ensures fails { IfErr result (FailsBy (place_moved p.now s.now by)) }
+    ensures ok { IfOk result (λ pos. (e : File) × (file_of p.now s.now ≡ Some e) × Moves p.now e s.now.pos by pos) }
+    ensures err { IfErr result (SkipFails p.now s.now by) }
+{
+    moved(alloc, p, s, by)
+}
+
+/// Moves a slot's place, as `skip` does.
+fn moved(alloc: Global, p: &Platter, s: &Slot, by: By) -> Result<u32, Fault>
     requires { s.now.start ≤ s.now.pos }
     ensures ok { IfOk result (λ pos. (e : File) × (file_of p.now s.now ≡ Some e) × Moves p.now e s.now.pos by pos) }
     ensures err { IfErr result (SkipFails p.now s.now by) }

@@ -1,5 +1,5 @@
 // A file is opened, and found again by its slot.
-ghost use Rattle.std.specs.Prelude.{◌≡◌, ◌-◌, ◌<◌, ◌≤◌, [], true, false, Some, None, is_some, IfSome, IfOk, IfErr, OnOk};
+ghost use Rattle.std.specs.Prelude.{◌≡◌, ◌-◌, ◌<◌, ◌≤◌, [], true, false, Some, None, Ok, Err, is_some, IfSome, IfOk, IfErr, OnOk};
 ghost use Rattle.std.specs.FinMap.{get, insert};
 ghost use Rattle.b2_platter.specs.declared.layout.Layout.TheVariants.{Narrow};
 ghost use Rattle.b2_platter.specs.Image.{total_of};
@@ -7,7 +7,7 @@ ghost use Rattle.b2_platter.specs.Checks.{Good};
 ghost use Rattle.b2_catalog.specs.Catalogue.{catalogue};
 ghost use Rattle.b2_catalog.specs.Making.{KeepsOthers, files_without, make_refusal};
 ghost use Rattle.b2_datafile.specs.Slots.{open_refusal, opened, file_of};
-ghost use Rattle.b2_datafile.specs.Files.{IsWhole, MadeEmpty};
+ghost use Rattle.b2_datafile.specs.Files.{IsWhole, MadeEmpty, new_opened};
 
 use crate::saving::put_end;
 use b2_base::codes::{D82_NO_FILE, D89_OTHER_KIND};
@@ -79,6 +79,8 @@ pub fn open_new(
     requires { old ≡ None → 2 ≤ sectors }
     ensures err { IfErr result (λ code. (make_refusal p.old old name sectors ≡ Some code) × (p.new ≡ p.old)) }
     ensures ok { OnOk result (make_refusal p.old old name sectors ≡ None) }
+    ensures value { IfOk result (λ slot. new_opened p.old addr old sectors name ≡ Ok (p.new, slot)) }
+    ensures refused { IfErr result (λ code. new_opened p.old addr old sectors name ≡ Err code) }
     ensures image { OnOk result (MadeEmpty p.old old name sectors p.new) }
     ensures there { OnOk result (is_some (get (catalogue p.new) name) ≡ true) }
     ensures file { IfOk result (λ slot. IfSome (get (catalogue p.new) name) (λ e. slot ≡ opened addr e)) }

@@ -11,3 +11,6 @@ pub mod Starts
 pub mod Refilling
 pub mod Told
 pub mod MovedFiles
+pub mod ReadBack
+pub mod Functions
+pub mod LiveFiles

@@ -1,4 +1,5 @@
 pub mod Programs
+pub mod Reading
 pub mod Saving
 pub mod Moving
 pub mod MovingAll

@@ -1,5 +1,5 @@
 -- What is loaded, and why nothing is.
-use Rattle.std.specs.Prelude.{◌≡◌, ℕ, ◌<◌, ◌≤◌, ◌⊎◌, ◌++◌, Bool, true, not, List, [], ◌∷◌, replicate, Option, Some, None, if◌then◌else◌}
+use Rattle.std.specs.Prelude.{◌≡◌, ℕ, ◌<◌, ◌≤◌, ◌⊎◌, ◌++◌, Bool, true, not, nat_le, List, [], ◌∷◌, replicate, Option, Some, None, Result, Ok, Err, if◌then◌else◌}
 use Rattle.std.specs.FinMap.{get}
 use Rattle.b2_base.specs.declared.codes.Fault.{Fault}
 use Rattle.b2_base.specs.declared.codes.Fault.TheVariants as fault
@@ -7,10 +7,12 @@ use Rattle.b2_base.specs.declared.codes.TheConstants.{A01_TEXT_AREA, D82_NO_FILE
 use Rattle.b2_atom.specs.Lines.{is_line}
 use Rattle.b2_catalog.specs.declared.entry.Entry.{Entry}
 use Rattle.b2_catalog.specs.Catalogue.{catalogue}
+use Rattle.b2_catalog.specs.Results.{unless_refused}
 use Rattle.b2_text.specs.Program.{Lines, TextState, size_of, with_line}
 use Rattle.b2_progfile.specs.declared.spelling.TheConstants.{PROGRAM_END}
 use Rattle.b2_platter.specs.Image.{sectors_at}
 use Rattle.b2_progfile.specs.Programs.{SpellsProgram, line_bytes}
+use Rattle.b2_progfile.specs.Reading.{program_in}
 
 -- why the file of a name isn't loaded: it isn't there or isn't live, or it is data
 abbrev pub load_refusal : Option Entry → Option ℕ
@@ -52,6 +54,24 @@ LoadFails image name replace text (fault.Code code) =
     (load_refusal (get (catalogue image) name) ≡ Some code)
     ⊎ ((e : Entry) × (get (catalogue image) name ≡ Some e) × (load_refusal (Some e) ≡ None) × FileFails image e replace text code)
 LoadFails image name replace text fault.NoMemory = Unit {0}
+
+-- a text with these lines, where its area holds them
+abbrev pub text_of : TextState → Lines → Result TextState ℕ
+text_of text lines = if nat_le (size_of lines) text.area then Ok (record text { lines = lines }) else Err A01_TEXT_AREA
+
+-- a text after a load of a program that was read
+abbrev pub program_put : Bool → TextState → Option Lines → Result TextState ℕ
+program_put replace text None = Err D88_FORMAT
+program_put replace text (Some lines) = text_of text (loaded replace lines text.lines)
+
+abbrev pub loaded_from : List ℕ → Bool → TextState → Option Entry → Result TextState ℕ
+loaded_from image replace text None = Err D82_NO_FILE
+loaded_from image replace text (Some e) =
+    unless_refused (load_refusal (Some e)) (program_put replace text (program_in (sectors_at image e.start e.used)))
+
+-- THE TEXT after a load of the program file of a name, or why nothing is loaded
+unfoldable pub text_loaded : List ℕ → List ℕ → Bool → TextState → Result TextState ℕ
+text_loaded image name replace text = loaded_from image replace text (get (catalogue image) name)
 
 -- a number of a line and its atoms, at the front of some bytes
 pub record IsLineAt (least : ℕ) (line : ℕ × List ℕ) (bytes after : List ℕ) : Type 0 where

@@ -1,5 +1,5 @@
 -- Which lines are saved, the sectors that are written, why a program isn't saved, and the image that saving leaves.
-use Rattle.std.specs.Prelude.{◌≡◌, ℕ, ◌+◌, ◌-◌, ◌*◌, ◌/◌, true, min, nat_lt, List, ◌∷◌, ◌++◌, length, take, drop, filter, map, replicate, Option, Some, None, if◌then◌else◌}
+use Rattle.std.specs.Prelude.{◌≡◌, ℕ, ◌+◌, ◌-◌, ◌*◌, ◌/◌, true, min, nat_lt, List, ◌∷◌, ◌++◌, length, take, drop, filter, map, replicate, Option, Some, None, Result, Ok, Err, if◌then◌else◌}
 use Rattle.std.specs.List.{range_with_len}
 use Rattle.std.specs.FinMap.{get}
 use Rattle.b2_base.specs.declared.codes.Fault.{Fault}
@@ -10,7 +10,8 @@ use Rattle.b2_catalog.specs.declared.entry.Entry.{Entry}
 use Rattle.b2_catalog.specs.Catalogue.{catalogue}
 use Rattle.b2_catalog.specs.Changes.{control_sector}
 use Rattle.b2_catalog.specs.Calls.{enter_refusal, reuse_refusal}
-use Rattle.b2_catalog.specs.Making.{MakesFile}
+use Rattle.b2_catalog.specs.Making.{MakesFile, file_made}
+use Rattle.b2_catalog.specs.Results.{unless_refused}
 use Rattle.b2_text.specs.Program.{Lines, is_within}
 use Rattle.b2_progfile.specs.declared.spelling.TheConstants.{PIECE, PIECE_BYTES}
 use Rattle.b2_progfile.specs.Programs.{program_bytes}
@@ -76,3 +77,16 @@ pub record Saved (image : List ℕ) (old : Option (List ℕ)) (name : List ℕ) 
 abbrev pub SaveFails : List ℕ → Option (List ℕ) → List ℕ → Lines → Fault → Type 0
 SaveFails image old name lines (fault.Code code) = save_refusal image old name (length (program_sectors lines)) ≡ Some code
 SaveFails image old name lines fault.NoMemory = Unit {0}
+
+-- the image of a file that is made, filled with these sectors
+abbrev pub filled_with : List (List ℕ) → Result (List ℕ × Entry) ℕ → Result (List ℕ) ℕ
+filled_with sectors (Err code) = Err code
+filled_with sectors (Ok made) = Ok (file_filled made.0 made.1.start made.1.end sectors)
+
+abbrev pub sectors_saved : List ℕ → Option (List ℕ) → List ℕ → List (List ℕ) → Result (List ℕ) ℕ
+sectors_saved image old name sectors =
+    unless_refused (save_refusal image old name (length sectors)) (filled_with sectors (file_made image old name true (length sectors + 1)))
+
+-- THE IMAGE that saving a program leaves, or why it isn't saved
+unfoldable pub program_saved : List ℕ → Option (List ℕ) → List ℕ → Lines → Result (List ℕ) ℕ
+program_saved image old name lines = sectors_saved image old name (program_sectors lines)

@@ -1,9 +1,10 @@
 // A program is loaded.
-ghost use Rattle.std.specs.Prelude.{◌≡◌, ◌<◌, ◌≤◌, [], Some, None, OnOk, OnErr, IfOk, IfErr, if◌then◌else◌};
+ghost use Rattle.std.specs.Prelude.{◌≡◌, ◌<◌, ◌≤◌, [], Some, None, Ok, OnOk, OnErr, IfOk, IfErr, if◌then◌else◌};
 ghost use Rattle.std.specs.FinMap.{get};
 ghost use Rattle.b2_catalog.specs.Catalogue.{catalogue};
 ghost use Rattle.b2_text.specs.Program.{size_of};
-ghost use Rattle.b2_progfile.specs.Loading.{LoadFails, Loads, TooLarge, load_refusal, loaded, merged};
+ghost use Rattle.b2_progfile.specs.Loading.{LoadFails, Loads, TooLarge, load_refusal, loaded, merged, text_loaded};
+ghost use Rattle.b2_catalog.specs.Results.{FailsBy};
 
 use crate::reading::{WIDE_AREA, put_wide, read_program};
 use crate::spelling::MOST_NUMBER;
@@ -97,10 +98,8 @@ fn put_program(alloc: Global, t: &mut Text, program: &Text, replace: bool) -> Re
     }
 }
 
-/// Loads the live program file of a name: its lines replace those of the text, or are put to them. D82 where there is no
-/// live file of the name, else D89 where it is data, else D88 where its sectors spell no program, else A01 where the lines
-/// would pass the area of the text. After a fault the text is as before.
-pub fn load(
+/// Loads the live program file of a name, as `load` does.
+fn load_program(
     alloc: Global,
     p: &Platter,
     name: Name8,
@@ -121,4 +120,23 @@ pub fn load(
         Err(fault) => return Err(fault),
     };
     put_program(alloc, t, &program, replace)
+}
+
+/// Loads the live program file of a name: its lines replace those of the text, or are put to them. D82 where there is no
+/// live file of the name, else D89 where it is data, else D88 where its sectors spell no program, else A01 where the lines
+/// would pass the area of the text. After a fault the text is as before.
+pub fn load(
+    alloc: Global,
+    p: &Platter,
+    name: Name8,
+    t: &mut Text,
+    replace: bool,
+) -> Result<(), Fault>
+    ensures value { OnOk result (text_loaded p.now name replace t.old ≡ Ok t.new) }
+    ensures fails { IfErr result (FailsBy (text_loaded p.now name replace t.old)) }
+    ensures ok { OnOk result (Loads p.now name replace t.old t.new) }
+    ensures err { IfErr result (LoadFails p.now name replace t.old) }
+    ensures kept { OnErr result (t.new ≡ t.old) }
+{
+    load_program(alloc, p, name, t, replace)
 }

@@ -1,5 +1,5 @@
 // A program is saved.
-ghost use Rattle.std.specs.Prelude.{◌≡◌, ◌+◌, ◌-◌, ◌*◌, ◌^◌, ◌<◌, ◌≤◌, ℕ, not, true, Some, None, is_some, IfSome, IfOk, IfErr, OnOk, OnErr, length};
+ghost use Rattle.std.specs.Prelude.{◌≡◌, ◌+◌, ◌-◌, ◌*◌, ◌^◌, ◌<◌, ◌≤◌, ℕ, not, true, Some, None, Ok, is_some, IfSome, IfOk, IfErr, OnOk, OnErr, length};
 ghost use Rattle.std.specs.Str.{bytes_eq};
 ghost use Rattle.std.specs.FinMap.{get, insert};
 ghost use Rattle.b2_base.specs.declared.codes.TheConstants.{D86_NO_ROOM};
@@ -12,7 +12,8 @@ ghost use Rattle.b2_catalog.specs.Calls.{reuse_refusal};
 ghost use Rattle.b2_catalog.specs.Ways.{place};
 ghost use Rattle.b2_progfile.specs.Programs.{IsProgramFile};
 ghost use Rattle.b2_catalog.specs.Making.{KeepsOthers, MakesFile, files_without};
-ghost use Rattle.b2_progfile.specs.Saving.{SaveFails, Saved, file_filled, lines_within, or_then, pieces_count, text_sectors, program_sectors, save_refusal, size_refusal};
+ghost use Rattle.b2_progfile.specs.Saving.{SaveFails, Saved, file_filled, lines_within, or_then, pieces_count, text_sectors, program_saved, program_sectors, save_refusal, size_refusal};
+ghost use Rattle.b2_catalog.specs.Results.{FailsBy};
 
 use crate::spelling::{piece_at, pieces_count, program_of};
 use b2_base::codes::{
@@ -152,10 +153,8 @@ fn fill_program_file(p: &mut Platter, e: Entry, bytes: &[u8], count: u32)
     set_used(p, e, count);
 }
 
-/// Saves the lines of a text from a number to another as a program file: a new one, or the sectors of a scratched one where
-/// an old name is given. The codes are those of `enter` and of `reuse`, and after those of `reuse` D86 where the old file
-/// is too small. A fault leaves the platter as it was.
-pub fn save(
+/// Saves the lines of a text from a number to another as a program file, as `save` does.
+fn save_program(
     alloc: Global,
     p: &mut Platter,
     t: &Text,
@@ -185,4 +184,30 @@ pub fn save(
         }
         Err(code) => Err(Fault::Code(code)),
     }
+}
+
+/// Saves the lines of a text from a number to another as a program file: a new one, or the sectors of a scratched one where
+/// an old name is given. The codes are those of `enter` and of `reuse`, and after those of `reuse` D86 where the old file
+/// is too small. A fault leaves the platter as it was.
+pub fn save(
+    alloc: Global,
+    p: &mut Platter,
+    t: &Text,
+    from: u16,
+    to: u16,
+    old: Option<Name8>,
+    name: Name8,
+) -> Result<(), Fault>
+    ensures value { OnOk result (program_saved p.old old name (lines_within from to t.now.lines) ≡ Ok p.new) }
+    ensures fails { IfErr result (FailsBy (program_saved p.old old name (lines_within from to t.now.lines))) }
+    ensures ok { OnOk result (save_refusal p.old old name (length (program_sectors (lines_within from to t.now.lines))) ≡ None) }
+    ensures image { OnOk result (Saved p.old old name (lines_within from to t.now.lines) p.new) }
+    ensures file { OnOk result (IfSome (get (catalogue p.new) name) (λ e. IsProgramFile p.new e (lines_within from to t.now.lines))) }
+    ensures there { OnOk result (is_some (get (catalogue p.new) name) ≡ true) }
+    ensures files { OnOk result (IfSome (get (catalogue p.new) name) (λ e. catalogue p.new ≡ insert (files_without p.old old) name e)) }
+    ensures others { OnOk result (IfSome (get (catalogue p.new) name) (λ e. KeepsOthers p.old p.new e)) }
+    ensures err { IfErr result (SaveFails p.old old name (lines_within from to t.now.lines)) }
+    ensures kept { OnErr result (p.new ≡ p.old) }
+{
+    save_program(alloc, p, t, from, to, old, name)
 }

@@ -3,3 +3,4 @@ pub mod Groups
 pub mod Parsing
 pub mod Reading
 pub mod Unique
+pub mod ReadBack

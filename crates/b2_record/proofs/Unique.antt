@@ -34,7 +34,7 @@ groups-unique k (x ∷ z ∷ g) (y ∷ w ∷ h) s t a b some others e =
     let same = sector-unique k (k == 1) false false x y (storable-left x (all_values (z ∷ g)) a) (storable-left y (all_values (w ∷ h)) b) here in
     ap₂ (λ u us. u ∷ us) same.1 (groups-unique (k + 1) (z ∷ g) (w ∷ h) s t (storable-right x (all_values (z ∷ g)) a) (storable-right y (all_values (w ∷ h)) b) refl refl rest)
 
-some-record : (g : List (List Value)) → is_record g ≡ true → is_none g ≡ false
+pub some-record : (g : List (List Value)) → is_record g ≡ true → is_none g ≡ false
 some-record [] h = cc
 some-record (x ∷ g) h = refl
 
@@ -60,7 +60,7 @@ more-sectors f at (suc m) k =
     let here : at + 1 + m ≡ at + suc m = omega arith in
     ap (λ n. map f (range_with_len at n)) less ∙ ap (λ u. f at ∷ u) (more-sectors f (at + 1) m k ∙ ap (λ p. map f (range_with_len (at + 1) m) ++ map f (range_with_len p k)) here)
 
-length-at : (f : ℕ → List ℕ) (at n : ℕ) → length (map f (range_with_len at n)) ≡ n
+pub length-at : (f : ℕ → List ℕ) (at n : ℕ) → length (map f (range_with_len at n)) ≡ n
 length-at f at zero = refl
 length-at f at (suc n) = ap suc (length-at f (at + 1) n)
 

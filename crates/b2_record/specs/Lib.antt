@@ -1,3 +1,4 @@
 pub mod Items
 pub mod Records
 pub mod Writing
+pub mod Reading

@@ -6,6 +6,7 @@ ghost use Rattle.b2_platter.specs.Image.{total_of, sectors_at};
 ghost use Rattle.b2_record.specs.Items.{is_short, AllStorable};
 ghost use Rattle.b2_platter.specs.Reading.{Unspelled};
 ghost use Rattle.b2_record.specs.Records.{goes_over, sectors_from, Spells, IsNoRecord};
+ghost use Rattle.b2_record.specs.Reading.{record_at};
 ghost use Rattle.b2_record.specs.Writing.{groups_of, record_of, first_count, sectors_left};
 
 use crate::items::{bytes_len, value_width};
@@ -153,6 +154,8 @@ pub fn take(alloc: Global, p: &Platter, at: u32, last: u32) -> Result<(Vec<Value
     requires { last < total_of Narrow p.now }
     ensures ok { IfOk result (λ found. Spells found.0.items (sectors_at p.now at found.1)) }
     ensures within { IfOk result (λ found. at + found.1 ≤ last + 1) }
+    ensures value { IfOk result (λ found. record_at p.now at last ≡ Some (found.0.items, found.1)) }
+    ensures none { IfErr result (Unspelled (record_at p.now at last ≡ None)) }
     ensures err { IfErr result (Unspelled (IsNoRecord p.now at last)) }
 {
     let mut values = Vec::new(alloc);

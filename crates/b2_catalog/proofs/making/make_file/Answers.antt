@@ -1,9 +1,10 @@
-use Rattle.std.proofs.Common.{rules, ◌≡◌, ℕ, List, length, Result, Ok, Err, IfOk, Some, sym, ap, ◌∙◌}
+use Rattle.std.proofs.Common.{rules, None, ◌≡◌, ℕ, List, length, Result, Ok, Err, IfOk, Some, sym, ap, ◌∙◌}
 use Rattle.std.specs.FinMap.{get, remove}
 use Rattle.b2_base.specs.Names.{is_name8}
 use Rattle.b2_catalog.specs.declared.entry.Entry.{Entry}
 use Rattle.b2_catalog.specs.Catalogue.{Catalogue, catalogue}
 use Rattle.b2_catalog.proofs.MadeFiles.{file-there, entered-stays, reused-stays, index-stays, others-stay}
+use Rattle.b2_catalog.proofs.FileMade.{new-value, again-value, refused-value}
 use Rattle.b2_catalog.proofs.making.make_file.Goals as goal
 
 -- it is there under its own name
@@ -44,3 +45,15 @@ returns-in-Some-clause-others c =
     let long : length c.bytes-name.result ≡ 8 = search rules in
     others-stay c.args.p.now c.reuse.new.p c.reuse.result
     (reused-stays c.args.p.now c.image-image.ensures.good c.in-Some.old c.args.name (ap is_name8 (sym c.bytes-name.ensures.value) ∙ c.bytes-name.ensures.legal) (ap length (sym c.bytes-name.ensures.value) ∙ long) c.args.program c.reuse.new.p c.reuse.result _ c.reuse.ensures.ok c.reuse.ensures.image)
+
+pub returns-in-None-clause-value : goal.returns-in-None-clause-value
+returns-in-None-clause-value c = rw c.in-None.is (new-value c.args.p.now c.args.name c.args.program c.args.sectors c.enter.new.p c.enter.result c.enter.ensures.ok c.enter.ensures.image)
+
+pub returns-in-None-clause-refused : goal.returns-in-None-clause-refused
+returns-in-None-clause-refused c = rw c.in-None.is (refused-value c.args.p.now None c.args.name c.args.program c.args.sectors c.enter.new.p c.enter.result c.enter.ensures.err)
+
+pub returns-in-Some-clause-value : goal.returns-in-Some-clause-value
+returns-in-Some-clause-value c = rw c.in-Some.is (again-value c.args.p.now c.in-Some.old c.args.name c.args.program c.args.sectors c.reuse.new.p c.reuse.result c.reuse.ensures.ok c.reuse.ensures.image)
+
+pub returns-in-Some-clause-refused : goal.returns-in-Some-clause-refused
+returns-in-Some-clause-refused c = rw c.in-Some.is (refused-value c.args.p.now (Some c.in-Some.old) c.args.name c.args.program c.args.sectors c.reuse.new.p c.reuse.result c.reuse.ensures.err)

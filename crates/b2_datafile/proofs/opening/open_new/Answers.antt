@@ -7,6 +7,7 @@ use Rattle.b2_catalog.specs.Making.{files_without}
 use Rattle.b2_catalog.proofs.DataSectors.{in-image}
 use Rattle.b2_catalog.proofs.MadeFiles.{put-twice}
 use Rattle.b2_datafile.proofs.Saved.{new-whole, new-files, new-there, new-others}
+use Rattle.b2_datafile.proofs.Opened.{opened-value, opened-refused}
 use Rattle.b2_datafile.proofs.opening.open_new.Goals as goal
 
 pub put_end-requires-clause-high : goal.put_end-requires-clause-high
@@ -43,3 +44,10 @@ pub returns-clause-others : goal.returns-clause-others
 returns-clause-others c =
     let there = new-there c.make_file.new.p c.args.name c.in-Ok.e c.image-image.ensures.good c.in-Ok.ensures.file c.in-Ok.ensures.named in
     rw (c.put_end.ensures.image, there) (λ n low out. new-others c.make_file.new.p c.in-Ok.e c.image-image.ensures.good c.in-Ok.ensures.file n out ∙ c.in-Ok.ensures.others n low out)
+
+pub returns-clause-value : goal.returns-clause-value
+returns-clause-value c =
+    opened-value c.args.p.now c.args.addr c.args.old c.args.sectors c.args.name c.make_file.new.p c.in-Ok.e c.put_end.new.p c.slot_of-slot.result c.in-Ok.ensures.value c.put_end.ensures.image c.slot_of-slot.ensures
+
+pub returns-in-Err-clause-refused : goal.returns-in-Err-clause-refused
+returns-in-Err-clause-refused c = opened-refused c.args.p.now c.args.addr c.args.old c.args.sectors c.args.name c.in-Err.code c.in-Err.ensures.refused

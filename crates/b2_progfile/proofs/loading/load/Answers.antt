@@ -1,8 +1,8 @@
-use Rattle.std.proofs.Common.{arith}
-use Rattle.b2_catalog.proofs.DataSectors.{in-image}
+use Rattle.b2_progfile.proofs.Functions.{err-as, load-fails, loads-value, on-as}
 use Rattle.b2_progfile.proofs.loading.load.Goals as goal
 
-pub read_program-requires : goal.read_program-requires
-read_program-requires c =
-    let inside = in-image c.args.p.now c.args.name c.in-Ok.e c.image-image.ensures.good c.in-Ok.ensures.file in
-    omega (arith, inside.order, inside.within, inside.few)
+pub returns-clause-value : goal.returns-clause-value
+returns-clause-value c = on-as c.load_program.result _ _ (loads-value c.args.p.now c.args.name c.args.replace c.args.t.now c.load_program.new.t) c.load_program.ensures.ok
+
+pub returns-clause-fails : goal.returns-clause-fails
+returns-clause-fails c = err-as c.load_program.result _ _ (load-fails c.args.p.now c.args.name c.args.replace c.args.t.now) c.load_program.ensures.err

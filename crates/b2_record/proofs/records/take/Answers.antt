@@ -4,6 +4,7 @@ use Rattle.b2_record.specs.Items.{group_bytes}
 use Rattle.b2_record.specs.Records.{goes_over, sector_of, sector_kind}
 use Rattle.b2_platter.proofs.Reading.{unspelled-more}
 use Rattle.b2_record.proofs.Reading.{reading-none, reading-more, reading-end, stops-unspelled, stops-short, stops-most, follows-from, short-from}
+use Rattle.b2_record.proofs.ReadBack.{none-read, read-at}
 use Rattle.b2_record.proofs.records.take.Goals as goal
 
 pub loop-count-init : goal.loop-count-init
@@ -52,3 +53,18 @@ loop-count-preserved c =
 pub returns-clause-err : goal.returns-clause-err
 returns-clause-err c =
     (c.known-2.ensures, stops-most c.args.p.now c.args.at c.loop-count.used c.loop-count.count c.args.last c.loop-count.values.items c.loop-count.invariant.reading (omega (arith, c.loop-count-test.false, c.sectors_left-most.ensures)))
+
+-- the same, as the function says it
+
+pub returns-in-Err-clause-none : goal.returns-in-Err-clause-none
+returns-in-Err-clause-none c = unspelled-more c.in-Err.fault (none-read c.args.p.now c.args.at c.args.last) (returns-in-Err-clause-err c)
+
+pub returns-then-not-follows-clause-none : goal.returns-then-not-follows-clause-none
+returns-then-not-follows-clause-none c = (c.known.ensures, none-read c.args.p.now c.args.at c.args.last (returns-then-not-follows-clause-err c).1)
+
+pub returns-then-group-clause-value : goal.returns-then-group-clause-value
+returns-then-group-clause-value c =
+    read-at c.args.p.now c.args.at c.args.last _ _ (omega (arith, c.loop-count-test.true, c.sectors_left-most.ensures)) (returns-then-group-clause-ok c)
+
+pub returns-clause-none : goal.returns-clause-none
+returns-clause-none c = (c.known-2.ensures, none-read c.args.p.now c.args.at c.args.last (returns-clause-err c).1)
