@@ -1,5 +1,5 @@
 -- What a step begins with, by who executes the statement at a place, where one is there.
-use Rattle.std.proofs.Common.{◌≡◌, true≢false, Option, Some, None, option_map, unwrap_or, refl, subst, sym, ap, ◌∙◌}
+use Rattle.std.proofs.Common.{◌≡◌, true≢false, Option, Some, None, option_map, unwrap_or, refl, subst, ap, ◌∙◌}
 use Rattle.std.specs.Prelude.{IsNone}
 use Rattle.b2_text.specs.Program.{TextState}
 use Rattle.b2_vars.specs.Tables.{VarsState}
@@ -11,7 +11,7 @@ use Rattle.b2_access.specs.declared.objects.Object.TheVariants as object
 use Rattle.b2_access.specs.declared.private.Private.{Private}
 use Rattle.b2_language.specs.Languages.{Ways}
 use Rattle.b2_machine.specs.Readiness.{rests}
-use Rattle.b2_machine.specs.Statements.{Begun, begins_where, begun, builder_of, has_ended, plan_by}
+use Rattle.b2_machine.specs.Statements.{begins_where, begun, builder_of, has_ended, plan_by}
 use Rattle.b2_machine.specs.Step.{no_text, seen_by, text_in}
 use Rattle.b2_machine.specs.declared.statements.Builder.{Builder}
 

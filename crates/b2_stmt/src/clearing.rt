@@ -3,6 +3,7 @@ ghost use Rattle.std.specs.Prelude.{◌≡◌, true, IfOk};
 ghost use Rattle.b2_atom.specs.declared.rows.TheConstants as row;
 ghost use Rattle.b2_rows.specs.Rows.{is_part, tree_at};
 ghost use Rattle.b2_access.specs.Answering.{can_answer};
+ghost use Rattle.b2_access.specs.Partition.{no_files};
 ghost use Rattle.b2_access.specs.Lending.{globals_lent, seen_lent};
 ghost use Rattle.b2_access.specs.Views.{AllCleared, LinesErased};
 ghost use Rattle.b2_stmt.specs.Clearing as spec;
@@ -13,7 +14,7 @@ use b2_access::{Access, Answer, Lent, Outcome, Private, drop_frames, failed};
 use b2_atom::rows;
 use b2_base::codes::A08_TEXT_BORROWED;
 use b2_base::lexical::rest_after;
-use b2_base::{Addr, ByteList, NoMemory};
+use b2_base::{Addr, ByteList, NoMemory, Slot};
 use b2_rows::named_lines;
 use std::alloc::Global;
 
@@ -62,6 +63,13 @@ fn erase_lines(me: &mut Private) -> Outcome
     Outcome::Ready
 }
 
+/// No open data files.
+fn no_files() -> [Option<Slot>; 16]
+    ensures { result ≡ no_files }
+{
+    [None; 16]
+}
+
 /// After all was cleared: the variables go too, no data file is open, and the platter with which the partition started is selected
 /// again.
 fn clear_all(alloc: Global, me: &mut Private) -> Result<Outcome, NoMemory>
@@ -71,7 +79,7 @@ fn clear_all(alloc: Global, me: &mut Private) -> Result<Outcome, NoMemory>
     let ready = ByteList::from_slice(alloc, b"READY\n")?;
     let outcome = erase_lines(me);
     me.vars.clear();
-    me.slots = [None; 16];
+    me.slots = no_files();
     me.disk = me.boot_disk;
     me.pending = Some((Addr::default(), ready));
     Ok(outcome)

@@ -1,4 +1,5 @@
 pub mod Placed
 pub mod Same
+pub mod TwoRows
 pub mod DiskCalls
 pub mod Firsts

@@ -1,4 +1,4 @@
--- What disks do to an image, by the definitions of the catalogue.
+-- What disks do to an image, by the definitions of the catalogue and of files.
 use Rattle.std.specs.Prelude.{ℕ, ◌&&◌, ℤ, pos, neg_ℤ, Bool, nat_le, nat_lt, List, Result, Ok, Err, Option, Some, None, if◌then◌else◌}
 use Rattle.std.specs.FinMap.{get}
 use Rattle.b2_base.specs.declared.codes.TheConstants.{D82_NO_FILE, P34_RANGE}
@@ -13,6 +13,7 @@ use Rattle.b2_catalog.specs.Ways.{slot_found}
 use Rattle.b2_access.specs.AccessRows.{no_limits}
 use Rattle.b2_access.specs.Disks.{DiskWork, FourNumbers}
 use Rattle.b2_access.specs.Serving as serving
+use Rattle.b2_store.specs.FileWork.{file_ended, file_moved, file_opened, files_moved, lines_loaded, new_file, place_skipped, record_loaded, record_saved, text_saved}
 use Rattle.b2_access.specs.Sharing.{ServingOf}
 use Rattle.b2_access.specs.Store.{StoreState}
 
@@ -44,7 +45,22 @@ with_index index end image = if can_format index end image then Ok (formatted Na
 
 -- THE WORK OF DISKS
 abbrev pub disks : DiskWork
-disks = record { limits = limits_of; listing = listing_of; scratch = λ name image. scratched_image image (slot_found image name); format = with_index }
+disks = record {
+  limits = limits_of;
+  listing = listing_of;
+  scratch = λ name image. scratched_image image (slot_found image name);
+  format = with_index;
+  data_new = new_file;
+  data_open = file_opened;
+  data_save = record_saved;
+  data_end = file_ended;
+  data_load = record_loaded;
+  skip = place_skipped;
+  save_program = text_saved;
+  load_program = lines_loaded;
+  move_platter = files_moved;
+  move_file = file_moved;
+}
 
 -- and how a store serves with it
 abbrev pub serves : ServingOf StoreState

@@ -1,6 +1,9 @@
 pub mod RowLending
+pub mod Asked
 pub mod Meaning
 pub mod Start
 pub mod Changes
 pub mod Refusals
+pub mod FileWork
+pub mod TwoRows
 pub mod DiskWork

@@ -1,6 +1,7 @@
 -- How a fault is answered.
 use Rattle.std.specs.Prelude.{◌≡◌, ℕ, Result, Ok, Err}
 use Rattle.b2_base.specs.declared.codes.Fault.{Fault}
+use Rattle.b2_base.specs.declared.files.Slot.{Slot}
 use Rattle.b2_base.specs.declared.codes.Fault.TheVariants as fault
 use Rattle.b2_access.specs.declared.accesses.Answer.{Answer}
 use Rattle.b2_access.specs.declared.accesses.Answer.TheVariants as answer
@@ -14,3 +15,14 @@ IsRefusal fault.NoMemory a = ⊥
 abbrev pub made_answer : Result (Unit {0}) ℕ → Answer
 made_answer (Ok u) = answer.Done
 made_answer (Err code) = answer.Refused code
+
+-- what is found is told, or its code
+abbrev pub found_answer : {Found : Type 0} → (Found → Answer) → Result Found ℕ → Answer
+found_answer says (Ok found) = says found
+found_answer says (Err code) = answer.Refused code
+
+abbrev pub opened_answer : Result Slot ℕ → Answer
+opened_answer r = found_answer answer.Opened r
+
+abbrev pub moved_answer : Result ℕ ℕ → Answer
+moved_answer r = found_answer answer.Moved r

@@ -11,11 +11,14 @@
 #![tactic(auto)]
 
 mod boot;
+mod data_files;
 mod disks;
 mod part_list;
+mod programs;
 mod rows;
 mod start;
 mod stores;
+mod two_rows;
 
 pub use boot::StoreBoot;
 pub use rows::{Key, Rows};

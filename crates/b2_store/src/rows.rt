@@ -51,7 +51,7 @@ impl Key for Addr {
 /// Contents in rows, each with a key. Contracts see the list of the rows.
 #[derive(Drop)]
 pub struct Rows<K, X> {
-    rows: Vec<(K, X)>,
+    pub(crate) rows: Vec<(K, X)>,
 }
 
 impl<K, X> Model for Rows<K, X> {
@@ -66,7 +66,7 @@ impl<K, X> Model for Rows<K, X> {
 }
 
 /// The index of the first row of a key, None where no row has it.
-fn row_index<K: Key, X>(rows: &[(K, X)], key: K) -> Option<usize>
+pub(crate) fn row_index<K: Key, X>(rows: &[(K, X)], key: K) -> Option<usize>
     ensures { result ≡ position (λ e. K.found_by key e.0) rows.now }
 {
     rows.iter().position(|row| key.finds(row.0))

@@ -1,23 +1,31 @@
 // The store: its rows, what stops an access, and how each is served and what is lent.
-ghost use Rattle.std.specs.Prelude.{◌≡◌, ◌≤◌, ℕ, length, List, [], ◌∷◌, Option, Some, IfOk, IfErr, option_copied};
+ghost use Rattle.std.specs.Prelude.{◌≡◌, ◌≢◌, ◌≤◌, ℕ, true, length, List, [], ◌∷◌, Option, Some, None, IfOk, IfErr, option_copied};
+ghost use Rattle.std.specs.List.{list_all};
 ghost use Rattle.b2_access.specs.AccessRows.{line_answer, key_answer};
 ghost use Rattle.b2_access.specs.Reach.{disks_of, reach_of};
 ghost use Rattle.b2_access.specs.Stopping as stopping;
 ghost use Rattle.b2_access.specs.Store.{content};
-ghost use Rattle.b2_access.specs.Touching.{IsLegal, MayWantMemory};
+ghost use Rattle.b2_access.specs.Touching.{IsLegal, MayWantMemory, is_short};
+ghost use Rattle.b2_store.specs.Asked.{moving};
 ghost use Rattle.b2_store.specs.Changes.{keyed_at, front_at, room_at};
 ghost use Rattle.b2_store.specs.Refusals.{IsRefusal, made_answer};
 ghost use Rattle.b2_store.specs.Start.{store_at_start};
 
 use crate::boot::StoreBoot;
+use crate::data_files::{
+    end_file, load_record, moved_answer, new_file, no_file, open_file, opened_answer, save_record,
+    skip_records,
+};
 use crate::disks::{format_disk, limits_answer, scratch_file};
 use crate::part_list::PartList;
+use crate::programs::{load_text, save_text};
 use crate::rows::Rows;
 use crate::start::{borrows_of, globals_of, holders_of, platters_of, terminals_of, texts_of};
 use b2_access::{Access, Answer, At, Lent, Object, Reached, Shared, TextUse, reached_by};
 use b2_atom::Atoms;
-use b2_base::{Addr, ByteList, Code, Fault, Name8, NoMemory, Part, Term};
+use b2_base::{Addr, By, ByteList, Code, Fault, Name8, NoMemory, Part, Slot, Term};
 use b2_catalog::listing;
+use b2_dec::{Kind, Value};
 use b2_platter::Platter;
 use b2_term::{KeyItem, Read, Terminal};
 use b2_text::Text;
@@ -177,15 +185,26 @@ impl Stores {
         }
     }
 
-    /// The first partition that is another, of those who come first at what is reached: the one in front of the terminal, and then the
-    /// one that holds the device.
+    /// The first of those who hold the devices, where it is another.
+    #[tactic(auto, using(crate::proofs::Firsts::first_of_disks))]
+    fn other_holding(&self, who: Part, reached: &Reached) -> Option<Part>
+        ensures { result ≡ stopping.first_other who (stopping.holders (reach_of reached.now).devices (store_of self.now)) }
+    {
+        match self.other_holder(who, reached.disk) {
+            Some(q) => Some(q),
+            None => self.other_holder(who, reached.other_disk),
+        }
+    }
+
+    /// The first partition that is another, of those who come first at what is reached: the one in front of the terminal, and then those
+    /// who hold the devices.
     #[tactic(auto, using(crate::proofs::Firsts::first_of_both))]
     fn first_other(&self, who: Part, reached: &Reached) -> Option<Part>
         ensures { result ≡ stopping.first_other who (stopping.first_there (reach_of reached.now) (store_of self.now)) }
     {
         match self.other_in_front(who, reached.terminal) {
             Some(q) => Some(q),
-            None => self.other_holder(who, reached.disk),
+            None => self.other_holding(who, reached),
         }
     }
 
@@ -335,6 +354,138 @@ impl Stores {
         }
     }
 
+    /// Makes a data file and opens it.
+    #[tactic(auto, using(crate::proofs::Same::with_same))]
+    fn data_new(&mut self, addr: Addr, old: Option<Name8>, sectors: u32, name: Name8) -> Answer
+        requires { old ≡ None → 2 ≤ sectors }
+        ensures { (who : ℕ) → Does who (Access.DataNew addr old sectors name) self.old self.new result }
+    {
+        match self.platters.get_mut(addr) {
+            Some(platter) => opened_answer(new_file(platter, addr, old, sectors, name)),
+            None => Answer::Opened(no_file(addr, name)),
+        }
+    }
+
+    /// Opens a data file.
+    fn data_open(&self, addr: Addr, name: Name8) -> Answer
+        ensures { (who : ℕ) → Does who (Access.DataOpen addr name) self.now self.now result }
+    {
+        match self.platters.get(addr) {
+            Some(platter) => opened_answer(open_file(platter, addr, name)),
+            None => Answer::Opened(no_file(addr, name)),
+        }
+    }
+
+    /// Saves a record at the place in a file.
+    #[tactic(auto, using(crate::proofs::Same::with_same))]
+    fn data_save(&mut self, slot: &Slot, values: &[Value]) -> Answer
+        requires short { list_all is_short values.now ≡ true }
+        requires place { slot.now.start ≤ slot.now.pos }
+        ensures { (who : ℕ) → Does who (Access.DataSave slot.now values.now) self.old self.new result }
+    {
+        match self.platters.get_mut(slot.addr) {
+            Some(platter) => moved_answer(save_record(platter, slot, values)),
+            None => Answer::Moved(slot.pos),
+        }
+    }
+
+    /// Writes the end mark at the place in a file.
+    #[tactic(auto, using(crate::proofs::Same::with_same))]
+    fn data_end(&mut self, slot: &Slot) -> Answer
+        requires { slot.now.start ≤ slot.now.pos }
+        ensures { (who : ℕ) → Does who (Access.DataEnd slot.now) self.old self.new result }
+    {
+        match self.platters.get_mut(slot.addr) {
+            Some(platter) => moved_answer(end_file(platter, slot)),
+            None => Answer::Moved(slot.pos),
+        }
+    }
+
+    /// Loads values from the record at the place in a file.
+    fn data_load(&self, slot: &Slot, kinds: &[Kind]) -> Result<Answer, NoMemory>
+        requires { slot.now.start ≤ slot.now.pos }
+        ensures { (who : ℕ) → IfOk result (Does who (Access.DataLoad slot.now kinds.now) self.now self.now) }
+    {
+        match self.platters.get(slot.addr) {
+            Some(platter) => load_record(self.alloc, platter, slot, kinds),
+            None => Ok(Answer::AtEnd),
+        }
+    }
+
+    /// Moves the place in a file.
+    fn skip(&self, slot: &Slot, by: By) -> Result<Answer, NoMemory>
+        requires { slot.now.start ≤ slot.now.pos }
+        ensures { (who : ℕ) → IfOk result (Does who (Access.Skip slot.now by) self.now self.now) }
+    {
+        match self.platters.get(slot.addr) {
+            Some(platter) => skip_records(self.alloc, platter, slot, by),
+            None => Ok(Answer::Moved(slot.pos)),
+        }
+    }
+
+    /// Saves lines of the text of a partition as a program.
+    #[tactic(auto, using(crate::proofs::Same::with_same))]
+    fn save_program(
+        &mut self,
+        who: Part,
+        addr: Addr,
+        old: Option<Name8>,
+        name: Name8,
+        from: u16,
+        to: u16,
+    ) -> Result<Answer, NoMemory>
+        ensures { IfOk result (Does who (Access.SaveProgram addr old name from to) self.old self.new) }
+    {
+        let Some(platter) = self.platters.get_mut(addr) else {
+            return Ok(Answer::Done);
+        };
+        let Some(text) = self.texts.get(who) else {
+            return Ok(Answer::Done);
+        };
+        match save_text(self.alloc, platter, text, from, to, old, name) {
+            Ok(()) => Ok(Answer::Done),
+            Err(fault) => refusal(fault),
+        }
+    }
+
+    /// Loads the lines of a program into the text of a partition.
+    #[tactic(auto, using(crate::proofs::Same::with_same))]
+    fn load_program(
+        &mut self,
+        who: Part,
+        addr: Addr,
+        name: Name8,
+        replace: bool,
+    ) -> Result<Answer, NoMemory>
+        ensures { (declared : Option (List ℕ)) (homes : ℕ) → IfOk result (Does who (Access.LoadProgram addr name replace declared homes) self.old self.new) }
+    {
+        let Some(platter) = self.platters.get(addr) else {
+            return Ok(Answer::Done);
+        };
+        let Some(text) = self.texts.get_mut(who) else {
+            return Ok(Answer::Done);
+        };
+        match load_text(self.alloc, platter, name, text, replace) {
+            Ok(()) => Ok(Answer::Done),
+            Err(fault) => refusal(fault),
+        }
+    }
+
+    /// Moves the file of a name to another platter, or all live files; nothing where one of the two isn't listed.
+    #[tactic(auto, using(crate::proofs::Same::with_same))]
+    fn move_files(&mut self, from: Addr, to: Addr, name: Option<Name8>) -> Result<Answer, NoMemory>
+        requires apart { from ≢ to }
+        ensures { (who : ℕ) → IfOk result (Does who (moving from name to) self.old self.new) }
+    {
+        if self.platters.get(from).is_none() || self.platters.get(to).is_none() {
+            return Ok(Answer::Done);
+        }
+        match self.platters.move_between(self.alloc, from, to, name) {
+            Ok(()) => Ok(Answer::Done),
+            Err(fault) => refusal(fault),
+        }
+    }
+
     /// Does what an access does that nothing stops.
     fn perform(&mut self, who: Part, access: &Access) -> Result<Answer, NoMemory>
         requires legal { IsLegal access.now }
@@ -356,6 +507,32 @@ impl Stores {
             Access::ListDisk { addr } => self.list_disk(*addr),
             Access::Scratch { addr, name } => Ok(self.scratch(*addr, *name)),
             Access::Format { addr, index, end } => Ok(self.format(*addr, *index, *end)),
+            Access::DataNew {
+                addr,
+                old,
+                sectors,
+                name,
+            } => Ok(self.data_new(*addr, *old, *sectors, *name)),
+            Access::DataOpen { addr, name } => Ok(self.data_open(*addr, *name)),
+            Access::DataSave { slot, values } => Ok(self.data_save(slot, values.values())),
+            Access::DataEnd { slot } => Ok(self.data_end(slot)),
+            Access::DataLoad { slot, kinds } => self.data_load(slot, kinds.kinds()),
+            Access::Skip { slot, by } => self.skip(slot, *by),
+            Access::SaveProgram {
+                addr,
+                old,
+                name,
+                from,
+                to,
+            } => self.save_program(who, *addr, *old, *name, *from, *to),
+            Access::LoadProgram {
+                addr,
+                name,
+                replace,
+                ..
+            } => self.load_program(who, *addr, *name, *replace),
+            Access::MovePlatter { from, to } => self.move_files(*from, *to, None),
+            Access::MoveFile { from, name, to } => self.move_files(*from, *to, Some(*name)),
         }
     }
 }

@@ -2,7 +2,7 @@ use Rattle.std.proofs.Common.{ap, sym, ◌∙◌}
 use Rattle.b2_access.specs.Sharing.{Gives}
 use Rattle.b2_machine.specs.Endings.{Ending}
 use Rattle.b2_machine.specs.Statements.{finishes}
-use Rattle.b2_machine.specs.Step.{StepEnd, by_itself, carries_out, finishes_by, seen_by}
+use Rattle.b2_machine.specs.Step.{by_itself, carries_out, finishes_by, seen_by}
 use Rattle.b2_machine.specs.declared.statements.Progress.{Progress}
 use Rattle.b2_machine.proofs.Results.{ok_map}
 use Rattle.b2_access.specs.declared.objects.Object.TheVariants as object
