@@ -132,6 +132,53 @@ pub fn plan(
     ask(alloc, &e, me.term_column, me.prompted, &unit)
 }
 
+/// How the statement of a unit finishes, at a place in a line of the program.
+fn finish_unit(
+    alloc: Global,
+    me: &mut Private,
+    own: &Text,
+    home: &Text,
+    place: Place,
+    access: &Access,
+    answer: &Answer,
+    unit: &RowUnit<'_>,
+) -> Result<Outcome, NoMemory>
+    requires read { IsRow unit.now.row unit.now.bytes.now (tree_at unit.now.row unit.now.bytes.now) }
+    requires possible { can_answer access.now answer.now ≡ true }
+    ensures ended { (globals : Option VarsState) → IfOk result (λ o. record { me = me.new; outcome = o } ≡ ended me.old (spec.ended_of (record { row = unit.now.row; tree = tree_at unit.now.row unit.now.bytes.now }) place access.now answer.now me.old (record { own = own.now; home = home.now; globals = globals }))) }
+    ensures part { me.new.part ≡ me.old.part }
+{
+    match unit.row {
+        rows::PRINT | rows::PRINTUSING => Ok(after_show(me, access, answer)),
+        rows::KEYIN => after_key(me, home, place, access, answer, unit.bytes),
+        rows::LINPUT => {
+            after_line(
+                alloc,
+                me,
+                own,
+                home,
+                access,
+                answer,
+                rows::LINPUT,
+                unit.bytes,
+            )
+        }
+        rows::INPUT => {
+            after_line(
+                alloc,
+                me,
+                own,
+                home,
+                access,
+                answer,
+                rows::INPUT,
+                unit.bytes,
+            )
+        }
+        _ => Ok(Outcome::Repeat),
+    }
+}
+
 /// How the statement at a place in a line of the program finishes.
 fn finish_program(
     alloc: Global,
@@ -154,15 +201,7 @@ fn finish_program(
     let Some(unit) = statement_on(line.atoms, usize::from(place.unit)) else {
         return Ok(Outcome::Repeat);
     };
-    let bytes = unit.bytes;
-    match unit.row {
-        rows::PRINT | rows::PRINTUSING => Ok(after_show(me, access, answer)),
-        rows::KEYIN => after_key(me, home, place, access, answer, bytes),
-        rows::LINPUT | rows::INPUT => {
-            after_line(alloc, me, own, home, access, answer, unit.row, bytes)
-        }
-        _ => Ok(Outcome::Repeat),
-    }
+    finish_unit(alloc, me, own, home, place, access, answer, &unit)
 }
 
 /// The row of the k-th statement of the immediate line.
