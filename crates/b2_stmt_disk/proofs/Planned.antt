@@ -1,7 +1,6 @@
--- What statements on disks plan: they end at once, or ask for an access of one platter that the partition may use; and how they
--- finish.
-use Rattle.std.specs.Prelude.{◌≡◌, ℕ, ◌==◌, ◌||◌, Bool, true, false, List, Option, Some, None, Result, Ok, Err, refl, if◌then◌else◌}
-use Rattle.b2_base.specs.declared.codes.TheConstants.{P48_DEVICE, S17_NUMERIC, S18_ALPHA, S20_VARIABLE, S23_DEVICE, S26_PROGRAM_ONLY, S27_LEFT_OUT}
+-- What statements on disks plan: they end at once, or ask for an access at platters that the partition may use; and how they finish.
+use Rattle.std.specs.Prelude.{◌≡◌, ℕ, ◌==◌, ◌||◌, true, List, Result, Ok, Err, refl}
+use Rattle.b2_base.specs.declared.codes.TheConstants.{S17_NUMERIC, S18_ALPHA, S20_VARIABLE, S23_DEVICE, S26_PROGRAM_ONLY, S27_LEFT_OUT}
 use Rattle.b2_atom.specs.Tree.{Trees}
 use Rattle.b2_atom.specs.Tree.Trees.{Put, In}
 use Rattle.b2_atom.specs.declared.rows.TheConstants as row
@@ -11,10 +10,8 @@ use Rattle.b2_expr.specs.Value.{context_of}
 use Rattle.b2_expr.specs.Workspace.{work_in}
 use Rattle.b2_access.specs.Devices.{is_platter_for}
 use Rattle.b2_access.specs.Lending.{SeenLent}
-use Rattle.b2_access.specs.OwnDevices.{IsAtDisk}
 use Rattle.b2_access.specs.Partition.{setting_of}
 use Rattle.b2_access.specs.Placed.{Statement}
-use Rattle.b2_access.specs.Touching.{IsLegal}
 use Rattle.b2_access.specs.Views.{change_came, limits_told, listing_told}
 use Rattle.b2_access.specs.Working.{Worked, Working, leaves, planned_of, stops}
 use Rattle.b2_access.specs.declared.accesses.Access.{Access}
@@ -27,64 +24,54 @@ use Rattle.b2_access.specs.declared.planned.Planned.TheVariants as planned
 use Rattle.b2_access.specs.declared.private.Private.{Private}
 use Rattle.b2_access.proofs.Choice.{either}
 use Rattle.b2_access.proofs.Courses.{each_course}
-use Rattle.b2_drive.specs.Drives.{DrivesSeen, device_named, drive_used, drives_of, platter_meant, platter_used, selects}
-use Rattle.b2_stmt_disk.specs.Selecting.{selected}
+use Rattle.b2_drive.specs.Asking.{asks_or_fails, change_ends}
+use Rattle.b2_drive.specs.Drives.{DrivesSeen, drive_used, drives_of, selects}
 use Rattle.b2_drive.specs.FileNames.{name_given}
+use Rattle.b2_drive.proofs.Asked.{Fits, after_drive, after_value}
+use Rattle.b2_stmt_disk.specs.Selecting.{selected}
 use Rattle.b2_stmt_disk.specs.Limits.{asks_limits, limits_end, named_file}
 use Rattle.b2_stmt_disk.specs.Listing.{asks_to_list, listing_ends}
-use Rattle.b2_stmt_disk.specs.Plan.{asked_of, asks_or_fails, course_of, does, ended_of, is_refused, works}
-use Rattle.b2_stmt_disk.specs.Scratching.{asks_to_format, asks_to_scratch, change_ends, sectors_given}
+use Rattle.b2_stmt_disk.specs.Plan.{asked_of, course_of, does, ended_of, is_refused, works}
+use Rattle.b2_stmt_disk.specs.Scratching.{asks_to_format, asks_to_scratch, sectors_given}
 
--- what holds of each refusal, and of each access of a platter that may be used
-module _ (F : Planned → Type 0) (d : DrivesSeen) (failed : (code : ℕ) → F (planned.Done (outcome.Failed code)))
-    (asks : (addr : List ℕ) (a : Access) → is_platter_for d.who addr d.devices ≡ true → IsAtDisk addr a → IsLegal a → F (planned.Ask a)) where
+-- what holds of each refusal, and of each access that fits
+module _ (F : Planned → Type 0) (d : DrivesSeen) (failed : (code : ℕ) → F (planned.Done (outcome.Failed code))) (asks : (a : Access) → Fits d.devices d.who a → F (planned.Ask a)) where
   Asked : Result Access ℕ → Type 0
   Asked r = F (asks_or_fails r)
 
-  at_platter : (b : Bool) (a : List ℕ) (next : List ℕ → Result Access ℕ) → is_platter_for d.who a d.devices ≡ b → ((x : List ℕ) → is_platter_for d.who x d.devices ≡ true → Asked (next x))
-      → Asked ((if b then Ok a else Err P48_DEVICE) >>= next)
+  at_drive : (t : Trees) (next : List ℕ → Result Access ℕ) → ((x : List ℕ) → is_platter_for d.who x d.devices ≡ true → Asked (next x)) → Asked (drive_used d t >>= next)
   unfolding Asked
-  at_platter true a next is h = h a is
-  at_platter false a next is h = failed P48_DEVICE
+  at_drive t next h = after_drive F d failed t next h
 
-  after_platter : (o : Option (List ℕ)) (next : List ℕ → Result Access ℕ) → ((x : List ℕ) → is_platter_for d.who x d.devices ≡ true → Asked (next x)) → Asked (platter_used d o >>= next)
+  at_value : {A : Type 0} (r : Result A ℕ) (next : A → Result Access ℕ) → ((x : A) → Asked (next x)) → Asked (r >>= next)
   unfolding Asked
-  after_platter None next h = failed P48_DEVICE
-  after_platter (Some a) next h = at_platter (is_platter_for d.who a d.devices) a next refl h
-
-  after_drive : (t : Trees) (next : List ℕ → Result Access ℕ) → ((x : List ℕ) → is_platter_for d.who x d.devices ≡ true → Asked (next x)) → Asked (drive_used d t >>= next)
-  after_drive t next h = after_platter (platter_meant (device_named t) d.selected) next h
-
-  after_value : {A : Type 0} (r : Result A ℕ) (next : A → Result Access ℕ) → ((x : A) → Asked (next x)) → Asked (r >>= next)
-  unfolding Asked
-  after_value (Ok x) next h = h x
-  after_value (Err code) next h = failed code
+  at_value r next h = after_value F d failed r next h
 
   limits_asked : (e : Context) (t : Trees) → Asked (asks_limits d e t)
   unfolding Asked
   limits_asked e (Put word (In n drive operands)) =
-      after_drive drive (λ addr. named_file e operands >>= (λ name. Ok (access.Limits addr name)))
-      (λ addr listed. after_value (named_file e operands) (λ name. Ok (access.Limits addr name)) (λ name. asks addr (access.Limits addr name) listed refl tt))
+      at_drive drive (λ addr. named_file e operands >>= (λ name. Ok (access.Limits addr name)))
+      (λ addr listed. at_value (named_file e operands) (λ name. Ok (access.Limits addr name)) (λ name. asks (access.Limits addr name) (record { listed = (listed, tt); terminal = refl; homes = refl; legal = tt })))
   limits_asked e t = failed S20_VARIABLE
 
   scratch_asked : (e : Context) (t : Trees) → Asked (asks_to_scratch d e t)
   unfolding Asked
   scratch_asked e (Put word (In n drive (In m name end))) =
-      after_drive drive (λ addr. name_given e name >>= (λ x. Ok (access.Scratch addr x)))
-      (λ addr listed. after_value (name_given e name) (λ x. Ok (access.Scratch addr x)) (λ x. asks addr (access.Scratch addr x) listed refl tt))
+      at_drive drive (λ addr. name_given e name >>= (λ x. Ok (access.Scratch addr x)))
+      (λ addr listed. at_value (name_given e name) (λ x. Ok (access.Scratch addr x)) (λ x. asks (access.Scratch addr x) (record { listed = (listed, tt); terminal = refl; homes = refl; legal = tt })))
   scratch_asked e t = failed S18_ALPHA
 
   format_asked : (e : Context) (t : Trees) → Asked (asks_to_format d e t)
   unfolding Asked
   format_asked e (Put scratch (Put disk (In n drive (Put ls (Put is (In m index (Put comma (Put end (Put equals (In k last more)))))))))) =
-      after_drive drive (λ addr. sectors_given e index >>= (λ i. sectors_given e last >>= (λ l. Ok (access.Format addr i l))))
-      (λ addr listed. after_value (sectors_given e index) (λ i. sectors_given e last >>= (λ l. Ok (access.Format addr i l)))
-      (λ i. after_value (sectors_given e last) (λ l. Ok (access.Format addr i l)) (λ l. asks addr (access.Format addr i l) listed refl tt)))
+      at_drive drive (λ addr. sectors_given e index >>= (λ i. sectors_given e last >>= (λ l. Ok (access.Format addr i l))))
+      (λ addr listed. at_value (sectors_given e index) (λ i. sectors_given e last >>= (λ l. Ok (access.Format addr i l)))
+      (λ i. at_value (sectors_given e last) (λ l. Ok (access.Format addr i l)) (λ l. asks (access.Format addr i l) (record { listed = (listed, tt); terminal = refl; homes = refl; legal = tt }))))
   format_asked e t = failed S17_NUMERIC
 
   list_asked : (t : Trees) → Asked (asks_to_list d t)
   unfolding Asked
-  list_asked (Put list (Put dc (In n drive end))) = after_drive drive (λ addr. Ok (access.ListDisk addr)) (λ addr listed. asks addr (access.ListDisk addr) listed refl tt)
+  list_asked (Put list (Put dc (In n drive end))) = at_drive drive (λ addr. Ok (access.ListDisk addr)) (λ addr listed. asks (access.ListDisk addr) (record { listed = (listed, tt); terminal = refl; homes = refl; legal = tt }))
   list_asked t = failed S23_DEVICE
 
   each_asked : (e : Context) (r : ℕ) (t : Trees) → F (asks_or_fails (asked_of d e r t))
@@ -97,7 +84,7 @@ module _ (F : Planned → Type 0) (d : DrivesSeen) (failed : (code : ℕ) → F 
 
 -- so also of what the statement at a place plans
 module _ (devices : List Device) (me : Private) (s : SeenLent) (F : Planned → Type 0) (next : F (planned.Done outcome.Next)) (ready : F (planned.Done outcome.Ready)) (failed : (code : ℕ) → F (planned.Done (outcome.Failed code)))
-    (asks : (addr : List ℕ) (a : Access) → is_platter_for me.part addr devices ≡ true → IsAtDisk addr a → IsLegal a → F (planned.Ask a)) where
+    (asks : (a : Access) → Fits devices me.part a → F (planned.Ask a)) where
   Each : Working → Type 0
   Each k = F (planned_of k)
 

@@ -11,7 +11,7 @@ ghost use Rattle.b2_stmt_disk.specs.Plan as spec;
 
 use crate::limits::{ask_limits, give_limits, told_by};
 use crate::listing::{ask_to_list, listing_of};
-use crate::scratching::{after_change, ask_to_format, ask_to_scratch};
+use crate::scratching::{ask_to_format, ask_to_scratch};
 use b2_access::{
     Access, Answer, DeviceTable, Lent, Outcome, Planned, Private, failed, goes_or, setting_of,
     statement_placed,
@@ -19,7 +19,7 @@ use b2_access::{
 use b2_atom::rows;
 use b2_base::codes::{S26_PROGRAM_ONLY, S27_LEFT_OUT};
 use b2_base::{Addr, Code, NoMemory};
-use b2_drive::{Drives, drives_for, select};
+use b2_drive::{Drives, after_change, asks_or_fails, drives_for, select};
 use b2_expr::{Env, Workspace, surroundings_of};
 use b2_rows::RowUnit;
 use std::alloc::Global;
@@ -52,16 +52,6 @@ fn ask(d: &Drives<'_>, e: &Env<'_>, unit: &RowUnit<'_>) -> Result<Access, Code>
         rows::SCRATCH_DISK => ask_to_format(d, e, unit.bytes),
         rows::LIST_DISK => ask_to_list(d, unit.bytes),
         _ => Err(Code::known(S27_LEFT_OUT)),
-    }
-}
-
-/// An access is asked for, or it is a fault.
-fn asks_or_fails(asked: Result<Access, Code>) -> Planned
-    ensures { result ≡ spec.asks_or_fails asked }
-{
-    match asked {
-        Ok(access) => Planned::Ask(access),
-        Err(code) => Planned::Done(Outcome::Failed(code)),
     }
 }
 
