@@ -42,7 +42,7 @@ module _ (F : Planned → Type 0) (d : DrivesSeen) (failed : (code : ℕ) → F 
   at_platter true a next is h = h a is
   at_platter false a next is h = failed P48_DEVICE
 
-  after_platter : (o : Option (List ℕ)) (next : List ℕ → Result Access ℕ) → ((x : List ℕ) → is_platter_for d.who x d.devices ≡ true → Asked (next x)) → Asked (platter_used d o >>= next)
+  pub after_platter : (o : Option (List ℕ)) (next : List ℕ → Result Access ℕ) → ((x : List ℕ) → is_platter_for d.who x d.devices ≡ true → Asked (next x)) → Asked (platter_used d o >>= next)
   after_platter None next h = failed P48_DEVICE
   after_platter (Some a) next h = at_platter (is_platter_for d.who a d.devices) a next refl h
 

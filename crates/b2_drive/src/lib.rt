@@ -14,5 +14,5 @@ mod drives;
 mod file_names;
 
 pub use asking::{after_change, asks_or_fails};
-pub use drives::{Drives, drive, drives_for, last_drive, past_drive, select};
+pub use drives::{Drives, drive, drives_for, last_drive, past_drive, select, used_at};
 pub use file_names::name_at;

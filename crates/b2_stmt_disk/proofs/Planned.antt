@@ -1,6 +1,9 @@
 -- What statements on disks plan: they end at once, or ask for an access at platters that the partition may use; and how they finish.
-use Rattle.std.specs.Prelude.{◌≡◌, ℕ, ◌==◌, ◌||◌, true, List, Result, Ok, Err, refl}
-use Rattle.b2_base.specs.declared.codes.TheConstants.{S17_NUMERIC, S18_ALPHA, S20_VARIABLE, S23_DEVICE, S26_PROGRAM_ONLY, S27_LEFT_OUT}
+use Rattle.std.specs.Prelude.{◌≡◌, ◌≢◌, ℕ, ◌==◌, ◌||◌, Bool, true, false, if◌then◌else◌, List, Option, Some, None, Result, Ok, Err, refl}
+use Rattle.std.specs.Str.{bytes_eq}
+use Rattle.std.proofs.Common.{true≢false, sym, ◌∙◌}
+use Rattle.std.proofs.lemmas.Slice.Eq.{bytes_eq-Decides}
+use Rattle.b2_base.specs.declared.codes.TheConstants.{P34_RANGE, S17_NUMERIC, S18_ALPHA, S20_VARIABLE, S23_DEVICE, S26_PROGRAM_ONLY, S27_LEFT_OUT}
 use Rattle.b2_atom.specs.Tree.{Trees}
 use Rattle.b2_atom.specs.Tree.Trees.{Put, In}
 use Rattle.b2_atom.specs.declared.rows.TheConstants as row
@@ -25,14 +28,19 @@ use Rattle.b2_access.specs.declared.private.Private.{Private}
 use Rattle.b2_access.proofs.Choice.{either}
 use Rattle.b2_access.proofs.Courses.{each_course}
 use Rattle.b2_drive.specs.Asking.{asks_or_fails, change_ends}
-use Rattle.b2_drive.specs.Drives.{DrivesSeen, drive_used, drives_of, selects}
+use Rattle.b2_drive.specs.Drives.{DrivesSeen, drive_used, drives_of, platter_meant, platter_used, selects}
 use Rattle.b2_drive.specs.FileNames.{name_given}
-use Rattle.b2_drive.proofs.Asked.{Fits, after_drive, after_value}
+use Rattle.b2_drive.proofs.Asked.{Fits, after_drive, after_platter, after_value}
 use Rattle.b2_stmt_disk.specs.Selecting.{selected}
 use Rattle.b2_stmt_disk.specs.Limits.{asks_limits, limits_end, named_file}
 use Rattle.b2_stmt_disk.specs.Listing.{asks_to_list, listing_ends}
+use Rattle.b2_stmt_disk.specs.Moving.{asks_to_move, device_from, file_moved, moves, moves_apart}
 use Rattle.b2_stmt_disk.specs.Plan.{asked_of, course_of, does, ended_of, is_refused, works}
 use Rattle.b2_stmt_disk.specs.Scratching.{asks_to_format, asks_to_scratch, sectors_given}
+
+-- platters that differ
+differ : (a b : List ℕ) → bytes_eq a b ≡ false → a ≢ b
+differ a b is same = absurd (true≢false (sym ((bytes_eq-Decides a b).1 same) ∙ is))
 
 -- what holds of each refusal, and of each access that fits
 module _ (F : Planned → Type 0) (d : DrivesSeen) (failed : (code : ℕ) → F (planned.Done (outcome.Failed code))) (asks : (a : Access) → Fits d.devices d.who a → F (planned.Ask a)) where
@@ -46,6 +54,10 @@ module _ (F : Planned → Type 0) (d : DrivesSeen) (failed : (code : ℕ) → F 
   at_value : {A : Type 0} (r : Result A ℕ) (next : A → Result Access ℕ) → ((x : A) → Asked (next x)) → Asked (r >>= next)
   unfolding Asked
   at_value r next h = after_value F d failed r next h
+
+  at_platter : (o : Option (List ℕ)) (next : List ℕ → Result Access ℕ) → ((x : List ℕ) → is_platter_for d.who x d.devices ≡ true → Asked (next x)) → Asked (platter_used d (platter_meant o d.selected) >>= next)
+  unfolding Asked
+  at_platter o next h = after_platter F d failed (platter_meant o d.selected) next h
 
   limits_asked : (e : Context) (t : Trees) → Asked (asks_limits d e t)
   unfolding Asked
@@ -74,13 +86,30 @@ module _ (F : Planned → Type 0) (d : DrivesSeen) (failed : (code : ℕ) → F 
   list_asked (Put list (Put dc (In n drive end))) = at_drive drive (λ addr. Ok (access.ListDisk addr)) (λ addr listed. asks (access.ListDisk addr) (record { listed = (listed, tt); terminal = refl; homes = refl; legal = tt }))
   list_asked t = failed S23_DEVICE
 
+  -- two platters that differ
+  apart_asked : (same : Bool) (a : List ℕ) (name : Option (List ℕ)) (b : List ℕ) → bytes_eq a b ≡ same → is_platter_for d.who a d.devices ≡ true → is_platter_for d.who b d.devices ≡ true
+      → Asked (if same then Err P34_RANGE else Ok (moves a name b))
+  unfolding Asked
+  apart_asked true a name b is listed also = failed P34_RANGE
+  apart_asked false a None b is listed also = asks (access.MovePlatter a b) (record { listed = (listed, (also, tt)); terminal = refl; homes = refl; legal = differ a b is })
+  apart_asked false a (Some name) b is listed also = asks (access.MoveFile a name b) (record { listed = (listed, (also, tt)); terminal = refl; homes = refl; legal = differ a b is })
+
+  move_asked : (e : Context) (t : Trees) → Asked (asks_to_move d e t)
+  unfolding Asked
+  move_asked e (Put move (In n moved (Put to (In m drive end)))) =
+      at_platter (device_from moved) (λ a. file_moved e moved >>= (λ name. drive_used d drive >>= (λ b. moves_apart a name b)))
+      (λ a listed. at_value (file_moved e moved) (λ name. drive_used d drive >>= (λ b. moves_apart a name b))
+      (λ name. at_drive drive (λ b. moves_apart a name b) (λ b also. apart_asked (bytes_eq a b) a name b refl listed also)))
+  move_asked e t = failed S23_DEVICE
+
   each_asked : (e : Context) (r : ℕ) (t : Trees) → F (asks_or_fails (asked_of d e r t))
   unfolding Asked
   each_asked e r t =
       either Asked (r == row.LIMITS) _ _ (limits_asked e t)
       (either Asked (r == row.SCRATCH) _ _ (scratch_asked e t)
       (either Asked (r == row.SCRATCH_DISK) _ _ (format_asked e t)
-      (either Asked (r == row.LIST_DISK) _ _ (list_asked t) (failed S27_LEFT_OUT))))
+      (either Asked (r == row.LIST_DISK) _ _ (list_asked t)
+      (either Asked (r == row.MOVE) _ _ (move_asked e t) (failed S27_LEFT_OUT)))))
 
 -- so also of what the statement at a place plans
 module _ (devices : List Device) (me : Private) (s : SeenLent) (F : Planned → Type 0) (next : F (planned.Done outcome.Next)) (ready : F (planned.Done outcome.Ready)) (failed : (code : ℕ) → F (planned.Done (outcome.Failed code)))
@@ -107,5 +136,5 @@ pub each_ended : (F : Worked → Type 0) (x : Access) (a : Answer) (me : Private
     → F (listing_ends (listing_told x a) me) → F (leaves me outcome.Repeat) → (u : Statement) → F (ended_of u x a me s)
 each_ended F x a me s gives changes lists repeats u =
     either F (u.row == row.LIMITS) _ _ (gives u.tree)
-    (either F (u.row == row.SCRATCH || u.row == row.SCRATCH_DISK) _ _ changes
+    (either F (u.row == row.SCRATCH || u.row == row.SCRATCH_DISK || u.row == row.MOVE) _ _ changes
     (either F (u.row == row.LIST_DISK) _ _ lists repeats))

@@ -24,6 +24,7 @@ use Rattle.b2_drive.specs.Drives.{DrivesSeen, drives_of, selects}
 use Rattle.b2_stmt_disk.specs.Selecting.{selected}
 use Rattle.b2_stmt_disk.specs.Limits.{asks_limits, limits_end}
 use Rattle.b2_stmt_disk.specs.Listing.{asks_to_list, listing_ends}
+use Rattle.b2_stmt_disk.specs.Moving.{asks_to_move}
 use Rattle.b2_stmt_disk.specs.Scratching.{asks_to_format, asks_to_scratch}
 
 -- LIST DC stands in immediate lines alone
@@ -37,7 +38,8 @@ asked_of d e r t =
     else (if r == row.SCRATCH then asks_to_scratch d e t
     else (if r == row.SCRATCH_DISK then asks_to_format d e t
     else (if r == row.LIST_DISK then asks_to_list d t
-    else Err S27_LEFT_OUT)))
+    else (if r == row.MOVE then asks_to_move d e t
+    else Err S27_LEFT_OUT))))
 
 -- SELECT DISK ends at once; the others ask for an access
 abbrev pub course_of : List Device → Statement → Private → SeenLent → Working
@@ -59,7 +61,7 @@ plan devices me s = plans_by (works devices) me s
 abbrev pub ended_of : Statement → Access → Answer → Private → SeenLent → Worked
 ended_of u x a me s =
     if u.row == row.LIMITS then limits_end (limits_told x a) u.tree me s
-    else (if u.row == row.SCRATCH || u.row == row.SCRATCH_DISK then leaves me (change_ends (change_came x a))
+    else (if u.row == row.SCRATCH || u.row == row.SCRATCH_DISK || u.row == row.MOVE then leaves me (change_ends (change_came x a))
     else (if u.row == row.LIST_DISK then listing_ends (listing_told x a) me
     else leaves me outcome.Repeat))
 
@@ -79,4 +81,4 @@ finish x a me s = finishes_by ends x a me s
 
 -- the rows that this crate builds
 abbrev pub is_built : ℕ → Bool
-is_built r = r == row.LIMITS || r == row.SCRATCH || r == row.SCRATCH_DISK || r == row.LIST_DISK || r == row.SELECT_DISK
+is_built r = r == row.LIMITS || r == row.SCRATCH || r == row.SCRATCH_DISK || r == row.LIST_DISK || r == row.MOVE || r == row.SELECT_DISK
