@@ -29,7 +29,7 @@ left_out_row : row_items row.LEFT_OUT ≡ LeftOut ∷ []
 unfolding row_items
 left_out_row = refl
 
-not_left_out : {A : Type 0} (t : Text) → is_part row.LEFT_OUT t ≡ true → A
+pub not_left_out : {A : Type 0} (t : Text) → is_part row.LEFT_OUT t ≡ true → A
 not_left_out t ok = absurd (stands_of row.LEFT_OUT (LeftOut ∷ []) t left_out_row ok).0
 
 kept_by : (b : Bool) (n m : ℕ) (s : Start) (t : Text) → starts Atoms s t ≡ b → row_items n ≡ Either s row.LEFT_OUT m ∷ [] → is_part n t ≡ true → ReadAs n m second_branch t
@@ -47,7 +47,7 @@ width_by false n h = cc
 address_width : (t : Text) → is_leaf leaf.Address t ≡ true → leaf_width Atoms leaf.Address t ≡ 3
 address_width t ok = width_by (is_hex_at Atoms t 0 && (is_hex_at Atoms t 1 && is_hex_at Atoms t 2)) 3 ok
 
-slash_starts : (t : Text) (b : Bool) → (first t == byte.slash) ≡ b → starts Atoms (start.Code byte.slash) t ≡ b
+pub slash_starts : (t : Text) (b : Bool) → (first t == byte.slash) ≡ b → starts Atoms (start.Code byte.slash) t ≡ b
 unfolding starts
 slash_starts t b is = is
 
@@ -59,13 +59,13 @@ device_row : row_items row.DEVICE ≡ device_items
 unfolding row_items
 device_row = refl
 
-address_here : (t : Text) → is_part row.DEVICE t ≡ true → is_leaf leaf.Address (drop 1 t) ≡ true
+pub address_here : (t : Text) → is_part row.DEVICE t ≡ true → is_leaf leaf.Address (drop 1 t) ≡ true
 address_here t ok = (stands_of row.DEVICE device_items t device_row ok).0.1.0
 
-address_is : (t : Text) → is_part row.DEVICE t ≡ true → address_in (tree_at row.DEVICE t) ≡ leaf_bytes leaf.Address (drop 1 t)
+pub address_is : (t : Text) → is_part row.DEVICE t ≡ true → address_in (tree_at row.DEVICE t) ≡ leaf_bytes leaf.Address (drop 1 t)
 address_is t ok = ap address_in (stands_of row.DEVICE device_items t device_row ok).1
 
-after_device : (t : Text) → is_part row.DEVICE t ≡ true → after_part row.DEVICE t ≡ drop 3 (drop 1 t)
+pub after_device : (t : Text) → is_part row.DEVICE t ≡ true → after_part row.DEVICE t ≡ drop 3 (drop 1 t)
 after_device t ok =
     (stands_of row.DEVICE device_items t device_row ok).2 ∙ ap (λ (n : ℕ). drop n (drop 1 t)) (address_width (drop 1 t) (address_here t ok))
 

@@ -65,8 +65,8 @@ fn device_at(text: &[u8]) -> Option<Addr>
     }
 }
 
-/// The platter that a drive means: the one that it names, or the one that is selected.
-fn used_at(d: &Drives<'_>, text: &[u8]) -> Result<Addr, Code>
+/// The platter that a drive means at a text, whatever stands after it: the one that it names, or the one that is selected.
+pub fn used_at(d: &Drives<'_>, text: &[u8]) -> Result<Addr, Code>
     requires address { (first (drop 1 text.now) == byte.slash) ≡ true → is_leaf leaf.Address (drop 1 (drop 1 text.now)) ≡ true }
     ensures { result ≡ spec.platter_used (spec.drives_seen d.now) (spec.platter_meant (spec.device_at text.now) d.now.selected) }
 {

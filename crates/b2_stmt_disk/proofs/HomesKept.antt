@@ -13,12 +13,12 @@ use Rattle.b2_access.specs.declared.devices.Device.{Device}
 use Rattle.b2_access.specs.declared.planned.Outcome.TheVariants as outcome
 use Rattle.b2_access.specs.declared.private.Private.{Private}
 use Rattle.b2_access.proofs.Courses.{each_course}
-use Rattle.b2_access.proofs.OwnDevices.{at_disk_marks_none}
 use Rattle.b2_access.proofs.Working as form
+use Rattle.b2_drive.specs.Asking.{change_ends}
+use Rattle.b2_drive.proofs.Asked.{marks_no_home}
 use Rattle.b2_stmt_disk.specs.Limits.{limits_end}
 use Rattle.b2_stmt_disk.specs.Listing.{listing_ends}
 use Rattle.b2_stmt_disk.specs.Plan.{ends, finish, finishes, is_refused, plan, repeats, works}
-use Rattle.b2_stmt_disk.specs.Scratching.{change_ends}
 use Rattle.b2_stmt_disk.proofs.Planned.{each_ended, each_planned}
 
 module _ (among : ℕ → Bool) where
@@ -53,7 +53,7 @@ module _ (among : ℕ → Bool) where
 pub plans_within : (devices : List Device) → PlansWithin (plan devices)
 plans_within devices =
     form.plans_within (works devices)
-    (λ among me s k. each_planned devices me s (PlannedIn among) tt tt (λ code. tt) (λ addr a listed is legal. at_disk_marks_none among addr a is))
+    (λ among me s k. each_planned devices me s (PlannedIn among) tt tt (λ code. tt) (λ a fits. marks_no_home devices me.part among a fits))
 
 pub finishes_within : FinishesWithin finish
 unfolding Leads

@@ -4,8 +4,8 @@ use Rattle.std.specs.Prelude.{List}
 use Rattle.b2_access.specs.Keeping.{FinishesInPlace, FinishesKeepNone, PlansInPlace, PlansKeepNone}
 use Rattle.b2_access.specs.OwnTerminal.{FinishesAtTerminal, PlannedAt, PlansAtTerminal}
 use Rattle.b2_access.specs.declared.devices.Device.{Device}
-use Rattle.b2_access.proofs.OwnDevices.{at_disk_names_none}
 use Rattle.b2_access.proofs.Working as form
+use Rattle.b2_drive.proofs.Asked.{names_no_terminal}
 use Rattle.b2_stmt_disk.specs.Plan.{ends, finish, plan, works}
 use Rattle.b2_stmt_disk.proofs.Planned.{each_planned}
 
@@ -18,7 +18,7 @@ plans_keep_none devices = form.plans_keep_none (works devices)
 pub plans_at_terminal : (devices : List Device) → PlansAtTerminal (plan devices)
 plans_at_terminal devices =
     form.plans_at_terminal (works devices)
-    (λ me s. each_planned devices me s (PlannedAt me.term) tt tt (λ code. tt) (λ addr a listed is legal. at_disk_names_none me.term addr a is))
+    (λ me s. each_planned devices me s (PlannedAt me.term) tt tt (λ code. tt) (λ a fits. names_no_terminal devices me.part me.term a fits))
 
 pub finishes_in_place : FinishesInPlace finish
 finishes_in_place = form.finishes_in_place ends

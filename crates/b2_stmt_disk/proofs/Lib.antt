@@ -1,8 +1,9 @@
--- What the rows of these statements say at their bytes: LimitsRows, ScratchRows and ListRows. Planned has what holds of each statement as it plans and as it finishes; from there follow the laws of
+-- What the rows of these statements say at their bytes: LimitsRows, ScratchRows, ListRows and MoveRows. Planned has what holds of each statement as it plans and as it finishes; from there follow the laws of
 -- LeftAlone, Listed and Legal, by way of HomesKept, KeptPlaces and Waits.
 pub mod LimitsRows
 pub mod ScratchRows
 pub mod ListRows
+pub mod MoveRows
 pub mod Planned
 pub mod HomesKept
 pub mod KeptPlaces

@@ -1,5 +1,5 @@
 -- What a statement plans, by the unit at the place of a partition, and how it finishes.
-use Rattle.std.specs.Prelude.{ℕ, ◌==◌, ◌&&◌, ◌||◌, Bool, List, Result, Ok, Err, if◌then◌else◌}
+use Rattle.std.specs.Prelude.{ℕ, ◌==◌, ◌&&◌, ◌||◌, Bool, List, Result, Err, if◌then◌else◌}
 use Rattle.b2_base.specs.declared.codes.TheConstants.{S27_LEFT_OUT}
 use Rattle.b2_atom.specs.Tree.{Trees}
 use Rattle.b2_atom.specs.declared.rows.TheConstants as row
@@ -18,14 +18,14 @@ use Rattle.b2_access.specs.declared.accesses.Answer.{Answer}
 use Rattle.b2_access.specs.declared.devices.Device.{Device}
 use Rattle.b2_access.specs.declared.planned.Outcome.{Outcome}
 use Rattle.b2_access.specs.declared.planned.Outcome.TheVariants as outcome
-use Rattle.b2_access.specs.declared.planned.Planned.{Planned}
-use Rattle.b2_access.specs.declared.planned.Planned.TheVariants as planned
 use Rattle.b2_access.specs.declared.private.Private.{Private}
+use Rattle.b2_drive.specs.Asking.{asks_or_fails, change_ends}
 use Rattle.b2_drive.specs.Drives.{DrivesSeen, drives_of, selects}
 use Rattle.b2_stmt_disk.specs.Selecting.{selected}
 use Rattle.b2_stmt_disk.specs.Limits.{asks_limits, limits_end}
 use Rattle.b2_stmt_disk.specs.Listing.{asks_to_list, listing_ends}
-use Rattle.b2_stmt_disk.specs.Scratching.{asks_to_format, asks_to_scratch, change_ends}
+use Rattle.b2_stmt_disk.specs.Moving.{asks_to_move}
+use Rattle.b2_stmt_disk.specs.Scratching.{asks_to_format, asks_to_scratch}
 
 -- LIST DC stands in immediate lines alone
 abbrev pub is_refused : ℕ → Bool → Bool
@@ -38,11 +38,8 @@ asked_of d e r t =
     else (if r == row.SCRATCH then asks_to_scratch d e t
     else (if r == row.SCRATCH_DISK then asks_to_format d e t
     else (if r == row.LIST_DISK then asks_to_list d t
-    else Err S27_LEFT_OUT)))
-
-abbrev pub asks_or_fails : Result Access ℕ → Planned
-asks_or_fails (Ok a) = planned.Ask a
-asks_or_fails (Err code) = planned.Done (outcome.Failed code)
+    else (if r == row.MOVE then asks_to_move d e t
+    else Err S27_LEFT_OUT))))
 
 -- SELECT DISK ends at once; the others ask for an access
 abbrev pub course_of : List Device → Statement → Private → SeenLent → Working
@@ -64,7 +61,7 @@ plan devices me s = plans_by (works devices) me s
 abbrev pub ended_of : Statement → Access → Answer → Private → SeenLent → Worked
 ended_of u x a me s =
     if u.row == row.LIMITS then limits_end (limits_told x a) u.tree me s
-    else (if u.row == row.SCRATCH || u.row == row.SCRATCH_DISK then leaves me (change_ends (change_came x a))
+    else (if u.row == row.SCRATCH || u.row == row.SCRATCH_DISK || u.row == row.MOVE then leaves me (change_ends (change_came x a))
     else (if u.row == row.LIST_DISK then listing_ends (listing_told x a) me
     else leaves me outcome.Repeat))
 
@@ -84,4 +81,4 @@ finish x a me s = finishes_by ends x a me s
 
 -- the rows that this crate builds
 abbrev pub is_built : ℕ → Bool
-is_built r = r == row.LIMITS || r == row.SCRATCH || r == row.SCRATCH_DISK || r == row.LIST_DISK || r == row.SELECT_DISK
+is_built r = r == row.LIMITS || r == row.SCRATCH || r == row.SCRATCH_DISK || r == row.LIST_DISK || r == row.MOVE || r == row.SELECT_DISK

@@ -8,11 +8,8 @@ use Rattle.b2_expr.specs.Functions.{fixed}
 use Rattle.b2_expr.specs.Scope.{Context}
 use Rattle.b2_expr.specs.Value.{value}
 use Rattle.b2_expr.specs.declared.operators.Level.TheVariants as level
-use Rattle.b2_access.specs.Views.{ChangeCame, DiskChanged, ChangeRefused, ChangeLater}
 use Rattle.b2_access.specs.declared.accesses.Access.{Access}
 use Rattle.b2_access.specs.declared.accesses.Access.TheVariants as access
-use Rattle.b2_access.specs.declared.planned.Outcome.{Outcome}
-use Rattle.b2_access.specs.declared.planned.Outcome.TheVariants as outcome
 use Rattle.b2_drive.specs.Drives.{DrivesSeen, drive_used}
 use Rattle.b2_drive.specs.FileNames.{name_given}
 
@@ -34,9 +31,3 @@ abbrev pub asks_to_format : DrivesSeen → Context → Trees → Result Access �
 asks_to_format d e (Put scratch (Put disk (In n drive (Put ls (Put is (In m index (Put comma (Put end (Put equals (In k last more)))))))))) =
     drive_used d drive >>= (λ addr. sectors_given e index >>= (λ i. sectors_given e last >>= (λ l. Ok (access.Format addr i l))))
 asks_to_format d e t = Err S17_NUMERIC
-
--- how they finish: it was done, or refused with a code, or it is asked for again
-abbrev pub change_ends : ChangeCame → Outcome
-change_ends DiskChanged = outcome.Next
-change_ends (ChangeRefused code) = outcome.Failed code
-change_ends ChangeLater = outcome.Repeat

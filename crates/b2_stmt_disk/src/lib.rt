@@ -1,7 +1,7 @@
-//! Statements on disks: LIMITS, SCRATCH, SCRATCH DISK, LIST DC and SELECT DISK.
+//! Statements on disks: LIMITS, SCRATCH, SCRATCH DISK, LIST DC, MOVE and SELECT DISK.
 //!
 //! `plan` takes the statement at a partition's place, over the devices that there are: it ends at once, or asks for an access of
-//! one platter, which the partition may use; `finish` does the rest by the answer. What each statement does is said by its row
+//! one platter, or of two, which the partition may use; `finish` does the rest by the answer. What each statement does is said by its row
 //! and its tree in `specs/`: a statement or two a file, over drives and names of files in `b2_drive`; `Plan` finds the
 //! unit and chooses among them. `is_built` tells which rows are built here. `laws` says what a statement leaves alone, and for
 //! which devices it asks.
@@ -13,6 +13,7 @@
 pub mod laws;
 mod limits;
 mod listing;
+mod moving;
 mod planning;
 mod scratching;
 

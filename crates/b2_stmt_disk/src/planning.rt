@@ -11,7 +11,8 @@ ghost use Rattle.b2_stmt_disk.specs.Plan as spec;
 
 use crate::limits::{ask_limits, give_limits, told_by};
 use crate::listing::{ask_to_list, listing_of};
-use crate::scratching::{after_change, ask_to_format, ask_to_scratch};
+use crate::moving::ask_to_move;
+use crate::scratching::{ask_to_format, ask_to_scratch};
 use b2_access::{
     Access, Answer, DeviceTable, Lent, Outcome, Planned, Private, failed, goes_or, setting_of,
     statement_placed,
@@ -19,7 +20,7 @@ use b2_access::{
 use b2_atom::rows;
 use b2_base::codes::{S26_PROGRAM_ONLY, S27_LEFT_OUT};
 use b2_base::{Addr, Code, NoMemory};
-use b2_drive::{Drives, drives_for, select};
+use b2_drive::{Drives, after_change, asks_or_fails, drives_for, select};
 use b2_expr::{Env, Workspace, surroundings_of};
 use b2_rows::RowUnit;
 use std::alloc::Global;
@@ -30,7 +31,12 @@ pub fn is_built(row: u16) -> bool
 {
     matches!(
         row,
-        rows::LIMITS | rows::SCRATCH | rows::SCRATCH_DISK | rows::LIST_DISK | rows::SELECT_DISK
+        rows::LIMITS
+            | rows::SCRATCH
+            | rows::SCRATCH_DISK
+            | rows::LIST_DISK
+            | rows::MOVE
+            | rows::SELECT_DISK
     )
 }
 
@@ -51,17 +57,8 @@ fn ask(d: &Drives<'_>, e: &Env<'_>, unit: &RowUnit<'_>) -> Result<Access, Code>
         rows::SCRATCH => ask_to_scratch(d, e, unit.bytes),
         rows::SCRATCH_DISK => ask_to_format(d, e, unit.bytes),
         rows::LIST_DISK => ask_to_list(d, unit.bytes),
+        rows::MOVE => ask_to_move(d, e, unit.bytes),
         _ => Err(Code::known(S27_LEFT_OUT)),
-    }
-}
-
-/// An access is asked for, or it is a fault.
-fn asks_or_fails(asked: Result<Access, Code>) -> Planned
-    ensures { result ≡ spec.asks_or_fails asked }
-{
-    match asked {
-        Ok(access) => Planned::Ask(access),
-        Err(code) => Planned::Done(Outcome::Failed(code)),
     }
 }
 
@@ -145,7 +142,7 @@ pub fn finish(
             let code = give_limits(&mut work, told, unit.bytes)?;
             Ok(goes_or(Outcome::Next, code))
         }
-        rows::SCRATCH | rows::SCRATCH_DISK => Ok(after_change(access, answer)),
+        rows::SCRATCH | rows::SCRATCH_DISK | rows::MOVE => Ok(after_change(access, answer)),
         rows::LIST_DISK => {
             let Some(listing) = listing_of(alloc, access, answer)? else {
                 return Ok(Outcome::Repeat);

@@ -1,7 +1,5 @@
-// SCRATCH and SCRATCH DISK: what they ask for, and how they finish.
+// SCRATCH and SCRATCH DISK: what they ask for.
 ghost use Rattle.std.specs.Prelude.{◌≡◌, true};
-ghost use Rattle.b2_access.specs.Answering.{can_answer};
-ghost use Rattle.b2_access.specs.Views.{change_came};
 ghost use Rattle.b2_atom.specs.declared.rows.TheConstants as row;
 ghost use Rattle.b2_rows.specs.Rows.{is_part, tree_at};
 ghost use Rattle.b2_expr.specs.Scope.{surroundings};
@@ -9,7 +7,7 @@ ghost use Rattle.b2_expr.specs.Value.{in_statement};
 ghost use Rattle.b2_drive.specs.Drives.{drives_seen};
 ghost use Rattle.b2_stmt_disk.specs.Scratching as spec;
 
-use b2_access::{Access, Answer, Outcome};
+use b2_access::Access;
 use b2_atom::Cursor;
 use b2_base::Code;
 use b2_base::codes::P34_RANGE;
@@ -75,25 +73,5 @@ pub fn ask_to_format(d: &Drives<'_>, e: &Env<'_>, unit: &[u8]) -> Result<Access,
     match sectors_at(e, second) {
         Ok(end) => Ok(Access::Format { addr, index, end }),
         Err(code) => Err(code),
-    }
-}
-
-/// How SCRATCH and SCRATCH DISK finish.
-pub fn after_change(access: &Access, answer: &Answer) -> Outcome
-    requires possible { can_answer access.now answer.now ≡ true }
-    ensures { result ≡ spec.change_ends (change_came access.now answer.now) }
-{
-    match access {
-        Access::Scratch { .. }
-        | Access::Format { .. }
-        | Access::SaveProgram { .. }
-        | Access::MovePlatter { .. }
-        | Access::MoveFile { .. } => match answer {
-            Answer::Done => Outcome::Next,
-            Answer::Refused(code) => Outcome::Failed(*code),
-            Answer::Wait(_) => Outcome::Repeat,
-            _ => unreachable!(),
-        },
-        _ => Outcome::Repeat,
     }
 }

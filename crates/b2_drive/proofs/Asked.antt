@@ -1,0 +1,54 @@
+-- What statements on disks ask for: accesses that name no terminal and mark no home, at platters that the partition may use.
+use Rattle.std.proofs.Common.{◌≡◌, ℕ, Bool, true, false, if◌then◌else◌, List, Option, Some, None, Result, Ok, Err, refl}
+use Rattle.b2_base.specs.declared.codes.TheConstants.{P48_DEVICE}
+use Rattle.b2_atom.specs.Tree.{Trees}
+use Rattle.b2_expr.specs.Answers.{◌>>=◌}
+use Rattle.b2_access.specs.Causes.{terminal_of}
+use Rattle.b2_access.specs.Devices.{is_platter_for}
+use Rattle.b2_access.specs.Homes.{HomesIn, homes_of}
+use Rattle.b2_access.specs.OwnDevices.{ReachesListed}
+use Rattle.b2_access.specs.OwnTerminal.{NamesAlone}
+use Rattle.b2_access.specs.Touching.{IsLegal}
+use Rattle.b2_access.specs.declared.accesses.Access.{Access}
+use Rattle.b2_access.specs.declared.devices.Device.{Device}
+use Rattle.b2_access.specs.declared.planned.Outcome.TheVariants as outcome
+use Rattle.b2_access.specs.declared.planned.Planned.{Planned}
+use Rattle.b2_access.specs.declared.planned.Planned.TheVariants as planned
+use Rattle.b2_access.proofs.Homes.{marks_none}
+use Rattle.b2_access.proofs.OwnTerminal.{names_none}
+use Rattle.b2_drive.specs.Asking.{asks_or_fails}
+use Rattle.b2_drive.specs.Drives.{DrivesSeen, device_named, drive_used, platter_meant, platter_used}
+
+-- an access that reaches devices that are listed for a partition, names no terminal, marks no home, and may be asked for
+pub record Fits (devices : List Device) (who : ℕ) (a : Access) : Type 0 where
+  pub listed : ReachesListed devices who a
+  pub terminal : terminal_of a ≡ None
+  pub homes : homes_of a ≡ 0
+  pub legal : IsLegal a
+
+pub names_no_terminal : (devices : List Device) (who t : ℕ) (a : Access) → Fits devices who a → NamesAlone t a
+names_no_terminal devices who t a fits = names_none t a (Fits.terminal fits)
+
+pub marks_no_home : (devices : List Device) (who : ℕ) (among : ℕ → Bool) (a : Access) → Fits devices who a → HomesIn among a
+marks_no_home devices who among a fits = marks_none among a (Fits.homes fits)
+
+-- What holds of each refusal, and of each access that fits, holds of what is asked for after a drive.
+module _ (F : Planned → Type 0) (d : DrivesSeen) (failed : (code : ℕ) → F (planned.Done (outcome.Failed code))) where
+  abbrev pub Asked : Result Access ℕ → Type 0
+  Asked r = F (asks_or_fails r)
+
+  at_platter : (b : Bool) (a : List ℕ) (next : List ℕ → Result Access ℕ) → is_platter_for d.who a d.devices ≡ b → ((x : List ℕ) → is_platter_for d.who x d.devices ≡ true → Asked (next x))
+      → Asked ((if b then Ok a else Err P48_DEVICE) >>= next)
+  at_platter true a next is h = h a is
+  at_platter false a next is h = failed P48_DEVICE
+
+  pub after_platter : (o : Option (List ℕ)) (next : List ℕ → Result Access ℕ) → ((x : List ℕ) → is_platter_for d.who x d.devices ≡ true → Asked (next x)) → Asked (platter_used d o >>= next)
+  after_platter None next h = failed P48_DEVICE
+  after_platter (Some a) next h = at_platter (is_platter_for d.who a d.devices) a next refl h
+
+  pub after_drive : (t : Trees) (next : List ℕ → Result Access ℕ) → ((x : List ℕ) → is_platter_for d.who x d.devices ≡ true → Asked (next x)) → Asked (drive_used d t >>= next)
+  after_drive t next h = after_platter (platter_meant (device_named t) d.selected) next h
+
+  pub after_value : {A : Type 0} (r : Result A ℕ) (next : A → Result Access ℕ) → ((x : A) → Asked (next x)) → Asked (r >>= next)
+  after_value (Ok x) next h = h x
+  after_value (Err code) next h = failed code

@@ -1,0 +1,69 @@
+-- Where a statement on programs leads is the own text or no other place, and what it asks for marks no home.
+use Rattle.std.proofs.Common.{ℕ, Bool, true, false, List, Option, Some, None}
+use Rattle.b2_flow.specs.declared.frame.Frame.{Frame}
+use Rattle.b2_flow.specs.declared.frame.Place.{Place}
+use Rattle.b2_text.specs.Program.{Lines, number_after}
+use Rattle.b2_access.specs.Homes.{FinishesWithin, FramesIn, IsWithin, OutcomeIn, PlaceIn, PlannedIn, PlansWithin}
+use Rattle.b2_access.specs.Lending.{SeenLent}
+use Rattle.b2_access.specs.Steering.{Steered, put_control}
+use Rattle.b2_access.specs.Views.{ChangeCame, DiskChanged, ChangeRefused, ChangeLater, ProgramCame, ProgramLoaded, ProgramLocked, ProgramRefused, ProgramLater, change_came, program_came}
+use Rattle.b2_access.specs.declared.accesses.Access.{Access}
+use Rattle.b2_access.specs.declared.accesses.Answer.{Answer}
+use Rattle.b2_access.specs.declared.devices.Device.{Device}
+use Rattle.b2_access.specs.declared.private.Private.{Private}
+use Rattle.b2_access.proofs.Working as form
+use Rattle.b2_drive.specs.Asking.{change_ends}
+use Rattle.b2_drive.proofs.Asked.{marks_no_home}
+use Rattle.b2_stmt_program.specs.Loading.{loaded, loading_ends, replacing, started}
+use Rattle.b2_stmt_program.specs.Plan.{ended_by, ends, finish, plan, works}
+use Rattle.b2_stmt_program.proofs.Planned.{each_planned}
+
+pub plans_within : (devices : List Device) → PlansWithin (plan devices)
+plans_within devices =
+    form.plans_within (works devices)
+    (λ among me s k. each_planned devices me s (PlannedIn among) tt (λ code. tt) (λ a fits. marks_no_home devices me.part among a fits))
+
+module _ (among : ℕ → Bool) where
+  -- what a statement leaves names only these
+  abbrev Left : Option Place → List Frame → Type 0
+  Left kept frames = PlaceIn among kept × FramesIn among frames
+
+  EndedIn : Steered → Type 0
+  EndedIn e = Left e.control.kept e.control.stack × OutcomeIn among e.outcome
+
+  started_in : (n : Option ℕ) (me : Private) → IsWithin among me → EndedIn (started n me)
+  unfolding EndedIn
+  started_in None me w = ((tt, tt), tt)
+  started_in (Some n) me w = ((tt, tt), w.part)
+
+  loaded_in : (replace : Bool) (own : Lines) (me : Private) → IsWithin among me → EndedIn (loaded replace own me)
+  unfolding EndedIn
+  loaded_in true own me w = started_in (number_after None own) me w
+  loaded_in false own me w = ((tt, tt), tt)
+
+  loading_in : (k : ProgramCame) (replace : Bool) (own : Lines) (me : Private) → IsWithin among me → EndedIn (loading_ends k replace own me)
+  unfolding EndedIn
+  loading_in ProgramLoaded replace own me w = loaded_in replace own me w
+  loading_in ProgramLocked replace own me w = ((w.kept, w.frames), tt)
+  loading_in (ProgramRefused code) replace own me w = ((w.kept, w.frames), tt)
+  loading_in ProgramLater replace own me w = ((w.kept, w.frames), tt)
+
+  change_in : (k : ChangeCame) → OutcomeIn among (change_ends k)
+  change_in DiskChanged = tt
+  change_in (ChangeRefused code) = tt
+  change_in ChangeLater = tt
+
+  ended_in : (o : Option Bool) (x : Access) (a : Answer) (own : Lines) (me : Private) → IsWithin among me → EndedIn (ended_by o x a own me)
+  unfolding EndedIn
+  ended_in (Some replace) x a own me w = loading_in (program_came x a) replace own me w
+  ended_in None x a own me w = ((w.kept, w.frames), change_in (change_came x a))
+
+  put_in : (me : Private) (e : Steered) → IsWithin among me → Left e.control.kept e.control.stack → IsWithin among (put_control e.control me)
+  put_in me e w h = record { part = w.part; place = w.place; kept = h.0; frames = h.1 }
+
+  finished_in : (x : Access) (a : Answer) (me : Private) (s : SeenLent) → IsWithin among me → IsWithin among (finish x a me s).me × OutcomeIn among (finish x a me s).outcome
+  unfolding EndedIn
+  finished_in x a me s w = let h = ended_in (replacing x) x a s.own.lines me w in (put_in me (ends x a s.own.lines me) w h.0, h.1)
+
+pub finishes_within : FinishesWithin finish
+finishes_within among x a me s w = finished_in among x a me s w

@@ -1,0 +1,69 @@
+-- What statements on programs on disks plan: they ask for an access at a platter that the partition may use; and how they finish.
+use Rattle.std.specs.Prelude.{ℕ, ◌==◌, ◌||◌, Bool, is_some, List, None, Result, Ok, refl}
+use Rattle.b2_base.specs.declared.codes.TheConstants.{S18_ALPHA, S26_PROGRAM_ONLY, S27_LEFT_OUT}
+use Rattle.b2_atom.specs.Tree.{Trees}
+use Rattle.b2_atom.specs.Tree.Trees.{Done, Put, In}
+use Rattle.b2_atom.specs.declared.rows.TheConstants as row
+use Rattle.b2_expr.specs.Answers.{◌>>=◌}
+use Rattle.b2_expr.specs.Scope.{Context}
+use Rattle.b2_expr.specs.Value.{context_of}
+use Rattle.b2_expr.specs.Workspace.{work_in}
+use Rattle.b2_access.specs.Lending.{SeenLent}
+use Rattle.b2_access.specs.Partition.{setting_of}
+use Rattle.b2_access.specs.Working.{Working, planned_of, stops}
+use Rattle.b2_access.specs.declared.accesses.Access.{Access}
+use Rattle.b2_access.specs.declared.accesses.Access.TheVariants as access
+use Rattle.b2_access.specs.declared.devices.Device.{Device}
+use Rattle.b2_access.specs.declared.planned.Outcome.TheVariants as outcome
+use Rattle.b2_access.specs.declared.planned.Planned.{Planned}
+use Rattle.b2_access.specs.declared.planned.Planned.TheVariants as planned
+use Rattle.b2_access.specs.declared.private.Private.{Private}
+use Rattle.b2_access.proofs.Choice.{either}
+use Rattle.b2_access.proofs.Courses.{each_course}
+use Rattle.b2_drive.specs.Asking.{asks_or_fails}
+use Rattle.b2_drive.specs.Drives.{DrivesSeen, drives_of}
+use Rattle.b2_drive.specs.FileNames.{name_given}
+use Rattle.b2_drive.proofs.Asked.{Fits, after_drive, after_value}
+use Rattle.b2_stmt_program.specs.Loading.{asks_to_load}
+use Rattle.b2_stmt_program.specs.Plan.{asked_of, does, is_refused, works}
+use Rattle.b2_stmt_program.specs.Saving.{asks_to_save, lines_saved, old_named, saves}
+
+-- what holds of each refusal, and of each access that fits
+module _ (F : Planned → Type 0) (d : DrivesSeen) (failed : (code : ℕ) → F (planned.Done (outcome.Failed code))) (asks : (a : Access) → Fits d.devices d.who a → F (planned.Ask a)) where
+  Asked : Result Access ℕ → Type 0
+  Asked r = F (asks_or_fails r)
+
+  save_asked : (e : Context) (t : Trees) → Asked (asks_to_save d e t)
+  unfolding Asked
+  save_asked e (Put word (In n drive (In k old (In m name lines)))) =
+      after_drive F d failed drive (λ addr. old_named e (In k old Done) >>= (λ o. name_given e name >>= (λ x. Ok (saves addr o x (lines_saved lines)))))
+      (λ addr listed. after_value F d failed (old_named e (In k old Done)) (λ o. name_given e name >>= (λ x. Ok (saves addr o x (lines_saved lines))))
+      (λ o. after_value F d failed (name_given e name) (λ x. Ok (saves addr o x (lines_saved lines)))
+      (λ x. asks (saves addr o x (lines_saved lines)) (record { listed = (listed, tt); terminal = refl; homes = refl; legal = tt }))))
+  save_asked e t = failed S18_ALPHA
+
+  load_asked : (e : Context) (program : Bool) (t : Trees) → Asked (asks_to_load d e program t)
+  unfolding Asked
+  load_asked e program (Put word (In k run (In n drive (In m name end)))) =
+      after_drive F d failed drive (λ addr. name_given e name >>= (λ x. Ok (access.LoadProgram addr x (k == 1 || program) None 0)))
+      (λ addr listed. after_value F d failed (name_given e name) (λ x. Ok (access.LoadProgram addr x (k == 1 || program) None 0))
+      (λ x. asks (access.LoadProgram addr x (k == 1 || program) None 0) (record { listed = (listed, tt); terminal = refl; homes = refl; legal = tt })))
+  load_asked e program t = failed S18_ALPHA
+
+  each_asked : (e : Context) (program : Bool) (r : ℕ) (t : Trees) → F (asks_or_fails (asked_of d e program r t))
+  unfolding Asked
+  each_asked e program r t =
+      either Asked (r == row.SAVE) _ _ (save_asked e t)
+      (either Asked (r == row.LOAD) _ _ (load_asked e program t) (failed S27_LEFT_OUT))
+
+-- so also of what the statement at a place plans
+module _ (devices : List Device) (me : Private) (s : SeenLent) (F : Planned → Type 0) (ready : F (planned.Done outcome.Ready)) (failed : (code : ℕ) → F (planned.Done (outcome.Failed code)))
+    (asks : (a : Access) → Fits devices me.part a → F (planned.Ask a)) where
+  Each : Working → Type 0
+  Each k = F (planned_of k)
+
+  pub each_planned : F (planned_of (works devices me s))
+  unfolding Each
+  each_planned =
+      each_course is_refused stops (does devices me s) me s Each ready (failed S26_PROGRAM_ONLY)
+      (λ p is u. each_asked F (drives_of devices me) failed asks (context_of (work_in (setting_of me) s.home me.vars)) (is_some p.line) u.row u.tree)

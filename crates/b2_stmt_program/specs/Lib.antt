@@ -1,0 +1,4 @@
+pub mod Saving
+pub mod Loading
+pub mod Plan
+pub mod Laws

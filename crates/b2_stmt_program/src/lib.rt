@@ -1,0 +1,18 @@
+//! Statements on programs on disks: SAVE and LOAD.
+//!
+//! `plan` takes the statement at a partition's place, over the devices that there are: it asks for an access of a platter, which
+//! the partition may use, and its own text; `finish` does the rest by the access and its answer, and by the text as it then is.
+//! What each statement does is said by its row and its tree in `specs/`: a statement a file, over drives and names of files in
+//! `b2_drive`; `Plan` finds the unit and chooses among them. `is_built` tells which rows are built here. `laws` says what a
+//! statement leaves alone, and for which devices it asks.
+//!
+//! Stands on `b2_drive` for drives and names, on `b2_expr` for values, on `b2_access` for the private state, devices, loans and
+//! accesses, on `b2_rows` for units, and on `b2_text`, `b2_vars`, `b2_flow`, `b2_atom`, `b2_dec` and `b2_base`.
+#![tactic(auto)]
+
+pub mod laws;
+mod loading;
+mod planning;
+mod saving;
+
+pub use planning::{finish, is_built, plan};
