@@ -17,6 +17,7 @@
 mod additions;
 mod changes;
 mod entry;
+pub mod laws;
 mod lines;
 mod lookup;
 mod making;

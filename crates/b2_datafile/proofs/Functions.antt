@@ -114,7 +114,7 @@ ending image e pos n values r =
     rw (le-leb 1 n some, le-leb (e.start + n) pos r.within)
     (ap (of_length n) there ∙ ap (λ (b : Bool). if b then Some (values, n) else None) (eq-eqb n n refl))
 
-before-value : (image : List ℕ) (e : Entry) (pos n : ℕ) (values : List Value) → IsRecordBefore image e pos values n → record_before image e pos ≡ Some (values, n)
+pub before-value : (image : List ℕ) (e : Entry) (pos n : ℕ) (values : List Value) → IsRecordBefore image e pos values n → record_before image e pos ≡ Some (values, n)
 before-value image e pos n values r = ap (ending_before image e pos) (before-number image e pos n values r) ∙ ending image e pos n values r
 
 -- what is found before a place ends there
@@ -126,7 +126,7 @@ found-length n (Some other) found e = by_test (other.1 == n) refl e
     by_test true is same = let one : other ≡ found = cc in (same, ap (λ (f : List Value × ℕ). f.1) (sym one) ∙ eqb-true other.1 n is)
     by_test false is same = cc
 
-found-before : (image : List ℕ) (e : Entry) (pos n : ℕ) (found : List Value × ℕ) → ending_before image e pos n ≡ Some found → IsRecordBefore image e pos found.0 n
+pub found-before : (image : List ℕ) (e : Entry) (pos n : ℕ) (found : List Value × ℕ) → ending_before image e pos n ≡ Some found → IsRecordBefore image e pos found.0 n
 found-before image e pos n found same = by_test (nat_le 1 n && nat_le (e.start + n) pos) refl same
   where
     by_test : (b : Bool) → (nat_le 1 n && nat_le (e.start + n) pos) ≡ b → (if b then of_length n (record_at image (pos - n) (pos - 1)) else None) ≡ Some found → IsRecordBefore image e pos found.0 n
