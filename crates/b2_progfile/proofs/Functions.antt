@@ -63,7 +63,7 @@ first-none : (a b : Option ℕ) → or_then a b ≡ None → a ≡ None
 first-none None b h = refl
 first-none (Some code) b h = cc
 
-make-allowed : (image : List ℕ) (old : Option (List ℕ)) (name : List ℕ) (count : ℕ) → save_refusal image old name count ≡ None → make_refusal image old name (count + 1) ≡ None
+pub make-allowed : (image : List ℕ) (old : Option (List ℕ)) (name : List ℕ) (count : ℕ) → save_refusal image old name count ≡ None → make_refusal image old name (count + 1) ≡ None
 make-allowed image None name count h = h
 make-allowed image (Some old) name count h = first-none (reuse_refusal image old name) (size_refusal (get (catalogue image) old) count) h
 
