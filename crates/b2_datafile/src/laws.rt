@@ -1,6 +1,6 @@
 //! What saving and ending do to the records of a file, and what loading and moving give. Each call does nothing: its
 //! contract is the law.
-ghost use Rattle.std.specs.Prelude.{◌≡◌, ◌+◌, ◌-◌, ◌<◌, ◌≤◌, [], ◌∷◌, ◌++◌, ℕ, List, length, Some, None, Ok, Err};
+ghost use Rattle.std.specs.Prelude.{◌≡◌, ◌+◌, ◌-◌, ◌<◌, ◌≤◌, [], ◌∷◌, ◌++◌, ℕ, List, length, Option, Some, None, Ok, Err};
 ghost use Rattle.std.specs.FinMap.{insert};
 ghost use Rattle.b2_base.specs.declared.codes.Fault.TheVariants as fault;
 ghost use Rattle.b2_base.specs.declared.files.By.{By as Way};
@@ -13,8 +13,9 @@ ghost use Rattle.b2_platter.specs.Checks.{Good};
 ghost use Rattle.b2_platter.specs.Edits.{put_from};
 ghost use Rattle.b2_catalog.specs.declared.entry.Entry.{Entry as File};
 ghost use Rattle.b2_catalog.specs.Catalogue.{catalogue};
+ghost use Rattle.b2_catalog.specs.Making.{make_refusal};
 ghost use Rattle.b2_record.specs.Writing.{record_of};
-ghost use Rattle.b2_datafile.specs.Files.{IsEndOfRecords, IsFront, IsWhole, with_end};
+ghost use Rattle.b2_datafile.specs.Files.{IsEndOfRecords, IsFront, IsWhole, MadeEmpty, new_opened, with_end};
 ghost use Rattle.b2_datafile.specs.Laws.{SavesAt, EndsAt};
 ghost use Rattle.b2_datafile.specs.Loading.{LoadFails, Loads, LoadsRecord, values_loaded};
 ghost use Rattle.b2_datafile.specs.Moving.{Moves, SkipFails, place_moved};
@@ -49,6 +50,12 @@ pub fn ending_leaves_the_rest()
 /// The records up to a place are told by the sectors.
 pub fn one_list_of_records_fills()
     ensures { (image : List ℕ) (e : File) (pos : ℕ) (a b : List (List AnyValue)) → IsFront image e pos a → IsFront image e pos b → a ≡ b }
+{}
+
+/// What the function of making a data file says is a file with no records, or the refusal's code.
+pub fn a_new_file_is_empty()
+    ensures made { (image addr : List ℕ) (old : Option (List ℕ)) (sectors : ℕ) (name new : List ℕ) (slot : OpenFile) → new_opened image addr old sectors name ≡ Ok (new, slot) → (make_refusal image old name sectors ≡ None) × MadeEmpty image old name sectors new }
+    ensures refused { (image addr : List ℕ) (old : Option (List ℕ)) (sectors : ℕ) (name : List ℕ) (code : ℕ) → new_opened image addr old sectors name ≡ Err code → make_refusal image old name sectors ≡ Some code }
 {}
 
 /// What a load gives is what stands at the place: the end of the records, a record whose first values are those that are
