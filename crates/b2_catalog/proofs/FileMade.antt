@@ -1,5 +1,5 @@
--- The file that is made, as a function says it.
-use Rattle.std.proofs.Common.{◌≡◌, ℕ, ◌&&◌, Bool, true, not, List, Option, Some, None, Result, Ok, Err, IfOk, IfErr, IfSome, OnOk, refl, sym, ap, ap₂, subst, ◌∙◌}
+-- The file that is made, as a function says it, and what that says.
+use Rattle.std.proofs.Common.{◌≡◌, ℕ, ◌&&◌, ◌⊎◌, inl, inr, Bool, true, not, List, Option, Some, None, Result, Ok, Err, IfOk, IfErr, IfSome, OnOk, refl, sym, ap, ap₂, subst, ◌∙◌}
 use Rattle.std.specs.Prelude.{is_some, is_none}
 use Rattle.std.specs.Str.{bytes_eq}
 use Rattle.std.specs.FinMap.{get}
@@ -74,3 +74,68 @@ pub made-value : (image : List ℕ) (old : Option (List ℕ)) (name : List ℕ) 
     → MakesFile image old name program sectors new e → file_made image old name program sectors ≡ Ok (new, e)
 made-value image None name program sectors new e none made = made-new image name program sectors new e none made.0 made.1
 made-value image (Some old) name program sectors new e none made = made-again image old name program sectors new e none made.0 made.1
+
+-- ---- what the function says, as a relation
+
+pub allowed-ok : {A : Type 0} (o : Option ℕ) (r : Result A ℕ) (x : A) → unless_refused o r ≡ Ok x → (o ≡ None) × (r ≡ Ok x)
+allowed-ok None r x h = (refl, h)
+allowed-ok (Some code) r x h = cc
+
+pub refused-code : {A : Type 0} (o : Option ℕ) (r : Result A ℕ) (code : ℕ) → unless_refused o r ≡ Err code → (o ≡ Some code) ⊎ ((o ≡ None) × (r ≡ Err code))
+refused-code None r code h = inr (refl, h)
+refused-code {A} (Some other) r code h = let same : other ≡ code = cc in inl (ap Some same)
+
+new-parts : (image name : List ℕ) (program : Bool) (sectors : ℕ) (new : List ℕ) (e : Entry) (o : Option ℕ) → new_file image name program sectors o ≡ Ok (new, e)
+    → (e ≡ new_entry image name program sectors) × IfSome o (λ k. new ≡ entered image k name program sectors)
+new-parts image name program sectors new e None h = cc
+new-parts image name program sectors new e (Some k) h =
+    let same : (entered image k name program sectors, new_entry image name program sectors) ≡ (new, e) = cc in
+    (sym (ap (λ (p : List ℕ × Entry). p.1) same), sym (ap (λ (p : List ℕ × Entry). p.0) same))
+
+again-parts : (image name : List ℕ) (program : Bool) (new : List ℕ) (e : Entry) (w : Option Entry) (o p : Option ℕ) → file_again image name program w o p ≡ Ok (new, e)
+    → IfSome w (λ was. e ≡ record was { name = name; live = true; program = program }) × IfSome o (λ k. IfSome p (λ to. new ≡ reused image k to name program))
+again-parts image name program new e None o p h = cc
+again-parts image name program new e (Some was) None p h = cc
+again-parts image name program new e (Some was) (Some k) None h = cc
+again-parts image name program new e (Some was) (Some k) (Some to) h =
+    let file : Entry = record was { name = name; live = true; program = program } in
+    let same : (reused image k to name program, file) ≡ (new, e) = cc in
+    (sym (ap (λ (p : List ℕ × Entry). p.1) same), sym (ap (λ (p : List ℕ × Entry). p.0) same))
+
+given-parts : (image : List ℕ) (old : Option (List ℕ)) (name : List ℕ) (program : Bool) (sectors : ℕ) (new : List ℕ) (e : Entry) → file_given image old name program sectors ≡ Ok (new, e)
+    → MakesFile image old name program sectors new e
+given-parts image None name program sectors new e h = new-parts image name program sectors new e (place image name) h
+given-parts image (Some old) name program sectors new e h = again-parts image name program new e (get (catalogue image) old) (slot_found image old) (reused_place image old name) h
+
+pub made-is : (image : List ℕ) (old : Option (List ℕ)) (name : List ℕ) (program : Bool) (sectors : ℕ) (new : List ℕ) (e : Entry) → file_made image old name program sectors ≡ Ok (new, e)
+    → (make_refusal image old name sectors ≡ None) × MakesFile image old name program sectors new e
+unfolding file_made
+made-is image old name program sectors new e h =
+    let parts = allowed-ok (make_refusal image old name sectors) (file_given image old name program sectors) (new, e) h in
+    (parts.0, given-parts image old name program sectors new e parts.1)
+
+-- where nothing is refused a file is given
+given : (image : List ℕ) (old : Option (List ℕ)) (name : List ℕ) (program : Bool) (sectors : ℕ) → make_refusal image old name sectors ≡ None → (f : List ℕ × Entry) × (file_given image old name program sectors ≡ Ok f)
+given image None name program sectors none =
+    let n = enters image name sectors none in
+    ((entered image n.k name program sectors, new_entry image name program sectors), ap (new_file image name program sectors) n.place_is)
+given image (Some old) name program sectors none =
+    let first = refused-by (not (bytes_eq old name) && is_some (get (catalogue image) name)) true (old_refusal (get (catalogue image) old) (not (bytes_eq old name) && is_none (place image name))) D83_NAME_PRESENT none in
+    let parts = old-parts (get (catalogue image) old) (not (bytes_eq old name) && is_none (place image name)) first.1 in
+    let was = some-entry (get (catalogue image) old) parts.0 in
+    let k = slot-by image old (slot_found image old) refl parts.0 in
+    let to = goes-by (bytes_eq old name) (slot_found image old) (place image name) k.0 k.1 parts.1 in
+    let file : Entry = record was.0 { name = name; live = true; program = program } in (
+      (reused image k.0 to.0 name program, file),
+      ap (λ (o : Option Entry). file_again image name program o (slot_found image old) (reused_place image old name)) was.1
+          ∙ (ap (λ (o : Option ℕ). file_again image name program (Some was.0) o (reused_place image old name)) k.1
+          ∙ ap (λ (o : Option ℕ). file_again image name program (Some was.0) (Some k.0) o) to.1),
+    )
+
+pub refused-is : (image : List ℕ) (old : Option (List ℕ)) (name : List ℕ) (program : Bool) (sectors code : ℕ) → file_made image old name program sectors ≡ Err code → make_refusal image old name sectors ≡ Some code
+unfolding file_made
+refused-is image old name program sectors code h =
+    elim (refused-code (make_refusal image old name sectors) (file_given image old name program sectors) code h) as (λ _. make_refusal image old name sectors ≡ Some code) [
+      | inl refused ↦ refused
+      | inr other ↦ (let g = given image old name program sectors other.0 in let bad : Ok g.0 ≡ Err code = sym g.1 ∙ other.1 in cc)
+    ]

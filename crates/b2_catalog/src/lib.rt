@@ -11,12 +11,13 @@
 //! Stands on `b2_base` and `b2_platter`, and on `itoa` for the numbers of a listing. The definitions are in `specs/`:
 //! `Catalogue` for the map, `Ways` for the look-up and the place of a new name, `Changes` for images with rows and sectors
 //! in place, `Calls` for what the calls refuse and do, `Making` for a file that is new or taken again, `Listing` for the
-//! lines of a listing.
+//! lines of a listing, and `Results` for what a call gives where a function says it.
 #![tactic(auto)]
 
 mod additions;
 mod changes;
 mod entry;
+pub mod laws;
 mod lines;
 mod lookup;
 mod making;

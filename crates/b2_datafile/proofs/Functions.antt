@@ -1,11 +1,10 @@
 -- What is loaded, and where a place goes, as functions say it.
 use Rattle.std.proofs.Common.{◌≡◌, ℕ, zero, suc, ◌+◌, ◌-◌, ◌<◌, ◌≤◌, ◌==◌, ◌&&◌, Bool, true, false, nat_le, min, if◌then◌else◌, List, length, take, Option, Some, None, Result, Ok, Err, IfOk, IfErr, slice_index, refl, sym, ap, ap₂, ◌∙◌, subst, arith, le-leb, le-ltb, lt-ltb, inl, inr}
-use Rattle.std.specs.Global.{Vec as GlobalVec}
 use Rattle.std.proofs.lemmas.Bool.{and_parts, eq-eqb, eqb-true, false_from_ne_true, leb-true, or_from, or_left, or_right}
 use Rattle.std.proofs.lemmas.Slice.Eq.{bytes_eq-Decides}
 use Rattle.b2_base.specs.declared.codes.Fault.{Fault}
 use Rattle.b2_base.specs.declared.codes.Fault.TheVariants as fault
-use Rattle.b2_base.specs.declared.codes.TheConstants.{D88_FORMAT, X70_TOO_LITTLE, X74_OTHER_KIND}
+use Rattle.b2_base.specs.declared.codes.TheConstants.{D80_NOT_OPEN, D88_FORMAT, X70_TOO_LITTLE, X74_OTHER_KIND}
 use Rattle.b2_base.specs.declared.files.Slot.{Slot}
 use Rattle.b2_base.specs.declared.files.By.{By}
 use Rattle.b2_base.specs.declared.files.By.TheVariants as by
@@ -14,13 +13,14 @@ use Rattle.b2_catalog.specs.Results.{FailsBy}
 use Rattle.b2_dec.specs.declared.values.Kind.{Kind}
 use Rattle.b2_dec.specs.declared.values.Value.{Value}
 use Rattle.b2_platter.specs.Image.{sector, sectors_at}
-use Rattle.b2_record.specs.Records.{Spells}
+use Rattle.b2_platter.specs.Reading.{Unspelled}
+use Rattle.b2_record.specs.Records.{IsNoRecord, Spells}
 use Rattle.b2_record.specs.Reading.{record_at}
 use Rattle.b2_record.proofs.ReadBack.{at-read, none-read, read-at}
 use Rattle.b2_datafile.specs.Files.{IsEndOfRecords, end_mark, ends_records}
 use Rattle.b2_datafile.specs.Slots.{file_of}
-use Rattle.b2_datafile.specs.Loading.{IsRecordAt, LoadFails, Loads, LoadsRecord, RecordFails, agree, as_values, first_asked, loaded_from, values_loaded}
-use Rattle.b2_datafile.specs.Moving.{Ahead, Behind, IsNoRecordBefore, IsRecordBefore, Moves, NoMove, NoneAhead, NoneBehind, SkipFails, ending_before, moved_in, of_length, over, place_ahead, place_behind, place_moved, record_before}
+use Rattle.b2_datafile.specs.Loading.{IsRecordAt, LoadFails, LoadsRecord, RecordFails, agree, first_asked, loaded_from, values_loaded}
+use Rattle.b2_datafile.specs.Moving.{Ahead, Behind, IsNoRecordBefore, IsRecordBefore, NoneAhead, NoneBehind, ending_before, moved_in, of_length, over, place_ahead, place_behind, place_moved, record_before}
 use Rattle.b2_datafile.proofs.Passing.{before-number, before-some}
 
 -- ---- where the records end
@@ -73,20 +73,24 @@ record-fails image e pos kinds code (inr (values, n, there, inl other)) =
 record-fails image e pos kinds code (inr (values, n, there, inr few)) =
     ap (first_asked kinds pos) (here image e pos n values there) ∙ (too-few kinds pos n values few.1 few.2 ∙ ap Err (sym few.0))
 
-pub loads-value : (image : List ℕ) (slot : Slot) (kinds : List Kind) (given : Option (GlobalVec Value × ℕ)) → Loads image slot kinds given → values_loaded image slot kinds ≡ Ok (as_values given)
-unfolding values_loaded
-loads-value image slot kinds None h = at-end image h.0 slot.pos kinds (file_of image slot) h.1 h.2
-loads-value image slot kinds (Some found) h =
-    before-end image h.0 slot.pos kinds (file_of image slot) h.1 h.2 ∙ record-value image h.0 slot.pos kinds found.0.items found.1 h.3
-
-load-code : (image : List ℕ) (slot : Slot) (kinds : List Kind) (code : ℕ) → LoadFails image slot kinds (fault.Code code) → values_loaded image slot kinds ≡ Err code
+pub load-code : (image : List ℕ) (slot : Slot) (kinds : List Kind) (code : ℕ) → LoadFails image slot kinds (fault.Code code) → values_loaded image slot kinds ≡ Err code
 unfolding values_loaded
 load-code image slot kinds code (inl absent) = ap (loaded_from image slot.pos kinds) absent.1 ∙ ap Err (sym absent.0)
 load-code image slot kinds code (inr h) = before-end image h.0 slot.pos kinds (file_of image slot) h.1 h.2 ∙ record-fails image h.0 slot.pos kinds code h.3
 
-pub load-fails : (image : List ℕ) (slot : Slot) (kinds : List Kind) (f : Fault) → LoadFails image slot kinds f → FailsBy (values_loaded image slot kinds) f
-load-fails image slot kinds (fault.Code code) h = load-code image slot kinds code h
-load-fails image slot kinds fault.NoMemory h = tt
+pub unspelled-load : (image : List ℕ) (slot : Slot) (kinds : List Kind) (e : Entry) → file_of image slot ≡ Some e → (IsEndOfRecords image e slot.pos → ⊥)
+    → (f : Fault) → Unspelled (IsNoRecord image slot.pos (e.end - 1)) f → FailsBy (values_loaded image slot kinds) f
+unspelled-load image slot kinds e file on (fault.Code code) h = load-code image slot kinds code (inr (e, file, on, inl h))
+unspelled-load image slot kinds e file on fault.NoMemory h = tt
+
+pub record-loaded : (image : List ℕ) (slot : Slot) (kinds : List Kind) (e : Entry) (asked : List Value) (next : ℕ) → file_of image slot ≡ Some e → (IsEndOfRecords image e slot.pos → ⊥)
+    → LoadsRecord image e slot.pos kinds asked next → values_loaded image slot kinds ≡ Ok (Some (asked, next))
+unfolding values_loaded
+record-loaded image slot kinds e asked next file on r = before-end image e slot.pos kinds (file_of image slot) file on ∙ record-value image e slot.pos kinds asked next r
+
+pub nothing-loaded : (image : List ℕ) (slot : Slot) (kinds : List Kind) (e : Entry) → file_of image slot ≡ Some e → IsEndOfRecords image e slot.pos → values_loaded image slot kinds ≡ Ok None
+unfolding values_loaded
+nothing-loaded image slot kinds e file end = at-end image e slot.pos kinds (file_of image slot) file end
 
 -- ---- ahead
 
@@ -114,7 +118,7 @@ ending image e pos n values r =
     rw (le-leb 1 n some, le-leb (e.start + n) pos r.within)
     (ap (of_length n) there ∙ ap (λ (b : Bool). if b then Some (values, n) else None) (eq-eqb n n refl))
 
-before-value : (image : List ℕ) (e : Entry) (pos n : ℕ) (values : List Value) → IsRecordBefore image e pos values n → record_before image e pos ≡ Some (values, n)
+pub before-value : (image : List ℕ) (e : Entry) (pos n : ℕ) (values : List Value) → IsRecordBefore image e pos values n → record_before image e pos ≡ Some (values, n)
 before-value image e pos n values r = ap (ending_before image e pos) (before-number image e pos n values r) ∙ ending image e pos n values r
 
 -- what is found before a place ends there
@@ -126,7 +130,7 @@ found-length n (Some other) found e = by_test (other.1 == n) refl e
     by_test true is same = let one : other ≡ found = cc in (same, ap (λ (f : List Value × ℕ). f.1) (sym one) ∙ eqb-true other.1 n is)
     by_test false is same = cc
 
-found-before : (image : List ℕ) (e : Entry) (pos n : ℕ) (found : List Value × ℕ) → ending_before image e pos n ≡ Some found → IsRecordBefore image e pos found.0 n
+pub found-before : (image : List ℕ) (e : Entry) (pos n : ℕ) (found : List Value × ℕ) → ending_before image e pos n ≡ Some found → IsRecordBefore image e pos found.0 n
 found-before image e pos n found same = by_test (nat_le 1 n && nat_le (e.start + n) pos) refl same
   where
     by_test : (b : Bool) → (nat_le 1 n && nat_le (e.start + n) pos) ≡ b → (if b then of_length n (record_at image (pos - n) (pos - 1)) else None) ≡ Some found → IsRecordBefore image e pos found.0 n
@@ -166,30 +170,31 @@ behind-none image e (suc count) from (low, inr (values, n, there, rest)) =
 
 -- ---- a slot's place
 
-moves-in : (image : List ℕ) (e : Entry) (pos : ℕ) (way : By) (to : ℕ) → Moves image e pos way to → moved_in image pos way (Some e) ≡ Ok to
-moves-in image e pos (by.Forward count) to h = ahead-value image e count (min pos e.end) to h
-moves-in image e pos (by.Back count) to h = behind-value image e count (min pos e.end) to h
-moves-in image e pos by.Begin to h = ap Ok (sym h)
-moves-in image e pos by.End to h = ap Ok (sym h)
+module _ (image : List ℕ) (slot : Slot) (way : By) where
+  pub no-file : (code : ℕ) → code ≡ D80_NOT_OPEN → file_of image slot ≡ None → place_moved image slot way ≡ Err code
+  unfolding place_moved
+  no-file code is none = ap (moved_in image slot.pos way) none ∙ ap Err (sym is)
 
-no-move-in : (image : List ℕ) (e : Entry) (pos : ℕ) (way : By) → NoMove image e pos way → moved_in image pos way (Some e) ≡ Err D88_FORMAT
-no-move-in image e pos (by.Forward count) h = ahead-none image e count (min pos e.end) h
-no-move-in image e pos (by.Back count) h = behind-none image e count (min pos e.end) h
-no-move-in image e pos by.Begin h = absurd h
-no-move-in image e pos by.End h = absurd h
+  module _ (e : Entry) (file : file_of image slot ≡ Some e) where
+    pub moved-as : (other : By) → way ≡ other → place_moved image slot way ≡ moved_in image slot.pos other (Some e)
+    unfolding place_moved
+    moved-as other is = ap (moved_in image slot.pos way) file ∙ ap (λ (w : By). moved_in image slot.pos w (Some e)) is
 
-pub moves-value : (image : List ℕ) (slot : Slot) (way : By) (to : ℕ) → (e : Entry) × (file_of image slot ≡ Some e) × Moves image e slot.pos way to → place_moved image slot way ≡ Ok to
-unfolding place_moved
-moves-value image slot way to h = ap (moved_in image slot.pos way) h.1 ∙ moves-in image h.0 slot.pos way to h.2
+    pub forward-value : (count from to : ℕ) → way ≡ by.Forward count → from ≡ min slot.pos e.end → Ahead image e count from to → place_moved image slot way ≡ Ok to
+    forward-value count from to is place h = moved-as (by.Forward count) is ∙ ahead-value image e count (min slot.pos e.end) to (subst (λ (k : ℕ). Ahead image e count k to) place h)
 
-skip-code : (image : List ℕ) (slot : Slot) (way : By) (code : ℕ) → SkipFails image slot way (fault.Code code) → place_moved image slot way ≡ Err code
-unfolding place_moved
-skip-code image slot way code (inl absent) = ap (moved_in image slot.pos way) absent.1 ∙ ap Err (sym absent.0)
-skip-code image slot way code (inr h) = ap (moved_in image slot.pos way) h.1 ∙ (no-move-in image h.0 slot.pos way h.3 ∙ ap Err (sym h.2))
+    pub forward-fails : (count from : ℕ) → way ≡ by.Forward count → from ≡ min slot.pos e.end → (f : Fault) → Unspelled (NoneAhead image e count from) f → FailsBy (place_moved image slot way) f
+    forward-fails count from is place (fault.Code code) h =
+        moved-as (by.Forward count) is ∙ (ahead-none image e count (min slot.pos e.end) (subst (NoneAhead image e count) place h.1) ∙ ap Err (sym h.0))
+    forward-fails count from is place fault.NoMemory h = tt
 
-pub skip-fails : (image : List ℕ) (slot : Slot) (way : By) (f : Fault) → SkipFails image slot way f → FailsBy (place_moved image slot way) f
-skip-fails image slot way (fault.Code code) h = skip-code image slot way code h
-skip-fails image slot way fault.NoMemory h = tt
+    pub back-value : (count from to : ℕ) → way ≡ by.Back count → from ≡ min slot.pos e.end → Behind image e count from to → place_moved image slot way ≡ Ok to
+    back-value count from to is place h = moved-as (by.Back count) is ∙ behind-value image e count (min slot.pos e.end) to (subst (λ (k : ℕ). Behind image e count k to) place h)
+
+    pub back-fails : (count from : ℕ) → way ≡ by.Back count → from ≡ min slot.pos e.end → (f : Fault) → Unspelled (NoneBehind image e count from) f → FailsBy (place_moved image slot way) f
+    back-fails count from is place (fault.Code code) h =
+        moved-as (by.Back count) is ∙ (behind-none image e count (min slot.pos e.end) (subst (NoneBehind image e count) place h.1) ∙ ap Err (sym h.0))
+    back-fails count from is place fault.NoMemory h = tt
 
 -- ---- whole results
 

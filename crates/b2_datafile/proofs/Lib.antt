@@ -5,3 +5,4 @@ pub mod Saved
 pub mod Marked
 pub mod Functions
 pub mod Opened
+pub mod FromFunctions

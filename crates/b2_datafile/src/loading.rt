@@ -51,14 +51,18 @@ fn agree(kinds: &[Kind], values: &[Value]) -> bool
     true
 }
 
-/// Loads the record at a slot's place, as `load` does.
-fn load_record(
+/// Loads the record at a slot's place: its first values, as many as there are kinds, and the place after it; None where
+/// the records end there. D80 where the slot's file isn't there, else D88 where no record is spelled at the place, else
+/// X74 where a value is of another kind than asked, else X70 where more values are asked than there are.
+pub fn load(
     alloc: Global,
     p: &Platter,
     s: &Slot,
     kinds: &[Kind],
 ) -> Result<Option<(Vec<Value>, u32)>, Fault>
     requires { s.now.start ≤ s.now.pos }
+    ensures value { IfOk result (λ given. values_loaded p.now s.now kinds.now ≡ Ok (as_values given)) }
+    ensures fails { IfErr result (FailsBy (values_loaded p.now s.now kinds.now)) }
     ensures ok { IfOk result (Loads p.now s.now kinds.now) }
     ensures err { IfErr result (LoadFails p.now s.now kinds.now) }
 {
@@ -83,22 +87,4 @@ fn load_record(
     let mut asked = values;
     asked.truncate(kinds.len());
     Ok(Some((asked, pos + count)))
-}
-
-/// Loads the record at a slot's place: its first values, as many as there are kinds, and the place after it; None where
-/// the records end there. D80 where the slot's file isn't there, else D88 where no record is spelled at the place, else
-/// X74 where a value is of another kind than asked, else X70 where more values are asked than there are.
-pub fn load(
-    alloc: Global,
-    p: &Platter,
-    s: &Slot,
-    kinds: &[Kind],
-) -> Result<Option<(Vec<Value>, u32)>, Fault>
-    requires { s.now.start ≤ s.now.pos }
-    ensures value { IfOk result (λ given. values_loaded p.now s.now kinds.now ≡ Ok (as_values given)) }
-    ensures fails { IfErr result (FailsBy (values_loaded p.now s.now kinds.now)) }
-    ensures ok { IfOk result (Loads p.now s.now kinds.now) }
-    ensures err { IfErr result (LoadFails p.now s.now kinds.now) }
-{
-    load_record(alloc, p, s, kinds)
 }

@@ -27,15 +27,6 @@ pub fn skip(alloc: Global, p: &Platter, s: &Slot, by: By) -> Result<u32, Fault>
     ensures ok { IfOk result (λ pos. (e : File) × (file_of p.now s.now ≡ Some e) × Moves p.now e s.now.pos by pos) }
     ensures err { IfErr result (SkipFails p.now s.now by) }
 {
-    moved(alloc, p, s, by)
-}
-
-/// Moves a slot's place, as `skip` does.
-fn moved(alloc: Global, p: &Platter, s: &Slot, by: By) -> Result<u32, Fault>
-    requires { s.now.start ≤ s.now.pos }
-    ensures ok { IfOk result (λ pos. (e : File) × (file_of p.now s.now ≡ Some e) × Moves p.now e s.now.pos by pos) }
-    ensures err { IfErr result (SkipFails p.now s.now by) }
-{
     let Some(e) = file_of(p, s) else {
         return Err(Fault::Code(Code::known(D80_NOT_OPEN)));
     };

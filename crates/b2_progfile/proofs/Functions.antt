@@ -6,6 +6,7 @@ use Rattle.b2_base.specs.declared.codes.Fault.{Fault}
 use Rattle.b2_base.specs.declared.codes.Fault.TheVariants as fault
 use Rattle.b2_base.specs.declared.codes.TheConstants.{A01_TEXT_AREA}
 use Rattle.b2_platter.specs.Image.{sectors_at}
+use Rattle.b2_platter.specs.Reading.{Unspelled}
 use Rattle.b2_catalog.specs.declared.entry.Entry.{Entry}
 use Rattle.b2_catalog.specs.Calls.{reuse_refusal}
 use Rattle.b2_catalog.specs.Catalogue.{catalogue}
@@ -13,7 +14,7 @@ use Rattle.b2_catalog.specs.Making.{file_made, make_refusal}
 use Rattle.b2_catalog.specs.Results.{FailsBy, unless_refused}
 use Rattle.b2_catalog.proofs.FileMade.{made-value}
 use Rattle.b2_text.specs.Program.{Lines, TextState, size_of}
-use Rattle.b2_progfile.specs.Loading.{FileFails, LoadFails, Loads, load_refusal, loaded, loaded_from, program_put, text_loaded, text_of}
+use Rattle.b2_progfile.specs.Loading.{FileFails, FileSpells, LoadFails, Loads, TooLarge, load_refusal, loaded, loaded_from, program_put, text_loaded, text_of}
 use Rattle.b2_progfile.specs.Reading.{program_in}
 use Rattle.b2_progfile.specs.Saving.{SaveFails, Saved, filled_with, or_then, program_saved, program_sectors, save_refusal, size_refusal}
 use Rattle.b2_progfile.proofs.ReadBack.{none-read, program-read}
@@ -48,14 +49,25 @@ refused : (image : List ℕ) (replace : Bool) (text : TextState) (file : Option 
 refused image replace text None code h = let same = h in cc
 refused image replace text (Some e) code h = ap (λ (o : Option ℕ). unless_refused o (program_put replace text (program_in (sectors_at image e.start e.used)))) h
 
-load-code : (image name : List ℕ) (replace : Bool) (text : TextState) (code : ℕ) → LoadFails image name replace text (fault.Code code) → text_loaded image name replace text ≡ Err code
+pub load-code : (image name : List ℕ) (replace : Bool) (text : TextState) (code : ℕ) → LoadFails image name replace text (fault.Code code) → text_loaded image name replace text ≡ Err code
 unfolding text_loaded
 load-code image name replace text code (inl h) = refused image replace text (get (catalogue image) name) code h
 load-code image name replace text code (inr h) = from-file image replace text h.0 (get (catalogue image) name) h.1 h.2 ∙ file-fails image replace text h.0 code h.3
 
-pub load-fails : (image name : List ℕ) (replace : Bool) (text : TextState) (f : Fault) → LoadFails image name replace text f → FailsBy (text_loaded image name replace text) f
-load-fails image name replace text (fault.Code code) h = load-code image name replace text code h
-load-fails image name replace text fault.NoMemory h = tt
+module _ (image name : List ℕ) (replace : Bool) (old : TextState) (e : Entry) (file : get (catalogue image) name ≡ Some e) (allowed : load_refusal (Some e) ≡ None) where
+  pub unspelled-load : (f : Fault) → Unspelled ((lines : Lines) → FileSpells image e lines → ⊥) f → FailsBy (text_loaded image name replace old) f
+  unspelled-load (fault.Code code) h = load-code image name replace old code (inr (e, file, allowed, inl h))
+  unspelled-load fault.NoMemory h = tt
+
+  pub put-value : {E : Type 0} (lines : Lines) (new : TextState) (r : Result (Unit {0}) E) → FileSpells image e lines → OnOk r (new ≡ record old { lines = loaded replace lines old.lines })
+      → OnOk r (size_of (loaded replace lines old.lines) ≤ old.area) → OnOk r (text_loaded image name replace old ≡ Ok new)
+  put-value lines new (Ok done) spelled same fits =
+      loads-value image name replace old new (record { e = e; lines = lines; file = file; allowed = allowed; spelled = spelled; fits = fits; same = same })
+  put-value lines new (Err f) spelled same fits = tt
+
+  pub put-fails : (lines : Lines) → FileSpells image e lines → (f : Fault) → TooLarge old.area (loaded replace lines old.lines) f → FailsBy (text_loaded image name replace old) f
+  put-fails lines spelled (fault.Code code) h = load-code image name replace old code (inr (e, file, allowed, inr (lines, spelled, h.0, h.1)))
+  put-fails lines spelled fault.NoMemory h = tt
 
 -- ---- a program is saved
 
@@ -63,7 +75,7 @@ first-none : (a b : Option ℕ) → or_then a b ≡ None → a ≡ None
 first-none None b h = refl
 first-none (Some code) b h = cc
 
-make-allowed : (image : List ℕ) (old : Option (List ℕ)) (name : List ℕ) (count : ℕ) → save_refusal image old name count ≡ None → make_refusal image old name (count + 1) ≡ None
+pub make-allowed : (image : List ℕ) (old : Option (List ℕ)) (name : List ℕ) (count : ℕ) → save_refusal image old name count ≡ None → make_refusal image old name (count + 1) ≡ None
 make-allowed image None name count h = h
 make-allowed image (Some old) name count h = first-none (reuse_refusal image old name) (size_refusal (get (catalogue image) old) count) h
 
@@ -76,25 +88,12 @@ saved-value image old name lines new none s =
     ap (λ (o : Option ℕ). unless_refused o (filled_with sectors (file_made image old name true (length sectors + 1)))) none
     ∙ (ap (filled_with sectors) made ∙ ap Ok (sym s.same))
 
-save-code : (image : List ℕ) (old : Option (List ℕ)) (name : List ℕ) (lines : Lines) (code : ℕ) → SaveFails image old name lines (fault.Code code) → program_saved image old name lines ≡ Err code
+pub save-code : (image : List ℕ) (old : Option (List ℕ)) (name : List ℕ) (lines : Lines) (code : ℕ) → SaveFails image old name lines (fault.Code code) → program_saved image old name lines ≡ Err code
 unfolding program_saved
 save-code image old name lines code h =
     ap (λ (o : Option ℕ). unless_refused o (filled_with (program_sectors lines) (file_made image old name true (length (program_sectors lines) + 1)))) h
 
-pub save-fails : (image : List ℕ) (old : Option (List ℕ)) (name : List ℕ) (lines : Lines) (f : Fault) → SaveFails image old name lines f → FailsBy (program_saved image old name lines) f
-save-fails image old name lines (fault.Code code) h = save-code image old name lines code h
-save-fails image old name lines fault.NoMemory h = tt
-
 -- ---- whole results
-
-pub saved-as : {E : Type 0} (image : List ℕ) (old : Option (List ℕ)) (name : List ℕ) (lines : Lines) (new : List ℕ) (r : Result (Unit {0}) E)
-    → OnOk r (save_refusal image old name (length (program_sectors lines)) ≡ None) → OnOk r (Saved image old name lines new) → OnOk r (program_saved image old name lines ≡ Ok new)
-saved-as image old name lines new (Ok done) none s = saved-value image old name lines new none s
-saved-as image old name lines new (Err f) none s = tt
-
-pub on-as : {X E : Type 0} (r : Result X E) (P Q : Type 0) → (P → Q) → OnOk r P → OnOk r Q
-on-as (Ok x) P Q more h = more h
-on-as (Err f) P Q more h = tt
 
 pub err-as : {X E : Type 0} (r : Result X E) (P Q : E → Type 0) → ((f : E) → P f → Q f) → IfErr r P → IfErr r Q
 err-as (Ok x) P Q more h = tt

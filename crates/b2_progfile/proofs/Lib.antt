@@ -14,3 +14,4 @@ pub mod MovedFiles
 pub mod ReadBack
 pub mod Functions
 pub mod LiveFiles
+pub mod FromFunctions

@@ -1,5 +1,5 @@
 -- What holds of programs that are saved and loaded, and of files that are moved.
-use Rattle.std.specs.Prelude.{◌≡◌, ℕ, ◌-◌, ◌<◌, Bool, List, [], Some, IfSome}
+use Rattle.std.specs.Prelude.{◌≡◌, ℕ, ◌-◌, ◌<◌, ◌≤◌, Bool, List, [], length, Option, Some, None, Ok, Err, IfSome}
 use Rattle.std.specs.FinMap.{get}
 use Rattle.b2_base.specs.declared.codes.Fault.TheVariants as fault
 use Rattle.b2_base.specs.declared.codes.TheConstants.{A01_TEXT_AREA}
@@ -8,11 +8,13 @@ use Rattle.b2_platter.specs.Checks.{Good}
 use Rattle.b2_catalog.specs.declared.entry.Entry.{Entry}
 use Rattle.b2_catalog.specs.Catalogue.{catalogue}
 use Rattle.b2_text.specs.Program.{Lines, TextState, size_of}
-use Rattle.b2_platter.specs.Image.{sectors_at}
+use Rattle.b2_platter.specs.Image.{index_of, sectors_at}
 use Rattle.b2_progfile.specs.Programs.{IsProgramFile, SpellsProgram}
-use Rattle.b2_progfile.specs.Loading.{LoadFails, Loads}
+use Rattle.b2_progfile.specs.Reading.{program_in}
+use Rattle.b2_progfile.specs.Loading.{LoadFails, Loads, text_loaded}
+use Rattle.b2_progfile.specs.Saving.{Saved, program_saved, program_sectors, save_refusal}
 use Rattle.b2_progfile.specs.Moving.{IsLiveFile, entry_from, own_sectors}
-use Rattle.b2_progfile.specs.MovingAll.{MovedAll}
+use Rattle.b2_progfile.specs.MovingAll.{AreLiveFiles, MoveFails, MovedAll, live_files, platter_moved}
 
 -- no two programs share a spelling
 abbrev pub ProgramsAreTold : Type 0
@@ -53,3 +55,43 @@ abbrev pub ProgramsAreMoved : Type 0
 ProgramsAreMoved =
     (from to new : List ℕ) (e : Entry) (lines : Lines) → Good Narrow from → MovedAll from to new → IsLiveFile from e → IsProgramFile from e lines
     → IfSome (get (catalogue new) e.name) (λ n. IsProgramFile new n lines)
+
+-- what is read of sectors is the program that they spell, and nothing is read exactly where they spell none
+abbrev pub WhatIsReadIsSpelled : Type 0
+WhatIsReadIsSpelled = (lines : Lines) (sectors : List (List ℕ)) → program_in sectors ≡ Some lines → SpellsProgram lines sectors
+
+abbrev pub WhatIsSpelledIsRead : Type 0
+WhatIsSpelledIsRead = (lines : Lines) (sectors : List (List ℕ)) → SpellsProgram lines sectors → program_in sectors ≡ Some lines
+
+-- what the function of a load says is a program that is loaded, or a cause for the code
+abbrev pub TextIsLoaded : Type 0
+TextIsLoaded = (image name : List ℕ) (replace : Bool) (old new : TextState) → text_loaded image name replace old ≡ Ok new → Loads image name replace old new
+
+abbrev pub TextIsRefused : Type 0
+TextIsRefused = (image name : List ℕ) (replace : Bool) (text : TextState) (code : ℕ) → text_loaded image name replace text ≡ Err code → LoadFails image name replace text (fault.Code code)
+
+-- what the function of saving says is a program that is saved, or the refusal's code
+abbrev pub ProgramIsSaved : Type 0
+ProgramIsSaved =
+    (image : List ℕ) (old : Option (List ℕ)) (name : List ℕ) (lines : Lines) (new : List ℕ) → program_saved image old name lines ≡ Ok new
+    → (save_refusal image old name (length (program_sectors lines)) ≡ None) × Saved image old name lines new
+
+abbrev pub ProgramIsRefused : Type 0
+ProgramIsRefused =
+    (image : List ℕ) (old : Option (List ℕ)) (name : List ℕ) (lines : Lines) (code : ℕ) → program_saved image old name lines ≡ Err code
+    → save_refusal image old name (length (program_sectors lines)) ≡ Some code
+
+-- what is picked sector by sector are the live files in the order of their starts
+abbrev pub LiveFilesAreListed : Type 0
+LiveFilesAreListed = (image : List ℕ) → Good Narrow image → AreLiveFiles image (live_files image)
+
+-- and they have one such order
+abbrev pub LiveFilesHaveOneOrder : Type 0
+LiveFilesHaveOneOrder = (image : List ℕ) → Good Narrow image → (files : List Entry) → AreLiveFiles image files → files ≡ live_files image
+
+-- what the function of moving all files says is that they are moved, or a cause for the code
+abbrev pub PlatterIsMoved : Type 0
+PlatterIsMoved = (from to new : List ℕ) → Good Narrow from → Good Narrow to → index_of to ≤ 255 → platter_moved from to ≡ Ok new → MovedAll from to new
+
+abbrev pub PlatterIsRefused : Type 0
+PlatterIsRefused = (from to : List ℕ) (code : ℕ) → Good Narrow from → platter_moved from to ≡ Err code → MoveFails from to (fault.Code code)

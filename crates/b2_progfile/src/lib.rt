@@ -11,8 +11,9 @@
 //!
 //! Stands on `b2_base` for names and codes, on `b2_atom` and `b2_text` for lines, and on `b2_platter` and `b2_catalog` for
 //! the disk and its files. The definitions are in `specs/`: `Programs` for the grammar, a relation between lines and
-//! sectors, `Saving` for the sectors that are written, the refusals and the image that a call leaves, `Loading` for what is
-//! loaded, `Moving` and `MovingAll` for what is moved, and `Laws`.
+//! sectors, `Reading` for the program that sectors spell, `Saving` for the sectors that are written, the refusals and the
+//! image that a call leaves, `Loading` for what is loaded, `Moving` and `MovingAll` for what is moved, and `Laws`. What a call
+//! gives is a function of images, and a relation besides; the laws say that the functions say what the relations do.
 #![tactic(auto)]
 
 pub mod laws;

@@ -98,30 +98,6 @@ fn put_program(alloc: Global, t: &mut Text, program: &Text, replace: bool) -> Re
     }
 }
 
-/// Loads the live program file of a name, as `load` does.
-fn load_program(
-    alloc: Global,
-    p: &Platter,
-    name: Name8,
-    t: &mut Text,
-    replace: bool,
-) -> Result<(), Fault>
-    ensures ok { OnOk result (Loads p.now name replace t.old t.new) }
-    ensures err { IfErr result (LoadFails p.now name replace t.old) }
-    ensures kept { OnErr result (t.new ≡ t.old) }
-{
-    let _image = p.image();
-    let e = match live_program(p, name) {
-        Ok(e) => e,
-        Err(code) => return Err(Fault::Code(code)),
-    };
-    let program = match read_program(alloc, p, e.start, e.used) {
-        Ok(program) => program,
-        Err(fault) => return Err(fault),
-    };
-    put_program(alloc, t, &program, replace)
-}
-
 /// Loads the live program file of a name: its lines replace those of the text, or are put to them. D82 where there is no
 /// live file of the name, else D89 where it is data, else D88 where its sectors spell no program, else A01 where the lines
 /// would pass the area of the text. After a fault the text is as before.
@@ -138,5 +114,14 @@ pub fn load(
     ensures err { IfErr result (LoadFails p.now name replace t.old) }
     ensures kept { OnErr result (t.new ≡ t.old) }
 {
-    load_program(alloc, p, name, t, replace)
+    let _image = p.image();
+    let e = match live_program(p, name) {
+        Ok(e) => e,
+        Err(code) => return Err(Fault::Code(code)),
+    };
+    let program = match read_program(alloc, p, e.start, e.used) {
+        Ok(program) => program,
+        Err(fault) => return Err(fault),
+    };
+    put_program(alloc, t, &program, replace)
 }

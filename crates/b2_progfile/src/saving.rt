@@ -153,39 +153,6 @@ fn fill_program_file(p: &mut Platter, e: Entry, bytes: &[u8], count: u32)
     set_used(p, e, count);
 }
 
-/// Saves the lines of a text from a number to another as a program file, as `save` does.
-fn save_program(
-    alloc: Global,
-    p: &mut Platter,
-    t: &Text,
-    from: u16,
-    to: u16,
-    old: Option<Name8>,
-    name: Name8,
-) -> Result<(), Fault>
-    ensures ok { OnOk result (save_refusal p.old old name (length (program_sectors (lines_within from to t.now.lines))) ≡ None) }
-    ensures image { OnOk result (Saved p.old old name (lines_within from to t.now.lines) p.new) }
-    ensures file { OnOk result (IfSome (get (catalogue p.new) name) (λ e. IsProgramFile p.new e (lines_within from to t.now.lines))) }
-    ensures there { OnOk result (is_some (get (catalogue p.new) name) ≡ true) }
-    ensures files { OnOk result (IfSome (get (catalogue p.new) name) (λ e. catalogue p.new ≡ insert (files_without p.old old) name e)) }
-    ensures others { OnOk result (IfSome (get (catalogue p.new) name) (λ e. KeepsOthers p.old p.new e)) }
-    ensures err { IfErr result (SaveFails p.old old name (lines_within from to t.now.lines)) }
-    ensures kept { OnErr result (p.new ≡ p.old) }
-{
-    let bytes = program_of(alloc, t, from, to)?;
-    if bytes.len() > MOST_BYTES {
-        return Err(Fault::NoMemory);
-    }
-    let count = pieces_count(&bytes);
-    match make_program_file(p, old, name, count) {
-        Ok(e) => {
-            fill_program_file(p, e, &bytes, count);
-            Ok(())
-        }
-        Err(code) => Err(Fault::Code(code)),
-    }
-}
-
 /// Saves the lines of a text from a number to another as a program file: a new one, or the sectors of a scratched one where
 /// an old name is given. The codes are those of `enter` and of `reuse`, and after those of `reuse` D86 where the old file
 /// is too small. A fault leaves the platter as it was.
@@ -209,5 +176,16 @@ pub fn save(
     ensures err { IfErr result (SaveFails p.old old name (lines_within from to t.now.lines)) }
     ensures kept { OnErr result (p.new ≡ p.old) }
 {
-    save_program(alloc, p, t, from, to, old, name)
+    let bytes = program_of(alloc, t, from, to)?;
+    if bytes.len() > MOST_BYTES {
+        return Err(Fault::NoMemory);
+    }
+    let count = pieces_count(&bytes);
+    match make_program_file(p, old, name, count) {
+        Ok(e) => {
+            fill_program_file(p, e, &bytes, count);
+            Ok(())
+        }
+        Err(code) => Err(Fault::Code(code)),
+    }
 }

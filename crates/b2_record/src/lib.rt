@@ -7,11 +7,13 @@
 //!
 //! `sectors_of` counts the sectors of a record, `put` writes one of them, `put_next` writes one after the other, and `take`
 //! reads the record at a place: it gives the one list of values whose record stands there, and D88 exactly where none does.
-//! `laws` says that a list of values has one record, and that at one place one record begins at most.
+//! `laws` says that a list of values has one record, that at one place one record begins at most, and that what a function
+//! of the image reads there is that record.
 //!
 //! Stands on `b2_base` for codes, on `b2_dec` for values, on `b2_platter` for sectors, and on `arrayvec` for a sector that
 //! is being written. The definitions are in `specs/`: `Items` for the bytes of values, `Records` for the grammar, a relation
-//! between values and sectors, and `Writing` for the one spelling of a list of values.
+//! between values and sectors, `Writing` for the one spelling of a list of values, and `Reading` for the record at a place, as
+//! a function of the image.
 #![tactic(auto)]
 
 mod items;
