@@ -22,6 +22,7 @@ impl Language for Basic {
         b2_stmt_var::is_built(row)
             || b2_stmt::is_built(row)
             || b2_stmt_io::is_built(row)
+            || b2_stmt_mat::is_built(row)
             || b2_stmt_disk::is_built(row)
     }
 
@@ -36,6 +37,7 @@ impl Language for Basic {
             Family::Variables => b2_stmt_var::plan(alloc, me, lent, devices),
             Family::Control => b2_stmt::plan(alloc, me, lent, devices),
             Family::Terminal => b2_stmt_io::plan(alloc, me, lent, devices),
+            Family::Arrays => b2_stmt_mat::plan(alloc, me, lent, devices),
             Family::Disks => b2_stmt_disk::plan(alloc, me, lent, devices),
         }
     }
@@ -52,6 +54,7 @@ impl Language for Basic {
             Family::Variables => b2_stmt_var::finish(alloc, me, lent, access, answer),
             Family::Control => b2_stmt::finish(alloc, me, lent, access, answer),
             Family::Terminal => b2_stmt_io::finish(alloc, me, lent, access, answer),
+            Family::Arrays => b2_stmt_mat::finish(alloc, me, lent, access, answer),
             Family::Disks => b2_stmt_disk::finish(alloc, me, lent, access, answer),
         }
     }
@@ -83,6 +86,7 @@ impl Language for Basic {
             Family::Variables => b2_stmt_var::plan(alloc, me, lent, devices),
             Family::Control => b2_stmt::plan(alloc, me, lent, devices),
             Family::Terminal => b2_stmt_io::plan_found(alloc, me, lent.home, found.unit),
+            Family::Arrays => b2_stmt_mat::plan(alloc, me, lent, devices),
             Family::Disks => b2_stmt_disk::plan(alloc, me, lent, devices),
         }
     }

@@ -11,6 +11,8 @@ pub enum Family {
     Control,
     /// Statements at the terminal.
     Terminal,
+    /// Statements on arrays.
+    Arrays,
     /// Statements on disks.
     Disks,
 }
@@ -25,6 +27,8 @@ pub fn family_of(row: u16) -> Family
         Family::Control
     } else if b2_stmt_io::is_built(row) {
         Family::Terminal
+    } else if b2_stmt_mat::is_built(row) {
+        Family::Arrays
     } else {
         Family::Disks
     }

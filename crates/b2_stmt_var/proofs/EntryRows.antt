@@ -31,7 +31,8 @@ use Rattle.b2_expr.specs.Named.{variable_of}
 use Rattle.b2_expr.specs.Scope.{Context}
 use Rattle.b2_rows.proofs.RowsRead.{stands_of}
 use Rattle.b2_rows.specs.CommaLists.{further_listed, commas}
-use Rattle.b2_stmt_var.specs.Dimensions.{array_shape, entries_of, entry_in, entry_of, is_com, length_alone, lone_shape, entry_named, shape_after}
+use Rattle.b2_dims.specs.Dimensions.{array_shape}
+use Rattle.b2_stmt_var.specs.Dimensions.{usual_length, entries_of, entry_in, entry_of, is_com, length_alone, lone_shape, entry_named, shape_after}
 use Rattle.b2_stmt_var.specs.declared.dimensions.Entry.{Entry}
 use Rattle.b2_rows.proofs.CommaLists.{IsComma, Other, other, tail_at, items_of_other, no_items_left, item_shorter}
 
@@ -130,7 +131,7 @@ pub alpha_global : (s : Context) (t : Text) → is_part row.DIMENSIONED_ALPHA t 
 alpha_global s t ok none is = ap (entry_named s true) (alpha_tree_is t (first (after_alpha t) == byte.opening) ok refl) ∙ global_by s t (first (after_alpha t) == byte.opening) none is
 
 pub alpha_array_is : (s : Context) (t : Text) → is_part row.DIMENSIONED_ALPHA t ≡ true → (alpha_named t).global ≡ false → (first (after_alpha t) == byte.opening) ≡ true
-    → entry_named s true (tree_at row.DIMENSIONED_ALPHA t) ≡ (array_shape s true (tree_at row.SUBSCRIPTS_AND_LENGTH (after_alpha t)) >>= (λ shape. Ok (record { var = variable_of (alpha_named t) true; shape = shape })))
+    → entry_named s true (tree_at row.DIMENSIONED_ALPHA t) ≡ (array_shape s 16 true (tree_at row.SUBSCRIPTS_AND_LENGTH (after_alpha t)) >>= (λ shape. Ok (record { var = variable_of (alpha_named t) true; shape = shape })))
 unfolding entry_named
 alpha_array_is s t ok mine is = ap (entry_named s true) (alpha_tree_is t true ok is) ∙ own s (alpha_named t) 1 (tree_at row.SUBSCRIPTS_AND_LENGTH (after_alpha t)) mine
 
@@ -193,7 +194,7 @@ pub number_global : (s : Context) (t : Text) → is_part row.DIMENSIONED_NUMERIC
 number_global s t ok none is = ap (entry_named s false) (number_tree_is t (first (after_number t) == byte.opening) ok refl) ∙ number_global_by s t (first (after_number t) == byte.opening) none is
 
 pub number_array_is : (s : Context) (t : Text) → is_part row.DIMENSIONED_NUMERIC t ≡ true → (number_named t).global ≡ false → (first (after_number t) == byte.opening) ≡ true
-    → entry_named s false (tree_at row.DIMENSIONED_NUMERIC t) ≡ (array_shape s false (tree_at row.SUBSCRIPTS_AND_LENGTH (after_number t)) >>= (λ shape. Ok (record { var = variable_of (number_named t) true; shape = shape })))
+    → entry_named s false (tree_at row.DIMENSIONED_NUMERIC t) ≡ (array_shape s 0 false (tree_at row.SUBSCRIPTS_AND_LENGTH (after_number t)) >>= (λ shape. Ok (record { var = variable_of (number_named t) true; shape = shape })))
 unfolding entry_named
 number_array_is s t ok mine is = ap (entry_named s false) (number_tree_is t true ok is) ∙ own s (number_named t) 1 (tree_at row.SUBSCRIPTS_AND_LENGTH (after_number t)) mine
 

@@ -1,6 +1,6 @@
 -- DIM and COM: the variables that they make.
 use Rattle.std.specs.Prelude.{ℕ, ◌==◌, ℤ, pos, Bool, true, false, List, [], Option, None, Some, Result, Ok, Err, if◌then◌else◌}
-use Rattle.b2_base.specs.declared.codes.TheConstants.{P50_DIMENSION, P53_LENGTH, S20_VARIABLE}
+use Rattle.b2_base.specs.declared.codes.TheConstants.{S20_VARIABLE}
 use Rattle.b2_atom.specs.Tree.{Trees}
 use Rattle.b2_atom.specs.Tree.Trees.{Put, In}
 use Rattle.b2_atom.specs.declared.words.TheConstants as word
@@ -20,64 +20,26 @@ use Rattle.b2_expr.specs.Scope.{Context}
 use Rattle.b2_expr.specs.Value.{branch_of, context_of, token_text, value}
 use Rattle.b2_expr.specs.Workspace.{WorkState, WorkLeft, on_own, refused}
 use Rattle.b2_expr.specs.declared.operators.Level.TheVariants as level
+use Rattle.b2_dims.specs.Dimensions.{array_shape, length_by}
 use Rattle.b2_stmt_var.specs.Assignments.{assign_each}
 use Rattle.b2_rows.specs.CommaLists.{all_listed}
 use Rattle.b2_stmt_var.specs.Lengths.{length_value}
-use Rattle.b2_stmt_var.specs.declared.dimensions.Dimensions.{Dimensions}
 use Rattle.b2_stmt_var.specs.declared.dimensions.Entry.{Entry}
 
--- a number without its fraction from 1 to the most, or a code
-abbrev pub up_to : ℕ → ℕ → Option ℤ → Result ℕ ℕ
-up_to most code (Some (pos n)) = if is_up_to most n then Ok n else Err code
-up_to most code z = Err code
-
--- a dimension: up to 4,000 where it is the only one, and up to 255 each where there are two
-abbrev pub dimension : ℕ → Option ℤ → Result ℕ ℕ
-dimension most n = up_to most P50_DIMENSION n
-
-abbrev pub most_rows : Bool → ℕ
-most_rows two = if two then 255 else 4000
-
--- the second dimension, 0 where none is written
-unfoldable pub columns_in : Context → Trees → Result ℕ ℕ
-columns_in s (In n (Put comma (In m sum end)) more) = value s level.Sum sum >>= (λ x. dimension 255 (fixed x))
-columns_in s t = Ok 0
-
--- the dimensions from left to right: each is taken and tested before the next
-unfoldable pub dimensions_in : Context → Trees → Result Dimensions ℕ
-dimensions_in s (Put opening (In n (In m sum columns) close)) =
-    value s level.Sum sum >>= (λ x. dimension (most_rows (branch_of columns == 1)) (fixed x) >>= (λ rows. columns_in s columns >>= (λ cols. Ok (record { rows = rows; cols = cols }))))
-dimensions_in s t = Err P50_DIMENSION
-
--- the length of an alpha value, 16 where none is written; a number has none
-abbrev pub tested_length : Bool → Option ℤ → Result ℕ ℕ
-tested_length true n = up_to 124 P53_LENGTH n
-tested_length false n = Err P53_LENGTH
-
+-- the length of an alpha value where none is written is 16; a number has none
 abbrev pub usual_length : Bool → ℕ
 usual_length alpha = if alpha then 16 else 0
 
-abbrev pub length_by : (Trees → Answer) → Bool → Trees → Result ℕ ℕ
-length_by value_of alpha (In n sum end) = if n == 1 then value_of sum >>= (λ x. tested_length alpha (fixed x)) else Ok (usual_length alpha)
-length_by value_of alpha t = Ok (usual_length alpha)
-
--- the length after dimensions, and after a name alone
-unfoldable pub length_after : Context → Bool → Trees → Result ℕ ℕ
-length_after s alpha t = length_by (value s level.Sum) alpha t
-
+-- the length after a name alone
 unfoldable pub length_alone : Context → Bool → Trees → Result ℕ ℕ
-length_alone s alpha t = length_by (length_value s) alpha t
+length_alone s alpha t = length_by (length_value s) (usual_length alpha) alpha t
 
--- the shape of an array, and of a scalar
-unfoldable pub array_shape : Context → Bool → Trees → Result Shape ℕ
-array_shape s alpha (In n dimensions length) = dimensions_in s dimensions >>= (λ d. length_after s alpha length >>= (λ len. Ok (record { rows = d.rows; cols = d.cols; len = len })))
-array_shape s alpha t = Err P50_DIMENSION
-
+-- the shape of a scalar, and of an entry
 unfoldable pub lone_shape : Context → Bool → Trees → Result Shape ℕ
 lone_shape s alpha t = length_alone s alpha t >>= (λ len. Ok (record { rows = 0; cols = 0; len = len }))
 
 abbrev pub shape_after : Context → Bool → ℕ → Trees → Result Shape ℕ
-shape_after s alpha n t = if n == 1 then array_shape s alpha t else lone_shape s alpha t
+shape_after s alpha n t = if n == 1 then array_shape s (usual_length alpha) alpha t else lone_shape s alpha t
 
 -- an entry: X77 comes at its name, before its dimensions
 abbrev pub entry_of : Context → Name → ℕ → Trees → Result Entry ℕ

@@ -21,6 +21,7 @@
 // pieces, with a turn after each.
 //
 // The last session of each table is wrong, so that it is seen to be told.
+mod arrays;
 mod branches;
 mod bytes;
 mod calls;

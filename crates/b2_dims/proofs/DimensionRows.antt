@@ -1,4 +1,4 @@
--- The dimensions and the length of an entry of DIM and COM, by their rows.
+-- Dimensions and the length after them, by their rows.
 use Rattle.std.proofs.Common.{◌≡◌, ℕ, ◌==◌, Bool, true, false, if◌then◌else◌, List, [], ◌∷◌, drop, Ok, refl, sym, ap, ◌∙◌}
 use Rattle.b2_base.specs.Byte as byte
 use Rattle.b2_base.specs.Lexical.{first}
@@ -23,8 +23,7 @@ use Rattle.b2_expr.specs.Value.{branch_of, value}
 use Rattle.b2_expr.specs.declared.operators.Level.TheVariants as level
 use Rattle.b2_expr.proofs.Names.{one_first, one_second, one_tree, one_rest}
 use Rattle.b2_rows.proofs.RowsRead.{stands_of}
-use Rattle.b2_stmt_var.specs.Dimensions.{array_shape, columns_in, dimension, dimensions_in, length_after, length_alone, lone_shape, most_rows, tested_length, usual_length}
-use Rattle.b2_stmt_var.proofs.LengthRows.{length_read}
+use Rattle.b2_dims.specs.Dimensions.{array_shape, columns_in, dimension, dimensions_in, length_after, most_rows, tested_length}
 
 loop_begins : (c : ℕ) (t : Text) (b : Bool) → (first t == c) ≡ b → starts Atoms (start.Code c) t ≡ b
 unfolding starts
@@ -112,16 +111,16 @@ dimensions_rest t ok = (stands_of row.SUBSCRIPTS pair_items t pair_row ok).2 ∙
 pub length_part : (t : Text) → maybe_part start.Numeric row.SUM t ≡ true → starts Atoms start.Numeric t ≡ true → is_part row.SUM t ≡ true
 length_part t ok is = begun_part start.Numeric row.SUM t ok is
 
-pub length_is : (s : Context) (alpha : Bool) (t : Text) → starts Atoms start.Numeric t ≡ true → length_after s alpha (maybe_tree start.Numeric row.SUM t) ≡ (value s level.Sum (tree_at row.SUM t) >>= (λ x. tested_length alpha (fixed x)))
+pub length_is : (s : Context) (otherwise : ℕ) (alpha : Bool) (t : Text) → starts Atoms start.Numeric t ≡ true → length_after s otherwise alpha (maybe_tree start.Numeric row.SUM t) ≡ (value s level.Sum (tree_at row.SUM t) >>= (λ x. tested_length alpha (fixed x)))
 unfolding length_after
-length_is s alpha t is = ap (length_after s alpha) (begun_tree start.Numeric row.SUM t is)
+length_is s otherwise alpha t is = ap (length_after s otherwise alpha) (begun_tree start.Numeric row.SUM t is)
 
 pub length_rest : (t : Text) → starts Atoms start.Numeric t ≡ true → after_maybe start.Numeric row.SUM t ≡ after_part row.SUM t
 length_rest t is = begun_rest start.Numeric row.SUM t is
 
-pub no_length : (s : Context) (alpha : Bool) (t : Text) → starts Atoms start.Numeric t ≡ false → length_after s alpha (maybe_tree start.Numeric row.SUM t) ≡ Ok (usual_length alpha)
+pub no_length : (s : Context) (otherwise : ℕ) (alpha : Bool) (t : Text) → starts Atoms start.Numeric t ≡ false → length_after s otherwise alpha (maybe_tree start.Numeric row.SUM t) ≡ Ok otherwise
 unfolding length_after
-no_length s alpha t is = ap (length_after s alpha) (left_out_tree start.Numeric row.SUM t is)
+no_length s otherwise alpha t is = ap (length_after s otherwise alpha) (left_out_tree start.Numeric row.SUM t is)
 
 pub no_length_rest : (t : Text) → starts Atoms start.Numeric t ≡ false → after_maybe start.Numeric row.SUM t ≡ t
 no_length_rest t is = left_out_rest start.Numeric row.SUM t is
@@ -140,38 +139,11 @@ shape_dimensions t ok = (stands_of row.SUBSCRIPTS_AND_LENGTH shape_items t shape
 pub shape_length : (t : Text) → is_part row.SUBSCRIPTS_AND_LENGTH t ≡ true → maybe_part start.Numeric row.SUM (after_part row.SUBSCRIPTS t) ≡ true
 shape_length t ok = maybe_stands _ _ _ (stands_of row.SUBSCRIPTS_AND_LENGTH shape_items t shape_row ok).0.1
 
-pub shape_is : (s : Context) (alpha : Bool) (t : Text) → is_part row.SUBSCRIPTS_AND_LENGTH t ≡ true → array_shape s alpha (tree_at row.SUBSCRIPTS_AND_LENGTH t)
-    ≡ (dimensions_in s (tree_at row.SUBSCRIPTS t) >>= (λ d. length_after s alpha (maybe_tree start.Numeric row.SUM (after_part row.SUBSCRIPTS t)) >>= (λ len. Ok (record { rows = d.rows; cols = d.cols; len = len }))))
+pub shape_is : (s : Context) (otherwise : ℕ) (alpha : Bool) (t : Text) → is_part row.SUBSCRIPTS_AND_LENGTH t ≡ true → array_shape s otherwise alpha (tree_at row.SUBSCRIPTS_AND_LENGTH t)
+    ≡ (dimensions_in s (tree_at row.SUBSCRIPTS t) >>= (λ d. length_after s otherwise alpha (maybe_tree start.Numeric row.SUM (after_part row.SUBSCRIPTS t)) >>= (λ len. Ok (record { rows = d.rows; cols = d.cols; len = len }))))
 unfolding array_shape maybe_tree
-shape_is s alpha t ok = ap (array_shape s alpha) (stands_of row.SUBSCRIPTS_AND_LENGTH shape_items t shape_row ok).1
+shape_is s otherwise alpha t ok = ap (array_shape s otherwise alpha) (stands_of row.SUBSCRIPTS_AND_LENGTH shape_items t shape_row ok).1
 
 pub shape_rest : (t : Text) → is_part row.SUBSCRIPTS_AND_LENGTH t ≡ true → after_part row.SUBSCRIPTS_AND_LENGTH t ≡ after_maybe start.Numeric row.SUM (after_part row.SUBSCRIPTS t)
 unfolding after_maybe
 shape_rest t ok = (stands_of row.SUBSCRIPTS_AND_LENGTH shape_items t shape_row ok).2
-
--- the shape of an alpha scalar
-abbrev Alone : Text → Type 0
-Alone t = (first t == byte.opening) ≡ false
-
-length_here : (t : Text) → maybe_part start.Numeric row.LENGTH t ≡ true → starts Atoms start.Numeric t ≡ true → is_part row.LENGTH t ≡ true
-length_here t ok is = begun_part start.Numeric row.LENGTH t ok is
-
-pub lone_sum : (t : Text) → maybe_part start.Numeric row.LENGTH t ≡ true → Alone t → starts Atoms start.Numeric t ≡ true → is_part row.SUM t ≡ true
-lone_sum t ok alone is = (length_read t alone (length_here t ok is)).0
-
-pub lone_is : (s : Context) (t : Text) → maybe_part start.Numeric row.LENGTH t ≡ true → Alone t → starts Atoms start.Numeric t ≡ true → lone_shape s true (maybe_tree start.Numeric row.LENGTH t)
-    ≡ (value s level.Sum (tree_at row.SUM t) >>= (λ x. tested_length true (fixed x)) >>= (λ len. Ok (record { rows = 0; cols = 0; len = len })))
-unfolding lone_shape length_alone
-lone_is s t ok alone is =
-    ap (lone_shape s true) (begun_tree start.Numeric row.LENGTH t is)
-    ∙ sym (ap (λ (a : Trees). value s level.Sum a >>= (λ x. tested_length true (fixed x)) >>= (λ len. Ok (record { rows = 0; cols = 0; len = len }))) (length_read t alone (length_here t ok is)).1)
-
-pub lone_rest : (t : Text) → maybe_part start.Numeric row.LENGTH t ≡ true → Alone t → starts Atoms start.Numeric t ≡ true → after_maybe start.Numeric row.LENGTH t ≡ after_part row.SUM t
-lone_rest t ok alone is = begun_rest start.Numeric row.LENGTH t is ∙ sym (length_read t alone (length_here t ok is)).2
-
-pub lone_usual : (s : Context) (t : Text) → starts Atoms start.Numeric t ≡ false → lone_shape s true (maybe_tree start.Numeric row.LENGTH t) ≡ Ok (record { rows = 0; cols = 0; len = 16 })
-unfolding lone_shape length_alone
-lone_usual s t is = ap (lone_shape s true) (left_out_tree start.Numeric row.LENGTH t is)
-
-pub no_lone_rest : (t : Text) → starts Atoms start.Numeric t ≡ false → after_maybe start.Numeric row.LENGTH t ≡ t
-no_lone_rest t is = left_out_rest start.Numeric row.LENGTH t is

@@ -1,0 +1,19 @@
+-- The proofs of statements on arrays, by what they are about.
+--
+-- FormulaRows, RedimensionRows, ByteArrayRows and SearchRows have what the rows of statements say at their bytes, one fact at a
+-- time. ArraysThere: an array that is there has a shape, its values, and no code. CellPlaces: places along rows. Written: what
+-- several changes of one array come to. MadeOf: what is made, and its codes. HomesKept, KeptPlaces and Waits: what every statement
+-- leaves; LeftAlone: all of it in one record. Uses: what statements on arrays are for.
+pub mod FormulaRows
+pub mod RedimensionRows
+pub mod ByteArrayRows
+pub mod SearchRows
+pub mod ArraysThere
+pub mod CellPlaces
+pub mod Written
+pub mod MadeOf
+pub mod HomesKept
+pub mod KeptPlaces
+pub mod Waits
+pub mod LeftAlone
+pub mod Uses

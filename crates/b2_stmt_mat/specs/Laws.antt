@@ -1,0 +1,51 @@
+-- What statements on arrays are for, in the words of whoever uses them.
+use Rattle.std.specs.Prelude.{◌≡◌, ◌≢◌, false, None}
+use Rattle.std.specs.FinMap as map
+use Rattle.b2_dec.specs.declared.number.Mode.{Mode}
+use Rattle.b2_vars.specs.Assigned.{Assigned}
+use Rattle.b2_vars.specs.Tables.{IsVariable, VarsState, variable_at}
+use Rattle.b2_vars.specs.declared.name.Var.{Var}
+use Rattle.b2_stmt_mat.specs.Arrays.{IsArrayOf, matrix_of}
+use Rattle.b2_stmt_mat.specs.ByteArrays.{copied, moved, sorted}
+use Rattle.b2_stmt_mat.specs.Matrices.{matrix_assigned}
+use Rattle.b2_stmt_mat.specs.Redimensioning.{redimensioned}
+use Rattle.b2_stmt_mat.specs.declared.byte_arrays.ArrayCopy.{ArrayCopy}
+use Rattle.b2_stmt_mat.specs.declared.byte_arrays.ArrayMove.{ArrayMove}
+use Rattle.b2_stmt_mat.specs.declared.byte_arrays.ArraySort.{ArraySort}
+use Rattle.b2_stmt_mat.specs.declared.formulas.Formula.TheVariants as formula
+use Rattle.b2_stmt_mat.specs.declared.formulas.MatrixAssignment.{MatrixAssignment}
+use Rattle.b2_stmt_mat.specs.declared.redimensioning.Redimensioned.{Redimensioned}
+
+-- MAT A=B, and MAT A=TRN(B)
+abbrev pub as_it_is : Var → Var → Mode → VarsState → Assigned
+as_it_is a b mode old = matrix_assigned (record { to = a; made_of = formula.Copied b }) mode old
+
+abbrev pub transposed : Var → Var → Mode → VarsState → Assigned
+transposed a b mode old = matrix_assigned (record { to = a; made_of = formula.Transposed b }) mode old
+
+-- without a code A is then equal to B, element by element, and has its rows and its columns
+pub record IsEqualTo (a b : Var) (after : Assigned) (old : VarsState) : Type 0 where
+  pub numbers : (variable_at a after.vars.table).numbers ≡ (variable_at b old.table).numbers
+  pub rows : (matrix_of a after.vars.table).rows ≡ (matrix_of b old.table).rows
+  pub cols : (matrix_of a after.vars.table).cols ≡ (matrix_of b old.table).cols
+
+abbrev pub CopiesAreEqual : Type 0
+CopiesAreEqual = (a b : Var) (mode : Mode) (old : VarsState) → (as_it_is a b mode old).code ≡ None → IsEqualTo a b (as_it_is a b mode old) old
+
+-- TRN twice gives the elements back, where both went without a code
+abbrev pub TransposingIsUndone : Type 0
+TransposingIsUndone =
+    (a b c : Var) (mode : Mode) (old : VarsState) → IsArrayOf false a old.table → IsVariable a (variable_at a old.table) → (transposed b a mode old).code ≡ None
+    → (transposed c b mode (transposed b a mode old).vars).code ≡ None
+    → (variable_at c (transposed c b mode (transposed b a mode old).vars).vars.table).numbers ≡ (variable_at a old.table).numbers
+
+-- what isn't assigned stays, with a code and without one
+abbrev pub LeavesOthers : Var → Assigned → VarsState → Type 0
+LeavesOthers v after old = (other : Var) → other ≢ v → map.get after.vars.table other ≡ map.get old.table other
+
+pub record ChangeOneArray : Type 0 where
+  pub assignments : (a : MatrixAssignment) (mode : Mode) (old : VarsState) → LeavesOthers a.to (matrix_assigned a mode old) old
+  pub redimensions : (r : Redimensioned) (old : VarsState) → LeavesOthers r.var (redimensioned r old) old
+  pub moves : (m : ArrayMove) (old : VarsState) → LeavesOthers m.to (moved m old) old
+  pub sorts : (m : ArraySort) (old : VarsState) → LeavesOthers m.to (sorted m old) old
+  pub copies : (m : ArrayCopy) (old : VarsState) → LeavesOthers m.to (copied m old) old
