@@ -1,0 +1,10 @@
+pub mod Asking
+pub mod Slots
+pub mod Counts
+pub mod Coming
+pub mod Opening
+pub mod Skipping
+pub mod Saving
+pub mod Loading
+pub mod Plan
+pub mod Laws
