@@ -6,7 +6,11 @@ pub mod SlotRows
 pub mod SkipRows
 pub mod OpenRows
 pub mod SaveRows
+pub mod ElementPlaces
+pub mod SavedRows
+pub mod SavedItems
 pub mod LoadRows
+pub mod ShortValues
 pub mod Planned
 pub mod HomesKept
 pub mod KeptPlaces

@@ -7,6 +7,9 @@ use Rattle.b2_base.specs.declared.files.Slot.{Slot}
 use Rattle.b2_atom.specs.Tree.{Trees}
 use Rattle.b2_atom.specs.Tree.Trees.{Put, In}
 use Rattle.b2_atom.specs.declared.rows.TheConstants as row
+use Rattle.std.specs.List.{list_all}
+use Rattle.b2_dec.specs.declared.values.Value.{Value}
+use Rattle.b2_rows.specs.CommaLists.{all_listed}
 use Rattle.b2_expr.specs.Answers.{◌>>=◌, Answer as NumberAnswer}
 use Rattle.b2_expr.specs.Functions.{fixed}
 use Rattle.b2_expr.specs.Scope.{Context}
@@ -18,7 +21,7 @@ use Rattle.b2_access.specs.Lending.{SeenLent}
 use Rattle.b2_access.specs.OwnDevices.{IsAtDisk}
 use Rattle.b2_access.specs.Partition.{setting_of}
 use Rattle.b2_access.specs.Placed.{Statement}
-use Rattle.b2_access.specs.Touching.{IsLegal}
+use Rattle.b2_access.specs.Touching.{IsLegal, is_short}
 use Rattle.b2_access.specs.Views.{place_came}
 use Rattle.b2_access.specs.Working.{Worked, Working, leaves, planned_of, stops}
 use Rattle.b2_access.specs.declared.accesses.Access.{Access}
@@ -41,6 +44,8 @@ use Rattle.b2_stmt_file.specs.Plan.{asked_of, asks_or_fails, course_of, does, en
 use Rattle.b2_stmt_file.specs.Saving.{asks_to_save, saved, saves_in, saving_ends}
 use Rattle.b2_stmt_file.specs.Skipping.{asks_to_skip, back, forward, slot_skipped}
 use Rattle.b2_stmt_file.specs.Slots.{file_held, file_listed, file_used, slot_in}
+use Rattle.b2_stmt_file.specs.SavedValues.{all_saved}
+use Rattle.b2_stmt_file.proofs.ShortValues.{AreShort, all_short}
 use Rattle.b2_stmt_file.proofs.Tests.{at_least, both_first}
 
 -- what holds of each refusal, and of each access of a platter that may be used
@@ -112,6 +117,12 @@ module _ (F : Planned → Type 0) (d : DrivesSeen) (failed : (code : ℕ) → F 
   after_file : (slots : List (Option Slot)) (n : ℕ) (next : Slot → Result Access ℕ) → ((x : Slot) → Used x → Asked (next x)) → Asked (file_used d slots n >>= next)
   after_file slots n next h = after_held (get_or slots n None) next h
 
+  -- values that a record may have
+  after_values : (r : Result (List Value) ℕ) (next : List Value → Result Access ℕ) → AreShort r → ((xs : List Value) → list_all is_short xs ≡ true → Asked (next xs)) → Asked (r >>= next)
+  unfolding Asked
+  after_values (Ok xs) next short h = h xs short
+  after_values (Err code) next short h = failed code
+
   -- what opens
   reuses_asked : (e : Context) (addr : List ℕ) (t name : Trees) → is_platter_for d.who addr d.devices ≡ true → Asked (reuses e addr t name)
   unfolding Asked
@@ -149,7 +160,9 @@ module _ (F : Planned → Type 0) (d : DrivesSeen) (failed : (code : ℕ) → F 
   -- what goes by a slot
   saved_asked : (e : Context) (file : Slot) (t : Trees) → Used file → Asked (saved e file t)
   unfolding Asked Used
-  saved_asked e file (In k what end) used = either Asked (k == 1) _ _ (asks file.addr (access.DataEnd file) used.0 refl used.1) (failed S27_LEFT_OUT)
+  saved_asked e file (In k what end) used =
+      either Asked (k == 1) _ _ (asks file.addr (access.DataEnd file) used.0 refl used.1)
+      (after_values (all_saved e (all_listed what)) (λ xs. Ok (access.DataSave file xs)) (all_short e (all_listed what)) (λ xs short. asks file.addr (access.DataSave file xs) used.0 refl (short, used.1)))
   saved_asked e file t used = failed S17_NUMERIC
 
   saves_asked : (slots : List (Option Slot)) (e : Context) (t : Trees) → Asked (saves_in d slots e t)

@@ -1,6 +1,8 @@
 pub mod Asking
 pub mod Slots
 pub mod Counts
+pub mod Elements
+pub mod SavedValues
 pub mod Coming
 pub mod Opening
 pub mod Skipping

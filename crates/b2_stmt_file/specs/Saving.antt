@@ -1,6 +1,6 @@
 -- DATASAVE DC: a data file is made and opened, or a record of values or the end mark is saved at the place in an open one.
 use Rattle.std.specs.Prelude.{ℕ, ◌==◌, List, Option, Result, Ok, Err, if◌then◌else◌}
-use Rattle.b2_base.specs.declared.codes.TheConstants.{S17_NUMERIC, S27_LEFT_OUT}
+use Rattle.b2_base.specs.declared.codes.TheConstants.{S17_NUMERIC}
 use Rattle.b2_base.specs.declared.files.Slot.{Slot}
 use Rattle.b2_atom.specs.Tree.{Trees}
 use Rattle.b2_atom.specs.Tree.Trees.{Done, Put, In}
@@ -10,6 +10,7 @@ use Rattle.b2_atom.specs.declared.words.Origin.TheVariants.{Atoms}
 use Rattle.b2_atom.specs.declared.words.TheConstants as word
 use Rattle.b2_atom.specs.declared.rows.TheConstants as row
 use Rattle.b2_atom.specs.declared.forms.Start.TheVariants as start
+use Rattle.b2_rows.specs.CommaLists.{all_listed}
 use Rattle.b2_rows.specs.Rows.{tree_at}
 use Rattle.b2_expr.specs.Answers.{◌>>=◌}
 use Rattle.b2_expr.specs.Scope.{Context}
@@ -22,13 +23,14 @@ use Rattle.b2_access.specs.declared.private.Private.{Private}
 use Rattle.b2_drive.specs.Drives.{DrivesSeen}
 use Rattle.b2_stmt_file.specs.Coming.{by_opening, by_place, file_ends}
 use Rattle.b2_stmt_file.specs.Opening.{asks_for_new, slot_opened}
+use Rattle.b2_stmt_file.specs.SavedValues.{all_saved}
 use Rattle.b2_stmt_file.specs.Slots.{file_used, slot_in}
 use Rattle.b2_stmt_file.specs.declared.coming.Came.{Came}
 use Rattle.b2_stmt_file.specs.declared.coming.Came.TheVariants as came
 
 -- the end mark, or a record
 abbrev pub saved : Context → Slot → Trees → Result Access ℕ
-saved e file (In k what end) = if k == 1 then Ok (access.DataEnd file) else Err S27_LEFT_OUT
+saved e file (In k what end) = if k == 1 then Ok (access.DataEnd file) else all_saved e (all_listed what) >>= (λ xs. Ok (access.DataSave file xs))
 saved e file t = Err S17_NUMERIC
 
 -- what stands at a text after the slot

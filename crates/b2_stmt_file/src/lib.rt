@@ -14,10 +14,12 @@
 
 mod asking;
 mod coming;
+mod elements;
 pub mod laws;
 mod loading;
 mod opening;
 mod planning;
+mod saved_values;
 mod saving;
 mod skipping;
 mod slots;

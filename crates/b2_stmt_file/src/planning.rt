@@ -37,6 +37,7 @@ pub fn is_built(row: u16) -> bool
 
 /// What a statement asks for, or the first code from the left.
 fn ask(
+    alloc: Global,
     d: &Drives<'_>,
     slots: &[Option<Slot>; 16],
     e: &Env<'_>,
@@ -47,7 +48,7 @@ fn ask(
     ensures { GivesAccess (spec.asked_of (drives_seen d.now) slots.now (in_statement (surroundings e.now)) row (tree_at row unit.now)) result }
 {
     match row {
-        rows::DATASAVE => ask_to_save(d, slots, e, unit),
+        rows::DATASAVE => ask_to_save(alloc, d, slots, e, unit),
         rows::DATALOAD => ask_to_load(d, slots, e, unit),
         rows::DSKIP => or_fault(ask_to_skip(d, slots, e, unit)),
         rows::DBACKSPACE => or_fault(ask_to_go_back(d, slots, e, unit)),
@@ -95,7 +96,7 @@ pub fn plan(
         home: lent.home,
     };
     let e = surroundings_of(&work);
-    asks_or_fails(ask(&d, &me.slots, &e, unit.row, unit.bytes))
+    asks_or_fails(ask(alloc, &d, &me.slots, &e, unit.row, unit.bytes))
 }
 
 /// How the statement at the place of a partition finishes, by the access that it asked for and its answer, which is one that the

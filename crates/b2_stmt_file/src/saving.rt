@@ -14,32 +14,35 @@ ghost use Rattle.b2_stmt_file.specs.Saving as spec;
 use crate::asking::or_fault;
 use crate::coming::{Came, came_of_moving, came_of_opening};
 use crate::opening::{ask_for_new, slot_of_new};
+use crate::saved_values::saved_values;
 use crate::slots::{file_used, past_slot, slot_written};
 use b2_access::{Access, Answer};
 use b2_atom::words::{END, OPEN};
-use b2_base::codes::S27_LEFT_OUT;
 use b2_base::lexical::rest_after;
-use b2_base::{Code, Fault, Slot};
+use b2_base::{Fault, Slot};
 use b2_drive::Drives;
 use b2_expr::Env;
 use b2_rows::is_at;
+use std::alloc::Global;
 
 /// What the end mark or a record asks for, at the place in a file.
-#[tactic(auto, using(crate::proofs::SaveRows::saved_end, crate::proofs::SaveRows::saved_list))]
-fn ask_for_file(e: &Env<'_>, slot: Slot, text: &[u8]) -> Result<Access, Fault>
+fn ask_for_file(alloc: Global, e: &Env<'_>, slot: Slot, text: &[u8]) -> Result<Access, Fault>
     requires list { (first text.now == word.END) ≡ false → is_part row.SAVED_LIST text.now ≡ true }
     ensures { GivesAccess (spec.saved (in_statement (surroundings e.now)) slot (spec.what_at text.now)) result }
 {
     if is_at(END, text) {
-        Ok(Access::DataEnd { slot })
-    } else {
-        Err(Fault::Code(Code::known(S27_LEFT_OUT)))
+        return Ok(Access::DataEnd { slot });
+    }
+    match saved_values(alloc, e, text) {
+        Ok(values) => Ok(Access::DataSave { slot, values }),
+        Err(fault) => Err(fault),
     }
 }
 
 /// What a record or an end mark asks for: its slot first.
 #[tactic(auto, using(crate::proofs::SaveRows::saved_slot, crate::proofs::SaveRows::list_here))]
 fn ask_in_file(
+    alloc: Global,
     d: &Drives<'_>,
     slots: &[Option<Slot>; 16],
     e: &Env<'_>,
@@ -49,7 +52,7 @@ fn ask_in_file(
     ensures { GivesAccess (spec.saves_in (drives_seen d.now) slots.now (in_statement (surroundings e.now)) (tree_at row.SAVED_VALUES text.now)) result }
 {
     match file_used(d, slots, slot_written(text)) {
-        Ok(slot) => ask_for_file(e, slot, past_slot(text)),
+        Ok(slot) => ask_for_file(alloc, e, slot, past_slot(text)),
         Err(code) => Err(Fault::Code(code)),
     }
 }
@@ -57,6 +60,7 @@ fn ask_in_file(
 /// What DATASAVE DC asks for.
 #[tactic(auto, using(crate::proofs::SaveRows::new_here, crate::proofs::SaveRows::saved_here, crate::proofs::SaveRows::asks_of_new, crate::proofs::SaveRows::asks_of_saved))]
 pub fn ask_to_save(
+    alloc: Global,
     d: &Drives<'_>,
     slots: &[Option<Slot>; 16],
     e: &Env<'_>,
@@ -69,7 +73,7 @@ pub fn ask_to_save(
     if is_at(OPEN, text) {
         or_fault(ask_for_new(d, e, text))
     } else {
-        ask_in_file(d, slots, e, text)
+        ask_in_file(alloc, d, slots, e, text)
     }
 }
 
