@@ -20,8 +20,12 @@ use Rattle.b2_stmt_mat.specs.Plan as stmt_mat
 use Rattle.b2_stmt_var.specs.Plan as stmt_var
 use Rattle.b2_stmt_disk.specs.Plan as stmt_disk
 use Rattle.b2_stmt_disk.proofs.Legal as stmt_disk_laws
+use Rattle.b2_stmt_file.specs.Plan as stmt_file
+use Rattle.b2_stmt_file.proofs.Legal as stmt_file_laws
 use Rattle.b2_stmt_io.specs.Plan as stmt_io
 use Rattle.b2_stmt_io.proofs.Planned as stmt_io_planned
+use Rattle.b2_stmt_program.specs.Plan as stmt_program
+use Rattle.b2_stmt_program.proofs.Legal as stmt_program_laws
 
 by_if : {A : Type 0} (P : A → Type 0) (b : Bool) (x y : A) → P x → P y → P (if b then x else y)
 by_if P true x y px py = px
@@ -70,3 +74,11 @@ terminal_legally me s = as_it_comes IsLegalPlan me s (stmt_io.works me s) (stmt_
 -- statements on disks
 pub disks_legally : (devices : List Device) → PlansLegally (stmt_disk.plan devices)
 disks_legally = stmt_disk_laws.plans_legally
+
+-- on data files
+pub files_legally : (devices : List Device) → PlansLegally (stmt_file.plan devices)
+files_legally = stmt_file_laws.plans_legally
+
+-- and on programs on disks
+pub programs_legally : (devices : List Device) → PlansLegally (stmt_program.plan devices)
+programs_legally = stmt_program_laws.plans_legally

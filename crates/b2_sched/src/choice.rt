@@ -13,6 +13,10 @@ pub enum Family {
     Terminal,
     /// Statements on arrays.
     Arrays,
+    /// Statements on data files.
+    Files,
+    /// Statements on programs on disks.
+    Programs,
     /// Statements on disks.
     Disks,
 }
@@ -29,6 +33,10 @@ pub fn family_of(row: u16) -> Family
         Family::Terminal
     } else if b2_stmt_mat::is_built(row) {
         Family::Arrays
+    } else if b2_stmt_file::is_built(row) {
+        Family::Files
+    } else if b2_stmt_program::is_built(row) {
+        Family::Programs
     } else {
         Family::Disks
     }

@@ -1,0 +1,33 @@
+-- Where the elements of arrays are, along rows.
+use Rattle.std.proofs.Common.{◌≡◌, ◌≤◌, ◌<◌, ℕ, zero, suc, ◌+◌, ◌*◌, ◌/◌, ◌%◌, ◌^◌, max, false, true, Option, Some, None, refl, sym, ap, subst, arith}
+use Rattle.std.proofs.Math.Nat.{div-lt_iff_lt-mul, mod-lt}
+use Rattle.std.specs.FinMap as map
+use Rattle.std.specs.Option.{option_map, unwrap_or}
+use Rattle.b2_vars.specs.declared.name.Var.{Var}
+use Rattle.b2_vars.specs.declared.shape.Shape.{Shape}
+use Rattle.b2_vars.specs.Shapes.{scalar_shape}
+use Rattle.b2_vars.specs.Tables.{Table, shape_at}
+use Rattle.b2_vars.specs.Variables.{VariableState, fresh}
+
+there_by : (v : Var) (o : Option VariableState) (s : Shape) → Some s ≡ option_map (λ (x : VariableState). x.shape) o → s ≡ (unwrap_or o (fresh v (scalar_shape v) false)).shape
+there_by v None s is = cc
+there_by v (Some x) s is = cc
+
+pub shape_there : (v : Var) (t : Table) (s : Shape) → Some s ≡ option_map (λ (x : VariableState). x.shape) (map.get t v) → s ≡ shape_at v t
+shape_there v t s is = there_by v (map.get t v) s is
+
+missing_by : (v : Var) (o : Option VariableState) → None ≡ option_map (λ (x : VariableState). x.shape) o → scalar_shape v ≡ (unwrap_or o (fresh v (scalar_shape v) false)).shape
+missing_by v None is = refl
+missing_by v (Some x) is = cc
+
+pub shape_missing : (v : Var) (t : Table) → None ≡ option_map (λ (x : VariableState). x.shape) (map.get t v) → scalar_shape v ≡ shape_at v t
+shape_missing v t is = missing_by v (map.get t v) is
+
+-- a row and a column are small, as the dimensions are
+pub row_within : (rows width k : ℕ) → 0 < width → max 1 rows < 65536 → k < max 1 rows * width → k / width + 1 < 65536
+row_within rows width k some small within =
+    let low : k / width < max 1 rows = (div-lt_iff_lt-mul {k = width} {x = k} {y = max 1 rows} some).1 within in
+    omega (arith, low, small)
+
+pub column_within : (width k : ℕ) → 0 < width → width < 65536 → k % width + 1 < 65536
+column_within width k some small = let low : k % width < width = mod-lt k some in omega (arith, low, small)

@@ -1,0 +1,48 @@
+-- Where a statement on data files leads is at no other place, and what it asks for marks no home.
+use Rattle.std.proofs.Common.{ℕ, Bool, List}
+use Rattle.b2_access.specs.Homes.{FinishesWithin, OutcomeIn, PlannedIn, PlansWithin}
+use Rattle.b2_access.specs.Lending.{SeenLent}
+use Rattle.b2_access.specs.Views.{place_came}
+use Rattle.b2_access.specs.Working.{Worked}
+use Rattle.b2_access.specs.declared.accesses.Access.{Access}
+use Rattle.b2_access.specs.declared.accesses.Answer.{Answer}
+use Rattle.b2_access.specs.declared.devices.Device.{Device}
+use Rattle.b2_access.specs.declared.private.Private.{Private}
+use Rattle.b2_access.proofs.Courses.{each_course}
+use Rattle.b2_access.proofs.OwnDevices.{at_disk_marks_none}
+use Rattle.b2_access.proofs.Working as form
+use Rattle.b2_stmt_file.specs.Coming.{by_place, file_ends, outcome_of}
+use Rattle.b2_stmt_file.specs.Loading as load
+use Rattle.b2_stmt_file.specs.Plan.{ends, finish, finishes, is_refused, plan, repeats, works}
+use Rattle.b2_stmt_file.specs.Saving as save
+use Rattle.b2_stmt_file.specs.declared.coming.Came.{Came}
+use Rattle.b2_stmt_file.specs.declared.coming.Came.TheVariants as came
+use Rattle.b2_stmt_file.proofs.Planned.{each_ended, each_planned}
+
+module _ (among : ℕ → Bool) where
+  Leads : Worked → Type 0
+  Leads w = OutcomeIn among w.outcome
+
+  came_in : (c : Came) → OutcomeIn among (outcome_of c)
+  came_in (came.File s) = tt
+  came_in (came.Refused code) = tt
+  came_in came.Later = tt
+
+  ends_in : (n : ℕ) (c : Came) (me : Private) → Leads (file_ends n c me)
+  unfolding Leads
+  ends_in n c me = came_in c
+
+  place_in : (x : Access) (a : Answer) (me : Private) (s : SeenLent) → Leads (ends x a me s)
+  unfolding Leads
+  place_in x a me s =
+      each_course is_refused (repeats me) (finishes x a me s) me s Leads tt tt
+      (λ p is u. each_ended Leads x a me s (λ t. came_in (save.came_of x a t)) (λ t. came_in (load.came_of x a t)) (λ t. came_in (by_place (place_came x a))) tt u)
+
+pub plans_within : (devices : List Device) → PlansWithin (plan devices)
+plans_within devices =
+    form.plans_within (works devices)
+    (λ among me s k. each_planned devices me s (PlannedIn among) tt (λ code. tt) (λ addr a listed is legal. at_disk_marks_none among addr a is))
+
+pub finishes_within : FinishesWithin finish
+unfolding Leads
+finishes_within = form.finishes_within ends (λ among x a me s k. place_in among x a me s)

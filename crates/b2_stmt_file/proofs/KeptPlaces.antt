@@ -1,0 +1,30 @@
+-- A statement on data files leaves the place at which it stands, the one that is kept, and the terminal, all by its form; and it asks at no
+-- terminal.
+use Rattle.std.specs.Prelude.{List}
+use Rattle.b2_access.specs.Keeping.{FinishesInPlace, FinishesKeepNone, PlansInPlace, PlansKeepNone}
+use Rattle.b2_access.specs.OwnTerminal.{FinishesAtTerminal, PlannedAt, PlansAtTerminal}
+use Rattle.b2_access.specs.declared.devices.Device.{Device}
+use Rattle.b2_access.proofs.OwnDevices.{at_disk_names_none}
+use Rattle.b2_access.proofs.Working as form
+use Rattle.b2_stmt_file.specs.Plan.{ends, finish, plan, works}
+use Rattle.b2_stmt_file.proofs.Planned.{each_planned}
+
+pub plans_in_place : (devices : List Device) → PlansInPlace (plan devices)
+plans_in_place devices = form.plans_in_place (works devices)
+
+pub plans_keep_none : (devices : List Device) → PlansKeepNone (plan devices)
+plans_keep_none devices = form.plans_keep_none (works devices)
+
+pub plans_at_terminal : (devices : List Device) → PlansAtTerminal (plan devices)
+plans_at_terminal devices =
+    form.plans_at_terminal (works devices)
+    (λ me s. each_planned devices me s (PlannedAt me.term) tt (λ code. tt) (λ addr a listed is legal. at_disk_names_none me.term addr a is))
+
+pub finishes_in_place : FinishesInPlace finish
+finishes_in_place = form.finishes_in_place ends
+
+pub finishes_keep_none : FinishesKeepNone finish
+finishes_keep_none = form.finishes_keep_none ends
+
+pub finishes_at_terminal : FinishesAtTerminal finish
+finishes_at_terminal = form.finishes_at_terminal ends

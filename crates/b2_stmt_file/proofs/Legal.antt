@@ -1,0 +1,9 @@
+-- What statements on data files ask for may be asked for.
+use Rattle.b2_access.specs.LegalPlans.{IsLegalPlan}
+use Rattle.b2_access.proofs.Working.{as_it_comes}
+use Rattle.b2_stmt_file.specs.Laws.{StatementsPlanLegally}
+use Rattle.b2_stmt_file.specs.Plan.{works}
+use Rattle.b2_stmt_file.proofs.Planned.{each_planned}
+
+pub plans_legally : StatementsPlanLegally
+plans_legally devices me s = as_it_comes IsLegalPlan me s (works devices me s) (each_planned devices me s IsLegalPlan tt (λ code. tt) (λ addr a listed is legal. legal))

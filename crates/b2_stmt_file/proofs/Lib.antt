@@ -1,0 +1,20 @@
+-- What the rows of these statements say at their bytes: SlotRows of the slot that they share, and OpenRows, SaveRows, LoadRows and
+-- SkipRows. Planned has what holds of each statement as it plans and as it finishes; from there follow the laws of LeftAlone,
+-- Listed and Legal, by way of HomesKept, KeptPlaces and Waits. Tests has what tests of numbers say.
+pub mod Tests
+pub mod SlotRows
+pub mod SkipRows
+pub mod OpenRows
+pub mod SaveRows
+pub mod ElementPlaces
+pub mod SavedRows
+pub mod SavedItems
+pub mod LoadRows
+pub mod ShortValues
+pub mod Planned
+pub mod HomesKept
+pub mod KeptPlaces
+pub mod Waits
+pub mod LeftAlone
+pub mod Listed
+pub mod Legal

@@ -1,0 +1,64 @@
+-- A statement on data files that has to wait leaves the partition as it was.
+use Rattle.std.proofs.Common.{◌≡◌, ◌==◌, refl, ap, true, List, ℕ}
+use Rattle.b2_atom.specs.Tree.{Trees}
+use Rattle.b2_atom.specs.Tree.Trees.{Put, In}
+use Rattle.b2_access.specs.AnswerKinds.{delays}
+use Rattle.b2_access.specs.Lending.{SeenLent}
+use Rattle.b2_access.specs.Placed.{Statement}
+use Rattle.b2_access.specs.Views.{opening_came, place_came}
+use Rattle.b2_access.specs.Waiting.{FinishesUnchanged, PlansBeforeChanges}
+use Rattle.b2_access.specs.Working.{Worked, work_of}
+use Rattle.b2_access.specs.declared.accesses.Access.{Access}
+use Rattle.b2_access.specs.declared.accesses.Answer.{Answer}
+use Rattle.b2_access.specs.declared.devices.Device.{Device}
+use Rattle.b2_access.specs.declared.private.Private.{Private}
+use Rattle.b2_access.proofs.Choice.{either}
+use Rattle.b2_access.proofs.Courses.{each_course}
+use Rattle.b2_access.proofs.Delays.{opening_delayed, place_delayed}
+use Rattle.b2_access.proofs.Working as form
+use Rattle.b2_stmt_file.specs.Coming.{by_opening, by_place, file_ends}
+use Rattle.b2_stmt_file.specs.Loading as load
+use Rattle.b2_stmt_file.specs.Plan.{ended_of, ends, finish, finishes, is_refused, plan, repeats, works}
+use Rattle.b2_stmt_file.specs.Saving as save
+use Rattle.b2_stmt_file.specs.declared.coming.Came.{Came}
+use Rattle.b2_stmt_file.specs.declared.coming.Came.TheVariants as came
+use Rattle.b2_stmt_file.proofs.Planned.{each_ended}
+
+pub plans_before_changes : (devices : List Device) → PlansBeforeChanges (plan devices)
+plans_before_changes devices = form.plans_before_changes (works devices)
+
+-- it is asked for again
+IsLater : Came → Type 0
+IsLater c = c ≡ came.Later
+
+opening_later : (x : Access) (a : Answer) → delays a ≡ true → by_opening (opening_came x a) ≡ came.Later
+opening_later x a h = ap by_opening (opening_delayed x a h)
+
+place_later : (x : Access) (a : Answer) → delays a ≡ true → by_place (place_came x a) ≡ came.Later
+place_later x a h = ap by_place (place_delayed x a h)
+
+save_later : (x : Access) (a : Answer) (t : Trees) → delays a ≡ true → save.came_of x a t ≡ came.Later
+unfolding IsLater
+save_later x a (Put word (Put dc (In k operands end))) h = either IsLater (k == 1) _ _ (opening_later x a h) (place_later x a h)
+save_later x a t h = refl
+
+load_later : (x : Access) (a : Answer) (t : Trees) → delays a ≡ true → load.came_of x a t ≡ came.Later
+unfolding IsLater
+load_later x a (Put word (Put dc (In k operands end))) h = either IsLater (k == 1) _ _ (opening_later x a h) refl
+load_later x a t h = refl
+
+later_leaves : (n : ℕ) (c : Came) (me : Private) → c ≡ came.Later → (file_ends n c me).work ≡ work_of me
+later_leaves n c me is = ap (λ (x : Came). (file_ends n x me).work) is
+
+after_statement : (u : Statement) (x : Access) (a : Answer) (me : Private) (s : SeenLent) → delays a ≡ true → (ended_of u x a me s).work ≡ work_of me
+after_statement u x a me s h =
+    each_ended (λ w. w.work ≡ work_of me) x a me s (λ t. later_leaves (save.slot_of t) (save.came_of x a t) me (save_later x a t h)) (λ t. later_leaves (load.slot_of t) (load.came_of x a t) me (load_later x a t h))
+    (λ t. later_leaves _ (by_place (place_came x a)) me (place_later x a h)) refl u
+
+after_place : (x : Access) (a : Answer) (me : Private) (s : SeenLent) → delays a ≡ true → (ends x a me s).work ≡ work_of me
+after_place x a me s h =
+    let F : Worked → Type 0 = λ w. w.work ≡ work_of me in
+    each_course is_refused (repeats me) (finishes x a me s) me s F refl refl (λ p is u. after_statement u x a me s h)
+
+pub finishes_unchanged : FinishesUnchanged finish
+finishes_unchanged = form.finishes_unchanged ends (λ x a me s h. after_place x a me s h)

@@ -1,0 +1,58 @@
+-- The elements of whole arrays, along rows.
+use Rattle.std.specs.Prelude.{ℕ, suc, zero, ◌+◌, ◌/◌, ◌%◌, ◌==◌, max, Bool, List, [], ◌∷◌, ◌++◌, Result, Ok, Err, if◌then◌else◌}
+use Rattle.std.specs.FinMap as map
+use Rattle.b2_base.specs.declared.codes.TheConstants.{X72_TOO_LONG}
+use Rattle.b2_dec.specs.declared.values.Value.{Value}
+use Rattle.b2_rows.specs.declared.leaves.Name.{Name}
+use Rattle.b2_vars.specs.declared.name.Var.{Var}
+use Rattle.b2_vars.specs.declared.shape.Shape.{Shape}
+use Rattle.b2_vars.specs.Calls.{get_code}
+use Rattle.b2_vars.specs.Shapes.{cell_at, cells}
+use Rattle.b2_vars.specs.Tables.{VarsState, shape_at}
+use Rattle.b2_vars.specs.Variables.{value_at}
+use Rattle.b2_access.specs.Touching.{is_short}
+use Rattle.b2_expr.specs.Answers.{◌>>=◌, unless}
+use Rattle.b2_expr.specs.Named.{variables_of}
+use Rattle.b2_expr.specs.Scope.{Surroundings}
+use Rattle.b2_receiver.specs.declared.receiver.Array.{Array}
+
+-- the row and the column of the k-th of them, counted from 0; an array of one dimension has no columns
+abbrev pub row_of : Shape → ℕ → ℕ
+row_of s k = k / max 1 s.cols + 1
+
+abbrev pub column_of : Shape → ℕ → ℕ
+column_of s k = if s.cols == 0 then 0 else k % max 1 s.cols + 1
+
+-- its value
+abbrev pub value_of : VarsState → Var → ℕ → ℕ → Result Value ℕ
+value_of vars v r c = unless (get_code v r c vars.table) (value_at v (cell_at (shape_at v vars.table) r c) (map.get vars.table v))
+
+abbrev pub element_value : VarsState → Var → ℕ → Result Value ℕ
+element_value vars v k = value_of vars v (row_of (shape_at v vars.table) k) (column_of (shape_at v vars.table) k)
+
+-- a value as a record may have it, X72 where it is longer
+abbrev pub recorded : Value → Result (List Value) ℕ
+recorded x = if is_short x then Ok (x ∷ []) else Err X72_TOO_LONG
+
+-- values and further ones, or the first code
+abbrev pub then_values : Result (List Value) ℕ → Result (List Value) ℕ → Result (List Value) ℕ
+then_values xs more = xs >>= (λ ys. more >>= (λ zs. Ok (ys ++ zs)))
+
+abbrev pub element_recorded : VarsState → Var → ℕ → Result (List Value) ℕ
+element_recorded vars v k = element_value vars v k >>= recorded
+
+-- n elements from the k-th on
+abbrev pub values_from : VarsState → Var → ℕ → ℕ → Result (List Value) ℕ
+values_from vars v k zero = Ok []
+values_from vars v k (suc n) = then_values (element_recorded vars v k) (values_from vars v (k + 1) n)
+
+-- all of them
+abbrev pub array_values : VarsState → Var → Result (List Value) ℕ
+array_values vars v = values_from vars v 0 (cells (shape_at v vars.table))
+
+-- the variables among which an array is
+abbrev pub name_of : Array → Name
+name_of a = record { letter = a.var.letter; digit = a.var.digit; alpha = a.var.alpha; global = a.global }
+
+abbrev pub array_variables : Surroundings → Array → Result VarsState ℕ
+array_variables e a = variables_of e (name_of a)

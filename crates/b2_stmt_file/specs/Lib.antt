@@ -1,0 +1,12 @@
+pub mod Asking
+pub mod Slots
+pub mod Counts
+pub mod Elements
+pub mod SavedValues
+pub mod Coming
+pub mod Opening
+pub mod Skipping
+pub mod Saving
+pub mod Loading
+pub mod Plan
+pub mod Laws

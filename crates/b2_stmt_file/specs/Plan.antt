@@ -1,0 +1,85 @@
+-- What a statement plans, by the unit at the place of a partition, and how it finishes.
+use Rattle.std.specs.Prelude.{ℕ, ◌==◌, ◌||◌, Bool, false, List, Option, Result, Ok, Err, if◌then◌else◌}
+use Rattle.b2_base.specs.declared.codes.TheConstants.{S27_LEFT_OUT}
+use Rattle.b2_base.specs.declared.files.Slot.{Slot}
+use Rattle.b2_atom.specs.Tree.{Trees}
+use Rattle.b2_atom.specs.declared.rows.TheConstants as row
+use Rattle.b2_expr.specs.Scope.{Context}
+use Rattle.b2_expr.specs.Value.{context_of}
+use Rattle.b2_expr.specs.Workspace.{work_in}
+use Rattle.b2_access.specs.Courses.{Here, course}
+use Rattle.b2_access.specs.Lending.{SeenLent}
+use Rattle.b2_access.specs.Partition.{setting_of}
+use Rattle.b2_access.specs.Placed.{Statement}
+use Rattle.b2_access.specs.Planning.{Finishing, Planning}
+use Rattle.b2_access.specs.Views.{place_came}
+use Rattle.b2_access.specs.Working.{Plans, Worked, Working, finishes_by, leaves, plans_by, stops}
+use Rattle.b2_access.specs.declared.accesses.Access.{Access}
+use Rattle.b2_access.specs.declared.accesses.Answer.{Answer}
+use Rattle.b2_access.specs.declared.devices.Device.{Device}
+use Rattle.b2_access.specs.declared.planned.Outcome.{Outcome}
+use Rattle.b2_access.specs.declared.planned.Outcome.TheVariants as outcome
+use Rattle.b2_access.specs.declared.planned.Planned.{Planned}
+use Rattle.b2_access.specs.declared.planned.Planned.TheVariants as planned
+use Rattle.b2_access.specs.declared.private.Private.{Private}
+use Rattle.b2_drive.specs.Drives.{DrivesSeen, drives_of}
+use Rattle.b2_stmt_file.specs.Coming.{by_place, file_ends}
+use Rattle.b2_stmt_file.specs.Loading.{asks_to_load, loading_ends}
+use Rattle.b2_stmt_file.specs.Saving.{asks_to_save, saving_ends}
+use Rattle.b2_stmt_file.specs.Skipping.{asks_to_skip, back, forward, slot_skipped}
+
+-- they stand in all lines
+abbrev pub is_refused : ℕ → Bool → Bool
+is_refused r program = false
+
+-- what a statement asks for, or the first code from the left
+abbrev pub asked_of : DrivesSeen → List (Option Slot) → Context → ℕ → Trees → Result Access ℕ
+asked_of d slots e r t =
+    if r == row.DATASAVE then asks_to_save d slots e t
+    else (if r == row.DATALOAD then asks_to_load d slots e t
+    else (if r == row.DSKIP then asks_to_skip forward d slots e t
+    else (if r == row.DBACKSPACE then asks_to_skip back d slots e t
+    else Err S27_LEFT_OUT)))
+
+abbrev pub asks_or_fails : Result Access ℕ → Planned
+asks_or_fails (Ok a) = planned.Ask a
+asks_or_fails (Err code) = planned.Done (outcome.Failed code)
+
+abbrev pub course_of : List Device → Statement → Private → SeenLent → Working
+course_of devices u me s = Plans (asks_or_fails (asked_of (drives_of devices me) me.slots (context_of (work_in (setting_of me) s.home me.vars)) u.row u.tree))
+
+abbrev pub does : List Device → Private → SeenLent → Statement → Here → Working
+does devices me s u h = course_of devices u me s
+
+-- what the statement at a partition's place plans, over the devices that there are
+abbrev pub works : List Device → Private → SeenLent → Working
+works devices me s = course is_refused stops (does devices me s) me.place me s
+
+abbrev pub plan : List Device → Private → SeenLent → Planning
+plan devices me s = plans_by (works devices) me s
+
+-- how a statement finishes by the answer to the access that it asked for
+abbrev pub ended_of : Statement → Access → Answer → Private → SeenLent → Worked
+ended_of u x a me s =
+    if u.row == row.DATASAVE then saving_ends x a u.tree me
+    else (if u.row == row.DATALOAD then loading_ends x a u.tree me
+    else (if u.row == row.DSKIP || u.row == row.DBACKSPACE then file_ends (slot_skipped u.tree) (by_place (place_came x a)) me
+    else leaves me outcome.Repeat))
+
+abbrev pub finishes : Access → Answer → Private → SeenLent → Statement → Here → Worked
+finishes x a me s u h = ended_of u x a me s
+
+-- elsewhere the step is repeated
+abbrev pub repeats : Private → Outcome → Worked
+repeats me o = leaves me outcome.Repeat
+
+-- how the statement at a partition's place finishes
+abbrev pub ends : Access → Answer → Private → SeenLent → Worked
+ends x a me s = course is_refused (repeats me) (finishes x a me s) me.place me s
+
+abbrev pub finish : Access → Answer → Private → SeenLent → Finishing
+finish x a me s = finishes_by ends x a me s
+
+-- the rows that this crate builds
+abbrev pub is_built : ℕ → Bool
+is_built r = r == row.DATASAVE || r == row.DATALOAD || r == row.DSKIP || r == row.DBACKSPACE

@@ -1,0 +1,15 @@
+// Accesses that are asked for, or faults.
+ghost use Rattle.b2_stmt_file.specs.Asking.{GivesAccess};
+
+use b2_access::Access;
+use b2_base::{Code, Fault};
+
+/// What is asked for, or a code as a fault.
+pub fn or_fault(asked: Result<Access, Code>) -> Result<Access, Fault>
+    ensures { GivesAccess asked result }
+{
+    match asked {
+        Ok(access) => Ok(access),
+        Err(code) => Err(Fault::Code(code)),
+    }
+}

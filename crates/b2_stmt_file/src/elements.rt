@@ -1,0 +1,173 @@
+// The elements of whole arrays, along rows.
+ghost use Rattle.std.specs.Prelude.{◌≡◌, ◌<◌, ◌^◌, max, true, MatchResult, Ok, Err};
+ghost use Rattle.b2_vars.specs.Names.{is_legal_name};
+ghost use Rattle.b2_vars.specs.Shapes.{cells, scalar_shape};
+ghost use Rattle.b2_vars.specs.Tables.{shape_at};
+ghost use Rattle.b2_expr.specs.Scope.{surroundings};
+ghost use Rattle.b2_access.specs.Touching as touching;
+ghost use Rattle.b2_stmt_file.specs.Elements as spec;
+ghost use Rattle.b2_stmt_file.specs.SavedValues.{PutsValues};
+
+use b2_base::codes::X72_TOO_LONG;
+use b2_base::{Code, Fault};
+use b2_dec::Value;
+use b2_expr::{Env, variables_of};
+use b2_receiver::Array;
+use b2_rows::Name;
+use b2_vars::{Shape, Var, Vars};
+
+/// The longest alpha value of a record.
+const LONGEST: usize = 124;
+
+/// How many elements a shape has.
+pub fn count_of(shape: Shape) -> usize
+    ensures count { result ≡ cells shape }
+    ensures small { result < 2 ^ 33 }
+{
+    usize::from(shape.rows.max(1)) * usize::from(shape.cols.max(1))
+}
+
+/// The shape of a scalar that isn't there.
+fn scalar_shape(v: Var) -> Shape
+    ensures { result ≡ scalar_shape v }
+{
+    Shape {
+        rows: 0,
+        cols: 0,
+        len: if v.alpha { 16 } else { 0 },
+    }
+}
+
+/// How many elements a row of a shape has.
+fn width_of(shape: Shape) -> usize
+    ensures width { result ≡ max 1 shape.cols }
+    ensures some { 0 < result }
+    ensures small { result < 2 ^ 16 }
+{
+    usize::from(shape.cols.max(1))
+}
+
+/// The row of the k-th element of a shape.
+#[tactic(auto, using(crate::proofs::ElementPlaces::row_within))]
+pub fn row_of(shape: Shape, k: usize) -> u16
+    requires within { k < cells shape }
+    ensures { result ≡ spec.row_of shape k }
+{
+    let width = width_of(shape);
+    let rows = usize::from(shape.rows.max(1));
+    prove!(rows < 65_536);
+    (k / width + 1) as u16
+}
+
+/// The column of the k-th element of a shape, 0 where it has no columns.
+#[tactic(auto, using(crate::proofs::ElementPlaces::column_within))]
+pub fn column_of(shape: Shape, k: usize) -> u16
+    ensures { result ≡ spec.column_of shape k }
+{
+    let width = width_of(shape);
+    if shape.cols == 0 {
+        0
+    } else {
+        (k % width + 1) as u16
+    }
+}
+
+/// The shape of a variable, that of a new scalar where nothing stands under its name.
+#[tactic(auto, using(crate::proofs::ElementPlaces::shape_there, crate::proofs::ElementPlaces::shape_missing))]
+pub fn shape_of(vars: &Vars, v: Var) -> Shape
+    requires named { is_legal_name v ≡ true }
+    ensures { result ≡ shape_at v vars.now.table }
+{
+    match vars.shape(v) {
+        Some(shape) => shape,
+        None => scalar_shape(v),
+    }
+}
+
+/// Whether a record may have a value.
+fn is_short(value: &Value) -> bool
+    ensures { result ≡ touching.is_short value.now }
+{
+    match value {
+        Value::Number(_) => true,
+        Value::Alpha(bytes) => !bytes.is_empty() && bytes.len() <= LONGEST,
+    }
+}
+
+/// Puts a value after others, X72 where it is too long for a record.
+#[tactic(auto, using(crate::proofs::SavedRows::recorded_short, crate::proofs::SavedRows::recorded_long))]
+pub fn put_value(value: Value, into: &mut Vec<Value>) -> Result<(), Fault>
+    ensures { PutsValues (spec.recorded value) into.old.items into.new.items result }
+{
+    if !is_short(&value) {
+        return Err(Fault::Code(Code::known(X72_TOO_LONG)));
+    }
+    match into.push(value) {
+        Ok(()) => Ok(()),
+        Err(_) => Err(Fault::NoMemory),
+    }
+}
+
+/// The value of the k-th element of an array.
+#[tactic(auto, using(crate::proofs::SavedRows::value_given, crate::proofs::SavedRows::value_coded))]
+fn element_value(vars: &Vars, v: Var, shape: Shape, k: usize) -> Result<Value, Code>
+    requires named { is_legal_name v ≡ true }
+    requires shape { shape ≡ shape_at v vars.now.table }
+    requires within { k < cells shape }
+    ensures { MatchResult result (λ x. spec.element_value vars.now v k ≡ Ok x) (λ code. spec.element_value vars.now v k ≡ Err code) }
+{
+    vars.get(v, row_of(shape, k), column_of(shape, k))
+}
+
+/// Puts the k-th element of an array after other values.
+fn put_element(
+    vars: &Vars,
+    v: Var,
+    shape: Shape,
+    k: usize,
+    into: &mut Vec<Value>,
+) -> Result<(), Fault>
+    requires named { is_legal_name v ≡ true }
+    requires shape { shape ≡ shape_at v vars.now.table }
+    requires within { k < cells shape }
+    ensures { PutsValues (spec.element_recorded vars.now v k) into.old.items into.new.items result }
+{
+    match element_value(vars, v, shape, k) {
+        Ok(value) => put_value(value, into),
+        Err(code) => Err(Fault::Code(code)),
+    }
+}
+
+/// Puts all elements of an array after other values, along rows.
+#[tactic(auto, using(crate::proofs::SavedRows::element_put, crate::proofs::SavedRows::element_failed, crate::proofs::SavedRows::none_put))]
+pub fn put_elements(vars: &Vars, v: Var, into: &mut Vec<Value>) -> Result<(), Fault>
+    requires named { is_legal_name v ≡ true }
+    ensures { PutsValues (spec.array_values vars.now v) into.old.items into.new.items result }
+{
+    let shape = shape_of(vars, v);
+    let mut left = count_of(shape);
+    let mut k = 0usize;
+    while left > 0 {
+        if let Err(fault) = put_element(vars, v, shape, k, into) {
+            return Err(fault);
+        }
+        k += 1;
+        left -= 1;
+    }
+    Ok(())
+}
+
+/// The variables among which an array is: X77 where there are no `@` variables.
+pub fn array_variables<'a>(e: &Env<'a>, array: &Array) -> Result<&'a Vars, Code>
+    ensures { MatchResult result (λ vars. spec.array_variables (surroundings e.now) array.now ≡ Ok vars.now) (λ code. spec.array_variables (surroundings e.now) array.now ≡ Err code) }
+{
+    variables_of(
+        e,
+        Name {
+            letter: array.var.letter,
+            digit: array.var.digit,
+            alpha: array.var.alpha,
+            global: array.global,
+        },
+    )
+}

@@ -1,0 +1,146 @@
+// What the statement at a partition's place plans, and how it finishes.
+ghost use Rattle.std.specs.Prelude.{◌≡◌, ◌≤◌, true, IfOk};
+ghost use Rattle.b2_access.specs.Answering.{can_answer};
+ghost use Rattle.b2_access.specs.Lending.{globals_lent, seen_lent};
+ghost use Rattle.b2_rows.specs.Laws.{IsRow};
+ghost use Rattle.b2_rows.specs.Rows.{tree_at};
+ghost use Rattle.b2_expr.specs.Scope.{surroundings};
+ghost use Rattle.b2_expr.specs.Value.{in_statement};
+ghost use Rattle.b2_drive.specs.Drives.{drives_seen};
+ghost use Rattle.b2_stmt_file.specs.Asking.{GivesAccess, IsPlanned};
+ghost use Rattle.b2_stmt_file.specs.Plan as spec;
+
+use crate::asking::or_fault;
+use crate::coming::{came_of_moving, keep_file, outcome_of};
+use crate::loading::{ask_to_load, came_of_load, slot_of_load};
+use crate::saving::{ask_to_save, came_of_save, slot_of_save};
+use crate::skipping::{ask_to_go_back, ask_to_skip, slot_of_back, slot_of_skip};
+use b2_access::{
+    Access, Answer, DeviceTable, Lent, Outcome, Planned, Private, setting_of, statement_placed,
+};
+use b2_atom::rows;
+use b2_base::codes::S27_LEFT_OUT;
+use b2_base::{Code, Fault, NoMemory, Slot};
+use b2_drive::{Drives, drives_for};
+use b2_expr::{Env, Workspace, surroundings_of};
+use std::alloc::Global;
+
+/// Whether this crate builds a row.
+pub fn is_built(row: u16) -> bool
+    ensures { result ≡ spec.is_built row }
+{
+    matches!(
+        row,
+        rows::DATASAVE | rows::DATALOAD | rows::DSKIP | rows::DBACKSPACE
+    )
+}
+
+/// What a statement asks for, or the first code from the left.
+fn ask(
+    alloc: Global,
+    d: &Drives<'_>,
+    slots: &[Option<Slot>; 16],
+    e: &Env<'_>,
+    row: u16,
+    unit: &[u8],
+) -> Result<Access, Fault>
+    requires read { IsRow row unit.now (tree_at row unit.now) }
+    ensures { GivesAccess (spec.asked_of (drives_seen d.now) slots.now (in_statement (surroundings e.now)) row (tree_at row unit.now)) result }
+{
+    match row {
+        rows::DATASAVE => ask_to_save(alloc, d, slots, e, unit),
+        rows::DATALOAD => ask_to_load(d, slots, e, unit),
+        rows::DSKIP => or_fault(ask_to_skip(d, slots, e, unit)),
+        rows::DBACKSPACE => or_fault(ask_to_go_back(d, slots, e, unit)),
+        _ => Err(Fault::Code(Code::known(S27_LEFT_OUT))),
+    }
+}
+
+/// An access is asked for, or it is a fault.
+fn asks_or_fails(asked: Result<Access, Fault>) -> Result<Planned, NoMemory>
+    ensures { IfOk result (IsPlanned asked) }
+{
+    match asked {
+        Ok(access) => Ok(Planned::Ask(access)),
+        Err(fault) => match fault {
+            Fault::Code(code) => Ok(Planned::Done(Outcome::Failed(code))),
+            Fault::NoMemory => Err(NoMemory),
+        },
+    }
+}
+
+/// What the statement at the place of a partition plans, over the devices that there are. Where no unit is there it is ready.
+pub fn plan(
+    alloc: Global,
+    me: &mut Private,
+    lent: &mut Lent<'_>,
+    devices: &DeviceTable,
+) -> Result<Planned, NoMemory>
+    ensures planned { IfOk result (λ p. record { me = me.new; globals = globals_lent lent.new; planned = p } ≡ spec.plan devices.now me.old (seen_lent lent.old)) }
+    ensures same_texts { (lent.new.own ≡ lent.old.own) × (lent.new.home ≡ lent.old.home) }
+    ensures same_globals { lent.new.globals.now ≡ lent.old.globals.now }
+    ensures same_reference { lent.new.globals.ghost_name ≡ lent.old.globals.ghost_name }
+    ensures part { me.new.part ≡ me.old.part }
+{
+    let Some(place) = me.place else {
+        return Ok(Planned::Done(Outcome::Ready));
+    };
+    let d = drives_for(devices, me);
+    let setting = setting_of(me);
+    let Some(unit) = statement_placed(place, &me.immediate, lent.home) else {
+        return Ok(Planned::Done(Outcome::Ready));
+    };
+    let work = Workspace {
+        own: &mut me.vars,
+        setting,
+        home: lent.home,
+    };
+    let e = surroundings_of(&work);
+    asks_or_fails(ask(alloc, &d, &me.slots, &e, unit.row, unit.bytes))
+}
+
+/// How the statement at the place of a partition finishes, by the access that it asked for and its answer, which is one that the
+/// access can have.
+pub fn finish(
+    alloc: Global,
+    me: &mut Private,
+    lent: &mut Lent<'_>,
+    access: &Access,
+    answer: &Answer,
+) -> Result<Outcome, NoMemory>
+    requires possible { can_answer access.now answer.now ≡ true }
+    ensures finished { IfOk result (λ o. record { me = me.new; globals = globals_lent lent.new; outcome = o } ≡ spec.finish access.now answer.now me.old (seen_lent lent.old)) }
+    ensures same_globals { lent.new.globals.now ≡ lent.old.globals.now }
+    ensures same_reference { lent.new.globals.ghost_name ≡ lent.old.globals.ghost_name }
+    ensures part { me.new.part ≡ me.old.part }
+{
+    let Some(place) = me.place else {
+        return Ok(Outcome::Repeat);
+    };
+    let Some(unit) = statement_placed(place, &me.immediate, lent.home) else {
+        return Ok(Outcome::Repeat);
+    };
+    match unit.row {
+        rows::DATASAVE => {
+            let came = came_of_save(access, answer, unit.bytes);
+            keep_file(&mut me.slots, slot_of_save(unit.bytes), &came);
+            Ok(outcome_of(&came))
+        }
+        rows::DATALOAD => {
+            let came = came_of_load(access, answer, unit.bytes);
+            keep_file(&mut me.slots, slot_of_load(unit.bytes), &came);
+            Ok(outcome_of(&came))
+        }
+        rows::DSKIP => {
+            let came = came_of_moving(access, answer);
+            keep_file(&mut me.slots, slot_of_skip(unit.bytes), &came);
+            Ok(outcome_of(&came))
+        }
+        rows::DBACKSPACE => {
+            let came = came_of_moving(access, answer);
+            keep_file(&mut me.slots, slot_of_back(unit.bytes), &came);
+            Ok(outcome_of(&came))
+        }
+        _ => Ok(Outcome::Repeat),
+    }
+}
