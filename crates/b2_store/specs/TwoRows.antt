@@ -1,7 +1,9 @@
 -- Files that are moved between the platters of two rows.
-use Rattle.std.specs.Prelude.{ℕ, List, Option, Some, None, Result, Ok, Err}
+use Rattle.std.specs.Prelude.{◌≡◌, ℕ, List, Option, Some, None, Result, Ok, Err}
 use Rattle.std.specs.Map.{lookup, set_value}
 use Rattle.std.specs.Str.{bytes_eq}
+use Rattle.b2_base.specs.declared.codes.Fault.{Fault}
+use Rattle.b2_base.specs.declared.codes.Fault.TheVariants as fault
 use Rattle.b2_store.specs.FileWork.{moved}
 
 abbrev pub Platters : Type 0
@@ -22,3 +24,8 @@ moved_from_row name to rows (Some image) = moved_to_row name to rows image (look
 -- what is listed at the second address has the file of that name of the first one besides, or all of its live files
 abbrev pub rows_moved : Option (List ℕ) → List ℕ → List ℕ → Platters → Result Platters ℕ
 rows_moved name from to rows = moved_from_row name to rows (lookup (λ k. bytes_eq k from) rows)
+
+-- why nothing is moved: a code that is said; or memory failed, which only all files may want
+abbrev pub MoveFails : {A : Type 0} → Option (List ℕ) → Result A ℕ → Fault → Type 0
+MoveFails name said (fault.Code code) = said ≡ Err code
+MoveFails name said fault.NoMemory = name ≡ None

@@ -1,5 +1,5 @@
 // What disks do with data files.
-ghost use Rattle.std.specs.Prelude.{◌≡◌, ◌≤◌, ◌×◌, true, None, Ok, Err, IfOk, IfErr};
+ghost use Rattle.std.specs.Prelude.{◌≡◌, ◌≤◌, true, None, Ok, Err, IfOk, IfErr};
 ghost use Rattle.std.specs.List.{list_all};
 ghost use Rattle.b2_access.specs.AccessRows.{loaded_answer, no_file};
 ghost use Rattle.b2_access.specs.Touching.{is_short};

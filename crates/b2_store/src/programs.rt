@@ -1,5 +1,5 @@
 // What disks do with programs.
-ghost use Rattle.std.specs.Prelude.{◌≡◌, ◌×◌, Ok, Err, OnOk, IfErr, OnErr};
+ghost use Rattle.std.specs.Prelude.{◌≡◌, Ok, Err, OnOk, IfErr, OnErr};
 ghost use Rattle.b2_catalog.specs.Results.{FailsBy};
 ghost use Rattle.b2_store.specs.DiskWork.{disks};
 

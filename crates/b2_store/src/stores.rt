@@ -92,7 +92,8 @@ fn key_answer(key: Option<KeyItem>) -> Answer
 
 /// The answer to a fault.
 fn refusal(fault: Fault) -> Result<Answer, NoMemory>
-    ensures { IfOk result (IsRefusal fault) }
+    ensures refused { IfOk result (IsRefusal fault) }
+    ensures memory { IfErr result (λ _. fault ≡ Fault.NoMemory) }
 {
     match fault {
         Fault::Code(code) => Ok(Answer::Refused(code)),
@@ -472,14 +473,18 @@ impl Stores {
     }
 
     /// Moves the file of a name to another platter, or all live files; nothing where one of the two isn't listed.
-    #[tactic(auto, using(crate::proofs::Same::with_same))]
+    #[tactic(auto, using(crate::proofs::Moves::apart_bytes))]
     fn move_files(&mut self, from: Addr, to: Addr, name: Option<Name8>) -> Result<Answer, NoMemory>
         requires apart { from ≢ to }
-        ensures { (who : ℕ) → IfOk result (Does who (moving from name to) self.old self.new) }
+        ensures done { (who : ℕ) → IfOk result (Does who (moving from name to) self.old self.new) }
+        ensures memory { IfErr result (λ _. name ≡ None) }
     {
-        if self.platters.get(from).is_none() || self.platters.get(to).is_none() {
+        let Some(_source) = self.platters.get(from) else {
             return Ok(Answer::Done);
-        }
+        };
+        let Some(_target) = self.platters.get(to) else {
+            return Ok(Answer::Done);
+        };
         match self.platters.move_between(self.alloc, from, to, name) {
             Ok(()) => Ok(Answer::Done),
             Err(fault) => refusal(fault),

@@ -2,9 +2,8 @@
 ghost use Rattle.std.specs.Prelude.{◌≡◌, false, Ok, IsSome, OnOk, IfErr, OnErr};
 ghost use Rattle.std.specs.Map.{lookup};
 ghost use Rattle.std.specs.Str.{bytes_eq};
-ghost use Rattle.b2_catalog.specs.Results.{FailsBy};
 ghost use Rattle.b2_store.specs.FileWork.{moved};
-ghost use Rattle.b2_store.specs.TwoRows.{rows_moved};
+ghost use Rattle.b2_store.specs.TwoRows.{MoveFails, rows_moved};
 
 use crate::rows::{Rows, row_index};
 use b2_base::{Addr, Fault, Name8};
@@ -20,7 +19,7 @@ fn move_files(
     name: Option<Name8>,
 ) -> Result<(), Fault>
     ensures ok { OnOk result (moved name from.now to.old ≡ Ok to.new) }
-    ensures fails { IfErr result (FailsBy (moved name from.now to.old)) }
+    ensures fails { IfErr result (MoveFails name (moved name from.now to.old)) }
     ensures kept { OnErr result (to.new ≡ to.old) }
 {
     let Some(name) = name else {
@@ -44,7 +43,7 @@ fn move_between_rows(
     requires to { IsSome (lookup (λ k. bytes_eq k to) rows.old.items) }
     requires apart { bytes_eq from to ≡ false }
     ensures ok { OnOk result (rows_moved name from to rows.old.items ≡ Ok rows.new.items) }
-    ensures fails { IfErr result (FailsBy (rows_moved name from to rows.old.items)) }
+    ensures fails { IfErr result (MoveFails name (rows_moved name from to rows.old.items)) }
     ensures kept { OnErr result (rows.new.items ≡ rows.old.items) }
 {
     let i = row_index(rows, from).unwrap();
@@ -69,7 +68,7 @@ impl Rows<Addr, Platter> {
         requires to { IsSome (lookup (λ k. bytes_eq k to) self.old) }
         requires apart { bytes_eq from to ≡ false }
         ensures ok { OnOk result (rows_moved name from to self.old ≡ Ok self.new) }
-        ensures fails { IfErr result (FailsBy (rows_moved name from to self.old)) }
+        ensures fails { IfErr result (MoveFails name (rows_moved name from to self.old)) }
         ensures kept { OnErr result (self.new ≡ self.old) }
     {
         move_between_rows(alloc, &mut self.rows, from, to, name)

@@ -27,3 +27,17 @@ returns-in-Scratch-clause-done c = subst (λ a. Does c.args.who a c.args.self.no
 
 pub returns-in-Format-clause-done : goal.returns-in-Format-clause-done
 returns-in-Format-clause-done c = subst (λ a. Does c.args.who a c.args.self.now c.format.new.self c.format.result) (sym c.in-Format.is) (c.format.ensures c.args.who)
+
+pub returns-in-DataNew-clause-done : goal.returns-in-DataNew-clause-done
+returns-in-DataNew-clause-done c = subst (λ a. Does c.args.who a c.args.self.now c.data_new.new.self c.data_new.result) (sym c.in-DataNew.is) (c.data_new.ensures c.args.who)
+
+pub returns-in-DataOpen-clause-done : goal.returns-in-DataOpen-clause-done
+returns-in-DataOpen-clause-done c = subst (λ a. Does c.args.who a c.args.self.now c.args.self.now c.data_open.result) (sym c.in-DataOpen.is) (c.data_open.ensures c.args.who)
+
+pub returns-in-DataSave-clause-done : goal.returns-in-DataSave-clause-done
+returns-in-DataSave-clause-done c =
+    let asked = c.in-DataSave.is ∙ ap (λ vs. access.DataSave c.in-DataSave.slot vs) (sym c.values.ensures) in
+    subst (λ a. Does c.args.who a c.args.self.now c.data_save.new.self c.data_save.result) (sym asked) (c.data_save.ensures c.args.who)
+
+pub returns-in-DataEnd-clause-done : goal.returns-in-DataEnd-clause-done
+returns-in-DataEnd-clause-done c = subst (λ a. Does c.args.who a c.args.self.now c.data_end.new.self c.data_end.result) (sym c.in-DataEnd.is) (c.data_end.ensures c.args.who)
