@@ -144,9 +144,29 @@ fn suits(access: &Access, answer: &Answer) -> bool
         }
         Access::Limits { .. } => matches!(answer, Answer::Four(..) | Answer::Wait(_)),
         Access::ListDisk { .. } => matches!(answer, Answer::Bytes(_) | Answer::Wait(_)),
-        Access::Scratch { .. } | Access::Format { .. } => matches!(
+        Access::Scratch { .. }
+        | Access::Format { .. }
+        | Access::SaveProgram { .. }
+        | Access::MovePlatter { .. }
+        | Access::MoveFile { .. } => matches!(
             answer,
             Answer::Done | Answer::Refused(_) | Answer::Wait(_)
+        ),
+        Access::LoadProgram { .. } => matches!(
+            answer,
+            Answer::Done | Answer::Refused(_) | Answer::Locked(_) | Answer::Wait(_)
+        ),
+        Access::DataNew { .. } | Access::DataOpen { .. } => matches!(
+            answer,
+            Answer::Opened(_) | Answer::Refused(_) | Answer::Wait(_)
+        ),
+        Access::DataSave { .. } | Access::DataEnd { .. } | Access::Skip { .. } => matches!(
+            answer,
+            Answer::Moved(_) | Answer::Refused(_) | Answer::Wait(_)
+        ),
+        Access::DataLoad { .. } => matches!(
+            answer,
+            Answer::Values(..) | Answer::AtEnd | Answer::Refused(_) | Answer::Wait(_)
         ),
     }
 }

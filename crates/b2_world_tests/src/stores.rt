@@ -170,6 +170,16 @@ fn show_answer(into: &mut String, answer: &Answer) -> Result<(), NoMemory> {
         Answer::NoKeys => into.push_str("no keys")?,
         Answer::Four(start, end, used, kind) => write!(into, "four {start} {end} {used} {kind}")?,
         Answer::Bytes(bytes) => show_named(into, "bytes", bytes.bytes())?,
+        Answer::Opened(slot) => {
+            let (start, end, place) = (slot.start, slot.end, slot.pos);
+            write!(into, "opened {start} {end} at {place}")?;
+        }
+        Answer::Moved(place) => write!(into, "moved to {place}")?,
+        Answer::Values(values, place) => {
+            let count = values.values().len();
+            write!(into, "{count} values up to {place}")?;
+        }
+        Answer::AtEnd => into.push_str("at the end")?,
         Answer::Wait(part) => {
             let number = part.number();
             write!(into, "wait for {number}")?;
