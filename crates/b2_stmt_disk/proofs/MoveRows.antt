@@ -247,7 +247,7 @@ after_file t ok is = rest_is t true ok is
 pub after_none : (t : Text) → is_part row.MOVED t ≡ true → (first (after_drive_from t) == byte.comma) ≡ false → after_part row.MOVED t ≡ after_drive_from t
 after_none t ok is = rest_is t false ok is
 
--- MOVE: a printer's drive is left out of the language
+-- MOVE: the drives F and R are left out of the language
 abbrev move_items : List Item
 move_items = Word word.MOVE ∷ Either (start.Two byte.upper_f byte.upper_r) row.LEFT_OUT row.MOVED ∷ Word word.TO ∷ Part row.DRIVE ∷ []
 

@@ -33,6 +33,7 @@ mod input;
 mod loops;
 mod numbers;
 mod printing;
+mod programs;
 mod resuming;
 mod steps;
 mod texts;
