@@ -1,5 +1,5 @@
 -- Where the elements of arrays are, along rows.
-use Rattle.std.proofs.Common.{◌≡◌, ◌≤◌, ◌<◌, ℕ, zero, suc, ◌+◌, ◌*◌, ◌/◌, ◌%◌, ◌^◌, max, false, true, Option, Some, None, refl, sym, ap, subst, arith}
+use Rattle.std.proofs.Common.{◌≡◌, ◌≤◌, ◌<◌, ℕ, zero, suc, ◌+◌, ◌*◌, ◌/◌, ◌%◌, ◌^◌, max, Bool, if◌then◌else◌, false, true, Option, Some, None, refl, sym, ap, subst, arith}
 use Rattle.std.proofs.Math.Nat.{div-lt_iff_lt-mul, mod-lt}
 use Rattle.std.specs.FinMap as map
 use Rattle.std.specs.Option.{option_map, unwrap_or}
@@ -8,6 +8,10 @@ use Rattle.b2_vars.specs.declared.shape.Shape.{Shape}
 use Rattle.b2_vars.specs.Shapes.{scalar_shape}
 use Rattle.b2_vars.specs.Tables.{Table, shape_at}
 use Rattle.b2_vars.specs.Variables.{VariableState, fresh}
+use Rattle.b2_receiver.specs.declared.receiver.Array.{Array}
+use Rattle.b2_receiver.specs.declared.receiver.Receiver.{Receiver}
+use Rattle.b2_receiver.specs.declared.receiver.Receiver.TheVariants as receiver_kind
+use Rattle.b2_stmt_file.specs.Elements.{element_of, receiver_of}
 
 there_by : (v : Var) (o : Option VariableState) (s : Shape) → Some s ≡ option_map (λ (x : VariableState). x.shape) o → s ≡ (unwrap_or o (fresh v (scalar_shape v) false)).shape
 there_by v None s is = cc
@@ -31,3 +35,13 @@ row_within rows width k some small within =
 
 pub column_within : (width k : ℕ) → 0 < width → width < 65536 → k % width + 1 < 65536
 column_within width k some small = let low : k % width < width = mod-lt k some in omega (arith, low, small)
+
+-- an element as a receiver
+abbrev element_by : Bool → Array → Shape → ℕ → Receiver
+element_by b a s k = if b then receiver_kind.Alpha (record { element = element_of a s k; portion = record { from = 0; count = s.len } }) else receiver_kind.Number (element_of a s k)
+
+pub alpha_receiver : (a : Array) (s : Shape) (k : ℕ) → a.var.alpha ≡ true → receiver_of a s k ≡ receiver_kind.Alpha (record { element = element_of a s k; portion = record { from = 0; count = s.len } })
+alpha_receiver a s k is = ap (λ (b : Bool). element_by b a s k) is
+
+pub number_receiver : (a : Array) (s : Shape) (k : ℕ) → a.var.alpha ≡ false → receiver_of a s k ≡ receiver_kind.Number (element_of a s k)
+number_receiver a s k is = ap (λ (b : Bool). element_by b a s k) is

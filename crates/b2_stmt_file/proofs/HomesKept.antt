@@ -1,8 +1,12 @@
 -- Where a statement on data files leads is at no other place, and what it asks for marks no home.
-use Rattle.std.proofs.Common.{ℕ, Bool, List}
+use Rattle.std.proofs.Common.{ℕ, ◌==◌, if◌then◌else◌, Bool, List, Option, Some, None}
+use Rattle.b2_atom.specs.Tree.{Trees}
+use Rattle.b2_atom.specs.Tree.Trees.{Put, In}
+use Rattle.b2_access.specs.Planning.{goes_or}
+use Rattle.b2_access.proofs.Choice.{either}
 use Rattle.b2_access.specs.Homes.{FinishesWithin, OutcomeIn, PlannedIn, PlansWithin}
 use Rattle.b2_access.specs.Lending.{SeenLent}
-use Rattle.b2_access.specs.Views.{place_came}
+use Rattle.b2_access.specs.Views.{loading_came, opening_came, place_came}
 use Rattle.b2_access.specs.Working.{Worked}
 use Rattle.b2_access.specs.declared.accesses.Access.{Access}
 use Rattle.b2_access.specs.declared.accesses.Answer.{Answer}
@@ -11,8 +15,8 @@ use Rattle.b2_access.specs.declared.private.Private.{Private}
 use Rattle.b2_access.proofs.Courses.{each_course}
 use Rattle.b2_access.proofs.OwnDevices.{at_disk_marks_none}
 use Rattle.b2_access.proofs.Working as form
-use Rattle.b2_stmt_file.specs.Coming.{by_place, file_ends, outcome_of}
-use Rattle.b2_stmt_file.specs.Loading as load
+use Rattle.b2_stmt_file.specs.Coming.{by_loading, by_opening, by_place, outcome_of}
+use Rattle.b2_stmt_file.specs.Loading.{loading_ends}
 use Rattle.b2_stmt_file.specs.Plan.{ends, finish, finishes, is_refused, plan, repeats, works}
 use Rattle.b2_stmt_file.specs.Saving as save
 use Rattle.b2_stmt_file.specs.declared.coming.Came.{Came}
@@ -26,17 +30,23 @@ module _ (among : ℕ → Bool) where
   came_in : (c : Came) → OutcomeIn among (outcome_of c)
   came_in (came.File s) = tt
   came_in (came.Refused code) = tt
+  came_in came.Ended = tt
   came_in came.Later = tt
 
-  ends_in : (n : ℕ) (c : Came) (me : Private) → Leads (file_ends n c me)
+  code_in : (c : Came) (o : Option ℕ) → OutcomeIn among (goes_or (outcome_of c) o)
+  code_in c None = came_in c
+  code_in c (Some code) = tt
+
+  load_in : (x : Access) (a : Answer) (t : Trees) (me : Private) (s : SeenLent) → Leads (loading_ends x a t me s)
   unfolding Leads
-  ends_in n c me = came_in c
+  load_in x a (Put word (Put dc (In k operands end))) me s = either Leads (k == 1) _ _ (came_in (by_opening (opening_came x a))) (code_in (by_loading (loading_came x a)) _)
+  load_in x a t me s = tt
 
   place_in : (x : Access) (a : Answer) (me : Private) (s : SeenLent) → Leads (ends x a me s)
   unfolding Leads
   place_in x a me s =
       each_course is_refused (repeats me) (finishes x a me s) me s Leads tt tt
-      (λ p is u. each_ended Leads x a me s (λ t. came_in (save.came_of x a t)) (λ t. came_in (load.came_of x a t)) (λ t. came_in (by_place (place_came x a))) tt u)
+      (λ p is u. each_ended Leads x a me s (λ t. came_in (save.came_of x a t)) (λ t. load_in x a t me s) (λ t. came_in (by_place (place_came x a))) tt u)
 
 pub plans_within : (devices : List Device) → PlansWithin (plan devices)
 plans_within devices =

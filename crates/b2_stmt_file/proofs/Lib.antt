@@ -9,6 +9,7 @@ pub mod SaveRows
 pub mod ElementPlaces
 pub mod SavedRows
 pub mod SavedItems
+pub mod LoadedRows
 pub mod LoadRows
 pub mod ShortValues
 pub mod Planned

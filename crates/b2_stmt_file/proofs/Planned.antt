@@ -38,7 +38,8 @@ use Rattle.b2_drive.specs.Drives.{DrivesSeen, device_named, drive_used, drives_o
 use Rattle.b2_drive.specs.FileNames.{name_given}
 use Rattle.b2_stmt_file.specs.Coming.{by_place, file_ends}
 use Rattle.b2_stmt_file.specs.Counts.{count_from, count_given}
-use Rattle.b2_stmt_file.specs.Loading.{asks_to_load, loading_ends}
+use Rattle.b2_stmt_file.specs.LoadedValues.{all_kinds}
+use Rattle.b2_stmt_file.specs.Loading.{asks_to_load, loading_ends, loads_in}
 use Rattle.b2_stmt_file.specs.Opening.{asks_for_new, asks_for_old, makes, new_file, old_file, reuses}
 use Rattle.b2_stmt_file.specs.Plan.{asked_of, asks_or_fails, course_of, does, ended_of, is_refused, works}
 use Rattle.b2_stmt_file.specs.Saving.{asks_to_save, saved, saves_in, saving_ends}
@@ -175,9 +176,16 @@ module _ (F : Planned → Type 0) (d : DrivesSeen) (failed : (code : ℕ) → F 
   save_asked slots e (Put word (Put dc (In k operands end))) = either Asked (k == 1) _ _ (new_asked e operands) (saves_asked slots e operands)
   save_asked slots e t = failed S17_NUMERIC
 
+  loads_asked : (slots : List (Option Slot)) (e : Context) (t : Trees) → Asked (loads_in d slots e t)
+  unfolding Asked Used
+  loads_asked slots e (In n slot items) =
+      after_file slots (slot_in slot) (λ file. all_kinds e.around (all_listed items) >>= (λ kinds. Ok (access.DataLoad file kinds)))
+      (λ file used. after_value (all_kinds e.around (all_listed items)) (λ kinds. Ok (access.DataLoad file kinds)) (λ kinds. asks file.addr (access.DataLoad file kinds) used.0 refl used.1))
+  loads_asked slots e t = failed S20_VARIABLE
+
   load_asked : (slots : List (Option Slot)) (e : Context) (t : Trees) → Asked (asks_to_load d slots e t)
   unfolding Asked
-  load_asked slots e (Put word (Put dc (In k operands end))) = either Asked (k == 1) _ _ (old_asked e operands) (failed S27_LEFT_OUT)
+  load_asked slots e (Put word (Put dc (In k operands end))) = either Asked (k == 1) _ _ (old_asked e operands) (loads_asked slots e operands)
   load_asked slots e t = failed S20_VARIABLE
 
   skip_asked : (way : Context → Trees → Result By ℕ) (slots : List (Option Slot)) (e : Context) (t : Trees) → Asked (asks_to_skip way d slots e t)
@@ -210,7 +218,7 @@ module _ (devices : List Device) (me : Private) (s : SeenLent) (F : Planned → 
   each_planned = each_course is_refused stops (does devices me s) me s Each ready (failed S26_PROGRAM_ONLY) (λ p is u. each_statement u)
 
 -- and of how a statement finishes
-pub each_ended : (F : Worked → Type 0) (x : Access) (a : Answer) (me : Private) (s : SeenLent) → ((t : Trees) → F (saving_ends x a t me)) → ((t : Trees) → F (loading_ends x a t me))
+pub each_ended : (F : Worked → Type 0) (x : Access) (a : Answer) (me : Private) (s : SeenLent) → ((t : Trees) → F (saving_ends x a t me)) → ((t : Trees) → F (loading_ends x a t me s))
     → ((t : Trees) → F (file_ends (slot_skipped t) (by_place (place_came x a)) me)) → F (leaves me outcome.Repeat) → (u : Statement) → F (ended_of u x a me s)
 each_ended F x a me s saves loads skips repeats u =
     either F (u.row == row.DATASAVE) _ _ (saves u.tree)

@@ -62,18 +62,18 @@ pub value_coded : (vars : VarsState) (v : Var) (r c n : ℕ) → get_code v r c 
 value_coded vars v r c n is = coded_by (get_code v r c vars.table) _ n is
 
 -- values that were put after others, and those that are left
-ok_is : (xs ys : List Value) → ◌≡◌ {A = Result (List Value) ℕ} (Ok xs) (Ok ys) → xs ≡ ys
+ok_is : {A : Type 0} (xs ys : List A) → ◌≡◌ {A = Result (List A) ℕ} (Ok xs) (Ok ys) → xs ≡ ys
 ok_is xs ys is = cc
 
-put_value : (old xs new ys : List Value) → old ++ xs ≡ new → new ++ ys ≡ old ++ (xs ++ ys)
-put_value old xs new ys is = sym (ap (λ (l : List Value). l ++ ys) is) ∙ append_assoc old xs ys
+put_value : {A : Type 0} (old xs new ys : List A) → old ++ xs ≡ new → new ++ ys ≡ old ++ (xs ++ ys)
+put_value {A} old xs new ys is = sym (ap (λ (l : List A). l ++ ys) is) ∙ append_assoc old xs ys
 
-pub put_then : (a b : Result (List Value) ℕ) (old new : List Value) → values_before old a ≡ Ok new → values_before new b ≡ values_before old (then_values a b)
+pub put_then : {A : Type 0} (a b : Result (List A) ℕ) (old new : List A) → values_before old a ≡ Ok new → values_before new b ≡ values_before old (then_values a b)
 put_then (Err c) b old new is = cc
 put_then (Ok xs) (Err c) old new is = refl
 put_then (Ok xs) (Ok ys) old new is = ap Ok (put_value old xs new ys (ok_is (old ++ xs) new is))
 
-pub refused_then : (a b : Result (List Value) ℕ) (old : List Value) (c : ℕ) → a ≡ Err c → values_before old (then_values a b) ≡ Err c
+pub refused_then : {A : Type 0} (a b : Result (List A) ℕ) (old : List A) (c : ℕ) → a ≡ Err c → values_before old (then_values a b) ≡ Err c
 refused_then (Ok xs) b old c is = cc
 refused_then (Err d) b old c is = cc
 

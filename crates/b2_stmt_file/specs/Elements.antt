@@ -14,7 +14,10 @@ use Rattle.b2_access.specs.Touching.{is_short}
 use Rattle.b2_expr.specs.Answers.{◌>>=◌, unless}
 use Rattle.b2_expr.specs.Named.{variables_of}
 use Rattle.b2_expr.specs.Scope.{Surroundings}
+use Rattle.b2_expr.specs.declared.named.Element.{Element}
 use Rattle.b2_receiver.specs.declared.receiver.Array.{Array}
+use Rattle.b2_receiver.specs.declared.receiver.Receiver.{Receiver}
+use Rattle.b2_receiver.specs.declared.receiver.Receiver.TheVariants as receiver_kind
 
 -- the row and the column of the k-th of them, counted from 0; an array of one dimension has no columns
 abbrev pub row_of : Shape → ℕ → ℕ
@@ -35,7 +38,7 @@ abbrev pub recorded : Value → Result (List Value) ℕ
 recorded x = if is_short x then Ok (x ∷ []) else Err X72_TOO_LONG
 
 -- values and further ones, or the first code
-abbrev pub then_values : Result (List Value) ℕ → Result (List Value) ℕ → Result (List Value) ℕ
+abbrev pub then_values : {A : Type 0} → Result (List A) ℕ → Result (List A) ℕ → Result (List A) ℕ
 then_values xs more = xs >>= (λ ys. more >>= (λ zs. Ok (ys ++ zs)))
 
 abbrev pub element_recorded : VarsState → Var → ℕ → Result (List Value) ℕ
@@ -56,3 +59,10 @@ name_of a = record { letter = a.var.letter; digit = a.var.digit; alpha = a.var.a
 
 abbrev pub array_variables : Surroundings → Array → Result VarsState ℕ
 array_variables e a = variables_of e (name_of a)
+
+-- the k-th element of an array as a receiver
+abbrev pub element_of : Array → Shape → ℕ → Element
+element_of a s k = record { global = a.global; var = a.var; row = row_of s k; column = column_of s k }
+
+abbrev pub receiver_of : Array → Shape → ℕ → Receiver
+receiver_of a s k = if a.var.alpha then receiver_kind.Alpha (record { element = element_of a s k; portion = record { from = 0; count = s.len } }) else receiver_kind.Number (element_of a s k)

@@ -3,6 +3,7 @@ pub mod Slots
 pub mod Counts
 pub mod Elements
 pub mod SavedValues
+pub mod LoadedValues
 pub mod Coming
 pub mod Opening
 pub mod Skipping

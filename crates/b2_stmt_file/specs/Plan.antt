@@ -62,7 +62,7 @@ plan devices me s = plans_by (works devices) me s
 abbrev pub ended_of : Statement → Access → Answer → Private → SeenLent → Worked
 ended_of u x a me s =
     if u.row == row.DATASAVE then saving_ends x a u.tree me
-    else (if u.row == row.DATALOAD then loading_ends x a u.tree me
+    else (if u.row == row.DATALOAD then loading_ends x a u.tree me s
     else (if u.row == row.DSKIP || u.row == row.DBACKSPACE then file_ends (slot_skipped u.tree) (by_place (place_came x a)) me
     else leaves me outcome.Repeat))
 

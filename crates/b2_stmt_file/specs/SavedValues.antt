@@ -51,20 +51,20 @@ abbrev pub items_at : Text → List Trees
 items_at t = tree_at row.SAVED t ∷ other_items (after_part row.SAVED t)
 
 -- values before others, or the code in the place of those
-abbrev pub values_before : List Value → Result (List Value) ℕ → Result (List Value) ℕ
+abbrev pub values_before : {A : Type 0} → List A → Result (List A) ℕ → Result (List A) ℕ
 values_before xs answer = answer >>= (λ ys. Ok (xs ++ ys))
 
 -- values that are put after others, or a code
-abbrev pub PutsValues : Result (List Value) ℕ → List Value → List Value → Result (Unit {0}) Fault → Type 0
+abbrev pub PutsValues : {A : Type 0} → Result (List A) ℕ → List A → List A → Result (Unit {0}) Fault → Type 0
 PutsValues answer old new (Ok done) = values_before old answer ≡ Ok new
 PutsValues answer old new (Err f) = IsRefused answer f
 
 -- and what is left of the text
-abbrev pub PutsItem : Result (List Value) ℕ → Text → List Value → List Value → Result (Bor Text) Fault → Type 0
+abbrev pub PutsItem : {A : Type 0} → Result (List A) ℕ → Text → List A → List A → Result (Bor Text) Fault → Type 0
 PutsItem answer rest old new (Ok left) = (values_before old answer ≡ Ok new) × (left.now ≡ rest)
 PutsItem answer rest old new (Err f) = IsRefused answer f
 
 -- values, or a code
-abbrev pub GivesValues : Result (List Value) ℕ → Result (List Value) Fault → Type 0
+abbrev pub GivesValues : {A : Type 0} → Result (List A) ℕ → Result (List A) Fault → Type 0
 GivesValues answer (Ok xs) = answer ≡ Ok xs
 GivesValues answer (Err f) = IsRefused answer f

@@ -5,14 +5,15 @@ ghost use Rattle.b2_vars.specs.Shapes.{cells, scalar_shape};
 ghost use Rattle.b2_vars.specs.Tables.{shape_at};
 ghost use Rattle.b2_expr.specs.Scope.{surroundings};
 ghost use Rattle.b2_access.specs.Touching as touching;
+ghost use Rattle.b2_receiver.specs.Receivers.{IsArray, IsNamed};
 ghost use Rattle.b2_stmt_file.specs.Elements as spec;
 ghost use Rattle.b2_stmt_file.specs.SavedValues.{PutsValues};
 
 use b2_base::codes::X72_TOO_LONG;
 use b2_base::{Code, Fault};
 use b2_dec::Value;
-use b2_expr::{Env, variables_of};
-use b2_receiver::Array;
+use b2_expr::{Element, Env, variables_of};
+use b2_receiver::{AlphaReceiver, Array, Portion, Receiver};
 use b2_rows::Name;
 use b2_vars::{Shape, Var, Vars};
 
@@ -155,6 +156,33 @@ pub fn put_elements(vars: &Vars, v: Var, into: &mut Vec<Value>) -> Result<(), Fa
         left -= 1;
     }
     Ok(())
+}
+
+/// The k-th element of an array as a receiver.
+#[tactic(auto, using(crate::proofs::ElementPlaces::alpha_receiver, crate::proofs::ElementPlaces::number_receiver))]
+pub fn receiver_of(array: &Array, shape: Shape, k: usize) -> Receiver
+    requires named { IsArray array.now.var }
+    requires within { k < cells shape }
+    ensures value { result ≡ spec.receiver_of array.now shape k }
+    ensures named { IsNamed result }
+{
+    let element = Element {
+        global: array.global,
+        var: array.var,
+        row: row_of(shape, k),
+        column: column_of(shape, k),
+    };
+    if array.var.alpha {
+        Receiver::Alpha(AlphaReceiver {
+            element,
+            portion: Portion {
+                from: 0,
+                count: shape.len,
+            },
+        })
+    } else {
+        Receiver::Number(element)
+    }
 }
 
 /// The variables among which an array is: X77 where there are no `@` variables.

@@ -16,6 +16,7 @@ mod asking;
 mod coming;
 mod elements;
 pub mod laws;
+mod loaded_values;
 mod loading;
 mod opening;
 mod planning;

@@ -1,29 +1,61 @@
 // DATALOAD DC: what it asks for, and how it finishes.
-ghost use Rattle.std.specs.Prelude.{◌≡◌, ◌≤◌, true};
-ghost use Rattle.b2_access.specs.Answering.{can_answer};
+ghost use Rattle.std.specs.Prelude.{◌≡◌, ◌≤◌, true, IfOk};
 ghost use Rattle.b2_atom.specs.declared.rows.TheConstants as row;
 ghost use Rattle.b2_rows.specs.Rows.{is_part, tree_at};
 ghost use Rattle.b2_expr.specs.Scope.{surroundings};
 ghost use Rattle.b2_expr.specs.Value.{in_statement};
+ghost use Rattle.b2_expr.specs.Workspace.{workspace};
 ghost use Rattle.b2_drive.specs.Drives.{drives_seen};
 ghost use Rattle.b2_stmt_file.specs.Asking.{GivesAccess};
 ghost use Rattle.b2_stmt_file.specs.Loading as spec;
 
 use crate::asking::or_fault;
-use crate::coming::{Came, came_of_opening};
-use crate::opening::{ask_for_old, slot_of_old};
-use b2_access::{Access, Answer};
+use crate::coming::Came;
+use crate::loaded_values::{kinds_at, take_values};
+use crate::opening::ask_for_old;
+use crate::slots::{file_used, past_slot, slot_written};
+use b2_access::Access;
 use b2_atom::words::OPEN;
-use b2_base::codes::S27_LEFT_OUT;
 use b2_base::lexical::rest_after;
-use b2_base::{Code, Fault, Slot};
+use b2_base::{Code, Fault, NoMemory, Slot};
+use b2_dec::Value;
 use b2_drive::Drives;
-use b2_expr::Env;
+use b2_expr::{Env, Workspace};
 use b2_rows::is_at;
+use std::alloc::Global;
+
+/// What values ask for: their slot first, and then the kinds of the receivers.
+#[tactic(auto, using(crate::proofs::LoadRows::loaded_slot, crate::proofs::LoadRows::first_item, crate::proofs::LoadRows::item_list))]
+fn ask_for_values(
+    alloc: Global,
+    d: &Drives<'_>,
+    slots: &[Option<Slot>; 16],
+    e: &Env<'_>,
+    text: &[u8],
+) -> Result<Access, Fault>
+    requires part { is_part row.LOADED_VALUES text.now ≡ true }
+    ensures { GivesAccess (spec.loads_in (drives_seen d.now) slots.now (in_statement (surroundings e.now)) (tree_at row.LOADED_VALUES text.now)) result }
+{
+    match file_used(d, slots, slot_written(text)) {
+        Ok(slot) => match kinds_at(alloc, e, past_slot(text)) {
+            Ok(kinds) => Ok(Access::DataLoad { slot, kinds }),
+            Err(fault) => Err(fault),
+        },
+        Err(code) => Err(Fault::Code(code)),
+    }
+}
+
+/// What stands after `DATALOAD DC`.
+pub fn past_words(unit: &[u8]) -> &[u8]
+    ensures { result.now ≡ spec.operands_text unit.now }
+{
+    rest_after(rest_after(unit, 1), 1)
+}
 
 /// What DATALOAD DC asks for.
-#[tactic(auto, using(crate::proofs::LoadRows::old_here, crate::proofs::LoadRows::asks_of_old, crate::proofs::LoadRows::asks_of_values))]
+#[tactic(auto, using(crate::proofs::LoadRows::old_here, crate::proofs::LoadRows::loaded_here, crate::proofs::LoadRows::asks_of_old, crate::proofs::LoadRows::asks_of_values))]
 pub fn ask_to_load(
+    alloc: Global,
     d: &Drives<'_>,
     slots: &[Option<Slot>; 16],
     e: &Env<'_>,
@@ -32,39 +64,38 @@ pub fn ask_to_load(
     requires part { is_part row.DATALOAD unit.now ≡ true }
     ensures { GivesAccess (spec.asks_to_load (drives_seen d.now) slots.now (in_statement (surroundings e.now)) (tree_at row.DATALOAD unit.now)) result }
 {
-    let text = rest_after(rest_after(unit, 1), 1);
+    let text = past_words(unit);
     if is_at(OPEN, text) {
         or_fault(ask_for_old(d, e, text))
     } else {
-        Err(Fault::Code(Code::known(S27_LEFT_OUT)))
+        ask_for_values(alloc, d, slots, e, text)
     }
 }
 
-/// The slot of DATALOAD DC.
-#[tactic(auto, using(crate::proofs::LoadRows::old_here, crate::proofs::LoadRows::slot_old, crate::proofs::LoadRows::slot_values))]
-pub fn slot_of_load(unit: &[u8]) -> u8
-    requires part { is_part row.DATALOAD unit.now ≡ true }
-    ensures value { result ≡ spec.slot_of (tree_at row.DATALOAD unit.now) }
+/// The slot from which values are loaded.
+#[tactic(auto, using(crate::proofs::LoadRows::loaded_slot, crate::proofs::LoadRows::slot_loaded_is))]
+pub fn slot_of_load(text: &[u8]) -> u8
+    requires part { is_part row.LOADED_VALUES text.now ≡ true }
+    ensures value { result ≡ spec.slot_loaded (tree_at row.LOADED_VALUES text.now) }
     ensures small { result ≤ 15 }
 {
-    let text = rest_after(rest_after(unit, 1), 1);
-    if is_at(OPEN, text) {
-        slot_of_old(text)
-    } else {
-        0
-    }
+    slot_written(text)
 }
 
-/// What came of DATALOAD DC.
-#[tactic(auto, using(crate::proofs::LoadRows::came_old, crate::proofs::LoadRows::came_values))]
-pub fn came_of_load(access: &Access, answer: &Answer, unit: &[u8]) -> Came
-    requires part { is_part row.DATALOAD unit.now ≡ true }
-    requires possible { can_answer access.now answer.now ≡ true }
-    ensures { result ≡ spec.came_of access.now answer.now (tree_at row.DATALOAD unit.now) }
+/// Gives the values that came to the receivers. The code with which that ended, or none.
+#[tactic(auto, using(crate::proofs::LoadRows::loaded_slot, crate::proofs::LoadRows::first_item, crate::proofs::LoadRows::item_list, crate::proofs::LoadRows::items_are))]
+pub fn take_loaded(
+    work: &mut Workspace<'_>,
+    came: &Came,
+    values: &[Value],
+    text: &[u8],
+) -> Result<Option<Code>, NoMemory>
+    requires part { is_part row.LOADED_VALUES text.now ≡ true }
+    ensures worked { IfOk result (λ code. record { work = workspace work.new; code = code } ≡ spec.takes_by came.now values.now (spec.items_loaded (tree_at row.LOADED_VALUES text.now)) (workspace work.old)) }
+    ensures same_reference { work.new.own.ghost_name ≡ work.old.own.ghost_name }
 {
-    if is_at(OPEN, rest_after(rest_after(unit, 1), 1)) {
-        came_of_opening(access, answer)
-    } else {
-        Came::Later
+    match came {
+        Came::File(_) => take_values(work, values, past_slot(text)),
+        _ => Ok(None),
     }
 }

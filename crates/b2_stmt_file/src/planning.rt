@@ -11,18 +11,25 @@ ghost use Rattle.b2_stmt_file.specs.Asking.{GivesAccess, IsPlanned};
 ghost use Rattle.b2_stmt_file.specs.Plan as spec;
 
 use crate::asking::or_fault;
-use crate::coming::{came_of_moving, keep_file, outcome_of};
-use crate::loading::{ask_to_load, came_of_load, slot_of_load};
+use crate::coming::{
+    came_of_loading, came_of_moving, came_of_opening, end_after, keep_file, outcome_of,
+    values_loaded,
+};
+use crate::loading::{ask_to_load, past_words, slot_of_load, take_loaded};
+use crate::opening::slot_of_old;
 use crate::saving::{ask_to_save, came_of_save, slot_of_save};
 use crate::skipping::{ask_to_go_back, ask_to_skip, slot_of_back, slot_of_skip};
 use b2_access::{
-    Access, Answer, DeviceTable, Lent, Outcome, Planned, Private, setting_of, statement_placed,
+    Access, Answer, DeviceTable, Lent, Outcome, Planned, Private, goes_or, setting_of,
+    statement_placed,
 };
 use b2_atom::rows;
+use b2_atom::words::OPEN;
 use b2_base::codes::S27_LEFT_OUT;
 use b2_base::{Code, Fault, NoMemory, Slot};
 use b2_drive::{Drives, drives_for};
 use b2_expr::{Env, Workspace, surroundings_of};
+use b2_rows::is_at;
 use std::alloc::Global;
 
 /// Whether this crate builds a row.
@@ -49,7 +56,7 @@ fn ask(
 {
     match row {
         rows::DATASAVE => ask_to_save(alloc, d, slots, e, unit),
-        rows::DATALOAD => ask_to_load(d, slots, e, unit),
+        rows::DATALOAD => ask_to_load(alloc, d, slots, e, unit),
         rows::DSKIP => or_fault(ask_to_skip(d, slots, e, unit)),
         rows::DBACKSPACE => or_fault(ask_to_go_back(d, slots, e, unit)),
         _ => Err(Fault::Code(Code::known(S27_LEFT_OUT))),
@@ -101,6 +108,7 @@ pub fn plan(
 
 /// How the statement at the place of a partition finishes, by the access that it asked for and its answer, which is one that the
 /// access can have.
+#[tactic(auto, using(crate::proofs::LoadRows::old_here, crate::proofs::LoadRows::loaded_here, crate::proofs::LoadRows::ends_of_old, crate::proofs::LoadRows::ends_of_values))]
 pub fn finish(
     alloc: Global,
     me: &mut Private,
@@ -117,6 +125,7 @@ pub fn finish(
     let Some(place) = me.place else {
         return Ok(Outcome::Repeat);
     };
+    let setting = setting_of(me);
     let Some(unit) = statement_placed(place, &me.immediate, lent.home) else {
         return Ok(Outcome::Repeat);
     };
@@ -127,9 +136,22 @@ pub fn finish(
             Ok(outcome_of(&came))
         }
         rows::DATALOAD => {
-            let came = came_of_load(access, answer, unit.bytes);
-            keep_file(&mut me.slots, slot_of_load(unit.bytes), &came);
-            Ok(outcome_of(&came))
+            let text = past_words(unit.bytes);
+            if is_at(OPEN, text) {
+                let came = came_of_opening(access, answer);
+                keep_file(&mut me.slots, slot_of_old(text), &came);
+                return Ok(outcome_of(&came));
+            }
+            let came = came_of_loading(access, answer);
+            keep_file(&mut me.slots, slot_of_load(text), &came);
+            me.at_end = end_after(&came, me.at_end);
+            let mut work = Workspace {
+                own: &mut me.vars,
+                setting,
+                home: lent.home,
+            };
+            let code = take_loaded(&mut work, &came, values_loaded(access, answer), text)?;
+            Ok(goes_or(outcome_of(&came), code))
         }
         rows::DSKIP => {
             let came = came_of_moving(access, answer);
