@@ -517,3 +517,39 @@ fn an_output_may_have_the_name_of_an_input(rt: HostRuntime) -> Result<(), Fail> 
     assert_eq!(rt; shelf.file(b"out.D11"), Some(image.as_slice()));
     Ok(())
 }
+
+// Two partitions append to one file in turn: each goes to the end mark, saves a record and writes the end mark after it.
+#[rattlefmt::skip]
+const APPENDING: &[u8] = b"\
+type 1 DATASAVE DC OPEN T,#1,9,\"F\"\n\
+rounds 20\n\
+type 2 DATALOAD DC OPEN T,#1,\"F\"\n\
+rounds 20\n\
+type 1 FOR I=1 TO 3:DSKIP #1,END:DATASAVE DC #1,I:DATASAVE DC #1,END:$BREAK:NEXT I\n\
+type 2 FOR I=1 TO 3:DSKIP #1,END:DATASAVE DC #1,-I:DATASAVE DC #1,END:$BREAK:NEXT I\n\
+rounds 8\n\
+type 1 LIMITS T,\"F\",A,B,C:PRINT A;B;C\n\
+rounds 20\n\
+type 1 DBACKSPACE #1,BEG:FOR I=1 TO 6:DATALOAD DC #1,X:PRINT X;:NEXT I\n\
+rounds 20\n\
+";
+
+#[rattlefmt::skip]
+const APPENDED: &[u8] = b"READY\n\
+:DATASAVE DC OPEN T,#1,9,\"F\"\n\
+:FOR I=1 TO 3:DSKIP #1,END:DATASAVE DC #1,I:DATASAVE DC #1,END:$BREAK:NEXT I\n\
+:LIMITS T,\"F\",A,B,C:PRINT A;B;C\n\
+\x202  10  7 \n\
+:DBACKSPACE #1,BEG:FOR I=1 TO 6:DATALOAD DC #1,X:PRINT X;:NEXT I\n\
+\x201 -1  2 -2  3 -3 \n\
+:";
+
+#[test]
+fn two_partitions_append_to_one_file(rt: HostRuntime) -> Result<(), Fail> {
+    let alloc = rt.alloc();
+    let mut shelf = shelf(alloc, Some(BLANKS), Some(APPENDING), &[])?;
+    let status = run_over(alloc, &mut shelf)?;
+    assert_eq!(rt; status.number(), 0);
+    assert_eq!(rt; shelf.file(b"out.t01"), Some(APPENDED));
+    Ok(())
+}

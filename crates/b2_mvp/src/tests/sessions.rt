@@ -28,6 +28,7 @@ mod calls;
 mod data;
 mod disks;
 mod editing;
+mod files;
 mod first_codes;
 mod input;
 mod loops;
