@@ -32,7 +32,7 @@ use Rattle.b2_expr.specs.Scope.{Context}
 use Rattle.b2_rows.proofs.RowsRead.{stands_of}
 use Rattle.b2_rows.specs.CommaLists.{further_listed, commas}
 use Rattle.b2_dims.specs.Dimensions.{array_shape}
-use Rattle.b2_stmt_var.specs.Dimensions.{usual_length, entries_of, entry_in, entry_of, is_com, length_alone, lone_shape, entry_named, shape_after}
+use Rattle.b2_stmt_var.specs.Dimensions.{entries_of, entry_in, entry_of, is_com, length_alone, lone_shape, entry_named, shape_after}
 use Rattle.b2_stmt_var.specs.declared.dimensions.Entry.{Entry}
 use Rattle.b2_rows.proofs.CommaLists.{IsComma, Other, other, tail_at, items_of_other, no_items_left, item_shorter}
 

@@ -1,28 +1,21 @@
 -- The length of an alpha scalar of DIM and COM, by its row.
-use Rattle.std.proofs.Common.{◌≡◌, ℕ, ◌==◌, Bool, true, false, if◌then◌else◌, List, [], ◌∷◌, drop, Ok, refl, sym, ap, ◌∙◌}
+use Rattle.std.proofs.Common.{◌≡◌, ◌==◌, true, false, Ok, sym, ap, ◌∙◌}
 use Rattle.b2_base.specs.Byte as byte
 use Rattle.b2_base.specs.Lexical.{first}
-use Rattle.b2_base.specs.declared.codes.TheConstants.{S10_OPEN, S11_CLOSE, S13_SEPARATOR}
 use Rattle.b2_atom.specs.Words.{Text}
-use Rattle.b2_atom.specs.Tokens.Token.{Coded}
 use Rattle.b2_atom.specs.Tree.{Trees}
-use Rattle.b2_atom.specs.Tree.Trees.{Done, Put, In}
-use Rattle.b2_atom.specs.Grammar.{row_items, starts}
+use Rattle.b2_atom.specs.Grammar.{starts}
 use Rattle.b2_atom.specs.declared.words.Origin.TheVariants.{Atoms}
 use Rattle.b2_atom.specs.declared.rows.TheConstants as row
 use Rattle.b2_atom.specs.declared.forms.Start.TheVariants as start
-use Rattle.b2_atom.specs.declared.forms.Item.{Item}
-use Rattle.b2_atom.specs.declared.forms.Item.TheVariants.{Sign, Part, Maybe, Nest}
 use Rattle.b2_rows.specs.Optional.{maybe_part, maybe_tree, after_maybe}
 use Rattle.b2_rows.specs.Rows.{is_part, tree_at, after_part}
-use Rattle.b2_rows.proofs.Optional.{begun_part, begun_rest, begun_tree, left_out_rest, left_out_tree, maybe_stands}
+use Rattle.b2_rows.proofs.Optional.{begun_part, begun_rest, begun_tree, left_out_rest, left_out_tree}
 use Rattle.b2_expr.specs.Answers.{◌>>=◌}
 use Rattle.b2_expr.specs.Functions.{fixed}
 use Rattle.b2_expr.specs.Scope.{Context}
-use Rattle.b2_expr.specs.Value.{branch_of, value}
+use Rattle.b2_expr.specs.Value.{value}
 use Rattle.b2_expr.specs.declared.operators.Level.TheVariants as level
-use Rattle.b2_expr.proofs.Names.{one_first, one_second, one_tree, one_rest}
-use Rattle.b2_rows.proofs.RowsRead.{stands_of}
 use Rattle.b2_dims.specs.Dimensions.{tested_length}
 use Rattle.b2_stmt_var.specs.Dimensions.{length_alone, lone_shape}
 use Rattle.b2_stmt_var.proofs.LengthRows.{length_read}

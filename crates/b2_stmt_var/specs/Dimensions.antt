@@ -1,5 +1,5 @@
 -- DIM and COM: the variables that they make.
-use Rattle.std.specs.Prelude.{ℕ, ◌==◌, ℤ, pos, Bool, true, false, List, [], Option, None, Some, Result, Ok, Err, if◌then◌else◌}
+use Rattle.std.specs.Prelude.{ℕ, ◌==◌, Bool, true, false, List, [], Option, None, Result, Ok, Err, if◌then◌else◌}
 use Rattle.b2_base.specs.declared.codes.TheConstants.{S20_VARIABLE}
 use Rattle.b2_atom.specs.Tree.{Trees}
 use Rattle.b2_atom.specs.Tree.Trees.{Put, In}
@@ -8,18 +8,15 @@ use Rattle.b2_rows.specs.Links.{token_code}
 use Rattle.b2_rows.specs.Values.{variable_name}
 use Rattle.b2_rows.specs.declared.leaves.Name.{Name}
 use Rattle.b2_vars.specs.Calls.{com_code, dim_code, with_new}
-use Rattle.b2_vars.specs.Shapes.{is_up_to}
 use Rattle.b2_vars.specs.Tables.{VarsState}
 use Rattle.b2_vars.specs.declared.shape.Shape.{Shape}
-use Rattle.b2_expr.specs.Answers.{Answer, ◌>>=◌}
+use Rattle.b2_expr.specs.Answers.{◌>>=◌}
 use Rattle.b2_vars.specs.Assigned.{Assigned}
 use Rattle.b2_receiver.specs.Assigning.{unless_refused}
-use Rattle.b2_expr.specs.Functions.{fixed}
 use Rattle.b2_expr.specs.Named.{variable_of, variables_of}
 use Rattle.b2_expr.specs.Scope.{Context}
-use Rattle.b2_expr.specs.Value.{branch_of, context_of, token_text, value}
+use Rattle.b2_expr.specs.Value.{context_of, token_text}
 use Rattle.b2_expr.specs.Workspace.{WorkState, WorkLeft, on_own, refused}
-use Rattle.b2_expr.specs.declared.operators.Level.TheVariants as level
 use Rattle.b2_dims.specs.Dimensions.{array_shape, length_by}
 use Rattle.b2_stmt_var.specs.Assignments.{assign_each}
 use Rattle.b2_rows.specs.CommaLists.{all_listed}

@@ -5,8 +5,9 @@
 //! leaves is said by its row and its tree in `specs/`, a family a file; `Plan` has a line for each row. `is_built` tells which
 //! rows are built here. `laws` says what all of them leave alone, in which order READ takes literals, and what lengths are worth.
 //!
-//! Stands on `b2_expr` for values and receivers, on `b2_access` for the private state and loans, on `b2_rows` for units, on
-//! `b2_alpha` for bits that turn, on `b2_text` for DATA, and on `b2_vars`, `b2_atom`, `b2_dec`, `b2_dectext` and `b2_base`.
+//! Stands on `b2_expr` and `b2_receiver` for values and receivers, on `b2_dims` for dimensions, on `b2_access` for the private
+//! state and loans, on `b2_rows` for units, on `b2_alpha` for bits that turn, on `b2_text` for DATA, and on `b2_vars`, `b2_atom`,
+//! `b2_dec`, `b2_dectext` and `b2_base`.
 #![tactic(auto)]
 
 mod assignments;
