@@ -24,6 +24,7 @@ use Rattle.b2_access.specs.declared.planned.Planned.TheVariants as planned
 use Rattle.b2_access.specs.declared.private.Private.{Private}
 use Rattle.b2_drive.specs.Drives.{DrivesSeen, drives_of}
 use Rattle.b2_stmt_file.specs.Coming.{by_place, file_ends}
+use Rattle.b2_stmt_file.specs.Ending.{if_end}
 use Rattle.b2_stmt_file.specs.Loading.{asks_to_load, loading_ends}
 use Rattle.b2_stmt_file.specs.Saving.{asks_to_save, saving_ends}
 use Rattle.b2_stmt_file.specs.Skipping.{asks_to_skip, back, forward, slot_skipped}
@@ -45,11 +46,14 @@ abbrev pub asks_or_fails : Result Access ℕ → Planned
 asks_or_fails (Ok a) = planned.Ask a
 asks_or_fails (Err code) = planned.Done (outcome.Failed code)
 
-abbrev pub course_of : List Device → Statement → Private → SeenLent → Working
-course_of devices u me s = Plans (asks_or_fails (asked_of (drives_of devices me) me.slots (context_of (work_in (setting_of me) s.home me.vars)) u.row u.tree))
+-- IF END ends at once; the others ask for an access
+abbrev pub course_of : List Device → Statement → Here → Private → SeenLent → Working
+course_of devices u h me s =
+    if u.row == row.IF_END then stops (if_end me.at_end h s.home.lines u.tree)
+    else Plans (asks_or_fails (asked_of (drives_of devices me) me.slots (context_of (work_in (setting_of me) s.home me.vars)) u.row u.tree))
 
 abbrev pub does : List Device → Private → SeenLent → Statement → Here → Working
-does devices me s u h = course_of devices u me s
+does devices me s u h = course_of devices u h me s
 
 -- what the statement at a partition's place plans, over the devices that there are
 abbrev pub works : List Device → Private → SeenLent → Working
@@ -82,4 +86,4 @@ finish x a me s = finishes_by ends x a me s
 
 -- the rows that this crate builds
 abbrev pub is_built : ℕ → Bool
-is_built r = r == row.DATASAVE || r == row.DATALOAD || r == row.DSKIP || r == row.DBACKSPACE
+is_built r = r == row.DATASAVE || r == row.DATALOAD || r == row.DSKIP || r == row.DBACKSPACE || r == row.IF_END

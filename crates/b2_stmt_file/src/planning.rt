@@ -3,7 +3,11 @@ ghost use Rattle.std.specs.Prelude.{◌≡◌, ◌≤◌, true, IfOk};
 ghost use Rattle.b2_access.specs.Answering.{can_answer};
 ghost use Rattle.b2_access.specs.Lending.{globals_lent, seen_lent};
 ghost use Rattle.b2_rows.specs.Laws.{IsRow};
-ghost use Rattle.b2_rows.specs.Rows.{tree_at};
+ghost use Rattle.b2_atom.specs.declared.rows.TheConstants as row;
+ghost use Rattle.b2_rows.specs.Rows.{is_part, tree_at};
+ghost use Rattle.b2_access.specs.Courses.{units_on};
+ghost use Rattle.b2_access.specs.Placed.{line_named};
+ghost use Rattle.b2_stmt_file.specs.Ending as end;
 ghost use Rattle.b2_expr.specs.Scope.{surroundings};
 ghost use Rattle.b2_expr.specs.Value.{in_statement};
 ghost use Rattle.b2_drive.specs.Drives.{drives_seen};
@@ -15,6 +19,7 @@ use crate::coming::{
     came_of_loading, came_of_moving, came_of_opening, end_after, keep_file, outcome_of,
     values_loaded,
 };
+use crate::ending::if_end;
 use crate::loading::{ask_to_load, past_words, slot_of_load, take_loaded};
 use crate::opening::slot_of_old;
 use crate::saving::{ask_to_save, came_of_save, slot_of_save};
@@ -29,6 +34,8 @@ use b2_base::codes::S27_LEFT_OUT;
 use b2_base::{Code, Fault, NoMemory, Slot};
 use b2_drive::{Drives, drives_for};
 use b2_expr::{Env, Workspace, surroundings_of};
+use b2_flow::Place;
+use b2_text::Text;
 use b2_rows::is_at;
 use std::alloc::Global;
 
@@ -38,7 +45,7 @@ pub fn is_built(row: u16) -> bool
 {
     matches!(
         row,
-        rows::DATASAVE | rows::DATALOAD | rows::DSKIP | rows::DBACKSPACE
+        rows::DATASAVE | rows::DATALOAD | rows::DSKIP | rows::DBACKSPACE | rows::IF_END
     )
 }
 
@@ -76,6 +83,14 @@ fn asks_or_fails(asked: Result<Access, Fault>) -> Result<Planned, NoMemory>
     }
 }
 
+/// How IF END ends for a partition.
+fn end_outcome(me: &Private, home: &Text, place: Place, unit: &[u8]) -> Outcome
+    requires part { is_part row.IF_END unit.now ≡ true }
+    ensures { result ≡ end.if_end me.now.at_end (record { place = place; units = units_on (line_named me.now.immediate home.now.lines place.line) }) home.now.lines (tree_at row.IF_END unit.now) }
+{
+    if_end(&me.immediate, home, place, me.at_end, unit)
+}
+
 /// What the statement at the place of a partition plans, over the devices that there are. Where no unit is there it is ready.
 pub fn plan(
     alloc: Global,
@@ -97,13 +112,18 @@ pub fn plan(
     let Some(unit) = statement_placed(place, &me.immediate, lent.home) else {
         return Ok(Planned::Done(Outcome::Ready));
     };
+    let row = unit.row;
+    let bytes = unit.bytes;
+    if row == rows::IF_END {
+        return Ok(Planned::Done(end_outcome(me, lent.home, place, bytes)));
+    }
     let work = Workspace {
         own: &mut me.vars,
         setting,
         home: lent.home,
     };
     let e = surroundings_of(&work);
-    asks_or_fails(ask(alloc, &d, &me.slots, &e, unit.row, unit.bytes))
+    asks_or_fails(ask(alloc, &d, &me.slots, &e, row, bytes))
 }
 
 /// How the statement at the place of a partition finishes, by the access that it asked for and its answer, which is one that the
