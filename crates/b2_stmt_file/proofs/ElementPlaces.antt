@@ -1,5 +1,5 @@
 -- Where the elements of arrays are, along rows.
-use Rattle.std.proofs.Common.{◌≡◌, ◌≤◌, ◌<◌, ℕ, zero, suc, ◌+◌, ◌*◌, ◌/◌, ◌%◌, ◌^◌, max, Bool, if◌then◌else◌, false, true, Option, Some, None, refl, sym, ap, subst, arith}
+use Rattle.std.proofs.Common.{◌≡◌, ◌<◌, ℕ, ◌+◌, ◌*◌, ◌/◌, ◌%◌, max, Bool, if◌then◌else◌, false, true, Option, Some, None, refl, ap, arith}
 use Rattle.std.proofs.Math.Nat.{div-lt_iff_lt-mul, mod-lt}
 use Rattle.std.specs.FinMap as map
 use Rattle.std.specs.Option.{option_map, unwrap_or}

@@ -1,5 +1,5 @@
 -- IF END by its row: its line.
-use Rattle.std.proofs.Common.{◌≡◌, ℕ, true, false, List, [], ◌∷◌, drop, get_or, Option, Some, None, refl, sym, ap, ◌∙◌}
+use Rattle.std.proofs.Common.{◌≡◌, ℕ, true, false, List, [], ◌∷◌, drop, get_or, Option, Some, None, refl, ap}
 use Rattle.b2_base.specs.declared.codes.TheConstants.{S15_LINE_NUMBER}
 use Rattle.b2_atom.specs.Words.{Text}
 use Rattle.b2_atom.specs.Grammar.{row_items}

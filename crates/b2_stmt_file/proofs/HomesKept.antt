@@ -1,5 +1,5 @@
 -- Where a statement on data files leads is at no other place, and what it asks for marks no home.
-use Rattle.std.proofs.Common.{ℕ, ◌==◌, if◌then◌else◌, Bool, List, Option, Some, None, ◌≡◌, true, subst}
+use Rattle.std.proofs.Common.{ℕ, ◌==◌, Bool, List, Option, Some, None, ◌≡◌, true, subst}
 use Rattle.b2_atom.specs.Tree.{Trees}
 use Rattle.b2_atom.specs.Tree.Trees.{Put, In}
 use Rattle.b2_access.specs.Planning.{goes_or}

@@ -21,3 +21,4 @@ pub mod Waits
 pub mod LeftAlone
 pub mod Listed
 pub mod Legal
+pub mod Ended

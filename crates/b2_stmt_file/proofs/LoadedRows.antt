@@ -1,6 +1,6 @@
 -- The receivers of values that are loaded, by their rows: whole arrays and receivers, one after another, their kinds, and what they
 -- leave.
-use Rattle.std.proofs.Common.{◌≡◌, ◌<◌, ℕ, zero, suc, ◌+◌, ◌-◌, ◌==◌, nat_lt, Bool, true, false, List, [], ◌∷◌, ◌++◌, length, drop, replicate, Option, Some, None, Result, Ok, Err, refl, sym, ap, subst, ◌∙◌, arith}
+use Rattle.std.proofs.Common.{◌≡◌, ◌<◌, ℕ, zero, suc, ◌+◌, ◌-◌, ◌==◌, nat_lt, true, false, List, [], ◌∷◌, ◌++◌, length, drop, replicate, Option, Some, None, Result, Ok, Err, refl, sym, ap, subst, ◌∙◌, arith}
 use Rattle.std.proofs.lemmas.List.{append_assoc, append-nil}
 use Rattle.std.proofs.lemmas.Bool.Decides.{nat_tests}
 use Rattle.b2_base.specs.Byte as byte
@@ -28,11 +28,10 @@ use Rattle.b2_expr.specs.Value.{context_of}
 use Rattle.b2_expr.specs.Workspace.{WorkState}
 use Rattle.b2_receiver.specs.Receivers.{any_receiver, whole_array}
 use Rattle.b2_receiver.specs.declared.receiver.Array.{Array}
-use Rattle.b2_receiver.specs.declared.receiver.Receiver.{Receiver}
 use Rattle.b2_stmt_file.specs.declared.loaded_values.Item.{Item}
 use Rattle.b2_stmt_file.specs.declared.loaded_values.Item.TheVariants as item
-use Rattle.b2_stmt_file.specs.Elements.{receiver_of, then_values}
-use Rattle.b2_stmt_file.specs.LoadedValues.{Taken, all_kinds, array_kinds, each_takes, elements_take, item_kinds, item_located, item_takes, items_at, left_of, none_taken, one_kind, other_items, receiver_kind, takes_at, takes_next, takes_to, then_takes, unless_ended}
+use Rattle.b2_stmt_file.specs.Elements.{receiver_of}
+use Rattle.b2_stmt_file.specs.LoadedValues.{Taken, all_kinds, array_kinds, each_takes, elements_take, item_kinds, item_located, item_takes, items_at, one_kind, other_items, receiver_kind, takes_at, takes_next, takes_to, then_takes, unless_ended}
 use Rattle.b2_stmt_file.specs.SavedValues.{values_before}
 use Rattle.b2_stmt_file.proofs.SavedRows.{put_then, refused_then}
 

@@ -1,5 +1,5 @@
 -- The items of a record that is saved, by their rows: whole arrays and expressions, one after another.
-use Rattle.std.proofs.Common.{◌≡◌, ◌<◌, ℕ, ◌==◌, Bool, true, false, List, [], ◌∷◌, ◌++◌, length, drop, Result, Ok, Err, refl, sym, ap, ◌∙◌}
+use Rattle.std.proofs.Common.{◌≡◌, ◌<◌, ℕ, ◌==◌, true, false, List, [], ◌∷◌, length, drop, Ok, Err, refl, sym, ap, ◌∙◌}
 use Rattle.std.proofs.lemmas.List.{append-nil}
 use Rattle.b2_base.specs.Byte as byte
 use Rattle.b2_base.specs.Lexical.{first}
@@ -21,7 +21,6 @@ use Rattle.b2_rows.proofs.Choices.{either_first, either_second}
 use Rattle.b2_rows.proofs.CommaLists.{IsComma, Other, item_shorter, items_of_other, no_items_left, other}
 use Rattle.b2_rows.proofs.RowsRead.{stands_of}
 use Rattle.b2_expr.specs.Scope.{Context}
-use Rattle.b2_stmt_file.specs.Elements.{then_values}
 use Rattle.b2_stmt_file.specs.SavedValues.{all_saved, alpha_saved, array_saved, item_saved, items_at, number_saved, operand_saved, other_items, values_before}
 use Rattle.b2_stmt_file.proofs.SavedRows.{put_then, refused_then}
 

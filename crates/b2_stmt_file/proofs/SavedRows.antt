@@ -1,40 +1,22 @@
 -- The values of a record, one after another: elements of arrays, and items with commas between them.
-use Rattle.std.proofs.Common.{◌≡◌, ◌<◌, ℕ, zero, suc, ◌+◌, ◌-◌, ◌==◌, nat_lt, Bool, true, false, if◌then◌else◌, List, [], ◌∷◌, ◌++◌, length, drop, Option, Some, None, Result, Ok, Err, refl, sym, ap, subst, ◌∙◌, arith}
+use Rattle.std.proofs.Common.{◌≡◌, ℕ, zero, suc, ◌+◌, ◌-◌, nat_lt, Bool, true, false, if◌then◌else◌, List, [], ◌∷◌, ◌++◌, Option, Some, None, Result, Ok, Err, refl, sym, ap, subst, ◌∙◌, arith}
 use Rattle.std.proofs.lemmas.List.{append_assoc, append-nil}
 use Rattle.std.proofs.lemmas.Bool.Decides.{nat_tests}
 use Rattle.std.specs.FinMap as map
-use Rattle.b2_base.specs.Byte as byte
-use Rattle.b2_base.specs.Lexical.{first}
-use Rattle.b2_base.specs.declared.codes.TheConstants.{S13_SEPARATOR, X72_TOO_LONG}
+use Rattle.b2_base.specs.declared.codes.TheConstants.{X72_TOO_LONG}
 use Rattle.b2_base.specs.Refusals.{IsRefused}
 use Rattle.b2_base.specs.declared.codes.Fault.{Fault}
 use Rattle.b2_base.specs.declared.codes.Fault.TheVariants as fault
 use Rattle.b2_dec.specs.declared.values.Value.{Value}
-use Rattle.b2_atom.specs.Words.{Text}
-use Rattle.b2_atom.specs.Tree.{Trees}
-use Rattle.b2_atom.specs.Tree.Trees.{Done}
-use Rattle.b2_atom.specs.Grammar.{row_items, starts}
-use Rattle.b2_atom.specs.declared.words.Origin.TheVariants.{Atoms}
-use Rattle.b2_atom.specs.declared.rows.TheConstants as row
-use Rattle.b2_atom.specs.declared.forms.Start.TheVariants as start
-use Rattle.b2_atom.specs.declared.forms.Item.{Item}
-use Rattle.b2_atom.specs.declared.forms.Item.TheVariants.{Part, Many}
-use Rattle.b2_rows.specs.Choices.{ReadAs, first_branch, second_branch}
-use Rattle.b2_rows.specs.CommaLists.{all_listed, commas}
-use Rattle.b2_rows.specs.Rows.{is_part, tree_at, after_part, is_list}
-use Rattle.b2_rows.proofs.Choices.{either_first, either_second}
-use Rattle.b2_rows.proofs.CommaLists.{IsComma, Other, item_shorter, items_of_other, no_items_left, other}
-use Rattle.b2_rows.proofs.RowsRead.{stands_of}
 use Rattle.b2_vars.specs.declared.name.Var.{Var}
 use Rattle.b2_vars.specs.Calls.{get_code}
 use Rattle.b2_vars.specs.Shapes.{cell_at}
 use Rattle.b2_vars.specs.Tables.{VarsState, shape_at}
 use Rattle.b2_vars.specs.Variables.{value_at}
 use Rattle.b2_access.specs.Touching.{is_short}
-use Rattle.b2_expr.specs.Answers.{◌>>=◌, unless}
-use Rattle.b2_expr.specs.Scope.{Context}
+use Rattle.b2_expr.specs.Answers.{unless}
 use Rattle.b2_stmt_file.specs.Elements.{array_values, element_recorded, recorded, then_values, value_of, values_from}
-use Rattle.b2_stmt_file.specs.SavedValues.{all_saved, alpha_saved, array_saved, item_saved, items_at, number_saved, operand_saved, other_items, values_before}
+use Rattle.b2_stmt_file.specs.SavedValues.{values_before}
 
 -- a value that a record may have, or not
 recorded_by : (x : Value) (b : Bool) → is_short x ≡ b → recorded x ≡ (if b then Ok (x ∷ []) else Err X72_TOO_LONG)

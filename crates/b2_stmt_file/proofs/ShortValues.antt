@@ -1,8 +1,7 @@
 -- The values of a record that is saved are such as a record may have.
-use Rattle.std.proofs.Common.{◌≡◌, ◌&&◌, ℕ, zero, suc, ◌+◌, ◌==◌, Bool, true, false, if◌then◌else◌, List, [], ◌∷◌, ◌++◌, Result, Ok, Err, refl, ap, sym, ◌∙◌}
+use Rattle.std.proofs.Common.{◌≡◌, ◌&&◌, ℕ, zero, suc, ◌+◌, ◌==◌, Bool, true, false, if◌then◌else◌, List, [], ◌∷◌, ◌++◌, Result, Ok, Err, refl, ap}
 use Rattle.std.specs.List.{list_all}
 use Rattle.b2_base.specs.declared.codes.TheConstants.{X72_TOO_LONG}
-use Rattle.b2_dec.specs.Number.{Number}
 use Rattle.b2_dec.specs.declared.values.Value.{Value}
 use Rattle.b2_dec.specs.declared.values.Value.TheVariants as value_kind
 use Rattle.b2_atom.specs.Tree.{Trees}
@@ -17,9 +16,8 @@ use Rattle.b2_expr.specs.Scope.{Context}
 use Rattle.b2_expr.specs.Value.{text, value}
 use Rattle.b2_expr.specs.declared.operators.Level.TheVariants as level
 use Rattle.b2_receiver.specs.Receivers.{whole_array}
-use Rattle.b2_receiver.specs.declared.receiver.Array.{Array}
 use Rattle.b2_stmt_file.specs.Elements.{array_values, array_variables, element_recorded, element_value, recorded, then_values, values_from}
-use Rattle.b2_stmt_file.specs.SavedValues.{all_saved, alpha_saved, array_saved, item_saved, number_saved, operand_saved}
+use Rattle.b2_stmt_file.specs.SavedValues.{all_saved, array_saved, item_saved, operand_saved}
 
 abbrev pub AreShort : Result (List Value) ℕ → Type 0
 AreShort (Ok xs) = list_all is_short xs ≡ true

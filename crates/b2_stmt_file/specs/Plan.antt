@@ -1,5 +1,5 @@
 -- What a statement plans, by the unit at the place of a partition, and how it finishes.
-use Rattle.std.specs.Prelude.{ℕ, ◌==◌, ◌||◌, Bool, false, List, Option, Result, Ok, Err, if◌then◌else◌}
+use Rattle.std.specs.Prelude.{ℕ, ◌==◌, ◌||◌, Bool, false, List, Option, Some, None, Result, Ok, Err, if◌then◌else◌}
 use Rattle.b2_base.specs.declared.codes.TheConstants.{S27_LEFT_OUT}
 use Rattle.b2_base.specs.declared.files.Slot.{Slot}
 use Rattle.b2_atom.specs.Tree.{Trees}
@@ -7,6 +7,7 @@ use Rattle.b2_atom.specs.declared.rows.TheConstants as row
 use Rattle.b2_expr.specs.Scope.{Context}
 use Rattle.b2_expr.specs.Value.{context_of}
 use Rattle.b2_expr.specs.Workspace.{work_in}
+use Rattle.b2_text.specs.Program.{Lines}
 use Rattle.b2_access.specs.Courses.{Here, course}
 use Rattle.b2_access.specs.Lending.{SeenLent}
 use Rattle.b2_access.specs.Partition.{setting_of}
@@ -46,11 +47,22 @@ abbrev pub asks_or_fails : Result Access ℕ → Planned
 asks_or_fails (Ok a) = planned.Ask a
 asks_or_fails (Err code) = planned.Done (outcome.Failed code)
 
+-- what a statement asks for at a place, where one stands there
+abbrev pub asks_for : List Device → Statement → Private → SeenLent → Working
+asks_for devices u me s = Plans (asks_or_fails (asked_of (drives_of devices me) me.slots (context_of (work_in (setting_of me) s.home me.vars)) u.row u.tree))
+
+abbrev pub asking : List Device → Private → SeenLent → Option Statement → Working
+asking devices me s None = stops outcome.Ready
+asking devices me s (Some u) = asks_for devices u me s
+
 -- IF END ends at once; the others ask for an access
 abbrev pub course_of : List Device → Statement → Here → Private → SeenLent → Working
-course_of devices u h me s =
-    if u.row == row.IF_END then stops (if_end me.at_end h s.home.lines u.tree)
-    else Plans (asks_or_fails (asked_of (drives_of devices me) me.slots (context_of (work_in (setting_of me) s.home me.vars)) u.row u.tree))
+course_of devices u h me s = if u.row == row.IF_END then stops (if_end me.at_end h s.home.lines u.tree) else asks_for devices u me s
+
+-- how IF END ends where it stands
+abbrev pub ended_there : Bool → Option Statement → Here → Lines → Option Outcome
+ended_there at_end None h lines = None
+ended_there at_end (Some u) h lines = if u.row == row.IF_END then Some (if_end at_end h lines u.tree) else None
 
 abbrev pub does : List Device → Private → SeenLent → Statement → Here → Working
 does devices me s u h = course_of devices u h me s

@@ -62,13 +62,13 @@ fn end_goal(
 pub fn if_end(
     immediate: &Option<Atoms>,
     home: &Text,
-    place: Place,
+    place: &Place,
     at_end: bool,
     unit: &[u8],
 ) -> Outcome
     requires part { is_part row.IF_END unit.now ≡ true }
-    ensures { result ≡ spec.if_end at_end (record { place = place; units = units_on (line_named immediate.now home.now.lines place.line) }) home.now.lines (tree_at row.IF_END unit.now) }
+    ensures { result ≡ spec.if_end at_end (record { place = place.now; units = units_on (line_named immediate.now home.now.lines place.now.line) }) home.now.lines (tree_at row.IF_END unit.now) }
 {
     let goal = end_goal(immediate, home, place.line, place.unit, at_end, unit);
-    to_goal(home, place, goal)
+    to_goal(home, *place, goal)
 }

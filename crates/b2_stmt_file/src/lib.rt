@@ -15,8 +15,8 @@
 mod asking;
 mod coming;
 mod elements;
-pub mod laws;
 mod ending;
+pub mod laws;
 mod loaded_values;
 mod loading;
 mod opening;

@@ -1,4 +1,4 @@
-use Rattle.std.proofs.Common.{◌≡◌, ◌∙◌, ap, sym, List, ℕ, Result, Ok, Err}
+use Rattle.std.proofs.Common.{◌∙◌, ap, sym, List, ℕ, Result, Ok}
 use Rattle.b2_base.specs.declared.files.Slot.{Slot}
 use Rattle.b2_dec.specs.declared.values.Kind.{Kind}
 use Rattle.b2_atom.specs.declared.rows.TheConstants as row

@@ -1,4 +1,4 @@
-use Rattle.std.proofs.Common.{◌≡◌, ◌∙◌, ap, sym, List, ℕ, Result, Ok}
+use Rattle.std.proofs.Common.{◌∙◌, ap, sym, List, ℕ, Result, Ok}
 use Rattle.b2_atom.specs.declared.rows.TheConstants as row
 use Rattle.b2_dec.specs.declared.values.Value.{Value}
 use Rattle.b2_rows.specs.CommaLists.{all_listed}
