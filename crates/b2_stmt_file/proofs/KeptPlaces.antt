@@ -18,7 +18,7 @@ plans_keep_none devices = form.plans_keep_none (works devices)
 pub plans_at_terminal : (devices : List Device) → PlansAtTerminal (plan devices)
 plans_at_terminal devices =
     form.plans_at_terminal (works devices)
-    (λ me s. each_planned devices me s (PlannedAt me.term) tt (λ code. tt) (λ addr a listed is legal. at_disk_names_none me.term addr a is))
+    (λ me s. each_planned devices me s (PlannedAt me.term) tt (λ p g is. tt) (λ code. tt) (λ addr a listed is legal. at_disk_names_none me.term addr a is))
 
 pub finishes_in_place : FinishesInPlace finish
 finishes_in_place = form.finishes_in_place ends

@@ -6,4 +6,4 @@ use Rattle.b2_stmt_file.specs.Plan.{works}
 use Rattle.b2_stmt_file.proofs.Planned.{each_planned}
 
 pub plans_legally : StatementsPlanLegally
-plans_legally devices me s = as_it_comes IsLegalPlan me s (works devices me s) (each_planned devices me s IsLegalPlan tt (λ code. tt) (λ addr a listed is legal. legal))
+plans_legally devices me s = as_it_comes IsLegalPlan me s (works devices me s) (each_planned devices me s IsLegalPlan tt (λ p g is. tt) (λ code. tt) (λ addr a listed is legal. legal))

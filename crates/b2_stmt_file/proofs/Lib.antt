@@ -11,6 +11,8 @@ pub mod SavedRows
 pub mod SavedItems
 pub mod LoadedRows
 pub mod LoadRows
+pub mod GoalUnits
+pub mod EndRows
 pub mod ShortValues
 pub mod Planned
 pub mod HomesKept
@@ -19,3 +21,4 @@ pub mod Waits
 pub mod LeftAlone
 pub mod Listed
 pub mod Legal
+pub mod Ended

@@ -17,6 +17,10 @@ use Rattle.b2_expr.specs.Value.{context_of, value}
 use Rattle.b2_expr.specs.Workspace.{work_in}
 use Rattle.b2_expr.specs.declared.operators.Level.TheVariants as level
 use Rattle.b2_access.specs.Devices.{is_platter_for}
+use Rattle.b2_flow.specs.declared.frame.Place.{Place}
+use Rattle.b2_rows.specs.declared.following.Goal.{Goal}
+use Rattle.b2_access.specs.Courses.{here}
+use Rattle.b2_access.specs.Going.{to_goal}
 use Rattle.b2_access.specs.Lending.{SeenLent}
 use Rattle.b2_access.specs.OwnDevices.{IsAtDisk}
 use Rattle.b2_access.specs.Partition.{setting_of}
@@ -39,6 +43,7 @@ use Rattle.b2_drive.specs.FileNames.{name_given}
 use Rattle.b2_stmt_file.specs.Coming.{by_place, file_ends}
 use Rattle.b2_stmt_file.specs.Counts.{count_from, count_given}
 use Rattle.b2_stmt_file.specs.LoadedValues.{all_kinds}
+use Rattle.b2_stmt_file.specs.Ending.{end_goal}
 use Rattle.b2_stmt_file.specs.Loading.{asks_to_load, loading_ends, loads_in}
 use Rattle.b2_stmt_file.specs.Opening.{asks_for_new, asks_for_old, makes, new_file, old_file, reuses}
 use Rattle.b2_stmt_file.specs.Plan.{asked_of, asks_or_fails, course_of, does, ended_of, is_refused, works}
@@ -204,18 +209,21 @@ module _ (F : Planned → Type 0) (d : DrivesSeen) (failed : (code : ℕ) → F 
       (either Asked (r == row.DBACKSPACE) _ _ (skip_asked back slots e t) (failed S27_LEFT_OUT))))
 
 -- so also of what the statement at a place plans
-module _ (devices : List Device) (me : Private) (s : SeenLent) (F : Planned → Type 0) (ready : F (planned.Done outcome.Ready)) (failed : (code : ℕ) → F (planned.Done (outcome.Failed code)))
+module _ (devices : List Device) (me : Private) (s : SeenLent) (F : Planned → Type 0) (ready : F (planned.Done outcome.Ready))
+    (leads : (p : Place) (g : Goal) → me.place ≡ Some p → F (planned.Done (to_goal s.home.lines p g))) (failed : (code : ℕ) → F (planned.Done (outcome.Failed code)))
     (asks : (addr : List ℕ) (a : Access) → is_platter_for me.part addr devices ≡ true → IsAtDisk addr a → IsLegal a → F (planned.Ask a)) where
   Each : Working → Type 0
   Each k = F (planned_of k)
 
-  each_statement : (u : Statement) → Each (course_of devices u me s)
+  each_statement : (p : Place) → me.place ≡ Some p → (u : Statement) → Each (course_of devices u (here p me s) me s)
   unfolding Each
-  each_statement u = each_asked F (drives_of devices me) failed asks me.slots (context_of (work_in (setting_of me) s.home me.vars)) u.row u.tree
+  each_statement p is u =
+      either Each (u.row == row.IF_END) _ _ (leads p (end_goal me.at_end p.unit (here p me s).units u.tree) is)
+      (each_asked F (drives_of devices me) failed asks me.slots (context_of (work_in (setting_of me) s.home me.vars)) u.row u.tree)
 
   pub each_planned : F (planned_of (works devices me s))
   unfolding Each
-  each_planned = each_course is_refused stops (does devices me s) me s Each ready (failed S26_PROGRAM_ONLY) (λ p is u. each_statement u)
+  each_planned = each_course is_refused stops (does devices me s) me s Each ready (failed S26_PROGRAM_ONLY) (λ p is u. each_statement p is u)
 
 -- and of how a statement finishes
 pub each_ended : (F : Worked → Type 0) (x : Access) (a : Answer) (me : Private) (s : SeenLent) → ((t : Trees) → F (saving_ends x a t me)) → ((t : Trees) → F (loading_ends x a t me s))

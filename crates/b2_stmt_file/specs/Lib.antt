@@ -9,5 +9,6 @@ pub mod Opening
 pub mod Skipping
 pub mod Saving
 pub mod Loading
+pub mod Ending
 pub mod Plan
 pub mod Laws

@@ -1,5 +1,5 @@
 -- What a statement plans, by the unit at the place of a partition, and how it finishes.
-use Rattle.std.specs.Prelude.{ℕ, ◌==◌, ◌||◌, Bool, false, List, Option, Result, Ok, Err, if◌then◌else◌}
+use Rattle.std.specs.Prelude.{ℕ, ◌==◌, ◌||◌, Bool, false, List, Option, Some, None, Result, Ok, Err, if◌then◌else◌}
 use Rattle.b2_base.specs.declared.codes.TheConstants.{S27_LEFT_OUT}
 use Rattle.b2_base.specs.declared.files.Slot.{Slot}
 use Rattle.b2_atom.specs.Tree.{Trees}
@@ -7,6 +7,7 @@ use Rattle.b2_atom.specs.declared.rows.TheConstants as row
 use Rattle.b2_expr.specs.Scope.{Context}
 use Rattle.b2_expr.specs.Value.{context_of}
 use Rattle.b2_expr.specs.Workspace.{work_in}
+use Rattle.b2_text.specs.Program.{Lines}
 use Rattle.b2_access.specs.Courses.{Here, course}
 use Rattle.b2_access.specs.Lending.{SeenLent}
 use Rattle.b2_access.specs.Partition.{setting_of}
@@ -24,6 +25,7 @@ use Rattle.b2_access.specs.declared.planned.Planned.TheVariants as planned
 use Rattle.b2_access.specs.declared.private.Private.{Private}
 use Rattle.b2_drive.specs.Drives.{DrivesSeen, drives_of}
 use Rattle.b2_stmt_file.specs.Coming.{by_place, file_ends}
+use Rattle.b2_stmt_file.specs.Ending.{if_end}
 use Rattle.b2_stmt_file.specs.Loading.{asks_to_load, loading_ends}
 use Rattle.b2_stmt_file.specs.Saving.{asks_to_save, saving_ends}
 use Rattle.b2_stmt_file.specs.Skipping.{asks_to_skip, back, forward, slot_skipped}
@@ -45,11 +47,25 @@ abbrev pub asks_or_fails : Result Access ℕ → Planned
 asks_or_fails (Ok a) = planned.Ask a
 asks_or_fails (Err code) = planned.Done (outcome.Failed code)
 
-abbrev pub course_of : List Device → Statement → Private → SeenLent → Working
-course_of devices u me s = Plans (asks_or_fails (asked_of (drives_of devices me) me.slots (context_of (work_in (setting_of me) s.home me.vars)) u.row u.tree))
+-- what a statement asks for at a place, where one stands there
+abbrev pub asks_for : List Device → Statement → Private → SeenLent → Working
+asks_for devices u me s = Plans (asks_or_fails (asked_of (drives_of devices me) me.slots (context_of (work_in (setting_of me) s.home me.vars)) u.row u.tree))
+
+abbrev pub asking : List Device → Private → SeenLent → Option Statement → Working
+asking devices me s None = stops outcome.Ready
+asking devices me s (Some u) = asks_for devices u me s
+
+-- IF END ends at once; the others ask for an access
+abbrev pub course_of : List Device → Statement → Here → Private → SeenLent → Working
+course_of devices u h me s = if u.row == row.IF_END then stops (if_end me.at_end h s.home.lines u.tree) else asks_for devices u me s
+
+-- how IF END ends where it stands
+abbrev pub ended_there : Bool → Option Statement → Here → Lines → Option Outcome
+ended_there at_end None h lines = None
+ended_there at_end (Some u) h lines = if u.row == row.IF_END then Some (if_end at_end h lines u.tree) else None
 
 abbrev pub does : List Device → Private → SeenLent → Statement → Here → Working
-does devices me s u h = course_of devices u me s
+does devices me s u h = course_of devices u h me s
 
 -- what the statement at a partition's place plans, over the devices that there are
 abbrev pub works : List Device → Private → SeenLent → Working
@@ -82,4 +98,4 @@ finish x a me s = finishes_by ends x a me s
 
 -- the rows that this crate builds
 abbrev pub is_built : ℕ → Bool
-is_built r = r == row.DATASAVE || r == row.DATALOAD || r == row.DSKIP || r == row.DBACKSPACE
+is_built r = r == row.DATASAVE || r == row.DATALOAD || r == row.DSKIP || r == row.DBACKSPACE || r == row.IF_END

@@ -1,4 +1,4 @@
-//! Statements on data files: DATASAVE DC, DATALOAD DC, DSKIP and DBACKSPACE.
+//! Statements on data files: DATASAVE DC, DATALOAD DC, DSKIP, DBACKSPACE and IF END.
 //!
 //! `plan` takes the statement at a partition's place, over the devices that there are: it asks for an access of one platter, which
 //! the partition may use, or fails with a code; `finish` does the rest by the answer. A statement that opens a file puts it into a
@@ -15,6 +15,7 @@
 mod asking;
 mod coming;
 mod elements;
+mod ending;
 pub mod laws;
 mod loaded_values;
 mod loading;

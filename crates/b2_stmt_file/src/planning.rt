@@ -1,9 +1,14 @@
 // What the statement at a partition's place plans, and how it finishes.
-ghost use Rattle.std.specs.Prelude.{◌≡◌, ◌≤◌, true, IfOk};
+ghost use Rattle.std.specs.Prelude.{◌≡◌, ◌≤◌, true, Option, IfOk};
 ghost use Rattle.b2_access.specs.Answering.{can_answer};
 ghost use Rattle.b2_access.specs.Lending.{globals_lent, seen_lent};
 ghost use Rattle.b2_rows.specs.Laws.{IsRow};
 ghost use Rattle.b2_rows.specs.Rows.{tree_at};
+ghost use Rattle.b2_access.specs.Courses.{units_on};
+ghost use Rattle.b2_access.specs.Placed.{line_named, statement_placed};
+ghost use Rattle.b2_access.specs.Working.{planned_of};
+ghost use Rattle.b2_text.specs.Program.{TextState};
+ghost use Rattle.b2_vars.specs.Tables.{VarsState};
 ghost use Rattle.b2_expr.specs.Scope.{surroundings};
 ghost use Rattle.b2_expr.specs.Value.{in_statement};
 ghost use Rattle.b2_drive.specs.Drives.{drives_seen};
@@ -15,6 +20,7 @@ use crate::coming::{
     came_of_loading, came_of_moving, came_of_opening, end_after, keep_file, outcome_of,
     values_loaded,
 };
+use crate::ending::if_end;
 use crate::loading::{ask_to_load, past_words, slot_of_load, take_loaded};
 use crate::opening::slot_of_old;
 use crate::saving::{ask_to_save, came_of_save, slot_of_save};
@@ -23,13 +29,15 @@ use b2_access::{
     Access, Answer, DeviceTable, Lent, Outcome, Planned, Private, goes_or, setting_of,
     statement_placed,
 };
-use b2_atom::rows;
 use b2_atom::words::OPEN;
+use b2_atom::{Atoms, rows};
 use b2_base::codes::S27_LEFT_OUT;
 use b2_base::{Code, Fault, NoMemory, Slot};
 use b2_drive::{Drives, drives_for};
 use b2_expr::{Env, Workspace, surroundings_of};
+use b2_flow::Place;
 use b2_rows::is_at;
+use b2_text::Text;
 use std::alloc::Global;
 
 /// Whether this crate builds a row.
@@ -38,7 +46,7 @@ pub fn is_built(row: u16) -> bool
 {
     matches!(
         row,
-        rows::DATASAVE | rows::DATALOAD | rows::DSKIP | rows::DBACKSPACE
+        rows::DATASAVE | rows::DATALOAD | rows::DSKIP | rows::DBACKSPACE | rows::IF_END
     )
 }
 
@@ -76,7 +84,52 @@ fn asks_or_fails(asked: Result<Access, Fault>) -> Result<Planned, NoMemory>
     }
 }
 
+/// How IF END ends, where it stands at a place; None where another statement does, or none.
+fn ended_there<'a>(
+    immediate: &'a Option<Atoms>,
+    home: &'a Text,
+    place: &Place,
+    at_end: bool,
+) -> Option<Outcome>
+    ensures { result ≡ spec.ended_there at_end (statement_placed place.now immediate.now home.now.lines) (record { place = place.now; units = units_on (line_named immediate.now home.now.lines place.now.line) }) home.now.lines }
+{
+    let Some(unit) = statement_placed(*place, immediate, home) else {
+        return None;
+    };
+    if unit.row == rows::IF_END {
+        Some(if_end(immediate, home, place, at_end, unit.bytes))
+    } else {
+        None
+    }
+}
+
+/// What the statement at a place asks for.
+fn plan_access(
+    alloc: Global,
+    me: &mut Private,
+    home: &Text,
+    devices: &DeviceTable,
+    place: &Place,
+) -> Result<Planned, NoMemory>
+    ensures planned { (own : TextState) (globals : Option VarsState) → IfOk result (λ p. p ≡ planned_of (spec.asking devices.now me.old (record { own = own; home = home.now; globals = globals }) (statement_placed place.now me.old.immediate home.now.lines))) }
+    ensures same { me.new ≡ me.old }
+{
+    let d = drives_for(devices, me);
+    let setting = setting_of(me);
+    let Some(unit) = statement_placed(*place, &me.immediate, home) else {
+        return Ok(Planned::Done(Outcome::Ready));
+    };
+    let work = Workspace {
+        own: &mut me.vars,
+        setting,
+        home,
+    };
+    let e = surroundings_of(&work);
+    asks_or_fails(ask(alloc, &d, &me.slots, &e, unit.row, unit.bytes))
+}
+
 /// What the statement at the place of a partition plans, over the devices that there are. Where no unit is there it is ready.
+#[tactic(auto, using(crate::proofs::Ended::ended_is, crate::proofs::Ended::asked_is))]
 pub fn plan(
     alloc: Global,
     me: &mut Private,
@@ -92,18 +145,10 @@ pub fn plan(
     let Some(place) = me.place else {
         return Ok(Planned::Done(Outcome::Ready));
     };
-    let d = drives_for(devices, me);
-    let setting = setting_of(me);
-    let Some(unit) = statement_placed(place, &me.immediate, lent.home) else {
-        return Ok(Planned::Done(Outcome::Ready));
-    };
-    let work = Workspace {
-        own: &mut me.vars,
-        setting,
-        home: lent.home,
-    };
-    let e = surroundings_of(&work);
-    asks_or_fails(ask(alloc, &d, &me.slots, &e, unit.row, unit.bytes))
+    if let Some(outcome) = ended_there(&me.immediate, lent.home, &place, me.at_end) {
+        return Ok(Planned::Done(outcome));
+    }
+    plan_access(alloc, me, lent.home, devices, &place)
 }
 
 /// How the statement at the place of a partition finishes, by the access that it asked for and its answer, which is one that the
