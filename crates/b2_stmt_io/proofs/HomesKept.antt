@@ -25,7 +25,7 @@ use Rattle.b2_access.proofs.Courses.{each_course}
 use Rattle.b2_access.proofs.OwnTerminal.{at_terminal_marks_none}
 use Rattle.b2_access.proofs.Shown.{shown_leads}
 use Rattle.b2_access.proofs.Working as form
-use Rattle.b2_stmt_io.specs.Keys.{first_named, key_leads, key_taken_by, other_named, key_assigned, waits, without_key}
+use Rattle.b2_stmt_io.specs.Keys.{first_named, key_goes, key_leads, key_taken_by, lines_of, other_named, waits}
 use Rattle.b2_stmt_io.specs.LineReading.{line_answered_by, types}
 use Rattle.b2_stmt_io.specs.Plan.{ended_of, ends, finish, finishes, is_refused, plan, repeats, works}
 use Rattle.b2_stmt_io.proofs.Planned.{each_ended, each_planned}
@@ -50,32 +50,20 @@ module _ (among : ℕ → Bool) where
       let line = if special then other_named named else first_named named in
       either (OutcomeIn among) (n == 1) _ _ (there_in (line_at line lines) (line_start p line) k) tt
 
-  key_in : (key : ℕ) (special : Bool) (home : TextState) (p : Place) (t : Trees) (me : Private) → among p.home ≡ true → Leads (key_assigned key special home p t me)
-  unfolding Leads
-  key_in key special home p Done me k = tt
-  key_in key special home p (In n a t) me k = tt
-  key_in key special home p (Put word Done) me k = tt
-  key_in key special home p (Put word (Put v t)) me k = tt
-  key_in key special home p (Put word (In n receiver lines)) me k = code_in (key_leads special home.lines p lines) _ (leads_in special home.lines p lines k)
-
   waits_in : (t : Trees) → OutcomeIn among (waits t)
   waits_in Done = tt
   waits_in (Put w t) = tt
   waits_in (In n named end) = either (OutcomeIn among) (n == 1) _ _ tt tt
 
-  no_key_in : (t : Trees) → OutcomeIn among (without_key t)
-  no_key_in Done = tt
-  no_key_in (In n a t) = tt
-  no_key_in (Put w Done) = tt
-  no_key_in (Put w (Put v t)) = tt
-  no_key_in (Put w (In n receiver lines)) = waits_in lines
+  goes_in : (k : KeyCame) (lines : Lines) (p : Place) (t : Trees) → among p.home ≡ true → OutcomeIn among (key_goes k lines p t)
+  goes_in (ByteTyped key) lines p t k = leads_in false lines p (lines_of t) k
+  goes_in (KeyPressed n) lines p t k = leads_in true lines p (lines_of t) k
+  goes_in NoKey lines p t k = waits_in (lines_of t)
+  goes_in KeyLater lines p t k = tt
 
   keyed_in : (k : KeyCame) (home : TextState) (p : Place) (t : Trees) (me : Private) → among p.home ≡ true → Leads (key_taken_by k home p t me)
   unfolding Leads
-  keyed_in (ByteTyped key) home p t me k = key_in key false home p t me k
-  keyed_in (KeyPressed n) home p t me k = key_in n true home p t me k
-  keyed_in NoKey home p t me k = no_key_in t
-  keyed_in KeyLater home p t me k = tt
+  keyed_in c home p t me k = code_in (key_goes c home.lines p t) _ (goes_in c home.lines p t k)
 
   -- INPUT and LINPUT
   types_in : (o : Option (List ℕ)) (me : Private) → Leads (types o me)

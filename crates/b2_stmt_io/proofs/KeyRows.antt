@@ -22,15 +22,12 @@ use Rattle.b2_rows.specs.Values.{line_of}
 use Rattle.b2_rows.proofs.Optional.{maybe_stands, begun_part, begun_tree, left_out_tree}
 use Rattle.b2_rows.proofs.RowsRead.{stands_of}
 use Rattle.b2_flow.specs.declared.frame.Place.{Place}
-use Rattle.b2_text.specs.Program.{Lines, TextState}
+use Rattle.b2_text.specs.Program.{Lines}
 use Rattle.b2_access.specs.declared.planned.Outcome.TheVariants as outcome
-use Rattle.b2_access.specs.declared.private.Private.{Private}
-use Rattle.b2_access.specs.Partition.{setting_of}
 use Rattle.b2_access.specs.Going.{to_line}
-use Rattle.b2_stmt_io.specs.Keys.{key_leads, key_assigned, waits, without_key}
-use Rattle.b2_access.specs.Working.{with_variables, work_of}
+use Rattle.b2_stmt_io.specs.Keys.{assigns_key, key_leads, lines_of, waits}
 use Rattle.b2_receiver.specs.Receiving.{assign_bytes_at}
-use Rattle.b2_expr.specs.Workspace.{own_of, work_in}
+use Rattle.b2_expr.specs.Workspace.{WorkState}
 
 abbrev lines_items : List Item
 lines_items = Sign byte.comma S13_SEPARATOR ∷ Typed leaf.LineNumber S15_LINE_NUMBER ∷ Sign byte.comma S13_SEPARATOR ∷ Typed leaf.LineNumber S15_LINE_NUMBER ∷ []
@@ -99,15 +96,15 @@ key_tree : (t : Text) → is_part row.KEYIN t ≡ true
 unfolding maybe_tree
 key_tree t ok = (stands_of row.KEYIN key_items t key_row ok).1
 
-pub takes_key_is : (key : ℕ) (special : Bool) (home : TextState) (p : Place) (t : Text) (me : Private) → is_part row.KEYIN t ≡ true
-    → key_assigned key special home p (tree_at row.KEYIN t) me
-    ≡ with_variables (own_of (assign_bytes_at (Ok (key ∷ [])) (tree_at row.ALPHA_RECEIVER (drop 1 t)) (work_in (setting_of me) home me.vars)))
-    (key_leads special home.lines p (maybe_tree (start.Code byte.comma) row.COMMA_TWO_LINES (after_receiver t))) (work_of me)
-takes_key_is key special home p t me ok = ap (λ (a : Trees). key_assigned key special home p a me) (key_tree t ok)
+pub assigns_key_is : (key : ℕ) (t : Text) (w : WorkState) → is_part row.KEYIN t ≡ true → assigns_key key (tree_at row.KEYIN t) w ≡ assign_bytes_at (Ok (key ∷ [])) (tree_at row.ALPHA_RECEIVER (drop 1 t)) w
+assigns_key_is key t w ok = ap (λ (a : Trees). assigns_key key a w) (key_tree t ok)
+
+pub lines_are : (t : Text) → is_part row.KEYIN t ≡ true → lines_of (tree_at row.KEYIN t) ≡ maybe_tree (start.Code byte.comma) row.COMMA_TWO_LINES (after_receiver t)
+lines_are t ok = ap lines_of (key_tree t ok)
 
 waits_by : (t : Text) (b : Bool) → (first t == byte.comma) ≡ b → waits (maybe_tree (start.Code byte.comma) row.COMMA_TWO_LINES t) ≡ (if b then outcome.Next else outcome.Repeat)
 waits_by t true is = ap waits (begun_tree (start.Code byte.comma) row.COMMA_TWO_LINES t (begins t true is))
 waits_by t false is = ap waits (left_out_tree (start.Code byte.comma) row.COMMA_TWO_LINES t (begins t false is))
 
-pub without_key_is : (t : Text) → is_part row.KEYIN t ≡ true → without_key (tree_at row.KEYIN t) ≡ (if first (after_receiver t) == byte.comma then outcome.Next else outcome.Repeat)
-without_key_is t ok = ap without_key (key_tree t ok) ∙ waits_by (after_receiver t) (first (after_receiver t) == byte.comma) refl
+pub waits_is : (t : Text) → waits (maybe_tree (start.Code byte.comma) row.COMMA_TWO_LINES t) ≡ (if first t == byte.comma then outcome.Next else outcome.Repeat)
+waits_is t = waits_by t (first t == byte.comma) refl

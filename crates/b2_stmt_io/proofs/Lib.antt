@@ -1,10 +1,10 @@
 pub mod Refusals
 pub mod LeftOut
-pub mod Finished
 pub mod KeyRows
 pub mod PromptRows
 pub mod ConvertRows
 pub mod InputRows
+pub mod Entered
 pub mod Parted
 pub mod Valued
 pub mod Printed

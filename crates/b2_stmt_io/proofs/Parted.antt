@@ -1,6 +1,7 @@
 -- The parts of a line one after another, each for its receiver.
-use Rattle.std.proofs.Common.{◌≡◌, ℕ, ◌+◌, ◌==◌, not, Bool, true, false, if◌then◌else◌, List, [], ◌∷◌, zero, suc, length, take, drop, Option, Some, None, refl, sym, ap, ◌∙◌, arith}
+use Rattle.std.proofs.Common.{◌≡◌, ℕ, ◌+◌, ◌==◌, not, Bool, true, false, if◌then◌else◌, List, [], ◌∷◌, suc, length, take, drop, Option, Some, None, refl, sym, ap, ◌∙◌, arith}
 use Rattle.std.proofs.lemmas.Bool.Decides.{nat_tests}
+use Rattle.std.proofs.lemmas.List.{length-take, take_min}
 use Rattle.std.specs.List.{prefix_len}
 use Rattle.std.specs.Prelude.{is_some}
 use Rattle.b2_base.specs.Byte as byte
@@ -14,14 +15,9 @@ use Rattle.b2_rows.specs.CommaLists.{are_others, others_at, receivers_at}
 use Rattle.b2_stmt_io.specs.TypedText.{is_within_part, onto_first, typed_parts}
 use Rattle.b2_receiver.proofs.ReceiverLists.{no_items, other_items}
 
--- the front of bytes that is as long as another front of them
-front_again : (n : ℕ) (xs : List ℕ) → take (length (take n xs)) xs ≡ take n xs
-front_again zero xs = refl
-front_again (suc n) [] = refl
-front_again (suc n) (x ∷ xs) = ap (λ (l : List ℕ). x ∷ l) (front_again n xs)
-
+-- the value in bytes is the front of them that is as long
 pub value_front : (xs : List ℕ) → take (length (value_of xs)) xs ≡ value_of xs
-value_front xs = front_again _ xs
+value_front xs = ap (λ (n : ℕ). take n xs) (length-take _ xs) ∙ take_min _ xs
 
 -- the parts after the first, by what stands after it
 abbrev pub further_parts : List ℕ → List (List ℕ)

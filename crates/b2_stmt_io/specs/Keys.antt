@@ -2,7 +2,7 @@
 use Rattle.std.specs.Prelude.{ℕ, ◌==◌, Bool, true, false, [], ◌∷◌, Ok, if◌then◌else◌}
 use Rattle.b2_base.specs.declared.codes.TheConstants.{S20_VARIABLE}
 use Rattle.b2_atom.specs.Tree.{Trees}
-use Rattle.b2_atom.specs.Tree.Trees.{Put, In}
+use Rattle.b2_atom.specs.Tree.Trees.{Done, Put, In}
 use Rattle.b2_flow.specs.declared.frame.Place.{Place}
 use Rattle.b2_text.specs.Program.{Lines, TextState}
 use Rattle.b2_access.specs.declared.accesses.Access.{Access}
@@ -14,9 +14,9 @@ use Rattle.b2_access.specs.Partition.{setting_of}
 use Rattle.b2_rows.specs.LineNumbers.{line_in}
 use Rattle.b2_access.specs.Going.{to_line}
 use Rattle.b2_access.specs.Views.{KeyCame, ByteTyped, KeyPressed, NoKey, KeyLater, key_came}
-use Rattle.b2_access.specs.Working.{Worked, leaves, with_variables, work_of}
+use Rattle.b2_access.specs.Working.{Worked, with_variables, work_of}
 use Rattle.b2_receiver.specs.Receiving.{assign_bytes_at}
-use Rattle.b2_expr.specs.Workspace.{own_of, work_in}
+use Rattle.b2_expr.specs.Workspace.{WorkLeft, WorkState, own_of, refused, unchanged, work_in}
 
 -- the two lines that may be named
 abbrev pub first_named : Trees → ℕ
@@ -32,27 +32,35 @@ abbrev pub key_leads : Bool → Lines → Place → Trees → Outcome
 key_leads special lines p (In n named end) = if n == 1 then to_line lines p (if special then other_named named else first_named named) else outcome.Next
 key_leads special lines p t = outcome.Next
 
--- the key, or the number of a special function key, is assigned as one byte, and then it goes on
-abbrev pub key_assigned : ℕ → Bool → TextState → Place → Trees → Private → Worked
-key_assigned key special home p (Put word (In n receiver lines)) me =
-    with_variables (own_of (assign_bytes_at (Ok (key ∷ [])) receiver (work_in (setting_of me) home me.vars))) (key_leads special home.lines p lines) (work_of me)
-key_assigned key special home p t me = leaves me (outcome.Failed S20_VARIABLE)
-
 -- without a key it goes on where lines are named, and else it waits
 abbrev pub waits : Trees → Outcome
 waits (In n named end) = if n == 1 then outcome.Next else outcome.Repeat
 waits t = outcome.Repeat
 
-abbrev pub without_key : Trees → Outcome
-without_key (Put word (In n receiver lines)) = waits lines
-without_key t = outcome.Repeat
+abbrev pub lines_of : Trees → Trees
+lines_of (Put word (In n receiver lines)) = lines
+lines_of t = Done
 
--- how KEYIN finishes
+-- where it goes on, by the key that came
+abbrev pub key_goes : KeyCame → Lines → Place → Trees → Outcome
+key_goes (ByteTyped key) home p t = key_leads false home p (lines_of t)
+key_goes (KeyPressed n) home p t = key_leads true home p (lines_of t)
+key_goes NoKey home p t = waits (lines_of t)
+key_goes KeyLater home p t = outcome.Repeat
+
+-- the key, or the number of a special function key, is assigned as one byte
+abbrev pub assigns_key : ℕ → Trees → WorkState → WorkLeft
+assigns_key key (Put word (In n receiver lines)) w = assign_bytes_at (Ok (key ∷ [])) receiver w
+assigns_key key t w = refused S20_VARIABLE w
+
+abbrev pub takes_key : KeyCame → Trees → WorkState → WorkLeft
+takes_key (ByteTyped key) t w = assigns_key key t w
+takes_key (KeyPressed n) t w = assigns_key n t w
+takes_key k t w = unchanged w
+
+-- how KEYIN finishes: the key is assigned, and then it goes on
 abbrev pub key_taken_by : KeyCame → TextState → Place → Trees → Private → Worked
-key_taken_by (ByteTyped key) home p t me = key_assigned key false home p t me
-key_taken_by (KeyPressed n) home p t me = key_assigned n true home p t me
-key_taken_by NoKey home p t me = leaves me (without_key t)
-key_taken_by KeyLater home p t me = leaves me outcome.Repeat
+key_taken_by k home p t me = with_variables (own_of (takes_key k t (work_in (setting_of me) home me.vars))) (key_goes k home.lines p t) (work_of me)
 
 abbrev pub key_taken : Access → Answer → TextState → Place → Trees → Private → Worked
 key_taken x a home p t me = key_taken_by (key_came x a) home p t me

@@ -13,7 +13,7 @@ use Rattle.b2_access.specs.declared.accesses.Answer.{Answer}
 use Rattle.b2_access.specs.declared.planned.Outcome.TheVariants as outcome
 use Rattle.b2_access.specs.declared.private.Private.{Private}
 use Rattle.b2_access.specs.Marks.{typed_by_mark}
-use Rattle.b2_access.specs.Views.{LineCame, PromptShown, LineEntered, LineLeft, LineLater, line_came}
+use Rattle.b2_access.specs.Views.{LineCame, PromptShown, LineEntered, LineLeft, line_came}
 use Rattle.b2_access.specs.Working.{Worked, leaves, with_variables, work_of}
 use Rattle.b2_receiver.specs.Receiving.{assign_bytes_at}
 use Rattle.b2_expr.specs.Workspace.{WorkState, WorkLeft}
@@ -58,12 +58,21 @@ abbrev pub types : Option (List ℕ) → Private → Worked
 types None me = leaves me outcome.Repeat
 types (Some text) me = record { work = record (work_of me) { literal = Some text }; outcome = outcome.Repeat }
 
--- how they finish: the prompt was shown, a line was read and is taken, or a special function key was; else the step is repeated
+-- the line that was entered, None where none was
+abbrev pub entered : LineCame → Option (List ℕ)
+entered (LineEntered line) = Some line
+entered c = None
+
+-- how they finish where none was: the prompt was shown, or a special function key was pressed; else the step is repeated
+abbrev pub unread : LineCame → Lines → Private → Worked
+unread (PromptShown column) own me = prompted column me
+unread (LineLeft n) own me = types (typed_by_mark n own) me
+unread c own me = leaves me outcome.Repeat
+
+-- and with a line, which is taken
 abbrev pub line_answered_by : (List ℕ → VarsState → Assigned) → LineCame → Lines → Private → Worked
-line_answered_by takes (PromptShown column) own me = prompted column me
 line_answered_by takes (LineEntered line) own me = with_variables (takes line me.vars) outcome.Next (record (work_of me) { term_column = 0 })
-line_answered_by takes (LineLeft n) own me = types (typed_by_mark n own) me
-line_answered_by takes LineLater own me = leaves me outcome.Repeat
+line_answered_by takes c own me = unread c own me
 
 abbrev pub line_answered : (List ℕ → VarsState → Assigned) → Access → Answer → Lines → Private → Worked
 line_answered takes x a own me = line_answered_by takes (line_came x a) own me

@@ -1,20 +1,20 @@
 // INPUT: the parts of a line for its receivers; and how INPUT and LINPUT finish.
-ghost use Rattle.std.specs.Prelude.{◌≡◌, ◌==◌, ◌||◌, true, IfOk};
+ghost use Rattle.std.specs.Prelude.{◌≡◌, ◌==◌, ◌||◌, true, IfOk, None, option_copied};
 ghost use Rattle.b2_alpha.specs.Values.{value_of};
 ghost use Rattle.b2_atom.specs.declared.rows.TheConstants as row;
 ghost use Rattle.b2_rows.specs.Rows.{is_part, tree_at};
 ghost use Rattle.b2_access.specs.Answering.{can_answer};
-ghost use Rattle.b2_access.specs.Partition.{setting_of};
+ghost use Rattle.b2_access.specs.Views.{line_came};
 ghost use Rattle.b2_access.specs.Working.{ended};
-ghost use Rattle.b2_expr.specs.Workspace.{own_of, work_in, workspace};
+ghost use Rattle.b2_expr.specs.Workspace.{workspace};
 ghost use Rattle.b2_stmt_io.specs.Inputs as spec;
-ghost use Rattle.b2_stmt_io.specs.LineReading.{asks_line, line_answered, prompt_of};
+ghost use Rattle.b2_stmt_io.specs.LineReading.{asks_line, entered, prompt_of, unread};
 ghost use Rattle.b2_rows.specs.CommaLists.{are_others, past_first, receivers_at};
 ghost use Rattle.b2_stmt_io.specs.TypedText.{typed_parts};
 
 use crate::line_reading::{ask_line, assign_line, past_prompt, prompt_shown, type_literal};
 use crate::typed_text::{part_width, typed_number};
-use b2_access::{Access, Answer, Outcome, Private, goes_or, setting_of};
+use b2_access::{Access, Answer, Outcome, Private};
 use b2_alpha::value_len;
 use b2_atom::rows;
 use b2_base::lexical::{first_bytes, rest_after, skip_blanks};
@@ -114,7 +114,7 @@ pub fn ask_input(
 }
 
 /// Assigns a line to the receivers of a statement that read it, LINPUT or INPUT.
-fn take_typed(
+pub fn take_typed(
     work: &mut Workspace<'_>,
     kind: u16,
     line: &[u8],
@@ -132,55 +132,30 @@ fn take_typed(
     }
 }
 
-/// How LINPUT and INPUT finish after a line was asked for.
-fn after_reading(
-    alloc: Global,
-    me: &mut Private,
-    own: &Text,
-    home: &Text,
-    answer: &Answer,
-    kind: u16,
-    unit: &[u8],
-) -> Result<Outcome, NoMemory>
-    requires part { is_part kind unit.now ≡ true }
-    requires reads { (kind == row.LINPUT || kind == row.INPUT) ≡ true }
-    requires possible { can_answer (Access.ReadLine me.old.term) answer.now ≡ true }
-    ensures ended { IfOk result (λ o. record { me = me.new; outcome = o } ≡ ended me.old (line_answered (λ line vars. own_of (spec.takes_typed kind line (tree_at kind unit.now) (work_in (setting_of me.old) home.now vars))) (Access.ReadLine me.old.term) answer.now own.now.lines me.old)) }
-    ensures part { me.new.part ≡ me.old.part }
+/// The line that was entered, none where none was.
+pub fn line_entered<'a>(access: &Access, answer: &'a Answer) -> Option<&'a [u8]>
+    ensures { option_copied result ≡ entered (line_came access.now answer.now) }
 {
-    match answer {
-        Answer::Line(line) => {
-            let setting = setting_of(me);
-            let mut work = Workspace {
-                own: &mut me.vars,
-                setting,
-                home,
-            };
-            let code = take_typed(&mut work, kind, line.bytes(), unit)?;
-            me.term_column = 0;
-            Ok(goes_or(Outcome::Next, code))
-        }
-        Answer::Special(n) => type_literal(alloc, me, own, *n),
-        Answer::NoKeys | Answer::Wait(_) => Ok(Outcome::Repeat),
-        _ => unreachable!(),
+    match access {
+        Access::ReadLine { .. } => match answer {
+            Answer::Line(line) => Some(line.bytes()),
+            _ => None,
+        },
+        _ => None,
     }
 }
 
-/// How LINPUT and INPUT finish.
-pub fn after_line(
+/// How LINPUT and INPUT finish where no line was entered.
+pub fn without_line(
     alloc: Global,
     me: &mut Private,
     own: &Text,
-    home: &Text,
     access: &Access,
     answer: &Answer,
-    kind: u16,
-    unit: &[u8],
 ) -> Result<Outcome, NoMemory>
-    requires part { is_part kind unit.now ≡ true }
-    requires reads { (kind == row.LINPUT || kind == row.INPUT) ≡ true }
+    requires none { entered (line_came access.now answer.now) ≡ None }
     requires possible { can_answer access.now answer.now ≡ true }
-    ensures ended { IfOk result (λ o. record { me = me.new; outcome = o } ≡ ended me.old (line_answered (λ line vars. own_of (spec.takes_typed kind line (tree_at kind unit.now) (work_in (setting_of me.old) home.now vars))) access.now answer.now own.now.lines me.old)) }
+    ensures ended { IfOk result (λ o. record { me = me.new; outcome = o } ≡ ended me.old (unread (line_came access.now answer.now) own.now.lines me.old)) }
     ensures part { me.new.part ≡ me.old.part }
 {
     match access {
@@ -189,7 +164,11 @@ pub fn after_line(
             Answer::Wait(_) => Ok(Outcome::Repeat),
             _ => unreachable!(),
         },
-        Access::ReadLine { .. } => after_reading(alloc, me, own, home, answer, kind, unit),
+        Access::ReadLine { .. } => match answer {
+            Answer::Special(n) => type_literal(alloc, me, own, *n),
+            Answer::NoKeys | Answer::Wait(_) => Ok(Outcome::Repeat),
+            _ => unreachable!(),
+        },
         _ => Ok(Outcome::Repeat),
     }
 }

@@ -1,17 +1,18 @@
 // KEYIN: one key, and where it leads.
 ghost use Rattle.std.specs.Prelude.{◌≡◌, true, IfOk, drop};
 ghost use Rattle.b2_access.specs.Answering.{can_answer};
-ghost use Rattle.b2_access.specs.Working.{ended};
+ghost use Rattle.b2_access.specs.Views.{key_came};
 ghost use Rattle.b2_base.specs.Byte as byte;
 ghost use Rattle.b2_atom.specs.declared.rows.TheConstants as row;
 ghost use Rattle.b2_atom.specs.declared.forms.Start.TheVariants as start;
 ghost use Rattle.b2_rows.specs.Rows.{is_part, tree_at};
 ghost use Rattle.b2_rows.specs.Optional.{maybe_part, maybe_tree};
+ghost use Rattle.b2_expr.specs.Workspace.{workspace};
 ghost use Rattle.b2_stmt_io.specs.Keys as spec;
 
-use b2_access::{Access, Answer, Outcome, Private, goes_or, setting_of, to_line};
-use b2_base::NoMemory;
+use b2_access::{Access, Answer, Outcome, to_line};
 use b2_base::lexical::rest_after;
+use b2_base::{Code, NoMemory};
 use b2_expr::Workspace;
 use b2_flow::Place;
 use b2_receiver::{assign_bytes_at, past_alpha_receiver};
@@ -41,69 +42,74 @@ fn key_leads(special: bool, home: &Text, place: Place, text: &[u8]) -> Outcome
     }
 }
 
-/// Assigns a key, and goes on.
-#[tactic(auto, using(crate::proofs::KeyRows::key_receiver, crate::proofs::KeyRows::key_lines, crate::proofs::KeyRows::takes_key_is))]
-fn assign_key(
-    me: &mut Private,
-    key: u8,
-    special: bool,
-    home: &Text,
-    place: Place,
-    unit: &[u8],
-) -> Result<Outcome, NoMemory>
+/// Assigns a key to the receiver of KEYIN. The code with which that ended, or none.
+#[tactic(auto, using(crate::proofs::KeyRows::key_receiver, crate::proofs::KeyRows::assigns_key_is))]
+fn assign_key(work: &mut Workspace<'_>, key: u8, unit: &[u8]) -> Result<Option<Code>, NoMemory>
     requires part { is_part row.KEYIN unit.now ≡ true }
-    ensures ended { IfOk result (λ o. record { me = me.new; outcome = o } ≡ ended me.old (spec.key_assigned key special home.now place (tree_at row.KEYIN unit.now) me.old)) }
-    ensures part { me.new.part ≡ me.old.part }
+    ensures worked { IfOk result (λ code. record { work = workspace work.new; code = code } ≡ spec.assigns_key key (tree_at row.KEYIN unit.now) (workspace work.old)) }
+    ensures same_reference { work.new.own.ghost_name ≡ work.old.own.ghost_name }
 {
-    let setting = setting_of(me);
-    let receiver = rest_after(unit, 1);
-    let mut work = Workspace {
-        own: &mut me.vars,
-        setting,
-        home,
-    };
-    let code = assign_bytes_at(&mut work, &[key], receiver)?;
-    Ok(goes_or(
-        key_leads(special, home, place, past_alpha_receiver(receiver)),
-        code,
-    ))
+    assign_bytes_at(work, &[key], rest_after(unit, 1))
 }
 
-/// Where KEYIN goes on without a key.
-#[tactic(auto, using(crate::proofs::KeyRows::key_receiver, crate::proofs::KeyRows::without_key_is))]
-fn without_key(unit: &[u8]) -> Outcome
+/// Assigns the key that came, where one did. The code with which that ended, or none.
+pub fn take_key(
+    work: &mut Workspace<'_>,
+    access: &Access,
+    answer: &Answer,
+    unit: &[u8],
+) -> Result<Option<Code>, NoMemory>
     requires part { is_part row.KEYIN unit.now ≡ true }
-    ensures { result ≡ spec.without_key (tree_at row.KEYIN unit.now) }
+    requires possible { can_answer access.now answer.now ≡ true }
+    ensures worked { IfOk result (λ code. record { work = workspace work.new; code = code } ≡ spec.takes_key (key_came access.now answer.now) (tree_at row.KEYIN unit.now) (workspace work.old)) }
+    ensures same_reference { work.new.own.ghost_name ≡ work.old.own.ghost_name }
 {
-    if is_at(b',', past_alpha_receiver(rest_after(unit, 1))) {
+    let Access::Key { .. } = access else {
+        return Ok(None);
+    };
+    match answer {
+        Answer::Key(key) => assign_key(work, *key, unit),
+        Answer::Special(n) => assign_key(work, *n, unit),
+        Answer::NoKeys | Answer::Wait(_) => Ok(None),
+        _ => unreachable!(),
+    }
+}
+
+/// Where KEYIN goes on without a key, by the lines that are named at a text.
+#[tactic(auto, using(crate::proofs::KeyRows::waits_is))]
+fn without_key(text: &[u8]) -> Outcome
+    requires part { maybe_part (start.Code byte.comma) row.COMMA_TWO_LINES text.now ≡ true }
+    ensures { result ≡ spec.waits (maybe_tree (start.Code byte.comma) row.COMMA_TWO_LINES text.now) }
+{
+    if is_at(b',', text) {
         Outcome::Next
     } else {
         Outcome::Repeat
     }
 }
 
-/// How KEYIN finishes.
+/// Where KEYIN goes on, by the key that came.
+#[tactic(auto, using(crate::proofs::KeyRows::key_receiver, crate::proofs::KeyRows::key_lines, crate::proofs::KeyRows::lines_are))]
 pub fn after_key(
-    me: &mut Private,
     home: &Text,
     place: Place,
     access: &Access,
     answer: &Answer,
     unit: &[u8],
-) -> Result<Outcome, NoMemory>
+) -> Outcome
     requires part { is_part row.KEYIN unit.now ≡ true }
     requires possible { can_answer access.now answer.now ≡ true }
-    ensures ended { IfOk result (λ o. record { me = me.new; outcome = o } ≡ ended me.old (spec.key_taken access.now answer.now home.now place (tree_at row.KEYIN unit.now) me.old)) }
-    ensures part { me.new.part ≡ me.old.part }
+    ensures { result ≡ spec.key_goes (key_came access.now answer.now) home.now.lines place (tree_at row.KEYIN unit.now) }
 {
     let Access::Key { .. } = access else {
-        return Ok(Outcome::Repeat);
+        return Outcome::Repeat;
     };
+    let lines = past_alpha_receiver(rest_after(unit, 1));
     match answer {
-        Answer::Key(key) => assign_key(me, *key, false, home, place, unit),
-        Answer::Special(n) => assign_key(me, *n, true, home, place, unit),
-        Answer::NoKeys => Ok(without_key(unit)),
-        Answer::Wait(_) => Ok(Outcome::Repeat),
+        Answer::Key(_) => key_leads(false, home, place, lines),
+        Answer::Special(_) => key_leads(true, home, place, lines),
+        Answer::NoKeys => without_key(lines),
+        Answer::Wait(_) => Outcome::Repeat,
         _ => unreachable!(),
     }
 }
