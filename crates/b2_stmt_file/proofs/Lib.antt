@@ -21,4 +21,5 @@ pub mod Waits
 pub mod LeftAlone
 pub mod Listed
 pub mod Legal
+pub mod Refusals
 pub mod Ended

@@ -38,15 +38,17 @@ use Rattle.b2_access.specs.declared.planned.Planned.TheVariants as planned
 use Rattle.b2_access.specs.declared.private.Private.{Private}
 use Rattle.b2_access.proofs.Choice.{either}
 use Rattle.b2_access.proofs.Courses.{each_course}
-use Rattle.b2_drive.specs.Drives.{DrivesSeen, device_named, drive_used, drives_of, platter_meant, platter_used}
+use Rattle.b2_drive.specs.Asking.{asks_or_fails}
+use Rattle.b2_drive.specs.Drives.{DrivesSeen, drive_used, drives_of, platter_used}
 use Rattle.b2_drive.specs.FileNames.{name_given}
+use Rattle.b2_drive.proofs.Asked as asked
 use Rattle.b2_stmt_file.specs.Coming.{by_place, file_ends}
 use Rattle.b2_stmt_file.specs.Counts.{count_from, count_given}
 use Rattle.b2_stmt_file.specs.LoadedValues.{all_kinds}
 use Rattle.b2_stmt_file.specs.Ending.{end_goal}
 use Rattle.b2_stmt_file.specs.Loading.{asks_to_load, loading_ends, loads_in}
 use Rattle.b2_stmt_file.specs.Opening.{asks_for_new, asks_for_old, makes, new_file, old_file, reuses}
-use Rattle.b2_stmt_file.specs.Plan.{asked_of, asks_or_fails, course_of, does, ended_of, is_refused, works}
+use Rattle.b2_stmt_file.specs.Plan.{asked_of, course_of, does, ended_of, is_refused, works}
 use Rattle.b2_stmt_file.specs.Saving.{asks_to_save, saved, saves_in, saving_ends}
 use Rattle.b2_stmt_file.specs.Skipping.{asks_to_skip, back, forward, slot_skipped}
 use Rattle.b2_stmt_file.specs.Slots.{file_held, file_listed, file_used, slot_in}
@@ -60,24 +62,17 @@ module _ (F : Planned → Type 0) (d : DrivesSeen) (failed : (code : ℕ) → F 
   Asked : Result Access ℕ → Type 0
   Asked r = F (asks_or_fails r)
 
-  at_platter : (b : Bool) (a : List ℕ) (next : List ℕ → Result Access ℕ) → is_platter_for d.who a d.devices ≡ b → ((x : List ℕ) → is_platter_for d.who x d.devices ≡ true → Asked (next x))
-      → Asked ((if b then Ok a else Err P48_DEVICE) >>= next)
-  unfolding Asked
-  at_platter true a next is h = h a is
-  at_platter false a next is h = failed P48_DEVICE
-
   after_platter : (o : Option (List ℕ)) (next : List ℕ → Result Access ℕ) → ((x : List ℕ) → is_platter_for d.who x d.devices ≡ true → Asked (next x)) → Asked (platter_used d o >>= next)
   unfolding Asked
-  after_platter None next h = failed P48_DEVICE
-  after_platter (Some a) next h = at_platter (is_platter_for d.who a d.devices) a next refl h
+  after_platter o next h = asked.after_platter F d failed o next h
 
   after_drive : (t : Trees) (next : List ℕ → Result Access ℕ) → ((x : List ℕ) → is_platter_for d.who x d.devices ≡ true → Asked (next x)) → Asked (drive_used d t >>= next)
-  after_drive t next h = after_platter (platter_meant (device_named t) d.selected) next h
+  unfolding Asked
+  after_drive t next h = asked.after_drive F d failed t next h
 
   after_value : {A : Type 0} (r : Result A ℕ) (next : A → Result Access ℕ) → ((x : A) → Asked (next x)) → Asked (r >>= next)
   unfolding Asked
-  after_value (Ok x) next h = h x
-  after_value (Err code) next h = failed code
+  after_value r next h = asked.after_value F d failed r next h
 
   -- a count is one from its least on
   count_by : (b : Bool) (least n : ℕ) (next : ℕ → Result Access ℕ) → (nat_le least n && nat_le n 16777215) ≡ b → ((x : ℕ) → least ≤ x → Asked (next x))

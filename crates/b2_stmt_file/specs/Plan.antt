@@ -1,5 +1,5 @@
 -- What a statement plans, by the unit at the place of a partition, and how it finishes.
-use Rattle.std.specs.Prelude.{ℕ, ◌==◌, ◌||◌, Bool, false, List, Option, Some, None, Result, Ok, Err, if◌then◌else◌}
+use Rattle.std.specs.Prelude.{ℕ, ◌==◌, ◌||◌, Bool, false, List, Option, Some, None, Result, Err, if◌then◌else◌}
 use Rattle.b2_base.specs.declared.codes.TheConstants.{S27_LEFT_OUT}
 use Rattle.b2_base.specs.declared.files.Slot.{Slot}
 use Rattle.b2_atom.specs.Tree.{Trees}
@@ -20,9 +20,8 @@ use Rattle.b2_access.specs.declared.accesses.Answer.{Answer}
 use Rattle.b2_access.specs.declared.devices.Device.{Device}
 use Rattle.b2_access.specs.declared.planned.Outcome.{Outcome}
 use Rattle.b2_access.specs.declared.planned.Outcome.TheVariants as outcome
-use Rattle.b2_access.specs.declared.planned.Planned.{Planned}
-use Rattle.b2_access.specs.declared.planned.Planned.TheVariants as planned
 use Rattle.b2_access.specs.declared.private.Private.{Private}
+use Rattle.b2_drive.specs.Asking.{asks_or_fails}
 use Rattle.b2_drive.specs.Drives.{DrivesSeen, drives_of}
 use Rattle.b2_stmt_file.specs.Coming.{by_place, file_ends}
 use Rattle.b2_stmt_file.specs.Ending.{if_end}
@@ -42,10 +41,6 @@ asked_of d slots e r t =
     else (if r == row.DSKIP then asks_to_skip forward d slots e t
     else (if r == row.DBACKSPACE then asks_to_skip back d slots e t
     else Err S27_LEFT_OUT)))
-
-abbrev pub asks_or_fails : Result Access ℕ → Planned
-asks_or_fails (Ok a) = planned.Ask a
-asks_or_fails (Err code) = planned.Done (outcome.Failed code)
 
 -- what a statement asks for at a place, where one stands there
 abbrev pub asks_for : List Device → Statement → Private → SeenLent → Working

@@ -12,7 +12,7 @@ ghost use Rattle.b2_vars.specs.Tables.{VarsState};
 ghost use Rattle.b2_expr.specs.Scope.{surroundings};
 ghost use Rattle.b2_expr.specs.Value.{in_statement};
 ghost use Rattle.b2_drive.specs.Drives.{drives_seen};
-ghost use Rattle.b2_stmt_file.specs.Asking.{GivesAccess, IsPlanned};
+ghost use Rattle.b2_stmt_file.specs.Asking.{GivesAccess};
 ghost use Rattle.b2_stmt_file.specs.Plan as spec;
 
 use crate::asking::or_fault;
@@ -26,7 +26,7 @@ use crate::opening::slot_of_old;
 use crate::saving::{ask_to_save, came_of_save, slot_of_save};
 use crate::skipping::{ask_to_go_back, ask_to_skip, slot_of_back, slot_of_skip};
 use b2_access::{
-    Access, Answer, DeviceTable, Lent, Outcome, Planned, Private, goes_or, setting_of,
+    Access, Answer, DeviceTable, Lent, Outcome, Planned, Private, failing, goes_or, setting_of,
     statement_placed,
 };
 use b2_atom::words::OPEN;
@@ -71,19 +71,6 @@ fn ask(
     }
 }
 
-/// An access is asked for, or it is a fault.
-fn asks_or_fails(asked: Result<Access, Fault>) -> Result<Planned, NoMemory>
-    ensures { IfOk result (IsPlanned asked) }
-{
-    match asked {
-        Ok(access) => Ok(Planned::Ask(access)),
-        Err(fault) => match fault {
-            Fault::Code(code) => Ok(Planned::Done(Outcome::Failed(code))),
-            Fault::NoMemory => Err(NoMemory),
-        },
-    }
-}
-
 /// How IF END ends, where it stands at a place; None where another statement does, or none.
 fn ended_there<'a>(
     immediate: &'a Option<Atoms>,
@@ -104,6 +91,7 @@ fn ended_there<'a>(
 }
 
 /// What the statement at a place asks for.
+#[tactic(auto, using(crate::proofs::Refusals::asked_refused))]
 fn plan_access(
     alloc: Global,
     me: &mut Private,
@@ -125,7 +113,10 @@ fn plan_access(
         home,
     };
     let e = surroundings_of(&work);
-    asks_or_fails(ask(alloc, &d, &me.slots, &e, unit.row, unit.bytes))
+    match ask(alloc, &d, &me.slots, &e, unit.row, unit.bytes) {
+        Ok(access) => Ok(Planned::Ask(access)),
+        Err(fault) => Ok(Planned::Done(failing(fault)?)),
+    }
 }
 
 /// What the statement at the place of a partition plans, over the devices that there are. Where no unit is there it is ready.
