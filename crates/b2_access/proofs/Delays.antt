@@ -1,5 +1,5 @@
 -- Where an answer delays a step, what came of the access is to be asked for again.
-use Rattle.std.specs.Prelude.{◌≡◌, ◌⊎◌, true, None, refl}
+use Rattle.std.specs.Prelude.{◌≡◌, ◌⊎◌, true, false, None, refl}
 use Rattle.std.proofs.Common.{inl, inr}
 use Rattle.b2_access.specs.declared.accesses.Access.{Access}
 use Rattle.b2_access.specs.declared.accesses.Access.TheVariants as access
@@ -16,8 +16,12 @@ use Rattle.b2_access.specs.Views.{
   OpeningLater,
   PlaceLater,
   ProgramLater,
+  DeviceBusy,
+  TakingLater,
+  are_freed,
   change_came,
   clear_came,
+  column_printed,
   column_shown,
   key_came,
   limits_told,
@@ -27,11 +31,25 @@ use Rattle.b2_access.specs.Views.{
   opening_came,
   place_came,
   program_came,
+  taking_came,
 }
 
 pub none_shown : (x : Access) (a : Answer) → delays a ≡ true → column_shown x a ≡ None
 none_shown (access.Show term bytes column) answer.Done h = cc
 none_shown x a h = refl
+
+pub none_printed : (x : Access) (a : Answer) → delays a ≡ true → column_printed x a ≡ None
+none_printed (access.PrintTo addr bytes column) answer.Done h = cc
+none_printed x a h = refl
+
+pub freed_never_delayed : (x : Access) (a : Answer) → delays a ≡ true → are_freed x a ≡ false
+freed_never_delayed (access.CloseDevices addrs) answer.Done h = cc
+freed_never_delayed x a h = refl
+
+pub taking_delayed : (x : Access) (a : Answer) → delays a ≡ true → (taking_came x a ≡ DeviceBusy) ⊎ (taking_came x a ≡ TakingLater)
+taking_delayed (access.OpenDevices addrs) answer.Done h = cc
+taking_delayed (access.OpenDevices addrs) (answer.Wait q) h = inl refl
+taking_delayed x a h = inr refl
 
 pub key_delayed : (x : Access) (a : Answer) → delays a ≡ true → (key_came x a ≡ NoKey) ⊎ (key_came x a ≡ KeyLater)
 key_delayed (access.Key term) (answer.Key b) h = cc

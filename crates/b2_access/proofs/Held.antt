@@ -2,22 +2,30 @@
 use Rattle.std.specs.Prelude.{◌≡◌, ◌≢◌, ◌⊎◌, ℕ, ◌==◌, Bool, true, false, List, [], ◌∷◌, ◌++◌, map, Option, Some, None, refl, if◌then◌else◌}
 use Rattle.std.specs.Cmp.{unsigned_Decides}
 use Rattle.std.proofs.Common.{sym, ap, subst, ◌∙◌, inl, inr}
+use Rattle.std.proofs.lemmas.Bool.{false≢true}
 use Rattle.b2_access.specs.declared.objects.Object.{Object}
 use Rattle.b2_access.specs.declared.objects.Object.TheVariants as object
 use Rattle.b2_access.specs.declared.accesses.Access.{Access}
 use Rattle.b2_access.specs.declared.accesses.Access.TheVariants as access
 use Rattle.b2_access.specs.declared.reached.TextUse.{TextUse}
 use Rattle.b2_access.specs.declared.reached.TextUse.TheVariants as text
-use Rattle.b2_access.specs.AccessRows.{row}
+use Rattle.b2_access.specs.AccessRows.{frees, frees_if, is_held_by, row}
+use Rattle.b2_access.specs.AnswerKinds.{is_done, is_wait}
+use Rattle.b2_access.specs.Answering.{may_stop_by}
+use Rattle.b2_access.specs.Contents.{content_other}
 use Rattle.b2_access.specs.Disks.{DiskWork}
-use Rattle.b2_access.specs.Holding.{HeldStaysAsItIs, OtherImagesStay, device_of, image_changed}
-use Rattle.b2_access.specs.Reach.{DevicePart, DeviceReach, HoldAlone, WithPlatter, WithPrinter, Reach, device_objects, objects_reached, part_objects, terminal_objects, text_objects, variable_objects}
-use Rattle.b2_access.specs.Serving.{performs, unless_stopped}
-use Rattle.b2_access.specs.Stopping.{at_front, first_other, first_there, holders, holding, inside_edited, stop_by}
-use Rattle.b2_access.specs.Store.{StoreState, content, IsIn}
+use Rattle.b2_access.specs.Holding.{AgreeBut, Asks, HeldIsOutOfReach, HeldStaysAsItIs, IsAddressIn, IsContentOf, OtherHoldersStay, OtherImagesStay, WhoAsksWaits, device_of, holders_changed, image_changed}
+use Rattle.b2_access.specs.Reach.{DevicePart, DeviceReach, HoldFreed, HoldTaken, WithPlatter, WithPrinter, Reach, device_objects, objects_held, objects_reached, part_objects, terminal_objects, text_objects, to_free, to_take, variable_objects}
+use Rattle.b2_access.specs.Serving.{performs, serves, unless_stopped}
+use Rattle.b2_access.specs.Sharing.{Gives}
+use Rattle.b2_access.specs.Stopping.{at_front, first_inside, first_other, first_there, holders, in_front, inside_edited, stop, stop_by, stopping_holder}
+use Rattle.b2_access.specs.Store.{StoreState, content, put, IsIn}
+use Rattle.b2_access.specs.Task.{wider}
+use Rattle.b2_access.specs.declared.accesses.Answer.{Answer}
+use Rattle.b2_access.proofs.Holders.{also_first, performs_on, performs_same, wider_same}
 use Rattle.b2_access.proofs.RowLaws.{leaves}
-use Rattle.b2_access.proofs.TaskLaws.{leaves_others}
-use Rattle.b2_access.proofs.Told.{written_is_reached}
+use Rattle.b2_access.proofs.TaskLaws.{gives_alike, leaves_others}
+use Rattle.b2_access.proofs.Told.{of_freeing, tells_wider, written_is_reached}
 
 abbrev IsAmong : {A : Type 0} → A → List A → Type 0
 IsAmong x [] = ⊥
@@ -45,13 +53,23 @@ abbrev IsDevice : List ℕ → List DeviceReach → Type 0
 IsDevice d [] = ⊥
 IsDevice d (x ∷ xs) = (d ≡ x.address) ⊎ IsDevice d xs
 
-holds_one : (p : ℕ) (d : List ℕ) (ds : List DeviceReach) (s : StoreState) → content s (object.Hog d) ≡ Some (Some p) → IsDevice d ds → IsAmong p (holders ds s)
-holds_one p d [] s held i = i
-holds_one p d (x ∷ ds) s held i = elim i [
+abbrev AreStopping : List DeviceReach → Type 0
+AreStopping [] = Unit {0}
+AreStopping (x ∷ ds) = (may_stop_by x.part ≡ true) × AreStopping ds
+
+stops_here : (p : ℕ) (part : DevicePart) → may_stop_by part ≡ true → IsAmong p (stopping_holder part (Some (Some p)))
+stops_here p HoldTaken is = inl refl
+stops_here p HoldFreed is = cc
+stops_here p WithPlatter is = inl refl
+stops_here p WithPrinter is = inl refl
+
+holds_one : (p : ℕ) (d : List ℕ) (ds : List DeviceReach) (s : StoreState) → content s (object.Hog d) ≡ Some (Some p) → AreStopping ds → IsDevice d ds → IsAmong p (holders ds s)
+holds_one p d [] s held are i = i
+holds_one p d (x ∷ ds) s held are i = elim i [
   | inl e ↦
       let here : content s (object.Hog x.address) ≡ Some (Some p) = subst (λ (a : List ℕ). content s (object.Hog a) ≡ Some (Some p)) e held in
-      among_left p (holding (content s (object.Hog x.address))) (holders ds s) (subst (λ h. IsAmong p (holding h)) (sym here) (inl refl))
-  | inr j ↦ among_right p (holding (content s (object.Hog x.address))) (holders ds s) (holds_one p d ds s held j)
+      among_left p (stopping_holder x.part (content s (object.Hog x.address))) (holders ds s) (subst (λ h. IsAmong p (stopping_holder x.part h)) (sym here) (stops_here p x.part are.0))
+  | inr j ↦ among_right p (stopping_holder x.part (content s (object.Hog x.address))) (holders ds s) (holds_one p d ds s held are.1 j)
 ]
 
 -- an object of a device is reached with that device alone
@@ -88,7 +106,8 @@ module _ (d : List ℕ) (o : Object) (is : device_of o ≡ Some d) where
   same_device x a there e = let both : Some d ≡ Some a = sym is ∙ ap device_of e ∙ there in cc
 
   of_part : (a : List ℕ) (part : DevicePart) → IsIn o (part_objects a part) → d ≡ a
-  of_part a HoldAlone i = elim i [ inl e ↦ same_device (object.Hog a) a refl e | inr none ↦ absurd none ]
+  of_part a HoldTaken i = elim i [ inl e ↦ same_device (object.Hog a) a refl e | inr none ↦ absurd none ]
+  of_part a HoldFreed i = elim i [ inl e ↦ same_device (object.Hog a) a refl e | inr none ↦ absurd none ]
   of_part a WithPlatter i = elim i [ inl e ↦ same_device (object.Hog a) a refl e | inr j ↦ elim j [ inl e ↦ same_device (object.Platter a) a refl e | inr none ↦ absurd none ] ]
   of_part a WithPrinter i = elim i [ inl e ↦ same_device (object.Hog a) a refl e | inr j ↦ elim j [ inl e ↦ same_device (object.Printer a) a refl e | inr none ↦ absurd none ] ]
 
@@ -111,11 +130,40 @@ module _ (d : List ℕ) (o : Object) (is : device_of o ≡ Some d) where
     ]
   ]
 
-module _ (disks : DiskWork) (who p : ℕ) (d : List ℕ) (o : Object) (a : Access) (s : StoreState) (held : content s (object.Hog d) ≡ Some (Some p)) (apart : p ≢ who) (is : device_of o ≡ Some d) where
+-- all devices that are reached stop an access, where another holds them, unless it frees them
+abbrev is_freeing : Access → Bool
+is_freeing (access.CloseDevices addrs) = true
+is_freeing a = false
+
+taken_stop : (addrs : List (List ℕ)) → AreStopping (to_take addrs).devices
+taken_stop [] = tt
+taken_stop (a ∷ addrs) = (refl, taken_stop addrs)
+
+are_stopping : (a : Access) → is_freeing a ≡ false → AreStopping (row a).reach.devices
+are_stopping (access.PrintTo addr bytes column) goes = (refl, tt)
+are_stopping (access.OpenDevices addrs) goes = taken_stop addrs
+are_stopping (access.CloseDevices addrs) goes = cc
+are_stopping (access.Limits addr name) goes = (refl, tt)
+are_stopping (access.ListDisk addr) goes = (refl, tt)
+are_stopping (access.Scratch addr name) goes = (refl, tt)
+are_stopping (access.Format addr index end) goes = (refl, tt)
+are_stopping (access.DataNew addr old sectors name) goes = (refl, tt)
+are_stopping (access.DataOpen addr name) goes = (refl, tt)
+are_stopping (access.DataSave slot values) goes = (refl, tt)
+are_stopping (access.DataEnd slot) goes = (refl, tt)
+are_stopping (access.DataLoad slot kinds) goes = (refl, tt)
+are_stopping (access.Skip slot way) goes = (refl, tt)
+are_stopping (access.SaveProgram addr old name from to) goes = (refl, tt)
+are_stopping (access.LoadProgram addr name replace declared homes) goes = (refl, tt)
+are_stopping (access.MovePlatter from to) goes = (refl, (refl, tt))
+are_stopping (access.MoveFile from name to) goes = (refl, (refl, tt))
+are_stopping a goes = tt
+
+module _ (disks : DiskWork) (who p : ℕ) (d : List ℕ) (o : Object) (a : Access) (s : StoreState) (held : content s (object.Hog d) ≡ Some (Some p)) (apart : p ≢ who) (is : device_of o ≡ Some d) (goes : is_freeing a ≡ false) where
   unwritten : first_other who (first_there (row a).reach s) ≡ None → IsIn o ((row a).writes who) → ⊥
   unwritten none i =
       let there = is_reached d o is who (row a).reach (written_is_reached a who o i) in
-      met who p apart (first_there (row a).reach s) (among_right p (at_front (row a).reach.terminal s) (holders (row a).reach.devices s) (holds_one p d (row a).reach.devices s held there)) none
+      met who p apart (first_there (row a).reach s) (among_right p (at_front (row a).reach.terminal s) (holders (row a).reach.devices s) (holds_one p d (row a).reach.devices s held (are_stopping a goes) there)) none
 
   stays : (first inside : Option ℕ) → first_other who (first_there (row a).reach s) ≡ first
       → content (unless_stopped (stop_by first inside) (performs ((row a).does disks who) s) s).after o ≡ content s o
@@ -123,8 +171,97 @@ module _ (disks : DiskWork) (who p : ℕ) (d : List ℕ) (o : Object) (a : Acces
   stays None (Some q) e = refl
   stays None None e = leaves_others ((row a).does disks who) s o (unwritten e)
 
+-- and freeing leaves what another holds
+module _ (who p : ℕ) (d : List ℕ) (o : Object) (s : StoreState) (held : content s (object.Hog d) ≡ Some (Some p)) (apart : p ≢ who) (is : device_of o ≡ Some d) where
+  not_own : (a : List ℕ) → is_held_by who (content s (object.Hog a)) ≡ true → o ≡ object.Hog a → ⊥
+  not_own a own e =
+      let same : d ≡ a = same_device d o is (object.Hog a) a refl e in
+      let here : content s (object.Hog a) ≡ Some (Some p) = subst (λ (x : List ℕ). content s (object.Hog x) ≡ Some (Some p)) same held in
+      apart ((unsigned_Decides p who).0 (ap (is_held_by who) (sym here) ∙ own))
+
+  wider_leaves : (a : List ℕ) (addrs : List (List ℕ)) → ((v : StoreState) → content (performs_on (frees who addrs) s v).after o ≡ content v o)
+      → (v : StoreState) → content (performs_on (wider (object.Hog a) (frees who addrs)) s v).after o ≡ content v o
+  wider_leaves a addrs later v = ap (λ (g : Gives StoreState). content g.after o) (wider_same (object.Hog a) (frees who addrs) s v) ∙ later v
+
+  freeing_leaves : (addrs : List (List ℕ)) (w : StoreState) → content (performs_on (frees who addrs) s w).after o ≡ content w o
+  freeing_leaves [] w = refl
+  freeing_leaves (a ∷ addrs) w = by (is_held_by who (content s (object.Hog a))) refl (wider_leaves a addrs (λ v. freeing_leaves addrs v))
+    where
+      by : (own : Bool) → is_held_by who (content s (object.Hog a)) ≡ own → ((v : StoreState) → content (performs_on (wider (object.Hog a) (frees who addrs)) s v).after o ≡ content v o)
+          → content (performs_on (frees_if who own a addrs (wider (object.Hog a) (frees who addrs))) s w).after o ≡ content w o
+      by true e rest =
+          ap (λ (g : Gives StoreState). content g.after o) (also_first (object.Hog a) (inl refl) None (wider (object.Hog a) (frees who addrs)) s w (tells_wider is_done (object.Hog a) (frees who addrs) (of_freeing who addrs)))
+          ∙ rest (put (object.Hog a) None w)
+          ∙ content_other (object.Hog a) o None w (not_own a e)
+      by false e rest = rest w
+
+  frees_stays : (addrs : List (List ℕ)) (stopped : Option Answer) → content (unless_stopped stopped (performs (frees who addrs) s) s).after o ≡ content s o
+  frees_stays addrs None = ap (λ (g : Gives StoreState). content g.after o) (performs_same (frees who addrs) s) ∙ freeing_leaves addrs s
+  frees_stays addrs (Some x) = refl
+
 pub held_stays : HeldStaysAsItIs
-held_stays disks who p d o a s held apart is = stays disks who p d o a s held apart is (first_other who (first_there (row a).reach s)) (inside_edited who (row a).reach.text s) refl
+held_stays disks who p d o (access.CloseDevices addrs) s held apart is = frees_stays who p d o s held apart is addrs (stop who (to_free addrs) s)
+held_stays disks who p d o a s held apart is = stays disks who p d o a s held apart is refl (first_other who (first_there (row a).reach s)) (inside_edited who (row a).reach.text s) refl
+
+-- who asks for a device that another holds waits
+asked_meets : (who p : ℕ) (d : List ℕ) (ds : List DeviceReach) (s : StoreState) → content s (object.Hog d) ≡ Some (Some p) → Asks d ds → IsAmong p (holders ds s)
+asked_meets who p d [] s held i = absurd i
+asked_meets who p d (x ∷ ds) s held i = elim i [
+  | inl here ↦
+      let hold : content s (object.Hog x.address) ≡ Some (Some p) = subst (λ (a : List ℕ). content s (object.Hog a) ≡ Some (Some p)) here.0 held in
+      among_left p (stopping_holder x.part (content s (object.Hog x.address))) (holders ds s) (subst (λ h. IsAmong p (stopping_holder x.part h)) (sym hold) (stops_here p x.part here.1))
+  | inr later ↦ among_right p (stopping_holder x.part (content s (object.Hog x.address))) (holders ds s) (asked_meets who p d ds s held later)
+]
+
+pub who_asks_waits : WhoAsksWaits
+who_asks_waits disks who p d a s held apart asks = by (first_other who (first_there (row a).reach s)) (inside_edited who (row a).reach.text s) refl
+  where
+    by : (first inside : Option ℕ) → first_other who (first_there (row a).reach s) ≡ first → is_wait (unless_stopped (stop_by first inside) (performs ((row a).does disks who) s) s).answer ≡ true
+    by (Some q) inside e = refl
+    by None inside e = absurd (met who p apart (first_there (row a).reach s) (among_right p (at_front (row a).reach.terminal s) (holders (row a).reach.devices s) (asked_meets who p d (row a).reach.devices s held asks)) e)
+
+-- objects of a kind aren't those of another
+-- objects of a kind aren't those of another
+of_kinds : (is_kind : Object → Bool) (o x : Object) → is_kind o ≡ true → is_kind x ≡ false → o ≡ x → ⊥
+of_kinds is_kind o x is other e = false≢true (sym other ∙ ap is_kind (sym e) ∙ is)
+
+abbrev is_hog : Object → Bool
+is_hog (object.Hog a) = true
+is_hog o = false
+
+abbrev is_printer : Object → Bool
+is_printer (object.Printer a) = true
+is_printer o = false
+
+abbrev is_platter : Object → Bool
+is_platter (object.Platter a) = true
+is_platter o = false
+
+no_hold : (is_kind : Object → Bool) (o : Object) → is_kind o ≡ true → ((a : List ℕ) → is_kind (object.Hog a) ≡ false) → (addrs : List (List ℕ)) → IsIn o (objects_held addrs) → ⊥
+no_hold is_kind o is others [] i = i
+no_hold is_kind o is others (a ∷ addrs) i = elim i [ inl e ↦ of_kinds is_kind o (object.Hog a) is (others a) e | inr j ↦ no_hold is_kind o is others addrs j ]
+
+-- an access that changes other holders, or none, doesn't write this one
+held_in : (d : List ℕ) (addrs : List (List ℕ)) → IsIn (object.Hog d) (objects_held addrs) → IsAddressIn d addrs
+held_in d [] i = absurd i
+held_in d (a ∷ addrs) i = elim i [ inl e ↦ inl (same_device d (object.Hog d) refl (object.Hog a) a refl e) | inr j ↦ inr (held_in d addrs j) ]
+
+no_holder : (d : List ℕ) (x : Object) → is_hog x ≡ false → IsIn (object.Hog d) (x ∷ []) → ⊥
+no_holder d x other i = elim i [ inl e ↦ of_kinds is_hog (object.Hog d) x refl other e | inr never ↦ never ]
+
+holder_unwritten : (who : ℕ) (d : List ℕ) (a : Access) → (IsAddressIn d (holders_changed a) → ⊥) → IsIn (object.Hog d) ((row a).writes who) → ⊥
+holder_unwritten who d (access.OpenDevices addrs) out i = out (held_in d addrs i)
+holder_unwritten who d (access.CloseDevices addrs) out i = out (held_in d addrs i)
+holder_unwritten who d (access.ClearAll name homes) out i = elim i [ inl e ↦ of_kinds is_hog (object.Hog d) (object.Text who) refl refl e | inr j ↦ no_holder d (object.Globals who) refl j ]
+holder_unwritten who d (access.Limits addr name) out i = i
+holder_unwritten who d (access.ListDisk addr) out i = i
+holder_unwritten who d (access.DataOpen addr name) out i = i
+holder_unwritten who d (access.DataLoad slot kinds) out i = i
+holder_unwritten who d (access.Skip slot way) out i = i
+holder_unwritten who d a out i = no_holder d _ refl i
+
+pub other_holders_stay : OtherHoldersStay
+other_holders_stay disks who d a s out = leaves (row a) disks who s (object.Hog d) (holder_unwritten who d a out)
 
 -- an access that changes another image, or none, doesn't write this one
 no_other : (d : List ℕ) (x : Object) → device_of x ≡ None → IsIn (object.Platter d) (x ∷ []) → ⊥
@@ -134,6 +271,9 @@ no_image : (d addr : List ℕ) → Some addr ≢ Some d → IsIn (object.Platter
 no_image d addr apart i = elim i [ inl e ↦ apart (ap Some (sym (same_device d (object.Platter d) refl (object.Platter addr) addr refl e))) | inr never ↦ never ]
 
 image_unwritten : (who : ℕ) (d : List ℕ) (a : Access) → image_changed a ≢ Some d → IsIn (object.Platter d) ((row a).writes who) → ⊥
+image_unwritten who d (access.PrintTo addr bytes column) apart i = elim i [ inl e ↦ of_kinds is_platter (object.Platter d) (object.Printer addr) refl refl e | inr never ↦ never ]
+image_unwritten who d (access.OpenDevices addrs) apart i = no_hold is_platter (object.Platter d) refl (λ a. refl) addrs i
+image_unwritten who d (access.CloseDevices addrs) apart i = no_hold is_platter (object.Platter d) refl (λ a. refl) addrs i
 image_unwritten who d (access.ClearAll name homes) apart i = elim i [ inl e ↦ clash d (object.Platter d) refl (object.Text who) refl e | inr j ↦ no_other d (object.Globals who) refl j ]
 image_unwritten who d (access.Limits addr name) apart i = i
 image_unwritten who d (access.ListDisk addr) apart i = i
@@ -152,3 +292,71 @@ image_unwritten who d a apart i = no_other d _ refl i
 
 pub other_images_stay : OtherImagesStay
 other_images_stay disks who d a s apart = leaves (row a) disks who s (object.Platter d) (image_unwritten who d a apart)
+
+-- what a device has is looked at neither by what stops an access nor, where nothing does, by what it does
+abbrev no_content : (d : List ℕ) (o : Object) → is_platter o ≡ false → is_printer o ≡ false → IsContentOf d o → ⊥
+no_content d o no_image no_print i = elim i [ inl e ↦ of_kinds is_platter (object.Platter d) o refl no_image (sym e) | inr e ↦ of_kinds is_printer (object.Printer d) o refl no_print (sym e) ]
+
+same_at_front : (term : Option ℕ) (d : List ℕ) (s t : StoreState) → AgreeBut d s t → at_front term s ≡ at_front term t
+same_at_front None d s t agree = refl
+same_at_front (Some term) d s t agree = ap in_front (agree (object.Terminal term) (no_content d (object.Terminal term) refl refl))
+
+same_held : (ds : List DeviceReach) (d : List ℕ) (s t : StoreState) → AgreeBut d s t → holders ds s ≡ holders ds t
+same_held [] d s t agree = refl
+same_held (x ∷ ds) d s t agree =
+    ap (λ h. stopping_holder x.part h ++ holders ds s) (agree (object.Hog x.address) (no_content d (object.Hog x.address) refl refl))
+    ∙ ap (λ hs. stopping_holder x.part (content t (object.Hog x.address)) ++ hs) (same_held ds d s t agree)
+
+same_within : (who : ℕ) (used : TextUse) (d : List ℕ) (s t : StoreState) → AgreeBut d s t → inside_edited who used s ≡ inside_edited who used t
+same_within who text.Unused d s t agree = refl
+same_within who text.Read d s t agree = refl
+same_within who text.Edited d s t agree = ap first_inside (agree (object.Borrow who) (no_content d (object.Borrow who) refl refl))
+
+same_stopped : (who : ℕ) (r : Reach) (d : List ℕ) (s t : StoreState) → AgreeBut d s t → stop who r s ≡ stop who r t
+same_stopped who r d s t agree =
+    ap (λ f. stop_by (first_other who (f ++ holders r.devices s)) (inside_edited who r.text s)) (same_at_front r.terminal d s t agree)
+    ∙ ap (λ hs. stop_by (first_other who (at_front r.terminal t ++ hs)) (inside_edited who r.text s)) (same_held r.devices d s t agree)
+    ∙ ap (stop_by (first_other who (first_there r t))) (same_within who r.text d s t agree)
+
+-- freeing reaches holders alone
+freed_no_content : (d : List ℕ) (o : Object) (addrs : List (List ℕ)) → IsIn o (device_objects (to_free addrs).devices ++ []) → IsContentOf d o → ⊥
+freed_no_content d o [] i c = i
+freed_no_content d o (a ∷ addrs) i c = elim i [ inl e ↦ no_content d (object.Hog a) refl refl (subst (IsContentOf d) e c) | inr j ↦ freed_no_content d o addrs j c ]
+
+content_device : (d : List ℕ) (o : Object) → IsContentOf d o → device_of o ≡ Some d
+content_device d o c = elim c [ inl e ↦ ap device_of e | inr e ↦ ap device_of e ]
+
+abbrev Alike : List ℕ → Gives StoreState → Gives StoreState → Type 0
+Alike d x y = (x.answer ≡ y.answer) × AgreeBut d x.after y.after
+
+-- where nothing stops it, none of what it reaches is what the device has
+performed_alike : (disks : DiskWork) (who : ℕ) (d : List ℕ) (a : Access) (s t : StoreState) → AgreeBut d s t → ((o : Object) → IsIn o (objects_reached who (row a).reach) → IsContentOf d o → ⊥)
+    → Alike d (performs ((row a).does disks who) s) (performs ((row a).does disks who) t)
+performed_alike disks who d a s t agree out =
+    let g = gives_alike ((row a).does disks who) s t (λ o i. agree o (out o i)) in
+    (g.answers, λ o c. g.contents o (agree o c))
+
+unless_alike : (d : List ℕ) (y : Option Answer) (x z : Gives StoreState) (s t : StoreState) → AgreeBut d s t → (y ≡ None → Alike d x z) → Alike d (unless_stopped y x s) (unless_stopped y z t)
+unless_alike d None x z s t agree same = same refl
+unless_alike d (Some y) x z s t agree same = (refl, agree)
+
+first_none : (first inside : Option ℕ) → stop_by first inside ≡ None → first ≡ None
+first_none None inside e = refl
+first_none (Some q) inside e = cc
+
+module _ (disks : DiskWork) (who p : ℕ) (d : List ℕ) (a : Access) (s t : StoreState) (held : content s (object.Hog d) ≡ Some (Some p)) (apart : p ≢ who) (agree : AgreeBut d s t) where
+  served_apart : ((o : Object) → stop who (row a).reach s ≡ None → IsIn o (objects_reached who (row a).reach) → IsContentOf d o → ⊥) → Alike d (serves disks s who a) (serves disks t who a)
+  served_apart out =
+      let same = same_stopped who (row a).reach d s t agree in
+      let by = unless_alike d (stop who (row a).reach s) (performs ((row a).does disks who) s) (performs ((row a).does disks who) t) s t agree (λ none. performed_alike disks who d a s t agree (λ o i c. out o none i c)) in
+      subst (λ (y : Option Answer). Alike d (serves disks s who a) (unless_stopped y (performs ((row a).does disks who) t) t)) same by
+
+  unreached : is_freeing a ≡ false → (o : Object) → stop who (row a).reach s ≡ None → IsIn o (objects_reached who (row a).reach) → IsContentOf d o → ⊥
+  unreached goes o none i c =
+      let there = is_reached d o (content_device d o c) who (row a).reach i in
+      met who p apart (first_there (row a).reach s) (among_right p (at_front (row a).reach.terminal s) (holders (row a).reach.devices s) (holds_one p d (row a).reach.devices s held (are_stopping a goes) there))
+      (first_none (first_other who (first_there (row a).reach s)) (inside_edited who (row a).reach.text s) none)
+
+pub held_is_out_of_reach : HeldIsOutOfReach
+held_is_out_of_reach disks who p d (access.CloseDevices addrs) s t held apart agree = served_apart disks who p d (access.CloseDevices addrs) s t held apart agree (λ o none i c. freed_no_content d o addrs i c)
+held_is_out_of_reach disks who p d a s t held apart agree = served_apart disks who p d a s t held apart agree (unreached disks who p d a s t held apart agree refl)

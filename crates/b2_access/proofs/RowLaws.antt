@@ -1,6 +1,7 @@
 -- What holds of serving by any row, whatever it does.
 use Rattle.std.specs.Prelude.{◌≡◌, ◌≢◌, ◌↔◌, ℕ, ◌==◌, ◌||◌, Bool, true, false, List, [], ◌∷◌, ◌++◌, Option, Some, None, IsSome, refl, if◌then◌else◌}
 use Rattle.std.specs.Cmp.{unsigned_Decides}
+use Rattle.std.specs.List.{list_any}
 use Rattle.std.proofs.Common.{sym, ap, ◌∙◌, inl, inr}
 use Rattle.std.proofs.lemmas.Bool.{false≢true, true≢false}
 use Rattle.b2_access.specs.declared.objects.Object.{Object}
@@ -11,12 +12,12 @@ use Rattle.b2_access.specs.declared.reached.TextUse.{TextUse}
 use Rattle.b2_access.specs.declared.reached.TextUse.TheVariants as text
 use Rattle.b2_access.specs.AccessRows.{AccessRow}
 use Rattle.b2_access.specs.AnswerKinds.{holds_up, stops}
-use Rattle.b2_access.specs.Answering.{TellsOnly, is_edited, may_stop, may_wait}
+use Rattle.b2_access.specs.Answering.{TellsOnly, is_edited, may_stop, may_stop_by, may_wait}
 use Rattle.b2_access.specs.Causes.{IsFirstOther}
 use Rattle.b2_access.specs.Disks.{DiskWork}
-use Rattle.b2_access.specs.Reach.{DevicePart, DeviceReach, HoldAlone, WithPlatter, WithPrinter, Reach, device_objects, objects_reached, part_objects, terminal_objects, text_objects, variable_objects}
+use Rattle.b2_access.specs.Reach.{DevicePart, DeviceReach, HoldFreed, HoldTaken, WithPlatter, WithPrinter, Reach, device_objects, objects_reached, part_objects, terminal_objects, text_objects, variable_objects}
 use Rattle.b2_access.specs.Serving.{performs, serves_row, unless_stopped}
-use Rattle.b2_access.specs.Stopping.{at_front, first_inside, first_other, first_there, holders, holding, in_front, inside_edited, stop, stop_by}
+use Rattle.b2_access.specs.Stopping.{at_front, first_inside, first_other, first_there, holders, in_front, inside_edited, stop, stop_by, stopping_holder}
 use Rattle.b2_access.specs.Store.{StoreState, content, IsIn, AgreeOn}
 use Rattle.b2_access.proofs.TaskLaws.{IsTold, gives_alike, is_told, keeps_listed, leaves_others}
 
@@ -44,7 +45,8 @@ hold_reached : (d : DeviceReach) (s t : StoreState) → AgreeOn (part_objects d.
 hold_reached d s t agree = by d.part agree
   where
     by : (part : DevicePart) → AgreeOn (part_objects d.address part) s t → content s (object.Hog d.address) ≡ content t (object.Hog d.address)
-    by HoldAlone same = same (object.Hog d.address) (inl refl)
+    by HoldTaken same = same (object.Hog d.address) (inl refl)
+    by HoldFreed same = same (object.Hog d.address) (inl refl)
     by WithPlatter same = same (object.Hog d.address) (inl refl)
     by WithPrinter same = same (object.Hog d.address) (inl refl)
 
@@ -53,7 +55,7 @@ same_holders [] s t agree = refl
 same_holders (d ∷ ds) s t agree =
     let here = hold_reached d s t (agree_left (part_objects d.address d.part) (device_objects ds) s t agree) in
     let rest = same_holders ds s t (agree_right (part_objects d.address d.part) (device_objects ds) s t agree) in
-    ap (λ h. holding h ++ holders ds s) here ∙ ap (λ hs. holding (content t (object.Hog d.address)) ++ hs) rest
+    ap (λ h. stopping_holder d.part h ++ holders ds s) here ∙ ap (λ hs. stopping_holder d.part (content t (object.Hog d.address)) ++ hs) rest
 
 same_inside : (who : ℕ) (used : TextUse) (s t : StoreState) → AgreeOn (text_objects who used) s t → inside_edited who used s ≡ inside_edited who used t
 same_inside who text.Unused s t agree = refl
@@ -107,7 +109,14 @@ outside_is who text.Edited s = (λ e is. e, λ h. h refl)
 -- who comes first or stands inside is of the kinds that may stop it
 waits_there : (who q : ℕ) (term : Option ℕ) (ds : List DeviceReach) (s : StoreState) → first_other who (at_front term s ++ holders ds s) ≡ Some q → may_wait term ds ≡ true
 waits_there who q None [] s is = cc
-waits_there who q None (d ∷ ds) s is = refl
+waits_there who q None (d ∷ ds) s is = by d.part (waits_there who q None ds s) is
+  where
+    by : (part : DevicePart) → (first_other who (holders ds s) ≡ Some q → list_any (λ e. may_stop_by e.part) ds ≡ true)
+        → first_other who (stopping_holder part (content s (object.Hog d.address)) ++ holders ds s) ≡ Some q → (may_stop_by part || list_any (λ e. may_stop_by e.part) ds) ≡ true
+    by HoldTaken later e = refl
+    by HoldFreed later e = later e
+    by WithPlatter later e = refl
+    by WithPrinter later e = refl
 waits_there who q (Some term) ds s is = refl
 
 either_left : (a b : Bool) → a ≡ true → (a || b) ≡ true

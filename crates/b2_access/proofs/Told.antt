@@ -1,5 +1,5 @@
 -- The rows of the accesses: each tells the answers that it says, and writes nothing that it doesn't reach.
-use Rattle.std.specs.Prelude.{◌≡◌, ℕ, nat_lt, Bool, true, false, List, [], slice_get, Option, Some, None, Result, Ok, Err, refl}
+use Rattle.std.specs.Prelude.{◌≡◌, ℕ, nat_lt, Bool, true, false, List, [], ◌∷◌, ◌++◌, slice_get, Option, Some, None, Result, Ok, Err, refl}
 use Rattle.std.proofs.Common.{inl, inr}
 use Rattle.b2_base.specs.declared.files.Slot.{Slot}
 use Rattle.b2_text.specs.Program.{TextState, size_of, with_line}
@@ -10,16 +10,18 @@ use Rattle.b2_term.specs.declared.KeyItem.TheVariants as key
 use Rattle.b2_term.specs.declared.Read.{Read}
 use Rattle.b2_term.specs.declared.Read.TheVariants as read
 use Rattle.b2_access.specs.declared.objects.Object.{Object}
+use Rattle.b2_access.specs.declared.objects.Object.TheVariants as object
 use Rattle.b2_access.specs.declared.accesses.Access.{Access}
 use Rattle.b2_access.specs.declared.accesses.Access.TheVariants as access
 use Rattle.b2_access.specs.declared.accesses.Answer.{Answer}
 use Rattle.b2_access.specs.declared.accesses.Answer.TheVariants as answer
-use Rattle.b2_access.specs.AccessRows.{becomes, changes_image, clears, clears_both, finds_in_image, key_answer, line_answer, loaded_answer, loads, loads_from, moves, moves_from, no_file, puts_atoms, puts_line, reach, row, saves, saves_in, says_or_refuses}
+use Rattle.b2_access.specs.AccessRows.{becomes, changes_image, clears, clears_both, finds_in_image, frees, frees_if, is_held_by, key_answer, line_answer, loaded_answer, loads, loads_from, moves, moves_from, no_file, puts_atoms, puts_line, reach, row, saves, saves_in, says_or_refuses, takes}
 use Rattle.b2_access.specs.AnswerKinds.{is_done, is_done_or_code, is_of_key, is_of_line, is_of_loading, is_of_opening, is_of_place, stops}
 use Rattle.b2_access.specs.Answering.{RowsTellTheirAnswers, TellsOnly}
 use Rattle.b2_access.specs.Disks.{Loaded, Made}
-use Rattle.b2_access.specs.Reach.{objects_reached}
-use Rattle.b2_access.specs.Store.{IsIn}
+use Rattle.b2_access.specs.Reach.{device_objects, objects_held, objects_reached, to_free, to_take}
+use Rattle.b2_access.specs.Store.{ContentOf, IsIn}
+use Rattle.b2_access.specs.Task.{Task, Look, Tell, Refuse, also_puts, wider}
 use Rattle.b2_access.proofs.Choice.{either}
 
 of_line : (r : Read) → (is_of_line (line_answer r) ≡ true) × (stops (line_answer r) ≡ false)
@@ -101,12 +103,38 @@ of_moving from to made (Some image) = elim [ None ↦ (refl, refl) | Some other 
     by (Ok new) = (refl, refl)
     by (Err code) = refl
 
+-- a task that is wider, or puts one more content, tells the same
+pub tells_wider : {reached written : List Object} (tells : Answer → Bool) (o : Object) (t : Task reached written) → TellsOnly tells t → TellsOnly tells (wider o t)
+tells_wider tells o (Look x there next) h = λ c. tells_wider tells o (next c) (h c)
+tells_wider tells o (Tell puts x) h = h
+tells_wider tells o (Refuse c) h = h
+
+tells_also : {reached written : List Object} (tells : Answer → Bool) (o : Object) (there : IsIn o written) (c : ContentOf o) (t : Task reached written) → TellsOnly tells t → TellsOnly tells (also_puts o there c t)
+tells_also tells o there c (Look x at next) h = λ seen. tells_also tells o there c (next seen) (h seen)
+tells_also tells o there c (Tell puts x) h = h
+tells_also tells o there c (Refuse code) h = h
+
+pub of_taking : (who : ℕ) (addrs : List (List ℕ)) → TellsOnly is_done (takes who addrs)
+of_taking who [] = (refl, refl)
+of_taking who (a ∷ addrs) = tells_also is_done (object.Hog a) (inl refl) (Some who) (wider (object.Hog a) (takes who addrs)) (tells_wider is_done (object.Hog a) (takes who addrs) (of_taking who addrs))
+
+pub of_freeing : (who : ℕ) (addrs : List (List ℕ)) → TellsOnly is_done (frees who addrs)
+of_freeing who [] = (refl, refl)
+of_freeing who (a ∷ addrs) = λ h. by (is_held_by who h) (tells_wider is_done (object.Hog a) (frees who addrs) (of_freeing who addrs))
+  where
+    by : (own : Bool) → TellsOnly is_done (wider (object.Hog a) (frees who addrs)) → TellsOnly is_done (frees_if who own a addrs (wider (object.Hog a) (frees who addrs)))
+    by true rest = tells_also is_done (object.Hog a) (inl refl) None (wider (object.Hog a) (frees who addrs)) rest
+    by false rest = rest
+
 of_loaded : (l : Option Loaded) → IsTelling is_of_loading (loaded_answer l)
 of_loaded None = (refl, refl)
 of_loaded (Some l) = (refl, refl)
 
 pub rows_tell_their_answers : RowsTellTheirAnswers
 rows_tell_their_answers disks (access.Show term bytes column) who = elim [ None ↦ (refl, refl) | Some t ↦ (refl, refl) ]
+rows_tell_their_answers disks (access.PrintTo addr bytes column) who = elim [ None ↦ (refl, refl) | Some printed ↦ (refl, refl) ]
+rows_tell_their_answers disks (access.OpenDevices addrs) who = of_taking who addrs
+rows_tell_their_answers disks (access.CloseDevices addrs) who = of_freeing who addrs
 rows_tell_their_answers disks (access.ReadLine term) who = elim [ None ↦ (refl, refl) | Some t ↦ of_line (line_read t) ]
 rows_tell_their_answers disks (access.Insert term bytes) who = elim [ None ↦ (refl, refl) | Some t ↦ (refl, refl) ]
 rows_tell_their_answers disks (access.Key term) who = elim [ None ↦ (refl, refl) | Some t ↦ of_key (slice_get t.queue 0) ]
@@ -129,9 +157,21 @@ rows_tell_their_answers disks (access.LoadProgram addr name replace declared hom
 rows_tell_their_answers disks (access.MovePlatter from to) who = of_moving from to disks.move_platter
 rows_tell_their_answers disks (access.MoveFile from name to) who = of_moving from to (disks.move_file name)
 
+-- who holds devices is reached where they are taken and where they are freed
+taken_reached : (who : ℕ) (addrs : List (List ℕ)) (o : Object) → IsIn o (objects_held addrs) → IsIn o (device_objects (to_take addrs).devices ++ [])
+taken_reached who [] o i = absurd i
+taken_reached who (a ∷ addrs) o i = elim i [ inl e ↦ inl e | inr j ↦ inr (taken_reached who addrs o j) ]
+
+freed_reached : (who : ℕ) (addrs : List (List ℕ)) (o : Object) → IsIn o (objects_held addrs) → IsIn o (device_objects (to_free addrs).devices ++ [])
+freed_reached who [] o i = absurd i
+freed_reached who (a ∷ addrs) o i = elim i [ inl e ↦ inl e | inr j ↦ inr (freed_reached who addrs o j) ]
+
 -- what is written is reached
 pub written_is_reached : (a : Access) (who : ℕ) (o : Object) → IsIn o ((row a).writes who) → IsIn o (objects_reached who (reach a))
 written_is_reached (access.Show term bytes column) who o i = i
+written_is_reached (access.PrintTo addr bytes column) who o i = inr i
+written_is_reached (access.OpenDevices addrs) who o i = taken_reached who addrs o i
+written_is_reached (access.CloseDevices addrs) who o i = freed_reached who addrs o i
 written_is_reached (access.ReadLine term) who o i = i
 written_is_reached (access.Insert term bytes) who o i = i
 written_is_reached (access.Key term) who o i = i

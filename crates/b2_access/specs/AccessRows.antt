@@ -1,7 +1,7 @@
 -- THE ROWS OF THE ACCESSES: what each reaches, what it writes of that, which answers it tells where nothing stops it, and what it does.
 -- What isn't listed stays as it is: an empty terminal has no keys, and a disk has no limits and no listing; a file there has no sectors,
 -- and a place in it stays.
-use Rattle.std.specs.Prelude.{ℕ, pos, nat_lt, Bool, true, Result, Ok, Err, List, [], ◌∷◌, ◌++◌, drop, slice_get, Option, Some, None, refl, if◌then◌else◌}
+use Rattle.std.specs.Prelude.{ℕ, pos, nat_lt, ◌==◌, Bool, true, false, Result, Ok, Err, List, [], ◌∷◌, ◌++◌, drop, slice_get, Option, Some, None, refl, if◌then◌else◌}
 use Rattle.std.specs.FinMap as map
 use Rattle.std.proofs.Common.{inl, inr}
 use Rattle.b2_base.specs.declared.codes.TheConstants.{A01_TEXT_AREA}
@@ -21,9 +21,10 @@ use Rattle.b2_access.specs.declared.accesses.Answer.{Answer}
 use Rattle.b2_access.specs.declared.accesses.Answer.TheVariants as answer
 use Rattle.b2_access.specs.AnswerKinds.{is_done, is_done_or_code, is_of_key, is_of_limits, is_of_line, is_of_listing, is_of_loading, is_of_opening, is_of_place}
 use Rattle.b2_access.specs.Disks.{DiskWork, FourNumbers, Loaded, Made}
-use Rattle.b2_access.specs.Reach.{Reach, at_disk, at_disks, at_terminal, disk_and_text, objects_reached, own_text}
+use Rattle.b2_access.specs.Reach.{Reach, at_disk, at_disks, at_printer, at_terminal, disk_and_text, objects_held, objects_reached, objects_written, own_text, to_free, to_take}
 use Rattle.b2_access.specs.declared.reached.TextUse.TheVariants as text
-use Rattle.b2_access.specs.Task.{Task, Look, Tell, Refuse, answers, puts}
+use Rattle.b2_access.specs.declared.reached.Written.{Written}
+use Rattle.b2_access.specs.Task.{Task, Look, Tell, Refuse, also_puts, answers, puts, wider}
 
 -- A row. What is reached is the same for all partitions and in all stores; what is written and done is so for the one that asks. What
 -- a disk does to an image is for the store to say.
@@ -220,9 +221,45 @@ abbrev pub moving_row : (from to : List ℕ) → (DiskWork → List ℕ → List
 moving_row from to made =
     record { reach = at_disks from to; writes = λ who. object.Platter to ∷ []; tells = is_done_or_code; does = λ disks who. Look (object.Platter from) (inr (inl refl)) (moves_from from to (made disks)) }
 
+-- at a printer: the bytes stand after what it printed
+abbrev pub PrintTask : List ℕ → Type 0
+PrintTask addr = Task (object.Hog addr ∷ object.Printer addr ∷ []) (object.Printer addr ∷ [])
+
+abbrev pub prints : (addr bytes : List ℕ) → Option (List ℕ) → PrintTask addr
+prints addr bytes None = answers answer.Done
+prints addr bytes (Some printed) = puts (object.Printer addr) (inl refl) (printed ++ bytes) answer.Done
+
+-- devices are taken: each has this holder
+abbrev pub TakeTask : ℕ → List (List ℕ) → Type 0
+TakeTask who addrs = Task (objects_reached who (to_take addrs)) (objects_held addrs)
+
+abbrev pub takes : (who : ℕ) (addrs : List (List ℕ)) → TakeTask who addrs
+takes who [] = answers answer.Done
+takes who (a ∷ addrs) = also_puts (object.Hog a) (inl refl) (Some who) (wider (object.Hog a) (takes who addrs))
+
+-- devices are freed: those that the partition itself holds have no holder then
+abbrev pub FreeTask : ℕ → List (List ℕ) → Type 0
+FreeTask who addrs = Task (objects_reached who (to_free addrs)) (objects_held addrs)
+
+abbrev pub is_held_by : ℕ → Option (Option ℕ) → Bool
+is_held_by who (Some (Some p)) = p == who
+is_held_by who h = false
+
+abbrev pub frees_if : (who : ℕ) → Bool → (a : List ℕ) (addrs : List (List ℕ)) → FreeTask who (a ∷ addrs) → FreeTask who (a ∷ addrs)
+frees_if who true a addrs t = also_puts (object.Hog a) (inl refl) None t
+frees_if who false a addrs t = t
+
+abbrev pub frees : (who : ℕ) (addrs : List (List ℕ)) → FreeTask who addrs
+frees who [] = answers answer.Done
+frees who (a ∷ addrs) = Look (object.Hog a) (inl refl) (λ h. frees_if who (is_held_by who h) a addrs (wider (object.Hog a) (frees who addrs)))
+
 -- THE ROW OF EACH ACCESS
 abbrev pub row : Access → AccessRow
 row (access.Show term bytes column) = terminal_row term is_done (shows term bytes)
+row (access.PrintTo addr bytes column) =
+    record { reach = at_printer addr; writes = λ who. object.Printer addr ∷ []; tells = is_done; does = λ disks who. Look (object.Printer addr) (inr (inl refl)) (prints addr bytes) }
+row (access.OpenDevices addrs) = record { reach = to_take addrs; writes = λ who. objects_held addrs; tells = is_done; does = λ disks who. takes who addrs }
+row (access.CloseDevices addrs) = record { reach = to_free addrs; writes = λ who. objects_held addrs; tells = is_done; does = λ disks who. frees who addrs }
 row (access.ReadLine term) = terminal_row term is_of_line (reads_line term)
 row (access.Insert term bytes) = terminal_row term is_done (inserts term bytes)
 row (access.Key term) = terminal_row term is_of_key (takes_key term)
@@ -246,6 +283,10 @@ row (access.LoadProgram addr name replace declared homes) =
     record { reach = disk_and_text addr text.Edited; writes = λ who. object.Text who ∷ []; tells = is_done_or_code; does = λ disks who. Look (object.Platter addr) (inr (inr (inr (inl refl)))) (loads_from who addr (disks.load_program name replace)) }
 row (access.MovePlatter from to) = moving_row from to (λ disks. disks.move_platter)
 row (access.MoveFile from name to) = moving_row from to (λ disks. disks.move_file name)
+
+-- what is written, beside devices and of them
+abbrev pub writes_by : Written → List Object → ℕ → List Object
+writes_by w devices who = objects_written w who ++ devices
 
 abbrev pub reach : Access → Reach
 reach a = (row a).reach

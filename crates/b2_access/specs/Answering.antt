@@ -1,5 +1,6 @@
 -- What an access can be answered.
-use Rattle.std.specs.Prelude.{◌≡◌, ℕ, ◌||◌, ◌&&◌, Bool, true, false, List, [], Option, None}
+use Rattle.std.specs.Prelude.{◌≡◌, ℕ, ◌||◌, ◌&&◌, Bool, true, false, List, Option, Some, None}
+use Rattle.std.specs.List.{list_any}
 use Rattle.b2_access.specs.declared.accesses.Access.{Access}
 use Rattle.b2_access.specs.declared.accesses.Answer.{Answer}
 use Rattle.b2_access.specs.declared.accesses.Answer.TheVariants as answer
@@ -9,15 +10,19 @@ use Rattle.b2_access.specs.declared.reached.TextUse.TheVariants as text
 use Rattle.b2_access.specs.AccessRows.{reach, row}
 use Rattle.b2_access.specs.AnswerKinds.{is_lock, is_wait, stops}
 use Rattle.b2_access.specs.Disks.{DiskWork}
-use Rattle.b2_access.specs.Reach.{DeviceReach, Reach}
+use Rattle.b2_access.specs.Reach.{DevicePart, DeviceReach, HoldFreed, Reach}
 use Rattle.b2_access.specs.Sharing.{ServingOf}
 use Rattle.b2_access.specs.Store.{ContentOf}
 use Rattle.b2_access.specs.Task.{Task, Look, Tell, Refuse}
 
--- another can come first at a terminal and at a device, and stand inside a text that is edited
+-- another can come first at a terminal and at a device that isn't freed, and stand inside a text that is edited
+abbrev pub may_stop_by : DevicePart → Bool
+may_stop_by HoldFreed = false
+may_stop_by part = true
+
 abbrev pub may_wait : Option ℕ → List DeviceReach → Bool
-may_wait None [] = false
-may_wait term devices = true
+may_wait (Some term) devices = true
+may_wait None devices = list_any (λ d. may_stop_by d.part) devices
 
 abbrev pub is_edited : TextUse → Bool
 is_edited text.Edited = true

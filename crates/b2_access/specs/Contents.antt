@@ -50,6 +50,7 @@ content_same (object.Text p) c s = row_same (λ k. k == p) c s.texts
 content_same (object.Borrow p) c s = row_same (λ k. k == p) c s.borrows
 content_same (object.Globals p) c s = row_same (λ k. k == p) c s.globals
 content_same (object.Terminal t) c s = row_same (λ k. k == t) c s.terminals
+content_same (object.Printer a) c s = row_same (λ k. bytes_eq k a) c s.printers
 content_same (object.Platter a) c s = row_same (λ k. bytes_eq k a) c s.platters
 content_same (object.Hog a) c s = row_same (λ k. bytes_eq k a) c s.hogs
 content_same o c s = refl
@@ -60,6 +61,7 @@ content_other (object.Text p) (object.Text q) c s apart = row_other _ _ c (other
 content_other (object.Borrow p) (object.Borrow q) c s apart = row_other _ _ c (other_number p q (λ e. apart (ap object.Borrow (sym e)))) s.borrows
 content_other (object.Globals p) (object.Globals q) c s apart = row_other _ _ c (other_number p q (λ e. apart (ap object.Globals (sym e)))) s.globals
 content_other (object.Terminal t) (object.Terminal u) c s apart = row_other _ _ c (other_number t u (λ e. apart (ap object.Terminal (sym e)))) s.terminals
+content_other (object.Printer a) (object.Printer b) c s apart = row_other _ _ c (other_device a b (λ e. apart (ap object.Printer (sym e)))) s.printers
 content_other (object.Platter a) (object.Platter b) c s apart = row_other _ _ c (other_device a b (λ e. apart (ap object.Platter (sym e)))) s.platters
 content_other (object.Hog a) (object.Hog b) c s apart = row_other _ _ c (other_device a b (λ e. apart (ap object.Hog (sym e)))) s.hogs
 content_other o x c s apart = refl

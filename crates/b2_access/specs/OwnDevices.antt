@@ -4,16 +4,20 @@ use Rattle.b2_access.specs.AccessRows.{reach}
 use Rattle.b2_access.specs.Devices.{is_platter_for, is_printer_for}
 use Rattle.b2_access.specs.Lending.{SeenLent}
 use Rattle.b2_access.specs.Planning.{Planning}
-use Rattle.b2_access.specs.Reach.{DevicePart, DeviceReach, HoldAlone, WithPlatter, WithPrinter, at_disk}
+use Rattle.b2_access.specs.Reach.{DevicePart, DeviceReach, HoldFreed, HoldTaken, WithPlatter, WithPrinter, at_disk}
 use Rattle.b2_access.specs.declared.accesses.Access.{Access}
 use Rattle.b2_access.specs.declared.devices.Device.{Device}
 use Rattle.b2_access.specs.declared.planned.Planned.{Planned}
 use Rattle.b2_access.specs.declared.planned.Planned.TheVariants as planned
 use Rattle.b2_access.specs.declared.private.Private.{Private}
 
--- whether the table lists a device for a partition, as a platter, as a printer, or as either where it is held alone
+-- whether the table lists a device for a partition, as a platter, as a printer, or as either where its holder alone is reached
+abbrev pub is_device_for : ℕ → List ℕ → List Device → Bool
+is_device_for who a devices = is_platter_for who a devices || is_printer_for who a devices
+
 abbrev pub is_listed_for : ℕ → List ℕ → DevicePart → List Device → Bool
-is_listed_for who a HoldAlone devices = is_platter_for who a devices || is_printer_for who a devices
+is_listed_for who a HoldTaken devices = is_device_for who a devices
+is_listed_for who a HoldFreed devices = is_device_for who a devices
 is_listed_for who a WithPlatter devices = is_platter_for who a devices
 is_listed_for who a WithPrinter devices = is_printer_for who a devices
 

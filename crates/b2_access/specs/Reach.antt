@@ -2,14 +2,19 @@
 use Rattle.std.specs.Prelude.{ℕ, Bool, true, false, List, [], ◌∷◌, ◌++◌, map, Option, Some, None}
 use Rattle.b2_access.specs.declared.objects.Object.{Object}
 use Rattle.b2_access.specs.declared.objects.Object.TheVariants as object
+use Rattle.b2_access.specs.declared.reached.Devices.{Devices}
+use Rattle.b2_access.specs.declared.reached.Devices.TheVariants as devices
 use Rattle.b2_access.specs.declared.reached.Reached.{Reached}
+use Rattle.b2_access.specs.declared.reached.DevicesWritten.{DevicesWritten}
+use Rattle.b2_access.specs.declared.reached.DevicesWritten.TheVariants as written
 use Rattle.b2_access.specs.declared.reached.Written.{Written}
 use Rattle.b2_access.specs.declared.reached.TextUse.{TextUse}
 use Rattle.b2_access.specs.declared.reached.TextUse.TheVariants as text
 
--- what is reached of a device: who holds it, and that alone or with its platter or its printer
+-- what is reached of a device: who holds it, and that alone, to take it or to free it, or with its platter or its printer
 pub data DevicePart : Type 0 where
-  HoldAlone : DevicePart
+  HoldTaken : DevicePart
+  HoldFreed : DevicePart
   WithPlatter : DevicePart
   WithPrinter : DevicePart
 
@@ -47,16 +52,41 @@ disk_and_text address used = record (at_disk address) { text = used }
 abbrev pub at_disks : List ℕ → List ℕ → Reach
 at_disks from to = record nothing { devices = disk from ∷ disk to ∷ [] }
 
-abbrev pub disks_of : Option (List ℕ) → List DeviceReach
-disks_of None = []
-disks_of (Some address) = disk address ∷ []
+-- a printer, and who holds it
+abbrev pub printer : List ℕ → DeviceReach
+printer address = record { address = address; part = WithPrinter }
+
+abbrev pub at_printer : List ℕ → Reach
+at_printer address = record nothing { devices = printer address ∷ [] }
+
+-- those who hold some devices, which are taken, or freed
+abbrev pub hold_taken : List ℕ → DeviceReach
+hold_taken address = record { address = address; part = HoldTaken }
+
+abbrev pub hold_freed : List ℕ → DeviceReach
+hold_freed address = record { address = address; part = HoldFreed }
+
+abbrev pub to_take : List (List ℕ) → Reach
+to_take addresses = record nothing { devices = map hold_taken addresses }
+
+abbrev pub to_free : List (List ℕ) → Reach
+to_free addresses = record nothing { devices = map hold_freed addresses }
+
+-- the devices, as a value of the program says them
+abbrev pub devices_of : Devices → List DeviceReach
+devices_of devices.NoDevice = []
+devices_of (devices.Disk address) = disk address ∷ []
+devices_of (devices.TwoDisks from to) = disk from ∷ disk to ∷ []
+devices_of (devices.Printer address) = printer address ∷ []
+devices_of (devices.Taken addresses) = map hold_taken addresses.now
+devices_of (devices.Freed addresses) = map hold_freed addresses.now
 
 abbrev pub own_text : Reach
 own_text = record nothing { text = text.Edited }
 
--- what is reached, as a value of the program says it
+-- what is reached beside devices, as a value of the program says it
 abbrev pub reach_of : Reached → Reach
-reach_of r = record nothing { terminal = r.terminal; text = r.text; variables = r.variables; devices = disks_of r.disk ++ disks_of r.other_disk }
+reach_of r = record nothing { terminal = r.terminal; text = r.text; variables = r.variables }
 
 -- the objects that are reached: an edit looks at who stands inside the text
 abbrev pub terminal_objects : Option ℕ → List Object
@@ -73,7 +103,8 @@ variable_objects who false = []
 variable_objects who true = object.Globals who ∷ []
 
 abbrev pub part_objects : List ℕ → DevicePart → List Object
-part_objects a HoldAlone = object.Hog a ∷ []
+part_objects a HoldTaken = object.Hog a ∷ []
+part_objects a HoldFreed = object.Hog a ∷ []
 part_objects a WithPlatter = object.Hog a ∷ object.Platter a ∷ []
 part_objects a WithPrinter = object.Hog a ∷ object.Printer a ∷ []
 
@@ -90,9 +121,21 @@ abbrev pub where_written : Bool → Object → List Object
 where_written false o = []
 where_written true o = o ∷ []
 
-abbrev pub platter_objects : Option (List ℕ) → List Object
-platter_objects None = []
-platter_objects (Some address) = object.Platter address ∷ []
+-- who holds each of some devices
+abbrev pub objects_held : List (List ℕ) → List Object
+objects_held addresses = map object.Hog addresses
 
+-- the devices whose contents or holders are written
+abbrev pub device_objects_written : DevicesWritten → List Object
+device_objects_written written.NoDevice = []
+device_objects_written (written.Platter address) = object.Platter address ∷ []
+device_objects_written (written.Printer address) = object.Printer address ∷ []
+device_objects_written (written.Holders addresses) = objects_held addresses.now
+
+abbrev pub is_device_written : DevicesWritten → Bool
+is_device_written written.NoDevice = false
+is_device_written devices = true
+
+-- and beside devices
 abbrev pub objects_written : Written → ℕ → List Object
-objects_written w who = terminal_objects w.terminal ++ (where_written w.text (object.Text who) ++ (where_written w.variables (object.Globals who) ++ platter_objects w.platter))
+objects_written w who = terminal_objects w.terminal ++ (where_written w.text (object.Text who) ++ where_written w.variables (object.Globals who))

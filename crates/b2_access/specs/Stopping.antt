@@ -7,7 +7,7 @@ use Rattle.b2_access.specs.declared.accesses.Answer.TheVariants as answer
 use Rattle.b2_access.specs.declared.objects.Object.TheVariants as object
 use Rattle.b2_access.specs.declared.reached.TextUse.{TextUse}
 use Rattle.b2_access.specs.declared.reached.TextUse.TheVariants as text
-use Rattle.b2_access.specs.Reach.{DeviceReach, Reach}
+use Rattle.b2_access.specs.Reach.{DevicePart, DeviceReach, HoldFreed, Reach}
 use Rattle.b2_access.specs.Store.{StoreState, content}
 
 -- the partition in front of a terminal, and the one that holds a device, where there is one
@@ -20,14 +20,20 @@ holding None = []
 holding (Some None) = []
 holding (Some (Some p)) = p ∷ []
 
--- those who come first: the one in front of the terminal, and then the holders of the devices in the order written
+-- those who come first: the one in front of the terminal, and then the holders of the devices in the order written, but for devices
+-- that are freed
 abbrev pub at_front : Option ℕ → StoreState → List ℕ
 at_front None s = []
 at_front (Some term) s = in_front (content s (object.Terminal term))
 
+-- who frees devices is stopped by nobody
+abbrev pub stopping_holder : DevicePart → Option (Option ℕ) → List ℕ
+stopping_holder HoldFreed h = []
+stopping_holder part h = holding h
+
 abbrev pub holders : List DeviceReach → StoreState → List ℕ
 holders [] s = []
-holders (d ∷ ds) s = holding (content s (object.Hog d.address)) ++ holders ds s
+holders (d ∷ ds) s = stopping_holder d.part (content s (object.Hog d.address)) ++ holders ds s
 
 abbrev pub first_there : Reach → StoreState → List ℕ
 first_there r s = at_front r.terminal s ++ holders r.devices s

@@ -7,13 +7,14 @@ use Rattle.b2_access.specs.declared.objects.Object.{Object}
 use Rattle.b2_access.specs.declared.objects.Object.TheVariants as object
 use Rattle.b2_access.specs.Rows.{row_of, with_row, device_row, with_device_row}
 
--- Texts, who stands inside each, in order of entering, `@` variables, terminals, the images of platters, and who holds each device.
--- Names and printers have their kinds of contents, but none of them is listed yet.
+-- Texts, who stands inside each, in order of entering, `@` variables, terminals, what printers printed, the images of platters, and who
+-- holds each device. Names have their kind of contents, but none of them is listed yet.
 pub record StoreState : Type 0 where
   pub texts : List (ℕ × TextState)
   pub borrows : List (ℕ × List ℕ)
   pub globals : List (ℕ × VarsState)
   pub terminals : List (ℕ × TerminalState)
+  pub printers : List (List ℕ × List ℕ)
   pub platters : List (List ℕ × List ℕ)
   pub hogs : List (List ℕ × Option ℕ)
 
@@ -35,6 +36,7 @@ content s (object.Text p) = row_of p s.texts
 content s (object.Borrow p) = row_of p s.borrows
 content s (object.Globals p) = row_of p s.globals
 content s (object.Terminal t) = row_of t s.terminals
+content s (object.Printer a) = device_row a s.printers
 content s (object.Platter a) = device_row a s.platters
 content s (object.Hog a) = device_row a s.hogs
 content s o = None
@@ -45,6 +47,7 @@ put (object.Text p) c s = record s { texts = with_row p s.texts c }
 put (object.Borrow p) c s = record s { borrows = with_row p s.borrows c }
 put (object.Globals p) c s = record s { globals = with_row p s.globals c }
 put (object.Terminal t) c s = record s { terminals = with_row t s.terminals c }
+put (object.Printer a) c s = record s { printers = with_device_row a s.printers c }
 put (object.Platter a) c s = record s { platters = with_device_row a s.platters c }
 put (object.Hog a) c s = record s { hogs = with_device_row a s.hogs c }
 put o c s = s

@@ -3,7 +3,7 @@ ghost use Rattle.std.specs.Prelude.{◌≡◌};
 ghost use Rattle.b2_access.specs.AnswerKinds as kind;
 
 use b2_atom::Atoms;
-use b2_base::{Addr, By, ByteList, Code, Name8, Part, Slot, Term};
+use b2_base::{Addr, AddrList, By, ByteList, Code, Name8, Part, Slot, Term};
 use b2_dec::{KindList, ValueList};
 
 /// What a step asks of the store, once at most. `homes` marks the partitions whose text the asking one gives back: the bit of
@@ -15,6 +15,20 @@ pub enum Access {
         term: Term,
         bytes: ByteList,
         column: u16,
+    },
+    /// The bytes are printed at a printer, whose column is then this one.
+    PrintTo {
+        addr: Addr,
+        bytes: ByteList,
+        column: u16,
+    },
+    /// Devices are taken, all or none.
+    OpenDevices {
+        addrs: AddrList,
+    },
+    /// Those of some devices that the asking partition holds are freed.
+    CloseDevices {
+        addrs: AddrList,
     },
     /// A line is read from the terminal.
     ReadLine {

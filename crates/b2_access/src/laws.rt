@@ -4,7 +4,7 @@ ghost use Rattle.b2_access.specs.Partition.{at_start, KeepsNone};
 ghost use Rattle.b2_access.specs.Answering.{AnswersByRow, RowsTellTheirAnswers};
 ghost use Rattle.b2_access.specs.Causes.{WaitsForTheFirst, LocksForTheFirst, RefusesWithTheCode};
 ghost use Rattle.b2_access.specs.Disks.{DiskWork};
-ghost use Rattle.b2_access.specs.Holding.{HeldStaysAsItIs, OtherImagesStay};
+ghost use Rattle.b2_access.specs.Holding.{HeldIsOutOfReach, HeldStaysAsItIs, OtherHoldersStay, OtherImagesStay, WhoAsksWaits};
 ghost use Rattle.b2_access.specs.Serving.{StopsUnchanged, serves, itself};
 ghost use Rattle.b2_access.specs.Sharing.{IsLocal, KeepsListed};
 ghost use Rattle.b2_access.specs.Working.{FinishesArePutBack, PlansArePutBack};
@@ -61,6 +61,21 @@ pub fn law_a_code_is_met()
 /// What belongs to a device stays as it is through every access of a partition, while another one holds the device.
 pub fn law_a_held_device_stays_as_it_is()
     ensures { HeldStaysAsItIs }
+{}
+
+/// While another holds a device, an access that reaches its platter or its printer, or is to take it, is answered Wait.
+pub fn law_who_asks_for_a_held_device_waits()
+    ensures { WhoAsksWaits }
+{}
+
+/// Whatever a device has, an access of a partition is answered alike and leaves all else alike, while another one holds the device.
+pub fn law_a_held_device_is_out_of_reach()
+    ensures { HeldIsOutOfReach }
+{}
+
+/// Who holds a device stays so through every access, but through one by which it is taken or freed.
+pub fn law_other_holders_stay_as_they_are()
+    ensures { OtherHoldersStay }
 {}
 
 /// An access that scratches a file, formats a disk, makes a data file, saves a record or a program or writes an end mark on one, or moves

@@ -48,7 +48,10 @@ pub use placed::{Found, line_named, statement_on, statement_placed};
 pub use places::{goal_place, place_after};
 pub use planned::{Outcome, Planned};
 pub use private::{Private, drop_frames};
-pub use reached::{Reached, TextUse, Written, reached_by, written_by};
+pub use reached::{
+    Devices, DevicesWritten, Reached, TextUse, Written, devices_reached, devices_written,
+    reached_by, written_by,
+};
 pub use setting::setting_of;
 pub use shared::Shared;
 pub use showing::after_show;

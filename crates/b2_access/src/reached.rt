@@ -1,9 +1,9 @@
 // What an access reaches, and what it writes of that.
 ghost use Rattle.std.specs.Prelude.{◌≡◌, true, false, Some, None};
-ghost use Rattle.b2_access.specs.AccessRows.{reach as reach_by, row};
+ghost use Rattle.b2_access.specs.AccessRows.{reach as reach_by, row, writes_by};
 ghost use Rattle.b2_access.specs.Reach as reach;
-ghost use Rattle.b2_access.specs.Holding.{image_changed};
-ghost use Rattle.b2_access.specs.Reach.{objects_written, reach_of};
+ghost use Rattle.b2_access.specs.Holding.{changes_device, devices_changed};
+ghost use Rattle.b2_access.specs.Reach.{device_objects_written, devices_of, is_device_written, reach_of};
 
 use crate::accesses::Access;
 use b2_base::{Addr, Term};
@@ -19,7 +19,7 @@ pub enum TextUse {
     Edited,
 }
 
-/// What an access reaches of what the store has so far.
+/// What an access reaches of what the store has so far, beside devices.
 #[derive(Clone, Copy)]
 pub struct Reached {
     /// The terminal that it names.
@@ -28,22 +28,16 @@ pub struct Reached {
     pub text: TextUse,
     /// Whether the `@` variables of the partition that asks.
     pub variables: bool,
-    /// The platter that it names, with who holds it.
-    pub disk: Option<Addr>,
-    /// The platter to which it moves files, with who holds it.
-    pub other_disk: Option<Addr>,
 }
 
 /// Nothing.
 fn reaches_nothing() -> Reached
-    ensures { result ≡ record { terminal = None; text = TextUse.Unused; variables = false; disk = None; other_disk = None } }
+    ensures { result ≡ record { terminal = None; text = TextUse.Unused; variables = false } }
 {
     Reached {
         terminal: None,
         text: TextUse::Unused,
         variables: false,
-        disk: None,
-        other_disk: None,
     }
 }
 
@@ -57,78 +51,102 @@ fn at_terminal(term: Term) -> Reached
     }
 }
 
-/// The text of the partition that asks, which is edited.
-fn own_text(variables: bool) -> Reached
-    ensures { reach_of result ≡ record reach.own_text { variables = variables } }
-{
-    Reached {
-        text: TextUse::Edited,
-        variables,
-        ..reaches_nothing()
-    }
-}
-
-/// A platter, and who holds it.
-fn at_disk(addr: Addr) -> Reached
-    ensures { reach_of result ≡ reach.at_disk addr }
-{
-    Reached {
-        disk: Some(addr),
-        ..reaches_nothing()
-    }
-}
-
-/// A platter, who holds it, and the text of the partition that asks.
-fn disk_and_text(addr: Addr, text: TextUse) -> Reached
-    ensures { reach_of result ≡ reach.disk_and_text addr text }
+/// The text of the partition that asks.
+fn own_text(text: TextUse) -> Reached
+    ensures { reach_of result ≡ record reach.nothing { text = text } }
 {
     Reached {
         text,
-        ..at_disk(addr)
-    }
-}
-
-/// A platter and another, and who holds them.
-fn at_disks(from: Addr, to: Addr) -> Reached
-    ensures { reach_of result ≡ reach.at_disks from to }
-{
-    Reached {
-        disk: Some(from),
-        other_disk: Some(to),
         ..reaches_nothing()
     }
 }
 
-/// What an access reaches.
+/// What an access reaches beside devices.
 pub fn reached_by(access: &Access) -> Reached
-    ensures reached { reach_of result ≡ reach_by access.now }
+    ensures reached { record (reach_of result) { devices = (reach_by access.now).devices } ≡ reach_by access.now }
 {
     match access {
         Access::Show { term, .. }
         | Access::ReadLine { term }
         | Access::Insert { term, .. }
         | Access::Key { term } => at_terminal(*term),
-        Access::PutLine { .. } | Access::Erase { .. } => own_text(false),
-        Access::ClearAll { .. } => own_text(true),
+        Access::PutLine { .. } | Access::Erase { .. } | Access::LoadProgram { .. } => {
+            own_text(TextUse::Edited)
+        }
+        Access::SaveProgram { .. } => own_text(TextUse::Read),
+        Access::ClearAll { .. } => Reached {
+            variables: true,
+            ..own_text(TextUse::Edited)
+        },
+        Access::PrintTo { .. }
+        | Access::OpenDevices { .. }
+        | Access::CloseDevices { .. }
+        | Access::Limits { .. }
+        | Access::ListDisk { .. }
+        | Access::Scratch { .. }
+        | Access::Format { .. }
+        | Access::DataNew { .. }
+        | Access::DataOpen { .. }
+        | Access::DataSave { .. }
+        | Access::DataEnd { .. }
+        | Access::DataLoad { .. }
+        | Access::Skip { .. }
+        | Access::MovePlatter { .. }
+        | Access::MoveFile { .. } => reaches_nothing(),
+    }
+}
+
+/// Which devices an access reaches, in the order written.
+#[derive(Clone, Copy)]
+pub enum Devices<'a> {
+    /// None.
+    NoDevice,
+    /// A platter, and who holds it.
+    Disk(Addr),
+    /// Two platters, and who holds them.
+    TwoDisks(Addr, Addr),
+    /// A printer, and who holds it.
+    Printer(Addr),
+    /// Who holds each of these, which are taken.
+    Taken(&'a [Addr]),
+    /// Who holds each of these, which are freed where the partition that asks holds them.
+    Freed(&'a [Addr]),
+}
+
+/// Which devices an access reaches.
+pub fn devices_reached(access: &Access) -> Devices<'_>
+    ensures reached { devices_of result ≡ (reach_by access.now).devices }
+{
+    match access {
+        Access::Show { .. }
+        | Access::ReadLine { .. }
+        | Access::Insert { .. }
+        | Access::Key { .. }
+        | Access::PutLine { .. }
+        | Access::Erase { .. }
+        | Access::ClearAll { .. } => Devices::NoDevice,
+        Access::PrintTo { addr, .. } => Devices::Printer(*addr),
+        Access::OpenDevices { addrs } => Devices::Taken(addrs.addresses()),
+        Access::CloseDevices { addrs } => Devices::Freed(addrs.addresses()),
         Access::Limits { addr, .. }
         | Access::ListDisk { addr }
         | Access::Scratch { addr, .. }
         | Access::Format { addr, .. }
         | Access::DataNew { addr, .. }
-        | Access::DataOpen { addr, .. } => at_disk(*addr),
+        | Access::DataOpen { addr, .. }
+        | Access::SaveProgram { addr, .. }
+        | Access::LoadProgram { addr, .. } => Devices::Disk(*addr),
         Access::DataSave { slot, .. }
         | Access::DataEnd { slot }
         | Access::DataLoad { slot, .. }
-        | Access::Skip { slot, .. } => at_disk(slot.addr),
-        Access::SaveProgram { addr, .. } => disk_and_text(*addr, TextUse::Read),
-        Access::LoadProgram { addr, .. } => disk_and_text(*addr, TextUse::Edited),
+        | Access::Skip { slot, .. } => Devices::Disk(slot.addr),
         Access::MovePlatter { from, to } | Access::MoveFile { from, to, .. } => {
-            at_disks(*from, *to)
+            Devices::TwoDisks(*from, *to)
         }
     }
 }
 
-/// What an access writes of what it reaches, where nothing stops it.
+/// What an access writes of what it reaches, where nothing stops it, beside devices.
 #[derive(Clone, Copy)]
 pub struct Written {
     /// The terminal that it names.
@@ -137,25 +155,22 @@ pub struct Written {
     pub text: bool,
     /// Whether the `@` variables of the partition that asks.
     pub variables: bool,
-    /// The platter that it names.
-    pub platter: Option<Addr>,
 }
 
 /// Nothing is written.
 fn writes_nothing() -> Written
-    ensures { result ≡ record { terminal = None; text = false; variables = false; platter = None } }
+    ensures { result ≡ record { terminal = None; text = false; variables = false } }
 {
     Written {
         terminal: None,
         text: false,
         variables: false,
-        platter: None,
     }
 }
 
 /// A terminal is written.
 fn writes_terminal(term: Term) -> Written
-    ensures { result ≡ record { terminal = Some term; text = false; variables = false; platter = None } }
+    ensures { result ≡ record { terminal = Some term; text = false; variables = false } }
 {
     Written {
         terminal: Some(term),
@@ -165,7 +180,7 @@ fn writes_terminal(term: Term) -> Written
 
 /// The text of the partition that asks is written.
 fn writes_text(variables: bool) -> Written
-    ensures { result ≡ record { terminal = None; text = true; variables = variables; platter = None } }
+    ensures { result ≡ record { terminal = None; text = true; variables = variables } }
 {
     Written {
         text: true,
@@ -174,20 +189,9 @@ fn writes_text(variables: bool) -> Written
     }
 }
 
-/// A platter is written.
-fn writes_platter(platter: Addr) -> Written
-    ensures { result ≡ record { terminal = None; text = false; variables = false; platter = Some platter } }
-{
-    Written {
-        platter: Some(platter),
-        ..writes_nothing()
-    }
-}
-
-/// What an access writes where nothing stops it.
+/// What an access writes beside devices, where nothing stops it.
 pub fn written_by(access: &Access) -> Written
-    ensures written { objects_written result ≡ (row access.now).writes }
-    ensures platter { result.platter ≡ image_changed access.now }
+    ensures written { writes_by result (devices_changed access.now) ≡ (row access.now).writes }
 {
     match access {
         Access::Show { term, .. }
@@ -198,16 +202,70 @@ pub fn written_by(access: &Access) -> Written
             writes_text(false)
         }
         Access::ClearAll { .. } => writes_text(true),
-        Access::Limits { .. }
+        Access::PrintTo { .. }
+        | Access::OpenDevices { .. }
+        | Access::CloseDevices { .. }
+        | Access::Limits { .. }
+        | Access::ListDisk { .. }
+        | Access::Scratch { .. }
+        | Access::Format { .. }
+        | Access::DataNew { .. }
+        | Access::DataOpen { .. }
+        | Access::DataSave { .. }
+        | Access::DataEnd { .. }
+        | Access::DataLoad { .. }
+        | Access::Skip { .. }
+        | Access::SaveProgram { .. }
+        | Access::MovePlatter { .. }
+        | Access::MoveFile { .. } => writes_nothing(),
+    }
+}
+
+/// Which devices an access writes.
+#[derive(Clone, Copy)]
+pub enum DevicesWritten<'a> {
+    /// None.
+    NoDevice,
+    /// A platter.
+    Platter(Addr),
+    /// A printer.
+    Printer(Addr),
+    /// Who holds each of these.
+    Holders(&'a [Addr]),
+}
+
+/// Which devices an access writes, where nothing stops it.
+pub fn devices_written(access: &Access) -> DevicesWritten<'_>
+    ensures written { device_objects_written result ≡ devices_changed access.now }
+    ensures any { is_device_written result ≡ changes_device access.now }
+{
+    match access {
+        Access::Show { .. }
+        | Access::ReadLine { .. }
+        | Access::Insert { .. }
+        | Access::Key { .. }
+        | Access::PutLine { .. }
+        | Access::Erase { .. }
+        | Access::ClearAll { .. }
+        | Access::Limits { .. }
         | Access::ListDisk { .. }
         | Access::DataOpen { .. }
         | Access::DataLoad { .. }
-        | Access::Skip { .. } => writes_nothing(),
+        | Access::Skip { .. }
+        | Access::LoadProgram { .. } => DevicesWritten::NoDevice,
+        Access::PrintTo { addr, .. } => DevicesWritten::Printer(*addr),
+        Access::OpenDevices { addrs } | Access::CloseDevices { addrs } => {
+            DevicesWritten::Holders(addrs.addresses())
+        }
         Access::Scratch { addr, .. }
         | Access::Format { addr, .. }
         | Access::DataNew { addr, .. }
-        | Access::SaveProgram { addr, .. } => writes_platter(*addr),
-        Access::MovePlatter { to, .. } | Access::MoveFile { to, .. } => writes_platter(*to),
-        Access::DataSave { slot, .. } | Access::DataEnd { slot } => writes_platter(slot.addr),
+        | Access::SaveProgram { addr, .. } => DevicesWritten::Platter(*addr),
+        Access::MovePlatter { to, .. } | Access::MoveFile { to, .. } => {
+            DevicesWritten::Platter(*to)
+        }
+        Access::DataSave { slot, .. } | Access::DataEnd { slot } => {
+            DevicesWritten::Platter(slot.addr)
+        }
     }
 }

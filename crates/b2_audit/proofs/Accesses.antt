@@ -10,7 +10,7 @@ use Rattle.b2_access.specs.declared.reached.TextUse.TheVariants as text
 use Rattle.b2_access.specs.AccessRows.{reach, row}
 use Rattle.b2_access.specs.AnswerKinds.{stops}
 use Rattle.b2_access.specs.Causes.{terminal_of}
-use Rattle.b2_access.specs.Reach.{DevicePart, DeviceReach, HoldAlone, WithPlatter, WithPrinter, Reach, device_objects, objects_reached, part_objects, terminal_objects, text_objects, variable_objects}
+use Rattle.b2_access.specs.Reach.{DevicePart, DeviceReach, HoldFreed, HoldTaken, WithPlatter, WithPrinter, Reach, device_objects, objects_reached, part_objects, terminal_objects, text_objects, variable_objects}
 use Rattle.b2_access.specs.Store.{StoreState, IsIn}
 use Rattle.b2_access.specs.Touching.{touched, written_by}
 use Rattle.b2_access.proofs.Told.{no_borrowers, written_is_reached}
@@ -40,7 +40,8 @@ variables_are who true is = add (object.Globals who) [] is nothing
 variables_are who false is = nothing
 
 part_is : (a : List ℕ) (p : DevicePart) → AreMarked (part_objects a p)
-part_is a HoldAlone = add (object.Hog a) [] tt nothing
+part_is a HoldTaken = add (object.Hog a) [] tt nothing
+part_is a HoldFreed = add (object.Hog a) [] tt nothing
 part_is a WithPlatter = add (object.Hog a) (object.Platter a ∷ []) tt (add (object.Platter a) [] tt nothing)
 part_is a WithPrinter = add (object.Hog a) (object.Printer a ∷ []) tt (add (object.Printer a) [] tt nothing)
 
@@ -95,7 +96,8 @@ no_borrower q [] i = i
 no_borrower q (p ∷ ps) i = elim i [ inl e ↦ cc | inr j ↦ no_borrower q ps j ]
 
 no_part : (q : ℕ) (a : List ℕ) (p : DevicePart) → IsIn (object.Text q) (part_objects a p) → ⊥
-no_part q a HoldAlone i = elim i [ inl e ↦ cc | inr none ↦ none ]
+no_part q a HoldTaken i = elim i [ inl e ↦ cc | inr none ↦ none ]
+no_part q a HoldFreed i = elim i [ inl e ↦ cc | inr none ↦ none ]
 no_part q a WithPlatter i = elim i [ inl e ↦ cc | inr j ↦ elim j [ inl e ↦ cc | inr none ↦ none ] ]
 no_part q a WithPrinter i = elim i [ inl e ↦ cc | inr j ↦ elim j [ inl e ↦ cc | inr none ↦ none ] ]
 

@@ -1,8 +1,9 @@
 -- Marks that are made for parts of a list, one part after another.
-use Rattle.std.specs.Prelude.{◌≡◌, ℕ, List, [], ◌∷◌, ◌++◌, Option, Some, None, refl}
+use Rattle.std.specs.Prelude.{◌≡◌, ℕ, List, [], ◌∷◌, ◌++◌, refl}
 use Rattle.std.proofs.Common.{sym, ap, ◌∙◌}
 use Rattle.b2_access.specs.declared.objects.Object.{Object}
-use Rattle.b2_access.specs.Reach.{device_objects, disks_of}
+use Rattle.b2_access.specs.declared.objects.Object.TheVariants as object
+use Rattle.b2_access.specs.Reach.{device_objects, objects_held, to_free, to_take}
 use Rattle.b2_audit.specs.Marks.{Marks, touch, touch_all, write, write_all}
 
 pub touched_in_turn : (who : ℕ) (os ps : List Object) (m : Marks) → touch_all who (os ++ ps) m ≡ touch_all who ps (touch_all who os m)
@@ -13,11 +14,14 @@ pub written_in_turn : (who : ℕ) (os ps : List Object) (m : Marks) → write_al
 written_in_turn who [] ps m = refl
 written_in_turn who (o ∷ os) ps m = written_in_turn who os ps (write who o m)
 
--- two disks
-pub touched_disks : (who : ℕ) (a b : Option (List ℕ)) (m one two : Marks) → one ≡ touch_all who (device_objects (disks_of a)) m → two ≡ touch_all who (device_objects (disks_of b)) one
-    → two ≡ touch_all who (device_objects (disks_of a ++ disks_of b)) m
-touched_disks who None b m one two first second = second ∙ ap (touch_all who (device_objects (disks_of b))) first
-touched_disks who (Some a) b m one two first second = second ∙ ap (touch_all who (device_objects (disks_of b))) first
+-- devices that are taken or freed are reached by who holds each
+pub taken_are_held : (addrs : List (List ℕ)) → device_objects (to_take addrs).devices ≡ objects_held addrs
+taken_are_held [] = refl
+taken_are_held (a ∷ addrs) = ap (λ (os : List Object). object.Hog a ∷ os) (taken_are_held addrs)
+
+pub freed_are_held : (addrs : List (List ℕ)) → device_objects (to_free addrs).devices ≡ objects_held addrs
+freed_are_held [] = refl
+freed_are_held (a ∷ addrs) = ap (λ (os : List Object). object.Hog a ∷ os) (freed_are_held addrs)
 
 -- four parts
 pub touched_in_parts : (who : ℕ) (xs ys zs ds : List Object) (m one two three four : Marks) → one ≡ touch_all who xs m → two ≡ touch_all who ys one → three ≡ touch_all who zs two → four ≡ touch_all who ds three

@@ -1,18 +1,18 @@
 -- A store that is watched: it serves and lends as the store inside, and marks what partitions touch and write by that.
-use Rattle.std.specs.Prelude.{ℕ, List, [], ◌∷◌, IsSome}
+use Rattle.std.specs.Prelude.{◌≡◌, ℕ, true, List, [], ◌∷◌}
 use Rattle.b2_access.specs.declared.objects.Object.{Object}
 use Rattle.b2_access.specs.declared.objects.Object.TheVariants as object
 use Rattle.b2_access.specs.declared.accesses.Access.{Access}
-use Rattle.b2_access.specs.Holding.{image_changed}
+use Rattle.b2_access.specs.Holding.{changes_device}
 use Rattle.b2_access.specs.Loans.{Loan, LoansGlobals}
 use Rattle.b2_access.specs.Sharing.{ServingOf, IsLocal, KeepsListed, writes}
 use Rattle.b2_access.specs.Store.{StoreState}
 use Rattle.b2_access.specs.Touching.{touched}
 use Rattle.b2_audit.specs.Marks.{Marks, marked, touch_all}
 
--- an access that may write an object for whose writers no room is kept: an image
+-- an access that may write an object for whose writers no room is kept: a device, or who holds it
 abbrev pub GrowsMarks : Access → Type 0
-GrowsMarks a = IsSome (image_changed a)
+GrowsMarks a = changes_device a ≡ true
 
 -- serving, which marks what each access touches, whatever it is answered, and what it writes
 abbrev pub watching : {M : Type 0} → (M → StoreState) → ServingOf M → ServingOf (M × Marks)

@@ -1,13 +1,18 @@
 // The marks of accesses: by what they reach, and by what they write of that.
-ghost use Rattle.std.specs.Prelude.{◌≡◌, ◌++◌, OnOk, IfErr, IsSome};
-ghost use Rattle.b2_access.specs.Reach.{device_objects, disks_of, objects_reached, objects_written, platter_objects, reach_of, terminal_objects, text_objects, variable_objects, where_written};
+ghost use Rattle.std.specs.Prelude.{◌≡◌, OnOk, IfErr};
+ghost use Rattle.b2_access.specs.AccessRows.{reach, row};
+ghost use Rattle.b2_access.specs.Holding.{devices_changed};
+ghost use Rattle.b2_access.specs.Reach.{DevicePart, device_objects, objects_held, part_objects, terminal_objects, text_objects, variable_objects, where_written};
 ghost use Rattle.b2_access.specs.Store.{StoreState};
 ghost use Rattle.b2_access.specs.Touching.{touched, written_by as objects_by_answer};
 ghost use Rattle.b2_audit.specs.Marks.{object_index, touch_all, write_all};
 ghost use Rattle.b2_audit.specs.Watching.{GrowsMarks};
 
 use crate::seen::Seen;
-use b2_access::{Access, Answer, Object, Reached, TextUse, Written, reached_by, written_by};
+use b2_access::{
+    Access, Answer, Devices, DevicesWritten, Object, TextUse, devices_reached, devices_written,
+    reached_by, written_by,
+};
 use b2_base::{Addr, NoMemory, Part, Term};
 
 /// Marks that a terminal is touched, where one is reached.
@@ -42,41 +47,60 @@ fn touch_variables(seen: &mut Seen, who: Part, variables: bool)
     }
 }
 
-/// Marks that a platter is touched, and who holds it, where one is reached.
-fn touch_disk(seen: &mut Seen, who: Part, disk: Option<Addr>)
-    ensures { seen.new ≡ touch_all who (device_objects (disks_of disk)) seen.old }
+/// Marks that a platter is touched, and who holds it.
+fn touch_disk(seen: &mut Seen, who: Part, addr: Addr)
+    ensures { seen.new ≡ touch_all who (part_objects addr DevicePart.WithPlatter) seen.old }
 {
-    if let Some(addr) = disk {
-        seen.touch(who, Object::Hog(addr));
-        seen.touch(who, Object::Platter(addr));
+    seen.touch(who, Object::Hog(addr));
+    seen.touch(who, Object::Platter(addr));
+}
+
+/// Marks that a printer is touched, and who holds it.
+fn touch_printer(seen: &mut Seen, who: Part, addr: Addr)
+    ensures { seen.new ≡ touch_all who (part_objects addr DevicePart.WithPrinter) seen.old }
+{
+    seen.touch(who, Object::Hog(addr));
+    seen.touch(who, Object::Printer(addr));
+}
+
+/// Marks that it is touched who holds each of some devices.
+fn touch_holders(seen: &mut Seen, who: Part, addresses: &[Addr])
+    ensures { seen.new ≡ touch_all who (objects_held addresses.now) seen.old }
+{
+    for addr in addresses {
+        seen.touch(who, Object::Hog(*addr));
     }
 }
 
-/// Marks two platters, where they are reached.
-#[tactic(auto, using(crate::proofs::InParts::touched_disks))]
-fn touch_disks(seen: &mut Seen, who: Part, disk: Option<Addr>, other: Option<Addr>)
-    ensures { seen.new ≡ touch_all who (device_objects (disks_of disk ++ disks_of other)) seen.old }
+/// Marks the devices that an access reaches.
+#[tactic(auto, using(crate::proofs::InParts::taken_are_held, crate::proofs::InParts::freed_are_held))]
+fn touch_devices(seen: &mut Seen, who: Part, access: &Access)
+    ensures { seen.new ≡ touch_all who (device_objects (reach access.now).devices) seen.old }
 {
-    touch_disk(seen, who, disk);
-    touch_disk(seen, who, other);
+    match devices_reached(access) {
+        Devices::NoDevice => {}
+        Devices::Disk(addr) => touch_disk(seen, who, addr),
+        Devices::TwoDisks(from, to) => {
+            touch_disk(seen, who, from);
+            touch_disk(seen, who, to);
+        }
+        Devices::Printer(addr) => touch_printer(seen, who, addr),
+        Devices::Taken(addresses) | Devices::Freed(addresses) => {
+            touch_holders(seen, who, addresses);
+        }
+    }
 }
 
-/// Marks what is reached.
+/// Marks what an access touches, whatever it will be answered: all that it reaches.
 #[tactic(auto, using(crate::proofs::InParts::touched_in_parts))]
-fn touch_reached(seen: &mut Seen, who: Part, reached: &Reached)
-    ensures { seen.new ≡ touch_all who (objects_reached who (reach_of reached.now)) seen.old }
-{
-    touch_terminal(seen, who, reached.terminal);
-    touch_text(seen, who, reached.text);
-    touch_variables(seen, who, reached.variables);
-    touch_disks(seen, who, reached.disk, reached.other_disk);
-}
-
-/// Marks what an access touches, whatever it will be answered.
 pub(crate) fn mark_touched(seen: &mut Seen, who: Part, access: &Access)
     ensures { (s : StoreState) → seen.new ≡ touch_all who (touched s who access.now) seen.old }
 {
-    touch_reached(seen, who, &reached_by(access));
+    let reached = reached_by(access);
+    touch_terminal(seen, who, reached.terminal);
+    touch_text(seen, who, reached.text);
+    touch_variables(seen, who, reached.variables);
+    touch_devices(seen, who, access);
 }
 
 /// Marks that a terminal is written, where one is.
@@ -102,30 +126,43 @@ fn write_where(seen: &mut Seen, who: Part, object: Object, written: bool) -> Res
     }
 }
 
-/// Marks that a platter is written, where one is. Memory fails only there.
-fn write_platter(seen: &mut Seen, who: Part, platter: Option<Addr>) -> Result<(), NoMemory>
-    ensures written { OnOk result (seen.new ≡ write_all who (platter_objects platter) seen.old) }
-    ensures memory { IfErr result (λ _. IsSome platter) }
+/// Marks that it is written who holds each of some devices.
+fn write_holders(seen: &mut Seen, who: Part, addresses: &[Addr]) -> Result<(), NoMemory>
+    ensures { OnOk result (seen.new ≡ write_all who (objects_held addresses.now) seen.old) }
 {
-    match platter {
-        Some(addr) => seen.write(who, Object::Platter(addr)),
-        None => Ok(()),
+    for addr in addresses {
+        seen.write(who, Object::Hog(*addr))?;
+    }
+    Ok(())
+}
+
+/// Marks the devices that an access writes. Memory fails only there.
+fn write_devices(seen: &mut Seen, who: Part, access: &Access) -> Result<(), NoMemory>
+    ensures written { OnOk result (seen.new ≡ write_all who (devices_changed access.now) seen.old) }
+    ensures memory { IfErr result (λ _. GrowsMarks access.now) }
+{
+    match devices_written(access) {
+        DevicesWritten::NoDevice => Ok(()),
+        DevicesWritten::Platter(addr) => seen.write(who, Object::Platter(addr)),
+        DevicesWritten::Printer(addr) => seen.write(who, Object::Printer(addr)),
+        DevicesWritten::Holders(addresses) => write_holders(seen, who, addresses),
     }
 }
 
-/// Marks what is written.
+/// Marks what an access writes where nothing stops it. Memory fails only where it may write a device.
 #[tactic(auto, using(crate::proofs::InParts::written_in_parts))]
-fn write_each(seen: &mut Seen, who: Part, written: &Written) -> Result<(), NoMemory>
-    ensures written { OnOk result (seen.new ≡ write_all who (objects_written written.now who) seen.old) }
-    ensures memory { IfErr result (λ _. IsSome written.now.platter) }
+fn mark_each_written(seen: &mut Seen, who: Part, access: &Access) -> Result<(), NoMemory>
+    ensures written { OnOk result (seen.new ≡ write_all who ((row access.now).writes who) seen.old) }
+    ensures memory { IfErr result (λ _. GrowsMarks access.now) }
 {
+    let written = written_by(access);
     write_terminal(seen, who, written.terminal)?;
     write_where(seen, who, Object::Text(who), written.text)?;
     write_where(seen, who, Object::Globals(who), written.variables)?;
-    write_platter(seen, who, written.platter)
+    write_devices(seen, who, access)
 }
 
-/// Marks what an access wrote, by its answer. Memory fails only where it may write an image.
+/// Marks what an access wrote, by its answer. Memory fails only where it may write a device.
 pub(crate) fn mark_written(
     seen: &mut Seen,
     who: Part,
@@ -138,5 +175,5 @@ pub(crate) fn mark_written(
     if answer.stops() {
         return Ok(());
     }
-    write_each(seen, who, &written_by(access))
+    mark_each_written(seen, who, access)
 }

@@ -6,7 +6,7 @@ use Rattle.b2_access.proofs.Locality.{serves_is_local}
 use Rattle.b2_access.proofs.Told.{no_borrowers}
 use Rattle.b2_access.specs.Objects.{Decided}
 use Rattle.b2_access.specs.AccessRows.{reach}
-use Rattle.b2_access.specs.Reach.{DevicePart, DeviceReach, HoldAlone, WithPlatter, WithPrinter, Reach, device_objects, objects_reached, part_objects, terminal_objects, text_objects, variable_objects}
+use Rattle.b2_access.specs.Reach.{DevicePart, DeviceReach, HoldFreed, HoldTaken, WithPlatter, WithPrinter, Reach, device_objects, objects_reached, part_objects, terminal_objects, text_objects, variable_objects}
 use Rattle.b2_access.specs.Serving.{itself}
 use Rattle.b2_store.specs.DiskWork.{disks, serves}
 use Rattle.b2_access.specs.Store.{StoreState, IsIn, content}
@@ -127,7 +127,8 @@ module _ (devices : List Device) where
       variables_in who false member = tt
 
       part_in : (a : List ℕ) (p : DevicePart) → NoneOut (part_objects a p)
-      part_in a HoldAlone = (is_out.holds a, tt)
+      part_in a HoldTaken = (is_out.holds a, tt)
+      part_in a HoldFreed = (is_out.holds a, tt)
       part_in a WithPlatter = (is_out.holds a, (is_out.platters a, tt))
       part_in a WithPrinter = (is_out.holds a, (is_out.printers a, tt))
 

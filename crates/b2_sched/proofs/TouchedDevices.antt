@@ -8,7 +8,7 @@ use Rattle.b2_access.specs.AccessRows.{reach}
 use Rattle.b2_access.specs.Devices.{has_device, is_platter_for, is_printer_for, may_use, platter_device, same_kind}
 use Rattle.b2_access.specs.Holding.{device_of}
 use Rattle.b2_access.specs.OwnDevices.{AreListed, is_listed_for}
-use Rattle.b2_access.specs.Reach.{DevicePart, DeviceReach, HoldAlone, WithPlatter, WithPrinter, Reach, device_objects, objects_reached, part_objects, terminal_objects, text_objects, variable_objects}
+use Rattle.b2_access.specs.Reach.{DevicePart, DeviceReach, HoldFreed, HoldTaken, WithPlatter, WithPrinter, Reach, device_objects, objects_reached, part_objects, terminal_objects, text_objects, variable_objects}
 use Rattle.b2_access.specs.Store.{StoreState}
 use Rattle.b2_access.specs.declared.accesses.Access.{Access}
 use Rattle.b2_access.specs.declared.devices.Device.{Device}
@@ -54,7 +54,8 @@ module _ (listed : List (List ℕ)) where
   table = map platter_device listed
 
   address_listed : (who : ℕ) (a : List ℕ) (part : DevicePart) → is_listed_for who a part table ≡ true → Contains listed a
-  address_listed who a HoldAlone is = either_listed a listed (is_platter_for who a table) (is_printer_for who a table) is (in_table false who a listed) (in_table true who a listed)
+  address_listed who a HoldTaken is = either_listed a listed (is_platter_for who a table) (is_printer_for who a table) is (in_table false who a listed) (in_table true who a listed)
+  address_listed who a HoldFreed is = either_listed a listed (is_platter_for who a table) (is_printer_for who a table) is (in_table false who a listed) (in_table true who a listed)
   address_listed who a WithPlatter is = in_table false who a listed is
   address_listed who a WithPrinter is = in_table true who a listed is
 
@@ -103,7 +104,8 @@ module _ (listed : List (List ℕ)) where
   with_hog d os there rest = more (object.Hog d) os (of_one (object.Hog d) d refl there) rest
 
   part_fine : (d : List ℕ) (part : DevicePart) → Contains listed d → AreFine (part_objects d part)
-  part_fine d HoldAlone there = with_hog d [] there none_fine
+  part_fine d HoldTaken there = with_hog d [] there none_fine
+  part_fine d HoldFreed there = with_hog d [] there none_fine
   part_fine d WithPlatter there = with_hog d (object.Platter d ∷ []) there (more (object.Platter d) [] (of_one (object.Platter d) d refl there) none_fine)
   part_fine d WithPrinter there = with_hog d (object.Printer d ∷ []) there (more (object.Printer d) [] (of_one (object.Printer d) d refl there) none_fine)
 

@@ -40,13 +40,14 @@ pub record HasDevices (b : BootState) : Type 0 where
   pub few : length b.platters ≤ 12
   pub distinct : are_distinct (addresses b) ≡ true
 
--- empty texts, nobody inside, no `@` variables, idle terminals, the platters with their images, and nobody who holds one
+-- empty texts, nobody inside, no `@` variables, idle terminals, no printers, the platters with their images, and nobody who holds one
 abbrev pub store_booted : BootState → Images → StoreState
 store_booted b images = record {
   texts = map text_row (map areas_of b.partitions);
   borrows = map borrow_row (map areas_of b.partitions);
   globals = map globals_row (map areas_of b.partitions);
   terminals = map idle_row (map front_of_boot b.terminals);
+  printers = [];
   platters = with_keys (addresses b) images;
   hogs = map free_row (addresses b);
 }

@@ -63,6 +63,7 @@ impl World {
         let start = StoreBoot {
             partitions: areas_of(alloc, &b.partitions)?,
             terminals: fronts_of(alloc, &b.terminals)?,
+            printers: Vec::new(alloc),
             platters: addresses,
         };
         let stores = Stores::new(alloc, &start, platters)?;

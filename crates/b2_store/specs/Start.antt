@@ -1,5 +1,6 @@
--- A store as it starts: empty texts, nobody inside, no `@` variables, idle terminals, the platters of the boot, and nobody who holds one.
-use Rattle.std.specs.Prelude.{ℕ, List, [], ◌∷◌, map, Option, None}
+-- A store as it starts: empty texts, nobody inside, no `@` variables, idle terminals, printers that printed nothing, the platters of
+-- the boot, and nobody who holds a device.
+use Rattle.std.specs.Prelude.{ℕ, List, [], ◌∷◌, ◌++◌, map, Option, None}
 use Rattle.b2_text.specs.Program.{TextState}
 use Rattle.b2_vars.specs.Tables.{VarsState}
 use Rattle.b2_term.specs.Terminal.{TerminalState}
@@ -30,6 +31,10 @@ with_keys [] xs = []
 with_keys (k ∷ ks) [] = []
 with_keys (k ∷ ks) (x ∷ xs) = (k, x) ∷ with_keys ks xs
 
+-- a printer that printed nothing
+abbrev pub blank_row : List ℕ → List ℕ × List ℕ
+blank_row address = (address, [])
+
 -- a device that nobody holds
 abbrev pub free_row : List ℕ → List ℕ × Option ℕ
 free_row address = (address, None)
@@ -40,6 +45,7 @@ store_at_start b images = record {
   borrows = map borrow_row b.partitions.items;
   globals = map globals_row b.partitions.items;
   terminals = map idle_row b.terminals.items;
+  printers = map blank_row b.printers.items;
   platters = with_keys b.platters.items images;
-  hogs = map free_row b.platters.items;
+  hogs = map free_row b.printers.items ++ map free_row b.platters.items;
 }

@@ -2,10 +2,11 @@
 use b2_base::{Addr, Part, Term};
 
 /// What a store starts with: each partition with the areas of its text and of its `@` variables, and each terminal with the
-/// partition in front of it, both ascending by number; and the addresses of its platters, ascending.
+/// partition in front of it, both ascending by number; and the addresses of its printers and those of its platters, both ascending.
 #[derive(Drop)]
 pub struct StoreBoot {
     pub partitions: Vec<(Part, usize, usize)>,
     pub terminals: Vec<(Term, Part)>,
+    pub printers: Vec<Addr>,
     pub platters: Vec<Addr>,
 }

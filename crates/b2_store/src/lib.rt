@@ -1,4 +1,5 @@
-//! The store that all partitions share: program texts, `@` variables, terminals, and platters with who holds each.
+//! The store that all partitions share: program texts, `@` variables, terminals, printers, and platters, with who holds each
+//! device.
 //!
 //! `Stores` is a store as definitions see it, kept as rows by the numbers of partitions and terminals and the addresses of
 //! devices, and serves the accesses of partitions as `b2_access` defines it. It lends texts by reference. Until names of global
@@ -14,6 +15,7 @@ mod boot;
 mod data_files;
 mod disks;
 mod part_list;
+mod printer;
 mod programs;
 mod rows;
 mod start;
@@ -21,5 +23,6 @@ mod stores;
 mod two_rows;
 
 pub use boot::StoreBoot;
+pub use printer::Printer;
 pub use rows::{Key, Rows};
 pub use stores::Stores;

@@ -1,8 +1,9 @@
 // The rows of a store as it starts.
-ghost use Rattle.std.specs.Prelude.{◌≡◌, IfOk, length, map};
-ghost use Rattle.b2_store.specs.Start.{text_row, borrow_row, globals_row, idle_row, free_row, with_keys};
+ghost use Rattle.std.specs.Prelude.{◌≡◌, ◌++◌, IfOk, OnOk, length, map};
+ghost use Rattle.b2_store.specs.Start.{text_row, borrow_row, globals_row, idle_row, blank_row, free_row, with_keys};
 
 use crate::part_list::PartList;
+use crate::printer::Printer;
 use crate::rows::Rows;
 use b2_base::{Addr, NoMemory, Part, Term};
 use b2_platter::Platter;
@@ -84,13 +85,37 @@ pub fn platters_of(
     Ok(rows)
 }
 
-/// Nobody who holds each device.
-pub fn holders_of(alloc: Global, addresses: &[Addr]) -> Result<Rows<Addr, Option<Part>>, NoMemory>
-    ensures { IfOk result (λ rows. rows ≡ map free_row addresses.now) }
+/// A printer that printed nothing at each address.
+pub fn printers_of(alloc: Global, addresses: &[Addr]) -> Result<Rows<Addr, Printer>, NoMemory>
+    ensures { IfOk result (λ rows. rows ≡ map blank_row addresses.now) }
 {
     let mut rows = Rows::new(alloc);
     for address in addresses {
+        rows.add(*address, Printer::new(alloc))?;
+    }
+    Ok(rows)
+}
+
+/// Adds devices that nobody holds.
+fn add_free(rows: &mut Rows<Addr, Option<Part>>, addresses: &[Addr]) -> Result<(), NoMemory>
+    ensures { OnOk result (rows.new ≡ rows.old ++ map free_row addresses.now) }
+{
+    for address in addresses {
         rows.add(*address, None)?;
     }
+    Ok(())
+}
+
+/// Nobody who holds each printer and each platter.
+pub fn holders_of(
+    alloc: Global,
+    printers: &[Addr],
+    platters: &[Addr],
+) -> Result<Rows<Addr, Option<Part>>, NoMemory>
+    ensures { IfOk result (λ rows. rows ≡ map free_row printers.now ++ map free_row platters.now) }
+{
+    let mut rows = Rows::new(alloc);
+    add_free(&mut rows, printers)?;
+    add_free(&mut rows, platters)?;
     Ok(rows)
 }

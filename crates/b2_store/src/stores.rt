@@ -1,13 +1,14 @@
 // The store: its rows, what stops an access, and how each is served and what is lent.
 ghost use Rattle.std.specs.Prelude.{◌≡◌, ◌≢◌, ◌≤◌, ℕ, true, length, List, [], ◌∷◌, Option, Some, None, IfOk, IfErr, option_copied};
 ghost use Rattle.std.specs.List.{list_all};
-ghost use Rattle.b2_access.specs.AccessRows.{line_answer, key_answer};
-ghost use Rattle.b2_access.specs.Reach.{disks_of, reach_of};
+ghost use Rattle.b2_access.specs.AccessRows.{reach, line_answer, key_answer, is_held_by};
+ghost use Rattle.b2_access.specs.Reach.{to_take};
 ghost use Rattle.b2_access.specs.Stopping as stopping;
-ghost use Rattle.b2_access.specs.Store.{content};
+ghost use Rattle.b2_access.specs.Store.{content, put};
 ghost use Rattle.b2_access.specs.Touching.{IsLegal, MayWantMemory, is_short};
 ghost use Rattle.b2_store.specs.Asked.{moving};
 ghost use Rattle.b2_store.specs.Changes.{keyed_at, front_at, room_at};
+ghost use Rattle.b2_store.specs.Holders.{all_held, own_among};
 ghost use Rattle.b2_store.specs.Refusals.{IsRefusal, made_answer};
 ghost use Rattle.b2_store.specs.Start.{store_at_start};
 
@@ -18,12 +19,17 @@ use crate::data_files::{
 };
 use crate::disks::{format_disk, limits_answer, scratch_file};
 use crate::part_list::PartList;
+use crate::printer::Printer;
 use crate::programs::{load_text, save_text};
 use crate::rows::Rows;
-use crate::start::{borrows_of, globals_of, holders_of, platters_of, terminals_of, texts_of};
-use b2_access::{Access, Answer, At, Lent, Object, Reached, Shared, TextUse, reached_by};
+use crate::start::{
+    borrows_of, globals_of, holders_of, platters_of, printers_of, terminals_of, texts_of,
+};
+use b2_access::{
+    Access, Answer, At, Devices, Lent, Object, Shared, TextUse, devices_reached, reached_by,
+};
 use b2_atom::Atoms;
-use b2_base::{Addr, By, ByteList, Code, Fault, Name8, NoMemory, Part, Slot, Term};
+use b2_base::{Addr, AddrList, By, ByteList, Code, Fault, Name8, NoMemory, Part, Slot, Term};
 use b2_catalog::listing;
 use b2_dec::{Kind, Value};
 use b2_platter::Platter;
@@ -41,6 +47,7 @@ pub struct Stores {
     borrows: Rows<Part, PartList>,
     globals: Rows<Part, Vars>,
     terminals: Rows<Term, Terminal>,
+    printers: Rows<Addr, Printer>,
     platters: Rows<Addr, Platter>,
     // Who holds each device.
     hogs: Rows<Addr, Option<Part>>,
@@ -114,8 +121,8 @@ fn made_answer(made: Result<(), Code>) -> Answer
 impl Stores {
     ghost use Rattle.b2_store.specs.Meaning.{store_of, Does};
 
-    /// The store of a boot: empty texts, no `@` variables, idle terminals, and these platters, one for each address of the boot, in its
-    /// order. Nobody holds one.
+    /// The store of a boot: empty texts, no `@` variables, idle terminals, printers that printed nothing, and these platters, one for each
+    /// address of the boot, in its order. Nobody holds a device.
     pub fn new(alloc: Global, b: &StoreBoot, platters: Vec<Platter>) -> Result<Stores, NoMemory>
         requires as_many { length b.now.platters.items ≡ length platters.items }
         ensures at_start { IfOk result (λ s. store_of s ≡ store_at_start b.now platters.items) }
@@ -126,8 +133,9 @@ impl Stores {
             borrows: borrows_of(alloc, &b.partitions)?,
             globals: globals_of(alloc, &b.partitions)?,
             terminals: terminals_of(alloc, &b.terminals)?,
+            printers: printers_of(alloc, &b.printers)?,
             platters: platters_of(alloc, &b.platters, platters)?,
-            hogs: holders_of(alloc, &b.platters)?,
+            hogs: holders_of(alloc, &b.printers, &b.platters)?,
             spare: Vars::new(alloc, 0)?,
         })
     }
@@ -137,6 +145,16 @@ impl Stores {
         ensures listed { option_copied result ≡ content (store_of self.now) (Object.Terminal t) }
     {
         self.terminals.get(t)
+    }
+
+    /// The bytes that a printer printed, None exactly where its address isn't listed.
+    pub fn printer(&self, a: Addr) -> Option<&[u8]>
+        ensures listed { option_copied result ≡ content (store_of self.now) (Object.Printer a) }
+    {
+        match self.printers.get(a) {
+            Some(printer) => Some(printer.printed()),
+            None => None,
+        }
     }
 
     /// A platter, None exactly where its address isn't listed.
@@ -177,35 +195,41 @@ impl Stores {
     }
 
     /// The partition that holds a device, where it is another.
-    fn other_holder(&self, who: Part, device: Option<Addr>) -> Option<Part>
-        ensures { result ≡ stopping.first_other who (stopping.holders (disks_of device) (store_of self.now)) }
+    fn other_holder(&self, who: Part, device: Addr) -> Option<Part>
+        ensures { result ≡ stopping.first_other who (stopping.holding (content (store_of self.now) (Object.Hog device))) }
     {
-        match self.hogs.get(device?) {
+        match self.hogs.get(device) {
             Some(Some(holder)) => other(who, *holder),
             _ => None,
         }
     }
 
-    /// The first of those who hold the devices, where it is another.
-    #[tactic(auto, using(crate::proofs::Firsts::first_of_disks))]
-    fn other_holding(&self, who: Part, reached: &Reached) -> Option<Part>
-        ensures { result ≡ stopping.first_other who (stopping.holders (reach_of reached.now).devices (store_of self.now)) }
+    /// The first of those who hold devices that are to be taken, where it is another.
+    #[tactic(auto, using(crate::proofs::Firsts::first_of_both))]
+    fn other_among(&self, who: Part, devices: &[Addr]) -> Option<Part>
+        ensures { result ≡ stopping.first_other who (stopping.holders (to_take devices.now).devices (store_of self.now)) }
     {
-        match self.other_holder(who, reached.disk) {
-            Some(q) => Some(q),
-            None => self.other_holder(who, reached.other_disk),
+        for device in devices {
+            if let Some(q) = self.other_holder(who, *device) {
+                return Some(q);
+            }
         }
+        None
     }
 
-    /// The first partition that is another, of those who come first at what is reached: the one in front of the terminal, and then those
-    /// who hold the devices.
-    #[tactic(auto, using(crate::proofs::Firsts::first_of_both))]
-    fn first_other(&self, who: Part, reached: &Reached) -> Option<Part>
-        ensures { result ≡ stopping.first_other who (stopping.first_there (reach_of reached.now) (store_of self.now)) }
+    /// The first of those who hold the devices that an access reaches, where it is another; nobody comes before one who frees some.
+    #[tactic(auto, using(crate::proofs::Firsts::first_of_one, crate::proofs::Firsts::first_of_two, crate::proofs::Firsts::first_of_freed))]
+    fn other_holding(&self, who: Part, access: &Access) -> Option<Part>
+        ensures { result ≡ stopping.first_other who (stopping.holders (reach access.now).devices (store_of self.now)) }
     {
-        match self.other_in_front(who, reached.terminal) {
-            Some(q) => Some(q),
-            None => self.other_holding(who, reached),
+        match devices_reached(access) {
+            Devices::NoDevice | Devices::Freed(_) => None,
+            Devices::Disk(a) | Devices::Printer(a) => self.other_holder(who, a),
+            Devices::TwoDisks(from, to) => match self.other_holder(who, from) {
+                Some(q) => Some(q),
+                None => self.other_holder(who, to),
+            },
+            Devices::Taken(addresses) => self.other_among(who, addresses),
         }
     }
 
@@ -222,14 +246,18 @@ impl Stores {
         }
     }
 
-    /// What stops an access that reaches so far. It is tested here alone, before anything is done.
-    fn stop(&self, who: Part, reached: &Reached) -> Option<Answer>
-        ensures { result ≡ stopping.stop who (reach_of reached.now) (store_of self.now) }
+    /// What stops an access: the first partition that is another, of those who come first at what it reaches, the one in front of the
+    /// terminal and then those who hold the devices; or one that stands inside the text. It is tested here alone, before anything is done.
+    #[tactic(auto, using(crate::proofs::Firsts::first_of_both))]
+    fn stop(&self, who: Part, access: &Access) -> Option<Answer>
+        ensures { result ≡ stopping.stop who (reach access.now) (store_of self.now) }
     {
-        stop_by(
-            self.first_other(who, reached),
-            self.inside_edited(who, reached.text),
-        )
+        let reached = reached_by(access);
+        let first = match self.other_in_front(who, reached.terminal) {
+            Some(q) => Some(q),
+            None => self.other_holding(who, access),
+        };
+        stop_by(first, self.inside_edited(who, reached.text))
     }
 
     /// Shows bytes at a terminal.
@@ -240,6 +268,86 @@ impl Stores {
             terminal.show(bytes)?;
         }
         Ok(Answer::Done)
+    }
+
+    /// Prints bytes at a printer.
+    fn print(&mut self, addr: Addr, bytes: &[u8]) -> Result<Answer, NoMemory>
+        ensures { (who column : ℕ) → IfOk result (Does who (Access.PrintTo addr bytes.now column) self.old self.new) }
+    {
+        if let Some(printer) = self.printers.get_mut(addr) {
+            printer.print(bytes)?;
+        }
+        Ok(Answer::Done)
+    }
+
+    /// A device has another holder, where it is listed.
+    #[tactic(auto, using(crate::proofs::Same::with_none))]
+    fn set_holder(&mut self, addr: Addr, holder: Option<Part>)
+        ensures { store_of self.new ≡ put (Object.Hog addr) holder (store_of self.old) }
+    {
+        if let Some(row) = self.hogs.get_mut(addr) {
+            *row = holder;
+        }
+    }
+
+    /// A partition holds each of some devices.
+    fn hold_each(&mut self, addrs: &[Addr], holder: Part)
+        ensures { store_of self.new ≡ all_held (Some holder) addrs.now (store_of self.old) }
+    {
+        for addr in addrs {
+            self.set_holder(*addr, Some(holder));
+        }
+    }
+
+    /// Nobody holds each of some devices.
+    fn free_each(&mut self, addrs: &[Addr])
+        ensures { store_of self.new ≡ all_held None addrs.now (store_of self.old) }
+    {
+        for addr in addrs {
+            self.set_holder(*addr, None);
+        }
+    }
+
+    /// Takes devices.
+    #[tactic(auto, using(crate::proofs::Holders::taken))]
+    fn open_devices(&mut self, who: Part, addrs: &AddrList) -> Answer
+        ensures { Does who (Access.OpenDevices addrs.now) self.old self.new result }
+    {
+        self.hold_each(addrs.addresses(), who);
+        Answer::Done
+    }
+
+    /// Whether a partition holds a device.
+    fn is_held_by(&self, who: Part, addr: Addr) -> bool
+        ensures { result ≡ is_held_by who (content (store_of self.now) (Object.Hog addr)) }
+    {
+        match self.hogs.get(addr) {
+            Some(Some(holder)) => *holder == who,
+            _ => false,
+        }
+    }
+
+    /// Those of some devices that a partition holds.
+    fn own_among(&self, who: Part, addrs: &AddrList) -> AddrList
+        ensures { result ≡ own_among who addrs.now (store_of self.now) }
+    {
+        let mut own = AddrList::new();
+        for addr in addrs.addresses() {
+            if self.is_held_by(who, *addr) {
+                own.push(*addr);
+            }
+        }
+        own
+    }
+
+    /// Frees those of some devices that the partition holds.
+    #[tactic(auto, using(crate::proofs::Holders::freed))]
+    fn close_devices(&mut self, who: Part, addrs: &AddrList) -> Answer
+        ensures { Does who (Access.CloseDevices addrs.now) self.old self.new result }
+    {
+        let own = self.own_among(who, addrs);
+        self.free_each(own.addresses());
+        Answer::Done
     }
 
     /// Reads a line from a terminal.
@@ -499,6 +607,9 @@ impl Stores {
     {
         match access {
             Access::Show { term, bytes, .. } => self.show(*term, bytes.bytes()),
+            Access::PrintTo { addr, bytes, .. } => self.print(*addr, bytes.bytes()),
+            Access::OpenDevices { addrs } => Ok(self.open_devices(who, addrs)),
+            Access::CloseDevices { addrs } => Ok(self.close_devices(who, addrs)),
             Access::ReadLine { term } => self.read_line(*term),
             Access::Insert { term, bytes } => self.insert(*term, bytes.bytes()),
             Access::Key { term } => Ok(self.take_key(*term)),
@@ -580,7 +691,7 @@ impl Shared for Stores {
     }
 
     fn serve(&mut self, who: Part, access: &Access) -> Result<Answer, NoMemory> {
-        match self.stop(who, &reached_by(access)) {
+        match self.stop(who, access) {
             Some(answer) => Ok(answer),
             None => self.perform(who, access),
         }

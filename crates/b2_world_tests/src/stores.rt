@@ -63,6 +63,7 @@ fn four_partitions(alloc: Global, platter: Platter) -> Result<Stores, NoMemory>
     let start = StoreBoot {
         partitions,
         terminals,
+        printers: Vec::new(alloc),
         platters: addresses,
     };
     Stores::new(alloc, &start, platters)

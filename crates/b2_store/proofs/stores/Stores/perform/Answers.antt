@@ -41,3 +41,9 @@ returns-in-DataSave-clause-done c =
 
 pub returns-in-DataEnd-clause-done : goal.returns-in-DataEnd-clause-done
 returns-in-DataEnd-clause-done c = subst (λ a. Does c.args.who a c.args.self.now c.data_end.new.self c.data_end.result) (sym c.in-DataEnd.is) (c.data_end.ensures c.args.who)
+
+pub returns-in-OpenDevices-clause-done : goal.returns-in-OpenDevices-clause-done
+returns-in-OpenDevices-clause-done c = subst (λ a. Does c.args.who a c.args.self.now c.open_devices.new.self c.open_devices.result) (sym c.in-OpenDevices.is) c.open_devices.ensures
+
+pub returns-in-CloseDevices-clause-done : goal.returns-in-CloseDevices-clause-done
+returns-in-CloseDevices-clause-done c = subst (λ a. Does c.args.who a c.args.self.now c.close_devices.new.self c.close_devices.result) (sym c.in-CloseDevices.is) c.close_devices.ensures
