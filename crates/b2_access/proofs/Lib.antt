@@ -4,6 +4,7 @@ pub mod Told
 pub mod Locality
 pub mod Causes
 pub mod Delays
+pub mod Fitting
 pub mod Held
 pub mod Statements
 pub mod Homes

@@ -4,3 +4,9 @@ pub mod TwoRows
 pub mod Moves
 pub mod DiskCalls
 pub mod Firsts
+pub mod Answered
+pub mod Served
+pub mod Records
+pub mod Kept
+pub mod Made
+pub mod Others
