@@ -24,9 +24,10 @@ use Rattle.b2_record.proofs.Unique.{record-length}
 use Rattle.b2_datafile.specs.Files.{IsEndOfRecords, IsFront, end_mark, with_end}
 use Rattle.b2_datafile.specs.Laws.{EndsAt, SavesAt}
 use Rattle.b2_datafile.specs.Loading.{LoadsRecord, values_loaded}
+use Rattle.b2_datafile.specs.Moving.{Moves}
 use Rattle.b2_datafile.specs.Slots.{file_of, open_file, write_refusal}
 use Rattle.b2_datafile.proofs.Fronts.{fills-more}
-use Rattle.b2_datafile.proofs.FromFunctions.{some-loaded}
+use Rattle.b2_datafile.proofs.FromFunctions.{place-goes, some-loaded}
 use Rattle.b2_datafile.proofs.Functions.{record-loaded}
 use Rattle.b2_datafile.proofs.Passing.{some-groups}
 use Rattle.b2_datafile.proofs.Saved.{saved, saved-files, saved-front, with_end-files, with_end-good, with_end-whole}
@@ -39,8 +40,8 @@ use Rattle.b2_access.specs.Stopping.{first_other, first_there, inside_edited}
 use Rattle.b2_access.specs.Store.{StoreState}
 use Rattle.b2_access.specs.Touching as touching
 use Rattle.b2_access.proofs.RowLaws.{nobody_first}
-use Rattle.b2_store.specs.Files.{EndedFilesAreWhole, FollowsWith, HasFile, LoadedRecordsFollow, Opens, SavedRecordsFollow}
-use Rattle.b2_store.specs.FileWork.{file_ended, loaded_or, record_loaded, record_saved}
+use Rattle.b2_store.specs.Files.{EndedFilesAreWhole, FollowsWith, HasFile, LoadedRecordsFollow, MovedPlacesGoOver, Opens, SavedRecordsFollow}
+use Rattle.b2_store.specs.FileWork.{file_ended, loaded_or, place_skipped, record_loaded, record_saved}
 use Rattle.b2_store.proofs.Answered.{end-told, loaded-is, save-told}
 use Rattle.b2_store.proofs.Served.{changed-by, found-by, told-by}
 
@@ -194,3 +195,12 @@ loaded-follow who slot kinds asked to s e image records opens file front nobody 
           let given = record-loaded image slot kinds e asked to is (no-end image e slot.pos kinds asked to next.0) next.0 in
           told-by s slot.addr image file.there answer.AtEnd loaded_answer (record_loaded slot kinds) (Some (record { values = asked; place = to })) first ((nobody_first who (first_there (row a).reach s)).1 nobody) (ap loaded_or given)),
     )
+
+-- ---- a place that is moved
+
+pub moved-over : MovedPlacesGoOver
+moved-over who slot way to s e image opens file told =
+    let a = access.Skip slot way in
+    let f = found-by s slot.addr image file.there (answer.Moved slot.pos) answer.Moved (place_skipped slot way) (first_other who (first_there (row a).reach s)) (inside_edited who (row a).reach.text s) (ap stops told) in
+    let m = place-goes image slot way to (f.is ∙ ap Ok (same-place f.found to (sym f.told ∙ told))) in
+    subst (λ (x : Entry). Moves image x slot.pos way to) (same-entry (file_of image slot) e m.0 (file-open s slot e image opens file) m.1) m.2

@@ -2,6 +2,7 @@
 use Rattle.std.specs.Prelude.{◌≡◌, ◌↔◌, ◌≤◌, ◌+◌, ◌-◌, ◌⊎◌, ℕ, true, false, List, [], ◌∷◌, ◌++◌, length, Option, Some}
 use Rattle.std.specs.FinMap.{get}
 use Rattle.b2_base.specs.Names.{is_name8}
+use Rattle.b2_base.specs.declared.files.By.{By}
 use Rattle.b2_base.specs.declared.files.Slot.{Slot}
 use Rattle.b2_dec.specs.declared.values.Kind.{Kind}
 use Rattle.b2_dec.specs.declared.values.Value.{Value}
@@ -13,6 +14,7 @@ use Rattle.b2_catalog.specs.Catalogue.{catalogue}
 use Rattle.b2_record.specs.Items.{AllStorable}
 use Rattle.b2_datafile.specs.Files.{IsFront, IsWhole}
 use Rattle.b2_datafile.specs.Loading.{LoadsRecord}
+use Rattle.b2_datafile.specs.Moving.{Moves}
 use Rattle.b2_datafile.specs.Slots.{opened}
 use Rattle.b2_access.specs.declared.accesses.Access.{Access}
 use Rattle.b2_access.specs.declared.accesses.Access.TheVariants as access
@@ -83,6 +85,12 @@ LoadedRecordsFollow =
     (who : ℕ) (slot : Slot) (kinds : List Kind) (asked : List Value) (to : ℕ) (s : StoreState) (e : Entry) (image : List ℕ) (records : List (List Value))
     → Opens slot e → HasFile s slot.addr e image → IsFront image e slot.pos records → NobodyComesFirst s who (access.DataLoad slot kinds)
     → ((serves s who (access.DataLoad slot kinds)).answer ≡ answer.Values asked to) ↔ FollowsWith image e slot.pos records kinds asked to
+
+-- A place that is moved goes over the records that stand there.
+abbrev pub MovedPlacesGoOver : Type 0
+MovedPlacesGoOver =
+    (who : ℕ) (slot : Slot) (way : By) (to : ℕ) (s : StoreState) (e : Entry) (image : List ℕ)
+    → Opens slot e → HasFile s slot.addr e image → (serves s who (access.Skip slot way)).answer ≡ answer.Moved to → Moves image e slot.pos way to
 
 -- A data file that is made has no records.
 abbrev pub MadeFilesAreEmpty : Type 0

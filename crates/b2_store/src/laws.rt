@@ -4,7 +4,7 @@ ghost use Rattle.b2_platter.specs.Checks.{Good};
 ghost use Rattle.b2_access.specs.Fitting.{AnswersFit};
 ghost use Rattle.b2_access.specs.Serving.{itself};
 ghost use Rattle.b2_store.specs.DiskWork.{serves};
-ghost use Rattle.b2_store.specs.Files.{EndedFilesAreWhole, LoadedRecordsFollow, MadeFilesAreEmpty, OtherFilesStay, OtherRecordsStay, SavedRecordsFollow};
+ghost use Rattle.b2_store.specs.Files.{EndedFilesAreWhole, LoadedRecordsFollow, MadeFilesAreEmpty, MovedPlacesGoOver, OtherFilesStay, OtherRecordsStay, SavedRecordsFollow};
 
 /// What is answered fits what was asked: a file that is opened stands on the disk that was asked for, no place is before the first
 /// sector of its file, and values are as many as were asked and of the asked kinds.
@@ -25,6 +25,11 @@ pub fn law_an_ended_file_is_whole()
 /// Values are loaded exactly where a record stands that has them first: as many as are asked, of the asked kinds.
 pub fn law_loaded_values_are_first()
     ensures { LoadedRecordsFollow }
+{}
+
+/// A place that is moved goes over the records that stand there.
+pub fn law_a_moved_place_goes_over_records()
+    ensures { MovedPlacesGoOver }
 {}
 
 /// A data file that is made has no records.
