@@ -5,6 +5,7 @@ pub mod Locality
 pub mod Causes
 pub mod Delays
 pub mod Holders
+pub mod Fitting
 pub mod Held
 pub mod Statements
 pub mod Homes

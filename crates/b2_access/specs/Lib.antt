@@ -11,6 +11,7 @@ pub mod Disks
 pub mod AccessRows
 pub mod Touching
 pub mod Sharing
+pub mod Fitting
 pub mod Loans
 pub mod Stopping
 pub mod Serving
@@ -32,6 +33,7 @@ pub mod Homes
 pub mod Keeping
 pub mod OwnTerminal
 pub mod OwnDevices
+pub mod OpenFiles
 pub mod Waiting
 pub mod LeftAlone
 pub mod Working

@@ -18,6 +18,7 @@ pub mod Planned
 pub mod HomesKept
 pub mod KeptPlaces
 pub mod Waits
+pub mod OpenFiles
 pub mod LeftAlone
 pub mod Listed
 pub mod Legal

@@ -2,6 +2,7 @@
 use Rattle.std.specs.Prelude.{List}
 use Rattle.b2_access.specs.LegalPlans.{PlansLegally}
 use Rattle.b2_access.specs.LeftAlone.{LeaveTheRest}
+use Rattle.b2_access.specs.OpenFiles.{FinishesKeepOpenFiles, PlansKeepOpenFiles}
 use Rattle.b2_access.specs.OwnDevices.{PlansListed}
 use Rattle.b2_access.specs.declared.devices.Device.{Device}
 use Rattle.b2_stmt_file.specs.Plan.{finish, plan}
@@ -17,3 +18,7 @@ AskedDevicesAreListed = PlansListed plan
 -- and what it asks for may be asked for
 abbrev pub StatementsPlanLegally : Type 0
 StatementsPlanLegally = (devices : List Device) → PlansLegally (plan devices)
+
+-- where the open files of a partition are on platters that are listed for it, at their first sectors or after them, they stay so
+abbrev pub OpenFilesStayOpen : Type 0
+OpenFilesStayOpen = PlansKeepOpenFiles plan × FinishesKeepOpenFiles finish

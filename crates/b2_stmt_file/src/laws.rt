@@ -1,5 +1,5 @@
 //! What holds of statements on data files, whatever they are: the contracts of functions without a body.
-ghost use Rattle.b2_stmt_file.specs.Laws.{AskedDevicesAreListed, StatementsLeaveTheRest, StatementsPlanLegally};
+ghost use Rattle.b2_stmt_file.specs.Laws.{AskedDevicesAreListed, OpenFilesStayOpen, StatementsLeaveTheRest, StatementsPlanLegally};
 
 /// A statement, as it plans over any devices and as it finishes, names no partition as a home, in a place, in a frame, where it
 /// leads or in what it asks for, but its own and those that were named before. It leaves the place of the partition, which moves
@@ -17,4 +17,10 @@ pub fn asked_devices_are_listed()
 /// What a statement asks for may be asked for.
 pub fn what_is_asked_is_legal()
     ensures { StatementsPlanLegally }
+{}
+
+/// Where each file that the partition has open is on a platter that the table lists for it, and its place isn't before its first
+/// sector, that is so after a statement has planned, and after it has finished by an answer that fits an access to what is listed.
+pub fn open_files_stay_open()
+    ensures { OpenFilesStayOpen }
 {}

@@ -5,3 +5,9 @@ pub mod Moves
 pub mod DiskCalls
 pub mod Firsts
 pub mod Holders
+pub mod Answered
+pub mod Served
+pub mod Records
+pub mod Kept
+pub mod Made
+pub mod Others

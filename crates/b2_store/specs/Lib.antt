@@ -8,3 +8,4 @@ pub mod Refusals
 pub mod FileWork
 pub mod TwoRows
 pub mod DiskWork
+pub mod Files

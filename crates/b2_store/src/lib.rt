@@ -8,12 +8,14 @@
 //! Stands on `b2_access` for what a store, its serving and its loans are, on `b2_text`, `b2_vars`, `b2_term` and `b2_platter`
 //! for what objects have, on `b2_catalog` for what a disk does, on `b2_atom` for lines and on `b2_base`. The definitions are in
 //! `specs/`: the store that `Stores` means in `Meaning`, how it starts in `Start`, what keys and fronts change in `Changes`, and
-//! what disks do to an image in `DiskWork`.
+//! what disks do to an image in `DiskWork`. What becomes of files on its platters (`Files`), and that each answer fits what was asked,
+//! stands in `laws`.
 #![tactic(auto)]
 
 mod boot;
 mod data_files;
 mod disks;
+pub mod laws;
 mod part_list;
 mod printer;
 mod programs;
