@@ -1,5 +1,5 @@
 // The image of PACK.
-ghost use Rattle.std.specs.Prelude.{◌≡◌, ◌<◌, ◌≤◌, IfSome};
+ghost use Rattle.std.specs.Prelude.{◌≡◌, ◌<◌, ◌≤◌, IfSome, is_some};
 ghost use Rattle.b2_pack.specs.Images as spec;
 
 use crate::rows::{Row, SignNibble};
@@ -43,4 +43,11 @@ pub(crate) fn image_row(text: &[u8]) -> Option<Row>
         digits: (whole + decimals) as u16,
         decimals: decimals as u8,
     })
+}
+
+/// Whether bytes are an image of PACK.
+pub fn is_image(text: &[u8]) -> bool
+    ensures { result ≡ is_some (spec.image_row text.now) }
+{
+    image_row(text).is_some()
 }

@@ -19,10 +19,12 @@ mod rows;
 mod specification;
 mod unpacking;
 
+pub use image::is_image;
 pub use laws::{
     law_fields_keep_values, law_images_are_read, law_rows_keep_numbers,
     law_rows_side_by_side_keep_numbers, law_there_is_one_way_to_pack,
     law_unpacking_gives_what_was_packed, law_written_pairs_are_read,
 };
-pub use packing::{fields, pack};
+pub use packing::{check_fields, check_pack, fields, pack};
+pub use specification::is_specification;
 pub use unpacking::{unfields, unpack};

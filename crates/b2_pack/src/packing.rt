@@ -92,6 +92,16 @@ fn put_values(text: &[u8], values: &[Value], to: &mut [u8])
     }
 }
 
+/// The code with which `fields` packs values into a buffer of so many bytes, if it has one.
+pub fn check_fields(spec: &[u8], values: &[Value], room: usize) -> Result<(), Code>
+    ensures { result_err result ≡ packing.fields_code spec.now values.now room }
+{
+    if !is_specification(spec) {
+        return Err(Code::known(P58_SPECIFICATION));
+    }
+    check_values(spec, values, room)
+}
+
 /// Packs values into the fields of a specification, one in each, from the left.
 ///
 /// P58 where the bytes are no specification. Then, for each value from the left, X70 where it has no field or its field
@@ -139,6 +149,16 @@ fn put_numbers(row: Row, xs: &[Dec], to: &mut [u8])
     for x in xs {
         write_row(row, *x, &mut to[at..at + width]);
         at += width;
+    }
+}
+
+/// The code with which `pack` packs numbers into a buffer of so many bytes, if it has one.
+pub fn check_pack(image: &[u8], xs: &[Dec], room: usize) -> Result<(), Code>
+    ensures { result_err result ≡ packing.image_code (image_row image.now) xs.now room }
+{
+    match image_row(image) {
+        Some(row) => check_numbers(row, xs, room),
+        None => Err(Code::known(P58_SPECIFICATION)),
     }
 }
 

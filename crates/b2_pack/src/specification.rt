@@ -117,8 +117,8 @@ pub(crate) fn split_pair(text: &[u8]) -> Option<(Pair, &[u8])>
     }
 }
 
-/// Whether bytes are a specification.
-pub(crate) fn is_specification(text: &[u8]) -> bool
+/// Whether bytes are a specification of $PACK.
+pub fn is_specification(text: &[u8]) -> bool
     ensures { result ≡ spec.is_specification text.now }
 {
     let mut rest = text;

@@ -15,6 +15,7 @@ use Rattle.b2_stmt.specs.Plan as stmt
 use Rattle.b2_stmt_file.specs.Plan as stmt_file
 use Rattle.b2_stmt_io.specs.Plan as stmt_io
 use Rattle.b2_stmt_mat.specs.Plan as stmt_mat
+use Rattle.b2_stmt_pack.specs.Plan as stmt_pack
 use Rattle.b2_stmt_program.specs.Plan as stmt_program
 use Rattle.b2_stmt_var.specs.Plan as stmt_var
 use Rattle.b2_sched.specs.Choice.{family_of, is_at_once, plan, plan_by}
@@ -37,9 +38,10 @@ abbrev others_of : ℕ → Family
 others_of r =
     if stmt_io.is_built r then family.Terminal
     else (if stmt_mat.is_built r then family.Arrays
+    else (if stmt_pack.is_built r then family.Packed
     else (if stmt_file.is_built r then family.Files
     else (if stmt_program.is_built r then family.Programs
-    else family.Disks)))
+    else family.Disks))))
 
 variables : (r : ℕ) → stmt_var.is_built r ≡ true → family_of r ≡ family.Variables
 variables r is = of_first (stmt_var.is_built r) (stmt.is_built r) (others_of r) is

@@ -18,14 +18,16 @@ use Rattle.b2_stmt_io.specs.Plan as stmt_io
 use Rattle.b2_stmt_io.proofs.LeftAlone as stmt_io_laws
 use Rattle.b2_stmt_mat.specs.Plan as stmt_mat
 use Rattle.b2_stmt_mat.proofs.LeftAlone as stmt_mat_laws
+use Rattle.b2_stmt_pack.specs.Plan as stmt_pack
+use Rattle.b2_stmt_pack.proofs.LeftAlone as stmt_pack_laws
 use Rattle.b2_stmt_program.specs.Plan as stmt_program
 use Rattle.b2_stmt_program.proofs.LeftAlone as stmt_program_laws
 use Rattle.b2_stmt_program.proofs.Listed as stmt_program_listed
 use Rattle.b2_stmt_var.specs.Plan as stmt_var
 use Rattle.b2_stmt_var.proofs.LeftAlone as stmt_var_laws
 use Rattle.b2_sched.specs.Choice.{basic, family_of, finish_by, is_at_once, is_built, plan_by}
-use Rattle.b2_sched.specs.Legal.{arrays_legally, control_legally, disks_legally, files_legally, programs_legally, terminal_legally, variables_legally}
-use Rattle.b2_sched.specs.Listed.{arrays_listed, control_listed, terminal_listed, variables_listed}
+use Rattle.b2_sched.specs.Legal.{arrays_legally, control_legally, disks_legally, files_legally, packed_legally, programs_legally, terminal_legally, variables_legally}
+use Rattle.b2_sched.specs.Listed.{arrays_listed, control_listed, packed_listed, terminal_listed, variables_listed}
 use Rattle.b2_sched.specs.declared.choice.Family.{Family}
 use Rattle.b2_sched.specs.declared.choice.Family.TheVariants as family
 
@@ -34,6 +36,7 @@ plan_legally devices family.Variables = variables_legally
 plan_legally devices family.Control = control_legally
 plan_legally devices family.Terminal = terminal_legally
 plan_legally devices family.Arrays = arrays_legally
+plan_legally devices family.Packed = packed_legally
 plan_legally devices family.Files = files_legally devices
 plan_legally devices family.Programs = programs_legally devices
 plan_legally devices family.Disks = disks_legally devices
@@ -43,6 +46,7 @@ leave_the_rest devices family.Variables = stmt_var_laws.leave_the_rest
 leave_the_rest devices family.Control = stmt_laws.leave_the_rest
 leave_the_rest devices family.Terminal = stmt_io_laws.leave_the_rest
 leave_the_rest devices family.Arrays = stmt_mat_laws.leave_the_rest
+leave_the_rest devices family.Packed = stmt_pack_laws.leave_the_rest
 leave_the_rest devices family.Files = stmt_file_laws.leave_the_rest devices
 leave_the_rest devices family.Programs = stmt_program_laws.leave_the_rest devices
 leave_the_rest devices family.Disks = stmt_disk_laws.leave_the_rest devices
@@ -55,6 +59,7 @@ plan_listed family.Variables = variables_listed
 plan_listed family.Control = control_listed
 plan_listed family.Terminal = terminal_listed
 plan_listed family.Arrays = arrays_listed
+plan_listed family.Packed = packed_listed
 plan_listed family.Files = stmt_file_listed.asked_are_listed
 plan_listed family.Programs = stmt_program_listed.asked_are_listed
 plan_listed family.Disks = stmt_disk_listed.asked_are_listed
@@ -62,10 +67,10 @@ plan_listed family.Disks = stmt_disk_listed.asked_are_listed
 pub basic_asks_for_listed : AskForListed basic
 basic_asks_for_listed r = plan_listed (family_of r)
 
-built_by : (a b c d e f g h : Bool) → (a || (b && not c)) ≡ true → (a || b || d || e || f || g || h) ≡ true
-built_by true b c d e f g h is = refl
-built_by false true c d e f g h is = refl
-built_by false false c d e f g h is = absurd (true≢false (sym is))
+built_by : (a b c d e f g h i : Bool) → (a || (b && not c)) ≡ true → (a || b || d || e || f || g || h || i) ≡ true
+built_by true b c d e f g h i is = refl
+built_by false true c d e f g h i is = refl
+built_by false false c d e f g h i is = absurd (true≢false (sym is))
 
 pub at_once_is_built : (devices : List Device) (r : ℕ) → is_at_once r ≡ true → is_built r ≡ true
-at_once_is_built devices r is = built_by (stmt_var.is_built r) (stmt.is_built r) (asks_access r) (stmt_io.is_built r) (stmt_mat.is_built r) (stmt_file.is_built r) (stmt_program.is_built r) (stmt_disk.is_built r) is
+at_once_is_built devices r is = built_by (stmt_var.is_built r) (stmt.is_built r) (asks_access r) (stmt_io.is_built r) (stmt_mat.is_built r) (stmt_pack.is_built r) (stmt_file.is_built r) (stmt_program.is_built r) (stmt_disk.is_built r) is

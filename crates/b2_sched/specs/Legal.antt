@@ -17,6 +17,7 @@ use Rattle.b2_access.proofs.Working.{as_it_comes}
 use Rattle.b2_stmt.specs.Clearing.{asked_access, asks_to_erase}
 use Rattle.b2_stmt.specs.Plan as stmt
 use Rattle.b2_stmt_mat.specs.Plan as stmt_mat
+use Rattle.b2_stmt_pack.specs.Plan as stmt_pack
 use Rattle.b2_stmt_var.specs.Plan as stmt_var
 use Rattle.b2_stmt_disk.specs.Plan as stmt_disk
 use Rattle.b2_stmt_disk.proofs.Legal as stmt_disk_laws
@@ -66,6 +67,11 @@ variables_legally me s =
 pub arrays_legally : PlansLegally stmt_mat.plan
 arrays_legally me s =
     as_it_comes IsLegalPlan me s (stmt_mat.works me s) (each_course stmt_mat.is_refused stops (stmt_mat.does me s) me s (λ w. IsLegalPlan (planned_of w)) tt tt (λ p is u. tt))
+
+-- statements on packed fields
+pub packed_legally : PlansLegally stmt_pack.plan
+packed_legally me s =
+    as_it_comes IsLegalPlan me s (stmt_pack.works me s) (each_course stmt_pack.is_refused stops (stmt_pack.does me s) me s (λ w. IsLegalPlan (planned_of w)) tt tt (λ p is u. tt))
 
 -- statements at the terminal ask for lines of no text at all
 pub terminal_legally : PlansLegally stmt_io.plan

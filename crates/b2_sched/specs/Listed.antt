@@ -1,4 +1,4 @@
--- Statements on variables, on arrays, of control and at the terminal ask for no device, so the table lists all that they ask for.
+-- Statements on variables, on arrays, on packed fields, of control and at the terminal ask for no device, so the table lists all that they ask for.
 use Rattle.std.proofs.Common.{ℕ, ◌==◌, ap, subst, sym, List, Option, Some, None}
 use Rattle.b2_atom.specs.Tree.{Trees}
 use Rattle.b2_atom.specs.Tree.Trees.{Done, Put, In}
@@ -18,6 +18,7 @@ use Rattle.b2_access.proofs.Working.{as_it_comes}
 use Rattle.b2_stmt.specs.Clearing.{asked_access, asks_to_erase}
 use Rattle.b2_stmt.specs.Plan as stmt
 use Rattle.b2_stmt_mat.specs.Plan as stmt_mat
+use Rattle.b2_stmt_pack.specs.Plan as stmt_pack
 use Rattle.b2_stmt_var.specs.Plan as stmt_var
 use Rattle.b2_stmt_io.specs.Plan as stmt_io
 use Rattle.b2_stmt_io.proofs.Planned as stmt_io_planned
@@ -65,6 +66,12 @@ pub arrays_listed : PlansListed (λ devices. stmt_mat.plan)
 arrays_listed devices me s =
     as_it_comes (PlannedListed devices me.part) me s (stmt_mat.works me s)
     (each_course stmt_mat.is_refused stops (stmt_mat.does me s) me s (λ w. PlannedListed devices me.part (planned_of w)) tt tt (λ p is u. tt))
+
+-- statements on packed fields
+pub packed_listed : PlansListed (λ devices. stmt_pack.plan)
+packed_listed devices me s =
+    as_it_comes (PlannedListed devices me.part) me s (stmt_pack.works me s)
+    (each_course stmt_pack.is_refused stops (stmt_pack.does me s) me s (λ w. PlannedListed devices me.part (planned_of w)) tt tt (λ p is u. tt))
 
 -- statements at the terminal
 pub terminal_listed : PlansListed (λ devices. stmt_io.plan)

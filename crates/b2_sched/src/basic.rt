@@ -23,6 +23,7 @@ impl Language for Basic {
             || b2_stmt::is_built(row)
             || b2_stmt_io::is_built(row)
             || b2_stmt_mat::is_built(row)
+            || b2_stmt_pack::is_built(row)
             || b2_stmt_file::is_built(row)
             || b2_stmt_program::is_built(row)
             || b2_stmt_disk::is_built(row)
@@ -40,6 +41,7 @@ impl Language for Basic {
             Family::Control => b2_stmt::plan(alloc, me, lent, devices),
             Family::Terminal => b2_stmt_io::plan(alloc, me, lent, devices),
             Family::Arrays => b2_stmt_mat::plan(alloc, me, lent, devices),
+            Family::Packed => b2_stmt_pack::plan(alloc, me, lent, devices),
             Family::Files => b2_stmt_file::plan(alloc, me, lent, devices),
             Family::Programs => b2_stmt_program::plan(alloc, me, lent, devices),
             Family::Disks => b2_stmt_disk::plan(alloc, me, lent, devices),
@@ -59,6 +61,7 @@ impl Language for Basic {
             Family::Control => b2_stmt::finish(alloc, me, lent, access, answer),
             Family::Terminal => b2_stmt_io::finish(alloc, me, lent, access, answer),
             Family::Arrays => b2_stmt_mat::finish(alloc, me, lent, access, answer),
+            Family::Packed => b2_stmt_pack::finish(alloc, me, lent, access, answer),
             Family::Files => b2_stmt_file::finish(alloc, me, lent, access, answer),
             Family::Programs => b2_stmt_program::finish(alloc, me, lent, access, answer),
             Family::Disks => b2_stmt_disk::finish(alloc, me, lent, access, answer),
@@ -93,6 +96,7 @@ impl Language for Basic {
             Family::Control => b2_stmt::plan(alloc, me, lent, devices),
             Family::Terminal => b2_stmt_io::plan_found(alloc, me, lent.home, found.unit),
             Family::Arrays => b2_stmt_mat::plan(alloc, me, lent, devices),
+            Family::Packed => b2_stmt_pack::plan(alloc, me, lent, devices),
             Family::Files => b2_stmt_file::plan(alloc, me, lent, devices),
             Family::Programs => b2_stmt_program::plan(alloc, me, lent, devices),
             Family::Disks => b2_stmt_disk::plan(alloc, me, lent, devices),

@@ -13,6 +13,8 @@ pub enum Family {
     Terminal,
     /// Statements on arrays.
     Arrays,
+    /// Statements on packed fields.
+    Packed,
     /// Statements on data files.
     Files,
     /// Statements on programs on disks.
@@ -33,6 +35,8 @@ pub fn family_of(row: u16) -> Family
         Family::Terminal
     } else if b2_stmt_mat::is_built(row) {
         Family::Arrays
+    } else if b2_stmt_pack::is_built(row) {
+        Family::Packed
     } else if b2_stmt_file::is_built(row) {
         Family::Files
     } else if b2_stmt_program::is_built(row) {

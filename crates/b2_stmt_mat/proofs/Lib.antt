@@ -3,7 +3,8 @@
 -- FormulaRows, RedimensionRows, ByteArrayRows and SearchRows have what the rows of statements say at their bytes, one fact at a
 -- time. ArraysThere: an array that is there has a shape, its values, and no code. CellPlaces: places along rows. Written: what
 -- several changes of one array come to. MadeOf: what is made, and its codes. HomesKept, KeptPlaces and Waits: what every statement
--- leaves; LeftAlone: all of it in one record. Uses: what statements on arrays are for.
+-- leaves; LeftAlone: all of it in one record. Uses: what statements on arrays are for;
+-- SortedMoves: that elements which are sorted and then moved stand in order.
 pub mod FormulaRows
 pub mod RedimensionRows
 pub mod ByteArrayRows
@@ -17,3 +18,4 @@ pub mod KeptPlaces
 pub mod Waits
 pub mod LeftAlone
 pub mod Uses
+pub mod SortedMoves

@@ -2,18 +2,22 @@
 use Rattle.std.proofs.Common.{◌≡◌, ◌≢◌, ◌<◌, ℕ, ◌*◌, max, true, false, List, length, Option, Some, None, Result, Ok, Err, refl, ap, ◌∙◌, arith}
 use Rattle.std.specs.FinMap as map
 use Rattle.b2_dec.specs.Number.{Number}
-use Rattle.b2_vars.specs.Calls.{redim_code, with_change}
+use Rattle.b2_vars.specs.Calls.{made, redim_code, with_change}
+use Rattle.b2_vars.specs.Shapes.{scalar_shape}
 use Rattle.b2_vars.specs.Tables.{IsVariable, Table, VarsState, variable_at}
-use Rattle.b2_vars.specs.Variables.{VariableState, reshaped}
+use Rattle.b2_vars.specs.Variables.{VariableState, fresh, reshaped}
 use Rattle.b2_vars.specs.declared.name.Var.{Var}
 use Rattle.b2_vars.proofs.EntriesAsMap.{get_other}
 use Rattle.b2_matrix.specs.Arrays.{array_rows, column_count, cut_into_rows}
 use Rattle.b2_matrix.specs.Arrays as matrix
 use Rattle.b2_expr.specs.Answers.{TextAnswer}
-use Rattle.b2_receiver.specs.Assigning.{unless_refused}
+use Rattle.b2_alpha.specs.Values.{padded}
+use Rattle.b2_receiver.specs.Assigning.{reached_by, receiver_code, unless_refused, with_portion}
+use Rattle.b2_receiver.specs.declared.receiver.AlphaReceiver.{AlphaReceiver}
 use Rattle.b2_stmt_mat.specs.Arrays.{matrix_of, with_numbers}
 use Rattle.b2_stmt_mat.specs.ByteArrays.{all_or_refused, sorted_bytes}
 use Rattle.b2_stmt_mat.specs.Laws.{ChangeOneArray, CopiesAreEqual, TransposingIsUndone, transposed}
+use Rattle.b2_stmt_mat.specs.Searching.{found, given}
 use Rattle.b2_stmt_mat.specs.Matrices.{Made, made_of, made_or_refused, refusal, shape_with, unless_refused_first}
 use Rattle.b2_stmt_mat.specs.declared.formulas.Formula.TheVariants as formula
 use Rattle.b2_matrix.proofs.Transposing.{transposed-transposed}
@@ -49,6 +53,22 @@ all_elsewhere : (v other : Var) (bytes : TextAnswer) (old : VarsState) → other
 all_elsewhere v other (Ok bytes) old apart = put_elsewhere v other _ old.table apart
 all_elsewhere v other (Err code) old apart = refl
 
+-- a search puts what it finds into its receiver alone, which is made where it isn't there
+new_elsewhere : (v other : Var) (o : Option VariableState) (x : VariableState) (t : Table) → other ≢ v → map.get (made o v x t) other ≡ map.get t other
+new_elsewhere v other None x t apart = put_elsewhere v other x t apart
+new_elsewhere v other (Some y) x t apart = refl
+
+portion_elsewhere : (to : AlphaReceiver) (other : Var) (o : Option ℕ) (bytes : List ℕ) (old : VarsState) → other ≢ to.element.var
+    → map.get (unless_refused o old (record { vars = with_portion to (reached_by to old) bytes; code = None })).vars.table other ≡ map.get old.table other
+portion_elsewhere to other None bytes old apart =
+    let v : Var = to.element.var in
+    put_elsewhere v other _ (reached_by to old).table apart ∙ new_elsewhere v other (map.get old.table v) (fresh v (scalar_shape v) false) old.table apart
+portion_elsewhere to other (Some code) bytes old apart = refl
+
+given_elsewhere : (to : AlphaReceiver) (other : Var) (bytes : TextAnswer) (old : VarsState) → other ≢ to.element.var → map.get (given to bytes old).vars.table other ≡ map.get old.table other
+given_elsewhere to other (Ok bytes) old apart = portion_elsewhere to other (receiver_code to old) (padded to.portion.count bytes) old apart
+given_elsewhere to other (Err code) old apart = refl
+
 pub change_one_array : ChangeOneArray
 change_one_array = record {
   assignments = λ a mode old other apart. made_elsewhere a.to other (made_of a mode old.table) old apart;
@@ -56,6 +76,7 @@ change_one_array = record {
   moves = λ m old other apart. put_elsewhere m.to other _ old.table apart;
   sorts = λ m old other apart. all_elsewhere m.to other (sorted_bytes m old.table) old apart;
   copies = λ m old other apart. put_elsewhere m.to other _ old.table apart;
+  searches = λ a old other apart. given_elsewhere a.to other (found a old) old apart;
 }
 
 -- an array transposed twice

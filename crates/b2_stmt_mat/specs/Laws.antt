@@ -1,20 +1,24 @@
 -- What statements on arrays are for, in the words of whoever uses them.
-use Rattle.std.specs.Prelude.{◌≡◌, ◌≢◌, false, None}
+use Rattle.std.specs.Prelude.{◌≡◌, ◌≢◌, ◌<◌, ◌≤◌, ℕ, ◌+◌, true, false, List, length, get_or, None}
 use Rattle.std.specs.FinMap as map
 use Rattle.b2_dec.specs.declared.number.Mode.{Mode}
 use Rattle.b2_vars.specs.Assigned.{Assigned}
-use Rattle.b2_vars.specs.Tables.{IsVariable, VarsState, variable_at}
+use Rattle.b2_vars.specs.Tables.{IsVariable, VarsState, shape_at, variable_at}
 use Rattle.b2_vars.specs.declared.name.Var.{Var}
-use Rattle.b2_stmt_mat.specs.Arrays.{IsArrayOf, matrix_of}
+use Rattle.b2_matalpha.specs.Elements.{element_at}
+use Rattle.b2_matalpha.specs.Sorts.{AreSorted}
+use Rattle.b2_stmt_mat.specs.Arrays.{IsArrayOf, bytes_of, matrix_of, named_bytes}
 use Rattle.b2_stmt_mat.specs.ByteArrays.{copied, moved, sorted}
 use Rattle.b2_stmt_mat.specs.Matrices.{matrix_assigned}
 use Rattle.b2_stmt_mat.specs.Redimensioning.{redimensioned}
+use Rattle.b2_stmt_mat.specs.Searching.{searched}
 use Rattle.b2_stmt_mat.specs.declared.byte_arrays.ArrayCopy.{ArrayCopy}
 use Rattle.b2_stmt_mat.specs.declared.byte_arrays.ArrayMove.{ArrayMove}
 use Rattle.b2_stmt_mat.specs.declared.byte_arrays.ArraySort.{ArraySort}
 use Rattle.b2_stmt_mat.specs.declared.formulas.Formula.TheVariants as formula
 use Rattle.b2_stmt_mat.specs.declared.formulas.MatrixAssignment.{MatrixAssignment}
 use Rattle.b2_stmt_mat.specs.declared.redimensioning.Redimensioned.{Redimensioned}
+use Rattle.b2_stmt_mat.specs.declared.searching.Search.{Search}
 
 -- MAT A=B, and MAT A=TRN(B)
 abbrev pub as_it_is : Var → Var → Mode → VarsState → Assigned
@@ -39,6 +43,30 @@ TransposingIsUndone =
     → (transposed c b mode (transposed b a mode old).vars).code ≡ None
     → (variable_at c (transposed c b mode (transposed b a mode old).vars).vars.table).numbers ≡ (variable_at a old.table).numbers
 
+-- MAT SORT A$() TO W$(),L$(), and MAT MOVE A$(),L$() TO B$()
+abbrev pub sort_by_locators : Var → Var → VarsState → Assigned
+sort_by_locators a l old = sorted (record { of = a; to = l }) old
+
+abbrev pub move_by_locators : Var → Var → Var → VarsState → Assigned
+move_by_locators a l b old = moved (record { of = a; locators = l; to = b }) old
+
+-- elements that stand in the order of their bytes, and equal ones as they stood
+pub record StandInOrder (len : ℕ) (of after : List ℕ) : Type 0 where
+  pub places : List ℕ
+  pub sorted : AreSorted of len places
+  pub each : (k : ℕ) → k < length places → element_at len after (k + 1) ≡ element_at len of (get_or places k 0)
+
+pub record MovedInOrder (len : ℕ) (of : List ℕ) (b : Var) (after : Assigned) : Type 0 where
+  pub code : after.code ≡ None
+  pub order : StandInOrder len of (bytes_of b after.vars.table)
+
+-- Where A was sorted without a code, its elements move into B in order; B may be A itself.
+abbrev pub SortedAreMoved : Type 0
+SortedAreMoved =
+    (a l b : Var) (old : VarsState) → IsArrayOf true a old.table → IsVariable a (variable_at a old.table) → a ≢ l → b ≢ l → (shape_at b old.table).len ≡ (shape_at a old.table).len
+    → length (bytes_of a old.table) ≤ length (bytes_of b old.table) → (sort_by_locators a l old).code ≡ None
+    → MovedInOrder (shape_at a old.table).len (named_bytes (bytes_of a old.table)) b (move_by_locators a l b (sort_by_locators a l old).vars)
+
 -- what isn't assigned stays, with a code and without one
 abbrev pub LeavesOthers : Var → Assigned → VarsState → Type 0
 LeavesOthers v after old = (other : Var) → other ≢ v → map.get after.vars.table other ≡ map.get old.table other
@@ -49,3 +77,4 @@ pub record ChangeOneArray : Type 0 where
   pub moves : (m : ArrayMove) (old : VarsState) → LeavesOthers m.to (moved m old) old
   pub sorts : (m : ArraySort) (old : VarsState) → LeavesOthers m.to (sorted m old) old
   pub copies : (m : ArrayCopy) (old : VarsState) → LeavesOthers m.to (copied m old) old
+  pub searches : (a : Search) (old : VarsState) → LeavesOthers a.to.element.var (searched a old) old

@@ -1,6 +1,6 @@
 //! What holds of statements on whole arrays, whatever they are: each law is the contract of a function without a body.
 ghost use Rattle.b2_access.specs.LeftAlone.{LeaveTheRest};
-ghost use Rattle.b2_stmt_mat.specs.Laws.{ChangeOneArray, CopiesAreEqual, TransposingIsUndone};
+ghost use Rattle.b2_stmt_mat.specs.Laws.{ChangeOneArray, CopiesAreEqual, SortedAreMoved, TransposingIsUndone};
 ghost use Rattle.b2_stmt_mat.specs.Plan.{finish, plan};
 
 /// A statement, as it plans and as it finishes, names no partition as a home, in a place, in a frame, where it leads or in what
@@ -21,7 +21,13 @@ pub fn transposing_is_undone()
     ensures { TransposingIsUndone }
 {}
 
-/// MAT, MAT REDIM, MAT MOVE, MAT SORT and MAT COPY change the array that they assign and no other variable.
+/// After MAT SORT A$() TO W$(),L$() without a code, MAT MOVE A$(),L$() TO B$() puts the elements of A$ into B$ in the order of
+/// their bytes, equal ones as they stood, and has no code; where B$ has values of the same length and as many, as A$ itself.
+pub fn sorted_are_moved()
+    ensures { SortedAreMoved }
+{}
+
+/// MAT, MAT REDIM, MAT SEARCH, MAT MOVE, MAT SORT and MAT COPY change the variable that they assign and no other.
 pub fn one_array_changes()
     ensures { ChangeOneArray }
 {}

@@ -33,6 +33,7 @@ mod first_codes;
 mod input;
 mod loops;
 mod numbers;
+mod packing;
 mod printing;
 mod programs;
 mod resuming;

@@ -1,0 +1,49 @@
+-- Buffers into which something is packed, and those out of which something is read.
+use Rattle.std.specs.Prelude.{ℕ, List, length, Option, None, Some, Result, Ok, Err}
+use Rattle.b2_vars.specs.Assigned.{Assigned}
+use Rattle.b2_vars.specs.Calls.{with_bytes_of}
+use Rattle.b2_vars.specs.Tables.{VarsState, variable_at}
+use Rattle.b2_expr.specs.Answers.{◌>>=◌}
+use Rattle.b2_expr.specs.Workspace.{WorkState, WorkLeft, on_own, refused}
+use Rattle.b2_receiver.specs.Assigning.{buffer_bytes, buffer_code, portion_in, reached_by, unless_refused, with_portion}
+use Rattle.b2_receiver.specs.declared.receiver.Buffer.{Buffer}
+use Rattle.b2_receiver.specs.declared.receiver.Buffer.TheVariants as buffer_kind
+
+-- the bytes that a buffer names are changed; a scalar that isn't there is made first
+abbrev pub with_changed : (List ℕ → List ℕ) → Buffer → VarsState → VarsState
+with_changed change (buffer_kind.Value to) old = with_portion to (reached_by to old) (change (portion_in to (reached_by to old)))
+with_changed change (buffer_kind.Array a) old = with_bytes_of a.var 0 old (change (variable_at a.var old.table).bytes)
+
+-- or nothing is, where it has a code
+abbrev pub bytes_changed : (List ℕ → List ℕ) → Buffer → VarsState → Assigned
+bytes_changed change to old = unless_refused (buffer_code to old) old (record { vars = with_changed change to old; code = None })
+
+-- new bytes, where there is no code, and else the old ones
+abbrev pub where_none : Option ℕ → List ℕ → List ℕ → List ℕ
+where_none None new old = new
+where_none (Some code) new old = old
+
+-- how many bytes a buffer has, and the code of what is packed, which goes by that
+abbrev pub room_in : Buffer → VarsState → Result ℕ ℕ
+room_in of vars = buffer_bytes of vars >>= (λ bytes. Ok (length bytes))
+
+abbrev pub room_code : (ℕ → Option ℕ) → Result ℕ ℕ → Option ℕ
+room_code code (Ok room) = code room
+room_code code (Err c) = Some c
+
+-- A buffer after packing: with a code of what is packed, or of the buffer, nothing changes.
+abbrev pub packed_by : (ℕ → Option ℕ) → (List ℕ → List ℕ) → Buffer → VarsState → Assigned
+packed_by code change to old = unless_refused (room_code code (room_in to old)) old (bytes_changed (λ bytes. where_none (code (length bytes)) (change bytes) bytes) to old)
+
+-- the buffer first, and then what is packed into it
+abbrev pub packs_to : {A : Type 0} → (A → Buffer → VarsState → Assigned) → Result Buffer ℕ → Result A ℕ → WorkState → WorkLeft
+packs_to packed (Ok to) (Ok xs) w = on_own (packed xs to w.own) w
+packs_to packed (Ok to) (Err code) w = refused code w
+packs_to packed (Err code) xs w = refused code w
+
+-- what the bytes of a buffer are read as
+abbrev pub read_in : {A : Type 0} → (List ℕ → Result A ℕ) → Buffer → VarsState → Result A ℕ
+read_in read of vars = buffer_bytes of vars >>= read
+
+abbrev pub read_from : {A : Type 0} → (List ℕ → Result A ℕ) → Result Buffer ℕ → VarsState → Result A ℕ
+read_from read of vars = of >>= (λ b. read_in read b vars)

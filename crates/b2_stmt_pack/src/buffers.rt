@@ -1,0 +1,106 @@
+// Buffers into which something is packed.
+ghost use Rattle.std.specs.Prelude.{◌≡◌, length, None, Some, IfOk, MatchResult};
+ghost use Rattle.b2_pack.specs.Images.{image_row};
+ghost use Rattle.b2_pack.specs.Packing as packing;
+ghost use Rattle.b2_receiver.specs.Receivers.{IsBuffer};
+ghost use Rattle.b2_expr.specs.Workspace.{on_own, workspace};
+ghost use Rattle.b2_stmt_pack.specs.Buffers.{room_code, room_in, where_none};
+ghost use Rattle.b2_stmt_pack.specs.Fields.{values_packed};
+ghost use Rattle.b2_stmt_pack.specs.Numbers.{numbers_packed};
+
+use b2_base::{Code, NoMemory};
+use b2_dec::{Dec, Value};
+use b2_expr::Workspace;
+use b2_pack::{check_fields, check_pack, fields, pack};
+use b2_receiver::{Buffer, buffer_bytes, change_buffer, code_of};
+use b2_vars::Vars;
+
+/// How many bytes a buffer has.
+fn room_of(vars: &Vars, of: &Buffer) -> Result<usize, Code>
+    requires named { IsBuffer of.now }
+    ensures { result ≡ room_in of.now vars.now }
+{
+    match buffer_bytes(vars, of) {
+        Ok(bytes) => Ok(bytes.len()),
+        Err(code) => Err(code),
+    }
+}
+
+/// The code of the buffer, or the first of numbers that are packed into it.
+#[tactic(auto, using(crate::proofs::Changed::room_coded, crate::proofs::Changed::room_missing))]
+fn check_numbers(vars: &Vars, to: &Buffer, image: &[u8], xs: &[Dec]) -> Result<(), Code>
+    requires named { IsBuffer to.now }
+    ensures { MatchResult result (λ done. room_code (packing.image_code (image_row image.now) xs.now) (room_in to.now vars.now) ≡ None) (λ code. room_code (packing.image_code (image_row image.now) xs.now) (room_in to.now vars.now) ≡ Some code) }
+{
+    match room_of(vars, to) {
+        Ok(room) => check_pack(image, xs, room),
+        Err(code) => Err(code),
+    }
+}
+
+/// Packs numbers at the front of bytes; with a code these stay.
+#[tactic(auto, using(crate::proofs::Changed::new_or_old))]
+fn pack_into(bytes: &mut [u8], image: &[u8], xs: &[Dec])
+    ensures { bytes.new ≡ where_none (packing.image_code (image_row image.now) xs.now (length bytes.old)) (packing.with_image (image_row image.now) xs.now bytes.old) bytes.old }
+{
+    let _packed = pack(image, xs, bytes);
+}
+
+/// Puts numbers into a buffer. A scalar that isn't there is made. The code with which that ended, or none; with one nothing
+/// changed.
+#[tactic(auto, using(crate::proofs::Changed::numbers_put, crate::proofs::Changed::numbers_refused))]
+pub fn put_numbers(
+    work: &mut Workspace<'_>,
+    to: &Buffer,
+    image: &[u8],
+    xs: &[Dec],
+) -> Result<Option<Code>, NoMemory>
+    requires named { IsBuffer to.now }
+    ensures worked { IfOk result (λ code. record { work = workspace work.new; code = code } ≡ on_own (numbers_packed image.now xs.now to.now (workspace work.old).own) (workspace work.old)) }
+    ensures same_reference { work.new.own.ghost_name ≡ work.old.own.ghost_name }
+{
+    match check_numbers(work.own, to, image, xs) {
+        Ok(()) => {}
+        Err(code) => return Ok(Some(code)),
+    }
+    code_of(change_buffer(work.own, to, |bytes| pack_into(bytes, image, xs)))
+}
+
+/// The code of the buffer, or the first of values that are packed into its fields.
+#[tactic(auto, using(crate::proofs::Changed::room_coded, crate::proofs::Changed::room_missing))]
+fn check_values(vars: &Vars, to: &Buffer, spec: &[u8], values: &[Value]) -> Result<(), Code>
+    requires named { IsBuffer to.now }
+    ensures { MatchResult result (λ done. room_code (packing.fields_code spec.now values.now) (room_in to.now vars.now) ≡ None) (λ code. room_code (packing.fields_code spec.now values.now) (room_in to.now vars.now) ≡ Some code) }
+{
+    match room_of(vars, to) {
+        Ok(room) => check_fields(spec, values, room),
+        Err(code) => Err(code),
+    }
+}
+
+/// Puts values into the fields of bytes; with a code these stay.
+#[tactic(auto, using(crate::proofs::Changed::new_or_old))]
+fn fields_into(bytes: &mut [u8], spec: &[u8], values: &[Value])
+    ensures { bytes.new ≡ where_none (packing.fields_code spec.now values.now (length bytes.old)) (packing.with_values (packing.placed_fields spec.now) values.now bytes.old) bytes.old }
+{
+    let _packed = fields(spec, values, bytes);
+}
+
+/// Puts values into the fields of a buffer, as `put_numbers`.
+#[tactic(auto, using(crate::proofs::Changed::values_put, crate::proofs::Changed::values_refused))]
+pub fn put_values(
+    work: &mut Workspace<'_>,
+    to: &Buffer,
+    spec: &[u8],
+    values: &[Value],
+) -> Result<Option<Code>, NoMemory>
+    requires named { IsBuffer to.now }
+    ensures worked { IfOk result (λ code. record { work = workspace work.new; code = code } ≡ on_own (values_packed spec.now values.now to.now (workspace work.old).own) (workspace work.old)) }
+    ensures same_reference { work.new.own.ghost_name ≡ work.old.own.ghost_name }
+{
+    match check_values(work.own, to, spec, values) {
+        Ok(()) => {}
+        Err(code) => return Ok(Some(code)),
+    }
+    code_of(change_buffer(work.own, to, |bytes| fields_into(bytes, spec, values)))
+}
