@@ -26,15 +26,25 @@ no_variables area = record { area = area; table = map.empty }
 abbrev pub no_files : List (Option Slot)
 no_files = replicate 16 None
 
--- a partition as it starts
-abbrev pub at_start : ℕ → ℕ → ℕ → Option (List ℕ) → Private
-at_start p t area disk = record {
+-- where a partition starts: at the first unit of an immediate line, or ready where it has none
+abbrev pub starting_place : ℕ → Option (List ℕ) → Option Place
+starting_place p None = None
+starting_place p (Some line) = Some (record { home = p; line = None; unit = 0 })
+
+-- what waits to be shown then: `READY`, a newline and `:`, and nothing where a line is to run
+abbrev pub greeting : Option (List ℕ) → Option (List ℕ × List ℕ)
+greeting None = Some (terminal_address, ready_text)
+greeting (Some line) = None
+
+-- a partition as it starts, with an immediate line or none
+abbrev pub at_start : ℕ → ℕ → ℕ → Option (List ℕ) → Option (List ℕ) → Private
+at_start p t area line disk = record {
   part = p;
   term = t;
   mode = Round;
-  place = None;
+  place = starting_place p line;
   kept = None;
-  immediate = None;
+  immediate = line;
   vars = no_variables area;
   stack = [];
   slots = no_files;
@@ -47,7 +57,7 @@ at_start p t area disk = record {
   args = None;
   halt = false;
   reset = false;
-  pending = Some (terminal_address, ready_text);
+  pending = greeting line;
   numbered = None;
   literal = None;
   prompted = false;

@@ -11,7 +11,7 @@ ghost use Rattle.b2_access.specs.Working.{FinishesArePutBack, PlansArePutBack};
 
 /// A partition that starts keeps no place. While program text runs none is kept: that is what statements have to leave so.
 pub fn law_a_start_keeps_none()
-    ensures { (p t area : ℕ) (disk : Option (List ℕ)) → KeepsNone (at_start p t area disk) }
+    ensures { (p t area : ℕ) (line disk : Option (List ℕ)) → KeepsNone (at_start p t area line disk) }
 {}
 
 /// A statement that changes no frame and no place that is kept, whatever it plans, leaves the partition in its place and at its

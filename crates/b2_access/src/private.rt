@@ -1,5 +1,6 @@
 // What a partition has for itself.
 ghost use Rattle.std.specs.Prelude.{◌≡◌, IfOk, true};
+ghost use Rattle.b2_access.specs.Partition as spec;
 ghost use Rattle.b2_access.specs.Partition.{at_start, without_frames};
 
 use b2_atom::Atoms;
@@ -63,25 +64,54 @@ pub struct Private {
     pub prompted: bool,
 }
 
+/// Where a partition starts: at the first unit of a line, or ready where it has none.
+fn starting_place(p: Part, line: &Option<Atoms>) -> Option<Place>
+    ensures { result ≡ spec.starting_place p line.now }
+{
+    match line {
+        Some(_) => Some(Place {
+            home: p,
+            line: None,
+            unit: 0,
+        }),
+        None => None,
+    }
+}
+
+/// What waits to be shown at the start, where a partition is ready.
+fn greeting(alloc: Global, line: &Option<Atoms>) -> Result<Option<(Addr, ByteList)>, NoMemory>
+    ensures { IfOk result (λ shown. shown ≡ spec.greeting line.now) }
+{
+    match line {
+        Some(_) => Ok(None),
+        None => Ok(Some((
+            Addr::default(),
+            ByteList::new(Vec::from_slice(alloc, READY)?),
+        ))),
+    }
+}
+
 impl Private {
-    /// A partition at its terminal, with an area of `area` bytes for its variables, and the platter that it starts with. It is
-    /// ready, and `READY`, a newline and `:` wait to be shown.
+    /// A partition at its terminal, with an area of `area` bytes for its variables, and the platter that it starts with. It
+    /// starts at the first unit of a line. Without one it is ready, and `READY`, a newline and `:` wait to be shown.
     pub fn new(
         alloc: Global,
         p: Part,
         t: Term,
         area: usize,
+        start: Option<Atoms>,
         disk: Option<Addr>,
     ) -> Result<Private, NoMemory>
-        ensures at_start { IfOk result (λ me. me ≡ at_start p t area disk) }
+        ensures at_start { IfOk result (λ me. me ≡ at_start p t area start disk) }
     {
         Ok(Private {
             part: p,
             term: t,
             mode: Mode::Round,
-            place: None,
+            place: starting_place(p, &start),
             kept: None,
-            immediate: None,
+            pending: greeting(alloc, &start)?,
+            immediate: start,
             vars: Vars::new(alloc, area)?,
             stack: Stack::new(alloc)?,
             slots: [None; 16],
@@ -94,10 +124,6 @@ impl Private {
             args: None,
             halt: false,
             reset: false,
-            pending: Some((
-                Addr::default(),
-                ByteList::new(Vec::from_slice(alloc, READY)?),
-            )),
             numbered: None,
             literal: None,
             prompted: false,

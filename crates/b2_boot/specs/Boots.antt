@@ -1,10 +1,11 @@
 -- The boot: what a file says, its checks and the first that fails, and the boot of a file that passes them all.
-use Rattle.std.specs.Prelude.{◌≡◌, ℕ, zero, suc, ◌+◌, ◌*◌, ◌<◌, ◌≤◌, List, [], ◌∷◌, ◌++◌, length, map, codes, Bool, true, false, ◌&&◌, ◌==◌, not, nat_le, nat_lt, Option, Some, None, Result, Ok, Err, if◌then◌else◌}
+use Rattle.std.specs.Prelude.{◌≡◌, ℕ, zero, suc, ◌+◌, ◌*◌, ◌<◌, ◌≤◌, List, [], ◌∷◌, ◌++◌, length, map, codes, Bool, true, false, ◌&&◌, ◌==◌, not, nat_le, nat_lt, Option, Some, None, is_some, Result, Ok, Err, if◌then◌else◌}
 use Rattle.std.specs.List.{list_all, list_any}
 use Rattle.std.specs.List.Sorted.{IsPermutation}
 use Rattle.b2_boot.specs.declared.rows.TerminalRow.{TerminalRow}
 use Rattle.b2_base.specs.Lexical.{first, hex_value}
-use Rattle.b2_base.specs.Names.{is_address, is_file_name}
+use Rattle.b2_base.specs.Byte as byte
+use Rattle.b2_base.specs.Names.{is_address, is_file_name, is_name8, padded8}
 use Rattle.b2_boot.specs.declared.rows.PartitionRow.{PartitionRow}
 use Rattle.b2_boot.specs.declared.rows.PlatterRow.{PlatterRow}
 use Rattle.b2_boot.specs.declared.boot.BootTerminal.{BootTerminal}
@@ -84,6 +85,20 @@ is_disk_listed address platters (Some disk) = list_any (λ p. spells disk (addre
 abbrev pub disks_listed : List PartitionRow → List PlatterRow → Bool
 disks_listed partitions platters = list_all (λ p. is_disk_listed (λ q. q.address) platters p.disk) partitions
 
+-- 13: a program has the name of a file on a disk, without a quote, and a disk from which it is loaded
+abbrev pub has_quote : List ℕ → Bool
+has_quote name = list_any (λ b. b == byte.quote) name
+
+abbrev pub is_program_name : List ℕ → Bool
+is_program_name name = is_name8 name && not (has_quote name)
+
+abbrev pub may_load : Option (List ℕ) → Option (List ℕ) → Bool
+may_load disk None = true
+may_load disk (Some name) = is_some disk && is_program_name name
+
+abbrev pub programs_fit : List PartitionRow → Bool
+programs_fit partitions = list_all (λ p. may_load p.disk p.program) partitions
+
 -- 14: an image has the name of a file
 abbrev pub may_be_named : Option (List ℕ) → Bool
 may_be_named None = true
@@ -121,11 +136,11 @@ terminals_by_number rows = rows_up_to number_of_terminal 12 rows
 abbrev pub partitions_by_number : List PartitionRow → List PartitionRow
 partitions_by_number rows = rows_up_to number_of_partition 16 rows
 
--- the checks of platters, and of the disks of partitions
+-- the checks of platters, and of the disks and programs of partitions
 abbrev pub checks_of_platters : List PartitionRow → List PlatterRow → List (ℕ × Bool)
 checks_of_platters partitions platters =
     (9, no_two_same (λ p q. same_image p.image q.image) platters) ∷ (10, addresses_fit platters)
-    ∷ (12, disks_listed partitions platters) ∷ (14, list_all (λ p. may_be_named p.image) platters) ∷ []
+    ∷ (12, disks_listed partitions platters) ∷ (13, programs_fit partitions) ∷ (14, list_all (λ p. may_be_named p.image) platters) ∷ []
 
 -- the checks of terminals and partitions in ascending order, and of platters
 abbrev pub checks_of_sorted : List TerminalRow → List PartitionRow → List PlatterRow → List (ℕ × Bool)
@@ -142,7 +157,8 @@ checks b terminals partitions =
 abbrev pub check_of_rows : RowsState → Option ℕ
 check_of_rows b = first_failed (checks b (terminals_by_number b.terminals) (partitions_by_number b.partitions))
 
--- the numbers of a row are those of a terminal and of a partition, its disk is an address, and an image has the name of a file
+-- the numbers of a row are those of a terminal and of a partition, its disk is an address, its program has the name of a file on a
+-- disk, and an image has that of a file
 abbrev pub has_places : TerminalRow → Bool
 has_places t = is_between 1 12 t.number && is_between 1 16 t.front
 
@@ -150,8 +166,12 @@ abbrev pub may_be_address : Option (List ℕ) → Bool
 may_be_address None = true
 may_be_address (Some address) = is_address address
 
+abbrev pub may_be_program : Option (List ℕ) → Bool
+may_be_program None = true
+may_be_program (Some name) = is_name8 name
+
 abbrev pub has_its_places : PartitionRow → Bool
-has_its_places p = is_between 1 16 p.number && (is_between 1 12 p.terminal && may_be_address p.disk)
+has_its_places p = is_between 1 16 p.number && (is_between 1 12 p.terminal && (may_be_address p.disk && may_be_program p.program))
 
 abbrev pub is_platter_spelled : PlatterRow → Bool
 is_platter_spelled p = is_address p.address && may_be_named p.image
@@ -159,8 +179,13 @@ is_platter_spelled p = is_address p.address && may_be_named p.image
 abbrev pub boot_terminal : TerminalRow → BootTerminal
 boot_terminal r = record { number = r.number; front = r.front }
 
+-- the name of a program, with blanks up to eight bytes
+abbrev pub program_of : Option (List ℕ) → Option (List ℕ)
+program_of None = None
+program_of (Some name) = Some (padded8 name)
+
 abbrev pub partition_of : PartitionRow → BootPartition
-partition_of r = record { number = r.number; terminal = r.terminal; text = r.text; vars = r.vars; globals = r.globals; disk = r.disk }
+partition_of r = record { number = r.number; terminal = r.terminal; text = r.text; vars = r.vars; globals = r.globals; disk = r.disk; program = program_of r.program }
 
 abbrev pub boot_platter : PlatterRow → BootPlatter
 boot_platter r = record { address = r.address; image = r.image; blank = r.blank }
@@ -256,6 +281,7 @@ pub record IsGood (b : BootState) : Type 0 where
   pub platters : list_all is_platter b.platters ≡ true
   pub images : no_two_same (λ p q. same_image p.image q.image) b.platters ≡ true
   pub disks : list_all (λ p. is_disk_listed (λ q. q.address) b.platters p.disk) b.partitions ≡ true
+  pub programs : list_all (λ p. may_load p.disk p.program) b.partitions ≡ true
 
 -- a boot has the quota and the rows of a file, in another order
 pub record Keeps (rows : RowsState) (b : BootState) : Type 0 where

@@ -42,7 +42,7 @@ is_known section.Terminal key = spells (codes "number") key || spells (codes "fr
 is_known section.Partition key =
     spells (codes "number") key || (spells (codes "terminal") key
     || (spells (codes "text") key || (spells (codes "data") key
-    || (spells (codes "globals") key || spells (codes "disk") key))))
+    || (spells (codes "globals") key || (spells (codes "disk") key || spells (codes "program") key)))))
 is_known section.Platter key = spells (codes "address") key || (spells (codes "image") key || spells (codes "blank") key)
 
 abbrev pub all_known : Section → Members → Bool
@@ -73,7 +73,7 @@ terminal_said ms = if all_known section.Terminal ms then terminal_from (number_o
 -- the sizes of a partition: of its text, its variables and its globals
 abbrev pub sizes_from : Option ℕ → Option ℕ → Option ℕ → ℕ → ℕ → Option PartitionRow
 sizes_from (Some text) (Some vars) (Some globals) number terminal =
-    Some (record { number = number; terminal = terminal; text = text; vars = vars; globals = globals; disk = None })
+    Some (record { number = number; terminal = terminal; text = text; vars = vars; globals = globals; disk = None; program = None })
 sizes_from text vars globals number terminal = None
 
 abbrev pub sizes_of : Members → ℕ → ℕ → Option PartitionRow
@@ -88,12 +88,17 @@ abbrev pub with_disk : Option Data → PartitionRow → Option PartitionRow
 with_disk None r = Some r
 with_disk (Some d) r = option_map (λ text. record r { disk = Some text }) (as_str d)
 
+abbrev pub disk_row : Members → Option PartitionRow
+disk_row ms = option_and_then (with_disk (get_member (codes "disk") ms)) (partition_from (number_of_key (codes "number") ms) (number_of_key (codes "terminal") ms) (sizes_of ms))
+
+-- and with its program, which may be left out too
+abbrev pub with_program : Option Data → PartitionRow → Option PartitionRow
+with_program None r = Some r
+with_program (Some d) r = option_map (λ text. record r { program = Some text }) (as_str d)
+
 -- the row of a partition
 abbrev pub partition_row : Members → Option PartitionRow
-partition_row ms =
-    if all_known section.Partition ms then
-    option_and_then (with_disk (get_member (codes "disk") ms)) (partition_from (number_of_key (codes "number") ms) (number_of_key (codes "terminal") ms) (sizes_of ms))
-    else None
+partition_row ms = if all_known section.Partition ms then option_and_then (with_program (get_member (codes "program") ms)) (disk_row ms) else None
 
 -- a platter with an image
 abbrev pub of_image : List ℕ → Data → Option PlatterRow

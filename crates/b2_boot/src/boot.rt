@@ -1,5 +1,5 @@
 // A boot: the quota of a turn, its terminals and partitions by number, and its platters by address.
-use b2_base::{Addr, FileName, Part, Term};
+use b2_base::{Addr, FileName, Name8, Part, Term};
 use std::marker::Model;
 
 /// A terminal and the partition in front of it.
@@ -9,8 +9,8 @@ pub struct BootTerminal {
     pub front: Part,
 }
 
-/// A partition on its terminal, and its disk where it has one. The sizes of its text, its variables and its globals are in
-/// KiB.
+/// A partition on its terminal, and where it has them its disk and the program that it starts from there. The sizes of its
+/// text, its variables and its globals are in KiB.
 #[derive(Clone, Copy)]
 pub struct BootPartition {
     pub number: Part,
@@ -19,6 +19,7 @@ pub struct BootPartition {
     pub vars: u16,
     pub globals: u16,
     pub disk: Option<Addr>,
+    pub program: Option<Name8>,
 }
 
 /// A platter at its address: the name of its image, or how many sectors it has, blank.

@@ -27,7 +27,7 @@ pub struct TerminalRow {
 }
 
 /// A partition as it is written, with 65,535 in place of each number outside 0 to 65,535. Its sizes are in KiB, and its disk
-/// may be any text.
+/// and its program may be any texts.
 #[derive(Drop)]
 pub struct PartitionRow {
     pub number: u16,
@@ -36,6 +36,7 @@ pub struct PartitionRow {
     pub vars: u16,
     pub globals: u16,
     pub disk: Option<ByteList>,
+    pub program: Option<ByteList>,
 }
 
 /// A platter as it is written: its address and the name of its image, which may be any texts, or how many sectors it has,
@@ -119,6 +120,7 @@ fn is_known(section: Section, key: &[u8]) -> bool
                 || key == b"data".as_slice()
                 || key == b"globals".as_slice()
                 || key == b"disk".as_slice()
+                || key == b"program".as_slice()
         }
         Section::Platter => {
             key == b"address".as_slice() || key == b"image".as_slice() || key == b"blank".as_slice()
@@ -201,6 +203,7 @@ fn sizes(table: &Table, number: u16, terminal: u16) -> Option<PartitionRow>
         vars,
         globals,
         disk: None,
+        program: None,
     })
 }
 
@@ -220,7 +223,23 @@ fn on_disk(
     Ok(Some(row))
 }
 
-/// A partition but for its disk, None where a key is missing or of another kind.
+/// A partition with the program that a value says, None where that is no text.
+fn with_program(
+    alloc: Global,
+    row: PartitionRow,
+    value: &Value,
+) -> Result<Option<PartitionRow>, NoMemory>
+    ensures { IfOk result (λ found. found ≡ spec.with_program (Some (view value.now)) row) }
+{
+    let mut row = row;
+    let Some(text) = value.as_str() else {
+        return Ok(None);
+    };
+    row.program = Some(ByteList::from_slice(alloc, text.as_bytes())?);
+    Ok(Some(row))
+}
+
+/// A partition but for its disk and its program, None where a key is missing or of another kind.
 fn on_terminal(table: &Table) -> Option<PartitionRow>
     ensures { result ≡ spec.partition_from (spec.number_of_key (codes "number") (table_view table.now)) (spec.number_of_key (codes "terminal") (table_view table.now)) (spec.sizes_of (table_view table.now)) }
 {
@@ -233,6 +252,19 @@ fn on_terminal(table: &Table) -> Option<PartitionRow>
     sizes(table, number, terminal)
 }
 
+/// A partition but for its program, None where a key is missing or of another kind.
+fn disk_row(alloc: Global, table: &Table) -> Result<Option<PartitionRow>, NoMemory>
+    ensures { IfOk result (λ found. found ≡ spec.disk_row (table_view table.now)) }
+{
+    let Some(row) = on_terminal(table) else {
+        return Ok(None);
+    };
+    match value_at(table, "disk") {
+        Some(value) => on_disk(alloc, row, value),
+        None => Ok(Some(row)),
+    }
+}
+
 /// The row of a partition, None where a key is unknown, missing or of another kind.
 fn partition_row(alloc: Global, table: &Table) -> Result<Option<PartitionRow>, NoMemory>
     ensures { IfOk result (λ found. found ≡ spec.partition_row (table_view table.now)) }
@@ -240,11 +272,11 @@ fn partition_row(alloc: Global, table: &Table) -> Result<Option<PartitionRow>, N
     if !all_known(Section::Partition, table) {
         return Ok(None);
     }
-    let Some(row) = on_terminal(table) else {
+    let Some(row) = disk_row(alloc, table)? else {
         return Ok(None);
     };
-    match value_at(table, "disk") {
-        Some(value) => on_disk(alloc, row, value),
+    match value_at(table, "program") {
+        Some(value) => with_program(alloc, row, value),
         None => Ok(Some(row)),
     }
 }

@@ -3,16 +3,20 @@
 use crate::status::Status;
 use crate::top::mvp;
 use b2_base::{MemShelf, MemSink};
+use platters::two_files;
+use program_files::program_files;
 use std::alloc::{AllocError, Global};
 use std::collections::BTreeMap;
 
 mod groups;
 mod long_lines;
 mod platters;
+mod program_files;
 mod refusals;
 mod runs;
 mod sessions;
 mod shared_runs;
+mod starting;
 
 // Partition 1 on terminal 1.
 #[rattlefmt::skip]
@@ -98,6 +102,16 @@ fn shelf_with(
     put(alloc, &mut files, b"boot", Some(boot))?;
     put(alloc, &mut files, b"log", Some(log))?;
     put(alloc, &mut files, name, Some(image))?;
+    Ok(MemShelf::new(alloc, files, Vec::new(alloc)))
+}
+
+// One with a boot file, a log, the image of two files, and that of program files.
+fn shelf_with_images(alloc: Global, boot: &[u8], log: &[u8]) -> Result<MemShelf, AllocError> {
+    let mut files = BTreeMap::new(alloc);
+    put(alloc, &mut files, b"boot", Some(boot))?;
+    put(alloc, &mut files, b"log", Some(log))?;
+    put(alloc, &mut files, b"files", Some(&two_files(alloc)?))?;
+    put(alloc, &mut files, b"programs", Some(&program_files(alloc)?))?;
     Ok(MemShelf::new(alloc, files, Vec::new(alloc)))
 }
 

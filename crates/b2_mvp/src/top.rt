@@ -3,7 +3,7 @@ ghost use Rattle.std.specs.Prelude.{◌≡◌, ◌≤◌, IfSome, IfOk, None, le
 ghost use Rattle.b2_base.specs.Seen.{shelf_seen, sink_seen};
 ghost use Rattle.b2_mvp.specs.Complete.{IsComplete};
 ghost use Rattle.b2_mvp.specs.Outputs.{outputs, summary};
-ghost use Rattle.b2_sched.specs.Start.{HasDevices};
+ghost use Rattle.b2_sched.specs.Start.{CanStart};
 ghost use Rattle.b2_mvp.specs.Top.{command_by, command_of, boot_for, texts, world_after, Delivers, Comes};
 
 use crate::inputs::{read_boot, read_images, read_log};
@@ -73,7 +73,7 @@ fn run_events(
     platters: Vec<Platter>,
     events: &[Event],
 ) -> Result<Ready, NoMemory>
-    requires devices { HasDevices boot.now }
+    requires start { CanStart boot.now }
     requires as_many { length boot.now.platters ≡ length platters.items }
     ensures world { IfOk result (λ ready. ready.world ≡ world_after boot.now platters.items events.now) }
     ensures line { IfOk result (λ ready. ready.line.items ≡ summary boot.now (world_after boot.now platters.items events.now)) }
@@ -85,6 +85,7 @@ fn run_events(
 }
 
 /// Runs the events from the world of the boot, or of the boot with a group alone.
+#[tactic(auto, using(b2_sched::proofs::BootDevices::starts_alone))]
 fn run_group(
     alloc: Global,
     group: &Option<Parts>,
@@ -92,7 +93,7 @@ fn run_group(
     platters: Vec<Platter>,
     events: &[Event],
 ) -> Result<Ready, NoMemory>
-    requires devices { HasDevices boot.now }
+    requires start { CanStart boot.now }
     requires as_many { length boot.now.platters ≡ length platters.items }
     ensures world { IfOk result (λ ready. ready.world ≡ world_after (boot_for group.now boot.now) platters.items events.now) }
     ensures line { IfOk result (λ ready. ready.line.items ≡ summary (boot_for group.now boot.now) (world_after (boot_for group.now boot.now) platters.items events.now)) }

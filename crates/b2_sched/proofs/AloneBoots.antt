@@ -1,7 +1,8 @@
 -- The world of a boot and that of the boot with a group alone.
 use Rattle.std.specs.Prelude.{◌≡◌, ℕ, ◌==◌, Bool, true, false, cond, List, [], ◌∷◌, filter, map, Option, Some, None, is_some, refl}
 use Rattle.std.proofs.Common.{sym, ap, subst, ◌∙◌}
-use Rattle.b2_access.specs.Homes.{IsWithin}
+use Rattle.b2_access.specs.Homes.{IsWithin, PlaceIn}
+use Rattle.b2_access.specs.Partition.{starting_place}
 use Rattle.b2_access.specs.Rows.{row_of}
 use Rattle.b2_access.specs.Store.{content}
 use Rattle.b2_access.specs.declared.objects.Object.{Object}
@@ -16,7 +17,7 @@ use Rattle.b2_sched.proofs.GroupRows.{is_it}
 use Rattle.b2_sched.proofs.GroupRuns.{group_relies}
 use Rattle.b2_sched.proofs.Numbers.{same_number}
 use Rattle.b2_sched.specs.Groups.{CleanGroupsAreAsAlone, IsOutside, WorldsAlike}
-use Rattle.b2_sched.specs.Start.{Images, areas_of, booted, private_row, store_booted}
+use Rattle.b2_sched.specs.Start.{Images, areas_of, booted, private_row, starting_line, store_booted}
 
 both_maps : {A B C : Type 0} (k : B → C) (f : A → B) (xs : List A) → map k (map f xs) ≡ map (λ x. k (f x)) xs
 both_maps k f [] = refl
@@ -62,13 +63,20 @@ module _ (g : Group) (p : ℕ) where
   areas_kept h ps is =
       ap (row_of p) (both_maps (λ a. (a.0, h a)) areas_of ps) ∙ of_member (λ x. h (areas_of x)) ps is ∙ sym (ap (row_of p) (both_maps (λ a. (a.0, h a)) areas_of (members ps)))
 
-  -- a member at the start names itself alone
+  -- a member at the start names itself alone, also where it is at an immediate line
+  first_unit : (q : ℕ) (line : Option (List ℕ)) → g q ≡ true → PlaceIn g (starting_place q line)
+  first_unit q None member = tt
+  first_unit q (Some line) member = member
+
   pub starts_within : (ps : List BootPartition) (me : Private) → g p ≡ true → row_of p (map private_row ps) ≡ Some me → IsWithin g me
   starts_within [] me member is = let clash : false ≡ true = ap (λ (o : Option Private). is_some o) is in cc
   starts_within (x ∷ xs) me member is = by (x.number == p) refl (λ found. starts_within xs me member found) is
     where
+      is_member : (x.number == p) ≡ true → g x.number ≡ true
+      is_member e = ap g (same_number x.number p e) ∙ member
+
       by : (b : Bool) → (x.number == p) ≡ b → (row_of p (map private_row xs) ≡ Some me → IsWithin g me) → cond b (Some (private_row x).1) (row_of p (map private_row xs)) ≡ Some me → IsWithin g me
-      by true e later found = subst (λ (you : Private). IsWithin g you) (is_it (private_row x).1 me found) (record { part = ap g (same_number x.number p e) ∙ member; place = tt; kept = tt; frames = tt })
+      by true e later found = subst (λ (you : Private). IsWithin g you) (is_it (private_row x).1 me found) (record { part = is_member e; place = first_unit x.number (starting_line x.program) (is_member e); kept = tt; frames = tt })
       by false e later found = later found
 
 in_group : (b : Bool) → (b ≡ false → ⊥) → b ≡ true

@@ -1,13 +1,17 @@
--- A boot of a file has few devices, and each address once: they ascend by their numbers.
-use Rattle.std.specs.Prelude.{◌≡◌, ℕ, ◌<◌, ◌≤◌, Bool, true, false, not, ◌&&◌, ◌||◌, List, [], ◌∷◌, length, map, refl}
+-- A boot of a file can start, and so can one with a group alone: it has few devices, and each address once, since they ascend by
+-- their numbers.
+use Rattle.std.specs.Prelude.{◌≡◌, ℕ, ◌<◌, ◌≤◌, Bool, true, false, not, cond, ◌&&◌, ◌||◌, List, [], ◌∷◌, filter, length, map, Option, Some, None, is_some, refl}
 use Rattle.std.proofs.Common.{ap, ◌∙◌, arith}
+use Rattle.std.proofs.lemmas.Bool.{and_parts}
 use Rattle.std.proofs.lemmas.Slice.Eq.{bytes_eq-Decides}
-use Rattle.std.specs.List.{list_any}
+use Rattle.std.specs.List.{list_all, list_any}
 use Rattle.std.specs.Str.{bytes_eq}
 use Rattle.b2_access.specs.Devices.{are_distinct}
-use Rattle.b2_boot.specs.Boots.{Ascends, BootState, IsGood, address_number, number_of_platter}
+use Rattle.b2_boot.specs.Alone.{alone}
+use Rattle.b2_boot.specs.Boots.{Ascends, BootState, IsGood, address_number, is_program_name, may_load, number_of_platter}
+use Rattle.b2_boot.specs.declared.boot.BootPartition.{BootPartition}
 use Rattle.b2_boot.specs.declared.boot.BootPlatter.{BootPlatter}
-use Rattle.b2_sched.specs.Start.{HasDevices}
+use Rattle.b2_sched.specs.Start.{CanStart, may_start}
 
 abbrev places : List BootPlatter → List (List ℕ)
 places ps = map (λ p. p.address) ps
@@ -41,5 +45,35 @@ distinct above (p ∷ ps) ascend = both (list_any (bytes_eq p.address) (places p
 at_most_twelve : (n : ℕ) → n ≤ 8 → n ≤ 12
 at_most_twelve n few = omega arith
 
-pub has_devices : (b : BootState) → IsGood b → HasDevices b
-has_devices b good = record { few = at_most_twelve (length b.platters) good.few_platters; distinct = distinct 0 b.platters good.platters_ascend }
+-- a program that can be loaded has a name that can stand in a line
+loaded_starts : (disk program : Option (List ℕ)) → may_load disk program ≡ true → may_start program ≡ true
+loaded_starts disk None loads = refl
+loaded_starts disk (Some name) loads = (and_parts (is_some disk) (is_program_name name) loads).1
+
+all_start : (ps : List BootPartition) → list_all (λ p. may_load p.disk p.program) ps ≡ true → list_all (λ p. may_start p.program) ps ≡ true
+all_start [] load = refl
+all_start (p ∷ ps) load =
+    let (here, more) = and_parts (may_load p.disk p.program) (list_all (λ p. may_load p.disk p.program) ps) load in
+    rw (loaded_starts p.disk p.program here) (all_start ps more)
+
+pub can_start : (b : BootState) → IsGood b → CanStart b
+can_start b good = record {
+  few = at_most_twelve (length b.platters) good.few_platters;
+  distinct = distinct 0 b.platters good.platters_ascend;
+  programs = all_start b.partitions good.programs;
+}
+
+-- those that a group keeps start too
+kept_by : (member : Bool) (p : BootPartition) (kept : List BootPartition) → may_start p.program ≡ true → list_all (λ q. may_start q.program) kept ≡ true
+    → list_all (λ q. may_start q.program) (cond member (p ∷ kept) kept) ≡ true
+kept_by true p kept here more = rw here more
+kept_by false p kept here more = more
+
+kept_start : (group : ℕ → Bool) (ps : List BootPartition) → list_all (λ p. may_start p.program) ps ≡ true → list_all (λ p. may_start p.program) (filter (λ p. group p.number) ps) ≡ true
+kept_start group [] start = refl
+kept_start group (p ∷ ps) start =
+    let (here, more) = and_parts (may_start p.program) (list_all (λ q. may_start q.program) ps) start in
+    kept_by (group p.number) p (filter (λ q. group q.number) ps) here (kept_start group ps more)
+
+pub starts_alone : (b : BootState) (group : ℕ → Bool) → CanStart b → CanStart (alone group b)
+starts_alone b group can = record { few = can.few; distinct = can.distinct; programs = kept_start group b.partitions can.programs }

@@ -1,4 +1,5 @@
 pub mod BootDevices
+pub mod LoadLines
 pub mod Numbered
 -- Found: what is planned where a unit was found is what the language plans at its place.
 mod Found

@@ -1,5 +1,9 @@
 -- The world of a boot.
-use Rattle.std.specs.Prelude.{◌≡◌, ℕ, ◌*◌, ◌≤◌, true, List, [], ◌∷◌, length, map}
+use Rattle.std.specs.Prelude.{◌≡◌, ℕ, ◌*◌, ◌≤◌, Bool, true, List, [], ◌∷◌, ◌++◌, length, map, Option, Some, None}
+use Rattle.std.specs.List.{list_all}
+use Rattle.b2_base.specs.Byte as byte
+use Rattle.b2_alpha.specs.Values.{value_of}
+use Rattle.b2_atom.specs.declared.words.TheConstants as word
 use Rattle.b2_access.specs.declared.private.Private.{Private}
 use Rattle.b2_access.specs.Devices.{are_distinct, platter_device}
 use Rattle.b2_access.specs.Partition.{at_start}
@@ -7,7 +11,7 @@ use Rattle.b2_access.specs.Store.{StoreState}
 use Rattle.b2_audit.specs.Marks.{unmarked}
 use Rattle.b2_audit.specs.Steps.{IsPartition, IsTerminal}
 use Rattle.b2_store.specs.Start.{Areas, text_row, borrow_row, globals_row, idle_row, with_keys, free_row}
-use Rattle.b2_boot.specs.Boots.{BootState}
+use Rattle.b2_boot.specs.Boots.{BootState, is_program_name}
 use Rattle.b2_boot.specs.declared.boot.BootPartition.{BootPartition}
 use Rattle.b2_boot.specs.declared.boot.BootTerminal.{BootTerminal}
 use Rattle.b2_sched.specs.World.{WorldState}
@@ -16,9 +20,18 @@ use Rattle.b2_sched.specs.World.{WorldState}
 abbrev pub in_bytes : ℕ → ℕ
 in_bytes size = size * 1024
 
--- a partition as it starts
+-- LOAD RUN T,"NAME" as atoms, the name without the blanks at its end
+abbrev pub load_line : List ℕ → List ℕ
+load_line name = word.LOAD ∷ word.RUN ∷ byte.upper_t ∷ byte.comma ∷ byte.quote ∷ (value_of name ++ byte.quote ∷ [])
+
+-- the immediate line of a program, where there is one
+abbrev pub starting_line : Option (List ℕ) → Option (List ℕ)
+starting_line None = None
+starting_line (Some name) = Some (load_line name)
+
+-- a partition as it starts: ready, or at the line that loads its program
 abbrev pub private_row : BootPartition → ℕ × Private
-private_row p = (p.number, at_start p.number p.terminal (in_bytes p.vars) p.disk)
+private_row p = (p.number, at_start p.number p.terminal (in_bytes p.vars) (starting_line p.program) p.disk)
 
 -- a partition, the area of its text, and that of its `@` variables
 abbrev pub areas_of : BootPartition → Areas
@@ -35,10 +48,16 @@ Images = List (List ℕ)
 abbrev pub addresses : BootState → List (List ℕ)
 addresses b = map (λ p. p.address) b.platters
 
--- at most twelve devices, each address once
-pub record HasDevices (b : BootState) : Type 0 where
+-- a program's name, where there is one, can stand in a line
+abbrev pub may_start : Option (List ℕ) → Bool
+may_start None = true
+may_start (Some name) = is_program_name name
+
+-- at most twelve devices, each address once, and programs whose names can stand in a line
+pub record CanStart (b : BootState) : Type 0 where
   pub few : length b.platters ≤ 12
   pub distinct : are_distinct (addresses b) ≡ true
+  pub programs : list_all (λ p. may_start p.program) b.partitions ≡ true
 
 -- empty texts, nobody inside, no `@` variables, idle terminals, no printers, the platters with their images, and nobody who holds one
 abbrev pub store_booted : BootState → Images → StoreState

@@ -1,11 +1,13 @@
 //! What holds of every world: each law is the contract of a function without a body.
+ghost use Rattle.std.specs.Prelude.{ℕ, Bool};
+ghost use Rattle.b2_boot.specs.Alone.{alone};
 ghost use Rattle.b2_boot.specs.Boots.{BootState, IsGood};
 ghost use Rattle.b2_sched.specs.Clean.{CleanOnesAreAsAlone, MarksSayWhoIsClean, RunsMarkTheirSteps};
 ghost use Rattle.b2_sched.specs.Devices.{RunsTouchListedDevices};
 ghost use Rattle.b2_sched.specs.Groups.{CleanGroupsAreAsAlone, GroupsRelyOnTheirOwn, TurnsChangeTheirOwn};
 ghost use Rattle.b2_sched.specs.Laws.{RunsByActions, LeavesOthers, KeepsPresent, RoundsAscend, CountsTurns, NoPlaceIsKept, RunsKeepToTheirGrant, TurnsCountAllButOne};
 ghost use Rattle.b2_sched.specs.Marking.{TurnsMarkTheirSteps};
-ghost use Rattle.b2_sched.specs.Start.{HasDevices};
+ghost use Rattle.b2_sched.specs.Start.{CanStart};
 
 /// A run is one list of actions, of which each is a key, a front, a halt, a reset or a turn.
 pub fn law_a_run_is_its_actions()
@@ -87,9 +89,14 @@ pub fn law_who_is_clean_is_as_alone()
     ensures { CleanOnesAreAsAlone }
 {}
 
-/// A boot that passed its checks has few devices, each address once.
-pub fn law_a_boot_has_devices()
-    ensures { (b : BootState) → IsGood b → HasDevices b }
+/// A boot that passed its checks has few devices, each address once, and programs whose names can stand in a line.
+pub fn law_a_boot_can_start()
+    ensures { (b : BootState) → IsGood b → CanStart b }
+{}
+
+/// So has a boot with a group alone.
+pub fn law_a_group_can_start_alone()
+    ensures { (b : BootState) (group : ℕ → Bool) → CanStart b → CanStart (alone group b) }
 {}
 
 /// Whatever was run from a boot, each object of a device that a step touched has an address that the boot lists.

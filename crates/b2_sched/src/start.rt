@@ -1,9 +1,13 @@
 // What a world starts with.
-ghost use Rattle.std.specs.Prelude.{◌≡◌, IfOk, OnOk, map};
-ghost use Rattle.b2_sched.specs.Start.{AreNumbered, in_bytes, private_row, areas_of, front_of_boot};
+ghost use Rattle.std.specs.Prelude.{◌≡◌, IfOk, OnOk, map, true};
+ghost use Rattle.std.specs.List.{list_all};
+ghost use Rattle.b2_boot.specs.Boots.{is_program_name};
+ghost use Rattle.b2_sched.specs.Start.{AreNumbered, in_bytes, load_line, may_start, private_row, starting_line, areas_of, front_of_boot};
 
 use b2_access::Private;
-use b2_base::{Addr, NoMemory, Part, Term};
+use b2_alpha::value_len;
+use b2_atom::{Atoms, words};
+use b2_base::{Addr, Name8, NoMemory, Part, Term};
 use b2_boot::{BootPartition, BootPlatter, BootTerminal};
 use b2_store::Rows;
 use std::alloc::Global;
@@ -15,18 +19,55 @@ fn in_bytes(size: u16) -> usize
     usize::from(size) * 1024
 }
 
+/// The line that loads a program from the selected disk and starts it.
+#[tactic(auto, using(crate::proofs::LoadLines::line_loads, crate::proofs::LoadLines::value_taken))]
+fn load_line(alloc: Global, name: Name8) -> Result<Atoms, NoMemory>
+    requires { is_program_name name ≡ true }
+    ensures { IfOk result (λ line. line ≡ load_line name) }
+{
+    let padded = name.bytes();
+    let mut bytes = Vec::new(alloc);
+    bytes.extend_from_slice(&[words::LOAD, words::RUN, b'T', b',', b'"'])?;
+    bytes.extend_from_slice(&padded[..value_len(&padded)])?;
+    bytes.push(b'"')?;
+    match Atoms::of(alloc, &bytes)? {
+        Some(line) => Ok(line),
+        None => unreachable!(),
+    }
+}
+
+/// The line that a partition starts with, where it has a program.
+fn starting_line(alloc: Global, program: Option<Name8>) -> Result<Option<Atoms>, NoMemory>
+    requires { may_start program ≡ true }
+    ensures { IfOk result (λ line. line ≡ starting_line program) }
+{
+    match program {
+        Some(name) => Ok(Some(load_line(alloc, name)?)),
+        None => Ok(None),
+    }
+}
+
+/// A partition as it starts.
+fn private_of(alloc: Global, p: &BootPartition) -> Result<Private, NoMemory>
+    requires { may_start p.now.program ≡ true }
+    ensures { IfOk result (λ me. me ≡ (private_row p.now).1) }
+{
+    let line = starting_line(alloc, p.program)?;
+    Private::new(alloc, p.number, p.terminal, in_bytes(p.vars), line, p.disk)
+}
+
 /// Each partition as it starts. Each has a number and a terminal that there are.
 pub fn privates_of(
     alloc: Global,
     partitions: &[BootPartition],
 ) -> Result<Rows<Part, Private>, NoMemory>
+    requires programs { list_all (λ p. may_start p.program) partitions.now ≡ true }
     ensures started { IfOk result (λ rows. rows ≡ map private_row partitions.now) }
     ensures numbered { OnOk result (AreNumbered partitions.now) }
 {
     let mut rows = Rows::new(alloc);
     for p in partitions {
-        let me = Private::new(alloc, p.number, p.terminal, in_bytes(p.vars), p.disk)?;
-        rows.add(p.number, me)?;
+        rows.add(p.number, private_of(alloc, p)?)?;
     }
     Ok(rows)
 }

@@ -2,7 +2,7 @@
 ghost use Rattle.std.specs.Prelude.{◌≡◌, [], IfOk, IfErr, OnOk, length};
 ghost use Rattle.b2_audit.specs.Marks.{is_clean};
 ghost use Rattle.b2_store.specs.Meaning.{store_of};
-ghost use Rattle.b2_sched.specs.Start.{HasDevices, booted};
+ghost use Rattle.b2_sched.specs.Start.{CanStart, booted};
 ghost use Rattle.b2_sched.specs.World.{does, does_all, turns_from, rounds, happens, ran, GivesTurns, Key, Front, Halt, Reset, Turn};
 
 use crate::basic::Basic;
@@ -53,7 +53,7 @@ impl World {
     /// The world of a boot and of the images of its platters, in its order: each partition as it starts, empty texts, idle
     /// terminals, devices that nobody holds, and nothing marked or counted.
     pub fn boot(alloc: Global, b: &Boot, platters: Vec<Platter>) -> Result<World, NoMemory>
-        requires devices { HasDevices b.now }
+        requires start { CanStart b.now }
         requires as_many { length b.now.platters ≡ length platters.items }
         ensures started { IfOk result (λ w. w ≡ booted b.now platters.items) }
     {

@@ -202,7 +202,7 @@ impl Bench {
         answers: &[u8],
     ) -> Result<Bench, Unanswered> {
         Ok(Bench {
-            me: Private::new(alloc, Part::known(1), Term::known(1), 4096, None)?,
+            me: Private::new(alloc, Part::known(1), Term::known(1), 4096, None, None)?,
             own: program_of(alloc, own)?,
             other: program_of(alloc, other)?,
             globals: Vars::new(alloc, 4096)?,

@@ -264,7 +264,7 @@ fn show_state(into: &mut String, me: &Private) -> Result<(), AllocError> {
 /// What the call of that name gives.
 pub fn answer(alloc: Global, call: &[u8], cells: &mut Cells<'_>) -> Answer {
     let mut store = store_with(alloc, usize::from(number_of(cells.next())))?;
-    let mut me = Private::new(alloc, Part::known(1), Term::known(1), 8192, None)?;
+    let mut me = Private::new(alloc, Part::known(1), Term::known(1), 8192, None, None)?;
     let last = happen_all(alloc, &mut me, &mut store, cells)?;
     let mut into = String::new(alloc);
     match store.terminal(Term::known(1)) {

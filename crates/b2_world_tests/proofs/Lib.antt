@@ -1,2 +1,1 @@
-pub mod BootsAlone
 pub mod TextsKept

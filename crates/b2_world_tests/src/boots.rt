@@ -5,10 +5,10 @@
 //
 // `alone | NAME | PARTITION PARTITION ..`: the boot of a name with these partitions alone.
 ghost use Rattle.std.specs.Prelude.{◌≡◌, IfOk, IfSome};
-ghost use Rattle.b2_sched.specs.Start.{HasDevices};
+ghost use Rattle.b2_sched.specs.Start.{CanStart};
 
 use crate::pieces::word;
-use b2_base::{Addr, NoMemory, Part};
+use b2_base::{Addr, Name8, NoMemory, Part};
 use b2_boot::{Boot, BootErr, BootPartition, BootPlatter, BootTerminal, boot_of};
 use b2_cases::{Cells, bytes_of, small_of, str_of};
 use std::alloc::Global;
@@ -73,6 +73,14 @@ partition=[{number=2,terminal=2,text=8,data=8,globals=2,disk=\"310\"},{number=1,
 platter=[{address=\"D11\",blank=64},{address=\"B10\",image=\"a.img\"},{address=\"310\",blank=16}]
 ";
 
+/// Partition 1 starts with a program of its disk, and partition 2 has none.
+const LOADING: &[u8] = b"\
+quota=20
+terminal=[{number=1,front=1},{number=2,front=2}]
+partition=[{number=1,terminal=1,text=8,data=8,globals=2,disk=\"D11\",program=\"START\"},{number=2,terminal=2,text=8,data=8,globals=2,disk=\"D11\"}]
+platter=[{address=\"D11\",blank=16}]
+";
+
 /// The file of the boot of a name, an empty one where there is none.
 fn file_named(name: &[u8]) -> &'static [u8] {
     match str_of(name) {
@@ -83,14 +91,15 @@ fn file_named(name: &[u8]) -> &'static [u8] {
         "three" => THREE,
         "crossed" => CROSSED,
         "disks" => DISKS,
+        "loading" => LOADING,
         _ => b"",
     }
 }
 
 /// The boot of a name, None where there is none.
-#[tactic(auto, using(b2_sched::proofs::BootDevices::has_devices))]
+#[tactic(auto, using(b2_sched::proofs::BootDevices::can_start))]
 pub fn named(alloc: Global, name: &[u8]) -> Result<Option<Boot>, NoMemory>
-    ensures devices { IfOk result (λ found. IfSome found HasDevices) }
+    ensures start { IfOk result (λ found. IfSome found CanStart) }
 {
     match boot_of(alloc, file_named(name)) {
         Ok(boot) => Ok(Some(boot)),
@@ -125,6 +134,17 @@ fn show_partition(into: &mut String, partition: &BootPartition) -> Result<(), No
         write!(into, " disk ")?;
         show_address(into, disk)?;
     }
+    if let Some(name) = partition.program {
+        show_name(into, name)?;
+    }
+    Ok(())
+}
+
+/// Shows a program's name with all its blanks.
+fn show_name(into: &mut String, name: Name8) -> Result<(), NoMemory> {
+    let padded = name.bytes();
+    let shown = str_of(&padded);
+    write!(into, " program \"{shown}\"")?;
     Ok(())
 }
 
@@ -220,10 +240,10 @@ fn group_of(alloc: Global, cell: &[u8]) -> Result<Option<Vec<Part>>, NoMemory> {
 }
 
 /// A boot with the group of the next cell alone, None where that is misspelled.
-#[tactic(auto, using(crate::proofs::BootsAlone::devices_stay))]
+#[tactic(auto, using(b2_sched::proofs::BootDevices::starts_alone))]
 pub fn alone_of(alloc: Global, boot: &Boot, cells: &mut Cells<'_>) -> Result<Option<Boot>, NoMemory>
-    requires devices { HasDevices boot.now }
-    ensures devices { IfOk result (λ found. IfSome found HasDevices) }
+    requires start { CanStart boot.now }
+    ensures start { IfOk result (λ found. IfSome found CanStart) }
 {
     match group_of(alloc, cells.next())? {
         Some(group) => Ok(Some(boot.alone(alloc, &group)?)),

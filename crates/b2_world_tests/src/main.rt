@@ -4,6 +4,7 @@
 #![tactic(auto)]
 
 mod boots;
+mod files;
 mod images;
 mod logs;
 mod partitions;
@@ -30,6 +31,7 @@ fn called(alloc: Global, call: &str, cells: Cells<'_>) -> Result<String, NoMemor
         "log" => logs::read(alloc, cells),
         "device" => partitions::device(alloc, cells),
         "partition" => partitions::at_start(alloc, cells),
+        "start" => partitions::at_line(alloc, cells),
         "disk" => partitions::disks_at_start(alloc, cells),
         "after" => places::after_unit(alloc, cells),
         "goal" => places::at_goal(alloc, cells),

@@ -6,15 +6,19 @@
 // `partition | NUMBER | TERMINAL | AREA | FLAG | ..`: a partition as it starts, and its flags then and after each that is asked for,
 // `halt` or `reset`.
 //
+// `start | NUMBER | BYTES`: where a partition is that starts with the line of these bytes, and what it has.
+//
 // `disk | NUMBER | ADDRESS`: the disk of a partition that starts on this one, and the one that it is given back at a CLEAR.
 ghost use Rattle.std.specs.Prelude.{◌≡◌, true};
 ghost use Rattle.b2_base.specs.Names.{is_address};
 
 use crate::pieces::show_named;
+use crate::places::said_of;
 use b2_access::{Device, DeviceTable, Private};
+use b2_atom::Atoms;
 use b2_base::{Addr, NoMemory, Part, Term};
 use b2_cases::shown::{show_bytes, show_truth};
-use b2_cases::{Cells, small_of, str_of, whole_of};
+use b2_cases::{Cells, bytes_of, small_of, str_of, whole_of};
 use b2_dec::Mode;
 use std::alloc::Global;
 use std::fmt::Write;
@@ -129,6 +133,30 @@ fn ask(me: &mut Private, flag: &[u8]) {
     }
 }
 
+/// Shows all of these.
+fn show_all(into: &mut String, me: &Private) -> Result<(), NoMemory> {
+    show_places(into, me)?;
+    show_counts(into, me)?;
+    show_pending(into, me)?;
+    show_flags(into, me)
+}
+
+/// A partition that starts with a line.
+pub fn at_line(alloc: Global, row: Cells<'_>) -> Result<String, NoMemory> {
+    let mut cells = row;
+    let Some(part) = Part::of(small_of(cells.next())) else {
+        return Ok(format!(in alloc; "no such partition")?);
+    };
+    let bytes = bytes_of(alloc, cells.next())?;
+    let Some(line) = Atoms::of(alloc, &bytes)? else {
+        return Ok(format!(in alloc; "no line")?);
+    };
+    let me = Private::new(alloc, part, Term::known(1), 2048, Some(line), None)?;
+    let mut shown = said_of(alloc, &me.place)?;
+    show_all(&mut shown, &me)?;
+    Ok(shown)
+}
+
 /// A partition as it starts, and its flags after each that is asked for.
 pub fn at_start(alloc: Global, row: Cells<'_>) -> Result<String, NoMemory> {
     let mut cells = row;
@@ -138,14 +166,11 @@ pub fn at_start(alloc: Global, row: Cells<'_>) -> Result<String, NoMemory> {
         return Ok(format!(in alloc; "no such partition")?);
     };
     let area = whole_of(cells.next()) as usize;
-    let mut me = Private::new(alloc, part, term, area, None)?;
+    let mut me = Private::new(alloc, part, term, area, None, None)?;
     let number = me.part.number();
     let terminal = me.term.number();
     let mut shown = format!(in alloc; "partition {number} at {terminal}")?;
-    show_places(&mut shown, &me)?;
-    show_counts(&mut shown, &me)?;
-    show_pending(&mut shown, &me)?;
-    show_flags(&mut shown, &me)?;
+    show_all(&mut shown, &me)?;
     for _ in 0..u64::MAX {
         if cells.is_empty() {
             break;
@@ -172,7 +197,7 @@ pub fn disks_at_start(alloc: Global, row: Cells<'_>) -> Result<String, NoMemory>
     let Some(part) = Part::of(small_of(cells.next())) else {
         return Ok(format!(in alloc; "no such partition")?);
     };
-    let me = Private::new(alloc, part, Term::known(1), 0, Addr::of(cells.next()))?;
+    let me = Private::new(alloc, part, Term::known(1), 0, None, Addr::of(cells.next()))?;
     let mut shown = String::new(alloc);
     show_disk(&mut shown, "disk ", me.disk)?;
     show_disk(&mut shown, ", at first ", me.boot_disk)?;

@@ -60,8 +60,8 @@ fn place_of(line: Option<u16>, unit: u8) -> Place
     }
 }
 
-/// Shows a place.
-fn said_of(alloc: Global, place: &Option<Place>) -> Result<String, NoMemory> {
+/// Says what a place is.
+pub fn said_of(alloc: Global, place: &Option<Place>) -> Result<String, NoMemory> {
     let Some(place) = place else {
         return Ok(format!(in alloc; "none")?);
     };

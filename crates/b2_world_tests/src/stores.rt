@@ -3,7 +3,8 @@
 //
 // `store | CALL | ..`: what the calls answer one after another. Accesses begin with the number of the partition that asks: `1 show
 // TERMINAL BYTES`, `1 read TERMINAL`, `1 insert TERMINAL BYTES`, `1 key TERMINAL`, `1 put LINE SOURCE`, `1 take LINE`, `1 erase FROM
-// TO`, `1 clear`, `1 limits ADDRESS [NAME]`, `1 list ADDRESS`, `1 scratch ADDRESS NAME`, `1 format ADDRESS SECTORS END`. Others are
+// TO`, `1 clear`, `1 limits ADDRESS [NAME]`, `1 list ADDRESS`, `1 scratch ADDRESS NAME`, `1 format ADDRESS SECTORS END`, and those at
+// files, which `files.rt` names. Others are
 // `press TERMINAL BYTES` and `special TERMINAL N` for keys, `front TERMINAL PARTITION`, `shown TERMINAL` for its transcript,
 // `platter ADDRESS PLACE COUNT` for the sectors of a platter and bytes of it in hexadecimal digits, `lend PARTITION HOME` for the
 // first lines of both texts and whether `@` variables are found, for the partitions 1 and 2, and `clean` for the partitions that
@@ -15,6 +16,7 @@ ghost use Rattle.b2_access.specs.Touching.{IsLegal};
 ghost use Rattle.b2_store.specs.Meaning.{store_of};
 ghost use Rattle.b2_world_tests.specs.Texts.{HasTexts, KeepsTexts};
 
+use crate::files;
 use crate::images::platter_spelled;
 use crate::pieces::{show_named, word};
 use b2_access::{Access, Answer, At, Object, Shared};
@@ -151,6 +153,7 @@ fn access_of(alloc: Global, spelled: &[u8]) -> Result<Option<Access>, NoMemory>
     match kind {
         "show" | "read" | "insert" | "key" => at_terminal(alloc, kind, rest),
         "limits" | "list" | "scratch" | "format" => Ok(at_disk(kind, rest)),
+        _ if files::is_file_access(kind) => files::access_of(alloc, kind, rest),
         _ => at_text(alloc, kind, rest),
     }
 }
@@ -177,8 +180,8 @@ fn show_answer(into: &mut String, answer: &Answer) -> Result<(), NoMemory> {
         }
         Answer::Moved(place) => write!(into, "moved to {place}")?,
         Answer::Values(values, place) => {
-            let count = values.values().len();
-            write!(into, "{count} values up to {place}")?;
+            files::show_values(into, values)?;
+            write!(into, " up to {place}")?;
         }
         Answer::AtEnd => into.push_str("at the end")?,
         Answer::Wait(part) => {

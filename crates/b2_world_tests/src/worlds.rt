@@ -9,7 +9,7 @@
 // spelled: the sectors of a platter, its index sectors, the first sector after its catalogue, and the next free one. In the
 // other rows each image is that of a blank platter.
 ghost use Rattle.std.specs.Prelude.{◌≡◌, IfOk, length};
-ghost use Rattle.b2_sched.specs.Start.{HasDevices};
+ghost use Rattle.b2_sched.specs.Start.{CanStart};
 
 use crate::boots::{alone_of, named, no_boot};
 use crate::images::{BLANK, platter_of};
@@ -72,7 +72,7 @@ fn platters_of(alloc: Global, rows: &[BootPlatter], image: &[u8]) -> Result<Vec<
 
 /// The world of a boot as it starts, where all images are the one that is spelled.
 fn booted(alloc: Global, boot: &Boot, image: &[u8]) -> Result<World, NoMemory>
-    requires devices { HasDevices boot.now }
+    requires start { CanStart boot.now }
 {
     let platters = platters_of(alloc, &boot.platters, image)?;
     World::boot(alloc, boot, platters)
@@ -80,7 +80,7 @@ fn booted(alloc: Global, boot: &Boot, image: &[u8]) -> Result<World, NoMemory>
 
 /// What happens event by event in the world of a boot.
 fn after_events(alloc: Global, boot: &Boot, events: &[Event]) -> Result<World, NoMemory>
-    requires devices { HasDevices boot.now }
+    requires start { CanStart boot.now }
 {
     let mut world = booted(alloc, boot, BLANK)?;
     for event in events {
@@ -91,7 +91,7 @@ fn after_events(alloc: Global, boot: &Boot, events: &[Event]) -> Result<World, N
 
 /// The world of a boot after the run of a log.
 fn after_run(alloc: Global, boot: &Boot, events: &[Event]) -> Result<World, NoMemory>
-    requires devices { HasDevices boot.now }
+    requires start { CanStart boot.now }
 {
     let mut world = booted(alloc, boot, BLANK)?;
     world.run(events)?;

@@ -1,5 +1,5 @@
 // Platters: the images that a run starts from and those that it writes, and each way in which an image is refused.
-use super::{alone_words, put, run_over, shelf, shelf_with};
+use super::{alone_words, put, run_over, run_words, shelf, shelf_with};
 use crate::top::mvp;
 use b2_base::{MemShelf, MemSink};
 use std::alloc::{AllocError, Global};
@@ -548,8 +548,124 @@ const APPENDED: &[u8] = b"READY\n\
 fn two_partitions_append_to_one_file(rt: HostRuntime) -> Result<(), Fail> {
     let alloc = rt.alloc();
     let mut shelf = shelf(alloc, Some(BLANKS), Some(APPENDING), &[])?;
-    let status = run_over(alloc, &mut shelf)?;
+    let mut sink = MemSink::new(alloc, Vec::new(alloc));
+    let status = mvp(alloc, &run_words(alloc)?, &mut shelf, &mut sink);
     assert_eq!(rt; status.number(), 0);
     assert_eq!(rt; shelf.file(b"out.t01"), Some(APPENDED));
+    assert!(rt; sink.written().ends_with(b" dropped 0 apart -\n"));
+    Ok(())
+}
+
+// Three partitions on a disk of 64 blank sectors, and another disk of as many.
+#[rattlefmt::skip]
+const THREE: &[u8] = b"\
+quota=20\n\
+[[terminal]]\nnumber=1\nfront=1\n\
+[[terminal]]\nnumber=2\nfront=2\n\
+[[terminal]]\nnumber=3\nfront=3\n\
+[[partition]]\nnumber=1\nterminal=1\ntext=8\ndata=8\nglobals=2\ndisk=\"D11\"\n\
+[[partition]]\nnumber=2\nterminal=2\ntext=8\ndata=8\nglobals=2\ndisk=\"D11\"\n\
+[[partition]]\nnumber=3\nterminal=3\ntext=8\ndata=8\nglobals=2\ndisk=\"D11\"\n\
+[[platter]]\naddress=\"D11\"\nblank=64\n\
+[[platter]]\naddress=\"D12\"\nblank=64\n\
+";
+
+// Partitions 1 and 2 each make a file on D12, and 1 comes back to it; 1 and 3 ask D11, which nobody wrote.
+#[rattlefmt::skip]
+const MEETING: &[u8] = b"\
+type 1 DATASAVE DC OPEN T/D12,2,\"A\"\n\
+rounds 20\n\
+type 2 DATASAVE DC OPEN T/D12,2,\"B\"\n\
+rounds 20\n\
+type 1 LIMITS T/D12,A,B,C\n\
+rounds 20\n\
+type 1 LIMITS T/D11,A,B,C:PRINT A;B;C\n\
+rounds 20\n\
+type 3 LIMITS T/D11,A,B,C:PRINT A;B;C\n\
+rounds 20\n\
+";
+
+// Who meets another at a disk isn't apart, and who meets nobody shows the same alone.
+#[test]
+fn who_writes_on_a_disk_meets_who_comes_to_it(rt: HostRuntime) -> Result<(), Fail> {
+    let alloc = rt.alloc();
+    let mut common = shelf(alloc, Some(THREE), Some(MEETING), &[])?;
+    let mut sink = MemSink::new(alloc, Vec::new(alloc));
+    let status = mvp(alloc, &run_words(alloc)?, &mut common, &mut sink);
+    assert_eq!(rt; status.number(), 0);
+    assert!(rt; sink.written().ends_with(b" dropped 0 apart 3\n"));
+    let shown = b"READY\n:LIMITS T/D11,A,B,C:PRINT A;B;C\n 2  64  2 \n:".as_slice();
+    assert_eq!(rt; common.file(b"out.t03"), Some(shown));
+    let mut apart = shelf(alloc, Some(THREE), Some(MEETING), &[])?;
+    let words = alone_words(alloc, b"3")?;
+    assert_eq!(rt; mvp(alloc, &words, &mut apart, &mut sink).number(), 0);
+    assert_eq!(rt; apart.file(b"out.t03"), Some(shown));
+    Ok(())
+}
+
+// One partition on a disk of 256 blank sectors.
+#[rattlefmt::skip]
+const LARGE: &[u8] = b"\
+quota=20\n\
+[[terminal]]\nnumber=1\nfront=1\n\
+[[partition]]\nnumber=1\nterminal=1\ntext=8\ndata=8\nglobals=2\ndisk=\"D11\"\n\
+[[platter]]\naddress=\"D11\"\nblank=256\n\
+";
+
+// Sixteen names whose hash is 0: all slots of the first index sector are taken, and one of the second.
+#[rattlefmt::skip]
+const EVEN: &[u8] = b"\
+type 1 DIM A$31:A$=\"BDFHJLNPRTVXZ024\":FOR I=1 TO 16:DATASAVE DC OPEN T,2,STR(A$,I,1):NEXT I\n\
+rounds 20\n\
+";
+
+// Fifteen names whose hash is 1: all slots are taken. A scratched file's slot and sectors are used again.
+#[rattlefmt::skip]
+const ODD: &[u8] = b"\
+type 1 A$=\"ACEGIKMOQSUWY13\":FOR I=1 TO 15:DATASAVE DC OPEN T,2,STR(A$,I,1):NEXT I\n\
+rounds 20\n\
+type 1 DATASAVE DC OPEN T,2,\"5\"\n\
+rounds 20\n\
+type 1 SCRATCH T,\"B\":DATASAVE DC OPEN T,(\"B\"),\"B\"\n\
+rounds 20\n\
+type 1 LIMITS T,\"B\",A,B,C,D:PRINT A;B;C;D\n\
+rounds 20\n\
+";
+
+#[rattlefmt::skip]
+const FILLED: &[u8] = b"READY\n\
+:DIM A$31:A$=\"BDFHJLNPRTVXZ024\":FOR I=1 TO 16:DATASAVE DC OPEN T,2,STR(A$,I,1):NEXT I\n\
+:A$=\"ACEGIKMOQSUWY13\":FOR I=1 TO 15:DATASAVE DC OPEN T,2,STR(A$,I,1):NEXT I\n\
+:DATASAVE DC OPEN T,2,\"5\"\n\
+ERR D85\n\
+:SCRATCH T,\"B\":DATASAVE DC OPEN T,(\"B\"),\"B\"\n\
+:LIMITS T,\"B\",A,B,C,D:PRINT A;B;C;D\n\
+\x202  3  1  2 \n\
+:";
+
+// Some bytes of the image at D11.
+fn bytes_at(shelf: &MemShelf, place: usize, count: usize) -> &[u8] {
+    let image = shelf.file(b"out.D11").unwrap_or(b"");
+    image.get(place..place.saturating_add(count)).unwrap_or(b"")
+}
+
+#[test]
+fn an_index_is_filled(rt: HostRuntime) -> Result<(), Fail> {
+    let alloc = rt.alloc();
+    let mut first = shelf(alloc, Some(LARGE), Some(EVEN), &[])?;
+    assert_eq!(rt; run_over(alloc, &mut first)?.number(), 0);
+    assert_eq!(rt;
+        bytes_at(&first, 256, 16),
+        b"\x10\x44\x00\x20\x00\x21\x00\x004       ".as_slice()
+    );
+    let mut log = Vec::from_slice(alloc, EVEN)?;
+    log.extend_from_slice(ODD)?;
+    let mut second = shelf(alloc, Some(LARGE), Some(&log), &[])?;
+    assert_eq!(rt; run_over(alloc, &mut second)?.number(), 0);
+    assert_eq!(rt; second.file(b"out.t01"), Some(FILLED));
+    assert_eq!(rt;
+        bytes_at(&second, 0, 8),
+        b"\x01\x02\x01\x00\x01\x00\x00\x40".as_slice()
+    );
     Ok(())
 }

@@ -23,6 +23,7 @@
 // The last session of each table is wrong, so that it is seen to be told.
 mod arrays;
 mod branches;
+mod brought;
 mod bytes;
 mod calls;
 mod data;
@@ -41,15 +42,14 @@ mod steps;
 mod texts;
 mod variables;
 
-use super::platters::two_files;
-use super::{shelf_with, transcript_over};
+use super::{shelf_with_images, transcript_over};
 use b2_base::cut;
 use b2_base::lexical::{first_bytes, hex_value, is_hex_digit, rest_after};
 use std::alloc::{AllocError, Global};
 use std::process::Abort;
 use std::test::Fail;
 
-// Partition 1 on terminal 1, on a disk of 64 blank sectors; another one, and one with two files.
+// Partition 1 on terminal 1, on a disk of 64 blank sectors; another one, one with two files, and one with program files.
 #[rattlefmt::skip]
 const BOOT: &[u8] = b"\
 quota=1000\n\
@@ -58,6 +58,7 @@ quota=1000\n\
 [[platter]]\naddress=\"D11\"\nblank=64\n\
 [[platter]]\naddress=\"D12\"\nblank=64\n\
 [[platter]]\naddress=\"D13\"\nimage=\"files\"\n\
+[[platter]]\naddress=\"B20\"\nimage=\"programs\"\n\
 ";
 
 // What is said of a table in which the last session alone is wrong.
@@ -179,8 +180,7 @@ impl<'a> Session<'a> {
         if self.is_ended {
             self.transcript.push(b':')?;
         }
-        let image = two_files(alloc)?;
-        let mut shelf = shelf_with(alloc, BOOT, &self.log, b"files", &image)?;
+        let mut shelf = shelf_with_images(alloc, BOOT, &self.log)?;
         let shown = transcript_over(alloc, &mut shelf)?;
         if shown != self.transcript {
             told.push_str("= ")?;
