@@ -5,7 +5,7 @@ use Rattle.std.proofs.lemmas.Bool.{and_parts, leb-true}
 use Rattle.std.proofs.lemmas.Bool.Decides.{nat_tests}
 use Rattle.std.specs.List.{suffix_len}
 use Rattle.b2_base.specs.Byte as byte
-use Rattle.b2_base.specs.Lexical.{all_printable}
+use Rattle.b2_base.specs.Lexical.{is_printable, all_printable}
 use Rattle.b2_base.specs.Names.{is_name8}
 use Rattle.b2_alpha.specs.Values.{is_blank, value_of}
 use Rattle.b2_atom.specs.Words.{Text}
