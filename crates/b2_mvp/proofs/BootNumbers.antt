@@ -4,7 +4,7 @@ use Rattle.std.specs.Prelude.{filter}
 use Rattle.std.specs.List.{list_all}
 use Rattle.std.proofs.lemmas.Bool.{and_parts, leb-true}
 use Rattle.b2_boot.specs.Alone.{is_in_group}
-use Rattle.b2_boot.specs.Boots.{BootState, boot_of, boot_by_document, boot_by_rows, boot_from, check_of_rows, partitions_by_number, terminals_by_number, unless_failed, has_its_places, may_be_address, partition_of}
+use Rattle.b2_boot.specs.Boots.{BootState, boot_of, boot_by_document, boot_by_rows, boot_from, check_of_rows, partitions_by_number, terminals_by_number, unless_failed, has_its_places, may_be_address, may_be_program, partition_of}
 use Rattle.b2_boot.specs.Rows.{RowsState, document_of, document_rows, is_between}
 use Rattle.b2_boot.specs.declared.boot.BootPartition.{BootPartition}
 use Rattle.b2_boot.specs.declared.rows.PartitionRow.{PartitionRow}
@@ -19,8 +19,9 @@ rows_numbered : (ps : List PartitionRow) → list_all has_its_places ps ≡ true
 rows_numbered [] h = tt
 rows_numbered (p ∷ ps) h =
     let both = and_parts (has_its_places p) (list_all has_its_places ps) h in
-    let here = and_parts (is_between 1 16 p.number) (is_between 1 12 p.terminal && may_be_address p.disk) both.0 in
-    let there = and_parts (is_between 1 12 p.terminal) (may_be_address p.disk) here.1 in
+    let disk_and_program = may_be_address p.disk && may_be_program p.program in
+    let here = and_parts (is_between 1 16 p.number) (is_between 1 12 p.terminal && disk_and_program) both.0 in
+    let there = and_parts (is_between 1 12 p.terminal) disk_and_program here.1 in
     (within 16 p.number here.0, within 12 p.terminal there.0, rows_numbered ps both.1)
 
 by_check : (rows : RowsState) (b : BootState) (check : Option ℕ) → check_of_rows rows ≡ check → unless_failed check (boot_from rows) ≡ Ok b → AreNumbered b.partitions
