@@ -1,5 +1,5 @@
 -- Where an answer delays a step, what came of the access is to be asked for again.
-use Rattle.std.specs.Prelude.{◌≡◌, ◌⊎◌, true, false, None, refl}
+use Rattle.std.specs.Prelude.{◌≡◌, ◌⊎◌, true, None, refl}
 use Rattle.std.proofs.Common.{inl, inr}
 use Rattle.b2_access.specs.declared.accesses.Access.{Access}
 use Rattle.b2_access.specs.declared.accesses.Access.TheVariants as access
@@ -18,11 +18,11 @@ use Rattle.b2_access.specs.Views.{
   ProgramLater,
   DeviceBusy,
   TakingLater,
-  are_freed,
   change_came,
   clear_came,
   column_printed,
   column_shown,
+  devices_freed,
   key_came,
   limits_told,
   line_came,
@@ -42,9 +42,9 @@ pub none_printed : (x : Access) (a : Answer) → delays a ≡ true → column_pr
 none_printed (access.PrintTo addr bytes column) answer.Done h = cc
 none_printed x a h = refl
 
-pub freed_never_delayed : (x : Access) (a : Answer) → delays a ≡ true → are_freed x a ≡ false
-freed_never_delayed (access.CloseDevices addrs) answer.Done h = cc
-freed_never_delayed x a h = refl
+pub none_freed : (x : Access) (a : Answer) → delays a ≡ true → devices_freed x a ≡ None
+none_freed (access.CloseDevices addrs) answer.Done h = cc
+none_freed x a h = refl
 
 pub taking_delayed : (x : Access) (a : Answer) → delays a ≡ true → (taking_came x a ≡ DeviceBusy) ⊎ (taking_came x a ≡ TakingLater)
 taking_delayed (access.OpenDevices addrs) answer.Done h = cc

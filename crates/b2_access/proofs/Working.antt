@@ -1,12 +1,13 @@
 -- What statements leave by their form: whatever such a statement plans, and however it finishes, what it changed is put back, and all else
 -- stays.
-use Rattle.std.proofs.Common.{◌≡◌, ◌∙◌, ℕ, Bool, ap, inl, refl}
+use Rattle.std.proofs.Common.{◌≡◌, ◌∙◌, ℕ, Bool, List, Option, Some, None, ap, inl, inr, refl}
 use Rattle.b2_access.specs.Homes.{FinishesWithin, IsWithin, PlannedIn, PlansWithin}
 use Rattle.b2_access.specs.Keeping.{FinishesInPlace, FinishesKeepNone, PlansInPlace, PlansKeepNone}
 use Rattle.b2_access.specs.Lending.{SeenLent}
 use Rattle.b2_access.specs.OwnTerminal.{FinishesAtTerminal, PlannedAt, PlansAtTerminal}
+use Rattle.b2_access.specs.Pending.{FinishesToShow, KeepsOrShows, PendingOutput, PlansToShow}
 use Rattle.b2_access.specs.Waiting.{FinishesUnchanged, PlansBeforeChanges, UnchangedIfAsks}
-use Rattle.b2_access.specs.Working.{Ends, Plans, LeadsWithin, PlansEachWithin, PlansEachAtTerminal, ChangesNoWork, Work, Worked, Working, as_planned, finishes_by, planned_of, plans_by, put_back, work_of}
+use Rattle.b2_access.specs.Working.{Ends, Plans, LeadsWithin, PlansEachWithin, PlansEachAtTerminal, ChangesNoWork, Work, Worked, Working, as_planned, finishes_by, planned_of, plans_by, put_back, waiting_after, work_of}
 use Rattle.b2_access.specs.declared.accesses.Access.{Access}
 use Rattle.b2_access.specs.declared.accesses.Answer.{Answer}
 use Rattle.b2_access.specs.declared.planned.Planned.{Planned}
@@ -25,6 +26,10 @@ as_it_comes P me s (Plans p) h = h
 
 pub within : (among : ℕ → Bool) (me : Private) (w : Work) → IsWithin among me → IsWithin among (put_back w me)
 within among me w h = record { part = h.part; place = h.place; kept = h.kept; frames = h.frames }
+
+pub keeps_or_shows : (o : Option (List ℕ)) (before : PendingOutput) → KeepsOrShows before (waiting_after o before)
+keeps_or_shows None before = inl refl
+keeps_or_shows (Some text) before = inr refl
 
 unchanged_if_asks : (me : Private) (s : SeenLent) (p : Planned) → UnchangedIfAsks me me p
 unchanged_if_asks me s (planned.Done o) = tt
@@ -49,6 +54,9 @@ module _ (way : Private → SeenLent → Working) where
   pub plans_at_terminal : PlansEachAtTerminal way → PlansAtTerminal (plans_by way)
   plans_at_terminal h me s = (after_plan (λ x. x.term ≡ me.term) me s (way me s) (λ w. refl), as_it_comes (PlannedAt me.term) me s (way me s) (h me s))
 
+  pub plans_to_show : PlansToShow (plans_by way)
+  plans_to_show me s = after_plan (λ x. KeepsOrShows me.pending x.pending) me s (way me s) (λ w. keeps_or_shows w.shows me.pending)
+
   pub plans_before_changes : PlansBeforeChanges (plans_by way)
   plans_before_changes me s = before_changes me s (way me s)
 
@@ -65,6 +73,9 @@ module _ (way : Access → Answer → Private → SeenLent → Worked) where
 
   pub finishes_at_terminal : FinishesAtTerminal (finishes_by way)
   finishes_at_terminal x a me s = refl
+
+  pub finishes_to_show : FinishesToShow (finishes_by way)
+  finishes_to_show x a me s = keeps_or_shows (way x a me s).work.shows me.pending
 
   pub finishes_unchanged : ChangesNoWork way → FinishesUnchanged (finishes_by way)
   finishes_unchanged h x a me s is = ap (λ (w : Work). put_back w me) (h x a me s is)

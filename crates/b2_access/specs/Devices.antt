@@ -1,5 +1,5 @@
 -- Which devices there are, and who may use one.
-use Rattle.std.specs.Prelude.{ℕ, Bool, true, false, not, ◌&&◌, ◌==◌, List, [], ◌∷◌, Option, None}
+use Rattle.std.specs.Prelude.{ℕ, Bool, true, false, not, ◌&&◌, ◌==◌, List, [], ◌∷◌, Option}
 use Rattle.std.specs.List.{list_any}
 use Rattle.std.specs.Str.{bytes_eq}
 use Rattle.std.specs.Option.{option_map_or}
@@ -25,10 +25,6 @@ is_platter_for who a devices = has_device false who a devices
 
 abbrev pub is_printer_for : ℕ → List ℕ → List Device → Bool
 is_printer_for who a devices = has_device true who a devices
-
--- a platter that every partition may use
-abbrev pub platter_device : List ℕ → Device
-platter_device a = record { addr = a; printer = false; only = None }
 
 -- no address stands twice
 abbrev pub are_distinct : List (List ℕ) → Bool

@@ -3,6 +3,7 @@ use Rattle.b2_access.specs.Homes.{FinishesWithin, PlansWithin}
 use Rattle.b2_access.specs.Keeping.{FinishesInPlace, FinishesKeepNone, PlansInPlace, PlansKeepNone}
 use Rattle.b2_access.specs.Lending.{SeenLent}
 use Rattle.b2_access.specs.OwnTerminal.{FinishesAtTerminal, PlansAtTerminal}
+use Rattle.b2_access.specs.Pending.{FinishesToShow, PlansToShow}
 use Rattle.b2_access.specs.Planning.{Finishing, Planning}
 use Rattle.b2_access.specs.Waiting.{FinishesUnchanged, PlansBeforeChanges}
 use Rattle.b2_access.specs.declared.accesses.Access.{Access}
@@ -10,8 +11,8 @@ use Rattle.b2_access.specs.declared.accesses.Answer.{Answer}
 use Rattle.b2_access.specs.declared.private.Private.{Private}
 
 -- They name no partition but the statement's own and those that were named before; they leave its place, and keep one for
--- CONTINUE only where it ends the program; they leave its terminal, and ask there alone; and where it asks or has to wait,
--- nothing has changed.
+-- CONTINUE only where it ends the program; they leave its terminal, ask there alone, and make nothing wait to be shown but what is for
+-- it; and where it asks or has to wait, nothing has changed.
 pub record LeaveTheRest (plan : Private → SeenLent → Planning) (finish : Access → Answer → Private → SeenLent → Finishing) : Type 0 where
   pub plans_within : PlansWithin plan
   pub finishes_within : FinishesWithin finish
@@ -21,5 +22,7 @@ pub record LeaveTheRest (plan : Private → SeenLent → Planning) (finish : Acc
   pub finishes_keep_none : FinishesKeepNone finish
   pub plans_at_terminal : PlansAtTerminal plan
   pub finishes_at_terminal : FinishesAtTerminal finish
+  pub plans_to_show : PlansToShow plan
+  pub finishes_to_show : FinishesToShow finish
   pub plans_before_changes : PlansBeforeChanges plan
   pub finishes_unchanged : FinishesUnchanged finish

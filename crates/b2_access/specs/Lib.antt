@@ -35,6 +35,7 @@ pub mod OwnTerminal
 pub mod OwnDevices
 pub mod OpenFiles
 pub mod Waiting
+pub mod Pending
 pub mod LeftAlone
 pub mod Working
 pub mod Steering

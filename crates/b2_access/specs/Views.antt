@@ -1,6 +1,6 @@
 -- What came of an access, as those see it who asked for it: each view tells the answers that one kind of statement looks at, and no
 -- others. So an access or an answer that comes later touches no statement that has nothing to do with it.
-use Rattle.std.specs.Prelude.{ℕ, Bool, true, false, List, Option, Some, None}
+use Rattle.std.specs.Prelude.{ℕ, List, Option, Some, None}
 use Rattle.b2_base.specs.declared.files.Slot.{Slot}
 use Rattle.b2_dec.specs.declared.values.Value.{Value}
 use Rattle.b2_access.specs.declared.accesses.Access.{Access}
@@ -21,19 +21,19 @@ column_printed x a = None
 
 -- what came of taking devices: they are taken, or another holds one of them; or they are asked for again
 pub data TakingCame : Type 0 where
-  DevicesTaken : TakingCame
+  DevicesTaken : List (List ℕ) → TakingCame
   DeviceBusy : TakingCame
   TakingLater : TakingCame
 
 abbrev pub taking_came : Access → Answer → TakingCame
-taking_came (access.OpenDevices addrs) answer.Done = DevicesTaken
+taking_came (access.OpenDevices addrs) answer.Done = DevicesTaken addrs
 taking_came (access.OpenDevices addrs) (answer.Wait q) = DeviceBusy
 taking_came x a = TakingLater
 
--- whether devices were freed
-abbrev pub are_freed : Access → Answer → Bool
-are_freed (access.CloseDevices addrs) answer.Done = true
-are_freed x a = false
+-- the devices that were freed where they were the own, None where it is asked for again
+abbrev pub devices_freed : Access → Answer → Option (List (List ℕ))
+devices_freed (access.CloseDevices addrs) answer.Done = Some addrs
+devices_freed x a = None
 
 -- what came of asking for a key: a byte, a special function key, or none so far; or it is asked for again
 pub data KeyCame : Type 0 where

@@ -2,7 +2,7 @@
 -- partition is a record of its own, which is put back in one place. So by its type it leaves the partition itself and its terminal, where
 -- it stands, its frames and the place that is kept, the platter that it starts with, the lines that it was given, and what was asked of
 -- it.
-use Rattle.std.specs.Prelude.{◌≡◌, ℕ, Bool, true, List, Option}
+use Rattle.std.specs.Prelude.{◌≡◌, ℕ, Bool, true, List, Option, Some, None}
 use Rattle.b2_base.specs.declared.files.Slot.{Slot}
 use Rattle.b2_dec.specs.declared.number.Mode.{Mode}
 use Rattle.b2_dec.specs.declared.values.Value.{Value}
@@ -14,6 +14,8 @@ use Rattle.b2_access.specs.Homes.{FinishesWithin, OutcomeIn, PlaceIn, PlannedIn,
 use Rattle.b2_access.specs.Keeping.{FinishesInPlace, FinishesKeepNone, PlansInPlace, PlansKeepNone}
 use Rattle.b2_access.specs.Lending.{SeenLent}
 use Rattle.b2_access.specs.OwnTerminal.{FinishesAtTerminal, PlannedAt, PlansAtTerminal}
+use Rattle.b2_access.specs.Partition.{terminal_address}
+use Rattle.b2_access.specs.Pending.{FinishesToShow, PendingOutput, PlansToShow}
 use Rattle.b2_access.specs.Planning.{Ended, Finishing, Planning, done, finished, goes_or}
 use Rattle.b2_access.specs.Waiting.{FinishesUnchanged, PlansBeforeChanges}
 use Rattle.b2_access.specs.declared.accesses.Access.{Access}
@@ -27,13 +29,16 @@ pub record Work : Type 0 where
   pub mode : Mode
   pub vars : VarsState
   pub slots : List (Option Slot)
+  pub held : List (List ℕ)
+  pub print : List ℕ
   pub disk : Option (List ℕ)
   pub term_column : ℕ
+  pub print_column : ℕ
   pub last : ℕ
   pub at_end : Bool
   pub next_data : Option (Spot × ℕ)
   pub args : Option (List Value)
-  pub pending : Option (List ℕ × List ℕ)
+  pub shows : Option (List ℕ)
   pub literal : Option (List ℕ)
   pub prompted : Bool
 
@@ -42,29 +47,40 @@ work_of me = record {
   mode = me.mode;
   vars = me.vars;
   slots = me.slots;
+  held = me.held;
+  print = me.print;
   disk = me.disk;
   term_column = me.term_column;
+  print_column = me.print_column;
   last = me.last;
   at_end = me.at_end;
   next_data = me.next_data;
   args = me.args;
-  pending = me.pending;
+  shows = None;
   literal = me.literal;
   prompted = me.prompted;
 }
+
+-- What it makes wait to be shown is for the terminal; where it makes nothing wait, what waited before still does.
+abbrev pub waiting_after : Option (List ℕ) → PendingOutput → PendingOutput
+waiting_after None before = before
+waiting_after (Some text) before = Some (terminal_address, text)
 
 abbrev pub put_back : Work → Private → Private
 put_back w me = record me {
   mode = w.mode;
   vars = w.vars;
   slots = w.slots;
+  held = w.held;
+  print = w.print;
   disk = w.disk;
   term_column = w.term_column;
+  print_column = w.print_column;
   last = w.last;
   at_end = w.at_end;
   next_data = w.next_data;
   args = w.args;
-  pending = w.pending;
+  pending = waiting_after w.shows me.pending;
   literal = w.literal;
   prompted = w.prompted;
 }
@@ -128,11 +144,11 @@ ChangesNoWork way = (x : Access) (a : Answer) (me : Private) (s : SeenLent) → 
 abbrev pub PlansArePutBack : Type 0
 PlansArePutBack =
     (way : Private → SeenLent → Working)
-    → PlansInPlace (plans_by way) × PlansKeepNone (plans_by way) × PlansBeforeChanges (plans_by way)
+    → PlansInPlace (plans_by way) × PlansKeepNone (plans_by way) × PlansBeforeChanges (plans_by way) × PlansToShow (plans_by way)
     × (PlansEachWithin way → PlansWithin (plans_by way)) × (PlansEachAtTerminal way → PlansAtTerminal (plans_by way))
 
 abbrev pub FinishesArePutBack : Type 0
 FinishesArePutBack =
     (way : Access → Answer → Private → SeenLent → Worked)
-    → FinishesInPlace (finishes_by way) × FinishesKeepNone (finishes_by way) × FinishesAtTerminal (finishes_by way)
+    → FinishesInPlace (finishes_by way) × FinishesKeepNone (finishes_by way) × FinishesAtTerminal (finishes_by way) × FinishesToShow (finishes_by way)
     × (LeadsWithin way → FinishesWithin (finishes_by way)) × (ChangesNoWork way → FinishesUnchanged (finishes_by way))

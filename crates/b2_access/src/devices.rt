@@ -1,9 +1,8 @@
 // Which devices there are.
-ghost use Rattle.std.specs.Prelude.{◌≡◌, ◌≤◌, IfOk, length, true, map};
+ghost use Rattle.std.specs.Prelude.{◌≡◌, ◌≤◌, length, true, map};
 ghost use Rattle.b2_access.specs.Devices as spec;
 
-use b2_base::{Addr, NoMemory, Part};
-use std::alloc::Global;
+use b2_base::{Addr, Part};
 use std::marker::Model;
 
 /// A device: its address, whether it is a printer or else a platter, and the partition that alone may use it, if one is named.
@@ -53,32 +52,7 @@ fn has_device(devices: &[Device], printer: bool, who: Part, a: Addr) -> bool
     false
 }
 
-/// Platters that every partition may use.
-fn platters(alloc: Global, addresses: &[Addr]) -> Result<Vec<Device>, NoMemory>
-    ensures { IfOk result (λ devices. devices.items ≡ map spec.platter_device addresses.now) }
-{
-    let mut devices = Vec::new(alloc);
-    for a in addresses {
-        devices.push(Device {
-            addr: *a,
-            printer: false,
-            only: None,
-        })?;
-    }
-    Ok(devices)
-}
-
 impl DeviceTable {
-    /// The table of platters at these addresses, which every partition may use.
-    pub fn of_platters(alloc: Global, addresses: &[Addr]) -> Result<DeviceTable, NoMemory>
-        requires few { length addresses.now ≤ 12 }
-        requires distinct { spec.are_distinct addresses.now ≡ true }
-        ensures rows { IfOk result (λ table. table ≡ map spec.platter_device addresses.now) }
-    {
-        let rows = platters(alloc, addresses)?;
-        Ok(DeviceTable { rows })
-    }
-
     /// The table of these devices. It takes no memory.
     pub fn new(rows: Vec<Device>) -> DeviceTable
         requires few { length rows.items ≤ 12 }

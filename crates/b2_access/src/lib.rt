@@ -5,7 +5,7 @@
 //! of an `Object`, of which there is an `Answer`. `Shared` is a store of any kind that serves accesses and lends. `DeviceTable`
 //! says which devices a partition may use. `statement_placed` gives the statement at a place, `Found` is one where it was found, `goal_place` the place to which a goal
 //! on a line leads, and `to_line` and its like say so as the end of a statement. `typed_by_mark` is what a special function key
-//! types, `after_show` what becomes of a partition once something was shown, and `drop_frames` what an edit leaves of it.
+//! types, `after_show` and `after_show_or_print` what becomes of a partition once something was shown or printed, and `drop_frames` what an edit leaves of it.
 //!
 //! Stands on `b2_text`, `b2_vars` and `b2_flow` for what a partition has, on `b2_term` for terminals, on `b2_rows` for goals
 //! on a line, on `b2_dec` for values, on `b2_atom` for lines and on `b2_base`. The definitions are in `specs/`: a partition in
@@ -54,4 +54,4 @@ pub use reached::{
 };
 pub use setting::setting_of;
 pub use shared::Shared;
-pub use showing::after_show;
+pub use showing::{after_show, after_show_or_print};

@@ -4,7 +4,7 @@ ghost use Rattle.b2_access.specs.Partition as spec;
 ghost use Rattle.b2_access.specs.Partition.{at_start, without_frames};
 
 use b2_atom::Atoms;
-use b2_base::{Addr, ByteList, NoMemory, Part, Slot, Term};
+use b2_base::{Addr, AddrList, ByteList, NoMemory, Part, Slot, Term};
 use b2_dec::{Mode, ValueList};
 use b2_flow::{Place, Stack};
 use b2_text::Spot;
@@ -36,12 +36,18 @@ pub struct Private {
     pub stack: Stack,
     /// Its open data files, by the numbers of their slots.
     pub slots: [Option<Slot>; 16],
+    /// The devices that it has taken, in the order of taking.
+    pub held: AddrList,
+    /// The device that PRINT and PRINTUSING show at: 005 for the terminal, or a printer.
+    pub print: Addr,
     /// The platter that is selected, none where none is.
     pub disk: Option<Addr>,
     /// The platter that is selected at the start, and after CLEAR.
     pub boot_disk: Option<Addr>,
     /// The column at its terminal; it stays at 65,535 once it is there.
     pub term_column: u16,
+    /// The column at the printer that is selected; it stays at 65,535 once it is there.
+    pub print_column: u16,
     /// The last code, 0 for none.
     pub last: u8,
     /// Whether the records ended where DATALOAD DC was to load one.
@@ -115,9 +121,12 @@ impl Private {
             vars: Vars::new(alloc, area)?,
             stack: Stack::new(alloc)?,
             slots: [None; 16],
+            held: AddrList::new(),
+            print: Addr::default(),
             disk,
             boot_disk: disk,
             term_column: 0,
+            print_column: 0,
             last: 0,
             at_end: false,
             next_data: None,
