@@ -18,6 +18,7 @@ use Rattle.b2_expr.specs.Named.{number_there}
 use Rattle.b2_access.specs.Keeping.{FinishesInPlace, FinishesKeepNone, PlansInPlace, PlansKeepNone}
 use Rattle.b2_access.specs.Lending.{SeenLent}
 use Rattle.b2_access.specs.OwnTerminal.{AskedAt, FinishesAtTerminal, PlannedAt, PlansAtTerminal}
+use Rattle.b2_access.specs.Pending.{FinishesToShow, KeepsOrShows, PlansToShow}
 use Rattle.b2_access.specs.Places.{line_start}
 use Rattle.b2_access.specs.Going.{to_place}
 use Rattle.b2_access.specs.Courses.{Here, here}
@@ -35,9 +36,10 @@ use Rattle.b2_access.specs.Views.{ClearCame, AllCleared, LinesErased, TextLocked
 use Rattle.b2_access.proofs.Choice.{either}
 use Rattle.b2_access.proofs.Courses.{each_course}
 use Rattle.b2_access.proofs.OwnTerminal.{names_none}
+use Rattle.b2_access.proofs.Working.{keeps_or_shows}
 use Rattle.b2_stmt.specs.Asked.{asked_of, carried, is_still}
 use Rattle.b2_stmt.specs.Calls.{back_from, called_where, forgets, leaves_call}
-use Rattle.b2_stmt.specs.Clearing.{asked_access, clearing_ends}
+use Rattle.b2_stmt.specs.Clearing.{asked_access, clearing_ends, edit_finishes}
 use Rattle.b2_stmt.specs.Course.{continues, runs, runs_from, runs_where}
 use Rattle.b2_stmt.specs.Frames.{with_frame}
 use Rattle.b2_stmt.specs.Loops.{loop_begins, loop_element, loop_counts, goes_round, is_over, made_loop, next_value, nexts, tested, without_loop}
@@ -228,3 +230,16 @@ finishes_in_place x a me s = refl
 
 pub finishes_at_terminal : FinishesAtTerminal finish
 finishes_at_terminal x a me s = refl
+
+-- and what waits to be shown waited before, or is for the terminal
+shown_by_access : (o : Option Access) (s : SeenLent) (me : Private) (e : Steered) → KeepsOrShows me.pending (by_access o s me e).me.pending
+shown_by_access None s me e = keeps_or_shows e.control.work.shows me.pending
+shown_by_access (Some a) s me e = inl refl
+
+pub plans_to_show : PlansToShow plan
+plans_to_show me s =
+    let Kept : Planning → Type 0 = λ p. KeepsOrShows me.pending p.me.pending in
+    each_course is_refused (stops me s) (does me s) me s Kept (inl refl) (inl refl) (λ p is u. shown_by_access (asked_access u.row u.tree) s me (ended_of u (here p me s) me s))
+
+pub finishes_to_show : FinishesToShow finish
+finishes_to_show x a me s = keeps_or_shows (edit_finishes x a me).control.work.shows me.pending

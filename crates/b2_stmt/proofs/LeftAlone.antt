@@ -6,9 +6,11 @@ use Rattle.b2_stmt.proofs.KeptPlaces.{
   finishes_at_terminal,
   finishes_in_place,
   finishes_keep_none,
+  finishes_to_show,
   plans_at_terminal,
   plans_in_place,
   plans_keep_none,
+  plans_to_show,
 }
 use Rattle.b2_stmt.proofs.Waits.{finishes_unchanged, plans_before_changes}
 
@@ -22,6 +24,8 @@ leave_the_rest = record {
   finishes_keep_none = finishes_keep_none;
   plans_at_terminal = plans_at_terminal;
   finishes_at_terminal = finishes_at_terminal;
+  plans_to_show = plans_to_show;
+  finishes_to_show = finishes_to_show;
   plans_before_changes = plans_before_changes;
   finishes_unchanged = finishes_unchanged;
 }

@@ -13,8 +13,9 @@ use Rattle.b2_access.specs.declared.accesses.Answer.{Answer}
 use Rattle.b2_access.specs.declared.planned.Outcome.TheVariants as outcome
 use Rattle.b2_access.specs.declared.private.Private.{Private}
 use Rattle.b2_rows.specs.LineNumbers.{named_lines}
-use Rattle.b2_access.specs.Steering.{Steered, control_of, unsteered}
+use Rattle.b2_access.specs.Steering.{Control, Steered, control_of, unsteered}
 use Rattle.b2_access.specs.Views.{ClearCame, AllCleared, LinesErased, TextLocked, ClearLater, clear_came}
+use Rattle.b2_access.specs.Working.{work_of}
 
 -- the lines that are named go: up to the last one of the text, where no second one is named
 abbrev pub erases_lines : ℕ × Option ℕ → Access
@@ -31,14 +32,18 @@ asks_access r = r == row.CLEAR || r == row.CLEAR_P
 abbrev pub asked_access : ℕ → Trees → Option Access
 asked_access r t = if r == row.CLEAR then Some (access.ClearAll None 0) else (if r == row.CLEAR_P then Some (asks_to_erase t) else None)
 
--- all is cleared: the text and the `@` variables by the access, and then the variables and the frames; no data file is open, the platter
--- with which the partition started is selected again, and it is shown to be ready
+-- all is cleared: the text and the `@` variables by the access, and then the variables and the frames; no data file is open, and the
+-- terminal and the platter with which the partition started are selected again; the devices that it has taken stay so
 abbrev pub cleared : Private → Private
-cleared me = record (without_frames me) { vars = record me.vars { table = map.empty }; slots = no_files; disk = me.boot_disk; pending = Some (terminal_address, codes "READY" ++ byte.newline ∷ []) }
+cleared me = record (without_frames me) { vars = record me.vars { table = map.empty }; slots = no_files; print = terminal_address; disk = me.boot_disk }
+
+-- and it is shown to be ready
+abbrev pub ready_after : Private → Control
+ready_after me = record (control_of me) { work = record (work_of me) { shows = Some (codes "READY" ++ byte.newline ∷ []) } }
 
 -- how a statement finishes that clears text: the frames go with the lines; A08 where another stands inside it; else the step is repeated
 abbrev pub clearing_ends : ClearCame → Private → Steered
-clearing_ends AllCleared me = record { control = control_of (cleared me); outcome = outcome.Ready }
+clearing_ends AllCleared me = record { control = ready_after (cleared me); outcome = outcome.Ready }
 clearing_ends LinesErased me = record { control = control_of (without_frames me); outcome = outcome.Ready }
 clearing_ends TextLocked me = unsteered me (outcome.Failed A08_TEXT_BORROWED)
 clearing_ends ClearLater me = unsteered me outcome.Repeat

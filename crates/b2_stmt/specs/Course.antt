@@ -10,7 +10,6 @@ use Rattle.b2_rows.specs.Values.{literal_of}
 use Rattle.b2_flow.specs.declared.frame.Place.{Place}
 use Rattle.b2_text.specs.Program.{Lines, line_at, number_after}
 use Rattle.b2_vars.specs.Calls.{common_only}
-use Rattle.b2_access.specs.Partition.{terminal_address}
 use Rattle.b2_access.specs.declared.planned.Outcome.TheVariants as outcome
 use Rattle.b2_access.specs.declared.private.Private.{Private}
 use Rattle.b2_rows.specs.LineNumbers.{line_in}
@@ -41,7 +40,7 @@ kept_after p after kept = if is_some p.line then after else kept
 
 abbrev pub stops_program : List ℕ → Place → Option Place → Private → Steered
 stops_program shown p after me = record {
-  control = record (control_of me) { work = record (work_of me) { pending = Some (terminal_address, shown) }; kept = kept_after p after me.kept };
+  control = record (control_of me) { work = record (work_of me) { shows = Some shown }; kept = kept_after p after me.kept };
   outcome = outcome.Ready;
 }
 

@@ -70,8 +70,8 @@ fn no_files() -> [Option<Slot>; 16]
     [None; 16]
 }
 
-/// After all was cleared: the variables go too, no data file is open, and the platter with which the partition started is selected
-/// again.
+/// After all was cleared: the variables go too, no data file is open, and the terminal and the platter with which the partition started
+/// are selected again. The devices that it has taken stay so.
 fn clear_all(alloc: Global, me: &mut Private) -> Result<Outcome, NoMemory>
     ensures ended { IfOk result (λ o. record { me = me.new; outcome = o } ≡ steered me.old (spec.clearing_ends AllCleared me.old)) }
     ensures part { me.new.part ≡ me.old.part }
@@ -80,6 +80,7 @@ fn clear_all(alloc: Global, me: &mut Private) -> Result<Outcome, NoMemory>
     let outcome = erase_lines(me);
     me.vars.clear();
     me.slots = no_files();
+    me.print = Addr::default();
     me.disk = me.boot_disk;
     me.pending = Some((Addr::default(), ready));
     Ok(outcome)

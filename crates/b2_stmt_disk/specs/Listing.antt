@@ -4,7 +4,6 @@ use Rattle.b2_base.specs.declared.codes.TheConstants.{S23_DEVICE}
 use Rattle.b2_atom.specs.Tree.{Trees}
 use Rattle.b2_atom.specs.Tree.Trees.{Put, In}
 use Rattle.b2_expr.specs.Answers.{◌>>=◌}
-use Rattle.b2_access.specs.Partition.{terminal_address}
 use Rattle.b2_access.specs.Working.{Worked, leaves, work_of}
 use Rattle.b2_access.specs.declared.accesses.Access.{Access}
 use Rattle.b2_access.specs.declared.accesses.Access.TheVariants as access
@@ -19,4 +18,4 @@ asks_to_list d t = Err S23_DEVICE
 -- how it finishes: the listing waits to be shown at the terminal as it stands, or it is asked for again
 abbrev pub listing_ends : Option (List ℕ) → Private → Worked
 listing_ends None me = leaves me outcome.Repeat
-listing_ends (Some bytes) me = record { work = record (work_of me) { pending = Some (terminal_address, bytes) }; outcome = outcome.Next }
+listing_ends (Some bytes) me = record { work = record (work_of me) { shows = Some bytes }; outcome = outcome.Next }

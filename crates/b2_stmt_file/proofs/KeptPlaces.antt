@@ -1,8 +1,9 @@
--- A statement on data files leaves the place at which it stands, the one that is kept, and the terminal, all by its form; and it asks at no
+-- A statement on data files leaves the place at which it stands, the one that is kept, and the terminal, and makes nothing wait to be shown but what is for that, all by its form; and it asks at no
 -- terminal.
 use Rattle.std.specs.Prelude.{List}
 use Rattle.b2_access.specs.Keeping.{FinishesInPlace, FinishesKeepNone, PlansInPlace, PlansKeepNone}
 use Rattle.b2_access.specs.OwnTerminal.{FinishesAtTerminal, PlannedAt, PlansAtTerminal}
+use Rattle.b2_access.specs.Pending.{FinishesToShow, PlansToShow}
 use Rattle.b2_access.specs.declared.devices.Device.{Device}
 use Rattle.b2_access.proofs.OwnDevices.{at_disk_names_none}
 use Rattle.b2_access.proofs.Working as form
@@ -28,3 +29,9 @@ finishes_keep_none = form.finishes_keep_none ends
 
 pub finishes_at_terminal : FinishesAtTerminal finish
 finishes_at_terminal = form.finishes_at_terminal ends
+
+pub plans_to_show : (devices : List Device) → PlansToShow (plan devices)
+plans_to_show devices = form.plans_to_show (works devices)
+
+pub finishes_to_show : FinishesToShow finish
+finishes_to_show = form.finishes_to_show ends

@@ -5,9 +5,11 @@ use Rattle.b2_stmt_file.proofs.KeptPlaces.{
   finishes_at_terminal,
   finishes_in_place,
   finishes_keep_none,
+  finishes_to_show,
   plans_at_terminal,
   plans_in_place,
   plans_keep_none,
+  plans_to_show,
 }
 use Rattle.b2_stmt_file.proofs.Waits.{finishes_unchanged, plans_before_changes}
 
@@ -21,6 +23,8 @@ leave_the_rest devices = record {
   finishes_keep_none = finishes_keep_none;
   plans_at_terminal = plans_at_terminal devices;
   finishes_at_terminal = finishes_at_terminal;
+  plans_to_show = plans_to_show devices;
+  finishes_to_show = finishes_to_show;
   plans_before_changes = plans_before_changes devices;
   finishes_unchanged = finishes_unchanged;
 }

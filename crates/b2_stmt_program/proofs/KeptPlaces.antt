@@ -4,6 +4,7 @@ use Rattle.std.proofs.Common.{◌≡◌, ℕ, Bool, true, false, List, inl, refl
 use Rattle.b2_text.specs.Program.{Lines, number_after}
 use Rattle.b2_access.specs.Keeping.{FinishesInPlace, FinishesKeepNone, PlansInPlace, PlansKeepNone}
 use Rattle.b2_access.specs.OwnTerminal.{FinishesAtTerminal, PlannedAt, PlansAtTerminal}
+use Rattle.b2_access.specs.Pending.{FinishesToShow, PlansToShow}
 use Rattle.b2_access.specs.Steering.{Steered}
 use Rattle.b2_access.specs.Views.{ProgramCame, ProgramLoaded, ProgramLocked, ProgramRefused, ProgramLater, program_came}
 use Rattle.b2_access.specs.declared.accesses.Access.{Access}
@@ -13,7 +14,7 @@ use Rattle.b2_access.specs.declared.private.Private.{Private}
 use Rattle.b2_access.proofs.Working as form
 use Rattle.b2_drive.proofs.Asked.{names_no_terminal}
 use Rattle.b2_stmt_program.specs.Loading.{loaded, loading_ends, replacing, started}
-use Rattle.b2_stmt_program.specs.Plan.{ended_by, finish, plan, works}
+use Rattle.b2_stmt_program.specs.Plan.{ended_by, ends, finish, plan, works}
 use Rattle.b2_stmt_program.proofs.Planned.{each_planned}
 
 pub plans_in_place : (devices : List Device) → PlansInPlace (plan devices)
@@ -62,3 +63,9 @@ keeps None x a own me h = h
 pub finishes_keep_none : FinishesKeepNone finish
 unfolding KeepsNothing
 finishes_keep_none x a me s h = inl (keeps (replacing x) x a s.own.lines me h)
+
+pub plans_to_show : (devices : List Device) → PlansToShow (plan devices)
+plans_to_show devices = form.plans_to_show (works devices)
+
+pub finishes_to_show : FinishesToShow finish
+finishes_to_show x a me s = form.keeps_or_shows (ends x a s.own.lines me).control.work.shows me.pending

@@ -1,7 +1,8 @@
--- A statement on variables leaves the place at which it stands, the one that is kept, and the terminal, all by its form; and it asks for
+-- A statement on variables leaves the place at which it stands, the one that is kept, and the terminal, and makes nothing wait to be shown but what is for that, all by its form; and it asks for
 -- nothing.
 use Rattle.b2_access.specs.Keeping.{FinishesInPlace, FinishesKeepNone, PlansInPlace, PlansKeepNone}
 use Rattle.b2_access.specs.OwnTerminal.{FinishesAtTerminal, PlannedAt, PlansAtTerminal}
+use Rattle.b2_access.specs.Pending.{FinishesToShow, PlansToShow}
 use Rattle.b2_access.specs.Working.{Working, planned_of, stops}
 use Rattle.b2_access.proofs.Courses.{each_course}
 use Rattle.b2_access.proofs.Working as form
@@ -27,3 +28,9 @@ finishes_keep_none = form.finishes_keep_none ends
 
 pub finishes_at_terminal : FinishesAtTerminal finish
 finishes_at_terminal = form.finishes_at_terminal ends
+
+pub plans_to_show : PlansToShow plan
+plans_to_show = form.plans_to_show works
+
+pub finishes_to_show : FinishesToShow finish
+finishes_to_show = form.finishes_to_show ends
