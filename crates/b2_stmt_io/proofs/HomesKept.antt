@@ -1,5 +1,5 @@
 -- Where a statement at the terminal leads is at the home of its place, and what it asks for marks no home.
-use Rattle.std.proofs.Common.{◌≡◌, ℕ, ◌==◌, subst, Bool, true, false, if◌then◌else◌, List, Option, Some, None}
+use Rattle.std.proofs.Common.{◌≡◌, ℕ, ◌==◌, refl, subst, Bool, true, false, if◌then◌else◌, List, Option, Some, None}
 use Rattle.b2_atom.specs.Tree.{Trees}
 use Rattle.b2_atom.specs.Tree.Trees.{Done, Put, In}
 use Rattle.b2_flow.specs.declared.frame.Place.{Place}
@@ -13,17 +13,20 @@ use Rattle.b2_access.specs.Marks.{typed_by_mark}
 use Rattle.b2_access.specs.Placed.{Statement}
 use Rattle.b2_access.specs.Places.{line_start}
 use Rattle.b2_access.specs.Planning.{goes_or}
-use Rattle.b2_access.specs.Views.{KeyCame, ByteTyped, KeyPressed, NoKey, KeyLater, LineCame, PromptShown, LineEntered, LineLeft, LineLater, column_shown, key_came, line_came}
+use Rattle.b2_access.specs.Views.{KeyCame, ByteTyped, KeyPressed, NoKey, KeyLater, LineCame, PromptShown, LineEntered, LineLeft, LineLater, column_printed, column_shown, key_came, line_came}
 use Rattle.b2_access.specs.Working.{Worked}
 use Rattle.b2_access.specs.declared.accesses.Access.{Access}
+use Rattle.b2_access.specs.declared.accesses.Access.TheVariants as access
 use Rattle.b2_access.specs.declared.accesses.Answer.{Answer}
+use Rattle.b2_access.specs.declared.devices.Device.{Device}
 use Rattle.b2_access.specs.declared.planned.Outcome.{Outcome}
 use Rattle.b2_access.specs.declared.planned.Outcome.TheVariants as outcome
 use Rattle.b2_access.specs.declared.private.Private.{Private}
 use Rattle.b2_access.proofs.Choice.{either}
 use Rattle.b2_access.proofs.Courses.{each_course}
+use Rattle.b2_access.proofs.Homes.{marks_none}
 use Rattle.b2_access.proofs.OwnTerminal.{at_terminal_marks_none}
-use Rattle.b2_access.proofs.Shown.{shown_leads}
+use Rattle.b2_access.proofs.Shown.{shown_or_printed_leads}
 use Rattle.b2_access.proofs.Working as form
 use Rattle.b2_stmt_io.specs.Keys.{first_named, key_goes, key_leads, key_taken_by, lines_of, other_named, waits}
 use Rattle.b2_stmt_io.specs.LineReading.{line_answered_by, types}
@@ -82,17 +85,18 @@ module _ (among : ℕ → Bool) where
   statement_in : (u : Statement) (p : Place) (x : Access) (a : Answer) (me : Private) (s : SeenLent) → among p.home ≡ true → Leads (ended_of u p x a me s)
   unfolding Leads
   statement_in u p x a me s k =
-      each_ended Leads x a me s (shown_leads among (column_shown x a) me) (λ takes. line_in takes (line_came x a) s.own.lines me) tt tt u p (keyed_in (key_came x a) s.home p u.tree me k)
+      each_ended Leads x a me s (shown_or_printed_leads among (column_shown x a) (column_printed x a) me) (λ takes. line_in takes (line_came x a) s.own.lines me) tt tt u p (keyed_in (key_came x a) s.home p u.tree me k)
 
   place_in : (x : Access) (a : Answer) (me : Private) (s : SeenLent) → PlaceIn among me.place → Leads (ends x a me s)
   unfolding Leads
   place_in x a me s k =
       each_course is_refused (repeats me) (finishes x a me s) me s Leads tt tt (λ p is u. statement_in u p x a me s (subst (λ (o : Option Place). PlaceIn among o) is k))
 
-pub plans_within : PlansWithin plan
-plans_within =
-    form.plans_within works
-    (λ among me s k. each_planned me s (PlannedIn among) tt tt (λ code. tt) (λ a is. at_terminal_marks_none among me.term a is))
+pub plans_within : (devices : List Device) → PlansWithin (plan devices)
+plans_within devices =
+    form.plans_within (works devices)
+    (λ among me s k. each_planned devices me s (PlannedIn among) tt tt (λ code. tt)
+    (λ a is. at_terminal_marks_none among me.term a is) (λ addr bytes after is. marks_none among (access.PrintTo addr bytes after) refl))
 
 pub finishes_within : FinishesWithin finish
 unfolding Leads

@@ -15,3 +15,5 @@ pub mod HomesKept
 pub mod KeptPlaces
 pub mod Waits
 pub mod LeftAlone
+pub mod Listed
+pub mod Legal

@@ -28,7 +28,8 @@ use Rattle.b2_rows.proofs.RowsRead.{stands_of}
 use Rattle.b2_print.proofs.ColumnLemmas.{items-go_on}
 use Rattle.b2_print.specs.declared.layout.Item.{Item as Shown}
 use Rattle.b2_stmt_io.proofs.LeftOut.{maybe_then}
-use Rattle.b2_stmt_io.specs.Printing.{column_after_items, column_after_shown, further_in, item_at, item_in, item_of, shown_items, items_of, laid, laid_after, newline_where, on_terminal, separator_in, width, zone_where}
+use Rattle.b2_print.specs.Layout.{item_column, item_placed, items_column, layout}
+use Rattle.b2_stmt_io.specs.Printing.{further_in, item_at, item_in, item_of, shown_items, items_of, laid_after, newline_where, separator_in, zone_where}
 use Rattle.b2_rows.proofs.ListEnds.{also_done}
 
 abbrev print_items : List Item
@@ -72,48 +73,48 @@ append_nil : (xs : List ℕ) → xs ++ [] ≡ xs
 append_nil [] = refl
 append_nil (x ∷ xs) = ap (λ (l : List ℕ). x ∷ l) (append_nil xs)
 
-one_text : (old new : List ℕ) (column : ℕ) (it : Result Shown ℕ) → (it >>= (λ x. Ok (old ++ on_terminal column x))) ≡ Ok new
-    → ((it >>= (λ x. Ok (Some x))) >>= (λ o. Ok (old ++ laid column (items_of o)))) ≡ Ok new
-one_text old new column (Ok x) is = ap (λ (l : List ℕ). Ok (old ++ l)) (append_nil (on_terminal column x)) ∙ is
-one_text old new column (Err code) is = is
+one_text : (width : ℕ) (old new : List ℕ) (column : ℕ) (it : Result Shown ℕ) → (it >>= (λ x. Ok (old ++ item_placed width column x))) ≡ Ok new
+    → ((it >>= (λ x. Ok (Some x))) >>= (λ o. Ok (old ++ layout width column (items_of o)))) ≡ Ok new
+one_text width old new column (Ok x) is = ap (λ (l : List ℕ). Ok (old ++ l)) (append_nil (item_placed width column x)) ∙ is
+one_text width old new column (Err code) is = is
 
-one_column : (column after : ℕ) (it : Result Shown ℕ) → (it >>= (λ x. Ok (column_after_shown column x))) ≡ Ok after
-    → ((it >>= (λ x. Ok (Some x))) >>= (λ o. Ok (column_after_items column (items_of o)))) ≡ Ok after
-one_column column after (Ok x) is = is
-one_column column after (Err code) is = is
+one_column : (width column after : ℕ) (it : Result Shown ℕ) → (it >>= (λ x. Ok (item_column width column x))) ≡ Ok after
+    → ((it >>= (λ x. Ok (Some x))) >>= (λ o. Ok (items_column width column (items_of o)))) ≡ Ok after
+one_column width column after (Ok x) is = is
+one_column width column after (Err code) is = is
 
-one_is : (column after : ℕ) (it : Result Shown ℕ) → (it >>= (λ x. Ok (column_after_shown column x))) ≡ Ok after → ((it >>= (λ x. Ok (Some x))) >>= (λ o. Ok (is_some o))) ≡ Ok true
-one_is column after (Ok x) is = refl
-one_is column after (Err code) is = cc
+one_is : (width column after : ℕ) (it : Result Shown ℕ) → (it >>= (λ x. Ok (item_column width column x))) ≡ Ok after → ((it >>= (λ x. Ok (Some x))) >>= (λ o. Ok (is_some o))) ≡ Ok true
+one_is width column after (Ok x) is = refl
+one_is width column after (Err code) is = cc
 
 one_code : (code : ℕ) (it : Result Shown ℕ) → it ≡ Err code → (it >>= (λ x. Ok (Some x))) ≡ Err code
 one_code code (Ok x) is = cc
 one_code code (Err c) is = cc
 
-pub one_shown : (s : Context) (t : Text) (old new : List ℕ) (column after : ℕ) → starts Atoms start.PrintItem t ≡ true
-    → (item_of s (tree_at row.PRINT_ITEM t) >>= (λ x. Ok (old ++ on_terminal column x))) ≡ Ok new
-    → (item_there s t >>= (λ o. Ok (old ++ laid column (items_of o)))) ≡ Ok new
-one_shown s t old new column after is text = ap (λ (r : Result (Option Shown) ℕ). r >>= (λ o. Ok (old ++ laid column (items_of o)))) (one_there s t is) ∙ one_text old new column (item_of s (tree_at row.PRINT_ITEM t)) text
+pub one_shown : (width : ℕ) (s : Context) (t : Text) (old new : List ℕ) (column after : ℕ) → starts Atoms start.PrintItem t ≡ true
+    → (item_of s (tree_at row.PRINT_ITEM t) >>= (λ x. Ok (old ++ item_placed width column x))) ≡ Ok new
+    → (item_there s t >>= (λ o. Ok (old ++ layout width column (items_of o)))) ≡ Ok new
+one_shown width s t old new column after is text = ap (λ (r : Result (Option Shown) ℕ). r >>= (λ o. Ok (old ++ layout width column (items_of o)))) (one_there s t is) ∙ one_text width old new column (item_of s (tree_at row.PRINT_ITEM t)) text
 
-pub one_past : (s : Context) (t : Text) (column after : ℕ) → starts Atoms start.PrintItem t ≡ true
-    → (item_of s (tree_at row.PRINT_ITEM t) >>= (λ x. Ok (column_after_shown column x))) ≡ Ok after
-    → (item_there s t >>= (λ o. Ok (column_after_items column (items_of o)))) ≡ Ok after
-one_past s t column after is at = ap (λ (r : Result (Option Shown) ℕ). r >>= (λ o. Ok (column_after_items column (items_of o)))) (one_there s t is) ∙ one_column column after (item_of s (tree_at row.PRINT_ITEM t)) at
+pub one_past : (width : ℕ) (s : Context) (t : Text) (column after : ℕ) → starts Atoms start.PrintItem t ≡ true
+    → (item_of s (tree_at row.PRINT_ITEM t) >>= (λ x. Ok (item_column width column x))) ≡ Ok after
+    → (item_there s t >>= (λ o. Ok (items_column width column (items_of o)))) ≡ Ok after
+one_past width s t column after is at = ap (λ (r : Result (Option Shown) ℕ). r >>= (λ o. Ok (items_column width column (items_of o)))) (one_there s t is) ∙ one_column width column after (item_of s (tree_at row.PRINT_ITEM t)) at
 
-pub one_some : (s : Context) (t : Text) (column after : ℕ) → starts Atoms start.PrintItem t ≡ true
-    → (item_of s (tree_at row.PRINT_ITEM t) >>= (λ x. Ok (column_after_shown column x))) ≡ Ok after
+pub one_some : (width : ℕ) (s : Context) (t : Text) (column after : ℕ) → starts Atoms start.PrintItem t ≡ true
+    → (item_of s (tree_at row.PRINT_ITEM t) >>= (λ x. Ok (item_column width column x))) ≡ Ok after
     → (item_there s t >>= (λ o. Ok (is_some o))) ≡ Ok true
-one_some s t column after is at = ap (λ (r : Result (Option Shown) ℕ). r >>= (λ o. Ok (is_some o))) (one_there s t is) ∙ one_is column after (item_of s (tree_at row.PRINT_ITEM t)) at
+one_some width s t column after is at = ap (λ (r : Result (Option Shown) ℕ). r >>= (λ o. Ok (is_some o))) (one_there s t is) ∙ one_is width column after (item_of s (tree_at row.PRINT_ITEM t)) at
 
 pub one_refused : (s : Context) (t : Text) (code : ℕ) → starts Atoms start.PrintItem t ≡ true → item_of s (tree_at row.PRINT_ITEM t) ≡ Err code → item_there s t ≡ Err code
 one_refused s t code is unassigned = one_there s t is ∙ one_code code (item_of s (tree_at row.PRINT_ITEM t)) unassigned
 
-pub none_shown : (s : Context) (t : Text) (old : List ℕ) (column : ℕ) → starts Atoms start.PrintItem t ≡ false
-    → (item_there s t >>= (λ o. Ok (old ++ laid column (items_of o)))) ≡ Ok old
-none_shown s t old column is = ap (λ (r : Result (Option Shown) ℕ). r >>= (λ o. Ok (old ++ laid column (items_of o)))) (none_there s t is) ∙ ap Ok (append_nil old)
+pub none_shown : (width : ℕ) (s : Context) (t : Text) (old : List ℕ) (column : ℕ) → starts Atoms start.PrintItem t ≡ false
+    → (item_there s t >>= (λ o. Ok (old ++ layout width column (items_of o)))) ≡ Ok old
+none_shown width s t old column is = ap (λ (r : Result (Option Shown) ℕ). r >>= (λ o. Ok (old ++ layout width column (items_of o)))) (none_there s t is) ∙ ap Ok (append_nil old)
 
-pub none_past : (s : Context) (t : Text) (column : ℕ) → starts Atoms start.PrintItem t ≡ false → (item_there s t >>= (λ o. Ok (column_after_items column (items_of o)))) ≡ Ok column
-none_past s t column is = ap (λ (r : Result (Option Shown) ℕ). r >>= (λ o. Ok (column_after_items column (items_of o)))) (none_there s t is)
+pub none_past : (width : ℕ) (s : Context) (t : Text) (column : ℕ) → starts Atoms start.PrintItem t ≡ false → (item_there s t >>= (λ o. Ok (items_column width column (items_of o)))) ≡ Ok column
+none_past width s t column is = ap (λ (r : Result (Option Shown) ℕ). r >>= (λ o. Ok (items_column width column (items_of o)))) (none_there s t is)
 
 pub none_some : (s : Context) (t : Text) → starts Atoms start.PrintItem t ≡ false → (item_there s t >>= (λ o. Ok (is_some o))) ≡ Ok false
 none_some s t is = ap (λ (r : Result (Option Shown) ℕ). r >>= (λ o. Ok (is_some o))) (none_there s t is)
@@ -224,58 +225,58 @@ unfolding starts
 next_shorter t is = let e = separator_shorter t is in let f = maybe_no_longer start.PrintItem row.PRINT_ITEM (drop 1 t) in omega (arith, e, f)
 
 -- items laid out after a text
-after_first : (old : List ℕ) (column : ℕ) (xs : List Shown) (r : Result (List Shown) ℕ)
-    → laid_after old column (r >>= (λ its. Ok (xs ++ its))) ≡ laid_after (old ++ laid column xs) (column_after_items column xs) r
-after_first old column xs (Err code) = refl
-after_first old column xs (Ok its) =
+after_first : (width : ℕ) (old : List ℕ) (column : ℕ) (xs : List Shown) (r : Result (List Shown) ℕ)
+    → laid_after width old column (r >>= (λ its. Ok (xs ++ its))) ≡ laid_after width (old ++ layout width column xs) (items_column width column xs) r
+after_first width old column xs (Err code) = refl
+after_first width old column xs (Ok its) =
     let on = items-go_on width column xs its in
-    let text : old ++ laid column (xs ++ its) ≡ (old ++ laid column xs) ++ laid (column_after_items column xs) its =
-    ap (λ (l : List ℕ). old ++ l) on.0 ∙ sym (append_assoc old (laid column xs) (laid (column_after_items column xs) its)) in
-    ap (λ (l : List ℕ). Ok (l, column_after_items column (xs ++ its))) text ∙ ap (λ (n : ℕ). Ok ((old ++ laid column xs) ++ laid (column_after_items column xs) its, n)) on.1
+    let text : old ++ layout width column (xs ++ its) ≡ (old ++ layout width column xs) ++ layout width (items_column width column xs) its =
+    ap (λ (l : List ℕ). old ++ l) on.0 ∙ sym (append_assoc old (layout width column xs) (layout width (items_column width column xs) its)) in
+    ap (λ (l : List ℕ). Ok (l, items_column width column (xs ++ its))) text ∙ ap (λ (n : ℕ). Ok ((old ++ layout width column xs) ++ layout width (items_column width column xs) its, n)) on.1
 
 joined_twice : (r : Result (List Shown) ℕ) (xs ys : List Shown) → (r >>= (λ its. Ok (xs ++ (ys ++ its)))) ≡ ((r >>= (λ its. Ok (ys ++ its))) >>= (λ its. Ok (xs ++ its)))
 joined_twice (Ok its) xs ys = refl
 joined_twice (Err code) xs ys = refl
 
-not_laid : (old : List ℕ) (column code : ℕ) (r : Result (List Shown) ℕ) → laid_after old column r ≡ Err code → r ≡ Err code
-not_laid old column code (Ok its) is = cc
-not_laid old column code (Err c) is = cc
+not_laid : (width : ℕ) (old : List ℕ) (column code : ℕ) (r : Result (List Shown) ℕ) → laid_after width old column r ≡ Err code → r ≡ Err code
+not_laid width old column code (Ok its) is = cc
+not_laid width old column code (Err c) is = cc
 
 ok_same : {A : Type 0} (x y : A) → ◌≡◌ {A = Result A ℕ} (Ok x) (Ok y) → x ≡ y
 ok_same x y h = cc
 
 -- an item or none after what was shown, and what follows it
-shown_then : (s : Context) (before : List Shown) (more : Trees) (old new : List ℕ) (column after : ℕ) (is : Bool) (r : Result (Option Shown) ℕ)
-    → (r >>= (λ o. Ok ((old ++ laid column before) ++ laid (column_after_items column before) (items_of o)))) ≡ Ok new
-    → (r >>= (λ o. Ok (column_after_items (column_after_items column before) (items_of o)))) ≡ Ok after
+shown_then : (width : ℕ) (s : Context) (before : List Shown) (more : Trees) (old new : List ℕ) (column after : ℕ) (is : Bool) (r : Result (Option Shown) ℕ)
+    → (r >>= (λ o. Ok ((old ++ layout width column before) ++ layout width (items_column width column before) (items_of o)))) ≡ Ok new
+    → (r >>= (λ o. Ok (items_column width (items_column width column before) (items_of o)))) ≡ Ok after
     → (r >>= (λ o. Ok (is_some o))) ≡ Ok is
-    → laid_after old column (r >>= (λ o. then_further s (is_some o) before o more)) ≡ laid_after new after (further_in s is more)
-shown_then s before more old new column after is (Err code) text at some = cc
-shown_then s before more old new column after is (Ok o) text at some =
+    → laid_after width old column (r >>= (λ o. then_further s (is_some o) before o more)) ≡ laid_after width new after (further_in s is more)
+shown_then width s before more old new column after is (Err code) text at some = cc
+shown_then width s before more old new column after is (Ok o) text at some =
     let rest : Result (List Shown) ℕ = further_in s (is_some o) more in
-    ap (laid_after old column) (joined_twice rest before (items_of o))
-    ∙ after_first old column before (rest >>= (λ its. Ok (items_of o ++ its)))
-    ∙ after_first (old ++ laid column before) (column_after_items column before) (items_of o) rest
-    ∙ ap (λ (l : List ℕ). laid_after l (column_after_items (column_after_items column before) (items_of o)) rest) (ok_same _ _ text)
-    ∙ ap (λ (n : ℕ). laid_after new n rest) (ok_same _ _ at)
-    ∙ ap (λ (b : Bool). laid_after new after (further_in s b more)) (ok_same _ _ some)
+    ap (laid_after width old column) (joined_twice rest before (items_of o))
+    ∙ after_first width old column before (rest >>= (λ its. Ok (items_of o ++ its)))
+    ∙ after_first width (old ++ layout width column before) (items_column width column before) (items_of o) rest
+    ∙ ap (λ (l : List ℕ). laid_after width l (items_column width (items_column width column before) (items_of o)) rest) (ok_same _ _ text)
+    ∙ ap (λ (n : ℕ). laid_after width new n rest) (ok_same _ _ at)
+    ∙ ap (λ (b : Bool). laid_after width new after (further_in s b more)) (ok_same _ _ some)
 
-first_then : (s : Context) (more : Trees) (old new : List ℕ) (column after : ℕ) (r : Result (Option Shown) ℕ)
-    → (r >>= (λ o. Ok (old ++ laid column (items_of o)))) ≡ Ok new
-    → (r >>= (λ o. Ok (column_after_items column (items_of o)))) ≡ Ok after
-    → laid_after old column (r >>= (λ o. then_further s true [] o more)) ≡ laid_after new after (further_in s true more)
-first_then s more old new column after (Err code) text at = cc
-first_then s more old new column after (Ok o) text at =
-    after_first old column (items_of o) (further_in s true more)
-    ∙ ap (λ (l : List ℕ). laid_after l (column_after_items column (items_of o)) (further_in s true more)) (ok_same _ _ text)
-    ∙ ap (λ (n : ℕ). laid_after new n (further_in s true more)) (ok_same _ _ at)
+first_then : (width : ℕ) (s : Context) (more : Trees) (old new : List ℕ) (column after : ℕ) (r : Result (Option Shown) ℕ)
+    → (r >>= (λ o. Ok (old ++ layout width column (items_of o)))) ≡ Ok new
+    → (r >>= (λ o. Ok (items_column width column (items_of o)))) ≡ Ok after
+    → laid_after width old column (r >>= (λ o. then_further s true [] o more)) ≡ laid_after width new after (further_in s true more)
+first_then width s more old new column after (Err code) text at = cc
+first_then width s more old new column after (Ok o) text at =
+    after_first width old column (items_of o) (further_in s true more)
+    ∙ ap (λ (l : List ℕ). laid_after width l (items_column width column (items_of o)) (further_in s true more)) (ok_same _ _ text)
+    ∙ ap (λ (n : ℕ). laid_after width new n (further_in s true more)) (ok_same _ _ at)
 
-pub first_shown : (s : Context) (t : Text) (old new : List ℕ) (column after : ℕ) → is_part row.PRINT t ≡ true
-    → (item_there s (drop 1 t) >>= (λ o. Ok (old ++ laid column (items_of o)))) ≡ Ok new
-    → (item_there s (drop 1 t) >>= (λ o. Ok (column_after_items column (items_of o)))) ≡ Ok after
-    → laid_after new after (further_in s true (further_at (after_item (drop 1 t)))) ≡ laid_after old column (shown_items s (tree_at row.PRINT t))
-first_shown s t old new column after ok text at =
-    sym (ap (laid_after old column) (print_is s t ok) ∙ first_then s (further_at (after_item (drop 1 t))) old new column after (item_there s (drop 1 t)) text at)
+pub first_shown : (width : ℕ) (s : Context) (t : Text) (old new : List ℕ) (column after : ℕ) → is_part row.PRINT t ≡ true
+    → (item_there s (drop 1 t) >>= (λ o. Ok (old ++ layout width column (items_of o)))) ≡ Ok new
+    → (item_there s (drop 1 t) >>= (λ o. Ok (items_column width column (items_of o)))) ≡ Ok after
+    → laid_after width new after (further_in s true (further_at (after_item (drop 1 t)))) ≡ laid_after width old column (shown_items s (tree_at row.PRINT t))
+first_shown width s t old new column after ok text at =
+    sym (ap (laid_after width old column) (print_is s t ok) ∙ first_then width s (further_at (after_item (drop 1 t))) old new column after (item_there s (drop 1 t)) text at)
 
 refused_then : (code : ℕ) (r : Result (Option Shown) ℕ) (f : Option Shown → Result (List Shown) ℕ) → r ≡ Err code → (r >>= f) ≡ Err code
 refused_then code (Ok o) f is = cc
@@ -284,37 +285,37 @@ refused_then code (Err c) f is = cc
 pub first_refused : (s : Context) (t : Text) (code : ℕ) → is_part row.PRINT t ≡ true → item_there s (drop 1 t) ≡ Err code → shown_items s (tree_at row.PRINT t) ≡ Err code
 first_refused s t code ok is = print_is s t ok ∙ refused_then code (item_there s (drop 1 t)) (λ x. then_further s true [] x (further_at (after_item (drop 1 t)))) is
 
-next_then : (s : Context) (line : Bool) (t : Text) (old new : List ℕ) (column after : ℕ) (is : Bool) → is_list separators row.FURTHER_ITEM t ≡ true → starts Atoms separators t ≡ true
-    → (item_there s (drop 1 t) >>= (λ o. Ok ((old ++ laid column (zone_where (first t == byte.comma))) ++ laid (column_after_items column (zone_where (first t == byte.comma))) (items_of o)))) ≡ Ok new
-    → (item_there s (drop 1 t) >>= (λ o. Ok (column_after_items (column_after_items column (zone_where (first t == byte.comma))) (items_of o)))) ≡ Ok after
+next_then : (width : ℕ) (s : Context) (line : Bool) (t : Text) (old new : List ℕ) (column after : ℕ) (is : Bool) → is_list separators row.FURTHER_ITEM t ≡ true → starts Atoms separators t ≡ true
+    → (item_there s (drop 1 t) >>= (λ o. Ok ((old ++ layout width column (zone_where (first t == byte.comma))) ++ layout width (items_column width column (zone_where (first t == byte.comma))) (items_of o)))) ≡ Ok new
+    → (item_there s (drop 1 t) >>= (λ o. Ok (items_column width (items_column width column (zone_where (first t == byte.comma))) (items_of o)))) ≡ Ok after
     → (item_there s (drop 1 t) >>= (λ o. Ok (is_some o))) ≡ Ok is
-    → laid_after new after (further_in s is (further_at (after_item (drop 1 t)))) ≡ laid_after old column (further_in s line (further_at t))
-next_then s line t old new column after is ok sep text at some =
-    sym (ap (laid_after old column) (Follows.zone (follows t ok sep) s line)
-    ∙ shown_then s (zone_where (first t == byte.comma)) (further_at (after_item (drop 1 t))) old new column after is (item_there s (drop 1 t)) text at some)
+    → laid_after width new after (further_in s is (further_at (after_item (drop 1 t)))) ≡ laid_after width old column (further_in s line (further_at t))
+next_then width s line t old new column after is ok sep text at some =
+    sym (ap (laid_after width old column) (Follows.zone (follows t ok sep) s line)
+    ∙ shown_then width s (zone_where (first t == byte.comma)) (further_at (after_item (drop 1 t))) old new column after is (item_there s (drop 1 t)) text at some)
 
-pub next_shown : (s : Context) (line : Bool) (t : Text) (old between new : List ℕ) (column middle after : ℕ) (is : Bool) → is_list separators row.FURTHER_ITEM t ≡ true → starts Atoms separators t ≡ true
-    → between ≡ old ++ laid column (zone_where (first t == byte.comma)) → middle ≡ column_after_items column (zone_where (first t == byte.comma))
-    → (item_there s (drop 1 t) >>= (λ o. Ok (between ++ laid middle (items_of o)))) ≡ Ok new
-    → (item_there s (drop 1 t) >>= (λ o. Ok (column_after_items middle (items_of o)))) ≡ Ok after
+pub next_shown : (width : ℕ) (s : Context) (line : Bool) (t : Text) (old between new : List ℕ) (column middle after : ℕ) (is : Bool) → is_list separators row.FURTHER_ITEM t ≡ true → starts Atoms separators t ≡ true
+    → between ≡ old ++ layout width column (zone_where (first t == byte.comma)) → middle ≡ items_column width column (zone_where (first t == byte.comma))
+    → (item_there s (drop 1 t) >>= (λ o. Ok (between ++ layout width middle (items_of o)))) ≡ Ok new
+    → (item_there s (drop 1 t) >>= (λ o. Ok (items_column width middle (items_of o)))) ≡ Ok after
     → (item_there s (drop 1 t) >>= (λ o. Ok (is_some o))) ≡ Ok is
-    → laid_after new after (further_in s is (further_at (after_item (drop 1 t)))) ≡ laid_after old column (further_in s line (further_at t))
-next_shown s line t old between new column middle after is ok sep zone_text zone_at text at some =
-    next_then s line t old new column after is ok sep
-    (subst (λ (n : ℕ). (item_there s (drop 1 t) >>= (λ o. Ok ((old ++ laid column (zone_where (first t == byte.comma))) ++ laid n (items_of o)))) ≡ Ok new) zone_at
-    (subst (λ (l : List ℕ). (item_there s (drop 1 t) >>= (λ o. Ok (l ++ laid middle (items_of o)))) ≡ Ok new) zone_text text))
-    (subst (λ (n : ℕ). (item_there s (drop 1 t) >>= (λ o. Ok (column_after_items n (items_of o)))) ≡ Ok after) zone_at at)
+    → laid_after width new after (further_in s is (further_at (after_item (drop 1 t)))) ≡ laid_after width old column (further_in s line (further_at t))
+next_shown width s line t old between new column middle after is ok sep zone_text zone_at text at some =
+    next_then width s line t old new column after is ok sep
+    (subst (λ (n : ℕ). (item_there s (drop 1 t) >>= (λ o. Ok ((old ++ layout width column (zone_where (first t == byte.comma))) ++ layout width n (items_of o)))) ≡ Ok new) zone_at
+    (subst (λ (l : List ℕ). (item_there s (drop 1 t) >>= (λ o. Ok (l ++ layout width middle (items_of o)))) ≡ Ok new) zone_text text))
+    (subst (λ (n : ℕ). (item_there s (drop 1 t) >>= (λ o. Ok (items_column width n (items_of o)))) ≡ Ok after) zone_at at)
     some
 
-pub next_refused : (s : Context) (line : Bool) (t : Text) (code : ℕ) (old : List ℕ) (column before : ℕ) (whole : Result (List Shown) ℕ) (first_text : List ℕ) → is_list separators row.FURTHER_ITEM t ≡ true → starts Atoms separators t ≡ true
-    → item_there s (drop 1 t) ≡ Err code → laid_after old column (further_in s line (further_at t)) ≡ laid_after first_text before whole → whole ≡ Err code
-next_refused s line t code old column before whole first_text ok sep found same =
-    not_laid first_text before code whole (sym same ∙ ap (laid_after old column) (Follows.zone (follows t ok sep) s line
+pub next_refused : (width : ℕ) (s : Context) (line : Bool) (t : Text) (code : ℕ) (old : List ℕ) (column before : ℕ) (whole : Result (List Shown) ℕ) (first_text : List ℕ) → is_list separators row.FURTHER_ITEM t ≡ true → starts Atoms separators t ≡ true
+    → item_there s (drop 1 t) ≡ Err code → laid_after width old column (further_in s line (further_at t)) ≡ laid_after width first_text before whole → whole ≡ Err code
+next_refused width s line t code old column before whole first_text ok sep found same =
+    not_laid width first_text before code whole (sym same ∙ ap (laid_after width old column) (Follows.zone (follows t ok sep) s line
     ∙ refused_then code (item_there s (drop 1 t)) (λ x. then_further s (is_some x) (zone_where (first t == byte.comma)) x (further_at (after_item (drop 1 t)))) found))
 
-pub all_shown : (s : Context) (line : Bool) (t : Text) (old new : List ℕ) (column after : ℕ) → starts Atoms separators t ≡ false
-    → new ≡ old ++ laid column (newline_where line) → after ≡ column_after_items column (newline_where line)
-    → laid_after old column (further_in s line (further_at t)) ≡ Ok (new, after)
-all_shown s line t old new column after is text at =
-    ap (λ (a : Trees). laid_after old column (further_in s line a)) (Ends.tree (ended separators row.FURTHER_ITEM t is))
-    ∙ ap (λ (l : List ℕ). Ok (l, column_after_items column (newline_where line))) (sym text) ∙ ap (λ (n : ℕ). Ok (new, n)) (sym at)
+pub all_shown : (width : ℕ) (s : Context) (line : Bool) (t : Text) (old new : List ℕ) (column after : ℕ) → starts Atoms separators t ≡ false
+    → new ≡ old ++ layout width column (newline_where line) → after ≡ items_column width column (newline_where line)
+    → laid_after width old column (further_in s line (further_at t)) ≡ Ok (new, after)
+all_shown width s line t old new column after is text at =
+    ap (λ (a : Trees). laid_after width old column (further_in s line a)) (Ends.tree (ended separators row.FURTHER_ITEM t is))
+    ∙ ap (λ (l : List ℕ). Ok (l, items_column width column (newline_where line))) (sym text) ∙ ap (λ (n : ℕ). Ok (new, n)) (sym at)

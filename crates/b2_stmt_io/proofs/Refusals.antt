@@ -7,11 +7,12 @@ use Rattle.b2_access.specs.declared.planned.Outcome.{Outcome}
 use Rattle.b2_access.specs.declared.planned.Planned.TheVariants as planned
 use Rattle.b2_access.specs.Endings.{FailsWith}
 use Rattle.b2_stmt_io.specs.Showing.{shows_bytes, shows_laid}
+use Rattle.b2_stmt_io.specs.declared.outlets.Outlet.{Outlet}
 
-pub bytes_refused : (column term : ℕ) (r : Result (List ℕ) ℕ) (f : Fault) (o : Outcome) → IsRefused r f → FailsWith f o → planned.Done o ≡ shows_bytes column term r
-bytes_refused column term r (fault.Code code) o is fails = ap planned.Done fails ∙ sym (ap (shows_bytes column term) is)
-bytes_refused column term r fault.NoMemory o is fails = absurd fails
+pub bytes_refused : (at : Outlet) (r : Result (List ℕ) ℕ) (f : Fault) (o : Outcome) → IsRefused r f → FailsWith f o → planned.Done o ≡ shows_bytes at r
+bytes_refused at r (fault.Code code) o is fails = ap planned.Done fails ∙ sym (ap (shows_bytes at) is)
+bytes_refused at r fault.NoMemory o is fails = absurd fails
 
-pub layout_refused : (term : ℕ) (r : Result (List ℕ × ℕ) ℕ) (f : Fault) (o : Outcome) → IsRefused r f → FailsWith f o → planned.Done o ≡ shows_laid term r
-layout_refused term r (fault.Code code) o is fails = ap planned.Done fails ∙ sym (ap (shows_laid term) is)
-layout_refused term r fault.NoMemory o is fails = absurd fails
+pub layout_refused : (at : Outlet) (r : Result (List ℕ × ℕ) ℕ) (f : Fault) (o : Outcome) → IsRefused r f → FailsWith f o → planned.Done o ≡ shows_laid at r
+layout_refused at r (fault.Code code) o is fails = ap planned.Done fails ∙ sym (ap (shows_laid at) is)
+layout_refused at r fault.NoMemory o is fails = absurd fails

@@ -12,19 +12,20 @@ use Rattle.b2_access.specs.Waiting.{FinishesUnchanged, PlansBeforeChanges}
 use Rattle.b2_access.specs.Working.{Worked, work_of}
 use Rattle.b2_access.specs.declared.accesses.Access.{Access}
 use Rattle.b2_access.specs.declared.accesses.Answer.{Answer}
+use Rattle.b2_access.specs.declared.devices.Device.{Device}
 use Rattle.b2_access.specs.declared.private.Private.{Private}
 use Rattle.b2_access.specs.Views.{KeyCame, LineCame}
 use Rattle.b2_access.proofs.Courses.{each_course}
 use Rattle.b2_access.proofs.Delays.{key_delayed, line_delayed}
-use Rattle.b2_access.proofs.Shown.{after_shown}
+use Rattle.b2_access.proofs.Shown.{after_shown_or_printed}
 use Rattle.b2_access.proofs.Working as form
 use Rattle.b2_stmt_io.specs.Keys.{key_taken, key_taken_by}
 use Rattle.b2_stmt_io.specs.LineReading.{line_answered, line_answered_by}
 use Rattle.b2_stmt_io.proofs.Planned.{each_ended}
 use Rattle.b2_stmt_io.specs.Plan.{ended_of, ends, finish, finishes, is_refused, plan, repeats, works}
 
-pub plans_before_changes : PlansBeforeChanges plan
-plans_before_changes = form.plans_before_changes works
+pub plans_before_changes : (devices : List Device) → PlansBeforeChanges (plan devices)
+plans_before_changes devices = form.plans_before_changes (works devices)
 
 after_key : (x : Access) (a : Answer) (home : TextState) (p : Place) (t : Trees) (me : Private) → delays a ≡ true → (key_taken x a home p t me).work ≡ work_of me
 after_key x a home p t me h = elim (key_delayed x a h) [
@@ -37,7 +38,7 @@ after_line takes x a own me h = ap (λ (l : LineCame). (line_answered_by takes l
 
 after_statement : (u : Statement) (p : Place) (x : Access) (a : Answer) (me : Private) (s : SeenLent) → delays a ≡ true → (ended_of u p x a me s).work ≡ work_of me
 after_statement u p x a me s h =
-    each_ended (λ w. w.work ≡ work_of me) x a me s (after_shown x a me h) (λ takes. after_line takes x a s.own.lines me h) refl refl u p (after_key x a s.home p u.tree me h)
+    each_ended (λ w. w.work ≡ work_of me) x a me s (after_shown_or_printed x a me h) (λ takes. after_line takes x a s.own.lines me h) refl refl u p (after_key x a s.home p u.tree me h)
 
 after_place : (x : Access) (a : Answer) (me : Private) (s : SeenLent) → delays a ≡ true → (ends x a me s).work ≡ work_of me
 after_place x a me s h =

@@ -1,10 +1,12 @@
 pub mod TypedText
+pub mod Outlets
 pub mod Printing
-pub mod Showing
 pub mod Keys
 pub mod LineReading
 pub mod Converting
 pub mod Inputs
 pub mod Operands
 pub mod Imaging
+pub mod Showing
 pub mod Plan
+pub mod Laws

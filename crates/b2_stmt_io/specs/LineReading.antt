@@ -17,7 +17,8 @@ use Rattle.b2_access.specs.Views.{LineCame, PromptShown, LineEntered, LineLeft, 
 use Rattle.b2_access.specs.Working.{Worked, leaves, with_variables, work_of}
 use Rattle.b2_receiver.specs.Receiving.{assign_bytes_at}
 use Rattle.b2_expr.specs.Workspace.{WorkState, WorkLeft}
-use Rattle.b2_stmt_io.specs.Showing.{shows_from}
+use Rattle.b2_stmt_io.specs.Outlets.{shows_from}
+use Rattle.b2_stmt_io.specs.declared.outlets.Outlet.TheVariants as outlet
 
 -- the text of a prompt, no bytes where none is written
 abbrev pub prompt_bytes : Trees → List ℕ
@@ -37,9 +38,9 @@ abbrev pub after_prompt : Trees → Trees
 after_prompt (Put word (In n prompt more)) = more
 after_prompt t = Done
 
--- the prompt is shown with `? ` after it, and once it was shown a line is read
+-- the prompt is shown at the terminal, whatever PRINT shows at, with `? ` after it, and once it was shown a line is read
 abbrev pub asks_line : Bool → ℕ → ℕ → List ℕ → Access
-asks_line prompted column term prompt = if prompted then access.ReadLine term else shows_from column term (prompt ++ codes "? ")
+asks_line prompted column term prompt = if prompted then access.ReadLine term else shows_from (outlet.Terminal term column) (prompt ++ codes "? ")
 
 -- the receiver of LINPUT, which takes all bytes of a line
 abbrev pub receiver_of : Trees → Trees

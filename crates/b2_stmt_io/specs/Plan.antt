@@ -1,5 +1,5 @@
 -- What a statement plans, by the unit at the place of a partition.
-use Rattle.std.specs.Prelude.{ℕ, ◌==◌, ◌&&◌, ◌||◌, not, Bool, List, [], ◌∷◌, if◌then◌else◌}
+use Rattle.std.specs.Prelude.{ℕ, ◌==◌, ◌&&◌, ◌||◌, not, Bool, List, [], ◌∷◌, Result, if◌then◌else◌}
 use Rattle.b2_base.specs.declared.codes.TheConstants.{S27_LEFT_OUT}
 use Rattle.b2_atom.specs.Tree.{Trees}
 use Rattle.b2_atom.specs.declared.rows.TheConstants as row
@@ -8,6 +8,7 @@ use Rattle.b2_expr.specs.Scope.{Context}
 use Rattle.b2_access.specs.declared.accesses.Access.{Access}
 use Rattle.b2_access.specs.declared.accesses.Access.TheVariants as access
 use Rattle.b2_access.specs.declared.accesses.Answer.{Answer}
+use Rattle.b2_access.specs.declared.devices.Device.{Device}
 use Rattle.b2_access.specs.declared.planned.Outcome.{Outcome}
 use Rattle.b2_access.specs.declared.planned.Outcome.TheVariants as outcome
 use Rattle.b2_access.specs.declared.planned.Planned.{Planned}
@@ -17,9 +18,8 @@ use Rattle.b2_access.specs.Lending.{SeenLent}
 use Rattle.b2_expr.specs.Value.{context_of}
 use Rattle.b2_expr.specs.Workspace.{own_of, work_in}
 use Rattle.b2_access.specs.Partition.{setting_of}
-use Rattle.b2_access.specs.Showing.{shown}
+use Rattle.b2_access.specs.Showing.{shown_or_printed}
 use Rattle.b2_stmt_io.specs.Converting.{converts}
-use Rattle.b2_stmt_io.specs.Imaging.{prints_using}
 use Rattle.b2_stmt_io.specs.Inputs.{takes_typed}
 use Rattle.b2_stmt_io.specs.Keys.{key_taken}
 use Rattle.b2_stmt_io.specs.LineReading.{asks_line, line_answered, prompt_of}
@@ -28,8 +28,9 @@ use Rattle.b2_access.specs.Placed.{Statement}
 use Rattle.b2_access.specs.Rows.{at_row, has_row}
 use Rattle.b2_access.specs.Planning.{Finishing, Planning}
 use Rattle.b2_access.specs.Working.{Ends, Plans, Worked, Working, finishes_by, leaves, plans_by, stops, with_variables, work_of}
-use Rattle.b2_stmt_io.specs.Printing.{prints}
-use Rattle.b2_stmt_io.specs.Showing.{shows_bytes, shows_laid}
+use Rattle.b2_stmt_io.specs.Outlets.{outlet_of}
+use Rattle.b2_stmt_io.specs.Showing.{asks_at, asks_to_print, asks_to_print_using}
+use Rattle.b2_stmt_io.specs.declared.outlets.Outlet.{Outlet}
 
 -- statements for programs alone
 abbrev pub is_for_programs : ℕ → Bool
@@ -39,40 +40,41 @@ is_for_programs r = r == row.INPUT || r == row.LINPUT || r == row.KEYIN
 abbrev pub is_refused : ℕ → Bool → Bool
 is_refused r program = is_for_programs r && not program
 
--- what a statement asks for that changes nothing yet, a line a row, at a column and after its prompt was shown or not
+-- what a statement asks for that changes nothing yet, a line a row: by where PRINT and PRINTUSING show or its code, and by the column
+-- at the terminal and whether the prompt was shown there
 abbrev pub Asks : Type 0
-Asks = Trees → Context → ℕ → Bool → Planned
+Asks = Trees → Context → Result Outlet ℕ → ℕ → Bool → Planned
 
 abbrev pub asking_rows : List (ℕ × Asks)
 asking_rows =
-    (row.PRINT, λ t e column prompted. shows_laid e.around.term (prints e column t))
-    ∷ (row.PRINTUSING, λ t e column prompted. shows_bytes column e.around.term (prints_using e t))
-    ∷ (row.KEYIN, λ t e column prompted. planned.Ask (access.Key e.around.term))
-    ∷ (row.LINPUT, λ t e column prompted. planned.Ask (asks_line prompted column e.around.term (prompt_of t)))
-    ∷ (row.INPUT, λ t e column prompted. planned.Ask (asks_line prompted column e.around.term (prompt_of t)))
+    (row.PRINT, λ t e o column prompted. asks_at o (asks_to_print t e))
+    ∷ (row.PRINTUSING, λ t e o column prompted. asks_at o (asks_to_print_using t e))
+    ∷ (row.KEYIN, λ t e o column prompted. planned.Ask (access.Key e.around.term))
+    ∷ (row.LINPUT, λ t e o column prompted. planned.Ask (asks_line prompted column e.around.term (prompt_of t)))
+    ∷ (row.INPUT, λ t e o column prompted. planned.Ask (asks_line prompted column e.around.term (prompt_of t)))
     ∷ []
 
 -- what isn't built is left out
 abbrev pub left_out : Asks
-left_out t e column prompted = planned.Done (outcome.Failed S27_LEFT_OUT)
+left_out t e o column prompted = planned.Done (outcome.Failed S27_LEFT_OUT)
 
 abbrev pub asked_of : ℕ → Asks
 asked_of r = at_row asking_rows left_out r
 
-abbrev pub course_of : Statement → Private → SeenLent → Working
-course_of u me s =
+abbrev pub course_of : List Device → Statement → Private → SeenLent → Working
+course_of devices u me s =
     if u.row == row.CONVERT then Ends (with_variables (own_of (converts u.tree (work_in (setting_of me) s.home me.vars))) outcome.Next (work_of me))
-    else Plans (asked_of u.row u.tree (context_of (work_in (setting_of me) s.home me.vars)) me.term_column me.prompted)
+    else Plans (asked_of u.row u.tree (context_of (work_in (setting_of me) s.home me.vars)) (outlet_of devices me) me.term_column me.prompted)
 
-abbrev pub does : Private → SeenLent → Statement → Here → Working
-does me s u h = course_of u me s
+abbrev pub does : List Device → Private → SeenLent → Statement → Here → Working
+does devices me s u h = course_of devices u me s
 
--- what the statement at a partition's place plans
-abbrev pub works : Private → SeenLent → Working
-works me s = course is_refused stops (does me s) me.place me s
+-- what the statement at a partition's place plans, over the devices that there are
+abbrev pub works : List Device → Private → SeenLent → Working
+works devices me s = course is_refused stops (does devices me s) me.place me s
 
-abbrev pub plan : Private → SeenLent → Planning
-plan me s = plans_by works me s
+abbrev pub plan : List Device → Private → SeenLent → Planning
+plan devices me s = plans_by (works devices) me s
 
 -- how a statement finishes by the answer to the access that it asked for, a line a row, where it may stand in a line of the program
 abbrev pub Finishes : Type 0
@@ -83,8 +85,8 @@ takes_line r t p x a me s = line_answered (λ line vars. own_of (takes_typed r l
 
 abbrev pub finishing_rows : List (ℕ × Finishes)
 finishing_rows =
-    (row.PRINT, λ t p x a me s. shown x a me)
-    ∷ (row.PRINTUSING, λ t p x a me s. shown x a me)
+    (row.PRINT, λ t p x a me s. shown_or_printed x a me)
+    ∷ (row.PRINTUSING, λ t p x a me s. shown_or_printed x a me)
     ∷ (row.KEYIN, λ t p x a me s. key_taken x a s.home p t me)
     ∷ (row.LINPUT, λ t p x a me s. takes_line row.LINPUT t p x a me s)
     ∷ (row.INPUT, λ t p x a me s. takes_line row.INPUT t p x a me s)

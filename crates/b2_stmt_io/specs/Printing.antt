@@ -1,4 +1,4 @@
--- What PRINT shows, by its tree: items, which are laid out on the lines of the terminal.
+-- What PRINT shows, by its tree: items, which are laid out on lines of a width.
 use Rattle.std.specs.Prelude.{◌≡◌, ℕ, ◌==◌, Bool, true, false, List, [], ◌∷◌, ◌++◌, Option, Some, None, is_some, Result, Ok, Err, if◌then◌else◌}
 use Rattle.std.specs.Borrow.{Bor}
 use Rattle.b2_base.specs.Refusals.{IsRefused}
@@ -15,17 +15,6 @@ use Rattle.b2_expr.specs.Functions.{whole_between}
 use Rattle.b2_expr.specs.Scope.{Context}
 use Rattle.b2_expr.specs.Value.{branch_of, text, value}
 use Rattle.b2_expr.specs.declared.operators.Level.TheVariants as level
-
--- the width of the terminal
-abbrev pub width : ℕ
-width = 80
-
--- an item on the lines of the terminal, and the column after it
-abbrev pub on_terminal : ℕ → Item → List ℕ
-on_terminal column it = item_placed width column it
-
-abbrev pub column_after_shown : ℕ → Item → ℕ
-column_after_shown column it = item_column width column it
 
 -- TAB: blanks up to a column from 0 to 255
 abbrev pub tab_in : Context → Trees → Result Item ℕ
@@ -102,30 +91,23 @@ abbrev pub shown_items : Context → Trees → Result (List Item) ℕ
 shown_items s (Put word (In n it more)) = item_in s n it >>= (λ x. further_in s true more >>= (λ its. Ok (items_of x ++ its)))
 shown_items s t = Err S22_WORD
 
--- items one after another, and the column after them
-abbrev pub laid : ℕ → List Item → List ℕ
-laid column its = layout width column its
-
-abbrev pub column_after_items : ℕ → List Item → ℕ
-column_after_items column its = items_column width column its
-
 -- items after a text, with the column after them; or their code
-abbrev pub laid_after : List ℕ → ℕ → Result (List Item) ℕ → Result (List ℕ × ℕ) ℕ
-laid_after before column (Ok its) = Ok (before ++ laid column its, column_after_items column its)
-laid_after before column (Err code) = Err code
+abbrev pub laid_after : ℕ → List ℕ → ℕ → Result (List Item) ℕ → Result (List ℕ × ℕ) ℕ
+laid_after width before column (Ok its) = Ok (before ++ layout width column its, items_column width column its)
+laid_after width before column (Err code) = Err code
 
--- what PRINT shows from a column on, with the column after it
-abbrev pub prints : Context → ℕ → Trees → Result (List ℕ × ℕ) ℕ
-prints s column t = laid_after [] column (shown_items s t)
+-- what PRINT shows from a column on, where lines have a width, with the column after it
+abbrev pub prints : Context → ℕ → ℕ → Trees → Result (List ℕ × ℕ) ℕ
+prints s width column t = laid_after width [] column (shown_items s t)
 
 -- an item that is shown after a text, the column after it and what stands after it; or its code, where memory doesn't fail
-abbrev pub ShowsItem : Result Item ℕ → Text → ℕ → List ℕ → List ℕ → Result (ℕ × Bor Text) Fault → Type 0
-ShowsItem it rest column old new (Ok p) = ((it >>= (λ x. Ok (old ++ on_terminal column x))) ≡ Ok new) × (((it >>= (λ x. Ok (column_after_shown column x))) ≡ Ok p.0) × (p.1.now ≡ rest))
-ShowsItem it rest column old new (Err f) = IsRefused it f
+abbrev pub ShowsItem : Result Item ℕ → Text → ℕ → ℕ → List ℕ → List ℕ → Result (ℕ × Bor Text) Fault → Type 0
+ShowsItem it rest width column old new (Ok p) = ((it >>= (λ x. Ok (old ++ item_placed width column x))) ≡ Ok new) × (((it >>= (λ x. Ok (item_column width column x))) ≡ Ok p.0) × (p.1.now ≡ rest))
+ShowsItem it rest width column old new (Err f) = IsRefused it f
 
 -- the same of an item or none
-abbrev pub ShowsMaybe : Result (Option Item) ℕ → Text → ℕ → List ℕ → List ℕ → Result (ℕ × Bool × Bor Text) Fault → Type 0
-ShowsMaybe it rest column old new (Ok p) =
-    ((it >>= (λ x. Ok (old ++ laid column (items_of x)))) ≡ Ok new)
-    × (((it >>= (λ x. Ok (column_after_items column (items_of x)))) ≡ Ok p.0) × (((it >>= (λ x. Ok (is_some x))) ≡ Ok p.1) × (p.2.now ≡ rest)))
-ShowsMaybe it rest column old new (Err f) = IsRefused it f
+abbrev pub ShowsMaybe : Result (Option Item) ℕ → Text → ℕ → ℕ → List ℕ → List ℕ → Result (ℕ × Bool × Bor Text) Fault → Type 0
+ShowsMaybe it rest width column old new (Ok p) =
+    ((it >>= (λ x. Ok (old ++ layout width column (items_of x)))) ≡ Ok new)
+    × (((it >>= (λ x. Ok (items_column width column (items_of x)))) ≡ Ok p.0) × (((it >>= (λ x. Ok (is_some x))) ≡ Ok p.1) × (p.2.now ≡ rest)))
+ShowsMaybe it rest width column old new (Err f) = IsRefused it f

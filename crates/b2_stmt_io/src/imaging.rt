@@ -1,5 +1,5 @@
 // PRINTUSING: values in an image.
-ghost use Rattle.std.specs.Prelude.{◌≡◌, ◌==◌, ◌++◌, ◌∷◌, [], true, IfOk, OnOk, MatchResult, Ok, Err};
+ghost use Rattle.std.specs.Prelude.{◌≡◌, ◌==◌, ◌++◌, ◌∷◌, [], true, OnOk, MatchResult, Ok, Err};
 ghost use Rattle.b2_base.specs.Byte as byte;
 ghost use Rattle.b2_base.specs.Lexical.{first};
 ghost use Rattle.b2_base.specs.Refusals.{IsRefused};
@@ -13,10 +13,7 @@ ghost use Rattle.b2_stmt_io.specs.Imaging as spec;
 ghost use Rattle.b2_stmt_io.specs.Imaging.{is_joined};
 ghost use Rattle.b2_rows.specs.CommaLists.{after_all_listed};
 ghost use Rattle.b2_stmt_io.specs.Operands.{are_operands, items_text, operands_at, operands_tree, past_operand};
-ghost use Rattle.b2_stmt_io.specs.Showing.{shows_bytes};
 
-use crate::showing::show_from;
-use b2_access::{Planned, failing};
 use b2_atom::{Cursor, literal_width};
 use b2_base::codes::{P36_NO_LINE, P42_IMAGE};
 use b2_base::lexical::rest_after;
@@ -125,7 +122,7 @@ fn values_at<'a>(e: &Env<'_>, text: &'a [u8], values: &mut Vec<Value>) -> Result
 
 /// What PRINTUSING shows, or its first code.
 #[tactic(auto, using(crate::proofs::UsingRows::items_part, crate::proofs::UsingRows::items_list, crate::proofs::UsingRows::image_refused, crate::proofs::UsingRows::values_refused, crate::proofs::UsingRows::using_refused, crate::proofs::UsingRows::using_shown))]
-fn shown_using(alloc: Global, e: &Env<'_>, unit: &[u8]) -> Result<ByteList, Fault>
+pub fn shown_using(alloc: Global, e: &Env<'_>, unit: &[u8]) -> Result<ByteList, Fault>
     requires part { is_part row.PRINTUSING unit.now ≡ true }
     ensures { MatchResult result (λ bytes. spec.prints_using (in_statement (surroundings e.now)) (tree_at row.PRINTUSING unit.now) ≡ Ok bytes) (λ f. IsRefused (spec.prints_using (in_statement (surroundings e.now)) (tree_at row.PRINTUSING unit.now)) f) }
 {
@@ -142,17 +139,5 @@ fn shown_using(alloc: Global, e: &Env<'_>, unit: &[u8]) -> Result<ByteList, Faul
     match using(alloc, image, &values, is_at(b';', rest), &mut out) {
         Ok(()) => Ok(ByteList::new(out)),
         Err(fault) => Err(fault),
-    }
-}
-
-/// What PRINTUSING asks for: its items are evaluated, and then they are shown.
-#[tactic(auto, using(crate::proofs::Refusals::bytes_refused))]
-pub fn ask_using(alloc: Global, e: &Env<'_>, column: u16, unit: &[u8]) -> Result<Planned, NoMemory>
-    requires part { is_part row.PRINTUSING unit.now ≡ true }
-    ensures { IfOk result (λ p. p ≡ shows_bytes column e.now.term (spec.prints_using (in_statement (surroundings e.now)) (tree_at row.PRINTUSING unit.now))) }
-{
-    match shown_using(alloc, e, unit) {
-        Ok(bytes) => Ok(Planned::Ask(show_from(column, e.term, bytes))),
-        Err(fault) => Ok(Planned::Done(failing(fault)?)),
     }
 }

@@ -1,11 +1,20 @@
-//! What holds of statements at the terminal, whatever they are: the contract of a function without a body.
-ghost use Rattle.b2_access.specs.LeftAlone.{LeaveTheRest};
-ghost use Rattle.b2_stmt_io.specs.Plan.{finish, plan};
+//! What holds of statements at the terminal, whatever they are: the contracts of functions without a body.
+ghost use Rattle.b2_stmt_io.specs.Laws.{AskedDevicesAreListed, StatementsLeaveTheRest, StatementsPlanLegally};
 
-/// A statement, as it plans and as it finishes, names no partition as a home, in a place, in a frame, where it leads or in what
-/// it asks for, but its own and those that were named before. It leaves the place of the partition, which moves by its outcome,
-/// and its terminal, and asks there alone. Where no place is kept for CONTINUE it keeps none, or the partition is then ready.
-/// Where it plans an access, has to wait, or finds no key, nothing of the partition has changed.
+/// A statement, as it plans over any devices and as it finishes, names no partition as a home, in a place, in a frame, where it
+/// leads or in what it asks for, but its own and those that were named before. It leaves the place of the partition, which moves
+/// by its outcome, and its terminal, and asks at no other terminal. Where no place is kept for CONTINUE it keeps none, or the
+/// partition is then ready. Where it plans an access, has to wait, or finds no key, nothing of the partition has changed.
 pub fn statements_leave_the_rest()
-    ensures { LeaveTheRest plan finish }
+    ensures { StatementsLeaveTheRest }
+{}
+
+/// What a statement asks for reaches no device but a printer that the table lists for its partition.
+pub fn asked_devices_are_listed()
+    ensures { AskedDevicesAreListed }
+{}
+
+/// What a statement asks for may be asked for.
+pub fn what_is_asked_is_legal()
+    ensures { StatementsPlanLegally }
 {}

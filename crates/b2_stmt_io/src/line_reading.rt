@@ -10,7 +10,7 @@ ghost use Rattle.b2_stmt_io.specs.LineReading as spec;
 ghost use Rattle.b2_access.specs.Marks.{typed_by_mark};
 ghost use Rattle.b2_access.specs.Working.{ended};
 
-use crate::showing::show_from;
+use crate::outlets::Outlet;
 use b2_access::{Access, Outcome, Private, typed_by_mark};
 use b2_atom::literal_width;
 use b2_base::lexical::rest_after;
@@ -47,7 +47,7 @@ pub fn past_prompt(text: &[u8]) -> &[u8]
     }
 }
 
-/// The prompt at a text is shown, or a line is read where it was.
+/// The prompt at a text is shown at the terminal, or a line is read where it was.
 pub fn ask_line(
     alloc: Global,
     prompted: bool,
@@ -63,7 +63,8 @@ pub fn ask_line(
     }
     let mut shown = Vec::from_slice(alloc, prompt_at(text))?;
     shown.extend_from_slice(b"? ")?;
-    Ok(show_from(column, term, ByteList::new(shown)))
+    let terminal = Outlet::Terminal { term, column };
+    Ok(terminal.show_from(ByteList::new(shown)))
 }
 
 /// What LINPUT asks for.

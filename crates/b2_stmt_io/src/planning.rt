@@ -12,18 +12,18 @@ ghost use Rattle.b2_access.specs.Working.{plans_by};
 ghost use Rattle.b2_stmt_io.specs.Plan as spec;
 
 use crate::converting::convert_unit;
-use crate::imaging::ask_using;
 use crate::inputs::{ask_input, line_entered, take_typed, without_line};
 use crate::keys::{after_key, take_key};
 use crate::line_reading::ask_linput;
-use crate::showing::ask_print;
+use crate::outlets::{Outlet, outlet_of};
+use crate::showing::{ask_print, ask_using};
 use b2_access::{
-    Access, Answer, DeviceTable, Lent, Outcome, Planned, Private, after_show, failed, goes_or,
-    setting_of, statement_placed,
+    Access, Answer, DeviceTable, Lent, Outcome, Planned, Private, after_show_or_print, failed,
+    goes_or, setting_of, statement_placed,
 };
 use b2_atom::rows;
-use b2_base::NoMemory;
 use b2_base::codes::{S26_PROGRAM_ONLY, S27_LEFT_OUT};
+use b2_base::{Code, NoMemory};
 use b2_expr::{Env, Workspace, surroundings_of};
 use b2_rows::RowUnit;
 use b2_text::Text;
@@ -46,21 +46,29 @@ fn is_refused(row: u16, program: bool) -> bool
     (row == rows::INPUT || row == rows::LINPUT || row == rows::KEYIN) && !program
 }
 
-/// What a statement asks for that changes nothing yet, at a column and after its prompt was shown or not.
+/// What a statement asks for that changes nothing yet: by where PRINT and PRINTUSING show or its code, and by the column at the
+/// terminal and whether the prompt was shown there.
 fn ask(
     alloc: Global,
     e: &Env<'_>,
+    outlet: Result<Outlet, Code>,
     column: u16,
     prompted: bool,
     unit: &RowUnit<'_>,
 ) -> Result<Planned, NoMemory>
     requires read { IsRow unit.now.row unit.now.bytes.now (tree_at unit.now.row unit.now.bytes.now) }
-    ensures { IfOk result (λ p. p ≡ spec.asked_of unit.now.row (tree_at unit.now.row unit.now.bytes.now) (in_statement (surroundings e.now)) column prompted) }
+    ensures { IfOk result (λ p. p ≡ spec.asked_of unit.now.row (tree_at unit.now.row unit.now.bytes.now) (in_statement (surroundings e.now)) outlet column prompted) }
 {
     let term = e.term;
     match unit.row {
-        rows::PRINT => ask_print(alloc, e, column, unit.bytes),
-        rows::PRINTUSING => ask_using(alloc, e, column, unit.bytes),
+        rows::PRINT => match outlet {
+            Ok(at) => ask_print(alloc, e, &at, unit.bytes),
+            Err(code) => Ok(Planned::Done(Outcome::Failed(code))),
+        },
+        rows::PRINTUSING => match outlet {
+            Ok(at) => ask_using(alloc, e, &at, unit.bytes),
+            Err(code) => Ok(Planned::Done(Outcome::Failed(code))),
+        },
         rows::KEYIN => Ok(Planned::Ask(Access::Key { term })),
         rows::LINPUT => Ok(Planned::Ask(ask_linput(alloc, prompted, column, term, unit.bytes)?)),
         rows::INPUT => Ok(Planned::Ask(ask_input(alloc, prompted, column, term, unit.bytes)?)),
@@ -68,17 +76,19 @@ fn ask(
     }
 }
 
-/// What the statement of a unit plans that was found in a line of the program.
+/// What the statement of a unit plans that was found in a line of the program, over the devices that there are.
 pub fn plan_found(
     alloc: Global,
     me: &mut Private,
     home: &Text,
+    devices: &DeviceTable,
     unit: &RowUnit<'_>,
 ) -> Result<Planned, NoMemory>
     requires read { IsRow unit.now.row unit.now.bytes.now (tree_at unit.now.row unit.now.bytes.now) }
-    ensures planned { (own : TextState) (globals : Option VarsState) → IfOk result (λ p. record { me = me.new; globals = globals; planned = p } ≡ plans_by (spec.course_of (record { row = unit.now.row; tree = tree_at unit.now.row unit.now.bytes.now })) me.old (record { own = own; home = home.now; globals = globals })) }
+    ensures planned { (own : TextState) (globals : Option VarsState) → IfOk result (λ p. record { me = me.new; globals = globals; planned = p } ≡ plans_by (spec.course_of devices.now (record { row = unit.now.row; tree = tree_at unit.now.row unit.now.bytes.now })) me.old (record { own = own; home = home.now; globals = globals })) }
     ensures part { me.new.part ≡ me.old.part }
 {
+    let outlet = outlet_of(devices, me);
     let setting = setting_of(me);
     let mut work = Workspace {
         own: &mut me.vars,
@@ -90,17 +100,17 @@ pub fn plan_found(
         return Ok(Planned::Done(goes_or(Outcome::Next, code)));
     }
     let e = surroundings_of(&work);
-    ask(alloc, &e, me.term_column, me.prompted, unit)
+    ask(alloc, &e, outlet, me.term_column, me.prompted, unit)
 }
 
-/// What the statement at the place of a partition plans. Where no unit is there it is ready.
+/// What the statement at the place of a partition plans, over the devices that there are. Where no unit is there it is ready.
 pub fn plan(
     alloc: Global,
     me: &mut Private,
     lent: &mut Lent<'_>,
     devices: &DeviceTable,
 ) -> Result<Planned, NoMemory>
-    ensures planned { IfOk result (λ p. record { me = me.new; globals = globals_lent lent.new; planned = p } ≡ spec.plan me.old (seen_lent lent.old)) }
+    ensures planned { IfOk result (λ p. record { me = me.new; globals = globals_lent lent.new; planned = p } ≡ spec.plan devices.now me.old (seen_lent lent.old)) }
     ensures same_texts { (lent.new.own ≡ lent.old.own) × (lent.new.home ≡ lent.old.home) }
     ensures same_globals { lent.new.globals.now ≡ lent.old.globals.now }
     ensures same_reference { lent.new.globals.ghost_name ≡ lent.old.globals.ghost_name }
@@ -109,6 +119,7 @@ pub fn plan(
     let Some(place) = me.place else {
         return Ok(Planned::Done(Outcome::Ready));
     };
+    let outlet = outlet_of(devices, me);
     let setting = setting_of(me);
     let Some(unit) = statement_placed(place, &me.immediate, lent.home) else {
         return Ok(Planned::Done(Outcome::Ready));
@@ -126,7 +137,7 @@ pub fn plan(
         return Ok(Planned::Done(goes_or(Outcome::Next, code)));
     }
     let e = surroundings_of(&work);
-    ask(alloc, &e, me.term_column, me.prompted, &unit)
+    ask(alloc, &e, outlet, me.term_column, me.prompted, &unit)
 }
 
 /// How the statement at the place of a partition finishes, by the access that it asked for and its answer, which is one that the
@@ -156,7 +167,7 @@ pub fn finish(
         return Ok(Outcome::Repeat);
     }
     match unit.row {
-        rows::PRINT | rows::PRINTUSING => Ok(after_show(me, access, answer)),
+        rows::PRINT | rows::PRINTUSING => Ok(after_show_or_print(me, access, answer)),
         rows::KEYIN => {
             let mut work = Workspace {
                 own: &mut me.vars,

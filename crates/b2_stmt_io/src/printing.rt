@@ -12,8 +12,9 @@ ghost use Rattle.b2_expr.specs.Functions.{whole_between};
 ghost use Rattle.b2_expr.specs.Scope.{surroundings};
 ghost use Rattle.b2_expr.specs.Value.{in_statement};
 ghost use Rattle.b2_stmt_io.specs.Printing as spec;
+ghost use Rattle.b2_print.specs.Layout.{item_column, item_placed, items_column, layout};
 ghost use Rattle.b2_print.specs.declared.layout.Item.TheVariants as item;
-ghost use Rattle.b2_stmt_io.specs.Printing.{ShowsItem, ShowsMaybe, alpha_item, hex_item, on_terminal, column_after_shown, laid, laid_after, column_after_items, newline_where, zone_where};
+ghost use Rattle.b2_stmt_io.specs.Printing.{ShowsItem, ShowsMaybe, alpha_item, hex_item, laid_after, newline_where, zone_where};
 
 use b2_atom::Cursor;
 use b2_atom::words::{HEXOF_OPEN, TAB_OPEN};
@@ -26,62 +27,95 @@ use b2_print::{Item, lay};
 use b2_rows::{is_alpha_at, is_at, is_numeric_at};
 use std::alloc::Global;
 
-/// The width of the terminal.
-const WIDTH: u16 = 80;
-
-/// Shows bytes at a column after a text, and gives the column after them.
-fn show_bytes(alloc: Global, bytes: &[u8], column: u16, out: &mut Vec<u8>) -> Result<u16, NoMemory>
-    ensures text { OnOk result (out.new.items ≡ out.old.items ++ on_terminal column (alpha_item bytes.now)) }
-    ensures column { IfOk result (λ after. after ≡ column_after_shown column (alpha_item bytes.now)) }
+/// Shows bytes at a column after a text, where lines have a width, and gives the column after them.
+fn show_bytes(
+    alloc: Global,
+    bytes: &[u8],
+    width: u16,
+    column: u16,
+    out: &mut Vec<u8>,
+) -> Result<u16, NoMemory>
+    ensures text { OnOk result (out.new.items ≡ out.old.items ++ item_placed width column (alpha_item bytes.now)) }
+    ensures column { IfOk result (λ after. after ≡ item_column width column (alpha_item bytes.now)) }
 {
-    lay(alloc, &[Item::Alpha(bytes)], column, WIDTH, out)
+    lay(alloc, &[Item::Alpha(bytes)], column, width, out)
 }
 
 /// The same of a number in its printed form.
-fn show_number(alloc: Global, x: Dec, column: u16, out: &mut Vec<u8>) -> Result<u16, NoMemory>
-    ensures text { OnOk result (out.new.items ≡ out.old.items ++ on_terminal column (item.Number x)) }
-    ensures column { IfOk result (λ after. after ≡ column_after_shown column (item.Number x)) }
+fn show_number(
+    alloc: Global,
+    x: Dec,
+    width: u16,
+    column: u16,
+    out: &mut Vec<u8>,
+) -> Result<u16, NoMemory>
+    ensures text { OnOk result (out.new.items ≡ out.old.items ++ item_placed width column (item.Number x)) }
+    ensures column { IfOk result (λ after. after ≡ item_column width column (item.Number x)) }
 {
-    lay(alloc, &[Item::Number(x)], column, WIDTH, out)
+    lay(alloc, &[Item::Number(x)], column, width, out)
 }
 
 /// The same of each byte as two hexadecimal digits.
-fn show_digits(alloc: Global, bytes: &[u8], column: u16, out: &mut Vec<u8>) -> Result<u16, NoMemory>
-    ensures text { OnOk result (out.new.items ≡ out.old.items ++ on_terminal column (hex_item bytes.now)) }
-    ensures column { IfOk result (λ after. after ≡ column_after_shown column (hex_item bytes.now)) }
+fn show_digits(
+    alloc: Global,
+    bytes: &[u8],
+    width: u16,
+    column: u16,
+    out: &mut Vec<u8>,
+) -> Result<u16, NoMemory>
+    ensures text { OnOk result (out.new.items ≡ out.old.items ++ item_placed width column (hex_item bytes.now)) }
+    ensures column { IfOk result (λ after. after ≡ item_column width column (hex_item bytes.now)) }
 {
-    lay(alloc, &[Item::Hex(bytes)], column, WIDTH, out)
+    lay(alloc, &[Item::Hex(bytes)], column, width, out)
 }
 
 /// The same of blanks up to a column.
-fn show_blanks(alloc: Global, to: u8, column: u16, out: &mut Vec<u8>) -> Result<u16, NoMemory>
-    ensures text { OnOk result (out.new.items ≡ out.old.items ++ on_terminal column (item.Tab to)) }
-    ensures column { IfOk result (λ after. after ≡ column_after_shown column (item.Tab to)) }
+fn show_blanks(
+    alloc: Global,
+    to: u8,
+    width: u16,
+    column: u16,
+    out: &mut Vec<u8>,
+) -> Result<u16, NoMemory>
+    ensures text { OnOk result (out.new.items ≡ out.old.items ++ item_placed width column (item.Tab to)) }
+    ensures column { IfOk result (λ after. after ≡ item_column width column (item.Tab to)) }
 {
-    lay(alloc, &[Item::Tab(to)], column, WIDTH, out)
+    lay(alloc, &[Item::Tab(to)], column, width, out)
 }
 
 /// Shows what a separator does after a text, and gives the column after it.
-fn show_separator(alloc: Global, mark: u8, column: u16, out: &mut Vec<u8>) -> Result<u16, NoMemory>
-    ensures text { OnOk result (out.new.items ≡ out.old.items ++ laid column (zone_where (mark == byte.comma))) }
-    ensures column { IfOk result (λ after. after ≡ column_after_items column (zone_where (mark == byte.comma))) }
+fn show_separator(
+    alloc: Global,
+    mark: u8,
+    width: u16,
+    column: u16,
+    out: &mut Vec<u8>,
+) -> Result<u16, NoMemory>
+    ensures text { OnOk result (out.new.items ≡ out.old.items ++ layout width column (zone_where (mark == byte.comma))) }
+    ensures column { IfOk result (λ after. after ≡ items_column width column (zone_where (mark == byte.comma))) }
 {
     if mark == b',' {
-        lay(alloc, &[Item::Zone], column, WIDTH, out)
+        lay(alloc, &[Item::Zone], column, width, out)
     } else {
-        lay(alloc, &[], column, WIDTH, out)
+        lay(alloc, &[], column, width, out)
     }
 }
 
 /// Shows the newline at the end after a text, where one belongs there, and gives the column after it.
-fn show_end(alloc: Global, line: bool, column: u16, out: &mut Vec<u8>) -> Result<u16, NoMemory>
-    ensures text { OnOk result (out.new.items ≡ out.old.items ++ laid column (newline_where line)) }
-    ensures column { IfOk result (λ after. after ≡ column_after_items column (newline_where line)) }
+fn show_end(
+    alloc: Global,
+    line: bool,
+    width: u16,
+    column: u16,
+    out: &mut Vec<u8>,
+) -> Result<u16, NoMemory>
+    ensures text { OnOk result (out.new.items ≡ out.old.items ++ layout width column (newline_where line)) }
+    ensures column { IfOk result (λ after. after ≡ items_column width column (newline_where line)) }
 {
     if line {
-        lay(alloc, &[Item::Line], column, WIDTH, out)
+        lay(alloc, &[Item::Line], column, width, out)
     } else {
-        lay(alloc, &[], column, WIDTH, out)
+        lay(alloc, &[], column, width, out)
     }
 }
 
@@ -90,12 +124,13 @@ fn show_end(alloc: Global, line: bool, column: u16, out: &mut Vec<u8>) -> Result
 fn tab_shown<'a>(
     alloc: Global,
     e: &Env<'_>,
+    width: u16,
     column: u16,
     text: &'a [u8],
     out: &mut Vec<u8>,
 ) -> Result<(u16, &'a [u8]), Fault>
     requires part { is_part row.TAB text.now ≡ true }
-    ensures { ShowsItem (spec.tab_in (in_statement (surroundings e.now)) (tree_at row.TAB text.now)) (after_part row.TAB text.now) column out.old.items out.new.items result }
+    ensures { ShowsItem (spec.tab_in (in_statement (surroundings e.now)) (tree_at row.TAB text.now)) (after_part row.TAB text.now) width column out.old.items out.new.items result }
 {
     let mut c = Cursor::over(rest_after(text, 1));
     let x = match number(&mut c, e) {
@@ -106,7 +141,7 @@ fn tab_shown<'a>(
         Ok(to) => to,
         Err(code) => return Err(Fault::Code(code)),
     };
-    let after = show_blanks(alloc, to, column, out)?;
+    let after = show_blanks(alloc, to, width, column, out)?;
     Ok((after, rest_after(c.rest(), 1)))
 }
 
@@ -115,12 +150,13 @@ fn tab_shown<'a>(
 fn hex_shown<'a>(
     alloc: Global,
     e: &Env<'_>,
+    width: u16,
     column: u16,
     text: &'a [u8],
     out: &mut Vec<u8>,
 ) -> Result<(u16, &'a [u8]), Fault>
     requires part { is_part row.HEXOF text.now ≡ true }
-    ensures { ShowsItem (spec.hex_in (in_statement (surroundings e.now)) (tree_at row.HEXOF text.now)) (after_part row.HEXOF text.now) column out.old.items out.new.items result }
+    ensures { ShowsItem (spec.hex_in (in_statement (surroundings e.now)) (tree_at row.HEXOF text.now)) (after_part row.HEXOF text.now) width column out.old.items out.new.items result }
 {
     let mut c = Cursor::over(rest_after(text, 1));
     let mut bytes = Bytes::new();
@@ -128,7 +164,7 @@ fn hex_shown<'a>(
         Ok(()) => {}
         Err(code) => return Err(Fault::Code(code)),
     }
-    let after = show_digits(alloc, bytes.bytes(), column, out)?;
+    let after = show_digits(alloc, bytes.bytes(), width, column, out)?;
     Ok((after, rest_after(c.rest(), 1)))
 }
 
@@ -136,12 +172,13 @@ fn hex_shown<'a>(
 fn alpha_shown<'a>(
     alloc: Global,
     e: &Env<'_>,
+    width: u16,
     column: u16,
     text: &'a [u8],
     out: &mut Vec<u8>,
 ) -> Result<(u16, &'a [u8]), Fault>
     requires part { is_part row.ALPHA text.now ≡ true }
-    ensures { ShowsItem (spec.alpha_in (in_statement (surroundings e.now)) (tree_at row.ALPHA text.now)) (after_part row.ALPHA text.now) column out.old.items out.new.items result }
+    ensures { ShowsItem (spec.alpha_in (in_statement (surroundings e.now)) (tree_at row.ALPHA text.now)) (after_part row.ALPHA text.now) width column out.old.items out.new.items result }
 {
     let mut c = Cursor::over(text);
     let mut bytes = Bytes::new();
@@ -149,7 +186,7 @@ fn alpha_shown<'a>(
         Ok(()) => {}
         Err(code) => return Err(Fault::Code(code)),
     }
-    let after = show_bytes(alloc, bytes.bytes(), column, out)?;
+    let after = show_bytes(alloc, bytes.bytes(), width, column, out)?;
     Ok((after, c.rest()))
 }
 
@@ -157,19 +194,20 @@ fn alpha_shown<'a>(
 fn number_shown<'a>(
     alloc: Global,
     e: &Env<'_>,
+    width: u16,
     column: u16,
     text: &'a [u8],
     out: &mut Vec<u8>,
 ) -> Result<(u16, &'a [u8]), Fault>
     requires part { is_part row.SUM text.now ≡ true }
-    ensures { ShowsItem (spec.number_in (in_statement (surroundings e.now)) (tree_at row.SUM text.now)) (after_part row.SUM text.now) column out.old.items out.new.items result }
+    ensures { ShowsItem (spec.number_in (in_statement (surroundings e.now)) (tree_at row.SUM text.now)) (after_part row.SUM text.now) width column out.old.items out.new.items result }
 {
     let mut c = Cursor::over(text);
     let x = match number(&mut c, e) {
         Ok(x) => x,
         Err(code) => return Err(Fault::Code(code)),
     };
-    let after = show_number(alloc, x, column, out)?;
+    let after = show_number(alloc, x, width, column, out)?;
     Ok((after, c.rest()))
 }
 
@@ -178,23 +216,24 @@ fn number_shown<'a>(
 fn item_shown<'a>(
     alloc: Global,
     e: &Env<'_>,
+    width: u16,
     column: u16,
     text: &'a [u8],
     out: &mut Vec<u8>,
 ) -> Result<(u16, &'a [u8]), Fault>
     requires part { is_part row.PRINT_ITEM text.now ≡ true }
-    ensures { ShowsItem (spec.item_of (in_statement (surroundings e.now)) (tree_at row.PRINT_ITEM text.now)) (after_part row.PRINT_ITEM text.now) column out.old.items out.new.items result }
+    ensures { ShowsItem (spec.item_of (in_statement (surroundings e.now)) (tree_at row.PRINT_ITEM text.now)) (after_part row.PRINT_ITEM text.now) width column out.old.items out.new.items result }
 {
     if is_at(TAB_OPEN, text) {
-        return tab_shown(alloc, e, column, text, out);
+        return tab_shown(alloc, e, width, column, text, out);
     }
     if is_at(HEXOF_OPEN, text) {
-        return hex_shown(alloc, e, column, text, out);
+        return hex_shown(alloc, e, width, column, text, out);
     }
     if is_alpha_at(text) {
-        alpha_shown(alloc, e, column, text, out)
+        alpha_shown(alloc, e, width, column, text, out)
     } else {
-        number_shown(alloc, e, column, text, out)
+        number_shown(alloc, e, width, column, text, out)
     }
 }
 
@@ -221,17 +260,18 @@ fn is_separator_at(text: &[u8]) -> bool
 fn item_or_none<'a>(
     alloc: Global,
     e: &Env<'_>,
+    width: u16,
     column: u16,
     text: &'a [u8],
     out: &mut Vec<u8>,
 ) -> Result<(u16, bool, &'a [u8]), Fault>
     requires part { maybe_part start.PrintItem row.PRINT_ITEM text.now ≡ true }
-    ensures { ShowsMaybe (spec.item_at (in_statement (surroundings e.now)) (maybe_tree start.PrintItem row.PRINT_ITEM text.now)) (after_maybe start.PrintItem row.PRINT_ITEM text.now) column out.old.items out.new.items result }
+    ensures { ShowsMaybe (spec.item_at (in_statement (surroundings e.now)) (maybe_tree start.PrintItem row.PRINT_ITEM text.now)) (after_maybe start.PrintItem row.PRINT_ITEM text.now) width column out.old.items out.new.items result }
 {
     if !is_item_at(text) {
         return Ok((column, false, text));
     }
-    match item_shown(alloc, e, column, text, out) {
+    match item_shown(alloc, e, width, column, text, out) {
         Ok((after, left)) => Ok((after, true, left)),
         Err(fault) => Err(fault),
     }
@@ -243,21 +283,36 @@ fn item_or_none<'a>(
 fn show_items(
     alloc: Global,
     e: &Env<'_>,
+    width: u16,
     column: u16,
     unit: &[u8],
     out: &mut Vec<u8>,
 ) -> Result<u16, Fault>
     requires part { is_part row.PRINT unit.now ≡ true }
-    ensures { MatchResult result (λ after. laid_after out.old.items column (spec.shown_items (in_statement (surroundings e.now)) (tree_at row.PRINT unit.now)) ≡ Ok (out.new.items, after)) (λ f. IsRefused (spec.shown_items (in_statement (surroundings e.now)) (tree_at row.PRINT unit.now)) f) }
+    ensures { MatchResult result (λ after. laid_after width out.old.items column (spec.shown_items (in_statement (surroundings e.now)) (tree_at row.PRINT unit.now)) ≡ Ok (out.new.items, after)) (λ f. IsRefused (spec.shown_items (in_statement (surroundings e.now)) (tree_at row.PRINT unit.now)) f) }
 {
-    let (mut at, _, mut left) = match item_or_none(alloc, e, column, rest_after(unit, 1), out) {
+    let (mut at, _, mut left) = match item_or_none(
+        alloc,
+        e,
+        width,
+        column,
+        rest_after(unit, 1),
+        out,
+    ) {
         Ok(shown) => shown,
         Err(fault) => return Err(fault),
     };
     let mut line = true;
     while is_separator_at(left) {
-        let zone = show_separator(alloc, first(left), at, out)?;
-        let (after, is_item, rest) = match item_or_none(alloc, e, zone, rest_after(left, 1), out) {
+        let zone = show_separator(alloc, first(left), width, at, out)?;
+        let (after, is_item, rest) = match item_or_none(
+            alloc,
+            e,
+            width,
+            zone,
+            rest_after(left, 1),
+            out,
+        ) {
             Ok(shown) => shown,
             Err(fault) => return Err(fault),
         };
@@ -265,22 +320,23 @@ fn show_items(
         line = is_item;
         left = rest;
     }
-    let after = show_end(alloc, line, at, out)?;
+    let after = show_end(alloc, line, width, at, out)?;
     Ok(after)
 }
 
-/// What PRINT shows from a column on, with the column after it; or its first code.
+/// What PRINT shows from a column on, where lines have a width, with the column after it; or its first code.
 pub fn shown_by_print(
     alloc: Global,
     e: &Env<'_>,
+    width: u16,
     column: u16,
     unit: &[u8],
 ) -> Result<(ByteList, u16), Fault>
     requires part { is_part row.PRINT unit.now ≡ true }
-    ensures { MatchResult result (λ shown. spec.prints (in_statement (surroundings e.now)) column (tree_at row.PRINT unit.now) ≡ Ok shown) (λ f. IsRefused (spec.prints (in_statement (surroundings e.now)) column (tree_at row.PRINT unit.now)) f) }
+    ensures { MatchResult result (λ shown. spec.prints (in_statement (surroundings e.now)) width column (tree_at row.PRINT unit.now) ≡ Ok shown) (λ f. IsRefused (spec.prints (in_statement (surroundings e.now)) width column (tree_at row.PRINT unit.now)) f) }
 {
     let mut out = Vec::new(alloc);
-    match show_items(alloc, e, column, unit, &mut out) {
+    match show_items(alloc, e, width, column, unit, &mut out) {
         Ok(after) => Ok((ByteList::new(out), after)),
         Err(fault) => Err(fault),
     }

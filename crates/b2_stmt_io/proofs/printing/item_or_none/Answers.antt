@@ -12,11 +12,11 @@ returns-in-Ok c =
     let s = in_statement (surroundings c.args.e.now) in
     let t = c.args.text.now in
     let begun : starts Atoms start.PrintItem t ≡ true = sym c.if-not-is_item_at.ensures in (
-      one_shown s t c.args.out.now.items c.item_shown.new.out.items c.args.column c.in-Ok.after begun c.in-Ok.ensures.0,
+      one_shown c.args.width s t c.args.out.now.items c.item_shown.new.out.items c.args.column c.in-Ok.after begun c.in-Ok.ensures.0,
       (
-        one_past s t c.args.column c.in-Ok.after begun c.in-Ok.ensures.1.0,
+        one_past c.args.width s t c.args.column c.in-Ok.after begun c.in-Ok.ensures.1.0,
         (
-          one_some s t c.args.column c.in-Ok.after begun c.in-Ok.ensures.1.0,
+          one_some c.args.width s t c.args.column c.in-Ok.after begun c.in-Ok.ensures.1.0,
           c.in-Ok.ensures.1.1 ∙ sym (one_rest t begun),
         ),
       ),

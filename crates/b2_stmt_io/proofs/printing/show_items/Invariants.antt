@@ -11,7 +11,7 @@ use Rattle.b2_stmt_io.proofs.printing.show_items.Given as goal
 abbrev pub invariant-loop-left : goal.invariant-loop-left
 invariant-loop-left l = record {
   list : is_list separators row.FURTHER_ITEM l.left ≡ true;
-  shown : laid_after l.out.items l.at (further_in (in_statement (surroundings l.e)) l.line (further_at l.left)) ≡ laid_after l.fn.out.items l.column (shown_items (in_statement (surroundings l.e)) (tree_at row.PRINT l.unit));
+  shown : laid_after l.width l.out.items l.at (further_in (in_statement (surroundings l.e)) l.line (further_at l.left)) ≡ laid_after l.width l.fn.out.items l.column (shown_items (in_statement (surroundings l.e)) (tree_at row.PRINT l.unit));
 }
 
 abbrev pub decreases-loop-left : goal.decreases-loop-left
