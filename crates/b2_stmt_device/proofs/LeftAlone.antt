@@ -1,0 +1,30 @@
+-- What these statements leave alone, whatever they are: one record of what HomesKept, KeptPlaces and Waits have.
+use Rattle.b2_stmt_device.specs.Laws.{StatementsLeaveTheRest}
+use Rattle.b2_stmt_device.proofs.HomesKept.{finishes_within, plans_within}
+use Rattle.b2_stmt_device.proofs.KeptPlaces.{
+  finishes_at_terminal,
+  finishes_in_place,
+  finishes_keep_none,
+  finishes_to_show,
+  plans_at_terminal,
+  plans_in_place,
+  plans_keep_none,
+  plans_to_show,
+}
+use Rattle.b2_stmt_device.proofs.Waits.{finishes_unchanged, plans_before_changes}
+
+pub leave_the_rest : StatementsLeaveTheRest
+leave_the_rest devices = record {
+  plans_within = plans_within devices;
+  finishes_within = finishes_within;
+  plans_in_place = plans_in_place devices;
+  finishes_in_place = finishes_in_place;
+  plans_keep_none = plans_keep_none devices;
+  finishes_keep_none = finishes_keep_none;
+  plans_at_terminal = plans_at_terminal devices;
+  finishes_at_terminal = finishes_at_terminal;
+  plans_to_show = plans_to_show devices;
+  finishes_to_show = finishes_to_show;
+  plans_before_changes = plans_before_changes devices;
+  finishes_unchanged = finishes_unchanged;
+}

@@ -1,0 +1,70 @@
+-- What a statement plans, by the unit at the place of a partition, and how it finishes.
+use Rattle.std.specs.Prelude.{ℕ, ◌==◌, ◌||◌, Bool, false, List, if◌then◌else◌}
+use Rattle.b2_base.specs.declared.codes.TheConstants.{S27_LEFT_OUT}
+use Rattle.b2_atom.specs.declared.rows.TheConstants as row
+use Rattle.b2_access.specs.Courses.{Here, course}
+use Rattle.b2_access.specs.Lending.{SeenLent}
+use Rattle.b2_access.specs.Placed.{Statement}
+use Rattle.b2_access.specs.Planning.{Finishing, Planning}
+use Rattle.b2_access.specs.Views.{devices_freed, taking_came}
+use Rattle.b2_access.specs.Working.{Ends, Plans, Worked, Working, finishes_by, leaves, plans_by, stops}
+use Rattle.b2_access.specs.declared.accesses.Access.{Access}
+use Rattle.b2_access.specs.declared.accesses.Answer.{Answer}
+use Rattle.b2_access.specs.declared.devices.Device.{Device}
+use Rattle.b2_access.specs.declared.planned.Outcome.{Outcome}
+use Rattle.b2_access.specs.declared.planned.Outcome.TheVariants as outcome
+use Rattle.b2_access.specs.declared.planned.Planned.{Planned}
+use Rattle.b2_access.specs.declared.planned.Planned.TheVariants as planned
+use Rattle.b2_access.specs.declared.private.Private.{Private}
+use Rattle.b2_drive.specs.Asking.{asks_or_fails}
+use Rattle.b2_stmt_device.specs.Freeing.{devices_to_free, freeing_ends, plans_to_free}
+use Rattle.b2_stmt_device.specs.Selecting.{device_selected, selected}
+use Rattle.b2_stmt_device.specs.Taking.{asks_to_take, line_if_busy, taking_ends}
+
+-- all may stand in a line of the program, and in an immediate line
+abbrev pub is_refused : ℕ → Bool → Bool
+is_refused r program = false
+
+-- SELECT PRINT ends at once; the others ask for an access, unless nothing is there to be freed
+abbrev pub planned_of : List Device → Statement → Private → Planned
+planned_of devices u me =
+    if u.row == row.OPEN then asks_or_fails (asks_to_take devices me.part u.tree)
+    else (if u.row == row.CLOSE then plans_to_free devices me (devices_to_free u.tree)
+    else planned.Done (outcome.Failed S27_LEFT_OUT))
+
+abbrev pub course_of : List Device → Statement → Private → Working
+course_of devices u me =
+    if u.row == row.SELECT_PRINT then Ends (selected (device_selected devices me.part u.tree) me)
+    else Plans (planned_of devices u me)
+
+abbrev pub does : List Device → Private → SeenLent → Statement → Here → Working
+does devices me s u h = course_of devices u me
+
+-- what the statement at a partition's place plans, over the devices that there are
+abbrev pub works : List Device → Private → SeenLent → Working
+works devices me s = course is_refused stops (does devices me s) me.place me s
+
+abbrev pub plan : List Device → Private → SeenLent → Planning
+plan devices me s = plans_by (works devices) me s
+
+-- how a statement finishes by the answer to the access that it asked for
+abbrev pub finishes : Access → Answer → Private → SeenLent → Statement → Here → Worked
+finishes x a me s u h =
+    if u.row == row.OPEN then taking_ends (taking_came x a) (line_if_busy u.tree) s.home.lines h.place me
+    else (if u.row == row.CLOSE then freeing_ends (devices_freed x a) me
+    else leaves me outcome.Repeat)
+
+-- elsewhere the step is repeated
+abbrev pub repeats : Private → Outcome → Worked
+repeats me o = leaves me outcome.Repeat
+
+-- how the statement at a partition's place finishes
+abbrev pub ends : Access → Answer → Private → SeenLent → Worked
+ends x a me s = course is_refused (repeats me) (finishes x a me s) me.place me s
+
+abbrev pub finish : Access → Answer → Private → SeenLent → Finishing
+finish x a me s = finishes_by ends x a me s
+
+-- the rows that this crate builds
+abbrev pub is_built : ℕ → Bool
+is_built r = r == row.OPEN || r == row.CLOSE || r == row.SELECT_PRINT

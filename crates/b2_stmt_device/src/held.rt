@@ -1,0 +1,85 @@
+// The devices that a partition has taken.
+ghost use Rattle.std.specs.Prelude.{◌≡◌};
+ghost use Rattle.b2_access.specs.OwnDevices.{is_device_for};
+ghost use Rattle.b2_stmt_device.specs.Held as spec;
+
+use b2_access::DeviceTable;
+use b2_base::{Addr, AddrList, Part};
+
+/// As many devices as a partition can hold: all that there can be.
+const MOST_HELD: usize = 12;
+
+/// Whether an address is among some.
+fn is_among(a: Addr, addrs: &[Addr]) -> bool
+    ensures { result ≡ spec.is_among a addrs.now }
+{
+    for x in addrs {
+        if *x == a {
+            return true;
+        }
+    }
+    false
+}
+
+/// Adds a device, unless it is there.
+fn add_device(held: &mut AddrList, a: Addr)
+    ensures { held.new ≡ spec.with_device held.old a }
+{
+    if !is_among(a, held.addresses()) && held.addresses().len() < MOST_HELD {
+        held.push(a);
+    }
+}
+
+/// Adds devices.
+pub(crate) fn add_devices(held: &mut AddrList, addrs: &[Addr])
+    ensures { held.new ≡ spec.with_devices held.old addrs.now }
+{
+    for a in addrs {
+        add_device(held, *a);
+    }
+}
+
+/// What is held but for some devices.
+pub(crate) fn without_devices(held: &AddrList, addrs: &[Addr]) -> AddrList
+    ensures { result ≡ spec.without_devices addrs.now held.now }
+{
+    let mut left = AddrList::new();
+    for a in held.addresses() {
+        if !is_among(*a, addrs) {
+            left.push(*a);
+        }
+    }
+    left
+}
+
+/// Whether a partition may use a device, of either kind.
+fn is_device_for(devices: &DeviceTable, who: Part, a: Addr) -> bool
+    ensures { result ≡ is_device_for who a devices.now }
+{
+    devices.platter(who, a) || devices.printer(who, a)
+}
+
+/// Those of some devices that the partition may use.
+pub(crate) fn those_listed(devices: &DeviceTable, who: Part, held: &AddrList) -> AddrList
+    ensures { result ≡ spec.those_listed devices.now who held.now }
+{
+    let mut listed = AddrList::new();
+    for a in held.addresses() {
+        if is_device_for(devices, who, *a) {
+            listed.push(*a);
+        }
+    }
+    listed
+}
+
+/// Whether a partition may use all of some devices.
+pub(crate) fn are_listed(devices: &DeviceTable, who: Part, addrs: &[Addr]) -> bool
+    ensures { result ≡ spec.are_listed devices.now who addrs.now }
+{
+    for a in addrs {
+        if !is_device_for(devices, who, *a) {
+            return false;
+        }
+    }
+    true
+}
