@@ -1,9 +1,10 @@
--- Changes of one file of an image: the image stays good, and every other file stays as it is.
-use Rattle.std.proofs.Common.{◌≡◌, ◌⊎◌, ℕ, ◌+◌, ◌-◌, ◌<◌, ◌≤◌, Bool, false, cond, List, length, Option, Some, None, refl, sym, ap, ◌∙◌, inl, inr, arith}
+-- Changes of one file of an image: the image stays good, with an index as long, and every other file stays as it is.
+use Rattle.std.proofs.Common.{◌≡◌, ◌⊎◌, ℕ, ◌+◌, ◌-◌, ◌<◌, ◌≤◌, Bool, false, cond, List, length, take, Option, Some, None, refl, sym, ap, ◌∙◌, inl, inr, arith}
 use Rattle.std.specs.FinMap.{get, insert, remove, get-remove}
 use Rattle.std.specs.Cmp.Lexicographic.{nat_list_cmp_total}
 use Rattle.std.specs.Str.{bytes_eq}
 use Rattle.std.proofs.lemmas.Bool.{cases_lt, cases_order, false_from_ne_true}
+use Rattle.std.proofs.lemmas.List.{take-take}
 use Rattle.std.proofs.lemmas.Slice.Eq.{bytes_eq-Decides}
 use Rattle.b2_dec.specs.declared.values.Value.{Value}
 use Rattle.b2_platter.specs.declared.layout.Layout.TheVariants.{Narrow}
@@ -11,7 +12,8 @@ use Rattle.b2_platter.specs.Checks.{Good}
 use Rattle.b2_platter.specs.Edits.{put_from}
 use Rattle.b2_platter.specs.Image.{index_of, next_free, row, sector}
 use Rattle.b2_platter.specs.Slot.{slot_end, slot_start}
-use Rattle.b2_platter.proofs.Kept.{shared}
+use Rattle.b2_platter.proofs.Goodness.{Parts-of}
+use Rattle.b2_platter.proofs.Kept.{index-same, shared}
 use Rattle.b2_platter.proofs.Soundness.{Sound-from_Good}
 use Rattle.b2_platter.proofs.SectorRuns.{AllLong}
 use Rattle.b2_catalog.specs.declared.entry.Entry.{Entry}
@@ -22,7 +24,7 @@ use Rattle.b2_catalog.specs.Ways.{slot_found}
 use Rattle.b2_catalog.proofs.Looking.{FileSlot-from, Holds-from, IsSlotOf-from}
 use Rattle.b2_catalog.proofs.MadeFiles.{get-other}
 use Rattle.b2_catalog.proofs.Mapping.{tie-eq}
-use Rattle.b2_catalog.proofs.RowPuts.{length-row, put_sectors_above}
+use Rattle.b2_catalog.proofs.RowPuts.{length-row, put_index_same, put_sectors_above}
 use Rattle.b2_catalog.proofs.Scratching.{catalogue-scratched, entry_end, entry_start, scratched_good, stands}
 use Rattle.b2_catalog.proofs.Spelled.{says_scratched}
 use Rattle.b2_catalog.proofs.Using.{used-files, used-good}
@@ -37,12 +39,14 @@ use Rattle.b2_store.specs.Files.{StaysAs}
 -- an image is another one but for the files of some names
 pub record Keeps (image new : List ℕ) (named : List ℕ → Type 0) : Type 0 where
   pub good : Good Narrow new
+  pub index : index_of new ≡ index_of image
   pub others : (f : Entry) → get (catalogue image) f.name ≡ Some f → (named f.name → ⊥) → StaysAs image new f
 
 -- one change after another
 pub keeps-both : (image between new : List ℕ) (P Q : List ℕ → Type 0) → ((q : List ℕ) → Q q → P q) → Keeps image between P → Keeps between new Q → Keeps image new P
 keeps-both image between new P Q less h k = record {
   good = k.good;
+  index = k.index ∙ h.index;
   others = λ f there apart.
       let one = h.others f there apart in
       let two = k.others f one.file (λ q. apart (less f.name q)) in
@@ -103,6 +107,22 @@ module _ (image : List ℕ) (good : Good Narrow image) where
         ]
       ]
 
+-- ---- how long the index is
+
+-- the head stands in the first sector
+head-in : (image : List ℕ) → row image 0 ≡ take 16 (sector image 0)
+unfolding row sector
+head-in image = sym (take-take 16 256 image (omega arith))
+
+same-index : (image new : List ℕ) → sector new 0 ≡ sector image 0 → index_of new ≡ index_of image
+same-index image new same = index-same Narrow image new (head-in new ∙ ap (take 16) same ∙ sym (head-in image))
+
+after-index : (image : List ℕ) → Good Narrow image → (e : Entry) → get (catalogue image) e.name ≡ Some e → 0 < e.start
+after-index image good e there =
+    let low = (stands-in image good e there).low in
+    let some = (Parts-of Narrow image good).some in
+    omega (arith, low, some)
+
 -- ---- a file that is scratched
 
 scratched-elsewhere : (files : Catalogue) (name q : List ℕ) (o : Option Entry) → (name ≡ q → ⊥) → get (with_scratched files name o) q ≡ get files q
@@ -115,6 +135,7 @@ scratch-keeps image good name k found =
     let long = (says_scratched (row image k) (length-row image k (FileSlot-from image name k good at).room)).long in
     record {
       good = scratched_good image good name k at;
+      index = put_index_same image good k at.low at.high (scratched_slot (row image k)) long;
       others = λ f there other. record {
         file = ap (λ (m : Catalogue). get m f.name) (catalogue-scratched image good name k at) ∙ (scratched-elsewhere (catalogue image) name f.name (get (catalogue image) name) other ∙ there);
         sectors = λ n low high. let where_it_is = (stands-in image good f there).low in put_sectors_above image good k at.low at.high (scratched_slot (row image k)) long n (omega (arith, low, where_it_is));
@@ -130,6 +151,7 @@ save-keeps image e pos values at =
     let high_is = at.high in
     record {
       good = put.good;
+      index = same-index image (put_from image pos (record_of values)) (put.before 0 (let first = after-index image at.good e at.file in omega (arith, first, low_is)));
       others = λ f there other. record {
         file = ap (λ (m : Catalogue). get m f.name) (saved-files image e pos values at) ∙ there;
         sectors = λ n low high. elim (apart image at.good e f at.file there other n low high) as (λ _. sector (put_from image pos (record_of values)) n ≡ sector image n) [
@@ -145,6 +167,7 @@ end-keeps image e pos at =
     let high_is = at.high in
     record {
       good = with_end-good image e pos at;
+      index = (let first = after-index image at.good e at.file in same-index image (with_end image e pos) (with_end-other image e pos 0 at (λ is. omega (arith, first, low_is, is)) (λ is. omega (arith, first, low_is, high_is, is))));
       others = λ f there other. record {
         file = ap (λ (m : Catalogue). get m f.name) (with_end-files image e pos at) ∙ (get-elsewhere (catalogue image) e.name f.name (record e { used = pos - e.start + 1 }) other ∙ there);
         sectors = λ n low high. elim (apart image at.good e f at.file there other n low high) as (λ _. sector (with_end image e pos) n ≡ sector image n) [
@@ -164,6 +187,7 @@ fill-keeps image e sectors used good file long room some few =
     let put_good = (all-put image e sectors good file long room).good in
     record {
       good = used-good put e put_good there_still used some few;
+      index = same-index image (file_filled_with image e.start e.end sectors used) (filled-others image e sectors good file long room used 0 (inl (after-index image good e file)));
       others = λ f there other. record {
         file = ap (λ (m : Catalogue). get m f.name) (used-files put e put_good there_still used some few)
             ∙ (get-elsewhere (catalogue put) e.name f.name (record e { used = used }) other ∙ (ap (λ (m : Catalogue). get m f.name) (files-stay image e sectors good file long room) ∙ there));

@@ -11,3 +11,4 @@ pub mod Records
 pub mod Kept
 pub mod Made
 pub mod Others
+pub mod Sound

@@ -77,6 +77,7 @@ module _ (image : List ℕ) (good : Good Narrow image) (name : List ℕ) (is_nam
       record {
         keeps = record {
           good = good_now;
+          index = stays.index;
           others = λ f there other.
               let still : get (catalogue between) f.name ≡ Some f = ap (λ (m : Catalogue). get m f.name) files ∙ (get-elsewhere (catalogue image) name f.name new (λ is. other (inl is)) ∙ there) in
               let stands = (stands-in image good f there).low in
@@ -111,6 +112,7 @@ module _ (image : List ℕ) (good : Good Narrow image) (name : List ℕ) (is_nam
       record {
         keeps = record {
           good = good_now;
+          index = stays.index;
           others = λ f there other.
               let still : get (catalogue between) f.name ≡ Some f =
               ap (λ (m : Catalogue). get m f.name) files
@@ -240,6 +242,7 @@ copy-keeps from image e source good live allowed =
     let c = copied from image e source good live (enters image e.name (all_sectors e) allowed) in
     record {
       good = c.good;
+      index = c.index;
       others = λ f there other.
           let s = stands-in image good f there in
           let s_low = s.low in

@@ -44,7 +44,7 @@ use Rattle.b2_store.proofs.Kept.{Keeps, end-keeps, save-keeps, scratch-keeps}
 use Rattle.b2_store.proofs.Made.{MadeOf, file-keeps, legal-new, name-kept, new-data, program-keeps}
 use Rattle.b2_store.proofs.Records.{ends-at, saves-at}
 
-same-bytes : (a b : List ℕ) → (a ≡ b) ⊎ (a ≡ b → ⊥)
+pub same-bytes : (a b : List ℕ) → (a ≡ b) ⊎ (a ≡ b → ⊥)
 same-bytes a b = by (bytes_eq a b) refl
   where
     by : (t : Bool) → bytes_eq a b ≡ t → (a ≡ b) ⊎ (a ≡ b → ⊥)
@@ -56,7 +56,7 @@ same-some a b h = cc
 
 -- ---- what a change leaves of an image's files
 
-scratched-keeps : (image : List ℕ) → Good Narrow image → (name new : List ℕ) (o : Option ℕ) → slot_found image name ≡ o → scratched_image image o ≡ Ok new → Keeps image new (λ q. name ≡ q)
+pub scratched-keeps : (image : List ℕ) → Good Narrow image → (name new : List ℕ) (o : Option ℕ) → slot_found image name ≡ o → scratched_image image o ≡ Ok new → Keeps image new (λ q. name ≡ q)
 scratched-keeps image good name new None is h = cc
 scratched-keeps image good name new (Some k) is h = subst (λ (q : List ℕ). Keeps image q (λ q. name ≡ q)) (ok-same _ _ h) (scratch-keeps image good name k is)
 
@@ -71,7 +71,7 @@ file-some : (image : List ℕ) (slot : Slot) (n : ℕ) (o : Option Entry) → fi
 file-some image slot n None is h = cc
 file-some image slot n (Some e) is h = (e, is)
 
-saved-keeps : (image : List ℕ) (slot : Slot) (values : List Value) (m : Made ℕ) → Good Narrow image → IsLegal (access.DataSave slot values) → AllStorable values → record_saved slot values image ≡ Ok m → Keeps image m.image (λ q. slot.name ≡ q)
+pub saved-keeps : (image : List ℕ) (slot : Slot) (values : List Value) (m : Made ℕ) → Good Narrow image → IsLegal (access.DataSave slot values) → AllStorable values → record_saved slot values image ≡ Ok m → Keeps image m.image (λ q. slot.name ≡ q)
 saved-keeps image slot values m good legal storable h =
     let t = save-told slot values image m h in
     let f = file-some image slot (length (record_of values)) (file_of image slot) refl t.0 in
@@ -82,7 +82,7 @@ saved-keeps image slot values m good legal storable h =
     subst (λ (q : List ℕ). Keeps image q (λ q. slot.name ≡ q)) (sym (ap (λ (x : Made ℕ). x.image) t.1))
     (subst (λ (n : List ℕ). Keeps image (put_from image slot.pos (record_of values)) (λ q. n ≡ q)) (slot-named image slot f.0 is) (save-keeps image f.0 slot.pos values at))
 
-ended-keeps : (image : List ℕ) (slot : Slot) (m : Made ℕ) → Good Narrow image → slot.start ≤ slot.pos → file_ended slot image ≡ Ok m → Keeps image m.image (λ q. slot.name ≡ q)
+pub ended-keeps : (image : List ℕ) (slot : Slot) (m : Made ℕ) → Good Narrow image → slot.start ≤ slot.pos → file_ended slot image ≡ Ok m → Keeps image m.image (λ q. slot.name ≡ q)
 ended-keeps image slot m good low h =
     let t = end-told slot image (file_of image slot) m h in
     let is = file-parts image slot t.0 t.1 in

@@ -8,7 +8,7 @@ use Rattle.b2_dec.specs.declared.values.Kind.{Kind}
 use Rattle.b2_dec.specs.declared.values.Value.{Value}
 use Rattle.b2_platter.specs.declared.layout.Layout.TheVariants.{Narrow}
 use Rattle.b2_platter.specs.Checks.{Good}
-use Rattle.b2_platter.specs.Image.{sector}
+use Rattle.b2_platter.specs.Image.{index_of, sector}
 use Rattle.b2_catalog.specs.declared.entry.Entry.{Entry}
 use Rattle.b2_catalog.specs.Catalogue.{catalogue}
 use Rattle.b2_record.specs.Items.{AllStorable}
@@ -29,6 +29,13 @@ use Rattle.b2_store.specs.DiskWork.{serves}
 -- each platter of a store is good
 abbrev pub AreGood : StoreState → Type 0
 AreGood s = HasImages (Good Narrow) s
+
+-- and sound: good, with an index of at most 255 sectors, as one of bytes has
+abbrev pub IsSound : List ℕ → Type 0
+IsSound image = Good Narrow image × (index_of image ≤ 255)
+
+abbrev pub AreSound : StoreState → Type 0
+AreSound s = HasImages IsSound s
 
 -- a live data file stands on a listed platter
 pub record HasFile (s : StoreState) (addr : List ℕ) (e : Entry) (image : List ℕ) : Type 0 where
@@ -132,3 +139,7 @@ OtherRecordsStay =
     → IsLegal a → IsProper a → AreGood s → (IsAbout addr e.name a → ⊥)
     → ((pos : ℕ) → pos ≤ e.end + 1 → HasFront s addr e pos records → HasFront (serves s who a).after addr e pos records)
     × (HasWhole s addr e records → HasWhole (serves s who a).after addr e records)
+
+-- Each access leaves every platter sound.
+abbrev pub PlattersStaySound : Type 0
+PlattersStaySound = (who : ℕ) (a : Access) (s : StoreState) → IsLegal a → IsProper a → AreSound s → AreSound (serves s who a).after

@@ -4,7 +4,7 @@ ghost use Rattle.b2_platter.specs.Checks.{Good};
 ghost use Rattle.b2_access.specs.Fitting.{AnswersFit};
 ghost use Rattle.b2_access.specs.Serving.{itself};
 ghost use Rattle.b2_store.specs.DiskWork.{serves};
-ghost use Rattle.b2_store.specs.Files.{EndedFilesAreWhole, LoadedRecordsFollow, MadeFilesAreEmpty, MovedPlacesGoOver, OtherFilesStay, OtherRecordsStay, SavedRecordsFollow};
+ghost use Rattle.b2_store.specs.Files.{EndedFilesAreWhole, LoadedRecordsFollow, MadeFilesAreEmpty, MovedPlacesGoOver, OtherFilesStay, OtherRecordsStay, PlattersStaySound, SavedRecordsFollow};
 
 /// What is answered fits what was asked: a file that is opened stands on the disk that was asked for, no place is before the first
 /// sector of its file, and values are as many as were asked and of the asked kinds.
@@ -41,4 +41,9 @@ pub fn law_a_made_file_is_empty()
 pub fn law_other_files_stay()
     ensures files { OtherFilesStay }
     ensures records { OtherRecordsStay }
+{}
+
+/// Each access leaves every platter sound: good, with an index of at most 255 sectors.
+pub fn law_platters_stay_sound()
+    ensures { PlattersStaySound }
 {}
