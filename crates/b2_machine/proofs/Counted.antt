@@ -44,9 +44,10 @@ repeating (answer.Wait q) h = refl
 repeating a h = cc
 
 -- what waits to be shown, a literal, and a numbered line
-shown : (text : List ℕ) (a : Answer) (me : Private) → CountsOrEnds (shown_by (shows_pending text me) a me).end
-shown text answer.Done me = counting
-shown text a me = repeating a
+shown : (x : Access) (a : Answer) (me : Private) → CountsOrEnds (shown_by x a me).end
+shown (access.Show term bytes column) answer.Done me = counting
+shown (access.PrintTo addr bytes column) answer.Done me = counting
+shown x a me = repeating a
 
 typed : (a : Answer) (me : Private) → CountsOrEnds (typed_by_key a me).end
 typed answer.Done me = counting
@@ -109,7 +110,7 @@ module _ (ways : Ways) {M : Type 0} (store : M → StoreState) (serving : Servin
 
   show : (o : Option (List ℕ × List ℕ)) (me : Private) (m : M) → CountsOrEnds (shows_or_goes_on ways store serving lending o me m).end
   show None me m = type_ me.literal me m
-  show (Some bytes) me m = shown bytes.1 _ me
+  show (Some waiting) me m = shown (shows_pending waiting.0 waiting.1 me) _ me
 
   halt : (b : Bool) (me : Private) (m : M) → CountsOrEnds (if b then acts ways store serving lending (record me { halt = false }) m else by_itself store serving lending (halted me) m).end
   halt true me m = show me.pending (record me { halt = false }) m

@@ -183,9 +183,10 @@ module _ (ways : Ways) (lawful : AreLawful ways) (p : Place) where
 
 -- output and literals, as they wait
 module _ where
-  pending_keeps : (text : List ℕ) (a : Answer) (me : Private) → KeepsNone me → KeepsNone (shown_by (shows_pending text me) a me).me
-  pending_keeps text answer.Done me h = h
-  pending_keeps text a me h = h
+  pending_keeps : (x : Access) (a : Answer) (me : Private) → KeepsNone me → KeepsNone (shown_by x a me).me
+  pending_keeps (access.Show term bytes column) answer.Done me h = h
+  pending_keeps (access.PrintTo addr bytes column) answer.Done me h = h
+  pending_keeps x a me h = h
 
   literal_keeps : (a : Answer) (me : Private) → KeepsNone me → KeepsNone (typed_by_key a me).me
   literal_keeps answer.Done me h = h
@@ -240,7 +241,7 @@ module _ (ways : Ways) (lawful : AreLawful ways) {M : Type 0} (store : M → Sto
 
   show_keeps : (o : Option (List ℕ × List ℕ)) (me : Private) (m : M) → KeepsNone me → KeepsNone (shows_or_goes_on ways store serving lending o me m).me
   show_keeps None me m h = type_keeps me.literal me m h
-  show_keeps (Some shown) me m h = pending_keeps shown.1 _ me h
+  show_keeps (Some waiting) me m h = pending_keeps (shows_pending waiting.0 waiting.1 me) _ me h
 
   halt_keeps : (b : Bool) (me : Private) (m : M) → KeepsNone me → KeepsNone (if b then acts ways store serving lending (record me { halt = false }) m else by_itself store serving lending (halted me) m).me
   halt_keeps true me m h = show_keeps me.pending (record me { halt = false }) m h

@@ -10,6 +10,7 @@ pub mod StepHomes
 pub mod KeptPlace
 pub mod StepTerminal
 pub mod StepDevices
+pub mod StepOutput
 pub mod AtOnce
 pub mod Begins
 pub mod Counted

@@ -213,7 +213,7 @@ module _ (ways : Ways) {M : Type 0} (store : M → StoreState) (serving : Servin
 
   by_output : (x : Option (List ℕ × List ℕ)) (me : Private) → Goes me.part (λ s. asks_to_show ways x me s) (λ m. shows_or_goes_on ways store serving lending x me m)
   by_output (Some shown) me =
-      let a = shows_pending shown.1 me in by_answer me a (λ x. shown_by a x me)
+      let a = shows_pending shown.0 shown.1 me in by_answer me a (λ x. shown_by a x me)
   by_output None me = by_literal me.literal me
 
   by_acting : (me : Private) → Goes me.part (λ s. asks_as_it_acts ways me s) (λ m. acts ways store serving lending me m)

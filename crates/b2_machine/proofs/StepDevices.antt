@@ -1,10 +1,12 @@
 -- A step asks for devices that the table lists for its partition, and for no others.
-use Rattle.std.proofs.Common.{ℕ, Bool, true, false, List, Option, Some, None, is_some}
+use Rattle.std.proofs.Common.{ℕ, Bool, true, false, List, Option, Some, None, is_some, inl, inr, subst, sym}
+use Rattle.std.specs.Str.{bytes_eq}
 use Rattle.b2_flow.specs.declared.frame.Place.{Place}
 use Rattle.b2_text.specs.Program.{Lines}
 use Rattle.b2_access.specs.Lending.{SeenLent}
-use Rattle.b2_access.specs.OwnDevices.{PlannedListed}
-use Rattle.b2_access.specs.Partition.{is_ready}
+use Rattle.b2_access.specs.OwnDevices.{PlannedListed, ReachesListed}
+use Rattle.b2_access.specs.Partition.{is_ready, terminal_address}
+use Rattle.b2_access.specs.Pending.{IsForListed}
 use Rattle.b2_access.specs.Placed.{Statement, statement_placed}
 use Rattle.b2_access.specs.Store.{StoreState}
 use Rattle.b2_access.specs.declared.devices.Device.{Device}
@@ -14,9 +16,11 @@ use Rattle.b2_access.specs.declared.private.Private.{Private}
 use Rattle.b2_access.proofs.Choice.{either}
 use Rattle.b2_language.specs.Languages.{AskForListed, Ways}
 use Rattle.b2_machine.specs.Listed.{lists}
+use Rattle.b2_machine.specs.Messages.{prints_text, shows_text}
 use Rattle.b2_machine.specs.Statements.{begins_where, begun_by, builder_of, plan_by}
 use Rattle.b2_machine.specs.Step.{seen_by}
 use Rattle.b2_machine.specs.Touched.{AskedListed, Asking, StepsAskForListed, access_asked, asking, asks_at, asks_to_enter, asks_to_show, asks_to_type, asks_unless_halted}
+use Rattle.b2_machine.specs.Typing.{on_own_line, shows_pending}
 use Rattle.b2_machine.specs.declared.statements.Builder.{Builder}
 use Rattle.b2_machine.specs.declared.statements.Builder.TheVariants as builder
 
@@ -43,7 +47,7 @@ module _ (ways : List Device → Ways) (listed : AskForListed ways) (devices : L
       let x = plan_by (ways devices) b p me s in
       begun_listed devices me.part x.planned b p x.me s.home.lines (planned_listed b p me s)
 
-  -- the rules of a step: all but a statement ask at the terminal, or for an edit of the own text
+  -- the rules of a step: all but a statement and what waits to be shown ask at the terminal, or for an edit of the own text
   abbrev Listed : ℕ → Asking → Type 0
   Listed who x = AskedListed devices who x.access
 
@@ -59,15 +63,21 @@ module _ (ways : List Device → Ways) (listed : AskForListed ways) (devices : L
   at_literal (Some text) me s = tt
   at_literal None me s = at_number me.numbered me s
 
-  at_output : (x : Option (List ℕ × List ℕ)) (me : Private) (s : StoreState) → Listed me.part (asks_to_show (ways devices) x me s)
-  at_output (Some text) me s = tt
-  at_output None me s = at_literal me.literal me s
+  -- what waits is shown at the terminal, or at a printer that is listed
+  pending_listed : (device text : List ℕ) (me : Private) → IsForListed devices me.part (Some (device, text)) → ReachesListed devices me.part (shows_pending device text me)
+  pending_listed device text me (inl is) = subst (λ (d : List ℕ). ReachesListed devices me.part (shows_pending d text me)) (sym is) tt
+  pending_listed device text me (inr is) =
+      either (ReachesListed devices me.part) (bytes_eq device terminal_address) (shows_text (on_own_line me.term_column text) me) (prints_text device text me) tt (is, tt)
 
-  at_halt : (me : Private) (s : StoreState) → Listed me.part (asks_unless_halted (ways devices) me s)
-  at_halt me s = either (Listed me.part) (is_ready me) _ _ (at_output me.pending (record me { halt = false }) s) tt
+  at_output : (x : Option (List ℕ × List ℕ)) (me : Private) (s : StoreState) → IsForListed devices me.part x → Listed me.part (asks_to_show (ways devices) x me s)
+  at_output (Some waiting) me s h = pending_listed waiting.0 waiting.1 me h
+  at_output None me s h = at_literal me.literal me s
 
-  step_listed : (me : Private) (s : StoreState) → Listed me.part (asking (ways devices) me s)
-  step_listed me s = either (Listed me.part) me.reset _ _ tt (either (Listed me.part) me.halt _ _ (at_halt me s) (at_output me.pending me s))
+  at_halt : (me : Private) (s : StoreState) → IsForListed devices me.part me.pending → Listed me.part (asks_unless_halted (ways devices) me s)
+  at_halt me s h = either (Listed me.part) (is_ready me) _ _ (at_output me.pending (record me { halt = false }) s h) tt
+
+  step_listed : (me : Private) (s : StoreState) → IsForListed devices me.part me.pending → Listed me.part (asking (ways devices) me s)
+  step_listed me s h = either (Listed me.part) me.reset _ _ tt (either (Listed me.part) me.halt _ _ (at_halt me s h) (at_output me.pending me s h))
 
 pub steps_ask_for_listed : (ways : List Device → Ways) (listed : AskForListed ways) → StepsAskForListed ways
-steps_ask_for_listed ways listed devices me s = step_listed ways listed devices me s
+steps_ask_for_listed ways listed devices me s h = step_listed ways listed devices me s h

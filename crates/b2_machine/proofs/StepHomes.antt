@@ -87,6 +87,7 @@ module _ (ways : Ways) (lawful : AreLawful ways) (among : ℕ → Bool) where
   -- what is shown, typed and entered
   shown_in : (x : Access) (a : Answer) (me : Private) → Within me → EndIn (shown_by x a me)
   shown_in (access.Show term bytes column) answer.Done me w = record { part = w.part; place = w.place; kept = w.kept; frames = w.frames }
+  shown_in (access.PrintTo addr bytes column) answer.Done me w = record { part = w.part; place = w.place; kept = w.kept; frames = w.frames }
   shown_in x a me w = w
 
   typed_in : (a : Answer) (me : Private) → Within me → EndIn (typed_by_key a me)
@@ -247,7 +248,7 @@ module _ (ways : Ways) (lawful : AreLawful ways) (among : ℕ → Bool) where
     at_literal None me m w = at_number me.numbered me m w
 
     at_output : (x : Option (List ℕ × List ℕ)) (me : Private) (m : M) → Within me → StepIn (shows_or_goes_on ways store serving lending x me m) (asks_to_show ways x me (store m))
-    at_output (Some text) me m w = (shown_in (shows_pending text.1 me) _ me w, w.part)
+    at_output (Some text) me m w = (shown_in (shows_pending text.0 text.1 me) _ me w, w.part)
     at_output None me m w = at_literal me.literal me m w
 
     at_halt : (me : Private) (m : M) → Within me → StepIn (halts_or_acts ways store serving lending me m) (asks_unless_halted ways me (store m))

@@ -1,5 +1,6 @@
 -- A step asks at the terminal of its partition alone, and leaves which one that is.
 use Rattle.std.proofs.Common.{◌≡◌, ◌∙◌, refl, ℕ, ◌&&◌, not, nat_lt, Bool, true, false, if◌then◌else◌, List, length, Option, Some, None, is_some, Result, Ok, Err}
+use Rattle.std.specs.Str.{bytes_eq}
 use Rattle.b2_flow.specs.Stacks.{most_frames}
 use Rattle.b2_flow.specs.declared.frame.Place.{Place}
 use Rattle.b2_syntax.specs.Reading.{reads}
@@ -12,8 +13,8 @@ use Rattle.b2_text.specs.Spots.{first_opening, is_mark}
 use Rattle.b2_text.specs.declared.spots.Spot.{Spot}
 use Rattle.b2_access.specs.Lending.{SeenLent}
 use Rattle.b2_access.specs.Loans.{Loan}
-use Rattle.b2_access.specs.OwnTerminal.{AskedAt, PlannedAt}
-use Rattle.b2_access.specs.Partition.{is_ready}
+use Rattle.b2_access.specs.OwnTerminal.{AskedAt, NamesAlone, PlannedAt}
+use Rattle.b2_access.specs.Partition.{is_ready, terminal_address}
 use Rattle.b2_access.specs.Placed.{Statement, statement_placed}
 use Rattle.b2_access.specs.Planning.{Planning}
 use Rattle.b2_access.specs.Sharing.{ServingOf}
@@ -35,12 +36,12 @@ use Rattle.b2_language.specs.Following.{following_place}
 use Rattle.b2_machine.specs.Endings.{counts, repeats}
 use Rattle.b2_machine.specs.Keys.{calls_where, pressed_by}
 use Rattle.b2_machine.specs.Listed.{range_listed, lists}
-use Rattle.b2_machine.specs.Messages.{shows_text}
+use Rattle.b2_machine.specs.Messages.{prints_text, shows_text}
 use Rattle.b2_machine.specs.Moving.{ends_by, error_place, faults, goes_to, jumps}
 use Rattle.b2_machine.specs.Statements.{Begun, begins, begins_where, begun_by, builder_of, finish_by, finishes, plan_by}
 use Rattle.b2_machine.specs.Step.{StepEnd, carries_out, enters_or_goes_on, halts_or_acts, lent, line_read, runs_or_reads, seen_by, shows_or_goes_on, step, text_in, types_or_goes_on}
 use Rattle.b2_machine.specs.Touched.{Asking, StepsAskAtTerminal, access_asked, asking, asks_at, asks_to_enter, asks_to_show, asks_to_type, asks_unless_halted}
-use Rattle.b2_machine.specs.Typing.{put_by, puts_numbered, shown_by, shows_pending, takes, takes_or_refuses, typed_by_key}
+use Rattle.b2_machine.specs.Typing.{on_own_line, put_by, puts_numbered, shown_by, shows_pending, takes, takes_or_refuses, typed_by_key}
 use Rattle.b2_machine.specs.declared.ends.Stepped.{Stepped}
 use Rattle.b2_machine.specs.declared.statements.Builder.{Builder}
 use Rattle.b2_machine.specs.declared.statements.Builder.TheVariants as builder
@@ -54,7 +55,14 @@ SameTerminal me after = after.term ≡ me.term
 -- what is shown, typed and entered
 shown_stays : (x : Access) (a : Answer) (me : Private) → SameTerminal me (shown_by x a me).me
 shown_stays (access.Show term bytes column) answer.Done me = refl
+shown_stays (access.PrintTo addr bytes column) answer.Done me = refl
 shown_stays x a me = refl
+
+pending_names : (device text : List ℕ) (me : Private) → NamesAlone me.term (shows_pending device text me)
+pending_names device text me =
+    either (NamesAlone me.term) (bytes_eq device terminal_address) _ _
+    (names_own me.term (shows_text (on_own_line me.term_column text) me) refl)
+    (names_none me.term (prints_text device text me) refl)
 
 typed_stays : (a : Answer) (me : Private) → SameTerminal me (typed_by_key a me).me
 typed_stays answer.Done me = refl
@@ -182,8 +190,8 @@ module _ (ways : Ways) (lawful : AreLawful ways) {M : Type 0} (store : M → Sto
 
   at_output : (x : Option (List ℕ × List ℕ)) (me : Private) (m : M) → StepAt me.term (shows_or_goes_on ways store serving lending x me m) (asks_to_show ways x me (store m))
   at_output (Some text) me m =
-      let a = shows_pending text.1 me in
-      (shown_stays a (serving m me.part a).answer me, names_own me.term a refl)
+      let a = shows_pending text.0 text.1 me in
+      (shown_stays a (serving m me.part a).answer me, pending_names text.0 text.1 me)
   at_output None me m = at_literal me.literal me m
 
   at_halt : (me : Private) (m : M) → StepAt me.term (halts_or_acts ways store serving lending me m) (asks_unless_halted ways me (store m))

@@ -47,9 +47,10 @@ module _ (ways : Ways) (lawful : AreLawful ways) (before : Private) where
   abbrev Unless : Stepped → Private → Type 0
   Unless e me = e.counted ≡ false → me ≡ before
 
-  shown : (text : List ℕ) (a : Answer) → Unless (shown_by (shows_pending text before) a before).end (shown_by (shows_pending text before) a before).me
-  shown text answer.Done h = cc
-  shown text a h = refl
+  shown : (x : Access) (a : Answer) → Unless (shown_by x a before).end (shown_by x a before).me
+  shown (access.Show term bytes column) answer.Done h = cc
+  shown (access.PrintTo addr bytes column) answer.Done h = cc
+  shown x a h = refl
 
   typed : (a : Answer) → Unless (typed_by_key a before).end (typed_by_key a before).me
   typed answer.Done h = cc
@@ -131,7 +132,7 @@ module _ (ways : Ways) (lawful : AreLawful ways) (before : Private) where
 
     show : (o : Option (List ℕ × List ℕ)) (m : M) → Unless (shows_or_goes_on ways store serving lending o before m).end (shows_or_goes_on ways store serving lending o before m).me
     show None m = type_ before.literal m
-    show (Some bytes) m = shown bytes.1 _
+    show (Some waiting) m = shown (shows_pending waiting.0 waiting.1 before) _
 
 module _ (ways : Ways) (lawful : AreLawful ways) {M : Type 0} (store : M → StoreState) (serving : ServingOf M) (lending : Loan M) where
   -- but for the flag of a halt

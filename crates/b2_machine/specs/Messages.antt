@@ -42,3 +42,7 @@ error_text code where_met = code_text code ++ where_met ++ byte.newline ∷ []
 -- a text is shown as it is at the terminal, by its column
 abbrev pub shows_text : List ℕ → Private → Access
 shows_text text me = access.Show me.term text (column_after me.term_column text)
+
+-- and at a printer, by the column there
+abbrev pub prints_text : List ℕ → List ℕ → Private → Access
+prints_text device text me = access.PrintTo device text (column_after me.print_column text)

@@ -58,7 +58,7 @@ module _ {M : Type 0} (store : M → StoreState) (serving : ServingOf M) (lendin
   abbrev pub asks_for : Access → (Answer → Ending) → Private → M → StepEnd M
   asks_for a finishes me m = served (serving m me.part a) finishes
 
-  -- the third rule: output that is pending is shown, on a line of its own
+  -- the third rule: output that is pending is shown at its device
   abbrev pub shows : Access → Private → M → StepEnd M
   shows x me m = asks_for x (λ a. shown_by x a me) me m
 
@@ -112,7 +112,7 @@ module _ (ways : Ways) {M : Type 0} (store : M → StoreState) (serving : Servin
   types_or_goes_on None me m = enters_or_goes_on me.numbered me m
 
   abbrev pub shows_or_goes_on : Option (List ℕ × List ℕ) → Private → M → StepEnd M
-  shows_or_goes_on (Some shown) me m = shows store serving lending (shows_pending shown.1 me) me m
+  shows_or_goes_on (Some shown) me m = shows store serving lending (shows_pending shown.0 shown.1 me) me m
   shows_or_goes_on None me m = types_or_goes_on me.literal me m
 
   abbrev pub acts : Private → M → StepEnd M

@@ -6,6 +6,7 @@ use Rattle.b2_access.specs.Loans.{Loan}
 use Rattle.b2_access.specs.OwnDevices.{ReachesListed}
 use Rattle.b2_access.specs.OwnTerminal.{AskedAt}
 use Rattle.b2_access.specs.Partition.{is_ready}
+use Rattle.b2_access.specs.Pending.{IsForListed, KeepsOrShows}
 use Rattle.b2_access.specs.Sharing.{ServingOf, writes}
 use Rattle.b2_access.specs.Store.{StoreState, AgreeOn, IsIn, content}
 use Rattle.b2_access.specs.Touching.{touched}
@@ -58,7 +59,7 @@ asks_to_type ways None me s = asks_to_enter ways me.numbered me s
 
 -- the third: pending output is shown
 abbrev pub asks_to_show : Ways → Option (List ℕ × List ℕ) → Private → StoreState → Asking
-asks_to_show ways (Some shown) me s = asks_one (shows_pending shown.1 me) me
+asks_to_show ways (Some shown) me s = asks_one (shows_pending shown.0 shown.1 me) me
 asks_to_show ways None me s = asks_to_type ways me.literal me s
 
 abbrev pub asks_as_it_acts : Ways → Private → StoreState → Asking
@@ -80,9 +81,9 @@ abbrev pub AskedListed : List Device → ℕ → Option Access → Type 0
 AskedListed devices who None = Unit {0}
 AskedListed devices who (Some a) = ReachesListed devices who a
 
--- A step asks for devices that the table lists for its partition, and for no others.
+-- A step asks for devices that the table lists for its partition, and for no others, where what waits to be shown is for one of these.
 abbrev pub StepsAskForListed : (List Device → Ways) → Type 0
-StepsAskForListed ways = (devices : List Device) (me : Private) (s : StoreState) → AskedListed devices me.part (asking (ways devices) me s).access
+StepsAskForListed ways = (devices : List Device) (me : Private) (s : StoreState) → IsForListed devices me.part me.pending → AskedListed devices me.part (asking (ways devices) me s).access
 
 abbrev pub touched_where : Option Access → ℕ → StoreState → List Object
 touched_where None who s = []
@@ -137,3 +138,7 @@ module _ (ways : Ways) {M : Type 0} (store : M → StoreState) (serving : Servin
   -- A step asks at the terminal of its partition alone, and leaves which one that is.
   abbrev pub StepsAskAtTerminal : Loan M → Type 0
   StepsAskAtTerminal lending = (me : Private) (m : M) → ((step ways store serving lending me m).me.term ≡ me.term) × AskedAt me.term (asking ways me (store m)).access
+
+  -- What waits to be shown after a step waited before, or is for the terminal.
+  abbrev pub StepsShowAtTerminal : Loan M → Type 0
+  StepsShowAtTerminal lending = (me : Private) (m : M) → KeepsOrShows me.pending (step ways store serving lending me m).me.pending

@@ -1,5 +1,6 @@
 -- Lines that are typed: what is read, and numbered ones that go into the text.
 use Rattle.std.specs.Prelude.{ℕ, ◌==◌, min, List, [], ◌∷◌, Option, Some, None, Result, Ok, Err, if◌then◌else◌}
+use Rattle.std.specs.Str.{bytes_eq}
 use Rattle.b2_base.specs.Byte as byte
 use Rattle.b2_base.specs.declared.codes.TheConstants.{A08_TEXT_BORROWED}
 use Rattle.b2_syntax.specs.Reading.{reads}
@@ -12,21 +13,24 @@ use Rattle.b2_access.specs.declared.accesses.Access.TheVariants as access
 use Rattle.b2_access.specs.declared.accesses.Answer.{Answer}
 use Rattle.b2_access.specs.declared.accesses.Answer.TheVariants as answer
 use Rattle.b2_access.specs.declared.private.Private.{Private}
-use Rattle.b2_access.specs.Partition.{without_frames}
+use Rattle.b2_access.specs.Partition.{terminal_address, without_frames}
 use Rattle.b2_machine.specs.Endings.{Ending, again, carries_on}
-use Rattle.b2_machine.specs.Messages.{column_text, shows_text}
+use Rattle.b2_machine.specs.Messages.{column_text, prints_text, shows_text}
 use Rattle.b2_machine.specs.Readiness.{prompts, refuses}
 
--- pending output goes on a line of its own
+-- pending output goes on a line of its own at the terminal, and as it is to a printer
 abbrev pub on_own_line : ℕ → List ℕ → List ℕ
 on_own_line column text = if column == 0 then text else byte.newline ∷ text
 
-abbrev pub shows_pending : List ℕ → Private → Access
-shows_pending text me = shows_text (on_own_line me.term_column text) me
+abbrev pub shows_pending : List ℕ → List ℕ → Private → Access
+shows_pending device text me =
+    if bytes_eq device terminal_address then shows_text (on_own_line me.term_column text) me
+    else prints_text device text me
 
--- it was shown at the terminal, the only device so far; with any other answer it waits on
+-- it was shown at its device; with any other answer it waits on
 abbrev pub shown_by : Access → Answer → Private → Ending
 shown_by (access.Show term shown column) answer.Done me = carries_on (record me { term_column = column; pending = None })
+shown_by (access.PrintTo addr printed column) answer.Done me = carries_on (record me { print_column = column; pending = None })
 shown_by x a me = again a me
 
 -- the literal of a special function key was typed; with any other answer it waits on

@@ -5,7 +5,7 @@ ghost use Rattle.b2_access.specs.Partition.{KeepsNone};
 ghost use Rattle.b2_access.specs.declared.private.Private.{Private};
 ghost use Rattle.b2_machine.specs.Counting.{StepsCountOrEnd, UncountedStepsChangeNothing};
 ghost use Rattle.b2_machine.specs.Step.{step};
-ghost use Rattle.b2_machine.specs.Touched.{StepsAreLocal, StepsAskAtTerminal, StepsAskForListed, StepsStayWithin};
+ghost use Rattle.b2_machine.specs.Touched.{StepsAreLocal, StepsAskAtTerminal, StepsAskForListed, StepsShowAtTerminal, StepsStayWithin};
 
 use b2_access::Shared;
 use b2_language::Language;
@@ -32,7 +32,13 @@ pub fn law_a_step_asks_at_its_terminal<L: Language, S: Shared>()
     ensures { (devices : List Device) → StepsAskAtTerminal (L.ways devices) S.store S.serving S.lending }
 {}
 
-/// A step asks for devices that the table lists for its partition, and for no others.
+/// What waits to be shown after a step waited before, or is for the terminal.
+pub fn law_a_step_shows_at_its_terminal<L: Language, S: Shared>()
+    ensures { (devices : List Device) → StepsShowAtTerminal (L.ways devices) S.store S.serving S.lending }
+{}
+
+/// A step asks for devices that the table lists for its partition, and for no others, where what waits to be shown is for one of these
+/// or for the terminal.
 pub fn law_a_step_asks_for_listed_devices<L: Language>()
     ensures { StepsAskForListed L.ways }
 {}

@@ -4,7 +4,7 @@ ghost use Rattle.std.specs.Fmt.{decimal};
 ghost use Rattle.b2_machine.specs.Messages as spec;
 
 use b2_access::{Access, Private};
-use b2_base::{ByteList, Code, NoMemory, Part};
+use b2_base::{Addr, ByteList, Code, NoMemory, Part};
 use b2_flow::Place;
 use b2_print::column_after;
 use itoa::Buffer;
@@ -94,6 +94,18 @@ pub fn show_text(me: &Private, text: ByteList) -> Access
     let column = column_after(me.term_column, text.bytes());
     Access::Show {
         term: me.term,
+        bytes: text,
+        column,
+    }
+}
+
+/// Shows a text as it is at a printer.
+pub fn print_text(me: &Private, device: Addr, text: ByteList) -> Access
+    ensures { result ≡ spec.prints_text device text me.now }
+{
+    let column = column_after(me.print_column, text.bytes());
+    Access::PrintTo {
+        addr: device,
         bytes: text,
         column,
     }

@@ -7,15 +7,13 @@ ghost use Rattle.b2_access.specs.Touching.{IsLegal};
 ghost use Rattle.b2_machine.specs.Statements.{begins, finishes};
 ghost use Rattle.b2_machine.specs.Stays.{Keeps, IsLegalProgress};
 ghost use Rattle.b2_machine.specs.Step as spec;
-ghost use Rattle.b2_machine.specs.Messages.{shows_text};
 
 use crate::ends::{Stepped, counts, repeats};
 use crate::keys::press_over;
-use crate::messages::show_text;
 use crate::readiness::{halt, reset};
 use crate::statements::{Builder, Progress, begin_over, finish_over};
 use crate::typing::{
-    after_literal, after_pending, after_put, atoms_put, on_own_line, put_numbered, take_line,
+    after_literal, after_pending, after_put, ask_to_show, atoms_put, put_numbered, take_line,
 };
 use b2_access::{Access, Answer, At, DeviceTable, Object, Private, Shared};
 use b2_base::{ByteList, NoMemory, Part};
@@ -33,12 +31,12 @@ fn ask_store<S: Shared>(s: &mut S, who: Part, access: &Access) -> Result<Answer,
     s.serve(who, access)
 }
 
-/// Pending output is shown.
-fn show<S: Shared>(me: &mut Private, s: &mut S, shown: ByteList) -> Result<Stepped, NoMemory>
-    ensures ended { IfOk result (λ e. record { me = me.new; after = S.meaning s.new; end = e } ≡ spec.shows S.store S.serving S.lending (shows_text shown me.old) me.old (S.meaning s.old)) }
+/// Pending output is shown, by what it asks for.
+fn show<S: Shared>(me: &mut Private, s: &mut S, access: Access) -> Result<Stepped, NoMemory>
+    requires legal { IsLegal access }
+    ensures ended { IfOk result (λ e. record { me = me.new; after = S.meaning s.new; end = e } ≡ spec.shows S.store S.serving S.lending access me.old (S.meaning s.old)) }
     ensures kept { Keeps result (S.holds s.old) (S.holds s.new) me.old.part me.new.part (S.store (S.meaning s.old)) (S.store (S.meaning s.new)) }
 {
-    let access = show_text(me, shown);
     let answer = ask_store(s, me.part, &access)?;
     Ok(after_pending(me, &access, &answer))
 }
@@ -257,9 +255,9 @@ fn act<L: Language, S: Shared>(
     ensures kept { Keeps result (S.holds s.old) (S.holds s.new) me.old.part me.new.part (S.store (S.meaning s.old)) (S.store (S.meaning s.new)) }
 {
     match &me.pending {
-        Some((_, text)) => {
-            let shown = on_own_line(alloc, me.term_column, text.bytes())?;
-            show(me, s, shown)
+        Some((device, text)) => {
+            let access = ask_to_show(alloc, me, *device, text.bytes())?;
+            show(me, s, access)
         }
         None => type_or_go_on::<L, S>(alloc, me, s, d),
     }

@@ -1,21 +1,22 @@
 // Lines that are typed: what is read, and numbered ones that go into the text.
 ghost use Rattle.std.specs.Prelude.{◌≡◌, ◌≢◌, true, [], None, Err, IfOk, OnOk};
 ghost use Rattle.b2_access.specs.Answering.{can_answer};
+ghost use Rattle.b2_access.specs.Touching.{IsLegal};
 ghost use Rattle.b2_machine.specs.Typing as spec;
 
 use crate::ends::{Stepped, counts, repeats};
-use crate::messages::error_in_line;
+use crate::messages::{error_in_line, print_text, show_text};
 use crate::readiness::{note_error, prompt, refuse};
 use b2_access::{Access, Answer, Private, drop_frames};
 use b2_atom::Atoms;
 use b2_base::codes::A08_TEXT_BORROWED;
-use b2_base::{ByteList, Code, NoMemory};
+use b2_base::{Addr, ByteList, Code, NoMemory};
 use b2_flow::Place;
 use b2_syntax::{Entered, LineErr, read};
 use std::alloc::Global;
 
 /// Output on a line of its own.
-pub fn on_own_line(alloc: Global, column: u16, text: &[u8]) -> Result<ByteList, NoMemory>
+fn on_own_line(alloc: Global, column: u16, text: &[u8]) -> Result<ByteList, NoMemory>
     ensures { IfOk result (λ shown. shown ≡ spec.on_own_line column text.now) }
 {
     if column == 0 {
@@ -26,23 +27,51 @@ pub fn on_own_line(alloc: Global, column: u16, text: &[u8]) -> Result<ByteList, 
     Ok(ByteList::new(shown))
 }
 
+/// What shows pending output at the device that it is for.
+pub fn ask_to_show(
+    alloc: Global,
+    me: &Private,
+    device: Addr,
+    text: &[u8],
+) -> Result<Access, NoMemory>
+    ensures asked { IfOk result (λ a. a ≡ spec.shows_pending device text.now me.now) }
+    ensures legal { IfOk result IsLegal }
+{
+    if device == Addr::default() {
+        let shown = on_own_line(alloc, me.term_column, text)?;
+        Ok(show_text(me, shown))
+    } else {
+        let printed = ByteList::from_slice(alloc, text)?;
+        Ok(print_text(me, device, printed))
+    }
+}
+
 /// Pending output was shown, or waits on.
 pub fn after_pending(me: &mut Private, access: &Access, answer: &Answer) -> Stepped
     requires possible { can_answer access.now answer.now ≡ true }
     ensures ended { record { me = me.new; end = result } ≡ spec.shown_by access.now answer.now me.old }
     ensures part { me.new.part ≡ me.old.part }
 {
-    let Access::Show { column, .. } = access else {
-        return repeats(answer);
-    };
-    match answer {
-        Answer::Done => {
-            me.pending = None;
-            me.term_column = *column;
-            counts()
-        }
-        Answer::Wait(_) => repeats(answer),
-        _ => unreachable!(),
+    match access {
+        Access::Show { column, .. } => match answer {
+            Answer::Done => {
+                me.pending = None;
+                me.term_column = *column;
+                counts()
+            }
+            Answer::Wait(_) => repeats(answer),
+            _ => unreachable!(),
+        },
+        Access::PrintTo { column, .. } => match answer {
+            Answer::Done => {
+                me.pending = None;
+                me.print_column = *column;
+                counts()
+            }
+            Answer::Wait(_) => repeats(answer),
+            _ => unreachable!(),
+        },
+        _ => repeats(answer),
     }
 }
 
