@@ -1,4 +1,5 @@
 pub mod Sorted
+pub mod DeviceAddresses
 pub mod ByAddress
 pub mod Sources
 pub mod Passed

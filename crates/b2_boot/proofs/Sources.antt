@@ -5,9 +5,10 @@ use Rattle.std.proofs.lemmas.Bool.{cases_Bool}
 use Rattle.toml.specs.Data.{Data, Items, no_items, item, Members, get_member, as_str, as_integer, as_table}
 use Rattle.b2_boot.specs.declared.rows.Section.TheVariants as section
 use Rattle.b2_boot.specs.declared.rows.PlatterRow.{PlatterRow}
+use Rattle.b2_boot.specs.declared.rows.PrinterRow.{PrinterRow}
 use Rattle.b2_boot.specs.declared.rows.TerminalRow.{TerminalRow}
 use Rattle.b2_boot.specs.declared.rows.PartitionRow.{PartitionRow}
-use Rattle.b2_boot.specs.Rows.{small, is_between, all_known, sectors_of, text_of_key, platter_from, platter_row, platter_rows, before_rows, items_of_key, platters_said, quota_of, number_of_key, terminals_said, partitions_of, rows_from, document_rows}
+use Rattle.b2_boot.specs.Rows.{small, is_between, all_known, sectors_of, text_of_key, only_of_key, platter_from, platter_row, platter_rows, before_rows, items_of_key, platters_said, printers_said, quota_of, number_of_key, terminals_said, partitions_of, rows_from, document_rows}
 use Rattle.b2_boot.specs.Boots.{is_either}
 
 -- a platter of a row has one source
@@ -17,29 +18,30 @@ HasSource p = is_either p.image p.blank ≡ true
 abbrev HaveSources : List PlatterRow → Type 0
 HaveSources ps = list_all (λ p. is_either p.image p.blank) ps ≡ true
 
-image_source : (address : List ℕ) (name : Option (List ℕ)) → IfSome (option_map (λ n. record { address = address; image = Some n; blank = None }) name) HasSource
-image_source address None = tt
-image_source address (Some name) = refl
+image_source : (address : List ℕ) (only : Option ℕ) (name : Option (List ℕ)) → IfSome (option_map (λ n. record { address = address; image = Some n; blank = None; only = only }) name) HasSource
+image_source address only None = tt
+image_source address only (Some name) = refl
 
-sectors_source : (address : List ℕ) (sectors : Option ℕ) → IfSome (option_map (λ n. record { address = address; image = None; blank = Some n }) (sectors_of sectors)) HasSource
-sectors_source address None = tt
-sectors_source address (Some n) =
+sectors_source : (address : List ℕ) (only sectors : Option ℕ) → IfSome (option_map (λ n. record { address = address; image = None; blank = Some n; only = only }) (sectors_of sectors)) HasSource
+sectors_source address only None = tt
+sectors_source address only (Some n) =
     elim (cases_Bool (is_between 16 32512 n)) [
       | inl within ↦ rw within within
       | inr outside ↦ rw outside tt
     ]
 
-from_source : (address : Option (List ℕ)) (image blank : Option Data) → IfSome (platter_from address image blank) HasSource
-from_source (Some address) (Some d) None = image_source address (as_str d)
-from_source (Some address) None (Some d) = sectors_source address (option_map small (as_integer d))
-from_source (Some address) (Some d) (Some e) = tt
-from_source (Some address) None None = tt
-from_source None image blank = tt
+from_source : (address : Option (List ℕ)) (only : Option (Option ℕ)) (image blank : Option Data) → IfSome (platter_from address only image blank) HasSource
+from_source (Some address) (Some only) (Some d) None = image_source address only (as_str d)
+from_source (Some address) (Some only) None (Some d) = sectors_source address only (option_map small (as_integer d))
+from_source (Some address) (Some only) (Some d) (Some e) = tt
+from_source (Some address) (Some only) None None = tt
+from_source (Some address) None image blank = tt
+from_source None only image blank = tt
 
 row_source : (ms : Members) → IfSome (platter_row ms) HasSource
 row_source ms =
     elim (cases_Bool (all_known section.Platter ms)) [
-      | inl known ↦ rw known (from_source (text_of_key (codes "address") ms) (get_member (codes "image") ms) (get_member (codes "blank") ms))
+      | inl known ↦ rw known (from_source (text_of_key (codes "address") ms) (only_of_key (get_member (codes "for") ms)) (get_member (codes "image") ms) (get_member (codes "blank") ms))
       | inr other ↦ rw other tt
     ]
 
@@ -60,18 +62,19 @@ items_sources : (items : Option Items) → IfSome (option_and_then platter_rows 
 items_sources None = tt
 items_sources (Some ds) = rows_sources ds
 
-all_sources : (quota : Option ℕ) (terminals : Option (List TerminalRow)) (partitions : Option (List PartitionRow)) (platters : Option (List PlatterRow)) → IfSome platters HaveSources
-    → IfSome (rows_from quota terminals partitions platters) (λ b. HaveSources b.platters)
-all_sources (Some q) (Some t) (Some p) (Some ps) have = have
-all_sources (Some q) (Some t) (Some p) None have = tt
-all_sources (Some q) (Some t) None platters have = tt
-all_sources (Some q) None partitions platters have = tt
-all_sources None terminals partitions platters have = tt
+all_sources : (quota : Option ℕ) (terminals : Option (List TerminalRow)) (partitions : Option (List PartitionRow)) (platters : Option (List PlatterRow)) (printers : Option (List PrinterRow)) → IfSome platters HaveSources
+    → IfSome (rows_from quota terminals partitions platters printers) (λ b. HaveSources b.platters)
+all_sources (Some q) (Some t) (Some p) (Some ps) (Some prs) have = have
+all_sources (Some q) (Some t) (Some p) (Some ps) None have = tt
+all_sources (Some q) (Some t) (Some p) None printers have = tt
+all_sources (Some q) (Some t) None platters printers have = tt
+all_sources (Some q) None partitions platters printers have = tt
+all_sources None terminals partitions platters printers have = tt
 
 pub document_sources : (ms : Members) → IfSome (document_rows ms) (λ b. HaveSources b.platters)
 document_sources ms =
     elim (cases_Bool (all_known section.File ms)) [
       | inl known ↦ rw known
-          (all_sources (quota_of (number_of_key (codes "quota") ms)) (terminals_said ms) (partitions_of ms) (platters_said ms) (items_sources (items_of_key (get_member (codes "platter") ms))))
+          (all_sources (quota_of (number_of_key (codes "quota") ms)) (terminals_said ms) (partitions_of ms) (platters_said ms) (printers_said ms) (items_sources (items_of_key (get_member (codes "platter") ms))))
       | inr other ↦ rw other tt
     ]

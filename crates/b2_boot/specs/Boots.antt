@@ -8,20 +8,23 @@ use Rattle.b2_base.specs.Byte as byte
 use Rattle.b2_base.specs.Names.{is_address, is_file_name, is_name8, padded8}
 use Rattle.b2_boot.specs.declared.rows.PartitionRow.{PartitionRow}
 use Rattle.b2_boot.specs.declared.rows.PlatterRow.{PlatterRow}
+use Rattle.b2_boot.specs.declared.rows.PrinterRow.{PrinterRow}
 use Rattle.b2_boot.specs.declared.boot.BootTerminal.{BootTerminal}
 use Rattle.b2_boot.specs.declared.boot.BootPartition.{BootPartition}
 use Rattle.b2_boot.specs.declared.boot.BootPlatter.{BootPlatter}
+use Rattle.b2_boot.specs.declared.boot.BootPrinter.{BootPrinter}
 use Rattle.b2_boot.specs.declared.boot_file.BootErr.{BootErr}
 use Rattle.b2_boot.specs.declared.boot_file.BootErr.TheVariants as refused
 use Rattle.toml.specs.Data.{Members}
 use Rattle.b2_boot.specs.Rows.{RowsState, document_of, document_rows, is_between, spells}
 
--- a boot: the quota of a turn, its terminals and partitions by number, and its platters by address
+-- a boot: the quota of a turn, its terminals and partitions by number, and its platters and its printers by address
 pub record BootState : Type 0 where
   pub quota : ℕ
   pub terminals : List BootTerminal
   pub partitions : List BootPartition
   pub platters : List BootPlatter
+  pub printers : List BootPrinter
 
 -- the numbers of rows
 abbrev pub terminal_numbers : List TerminalRow → List ℕ
@@ -35,9 +38,11 @@ abbrev pub stand_once : ℕ → List ℕ → Bool
 stand_once most [] = true
 stand_once most (n ∷ ns) = (is_between 1 most n && not (list_any (λ m. m == n) ns)) && stand_once most ns
 
--- 3: there are 1 to 12 terminals, 1 to 16 partitions, and at most 8 platters
+-- 3: there are 1 to 12 terminals, 1 to 16 partitions, at most 8 platters, and at most 4 printers
 abbrev pub are_counted : RowsState → Bool
-are_counted b = is_between 1 12 (length b.terminals) && (is_between 1 16 (length b.partitions) && nat_le (length b.platters) 8)
+are_counted b =
+    is_between 1 12 (length b.terminals) && (is_between 1 16 (length b.partitions)
+    && (nat_le (length b.platters) 8 && nat_le (length b.printers) 4))
 
 -- 6: text and data are 2 to 24 KiB, and globals at most 8
 abbrev pub sizes_fit : PartitionRow → Bool
@@ -67,23 +72,47 @@ abbrev pub same_image : Option (List ℕ) → Option (List ℕ) → Bool
 same_image (Some name) (Some other) = spells name other
 same_image image other = false
 
--- 10: an address is that of a platter by its first digit, and none stands twice
+-- 10: an address is that of a platter or of a printer by its first digit, and none stands twice among them all
 abbrev pub is_platter_digit : ℕ → Bool
 is_platter_digit b = list_any (λ d. b == d) (codes "3BD")
 
 abbrev pub is_platter_address : List ℕ → Bool
 is_platter_address address = is_address address && is_platter_digit (first address)
 
-abbrev pub addresses_fit : List PlatterRow → Bool
-addresses_fit platters = list_all (λ p. is_platter_address p.address) platters && no_two_same (λ p q. spells p.address q.address) platters
+abbrev pub is_printer_digit : ℕ → Bool
+is_printer_digit b = b == byte.digit_0 + 2
 
--- 12: a disk is a platter that is listed
-abbrev pub is_disk_listed : {A : Type 0} → (A → List ℕ) → List A → Option (List ℕ) → Bool
-is_disk_listed address platters None = true
-is_disk_listed address platters (Some disk) = list_any (λ p. spells disk (address p)) platters
+abbrev pub is_printer_address : List ℕ → Bool
+is_printer_address address = is_address address && is_printer_digit (first address)
 
-abbrev pub disks_listed : List PartitionRow → List PlatterRow → Bool
-disks_listed partitions platters = list_all (λ p. is_disk_listed (λ q. q.address) platters p.disk) partitions
+abbrev pub row_addresses : List PrinterRow → List PlatterRow → List (List ℕ)
+row_addresses printers platters = map (λ p. p.address) printers ++ map (λ p. p.address) platters
+
+abbrev pub addresses_fit : List PlatterRow → List PrinterRow → Bool
+addresses_fit platters printers =
+    list_all (λ p. is_platter_address p.address) platters && (list_all (λ p. is_printer_address p.address) printers
+    && no_two_same spells (row_addresses printers platters))
+
+-- 11: a device is for all partitions, or for one that is listed
+abbrev pub may_be_for : List PartitionRow → Option ℕ → Bool
+may_be_for partitions None = true
+may_be_for partitions (Some n) = list_any (λ p. p.number == n) partitions
+
+abbrev pub devices_have_partitions : List PartitionRow → List PlatterRow → List PrinterRow → Bool
+devices_have_partitions partitions platters printers =
+    list_all (λ p. may_be_for partitions p.only) platters && list_all (λ p. may_be_for partitions p.only) printers
+
+-- 12: a disk is a platter that the partition may use: one for all, or for it alone
+abbrev pub is_for : ℕ → Option ℕ → Bool
+is_for who None = true
+is_for who (Some n) = n == who
+
+abbrev pub is_disk_for : {A : Type 0} → (A → List ℕ) → (A → Option ℕ) → List A → ℕ → Option (List ℕ) → Bool
+is_disk_for address only platters who None = true
+is_disk_for address only platters who (Some disk) = list_any (λ p. spells disk (address p) && is_for who (only p)) platters
+
+abbrev pub disks_fit : List PartitionRow → List PlatterRow → Bool
+disks_fit partitions platters = list_all (λ p. is_disk_for (λ q. q.address) (λ q. q.only) platters p.number p.disk) partitions
 
 -- 13: a program has the name of a file on a disk, without a quote, and a disk from which it is loaded
 abbrev pub has_quote : List ℕ → Bool
@@ -136,29 +165,30 @@ terminals_by_number rows = rows_up_to number_of_terminal 12 rows
 abbrev pub partitions_by_number : List PartitionRow → List PartitionRow
 partitions_by_number rows = rows_up_to number_of_partition 16 rows
 
--- the checks of platters, and of the disks and programs of partitions
-abbrev pub checks_of_platters : List PartitionRow → List PlatterRow → List (ℕ × Bool)
-checks_of_platters partitions platters =
-    (9, no_two_same (λ p q. same_image p.image q.image) platters) ∷ (10, addresses_fit platters)
-    ∷ (12, disks_listed partitions platters) ∷ (13, programs_fit partitions) ∷ (14, list_all (λ p. may_be_named p.image) platters) ∷ []
+-- the checks of platters and printers, and of the disks and programs of partitions
+abbrev pub checks_of_devices : List PartitionRow → List PlatterRow → List PrinterRow → List (ℕ × Bool)
+checks_of_devices partitions platters printers =
+    (9, no_two_same (λ p q. same_image p.image q.image) platters) ∷ (10, addresses_fit platters printers)
+    ∷ (11, devices_have_partitions partitions platters printers) ∷ (12, disks_fit partitions platters) ∷ (13, programs_fit partitions)
+    ∷ (14, list_all (λ p. may_be_named p.image) platters) ∷ []
 
--- the checks of terminals and partitions in ascending order, and of platters
-abbrev pub checks_of_sorted : List TerminalRow → List PartitionRow → List PlatterRow → List (ℕ × Bool)
-checks_of_sorted terminals partitions platters =
+-- the checks of terminals and partitions in ascending order, and of platters and printers
+abbrev pub checks_of_sorted : List TerminalRow → List PartitionRow → List PlatterRow → List PrinterRow → List (ℕ × Bool)
+checks_of_sorted terminals partitions platters printers =
     (6, list_all sizes_fit partitions) ∷ (7, terminals_listed terminals partitions) ∷ (8, all_fronts_fit terminals partitions)
-    ∷ checks_of_platters partitions platters
+    ∷ checks_of_devices partitions platters printers
 
 -- the checks of what a document says; those of sizes and between rows look at terminals and partitions in ascending order
 abbrev pub checks : RowsState → List TerminalRow → List PartitionRow → List (ℕ × Bool)
 checks b terminals partitions =
     (3, are_counted b) ∷ (4, stand_once 12 (terminal_numbers b.terminals)) ∷ (5, stand_once 16 (partition_numbers b.partitions))
-    ∷ checks_of_sorted terminals partitions b.platters
+    ∷ checks_of_sorted terminals partitions b.platters b.printers
 
 abbrev pub check_of_rows : RowsState → Option ℕ
 check_of_rows b = first_failed (checks b (terminals_by_number b.terminals) (partitions_by_number b.partitions))
 
 -- the numbers of a row are those of a terminal and of a partition, its disk is an address, its program has the name of a file on a
--- disk, and an image has that of a file
+-- disk, an image has that of a file, and a device is for the number of a partition
 abbrev pub has_places : TerminalRow → Bool
 has_places t = is_between 1 12 t.number && is_between 1 16 t.front
 
@@ -173,8 +203,15 @@ may_be_program (Some name) = is_name8 name
 abbrev pub has_its_places : PartitionRow → Bool
 has_its_places p = is_between 1 16 p.number && (is_between 1 12 p.terminal && (may_be_address p.disk && may_be_program p.program))
 
+abbrev pub may_be_number : Option ℕ → Bool
+may_be_number None = true
+may_be_number (Some n) = is_between 1 16 n
+
 abbrev pub is_platter_spelled : PlatterRow → Bool
-is_platter_spelled p = is_address p.address && may_be_named p.image
+is_platter_spelled p = is_address p.address && (may_be_named p.image && may_be_number p.only)
+
+abbrev pub is_printer_spelled : PrinterRow → Bool
+is_printer_spelled p = is_address p.address && may_be_number p.only
 
 abbrev pub boot_terminal : TerminalRow → BootTerminal
 boot_terminal r = record { number = r.number; front = r.front }
@@ -188,7 +225,10 @@ abbrev pub partition_of : PartitionRow → BootPartition
 partition_of r = record { number = r.number; terminal = r.terminal; text = r.text; vars = r.vars; globals = r.globals; disk = r.disk; program = program_of r.program }
 
 abbrev pub boot_platter : PlatterRow → BootPlatter
-boot_platter r = record { address = r.address; image = r.image; blank = r.blank }
+boot_platter r = record { address = r.address; image = r.image; blank = r.blank; only = r.only }
+
+abbrev pub boot_printer : PrinterRow → BootPrinter
+boot_printer r = record { address = r.address; only = r.only }
 
 -- the number below 4,096 that the three digits of an address spell
 abbrev pub address_number : List ℕ → ℕ
@@ -197,6 +237,9 @@ address_number address = 0
 
 abbrev pub number_of_platter : BootPlatter → ℕ
 number_of_platter p = address_number p.address
+
+abbrev pub number_of_printer : BootPrinter → ℕ
+number_of_printer p = address_number p.address
 
 -- one more before the first of a greater number
 abbrev pub inserted_by : {A : Type 0} → (A → ℕ) → A → List A → List A
@@ -211,6 +254,9 @@ sorted_by number (x ∷ xs) = inserted_by number x (sorted_by number xs)
 abbrev pub platters_by_address : List PlatterRow → List BootPlatter
 platters_by_address rows = sorted_by number_of_platter (map boot_platter rows)
 
+abbrev pub printers_by_address : List PrinterRow → List BootPrinter
+printers_by_address rows = sorted_by number_of_printer (map boot_printer rows)
+
 -- the boot of rows, with terminals and partitions in ascending order
 abbrev pub boot_with : RowsState → List TerminalRow → List PartitionRow → BootState
 boot_with b terminals partitions = record {
@@ -218,6 +264,7 @@ boot_with b terminals partitions = record {
   terminals = map boot_terminal terminals;
   partitions = map partition_of partitions;
   platters = platters_by_address b.platters;
+  printers = printers_by_address b.printers;
 }
 
 abbrev pub boot_from : RowsState → BootState
@@ -268,6 +315,18 @@ is_either image blank = false
 abbrev pub is_platter : BootPlatter → Bool
 is_platter p = is_platter_address p.address && (is_either p.image p.blank && may_be_named p.image)
 
+abbrev pub is_printer : BootPrinter → Bool
+is_printer p = is_printer_address p.address
+
+-- a device is for all partitions, or for one of the boot
+abbrev pub is_for_some : List BootPartition → Option ℕ → Bool
+is_for_some partitions None = true
+is_for_some partitions (Some n) = list_any (λ p. p.number == n) partitions
+
+-- the addresses of printers and then of platters
+abbrev pub device_addresses : List BootPrinter → List BootPlatter → List (List ℕ)
+device_addresses printers platters = map (λ p. p.address) printers ++ map (λ p. p.address) platters
+
 -- what every boot of a file is
 pub record IsGood (b : BootState) : Type 0 where
   pub quota : is_between 1 1000 b.quota ≡ true
@@ -277,10 +336,14 @@ pub record IsGood (b : BootState) : Type 0 where
   pub listed : list_all (λ p. has_terminal p.terminal b.terminals) b.partitions ≡ true
   pub fronts : list_all (λ t. has_partition t.number t.front b.partitions) b.terminals ≡ true
   pub few_platters : length b.platters ≤ 8
-  pub platters_ascend : Ascends 0 (map number_of_platter b.platters)
+  pub few_printers : length b.printers ≤ 4
+  pub devices_ascend : Ascends 0 (map address_number (device_addresses b.printers b.platters))
   pub platters : list_all is_platter b.platters ≡ true
+  pub printers : list_all is_printer b.printers ≡ true
   pub images : no_two_same (λ p q. same_image p.image q.image) b.platters ≡ true
-  pub disks : list_all (λ p. is_disk_listed (λ q. q.address) b.platters p.disk) b.partitions ≡ true
+  pub platters_for : list_all (λ p. is_for_some b.partitions p.only) b.platters ≡ true
+  pub printers_for : list_all (λ p. is_for_some b.partitions p.only) b.printers ≡ true
+  pub disks : list_all (λ p. is_disk_for (λ q. q.address) (λ q. q.only) b.platters p.number p.disk) b.partitions ≡ true
   pub programs : list_all (λ p. may_load p.disk p.program) b.partitions ≡ true
 
 -- a boot has the quota and the rows of a file, in another order
@@ -289,6 +352,7 @@ pub record Keeps (rows : RowsState) (b : BootState) : Type 0 where
   pub terminals : IsPermutation (map boot_terminal rows.terminals) b.terminals
   pub partitions : IsPermutation (map partition_of rows.partitions) b.partitions
   pub platters : IsPermutation (map boot_platter rows.platters) b.platters
+  pub printers : IsPermutation (map boot_printer rows.printers) b.printers
 
 -- there are rows, and a boot keeps them
 abbrev pub KeepsRows : Option RowsState → BootState → Type 0

@@ -10,13 +10,15 @@ use Rattle.b2_boot.specs.declared.rows.Section.TheVariants as section
 use Rattle.b2_boot.specs.declared.rows.TerminalRow.{TerminalRow}
 use Rattle.b2_boot.specs.declared.rows.PartitionRow.{PartitionRow}
 use Rattle.b2_boot.specs.declared.rows.PlatterRow.{PlatterRow}
+use Rattle.b2_boot.specs.declared.rows.PrinterRow.{PrinterRow}
 
--- what a file says: its quota, and a row for each terminal, each partition and each platter
+-- what a file says: its quota, and a row for each terminal, each partition, each platter and each printer
 pub record RowsState : Type 0 where
   pub quota : ℕ
   pub terminals : List TerminalRow
   pub partitions : List PartitionRow
   pub platters : List PlatterRow
+  pub printers : List PrinterRow
 
 -- the document that bytes spell
 abbrev pub document_of : List ℕ → Option Members
@@ -37,13 +39,15 @@ spells word key = pointwise nat_eq key word
 abbrev pub is_known : Section → List ℕ → Bool
 is_known section.File key =
     spells (codes "quota") key || (spells (codes "terminal") key
-    || (spells (codes "partition") key || spells (codes "platter") key))
+    || (spells (codes "partition") key
+    || (spells (codes "platter") key || spells (codes "printer") key)))
 is_known section.Terminal key = spells (codes "number") key || spells (codes "front") key
 is_known section.Partition key =
     spells (codes "number") key || (spells (codes "terminal") key
     || (spells (codes "text") key || (spells (codes "data") key
     || (spells (codes "globals") key || (spells (codes "disk") key || spells (codes "program") key)))))
-is_known section.Platter key = spells (codes "address") key || (spells (codes "image") key || spells (codes "blank") key)
+is_known section.Platter key = spells (codes "address") key || (spells (codes "image") key || (spells (codes "blank") key || spells (codes "for") key))
+is_known section.Printer key = spells (codes "address") key || spells (codes "for") key
 
 abbrev pub all_known : Section → Members → Bool
 all_known s no_members = true
@@ -100,9 +104,14 @@ with_program (Some d) r = option_map (λ text. record r { program = Some text })
 abbrev pub partition_row : Members → Option PartitionRow
 partition_row ms = if all_known section.Partition ms then option_and_then (with_program (get_member (codes "program") ms)) (disk_row ms) else None
 
+-- the number of the partition that a device is for, which may be left out
+abbrev pub only_of_key : Option Data → Option (Option ℕ)
+only_of_key None = Some None
+only_of_key (Some d) = option_map (λ n. Some (small n)) (as_integer d)
+
 -- a platter with an image
-abbrev pub of_image : List ℕ → Data → Option PlatterRow
-of_image address d = option_map (λ name. record { address = address; image = Some name; blank = None }) (as_str d)
+abbrev pub of_image : List ℕ → Option ℕ → Data → Option PlatterRow
+of_image address only d = option_map (λ name. record { address = address; image = Some name; blank = None; only = only }) (as_str d)
 
 -- how many sectors a blank platter has: 16 to 32,512
 abbrev pub sectors_of : Option ℕ → Option ℕ
@@ -110,20 +119,30 @@ sectors_of None = None
 sectors_of (Some sectors) = if is_between 16 32512 sectors then Some sectors else None
 
 -- a blank platter
-abbrev pub of_sectors : List ℕ → Data → Option PlatterRow
-of_sectors address d =
-    option_map (λ sectors. record { address = address; image = None; blank = Some sectors }) (sectors_of (option_map small (as_integer d)))
+abbrev pub of_sectors : List ℕ → Option ℕ → Data → Option PlatterRow
+of_sectors address only d =
+    option_map (λ sectors. record { address = address; image = None; blank = Some sectors; only = only }) (sectors_of (option_map small (as_integer d)))
 
 -- a platter has an image or is blank, and not both
-abbrev pub platter_from : Option (List ℕ) → Option Data → Option Data → Option PlatterRow
-platter_from (Some address) (Some d) None = of_image address d
-platter_from (Some address) None (Some d) = of_sectors address d
-platter_from address image blank = None
+abbrev pub platter_from : Option (List ℕ) → Option (Option ℕ) → Option Data → Option Data → Option PlatterRow
+platter_from (Some address) (Some only) (Some d) None = of_image address only d
+platter_from (Some address) (Some only) None (Some d) = of_sectors address only d
+platter_from address only image blank = None
 
 -- the row of a platter
 abbrev pub platter_row : Members → Option PlatterRow
 platter_row ms =
-    if all_known section.Platter ms then platter_from (text_of_key (codes "address") ms) (get_member (codes "image") ms) (get_member (codes "blank") ms) else None
+    if all_known section.Platter ms then
+    platter_from (text_of_key (codes "address") ms) (only_of_key (get_member (codes "for") ms)) (get_member (codes "image") ms) (get_member (codes "blank") ms)
+    else None
+
+abbrev pub printer_from : Option (List ℕ) → Option (Option ℕ) → Option PrinterRow
+printer_from (Some address) (Some only) = Some (record { address = address; only = only })
+printer_from address only = None
+
+-- the row of a printer
+abbrev pub printer_row : Members → Option PrinterRow
+printer_row ms = if all_known section.Printer ms then printer_from (text_of_key (codes "address") ms) (only_of_key (get_member (codes "for") ms)) else None
 
 -- a row before others
 abbrev pub before_rows : {A : Type 0} → Option A → Option (List A) → Option (List A)
@@ -143,12 +162,16 @@ abbrev pub platter_rows : Items → Option (List PlatterRow)
 platter_rows no_items = Some []
 platter_rows (item d ds) = before_rows (option_and_then platter_row (as_table d)) (platter_rows ds)
 
+abbrev pub printer_rows : Items → Option (List PrinterRow)
+printer_rows no_items = Some []
+printer_rows (item d ds) = before_rows (option_and_then printer_row (as_table d)) (printer_rows ds)
+
 -- a quota is from 1 to 1000
 abbrev pub quota_of : Option ℕ → Option ℕ
 quota_of None = None
 quota_of (Some quota) = if is_between 1 1000 quota then Some quota else None
 
--- the rows of all terminals, of all partitions, and of all platters
+-- the rows of all terminals, of all partitions, of all platters, and of all printers
 abbrev pub terminals_said : Members → Option (List TerminalRow)
 terminals_said ms = option_and_then terminal_rows (items_of_key (get_member (codes "terminal") ms))
 
@@ -158,14 +181,17 @@ partitions_of ms = option_and_then partition_rows (items_of_key (get_member (cod
 abbrev pub platters_said : Members → Option (List PlatterRow)
 platters_said ms = option_and_then platter_rows (items_of_key (get_member (codes "platter") ms))
 
-abbrev pub rows_from : Option ℕ → Option (List TerminalRow) → Option (List PartitionRow) → Option (List PlatterRow) → Option RowsState
-rows_from (Some quota) (Some terminals) (Some partitions) (Some platters) =
-    Some (record { quota = quota; terminals = terminals; partitions = partitions; platters = platters })
-rows_from quota terminals partitions platters = None
+abbrev pub printers_said : Members → Option (List PrinterRow)
+printers_said ms = option_and_then printer_rows (items_of_key (get_member (codes "printer") ms))
+
+abbrev pub rows_from : Option ℕ → Option (List TerminalRow) → Option (List PartitionRow) → Option (List PlatterRow) → Option (List PrinterRow) → Option RowsState
+rows_from (Some quota) (Some terminals) (Some partitions) (Some platters) (Some printers) =
+    Some (record { quota = quota; terminals = terminals; partitions = partitions; platters = platters; printers = printers })
+rows_from quota terminals partitions platters printers = None
 
 -- what a document says: each key known and there, of its kind, and the quota and the sectors of blank platters in range
 abbrev pub document_rows : Members → Option RowsState
 document_rows ms =
     if all_known section.File ms then
-    rows_from (quota_of (number_of_key (codes "quota") ms)) (terminals_said ms) (partitions_of ms) (platters_said ms)
+    rows_from (quota_of (number_of_key (codes "quota") ms)) (terminals_said ms) (partitions_of ms) (platters_said ms) (printers_said ms)
     else None

@@ -2,12 +2,13 @@
 ghost use Rattle.std.specs.Prelude.{◌≡◌, IfOk, filter};
 ghost use Rattle.b2_boot.specs.Alone.{alone, is_in_group};
 
-use crate::boot::{Boot, BootPartition, BootPlatter, BootTerminal};
+use crate::boot::{Boot, BootPartition, BootPlatter, BootPrinter, BootTerminal};
 use b2_base::{FileName, NoMemory, Part};
 use std::alloc::Global;
 
 impl Boot {
-    /// The boot with a group of partitions alone: those that it doesn't list are dropped, and all else stays, fronts included.
+    /// The boot with a group of partitions alone: those that it doesn't list are dropped, and all else stays, fronts included, and
+    /// devices that are for one of those that are dropped.
     pub fn alone(&self, alloc: Global, group: &[Part]) -> Result<Boot, NoMemory>
         ensures alone { IfOk result (λ b. b ≡ alone (is_in_group group.now) self.now) }
     {
@@ -16,6 +17,7 @@ impl Boot {
             terminals: terminals_copied(alloc, &self.terminals)?,
             partitions: members(alloc, &self.partitions, group)?,
             platters: platters_copied(alloc, &self.platters)?,
+            printers: printers_copied(alloc, &self.printers)?,
         })
     }
 }
@@ -64,6 +66,7 @@ fn platter_copied(platter: &BootPlatter) -> BootPlatter
         address: platter.address,
         image: image_copied(&platter.image),
         blank: platter.blank,
+        only: platter.only,
     }
 }
 
@@ -75,6 +78,15 @@ fn platters_copied(alloc: Global, platters: &[BootPlatter]) -> Result<Vec<BootPl
     for platter in platters {
         copies.push(platter_copied(platter))?;
     }
+    Ok(copies)
+}
+
+/// All printers.
+fn printers_copied(alloc: Global, printers: &[BootPrinter]) -> Result<Vec<BootPrinter>, NoMemory>
+    ensures { IfOk result (λ copies. copies.items ≡ printers.now) }
+{
+    let mut copies = Vec::new(alloc);
+    copies.extend_from_slice(printers)?;
     Ok(copies)
 }
 

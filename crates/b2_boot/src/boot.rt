@@ -1,4 +1,4 @@
-// A boot: the quota of a turn, its terminals and partitions by number, and its platters by address.
+// A boot: the quota of a turn, its terminals and partitions by number, and its platters and printers by address.
 use b2_base::{Addr, FileName, Name8, Part, Term};
 use std::marker::Model;
 
@@ -22,12 +22,21 @@ pub struct BootPartition {
     pub program: Option<Name8>,
 }
 
-/// A platter at its address: the name of its image, or how many sectors it has, blank.
+/// A platter at its address: the name of its image, or how many sectors it has, blank; and the partition that alone may use it,
+/// if one is named.
 #[derive(Drop)]
 pub struct BootPlatter {
     pub address: Addr,
     pub image: Option<FileName>,
     pub blank: Option<u32>,
+    pub only: Option<Part>,
+}
+
+/// A printer at its address, and the partition that alone may use it, if one is named.
+#[derive(Clone, Copy)]
+pub struct BootPrinter {
+    pub address: Addr,
+    pub only: Option<Part>,
 }
 
 /// What the machine starts with. Contracts see it as one record of lists.
@@ -37,6 +46,7 @@ pub struct Boot {
     pub terminals: Vec<BootTerminal>,
     pub partitions: Vec<BootPartition>,
     pub platters: Vec<BootPlatter>,
+    pub printers: Vec<BootPrinter>,
 }
 
 impl Model for Boot {
@@ -44,5 +54,5 @@ impl Model for Boot {
 
     ghost Value = { BootState };
 
-    ghost view = { λ b. record { quota = b.quota; terminals = b.terminals.items; partitions = b.partitions.items; platters = b.platters.items } };
+    ghost view = { λ b. record { quota = b.quota; terminals = b.terminals.items; partitions = b.partitions.items; platters = b.platters.items; printers = b.printers.items } };
 }

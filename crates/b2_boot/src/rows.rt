@@ -17,6 +17,7 @@ pub enum Section {
     Terminal,
     Partition,
     Platter,
+    Printer,
 }
 
 /// A terminal as it is written, with 65,535 in place of each number outside 0 to 65,535.
@@ -40,12 +41,21 @@ pub struct PartitionRow {
 }
 
 /// A platter as it is written: its address and the name of its image, which may be any texts, or how many sectors it has,
-/// blank.
+/// blank; and the number of the partition that it is for, where it has one, with 65,535 in place of one outside 0 to 65,535.
 #[derive(Drop)]
 pub struct PlatterRow {
     pub address: ByteList,
     pub image: Option<ByteList>,
     pub blank: Option<u16>,
+    pub only: Option<u16>,
+}
+
+/// A printer as it is written: its address, which may be any text, and the number of the partition that it is for, where it
+/// has one, with 65,535 in place of one outside 0 to 65,535.
+#[derive(Drop)]
+pub struct PrinterRow {
+    pub address: ByteList,
+    pub only: Option<u16>,
 }
 
 /// All rows of a file. Contracts see it as the record of its lists.
@@ -55,6 +65,7 @@ pub struct BootRows {
     pub terminals: Vec<TerminalRow>,
     pub partitions: Vec<PartitionRow>,
     pub platters: Vec<PlatterRow>,
+    pub printers: Vec<PrinterRow>,
 }
 
 impl Model for BootRows {
@@ -62,7 +73,7 @@ impl Model for BootRows {
 
     ghost Value = { RowsState };
 
-    ghost view = { λ b. record { quota = b.quota; terminals = b.terminals.items; partitions = b.partitions.items; platters = b.platters.items } };
+    ghost view = { λ b. record { quota = b.quota; terminals = b.terminals.items; partitions = b.partitions.items; platters = b.platters.items; printers = b.printers.items } };
 }
 
 /// The document that bytes spell, None where they spell none.
@@ -111,6 +122,7 @@ fn is_known(section: Section, key: &[u8]) -> bool
                 || key == b"terminal".as_slice()
                 || key == b"partition".as_slice()
                 || key == b"platter".as_slice()
+                || key == b"printer".as_slice()
         }
         Section::Terminal => key == b"number".as_slice() || key == b"front".as_slice(),
         Section::Partition => {
@@ -123,8 +135,12 @@ fn is_known(section: Section, key: &[u8]) -> bool
                 || key == b"program".as_slice()
         }
         Section::Platter => {
-            key == b"address".as_slice() || key == b"image".as_slice() || key == b"blank".as_slice()
+            key == b"address".as_slice()
+                || key == b"image".as_slice()
+                || key == b"blank".as_slice()
+                || key == b"for".as_slice()
         }
+        Section::Printer => key == b"address".as_slice() || key == b"for".as_slice(),
     }
 }
 
@@ -281,9 +297,27 @@ fn partition_row(alloc: Global, table: &Table) -> Result<Option<PartitionRow>, N
     }
 }
 
+/// The number of the partition that a device is for, None within where none is named, and None where that is no number.
+fn only_said(table: &Table) -> Option<Option<u16>>
+    ensures { result ≡ spec.only_of_key (get_member (codes "for") (table_view table.now)) }
+{
+    match value_at(table, "for") {
+        Some(value) => match small_if_some(value.as_integer()) {
+            Some(number) => Some(Some(number)),
+            None => None,
+        },
+        None => Some(None),
+    }
+}
+
 /// A platter with an image, None where that is no text.
-fn of_image(alloc: Global, address: &[u8], value: &Value) -> Result<Option<PlatterRow>, NoMemory>
-    ensures { IfOk result (λ found. found ≡ spec.of_image address.now (view value.now)) }
+fn of_image(
+    alloc: Global,
+    address: &[u8],
+    only: Option<u16>,
+    value: &Value,
+) -> Result<Option<PlatterRow>, NoMemory>
+    ensures { IfOk result (λ found. found ≡ spec.of_image address.now only (view value.now)) }
 {
     let Some(name) = value.as_str() else {
         return Ok(None);
@@ -292,6 +326,7 @@ fn of_image(alloc: Global, address: &[u8], value: &Value) -> Result<Option<Platt
         address: ByteList::from_slice(alloc, address)?,
         image: Some(ByteList::from_slice(alloc, name.as_bytes())?),
         blank: None,
+        only,
     }))
 }
 
@@ -310,8 +345,13 @@ fn sectors_said(value: &Value) -> Option<u16>
 }
 
 /// A blank platter, None where that is no number of sectors.
-fn of_sectors(alloc: Global, address: &[u8], value: &Value) -> Result<Option<PlatterRow>, NoMemory>
-    ensures { IfOk result (λ found. found ≡ spec.of_sectors address.now (view value.now)) }
+fn of_sectors(
+    alloc: Global,
+    address: &[u8],
+    only: Option<u16>,
+    value: &Value,
+) -> Result<Option<PlatterRow>, NoMemory>
+    ensures { IfOk result (λ found. found ≡ spec.of_sectors address.now only (view value.now)) }
 {
     let Some(sectors) = sectors_said(value) else {
         return Ok(None);
@@ -320,6 +360,7 @@ fn of_sectors(alloc: Global, address: &[u8], value: &Value) -> Result<Option<Pla
         address: ByteList::from_slice(alloc, address)?,
         image: None,
         blank: Some(sectors),
+        only,
     }))
 }
 
@@ -327,18 +368,19 @@ fn of_sectors(alloc: Global, address: &[u8], value: &Value) -> Result<Option<Pla
 fn platter_from(
     alloc: Global,
     address: &[u8],
+    only: Option<u16>,
     image: Option<&Value>,
     blank: Option<&Value>,
 ) -> Result<Option<PlatterRow>, NoMemory>
-    ensures { IfOk result (λ found. found ≡ spec.platter_from (Some address.now) (option_map (λ value. view value.now) image.entry) (option_map (λ value. view value.now) blank.entry)) }
+    ensures { IfOk result (λ found. found ≡ spec.platter_from (Some address.now) (Some only) (option_map (λ value. view value.now) image.entry) (option_map (λ value. view value.now) blank.entry)) }
 {
     match image {
         Some(value) => match blank {
             Some(_) => Ok(None),
-            None => of_image(alloc, address, value),
+            None => of_image(alloc, address, only, value),
         },
         None => match blank {
-            Some(value) => of_sectors(alloc, address, value),
+            Some(value) => of_sectors(alloc, address, only, value),
             None => Ok(None),
         },
     }
@@ -351,15 +393,38 @@ fn platter_row(alloc: Global, table: &Table) -> Result<Option<PlatterRow>, NoMem
     if !all_known(Section::Platter, table) {
         return Ok(None);
     }
-    match text_of_key(table, "address") {
-        Some(address) => platter_from(
-            alloc,
-            address.as_bytes(),
-            value_at(table, "image"),
-            value_at(table, "blank"),
-        ),
-        None => Ok(None),
+    let Some(address) = text_of_key(table, "address") else {
+        return Ok(None);
+    };
+    let Some(only) = only_said(table) else {
+        return Ok(None);
+    };
+    platter_from(
+        alloc,
+        address.as_bytes(),
+        only,
+        value_at(table, "image"),
+        value_at(table, "blank"),
+    )
+}
+
+/// The row of a printer, None where a key is unknown, missing or of another kind.
+fn printer_row(alloc: Global, table: &Table) -> Result<Option<PrinterRow>, NoMemory>
+    ensures { IfOk result (λ found. found ≡ spec.printer_row (table_view table.now)) }
+{
+    if !all_known(Section::Printer, table) {
+        return Ok(None);
     }
+    let Some(address) = text_of_key(table, "address") else {
+        return Ok(None);
+    };
+    let Some(only) = only_said(table) else {
+        return Ok(None);
+    };
+    Ok(Some(PrinterRow {
+        address: ByteList::from_slice(alloc, address.as_bytes())?,
+        only,
+    }))
 }
 
 /// The row that an item of a table's array is, None where it is none.
@@ -388,6 +453,16 @@ fn platter_in(alloc: Global, item: &Value) -> Result<Option<PlatterRow>, NoMemor
 {
     match item.as_table() {
         Some(table) => platter_row(alloc, table),
+        None => Ok(None),
+    }
+}
+
+/// The row that an item of a table's array is, None where it is none.
+fn printer_in(alloc: Global, item: &Value) -> Result<Option<PrinterRow>, NoMemory>
+    ensures { IfOk result (λ found. found ≡ option_and_then spec.printer_row (as_table (view item.now))) }
+{
+    match item.as_table() {
+        Some(table) => printer_row(alloc, table),
         None => Ok(None),
     }
 }
@@ -427,6 +502,20 @@ fn platter_rows(alloc: Global, items: &[Value]) -> Result<Option<Vec<PlatterRow>
     let mut rows = Vec::new(alloc);
     for item in items {
         match platter_in(alloc, item)? {
+            Some(row) => rows.push(row)?,
+            None => return Ok(None),
+        }
+    }
+    Ok(Some(rows))
+}
+
+/// All items as rows, None where one is none.
+fn printer_rows(alloc: Global, items: &[Value]) -> Result<Option<Vec<PrinterRow>>, NoMemory>
+    ensures { IfOk result (λ found. option_map (λ rows. rows.items) found ≡ spec.printer_rows (items_view items.now)) }
+{
+    let mut rows = Vec::new(alloc);
+    for item in items {
+        match printer_in(alloc, item)? {
             Some(row) => rows.push(row)?,
             None => return Ok(None),
         }
@@ -492,6 +581,16 @@ fn platters_said(alloc: Global, table: &Table) -> Result<Option<Vec<PlatterRow>>
     }
 }
 
+/// The rows of the printers, None where a key of one is unknown, missing or of another kind.
+fn printers_said(alloc: Global, table: &Table) -> Result<Option<Vec<PrinterRow>>, NoMemory>
+    ensures { IfOk result (λ found. option_map (λ rows. rows.items) found ≡ spec.printers_said (table_view table.now)) }
+{
+    match items_at(table, "printer") {
+        Some(items) => printer_rows(alloc, items),
+        None => Ok(None),
+    }
+}
+
 /// What a document says, None where a key is unknown, missing or of another kind, or the quota or a blank platter's sectors
 /// are out of range.
 pub fn boot_rows(alloc: Global, table: &Table) -> Result<Option<BootRows>, NoMemory>
@@ -513,10 +612,14 @@ pub fn boot_rows(alloc: Global, table: &Table) -> Result<Option<BootRows>, NoMem
     let Some(platters) = platters_said(alloc, table)? else {
         return Ok(None);
     };
+    let Some(printers) = printers_said(alloc, table)? else {
+        return Ok(None);
+    };
     Ok(Some(BootRows {
         quota,
         terminals,
         partitions,
         platters,
+        printers,
     }))
 }
