@@ -3,47 +3,64 @@
 use Rattle.std.specs.Prelude.{◌≡◌, ℕ, ◌<◌, ◌≤◌, Bool, true, false, not, cond, ◌&&◌, ◌||◌, List, [], ◌∷◌, filter, length, map, Option, Some, None, is_some, refl}
 use Rattle.std.proofs.Common.{ap, ◌∙◌, arith}
 use Rattle.std.proofs.lemmas.Bool.{and_parts}
+use Rattle.std.proofs.lemmas.List.{length-append, length-map, map-append}
 use Rattle.std.proofs.lemmas.Slice.Eq.{bytes_eq-Decides}
 use Rattle.std.specs.List.{list_all, list_any}
 use Rattle.std.specs.Str.{bytes_eq}
 use Rattle.b2_access.specs.Devices.{are_distinct}
 use Rattle.b2_boot.specs.Alone.{alone}
-use Rattle.b2_boot.specs.Boots.{Ascends, BootState, IsGood, address_number, is_program_name, may_load, number_of_platter}
+use Rattle.b2_boot.specs.Boots.{Ascends, BootState, IsGood, address_number, device_addresses, is_program_name, may_load}
 use Rattle.b2_boot.specs.declared.boot.BootPartition.{BootPartition}
 use Rattle.b2_boot.specs.declared.boot.BootPlatter.{BootPlatter}
-use Rattle.b2_sched.specs.Start.{CanStart, may_start}
-
-abbrev places : List BootPlatter → List (List ℕ)
-places ps = map (λ p. p.address) ps
+use Rattle.b2_boot.specs.declared.boot.BootPrinter.{BootPrinter}
+use Rattle.b2_sched.specs.Start.{CanStart, devices_of, may_start, platter_device, printer_device}
 
 higher : (n m : ℕ) (xs : List ℕ) → n < m → Ascends m xs → Ascends n xs
 higher n m [] below ascend = tt
 higher n m (x ∷ xs) below ascend = (omega arith, ascend.1)
 
--- none of the later ones has the address of a lower number
-apart : (a : List ℕ) (q : BootPlatter) → address_number a < number_of_platter q → bytes_eq a q.address ≡ false
-apart a q below = by (bytes_eq a q.address) refl
+-- none of the later ones is the address of a lower number
+apart : (a c : List ℕ) → address_number a < address_number c → bytes_eq a c ≡ false
+apart a c below = by (bytes_eq a c) refl
   where
-    by : (b : Bool) → bytes_eq a q.address ≡ b → b ≡ false
+    by : (b : Bool) → bytes_eq a c ≡ b → b ≡ false
     by false e = refl
-    by true e = let same : address_number a ≡ number_of_platter q = ap address_number ((bytes_eq-Decides a q.address).0 e) in absurd (omega arith)
+    by true e = let same : address_number a ≡ address_number c = ap address_number ((bytes_eq-Decides a c).0 e) in absurd (omega arith)
 
 none_of : (b c : Bool) → b ≡ false → c ≡ false → (b || c) ≡ false
 none_of b c is also = ap (λ (x : Bool). x || c) is ∙ also
 
-none_later : (a : List ℕ) (ps : List BootPlatter) → Ascends (address_number a) (map number_of_platter ps) → list_any (bytes_eq a) (places ps) ≡ false
+none_later : (a : List ℕ) (cs : List (List ℕ)) → Ascends (address_number a) (map address_number cs) → list_any (bytes_eq a) cs ≡ false
 none_later a [] ascend = refl
-none_later a (p ∷ ps) ascend = none_of (bytes_eq a p.address) (list_any (bytes_eq a) (places ps)) (apart a p ascend.0) (none_later a ps (higher (address_number a) (number_of_platter p) (map number_of_platter ps) ascend.0 ascend.1))
+none_later a (c ∷ cs) ascend =
+    none_of (bytes_eq a c) (list_any (bytes_eq a) cs) (apart a c ascend.0) (none_later a cs (higher (address_number a) (address_number c) (map address_number cs) ascend.0 ascend.1))
 
 both : (b c : Bool) → b ≡ false → c ≡ true → (not b && c) ≡ true
 both b c is also = ap (λ (x : Bool). not x && c) is ∙ also
 
-distinct : (above : ℕ) (ps : List BootPlatter) → Ascends above (map number_of_platter ps) → are_distinct (places ps) ≡ true
+distinct : (above : ℕ) (cs : List (List ℕ)) → Ascends above (map address_number cs) → are_distinct cs ≡ true
 distinct above [] ascend = refl
-distinct above (p ∷ ps) ascend = both (list_any (bytes_eq p.address) (places ps)) (are_distinct (places ps)) (none_later p.address ps ascend.1) (distinct (number_of_platter p) ps ascend.1)
+distinct above (c ∷ cs) ascend = both (list_any (bytes_eq c) cs) (are_distinct cs) (none_later c cs ascend.1) (distinct (address_number c) cs ascend.1)
 
-at_most_twelve : (n : ℕ) → n ≤ 8 → n ≤ 12
-at_most_twelve n few = omega arith
+-- the addresses of devices are those of printers and then of platters
+of_printers : (ps : List BootPrinter) → map (λ d. d.addr) (map printer_device ps) ≡ map (λ p. p.address) ps
+of_printers [] = refl
+of_printers (p ∷ ps) = ap (λ cs. p.address ∷ cs) (of_printers ps)
+
+of_platters : (ps : List BootPlatter) → map (λ d. d.addr) (map platter_device ps) ≡ map (λ p. p.address) ps
+of_platters [] = refl
+of_platters (p ∷ ps) = ap (λ cs. p.address ∷ cs) (of_platters ps)
+
+of_devices : (printers : List BootPrinter) (platters : List BootPlatter) → map (λ d. d.addr) (devices_of printers platters) ≡ device_addresses printers platters
+of_devices printers platters = map-append (λ d. d.addr) (map printer_device printers) (map platter_device platters) ∙ rw (of_printers printers, of_platters platters) refl
+
+-- at most four and at most eight are at most twelve
+at_most_twelve : (printers : List BootPrinter) (platters : List BootPlatter) → length printers ≤ 4 → length platters ≤ 8 → length (devices_of printers platters) ≤ 12
+at_most_twelve printers platters four eight =
+    let all = length-append (map printer_device printers) (map platter_device platters) in
+    let first = length-map printers printer_device in
+    let last = length-map platters platter_device in
+    omega (arith, all, first, last, four, eight)
 
 -- a program that can be loaded has a name that can stand in a line
 loaded_starts : (disk program : Option (List ℕ)) → may_load disk program ≡ true → may_start program ≡ true
@@ -58,8 +75,8 @@ all_start (p ∷ ps) load =
 
 pub can_start : (b : BootState) → IsGood b → CanStart b
 can_start b good = record {
-  few = at_most_twelve (length b.platters) good.few_platters;
-  distinct = distinct 0 b.platters good.platters_ascend;
+  few = at_most_twelve b.printers b.platters good.few_printers good.few_platters;
+  distinct = rw (of_devices b.printers b.platters) (distinct 0 (device_addresses b.printers b.platters) good.devices_ascend);
   programs = all_start b.partitions good.programs;
 }
 

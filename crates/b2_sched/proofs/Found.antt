@@ -12,6 +12,7 @@ use Rattle.b2_access.specs.declared.private.Private.{Private}
 use Rattle.b2_access.proofs.Courses.{found_course, may_stand}
 use Rattle.b2_stmt.specs.Clearing.{asks_access}
 use Rattle.b2_stmt.specs.Plan as stmt
+use Rattle.b2_stmt_device.specs.Plan as stmt_device
 use Rattle.b2_stmt_file.specs.Plan as stmt_file
 use Rattle.b2_stmt_io.specs.Plan as stmt_io
 use Rattle.b2_stmt_mat.specs.Plan as stmt_mat
@@ -41,7 +42,8 @@ others_of r =
     else (if stmt_pack.is_built r then family.Packed
     else (if stmt_file.is_built r then family.Files
     else (if stmt_program.is_built r then family.Programs
-    else family.Disks))))
+    else (if stmt_device.is_built r then family.Devices
+    else family.Disks)))))
 
 variables : (r : ℕ) → stmt_var.is_built r ≡ true → family_of r ≡ family.Variables
 variables r is = of_first (stmt_var.is_built r) (stmt.is_built r) (others_of r) is
@@ -79,10 +81,10 @@ unrefused false program is = refl
 
 pub planned_where_found : (devices : List Device) (p : Place) (me : Private) (s : SeenLent) (line : List ℕ) (u : Statement) (x : Planning)
     → me.place ≡ Some p → is_some p.line ≡ true → line_named me.immediate s.home.lines p.line ≡ Some line → Some u ≡ statement_on (Some line) p.unit → family_of u.row ≡ family.Terminal
-    → x ≡ plans_by (stmt_io.course_of u) me s → x ≡ plan devices u.row me s
+    → x ≡ plans_by (stmt_io.course_of devices u) me s → x ≡ plan devices u.row me s
 planned_where_found devices p me s line u x is program is_line is_unit terminal is_x =
     is_x
     ∙ ap (as_planned me s)
-    (sym (may_stand stmt_io.is_refused stops (stmt_io.does me s) u (here p me s) (unrefused (stmt_io.is_for_programs u.row) (is_some p.line) program))
-    ∙ found_course stmt_io.is_refused stops (stmt_io.does me s) p me s u is (unit_here p me s line u is_line is_unit))
+    (sym (may_stand stmt_io.is_refused stops (stmt_io.does devices me s) u (here p me s) (unrefused (stmt_io.is_for_programs u.row) (is_some p.line) program))
+    ∙ found_course stmt_io.is_refused stops (stmt_io.does devices me s) p me s u is (unit_here p me s line u is_line is_unit))
     ∙ sym (ap (λ (f : Family). plan_by devices f me s) terminal)

@@ -21,4 +21,10 @@ pub mod WatchedTurns
 pub mod WorldMarks
 pub mod KeptPlaces
 pub mod Granted
+pub mod ShownAtTerminals
 pub mod TouchedDevices
+pub mod StepEnds
+pub mod LegalSteps
+pub mod HeldSteps
+pub mod HeldTurns
+pub mod FilesLeft

@@ -131,7 +131,7 @@ module _ (devices : List Device) where
   by_literal None me = by_number me.numbered me
 
   by_output : (x : Option (List ℕ × List ℕ)) (me : Private) → IsMarkedBy me.part (λ s. asks_to_show (basic devices) x me s) (λ s. shows_or_goes_on (basic devices) itself serves after_loan x me s) (λ m. shows_or_goes_on (basic devices) store_in (watching itself serves) (watched_loan after_loan) x me m)
-  by_output (Some text) me = by_answer me (shows_pending text.1 me) (λ a. shown_by (shows_pending text.1 me) a me)
+  by_output (Some text) me = by_answer me (shows_pending text.0 text.1 me) (λ a. shown_by (shows_pending text.0 text.1 me) a me)
   by_output None me = by_literal me.literal me
 
   by_halt : (me : Private) → IsMarkedBy me.part (λ s. asks_unless_halted (basic devices) me s) (λ s. halts_or_acts (basic devices) itself serves after_loan me s) (λ m. halts_or_acts (basic devices) store_in (watching itself serves) (watched_loan after_loan) me m)

@@ -27,7 +27,7 @@ halts_at_home p me h = record { part = h.part; place = h.place; kept = h.kept; f
 pub resets_at_home : (p : ℕ) (me : Private) → IsHome p me → IsHome p (record me { reset = true })
 resets_at_home p me h = record { part = h.part; place = h.place; kept = h.kept; frames = h.frames }
 
-keeps_home : IsKept IsHome
+pub keeps_home : IsKept IsHome
 keeps_home = record {
   halt = halts_at_home;
   reset = resets_at_home;

@@ -1,14 +1,14 @@
--- Each object of a device that a step of a run touches has an address that the boot lists.
-use Rattle.std.specs.Prelude.{◌≡◌, ℕ, zero, suc, ◌&&◌, ◌||◌, Bool, true, false, List, [], ◌∷◌, map, Option, Some, None, All, Contains, refl}
-use Rattle.std.proofs.Common.{sym, subst, ◌∙◌, arith}
+-- Each object of a device that a step of a run touches belongs to one that the boot lists for the partition of that step.
+use Rattle.std.specs.Prelude.{◌≡◌, ℕ, zero, suc, ◌||◌, Bool, true, false, List, [], ◌∷◌, map, Option, Some, None, All, refl}
+use Rattle.std.proofs.Common.{sym, subst, ◌∙◌}
 use Rattle.std.proofs.lemmas.List.Elements.{All-append, All-cons, All-nil}
-use Rattle.std.proofs.lemmas.Slice.Eq.{bytes_eq-Decides}
-use Rattle.std.specs.Str.{bytes_eq}
 use Rattle.b2_access.specs.AccessRows.{reach}
-use Rattle.b2_access.specs.Devices.{has_device, is_platter_for, is_printer_for, may_use, platter_device, same_kind}
+use Rattle.b2_access.specs.Devices.{is_platter_for, is_printer_for}
 use Rattle.b2_access.specs.Holding.{device_of}
-use Rattle.b2_access.specs.OwnDevices.{AreListed, is_listed_for}
+use Rattle.b2_access.specs.OwnDevices.{AreListed, is_device_for, is_listed_for}
+use Rattle.b2_access.specs.Pending.{IsForTerminal}
 use Rattle.b2_access.specs.Reach.{DevicePart, DeviceReach, HoldFreed, HoldTaken, WithPlatter, WithPrinter, Reach, device_objects, objects_reached, part_objects, terminal_objects, text_objects, variable_objects}
+use Rattle.b2_access.specs.Serving.{itself}
 use Rattle.b2_access.specs.Store.{StoreState}
 use Rattle.b2_access.specs.declared.accesses.Access.{Access}
 use Rattle.b2_access.specs.declared.devices.Device.{Device}
@@ -17,51 +17,62 @@ use Rattle.b2_access.specs.declared.objects.Object.TheVariants as object
 use Rattle.b2_access.specs.declared.private.Private.{Private}
 use Rattle.b2_access.specs.declared.reached.TextUse.{TextUse}
 use Rattle.b2_access.specs.declared.reached.TextUse.TheVariants as text
-use Rattle.b2_audit.specs.Steps.{Step}
+use Rattle.b2_audit.specs.Steps.{Step, just}
 use Rattle.b2_machine.proofs.StepDevices.{steps_ask_for_listed}
+use Rattle.b2_machine.proofs.StepHomes.{steps_stay_within}
+use Rattle.b2_machine.proofs.StepOutput.{step_shows, still_for_terminal}
 use Rattle.b2_machine.specs.Touched.{AskedListed, asking, step_touched, touched_where}
 use Rattle.b2_machine.specs.Turn.{unless_ended}
 use Rattle.b2_machine.specs.declared.ends.Why.{Why}
+use Rattle.b2_store.specs.DiskWork.{serves}
+use Rattle.b2_sched.proofs.EachRow.{EachIs, IsKept, each_action}
 use Rattle.b2_sched.proofs.Folds.{keeps_devices}
+use Rattle.b2_sched.proofs.Numbers.{same_number}
+use Rattle.b2_sched.proofs.OwnObjects.{IsHome, keeps_home, starts_at_home}
+use Rattle.b2_sched.proofs.ShownAtTerminals.{ShowsAtTerminal, always_shows, booted_shows, for_listed}
 use Rattle.b2_sched.specs.Choice.{basic}
 use Rattle.b2_sched.specs.Devices.{IsOfListed, RunsTouchListedDevices, TouchesListed}
 use Rattle.b2_sched.specs.Groups.{steps_along, steps_at}
 use Rattle.b2_sched.specs.Laws.{all_actions}
-use Rattle.b2_sched.specs.Lawful.{basic_asks_for_listed}
-use Rattle.b2_sched.specs.Start.{addresses, booted}
-use Rattle.b2_sched.specs.Turns.{noted_by, step_noted, step_of, steps_in_turn}
+use Rattle.b2_sched.specs.Lawful.{basic_asks_for_listed, basic_is_lawful}
+use Rattle.b2_sched.specs.Start.{booted, devices_of}
+use Rattle.b2_sched.specs.Turns.{after_loan, noted_by, step_noted, step_of, steps_in_turn}
 use Rattle.b2_sched.specs.World.{WorldState, Action, Key, Front, Halt, Reset, Turn, does, private_of}
 
--- a device of the table has one of the addresses that it is made of
-here_or_later : (x a : List ℕ) (xs : List (List ℕ)) (b c rest : Bool) → bytes_eq x a ≡ b → ((b && c) || rest) ≡ true → (rest ≡ true → Contains xs a) → Contains (x ∷ xs) a
-here_or_later x a xs true c rest e is later = (0, omega arith, (bytes_eq-Decides x a).0 e)
-here_or_later x a xs false c rest e is later =
-    let there = later is in
-    let below = there.1 in
-    (suc there.0, omega arith, there.2)
+-- a device that is listed as one of a kind is listed
+as_platter : (b c : Bool) → b ≡ true → (b || c) ≡ true
+as_platter true c is = refl
+as_platter false c is = let clash : false ≡ true = is in absurd (cc)
 
-in_table : (printer : Bool) (who : ℕ) (a : List ℕ) (xs : List (List ℕ)) → has_device printer who a (map platter_device xs) ≡ true → Contains xs a
-in_table printer who a [] is = let clash : false ≡ true = is in absurd (cc)
-in_table printer who a (x ∷ xs) is =
-    here_or_later x a xs (bytes_eq x a) (same_kind false printer && may_use who None) (has_device printer who a (map platter_device xs)) refl is (in_table printer who a xs)
+as_printer : (b c : Bool) → c ≡ true → (b || c) ≡ true
+as_printer true c is = refl
+as_printer false c is = is
 
-either_listed : (a : List ℕ) (xs : List (List ℕ)) (b c : Bool) → (b || c) ≡ true → (b ≡ true → Contains xs a) → (c ≡ true → Contains xs a) → Contains xs a
-either_listed a xs true c is f g = f refl
-either_listed a xs false c is f g = g is
+-- a partition names itself alone as a home, and what waits to be shown is for its terminal
+abbrev IsFit : ℕ → Private → Type 0
+IsFit p me = ShowsAtTerminal p me × IsHome p me
 
-module _ (listed : List (List ℕ)) where
-  abbrev table : List Device
-  table = map platter_device listed
+always_fit : IsKept IsFit
+always_fit = record {
+  halt = λ p me h. (always_shows.halt p me h.0, keeps_home.halt p me h.1);
+  reset = λ p me h. (always_shows.reset p me h.0, keeps_home.reset p me h.1);
+  turn = λ devices p n me s h. (always_shows.turn devices p n me s h.0, keeps_home.turn devices p n me s h.1);
+}
 
-  address_listed : (who : ℕ) (a : List ℕ) (part : DevicePart) → is_listed_for who a part table ≡ true → Contains listed a
-  address_listed who a HoldTaken is = either_listed a listed (is_platter_for who a table) (is_printer_for who a table) is (in_table false who a listed) (in_table true who a listed)
-  address_listed who a HoldFreed is = either_listed a listed (is_platter_for who a table) (is_printer_for who a table) is (in_table false who a listed) (in_table true who a listed)
-  address_listed who a WithPlatter is = in_table false who a listed is
-  address_listed who a WithPrinter is = in_table true who a listed is
+-- the steps of one partition, over a table of devices
+module _ (table : List Device) (p : ℕ) where
+  abbrev IsThere : List ℕ → Type 0
+  IsThere a = is_device_for p a table ≡ true
+
+  device_listed : (a : List ℕ) (part : DevicePart) → is_listed_for p a part table ≡ true → IsThere a
+  device_listed a HoldTaken is = is
+  device_listed a HoldFreed is = is
+  device_listed a WithPlatter is = as_platter (is_platter_for p a table) (is_printer_for p a table) is
+  device_listed a WithPrinter is = as_printer (is_platter_for p a table) (is_printer_for p a table) is
 
   -- objects of no device, and those of one that is listed
   abbrev Fine : Object → Type 0
-  Fine o = IsOfListed listed o
+  Fine o = IsOfListed table p o
 
   abbrev AreFine : List Object → Type 0
   AreFine os = All Fine os
@@ -69,8 +80,8 @@ module _ (listed : List (List ℕ)) where
   of_none : (o : Object) → device_of o ≡ None → Fine o
   of_none o none a is = let clash : ◌≡◌ {A = Option (List ℕ)} None (Some a) = sym none ∙ is in absurd (cc)
 
-  of_one : (o : Object) (d : List ℕ) → device_of o ≡ Some d → Contains listed d → Fine o
-  of_one o d of there a is = let both : Some d ≡ Some a = sym of ∙ is in let same : d ≡ a = cc in subst (λ (x : List ℕ). Contains listed x) same there
+  of_one : (o : Object) (d : List ℕ) → device_of o ≡ Some d → IsThere d → Fine o
+  of_one o d of there a is = let both : Some d ≡ Some a = sym of ∙ is in let same : d ≡ a = cc in subst IsThere same there
 
   none_fine : AreFine []
   none_fine = All-nil Fine
@@ -100,73 +111,91 @@ module _ (listed : List (List ℕ)) where
   names_fine [] = none_fine
   names_fine (n ∷ ns) = more (object.Name n) (map object.Name ns) (of_none (object.Name n) refl) (names_fine ns)
 
-  with_hog : (d : List ℕ) (os : List Object) → Contains listed d → AreFine os → AreFine (object.Hog d ∷ os)
+  with_hog : (d : List ℕ) (os : List Object) → IsThere d → AreFine os → AreFine (object.Hog d ∷ os)
   with_hog d os there rest = more (object.Hog d) os (of_one (object.Hog d) d refl there) rest
 
-  part_fine : (d : List ℕ) (part : DevicePart) → Contains listed d → AreFine (part_objects d part)
+  part_fine : (d : List ℕ) (part : DevicePart) → IsThere d → AreFine (part_objects d part)
   part_fine d HoldTaken there = with_hog d [] there none_fine
   part_fine d HoldFreed there = with_hog d [] there none_fine
   part_fine d WithPlatter there = with_hog d (object.Platter d ∷ []) there (more (object.Platter d) [] (of_one (object.Platter d) d refl there) none_fine)
   part_fine d WithPrinter there = with_hog d (object.Printer d ∷ []) there (more (object.Printer d) [] (of_one (object.Printer d) d refl there) none_fine)
 
-  devices_fine : (who : ℕ) (ds : List DeviceReach) → AreListed table who ds → AreFine (device_objects ds)
-  devices_fine who [] are = none_fine
-  devices_fine who (d ∷ ds) are =
-      All-append Fine (part_objects d.address d.part) (device_objects ds) (part_fine d.address d.part (address_listed who d.address d.part are.0)) (devices_fine who ds are.1)
+  devices_fine : (ds : List DeviceReach) → AreListed table p ds → AreFine (device_objects ds)
+  devices_fine [] are = none_fine
+  devices_fine (d ∷ ds) are =
+      All-append Fine (part_objects d.address d.part) (device_objects ds) (part_fine d.address d.part (device_listed d.address d.part are.0)) (devices_fine ds are.1)
 
-  reached_fine : (part who : ℕ) (r : Reach) → AreListed table part r.devices → AreFine (objects_reached who r)
-  reached_fine part who r are =
+  reached_fine : (who : ℕ) (r : Reach) → AreListed table p r.devices → AreFine (objects_reached who r)
+  reached_fine who r are =
       All-append Fine (terminal_objects r.terminal) _ (terminal_fine r.terminal)
       (All-append Fine (text_objects who r.text) _ (text_fine who r.text)
       (All-append Fine (variable_objects who r.variables) _ (variables_fine who r.variables)
       (All-append Fine (map object.Borrow r.borrowers) _ (borrowers_fine r.borrowers)
-      (All-append Fine (device_objects r.devices) (map object.Name r.names) (devices_fine part r.devices are) (names_fine r.names)))))
+      (All-append Fine (device_objects r.devices) (map object.Name r.names) (devices_fine r.devices are) (names_fine r.names)))))
 
-  asked_fine : (part who : ℕ) (x : Option Access) (s : StoreState) → AskedListed table part x → AreFine (touched_where x who s)
-  asked_fine part who None s are = none_fine
-  asked_fine part who (Some a) s are = reached_fine part who (reach a) are
+  asked_fine : (who : ℕ) (x : Option Access) (s : StoreState) → AskedListed table p x → AreFine (touched_where x who s)
+  asked_fine who None s are = none_fine
+  asked_fine who (Some a) s are = reached_fine who (reach a) are
 
   -- a step, and the steps of a turn
-  step_fine : (me : Private) (s : StoreState) → AreFine (step_touched (basic table) me s)
-  step_fine me s =
+  step_fine : (me : Private) (s : StoreState) → IsFit p me → AreFine (step_touched (basic table) me s)
+  step_fine me s fit =
       let x = asking (basic table) me s in
-      let asked = asked_fine me.part x.who x.access s (steps_ask_for_listed basic basic_asks_for_listed table me s) in
+      let listed = steps_ask_for_listed basic basic_asks_for_listed table me s (for_listed table me.part me.pending fit.0) in
+      let asked = asked_fine x.who x.access s (subst (λ (q : ℕ). AskedListed table q x.access) (same_number me.part p fit.1.part) listed) in
       let reached = touched_where x.access x.who s in
       more (object.Text me.part) (object.Text x.who ∷ reached) (of_none (object.Text me.part) refl) (more (object.Text x.who) reached (of_none (object.Text x.who) refl) asked)
 
   abbrev StepsFine : List Step → Type 0
-  StepsFine xs = All (TouchesListed listed) xs
+  StepsFine xs = All (TouchesListed table) xs
 
   no_steps : StepsFine []
-  no_steps = All-nil (TouchesListed listed)
+  no_steps = All-nil (TouchesListed table)
 
-  turn_fine : (who n : ℕ) (me : Private) (s : StoreState) → StepsFine (steps_in_turn table who n me s)
+  fit_after : (me : Private) (s : StoreState) → IsFit p me → IsFit p (step_of table me s).me
+  fit_after me s fit = (
+    still_for_terminal (basic table) (basic_is_lawful table) itself serves after_loan me (step_of table me s).me (step_shows (basic table) (basic_is_lawful table) itself serves after_loan me s) fit.0,
+    (steps_stay_within (basic table) (basic_is_lawful table) itself serves after_loan (just p) me s fit.1).0,
+  )
+
+  turn_fine : (n : ℕ) (me : Private) (s : StoreState) → IsFit p me → StepsFine (steps_in_turn table p n me s)
   unfolding steps_in_turn
-  turn_fine who zero me s = no_steps
-  turn_fine who (suc n) me s =
+  turn_fine zero me s fit = no_steps
+  turn_fine (suc n) me s fit =
       let x = step_of table me s in
-      let rest = steps_in_turn table who n x.me x.after in
-      All-cons (TouchesListed listed) (step_noted table who me s) (unless_ended x.end.why (λ w. []) rest) (step_fine me s) (by x.end.why rest (turn_fine who n x.me x.after))
+      let rest = steps_in_turn table p n x.me x.after in
+      All-cons (TouchesListed table) (step_noted table p me s) (unless_ended x.end.why (λ w. []) rest) (step_fine me s fit) (by x.end.why rest (turn_fine n x.me x.after (fit_after me s fit)))
     where
       by : (why : Option Why) (rest : List Step) → StepsFine rest → StepsFine (unless_ended why (λ w. []) rest)
       by None rest later = later
       by (Some why) rest later = no_steps
 
-  noted_fine : (p n : ℕ) (o : Option Private) (s : StoreState) → StepsFine (noted_by table p n o s)
-  noted_fine p n None s = no_steps
-  noted_fine p n (Some me) s = turn_fine p n me s
+  noted_fine : (n : ℕ) (o : Option Private) (s : StoreState) → ((me : Private) → o ≡ Some me → IsFit p me) → StepsFine (noted_by table p n o s)
+  noted_fine n None s fit = no_steps
+  noted_fine n (Some me) s fit = turn_fine n me s (fit me refl)
 
-  -- along the actions of a run
-  action_fine : (a : Action) (w : WorldState) → w.devices ≡ table → StepsFine (steps_at a w)
-  action_fine (Key t k) w is = no_steps
-  action_fine (Front t p) w is = no_steps
-  action_fine (Halt p) w is = no_steps
-  action_fine (Reset p) w is = no_steps
-  action_fine (Turn p n) w is = subst (λ (ds : List Device). StepsFine (noted_by ds p n (private_of p w) w.store)) (sym is) (noted_fine p n (private_of p w) w.store)
+-- along the actions of a run
+module _ (table : List Device) where
+  abbrev AllFine : List Step → Type 0
+  AllFine xs = All (TouchesListed table) xs
 
-  all_fine : (acts : List Action) (w : WorldState) → w.devices ≡ table → StepsFine (steps_along acts w)
-  all_fine [] w is = no_steps
-  all_fine (a ∷ rest) w is = All-append (TouchesListed listed) (steps_at a w) (steps_along rest (does a w)) (action_fine a w is) (all_fine rest (does a w) (keeps_devices a w ∙ is))
+  none_noted : AllFine []
+  none_noted = All-nil (TouchesListed table)
+
+  action_fine : (a : Action) (w : WorldState) → w.devices ≡ table → EachIs IsFit w.privates → AllFine (steps_at a w)
+  action_fine (Key t k) w is fit = none_noted
+  action_fine (Front t p) w is fit = none_noted
+  action_fine (Halt p) w is fit = none_noted
+  action_fine (Reset p) w is fit = none_noted
+  action_fine (Turn p n) w is fit = subst (λ (ds : List Device). AllFine (noted_by ds p n (private_of p w) w.store)) (sym is) (noted_fine table p n (private_of p w) w.store (fit p))
+
+  all_fine : (acts : List Action) (w : WorldState) → w.devices ≡ table → EachIs IsFit w.privates → AllFine (steps_along acts w)
+  all_fine [] w is fit = none_noted
+  all_fine (a ∷ rest) w is fit =
+      All-append (TouchesListed table) (steps_at a w) (steps_along rest (does a w)) (action_fine a w is fit)
+      (all_fine rest (does a w) (keeps_devices a w ∙ is) (each_action IsFit always_fit a w fit))
 
 pub runs_touch_listed_devices : RunsTouchListedDevices
-runs_touch_listed_devices b images log = all_fine (addresses b) (all_actions b.quota log) (booted b images) refl
+runs_touch_listed_devices b images log =
+    all_fine (devices_of b.printers b.platters) (all_actions b.quota log) (booted b images) refl
+    (λ p me is. (booted_shows b.partitions p me is, starts_at_home b.partitions p me is))

@@ -9,6 +9,7 @@ use Rattle.b2_access.specs.declared.private.Private.{Private}
 use Rattle.b2_language.specs.Languages.{Ways}
 use Rattle.b2_stmt.specs.Clearing.{asks_access}
 use Rattle.b2_stmt.specs.Plan as stmt
+use Rattle.b2_stmt_device.specs.Plan as stmt_device
 use Rattle.b2_stmt_disk.specs.Plan as stmt_disk
 use Rattle.b2_stmt_file.specs.Plan as stmt_file
 use Rattle.b2_stmt_io.specs.Plan as stmt_io
@@ -20,7 +21,7 @@ use Rattle.b2_sched.specs.declared.choice.Family.{Family}
 use Rattle.b2_sched.specs.declared.choice.Family.TheVariants as family
 
 abbrev pub is_built : ℕ → Bool
-is_built r = stmt_var.is_built r || stmt.is_built r || stmt_io.is_built r || stmt_mat.is_built r || stmt_pack.is_built r || stmt_file.is_built r || stmt_program.is_built r || stmt_disk.is_built r
+is_built r = stmt_var.is_built r || stmt.is_built r || stmt_io.is_built r || stmt_mat.is_built r || stmt_pack.is_built r || stmt_file.is_built r || stmt_program.is_built r || stmt_device.is_built r || stmt_disk.is_built r
 
 -- a statement on variables, and one of control that asks for nothing, is planned at once where it was found
 abbrev pub is_at_once : ℕ → Bool
@@ -36,16 +37,18 @@ family_of r =
     else (if stmt_pack.is_built r then family.Packed
     else (if stmt_file.is_built r then family.Files
     else (if stmt_program.is_built r then family.Programs
-    else family.Disks))))))
+    else (if stmt_device.is_built r then family.Devices
+    else family.Disks)))))))
 
 abbrev pub plan_by : List Device → Family → Private → SeenLent → Planning
 plan_by devices family.Variables me s = stmt_var.plan me s
 plan_by devices family.Control me s = stmt.plan me s
-plan_by devices family.Terminal me s = stmt_io.plan me s
+plan_by devices family.Terminal me s = stmt_io.plan devices me s
 plan_by devices family.Arrays me s = stmt_mat.plan me s
 plan_by devices family.Packed me s = stmt_pack.plan me s
 plan_by devices family.Files me s = stmt_file.plan devices me s
 plan_by devices family.Programs me s = stmt_program.plan devices me s
+plan_by devices family.Devices me s = stmt_device.plan devices me s
 plan_by devices family.Disks me s = stmt_disk.plan devices me s
 
 abbrev pub finish_by : Family → Access → Answer → Private → SeenLent → Finishing
@@ -56,6 +59,7 @@ finish_by family.Arrays x a me s = stmt_mat.finish x a me s
 finish_by family.Packed x a me s = stmt_pack.finish x a me s
 finish_by family.Files x a me s = stmt_file.finish x a me s
 finish_by family.Programs x a me s = stmt_program.finish x a me s
+finish_by family.Devices x a me s = stmt_device.finish x a me s
 finish_by family.Disks x a me s = stmt_disk.finish x a me s
 
 abbrev pub plan : List Device → ℕ → Private → SeenLent → Planning

@@ -8,6 +8,9 @@ use Rattle.b2_language.specs.Languages.{AreLawful, AskForListed}
 use Rattle.b2_stmt.specs.Clearing.{asks_access}
 use Rattle.b2_stmt.specs.Plan as stmt
 use Rattle.b2_stmt.proofs.LeftAlone as stmt_laws
+use Rattle.b2_stmt_device.specs.Plan as stmt_device
+use Rattle.b2_stmt_device.proofs.LeftAlone as stmt_device_laws
+use Rattle.b2_stmt_device.proofs.Listed as stmt_device_listed
 use Rattle.b2_stmt_disk.specs.Plan as stmt_disk
 use Rattle.b2_stmt_disk.proofs.LeftAlone as stmt_disk_laws
 use Rattle.b2_stmt_disk.proofs.Listed as stmt_disk_listed
@@ -16,6 +19,7 @@ use Rattle.b2_stmt_file.proofs.LeftAlone as stmt_file_laws
 use Rattle.b2_stmt_file.proofs.Listed as stmt_file_listed
 use Rattle.b2_stmt_io.specs.Plan as stmt_io
 use Rattle.b2_stmt_io.proofs.LeftAlone as stmt_io_laws
+use Rattle.b2_stmt_io.proofs.Listed as stmt_io_listed
 use Rattle.b2_stmt_mat.specs.Plan as stmt_mat
 use Rattle.b2_stmt_mat.proofs.LeftAlone as stmt_mat_laws
 use Rattle.b2_stmt_pack.specs.Plan as stmt_pack
@@ -26,29 +30,31 @@ use Rattle.b2_stmt_program.proofs.Listed as stmt_program_listed
 use Rattle.b2_stmt_var.specs.Plan as stmt_var
 use Rattle.b2_stmt_var.proofs.LeftAlone as stmt_var_laws
 use Rattle.b2_sched.specs.Choice.{basic, family_of, finish_by, is_at_once, is_built, plan_by}
-use Rattle.b2_sched.specs.Legal.{arrays_legally, control_legally, disks_legally, files_legally, packed_legally, programs_legally, terminal_legally, variables_legally}
-use Rattle.b2_sched.specs.Listed.{arrays_listed, control_listed, packed_listed, terminal_listed, variables_listed}
+use Rattle.b2_sched.specs.Legal.{arrays_legally, control_legally, devices_legally, disks_legally, files_legally, packed_legally, programs_legally, terminal_legally, variables_legally}
+use Rattle.b2_sched.specs.Listed.{arrays_listed, control_listed, packed_listed, variables_listed}
 use Rattle.b2_sched.specs.declared.choice.Family.{Family}
 use Rattle.b2_sched.specs.declared.choice.Family.TheVariants as family
 
 plan_legally : (devices : List Device) (f : Family) → PlansLegally (plan_by devices f)
 plan_legally devices family.Variables = variables_legally
 plan_legally devices family.Control = control_legally
-plan_legally devices family.Terminal = terminal_legally
+plan_legally devices family.Terminal = terminal_legally devices
 plan_legally devices family.Arrays = arrays_legally
 plan_legally devices family.Packed = packed_legally
 plan_legally devices family.Files = files_legally devices
 plan_legally devices family.Programs = programs_legally devices
+plan_legally devices family.Devices = devices_legally devices
 plan_legally devices family.Disks = disks_legally devices
 
 leave_the_rest : (devices : List Device) (f : Family) → LeaveTheRest (plan_by devices f) (finish_by f)
 leave_the_rest devices family.Variables = stmt_var_laws.leave_the_rest
 leave_the_rest devices family.Control = stmt_laws.leave_the_rest
-leave_the_rest devices family.Terminal = stmt_io_laws.leave_the_rest
+leave_the_rest devices family.Terminal = stmt_io_laws.leave_the_rest devices
 leave_the_rest devices family.Arrays = stmt_mat_laws.leave_the_rest
 leave_the_rest devices family.Packed = stmt_pack_laws.leave_the_rest
 leave_the_rest devices family.Files = stmt_file_laws.leave_the_rest devices
 leave_the_rest devices family.Programs = stmt_program_laws.leave_the_rest devices
+leave_the_rest devices family.Devices = stmt_device_laws.leave_the_rest devices
 leave_the_rest devices family.Disks = stmt_disk_laws.leave_the_rest devices
 
 pub basic_is_lawful : (devices : List Device) → AreLawful (basic devices)
@@ -57,20 +63,21 @@ basic_is_lawful devices = record { no_list = refl; plans_legally = λ r. plan_le
 plan_listed : (f : Family) → PlansListed (λ devices. plan_by devices f)
 plan_listed family.Variables = variables_listed
 plan_listed family.Control = control_listed
-plan_listed family.Terminal = terminal_listed
+plan_listed family.Terminal = stmt_io_listed.asked_are_listed
 plan_listed family.Arrays = arrays_listed
 plan_listed family.Packed = packed_listed
 plan_listed family.Files = stmt_file_listed.asked_are_listed
 plan_listed family.Programs = stmt_program_listed.asked_are_listed
+plan_listed family.Devices = stmt_device_listed.asked_are_listed
 plan_listed family.Disks = stmt_disk_listed.asked_are_listed
 
 pub basic_asks_for_listed : AskForListed basic
 basic_asks_for_listed r = plan_listed (family_of r)
 
-built_by : (a b c d e f g h i : Bool) → (a || (b && not c)) ≡ true → (a || b || d || e || f || g || h || i) ≡ true
-built_by true b c d e f g h i is = refl
-built_by false true c d e f g h i is = refl
-built_by false false c d e f g h i is = absurd (true≢false (sym is))
+built_by : (a b c d e f g h i j : Bool) → (a || (b && not c)) ≡ true → (a || b || d || e || f || g || h || i || j) ≡ true
+built_by true b c d e f g h i j is = refl
+built_by false true c d e f g h i j is = refl
+built_by false false c d e f g h i j is = absurd (true≢false (sym is))
 
 pub at_once_is_built : (devices : List Device) (r : ℕ) → is_at_once r ≡ true → is_built r ≡ true
-at_once_is_built devices r is = built_by (stmt_var.is_built r) (stmt.is_built r) (asks_access r) (stmt_io.is_built r) (stmt_mat.is_built r) (stmt_pack.is_built r) (stmt_file.is_built r) (stmt_program.is_built r) (stmt_disk.is_built r) is
+at_once_is_built devices r is = built_by (stmt_var.is_built r) (stmt.is_built r) (asks_access r) (stmt_io.is_built r) (stmt_mat.is_built r) (stmt_pack.is_built r) (stmt_file.is_built r) (stmt_program.is_built r) (stmt_device.is_built r) (stmt_disk.is_built r) is

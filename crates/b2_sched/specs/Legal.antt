@@ -12,19 +12,20 @@ use Rattle.b2_access.specs.declared.accesses.Access.{Access}
 use Rattle.b2_access.specs.declared.devices.Device.{Device}
 use Rattle.b2_access.specs.declared.private.Private.{Private}
 use Rattle.b2_access.proofs.Courses.{each_course}
-use Rattle.b2_access.proofs.OwnTerminal.{at_terminal_is_legal}
 use Rattle.b2_access.proofs.Working.{as_it_comes}
 use Rattle.b2_stmt.specs.Clearing.{asked_access, asks_to_erase}
 use Rattle.b2_stmt.specs.Plan as stmt
 use Rattle.b2_stmt_mat.specs.Plan as stmt_mat
 use Rattle.b2_stmt_pack.specs.Plan as stmt_pack
 use Rattle.b2_stmt_var.specs.Plan as stmt_var
+use Rattle.b2_stmt_device.specs.Plan as stmt_device
+use Rattle.b2_stmt_device.proofs.Legal as stmt_device_laws
 use Rattle.b2_stmt_disk.specs.Plan as stmt_disk
 use Rattle.b2_stmt_disk.proofs.Legal as stmt_disk_laws
 use Rattle.b2_stmt_file.specs.Plan as stmt_file
 use Rattle.b2_stmt_file.proofs.Legal as stmt_file_laws
 use Rattle.b2_stmt_io.specs.Plan as stmt_io
-use Rattle.b2_stmt_io.proofs.Planned as stmt_io_planned
+use Rattle.b2_stmt_io.proofs.Legal as stmt_io_laws
 use Rattle.b2_stmt_program.specs.Plan as stmt_program
 use Rattle.b2_stmt_program.proofs.Legal as stmt_program_laws
 
@@ -73,13 +74,17 @@ pub packed_legally : PlansLegally stmt_pack.plan
 packed_legally me s =
     as_it_comes IsLegalPlan me s (stmt_pack.works me s) (each_course stmt_pack.is_refused stops (stmt_pack.does me s) me s (λ w. IsLegalPlan (planned_of w)) tt tt (λ p is u. tt))
 
--- statements at the terminal ask for lines of no text at all
-pub terminal_legally : PlansLegally stmt_io.plan
-terminal_legally me s = as_it_comes IsLegalPlan me s (stmt_io.works me s) (stmt_io_planned.each_planned me s IsLegalPlan tt tt (λ code. tt) (λ a is. at_terminal_is_legal me.term a is))
+-- statements at the terminal
+pub terminal_legally : (devices : List Device) → PlansLegally (stmt_io.plan devices)
+terminal_legally = stmt_io_laws.plans_legally
 
--- statements on disks
+-- on disks
 pub disks_legally : (devices : List Device) → PlansLegally (stmt_disk.plan devices)
 disks_legally = stmt_disk_laws.plans_legally
+
+-- that take devices and free them
+pub devices_legally : (devices : List Device) → PlansLegally (stmt_device.plan devices)
+devices_legally = stmt_device_laws.plans_legally
 
 -- on data files
 pub files_legally : (devices : List Device) → PlansLegally (stmt_file.plan devices)

@@ -6,8 +6,11 @@ pub mod Turns
 pub mod Marking
 pub mod Presence
 pub mod World
+pub mod EachStep
 pub mod Start
 pub mod Laws
 pub mod Groups
 pub mod Devices
+pub mod Holding
+pub mod Files
 pub mod Clean

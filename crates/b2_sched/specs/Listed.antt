@@ -1,13 +1,11 @@
--- Statements on variables, on arrays, on packed fields, of control and at the terminal ask for no device, so the table lists all that they ask for.
-use Rattle.std.proofs.Common.{ℕ, ◌==◌, ap, subst, sym, List, Option, Some, None}
+-- Statements on variables, on arrays, on packed fields and of control ask for no device, so the table lists all that they ask for.
+use Rattle.std.proofs.Common.{ℕ, ◌==◌, List, Option, Some, None}
 use Rattle.b2_atom.specs.Tree.{Trees}
 use Rattle.b2_atom.specs.Tree.Trees.{Done, Put, In}
 use Rattle.b2_atom.specs.declared.rows.TheConstants as row
 use Rattle.b2_access.specs.Lending.{SeenLent}
-use Rattle.b2_access.specs.OwnDevices.{AreListed, PlannedListed, PlansListed, ReachesListed}
-use Rattle.b2_access.specs.OwnTerminal.{IsAtTerminal}
+use Rattle.b2_access.specs.OwnDevices.{PlannedListed, PlansListed, ReachesListed}
 use Rattle.b2_access.specs.Planning.{Planning}
-use Rattle.b2_access.specs.Reach.{DeviceReach, Reach}
 use Rattle.b2_access.specs.Working.{planned_of, stops}
 use Rattle.b2_access.specs.declared.accesses.Access.{Access}
 use Rattle.b2_access.specs.declared.devices.Device.{Device}
@@ -20,8 +18,6 @@ use Rattle.b2_stmt.specs.Plan as stmt
 use Rattle.b2_stmt_mat.specs.Plan as stmt_mat
 use Rattle.b2_stmt_pack.specs.Plan as stmt_pack
 use Rattle.b2_stmt_var.specs.Plan as stmt_var
-use Rattle.b2_stmt_io.specs.Plan as stmt_io
-use Rattle.b2_stmt_io.proofs.Planned as stmt_io_planned
 
 module _ (devices : List Device) (who : ℕ) where
   abbrev ListedIfAny : Option Access → Type 0
@@ -46,10 +42,6 @@ module _ (devices : List Device) (who : ℕ) where
   by_any None s me e h = tt
   by_any (Some a) s me e h = h
 
-  -- an access that reaches a terminal and nothing else
-  at_terminal_listed : (t : ℕ) (a : Access) → IsAtTerminal t a → ReachesListed devices who a
-  at_terminal_listed t a is = subst (λ (ds : List DeviceReach). AreListed devices who ds) (sym (ap (λ (r : Reach). r.devices) is)) tt
-
 -- statements of control
 pub control_listed : PlansListed (λ devices. stmt.plan)
 control_listed devices me s =
@@ -72,9 +64,3 @@ pub packed_listed : PlansListed (λ devices. stmt_pack.plan)
 packed_listed devices me s =
     as_it_comes (PlannedListed devices me.part) me s (stmt_pack.works me s)
     (each_course stmt_pack.is_refused stops (stmt_pack.does me s) me s (λ w. PlannedListed devices me.part (planned_of w)) tt tt (λ p is u. tt))
-
--- statements at the terminal
-pub terminal_listed : PlansListed (λ devices. stmt_io.plan)
-terminal_listed devices me s =
-    as_it_comes (PlannedListed devices me.part) me s (stmt_io.works me s)
-    (stmt_io_planned.each_planned me s (PlannedListed devices me.part) tt tt (λ code. tt) (λ a is. at_terminal_listed devices me.part me.term a is))

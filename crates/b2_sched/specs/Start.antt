@@ -1,18 +1,21 @@
 -- The world of a boot.
-use Rattle.std.specs.Prelude.{◌≡◌, ℕ, ◌*◌, ◌≤◌, Bool, true, List, [], ◌∷◌, ◌++◌, length, map, Option, Some, None}
+use Rattle.std.specs.Prelude.{◌≡◌, ℕ, ◌*◌, ◌≤◌, Bool, true, false, List, [], ◌∷◌, ◌++◌, length, map, Option, Some, None}
 use Rattle.std.specs.List.{list_all}
 use Rattle.b2_base.specs.Byte as byte
 use Rattle.b2_alpha.specs.Values.{value_of}
 use Rattle.b2_atom.specs.declared.words.TheConstants as word
+use Rattle.b2_access.specs.declared.devices.Device.{Device}
 use Rattle.b2_access.specs.declared.private.Private.{Private}
-use Rattle.b2_access.specs.Devices.{are_distinct, platter_device}
+use Rattle.b2_access.specs.Devices.{are_distinct}
 use Rattle.b2_access.specs.Partition.{at_start}
 use Rattle.b2_access.specs.Store.{StoreState}
 use Rattle.b2_audit.specs.Marks.{unmarked}
 use Rattle.b2_audit.specs.Steps.{IsPartition, IsTerminal}
-use Rattle.b2_store.specs.Start.{Areas, text_row, borrow_row, globals_row, idle_row, with_keys, free_row}
+use Rattle.b2_store.specs.Start.{Areas, text_row, borrow_row, globals_row, idle_row, blank_row, with_keys, free_row}
 use Rattle.b2_boot.specs.Boots.{BootState, is_program_name}
 use Rattle.b2_boot.specs.declared.boot.BootPartition.{BootPartition}
+use Rattle.b2_boot.specs.declared.boot.BootPlatter.{BootPlatter}
+use Rattle.b2_boot.specs.declared.boot.BootPrinter.{BootPrinter}
 use Rattle.b2_boot.specs.declared.boot.BootTerminal.{BootTerminal}
 use Rattle.b2_sched.specs.World.{WorldState}
 
@@ -45,8 +48,25 @@ front_of_boot t = (t.number, t.front)
 abbrev pub Images : Type 0
 Images = List (List ℕ)
 
+-- the addresses of printers, and those of platters
+abbrev pub printer_addresses : List BootPrinter → List (List ℕ)
+printer_addresses printers = map (λ p. p.address) printers
+
+abbrev pub platter_addresses : List BootPlatter → List (List ℕ)
+platter_addresses platters = map (λ p. p.address) platters
+
+-- the devices of a boot: its printers and then its platters, each for all partitions or for one alone
+abbrev pub printer_device : BootPrinter → Device
+printer_device p = record { addr = p.address; printer = true; only = p.only }
+
+abbrev pub platter_device : BootPlatter → Device
+platter_device p = record { addr = p.address; printer = false; only = p.only }
+
+abbrev pub devices_of : List BootPrinter → List BootPlatter → List Device
+devices_of printers platters = map printer_device printers ++ map platter_device platters
+
 abbrev pub addresses : BootState → List (List ℕ)
-addresses b = map (λ p. p.address) b.platters
+addresses b = map (λ d. d.addr) (devices_of b.printers b.platters)
 
 -- a program's name, where there is one, can stand in a line
 abbrev pub may_start : Option (List ℕ) → Bool
@@ -55,27 +75,28 @@ may_start (Some name) = is_program_name name
 
 -- at most twelve devices, each address once, and programs whose names can stand in a line
 pub record CanStart (b : BootState) : Type 0 where
-  pub few : length b.platters ≤ 12
+  pub few : length (devices_of b.printers b.platters) ≤ 12
   pub distinct : are_distinct (addresses b) ≡ true
   pub programs : list_all (λ p. may_start p.program) b.partitions ≡ true
 
--- empty texts, nobody inside, no `@` variables, idle terminals, no printers, the platters with their images, and nobody who holds one
+-- empty texts, nobody inside, no `@` variables, idle terminals, printers that printed nothing, the platters with their images, and
+-- nobody who holds a device
 abbrev pub store_booted : BootState → Images → StoreState
 store_booted b images = record {
   texts = map text_row (map areas_of b.partitions);
   borrows = map borrow_row (map areas_of b.partitions);
   globals = map globals_row (map areas_of b.partitions);
   terminals = map idle_row (map front_of_boot b.terminals);
-  printers = [];
-  platters = with_keys (addresses b) images;
-  hogs = map free_row (addresses b);
+  printers = map blank_row (printer_addresses b.printers);
+  platters = with_keys (platter_addresses b.platters) images;
+  hogs = map free_row (printer_addresses b.printers) ++ map free_row (platter_addresses b.platters);
 }
 
 -- THE WORLD OF A BOOT: each partition as it starts, and nothing marked or tallied
 abbrev pub booted : BootState → Images → WorldState
 booted b images = record {
   quota = b.quota;
-  devices = map platter_device (addresses b);
+  devices = devices_of b.printers b.platters;
   privates = map private_row b.partitions;
   store = store_booted b images;
   marks = unmarked;

@@ -26,6 +26,7 @@ impl Language for Basic {
             || b2_stmt_pack::is_built(row)
             || b2_stmt_file::is_built(row)
             || b2_stmt_program::is_built(row)
+            || b2_stmt_device::is_built(row)
             || b2_stmt_disk::is_built(row)
     }
 
@@ -44,6 +45,7 @@ impl Language for Basic {
             Family::Packed => b2_stmt_pack::plan(alloc, me, lent, devices),
             Family::Files => b2_stmt_file::plan(alloc, me, lent, devices),
             Family::Programs => b2_stmt_program::plan(alloc, me, lent, devices),
+            Family::Devices => b2_stmt_device::plan(alloc, me, lent, devices),
             Family::Disks => b2_stmt_disk::plan(alloc, me, lent, devices),
         }
     }
@@ -64,6 +66,7 @@ impl Language for Basic {
             Family::Packed => b2_stmt_pack::finish(alloc, me, lent, access, answer),
             Family::Files => b2_stmt_file::finish(alloc, me, lent, access, answer),
             Family::Programs => b2_stmt_program::finish(alloc, me, lent, access, answer),
+            Family::Devices => b2_stmt_device::finish(alloc, me, lent, access, answer),
             Family::Disks => b2_stmt_disk::finish(alloc, me, lent, access, answer),
         }
     }
@@ -94,11 +97,12 @@ impl Language for Basic {
         match family_of(found.unit.row) {
             Family::Variables => b2_stmt_var::plan(alloc, me, lent, devices),
             Family::Control => b2_stmt::plan(alloc, me, lent, devices),
-            Family::Terminal => b2_stmt_io::plan_found(alloc, me, lent.home, found.unit),
+            Family::Terminal => b2_stmt_io::plan_found(alloc, me, lent.home, devices, found.unit),
             Family::Arrays => b2_stmt_mat::plan(alloc, me, lent, devices),
             Family::Packed => b2_stmt_pack::plan(alloc, me, lent, devices),
             Family::Files => b2_stmt_file::plan(alloc, me, lent, devices),
             Family::Programs => b2_stmt_program::plan(alloc, me, lent, devices),
+            Family::Devices => b2_stmt_device::plan(alloc, me, lent, devices),
             Family::Disks => b2_stmt_disk::plan(alloc, me, lent, devices),
         }
     }

@@ -19,6 +19,8 @@ pub enum Family {
     Files,
     /// Statements on programs on disks.
     Programs,
+    /// Statements that take devices and free them.
+    Devices,
     /// Statements on disks.
     Disks,
 }
@@ -41,6 +43,8 @@ pub fn family_of(row: u16) -> Family
         Family::Files
     } else if b2_stmt_program::is_built(row) {
         Family::Programs
+    } else if b2_stmt_device::is_built(row) {
+        Family::Devices
     } else {
         Family::Disks
     }

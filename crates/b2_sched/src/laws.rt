@@ -4,7 +4,9 @@ ghost use Rattle.b2_boot.specs.Alone.{alone};
 ghost use Rattle.b2_boot.specs.Boots.{BootState, IsGood};
 ghost use Rattle.b2_sched.specs.Clean.{CleanOnesAreAsAlone, MarksSayWhoIsClean, RunsMarkTheirSteps};
 ghost use Rattle.b2_sched.specs.Devices.{RunsTouchListedDevices};
+ghost use Rattle.b2_sched.specs.Files.{FilesOutlastTurns, HeldFilesStay};
 ghost use Rattle.b2_sched.specs.Groups.{CleanGroupsAreAsAlone, GroupsRelyOnTheirOwn, TurnsChangeTheirOwn};
+ghost use Rattle.b2_sched.specs.Holding.{HeldUntilFreed, OthersLeaveHeld, OthersReadNothing, OthersWait};
 ghost use Rattle.b2_sched.specs.Laws.{RunsByActions, LeavesOthers, KeepsPresent, RoundsAscend, CountsTurns, NoPlaceIsKept, RunsKeepToTheirGrant, TurnsCountAllButOne};
 ghost use Rattle.b2_sched.specs.Marking.{TurnsMarkTheirSteps};
 ghost use Rattle.b2_sched.specs.Start.{CanStart};
@@ -99,7 +101,40 @@ pub fn law_a_group_can_start_alone()
     ensures { (b : BootState) (group : ℕ → Bool) → CanStart b → CanStart (alone group b) }
 {}
 
-/// Whatever was run from a boot, each object of a device that a step touched has an address that the boot lists.
+/// Whatever was run from a boot, each object of a device that a step touched belongs to one that the boot lists for its partition:
+/// for all of them, or for this one alone.
 pub fn law_a_run_touches_listed_devices()
     ensures { RunsTouchListedDevices }
+{}
+
+/// Whatever happens, and whichever partitions take turns, from sound platters a data file keeps its records, up to a place and up to its
+/// end mark, where no step of these turns asks for an access that is about the file.
+pub fn law_a_file_outlasts_turns()
+    ensures { FilesOutlastTurns }
+{}
+
+/// So it does on a disk that a partition holds, whatever others ask for.
+pub fn law_files_on_a_held_disk_stay()
+    ensures { HeldFilesStay }
+{}
+
+/// A device that a partition holds is held by it still, has the same image, and printed the same, after whatever others did.
+pub fn law_others_leave_a_held_device()
+    ensures { OthersLeaveHeld }
+{}
+
+/// Whatever a device has, all else comes out the same after whatever others did, while a partition holds the device: own states, texts,
+/// terminals, other devices, marks and counts.
+pub fn law_others_read_nothing_of_a_held_device()
+    ensures { OthersReadNothing }
+{}
+
+/// Each step of another that asks for a held device, and doesn't free it, is answered Wait.
+pub fn law_others_wait_for_a_held_device()
+    ensures { OthersWait }
+{}
+
+/// Whatever happens, a device is held by the same partition until one of its own steps asks for it to be freed, and that is done.
+pub fn law_a_device_is_held_until_it_is_freed()
+    ensures { HeldUntilFreed }
 {}

@@ -1,14 +1,15 @@
 // What a world starts with.
-ghost use Rattle.std.specs.Prelude.{◌≡◌, IfOk, OnOk, map, true};
+ghost use Rattle.std.specs.Prelude.{◌≡◌, ◌++◌, IfOk, OnOk, map, true};
 ghost use Rattle.std.specs.List.{list_all};
 ghost use Rattle.b2_boot.specs.Boots.{is_program_name};
 ghost use Rattle.b2_sched.specs.Start.{AreNumbered, in_bytes, load_line, may_start, private_row, starting_line, areas_of, front_of_boot};
+ghost use Rattle.b2_sched.specs.Start.{devices_of, platter_addresses, platter_device, printer_addresses, printer_device};
 
-use b2_access::Private;
+use b2_access::{Device, Private};
 use b2_alpha::value_len;
 use b2_atom::{Atoms, words};
 use b2_base::{Addr, Name8, NoMemory, Part, Term};
-use b2_boot::{BootPartition, BootPlatter, BootTerminal};
+use b2_boot::{BootPartition, BootPlatter, BootPrinter, BootTerminal};
 use b2_store::Rows;
 use std::alloc::Global;
 
@@ -97,13 +98,66 @@ pub fn fronts_of(alloc: Global, terminals: &[BootTerminal]) -> Result<Vec<(Term,
     Ok(fronts)
 }
 
+/// The address of each printer.
+pub fn printer_addresses(alloc: Global, printers: &[BootPrinter]) -> Result<Vec<Addr>, NoMemory>
+    ensures { IfOk result (λ addresses. addresses.items ≡ printer_addresses printers.now) }
+{
+    let mut addresses = Vec::new(alloc);
+    for p in printers {
+        addresses.push(p.address)?;
+    }
+    Ok(addresses)
+}
+
 /// The address of each platter.
-pub fn addresses_of(alloc: Global, platters: &[BootPlatter]) -> Result<Vec<Addr>, NoMemory>
-    ensures { IfOk result (λ addresses. addresses.items ≡ map (λ p. p.address) platters.now) }
+pub fn platter_addresses(alloc: Global, platters: &[BootPlatter]) -> Result<Vec<Addr>, NoMemory>
+    ensures { IfOk result (λ addresses. addresses.items ≡ platter_addresses platters.now) }
 {
     let mut addresses = Vec::new(alloc);
     for p in platters {
         addresses.push(p.address)?;
     }
     Ok(addresses)
+}
+
+/// Adds printers to devices.
+fn add_printers(devices: &mut Vec<Device>, printers: &[BootPrinter]) -> Result<(), NoMemory>
+    ensures { OnOk result (devices.new.items ≡ devices.old.items ++ map printer_device printers.now) }
+{
+    for printer in printers {
+        devices.push(Device {
+            addr: printer.address,
+            printer: true,
+            only: printer.only,
+        })?;
+    }
+    Ok(())
+}
+
+/// Adds platters to devices.
+fn add_platters(devices: &mut Vec<Device>, platters: &[BootPlatter]) -> Result<(), NoMemory>
+    ensures { OnOk result (devices.new.items ≡ devices.old.items ++ map platter_device platters.now) }
+{
+    for platter in platters {
+        devices.push(Device {
+            addr: platter.address,
+            printer: false,
+            only: platter.only,
+        })?;
+    }
+    Ok(())
+}
+
+/// Printers and then platters as devices, each for all partitions or for one alone.
+pub fn devices_of(
+    alloc: Global,
+    printers: &[BootPrinter],
+    platters: &[BootPlatter],
+) -> Result<Vec<Device>, NoMemory>
+    ensures { IfOk result (λ devices. devices.items ≡ devices_of printers.now platters.now) }
+{
+    let mut devices = Vec::new(alloc);
+    add_printers(&mut devices, printers)?;
+    add_platters(&mut devices, platters)?;
+    Ok(devices)
 }

@@ -6,7 +6,9 @@ ghost use Rattle.b2_sched.specs.Start.{CanStart, booted};
 ghost use Rattle.b2_sched.specs.World.{does, does_all, turns_from, rounds, happens, ran, GivesTurns, Key, Front, Halt, Reset, Turn};
 
 use crate::basic::Basic;
-use crate::start::{addresses_of, areas_of, fronts_of, privates_of};
+use crate::start::{
+    areas_of, devices_of, fronts_of, platter_addresses, printer_addresses, privates_of,
+};
 use b2_access::{DeviceTable, Private};
 use b2_audit::{Seen, Watched};
 use b2_base::{NoMemory, Part, Term};
@@ -51,20 +53,19 @@ impl Model for World {
 
 impl World {
     /// The world of a boot and of the images of its platters, in its order: each partition as it starts, empty texts, idle
-    /// terminals, devices that nobody holds, and nothing marked or counted.
+    /// terminals, printers that printed nothing, devices that nobody holds, and nothing marked or counted.
     pub fn boot(alloc: Global, b: &Boot, platters: Vec<Platter>) -> Result<World, NoMemory>
         requires start { CanStart b.now }
         requires as_many { length b.now.platters ≡ length platters.items }
         ensures started { IfOk result (λ w. w ≡ booted b.now platters.items) }
     {
         let privates = privates_of(alloc, &b.partitions)?;
-        let addresses = addresses_of(alloc, &b.platters)?;
-        let devices = DeviceTable::of_platters(alloc, &addresses)?;
+        let devices = DeviceTable::new(devices_of(alloc, &b.printers, &b.platters)?);
         let start = StoreBoot {
             partitions: areas_of(alloc, &b.partitions)?,
             terminals: fronts_of(alloc, &b.terminals)?,
-            printers: Vec::new(alloc),
-            platters: addresses,
+            printers: printer_addresses(alloc, &b.printers)?,
+            platters: platter_addresses(alloc, &b.platters)?,
         };
         let stores = Stores::new(alloc, &start, platters)?;
         let seen = Seen::new(alloc);

@@ -1,0 +1,83 @@
+-- What a partition can rely on that holds a device, whichever others take turns.
+use Rattle.std.specs.Prelude.{◌≡◌, ◌≢◌, ◌⊎◌, ℕ, true, List, [], ◌∷◌, Some}
+use Rattle.b2_access.specs.AccessRows.{reach}
+use Rattle.b2_access.specs.AnswerKinds.{is_wait}
+use Rattle.b2_access.specs.Holding.{AgreeBut, Asks, IsAddressIn, device_of}
+use Rattle.b2_access.specs.Store.{StoreState, content}
+use Rattle.b2_access.specs.declared.accesses.Access.{Access}
+use Rattle.b2_access.specs.declared.accesses.Access.TheVariants as access
+use Rattle.b2_access.specs.declared.accesses.Answer.TheVariants as answer
+use Rattle.b2_access.specs.declared.devices.Device.{Device}
+use Rattle.b2_access.specs.declared.objects.Object.{Object}
+use Rattle.b2_access.specs.declared.objects.Object.TheVariants as object
+use Rattle.b2_access.specs.declared.private.Private.{Private}
+use Rattle.b2_boot.specs.Boots.{BootState}
+use Rattle.b2_boot.specs.declared.log.Event.{Event}
+use Rattle.b2_machine.specs.Touched.{asking}
+use Rattle.b2_store.specs.DiskWork.{serves}
+use Rattle.b2_sched.specs.Choice.{basic}
+use Rattle.b2_sched.specs.EachStep.{AtEachStep, AtSomeStep}
+use Rattle.b2_sched.specs.Start.{Images, booted}
+use Rattle.b2_sched.specs.World.{WorldState, Action, Turn, does_all, ran}
+
+-- a partition holds a device
+abbrev pub IsHeld : List ℕ → ℕ → StoreState → Type 0
+IsHeld a p s = content s (object.Hog a) ≡ Some (Some p)
+
+-- a world to which a boot and a log lead
+abbrev pub IsReached : WorldState → Type 0
+IsReached w = (b : BootState) × (images : Images) × (log : List Event) × (w ≡ ran log (booted b images))
+
+-- nothing that happens is a turn of a partition: keys come, others are in front, are halted or reset, or take turns
+abbrev pub IsOfOthers : ℕ → Action → Type 0
+IsOfOthers p (Turn q n) = q ≢ p
+IsOfOthers p x = Unit {0}
+
+abbrev pub AreOfOthers : ℕ → List Action → Type 0
+AreOfOthers p [] = Unit {0}
+AreOfOthers p (x ∷ xs) = IsOfOthers p x × AreOfOthers p xs
+
+-- A device that a partition holds is held by it still, has the same image, and printed the same, after whatever others did.
+abbrev pub OthersLeaveHeld : Type 0
+OthersLeaveHeld =
+    (w : WorldState) (p : ℕ) (a : List ℕ) (others : List Action) (o : Object) → IsReached w → IsHeld a p w.store → AreOfOthers p others → device_of o ≡ Some a
+    → content (does_all others w).store o ≡ content w.store o
+
+-- a world with another store
+abbrev pub with_store : StoreState → WorldState → WorldState
+with_store s w = record w { store = s }
+
+-- two worlds that have all in common but what a device has: its image, or what it printed
+abbrev pub WorldsAgreeBut : List ℕ → WorldState → WorldState → Type 0
+WorldsAgreeBut a w v = (with_store v.store w ≡ v) × AgreeBut a w.store v.store
+
+-- And whatever the device has, all else comes out the same after whatever others did: own states, texts, terminals, other devices, marks
+-- and counts.
+abbrev pub OthersReadNothing : Type 0
+OthersReadNothing =
+    (w v : WorldState) (p : ℕ) (a : List ℕ) (others : List Action) → IsReached w → IsHeld a p w.store → AreOfOthers p others → WorldsAgreeBut a w v
+    → WorldsAgreeBut a (does_all others w) (does_all others v)
+
+-- an access of a step that reaches a device, and doesn't free it, is answered Wait
+abbrev pub Waits : List ℕ → List Device → Private → StoreState → Type 0
+Waits a devices me s =
+    let x = asking (basic devices) me s in
+    (y : Access) → x.access ≡ Some y → Asks a (reach y).devices → is_wait (serves s x.who y).answer ≡ true
+
+-- So is each such access of the others.
+abbrev pub OthersWait : Type 0
+OthersWait = (w : WorldState) (p : ℕ) (a : List ℕ) (others : List Action) → IsReached w → IsHeld a p w.store → AreOfOthers p others → AtEachStep (Waits a) others w
+
+-- a step of a partition that holds a device asks for that to be freed, and it is done
+pub record Frees (a : List ℕ) (p : ℕ) (devices : List Device) (me : Private) (s : StoreState) : Type 0 where
+  pub own : me.part ≡ p
+  pub held : IsHeld a p s
+  pub addresses : List (List ℕ)
+  pub asked : (asking (basic devices) me s).access ≡ Some (access.CloseDevices addresses)
+  pub named : IsAddressIn a addresses
+  pub done : (serves s p (access.CloseDevices addresses)).answer ≡ answer.Done
+
+-- Whatever happens, a device is held by the same partition until one of its own steps frees it.
+abbrev pub HeldUntilFreed : Type 0
+HeldUntilFreed =
+    (w : WorldState) (p : ℕ) (a : List ℕ) (between : List Action) → IsReached w → IsHeld a p w.store → IsHeld a p (does_all between w).store ⊎ AtSomeStep (Frees a p) between w
