@@ -15,13 +15,14 @@ use Rattle.b2_sched.proofs.WorldMarks.{who_is_clean}
 use Rattle.b2_sched.specs.Start.{AreNumbered, Images, booted}
 use Rattle.b2_sched.specs.World.{ran}
 use Rattle.b2_mvp.specs.Groups.{GroupsShowAsAlone, ListsTheClean}
-use Rattle.b2_mvp.specs.Outputs.{image, numbers, transcript}
+use Rattle.b2_mvp.specs.Outputs.{image, numbers, printout, transcript}
 
--- the transcript of a terminal and the image of a platter are functions of what the store has there
+-- the transcript of a terminal, what a printer printed and the image of a platter are functions of what the store has there
 pub groups_show : (out : List ℕ) (b : BootState) (images : Images) (log : List Event) → GroupsShowAsAlone out b images log
 groups_show out b images log g clean =
     let same = (as_alone g b images log clean).1 in (
       (λ t not_foul. ap (transcript out t) (same (object.Terminal t) (λ outside. outside) not_foul)),
+      (λ a not_foul. ap (printout out a) (same (object.Printer a) (λ outside. outside) not_foul)),
       (λ a not_foul. ap (image out a) (same (object.Platter a) (λ outside. outside) not_foul)),
     )
 

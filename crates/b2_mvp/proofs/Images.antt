@@ -19,7 +19,7 @@ left_good ps i p lt h =
     (and_parts (is_platter (get_or ps i p)) (list_all is_platter (drop (i + 1) ps)) (subst (λ (l : List BootPlatter). list_all is_platter l ≡ true) (drop_more ps i p lt) h)).1
 
 -- those so far, with one more
-pub taken_more : (ps : List BootPlatter) (i : ℕ) (p : BootPlatter) → i < length ps → p ≡ get_or ps i p → take i ps ++ p ∷ [] ≡ take (i + 1) ps
+pub taken_more : {A : Type 0} (ps : List A) (i : ℕ) (p : A) → i < length ps → p ≡ get_or ps i p → take i ps ++ p ∷ [] ≡ take (i + 1) ps
 taken_more ps i p lt is = ap (λ q. take i ps ++ q ∷ []) is ∙ sym (take_more ps i p lt)
 
 one_more_pair : (files : Option Files) (ps : List BootPlatter) (images : Images) (p : BootPlatter) (image : List ℕ) → HaveImages files ps images → HasImage files p image
@@ -35,7 +35,7 @@ have_more files ps images i p image lt is so_far has =
     subst (λ (l : List BootPlatter). HaveImages files l (images ++ image ∷ [])) (taken_more ps i p lt is) (one_more_pair files (take i ps) images p image so_far has)
 
 -- one among all
-pub around : (ps : List BootPlatter) (i : ℕ) (p : BootPlatter) → i < length ps → p ≡ get_or ps i p → ps ≡ take i ps ++ p ∷ drop (i + 1) ps
+pub around : {A : Type 0} (ps : List A) (i : ℕ) (p : A) → i < length ps → p ≡ get_or ps i p → ps ≡ take i ps ++ p ∷ drop (i + 1) ps
 around ps i p lt is = sym (take-append-drop i ps) ∙ ap (λ l. take i ps ++ l) (drop_more ps i p lt ∙ ap (λ q. q ∷ drop (i + 1) ps) (sym is))
 
 -- an image that ends the call, after others were read

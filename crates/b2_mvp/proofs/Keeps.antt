@@ -5,8 +5,7 @@ use Rattle.b2_base.specs.Files.{Files, with_file, without_file}
 use Rattle.b2_base.specs.Seen.{ShelfSeen}
 use Rattle.b2_access.specs.declared.objects.Object.TheVariants as object
 use Rattle.b2_access.specs.Store.{StoreState, content}
-use Rattle.b2_boot.specs.declared.boot.BootPlatter.{BootPlatter}
-use Rattle.b2_mvp.specs.Outputs.{Output, image, images_at, transcript, transcripts_to, with_files, FailsKeep, CannotKeep}
+use Rattle.b2_mvp.specs.Outputs.{Output, kept_at, transcript, transcripts_to, with_files, FailsKeep, CannotKeep}
 use Rattle.b2_mvp.specs.declared.status.Status.{Status}
 use Rattle.b2_mvp.specs.declared.status.Status.TheVariants as status
 
@@ -85,34 +84,30 @@ pub one_fails : (spelled name bytes : List ℕ) (old new : Option Files) → spe
 one_fails spelled name bytes old new is others =
     record { done = []; bytes = bytes; left = []; in_order = refl; files = subst (λ (n : List ℕ). without_file n new ≡ without_file n old) is others }
 
--- images at some addresses, and then at others
-images_append : (out : List ℕ) (s : StoreState) (ps qs : List BootPlatter) → images_at out s (map (λ p. p.address) (ps ++ qs)) ≡ images_at out s (map (λ p. p.address) ps) ++ images_at out s (map (λ p. p.address) qs)
-images_append out s [] qs = refl
-images_append out s (p ∷ ps) qs =
-    ap (λ os. image out p.address (content s (object.Platter p.address)) ++ os) (images_append out s ps qs)
-    ∙ sym (append_assoc (image out p.address (content s (object.Platter p.address))) (images_at out s (map (λ q. q.address) ps)) (images_at out s (map (λ q. q.address) qs)))
+-- what is kept at the addresses of some devices, one after another
+module _ {A : Type 0} (address : A → List ℕ) (here : List ℕ → List Output) where
+  abbrev kept_of : List A → List Output
+  kept_of ps = kept_at here (map address ps)
 
--- one more image
-pub image_more : (out : List ℕ) (s : StoreState) (before : List BootPlatter) (p : BootPlatter) (first mid last : Option Files)
-    → mid ≡ with_files (images_at out s (map (λ q. q.address) before)) first
-    → last ≡ with_files (image out p.address (content s (object.Platter p.address))) mid
-    → last ≡ with_files (images_at out s (map (λ q. q.address) (before ++ p ∷ []))) first
-image_more out s before p first mid last so_far more =
-    let here = image out p.address (content s (object.Platter p.address)) in
-    more ∙ ap (with_files here) so_far ∙ sym (with_files_append (images_at out s (map (λ q. q.address) before)) here first)
-    ∙ ap (λ os. with_files os first) (sym (images_append out s before (p ∷ []) ∙ ap (λ os. images_at out s (map (λ q. q.address) before) ++ os) (append-nil here)))
+  kept_append : (ps qs : List A) → kept_of (ps ++ qs) ≡ kept_of ps ++ kept_of qs
+  kept_append [] qs = refl
+  kept_append (p ∷ ps) qs = ap (λ os. here (address p) ++ os) (kept_append ps qs) ∙ sym (append_assoc (here (address p)) (kept_of ps) (kept_of qs))
 
--- the image of a platter fails among those of all
-pub image_fails : (out : List ℕ) (s : StoreState) (before after all : List BootPlatter) (p : BootPlatter) (first mid last : ShelfSeen) (st : Status) → all ≡ before ++ p ∷ after
-    → mid.files ≡ with_files (images_at out s (map (λ q. q.address) before)) first.files → first.faults ≤ mid.faults
-    → CannotKeep (image out p.address (content s (object.Platter p.address))) mid last st → CannotKeep (images_at out s (map (λ q. q.address) all)) first last st
-image_fails out s before after all p first mid last st in_order so_far later h =
-    let done = images_at out s (map (λ q. q.address) before) in
-    let here = image out p.address (content s (object.Platter p.address)) in
-    let rest = images_at out s (map (λ q. q.address) after) in
-    among done here rest _ first mid last st
-    (ap (λ (ps : List BootPlatter). images_at out s (map (λ q. q.address) ps)) in_order ∙ images_append out s before (p ∷ after) ∙ sym (append_assoc done here rest))
-    so_far later h
+  -- one more
+  pub device_more : (before : List A) (p : A) (first mid last : Option Files) → mid ≡ with_files (kept_of before) first → last ≡ with_files (here (address p)) mid
+      → last ≡ with_files (kept_of (before ++ p ∷ [])) first
+  device_more before p first mid last so_far more =
+      more ∙ ap (with_files (here (address p))) so_far ∙ sym (with_files_append (kept_of before) (here (address p)) first)
+      ∙ ap (λ os. with_files os first) (sym (kept_append before (p ∷ []) ∙ ap (λ os. kept_of before ++ os) (append-nil (here (address p)))))
+
+  -- one that fails among all
+  pub device_fails : (before after all : List A) (p : A) (first mid last : ShelfSeen) (st : Status) → all ≡ before ++ p ∷ after
+      → mid.files ≡ with_files (kept_of before) first.files → first.faults ≤ mid.faults
+      → CannotKeep (here (address p)) mid last st → CannotKeep (kept_of all) first last st
+  device_fails before after all p first mid last st in_order so_far later h =
+      among (kept_of before) (here (address p)) (kept_of after) (kept_of all) first mid last st
+      (ap kept_of in_order ∙ kept_append before (p ∷ after) ∙ sym (append_assoc (kept_of before) (here (address p)) (kept_of after)))
+      so_far later h
 
 -- some keeps of which one fails, before others
 pub first_fail : (xs ys : List Output) (first last : ShelfSeen) (st : Status) → CannotKeep xs first last st → CannotKeep (xs ++ ys) first last st

@@ -9,11 +9,14 @@ use Rattle.b2_boot.specs.declared.log.Event.{Event}
 use Rattle.b2_sched.specs.Groups.{steps_of}
 use Rattle.b2_sched.specs.Start.{Images, booted}
 use Rattle.b2_sched.specs.World.{WorldState, ran}
-use Rattle.b2_mvp.specs.Outputs.{Output, apart, image, numbers, transcript}
+use Rattle.b2_mvp.specs.Outputs.{Output, apart, image, numbers, printout, transcript}
 
--- what is kept of a terminal, and of a platter
-abbrev pub kept_at : List ℕ → ℕ → WorldState → List Output
-kept_at out t w = transcript out t (content w.store (object.Terminal t))
+-- what is kept of a terminal, of a printer, and of a platter
+abbrev pub transcript_kept : List ℕ → ℕ → WorldState → List Output
+transcript_kept out t w = transcript out t (content w.store (object.Terminal t))
+
+abbrev pub printout_kept : List ℕ → List ℕ → WorldState → List Output
+printout_kept out a w = printout out a (content w.store (object.Printer a))
 
 abbrev pub image_kept : List ℕ → List ℕ → WorldState → List Output
 image_kept out a w = image out a (content w.store (object.Platter a))
@@ -22,19 +25,24 @@ image_kept out a w = image out a (content w.store (object.Platter a))
 abbrev pub steps_from : BootState → Images → List Event → List Step
 steps_from b images log = steps_of log (booted b images)
 
--- what is kept of the terminals, and of the platters, that no outsider wrote is what is kept with the group alone
+-- what is kept of the terminals, of the printers, and of the platters, that no outsider wrote is what is kept with the group alone
 abbrev pub TerminalsAsAlone : List ℕ → Group → BootState → Images → List Event → Type 0
 TerminalsAsAlone out g b images log = (t : ℕ) → (IsIn (object.Terminal t) (foul g (steps_from b images log)) → ⊥)
-    → kept_at out t (ran log (booted b images)) ≡ kept_at out t (ran log (booted (alone g b) images))
+    → transcript_kept out t (ran log (booted b images)) ≡ transcript_kept out t (ran log (booted (alone g b) images))
+
+abbrev pub PrintersAsAlone : List ℕ → Group → BootState → Images → List Event → Type 0
+PrintersAsAlone out g b images log = (a : List ℕ) → (IsIn (object.Printer a) (foul g (steps_from b images log)) → ⊥)
+    → printout_kept out a (ran log (booted b images)) ≡ printout_kept out a (ran log (booted (alone g b) images))
 
 abbrev pub PlattersAsAlone : List ℕ → Group → BootState → Images → List Event → Type 0
 PlattersAsAlone out g b images log = (a : List ℕ) → (IsIn (object.Platter a) (foul g (steps_from b images log)) → ⊥)
     → image_kept out a (ran log (booted b images)) ≡ image_kept out a (ran log (booted (alone g b) images))
 
--- A GROUP IS AS ALONE: where none of its steps touches what a step of an outsider wrote before, each transcript and each image that
--- no outsider wrote is that of the boot with the group alone, from the same images and under the same log.
+-- A GROUP IS AS ALONE: where none of its steps touches what a step of an outsider wrote before, each transcript, each printout and
+-- each image that no outsider wrote is that of the boot with the group alone, from the same images and under the same log.
 abbrev pub GroupsShowAsAlone : List ℕ → BootState → Images → List Event → Type 0
-GroupsShowAsAlone out b images log = (g : Group) → IsClean g (steps_from b images log) → TerminalsAsAlone out g b images log × PlattersAsAlone out g b images log
+GroupsShowAsAlone out b images log =
+    (g : Group) → IsClean g (steps_from b images log) → TerminalsAsAlone out g b images log × PrintersAsAlone out g b images log × PlattersAsAlone out g b images log
 
 -- THE LIST: a partition stands in it exactly where it is present and by itself is such a group.
 abbrev pub ListsTheClean : BootState → Images → List Event → Type 0

@@ -1,4 +1,5 @@
--- What a run writes: a file for each terminal's transcript and for each platter's image, and a last line that also tells who is apart.
+-- What a run writes: a file for each terminal's transcript, for what each printer printed and for each platter's image, and a last
+-- line that also tells who is apart.
 use Rattle.std.specs.Prelude.{◌≡◌, ℕ, zero, suc, ◌+◌, ◌/◌, ◌%◌, List, [], ◌∷◌, ◌++◌, map, filter, codes, Option, Some, None}
 use Rattle.std.specs.Fmt.{decimal}
 use Rattle.b2_base.specs.Byte as byte
@@ -11,7 +12,7 @@ use Rattle.b2_access.specs.Store.{StoreState, content}
 use Rattle.b2_audit.specs.Marks.{Marks, is_clean}
 use Rattle.b2_boot.specs.Boots.{BootState}
 use Rattle.b2_boot.specs.declared.boot.BootPartition.{BootPartition}
-use Rattle.b2_sched.specs.Start.{addresses}
+use Rattle.b2_sched.specs.Start.{platter_addresses, printer_addresses}
 use Rattle.b2_sched.specs.World.{WorldState}
 use Rattle.b2_mvp.specs.Parts.{list_or_dash}
 use Rattle.b2_mvp.specs.declared.status.Status.{Status}
@@ -36,6 +37,15 @@ abbrev pub transcripts_to : List ℕ → StoreState → ℕ → List Output
 transcripts_to out s zero = []
 transcripts_to out s (suc t) = transcripts_to out s t ++ transcript out (suc t) (content s (object.Terminal (suc t)))
 
+-- the name of a printout ends in the address of its printer
+abbrev pub printout_name : List ℕ → List ℕ → List ℕ
+printout_name out address = out ++ codes ".p" ++ address
+
+-- a printer that is listed has a printout, which is empty where it printed nothing
+abbrev pub printout : List ℕ → List ℕ → Option (List ℕ) → List Output
+printout out address None = []
+printout out address (Some bytes) = record { name = printout_name out address; bytes = bytes } ∷ []
+
 -- the name of a platter's image ends in its address
 abbrev pub image_name : List ℕ → List ℕ → List ℕ
 image_name out address = out ++ byte.point ∷ address
@@ -45,14 +55,20 @@ abbrev pub image : List ℕ → List ℕ → Option (List ℕ) → List Output
 image out address None = []
 image out address (Some bytes) = record { name = image_name out address; bytes = bytes } ∷ []
 
--- the images of the platters at some addresses, in that order
-abbrev pub images_at : List ℕ → StoreState → List (List ℕ) → List Output
-images_at out s [] = []
-images_at out s (a ∷ rest) = image out a (content s (object.Platter a)) ++ images_at out s rest
+-- what is kept at some addresses, in that order
+abbrev pub kept_at : (List ℕ → List Output) → List (List ℕ) → List Output
+kept_at here [] = []
+kept_at here (a ∷ rest) = here a ++ kept_at here rest
 
--- all that is kept, in the order in which it is kept: transcripts by number, and images by address
+abbrev pub printouts_at : List ℕ → StoreState → List (List ℕ) → List Output
+printouts_at out s addresses = kept_at (λ a. printout out a (content s (object.Printer a))) addresses
+
+abbrev pub images_at : List ℕ → StoreState → List (List ℕ) → List Output
+images_at out s addresses = kept_at (λ a. image out a (content s (object.Platter a))) addresses
+
+-- all that is kept, in the order in which it is kept: transcripts by number, printouts by address, and images by address
 abbrev pub outputs : List ℕ → BootState → StoreState → List Output
-outputs out b s = transcripts_to out s 12 ++ images_at out s (addresses b)
+outputs out b s = transcripts_to out s 12 ++ (printouts_at out s (printer_addresses b.printers) ++ images_at out s (platter_addresses b.platters))
 
 -- the told files after such keeps
 abbrev pub with_files : List Output → Option Files → Option Files

@@ -1,8 +1,8 @@
 //! The machine as a program: `b2_mvp run BOOT LOG OUT`, and `b2_mvp alone BOOT LOG OUT PARTS` for some partitions alone.
 //!
 //! It reads a boot file, a log of keystrokes, halts and turns, and the images of platters, runs the machine that the boot and its
-//! images start under that log, writes the transcript of each terminal and the image of each platter to a file, and a summary line
-//! to standard output. Stands on `b2_base` for the outside, on `b2_boot` for what boot file and log say, on `b2_platter` for what
+//! images start under that log, writes the transcript of each terminal, what each printer printed and the image of each platter to a
+//! file, and a summary line to standard output. Stands on `b2_base` for the outside, on `b2_boot` for what boot file and log say, on `b2_platter` for what
 //! an image has to be, on `b2_sched` for the machine, on `b2_store` for what is kept of it, and on `b2_audit` for who is clean.
 //!
 //! The main promise is the contract of `top::mvp`: whatever the words, the boot, the log and the outside, each status comes

@@ -1,16 +1,17 @@
-// The outputs of a run: a file for each terminal's transcript and for each platter's image, and the last line. None of them takes
-// memory once it is kept: transcripts and images are kept as they stand in the store.
-ghost use Rattle.std.specs.Prelude.{◌≡◌, ◌≤◌, ◌∷◌, [], OnOk, IfOk, IfErr, length, map};
+// The outputs of a run: a file for each terminal's transcript, for what each printer printed and for each platter's image, and the
+// last line. None of them takes memory once it is kept: transcripts, printouts and images are kept as they stand in the store.
+ghost use Rattle.std.specs.Prelude.{◌≡◌, ◌≤◌, ◌∷◌, [], OnOk, IfOk, IfErr, length};
 ghost use Rattle.b2_base.specs.Seen.{shelf_seen};
 ghost use Rattle.b2_access.specs.declared.objects.Object.{Object};
 ghost use Rattle.b2_access.specs.Store.{content};
+ghost use Rattle.b2_sched.specs.Start.{platter_addresses, printer_addresses};
 ghost use Rattle.b2_store.specs.Meaning.{store_of};
 ghost use Rattle.b2_mvp.specs.Outputs as spec;
 
 use crate::parts::add_list;
 use crate::status::Status;
 use b2_base::{Addr, FileName, Keep, NoMemory, Part, Shelf, Term};
-use b2_boot::{Boot, BootPartition, BootPlatter};
+use b2_boot::{Boot, BootPartition, BootPlatter, BootPrinter};
 use b2_sched::World;
 use b2_store::Stores;
 use std::alloc::Global;
@@ -102,6 +103,58 @@ fn keep_transcripts<F: Shelf>(out: &FileName, stores: &Stores, shelf: &mut F) ->
     Ok(())
 }
 
+/// The name of a printout: the front of the outputs' names, `.p` and the address of its printer.
+fn printout_name(out: &FileName, address: Addr) -> FileName
+    requires { length out.now ≤ 190 }
+    ensures { result ≡ spec.printout_name out.now address }
+{
+    FileName::empty()
+        .with(out.bytes())
+        .with(b".p")
+        .with(&address.bytes())
+}
+
+/// Keeps what the printer at an address printed, where it is listed.
+fn keep_printout<F: Shelf>(
+    out: &FileName,
+    address: Addr,
+    stores: &Stores,
+    shelf: &mut F,
+) -> Result<(), Status>
+    requires { length out.now ≤ 190 }
+    ensures faults { F.faults shelf.old ≤ F.faults shelf.new }
+    ensures ok { OnOk result (F.files shelf.new ≡ spec.with_files (spec.printout out.now address (content (store_of stores.now) (Object.Printer address))) (F.files shelf.old)) }
+    ensures err { IfErr result (λ status. spec.CannotKeep (spec.printout out.now address (content (store_of stores.now) (Object.Printer address)))
+        (shelf_seen F.files F.faults F.misses F.longs shelf.old) (shelf_seen F.files F.faults F.misses F.longs shelf.new) status) }
+{
+    let Some(printed) = stores.printer(address) else {
+        return Ok(());
+    };
+    keep_file(printout_name(out, address), printed, shelf)
+}
+
+/// Keeps what each printer printed, by address.
+fn keep_printouts<F: Shelf>(
+    out: &FileName,
+    printers: &[BootPrinter],
+    stores: &Stores,
+    shelf: &mut F,
+) -> Result<(), Status>
+    requires { length out.now ≤ 190 }
+    ensures faults { F.faults shelf.old ≤ F.faults shelf.new }
+    ensures ok { OnOk result (F.files shelf.new ≡ spec.with_files (spec.printouts_at out.now (store_of stores.now) (printer_addresses printers.now)) (F.files shelf.old)) }
+    ensures err { IfErr result (λ status. spec.CannotKeep (spec.printouts_at out.now (store_of stores.now) (printer_addresses printers.now))
+        (shelf_seen F.files F.faults F.misses F.longs shelf.old) (shelf_seen F.files F.faults F.misses F.longs shelf.new) status) }
+{
+    for printer in printers {
+        match keep_printout(out, printer.address, stores, shelf) {
+            Ok(()) => {}
+            Err(status) => return Err(status),
+        }
+    }
+    Ok(())
+}
+
 /// The name of a platter's image: the front of the outputs' names, a point and its address.
 fn image_name(out: &FileName, address: Addr) -> FileName
     requires { length out.now ≤ 190 }
@@ -141,8 +194,8 @@ fn keep_images<F: Shelf>(
 ) -> Result<(), Status>
     requires { length out.now ≤ 190 }
     ensures faults { F.faults shelf.old ≤ F.faults shelf.new }
-    ensures ok { OnOk result (F.files shelf.new ≡ spec.with_files (spec.images_at out.now (store_of stores.now) (map (λ p. p.address) platters.now)) (F.files shelf.old)) }
-    ensures err { IfErr result (λ status. spec.CannotKeep (spec.images_at out.now (store_of stores.now) (map (λ p. p.address) platters.now))
+    ensures ok { OnOk result (F.files shelf.new ≡ spec.with_files (spec.images_at out.now (store_of stores.now) (platter_addresses platters.now)) (F.files shelf.old)) }
+    ensures err { IfErr result (λ status. spec.CannotKeep (spec.images_at out.now (store_of stores.now) (platter_addresses platters.now))
         (shelf_seen F.files F.faults F.misses F.longs shelf.old) (shelf_seen F.files F.faults F.misses F.longs shelf.new) status) }
 {
     for platter in platters {
@@ -154,7 +207,8 @@ fn keep_images<F: Shelf>(
     Ok(())
 }
 
-/// Keeps the transcript of each terminal, by number, and then the image of each platter of a boot, by address.
+/// Keeps the transcript of each terminal, by number, then what each printer of a boot printed, by address, and then the image of
+/// each of its platters, by address.
 pub fn keep_outputs<F: Shelf>(
     out: &FileName,
     boot: &Boot,
@@ -168,6 +222,10 @@ pub fn keep_outputs<F: Shelf>(
         (shelf_seen F.files F.faults F.misses F.longs shelf.old) (shelf_seen F.files F.faults F.misses F.longs shelf.new) status) }
 {
     match keep_transcripts(out, stores, shelf) {
+        Ok(()) => {}
+        Err(status) => return Err(status),
+    }
+    match keep_printouts(out, &boot.printers, stores, shelf) {
         Ok(()) => {}
         Err(status) => return Err(status),
     }

@@ -9,8 +9,11 @@ use std::alloc::{AllocError, Global};
 use std::collections::BTreeMap;
 
 mod groups;
+mod holding;
 mod long_lines;
 mod platters;
+mod printers;
+mod printing;
 mod program_files;
 mod refusals;
 mod runs;

@@ -107,7 +107,7 @@ fn run_group(
     }
 }
 
-/// Keeps the transcripts and the images, and puts the line.
+/// Keeps the transcripts, the printouts and the images, and puts the line.
 fn deliver<F: Shelf, O: Sink>(
     out: &FileName,
     boot: &Boot,
@@ -165,8 +165,8 @@ fn run_words<F: Shelf, O: Sink>(
 
 /// Does all that the program does with the words after its name, over a shelf of files and a sink for the summary:
 /// `run BOOT LOG OUT` fetches the boot file, the log and the images of the platters by address, runs the log from the boot, keeps
-/// the transcript of each terminal as `OUT.t` and its number of two digits and the image of each platter as `OUT.` and its address,
-/// and puts the summary line, which also lists the partitions that are apart. `alone BOOT LOG OUT PARTS` does the same with the
+/// the transcript of each terminal as `OUT.t` and its number of two digits, what each printer printed as `OUT.p` and its address,
+/// and the image of each platter as `OUT.` and its address, and puts the summary line, which also lists the partitions that are apart. `alone BOOT LOG OUT PARTS` does the same with the
 /// listed partitions alone; the log is checked against the whole boot all the same.
 ///
 /// The first refusal on this way is the answer. Until the log has run to its end, no file changes; nothing is put before

@@ -8,7 +8,7 @@ use std::test::Fail;
 
 // Two partitions on a disk of 64 blank sectors, and another disk of as many.
 #[rattlefmt::skip]
-const BLANKS: &[u8] = b"\
+pub(super) const BLANKS: &[u8] = b"\
 quota=20\n\
 [[terminal]]\nnumber=1\nfront=1\n\
 [[terminal]]\nnumber=2\nfront=2\n\

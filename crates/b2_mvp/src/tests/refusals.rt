@@ -5,7 +5,7 @@ use b2_base::MemSink;
 use std::test::Fail;
 
 // A boot file that is refused, and the line for its first check that fails.
-const BAD_BOOTS: [(&[u8], &[u8]); 16] = [
+const BAD_BOOTS: [(&[u8], &[u8]); 18] = [
     (b"quota=", b"bad boot 1"),
     (b"quota=20\n\xFF", b"bad boot 1"),
     (b"", b"bad boot 2"),
@@ -18,7 +18,7 @@ const BAD_BOOTS: [(&[u8], &[u8]); 16] = [
         b"bad boot 2",
     ),
     (
-        b"quota=20\nprinter=[]\nterminal=[{number=1,front=1}]\npartition=[{number=1,terminal=1,text=8,data=8,globals=2}]",
+        b"quota=20\nprinters=[]\nterminal=[{number=1,front=1}]\npartition=[{number=1,terminal=1,text=8,data=8,globals=2}]",
         b"bad boot 2",
     ),
     (
@@ -54,6 +54,14 @@ const BAD_BOOTS: [(&[u8], &[u8]); 16] = [
     (
         b"quota=20\nterminal=[{number=1,front=2}]\npartition=[{number=1,terminal=1,text=8,data=8,globals=2}]",
         b"bad boot 8",
+    ),
+    (
+        b"quota=20\nterminal=[{number=1,front=1}]\npartition=[{number=1,terminal=1,text=8,data=8,globals=2}]\nprinter=[{address=\"305\"}]",
+        b"bad boot 10",
+    ),
+    (
+        b"quota=20\nterminal=[{number=1,front=1}]\npartition=[{number=1,terminal=1,text=8,data=8,globals=2}]\nprinter=[{address=\"205\",for=2}]",
+        b"bad boot 11",
     ),
 ];
 

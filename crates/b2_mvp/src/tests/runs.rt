@@ -34,8 +34,8 @@ const ROWS: [Row; 36] = [
     },
     // A statement that is read and not built yet.
     Row {
-        log: b"type 1 $CLOSE\nrounds 5",
-        transcript: b"READY\n:$CLOSE\nERR S27\n:",
+        log: b"type 1 SELECT @PART \"A\"\nrounds 5",
+        transcript: b"READY\n:SELECT @PART \"A\"\nERR S27\n:",
         summary: b"turns 5 steps 4 dropped 0 apart 1\n",
     },
     // Numbers and their printed form.

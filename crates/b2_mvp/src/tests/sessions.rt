@@ -27,6 +27,7 @@ mod brought;
 mod bytes;
 mod calls;
 mod data;
+mod devices;
 mod disks;
 mod editing;
 mod files;

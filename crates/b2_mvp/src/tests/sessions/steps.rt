@@ -418,7 +418,7 @@ A10 PRINT "A";:STOP "B C"
 ERR C62 AT 30
 
 = A statement that is not there yet is S27 before anything of it is done, also in a line that was typed at once
-:PRINT "A";:$CLOSE
+:PRINT "A";:SELECT @PART "A"
 A
 ERR S27
 :10 PRINT @A;1/0
