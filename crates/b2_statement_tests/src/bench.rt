@@ -47,6 +47,8 @@ pub struct Bench {
     /// Whether there are `@` variables.
     pub found: bool,
     pub builder: Builder,
+    /// The devices that there are, none unless they are put here.
+    pub devices: DeviceTable,
     /// The answers, and how many of their bytes have been read.
     answers: Vec<u8>,
     read: usize,
@@ -208,6 +210,7 @@ impl Bench {
             globals: Vars::new(alloc, 4096)?,
             found: false,
             builder: Builder::Either,
+            devices: DeviceTable::new(Vec::new(alloc)),
             answers: Vec::from_slice(alloc, answers)?,
             read: 0,
             told: String::new(alloc),
@@ -245,7 +248,6 @@ impl Bench {
 
     /// What the statement at the place plans.
     fn plan(&mut self, alloc: Global, place: Place, builder: Builder) -> Result<Planned, NoMemory> {
-        let devices = DeviceTable::new(Vec::new(alloc));
         let mut lent = Lent {
             own: &self.own,
             home: home_of(is_own(&place), &self.own, &self.other),
@@ -253,9 +255,9 @@ impl Bench {
             found: self.found,
         };
         match builder {
-            Builder::Terminal => b2_stmt_io::plan(alloc, &mut self.me, &mut lent, &devices),
-            Builder::Variables => b2_stmt_var::plan(alloc, &mut self.me, &mut lent, &devices),
-            _ => b2_stmt::plan(alloc, &mut self.me, &mut lent, &devices),
+            Builder::Terminal => b2_stmt_io::plan(alloc, &mut self.me, &mut lent, &self.devices),
+            Builder::Variables => b2_stmt_var::plan(alloc, &mut self.me, &mut lent, &self.devices),
+            _ => b2_stmt::plan(alloc, &mut self.me, &mut lent, &self.devices),
         }
     }
 
@@ -303,10 +305,16 @@ impl Bench {
         Ok(outcome)
     }
 
-    /// Tells of an access: what it shows or takes out, or nothing of one that reads.
+    /// Tells of an access: what it shows, prints or takes out, or nothing of one that reads.
     fn tell_access(&mut self, access: &Access) -> Result<(), Unanswered> {
         match access {
             Access::Show { bytes, .. } => {
+                self.told.push('[')?;
+                show_lines(&mut self.told, bytes.bytes())?;
+                self.told.push_str("] ")?;
+            }
+            Access::PrintTo { addr, bytes, .. } => {
+                self.told.push_str(str_of(&addr.bytes()))?;
                 self.told.push('[')?;
                 show_lines(&mut self.told, bytes.bytes())?;
                 self.told.push_str("] ")?;
@@ -326,7 +334,8 @@ impl Bench {
         Ok(())
     }
 
-    /// The answer to an access, None where it is not there yet. What is shown is shown at once.
+    /// The answer to an access, None where it is not there yet. What is shown is shown at once, and so is what is printed where
+    /// no answer is left.
     fn next_answer(
         &mut self,
         alloc: Global,
@@ -337,7 +346,10 @@ impl Bench {
         }
         let (item, _) = cut(rest_after(&self.answers, self.read), MARK);
         if item.is_empty() {
-            return Ok(None);
+            return match access {
+                Access::PrintTo { .. } => Ok(Some(Answer::Done)),
+                _ => Ok(None),
+            };
         }
         let answer = answer_of(alloc, item)?;
         self.read = self.read.saturating_add(item.len()).saturating_add(1);

@@ -1,11 +1,12 @@
 //! Rows of the calls on statements that no typed line over the whole machine shows: statements that are lent `@` variables or
-//! the text of another partition, accesses and their answers, what stands after a value or a receiver, and why turns end.
-//! What a typed line shows stands in the sessions of `b2_mvp`. The file `stdin` has the rows, each a line as `b2_cases` reads
-//! it, and each module's first lines say how its rows are written.
+//! the text of another partition, accesses and their answers, PRINT and PRINTUSING at a printer and a column of it, what
+//! stands after a value or a receiver, and why turns end. What a typed line shows stands in the sessions of `b2_mvp`. The file
+//! `stdin` has the rows, each a line as `b2_cases` reads it, and each module's first lines say how its rows are written.
 #![tactic(auto)]
 
 mod bench;
 mod locating;
+mod printing;
 mod running;
 mod showing;
 mod turning;
@@ -23,6 +24,7 @@ fn answer(alloc: Global, call: &[u8], cells: &mut Cells<'_>) -> Answer {
         "run" | "at home" | "control" | "variables" | "terminal" | "read on" => {
             running::answer(alloc, call, cells)
         }
+        "print" => printing::print(alloc, cells),
         "turns" | "state" => turning::answer(alloc, call, cells),
         "assign" => locating::assign_typed(alloc, cells),
         "elsewhere" => locating::elsewhere(alloc, cells),

@@ -9,7 +9,7 @@ ghost use Rattle.b2_sched.specs.Start.{CanStart};
 
 use crate::pieces::word;
 use b2_base::{Addr, Name8, NoMemory, Part};
-use b2_boot::{Boot, BootErr, BootPartition, BootPlatter, BootTerminal, boot_of};
+use b2_boot::{Boot, BootErr, BootPartition, BootPlatter, BootPrinter, BootTerminal, boot_of};
 use b2_cases::{Cells, bytes_of, small_of, str_of};
 use std::alloc::Global;
 use std::fmt::Write;
@@ -81,6 +81,16 @@ partition=[{number=1,terminal=1,text=8,data=8,globals=2,disk=\"D11\",program=\"S
 platter=[{address=\"D11\",blank=16}]
 ";
 
+/// Partitions 1 and 2, each on the terminal of its number; two printers, of which partition 2 has one for itself, and two disks,
+/// of which it has one; listed from the last to the first.
+const DEVICES: &[u8] = b"\
+quota=20
+terminal=[{number=2,front=2},{number=1,front=1}]
+partition=[{number=2,terminal=2,text=8,data=8,globals=2,disk=\"D12\"},{number=1,terminal=1,text=8,data=8,globals=2,disk=\"D11\"}]
+platter=[{address=\"D12\",blank=16,for=2},{address=\"D11\",blank=16}]
+printer=[{address=\"215\",for=2},{address=\"204\"}]
+";
+
 /// The file of the boot of a name, an empty one where there is none.
 fn file_named(name: &[u8]) -> &'static [u8] {
     match str_of(name) {
@@ -92,12 +102,12 @@ fn file_named(name: &[u8]) -> &'static [u8] {
         "crossed" => CROSSED,
         "disks" => DISKS,
         "loading" => LOADING,
+        "devices" => DEVICES,
         _ => b"",
     }
 }
 
 /// The boot of a name, None where there is none.
-#[tactic(auto, using(b2_sched::proofs::BootDevices::can_start))]
 pub fn named(alloc: Global, name: &[u8]) -> Result<Option<Boot>, NoMemory>
     ensures start { IfOk result (λ found. IfSome found CanStart) }
 {
@@ -166,6 +176,22 @@ fn show_platter(into: &mut String, platter: &BootPlatter) -> Result<(), NoMemory
     if let Some(sectors) = platter.blank {
         write!(into, " blank {sectors}")?;
     }
+    show_only(into, platter.only)
+}
+
+/// Shows a printer.
+fn show_printer(into: &mut String, printer: &BootPrinter) -> Result<(), NoMemory> {
+    write!(into, ", printer ")?;
+    show_address(into, printer.address)?;
+    show_only(into, printer.only)
+}
+
+/// Shows for whom a device is, where it is for one partition alone.
+fn show_only(into: &mut String, only: Option<Part>) -> Result<(), NoMemory> {
+    if let Some(part) = only {
+        let number = part.number();
+        write!(into, " for {number}")?;
+    }
     Ok(())
 }
 
@@ -181,6 +207,9 @@ fn said_by(alloc: Global, boot: &Boot) -> Result<String, NoMemory> {
     }
     for platter in &boot.platters {
         show_platter(&mut shown, platter)?;
+    }
+    for printer in &boot.printers {
+        show_printer(&mut shown, printer)?;
     }
     Ok(shown)
 }

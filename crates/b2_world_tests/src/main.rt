@@ -4,6 +4,7 @@
 #![tactic(auto)]
 
 mod boots;
+mod devices;
 mod files;
 mod images;
 mod logs;
@@ -42,6 +43,7 @@ fn called(alloc: Global, call: &str, cells: Cells<'_>) -> Result<String, NoMemor
         "alone_world" => worlds::shown_alone(alloc, cells),
         "other_log" => worlds::shown_by_another(alloc, cells),
         "disks" => worlds::platters_shown(alloc, cells),
+        "printouts" => worlds::printouts(alloc, cells),
         "screen" => screens::fed(alloc, cells),
         _ => Ok(format!(in alloc; "no such call")?),
     }

@@ -1,12 +1,13 @@
 // A store that is watched, and the accesses of partitions. Partitions 1, 2, 3 and 16 have texts of 64 bytes; 1, 2 and 16 are in
-// front of the terminals 1, 2 and 12. Two platters of 64 sectors stand at D10 and D20; D20 has a file DATA of 4 sectors.
+// front of the terminals 1, 2 and 12. Two platters of 64 sectors stand at D10 and D20; D20 has a file DATA of 4 sectors. A printer stands
+// at 215.
 //
 // `store | CALL | ..`: what the calls answer one after another. Accesses begin with the number of the partition that asks: `1 show
 // TERMINAL BYTES`, `1 read TERMINAL`, `1 insert TERMINAL BYTES`, `1 key TERMINAL`, `1 put LINE SOURCE`, `1 take LINE`, `1 erase FROM
-// TO`, `1 clear`, `1 limits ADDRESS [NAME]`, `1 list ADDRESS`, `1 scratch ADDRESS NAME`, `1 format ADDRESS SECTORS END`, and those at
-// files, which `files.rt` names. Others are
+// TO`, `1 clear`, `1 limits ADDRESS [NAME]`, `1 list ADDRESS`, `1 scratch ADDRESS NAME`, `1 format ADDRESS SECTORS END`, those at
+// files, which `files.rt` names, and those of devices, which `devices.rt` names. Others are
 // `press TERMINAL BYTES` and `special TERMINAL N` for keys, `front TERMINAL PARTITION`, `shown TERMINAL` for its transcript,
-// `platter ADDRESS PLACE COUNT` for the sectors of a platter and bytes of it in hexadecimal digits, `lend PARTITION HOME` for the
+// `printed ADDRESS` for what a printer printed, `platter ADDRESS PLACE COUNT` for the sectors of a platter and bytes of it in hexadecimal digits, `lend PARTITION HOME` for the
 // first lines of both texts and whether `@` variables are found, for the partitions 1 and 2, and `clean` for the partitions that
 // are not. `at once 1 limits ..` and the like are accesses over the store without its watch, which want no memory.
 // `image | IMAGE | CALL | ..`: the same, where D20 has the image that is spelled.
@@ -16,9 +17,9 @@ ghost use Rattle.b2_access.specs.Touching.{IsLegal};
 ghost use Rattle.b2_store.specs.Meaning.{store_of};
 ghost use Rattle.b2_world_tests.specs.Texts.{HasTexts, KeepsTexts};
 
-use crate::files;
 use crate::images::platter_spelled;
 use crate::pieces::{show_named, word};
+use crate::{devices, files};
 use b2_access::{Access, Answer, At, Object, Shared};
 use b2_atom::Atoms;
 use b2_audit::{Seen, Watched};
@@ -62,10 +63,12 @@ fn four_partitions(alloc: Global, platter: Platter) -> Result<Stores, NoMemory>
     platters.push(Platter::blank(alloc, 64)?)?;
     addresses.push(Addr::of(b"D20").unwrap())?;
     platters.push(platter)?;
+    let mut printers = Vec::new(alloc);
+    printers.push(Addr::of(b"215").unwrap())?;
     let start = StoreBoot {
         partitions,
         terminals,
-        printers: Vec::new(alloc),
+        printers,
         platters: addresses,
     };
     Stores::new(alloc, &start, platters)
@@ -154,6 +157,7 @@ fn access_of(alloc: Global, spelled: &[u8]) -> Result<Option<Access>, NoMemory>
         "show" | "read" | "insert" | "key" => at_terminal(alloc, kind, rest),
         "limits" | "list" | "scratch" | "format" => Ok(at_disk(kind, rest)),
         _ if files::is_file_access(kind) => files::access_of(alloc, kind, rest),
+        _ if devices::is_device_access(kind) => devices::access_of(alloc, kind, rest),
         _ => at_text(alloc, kind, rest),
     }
 }
@@ -402,6 +406,8 @@ fn answered_at_once(stores: &mut Stores, who: Part, access: &Access) -> Option<A
 {
     match access {
         Access::Key { .. }
+        | Access::OpenDevices { .. }
+        | Access::CloseDevices { .. }
         | Access::Limits { .. }
         | Access::Scratch { .. }
         | Access::Format { .. } => {
@@ -457,6 +463,20 @@ fn show_platter(stores: &Stores, spelled: &[u8], into: &mut String) -> Result<()
     Ok(())
 }
 
+/// Shows what the printer of an address printed, or that there is none.
+fn show_printer(stores: &Stores, spelled: &[u8], into: &mut String) -> Result<(), NoMemory> {
+    let Some(address) = Addr::of(spelled) else {
+        return no_call(into);
+    };
+    match stores.printer(address) {
+        Some(printed) => show_named(into, "printed", printed),
+        None => {
+            into.push_str("no printer")?;
+            Ok(())
+        }
+    }
+}
+
 /// Shows the partitions that are not clean.
 fn show_clean(seen: &Seen, into: &mut String) -> Result<(), NoMemory> {
     into.push_str("not clean")?;
@@ -486,6 +506,7 @@ fn answer(
         "lend" => lend_spelled(stores, seen, rest, into),
         "clean" => show_clean(seen, into),
         "platter" => show_platter(stores, rest, into),
+        "printed" => show_printer(stores, rest, into),
         "at" => ask_at_once(alloc, stores, rest, into),
         _ => ask_spelled(alloc, stores, seen, first, rest, into),
     }

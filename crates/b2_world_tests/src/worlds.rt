@@ -8,13 +8,15 @@
 // `disks | NAME | IMAGE | ADDRESS | ..`: what the world of a boot has at these addresses, where each image is the one that is
 // spelled: the sectors of a platter, its index sectors, the first sector after its catalogue, and the next free one. In the
 // other rows each image is that of a blank platter.
+// `printouts | NAME | ADDRESS .. | LINE | ..`: what the printers at these addresses printed, after a log over the world of the
+// boot of a name.
 ghost use Rattle.std.specs.Prelude.{◌≡◌, IfOk, length};
 ghost use Rattle.b2_sched.specs.Start.{CanStart};
 
 use crate::boots::{alone_of, named, no_boot};
 use crate::images::{BLANK, platter_of};
 use crate::logs::{Log, log_over};
-use crate::pieces::show_named;
+use crate::pieces::{show_named, word};
 use b2_base::{Addr, NoMemory, Part, Term};
 use b2_boot::{Boot, BootPlatter, Event};
 use b2_cases::Cells;
@@ -148,6 +150,53 @@ pub fn shown_by_another(alloc: Global, row: Cells<'_>) -> Result<String, NoMemor
     };
     match log_over(alloc, &mut cells, &reader)? {
         Log::Events(events) => left_of(alloc, &after_events(alloc, &boot, &events)?),
+        Log::Refused(said) => Ok(said),
+    }
+}
+
+/// Shows what a printer of a world printed, or that there is none.
+fn show_printout(into: &mut String, world: &World, address: &[u8]) -> Result<(), NoMemory> {
+    let Some(address) = Addr::of(address) else {
+        into.push_str("no address")?;
+        return Ok(());
+    };
+    match world.stores().printer(address) {
+        Some(printed) => show_named(into, "printed", printed),
+        None => Ok(into.push_str("none")?),
+    }
+}
+
+/// What the printers at the addresses in a cell printed.
+fn printouts_of(alloc: Global, world: &World, cell: &[u8]) -> Result<String, NoMemory> {
+    let mut shown = String::new(alloc);
+    let mut left = cell;
+    for place in 0..cell.len() {
+        if left.is_empty() {
+            break;
+        }
+        if place > 0 {
+            shown.push_str(", ")?;
+        }
+        let (address, rest) = word(left);
+        show_printout(&mut shown, world, address)?;
+        left = rest;
+    }
+    Ok(shown)
+}
+
+/// What printers printed after a log over the world of a boot.
+pub fn printouts(alloc: Global, row: Cells<'_>) -> Result<String, NoMemory> {
+    let mut cells = row;
+    let Some(boot) = named(alloc, cells.next())? else {
+        return no_boot(alloc);
+    };
+    let addresses = cells.next();
+    match log_over(alloc, &mut cells, &boot)? {
+        Log::Events(events) => printouts_of(
+            alloc,
+            &after_events(alloc, &boot, &events)?,
+            addresses,
+        ),
         Log::Refused(said) => Ok(said),
     }
 }
