@@ -94,9 +94,12 @@ addresses_fit platters printers =
     && no_two_same spells (row_addresses printers platters))
 
 -- 11: a device is for all partitions, or for one that is listed
+abbrev pub is_for_one : {A : Type 0} → (A → ℕ) → List A → Option ℕ → Bool
+is_for_one number partitions None = true
+is_for_one number partitions (Some n) = list_any (λ p. number p == n) partitions
+
 abbrev pub may_be_for : List PartitionRow → Option ℕ → Bool
-may_be_for partitions None = true
-may_be_for partitions (Some n) = list_any (λ p. p.number == n) partitions
+may_be_for partitions only = is_for_one (λ p. p.number) partitions only
 
 abbrev pub devices_have_partitions : List PartitionRow → List PlatterRow → List PrinterRow → Bool
 devices_have_partitions partitions platters printers =
@@ -320,8 +323,7 @@ is_printer p = is_printer_address p.address
 
 -- a device is for all partitions, or for one of the boot
 abbrev pub is_for_some : List BootPartition → Option ℕ → Bool
-is_for_some partitions None = true
-is_for_some partitions (Some n) = list_any (λ p. p.number == n) partitions
+is_for_some partitions only = is_for_one (λ p. p.number) partitions only
 
 -- the addresses of printers and then of platters
 abbrev pub device_addresses : List BootPrinter → List BootPlatter → List (List ℕ)
