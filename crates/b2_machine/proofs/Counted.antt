@@ -22,7 +22,7 @@ use Rattle.b2_language.specs.Languages.{Ways}
 use Rattle.b2_language.specs.Following.{following_place}
 use Rattle.b2_machine.specs.Counting.{CountsOrEnds, StepsCountOrEnd}
 use Rattle.b2_machine.specs.Endings.{counts, ends_turn, repeats}
-use Rattle.b2_machine.specs.Moving.{ends_by, error_place, faults, goes_to}
+use Rattle.b2_machine.specs.Moving.{ends_by, ends_onward, error_place, faults, goes_to, onward_from, place_onward}
 use Rattle.b2_machine.specs.Readiness.{halted, resets}
 use Rattle.b2_machine.specs.Statements.{begins_where, begun_by, builder_of, finish_by, finishes, plan_by}
 use Rattle.b2_machine.specs.Step.{acts, by_itself, enters_or_goes_on, executes, goes_through, halts_or_acts, line_read, runs_or_reads, seen_by, shows_or_goes_on, text_in, types_or_goes_on}
@@ -30,6 +30,7 @@ use Rattle.b2_machine.specs.Typing.{put_by, shown_by, shows_pending, typed_by_ke
 use Rattle.b2_machine.specs.declared.ends.Stepped.{Stepped}
 use Rattle.b2_machine.specs.declared.ends.Why.{Why}
 use Rattle.b2_machine.specs.declared.ends.Why.TheVariants as reason
+use Rattle.b2_machine.specs.declared.moving.Onward.{Onward}
 use Rattle.b2_machine.specs.declared.statements.Builder.{Builder}
 
 counting : CountsOrEnds counts
@@ -76,13 +77,18 @@ ended same outcome.Repeat p me home h = h
 ended same outcome.Break p me home h = ending reason.Break
 ended same outcome.Ready p me home h = ending reason.Ready
 
-finishing : (ways : Ways) (b : Builder) (x : Access) (a : Answer) (p : Place) (me : Private) (s : SeenLent) → CountsOrEnds (finishes ways b x a p me s).end
-finishing ways b x a p me s = let f = finish_by ways b x a me s in ended (repeats a) f.outcome p f.me s.home.lines (repeating a)
+ended_onward : (same : Stepped) (o : Outcome) (w : Onward) (p : Place) (me : Private) (home : Lines) → CountsOrEnds same → CountsOrEnds (ends_onward same o w p me home).end
+ended_onward same outcome.Next w p me home h = gone (place_onward home p w) me
+ended_onward same outcome.Break w p me home h = ending reason.Break
+ended_onward same o w p me home h = ended same o p me home h
+
+finishing : (ways : Ways) (b : Builder) (x : Access) (a : Answer) (w : Onward) (p : Place) (me : Private) (s : SeenLent) → CountsOrEnds (finishes ways b x a w p me s).end
+finishing ways b x a w p me s = let f = finish_by ways b x a me s in ended_onward (repeats a) f.outcome w p f.me s.home.lines (repeating a)
 
 module _ (ways : Ways) {M : Type 0} (store : M → StoreState) (serving : ServingOf M) (lending : Loan M) where
   begun : (x : Planned) (b : Builder) (p : Place) (me : Private) (home : Lines) (m : M) → CountsOrEnds (goes_through ways store serving lending (begun_by x b p me home) p m).end
   begun (planned.Done o) b p me home m = ended counts o p me home counting
-  begun (planned.Ask a) b p me home m = let g = serving m me.part a in finishing ways b a g.answer p me (seen_by me (store g.after))
+  begun (planned.Ask a) b p me home m = let g = serving m me.part a in finishing ways b a g.answer (onward_from p me home) p me (seen_by me (store g.after))
 
   unit : (o : Option Statement) (p : Place) (me : Private) (s : SeenLent) (m : M) → CountsOrEnds (goes_through ways store serving lending (begins_where ways o p me s) p m).end
   unit None p me s m = ending reason.Ready

@@ -36,7 +36,7 @@ use Rattle.b2_language.specs.Languages.{AreLawful, Ways}
 use Rattle.b2_language.specs.Following.{following_place, moves_to, units_at}
 use Rattle.b2_machine.specs.Keys.{calls, calls_where, pressed_by}
 use Rattle.b2_machine.specs.Listed.{lists}
-use Rattle.b2_machine.specs.Moving.{ends_by, enters_program, error_place, faults, goes_to, is_continue, is_taken}
+use Rattle.b2_machine.specs.Moving.{ends_by, ends_onward, enters_program, error_place, faults, goes_to, is_continue, is_taken, onward_from, place_onward}
 use Rattle.b2_machine.specs.Readiness.{halted, resets}
 use Rattle.b2_machine.specs.Statements.{begins_where, begun_by, builder_of, finish_by, finishes, plan_by}
 use Rattle.b2_access.specs.Marks.{typed_by_mark}
@@ -47,7 +47,9 @@ use Rattle.b2_machine.specs.Typing.{put_by, shown_by, shows_pending, takes, take
 use Rattle.b2_machine.specs.Turn.{TurnEnd, counted_on, ended_turn as turn_ended, turn, turn_from, unless_ended}
 use Rattle.b2_machine.specs.declared.ends.Stepped.{Stepped}
 use Rattle.b2_machine.specs.declared.ends.Why.{Why}
+use Rattle.b2_machine.specs.declared.moving.Onward.{Onward}
 use Rattle.b2_machine.specs.declared.statements.Builder.{Builder}
+use Rattle.b2_machine.specs.declared.moving.Onward.TheVariants as onward
 use Rattle.b2_machine.specs.declared.statements.Builder.TheVariants as builder
 
 false_is_true : false ≡ true → ⊥
@@ -122,6 +124,16 @@ module _ (ways : Ways) (lawful : AreLawful ways) (p : Place) where
   ended same outcome.Break me home is k = gone (following_place p me home) me (next_here home (p.unit + 1) (units_at p me home)) (λ r. not_ready me.kept outcome.Break (λ e. cc) (k r))
   ended same outcome.Ready me home is k = λ r. absurd (false_is_true r)
 
+  onward_here : (lines : Lines) (w : Onward) → FromHere (place_onward lines p w)
+  unfolding FromHere
+  onward_here lines onward.NextUnit = λ r. r
+  onward_here lines onward.NextLine = line_here lines p.line (λ r. r)
+
+  ended_onward : (same : Stepped) (o : Outcome) (w : Onward) (me : Private) (home : Lines) → me.place ≡ Some p → (is_some p.line ≡ true → (me.kept ≡ None) ⊎ (o ≡ outcome.Ready)) → KeepsNone (ends_onward same o w p me home).me
+  ended_onward same outcome.Next w me home is k = gone (place_onward home p w) me (onward_here home w) (λ r. not_ready me.kept outcome.Next (λ e. cc) (k r))
+  ended_onward same outcome.Break w me home is k = gone (place_onward home p w) me (onward_here home w) (λ r. not_ready me.kept outcome.Break (λ e. cc) (k r))
+  ended_onward same o w me home is k = ended same o me home is k
+
   -- what a statement plans at this place, and how it finishes
   abbrev Here : Private → Type 0
   Here me = (me.place ≡ Some p) × (is_some p.line ≡ true → me.kept ≡ None)
@@ -146,8 +158,8 @@ module _ (ways : Ways) (lawful : AreLawful ways) (p : Place) where
   finished (builder.Language n) x a me s h = ((lawful.leave_the_rest n).finishes_in_place x a me s ∙ h.0, λ r. (lawful.leave_the_rest n).finishes_keep_none x a me s (h.1 r))
   finished builder.Nobody x a me s h = (h.0, λ r. inl (h.1 r))
 
-  finish_keeps : (b : Builder) (x : Access) (a : Answer) (me : Private) (s : SeenLent) → Here me → KeepsNone (finishes ways b x a p me s).me
-  finish_keeps b x a me s h = let f = finished b x a me s h in ended _ (finish_by ways b x a me s).outcome (finish_by ways b x a me s).me s.home.lines f.0 f.1
+  finish_keeps : (b : Builder) (x : Access) (a : Answer) (w : Onward) (me : Private) (s : SeenLent) → Here me → KeepsNone (finishes ways b x a w p me s).me
+  finish_keeps b x a w me s h = let f = finished b x a me s h in ended_onward _ (finish_by ways b x a me s).outcome w (finish_by ways b x a me s).me s.home.lines f.0 f.1
 
   outcome_of : Planned → Outcome
   outcome_of (planned.Done o) = o
@@ -170,7 +182,7 @@ module _ (ways : Ways) (lawful : AreLawful ways) (p : Place) where
     begun_keeps (planned.Done o) b me home m h = ended _ o me home h.0 (λ r. done_kept o me.kept (h.1 r))
     begun_keeps (planned.Ask a) b me home m h =
         let g = serving m me.part a in
-        finish_keeps b a g.answer me (seen_by me (store g.after)) (h.0, λ r. asked_kept a me.kept (h.1 r))
+        finish_keeps b a g.answer (onward_from p me home) me (seen_by me (store g.after)) (h.0, λ r. asked_kept a me.kept (h.1 r))
 
     unit_keeps : (o : Option Statement) (me : Private) (s : SeenLent) (m : M) → Here me → KeepsNone (goes_through ways store serving lending (begins_where ways o p me s) p m).me
     unit_keeps None me s m h = λ r. absurd (false_is_true r)

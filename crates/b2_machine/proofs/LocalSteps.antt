@@ -27,6 +27,7 @@ use Rattle.b2_machine.specs.Step.{StepEnd, acts, carries_out, enters_or_goes_on,
 use Rattle.b2_machine.specs.Touched.{Asking, GoesLocally, StepsAreLocal, access_asked, asks_as_it_acts, asks_at, asks_one, asks_to_enter, asks_to_show, asks_to_type, asks_unless_halted, begun_asks, touched_by, written_for}
 use Rattle.b2_machine.specs.Typing.{put_by, puts_numbered, shown_by, shows_pending, typed_by_key}
 use Rattle.b2_machine.specs.declared.ends.Stepped.{Stepped}
+use Rattle.b2_machine.specs.declared.moving.Onward.{Onward}
 use Rattle.b2_machine.specs.declared.statements.Builder.{Builder}
 use Rattle.b2_machine.specs.declared.statements.Progress.{Progress}
 use Rattle.b2_machine.specs.declared.statements.Progress.TheVariants as progress
@@ -135,9 +136,9 @@ module _ (ways : Ways) {M : Type 0} (store : M → StoreState) (serving : Servin
     asks_over : Progress → Private → Asking
     asks_over c me = record { who = me.part; access = access_asked c }
 
-    asked : (b : Builder) (a : Access) (me : Private) → Goes part (λ s. asks_over (progress.Asks a b) me) (over (progress.Asks a b) me)
+    asked : (b : Builder) (a : Access) (w : Onward) (me : Private) → Goes part (λ s. asks_over (progress.Asks a b w) me) (over (progress.Asks a b w) me)
     unfolding over asks_over
-    asked b a me = record {
+    asked b a w me = record {
       alike = λ m n agree.
           let u = lent store serving lending first m in
           let v = lent store serving lending first n in
@@ -155,8 +156,8 @@ module _ (ways : Ways) {M : Type 0} (store : M → StoreState) (serving : Servin
           record {
             touches = ap (λ (os : List Object). object.Text part ∷ object.Text me.part ∷ os) by.touches;
             wrote = by.wrote;
-            own = ap (λ (x : SeenLent). (finishes ways b a g.answer p me x).me) seen ∙ ap (λ (x : Answer). (finishes ways b a x p me (seen_by me (store h.after))).me) alike.answers;
-            end = ap (λ (x : SeenLent). (finishes ways b a g.answer p me x).end) seen ∙ ap (λ (x : Answer). (finishes ways b a x p me (seen_by me (store h.after))).end) alike.answers;
+            own = ap (λ (x : SeenLent). (finishes ways b a g.answer w p me x).me) seen ∙ ap (λ (x : Answer). (finishes ways b a x w p me (seen_by me (store h.after))).me) alike.answers;
+            end = ap (λ (x : SeenLent). (finishes ways b a g.answer w p me x).end) seen ∙ ap (λ (x : Answer). (finishes ways b a x w p me (seen_by me (store h.after))).end) alike.answers;
             contents = λ o i. lent_same me g.after o ∙ alike.contents o (subst (λ (os : List Object). IsIn o os) to_u.wrote i) ∙ sym (lent_same me h.after o);
           };
       others = λ m o out.
@@ -176,7 +177,7 @@ module _ (ways : Ways) {M : Type 0} (store : M → StoreState) (serving : Servin
 
     began : (c : Progress) (me : Private) → Goes part (λ s. asks_over c me) (over c me)
     began (progress.Ended e) me = ended e me
-    began (progress.Asks a b) me = asked b a me
+    began (progress.Asks a b w) me = asked b a w me
 
   -- the statement at a place
   by_statement : (p : Place) (me : Private) → Goes me.part (λ s. asks_at ways (Some p) me s) (λ m. executes ways store serving lending p me m)

@@ -46,14 +46,16 @@ use Rattle.b2_machine.specs.Endings.{Ending, counts, repeats}
 use Rattle.b2_machine.specs.Keys.{called_at, calls_where, pressed_by}
 use Rattle.b2_machine.specs.Listed.{range_listed, lists}
 use Rattle.b2_machine.specs.Messages.{shows_text}
-use Rattle.b2_machine.specs.Moving.{ends_by, enters_program, error_place, faults, goes_to, is_continue, is_taken, jumps}
+use Rattle.b2_machine.specs.Moving.{ends_by, ends_onward, enters_program, error_place, faults, goes_to, is_continue, is_taken, jumps, place_onward}
 use Rattle.b2_machine.specs.Readiness.{halted, readies, resets, without_immediate_loops}
 use Rattle.b2_machine.specs.Statements.{begins, begins_where, begun_by, builder_of, finish_by, finishes, plan_by}
 use Rattle.b2_machine.specs.Step.{StepEnd, carries_out, enters_or_goes_on, halts_or_acts, lent, line_read, runs_or_reads, seen_by, shows_or_goes_on, step, text_in, types_or_goes_on}
 use Rattle.b2_machine.specs.Touched.{Asking, StepsStayWithin, asking, asks_at, asks_to_enter, asks_to_show, asks_to_type, asks_unless_halted}
 use Rattle.b2_machine.specs.Typing.{line_taken, put_by, shown_by, shows_pending, takes, takes_or_refuses, typed_by_key}
 use Rattle.b2_machine.specs.declared.ends.Stepped.{Stepped}
+use Rattle.b2_machine.specs.declared.moving.Onward.{Onward}
 use Rattle.b2_machine.specs.declared.statements.Builder.{Builder}
+use Rattle.b2_machine.specs.declared.moving.Onward.TheVariants as onward
 use Rattle.b2_machine.specs.declared.statements.Builder.TheVariants as builder
 use Rattle.b2_machine.specs.declared.statements.Progress.{Progress}
 use Rattle.b2_machine.specs.declared.statements.Progress.TheVariants as progress
@@ -175,6 +177,15 @@ module _ (ways : Ways) (lawful : AreLawful ways) (among : ℕ → Bool) where
   ends_in same outcome.Break p me home h k w = goes_in (following_place p me home) me (next_in p me home h) w
   ends_in same outcome.Ready p me home h k w = readied _ me w
 
+  onward_in : (lines : Lines) (p : Place) (way : Onward) → among p.home ≡ true → PlaceIn among (place_onward lines p way)
+  onward_in lines p onward.NextUnit h = h
+  onward_in lines p onward.NextLine h = after_line lines p h
+
+  ends_onward_in : (same : Stepped) (o : Outcome) (way : Onward) (p : Place) (me : Private) (home : Lines) → among p.home ≡ true → OutcomeIn among o → Within me → EndIn (ends_onward same o way p me home)
+  ends_onward_in same outcome.Next way p me home h k w = goes_in (place_onward home p way) me (onward_in home p way h) w
+  ends_onward_in same outcome.Break way p me home h k w = goes_in (place_onward home p way) me (onward_in home p way h) w
+  ends_onward_in same o way p me home h k w = ends_in same o p me home h k w
+
   -- statements
   abbrev PlanningIn : Planning → Type 0
   PlanningIn x = IsWithin among x.me × PlannedIn among x.planned
@@ -209,10 +220,10 @@ module _ (ways : Ways) (lawful : AreLawful ways) (among : ℕ → Bool) where
   finish_in (builder.Language r) x a me s w = (lawful.leave_the_rest r).finishes_within among x a me s w
   finish_in builder.Nobody x a me s w = (w, tt)
 
-  finished_in : (b : Builder) (x : Access) (a : Answer) (p : Place) (me : Private) (s : SeenLent) → among p.home ≡ true → Within me → EndIn (finishes ways b x a p me s)
-  finished_in b x a p me s h w =
+  finished_in : (b : Builder) (x : Access) (a : Answer) (way : Onward) (p : Place) (me : Private) (s : SeenLent) → among p.home ≡ true → Within me → EndIn (finishes ways b x a way p me s)
+  finished_in b x a way p me s h w =
       let y = finish_in b x a me s w in
-      ends_in (repeats a) (finish_by ways b x a me s).outcome p (finish_by ways b x a me s).me s.home.lines h y.1 y.0
+      ends_onward_in (repeats a) (finish_by ways b x a me s).outcome way p (finish_by ways b x a me s).me s.home.lines h y.1 y.0
 
   module _ {M : Type 0} (store : M → StoreState) (serving : ServingOf M) (lending : Loan M) where
     -- after a step, and whoever asked
@@ -230,7 +241,7 @@ module _ (ways : Ways) (lawful : AreLawful ways) (among : ℕ → Bool) where
 
     carried_in : (c : Progress) (p : Place) (me : Private) (m : M) → among p.home ≡ true → Within me → Within (carries_out ways store serving lending c p me m).me
     carried_in (progress.Ended e) p me m h w = w
-    carried_in (progress.Asks a b) p me m h w = finished_in b a (serving m me.part a).answer p me (seen_by me (store (serving m me.part a).after)) h w
+    carried_in (progress.Asks a b way) p me m h w = finished_in b a (serving m me.part a).answer way p me (seen_by me (store (serving m me.part a).after)) h w
 
     at_place : (x : Option Place) (me : Private) (m : M) → PlaceIn among x → Within me → StepIn (runs_or_reads ways store serving lending x me m) (asks_at ways x me (store m))
     at_place None me m h w = (read_in (serving m me.part (access.ReadLine me.term)).answer me (serving m me.part (access.ReadLine me.term)).after w, w.part)

@@ -35,7 +35,7 @@ use Rattle.b2_language.specs.Languages.{AreLawful, Ways}
 use Rattle.b2_machine.specs.Endings.{counts, repeats}
 use Rattle.b2_machine.specs.Keys.{calls_where, pressed_by}
 use Rattle.b2_machine.specs.Listed.{lists}
-use Rattle.b2_machine.specs.Moving.{ends_by, error_place, faults, goes_to, jumps}
+use Rattle.b2_machine.specs.Moving.{ends_by, ends_onward, error_place, faults, goes_to, jumps, place_onward}
 use Rattle.b2_machine.specs.Statements.{Begun, begins, begins_where, begun_by, builder_of, finish_by, finishes, plan_by}
 use Rattle.b2_machine.specs.Step.{StepEnd, carries_out, enters_or_goes_on, halts_or_acts, lent, line_read, runs_or_reads, seen_by, shows_or_goes_on, step, text_in, types_or_goes_on}
 use Rattle.b2_machine.specs.Touched.{StepsShowAtTerminal}
@@ -43,6 +43,7 @@ use Rattle.b2_machine.specs.Turn.{TurnEnd, counted_on, ended_turn as turn_ended,
 use Rattle.b2_machine.specs.Typing.{put_by, puts_numbered, shown_by, shows_pending, takes, takes_or_refuses, typed_by_key}
 use Rattle.b2_machine.specs.declared.ends.Stepped.{Stepped}
 use Rattle.b2_machine.specs.declared.ends.Why.{Why}
+use Rattle.b2_machine.specs.declared.moving.Onward.{Onward}
 use Rattle.b2_machine.specs.declared.statements.Builder.{Builder}
 use Rattle.b2_machine.specs.declared.statements.Builder.TheVariants as builder
 use Rattle.b2_machine.specs.declared.statements.Progress.{Progress}
@@ -113,6 +114,11 @@ ended_shows same outcome.Repeat p me home = inl refl
 ended_shows same outcome.Break p me home = goes_shows (following_place p me home) me
 ended_shows same outcome.Ready p me home = inr refl
 
+onward_shows : (same : Stepped) (o : Outcome) (w : Onward) (p : Place) (me : Private) (home : Lines) → Shows me (ends_onward same o w p me home).me
+onward_shows same outcome.Next w p me home = goes_shows (place_onward home p w) me
+onward_shows same outcome.Break w p me home = goes_shows (place_onward home p w) me
+onward_shows same o w p me home = ended_shows same o p me home
+
 -- statements
 listed_shows : (b : Bool) (range : ℕ × ℕ) (me : Private) (s : SeenLent) → Shows me (lists b range me s).me
 listed_shows true range me s = inl refl
@@ -139,10 +145,10 @@ finish_shows ways lawful (builder.Listing from to) x a me s = keeps_or_shows (sh
 finish_shows ways lawful (builder.Language r) x a me s = (lawful.leave_the_rest r).finishes_to_show x a me s
 finish_shows ways lawful builder.Nobody x a me s = inl refl
 
-finished_shows : (ways : Ways) (lawful : AreLawful ways) (b : Builder) (x : Access) (a : Answer) (p : Place) (me : Private) (s : SeenLent) → Shows me (finishes ways b x a p me s).me
-finished_shows ways lawful b x a p me s =
+finished_shows : (ways : Ways) (lawful : AreLawful ways) (b : Builder) (x : Access) (a : Answer) (w : Onward) (p : Place) (me : Private) (s : SeenLent) → Shows me (finishes ways b x a w p me s).me
+finished_shows ways lawful b x a w p me s =
     let y = finish_by ways b x a me s in
-    then_shows me.pending y.me.pending (finishes ways b x a p me s).me.pending (finish_shows ways lawful b x a me s) (ended_shows (repeats a) y.outcome p y.me s.home.lines)
+    then_shows me.pending y.me.pending (finishes ways b x a w p me s).me.pending (finish_shows ways lawful b x a me s) (onward_shows (repeats a) y.outcome w p y.me s.home.lines)
 
 module _ (ways : Ways) (lawful : AreLawful ways) {M : Type 0} (store : M → StoreState) (serving : ServingOf M) (lending : Loan M) where
   abbrev StepShows : Private → StepEnd M → Type 0
@@ -155,9 +161,9 @@ module _ (ways : Ways) (lawful : AreLawful ways) {M : Type 0} (store : M → Sto
 
   carried_shows : (c : Progress) (p : Place) (me : Private) (m : M) → StepShows me (carries_out ways store serving lending c p me m)
   carried_shows (progress.Ended e) p me m = inl refl
-  carried_shows (progress.Asks a b) p me m =
+  carried_shows (progress.Asks a b w) p me m =
       let g = serving m me.part a in
-      finished_shows ways lawful b a g.answer p me (seen_by me (store g.after))
+      finished_shows ways lawful b a g.answer w p me (seen_by me (store g.after))
 
   at_place : (x : Option Place) (me : Private) (m : M) → StepShows me (runs_or_reads ways store serving lending x me m)
   at_place None me m =

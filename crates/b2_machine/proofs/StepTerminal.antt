@@ -37,12 +37,13 @@ use Rattle.b2_machine.specs.Endings.{counts, repeats}
 use Rattle.b2_machine.specs.Keys.{calls_where, pressed_by}
 use Rattle.b2_machine.specs.Listed.{range_listed, lists}
 use Rattle.b2_machine.specs.Messages.{prints_text, shows_text}
-use Rattle.b2_machine.specs.Moving.{ends_by, error_place, faults, goes_to, jumps}
+use Rattle.b2_machine.specs.Moving.{ends_by, ends_onward, error_place, faults, goes_to, jumps, place_onward}
 use Rattle.b2_machine.specs.Statements.{Begun, begins, begins_where, begun_by, builder_of, finish_by, finishes, plan_by}
 use Rattle.b2_machine.specs.Step.{StepEnd, carries_out, enters_or_goes_on, halts_or_acts, lent, line_read, runs_or_reads, seen_by, shows_or_goes_on, step, text_in, types_or_goes_on}
 use Rattle.b2_machine.specs.Touched.{Asking, StepsAskAtTerminal, access_asked, asking, asks_at, asks_to_enter, asks_to_show, asks_to_type, asks_unless_halted}
 use Rattle.b2_machine.specs.Typing.{on_own_line, put_by, puts_numbered, shown_by, shows_pending, takes, takes_or_refuses, typed_by_key}
 use Rattle.b2_machine.specs.declared.ends.Stepped.{Stepped}
+use Rattle.b2_machine.specs.declared.moving.Onward.{Onward}
 use Rattle.b2_machine.specs.declared.statements.Builder.{Builder}
 use Rattle.b2_machine.specs.declared.statements.Builder.TheVariants as builder
 use Rattle.b2_machine.specs.declared.statements.Progress.{Progress}
@@ -114,6 +115,11 @@ ended_stays same outcome.Repeat p me home = refl
 ended_stays same outcome.Break p me home = goes_stays (following_place p me home) me
 ended_stays same outcome.Ready p me home = refl
 
+onward_stays : (same : Stepped) (o : Outcome) (w : Onward) (p : Place) (me : Private) (home : Lines) → SameTerminal me (ends_onward same o w p me home).me
+onward_stays same outcome.Next w p me home = goes_stays (place_onward home p w) me
+onward_stays same outcome.Break w p me home = goes_stays (place_onward home p w) me
+onward_stays same o w p me home = ended_stays same o p me home
+
 -- statements
 abbrev PlanningAt : ℕ → Planning → Type 0
 PlanningAt t x = (x.me.term ≡ t) × PlannedAt t x.planned
@@ -146,10 +152,10 @@ finish_stays ways lawful (builder.Listing from to) x a me s = refl
 finish_stays ways lawful (builder.Language r) x a me s = (lawful.leave_the_rest r).finishes_at_terminal x a me s
 finish_stays ways lawful builder.Nobody x a me s = refl
 
-finished_stays : (ways : Ways) (lawful : AreLawful ways) (b : Builder) (x : Access) (a : Answer) (p : Place) (me : Private) (s : SeenLent) → SameTerminal me (finishes ways b x a p me s).me
-finished_stays ways lawful b x a p me s =
+finished_stays : (ways : Ways) (lawful : AreLawful ways) (b : Builder) (x : Access) (a : Answer) (w : Onward) (p : Place) (me : Private) (s : SeenLent) → SameTerminal me (finishes ways b x a w p me s).me
+finished_stays ways lawful b x a w p me s =
     let y = finish_by ways b x a me s in
-    ended_stays (repeats a) y.outcome p y.me s.home.lines ∙ finish_stays ways lawful b x a me s
+    onward_stays (repeats a) y.outcome w p y.me s.home.lines ∙ finish_stays ways lawful b x a me s
 
 module _ (ways : Ways) (lawful : AreLawful ways) {M : Type 0} (store : M → StoreState) (serving : ServingOf M) (lending : Loan M) where
   -- after a step, and what it asked for
@@ -167,9 +173,9 @@ module _ (ways : Ways) (lawful : AreLawful ways) {M : Type 0} (store : M → Sto
 
   carried_stays : (c : Progress) (p : Place) (me : Private) (m : M) → SameTerminal me (carries_out ways store serving lending c p me m).me
   carried_stays (progress.Ended e) p me m = refl
-  carried_stays (progress.Asks a b) p me m =
+  carried_stays (progress.Asks a b w) p me m =
       let g = serving m me.part a in
-      finished_stays ways lawful b a g.answer p me (seen_by me (store g.after))
+      finished_stays ways lawful b a g.answer w p me (seen_by me (store g.after))
 
   at_place : (x : Option Place) (me : Private) (m : M) → StepAt me.term (runs_or_reads ways store serving lending x me m) (asks_at ways x me (store m))
   at_place None me m =

@@ -27,13 +27,14 @@ use Rattle.b2_language.specs.Following.{following_place}
 use Rattle.b2_machine.specs.Counting.{UncountedStepsChangeNothing}
 use Rattle.b2_machine.specs.Endings.{counts, ends_turn, repeats}
 use Rattle.b2_machine.specs.Listed.{lists}
-use Rattle.b2_machine.specs.Moving.{ends_by, error_place, faults, goes_to}
+use Rattle.b2_machine.specs.Moving.{ends_by, ends_onward, error_place, faults, goes_to, onward_from, place_onward}
 use Rattle.b2_machine.specs.Readiness.{halted, resets}
 use Rattle.b2_machine.specs.Statements.{begins_where, begun_by, builder_of, finish_by, finishes, plan_by}
 use Rattle.b2_machine.specs.Step.{acts, by_itself, enters_or_goes_on, executes, goes_through, halts_or_acts, line_read, runs_or_reads, seen_by, shows_or_goes_on, text_in, types_or_goes_on}
 use Rattle.b2_machine.specs.Typing.{put_by, shown_by, shows_pending, typed_by_key}
 use Rattle.b2_machine.specs.declared.ends.Stepped.{Stepped}
 use Rattle.b2_machine.specs.declared.ends.Why.TheVariants as reason
+use Rattle.b2_machine.specs.declared.moving.Onward.{Onward}
 use Rattle.b2_machine.specs.declared.statements.Builder.{Builder}
 use Rattle.b2_machine.specs.declared.statements.Builder.TheVariants as builder
 
@@ -79,6 +80,11 @@ module _ (ways : Ways) (lawful : AreLawful ways) (before : Private) where
   ended same outcome.Break p me home k h = cc
   ended same outcome.Ready p me home k h = cc
 
+  ended_onward : (same : Stepped) (o : Outcome) (w : Onward) (p : Place) (me : Private) (home : Lines) → Unless same me → Unless (ends_onward same o w p me home).end (ends_onward same o w p me home).me
+  ended_onward same outcome.Next w p me home k h = gone (place_onward home p w) me h
+  ended_onward same outcome.Break w p me home k h = cc
+  ended_onward same o w p me home k h = ended same o p me home k h
+
   -- what a statement plans, and how it finishes
   listed : (b : Bool) (range : ℕ × ℕ) (s : SeenLent) → UnchangedIfAsks before (lists b range before s).me (lists b range before s).planned
   listed true range s = tt
@@ -94,16 +100,16 @@ module _ (ways : Ways) (lawful : AreLawful ways) (before : Private) where
   finished (builder.Language r) x a me s h = (lawful.leave_the_rest r).finishes_unchanged x a me s h
   finished builder.Nobody x a me s h = refl
 
-  finishing : (b : Builder) (x : Access) (a : Answer) (p : Place) (me : Private) (s : SeenLent) → me ≡ before → Unless (finishes ways b x a p me s).end (finishes ways b x a p me s).me
-  finishing b x a p me s same =
+  finishing : (b : Builder) (x : Access) (a : Answer) (w : Onward) (p : Place) (me : Private) (s : SeenLent) → me ≡ before → Unless (finishes ways b x a w p me s).end (finishes ways b x a w p me s).me
+  finishing b x a w p me s same =
       let f = finish_by ways b x a me s in
-      ended (repeats a) f.outcome p f.me s.home.lines (λ h. finished b x a me s (delayed a h) ∙ same)
+      ended_onward (repeats a) f.outcome w p f.me s.home.lines (λ h. finished b x a me s (delayed a h) ∙ same)
 
   module _ {M : Type 0} (store : M → StoreState) (serving : ServingOf M) (lending : Loan M) where
     begun : (x : Planned) (b : Builder) (p : Place) (me : Private) (home : Lines) (m : M) → UnchangedIfAsks before me x
         → Unless (goes_through ways store serving lending (begun_by x b p me home) p m).end (goes_through ways store serving lending (begun_by x b p me home) p m).me
     begun (planned.Done o) b p me home m same = ended counts o p me home (λ h. cc)
-    begun (planned.Ask a) b p me home m same = let g = serving m me.part a in finishing b a g.answer p me (seen_by me (store g.after)) same
+    begun (planned.Ask a) b p me home m same = let g = serving m me.part a in finishing b a g.answer (onward_from p me home) p me (seen_by me (store g.after)) same
 
     unit : (o : Option Statement) (p : Place) (s : SeenLent) (m : M)
         → Unless (goes_through ways store serving lending (begins_where ways o p before s) p m).end (goes_through ways store serving lending (begins_where ways o p before s) p m).me

@@ -1,5 +1,5 @@
 -- Lines have at most 255 units, so units are counted by bytes.
-use Rattle.std.proofs.Common.{◌≡◌, ℕ, suc, ◌+◌, ◌<◌, ◌≤◌, ◌==◌, nat_lt, Bool, true, false, List, [], ◌∷◌, length, refl, sym, arith, Option, Some, None, if◌then◌else◌}
+use Rattle.std.proofs.Common.{◌≡◌, ℕ, suc, ◌+◌, ◌<◌, ◌≤◌, ◌==◌, nat_lt, Bool, true, false, List, [], ◌∷◌, length, refl, sym, ap, arith, Option, Some, None, if◌then◌else◌}
 use Rattle.std.specs.Prelude.{slice_get}
 use Rattle.std.proofs.lemmas.Bool.Decides.{nat_tests}
 use Rattle.b2_atom.specs.Words.{Text}
@@ -10,6 +10,9 @@ use Rattle.b2_rows.specs.Following.{tree_units, taken_fault, error_goal, further
 use Rattle.b2_rows.specs.declared.following.Goal.{Goal}
 use Rattle.b2_rows.specs.declared.following.Goal.TheVariants as goal
 use Rattle.b2_rows.proofs.WhatFollows.{beyond_line}
+use Rattle.b2_machine.specs.Moving.{goes_onward, onward_of}
+use Rattle.b2_machine.specs.declared.moving.Onward.{Onward}
+use Rattle.b2_machine.specs.declared.moving.Onward.TheVariants as onward
 
 some_is : {A : Type 0} (x y : A) → Some x ≡ Some y → x ≡ y
 some_is x y h = cc
@@ -43,3 +46,7 @@ few_taken line n k h few is =
     let most = within (tree_units line) (further_on n 0 (tree_units line)) k (slice_get (tree_units line) (further_on n 0 (tree_units line))) refl (sym is) in
     let all = few_units line h few in
     omega arith
+
+-- after the last unit that a byte counts there is none
+pub last_onward : (line : Text) (unit : ℕ) → is_line line ≡ true → length (units_of line) ≤ 255 → unit ≡ 255 → ◌≡◌ {A = Onward} onward.NextLine (goes_onward unit (tree_units line))
+last_onward line unit h few is = sym (ap onward_of (beyond_line line (unit + 1) h (grind (arith, nat_tests))))

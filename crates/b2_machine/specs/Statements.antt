@@ -19,8 +19,9 @@ use Rattle.b2_access.specs.Showing.{shown}
 use Rattle.b2_access.specs.Working.{ended}
 use Rattle.b2_machine.specs.Endings.{Ending, counts, repeats}
 use Rattle.b2_machine.specs.Listed.{lists, named_range}
-use Rattle.b2_machine.specs.Moving.{ends_by}
+use Rattle.b2_machine.specs.Moving.{ends_by, ends_onward, onward_from}
 use Rattle.b2_machine.specs.Readiness.{rests}
+use Rattle.b2_machine.specs.declared.moving.Onward.{Onward}
 use Rattle.b2_machine.specs.declared.statements.Builder.{Builder}
 use Rattle.b2_machine.specs.declared.statements.Builder.TheVariants as builder
 use Rattle.b2_machine.specs.declared.statements.Progress.{Progress}
@@ -46,7 +47,7 @@ finish_by ways (builder.Listing from to) x a me s = finished s (ended me (shown 
 finish_by ways (builder.Language r) x a me s = ways.finish r x a me s
 finish_by ways builder.Nobody x a me s = finished s (stays me outcome.Repeat)
 
--- what became of a statement that began: the step has ended, or an access is asked for
+-- what became of a statement that began: the step has ended, or an access is asked for; where its line goes on is then known
 pub record Begun : Type 0 where
   pub me : Private
   pub progress : Progress
@@ -56,7 +57,7 @@ has_ended e = record { me = e.me; progress = progress.Ended e.end }
 
 abbrev pub begun_by : Planned → Builder → Place → Private → Lines → Begun
 begun_by (planned.Done o) b p me home = has_ended (ends_by counts o p me home)
-begun_by (planned.Ask a) b p me home = record { me = me; progress = progress.Asks a b }
+begun_by (planned.Ask a) b p me home = record { me = me; progress = progress.Asks a b (onward_from p me home) }
 
 abbrev pub begun : Planning → Builder → Place → Lines → Begun
 begun x b p home = begun_by x.planned b p x.me home
@@ -71,8 +72,8 @@ abbrev pub begins : Ways → Place → Private → SeenLent → Begun
 begins ways p me s = begins_where ways (statement_placed p me.immediate s.home.lines) p me s
 
 -- and ends by the answer to its access
-abbrev pub ends_with : Finishing → Answer → Place → Lines → Ending
-ends_with f a p home = ends_by (repeats a) f.outcome p f.me home
+abbrev pub ends_with : Finishing → Answer → Onward → Place → Lines → Ending
+ends_with f a w p home = ends_onward (repeats a) f.outcome w p f.me home
 
-abbrev pub finishes : Ways → Builder → Access → Answer → Place → Private → SeenLent → Ending
-finishes ways b x a p me s = ends_with (finish_by ways b x a me s) a p s.home.lines
+abbrev pub finishes : Ways → Builder → Access → Answer → Onward → Place → Private → SeenLent → Ending
+finishes ways b x a w p me s = ends_with (finish_by ways b x a me s) a w p s.home.lines

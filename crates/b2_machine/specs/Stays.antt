@@ -20,4 +20,4 @@ pub record Keeps {A E H : Type 0} (result : Result A E) (held holds : H) (p q : 
 -- a statement asks for no line above 9999
 abbrev pub IsLegalProgress : Progress → Type 0
 IsLegalProgress (progress.Ended e) = Unit {0}
-IsLegalProgress (progress.Asks a b) = IsLegal a
+IsLegalProgress (progress.Asks a b w) = IsLegal a

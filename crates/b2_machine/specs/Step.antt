@@ -19,6 +19,7 @@ use Rattle.b2_machine.specs.Endings.{Ending, again, carries_on}
 use Rattle.b2_machine.specs.Keys.{pressed}
 use Rattle.b2_machine.specs.Readiness.{halted, resets}
 use Rattle.b2_machine.specs.Statements.{Begun, begins, finishes}
+use Rattle.b2_machine.specs.declared.moving.Onward.{Onward}
 use Rattle.b2_machine.specs.declared.statements.Builder.{Builder}
 use Rattle.b2_machine.specs.declared.statements.Progress.{Progress}
 use Rattle.b2_machine.specs.declared.statements.Progress.TheVariants as progress
@@ -85,12 +86,12 @@ module _ {M : Type 0} (store : M → StoreState) (serving : ServingOf M) (lendin
 module _ (ways : Ways) {M : Type 0} (store : M → StoreState) (serving : ServingOf M) (lending : Loan M) where
   -- the sixth: the statement at its place is executed. It ends at once over what is lent, or over what is lent again after
   -- the access that it planned.
-  abbrev pub finishes_by : Builder → Access → Place → Private → Gives M → StepEnd M
-  finishes_by b a p me g = by_itself store serving lending (finishes ways b a g.answer p me (seen_by me (store g.after))) (lent store serving lending me g.after)
+  abbrev pub finishes_by : Builder → Access → Onward → Place → Private → Gives M → StepEnd M
+  finishes_by b a w p me g = by_itself store serving lending (finishes ways b a g.answer w p me (seen_by me (store g.after))) (lent store serving lending me g.after)
 
   abbrev pub carries_out : Progress → Place → Private → M → StepEnd M
   carries_out (progress.Ended e) p me m = record { me = me; after = m; end = e }
-  carries_out (progress.Asks a b) p me m = finishes_by b a p me (serving m me.part a)
+  carries_out (progress.Asks a b w) p me m = finishes_by b a w p me (serving m me.part a)
 
   abbrev pub goes_through : Begun → Place → M → StepEnd M
   goes_through b p m = carries_out b.progress p b.me m

@@ -37,7 +37,7 @@ asks_one a me = record { who = me.part; access = Some a }
 -- a statement has ended, or it asks
 abbrev pub access_asked : Progress → Option Access
 access_asked (progress.Ended e) = None
-access_asked (progress.Asks a b) = Some a
+access_asked (progress.Asks a b w) = Some a
 
 abbrev pub begun_asks : Begun → Asking
 begun_asks b = record { who = b.me.part; access = access_asked b.progress }

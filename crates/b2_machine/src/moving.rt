@@ -14,9 +14,57 @@ use b2_atom::{Atoms, rows};
 use b2_base::{Code, NoMemory};
 use b2_flow::Place;
 use b2_language::{move_to, place_on};
-use b2_rows::{Goal, spells_a_line, taken_fault};
+use b2_rows::{Goal, next_unit, spells_a_line, taken_fault};
 use b2_text::Text;
 use std::alloc::Global;
+
+/// Where the line of a statement goes on after it.
+#[derive(Clone, Copy)]
+pub enum Onward {
+    /// At its next unit.
+    NextUnit,
+    /// It has no further unit: at the next line.
+    NextLine,
+}
+
+/// Where a line goes on after one of its units.
+#[tactic(auto, using(crate::proofs::UnitCounts::last_onward))]
+pub fn onward_on(line: &Atoms, unit: u8) -> Onward
+    ensures { result ≡ spec.goes_onward unit (tree_units line.now) }
+{
+    spells_a_line(line);
+    line.units();
+    if unit == u8::MAX {
+        return Onward::NextLine;
+    }
+    match next_unit(line, usize::from(unit)) {
+        Goal::Unit(_) => Onward::NextUnit,
+        _ => Onward::NextLine,
+    }
+}
+
+/// Where the line of a partition's place goes on after it.
+pub fn onward_from(me: &Private, home: &Text, place: Place) -> Onward
+    ensures { result ≡ spec.onward_from place me.now home.now.lines }
+{
+    match line_named(&me.immediate, home, place.line) {
+        Some(line) => onward_on(line, place.unit),
+        None => Onward::NextLine,
+    }
+}
+
+/// The place that this is.
+fn place_onward(home: &Text, place: Place, onward: Onward) -> Option<Place>
+    ensures { result ≡ spec.place_onward home.now.lines place onward }
+{
+    match onward {
+        Onward::NextUnit => Some(Place {
+            unit: place.unit.saturating_add(1),
+            ..place
+        }),
+        Onward::NextLine => goal_place(home, place, Goal::NextLine),
+    }
+}
 
 /// The place after a place of a partition, where nothing else is said.
 fn following_place(me: &Private, home: &Text, place: Place) -> Option<Place>
@@ -141,16 +189,10 @@ fn fault(
 }
 
 /// On to the next place, where the turn ends.
-fn break_after(
-    alloc: Global,
-    me: &mut Private,
-    home: &Text,
-    place: Place,
-) -> Result<Stepped, NoMemory>
-    ensures ended { IfOk result (λ e. record { me = me.new; end = e } ≡ spec.breaks (spec.goes_to (following_place place me.old home.now.lines) me.old)) }
+fn break_to(alloc: Global, me: &mut Private, next: Option<Place>) -> Result<Stepped, NoMemory>
+    ensures ended { IfOk result (λ e. record { me = me.new; end = e } ≡ spec.breaks (spec.goes_to next me.old)) }
     ensures part { me.new.part ≡ me.old.part }
 {
-    let next = following_place(me, home, place);
     go_to(alloc, me, next)?;
     Ok(ends_turn(Why::Break))
 }
@@ -178,7 +220,10 @@ pub fn settle(
         }
         Outcome::Failed(code) => fault(alloc, me, home, place, code),
         Outcome::Repeat => Ok(same),
-        Outcome::Break => break_after(alloc, me, home, place),
+        Outcome::Break => {
+            let next = following_place(me, home, place);
+            break_to(alloc, me, next)
+        }
         Outcome::Ready => become_ready_quietly(alloc, me),
     }
 }
@@ -203,5 +248,25 @@ pub fn settle_on(
             Ok(counts())
         }
         outcome => settle(alloc, me, home, place, outcome, counts()),
+    }
+}
+
+/// What comes of the outcome of a statement that asked for an access, where its line goes on as was found before.
+pub fn settle_onward(
+    alloc: Global,
+    me: &mut Private,
+    home: &Text,
+    place: Place,
+    onward: Onward,
+    outcome: Outcome,
+    same: Stepped,
+) -> Result<Stepped, NoMemory>
+    ensures ended { IfOk result (λ e. record { me = me.new; end = e } ≡ spec.ends_onward same outcome onward place me.old home.now.lines) }
+    ensures part { me.new.part ≡ me.old.part }
+{
+    match outcome {
+        Outcome::Next => go_to(alloc, me, place_onward(home, place, onward)),
+        Outcome::Break => break_to(alloc, me, place_onward(home, place, onward)),
+        outcome => settle(alloc, me, home, place, outcome, same),
     }
 }

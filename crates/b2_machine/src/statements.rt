@@ -16,7 +16,7 @@ ghost use Rattle.b2_machine.specs.Statements as spec;
 use crate::ends::{Stepped, counts, repeats};
 use crate::listed::{named_range, range_listed};
 use crate::messages::show_text;
-use crate::moving::{settle, settle_on};
+use crate::moving::{Onward, onward_from, onward_on, settle, settle_on, settle_onward};
 use crate::readiness::become_ready_quietly;
 use b2_access::{
     Access, Answer, DeviceTable, Found, Lent, Outcome, Planned, Private, after_show, failed,
@@ -47,8 +47,8 @@ pub enum Builder {
 pub enum Progress {
     /// The step has ended.
     Ended(Stepped),
-    /// It asks for an access; who executes it finishes by the answer.
-    Asks(Access, Builder),
+    /// It asks for an access; who executes it finishes by the answer, and its line then goes on there.
+    Asks(Access, Builder, Onward),
 }
 
 /// Who executes the statement of a unit.
@@ -155,7 +155,10 @@ fn begun(
             let end = settle(alloc, me, home, place, outcome, counts())?;
             Ok(Progress::Ended(end))
         }
-        Planned::Ask(access) => Ok(Progress::Asks(access, builder)),
+        Planned::Ask(access) => {
+            let onward = onward_from(me, home, place);
+            Ok(Progress::Asks(access, builder, onward))
+        }
     }
 }
 
@@ -178,7 +181,10 @@ fn begun_on(
             let end = settle_on(alloc, me, home, line, place, outcome)?;
             Ok(Progress::Ended(end))
         }
-        Planned::Ask(access) => Ok(Progress::Asks(access, builder)),
+        Planned::Ask(access) => {
+            let onward = onward_on(line, place.unit);
+            Ok(Progress::Asks(access, builder, onward))
+        }
     }
 }
 
@@ -301,15 +307,16 @@ pub fn finish_over<L: Language>(
     lent: Lent<'_>,
     place: Place,
     builder: Builder,
+    onward: Onward,
     access: &Access,
     answer: &Answer,
 ) -> Result<Stepped, NoMemory>
     requires possible { can_answer access.now answer.now ≡ true }
-    ensures ended { (devices : List Device) → IfOk result (λ e. record { me = me.new; end = e } ≡ spec.finishes (L.ways devices) builder access.now answer.now place me.old (seen_lent lent.entry)) }
+    ensures ended { (devices : List Device) → IfOk result (λ e. record { me = me.new; end = e } ≡ spec.finishes (L.ways devices) builder access.now answer.now onward place me.old (seen_lent lent.entry)) }
     ensures part { me.new.part ≡ me.old.part }
 {
     let home = lent.home;
     let mut lent = lent;
     let outcome = finish_by::<L>(alloc, me, &mut lent, builder, access, answer)?;
-    settle(alloc, me, home, place, outcome, repeats(answer))
+    settle_onward(alloc, me, home, place, onward, outcome, repeats(answer))
 }

@@ -10,6 +10,7 @@ ghost use Rattle.b2_machine.specs.Step as spec;
 
 use crate::ends::{Stepped, counts, repeats};
 use crate::keys::press_over;
+use crate::moving::Onward;
 use crate::readiness::{halt, reset};
 use crate::statements::{Builder, Progress, begin_over, finish_over};
 use crate::typing::{
@@ -134,18 +135,19 @@ fn finish<L: Language, S: Shared>(
     s: &mut S,
     place: Place,
     builder: Builder,
+    onward: Onward,
     access: &Access,
     answer: Answer,
 ) -> Result<Stepped, NoMemory>
     requires own { IsSome (content (S.store (S.meaning s.old)) (Object.Text me.old.part)) }
     requires possible { can_answer access.now answer ≡ true }
-    ensures ended { (devices : List Device) → IfOk result (λ e. record { me = me.new; end = e } ≡ finishes (L.ways devices) builder access.now answer place me.old (spec.seen_by me.old (S.store (S.meaning s.old)))) }
+    ensures ended { (devices : List Device) → IfOk result (λ e. record { me = me.new; end = e } ≡ finishes (L.ways devices) builder access.now answer onward place me.old (spec.seen_by me.old (S.store (S.meaning s.old)))) }
     ensures lent { S.meaning s.new ≡ spec.lent S.store S.serving S.lending me.old (S.meaning s.old) }
     ensures kept { Keeps result (S.holds s.old) (S.holds s.new) me.old.part me.new.part (S.store (S.meaning s.old)) (S.store (S.meaning s.new)) }
 {
     let part = me.part;
     let lent = s.lend(part, part, &At::None);
-    finish_over::<L>(alloc, me, lent, place, builder, access, &answer)
+    finish_over::<L>(alloc, me, lent, place, builder, onward, access, &answer)
 }
 
 /// What a statement that began asked for is done.
@@ -164,9 +166,9 @@ fn carry_out<L: Language, S: Shared>(
 {
     match progress {
         Progress::Ended(end) => Ok(end),
-        Progress::Asks(access, builder) => {
+        Progress::Asks(access, builder, onward) => {
             let answer = ask_store(s, me.part, &access)?;
-            finish::<L, S>(alloc, me, s, place, builder, &access, answer)
+            finish::<L, S>(alloc, me, s, place, builder, onward, &access, answer)
         }
     }
 }

@@ -37,13 +37,14 @@ of_second false b c others other is = ap (λ (x : Bool). if x then family.Contro
 
 abbrev others_of : ℕ → Family
 others_of r =
-    if stmt_io.is_built r then family.Terminal
+    if stmt_io.is_printing r then family.Printing
+    else (if stmt_io.is_built r then family.Terminal
     else (if stmt_mat.is_built r then family.Arrays
     else (if stmt_pack.is_built r then family.Packed
     else (if stmt_file.is_built r then family.Files
     else (if stmt_program.is_built r then family.Programs
     else (if stmt_device.is_built r then family.Devices
-    else family.Disks)))))
+    else family.Disks))))))
 
 variables : (r : ℕ) → stmt_var.is_built r ≡ true → family_of r ≡ family.Variables
 variables r is = of_first (stmt_var.is_built r) (stmt.is_built r) (others_of r) is
@@ -74,17 +75,17 @@ module _ (devices : List Device) (p : Place) (me : Private) (s : SeenLent) (line
       ∙ found_course stmt.is_refused (stmt.stops me s) (stmt.does me s) p me s u is (unit_here p me s line u is_line is_unit)
       ∙ sym (ap (λ (f : Family). plan_by devices f me s) (control u.row other at_once))
 
--- at the terminal: in a program it may stand
+-- at the terminal, where it prints or reads: in a program it may stand
 unrefused : (b program : Bool) → program ≡ true → (b && not program) ≡ false
 unrefused true program is = ap not is
 unrefused false program is = refl
 
 pub planned_where_found : (devices : List Device) (p : Place) (me : Private) (s : SeenLent) (line : List ℕ) (u : Statement) (x : Planning)
-    → me.place ≡ Some p → is_some p.line ≡ true → line_named me.immediate s.home.lines p.line ≡ Some line → Some u ≡ statement_on (Some line) p.unit → family_of u.row ≡ family.Terminal
+    → me.place ≡ Some p → is_some p.line ≡ true → line_named me.immediate s.home.lines p.line ≡ Some line → Some u ≡ statement_on (Some line) p.unit → plan devices u.row me s ≡ stmt_io.plan devices me s
     → x ≡ plans_by (stmt_io.course_of devices u) me s → x ≡ plan devices u.row me s
-planned_where_found devices p me s line u x is program is_line is_unit terminal is_x =
+planned_where_found devices p me s line u x is program is_line is_unit planned is_x =
     is_x
     ∙ ap (as_planned me s)
     (sym (may_stand stmt_io.is_refused stops (stmt_io.does devices me s) u (here p me s) (unrefused (stmt_io.is_for_programs u.row) (is_some p.line) program))
     ∙ found_course stmt_io.is_refused stops (stmt_io.does devices me s) p me s u is (unit_here p me s line u is_line is_unit))
-    ∙ sym (ap (λ (f : Family). plan_by devices f me s) terminal)
+    ∙ sym planned

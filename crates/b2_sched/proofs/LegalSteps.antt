@@ -34,7 +34,7 @@ module _ (ways : Ways) (lawful : AreLawful ways) where
 
   in_progress : (c : Progress) → IsLegalProgress c → IsLegalIfAny (access_asked c)
   in_progress (progress.Ended e) h = tt
-  in_progress (progress.Asks a b) h = h
+  in_progress (progress.Asks a b w) h = h
 
   at_place : (x : Option Place) (me : Private) (s : StoreState) → Asks (asks_at ways x me s)
   at_place None me s = tt

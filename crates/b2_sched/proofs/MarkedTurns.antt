@@ -98,11 +98,11 @@ module _ (devices : List Device) where
   carried_own : (c : Progress) (place : Place) (me : Private) (s : StoreState) (m : Marks) → IsOwnText me.part m → IsOwnText me.part (step_marks me.part (record { who = me.part; access = access_asked c }) s m)
       → carries_out (basic devices) store_in (watching itself serves) (watched_loan after_loan) c place me (s, m) ≡ with_marks (carries_out (basic devices) itself serves after_loan c place me s) (step_marks me.part (record { who = me.part; access = access_asked c }) s m)
   carried_own (progress.Ended e) place me s m own after = ap (λ (k : Marks). with_marks (record { me = me; after = s; end = e }) k) (sym (twice_idle me.part m own))
-  carried_own (progress.Asks a b) place me s m own after =
+  carried_own (progress.Asks a b w) place me s m own after =
       let ts = touched s me.part a in
       let ws = written_where itself serves (Some a) me.part s in
       let fewer = shorter me.part ts ws m own in
-      ap (λ (k : Marks). with_marks (carries_out (basic devices) itself serves after_loan (progress.Asks a b) place me s) k) (twice_idle me.part (marked me.part ts ws m) (subst (IsOwnText me.part) fewer after) ∙ sym fewer)
+      ap (λ (k : Marks). with_marks (carries_out (basic devices) itself serves after_loan (progress.Asks a b w) place me s) k) (twice_idle me.part (marked me.part ts ws m) (subst (IsOwnText me.part) fewer after) ∙ sym fewer)
 
   carried : (p : ℕ) (c : Progress) (place : Place) (me : Private) (s : StoreState) (m : Marks) → me.part ≡ p → IsOwnText p m → IsOwnText p (step_marks p (record { who = me.part; access = access_asked c }) s m)
       → carries_out (basic devices) store_in (watching itself serves) (watched_loan after_loan) c place me (s, m) ≡ with_marks (carries_out (basic devices) itself serves after_loan c place me s) (step_marks p (record { who = me.part; access = access_asked c }) s m)

@@ -51,7 +51,7 @@ module _ (ways : Ways) where
 
   carried_left : (c : Progress) (p : Place) (me : Private) (s : StoreState) → (carries_out ways itself serves after_loan c p me s).after ≡ left_where (access_asked c) me.part s
   carried_left (progress.Ended e) p me s = refl
-  carried_left (progress.Asks a b) p me s = refl
+  carried_left (progress.Asks a b w) p me s = refl
 
   left_at : (x : Option Place) (me : Private) (s : StoreState) → Leaves (asks_at ways x me s) (runs_or_reads ways itself serves after_loan x me s) s
   left_at None me s = line_left (serves s me.part (access.ReadLine me.term)).answer me (serves s me.part (access.ReadLine me.term)).after
@@ -98,11 +98,11 @@ module _ (ways : Ways) where
   carried_alike : (c : Progress) (p : Place) (me : Private) (s t : StoreState) → AnsweredAlike (access_asked c) me.part s t
       → EndAlike (carries_out ways itself serves after_loan c p me s) (carries_out ways itself serves after_loan c p me t)
   carried_alike (progress.Ended e) p me s t h = (refl, refl)
-  carried_alike (progress.Asks a b) p me s t h =
+  carried_alike (progress.Asks a b w) p me s t h =
       let g = serves s me.part a in
       let k = serves t me.part a in
       of_ending _ _ g.after k.after
-      (ap (λ (x : Answer). finishes ways b a x p me (seen_by me g.after)) h.0 ∙ ap (λ (u : TextState). finishes ways b a k.answer p me (record { own = u; home = u; globals = None })) h.1)
+      (ap (λ (x : Answer). finishes ways b a x w p me (seen_by me g.after)) h.0 ∙ ap (λ (u : TextState). finishes ways b a k.answer w p me (record { own = u; home = u; globals = None })) h.1)
 
   module _ (s t : StoreState) where
     abbrev Alike : Asking → Asking → StepEnd StoreState → StepEnd StoreState → Type 0

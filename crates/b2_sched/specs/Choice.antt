@@ -32,17 +32,19 @@ abbrev pub family_of : ℕ → Family
 family_of r =
     if stmt_var.is_built r then family.Variables
     else (if stmt.is_built r then family.Control
+    else (if stmt_io.is_printing r then family.Printing
     else (if stmt_io.is_built r then family.Terminal
     else (if stmt_mat.is_built r then family.Arrays
     else (if stmt_pack.is_built r then family.Packed
     else (if stmt_file.is_built r then family.Files
     else (if stmt_program.is_built r then family.Programs
     else (if stmt_device.is_built r then family.Devices
-    else family.Disks)))))))
+    else family.Disks))))))))
 
 abbrev pub plan_by : List Device → Family → Private → SeenLent → Planning
 plan_by devices family.Variables me s = stmt_var.plan me s
 plan_by devices family.Control me s = stmt.plan me s
+plan_by devices family.Printing me s = stmt_io.plan devices me s
 plan_by devices family.Terminal me s = stmt_io.plan devices me s
 plan_by devices family.Arrays me s = stmt_mat.plan me s
 plan_by devices family.Packed me s = stmt_pack.plan me s
@@ -54,6 +56,7 @@ plan_by devices family.Disks me s = stmt_disk.plan devices me s
 abbrev pub finish_by : Family → Access → Answer → Private → SeenLent → Finishing
 finish_by family.Variables x a me s = stmt_var.finish x a me s
 finish_by family.Control x a me s = stmt.finish x a me s
+finish_by family.Printing x a me s = stmt_io.finish_printing x a me s
 finish_by family.Terminal x a me s = stmt_io.finish x a me s
 finish_by family.Arrays x a me s = stmt_mat.finish x a me s
 finish_by family.Packed x a me s = stmt_pack.finish x a me s

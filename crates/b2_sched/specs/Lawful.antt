@@ -38,6 +38,7 @@ use Rattle.b2_sched.specs.declared.choice.Family.TheVariants as family
 plan_legally : (devices : List Device) (f : Family) → PlansLegally (plan_by devices f)
 plan_legally devices family.Variables = variables_legally
 plan_legally devices family.Control = control_legally
+plan_legally devices family.Printing = terminal_legally devices
 plan_legally devices family.Terminal = terminal_legally devices
 plan_legally devices family.Arrays = arrays_legally
 plan_legally devices family.Packed = packed_legally
@@ -49,7 +50,8 @@ plan_legally devices family.Disks = disks_legally devices
 leave_the_rest : (devices : List Device) (f : Family) → LeaveTheRest (plan_by devices f) (finish_by f)
 leave_the_rest devices family.Variables = stmt_var_laws.leave_the_rest
 leave_the_rest devices family.Control = stmt_laws.leave_the_rest
-leave_the_rest devices family.Terminal = stmt_io_laws.leave_the_rest devices
+leave_the_rest devices family.Printing = (stmt_io_laws.leave_the_rest devices).1
+leave_the_rest devices family.Terminal = (stmt_io_laws.leave_the_rest devices).0
 leave_the_rest devices family.Arrays = stmt_mat_laws.leave_the_rest
 leave_the_rest devices family.Packed = stmt_pack_laws.leave_the_rest
 leave_the_rest devices family.Files = stmt_file_laws.leave_the_rest devices
@@ -63,6 +65,7 @@ basic_is_lawful devices = record { no_list = refl; plans_legally = λ r. plan_le
 plan_listed : (f : Family) → PlansListed (λ devices. plan_by devices f)
 plan_listed family.Variables = variables_listed
 plan_listed family.Control = control_listed
+plan_listed family.Printing = stmt_io_listed.asked_are_listed
 plan_listed family.Terminal = stmt_io_listed.asked_are_listed
 plan_listed family.Arrays = arrays_listed
 plan_listed family.Packed = packed_listed

@@ -40,7 +40,7 @@ impl Language for Basic {
         match family_of(row) {
             Family::Variables => b2_stmt_var::plan(alloc, me, lent, devices),
             Family::Control => b2_stmt::plan(alloc, me, lent, devices),
-            Family::Terminal => b2_stmt_io::plan(alloc, me, lent, devices),
+            Family::Printing | Family::Terminal => b2_stmt_io::plan(alloc, me, lent, devices),
             Family::Arrays => b2_stmt_mat::plan(alloc, me, lent, devices),
             Family::Packed => b2_stmt_pack::plan(alloc, me, lent, devices),
             Family::Files => b2_stmt_file::plan(alloc, me, lent, devices),
@@ -61,6 +61,7 @@ impl Language for Basic {
         match family_of(row) {
             Family::Variables => b2_stmt_var::finish(alloc, me, lent, access, answer),
             Family::Control => b2_stmt::finish(alloc, me, lent, access, answer),
+            Family::Printing => Ok(b2_stmt_io::finish_printing(me, access, answer)),
             Family::Terminal => b2_stmt_io::finish(alloc, me, lent, access, answer),
             Family::Arrays => b2_stmt_mat::finish(alloc, me, lent, access, answer),
             Family::Packed => b2_stmt_pack::finish(alloc, me, lent, access, answer),
@@ -97,6 +98,7 @@ impl Language for Basic {
         match family_of(found.unit.row) {
             Family::Variables => b2_stmt_var::plan(alloc, me, lent, devices),
             Family::Control => b2_stmt::plan(alloc, me, lent, devices),
+            Family::Printing => b2_stmt_io::plan_found(alloc, me, lent.home, devices, found.unit),
             Family::Terminal => b2_stmt_io::plan_found(alloc, me, lent.home, devices, found.unit),
             Family::Arrays => b2_stmt_mat::plan(alloc, me, lent, devices),
             Family::Packed => b2_stmt_pack::plan(alloc, me, lent, devices),

@@ -2,14 +2,16 @@
 ghost use Rattle.std.specs.Prelude.{◌≡◌};
 ghost use Rattle.b2_sched.specs.Choice as spec;
 
-/// A family of statements: those of one crate.
+/// A family of statements: those of one crate that finish in one way.
 #[derive(Clone, Copy)]
 pub enum Family {
     /// Statements on variables.
     Variables,
     /// Statements of control.
     Control,
-    /// Statements at the terminal.
+    /// Statements that print, at the terminal or at a printer.
+    Printing,
+    /// Other statements at the terminal.
     Terminal,
     /// Statements on arrays.
     Arrays,
@@ -19,7 +21,7 @@ pub enum Family {
     Files,
     /// Statements on programs on disks.
     Programs,
-    /// Statements that take devices and free them.
+    /// Statements that take devices and free them, and SELECT PRINT.
     Devices,
     /// Statements on disks.
     Disks,
@@ -33,6 +35,8 @@ pub fn family_of(row: u16) -> Family
         Family::Variables
     } else if b2_stmt::is_built(row) {
         Family::Control
+    } else if b2_stmt_io::is_printing(row) {
+        Family::Printing
     } else if b2_stmt_io::is_built(row) {
         Family::Terminal
     } else if b2_stmt_mat::is_built(row) {

@@ -4,11 +4,11 @@ use Rattle.b2_access.specs.LegalPlans.{PlansLegally}
 use Rattle.b2_access.specs.LeftAlone.{LeaveTheRest}
 use Rattle.b2_access.specs.OwnDevices.{PlansListed}
 use Rattle.b2_access.specs.declared.devices.Device.{Device}
-use Rattle.b2_stmt_io.specs.Plan.{finish, plan}
+use Rattle.b2_stmt_io.specs.Plan.{finish, finish_printing, plan}
 
--- what they leave alone
+-- what they leave alone, those also that finish by what they asked for
 abbrev pub StatementsLeaveTheRest : Type 0
-StatementsLeaveTheRest = (devices : List Device) → LeaveTheRest (plan devices) finish
+StatementsLeaveTheRest = (devices : List Device) → LeaveTheRest (plan devices) finish × LeaveTheRest (plan devices) finish_printing
 
 -- they ask for printers that the table lists for their partition, and for no other devices
 abbrev pub AskedDevicesAreListed : Type 0

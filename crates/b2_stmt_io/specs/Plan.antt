@@ -113,6 +113,16 @@ ends x a me s = course is_refused (repeats me) (finishes x a me s) me.place me s
 abbrev pub finish : Access → Answer → Private → SeenLent → Finishing
 finish x a me s = finishes_by ends x a me s
 
+-- PRINT and PRINTUSING finish by what they asked for and its answer alone, so nobody has to look for their unit again
+abbrev pub is_printing : ℕ → Bool
+is_printing r = r == row.PRINT || r == row.PRINTUSING
+
+abbrev pub printing_ends : Access → Answer → Private → SeenLent → Worked
+printing_ends x a me s = shown_or_printed x a me
+
+abbrev pub finish_printing : Access → Answer → Private → SeenLent → Finishing
+finish_printing x a me s = finishes_by printing_ends x a me s
+
 -- the rows that this crate builds
 abbrev pub is_built : ℕ → Bool
 is_built r = has_row asking_rows r || r == row.CONVERT

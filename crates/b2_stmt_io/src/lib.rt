@@ -2,7 +2,8 @@
 //!
 //! `plan` takes the statement at a partition's place, over the devices that there are: it ends at once, or asks that bytes are
 //! shown or printed, or for a line or a key; `finish` does the rest by the answer. What each statement does is said by its row and its tree in `specs/`, a statement a
-//! file or two; `Plan` finds the unit and chooses among them. `is_built` tells which rows are built here.
+//! file or two; `Plan` finds the unit and chooses among them. PRINT and PRINTUSING finish by what they asked for and its answer alone
+//! (`is_printing`, `finish_printing`). `is_built` tells which rows are built here.
 //! `laws` says what a statement leaves alone, and for which devices it asks.
 //!
 //! Stands on `b2_expr` for values and receivers, on `b2_print` for lines and images, on `b2_dectext` for number text, on
@@ -22,4 +23,4 @@ mod printing;
 mod showing;
 mod typed_text;
 
-pub use planning::{finish, is_built, plan, plan_found};
+pub use planning::{finish, finish_printing, is_built, is_printing, plan, plan_found};

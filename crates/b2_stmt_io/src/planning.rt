@@ -3,7 +3,7 @@ ghost use Rattle.std.specs.Prelude.{◌≡◌, true, IfOk, Option};
 ghost use Rattle.b2_access.specs.Answering.{can_answer};
 ghost use Rattle.b2_rows.specs.Laws.{IsRow};
 ghost use Rattle.b2_rows.specs.Rows.{tree_at};
-ghost use Rattle.b2_access.specs.Lending.{globals_lent, seen_lent};
+ghost use Rattle.b2_access.specs.Lending.{SeenLent, globals_lent, seen_lent};
 ghost use Rattle.b2_vars.specs.Tables.{VarsState};
 ghost use Rattle.b2_text.specs.Program.{TextState};
 ghost use Rattle.b2_expr.specs.Scope.{surroundings};
@@ -138,6 +138,22 @@ pub fn plan(
     }
     let e = surroundings_of(&work);
     ask(alloc, &e, outlet, me.term_column, me.prompted, &unit)
+}
+
+/// Whether statements of a row finish by what they asked for and its answer alone: PRINT and PRINTUSING.
+pub fn is_printing(row: u16) -> bool
+    ensures { result ≡ spec.is_printing row }
+{
+    row == rows::PRINT || row == rows::PRINTUSING
+}
+
+/// How a statement finishes of such a row, by the access that it asked for and its answer, which is one that the access can have.
+pub fn finish_printing(me: &mut Private, access: &Access, answer: &Answer) -> Outcome
+    requires possible { can_answer access.now answer.now ≡ true }
+    ensures finished { (s : SeenLent) → record { me = me.new; globals = s.globals; outcome = result } ≡ spec.finish_printing access.now answer.now me.old s }
+    ensures part { me.new.part ≡ me.old.part }
+{
+    after_show_or_print(me, access, answer)
 }
 
 /// How the statement at the place of a partition finishes, by the access that it asked for and its answer, which is one that the

@@ -22,8 +22,8 @@ returns-in_ok-answer-in-Asks-clause-ended g c devices =
     let ways = g.L.Language.ways devices in
     let me = c.args.me.now in
     let served = shared.meaning c.ask_store.new.s in
-    let end = finishes ways c.in-Asks.builder c.in-Asks.access c.in_ok-answer-in-Asks.answer c.args.place me (seen_by me (shared.store served)) in
+    let end = finishes ways c.in-Asks.builder c.in-Asks.access c.in_ok-answer-in-Asks.answer c.in-Asks.onward c.args.place me (seen_by me (shared.store served)) in
     ok_map c.finish.result _ _ (λ e is. ap (λ (x : Ending). by_itself shared.store shared.serving shared.lending x (shared.meaning c.finish.new.s)) is
     ∙ ap (λ (m : shared.Meaning). by_itself shared.store shared.serving shared.lending end m) c.finish.ensures.lent
-    ∙ ap (λ (x : Gives shared.Meaning). finishes_by ways shared.store shared.serving shared.lending c.in-Asks.builder c.in-Asks.access c.args.place me x) c.in_ok-answer-in-Asks.ensures.served
+    ∙ ap (λ (x : Gives shared.Meaning). finishes_by ways shared.store shared.serving shared.lending c.in-Asks.builder c.in-Asks.access c.in-Asks.onward c.args.place me x) c.in_ok-answer-in-Asks.ensures.served
     ∙ ap (λ (x : Progress). carries_out ways shared.store shared.serving shared.lending x c.args.place me (shared.meaning c.args.s.now)) (sym c.in-Asks.is)) (c.finish.ensures.ended devices)

@@ -1,13 +1,24 @@
-use Rattle.std.proofs.Common.{sym, ◌∙◌}
+use Rattle.std.proofs.Common.{sym, ap, ◌∙◌}
 use Rattle.b2_access.specs.Found.{statement_found}
 use Rattle.b2_access.specs.Lending.{globals_lent, seen_lent}
 use Rattle.b2_access.proofs.Courses.{ok_map}
+use Rattle.b2_sched.specs.Choice.{plan_by}
+use Rattle.b2_sched.specs.declared.choice.Family.{Family}
 use Rattle.b2_sched.proofs.Found.{planned_where_found}
 use Rattle.b2_sched.proofs.basic.BasicLanguage.plan_found.Goals as goal
+
+pub returns-in-Printing-clause-planned : goal.returns-in-Printing-clause-planned
+returns-in-Printing-clause-planned c =
+    let f = c.args.found.now in
+    let found = c.requires.found in
+    let globals = globals_lent c.args.lent.now in
+    let family = ap (λ (k : Family). plan_by c.args.devices.now k c.args.me.now (seen_lent c.args.lent.now)) (sym c.family_of.ensures ∙ c.in-Printing.is) in
+    ok_map c.plan_found.result _ _ (λ p is. planned_where_found c.args.devices.now f.place c.args.me.now (seen_lent c.args.lent.now) f.line.now (statement_found f) (record { me = c.plan_found.new.me; globals = globals; planned = p }) found.stands found.program found.line found.statement family is) (c.plan_found.ensures.planned c.args.lent.now.own.now globals)
 
 pub returns-in-Terminal-clause-planned : goal.returns-in-Terminal-clause-planned
 returns-in-Terminal-clause-planned c =
     let f = c.args.found.now in
     let found = c.requires.found in
     let globals = globals_lent c.args.lent.now in
-    ok_map c.plan_found.result _ _ (λ p is. planned_where_found c.args.devices.now f.place c.args.me.now (seen_lent c.args.lent.now) f.line.now (statement_found f) (record { me = c.plan_found.new.me; globals = globals; planned = p }) found.stands found.program found.line found.statement (sym c.family_of.ensures ∙ c.in-Terminal.is) is) (c.plan_found.ensures.planned c.args.lent.now.own.now globals)
+    let family = ap (λ (k : Family). plan_by c.args.devices.now k c.args.me.now (seen_lent c.args.lent.now)) (sym c.family_of.ensures ∙ c.in-Terminal.is) in
+    ok_map c.plan_found-2.result _ _ (λ p is. planned_where_found c.args.devices.now f.place c.args.me.now (seen_lent c.args.lent.now) f.line.now (statement_found f) (record { me = c.plan_found-2.new.me; globals = globals; planned = p }) found.stands found.program found.line found.statement family is) (c.plan_found-2.ensures.planned c.args.lent.now.own.now globals)
