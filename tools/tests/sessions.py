@@ -3,6 +3,7 @@
 # Prints each that comes out otherwise, with its title and the first line that differs, and at the end "N passed, N failed"; the
 # status is 0 where none failed. tests/README.md says how they are written.
 import os
+import re
 import subprocess
 import sys
 import tempfile
@@ -14,6 +15,9 @@ from pathlib import Path
 sys.dont_write_bytecode = True
 
 from cases import all_cases, runs_of, sessions_of  # noqa: E402
+
+# What stands after OUT. in the names of outputs: terminals, printers and platters.
+OUTPUT = re.compile('t[0-9]{2}|p?[0-9A-F]{3}')
 
 # Seconds after which a run has failed.
 PATIENCE = 60
@@ -99,19 +103,26 @@ def tell_status(case, status, put, said):
     return told
 
 
-def tell_names(case, folder, inputs):
-    """What is to be told of the names of files: which outputs are there, and that nothing else changed."""
-    front = case.words[3].decode('latin-1') + '.' if len(case.words) > 3 else ''
-    there = [path.name for path in folder.iterdir() if path.is_file()]
-    is_output = [front and name.startswith(front) for name in there]
-    kept = sorted(name.removeprefix(front) for name, ours in zip(there, is_output) if ours)
-    told = [f'{name} changed' for name in inputs if name in there and not name.startswith(front or '/')
-            and (folder / name).read_bytes() != inputs[name]]
-    told += [f'{name} is there' for name, ours in zip(there, is_output) if not ours and name not in inputs]
-    wanted = case.kept if case.kept is not None or case.status == 0 else sorted(case.wanted)
-    if wanted is not None and kept != sorted(wanted):
-        told.append(f'kept: {kept} and not {sorted(wanted)}')
+def tell_others(folder, inputs, front):
+    """What is to be told of files that are no outputs: inputs that changed, and what else is there."""
+    told = []
+    for path in folder.iterdir():
+        if path.is_dir() or (front and path.name.startswith(front) and OUTPUT.fullmatch(path.name[len(front):])):
+            continue
+        if path.name not in inputs:
+            told.append(f'{path.name} is there')
+        elif path.read_bytes() != inputs[path.name]:
+            told.append(f'{path.name} changed')
     return told
+
+
+def tell_names(case, folder, front):
+    """What is to be told of which outputs are there: after a status other than 0 none but those of the case."""
+    wanted = case.kept if case.kept is not None or case.status == 0 else list(case.wanted)
+    kept = sorted(path.name.removeprefix(front) for path in folder.glob(front + '*') if front and path.is_file())
+    if wanted is not None and kept != sorted(wanted):
+        return [f'kept: {kept} and not {sorted(wanted)}']
+    return []
 
 
 def tell_outputs(case, folder):
@@ -150,25 +161,34 @@ def tell(program, case):
             status, put, said = start(program, case.words, folder, case.is_full)
         except subprocess.TimeoutExpired:
             return ['it did not end']
+        front = case.words[3].decode('latin-1') + '.' if len(case.words) > 3 else ''
         told = tell_status(case, status, put, said)
         if not told:
-            told = tell_outputs(case, folder) + tell_names(case, folder, case.files)
+            told = tell_outputs(case, folder) + tell_names(case, folder, front) + tell_others(folder, case.files, front)
         return told or tell_alone(program, case, folder)
 
 
 def check_itself(program):
-    """Whether each wrong case is told, and with the first line that differs."""
+    """What is to be told of this script: each wrong case is told, with the first line that differs."""
     wrong = [(next(sessions_of('a wrong session', WRONG_SESSION[0])), WRONG_SESSION[1])]
     wrong += [(next(runs_of('a wrong run', text)), line) for text, line in WRONG_RUNS]
     for case, line in wrong:
         told = tell(program, case)
         if told[:1] != [line]:
-            yield f'FAILED a case that is wrong on purpose: {told} and not {line}'
+            return [f'FAILED a case that is wrong on purpose: {told} and not {line}']
+    return []
+
+
+def chosen(parts):
+    """The cases of the files whose names have one of these parts, or all; without those that this machine can't try."""
+    has_full = os.path.exists('/dev/full')
+    return [case for case in all_cases()
+            if (not parts or any(part in case.place for part in parts)) and (has_full or not case.is_full)]
 
 
 def main(program, *parts):
-    cases = [case for case in all_cases() if not parts or any(part in case.place for part in parts)]
-    failed = list(check_itself(program))
+    cases = chosen(parts)
+    failed = check_itself(program)
     with ThreadPoolExecutor(os.cpu_count()) as pool:
         for case, told in zip(cases, pool.map(lambda case: tell(program, case), cases)):
             if told:
